@@ -5,11 +5,15 @@
 #![tactic(auto)]
 
 mod decimal;
+mod direction;
 mod name;
 mod refused;
 mod seq;
+mod words;
 
 pub use decimal::put_decimal;
+pub use direction::Direction;
 pub use name::Name;
 pub use refused::{MemoryOut, Refused};
 pub use seq::Seq;
+pub use words::is_among;

@@ -1,0 +1,8 @@
+//! The direction of a port.
+
+/// Which way a port goes, seen from inside the module.
+#[derive(Clone, Copy, Debug, PartialEq, Eq)]
+pub enum Direction {
+    Input,
+    Output,
+}

@@ -1,0 +1,12 @@
+pub mod Reserved
+pub mod Names
+pub mod Tokens
+pub mod Grammar
+pub mod Spells
+pub mod Nets
+pub mod Valid
+pub mod Settled
+pub mod Allows
+pub mod Laws
+pub use Rattle.fir_base.specs.Lists
+pub use Rattle.fir_base.specs.Ticks

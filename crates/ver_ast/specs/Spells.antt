@@ -1,0 +1,36 @@
+-- Which bytes spell which tree.
+-- The tokens of the bytes are those of the tree, and each name in it is spelled as a name and not reserved.
+use Rattle.std.specs.Prelude.{◌≡◌, ℕ, List, [], ◌∷◌, ◌++◌, Some}
+use Rattle.std.specs.List.{AllByRecursion}
+use Rattle.ver_ast.specs.declared.tree.Verilog.{Verilog}
+use Rattle.ver_ast.specs.declared.tree.Item.{Item}
+use Rattle.ver_ast.specs.declared.tree.Item.TheVariants as item
+use Rattle.ver_ast.specs.declared.tree.Rhs.{Rhs}
+use Rattle.ver_ast.specs.declared.tree.Rhs.TheVariants as rhs
+use Rattle.ver_ast.specs.declared.tree.Atom.{Atom}
+use Rattle.ver_ast.specs.declared.tree.Atom.TheVariants as atom
+use Rattle.ver_ast.specs.Names.{IsName}
+use Rattle.ver_ast.specs.Tokens.{tokens}
+use Rattle.ver_ast.specs.Grammar.{module_tokens}
+
+abbrev pub atom_names : Atom → List (List ℕ)
+atom_names (atom.Net n) = n ∷ []
+
+abbrev pub rhs_names : Rhs → List (List ℕ)
+rhs_names (rhs.Atom a) = atom_names a
+rhs_names (rhs.Unary op a) = atom_names a
+rhs_names (rhs.Binary a op b) = atom_names a ++ atom_names b
+
+abbrev pub HasItemNames : Item → Type 0
+HasItemNames (item.Wire n) = IsName n.name
+HasItemNames (item.Assign a) = IsName a.target × AllByRecursion IsName (rhs_names a.rhs)
+
+-- each name that stands in the tree is one
+pub record HasNames (v : Verilog) : Type 0 where
+  pub of_module : IsName v.name
+  pub of_ports : AllByRecursion (λ p. IsName p.name) v.ports
+  pub of_items : AllByRecursion HasItemNames v.items
+
+pub record VSpells (bytes : List ℕ) (v : Verilog) : Type 0 where
+  pub tokens_are : tokens bytes ≡ Some (module_tokens v)
+  pub names : HasNames v

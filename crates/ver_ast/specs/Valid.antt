@@ -1,0 +1,48 @@
+-- Which trees are valid (IEEE 1364-2005, 3.7, 4.2, 5.4, 6.1).
+-- Each net is declared once, before it is used, with a width from 1 to 128; the operands of an assign have its target's width; each wire and
+-- output has exactly one assign and an input none; and no closed walk of assigns exists, which is said as: some order of the assigns has each once,
+-- after all that it reads.
+use Rattle.std.specs.Prelude.{ℕ, ◌≤◌, List, [], ◌∷◌, ◌++◌, map}
+use Rattle.fir_base.specs.Lists.{In, Distinct, EachIn}
+use Rattle.ver_ast.specs.declared.tree.Verilog.{Verilog}
+use Rattle.ver_ast.specs.declared.tree.Assign.{Assign}
+use Rattle.ver_ast.specs.declared.tree.Item.{Item}
+use Rattle.ver_ast.specs.declared.tree.Item.TheVariants as item
+use Rattle.ver_ast.specs.Spells.{rhs_names}
+use Rattle.ver_ast.specs.Nets.{inputs, outputs, wires, nets, assigns, targets, names_of}
+
+-- the names that an assign reads
+abbrev pub reads : Assign → List (List ℕ)
+reads a = rhs_names a.rhs
+
+-- the items in text order, each naming only what is declared before it
+abbrev pub DeclaredBefore : List (List ℕ) → List Item → Type 0
+DeclaredBefore known [] = Unit {0}
+DeclaredBefore known (item.Wire n ∷ rest) = DeclaredBefore (n.name ∷ known) rest
+DeclaredBefore known (item.Assign a ∷ rest) = In known a.target × EachIn (reads a) known × DeclaredBefore known rest
+
+-- the target has a width, and each name that is read has the same
+abbrev pub HasOneWidth : Verilog → Assign → Type 0
+HasOneWidth v a = (w : ℕ) × In (nets v) (a.target, w) × EachIn (map (λ n. (n, w)) (reads a)) (nets v)
+
+-- each assign reads only what is known before it: the inputs, and the targets of assigns before it
+abbrev pub ReadsBefore : List (List ℕ) → List Assign → Type 0
+ReadsBefore known [] = Unit {0}
+ReadsBefore known (a ∷ rest) = EachIn (reads a) known × ReadsBefore (a.target ∷ known) rest
+
+-- the assigns of the tree in an order in which each stands once, after all that it reads
+pub record IsOrder (v : Verilog) (order : List Assign) : Type 0 where
+  pub each : (a : Assign) → In (assigns v) a → In order a
+  pub only : (a : Assign) → In order a → In (assigns v) a
+  pub once : Distinct (targets order)
+  pub after : ReadsBefore (names_of (inputs v)) order
+
+pub record Valid (v : Verilog) : Type 0 where
+  pub declared_once : Distinct (names_of (nets v))
+  pub declared_before : DeclaredBefore (names_of (map (λ p. (p.name, p.width)) v.ports)) v.items
+  pub narrow : (n : List ℕ) (w : ℕ) → In (nets v) (n, w) → (1 ≤ w) × (w ≤ 128)
+  pub fitting : (a : Assign) → In (assigns v) a → HasOneWidth v a
+  pub driven_once : Distinct (targets (assigns v))
+  pub driven : (n : List ℕ) → In (names_of (wires v ++ outputs v)) n → In (targets (assigns v)) n
+  pub undriven_inputs : (n : List ℕ) → In (names_of (inputs v)) n → In (targets (assigns v)) n → ⊥
+  pub ordered : (order : List Assign) × IsOrder v order

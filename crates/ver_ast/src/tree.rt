@@ -1,0 +1,72 @@
+//! The tree of a module (IEEE 1364-2005, 12.1).
+
+use fir_base::{Direction, Name, Seq};
+
+/// A port, with its width in bits.
+#[derive(Drop)]
+pub struct Port {
+    pub direction: Direction,
+    pub width: u32,
+    pub name: Name,
+}
+
+/// A net that is declared inside the module, with its width in bits.
+#[derive(Drop)]
+pub struct Net {
+    pub width: u32,
+    pub name: Name,
+}
+
+/// What stands as an operand (IEEE 1364-2005, 5.2).
+#[derive(Drop)]
+pub enum Atom {
+    Net(Name),
+}
+
+/// An operator before its operand (IEEE 1364-2005, 5.1).
+#[derive(Clone, Copy, Debug, PartialEq, Eq)]
+pub enum UnaryOp {
+    /// `~`, each bit turned.
+    Not,
+}
+
+/// An operator between its operands (IEEE 1364-2005, 5.1).
+#[derive(Clone, Copy, Debug, PartialEq, Eq)]
+pub enum BinaryOp {
+    /// `&`, bit by bit.
+    And,
+    /// `|`, bit by bit.
+    Or,
+    /// `^`, bit by bit.
+    Xor,
+}
+
+/// A right side.
+#[derive(Drop)]
+pub enum Rhs {
+    Atom(Atom),
+    Unary(UnaryOp, Atom),
+    Binary(Atom, BinaryOp, Atom),
+}
+
+/// A continuous assignment (IEEE 1364-2005, 6.1).
+#[derive(Drop)]
+pub struct Assign {
+    pub target: Name,
+    pub rhs: Rhs,
+}
+
+/// An item of a module.
+#[derive(Drop)]
+pub enum Item {
+    Wire(Net),
+    Assign(Assign),
+}
+
+/// A module: its name, its ports in order and its items in order.
+#[derive(Drop)]
+pub struct Verilog {
+    pub name: Name,
+    pub ports: Seq<Port>,
+    pub items: Seq<Item>,
+}
