@@ -1,0 +1,10 @@
+//! Writes a tree of the Verilog subset as text. The text is the layout, a function of the tree in which no
+//! comment stands; that it spells the tree is a law about the layout (IEEE 1364-2005, 3 and Annex A).
+#![tactic(auto)]
+
+mod item;
+mod range;
+mod rhs;
+mod writer;
+
+pub use writer::write_verilog;
