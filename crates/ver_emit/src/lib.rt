@@ -3,8 +3,10 @@
 #![tactic(auto)]
 
 mod item;
+mod laws;
 mod range;
 mod rhs;
 mod writer;
 
+pub use laws::layout_is_spelled;
 pub use writer::write_verilog;
