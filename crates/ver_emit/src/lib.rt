@@ -10,3 +10,6 @@ mod writer;
 
 pub use laws::layout_is_spelled;
 pub use writer::write_verilog;
+
+#[cfg(test)]
+mod tests;
