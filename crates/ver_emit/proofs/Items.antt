@@ -30,19 +30,23 @@ end_spelled : (rest : List ℕ) (ts : List Token) → tokens rest ≡ Some ts �
 unfolding tokens_from
 end_spelled rest ts e = rw e refl
 
+-- an operator before its operand
 unary_sign_spelled : (op : UnaryOp) (rest : List ℕ) (ts : List Token) → tokens rest ≡ Some ts → tokens (unary_sign op ∷ rest) ≡ Some (sign (unary_sign op) ∷ ts)
 unfolding tokens_from
 unary_sign_spelled Not rest ts e = rw e refl
 
+-- an operator between blanks
 binary_sign_spelled : (op : BinaryOp) (rest : List ℕ) (ts : List Token) → tokens rest ≡ Some ts → tokens (32 ∷ binary_sign op ∷ 32 ∷ rest) ≡ Some (sign (binary_sign op) ∷ ts)
 unfolding tokens_from
 binary_sign_spelled And rest ts e = rw e refl
 binary_sign_spelled Or rest ts e = rw e refl
 binary_sign_spelled Xor rest ts e = rw e refl
 
+-- an operand before what closes it
 atom_spelled : (a : Atom) (rest : List ℕ) (ts : List Token) → AllByRecursion IsName (atom_names a) → ClosesWord rest → tokens rest ≡ Some ts → tokens (atom_text a ++ rest) ≡ Some (atom_tokens a ++ ts)
 atom_spelled (atom.Net n) rest ts named c e = word_spelled n rest ts named.0.spelled c e
 
+-- a right side before what closes it
 rhs_spelled : (r : Rhs) (rest : List ℕ) (ts : List Token) → AllByRecursion IsName (rhs_names r) → ClosesWord rest → tokens rest ≡ Some ts → tokens (rhs_text r ++ rest) ≡ Some (rhs_tokens r ++ ts)
 rhs_spelled (rhs.Atom a) rest ts named c e = atom_spelled a rest ts named c e
 rhs_spelled (rhs.Unary op a) rest ts named c e = unary_sign_spelled op _ _ (atom_spelled a rest ts named c e)
@@ -53,10 +57,12 @@ rhs_spelled (rhs.Binary (atom.Net l) op (atom.Net r)) rest ts named c e =
     let grouped : rhs_text (rhs.Binary (atom.Net l) op (atom.Net r)) ++ rest ≡ l ++ (32 ∷ binary_sign op ∷ 32 ∷ (r ++ rest)) = simp append_assoc in
     ap tokens grouped ∙ left
 
+-- the word of a declaration
 wire_word_spelled : (rest : List ℕ) (ts : List Token) → tokens rest ≡ Some ts → tokens (codes "  wire " ++ rest) ≡ Some (word (codes "wire") ∷ ts)
 unfolding tokens_from
 wire_word_spelled rest ts e = rw e refl
 
+-- the line of a wire
 wire_spelled : (n : Net) (rest : List ℕ) (ts : List Token) → 1 ≤ n.width → n.width ≤ 128 → IsName n.name → tokens rest ≡ Some ts → tokens (item_text (item.Wire n) ++ rest) ≡ Some (item_tokens (item.Wire n) ++ ts)
 wire_spelled n rest ts low high named e =
     let name = word_spelled n.name _ _ named.spelled refl (end_spelled rest ts e) in
@@ -65,14 +71,17 @@ wire_spelled n rest ts low high named e =
     let same : word (codes "wire") ∷ (range_tokens n.width ++ word n.name ∷ sign 59 ∷ ts) ≡ item_tokens (item.Wire n) ++ ts = simp append_assoc in
     ap tokens grouped ∙ wire_word_spelled _ _ range ∙ ap Some same
 
+-- the word of an assignment
 assign_word_spelled : (rest : List ℕ) (ts : List Token) → tokens rest ≡ Some ts → tokens (codes "  assign " ++ rest) ≡ Some (word (codes "assign") ∷ ts)
 unfolding tokens_from
 assign_word_spelled rest ts e = rw e refl
 
+-- the equals sign between blanks
 equals_spelled : (rest : List ℕ) (ts : List Token) → tokens rest ≡ Some ts → tokens (codes " = " ++ rest) ≡ Some (sign 61 ∷ ts)
 unfolding tokens_from
 equals_spelled rest ts e = rw e refl
 
+-- the line of an assignment
 assign_spelled : (a : Assign) (rest : List ℕ) (ts : List Token) → HasItemNames (item.Assign a) → tokens rest ≡ Some ts → tokens (item_text (item.Assign a) ++ rest) ≡ Some (item_tokens (item.Assign a) ++ ts)
 assign_spelled a rest ts named e =
     let right = rhs_spelled a.rhs _ _ named.1 refl (end_spelled rest ts e) in

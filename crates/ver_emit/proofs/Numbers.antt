@@ -13,23 +13,29 @@ use Rattle.ver_emit.proofs.Words.{closed_behind}
 abbrev ReadsAs : ℕ → List ℕ → Type 0
 ReadsAs n ds = 1 ≤ n → (rest : List ℕ) (ts : List Token) → tokens_from (in_number false n) rest ≡ Some ts → tokens (ds ++ rest) ≡ Some ts
 
+-- a decimal digit is one
 digit_read : (d : ℕ) → d < 10 → is_digit (48 + d) ≡ true
 digit_read d h = grind (arith, nat_tests)
 
+-- and begins no word
 digit_starts_no_word : (d : ℕ) → d < 10 → is_word_start (48 + d) ≡ false
 digit_starts_no_word d h = grind (arith, nat_tests)
 
+-- a digit above 0 is not the digit 0
 not_zero : (d : ℕ) → 1 ≤ d → nat_eq (48 + d) 48 ≡ false
 not_zero d h = grind (arith, nat_tests)
 
+-- the value of a digit
 digit_value : (d : ℕ) → (48 + d) - 48 ≡ d
 digit_value d = omega arith
 
+-- a number of one digit
 one_digit : (n : ℕ) → n < 10 → ReadsAs n ((48 + n) ∷ [])
 unfolding tokens_from
 one_digit n h low rest ts e =
     rw (digit_starts_no_word n h, digit_read n h, not_zero n low, digit_value n, e) refl
 
+-- a number with one digit more
 more_digits : (n : ℕ) (ds : List ℕ) → 10 ≤ n → ReadsAs (n / 10) ds → ReadsAs n (ds ++ (48 + n % 10) ∷ [])
 unfolding tokens_from
 more_digits n ds h front low rest ts e =
@@ -55,5 +61,6 @@ range_by_test w false rest ts test low high e =
     let grouped : (codes "[" ++ decimal (w - 1) ++ codes ":0] ") ++ rest ≡ codes "[" ++ (decimal (w - 1) ++ (codes ":0] " ++ rest)) = simp append_assoc in
     rw test (ap tokens grouped ∙ rw digits refl)
 
+-- the range of a width, where one stands, before the rest
 pub range_spelled : (w : ℕ) (rest : List ℕ) (ts : List Token) → 1 ≤ w → w ≤ 128 → tokens rest ≡ Some ts → tokens (range_text w ++ rest) ≡ Some (range_tokens w ++ ts)
 range_spelled w rest ts low high e = range_by_test w (nat_eq w 1) rest ts refl low high e

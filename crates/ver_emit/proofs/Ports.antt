@@ -15,14 +15,17 @@ use Rattle.ver_emit.proofs.Words.{ClosesWord, word_spelled}
 use Rattle.ver_emit.proofs.Numbers.{range_spelled}
 use Rattle.ver_emit.proofs.Narrow.{AllNarrow, narrow_first, narrow_others}
 
+-- each port is spelled as a name
 abbrev pub AreNamed : List Port → Type 0
 AreNamed = AllByRecursion (λ p. IsName p.name)
 
+-- the word of a direction, at the start of a line
 direction_spelled : (d : Direction) (rest : List ℕ) (ts : List Token) → tokens rest ≡ Some ts → tokens (codes "\n  " ++ (direction_word d ++ (codes " " ++ rest))) ≡ Some (word (direction_word d) ∷ ts)
 unfolding tokens_from
 direction_spelled Input rest ts e = rw e refl
 direction_spelled Output rest ts e = rw e refl
 
+-- a port before what closes its name
 port_spelled : (p : Port) (rest : List ℕ) (ts : List Token) → 1 ≤ p.width → p.width ≤ 128 → IsName p.name → ClosesWord rest → tokens rest ≡ Some ts → tokens (port_text p ++ rest) ≡ Some (port_tokens p ++ ts)
 port_spelled p rest ts low high named c e =
     let name = word_spelled p.name rest ts named.spelled c e in
@@ -32,18 +35,22 @@ port_spelled p rest ts low high named c e =
     let same : word (direction_word p.direction) ∷ (range_tokens p.width ++ word p.name ∷ ts) ≡ port_tokens p ++ ts = simp append_assoc in
     ap tokens grouped ∙ direction ∙ ap Some same
 
+-- a comma or the end of the line closes a port
 closed_by_ports : (ps : List Port) (rest : List ℕ) → ClosesWord (flat_map next_port_text ps ++ 10 ∷ rest)
 closed_by_ports [] rest = refl
 closed_by_ports (p ∷ ps) rest = refl
 
+-- a comma
 comma_spelled : (rest : List ℕ) (ts : List Token) → tokens rest ≡ Some ts → tokens (44 ∷ rest) ≡ Some (sign 44 ∷ ts)
 unfolding tokens_from
 comma_spelled rest ts e = rw e refl
 
+-- a newline has no token
 newline_spelled : (rest : List ℕ) (ts : List Token) → tokens rest ≡ Some ts → tokens (10 ∷ rest) ≡ Some ts
 unfolding tokens_from
 newline_spelled rest ts e = rw e refl
 
+-- the ports behind the first
 next_ports_spelled : (ps : List Port) (rest : List ℕ) (ts : List Token) → AllNarrow (map port_net ps) → AreNamed ps → tokens rest ≡ Some ts → tokens (flat_map next_port_text ps ++ 10 ∷ rest) ≡ Some (flat_map next_port_tokens ps ++ ts)
 next_ports_spelled [] rest ts narrow named e = newline_spelled rest ts e
 next_ports_spelled (p ∷ ps) rest ts narrow named e =

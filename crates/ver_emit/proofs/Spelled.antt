@@ -13,22 +13,27 @@ use Rattle.ver_emit.proofs.Narrow.{narrow_front, narrow_rest}
 use Rattle.ver_emit.proofs.Ports.{ports_spelled}
 use Rattle.ver_emit.proofs.Items.{items_spelled}
 
+-- the word of a module
 module_word_spelled : (rest : List ℕ) (ts : List Token) → tokens rest ≡ Some ts → tokens (codes "module " ++ rest) ≡ Some (word (codes "module") ∷ ts)
 unfolding tokens_from
 module_word_spelled rest ts e = rw e refl
 
+-- what opens the list of ports
 open_spelled : (rest : List ℕ) (ts : List Token) → tokens rest ≡ Some ts → tokens (40 ∷ rest) ≡ Some (sign 40 ∷ ts)
 unfolding tokens_from
 open_spelled rest ts e = rw e refl
 
+-- what closes the list of ports
 close_spelled : (rest : List ℕ) (ts : List Token) → tokens rest ≡ Some ts → tokens (codes ");\n" ++ rest) ≡ Some (sign 41 ∷ sign 59 ∷ ts)
 unfolding tokens_from
 close_spelled rest ts e = rw e refl
 
+-- the end of the module
 end_spelled : tokens (codes "endmodule\n") ≡ Some (word (codes "endmodule") ∷ [])
 unfolding tokens_from
 end_spelled = refl
 
+-- the tokens of the layout are those of the tree
 pub layout_tokens : (v : Verilog) → Valid v → HasNames v → tokens (layout v) ≡ Some (module_tokens v)
 unfolding layout
 layout_tokens v valid named =

@@ -10,6 +10,7 @@ abbrev pub ClosesWord : List ℕ → Type 0
 ClosesWord [] = ⊥
 ClosesWord (b ∷ bs) = is_word_byte b ≡ false
 
+-- a test of two parts
 both_true : (a b : Bool) → (a && b) ≡ true → (a ≡ true) × (b ≡ true)
 both_true true b h = (refl, h)
 both_true false b h = absurd cc
@@ -23,6 +24,7 @@ word_run (b ∷ bs) begun rest ts h e =
     let go : tokens_from (in_word (begun ++ b ∷ [])) (bs ++ rest) ≡ Some ts = word_run bs (begun ++ b ∷ []) rest ts p.1 (ap (λ q. tokens_from (in_word q) rest) (append_assoc begun (b ∷ []) bs) ∙ e) in
     rw (p.0, go) refl
 
+-- a token before the closed ones, where there is a rest
 behind : (t : Token) (closed : List Token) (o : Option (List Token)) (ts : List Token) → option_map (λ r. closed ++ r) o ≡ Some ts → option_map (λ r. (t ∷ closed) ++ r) o ≡ Some (t ∷ ts)
 behind t closed None ts e = absurd cc
 behind t closed (Some r) ts e = cc
@@ -32,6 +34,7 @@ pub closed_behind : (t : Token) (s : Step) (rest : Pending → Option (List Toke
 closed_behind t None rest ts e = absurd cc
 closed_behind t (Some s) rest ts e = behind t s.0 (rest s.1) ts e
 
+-- a pending word is closed
 close_word : (w rest : List ℕ) (ts : List Token) → ClosesWord rest → tokens rest ≡ Some ts → tokens_from (in_word w) rest ≡ Some (word w ∷ ts)
 unfolding tokens_from
 close_word w [] ts c e = absurd c

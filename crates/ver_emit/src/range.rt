@@ -13,6 +13,7 @@ pub fn put_range(out: &mut Vec<u8>, width: u32) -> Result<(), MemoryOut>
         return Ok(());
     }
     out.extend_from_slice(b"[")?;
+    // A width of 0 is in no valid tree; the layout stops at 0 there too.
     put_decimal(out, u128::from(width.saturating_sub(1)))?;
     out.extend_from_slice(b":0] ")?;
     Ok(())
