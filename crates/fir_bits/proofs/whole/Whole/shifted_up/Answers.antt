@@ -1,0 +1,9 @@
+use Rattle.std.proofs.Common.{◌≡◌, ◌*◌, ◌^◌, ◌<◌, arith, ap, sym}
+use Rattle.fir_bits.proofs.Powers.{exponent_below}
+use Rattle.fir_bits.proofs.Masks.{unsigned_abs-of_sign}
+use Rattle.fir_bits.proofs.whole.Whole.shifted_up.Goals as goal
+
+pub overflow_shl-magnitude : goal.overflow_shl-magnitude
+overflow_shl-magnitude c =
+    let x = c.self.inside in
+    exponent_below x.magnitude c.args.by 128 (omega arith) (rw (← unsigned_abs-of_sign x.negative x.magnitude) (rw c.self.view_is c.requires))

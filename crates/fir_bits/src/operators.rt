@@ -1,0 +1,102 @@
+//! The primitive operations, and the one list of what each takes and gives.
+
+/// A primitive operation (FIRRTL spec, "Primitive Operations").
+#[derive(Clone, Copy, Debug, PartialEq, Eq)]
+pub enum PrimOp {
+    Add,
+    Sub,
+    Mul,
+    Div,
+    Rem,
+    Lt,
+    Leq,
+    Gt,
+    Geq,
+    Eq,
+    Neq,
+    Pad,
+    Shl,
+    Shr,
+    Dshl,
+    Dshr,
+    Cvt,
+    Neg,
+    Not,
+    And,
+    Or,
+    Xor,
+    Andr,
+    Orr,
+    Xorr,
+    Cat,
+    Bits,
+    Head,
+    Tail,
+    AsUInt,
+    AsSInt,
+    AsAsyncReset,
+}
+
+/// What operands and integers an operation takes.
+#[derive(Clone, Copy, Debug, PartialEq, Eq)]
+pub enum Form {
+    /// Two operands of one signedness.
+    Pair,
+    /// An operand and a UInt by which it is shifted.
+    Shift,
+    /// One operand.
+    Single,
+    /// One operand and one integer.
+    WithInteger,
+    /// One operand and two integers.
+    WithRange,
+}
+
+/// Each operation with what it takes, whether its result is an SInt, the result's width and the
+/// value. `$column` is the macro that makes a `match` on `$op` of one of these columns.
+///
+/// Widths are `u32` expressions over the first operand's signedness and width `$w`, the second one's
+/// width `$v` and the integers `$n` and `$m`; values are `u128` expressions over the result's width
+/// `$r`, the operands `$a` and `$b` and the same integers.
+#[macro_export]
+macro_rules! operators {
+    (
+        $column:ident, $op:expr, $signed:ident, $w:ident, $v:ident, $n:ident, $m:ident,
+        $r:ident, $a:ident, $b:ident
+    ) => {
+        $column! { $op;
+            Add: Pair, $signed, $w.max($v) + 1, integer($a).plus(integer($b)).low_bits($r);
+            Sub: Pair, $signed, $w.max($v) + 1, integer($a).minus(integer($b)).low_bits($r);
+            Mul: Pair, $signed, $w + $v, integer($a).times(integer($b)).low_bits($r);
+            Div: Pair, $signed, $w + u32::from($signed), integer($a).quotient(integer($b)).low_bits($r);
+            Rem: Pair, $signed, $w.min($v), integer($a).remainder(integer($b)).low_bits($r);
+            Lt: Pair, false, 1, u128::from(integer($a).is_below(&integer($b)));
+            Leq: Pair, false, 1, u128::from(integer($a).is_at_most(&integer($b)));
+            Gt: Pair, false, 1, u128::from(integer($b).is_below(&integer($a)));
+            Geq: Pair, false, 1, u128::from(integer($b).is_at_most(&integer($a)));
+            Eq: Pair, false, 1, u128::from(integer($a).is_same(&integer($b)));
+            Neq: Pair, false, 1, u128::from(!integer($a).is_same(&integer($b)));
+            Pad: WithInteger, $signed, $w.max(capped($n)), widened($a, $r);
+            Shl: WithInteger, $signed, $w + capped($n), integer($a).shifted_up($n).low_bits($r);
+            Shr: WithInteger, $signed, $w.saturating_sub(capped($n)).max(1), integer($a).shifted_down($n).low_bits($r);
+            Dshl: Shift, $signed, $w + capped(mask($v)), integer($a).shifted_up($b.value.bits()).low_bits($r);
+            Dshr: Shift, $signed, $w, integer($a).shifted_down($b.value.bits()).low_bits($r);
+            Cvt: Single, true, $w + u32::from(!$signed), integer($a).low_bits($r);
+            Neg: Single, true, $w + 1, integer($a).negated().low_bits($r);
+            Not: Single, false, $w, complement($a);
+            And: Pair, false, $w.max($v), widened($a, $r) & widened($b, $r);
+            Or: Pair, false, $w.max($v), widened($a, $r) | widened($b, $r);
+            Xor: Pair, false, $w.max($v), widened($a, $r) ^ widened($b, $r);
+            Andr: Single, false, 1, u128::from($a.value.bits() == mask($a.value.width()));
+            Orr: Single, false, 1, u128::from($a.value.bits() != 0);
+            Xorr: Single, false, 1, parity($a);
+            Cat: Pair, false, $w + $v, joined($a, $b);
+            Bits: WithRange, false, span($n, $m), field($a, $m, $r);
+            Head: WithInteger, false, capped($n), high_bits($a, $n);
+            Tail: WithInteger, false, $w.saturating_sub(capped($n)), $a.value.bits() & mask($r);
+            AsUInt: Single, false, $w, $a.value.bits();
+            AsSInt: Single, true, $w, $a.value.bits();
+            AsAsyncReset: Single, false, 1, $a.value.bits();
+        }
+    };
+}
