@@ -1,7 +1,7 @@
 -- The low bits of numbers, by the greatest number g of a width w.
-use Rattle.std.proofs.Common.{◌≡◌, ℕ, zero, suc, ◌+◌, ◌-◌, ◌^◌, ◌<◌, ◌≤◌, ◌%◌, ◌⊎◌, inl, inr, Bool, true, false, arith, ◌∙◌, ap, refl, pos, neg_ℤ, unsigned_abs}
-use Rattle.std.specs.Prelude.{bit_and}
-use Rattle.std.proofs.lemmas.Nat.{and_mask}
+use Rattle.std.proofs.Common.{◌≡◌, ℕ, zero, suc, ◌+◌, ◌-◌, ◌*◌, ◌^◌, ◌<◌, ◌≤◌, ◌%◌, ◌⊎◌, inl, inr, Bool, true, false, arith, ◌∙◌, ap, refl, pos, neg_ℤ, unsigned_abs}
+use Rattle.std.specs.Prelude.{bit_and, bit_or}
+use Rattle.std.proofs.lemmas.Nat.{and_mask, or_shifted, shl_whole}
 use Rattle.fir_bits.specs.Integers.{bits_of, of_sign}
 
 pub and_greatest : (w g n : ℕ) → g + 1 ≡ 2 ^ w → bit_and n g ≡ n % 2 ^ w
@@ -27,3 +27,7 @@ pub unsigned_abs-of_sign : (negative : Bool) (m : ℕ) → unsigned_abs (of_sign
 unsigned_abs-of_sign false m = refl
 unsigned_abs-of_sign true zero = refl
 unsigned_abs-of_sign true (suc k) = refl
+
+-- two values side by side, as a shift in 128 bits and an `or` make them
+pub or_joined : (a b w v : ℕ) → a < 2 ^ w → b < 2 ^ v → w + v ≤ 128 → bit_or ((a * 2 ^ v) % 2 ^ 128) b ≡ a * 2 ^ v + b
+or_joined a b w v h k narrow = ap (λ x. bit_or x b) (shl_whole a w v 128 h narrow) ∙ or_shifted a v b k

@@ -93,7 +93,7 @@ macro_rules! operators {
             Cat: Pair, false, $w + $v, joined($a, $b);
             Bits: WithRange, false, span($n, $m), field($a, $m, $r);
             Head: WithInteger, false, capped($n), high_bits($a, $n);
-            Tail: WithInteger, false, $w.saturating_sub(capped($n)), $a.value.bits() & mask($r);
+            Tail: WithInteger, false, $w.saturating_sub(capped($n)), $a.value.cut($r).bits();
             AsUInt: Single, false, $w, $a.value.bits();
             AsSInt: Single, true, $w, $a.value.bits();
             AsAsyncReset: Single, false, 1, $a.value.bits();

@@ -91,7 +91,7 @@ fn span(hi: u128, lo: u128) -> u32
 }
 
 /// The result's width, or 129 where it is greater.
-fn width(op: PrimOp, signed: bool, w: u32, v: u32, n: u128, m: u128) -> u32
+pub fn width(op: PrimOp, signed: bool, w: u32, v: u32, n: u128, m: u128) -> u32
     requires first { w ≤ 128 }
     requires second { v ≤ 128 }
     ensures { result ≡ min (width_of op signed w v n m) 129 }

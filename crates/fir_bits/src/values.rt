@@ -9,7 +9,7 @@ ghost use Rattle.fir_bits.specs.Operators.{type_of, integer_of, widened, value_o
 use crate::bits::{Bits, mask};
 use crate::operators;
 use crate::operators::PrimOp;
-use crate::types::entry;
+use crate::types::{entry, width};
 use crate::whole::{Whole, shifted_right};
 
 /// An operand: a value and its kind, SInt or UInt.
@@ -17,4 +17,77 @@ use crate::whole::{Whole, shifted_right};
 pub struct Num {
     pub signed: bool,
     pub value: Bits,
+}
+
+macro_rules! values {
+    ($op:expr; $($name:ident: $form:ident, $signed:expr, $width:expr, $value:expr;)*) => {
+        match $op { $(PrimOp::$name => $value,)* }
+    };
+}
+
+/// The integer that the operand stands for.
+fn integer(a: &Num) -> Whole
+    ensures value { result ≡ integer_of a.now }
+    ensures size { unsigned_abs result < 2 ^ a.now.value.width }
+{
+    a.value.integer(a.signed)
+}
+
+/// The operand's bits at a width from its own on.
+fn widened(a: &Num, to: u32) -> u128
+    requires wider { a.now.value.width ≤ to }
+    requires narrow { to ≤ 128 }
+    ensures { result ≡ widened a.now to }
+{
+    a.value.extend(a.signed, to).bits()
+}
+
+/// Each of the operand's bits turned.
+fn complement(a: &Num) -> u128
+    ensures { result ≡ complement a.now.value.width a.now.value.number }
+{
+    mask(a.value.width()) - a.value.bits()
+}
+
+/// Whether the number of the operand's bits that are 1 is odd, as one bit.
+fn parity(a: &Num) -> u128
+    ensures { result ≡ count_ones a.now.value.number % 2 }
+{
+    u128::from(a.value.bits().count_ones() % 2)
+}
+
+/// The bits of the two operands side by side, the first one's above.
+fn joined(a: &Num, b: &Num) -> u128
+    requires { a.now.value.width + b.now.value.width ≤ 128 }
+    ensures { result ≡ a.now.value.number * 2 ^ b.now.value.width + b.now.value.number }
+{
+    let (high, low) = (a.value.bits(), b.value.bits());
+    let by = b.value.width();
+    if by == 128 { low } else { (high << by) | low }
+}
+
+/// The operand's bits from bit `lo` on, as many as `count`.
+fn field(a: &Num, lo: u128, count: u32) -> u128
+    requires { count ≤ 128 }
+    ensures { result ≡ a.now.value.number / 2 ^ lo % 2 ^ count }
+{
+    shifted_right(a.value.bits(), lo) & mask(count)
+}
+
+/// The operand's high bits, as many as `count`.
+fn high_bits(a: &Num, count: u128) -> u128
+    requires { count ≤ a.now.value.width }
+    ensures { result ≡ a.now.value.number / 2 ^ (a.now.value.width - count) }
+{
+    shifted_right(a.value.bits(), u128::from(a.value.width()) - count)
+}
+
+/// The number of the result of width `r`.
+fn value(op: PrimOp, r: u32, a: &Num, b: &Num, n: u128, m: u128) -> u128
+    requires width { r ≡ width_of op a.now.signed a.now.value.width b.now.value.width n m }
+    requires narrow { r ≤ 128 }
+    requires legal { IsTrue (is_legal op a.now.value.width n m) }
+    ensures { result ≡ value_of op r a.now b.now n m }
+{
+    operators!(values, op, signed, w, v, n, m, r, a, b)
 }
