@@ -1,2 +1,4 @@
 pub mod Powers
 pub mod Masks
+pub mod Below
+pub mod Typing

@@ -1,7 +1,7 @@
 //! A value: a width in bits and a number below two to its power.
 
 ghost use Rattle.std.specs.Prelude.{◌≡◌, ◌+◌, ◌^◌, ◌<◌, ◌≤◌, SomeIff, unsigned_abs};
-ghost use Rattle.fir_bits.specs.Values.{extended, fitted, low_bits};
+ghost use Rattle.fir_bits.specs.Values.{IsBitVector, extended, fitted, low_bits};
 ghost use Rattle.fir_bits.specs.Integers.{reading};
 
 use crate::whole::Whole;
@@ -40,6 +40,18 @@ pub fn mask(width: u32) -> u128
 }
 
 impl Bits {
+    /// The one value of no bits.
+    pub const EMPTY: Bits = Bits { width: 0, bits: 0 };
+
+    /// The value of that width and number.
+    pub fn of(width: u32, bits: u128) -> Bits
+        requires narrow { width ≤ 128 }
+        requires below { bits < 2 ^ width }
+        ensures { result ≡ record { width = width; number = bits } }
+    {
+        Bits { width, bits }
+    }
+
     /// The value of that width, or None where the width is over 128 or the number takes more bits.
     pub fn new(width: u32, bits: u128) -> Option<Bits>
         ensures { SomeIff result ((width ≤ 128) × (bits < 2 ^ width)) (record { width = width; number = bits }) }
@@ -55,6 +67,7 @@ impl Bits {
     pub fn width(&self) -> u32
         ensures value { result ≡ self.now.width }
         ensures narrow { result ≤ 128 }
+        ensures holds { IsBitVector self.now }
     {
         self.width
     }

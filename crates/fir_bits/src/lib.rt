@@ -15,4 +15,4 @@ mod whole;
 pub use bits::{Bits, mask};
 pub use operators::{Form, PrimOp};
 pub use types::{NumTy, OpFault, result_type};
-pub use values::Num;
+pub use values::{Num, apply};

@@ -3,7 +3,7 @@
 ghost use Rattle.std.specs.Prelude.{◌≡◌, ◌+◌, ◌-◌, ◌*◌, ◌/◌, ◌%◌, ◌^◌, ◌<◌, ◌≤◌, IsTrue, IsOk, map, unsigned_abs, count_ones};
 ghost use Rattle.fir_bits.specs.Values.{complement};
 ghost use Rattle.fir_bits.specs.Widths.{width_of};
-ghost use Rattle.fir_bits.specs.Types.{is_legal, typed};
+ghost use Rattle.fir_bits.specs.Types.{is_legal, typed, typed_at};
 ghost use Rattle.fir_bits.specs.Operators.{type_of, integer_of, widened, value_of, applied_at, applied};
 
 use crate::bits::{Bits, mask};
@@ -90,4 +90,32 @@ fn value(op: PrimOp, r: u32, a: &Num, b: &Num, n: u128, m: u128) -> u128
     ensures { result ≡ value_of op r a.now b.now n m }
 {
     operators!(values, op, signed, w, v, n, m, r, a, b)
+}
+
+/// The value of the result on two operands and two integers, of which the operation reads those
+/// that it has.
+fn apply_at(op: PrimOp, a: &Num, b: &Num, n: u128, m: u128) -> Bits
+    requires { IsOk (typed_at op (type_of a.now) (type_of b.now) n m) }
+    ensures { result ≡ applied_at op a.now b.now n m }
+{
+    let (w, v) = (a.value.width(), b.value.width());
+    let r = width(op, a.signed, w, v, n, m);
+    Bits::of(r, value(op, r, a, b, n, m))
+}
+
+/// The value of the operation's result on these operands and integers, where it has a type
+/// (`result_type`).
+///
+/// Division by zero, quotient and remainder, is 0 (FIRRTL spec, "Primitive Operations").
+pub fn apply(op: PrimOp, args: &[Num], consts: &[u128]) -> Bits
+    requires { IsOk (typed op (map type_of args.now) consts.now) }
+    ensures { result ≡ applied op args.now consts.now }
+{
+    let none = Num {
+        signed: false,
+        value: Bits::EMPTY,
+    };
+    let (a, b) = (entry(args, 0, &none), entry(args, 1, &none));
+    let (n, m) = (*entry(consts, 0, &0), *entry(consts, 1, &0));
+    apply_at(op, a, b, n, m)
 }
