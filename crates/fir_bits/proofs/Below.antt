@@ -1,6 +1,6 @@
 -- The number of each result is below two to the power of its width.
-use Rattle.std.proofs.Common.{◌≡◌, ℕ, zero, suc, ◌+◌, ◌-◌, ◌*◌, ◌/◌, ◌%◌, ◌^◌, ◌<◌, ◌≤◌, Bool, true, false, cond, max, arith, lit<, ℤ, pos, negsuc, if◌then◌else◌, ◌&&◌, IsTrue}
-use Rattle.std.specs.Prelude.{bit_and, bit_or, bit_xor, count_ones}
+use Rattle.std.proofs.Common.{◌≡◌, ℕ, ◌+◌, ◌-◌, ◌*◌, ◌/◌, ◌^◌, ◌<◌, ◌≤◌, Bool, true, false, max, arith, lit<, ℤ, pos, negsuc, if◌then◌else◌, ◌&&◌, IsTrue}
+use Rattle.std.specs.Prelude.{count_ones}
 use Rattle.std.proofs.lemmas.Nat.{pow_pos, mod_below, and_le_l, or_lt, xor_lt, mul-add-lt, pow-add, shr_below}
 use Rattle.std.proofs.lemmas.Bool.{eqb-true}
 use Rattle.fir_bits.proofs.Powers.{pow_le}

@@ -1,7 +1,7 @@
 -- Powers of two, and products and sums below them.
 use Rattle.std.proofs.Common.{◌≡◌, ℕ, ◌+◌, ◌-◌, ◌*◌, ◌^◌, ◌<◌, ◌≤◌, arith, max, inl, inr}
-use Rattle.std.proofs.Math.Nat.{pow-le-pow_right, mul-le-mul_left, le_of_lt}
-use Rattle.std.proofs.lemmas.Nat.{pow-add, mul-add-lt, mul-le, mul-lt, shl_below}
+use Rattle.std.proofs.Math.Nat.{pow-le-pow_right}
+use Rattle.std.proofs.lemmas.Nat.{pow-add, mul-le, mul-lt, shl_below}
 use Rattle.std.proofs.lemmas.Bool.{cases_lt}
 
 -- a greater exponent gives no smaller power

@@ -4,3 +4,4 @@ pub mod Forms
 pub mod Widths
 pub mod Types
 pub mod Operators
+pub mod Laws

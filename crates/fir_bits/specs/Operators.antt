@@ -1,6 +1,6 @@
 -- The value of each primitive operation, from the result's width r, the operands a and b and the integers n and m.
 -- FIRRTL spec, "Primitive Operations". Arithmetic is that of the integers that the operands stand for, and its result is the integer's low r bits.
-use Rattle.std.specs.Prelude.{ℕ, ◌+◌, ◌-◌, ◌*◌, ◌/◌, ◌%◌, ◌^◌, Bool, false, not, if◌then◌else◌, ◌==◌, List, map, slice_index, slice_index_or, ℤ, pos, ◌+ℤ◌, ◌-ℤ◌, ◌*ℤ◌, neg_ℤ, int_lt, int_le, bit_and, bit_or, bit_xor, count_ones}
+use Rattle.std.specs.Prelude.{ℕ, ◌+◌, ◌-◌, ◌*◌, ◌/◌, ◌%◌, ◌^◌, Bool, false, not, if◌then◌else◌, ◌==◌, List, slice_index, slice_index_or, ℤ, pos, ◌+ℤ◌, ◌-ℤ◌, ◌*ℤ◌, neg_ℤ, int_lt, int_le, bit_and, bit_or, bit_xor, count_ones}
 use Rattle.std.specs.Ordering.{int_eq}
 use Rattle.fir_bits.specs.Values.{BitVector, complement, extended, low_bits}
 use Rattle.fir_bits.specs.Integers.{reading, bits_of, quotient, remainder, shifted_down}

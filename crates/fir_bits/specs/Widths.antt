@@ -1,6 +1,6 @@
 -- The result's width of each primitive operation, from the first operand's signedness and width w, the second one's width v and the integers n and m.
 -- FIRRTL spec, "Primitive Operations". What is illegal has a width too: `tail` of more bits than there are has 0, `head` n, and `bits` n - m + 1, or 0 where m is above n.
-use Rattle.std.specs.Prelude.{ℕ, ◌+◌, ◌-◌, ◌^◌, min, max, Bool, ◌&&◌, if◌then◌else◌, nat_le, List, slice_index}
+use Rattle.std.specs.Prelude.{ℕ, ◌+◌, ◌-◌, ◌^◌, min, max, Bool, ◌&&◌, if◌then◌else◌, nat_le}
 use Rattle.fir_bits.specs.declared.operators.PrimOp.{PrimOp}
 use Rattle.fir_bits.specs.declared.operators.PrimOp.TheVariants.{Add, Sub, Mul, Div, Rem, Lt, Leq, Gt, Geq, Eq, Neq, Pad, Shl, Shr, Dshl, Dshr, Cvt, Neg, Not, And, Or, Xor, Andr, Orr, Xorr, Cat, Bits, Head, Tail, AsUInt, AsSInt, AsAsyncReset}
 

@@ -7,6 +7,7 @@
 #![tactic(auto)]
 
 mod bits;
+pub mod laws;
 mod operators;
 mod types;
 mod values;

@@ -1,4 +1,4 @@
-use Rattle.std.proofs.Common.{◌≡◌, ◌/◌, ◌%◌, ◌^◌, ap, ◌∙◌}
+use Rattle.std.proofs.Common.{◌/◌, ◌%◌, ◌^◌, ap, ◌∙◌}
 use Rattle.fir_bits.proofs.Masks.{and_greatest}
 use Rattle.fir_bits.proofs.values.field.Goals as goal
 

@@ -1,5 +1,4 @@
 use Rattle.std.proofs.Common.{◌≡◌, arith}
-use Rattle.std.proofs.Common.{◌*◌}
 use Rattle.fir_bits.proofs.Powers.{pow_le}
 use Rattle.fir_bits.proofs.Masks.{or_joined}
 use Rattle.fir_bits.proofs.values.joined.Goals as goal

@@ -1,4 +1,4 @@
-use Rattle.std.proofs.Common.{◌≡◌, ◌≤◌, ◌+◌, arith}
+use Rattle.std.proofs.Common.{◌≤◌, ◌+◌, arith}
 use Rattle.fir_bits.proofs.Powers.{sum_below, product_narrow, multiple_narrow, shift_below}
 use Rattle.fir_bits.proofs.values.value.Goals as goal
 

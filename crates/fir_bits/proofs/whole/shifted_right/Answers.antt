@@ -1,4 +1,4 @@
-use Rattle.std.proofs.Common.{◌≡◌, ◌^◌, ◌/◌, arith}
+use Rattle.std.proofs.Common.{◌^◌, arith}
 use Rattle.std.proofs.lemmas.Nat.{div_below, pow_pos}
 use Rattle.fir_bits.proofs.Powers.{pow_le}
 use Rattle.fir_bits.proofs.whole.shifted_right.Goals as goal

@@ -1,4 +1,4 @@
-use Rattle.std.proofs.Common.{◌≡◌, ℕ, ◌^◌, ◌%◌, ap, ◌∙◌}
+use Rattle.std.proofs.Common.{ℕ, ◌^◌, ◌%◌, ap, ◌∙◌}
 use Rattle.fir_bits.specs.Values.{BitVector}
 use Rattle.fir_bits.proofs.Masks.{and_greatest}
 use Rattle.fir_bits.proofs.bits.Bits.cut.Goals as goal

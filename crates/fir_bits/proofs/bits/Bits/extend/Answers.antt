@@ -1,4 +1,4 @@
-use Rattle.std.proofs.Common.{◌≡◌, arith, ap}
+use Rattle.std.proofs.Common.{arith, ap}
 use Rattle.fir_bits.specs.Values.{BitVector}
 use Rattle.fir_bits.proofs.Powers.{pow_le}
 use Rattle.fir_bits.proofs.bits.Bits.extend.Goals as goal

@@ -1,6 +1,6 @@
-use Rattle.std.proofs.Common.{◌≡◌, ◌%◌, ◌^◌, Bool, arith, ap, sym, ◌∙◌, ℤ, pos, neg_ℤ}
+use Rattle.std.proofs.Common.{Bool, ap, sym, ◌∙◌}
 use Rattle.fir_bits.specs.Integers.{bits_of, of_sign}
-use Rattle.fir_bits.proofs.Masks.{and_greatest, bits_of-negative, bits_of-not_negative}
+use Rattle.fir_bits.proofs.Masks.{bits_of-negative, bits_of-not_negative}
 use Rattle.fir_bits.proofs.whole.Whole.low_bits.Goals as goal
 use Rattle.fir_bits.proofs.whole.Whole.low_bits.Goals.{else-self-via-then-self+else-self-gt0, else-self-via-else-self}
 

@@ -1,4 +1,4 @@
-use Rattle.std.proofs.Common.{◌≡◌, ◌*◌, ◌^◌, ◌<◌, arith, ap, sym}
+use Rattle.std.proofs.Common.{arith}
 use Rattle.fir_bits.proofs.Powers.{exponent_below}
 use Rattle.fir_bits.proofs.Masks.{unsigned_abs-of_sign}
 use Rattle.fir_bits.proofs.whole.Whole.shifted_up.Goals as goal
