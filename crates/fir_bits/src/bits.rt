@@ -126,7 +126,7 @@ impl Bits {
     }
 
     /// The integer that the value stands for, as an SInt or a UInt.
-    pub fn integer(&self, signed: bool) -> Whole
+    pub(crate) fn integer(&self, signed: bool) -> Whole
         ensures value { result ≡ reading signed self.now.width self.now.number }
         ensures size { unsigned_abs result < 2 ^ self.now.width }
     {

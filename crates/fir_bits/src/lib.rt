@@ -17,3 +17,6 @@ pub use bits::{Bits, mask};
 pub use operators::{Form, PrimOp};
 pub use types::{NumTy, OpFault, result_type};
 pub use values::{Num, apply};
+
+#[cfg(test)]
+mod tests;

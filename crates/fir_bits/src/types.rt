@@ -91,7 +91,7 @@ fn span(hi: u128, lo: u128) -> u32
 }
 
 /// The result's width, or 129 where it is greater.
-pub fn width(op: PrimOp, signed: bool, w: u32, v: u32, n: u128, m: u128) -> u32
+pub(crate) fn width(op: PrimOp, signed: bool, w: u32, v: u32, n: u128, m: u128) -> u32
     requires first { w ≤ 128 }
     requires second { v ≤ 128 }
     ensures { result ≡ min (width_of op signed w v n m) 129 }
@@ -113,7 +113,7 @@ fn legal(op: PrimOp, w: u32, n: u128, m: u128) -> bool
 }
 
 /// The entry at `i`, or `none`.
-pub fn entry<'a, T>(entries: &'a [T], i: usize, none: &'a T) -> &'a T
+pub(crate) fn entry<'a, T>(entries: &'a [T], i: usize, none: &'a T) -> &'a T
     ensures { result.now ≡ slice_index_or entries.now i none.now }
 {
     if i < entries.len() { &entries[i] } else { none }

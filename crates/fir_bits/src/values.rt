@@ -9,7 +9,7 @@ ghost use Rattle.fir_bits.specs.Operators.{type_of, integer_of, widened, value_o
 use crate::bits::{Bits, mask};
 use crate::operators;
 use crate::operators::PrimOp;
-use crate::types::{entry, width};
+use crate::types::{NumTy, entry, width};
 use crate::whole::{Whole, shifted_right};
 
 /// An operand: a value and its kind, SInt or UInt.
@@ -17,6 +17,18 @@ use crate::whole::{Whole, shifted_right};
 pub struct Num {
     pub signed: bool,
     pub value: Bits,
+}
+
+impl Num {
+    /// The operand's type.
+    pub fn ty(&self) -> NumTy
+        ensures { result ≡ type_of self.now }
+    {
+        NumTy {
+            signed: self.signed,
+            width: self.value.width(),
+        }
+    }
 }
 
 macro_rules! values {

@@ -9,7 +9,7 @@ use std::marker::Model;
 
 /// An integer. A negative 0 is 0.
 #[derive(Drop)]
-pub struct Whole {
+pub(crate) struct Whole {
     negative: bool,
     magnitude: u128,
 }
@@ -164,7 +164,7 @@ impl Whole {
 }
 
 /// The number divided by two to the power of `by`, rounded down.
-pub fn shifted_right(n: u128, by: u128) -> u128
+pub(crate) fn shifted_right(n: u128, by: u128) -> u128
     ensures { result ≡ n / 2 ^ by }
 {
     if by >= 128 { 0 } else { n >> by }
