@@ -91,12 +91,12 @@ impl Whole {
     pub fn remainder(self, other: Whole) -> Whole
         ensures { result ≡ remainder self other }
     {
-        let magnitude = if other.magnitude == 0 {
+        let rest = if other.magnitude == 0 {
             0
         } else {
             self.magnitude % other.magnitude
         };
-        Whole::new(self.negative, magnitude)
+        Whole::new(self.negative, rest)
     }
 
     /// The integer times two to the power of `by`.
@@ -104,12 +104,12 @@ impl Whole {
         requires { unsigned_abs self * 2 ^ by < 2 ^ 128 }
         ensures { result ≡ self *ℤ pos (2 ^ by) }
     {
-        let magnitude = if self.magnitude == 0 {
+        let product = if self.magnitude == 0 {
             0
         } else {
             self.magnitude << by
         };
-        Whole::new(self.negative, magnitude)
+        Whole::new(self.negative, product)
     }
 
     /// The integer divided by two to the power of `by`, rounded down.
