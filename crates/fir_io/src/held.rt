@@ -1,6 +1,6 @@
 //! The bytes that sinks in memory hold.
 
-ghost use Rattle.std.specs.Prelude.{◌≡◌, ◌++◌, ◌⊎◌, [], take, IsOk};
+ghost use Rattle.std.specs.Prelude.{◌≡◌, ◌+◌, ◌≤◌, ◌++◌, ◌⊎◌, [], length, take, vec_len, vec_capacity, IsOk};
 ghost use Rattle.fir_io.specs.Memory.{HoldsPiece};
 
 use crate::ports::PutFault;
@@ -21,7 +21,8 @@ pub fn append(held: &mut Vec<u8>, piece: &[u8]) -> Result<(), PutFault>
 
 /// The first `count` bytes of a piece, or all of it.
 fn front_of(piece: &[u8], count: u64) -> &[u8]
-    ensures { result.now ≡ take count piece.now }
+    ensures front { result.now ≡ take count piece.now }
+    ensures length { length result.now ≤ length piece.now }
 {
     if count < piece.len() as u64 {
         &piece[..count as usize]
@@ -32,7 +33,10 @@ fn front_of(piece: &[u8], count: u64) -> &[u8]
 
 /// Appends the first `count` bytes of a piece, or all of it; for want of memory nothing.
 pub fn append_front(held: &mut Vec<u8>, piece: &[u8], count: u64)
-    ensures { (held.new.items ≡ held.old.items ++ take count piece.now) ⊎ (held.new.items ≡ held.old.items) }
+    ensures grew { (held.new.items ≡ held.old.items ++ take count piece.now)
+        ⊎ (held.new.items ≡ held.old.items) }
+    ensures room { vec_len held.old + length piece.now ≤ vec_capacity held.old
+        → held.new.items ≡ held.old.items ++ take count piece.now }
 {
     let _ = held.extend_from_slice(front_of(piece, count));
 }

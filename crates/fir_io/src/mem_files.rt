@@ -26,15 +26,28 @@ impl Model for MemFiles {
 
     ghost Value = { MemFilesView };
 
-    ghost view = { λ f. record { entries = f.entries.items; failing = f.failing.items; calls = f.calls; taken = f.taken; faults = f.faults } };
+    ghost view = { λ f. record {
+      entries = f.entries.items;
+      failing = f.failing.items;
+      calls = f.calls;
+      taken = f.taken;
+      faults = f.faults;
+    } };
 }
 
 impl MemFiles {
     /// These files, of whose reads those that the list names are to fail.
     pub fn new(entries: Vec<FileEntry>, failing: Vec<FailingCall>) -> MemFiles
-        ensures value { result ≡ record { entries = entries.items; failing = failing.items; calls = 0; taken = 0; faults = 0 } }
+        ensures value { result ≡ record {
+          entries = entries.items;
+          failing = failing.items;
+          calls = 0;
+          taken = 0;
+          faults = 0;
+        } }
         ensures may { (name : List ℕ) → IsTrue ((mem_files_seen result).may name) }
-        ensures told { (name : List ℕ) → (mem_files_seen result).told name ≡ content_of entries.items name }
+        ensures told { (name : List ℕ)
+            → (mem_files_seen result).told name ≡ content_of entries.items name }
     {
         MemFiles {
             entries,

@@ -24,13 +24,24 @@ impl Model for MemSink {
 
     ghost Value = { MemSinkView };
 
-    ghost view = { λ s. record { held = s.held.items; failing = s.failing.items; calls = s.calls; faults = s.faults } };
+    ghost view = { λ s. record {
+      held = s.held.items;
+      failing = s.failing.items;
+      calls = s.calls;
+      faults = s.faults;
+    } };
 }
 
 impl MemSink {
-    /// An empty sink, of whose puts of pieces that are not empty those that the list names are to fail.
+    /// An empty sink, of whose puts those that the list names are to fail. The put of an empty piece
+    /// is not counted and never fails.
     pub fn new(alloc: Global, failing: Vec<FailingCall>) -> MemSink
-        ensures value { result ≡ record { held = []; failing = failing.items; calls = 0; faults = 0 } }
+        ensures value { result ≡ record {
+          held = [];
+          failing = failing.items;
+          calls = 0;
+          faults = 0;
+        } }
         ensures held { (mem_sink_seen result).held ≡ Some [] }
     {
         MemSink {

@@ -1,6 +1,6 @@
 //! A sink over a writer of the system.
 
-ghost use Rattle.std.specs.Prelude.{◌≡◌, None, OnOk};
+ghost use Rattle.std.specs.Prelude.{◌≡◌, ◌≢◌, None, OnOk};
 ghost use Rattle.std.specs.Io.KnownBytes.{Appends};
 ghost use Rattle.fir_io.specs.Os.{os_sink_seen, os_writer};
 ghost use Rattle.fir_io.specs.Ports.{Puts};
@@ -31,7 +31,9 @@ impl<W: io::Write> Sink for OsSink<W> {
 
     fn put(&mut self, bytes: &[u8]) -> Result<(), PutFault>
         ensures puts { Puts bytes.now (os_sink_seen self.old) (os_sink_seen self.new) result }
-        ensures written { OnOk result (Appends (W.contents (os_writer self.old)) (W.contents (os_writer self.new)) bytes.now) }
+        ensures written { OnOk result
+            (Appends (W.contents (os_writer self.old)) (W.contents (os_writer self.new)) bytes.now) }
+        ensures memory { result ≢ Err PutFault.Memory }
     {
         if bytes.is_empty() {
             return Ok(());

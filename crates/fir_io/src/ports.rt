@@ -35,7 +35,8 @@ pub enum PutFault {
 pub trait Files {
     ghost seen: { Self → FilesSeen };
 
-    /// The whole content of the file of that name, of at most `limit` bytes.
+    /// The whole content of the file of that name, of at most `limit` bytes. The name is one that may
+    /// be asked.
     ///
     /// # Errors
     ///

@@ -30,7 +30,8 @@ impl SureFiles {
     pub fn new(entries: Vec<FileEntry>) -> SureFiles
         ensures value { result ≡ record { entries = entries.items; taken = 0 } }
         ensures may { (name : List ℕ) → IsTrue ((sure_files_seen result).may name) }
-        ensures told { (name : List ℕ) → (sure_files_seen result).told name ≡ Some (sure_content entries.items name) }
+        ensures told { (name : List ℕ)
+            → (sure_files_seen result).told name ≡ Some (sure_content entries.items name) }
     {
         SureFiles { entries, taken: 0 }
     }

@@ -8,5 +8,5 @@ returns-in-Some-Failed-clause-puts c =
     (record {
       later = search rules;
       empty = search rules;
-      shows = (search rules, grew_front _ _ _ _ c.append_front.ensures);
+      shows = (search rules, grew_front _ _ _ _ c.append_front.ensures.grew);
     })
