@@ -1,0 +1,47 @@
+-- Words in a text: bytes of a word go on with it, and any other byte closes it.
+use Rattle.std.proofs.Common.{◌≡◌, ℕ, List, [], ◌∷◌, ◌++◌, Bool, true, false, ◌&&◌, Option, Some, None, refl, sym, ap, ◌∙◌, append_assoc, append-nil}
+use Rattle.std.specs.Prelude.{IsTrue, option_map}
+use Rattle.std.specs.List.{list_all}
+use Rattle.ver_ast.specs.Names.{is_word, is_word_start, is_word_byte}
+use Rattle.ver_ast.specs.Tokens.{Token, word, Pending, in_word, Step, go_on, begin, tokens_from, tokens}
+
+-- a text that begins with a byte which goes on with no word
+abbrev pub ClosesWord : List ℕ → Type 0
+ClosesWord [] = ⊥
+ClosesWord (b ∷ bs) = is_word_byte b ≡ false
+
+both_true : (a b : Bool) → (a && b) ≡ true → (a ≡ true) × (b ≡ true)
+both_true true b h = (refl, h)
+both_true false b h = absurd cc
+
+-- the bytes of a word go on with the pending one
+word_run : (w begun rest : List ℕ) (ts : List Token) → list_all is_word_byte w ≡ true → tokens_from (in_word (begun ++ w)) rest ≡ Some ts → tokens_from (in_word begun) (w ++ rest) ≡ Some ts
+unfolding tokens_from
+word_run [] begun rest ts h e = ap (λ p. tokens_from (in_word p) rest) (sym (append-nil begun)) ∙ e
+word_run (b ∷ bs) begun rest ts h e =
+    let p = both_true (is_word_byte b) (list_all is_word_byte bs) h in
+    let go : tokens_from (in_word (begun ++ b ∷ [])) (bs ++ rest) ≡ Some ts = word_run bs (begun ++ b ∷ []) rest ts p.1 (ap (λ q. tokens_from (in_word q) rest) (append_assoc begun (b ∷ []) bs) ∙ e) in
+    rw (p.0, go) refl
+
+behind : (t : Token) (closed : List Token) (o : Option (List Token)) (ts : List Token) → option_map (λ r. closed ++ r) o ≡ Some ts → option_map (λ r. (t ∷ closed) ++ r) o ≡ Some (t ∷ ts)
+behind t closed None ts e = absurd cc
+behind t closed (Some r) ts e = cc
+
+-- a closed token stands before those of the byte that closes it
+pub closed_behind : (t : Token) (s : Step) (rest : Pending → Option (List Token)) (ts : List Token) → go_on s rest ≡ Some ts → go_on (option_map (λ p. (t ∷ p.0, p.1)) s) rest ≡ Some (t ∷ ts)
+closed_behind t None rest ts e = absurd cc
+closed_behind t (Some s) rest ts e = behind t s.0 (rest s.1) ts e
+
+close_word : (w rest : List ℕ) (ts : List Token) → ClosesWord rest → tokens rest ≡ Some ts → tokens_from (in_word w) rest ≡ Some (word w ∷ ts)
+unfolding tokens_from
+close_word w [] ts c e = absurd c
+close_word w (b ∷ bs) ts c e = rw c (closed_behind (word w) (begin b) (λ next. tokens_from next bs) ts e)
+
+-- a word before a text that closes it
+pub word_spelled : (w rest : List ℕ) (ts : List Token) → IsTrue (is_word w) → ClosesWord rest → tokens rest ≡ Some ts → tokens (w ++ rest) ≡ Some (word w ∷ ts)
+unfolding tokens_from
+word_spelled [] rest ts h c e = absurd cc
+word_spelled (b ∷ bs) rest ts h c e =
+    let p = both_true (is_word_start b) (list_all is_word_byte bs) h in
+    let run : tokens_from (in_word (b ∷ [])) (bs ++ rest) ≡ Some (word (b ∷ bs) ∷ ts) = word_run bs (b ∷ []) rest _ p.1 (close_word (b ∷ bs) rest ts c e) in
+    rw (p.0, run) refl

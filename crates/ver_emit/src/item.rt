@@ -1,0 +1,49 @@
+//! Items.
+
+ghost use Rattle.std.specs.Prelude.{◌≡◌, ◌++◌, OnOk, flat_map};
+ghost use Rattle.ver_emit.specs.Layout.{item_text};
+
+use crate::range::put_range;
+use crate::rhs::put_rhs;
+use fir_base::MemoryOut;
+use ver_ast::{Assign, Item, Net};
+
+/// Appends the items, a line each.
+pub fn put_items(out: &mut Vec<u8>, items: &[Item]) -> Result<(), MemoryOut>
+    ensures { OnOk result (out.new.items ≡ out.old.items ++ flat_map item_text items.now) }
+{
+    for item in items {
+        put_item(out, item)?;
+    }
+    Ok(())
+}
+
+fn put_item(out: &mut Vec<u8>, item: &Item) -> Result<(), MemoryOut>
+    ensures { OnOk result (out.new.items ≡ out.old.items ++ item_text item.now) }
+{
+    match item {
+        Item::Wire(net) => put_wire(out, net),
+        Item::Assign(assign) => put_assign(out, assign),
+    }
+}
+
+fn put_wire(out: &mut Vec<u8>, net: &Net) -> Result<(), MemoryOut>
+    ensures { OnOk result (out.new.items ≡ out.old.items ++ item_text (Item.Wire net.now)) }
+{
+    out.extend_from_slice(b"  wire ")?;
+    put_range(out, net.width)?;
+    out.extend_from_slice(net.name.as_bytes())?;
+    out.extend_from_slice(b";\n")?;
+    Ok(())
+}
+
+fn put_assign(out: &mut Vec<u8>, assign: &Assign) -> Result<(), MemoryOut>
+    ensures { OnOk result (out.new.items ≡ out.old.items ++ item_text (Item.Assign assign.now)) }
+{
+    out.extend_from_slice(b"  assign ")?;
+    out.extend_from_slice(assign.target.as_bytes())?;
+    out.extend_from_slice(b" = ")?;
+    put_rhs(out, &assign.rhs)?;
+    out.extend_from_slice(b";\n")?;
+    Ok(())
+}
