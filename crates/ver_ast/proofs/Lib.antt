@@ -1,4 +1,5 @@
 pub mod Members
+pub mod Items
 pub mod Values
 pub mod Nets
 pub mod OneChoice

@@ -4,10 +4,12 @@
 //! two laws: a text spells one tree at most, and a valid tree has exactly one choice of values.
 #![tactic(auto)]
 
+mod decide;
 mod laws;
 mod reserved;
 mod tree;
 
+pub use decide::is_name;
 pub use laws::{spells_one_tree, valid_has_one};
 pub use reserved::is_reserved;
 pub use tree::{Assign, Atom, BinaryOp, Item, Net, Port, Rhs, UnaryOp, Verilog};
