@@ -4,3 +4,4 @@ pub mod Values
 pub mod Nets
 pub mod OneChoice
 pub mod OneTree
+pub mod Scanning

@@ -1,6 +1,6 @@
 -- Membership in lists.
-use Rattle.std.proofs.Common.{◌≡◌, ℕ, List, [], ◌∷◌, ◌++◌, refl, sym, ap, ◌∙◌, inl, inr, ◌⊎◌, ⊎_elim, subst}
-use Rattle.std.specs.Prelude.{map, flat_map}
+use Rattle.std.proofs.Common.{◌≡◌, List, [], ◌∷◌, ◌++◌, refl, sym, ap, ◌∙◌, inl, inr, ◌⊎◌, ⊎_elim, subst}
+use Rattle.std.specs.Prelude.{map}
 use Rattle.fir_base.specs.Lists.{In, Distinct, EachIn}
 
 pub in_map : {A B : Type 0} → (f : A → B) (xs : List A) (x : A) → In xs x → In (map f xs) (f x)

@@ -1,25 +1,21 @@
 -- No two trees have the same tokens.
-use Rattle.std.proofs.Common.{◌≡◌, ℕ, ◌-◌, List, [], ◌∷◌, ◌++◌, Bool, true, false, refl, sym, ap, ◌∙◌, inl, inr, ◌⊎◌, ⊎_elim, arith, append_assoc, eqb}
+use Rattle.std.proofs.Common.{◌≡◌, ℕ, ◌-◌, List, [], ◌∷◌, ◌++◌, Bool, true, false, refl, sym, ap, ◌∙◌, ⊎_elim, arith, append_assoc, eqb}
 use Rattle.std.specs.Prelude.{flat_map, codes, if◌then◌else◌, ◌≢◌}
 use Rattle.std.proofs.lemmas.Bool.Decides.{eqb_tells}
 use Rattle.fir_base.specs.declared.direction.Direction.{Direction}
 use Rattle.fir_base.specs.declared.direction.Direction.TheVariants.{Input, Output}
 use Rattle.ver_ast.specs.declared.tree.Verilog.{Verilog}
 use Rattle.ver_ast.specs.declared.tree.Port.{Port}
-use Rattle.ver_ast.specs.declared.tree.Net.{Net}
-use Rattle.ver_ast.specs.declared.tree.Assign.{Assign}
 use Rattle.ver_ast.specs.declared.tree.Item.{Item}
 use Rattle.ver_ast.specs.declared.tree.Item.TheVariants as item
 use Rattle.ver_ast.specs.declared.tree.Rhs.{Rhs}
 use Rattle.ver_ast.specs.declared.tree.Rhs.TheVariants as rhs
-use Rattle.ver_ast.specs.declared.tree.Atom.{Atom}
 use Rattle.ver_ast.specs.declared.tree.Atom.TheVariants as atom
-use Rattle.ver_ast.specs.declared.tree.UnaryOp.{UnaryOp}
 use Rattle.ver_ast.specs.declared.tree.UnaryOp.TheVariants.{Not}
 use Rattle.ver_ast.specs.declared.tree.BinaryOp.{BinaryOp}
 use Rattle.ver_ast.specs.declared.tree.BinaryOp.TheVariants.{And, Or, Xor}
 use Rattle.ver_ast.specs.Tokens.{Token, word, digit_zero, number, sign}
-use Rattle.ver_ast.specs.Grammar.{direction_word, range_tokens, port_tokens, next_port_tokens, ports_tokens, atom_tokens, unary_sign, binary_sign, rhs_tokens, item_tokens, module_tokens}
+use Rattle.ver_ast.specs.Grammar.{direction_word, range_tokens, port_tokens, next_port_tokens, ports_tokens, binary_sign, rhs_tokens, item_tokens, module_tokens}
 
 -- the sign, or the first letter of the word, at the front
 abbrev front : List Token → ℕ

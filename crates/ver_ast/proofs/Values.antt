@@ -1,14 +1,11 @@
 -- What right sides evaluate to.
-use Rattle.std.proofs.Common.{◌≡◌, ◌≢◌, ℕ, ◌+◌, ◌-◌, ◌^◌, ◌<◌, ◌≤◌, List, [], ◌∷◌, true, false, refl, sym, ap, ◌∙◌, inl, inr, ◌⊎◌, ⊎_elim, subst, arith}
-use Rattle.std.specs.Prelude.{bit_and, bit_or, bit_xor}
+use Rattle.std.proofs.Common.{◌≡◌, ℕ, ◌^◌, ◌<◌, List, refl, ap, ◌∙◌, inl, inr, arith}
 use Rattle.std.specs.Int.Bits.{and_lt}
 use Rattle.std.proofs.lemmas.Nat.{or_lt, xor_lt}
-use Rattle.fir_bits.specs.Values.{complement}
 use Rattle.fir_base.specs.Lists.{In}
 use Rattle.fir_base.specs.Ticks.{Env}
 use Rattle.ver_ast.specs.declared.tree.Rhs.{Rhs}
 use Rattle.ver_ast.specs.declared.tree.Rhs.TheVariants as rhs
-use Rattle.ver_ast.specs.declared.tree.Atom.{Atom}
 use Rattle.ver_ast.specs.declared.tree.Atom.TheVariants as atom
 use Rattle.ver_ast.specs.declared.tree.UnaryOp.{UnaryOp}
 use Rattle.ver_ast.specs.declared.tree.UnaryOp.TheVariants.{Not}

@@ -2,5 +2,6 @@
 
 mod named;
 mod names;
+mod tokens;
 
 pub use names::is_name;

@@ -1,6 +1,6 @@
 use Rattle.std.proofs.Common.{refl, subst}
 use Rattle.fir_base.specs.Lists.{In}
-use Rattle.ver_ast.proofs.Items.{in_item, in_behind, in_none, not_so}
+use Rattle.ver_ast.proofs.Items.{in_item, in_behind, not_so}
 use Rattle.ver_ast.proofs.decide.names.contains.Goals as goal
 
 pub returns-then-same : goal.returns-then-same
