@@ -5,3 +5,4 @@ pub mod Nets
 pub mod OneChoice
 pub mod OneTree
 pub mod Scanning
+pub mod Putting

@@ -3,5 +3,6 @@
 mod named;
 mod names;
 mod tokens;
+mod tree_tokens;
 
 pub use names::is_name;
