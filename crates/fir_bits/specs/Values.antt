@@ -1,6 +1,6 @@
 -- Values of a width.
 -- A width is a number of bits from 0 to 128, and a value of a width is a number below 2 to that power.
-use Rattle.std.specs.Prelude.{ℕ, ◌+◌, ◌-◌, ◌*◌, ◌^◌, ◌%◌, ◌<◌, ◌≤◌, Bool, ◌&&◌, if◌then◌else◌, nat_lt}
+use Rattle.std.specs.Prelude.{ℕ, ◌+◌, ◌-◌, ◌*◌, ◌^◌, ◌%◌, ◌<◌, ◌≤◌, Bool, ◌&&◌, if◌then◌else◌, nat_lt, nat_le}
 
 -- a width and a number
 pub record BitVector : Type 0 where
@@ -26,3 +26,7 @@ extended signed w n to = if signed && is_negative w n then n + (2 ^ to - 2 ^ w) 
 -- the low bits of n
 abbrev pub low_bits : ℕ → ℕ → ℕ
 low_bits to n = n % 2 ^ to
+
+-- n of w bits at any width: extended, or cut to its low bits
+abbrev pub fitted : Bool → ℕ → ℕ → ℕ → ℕ
+fitted signed w n to = if nat_le w to then extended signed w n to else low_bits to n

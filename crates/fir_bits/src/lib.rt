@@ -1,8 +1,22 @@
 //! Values and operators of the language: what a width and its values are, and what each primitive
-//! operation makes of them (FIRRTL spec, "Primitive Operations"). No call takes memory.
+//! operation makes of them (FIRRTL spec, "Primitive Operations").
+//!
+//! In come an operation, operands and integers. Out comes the type of the result or the fault
+//! (`result_type`), and where there is a type the value (`apply`). Both are the operator table, which
+//! `specs/` states over whole numbers. No call takes memory.
 #![tactic(auto)]
 
 mod bits;
+pub mod laws;
+mod operators;
+mod types;
+mod values;
+mod whole;
 
-pub use bits::Bits;
-pub use bits::mask;
+pub use bits::{Bits, mask};
+pub use operators::{Form, PrimOp};
+pub use types::{NumTy, OpFault, result_type};
+pub use values::{Num, apply};
+
+#[cfg(test)]
+mod tests;

@@ -8,5 +8,7 @@ pub mod Valid
 pub mod Settled
 pub mod Allows
 pub mod Laws
+pub mod Scanned
+pub mod Put
 pub use Rattle.fir_base.specs.Lists
 pub use Rattle.fir_base.specs.Ticks

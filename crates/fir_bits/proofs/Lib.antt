@@ -1,0 +1,6 @@
+pub mod Powers
+pub mod Masks
+pub mod Below
+pub mod Typing
+pub mod Wider
+pub mod Readings

@@ -1,0 +1,86 @@
+//! The operator table at values from outside.
+
+mod faults;
+mod results;
+
+use crate::{Bits, Num, NumTy, OpFault, PrimOp, apply, result_type};
+use faults::FAULTS;
+use results::{
+    BITWISE, COMPARISONS, DIVISIONS, PARTS, REDUCTIONS, Row, SHIFTS_DOWN, SHIFTS_UP, SIGNS, SUMS,
+    Value,
+};
+use std::process::Abort;
+use std::test::Fail;
+
+/// The operand of that kind, width and number, if there is one.
+fn operand(value: Value) -> Option<Num> {
+    let (signed, width, number) = value;
+    let value = Bits::new(width, number)?;
+    Some(Num { signed, value })
+}
+
+/// The result of the operation on these operands, if there is one.
+fn outcome(op: PrimOp, args: &[Value], consts: &[u128]) -> Option<Value> {
+    match args {
+        [a] => {
+            let a = operand(*a)?;
+            let ty = result_type(op, &[a.ty()], consts).ok()?;
+            Some((ty.signed, ty.width, apply(op, &[a], consts).bits()))
+        }
+        [a, b] => {
+            let (a, b) = (operand(*a)?, operand(*b)?);
+            let ty = result_type(op, &[a.ty(), b.ty()], consts).ok()?;
+            Some((ty.signed, ty.width, apply(op, &[a, b], consts).bits()))
+        }
+        _ => None,
+    }
+}
+
+/// Asserts that the result of each row is that of the table.
+fn assert_results(rt: &impl Abort, rows: &[Row]) {
+    for (op, args, consts, want) in rows {
+        assert_eq!(rt;
+            outcome(*op, args, consts),
+            Some(*want),
+            "{op:?} of {args:?} {consts:?}"
+        );
+    }
+}
+
+#[test]
+fn results_are_those_of_the_specification(rt: HostRuntime) {
+    assert_results(&rt, SUMS);
+    assert_results(&rt, DIVISIONS);
+    assert_results(&rt, COMPARISONS);
+    assert_results(&rt, SHIFTS_UP);
+    assert_results(&rt, SHIFTS_DOWN);
+    assert_results(&rt, SIGNS);
+    assert_results(&rt, BITWISE);
+    assert_results(&rt, REDUCTIONS);
+    assert_results(&rt, PARTS);
+}
+
+#[test]
+fn faults_come_in_their_order(rt: HostRuntime) {
+    for (op, args, consts, fault) in FAULTS {
+        assert_eq!(rt;
+            result_type(*op, args, consts),
+            Err(*fault),
+            "{op:?} of {args:?} {consts:?}"
+        );
+    }
+}
+
+#[test]
+fn values_fit_other_widths(rt: HostRuntime) -> Result<(), Fail> {
+    let minus_three = Bits::new(4, 13).ok_or("13 has four bits")?;
+    assert_eq!(rt; Bits::new(4, 16), None);
+    assert_eq!(rt; Bits::new(129, 0), None);
+    assert_eq!(rt; minus_three.extend(true, 8), Bits::of(8, 253));
+    assert_eq!(rt; minus_three.extend(false, 128), Bits::of(128, 13));
+    assert_eq!(rt; minus_three.cut(2), Bits::of(2, 1));
+    assert_eq!(rt; minus_three.fit(true, 0), Bits::EMPTY);
+    assert_eq!(rt; minus_three.fit(true, 5), Bits::of(5, 29));
+    assert_eq!(rt; (minus_three.width(), minus_three.bits()), (4, 13));
+    Ok(())
+}

@@ -1,0 +1,172 @@
+//! The type of an operation's result.
+
+ghost use Rattle.std.specs.Prelude.{◌≡◌, ◌+◌, ◌-◌, ◌^◌, ◌<◌, ◌≤◌, min, slice_index, slice_index_or};
+ghost use Rattle.fir_bits.specs.Forms.{form_of, takes, first_type, second_type};
+ghost use Rattle.fir_bits.specs.Widths.{width_of};
+ghost use Rattle.fir_bits.specs.Types.{signed_of, is_legal, typed_at, typed};
+
+use crate::bits::mask;
+use crate::operators;
+use crate::operators::{Form, PrimOp};
+use thiserror::Error;
+
+/// The type of an operand or of a result: its kind, SInt or UInt, and its width in bits.
+#[derive(Clone, Copy, Debug, PartialEq, Eq)]
+pub struct NumTy {
+    pub signed: bool,
+    pub width: u32,
+}
+
+/// Why an operation has no result, in the order in which the causes count.
+#[derive(Clone, Copy, Debug, PartialEq, Eq, Error)]
+pub enum OpFault {
+    /// The kinds of the operands, or the number of operands or integers, are not the operation's.
+    #[error("the operands or integers are not those of the operation")]
+    Kinds,
+    /// An operand or the result has more than 128 bits.
+    #[error("a width is over 128 bits")]
+    Over,
+    /// The integers, or the operand's width, are not ones that the operation may have.
+    #[error("the integers do not fit the operand")]
+    Legality,
+}
+
+/// The greatest width of a value, in bits.
+const WIDEST: u32 = 128;
+
+/// The type of an operand that is not there.
+const NO_TYPE: NumTy = NumTy {
+    signed: false,
+    width: 0,
+};
+
+macro_rules! forms {
+    ($op:expr; $($name:ident: $form:ident, $signed:expr, $width:expr, $value:expr;)*) => {
+        match $op { $(PrimOp::$name => Form::$form,)* }
+    };
+}
+
+macro_rules! kinds {
+    ($op:expr; $($name:ident: $form:ident, $signed:expr, $width:expr, $value:expr;)*) => {
+        match $op { $(PrimOp::$name => $signed,)* }
+    };
+}
+
+macro_rules! widths {
+    ($op:expr; $($name:ident: $form:ident, $signed:expr, $width:expr, $value:expr;)*) => {
+        match $op { $(PrimOp::$name => $width,)* }
+    };
+}
+
+/// What the operation takes.
+fn form(op: PrimOp) -> Form
+    ensures { result ≡ form_of op }
+{
+    operators!(forms, op, signed, w, v, n, m, r, a, b)
+}
+
+/// Whether the operation's result is an SInt, where the first operand is one or not.
+fn is_signed(op: PrimOp, signed: bool) -> bool
+    ensures { result ≡ signed_of op signed }
+{
+    operators!(kinds, op, signed, w, v, n, m, r, a, b)
+}
+
+/// The integer, or 129 where it is greater.
+fn capped(n: u128) -> u32
+    ensures { result ≡ min n 129 }
+{
+    n.min(129) as u32
+}
+
+/// How many bits there are from bit `hi` down to bit `lo`, or 129 where they are more.
+fn span(hi: u128, lo: u128) -> u32
+    ensures { result ≡ min (hi + 1 - lo) 129 }
+{
+    if lo > hi {
+        0
+    } else {
+        (capped(hi - lo) + 1).min(129)
+    }
+}
+
+/// The result's width, or 129 where it is greater.
+pub(crate) fn width(op: PrimOp, signed: bool, w: u32, v: u32, n: u128, m: u128) -> u32
+    requires first { w ≤ 128 }
+    requires second { v ≤ 128 }
+    ensures { result ≡ min (width_of op signed w v n m) 129 }
+{
+    let width: u32 = operators!(widths, op, signed, w, v, n, m, r, a, b);
+    width.min(129)
+}
+
+/// Whether the integers may stand beside an operand of the width `w`.
+fn legal(op: PrimOp, w: u32, n: u128, m: u128) -> bool
+    ensures { result ≡ is_legal op w n m }
+{
+    match op {
+        PrimOp::Bits => m <= n && n < u128::from(w),
+        PrimOp::Head | PrimOp::Tail => n <= u128::from(w),
+        PrimOp::AsAsyncReset => w == 1,
+        _ => true,
+    }
+}
+
+/// The entry at `i`, or `none`.
+pub(crate) fn entry<'a, T>(entries: &'a [T], i: usize, none: &'a T) -> &'a T
+    ensures { result.now ≡ slice_index_or entries.now i none.now }
+{
+    if i < entries.len() { &entries[i] } else { none }
+}
+
+/// Whether the operands and integers are those of the form.
+fn has_form(form: Form, args: &[NumTy], consts: &[u128]) -> bool
+    ensures { result ≡ takes form args.now consts.now }
+{
+    let (a, b) = (entry(args, 0, &NO_TYPE), entry(args, 1, &NO_TYPE));
+    let counts = (args.len(), consts.len());
+    match form {
+        Form::Pair => counts == (2, 0) && a.signed == b.signed,
+        Form::Shift => counts == (2, 0) && !b.signed,
+        Form::Single => counts == (1, 0),
+        Form::WithInteger => counts == (1, 1),
+        Form::WithRange => counts == (1, 2),
+    }
+}
+
+/// The type of the result, where the kinds are those of the operation.
+fn type_at(op: PrimOp, a: NumTy, b: NumTy, n: u128, m: u128) -> Result<NumTy, OpFault>
+    ensures { result ≡ typed_at op a b n m }
+{
+    if a.width > WIDEST || b.width > WIDEST {
+        return Err(OpFault::Over);
+    }
+    let width = width(op, a.signed, a.width, b.width, n, m);
+    if width > WIDEST {
+        return Err(OpFault::Over);
+    }
+    if !legal(op, a.width, n, m) {
+        return Err(OpFault::Legality);
+    }
+    Ok(NumTy {
+        signed: is_signed(op, a.signed),
+        width,
+    })
+}
+
+/// The type of the operation's result on operands of these types and these integers.
+///
+/// A reset counts as a UInt of width 1. `Kinds` comes first, then `Over`, then `Legality`.
+/// For `Over` what is illegal has a width too: `tail` of more bits than the operand has 0 bits,
+/// `head` of `n` has `n`, and `bits` has `hi - lo + 1`, or 0 where `lo` is above `hi`
+/// (FIRRTL spec, "Primitive Operations").
+pub fn result_type(op: PrimOp, args: &[NumTy], consts: &[u128]) -> Result<NumTy, OpFault>
+    ensures { result ≡ typed op args.now consts.now }
+{
+    if !has_form(form(op), args, consts) {
+        return Err(OpFault::Kinds);
+    }
+    let (a, b) = (entry(args, 0, &NO_TYPE), entry(args, 1, &NO_TYPE));
+    let (n, m) = (entry(consts, 0, &0), entry(consts, 1, &0));
+    type_at(op, *a, *b, *n, *m)
+}

@@ -1,0 +1,10 @@
+pub mod Names
+pub mod Lines
+pub mod Spells
+pub mod Leaves
+pub mod Accepted
+pub mod Settled
+pub mod Allows
+pub mod Laws
+pub mod Lowered
+pub mod Compiles

@@ -1,0 +1,5 @@
+pub mod Memory
+pub mod Os
+pub mod Planned
+pub mod Ports
+pub mod Sure
