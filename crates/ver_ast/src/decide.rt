@@ -2,7 +2,8 @@
 
 mod named;
 mod names;
+mod text;
 mod tokens;
 mod tree_tokens;
 
-pub use names::is_name;
+pub use text::spells;
