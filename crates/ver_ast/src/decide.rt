@@ -3,6 +3,7 @@
 mod named;
 mod names;
 mod text;
+mod nets;
 mod tokens;
 mod tree_tokens;
 
