@@ -6,3 +6,4 @@ pub mod OneChoice
 pub mod OneTree
 pub mod Scanning
 pub mod Putting
+pub mod Spelled

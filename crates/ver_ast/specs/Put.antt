@@ -1,5 +1,5 @@
 -- What the program that writes a tree's tokens adds to its list.
-use Rattle.std.specs.Prelude.{◌≡◌, ℕ, ◌<◌, List, ◌++◌}
+use Rattle.std.specs.Prelude.{◌≡◌, ◌<◌, List, ◌++◌}
 use Rattle.std.specs.List.{AllByRecursion}
 use Rattle.ver_ast.specs.declared.decide.tokens.Token.{Token as Kept}
 use Rattle.ver_ast.specs.Tokens.{Token, number}

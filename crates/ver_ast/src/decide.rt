@@ -2,7 +2,9 @@
 
 mod named;
 mod names;
+mod text;
+mod nets;
 mod tokens;
 mod tree_tokens;
 
-pub use names::is_name;
+pub use text::spells;

@@ -1,5 +1,5 @@
 use Rattle.ver_ast.specs.Grammar.{item_tokens}
-use Rattle.ver_ast.proofs.Putting.{puts_none, puts_more, puts_item, puts_all}
+use Rattle.ver_ast.proofs.Putting.{puts_none, puts_item, puts_all}
 use Rattle.ver_ast.proofs.decide.tree_tokens.put_items.Goals as goal
 
 pub loop-item-init : goal.loop-item-init
