@@ -3,6 +3,8 @@
 
 mod circuit;
 mod names;
+mod reader;
 
 pub use circuit::{BitwiseOp, Circuit, Connect, Expr, Node, Port, Statement};
 pub use names::is_keyword;
+pub use reader::Unsupported;

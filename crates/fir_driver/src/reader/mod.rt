@@ -1,0 +1,11 @@
+//! Reads the circuit that a text spells.
+
+mod expr;
+mod fault;
+mod line;
+mod name;
+mod statement;
+mod text;
+mod word;
+
+pub use fault::Unsupported;

@@ -1,0 +1,1 @@
+//! Reads a whole text (FIRRTL spec, "Circuits", "Modules").
