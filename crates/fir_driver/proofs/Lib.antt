@@ -1,1 +1,4 @@
 pub mod ReadingWord
+pub mod ReadingSteps
+pub mod ReadingFirstLine
+pub mod ReadingLoop

@@ -1,5 +1,5 @@
 -- Reading a text: two headings, then the ports, then the statements.
-use Rattle.std.specs.Prelude.{ℕ, List, [], ◌∷◌, codes, nat_eq, if◌then◌else◌, Option, Some, None, option_map, Bool}
+use Rattle.std.specs.Prelude.{ℕ, List, [], ◌∷◌, ◌++◌, codes, nat_eq, if◌then◌else◌, Option, Some, None, option_map}
 use Rattle.std.specs.Str.{bytes_eq}
 use Rattle.fir_driver.specs.declared.circuit.Port.{Port}
 use Rattle.fir_driver.specs.declared.circuit.Statement.{Statement}
@@ -23,9 +23,11 @@ heading_of s = do
   name ← name_at front
   if bytes_eq name.1 (codes " :") then Some name.0 else None
 
--- what is behind the name in the line of the module
-unfoldable pub is_module_line : List ℕ → List ℕ → Bool
-is_module_line name s = bytes_eq s (codes "  module " ++ name ++ codes " :")
+-- what stands behind the name in the line of the module
+unfoldable pub behind_module_name : List ℕ → List ℕ → Option (List ℕ)
+behind_module_name name s = do
+  front ← after (codes "  module ") s
+  after name front
 
 -- the ports and the statements
 pub record Content : Type 0 where
@@ -57,4 +59,22 @@ circuit_at bytes = do
   first ← first_line bytes
   name ← heading_of first.0
   second ← first_line first.1
-  if is_module_line name second.0 then (content_at second.1 >>= λ c. Some (record { name = name; ports = c.ports; body = c.body })) else None
+  ending ← behind_module_name name second.0
+  if bytes_eq ending (codes " :") then (content_at second.1 >>= λ c. Some (record { name = name; ports = c.ports; body = c.body })) else None
+
+-- what a loop over the lines does: a line behind what was read
+abbrev pub with_port_behind : Port → Content → List Statement → Option Content
+with_port_behind p c [] = Some (record { ports = c.ports ++ p ∷ []; body = [] })
+with_port_behind p c (s ∷ ss) = None
+
+abbrev pub with_last : Content → Line → Option Content
+with_last c (line.Port p) = with_port_behind p c c.body
+with_last c (line.Statement s) = Some (record { ports = c.ports; body = c.body ++ s ∷ [] })
+
+-- the content with the next line, and what stands behind that line
+unfoldable pub next_content : Content → List ℕ → Option (Content × List ℕ)
+next_content c bytes = do
+  first ← first_line bytes
+  l ← line_of first.0
+  d ← with_last c l
+  Some (d, first.1)
