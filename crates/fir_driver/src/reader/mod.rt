@@ -2,6 +2,7 @@
 
 mod expr;
 mod fault;
+mod law;
 mod line;
 mod name;
 mod statement;
