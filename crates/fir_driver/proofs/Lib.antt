@@ -5,3 +5,4 @@ pub mod ReadingLoop
 pub mod ReadingWordLaws
 pub mod ReadingExprLaws
 pub mod ReadingLineLaws
+pub mod ReadingTextLaws

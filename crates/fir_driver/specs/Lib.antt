@@ -13,3 +13,4 @@ pub mod ReadingWords
 pub mod ReadingExprs
 pub mod ReadingLines
 pub mod ReadingTexts
+pub mod ReadingRefusal

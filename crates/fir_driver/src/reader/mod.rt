@@ -10,3 +10,5 @@ mod text;
 mod word;
 
 pub use fault::Unsupported;
+pub use law::spells_one_circuit;
+pub use text::read_circuit;

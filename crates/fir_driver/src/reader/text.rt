@@ -1,7 +1,9 @@
 //! Reads a whole text (FIRRTL spec, "Circuits", "Modules").
 
-ghost use Rattle.std.specs.Prelude.{◌≡◌, ◌<◌, length, IfOk};
+ghost use Rattle.std.specs.Prelude.{◌≡◌, ◌<◌, length, IfOk, IfErr};
+ghost use Rattle.fir_driver.specs.Spells.{Spells};
 ghost use Rattle.fir_driver.specs.Reading.{Gives};
+ghost use Rattle.fir_driver.specs.ReadingRefusal.{MayRefuse};
 ghost use Rattle.fir_driver.specs.ReadingTexts.{Content, first_line, heading_of, behind_module_name, content_at, circuit_at, with_last, next_content};
 
 use crate::circuit::{Circuit, Port, Statement};
@@ -119,4 +121,12 @@ fn read_text(alloc: Global, bytes: &[u8]) -> Result<Circuit, Refused<Unsupported
         ports: Seq::from_vec(ports),
         body: Seq::from_vec(body),
     })
+}
+
+/// The circuit that the bytes spell. `Unsupported` where they spell none.
+pub fn read_circuit(alloc: Global, bytes: &[u8]) -> Result<Circuit, Refused<Unsupported>>
+    ensures spelled { IfOk result (λ c. Spells bytes.now c) }
+    ensures refused { IfErr result (λ e. MayRefuse bytes.now e) }
+{
+    read_text(alloc, bytes)
 }
