@@ -6,3 +6,5 @@ pub mod ReadingWordLaws
 pub mod ReadingExprLaws
 pub mod ReadingLineLaws
 pub mod ReadingTextLaws
+pub mod WrittenLaws
+pub mod TextLaws

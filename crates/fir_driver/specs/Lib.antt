@@ -14,3 +14,5 @@ pub mod ReadingExprs
 pub mod ReadingLines
 pub mod ReadingTexts
 pub mod ReadingRefusal
+pub mod WrittenTests
+pub mod Texts
