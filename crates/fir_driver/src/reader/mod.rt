@@ -13,3 +13,6 @@ pub use fault::Unsupported;
 pub use name::is_name;
 pub use law::spells_one_circuit;
 pub use text::read_circuit;
+
+#[cfg(test)]
+mod tests;
