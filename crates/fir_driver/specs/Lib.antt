@@ -8,3 +8,11 @@ pub mod Allows
 pub mod Laws
 pub mod Lowered
 pub mod Compiles
+pub mod Reading
+pub mod ReadingWords
+pub mod ReadingExprs
+pub mod ReadingLines
+pub mod ReadingTexts
+pub mod ReadingRefusal
+pub mod WrittenTests
+pub mod Texts

@@ -1,0 +1,6 @@
+//! Plain programs that decide the definitions.
+
+pub mod spells;
+mod text;
+mod written;
+

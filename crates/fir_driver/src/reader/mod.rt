@@ -1,0 +1,18 @@
+//! Reads the circuit that a text spells.
+
+mod expr;
+mod fault;
+mod law;
+mod line;
+mod name;
+mod statement;
+mod text;
+mod word;
+
+pub use fault::Unsupported;
+pub use name::is_name;
+pub use law::spells_one_circuit;
+pub use text::read_circuit;
+
+#[cfg(test)]
+mod tests;
