@@ -1,10 +1,13 @@
 //! The tree of the Verilog subset, and what it means: which bytes spell a tree, when a tree is valid,
 //! and which values its nets take (a subset of IEEE 1364-2005). The definitions stand in specs/; here are
 //! the types, the table of reserved words, plain programs that decide the definitions on small trees, and
+//! two laws: a text spells one tree at most, and a valid tree has exactly one choice of values.
 #![tactic(auto)]
 
+mod laws;
 mod reserved;
 mod tree;
 
+pub use laws::{spells_one_tree, valid_has_one};
 pub use reserved::is_reserved;
 pub use tree::{Assign, Atom, BinaryOp, Item, Net, Port, Rhs, UnaryOp, Verilog};

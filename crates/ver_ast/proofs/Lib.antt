@@ -1,0 +1,4 @@
+pub mod Members
+pub mod Values
+pub mod Nets
+pub mod OneChoice
