@@ -42,11 +42,11 @@ one_second {A} {B} (p ∷ ps) d a b c m n =
     let second = λ (q : A × B). q.1 in
     ⊎_elim
     (λ (e : p ≡ (a, b)). ⊎_elim
-        (λ (f : p ≡ (a, c)). ap second (sym e ∙ f))
-        (λ (o : In ps (a, c)). absurd (d.0 (subst (In (map first ps)) (sym (ap first e)) (in_map first ps (a, c) o))))
-        n)
+    (λ (f : p ≡ (a, c)). ap second (sym e ∙ f))
+    (λ (o : In ps (a, c)). absurd (d.0 (subst (In (map first ps)) (sym (ap first e)) (in_map first ps (a, c) o))))
+    n)
     (λ (o : In ps (a, b)). ⊎_elim
-        (λ (f : p ≡ (a, c)). absurd (d.0 (subst (In (map first ps)) (sym (ap first f)) (in_map first ps (a, b) o))))
-        (λ (q : In ps (a, c)). one_second ps d.1 a b c o q)
-        n)
+    (λ (f : p ≡ (a, c)). absurd (d.0 (subst (In (map first ps)) (sym (ap first f)) (in_map first ps (a, b) o))))
+    (λ (q : In ps (a, c)). one_second ps d.1 a b c o q)
+    n)
     m

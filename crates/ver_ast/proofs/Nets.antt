@@ -74,8 +74,8 @@ net_is_input_or_driven v s m =
     let first = λ (q : Sized). q.0 in
     ⊎_elim
     (λ (n : In (map port_net v.ports) s). ⊎_elim
-        (λ (o : In (inputs_of v.ports) s). inl o)
-        (λ (o : In (outputs_of v.ports) s). inr (in_map first (wires v ++ outputs v) s (in_right (wires v) (outputs v) s o)))
-        (in_either_direction v.ports s n))
+    (λ (o : In (inputs_of v.ports) s). inl o)
+    (λ (o : In (outputs_of v.ports) s). inr (in_map first (wires v ++ outputs v) s (in_right (wires v) (outputs v) s o)))
+    (in_either_direction v.ports s n))
     (λ (n : In (wires v) s). inr (in_map first (wires v ++ outputs v) s (in_left (wires v) (outputs v) s n)))
     (in_either (map port_net v.ports) (wires v) s m)

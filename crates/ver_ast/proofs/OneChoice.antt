@@ -51,7 +51,7 @@ start_values (p ∷ ps) [] d h = absurd h
 start_values (p ∷ ps) (x ∷ xs) d h =
     let env = start ps xs in
     let others : map (put env p.0 x) (names_of ps) ≡ map env (names_of ps) =
-        map_same (put env p.0 x) env (names_of ps) (λ n m. put_other env p.0 x n (λ e. d.0 (subst (In (names_of ps)) e m))) in
+    map_same (put env p.0 x) env (names_of ps) (λ n m. put_other env p.0 x n (λ e. d.0 (subst (In (names_of ps)) e m))) in
     let all : map env (names_of ps) ≡ xs = start_values ps xs d.1 h.1 in
     ap (λ y. y ∷ map (put env p.0 x) (names_of ps)) (put_here env p.0 x) ∙ ap (λ ys. x ∷ ys) (others ∙ all)
 
@@ -175,7 +175,7 @@ module _ (v : Verilog) (declared : Distinct (names_of (nets v))) where
       let same : rhs_value e w a.rhs ≡ rhs_value f w a.rhs = same_rhs e f w a.rhs (λ k o. h k (each_in (reads a) known after.0 k o)) in
       let here : e a.target ≡ f a.target = p.equations a w t.0 t.1.1 ∙ same ∙ sym (q.equations a w t.0 t.1.1) in
       let more : (k : List ℕ) → In (a.target ∷ known) k → e k ≡ f k =
-          λ k o. ⊎_elim (λ (i : a.target ≡ k). ap e (sym i) ∙ here ∙ ap f i) (λ (i : In known k). h k i) o in
+      λ k o. ⊎_elim (λ (i : a.target ≡ k). ap e (sym i) ∙ here ∙ ap f i) (λ (i : In known k). h k i) o in
       ⊎_elim
       (λ (i : a.target ≡ n). ap e (sym i) ∙ here ∙ ap f i)
       (λ (i : In (targets order) n). agree_along state tick e f p q (a.target ∷ known) order after.1 (λ b o. each b (inr o)) more n i)
@@ -253,8 +253,8 @@ module _ (v : Verilog) (valid : Valid v) (state : List ℕ) (tick : Tick) (shape
       ⊎_elim
       (λ (m : In (inputs v) (n, w)). on_inputs n (in_map first (inputs v) (n, w) m))
       (λ (m : In (names_of (wires v ++ outputs v)) n).
-        agree_along v valid.declared_once state tick e f p q (names_of (inputs v)) order valid.ordered.1.after
-        (λ a o. (valid.ordered.1.only a o, valid.fitting a (valid.ordered.1.only a o))) on_inputs n (in_order n m))
+      agree_along v valid.declared_once state tick e f p q (names_of (inputs v)) order valid.ordered.1.after
+      (λ a o. (valid.ordered.1.only a o, valid.fitting a (valid.ordered.1.only a o))) on_inputs n (in_order n m))
       (net_is_input_or_driven v (n, w) i)
 
   pub has_one : VHasOne v state tick

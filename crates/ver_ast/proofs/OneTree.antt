@@ -1,0 +1,167 @@
+-- No two trees have the same tokens.
+use Rattle.std.proofs.Common.{◌≡◌, ℕ, ◌-◌, List, [], ◌∷◌, ◌++◌, Bool, true, false, refl, sym, ap, ◌∙◌, inl, inr, ◌⊎◌, ⊎_elim, arith, append_assoc, eqb}
+use Rattle.std.specs.Prelude.{flat_map, codes, if◌then◌else◌, ◌≢◌}
+use Rattle.std.proofs.lemmas.Bool.Decides.{eqb_tells}
+use Rattle.fir_base.specs.declared.direction.Direction.{Direction}
+use Rattle.fir_base.specs.declared.direction.Direction.TheVariants.{Input, Output}
+use Rattle.ver_ast.specs.declared.tree.Verilog.{Verilog}
+use Rattle.ver_ast.specs.declared.tree.Port.{Port}
+use Rattle.ver_ast.specs.declared.tree.Net.{Net}
+use Rattle.ver_ast.specs.declared.tree.Assign.{Assign}
+use Rattle.ver_ast.specs.declared.tree.Item.{Item}
+use Rattle.ver_ast.specs.declared.tree.Item.TheVariants as item
+use Rattle.ver_ast.specs.declared.tree.Rhs.{Rhs}
+use Rattle.ver_ast.specs.declared.tree.Rhs.TheVariants as rhs
+use Rattle.ver_ast.specs.declared.tree.Atom.{Atom}
+use Rattle.ver_ast.specs.declared.tree.Atom.TheVariants as atom
+use Rattle.ver_ast.specs.declared.tree.UnaryOp.{UnaryOp}
+use Rattle.ver_ast.specs.declared.tree.UnaryOp.TheVariants.{Not}
+use Rattle.ver_ast.specs.declared.tree.BinaryOp.{BinaryOp}
+use Rattle.ver_ast.specs.declared.tree.BinaryOp.TheVariants.{And, Or, Xor}
+use Rattle.ver_ast.specs.Tokens.{Token, word, digit_zero, number, sign}
+use Rattle.ver_ast.specs.Grammar.{direction_word, range_tokens, port_tokens, next_port_tokens, ports_tokens, atom_tokens, unary_sign, binary_sign, rhs_tokens, item_tokens, module_tokens}
+
+-- the sign, or the first letter of the word, at the front
+abbrev front : List Token → ℕ
+front (sign b ∷ ts) = b
+front (word (c ∷ cs) ∷ ts) = c
+front _ = 0
+
+-- the tokens of a range where it is known whether the width is 1
+abbrev range_at : Bool → ℕ → List Token
+range_at one width = if one then [] else (sign 91 ∷ number (width - 1) ∷ sign 58 ∷ digit_zero ∷ sign 93 ∷ [])
+
+split_at : (b c : Bool) (w u : ℕ) (n m : List ℕ) (r s : List Token) → range_at b w ++ word n ∷ r ≡ range_at c u ++ word m ∷ s → (b ≡ c) × (b ≡ false → w - 1 ≡ u - 1) × (n ≡ m) × (r ≡ s)
+split_at true true w u n m r s e = (refl, λ h. absurd (cc), (cc), (cc))
+split_at true false w u n m r s e = absurd (cc)
+split_at false true w u n m r s e = absurd (cc)
+split_at false false w u n m r s e = (refl, λ h. (cc), (cc), (cc))
+
+same_width : (w u : ℕ) → eqb w 1 ≡ eqb u 1 → (eqb w 1 ≡ false → w - 1 ≡ u - 1) → w ≡ u
+same_width w u e h =
+    ⊎_elim
+    (λ (t : (eqb w 1 ≡ true) × (w ≡ 1)). ⊎_elim
+    (λ (k : (eqb u 1 ≡ true) × (u ≡ 1)). t.1 ∙ sym k.1)
+    (λ (k : (eqb u 1 ≡ false) × (u ≢ 1)). let no : true ≡ false = sym t.0 ∙ e ∙ k.0 in absurd (cc))
+    (eqb_tells u 1))
+    (λ (t : (eqb w 1 ≡ false) × (w ≢ 1)). ⊎_elim
+    (λ (k : (eqb u 1 ≡ true) × (u ≡ 1)). let no : true ≡ false = sym k.0 ∙ sym e ∙ t.0 in absurd (cc))
+    (λ (k : (eqb u 1 ≡ false) × (u ≢ 1)). let g : w - 1 ≡ u - 1 = h t.0 in omega arith)
+    (eqb_tells u 1))
+    (eqb_tells w 1)
+
+-- a range and a name
+split_sized : (w u : ℕ) (n m : List ℕ) (r s : List Token) → range_tokens w ++ word n ∷ r ≡ range_tokens u ++ word m ∷ s → (w ≡ u) × (n ≡ m) × (r ≡ s)
+split_sized w u n m r s e = let t = split_at (eqb w 1) (eqb u 1) w u n m r s e in (same_width w u t.0 t.1, t.2, t.3)
+
+split_direction : (d e : Direction) (r s : List Token) → word (direction_word d) ∷ r ≡ word (direction_word e) ∷ s → (d ≡ e) × (r ≡ s)
+split_direction Input Input r s h = (refl, (cc))
+split_direction Input Output r s h = absurd (omega (arith, ap front h))
+split_direction Output Input r s h = absurd (omega (arith, ap front h))
+split_direction Output Output r s h = (refl, (cc))
+
+split_port : (p q : Port) (r s : List Token) → port_tokens p ++ r ≡ port_tokens q ++ s → (p ≡ q) × (r ≡ s)
+split_port p q r s e =
+    let d = split_direction p.direction q.direction _ _ e in
+    let t = split_sized p.width q.width p.name q.name r s (sym (append_assoc (range_tokens p.width) (word p.name ∷ []) r) ∙ d.1 ∙ append_assoc (range_tokens q.width) (word q.name ∷ []) s) in
+    let same : p ≡ q = rw (d.0, t.0, t.1) refl in
+    (same, t.2)
+
+-- the ports behind the first, up to the closing parenthesis
+split_next_ports : (ps qs : List Port) (r s : List Token) → flat_map next_port_tokens ps ++ sign 41 ∷ r ≡ flat_map next_port_tokens qs ++ sign 41 ∷ s → (ps ≡ qs) × (r ≡ s)
+split_next_ports [] [] r s e = (refl, (cc))
+split_next_ports [] (q ∷ qs) r s e = absurd (omega (arith, ap front e))
+split_next_ports (p ∷ ps) [] r s e = absurd (omega (arith, ap front e))
+split_next_ports (p ∷ ps) (q ∷ qs) r s e =
+    let grouped = sym (append_assoc (next_port_tokens p) (flat_map next_port_tokens ps) (sign 41 ∷ r)) ∙ e ∙ append_assoc (next_port_tokens q) (flat_map next_port_tokens qs) (sign 41 ∷ s) in
+    let behind : port_tokens p ++ (flat_map next_port_tokens ps ++ sign 41 ∷ r) ≡ port_tokens q ++ (flat_map next_port_tokens qs ++ sign 41 ∷ s) = cc in
+    let t = split_port p q _ _ behind in
+    let rest = split_next_ports ps qs r s t.1 in
+    (rw (t.0, rest.0) refl, rest.1)
+
+split_ports : (ps qs : List Port) (r s : List Token) → ports_tokens ps ++ sign 41 ∷ r ≡ ports_tokens qs ++ sign 41 ∷ s → (ps ≡ qs) × (r ≡ s)
+split_ports [] [] r s e = (refl, (cc))
+split_ports [] (q ∷ qs) r s e = absurd (cc)
+split_ports (p ∷ ps) [] r s e = absurd (cc)
+split_ports (p ∷ ps) (q ∷ qs) r s e =
+    let t = split_port p q _ _ (sym (append_assoc (port_tokens p) (flat_map next_port_tokens ps) (sign 41 ∷ r)) ∙ e ∙ append_assoc (port_tokens q) (flat_map next_port_tokens qs) (sign 41 ∷ s)) in
+    let rest = split_next_ports ps qs r s t.1 in
+    (rw (t.0, rest.0) refl, rest.1)
+
+split_binary : (p q : BinaryOp) (r s : List Token) → sign (binary_sign p) ∷ r ≡ sign (binary_sign q) ∷ s → (p ≡ q) × (r ≡ s)
+split_binary And And r s e = (refl, (cc))
+split_binary And Or r s e = absurd (omega (arith, ap front e))
+split_binary And Xor r s e = absurd (omega (arith, ap front e))
+split_binary Or And r s e = absurd (omega (arith, ap front e))
+split_binary Or Or r s e = (refl, (cc))
+split_binary Or Xor r s e = absurd (omega (arith, ap front e))
+split_binary Xor And r s e = absurd (omega (arith, ap front e))
+split_binary Xor Or r s e = absurd (omega (arith, ap front e))
+split_binary Xor Xor r s e = (refl, (cc))
+
+not_the_end : (p : BinaryOp) (r s : List Token) → sign (binary_sign p) ∷ r ≡ sign 59 ∷ s → ⊥
+not_the_end And r s e = omega (arith, ap front e)
+not_the_end Or r s e = omega (arith, ap front e)
+not_the_end Xor r s e = omega (arith, ap front e)
+
+-- a right side, up to the semicolon
+split_rhs : (x y : Rhs) (r s : List Token) → rhs_tokens x ++ sign 59 ∷ r ≡ rhs_tokens y ++ sign 59 ∷ s → (x ≡ y) × (r ≡ s)
+split_rhs (rhs.Atom (atom.Net a)) (rhs.Atom (atom.Net b)) r s e = ((cc), (cc))
+split_rhs (rhs.Atom (atom.Net a)) (rhs.Unary Not (atom.Net b)) r s e = absurd (cc)
+split_rhs (rhs.Atom (atom.Net a)) (rhs.Binary (atom.Net b) q (atom.Net c)) r s e =
+    let tails : sign 59 ∷ r ≡ sign (binary_sign q) ∷ word c ∷ sign 59 ∷ s = cc in absurd (not_the_end q _ _ (sym tails))
+split_rhs (rhs.Unary Not (atom.Net a)) (rhs.Atom (atom.Net b)) r s e = absurd (cc)
+split_rhs (rhs.Unary Not (atom.Net a)) (rhs.Unary Not (atom.Net b)) r s e = ((cc), (cc))
+split_rhs (rhs.Unary Not (atom.Net a)) (rhs.Binary (atom.Net b) q (atom.Net c)) r s e = absurd (cc)
+split_rhs (rhs.Binary (atom.Net a) p (atom.Net d)) (rhs.Atom (atom.Net b)) r s e =
+    let tails : sign (binary_sign p) ∷ word d ∷ sign 59 ∷ r ≡ sign 59 ∷ s = cc in absurd (not_the_end p _ _ tails)
+split_rhs (rhs.Binary (atom.Net a) p (atom.Net d)) (rhs.Unary Not (atom.Net b)) r s e = absurd (cc)
+split_rhs (rhs.Binary (atom.Net a) p (atom.Net d)) (rhs.Binary (atom.Net b) q (atom.Net c)) r s e =
+    let tails : sign (binary_sign p) ∷ word d ∷ sign 59 ∷ r ≡ sign (binary_sign q) ∷ word c ∷ sign 59 ∷ s = cc in
+    let t = split_binary p q _ _ tails in
+    let op : p ≡ q = t.0 in
+    let rest : word d ∷ sign 59 ∷ r ≡ word c ∷ sign 59 ∷ s = t.1 in
+    ((cc), (cc))
+
+split_item : (i j : Item) (r s : List Token) → item_tokens i ++ r ≡ item_tokens j ++ s → (i ≡ j) × (r ≡ s)
+split_item (item.Wire n) (item.Wire m) r s e =
+    let tails : (range_tokens n.width ++ word n.name ∷ sign 59 ∷ []) ++ r ≡ (range_tokens m.width ++ word m.name ∷ sign 59 ∷ []) ++ s = cc in
+    let t = split_sized n.width m.width n.name m.name _ _ (sym (append_assoc (range_tokens n.width) (word n.name ∷ sign 59 ∷ []) r) ∙ tails ∙ append_assoc (range_tokens m.width) (word m.name ∷ sign 59 ∷ []) s) in
+    let same : n ≡ m = rw (t.0, t.1) refl in
+    let rest : sign 59 ∷ r ≡ sign 59 ∷ s = t.2 in
+    (ap item.Wire same, (cc))
+split_item (item.Wire n) (item.Assign b) r s e = absurd (omega (arith, ap front e))
+split_item (item.Assign a) (item.Wire m) r s e = absurd (omega (arith, ap front e))
+split_item (item.Assign a) (item.Assign b) r s e =
+    let target : a.target ≡ b.target = cc in
+    let tails : (rhs_tokens a.rhs ++ sign 59 ∷ []) ++ r ≡ (rhs_tokens b.rhs ++ sign 59 ∷ []) ++ s = cc in
+    let t = split_rhs a.rhs b.rhs r s (sym (append_assoc (rhs_tokens a.rhs) (sign 59 ∷ []) r) ∙ tails ∙ append_assoc (rhs_tokens b.rhs) (sign 59 ∷ []) s) in
+    let same : a ≡ b = rw (target, t.0) refl in
+    (ap item.Assign same, t.1)
+
+item_is_no_end : (i : Item) (r : List Token) → item_tokens i ++ r ≡ word (codes "endmodule") ∷ [] → ⊥
+item_is_no_end (item.Wire n) r e = omega (arith, ap front e)
+item_is_no_end (item.Assign a) r e = omega (arith, ap front e)
+
+split_items : (is js : List Item) → flat_map item_tokens is ++ word (codes "endmodule") ∷ [] ≡ flat_map item_tokens js ++ word (codes "endmodule") ∷ [] → is ≡ js
+split_items [] [] e = refl
+split_items [] (j ∷ js) e = absurd (item_is_no_end j _ (sym (e ∙ append_assoc (item_tokens j) (flat_map item_tokens js) (word (codes "endmodule") ∷ []))))
+split_items (i ∷ is) [] e = absurd (item_is_no_end i _ (sym (append_assoc (item_tokens i) (flat_map item_tokens is) (word (codes "endmodule") ∷ [])) ∙ e))
+split_items (i ∷ is) (j ∷ js) e =
+    let t = split_item i j _ _ (sym (append_assoc (item_tokens i) (flat_map item_tokens is) (word (codes "endmodule") ∷ [])) ∙ e ∙ append_assoc (item_tokens j) (flat_map item_tokens js) (word (codes "endmodule") ∷ [])) in
+    rw (t.0, split_items is js t.1) refl
+
+-- the tokens in groups from the right
+grouped : (v : Verilog) → module_tokens v ≡ word (codes "module") ∷ word v.name ∷ sign 40 ∷ (ports_tokens v.ports ++ sign 41 ∷ sign 59 ∷ (flat_map item_tokens v.items ++ word (codes "endmodule") ∷ []))
+grouped v = simp append_assoc
+
+pub same_tree : (v u : Verilog) → module_tokens v ≡ module_tokens u → v ≡ u
+same_tree v u e =
+    let whole = sym (grouped v) ∙ e ∙ grouped u in
+    let name : v.name ≡ u.name = cc in
+    let tails : ports_tokens v.ports ++ sign 41 ∷ sign 59 ∷ (flat_map item_tokens v.items ++ word (codes "endmodule") ∷ []) ≡ ports_tokens u.ports ++ sign 41 ∷ sign 59 ∷ (flat_map item_tokens u.items ++ word (codes "endmodule") ∷ []) = cc in
+    let t = split_ports v.ports u.ports _ _ tails in
+    let rest : sign 59 ∷ (flat_map item_tokens v.items ++ word (codes "endmodule") ∷ []) ≡ sign 59 ∷ (flat_map item_tokens u.items ++ word (codes "endmodule") ∷ []) = t.1 in
+    let ends : flat_map item_tokens v.items ++ word (codes "endmodule") ∷ [] ≡ flat_map item_tokens u.items ++ word (codes "endmodule") ∷ [] = cc in
+    let items = split_items v.items u.items ends in
+    rw (name, t.0, items) refl
