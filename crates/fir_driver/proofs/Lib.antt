@@ -1,0 +1,10 @@
+pub mod LoweredNames
+pub mod LoweredLists
+pub mod LoweredLookUps
+pub mod LoweredAlong
+pub mod LoweredPorts
+pub mod LoweredParts
+pub mod LoweredValid
+pub mod LoweredTreeNames
+pub mod LoweredValues
+pub mod Compiles
