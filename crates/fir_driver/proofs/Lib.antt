@@ -8,3 +8,4 @@ pub mod LoweredValid
 pub mod LoweredTreeNames
 pub mod LoweredValues
 pub mod Compiles
+pub mod LoweredTables

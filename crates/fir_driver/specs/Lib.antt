@@ -8,3 +8,4 @@ pub mod Allows
 pub mod Laws
 pub mod Lowered
 pub mod Compiles
+pub mod Represents

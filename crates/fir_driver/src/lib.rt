@@ -2,6 +2,7 @@
 #![tactic(auto)]
 
 mod circuit;
+mod lower;
 mod names;
 
 pub use circuit::{BitwiseOp, Circuit, Connect, Expr, Node, Port, Statement};
