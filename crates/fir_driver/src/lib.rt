@@ -2,7 +2,9 @@
 #![tactic(auto)]
 
 mod circuit;
+mod laws;
 mod names;
 
 pub use circuit::{BitwiseOp, Circuit, Connect, Expr, Node, Port, Statement};
+pub use laws::accepted_has_one;
 pub use names::is_keyword;

@@ -1,0 +1,6 @@
+pub mod AcceptedLists
+pub mod AcceptedWidths
+pub mod OneCircuitValues
+pub mod OneCircuitOrder
+pub mod OneCircuitPorts
+pub mod OneCircuit
