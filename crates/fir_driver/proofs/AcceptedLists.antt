@@ -1,7 +1,7 @@
 -- Membership in lists, and lists without repetition.
 use Rattle.std.proofs.Common.{◌≡◌, List, [], ◌∷◌, ◌++◌, refl, sym, ap, ◌∙◌, inl, inr, ◌⊎◌, ⊎_elim, subst}
-use Rattle.std.specs.Prelude.{map}
-use Rattle.fir_base.specs.Lists.{In, Distinct}
+use Rattle.std.specs.Prelude.{map, ◌↔◌}
+use Rattle.fir_base.specs.Lists.{In, Distinct, EachIn}
 
 pub in_map : {A B : Type 0} → (f : A → B) (xs : List A) (x : A) → In xs x → In (map f xs) (f x)
 in_map f [] x m = m
@@ -83,3 +83,16 @@ pub first_middle : {A : Type 0} → (xs : List A) (y : A) (ys : List A) → Dist
 first_middle [] y ys d = d
 first_middle (x ∷ xs) y ys d =
     (λ m. ⊎_elim (λ (e : y ≡ x). d.0 (inl (sym e))) (λ (n : In (xs ++ ys) x). d.1.0 n) (middle_or_rest xs y ys x m), first_middle xs y ys (λ m. d.0 (inr m), d.1.1))
+
+-- each of a list in another, by cases on the list and by members
+pub each_as_members : {A : Type 0} → (xs ys : List A) → EachIn xs ys ↔ ((x : A) → In xs x → In ys x)
+each_as_members {A} xs ys = (there xs, back xs)
+  where
+    there : (zs : List A) → EachIn zs ys → (x : A) → In zs x → In ys x
+    there [] h x m = absurd m
+    there (z ∷ zs) h x (inl e) = subst (In ys) e h.0
+    there (z ∷ zs) h x (inr m) = there zs h.1 x m
+
+    back : (zs : List A) → ((x : A) → In zs x → In ys x) → EachIn zs ys
+    back [] h = tt
+    back (z ∷ zs) h = (h z (inl refl), back zs (λ x m. h x (inr m)))

@@ -4,3 +4,5 @@ pub mod OneCircuitValues
 pub mod OneCircuitOrder
 pub mod OneCircuitPorts
 pub mod OneCircuit
+pub mod AcceptedTables
+pub mod AcceptedBody

@@ -8,3 +8,5 @@ pub mod Allows
 pub mod Laws
 pub mod Lowered
 pub mod Compiles
+pub mod Tables
+pub mod Fitting
