@@ -8,4 +8,6 @@ pub mod Allows
 pub mod Laws
 pub mod Lowered
 pub mod Compiles
+pub mod Tables
+pub mod Fitting
 pub mod Represents
