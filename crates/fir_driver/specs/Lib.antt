@@ -16,3 +16,6 @@ pub mod ReadingTexts
 pub mod ReadingRefusal
 pub mod WrittenTests
 pub mod Texts
+pub mod Tables
+pub mod Fitting
+pub mod Represents
