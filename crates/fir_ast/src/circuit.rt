@@ -1,0 +1,28 @@
+//! Circuits and modules (FIRRTL spec, "Circuits", "Modules").
+
+use crate::statements::{Ident, Stmt};
+use crate::types::Ty;
+use fir_base::Direction;
+
+/// A circuit: its name, and its modules in text order.
+#[derive(Drop)]
+pub struct Circuit {
+    pub ident: Ident,
+    pub modules: Vec<Module>,
+}
+
+/// A module.
+#[derive(Drop)]
+pub struct Module {
+    pub ident: Ident,
+    pub ports: Vec<Port>,
+    pub body: Vec<Stmt>,
+}
+
+/// A port.
+#[derive(Drop)]
+pub struct Port {
+    pub direction: Direction,
+    pub ident: Ident,
+    pub ty: Ty,
+}

@@ -1,0 +1,21 @@
+//! The tree of a circuit as the text spells it, with a place wherever a fault may stand, and the faults
+//! E01 to E28 with the lines that are printed for them. The definitions see the tree as plain data without
+//! addresses (`specs/`, Syntax and View).
+#![tactic(auto)]
+
+mod circuit;
+mod expressions;
+mod fault;
+mod place;
+mod statements;
+mod types;
+
+pub use circuit::{Circuit, Module, Port};
+pub use expressions::{Expr, Literal, Part, Reference};
+pub use fault::{FirFault, Outcome, ResetStep};
+pub use fir_base::{MemoryOut, Refused};
+pub use place::Place;
+pub use statements::{
+    Ident, Memory, MemoryField, ReadUnderWrite, Register, RegisterReset, Stmt, When,
+};
+pub use types::{Field, Ty};
