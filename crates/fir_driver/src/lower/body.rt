@@ -1,6 +1,6 @@
 //! The statements, one after the other.
 
-ghost use Rattle.std.specs.Prelude.{◌≡◌, IfOk, OnOk};
+ghost use Rattle.std.specs.Prelude.{◌≡◌, ◌^◌, ◌<◌, IfOk, OnOk, length};
 ghost use Rattle.fir_driver.specs.Lowered as definition;
 ghost use Rattle.fir_driver.specs.Lowered.{lowering, binary_op, with_expr, expr_place, with_statement};
 ghost use Rattle.fir_driver.specs.Represents.{Represents};
@@ -15,7 +15,8 @@ use ver_ast::{Atom, BinaryOp, Rhs, UnaryOp};
 
 /// The tables behind the whole body.
 pub fn lower_body(alloc: Global, c: &Circuit) -> Result<Tables, MemoryOut>
-    ensures { IfOk result (λ t. Represents t (lowering c.now)) }
+    ensures tables { IfOk result (λ t. Represents t (lowering c.now)) }
+    ensures small { OnOk result (length c.now.body < 2 ^ 64) }
 {
     let mut tables = first_tables(alloc, c)?;
     for statement in c.body.as_slice() {
