@@ -40,6 +40,7 @@ joined_below a b w v h k = omega (arith, mul-add-lt a (2 ^ v) b (2 ^ w) h k, pow
 high_below : (a w n : ℕ) → a < 2 ^ w → a / 2 ^ (w - n) < 2 ^ n
 high_below a w n h = shr_below a n (w - n) (omega (arith, h, pow_le w (n + (w - n)) (omega arith)))
 
+-- the number of each result
 pub number_below : (op : PrimOp) (a b : Num) (n m : ℕ) → IsBitVector a.value → IsBitVector b.value → IsTrue (is_legal op a.value.width n m) → (applied_at op a b n m).number < 2 ^ (applied_at op a b n m).width
 number_below Add a b n m is_a is_b legal = bits_of-below _ _
 number_below Sub a b n m is_a is_b legal = bits_of-below _ _

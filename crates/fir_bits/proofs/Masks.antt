@@ -4,6 +4,7 @@ use Rattle.std.specs.Prelude.{bit_and, bit_or}
 use Rattle.std.proofs.lemmas.Nat.{and_mask, or_shifted, shl_whole}
 use Rattle.fir_bits.specs.Integers.{bits_of, of_sign}
 
+-- an `and` with the greatest number gives the low bits
 pub and_greatest : (w g n : ℕ) → g + 1 ≡ 2 ^ w → bit_and n g ≡ n % 2 ^ w
 and_greatest w g n e =
     let is : g ≡ 2 ^ w - 1 = omega arith in
@@ -23,6 +24,7 @@ bits_of-not_negative w g true zero e h = and_greatest w g 0 e
 bits_of-not_negative w g true (suc k) e (inl h) = absurd (omega (arith, h.1))
 bits_of-not_negative w g true (suc k) e (inr h) = absurd (cc)
 
+-- the size of an integer is its magnitude
 pub unsigned_abs-of_sign : (negative : Bool) (m : ℕ) → unsigned_abs (of_sign negative m) ≡ m
 unsigned_abs-of_sign false m = refl
 unsigned_abs-of_sign true zero = refl

@@ -15,7 +15,7 @@ negative w n h = lt-ltb _ _ (omega (arith, h, pow_le 0 w (omega arith)))
 pub not_negative : (w n : ℕ) → 2 * n < 2 ^ w → is_negative w n ≡ false
 not_negative w n h = le-ltb _ _ (omega arith)
 
--- the reading of each
+-- the integer of each
 reading-negative : (w n : ℕ) → 2 ^ w ≤ 2 * n → reading true w n ≡ pos n -ℤ pos (2 ^ w)
 reading-negative w n h = ap (λ (b : Bool). if b then pos n -ℤ pos (2 ^ w) else pos n) (negative w n h)
 
@@ -64,6 +64,7 @@ filled_low n w to below wider =
     spread : (a p m t : ℕ) → 0 < m → t ≡ m * p → a + (t - p) ≡ (m - 1) * p + a
     spread a p m t h e = omega (arith, e, less_one p m h)
 
+-- and with zeros too
 pub low_bits-extended : (signed : Bool) (w n to : ℕ) → n < 2 ^ w → w ≤ to → low_bits w (extended signed w n to) ≡ n
 low_bits-extended false w n to below wider = mod_same n w below
 low_bits-extended true w n to below wider =

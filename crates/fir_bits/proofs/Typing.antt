@@ -25,6 +25,7 @@ pub typed_at-ok : (op : PrimOp) (a b : NumTy) (n m : ℕ) → IsOk (typed_at op 
 typed_at-ok op a b n m ok =
     passed (is_narrow op a.signed a.width b.width n m) (is_legal op a.width n m) (record { signed = signed_of op a.signed; width = width_of op a.signed a.width b.width n m }) ok
 
+-- of two tests passed, the second
 second_holds : (x y : Bool) → (x && y) ≡ true → y ≡ true
 second_holds true y h = h
 second_holds false y h = cc

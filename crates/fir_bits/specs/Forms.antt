@@ -8,6 +8,7 @@ use Rattle.fir_bits.specs.declared.operators.Form.{Form}
 use Rattle.fir_bits.specs.declared.operators.Form.TheVariants.{Pair, Shift, Single, WithInteger, WithRange}
 use Rattle.fir_bits.specs.declared.types.NumTy.{NumTy}
 
+-- what each operation takes
 abbrev pub form_of : PrimOp → Form
 form_of Add = Pair
 form_of Sub = Pair
@@ -46,6 +47,7 @@ form_of AsAsyncReset = Single
 abbrev pub no_type : NumTy
 no_type = record { signed = false; width = 0 }
 
+-- the types of the first two operands
 abbrev pub first_type : List NumTy → NumTy
 first_type args = slice_index_or args 0 no_type
 

@@ -41,10 +41,11 @@ HeadBesideTail =
     (e : Num) (n : ℕ) → IsBitVector e.value → n ≤ e.value.width
     → applied Cat (outcome Head (e ∷ []) (n ∷ []) ∷ outcome Tail (e ∷ []) (n ∷ []) ∷ []) [] ≡ e.value
 
--- `cvt` and `pad` keep the integer
+-- `cvt` keeps the integer
 abbrev pub CvtKeepsInteger : Type 0
 CvtKeepsInteger = (e : Num) → IsBitVector e.value → integer_of (outcome Cvt (e ∷ []) []) ≡ integer_of e
 
+-- `pad` keeps the integer
 abbrev pub PadKeepsInteger : Type 0
 PadKeepsInteger = (e : Num) (n : ℕ) → IsBitVector e.value → integer_of (outcome Pad (e ∷ []) (n ∷ [])) ≡ integer_of e
 

@@ -27,6 +27,7 @@ widened a to = extended a.signed a.value.width a.value.number to
 abbrev pub flag : Bool → ℕ
 flag b = if b then 1 else 0
 
+-- the number of each result
 abbrev pub value_of : PrimOp → ℕ → Num → Num → ℕ → ℕ → ℕ
 value_of Add r a b n m = bits_of r (integer_of a +ℤ integer_of b)
 value_of Sub r a b n m = bits_of r (integer_of a -ℤ integer_of b)
@@ -65,6 +66,7 @@ value_of AsAsyncReset r a b n m = a.value.number
 abbrev pub no_operand : Num
 no_operand = record { signed = false; value = record { width = 0; number = 0 } }
 
+-- the first two operands
 abbrev pub first_operand : List Num → Num
 first_operand args = slice_index_or args 0 no_operand
 
