@@ -27,3 +27,4 @@ pub mod LoweredTreeNames
 pub mod LoweredValues
 pub mod Compiles
 pub mod LoweredTables
+pub mod Ended

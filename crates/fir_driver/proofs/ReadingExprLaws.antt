@@ -57,11 +57,11 @@ op_takes w op h =
     elim (chosen (bytes_eq w (codes "and")) (Some And) _ (Some op) h) [
       | inl a ↦ same_bytes w (codes "and") a.0 ∙ ap op_word (some_is And op a.1)
       | inr b ↦ elim (chosen (bytes_eq w (codes "or")) (Some Or) _ (Some op) b.1) [
-          | inl a ↦ same_bytes w (codes "or") a.0 ∙ ap op_word (some_is Or op a.1)
-          | inr c ↦
-              let g = guard_some (bytes_eq w (codes "xor")) (Some Xor) op c.1 in
-              same_bytes w (codes "xor") g.0 ∙ ap op_word (some_is Xor op g.1)
-        ]
+        | inl a ↦ same_bytes w (codes "or") a.0 ∙ ap op_word (some_is Or op a.1)
+        | inr c ↦
+            let g = guard_some (bytes_eq w (codes "xor")) (Some Xor) op c.1 in
+            same_bytes w (codes "xor") g.0 ∙ ap op_word (some_is Xor op g.1)
+      ]
     ]
 
 call_takes : (w args : List ℕ) (e : Expr) → call_of w args ≡ Some e → IsExprText (w ++ (codes "(" ++ args)) e

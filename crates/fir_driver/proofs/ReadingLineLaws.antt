@@ -102,24 +102,25 @@ entry_takes w s l h =
     elim (chosen (bytes_eq w (codes "input")) (port_of Input s >>= port_entry) _ (Some l) h) [
       | inl a ↦ port_text Input (codes "input") w a.0 refl a.1
       | inr b ↦ elim (chosen (bytes_eq w (codes "output")) (port_of Output s >>= port_entry) _ (Some l) b.1) [
-          | inl a ↦ port_text Output (codes "output") w a.0 refl a.1
-          | inr c ↦ elim (chosen (bytes_eq w (codes "node")) (node_of s >>= node_entry) (connect_of w s >>= connect_entry) (Some l) c.1) [
-              | inl a ↦
-                  let n = bind_some (node_of s) node_entry l a.1 in
-                  at_word (codes "node") w a.0 (subst (IsLineText (codes "    " ++ (codes "node" ++ s))) (some_is (line.Statement (statement.Node n.0)) l n.2) (node_takes s n.0 n.1))
-              | inr d ↦
-                  let k = bind_some (connect_of w s) connect_entry l d.1 in
-                  subst (IsLineText (codes "    " ++ (w ++ s))) (some_is (line.Statement (statement.Connect k.0)) l k.2) (connect_takes w s k.0 k.1)
-            ]
+        | inl a ↦ port_text Output (codes "output") w a.0 refl a.1
+        | inr c ↦ elim (chosen (bytes_eq w (codes "node")) (node_of s >>= node_entry) (connect_of w s >>= connect_entry) (Some l) c.1) [
+          | inl a ↦
+              let n = bind_some (node_of s) node_entry l a.1 in
+              at_word (codes "node") w a.0 (subst (IsLineText (codes "    " ++ (codes "node" ++ s))) (some_is (line.Statement (statement.Node n.0)) l n.2) (node_takes s n.0 n.1))
+          | inr d ↦
+              let k = bind_some (connect_of w s) connect_entry l d.1 in
+              subst (IsLineText (codes "    " ++ (w ++ s))) (some_is (line.Statement (statement.Connect k.0)) l k.2) (connect_takes w s k.0 k.1)
         ]
+      ]
     ] where
-  at_word : (expected w : List ℕ) → bytes_eq w expected ≡ true → IsLineText (codes "    " ++ (expected ++ s)) l → IsLineText (codes "    " ++ (w ++ s)) l
-  at_word expected w e is = subst (λ (v : List ℕ). IsLineText (codes "    " ++ (v ++ s)) l) (sym (same_bytes w expected e)) is
-  port_text : (direction : Direction) (expected w : List ℕ) → bytes_eq w expected ≡ true → expected ≡ direction_word direction → (port_of direction s >>= port_entry) ≡ Some l → IsLineText (codes "    " ++ (w ++ s)) l
-  port_text direction expected w e is h =
-      let p = bind_some (port_of direction s) port_entry l h in
-      let read : IsLineText (codes "    " ++ (direction_word direction ++ s)) l = subst (IsLineText (codes "    " ++ (direction_word direction ++ s))) (some_is (line.Port p.0) l p.2) (port_takes direction s p.0 p.1) in
-      subst (λ (v : List ℕ). IsLineText (codes "    " ++ (v ++ s)) l) (sym (same_bytes w expected e ∙ is)) read
+      at_word : (expected w : List ℕ) → bytes_eq w expected ≡ true → IsLineText (codes "    " ++ (expected ++ s)) l → IsLineText (codes "    " ++ (w ++ s)) l
+      at_word expected w e is = subst (λ (v : List ℕ). IsLineText (codes "    " ++ (v ++ s)) l) (sym (same_bytes w expected e)) is
+
+      port_text : (direction : Direction) (expected w : List ℕ) → bytes_eq w expected ≡ true → expected ≡ direction_word direction → (port_of direction s >>= port_entry) ≡ Some l → IsLineText (codes "    " ++ (w ++ s)) l
+      port_text direction expected w e is h =
+          let p = bind_some (port_of direction s) port_entry l h in
+          let read : IsLineText (codes "    " ++ (direction_word direction ++ s)) l = subst (IsLineText (codes "    " ++ (direction_word direction ++ s))) (some_is (line.Port p.0) l p.2) (port_takes direction s p.0 p.1) in
+          subst (λ (v : List ℕ). IsLineText (codes "    " ++ (v ++ s)) l) (sym (same_bytes w expected e ∙ is)) read
 
 pub line_takes : (s : List ℕ) (l : Line) → line_of s ≡ Some l → IsLineText s l
 unfolding line_of

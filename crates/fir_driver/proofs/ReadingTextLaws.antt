@@ -130,16 +130,17 @@ has_first bytes l ls e =
       | inl none ↦ absurd (not_whole bytes (sym (lines_at_none bytes none) ∙ e))
       | inr x ↦ by_lines x.0 x.1 (lines x.0.1) refl (sym (lines_at_first bytes x.0 x.1) ∙ e)
     ] where
-  not_whole : (bs : List ℕ) → whole bs ≡ Some (l ∷ ls) → ⊥
-  not_whole [] h = cc
-  not_whole (b ∷ bs) h = cc
-  by_lines : (x : List ℕ × List ℕ) → first_line bytes ≡ Some x → (o : Option (List (List ℕ))) → lines x.1 ≡ o → option_map (in_lines x.0) o ≡ Some (l ∷ ls) → HasFirst bytes l ls
-  by_lines x h (Some ms) o e =
-      let same : x.0 ∷ ms ≡ l ∷ ls = some_is (x.0 ∷ ms) (l ∷ ls) e in
-      let head : x.0 ≡ l = cc in
-      let tail : ms ≡ ls = cc in
-      record { rest = x.1; first = h ∙ ap (λ (t : List ℕ). Some (t, x.1)) head; others = o ∙ ap (λ (t : List (List ℕ)). Some t) tail }
-  by_lines x h None o e = absurd cc
+      not_whole : (bs : List ℕ) → whole bs ≡ Some (l ∷ ls) → ⊥
+      not_whole [] h = cc
+      not_whole (b ∷ bs) h = cc
+
+      by_lines : (x : List ℕ × List ℕ) → first_line bytes ≡ Some x → (o : Option (List (List ℕ))) → lines x.1 ≡ o → option_map (in_lines x.0) o ≡ Some (l ∷ ls) → HasFirst bytes l ls
+      by_lines x h (Some ms) o e =
+          let same : x.0 ∷ ms ≡ l ∷ ls = some_is (x.0 ∷ ms) (l ∷ ls) e in
+          let head : x.0 ≡ l = cc in
+          let tail : ms ≡ ls = cc in
+          record { rest = x.1; first = h ∙ ap (λ (t : List ℕ). Some (t, x.1)) head; others = o ∙ ap (λ (t : List (List ℕ)). Some t) tail }
+      by_lines x h None o e = absurd cc
 
 pub circuit_again : (bytes : List ℕ) (c : Circuit) → Spells bytes c → circuit_at bytes ≡ Some c
 unfolding circuit_at

@@ -96,10 +96,13 @@ are_lines_of line P each [] h = tt
 are_lines_of line P each (x ∷ xs) h = (each x h.0, are_lines_of line P each xs h.1)
 
 circuit_has_lines : (c : Circuit) → IsWritten c → AllByRecursion IsLine (circuit_lines c)
-circuit_has_lines c h =
-    (heading_is_line (codes "circuit ") c.name refl h.named,
-     (heading_is_line (codes "  module ") c.name refl h.named,
-      are_lines_map port_line IsPort port_is_line c.ports (map statement_line c.body) h.ports (are_lines_of statement_line HasStatementNames statement_is_line c.body h.body)))
+circuit_has_lines c h = (
+  heading_is_line (codes "circuit ") c.name refl h.named,
+  (
+    heading_is_line (codes "  module ") c.name refl h.named,
+    are_lines_map port_line IsPort port_is_line c.ports (map statement_line c.body) h.ports (are_lines_of statement_line HasStatementNames statement_is_line c.body h.body),
+  ),
+)
 
 -- ---- the text and its lines
 

@@ -19,3 +19,9 @@ pub mod Texts
 pub mod Tables
 pub mod Fitting
 pub mod Represents
+pub mod Command
+pub mod Messages
+pub mod Emits
+pub mod Headline
+pub mod Complete
+pub mod Endings

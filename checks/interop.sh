@@ -1,0 +1,43 @@
+#!/usr/bin/env bash
+# Reads each emitted example with Icarus Verilog, Verilator and Yosys, and runs it with Icarus on 64
+# inputs against examples/NAME.expected. A tool that is not installed is skipped; one that is there and
+# refuses the text, or shows other values, fails the check.
+set -u
+cd "$(dirname "$0")/.." || exit 1
+work=$(mktemp -d) || exit 1
+trap 'rm -rf "$work"' EXIT
+failed=0
+fail() { echo "interop: $*"; failed=1; }
+has() { command -v "$1" >/dev/null 2>&1; }
+tool() { has "$1" || echo "interop: $1 is not installed, skipped"; }
+for name in python3 iverilog verilator yosys; do tool "$name"; done
+
+if has python3; then
+  python3 examples/expected.py --check || fail "examples/*.expected are not what the sources give"
+fi
+
+for source in examples/*.fir; do
+  name=$(basename "$source" .fir)
+  text="$work/$name.v"
+  if ! ./firc emit "$source" >"$text"; then
+    fail "firc refuses $source"
+    continue
+  fi
+  if has iverilog; then
+    iverilog -g2005 -t null "$text" || fail "iverilog refuses $name"
+  fi
+  if has verilator; then
+    verilator --lint-only --default-language 1364-2005 "$text" || fail "verilator refuses $name"
+  fi
+  if has yosys; then
+    yosys -q -p "read_verilog $text; hierarchy -check; proc; check -assert" || fail "yosys refuses $name"
+  fi
+  if has iverilog && has vvp && has python3; then
+    python3 checks/bench.py "$source" "examples/$name.expected" >"$work/$name-bench.v" &&
+      iverilog -g2005 -o "$work/$name.vvp" "$text" "$work/$name-bench.v" &&
+      vvp -n "$work/$name.vvp" >"$work/$name.shown" &&
+      diff "examples/$name.expected" "$work/$name.shown" || fail "$name shows other values under iverilog"
+  fi
+done
+[ "$failed" -eq 0 ] && echo "interop: passed"
+exit "$failed"

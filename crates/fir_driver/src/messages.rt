@@ -1,0 +1,56 @@
+//! The lines of the error output.
+
+ghost use Rattle.std.specs.Prelude.{◌≡◌, ◌++◌, IfOk, codes};
+ghost use Rattle.fir_io.specs.Ports.{SinkSeen};
+ghost use Rattle.fir_driver.specs.Endings.{Said, Complained};
+
+use crate::status::Status;
+use fir_base::MemoryOut;
+use fir_io::{PutFault, Sink};
+use std::alloc::Global;
+
+pub const USAGE_LINE: &[u8] =
+    b"usage: firc check FILE | lower FILE | emit FILE | sim FILE TRACE [--state] | vsim VFILE TRACE [--state] [--order N] | gen N\n";
+
+pub const UNSUPPORTED_LINE: &[u8] = b"E05 1:1 unsupported circuit\n";
+
+pub const UNWRITTEN_LINE: &[u8] = b"write\n";
+
+pub const MEMORY_LINE: &[u8] = b"memory\n";
+
+/// Puts a line, and ends with the status where that succeeds.
+pub fn say<T: Sink>(err: &mut T, line: &[u8], due: Status) -> Status
+    ensures { Said line.now due (T.seen err.old) (T.seen err.new) result }
+{
+    match err.put(line) {
+        Ok(()) => due,
+        Err(PutFault::Failed) => Status::Unwritten,
+        Err(PutFault::Memory) => Status::NoMemory,
+    }
+}
+
+/// Puts the words and the file's name as a line, and ends with the status where that succeeds.
+pub fn complain<T: Sink>(
+    alloc: Global,
+    err: &mut T,
+    words: &[u8],
+    name: &str,
+    due: Status,
+) -> Status
+    ensures { Complained (words.now ++ name.now ++ codes "\n") due (T.seen err.old) (T.seen err.new) result }
+{
+    match line_of(alloc, words, name) {
+        Ok(line) => say(err, line.as_slice(), due),
+        Err(MemoryOut) => say(err, MEMORY_LINE, Status::NoMemory),
+    }
+}
+
+fn line_of(alloc: Global, words: &[u8], name: &str) -> Result<Vec<u8>, MemoryOut>
+    ensures { IfOk result (λ line. line.items ≡ words.now ++ name.now ++ codes "\n") }
+{
+    let mut line = Vec::new(alloc);
+    line.extend_from_slice(words)?;
+    line.extend_from_slice(name.as_bytes())?;
+    line.extend_from_slice(b"\n")?;
+    Ok(line)
+}

@@ -1,0 +1,76 @@
+//! The one call that the program makes.
+
+ghost use Rattle.std.specs.Prelude.{◌≡◌, IsTrue, IfSome};
+ghost use Rattle.fir_driver.specs.Command.{named_file};
+ghost use Rattle.fir_driver.specs.Headline.{outside, code, Headline};
+ghost use Rattle.fir_driver.specs.Endings.{Written, Emitted};
+ghost use Rattle.fir_driver.specs.Complete.{Complete};
+
+use crate::command::named_file;
+use crate::emission::emitted;
+use crate::messages::{MEMORY_LINE, UNSUPPORTED_LINE, UNWRITTEN_LINE, USAGE_LINE, complain, say};
+use crate::status::Status;
+use fir_base::Refused;
+use fir_io::{FileFault, Files, PutFault, Sink};
+use std::alloc::Global;
+
+/// The most bytes of a file that are taken.
+const LIMIT: u64 = 16777216;
+
+/// Does what the words say, and gives the exit status. `words[0]` is the program's name.
+pub fn run<F: Files, S: Sink, T: Sink>(
+    alloc: Global,
+    words: &Vec<String>,
+    files: &mut F,
+    out: &mut S,
+    err: &mut T,
+) -> u8
+    requires { IfSome (named_file words.now.items) (λ name. IsTrue ((F.seen files.old).may name)) }
+    ensures headline { (s : _) × (result ≡ code s) × Headline words.now.items (outside (F.seen files.old) (S.seen out.old) (T.seen err.old)) (outside (F.seen files.new) (S.seen out.new) (T.seen err.new)) s }
+    ensures complete { Complete words.now.items (outside (F.seen files.old) (S.seen out.old) (T.seen err.old)) (outside (F.seen files.new) (S.seen out.new) (T.seen err.new)) result }
+{
+    ending(alloc, words.as_slice(), files, out, err).code()
+}
+
+fn ending<F: Files, S: Sink, T: Sink>(
+    alloc: Global,
+    words: &[String],
+    files: &mut F,
+    out: &mut S,
+    err: &mut T,
+) -> Status
+    requires { IfSome (named_file words.now) (λ name. IsTrue ((F.seen files.old).may name)) }
+    ensures { Headline words.now (outside (F.seen files.old) (S.seen out.old) (T.seen err.old)) (outside (F.seen files.new) (S.seen out.new) (T.seen err.new)) result }
+{
+    let Some(name) = named_file(words) else {
+        return say(err, USAGE_LINE, Status::Usage);
+    };
+    match files.read(alloc, name, LIMIT) {
+        Ok(text) => emit(alloc, text.as_slice(), out, err),
+        Err(FileFault::Failed) => complain(alloc, err, b"read ", name, Status::Unread),
+        Err(FileFault::TooLong) => complain(alloc, err, b"too long ", name, Status::TooLong),
+        Err(FileFault::Memory) => say(err, MEMORY_LINE, Status::NoMemory),
+    }
+}
+
+/// Emits what the bytes spell, or says that they are not taken.
+fn emit<S: Sink, T: Sink>(alloc: Global, bytes: &[u8], out: &mut S, err: &mut T) -> Status
+    ensures { Emitted bytes.now (S.seen out.old) (S.seen out.new) (T.seen err.old) (T.seen err.new) result }
+{
+    match emitted(alloc, bytes) {
+        Ok(text) => write(text.as_slice(), out, err),
+        Err(Refused::Fault(_)) => say(err, UNSUPPORTED_LINE, Status::Refused),
+        Err(Refused::Memory) => say(err, MEMORY_LINE, Status::NoMemory),
+    }
+}
+
+/// Puts the text to the output.
+fn write<S: Sink, T: Sink>(text: &[u8], out: &mut S, err: &mut T) -> Status
+    ensures { Written text.now (S.seen out.old) (S.seen out.new) (T.seen err.old) (T.seen err.new) result }
+{
+    match out.put(text) {
+        Ok(()) => Status::Done,
+        Err(PutFault::Failed) => say(err, UNWRITTEN_LINE, Status::Unwritten),
+        Err(PutFault::Memory) => say(err, MEMORY_LINE, Status::NoMemory),
+    }
+}
