@@ -1,5 +1,6 @@
 //! Plain programs that decide the definitions on small trees.
 
+mod fields;
 mod named;
 mod names;
 mod text;

@@ -1,0 +1,16 @@
+-- Parts of validity over a list of nets, as the programs that decide them see them.
+use Rattle.std.specs.Prelude.{ℕ, List, map}
+use Rattle.fir_base.specs.Lists.{In, EachIn}
+use Rattle.ver_ast.specs.declared.tree.Assign.{Assign}
+use Rattle.ver_ast.specs.declared.tree.Item.{Item}
+use Rattle.ver_ast.specs.declared.tree.Item.TheVariants as item
+use Rattle.ver_ast.specs.Nets.{Sized}
+use Rattle.ver_ast.specs.Valid.{reads}
+
+-- the target is a net of some width, and each name that is read one of that width
+abbrev pub HasWidth : List Sized → Assign → Type 0
+HasWidth nets a = (w : ℕ) × In nets (a.target, w) × EachIn (map (λ n. (n, w)) (reads a)) nets
+
+abbrev pub HasItemWidth : List Sized → Item → Type 0
+HasItemWidth nets (item.Wire n) = Unit {0}
+HasItemWidth nets (item.Assign a) = HasWidth nets a
