@@ -7,3 +7,4 @@ pub mod OneTree
 pub mod Scanning
 pub mod Putting
 pub mod Spelled
+pub mod Ordering

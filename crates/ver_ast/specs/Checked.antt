@@ -14,3 +14,16 @@ HasWidth nets a = (w : ℕ) × In nets (a.target, w) × EachIn (map (λ n. (n, w
 abbrev pub HasItemWidth : List Sized → Item → Type 0
 HasItemWidth nets (item.Wire n) = Unit {0}
 HasItemWidth nets (item.Assign a) = HasWidth nets a
+
+-- the target is not known yet, and all that is read is
+pub record CanPlace (known : List (List ℕ)) (a : Assign) : Type 0 where
+  pub fresh : In known a.target → ⊥
+  pub read : EachIn (reads a) known
+
+abbrev pub CannotPlace : List (List ℕ) → Item → Type 0
+CannotPlace known (item.Wire n) = Unit {0}
+CannotPlace known (item.Assign a) = CanPlace known a → ⊥
+
+abbrev pub IsPlaced : List (List ℕ) → Item → Type 0
+IsPlaced known (item.Wire n) = Unit {0}
+IsPlaced known (item.Assign a) = In known a.target

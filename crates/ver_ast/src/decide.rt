@@ -3,6 +3,7 @@
 mod fields;
 mod named;
 mod names;
+mod order;
 mod text;
 mod nets;
 mod tokens;
