@@ -139,9 +139,10 @@ in_more (b ∷ order) a n (inr m) = ⊎_elim (λ (t : In (targets order) n). inl
 
 once_more : (order : List Assign) (a : Assign) → Distinct (targets order) → (In (targets order) a.target → ⊥) → Distinct (targets (order ++ a ∷ []))
 once_more [] a d h = (λ m. absurd m, tt)
-once_more (b ∷ order) a d h =
-    (λ m. ⊎_elim (λ (t : In (targets order) b.target). d.0 t) (λ (e : a.target ≡ b.target). h (inl (sym e))) (in_more order a b.target m),
-     once_more order a d.1 (λ t. h (inr t)))
+once_more (b ∷ order) a d h = (
+  λ m. ⊎_elim (λ (t : In (targets order) b.target). d.0 t) (λ (e : a.target ≡ b.target). h (inl (sym e))) (in_more order a b.target m),
+  once_more order a d.1 (λ t. h (inr t)),
+)
 
 only_more : (order : List Assign) (a x : Assign) → In (order ++ a ∷ []) x → In order x ⊎ (a ≡ x)
 only_more [] a x (inl e) = inr e
@@ -189,8 +190,8 @@ placed_all v known p once undriven all = (p.order, record { each = each; only = 
         ⊎_elim
         (λ (i : In (names_of (inputs v)) a.target). absurd (undriven a.target i (in_map (λ x. x.target) (assigns v) a m)))
         (λ (t : In (targets p.order) a.target).
-            let b = in_map_from (λ x. x.target) p.order a.target t in
-            subst (In p.order) (same_assign (assigns v) once b.0 a (p.only b.0 b.1) m b.2) b.1)
+        let b = in_map_from (λ x. x.target) p.order a.target t in
+        subst (In p.order) (same_assign (assigns v) once b.0 a (p.only b.0 b.1) m b.2) b.1)
         (grown_from (names_of (inputs v)) p.order a.target (subst (λ k. In k a.target) p.known_is there))
 
 each_in_more : (ns ks known : List (List ℕ)) → ((n : List ℕ) → In ks n → In known n) → EachIn ns ks → EachIn ns known
@@ -202,10 +203,10 @@ stuck_along : (known ks : List (List ℕ)) (order : List Assign) → ReadsBefore
 stuck_along known ks [] after h cannot a m = absurd m
 stuck_along known ks (b ∷ order) after h cannot a m =
     let first : In known b.target =
-        ⊎_elim
-        (λ (i : In known b.target). i)
-        (λ (f : In known b.target → ⊥). absurd (cannot b (inl refl) (record { fresh = f; read = each_in_more (reads b) ks known h after.0 })))
-        (known_or_not known b.target) in
+    ⊎_elim
+    (λ (i : In known b.target). i)
+    (λ (f : In known b.target → ⊥). absurd (cannot b (inl refl) (record { fresh = f; read = each_in_more (reads b) ks known h after.0 })))
+    (known_or_not known b.target) in
     let more : (n : List ℕ) → In (b.target ∷ ks) n → In known n = λ n o. ⊎_elim (λ (e : b.target ≡ n). subst (In known) e first) (λ (i : In ks n). h n i) o in
     ⊎_elim
     (λ (e : b ≡ a). subst (λ (x : Assign). In known x.target) e first)

@@ -3,10 +3,12 @@
 mod fields;
 mod named;
 mod names;
+mod nets;
 mod order;
 mod text;
-mod nets;
 mod tokens;
 mod tree_tokens;
+mod validity;
 
 pub use text::spells;
+pub use validity::valid;

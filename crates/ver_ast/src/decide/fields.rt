@@ -1,6 +1,6 @@
 //! The parts of validity, but for the order of the assigns.
 
-ghost use Rattle.std.specs.Prelude.{◌≡◌, ◌≤◌, ◌↔◌, IsTrue, IfOk, All, List, ℕ, map};
+ghost use Rattle.std.specs.Prelude.{◌≡◌, ◌≤◌, ◌↔◌, IsTrue, IfOk, List, ℕ, map, flat_map};
 ghost use Rattle.fir_base.specs.Lists.{In, Distinct, EachIn};
 ghost use Rattle.ver_ast.specs.Nets.{assigns, item_assign, names_of};
 ghost use Rattle.ver_ast.specs.Spells.{atom_names, rhs_names};
@@ -27,23 +27,24 @@ pub fn are_distinct(names: &[Name]) -> bool
 
 /// Whether each name of the first list is one of the second.
 pub fn are_all_among(names: &[Name], known: &[Name]) -> bool
-    ensures { IsTrue result ↔ All (In known.now) names.now }
+    ensures { IsTrue result ↔ ((n : List ℕ) → In names.now n → In known.now n) }
 {
     names.iter().all(|name| contains(known, name))
 }
 
 /// Whether no name of the first list is one of the second.
 pub fn are_none_among(names: &[Name], known: &[Name]) -> bool
-    ensures { IsTrue result ↔ All (λ n. In known.now n → ⊥) names.now }
+    ensures { IsTrue result ↔ ((n : List ℕ) → In names.now n → In known.now n → ⊥) }
 {
     names.iter().all(|name| !contains(known, name))
 }
 
 /// Whether each width is from 1 to 128.
 pub fn are_narrow(nets: &[SizedNet]) -> bool
-    ensures { IsTrue result ↔ All (λ n. (1 ≤ n.1) × (n.1 ≤ 128)) nets.now }
+    ensures { IsTrue result ↔ ((n : List ℕ) (w : ℕ) → In nets.now (n, w) → (1 ≤ w) × (w ≤ 128)) }
 {
-    nets.iter().all(|net| 1 <= net.width() && net.width() <= 128)
+    nets.iter()
+        .all(|net| 1 <= net.width() && net.width() <= 128)
 }
 
 /// Whether what the operand reads is known.
@@ -77,7 +78,9 @@ pub fn is_declared_before(alloc: Global, names: &[Name], items: &[Item]) -> Resu
         match item {
             Item::Wire(net) => known.insert(0, net.name.copy(alloc)?)?,
             Item::Assign(assign) => {
-                if !contains(known.as_slice(), &assign.target) || !is_rhs_known(&assign.rhs, known.as_slice()) {
+                if !contains(known.as_slice(), &assign.target)
+                    || !is_rhs_known(&assign.rhs, known.as_slice())
+                {
                     return Ok(false);
                 }
             }
@@ -110,7 +113,8 @@ fn has_rhs_width(nets: &[SizedNet], rhs: &Rhs, width: u32) -> bool
 {
     match rhs {
         Rhs::Atom(atom) | Rhs::Unary(_, atom) => has_atom_width(nets, atom, width),
-        Rhs::Binary(left, _, right) => has_atom_width(nets, left, width) && has_atom_width(nets, right, width),
+        Rhs::Binary(left, _, right) => has_atom_width(nets, left, width)
+            && has_atom_width(nets, right, width),
     }
 }
 
@@ -136,7 +140,7 @@ fn has_item_width(nets: &[SizedNet], item: &Item) -> bool
 
 /// Whether each assign reads nets of its target's width.
 pub fn have_one_width(nets: &[SizedNet], items: &[Item]) -> bool
-    ensures { IsTrue result ↔ All (HasItemWidth nets.now) items.now }
+    ensures { IsTrue result ↔ ((a : Assign) → In (flat_map item_assign items.now) a → HasWidth nets.now a) }
 {
     items.iter().all(|item| has_item_width(nets, item))
 }

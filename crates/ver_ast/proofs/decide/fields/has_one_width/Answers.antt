@@ -13,5 +13,5 @@ returns-then-has_rhs_width c =
     let name : net.0 ≡ a.target = sym c.name.ensures ∙ c.same.ensures.0 c.if-same.true in
     let there : In nets (a.target, net.1) = subst (λ (n : List ℕ). In nets (n, net.1)) name (in_item _ _ _ c.loop-net-test.true c.net-item.is) in
     let read : EachIn (map (λ n. (n, net.1)) (rhs_names a.rhs)) nets =
-        subst (λ (w : ℕ). EachIn (map (λ n. (n, w)) (rhs_names a.rhs)) nets) c.width.ensures (c.has_rhs_width.ensures.0 c.if-has_rhs_width.true) in
+    subst (λ (w : ℕ). EachIn (map (λ n. (n, w)) (rhs_names a.rhs)) nets) c.width.ensures (c.has_rhs_width.ensures.0 c.if-has_rhs_width.true) in
     (λ _. (net.1, there, read), λ _. refl)

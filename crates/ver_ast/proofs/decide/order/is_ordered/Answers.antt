@@ -32,9 +32,10 @@ returns c =
     let v = c.args.v.now in
     let known = c.loop-assign.known.items in
     let none : All (CannotPlace known) v.items =
-        subst (All (CannotPlace known)) c.as_slice.ensures (subst (λ ks. All (CannotPlace ks) c.as_slice.result.now) c.as_slice-in-loop-assign.ensures.value c.in_default.ensures.none) in
-    let items = c.as_slice-2.result.now in
-    (λ t. placed_all v known c.loop-assign.invariant c.requires.driven_once c.requires.undriven
-        (subst (All (IsPlaced known)) c.as_slice-2.ensures (subst (λ ks. All (IsPlaced ks) items) c.as_slice-3.ensures.value (c.are_placed.ensures.0 t))),
-     λ o. c.are_placed.ensures.1
-        (subst (λ ks. All (IsPlaced ks) items) (sym c.as_slice-3.ensures.value) (subst (All (IsPlaced known)) (sym c.as_slice-2.ensures) (stuck v known c.loop-assign.invariant none o.0 o.1))))
+    subst (All (CannotPlace known)) c.as_slice.ensures (subst (λ ks. All (CannotPlace ks) c.as_slice.result.now) c.as_slice-in-loop-assign.ensures.value c.in_default.ensures.none) in
+    let items = c.as_slice-2.result.now in (
+      λ t. placed_all v known c.loop-assign.invariant c.requires.driven_once c.requires.undriven
+          (subst (All (IsPlaced known)) c.as_slice-2.ensures (subst (λ ks. All (IsPlaced ks) items) c.as_slice-3.ensures.value (c.are_placed.ensures.0 t))),
+      λ o. c.are_placed.ensures.1
+          (subst (λ ks. All (IsPlaced ks) items) (sym c.as_slice-3.ensures.value) (subst (All (IsPlaced known)) (sym c.as_slice-2.ensures) (stuck v known c.loop-assign.invariant none o.0 o.1))),
+    )
