@@ -8,3 +8,4 @@ pub mod Scanning
 pub mod Putting
 pub mod Spelled
 pub mod Ordering
+pub mod Fitting

@@ -11,5 +11,6 @@ pub mod Laws
 pub mod Scanned
 pub mod Put
 pub mod Checked
+pub mod Table
 pub use Rattle.fir_base.specs.Lists
 pub use Rattle.fir_base.specs.Ticks

@@ -9,6 +9,8 @@ mod text;
 mod tokens;
 mod tree_tokens;
 mod validity;
+mod values;
 
 pub use text::spells;
 pub use validity::valid;
+pub use values::{TickValues, Valued, settled};
