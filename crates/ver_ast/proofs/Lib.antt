@@ -7,3 +7,5 @@ pub mod OneTree
 pub mod Scanning
 pub mod Putting
 pub mod Spelled
+pub mod Ordering
+pub mod Fitting

@@ -10,5 +10,7 @@ pub mod Allows
 pub mod Laws
 pub mod Scanned
 pub mod Put
+pub mod Checked
+pub mod Table
 pub use Rattle.fir_base.specs.Lists
 pub use Rattle.fir_base.specs.Ticks

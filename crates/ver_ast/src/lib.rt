@@ -9,7 +9,7 @@ mod laws;
 mod reserved;
 mod tree;
 
-pub use decide::spells;
+pub use decide::{TickValues, Valued, settled, spells, valid};
 pub use laws::{spells_one_tree, valid_has_one};
 pub use reserved::is_reserved;
 pub use tree::{Assign, Atom, BinaryOp, Item, Net, Port, Rhs, UnaryOp, Verilog};

@@ -50,5 +50,7 @@ fn are_items_named(items: &[Item]) -> bool
 pub fn has_names(v: &Verilog) -> bool
     ensures { IsTrue result ↔ HasNames v.now }
 {
-    is_name(v.name.as_bytes()) && are_ports_named(v.ports.as_slice()) && are_items_named(v.items.as_slice())
+    is_name(v.name.as_bytes())
+        && are_ports_named(v.ports.as_slice())
+        && are_items_named(v.items.as_slice())
 }

@@ -42,7 +42,10 @@ const LARGE: u64 = 4294967296;
 fn is_sign(byte: u8) -> bool
     ensures { result ≡ is_sign byte }
 {
-    matches!(byte, b'(' | b')' | b';' | b',' | b':' | b'[' | b']' | b'=' | b'~' | b'&' | b'|' | b'^')
+    matches!(
+        byte,
+        b'(' | b')' | b';' | b',' | b':' | b'[' | b']' | b'=' | b'~' | b'&' | b'|' | b'^'
+    )
 }
 
 fn is_blank(byte: u8) -> bool
@@ -58,16 +61,31 @@ fn begin(alloc: Global, mut closed: Vec<Token>, byte: u8) -> Result<Option<Closi
     if is_word_start(byte) {
         let mut word = Vec::new(alloc);
         word.push(byte)?;
-        Ok(Some(Closing { closed, pending: Pending::InWord(word) }))
+        Ok(Some(Closing {
+            closed,
+            pending: Pending::InWord(word),
+        }))
     } else if is_digit(byte) {
-        Ok(Some(Closing { closed, pending: Pending::InNumber(byte == b'0', u64::from(byte - b'0')) }))
+        Ok(Some(Closing {
+            closed,
+            pending: Pending::InNumber(byte == b'0', u64::from(byte - b'0')),
+        }))
     } else if is_sign(byte) {
         closed.push(Token::Sign(byte))?;
-        Ok(Some(Closing { closed, pending: Pending::Between }))
+        Ok(Some(Closing {
+            closed,
+            pending: Pending::Between,
+        }))
     } else if is_blank(byte) {
-        Ok(Some(Closing { closed, pending: Pending::Between }))
+        Ok(Some(Closing {
+            closed,
+            pending: Pending::Between,
+        }))
     } else if byte == b'/' {
-        Ok(Some(Closing { closed, pending: Pending::InSlash }))
+        Ok(Some(Closing {
+            closed,
+            pending: Pending::InSlash,
+        }))
     } else {
         Ok(None)
     }
@@ -84,7 +102,11 @@ fn close_and_begin(alloc: Global, token: Token, byte: u8) -> Result<Option<Closi
 fn number_token(one_zero: bool, value: u64) -> Token
     ensures { token_of result ≡ number_token one_zero value }
 {
-    if one_zero { Token::DigitZero } else { Token::Number(value) }
+    if one_zero {
+        Token::DigitZero
+    } else {
+        Token::Number(value)
+    }
 }
 
 fn go_on(alloc: Global, pending: Pending) -> Option<Closing>
@@ -107,7 +129,12 @@ fn step_in_word(alloc: Global, mut word: Vec<u8>, byte: u8) -> Result<Option<Clo
     }
 }
 
-fn step_in_number(alloc: Global, one_zero: bool, value: u64, byte: u8) -> Result<Option<Closing>, MemoryOut>
+fn step_in_number(
+    alloc: Global,
+    one_zero: bool,
+    value: u64,
+    byte: u8,
+) -> Result<Option<Closing>, MemoryOut>
     requires { value ≤ 4294967296 }
     ensures { IfOk result (λ s. step_of s ≡ capped_step (in_number one_zero value) byte) }
 {
@@ -200,7 +227,13 @@ pub fn scan(alloc: Global, bytes: &[u8]) -> Result<Option<Vec<Token>>, MemoryOut
     let mut found = Vec::new(alloc);
     let mut pending = Pending::Between;
     for byte in bytes {
-        let Some(Closing { mut closed, pending: next }) = pending.step(alloc, *byte)? else {
+        let Some(
+            Closing {
+                mut closed,
+                pending: next,
+            },
+        ) = pending.step(alloc, *byte)?
+        else {
             return Ok(None);
         };
         found.append(&mut closed)?;

@@ -19,12 +19,14 @@ returns c =
     let first = c.as_slice.ensures.value in
     let second = c.as_slice-in-Some.ensures.value in
     elim c.if-same_tokens.branch [
-      then-same_tokens w ↦
-        rw w.result-is
-        (λ t. record { tokens_are = spelled bytes v found expected puts e (sym first ∙ c.same_tokens.ensures.0 w.if-same_tokens.true ∙ second); names = w.has_names.ensures.0 t },
-         λ s. w.has_names.ensures.1 s.names)
-    | else-same_tokens w ↦
-        rw w.result-is
-        (λ t. absurd (false≢true (sym w.if-same_tokens.false ∙ t)),
-         λ s. absurd (not_so c.same_tokens.result c.same_tokens.ensures w.if-same_tokens.false (first ∙ found_is_expected bytes v found expected puts e s.tokens_are ∙ sym second)))
+      | then-same_tokens w ↦
+          rw w.result-is (
+            λ t. record { tokens_are = spelled bytes v found expected puts e (sym first ∙ c.same_tokens.ensures.0 w.if-same_tokens.true ∙ second); names = w.has_names.ensures.0 t },
+            λ s. w.has_names.ensures.1 s.names,
+          )
+      | else-same_tokens w ↦
+          rw w.result-is (
+            λ t. absurd (false≢true (sym w.if-same_tokens.false ∙ t)),
+            λ s. absurd (not_so c.same_tokens.result c.same_tokens.ensures w.if-same_tokens.false (first ∙ found_is_expected bytes v found expected puts e s.tokens_are ∙ sym second)),
+          )
     ]

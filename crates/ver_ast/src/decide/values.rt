@@ -1,0 +1,225 @@
+//! Whether values are settled.
+
+ghost use Rattle.std.specs.Prelude.{◌≡◌, ◌<◌, ◌^◌, ◌↔◌, IsTrue, IfOk, All, List, ℕ, [], map, flat_map};
+ghost use Rattle.fir_base.specs.Lists.{In};
+ghost use Rattle.fir_base.specs.Ticks.{FitEach, AreClocks, HasShape};
+ghost use Rattle.fir_bits.specs.Values.{complement};
+ghost use Rattle.ver_ast.specs.Nets.{nets, inputs, item_assign, assigns, names_of, widths_of, shape};
+ghost use Rattle.ver_ast.specs.Settled.{atom_value, unary_value, binary_value, rhs_value, VSettled};
+ghost use Rattle.ver_ast.specs.Table.{env_of, tick_of, HoldsAtNet, ItemHolds};
+
+use crate::decide::names::same;
+use crate::decide::nets::{SizedNet, inputs, nets};
+use crate::tree::{Assign, Atom, BinaryOp, Item, Rhs, UnaryOp, Verilog};
+use fir_base::{MemoryOut, Name};
+use fir_bits::mask;
+use std::alloc::Global;
+
+/// A name and the value that it has.
+#[derive(Drop)]
+pub struct Valued {
+    pub name: Name,
+    pub value: u128,
+}
+
+/// The values of the inputs in port order, and the numbers of the clocks that rise.
+#[derive(Drop)]
+pub struct TickValues {
+    pub inputs: Vec<u128>,
+    pub clocks: Vec<u32>,
+}
+
+fn value_of(table: &[Valued], name: &Name) -> u128
+    ensures { result ≡ env_of table.now name.now }
+{
+    for entry in table {
+        if entry.name == *name {
+            return entry.value;
+        }
+    }
+    0
+}
+
+fn is_below(value: u128, width: u32) -> bool
+    ensures { IsTrue result ↔ (value < 2 ^ width) }
+{
+    width >= 128 || value <= mask(width)
+}
+
+fn fit_each(sized: &[SizedNet], values: &[u128]) -> bool
+    ensures { IsTrue result ↔ FitEach (widths_of sized.now) values.now }
+{
+    if sized.len() != values.len() {
+        return false;
+    }
+    for i in 0..sized.len() {
+        if !is_below(values[i], sized[i].width()) {
+            return false;
+        }
+    }
+    true
+}
+
+fn are_no_values(values: &[u128]) -> bool
+    ensures { IsTrue result ↔ FitEach [] values.now }
+{
+    values.is_empty()
+}
+
+fn are_no_clocks(clocks: &[u32]) -> bool
+    ensures { IsTrue result ↔ AreClocks 0 0 clocks.now }
+{
+    clocks.is_empty()
+}
+
+fn has_shape(
+    alloc: Global,
+    v: &Verilog,
+    state: &[u128],
+    tick: &TickValues,
+) -> Result<bool, MemoryOut>
+    ensures { IfOk result (λ b. IsTrue b ↔ HasShape (shape v.now) state.now (tick_of tick.now)) }
+{
+    let given = inputs(alloc, v)?;
+    Ok(
+        are_no_values(state)
+            && are_no_clocks(tick.clocks.as_slice())
+            && fit_each(given.as_slice(), tick.inputs.as_slice()),
+    )
+}
+
+fn all_fit(all_nets: &[SizedNet], table: &[Valued]) -> bool
+    ensures { IsTrue result ↔ ((n : List ℕ) (w : ℕ) → In all_nets.now (n, w) → env_of table.now n < 2 ^ w) }
+{
+    all_nets
+        .iter()
+        .all(|net| is_below(value_of(table, net.name()), net.width()))
+}
+
+fn nets_fit(alloc: Global, v: &Verilog, table: &[Valued]) -> Result<bool, MemoryOut>
+    ensures { IfOk result (λ b. IsTrue b ↔ ((n : List ℕ) (w : ℕ) → In (nets v.now) (n, w) → env_of table.now n < 2 ^ w)) }
+{
+    let all_nets = nets(alloc, v)?;
+    Ok(all_fit(all_nets.as_slice(), table))
+}
+
+fn have_values(given: &[SizedNet], table: &[Valued], values: &[u128]) -> bool
+    ensures { IsTrue result ↔ (map (env_of table.now) (names_of given.now) ≡ values.now) }
+{
+    if given.len() != values.len() {
+        return false;
+    }
+    for i in 0..given.len() {
+        if value_of(table, given[i].name()) != values[i] {
+            return false;
+        }
+    }
+    true
+}
+
+fn has_inputs(
+    alloc: Global,
+    v: &Verilog,
+    tick: &TickValues,
+    table: &[Valued],
+) -> Result<bool, MemoryOut>
+    ensures { IfOk result (λ b. IsTrue b ↔ (map (env_of table.now) (names_of (inputs v.now)) ≡ tick.now.inputs.items)) }
+{
+    let given = inputs(alloc, v)?;
+    Ok(have_values(given.as_slice(), table, tick.inputs.as_slice()))
+}
+
+fn atom_value(table: &[Valued], atom: &Atom) -> u128
+    ensures { result ≡ atom_value (env_of table.now) atom.now }
+{
+    match atom {
+        Atom::Net(name) => value_of(table, name),
+    }
+}
+
+fn is_complement(width: u32, operand: u128, value: u128) -> bool
+    ensures { IsTrue result ↔ (value ≡ complement width operand) }
+{
+    width <= 128 && value == mask(width).saturating_sub(operand)
+}
+
+fn is_unary(op: UnaryOp, width: u32, operand: u128, value: u128) -> bool
+    ensures { IsTrue result ↔ (value ≡ unary_value op width operand) }
+{
+    match op {
+        UnaryOp::Not => is_complement(width, operand, value),
+    }
+}
+
+fn binary_value(op: BinaryOp, left: u128, right: u128) -> u128
+    ensures { result ≡ binary_value op left right }
+{
+    match op {
+        BinaryOp::And => left & right,
+        BinaryOp::Or => left | right,
+        BinaryOp::Xor => left ^ right,
+    }
+}
+
+fn is_value(table: &[Valued], width: u32, rhs: &Rhs, value: u128) -> bool
+    ensures { IsTrue result ↔ (value ≡ rhs_value (env_of table.now) width rhs.now) }
+{
+    match rhs {
+        Rhs::Atom(atom) => value == atom_value(table, atom),
+        Rhs::Unary(op, atom) => is_unary(*op, width, atom_value(table, atom), value),
+        Rhs::Binary(left, op, right) => value
+            == binary_value(*op, atom_value(table, left), atom_value(table, right)),
+    }
+}
+
+fn holds_at(net: &SizedNet, table: &[Valued], assign: &Assign) -> bool
+    ensures { IsTrue result ↔ HoldsAtNet (env_of table.now) assign.now net.now }
+{
+    !same(net.name(), &assign.target)
+        || is_value(
+            table,
+            net.width(),
+            &assign.rhs,
+            value_of(table, &assign.target),
+        )
+}
+
+fn holds(all_nets: &[SizedNet], table: &[Valued], item: &Item) -> bool
+    ensures { IsTrue result ↔ ItemHolds (env_of table.now) all_nets.now item.now }
+{
+    match item {
+        Item::Wire(_) => true,
+        Item::Assign(assign) => all_nets.iter().all(|net| holds_at(net, table, assign)),
+    }
+}
+
+fn all_hold(all_nets: &[SizedNet], table: &[Valued], items: &[Item]) -> bool
+    ensures { IsTrue result ↔ ((a : Assign) (w : ℕ) → In (flat_map item_assign items.now) a → In all_nets.now (a.target, w) → env_of table.now a.target ≡ rhs_value (env_of table.now) w a.rhs) }
+{
+    items.iter().all(|item| holds(all_nets, table, item))
+}
+
+fn assigns_hold(alloc: Global, v: &Verilog, table: &[Valued]) -> Result<bool, MemoryOut>
+    ensures { IfOk result (λ b. IsTrue b ↔ ((a : Assign) (w : ℕ) → In (assigns v.now) a → In (nets v.now) (a.target, w) → env_of table.now a.target ≡ rhs_value (env_of table.now) w a.rhs)) }
+{
+    let all_nets = nets(alloc, v)?;
+    Ok(all_hold(all_nets.as_slice(), table, v.items.as_slice()))
+}
+
+/// Whether the table's values are settled at that state and tick. A name that is not in the table counts as 0. An error is want of memory.
+pub fn settled(
+    alloc: Global,
+    v: &Verilog,
+    state: &[u128],
+    tick: &TickValues,
+    table: &[Valued],
+) -> Result<bool, MemoryOut>
+    ensures { IfOk result (λ b. IsTrue b ↔ VSettled v.now state.now (tick_of tick.now) (env_of table.now)) }
+{
+    Ok(
+        has_shape(alloc, v, state, tick)?
+            && nets_fit(alloc, v, table)?
+            && has_inputs(alloc, v, tick, table)?
+            && assigns_hold(alloc, v, table)?,
+    )
+}
