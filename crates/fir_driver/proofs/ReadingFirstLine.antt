@@ -1,5 +1,5 @@
 -- The first line of a text: as a loop finds it, and among the lines of the text.
-use Rattle.std.proofs.Common.{◌≡◌, ℕ, ◌+◌, ◌-◌, ◌<◌, ◌≤◌, Bool, true, false, cond, nat_eq, List, [], ◌∷◌, ◌++◌, length, get_or, take, drop, Option, Some, None, refl, sym, ap, ◌∙◌, append_assoc, arith}
+use Rattle.std.proofs.Common.{◌≡◌, ℕ, ◌+◌, ◌-◌, ◌<◌, ◌≤◌, Bool, true, false, cond, nat_eq, List, [], ◌∷◌, ◌++◌, length, get_or, take, drop, Option, Some, None, refl, sym, ap, ◌∙◌, append_assoc}
 use Rattle.std.specs.Prelude.{option_map}
 use Rattle.std.proofs.lemmas.Bool.{eq-eqb, ne_eqb}
 use Rattle.std.proofs.lemmas.List.{drop_more, drop_all, take_more, take_rest, append-nil}
@@ -56,6 +56,7 @@ lines_by_first front (b ∷ bs) = by_byte (nat_eq b 10) (lines_by_first (front +
   deeper : (read : Option (List ℕ × List ℕ)) → from_first (front ++ b ∷ []) bs read ≡ from_first front (b ∷ bs) (option_map (λ x. (b ∷ x.0, x.1)) read)
   deeper None = ap whole (append_assoc front (b ∷ []) bs)
   deeper (Some x) = ap (λ (l : List ℕ). option_map (λ ls. l ∷ ls) (lines x.1)) (append_assoc front (b ∷ []) x.0)
+
   by_byte : (t : Bool) → lines_from (front ++ b ∷ []) bs ≡ from_first (front ++ b ∷ []) bs (first_line bs) → cond t (option_map (λ ls. front ∷ ls) (lines_from [] bs)) (lines_from (front ++ b ∷ []) bs) ≡ from_first front (b ∷ bs) (cond t (Some ([], bs)) (option_map (λ x. (b ∷ x.0, x.1)) (first_line bs)))
   by_byte true deep = ap (λ (l : List ℕ). option_map (λ ls. l ∷ ls) (lines bs)) (sym (append-nil front))
   by_byte false deep = deep ∙ deeper (first_line bs)

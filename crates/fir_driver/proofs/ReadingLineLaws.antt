@@ -1,8 +1,7 @@
 -- Lines inside a module: what is read is spelled so, and what is spelled so is read.
-use Rattle.std.proofs.Common.{◌≡◌, ℕ, Bool, true, false, cond, List, [], ◌∷◌, ◌++◌, Option, Some, None, refl, sym, ap, subst, ◌∙◌, append_assoc, inl, inr}
+use Rattle.std.proofs.Common.{◌≡◌, ℕ, true, false, cond, List, ◌++◌, Option, Some, None, refl, sym, ap, subst, ◌∙◌, append_assoc, inl, inr}
 use Rattle.std.specs.Prelude.{codes, decimal}
 use Rattle.std.specs.Str.{bytes_eq}
-use Rattle.std.specs.List.{AllByRecursion}
 use Rattle.std.proofs.lemmas.Bool.{both_ways, not-true, false_from_ne_true}
 use Rattle.fir_base.specs.declared.direction.Direction.{Direction}
 use Rattle.fir_base.specs.declared.direction.Direction.TheVariants.{Input, Output}
@@ -16,7 +15,6 @@ use Rattle.fir_driver.specs.declared.circuit.Statement.TheVariants as statement
 use Rattle.fir_driver.specs.declared.reader.line.Line.{Line}
 use Rattle.fir_driver.specs.declared.reader.line.Line.TheVariants as line
 use Rattle.fir_driver.specs.Names.{IsName, is_keyword}
-use Rattle.fir_driver.specs.declared.names.TheConstants.{KEYWORDS}
 use Rattle.fir_driver.specs.Spells.{IsPort, HasStatementNames, port_line, statement_line, expr_text}
 use Rattle.fir_driver.specs.Reading.{◌>>=◌}
 use Rattle.fir_driver.specs.ReadingWords.{after, word, behind_word, is_name, name_at, width_of}
@@ -24,7 +22,7 @@ use Rattle.fir_driver.specs.ReadingExprs.{expr_of}
 use Rattle.fir_driver.specs.ReadingLines.{port_of, node_of, connect_of, entry_of, line_of}
 use Rattle.fir_driver.proofs.ReadingSteps.{bind_some, guard_some, chosen, some_is}
 use Rattle.fir_driver.proofs.ReadingWordLaws.{same_bytes, after_takes, after_again, AreWordBytes, Stops, word_takes, word_again, behind_word_again, name_takes, name_again, name_word, is_name_from, name_from_test, width_takes, width_again, width_word}
-use Rattle.fir_driver.proofs.ReadingExprLaws.{IsExprText, expr_takes, expr_again}
+use Rattle.fir_driver.proofs.ReadingExprLaws.{expr_takes, expr_again}
 
 abbrev pub line_text : Line → List ℕ
 line_text (line.Port p) = port_line p
@@ -102,24 +100,25 @@ entry_takes w s l h =
     elim (chosen (bytes_eq w (codes "input")) (port_of Input s >>= port_entry) _ (Some l) h) [
       | inl a ↦ port_text Input (codes "input") w a.0 refl a.1
       | inr b ↦ elim (chosen (bytes_eq w (codes "output")) (port_of Output s >>= port_entry) _ (Some l) b.1) [
-          | inl a ↦ port_text Output (codes "output") w a.0 refl a.1
-          | inr c ↦ elim (chosen (bytes_eq w (codes "node")) (node_of s >>= node_entry) (connect_of w s >>= connect_entry) (Some l) c.1) [
-              | inl a ↦
-                  let n = bind_some (node_of s) node_entry l a.1 in
-                  at_word (codes "node") w a.0 (subst (IsLineText (codes "    " ++ (codes "node" ++ s))) (some_is (line.Statement (statement.Node n.0)) l n.2) (node_takes s n.0 n.1))
-              | inr d ↦
-                  let k = bind_some (connect_of w s) connect_entry l d.1 in
-                  subst (IsLineText (codes "    " ++ (w ++ s))) (some_is (line.Statement (statement.Connect k.0)) l k.2) (connect_takes w s k.0 k.1)
-            ]
+        | inl a ↦ port_text Output (codes "output") w a.0 refl a.1
+        | inr c ↦ elim (chosen (bytes_eq w (codes "node")) (node_of s >>= node_entry) (connect_of w s >>= connect_entry) (Some l) c.1) [
+          | inl a ↦
+              let n = bind_some (node_of s) node_entry l a.1 in
+              at_word (codes "node") w a.0 (subst (IsLineText (codes "    " ++ (codes "node" ++ s))) (some_is (line.Statement (statement.Node n.0)) l n.2) (node_takes s n.0 n.1))
+          | inr d ↦
+              let k = bind_some (connect_of w s) connect_entry l d.1 in
+              subst (IsLineText (codes "    " ++ (w ++ s))) (some_is (line.Statement (statement.Connect k.0)) l k.2) (connect_takes w s k.0 k.1)
         ]
+      ]
     ] where
-  at_word : (expected w : List ℕ) → bytes_eq w expected ≡ true → IsLineText (codes "    " ++ (expected ++ s)) l → IsLineText (codes "    " ++ (w ++ s)) l
-  at_word expected w e is = subst (λ (v : List ℕ). IsLineText (codes "    " ++ (v ++ s)) l) (sym (same_bytes w expected e)) is
-  port_text : (direction : Direction) (expected w : List ℕ) → bytes_eq w expected ≡ true → expected ≡ direction_word direction → (port_of direction s >>= port_entry) ≡ Some l → IsLineText (codes "    " ++ (w ++ s)) l
-  port_text direction expected w e is h =
-      let p = bind_some (port_of direction s) port_entry l h in
-      let read : IsLineText (codes "    " ++ (direction_word direction ++ s)) l = subst (IsLineText (codes "    " ++ (direction_word direction ++ s))) (some_is (line.Port p.0) l p.2) (port_takes direction s p.0 p.1) in
-      subst (λ (v : List ℕ). IsLineText (codes "    " ++ (v ++ s)) l) (sym (same_bytes w expected e ∙ is)) read
+      at_word : (expected w : List ℕ) → bytes_eq w expected ≡ true → IsLineText (codes "    " ++ (expected ++ s)) l → IsLineText (codes "    " ++ (w ++ s)) l
+      at_word expected w e is = subst (λ (v : List ℕ). IsLineText (codes "    " ++ (v ++ s)) l) (sym (same_bytes w expected e)) is
+
+      port_text : (direction : Direction) (expected w : List ℕ) → bytes_eq w expected ≡ true → expected ≡ direction_word direction → (port_of direction s >>= port_entry) ≡ Some l → IsLineText (codes "    " ++ (w ++ s)) l
+      port_text direction expected w e is h =
+          let p = bind_some (port_of direction s) port_entry l h in
+          let read : IsLineText (codes "    " ++ (direction_word direction ++ s)) l = subst (IsLineText (codes "    " ++ (direction_word direction ++ s))) (some_is (line.Port p.0) l p.2) (port_takes direction s p.0 p.1) in
+          subst (λ (v : List ℕ). IsLineText (codes "    " ++ (v ++ s)) l) (sym (same_bytes w expected e ∙ is)) read
 
 pub line_takes : (s : List ℕ) (l : Line) → line_of s ≡ Some l → IsLineText s l
 unfolding line_of

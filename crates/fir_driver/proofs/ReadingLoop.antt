@@ -1,5 +1,5 @@
 -- Reading the lines one behind the other, as a loop does.
-use Rattle.std.proofs.Common.{◌≡◌, ℕ, Bool, true, false, cond, eqb, length, List, [], ◌∷◌, ◌++◌, Option, Some, None, refl, sym, ap, subst, ◌∙◌, append_assoc, inl, inr}
+use Rattle.std.proofs.Common.{◌≡◌, ℕ, true, false, eqb, length, List, [], ◌∷◌, ◌++◌, Option, Some, None, refl, sym, ap, subst, ◌∙◌, append_assoc, inl, inr}
 use Rattle.std.specs.Prelude.{option_map}
 use Rattle.std.proofs.lemmas.Bool.{eqb-true}
 use Rattle.std.proofs.lemmas.List.{append-nil, nil_from_length}
@@ -10,10 +10,10 @@ use Rattle.fir_driver.specs.declared.circuit.Port.{Port}
 use Rattle.fir_driver.specs.declared.circuit.Statement.{Statement}
 use Rattle.fir_driver.specs.declared.reader.line.Line.{Line}
 use Rattle.fir_driver.specs.declared.reader.line.Line.TheVariants as line
-use Rattle.fir_driver.specs.Lines.{whole, lines_from, lines}
+use Rattle.fir_driver.specs.Lines.{lines_from, lines}
 use Rattle.fir_driver.specs.Reading.{◌>>=◌, IsRefused}
 use Rattle.fir_driver.specs.ReadingLines.{line_of}
-use Rattle.fir_driver.specs.ReadingTexts.{Content, first_line, with_statement, with_line, content_of, content_at, with_port_behind, with_last, next_content}
+use Rattle.fir_driver.specs.ReadingTexts.{Content, first_line, with_statement, with_line, content_of, content_at, with_last, next_content}
 use Rattle.fir_driver.proofs.ReadingSteps.{option_cases, bind_some, some_is}
 use Rattle.fir_driver.proofs.ReadingFirstLine.{lines_at_first, lines_at_none}
 
@@ -46,6 +46,7 @@ content_step bytes x first = ap (λ (ls : Option (List (List ℕ))). ls >>= cont
   none : (l : Option Line) → None ≡ (l >>= λ l. (None >>= content_of) >>= λ d. with_line l d)
   none (Some l) = refl
   none None = refl
+
   by_lines : (ls : Option (List (List ℕ))) (l : Option Line) → line_of x.0 ≡ l → (option_map (λ ls. x.0 ∷ ls) ls >>= content_of) ≡ (line_of x.0 >>= λ l. (ls >>= content_of) >>= λ d. with_line l d)
   by_lines (Some ls) l e = refl
   by_lines None l e = none (line_of x.0)
@@ -92,16 +93,16 @@ turn_refused ps ss bytes h some =
     elim (option_cases (first_line bytes)) [
       | inl first ↦ joined_none ps ss (content_at bytes) (no_line bytes first some)
       | inr a ↦ elim (option_cases (line_of a.0.0)) [
-          | inl refused ↦ joined_none ps ss (content_at bytes) (content_step bytes a.0 a.1 ∙ ap (λ (l : Option Line). l >>= λ l. content_at a.0.1 >>= λ d. with_line l d) refused)
-          | inr b ↦
-              let step : content_at bytes ≡ (content_at a.0.1 >>= λ d. with_line b.0 d) = content_step bytes a.0 a.1 ∙ ap (λ (l : Option Line). l >>= λ l. content_at a.0.1 >>= λ d. with_line l d) b.1 in
-              let left : (with_last (content ps ss) b.0 >>= behind a.0.1) ≡ None = ap (λ (l : Option Line). l >>= λ l. with_last (content ps ss) l >>= behind a.0.1) (sym b.1) ∙ ap (λ (x : Option (List ℕ × List ℕ)). x >>= λ first. line_of first.0 >>= λ l. with_last (content ps ss) l >>= behind first.1) (sym a.1) ∙ h in
-              ap (joined ps ss) step ∙ line_refused ps ss b.0 (content_at a.0.1) (nothing (with_last (content ps ss) b.0) a.0.1 left)
-        ]
+        | inl refused ↦ joined_none ps ss (content_at bytes) (content_step bytes a.0 a.1 ∙ ap (λ (l : Option Line). l >>= λ l. content_at a.0.1 >>= λ d. with_line l d) refused)
+        | inr b ↦
+            let step : content_at bytes ≡ (content_at a.0.1 >>= λ d. with_line b.0 d) = content_step bytes a.0 a.1 ∙ ap (λ (l : Option Line). l >>= λ l. content_at a.0.1 >>= λ d. with_line l d) b.1 in
+            let left : (with_last (content ps ss) b.0 >>= behind a.0.1) ≡ None = ap (λ (l : Option Line). l >>= λ l. with_last (content ps ss) l >>= behind a.0.1) (sym b.1) ∙ ap (λ (x : Option (List ℕ × List ℕ)). x >>= λ first. line_of first.0 >>= λ l. with_last (content ps ss) l >>= behind first.1) (sym a.1) ∙ h in
+            ap (joined ps ss) step ∙ line_refused ps ss b.0 (content_at a.0.1) (nothing (with_last (content ps ss) b.0) a.0.1 left)
+      ]
     ] where
-  nothing : (o : Option Content) (rest : List ℕ) → (o >>= behind rest) ≡ None → o ≡ None
-  nothing (Some d) rest e = absurd cc
-  nothing None rest e = refl
+      nothing : (o : Option Content) (rest : List ℕ) → (o >>= behind rest) ≡ None → o ≡ None
+      nothing (Some d) rest e = absurd cc
+      nothing None rest e = refl
 
 pub turn_faults : (e : Refused Unsupported) (ps : List Port) (ss : List Statement) (bytes : List ℕ) (total : Option Content) → IsRefused e (next_content (content ps ss) bytes) → eqb (length bytes) 0 ≡ false → joined ps ss (content_at bytes) ≡ total → IsRefused e total
 turn_faults (refused.Fault f) ps ss bytes total h some so_far = sym so_far ∙ turn_refused ps ss bytes h some
@@ -116,6 +117,7 @@ loop_begins bytes = same (content_at bytes) where
   by_ports : (qs : List Port) (rest : List Statement) → in_order [] [] qs rest ≡ Some (content qs rest)
   by_ports [] rest = refl
   by_ports (q ∷ qs) rest = refl
+
   same : (read : Option Content) → joined [] [] read ≡ read
   same None = refl
   same (Some d) = by_ports d.ports d.body

@@ -1,5 +1,5 @@
 -- Texts: what is read is spelled so, and what is spelled so is read.
-use Rattle.std.proofs.Common.{◌≡◌, ℕ, Bool, true, false, cond, List, [], ◌∷◌, ◌++◌, Option, Some, None, refl, sym, ap, subst, ◌∙◌, append_assoc, map, inl, inr}
+use Rattle.std.proofs.Common.{◌≡◌, ℕ, true, cond, List, [], ◌∷◌, ◌++◌, Option, Some, None, refl, sym, ap, subst, ◌∙◌, append_assoc, map, inl, inr}
 use Rattle.std.specs.Prelude.{codes, option_map, Result, Ok, Err, IfOk, IfErr}
 use Rattle.std.specs.Str.{bytes_eq}
 use Rattle.std.specs.List.{AllByRecursion}
@@ -10,7 +10,7 @@ use Rattle.fir_driver.specs.declared.reader.line.Line.{Line}
 use Rattle.fir_driver.specs.declared.reader.line.Line.TheVariants as line
 use Rattle.fir_driver.specs.Names.{IsName}
 use Rattle.fir_driver.specs.Lines.{whole, lines}
-use Rattle.fir_driver.specs.Spells.{IsPort, HasStatementNames, IsWritten, Spells, port_line, statement_line, circuit_lines}
+use Rattle.fir_driver.specs.Spells.{IsPort, HasStatementNames, Spells, port_line, statement_line, circuit_lines}
 use Rattle.fir_base.specs.declared.refused.Refused.{Refused}
 use Rattle.fir_base.specs.declared.refused.Refused.TheVariants as refused
 use Rattle.fir_driver.specs.declared.reader.fault.Unsupported.{Unsupported}
@@ -22,7 +22,7 @@ use Rattle.fir_driver.specs.ReadingTexts.{Content, first_line, heading_of, behin
 use Rattle.fir_driver.proofs.ReadingSteps.{option_cases, bind_some, guard_some, some_is}
 use Rattle.fir_driver.proofs.ReadingFirstLine.{lines_at_first, lines_at_none}
 use Rattle.fir_driver.proofs.ReadingWordLaws.{same_bytes, after_takes, after_again, name_takes, name_again}
-use Rattle.fir_driver.proofs.ReadingLineLaws.{line_text, IsLine, IsLineText, line_takes, line_again}
+use Rattle.fir_driver.proofs.ReadingLineLaws.{line_text, IsLine, line_takes, line_again}
 
 abbrev content : List Port → List Statement → Content
 content ps ss = record { ports = ps; body = ss }
@@ -130,16 +130,17 @@ has_first bytes l ls e =
       | inl none ↦ absurd (not_whole bytes (sym (lines_at_none bytes none) ∙ e))
       | inr x ↦ by_lines x.0 x.1 (lines x.0.1) refl (sym (lines_at_first bytes x.0 x.1) ∙ e)
     ] where
-  not_whole : (bs : List ℕ) → whole bs ≡ Some (l ∷ ls) → ⊥
-  not_whole [] h = cc
-  not_whole (b ∷ bs) h = cc
-  by_lines : (x : List ℕ × List ℕ) → first_line bytes ≡ Some x → (o : Option (List (List ℕ))) → lines x.1 ≡ o → option_map (in_lines x.0) o ≡ Some (l ∷ ls) → HasFirst bytes l ls
-  by_lines x h (Some ms) o e =
-      let same : x.0 ∷ ms ≡ l ∷ ls = some_is (x.0 ∷ ms) (l ∷ ls) e in
-      let head : x.0 ≡ l = cc in
-      let tail : ms ≡ ls = cc in
-      record { rest = x.1; first = h ∙ ap (λ (t : List ℕ). Some (t, x.1)) head; others = o ∙ ap (λ (t : List (List ℕ)). Some t) tail }
-  by_lines x h None o e = absurd cc
+      not_whole : (bs : List ℕ) → whole bs ≡ Some (l ∷ ls) → ⊥
+      not_whole [] h = cc
+      not_whole (b ∷ bs) h = cc
+
+      by_lines : (x : List ℕ × List ℕ) → first_line bytes ≡ Some x → (o : Option (List (List ℕ))) → lines x.1 ≡ o → option_map (in_lines x.0) o ≡ Some (l ∷ ls) → HasFirst bytes l ls
+      by_lines x h (Some ms) o e =
+          let same : x.0 ∷ ms ≡ l ∷ ls = some_is (x.0 ∷ ms) (l ∷ ls) e in
+          let head : x.0 ≡ l = cc in
+          let tail : ms ≡ ls = cc in
+          record { rest = x.1; first = h ∙ ap (λ (t : List ℕ). Some (t, x.1)) head; others = o ∙ ap (λ (t : List (List ℕ)). Some t) tail }
+      by_lines x h None o e = absurd cc
 
 pub circuit_again : (bytes : List ℕ) (c : Circuit) → Spells bytes c → circuit_at bytes ≡ Some c
 unfolding circuit_at

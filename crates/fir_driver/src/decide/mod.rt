@@ -3,4 +3,3 @@
 pub mod spells;
 mod text;
 mod written;
-

@@ -38,11 +38,7 @@ fn read_not(alloc: Global, args: &[u8]) -> Result<Expr, Refused<Unsupported>>
 }
 
 #[tactic(auto, unfolding(crate::specs::ReadingExprs::bitwise_of))]
-fn read_bitwise(
-    alloc: Global,
-    op: BitwiseOp,
-    args: &[u8],
-) -> Result<Expr, Refused<Unsupported>>
+fn read_bitwise(alloc: Global, op: BitwiseOp, args: &[u8]) -> Result<Expr, Refused<Unsupported>>
     ensures { Gives (λ e. e) result (bitwise_of op args.now) }
 {
     let (left, rest) = read_name(alloc, args)?;

@@ -10,8 +10,8 @@ mod text;
 mod word;
 
 pub use fault::Unsupported;
-pub use name::is_name;
 pub use law::spells_one_circuit;
+pub use name::is_name;
 pub use text::read_circuit;
 
 #[cfg(test)]

@@ -15,11 +15,7 @@ use std::alloc::Global;
 
 /// The port behind its direction.
 #[tactic(auto, unfolding(crate::specs::ReadingLines::port_of))]
-fn read_port(
-    alloc: Global,
-    direction: Direction,
-    text: &[u8],
-) -> Result<Port, Refused<Unsupported>>
+fn read_port(alloc: Global, direction: Direction, text: &[u8]) -> Result<Port, Refused<Unsupported>>
     ensures { Gives (λ p. p) result (port_of direction text.now) }
 {
     let front = after(b" ", text)?;

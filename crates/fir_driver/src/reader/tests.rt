@@ -19,7 +19,8 @@ fn is_taken_inside(alloc: Global, lines: &[u8]) -> Result<bool, MemoryOut> {
     is_taken(alloc, text.as_slice())
 }
 
-const XOR: &[u8] = b"circuit T :\n  module T :\n    input a : UInt<4>\n    input b : UInt<4>\n    output o : UInt<4>\n    o <= xor(a, b)\n";
+const XOR: &[u8] =
+    b"circuit T :\n  module T :\n    input a : UInt<4>\n    input b : UInt<4>\n    output o : UInt<4>\n    o <= xor(a, b)\n";
 
 const TEXTS: &[(&[u8], bool)] = &[
     (XOR, true),
@@ -78,7 +79,9 @@ fn texts_are_taken_or_not(rt: HostRuntime) -> Result<(), Fail> {
 
 #[test]
 fn other_texts_are_not_spelled(rt: HostRuntime) -> Result<(), Fail> {
-    let circuit = read_circuit(rt.alloc(), XOR).ok().ok_or("the text is a circuit")?;
+    let circuit = read_circuit(rt.alloc(), XOR)
+        .ok()
+        .ok_or("the text is a circuit")?;
     for (text, _) in TEXTS {
         assert_eq!(rt; spells(rt.alloc(), text, &circuit)?, *text == XOR);
     }
