@@ -13,12 +13,9 @@ use Rattle.fir_driver.specs.declared.reader.line.Line.TheVariants as line
 use Rattle.fir_driver.specs.Lines.{lines_from, lines}
 use Rattle.fir_driver.specs.Reading.{◌>>=◌, IsRefused}
 use Rattle.fir_driver.specs.ReadingLines.{line_of}
-use Rattle.fir_driver.specs.ReadingTexts.{Content, first_line, with_statement, with_line, content_of, content_at, with_last, next_content}
+use Rattle.fir_driver.specs.ReadingTexts.{Content, content, first_line, with_statement, with_line, content_of, content_at, with_last, next_content}
 use Rattle.fir_driver.proofs.ReadingSteps.{option_cases, bind_some, some_is}
 use Rattle.fir_driver.proofs.ReadingFirstLine.{lines_at_first, lines_at_none}
-
-abbrev pub content : List Port → List Statement → Content
-content ps ss = record { ports = ps; body = ss }
 
 abbrev behind : List ℕ → Content → Option (Content × List ℕ)
 behind rest d = Some (d, rest)

@@ -18,14 +18,11 @@ use Rattle.fir_driver.specs.ReadingRefusal.{MayRefuse}
 use Rattle.fir_driver.specs.Reading.{◌>>=◌, Gives, IsRefused}
 use Rattle.fir_driver.specs.ReadingWords.{after, name_at}
 use Rattle.fir_driver.specs.ReadingLines.{line_of}
-use Rattle.fir_driver.specs.ReadingTexts.{Content, first_line, heading_of, behind_module_name, with_statement, with_line, content_of, content_at, circuit_at}
+use Rattle.fir_driver.specs.ReadingTexts.{Content, content, first_line, heading_of, behind_module_name, with_statement, with_line, content_of, content_at, circuit_at}
 use Rattle.fir_driver.proofs.ReadingSteps.{option_cases, bind_some, guard_some, some_is}
 use Rattle.fir_driver.proofs.ReadingFirstLine.{lines_at_first, lines_at_none}
 use Rattle.fir_driver.proofs.ReadingWordLaws.{same_bytes, after_takes, after_again, name_takes, name_again}
 use Rattle.fir_driver.proofs.ReadingLineLaws.{line_text, IsLine, line_takes, line_again}
-
-abbrev content : List Port → List Statement → Content
-content ps ss = record { ports = ps; body = ss }
 
 -- lines of this content, with its names and widths
 record IsContentText (ls : List (List ℕ)) (c : Content) : Type 0 where
