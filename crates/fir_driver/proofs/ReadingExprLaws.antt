@@ -1,5 +1,5 @@
 -- Expressions: what is read is spelled so, and what is spelled so is read.
-use Rattle.std.proofs.Common.{◌≡◌, ℕ, Bool, true, false, cond, eqb, List, [], ◌∷◌, ◌++◌, length, Option, Some, None, refl, sym, ap, subst, ◌∙◌, append_assoc, inl, inr, arith}
+use Rattle.std.proofs.Common.{◌≡◌, ℕ, false, cond, eqb, List, [], ◌++◌, length, Some, None, refl, sym, ap, subst, ◌∙◌, append_assoc, inl, inr, arith}
 use Rattle.std.specs.Prelude.{codes}
 use Rattle.std.specs.Str.{bytes_eq}
 use Rattle.std.specs.List.{AllByRecursion}
@@ -15,7 +15,7 @@ use Rattle.fir_driver.specs.Reading.{◌>>=◌}
 use Rattle.fir_driver.specs.ReadingWords.{after, word, behind_word, is_name, name_at}
 use Rattle.fir_driver.specs.ReadingExprs.{op_of, not_of, bitwise_of, call_of, ref_of, expr_of}
 use Rattle.fir_driver.proofs.ReadingSteps.{bind_some, guard_some, chosen, some_is}
-use Rattle.fir_driver.proofs.ReadingWordLaws.{same_bytes, equal_bytes, after_takes, after_again, AreWordBytes, word_takes, word_again, behind_word_again, name_takes, name_again, name_word, is_name_from, name_from_test}
+use Rattle.fir_driver.proofs.ReadingWordLaws.{same_bytes, after_takes, after_again, AreWordBytes, word_takes, word_again, behind_word_again, name_takes, name_again, name_word, is_name_from, name_from_test}
 
 -- an expression of this text, with its names
 pub record IsExprText (s : List ℕ) (e : Expr) : Type 0 where

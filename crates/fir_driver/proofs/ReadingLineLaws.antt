@@ -1,8 +1,7 @@
 -- Lines inside a module: what is read is spelled so, and what is spelled so is read.
-use Rattle.std.proofs.Common.{◌≡◌, ℕ, Bool, true, false, cond, List, [], ◌∷◌, ◌++◌, Option, Some, None, refl, sym, ap, subst, ◌∙◌, append_assoc, inl, inr}
+use Rattle.std.proofs.Common.{◌≡◌, ℕ, true, false, cond, List, ◌++◌, Option, Some, None, refl, sym, ap, subst, ◌∙◌, append_assoc, inl, inr}
 use Rattle.std.specs.Prelude.{codes, decimal}
 use Rattle.std.specs.Str.{bytes_eq}
-use Rattle.std.specs.List.{AllByRecursion}
 use Rattle.std.proofs.lemmas.Bool.{both_ways, not-true, false_from_ne_true}
 use Rattle.fir_base.specs.declared.direction.Direction.{Direction}
 use Rattle.fir_base.specs.declared.direction.Direction.TheVariants.{Input, Output}
@@ -16,7 +15,6 @@ use Rattle.fir_driver.specs.declared.circuit.Statement.TheVariants as statement
 use Rattle.fir_driver.specs.declared.reader.line.Line.{Line}
 use Rattle.fir_driver.specs.declared.reader.line.Line.TheVariants as line
 use Rattle.fir_driver.specs.Names.{IsName, is_keyword}
-use Rattle.fir_driver.specs.declared.names.TheConstants.{KEYWORDS}
 use Rattle.fir_driver.specs.Spells.{IsPort, HasStatementNames, port_line, statement_line, expr_text}
 use Rattle.fir_driver.specs.Reading.{◌>>=◌}
 use Rattle.fir_driver.specs.ReadingWords.{after, word, behind_word, is_name, name_at, width_of}
@@ -24,7 +22,7 @@ use Rattle.fir_driver.specs.ReadingExprs.{expr_of}
 use Rattle.fir_driver.specs.ReadingLines.{port_of, node_of, connect_of, entry_of, line_of}
 use Rattle.fir_driver.proofs.ReadingSteps.{bind_some, guard_some, chosen, some_is}
 use Rattle.fir_driver.proofs.ReadingWordLaws.{same_bytes, after_takes, after_again, AreWordBytes, Stops, word_takes, word_again, behind_word_again, name_takes, name_again, name_word, is_name_from, name_from_test, width_takes, width_again, width_word}
-use Rattle.fir_driver.proofs.ReadingExprLaws.{IsExprText, expr_takes, expr_again}
+use Rattle.fir_driver.proofs.ReadingExprLaws.{expr_takes, expr_again}
 
 abbrev pub line_text : Line → List ℕ
 line_text (line.Port p) = port_line p

@@ -1,5 +1,5 @@
 -- Reading the lines one behind the other, as a loop does.
-use Rattle.std.proofs.Common.{◌≡◌, ℕ, Bool, true, false, cond, eqb, length, List, [], ◌∷◌, ◌++◌, Option, Some, None, refl, sym, ap, subst, ◌∙◌, append_assoc, inl, inr}
+use Rattle.std.proofs.Common.{◌≡◌, ℕ, true, false, eqb, length, List, [], ◌∷◌, ◌++◌, Option, Some, None, refl, sym, ap, subst, ◌∙◌, append_assoc, inl, inr}
 use Rattle.std.specs.Prelude.{option_map}
 use Rattle.std.proofs.lemmas.Bool.{eqb-true}
 use Rattle.std.proofs.lemmas.List.{append-nil, nil_from_length}
@@ -10,15 +10,12 @@ use Rattle.fir_driver.specs.declared.circuit.Port.{Port}
 use Rattle.fir_driver.specs.declared.circuit.Statement.{Statement}
 use Rattle.fir_driver.specs.declared.reader.line.Line.{Line}
 use Rattle.fir_driver.specs.declared.reader.line.Line.TheVariants as line
-use Rattle.fir_driver.specs.Lines.{whole, lines_from, lines}
+use Rattle.fir_driver.specs.Lines.{lines_from, lines}
 use Rattle.fir_driver.specs.Reading.{◌>>=◌, IsRefused}
 use Rattle.fir_driver.specs.ReadingLines.{line_of}
-use Rattle.fir_driver.specs.ReadingTexts.{Content, first_line, with_statement, with_line, content_of, content_at, with_port_behind, with_last, next_content}
+use Rattle.fir_driver.specs.ReadingTexts.{Content, content, first_line, with_statement, with_line, content_of, content_at, with_last, next_content}
 use Rattle.fir_driver.proofs.ReadingSteps.{option_cases, bind_some, some_is}
 use Rattle.fir_driver.proofs.ReadingFirstLine.{lines_at_first, lines_at_none}
-
-abbrev pub content : List Port → List Statement → Content
-content ps ss = record { ports = ps; body = ss }
 
 abbrev behind : List ℕ → Content → Option (Content × List ℕ)
 behind rest d = Some (d, rest)

@@ -1,5 +1,5 @@
 -- Texts: what is read is spelled so, and what is spelled so is read.
-use Rattle.std.proofs.Common.{◌≡◌, ℕ, Bool, true, false, cond, List, [], ◌∷◌, ◌++◌, Option, Some, None, refl, sym, ap, subst, ◌∙◌, append_assoc, map, inl, inr}
+use Rattle.std.proofs.Common.{◌≡◌, ℕ, true, cond, List, [], ◌∷◌, ◌++◌, Option, Some, None, refl, sym, ap, subst, ◌∙◌, append_assoc, map, inl, inr}
 use Rattle.std.specs.Prelude.{codes, option_map, Result, Ok, Err, IfOk, IfErr}
 use Rattle.std.specs.Str.{bytes_eq}
 use Rattle.std.specs.List.{AllByRecursion}
@@ -10,7 +10,7 @@ use Rattle.fir_driver.specs.declared.reader.line.Line.{Line}
 use Rattle.fir_driver.specs.declared.reader.line.Line.TheVariants as line
 use Rattle.fir_driver.specs.Names.{IsName}
 use Rattle.fir_driver.specs.Lines.{whole, lines}
-use Rattle.fir_driver.specs.Spells.{IsPort, HasStatementNames, IsWritten, Spells, port_line, statement_line, circuit_lines}
+use Rattle.fir_driver.specs.Spells.{IsPort, HasStatementNames, Spells, port_line, statement_line, circuit_lines}
 use Rattle.fir_base.specs.declared.refused.Refused.{Refused}
 use Rattle.fir_base.specs.declared.refused.Refused.TheVariants as refused
 use Rattle.fir_driver.specs.declared.reader.fault.Unsupported.{Unsupported}
@@ -18,14 +18,11 @@ use Rattle.fir_driver.specs.ReadingRefusal.{MayRefuse}
 use Rattle.fir_driver.specs.Reading.{◌>>=◌, Gives, IsRefused}
 use Rattle.fir_driver.specs.ReadingWords.{after, name_at}
 use Rattle.fir_driver.specs.ReadingLines.{line_of}
-use Rattle.fir_driver.specs.ReadingTexts.{Content, first_line, heading_of, behind_module_name, with_statement, with_line, content_of, content_at, circuit_at}
+use Rattle.fir_driver.specs.ReadingTexts.{Content, content, first_line, heading_of, behind_module_name, with_statement, with_line, content_of, content_at, circuit_at}
 use Rattle.fir_driver.proofs.ReadingSteps.{option_cases, bind_some, guard_some, some_is}
 use Rattle.fir_driver.proofs.ReadingFirstLine.{lines_at_first, lines_at_none}
 use Rattle.fir_driver.proofs.ReadingWordLaws.{same_bytes, after_takes, after_again, name_takes, name_again}
-use Rattle.fir_driver.proofs.ReadingLineLaws.{line_text, IsLine, IsLineText, line_takes, line_again}
-
-abbrev content : List Port → List Statement → Content
-content ps ss = record { ports = ps; body = ss }
+use Rattle.fir_driver.proofs.ReadingLineLaws.{line_text, IsLine, line_takes, line_again}
 
 -- lines of this content, with its names and widths
 record IsContentText (ls : List (List ℕ)) (c : Content) : Type 0 where

@@ -1,5 +1,5 @@
 -- A word by its first byte and the bytes behind it, as the code reads them.
-use Rattle.std.proofs.Common.{◌≡◌, ℕ, ◌-◌, ◌<◌, ◌&&◌, List, [], ◌∷◌, length, get_or, take, drop, refl, ap, arith}
+use Rattle.std.proofs.Common.{◌≡◌, ℕ, ◌-◌, ◌<◌, ◌&&◌, List, [], ◌∷◌, length, get_or, take, drop, ap, arith}
 use Rattle.std.specs.List.{list_all}
 use Rattle.std.proofs.lemmas.List.{take_all}
 use Rattle.ver_ast.specs.Names.{is_word_start, is_word_byte, is_word}

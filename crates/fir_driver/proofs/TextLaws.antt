@@ -1,7 +1,7 @@
 -- The one text of a circuit has its lines, and a text with these lines is that one.
-use Rattle.std.proofs.Common.{◌≡◌, ℕ, Bool, true, false, cond, ◌&&◌, not, eqb, nat_eq, List, [], ◌∷◌, ◌++◌, map, Option, Some, None, refl, sym, ap, subst, ◌∙◌, append_assoc, inl, inr}
+use Rattle.std.proofs.Common.{◌≡◌, ℕ, Bool, true, cond, not, nat_eq, List, [], ◌∷◌, ◌++◌, map, Option, Some, None, refl, sym, ap, subst, ◌∙◌, append_assoc, inl, inr}
 use Rattle.std.specs.Prelude.{codes, decimal, option_map}
-use Rattle.std.specs.List.{list_all, flat_map, AllByRecursion}
+use Rattle.std.specs.List.{list_all, AllByRecursion}
 use Rattle.std.proofs.lemmas.Bool.{and_parts, and_from, not-true, false_from_ne_true, both_ways, eqb-true, not_from_false}
 use Rattle.std.proofs.lemmas.List.{append-nil}
 use Rattle.fir_base.specs.declared.direction.Direction.{Direction}
@@ -17,7 +17,7 @@ use Rattle.fir_driver.specs.declared.circuit.Statement.TheVariants as statement
 use Rattle.fir_driver.specs.declared.circuit.Port.{Port}
 use Rattle.fir_driver.specs.declared.circuit.Circuit.{Circuit}
 use Rattle.fir_driver.specs.Names.{IsName}
-use Rattle.fir_driver.specs.Lines.{whole, lines_from, lines}
+use Rattle.fir_driver.specs.Lines.{lines_from, lines}
 use Rattle.fir_driver.specs.Spells.{IsPort, HasStatementNames, IsWritten, Spells, expr_names, expr_text, op_word, port_line, statement_line, circuit_lines}
 use Rattle.fir_driver.specs.Texts.{ended, text_of, circuit_text}
 use Rattle.fir_driver.proofs.ReadingSteps.{chosen, some_is}

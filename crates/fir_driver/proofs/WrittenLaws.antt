@@ -1,5 +1,5 @@
 -- The tests of a tree decide whether it can be written.
-use Rattle.std.proofs.Common.{◌≡◌, Bool, true, false, ◌&&◌, leb, List, [], ◌∷◌, refl}
+use Rattle.std.proofs.Common.{◌≡◌, Bool, true, ◌&&◌, leb, List, [], ◌∷◌, refl}
 use Rattle.std.specs.List.{list_all, AllByRecursion}
 use Rattle.std.proofs.lemmas.Bool.{and_parts, and_from, leb-true, le-leb}
 use Rattle.fir_driver.specs.declared.circuit.Expr.{Expr}

@@ -1,5 +1,5 @@
 -- Reading an expression, which is the whole rest of its line.
-use Rattle.std.specs.Prelude.{ℕ, List, [], ◌∷◌, length, codes, ◌==◌, if◌then◌else◌, Option, Some, None}
+use Rattle.std.specs.Prelude.{ℕ, List, length, codes, ◌==◌, if◌then◌else◌, Option, Some, None}
 use Rattle.std.specs.Str.{bytes_eq}
 use Rattle.fir_driver.specs.declared.circuit.BitwiseOp.{BitwiseOp}
 use Rattle.fir_driver.specs.declared.circuit.BitwiseOp.TheVariants.{And, Or, Xor}

@@ -6,7 +6,6 @@ use Rattle.fir_base.specs.declared.direction.Direction.TheVariants.{Input, Outpu
 use Rattle.fir_driver.specs.declared.circuit.Port.{Port}
 use Rattle.fir_driver.specs.declared.circuit.Node.{Node}
 use Rattle.fir_driver.specs.declared.circuit.Connect.{Connect}
-use Rattle.fir_driver.specs.declared.circuit.Statement.{Statement}
 use Rattle.fir_driver.specs.declared.circuit.Statement.TheVariants as statement
 use Rattle.fir_driver.specs.declared.reader.line.Line.{Line}
 use Rattle.fir_driver.specs.declared.reader.line.Line.TheVariants as line

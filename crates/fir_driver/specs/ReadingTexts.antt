@@ -34,17 +34,20 @@ pub record Content : Type 0 where
   pub ports : List Port
   pub body : List Statement
 
+abbrev pub content : List Port → List Statement → Content
+content ports body = record { ports = ports; body = body }
+
 -- a line in front of others; no port stands behind a statement
 abbrev pub with_statement : Statement → List Port → List Statement → Option Content
-with_statement s [] body = Some (record { ports = []; body = s ∷ body })
+with_statement s [] body = Some (content [] (s ∷ body))
 with_statement s (p ∷ ps) body = None
 
 abbrev pub with_line : Line → Content → Option Content
-with_line (line.Port p) c = Some (record { ports = p ∷ c.ports; body = c.body })
+with_line (line.Port p) c = Some (content (p ∷ c.ports) c.body)
 with_line (line.Statement s) c = with_statement s c.ports c.body
 
 unfoldable pub content_of : List (List ℕ) → Option Content
-content_of [] = Some (record { ports = []; body = [] })
+content_of [] = Some (content [] [])
 content_of (l ∷ ls) = do
   first ← line_of l
   others ← content_of ls
@@ -64,12 +67,12 @@ circuit_at bytes = do
 
 -- what a loop over the lines does: a line behind what was read
 abbrev pub with_port_behind : Port → Content → List Statement → Option Content
-with_port_behind p c [] = Some (record { ports = c.ports ++ p ∷ []; body = [] })
+with_port_behind p c [] = Some (content (c.ports ++ p ∷ []) [])
 with_port_behind p c (s ∷ ss) = None
 
 abbrev pub with_last : Content → Line → Option Content
 with_last c (line.Port p) = with_port_behind p c c.body
-with_last c (line.Statement s) = Some (record { ports = c.ports; body = c.body ++ s ∷ [] })
+with_last c (line.Statement s) = Some (content c.ports (c.body ++ s ∷ []))
 
 -- the content with the next line, and what stands behind that line
 unfoldable pub next_content : Content → List ℕ → Option (Content × List ℕ)

@@ -1,5 +1,5 @@
 -- Tests of a tree: whether each name in it is one, and each width in its range.
-use Rattle.std.specs.Prelude.{ℕ, Bool, ◌&&◌, nat_le, List}
+use Rattle.std.specs.Prelude.{Bool, ◌&&◌, nat_le}
 use Rattle.std.specs.List.{list_all}
 use Rattle.fir_driver.specs.declared.circuit.Expr.{Expr}
 use Rattle.fir_driver.specs.declared.circuit.Expr.TheVariants.{Ref, Not, Bitwise}

@@ -42,7 +42,8 @@ fn put_port(out: &mut Vec<u8>, port: &Port) -> Result<(), MemoryOut>
 }
 
 fn put_call(out: &mut Vec<u8>, word: &[u8], left: &Name, right: &Name) -> Result<(), MemoryOut>
-    ensures { OnOk result (out.new.items ≡ out.old.items ++ (word.now ++ codes "(" ++ left.now ++ codes ", " ++ right.now ++ codes ")")) }
+    ensures { OnOk result (out.new.items
+        ≡ out.old.items ++ (word.now ++ codes "(" ++ left.now ++ codes ", " ++ right.now ++ codes ")")) }
 {
     out.extend_from_slice(word)?;
     out.extend_from_slice(b"(")?;
@@ -108,7 +109,9 @@ fn put_body(out: &mut Vec<u8>, body: &[Statement]) -> Result<(), MemoryOut>
 }
 
 fn put_headings(out: &mut Vec<u8>, name: &Name) -> Result<(), MemoryOut>
-    ensures { OnOk result (out.new.items ≡ out.old.items ++ (ended (codes "circuit " ++ name.now ++ codes " :") ++ ended (codes "  module " ++ name.now ++ codes " :"))) }
+    ensures { OnOk result (out.new.items
+        ≡ out.old.items ++ (ended (codes "circuit " ++ name.now ++ codes " :")
+        ++ ended (codes "  module " ++ name.now ++ codes " :"))) }
 {
     out.extend_from_slice(b"circuit ")?;
     out.extend_from_slice(name.as_bytes())?;

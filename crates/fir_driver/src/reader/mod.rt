@@ -7,6 +7,7 @@ mod line;
 mod name;
 mod statement;
 mod text;
+mod width;
 mod word;
 
 pub use fault::Unsupported;

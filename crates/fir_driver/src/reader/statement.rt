@@ -9,7 +9,8 @@ use crate::reader::expr::read_expr;
 use crate::reader::fault::Unsupported;
 use crate::reader::line::Line;
 use crate::reader::name::{is_name, read_name};
-use crate::reader::word::{after, is_exactly, read_width, split_word};
+use crate::reader::width::read_width;
+use crate::reader::word::{after, is_exactly, split_word};
 use fir_base::{Direction, Name, Refused};
 use std::alloc::Global;
 

@@ -4,7 +4,7 @@ ghost use Rattle.std.specs.Prelude.{◌≡◌, ◌<◌, length, IfOk, IfErr};
 ghost use Rattle.fir_driver.specs.Spells.{Spells};
 ghost use Rattle.fir_driver.specs.Reading.{Gives};
 ghost use Rattle.fir_driver.specs.ReadingRefusal.{MayRefuse};
-ghost use Rattle.fir_driver.specs.ReadingTexts.{Content, first_line, heading_of, behind_module_name, content_at, circuit_at, with_last, next_content};
+ghost use Rattle.fir_driver.specs.ReadingTexts.{content, first_line, heading_of, behind_module_name, content_at, circuit_at, with_last, next_content};
 
 use crate::circuit::{Circuit, Port, Statement};
 use crate::reader::fault::Unsupported;
@@ -56,7 +56,8 @@ fn push_line(
     body: &mut Vec<Statement>,
     line: Line,
 ) -> Result<(), Refused<Unsupported>>
-    ensures { Gives (λ _. record { ports = ports.new.items; body = body.new.items }) result (with_last (record { ports = ports.old.items; body = body.old.items }) line) }
+    ensures { Gives (λ _. content ports.new.items body.new.items) result
+        (with_last (content ports.old.items body.old.items) line) }
 {
     match line {
         Line::Port(port) => {
@@ -78,7 +79,8 @@ fn read_next<'a>(
     body: &mut Vec<Statement>,
     bytes: &'a [u8],
 ) -> Result<&'a [u8], Refused<Unsupported>>
-    ensures content { Gives (λ rest. (record { ports = ports.new.items; body = body.new.items }, rest.now)) result (next_content (record { ports = ports.old.items; body = body.old.items }) bytes.now) }
+    ensures next { Gives (λ rest. (content ports.new.items body.new.items, rest.now)) result
+        (next_content (content ports.old.items body.old.items) bytes.now) }
     ensures shorter { IfOk result (λ rest. length rest.now < length bytes.now) }
 {
     let (text, rest) = split_line(bytes)?;
@@ -92,7 +94,7 @@ fn read_content(
     alloc: Global,
     bytes: &[u8],
 ) -> Result<(Vec<Port>, Vec<Statement>), Refused<Unsupported>>
-    ensures { Gives (λ x. record { ports = x.0.items; body = x.1.items }) result (content_at bytes.now) }
+    ensures { Gives (λ x. content x.0.items x.1.items) result (content_at bytes.now) }
 {
     let mut ports = Vec::new(alloc);
     let mut body = Vec::new(alloc);

@@ -5,7 +5,7 @@ ghost use Rattle.std.specs.Str.{bytes_eq};
 ghost use Rattle.std.specs.List.{list_all};
 ghost use Rattle.ver_ast.specs.Names.{is_letter, is_digit, is_word_start, is_word_byte, is_word};
 ghost use Rattle.fir_driver.specs.Reading.{Gives};
-ghost use Rattle.fir_driver.specs.ReadingWords.{after, word_len, word, behind_word, digit, width_from, width_of};
+ghost use Rattle.fir_driver.specs.ReadingWords.{after, word_len, word, behind_word};
 
 use crate::reader::fault::Unsupported;
 use fir_base::Refused;
@@ -31,13 +31,14 @@ pub fn is_exactly(text: &[u8], expected: &[u8]) -> bool
 fn is_letter(byte: u8) -> bool
     ensures { result ≡ is_letter byte }
 {
-    (97 <= byte && byte <= 122) || (65 <= byte && byte <= 90)
+    (b'a' <= byte && byte <= b'z') || (b'A' <= byte && byte <= b'Z')
 }
 
-fn is_digit(byte: u8) -> bool
+/// Whether the byte is a decimal digit.
+pub fn is_digit(byte: u8) -> bool
     ensures { result ≡ is_digit byte }
 {
-    48 <= byte && byte <= 57
+    b'0' <= byte && byte <= b'9'
 }
 
 fn is_word_start(byte: u8) -> bool
@@ -88,37 +89,5 @@ pub fn is_word(bytes: &[u8]) -> bool
     match bytes {
         [first, rest @ ..] => is_word_start(*first) && are_word_bytes(rest),
         [] => false,
-    }
-}
-
-fn digit(byte: u8) -> Result<u32, Refused<Unsupported>>
-    ensures { Gives (λ d. d) result (digit byte) }
-{
-    if !is_digit(byte) {
-        return Err(Refused::Fault(Unsupported));
-    }
-    Ok(u32::from(byte - b'0'))
-}
-
-fn width_from(least: u32, width: u32) -> Result<u32, Refused<Unsupported>>
-    ensures { Gives (λ w. w) result (width_from least width) }
-{
-    if least <= width && width <= 128 {
-        Ok(width)
-    } else {
-        Err(Refused::Fault(Unsupported))
-    }
-}
-
-/// The width in bits that the digits spell, without a leading zero.
-#[tactic(auto, unfolding(crate::specs::ReadingWords::width_of))]
-pub fn read_width(digits: &[u8]) -> Result<u32, Refused<Unsupported>>
-    ensures { Gives (λ w. w) result (width_of digits.now) }
-{
-    match digits {
-        [a] => width_from(1, digit(*a)?),
-        [a, b] => width_from(10, 10 * digit(*a)? + digit(*b)?),
-        [a, b, c] => width_from(100, 100 * digit(*a)? + 10 * digit(*b)? + digit(*c)?),
-        _ => Err(Refused::Fault(Unsupported)),
     }
 }

@@ -1,5 +1,4 @@
-use Rattle.std.proofs.Common.{◌≡◌, List, ℕ, sym, ap, ◌∙◌}
-use Rattle.std.specs.Str.{bytes_eq}
+use Rattle.std.proofs.Common.{sym, ◌∙◌}
 use Rattle.fir_driver.proofs.WrittenLaws.{written_from_test, test_from_written}
 use Rattle.fir_driver.proofs.ReadingWordLaws.{same_bytes, equal_bytes}
 use Rattle.fir_driver.proofs.TextLaws.{text_spells, spelled_is_text}
