@@ -6,3 +6,5 @@ pub mod OneCircuitPorts
 pub mod OneCircuit
 pub mod AcceptedTables
 pub mod AcceptedBody
+pub mod SettledWidths
+pub mod SettledLeaves

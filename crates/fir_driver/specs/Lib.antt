@@ -10,3 +10,4 @@ pub mod Lowered
 pub mod Compiles
 pub mod Tables
 pub mod Fitting
+pub mod Given
