@@ -6,6 +6,8 @@ mod circuit;
 mod decide;
 mod laws;
 mod names;
+#[cfg(test)]
+mod tests;
 
 pub use check::accepted;
 pub use circuit::{BitwiseOp, Circuit, Connect, Expr, Node, Port, Statement};
