@@ -28,3 +28,5 @@ pub mod LoweredValues
 pub mod Compiles
 pub mod LoweredTables
 pub mod Ended
+pub mod SettledWidths
+pub mod SettledLeaves

@@ -25,3 +25,4 @@ pub mod Emits
 pub mod Headline
 pub mod Complete
 pub mod Endings
+pub mod Given

@@ -17,6 +17,7 @@ use fitting::body_fits;
 use lists::{all_among, all_differ};
 use names::{connected_names, declared_names, output_names};
 use std::alloc::Global;
+pub use widths::one_width;
 
 /// Whether the circuit is accepted: its ports and nodes have distinct names, each name in an expression is
 /// an input or an earlier node, widths fit, and each output, and nothing else, is connected exactly once

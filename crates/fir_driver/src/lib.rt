@@ -22,9 +22,13 @@ pub use check::accepted;
 pub use circuit::{BitwiseOp, Circuit, Connect, Expr, Node, Port, Statement};
 pub use command::named_file;
 pub use decide::spells::spells;
+pub use decide::{NamedValue, TickValues, is_settled};
 pub use laws::accepted_has_one;
 pub use lower::compile;
 pub use names::is_keyword;
 pub use program::run;
 pub use reader::{Unsupported, read_circuit, spells_one_circuit};
 pub use status::Status;
+
+#[cfg(test)]
+mod tests;

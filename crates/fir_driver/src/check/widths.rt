@@ -68,7 +68,8 @@ pub fn expr_width(widths: &BTreeMap<Name, u32>, value: &Expr) -> Option<u32>
     }
 }
 
-fn one_width(a: Option<u32>, b: Option<u32>) -> Option<u32>
+/// The width of two operands, where it is one.
+pub fn one_width(a: Option<u32>, b: Option<u32>) -> Option<u32>
     ensures { result ≡ one_width a b }
 {
     match (a, b) {

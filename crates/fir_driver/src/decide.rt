@@ -1,0 +1,12 @@
+//! Plain programs that decide the definitions on small circuits. They follow the definitions word by word and
+//! are slow.
+
+mod leaves;
+mod settled;
+pub mod spells;
+mod text;
+mod values;
+mod written;
+
+pub use settled::is_settled;
+pub use values::{NamedValue, TickValues};

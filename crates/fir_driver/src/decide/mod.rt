@@ -1,5 +1,0 @@
-//! Plain programs that decide the definitions.
-
-pub mod spells;
-mod text;
-mod written;
