@@ -42,7 +42,7 @@ same_widths true a w h = (refl, (cc))
 same_widths false a w h = absurd (cc)
 
 -- operands of one width have that width
-both_widths : (a b : Option ℕ) (w : ℕ) → one_width a b ≡ Some w → (a ≡ Some w) × (b ≡ Some w)
+pub both_widths : (a b : Option ℕ) (w : ℕ) → one_width a b ≡ Some w → (a ≡ Some w) × (b ≡ Some w)
 both_widths None b w h = absurd (cc)
 both_widths (Some a) None w h = absurd (cc)
 both_widths (Some a) (Some b) w h =

@@ -7,7 +7,7 @@ use Rattle.ver_ast.specs.Nets.{Sized, names_of, shape as v_shape}
 use Rattle.ver_ast.specs.Settled.{VSettled}
 use Rattle.ver_ast.specs.Allows.{VOne, VAllows}
 use Rattle.ver_ast.specs.Laws.{ValidHasOne}
-use Rattle.ver_ast.proofs.Members.{in_map, in_map_from, in_left, in_right}
+use Rattle.fir_driver.proofs.AcceptedLists.{distinct_left, in_map, in_map_from, in_left, in_right}
 use Rattle.fir_driver.specs.declared.circuit.Expr.{Expr}
 use Rattle.fir_driver.specs.declared.circuit.Expr.TheVariants.{Ref, Not, Bitwise}
 use Rattle.fir_driver.specs.declared.circuit.Statement.{Statement}
@@ -21,7 +21,7 @@ use Rattle.fir_driver.specs.Allows.{One, Allows}
 use Rattle.fir_driver.specs.Laws.{AcceptedHasOne}
 use Rattle.fir_driver.specs.Compiles.{Compiles}
 use Rattle.fir_driver.specs.Lowered.{Inner, Driver, Lowering, driver_of, with_expr, with_statement, with_body, at_first, lowering, lowered}
-use Rattle.fir_driver.proofs.LoweredLists.{distinct_front, map_agrees}
+use Rattle.fir_driver.proofs.LoweredLists.{map_agrees}
 use Rattle.fir_driver.proofs.LoweredAlong.{same_drivers, sound_body}
 use Rattle.fir_driver.proofs.LoweredPorts.{sound_first}
 use Rattle.fir_driver.proofs.LoweredParts.{Parts, parts, inner_assign, output_assign}
@@ -57,7 +57,7 @@ sunk (statement.Connect k ∷ rest) l n (inr m) = sunk rest (with_statement l (s
 ready : (c : Circuit) → length c.body < 2 ^ 64 → IsWritten c → Accepted c → Ready c (lowering c)
 ready c small h a = record {
   ports = h.ports;
-  once = distinct_front (names_of (map port_leaf c.ports)) _ a.declared_once;
+  once = distinct_left (names_of (map port_leaf c.ports)) _ a.declared_once;
   reached = sound_body (inputs c) (outputs c) (inputs c) (at_first c) c.body (sound_first c h.ports) a.fitting;
   small = omega (arith, inner_count c.body (at_first c), small);
   driven = λ n m. sunk c.body (at_first c) n (inl (a.connected n m));

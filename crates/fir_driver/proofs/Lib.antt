@@ -18,7 +18,6 @@ pub mod AcceptedTables
 pub mod AcceptedBody
 pub mod LoweredNames
 pub mod LoweredLists
-pub mod LoweredLookUps
 pub mod LoweredAlong
 pub mod LoweredPorts
 pub mod LoweredParts

@@ -11,7 +11,7 @@ use Rattle.ver_ast.specs.declared.tree.Rhs.{Rhs}
 use Rattle.ver_ast.specs.declared.tree.Rhs.TheVariants as rhs
 use Rattle.ver_ast.specs.declared.tree.Atom.TheVariants as atom
 use Rattle.ver_ast.specs.declared.tree.UnaryOp.TheVariants as unary
-use Rattle.ver_ast.proofs.Members.{in_left, in_right, in_either}
+use Rattle.fir_driver.proofs.AcceptedLists.{in_left, in_right, in_either}
 use Rattle.fir_driver.specs.declared.circuit.Expr.{Expr}
 use Rattle.fir_driver.specs.declared.circuit.Expr.TheVariants.{Ref, Not, Bitwise}
 use Rattle.fir_driver.specs.declared.circuit.Statement.{Statement}
@@ -20,7 +20,7 @@ use Rattle.fir_driver.specs.declared.circuit.Node.{Node}
 use Rattle.fir_driver.specs.declared.circuit.Connect.{Connect}
 use Rattle.fir_driver.specs.Leaves.{look_up, expr_width}
 use Rattle.fir_driver.specs.Accepted.{Fits}
-use Rattle.fir_driver.proofs.LoweredLookUps.{look_up_in, one_width_is}
+use Rattle.fir_driver.proofs.AcceptedWidths.{look_up_in, both_widths}
 use Rattle.fir_driver.specs.Lowered.{Place, Binding, Inner, Driver, Lowering, inner_name, place_of, net_of, width_at, binary_op, with_operator, with_expr, expr_place, with_statement, with_body}
 
 abbrev pub binding_leaf : Binding → Sized
@@ -162,7 +162,7 @@ module _ (ins outs visible : List Sized) (l : Lowering) (s : Sound ins outs visi
       }
   sound_expr (Bitwise op a b) w e =
       let value = rhs.Binary (atom.Net (net_of l.bindings a)) (binary_op op) (atom.Net (net_of l.bindings b)) in
-      let both = one_width_is (look_up visible a) (look_up visible b) w e in
+      let both = both_widths (look_up visible a) (look_up visible b) w e in
       let p = place_at a w both.0 in
       let q : In (known ins l.inner) (net_of l.bindings b, width_at l a) = subst (λ (k : ℕ). In (known ins l.inner) (net_of l.bindings b, k)) (sym p.1) (place_wide b w both.1) in
       record {

@@ -16,7 +16,8 @@ use Rattle.fir_driver.specs.declared.circuit.Circuit.{Circuit}
 use Rattle.fir_driver.specs.Leaves.{inputs, outputs, port_leaf, output_leaf}
 use Rattle.fir_driver.specs.Lowered.{Inner, Driver, driver_of, output_item, wire_item, assign_item, verilog_port, lowering, lowered}
 use Rattle.fir_driver.proofs.LoweredAlong.{inner_leaf}
-use Rattle.fir_driver.proofs.LoweredPorts.{outputs_of, same_ports, same_inputs, same_outputs}
+use Rattle.fir_driver.proofs.LoweredPorts.{same_ports, same_inputs, same_outputs}
+use Rattle.fir_driver.proofs.OneCircuitPorts.{outputs_of}
 
 abbrev pub inner_assign : Inner → Assign
 inner_assign i = record { target = i.name; rhs = i.rhs }

@@ -8,7 +8,8 @@ use Rattle.fir_base.specs.declared.direction.Direction.TheVariants.{Input, Outpu
 use Rattle.fir_base.specs.Lists.{In, Distinct}
 use Rattle.ver_ast.specs.declared.tree.Port.{Port as VPort}
 use Rattle.ver_ast.specs.Nets.{Sized, port_net, input_net, output_net, names_of}
-use Rattle.ver_ast.proofs.Members.{in_map, in_left, in_either}
+use Rattle.fir_driver.proofs.AcceptedLists.{in_map, in_map_more, in_left, in_either}
+use Rattle.fir_driver.proofs.OneCircuitPorts.{inputs_of, outputs_of, input_is_port, output_is_port}
 use Rattle.fir_driver.specs.declared.circuit.Port.{Port}
 use Rattle.fir_driver.specs.declared.circuit.Circuit.{Circuit}
 use Rattle.fir_driver.specs.Names.{IsName}
@@ -17,36 +18,8 @@ use Rattle.fir_driver.specs.Leaves.{inputs, outputs, port_leaf, input_leaf, outp
 use Rattle.fir_driver.specs.Lowered.{Binding, input_binding, at_first, verilog_port}
 use Rattle.fir_driver.proofs.LoweredAlong.{Sound, binding_leaf, known}
 
-abbrev pub inputs_of : List Port → List Sized
-inputs_of = flat_map (λ p. input_leaf p.direction p)
-
-abbrev pub outputs_of : List Port → List Sized
-outputs_of = flat_map (λ p. output_leaf p.direction p)
-
 abbrev pub bindings_of : List Port → List Binding
 bindings_of = flat_map (λ p. input_binding p.direction p)
-
-input_is_leaf : (d : Direction) (p : Port) (s : Sized) → In (input_leaf d p) s → port_leaf p ≡ s
-input_is_leaf Input p s (inl e) = e
-input_is_leaf Input p s (inr m) = absurd m
-input_is_leaf Output p s m = absurd m
-
-output_is_leaf : (d : Direction) (p : Port) (s : Sized) → In (output_leaf d p) s → port_leaf p ≡ s
-output_is_leaf Input p s m = absurd m
-output_is_leaf Output p s (inl e) = e
-output_is_leaf Output p s (inr m) = absurd m
-
-pub input_is_port : (ps : List Port) (s : Sized) → In (inputs_of ps) s → In (map port_leaf ps) s
-input_is_port [] s m = m
-input_is_port (p ∷ ps) s m =
-    ⊎_elim (λ (n : In (input_leaf p.direction p) s). inl (input_is_leaf p.direction p s n)) (λ (n : In (inputs_of ps) s). inr (input_is_port ps s n))
-    (in_either (input_leaf p.direction p) (inputs_of ps) s m)
-
-pub output_is_port : (ps : List Port) (s : Sized) → In (outputs_of ps) s → In (map port_leaf ps) s
-output_is_port [] s m = m
-output_is_port (p ∷ ps) s m =
-    ⊎_elim (λ (n : In (output_leaf p.direction p) s). inl (output_is_leaf p.direction p s n)) (λ (n : In (outputs_of ps) s). inr (output_is_port ps s n))
-    (in_either (output_leaf p.direction p) (outputs_of ps) s m)
 
 -- a port's name is one, and its width is in range
 pub port_is : (ps : List Port) (n : List ℕ) (w : ℕ) → AllByRecursion IsPort ps → In (map port_leaf ps) (n, w) → IsName n × (1 ≤ w) × (w ≤ 128)
@@ -55,33 +28,15 @@ port_is (p ∷ ps) n w h (inl e) =
     subst (λ (s : Sized). IsName s.0 × (1 ≤ s.1) × (s.1 ≤ 128)) e (h.0.named, h.0.wide, h.0.narrow)
 port_is (p ∷ ps) n w h (inr m) = port_is ps n w h.1 m
 
--- the names of the outputs differ, and no input has one
-pub record Apart (ins outs : List Sized) : Type 0 where
-  pub once : Distinct (names_of outs)
-  pub apart : (n : List ℕ) → In (names_of ins) n → In (names_of outs) n → ⊥
+once_at : (d : Direction) (p : Port) (outs : List Sized) → (In (names_of outs) p.name → ⊥) → Distinct (names_of outs) → Distinct (names_of (output_leaf d p ++ outs))
+once_at Input p outs fresh h = h
+once_at Output p outs fresh h = (fresh, h)
 
-names_in_ports : (ps : List Port) (ls : List Sized) → ((s : Sized) → In ls s → In (map port_leaf ps) s) → (n : List ℕ) → In (names_of ls) n → In (names_of (map port_leaf ps)) n
-names_in_ports ps [] sub n m = absurd m
-names_in_ports ps (l ∷ ls) sub n (inl e) = subst (In (names_of (map port_leaf ps))) e (in_map (λ (s : Sized). s.0) (map port_leaf ps) l (sub l (inl refl)))
-names_in_ports ps (l ∷ ls) sub n (inr m) = names_in_ports ps ls (λ s o. sub s (inr o)) n m
-
-apart_at : (d : Direction) (p : Port) (ins outs : List Sized) → (In (names_of ins) p.name → ⊥) → (In (names_of outs) p.name → ⊥) → Apart ins outs → Apart (input_leaf d p ++ ins) (output_leaf d p ++ outs)
-apart_at Input p ins outs i o a = record {
-  once = a.once;
-  apart = λ n m k. ⊎_elim (λ (e : p.name ≡ n). o (subst (In (names_of outs)) (sym e) k)) (λ (q : In (names_of ins) n). a.apart n q k) m;
-}
-apart_at Output p ins outs i o a = record {
-  once = (o, a.once);
-  apart = λ n m k. ⊎_elim (λ (e : p.name ≡ n). i (subst (In (names_of ins)) (sym e) m)) (λ (q : In (names_of outs) n). a.apart n m q) k;
-}
-
-pub ports_apart : (ps : List Port) → Distinct (names_of (map port_leaf ps)) → Apart (inputs_of ps) (outputs_of ps)
-ports_apart [] d = record { once = tt; apart = λ n m k. m }
-ports_apart (p ∷ ps) d =
-    apart_at p.direction p (inputs_of ps) (outputs_of ps)
-    (λ m. d.0 (names_in_ports ps (inputs_of ps) (input_is_port ps) p.name m))
-    (λ m. d.0 (names_in_ports ps (outputs_of ps) (output_is_port ps) p.name m))
-    (ports_apart ps d.1)
+-- where the ports' names stand once, so do the outputs'
+pub outputs_once : (ps : List Port) → Distinct (names_of (map port_leaf ps)) → Distinct (names_of (outputs_of ps))
+outputs_once [] d = tt
+outputs_once (p ∷ ps) d =
+    once_at p.direction p (outputs_of ps) (λ m. d.0 (in_map_more (λ (s : Sized). s.0) (outputs_of ps) (map port_leaf ps) (output_is_port ps) p.name m)) (outputs_once ps d.1)
 
 -- the tree's ports are the circuit's
 pub same_ports : (ps : List Port) → map port_net (map verilog_port ps) ≡ map port_leaf ps

@@ -12,7 +12,7 @@ use Rattle.ver_ast.specs.Names.{IsName as IsVerilogName}
 use Rattle.ver_ast.specs.Spells.{HasNames, HasItemNames, rhs_names}
 use Rattle.ver_ast.specs.Nets.{Sized, wire_net, wires, nets, item_assign, names_of}
 use Rattle.ver_ast.specs.Valid.{HasOneWidth}
-use Rattle.ver_ast.proofs.Members.{in_map, in_right, in_either}
+use Rattle.fir_driver.proofs.AcceptedLists.{in_map, in_right, in_either}
 use Rattle.fir_driver.specs.declared.circuit.Port.{Port}
 use Rattle.fir_driver.specs.declared.circuit.Circuit.{Circuit}
 use Rattle.fir_driver.specs.Spells.{IsPort, IsWritten}

@@ -14,16 +14,17 @@ use Rattle.ver_ast.specs.declared.tree.Item.TheVariants as item
 use Rattle.ver_ast.specs.Spells.{rhs_names}
 use Rattle.ver_ast.specs.Nets.{Sized, inputs as v_inputs, outputs as v_outputs, wires, nets, assigns, targets, names_of}
 use Rattle.ver_ast.specs.Valid.{Valid, reads, DeclaredBefore, HasOneWidth, ReadsBefore}
-use Rattle.ver_ast.proofs.Members.{in_map, in_map_from, in_left, in_right, in_either, each_in, one_second}
+use Rattle.fir_driver.proofs.AcceptedLists.{in_map, in_map_from, in_left, in_right, in_either, in_map_more, one_second}
 use Rattle.fir_driver.specs.declared.circuit.Circuit.{Circuit}
 use Rattle.fir_driver.specs.Names.{IsName}
 use Rattle.fir_driver.specs.Spells.{IsPort}
 use Rattle.fir_driver.specs.Leaves.{inputs, outputs, port_leaf}
 use Rattle.fir_driver.specs.Lowered.{Inner, Driver, Lowering, driver_of, wire_item, assign_item}
 use Rattle.fir_driver.proofs.LoweredNames.{inner_name_injective, outer_is_not_inner}
-use Rattle.fir_driver.proofs.LoweredLists.{distinct_append, each_from}
+use Rattle.fir_driver.proofs.LoweredLists.{distinct_append, each_in_more}
 use Rattle.fir_driver.proofs.LoweredAlong.{Reached, known, inner_leaf, ReadsKnown, Numbered, numbered_at}
-use Rattle.fir_driver.proofs.LoweredPorts.{Apart, input_is_port, output_is_port, ports_apart, port_is}
+use Rattle.fir_driver.proofs.LoweredPorts.{outputs_once, port_is}
+use Rattle.fir_driver.proofs.OneCircuitPorts.{input_is_port, output_is_port, inputs_apart}
 use Rattle.fir_driver.proofs.LoweredParts.{Parts, inner_assign, output_assign, inner_targets, output_targets}
 
 abbrev first : Sized → List ℕ
@@ -61,7 +62,7 @@ reading_at : (ins : List Sized) (xs : List Inner) (i : Inner) → ReadsKnown ins
 reading_at ins [] i h m = absurd m
 reading_at ins (x ∷ xs) i h (inl e) =
     subst (λ (k : Inner). EachIn (map (λ n. (n, k.width)) (rhs_names k.rhs)) (known ins (x ∷ xs))) e
-    (each_from _ (known ins (x ∷ xs)) (λ s m. in_left ins (map inner_leaf (x ∷ xs)) s (each_in _ ins h.0 s m)))
+    (each_in_more _ ins (known ins (x ∷ xs)) h.0 (in_left ins (map inner_leaf (x ∷ xs))))
 reading_at ins (x ∷ xs) i h (inr m) =
     subst (EachIn (map (λ n. (n, i.width)) (rhs_names i.rhs))) (append_assoc ins (inner_leaf x ∷ []) (map inner_leaf xs)) (reading_at (ins ++ inner_leaf x ∷ []) xs i h.1 m)
 
@@ -128,8 +129,8 @@ module _ (c : Circuit) (l : Lowering) (r : Ready c l) (v : Verilog) (p : Parts c
   reading : ReadsKnown (inputs c) l.inner
   reading = r.reached.sound.reading
 
-  apart : Apart (inputs c) (outputs c)
-  apart = ports_apart c.ports r.once
+  once_out : Distinct (names_of (outputs c))
+  once_out = outputs_once c.ports r.once
 
   pub nets_are : nets v ≡ map port_leaf c.ports ++ map inner_leaf l.inner
   nets_are = rw (p.ports_are, p.wires_are) refl
@@ -153,7 +154,7 @@ module _ (c : Circuit) (l : Lowering) (r : Ready c l) (v : Verilog) (p : Parts c
       let f = found_driver l.drivers s.0 (r.driven s.0 (in_map first (outputs c) s m)) in
       let d = r.reached.sound.driven f.driver f.listed in
       let out : In (outputs c) (s.0, d.0) = subst (λ (n : List ℕ). In (outputs c) (n, d.0)) f.sunk d.1 in
-      let same : d.0 ≡ s.1 = one_second (outputs c) apart.once s.0 d.0 s.1 out m in
+      let same : d.0 ≡ s.1 = one_second (outputs c) once_out s.0 d.0 s.1 out m in
       let net : In nets_known (driver_of l.drivers s.0, d.0) = subst (λ (n : List ℕ). In nets_known (n, d.0)) (sym f.net) d.2 in
       subst (λ (w : ℕ). In nets_known (driver_of l.drivers s.0, w)) same net
 
@@ -167,14 +168,10 @@ module _ (c : Circuit) (l : Lowering) (r : Ready c l) (v : Verilog) (p : Parts c
   not_inner n m o = let j = numbered_at 0 l.inner n r.reached.sound.numbered o in outer_is_not_inner n j.0 (port_name_is n m) j.3
 
   input_name_is_port : (n : List ℕ) → In (names_of (inputs c)) n → In (names_of (map port_leaf c.ports)) n
-  input_name_is_port n m =
-      let t = in_map_from first (inputs c) n m in
-      subst (In (names_of (map port_leaf c.ports))) t.2 (in_map first (map port_leaf c.ports) t.0 (input_is_port c.ports t.0 t.1))
+  input_name_is_port = in_map_more first (inputs c) (map port_leaf c.ports) (input_is_port c.ports)
 
   output_name_is_port : (n : List ℕ) → In output_names n → In (names_of (map port_leaf c.ports)) n
-  output_name_is_port n m =
-      let t = in_map_from first (outputs c) n m in
-      subst (In (names_of (map port_leaf c.ports))) t.2 (in_map first (map port_leaf c.ports) t.0 (output_is_port c.ports t.0 t.1))
+  output_name_is_port = in_map_more first (outputs c) (map port_leaf c.ports) (output_is_port c.ports)
 
   inner_once : Distinct inner_names
   inner_once = numbered_once 0 l.inner (omega (arith, r.small)) r.reached.sound.numbered
@@ -226,7 +223,7 @@ module _ (c : Circuit) (l : Lowering) (r : Ready c l) (v : Verilog) (p : Parts c
   inner_fits i m = (
     i.width,
     inner_is_net i m,
-    each_from (map (λ n. (n, i.width)) (rhs_names i.rhs)) (nets v) (λ s o. known_is_net s (each_in (map (λ n. (n, i.width)) (rhs_names i.rhs)) nets_known (reading_at (inputs c) l.inner i reading m) s o)),
+    each_in_more (map (λ n. (n, i.width)) (rhs_names i.rhs)) nets_known (nets v) (reading_at (inputs c) l.inner i reading m) known_is_net,
   )
 
   output_fits : (s : Sized) → In (outputs c) s → HasOneWidth v (output_assign l.drivers s)
@@ -245,7 +242,7 @@ module _ (c : Circuit) (l : Lowering) (r : Ready c l) (v : Verilog) (p : Parts c
 
   driven_once : Distinct (targets (assigns v))
   driven_once =
-      rw targets_are (distinct_append inner_names output_names inner_once apart.once (λ n m o. not_inner n (output_name_is_port n o) m))
+      rw targets_are (distinct_append inner_names output_names inner_once once_out (λ n m o. not_inner n (output_name_is_port n o) m))
 
   driven_are : names_of (wires v ++ v_outputs v) ≡ inner_names ++ output_names
   driven_are = rw (p.wires_are, p.outputs_are) (map-append first (map inner_leaf l.inner) (outputs c))
@@ -253,7 +250,7 @@ module _ (c : Circuit) (l : Lowering) (r : Ready c l) (v : Verilog) (p : Parts c
   undriven : (n : List ℕ) → In (names_of (v_inputs v)) n → In (targets (assigns v)) n → ⊥
   undriven n m t =
       let i : In (names_of (inputs c)) n = subst (λ k. In (names_of k) n) p.inputs_are m in
-      ⊎_elim (λ (o : In inner_names n). not_inner n (input_name_is_port n i) o) (λ (o : In output_names n). apart.apart n i o)
+      ⊎_elim (λ (o : In inner_names n). not_inner n (input_name_is_port n i) o) (λ (o : In output_names n). inputs_apart c.ports r.once n i o)
       (in_either inner_names output_names n (subst (λ k. In k n) targets_are t))
 
   after_reads : ReadsBefore (names_of (v_inputs v)) (assigns v)

@@ -5,7 +5,7 @@ use Rattle.fir_base.specs.Lists.{In, Distinct}
 use Rattle.fir_base.specs.Ticks.{Env, Tick}
 use Rattle.ver_ast.specs.Nets.{Sized, names_of}
 use Rattle.ver_ast.specs.Settled.{rhs_value, binary_value}
-use Rattle.ver_ast.proofs.Members.{in_map, in_left, in_right}
+use Rattle.fir_driver.proofs.AcceptedLists.{in_map, in_left, in_right}
 use Rattle.fir_driver.specs.declared.circuit.BitwiseOp.{BitwiseOp}
 use Rattle.fir_driver.specs.declared.circuit.BitwiseOp.TheVariants.{And, Or, Xor}
 use Rattle.fir_driver.specs.declared.circuit.Expr.{Expr}
@@ -19,10 +19,13 @@ use Rattle.fir_driver.specs.Leaves.{inputs, outputs, look_up, expr_width, leaves
 use Rattle.fir_driver.specs.Accepted.{Accepted, Fits, node_name}
 use Rattle.fir_driver.specs.Settled.{Settled, expr_value, bitwise_value}
 use Rattle.fir_driver.specs.Lowered.{Place, Binding, Inner, Driver, Lowering, net_of, width_at, binary_op, with_expr, expr_place, with_statement, with_body, at_first}
-use Rattle.fir_driver.proofs.LoweredLists.{distinct_front, distinct_moved, agrees_from_map}
-use Rattle.fir_driver.proofs.LoweredLookUps.{look_up_in, one_width_is, width_among_more}
+use Rattle.fir_driver.proofs.LoweredLists.{agrees_from_map}
+use Rattle.fir_driver.proofs.AcceptedLists.{distinct_left, middle_first}
+use Rattle.fir_driver.proofs.AcceptedWidths.{look_up_in, both_widths, width_among_more}
+use Rattle.fir_driver.proofs.OneCircuitOrder.{stays_leaf}
+use Rattle.fir_driver.proofs.OneCircuitPorts.{input_is_port, output_is_port}
 use Rattle.fir_driver.proofs.LoweredAlong.{Sound, binding_leaf, found, place_at, sound_node, sound_connect, same_bindings, same_drivers}
-use Rattle.fir_driver.proofs.LoweredPorts.{bindings_of, first_leaves, first_places, output_is_port, input_is_port}
+use Rattle.fir_driver.proofs.LoweredPorts.{bindings_of, first_leaves, first_places}
 
 -- along the body each name has the value of its expression, at the expression's width over what is visible
 abbrev pub Holds : Env → List Sized → List Sized → List Statement → Type 0
@@ -37,32 +40,27 @@ record Meets (e : Env) (leaves : List Sized) (body : List Statement) : Type 0 wh
   nodes : (n : Node) (w : ℕ) → In body (statement.Node n) → In (leaves_behind leaves body) (n.name, w) → e n.name ≡ expr_value e w n.value
   sinks : (k : Connect) (w : ℕ) → In body (statement.Connect k) → In (leaves_behind leaves body) (k.sink, w) → e k.sink ≡ expr_value e w k.source
 
-leaf_kept : (body : List Statement) (leaves : List Sized) (s : Sized) → In leaves s → In (leaves_behind leaves body) s
-leaf_kept [] leaves s m = m
-leaf_kept (statement.Node n ∷ rest) leaves s m = leaf_kept rest ((n.name, unwrap_or (expr_width leaves n.value) 0) ∷ leaves) s (inr m)
-leaf_kept (statement.Connect k ∷ rest) leaves s m = leaf_kept rest leaves s m
-
 holds : (e : Env) (outs visible leaves : List Sized) (body : List Statement) → Fits outs visible body → Meets e leaves body → Distinct (names_of leaves ++ flat_map node_name body) → ((s : Sized) → In visible s → In leaves s) → ((s : Sized) → In outs s → In leaves s) → Holds e outs visible body
 holds e outs visible leaves [] fits h d sub out = tt
 holds e outs visible leaves (statement.Node n ∷ rest) fits h d sub out =
     let w = fits.0 in
     let more : List Sized = (n.name, unwrap_or (expr_width leaves n.value) 0) ∷ leaves in
     let wide : expr_width leaves n.value ≡ Some w =
-    width_among_more visible leaves (distinct_front (names_of leaves) (flat_map node_name (statement.Node n ∷ rest)) d) sub n.value w fits.1 in
+    width_among_more visible leaves n.value w (distinct_left (names_of leaves) (flat_map node_name (statement.Node n ∷ rest)) d) sub fits.1 in
     let leaf : (n.name, unwrap_or (expr_width leaves n.value) 0) ≡ (n.name, w) = ap (λ (o : Option ℕ). (n.name, unwrap_or o 0)) wide in
     let later : Meets e more rest = record { nodes = λ m u i o. h.nodes m u (inr i) o; sinks = λ m u i o. h.sinks m u (inr i) o } in
     let subs : (s : Sized) → In ((n.name, w) ∷ visible) s → In more s =
     λ s m. ⊎_elim (λ (i : (n.name, w) ≡ s). inl (leaf ∙ i)) (λ (i : In visible s). inr (sub s i)) m in (
       w,
       fits.1,
-      h.nodes n w (inl refl) (leaf_kept rest more (n.name, w) (inl leaf)),
-      holds e outs ((n.name, w) ∷ visible) more rest fits.2 later (distinct_moved (names_of leaves) n.name (flat_map node_name rest) d) subs (λ s m. inr (out s m)),
+      h.nodes n w (inl refl) (stays_leaf more rest (n.name, w) (inl leaf)),
+      holds e outs ((n.name, w) ∷ visible) more rest fits.2 later (middle_first (names_of leaves) n.name (flat_map node_name rest) d) subs (λ s m. inr (out s m)),
     )
 holds e outs visible leaves (statement.Connect k ∷ rest) fits h d sub out =
     let w = fits.0 in
     let o = look_up_in outs k.sink w fits.2 in
     let later : Meets e leaves rest = record { nodes = λ m u i o. h.nodes m u (inr i) o; sinks = λ m u i o. h.sinks m u (inr i) o } in
-    (w, fits.1, h.sinks k w (inl refl) (leaf_kept rest leaves (k.sink, w) (out (k.sink, w) o)), o, holds e outs visible leaves rest fits.3 later d sub out)
+    (w, fits.1, h.sinks k w (inl refl) (stays_leaf leaves rest (k.sink, w) (out (k.sink, w) o)), o, holds e outs visible leaves rest fits.3 later d sub out)
 
 pub settled_holds : (c : Circuit) (state : List ℕ) (tick : Tick) (e : Env) → Accepted c → Settled c state tick e → Holds e (outputs c) (inputs c) c.body
 settled_holds c state tick e a s =
@@ -106,7 +104,7 @@ module _ (e f : Env) (ins outs visible : List Sized) (l : Lowering) (s : Sound i
   value_of (Ref n) w h d = value_at n w h
   value_of (Not n) w h d = d.each _ (in_right l.inner _ _ (inl refl)) ∙ rw (wide_at n w h, value_at n w h) refl
   value_of (Bitwise op m n) w h d =
-      let both = one_width_is (look_up visible m) (look_up visible n) w h in
+      let both = both_widths (look_up visible m) (look_up visible n) w h in
       d.each _ (in_right l.inner _ _ (inl refl)) ∙ rw (value_at m w both.0, value_at n w both.1) (same_bitwise op (e m) (e n))
 
   agrees_node : (n : Node) (w : ℕ) → expr_width visible n.value ≡ Some w → e n.name ≡ expr_value e w n.value → Driven f (with_expr l n.value).inner → Agrees e f (with_statement l (statement.Node n))

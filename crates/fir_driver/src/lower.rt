@@ -5,6 +5,8 @@ mod names;
 mod place;
 mod ports;
 mod tables;
+#[cfg(test)]
+mod tests;
 mod tree;
 
 ghost use Rattle.std.specs.Prelude.{◌≡◌, ◌^◌, ◌<◌, IfOk, OnOk, length};
