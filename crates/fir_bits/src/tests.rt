@@ -1,16 +1,39 @@
 //! The operator table at values from outside.
 
-mod faults;
-mod results;
+/// Rows of an operation, its operands as kind, width and number, its integers, and the result.
+macro_rules! rows {
+    ($($op:ident($($kind:ident $width:literal $number:literal),*)[$($integer:literal),*]
+        => $result_kind:ident $result_width:literal $result:literal;)*) => {
+        &[$((
+            PrimOp::$op,
+            &[$(($kind, $width, $number)),*],
+            &[$($integer),*],
+            ($result_kind, $result_width, $result),
+        )),*]
+    };
+}
 
-use crate::{Bits, Num, NumTy, OpFault, PrimOp, apply, result_type};
+mod arithmetic;
+mod bitwise;
+mod faults;
+
+use crate::{Bits, Num, PrimOp, apply, result_type};
+use arithmetic::{DIVISIONS, SHIFTS_DOWN, SHIFTS_UP, SIGNS, SUMS};
+use bitwise::{BITWISE, COMPARISONS, PARTS, REDUCTIONS};
 use faults::FAULTS;
-use results::{
-    BITWISE, COMPARISONS, DIVISIONS, PARTS, REDUCTIONS, Row, SHIFTS_DOWN, SHIFTS_UP, SIGNS, SUMS,
-    Value,
-};
 use std::process::Abort;
 use std::test::Fail;
+
+/// A value as its kind, SInt or not, its width and its number.
+pub type Value = (bool, u32, u128);
+
+/// An operation, its operands, its integers and the result.
+pub type Row = (PrimOp, &'static [Value], &'static [u128], Value);
+
+/// The kinds of values.
+pub const UINT: bool = false;
+
+pub const SINT: bool = true;
 
 /// The operand of that kind, width and number, if there is one.
 fn operand(value: Value) -> Option<Num> {

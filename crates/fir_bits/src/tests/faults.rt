@@ -1,15 +1,12 @@
 //! Operations that have no type: the operation, its operands' types, its integers and the fault.
 
+use crate::tests::{SINT, UINT};
 use crate::{NumTy, OpFault, PrimOp};
 
 /// An operation, its operands' types, its integers and the fault.
 pub type Row = (PrimOp, &'static [NumTy], &'static [u128], OpFault);
 
-const UINT: bool = false;
-
-const SINT: bool = true;
-
-macro_rules! rows {
+macro_rules! faults {
     ($($op:ident($($kind:ident $width:literal),*)[$($integer:literal),*] => $fault:ident;)*) => {
         &[$((
             PrimOp::$op,
@@ -20,7 +17,7 @@ macro_rules! rows {
     };
 }
 
-pub static FAULTS: &[Row] = rows! {
+pub static FAULTS: &[Row] = faults! {
     Add()[] => Kinds;
     Add(UINT 4)[] => Kinds;
     Add(UINT 4, SINT 4)[] => Kinds;
