@@ -1,0 +1,6 @@
+circuit T :
+  module T :
+    input a : UInt<4>
+    input b : UInt<4>
+    output o : UInt<4>
+    o <= xor(a, b)
