@@ -7,6 +7,8 @@
 mod decide;
 mod laws;
 mod reserved;
+#[cfg(test)]
+mod tests;
 mod tree;
 
 pub use decide::{TickValues, Valued, settled, spells, valid};
