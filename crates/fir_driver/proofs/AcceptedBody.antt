@@ -15,11 +15,13 @@ pub record Reached (outs visible : List Sized) (table : BTreeMap (List ℕ) ℕ)
   pub held : Tabulates table so_far
   pub same : Fits outs visible body ↔ Fits outs so_far left
 
+-- a statement that fits is passed
 pub reached_next : (outs visible : List Sized) (outputs old new : BTreeMap (List ℕ) ℕ) (body left : List Statement) (s : Statement) (fits : Bool) → fits ≡ true → Steps outputs old new s fits → Tabulates outputs outs → Reached outs visible old body (s ∷ left) → Reached outs visible new body left
 reached_next outs visible outputs old new body left s fits yes_fits steps outs_held r =
     let passed = subst (Steps outputs old new s) yes_fits steps outs r.so_far outs_held r.held in
     record { so_far = passed.behind; held = passed.held; same = (λ h. (passed.same left).0 (r.same.0 h), λ h. r.same.1 ((passed.same left).1 h)) }
 
+-- where the next statement does not fit, the body does not
 pub not_fitting : (outs visible : List Sized) (outputs old new : BTreeMap (List ℕ) ℕ) (body left : List Statement) (s : Statement) (fits : Bool) → fits ≡ false → Steps outputs old new s fits → Tabulates outputs outs → Reached outs visible old body (s ∷ left) → Fits outs visible body → ⊥
 not_fitting outs visible outputs old new body left s fits unfit steps outs_held r h =
     subst (Steps outputs old new s) unfit steps outs r.so_far outs_held r.held left (r.same.0 h)

@@ -3,6 +3,7 @@ use Rattle.std.proofs.Common.{◌≡◌, List, [], ◌∷◌, ◌++◌, refl, sy
 use Rattle.std.specs.Prelude.{map, ◌↔◌}
 use Rattle.fir_base.specs.Lists.{In, Distinct, EachIn}
 
+-- a member maps to a member
 pub in_map : {A B : Type 0} → (f : A → B) (xs : List A) (x : A) → In xs x → In (map f xs) (f x)
 in_map f [] x m = m
 in_map f (y ∷ ys) x (inl e) = inl (ap f e)
@@ -18,6 +19,7 @@ in_map_from f (x ∷ xs) y (inr m) = let r = in_map_from f xs y m in (r.0, inr r
 pub in_map_more : {A B : Type 0} → (f : A → B) (xs ys : List A) → ((x : A) → In xs x → In ys x) → (y : B) → In (map f xs) y → In (map f ys) y
 in_map_more f xs ys h y m = let r = in_map_from f xs y m in subst (In (map f ys)) r.2 (in_map f ys r.0 (h r.0 r.1))
 
+-- the members of lists one behind the other
 pub in_left : {A : Type 0} → (xs ys : List A) (x : A) → In xs x → In (xs ++ ys) x
 in_left [] ys x m = absurd m
 in_left (z ∷ xs) ys x (inl e) = inl e
@@ -49,6 +51,7 @@ one_second {A} {B} (p ∷ ps) d a b c m n =
     n)
     m
 
+-- a front of a list without repetition has none
 pub distinct_left : {A : Type 0} → (xs ys : List A) → Distinct (xs ++ ys) → Distinct xs
 distinct_left [] ys d = tt
 distinct_left (x ∷ xs) ys d = (λ m. d.0 (in_left xs ys x m), distinct_left xs ys d.1)
@@ -59,11 +62,13 @@ front_lacks [] y ys d m = m
 front_lacks (x ∷ xs) y ys d (inl e) = d.0 (subst (In (xs ++ y ∷ ys)) (sym e) (in_right xs (y ∷ ys) y (inl refl)))
 front_lacks (x ∷ xs) y ys d (inr m) = front_lacks xs y ys d.1 m
 
+-- with one more element in the middle, the members stay
 skip_middle : {A : Type 0} → (xs : List A) (y : A) (ys : List A) (x : A) → In (xs ++ ys) x → In (xs ++ y ∷ ys) x
 skip_middle [] y ys x m = inr m
 skip_middle (z ∷ xs) y ys x (inl e) = inl e
 skip_middle (z ∷ xs) y ys x (inr m) = inr (skip_middle xs y ys x m)
 
+-- a member is the element in the middle, or another
 middle_or_rest : {A : Type 0} → (xs : List A) (y : A) (ys : List A) (x : A) → In (xs ++ y ∷ ys) x → (y ≡ x) ⊎ In (xs ++ ys) x
 middle_or_rest [] y ys x m = m
 middle_or_rest (z ∷ xs) y ys x (inl e) = inr (inl e)

@@ -22,19 +22,23 @@ use Rattle.fir_driver.specs.Leaves.{look_up}
 use Rattle.fir_driver.proofs.AcceptedLists.{front_lacks, middle_first, first_middle}
 use Rattle.fir_driver.specs.Tables.{Holds, Tabulates}
 
+-- a choice of two tests, as a condition
 or_as_cond : (b c : Bool) → cond b true c ≡ (b || c)
 or_as_cond true c = refl
 or_as_cond false c = refl
 
+-- the last of three tests comes second
 or_last : (a b c : Bool) → (a || cond b true c) ≡ cond b true (a || c)
 or_last true true c = refl
 or_last true false c = refl
 or_last false b c = refl
 
+-- a list with one more name at its end
 among_last : (names : List (List ℕ)) (name n : List ℕ) → is_among (names ++ name ∷ []) n ≡ cond (bytes_eq name n) true (is_among names n)
 among_last [] name n = sym (or_as_cond (bytes_eq name n) false)
 among_last (m ∷ names) name n = ap (λ b. bytes_eq m n || b) (among_last names name n) ∙ or_last (bytes_eq m n) (bytes_eq name n) (is_among names n)
 
+-- the test of a member, and members
 pub among_tells : (names : List (List ℕ)) (n : List ℕ) → (is_among names n ≡ true) ↔ In names n
 among_tells [] n = (λ h. absurd (cc), λ m. absurd m)
 among_tells (m ∷ names) n =
@@ -78,6 +82,7 @@ holds_last old new names name u h = record {
   each = λ n. one_more old new name n u ∙ ap (cond (bytes_eq name n) true) (h.each n) ∙ sym (among_last names name n);
 }
 
+-- what a table has once a width is put in
 one_more_width : (old new : BTreeMap (List ℕ) ℕ) (name : List ℕ) (width : ℕ) (n : List ℕ) → tree.Updates (slice_cmp nat_cmp) old new name (Some width) → get (slice_cmp nat_cmp) new n ≡ cond (bytes_eq name n) (Some width) (get (slice_cmp nat_cmp) old n)
 one_more_width old new name width n u = u.0 n ∙ ap (λ b. cond b (Some width) (get (slice_cmp nat_cmp) old n)) (is_eq-slice_cmp name n)
 
@@ -85,6 +90,7 @@ one_more_width old new name width n u = u.0 n ∙ ap (λ b. cond b (Some width) 
 pub tabulates_first : (old new : BTreeMap (List ℕ) ℕ) (leaves : List Sized) (name : List ℕ) (width : ℕ) → tree.Updates (slice_cmp nat_cmp) old new name (Some width) → Tabulates old leaves → Tabulates new ((name, width) ∷ leaves)
 tabulates_first old new leaves name width u h = record { each = λ n. one_more_width old new name width n u ∙ ap (cond (bytes_eq name n) (Some width)) (h.each n) }
 
+-- an empty table
 pub tabulates_none : (table : BTreeMap (List ℕ) ℕ) → tree.IsEmpty table → Tabulates table []
 tabulates_none table empty = record { each = λ n. ap (lookup (is_at (slice_cmp nat_cmp n))) empty }
 
@@ -97,6 +103,7 @@ pub names_left : (names : List (Bor (List ℕ))) (i : ℕ) (item : Bor (List ℕ
 names_left names i item name within is at =
     ap (map (λ n. n.now)) (drop_more names i item within) ∙ ap (λ x. x ∷ map (λ n. n.now) (drop (i + 1) names)) (ap (λ n. n.now) (sym at) ∙ sym is)
 
+-- an empty set
 pub holds_none : (set : BTreeSet (List ℕ)) → sorted.IsEmpty set → Holds set []
 holds_none set empty = record { each = λ n. ap (list_any (is_at (slice_cmp nat_cmp n))) empty }
 
@@ -107,9 +114,11 @@ pub record Seen (set : BTreeSet (List ℕ)) (whole left : List (List ℕ)) : Typ
   pub once : Distinct names
   pub same : Distinct whole ↔ Distinct (names ++ left)
 
+-- at first no name is seen
 pub seen_none : (set : BTreeSet (List ℕ)) (whole : List (List ℕ)) → sorted.IsEmpty set → Seen set whole whole
 seen_none set whole empty = record { names = []; held = holds_none set empty; once = tt; same = (λ d. d, λ d. d) }
 
+-- a new name is seen
 pub seen_more : (old new : BTreeSet (List ℕ)) (whole left : List (List ℕ)) (name : List ℕ) → sorted.Updates (slice_cmp nat_cmp) old new name true → contains (slice_cmp nat_cmp) old name ≡ false → Seen old whole (name ∷ left) → Seen new whole left
 seen_more old new whole left name u is s = record {
   names = name ∷ s.names;
@@ -118,9 +127,11 @@ seen_more old new whole left name u is s = record {
   same = (λ d. middle_first s.names name left (s.same.0 d), λ d. s.same.1 (first_middle s.names name left d));
 }
 
+-- a name that was seen stands twice
 pub seen_twice : (set : BTreeSet (List ℕ)) (whole left : List (List ℕ)) (name : List ℕ) → contains (slice_cmp nat_cmp) set name ≡ true → Seen set whole (name ∷ left) → Distinct whole → ⊥
 seen_twice set whole left name is s d = front_lacks s.names name left (s.same.0 d) (has set s.names name s.held is)
 
+-- where nothing is left, no name stood twice
 pub seen_all : (set : BTreeSet (List ℕ)) (whole : List (List ℕ)) → Seen set whole [] → Distinct whole
 seen_all set whole s = s.same.1 (subst Distinct (sym (append-nil s.names)) s.once)
 
@@ -141,24 +152,29 @@ not_each whole left others name same missing all = missing (same.0 all).0
 pub each_more : (whole left others : List (List ℕ)) (name : List ℕ) → (EachIn whole others ↔ EachIn (name ∷ left) others) → In others name → EachIn whole others ↔ EachIn left others
 each_more whole left others name same found = (λ all. (same.0 all).1, λ rest. same.1 (found, rest))
 
+-- the first value that is there
 abbrev or_else : Option ℕ → Option ℕ → Option ℕ
 or_else None y = y
 or_else (Some x) y = Some x
 
+-- a condition before the first value
 or_else_cond : (b : Bool) (x : ℕ) (y z : Option ℕ) → cond b (Some x) (or_else y z) ≡ or_else (cond b (Some x) y) z
 or_else_cond true x y z = refl
 or_else_cond false x y z = refl
 
+-- a look-up among leaves with one more at the end
 look_up_last : (leaves : List Sized) (name : List ℕ) (width : ℕ) (n : List ℕ) → look_up (leaves ++ (name, width) ∷ []) n ≡ or_else (look_up leaves n) (cond (bytes_eq name n) (Some width) None)
 look_up_last [] name width n = refl
 look_up_last (leaf ∷ leaves) name width n =
     ap (cond (bytes_eq leaf.0 n) (Some leaf.1)) (look_up_last leaves name width n) ∙ or_else_cond (bytes_eq leaf.0 n) leaf.1 (look_up leaves n) (cond (bytes_eq name n) (Some width) None)
 
+-- the last leaf is not seen where the name was found before
 last_hidden : (b : Bool) (width : ℕ) (found : Option ℕ) → (b ≡ true → is_some found ≡ true) → or_else found (cond b (Some width) None) ≡ found
 last_hidden b width (Some x) h = refl
 last_hidden true width None h = absurd (let no_value : false ≡ true = h refl in cc)
 last_hidden false width None h = refl
 
+-- the last leaf is seen where the name was not found
 last_seen : (b : Bool) (width : ℕ) (found : Option ℕ) → (b ≡ true → is_some found ≡ false) → or_else found (cond b (Some width) None) ≡ cond b (Some width) found
 last_seen true width (Some x) h = absurd (let a_value : true ≡ false = h refl in cc)
 last_seen false width (Some x) h = refl

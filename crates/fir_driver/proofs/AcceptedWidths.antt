@@ -11,6 +11,7 @@ use Rattle.fir_driver.specs.Leaves.{look_up, one_width, expr_width}
 use Rattle.fir_driver.specs.Spells.{expr_names}
 use Rattle.fir_driver.proofs.AcceptedLists.{in_map}
 
+-- a look-up ends at the first leaf, or goes on
 found_at : (b : Bool) (leaf : Sized) (rest : List Sized) (n : List ℕ) (w : ℕ) → (b ≡ true → leaf.0 ≡ n) → cond b (Some leaf.1) (look_up rest n) ≡ Some w → (leaf ≡ (n, w)) ⊎ (look_up rest n ≡ Some w)
 found_at true leaf rest n w same h = let width : leaf.1 ≡ w = cc in inl (ap (λ (m : List ℕ). (m, leaf.1)) (same refl) ∙ ap (λ (v : ℕ). (n, v)) width)
 found_at false leaf rest n w same h = inr h
@@ -22,6 +23,7 @@ look_up_in (leaf ∷ rest) n w h =
     ⊎_elim (λ (e : leaf ≡ (n, w)). inl e) (λ (more : look_up rest n ≡ Some w). inr (look_up_in rest n w more))
     (found_at (bytes_eq leaf.0 n) leaf rest n w (bytes_eq-Decides leaf.0 n).0 h)
 
+-- a test that fails passes the value by
 passed_by : (b : Bool) (x y : Option ℕ) → (b ≡ true → ⊥) → cond b x y ≡ y
 passed_by true x y h = absurd (h refl)
 passed_by false x y h = refl
@@ -37,6 +39,7 @@ look_up_found (leaf ∷ rest) n w d (inr m) =
     let other : leaf.0 ≡ n → ⊥ = λ e. d.0 (subst (In (names_of rest)) (sym e) (in_map first rest (n, w) m)) in
     passed_by (bytes_eq leaf.0 n) (Some leaf.1) (look_up rest n) (λ t. other ((bytes_eq-Decides leaf.0 n).0 t)) ∙ look_up_found rest n w d.1 m
 
+-- one width of two equal ones
 same_widths : (b : Bool) (a w : ℕ) → cond b (Some a) None ≡ Some w → (b ≡ true) × (a ≡ w)
 same_widths true a w h = (refl, (cc))
 same_widths false a w h = absurd (cc)
@@ -50,6 +53,7 @@ both_widths (Some a) (Some b) w h =
     let same : a ≡ b = eqb-true a b t.0 in
     (ap Some t.1, ap Some (sym same ∙ t.1))
 
+-- a width twice is one width
 one_width_same : (w : ℕ) → one_width (Some w) (Some w) ≡ Some w
 one_width_same w = rw (eq-eqb w w refl) refl
 

@@ -22,20 +22,25 @@ use Rattle.fir_driver.proofs.OneCircuitOrder.{target, driver, Ordered, Drives, B
 abbrev put : Env → List ℕ → ℕ → Env
 put env n x = λ m. cond (bytes_eq m n) x (env m)
 
+-- the name has the new value
 put_here : (env : Env) (n : List ℕ) (x : ℕ) → put env n x n ≡ x
 put_here env n x = rw ((bytes_eq-Decides n n).1 refl) refl
 
+-- a test that fails chooses the second
 at_test : (b : Bool) (x y : ℕ) → (b ≡ true → ⊥) → cond b x y ≡ y
 at_test true x y h = absurd (h refl)
 at_test false x y h = refl
 
+-- other names keep their values
 put_other : (env : Env) (n : List ℕ) (x : ℕ) (m : List ℕ) → (m ≡ n → ⊥) → put env n x m ≡ env m
 put_other env n x m h = at_test (bytes_eq m n) x (env m) (λ t. h ((bytes_eq-Decides m n).0 t))
 
+-- envs that agree on each name give one list of values
 map_same : (e f : Env) (ns : List (List ℕ)) → ((n : List ℕ) → In ns n → e n ≡ f n) → map e ns ≡ map f ns
 map_same e f [] h = refl
 map_same e f (n ∷ ns) h = rw (h n (inl refl), map_same e f ns (λ m o. h m (inr o))) refl
 
+-- envs that give one list of values agree on each name
 same_at : (e f : Env) (ns : List (List ℕ)) → map e ns ≡ map f ns → (n : List ℕ) → In ns n → e n ≡ f n
 same_at e f [] h n m = absurd m
 same_at e f (k ∷ ns) h n (inl p) = let here : e k ≡ f k = cc in ap e (sym p) ∙ here ∙ ap f p
@@ -46,6 +51,7 @@ start : List Sized → List ℕ → Env
 start (p ∷ ps) (x ∷ xs) = put (start ps xs) p.0 x
 start _ _ = λ _. 0
 
+-- the names have the values of the list
 start_values : (ps : List Sized) (xs : List ℕ) → Distinct (names_of ps) → FitEach (widths_of ps) xs → map (start ps xs) (names_of ps) ≡ xs
 unfolding start
 start_values [] [] d h = refl
@@ -58,6 +64,7 @@ start_values (p ∷ ps) (x ∷ xs) d h =
     let all : map env (names_of ps) ≡ xs = start_values ps xs d.1 h.1 in
     ap (λ y. y ∷ map (put env p.0 x) (names_of ps)) (put_here env p.0 x) ∙ ap (λ ys. x ∷ ys) (others ∙ all)
 
+-- values that fit each width fit the names' widths
 start_fits : (ps : List Sized) (xs : List ℕ) → Distinct (names_of ps) → FitEach (widths_of ps) xs → (n : List ℕ) (w : ℕ) → In ps (n, w) → start ps xs n < 2 ^ w
 unfolding start
 start_fits [] xs d h n w m = absurd m
@@ -89,6 +96,7 @@ record Filled (many : List Sized) (known : List (List ℕ)) (body : List Stateme
   fit : Fit many (map target body) last
 
 module _ (many : List Sized) (once : Distinct (names_of many)) where
+  -- a name has one width
   same_width : (n : List ℕ) (w u : ℕ) → In many (n, w) → In many (n, u) → w ≡ u
   same_width n w u = one_second many once n w u
 
@@ -137,6 +145,7 @@ module _ (many : List Sized) (once : Distinct (names_of many)) where
         fits n w (inl e) i = subst (λ (k : List ℕ). In many (k, w) → r.last k < 2 ^ w) e (here_fits w) i
         fits n w (inr m) i = r.fit.each n w m i
 
+  -- an ordered body is filled statement by statement
   fill : (body : List Statement) (known : List (List ℕ)) (env : Env) → Ordered many known body → Fit many known env → Filled many known body env
   fill [] known env o fit = record { last = env; keeps = λ n m. refl; meets = record { each = λ s w m. absurd m }; fit = record { each = λ n w m. absurd m } }
   fill (s ∷ rest) known env o fit =
@@ -158,6 +167,7 @@ module _ (many : List Sized) (once : Distinct (names_of many)) where
       m
 
 module _ (c : Circuit) (a : Accepted c) where
+  -- before the body, the inputs are visible and known
   begins : Before (outputs c) (inputs c) (map port_leaf c.ports) (names_of (inputs c)) [] c.body
   begins =
       let ports_once = distinct_left (names_of (map port_leaf c.ports)) (flat_map node_name c.body) a.declared_once in
@@ -173,9 +183,11 @@ module _ (c : Circuit) (a : Accepted c) where
         connected = a.connected_once;
       }
 
+  -- an accepted body is ordered
   order : Ordered (leaves c) (names_of (inputs c)) c.body
   order = ordered (outputs c) (inputs c) (map port_leaf c.ports) (names_of (inputs c)) [] c.body begins
 
+  -- the leaves of an accepted circuit have distinct names
   leaves_once : Distinct (names_of (leaves c))
   leaves_once = leaf_names_once (map port_leaf c.ports) c.body a.declared_once
 

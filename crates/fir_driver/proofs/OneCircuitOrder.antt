@@ -48,6 +48,7 @@ pub record Before (outs visible leaves : List Sized) (known sinks : List (List �
   pub declared : Distinct (names_of leaves ++ flat_map node_name body)
   pub connected : Distinct (sinks ++ flat_map sink_name body)
 
+-- a leaf before a body is one behind it
 pub stays_leaf : (leaves : List Sized) (body : List Statement) (s : Sized) → In leaves s → In (leaves_behind leaves body) s
 stays_leaf leaves [] s m = m
 stays_leaf leaves (statement.Node n ∷ rest) s m = stays_leaf ((n.name, unwrap_or (expr_width leaves n.value) 0) ∷ leaves) rest s (inr m)
@@ -56,6 +57,7 @@ stays_leaf leaves (statement.Connect k ∷ rest) s m = stays_leaf leaves rest s 
 abbrev first : Sized → List ℕ
 first s = s.0
 
+-- what is known is a leaf
 known_leaf : (outs visible leaves : List Sized) (known sinks : List (List ℕ)) (body : List Statement) → Before outs visible leaves known sinks body → (n : List ℕ) → In known n → In (names_of leaves) n
 known_leaf outs visible leaves known sinks body b n m =
     ⊎_elim
@@ -74,14 +76,17 @@ module _ (outs visible leaves : List Sized) (known sinks : List (List ℕ)) (n :
   abbrev with_node : List Sized
   with_node = (n.name, unwrap_or (expr_width leaves n.value) 0) ∷ leaves
 
+  -- behind a node, its name is a leaf of its width
   node_leaf : In with_node (n.name, node_width)
   node_leaf =
       let wide = width_among_more visible leaves n.value node_width (distinct_left (names_of leaves) (flat_map node_name (statement.Node n ∷ rest)) b.declared) b.visible_leaves b.fits.1 in
       inl (ap (λ o. (n.name, unwrap_or o 0)) wide)
 
+  -- a node's name is new
   node_unknown : In (names_of leaves) n.name → ⊥
   node_unknown m = front_lacks (names_of leaves) n.name (flat_map node_name rest) b.declared m
 
+  -- a node drives its leaf
   node_drives : Drives (leaves_behind with_node rest) known (statement.Node n)
   node_drives = record {
     width = node_width;
@@ -91,6 +96,7 @@ module _ (outs visible leaves : List Sized) (known sinks : List (List ℕ)) (n :
     wide_reads = λ m o. stays_leaf with_node rest (m, node_width) (inr (b.visible_leaves (m, node_width) (visible_read visible n.value node_width b.fits.1 m o)));
   }
 
+  -- the body goes on behind a node
   behind_node : Before outs ((n.name, node_width) ∷ visible) with_node (n.name ∷ known) sinks rest
   behind_node = record {
     fits = b.fits.2;
@@ -114,9 +120,11 @@ module _ (outs visible leaves : List Sized) (known sinks : List (List ℕ)) (k :
   abbrev sink_width : ℕ
   sink_width = b.fits.0
 
+  -- a sink is an output of its width
   sink_leaf : In outs (k.sink, sink_width)
   sink_leaf = look_up_in outs k.sink sink_width b.fits.2
 
+  -- a connect drives its sink
   connect_drives : Drives (leaves_behind leaves rest) known (statement.Connect k)
   connect_drives = record {
     width = sink_width;
@@ -129,6 +137,7 @@ module _ (outs visible leaves : List Sized) (known sinks : List (List ℕ)) (k :
     wide_reads = λ m o. stays_leaf leaves rest (m, sink_width) (b.visible_leaves (m, sink_width) (visible_read visible k.source sink_width b.fits.1 m o));
   }
 
+  -- the body goes on behind a connect
   behind_connect : Before outs visible leaves (k.sink ∷ known) (k.sink ∷ sinks) rest
   behind_connect = record {
     fits = b.fits.3;
@@ -148,6 +157,7 @@ module _ (outs visible leaves : List Sized) (known sinks : List (List ℕ)) (k :
     connected = middle_first sinks k.sink (flat_map sink_name rest) b.connected;
   }
 
+-- a body that fits is ordered
 pub ordered : (outs visible leaves : List Sized) (known sinks : List (List ℕ)) (body : List Statement) → Before outs visible leaves known sinks body → Ordered (leaves_behind leaves body) known body
 ordered outs visible leaves known sinks [] b = tt
 ordered outs visible leaves known sinks (statement.Node n ∷ rest) b =
@@ -176,6 +186,7 @@ leaf_origin leaves (statement.Node n ∷ rest) s m =
 leaf_origin leaves (statement.Connect k ∷ rest) s m =
     ⊎_elim (λ (o : In leaves s). inl o) (λ (t : In (map target rest) s.0). inr (inr t)) (leaf_origin leaves rest s m)
 
+-- what stands left in a connect is driven
 pub sink_is_target : (body : List Statement) (n : List ℕ) → In (flat_map sink_name body) n → In (map target body) n
 sink_is_target [] n m = absurd m
 sink_is_target (statement.Node a ∷ rest) n m = inr (sink_is_target rest n m)

@@ -18,28 +18,33 @@ outputs_of = flat_map (λ p. output_leaf p.direction p)
 abbrev first : Sized → List ℕ
 first s = s.0
 
+-- the input of a port is the port's leaf
 is_input : (d : Direction) (p : Port) (s : Sized) → In (input_leaf d p) s → port_leaf p ≡ s
 is_input Input p s (inl e) = e
 is_input Input p s (inr m) = absurd m
 is_input Output p s m = absurd m
 
+-- the output of a port is the port's leaf
 is_output : (d : Direction) (p : Port) (s : Sized) → In (output_leaf d p) s → port_leaf p ≡ s
 is_output Input p s m = absurd m
 is_output Output p s (inl e) = e
 is_output Output p s (inr m) = absurd m
 
+-- an input is a port
 pub input_is_port : (ports : List Port) (s : Sized) → In (inputs_of ports) s → In (map port_leaf ports) s
 input_is_port [] s m = m
 input_is_port (p ∷ ports) s m =
     ⊎_elim (λ (n : In (input_leaf p.direction p) s). inl (is_input p.direction p s n)) (λ (n : In (inputs_of ports) s). inr (input_is_port ports s n))
     (in_either (input_leaf p.direction p) (inputs_of ports) s m)
 
+-- an output is a port
 pub output_is_port : (ports : List Port) (s : Sized) → In (outputs_of ports) s → In (map port_leaf ports) s
 output_is_port [] s m = m
 output_is_port (p ∷ ports) s m =
     ⊎_elim (λ (n : In (output_leaf p.direction p) s). inl (is_output p.direction p s n)) (λ (n : In (outputs_of ports) s). inr (output_is_port ports s n))
     (in_either (output_leaf p.direction p) (outputs_of ports) s m)
 
+-- a port's leaf is its input or its output
 either_direction : (d : Direction) (p : Port) → In (input_leaf d p) (port_leaf p) ⊎ In (output_leaf d p) (port_leaf p)
 either_direction Input p = inl (inl refl)
 either_direction Output p = inr (inl refl)
@@ -58,6 +63,7 @@ port_is_either (p ∷ ports) s (inr m) =
     (λ (n : In (outputs_of ports) s). inr (in_right (output_leaf p.direction p) (outputs_of ports) s n))
     (port_is_either ports s m)
 
+-- one more port before distinct inputs
 one_more_input : (d : Direction) (p : Port) (rest : List Sized) → (In (names_of rest) p.name → ⊥) → Distinct (names_of rest) → Distinct (names_of (input_leaf d p ++ rest))
 one_more_input Input p rest fresh h = (fresh, h)
 one_more_input Output p rest fresh h = h
@@ -68,6 +74,7 @@ inputs_once [] d = tt
 inputs_once (p ∷ ports) d =
     one_more_input p.direction p (inputs_of ports) (λ m. d.0 (in_map_more first (inputs_of ports) (map port_leaf ports) (input_is_port ports) p.name m)) (inputs_once ports d.1)
 
+-- one more port before inputs and outputs that are apart
 parted : (d : Direction) (p : Port) (ins outs : List Sized) (n : List ℕ) → (In (names_of ins) p.name → ⊥) → (In (names_of outs) p.name → ⊥) → (In (names_of ins) n → In (names_of outs) n → ⊥) → In (names_of (input_leaf d p ++ ins)) n → In (names_of (output_leaf d p ++ outs)) n → ⊥
 parted Input p ins outs n a b rest (inl e) o = b (subst (In (names_of outs)) (sym e) o)
 parted Input p ins outs n a b rest (inr i) o = rest i o

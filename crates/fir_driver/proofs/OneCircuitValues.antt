@@ -12,11 +12,13 @@ use Rattle.fir_driver.specs.declared.circuit.Expr.TheVariants.{Ref, Not, Bitwise
 use Rattle.fir_driver.specs.Spells.{expr_names}
 use Rattle.fir_driver.specs.Settled.{expr_value, bitwise_value}
 
+-- operators bit by bit keep the width
 bitwise_fits : (op : BitwiseOp) (w a b : ℕ) → a < 2 ^ w → b < 2 ^ w → bitwise_value op a b < 2 ^ w
 bitwise_fits And w a b h k = and_lt w a b h k
 bitwise_fits Or w a b h k = or_lt w a b h k
 bitwise_fits Xor w a b h k = xor_lt w a b h k
 
+-- so does the complement
 complement_fits : (w a : ℕ) → a < 2 ^ w → complement w a < 2 ^ w
 complement_fits w a h = omega arith
 

@@ -20,11 +20,13 @@ use Rattle.fir_driver.proofs.AcceptedLists.{in_map, in_map_from}
 use Rattle.fir_driver.proofs.OneCircuitPorts.{input_is_port}
 use Rattle.fir_driver.proofs.OneCircuitOrder.{stays_leaf}
 
+-- a fact of each element, by cases on the list, holds of each member
 members_by_recursion : {X : Type 0} (P : X → Type 0) (xs : List X) → AllByRecursion P xs → (x : X) → In xs x → P x
 members_by_recursion P [] h x m = absurd m
 members_by_recursion P (y ∷ xs) h x (inl e) = subst P e h.0
 members_by_recursion P (y ∷ xs) h x (inr m) = members_by_recursion P xs h.1 x m
 
+-- and back
 recursion_by_members : {X : Type 0} (P : X → Type 0) (xs : List X) → ((x : X) → In xs x → P x) → AllByRecursion P xs
 recursion_by_members P [] h = tt
 recursion_by_members P (y ∷ xs) h = (h y (inl refl), recursion_by_members P xs (λ x m. h x (inr m)))
@@ -33,6 +35,7 @@ recursion_by_members P (y ∷ xs) h = (h y (inl refl), recursion_by_members P xs
 all_members : {X : Type 0} (P : X → Type 0) (xs : List X) → All P xs → (x : X) → In xs x → P x
 all_members P xs h = members_by_recursion P xs (recursion_from_All P xs h)
 
+-- and back
 members_all : {X : Type 0} (P : X → Type 0) (xs : List X) → ((x : X) → In xs x → P x) → All P xs
 members_all P xs h = All-from_recursion P xs (recursion_by_members P xs h)
 
@@ -41,10 +44,12 @@ each_fits : (env : Env) (ps : List Sized) → ((n : List ℕ) (w : ℕ) → In p
 each_fits env [] h = tt
 each_fits env (p ∷ ps) h = (h p.0 p.1 (inl refl), each_fits env ps (λ n w m. h n w (inr m)))
 
+-- where there is no clock, none rises
 no_clocks : (ks : List ℕ) → AreClocks 0 0 ks → ks ≡ []
 no_clocks [] h = refl
 no_clocks (k ∷ ks) h = absurd (omega (arith, h.1))
 
+-- where there is no state, it is empty
 no_state : (xs : List ℕ) → FitEach [] xs → xs ≡ []
 no_state [] h = refl
 no_state (x ∷ xs) h = absurd h
@@ -54,12 +59,14 @@ module _ (c : Circuit) (ls : List Leaf) (given state : List ℕ) (tick : TickVal
   leaf_of : (n : List ℕ) (w : ℕ) → In (leaves c) (n, w) → (l : Leaf) × In ls l × (sized l ≡ (n, w))
   leaf_of n w m = in_map_from sized ls (n, w) (subst (λ (many : List Sized). In many (n, w)) (sym same) m)
 
+  -- the name and the width of a leaf that stands for them
   name_is : (l : Leaf) (n : List ℕ) (w : ℕ) → sized l ≡ (n, w) → l.name ≡ n
   name_is l n w e = ap (λ (s : Sized). s.0) e
 
   width_is : (l : Leaf) (n : List ℕ) (w : ℕ) → sized l ≡ (n, w) → l.width ≡ w
   width_is l n w e = ap (λ (s : Sized). s.1) e
 
+  -- a leaf of the list is one of the circuit
   leaf_in : (l : Leaf) → In ls l → In (leaves c) (l.name, l.width)
   leaf_in l m = subst (λ (many : List Sized). In many (sized l)) same (in_map sized ls l m)
 

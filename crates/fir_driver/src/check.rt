@@ -1,4 +1,5 @@
-//! Whether a circuit is accepted: a function for each condition, in n log n for a text of n bytes.
+//! Whether a circuit is accepted: a function for each condition. With sets and tables by name, n statements
+//! take n log n comparisons of names.
 
 mod fitting;
 mod lists;
