@@ -4,11 +4,15 @@
 #![tactic(auto)]
 
 mod circuit;
+mod evidence;
 mod expressions;
 mod fault;
+mod fault_line;
 mod place;
 mod statements;
+mod type_text;
 mod types;
+mod walk_text;
 
 pub use circuit::{Circuit, Module, Port};
 pub use expressions::{Expr, Literal, Part, Reference};
@@ -19,3 +23,6 @@ pub use statements::{
     Ident, Memory, MemoryField, ReadUnderWrite, Register, RegisterReset, Stmt, When,
 };
 pub use types::{Field, Ty};
+
+#[cfg(test)]
+mod tests;
