@@ -7,7 +7,7 @@ ghost use Rattle.fir_ast.specs.View.{type_of};
 
 use crate::fault::{FirFault, Outcome};
 use crate::place::Place;
-use crate::type_text::put_type;
+use crate::type_text::{put_type, put_word};
 use crate::types::Ty;
 use crate::walk_text::{Text, put_choice, put_numbers, put_place, put_separated};
 use fir_base::{MemoryOut, Name, Seq, put_decimal, put_hex_byte};
@@ -19,11 +19,11 @@ pub fn put_evidence(out: &mut Vec<u8>, fault: &FirFault) -> Result<(), MemoryOut
     match fault {
         FirFault::Byte(_, byte) => put_byte(out, *byte),
         FirFault::Indent(_, spaces) => put_number(out, b"indent ", u128::from(*spaces)),
-        FirFault::Tab(_) => put_words(out, b"tab"),
-        FirFault::BadLiteral(_) => put_words(out, b"literal"),
-        FirFault::Syntax(_) => put_words(out, b"syntax"),
+        FirFault::Tab(_) => put_word(out, b"tab"),
+        FirFault::BadLiteral(_) => put_word(out, b"literal"),
+        FirFault::Syntax(_) => put_word(out, b"syntax"),
         FirFault::Unsupported(_, word) => put_name(out, b"unsupported ", word),
-        FirFault::Depth(_) => put_words(out, b"depth 257"),
+        FirFault::Depth(_) => put_word(out, b"depth 257"),
         FirFault::Version(_, first) => put_number(out, b"version ", *first),
         FirFault::Unknown(_, name) => put_name(out, b"unknown ", name),
         FirFault::Twice(_, name, first) => put_twice(out, name, *first),
@@ -51,13 +51,6 @@ pub fn put_evidence(out: &mut Vec<u8>, fault: &FirFault) -> Result<(), MemoryOut
         FirFault::AsyncInit(_, walk) => put_walk(out, b"async init ", b" <- ", walk),
         FirFault::Loop(_, walk) => put_walk(out, b"loop ", b" <- ", walk),
     }
-}
-
-fn put_words(out: &mut Vec<u8>, words: &[u8]) -> Result<(), MemoryOut>
-    ensures { OnOk result (out.new.items ≡ out.old.items ++ words.now) }
-{
-    out.extend_from_slice(words)?;
-    Ok(())
 }
 
 fn put_name(out: &mut Vec<u8>, words: &[u8], name: &Name) -> Result<(), MemoryOut>

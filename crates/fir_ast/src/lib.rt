@@ -1,6 +1,6 @@
 //! The tree of a circuit as the text spells it, with a place wherever a fault may stand, and the faults
 //! E01 to E28 with the lines that are printed for them. The definitions see the tree as plain data without
-//! addresses (`specs/`, Syntax and View).
+//! addresses (`specs/`: Types, Expressions, Statements, Circuits and View).
 #![tactic(auto)]
 
 mod circuit;

@@ -84,14 +84,6 @@ impl Table {
         Ok(Seq::from_vec(names))
     }
 
-    fn list<T: Drop, const N: usize>(&self, items: [T; N]) -> Result<Seq<T>, MemoryOut> {
-        let mut list = Vec::new(self.alloc);
-        for item in items {
-            list.push(item)?;
-        }
-        Ok(Seq::from_vec(list))
-    }
-
     fn add_texts(&mut self) -> Result<(), MemoryOut> {
         self.add(FirFault::Byte(at(1, 1), 0), b"E01 1:1 byte 00\n")?;
         self.add(FirFault::Byte(at(30, 120), 0x0d), b"E01 30:120 byte 0d\n")?;
@@ -142,14 +134,14 @@ impl Table {
     }
 
     fn add_types(&mut self) -> Result<(), MemoryOut> {
-        let types = self.list([Ty::UInt(Some(4)), Ty::SInt(None)])?;
+        let types = Seq::from_vec(vec![in self.alloc; Ty::UInt(Some(4)), Ty::SInt(None)]?);
         self.add(
             FirFault::Kinds(at(8, 15), types),
             b"E12 8:15 kinds UInt<4>; SInt\n",
         )?;
-        let types = self.list([Ty::Clock])?;
+        let types = Seq::from_vec(vec![in self.alloc; Ty::Clock]?);
         self.add(FirFault::Kinds(at(8, 15), types), b"E12 8:15 kinds Clock\n")?;
-        let types = self.list([Ty::UInt(None), Ty::AsyncReset, Ty::Reset])?;
+        let types = Seq::from_vec(vec![in self.alloc; Ty::UInt(None), Ty::AsyncReset, Ty::Reset]?);
         self.add(
             FirFault::Kinds(at(8, 15), types),
             b"E12 8:15 kinds UInt; AsyncReset; Reset\n",
@@ -157,7 +149,7 @@ impl Table {
         let name = self.name(b"bits")?;
         self.add(FirFault::NoField(at(8, 21), name), b"E12 8:21 field bits\n")?;
         let sink = nested(self.alloc)?;
-        let source = bundle(self.alloc, [])?;
+        let source = Ty::Bundle(Vec::new(self.alloc));
         let line =
             b"E13 20:5 types {in: {v: UInt<8>[4], flip ready: UInt<1>}[2], flip none: {}}; {}\n";
         self.add(FirFault::Types(at(20, 5), sink, source), line)?;
@@ -173,7 +165,7 @@ impl Table {
             b"E14 13:5 flow io.in[0].bits\n",
         )?;
         let flipped = field(self.alloc, true, b"x", Ty::UInt(Some(1)))?;
-        let ty = bundle(self.alloc, [flipped])?;
+        let ty = Ty::Bundle(vec![in self.alloc; flipped]?);
         self.add(
             FirFault::NotPassive(at(14, 10), ty),
             b"E15 14:10 not passive {flip x: UInt<1>}\n",
@@ -200,17 +192,20 @@ impl Table {
     }
 
     fn add_resets_and_widths(&mut self) -> Result<(), MemoryOut> {
-        let steps = [
+        let steps = vec![in self.alloc;
             ResetStep::At(at(31, 8)),
             ResetStep::Leaf(self.name(b"r")?),
             ResetStep::Leaf(self.name(b"io.rst")?),
-        ];
-        let walk = self.list(steps)?;
+        ]?;
+        let walk = Seq::from_vec(steps);
         self.add(
             FirFault::Resets(at(17, 9), walk),
             b"E18 17:9 resets 31:8 - r - io.rst\n",
         )?;
-        let walk = self.list([ResetStep::Leaf(self.name(b"a")?), ResetStep::At(at(9, 10))])?;
+        let walk = Seq::from_vec(vec![in self.alloc;
+            ResetStep::Leaf(self.name(b"a")?),
+            ResetStep::At(at(9, 10)),
+        ]?);
         self.add(
             FirFault::Resets(at(17, 9), walk),
             b"E18 17:9 resets a - 9:10\n",
@@ -234,13 +229,13 @@ impl Table {
 
     fn add_legality(&mut self) -> Result<(), MemoryOut> {
         let word = self.name(b"bits")?;
-        let numbers = self.list([8, 3, 5])?;
+        let numbers = Seq::from_vec(vec![in self.alloc; 8, 3, 5]?);
         self.add(
             FirFault::Legality(at(19, 14), word, numbers),
             b"E21 19:14 legality bits 8 3 5\n",
         )?;
         let word = self.name(b"dshl")?;
-        let numbers = self.list([])?;
+        let numbers = Seq::from_vec(Vec::new(self.alloc));
         self.add(
             FirFault::Legality(at(19, 14), word, numbers),
             b"E21 19:14 legality dshl\n",
@@ -263,17 +258,17 @@ impl Table {
 
     fn add_choices(&mut self) -> Result<(), MemoryOut> {
         let leaf = self.name(b"w.x[1]")?;
-        let choice = self.list([
+        let choice = Seq::from_vec(vec![in self.alloc;
             Outcome::When(at(23, 5), false),
             Outcome::Index(at(24, 7), true),
             Outcome::When(at(100, 12), true),
             Outcome::Index(at(101, 7), false),
-        ])?;
+        ]?);
         let line =
             b"E24 6:10 undriven w.x[1] when@23:5=0 index@24:7=hit when@100:12=1 index@101:7=miss\n";
         self.add(FirFault::Undriven(at(6, 10), leaf, choice), line)?;
         let leaf = self.name(b"o")?;
-        let choice = self.list([])?;
+        let choice = Seq::from_vec(Vec::new(self.alloc));
         self.add(
             FirFault::Undriven(at(6, 10), leaf, choice),
             b"E24 6:10 undriven o\n",
@@ -321,22 +316,14 @@ fn nested(alloc: Global) -> Result<Ty, MemoryOut> {
         alloc,
         false,
         b"in",
-        vector(alloc, bundle(alloc, [bytes, ready])?, 2)?,
+        vector(alloc, Ty::Bundle(vec![in alloc; bytes, ready]?), 2)?,
     )?;
-    let none = field(alloc, true, b"none", bundle(alloc, [])?)?;
-    bundle(alloc, [inputs, none])
+    let none = field(alloc, true, b"none", Ty::Bundle(Vec::new(alloc)))?;
+    Ok(Ty::Bundle(vec![in alloc; inputs, none]?))
 }
 
 fn vector(alloc: Global, element: Ty, length: u128) -> Result<Ty, MemoryOut> {
     Ok(Ty::Vector(Box::new(alloc, element)?, length))
-}
-
-fn bundle<const N: usize>(alloc: Global, fields: [Field; N]) -> Result<Ty, MemoryOut> {
-    let mut list = Vec::new(alloc);
-    for field in fields {
-        list.push(field)?;
-    }
-    Ok(Ty::Bundle(list))
 }
 
 fn field(alloc: Global, flip: bool, name: &[u8], ty: Ty) -> Result<Field, MemoryOut> {

@@ -78,7 +78,8 @@ fn put_length(out: &mut Vec<u8>, length: u128) -> Result<(), MemoryOut>
     Ok(())
 }
 
-fn put_word(out: &mut Vec<u8>, word: &[u8]) -> Result<(), MemoryOut>
+/// Appends words or signs as they are.
+pub fn put_word(out: &mut Vec<u8>, word: &[u8]) -> Result<(), MemoryOut>
     ensures { OnOk result (out.new.items ≡ out.old.items ++ word.now) }
 {
     out.extend_from_slice(word)?;
