@@ -1,14 +1,18 @@
 //! The tree of a circuit as the text spells it, with a place wherever a fault may stand, and the faults
 //! E01 to E28 with the lines that are printed for them. The definitions see the tree as plain data without
-//! addresses (`specs/`, Syntax and View).
+//! addresses (`specs/`: Types, Expressions, Statements, Circuits and View).
 #![tactic(auto)]
 
 mod circuit;
+mod evidence;
 mod expressions;
 mod fault;
+mod fault_line;
 mod place;
 mod statements;
+mod type_text;
 mod types;
+mod walk_text;
 
 pub use circuit::{Circuit, Module, Port};
 pub use expressions::{Expr, Literal, Part, Reference};
@@ -19,3 +23,6 @@ pub use statements::{
     Ident, Memory, MemoryField, ReadUnderWrite, Register, RegisterReset, Stmt, When,
 };
 pub use types::{Field, Ty};
+
+#[cfg(test)]
+mod tests;

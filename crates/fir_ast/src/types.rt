@@ -1,7 +1,12 @@
 //! Types as the text writes them (FIRRTL spec, "Types").
 
+ghost use Rattle.std.specs.Prelude.{◌≡◌, IfOk, map};
+ghost use Rattle.fir_ast.specs.BundleText.{field_of};
+ghost use Rattle.fir_ast.specs.View.{type_of};
+
 use crate::place::Place;
-use fir_base::Name;
+use fir_base::{MemoryOut, Name};
+use std::alloc::Global;
 
 /// A type. A width that is not written is None.
 #[cycle(types)]
@@ -27,4 +32,41 @@ pub struct Field {
     pub flip: bool,
     pub name: Name,
     pub ty: Ty,
+}
+
+impl Ty {
+    /// A type that says the same, with memory of its own.
+    #[cycle(copy)]
+    pub fn copy(&self, alloc: Global) -> Result<Ty, MemoryOut>
+        ensures { IfOk result (λ ty. type_of ty ≡ type_of self.now) }
+    {
+        match self {
+            Ty::UInt(width) => Ok(Ty::UInt(*width)),
+            Ty::SInt(width) => Ok(Ty::SInt(*width)),
+            Ty::Clock => Ok(Ty::Clock),
+            Ty::Reset => Ok(Ty::Reset),
+            Ty::AsyncReset => Ok(Ty::AsyncReset),
+            Ty::Bundle(fields) => Ok(Ty::Bundle(copy_fields(alloc, fields)?)),
+            Ty::Vector(element, length) => {
+                let element = Box::new(alloc, element.copy(alloc)?)?;
+                Ok(Ty::Vector(element, *length))
+            }
+        }
+    }
+}
+
+#[cycle(copy)]
+fn copy_fields(alloc: Global, fields: &[Field]) -> Result<Vec<Field>, MemoryOut>
+    ensures { IfOk result (λ copies. map field_of copies.items ≡ map field_of fields.now) }
+{
+    let mut copies = Vec::new(alloc);
+    for field in fields {
+        copies.push(Field {
+            place: field.place,
+            flip: field.flip,
+            name: field.name.copy(alloc)?,
+            ty: field.ty.copy(alloc)?,
+        })?;
+    }
+    Ok(copies)
 }
