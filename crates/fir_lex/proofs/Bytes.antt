@@ -1,5 +1,5 @@
 -- The first byte, and the bytes behind it, as the code reads them.
-use Rattle.std.proofs.Common.{◌≡◌, ℕ, ◌-◌, ◌<◌, ◌≤◌, Bool, true, false, cond, ◌||◌, ◌&&◌, eqb, List, [], ◌∷◌, length, get_or, take, drop, refl, ap, arith}
+use Rattle.std.proofs.Common.{◌≡◌, ℕ, ◌-◌, ◌<◌, cond, ◌||◌, ◌&&◌, eqb, List, [], ◌∷◌, length, get_or, take, drop, refl, ap, arith}
 use Rattle.std.proofs.lemmas.List.{take_all}
 use Rattle.fir_lex.specs.Bytes.{starts_with_byte, ends_line, line_end_length, is_digit}
 use Rattle.fir_lex.specs.Front.{starts_with_digit}

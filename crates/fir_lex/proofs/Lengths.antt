@@ -1,10 +1,9 @@
 -- Lengths to an end that is looked for byte by byte: what a loop at an index keeps.
-use Rattle.std.proofs.Common.{◌≡◌, ℕ, suc, ◌+◌, ◌-◌, ◌*◌, ◌^◌, ◌<◌, ◌≤◌, Bool, true, false, cond, ◌||◌, ◌&&◌, not, eqb, ltb, List, [], ◌∷◌, ◌++◌, length, get_or, take, drop, Option, Some, None, refl, sym, ap, ◌∙◌, zero-add, arith}
-use Rattle.std.specs.Prelude.{option_map, fold, nat_eq, IfSome}
-use Rattle.std.proofs.lemmas.Bool.{eq-eqb, ne_eqb}
-use Rattle.std.proofs.lemmas.List.{drop_more, drop_all, take_more}
-use Rattle.fir_lex.specs.Bytes.{ends_line, line_end_length}
-use Rattle.fir_lex.specs.Front.{string_length, information_length, Within, in_brackets, in_string, within_step, is_closed, block_length, comment_length, number_of}
+use Rattle.std.proofs.Common.{◌≡◌, ℕ, suc, ◌+◌, ◌<◌, ◌≤◌, Bool, true, false, cond, ◌&&◌, not, List, [], ◌∷◌, length, get_or, drop, Option, Some, None, refl, sym, ap, ◌∙◌, zero-add, arith}
+use Rattle.std.specs.Prelude.{option_map, nat_eq}
+use Rattle.std.proofs.lemmas.List.{drop_more, drop_all}
+use Rattle.fir_lex.specs.Bytes.{ends_line}
+use Rattle.fir_lex.specs.Front.{string_length, information_length, Within, within_step, is_closed, block_length, comment_length}
 
 -- ---- a length, seen from an index
 

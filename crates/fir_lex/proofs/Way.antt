@@ -1,18 +1,16 @@
 -- The way through a text: each step put before what is left is what the text has.
-use Rattle.std.proofs.Common.{◌≡◌, ℕ, zero, suc, ◌+◌, ◌-◌, ◌<◌, ◌≤◌, Bool, true, false, cond, ◌||◌, ◌&&◌, eqb, List, [], ◌∷◌, ◌++◌, length, get_or, take, drop, map, Option, Some, None, refl, sym, ap, ◌∙◌, append_assoc, arith}
-use Rattle.std.specs.Prelude.{Result, Ok, Err, position, take_while, nat_eq}
-use Rattle.std.specs.List.{prefix_len}
-use Rattle.std.proofs.lemmas.List.{drop-drop, drop_all, length-drop}
+use Rattle.std.proofs.Common.{◌≡◌, ℕ, zero, suc, ◌+◌, ◌-◌, ◌<◌, ◌≤◌, Bool, true, false, cond, ◌||◌, ◌&&◌, eqb, List, [], ◌∷◌, ◌++◌, length, get_or, take, drop, Option, Some, None, refl, sym, ap, ◌∙◌, append_assoc, arith}
+use Rattle.std.specs.Prelude.{Ok, Err, position, take_while, nat_eq}
+use Rattle.std.proofs.lemmas.List.{length-drop}
 use Rattle.std.proofs.lemmas.List.Folds.{length-prefix_len}
 use Rattle.std.proofs.lemmas.List.Sums.{prefix_len-le-length}
 use Rattle.fir_ast.specs.declared.place.Place.{Place}
-use Rattle.fir_ast.specs.declared.fault.FirFault.{FirFault}
 use Rattle.fir_ast.specs.declared.fault.FirFault.TheVariants as fault
 use Rattle.fir_lex.specs.Tokens.{Token, Placed, line_end}
 use Rattle.fir_lex.specs.Bytes.{next_place, place_behind, starts_with_byte, ends_line, line_end_length, is_blank}
 use Rattle.fir_lex.specs.Front.{Front, found, passed, bad_byte, bad_literal, comment_length, front}
 use Rattle.fir_lex.specs.Levels.{Move, move_to}
-use Rattle.fir_lex.specs.Lexed.{Lexed, Rest, placed_at, with_tokens, go_on, in_line, is_idle, idle_length, unmet, behind_spaces, begin_counted, begin_line, closed_at, lexed_from}
+use Rattle.fir_lex.specs.Lexed.{Lexed, Rest, placed_at, with_tokens, go_on, is_idle, idle_length, unmet, behind_spaces, begin_counted, begin_line, lexed_from}
 use Rattle.fir_lex.specs.Steps.{in_front}
 
 -- ---- taken bytes lead to the place behind them

@@ -1,5 +1,5 @@
 -- Words at the front.
-use Rattle.std.proofs.Common.{◌≡◌, ℕ, suc, ◌+◌, ◌<◌, ◌≤◌, Bool, true, false, cond, ◌||◌, List, [], ◌∷◌, length, take, drop, Option, Some, None, refl, sym, ap, ◌∙◌, arith}
+use Rattle.std.proofs.Common.{◌≡◌, ℕ, ◌+◌, ◌≤◌, Bool, true, false, cond, List, [], ◌∷◌, length, take, Option, Some, None, refl, sym, ap, arith}
 use Rattle.std.specs.Prelude.{codes, nat_eq, take_while}
 use Rattle.std.specs.List.{starts_with, prefix_len}
 use Rattle.std.specs.Cmp.Lexicographic.{same_text}

@@ -1,5 +1,5 @@
 -- What stands at the front of a text, within a line: the longest token, or bytes that are no token, or a fault.
-use Rattle.std.specs.Prelude.{◌≡◌, ℕ, suc, ◌+◌, ◌-◌, ◌*◌, ◌^◌, List, [], ◌∷◌, ◌++◌, length, take, drop, take_while, position, Bool, true, false, ◌||◌, ◌&&◌, not, nat_eq, nat_le, nat_lt, if◌then◌else◌, Option, Some, None, option_map, codes, fold, slice_index}
+use Rattle.std.specs.Prelude.{ℕ, suc, ◌+◌, ◌-◌, ◌*◌, ◌^◌, List, [], ◌∷◌, ◌++◌, length, take, drop, take_while, position, Bool, true, false, ◌||◌, ◌&&◌, not, nat_eq, nat_le, nat_lt, if◌then◌else◌, Option, Some, None, option_map, codes, fold, slice_index}
 use Rattle.std.specs.List.{starts_with}
 use Rattle.fir_lex.specs.Tokens.{Token, word, dash_word, integer, text, sign, annotations}
 use Rattle.fir_lex.specs.Bytes.{ends_line, starts_with_byte, is_digit, is_word_start, is_word_byte, is_blank}

@@ -7,7 +7,7 @@ use Rattle.fir_ast.specs.declared.place.Place.{Place}
 use Rattle.fir_ast.specs.declared.fault.FirFault.{FirFault}
 use Rattle.fir_ast.specs.declared.fault.FirFault.TheVariants as fault
 use Rattle.fir_lex.specs.Tokens.{Token, Placed, line_end, level_closes}
-use Rattle.fir_lex.specs.Bytes.{next_place, place_behind, starts_with_byte, ends_line, line_end_length, is_blank}
+use Rattle.fir_lex.specs.Bytes.{next_place, place_behind, ends_line, line_end_length, is_blank}
 use Rattle.fir_lex.specs.Front.{Front, found, passed, bad_byte, bad_literal, comment_length, front}
 use Rattle.fir_lex.specs.Levels.{Move, move_to}
 

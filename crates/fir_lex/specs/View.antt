@@ -1,7 +1,6 @@
 -- What the code's values are, in plain data.
 -- A token of the code is a kind and the bytes that spell it.
 use Rattle.std.specs.Prelude.{◌≡◌, ℕ, ◌≤◌, List, [], ◌∷◌, length, slice_range, true, false, ◌&&◌, nat_eq, codes, drop, if◌then◌else◌}
-use Rattle.std.specs.List.{prefix_len}
 use Rattle.fir_lex.specs.declared.token.Kind.{Kind}
 use Rattle.fir_lex.specs.declared.token.Kind.TheVariants as kind
 use Rattle.fir_lex.specs.declared.token.Item.{Item}

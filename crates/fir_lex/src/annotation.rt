@@ -76,6 +76,11 @@ pub fn read_annotations(bytes: &[u8]) -> Piece
     let (_, block) = bytes.split_at(2);
     match block_length(block) {
         None => Piece::BadByte(0, b'%'),
-        Some(count) => Piece::Found(Found::whole(Kind::Annotations, count + 2)),
+        Some(count) => Piece::Found(Found {
+            kind: Kind::Annotations,
+            from: 0,
+            upto: 0,
+            length: count + 2,
+        }),
     }
 }
