@@ -1,0 +1,10 @@
+use Rattle.std.proofs.Common.{◌≡◌}
+use Rattle.fir_lex.specs.Lexed.{lexed}
+use Rattle.fir_lex.specs.Ways.{left, turns}
+use Rattle.fir_lex.proofs.lexer.lex.Given as goal
+
+abbrev pub invariant-loop-lexer : goal.invariant-loop-lexer
+invariant-loop-lexer l = left l.lexer ≡ lexed l.bytes
+
+abbrev pub decreases-loop-lexer : goal.decreases-loop-lexer
+decreases-loop-lexer l = turns l.lexer

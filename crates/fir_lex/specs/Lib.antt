@@ -1,0 +1,10 @@
+pub mod Tokens
+pub mod Bytes
+pub mod Front
+pub mod Levels
+pub mod Lexed
+pub mod View
+pub mod Blocks
+pub mod Steps
+pub mod Ways
+pub use Rattle.fir_ast.specs.FaultLines

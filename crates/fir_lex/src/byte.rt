@@ -1,0 +1,71 @@
+//! Kinds of bytes.
+
+ghost use Rattle.std.specs.Prelude.{◌≡◌, ◌≤◌, length, IsTrue};
+ghost use Rattle.fir_lex.specs.Bytes.{starts_with_byte, ends_line, line_end_length, is_letter, is_digit, is_word_start, is_word_byte, is_blank};
+
+fn is_letter(byte: u8) -> bool
+    ensures { result ≡ is_letter byte }
+{
+    (97 <= byte && byte <= 122) || (65 <= byte && byte <= 90)
+}
+
+pub fn is_digit(byte: u8) -> bool
+    ensures { result ≡ is_digit byte }
+{
+    48 <= byte && byte <= 57
+}
+
+/// Whether a word may begin with the byte.
+pub fn is_word_start(byte: u8) -> bool
+    ensures { result ≡ is_word_start byte }
+{
+    is_letter(byte) || byte == b'_'
+}
+
+/// Whether a word may go on with the byte.
+pub fn is_word_byte(byte: u8) -> bool
+    ensures { result ≡ is_word_byte byte }
+{
+    is_word_start(byte) || (is_digit(byte) || byte == b'$')
+}
+
+/// Whether the byte is a space or a tab.
+pub fn is_blank(byte: u8) -> bool
+    ensures { result ≡ is_blank byte }
+{
+    byte == b' ' || byte == b'\t'
+}
+
+#[tactic(auto, using(crate::proofs::Bytes::first_is))]
+pub fn starts_with_byte(byte: u8, bytes: &[u8]) -> bool
+    ensures { result ≡ starts_with_byte byte bytes.now }
+{
+    match bytes {
+        [first, ..] => *first == byte,
+        [] => false,
+    }
+}
+
+/// Whether a line's end stands at the front.
+#[tactic(auto, using(crate::proofs::Bytes::line_end_is))]
+pub fn ends_line(bytes: &[u8]) -> bool
+    ensures { result ≡ ends_line bytes.now }
+{
+    match bytes {
+        [first, behind @ ..] => {
+            *first == b'\n' || (*first == b'\r' && starts_with_byte(b'\n', behind))
+        }
+        [] => false,
+    }
+}
+
+/// How many bytes the line's end at the front has.
+#[tactic(auto, using(crate::proofs::Bytes::line_end_length_is))]
+pub fn line_end_length(bytes: &[u8]) -> usize
+    ensures { result ≡ line_end_length bytes.now }
+{
+    match bytes {
+        [first, ..] => { if *first == b'\n' { 1 } else { 2 } }
+        [] => 0,
+    }
+}
