@@ -1,4 +1,5 @@
 pub mod Tokens
+pub mod TokenText
 pub mod Bytes
 pub mod Front
 pub mod Levels

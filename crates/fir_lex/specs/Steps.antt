@@ -7,6 +7,7 @@ use Rattle.fir_base.specs.declared.refused.Refused.{Refused}
 use Rattle.fir_base.specs.declared.refused.Refused.TheVariants.{Fault, Memory}
 use Rattle.fir_lex.specs.declared.draft.Draft.{Draft}
 use Rattle.fir_lex.specs.Tokens.{Placed}
+use Rattle.fir_lex.specs.TokenText.{TokenText}
 use Rattle.fir_lex.specs.Levels.{Move}
 use Rattle.fir_lex.specs.Lexed.{Lexed, placed_at}
 use Rattle.fir_lex.specs.View.{spelled}
@@ -25,8 +26,8 @@ Leaves (Err (Fault f)) old new = old ≡ Err f
 Leaves (Err Memory) old new = Unit {0}
 
 -- the tokens of the text, or its fault, unless memory ran out
-abbrev pub Gives : Result (List Placed) (Refused FirFault) → Lexed → Type 0
-Gives (Ok tokens) l = l ≡ Ok tokens
+abbrev pub Gives : Result TokenText (Refused FirFault) → Lexed → Type 0
+Gives (Ok t) l = l ≡ Ok t.tokens
 Gives (Err (Fault f)) l = l ≡ Err f
 Gives (Err Memory) l = Unit {0}
 

@@ -76,7 +76,7 @@ impl Draft {
 
     /// The tokens, and the text with them.
     pub fn into_tokens(self) -> Tokens
-        ensures { result ≡ tokens_in self }
+        ensures { result ≡ record { text = self.text.items; tokens = tokens_in self } }
     {
         let Draft { text, items } = self;
         Tokens::new(text, items)

@@ -1,6 +1,6 @@
 //! The way through a text, token by token.
 
-ghost use Rattle.std.specs.Prelude.{◌≤◌, length};
+ghost use Rattle.std.specs.Prelude.{◌≡◌, ◌≤◌, IfOk, length};
 ghost use Rattle.fir_lex.specs.Lexed.{lexed};
 ghost use Rattle.fir_lex.specs.Steps.{Gives};
 
@@ -40,7 +40,8 @@ impl Lexer {
 
     pub fn new(alloc: Global, bytes: &[u8]) -> Result<Lexer, MemoryOut>
         requires { length bytes.now ≤ 16777216 }
-        ensures { IfOk result (λ l. left l ≡ lexed bytes.now) }
+        ensures text { IfOk result (λ l. l.draft.text.items ≡ bytes.now) }
+        ensures same { IfOk result (λ l. left l ≡ lexed bytes.now) }
     {
         Ok(Lexer {
             draft: Draft::new(alloc, bytes)?,
@@ -74,6 +75,7 @@ impl Lexer {
     fn begin_line(&mut self) -> Result<(), Refused<FirFault>>
         requires begins { self.old.begins ≡ true }
         requires some { self.old.cursor.index < length self.old.draft.text.items }
+        ensures text { self.new.draft.text.items ≡ self.old.draft.text.items }
         ensures same { Leaves result (left self.old) (left self.new) }
         ensures nearer { OnOk result (turns self.new < turns self.old) }
     {
@@ -133,6 +135,7 @@ impl Lexer {
     fn in_line(&mut self) -> Result<(), Refused<FirFault>>
         requires begins { self.old.begins ≡ false }
         requires some { self.old.cursor.index < length self.old.draft.text.items }
+        ensures text { self.new.draft.text.items ≡ self.old.draft.text.items }
         ensures same { Leaves result (left self.old) (left self.new) }
         ensures nearer { OnOk result (turns self.new < turns self.old) }
     {
@@ -159,6 +162,7 @@ impl Lexer {
 
     pub fn step(&mut self) -> Result<(), Refused<FirFault>>
         requires { self.old.cursor.index < length self.old.draft.text.items }
+        ensures text { self.new.draft.text.items ≡ self.old.draft.text.items }
         ensures same { Leaves result (left self.old) (left self.new) }
         ensures nearer { OnOk result (turns self.new < turns self.old) }
     {
@@ -172,7 +176,8 @@ impl Lexer {
     /// The end of the text: the line's end, and the levels that are open.
     pub fn end(&mut self) -> Result<(), MemoryOut>
         requires { length self.old.draft.text.items ≤ self.old.cursor.index }
-        ensures { OnOk result (left self.old ≡ Ok (tokens_in self.new.draft)) }
+        ensures text { self.new.draft.text.items ≡ self.old.draft.text.items }
+        ensures tokens { OnOk result (left self.old ≡ Ok (tokens_in self.new.draft)) }
     {
         let place = self.cursor.place;
         if self.begins {
@@ -185,7 +190,7 @@ impl Lexer {
     }
 
     pub fn into_tokens(self) -> Tokens
-        ensures { result ≡ tokens_in self.draft }
+        ensures { result ≡ record { text = self.draft.text.items; tokens = tokens_in self.draft } }
     {
         let Lexer {
             draft,
@@ -202,7 +207,8 @@ impl Lexer {
 /// 16777216 bytes is for the caller to refuse.
 pub fn lex(alloc: Global, bytes: &[u8]) -> Result<Tokens, Refused<FirFault>>
     requires { length bytes.now ≤ 16777216 }
-    ensures { Gives result (lexed bytes.now) }
+    ensures tokens { Gives result (lexed bytes.now) }
+    ensures text { IfOk result (λ t. t.text ≡ bytes.now) }
 {
     let mut lexer = Lexer::new(alloc, bytes)?;
     while !lexer.is_at_end() {

@@ -5,7 +5,7 @@ use fir_base::{MemoryOut, Refused, put_decimal};
 use std::alloc::Global;
 use std::process::Abort;
 use std::test::*;
-use tables::{BLOCKS, LEVELS, LINES, PROGRAMS, SIGNS, STRINGS, TOKENS};
+use tables::{BLOCKS, ENDS, LEVELS, LINES, PROGRAMS, SIGNS, STRINGS, TOKENS};
 
 fn letter(kind: Kind) -> u8 {
     match kind {
@@ -88,6 +88,19 @@ fn shown(alloc: Global, text: &[u8]) -> Result<Vec<u8>, MemoryOut> {
     Ok(out)
 }
 
+/// The place of a text's end in its printed form, or the text's fault.
+fn shown_end(alloc: Global, text: &[u8]) -> Result<Vec<u8>, MemoryOut> {
+    let mut out = Vec::new(alloc);
+    if text.len() <= 1000 {
+        match lex(alloc, text) {
+            Ok(tokens) => put_place(&mut out, tokens.end())?,
+            Err(Refused::Fault(fault)) => put_fault(&mut out, fault)?,
+            Err(Refused::Memory) => return Err(MemoryOut),
+        }
+    }
+    Ok(out)
+}
+
 fn are_shown(rt: &impl Abort, alloc: Global, table: &[(&[u8], &[u8])]) -> Result<(), MemoryOut> {
     for (text, expected) in table {
         let out = shown(alloc, text)?;
@@ -115,5 +128,14 @@ fn tokens_and_literals(rt: HostRuntime) -> Result<(), Fail> {
 fn blocks_and_programs(rt: HostRuntime) -> Result<(), Fail> {
     are_shown(&rt, rt.alloc(), BLOCKS)?;
     are_shown(&rt, rt.alloc(), PROGRAMS)?;
+    Ok(())
+}
+
+#[test]
+fn ends_of_texts(rt: HostRuntime) -> Result<(), Fail> {
+    for (text, expected) in ENDS {
+        let out = shown_end(rt.alloc(), text)?;
+        assert_eq!(rt; out.as_slice(), *expected);
+    }
     Ok(())
 }

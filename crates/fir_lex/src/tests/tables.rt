@@ -369,3 +369,10 @@ pub const PROGRAMS: &[(&[u8], &[u8])] = &[
         b"Wa@1:1 Wis@1:3 Winvalid@1:6 E@1:13 Wa@2:1 S<-@2:3 Wb@2:6 E@2:7",
     ),
 ];
+
+pub const ENDS: &[(&[u8], &[u8])] = &[
+    (b"", b"@1:1"),
+    (b"a", b"@1:2"),
+    (b"a\n", b"@2:1"),
+    (b"a\r\nbc", b"@2:3"),
+];
