@@ -1,4 +1,4 @@
-use Rattle.std.proofs.Common.{sym, ap, ◌∙◌}
+use Rattle.std.proofs.Common.{◌≡◌, ◌++◌, sym, ap, ◌∙◌}
 use Rattle.std.proofs.lemmas.List.{append-nil}
 use Rattle.fir_ast.proofs.Fields.{bundle_first, bundle_next, field_written}
 use Rattle.fir_ast.proofs.type_text.+type_text.Goals as goal
