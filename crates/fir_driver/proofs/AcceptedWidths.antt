@@ -8,7 +8,7 @@ use Rattle.ver_ast.specs.Nets.{Sized, names_of}
 use Rattle.fir_driver.specs.declared.circuit.Expr.{Expr}
 use Rattle.fir_driver.specs.declared.circuit.Expr.TheVariants.{Ref, Not, Bitwise}
 use Rattle.fir_driver.specs.Leaves.{look_up, one_width, expr_width}
-use Rattle.fir_driver.specs.Spells.{expr_names}
+use Rattle.fir_driver.specs.Written.{expr_names}
 use Rattle.fir_driver.proofs.AcceptedLists.{in_map}
 
 -- a look-up ends at the first leaf, or goes on

@@ -13,7 +13,7 @@ use Rattle.fir_driver.specs.declared.circuit.Expr.TheVariants.{Ref, Not, Bitwise
 use Rattle.fir_driver.specs.declared.circuit.Statement.{Statement}
 use Rattle.fir_driver.specs.declared.circuit.Statement.TheVariants as statement
 use Rattle.fir_driver.specs.declared.circuit.Circuit.{Circuit}
-use Rattle.fir_driver.specs.Spells.{IsWritten}
+use Rattle.fir_driver.specs.Written.{IsWritten}
 use Rattle.fir_driver.specs.Leaves.{inputs, outputs, port_leaf, shape}
 use Rattle.fir_driver.specs.Accepted.{Accepted, sink_name}
 use Rattle.fir_driver.specs.Settled.{Settled}

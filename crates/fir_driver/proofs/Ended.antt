@@ -1,18 +1,18 @@
 -- From how the parts of a run end to what the whole does.
-use Rattle.std.proofs.Common.{◌≡◌, ◌≢◌, ℕ, ◌+◌, ◌<◌, ◌≤◌, List, [], ◌++◌, length, Option, Some, None, String, Global, IfSome, ◌⊎◌, inl, inr, refl, sym, ap, ◌∙◌, subst, arith, append-nil}
+use Rattle.std.proofs.Common.{◌≡◌, ℕ, ◌+◌, ◌<◌, ◌≤◌, List, [], ◌++◌, length, Option, Some, None, String, Global, IfSome, inl, inr, refl, sym, ap, ◌∙◌, subst, arith, append-nil}
 use Rattle.std.specs.Prelude.{option_map}
 use Rattle.fir_io.specs.Ports.{FilesSeen, SinkSeen, Rose, AtLeast, Grew}
-use Rattle.fir_driver.specs.declared.circuit.Circuit.{Circuit}
 use Rattle.fir_driver.specs.declared.status.Status.{Status}
 use Rattle.fir_driver.specs.declared.status.Status.TheVariants.{Done, Refused, Usage, Unread, Unwritten, NoMemory, TooLong}
 use Rattle.fir_driver.specs.Spells.{Spells}
-use Rattle.fir_driver.specs.Accepted.{Accepted}
 use Rattle.fir_driver.specs.Command.{named_file}
-use Rattle.fir_driver.specs.Messages.{usage_line, unsupported_line, unread_line, too_long_line, memory_line}
+use Rattle.fir_driver.specs.Messages.{usage_line, unread_line, too_long_line, memory_line}
 use Rattle.fir_driver.specs.Emits.{Emits, SpellsNone}
 use Rattle.fir_driver.specs.Headline.{Outside, outside, IsContent, Kept, Due, Headline, code, limit}
 use Rattle.fir_driver.specs.Endings.{Said, Complained, Emitted}
-use Rattle.fir_driver.specs.Complete.{NoneFailed, Names, Answers, Complete}
+use Rattle.fir_driver.specs.Refusals.{Refuses}
+use Rattle.fir_driver.proofs.Refused.{refused_spells_none}
+use Rattle.fir_driver.specs.Complete.{Names, Answers, Complete}
 
 -- what is not put to holds what it held
 held_stays : (o : Option (List ℕ)) → o ≡ option_map (λ held. held ++ []) o
@@ -22,15 +22,19 @@ held_stays (Some held) = ap Some (sym (append-nil held))
 pub kept_same : (o : SinkSeen) → Kept o o
 kept_same o = held_stays o.held
 
-pub refused_said : (bytes : List ℕ) (out err err' : SinkSeen) (s : Status) → SpellsNone bytes → Said unsupported_line Refused err err' s → Emitted bytes out out err err' s
-refused_said bytes out err err' s none (inl p) = subst (Emitted bytes out out err err') (sym p.0) (none, refl, p.1)
-refused_said bytes out err err' s none (inr (inl p)) = subst (Emitted bytes out out err err') (sym p.0) (inr (kept_same out, p.1, inr (none, p.2)))
-refused_said bytes out err err' s none (inr (inr p)) = subst (Emitted bytes out out err err') (sym p.0) (inl (kept_same out), inr p.1)
+pub refused_said : (bytes line : List ℕ) (out err err' : SinkSeen) (s : Status) → Refuses bytes line → Said line Refused err err' s → Emitted bytes out out err err' s
+refused_said bytes line out err err' s why (inl p) = subst (Emitted bytes out out err err') (sym p.0) (line, why, refl, p.1)
+refused_said bytes line out err err' s why (inr (inl p)) = subst (Emitted bytes out out err err') (sym p.0) (inr (kept_same out, p.1, inr (line, why, p.2)))
+refused_said bytes line out err err' s why (inr (inr p)) = subst (Emitted bytes out out err err') (sym p.0) (inl (kept_same out), inr p.1)
 
 pub memory_said : (bytes : List ℕ) (out err err' : SinkSeen) (s : Status) → Said memory_line NoMemory err err' s → Emitted bytes out out err err' s
 memory_said bytes out err err' s (inl p) = subst (Emitted bytes out out err err') (sym p.0) (inl (kept_same out), inl p.1)
 memory_said bytes out err err' s (inr (inl p)) = subst (Emitted bytes out out err err') (sym p.0) (inr (kept_same out, p.1, inl p.2))
 memory_said bytes out err err' s (inr (inr p)) = subst (Emitted bytes out out err err') (sym p.0) (inl (kept_same out), inr p.1)
+
+pub refused_told : (bytes line : List ℕ) (out err err' : SinkSeen) (s : Status) → Refuses bytes line → Complained line Refused err err' s → Emitted bytes out out err err' s
+refused_told bytes line out err err' s why (inl h) = refused_said bytes line out err err' s why h
+refused_told bytes line out err err' s why (inr h) = memory_said bytes out err err' s h
 
 module _ (words : List (String Global)) (files files' : FilesSeen) (out err err' : SinkSeen) where
   abbrev Ends : Status → Type 0
@@ -61,7 +65,7 @@ module _ (words : List (String Global)) (files files' : FilesSeen) (out err err'
 -- what was done with the bytes is what is done for the words
 pub emitted_ended : (words : List (String Global)) (files files' : FilesSeen) (out out' err err' : SinkSeen) (bytes : List ℕ) (s : Status) → IsContent words (outside files out err) bytes → Emitted bytes out out' err err' s → Headline words (outside files out err) (outside files' out' err') s
 emitted_ended words files files' out out' err err' bytes Done content h = (bytes, h.0, content, h.1, h.2, h.3)
-emitted_ended words files files' out out' err err' bytes Refused content h = (unsupported_line, (bytes, content, h.0, refl), h.1, h.2)
+emitted_ended words files files' out out' err err' bytes Refused content h = (h.0, (bytes, content, h.1), h.2, h.3)
 emitted_ended words files files' out out' err err' bytes Usage content h = absurd h
 emitted_ended words files files' out out' err err' bytes Unread content h = absurd h
 emitted_ended words files files' out out' err err' bytes TooLong content h = absurd h
@@ -69,8 +73,8 @@ emitted_ended words files files' out out' err err' bytes Unwritten content (inl 
     inl (record { read = bytes; written = h.0; content = content; emits = h.1; front = h.3 }, h.2, h.4)
 emitted_ended words files files' out out' err err' bytes Unwritten content (inr (kept, rose, inl front)) =
     inr (NoMemory, memory_line, refl, kept, rose, front)
-emitted_ended words files files' out out' err err' bytes Unwritten content (inr (kept, rose, inr (none, front))) =
-    inr (Refused, unsupported_line, (bytes, content, none, refl), kept, rose, front)
+emitted_ended words files files' out out' err err' bytes Unwritten content (inr (kept, rose, inr (line, why, front))) =
+    inr (Refused, line, (bytes, content, why), kept, rose, front)
 emitted_ended words files files' out out' err err' bytes NoMemory content (inl kept, e) = (inl kept, e)
 emitted_ended words files files' out out' err err' bytes NoMemory content (inr (text, emits, front), e) =
     (inr (record { read = bytes; written = text; content = content; emits = emits; front = front }), e)
@@ -134,7 +138,7 @@ module _ (words : List (String Global)) (before : Outside) where
 -- where nothing failed and memory was there, the status is the one that the words and the told content give
 pub complete : (words : List (String Global)) (before after : Outside) (s : Status) → Headline words before after s → Complete words before after (code s)
 complete words before after Done h not_memory none_failed = done_answers words before h.0 h.1 h.2 h.3
-complete words before after Refused h not_memory none_failed = refused_answers words before h.1.0 h.1.1 h.1.2
+complete words before after Refused h not_memory none_failed = refused_answers words before h.1.0 h.1.1 (refused_spells_none h.1.0 h.0 h.1.2)
 complete words before after Usage h not_memory none_failed = usage_answers words before h.1.0
 complete words before after Unread h not_memory none_failed = absurd (none_failed.files h.1.2)
 complete words before after Unwritten (inl h) not_memory none_failed = absurd (none_failed.out h.1)

@@ -13,7 +13,7 @@ use Rattle.fir_driver.proofs.OneCircuitPorts.{inputs_of, outputs_of, input_is_po
 use Rattle.fir_driver.specs.declared.circuit.Port.{Port}
 use Rattle.fir_driver.specs.declared.circuit.Circuit.{Circuit}
 use Rattle.fir_driver.specs.Names.{IsName}
-use Rattle.fir_driver.specs.Spells.{IsPort}
+use Rattle.fir_driver.specs.Written.{IsPort}
 use Rattle.fir_driver.specs.Leaves.{inputs, outputs, port_leaf, input_leaf, output_leaf}
 use Rattle.fir_driver.specs.Lowered.{Binding, input_binding, at_first, verilog_port}
 use Rattle.fir_driver.proofs.LoweredAlong.{Sound, binding_leaf, known}

@@ -15,7 +15,7 @@ use Rattle.ver_ast.specs.Valid.{HasOneWidth}
 use Rattle.fir_driver.proofs.AcceptedLists.{in_map, in_right, in_either}
 use Rattle.fir_driver.specs.declared.circuit.Port.{Port}
 use Rattle.fir_driver.specs.declared.circuit.Circuit.{Circuit}
-use Rattle.fir_driver.specs.Spells.{IsPort, IsWritten}
+use Rattle.fir_driver.specs.Written.{IsPort, IsWritten}
 use Rattle.fir_driver.specs.Leaves.{port_leaf}
 use Rattle.fir_driver.specs.Lowered.{Lowering, verilog_port}
 use Rattle.fir_driver.proofs.LoweredNames.{inner_is_name, is_verilog_name}

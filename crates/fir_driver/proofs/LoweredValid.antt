@@ -17,7 +17,7 @@ use Rattle.ver_ast.specs.Valid.{Valid, reads, DeclaredBefore, HasOneWidth, Reads
 use Rattle.fir_driver.proofs.AcceptedLists.{in_map, in_map_from, in_left, in_right, in_either, in_map_more, one_second}
 use Rattle.fir_driver.specs.declared.circuit.Circuit.{Circuit}
 use Rattle.fir_driver.specs.Names.{IsName}
-use Rattle.fir_driver.specs.Spells.{IsPort}
+use Rattle.fir_driver.specs.Written.{IsPort}
 use Rattle.fir_driver.specs.Leaves.{inputs, outputs, port_leaf}
 use Rattle.fir_driver.specs.Lowered.{Inner, Driver, Lowering, driver_of, wire_item, assign_item}
 use Rattle.fir_driver.proofs.LoweredNames.{inner_name_injective, outer_is_not_inner}

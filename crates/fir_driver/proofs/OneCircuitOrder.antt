@@ -10,7 +10,7 @@ use Rattle.fir_driver.specs.declared.circuit.Statement.{Statement}
 use Rattle.fir_driver.specs.declared.circuit.Statement.TheVariants as statement
 use Rattle.fir_driver.specs.Leaves.{expr_width, leaves_behind}
 use Rattle.fir_driver.specs.Accepted.{Fits, node_name, sink_name}
-use Rattle.fir_driver.specs.Spells.{expr_names}
+use Rattle.fir_driver.specs.Written.{expr_names}
 use Rattle.fir_driver.proofs.AcceptedLists.{in_map, distinct_left, front_lacks, middle_first, in_map_more}
 use Rattle.fir_driver.proofs.AcceptedWidths.{look_up_in, operand_widths, width_among_more}
 

@@ -9,7 +9,7 @@ use Rattle.fir_driver.specs.declared.circuit.BitwiseOp.{BitwiseOp}
 use Rattle.fir_driver.specs.declared.circuit.BitwiseOp.TheVariants.{And, Or, Xor}
 use Rattle.fir_driver.specs.declared.circuit.Expr.{Expr}
 use Rattle.fir_driver.specs.declared.circuit.Expr.TheVariants.{Ref, Not, Bitwise}
-use Rattle.fir_driver.specs.Spells.{expr_names}
+use Rattle.fir_driver.specs.Written.{expr_names}
 use Rattle.fir_driver.specs.Settled.{expr_value, bitwise_value}
 
 -- operators bit by bit keep the width

@@ -4,8 +4,6 @@
 use Rattle.std.specs.Prelude.{◌≡◌, ℕ, List}
 use Rattle.ver_ast.specs.declared.tree.Verilog.{Verilog}
 use Rattle.ver_ast.specs.Spells.{VSpells}
-use Rattle.fir_base.specs.declared.refused.Refused.{Refused}
-use Rattle.fir_base.specs.declared.refused.Refused.TheVariants.{Fault, Memory}
 use Rattle.ver_emit.specs.Layout.{layout}
 use Rattle.fir_driver.specs.declared.circuit.Circuit.{Circuit}
 use Rattle.fir_driver.specs.Spells.{Spells}
@@ -26,8 +24,3 @@ pub record Emits (read written : List ℕ) : Type 0 where
 -- no accepted circuit is spelled
 abbrev pub SpellsNone : List ℕ → Type 0
 SpellsNone read = (c : Circuit) → Spells read c → Accepted c → ⊥
-
--- a refusal of the text is shown by it; want of memory is free
-abbrev pub IsRefusal : {F : Type 0} → List ℕ → Refused F → Type 0
-IsRefusal read (Fault f) = SpellsNone read
-IsRefusal read Memory = Unit {0}

@@ -5,8 +5,9 @@ use Rattle.fir_io.specs.Ports.{SinkSeen, Rose, Grew}
 use Rattle.fir_driver.specs.declared.status.Status.{Status}
 use Rattle.fir_driver.specs.declared.status.Status.TheVariants as status
 use Rattle.fir_driver.specs.Headline.{Kept, GrewByFront}
-use Rattle.fir_driver.specs.Messages.{unsupported_line, unwritten_line, memory_line}
-use Rattle.fir_driver.specs.Emits.{Emits, SpellsNone}
+use Rattle.fir_driver.specs.Messages.{unwritten_line, memory_line}
+use Rattle.fir_driver.specs.Emits.{Emits}
+use Rattle.fir_driver.specs.Refusals.{Refuses}
 
 -- a line was put, which ends with the due status
 abbrev pub Said : List ℕ → Status → SinkSeen → SinkSeen → Status → Type 0
@@ -31,10 +32,10 @@ Written text out out' err err' other = ⊥
 -- the bytes were emitted or refused
 abbrev pub Emitted : List ℕ → SinkSeen → SinkSeen → SinkSeen → SinkSeen → Status → Type 0
 Emitted bytes out out' err err' status.Done = (text : List ℕ) × Emits bytes text × Grew out out' text × (err' ≡ err)
-Emitted bytes out out' err err' status.Refused = SpellsNone bytes × (out' ≡ out) × Grew err err' unsupported_line
+Emitted bytes out out' err err' status.Refused = (line : List ℕ) × Refuses bytes line × (out' ≡ out) × Grew err err' line
 Emitted bytes out out' err err' status.Unwritten =
     ((text : List ℕ) × Emits bytes text × Rose out.faults out'.faults × GrewByFront out out' text × GrewByFront err err' unwritten_line)
-    ⊎ (Kept out out' × Rose err.faults err'.faults × (GrewByFront err err' memory_line ⊎ (SpellsNone bytes × GrewByFront err err' unsupported_line)))
+    ⊎ (Kept out out' × Rose err.faults err'.faults × (GrewByFront err err' memory_line ⊎ ((line : List ℕ) × Refuses bytes line × GrewByFront err err' line)))
 Emitted bytes out out' err err' status.NoMemory =
     (Kept out out' ⊎ ((text : List ℕ) × Emits bytes text × GrewByFront out out' text)) × (Grew err err' memory_line ⊎ Kept err err')
 Emitted bytes out out' err err' other = ⊥

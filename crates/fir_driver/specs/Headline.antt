@@ -1,12 +1,13 @@
 -- What the program does: each status, with its cause and with what stands on the outputs.
-use Rattle.std.specs.Prelude.{◌≡◌, ℕ, ◌+◌, ◌<◌, ◌≤◌, List, [], ◌++◌, length, Option, Some, None, String, IfSome, ◌⊎◌}
+use Rattle.std.specs.Prelude.{◌≡◌, ℕ, ◌+◌, ◌<◌, ◌≤◌, List, [], ◌++◌, length, Some, None, String, IfSome, ◌⊎◌}
 use Rattle.std.specs.declared.alloc.Global.{Global}
 use Rattle.fir_io.specs.Ports.{FilesSeen, SinkSeen, Rose, AtLeast, Grew}
 use Rattle.fir_driver.specs.declared.status.Status.{Status}
 use Rattle.fir_driver.specs.declared.status.Status.TheVariants as status
 use Rattle.fir_driver.specs.Command.{named_file}
-use Rattle.fir_driver.specs.Messages.{usage_line, unsupported_line, unread_line, too_long_line, unwritten_line, memory_line}
-use Rattle.fir_driver.specs.Emits.{Emits, SpellsNone}
+use Rattle.fir_driver.specs.Messages.{usage_line, unread_line, too_long_line, unwritten_line, memory_line}
+use Rattle.fir_driver.specs.Emits.{Emits}
+use Rattle.fir_driver.specs.Refusals.{Refuses}
 
 -- the most bytes of a file that are taken
 abbrev pub limit : ℕ
@@ -47,7 +48,7 @@ GrewByFront old new piece = (front : List ℕ) × (back : List ℕ) × (piece �
 
 -- which line is due on the error output, with which status and for what cause
 abbrev pub Due : List (String Global) → Outside → Outside → Status → List ℕ → Type 0
-Due words before after status.Refused line = (bytes : List ℕ) × IsContent words before bytes × SpellsNone bytes × (line ≡ unsupported_line)
+Due words before after status.Refused line = (bytes : List ℕ) × IsContent words before bytes × Refuses bytes line
 Due words before after status.Usage line = (named_file words ≡ None) × (line ≡ usage_line)
 Due words before after status.Unread line =
     (name : List ℕ) × (named_file words ≡ Some name) × Rose before.files.faults after.files.faults × (line ≡ unread_line name)

@@ -1,7 +1,7 @@
 -- Names of a circuit (FIRRTL spec, "Details about Syntax").
 -- A letter or an underscore, then letters, digits, underscores and dollar signs; not begun with `_n`, as the inner nets of the emitted text are;
 -- no keyword of the language, and no reserved word of Verilog.
-use Rattle.std.specs.Prelude.{ℕ, List, Bool, map, not, codes, nat_eq, IsTrue}
+use Rattle.std.specs.Prelude.{ℕ, List, Bool, map, not, ◌&&◌, codes, nat_eq, IsTrue}
 use Rattle.std.specs.List.{starts_with}
 use Rattle.fir_base.specs.Words.{is_among}
 use Rattle.ver_ast.specs.Names.{is_word}
@@ -19,3 +19,7 @@ pub record IsName (name : List ℕ) : Type 0 where
   pub outer : IsTrue (not (begins_as_inner name))
   pub meaningless : IsTrue (not (is_keyword name))
   pub unreserved : IsTrue (not (is_reserved name))
+
+-- whether a word is a name
+unfoldable pub is_name : List ℕ → Bool
+is_name w = is_word w && not (begins_as_inner w) && not (is_keyword w) && not (is_reserved w)

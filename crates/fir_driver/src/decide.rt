@@ -3,10 +3,7 @@
 
 mod leaves;
 mod settled;
-pub mod spells;
-mod text;
 mod values;
-mod written;
 
 pub use settled::is_settled;
 pub use values::{NamedValue, TickValues};

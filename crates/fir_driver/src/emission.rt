@@ -1,28 +1,46 @@
 //! From the bytes of a circuit to the bytes of its Verilog.
 
-ghost use Rattle.std.specs.Prelude.{◌≡◌, IfOk, IfErr};
-ghost use Rattle.fir_driver.specs.Emits.{Emits, IsRefusal};
+ghost use Rattle.std.specs.Prelude.{◌≤◌, IfOk, length};
+ghost use Rattle.fir_driver.specs.Readings.{IsEmitted};
 
 use crate::check::accepted;
+use crate::laws::spells_one_circuit;
 use crate::lower::compile;
-use crate::reader::{Unsupported, read_circuit, spells_one_circuit};
-use fir_base::Refused;
+use crate::reader::{Reading, read_circuit};
+use fir_ast::FirFault;
+use fir_base::MemoryOut;
 use std::alloc::Global;
 use ver_ast::spells_one_tree;
 use ver_emit::{layout_is_spelled, write_verilog};
 
-/// The Verilog of the circuit that the bytes spell, or that they spell none that is accepted.
-pub fn emitted(alloc: Global, bytes: &[u8]) -> Result<Vec<u8>, Refused<Unsupported>>
-    ensures emitted { IfOk result (λ text. Emits bytes.now text.items) }
-    ensures refused { IfErr result (IsRefusal bytes.now) }
+/// What comes of a text.
+#[derive(Drop)]
+pub enum Emission {
+    /// The Verilog of the circuit that it spells.
+    Verilog(Vec<u8>),
+    /// A text with a fault, or with a form that the language lacks.
+    Fault(FirFault),
+    /// A text that has neither, and spells no accepted circuit.
+    Outside,
+}
+
+/// The Verilog of the circuit that the bytes spell, or why there is none.
+pub fn emitted(alloc: Global, bytes: &[u8]) -> Result<Emission, MemoryOut>
+    requires { length bytes.now ≤ 16777216 }
+    ensures { IfOk result (λ emission. IsEmitted bytes.now emission) }
 {
     spells_one_circuit();
     spells_one_tree();
     layout_is_spelled();
-    let circuit = read_circuit(alloc, bytes)?;
-    if !accepted(alloc, &circuit)? {
-        return Err(Refused::Fault(Unsupported));
+    match read_circuit(alloc, bytes)? {
+        Reading::Circuit(circuit) => {
+            if !accepted(alloc, &circuit)? {
+                return Ok(Emission::Outside);
+            }
+            let verilog = compile(alloc, &circuit)?;
+            Ok(Emission::Verilog(write_verilog(alloc, &verilog)?))
+        }
+        Reading::Fault(fault) => Ok(Emission::Fault(fault)),
+        Reading::Outside => Ok(Emission::Outside),
     }
-    let verilog = compile(alloc, &circuit)?;
-    Ok(write_verilog(alloc, &verilog)?)
 }

@@ -13,7 +13,7 @@ ghost use Rattle.std.specs.Prelude.{◌≡◌, ◌^◌, ◌<◌, IfOk, OnOk, len
 ghost use Rattle.fir_driver.specs.Accepted.{Accepted};
 ghost use Rattle.fir_driver.specs.Compiles.{Compiles};
 ghost use Rattle.fir_driver.specs.Lowered.{lowered};
-ghost use Rattle.fir_driver.specs.Spells.{IsWritten};
+ghost use Rattle.fir_driver.specs.Written.{IsWritten};
 
 use crate::circuit::Circuit;
 use crate::laws::accepted_has_one;

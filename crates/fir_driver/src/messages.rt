@@ -1,10 +1,13 @@
 //! The lines of the error output.
 
 ghost use Rattle.std.specs.Prelude.{◌≡◌, ◌++◌, IfOk, codes};
+ghost use Rattle.fir_ast.specs.FaultLines.{fault_line};
 ghost use Rattle.fir_io.specs.Ports.{SinkSeen};
+ghost use Rattle.fir_driver.specs.declared.status.Status.TheVariants as status;
 ghost use Rattle.fir_driver.specs.Endings.{Said, Complained};
 
 use crate::status::Status;
+use fir_ast::FirFault;
 use fir_base::MemoryOut;
 use fir_io::{PutFault, Sink};
 use std::alloc::Global;
@@ -53,4 +56,15 @@ fn line_of(alloc: Global, words: &[u8], name: &str) -> Result<Vec<u8>, MemoryOut
     line.extend_from_slice(name.as_bytes())?;
     line.extend_from_slice(b"\n")?;
     Ok(line)
+}
+
+/// Puts the line of the fault of a text, and ends with `Refused` where that succeeds.
+pub fn say_fault<T: Sink>(alloc: Global, err: &mut T, fault: &FirFault) -> Status
+    ensures { Complained (fault_line fault.now) status.Refused (T.seen err.old) (T.seen err.new) result }
+{
+    let mut line = Vec::new(alloc);
+    match fault.put_line(alloc, &mut line) {
+        Ok(()) => say(err, line.as_slice(), Status::Refused),
+        Err(MemoryOut) => say(err, MEMORY_LINE, Status::NoMemory),
+    }
 }

@@ -1,9 +1,11 @@
 //! Which words may be names.
 
 ghost use Rattle.std.specs.Prelude.{◌≡◌};
-ghost use Rattle.fir_driver.specs.Names.{is_keyword};
+ghost use Rattle.fir_driver.specs.Names.{is_keyword, is_name};
 
+use crate::word::is_word;
 use fir_base::is_among;
+use ver_ast::is_reserved;
 
 /// The quoted words of the grammar and the operators (FIRRTL spec, "Details about Syntax", "Primitive
 /// Operations").
@@ -82,4 +84,12 @@ pub fn is_keyword(word: &[u8]) -> bool
     ensures { result ≡ is_keyword word.now }
 {
     is_among(KEYWORDS, word)
+}
+
+/// Whether the bytes may be a name.
+#[tactic(auto, unfolding(crate::specs::Names::is_name))]
+pub fn is_name(bytes: &[u8]) -> bool
+    ensures { result ≡ is_name bytes.now }
+{
+    is_word(bytes) && !bytes.starts_with(b"_n") && !is_keyword(bytes) && !is_reserved(bytes)
 }

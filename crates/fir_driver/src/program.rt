@@ -1,16 +1,18 @@
 //! The one call that the program makes.
 
-ghost use Rattle.std.specs.Prelude.{◌≡◌, IsTrue, IfSome};
+ghost use Rattle.std.specs.Prelude.{◌≡◌, ◌≤◌, IsTrue, IfSome, length};
 ghost use Rattle.fir_driver.specs.Command.{named_file};
 ghost use Rattle.fir_driver.specs.Headline.{outside, code, Headline};
 ghost use Rattle.fir_driver.specs.Endings.{Written, Emitted};
 ghost use Rattle.fir_driver.specs.Complete.{Complete};
 
 use crate::command::named_file;
-use crate::emission::emitted;
-use crate::messages::{MEMORY_LINE, UNSUPPORTED_LINE, UNWRITTEN_LINE, USAGE_LINE, complain, say};
+use crate::emission::{Emission, emitted};
+use crate::messages::{
+    MEMORY_LINE, UNSUPPORTED_LINE, UNWRITTEN_LINE, USAGE_LINE, complain, say, say_fault,
+};
 use crate::status::Status;
-use fir_base::Refused;
+use fir_base::MemoryOut;
 use fir_io::{FileFault, Files, PutFault, Sink};
 use std::alloc::Global;
 
@@ -53,14 +55,16 @@ fn ending<F: Files, S: Sink, T: Sink>(
     }
 }
 
-/// Emits what the bytes spell, or says that they are not taken.
+/// Emits what the bytes spell, or says why they are refused.
 fn emit<S: Sink, T: Sink>(alloc: Global, bytes: &[u8], out: &mut S, err: &mut T) -> Status
+    requires { length bytes.now ≤ 16777216 }
     ensures { Emitted bytes.now (S.seen out.old) (S.seen out.new) (T.seen err.old) (T.seen err.new) result }
 {
     match emitted(alloc, bytes) {
-        Ok(text) => write(text.as_slice(), out, err),
-        Err(Refused::Fault(_)) => say(err, UNSUPPORTED_LINE, Status::Refused),
-        Err(Refused::Memory) => say(err, MEMORY_LINE, Status::NoMemory),
+        Ok(Emission::Verilog(text)) => write(text.as_slice(), out, err),
+        Ok(Emission::Fault(fault)) => say_fault(alloc, err, &fault),
+        Ok(Emission::Outside) => say(err, UNSUPPORTED_LINE, Status::Refused),
+        Err(MemoryOut) => say(err, MEMORY_LINE, Status::NoMemory),
     }
 }
 

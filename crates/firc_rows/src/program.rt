@@ -70,7 +70,7 @@ fn a_failed_write_is_told(rt: HostRuntime) -> Result<(), Fail> {
     let shown = run_over(rt.alloc(), &words, "f.fir", b"", failing)?;
     assert_eq!(rt; shown.status, 4);
     assert_eq!(rt; shown.out.len(), 0);
-    assert_eq!(rt; shown.err.as_slice(), b"E05 1".as_slice());
+    assert_eq!(rt; shown.err.as_slice(), b"E04 1".as_slice());
     Ok(())
 }
 

@@ -1,0 +1,76 @@
+-- Where reading stops with a fault, and with which.
+use Rattle.std.proofs.Common.{◌≡◌, ℕ, true, false, List, [], ◌∷◌, ◌++◌, Option, Some, None, Ok, Err, refl, sym, ap, ◌∙◌, ◌⊎◌, inl, inr}
+use Rattle.fir_ast.specs.declared.place.Place.{Place}
+use Rattle.fir_ast.specs.declared.fault.FirFault.{FirFault}
+use Rattle.fir_ast.specs.declared.fault.FirFault.TheVariants.{Syntax, Unsupported}
+use Rattle.fir_parse.specs.Lexemes.{Terminal}
+use Rattle.fir_parse.specs.States.{State, Limit, fault_of}
+use Rattle.fir_parse.specs.Reading.{Outcome, at_token, at_end, read_on}
+use Rattle.fir_parse.specs.TextFaults.{Fit, fits, unfit, missing, fit, passed_limit, Reaches, place_at, next_fit}
+use Rattle.fir_parse.proofs.Guards.{Guarded}
+use Rattle.fir_parse.proofs.AtTokens.{outcome_of, within_limits, past_limit, end_past_limit, end_within_limits, ends_so}
+use Rattle.fir_parse.proofs.Along.{fitting_guarded}
+
+-- no text ends in this state
+abbrev pub IsOpen : State → Type 0
+IsOpen st = (end : Place) → at_end false end st ≡ Err (Syntax end)
+
+-- at the end something is expected
+abbrev pub OpenAtEnd : State → List Terminal → Type 0
+OpenAtEnd st [] = IsOpen st
+OpenAtEnd st (t ∷ back) = Unit {0}
+
+abbrev pub PassesLimit : State → FirFault → Type 0
+PassesLimit st f = (l : Limit) × (passed_limit st ≡ Some l) × (f ≡ fault_of l)
+
+abbrev pub FitsNothing : Place → State → List Terminal → FirFault → Type 0
+FitsNothing end st back f = (passed_limit st ≡ None) × (next_fit st back ≡ unfit) × OpenAtEnd st back × (f ≡ Syntax (place_at end back))
+
+abbrev pub IsMissing : State → List Terminal → FirFault → Type 0
+IsMissing st back f = (p : Place) × (w : List ℕ) × (passed_limit st ≡ None) × (next_fit st back ≡ missing p w) × (f ≡ Unsupported p w)
+
+-- reading stops in this state, before these tokens
+abbrev pub Halts : Place → State → List Terminal → FirFault → Type 0
+Halts end st back f = PassesLimit st f ⊎ FitsNothing end st back f ⊎ IsMissing st back f
+
+-- reading stops behind some of the tokens
+pub record HaltsIn (end : Place) (st : State) (ts : List Terminal) (f : FirFault) : Type 0 where
+  pub front : List Terminal
+  pub back : List Terminal
+  pub parts : ts ≡ front ++ back
+  pub last : State
+  pub reaches : Reaches st front last
+  pub halts : Halts end last back f
+
+here : (end : Place) (st : State) (ts : List Terminal) (f : FirFault) → Halts end st ts f → HaltsIn end st ts f
+here end st ts f h = record { front = []; back = ts; parts = refl; last = st; reaches = refl; halts = h }
+
+same_fault : (f g : FirFault) (o : Outcome) → o ≡ Err f → o ≡ Err g → g ≡ f
+same_fault f g o p q = cc
+
+at_the_end : (end : Place) (st : State) (f : FirFault) (o : Option Limit) → passed_limit st ≡ o → at_end true end st ≡ Err f → HaltsIn end st [] f
+at_the_end end st f (Some l) e r = here end st [] f (inl (l, e, same_fault _ _ _ (end_past_limit end st l e) r))
+at_the_end end st f None e r =
+    elim (ends_so st) as (λ u. HaltsIn end st [] f) [
+      | inl x ↦ let no : at_end false end st ≡ Ok x.0 = x.1 end in let same : at_end true end st ≡ at_end false end st = end_within_limits end st e in absurd (cc)
+      | inr x ↦ here end st [] f (inr (inl (e, refl, x, same_fault _ _ _ (end_within_limits end st e ∙ x end) r)))
+    ]
+
+behind : (end : Place) (st next : State) (t : Terminal) (ts : List Terminal) (f : FirFault) → passed_limit st ≡ None → fit st t ≡ fits next → HaltsIn end next ts f → HaltsIn end st (t ∷ ts) f
+behind end st next t ts f none e h =
+    record { front = t ∷ h.front; back = h.back; parts = ap (λ x. t ∷ x) h.parts; last = h.last; reaches = (next, none, e, h.reaches); halts = h.halts }
+
+by_fit : (end : Place) (st : State) (t : Terminal) (ts : List Terminal) (f : FirFault) → passed_limit st ≡ None → (u : Fit) → fit st t ≡ u → outcome_of u t.place (λ n. read_on true end n ts) ≡ Err f → ((next : State) → fit st t ≡ fits next → read_on true end next ts ≡ Err f → HaltsIn end next ts f) → HaltsIn end st (t ∷ ts) f
+by_fit end st t ts f none (fits next) e r later = behind end st next t ts f none e (later next e r)
+by_fit end st t ts f none unfit e r later = here end st (t ∷ ts) f (inr (inl (none, e, tt, same_fault _ _ _ refl r)))
+by_fit end st t ts f none (missing p w) e r later = here end st (t ∷ ts) f (inr (inr (p, w, none, e, same_fault _ _ _ refl r)))
+
+by_limit : (end : Place) (st : State) (t : Terminal) (ts : List Terminal) (f : FirFault) → Guarded st → (o : Option Limit) → passed_limit st ≡ o → at_token true st t (λ n. read_on true end n ts) ≡ Err f → ((next : State) → fit st t ≡ fits next → read_on true end next ts ≡ Err f → HaltsIn end next ts f) → HaltsIn end st (t ∷ ts) f
+by_limit end st t ts f g (Some l) e r later = here end st (t ∷ ts) f (inl (l, e, same_fault _ _ _ (past_limit st l t _ e) r))
+by_limit end st t ts f g None e r later = by_fit end st t ts f e (fit st t) refl (sym (within_limits st t _ g e) ∙ r) later
+
+-- where reading ends with a fault, it stops so
+pub halts_in : (ts : List Terminal) (end : Place) (st : State) (f : FirFault) → Guarded st → read_on true end st ts ≡ Err f → HaltsIn end st ts f
+unfolding read_on
+halts_in [] end st f g r = at_the_end end st f (passed_limit st) refl r
+halts_in (t ∷ ts) end st f g r = by_limit end st t ts f g (passed_limit st) refl r (λ next e q. halts_in ts end next f (fitting_guarded st next t g e) q)

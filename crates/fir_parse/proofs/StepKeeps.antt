@@ -1,0 +1,116 @@
+-- Every step keeps the guards, and so does every token that fits.
+use Rattle.std.proofs.Common.{ℕ, List, not}
+use Rattle.std.specs.Str.{bytes_eq}
+use Rattle.fir_ast.specs.declared.place.Place.{Place}
+use Rattle.fir_parse.specs.declared.lexeme.Mark.{Mark}
+use Rattle.fir_parse.specs.Lexemes.{Lexeme, word, integer, mark, line_end, level_opens, level_closes, Terminal}
+use Rattle.fir_parse.specs.Marks.{same_mark}
+use Rattle.fir_parse.specs.Numbers.{has_sign, is_in_range, decimal_value}
+use Rattle.fir_parse.specs.Symbols.{Sym, a_mark, a_word, a_name, a_field_name, a_natural, a_line_end, an_opening, a_closing, a_type, a_width, dimensions, fields, more_fields, a_field, behind_flip, an_expression, behind_word, parts, an_index, a_literal, statements, behind_first, behind_is, behind_else, behind_sink, an_indented_block, a_reset, behind_with, a_memory_body, a_memory_field, more_memory_fields, more_names, an_under_write, a_text, some_annotations, first_module, more_modules, a_body, ports_and_statements, behind_direction, behind_port_is}
+use Rattle.fir_parse.specs.States.{State, in_range, done, limit, wants, Step, takes, without, refuses, unsupported}
+use Rattle.fir_parse.specs.Reading.{mark_step, word_step, name_step, field_name_step, natural_step, line_end_step, opening_step, closing_step, step, whole}
+use Rattle.fir_parse.specs.TextFaults.{Fit, fits, unfit, missing, fit, fit_by}
+use Rattle.fir_parse.proofs.Guards.{Guard, free, guard_of, Guarded, After}
+use Rattle.fir_parse.proofs.Keeping.{Keeps, keeps_if, keeps_one}
+use Rattle.fir_parse.proofs.TypeKeeps.{keeps_type, keeps_width, keeps_dimensions, keeps_fields, keeps_more_fields, keeps_field, keeps_flip}
+use Rattle.fir_parse.proofs.ExpressionKeeps.{keeps_expression, keeps_behind_word, keeps_parts, keeps_index, keeps_literal}
+use Rattle.fir_parse.proofs.StatementKeeps.{keeps_statements, keeps_first, keeps_is, keeps_else, keeps_sink, keeps_block}
+use Rattle.fir_parse.proofs.ResetKeeps.{keeps_reset, keeps_with}
+use Rattle.fir_parse.proofs.MemoryKeeps.{keeps_memory_body, keeps_memory_field, keeps_more_memory_fields, keeps_more_names, keeps_under_write}
+use Rattle.fir_parse.proofs.CircuitKeeps.{keeps_text, keeps_annotations, keeps_first_module, keeps_more_modules, keeps_body, keeps_ports, keeps_direction, keeps_port_is}
+
+keeps_mark : (m : Mark) (l : Lexeme) (p : Place) → Keeps free (mark_step m l p)
+keeps_mark m (mark n) p = keeps_one (same_mark m n) p
+keeps_mark m _ p = tt
+
+keeps_word : (w : List ℕ) (l : Lexeme) (p : Place) → Keeps free (word_step w l p)
+keeps_word w (word x) p = keeps_one (bytes_eq x w) p
+keeps_word w _ p = tt
+
+keeps_name : (l : Lexeme) (p : Place) → Keeps free (name_step l p)
+keeps_name (word w) p = λ k after. (after _).0
+keeps_name _ p = tt
+
+keeps_field_name : (l : Lexeme) (p : Place) → Keeps free (field_name_step l p)
+keeps_field_name (word w) p = λ k after. (after _).0
+keeps_field_name (integer s) p = keeps_if free (has_sign s) refuses (takes (λ k. k (record { place = p; name = s }))) tt (λ k after. (after _).0)
+keeps_field_name _ p = tt
+
+keeps_natural : (l : Lexeme) (p : Place) → Keeps free (natural_step l p)
+keeps_natural (integer s) p = keeps_if free (has_sign s) refuses (takes (λ k. limit (not (is_in_range (decimal_value s))) (in_range p) (k (record { place = p; number = decimal_value s })))) tt (λ k after. (after _).0)
+keeps_natural _ p = tt
+
+keeps_line_end : (l : Lexeme) (p : Place) → Keeps free (line_end_step l p)
+keeps_line_end line_end p = λ k after. (after _).0
+keeps_line_end _ p = tt
+
+keeps_opening : (l : Lexeme) (p : Place) → Keeps free (opening_step l p)
+keeps_opening level_opens p = λ k after. (after _).0
+keeps_opening _ p = tt
+
+keeps_closing : (l : Lexeme) (p : Place) → Keeps free (closing_step l p)
+keeps_closing level_closes p = λ k after. (after _).0
+keeps_closing _ p = tt
+
+pub keeps : (s : Sym) (l : Lexeme) (p : Place) → Keeps (guard_of s) (step s l p)
+keeps (a_mark m) l p = keeps_mark m l p
+keeps (a_word w) l p = keeps_word w l p
+keeps a_name l p = keeps_name l p
+keeps a_field_name l p = keeps_field_name l p
+keeps a_natural l p = keeps_natural l p
+keeps a_line_end l p = keeps_line_end l p
+keeps an_opening l p = keeps_opening l p
+keeps a_closing l p = keeps_closing l p
+keeps (a_type d) l p = keeps_type d l p
+keeps a_width l p = keeps_width l p
+keeps (dimensions d t) l p = keeps_dimensions d t l p
+keeps (fields d) l p = keeps_fields d l p
+keeps (more_fields d) l p = keeps_more_fields d l p
+keeps (a_field d) l p = keeps_field d l p
+keeps (behind_flip d q) l p = keeps_flip d q l p
+keeps (an_expression d) l p = keeps_expression d l p
+keeps (behind_word d q w) l p = keeps_behind_word d q w l p
+keeps (parts d h) l p = keeps_parts d h l p
+keeps (an_index d) l p = keeps_index d l p
+keeps (a_literal q signed width) l p = keeps_literal q signed width l p
+keeps (statements d ws) l p = keeps_statements d ws l p
+keeps (behind_first d q w) l p = keeps_first d q w l p
+keeps (behind_is d q w r) l p = keeps_is d q w r l p
+keeps (behind_else d n q) l p = keeps_else d n q l p
+keeps (behind_sink d s) l p = keeps_sink d s l p
+keeps (an_indented_block d) l p = keeps_block d l
+keeps (a_reset d) l p = keeps_reset d l p
+keeps (behind_with d) l p = keeps_with d l p
+keeps (a_memory_body d) l p = keeps_memory_body d l
+keeps (a_memory_field d) l p = keeps_memory_field d l p
+keeps (more_memory_fields d) l p = keeps_more_memory_fields d l p
+keeps more_names l p = keeps_more_names l p
+keeps an_under_write l p = keeps_under_write l
+keeps a_text l p = keeps_text l
+keeps some_annotations l p = keeps_annotations l
+keeps first_module l p = keeps_first_module l p
+keeps more_modules l p = keeps_more_modules l p
+keeps a_body l p = keeps_body l
+keeps ports_and_statements l p = keeps_ports l p
+keeps (behind_direction r q w) l p = keeps_direction r q w l p
+keeps (behind_port_is r q w s) l p = keeps_port_is r q w s l p
+
+-- the guards hold behind a token that fits
+abbrev pub StaysGuarded : Fit → Type 0
+StaysGuarded (fits next) = Guarded next
+StaysGuarded unfit = Unit {0}
+StaysGuarded (missing p w) = Unit {0}
+
+stays_by : {T : Type 0} (g : Guard) (u : Step T) (k : T → State) (with_it : T → Fit) → Keeps g u → ((x : T) → After g (k x)) → ((x : T) → StaysGuarded (with_it x)) → StaysGuarded (fit_by u k with_it)
+stays_by g (takes f) k with_it keep after h = keep k after
+stays_by g (without x) k with_it keep after h = h x
+stays_by g refuses k with_it keep after h = tt
+stays_by g (unsupported p w) k with_it keep after h = tt
+
+pub stays_guarded : (st : State) (t : Terminal) → Guarded st → StaysGuarded (fit st t)
+stays_guarded (done c) t h = tt
+stays_guarded (limit passed l st) t h = stays_guarded st t h
+stays_guarded (wants s k) t h = stays_by (guard_of s) (step s t.lexeme t.place) k (λ x. fit (k x) t) (keeps s t.lexeme t.place) h (λ x. stays_guarded (k x) t (h x).0)
+
+pub whole_guarded : Guarded whole
+whole_guarded = λ c. (tt, tt)

@@ -1,0 +1,6 @@
+use Rattle.fir_parse.proofs.FormsReadCircuits.{forms_read}
+use Rattle.fir_parse.proofs.FormsSpelled.{forms_found}
+use Rattle.fir_parse.proofs.laws.spelled_form_by_form.Goals as goal
+
+pub returns : goal.returns
+returns c end ts t = (forms_found end ts t, forms_read end ts t)

@@ -1,0 +1,20 @@
+use Rattle.std.proofs.Common.{◌≡◌, Err, refl, subst, rules}
+use Rattle.fir_ast.specs.declared.fault.FirFault.TheVariants.{Syntax}
+use Rattle.fir_parse.specs.declared.stop.Stop.{Stop}
+use Rattle.fir_parse.specs.declared.stop.Stop.TheVariants.{AtEnd, Fault}
+use Rattle.fir_parse.specs.Parsed.{ReadWhole}
+use Rattle.fir_parse.specs.Spells.{end_of, terminals}
+use Rattle.fir_parse.proofs.FirstFaults.{first_fault}
+use Rattle.fir_parse.proofs.text.parse.Goals as goal
+
+pub returns-in-Err-AtEnd : goal.returns-in-Err-AtEnd
+returns-in-Err-AtEnd c =
+    let e : c.in-Err-AtEnd.field-0 ≡ AtEnd = search rules in
+    let P : Stop → Type 0 = λ s. ReadWhole c.args.tokens (Err s) in
+    (first_fault (end_of c.args.tokens.text) (terminals c.args.tokens.tokens) (Syntax c.end-end.result) (rw c.end-end.ensures (subst P e c.in-Err-AtEnd.ensures (end_of c.args.tokens.text))), refl)
+
+pub returns-in-Err-Fault : goal.returns-in-Err-Fault
+returns-in-Err-Fault c =
+    let e : c.in-Err-Fault.field-0 ≡ Fault c.in-Err-Fault.fault = search rules in
+    let P : Stop → Type 0 = λ s. ReadWhole c.args.tokens (Err s) in
+    (first_fault (end_of c.args.tokens.text) (terminals c.args.tokens.tokens) c.in-Err-Fault.fault (subst P e c.in-Err-Fault.ensures (end_of c.args.tokens.text)), refl)

@@ -1,0 +1,30 @@
+//! Laws about the definitions, each the contract of a function that does nothing.
+
+ghost use Rattle.fir_parse.specs.Laws.{SpellsOneTree, HasTreeOrFault, ShowsOneFault, UnsupportedNamesItsWord, SpelledFormByForm};
+
+/// A text spells one tree at most.
+pub fn spells_one_tree()
+    ensures { SpellsOneTree }
+{}
+
+/// A text spells a tree, or it has a fault, and not both.
+pub fn has_tree_or_fault()
+    ensures { HasTreeOrFault }
+{}
+
+/// A text shows one fault at most.
+pub fn shows_one_fault()
+    ensures { ShowsOneFault }
+{}
+
+/// A form that is not in the language is shown at its word: the token with which no text goes on, or the
+/// last before it.
+pub fn unsupported_names_its_word()
+    ensures { UnsupportedNamesItsWord }
+{}
+
+/// The grammar as what a token does where a symbol is expected takes the same texts, with the same trees, as
+/// the grammar form by form.
+pub fn spelled_form_by_form()
+    ensures { SpelledFormByForm }
+{}

@@ -1,0 +1,185 @@
+//! Operators, `mux` and `validif`, behind their parenthesis (FIRRTL spec, "Primitive Operations",
+//! "Multiplexers", "Conditionally Valids").
+
+use crate::forms::form_of;
+use crate::lexeme::Mark;
+use crate::parser::{Parser, Tall};
+use crate::stop::Stop;
+use crate::terminals::end_form;
+use fir_ast::{Expr, Place};
+use fir_bits::{Form, PrimOp};
+
+impl<'t> Parser<'t> {
+    ghost use Rattle.std.specs.Prelude.{◌≡◌, ◌<◌, ◌≤◌, IfOk, OnOk};
+    ghost use Rattle.fir_ast.specs.View.{expr_of};
+    ghost use Rattle.fir_parse.specs.ExpressionRules.{by_form, closing_plan, mux_rest, next_integer, next_operand, operator_rest, validif_rest};
+    ghost use Rattle.fir_parse.specs.Heights.{height};
+    ghost use Rattle.fir_parse.specs.Reads.{left, rest, HasHeight, Reads};
+    ghost use Rattle.fir_parse.specs.Trees.{tall_expression};
+
+    /// The operands and integers of an operator, and its closing parenthesis.
+    #[cycle(expressions)]
+    pub fn operation(&mut self, depth: u32, place: Place, op: PrimOp) -> Result<Tall<Expr>, Stop>
+        requires { depth ≤ 256 }
+        ensures reads { Reads (λ k. operator_rest depth place op k) tall_expression (rest self.old) (rest self.new) result }
+        ensures high { IfOk result (HasHeight expr_of height) }
+        ensures nearer { OnOk result (left self.new < left self.old) }
+    {
+        match form_of(op) {
+            Form::Pair | Form::Shift => self.binary(depth, place, op),
+            Form::Single => self.unary(depth, place, op),
+            Form::WithInteger => self.with_integer(depth, place, op),
+            Form::WithRange => self.with_range(depth, place, op),
+        }
+    }
+
+    #[cycle(expressions)]
+    fn binary(&mut self, depth: u32, place: Place, op: PrimOp) -> Result<Tall<Expr>, Stop>
+        requires { depth ≤ 256 }
+        ensures reads { Reads (λ k. by_form Form.Pair depth place op k) tall_expression (rest self.old) (rest self.new) result }
+        ensures high { IfOk result (HasHeight expr_of height) }
+        ensures nearer { OnOk result (left self.new < left self.old) }
+    {
+        let first = self.expression(depth)?;
+        let second = self.next_operand(depth)?;
+        let height = first.height.max(second.height) + 1;
+        self.close(height)?;
+        let mut operands = Vec::new(self.alloc);
+        operands.push(first.tree)?;
+        operands.push(second.tree)?;
+        let tree = Expr::Op(place, op, operands, Vec::new(self.alloc));
+        Ok(Tall { tree, height })
+    }
+
+    #[cycle(expressions)]
+    fn unary(&mut self, depth: u32, place: Place, op: PrimOp) -> Result<Tall<Expr>, Stop>
+        requires { depth ≤ 256 }
+        ensures reads { Reads (λ k. by_form Form.Single depth place op k) tall_expression (rest self.old) (rest self.new) result }
+        ensures high { IfOk result (HasHeight expr_of height) }
+        ensures nearer { OnOk result (left self.new < left self.old) }
+    {
+        let operand = self.expression(depth)?;
+        let height = operand.height + 1;
+        self.close(height)?;
+        let mut operands = Vec::new(self.alloc);
+        operands.push(operand.tree)?;
+        let tree = Expr::Op(place, op, operands, Vec::new(self.alloc));
+        Ok(Tall { tree, height })
+    }
+
+    #[cycle(expressions)]
+    fn with_integer(&mut self, depth: u32, place: Place, op: PrimOp) -> Result<Tall<Expr>, Stop>
+        requires { depth ≤ 256 }
+        ensures reads { Reads (λ k. by_form Form.WithInteger depth place op k) tall_expression (rest self.old) (rest self.new) result }
+        ensures high { IfOk result (HasHeight expr_of height) }
+        ensures nearer { OnOk result (left self.new < left self.old) }
+    {
+        let operand = self.expression(depth)?;
+        let integer = self.next_integer()?;
+        let height = operand.height + 1;
+        self.close(height)?;
+        let mut operands = Vec::new(self.alloc);
+        operands.push(operand.tree)?;
+        let mut integers = Vec::new(self.alloc);
+        integers.push(integer)?;
+        let tree = Expr::Op(place, op, operands, integers);
+        Ok(Tall { tree, height })
+    }
+
+    #[cycle(expressions)]
+    fn with_range(&mut self, depth: u32, place: Place, op: PrimOp) -> Result<Tall<Expr>, Stop>
+        requires { depth ≤ 256 }
+        ensures reads { Reads (λ k. by_form Form.WithRange depth place op k) tall_expression (rest self.old) (rest self.new) result }
+        ensures high { IfOk result (HasHeight expr_of height) }
+        ensures nearer { OnOk result (left self.new < left self.old) }
+    {
+        let operand = self.expression(depth)?;
+        let high = self.next_integer()?;
+        let low = self.next_integer()?;
+        let height = operand.height + 1;
+        self.close(height)?;
+        let mut operands = Vec::new(self.alloc);
+        operands.push(operand.tree)?;
+        let mut integers = Vec::new(self.alloc);
+        integers.push(high)?;
+        integers.push(low)?;
+        let tree = Expr::Op(place, op, operands, integers);
+        Ok(Tall { tree, height })
+    }
+
+    /// The operands of a `mux`, and its closing parenthesis.
+    #[cycle(expressions)]
+    pub fn mux(&mut self, depth: u32, place: Place) -> Result<Tall<Expr>, Stop>
+        requires { depth ≤ 256 }
+        ensures reads { Reads (λ k. mux_rest depth place k) tall_expression (rest self.old) (rest self.new) result }
+        ensures high { IfOk result (HasHeight expr_of height) }
+        ensures nearer { OnOk result (left self.new < left self.old) }
+    {
+        let condition = self.expression(depth)?;
+        let one = self.next_operand(depth)?;
+        let other = self.next_operand(depth)?;
+        let height = condition.height.max(one.height.max(other.height)) + 1;
+        self.close(height)?;
+        let tree = Expr::Mux(
+            place,
+            Box::new(self.alloc, condition.tree)?,
+            Box::new(self.alloc, one.tree)?,
+            Box::new(self.alloc, other.tree)?,
+        );
+        Ok(Tall { tree, height })
+    }
+
+    /// The operands of a `validif`, and its closing parenthesis.
+    #[cycle(expressions)]
+    pub fn validif(&mut self, depth: u32, place: Place) -> Result<Tall<Expr>, Stop>
+        requires { depth ≤ 256 }
+        ensures reads { Reads (λ k. validif_rest depth place k) tall_expression (rest self.old) (rest self.new) result }
+        ensures high { IfOk result (HasHeight expr_of height) }
+        ensures nearer { OnOk result (left self.new < left self.old) }
+    {
+        let condition = self.expression(depth)?;
+        let value = self.next_operand(depth)?;
+        let height = condition.height.max(value.height) + 1;
+        self.close(height)?;
+        let tree = Expr::Validif(
+            place,
+            Box::new(self.alloc, condition.tree)?,
+            Box::new(self.alloc, value.tree)?,
+        );
+        Ok(Tall { tree, height })
+    }
+
+    /// A comma and an operand.
+    #[cycle(expressions)]
+    fn next_operand(&mut self, depth: u32) -> Result<Tall<Expr>, Stop>
+        requires { depth ≤ 256 }
+        ensures reads { Reads (λ k. next_operand depth k) tall_expression (rest self.old) (rest self.new) result }
+        ensures high { IfOk result (HasHeight expr_of height) }
+        ensures nearer { OnOk result (left self.new < left self.old) }
+    {
+        self.mark(Mark::Comma)?;
+        self.expression(depth)
+    }
+
+    /// A comma and an integer.
+    fn next_integer(&mut self) -> Result<u128, Stop>
+        ensures reads { Reads (λ k. next_integer k) (λ n. n) (rest self.old) (rest self.new) result }
+        ensures nearer { OnOk result (left self.new < left self.old) }
+    {
+        self.mark(Mark::Comma)?;
+        let integer = self.natural()?;
+        Ok(integer.number)
+    }
+
+    /// The closing parenthesis of a form of that height.
+    #[tactic(auto, using(crate::proofs::Plans::limits))]
+    fn close(&mut self, height: u32) -> Result<(), Stop>
+        ensures reads { Reads (λ k. closing_plan height k) (λ u. u) (rest self.old) (rest self.new) result }
+        ensures low { OnOk result (height ≤ 256) }
+        ensures nearer { OnOk result (left self.new < left self.old) }
+    {
+        let close = self.mark(Mark::CloseRound)?;
+        end_form(height, close)?;
+        Ok(())
+    }
+}

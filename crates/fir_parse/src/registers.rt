@@ -1,0 +1,129 @@
+//! Registers (FIRRTL spec, "Registers").
+
+use crate::lexeme::{Lexeme, Mark};
+use crate::parser::Parser;
+use crate::stop::Stop;
+use crate::terminals::open_one;
+use fir_ast::{Ident, Place, Register, RegisterReset, Stmt};
+
+impl<'t> Parser<'t> {
+    ghost use Rattle.std.specs.Prelude.{◌<◌, ◌≤◌, OnOk, option_map};
+    ghost use Rattle.fir_ast.specs.View.{named_of, reset_of, stmt_of};
+    ghost use Rattle.fir_parse.specs.PartPlans.{level_reset_plan, reset_part_plan, round_reset_plan};
+    ghost use Rattle.fir_parse.specs.Reads.{left, rest, Reads};
+    ghost use Rattle.fir_parse.specs.StatementRules.{register_rest, reset_rest};
+    ghost use Rattle.fir_parse.specs.States.{wants};
+    ghost use Rattle.fir_parse.specs.Symbols.{a_mark, a_reset, behind_with};
+
+    /// `: type , clock` and what resets it, behind a register's name.
+    pub fn register(&mut self, depth: u32, place: Place, ident: Ident) -> Result<Stmt, Stop>
+        requires { depth ≤ 256 }
+        ensures reads { Reads (λ k. wants (a_mark Mark.Colon) (λ r. register_rest depth place (named_of ident) k)) stmt_of (rest self.old) (rest self.new) result }
+        ensures nearer { OnOk result (left self.new < left self.old) }
+    {
+        self.mark(Mark::Colon)?;
+        let ty = self.ty(depth)?;
+        self.mark(Mark::Comma)?;
+        let clock = self.expression(depth)?;
+        let reset = self.reset(depth)?;
+        let register = Register {
+            ident,
+            ty: ty.tree,
+            clock: clock.tree,
+            reset,
+        };
+        Ok(Stmt::Reg(place, register))
+    }
+
+    /// The reset part, or none, and the line's end.
+    fn reset(&mut self, depth: u32) -> Result<Option<RegisterReset>, Stop>
+        requires { depth ≤ 256 }
+        ensures reads { Reads (wants (a_reset depth)) (option_map reset_of) (rest self.old) (rest self.new) result }
+        ensures nearer { OnOk result (left self.new < left self.old) }
+    {
+        let next = self.peek();
+        match next.lexeme {
+            Lexeme::LineEnd => {
+                self.pass();
+                Ok(None)
+            }
+            _ => self.reset_part(depth),
+        }
+    }
+
+    /// The reset part.
+    fn reset_part(&mut self, depth: u32) -> Result<Option<RegisterReset>, Stop>
+        requires { depth ≤ 256 }
+        ensures reads { Reads (λ k. reset_part_plan depth k) (option_map reset_of) (rest self.old) (rest self.new) result }
+        ensures nearer { OnOk result (left self.new < left self.old) }
+    {
+        self.word(b"with")?;
+        self.mark(Mark::Colon)?;
+        Ok(Some(self.behind_with(depth)?))
+    }
+
+    /// The reset part in parentheses, or on a line of its own.
+    fn behind_with(&mut self, depth: u32) -> Result<RegisterReset, Stop>
+        requires { depth ≤ 256 }
+        ensures reads { Reads (wants (behind_with depth)) reset_of (rest self.old) (rest self.new) result }
+        ensures nearer { OnOk result (left self.new < left self.old) }
+    {
+        let next = self.peek();
+        match next.lexeme {
+            Lexeme::Mark(Mark::OpenRound) => {
+                self.pass();
+                self.reset_in_round(depth, next.place)
+            }
+            _ => self.reset_in_level(depth),
+        }
+    }
+
+    /// The reset part in parentheses, of which the first stands at the place.
+    #[tactic(auto, using(crate::proofs::Plans::limits))]
+    fn reset_in_round(&mut self, depth: u32, place: Place) -> Result<RegisterReset, Stop>
+        requires { depth ≤ 256 }
+        ensures reads { Reads (λ k. round_reset_plan depth place k) reset_of (rest self.old) (rest self.new) result }
+        ensures nearer { OnOk result (left self.new < left self.old) }
+    {
+        open_one(depth, place)?;
+        let reset = self.reset_pair(depth + 1)?;
+        self.mark(Mark::CloseRound)?;
+        self.line_end()?;
+        Ok(reset)
+    }
+
+    /// The reset part on a line of its own, in a level of its own.
+    fn reset_in_level(&mut self, depth: u32) -> Result<RegisterReset, Stop>
+        requires { depth ≤ 256 }
+        ensures reads { Reads (λ k. level_reset_plan depth k) reset_of (rest self.old) (rest self.new) result }
+        ensures nearer { OnOk result (left self.new < left self.old) }
+    {
+        self.line_end()?;
+        self.opening()?;
+        let reset = self.reset_pair(depth)?;
+        self.line_end()?;
+        self.closing()?;
+        Ok(reset)
+    }
+
+    /// `reset => (condition, init)`
+    #[tactic(auto, using(crate::proofs::Plans::limits))]
+    fn reset_pair(&mut self, depth: u32) -> Result<RegisterReset, Stop>
+        requires { depth ≤ 256 }
+        ensures reads { Reads (λ k. reset_rest depth k) reset_of (rest self.old) (rest self.new) result }
+        ensures nearer { OnOk result (left self.new < left self.old) }
+    {
+        self.word(b"reset")?;
+        self.mark(Mark::Arrow)?;
+        let open = self.mark(Mark::OpenRound)?;
+        open_one(depth, open)?;
+        let condition = self.expression(depth + 1)?;
+        self.mark(Mark::Comma)?;
+        let init = self.expression(depth + 1)?;
+        self.mark(Mark::CloseRound)?;
+        Ok(RegisterReset {
+            condition: condition.tree,
+            init: init.tree,
+        })
+    }
+}

@@ -1,0 +1,282 @@
+//! Words that have a meaning in their place. Everywhere else each of them is a name.
+
+ghost use Rattle.std.specs.Prelude.{◌≡◌};
+ghost use Rattle.fir_parse.specs.Words.{operator_of, under_write_of, direction_of};
+
+use crate::lexeme::Lexeme;
+use fir_ast::ReadUnderWrite;
+use fir_base::Direction;
+use fir_bits::PrimOp;
+
+/// What a first word declares, where a name follows, or `when`.
+#[derive(Clone, Copy, Debug, PartialEq, Eq)]
+pub enum Declaration {
+    Wire,
+    Reg,
+    Node,
+    Inst,
+    Mem,
+    When,
+}
+
+/// The first word of a statement.
+#[derive(Clone, Copy, Debug, PartialEq, Eq)]
+pub enum Lead {
+    Declares(Declaration),
+    Skip,
+    /// The word of a statement that is not in the language.
+    Missing,
+    /// `infer`, `read`, `write` or `rdwr`, which before `mport` begin one that is not in the language.
+    MissingPort,
+    Name,
+}
+
+/// The word of a type.
+#[derive(Clone, Copy, Debug, PartialEq, Eq)]
+pub enum TypeWord {
+    UInt,
+    SInt,
+    Clock,
+    Reset,
+    AsyncReset,
+    /// A type that is not in the language.
+    Missing,
+    Name,
+}
+
+/// A word before an opening parenthesis in an expression.
+#[derive(Clone, Copy, Debug, PartialEq, Eq)]
+pub enum Applied {
+    Operator(PrimOp),
+    Mux,
+    Validif,
+    UInt,
+    SInt,
+    /// An operator that is not in the language.
+    Missing,
+    Name,
+}
+
+/// The word of a memory's field.
+#[derive(Clone, Copy, Debug, PartialEq, Eq)]
+pub enum FieldWord {
+    DataType,
+    Depth,
+    ReadLatency,
+    WriteLatency,
+    Reader,
+    Writer,
+    Readwriter,
+    ReadUnderWrite,
+    Name,
+}
+
+/// The word in a module's place.
+#[derive(Clone, Copy, Debug, PartialEq, Eq)]
+pub enum ModuleWord {
+    Module,
+    /// A module that is not in the language.
+    Missing,
+    Name,
+}
+
+impl Lead {
+    ghost use Rattle.std.specs.Prelude.{◌≡◌};
+    ghost use Rattle.fir_parse.specs.Words.{lead_of};
+
+    /// What a statement begins with.
+    pub fn of(word: &[u8]) -> Lead
+        ensures { result ≡ lead_of word.now }
+    {
+        match word {
+            b"wire" => Lead::Declares(Declaration::Wire),
+            b"reg" => Lead::Declares(Declaration::Reg),
+            b"node" => Lead::Declares(Declaration::Node),
+            b"inst" => Lead::Declares(Declaration::Inst),
+            b"mem" => Lead::Declares(Declaration::Mem),
+            b"when" => Lead::Declares(Declaration::When),
+            b"skip" => Lead::Skip,
+            b"attach"
+            | b"stop"
+            | b"printf"
+            | b"assert"
+            | b"assume"
+            | b"cover"
+            | b"cmem"
+            | b"smem" => Lead::Missing,
+            b"infer" | b"read" | b"write" | b"rdwr" => Lead::MissingPort,
+            _ => Lead::Name,
+        }
+    }
+}
+
+impl TypeWord {
+    ghost use Rattle.std.specs.Prelude.{◌≡◌};
+    ghost use Rattle.fir_parse.specs.Words.{type_word_of};
+
+    /// What stands where a type is expected.
+    pub fn of(word: &[u8]) -> TypeWord
+        ensures { result ≡ type_word_of word.now }
+    {
+        match word {
+            b"UInt" => TypeWord::UInt,
+            b"SInt" => TypeWord::SInt,
+            b"Clock" => TypeWord::Clock,
+            b"Reset" => TypeWord::Reset,
+            b"AsyncReset" => TypeWord::AsyncReset,
+            b"Analog" | b"Fixed" | b"Interval" => TypeWord::Missing,
+            _ => TypeWord::Name,
+        }
+    }
+}
+
+impl Applied {
+    ghost use Rattle.std.specs.Prelude.{◌≡◌};
+    ghost use Rattle.fir_parse.specs.Words.{applied_of};
+
+    /// What the word is before an opening parenthesis.
+    pub fn of(word: &[u8]) -> Applied
+        ensures { result ≡ applied_of word.now }
+    {
+        if let Some(op) = operator_of(word) {
+            return Applied::Operator(op);
+        }
+        match word {
+            b"mux" => Applied::Mux,
+            b"validif" => Applied::Validif,
+            b"UInt" => Applied::UInt,
+            b"SInt" => Applied::SInt,
+            b"asClock"
+            | b"asFixedPoint"
+            | b"asInterval"
+            | b"incp"
+            | b"decp"
+            | b"setp"
+            | b"wrap"
+            | b"clip"
+            | b"squz" => Applied::Missing,
+            _ => Applied::Name,
+        }
+    }
+}
+
+impl FieldWord {
+    ghost use Rattle.std.specs.Prelude.{◌≡◌};
+    ghost use Rattle.fir_parse.specs.Lexemes.{seen};
+    ghost use Rattle.fir_parse.specs.Words.{field_word_of, plain_field_word, dash_field_word};
+
+    /// What a memory's field begins with.
+    pub fn of(lexeme: Lexeme) -> FieldWord
+        ensures { result ≡ field_word_of (seen lexeme.entry) }
+    {
+        match lexeme {
+            Lexeme::Word(word) => FieldWord::plain(word),
+            Lexeme::DashWord(word) => FieldWord::dashed(word),
+            _ => FieldWord::Name,
+        }
+    }
+
+    fn plain(word: &[u8]) -> FieldWord
+        ensures { result ≡ plain_field_word word.now }
+    {
+        match word {
+            b"depth" => FieldWord::Depth,
+            b"reader" => FieldWord::Reader,
+            b"writer" => FieldWord::Writer,
+            b"readwriter" => FieldWord::Readwriter,
+            _ => FieldWord::Name,
+        }
+    }
+
+    fn dashed(word: &[u8]) -> FieldWord
+        ensures { result ≡ dash_field_word word.now }
+    {
+        match word {
+            b"data-type" => FieldWord::DataType,
+            b"read-latency" => FieldWord::ReadLatency,
+            b"write-latency" => FieldWord::WriteLatency,
+            b"read-under-write" => FieldWord::ReadUnderWrite,
+            _ => FieldWord::Name,
+        }
+    }
+}
+
+impl ModuleWord {
+    ghost use Rattle.std.specs.Prelude.{◌≡◌};
+    ghost use Rattle.fir_parse.specs.Words.{module_word_of};
+
+    /// What stands where a module is expected.
+    pub fn of(word: &[u8]) -> ModuleWord
+        ensures { result ≡ module_word_of word.now }
+    {
+        match word {
+            b"module" => ModuleWord::Module,
+            b"extmodule" | b"intmodule" => ModuleWord::Missing,
+            _ => ModuleWord::Name,
+        }
+    }
+}
+
+/// The operator that the word names.
+pub fn operator_of(word: &[u8]) -> Option<PrimOp>
+    ensures { result ≡ operator_of word.now }
+{
+    match word {
+        b"add" => Some(PrimOp::Add),
+        b"sub" => Some(PrimOp::Sub),
+        b"mul" => Some(PrimOp::Mul),
+        b"div" => Some(PrimOp::Div),
+        b"rem" => Some(PrimOp::Rem),
+        b"lt" => Some(PrimOp::Lt),
+        b"leq" => Some(PrimOp::Leq),
+        b"gt" => Some(PrimOp::Gt),
+        b"geq" => Some(PrimOp::Geq),
+        b"eq" => Some(PrimOp::Eq),
+        b"neq" => Some(PrimOp::Neq),
+        b"pad" => Some(PrimOp::Pad),
+        b"shl" => Some(PrimOp::Shl),
+        b"shr" => Some(PrimOp::Shr),
+        b"dshl" => Some(PrimOp::Dshl),
+        b"dshr" => Some(PrimOp::Dshr),
+        b"cvt" => Some(PrimOp::Cvt),
+        b"neg" => Some(PrimOp::Neg),
+        b"not" => Some(PrimOp::Not),
+        b"and" => Some(PrimOp::And),
+        b"or" => Some(PrimOp::Or),
+        b"xor" => Some(PrimOp::Xor),
+        b"andr" => Some(PrimOp::Andr),
+        b"orr" => Some(PrimOp::Orr),
+        b"xorr" => Some(PrimOp::Xorr),
+        b"cat" => Some(PrimOp::Cat),
+        b"bits" => Some(PrimOp::Bits),
+        b"head" => Some(PrimOp::Head),
+        b"tail" => Some(PrimOp::Tail),
+        b"asUInt" => Some(PrimOp::AsUInt),
+        b"asSInt" => Some(PrimOp::AsSInt),
+        b"asAsyncReset" => Some(PrimOp::AsAsyncReset),
+        _ => None,
+    }
+}
+
+/// What a read gives under a write, by its word.
+pub fn under_write_of(word: &[u8]) -> Option<ReadUnderWrite>
+    ensures { result ≡ under_write_of word.now }
+{
+    match word {
+        b"old" => Some(ReadUnderWrite::Old),
+        b"new" => Some(ReadUnderWrite::New),
+        b"undefined" => Some(ReadUnderWrite::Undefined),
+        _ => None,
+    }
+}
+
+/// The direction of a port, by its word.
+pub fn direction_of(word: &[u8]) -> Option<Direction>
+    ensures { result ≡ direction_of word.now }
+{
+    match word {
+        b"input" => Some(Direction::Input),
+        b"output" => Some(Direction::Output),
+        _ => None,
+    }
+}
