@@ -1,17 +1,18 @@
 -- From how the parts of a run end to what the whole does.
 use Rattle.std.proofs.Common.{◌≡◌, ℕ, ◌+◌, ◌<◌, ◌≤◌, List, [], ◌++◌, length, Option, Some, None, String, Global, IfSome, inl, inr, refl, sym, ap, ◌∙◌, subst, arith, append-nil}
 use Rattle.std.specs.Prelude.{option_map}
+use Rattle.fir_ast.specs.Circuits.{CircuitTree}
+use Rattle.fir_parse.specs.Laws.{SpellsOneTree, HasTreeOrFault}
 use Rattle.fir_io.specs.Ports.{FilesSeen, SinkSeen, Rose, AtLeast, Grew}
 use Rattle.fir_driver.specs.declared.status.Status.{Status}
 use Rattle.fir_driver.specs.declared.status.Status.TheVariants.{Done, Refused, Usage, Unread, Unwritten, NoMemory, TooLong}
-use Rattle.fir_driver.specs.Spells.{Spells}
 use Rattle.fir_driver.specs.Command.{named_file}
 use Rattle.fir_driver.specs.Messages.{usage_line, unread_line, too_long_line, memory_line}
-use Rattle.fir_driver.specs.Emits.{Emits, SpellsNone}
+use Rattle.fir_driver.specs.Emits.{Takes, Emits}
 use Rattle.fir_driver.specs.Headline.{Outside, outside, IsContent, Kept, Due, Headline, code, limit}
 use Rattle.fir_driver.specs.Endings.{Said, Complained, Emitted}
 use Rattle.fir_driver.specs.Refusals.{Refuses}
-use Rattle.fir_driver.proofs.Refused.{refused_spells_none}
+use Rattle.fir_driver.proofs.Refused.{refused_is_not_taken}
 use Rattle.fir_driver.specs.Complete.{Names, Answers, Complete}
 
 -- what is not put to holds what it held
@@ -96,16 +97,16 @@ module _ (words : List (String Global)) (before : Outside) where
   done_answers read written content emits = record {
     usage = λ none. absurd (named_some words content.name content.named none);
     too_long = λ bytes names long. let same = told_is words before bytes read names.0 names.1 names.2 content in let short : length bytes ≤ limit = subst (λ x. length x ≤ limit) same content.short in absurd (omega arith);
-    done = λ bytes names short c spelled accepted. refl;
-    refused = λ bytes names short none. let same = told_is words before bytes read names.0 names.1 names.2 content in absurd (none emits.circuit (subst (λ x. Spells x emits.circuit) same emits.spelled) emits.accepted);
+    done = λ bytes names short c taken. refl;
+    refused = λ bytes names short none. let same = told_is words before bytes read names.0 names.1 names.2 content in absurd (none emits.circuit (subst (λ x. Takes x emits.circuit) same emits.taken));
   }
 
   -- a text that was refused
-  refused_answers : (read : List ℕ) → IsContent words before read → SpellsNone read → Answers words before 1
-  refused_answers read content none_spelled = record {
+  refused_answers : (read : List ℕ) → IsContent words before read → ((c : CircuitTree) → Takes read c → ⊥) → Answers words before 1
+  refused_answers read content none_taken = record {
     usage = λ none. absurd (named_some words content.name content.named none);
     too_long = λ bytes names long. let same = told_is words before bytes read names.0 names.1 names.2 content in let short : length bytes ≤ limit = subst (λ x. length x ≤ limit) same content.short in absurd (omega arith);
-    done = λ bytes names short c spelled accepted. let same = told_is words before bytes read names.0 names.1 names.2 content in absurd (none_spelled c (subst (λ x. Spells x c) (sym same) spelled) accepted);
+    done = λ bytes names short c taken. let same = told_is words before bytes read names.0 names.1 names.2 content in absurd (none_taken c (subst (λ x. Takes x c) (sym same) taken));
     refused = λ bytes names short none. refl;
   }
 
@@ -114,8 +115,8 @@ module _ (words : List (String Global)) (before : Outside) where
   usage_answers none = record {
     usage = λ _. refl;
     too_long = λ bytes names long. absurd (named_some words names.0 names.1 none);
-    done = λ bytes names short c spelled accepted. absurd (named_some words names.0 names.1 none);
-    refused = λ bytes names short none_spelled. absurd (named_some words names.0 names.1 none);
+    done = λ bytes names short c taken. absurd (named_some words names.0 names.1 none);
+    refused = λ bytes names short untaken. absurd (named_some words names.0 names.1 none);
   }
 
   -- a file that is too long
@@ -123,8 +124,8 @@ module _ (words : List (String Global)) (before : Outside) where
   too_long_answers name named long = record {
     usage = λ none. absurd (named_some words name named none);
     too_long = λ bytes names l. refl;
-    done = λ bytes names short c spelled accepted. absurd (not_short bytes names short);
-    refused = λ bytes names short none_spelled. absurd (not_short bytes names short);
+    done = λ bytes names short c taken. absurd (not_short bytes names short);
+    refused = λ bytes names short none. absurd (not_short bytes names short);
   }
     where
       not_short : (bytes : List ℕ) → Names words before bytes → length bytes ≤ limit → ⊥
@@ -136,12 +137,12 @@ module _ (words : List (String Global)) (before : Outside) where
           omega arith
 
 -- where nothing failed and memory was there, the status is the one that the words and the told content give
-pub complete : (words : List (String Global)) (before after : Outside) (s : Status) → Headline words before after s → Complete words before after (code s)
-complete words before after Done h not_memory none_failed = done_answers words before h.0 h.1 h.2 h.3
-complete words before after Refused h not_memory none_failed = refused_answers words before h.1.0 h.1.1 (refused_spells_none h.1.0 h.0 h.1.2)
-complete words before after Usage h not_memory none_failed = usage_answers words before h.1.0
-complete words before after Unread h not_memory none_failed = absurd (none_failed.files h.1.2)
-complete words before after Unwritten (inl h) not_memory none_failed = absurd (none_failed.out h.1)
-complete words before after Unwritten (inr h) not_memory none_failed = absurd (none_failed.err h.4)
-complete words before after NoMemory h not_memory none_failed = absurd (not_memory refl)
-complete words before after TooLong h not_memory none_failed = too_long_answers words before h.1.0 h.1.1 h.1.3
+pub complete : SpellsOneTree → HasTreeOrFault → (words : List (String Global)) (before after : Outside) (s : Status) → Headline words before after s → Complete words before after (code s)
+complete one tree_or_fault words before after Done h not_memory none_failed = done_answers words before h.0 h.1 h.2 h.3
+complete one tree_or_fault words before after Refused h not_memory none_failed = refused_answers words before h.1.0 h.1.1 (λ c taken. refused_is_not_taken one tree_or_fault h.1.0 c taken h.0 h.1.2)
+complete one tree_or_fault words before after Usage h not_memory none_failed = usage_answers words before h.1.0
+complete one tree_or_fault words before after Unread h not_memory none_failed = absurd (none_failed.files h.1.2)
+complete one tree_or_fault words before after Unwritten (inl h) not_memory none_failed = absurd (none_failed.out h.1)
+complete one tree_or_fault words before after Unwritten (inr h) not_memory none_failed = absurd (none_failed.err h.4)
+complete one tree_or_fault words before after NoMemory h not_memory none_failed = absurd (not_memory refl)
+complete one tree_or_fault words before after TooLong h not_memory none_failed = too_long_answers words before h.1.0 h.1.1 h.1.3

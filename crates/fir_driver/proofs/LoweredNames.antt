@@ -1,63 +1,84 @@
--- The names of inner nets are names, and differ from each other and from every name of a circuit.
-use Rattle.std.proofs.Common.{◌≡◌, ℕ, ◌+◌, ◌^◌, ◌<◌, ◌%◌, ◌≤◌, List, [], ◌∷◌, true, false, refl, ap, ◌∙◌, arith}
-use Rattle.std.specs.Prelude.{map, not, decimal, IsTrue}
-use Rattle.std.specs.List.{list_all}
-use Rattle.std.specs.Str.{bytes_eq}
-use Rattle.std.proofs.lemmas.Bool.{not-true, both_ways, and_parts, and_from, or_left, or_right, or_from, false_from_ne_true, le-leb}
-use Rattle.std.proofs.lemmas.Fmt.{decimal_by_steps, decimal_injective}
-use Rattle.std.proofs.lemmas.List.Folds.{list_all-append}
-use Rattle.std.proofs.lemmas.Slice.Eq.{bytes_eq-Decides}
-use Rattle.fir_base.specs.Words.{is_among}
-use Rattle.ver_ast.specs.declared.reserved.TheConstants.{RESERVED_WORDS}
-use Rattle.ver_ast.specs.Names.{is_word_byte}
-use Rattle.ver_ast.specs.Names.{IsName as IsVerilogName}
-use Rattle.ver_ast.specs.Reserved.{is_reserved}
-use Rattle.fir_driver.specs.Names.{IsName, begins_as_inner}
-use Rattle.fir_driver.specs.Lowered.{inner_name}
+-- Settled values of a net settle its clean circuit.
+-- Each port has the value of its leaf, and each node that of what it is bound to.
+use Rattle.std.proofs.Common.{◌≡◌, ℕ, ◌+◌, ◌^◌, ◌<◌, List, [], ◌∷◌, Some, map, slice_get, refl, sym, ap, ◌∙◌, inr, subst, arith}
+use Rattle.fir_base.specs.Lists.{In}
+use Rattle.fir_base.specs.Ticks.{Tick, Shape, HasShape}
+use Rattle.fir_ast.specs.Circuits.{PortTree, CircuitTree}
+use Rattle.fir_bits.specs.Values.{BitVector}
+use Rattle.fir_meaning.specs.Paths.{Values, empty}
+use Rattle.fir_meaning.specs.Scopes.{port_declared, written_type}
+use Rattle.fir_meaning.specs.Leaves.{Leaf, main_module, main_scope, leaves, sinks}
+use Rattle.fir_meaning.specs.Exec.{exec_all}
+use Rattle.fir_meaning.specs.Settled.{Settled}
+use Rattle.fir_meaning.specs.Clean.{IsCleanModule}
+use Rattle.fir_meaning.specs.Laws.{CleanHasValue}
+use Rattle.fir_net.specs.declared.net.FlatNet.{FlatNet}
+use Rattle.fir_net.specs.Values.{read_value}
+use Rattle.fir_net.specs.Settled.{Settled as NetSettled, value_at, fit}
+use Rattle.fir_driver.specs.Lowered.{Bound, driver_of, port_leaf}
+use Rattle.fir_driver.proofs.LoweredGrowth.{AreNamed}
+use Rattle.fir_driver.proofs.LoweredNodes.{values_of}
+use Rattle.fir_driver.proofs.LoweredCircuits.{leaf_from, sink_from, leaf_at}
+use Rattle.fir_driver.proofs.LoweredShape.{module_shape}
+use Rattle.fir_driver.proofs.LoweredPlaces.{place_found, place_lacks, values_named}
+use Rattle.fir_driver.proofs.LoweredSettled.{ports, end, net, plain, sinks_are, Paired, runs, run, input_lists, output_stored}
 
-digit_is_word_byte : (n : ℕ) → n < 10 → is_word_byte (48 + n) ≡ true
-digit_is_word_byte n h =
-    let low : 48 ≤ 48 + n = omega arith in
-    let high : 48 + n ≤ 57 = omega arith in
-    or_right _ _ (or_left _ _ (and_from _ _ (le-leb _ _ low) (le-leb _ _ high)))
+module _ (law : CleanHasValue) (c : CircuitTree) (clean : IsCleanModule (main_module c)) (state : List ℕ) (tick : Tick) where
+  abbrev the_net : FlatNet
+  the_net = net law c clean
 
-digits_are_word_bytes : (k : ℕ) → k < 2 ^ 64 → list_all is_word_byte (decimal k) ≡ true
-digits_are_word_bytes =
-    decimal_by_steps (λ n ds. list_all is_word_byte ds ≡ true)
-    (λ n h. and_from _ _ (digit_is_word_byte n h) refl)
-    (λ n ds h p. list_all-append is_word_byte ds ((48 + n % 10) ∷ []) ∙ and_from _ _ p (and_from _ _ (digit_is_word_byte (n % 10) (omega arith)) refl))
+  abbrev the_ports : List PortTree
+  the_ports = ports law c clean
 
--- a word that begins otherwise than each of a table is not among them
-not_among : (table : List (List ℕ)) (word : List ℕ) → list_all (λ w. not (begins_as_inner w)) table ≡ true → begins_as_inner word ≡ true → is_among table word ≡ false
-not_among [] word t b = refl
-not_among (w ∷ table) word t b =
-    let p = and_parts (not (begins_as_inner w)) (list_all (λ w. not (begins_as_inner w)) table) t in
-    let apart : bytes_eq w word ≡ true → ⊥ =
-    λ e. both_ways (begins_as_inner w) (not-true _ p.0) (ap begins_as_inner ((bytes_eq-Decides w word).0 e) ∙ b) in
-    or_from _ _ (false_from_ne_true _ apart) (not_among table word p.1 b)
+  module _ (env : ℕ → ℕ) (settled : NetSettled the_net state tick env) where
+    abbrev known : List BitVector
+    known = values_of the_net.leaves env the_net.nodes
 
--- no reserved word begins as an inner net
-no_reserved_begins : list_all (λ w. not (begins_as_inner w)) (map (λ entry. entry.now) RESERVED_WORDS.now) ≡ true
-no_reserved_begins = refl
+    abbrev pub by_name : Values
+    by_name = values_named the_net.leaves env known the_ports (end law c clean).bindings
 
-inner_begins : (k : ℕ) → begins_as_inner (inner_name k) ≡ true
-inner_begins k = refl
+    named_value : (k : ℕ) (p : PortTree) → slice_get the_ports k ≡ Some p → by_name (p.named.name ∷ []) ≡ env k
+    named_value k p h =
+        let number : 0 + k ≡ k = omega arith in
+        ap (λ (b : Bound). (read_value the_net.leaves env known b.read).number) (place_found [] 0 the_ports (end law c clean).bindings clean.ports k p h) ∙ ap env number
 
-inner_unreserved : (k : ℕ) → IsTrue (not (is_reserved (inner_name k)))
-unfolding is_reserved
-inner_unreserved k = ap not (not_among (map (λ entry. entry.now) RESERVED_WORDS.now) (inner_name k) no_reserved_begins (inner_begins k))
+    pub paired : Paired law c clean by_name env
+    paired = record {
+      value = named_value;
+      below = λ k p h.
+          let fits = settled.fits k (port_leaf (end law c clean).drivers p) (leaf_at (end law c clean).drivers the_ports k p h) in
+          rw (named_value k p h, sym (plain law c clean k p h).width) fits;
+    }
 
-pub inner_is_name : (k : ℕ) → k < 2 ^ 64 → IsVerilogName (inner_name k)
-inner_is_name k h = record { spelled = digits_are_word_bytes k h; free = inner_unreserved k }
+    named : AreNamed the_net.leaves env (map port_declared the_ports) by_name (end law c clean)
+    named = record { each = λ n h. ap (λ (b : Bound). (read_value the_net.leaves env known b.read).number) (place_lacks 0 the_ports (end law c clean).bindings n h) }
 
-pub inner_name_injective : (i j : ℕ) → i < 2 ^ 64 → j < 2 ^ 64 → inner_name i ≡ inner_name j → i ≡ j
-inner_name_injective i j h k e =
-    let digits : decimal i ≡ decimal j = cc in
-    decimal_injective i j h k digits
+    named_runs : runs law c clean by_name env paired
+    named_runs = run law c clean by_name env paired (inr named)
 
-pub outer_is_not_inner : (n : List ℕ) (k : ℕ) → IsName n → n ≡ inner_name k → ⊥
-outer_is_not_inner n k h e = both_ways (begins_as_inner n) (not-true _ h.outer) (ap begins_as_inner e ∙ inner_begins k)
+    circuit_fits : (l : Leaf) → In (leaves c) l → by_name l.path < 2 ^ l.holds.width
+    circuit_fits l m =
+        let r = leaf_from (main_scope c) l m in
+        subst (λ (x : Leaf). by_name x.path < 2 ^ x.holds.width) r.2 (named_runs.agrees.each r.0.named.name r.0 (clean.found r.0 r.1)).below
 
--- a name of a circuit is one of Verilog
-pub is_verilog_name : (n : List ℕ) → IsName n → IsVerilogName n
-is_verilog_name n h = record { spelled = h.spelled; free = h.unreserved }
+    circuit_sinks : (l : Leaf) → In (sinks c) l → exec_all (main_scope c) [] [] by_name (main_module c).body empty l.path ≡ Some (by_name l.path)
+    circuit_sinks l m =
+        let drivers = (end law c clean).drivers in
+        let s = sink_from the_ports l (subst (λ (ls : List Leaf). In ls l) (sinks_are law c clean) m) in
+        let k = s.number in
+        let p = s.port in
+        let r = driver_of drivers p.named.name in
+        let driven = settled.driven k (port_leaf drivers p) r (leaf_at drivers the_ports k p s.found) (rw s.driven refl) in
+        let value : fit (value_at the_net env r) (written_type p.data_type).width ≡ by_name (p.named.name ∷ []) =
+        ap (fit (value_at the_net env r)) (sym (plain law c clean k p s.found).width) ∙ sym driven ∙ sym (named_value k p s.found) in
+        subst (λ (x : Leaf). exec_all (main_scope c) [] [] by_name (main_module c).body empty x.path ≡ Some (by_name x.path)) s.is
+        (output_stored law c clean by_name env paired named_runs k p s.found s.driven ∙ ap (λ (n : ℕ). Some n) value)
+
+    pub circuit_settled : Settled c state tick by_name
+    circuit_settled = record {
+      shaped = subst (λ (s : Shape). HasShape s state tick) (module_shape c clean) settled.shaped;
+      fits = circuit_fits;
+      input_values = sym (input_lists law c clean by_name env paired) ∙ settled.input_values;
+      node_values = named_runs.hold;
+      sink_values = circuit_sinks;
+    }

@@ -1,97 +1,142 @@
--- The ports of a circuit, those of its tree, and the lowering before the body.
-use Rattle.std.proofs.Common.{◌≡◌, ℕ, ◌≤◌, List, [], ◌∷◌, ◌++◌, refl, sym, ap, ◌∙◌, inl, inr, ⊎_elim, subst, append-nil}
-use Rattle.std.specs.Prelude.{map, flat_map}
-use Rattle.std.specs.List.{AllByRecursion}
-use Rattle.std.proofs.lemmas.List.{map-append}
+-- The ports of a clean module, by their numbers in the net.
+-- An input is bound to its leaf, and both sides list the same inputs and outputs.
+use Rattle.std.proofs.Common.{◌≡◌, ℕ, zero, suc, ◌+◌, ◌^◌, ◌<◌, ◌≤◌, List, [], ◌∷◌, ◌++◌, Bool, true, false, if◌then◌else◌, nat_eq, nat_le, Some, None, map, flat_map, slice_get, refl, sym, subst, arith, append_assoc}
+use Rattle.std.proofs.lemmas.Bool.Decides.{nat_tests}
+use Rattle.std.proofs.lemmas.List.{append-nil}
 use Rattle.fir_base.specs.declared.direction.Direction.{Direction}
-use Rattle.fir_base.specs.declared.direction.Direction.TheVariants.{Input, Output}
-use Rattle.fir_base.specs.Lists.{In, Distinct}
-use Rattle.ver_ast.specs.declared.tree.Port.{Port as VPort}
-use Rattle.ver_ast.specs.Nets.{Sized, port_net, input_net, output_net, names_of}
-use Rattle.fir_driver.proofs.AcceptedLists.{in_map, in_map_more, in_left, in_either}
-use Rattle.fir_driver.proofs.OneCircuitPorts.{inputs_of, outputs_of, input_is_port, output_is_port}
-use Rattle.fir_driver.specs.declared.circuit.Port.{Port}
-use Rattle.fir_driver.specs.declared.circuit.Circuit.{Circuit}
-use Rattle.fir_driver.specs.Names.{IsName}
-use Rattle.fir_driver.specs.Written.{IsPort}
-use Rattle.fir_driver.specs.Leaves.{inputs, outputs, port_leaf, input_leaf, output_leaf}
-use Rattle.fir_driver.specs.Lowered.{Binding, input_binding, at_first, verilog_port}
-use Rattle.fir_driver.proofs.LoweredAlong.{Sound, binding_leaf, known}
+use Rattle.fir_base.specs.declared.direction.Direction.TheVariants as direction
+use Rattle.fir_ast.specs.Types.{DataType}
+use Rattle.fir_ast.specs.Statements.{Named}
+use Rattle.fir_ast.specs.Circuits.{PortTree}
+use Rattle.fir_meaning.specs.Paths.{Values}
+use Rattle.fir_meaning.specs.Scopes.{Declared, Scope, look_up, port_declared, written_type}
+use Rattle.fir_meaning.specs.Operations.{counted}
+use Rattle.fir_meaning.specs.Leaves.{Leaf, leaves_of, input_leaves, output_leaves, with_bits}
+use Rattle.fir_meaning.specs.Clean.{IsCleanPort, AreCleanPorts}
+use Rattle.fir_net.specs.declared.net.Leaf.{Leaf as NetLeaf}
+use Rattle.fir_net.specs.declared.reads.Read.TheVariants as read
+use Rattle.fir_net.specs.Values.{leaf_width}
+use Rattle.fir_net.specs.Settled.{inputs_from, outputs_from}
+use Rattle.fir_driver.specs.Lowered.{Binding, Driver, port_width, input_binding, port_bindings, port_leaf}
+use Rattle.fir_driver.proofs.LoweredReads.{Agrees, agrees_unbound, agrees_bound}
+use Rattle.fir_driver.proofs.LoweredScopes.{name_same}
 
-abbrev pub bindings_of : List Port → List Binding
-bindings_of = flat_map (λ p. input_binding p.direction p)
+-- a UInt of at most 128 bits, of one width on both sides
+pub record IsPlain (p : PortTree) : Type 0 where
+  pub width : port_width p.data_type ≡ (written_type p.data_type).width
+  pub unsigned : (written_type p.data_type).signed ≡ false
+  pub narrow : (written_type p.data_type).width ≤ 128
 
--- a port's name is one, and its width is in range
-pub port_is : (ps : List Port) (n : List ℕ) (w : ℕ) → AllByRecursion IsPort ps → In (map port_leaf ps) (n, w) → IsName n × (1 ≤ w) × (w ≤ 128)
-port_is [] n w h m = absurd m
-port_is (p ∷ ps) n w h (inl e) =
-    subst (λ (s : Sized). IsName s.0 × (1 ≤ s.1) × (s.1 ≤ 128)) e (h.0.named, h.0.wide, h.0.narrow)
-port_is (p ∷ ps) n w h (inr m) = port_is ps n w h.1 m
+plain : (scope : Scope) (p : PortTree) → IsCleanPort scope p → IsPlain p
+plain scope p c =
+    let w = c.width in
+    let narrow = c.narrow in
+    let a : nat_le w 128 ≡ true = grind (arith, nat_tests) in
+    let b : counted w ≡ w = omega arith in
+    record { width = rw (c.type, a, b) refl; unsigned = rw c.type refl; narrow = rw (c.type, b) narrow }
 
-once_at : (d : Direction) (p : Port) (outs : List Sized) → (In (names_of outs) p.name → ⊥) → Distinct (names_of outs) → Distinct (names_of (output_leaf d p ++ outs))
-once_at Input p outs fresh h = h
-once_at Output p outs fresh h = (fresh, h)
+-- the port of a number
+get_zero : (k : ℕ) → k + 0 ≡ k
+get_zero k = omega arith
 
--- where the ports' names stand once, so do the outputs'
-pub outputs_once : (ps : List Port) → Distinct (names_of (map port_leaf ps)) → Distinct (names_of (outputs_of ps))
-outputs_once [] d = tt
-outputs_once (p ∷ ps) d =
-    once_at p.direction p (outputs_of ps) (λ m. d.0 (in_map_more (λ (s : Sized). s.0) (outputs_of ps) (map port_leaf ps) (output_is_port ps) p.name m)) (outputs_once ps d.1)
+get_suc : (k i : ℕ) → k + suc i ≡ (k + 1) + i
+get_suc k i = omega arith
 
--- the tree's ports are the circuit's
-pub same_ports : (ps : List Port) → map port_net (map verilog_port ps) ≡ map port_leaf ps
-same_ports [] = refl
-same_ports (p ∷ ps) = ap (λ l. port_leaf p ∷ l) (same_ports ps)
+module _ (P : ℕ → PortTree → Type 0) where
+  -- what holds of each port by its number from k on
+  abbrev pub EachPort : ℕ → List PortTree → Type 0
+  EachPort k [] = Unit {0}
+  EachPort k (p ∷ ps) = P k p × EachPort (k + 1) ps
 
-same_input : (d : Direction) (p : Port) → input_net d (verilog_port p) ≡ input_leaf d p
-same_input Input p = refl
-same_input Output p = refl
+  pub each_port : (k : ℕ) (ps : List PortTree) → ((i : ℕ) (p : PortTree) → slice_get ps i ≡ Some p → P (k + i) p) → EachPort k ps
+  each_port k [] h = tt
+  each_port k (p ∷ ps) h =
+      (subst (λ (j : ℕ). P j p) (get_zero k) (h zero p refl), each_port (k + 1) ps (λ i q g. subst (λ (j : ℕ). P j q) (get_suc k i) (h (suc i) q g)))
 
-same_output : (d : Direction) (p : Port) → output_net d (verilog_port p) ≡ output_leaf d p
-same_output Input p = refl
-same_output Output p = refl
+pub each_port_zero : (P : ℕ → PortTree → Type 0) (ps : List PortTree) → ((i : ℕ) (p : PortTree) → slice_get ps i ≡ Some p → P i p) → EachPort P 0 ps
+each_port_zero P ps h = each_port P 0 ps (λ i p g. let e : i ≡ 0 + i = omega arith in subst (λ (j : ℕ). P j p) e (h i p g))
 
-pub same_inputs : (ps : List Port) → flat_map (λ (p : VPort). input_net p.direction p) (map verilog_port ps) ≡ inputs_of ps
-same_inputs [] = refl
-same_inputs (p ∷ ps) = rw (same_input p.direction p, same_inputs ps) refl
+pub plain_ports : (scope : Scope) (ps : List PortTree) → AreCleanPorts scope ps → (i : ℕ) (p : PortTree) → slice_get ps i ≡ Some p → IsPlain p
+plain_ports scope [] c i p h = cc
+plain_ports scope (q ∷ ps) c zero p h = let e : q ≡ p = cc in subst IsPlain e (plain scope q c.0)
+plain_ports scope (q ∷ ps) c (suc i) p h = plain_ports (scope ++ port_declared q ∷ []) ps c.1 i p h
 
-pub same_outputs : (ps : List Port) → flat_map (λ (p : VPort). output_net p.direction p) (map verilog_port ps) ≡ outputs_of ps
-same_outputs [] = refl
-same_outputs (p ∷ ps) = rw (same_output p.direction p, same_outputs ps) refl
+module _ (leaves : List NetLeaf) (env : ℕ → ℕ) (values : Values) where
+  -- the port's value on both sides
+  pub record PortValue (k : ℕ) (p : PortTree) : Type 0 where
+    pub is_plain : IsPlain p
+    pub width : leaf_width leaves k ≡ port_width p.data_type
+    pub value : values (p.named.name ∷ []) ≡ env k
+    pub below : values (p.named.name ∷ []) < 2 ^ (written_type p.data_type).width
 
-first_leaf : (d : Direction) (p : Port) → map binding_leaf (input_binding d p) ≡ input_leaf d p
-first_leaf Input p = refl
-first_leaf Output p = refl
+  at_port : (d : Direction) (n : Named) (t : DataType) (scope : Scope) (bs : List Binding) (k : ℕ) → look_up scope n.name ≡ None
+      → PortValue k (record { direction = d; named = n; data_type = t }) → Agrees leaves env values scope bs []
+      → Agrees leaves env values (scope ++ port_declared (record { direction = d; named = n; data_type = t }) ∷ [])
+      (input_binding d k (record { direction = d; named = n; data_type = t }) ++ bs) []
+  at_port direction.Input n t scope bs k new v a =
+      agrees_bound leaves env values scope (port_declared (record { direction = direction.Input; named = n; data_type = t })) new bs [] a
+      (record { read = read.Leaf k; width = port_width t })
+      (record {
+        unsigned = v.is_plain.unsigned;
+        narrow = v.is_plain.narrow;
+        below = v.below;
+        width = λ r. rw (name_same n.name) v.is_plain.width;
+        reads = λ r. rw (name_same n.name) (record { whatever = λ more. rw (v.width, v.is_plain.width, v.value) refl });
+      })
+  at_port direction.Output n t scope bs k new v a =
+      agrees_unbound leaves env values scope (port_declared (record { direction = direction.Output; named = n; data_type = t })) new bs [] a
+      (record {
+        unsigned = v.is_plain.unsigned;
+        narrow = v.is_plain.narrow;
+        below = v.below;
+        width = λ r. let e : false ≡ true = r in cc;
+        reads = λ r. let e : false ≡ true = r in absurd (cc);
+      })
 
-pub first_leaves : (ps : List Port) → map binding_leaf (bindings_of ps) ≡ inputs_of ps
-first_leaves [] = refl
-first_leaves (p ∷ ps) = map-append binding_leaf (input_binding p.direction p) (bindings_of ps) ∙ rw (first_leaf p.direction p, first_leaves ps) refl
+  -- the bindings of the ports
+  pub at_ports : (scope : Scope) (bs : List Binding) (k : ℕ) (ps : List PortTree) → AreCleanPorts scope ps → EachPort PortValue k ps → Agrees leaves env values scope bs []
+      → Agrees leaves env values (scope ++ map port_declared ps) (port_bindings bs k ps) []
+  at_ports scope bs k [] c v a = subst (λ (s : Scope). Agrees leaves env values s bs []) (sym (append-nil scope)) a
+  at_ports scope bs k (p ∷ ps) c v a =
+      subst (λ (s : Scope). Agrees leaves env values s (port_bindings bs k (p ∷ ps)) []) (append_assoc scope (port_declared p ∷ []) (map port_declared ps))
+      (at_ports (scope ++ port_declared p ∷ []) (input_binding p.direction k p ++ bs) (k + 1) ps c.1 v.1
+      (at_port p.direction p.named p.data_type scope bs k c.0.new v.0 a))
 
-first_place : (d : Direction) (p : Port) (b : Binding) → In (input_binding d p) b → b.place.net ≡ b.name
-first_place Input p b (inl e) = let name : b.place.net ≡ b.name = subst (λ (k : Binding). k.place.net ≡ k.name) e refl in name
-first_place Input p b (inr m) = absurd m
-first_place Output p b m = absurd m
+-- the leaf of a port
+abbrev pub leaf_of : Declared → Leaf
+leaf_of d = record { path = d.named.name ∷ []; holds = d.holds; depth = d.depth }
 
-pub first_places : (ps : List Port) (b : Binding) → In (bindings_of ps) b → b.place.net ≡ b.name
-first_places [] b m = absurd m
-first_places (p ∷ ps) b m =
-    ⊎_elim (λ (n : In (input_binding p.direction p) b). first_place p.direction p b n) (λ (n : In (bindings_of ps) b). first_places ps b n)
-    (in_either (input_binding p.direction p) (bindings_of ps) b m)
+module _ (drivers : List Driver) (f : ℕ → ℕ) (g : Leaf → ℕ) where
+  -- the port's number on the one side, and its leaf on the other
+  pub record IsSame (k : ℕ) (p : PortTree) : Type 0 where
+    pub is_plain : IsPlain p
+    pub same : f k ≡ g (leaf_of (port_declared p))
 
-pub sound_first : (c : Circuit) → AllByRecursion IsPort c.ports → Sound (inputs c) (outputs c) (inputs c) (at_first c)
-sound_first c h = record {
-  seen = first_leaves c.ports;
-  numbered = tt;
-  placed = placed;
-  reading = tt;
-  narrow = narrow;
-  driven = λ d m. absurd m;
-}
-  where
-    narrow : (n : List ℕ) (w : ℕ) → In (known (inputs c) []) (n, w) → (1 ≤ w) × (w ≤ 128)
-    narrow n w m = let r = port_is c.ports n w h (input_is_port c.ports (n, w) (subst (λ l. In l (n, w)) (append-nil (inputs c)) m)) in (r.1, r.2)
+  same_bits : (b : Bool) (k : ℕ) (l : Leaf) (ks : List ℕ) (ls : List Leaf) → f k ≡ g l → map f ks ≡ map g ls
+      → map f ((if b then [] else (k ∷ [])) ++ ks) ≡ map g ((if b then [] else (l ∷ [])) ++ ls)
+  same_bits true k l ks ls e h = h
+  same_bits false k l ks ls e h = rw (e, h) refl
 
-    placed : (b : Binding) → In (bindings_of c.ports) b → In (known (inputs c) []) (b.place.net, b.place.width)
-    placed b m =
-        let leaf : In (inputs c) (b.name, b.place.width) = subst (λ l. In l (binding_leaf b)) (first_leaves c.ports) (in_map binding_leaf (bindings_of c.ports) b m) in
-        subst (λ (n : List ℕ). In (known (inputs c) []) (n, b.place.width)) (sym (first_places c.ports b m)) (in_left (inputs c) [] (b.name, b.place.width) leaf)
+  same_input : (d : Direction) (n : Named) (t : DataType) (k : ℕ) (ps : List PortTree) → IsSame k (record { direction = d; named = n; data_type = t })
+      → map f (inputs_from (k + 1) (map (port_leaf drivers) ps)) ≡ map g (flat_map with_bits (flat_map (λ x. input_leaves x.kind (leaves_of [] x)) (map port_declared ps)))
+      → map f (inputs_from k (map (port_leaf drivers) (record { direction = d; named = n; data_type = t } ∷ ps)))
+      ≡ map g (flat_map with_bits (flat_map (λ x. input_leaves x.kind (leaves_of [] x)) (map port_declared (record { direction = d; named = n; data_type = t } ∷ ps))))
+  same_input direction.Input n t k ps s h = rw s.is_plain.width (same_bits (nat_eq (written_type t).width 0) k (leaf_of (port_declared (record { direction = direction.Input; named = n; data_type = t }))) _ _ s.same h)
+  same_input direction.Output n t k ps s h = h
+
+  same_output : (d : Direction) (n : Named) (t : DataType) (k : ℕ) (ps : List PortTree) → IsSame k (record { direction = d; named = n; data_type = t })
+      → map f (outputs_from (k + 1) (map (port_leaf drivers) ps)) ≡ map g (flat_map with_bits (flat_map (λ x. output_leaves x.kind (leaves_of [] x)) (map port_declared ps)))
+      → map f (outputs_from k (map (port_leaf drivers) (record { direction = d; named = n; data_type = t } ∷ ps)))
+      ≡ map g (flat_map with_bits (flat_map (λ x. output_leaves x.kind (leaves_of [] x)) (map port_declared (record { direction = d; named = n; data_type = t } ∷ ps))))
+  same_output direction.Input n t k ps s h = h
+  same_output direction.Output n t k ps s h = rw s.is_plain.width (same_bits (nat_eq (written_type t).width 0) k (leaf_of (port_declared (record { direction = direction.Output; named = n; data_type = t }))) _ _ s.same h)
+
+  pub same_inputs : (k : ℕ) (ps : List PortTree) → EachPort IsSame k ps
+      → map f (inputs_from k (map (port_leaf drivers) ps)) ≡ map g (flat_map with_bits (flat_map (λ x. input_leaves x.kind (leaves_of [] x)) (map port_declared ps)))
+  same_inputs k [] s = refl
+  same_inputs k (p ∷ ps) s = same_input p.direction p.named p.data_type k ps s.0 (same_inputs (k + 1) ps s.1)
+
+  pub same_outputs : (k : ℕ) (ps : List PortTree) → EachPort IsSame k ps
+      → map f (outputs_from k (map (port_leaf drivers) ps)) ≡ map g (flat_map with_bits (flat_map (λ x. output_leaves x.kind (leaves_of [] x)) (map port_declared ps)))
+  same_outputs k [] s = refl
+  same_outputs k (p ∷ ps) s = same_output p.direction p.named p.data_type k ps s.0 (same_outputs (k + 1) ps s.1)

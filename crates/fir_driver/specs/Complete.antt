@@ -2,11 +2,9 @@
 use Rattle.std.specs.Prelude.{◌≡◌, ◌≢◌, ℕ, ◌<◌, ◌≤◌, List, length, Some, None, String}
 use Rattle.std.specs.declared.alloc.Global.{Global}
 use Rattle.fir_io.specs.Ports.{Rose}
-use Rattle.fir_driver.specs.declared.circuit.Circuit.{Circuit}
-use Rattle.fir_driver.specs.Spells.{Spells}
-use Rattle.fir_driver.specs.Accepted.{Accepted}
+use Rattle.fir_ast.specs.Circuits.{CircuitTree}
 use Rattle.fir_driver.specs.Command.{named_file}
-use Rattle.fir_driver.specs.Emits.{SpellsNone}
+use Rattle.fir_driver.specs.Emits.{Takes}
 use Rattle.fir_driver.specs.Headline.{Outside, limit}
 
 -- no count of faults rose in the call
@@ -22,8 +20,8 @@ Names words before bytes = (name : List ℕ) × (named_file words ≡ Some name)
 pub record Answers (words : List (String Global)) (before : Outside) (answer : ℕ) : Type 0 where
   pub usage : named_file words ≡ None → answer ≡ 2
   pub too_long : (bytes : List ℕ) → Names words before bytes → limit < length bytes → answer ≡ 8
-  pub done : (bytes : List ℕ) → Names words before bytes → length bytes ≤ limit → (c : Circuit) → Spells bytes c → Accepted c → answer ≡ 0
-  pub refused : (bytes : List ℕ) → Names words before bytes → length bytes ≤ limit → SpellsNone bytes → answer ≡ 1
+  pub done : (bytes : List ℕ) → Names words before bytes → length bytes ≤ limit → (c : CircuitTree) → Takes bytes c → answer ≡ 0
+  pub refused : (bytes : List ℕ) → Names words before bytes → length bytes ≤ limit → ((c : CircuitTree) → Takes bytes c → ⊥) → answer ≡ 1
 
 abbrev pub Complete : List (String Global) → Outside → Outside → ℕ → Type 0
 Complete words before after answer = answer ≢ 5 → NoneFailed before after → Answers words before answer

@@ -1,26 +1,28 @@
 -- What bytes are emitted for what bytes.
--- The read bytes spell exactly one circuit, and it is accepted; the written bytes spell exactly one Verilog tree, and it is what the circuit
--- compiles to; and they are the layout of that tree, in which no comment stands.
-use Rattle.std.specs.Prelude.{◌≡◌, ℕ, List}
+-- The read bytes spell exactly one circuit, which is in the language and shows no fault; the written bytes spell exactly one Verilog tree, and it is
+-- what the circuit compiles to; and they are the layout of that tree, in which no comment stands.
+use Rattle.std.specs.Prelude.{◌≡◌, ℕ, List, IsTrue}
 use Rattle.ver_ast.specs.declared.tree.Verilog.{Verilog}
 use Rattle.ver_ast.specs.Spells.{VSpells}
 use Rattle.ver_emit.specs.Layout.{layout}
-use Rattle.fir_driver.specs.declared.circuit.Circuit.{Circuit}
-use Rattle.fir_driver.specs.Spells.{Spells}
-use Rattle.fir_driver.specs.Accepted.{Accepted}
+use Rattle.fir_ast.specs.Circuits.{CircuitTree}
+use Rattle.fir_parse.specs.Spells.{Spells}
+use Rattle.fir_meaning.specs.Language.{is_in_language}
+use Rattle.fir_meaning.specs.Faults.{Faultless}
 use Rattle.fir_driver.specs.Compiles.{Compiles}
 
+-- the circuit of a text that is taken
+pub record Takes (bytes : List ℕ) (c : CircuitTree) : Type 0 where
+  pub spelled : Spells bytes c
+  pub in_language : IsTrue (is_in_language c)
+  pub faultless : Faultless c
+
 pub record Emits (read written : List ℕ) : Type 0 where
-  pub circuit : Circuit
-  pub spelled : Spells read circuit
-  pub only_circuit : (other : Circuit) → Spells read other → other ≡ circuit
-  pub accepted : Accepted circuit
+  pub circuit : CircuitTree
+  pub taken : Takes read circuit
+  pub only_circuit : (other : CircuitTree) → Spells read other → other ≡ circuit
   pub verilog : Verilog
   pub v_spelled : VSpells written verilog
   pub only_verilog : (other : Verilog) → VSpells written other → other ≡ verilog
   pub laid_out : written ≡ layout verilog
   pub compiles : Compiles circuit verilog
-
--- no accepted circuit is spelled
-abbrev pub SpellsNone : List ℕ → Type 0
-SpellsNone read = (c : Circuit) → Spells read c → Accepted c → ⊥

@@ -1,68 +1,91 @@
--- The first form of a tree that the language lacks.
--- It lacks each statement other than a node and a connect, each type of a port other than a `UInt` with a width, each expression other than a
--- reference and `not`, `and`, `or` and `xor`, each operand of these other than a reference, and each part of a reference. A form stands at its first
--- token, and the first form is so in the order of the text.
-use Rattle.std.specs.Prelude.{ℕ, List, if◌then◌else◌, Option, Some, None}
+-- The first form of a tree that the language lacks, which stands at its first token, and the word that this token is.
+-- It lacks each statement other than a node, a connect and a skip, each type of a port other than a `UInt` with a width, each part of a reference, each
+-- literal other than of a `UInt` with a width, each operation other than those that have a meaning, and a second module.
+use Rattle.std.specs.Prelude.{ℕ, List, [], ◌∷◌, length, codes, if◌then◌else◌, Option, Some, None}
 use Rattle.fir_ast.specs.declared.place.Place.{Place}
-use Rattle.fir_ast.specs.Types.{DataType, uint}
-use Rattle.fir_ast.specs.Expressions.{Expression, reference, literal, operation, mux, validif, Parts}
-use Rattle.fir_ast.specs.Statements.{Statement, wire, register, node, instance, memory, when, connect, partial_connect, invalid, skip}
+use Rattle.fir_ast.specs.declared.expressions.Literal.{Literal}
+use Rattle.fir_ast.specs.Types.{DataType, uint, sint, clock, reset, async_reset, bundle, vector}
+use Rattle.fir_ast.specs.Expressions.{Expression, reference, literal, operation, mux, validif, Parts, no_parts, subfield, subindex, subaccess, Expressions, no_expressions, expression}
+use Rattle.fir_ast.specs.Statements.{Statement, wire, register, node, instance, memory, when, connect, partial_connect, invalid, skip, Block, done, then}
 use Rattle.fir_ast.specs.Circuits.{PortTree, ModuleTree, CircuitTree}
-use Rattle.fir_driver.specs.declared.operator.Operator.{Operator}
+use Rattle.fir_meaning.specs.OperatorWords.{operator_word}
+use Rattle.fir_meaning.specs.Language.{is_unsigned, is_port_type, counts, count, has_counts}
 use Rattle.fir_driver.specs.declared.spot.Spot.{Spot}
-use Rattle.fir_driver.specs.Options.{or_else, first_some}
-use Rattle.fir_driver.specs.Listed.{operands, statements}
-use Rattle.fir_driver.specs.Taken.{has_parts, operator_of}
+use Rattle.fir_driver.specs.declared.spot.Spot.TheVariants.{At, Before, Behind}
+use Rattle.fir_driver.specs.Options.{or_else}
 
--- the word at the place
-abbrev pub at_word : Place → Option Spot
-at_word p = Some (record { place = p; behind = 0 })
+-- where the form stands, and its first token
+pub record Lack : Type 0 where
+  pub spot : Spot
+  pub word : List ℕ
 
--- so many tokens behind it
-abbrev pub behind_word : Place → ℕ → Option Spot
-behind_word p n = Some (record { place = p; behind = n })
+abbrev pub lack : Spot → List ℕ → Option Lack
+lack spot word = Some (record { spot = spot; word = word })
 
--- a type, by the port's name, behind which a colon stands
-unfoldable pub lacking_type : Place → DataType → Option Spot
-lacking_type p (uint (Some w)) = None
-lacking_type p _ = behind_word p 2
+abbrev pub type_word : DataType → List ℕ
+type_word (uint w) = codes "UInt"
+type_word (sint w) = codes "SInt"
+type_word clock = codes "Clock"
+type_word reset = codes "Reset"
+type_word async_reset = codes "AsyncReset"
+type_word (bundle fs) = codes "{"
+type_word (vector t n) = type_word t
 
--- the first part of a reference, by the reference's name
-unfoldable pub lacking_part : Place → Parts → Option Spot
-lacking_part p ps = if has_parts ps then behind_word p 1 else None
+-- a type stands behind the port's name and a colon
+abbrev pub lacking_port : PortTree → Option Lack
+lacking_port p = if is_port_type p.data_type then None else lack (Behind p.named.place 2) (type_word p.data_type)
 
-unfoldable pub lacking_operand : Expression → Option Spot
-lacking_operand (reference p n ps) = lacking_part p ps
-lacking_operand (literal l) = at_word l.place
-lacking_operand (operation p o es ns) = at_word p
-lacking_operand (mux p c a b) = at_word p
-lacking_operand (validif p c a) = at_word p
+abbrev pub lacking_ports : List PortTree → Option Lack
+lacking_ports [] = None
+lacking_ports (p ∷ ps) = or_else (lacking_port p) (lacking_ports ps)
 
-abbrev pub lacking_call : Option Operator → Place → List Expression → Option Spot
-lacking_call (Some o) p es = first_some lacking_operand es
-lacking_call None p es = at_word p
+-- the first part stands behind the reference's name
+abbrev pub lacking_part : Place → Parts → Option Lack
+lacking_part p no_parts = None
+lacking_part p (subfield q name ps) = lack (Behind p 1) (codes ".")
+lacking_part p (subindex q n ps) = lack (Behind p 1) (codes "[")
+lacking_part p (subaccess e ps) = lack (Behind p 1) (codes "[")
 
-unfoldable pub lacking_expression : Expression → Option Spot
-lacking_expression (operation p o es ns) = lacking_call (operator_of o) p (operands es)
-lacking_expression e = lacking_operand e
+abbrev pub literal_word : Literal → List ℕ
+literal_word l = if l.signed then codes "SInt" else codes "UInt"
 
-unfoldable pub lacking_statement : Statement → Option Spot
+abbrev mutual
+  pub lacking_expression : Expression → Option Lack
+  lacking_expression (reference p n ps) = lacking_part p ps
+  lacking_expression (literal l) = if is_unsigned l then None else lack (At l.place) (literal_word l)
+  lacking_expression (operation p o es ks) =
+      if has_counts (counts o) (count es) (length ks) then lacking_operands es else lack (At p) (operator_word o)
+  lacking_expression (mux p c a b) = lack (At p) (codes "mux")
+  lacking_expression (validif p c a) = lack (At p) (codes "validif")
+
+  pub lacking_operands : Expressions → Option Lack
+  lacking_operands no_expressions = None
+  lacking_operands (expression e es) = or_else (lacking_expression e) (lacking_operands es)
+
+abbrev pub lacking_statement : Statement → Option Lack
 lacking_statement (node p n e) = lacking_expression e
 lacking_statement (connect p s e) = or_else (lacking_part s.place s.parts) (lacking_expression e)
-lacking_statement (wire p n t) = at_word p
-lacking_statement (register p n t c r) = at_word p
-lacking_statement (instance p n m) = at_word p
-lacking_statement (memory p n fs) = at_word p
-lacking_statement (when p c a b) = at_word p
-lacking_statement (partial_connect p s e) = at_word p
-lacking_statement (invalid p s) = at_word p
-lacking_statement (skip p) = at_word p
+lacking_statement (skip p) = None
+lacking_statement (wire p n t) = lack (At p) (codes "wire")
+lacking_statement (register p n t c r) = lack (At p) (codes "reg")
+lacking_statement (instance p n m) = lack (At p) (codes "inst")
+lacking_statement (memory p n fs) = lack (At p) (codes "mem")
+lacking_statement (when p c a b) = lack (At p) (codes "when")
+lacking_statement (partial_connect p s e) = lack (At p) s.name
+lacking_statement (invalid p s) = lack (At p) s.name
 
-abbrev pub lacking_port : PortTree → Option Spot
-lacking_port p = lacking_type p.named.place p.data_type
+abbrev pub lacking_statements : Block → Option Lack
+lacking_statements done = None
+lacking_statements ((then) s b) = or_else (lacking_statement s) (lacking_statements b)
 
-unfoldable pub lacking_module : ModuleTree → Option Spot
-lacking_module m = or_else (first_some lacking_port m.ports) (first_some lacking_statement (statements m.body))
+abbrev pub lacking_module : ModuleTree → Option Lack
+lacking_module m = or_else (lacking_ports m.ports) (lacking_statements m.body)
 
-abbrev pub lacking : CircuitTree → Option Spot
-lacking t = first_some lacking_module t.modules
+-- a second module stands before its name; a circuit without a module lacks one, and no text spells it
+abbrev pub lacking_modules : Place → List ModuleTree → Option Lack
+lacking_modules p [] = lack (At p) (codes "circuit")
+lacking_modules p (m ∷ []) = lacking_module m
+lacking_modules p (m ∷ n ∷ ms) = or_else (lacking_module m) (lack (Before n.named.place) (codes "module"))
+
+abbrev pub lacking : CircuitTree → Option Lack
+lacking c = lacking_modules c.named.place c.modules

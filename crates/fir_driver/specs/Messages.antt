@@ -4,9 +4,6 @@ use Rattle.std.specs.Prelude.{ℕ, List, ◌++◌, codes}
 abbrev pub usage_line : List ℕ
 usage_line = codes "usage: firc check FILE | lower FILE | emit FILE | sim FILE TRACE [--state] | vsim VFILE TRACE [--state] [--order N] | gen N\n"
 
-abbrev pub unsupported_line : List ℕ
-unsupported_line = codes "E05 1:1 unsupported circuit\n"
-
 abbrev pub unread_line : List ℕ → List ℕ
 unread_line name = codes "read " ++ name ++ codes "\n"
 

@@ -1,15 +1,24 @@
--- Why a text is refused, and the line that says so.
-use Rattle.std.specs.Prelude.{◌≡◌, ℕ, List, ◌⊎◌}
+-- Why a text is refused: a fault of the text, else a form that the language lacks, else the first fault that its circuit shows.
+use Rattle.std.specs.Prelude.{◌≡◌, ℕ, List, ◌⊎◌, IsTrue}
 use Rattle.fir_ast.specs.declared.fault.FirFault.{FirFault}
 use Rattle.fir_ast.specs.FaultLines.{fault_line}
+use Rattle.fir_ast.specs.Circuits.{CircuitTree}
+use Rattle.fir_parse.specs.Spells.{Spells}
 use Rattle.fir_parse.specs.TextFaults.{TextFault}
-use Rattle.fir_driver.specs.Messages.{unsupported_line}
+use Rattle.fir_meaning.specs.Language.{is_in_language}
+use Rattle.fir_meaning.specs.Faults.{First}
 use Rattle.fir_driver.specs.Lacks.{Lacks}
-use Rattle.fir_driver.specs.Emits.{SpellsNone}
 
--- a fault of the text, or a form that the language lacks, has its own line; a text with neither has the last
+-- the circuit of the text, which is in the language, shows this fault first
+pub record ShowsFirst (bytes : List ℕ) (f : FirFault) : Type 0 where
+  pub circuit : CircuitTree
+  pub spelled : Spells bytes circuit
+  pub in_language : IsTrue (is_in_language circuit)
+  pub first : First circuit f
+
+abbrev pub HasFault : List ℕ → FirFault → Type 0
+HasFault bytes f = TextFault bytes f ⊎ Lacks bytes f ⊎ ShowsFirst bytes f
+
+-- the line of that fault
 abbrev pub Refuses : List ℕ → List ℕ → Type 0
-Refuses bytes line =
-    ((f : FirFault) × TextFault bytes f × (line ≡ fault_line f))
-    ⊎ ((f : FirFault) × Lacks bytes f × (line ≡ fault_line f))
-    ⊎ (SpellsNone bytes × ((f : FirFault) → TextFault bytes f → ⊥) × ((f : FirFault) → Lacks bytes f → ⊥) × (line ≡ unsupported_line))
+Refuses bytes line = (f : FirFault) × HasFault bytes f × (line ≡ fault_line f)

@@ -1,60 +1,52 @@
-//! Whether a circuit is accepted: a function for each condition. With sets and tables by name, n statements
-//! take n log n comparisons of names.
+//! Whether a circuit shows a fault.
 
-mod fitting;
-mod lists;
+ghost use Rattle.fir_ast.specs.View.{circuit_of};
+ghost use Rattle.fir_driver.specs.Checks.{Checks};
+ghost use Rattle.fir_driver.specs.Firsts.{Tells};
+
+mod declared;
+mod driven;
+mod expressions;
+mod flows;
+mod group;
+mod legality;
+mod main_module;
+mod module;
 mod names;
+mod scope;
 mod widths;
 
-ghost use Rattle.std.specs.Prelude.{◌↔◌, ℕ, List, IfOk, IsTrue};
-ghost use Rattle.fir_base.specs.Lists.{In, Distinct};
-ghost use Rattle.ver_ast.specs.Nets.{names_of};
-ghost use Rattle.fir_driver.specs.Leaves.{outputs};
-ghost use Rattle.fir_driver.specs.Accepted.{Accepted, declared_names, connected_names};
-
-use crate::circuit::Circuit;
-use fir_base::MemoryOut;
-use fitting::body_fits;
-use lists::{all_among, all_differ};
-use names::{connected_names, declared_names, output_names};
+use driven::first_undriven;
+use fir_ast::{Circuit, FirFault};
+use fir_base::Refused;
+use group::Group;
+use main_module::main_fault;
+use module::first_by;
 use std::alloc::Global;
-pub use widths::one_width;
 
-/// Whether the circuit is accepted: its ports and nodes have distinct names, each name in an expression is
-/// an input or an earlier node, widths fit, and each output, and nothing else, is connected exactly once
-/// (FIRRTL spec, "Nodes", "Connects", "Primitive Operations").
-pub fn accepted(alloc: Global, c: &Circuit) -> Result<bool, MemoryOut>
-    ensures { IfOk result (λ b. IsTrue b ↔ Accepted c.now) }
+/// Ok where the circuit shows no fault of names, flows, widths, integers and drivers, else the first
+/// (FIRRTL spec, "Namespaces", "Flow", "Width Inference", "Primitive Operations", "Initialization of
+/// Components").
+pub fn check_small(alloc: Global, c: &Circuit) -> Result<(), Refused<FirFault>>
+    ensures { Checks (circuit_of c.now) result }
 {
-    let declared_once = is_declared_once(alloc, c)?;
-    let fitting = body_fits(alloc, c)?;
-    let connected_once = is_connected_once(alloc, c)?;
-    let connected = is_connected(alloc, c)?;
-    Ok(declared_once && fitting && connected_once && connected)
+    tell(first_by(alloc, Group::Names, c)?)?;
+    tell(main_fault(alloc, c)?)?;
+    tell(first_by(alloc, Group::Flows, c)?)?;
+    tell(first_by(alloc, Group::Widths, c)?)?;
+    tell(first_by(alloc, Group::Legality, c)?)?;
+    tell(first_undriven(alloc, c)?)
 }
 
-/// Whether the ports and nodes have distinct names.
-fn is_declared_once(alloc: Global, c: &Circuit) -> Result<bool, MemoryOut>
-    ensures { IfOk result (λ b. IsTrue b ↔ Distinct (declared_names c.now)) }
+/// Refuses with the fault, where there is one.
+fn tell(fault: Option<FirFault>) -> Result<(), Refused<FirFault>>
+    ensures { Tells fault result }
 {
-    let names = declared_names(alloc, c)?;
-    all_differ(alloc, names.as_slice())
+    match fault {
+        Some(fault) => Err(Refused::Fault(fault)),
+        None => Ok(()),
+    }
 }
 
-/// Whether no name stands left in two connects.
-fn is_connected_once(alloc: Global, c: &Circuit) -> Result<bool, MemoryOut>
-    ensures { IfOk result (λ b. IsTrue b ↔ Distinct (connected_names c.now)) }
-{
-    let names = connected_names(alloc, c)?;
-    all_differ(alloc, names.as_slice())
-}
-
-/// Whether each output stands left in a connect.
-fn is_connected(alloc: Global, c: &Circuit) -> Result<bool, MemoryOut>
-    ensures { IfOk result (λ b. IsTrue b
-        ↔ ((n : List ℕ) → In (names_of (outputs c.now)) n → In (connected_names c.now) n)) }
-{
-    let outputs = output_names(alloc, c)?;
-    let connected = connected_names(alloc, c)?;
-    Ok(all_among(alloc, outputs.as_slice(), connected.as_slice())?)
-}
+#[cfg(test)]
+mod tests;

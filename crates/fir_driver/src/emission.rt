@@ -1,46 +1,47 @@
 //! From the bytes of a circuit to the bytes of its Verilog.
 
-ghost use Rattle.std.specs.Prelude.{◌≤◌, IfOk, length};
+ghost use Rattle.std.specs.Prelude.{◌≤◌, IfOk, IsTrue, length};
+ghost use Rattle.fir_ast.specs.View.{circuit_of};
+ghost use Rattle.fir_meaning.specs.Faults.{Faultless};
+ghost use Rattle.fir_meaning.specs.Language.{is_in_language};
+ghost use Rattle.fir_driver.specs.HasWords.{HasWords};
+ghost use Rattle.fir_driver.specs.Compiles.{Compiles};
 ghost use Rattle.fir_driver.specs.Readings.{IsEmitted};
 
-use crate::check::accepted;
-use crate::laws::spells_one_circuit;
-use crate::lower::compile;
-use crate::reader::{Reading, read_circuit};
-use fir_ast::FirFault;
-use fir_base::MemoryOut;
+use crate::building::build;
+use crate::laws::spelled_names_are_words;
+use crate::lowering::lower;
+use crate::reader::read_circuit;
+use fir_ast::{Circuit, FirFault};
+use fir_base::{MemoryOut, Refused};
+use fir_meaning::faultless_has_one;
 use std::alloc::Global;
-use ver_ast::spells_one_tree;
+use ver_ast::{Verilog, valid_has_one};
 use ver_emit::{layout_is_spelled, write_verilog};
 
-/// What comes of a text.
-#[derive(Drop)]
-pub enum Emission {
-    /// The Verilog of the circuit that it spells.
-    Verilog(Vec<u8>),
-    /// A text with a fault, or with a form that the language lacks.
-    Fault(FirFault),
-    /// A text that has neither, and spells no accepted circuit.
-    Outside,
+/// What a circuit without faults compiles to.
+pub fn compile(alloc: Global, c: &Circuit) -> Result<Verilog, MemoryOut>
+    requires in_language { IsTrue (is_in_language (circuit_of c.now)) }
+    requires words { HasWords (circuit_of c.now) }
+    requires faultless { Faultless (circuit_of c.now) }
+    ensures { IfOk result (λ v. Compiles (circuit_of c.now) v) }
+{
+    faultless_has_one();
+    valid_has_one();
+    let net = lower(alloc, c)?;
+    build(alloc, &net)
 }
 
-/// The Verilog of the circuit that the bytes spell, or why there is none.
-pub fn emitted(alloc: Global, bytes: &[u8]) -> Result<Emission, MemoryOut>
+/// The Verilog of the circuit that the bytes spell, or the fault for which it is refused.
+pub fn emitted(alloc: Global, bytes: &[u8]) -> Result<Vec<u8>, Refused<FirFault>>
     requires { length bytes.now ≤ 16777216 }
-    ensures { IfOk result (λ emission. IsEmitted bytes.now emission) }
+    ensures { IsEmitted bytes.now (λ text. text.items) result }
 {
-    spells_one_circuit();
-    spells_one_tree();
+    spelled_names_are_words();
+    fir_parse::laws::spells_one_tree();
+    ver_ast::spells_one_tree();
     layout_is_spelled();
-    match read_circuit(alloc, bytes)? {
-        Reading::Circuit(circuit) => {
-            if !accepted(alloc, &circuit)? {
-                return Ok(Emission::Outside);
-            }
-            let verilog = compile(alloc, &circuit)?;
-            Ok(Emission::Verilog(write_verilog(alloc, &verilog)?))
-        }
-        Reading::Fault(fault) => Ok(Emission::Fault(fault)),
-        Reading::Outside => Ok(Emission::Outside),
-    }
+    let circuit = read_circuit(alloc, bytes)?;
+    let verilog = compile(alloc, &circuit)?;
+    Ok(write_verilog(alloc, &verilog)?)
 }

@@ -1,164 +1,251 @@
 //! The first form of a tree that the language lacks.
 
-ghost use Rattle.std.specs.Prelude.{◌≡◌, Some, map};
-ghost use Rattle.fir_ast.specs.View.{circuit_of, expr_of, module_of, port_of, sink_of, stmt_of, type_of};
-ghost use Rattle.fir_driver.specs.Options.{first_some};
-ghost use Rattle.fir_driver.specs.Lacking.{at_word, lacking, lacking_expression, lacking_module, lacking_operand, lacking_part, lacking_port, lacking_statement, lacking_type};
+ghost use Rattle.std.specs.Prelude.{◌≡◌, codes, map, option_map};
+ghost use Rattle.fir_ast.specs.View.{block_of, circuit_of, expr_of, expressions_of, module_of, port_of, sink_of, stmt_of, type_of};
+ghost use Rattle.fir_meaning.specs.Language.{counts, has_counts, is_port_type, is_unsigned};
+ghost use Rattle.fir_driver.specs.Lacking.{lack, lacking, lacking_expression, lacking_module, lacking_operands, lacking_part, lacking_port, lacking_ports, lacking_statement, lacking_statements, literal_word, type_word};
+ghost use Rattle.fir_ast.specs.Expressions.{literal};
+ghost use Rattle.fir_driver.specs.Lacked.{lack_of};
+ghost use Rattle.fir_driver.specs.Options.{or_else};
+ghost use Rattle.fir_driver.specs.declared.spot.Spot.TheVariants.{Before};
 
-use crate::operator::operator_of;
+use crate::operator_word::operator_word;
 use crate::spot::Spot;
-use crate::taken::has_parts;
-use fir_ast::{Circuit, Expr, Module, Place, Port, Reference, Stmt, Ty};
+use fir_ast::{Circuit, Expr, Literal, Module, Part, Place, Port, Reference, Stmt, Ty};
+use fir_bits::PrimOp;
 
-fn at_word(place: Place) -> Option<Spot>
-    ensures { result ≡ at_word place }
-{
-    Some(Spot { place, behind: 0 })
+/// A form that the language lacks: where it stands, and its first token.
+#[derive(Clone, Copy, Debug, PartialEq, Eq)]
+pub struct Lack<'a> {
+    pub spot: Spot,
+    pub word: &'a [u8],
 }
 
-/// The type, by the place of the port's name.
-#[tactic(auto, unfolding(crate::specs::Lacking::lacking_type))]
-fn lacking_type(name: Place, ty: &Ty) -> Option<Spot>
-    ensures { result ≡ lacking_type name (type_of ty.now) }
+/// What is lacking, by its first token.
+fn told(spot: Spot, word: &[u8]) -> Option<Lack<'_>>
+    ensures { option_map lack_of result ≡ lack spot word.now }
+{
+    Some(Lack { spot, word })
+}
+
+fn is_port_type(ty: &Ty) -> bool
+    ensures { result ≡ is_port_type (type_of ty.now) }
 {
     match ty {
-        Ty::UInt(Some(_)) => None,
+        Ty::UInt(Some(_)) => true,
         Ty::UInt(None)
         | Ty::SInt(_)
         | Ty::Clock
         | Ty::Reset
         | Ty::AsyncReset
         | Ty::Bundle(_)
-        | Ty::Vector(_, _) => Some(Spot {
-            place: name,
-            behind: 2,
-        }),
+        | Ty::Vector(_, _) => false,
     }
+}
+
+/// The first token of a type.
+#[cycle(type_word)]
+fn type_word(ty: &Ty) -> &'static [u8]
+    ensures { result.now ≡ type_word (type_of ty.now) }
+{
+    match ty {
+        Ty::UInt(_) => b"UInt",
+        Ty::SInt(_) => b"SInt",
+        Ty::Clock => b"Clock",
+        Ty::Reset => b"Reset",
+        Ty::AsyncReset => b"AsyncReset",
+        Ty::Bundle(_) => b"{",
+        Ty::Vector(element, _) => type_word(element),
+    }
+}
+
+fn lacking_port(port: &Port) -> Option<Lack<'_>>
+    ensures { option_map lack_of result ≡ lacking_port (port_of port.now) }
+{
+    if is_port_type(&port.ty) {
+        None
+    } else {
+        told(Spot::Behind(port.ident.place, 2), type_word(&port.ty))
+    }
+}
+
+fn lacking_ports(ports: &[Port]) -> Option<Lack<'_>>
+    ensures { option_map lack_of result ≡ lacking_ports (map port_of ports.now) }
+{
+    for port in ports {
+        if let Some(lack) = lacking_port(port) {
+            return Some(lack);
+        }
+    }
+    None
 }
 
 /// The first part of the reference.
-#[tactic(auto, unfolding(crate::specs::Lacking::lacking_part))]
-fn lacking_part(reference: &Reference) -> Option<Spot>
-    ensures { result ≡ lacking_part (sink_of reference.now).place (sink_of reference.now).parts }
+fn lacking_part(reference: &Reference) -> Option<Lack<'_>>
+    ensures { option_map lack_of result ≡ lacking_part (sink_of reference.now).place (sink_of reference.now).parts }
 {
-    if has_parts(reference) {
-        Some(Spot {
-            place: reference.place,
-            behind: 1,
-        })
-    } else {
-        None
+    match reference.parts.as_slice() {
+        [] => None,
+        [Part::Field(_, _), ..] => told(Spot::Behind(reference.place, 1), b"."),
+        [Part::Index(_, _), ..] | [Part::Access(_), ..] => {
+            told(Spot::Behind(reference.place, 1), b"[")
+        }
     }
 }
 
-#[tactic(auto, unfolding(crate::specs::Lacking::lacking_operand))]
-fn lacking_operand(expr: &Expr) -> Option<Spot>
-    ensures { result ≡ lacking_operand (expr_of expr.now) }
+fn is_unsigned(literal: Literal) -> bool
+    ensures { result ≡ is_unsigned literal }
+{
+    !literal.signed && (!literal.negative && literal.width.is_some())
+}
+
+fn literal_word(literal: Literal) -> &'static [u8]
+    ensures { result.now ≡ literal_word literal }
+{
+    if literal.signed { b"SInt" } else { b"UInt" }
+}
+
+fn lacking_literal(this: Literal) -> Option<Lack<'static>>
+    ensures { option_map lack_of result ≡ lacking_expression (literal this) }
+{
+    if is_unsigned(this) {
+        None
+    } else {
+        told(Spot::At(this.place), literal_word(this))
+    }
+}
+
+/// Whether the language has the operation, and with so many operands and integers.
+fn has_counts(op: PrimOp, operands: usize, integers: usize) -> bool
+    ensures { result ≡ has_counts (counts op) operands integers }
+{
+    match op {
+        PrimOp::Not => operands == 1 && integers == 0,
+        PrimOp::And | PrimOp::Or | PrimOp::Xor | PrimOp::Cat => operands == 2 && integers == 0,
+        PrimOp::Bits => operands == 1 && integers == 2,
+        PrimOp::Add
+        | PrimOp::Sub
+        | PrimOp::Mul
+        | PrimOp::Div
+        | PrimOp::Rem
+        | PrimOp::Lt
+        | PrimOp::Leq
+        | PrimOp::Gt
+        | PrimOp::Geq
+        | PrimOp::Eq
+        | PrimOp::Neq
+        | PrimOp::Pad
+        | PrimOp::Shl
+        | PrimOp::Shr
+        | PrimOp::Dshl
+        | PrimOp::Dshr
+        | PrimOp::Cvt
+        | PrimOp::Neg
+        | PrimOp::Andr
+        | PrimOp::Orr
+        | PrimOp::Xorr
+        | PrimOp::Head
+        | PrimOp::Tail
+        | PrimOp::AsUInt
+        | PrimOp::AsSInt
+        | PrimOp::AsAsyncReset => false,
+    }
+}
+
+#[cycle(expressions)]
+fn lacking_expression(expr: &Expr) -> Option<Lack<'_>>
+    ensures { option_map lack_of result ≡ lacking_expression (expr_of expr.now) }
 {
     match expr {
         Expr::Ref(reference) => lacking_part(reference),
-        Expr::Literal(literal) => at_word(literal.place),
-        Expr::Op(place, _, _, _) => at_word(*place),
-        Expr::Mux(place, _, _, _) => at_word(*place),
-        Expr::Validif(place, _, _) => at_word(*place),
+        Expr::Literal(literal) => lacking_literal(*literal),
+        Expr::Op(place, op, operands, integers) => {
+            if has_counts(*op, operands.len(), integers.len()) {
+                lacking_operands(operands)
+            } else {
+                told(Spot::At(*place), operator_word(*op))
+            }
+        }
+        Expr::Mux(place, _, _, _) => told(Spot::At(*place), b"mux"),
+        Expr::Validif(place, _, _) => told(Spot::At(*place), b"validif"),
     }
 }
 
-fn first_operand(operands: &[Expr]) -> Option<Spot>
-    ensures { result ≡ first_some (λ e. lacking_operand (expr_of e)) operands.now }
+#[cycle(expressions)]
+fn lacking_operands(operands: &[Expr]) -> Option<Lack<'_>>
+    ensures { option_map lack_of result ≡ lacking_operands (expressions_of (map expr_of operands.now)) }
 {
     for operand in operands {
-        if let Some(spot) = lacking_operand(operand) {
-            return Some(spot);
+        if let Some(lack) = lacking_expression(operand) {
+            return Some(lack);
         }
     }
     None
 }
 
-#[tactic(auto, unfolding(crate::specs::Lacking::lacking_expression))]
-fn lacking_expression(expr: &Expr) -> Option<Spot>
-    ensures { result ≡ lacking_expression (expr_of expr.now) }
+fn lacking_connect<'a>(sink: &'a Reference, source: &'a Expr) -> Option<Lack<'a>>
+    ensures { option_map lack_of result ≡ or_else (lacking_part (sink_of sink.now).place (sink_of sink.now).parts) (lacking_expression (expr_of source.now)) }
 {
-    match expr {
-        Expr::Op(place, op, operands, _) => match operator_of(*op) {
-            Some(_) => first_operand(operands.as_slice()),
-            None => at_word(*place),
-        },
-        Expr::Ref(_) | Expr::Literal(_) | Expr::Mux(_, _, _, _) | Expr::Validif(_, _, _) => {
-            lacking_operand(expr)
-        }
+    match lacking_part(sink) {
+        Some(lack) => Some(lack),
+        None => lacking_expression(source),
     }
 }
 
-#[tactic(auto, unfolding(crate::specs::Lacking::lacking_statement))]
-fn lacking_statement(stmt: &Stmt) -> Option<Spot>
-    ensures { result ≡ lacking_statement (stmt_of stmt.now) }
+fn lacking_statement(stmt: &Stmt) -> Option<Lack<'_>>
+    ensures { option_map lack_of result ≡ lacking_statement (stmt_of stmt.now) }
 {
     match stmt {
         Stmt::Node(_, _, expr) => lacking_expression(expr),
-        Stmt::Connect(_, reference, expr) => match lacking_part(reference) {
-            Some(spot) => Some(spot),
-            None => lacking_expression(expr),
-        },
-        Stmt::Wire(place, _, _) => at_word(*place),
-        Stmt::Reg(place, _) => at_word(*place),
-        Stmt::Inst(place, _, _) => at_word(*place),
-        Stmt::Mem(place, _) => at_word(*place),
-        Stmt::When(place, _) => at_word(*place),
-        Stmt::PartialConnect(place, _, _) => at_word(*place),
-        Stmt::Invalid(place, _) => at_word(*place),
-        Stmt::Skip(place) => at_word(*place),
+        Stmt::Connect(_, sink, source) => lacking_connect(sink, source),
+        Stmt::Skip(_) => None,
+        Stmt::Wire(place, _, _) => told(Spot::At(*place), b"wire"),
+        Stmt::Reg(place, _) => told(Spot::At(*place), b"reg"),
+        Stmt::Inst(place, _, _) => told(Spot::At(*place), b"inst"),
+        Stmt::Mem(place, _) => told(Spot::At(*place), b"mem"),
+        Stmt::When(place, _) => told(Spot::At(*place), b"when"),
+        Stmt::PartialConnect(place, sink, _) => told(Spot::At(*place), sink.name.as_bytes()),
+        Stmt::Invalid(place, sink) => told(Spot::At(*place), sink.name.as_bytes()),
     }
 }
 
-fn first_type(ports: &[Port]) -> Option<Spot>
-    ensures { result ≡ first_some (λ p. lacking_port (port_of p)) ports.now }
-{
-    for port in ports {
-        if let Some(spot) = lacking_type(port.ident.place, &port.ty) {
-            return Some(spot);
-        }
-    }
-    None
-}
-
-fn first_statement(body: &[Stmt]) -> Option<Spot>
-    ensures { result ≡ first_some (λ s. lacking_statement (stmt_of s)) body.now }
+fn lacking_statements(body: &[Stmt]) -> Option<Lack<'_>>
+    ensures { option_map lack_of result ≡ lacking_statements (block_of (map stmt_of body.now)) }
 {
     for stmt in body {
-        if let Some(spot) = lacking_statement(stmt) {
-            return Some(spot);
+        if let Some(lack) = lacking_statement(stmt) {
+            return Some(lack);
         }
     }
     None
 }
 
-#[tactic(auto, unfolding(crate::specs::Lacking::lacking_module), using(crate::proofs::LackingRows::ports_first, crate::proofs::LackingRows::body_first))]
-fn lacking_module(part: &Module) -> Option<Spot>
-    ensures { result ≡ lacking_module (module_of part.now) }
+fn lacking_module(part: &Module) -> Option<Lack<'_>>
+    ensures { option_map lack_of result ≡ lacking_module (module_of part.now) }
 {
-    match first_type(part.ports.as_slice()) {
-        Some(spot) => Some(spot),
-        None => first_statement(part.body.as_slice()),
+    match lacking_ports(part.ports.as_slice()) {
+        Some(lack) => Some(lack),
+        None => lacking_statements(part.body.as_slice()),
     }
 }
 
-fn first_module(modules: &[Module]) -> Option<Spot>
-    ensures { result ≡ first_some (λ m. lacking_module (module_of m)) modules.now }
+fn lacking_second<'a>(first: &'a Module, second: &Module) -> Option<Lack<'a>>
+    ensures { option_map lack_of result ≡ or_else (lacking_module (module_of first.now)) (lack (Before (module_of second.now).named.place) (codes "module")) }
 {
-    for part in modules {
-        if let Some(spot) = lacking_module(part) {
-            return Some(spot);
-        }
+    match lacking_module(first) {
+        Some(lack) => Some(lack),
+        None => told(Spot::Before(second.ident.place), b"module"),
     }
-    None
 }
 
-/// Where the first form stands that the language lacks, if it lacks one (FIRRTL spec, "Circuits",
-/// "Modules", "Statements", "Expressions").
-#[tactic(auto, using(crate::proofs::LackingRows::modules_first))]
-pub fn lacking(tree: &Circuit) -> Option<Spot>
-    ensures { result ≡ lacking (circuit_of tree.now) }
+/// The first form that the language lacks, if it lacks one (FIRRTL spec, "Circuits", "Modules",
+/// "Statements", "Expressions").
+pub fn lacking(tree: &Circuit) -> Option<Lack<'_>>
+    ensures { option_map lack_of result ≡ lacking (circuit_of tree.now) }
 {
-    first_module(tree.modules.as_slice())
+    match tree.modules.as_slice() {
+        [] => told(Spot::At(tree.ident.place), b"circuit"),
+        [part] => lacking_module(part),
+        [first, second, ..] => lacking_second(first, second),
+    }
 }

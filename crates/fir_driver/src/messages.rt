@@ -15,8 +15,6 @@ use std::alloc::Global;
 pub const USAGE_LINE: &[u8] =
     b"usage: firc check FILE | lower FILE | emit FILE | sim FILE TRACE [--state] | vsim VFILE TRACE [--state] [--order N] | gen N\n";
 
-pub const UNSUPPORTED_LINE: &[u8] = b"E05 1:1 unsupported circuit\n";
-
 pub const UNWRITTEN_LINE: &[u8] = b"write\n";
 
 pub const MEMORY_LINE: &[u8] = b"memory\n";

@@ -7,13 +7,12 @@ ghost use Rattle.fir_driver.specs.Endings.{Written, Emitted};
 ghost use Rattle.fir_driver.specs.Complete.{Complete};
 
 use crate::command::named_file;
-use crate::emission::{Emission, emitted};
-use crate::messages::{
-    MEMORY_LINE, UNSUPPORTED_LINE, UNWRITTEN_LINE, USAGE_LINE, complain, say, say_fault,
-};
+use crate::emission::emitted;
+use crate::messages::{MEMORY_LINE, UNWRITTEN_LINE, USAGE_LINE, complain, say, say_fault};
 use crate::status::Status;
-use fir_base::MemoryOut;
+use fir_base::Refused;
 use fir_io::{FileFault, Files, PutFault, Sink};
+use fir_parse::laws::{has_tree_or_fault, spells_one_tree};
 use std::alloc::Global;
 
 /// The most bytes of a file that are taken.
@@ -31,6 +30,8 @@ pub fn run<F: Files, S: Sink, T: Sink>(
     ensures headline { (s : _) × (result ≡ code s) × Headline words.now.items (outside (F.seen files.old) (S.seen out.old) (T.seen err.old)) (outside (F.seen files.new) (S.seen out.new) (T.seen err.new)) s }
     ensures complete { Complete words.now.items (outside (F.seen files.old) (S.seen out.old) (T.seen err.old)) (outside (F.seen files.new) (S.seen out.new) (T.seen err.new)) result }
 {
+    spells_one_tree();
+    has_tree_or_fault();
     ending(alloc, words.as_slice(), files, out, err).code()
 }
 
@@ -61,10 +62,9 @@ fn emit<S: Sink, T: Sink>(alloc: Global, bytes: &[u8], out: &mut S, err: &mut T)
     ensures { Emitted bytes.now (S.seen out.old) (S.seen out.new) (T.seen err.old) (T.seen err.new) result }
 {
     match emitted(alloc, bytes) {
-        Ok(Emission::Verilog(text)) => write(text.as_slice(), out, err),
-        Ok(Emission::Fault(fault)) => say_fault(alloc, err, &fault),
-        Ok(Emission::Outside) => say(err, UNSUPPORTED_LINE, Status::Refused),
-        Err(MemoryOut) => say(err, MEMORY_LINE, Status::NoMemory),
+        Ok(text) => write(text.as_slice(), out, err),
+        Err(Refused::Fault(fault)) => say_fault(alloc, err, &fault),
+        Err(Refused::Memory) => say(err, MEMORY_LINE, Status::NoMemory),
     }
 }
 

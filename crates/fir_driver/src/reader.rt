@@ -1,32 +1,22 @@
 //! Reads the circuit that a text spells, or finds why it is refused.
 
-ghost use Rattle.std.specs.Prelude.{◌≤◌, IfOk, length};
+ghost use Rattle.std.specs.Prelude.{◌≡◌, ◌≤◌, Err, Some, length};
 ghost use Rattle.fir_ast.specs.View.{circuit_of};
 ghost use Rattle.fir_parse.specs.Spells.{Spells};
-ghost use Rattle.fir_driver.specs.Readings.{IsLack, IsRead, IsTree};
+ghost use Rattle.fir_driver.specs.Lacked.{lack_of};
+ghost use Rattle.fir_driver.specs.Lacking.{lacking};
+ghost use Rattle.fir_driver.specs.Readings.{IsTaken, IsTree};
 
-use crate::circuit::Circuit;
-use crate::lacking::lacking;
-use crate::spot::fault_at;
-use crate::taken::{NotTaken, take_circuit};
-use fir_ast::{Circuit as CircuitTree, FirFault};
-use fir_base::{MemoryOut, Refused};
+use crate::check::check_small;
+use crate::lacking::{Lack, lacking};
+use crate::spot::place_of;
+use fir_ast::{Circuit, FirFault};
+use fir_base::{MemoryOut, Name, Refused};
 use fir_lex::lex;
 use fir_parse::parse;
 use std::alloc::Global;
 
-/// What a text is found to be.
-#[derive(Drop)]
-pub enum Reading {
-    /// The circuit that it spells.
-    Circuit(Circuit),
-    /// A text with a fault, or with a form that the language lacks.
-    Fault(FirFault),
-    /// A text that has neither, and spells no circuit.
-    Outside,
-}
-
-fn read_tree(alloc: Global, bytes: &[u8]) -> Result<CircuitTree, Refused<FirFault>>
+fn read_tree(alloc: Global, bytes: &[u8]) -> Result<Circuit, Refused<FirFault>>
     requires { length bytes.now ≤ 16777216 }
     ensures { IsTree bytes.now result }
 {
@@ -38,54 +28,35 @@ fn read_tree(alloc: Global, bytes: &[u8]) -> Result<CircuitTree, Refused<FirFaul
     }
 }
 
-/// The fault of the text by the first form that the language lacks. The tree has no place for a type or
-/// the part of a reference, so the text is cut into tokens once more.
-fn lacking_fault(
-    alloc: Global,
-    bytes: &[u8],
-    tree: &CircuitTree,
-) -> Result<Option<FirFault>, MemoryOut>
+/// Why the text is refused whose tree lacks a form of the language. The tree has no place for some forms,
+/// so the text is cut into tokens once more.
+fn lacks(alloc: Global, bytes: &[u8], tree: &Circuit, lack: Lack) -> Refused<FirFault>
     requires short { length bytes.now ≤ 16777216 }
     requires spelled { Spells bytes.now (circuit_of tree.now) }
-    ensures { IfOk result (λ fault. IsLack bytes.now fault) }
+    requires first { lacking (circuit_of tree.now) ≡ Some (lack_of lack) }
+    ensures { IsTaken bytes.now (Err result) }
 {
-    let Some(spot) = lacking(tree) else {
-        return Ok(None);
-    };
     match lex(alloc, bytes) {
-        Ok(tokens) => fault_at(alloc, &tokens, spot),
-        Err(Refused::Fault(_)) => Ok(None),
-        Err(Refused::Memory) => Err(MemoryOut),
-    }
-}
-
-/// What the text is that spells the tree.
-fn read_spelled(alloc: Global, bytes: &[u8], tree: &CircuitTree) -> Result<Reading, MemoryOut>
-    requires short { length bytes.now ≤ 16777216 }
-    requires spelled { Spells bytes.now (circuit_of tree.now) }
-    ensures { IfOk result (λ reading. IsRead bytes.now reading) }
-{
-    match take_circuit(alloc, tree) {
-        Ok(circuit) => Ok(Reading::Circuit(circuit)),
-        Err(Refused::Fault(NotTaken)) => match lacking_fault(alloc, bytes, tree)? {
-            Some(fault) => Ok(Reading::Fault(fault)),
-            None => Ok(Reading::Outside),
+        Ok(tokens) => match Name::new(alloc, lack.word) {
+            Ok(word) => Refused::Fault(FirFault::Unsupported(place_of(&tokens, lack.spot), word)),
+            Err(MemoryOut) => Refused::Memory,
         },
-        Err(Refused::Memory) => Err(MemoryOut),
+        Err(refused) => refused,
     }
 }
 
-/// The circuit that the bytes spell, or why they spell none.
-pub fn read_circuit(alloc: Global, bytes: &[u8]) -> Result<Reading, MemoryOut>
+/// The circuit that the bytes spell, in the language and without fault, or the fault for which it is
+/// refused: of the text, else the first form that the language lacks, else the first of the circuit.
+pub fn read_circuit(alloc: Global, bytes: &[u8]) -> Result<Circuit, Refused<FirFault>>
     requires { length bytes.now ≤ 16777216 }
-    ensures { IfOk result (λ reading. IsRead bytes.now reading) }
+    ensures { IsTaken bytes.now result }
 {
-    match read_tree(alloc, bytes) {
-        Ok(tree) => read_spelled(alloc, bytes, &tree),
-        Err(Refused::Fault(fault)) => Ok(Reading::Fault(fault)),
-        Err(Refused::Memory) => Err(MemoryOut),
+    let tree = read_tree(alloc, bytes)?;
+    if let Some(lack) = lacking(&tree) {
+        return Err(lacks(alloc, bytes, &tree, lack));
+    }
+    match check_small(alloc, &tree) {
+        Ok(()) => Ok(tree),
+        Err(refused) => Err(refused),
     }
 }
-
-#[cfg(test)]
-mod tests;

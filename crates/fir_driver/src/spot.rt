@@ -1,19 +1,20 @@
-//! Where a form stands, and which token stands there.
+//! Where a form stands.
 
-ghost use Rattle.std.specs.Prelude.{◌≡◌, ◌+◌, ◌<◌, IfOk, length, option_map, slice_get};
+ghost use Rattle.std.specs.Prelude.{◌≡◌, ◌+◌, ◌<◌, length, option_map, slice_get, unwrap_or};
 ghost use Rattle.fir_lex.specs.View.{placed};
-ghost use Rattle.fir_driver.specs.Lacks.{fault_at, fault_by, is_word_at, token_at};
+ghost use Rattle.fir_driver.specs.Lacks.{is_word_at, place_before, place_behind, place_of};
 
-use fir_ast::{FirFault, Place};
-use fir_base::{MemoryOut, Name};
+use fir_ast::Place;
 use fir_lex::{Kind, TokenRef, Tokens};
-use std::alloc::Global;
 
-/// A token: so many behind the word at a place.
+/// A token, by its own place or by a word beside it.
 #[derive(Clone, Copy, Debug, PartialEq, Eq)]
-pub struct Spot {
-    pub place: Place,
-    pub behind: usize,
+pub enum Spot {
+    At(Place),
+    /// The token before the word at the place.
+    Before(Place),
+    /// So many tokens behind the word at the place.
+    Behind(Place, usize),
 }
 
 fn is_word_at(place: Place, token: TokenRef) -> bool
@@ -45,45 +46,52 @@ fn token_behind(tokens: &Tokens, index: usize, count: usize) -> Option<TokenRef<
     }
 }
 
-/// The token that stands there.
-fn token_at(tokens: &Tokens, spot: Spot) -> Option<TokenRef<'_>>
-    ensures { option_map placed result ≡ token_at spot tokens.now.tokens }
+fn place_or(token: Option<TokenRef>, place: Place) -> Place
+    ensures { result ≡ unwrap_or (option_map (λ t. t.place) (option_map placed token.entry)) place }
+{
+    match token {
+        Some(token) => token.place,
+        None => place,
+    }
+}
+
+/// The place of the token so many behind the word at the place.
+fn place_behind(tokens: &Tokens, place: Place, count: usize) -> Place
+    ensures { result ≡ place_behind place count tokens.now.tokens }
 {
     for index in 0..tokens.len() {
         if let Some(token) = tokens.get(index) {
-            if is_word_at(spot.place, token) {
-                return token_behind(tokens, index, spot.behind);
+            if is_word_at(place, token) {
+                return place_or(token_behind(tokens, index, count), place);
             }
         }
     }
-    None
+    place
 }
 
-/// The fault of the form that begins with the token.
-fn fault_by(alloc: Global, token: TokenRef) -> Result<Option<FirFault>, MemoryOut>
-    ensures { IfOk result (λ fault. fault ≡ fault_by (placed token.entry).token token.entry.place) }
+/// The place of the token before the word at the place.
+fn place_before(tokens: &Tokens, place: Place) -> Place
+    ensures { result ≡ place_before place place tokens.now.tokens }
 {
-    match token.kind {
-        Kind::Word | Kind::Sign => {
-            let word = Name::new(alloc, token.spelling)?;
-            Ok(Some(FirFault::Unsupported(token.place, word)))
+    let mut last = place;
+    for index in 0..tokens.len() {
+        if let Some(token) = tokens.get(index) {
+            if is_word_at(place, token) {
+                return last;
+            }
+            last = token.place;
         }
-        Kind::DashWord
-        | Kind::Integer
-        | Kind::Text
-        | Kind::Annotations
-        | Kind::LineEnd
-        | Kind::LevelOpens
-        | Kind::LevelCloses => Ok(None),
     }
+    place
 }
 
-/// The fault of the form that stands there.
-pub fn fault_at(alloc: Global, tokens: &Tokens, spot: Spot) -> Result<Option<FirFault>, MemoryOut>
-    ensures { IfOk result (λ fault. fault ≡ fault_at spot tokens.now.tokens) }
+/// The place of the token.
+pub fn place_of(tokens: &Tokens, spot: Spot) -> Place
+    ensures { result ≡ place_of spot tokens.now.tokens }
 {
-    match token_at(tokens, spot) {
-        Some(token) => fault_by(alloc, token),
-        None => Ok(None),
+    match spot {
+        Spot::At(place) => place,
+        Spot::Before(place) => place_before(tokens, place),
+        Spot::Behind(place, count) => place_behind(tokens, place, count),
     }
 }

@@ -12,3 +12,5 @@ mod emit;
 mod outcome;
 #[cfg(test)]
 mod program;
+#[cfg(test)]
+mod refusals;

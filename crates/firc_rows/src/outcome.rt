@@ -64,6 +64,13 @@ pub fn emitted(alloc: Global, content: &[u8]) -> Result<Outcome, MemoryOut> {
     )
 }
 
+/// The text of a circuit of one module T with these lines.
+pub fn body(alloc: Global, lines: &[u8]) -> Result<Vec<u8>, MemoryOut> {
+    let mut text = Vec::from_slice(alloc, b"circuit T :\n  module T :\n")?;
+    text.extend_from_slice(lines)?;
+    Ok(text)
+}
+
 fn one_file(alloc: Global, name: &str, content: &[u8]) -> Result<Vec<FileEntry>, MemoryOut> {
     let mut files = Vec::new(alloc);
     files.push(FileEntry::new(alloc, name, content)?)?;

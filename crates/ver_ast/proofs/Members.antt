@@ -1,7 +1,7 @@
 -- Membership in lists.
-use Rattle.std.proofs.Common.{◌≡◌, List, [], ◌∷◌, ◌++◌, refl, sym, ap, ◌∙◌, inl, inr, ◌⊎◌, ⊎_elim, subst}
+use Rattle.std.proofs.Common.{◌≡◌, List, [], ◌∷◌, ◌++◌, refl, ap, inl, inr, ◌⊎◌, ⊎_elim, subst}
 use Rattle.std.specs.Prelude.{map}
-use Rattle.fir_base.specs.Lists.{In, Distinct, EachIn}
+use Rattle.fir_base.specs.Lists.{In, EachIn}
 
 pub in_map : {A B : Type 0} → (f : A → B) (xs : List A) (x : A) → In xs x → In (map f xs) (f x)
 in_map f [] x m = m
@@ -33,20 +33,3 @@ pub each_in : {A : Type 0} → (xs ys : List A) → EachIn xs ys → (x : A) →
 each_in [] ys h x m = absurd m
 each_in (z ∷ xs) ys h x (inl e) = subst (In ys) e h.0
 each_in (z ∷ xs) ys h x (inr m) = each_in xs ys h.1 x m
-
--- where the first parts stand once, the second is known by the first
-pub one_second : {A B : Type 0} → (ps : List (A × B)) → Distinct (map (λ (p : A × B). p.0) ps) → (a : A) (b c : B) → In ps (a, b) → In ps (a, c) → b ≡ c
-one_second [] d a b c m n = absurd m
-one_second {A} {B} (p ∷ ps) d a b c m n =
-    let first = λ (q : A × B). q.0 in
-    let second = λ (q : A × B). q.1 in
-    ⊎_elim
-    (λ (e : p ≡ (a, b)). ⊎_elim
-    (λ (f : p ≡ (a, c)). ap second (sym e ∙ f))
-    (λ (o : In ps (a, c)). absurd (d.0 (subst (In (map first ps)) (sym (ap first e)) (in_map first ps (a, c) o))))
-    n)
-    (λ (o : In ps (a, b)). ⊎_elim
-    (λ (f : p ≡ (a, c)). absurd (d.0 (subst (In (map first ps)) (sym (ap first f)) (in_map first ps (a, b) o))))
-    (λ (q : In ps (a, c)). one_second ps d.1 a b c o q)
-    n)
-    m

@@ -7,11 +7,12 @@ use Rattle.fir_base.specs.Lists.{In, Distinct}
 use Rattle.fir_base.specs.Ticks.{Env, Tick, FitEach, HasShape}
 use Rattle.ver_ast.specs.declared.tree.Verilog.{Verilog}
 use Rattle.ver_ast.specs.declared.tree.Assign.{Assign}
-use Rattle.ver_ast.specs.Nets.{Sized, inputs, outputs, wires, nets, assigns, targets, names_of, widths_of, shape}
+use Rattle.ver_ast.specs.Nets.{Sized, width_in, inputs, outputs, wires, nets, assigns, targets, names_of, widths_of, shape}
 use Rattle.ver_ast.specs.Valid.{Valid, HasOneWidth, ReadsBefore, reads}
 use Rattle.ver_ast.specs.Settled.{VSettled, rhs_value}
 use Rattle.ver_ast.specs.Allows.{VHasOne}
-use Rattle.ver_ast.proofs.Members.{in_map, in_map_from, each_in, one_second}
+use Rattle.ver_ast.proofs.Members.{in_map, in_map_from, each_in}
+use Rattle.ver_ast.proofs.Widths.{declared_width}
 use Rattle.ver_ast.proofs.Values.{rhs_fits, same_rhs}
 use Rattle.ver_ast.proofs.Nets.{input_is_net, inputs_distinct, net_is_input_or_driven}
 
@@ -72,36 +73,35 @@ start_fits (p ∷ ps) (x ∷ xs) d h n w (inr m) =
 
 -- the known names have values of their widths
 record Fits (v : Verilog) (known : List (List ℕ)) (env : Env) : Type 0 where
-  each : (n : List ℕ) (w : ℕ) → In known n → In (nets v) (n, w) → env n < 2 ^ w
+  each : (n : List ℕ) → In known n → env n < 2 ^ width_in (nets v) n
 
 -- what an order needs behind the names that are known
 record Follows (v : Verilog) (known : List (List ℕ)) (order : List Assign) : Type 0 where
   once : Distinct (targets order)
   after : ReadsBefore known order
   fresh : (n : List ℕ) → In known n → In (targets order) n → ⊥
-  widths : (a : Assign) → In order a → HasOneWidth v a
+  widths : (a : Assign) → In order a → HasOneWidth (nets v) a
 
 -- an env in which each assign of the order holds
 record Filled (v : Verilog) (known : List (List ℕ)) (order : List Assign) (env : Env) : Type 0 where
   last : Env
   keeps : (n : List ℕ) → (In (targets order) n → ⊥) → last n ≡ env n
-  equations : (a : Assign) (w : ℕ) → In order a → In (nets v) (a.target, w) → last a.target ≡ rhs_value last w a.rhs
-  driven_fits : (n : List ℕ) (w : ℕ) → In (targets order) n → In (nets v) (n, w) → last n < 2 ^ w
+  equations : (a : Assign) (w : ℕ) → In order a → In (nets v) (a.target, w) → last a.target ≡ rhs_value (nets v) last w a.rhs
+  driven_fits : (n : List ℕ) → In (targets order) n → last n < 2 ^ width_in (nets v) n
 
 module _ (v : Verilog) (declared : Distinct (names_of (nets v))) where
-  same_width : (n : List ℕ) (w u : ℕ) → In (nets v) (n, w) → In (nets v) (n, u) → w ≡ u
-  same_width n w u = one_second (nets v) declared n w u
-
-  -- the names that are read are nets of the width
-  read_net : (a : Assign) (h : HasOneWidth v a) (n : List ℕ) → In (reads a) n → In (nets v) (n, h.0)
-  read_net a h n m = each_in (map (λ k. (k, h.0)) (reads a)) (nets v) h.2 (n, h.0) (in_map (λ k. (k, h.0)) (reads a) n m)
+  width_is : (n : List ℕ) (w : ℕ) → In (nets v) (n, w) → width_in (nets v) n ≡ w
+  width_is n w m = declared_width (nets v) declared n w m
 
   -- the value that the first assign of an order gives its target
   abbrev head_width : (a : Assign) (known : List (List ℕ)) (order : List Assign) → Follows v known (a ∷ order) → ℕ
   head_width a known order fo = (fo.widths a (inl refl)).0
 
+  abbrev head_value : (a : Assign) (known : List (List ℕ)) (order : List Assign) → Follows v known (a ∷ order) → Env → ℕ
+  head_value a known order fo env = rhs_value (nets v) env (head_width a known order fo) a.rhs
+
   abbrev with_head : (a : Assign) (known : List (List ℕ)) (order : List Assign) → Follows v known (a ∷ order) → Env → Env
-  with_head a known order fo env = put env a.target (rhs_value env (head_width a known order fo) a.rhs)
+  with_head a known order fo env = put env a.target (head_value a known order fo env)
 
   head_follows : (a : Assign) (known : List (List ℕ)) (order : List Assign) → Follows v known (a ∷ order) → Follows v (a.target ∷ known) order
   head_follows a known order fo = record {
@@ -112,67 +112,69 @@ module _ (v : Verilog) (declared : Distinct (names_of (nets v))) where
   }
 
   head_fits : (a : Assign) (known : List (List ℕ)) (order : List Assign) (fo : Follows v known (a ∷ order)) (env : Env) → Fits v known env → Fits v (a.target ∷ known) (with_head a known order fo env)
-  head_fits a known order fo env fits = record { each = λ n w m i. ⊎_elim (λ (e : a.target ≡ n). here n w e i) (λ (o : In known n). there n w o i) m }
+  head_fits a known order fo env fits = record { each = λ n m. ⊎_elim (λ (e : a.target ≡ n). here n e) (λ (o : In known n). there n o) m }
     where
-      here : (n : List ℕ) (w : ℕ) → a.target ≡ n → In (nets v) (n, w) → with_head a known order fo env n < 2 ^ w
-      here n w e i =
+      below : head_value a known order fo env < 2 ^ width_in (nets v) a.target
+      below =
           let h = fo.widths a (inl refl) in
-          let x = rhs_value env h.0 a.rhs in
-          let same : h.0 ≡ w = same_width n h.0 w (subst (λ (k : List ℕ). In (nets v) (k, h.0)) e h.1) i in
-          let below : x < 2 ^ h.0 = rhs_fits env h.0 a.rhs (λ k m. fits.each k h.0 (each_in (reads a) known fo.after.0 k m) (read_net a h k m)) in
-          let value : put env a.target x n ≡ x = ap (put env a.target x) (sym e) ∙ put_here env a.target x in
-          rw value (subst (λ (k : ℕ). x < 2 ^ k) same below)
+          let fit : head_value a known order fo env < 2 ^ h.0 = rhs_fits (nets v) env h.0 a.rhs h.2 (record { each = λ k m. fits.each k (each_in (reads a) known fo.after.0 k m) }) in
+          rw (width_is a.target h.0 h.1) fit
 
-      there : (n : List ℕ) (w : ℕ) → In known n → In (nets v) (n, w) → with_head a known order fo env n < 2 ^ w
-      there n w m i =
-          let x = rhs_value env (head_width a known order fo) a.rhs in
-          let value : put env a.target x n ≡ env n = put_other env a.target x n (λ e. fo.fresh n m (inl (sym e))) in
-          rw value (fits.each n w m i)
+      here : (n : List ℕ) → a.target ≡ n → with_head a known order fo env n < 2 ^ width_in (nets v) n
+      here n e =
+          subst (λ (k : List ℕ). with_head a known order fo env k < 2 ^ width_in (nets v) k) e
+          (rw (put_here env a.target (head_value a known order fo env)) below)
+
+      there : (n : List ℕ) → In known n → with_head a known order fo env n < 2 ^ width_in (nets v) n
+      there n m =
+          let value : with_head a known order fo env n ≡ env n = put_other env a.target (head_value a known order fo env) n (λ e. fo.fresh n m (inl (sym e))) in
+          rw value (fits.each n m)
 
   extend : (a : Assign) (known : List (List ℕ)) (order : List Assign) (env : Env) (fo : Follows v known (a ∷ order)) → Fits v known env → Filled v (a.target ∷ known) order (with_head a known order fo env) → Filled v known (a ∷ order) env
   extend a known order env fo fits r = record { last = r.last; keeps = keeps; equations = equations; driven_fits = driven_fits }
     where
       keeps : (n : List ℕ) → (In (targets (a ∷ order)) n → ⊥) → r.last n ≡ env n
-      keeps n h = r.keeps n (λ m. h (inr m)) ∙ put_other env a.target (rhs_value env (head_width a known order fo) a.rhs) n (λ e. h (inl (sym e)))
+      keeps n h = r.keeps n (λ m. h (inr m)) ∙ put_other env a.target (head_value a known order fo env) n (λ e. h (inl (sym e)))
 
-      target_value : r.last a.target ≡ rhs_value env (head_width a known order fo) a.rhs
-      target_value = r.keeps a.target fo.once.0 ∙ put_here env a.target (rhs_value env (head_width a known order fo) a.rhs)
+      target_value : r.last a.target ≡ head_value a known order fo env
+      target_value = r.keeps a.target fo.once.0 ∙ put_here env a.target (head_value a known order fo env)
 
-      same : (w : ℕ) → rhs_value env w a.rhs ≡ rhs_value r.last w a.rhs
-      same w = same_rhs env r.last w a.rhs (λ n m. sym (keeps n (fo.fresh n (each_in (reads a) known fo.after.0 n m))))
+      same : (w : ℕ) → rhs_value (nets v) env w a.rhs ≡ rhs_value (nets v) r.last w a.rhs
+      same w = same_rhs (nets v) env r.last w a.rhs (record { each = λ n m. sym (keeps n (fo.fresh n (each_in (reads a) known fo.after.0 n m))) })
 
       width : (w : ℕ) → In (nets v) (a.target, w) → head_width a known order fo ≡ w
-      width w i = same_width a.target (head_width a known order fo) w (fo.widths a (inl refl)).1 i
+      width w i = sym (width_is a.target (head_width a known order fo) (fo.widths a (inl refl)).1) ∙ width_is a.target w i
 
-      here : (w : ℕ) → In (nets v) (a.target, w) → r.last a.target ≡ rhs_value r.last w a.rhs
-      here w i = target_value ∙ ap (λ (k : ℕ). rhs_value env k a.rhs) (width w i) ∙ same w
+      here : (w : ℕ) → In (nets v) (a.target, w) → r.last a.target ≡ rhs_value (nets v) r.last w a.rhs
+      here w i = target_value ∙ ap (λ (k : ℕ). rhs_value (nets v) env k a.rhs) (width w i) ∙ same w
 
-      equations : (b : Assign) (w : ℕ) → In (a ∷ order) b → In (nets v) (b.target, w) → r.last b.target ≡ rhs_value r.last w b.rhs
-      equations b w (inl e) i = subst (λ (c : Assign). In (nets v) (c.target, w) → r.last c.target ≡ rhs_value r.last w c.rhs) e (here w) i
+      equations : (b : Assign) (w : ℕ) → In (a ∷ order) b → In (nets v) (b.target, w) → r.last b.target ≡ rhs_value (nets v) r.last w b.rhs
+      equations b w (inl e) i = subst (λ (c : Assign). In (nets v) (c.target, w) → r.last c.target ≡ rhs_value (nets v) r.last w c.rhs) e (here w) i
       equations b w (inr m) i = r.equations b w m i
 
       grown : Fits v (a.target ∷ known) (with_head a known order fo env)
       grown = head_fits a known order fo env fits
 
-      target_fits : (w : ℕ) → In (nets v) (a.target, w) → r.last a.target < 2 ^ w
-      target_fits w i = rw (r.keeps a.target fo.once.0) (grown.each a.target w (inl refl) i)
+      target_fits : r.last a.target < 2 ^ width_in (nets v) a.target
+      target_fits = rw (r.keeps a.target fo.once.0) (grown.each a.target (inl refl))
 
-      driven_fits : (n : List ℕ) (w : ℕ) → In (targets (a ∷ order)) n → In (nets v) (n, w) → r.last n < 2 ^ w
-      driven_fits n w (inl e) i = subst (λ (k : List ℕ). In (nets v) (k, w) → r.last k < 2 ^ w) e (target_fits w) i
-      driven_fits n w (inr m) i = r.driven_fits n w m i
+      driven_fits : (n : List ℕ) → In (targets (a ∷ order)) n → r.last n < 2 ^ width_in (nets v) n
+      driven_fits n (inl e) = subst (λ (k : List ℕ). r.last k < 2 ^ width_in (nets v) k) e target_fits
+      driven_fits n (inr m) = r.driven_fits n m
 
   fill : (order : List Assign) (known : List (List ℕ)) (env : Env) → Follows v known order → Fits v known env → Filled v known order env
-  fill [] known env fo fits = record { last = env; keeps = λ n h. refl; equations = λ a w m. absurd m; driven_fits = λ n w m. absurd m }
+  fill [] known env fo fits = record { last = env; keeps = λ n h. refl; equations = λ a w m. absurd m; driven_fits = λ n m. absurd m }
   fill (a ∷ order) known env fo fits =
       extend a known order env fo fits (fill order (a.target ∷ known) (with_head a known order fo env) (head_follows a known order fo) (head_fits a known order fo env fits))
 
   -- along the order, what is read has one value, and so the target
-  agree_along : (state : List ℕ) (tick : Tick) (e f : Env) → VSettled v state tick e → VSettled v state tick f → (known : List (List ℕ)) (order : List Assign) → ReadsBefore known order → ((a : Assign) → In order a → In (assigns v) a × HasOneWidth v a) → ((n : List ℕ) → In known n → e n ≡ f n) → (n : List ℕ) → In (targets order) n → e n ≡ f n
+  agree_along : (state : List ℕ) (tick : Tick) (e f : Env) → VSettled v state tick e → VSettled v state tick f → (known : List (List ℕ)) (order : List Assign) → ReadsBefore known order → ((a : Assign) → In order a → In (assigns v) a × HasOneWidth (nets v) a) → ((n : List ℕ) → In known n → e n ≡ f n) → (n : List ℕ) → In (targets order) n → e n ≡ f n
   agree_along state tick e f p q known [] after each h n m = absurd m
   agree_along state tick e f p q known (a ∷ order) after each h n m =
       let t = each a (inl refl) in
       let w = t.1.0 in
-      let same : rhs_value e w a.rhs ≡ rhs_value f w a.rhs = same_rhs e f w a.rhs (λ k o. h k (each_in (reads a) known after.0 k o)) in
+      let same : rhs_value (nets v) e w a.rhs ≡ rhs_value (nets v) f w a.rhs =
+      same_rhs (nets v) e f w a.rhs (record { each = λ k o. h k (each_in (reads a) known after.0 k o) }) in
       let here : e a.target ≡ f a.target = p.equations a w t.0 t.1.1 ∙ same ∙ sym (q.equations a w t.0 t.1.1) in
       let more : (k : List ℕ) → In (a.target ∷ known) k → e k ≡ f k =
       λ k o. ⊎_elim (λ (i : a.target ≡ k). ap e (sym i) ∙ here ∙ ap f i) (λ (i : In known k). h k i) o in
@@ -213,15 +215,14 @@ module _ (v : Verilog) (valid : Valid v) (state : List ℕ) (tick : Tick) (shape
   input_fits : (n : List ℕ) (w : ℕ) → In (inputs v) (n, w) → start (inputs v) tick.inputs n < 2 ^ w
   input_fits = start_fits (inputs v) tick.inputs input_values_once shaped.inputs_fit
 
-  input_width : (n : List ℕ) (w : ℕ) → In (names_of (inputs v)) n → In (nets v) (n, w) → In (inputs v) (n, w)
-  input_width n w m i =
-      let s = in_map_from first (inputs v) n m in
-      let there : In (inputs v) (n, s.0.1) = subst (λ (k : List ℕ). In (inputs v) (k, s.0.1)) s.2 s.1 in
-      let same : s.0.1 ≡ w = same_width v valid.declared_once n s.0.1 w (input_is_net v (n, s.0.1) there) i in
-      subst (λ (k : ℕ). In (inputs v) (n, k)) same there
-
   begin_fits : Fits v (names_of (inputs v)) (start (inputs v) tick.inputs)
-  begin_fits = record { each = λ n w m i. input_fits n w (input_width n w m i) }
+  begin_fits = record { each = each }
+    where
+      each : (n : List ℕ) → In (names_of (inputs v)) n → start (inputs v) tick.inputs n < 2 ^ width_in (nets v) n
+      each n m =
+          let s = in_map_from first (inputs v) n m in
+          let there : In (inputs v) (n, s.0.1) = subst (λ (k : List ℕ). In (inputs v) (k, s.0.1)) s.2 s.1 in
+          rw (declared_width (nets v) valid.declared_once n s.0.1 (input_is_net v (n, s.0.1) there)) (input_fits n s.0.1 there)
 
   filled : Filled v (names_of (inputs v)) order (start (inputs v) tick.inputs)
   filled = fill v valid.declared_once order (names_of (inputs v)) (start (inputs v) tick.inputs) follows begin_fits
@@ -236,7 +237,7 @@ module _ (v : Verilog) (valid : Valid v) (state : List ℕ) (tick : Tick) (shape
   all_fit n w i =
       ⊎_elim
       (λ (m : In (inputs v) (n, w)). rw (input_kept n (in_map first (inputs v) (n, w) m)) (input_fits n w m))
-      (λ (m : In (names_of (wires v ++ outputs v)) n). filled.driven_fits n w (in_order n m) i)
+      (λ (m : In (names_of (wires v ++ outputs v)) n). subst (λ (k : ℕ). last n < 2 ^ k) (declared_width (nets v) valid.declared_once n w i) (filled.driven_fits n (in_order n m)))
       (net_is_input_or_driven v (n, w) i)
 
   settled : VSettled v state tick last

@@ -1,5 +1,5 @@
 -- No two trees have the same tokens.
-use Rattle.std.proofs.Common.{◌≡◌, ℕ, ◌-◌, List, [], ◌∷◌, ◌++◌, Bool, true, false, refl, sym, ap, ◌∙◌, ⊎_elim, arith, append_assoc, eqb}
+use Rattle.std.proofs.Common.{◌≡◌, ℕ, ◌-◌, List, [], ◌∷◌, ◌++◌, Bool, true, false, refl, sym, ap, ◌∙◌, arith, append_assoc, ⊎_elim, eqb}
 use Rattle.std.specs.Prelude.{flat_map, codes, if◌then◌else◌, ◌≢◌}
 use Rattle.std.proofs.lemmas.Bool.Decides.{eqb_tells}
 use Rattle.fir_base.specs.declared.direction.Direction.{Direction}
@@ -8,20 +8,10 @@ use Rattle.ver_ast.specs.declared.tree.Verilog.{Verilog}
 use Rattle.ver_ast.specs.declared.tree.Port.{Port}
 use Rattle.ver_ast.specs.declared.tree.Item.{Item}
 use Rattle.ver_ast.specs.declared.tree.Item.TheVariants as item
-use Rattle.ver_ast.specs.declared.tree.Rhs.{Rhs}
-use Rattle.ver_ast.specs.declared.tree.Rhs.TheVariants as rhs
-use Rattle.ver_ast.specs.declared.tree.Atom.TheVariants as atom
-use Rattle.ver_ast.specs.declared.tree.UnaryOp.TheVariants.{Not}
-use Rattle.ver_ast.specs.declared.tree.BinaryOp.{BinaryOp}
-use Rattle.ver_ast.specs.declared.tree.BinaryOp.TheVariants.{And, Or, Xor}
 use Rattle.ver_ast.specs.Tokens.{Token, word, digit_zero, number, sign}
-use Rattle.ver_ast.specs.Grammar.{direction_word, range_tokens, port_tokens, next_port_tokens, ports_tokens, binary_sign, rhs_tokens, item_tokens, module_tokens}
-
--- the sign, or the first letter of the word, at the front
-abbrev front : List Token → ℕ
-front (sign b ∷ ts) = b
-front (word (c ∷ cs) ∷ ts) = c
-front _ = 0
+use Rattle.ver_ast.specs.Grammar.{direction_word, range_tokens, port_tokens, next_port_tokens, ports_tokens, rhs_tokens, item_tokens, module_tokens}
+use Rattle.ver_ast.proofs.OneAtom.{front}
+use Rattle.ver_ast.proofs.OneRhs.{split_rhs}
 
 -- the tokens of a range where it is known whether the width is 1
 abbrev range_at : Bool → ℕ → List Token
@@ -83,41 +73,6 @@ split_ports (p ∷ ps) (q ∷ qs) r s e =
     let t = split_port p q _ _ (sym (append_assoc (port_tokens p) (flat_map next_port_tokens ps) (sign 41 ∷ r)) ∙ e ∙ append_assoc (port_tokens q) (flat_map next_port_tokens qs) (sign 41 ∷ s)) in
     let rest = split_next_ports ps qs r s t.1 in
     (rw (t.0, rest.0) refl, rest.1)
-
-split_binary : (p q : BinaryOp) (r s : List Token) → sign (binary_sign p) ∷ r ≡ sign (binary_sign q) ∷ s → (p ≡ q) × (r ≡ s)
-split_binary And And r s e = (refl, (cc))
-split_binary And Or r s e = absurd (omega (arith, ap front e))
-split_binary And Xor r s e = absurd (omega (arith, ap front e))
-split_binary Or And r s e = absurd (omega (arith, ap front e))
-split_binary Or Or r s e = (refl, (cc))
-split_binary Or Xor r s e = absurd (omega (arith, ap front e))
-split_binary Xor And r s e = absurd (omega (arith, ap front e))
-split_binary Xor Or r s e = absurd (omega (arith, ap front e))
-split_binary Xor Xor r s e = (refl, (cc))
-
-not_the_end : (p : BinaryOp) (r s : List Token) → sign (binary_sign p) ∷ r ≡ sign 59 ∷ s → ⊥
-not_the_end And r s e = omega (arith, ap front e)
-not_the_end Or r s e = omega (arith, ap front e)
-not_the_end Xor r s e = omega (arith, ap front e)
-
--- a right side, up to the semicolon
-split_rhs : (x y : Rhs) (r s : List Token) → rhs_tokens x ++ sign 59 ∷ r ≡ rhs_tokens y ++ sign 59 ∷ s → (x ≡ y) × (r ≡ s)
-split_rhs (rhs.Atom (atom.Net a)) (rhs.Atom (atom.Net b)) r s e = ((cc), (cc))
-split_rhs (rhs.Atom (atom.Net a)) (rhs.Unary Not (atom.Net b)) r s e = absurd (cc)
-split_rhs (rhs.Atom (atom.Net a)) (rhs.Binary (atom.Net b) q (atom.Net c)) r s e =
-    let tails : sign 59 ∷ r ≡ sign (binary_sign q) ∷ word c ∷ sign 59 ∷ s = cc in absurd (not_the_end q _ _ (sym tails))
-split_rhs (rhs.Unary Not (atom.Net a)) (rhs.Atom (atom.Net b)) r s e = absurd (cc)
-split_rhs (rhs.Unary Not (atom.Net a)) (rhs.Unary Not (atom.Net b)) r s e = ((cc), (cc))
-split_rhs (rhs.Unary Not (atom.Net a)) (rhs.Binary (atom.Net b) q (atom.Net c)) r s e = absurd (cc)
-split_rhs (rhs.Binary (atom.Net a) p (atom.Net d)) (rhs.Atom (atom.Net b)) r s e =
-    let tails : sign (binary_sign p) ∷ word d ∷ sign 59 ∷ r ≡ sign 59 ∷ s = cc in absurd (not_the_end p _ _ tails)
-split_rhs (rhs.Binary (atom.Net a) p (atom.Net d)) (rhs.Unary Not (atom.Net b)) r s e = absurd (cc)
-split_rhs (rhs.Binary (atom.Net a) p (atom.Net d)) (rhs.Binary (atom.Net b) q (atom.Net c)) r s e =
-    let tails : sign (binary_sign p) ∷ word d ∷ sign 59 ∷ r ≡ sign (binary_sign q) ∷ word c ∷ sign 59 ∷ s = cc in
-    let t = split_binary p q _ _ tails in
-    let op : p ≡ q = t.0 in
-    let rest : word d ∷ sign 59 ∷ r ≡ word c ∷ sign 59 ∷ s = t.1 in
-    ((cc), (cc))
 
 split_item : (i j : Item) (r s : List Token) → item_tokens i ++ r ≡ item_tokens j ++ s → (i ≡ j) × (r ≡ s)
 split_item (item.Wire n) (item.Wire m) r s e =

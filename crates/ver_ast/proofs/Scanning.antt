@@ -1,90 +1,18 @@
 -- The program's capped numbers change nothing else about a text's tokens.
-use Rattle.std.proofs.Common.{◌≡◌, ℕ, ◌+◌, ◌-◌, ◌*◌, ◌≤◌, min, List, [], ◌∷◌, ◌++◌, Bool, true, false, refl, sym, ap, ◌∙◌, Option, Some, None, option_map, arith, append_assoc, subst}
-use Rattle.std.specs.Prelude.{map, nat_eq, if◌then◌else◌}
-use Rattle.std.proofs.lemmas.Bool.Decides.{nat_tests}
+use Rattle.std.proofs.Common.{◌≡◌, ℕ, List, [], ◌∷◌, ◌++◌, refl, sym, ap, ◌∙◌, Option, Some, None, option_map, append_assoc, subst}
+use Rattle.std.specs.Prelude.{map}
 use Rattle.std.proofs.lemmas.List.{map-append}
-use Rattle.ver_ast.specs.Names.{is_digit, is_word_start}
-use Rattle.ver_ast.specs.Tokens.{Token, number, sign, Pending, between, in_word, in_number, in_slash, in_line_comment, in_block_comment, in_block_star, Step, is_sign, is_blank, begin, close_and_begin, number_token, step, last, go_on, tokens_from, tokens}
+use Rattle.ver_ast.specs.Tokens.{Token, Pending, between, in_word, in_number, at_base, at_digits, in_constant, in_slash, in_line_comment, in_block_comment, in_block_star, Step, step, last, go_on, tokens_from, tokens}
 use Rattle.ver_ast.specs.Scanned.{capped, capped_pending, capped_step, IsCapped}
-
-abbrev capped_as : Step → Step
-capped_as = option_map (λ s. (map capped s.0, capped_pending s.1))
-
-abbrev begin_as : Bool → Bool → Bool → Bool → Bool → ℕ → Step
-begin_as starts digit signs blank slash b =
-    if starts then Some ([], in_word (b ∷ []))
-    else if digit then Some ([], in_number (nat_eq b 48) (b - 48))
-    else if signs then Some (sign b ∷ [], between)
-    else if blank then Some ([], between)
-    else if slash then Some ([], in_slash)
-    else None
-
-begin_as_capped : (starts digit signs blank slash : Bool) (b : ℕ) → (digit ≡ true → b ≤ 57) → capped_as (begin_as starts digit signs blank slash b) ≡ begin_as starts digit signs blank slash b
-begin_as_capped true _ _ _ _ b h = refl
-begin_as_capped false true _ _ _ b h =
-    let small : b ≤ 57 = h refl in
-    let e : min (b - 48) 4294967296 ≡ b - 48 = omega arith in
-    ap (λ n. Some ([], in_number (nat_eq b 48) n)) e
-begin_as_capped false false true _ _ b h = refl
-begin_as_capped false false false true _ b h = refl
-begin_as_capped false false false false true b h = refl
-begin_as_capped false false false false false b h = refl
-
-digit_small : (b : ℕ) → is_digit b ≡ true → b ≤ 57
-digit_small b h = grind (arith, nat_tests)
-
-begin_capped : (b : ℕ) → capped_as (begin b) ≡ begin b
-begin_capped b = begin_as_capped (is_word_start b) (is_digit b) (is_sign b) (is_blank b) (nat_eq b 47) b (digit_small b)
-
-capped_token : (one_zero : Bool) (value : ℕ) → value ≤ 4294967296 → capped (number_token one_zero value) ≡ number_token one_zero value
-capped_token true value h = refl
-capped_token false value h = let e : min value 4294967296 ≡ value = omega arith in ap number e
-
-close_capped : (t : Token) (s : Step) → capped_as s ≡ s → capped_as (option_map (λ s. (t ∷ s.0, s.1)) s) ≡ option_map (λ s. (capped t ∷ s.0, s.1)) s
-close_capped t None h = refl
-close_capped t (Some s) h = let e : (map capped s.0, capped_pending s.1) ≡ s = cc in ap (λ q. Some (capped t ∷ q.0, q.1)) e
-
-pub is_capped : (p : Pending) → IsCapped (capped_pending p)
-is_capped between = tt
-is_capped (in_word w) = tt
-is_capped (in_number z v) = omega arith
-is_capped in_slash = tt
-is_capped in_line_comment = tt
-is_capped in_block_comment = tt
-is_capped in_block_star = tt
-
-abbrev number_as : Bool → Bool → ℕ → ℕ → Step
-number_as digit z v b = if digit then Some ([], in_number false (10 * v + (b - 48))) else close_and_begin (number_token z v) b
-
--- a step from a number that is already capped
-pub number_step : (z : Bool) (v b : ℕ) → v ≤ 4294967296 → is_digit b ≡ false → capped_step (in_number z v) b ≡ close_and_begin (number_token z v) b
-number_step z v b h e = ap (λ d. capped_as (number_as d z v b)) e ∙ (close_capped (number_token z v) (begin b) (begin_capped b) ∙ ap (λ t. close_and_begin t b) (capped_token z v h))
-
-more_digits : (v d : ℕ) → min (10 * min v 4294967296 + d) 4294967296 ≡ min (10 * v + d) 4294967296
-more_digits v d = omega arith
-
-same_number : (z : Bool) (v : ℕ) → capped (number_token z (min v 4294967296)) ≡ capped (number_token z v)
-same_number true v = refl
-same_number false v = ap number (omega arith)
-
-number_capped : (d : Bool) (z : Bool) (v b : ℕ) → capped_as (number_as d z (min v 4294967296) b) ≡ capped_as (number_as d z v b)
-number_capped true z v b = ap (λ n. Some ([], in_number false n)) (more_digits v (b - 48))
-number_capped false z v b =
-    close_capped (number_token z (min v 4294967296)) (begin b) (begin_capped b) ∙ ap (λ t. close_and_begin t b) (same_number z v) ∙ sym (close_capped (number_token z v) (begin b) (begin_capped b))
-
-step_capped : (p : Pending) (b : ℕ) → capped_step (capped_pending p) b ≡ capped_step p b
-step_capped between b = refl
-step_capped (in_word w) b = refl
-step_capped (in_number z v) b = number_capped (is_digit b) z v b
-step_capped in_slash b = refl
-step_capped in_line_comment b = refl
-step_capped in_block_comment b = refl
-step_capped in_block_star b = refl
+use Rattle.ver_ast.proofs.Capping.{capped_as, is_capped, step_capped, same_number, same_constant, capped_token, capped_constant}
 
 last_capped : (p : Pending) → option_map (map capped) (last (capped_pending p)) ≡ option_map (map capped) (last p)
 last_capped between = refl
 last_capped (in_word w) = refl
 last_capped (in_number z v) = ap (λ t. Some (t ∷ [])) (same_number z v)
+last_capped (at_base w) = refl
+last_capped (at_digits w base) = refl
+last_capped (in_constant w base v) = ap (λ t. Some (t ∷ [])) (same_constant w v)
 last_capped in_slash = refl
 last_capped in_line_comment = refl
 last_capped in_block_comment = refl
@@ -143,6 +71,9 @@ capped_end : (p : Pending) → IsCapped p → option_map (map capped) (last p) �
 capped_end between h = refl
 capped_end (in_word w) h = refl
 capped_end (in_number z v) h = ap (λ t. Some (t ∷ [])) (capped_token z v h)
+capped_end (at_base w) h = refl
+capped_end (at_digits w base) h = refl
+capped_end (in_constant w base v) h = ap (λ t. Some (t ∷ [])) (capped_constant w v h.0 h.1)
 capped_end in_slash h = refl
 capped_end in_line_comment h = refl
 capped_end in_block_comment h = refl

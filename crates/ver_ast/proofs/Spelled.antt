@@ -1,11 +1,11 @@
 -- Equal lists of tokens in the program mean that the bytes have the tree's tokens.
-use Rattle.std.proofs.Common.{◌≡◌, ℕ, min, List, [], ◌∷◌, refl, sym, ap, ◌∙◌, Option, Some, None, option_map, arith, subst}
+use Rattle.std.proofs.Common.{◌≡◌, ℕ, ◌^◌, min, List, [], ◌∷◌, refl, sym, ap, ◌∙◌, Option, Some, None, option_map, arith, subst}
 use Rattle.std.specs.Prelude.{map}
 use Rattle.std.specs.List.{AllByRecursion}
 use Rattle.ver_ast.specs.declared.tree.Verilog.{Verilog}
 use Rattle.ver_ast.specs.declared.decide.tokens.Token.{Token as Kept}
 use Rattle.ver_ast.specs.declared.decide.tokens.Token.TheVariants as kept
-use Rattle.ver_ast.specs.Tokens.{Token, word, digit_zero, number, sign, tokens}
+use Rattle.ver_ast.specs.Tokens.{Token, word, digit_zero, number, constant, sign, tokens}
 use Rattle.ver_ast.specs.Grammar.{module_tokens}
 use Rattle.ver_ast.specs.Scanned.{token_of, tokens_of, capped}
 use Rattle.ver_ast.specs.Put.{IsSmall, Puts}
@@ -14,12 +14,17 @@ capped_small : (t : Token) → IsSmall t → capped t ≡ t
 capped_small (word w) h = refl
 capped_small digit_zero h = refl
 capped_small (number n) h = let e : min n 4294967296 ≡ n = omega arith in ap number e
+capped_small (constant w v) h =
+    let e : min w 4294967296 ≡ w = omega arith in
+    let f : min v (2 ^ 128) ≡ v = omega arith in
+    rw (e, f) refl
 capped_small (sign b) h = refl
 
 small_before : (t : Token) → IsSmall (capped t) → IsSmall t
 small_before (word w) h = h
 small_before digit_zero h = h
 small_before (number n) h = omega arith
+small_before (constant w v) h = (omega arith, omega arith)
 small_before (sign b) h = h
 
 all_capped : (ts : List Token) → AllByRecursion IsSmall ts → map capped ts ≡ ts
@@ -34,32 +39,25 @@ all_small_before (t ∷ ts) (u ∷ us) e h =
     let rest : map capped ts ≡ us = cc in
     (small_before t (subst IsSmall first h.0), all_small_before ts us rest h.1)
 
-same_token : (a b : Kept) → token_of a ≡ token_of b → a ≡ b
-same_token (kept.Word w) (kept.Word u) e = cc
-same_token (kept.Word w) kept.DigitZero e = absurd (cc)
-same_token (kept.Word w) (kept.Number n) e = absurd (cc)
-same_token (kept.Word w) (kept.Sign b) e = absurd (cc)
-same_token kept.DigitZero (kept.Word u) e = absurd (cc)
-same_token kept.DigitZero kept.DigitZero e = refl
-same_token kept.DigitZero (kept.Number n) e = absurd (cc)
-same_token kept.DigitZero (kept.Sign b) e = absurd (cc)
-same_token (kept.Number m) (kept.Word u) e = absurd (cc)
-same_token (kept.Number m) kept.DigitZero e = absurd (cc)
-same_token (kept.Number m) (kept.Number n) e = cc
-same_token (kept.Number m) (kept.Sign b) e = absurd (cc)
-same_token (kept.Sign c) (kept.Word u) e = absurd (cc)
-same_token (kept.Sign c) kept.DigitZero e = absurd (cc)
-same_token (kept.Sign c) (kept.Number n) e = absurd (cc)
-same_token (kept.Sign c) (kept.Sign b) e = cc
+same_token : (a b : Kept) → IsSmall (token_of b) → token_of a ≡ token_of b → a ≡ b
+same_token (kept.Word w) (kept.Word u) h e = cc
+same_token kept.DigitZero kept.DigitZero h e = refl
+same_token (kept.Number m) (kept.Number n) h e = cc
+same_token (kept.Constant w None) (kept.Constant u None) h e = cc
+same_token (kept.Constant w None) (kept.Constant u (Some y)) h e = let large : 2 ^ 128 ≡ y = cc in absurd (omega arith)
+same_token (kept.Constant w (Some x)) (kept.Constant u None) h e = absurd (omega arith)
+same_token (kept.Constant w (Some x)) (kept.Constant u (Some y)) h e = cc
+same_token (kept.Sign c) (kept.Sign b) h e = cc
+same_token a b h e = absurd (cc)
 
-same_kept : (xs ys : List Kept) → tokens_of xs ≡ tokens_of ys → xs ≡ ys
-same_kept [] [] e = refl
-same_kept [] (b ∷ ys) e = absurd (cc)
-same_kept (a ∷ xs) [] e = absurd (cc)
-same_kept (a ∷ xs) (b ∷ ys) e =
+same_kept : (xs ys : List Kept) → AllByRecursion IsSmall (tokens_of ys) → tokens_of xs ≡ tokens_of ys → xs ≡ ys
+same_kept [] [] h e = refl
+same_kept [] (b ∷ ys) h e = absurd (cc)
+same_kept (a ∷ xs) [] h e = absurd (cc)
+same_kept (a ∷ xs) (b ∷ ys) h e =
     let first : token_of a ≡ token_of b = cc in
     let rest : tokens_of xs ≡ tokens_of ys = cc in
-    rw (same_token a b first, same_kept xs ys rest) refl
+    rw (same_token a b h.0 first, same_kept xs ys h.1 rest) refl
 
 exact : (o : Option (List Token)) (us : List Token) → Some us ≡ option_map (map capped) o → AllByRecursion IsSmall us → o ≡ Some us
 exact None us e h = absurd (cc)
@@ -76,4 +74,4 @@ pub found_is_expected : (bytes : List ℕ) (v : Verilog) (found expected : List 
 found_is_expected bytes v found expected p e s =
     let whole : Some (tokens_of found) ≡ Some (map capped (module_tokens v)) = e ∙ ap (option_map (map capped)) s in
     let same : tokens_of found ≡ map capped (module_tokens v) = cc in
-    same_kept found expected (same ∙ all_capped (module_tokens v) p.small ∙ sym p.are)
+    same_kept found expected (subst (AllByRecursion IsSmall) (sym p.are) p.small) (same ∙ all_capped (module_tokens v) p.small ∙ sym p.are)

@@ -8,13 +8,9 @@ use Rattle.ver_ast.specs.declared.tree.Item.TheVariants as item
 use Rattle.ver_ast.specs.Nets.{Sized, inputs, outputs, wires, nets, assigns, targets, names_of}
 use Rattle.ver_ast.specs.Valid.{reads, DeclaredBefore, HasOneWidth}
 
--- the target is a net of some width, and each name that is read one of that width
-abbrev pub HasWidth : List Sized → Assign → Type 0
-HasWidth nets a = (w : ℕ) × In nets (a.target, w) × EachIn (map (λ n. (n, w)) (reads a)) nets
-
 abbrev pub HasItemWidth : List Sized → Item → Type 0
 HasItemWidth nets (item.Wire n) = Unit {0}
-HasItemWidth nets (item.Assign a) = HasWidth nets a
+HasItemWidth nets (item.Assign a) = HasOneWidth nets a
 
 -- the target is not known yet, and all that is read is
 pub record CanPlace (known : List (List ℕ)) (a : Assign) : Type 0 where
@@ -36,7 +32,7 @@ pub record IsDeclared (v : Verilog) : Type 0 where
 
 pub record IsSized (v : Verilog) : Type 0 where
   pub narrow : (n : List ℕ) (w : ℕ) → In (nets v) (n, w) → (1 ≤ w) × (w ≤ 128)
-  pub fitting : (a : Assign) → In (assigns v) a → HasOneWidth v a
+  pub fitting : (a : Assign) → In (assigns v) a → HasOneWidth (nets v) a
 
 pub record IsDriven (v : Verilog) : Type 0 where
   pub once : Distinct (targets (assigns v))

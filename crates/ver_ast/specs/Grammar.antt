@@ -4,6 +4,9 @@
 --   item   = "wire" [range] name ";" | "assign" name "=" rhs ";"
 --   range  = "[" num ":" "0" "]"            without a range the width is 1
 --   rhs    = atom | "~" atom | atom ("&" | "|" | "^") atom
+--   atom   = primary | "{" primary { "," primary } "}"
+--   primary = name | constant | name "[" num "]" | name "[" num ":" num "]"
+-- The number 0 is written as the one digit here, in a range and in a select.
 use Rattle.std.specs.Prelude.{ℕ, ◌-◌, List, [], ◌∷◌, ◌++◌, flat_map, codes, nat_eq, if◌then◌else◌}
 use Rattle.fir_base.specs.declared.direction.Direction.{Direction}
 use Rattle.fir_base.specs.declared.direction.Direction.TheVariants.{Input, Output}
@@ -15,11 +18,13 @@ use Rattle.ver_ast.specs.declared.tree.Rhs.{Rhs}
 use Rattle.ver_ast.specs.declared.tree.Rhs.TheVariants as rhs
 use Rattle.ver_ast.specs.declared.tree.Atom.{Atom}
 use Rattle.ver_ast.specs.declared.tree.Atom.TheVariants as atom
+use Rattle.ver_ast.specs.declared.tree.Primary.{Primary}
+use Rattle.ver_ast.specs.declared.tree.Primary.TheVariants as primary
 use Rattle.ver_ast.specs.declared.tree.UnaryOp.{UnaryOp}
 use Rattle.ver_ast.specs.declared.tree.UnaryOp.TheVariants.{Not}
 use Rattle.ver_ast.specs.declared.tree.BinaryOp.{BinaryOp}
 use Rattle.ver_ast.specs.declared.tree.BinaryOp.TheVariants.{And, Or, Xor}
-use Rattle.ver_ast.specs.Tokens.{Token, word, digit_zero, number, sign}
+use Rattle.ver_ast.specs.Tokens.{Token, word, digit_zero, number, constant, sign}
 
 abbrev pub direction_word : Direction → List ℕ
 direction_word Input = codes "input"
@@ -39,8 +44,22 @@ abbrev pub ports_tokens : List Port → List Token
 ports_tokens [] = []
 ports_tokens (p ∷ ps) = port_tokens p ++ flat_map next_port_tokens ps
 
+abbrev pub select_number : ℕ → Token
+select_number n = if nat_eq n 0 then digit_zero else number n
+
+abbrev pub primary_tokens : Primary → List Token
+primary_tokens (primary.Net n) = word n ∷ []
+primary_tokens (primary.Constant width value) = constant width value ∷ []
+primary_tokens (primary.BitSelect n i) = word n ∷ sign 91 ∷ select_number i ∷ sign 93 ∷ []
+primary_tokens (primary.PartSelect n hi lo) = word n ∷ sign 91 ∷ select_number hi ∷ sign 58 ∷ select_number lo ∷ sign 93 ∷ []
+
+-- a primary behind another
+abbrev pub next_primary_tokens : Primary → List Token
+next_primary_tokens p = sign 44 ∷ primary_tokens p
+
 abbrev pub atom_tokens : Atom → List Token
-atom_tokens (atom.Net n) = word n ∷ []
+atom_tokens (atom.Primary p) = primary_tokens p
+atom_tokens (atom.Concat p ps) = sign 123 ∷ primary_tokens p ++ flat_map next_primary_tokens ps ++ sign 125 ∷ []
 
 abbrev pub unary_sign : UnaryOp → ℕ
 unary_sign Not = 126

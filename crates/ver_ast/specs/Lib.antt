@@ -4,6 +4,7 @@ pub mod Tokens
 pub mod Grammar
 pub mod Spells
 pub mod Nets
+pub mod AtomWidths
 pub mod Valid
 pub mod Settled
 pub mod Allows

@@ -1,5 +1,6 @@
 -- What a tree declares and drives.
-use Rattle.std.specs.Prelude.{ℕ, List, [], ◌∷◌, ◌++◌, map, flat_map}
+use Rattle.std.specs.Prelude.{ℕ, List, [], ◌∷◌, ◌++◌, map, flat_map, if◌then◌else◌}
+use Rattle.std.specs.Str.{bytes_eq}
 use Rattle.fir_base.specs.declared.direction.Direction.{Direction}
 use Rattle.fir_base.specs.declared.direction.Direction.TheVariants.{Input, Output}
 use Rattle.fir_base.specs.Ticks.{Shape}
@@ -56,6 +57,11 @@ names_of = map (λ n. n.0)
 
 abbrev pub widths_of : List Sized → List ℕ
 widths_of = map (λ n. n.1)
+
+-- the width of the first net of that name, and 0 where there is none
+abbrev pub width_in : List Sized → List ℕ → ℕ
+width_in [] name = 0
+width_in (net ∷ rest) name = if bytes_eq net.0 name then net.1 else width_in rest name
 
 -- no clocks and no state are in the subset yet
 abbrev pub shape : Verilog → Shape

@@ -1,6 +1,6 @@
 -- Which bytes spell which tree.
 -- The tokens of the bytes are those of the tree, and each name in it is spelled as a name and not reserved.
-use Rattle.std.specs.Prelude.{◌≡◌, ℕ, List, [], ◌∷◌, ◌++◌, Some}
+use Rattle.std.specs.Prelude.{◌≡◌, ℕ, List, [], ◌∷◌, flat_map, Some}
 use Rattle.std.specs.List.{AllByRecursion}
 use Rattle.ver_ast.specs.declared.tree.Verilog.{Verilog}
 use Rattle.ver_ast.specs.declared.tree.Item.{Item}
@@ -9,17 +9,32 @@ use Rattle.ver_ast.specs.declared.tree.Rhs.{Rhs}
 use Rattle.ver_ast.specs.declared.tree.Rhs.TheVariants as rhs
 use Rattle.ver_ast.specs.declared.tree.Atom.{Atom}
 use Rattle.ver_ast.specs.declared.tree.Atom.TheVariants as atom
+use Rattle.ver_ast.specs.declared.tree.Primary.{Primary}
+use Rattle.ver_ast.specs.declared.tree.Primary.TheVariants as primary
 use Rattle.ver_ast.specs.Names.{IsName}
 use Rattle.ver_ast.specs.Tokens.{tokens}
 use Rattle.ver_ast.specs.Grammar.{module_tokens}
 
+abbrev pub primary_names : Primary → List (List ℕ)
+primary_names (primary.Net n) = n ∷ []
+primary_names (primary.Constant width value) = []
+primary_names (primary.BitSelect n i) = n ∷ []
+primary_names (primary.PartSelect n hi lo) = n ∷ []
+
+abbrev pub primaries : Atom → List Primary
+primaries (atom.Primary p) = p ∷ []
+primaries (atom.Concat p ps) = p ∷ ps
+
 abbrev pub atom_names : Atom → List (List ℕ)
-atom_names (atom.Net n) = n ∷ []
+atom_names a = flat_map primary_names (primaries a)
+
+abbrev pub rhs_atoms : Rhs → List Atom
+rhs_atoms (rhs.Atom a) = a ∷ []
+rhs_atoms (rhs.Unary op a) = a ∷ []
+rhs_atoms (rhs.Binary a op b) = a ∷ b ∷ []
 
 abbrev pub rhs_names : Rhs → List (List ℕ)
-rhs_names (rhs.Atom a) = atom_names a
-rhs_names (rhs.Unary op a) = atom_names a
-rhs_names (rhs.Binary a op b) = atom_names a ++ atom_names b
+rhs_names r = flat_map atom_names (rhs_atoms r)
 
 abbrev pub HasItemNames : Item → Type 0
 HasItemNames (item.Wire n) = IsName n.name

@@ -1,15 +1,21 @@
--- Which trees are valid (IEEE 1364-2005, 3.7, 4.2, 5.4, 6.1).
--- Each net is declared once, before it is used, with a width from 1 to 128; the operands of an assign have its target's width; each wire and
+-- Which trees are valid (IEEE 1364-2005, 3.7, 4.2, 5.2.1, 5.4, 6.1).
+-- Each net is declared once, before it is used, with a width from 1 to 128; a select stands within a net that has a range, and a constant fits its
+-- width, which is 1 to 128; the operands of an assign have its target's width; each wire and
 -- output has exactly one assign and an input none; and no closed walk of assigns exists, which is said as: some order of the assigns has each once,
 -- after all that it reads.
-use Rattle.std.specs.Prelude.{ℕ, ◌≤◌, List, [], ◌∷◌, ◌++◌, map}
+use Rattle.std.specs.Prelude.{◌≡◌, ℕ, ◌^◌, ◌<◌, ◌≤◌, List, [], ◌∷◌, ◌++◌, map}
+use Rattle.std.specs.List.{AllByRecursion}
 use Rattle.fir_base.specs.Lists.{In, Distinct, EachIn}
 use Rattle.ver_ast.specs.declared.tree.Verilog.{Verilog}
 use Rattle.ver_ast.specs.declared.tree.Assign.{Assign}
 use Rattle.ver_ast.specs.declared.tree.Item.{Item}
 use Rattle.ver_ast.specs.declared.tree.Item.TheVariants as item
-use Rattle.ver_ast.specs.Spells.{rhs_names}
-use Rattle.ver_ast.specs.Nets.{inputs, outputs, wires, nets, assigns, targets, names_of}
+use Rattle.ver_ast.specs.declared.tree.Atom.{Atom}
+use Rattle.ver_ast.specs.declared.tree.Primary.{Primary}
+use Rattle.ver_ast.specs.declared.tree.Primary.TheVariants as primary
+use Rattle.ver_ast.specs.Spells.{primaries, rhs_atoms, rhs_names}
+use Rattle.ver_ast.specs.AtomWidths.{atom_width}
+use Rattle.ver_ast.specs.Nets.{Sized, width_in, inputs, outputs, wires, nets, assigns, targets, names_of}
 
 -- the names that an assign reads
 abbrev pub reads : Assign → List (List ℕ)
@@ -21,9 +27,21 @@ DeclaredBefore known [] = Unit {0}
 DeclaredBefore known (item.Wire n ∷ rest) = DeclaredBefore (n.name ∷ known) rest
 DeclaredBefore known (item.Assign a ∷ rest) = In known a.target × EachIn (reads a) known × DeclaredBefore known rest
 
--- the target has a width, and each name that is read has the same
-abbrev pub HasOneWidth : Verilog → Assign → Type 0
-HasOneWidth v a = (w : ℕ) × In (nets v) (a.target, w) × EachIn (map (λ n. (n, w)) (reads a)) (nets v)
+-- a select is within a net with a range, and a constant fits its width
+abbrev pub IsSound : List Sized → Primary → Type 0
+IsSound nets (primary.Net n) = Unit {0}
+IsSound nets (primary.Constant width value) = (1 ≤ width) × (width ≤ 128) × (value < 2 ^ width)
+IsSound nets (primary.BitSelect n i) = (2 ≤ width_in nets n) × (i < width_in nets n)
+IsSound nets (primary.PartSelect n hi lo) = (2 ≤ width_in nets n) × (lo ≤ hi) × (hi < width_in nets n)
+
+-- an atom of w bits
+pub record FitsWidth (nets : List Sized) (w : ℕ) (a : Atom) : Type 0 where
+  pub sound : AllByRecursion (IsSound nets) (primaries a)
+  pub wide : atom_width nets a ≡ w
+
+-- the target has a width, and each operand has the same
+abbrev pub HasOneWidth : List Sized → Assign → Type 0
+HasOneWidth nets a = (w : ℕ) × In nets (a.target, w) × AllByRecursion (FitsWidth nets w) (rhs_atoms a.rhs)
 
 -- each assign reads only what is known before it: the inputs, and the targets of assigns before it
 abbrev pub ReadsBefore : List (List ℕ) → List Assign → Type 0
@@ -41,7 +59,7 @@ pub record Valid (v : Verilog) : Type 0 where
   pub declared_once : Distinct (names_of (nets v))
   pub declared_before : DeclaredBefore (names_of (map (λ p. (p.name, p.width)) v.ports)) v.items
   pub narrow : (n : List ℕ) (w : ℕ) → In (nets v) (n, w) → (1 ≤ w) × (w ≤ 128)
-  pub fitting : (a : Assign) → In (assigns v) a → HasOneWidth v a
+  pub fitting : (a : Assign) → In (assigns v) a → HasOneWidth (nets v) a
   pub driven_once : Distinct (targets (assigns v))
   pub driven : (n : List ℕ) → In (names_of (wires v ++ outputs v)) n → In (targets (assigns v)) n
   pub undriven_inputs : (n : List ℕ) → In (names_of (inputs v)) n → In (targets (assigns v)) n → ⊥

@@ -1,7 +1,7 @@
 //! Small texts, trees and values, each judged by hand.
 
 use crate::{
-    Assign, Atom, BinaryOp, Item, Net, Port, Rhs, TickValues, UnaryOp, Valued, Verilog,
+    Assign, Atom, BinaryOp, Item, Net, Port, Primary, Rhs, TickValues, UnaryOp, Valued, Verilog,
     is_reserved, settled, spells, valid,
 };
 use fir_base::{Direction, MemoryOut, Name, Seq};
@@ -27,7 +27,7 @@ fn named(alloc: Global, name: &str) -> Result<Name, MemoryOut> {
 }
 
 fn net(alloc: Global, name: &str) -> Result<Atom, MemoryOut> {
-    Ok(Atom::Net(named(alloc, name)?))
+    Ok(Atom::Primary(Primary::Net(named(alloc, name)?)))
 }
 
 fn assign(alloc: Global, target: &str, rhs: Rhs) -> Result<Item, MemoryOut> {
@@ -232,6 +232,201 @@ fn table(alloc: Global, values: &[(&str, u128)]) -> Result<Vec<Valued>, MemoryOu
     Ok(table)
 }
 
+/// A part of an operand, by its name and numbers.
+enum Part {
+    Whole(&'static str),
+    Number(u32, u128),
+    Bit(&'static str, u32),
+    Bits(&'static str, u32, u32),
+}
+
+/// An operand, by its parts.
+enum Operand {
+    One(Part),
+    Joined(Part, &'static [Part]),
+}
+
+use Operand::{Joined, One};
+use Part::{Bit, Bits, Number, Whole};
+
+fn primary(alloc: Global, part: &Part) -> Result<Primary, MemoryOut> {
+    Ok(match part {
+        Whole(name) => Primary::Net(named(alloc, name)?),
+        Number(width, value) => Primary::Constant(*width, *value),
+        Bit(name, index) => Primary::BitSelect(named(alloc, name)?, *index),
+        Bits(name, high, low) => Primary::PartSelect(named(alloc, name)?, *high, *low),
+    })
+}
+
+fn atom(alloc: Global, operand: &Operand) -> Result<Atom, MemoryOut> {
+    match operand {
+        One(part) => Ok(Atom::Primary(primary(alloc, part)?)),
+        Joined(first, rest) => {
+            let first = primary(alloc, first)?;
+            let mut parts = Vec::new(alloc);
+            for part in *rest {
+                parts.push(primary(alloc, part)?)?;
+            }
+            Ok(Atom::Concat(first, Seq::from_vec(parts)))
+        }
+    }
+}
+
+/// The inputs a and b and the output o, and a wire m that is assigned the operand.
+fn tree_of(
+    alloc: Global,
+    width: u32,
+    wire_width: u32,
+    operand: &Operand,
+) -> Result<Verilog, MemoryOut> {
+    let mut items = Vec::new(alloc);
+    items.push(Item::Wire(Net {
+        width: wire_width,
+        name: named(alloc, "m")?,
+    }))?;
+    items.push(assign(alloc, "m", Rhs::Atom(atom(alloc, operand)?))?)?;
+    items.push(assign(alloc, "o", Rhs::Atom(net(alloc, "a")?))?)?;
+    Ok(Verilog {
+        name: named(alloc, "T")?,
+        ports: Seq::from_vec(ports(alloc, width)?),
+        items: Seq::from_vec(items),
+    })
+}
+
+/// The widths of the ports and of the wire, its operand, and its value where a is 10 and b is 6, if it may be so.
+const OPERANDS: &[(&str, u32, u32, Operand, Option<u128>)] = &[
+    ("a constant", 4, 4, One(Number(4, 5)), Some(5)),
+    ("too great by one", 4, 4, One(Number(4, 16)), None),
+    ("a narrow constant", 4, 4, One(Number(3, 5)), None),
+    (
+        "the greatest constant",
+        4,
+        128,
+        One(Number(128, u128::MAX)),
+        Some(u128::MAX),
+    ),
+    ("a wide constant", 4, 129, One(Number(129, 1)), None),
+    ("the high bit", 4, 1, One(Bit("a", 3)), Some(1)),
+    ("the bit below", 4, 1, One(Bit("a", 2)), Some(0)),
+    ("a bit past the end", 4, 1, One(Bit("a", 4)), None),
+    ("a bit for two", 4, 2, One(Bit("a", 3)), None),
+    ("a bit of one", 1, 1, One(Bit("a", 0)), None),
+    ("high bits", 4, 3, One(Bits("a", 3, 1)), Some(5)),
+    ("low bits", 4, 3, One(Bits("a", 2, 0)), Some(2)),
+    (
+        "one bit by two numbers",
+        4,
+        1,
+        One(Bits("a", 1, 1)),
+        Some(1),
+    ),
+    ("turned round", 4, 3, One(Bits("a", 1, 3)), None),
+    ("bits past the end", 4, 3, One(Bits("a", 4, 2)), None),
+    ("bits of one", 1, 1, One(Bits("a", 0, 0)), None),
+    (
+        "two nets",
+        4,
+        8,
+        Joined(Whole("a"), &[Whole("b")]),
+        Some(166),
+    ),
+    ("one net", 4, 4, Joined(Whole("a"), &[]), Some(10)),
+    (
+        "a part of each kind",
+        4,
+        11,
+        Joined(Bits("b", 1, 0), &[Number(4, 9), Bit("a", 3), Whole("b")]),
+        Some(1334),
+    ),
+    (
+        "too few bits",
+        4,
+        8,
+        Joined(Whole("a"), &[Bits("b", 2, 0)]),
+        None,
+    ),
+    (
+        "too many bits",
+        4,
+        8,
+        Joined(Whole("a"), &[Whole("b"), Number(1, 0)]),
+        None,
+    ),
+    (
+        "no bits",
+        4,
+        8,
+        Joined(Whole("a"), &[Whole("b"), Number(0, 0)]),
+        None,
+    ),
+    (
+        "128 bits",
+        4,
+        128,
+        Joined(Whole("a"), &[Number(124, 1)]),
+        Some(212676479325586539664609129644855132161),
+    ),
+    (
+        "129 bits",
+        4,
+        129,
+        Joined(Bit("a", 0), &[Number(128, 1)]),
+        None,
+    ),
+    (
+        "129 bits for one",
+        4,
+        1,
+        Joined(Bit("a", 0), &[Number(128, 1)]),
+        None,
+    ),
+    (
+        "a part that is not declared",
+        4,
+        8,
+        Joined(Whole("a"), &[Whole("c")]),
+        None,
+    ),
+];
+
+/// Whether the tree is valid and the values are settled.
+fn is_settled(
+    alloc: Global,
+    v: &Verilog,
+    state: &[u128],
+    tick: &TickValues,
+    table: &[Valued],
+) -> Result<bool, MemoryOut> {
+    if valid(alloc, v)? {
+        settled(alloc, v, state, tick, table)
+    } else {
+        Ok(false)
+    }
+}
+
+#[test]
+fn operands_are_judged(rt: HostRuntime) -> Result<(), Fail> {
+    let alloc = rt.alloc();
+    for (what, width, wire_width, operand, want) in OPERANDS {
+        let v = tree_of(alloc, *width, *wire_width, operand)?;
+        assert_eq!(rt; valid(alloc, &v)?, want.is_some(), "{what}");
+        let inputs = vec![in alloc; 10, 6]?;
+        let clocks = Vec::new(alloc);
+        let tick = TickValues { inputs, clocks };
+        for change in [0, 1] {
+            let value = want.unwrap_or(0) ^ change;
+            let values = table(alloc, &[("a", 10), ("b", 6), ("m", value), ("o", 10)])?;
+            let holds = want.is_some() && change == 0;
+            assert_eq!(rt;
+                is_settled(alloc, &v, &[], &tick, values.as_slice())?,
+                holds,
+                "{what} by {value}"
+            );
+        }
+    }
+    Ok(())
+}
+
 #[test]
 fn values_are_judged(rt: HostRuntime) -> Result<(), Fail> {
     let alloc = rt.alloc();
@@ -250,19 +445,173 @@ fn values_are_judged(rt: HostRuntime) -> Result<(), Fail> {
         let tick = TickValues { inputs, clocks };
         let values = table(alloc, &[("a", a), ("b", b), ("_n0", n), ("o", o)])?;
         assert_eq!(rt;
-            settled(alloc, &xor, &[], &tick, values.as_slice())?,
+            is_settled(alloc, &xor, &[], &tick, values.as_slice())?,
             by_xor,
             "{a} ^ {b} by {n} and {o}"
         );
         assert_eq!(rt;
-            settled(alloc, &inverter, &[], &tick, values.as_slice())?,
+            is_settled(alloc, &inverter, &[], &tick, values.as_slice())?,
             by_inverter,
             "not {a} by {o}"
         );
         assert!(rt;
-            !settled(alloc, &xor, &[0], &tick, values.as_slice())?,
+            !is_settled(alloc, &xor, &[0], &tick, values.as_slice())?,
             "a state"
         );
+    }
+    Ok(())
+}
+
+/// Texts of right sides, with whether the parts stand in a concatenation, and whether the text spells them.
+const RIGHT_SIDES: &[(&str, bool, &[Part], bool)] = &[
+    ("a", false, &[Part::Whole("a")], true),
+    ("{a}", true, &[Part::Whole("a")], true),
+    ("a", true, &[Part::Whole("a")], false),
+    ("{a}", false, &[Part::Whole("a")], false),
+    ("4'hF", false, &[Part::Number(4, 15)], true),
+    ("4'hf", false, &[Part::Number(4, 15)], true),
+    ("4'd15", false, &[Part::Number(4, 15)], true),
+    ("4'b1111", false, &[Part::Number(4, 15)], true),
+    ("04'h5", false, &[Part::Number(4, 5)], true),
+    ("4'h05", false, &[Part::Number(4, 5)], true),
+    ("0'd0", false, &[Part::Number(0, 0)], true),
+    ("8'd255", false, &[Part::Number(8, 255)], true),
+    ("8'hfF", false, &[Part::Number(8, 255)], true),
+    ("2'b10", false, &[Part::Number(2, 2)], true),
+    ("2'd2", false, &[Part::Number(2, 2)], true),
+    ("2'd10", false, &[Part::Number(2, 10)], true),
+    ("8'd255", false, &[Part::Number(8, 597)], false),
+    ("2'b10", false, &[Part::Number(2, 10)], false),
+    ("4'h5", false, &[Part::Number(5, 5)], false),
+    (
+        "128'hffffffffffffffffffffffffffffffff",
+        false,
+        &[Part::Number(128, u128::MAX)],
+        true,
+    ),
+    (
+        "128'h100000000000000000000000000000000",
+        false,
+        &[Part::Number(128, u128::MAX)],
+        false,
+    ),
+    (
+        "128'h100000000000000000000000000000000",
+        false,
+        &[Part::Number(128, 0)],
+        false,
+    ),
+    (
+        "128'd340282366920938463463374607431768211455",
+        false,
+        &[Part::Number(128, u128::MAX)],
+        true,
+    ),
+    (
+        "128'd340282366920938463463374607431768211456",
+        false,
+        &[Part::Number(128, 0)],
+        false,
+    ),
+    ("4294967295'd1", false, &[Part::Number(u32::MAX, 1)], true),
+    ("4294967296'd1", false, &[Part::Number(0, 1)], false),
+    ("4'g", false, &[Part::Number(4, 0)], false),
+    ("4 'h5", false, &[Part::Number(4, 5)], false),
+    ("4' h5", false, &[Part::Number(4, 5)], false),
+    ("4'h 5", false, &[Part::Number(4, 5)], false),
+    ("4'h", false, &[Part::Number(4, 0)], false),
+    ("4'H5", false, &[Part::Number(4, 5)], false),
+    ("4'b2", false, &[Part::Number(4, 2)], false),
+    ("4'da", false, &[Part::Number(4, 10)], false),
+    ("4'hg", false, &[Part::Number(4, 16)], false),
+    ("4'h5_", false, &[Part::Number(4, 5)], false),
+    ("a[3]", false, &[Part::Bit("a", 3)], true),
+    (
+        "a [ /* the high bit */ 03 ]",
+        false,
+        &[Part::Bit("a", 3)],
+        true,
+    ),
+    ("a[0]", false, &[Part::Bit("a", 0)], true),
+    ("a[00]", false, &[Part::Bit("a", 0)], false),
+    ("a[2]", false, &[Part::Bit("a", 3)], false),
+    ("a[]", false, &[Part::Bit("a", 0)], false),
+    ("a[3:1]", false, &[Part::Bits("a", 3, 1)], true),
+    ("a[3:0]", false, &[Part::Bits("a", 3, 0)], true),
+    ("a[0:0]", false, &[Part::Bits("a", 0, 0)], true),
+    ("a[3:00]", false, &[Part::Bits("a", 3, 0)], false),
+    ("a[1:3]", false, &[Part::Bits("a", 3, 1)], false),
+    ("a[3:3]", false, &[Part::Bit("a", 3)], false),
+    (
+        "{a, 4'h5, b[0], a[3:1]}",
+        true,
+        &[
+            Part::Whole("a"),
+            Part::Number(4, 5),
+            Part::Bit("b", 0),
+            Part::Bits("a", 3, 1),
+        ],
+        true,
+    ),
+    (
+        "{ a/**/, // first\n 4'h5\t,b [0],a[ 3:1 ]}",
+        true,
+        &[
+            Part::Whole("a"),
+            Part::Number(4, 5),
+            Part::Bit("b", 0),
+            Part::Bits("a", 3, 1),
+        ],
+        true,
+    ),
+    ("{b, a}", true, &[Part::Whole("a"), Part::Whole("b")], false),
+    ("{a b}", true, &[Part::Whole("a"), Part::Whole("b")], false),
+    (
+        "{a,, b}",
+        true,
+        &[Part::Whole("a"), Part::Whole("b")],
+        false,
+    ),
+    (
+        "{a, b,}",
+        true,
+        &[Part::Whole("a"), Part::Whole("b")],
+        false,
+    ),
+    ("{a, b", true, &[Part::Whole("a"), Part::Whole("b")], false),
+    ("(a, b)", true, &[Part::Whole("a"), Part::Whole("b")], false),
+    ("{}", true, &[Part::Whole("a")], false),
+];
+
+/// The parts side by side, or the first alone; without parts, a constant.
+fn right_side(alloc: Global, joined: bool, parts: &[Part]) -> Result<Rhs, MemoryOut> {
+    let [first, rest @ ..] = parts else {
+        return Ok(Rhs::Atom(Atom::Primary(Primary::Constant(1, 0))));
+    };
+    let first = primary(alloc, first)?;
+    if !joined {
+        return Ok(Rhs::Atom(Atom::Primary(first)));
+    }
+    let mut others = Vec::new(alloc);
+    for part in rest {
+        others.push(primary(alloc, part)?)?;
+    }
+    Ok(Rhs::Atom(Atom::Concat(first, Seq::from_vec(others))))
+}
+
+#[test]
+fn texts_spell_right_sides(rt: HostRuntime) -> Result<(), Fail> {
+    let alloc = rt.alloc();
+    for (text, joined, parts, want) in RIGHT_SIDES {
+        let mut items = Vec::new(alloc);
+        items.push(assign(alloc, "o", right_side(alloc, *joined, parts)?)?)?;
+        let v = Verilog {
+            name: named(alloc, "T")?,
+            ports: Seq::from_vec(Vec::new(alloc)),
+            items: Seq::from_vec(items),
+        };
+        let whole = format!(in alloc; "module T(); assign o = {text}; endmodule")?;
+        assert_eq!(rt; spells(alloc, whole.as_bytes(), &v)?, *want, "{text}");
     }
     Ok(())
 }

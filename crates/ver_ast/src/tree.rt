@@ -17,10 +17,24 @@ pub struct Net {
     pub name: Name,
 }
 
-/// What stands as an operand (IEEE 1364-2005, 5.2).
+/// What stands alone as an operand, or beside others in a concatenation (IEEE 1364-2005, 5.2).
+#[derive(Drop)]
+pub enum Primary {
+    Net(Name),
+    /// A constant: its width in bits, and its number.
+    Constant(u32, u128),
+    /// One bit of a net, counted from 0 at the low end.
+    BitSelect(Name, u32),
+    /// The bits of a net from the first number down to the second.
+    PartSelect(Name, u32, u32),
+}
+
+/// An operand (IEEE 1364-2005, 5.1.14).
 #[derive(Drop)]
 pub enum Atom {
-    Net(Name),
+    Primary(Primary),
+    /// A concatenation of one or more, the first at the high end.
+    Concat(Primary, Seq<Primary>),
 }
 
 /// An operator before its operand (IEEE 1364-2005, 5.1).

@@ -1,7 +1,10 @@
 pub mod Grouping
 pub mod Words
+pub mod HexDigits
 pub mod Numbers
+pub mod Constants
 pub mod Narrow
+pub mod Primaries
 pub mod Ports
 pub mod Items
 pub mod Spelled

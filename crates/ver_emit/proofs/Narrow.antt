@@ -1,7 +1,8 @@
 -- The widths of a list of nets, each from 1 to 128.
-use Rattle.std.proofs.Common.{ℕ, ◌≤◌, List, [], ◌∷◌, ◌++◌, inl, inr, refl}
+use Rattle.std.proofs.Common.{ℕ, ◌≤◌, List, [], ◌∷◌, ◌++◌, true, false, if◌then◌else◌, inl, inr, refl, arith}
+use Rattle.std.specs.Str.{bytes_eq}
 use Rattle.fir_base.specs.Lists.{In}
-use Rattle.ver_ast.specs.Nets.{Sized}
+use Rattle.ver_ast.specs.Nets.{Sized, width_in}
 
 -- in the form of a valid tree's promise
 abbrev pub AllNarrow : List Sized → Type 0
@@ -33,3 +34,11 @@ narrow_first n w nets h = h n w (inl refl)
 -- the nets behind the first
 pub narrow_others : (x : Sized) (nets : List Sized) → AllNarrow (x ∷ nets) → AllNarrow nets
 narrow_others x nets h n w i = h n w (inr i)
+
+-- the width of a net, or 0
+pub width_is_narrow : (nets : List Sized) (n : List ℕ) → AllNarrow nets → width_in nets n ≤ 128
+width_is_narrow [] n h = omega arith
+width_is_narrow ((m, w) ∷ rest) n h = elim (bytes_eq m n) as (λ same. (if same then w else width_in rest n) ≤ 128) [
+  | true ↦ (narrow_first m w rest h).1
+  | false ↦ width_is_narrow rest n (narrow_others (m, w) rest h)
+]

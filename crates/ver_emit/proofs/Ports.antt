@@ -11,7 +11,7 @@ use Rattle.ver_ast.specs.Tokens.{Token, word, sign, tokens_from, tokens}
 use Rattle.ver_ast.specs.Grammar.{direction_word, range_tokens, port_tokens, next_port_tokens, ports_tokens}
 use Rattle.ver_emit.specs.Layout.{range_text, port_text, next_port_text, ports_text}
 use Rattle.ver_emit.proofs.Grouping.{three_joined, five_joined}
-use Rattle.ver_emit.proofs.Words.{ClosesWord, word_spelled}
+use Rattle.ver_emit.proofs.Words.{ClosesWord, word_spelled, sign_spelled}
 use Rattle.ver_emit.proofs.Numbers.{range_spelled}
 use Rattle.ver_emit.proofs.Narrow.{AllNarrow, narrow_first, narrow_others}
 
@@ -40,11 +40,6 @@ closed_by_ports : (ps : List Port) (rest : List ℕ) → ClosesWord (flat_map ne
 closed_by_ports [] rest = refl
 closed_by_ports (p ∷ ps) rest = refl
 
--- a comma
-comma_spelled : (rest : List ℕ) (ts : List Token) → tokens rest ≡ Some ts → tokens (44 ∷ rest) ≡ Some (sign 44 ∷ ts)
-unfolding tokens_from
-comma_spelled rest ts e = rw e refl
-
 -- a newline has no token
 newline_spelled : (rest : List ℕ) (ts : List Token) → tokens rest ≡ Some ts → tokens (10 ∷ rest) ≡ Some ts
 unfolding tokens_from
@@ -59,7 +54,7 @@ next_ports_spelled (p ∷ ps) rest ts narrow named e =
     let port = port_spelled p _ _ w.0 w.1 named.0 (closed_by_ports ps rest) others in
     let grouped : flat_map next_port_text (p ∷ ps) ++ 10 ∷ rest ≡ 44 ∷ (port_text p ++ (flat_map next_port_text ps ++ 10 ∷ rest)) = append_assoc (next_port_text p) (flat_map next_port_text ps) (10 ∷ rest) in
     let same : sign 44 ∷ (port_tokens p ++ (flat_map next_port_tokens ps ++ ts)) ≡ flat_map next_port_tokens (p ∷ ps) ++ ts = simp append_assoc in
-    ap tokens grouped ∙ comma_spelled _ _ port ∙ ap Some same
+    ap tokens grouped ∙ sign_spelled 44 _ _ refl port ∙ ap Some same
 
 -- the ports before what closes their list
 pub ports_spelled : (ps : List Port) (rest : List ℕ) (ts : List Token) → AllNarrow (map port_net ps) → AreNamed ps → tokens rest ≡ Some ts → tokens (ports_text ps ++ rest) ≡ Some (ports_tokens ps ++ ts)

@@ -4,11 +4,11 @@ use Rattle.std.specs.Prelude.{codes, flat_map}
 use Rattle.ver_ast.specs.declared.tree.Verilog.{Verilog}
 use Rattle.ver_ast.specs.Spells.{HasNames}
 use Rattle.ver_ast.specs.Valid.{Valid}
-use Rattle.ver_ast.specs.Nets.{port_net, wires}
+use Rattle.ver_ast.specs.Nets.{port_net, wires, nets}
 use Rattle.ver_ast.specs.Tokens.{Token, word, sign, tokens_from, tokens}
 use Rattle.ver_ast.specs.Grammar.{ports_tokens, item_tokens, module_tokens}
 use Rattle.ver_emit.specs.Layout.{ports_text, item_text, layout}
-use Rattle.ver_emit.proofs.Words.{word_spelled}
+use Rattle.ver_emit.proofs.Words.{word_spelled, sign_spelled}
 use Rattle.ver_emit.proofs.Narrow.{narrow_front, narrow_rest}
 use Rattle.ver_emit.proofs.Ports.{ports_spelled}
 use Rattle.ver_emit.proofs.Items.{items_spelled}
@@ -17,11 +17,6 @@ use Rattle.ver_emit.proofs.Items.{items_spelled}
 module_word_spelled : (rest : List ℕ) (ts : List Token) → tokens rest ≡ Some ts → tokens (codes "module " ++ rest) ≡ Some (word (codes "module") ∷ ts)
 unfolding tokens_from
 module_word_spelled rest ts e = rw e refl
-
--- what opens the list of ports
-open_spelled : (rest : List ℕ) (ts : List Token) → tokens rest ≡ Some ts → tokens (40 ∷ rest) ≡ Some (sign 40 ∷ ts)
-unfolding tokens_from
-open_spelled rest ts e = rw e refl
 
 -- what closes the list of ports
 close_spelled : (rest : List ℕ) (ts : List Token) → tokens rest ≡ Some ts → tokens (codes ");\n" ++ rest) ≡ Some (sign 41 ∷ sign 59 ∷ ts)
@@ -37,9 +32,9 @@ end_spelled = refl
 pub layout_tokens : (v : Verilog) → Valid v → HasNames v → tokens (layout v) ≡ Some (module_tokens v)
 unfolding layout
 layout_tokens v valid named =
-    let items = items_spelled v.items _ _ (narrow_rest (map port_net v.ports) (wires v) valid.narrow) named.of_items end_spelled in
+    let items = items_spelled v.items (nets v) _ _ (narrow_rest (map port_net v.ports) (wires v) valid.narrow) valid.narrow valid.fitting named.of_items end_spelled in
     let ports = ports_spelled v.ports _ _ (narrow_front (map port_net v.ports) (wires v) valid.narrow) named.of_ports (close_spelled _ _ items) in
-    let name = word_spelled v.name _ _ named.of_module.spelled refl (open_spelled _ _ ports) in
+    let name = word_spelled v.name _ _ named.of_module.spelled refl (sign_spelled 40 _ _ refl ports) in
     let grouped : layout v ≡ codes "module " ++ (v.name ++ (40 ∷ (ports_text v.ports ++ (codes ");\n" ++ (flat_map item_text v.items ++ codes "endmodule\n"))))) = simp append_assoc in
     let same = append_assoc (ports_tokens v.ports) (sign 41 ∷ sign 59 ∷ flat_map item_tokens v.items) (word (codes "endmodule") ∷ []) in
     ap tokens grouped ∙ module_word_spelled _ _ name ∙ ap (λ ts. Some (word (codes "module") ∷ word v.name ∷ sign 40 ∷ ts)) (sym same)

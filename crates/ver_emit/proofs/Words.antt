@@ -1,9 +1,9 @@
--- Words in a text: bytes of a word go on with it, and any other byte closes it.
+-- Words and signs in a text: bytes of a word go on with it, and any other byte closes it.
 use Rattle.std.proofs.Common.{◌≡◌, ℕ, List, [], ◌∷◌, ◌++◌, Bool, true, false, ◌&&◌, Option, Some, None, refl, sym, ap, ◌∙◌, append_assoc, append-nil}
 use Rattle.std.specs.Prelude.{IsTrue, option_map}
 use Rattle.std.specs.List.{list_all}
 use Rattle.ver_ast.specs.Names.{is_word, is_word_start, is_word_byte}
-use Rattle.ver_ast.specs.Tokens.{Token, word, Pending, in_word, Step, go_on, begin, tokens_from, tokens}
+use Rattle.ver_ast.specs.Tokens.{Token, word, Pending, between, in_word, sign, Step, go_on, begin, tokens_from, tokens}
 
 -- a text that begins with a byte which goes on with no word
 abbrev pub ClosesWord : List ℕ → Type 0
@@ -48,3 +48,8 @@ word_spelled (b ∷ bs) rest ts h c e =
     let p = both_true (is_word_start b) (list_all is_word_byte bs) h in
     let run : tokens_from (in_word (b ∷ [])) (bs ++ rest) ≡ Some (word (b ∷ bs) ∷ ts) = word_run bs (b ∷ []) rest _ p.1 (close_word (b ∷ bs) rest ts c e) in
     rw (p.0, run) refl
+
+-- a sign
+pub sign_spelled : (b : ℕ) (rest : List ℕ) (ts : List Token) → begin b ≡ Some (sign b ∷ [], between) → tokens rest ≡ Some ts → tokens (b ∷ rest) ≡ Some (sign b ∷ ts)
+unfolding tokens_from
+sign_spelled b rest ts s e = ap (λ t. go_on t (λ next. tokens_from next rest)) s ∙ rw e refl

@@ -1,6 +1,8 @@
 -- The layout of the emitted text, as a function of the tree.
--- A port a line with two spaces, then an item a line with two spaces; single spaces between words, none inside a range or before a semicolon.
-use Rattle.std.specs.Prelude.{ℕ, ◌-◌, List, [], ◌∷◌, ◌++◌, flat_map, codes, decimal, nat_eq, if◌then◌else◌}
+-- A port a line with two spaces, then an item a line with two spaces; single spaces between words and behind each comma of a concatenation, none
+-- inside a range, a select or a constant, or before a semicolon.
+use Rattle.std.specs.Prelude.{ℕ, ◌-◌, List, [], ◌∷◌, ◌++◌, flat_map, codes, decimal, false, nat_eq, if◌then◌else◌}
+use Rattle.std.specs.Fmt.{digits}
 use Rattle.ver_ast.specs.declared.tree.Verilog.{Verilog}
 use Rattle.ver_ast.specs.declared.tree.Port.{Port}
 use Rattle.ver_ast.specs.declared.tree.Item.{Item}
@@ -9,6 +11,8 @@ use Rattle.ver_ast.specs.declared.tree.Rhs.{Rhs}
 use Rattle.ver_ast.specs.declared.tree.Rhs.TheVariants as rhs
 use Rattle.ver_ast.specs.declared.tree.Atom.{Atom}
 use Rattle.ver_ast.specs.declared.tree.Atom.TheVariants as atom
+use Rattle.ver_ast.specs.declared.tree.Primary.{Primary}
+use Rattle.ver_ast.specs.declared.tree.Primary.TheVariants as primary
 use Rattle.ver_ast.specs.Grammar.{direction_word, unary_sign, binary_sign}
 
 -- the range of a width, with the space behind it; a width of 1 has none
@@ -26,8 +30,23 @@ abbrev pub ports_text : List Port → List ℕ
 ports_text [] = []
 ports_text (p ∷ ps) = port_text p ++ flat_map next_port_text ps ++ codes "\n"
 
+-- as few digits as the number has, with letters in lower case
+abbrev pub hexadecimal : ℕ → List ℕ
+hexadecimal n = digits 16 false n
+
+abbrev pub primary_text : Primary → List ℕ
+primary_text (primary.Net n) = n
+primary_text (primary.Constant width value) = decimal width ++ codes "'h" ++ hexadecimal value
+primary_text (primary.BitSelect n i) = n ++ codes "[" ++ decimal i ++ codes "]"
+primary_text (primary.PartSelect n hi lo) = n ++ codes "[" ++ decimal hi ++ codes ":" ++ decimal lo ++ codes "]"
+
+-- a primary behind another
+abbrev pub next_primary_text : Primary → List ℕ
+next_primary_text p = codes ", " ++ primary_text p
+
 abbrev pub atom_text : Atom → List ℕ
-atom_text (atom.Net n) = n
+atom_text (atom.Primary p) = primary_text p
+atom_text (atom.Concat p ps) = codes "{" ++ primary_text p ++ flat_map next_primary_text ps ++ codes "}"
 
 abbrev pub rhs_text : Rhs → List ℕ
 rhs_text (rhs.Atom a) = atom_text a

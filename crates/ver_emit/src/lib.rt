@@ -2,8 +2,11 @@
 //! comment stands; that it spells the tree is a law about the layout (IEEE 1364-2005, 3 and Annex A).
 #![tactic(auto)]
 
+mod atom;
+mod hexadecimal;
 mod item;
 mod laws;
+mod primary;
 mod range;
 mod rhs;
 mod writer;

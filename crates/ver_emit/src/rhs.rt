@@ -2,8 +2,9 @@
 
 ghost use Rattle.std.specs.Prelude.{◌≡◌, ◌++◌, OnOk};
 ghost use Rattle.ver_ast.specs.Grammar.{unary_sign, binary_sign};
-ghost use Rattle.ver_emit.specs.Layout.{atom_text, rhs_text};
+ghost use Rattle.ver_emit.specs.Layout.{rhs_text};
 
+use crate::atom::put_atom;
 use fir_base::MemoryOut;
 use ver_ast::{Atom, BinaryOp, Rhs, UnaryOp};
 
@@ -29,14 +30,6 @@ fn put_binary(out: &mut Vec<u8>, left: &Atom, op: BinaryOp, right: &Atom) -> Res
     out.push(binary_byte(op))?;
     out.extend_from_slice(b" ")?;
     put_atom(out, right)
-}
-
-fn put_atom(out: &mut Vec<u8>, atom: &Atom) -> Result<(), MemoryOut>
-    ensures { OnOk result (out.new.items ≡ out.old.items ++ atom_text atom.now) }
-{
-    let Atom::Net(name) = atom;
-    out.extend_from_slice(name.as_bytes())?;
-    Ok(())
 }
 
 fn unary_byte(op: UnaryOp) -> u8

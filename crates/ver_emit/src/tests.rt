@@ -1,10 +1,11 @@
 //! What is written, against texts that were written by hand.
 
+use super::atom::put_atom;
 use super::write_verilog;
 use fir_base::{Direction, MemoryOut, Name, Seq};
 use std::alloc::Global;
 use std::test::Fail;
-use ver_ast::{Assign, Atom, BinaryOp, Item, Net, Port, Rhs, UnaryOp, Verilog};
+use ver_ast::{Assign, Atom, BinaryOp, Item, Net, Port, Primary, Rhs, UnaryOp, Verilog};
 
 /// A tree in tables, and its text.
 struct Case {
@@ -91,6 +92,87 @@ endmodule
     },
 ];
 
+enum Piece {
+    Net(&'static [u8]),
+    Constant(u32, u128),
+    BitSelect(&'static [u8], u32),
+    PartSelect(&'static [u8], u32, u32),
+}
+
+/// An operand that is no concatenation, and its text.
+const PIECES: &[(Piece, &[u8])] = &[
+    (Piece::Net(b"a"), b"a"),
+    (Piece::Constant(4, 5), b"4'h5"),
+    (Piece::Constant(1, 0), b"1'h0"),
+    (Piece::Constant(8, 16), b"8'h10"),
+    (Piece::Constant(12, 3087), b"12'hc0f"),
+    (
+        Piece::Constant(64, 0x123456789abcdef),
+        b"64'h123456789abcdef",
+    ),
+    (
+        Piece::Constant(128, u128::MAX),
+        b"128'hffffffffffffffffffffffffffffffff",
+    ),
+    (Piece::BitSelect(b"a", 3), b"a[3]"),
+    (Piece::BitSelect(b"a", 0), b"a[0]"),
+    (Piece::PartSelect(b"a", 3, 1), b"a[3:1]"),
+    (Piece::PartSelect(b"a", 127, 0), b"a[127:0]"),
+];
+
+/// The pieces of a concatenation, and its text.
+const JOINED: &[(Piece, &[Piece], &[u8])] = &[
+    (Piece::Net(b"a"), &[], b"{a}"),
+    (Piece::Net(b"a"), &[Piece::Net(b"b")], b"{a, b}"),
+    (
+        Piece::BitSelect(b"a", 3),
+        &[
+            Piece::Constant(2, 1),
+            Piece::PartSelect(b"b", 7, 4),
+            Piece::Net(b"c"),
+        ],
+        b"{a[3], 2'h1, b[7:4], c}",
+    ),
+];
+
+#[test]
+fn writes_each_form_of_an_operand(rt: HostRuntime) -> Result<(), Fail> {
+    for (piece, text) in PIECES {
+        let atom = Atom::Primary(primary_of(rt.alloc(), piece)?);
+        let mut out = Vec::new(rt.alloc());
+        put_atom(&mut out, &atom)?;
+        assert_eq!(rt; out.as_slice(), *text);
+    }
+    Ok(())
+}
+
+#[test]
+fn writes_concatenations(rt: HostRuntime) -> Result<(), Fail> {
+    for (first, others, text) in JOINED {
+        let mut rest = Vec::new(rt.alloc());
+        for piece in *others {
+            rest.push(primary_of(rt.alloc(), piece)?)?;
+        }
+        let first = primary_of(rt.alloc(), first)?;
+        let atom = Atom::Concat(first, Seq::from_vec(rest));
+        let mut out = Vec::new(rt.alloc());
+        put_atom(&mut out, &atom)?;
+        assert_eq!(rt; out.as_slice(), *text);
+    }
+    Ok(())
+}
+
+fn primary_of(alloc: Global, piece: &Piece) -> Result<Primary, MemoryOut> {
+    Ok(match piece {
+        Piece::Net(name) => Primary::Net(Name::new(alloc, name)?),
+        Piece::Constant(width, value) => Primary::Constant(*width, *value),
+        Piece::BitSelect(name, index) => Primary::BitSelect(Name::new(alloc, name)?, *index),
+        Piece::PartSelect(name, high, low) => {
+            Primary::PartSelect(Name::new(alloc, name)?, *high, *low)
+        }
+    })
+}
+
 #[test]
 fn writes_each_form_of_the_subset(rt: HostRuntime) -> Result<(), Fail> {
     for case in CASES {
@@ -150,5 +232,5 @@ fn rhs_of(alloc: Global, side: &Side) -> Result<Rhs, MemoryOut> {
 }
 
 fn atom_of(alloc: Global, net: &[u8]) -> Result<Atom, MemoryOut> {
-    Ok(Atom::Net(Name::new(alloc, net)?))
+    Ok(Atom::Primary(Primary::Net(Name::new(alloc, net)?)))
 }

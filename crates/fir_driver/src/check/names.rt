@@ -1,52 +1,56 @@
-//! The names of a circuit, in text order.
+//! Faults of names: E08 and E09 (FIRRTL spec, "Namespaces").
 
-ghost use Rattle.std.specs.Prelude.{◌≡◌, IfOk, map};
-ghost use Rattle.ver_ast.specs.Nets.{names_of};
-ghost use Rattle.fir_driver.specs.Accepted.{declared_names, connected_names};
-ghost use Rattle.fir_driver.specs.Leaves.{outputs};
+ghost use Rattle.std.specs.Prelude.{◌≡◌, IfOk};
+ghost use Rattle.fir_ast.specs.View.{named_of};
+ghost use Rattle.fir_meaning.specs.Scopes.{Scope, look_up};
+ghost use Rattle.fir_meaning.specs.NameFaults.{twice, undeclared, unread};
+ghost use Rattle.fir_driver.specs.Firsts.{first_of};
+ghost use Rattle.fir_driver.specs.Tabulated.{Tabulates};
 
-use crate::circuit::{Circuit, Statement};
-use fir_base::{Direction, MemoryOut, Name};
+use super::scope::Table;
+use fir_ast::{FirFault, Ident, Place};
+use fir_base::{MemoryOut, Name};
 use std::alloc::Global;
 
-/// The names of ports and nodes.
-pub fn declared_names<'a>(alloc: Global, c: &'a Circuit) -> Result<Vec<&'a Name>, MemoryOut>
-    ensures { IfOk result (λ v. map (λ n. n.now) v.items ≡ declared_names c.now) }
+/// The fault of a declaration whose name is declared before it.
+pub fn twice(alloc: Global, table: &Table, ident: &Ident) -> Result<Option<FirFault>, MemoryOut>
+    ensures { IfOk result (λ f. (scope : Scope) → Tabulates table.now scope → f ≡ first_of (twice scope (named_of ident.now))) }
 {
-    let mut names = Vec::new(alloc);
-    for port in c.ports.as_slice() {
-        names.push(&port.name)?;
-    }
-    for statement in c.body.as_slice() {
-        if let Statement::Node(node) = statement {
-            names.push(&node.name)?;
+    match table.get(&ident.name) {
+        Some(first) => {
+            let name = ident.name.copy(alloc)?;
+            Ok(Some(FirFault::Twice(ident.place, name, first.place)))
         }
+        None => Ok(None),
     }
-    Ok(names)
 }
 
-/// The names that stand left in a connect.
-pub fn connected_names<'a>(alloc: Global, c: &'a Circuit) -> Result<Vec<&'a Name>, MemoryOut>
-    ensures { IfOk result (λ v. map (λ n. n.now) v.items ≡ connected_names c.now) }
+/// The fault of a sink whose name is not declared before it.
+pub fn undeclared(
+    alloc: Global,
+    table: &Table,
+    place: Place,
+    name: &Name,
+) -> Result<Option<FirFault>, MemoryOut>
+    ensures { IfOk result (λ f. (scope : Scope) → Tabulates table.now scope → f ≡ first_of (undeclared (look_up scope name.now) place name.now)) }
 {
-    let mut names = Vec::new(alloc);
-    for statement in c.body.as_slice() {
-        if let Statement::Connect(connect) = statement {
-            names.push(&connect.sink)?;
-        }
+    match table.get(name) {
+        Some(_) => Ok(None),
+        None => Ok(Some(FirFault::Unknown(place, name.copy(alloc)?))),
     }
-    Ok(names)
 }
 
-/// The names of the outputs.
-pub fn output_names<'a>(alloc: Global, c: &'a Circuit) -> Result<Vec<&'a Name>, MemoryOut>
-    ensures { IfOk result (λ v. map (λ n. n.now) v.items ≡ names_of (outputs c.now)) }
+/// The fault of a name in an expression that is not declared before it, or as an output.
+pub fn unread(
+    alloc: Global,
+    table: &Table,
+    place: Place,
+    name: &Name,
+) -> Result<Option<FirFault>, MemoryOut>
+    ensures { IfOk result (λ f. (scope : Scope) → Tabulates table.now scope → f ≡ first_of (unread scope place name.now)) }
 {
-    let mut names = Vec::new(alloc);
-    for port in c.ports.as_slice() {
-        if port.direction == Direction::Output {
-            names.push(&port.name)?;
-        }
+    match table.get(name) {
+        Some(declared) if declared.kind.is_readable() => Ok(None),
+        _ => Ok(Some(FirFault::Unknown(place, name.copy(alloc)?))),
     }
-    Ok(names)
 }

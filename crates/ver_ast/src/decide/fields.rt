@@ -1,16 +1,19 @@
 //! The parts of validity, but for the order of the assigns.
 
 ghost use Rattle.std.specs.Prelude.{◌≡◌, ◌≤◌, ◌↔◌, IsTrue, IfOk, List, ℕ, map, flat_map};
+ghost use Rattle.std.specs.List.{AllByRecursion};
 ghost use Rattle.fir_base.specs.Lists.{In, Distinct, EachIn};
-ghost use Rattle.ver_ast.specs.Nets.{assigns, item_assign, names_of};
-ghost use Rattle.ver_ast.specs.Spells.{atom_names, rhs_names};
-ghost use Rattle.ver_ast.specs.Valid.{reads, DeclaredBefore};
-ghost use Rattle.ver_ast.specs.Checked.{HasWidth, HasItemWidth};
+ghost use Rattle.ver_ast.specs.Nets.{assigns, item_assign, names_of, width_in};
+ghost use Rattle.ver_ast.specs.Spells.{atom_names, primary_names, rhs_atoms, rhs_names};
+ghost use Rattle.ver_ast.specs.AtomWidths.{joined_width, primary_width};
+ghost use Rattle.ver_ast.specs.Valid.{reads, DeclaredBefore, FitsWidth, HasOneWidth, IsSound};
+ghost use Rattle.ver_ast.specs.Checked.{HasItemWidth};
 
 use crate::decide::names::{contains, same};
 use crate::decide::nets::SizedNet;
-use crate::tree::{Assign, Atom, Item, Rhs};
+use crate::tree::{Assign, Atom, Item, Primary, Rhs};
 use fir_base::{MemoryOut, Name};
+use fir_bits::mask;
 use std::alloc::Global;
 
 /// Whether no name stands twice.
@@ -47,12 +50,33 @@ pub fn are_narrow(nets: &[SizedNet]) -> bool
         .all(|net| 1 <= net.width() && net.width() <= 128)
 }
 
+fn is_primary_known(primary: &Primary, known: &[Name]) -> bool
+    ensures { IsTrue result ↔ EachIn (primary_names primary.now) known.now }
+{
+    match primary {
+        Primary::Net(name) => contains(known, name),
+        Primary::Constant(_, _) => true,
+        Primary::BitSelect(name, _) => contains(known, name),
+        Primary::PartSelect(name, _, _) => contains(known, name),
+    }
+}
+
+fn are_primaries_known(primaries: &[Primary], known: &[Name]) -> bool
+    ensures { IsTrue result ↔ EachIn (flat_map primary_names primaries.now) known.now }
+{
+    primaries
+        .iter()
+        .all(|primary| is_primary_known(primary, known))
+}
+
 /// Whether what the operand reads is known.
-pub fn is_atom_known(atom: &Atom, known: &[Name]) -> bool
+fn is_atom_known(atom: &Atom, known: &[Name]) -> bool
     ensures { IsTrue result ↔ EachIn (atom_names atom.now) known.now }
 {
     match atom {
-        Atom::Net(name) => contains(known, name),
+        Atom::Primary(primary) => is_primary_known(primary, known),
+        Atom::Concat(first, rest) => is_primary_known(first, known)
+            && are_primaries_known(rest.as_slice(), known),
     }
 }
 
@@ -89,37 +113,96 @@ pub fn is_declared_before(alloc: Global, names: &[Name], items: &[Item]) -> Resu
     Ok(true)
 }
 
-fn is_net(nets: &[SizedNet], name: &Name, width: u32) -> bool
-    ensures { IsTrue result ↔ In nets.now (name.now, width) }
+/// The width of the first net of that name, or 0.
+pub fn width_in(nets: &[SizedNet], name: &Name) -> u32
+    ensures { result ≡ width_in nets.now name.now }
 {
     for net in nets {
-        if same(net.name(), name) && net.width() == width {
-            return true;
+        if *net.name() == *name {
+            return net.width();
         }
     }
-    false
+    0
 }
 
-fn has_atom_width(nets: &[SizedNet], atom: &Atom, width: u32) -> bool
-    ensures { IsTrue result ↔ EachIn (map (λ n. (n, width)) (atom_names atom.now)) nets.now }
+/// The width of the primary, which is past 32 bits only where its numbers are.
+pub fn primary_width(nets: &[SizedNet], primary: &Primary) -> u64
+    ensures { result ≡ primary_width nets.now primary.now }
+{
+    match primary {
+        Primary::Net(name) => u64::from(width_in(nets, name)),
+        Primary::Constant(width, _) => u64::from(*width),
+        Primary::BitSelect(_, _) => 1,
+        Primary::PartSelect(_, high, low) => (u64::from(*high) + 1).saturating_sub(u64::from(*low)),
+    }
+}
+
+/// Whether the parts of a concatenation have that width together.
+fn have_joined_width(nets: &[SizedNet], primaries: &[Primary], width: u64) -> bool
+    ensures { IsTrue result ↔ (joined_width nets.now primaries.now ≡ width) }
+{
+    let mut left = width;
+    for primary in primaries {
+        let part = primary_width(nets, primary);
+        if part > left {
+            return false;
+        }
+        left -= part;
+    }
+    left == 0
+}
+
+fn is_sound(nets: &[SizedNet], primary: &Primary) -> bool
+    ensures { IsTrue result ↔ IsSound nets.now primary.now }
+{
+    match primary {
+        Primary::Net(_) => true,
+        Primary::Constant(width, value) => 1 <= *width && *width <= 128 && *value <= mask(*width),
+        Primary::BitSelect(name, index) => {
+            let width = width_in(nets, name);
+            2 <= width && *index < width
+        }
+        Primary::PartSelect(name, high, low) => {
+            let width = width_in(nets, name);
+            2 <= width && *low <= *high && *high < width
+        }
+    }
+}
+
+fn are_sound(nets: &[SizedNet], primaries: &[Primary]) -> bool
+    ensures { IsTrue result ↔ AllByRecursion (IsSound nets.now) primaries.now }
+{
+    primaries.iter().all(|primary| is_sound(nets, primary))
+}
+
+fn fits_width(nets: &[SizedNet], atom: &Atom, width: u32) -> bool
+    ensures { IsTrue result ↔ FitsWidth nets.now width atom.now }
 {
     match atom {
-        Atom::Net(name) => is_net(nets, name, width),
+        Atom::Primary(primary) => is_sound(nets, primary)
+            && primary_width(nets, primary) == u64::from(width),
+        Atom::Concat(first, rest) => {
+            let first_width = primary_width(nets, first);
+            is_sound(nets, first)
+                && are_sound(nets, rest.as_slice())
+                && first_width <= u64::from(width)
+                && have_joined_width(nets, rest.as_slice(), u64::from(width) - first_width)
+        }
     }
 }
 
 fn has_rhs_width(nets: &[SizedNet], rhs: &Rhs, width: u32) -> bool
-    ensures { IsTrue result ↔ EachIn (map (λ n. (n, width)) (rhs_names rhs.now)) nets.now }
+    ensures { IsTrue result ↔ AllByRecursion (FitsWidth nets.now width) (rhs_atoms rhs.now) }
 {
     match rhs {
-        Rhs::Atom(atom) | Rhs::Unary(_, atom) => has_atom_width(nets, atom, width),
-        Rhs::Binary(left, _, right) => has_atom_width(nets, left, width)
-            && has_atom_width(nets, right, width),
+        Rhs::Atom(atom) | Rhs::Unary(_, atom) => fits_width(nets, atom, width),
+        Rhs::Binary(left, _, right) => fits_width(nets, left, width)
+            && fits_width(nets, right, width),
     }
 }
 
 fn has_one_width(nets: &[SizedNet], assign: &Assign) -> bool
-    ensures { IsTrue result ↔ HasWidth nets.now assign.now }
+    ensures { IsTrue result ↔ HasOneWidth nets.now assign.now }
 {
     for net in nets {
         if same(net.name(), &assign.target) && has_rhs_width(nets, &assign.rhs, net.width()) {
@@ -138,9 +221,9 @@ fn has_item_width(nets: &[SizedNet], item: &Item) -> bool
     }
 }
 
-/// Whether each assign reads nets of its target's width.
+/// Whether the operands of each assign have its target's width.
 pub fn have_one_width(nets: &[SizedNet], items: &[Item]) -> bool
-    ensures { IsTrue result ↔ ((a : Assign) → In (flat_map item_assign items.now) a → HasWidth nets.now a) }
+    ensures { IsTrue result ↔ ((a : Assign) → In (flat_map item_assign items.now) a → HasOneWidth nets.now a) }
 {
     items.iter().all(|item| has_item_width(nets, item))
 }

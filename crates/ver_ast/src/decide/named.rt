@@ -1,19 +1,44 @@
 //! Whether each name in a tree is one.
 
-ghost use Rattle.std.specs.Prelude.{◌≡◌, ◌↔◌, IsTrue, All};
+ghost use Rattle.std.specs.Prelude.{◌≡◌, ◌↔◌, IsTrue, All, flat_map};
 ghost use Rattle.std.specs.List.{AllByRecursion};
 ghost use Rattle.ver_ast.specs.Names.{IsName};
-ghost use Rattle.ver_ast.specs.Spells.{atom_names, rhs_names, HasItemNames, HasNames};
+ghost use Rattle.ver_ast.specs.Spells.{atom_names, primary_names, rhs_names, HasItemNames, HasNames};
 
 use crate::decide::names::is_name;
-use crate::tree::{Atom, Item, Port, Rhs, Verilog};
+use crate::tree::{Atom, Item, Port, Primary, Rhs, Verilog};
+
+fn is_primary_named(primary: &Primary) -> bool
+    ensures { IsTrue result ↔ AllByRecursion IsName (primary_names primary.now) }
+{
+    match primary {
+        Primary::Net(name) => is_name(name.as_bytes()),
+        Primary::Constant(_, _) => true,
+        Primary::BitSelect(name, _) => is_name(name.as_bytes()),
+        Primary::PartSelect(name, _, _) => is_name(name.as_bytes()),
+    }
+}
+
+fn are_primaries_named(primaries: &[Primary]) -> bool
+    ensures { IsTrue result ↔ AllByRecursion IsName (flat_map primary_names primaries.now) }
+{
+    primaries.iter().all(|primary| is_primary_named(primary))
+}
 
 fn is_atom_named(atom: &Atom) -> bool
     ensures { IsTrue result ↔ AllByRecursion IsName (atom_names atom.now) }
 {
     match atom {
-        Atom::Net(name) => is_name(name.as_bytes()),
+        Atom::Primary(primary) => is_primary_named(primary),
+        Atom::Concat(first, rest) => is_primary_named(first)
+            && are_primaries_named(rest.as_slice()),
     }
+}
+
+fn are_both_named(left: &Atom, right: &Atom) -> bool
+    ensures { IsTrue result ↔ AllByRecursion IsName (atom_names left.now) × AllByRecursion IsName (atom_names right.now) }
+{
+    is_atom_named(left) && is_atom_named(right)
 }
 
 fn is_rhs_named(rhs: &Rhs) -> bool
@@ -21,7 +46,7 @@ fn is_rhs_named(rhs: &Rhs) -> bool
 {
     match rhs {
         Rhs::Atom(atom) | Rhs::Unary(_, atom) => is_atom_named(atom),
-        Rhs::Binary(left, _, right) => is_atom_named(left) && is_atom_named(right),
+        Rhs::Binary(left, _, right) => are_both_named(left, right),
     }
 }
 

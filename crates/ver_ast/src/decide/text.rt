@@ -18,6 +18,7 @@ fn same_token(a: &Token, b: &Token) -> bool
         (Token::Word(x), Token::Word(y)) => same(x, y),
         (Token::DigitZero, Token::DigitZero) => true,
         (Token::Number(x), Token::Number(y)) => x == y,
+        (Token::Constant(w, x), Token::Constant(u, y)) => w == u && x == y,
         (Token::Sign(x), Token::Sign(y)) => x == y,
         _ => false,
     }

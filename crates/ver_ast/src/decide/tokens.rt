@@ -1,20 +1,30 @@
 //! The tokens of a text, by a machine that reads one byte after the other (IEEE 1364-2005, 3.1 to 3.5).
 
-ghost use Rattle.std.specs.Prelude.{◌≡◌, ◌++◌, ◌≤◌, IfOk, option_map, map, Some, []};
-ghost use Rattle.ver_ast.specs.Tokens.{in_word, in_number, in_slash, in_line_comment, in_block_comment, in_block_star, is_sign, is_blank, number_token, begin, close_and_begin, step, last, tokens};
-ghost use Rattle.ver_ast.specs.Scanned.{token_of, tokens_of, pending_of, step_of, capped, capped_step, IsCapped};
+ghost use Rattle.std.specs.Prelude.{◌≡◌, ◌+◌, ◌*◌, ◌^◌, ◌++◌, ◌≤◌, min, IfOk, option_map, map, Some, []};
+ghost use Rattle.ver_ast.specs.Tokens.{in_word, in_number, at_base, at_digits, in_constant, in_slash, in_line_comment, in_block_comment, in_block_star, is_sign, is_blank, number_token, begin, close_and_begin, base_of, radix, any_digit, digit_in, step, last, tokens};
+ghost use Rattle.ver_ast.specs.Scanned.{value_of, token_of, tokens_of, base_as, pending_of, step_of, capped, capped_step, IsCapped};
 
 use crate::decide::names::{is_digit, is_word_byte, is_word_start};
 use fir_base::{MemoryOut, Name};
 use std::alloc::Global;
 
-/// A token. A number of the text that has more than 32 bits counts as 2 ^ 32.
+/// A token. A number of the text that has more than 32 bits counts as 2 ^ 32, and the value of a constant that has more than 128 as None.
 #[derive(Drop)]
 pub enum Token {
     Word(Name),
     DigitZero,
     Number(u64),
+    /// The width, and the value.
+    Constant(u64, Option<u128>),
     Sign(u8),
+}
+
+/// What the digits of a constant count.
+#[derive(Clone, Copy)]
+pub enum Base {
+    Binary,
+    Decimal,
+    Hexadecimal,
 }
 
 /// What is not yet closed.
@@ -24,6 +34,12 @@ pub enum Pending {
     InWord(Vec<u8>),
     /// Whether it is the one digit 0 so far, and its value.
     InNumber(bool, u64),
+    /// A constant's width, behind the quote.
+    AtBase(u64),
+    /// A constant's width and base, before the first digit.
+    AtDigits(u64, Base),
+    /// A constant's width, base and value so far.
+    InConstant(u64, Base, Option<u128>),
     InSlash,
     InLineComment,
     InBlockComment,
@@ -44,7 +60,19 @@ fn is_sign(byte: u8) -> bool
 {
     matches!(
         byte,
-        b'(' | b')' | b';' | b',' | b':' | b'[' | b']' | b'=' | b'~' | b'&' | b'|' | b'^'
+        b'(' | b')'
+            | b';'
+            | b','
+            | b':'
+            | b'['
+            | b']'
+            | b'{'
+            | b'}'
+            | b'='
+            | b'~'
+            | b'&'
+            | b'|'
+            | b'^'
     )
 }
 
@@ -141,8 +169,102 @@ fn step_in_number(
     if is_digit(byte) {
         let more = 10 * value + u64::from(byte - b'0');
         Ok(go_on(alloc, Pending::InNumber(false, more.min(LARGE))))
+    } else if byte == b'\'' {
+        Ok(go_on(alloc, Pending::AtBase(value)))
     } else {
         close_and_begin(alloc, number_token(one_zero, value), byte)
+    }
+}
+
+fn base_of(byte: u8) -> Option<Base>
+    ensures { option_map base_as result ≡ base_of byte }
+{
+    match byte {
+        b'h' => Some(Base::Hexadecimal),
+        b'd' => Some(Base::Decimal),
+        b'b' => Some(Base::Binary),
+        _ => None,
+    }
+}
+
+fn radix(base: Base) -> u8
+    ensures { result ≡ radix (base_as base) }
+{
+    match base {
+        Base::Binary => 2,
+        Base::Decimal => 10,
+        Base::Hexadecimal => 16,
+    }
+}
+
+fn any_digit(byte: u8) -> Option<u8>
+    ensures { result ≡ any_digit byte }
+{
+    match byte {
+        b'0'..=b'9' => Some(byte - b'0'),
+        b'a'..=b'f' => Some(byte - b'a' + 10),
+        b'A'..=b'F' => Some(byte - b'A' + 10),
+        _ => None,
+    }
+}
+
+fn digit_in(base: Base, byte: u8) -> Option<u8>
+    ensures { result ≡ digit_in (base_as base) byte }
+{
+    match any_digit(byte) {
+        Some(digit) if digit < radix(base) => Some(digit),
+        _ => None,
+    }
+}
+
+/// The value with one digit more, None past 128 bits.
+fn grown(base: Base, value: Option<u128>, digit: u8) -> Option<u128>
+    ensures { value_of result ≡ min (radix (base_as base) * value_of value + digit) (2 ^ 128) }
+{
+    value?
+        .checked_mul(u128::from(radix(base)))?
+        .checked_add(u128::from(digit))
+}
+
+fn step_at_base(alloc: Global, width: u64, byte: u8) -> Option<Closing>
+    requires { width ≤ 4294967296 }
+    ensures { step_of result ≡ capped_step (at_base width) byte }
+{
+    match base_of(byte) {
+        Some(base) => go_on(alloc, Pending::AtDigits(width, base)),
+        None => None,
+    }
+}
+
+fn step_at_digits(alloc: Global, width: u64, base: Base, byte: u8) -> Option<Closing>
+    requires { width ≤ 4294967296 }
+    ensures { step_of result ≡ capped_step (at_digits width (base_as base)) byte }
+{
+    match digit_in(base, byte) {
+        Some(digit) => go_on(
+            alloc,
+            Pending::InConstant(width, base, Some(u128::from(digit))),
+        ),
+        None => None,
+    }
+}
+
+fn step_in_constant(
+    alloc: Global,
+    width: u64,
+    base: Base,
+    value: Option<u128>,
+    byte: u8,
+) -> Result<Option<Closing>, MemoryOut>
+    requires { IsCapped (in_constant width (base_as base) (value_of value)) }
+    ensures { IfOk result (λ s. step_of s ≡ capped_step (in_constant width (base_as base) (value_of value)) byte) }
+{
+    match digit_in(base, byte) {
+        Some(digit) => Ok(go_on(
+            alloc,
+            Pending::InConstant(width, base, grown(base, value, digit)),
+        )),
+        None => close_and_begin(alloc, Token::Constant(width, value), byte),
     }
 }
 
@@ -194,6 +316,11 @@ impl Pending {
             Pending::Between => begin(alloc, Vec::new(alloc), byte),
             Pending::InWord(word) => step_in_word(alloc, word, byte),
             Pending::InNumber(one_zero, value) => step_in_number(alloc, one_zero, value, byte),
+            Pending::AtBase(width) => Ok(step_at_base(alloc, width, byte)),
+            Pending::AtDigits(width, base) => Ok(step_at_digits(alloc, width, base, byte)),
+            Pending::InConstant(width, base, value) => {
+                step_in_constant(alloc, width, base, value, byte)
+            }
             Pending::InSlash => Ok(step_in_slash(alloc, byte)),
             Pending::InLineComment => Ok(step_in_line_comment(alloc, byte)),
             Pending::InBlockComment => Ok(step_in_block_comment(alloc, byte)),
@@ -215,7 +342,15 @@ impl Pending {
                 closed.push(number_token(one_zero, value))?;
                 Ok(Some(closed))
             }
-            Pending::InSlash | Pending::InBlockComment | Pending::InBlockStar => Ok(None),
+            Pending::InConstant(width, _, value) => {
+                closed.push(Token::Constant(width, value))?;
+                Ok(Some(closed))
+            }
+            Pending::AtBase(_)
+            | Pending::AtDigits(_, _)
+            | Pending::InSlash
+            | Pending::InBlockComment
+            | Pending::InBlockStar => Ok(None),
         }
     }
 }

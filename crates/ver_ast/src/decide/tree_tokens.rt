@@ -3,12 +3,12 @@
 ghost use Rattle.std.specs.Prelude.{◌≡◌, ◌∷◌, [], IfOk, OnOk, flat_map};
 ghost use Rattle.std.specs.List.{AllByRecursion};
 ghost use Rattle.ver_ast.specs.Tokens.{word, sign};
-ghost use Rattle.ver_ast.specs.Grammar.{direction_word, range_tokens, port_tokens, next_port_tokens, ports_tokens, atom_tokens, unary_sign, binary_sign, rhs_tokens, item_tokens, module_tokens};
+ghost use Rattle.ver_ast.specs.Grammar.{direction_word, range_tokens, port_tokens, next_port_tokens, ports_tokens, select_number, primary_tokens, next_primary_tokens, atom_tokens, unary_sign, binary_sign, rhs_tokens, item_tokens, module_tokens};
 ghost use Rattle.ver_ast.specs.Scanned.{token_of, tokens_of};
 ghost use Rattle.ver_ast.specs.Put.{IsSmall, Puts};
 
 use crate::decide::tokens::Token;
-use crate::tree::{Atom, BinaryOp, Item, Port, Rhs, UnaryOp, Verilog};
+use crate::tree::{Atom, BinaryOp, Item, Port, Primary, Rhs, UnaryOp, Verilog};
 use fir_base::{Direction, MemoryOut, Name};
 use std::alloc::Global;
 
@@ -89,13 +89,66 @@ fn put_ports(alloc: Global, out: &mut Vec<Token>, ports: &[Port]) -> Result<(), 
     }
 }
 
+fn put_select_number(out: &mut Vec<Token>, index: u32) -> Result<(), MemoryOut>
+    ensures { OnOk result (Puts out.old.items out.new.items (select_number index ∷ [])) }
+{
+    if index == 0 {
+        put(out, Token::DigitZero)
+    } else {
+        put(out, Token::Number(u64::from(index)))
+    }
+}
+
+fn put_primary(alloc: Global, out: &mut Vec<Token>, primary: &Primary) -> Result<(), MemoryOut>
+    ensures { OnOk result (Puts out.old.items out.new.items (primary_tokens primary.now)) }
+{
+    match primary {
+        Primary::Net(name) => put_word(alloc, out, name.as_bytes()),
+        Primary::Constant(width, value) => put(
+            out,
+            Token::Constant(u64::from(*width), Some(*value)),
+        ),
+        Primary::BitSelect(name, index) => {
+            put_word(alloc, out, name.as_bytes())?;
+            put_sign(out, b'[')?;
+            put_select_number(out, *index)?;
+            put_sign(out, b']')
+        }
+        Primary::PartSelect(name, high, low) => {
+            put_word(alloc, out, name.as_bytes())?;
+            put_sign(out, b'[')?;
+            put_select_number(out, *high)?;
+            put_sign(out, b':')?;
+            put_select_number(out, *low)?;
+            put_sign(out, b']')
+        }
+    }
+}
+
+fn put_next_primaries(
+    alloc: Global,
+    out: &mut Vec<Token>,
+    primaries: &[Primary],
+) -> Result<(), MemoryOut>
+    ensures { OnOk result (Puts out.old.items out.new.items (flat_map next_primary_tokens primaries.now)) }
+{
+    for primary in primaries {
+        put_sign(out, b',')?;
+        put_primary(alloc, out, primary)?;
+    }
+    Ok(())
+}
+
 fn put_atom(alloc: Global, out: &mut Vec<Token>, atom: &Atom) -> Result<(), MemoryOut>
     ensures { OnOk result (Puts out.old.items out.new.items (atom_tokens atom.now)) }
 {
     match atom {
-        Atom::Net(name) => {
-            put_word(alloc, out, name.as_bytes())?;
-            Ok(())
+        Atom::Primary(primary) => put_primary(alloc, out, primary),
+        Atom::Concat(first, rest) => {
+            put_sign(out, b'{')?;
+            put_primary(alloc, out, first)?;
+            put_next_primaries(alloc, out, rest.as_slice())?;
+            put_sign(out, b'}')
         }
     }
 }

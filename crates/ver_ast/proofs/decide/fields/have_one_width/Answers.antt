@@ -8,7 +8,8 @@ use Rattle.ver_ast.specs.declared.tree.Assign.{Assign}
 use Rattle.ver_ast.specs.declared.tree.Item.{Item}
 use Rattle.ver_ast.specs.declared.tree.Item.TheVariants as item
 use Rattle.ver_ast.specs.Nets.{item_assign}
-use Rattle.ver_ast.specs.Checked.{HasWidth, HasItemWidth}
+use Rattle.ver_ast.specs.Valid.{HasOneWidth}
+use Rattle.ver_ast.specs.Checked.{HasItemWidth}
 use Rattle.ver_ast.proofs.Ordering.{assign_among, item_among}
 use Rattle.ver_ast.proofs.decide.fields.have_one_width.Goals as goal
 
@@ -21,6 +22,6 @@ returns c =
       λ h. all.1 (all_from_each (HasItemWidth nets) items (each items nets h)),
     )
   where
-    each : (items : List Item) (nets : List Sized) → ((a : Assign) → In (flat_map item_assign items) a → HasWidth nets a) → (i : Item) → In items i → HasItemWidth nets i
+    each : (items : List Item) (nets : List Sized) → ((a : Assign) → In (flat_map item_assign items) a → HasOneWidth nets a) → (i : Item) → In items i → HasItemWidth nets i
     each items nets h (item.Wire n) m = tt
     each items nets h (item.Assign a) m = h a (assign_among items a m)

@@ -6,7 +6,8 @@ use Rattle.ver_ast.specs.declared.tree.Verilog.{Verilog}
 use Rattle.ver_ast.specs.declared.tree.Assign.{Assign}
 use Rattle.ver_ast.specs.declared.tree.Item.{Item}
 use Rattle.ver_ast.specs.Nets.{Sized, item_assign, nets}
-use Rattle.ver_ast.specs.Checked.{HasWidth, IsSized}
+use Rattle.ver_ast.specs.Valid.{HasOneWidth}
+use Rattle.ver_ast.specs.Checked.{IsSized}
 use Rattle.ver_ast.proofs.Items.{not_so}
 use Rattle.ver_ast.proofs.decide.validity.is_sized.Goals as goal
 use Rattle.ver_ast.proofs.decide.validity.is_sized.Goals.{then-are_narrow, else-are_narrow}
@@ -15,7 +16,7 @@ abbrev AreNarrow : List Sized → Type 0
 AreNarrow ns = (n : List ℕ) (w : ℕ) → In ns (n, w) → (1 ≤ w) × (w ≤ 128)
 
 abbrev Fit : List Sized → List Item → Type 0
-Fit ns is = (a : Assign) → In (flat_map item_assign is) a → HasWidth ns a
+Fit ns is = (a : Assign) → In (flat_map item_assign is) a → HasOneWidth ns a
 
 both : (v : Verilog) (xs ys : List Sized) (is : List Item) (narrow fit : Bool) → xs ≡ nets v → ys ≡ nets v → is ≡ v.items → (narrow ≡ true) → (IsTrue narrow ↔ AreNarrow xs) → (IsTrue fit ↔ Fit ys is) → IsTrue fit ↔ IsSized v
 both v xs ys is narrow fit e f g n a b = (

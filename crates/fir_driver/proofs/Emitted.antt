@@ -1,0 +1,25 @@
+-- What is emitted for a text that is taken.
+use Rattle.std.proofs.Common.{◌≡◌, ℕ, List, sym, subst}
+use Rattle.ver_ast.specs.declared.tree.Verilog.{Verilog}
+use Rattle.ver_ast.specs.Spells.{VSpells}
+use Rattle.ver_ast.specs.Laws.{SpellsOneTree as VSpellsOneTree}
+use Rattle.ver_emit.specs.Layout.{layout}
+use Rattle.ver_emit.specs.Laws.{LayoutIsSpelled}
+use Rattle.fir_ast.specs.Circuits.{CircuitTree}
+use Rattle.fir_parse.specs.Laws.{SpellsOneTree}
+use Rattle.fir_driver.specs.Compiles.{Compiles}
+use Rattle.fir_driver.specs.Emits.{Takes, Emits}
+
+pub emits : SpellsOneTree → VSpellsOneTree → LayoutIsSpelled → (read written : List ℕ) (c : CircuitTree) (v : Verilog) → Takes read c → Compiles c v → written ≡ layout v → Emits read written
+emits one v_one spelled read written c v taken made laid =
+    let tree : VSpells written v = subst (λ bytes. VSpells bytes v) (sym laid) (spelled v made.valid made.named.spelled) in
+    record {
+      circuit = c;
+      taken = taken;
+      only_circuit = λ other s. one read other c s taken.spelled;
+      verilog = v;
+      v_spelled = tree;
+      only_verilog = λ other s. v_one written other v s tree;
+      laid_out = laid;
+      compiles = made;
+    }

@@ -1,0 +1,44 @@
+-- Behind a type all words are spelled as words that were before.
+use Rattle.std.proofs.Common.{ℕ, ◌+◌, Bool, true, false, Option, Some, None}
+use Rattle.fir_ast.specs.declared.place.Place.{Place}
+use Rattle.fir_ast.specs.Statements.{Named}
+use Rattle.fir_ast.specs.Types.{DataType, uint, sint, clock, reset, async_reset, bundle, vector, Fields, no_fields, field}
+use Rattle.fir_parse.specs.Pieces.{FieldName, Int, IntAt}
+use Rattle.fir_parse.specs.TypeForms.{IsWidth, IsFlip, IsType, AreFields, AreMoreFields}
+use Rattle.fir_driver.proofs.WordPieces.{KeepsWords, token, somewhere, nothing, given, next, either}
+
+pub int_at : {n : ℕ} {p : Place} → KeepsWords (IntAt n p)
+int_at = record { behind = λ a b x h. (token).behind a b x.4 h }
+
+pub int : {n : ℕ} → KeepsWords (Int n)
+int = record { behind = λ a b x h. (int_at).behind a b x.1 h }
+
+pub field_name : {n : Named} → KeepsWords (FieldName n)
+field_name = either token (next given token)
+
+pub width : (w : Option ℕ) → KeepsWords (IsWidth w)
+width None = nothing
+width (Some n) = next somewhere (next int somewhere)
+
+flipped : (f : Bool) → KeepsWords (IsFlip f)
+flipped false = nothing
+flipped true = somewhere
+
+mutual
+  pub type_keeps : (d : ℕ) (t : DataType) → KeepsWords (IsType d t)
+  type_keeps d (uint w) = next somewhere (width w)
+  type_keeps d (sint w) = next somewhere (width w)
+  type_keeps d clock = somewhere
+  type_keeps d reset = somewhere
+  type_keeps d async_reset = somewhere
+  type_keeps d (bundle fs) = next somewhere (next given (next (fields_keep (d + 1) fs) (next somewhere given)))
+  type_keeps d (vector t n) = next (type_keeps d t) (next somewhere (next given (next int (next somewhere given))))
+
+  fields_keep : (d : ℕ) (fs : Fields) → KeepsWords (AreFields d fs)
+  fields_keep d no_fields = nothing
+  fields_keep d (field p flip n t rest) = next (flipped flip) (next field_name (next somewhere (next (type_keeps d t) (more_fields_keep d rest))))
+
+  more_fields_keep : (d : ℕ) (fs : Fields) → KeepsWords (AreMoreFields d fs)
+  more_fields_keep d no_fields = nothing
+  more_fields_keep d (field p flip n t rest) =
+      next somewhere (next (flipped flip) (next field_name (next somewhere (next (type_keeps d t) (more_fields_keep d rest)))))

@@ -1,0 +1,24 @@
+use Rattle.std.proofs.Common.{◌∙◌, ap, sym}
+use Rattle.std.proofs.lemmas.Result.{IfOk-weaker}
+use Rattle.fir_ast.specs.View.{expr_of, named_of, sink_of, stmt_of}
+use Rattle.fir_driver.specs.Firsts.{first_of}
+use Rattle.fir_driver.specs.Groups.{rule_of}
+use Rattle.fir_driver.proofs.GroupRules.{node_shows, connect_shows}
+use Rattle.fir_driver.proofs.TreeViews.{node_view, connect_view}
+use Rattle.fir_driver.proofs.check.module.in_statement.Goals as goal
+
+pub returns-in-Node-clause-first : goal.returns-in-Node-clause-first
+returns-in-Node-clause-first c =
+    let g = c.args.group in
+    let view = ap stmt_of c.in-Node.is ∙ node_view c.in-Node.field-0 c.in-Node.ident c.in-Node.value in
+    IfOk-weaker c.in_node.result _ _
+    (λ f first. λ scope t. first scope t ∙ ap first_of (sym (node_shows g scope c.in-Node.field-0 (named_of c.in-Node.ident) (expr_of c.in-Node.value))) ∙ ap (λ s. first_of ((rule_of g).of_statement scope s)) (sym view))
+    c.in_node.ensures.first
+
+pub returns-in-Connect-clause-first : goal.returns-in-Connect-clause-first
+returns-in-Connect-clause-first c =
+    let g = c.args.group in
+    let view = ap stmt_of c.in-Connect.is ∙ connect_view c.in-Connect.place c.in-Connect.sink c.in-Connect.value in
+    IfOk-weaker c.in_connect.result _ _
+    (λ f first. λ scope t. first scope t ∙ ap first_of (sym (connect_shows g scope c.in-Connect.place (sink_of c.in-Connect.sink) (expr_of c.in-Connect.value))) ∙ ap (λ s. first_of ((rule_of g).of_statement scope s)) (sym view))
+    c.in_connect.ensures

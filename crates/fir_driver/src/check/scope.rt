@@ -1,0 +1,45 @@
+//! The names that are declared before a place of the text.
+
+ghost use Rattle.std.specs.Prelude.{◌≡◌, OnOk, [], ◌∷◌, ◌++◌};
+ghost use Rattle.fir_meaning.specs.Scopes.{Scope, type_in};
+ghost use Rattle.fir_driver.specs.Tabulated.{Tabulates, declared_of, kind_of};
+
+use super::declared::{Declared, Kind};
+use super::widths::NO_TYPE;
+use fir_ast::Ident;
+use fir_base::{MemoryOut, Name};
+use fir_bits::NumTy;
+use std::alloc::Global;
+use std::collections::BTreeMap;
+
+/// Each name with its first declaration.
+pub type Table = BTreeMap<Name, Declared>;
+
+/// Declares a name. One that is declared already stays what it was.
+pub fn declare(
+    alloc: Global,
+    table: &mut Table,
+    ident: &Ident,
+    kind: Kind,
+    holds: NumTy,
+) -> Result<(), MemoryOut>
+    ensures { OnOk result
+        ((scope : Scope) → Tabulates table.old scope
+        → Tabulates table.new (scope ++ declared_of ident.now.name (record { place = ident.now.place; kind = kind; holds = holds }) ∷ [])) }
+{
+    if !table.contains_key(&ident.name) {
+        let place = ident.place;
+        table.insert(ident.name.copy(alloc)?, Declared { place, kind, holds })?;
+    }
+    Ok(())
+}
+
+/// The type of a name, where one that is not declared counts as of no bits.
+pub fn type_in(table: &Table, name: &Name) -> NumTy
+    ensures { (scope : Scope) → Tabulates table.now scope → result ≡ type_in scope name.now }
+{
+    match table.get(name) {
+        Some(declared) => declared.holds,
+        None => NO_TYPE,
+    }
+}

@@ -1,0 +1,47 @@
+//! The statements, one after the other.
+
+ghost use Rattle.std.specs.Prelude.{IfOk, OnOk};
+ghost use Rattle.fir_ast.specs.View.{stmt_of, module_of};
+ghost use Rattle.fir_driver.specs.Lowered as definition;
+ghost use Rattle.fir_driver.specs.Lowered.{lowering, with_statement};
+ghost use Rattle.fir_driver.specs.Tabled.{IsTabled};
+
+use crate::lowering::expressions::add_expression;
+use crate::lowering::ports::input_bindings;
+use crate::lowering::tables::Tables;
+use fir_ast::{Module, Stmt};
+use fir_base::MemoryOut;
+use std::alloc::Global;
+use std::collections::BTreeMap;
+
+/// The tables behind the whole body.
+pub fn body_tables(alloc: Global, m: &Module) -> Result<Tables, MemoryOut>
+    ensures { IfOk result (λ t. IsTabled t (lowering (module_of m.now))) }
+{
+    let mut tables = Tables {
+        bindings: input_bindings(alloc, m.ports.as_slice())?,
+        nodes: Vec::new(alloc),
+        drivers: BTreeMap::new(alloc),
+    };
+    for statement in m.body.as_slice() {
+        add_statement(alloc, &mut tables, statement)?;
+    }
+    Ok(tables)
+}
+
+fn add_statement(alloc: Global, tables: &mut Tables, statement: &Stmt) -> Result<(), MemoryOut>
+    ensures { OnOk result ((l : definition.Lowering) → IsTabled tables.old l → IsTabled tables.new (with_statement l (stmt_of statement.now))) }
+{
+    match statement {
+        Stmt::Node(_, ident, e) => {
+            let bound = add_expression(alloc, &tables.bindings, &mut tables.nodes, e)?;
+            tables.bindings.insert(ident.name.copy(alloc)?, bound)?;
+        }
+        Stmt::Connect(_, sink, e) => {
+            let bound = add_expression(alloc, &tables.bindings, &mut tables.nodes, e)?;
+            tables.drivers.insert(sink.name.copy(alloc)?, bound.read)?;
+        }
+        _ => (),
+    }
+    Ok(())
+}

@@ -1,0 +1,105 @@
+-- A clean circuit has exactly one choice of values.
+-- Two choices agree at the inputs, then along the body, then on what the body stores.
+use Rattle.std.proofs.Common.{◌≡◌, ℕ, ◌^◌, ◌<◌, List, [], ◌∷◌, true, false, nat_eq, Some, refl, sym, ap, ◌∙◌, ⊎_elim, subst, arith}
+use Rattle.std.proofs.lemmas.Bool.{cases_Bool}
+use Rattle.std.proofs.lemmas.Bool.Decides.{Decides-eqb}
+use Rattle.fir_base.specs.Lists.{In}
+use Rattle.fir_base.specs.Ticks.{Tick}
+use Rattle.fir_bits.specs.Laws.{HasItsType}
+use Rattle.fir_ast.specs.Statements.{Block, done}
+use Rattle.fir_ast.specs.Circuits.{ModuleTree, CircuitTree}
+use Rattle.fir_meaning.specs.Paths.{Values, Store, empty}
+use Rattle.fir_meaning.specs.Scopes.{input, output, Declared, Scope, look_up, port_declared}
+use Rattle.fir_meaning.specs.Leaves.{Leaf, module_named, main_module, main_scope, leaves, inputs, paths}
+use Rattle.fir_meaning.specs.Settled.{Settled}
+use Rattle.fir_meaning.specs.Allows.{One}
+use Rattle.fir_meaning.specs.NameFaults.{is_readable}
+use Rattle.fir_meaning.specs.Clean.{IsCleanModule, IsCleanCircuit}
+use Rattle.fir_meaning.specs.Laws.{FaultlessHasOne}
+use Rattle.fir_meaning.proofs.Members.{in_map, in_map_from, same_at}
+use Rattle.fir_meaning.proofs.SamePath.{name_same}
+use Rattle.fir_meaning.proofs.LookUps.{found_in}
+use Rattle.fir_meaning.proofs.SoundScopes.{Agree}
+use Rattle.fir_meaning.proofs.BodyValues.{agree_along}
+use Rattle.fir_meaning.proofs.BodyStores.{same_store}
+use Rattle.fir_meaning.proofs.InputValues.{leaf_of, inputs_in}
+use Rattle.fir_meaning.proofs.Ports.{port_read}
+use Rattle.fir_meaning.proofs.CleanCircuits.{main_ports, main_body, kept, leaf_from, leaf_in, sink_in}
+use Rattle.fir_meaning.proofs.CircuitValues.{read_or_driven, some_settled}
+use Rattle.fir_meaning.proofs.Faultless.{faultless_clean}
+
+no_bits : (x y w : ℕ) → w ≡ 0 → x < 2 ^ w → y < 2 ^ w → x ≡ y
+no_bits x y w e h k =
+    let a : x < 2 ^ 0 = subst (λ (v : ℕ). x < 2 ^ v) e h in
+    let b : y < 2 ^ 0 = subst (λ (v : ℕ). y < 2 ^ v) e k in
+    omega arith
+
+module _ (c : CircuitTree) (clean : IsCleanModule (main_module c)) (state : List ℕ) (tick : Tick) where
+  abbrev ports : Scope
+  ports = main_ports c
+
+  abbrev body : Block
+  body = main_body c
+
+  abbrev whole : Scope
+  whole = main_scope c
+
+  module _ (e f : Values) (p : Settled c state tick e) (q : Settled c state tick f) where
+    inputs_agree : Agree ports e f
+    inputs_agree = record { each = each }
+      where
+        each : (n : List ℕ) (d : Declared) → look_up ports n ≡ Some d → is_readable d.kind ≡ true → e (n ∷ []) ≡ f (n ∷ [])
+        each n d h r =
+            let i = found_in ports n d h in
+            let port = in_map_from port_declared (main_module c).ports d i.0 in
+            let kind = ap (λ (x : Declared). x.kind) port.2 in
+            let is_input : d.kind ≡ input = sym kind ∙ port_read port.0.direction (ap is_readable kind ∙ r) in
+            let there = (found_in whole n d ((kept c clean).each n d h)).0 in
+            let leaf = leaf_in c clean d there in
+            let here : e (d.named.name ∷ []) ≡ f (d.named.name ∷ []) =
+            ⊎_elim
+            (λ (b : nat_eq d.holds.width 0 ≡ true).
+            no_bits (e (d.named.name ∷ [])) (f (d.named.name ∷ [])) d.holds.width ((Decides-eqb d.holds.width 0).0 b) (p.fits (leaf_of d) leaf) (q.fits (leaf_of d) leaf))
+            (λ (b : nat_eq d.holds.width 0 ≡ false).
+            same_at e f (paths (inputs c)) (p.input_values ∙ sym q.input_values) (d.named.name ∷ []) (in_map (λ (l : Leaf). l.path) (inputs c) (leaf_of d) (inputs_in whole d there is_input b)))
+            (cases_Bool (nat_eq d.holds.width 0)) in
+            subst (λ (k : List ℕ). e (k ∷ []) ≡ f (k ∷ [])) i.1 here
+
+    agree : Agree whole e f
+    agree = agree_along e f ports body whole refl clean.body p.node_values q.node_values inputs_agree
+
+    sinks_agree : (d : Declared) → In whole d → d.kind ≡ output → e (d.named.name ∷ []) ≡ f (d.named.name ∷ [])
+    sinks_agree d m k =
+        let one : Some (e (d.named.name ∷ [])) ≡ Some (f (d.named.name ∷ [])) =
+        sym (p.sink_values (leaf_of d) (sink_in c clean d m k))
+        ∙ ap (λ (s : Store). s (d.named.name ∷ [])) (same_store e f ports body whole refl clean.body agree empty)
+        ∙ q.sink_values (leaf_of d) (sink_in c clean d m k) in
+        cc
+
+    leaves_agree : (l : Leaf) → In (leaves c) l → e l.path ≡ f l.path
+    leaves_agree l m =
+        let r = leaf_from c clean l m in
+        let here : e (r.0.named.name ∷ []) ≡ f (r.0.named.name ∷ []) =
+        ⊎_elim
+        (λ (h : is_readable r.0.kind ≡ true). agree.each r.0.named.name r.0 (clean.found r.0 r.1) h)
+        (λ (k : r.0.kind ≡ output). sinks_agree r.0 r.1 k)
+        (read_or_driven r.0.kind) in
+        subst (λ (x : Leaf). e x.path ≡ f x.path) r.2 here
+
+-- a clean circuit has exactly one choice of values
+clean_has_one : HasItsType → (c : CircuitTree) → IsCleanModule (main_module c) → One c
+clean_has_one law c clean state tick shaped =
+    let some = some_settled law c clean state tick shaped in
+    record { env = some.0; settled = some.1; same = λ e f p q l m. leaves_agree c clean state tick e f p q l m }
+
+-- the main module is the one module
+main_is : (c : CircuitTree) (k : IsCleanCircuit c) → k.main ≡ main_module c
+main_is c k =
+    let none : ModuleTree = record { named = c.named; ports = []; body = done } in
+    let here : module_named c.named.name (k.main ∷ []) none ≡ k.main = rw (k.named, name_same c.named.name) refl in
+    sym (ap (λ (ms : List ModuleTree). module_named c.named.name ms none) k.only ∙ here)
+
+pub faultless_one : HasItsType → FaultlessHasOne
+faultless_one law c l h =
+    let k = faultless_clean c l h in
+    clean_has_one law c (subst IsCleanModule (main_is c k) k.clean)

@@ -1,0 +1,84 @@
+-- What is known of a scope without faults, and of values over it.
+-- The scope grows to that of the whole module, which finds the same.
+use Rattle.std.proofs.Common.{◌≡◌, ℕ, ◌^◌, ◌<◌, ◌≤◌, List, [], ◌∷◌, ◌++◌, true, false, Some, None, sym, ap, ◌∙◌, ⊎_elim, subst}
+use Rattle.fir_bits.specs.declared.types.NumTy.{NumTy}
+use Rattle.fir_meaning.specs.Paths.{Values}
+use Rattle.fir_meaning.specs.Scopes.{Declared, Scope, look_up}
+use Rattle.fir_meaning.specs.NameFaults.{is_readable}
+use Rattle.fir_meaning.specs.Laws.{Finds, Holds}
+use Rattle.fir_meaning.proofs.SamePath.{put, put_here, put_other}
+use Rattle.fir_meaning.proofs.LookUps.{found_before}
+
+-- a type of the language: a `UInt` of at most 128 bits
+pub record Plain (t : NumTy) : Type 0 where
+  pub unsigned : t.signed ≡ false
+  pub narrow : t.width ≤ 128
+
+pub record Sound (scope : Scope) : Type 0 where
+  pub each : (n : List ℕ) (d : Declared) → look_up scope n ≡ Some d → Plain d.holds
+
+-- what can be read has a value of its width
+pub record Fits (scope : Scope) (env : Values) : Type 0 where
+  pub each : (n : List ℕ) (d : Declared) → look_up scope n ≡ Some d → is_readable d.kind ≡ true → env (n ∷ []) < 2 ^ d.holds.width
+
+-- what can be read has one value
+pub record Agree (scope : Scope) (e f : Values) : Type 0 where
+  pub each : (n : List ℕ) (d : Declared) → look_up scope n ≡ Some d → is_readable d.kind ≡ true → e (n ∷ []) ≡ f (n ∷ [])
+
+pub held : (scope : Scope) (env : Values) → Sound scope → Fits scope env → Holds scope env
+held scope env s fits = record { unsigned = λ n d h. (s.each n d h).unsigned; narrow = λ n d h. (s.each n d h).narrow; below = fits.each }
+
+pub agree_front : (scope whole : Scope) (e f : Values) → Finds scope whole → Agree whole e f → Agree scope e f
+agree_front scope whole e f kept a = record { each = λ n d h r. a.each n d (kept.each n d h) r }
+
+pub agree_back : (scope : Scope) (e f : Values) → Agree scope e f → Agree scope f e
+agree_back scope e f a = record { each = λ n d h r. sym (a.each n d h r) }
+
+pub agree_through : (scope : Scope) (e f g : Values) → Agree scope e f → Agree scope f g → Agree scope e g
+agree_through scope e f g a b = record { each = λ n d h r. a.each n d h r ∙ b.each n d h r }
+
+pub sound_front : (scope whole : Scope) → Finds scope whole → Sound whole → Sound scope
+sound_front scope whole kept s = record { each = λ n d h. s.each n d (kept.each n d h) }
+
+pub fits_front : (scope whole : Scope) (env : Values) → Finds scope whole → Fits whole env → Fits scope env
+fits_front scope whole env kept fits = record { each = λ n d h r. fits.each n d (kept.each n d h) r }
+
+module _ (scope : Scope) (x : Declared) (new : look_up scope x.named.name ≡ None) where
+  pub sound_more : Sound scope → Plain x.holds → Sound (scope ++ x ∷ [])
+  sound_more s p = record { each = each }
+    where
+      each : (n : List ℕ) (d : Declared) → look_up (scope ++ x ∷ []) n ≡ Some d → Plain d.holds
+      each n d h = ⊎_elim
+          (λ (o : look_up scope n ≡ Some d). s.each n d o)
+          (λ (o : (x ≡ d) × (x.named.name ≡ n)). subst (λ (y : Declared). Plain y.holds) o.0 p)
+          (found_before scope x n d new h)
+
+  pub agree_more : (e f : Values) → Agree scope e f → e (x.named.name ∷ []) ≡ f (x.named.name ∷ []) → Agree (scope ++ x ∷ []) e f
+  agree_more e f a here = record { each = each }
+    where
+      each : (n : List ℕ) (d : Declared) → look_up (scope ++ x ∷ []) n ≡ Some d → is_readable d.kind ≡ true → e (n ∷ []) ≡ f (n ∷ [])
+      each n d h r = ⊎_elim
+          (λ (o : look_up scope n ≡ Some d). a.each n d o r)
+          (λ (o : (x ≡ d) × (x.named.name ≡ n)). subst (λ (k : List ℕ). e (k ∷ []) ≡ f (k ∷ [])) o.1 here)
+          (found_before scope x n d new h)
+
+  -- a value at a new name changes nothing that is declared
+  pub put_new : (env : Values) (v : ℕ) → Agree scope (put env (x.named.name ∷ []) v) env
+  put_new env v = record { each = λ n d h r. put_other env (x.named.name ∷ []) v (n ∷ []) (differs n d h) }
+    where
+      differs : (n : List ℕ) (d : Declared) → look_up scope n ≡ Some d → x.named.name ∷ [] ≡ n ∷ [] → ⊥
+      differs n d h e =
+          let same : x.named.name ≡ n = cc in
+          let f : Some d ≡ None = sym h ∙ ap (look_up scope) (sym same) ∙ new in
+          cc
+
+  pub fits_more : (env : Values) (v : ℕ) → Fits scope env → v < 2 ^ x.holds.width → Fits (scope ++ x ∷ []) (put env (x.named.name ∷ []) v)
+  fits_more env v fits below = record { each = each }
+    where
+      each : (n : List ℕ) (d : Declared) → look_up (scope ++ x ∷ []) n ≡ Some d → is_readable d.kind ≡ true → put env (x.named.name ∷ []) v (n ∷ []) < 2 ^ d.holds.width
+      each n d h r = ⊎_elim
+          (λ (o : look_up scope n ≡ Some d). rw ((put_new env v).each n d o r) (fits.each n d o r))
+          (λ (o : (x ≡ d) × (x.named.name ≡ n)).
+          subst (λ (k : List ℕ). put env (x.named.name ∷ []) v (k ∷ []) < 2 ^ d.holds.width) o.1
+          (subst (λ (y : Declared). put env (x.named.name ∷ []) v (x.named.name ∷ []) < 2 ^ y.holds.width) o.0 (rw (put_here env (x.named.name ∷ []) v) below)))
+          (found_before scope x n d new h)

@@ -1,0 +1,92 @@
+-- What it means, form by form, that a circuit of the language shows no fault.
+-- Each name is declared once and read where it may be, each literal fits its width, each operation has a type, each sink is an output, and each output
+-- is connected.
+use Rattle.std.specs.Prelude.{◌≡◌, ℕ, ◌^◌, ◌<◌, ◌≤◌, List, [], ◌∷◌, ◌++◌, length, true, false, map, Some, None, Ok}
+use Rattle.fir_base.specs.Lists.{In}
+use Rattle.fir_base.specs.declared.direction.Direction.TheVariants as direction
+use Rattle.fir_bits.specs.declared.types.NumTy.{NumTy}
+use Rattle.fir_bits.specs.Types.{typed}
+use Rattle.fir_ast.specs.declared.expressions.Literal.{Literal}
+use Rattle.fir_ast.specs.Types.{uint}
+use Rattle.fir_ast.specs.Expressions.{Expression, reference, literal, operation, mux, validif, Expressions, no_expressions, expression}
+use Rattle.fir_ast.specs.Statements.{Statement, node, connect, skip, Block, done, then}
+use Rattle.fir_ast.specs.Circuits.{PortTree, ModuleTree, CircuitTree}
+use Rattle.fir_meaning.specs.Scopes.{output, Declared, Scope, look_up, types_of_each, declares, port_declared, scope_of}
+use Rattle.fir_meaning.specs.NameFaults.{is_readable}
+use Rattle.fir_meaning.specs.DrivenFaults.{is_connected}
+use Rattle.fir_meaning.specs.Language.{counts, count, has_counts}
+
+-- a name that may be read
+pub record IsRead (scope : Scope) (name : List ℕ) : Type 0 where
+  pub declared : Declared
+  pub found : look_up scope name ≡ Some declared
+  pub readable : is_readable declared.kind ≡ true
+
+-- a literal of a UInt that fits its width
+pub record IsFit (l : Literal) : Type 0 where
+  pub width : ℕ
+  pub written : l.width ≡ Some width
+  pub narrow : width ≤ 128
+  pub below : l.magnitude < 2 ^ width
+  pub unsigned : l.signed ≡ false
+  pub positive : l.negative ≡ false
+
+-- the type of an operation, which is a UInt
+pub record HasType (scope : Scope) (es : Expressions) (result : NumTy → Type 0) : Type 0 where
+  pub width : ℕ
+  pub narrow : width ≤ 128
+  pub has_type : result (record { signed = false; width = width })
+
+abbrev mutual
+  pub IsClean : Scope → Expression → Type 0
+  IsClean scope (reference p n ps) = IsRead scope n
+  IsClean scope (literal l) = IsFit l
+  IsClean scope (operation p o es ks) =
+      AreClean scope es × (has_counts (counts o) (count es) (length ks) ≡ true) × HasType scope es (λ t. typed o (types_of_each scope es) ks ≡ Ok t)
+  IsClean scope (mux p c a b) = ⊥
+  IsClean scope (validif p c a) = ⊥
+
+  pub AreClean : Scope → Expressions → Type 0
+  AreClean scope no_expressions = Unit {0}
+  AreClean scope (expression e es) = IsClean scope e × AreClean scope es
+
+-- a declared output
+pub record IsOutput (scope : Scope) (name : List ℕ) : Type 0 where
+  pub declared : Declared
+  pub found : look_up scope name ≡ Some declared
+  pub kind : declared.kind ≡ output
+
+abbrev pub IsCleanStatement : Scope → Statement → Type 0
+IsCleanStatement scope (node p n e) = (look_up scope n.name ≡ None) × IsClean scope e
+IsCleanStatement scope (connect p sink e) = IsOutput scope sink.name × IsClean scope e
+IsCleanStatement scope (skip p) = Unit {0}
+IsCleanStatement scope _ = ⊥
+
+abbrev pub AreCleanStatements : Scope → Block → Type 0
+AreCleanStatements scope done = Unit {0}
+AreCleanStatements scope ((then) s b) = IsCleanStatement scope s × AreCleanStatements (scope ++ declares 0 scope s) b
+
+-- a port of a UInt of at most 128 bits, with a new name
+pub record IsCleanPort (scope : Scope) (p : PortTree) : Type 0 where
+  pub width : ℕ
+  pub type : p.data_type ≡ uint (Some width)
+  pub narrow : width ≤ 128
+  pub new : look_up scope p.named.name ≡ None
+
+abbrev pub AreCleanPorts : Scope → List PortTree → Type 0
+AreCleanPorts scope [] = Unit {0}
+AreCleanPorts scope (p ∷ ps) = IsCleanPort scope p × AreCleanPorts (scope ++ port_declared p ∷ []) ps
+
+pub record IsCleanModule (m : ModuleTree) : Type 0 where
+  pub ports : AreCleanPorts [] m.ports
+  pub body : AreCleanStatements (map port_declared m.ports) m.body
+  pub connected : (p : PortTree) → In m.ports p → p.direction ≡ direction.Output → is_connected m.body p.named.name ≡ true
+  -- each declaration is the first of its name
+  pub found : (d : Declared) → In (scope_of m) d → look_up (scope_of m) d.named.name ≡ Some d
+
+-- the one module, of the circuit's name
+pub record IsCleanCircuit (c : CircuitTree) : Type 0 where
+  pub main : ModuleTree
+  pub only : c.modules ≡ main ∷ []
+  pub named : main.named.name ≡ c.named.name
+  pub clean : IsCleanModule main

@@ -1,0 +1,36 @@
+-- E21, integers that an operation may not have beside an operand of its width, or a literal that does not fit its width
+-- (FIRRTL spec, "Primitive Operations", "Literals").
+use Rattle.std.specs.Prelude.{ℕ, List, [], ◌∷◌, ◌^◌, nat_lt, if◌then◌else◌, unwrap_or, Result, Err}
+use Rattle.fir_ast.specs.declared.place.Place.{Place}
+use Rattle.fir_ast.specs.declared.fault.FirFault.{FirFault}
+use Rattle.fir_ast.specs.declared.fault.FirFault.TheVariants.{Legality, LiteralLegality}
+use Rattle.fir_ast.specs.declared.expressions.Literal.{Literal}
+use Rattle.fir_ast.specs.Statements.{Statement, node, connect}
+use Rattle.fir_bits.specs.declared.operators.PrimOp.{PrimOp}
+use Rattle.fir_bits.specs.declared.types.NumTy.{NumTy}
+use Rattle.fir_bits.specs.declared.types.OpFault.{OpFault}
+use Rattle.fir_bits.specs.declared.types.OpFault.TheVariants as op_fault
+use Rattle.fir_bits.specs.Forms.{first_type}
+use Rattle.fir_bits.specs.Types.{typed}
+use Rattle.fir_meaning.specs.OperatorWords.{operator_word}
+use Rattle.fir_meaning.specs.Scopes.{Scope}
+use Rattle.fir_meaning.specs.FaultRules.{Rule, ExpressionRule, within}
+
+-- the number of a UInt literal is below two to its width
+abbrev pub unfit : Literal → List FirFault
+unfit l = if nat_lt l.magnitude (2 ^ unwrap_or l.width 0) then [] else LiteralLegality l.place (unwrap_or l.width 0) l.negative l.magnitude ∷ []
+
+abbrev pub illegal_by : Result NumTy OpFault → Place → PrimOp → List NumTy → List ℕ → List FirFault
+illegal_by (Err op_fault.Legality) p op ts ks = Legality p (operator_word op) ((first_type ts).width ∷ ks) ∷ []
+illegal_by _ p op ts ks = []
+
+abbrev pub legality_in_expression : ExpressionRule
+legality_in_expression = record { of_reference = λ scope p name. []; of_literal = unfit; of_operation = λ p op ts ks. illegal_by (typed op ts ks) p op ts ks }
+
+abbrev pub legality_in_statement : Scope → Statement → List FirFault
+legality_in_statement scope (node p n e) = within legality_in_expression scope e
+legality_in_statement scope (connect p sink e) = within legality_in_expression scope e
+legality_in_statement scope _ = []
+
+abbrev pub legality_rule : Rule
+legality_rule = record { of_port = λ scope p. []; of_statement = legality_in_statement }

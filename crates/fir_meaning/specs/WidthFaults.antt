@@ -1,0 +1,30 @@
+-- E19, a leaf or an expression of more than 128 bits (FIRRTL spec, "Width Inference"). A node's leaf stands before its expression.
+use Rattle.std.specs.Prelude.{ℕ, List, [], ◌∷◌, ◌++◌, codes, if◌then◌else◌}
+use Rattle.fir_ast.specs.declared.place.Place.{Place}
+use Rattle.fir_ast.specs.declared.fault.FirFault.{FirFault}
+use Rattle.fir_ast.specs.declared.fault.FirFault.TheVariants.{Over}
+use Rattle.fir_ast.specs.Statements.{Statement, node, connect}
+use Rattle.fir_bits.specs.Forms.{first_type}
+use Rattle.fir_meaning.specs.Operations.{is_over, operation_type}
+use Rattle.fir_meaning.specs.OperatorWords.{operator_word}
+use Rattle.fir_meaning.specs.Scopes.{Scope, types, literal_type, written_type}
+use Rattle.fir_meaning.specs.FaultRules.{Rule, ExpressionRule, within}
+
+abbrev pub over_width : ℕ → Place → List ℕ → List FirFault
+over_width width p what = if is_over width then Over p what ∷ [] else []
+
+abbrev pub widths_in_expression : ExpressionRule
+widths_in_expression =
+    record {
+      of_reference = λ scope p name. [];
+      of_literal = λ l. over_width (literal_type l).width l.place (codes "literal");
+      of_operation = λ p op ts ks. over_width (operation_type op ts ks).width p (operator_word op);
+    }
+
+abbrev pub widths_in_statement : Scope → Statement → List FirFault
+widths_in_statement scope (node p n e) = over_width (first_type (types scope e)).width n.place n.name ++ within widths_in_expression scope e
+widths_in_statement scope (connect p sink e) = within widths_in_expression scope e
+widths_in_statement scope _ = []
+
+abbrev pub width_rule : Rule
+width_rule = record { of_port = λ scope p. over_width (written_type p.data_type).width p.named.place p.named.name; of_statement = widths_in_statement }

@@ -1,0 +1,34 @@
+//! Laws about the definitions, each the contract of a function that does nothing.
+
+ghost use Rattle.fir_meaning.specs.Laws.{FaultlessHasOne, ShowsOneFirst, LastConnect, FaultlessIsClean, CleanHasValue};
+
+/// A circuit of the language that shows no fault has, at every state and tick of its shape, exactly one
+/// choice of values for its leaves.
+pub fn faultless_has_one()
+    ensures { FaultlessHasOne }
+{
+    fir_bits::laws::has_its_type()
+}
+
+/// A circuit has one first fault at most.
+pub fn shows_one_first()
+    ensures { ShowsOneFirst }
+{}
+
+/// Outside whens, a connect of a declared name stores the value of its source at the name's leaf,
+/// fitted to the leaf's width, whatever stood there. It leaves every other path as it was.
+pub fn last_connect()
+    ensures { LastConnect }
+{}
+
+/// A circuit of the language that shows no fault is clean, form by form.
+pub fn faultless_is_clean()
+    ensures { FaultlessIsClean }
+{}
+
+/// A clean expression has one value, of its type, over values that its scope holds.
+pub fn clean_has_value()
+    ensures { CleanHasValue }
+{
+    fir_bits::laws::has_its_type()
+}

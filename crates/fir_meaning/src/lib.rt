@@ -1,0 +1,11 @@
+//! What a circuit means: its leaves and their values, what its statements store, what it allows at each
+//! tick, and which faults it shows (FIRRTL spec, "Connects", "Nodes", "Primitive Operations"). Here are
+//! definitions, over the plain tree of fir_ast and the values of fir_bits, and the laws about them; every
+//! pass cites them from here.
+#![tactic(auto)]
+
+mod laws;
+
+pub use laws::{
+    clean_has_value, faultless_has_one, faultless_is_clean, last_connect, shows_one_first,
+};

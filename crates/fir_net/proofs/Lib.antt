@@ -1,0 +1,9 @@
+pub mod Pigeons
+pub mod Untaken
+pub mod Unreserved
+pub mod FreeNames
+pub mod HeldNames
+pub mod Members
+pub mod NamedLeaves
+pub mod NamedNodes
+pub mod NamedTables

@@ -1,0 +1,7 @@
+pub mod Values
+pub mod Settled
+pub mod Allows
+pub mod IsNet
+pub mod Names
+pub mod IsTable
+pub mod NameSets

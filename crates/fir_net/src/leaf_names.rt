@@ -1,0 +1,50 @@
+//! The names of leaves.
+
+ghost use Rattle.std.specs.Prelude.{IfOk, []};
+ghost use Rattle.fir_net.specs.IsTable.{AreLeafNames, somes};
+ghost use Rattle.fir_net.specs.NameSets.{Holds, TakesName};
+
+use crate::free_name::free_name;
+use crate::net::Leaf;
+use fir_base::{MemoryOut, Name, Seq};
+use std::alloc::Global;
+use std::collections::BTreeSet;
+
+/// The names of leaves, and the set of them.
+#[derive(Drop)]
+pub struct LeafNames {
+    pub names: Seq<Option<Name>>,
+    pub taken: BTreeSet<Name>,
+}
+
+/// The names of the leaves in their order.
+pub fn leaf_names(alloc: Global, leaves: &[Leaf]) -> Result<LeafNames, MemoryOut>
+    ensures table { IfOk result (λ r. AreLeafNames [] leaves.now r.names) }
+    ensures held { IfOk result (λ r. Holds r.taken (somes r.names)) }
+{
+    let mut taken = BTreeSet::new(alloc);
+    let mut names = Vec::new(alloc);
+    for leaf in leaves {
+        names.push(leaf_name(alloc, &mut taken, leaf)?)?;
+    }
+    Ok(LeafNames {
+        names: Seq::from_vec(names),
+        taken,
+    })
+}
+
+/// The name of a leaf behind those whose names are taken; it is taken then. A leaf of no bits has none.
+fn leaf_name(
+    alloc: Global,
+    taken: &mut BTreeSet<Name>,
+    leaf: &Leaf,
+) -> Result<Option<Name>, MemoryOut>
+    ensures { IfOk result (λ n. TakesName taken.old taken.new leaf.now n) }
+{
+    if leaf.width == 0 {
+        return Ok(None);
+    }
+    let name = free_name(alloc, taken, &leaf.name)?;
+    taken.insert(name.copy(alloc)?)?;
+    Ok(Some(name))
+}

@@ -1,0 +1,20 @@
+//! The name of a module.
+
+ghost use Rattle.std.specs.Prelude.{◌≡◌, IfOk};
+ghost use Rattle.fir_net.specs.Names.{module_name};
+
+use fir_base::{MemoryOut, Name};
+use std::alloc::Global;
+use ver_ast::is_reserved;
+
+/// The circuit's name, with `_0` behind it where it is reserved.
+pub fn module_name(alloc: Global, name: &Name) -> Result<Name, MemoryOut>
+    ensures { IfOk result (λ n. n ≡ module_name name.now) }
+{
+    if !is_reserved(name.as_bytes()) {
+        return name.copy(alloc);
+    }
+    let mut bytes = Vec::from_slice(alloc, name.as_bytes())?;
+    bytes.extend_from_slice(b"_0")?;
+    Name::new(alloc, bytes.as_slice())
+}
