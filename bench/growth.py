@@ -61,7 +61,7 @@ def connects(size):
 
 
 def many_ports(size):
-    count = size // 60
+    count = size // 86
     ports = "".join(f"    input i{k} : UInt<4>\n    output o{k} : UInt<4>\n" for k in range(count))
     return "circuit T :\n  module T :\n" + ports + "".join(f"    o{k} <= i{k}\n" for k in range(count))
 
@@ -75,11 +75,14 @@ def modules(size):
 
 
 def run(firc, path, text):
+    """The size, the least time of three runs, the status and what is said."""
     path.write_text(text)
-    start = time.perf_counter()
-    done = subprocess.run([firc, "emit", str(path)], stdout=subprocess.DEVNULL, stderr=subprocess.PIPE)
-    took = time.perf_counter() - start
-    return path.stat().st_size, took, done.returncode, done.stderr.decode(errors="replace").strip()[:40]
+    times = []
+    for _ in range(3):
+        start = time.perf_counter()
+        done = subprocess.run([firc, "emit", str(path)], stdout=subprocess.DEVNULL, stderr=subprocess.PIPE)
+        times.append(time.perf_counter() - start)
+    return path.stat().st_size, min(times), done.returncode, done.stderr.decode(errors="replace").strip().replace(str(path), "FILE")[:40]
 
 
 def main():
