@@ -1,7 +1,8 @@
 -- The grammar: the tokens of a tree (IEEE 1364-2005, Annex A.1 to A.8, cut to the written subset).
 --   module = "module" name "(" [ port { "," port } ] ")" ";" item* "endmodule"
---   port   = ("input" | "output") [range] name
---   item   = "wire" [range] name ";" | "assign" name "=" rhs ";"
+--   port   = ("input" | "output") [range] name | "(*" "clock" "*)" ("input" | "output") name
+--   item   = "wire" [range] name ";" | "reg" [range] name ";" | "assign" name "=" rhs ";"
+--          | "always" "@" "(" "posedge" name ")" name "<=" atom ";"
 --   range  = "[" num ":" "0" "]"            without a range the width is 1
 --   rhs    = atom | "~" atom | atom ("&" | "|" | "^") atom
 --   atom   = primary | "{" primary { "," primary } "}"
@@ -12,6 +13,8 @@ use Rattle.fir_base.specs.declared.direction.Direction.{Direction}
 use Rattle.fir_base.specs.declared.direction.Direction.TheVariants.{Input, Output}
 use Rattle.ver_ast.specs.declared.tree.Verilog.{Verilog}
 use Rattle.ver_ast.specs.declared.tree.Port.{Port}
+use Rattle.ver_ast.specs.declared.tree.Signal.{Signal}
+use Rattle.ver_ast.specs.declared.tree.Signal.TheVariants.{Bits, Clock}
 use Rattle.ver_ast.specs.declared.tree.Item.{Item}
 use Rattle.ver_ast.specs.declared.tree.Item.TheVariants as item
 use Rattle.ver_ast.specs.declared.tree.Rhs.{Rhs}
@@ -24,7 +27,7 @@ use Rattle.ver_ast.specs.declared.tree.UnaryOp.{UnaryOp}
 use Rattle.ver_ast.specs.declared.tree.UnaryOp.TheVariants.{Not}
 use Rattle.ver_ast.specs.declared.tree.BinaryOp.{BinaryOp}
 use Rattle.ver_ast.specs.declared.tree.BinaryOp.TheVariants.{And, Or, Xor}
-use Rattle.ver_ast.specs.Tokens.{Token, word, digit_zero, number, constant, sign}
+use Rattle.ver_ast.specs.Tokens.{Token, word, digit_zero, number, constant, sign, double}
 
 abbrev pub direction_word : Direction → List ℕ
 direction_word Input = codes "input"
@@ -33,8 +36,12 @@ direction_word Output = codes "output"
 abbrev pub range_tokens : ℕ → List Token
 range_tokens width = if nat_eq width 1 then [] else (sign 91 ∷ number (width - 1) ∷ sign 58 ∷ digit_zero ∷ sign 93 ∷ [])
 
+abbrev pub signal_tokens : Signal → Direction → List Token
+signal_tokens (Bits width) d = word (direction_word d) ∷ range_tokens width
+signal_tokens Clock d = double 40 42 ∷ word (codes "clock") ∷ double 42 41 ∷ word (direction_word d) ∷ []
+
 abbrev pub port_tokens : Port → List Token
-port_tokens p = word (direction_word p.direction) ∷ range_tokens p.width ++ word p.name ∷ []
+port_tokens p = signal_tokens p.signal p.direction ++ word p.name ∷ []
 
 -- a port behind another
 abbrev pub next_port_tokens : Port → List Token
@@ -76,7 +83,11 @@ rhs_tokens (rhs.Binary a op b) = atom_tokens a ++ sign (binary_sign op) ∷ atom
 
 abbrev pub item_tokens : Item → List Token
 item_tokens (item.Wire n) = word (codes "wire") ∷ range_tokens n.width ++ word n.name ∷ sign 59 ∷ []
+item_tokens (item.Reg n) = word (codes "reg") ∷ range_tokens n.width ++ word n.name ∷ sign 59 ∷ []
 item_tokens (item.Assign a) = word (codes "assign") ∷ word a.target ∷ sign 61 ∷ rhs_tokens a.rhs ++ sign 59 ∷ []
+item_tokens (item.Always b) =
+    word (codes "always") ∷ sign 64 ∷ sign 40 ∷ word (codes "posedge") ∷ word b.clock ∷ sign 41 ∷ word b.target ∷ double 60 61
+    ∷ atom_tokens b.source ++ sign 59 ∷ []
 
 abbrev pub module_tokens : Verilog → List Token
 module_tokens v =

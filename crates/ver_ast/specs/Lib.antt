@@ -7,6 +7,7 @@ pub mod Nets
 pub mod AtomWidths
 pub mod Valid
 pub mod Settled
+pub mod Next
 pub mod Allows
 pub mod Laws
 pub mod Scanned

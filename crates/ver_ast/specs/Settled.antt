@@ -1,7 +1,8 @@
 -- The values of the nets while nothing changes (IEEE 1364-2005, 5.1, 6.1).
--- A select gives bits of a net, and a concatenation its parts side by side, the first at the high end (5.1.14, 5.2.1). Every assign is an equation between its target and its right side. The values are guessed whole and then tested; no order of evaluation
--- stands in the definition.
-use Rattle.std.specs.Prelude.{◌≡◌, ℕ, ◌+◌, ◌-◌, ◌*◌, ◌/◌, ◌%◌, ◌^◌, ◌<◌, List, [], ◌∷◌, map, bit_and, bit_or, bit_xor}
+-- A select gives bits of a net, and a concatenation its parts side by side, the first at the high end (5.1.14, 5.2.1). The inputs have the tick's
+-- values, and the registers show the state. Every assign is an equation between its target and its right side. The values are guessed whole and then
+-- tested; no order of evaluation stands in the definition.
+use Rattle.std.specs.Prelude.{◌≡◌, ℕ, ◌+◌, ◌-◌, ◌*◌, ◌/◌, ◌%◌, ◌^◌, ◌<◌, List, [], ◌∷◌, map, slice_get, Some, bit_and, bit_or, bit_xor}
 use Rattle.fir_bits.specs.Values.{complement}
 use Rattle.fir_base.specs.Lists.{In}
 use Rattle.fir_base.specs.Ticks.{Env, Tick, HasShape}
@@ -17,7 +18,7 @@ use Rattle.ver_ast.specs.declared.tree.UnaryOp.{UnaryOp}
 use Rattle.ver_ast.specs.declared.tree.UnaryOp.TheVariants.{Not}
 use Rattle.ver_ast.specs.declared.tree.BinaryOp.{BinaryOp}
 use Rattle.ver_ast.specs.declared.tree.BinaryOp.TheVariants.{And, Or, Xor}
-use Rattle.ver_ast.specs.Nets.{Sized, inputs, nets, assigns, names_of, shape}
+use Rattle.ver_ast.specs.Nets.{Sized, inputs, clocks, regs, nets, assigns, names_of, shape}
 use Rattle.ver_ast.specs.AtomWidths.{joined_width}
 
 abbrev pub primary_value : Env → Primary → ℕ
@@ -56,4 +57,8 @@ pub record VSettled (v : Verilog) (state : List ℕ) (tick : Tick) (env : Env) :
   -- each net has a value of its width
   pub fits : (n : List ℕ) (w : ℕ) → In (nets v) (n, w) → env n < 2 ^ w
   pub input_values : map env (names_of (inputs v)) ≡ tick.inputs
+  -- a clock has its number, counted from 0 in port order
+  pub clock_values : (k : ℕ) (n : List ℕ) → slice_get (clocks v) k ≡ Some n → env n ≡ k
+  -- a register shows its stored word
+  pub state_values : map env (names_of (regs v)) ≡ state
   pub equations : (a : Assign) (w : ℕ) → In (assigns v) a → In (nets v) (a.target, w) → env a.target ≡ rhs_value (nets v) env w a.rhs

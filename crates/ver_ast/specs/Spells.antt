@@ -38,7 +38,9 @@ rhs_names r = flat_map atom_names (rhs_atoms r)
 
 abbrev pub HasItemNames : Item → Type 0
 HasItemNames (item.Wire n) = IsName n.name
+HasItemNames (item.Reg n) = IsName n.name
 HasItemNames (item.Assign a) = IsName a.target × AllByRecursion IsName (rhs_names a.rhs)
+HasItemNames (item.Always b) = IsName b.clock × IsName b.target × AllByRecursion IsName (atom_names b.source)
 
 -- each name that stands in the tree is one
 pub record HasNames (v : Verilog) : Type 0 where

@@ -1,6 +1,7 @@
 -- The tokens of a text (IEEE 1364-2005, 3.1 to 3.5).
 -- White space and comments are free between tokens, and the longest token is taken. A constant is one token: a width, a quote, a letter for the base,
--- and digits of it. A text has no tokens where a byte is in none, or where a constant is not ended or a block comment not closed.
+-- and digits of it. `(*`, `*)` and `<=` are tokens wherever they stand. A text has no tokens where a byte is in none, or where a constant is not ended
+-- or a block comment not closed.
 use Rattle.std.specs.Prelude.{ℕ, ◌+◌, ◌-◌, ◌*◌, List, [], ◌∷◌, ◌++◌, Bool, false, ◌||◌, ◌&&◌, nat_eq, nat_le, nat_lt, if◌then◌else◌, Option, Some, None, option_map}
 use Rattle.ver_ast.specs.Names.{is_digit, is_word_start, is_word_byte}
 
@@ -12,17 +13,19 @@ pub data Token : Type 0 where
   number : ℕ → Token
   constant : ℕ → ℕ → Token
   sign : ℕ → Token
+  double : ℕ → ℕ → Token
 
 pub data Base : Type 0 where
   binary : Base
   decimal : Base
   hexadecimal : Base
 
--- what is not yet closed: a word; a number, with whether it is the one digit 0 so far; a constant behind its quote, behind its base, and within its
+-- what is not yet closed: a word; a byte that may begin a sign of two; a number, with whether it is the one digit 0 so far; a constant behind its quote, behind its base, and within its
 -- digits; a slash; a comment; a comment's star
 pub data Pending : Type 0 where
   between : Pending
   in_word : List ℕ → Pending
+  in_sign : ℕ → Pending
   in_number : Bool → ℕ → Pending
   at_base : ℕ → Pending
   at_digits : ℕ → Base → Pending
@@ -32,9 +35,17 @@ pub data Pending : Type 0 where
   in_block_comment : Pending
   in_block_star : Pending
 
--- ( ) ; , : [ ] { } = ~ & | ^
+-- ( ) ; , : [ ] { } = ~ & | ^ @
 abbrev pub is_sign : ℕ → Bool
-is_sign b = nat_eq b 123 || (nat_eq b 125 || (nat_eq b 40 || (nat_eq b 41 || (nat_eq b 59 || (nat_eq b 44 || (nat_eq b 58 || (nat_eq b 91 || (nat_eq b 93 || (nat_eq b 61 || (nat_eq b 126 || (nat_eq b 38 || (nat_eq b 124 || nat_eq b 94))))))))))))
+is_sign b = nat_eq b 64 || (nat_eq b 123 || (nat_eq b 125 || (nat_eq b 40 || (nat_eq b 41 || (nat_eq b 59 || (nat_eq b 44 || (nat_eq b 58 || (nat_eq b 91 || (nat_eq b 93 || (nat_eq b 61 || (nat_eq b 126 || (nat_eq b 38 || (nat_eq b 124 || nat_eq b 94)))))))))))))
+
+-- (* *) <=
+abbrev pub is_double : ℕ → ℕ → Bool
+is_double a b = (nat_eq a 40 && nat_eq b 42) || ((nat_eq a 42 && nat_eq b 41) || (nat_eq a 60 && nat_eq b 61))
+
+-- a byte with which a sign of two begins
+abbrev pub is_double_start : ℕ → Bool
+is_double_start b = nat_eq b 40 || (nat_eq b 42 || nat_eq b 60)
 
 -- space, tab, carriage return, newline
 abbrev pub is_blank : ℕ → Bool
@@ -52,6 +63,7 @@ abbrev pub begin : ℕ → Step
 begin b =
     if is_word_start b then Some ([], in_word (b ∷ []))
     else if is_digit b then Some ([], in_number (nat_eq b 48) (b - 48))
+    else if is_double_start b then Some ([], in_sign b)
     else if is_sign b then Some (sign b ∷ [], between)
     else if is_blank b then Some ([], between)
     else if nat_eq b 47 then Some ([], in_slash)
@@ -104,6 +116,7 @@ with_next width base value None b = close_and_begin (constant width value) b
 abbrev pub step : Pending → ℕ → Step
 step between b = begin b
 step (in_word w) b = if is_word_byte b then Some ([], in_word (w ++ b ∷ [])) else close_and_begin (word w) b
+step (in_sign a) b = if is_double a b then Some (double a b ∷ [], between) else if is_sign a then close_and_begin (sign a) b else None
 step (in_number one_zero value) b =
     if is_digit b then Some ([], in_number false (10 * value + (b - 48)))
     else if nat_eq b 39 then Some ([], at_base value)
@@ -120,6 +133,7 @@ step in_block_star b = Some ([], if nat_eq b 47 then between else if nat_eq b 42
 abbrev pub last : Pending → Option (List Token)
 last between = Some []
 last (in_word w) = Some (word w ∷ [])
+last (in_sign a) = if is_sign a then Some (sign a ∷ []) else None
 last (in_number one_zero value) = Some (number_token one_zero value ∷ [])
 last (at_base width) = None
 last (at_digits width base) = None

@@ -2,15 +2,24 @@
 
 use fir_base::{Direction, Name, Seq};
 
-/// A port, with its width in bits.
+/// What a port carries.
+#[derive(Clone, Copy, Debug, PartialEq, Eq)]
+pub enum Signal {
+    /// A value of so many bits.
+    Bits(u32),
+    /// A clock, which is marked `(* clock *)` and has no range.
+    Clock,
+}
+
+/// A port.
 #[derive(Drop)]
 pub struct Port {
     pub direction: Direction,
-    pub width: u32,
+    pub signal: Signal,
     pub name: Name,
 }
 
-/// A net that is declared inside the module, with its width in bits.
+/// A wire or a register that is declared inside the module, with its width in bits.
 #[derive(Drop)]
 pub struct Net {
     pub width: u32,
@@ -70,11 +79,22 @@ pub struct Assign {
     pub rhs: Rhs,
 }
 
+/// What a register takes at each rising edge of a clock: `always @(posedge clock) target <= source;`
+/// (IEEE 1364-2005, 9.2.2, 9.7.2).
+#[derive(Drop)]
+pub struct Always {
+    pub clock: Name,
+    pub target: Name,
+    pub source: Atom,
+}
+
 /// An item of a module.
 #[derive(Drop)]
 pub enum Item {
     Wire(Net),
+    Reg(Net),
     Assign(Assign),
+    Always(Always),
 }
 
 /// A module: its name, its ports in order and its items in order.

@@ -4,7 +4,10 @@
 use Rattle.std.specs.Prelude.{ℕ, ◌-◌, List, [], ◌∷◌, ◌++◌, flat_map, codes, decimal, false, nat_eq, if◌then◌else◌}
 use Rattle.std.specs.Fmt.{digits}
 use Rattle.ver_ast.specs.declared.tree.Verilog.{Verilog}
+use Rattle.fir_base.specs.declared.direction.Direction.{Direction}
 use Rattle.ver_ast.specs.declared.tree.Port.{Port}
+use Rattle.ver_ast.specs.declared.tree.Signal.{Signal}
+use Rattle.ver_ast.specs.declared.tree.Signal.TheVariants.{Bits, Clock}
 use Rattle.ver_ast.specs.declared.tree.Item.{Item}
 use Rattle.ver_ast.specs.declared.tree.Item.TheVariants as item
 use Rattle.ver_ast.specs.declared.tree.Rhs.{Rhs}
@@ -19,8 +22,13 @@ use Rattle.ver_ast.specs.Grammar.{direction_word, unary_sign, binary_sign}
 abbrev pub range_text : ℕ → List ℕ
 range_text width = if nat_eq width 1 then [] else codes "[" ++ decimal (width - 1) ++ codes ":0] "
 
+-- a clock is marked, and has no range
+abbrev pub signal_text : Signal → Direction → List ℕ
+signal_text (Bits width) d = direction_word d ++ codes " " ++ range_text width
+signal_text Clock d = codes "(* clock *) " ++ direction_word d ++ codes " "
+
 abbrev pub port_text : Port → List ℕ
-port_text p = codes "\n  " ++ direction_word p.direction ++ codes " " ++ range_text p.width ++ p.name
+port_text p = codes "\n  " ++ signal_text p.signal p.direction ++ p.name
 
 -- a port behind another
 abbrev pub next_port_text : Port → List ℕ
@@ -55,7 +63,9 @@ rhs_text (rhs.Binary a op b) = atom_text a ++ codes " " ++ binary_sign op ∷ co
 
 abbrev pub item_text : Item → List ℕ
 item_text (item.Wire n) = codes "  wire " ++ range_text n.width ++ n.name ++ codes ";\n"
+item_text (item.Reg n) = codes "  reg " ++ range_text n.width ++ n.name ++ codes ";\n"
 item_text (item.Assign a) = codes "  assign " ++ a.target ++ codes " = " ++ rhs_text a.rhs ++ codes ";\n"
+item_text (item.Always b) = codes "  always @(posedge " ++ b.clock ++ codes ") " ++ b.target ++ codes " <= " ++ atom_text b.source ++ codes ";\n"
 
 unfoldable pub layout : Verilog → List ℕ
 layout v = codes "module " ++ v.name ++ codes "(" ++ ports_text v.ports ++ codes ");\n" ++ flat_map item_text v.items ++ codes "endmodule\n"
