@@ -1,18 +1,18 @@
 -- What it means, form by form, that a circuit of the language shows no fault.
--- Each name is declared once and read where it may be, each literal fits its width, each operation has a type, each sink is an output, and each output
--- is connected.
-use Rattle.std.specs.Prelude.{◌≡◌, ℕ, ◌^◌, ◌<◌, ◌≤◌, List, [], ◌∷◌, ◌++◌, length, true, false, map, Some, None, Ok}
+-- Each name is declared once and read where it may be, each literal fits its width, each operation has a type, each register is clocked by a clock,
+-- each sink is an output or a register, and each output is connected.
+use Rattle.std.specs.Prelude.{◌≡◌, ℕ, ◌^◌, ◌<◌, ◌≤◌, List, [], ◌∷◌, ◌++◌, length, true, false, map, Some, None, Ok, ◌⊎◌}
 use Rattle.fir_base.specs.Lists.{In}
+use Rattle.fir_base.specs.declared.direction.Direction.{Direction}
 use Rattle.fir_base.specs.declared.direction.Direction.TheVariants as direction
 use Rattle.fir_bits.specs.declared.types.NumTy.{NumTy}
 use Rattle.fir_bits.specs.Types.{typed}
 use Rattle.fir_ast.specs.declared.expressions.Literal.{Literal}
-use Rattle.fir_ast.specs.Types.{uint}
+use Rattle.fir_ast.specs.Types.{DataType, uint, clock}
 use Rattle.fir_ast.specs.Expressions.{Expression, reference, literal, operation, mux, validif, Expressions, no_expressions, expression}
-use Rattle.fir_ast.specs.Statements.{Statement, node, connect, skip, Block, done, then}
+use Rattle.fir_ast.specs.Statements.{Statement, register, node, connect, skip, Block, done, then}
 use Rattle.fir_ast.specs.Circuits.{PortTree, ModuleTree, CircuitTree}
-use Rattle.fir_meaning.specs.Scopes.{output, Declared, Scope, look_up, types_of_each, declares, port_declared, scope_of}
-use Rattle.fir_meaning.specs.NameFaults.{is_readable}
+use Rattle.fir_meaning.specs.Scopes.{clock_input, output, register_value, is_readable, Declared, Scope, look_up, types_of_each, declares, port_declared, scope_of}
 use Rattle.fir_meaning.specs.DrivenFaults.{is_connected}
 use Rattle.fir_meaning.specs.Language.{counts, count, has_counts}
 
@@ -50,15 +50,32 @@ abbrev mutual
   AreClean scope no_expressions = Unit {0}
   AreClean scope (expression e es) = IsClean scope e × AreClean scope es
 
--- a declared output
-pub record IsOutput (scope : Scope) (name : List ℕ) : Type 0 where
+-- a declared output or register
+pub record IsSink (scope : Scope) (name : List ℕ) : Type 0 where
   pub declared : Declared
   pub found : look_up scope name ≡ Some declared
-  pub kind : declared.kind ≡ output
+  pub kind : (declared.kind ≡ output) ⊎ (declared.kind ≡ register_value)
+
+-- a name of a clock input
+pub record IsClockName (scope : Scope) (name : List ℕ) : Type 0 where
+  pub declared : Declared
+  pub found : look_up scope name ≡ Some declared
+  pub kind : declared.kind ≡ clock_input
+
+abbrev pub IsClock : Scope → Expression → Type 0
+IsClock scope (reference p n ps) = IsClockName scope n
+IsClock scope _ = ⊥
+
+-- a UInt of at most 128 bits, whose width is written
+pub record IsNarrow (t : DataType) : Type 0 where
+  pub width : ℕ
+  pub type : t ≡ uint (Some width)
+  pub narrow : width ≤ 128
 
 abbrev pub IsCleanStatement : Scope → Statement → Type 0
+IsCleanStatement scope (register p n t c r) = (look_up scope n.name ≡ None) × IsNarrow t × IsClock scope c × (r ≡ None)
 IsCleanStatement scope (node p n e) = (look_up scope n.name ≡ None) × IsClean scope e
-IsCleanStatement scope (connect p sink e) = IsOutput scope sink.name × IsClean scope e
+IsCleanStatement scope (connect p sink e) = IsSink scope sink.name × IsClean scope e
 IsCleanStatement scope (skip p) = Unit {0}
 IsCleanStatement scope _ = ⊥
 
@@ -66,11 +83,14 @@ abbrev pub AreCleanStatements : Scope → Block → Type 0
 AreCleanStatements scope done = Unit {0}
 AreCleanStatements scope ((then) s b) = IsCleanStatement scope s × AreCleanStatements (scope ++ declares 0 scope s) b
 
--- a port of a UInt of at most 128 bits, with a new name
+-- a port of a UInt of at most 128 bits, or a clock that is an input
+abbrev pub IsPortType : Direction → DataType → Type 0
+IsPortType direction.Input clock = Unit {0}
+IsPortType d t = IsNarrow t
+
+-- a port with a new name
 pub record IsCleanPort (scope : Scope) (p : PortTree) : Type 0 where
-  pub width : ℕ
-  pub type : p.data_type ≡ uint (Some width)
-  pub narrow : width ≤ 128
+  pub type : IsPortType p.direction p.data_type
   pub new : look_up scope p.named.name ≡ None
 
 abbrev pub AreCleanPorts : Scope → List PortTree → Type 0

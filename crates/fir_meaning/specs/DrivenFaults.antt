@@ -1,4 +1,5 @@
--- E24, an output that no connect reaches (FIRRTL spec, "Initialization of Components"). Without whens there is one choice, which lists nothing.
+-- E24, an output that no connect reaches (FIRRTL spec, "Initialization of Components"). Without whens there is one choice, which lists nothing. A
+-- register without a connect holds its value.
 use Rattle.std.specs.Prelude.{ℕ, List, [], ◌∷◌, flat_map, Bool, false, ◌||◌, if◌then◌else◌}
 use Rattle.std.specs.Str.{bytes_eq}
 use Rattle.fir_base.specs.declared.direction.Direction.{Direction}

@@ -1,6 +1,5 @@
 -- The faults that a circuit shows, behind those of its text, and the first of them.
--- They go in groups: E08 and E09; E10; E14; E19; E21; E24. Within a group they go in the order of the text. No expression of the language so far has a
--- wrong kind, so that E12 and E13 show nothing.
+-- They go in groups: E08 and E09; E10; E12 to E14; E19; E21; E24. Within a group they go in the order of the text.
 use Rattle.std.specs.Prelude.{◌≡◌, ℕ, List, [], ◌∷◌, ◌++◌, flat_map, Bool, false, ◌||◌, if◌then◌else◌}
 use Rattle.std.specs.Str.{bytes_eq}
 use Rattle.fir_base.specs.Lists.{In}
@@ -9,7 +8,7 @@ use Rattle.fir_ast.specs.declared.fault.FirFault.TheVariants.{NoModule}
 use Rattle.fir_ast.specs.Circuits.{ModuleTree, CircuitTree}
 use Rattle.fir_meaning.specs.FaultRules.{faults_by}
 use Rattle.fir_meaning.specs.NameFaults.{name_rule}
-use Rattle.fir_meaning.specs.FlowFaults.{flow_rule}
+use Rattle.fir_meaning.specs.TypeFaults.{type_rule}
 use Rattle.fir_meaning.specs.WidthFaults.{width_rule}
 use Rattle.fir_meaning.specs.LegalityFaults.{legality_rule}
 use Rattle.fir_meaning.specs.DrivenFaults.{undriven}
@@ -24,7 +23,7 @@ main_faults c = if is_module c.modules c.named.name then [] else NoModule c.name
 
 abbrev pub faults : CircuitTree → List FirFault
 faults c =
-    flat_map (faults_by name_rule) c.modules ++ main_faults c ++ flat_map (faults_by flow_rule) c.modules ++ flat_map (faults_by width_rule) c.modules
+    flat_map (faults_by name_rule) c.modules ++ main_faults c ++ flat_map (faults_by type_rule) c.modules ++ flat_map (faults_by width_rule) c.modules
     ++ flat_map (faults_by legality_rule) c.modules ++ flat_map undriven c.modules
 
 abbrev pub Shown : CircuitTree → FirFault → Type 0

@@ -1,13 +1,16 @@
 -- The circuits that have a meaning so far.
--- One module, with ports of a `UInt` whose width is written, and as statements `node`, a connect of a name, and `skip`. An expression is a name, a
--- literal of a `UInt` whose width is written, or `not`, `and`, `or`, `xor`, `cat` or `bits` of such.
-use Rattle.std.specs.Prelude.{ℕ, ◌+◌, List, [], ◌∷◌, Bool, true, false, not, ◌&&◌, ◌==◌, length, Option, Some, None}
+-- One module, with ports of a `UInt` whose width is written and inputs of a `Clock`, and as statements `node`, `reg` of such a `UInt` without a reset, a
+-- connect of a name, and `skip`. An expression is a name, a literal of a `UInt` whose width is written, or `not`, `and`, `or`, `xor`, `cat` or `bits` of
+-- such.
+use Rattle.std.specs.Prelude.{ℕ, ◌+◌, List, [], ◌∷◌, Bool, true, false, not, ◌&&◌, ◌==◌, length, Option, Some, None, is_none}
 use Rattle.fir_bits.specs.declared.operators.PrimOp.{PrimOp}
 use Rattle.fir_bits.specs.declared.operators.PrimOp.TheVariants as op
 use Rattle.fir_ast.specs.declared.expressions.Literal.{Literal}
-use Rattle.fir_ast.specs.Types.{DataType, uint}
+use Rattle.fir_base.specs.declared.direction.Direction.{Direction}
+use Rattle.fir_base.specs.declared.direction.Direction.TheVariants as direction
+use Rattle.fir_ast.specs.Types.{DataType, uint, clock}
 use Rattle.fir_ast.specs.Expressions.{Expression, reference, literal, operation, mux, validif, Parts, no_parts, Expressions, no_expressions, expression}
-use Rattle.fir_ast.specs.Statements.{Statement, node, connect, skip, Block, done, then}
+use Rattle.fir_ast.specs.Statements.{Statement, register, node, connect, skip, Block, done, then}
 use Rattle.fir_ast.specs.Circuits.{PortTree, ModuleTree, CircuitTree}
 
 abbrev pub is_plain : Parts → Bool
@@ -51,7 +54,12 @@ abbrev mutual
   are_expressions no_expressions = true
   are_expressions (expression e es) = is_expression e && are_expressions es
 
+abbrev pub is_register_type : DataType → Bool
+is_register_type (uint width) = is_written width
+is_register_type _ = false
+
 abbrev pub is_statement : Statement → Bool
+is_statement (register p n t c r) = is_register_type t && (is_expression c && is_none r)
 is_statement (node p n e) = is_expression e
 is_statement (connect p sink e) = is_plain sink.parts && is_expression e
 is_statement (skip p) = true
@@ -61,13 +69,14 @@ abbrev pub are_statements : Block → Bool
 are_statements done = true
 are_statements ((then) s b) = is_statement s && are_statements b
 
-abbrev pub is_port_type : DataType → Bool
-is_port_type (uint width) = is_written width
-is_port_type _ = false
+abbrev pub is_port_type : Direction → DataType → Bool
+is_port_type d (uint width) = is_written width
+is_port_type direction.Input clock = true
+is_port_type _ _ = false
 
 abbrev pub are_ports : List PortTree → Bool
 are_ports [] = true
-are_ports (p ∷ ps) = is_port_type p.data_type && are_ports ps
+are_ports (p ∷ ps) = is_port_type p.direction p.data_type && are_ports ps
 
 abbrev pub is_module : ModuleTree → Bool
 is_module m = are_ports m.ports && are_statements m.body

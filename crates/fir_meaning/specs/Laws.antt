@@ -9,8 +9,7 @@ use Rattle.fir_ast.specs.Expressions.{Expression}
 use Rattle.fir_ast.specs.Statements.{Sink, connect}
 use Rattle.fir_ast.specs.Circuits.{CircuitTree}
 use Rattle.fir_meaning.specs.Paths.{Path, Values, Store}
-use Rattle.fir_meaning.specs.Scopes.{Declared, Scope, look_up, types}
-use Rattle.fir_meaning.specs.NameFaults.{is_readable}
+use Rattle.fir_meaning.specs.Scopes.{is_readable, Declared, Scope, look_up, types}
 use Rattle.fir_meaning.specs.Clean.{IsClean, IsCleanCircuit}
 use Rattle.fir_meaning.specs.Eval.{eval}
 use Rattle.fir_meaning.specs.Exec.{fit, exec}

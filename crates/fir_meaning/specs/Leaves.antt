@@ -1,12 +1,12 @@
 -- The leaves of a circuit (FIRRTL spec, "Types", "Flow").
-use Rattle.std.specs.Prelude.{ℕ, List, [], ◌∷◌, ◌++◌, map, flat_map, nat_eq, if◌then◌else◌, Option, Some, None}
+use Rattle.std.specs.Prelude.{ℕ, List, [], ◌∷◌, ◌++◌, map, flat_map, length, nat_eq, if◌then◌else◌, Option, Some, None}
 use Rattle.std.specs.Str.{bytes_eq}
 use Rattle.fir_base.specs.Ticks.{Shape}
 use Rattle.fir_bits.specs.declared.types.NumTy.{NumTy}
 use Rattle.fir_ast.specs.Statements.{done}
 use Rattle.fir_ast.specs.Circuits.{ModuleTree, CircuitTree}
 use Rattle.fir_meaning.specs.Paths.{Path}
-use Rattle.fir_meaning.specs.Scopes.{Kind, input, output, Declared, Scope, look_up, scope_of}
+use Rattle.fir_meaning.specs.Scopes.{Kind, input, clock_input, output, register_value, Declared, Scope, look_up, scope_of}
 
 -- a leaf with its type, and the number of whens that stand round its declaration
 pub record Leaf : Type 0 where
@@ -37,8 +37,21 @@ main_module c = module_named c.named.name c.modules (record { named = c.named; p
 abbrev pub main_scope : CircuitTree → Scope
 main_scope c = scope_of (main_module c)
 
+-- a clock is no leaf of a value
+abbrev pub value_leaves : Kind → List Leaf → List Leaf
+value_leaves clock_input ls = []
+value_leaves _ ls = ls
+
 abbrev pub leaves : CircuitTree → List Leaf
-leaves c = flat_map (leaves_of []) (main_scope c)
+leaves c = flat_map (λ d. value_leaves d.kind (leaves_of [] d)) (main_scope c)
+
+abbrev pub clock_paths : Kind → List Path → List Path
+clock_paths clock_input xs = xs
+clock_paths _ xs = []
+
+-- the clocks, in port order
+abbrev pub clocks : CircuitTree → List Path
+clocks c = flat_map (λ d. clock_paths d.kind ((d.named.name ∷ []) ∷ [])) (main_scope c)
 
 abbrev pub input_leaves : Kind → List Leaf → List Leaf
 input_leaves input ls = ls
@@ -48,7 +61,11 @@ abbrev pub output_leaves : Kind → List Leaf → List Leaf
 output_leaves output ls = ls
 output_leaves _ ls = []
 
--- the leaves that a circuit drives
+abbrev pub register_leaves : Kind → List Leaf → List Leaf
+register_leaves register_value ls = ls
+register_leaves _ ls = []
+
+-- the leaves that a circuit must drive
 abbrev pub sinks : CircuitTree → List Leaf
 sinks c = flat_map (λ d. output_leaves d.kind (leaves_of [] d)) (main_scope c)
 
@@ -62,12 +79,15 @@ inputs c = flat_map with_bits (flat_map (λ d. input_leaves d.kind (leaves_of []
 abbrev pub outputs : CircuitTree → List Leaf
 outputs c = flat_map with_bits (sinks c)
 
+-- the registers, whose words are the state, in text order
+abbrev pub state_leaves : CircuitTree → List Leaf
+state_leaves c = flat_map with_bits (flat_map (λ d. register_leaves d.kind (leaves_of [] d)) (main_scope c))
+
 abbrev pub paths : List Leaf → List Path
 paths = map (λ l. l.path)
 
 abbrev pub widths : List Leaf → List ℕ
 widths = map (λ l. l.holds.width)
 
--- no clocks and no state are in the language yet
 abbrev pub shape : CircuitTree → Shape
-shape c = record { inputs = widths (inputs c); clocks = 0; state = [] }
+shape c = record { inputs = widths (inputs c); clocks = length (clocks c); state = widths (state_leaves c) }

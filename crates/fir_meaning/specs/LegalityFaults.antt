@@ -5,7 +5,7 @@ use Rattle.fir_ast.specs.declared.place.Place.{Place}
 use Rattle.fir_ast.specs.declared.fault.FirFault.{FirFault}
 use Rattle.fir_ast.specs.declared.fault.FirFault.TheVariants.{Legality, LiteralLegality}
 use Rattle.fir_ast.specs.declared.expressions.Literal.{Literal}
-use Rattle.fir_ast.specs.Statements.{Statement, node, connect}
+use Rattle.fir_ast.specs.Statements.{Statement, register, node, connect}
 use Rattle.fir_bits.specs.declared.operators.PrimOp.{PrimOp}
 use Rattle.fir_bits.specs.declared.types.NumTy.{NumTy}
 use Rattle.fir_bits.specs.declared.types.OpFault.{OpFault}
@@ -29,6 +29,7 @@ legality_in_expression = record { of_reference = λ scope p name. []; of_literal
 
 abbrev pub legality_in_statement : Scope → Statement → List FirFault
 legality_in_statement scope (node p n e) = within legality_in_expression scope e
+legality_in_statement scope (register p n t c r) = within legality_in_expression scope c
 legality_in_statement scope (connect p sink e) = within legality_in_expression scope e
 legality_in_statement scope _ = []
 

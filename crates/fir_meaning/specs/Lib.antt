@@ -6,10 +6,11 @@ pub mod Leaves
 pub mod Eval
 pub mod Exec
 pub mod Settled
+pub mod Next
 pub mod Allows
 pub mod FaultRules
 pub mod NameFaults
-pub mod FlowFaults
+pub mod TypeFaults
 pub mod WidthFaults
 pub mod LegalityFaults
 pub mod DrivenFaults

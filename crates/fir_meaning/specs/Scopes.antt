@@ -1,28 +1,41 @@
--- What a module declares (FIRRTL spec, "Ports", "Nodes", "Width Inference").
--- Names are visible behind their declaration. A port has the width that is written; a node has that of its expression.
-use Rattle.std.specs.Prelude.{ℕ, List, [], ◌∷◌, ◌++◌, map, true, false, if◌then◌else◌, Option, Some, None, option_map, unwrap_or}
+-- What a module declares (FIRRTL spec, "Ports", "Nodes", "Registers", "Width Inference").
+-- Names are visible behind their declaration. A port and a register have the width that is written; a node has that of its expression.
+use Rattle.std.specs.Prelude.{ℕ, List, [], ◌∷◌, ◌++◌, map, Bool, true, false, ◌&&◌, if◌then◌else◌, Option, Some, None, is_some, option_map, unwrap_or}
 use Rattle.std.specs.Str.{bytes_eq}
 use Rattle.fir_base.specs.declared.direction.Direction.{Direction}
 use Rattle.fir_base.specs.declared.direction.Direction.TheVariants as direction
 use Rattle.fir_bits.specs.declared.types.NumTy.{NumTy}
 use Rattle.fir_bits.specs.Forms.{first_type, no_type}
 use Rattle.fir_ast.specs.declared.expressions.Literal.{Literal}
-use Rattle.fir_ast.specs.Types.{DataType, uint, sint}
+use Rattle.fir_ast.specs.declared.types.Ty.{Ty}
+use Rattle.fir_ast.specs.declared.types.Ty.TheVariants.{UInt, Clock}
+use Rattle.fir_ast.specs.Types.{DataType, uint, sint, clock}
 use Rattle.fir_ast.specs.Expressions.{Expression, reference, literal, operation, mux, validif, Expressions, no_expressions, expression}
-use Rattle.fir_ast.specs.Statements.{Named, Statement, node, Block, done, then}
+use Rattle.fir_ast.specs.Statements.{Named, Statement, register, node, Block, done, then}
 use Rattle.fir_ast.specs.Circuits.{PortTree, ModuleTree}
 use Rattle.fir_meaning.specs.Operations.{counted, operation_type}
 
 pub data Kind : Type 0 where
   input : Kind
+  clock_input : Kind
   output : Kind
   node_value : Kind
+  register_value : Kind
 
--- a declared component, with the number of whens that stand round its declaration
+-- what may be read in an expression: an output and a clock have no meaning there yet
+abbrev pub is_readable : Kind → Bool
+is_readable input = true
+is_readable clock_input = false
+is_readable output = false
+is_readable node_value = true
+is_readable register_value = true
+
+-- a declared component: the type that its leaf holds, counted, and as faults print it; and the number of whens that stand round its declaration
 pub record Declared : Type 0 where
   pub named : Named
   pub kind : Kind
   pub holds : NumTy
+  pub printed : Option Ty
   pub depth : ℕ
 
 -- the declarations in text order
@@ -41,7 +54,7 @@ type_in scope name = unwrap_or (option_map (λ d. d.holds) (look_up scope name))
 abbrev pub literal_type : Literal → NumTy
 literal_type l = record { signed = l.signed; width = counted (unwrap_or l.width 0) }
 
--- the types of the leaves of an expression
+-- the types of the leaves of an expression, counted
 abbrev mutual
   pub types : Scope → Expression → List NumTy
   types scope (reference p n ps) = type_in scope n ∷ []
@@ -54,26 +67,72 @@ abbrev mutual
   types_of_each scope no_expressions = []
   types_of_each scope (expression e es) = types scope e ++ types_of_each scope es
 
--- what a statement declares, within so many whens
-abbrev pub declares : ℕ → Scope → Statement → Scope
-declares depth scope (node p n e) = record { named = n; kind = node_value; holds = first_type (types scope e); depth = depth } ∷ []
-declares depth scope _ = []
+abbrev pub readable_type : Kind → Option Ty → Option Ty
+readable_type kind t = if is_readable kind then t else None
 
-abbrev pub behind : ℕ → Scope → Block → Scope
-behind depth scope done = scope
-behind depth scope ((then) s b) = behind depth (scope ++ declares depth scope s) b
+abbrev pub type_read : Option Declared → Option Ty
+type_read None = None
+type_read (Some d) = readable_type d.kind d.printed
 
-abbrev pub port_kind : Direction → Kind
-port_kind direction.Input = input
-port_kind direction.Output = output
+-- the type of an operation, where its operands have types
+abbrev pub operation_printed : Bool → Option Ty
+operation_printed true = Some (UInt None)
+operation_printed false = None
+
+-- the type of an expression, as faults print it: with the width that is written at the declaration or the literal, and none for an operation. What may
+-- not be read has none, and nothing that is made of it.
+abbrev mutual
+  pub printed_type : Scope → Expression → Option Ty
+  printed_type scope (reference p n ps) = type_read (look_up scope n)
+  printed_type scope (literal l) = Some (UInt l.width)
+  printed_type scope (operation p op es ks) = operation_printed (have_types scope es)
+  printed_type scope (mux p c a b) = None
+  printed_type scope (validif p c a) = None
+
+  pub have_types : Scope → Expressions → Bool
+  have_types scope no_expressions = true
+  have_types scope (expression e es) = is_some (printed_type scope e) && have_types scope es
 
 abbrev pub written_type : DataType → NumTy
 written_type (uint width) = record { signed = false; width = counted (unwrap_or width 0) }
 written_type (sint width) = record { signed = true; width = counted (unwrap_or width 0) }
 written_type _ = no_type
 
+-- a written type as faults print it; other types are not in the language yet
+abbrev pub written_printed : DataType → Option Ty
+written_printed (uint width) = Some (UInt width)
+written_printed clock = Some Clock
+written_printed _ = None
+
+-- what a statement declares, within so many whens
+abbrev pub declares : ℕ → Scope → Statement → Scope
+declares depth scope (node p n e) =
+    record { named = n; kind = node_value; holds = first_type (types scope e); printed = printed_type scope e; depth = depth } ∷ []
+declares depth scope (register p n t c r) =
+    record { named = n; kind = register_value; holds = written_type t; printed = written_printed t; depth = depth } ∷ []
+declares depth scope _ = []
+
+abbrev pub behind : ℕ → Scope → Block → Scope
+behind depth scope done = scope
+behind depth scope ((then) s b) = behind depth (scope ++ declares depth scope s) b
+
+abbrev pub input_kind : DataType → Kind
+input_kind clock = clock_input
+input_kind _ = input
+
+abbrev pub port_kind : Direction → DataType → Kind
+port_kind direction.Input t = input_kind t
+port_kind direction.Output t = output
+
 abbrev pub port_declared : PortTree → Declared
-port_declared p = record { named = p.named; kind = port_kind p.direction; holds = written_type p.data_type; depth = 0 }
+port_declared p =
+    record {
+      named = p.named;
+      kind = port_kind p.direction p.data_type;
+      holds = written_type p.data_type;
+      printed = written_printed p.data_type;
+      depth = 0;
+    }
 
 abbrev pub scope_of : ModuleTree → Scope
 scope_of m = behind 0 (map port_declared m.ports) m.body

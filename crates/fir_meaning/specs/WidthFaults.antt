@@ -1,9 +1,9 @@
--- E19, a leaf or an expression of more than 128 bits (FIRRTL spec, "Width Inference"). A node's leaf stands before its expression.
+-- E19, a leaf or an expression of more than 128 bits (FIRRTL spec, "Width Inference"). The leaf of a node or register stands before its expression.
 use Rattle.std.specs.Prelude.{ℕ, List, [], ◌∷◌, ◌++◌, codes, if◌then◌else◌}
 use Rattle.fir_ast.specs.declared.place.Place.{Place}
 use Rattle.fir_ast.specs.declared.fault.FirFault.{FirFault}
 use Rattle.fir_ast.specs.declared.fault.FirFault.TheVariants.{Over}
-use Rattle.fir_ast.specs.Statements.{Statement, node, connect}
+use Rattle.fir_ast.specs.Statements.{Statement, register, node, connect}
 use Rattle.fir_bits.specs.Forms.{first_type}
 use Rattle.fir_meaning.specs.Operations.{is_over, operation_type}
 use Rattle.fir_meaning.specs.OperatorWords.{operator_word}
@@ -23,6 +23,7 @@ widths_in_expression =
 
 abbrev pub widths_in_statement : Scope → Statement → List FirFault
 widths_in_statement scope (node p n e) = over_width (first_type (types scope e)).width n.place n.name ++ within widths_in_expression scope e
+widths_in_statement scope (register p n t c r) = over_width (written_type t).width n.place n.name ++ within widths_in_expression scope c
 widths_in_statement scope (connect p sink e) = within widths_in_expression scope e
 widths_in_statement scope _ = []
 

@@ -1,5 +1,6 @@
 pub mod Values
 pub mod Settled
+pub mod Next
 pub mod Allows
 pub mod IsNet
 pub mod Names

@@ -14,7 +14,7 @@ mod numbered;
 mod reads;
 
 pub use name_table::{NameTable, names};
-pub use net::{FlatNet, Leaf, Node, Operation, Role};
+pub use net::{FlatNet, Leaf, Node, Operation, Register, Role};
 pub use reads::{Read, Reads};
 
 #[cfg(test)]

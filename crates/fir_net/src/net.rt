@@ -20,16 +20,29 @@ pub enum Node {
     Operation(Operation),
 }
 
+/// A register.
+#[derive(Clone, Copy, Debug, PartialEq, Eq)]
+pub struct Register {
+    /// The number of the clock's leaf.
+    pub clock: usize,
+    /// What it takes at an edge of the clock, fitted to its width; without it, it holds its value.
+    pub next: Option<Read>,
+}
+
 /// What gives a leaf its value.
 #[derive(Clone, Copy, Debug, PartialEq, Eq)]
 pub enum Role {
     /// The tick.
     Input,
+    /// A clock of the tick.
+    Clock,
     /// What the circuit drives it with, which is fitted to the leaf's width.
     Output(Read),
+    /// The state.
+    Register(Register),
 }
 
-/// A leaf: a port, with its width in bits.
+/// A leaf: a port or a register, with its width in bits, which is 1 for a clock.
 #[derive(Drop)]
 pub struct Leaf {
     /// Its path, with `_` between the parts.
@@ -38,8 +51,8 @@ pub struct Leaf {
     pub role: Role,
 }
 
-/// A net: the circuit's name, the leaves in the order of the ports, and the nodes, each behind those that
-/// it reads.
+/// A net: the circuit's name, the leaves, which are the ports in their order and then the registers in the
+/// order of the state, and the nodes, each behind those that it reads.
 #[derive(Drop)]
 pub struct FlatNet {
     pub name: Name,

@@ -1,0 +1,73 @@
+-- E12, what is no clock behind a register's comma; E13, a connect whose source does not fit its sink; E14, a connect that drives a source
+-- (FIRRTL spec, "Registers", "Type Equivalence", "Flow"): input ports and nodes are sources.
+-- A fault is shown only where the expressions have types.
+use Rattle.std.specs.Prelude.{ℕ, List, [], ◌∷◌, Bool, true, false, if◌then◌else◌, Option, Some, None}
+use Rattle.fir_ast.specs.declared.place.Place.{Place}
+use Rattle.fir_ast.specs.declared.types.Ty.{Ty}
+use Rattle.fir_ast.specs.declared.types.Ty.TheVariants.{UInt, Clock}
+use Rattle.fir_ast.specs.declared.fault.FirFault.{FirFault}
+use Rattle.fir_ast.specs.declared.fault.FirFault.TheVariants.{Kinds, Types, Flow}
+use Rattle.fir_ast.specs.Expressions.{Expression, reference, literal, operation, mux, validif}
+use Rattle.fir_ast.specs.Statements.{Statement, register, connect}
+use Rattle.fir_meaning.specs.Scopes.{Kind, input, clock_input, output, node_value, register_value, Declared, Scope, look_up, readable_type, printed_type}
+use Rattle.fir_meaning.specs.FaultRules.{Rule}
+
+abbrev pub place_of : Expression → Place
+place_of (reference p n ps) = p
+place_of (literal l) = l.place
+place_of (operation p op es ks) = p
+place_of (mux p c a b) = p
+place_of (validif p c a) = p
+
+-- the type of a name behind a register's comma
+abbrev pub clock_read : Kind → Option Ty → Option Ty
+clock_read clock_input t = t
+clock_read kind t = readable_type kind t
+
+abbrev pub clock_found : Option Declared → Option Ty
+clock_found None = None
+clock_found (Some d) = clock_read d.kind d.printed
+
+abbrev pub clock_type : Scope → Expression → Option Ty
+clock_type scope (reference p n ps) = clock_found (look_up scope n)
+clock_type scope e = printed_type scope e
+
+abbrev pub is_clock : Ty → Bool
+is_clock Clock = true
+is_clock _ = false
+
+abbrev pub no_clock : Option Ty → Place → List FirFault
+no_clock None p = []
+no_clock (Some t) p = if is_clock t then [] else Kinds p (t ∷ []) ∷ []
+
+abbrev pub is_source : Kind → Bool
+is_source input = true
+is_source clock_input = true
+is_source output = false
+is_source node_value = true
+is_source register_value = false
+
+-- clocks fit clocks, and a UInt one of any width
+abbrev pub is_equivalent : Ty → Ty → Bool
+is_equivalent Clock t = is_clock t
+is_equivalent s Clock = false
+is_equivalent s t = true
+
+abbrev pub driven : Kind → Place → List ℕ → List FirFault
+driven kind p name = if is_source kind then Flow p name ∷ [] else []
+
+abbrev pub connected : Kind → Place → List ℕ → Option Ty → Option Ty → List FirFault
+connected kind p name (Some s) (Some t) = if is_equivalent s t then driven kind p name else Types p s t ∷ []
+connected kind p name _ _ = []
+
+abbrev pub connect_types : Option Declared → Place → List ℕ → Option Ty → List FirFault
+connect_types None p name source = []
+connect_types (Some d) p name source = connected d.kind p name d.printed source
+
+abbrev pub types_in_statement : Scope → Statement → List FirFault
+types_in_statement scope (register p n t c r) = no_clock (clock_type scope c) (place_of c)
+types_in_statement scope (connect p sink e) = connect_types (look_up scope sink.name) p sink.name (printed_type scope e)
+types_in_statement scope _ = []
+
+abbrev pub type_rule : Rule
+type_rule = record { of_port = λ scope p. []; of_statement = types_in_statement }
