@@ -9,11 +9,11 @@ use Rattle.ver_ast.specs.Allows.{VOne, VAllows, VRun}
 use Rattle.fir_ast.specs.Circuits.{CircuitTree}
 use Rattle.fir_meaning.specs.Leaves.{shape}
 use Rattle.fir_meaning.specs.Allows.{One, Allows, Run}
-use Rattle.fir_driver.specs.PortRows.{circuit_rows}
-use Rattle.fir_driver.specs.Named.{Named}
+use Rattle.ver_build.specs.Named.{Named}
+use Rattle.fir_driver.specs.CircuitRows.{circuit_rows, circuit_words}
 
 pub record Compiles (c : CircuitTree) (v : Verilog) : Type 0 where
-  pub named : Named c.named.name (circuit_rows c) v
+  pub named : Named c.named.name (circuit_rows c) (circuit_words c) v
   pub shapes : v_shape v ≡ shape c
   pub valid : Valid v
   pub one : One c

@@ -9,14 +9,10 @@ pub mod Firsts
 pub mod Tabulated
 pub mod AskedWidths
 pub mod Groups
-pub mod PortRows
-pub mod Named
+pub mod CircuitRows
 pub mod Lowered
 pub mod Tabled
 pub mod Lowers
-pub mod Built
-pub mod HeldView
-pub mod Builds
 pub mod Compiles
 pub mod Command
 pub mod Messages

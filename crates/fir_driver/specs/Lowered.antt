@@ -1,6 +1,6 @@
 -- The net of a circuit, as a function of its tree.
 -- Each operation and each literal has a node, in the order in which they are evaluated. A `node` of the circuit has none: it is a name for the value of
--- its expression. The last connect of an output drives it.
+-- its expression. A register is a leaf behind the ports. The last connect of an output or a register drives it.
 use Rattle.std.specs.Prelude.{ℕ, ◌+◌, ◌^◌, List, [], ◌∷◌, ◌++◌, length, map, Bool, false, ◌&&◌, nat_le, nat_lt, if◌then◌else◌, Option, Some, None, unwrap_or, Result, Ok, Err}
 use Rattle.std.specs.Str.{bytes_eq}
 use Rattle.fir_base.specs.declared.direction.Direction.{Direction}
@@ -11,9 +11,9 @@ use Rattle.fir_bits.specs.declared.operators.PrimOp.{PrimOp}
 use Rattle.fir_bits.specs.declared.types.NumTy.{NumTy}
 use Rattle.fir_bits.specs.declared.types.OpFault.{OpFault}
 use Rattle.fir_ast.specs.declared.expressions.Literal.{Literal}
-use Rattle.fir_ast.specs.Types.{DataType, uint}
+use Rattle.fir_ast.specs.Types.{DataType, uint, clock}
 use Rattle.fir_ast.specs.Expressions.{Expression, reference, literal, operation, mux, validif, Expressions, no_expressions, expression}
-use Rattle.fir_ast.specs.Statements.{Statement, node, connect, Block, done, then}
+use Rattle.fir_ast.specs.Statements.{Statement, register, node, connect, Block, done, then}
 use Rattle.fir_ast.specs.Circuits.{PortTree, ModuleTree, CircuitTree}
 use Rattle.fir_net.specs.declared.reads.Read.{Read}
 use Rattle.fir_net.specs.declared.reads.Read.TheVariants as read
@@ -94,42 +94,81 @@ pub record Driver : Type 0 where
   pub source : Read
 
 -- the last driver of a sink, which stands first
-abbrev pub driver_of : List Driver → List ℕ → Read
-driver_of [] sink = read.Leaf 0
-driver_of (d ∷ rest) sink = if bytes_eq d.sink sink then d.source else driver_of rest sink
+abbrev pub driver_of : List Driver → List ℕ → Option Read
+driver_of [] sink = None
+driver_of (d ∷ rest) sink = if bytes_eq d.sink sink then Some d.source else driver_of rest sink
 
--- what stands behind a part of the body
+-- a register: its name, its width, and the number of its clock's leaf
+pub record RegisterLeaf : Type 0 where
+  pub name : List ℕ
+  pub width : ℕ
+  pub clock : ℕ
+
+-- what stands behind a part of the body, in a module of so many ports
 pub record Lowering : Type 0 where
+  pub ports : ℕ
   pub bindings : List Binding
   pub nodes : List Node
   pub drivers : List Driver
+  pub registers : List RegisterLeaf
 
-abbrev pub with_statement : Lowering → Statement → Lowering
-with_statement l (node p n e) =
+-- a width of a port or register that is over 128 counts as none; a clock is one bit wide
+abbrev pub leaf_width : DataType → ℕ
+leaf_width (uint (Some w)) = if nat_le w 128 then w else 0
+leaf_width clock = 1
+leaf_width _ = 0
+
+abbrev pub leaf_number : Read → ℕ
+leaf_number (read.Leaf k) = k
+leaf_number (read.Node k) = 0
+
+-- the leaf of a clock that an expression names
+abbrev pub clock_number : List Binding → Expression → ℕ
+clock_number bs (reference p n ps) = leaf_number (bound_of bs n).read
+clock_number bs _ = 0
+
+abbrev pub with_register : Lowering → List ℕ → DataType → Expression → Lowering
+with_register l name t c =
     record {
-      bindings = record { name = n.name; bound = bound_with l.bindings l.nodes e } ∷ l.bindings;
+      ports = l.ports;
+      bindings = record { name = name; bound = record { read = read.Leaf (l.ports + length l.registers); width = leaf_width t } } ∷ l.bindings;
+      nodes = l.nodes;
+      drivers = l.drivers;
+      registers = l.registers ++ record { name = name; width = leaf_width t; clock = clock_number l.bindings c } ∷ [];
+    }
+
+abbrev pub with_node : Lowering → List ℕ → Expression → Lowering
+with_node l name e =
+    record {
+      ports = l.ports;
+      bindings = record { name = name; bound = bound_with l.bindings l.nodes e } ∷ l.bindings;
       nodes = nodes_with l.bindings l.nodes e;
       drivers = l.drivers;
+      registers = l.registers;
     }
-with_statement l (connect p sink e) =
+
+abbrev pub with_connect : Lowering → List ℕ → Expression → Lowering
+with_connect l sink e =
     record {
+      ports = l.ports;
       bindings = l.bindings;
       nodes = nodes_with l.bindings l.nodes e;
-      drivers = record { sink = sink.name; source = (bound_with l.bindings l.nodes e).read } ∷ l.drivers;
+      drivers = record { sink = sink; source = (bound_with l.bindings l.nodes e).read } ∷ l.drivers;
+      registers = l.registers;
     }
+
+abbrev pub with_statement : Lowering → Statement → Lowering
+with_statement l (register p n t c r) = with_register l n.name t c
+with_statement l (node p n e) = with_node l n.name e
+with_statement l (connect p sink e) = with_connect l sink.name e
 with_statement l _ = l
 
 abbrev pub with_body : Lowering → Block → Lowering
 with_body l done = l
 with_body l ((then) s b) = with_body (with_statement l s) b
 
--- a width of a port that is over 128 counts as none
-abbrev pub port_width : DataType → ℕ
-port_width (uint (Some w)) = if nat_le w 128 then w else 0
-port_width _ = 0
-
 abbrev pub input_binding : Direction → ℕ → PortTree → List Binding
-input_binding direction.Input k p = record { name = p.named.name; bound = record { read = read.Leaf k; width = port_width p.data_type } } ∷ []
+input_binding direction.Input k p = record { name = p.named.name; bound = record { read = read.Leaf k; width = leaf_width p.data_type } } ∷ []
 input_binding direction.Output k p = []
 
 -- the bindings of the inputs among ports that are numbered from k on
@@ -138,17 +177,28 @@ port_bindings bs k [] = bs
 port_bindings bs k (p ∷ ps) = port_bindings (input_binding p.direction k p ++ bs) (k + 1) ps
 
 abbrev pub lowering : ModuleTree → Lowering
-lowering m = with_body (record { bindings = port_bindings [] 0 m.ports; nodes = []; drivers = [] }) m.body
+lowering m = with_body (record { ports = length m.ports; bindings = port_bindings [] 0 m.ports; nodes = []; drivers = []; registers = [] }) m.body
 
-abbrev pub port_role : Direction → List Driver → List ℕ → Role
-port_role direction.Input drivers name = role.Input
-port_role direction.Output drivers name = role.Output (driver_of drivers name)
+abbrev pub input_role : DataType → Role
+input_role clock = role.Clock
+input_role _ = role.Input
+
+abbrev pub port_role : Direction → DataType → List Driver → List ℕ → Role
+port_role direction.Input t drivers name = input_role t
+port_role direction.Output t drivers name = role.Output (unwrap_or (driver_of drivers name) (read.Leaf 0))
 
 abbrev pub port_leaf : List Driver → PortTree → Leaf
-port_leaf drivers p = record { name = p.named.name; width = port_width p.data_type; role = port_role p.direction drivers p.named.name }
+port_leaf drivers p = record { name = p.named.name; width = leaf_width p.data_type; role = port_role p.direction p.data_type drivers p.named.name }
+
+abbrev pub register_leaf : List Driver → RegisterLeaf → Leaf
+register_leaf drivers r =
+    record { name = r.name; width = r.width; role = role.Register (record { clock = r.clock; next = driver_of drivers r.name }) }
+
+abbrev pub leaves_of : Lowering → List PortTree → List Leaf
+leaves_of l ps = map (port_leaf l.drivers) ps ++ map (register_leaf l.drivers) l.registers
 
 abbrev pub lowered_module : List ℕ → ModuleTree → FlatNet
-lowered_module name m = record { name = name; leaves = map (port_leaf (lowering m).drivers) m.ports; nodes = (lowering m).nodes }
+lowered_module name m = record { name = name; leaves = leaves_of (lowering m) m.ports; nodes = (lowering m).nodes }
 
 -- the first module is lowered
 abbrev pub lowered_first : List ℕ → List ModuleTree → FlatNet

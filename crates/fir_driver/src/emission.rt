@@ -8,7 +8,6 @@ ghost use Rattle.fir_driver.specs.HasWords.{HasWords};
 ghost use Rattle.fir_driver.specs.Compiles.{Compiles};
 ghost use Rattle.fir_driver.specs.Readings.{IsEmitted};
 
-use crate::building::build;
 use crate::laws::spelled_names_are_words;
 use crate::lowering::lower;
 use crate::reader::read_circuit;
@@ -17,6 +16,7 @@ use fir_base::{MemoryOut, Refused};
 use fir_meaning::faultless_has_one;
 use std::alloc::Global;
 use ver_ast::{Verilog, valid_has_one};
+use ver_build::build;
 use ver_emit::{layout_is_spelled, write_verilog};
 
 /// What a circuit without faults compiles to.

@@ -1,11 +1,10 @@
 //! What the program does. `run` is the one call that it makes: it reads the words, reads the file that they
 //! name, and emits its circuit as Verilog or says why not. The way of a circuit is `reader` (which reads by
-//! fir_lex and fir_parse, and asks `lacking` and `check`), `lower`, `build`, then the writer of ver_emit;
-//! `emission` joins them, and `run` carries the theorem from the bytes of the file to the bytes that are
-//! written (`specs/`: Lacking, Checks, Lowers, Builds, Compiles, Emits, Refusals, Headline, Complete).
+//! fir_lex and fir_parse, and asks `lacking` and `check`), `lower`, then `build` of ver_build and the writer of
+//! ver_emit; `emission` joins them, and `run` carries the theorem from the bytes of the file to the bytes
+//! that are written (`specs/`: Lacking, Checks, Lowers, Compiles, Emits, Refusals, Headline, Complete).
 #![tactic(auto)]
 
-mod building;
 mod check;
 mod command;
 mod emission;
@@ -19,7 +18,6 @@ mod reader;
 mod spot;
 mod status;
 
-pub use building::build;
 pub use check::check_small;
 pub use command::named_file;
 pub use emission::compile;

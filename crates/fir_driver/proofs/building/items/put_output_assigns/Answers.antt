@@ -1,9 +1,0 @@
-use Rattle.fir_net.specs.declared.net.Leaf.{Leaf}
-use Rattle.fir_driver.specs.Built.{leaf_assign}
-use Rattle.fir_driver.proofs.BuiltLists.{put_more}
-use Rattle.fir_driver.proofs.building.items.put_output_assigns.Goals as goal
-
-pub loop-k-preserved : goal.loop-k-preserved
-loop-k-preserved c =
-    put_more (λ (l : Leaf). leaf_assign c.args.net.now c.args.table.now l.role l.width) c.args.table.now.leaves c.as_slice-leaves.result.now c.loop-k.k c.index-leaves-k.result _ c.args.items.now.items _ _
-    c.loop-k-test.true c.index-leaves-k.is c.leaf.ensures c.loop-k.invariant c.in_ok-put_output_assign.ensures

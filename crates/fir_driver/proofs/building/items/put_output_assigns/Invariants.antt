@@ -1,6 +1,0 @@
-use Rattle.std.proofs.Common.{◌≡◌, ◌++◌, take}
-use Rattle.fir_driver.specs.Built.{leaf_assign, along}
-use Rattle.fir_driver.proofs.building.items.put_output_assigns.Given as goal
-
-abbrev pub invariant-loop-k : goal.invariant-loop-k
-invariant-loop-k l = l.items.items ≡ l.initial.items.items ++ along (λ x. leaf_assign l.net l.table x.role x.width) l.table.leaves 0 (take l.k l.leaves)

@@ -1,0 +1,28 @@
+-- What is built along the leaves or the nodes, with one more.
+use Rattle.std.proofs.Common.{◌≡◌, ℕ, ◌+◌, ◌<◌, List, [], ◌∷◌, ◌++◌, Option, take, length, get_or, sym, ap, ◌∙◌, append_assoc, append-nil, arith, length-take}
+use Rattle.std.proofs.lemmas.List.{take_more}
+use Rattle.ver_build.specs.Built.{name_at, along}
+
+along_push : {A B : Type 0} → (f : A → Option (List ℕ) → List B) (names : List (Option (List ℕ))) (k : ℕ) (xs : List A) (x : A)
+    → along f names k (xs ++ x ∷ []) ≡ along f names k xs ++ f x (name_at names (k + length xs))
+along_push f names k [] x = let e : k ≡ k + 0 = omega arith in append-nil (f x (name_at names k)) ∙ ap (λ j. f x (name_at names j)) e
+along_push f names k (y ∷ xs) x =
+    let e : (k + 1) + length xs ≡ k + length (y ∷ xs) = omega arith in
+    ap (λ l. f y (name_at names k) ++ l) (along_push f names (k + 1) xs x ∙ ap (λ j. along f names (k + 1) xs ++ f x (name_at names j)) e)
+    ∙ sym (append_assoc (f y (name_at names k)) (along f names (k + 1) xs) (f x (name_at names (k + length (y ∷ xs)))))
+
+along_more : {A B : Type 0} → (f : A → Option (List ℕ) → List B) (names : List (Option (List ℕ))) (xs : List A) (i : ℕ) (x : A) → i < length xs → x ≡ get_or xs i x
+    → along f names 0 (take (i + 1) xs) ≡ along f names 0 (take i xs) ++ f x (name_at names i)
+along_more f names xs i x lt is =
+    let long : 0 + length (take i xs) ≡ i = simp length-take (omega arith) in
+    ap (along f names 0) (take_more xs i x lt ∙ ap (λ y. take i xs ++ y ∷ []) (sym is)) ∙ along_push f names 0 (take i xs) x
+    ∙ ap (λ j. along f names 0 (take i xs) ++ f x (name_at names j)) long
+
+-- a list that begins with s and goes on along the first i, and what is put behind it
+pub put_more : {A B : Type 0} → (f : A → Option (List ℕ) → List B) (names : List (Option (List ℕ))) (xs : List A) (i : ℕ) (x : A) (name : Option (List ℕ)) (s before after : List B)
+    → i < length xs → x ≡ get_or xs i x → name ≡ name_at names i → before ≡ s ++ along f names 0 (take i xs) → after ≡ before ++ f x name
+    → after ≡ s ++ along f names 0 (take (i + 1) xs)
+put_more f names xs i x name s before after lt is named b a =
+    let added = along f names 0 (take i xs) in
+    a ∙ ap (λ n. before ++ f x n) named ∙ ap (λ l. l ++ f x (name_at names i)) b ∙ append_assoc s added (f x (name_at names i))
+    ∙ ap (λ l. s ++ l) (sym (along_more f names xs i x lt is))

@@ -1,0 +1,5 @@
+pub mod Rows
+pub mod Named
+pub mod Built
+pub mod Builds
+pub mod HeldView
