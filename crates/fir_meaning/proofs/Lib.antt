@@ -3,6 +3,7 @@ pub mod SamePath
 pub mod LookUps
 pub mod SoundScopes
 pub mod SoundOperations
+pub mod NarrowTypes
 pub mod CleanExpressions
 pub mod CleanValues
 pub mod SameValues
