@@ -13,6 +13,8 @@ pub mod BodyValues
 pub mod BodyStores
 pub mod InputValues
 pub mod Ports
+pub mod CleanClocks
+pub mod CleanSinks
 pub mod FaultlessBodies
 pub mod Faultless
 pub mod CleanCircuits
