@@ -11,7 +11,10 @@ pub mod Connects
 pub mod Bodies
 pub mod BodyValues
 pub mod BodyStores
+pub mod RanBodies
+pub mod ChosenLeaves
 pub mod InputValues
+pub mod BegunValues
 pub mod Ports
 pub mod CleanClocks
 pub mod CleanSinks
