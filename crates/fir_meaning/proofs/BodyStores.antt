@@ -10,7 +10,7 @@ use Rattle.fir_ast.specs.declared.place.Place.{Place}
 use Rattle.fir_ast.specs.Expressions.{Expression}
 use Rattle.fir_ast.specs.Statements.{Sink, connect, Block, done, then}
 use Rattle.fir_meaning.specs.Paths.{Values, Store}
-use Rattle.fir_meaning.specs.Scopes.{output, Declared, Scope, look_up, declares, behind}
+use Rattle.fir_meaning.specs.Scopes.{Declared, Scope, look_up, declares, behind}
 use Rattle.fir_meaning.specs.Leaves.{leaves_named}
 use Rattle.fir_meaning.specs.Exec.{fit, pairs, drive_all, exec, exec_all}
 use Rattle.fir_meaning.specs.DrivenFaults.{is_connected}
@@ -42,7 +42,7 @@ module _ (law : HasItsType) (whole : Scope) (env : Values) (sound : Sound whole)
       let kept = kept_behind scope ((then) (connect p sink x) b) whole same in
       has_value law scope whole env kept (held scope env (sound_front scope whole kept sound) (fits_front scope whole env kept fits)) x c.0.1
 
-  module _ (n : List ℕ) (d : Declared) (found : look_up whole n ≡ Some d) (P : Option ℕ → Type 0) (given : (v : Num) → IsBitVector v.value → d.kind ≡ output → P (Some (fit v d.holds))) where
+  module _ (n : List ℕ) (d : Declared) (found : look_up whole n ≡ Some d) (P : Option ℕ → Type 0) (given : (v : Num) → IsBitVector v.value → P (Some (fit v d.holds))) where
     -- what holds of each value that is stored at a name holds behind the body
     pub stores_along : (scope : Scope) (body : Block) → behind 0 scope body ≡ whole → AreCleanStatements scope body → (store : Store) → P (store (n ∷ [])) → P (exec_all whole [] [] env body store (n ∷ []))
     stores_along scope done same c store h = h
@@ -54,7 +54,7 @@ module _ (law : HasItsType) (whole : Scope) (env : Values) (sound : Sound whole)
         let name : sink.name ≡ n = cc in
         let one : Some d ≡ Some into.declared = sym found ∙ ap (look_up whole) (sym name) ∙ there in
         let one_declared : d ≡ into.declared = cc in
-        subst (λ (y : Declared). P (Some (fit v.value y.holds))) one_declared (given v.value v.vector (subst (λ (y : Declared). y.kind ≡ output) (sym one_declared) into.kind)) in
+        subst (λ (y : Declared). P (Some (fit v.value y.holds))) one_declared (given v.value v.vector) in
         let next : P (exec whole [] [] env (connect p sink x) store (n ∷ [])) =
         subst (λ (s : Store). P (s (n ∷ []))) (sym (connect_stores whole [] env p sink x into.declared v.value store there v.evaluated))
         (stored_either (sink.name ∷ []) (fit v.value into.declared.holds) store (n ∷ []) P here h) in
@@ -62,12 +62,11 @@ module _ (law : HasItsType) (whole : Scope) (env : Values) (sound : Sound whole)
     stores_along scope ((then) s b) same c store h = stores_along (scope ++ declares 0 scope s) b same c.1 store h
 
   module _ (n : List ℕ) (d : Declared) (found : look_up whole n ≡ Some d) where
-    -- what is stored fits, and stands at a sink
+    -- what is stored fits
     pub stored_fits : (scope : Scope) (body : Block) → behind 0 scope body ≡ whole → AreCleanStatements scope body → (store : Store) → store (n ∷ []) ≡ None
-        → IfSome (exec_all whole [] [] env body store (n ∷ [])) (λ v. (d.kind ≡ output) × (v < 2 ^ d.holds.width))
+        → IfSome (exec_all whole [] [] env body store (n ∷ [])) (λ v. v < 2 ^ d.holds.width)
     stored_fits scope body same c store h =
-        stores_along n d found (λ o. IfSome o (λ v. (d.kind ≡ output) × (v < 2 ^ d.holds.width))) (λ v b s. (s, fit_below v d.holds b))
-        scope body same c store (rw h tt)
+        stores_along n d found (λ o. IfSome o (λ v. v < 2 ^ d.holds.width)) (λ v b. fit_below v d.holds b) scope body same c store (rw h tt)
 
     -- a name that is connected has a value in the store
     pub stored_where : (scope : Scope) (body : Block) → behind 0 scope body ≡ whole → AreCleanStatements scope body → (store : Store) → is_connected body n ≡ true
@@ -83,7 +82,7 @@ module _ (law : HasItsType) (whole : Scope) (env : Values) (sound : Sound whole)
         let here : next (n ∷ []) ≡ Some (fit v.value into.declared.holds) =
         subst (λ (k : List ℕ). next (k ∷ []) ≡ Some (fit v.value into.declared.holds)) (name_is sink.name n t)
         (connect_stores_there whole [] env p sink x into.declared v.value store there v.evaluated) in
-        stores_along n d found (λ o. IsSome o) (λ w k s. refl) (scope ++ []) b same c.1 next (rw here refl))
+        stores_along n d found (λ o. IsSome o) (λ w k. refl) (scope ++ []) b same c.1 next (rw here refl))
         (λ (t : bytes_eq sink.name n ≡ false). stored_where (scope ++ []) b same c.1 next (subst (λ (q : Bool). (q || is_connected b n) ≡ true) t h))
         (cases_Bool (bytes_eq sink.name n))
     stored_where scope ((then) s b) same c store h = stored_where (scope ++ declares 0 scope s) b same c.1 store h

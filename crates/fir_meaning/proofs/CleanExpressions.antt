@@ -1,6 +1,6 @@
 -- Expressions of the language that show no fault are clean, form by form.
 -- Each has one type, a `UInt` of at most 128 bits.
-use Rattle.std.proofs.Common.{◌≡◌, ℕ, ◌^◌, ◌<◌, ◌≤◌, List, [], ◌∷◌, Bool, true, false, not, ◌&&◌, nat_lt, length, codes, refl, sym, ap, arith, Option, Some, None, unwrap_or, Result, subst}
+use Rattle.std.proofs.Common.{◌≡◌, ℕ, ◌^◌, ◌<◌, ◌≤◌, List, [], ◌∷◌, Bool, true, false, not, ◌&&◌, nat_lt, length, codes, refl, sym, ap, ◌∙◌, arith, Option, Some, None, unwrap_or, Result, subst}
 use Rattle.std.proofs.lemmas.Bool.{ltb-true}
 use Rattle.fir_bits.specs.declared.types.NumTy.{NumTy}
 use Rattle.fir_bits.specs.declared.types.OpFault.{OpFault}
@@ -9,18 +9,18 @@ use Rattle.fir_ast.specs.declared.place.Place.{Place}
 use Rattle.fir_ast.specs.declared.fault.FirFault.TheVariants.{Unknown, Over, LiteralLegality}
 use Rattle.fir_ast.specs.declared.expressions.Literal.{Literal}
 use Rattle.fir_ast.specs.Expressions.{Expression, reference, literal, operation, mux, validif, Expressions, no_expressions, expression}
-use Rattle.fir_meaning.specs.Scopes.{Declared, Scope, look_up, literal_type, types, types_of_each}
+use Rattle.fir_meaning.specs.Scopes.{is_readable, Declared, Scope, look_up, literal_type, types, types_of_each, type_read, operation_printed, printed_type, have_types}
 use Rattle.fir_meaning.specs.Operations.{is_over, counted, type_or, operation_type}
 use Rattle.fir_meaning.specs.OperatorWords.{operator_word}
 use Rattle.fir_meaning.specs.FaultRules.{within, within_each}
-use Rattle.fir_meaning.specs.NameFaults.{is_readable, may_be_read, unread, names_in_expression}
+use Rattle.fir_meaning.specs.NameFaults.{may_be_read, unread, names_in_expression}
 use Rattle.fir_meaning.specs.WidthFaults.{over_width, widths_in_expression}
 use Rattle.fir_meaning.specs.LegalityFaults.{unfit, illegal_by, legality_in_expression}
 use Rattle.fir_meaning.specs.Language.{is_written, is_unsigned, is_expression, are_expressions, count, counts, has_counts}
 use Rattle.fir_meaning.specs.Clean.{IsRead, IsFit, IsClean, AreClean}
 use Rattle.fir_meaning.proofs.Members.{empty_left, empty_right, both, passes, fails}
 use Rattle.fir_meaning.proofs.LookUps.{found_type}
-use Rattle.fir_meaning.proofs.SoundScopes.{Plain, Sound}
+use Rattle.fir_meaning.proofs.SoundScopes.{Plain, PrintsUInt, Sound, readable_printed}
 use Rattle.fir_meaning.proofs.SoundOperations.{written_narrow, counted_narrow, Unsigned, operation_typed}
 
 -- an expression of the language that shows no fault
@@ -94,6 +94,22 @@ module _ (scope : Scope) (sound : Sound scope) where
       let t = one_type e c.0 in
       let ts = one_type_each es c.1 in
       rw t.of_type ((t.plain.unsigned, ts.0), let l = ts.1 in omega arith)
+
+  -- as faults print it, that type is a `UInt`
+  mutual
+    pub prints_uint : (e : Expression) → IsClean scope e → PrintsUInt (printed_type scope e)
+    prints_uint (reference p n ps) c =
+        let d = c.declared in
+        let t = readable_printed d.kind d.printed c.readable (sound.printed n d c.found) in
+        (t.0, ap type_read c.found ∙ rw c.readable t.1)
+    prints_uint (literal l) c = (l.width, refl)
+    prints_uint (operation p o es ks) c = (None, ap operation_printed (have_printed es c.0))
+    prints_uint (mux p a b d) c = absurd c
+    prints_uint (validif p a b) c = absurd c
+
+    have_printed : (es : Expressions) → AreClean scope es → have_types scope es ≡ true
+    have_printed no_expressions c = refl
+    have_printed (expression e es) c = rw ((prints_uint e c.0).1, have_printed es c.1) refl
 
   mutual
     pub clean_expression : (e : Expression) → FaultlessExpression scope e → IsClean scope e

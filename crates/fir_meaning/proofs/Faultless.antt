@@ -1,51 +1,50 @@
 -- A circuit of the language that shows no fault is clean.
 -- Each rule finds nothing at the ports and in the body of its one module, which has the circuit's name.
-use Rattle.std.proofs.Common.{◌≡◌, ℕ, ◌≤◌, List, [], ◌∷◌, ◌++◌, Bool, true, false, ◌||◌, Some, None, map, flat_map, IsTrue, refl}
+use Rattle.std.proofs.Common.{◌≡◌, List, [], ◌∷◌, ◌++◌, Bool, true, false, ◌||◌, map, flat_map, IsTrue, refl}
 use Rattle.std.specs.Str.{bytes_eq}
 use Rattle.fir_base.specs.declared.direction.Direction.{Direction}
 use Rattle.fir_base.specs.declared.direction.Direction.TheVariants.{Input, Output}
 use Rattle.fir_ast.specs.declared.fault.FirFault.TheVariants.{NoModule, Over, Undriven}
-use Rattle.fir_ast.specs.Types.{DataType, uint}
+use Rattle.fir_ast.specs.Types.{DataType, uint, clock}
 use Rattle.fir_ast.specs.Statements.{Named, Block}
 use Rattle.fir_ast.specs.Circuits.{PortTree, ModuleTree}
 use Rattle.fir_meaning.specs.Scopes.{Scope, look_up, port_declared, written_type, behind}
 use Rattle.fir_meaning.specs.Operations.{is_over}
 use Rattle.fir_meaning.specs.FaultRules.{Rule, along_ports, along, faults_by}
 use Rattle.fir_meaning.specs.NameFaults.{twice, name_rule}
-use Rattle.fir_meaning.specs.FlowFaults.{flow_rule}
+use Rattle.fir_meaning.specs.TypeFaults.{type_rule}
 use Rattle.fir_meaning.specs.WidthFaults.{over_width, width_rule}
 use Rattle.fir_meaning.specs.LegalityFaults.{legality_rule}
 use Rattle.fir_meaning.specs.DrivenFaults.{is_connected, undriven_output, undriven}
 use Rattle.fir_meaning.specs.Faults.{is_module, main_faults, Faultless}
 use Rattle.fir_meaning.specs.Language.{is_port_type, are_ports, are_statements, is_in_language}
-use Rattle.fir_meaning.specs.Clean.{IsCleanPort, AreCleanPorts, IsCleanModule, IsCleanCircuit}
+use Rattle.fir_meaning.specs.Clean.{IsPortType, IsCleanPort, AreCleanPorts, IsCleanModule, IsCleanCircuit}
 use Rattle.fir_meaning.specs.Laws.{FaultlessIsClean}
 use Rattle.fir_meaning.proofs.Members.{empty_left, empty_right, empty_at, both, passes, fails}
 use Rattle.fir_meaning.proofs.SamePath.{name_is}
 use Rattle.fir_meaning.proofs.LookUps.{once_found}
-use Rattle.fir_meaning.proofs.SoundScopes.{Sound}
-use Rattle.fir_meaning.proofs.SoundOperations.{written_narrow}
+use Rattle.fir_meaning.proofs.SoundScopes.{Sound, none_sound}
+use Rattle.fir_meaning.proofs.NarrowTypes.{narrow_type}
 use Rattle.fir_meaning.proofs.Bodies.{once_behind}
 use Rattle.fir_meaning.proofs.FaultlessBodies.{FaultlessBody, new_name, clean_statements}
 use Rattle.fir_meaning.proofs.Ports.{port_sound, ports_once, ports_sound}
 
--- a port's type is a `UInt` of a written width
-port_type : (t : DataType) → is_port_type t ≡ true → is_over (written_type t).width ≡ false → (w : ℕ) × (t ≡ uint (Some w)) × (w ≤ 128)
-port_type (uint (Some w)) l h = (w, refl, written_narrow w h)
-port_type (uint None) l h = cc
-port_type t l h = let e : false ≡ true = l in cc
+-- a port's type is a `UInt` of a written width, or at an input a clock
+port_type : (d : Direction) (t : DataType) → is_port_type d t ≡ true → is_over (written_type t).width ≡ false → IsPortType d t
+port_type Input (uint width) l h = narrow_type width l h
+port_type Output (uint width) l h = narrow_type width l h
+port_type Input clock l h = tt
+port_type d t l h = let e : false ≡ true = l in cc
 
 clean_ports : (scope : Scope) → Sound scope → (ps : List PortTree) → are_ports ps ≡ true → along_ports name_rule scope ps ≡ [] → along_ports width_rule scope ps ≡ [] → AreCleanPorts scope ps
 clean_ports scope sound [] l names widths = tt
 clean_ports scope sound (p ∷ ps) l names widths =
     let more = scope ++ port_declared p ∷ [] in
-    let language = both (is_port_type p.data_type) (are_ports ps) l in
+    let language = both (is_port_type p.direction p.data_type) (are_ports ps) l in
     let wide = over_width (written_type p.data_type).width p.named.place p.named.name in
-    let t = port_type p.data_type language.0 (fails (is_over (written_type p.data_type).width) (Over p.named.place p.named.name) (empty_left wide (along_ports width_rule more ps) widths)) in
+    let t = port_type p.direction p.data_type language.0 (fails (is_over (written_type p.data_type).width) (Over p.named.place p.named.name) (empty_left wide (along_ports width_rule more ps) widths)) in
     let here : IsCleanPort scope p = record {
-      width = t.0;
-      type = t.1;
-      narrow = t.2;
+      type = t;
       new = new_name (look_up scope p.named.name) p.named (empty_left (twice scope p.named) (along_ports name_rule more ps) names);
     } in (
       here,
@@ -63,7 +62,7 @@ port_connected Output body n k h = passes (is_connected body n.name) (Undriven n
 record FaultlessModule (m : ModuleTree) : Type 0 where
   language : (are_ports m.ports ≡ true) × (are_statements m.body ≡ true)
   names : flat_map (faults_by name_rule) (m ∷ []) ≡ []
-  flow : flat_map (faults_by flow_rule) (m ∷ []) ≡ []
+  types : flat_map (faults_by type_rule) (m ∷ []) ≡ []
   widths : flat_map (faults_by width_rule) (m ∷ []) ≡ []
   legality : flat_map (faults_by legality_rule) (m ∷ []) ≡ []
   connected : flat_map undriven (m ∷ []) ≡ []
@@ -77,16 +76,15 @@ module _ (m : ModuleTree) (c : FaultlessModule m) where
 
   clean_module : IsCleanModule m
   clean_module =
-      let none : Sound [] = record { each = λ n d h. cc } in
-      let ports = clean_ports [] none m.ports c.language.0 (at_ports name_rule c.names) (at_ports width_rule c.widths) in
+      let ports = clean_ports [] none_sound m.ports c.language.0 (at_ports name_rule c.names) (at_ports width_rule c.widths) in
       let faultless : FaultlessBody (map port_declared m.ports) m.body = record {
         language = c.language.1;
         names = in_body name_rule c.names;
-        flow = in_body flow_rule c.flow;
+        types = in_body type_rule c.types;
         widths = in_body width_rule c.widths;
         legality = in_body legality_rule c.legality;
       } in
-      let body = clean_statements (map port_declared m.ports) (ports_sound [] m.ports ports none) m.body faultless in
+      let body = clean_statements (map port_declared m.ports) (ports_sound [] m.ports ports none_sound) m.body faultless in
       let once = once_behind (map port_declared m.ports) m.body body (ports_once [] m.ports ports tt) in
       let connected = empty_left (undriven m) [] c.connected in
       record {
@@ -106,14 +104,14 @@ clean_circuit n [] l h = cc
 clean_circuit n (m ∷ []) l h =
     let names = flat_map (faults_by name_rule) (m ∷ []) in
     let mains = main_faults (record { named = n; modules = m ∷ [] }) in
-    let flows = flat_map (faults_by flow_rule) (m ∷ []) in
+    let types = flat_map (faults_by type_rule) (m ∷ []) in
     let wides = flat_map (faults_by width_rule) (m ∷ []) in
     let laws = flat_map (faults_by legality_rule) (m ∷ []) in
     let drives = flat_map undriven (m ∷ []) in
-    let e = empty_left (names ++ mains ++ flows ++ wides ++ laws) drives h in
-    let d = empty_left (names ++ mains ++ flows ++ wides) laws e in
-    let w = empty_left (names ++ mains ++ flows) wides d in
-    let f = empty_left (names ++ mains) flows w in
+    let e = empty_left (names ++ mains ++ types ++ wides ++ laws) drives h in
+    let d = empty_left (names ++ mains ++ types ++ wides) laws e in
+    let w = empty_left (names ++ mains ++ types) wides d in
+    let f = empty_left (names ++ mains) types w in
     let main = first_holds (bytes_eq m.named.name n.name) (passes (is_module (m ∷ []) n.name) (NoModule n.place n.name) (empty_right names mains f)) in
     record {
       main = m;
@@ -122,10 +120,10 @@ clean_circuit n (m ∷ []) l h =
       clean = clean_module m (record {
         language = both (are_ports m.ports) (are_statements m.body) l;
         names = empty_left names mains f;
-        flow = empty_right (names ++ mains) flows w;
-        widths = empty_right (names ++ mains ++ flows) wides d;
-        legality = empty_right (names ++ mains ++ flows ++ wides) laws e;
-        connected = empty_right (names ++ mains ++ flows ++ wides ++ laws) drives h;
+        types = empty_right (names ++ mains) types w;
+        widths = empty_right (names ++ mains ++ types) wides d;
+        legality = empty_right (names ++ mains ++ types ++ wides) laws e;
+        connected = empty_right (names ++ mains ++ types ++ wides ++ laws) drives h;
       });
     }
 clean_circuit n (m ∷ k ∷ ms) l h = cc

@@ -1,35 +1,40 @@
 -- Bodies of the language that show no fault are clean, statement by statement.
 -- An expression is clean over a sound scope, and a clean statement leaves the scope sound.
-use Rattle.std.proofs.Common.{◌≡◌, ℕ, List, [], ◌++◌, true, false, Option, Some, None, refl}
+use Rattle.std.proofs.Common.{◌≡◌, [], ◌++◌, true, false, ◌&&◌, Option, Some, None, is_none, refl}
 use Rattle.fir_bits.specs.Forms.{first_type}
-use Rattle.fir_ast.specs.declared.place.Place.{Place}
-use Rattle.fir_ast.specs.declared.fault.FirFault.TheVariants.{Flow}
-use Rattle.fir_ast.specs.Statements.{Named, Statement, node, connect, skip, Block, done, then}
-use Rattle.fir_meaning.specs.Scopes.{Kind, input, output, node_value, Declared, Scope, look_up, types, declares}
+use Rattle.fir_ast.specs.declared.fault.FirFault.TheVariants.{Over}
+use Rattle.fir_ast.specs.declared.types.Ty.TheVariants.{UInt}
+use Rattle.fir_ast.specs.Types.{DataType, uint}
+use Rattle.fir_ast.specs.Statements.{Named, Reset, Statement, register, node, connect, skip, Block, done, then}
+use Rattle.fir_meaning.specs.Scopes.{Declared, Scope, look_up, types, printed_type, written_type, declares}
 use Rattle.fir_meaning.specs.FaultRules.{along, within}
-use Rattle.fir_meaning.specs.NameFaults.{undeclared, repeated, twice, names_in_expression, name_rule}
-use Rattle.fir_meaning.specs.FlowFaults.{is_source, driven_source, flow_rule}
+use Rattle.fir_meaning.specs.NameFaults.{undeclared, repeated, twice, names_in_expression, names_in_clock, name_rule}
+use Rattle.fir_meaning.specs.TypeFaults.{type_rule}
 use Rattle.fir_meaning.specs.WidthFaults.{over_width, widths_in_expression, width_rule}
 use Rattle.fir_meaning.specs.LegalityFaults.{legality_rule}
-use Rattle.fir_meaning.specs.Language.{is_plain, is_expression, is_statement, are_statements}
-use Rattle.fir_meaning.specs.Clean.{IsCleanStatement, AreCleanStatements}
+use Rattle.fir_meaning.specs.Operations.{is_over}
+use Rattle.fir_meaning.specs.Language.{is_plain, is_expression, is_register_type, is_statement, are_statements}
+use Rattle.fir_meaning.specs.Clean.{IsNarrow, IsCleanStatement, AreCleanStatements}
 use Rattle.fir_meaning.proofs.Members.{empty_left, empty_right, both, fails}
 use Rattle.fir_meaning.proofs.SoundScopes.{Sound}
-use Rattle.fir_meaning.proofs.CleanExpressions.{clean_expression}
+use Rattle.fir_meaning.proofs.CleanExpressions.{clean_expression, prints_uint}
+use Rattle.fir_meaning.proofs.NarrowTypes.{narrow_type}
+use Rattle.fir_meaning.proofs.CleanClocks.{clean_clock}
+use Rattle.fir_meaning.proofs.CleanSinks.{clean_sink}
 use Rattle.fir_meaning.proofs.Bodies.{sound_behind}
 
 -- a statement of the language that shows no fault behind a scope
 pub record FaultlessStatement (scope : Scope) (s : Statement) : Type 0 where
   pub language : is_statement s ≡ true
   pub names : name_rule.of_statement scope s ≡ []
-  pub flow : flow_rule.of_statement scope s ≡ []
+  pub types : type_rule.of_statement scope s ≡ []
   pub widths : width_rule.of_statement scope s ≡ []
   pub legality : legality_rule.of_statement scope s ≡ []
 
 pub record FaultlessBody (scope : Scope) (body : Block) : Type 0 where
   pub language : are_statements body ≡ true
   pub names : along name_rule 0 scope body ≡ []
-  pub flow : along flow_rule 0 scope body ≡ []
+  pub types : along type_rule 0 scope body ≡ []
   pub widths : along width_rule 0 scope body ≡ []
   pub legality : along legality_rule 0 scope body ≡ []
 
@@ -41,7 +46,7 @@ module _ (scope : Scope) (s : Statement) (b : Block) (c : FaultlessBody scope ((
   first_faultless = record {
     language = (both (is_statement s) (are_statements b) c.language).0;
     names = empty_left (name_rule.of_statement scope s) (along name_rule 0 more b) c.names;
-    flow = empty_left (flow_rule.of_statement scope s) (along flow_rule 0 more b) c.flow;
+    types = empty_left (type_rule.of_statement scope s) (along type_rule 0 more b) c.types;
     widths = empty_left (width_rule.of_statement scope s) (along width_rule 0 more b) c.widths;
     legality = empty_left (legality_rule.of_statement scope s) (along legality_rule 0 more b) c.legality;
   }
@@ -50,7 +55,7 @@ module _ (scope : Scope) (s : Statement) (b : Block) (c : FaultlessBody scope ((
   rest_faultless = record {
     language = (both (is_statement s) (are_statements b) c.language).1;
     names = empty_right (name_rule.of_statement scope s) (along name_rule 0 more b) c.names;
-    flow = empty_right (flow_rule.of_statement scope s) (along flow_rule 0 more b) c.flow;
+    types = empty_right (type_rule.of_statement scope s) (along type_rule 0 more b) c.types;
     widths = empty_right (width_rule.of_statement scope s) (along width_rule 0 more b) c.widths;
     legality = empty_right (legality_rule.of_statement scope s) (along legality_rule 0 more b) c.legality;
   }
@@ -60,15 +65,13 @@ pub new_name : (o : Option Declared) (n : Named) → repeated o n ≡ [] → o �
 new_name None n h = refl
 new_name (Some d) n h = cc
 
--- what is no source is an output
-no_source : (k : Kind) → is_source k ≡ false → k ≡ output
-no_source input h = cc
-no_source output h = refl
-no_source node_value h = cc
+no_reset : (r : Option Reset) → is_none r ≡ true → r ≡ None
+no_reset None h = refl
+no_reset (Some r) h = cc
 
-known_output : (o : Option Declared) (p q : Place) (name : List ℕ) → undeclared o p name ≡ [] → driven_source o q name ≡ [] → (d : Declared) × (o ≡ Some d) × (d.kind ≡ output)
-known_output None p q name h k = cc
-known_output (Some d) p q name h k = (d, refl, no_source d.kind (fails (is_source d.kind) (Flow q name) k))
+register_type : (t : DataType) → is_register_type t ≡ true → is_over (written_type t).width ≡ false → IsNarrow t
+register_type (uint width) l wide = narrow_type width l wide
+register_type t l wide = let e : false ≡ true = l in cc
 
 clean_statement : (scope : Scope) → Sound scope → (s : Statement) → FaultlessStatement scope s → IsCleanStatement scope s
 clean_statement scope sound (node p n e) c = (
@@ -80,17 +83,33 @@ clean_statement scope sound (node p n e) c = (
     legality = c.legality;
   }),
 )
-clean_statement scope sound (connect p sink e) c =
-    let o = look_up scope sink.name in
-    let unknown = undeclared o sink.place sink.name in
-    let r = known_output o sink.place p sink.name (empty_left unknown (within names_in_expression scope e) c.names) c.flow in (
-      record { declared = r.0; found = r.1; kind = r.2 },
-      clean_expression scope sound e (record {
-        language = (both (is_plain sink.parts) (is_expression e) c.language).1;
-        names = empty_right unknown (within names_in_expression scope e) c.names;
-        widths = c.widths;
+clean_statement scope sound (register p n t k r) c =
+    let l = both (is_register_type t) (is_expression k && is_none r) c.language in
+    let m = both (is_expression k) (is_none r) l.1 in
+    let width = (written_type t).width in
+    let wide = over_width width n.place n.name in (
+      new_name (look_up scope n.name) n (empty_left (twice scope n) (names_in_clock scope k) c.names),
+      register_type t l.0 (fails (is_over width) (Over n.place n.name) (empty_left wide (within widths_in_expression scope k) c.widths)),
+      clean_clock scope sound k (record {
+        language = m.0;
+        names = empty_right (twice scope n) (names_in_clock scope k) c.names;
+        types = c.types;
+        widths = empty_right wide (within widths_in_expression scope k) c.widths;
         legality = c.legality;
       }),
+      no_reset r m.1,
+    )
+clean_statement scope sound (connect p sink e) c =
+    let unknown = undeclared (look_up scope sink.name) sink.place sink.name in
+    let source = clean_expression scope sound e (record {
+      language = (both (is_plain sink.parts) (is_expression e) c.language).1;
+      names = empty_right unknown (within names_in_expression scope e) c.names;
+      widths = c.widths;
+      legality = c.legality;
+    }) in
+    let t = prints_uint scope sound e source in (
+      clean_sink scope sound sink.place p sink.name (printed_type scope e) (UInt t.0, t.1) (empty_left unknown (within names_in_expression scope e) c.names) c.types,
+      source,
     )
 clean_statement scope sound (skip p) c = tt
 clean_statement scope sound s c = let h : false ≡ true = c.language in cc

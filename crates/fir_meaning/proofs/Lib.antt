@@ -3,6 +3,7 @@ pub mod SamePath
 pub mod LookUps
 pub mod SoundScopes
 pub mod SoundOperations
+pub mod NarrowTypes
 pub mod CleanExpressions
 pub mod CleanValues
 pub mod SameValues
@@ -10,8 +11,13 @@ pub mod Connects
 pub mod Bodies
 pub mod BodyValues
 pub mod BodyStores
+pub mod RanBodies
+pub mod ChosenLeaves
 pub mod InputValues
+pub mod BegunValues
 pub mod Ports
+pub mod CleanClocks
+pub mod CleanSinks
 pub mod FaultlessBodies
 pub mod Faultless
 pub mod CleanCircuits

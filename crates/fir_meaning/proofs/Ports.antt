@@ -1,22 +1,32 @@
 -- Clean ports.
 -- Their names are declared once, and their types are plain.
-use Rattle.std.proofs.Common.{◌≡◌, List, [], ◌∷◌, ◌++◌, true, map, refl, sym, subst, append_assoc}
+use Rattle.std.proofs.Common.{◌≡◌, List, [], ◌∷◌, ◌++◌, true, map, refl, sym, subst, append_assoc, lit≤}
 use Rattle.std.proofs.lemmas.List.{append-nil}
 use Rattle.fir_base.specs.declared.direction.Direction.{Direction}
 use Rattle.fir_base.specs.declared.direction.Direction.TheVariants.{Input, Output}
+use Rattle.fir_ast.specs.Types.{DataType, clock}
 use Rattle.fir_ast.specs.Circuits.{PortTree}
-use Rattle.fir_meaning.specs.Scopes.{input, output, Scope, port_kind, port_declared, written_type}
-use Rattle.fir_meaning.specs.NameFaults.{is_readable}
-use Rattle.fir_meaning.specs.Clean.{IsCleanPort, AreCleanPorts}
+use Rattle.fir_meaning.specs.Scopes.{input, output, is_readable, Scope, port_kind, port_declared, written_type, written_printed}
+use Rattle.fir_meaning.specs.Clean.{IsPortType, IsCleanPort, AreCleanPorts}
 use Rattle.fir_meaning.proofs.LookUps.{Once, once_more}
-use Rattle.fir_meaning.proofs.SoundScopes.{Plain, Sound, sound_more}
-use Rattle.fir_meaning.proofs.SoundOperations.{counted_narrow}
+use Rattle.fir_meaning.proofs.SoundScopes.{Plain, IsPrinted, Sound, sound_more}
+use Rattle.fir_meaning.proofs.NarrowTypes.{narrow_plain, narrow_printed}
+
+-- a clock holds no bits
+port_plain : (d : Direction) (t : DataType) → IsPortType d t → Plain (written_type t)
+port_plain Input clock h = record { unsigned = refl; narrow = lit≤ tt }
+port_plain Input t h = narrow_plain t h
+port_plain Output t h = narrow_plain t h
+
+port_printed : (d : Direction) (t : DataType) → IsPortType d t → IsPrinted (port_kind d t) (written_printed t)
+port_printed Input clock h = refl
+port_printed Input t h = narrow_printed t h
+port_printed Output t h = narrow_printed t h
 
 -- one more port
 pub port_sound : (scope : Scope) → Sound scope → (p : PortTree) → IsCleanPort scope p → Sound (scope ++ port_declared p ∷ [])
 port_sound scope sound p c =
-    let plain : Plain (written_type p.data_type) = rw c.type (record { unsigned = refl; narrow = counted_narrow c.width c.narrow }) in
-    sound_more scope (port_declared p) c.new sound plain
+    sound_more scope (port_declared p) c.new sound (port_plain p.direction p.data_type c.type) (port_printed p.direction p.data_type c.type)
 
 pub ports_once : (scope : Scope) (ps : List PortTree) → AreCleanPorts scope ps → Once scope → Once (scope ++ map port_declared ps)
 ports_once scope [] c o = subst Once (sym (append-nil scope)) o
@@ -30,10 +40,12 @@ ports_sound scope (p ∷ ps) c s =
     subst Sound (append_assoc scope (port_declared p ∷ []) (map port_declared ps)) (ports_sound (scope ++ port_declared p ∷ []) ps c.1 (port_sound scope s p c.0))
 
 -- a port that can be read is an input, and one that is driven an output
-pub port_read : (d : Direction) → is_readable (port_kind d) ≡ true → port_kind d ≡ input
-port_read Input h = refl
-port_read Output h = cc
+pub port_read : (d : Direction) (t : DataType) → is_readable (port_kind d t) ≡ true → port_kind d t ≡ input
+port_read Input clock h = cc
+port_read Input t h = refl
+port_read Output t h = cc
 
-pub port_driven : (d : Direction) → port_kind d ≡ output → d ≡ Output
-port_driven Input k = cc
-port_driven Output k = refl
+pub port_driven : (d : Direction) (t : DataType) → port_kind d t ≡ output → d ≡ Output
+port_driven Input clock k = cc
+port_driven Input t k = cc
+port_driven Output t k = refl

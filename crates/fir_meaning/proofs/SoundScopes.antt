@@ -1,10 +1,11 @@
 -- What is known of a scope without faults, and of values over it.
 -- The scope grows to that of the whole module, which finds the same.
-use Rattle.std.proofs.Common.{◌≡◌, ℕ, ◌^◌, ◌<◌, ◌≤◌, List, [], ◌∷◌, ◌++◌, true, false, Some, None, sym, ap, ◌∙◌, ⊎_elim, subst}
+use Rattle.std.proofs.Common.{◌≡◌, ℕ, ◌^◌, ◌<◌, ◌≤◌, List, [], ◌∷◌, ◌++◌, true, false, Option, Some, None, sym, ap, ◌∙◌, ⊎_elim, subst}
 use Rattle.fir_bits.specs.declared.types.NumTy.{NumTy}
+use Rattle.fir_ast.specs.declared.types.Ty.{Ty}
+use Rattle.fir_ast.specs.declared.types.Ty.TheVariants.{UInt, Clock}
 use Rattle.fir_meaning.specs.Paths.{Values}
-use Rattle.fir_meaning.specs.Scopes.{Declared, Scope, look_up}
-use Rattle.fir_meaning.specs.NameFaults.{is_readable}
+use Rattle.fir_meaning.specs.Scopes.{Kind, input, clock_input, output, node_value, register_value, is_readable, Declared, Scope, look_up}
 use Rattle.fir_meaning.specs.Laws.{Finds, Holds}
 use Rattle.fir_meaning.proofs.SamePath.{put, put_here, put_other}
 use Rattle.fir_meaning.proofs.LookUps.{found_before}
@@ -14,8 +15,38 @@ pub record Plain (t : NumTy) : Type 0 where
   pub unsigned : t.signed ≡ false
   pub narrow : t.width ≤ 128
 
+-- a type that faults print as a `UInt`
+abbrev pub PrintsUInt : Option Ty → Type 0
+PrintsUInt t = (width : Option ℕ) × (t ≡ Some (UInt width))
+
+-- as faults print them, a clock is one, and what else is declared is a `UInt`
+abbrev pub IsPrinted : Kind → Option Ty → Type 0
+IsPrinted clock_input t = t ≡ Some Clock
+IsPrinted _ t = PrintsUInt t
+
 pub record Sound (scope : Scope) : Type 0 where
   pub each : (n : List ℕ) (d : Declared) → look_up scope n ≡ Some d → Plain d.holds
+  pub printed : (n : List ℕ) (d : Declared) → look_up scope n ≡ Some d → IsPrinted d.kind d.printed
+
+-- nothing is declared yet
+pub none_sound : Sound []
+none_sound = record { each = λ n d h. cc; printed = λ n d h. cc }
+
+-- what can be read is no clock
+pub readable_printed : (k : Kind) (t : Option Ty) → is_readable k ≡ true → IsPrinted k t → PrintsUInt t
+readable_printed input t r h = h
+readable_printed clock_input t r h = cc
+readable_printed output t r h = h
+readable_printed node_value t r h = h
+readable_printed register_value t r h = h
+
+-- what is declared has a type
+pub has_printed : (k : Kind) (t : Option Ty) → IsPrinted k t → (s : Ty) × (t ≡ Some s)
+has_printed input t h = (UInt h.0, h.1)
+has_printed clock_input t h = (Clock, h)
+has_printed output t h = (UInt h.0, h.1)
+has_printed node_value t h = (UInt h.0, h.1)
+has_printed register_value t h = (UInt h.0, h.1)
 
 -- what can be read has a value of its width
 pub record Fits (scope : Scope) (env : Values) : Type 0 where
@@ -38,19 +69,25 @@ pub agree_through : (scope : Scope) (e f g : Values) → Agree scope e f → Agr
 agree_through scope e f g a b = record { each = λ n d h r. a.each n d h r ∙ b.each n d h r }
 
 pub sound_front : (scope whole : Scope) → Finds scope whole → Sound whole → Sound scope
-sound_front scope whole kept s = record { each = λ n d h. s.each n d (kept.each n d h) }
+sound_front scope whole kept s = record { each = λ n d h. s.each n d (kept.each n d h); printed = λ n d h. s.printed n d (kept.each n d h) }
 
 pub fits_front : (scope whole : Scope) (env : Values) → Finds scope whole → Fits whole env → Fits scope env
 fits_front scope whole env kept fits = record { each = λ n d h r. fits.each n d (kept.each n d h) r }
 
 module _ (scope : Scope) (x : Declared) (new : look_up scope x.named.name ≡ None) where
-  pub sound_more : Sound scope → Plain x.holds → Sound (scope ++ x ∷ [])
-  sound_more s p = record { each = each }
+  pub sound_more : Sound scope → Plain x.holds → IsPrinted x.kind x.printed → Sound (scope ++ x ∷ [])
+  sound_more s p q = record { each = each; printed = printed }
     where
       each : (n : List ℕ) (d : Declared) → look_up (scope ++ x ∷ []) n ≡ Some d → Plain d.holds
       each n d h = ⊎_elim
           (λ (o : look_up scope n ≡ Some d). s.each n d o)
           (λ (o : (x ≡ d) × (x.named.name ≡ n)). subst (λ (y : Declared). Plain y.holds) o.0 p)
+          (found_before scope x n d new h)
+
+      printed : (n : List ℕ) (d : Declared) → look_up (scope ++ x ∷ []) n ≡ Some d → IsPrinted d.kind d.printed
+      printed n d h = ⊎_elim
+          (λ (o : look_up scope n ≡ Some d). s.printed n d o)
+          (λ (o : (x ≡ d) × (x.named.name ≡ n)). subst (λ (y : Declared). IsPrinted y.kind y.printed) o.0 q)
           (found_before scope x n d new h)
 
   pub agree_more : (e f : Values) → Agree scope e f → e (x.named.name ∷ []) ≡ f (x.named.name ∷ []) → Agree (scope ++ x ∷ []) e f

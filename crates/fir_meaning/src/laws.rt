@@ -3,7 +3,7 @@
 ghost use Rattle.fir_meaning.specs.Laws.{FaultlessHasOne, ShowsOneFirst, LastConnect, FaultlessIsClean, CleanHasValue};
 
 /// A circuit of the language that shows no fault has, at every state and tick of its shape, exactly one
-/// choice of values for its leaves.
+/// choice of values for its leaves and clocks.
 pub fn faultless_has_one()
     ensures { FaultlessHasOne }
 {
