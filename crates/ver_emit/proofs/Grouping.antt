@@ -8,7 +8,3 @@ three_joined a b c r = simp append_assoc
 -- four
 pub four_joined : {A : Type 0} (a b c d r : List A) → (a ++ b ++ c ++ d) ++ r ≡ a ++ (b ++ (c ++ (d ++ r)))
 four_joined a b c d r = simp append_assoc
-
--- five
-pub five_joined : {A : Type 0} (a b c d e r : List A) → (a ++ b ++ c ++ d ++ e) ++ r ≡ a ++ (b ++ (c ++ (d ++ (e ++ r))))
-five_joined a b c d e r = simp append_assoc

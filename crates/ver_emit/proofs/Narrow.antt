@@ -1,8 +1,10 @@
--- The widths of a list of nets, each from 1 to 128.
+-- The widths of a list of nets, and of ports of bits, each from 1 to 128.
 use Rattle.std.proofs.Common.{ℕ, ◌≤◌, List, [], ◌∷◌, ◌++◌, true, false, if◌then◌else◌, inl, inr, refl, arith}
 use Rattle.std.specs.Str.{bytes_eq}
 use Rattle.fir_base.specs.Lists.{In}
-use Rattle.ver_ast.specs.Nets.{Sized, width_in}
+use Rattle.ver_ast.specs.declared.tree.Signal.{Signal}
+use Rattle.ver_ast.specs.declared.tree.Signal.TheVariants.{Bits, Clock}
+use Rattle.ver_ast.specs.Nets.{Sized, signal_net, width_in}
 
 -- in the form of a valid tree's promise
 abbrev pub AllNarrow : List Sized → Type 0
@@ -34,6 +36,16 @@ narrow_first n w nets h = h n w (inl refl)
 -- the nets behind the first
 pub narrow_others : (x : Sized) (nets : List Sized) → AllNarrow (x ∷ nets) → AllNarrow nets
 narrow_others x nets h n w i = h n w (inr i)
+
+-- a clock has no width
+abbrev pub IsNarrow : Signal → Type 0
+IsNarrow (Bits w) = (1 ≤ w) × (w ≤ 128)
+IsNarrow Clock = Unit {0}
+
+-- what the first port carries
+pub narrow_signal : (s : Signal) (n : List ℕ) (nets : List Sized) → AllNarrow (signal_net s n ++ nets) → IsNarrow s
+narrow_signal (Bits w) n nets h = narrow_first n w nets h
+narrow_signal Clock n nets h = tt
 
 -- the width of a net, or 0
 pub width_is_narrow : (nets : List Sized) (n : List ℕ) → AllNarrow nets → width_in nets n ≤ 128

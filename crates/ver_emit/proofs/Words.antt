@@ -3,7 +3,7 @@ use Rattle.std.proofs.Common.{◌≡◌, ℕ, List, [], ◌∷◌, ◌++◌, Boo
 use Rattle.std.specs.Prelude.{IsTrue, option_map}
 use Rattle.std.specs.List.{list_all}
 use Rattle.ver_ast.specs.Names.{is_word, is_word_start, is_word_byte}
-use Rattle.ver_ast.specs.Tokens.{Token, word, Pending, between, in_word, sign, Step, go_on, begin, tokens_from, tokens}
+use Rattle.ver_ast.specs.Tokens.{Token, word, Pending, between, in_word, in_sign, sign, Step, is_double, go_on, begin, tokens_from, tokens}
 
 -- a text that begins with a byte which goes on with no word
 abbrev pub ClosesWord : List ℕ → Type 0
@@ -53,3 +53,19 @@ word_spelled (b ∷ bs) rest ts h c e =
 pub sign_spelled : (b : ℕ) (rest : List ℕ) (ts : List Token) → begin b ≡ Some (sign b ∷ [], between) → tokens rest ≡ Some ts → tokens (b ∷ rest) ≡ Some (sign b ∷ ts)
 unfolding tokens_from
 sign_spelled b rest ts s e = ap (λ t. go_on t (λ next. tokens_from next rest)) s ∙ rw e refl
+
+-- a text whose first byte makes no mark with an opening parenthesis before it
+abbrev pub OpensNoMark : List ℕ → Type 0
+OpensNoMark [] = ⊥
+OpensNoMark (b ∷ bs) = is_double 40 b ≡ false
+
+-- a pending opening parenthesis is closed
+close_parenthesis : (rest : List ℕ) (ts : List Token) → OpensNoMark rest → tokens rest ≡ Some ts → tokens_from (in_sign 40) rest ≡ Some (sign 40 ∷ ts)
+unfolding tokens_from
+close_parenthesis [] ts o e = absurd o
+close_parenthesis (b ∷ bs) ts o e = rw o (closed_behind (sign 40) (begin b) (λ next. tokens_from next bs) ts e)
+
+-- an opening parenthesis before a text that makes no mark with it
+pub parenthesis_spelled : (rest : List ℕ) (ts : List Token) → OpensNoMark rest → tokens rest ≡ Some ts → tokens (40 ∷ rest) ≡ Some (sign 40 ∷ ts)
+unfolding tokens_from
+parenthesis_spelled rest ts o e = rw (close_parenthesis rest ts o e) refl

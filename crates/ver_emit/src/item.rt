@@ -3,10 +3,11 @@
 ghost use Rattle.std.specs.Prelude.{◌≡◌, ◌++◌, OnOk, flat_map};
 ghost use Rattle.ver_emit.specs.Layout.{item_text};
 
+use crate::atom::put_atom;
 use crate::range::put_range;
 use crate::rhs::put_rhs;
 use fir_base::MemoryOut;
-use ver_ast::{Assign, Item, Net};
+use ver_ast::{Always, Assign, Item, Net};
 
 /// Appends the items, a line each.
 pub fn put_items(out: &mut Vec<u8>, items: &[Item]) -> Result<(), MemoryOut>
@@ -23,7 +24,9 @@ fn put_item(out: &mut Vec<u8>, item: &Item) -> Result<(), MemoryOut>
 {
     match item {
         Item::Wire(net) => put_wire(out, net),
+        Item::Reg(net) => put_reg(out, net),
         Item::Assign(assign) => put_assign(out, assign),
+        Item::Always(always) => put_always(out, always),
     }
 }
 
@@ -37,6 +40,16 @@ fn put_wire(out: &mut Vec<u8>, net: &Net) -> Result<(), MemoryOut>
     Ok(())
 }
 
+fn put_reg(out: &mut Vec<u8>, net: &Net) -> Result<(), MemoryOut>
+    ensures { OnOk result (out.new.items ≡ out.old.items ++ item_text (Item.Reg net.now)) }
+{
+    out.extend_from_slice(b"  reg ")?;
+    put_range(out, net.width)?;
+    out.extend_from_slice(net.name.as_bytes())?;
+    out.extend_from_slice(b";\n")?;
+    Ok(())
+}
+
 fn put_assign(out: &mut Vec<u8>, assign: &Assign) -> Result<(), MemoryOut>
     ensures { OnOk result (out.new.items ≡ out.old.items ++ item_text (Item.Assign assign.now)) }
 {
@@ -44,6 +57,20 @@ fn put_assign(out: &mut Vec<u8>, assign: &Assign) -> Result<(), MemoryOut>
     out.extend_from_slice(assign.target.as_bytes())?;
     out.extend_from_slice(b" = ")?;
     put_rhs(out, &assign.rhs)?;
+    out.extend_from_slice(b";\n")?;
+    Ok(())
+}
+
+/// A block that writes a register at each rising edge of a clock (IEEE 1364-2005, 9.2.2, 9.7.2).
+fn put_always(out: &mut Vec<u8>, always: &Always) -> Result<(), MemoryOut>
+    ensures { OnOk result (out.new.items ≡ out.old.items ++ item_text (Item.Always always.now)) }
+{
+    out.extend_from_slice(b"  always @(posedge ")?;
+    out.extend_from_slice(always.clock.as_bytes())?;
+    out.extend_from_slice(b") ")?;
+    out.extend_from_slice(always.target.as_bytes())?;
+    out.extend_from_slice(b" <= ")?;
+    put_atom(out, &always.source)?;
     out.extend_from_slice(b";\n")?;
     Ok(())
 }

@@ -5,15 +5,25 @@ use super::write_verilog;
 use fir_base::{Direction, MemoryOut, Name, Seq};
 use std::alloc::Global;
 use std::test::Fail;
-use ver_ast::{Assign, Atom, BinaryOp, Item, Net, Port, Primary, Rhs, UnaryOp, Verilog};
+use ver_ast::{
+    Always, Assign, Atom, BinaryOp, Item, Net, Port, Primary, Rhs, Signal, UnaryOp, Verilog,
+};
 
 /// A tree in tables, and its text.
 struct Case {
     name: &'static [u8],
-    ports: &'static [(Direction, u32, &'static [u8])],
-    wires: &'static [(u32, &'static [u8])],
-    assigns: &'static [(&'static [u8], Side)],
+    ports: &'static [(Direction, Signal, &'static [u8])],
+    lines: &'static [Line],
     text: &'static [u8],
+}
+
+/// An item, which stands on a line of its own.
+enum Line {
+    Wire(u32, &'static [u8]),
+    Reg(u32, &'static [u8]),
+    Assign(&'static [u8], Side),
+    /// The clock, the register and what is written to it.
+    Always(&'static [u8], &'static [u8], Piece),
 }
 
 enum Side {
@@ -26,23 +36,60 @@ const CASES: &[Case] = &[
     Case {
         name: b"T",
         ports: &[],
-        wires: &[],
-        assigns: &[],
+        lines: &[],
         text: b"module T();
 endmodule
 ",
     },
     Case {
         name: b"T",
+        ports: &[(Direction::Input, Signal::Bits(1), b"a")],
+        lines: &[],
+        text: b"module T(
+  input a
+);
+endmodule
+",
+    },
+    Case {
+        name: b"T",
+        ports: &[(Direction::Input, Signal::Clock, b"clock")],
+        lines: &[],
+        text: b"module T(
+  (* clock *) input clock
+);
+endmodule
+",
+    },
+    Case {
+        name: b"T",
         ports: &[
-            (Direction::Input, 4, b"a"),
-            (Direction::Input, 4, b"b"),
-            (Direction::Output, 4, b"o"),
+            (Direction::Input, Signal::Bits(8), b"a"),
+            (Direction::Input, Signal::Clock, b"fast"),
+            (Direction::Input, Signal::Clock, b"slow"),
+            (Direction::Input, Signal::Bits(2), b"b"),
         ],
-        wires: &[(4, b"_n0")],
-        assigns: &[
-            (b"_n0", Side::Pair(b"a", BinaryOp::Xor, b"b")),
-            (b"o", Side::Plain(b"_n0")),
+        lines: &[],
+        text: b"module T(
+  input [7:0] a,
+  (* clock *) input fast,
+  (* clock *) input slow,
+  input [1:0] b
+);
+endmodule
+",
+    },
+    Case {
+        name: b"T",
+        ports: &[
+            (Direction::Input, Signal::Bits(4), b"a"),
+            (Direction::Input, Signal::Bits(4), b"b"),
+            (Direction::Output, Signal::Bits(4), b"o"),
+        ],
+        lines: &[
+            Line::Wire(4, b"_n0"),
+            Line::Assign(b"_n0", Side::Pair(b"a", BinaryOp::Xor, b"b")),
+            Line::Assign(b"o", Side::Plain(b"_n0")),
         ],
         text: b"module T(
   input [3:0] a,
@@ -58,19 +105,21 @@ endmodule
     Case {
         name: b"Every$form1",
         ports: &[
-            (Direction::Input, 1, b"a"),
-            (Direction::Input, 1, b"b"),
-            (Direction::Input, 128, b"c"),
-            (Direction::Output, 1, b"o"),
-            (Direction::Output, 128, b"p"),
+            (Direction::Input, Signal::Bits(1), b"a"),
+            (Direction::Input, Signal::Bits(1), b"b"),
+            (Direction::Input, Signal::Bits(128), b"c"),
+            (Direction::Output, Signal::Bits(1), b"o"),
+            (Direction::Output, Signal::Bits(128), b"p"),
         ],
-        wires: &[(1, b"n"), (1, b"m"), (128, b"q")],
-        assigns: &[
-            (b"n", Side::Not(b"a")),
-            (b"m", Side::Pair(b"n", BinaryOp::And, b"b")),
-            (b"o", Side::Pair(b"m", BinaryOp::Or, b"a")),
-            (b"q", Side::Not(b"c")),
-            (b"p", Side::Plain(b"q")),
+        lines: &[
+            Line::Wire(1, b"n"),
+            Line::Wire(1, b"m"),
+            Line::Wire(128, b"q"),
+            Line::Assign(b"n", Side::Not(b"a")),
+            Line::Assign(b"m", Side::Pair(b"n", BinaryOp::And, b"b")),
+            Line::Assign(b"o", Side::Pair(b"m", BinaryOp::Or, b"a")),
+            Line::Assign(b"q", Side::Not(b"c")),
+            Line::Assign(b"p", Side::Plain(b"q")),
         ],
         text: b"module Every$form1(
   input a,
@@ -87,6 +136,41 @@ endmodule
   assign o = m | a;
   assign q = ~c;
   assign p = q;
+endmodule
+",
+    },
+    Case {
+        name: b"Counts",
+        ports: &[
+            (Direction::Input, Signal::Clock, b"clock"),
+            (Direction::Input, Signal::Bits(4), b"a"),
+            (Direction::Output, Signal::Bits(4), b"o"),
+        ],
+        lines: &[
+            Line::Reg(4, b"r"),
+            Line::Reg(1, b"s"),
+            Line::Wire(4, b"_n0"),
+            Line::Reg(128, b"t"),
+            Line::Assign(b"_n0", Side::Pair(b"r", BinaryOp::Xor, b"a")),
+            Line::Assign(b"o", Side::Plain(b"r")),
+            Line::Always(b"clock", b"r", Piece::Net(b"_n0")),
+            Line::Always(b"clock", b"s", Piece::BitSelect(b"a", 3)),
+            Line::Always(b"clock", b"t", Piece::Constant(128, 10)),
+        ],
+        text: b"module Counts(
+  (* clock *) input clock,
+  input [3:0] a,
+  output [3:0] o
+);
+  reg [3:0] r;
+  reg s;
+  wire [3:0] _n0;
+  reg [127:0] t;
+  assign _n0 = r ^ a;
+  assign o = r;
+  always @(posedge clock) r <= _n0;
+  always @(posedge clock) s <= a[3];
+  always @(posedge clock) t <= 128'ha;
 endmodule
 ",
     },
@@ -192,11 +276,11 @@ fn tree_of(alloc: Global, case: &Case) -> Result<Verilog, MemoryOut> {
 
 fn ports_of(alloc: Global, case: &Case) -> Result<Seq<Port>, MemoryOut> {
     let mut ports = Vec::new(alloc);
-    for &(direction, width, name) in case.ports {
+    for &(direction, signal, name) in case.ports {
         let name = Name::new(alloc, name)?;
         ports.push(Port {
             direction,
-            width,
+            signal,
             name,
         })?;
     }
@@ -205,14 +289,40 @@ fn ports_of(alloc: Global, case: &Case) -> Result<Seq<Port>, MemoryOut> {
 
 fn items_of(alloc: Global, case: &Case) -> Result<Seq<Item>, MemoryOut> {
     let mut items = Vec::new(alloc);
-    for &(width, name) in case.wires {
-        let name = Name::new(alloc, name)?;
-        items.push(Item::Wire(Net { width, name }))?;
-    }
-    for (target, side) in case.assigns {
-        items.push(assign_of(alloc, target, side)?)?;
+    for line in case.lines {
+        items.push(item_of(alloc, line)?)?;
     }
     Ok(Seq::from_vec(items))
+}
+
+fn item_of(alloc: Global, line: &Line) -> Result<Item, MemoryOut> {
+    Ok(match line {
+        Line::Wire(width, name) => Item::Wire(net_of(alloc, *width, name)?),
+        Line::Reg(width, name) => Item::Reg(net_of(alloc, *width, name)?),
+        Line::Assign(target, side) => assign_of(alloc, target, side)?,
+        Line::Always(clock, target, source) => always_of(alloc, clock, target, source)?,
+    })
+}
+
+fn net_of(alloc: Global, width: u32, name: &[u8]) -> Result<Net, MemoryOut> {
+    let name = Name::new(alloc, name)?;
+    Ok(Net { width, name })
+}
+
+fn always_of(
+    alloc: Global,
+    clock: &[u8],
+    target: &[u8],
+    source: &Piece,
+) -> Result<Item, MemoryOut> {
+    let clock = Name::new(alloc, clock)?;
+    let target = Name::new(alloc, target)?;
+    let source = Atom::Primary(primary_of(alloc, source)?);
+    Ok(Item::Always(Always {
+        clock,
+        target,
+        source,
+    }))
 }
 
 fn assign_of(alloc: Global, target: &[u8], side: &Side) -> Result<Item, MemoryOut> {
