@@ -36,7 +36,8 @@ no_bracket Xor e = omega arith
 two : (a : Atom) (p : BinaryOp) (b : Atom) (r : List Token) → rhs_tokens (rhs.Binary a p b) ++ sign 59 ∷ r ≡ atom_tokens a ++ sign (binary_sign p) ∷ (atom_tokens b ++ sign 59 ∷ r)
 two a p b r = append_assoc (atom_tokens a) (sign (binary_sign p) ∷ atom_tokens b) (sign 59 ∷ r)
 
-split_last : (a b : Atom) (r s : List Token) → atom_tokens a ++ sign 59 ∷ r ≡ atom_tokens b ++ sign 59 ∷ s → (a ≡ b) × (r ≡ s)
+-- an operand, up to the semicolon
+pub split_last : (a b : Atom) (r s : List Token) → atom_tokens a ++ sign 59 ∷ r ≡ atom_tokens b ++ sign 59 ∷ s → (a ≡ b) × (r ≡ s)
 split_last a b r s e =
     let t = split_atom a b (sign 59 ∷ r) (sign 59 ∷ s) (λ h. omega arith) (λ h. omega arith) e in
     let rest : sign 59 ∷ r ≡ sign 59 ∷ s = t.1 in

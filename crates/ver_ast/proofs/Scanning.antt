@@ -1,14 +1,15 @@
 -- The program's capped numbers change nothing else about a text's tokens.
-use Rattle.std.proofs.Common.{◌≡◌, ℕ, List, [], ◌∷◌, ◌++◌, refl, sym, ap, ◌∙◌, Option, Some, None, option_map, append_assoc, subst}
-use Rattle.std.specs.Prelude.{map}
+use Rattle.std.proofs.Common.{◌≡◌, ℕ, List, [], ◌∷◌, ◌++◌, refl, sym, ap, ◌∙◌, Bool, true, false, Option, Some, None, option_map, append_assoc, subst}
+use Rattle.std.specs.Prelude.{map, if◌then◌else◌}
 use Rattle.std.proofs.lemmas.List.{map-append}
-use Rattle.ver_ast.specs.Tokens.{Token, Pending, between, in_word, in_number, at_base, at_digits, in_constant, in_slash, in_line_comment, in_block_comment, in_block_star, Step, step, last, go_on, tokens_from, tokens}
+use Rattle.ver_ast.specs.Tokens.{Token, Pending, between, in_word, in_sign, in_number, at_base, at_digits, in_constant, in_slash, in_line_comment, in_block_comment, in_block_star, Step, step, last, is_sign, sign, go_on, tokens_from, tokens}
 use Rattle.ver_ast.specs.Scanned.{capped, capped_pending, capped_step, IsCapped}
 use Rattle.ver_ast.proofs.Capping.{capped_as, is_capped, step_capped, same_number, same_constant, capped_token, capped_constant}
 
 last_capped : (p : Pending) → option_map (map capped) (last (capped_pending p)) ≡ option_map (map capped) (last p)
 last_capped between = refl
 last_capped (in_word w) = refl
+last_capped (in_sign b) = refl
 last_capped (in_number z v) = ap (λ t. Some (t ∷ [])) (same_number z v)
 last_capped (at_base w) = refl
 last_capped (at_digits w base) = refl
@@ -67,9 +68,14 @@ scan_more bytes found p b rest ts q r e = record {
   same = r.same ∙ ap (λ s. option_map (λ xs. found ++ xs) (go_on s (λ next. capped_from next rest))) e ∙ both_before found ts (capped_from q rest);
 }
 
+sign_at_end : (k : Bool) (b : ℕ) → option_map (map capped) (if k then Some (sign b ∷ []) else None) ≡ (if k then Some (sign b ∷ []) else None)
+sign_at_end true b = refl
+sign_at_end false b = refl
+
 capped_end : (p : Pending) → IsCapped p → option_map (map capped) (last p) ≡ last p
 capped_end between h = refl
 capped_end (in_word w) h = refl
+capped_end (in_sign b) h = sign_at_end (is_sign b) b
 capped_end (in_number z v) h = ap (λ t. Some (t ∷ [])) (capped_token z v h)
 capped_end (at_base w) h = refl
 capped_end (at_digits w base) h = refl

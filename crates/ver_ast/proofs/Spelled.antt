@@ -5,7 +5,7 @@ use Rattle.std.specs.List.{AllByRecursion}
 use Rattle.ver_ast.specs.declared.tree.Verilog.{Verilog}
 use Rattle.ver_ast.specs.declared.decide.tokens.Token.{Token as Kept}
 use Rattle.ver_ast.specs.declared.decide.tokens.Token.TheVariants as kept
-use Rattle.ver_ast.specs.Tokens.{Token, word, digit_zero, number, constant, sign, tokens}
+use Rattle.ver_ast.specs.Tokens.{Token, word, digit_zero, number, constant, sign, double, tokens}
 use Rattle.ver_ast.specs.Grammar.{module_tokens}
 use Rattle.ver_ast.specs.Scanned.{token_of, tokens_of, capped}
 use Rattle.ver_ast.specs.Put.{IsSmall, Puts}
@@ -19,6 +19,7 @@ capped_small (constant w v) h =
     let f : min v (2 ^ 128) ≡ v = omega arith in
     rw (e, f) refl
 capped_small (sign b) h = refl
+capped_small (double a b) h = refl
 
 small_before : (t : Token) → IsSmall (capped t) → IsSmall t
 small_before (word w) h = h
@@ -26,6 +27,7 @@ small_before digit_zero h = h
 small_before (number n) h = omega arith
 small_before (constant w v) h = (omega arith, omega arith)
 small_before (sign b) h = h
+small_before (double a b) h = h
 
 all_capped : (ts : List Token) → AllByRecursion IsSmall ts → map capped ts ≡ ts
 all_capped [] h = refl
@@ -48,6 +50,7 @@ same_token (kept.Constant w None) (kept.Constant u (Some y)) h e = let large : 2
 same_token (kept.Constant w (Some x)) (kept.Constant u None) h e = absurd (omega arith)
 same_token (kept.Constant w (Some x)) (kept.Constant u (Some y)) h e = cc
 same_token (kept.Sign c) (kept.Sign b) h e = cc
+same_token (kept.Double a b) (kept.Double c d) h e = cc
 same_token a b h e = absurd (cc)
 
 same_kept : (xs ys : List Kept) → AllByRecursion IsSmall (tokens_of ys) → tokens_of xs ≡ tokens_of ys → xs ≡ ys

@@ -8,7 +8,7 @@ use Rattle.ver_ast.specs.declared.decide.tokens.Base.TheVariants as letter
 use Rattle.ver_ast.specs.declared.decide.tokens.Pending.{Pending as Open}
 use Rattle.ver_ast.specs.declared.decide.tokens.Pending.TheVariants as unclosed
 use Rattle.ver_ast.specs.declared.decide.tokens.Closing.{Closing}
-use Rattle.ver_ast.specs.Tokens.{Token, word, digit_zero, number, constant, sign, Base, binary, decimal, hexadecimal, Pending, between, in_word, in_number, at_base, at_digits, in_constant, in_slash, in_line_comment, in_block_comment, in_block_star, Step, step}
+use Rattle.ver_ast.specs.Tokens.{Token, word, digit_zero, number, constant, sign, double, Base, binary, decimal, hexadecimal, Pending, between, in_word, in_sign, in_number, at_base, at_digits, in_constant, in_slash, in_line_comment, in_block_comment, in_block_star, Step, step}
 
 -- none is a value of more than 128 bits
 abbrev pub value_of : Option ℕ → ℕ
@@ -21,6 +21,7 @@ token_of kept.DigitZero = digit_zero
 token_of (kept.Number n) = number n
 token_of (kept.Constant width value) = constant width (value_of value)
 token_of (kept.Sign b) = sign b
+token_of (kept.Double a b) = double a b
 
 abbrev pub tokens_of : List Kept → List Token
 tokens_of = map token_of
@@ -33,6 +34,7 @@ base_as letter.Hexadecimal = hexadecimal
 abbrev pub pending_of : Open → Pending
 pending_of unclosed.Between = between
 pending_of (unclosed.InWord w) = in_word w.items
+pending_of (unclosed.InSign b) = in_sign b
 pending_of (unclosed.InNumber one_zero value) = in_number one_zero value
 pending_of (unclosed.AtBase width) = at_base width
 pending_of (unclosed.AtDigits width base) = at_digits width (base_as base)
@@ -51,10 +53,12 @@ capped digit_zero = digit_zero
 capped (number n) = number (min n 4294967296)
 capped (constant width value) = constant (min width 4294967296) (min value (2 ^ 128))
 capped (sign b) = sign b
+capped (double a b) = double a b
 
 abbrev pub capped_pending : Pending → Pending
 capped_pending between = between
 capped_pending (in_word w) = in_word w
+capped_pending (in_sign b) = in_sign b
 capped_pending (in_number one_zero value) = in_number one_zero (min value 4294967296)
 capped_pending (at_base width) = at_base (min width 4294967296)
 capped_pending (at_digits width base) = at_digits (min width 4294967296) base

@@ -14,4 +14,6 @@ mod tree;
 pub use decide::{TickValues, Valued, settled, spells, valid};
 pub use laws::{spells_one_tree, valid_has_one};
 pub use reserved::is_reserved;
-pub use tree::{Assign, Atom, BinaryOp, Item, Net, Port, Primary, Rhs, UnaryOp, Verilog};
+pub use tree::{
+    Always, Assign, Atom, BinaryOp, Item, Net, Port, Primary, Rhs, Signal, UnaryOp, Verilog,
+};

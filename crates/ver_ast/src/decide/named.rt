@@ -54,8 +54,11 @@ fn is_item_named(item: &Item) -> bool
     ensures { IsTrue result ↔ HasItemNames item.now }
 {
     match item {
-        Item::Wire(net) => is_name(net.name.as_bytes()),
+        Item::Wire(net) | Item::Reg(net) => is_name(net.name.as_bytes()),
         Item::Assign(assign) => is_name(assign.target.as_bytes()) && is_rhs_named(&assign.rhs),
+        Item::Always(always) => is_name(always.clock.as_bytes())
+            && is_name(always.target.as_bytes())
+            && is_atom_named(&always.source),
     }
 }
 

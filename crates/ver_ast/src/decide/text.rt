@@ -20,6 +20,7 @@ fn same_token(a: &Token, b: &Token) -> bool
         (Token::Number(x), Token::Number(y)) => x == y,
         (Token::Constant(w, x), Token::Constant(u, y)) => w == u && x == y,
         (Token::Sign(x), Token::Sign(y)) => x == y,
+        (Token::Double(x, z), Token::Double(y, w)) => x == y && z == w,
         _ => false,
     }
 }

@@ -1,7 +1,7 @@
 //! The tokens of a text, by a machine that reads one byte after the other (IEEE 1364-2005, 3.1 to 3.5).
 
 ghost use Rattle.std.specs.Prelude.{◌≡◌, ◌+◌, ◌*◌, ◌^◌, ◌++◌, ◌≤◌, min, IfOk, option_map, map, Some, []};
-ghost use Rattle.ver_ast.specs.Tokens.{in_word, in_number, at_base, at_digits, in_constant, in_slash, in_line_comment, in_block_comment, in_block_star, is_sign, is_blank, number_token, begin, close_and_begin, base_of, radix, any_digit, digit_in, step, last, tokens};
+ghost use Rattle.ver_ast.specs.Tokens.{in_word, in_sign, in_number, at_base, at_digits, in_constant, in_slash, in_line_comment, in_block_comment, in_block_star, is_sign, is_double, is_double_start, is_blank, number_token, begin, close_and_begin, base_of, radix, any_digit, digit_in, step, last, tokens};
 ghost use Rattle.ver_ast.specs.Scanned.{value_of, token_of, tokens_of, base_as, pending_of, step_of, capped, capped_step, IsCapped};
 
 use crate::decide::names::{is_digit, is_word_byte, is_word_start};
@@ -17,6 +17,8 @@ pub enum Token {
     /// The width, and the value.
     Constant(u64, Option<u128>),
     Sign(u8),
+    /// A sign of two bytes.
+    Double(u8, u8),
 }
 
 /// What the digits of a constant count.
@@ -32,6 +34,8 @@ pub enum Base {
 pub enum Pending {
     Between,
     InWord(Vec<u8>),
+    /// A byte with which a sign of two may begin.
+    InSign(u8),
     /// Whether it is the one digit 0 so far, and its value.
     InNumber(bool, u64),
     /// A constant's width, behind the quote.
@@ -73,13 +77,34 @@ fn is_sign(byte: u8) -> bool
             | b'&'
             | b'|'
             | b'^'
+            | b'@'
     )
+}
+
+fn is_double(first: u8, second: u8) -> bool
+    ensures { result ≡ is_double first second }
+{
+    (first == b'(' && second == b'*')
+        || (first == b'*' && second == b')')
+        || (first == b'<' && second == b'=')
+}
+
+fn is_double_start(byte: u8) -> bool
+    ensures { result ≡ is_double_start byte }
+{
+    matches!(byte, b'(' | b'*' | b'<')
 }
 
 fn is_blank(byte: u8) -> bool
     ensures { result ≡ is_blank byte }
 {
     matches!(byte, b' ' | b'\t' | b'\r' | b'\n')
+}
+
+fn opened(closed: Vec<Token>, pending: Pending) -> Option<Closing>
+    ensures { step_of result ≡ Some (tokens_of closed.items, pending_of pending) }
+{
+    Some(Closing { closed, pending })
 }
 
 /// The step at a byte where nothing is pending but what it closes.
@@ -89,31 +114,19 @@ fn begin(alloc: Global, mut closed: Vec<Token>, byte: u8) -> Result<Option<Closi
     if is_word_start(byte) {
         let mut word = Vec::new(alloc);
         word.push(byte)?;
-        Ok(Some(Closing {
-            closed,
-            pending: Pending::InWord(word),
-        }))
+        Ok(opened(closed, Pending::InWord(word)))
     } else if is_digit(byte) {
-        Ok(Some(Closing {
-            closed,
-            pending: Pending::InNumber(byte == b'0', u64::from(byte - b'0')),
-        }))
+        let pending = Pending::InNumber(byte == b'0', u64::from(byte - b'0'));
+        Ok(opened(closed, pending))
+    } else if is_double_start(byte) {
+        Ok(opened(closed, Pending::InSign(byte)))
     } else if is_sign(byte) {
         closed.push(Token::Sign(byte))?;
-        Ok(Some(Closing {
-            closed,
-            pending: Pending::Between,
-        }))
+        Ok(opened(closed, Pending::Between))
     } else if is_blank(byte) {
-        Ok(Some(Closing {
-            closed,
-            pending: Pending::Between,
-        }))
+        Ok(opened(closed, Pending::Between))
     } else if byte == b'/' {
-        Ok(Some(Closing {
-            closed,
-            pending: Pending::InSlash,
-        }))
+        Ok(opened(closed, Pending::InSlash))
     } else {
         Ok(None)
     }
@@ -140,10 +153,7 @@ fn number_token(one_zero: bool, value: u64) -> Token
 fn go_on(alloc: Global, pending: Pending) -> Option<Closing>
     ensures { step_of result ≡ Some ([], pending_of pending) }
 {
-    Some(Closing {
-        closed: Vec::new(alloc),
-        pending,
-    })
+    opened(Vec::new(alloc), pending)
 }
 
 fn step_in_word(alloc: Global, mut word: Vec<u8>, byte: u8) -> Result<Option<Closing>, MemoryOut>
@@ -154,6 +164,20 @@ fn step_in_word(alloc: Global, mut word: Vec<u8>, byte: u8) -> Result<Option<Clo
         Ok(go_on(alloc, Pending::InWord(word)))
     } else {
         close_and_begin(alloc, Token::Word(Name::new(alloc, word.as_slice())?), byte)
+    }
+}
+
+fn step_in_sign(alloc: Global, first: u8, byte: u8) -> Result<Option<Closing>, MemoryOut>
+    ensures { IfOk result (λ s. step_of s ≡ capped_step (in_sign first) byte) }
+{
+    if is_double(first, byte) {
+        let mut closed = Vec::new(alloc);
+        closed.push(Token::Double(first, byte))?;
+        Ok(opened(closed, Pending::Between))
+    } else if is_sign(first) {
+        close_and_begin(alloc, Token::Sign(first), byte)
+    } else {
+        Ok(None)
     }
 }
 
@@ -315,6 +339,7 @@ impl Pending {
         match self {
             Pending::Between => begin(alloc, Vec::new(alloc), byte),
             Pending::InWord(word) => step_in_word(alloc, word, byte),
+            Pending::InSign(first) => step_in_sign(alloc, first, byte),
             Pending::InNumber(one_zero, value) => step_in_number(alloc, one_zero, value, byte),
             Pending::AtBase(width) => Ok(step_at_base(alloc, width, byte)),
             Pending::AtDigits(width, base) => Ok(step_at_digits(alloc, width, base, byte)),
@@ -338,6 +363,10 @@ impl Pending {
                 closed.push(Token::Word(Name::new(alloc, word.as_slice())?))?;
                 Ok(Some(closed))
             }
+            Pending::InSign(first) if is_sign(first) => {
+                closed.push(Token::Sign(first))?;
+                Ok(Some(closed))
+            }
             Pending::InNumber(one_zero, value) => {
                 closed.push(number_token(one_zero, value))?;
                 Ok(Some(closed))
@@ -346,7 +375,8 @@ impl Pending {
                 closed.push(Token::Constant(width, value))?;
                 Ok(Some(closed))
             }
-            Pending::AtBase(_)
+            Pending::InSign(_)
+            | Pending::AtBase(_)
             | Pending::AtDigits(_, _)
             | Pending::InSlash
             | Pending::InBlockComment

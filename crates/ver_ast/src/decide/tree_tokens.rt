@@ -1,14 +1,16 @@
 //! The tokens of a tree (IEEE 1364-2005, Annex A.1 to A.8).
 
-ghost use Rattle.std.specs.Prelude.{◌≡◌, ◌∷◌, [], IfOk, OnOk, flat_map};
+ghost use Rattle.std.specs.Prelude.{◌≡◌, ◌∷◌, ◌++◌, [], codes, IfOk, OnOk, flat_map};
 ghost use Rattle.std.specs.List.{AllByRecursion};
-ghost use Rattle.ver_ast.specs.Tokens.{word, sign};
-ghost use Rattle.ver_ast.specs.Grammar.{direction_word, range_tokens, port_tokens, next_port_tokens, ports_tokens, select_number, primary_tokens, next_primary_tokens, atom_tokens, unary_sign, binary_sign, rhs_tokens, item_tokens, module_tokens};
+ghost use Rattle.ver_ast.specs.Tokens.{word, sign, double};
+ghost use Rattle.ver_ast.specs.Grammar.{direction_word, range_tokens, signal_tokens, port_tokens, next_port_tokens, ports_tokens, select_number, primary_tokens, next_primary_tokens, atom_tokens, unary_sign, binary_sign, rhs_tokens, item_tokens, module_tokens};
 ghost use Rattle.ver_ast.specs.Scanned.{token_of, tokens_of};
 ghost use Rattle.ver_ast.specs.Put.{IsSmall, Puts};
 
 use crate::decide::tokens::Token;
-use crate::tree::{Atom, BinaryOp, Item, Port, Primary, Rhs, UnaryOp, Verilog};
+use crate::tree::{
+    Always, Assign, Atom, BinaryOp, Item, Net, Port, Primary, Rhs, Signal, UnaryOp, Verilog,
+};
 use fir_base::{Direction, MemoryOut, Name};
 use std::alloc::Global;
 
@@ -24,6 +26,13 @@ fn put_sign(out: &mut Vec<Token>, byte: u8) -> Result<(), MemoryOut>
     ensures { OnOk result (Puts out.old.items out.new.items (sign byte ∷ [])) }
 {
     put(out, Token::Sign(byte))?;
+    Ok(())
+}
+
+fn put_double(out: &mut Vec<Token>, first: u8, second: u8) -> Result<(), MemoryOut>
+    ensures { OnOk result (Puts out.old.items out.new.items (double first second ∷ [])) }
+{
+    put(out, Token::Double(first, second))?;
     Ok(())
 }
 
@@ -57,11 +66,33 @@ fn direction_word(direction: Direction) -> &'static [u8]
     }
 }
 
+fn put_signal(
+    alloc: Global,
+    out: &mut Vec<Token>,
+    signal: Signal,
+    direction: Direction,
+) -> Result<(), MemoryOut>
+    ensures { OnOk result (Puts out.old.items out.new.items (signal_tokens signal direction)) }
+{
+    match signal {
+        Signal::Bits(width) => {
+            put_word(alloc, out, direction_word(direction))?;
+            put_range(out, width)?;
+        }
+        Signal::Clock => {
+            put_double(out, b'(', b'*')?;
+            put_word(alloc, out, b"clock")?;
+            put_double(out, b'*', b')')?;
+            put_word(alloc, out, direction_word(direction))?;
+        }
+    }
+    Ok(())
+}
+
 fn put_port(alloc: Global, out: &mut Vec<Token>, port: &Port) -> Result<(), MemoryOut>
     ensures { OnOk result (Puts out.old.items out.new.items (port_tokens port.now)) }
 {
-    put_word(alloc, out, direction_word(port.direction))?;
-    put_range(out, port.width)?;
+    put_signal(alloc, out, port.signal, port.direction)?;
     put_word(alloc, out, port.name.as_bytes())?;
     Ok(())
 }
@@ -189,20 +220,64 @@ fn put_rhs(alloc: Global, out: &mut Vec<Token>, rhs: &Rhs) -> Result<(), MemoryO
     Ok(())
 }
 
+fn put_net(alloc: Global, out: &mut Vec<Token>, net: &Net) -> Result<(), MemoryOut>
+    ensures { OnOk result (Puts out.old.items out.new.items (range_tokens net.now.width ++ word net.now.name ∷ [])) }
+{
+    put_range(out, net.width)?;
+    put_word(alloc, out, net.name.as_bytes())?;
+    Ok(())
+}
+
+fn put_assign(alloc: Global, out: &mut Vec<Token>, assign: &Assign) -> Result<(), MemoryOut>
+    ensures { OnOk result (Puts out.old.items out.new.items (word assign.now.target ∷ sign 61 ∷ rhs_tokens assign.now.rhs)) }
+{
+    put_word(alloc, out, assign.target.as_bytes())?;
+    put_sign(out, b'=')?;
+    put_rhs(alloc, out, &assign.rhs)?;
+    Ok(())
+}
+
+/// The edge at which a block runs (IEEE 1364-2005, 9.7.2).
+fn put_edge(alloc: Global, out: &mut Vec<Token>, clock: &[u8]) -> Result<(), MemoryOut>
+    ensures { OnOk result (Puts out.old.items out.new.items (sign 64 ∷ sign 40 ∷ word (codes "posedge") ∷ word clock.now ∷ sign 41 ∷ [])) }
+{
+    put_sign(out, b'@')?;
+    put_sign(out, b'(')?;
+    put_word(alloc, out, b"posedge")?;
+    put_word(alloc, out, clock)?;
+    put_sign(out, b')')?;
+    Ok(())
+}
+
+fn put_always(alloc: Global, out: &mut Vec<Token>, always: &Always) -> Result<(), MemoryOut>
+    ensures { OnOk result (Puts out.old.items out.new.items (sign 64 ∷ sign 40 ∷ word (codes "posedge") ∷ word always.now.clock ∷ sign 41 ∷ word always.now.target ∷ double 60 61 ∷ atom_tokens always.now.source)) }
+{
+    put_edge(alloc, out, always.clock.as_bytes())?;
+    put_word(alloc, out, always.target.as_bytes())?;
+    put_double(out, b'<', b'=')?;
+    put_atom(alloc, out, &always.source)?;
+    Ok(())
+}
+
 fn put_item(alloc: Global, out: &mut Vec<Token>, item: &Item) -> Result<(), MemoryOut>
     ensures { OnOk result (Puts out.old.items out.new.items (item_tokens item.now)) }
 {
     match item {
         Item::Wire(net) => {
             put_word(alloc, out, b"wire")?;
-            put_range(out, net.width)?;
-            put_word(alloc, out, net.name.as_bytes())?;
+            put_net(alloc, out, net)?;
+        }
+        Item::Reg(net) => {
+            put_word(alloc, out, b"reg")?;
+            put_net(alloc, out, net)?;
         }
         Item::Assign(assign) => {
             put_word(alloc, out, b"assign")?;
-            put_word(alloc, out, assign.target.as_bytes())?;
-            put_sign(out, b'=')?;
-            put_rhs(alloc, out, &assign.rhs)?;
+            put_assign(alloc, out, assign)?;
+        }
+        Item::Always(always) => {
+            put_word(alloc, out, b"always")?;
+            put_always(alloc, out, always)?;
         }
     }
     put_sign(out, b';')?;
