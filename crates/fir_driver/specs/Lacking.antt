@@ -1,7 +1,7 @@
 -- The first form of a tree that the language lacks, which stands at its first token, and the word that this token is.
--- It lacks each statement other than a node, a register, a connect and a skip, each type of a port or register other than a `UInt` with a width, but for a
--- clock that is an input, the reset of a register, each part of a reference, each literal other than of a `UInt` with a width, each operation other than
--- those that have a meaning, and a second module.
+-- It lacks each statement other than a node, a register, a connect and a skip; each type of a port or register other than a `UInt` with a width, but for
+-- a clock that is an input; the reset of a register; each part of a reference; each literal other than of a `UInt` with a width; each operation other
+-- than those that have a meaning; and a second module.
 use Rattle.std.specs.Prelude.{ℕ, List, [], ◌∷◌, length, codes, if◌then◌else◌, Option, Some, None}
 use Rattle.fir_ast.specs.declared.place.Place.{Place}
 use Rattle.fir_ast.specs.declared.expressions.Literal.{Literal}

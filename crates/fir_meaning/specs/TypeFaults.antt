@@ -4,7 +4,7 @@
 use Rattle.std.specs.Prelude.{ℕ, List, [], ◌∷◌, Bool, true, false, if◌then◌else◌, Option, Some, None}
 use Rattle.fir_ast.specs.declared.place.Place.{Place}
 use Rattle.fir_ast.specs.declared.types.Ty.{Ty}
-use Rattle.fir_ast.specs.declared.types.Ty.TheVariants.{UInt, Clock}
+use Rattle.fir_ast.specs.declared.types.Ty.TheVariants.{Clock}
 use Rattle.fir_ast.specs.declared.fault.FirFault.{FirFault}
 use Rattle.fir_ast.specs.declared.fault.FirFault.TheVariants.{Kinds, Types, Flow}
 use Rattle.fir_ast.specs.Expressions.{Expression, reference, literal, operation, mux, validif}

@@ -20,8 +20,8 @@ pub data Base : Type 0 where
   decimal : Base
   hexadecimal : Base
 
--- what is not yet closed: a word; a byte that may begin a sign of two; a number, with whether it is the one digit 0 so far; a constant behind its quote, behind its base, and within its
--- digits; a slash; a comment; a comment's star
+-- what is not yet closed: a word; a byte that may begin a sign of two; a number, with whether it is the one digit 0 so far; a constant behind its
+-- quote, behind its base, and within its digits; a slash; a comment; a comment's star
 pub data Pending : Type 0 where
   between : Pending
   in_word : List ℕ → Pending
