@@ -1,69 +1,47 @@
 -- The ports of a clean module, and the leaves of its net.
--- A port's leaf has the port's width, and an input is bound to its leaf, whatever drives the outputs.
-use Rattle.std.proofs.Common.{◌≡◌, ℕ, ◌+◌, List, [], ◌∷◌, ◌++◌, length, map, min, slice_get, Option, Some, None, false, unwrap_or, option_map, le-leb, append_assoc, refl, sym, ap, ◌∙◌, subst, arith}
-use Rattle.std.proofs.lemmas.List.{append-nil, length-append}
+-- An input, which may be a clock, is bound to its leaf, whatever drives the outputs.
+use Rattle.std.proofs.Common.{◌≡◌, ℕ, ◌+◌, List, [], ◌∷◌, ◌++◌, map, slice_get, Some, append_assoc, refl, sym, subst}
+use Rattle.std.proofs.lemmas.List.{append-nil}
 use Rattle.fir_base.specs.declared.direction.Direction.{Direction}
 use Rattle.fir_base.specs.declared.direction.Direction.TheVariants as direction
-use Rattle.fir_bits.specs.declared.types.NumTy.{NumTy}
+use Rattle.fir_ast.specs.Types.{DataType, clock}
+use Rattle.fir_ast.specs.Statements.{Named}
 use Rattle.fir_ast.specs.Circuits.{PortTree}
 use Rattle.fir_net.specs.declared.reads.Read.TheVariants as read
 use Rattle.fir_net.specs.declared.net.Leaf.{Leaf}
-use Rattle.fir_meaning.specs.Scopes.{Scope, port_kind, port_declared, written_type}
-use Rattle.fir_meaning.specs.NameFaults.{is_readable}
-use Rattle.fir_meaning.specs.Clean.{IsCleanPort, AreCleanPorts}
-use Rattle.fir_driver.specs.Lowered.{Binding, Driver, port_width, port_role, port_leaf, input_binding, port_bindings}
-use Rattle.fir_driver.proofs.NetGrowth.{IsBound}
-use Rattle.fir_driver.proofs.Bindings.{Binds, binds_more, binds_unread}
+use Rattle.fir_meaning.specs.Scopes.{Scope, input_kind, port_declared, written_type}
+use Rattle.fir_meaning.specs.Clean.{IsPortType, IsCleanPort, AreCleanPorts}
+use Rattle.fir_driver.specs.Lowered.{Binding, Driver, leaf_width, input_role, port_leaf, input_binding, port_bindings}
+use Rattle.fir_driver.proofs.ListParts.{StandsAt, head_stands, tail_stands}
+use Rattle.fir_driver.proofs.Bindings.{IsBoundAs, Binds, binds_more, binds_output}
+use Rattle.fir_driver.proofs.BoundLeaves.{leaf_bound}
 
--- a clean port holds a UInt of its leaf's width
-pub port_holds : (scope : Scope) (p : PortTree) → IsCleanPort scope p → written_type p.data_type ≡ record { signed = false; width = port_width p.data_type }
-port_holds scope p c =
-    let e : min c.width 129 ≡ c.width = omega (arith, c.narrow) in
-    rw (c.type, le-leb c.width 128 c.narrow) (ap (λ (w : ℕ). record { signed = false; width = w }) e)
-
-pub port_holds_width : (scope : Scope) (p : PortTree) → IsCleanPort scope p → (written_type p.data_type).width ≡ port_width p.data_type
-port_holds_width scope p c = ap (λ (t : NumTy). t.width) (port_holds scope p c)
-
--- the leaf of a port between others
-pub leaf_at : (drivers : List Driver) (front ps : List PortTree) (p : PortTree)
-    → slice_get (map (port_leaf drivers) (front ++ p ∷ ps)) (length front) ≡ Some (port_leaf drivers p)
-leaf_at drivers [] ps p = refl
-leaf_at drivers (q ∷ front) ps p = leaf_at drivers front ps p
-
--- an input can be read at its leaf
-module _ (drivers : List Driver) (front ps : List PortTree) (scope : Scope) (p : PortTree) (c : IsCleanPort scope p) (is_input : p.direction ≡ direction.Input) where
-  input_bound : IsBound (map (port_leaf drivers) (front ++ p ∷ ps)) [] (written_type p.data_type) (record { read = read.Leaf (length front); width = port_width p.data_type })
-  input_bound =
-      let at = leaf_at drivers front ps p in
-      record {
-        reads = (port_leaf drivers p, at, ap (λ (d : Direction). port_role d drivers p.named.name) is_input);
-        of_width = ap (λ (o : Option Leaf). unwrap_or (option_map (λ l. l.width) o) 0) at;
-        of_type = sym (port_holds scope p c);
-      }
+-- an input's name can be bound to its leaf
+input_bound : (leaves : List Leaf) (l : Leaf) (k : ℕ) (t : DataType) → slice_get leaves k ≡ Some l → l.role ≡ input_role t → l.width ≡ leaf_width t → IsPortType direction.Input t
+    → IsBoundAs leaves [] (input_kind t) (written_type t) (record { read = read.Leaf k; width = leaf_width t })
+input_bound leaves l k clock at r w c = (l, at, r)
+input_bound leaves l k t at r w c = leaf_bound leaves [] l k t at (rw r refl) w c
 
 -- the bindings with those of one more port
-port_binds : (drivers : List Driver) (front ps : List PortTree) (scope : Scope) (bs : List Binding) (d : Direction) (p : PortTree) → IsCleanPort scope p → p.direction ≡ d
-    → Binds (map (port_leaf drivers) (front ++ p ∷ ps)) [] scope bs
-    → Binds (map (port_leaf drivers) (front ++ p ∷ ps)) [] (scope ++ port_declared p ∷ []) (input_binding d (length front) p ++ bs)
-port_binds drivers front ps scope bs direction.Input p c e b =
-    binds_more (map (port_leaf drivers) (front ++ p ∷ ps)) [] scope bs (port_declared p) (record { read = read.Leaf (length front); width = port_width p.data_type }) c.new
-    (input_bound drivers front ps scope p c e) b
-port_binds drivers front ps scope bs direction.Output p c e b =
-    binds_unread (map (port_leaf drivers) (front ++ p ∷ ps)) [] scope bs (port_declared p) (ap (λ (d : Direction). is_readable (port_kind d)) e) b
+port_binds : (leaves : List Leaf) (drivers : List Driver) (k : ℕ) (scope : Scope) (bs : List Binding) (d : Direction) (n : Named) (t : DataType)
+    → IsCleanPort scope (record { direction = d; named = n; data_type = t })
+    → slice_get leaves k ≡ Some (port_leaf drivers (record { direction = d; named = n; data_type = t })) → Binds leaves [] scope bs
+    → Binds leaves [] (scope ++ port_declared (record { direction = d; named = n; data_type = t }) ∷ []) (input_binding d k (record { direction = d; named = n; data_type = t }) ++ bs)
+port_binds leaves drivers k scope bs direction.Input n t c at b =
+    let p : PortTree = record { direction = direction.Input; named = n; data_type = t } in
+    binds_more leaves [] scope bs (port_declared p) (record { read = read.Leaf k; width = leaf_width t }) c.new (input_bound leaves (port_leaf drivers p) k t at refl refl c.type) b
+port_binds leaves drivers k scope bs direction.Output n t c at b =
+    let p : PortTree = record { direction = direction.Output; named = n; data_type = t } in
+    binds_output leaves [] scope bs (port_declared p) refl b
 
-ports_bind : (drivers : List Driver) (all front ps : List PortTree) (scope : Scope) (bs : List Binding) → all ≡ front ++ ps → AreCleanPorts scope ps
-    → Binds (map (port_leaf drivers) all) [] scope bs → Binds (map (port_leaf drivers) all) [] (scope ++ map port_declared ps) (port_bindings bs (length front) ps)
-ports_bind drivers all front [] scope bs e c b = subst (λ (x : Scope). Binds (map (port_leaf drivers) all) [] x bs) (sym (append-nil scope)) b
-ports_bind drivers all front (p ∷ ps) scope bs e c b =
-    let more = port_binds drivers front ps scope bs p.direction p c.0 refl (subst (λ (x : List PortTree). Binds (map (port_leaf drivers) x) [] scope bs) e b) in
-    let declared = port_declared p in
-    let bound = input_binding p.direction (length front) p ++ bs in
-    let back = subst (λ (x : List PortTree). Binds (map (port_leaf drivers) x) [] (scope ++ declared ∷ []) bound) (sym e) more in
-    let rest = ports_bind drivers all (front ++ p ∷ []) ps (scope ++ declared ∷ []) bound (e ∙ sym (append_assoc front (p ∷ []) ps)) c.1 back in
-    let count : length (front ++ p ∷ []) ≡ length front + 1 = length-append front (p ∷ []) in
-    subst (λ (x : Scope). Binds (map (port_leaf drivers) all) [] x (port_bindings bound (length front + 1) ps)) (append_assoc scope (declared ∷ []) (map port_declared ps))
-    (subst (λ (k : ℕ). Binds (map (port_leaf drivers) all) [] ((scope ++ declared ∷ []) ++ map port_declared ps) (port_bindings bound k ps)) count rest)
-
--- all ports: what their scope finds and may be read is bound
-pub bindings_bind : (drivers : List Driver) (ps : List PortTree) → AreCleanPorts [] ps → Binds (map (port_leaf drivers) ps) [] (map port_declared ps) (port_bindings [] 0 ps)
-bindings_bind drivers ps c = ports_bind drivers ps [] ps [] [] refl c (record { each = λ n d h r. let e : None ≡ Some d = h in cc })
+-- all ports from one on: what their scope finds is bound
+pub bindings_bind : (leaves : List Leaf) (drivers : List Driver) (k : ℕ) (scope : Scope) (bs : List Binding) (ps : List PortTree) → AreCleanPorts scope ps
+    → StandsAt leaves k (map (port_leaf drivers) ps) → Binds leaves [] scope bs → Binds leaves [] (scope ++ map port_declared ps) (port_bindings bs k ps)
+bindings_bind leaves drivers k scope bs [] c s b = subst (λ (x : Scope). Binds leaves [] x bs) (sym (append-nil scope)) b
+bindings_bind leaves drivers k scope bs (p ∷ ps) c s b =
+    let leaf = port_leaf drivers p in
+    let others = map (port_leaf drivers) ps in
+    let more = port_binds leaves drivers k scope bs p.direction p.named p.data_type c.0 (head_stands leaves k leaf others s) b in
+    let bound = input_binding p.direction k p ++ bs in
+    subst (λ (x : Scope). Binds leaves [] x (port_bindings bound (k + 1) ps)) (append_assoc scope (port_declared p ∷ []) (map port_declared ps))
+    (bindings_bind leaves drivers (k + 1) (scope ++ port_declared p ∷ []) bound ps c.1 (tail_stands leaves k leaf others s) more)

@@ -18,12 +18,17 @@ pub mod FrontWords
 pub mod LexedWords
 pub mod LoweredTables
 pub mod LoweredLists
+pub mod ListParts
 pub mod NetGrowth
 pub mod Bindings
 pub mod WholeNodes
 pub mod WholeExpressions
+pub mod DrivenSinks
+pub mod BoundLeaves
+pub mod WholeStatements
 pub mod WholeBodies
 pub mod CleanPorts
+pub mod PortsFirst
 pub mod LoweredWhole
 pub mod MainScope
 pub mod LoweredRows

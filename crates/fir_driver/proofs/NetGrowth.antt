@@ -1,6 +1,6 @@
 -- A net that grows by nodes at its end.
 -- What could be read can still be read, at the same width, and each node keeps standing over those before it.
-use Rattle.std.proofs.Common.{◌≡◌, ℕ, zero, suc, ◌<◌, List, [], ◌∷◌, ◌++◌, length, slice_get, Option, Some, false, unwrap_or, option_map, append_assoc, refl, sym, ap, ◌∙◌, subst, arith}
+use Rattle.std.proofs.Common.{◌≡◌, List, [], ◌∷◌, ◌++◌, length, Option, false, unwrap_or, option_map, append_assoc, refl, sym, ap, ◌∙◌, subst, arith}
 use Rattle.std.proofs.lemmas.List.{append-nil, length-append}
 use Rattle.fir_bits.specs.declared.types.NumTy.{NumTy}
 use Rattle.fir_net.specs.declared.reads.Read.{Read}
@@ -9,16 +9,7 @@ use Rattle.fir_net.specs.declared.net.Leaf.{Leaf}
 use Rattle.fir_net.specs.declared.net.Node.{Node}
 use Rattle.fir_net.specs.IsNet.{node_width, read_width, CanRead, IsNode, AreNodes}
 use Rattle.fir_driver.specs.Lowered.{Bound, bound_type}
-
--- an element of the front, and the one behind the front
-pub get_front : {A : Type 0} → (xs ys : List A) (k : ℕ) → k < length xs → slice_get (xs ++ ys) k ≡ slice_get xs k
-get_front [] ys k h = absurd (omega arith)
-get_front (x ∷ xs) ys zero h = refl
-get_front (x ∷ xs) ys (suc k) h = get_front xs ys k (omega arith)
-
-pub get_behind : {A : Type 0} → (xs ys : List A) (y : A) → slice_get (xs ++ y ∷ ys) (length xs) ≡ Some y
-get_behind [] ys y = refl
-get_behind (x ∷ xs) ys y = get_behind xs ys y
+use Rattle.fir_driver.proofs.ListParts.{get_front, get_behind}
 
 -- a bound that can be read in the net, with its type
 pub record IsBound (leaves : List Leaf) (nodes : List Node) (t : NumTy) (b : Bound) : Type 0 where

@@ -13,7 +13,7 @@ use Rattle.fir_meaning.specs.Clean.{IsClean, AreClean}
 use Rattle.fir_driver.specs.Lowered.{Binding, literal_bits, operation_node, nodes_with, bound_with, nodes_with_each, bounds_with_each}
 use Rattle.fir_driver.proofs.WholeNodes.{AreBound, known, width_is, node_is, fitting_fits, literal_typed}
 use Rattle.fir_driver.proofs.NetGrowth.{IsBound, Keeps, keeps_all, keeps_both, keeps_more, bound_last, nodes_more}
-use Rattle.fir_driver.proofs.Bindings.{Binds, binds_kept}
+use Rattle.fir_driver.proofs.Bindings.{Binds, binds_kept, found_readable}
 
 -- the nodes of an expression behind a whole net, and its value
 pub record IsLowered (leaves : List Leaf) (scope : Scope) (bs : List Binding) (ns : List Node) (e : Expression) : Type 0 where
@@ -37,7 +37,7 @@ mutual
         keeps = keeps_all leaves ns;
         type = c.declared.holds;
         types_are = rw c.found refl;
-        bound = b.each n c.declared c.found c.readable;
+        bound = found_readable leaves ns scope bs b n c.declared c.found c.readable;
       }
   expression_lowered leaves scope bs ns (literal l) b a c =
       let n : Node = net_node.Literal (literal_bits l) in
