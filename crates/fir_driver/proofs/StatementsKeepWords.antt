@@ -46,7 +46,7 @@ memory_body d [] = nothing
 memory_body d (f ∷ fs) = next somewhere (next (memory_part d f) (next (memory_parts d fs) somewhere))
 
 mutual
-  statement_keeps : (d : ℕ) (s : Statement) → KeepsWords (IsStatement d s)
+  pub statement_keeps : (d : ℕ) (s : Statement) → KeepsWords (IsStatement d s)
   statement_keeps d (wire p n t) = next token (next token (next somewhere (next (type_keeps d t) somewhere)))
   statement_keeps d (register p n t c r) =
       next token (next token (next somewhere (next (type_keeps d t) (next somewhere (next (expression_keeps d c) (reset_keeps d r))))))
@@ -60,7 +60,7 @@ mutual
   statement_keeps d (invalid p s) = next (sink_keeps d s) (next somewhere (next somewhere (next somewhere given)))
   statement_keeps d (skip p) = next token somewhere
 
-  pub statements_keep : (d : ℕ) (b : Block) → KeepsWords (AreStatements d b)
+  statements_keep : (d : ℕ) (b : Block) → KeepsWords (AreStatements d b)
   statements_keep d done = nothing
   statements_keep d ((then) s rest) = next (statement_keeps d s) (statements_keep d rest)
 
