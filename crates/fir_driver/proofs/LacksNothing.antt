@@ -1,12 +1,12 @@
 -- A tree lacks nothing exactly where it is in the language.
-use Rattle.std.proofs.Common.{◌≡◌, List, [], ◌∷◌, Bool, true, false, cond, ◌&&◌, length, Option, Some, None, refl, IsTrue}
+use Rattle.std.proofs.Common.{◌≡◌, List, [], ◌∷◌, Bool, true, false, cond, ◌&&◌, length, Option, Some, None, is_none, refl, IsTrue}
 use Rattle.fir_ast.specs.declared.place.Place.{Place}
 use Rattle.fir_ast.specs.Expressions.{Expression, reference, literal, operation, mux, validif, Parts, no_parts, subfield, subindex, subaccess, Expressions, no_expressions, expression}
-use Rattle.fir_ast.specs.Statements.{Named, Statement, wire, register, node, instance, memory, when, connect, partial_connect, invalid, skip, Block, done, then}
+use Rattle.fir_ast.specs.Statements.{Named, Reset, Statement, wire, register, node, instance, memory, when, connect, partial_connect, invalid, skip, Block, done, then}
 use Rattle.fir_ast.specs.Circuits.{PortTree, ModuleTree, CircuitTree}
-use Rattle.fir_meaning.specs.Language.{is_plain, is_unsigned, is_port_type, counts, count, has_counts, is_expression, are_expressions, is_statement, are_statements, are_ports, is_in_language}
+use Rattle.fir_meaning.specs.Language.{is_plain, is_unsigned, is_port_type, is_register_type, counts, count, has_counts, is_expression, are_expressions, is_statement, are_statements, are_ports, is_in_language}
 use Rattle.fir_driver.specs.Options.{or_else}
-use Rattle.fir_driver.specs.Lacking.{lacking_port, lacking_ports, lacking_part, lacking_expression, lacking_operands, lacking_statement, lacking_statements, lacking_module, lacking}
+use Rattle.fir_driver.specs.Lacking.{lacking_port, lacking_ports, lacking_part, lacking_expression, lacking_operands, lacking_register_type, lacking_reset, lacking_statement, lacking_statements, lacking_module, lacking}
 
 both : (a b : Bool) → a ≡ true → b ≡ true → (a && b) ≡ true
 both true b x y = y
@@ -56,14 +56,22 @@ mutual
   operands_whole (expression x es) e =
       let h = neither (lacking_expression x) (lacking_operands es) e in both (is_expression x) (are_expressions es) (expression_whole x h.0) (operands_whole es h.1)
 
+reset_whole : (r : Option Reset) → lacking_reset r ≡ None → is_none r ≡ true
+reset_whole None e = refl
+reset_whole (Some r) e = absurd cc
+
 statement_whole : (s : Statement) → lacking_statement s ≡ None → is_statement s ≡ true
 statement_whole (node p n x) e = expression_whole x e
+statement_whole (register p n t c r) e =
+    let h = neither (lacking_register_type n.place t) (or_else (lacking_expression c) (lacking_reset r)) e in
+    let k = neither (lacking_expression c) (lacking_reset r) h.1 in
+    both (is_register_type t) (is_expression c && is_none r) (passed (is_register_type t) None _ h.0).0
+    (both (is_expression c) (is_none r) (expression_whole c k.0) (reset_whole r k.1))
 statement_whole (connect p k x) e =
     let h = neither (lacking_part k.place k.parts) (lacking_expression x) e in
     both (is_plain k.parts) (is_expression x) (part_whole k.place k.parts h.0) (expression_whole x h.1)
 statement_whole (skip p) e = refl
 statement_whole (wire p n t) e = absurd cc
-statement_whole (register p n t c r) e = absurd cc
 statement_whole (instance p n m) e = absurd cc
 statement_whole (memory p n fs) e = absurd cc
 statement_whole (when p c a b) e = absurd cc
@@ -79,7 +87,7 @@ ports_whole : (ps : List PortTree) → lacking_ports ps ≡ None → are_ports p
 ports_whole [] e = refl
 ports_whole (p ∷ ps) e =
     let h = neither (lacking_port p) (lacking_ports ps) e in
-    both (is_port_type p.data_type) (are_ports ps) (passed (is_port_type p.data_type) None _ h.0).0 (ports_whole ps h.1)
+    both (is_port_type p.direction p.data_type) (are_ports ps) (passed (is_port_type p.direction p.data_type) None _ h.0).0 (ports_whole ps h.1)
 
 modules_whole : (n : Named) (ms : List ModuleTree) → lacking (record { named = n; modules = ms }) ≡ None → is_in_language (record { named = n; modules = ms }) ≡ true
 modules_whole n [] e = absurd cc
@@ -114,14 +122,22 @@ mutual
   operands_lack (expression x es) e =
       let h = each (is_expression x) (are_expressions es) e in no_other (lacking_expression x) (lacking_operands es) (expression_lacks x h.0) (operands_lack es h.1)
 
+reset_lacks : (r : Option Reset) → is_none r ≡ true → lacking_reset r ≡ None
+reset_lacks None e = refl
+reset_lacks (Some r) e = absurd cc
+
 statement_lacks : (s : Statement) → is_statement s ≡ true → lacking_statement s ≡ None
 statement_lacks (node p n x) e = expression_lacks x e
+statement_lacks (register p n t c r) e =
+    let h = each (is_register_type t) (is_expression c && is_none r) e in
+    let k = each (is_expression c) (is_none r) h.1 in
+    no_other (lacking_register_type n.place t) (or_else (lacking_expression c) (lacking_reset r)) (passes (is_register_type t) None _ h.0 refl)
+    (no_other (lacking_expression c) (lacking_reset r) (expression_lacks c k.0) (reset_lacks r k.1))
 statement_lacks (connect p k x) e =
     let h = each (is_plain k.parts) (is_expression x) e in
     no_other (lacking_part k.place k.parts) (lacking_expression x) (part_lacks k.place k.parts h.0) (expression_lacks x h.1)
 statement_lacks (skip p) e = refl
 statement_lacks (wire p n t) e = absurd cc
-statement_lacks (register p n t c r) e = absurd cc
 statement_lacks (instance p n m) e = absurd cc
 statement_lacks (memory p n fs) e = absurd cc
 statement_lacks (when p c a b) e = absurd cc
@@ -136,8 +152,8 @@ statements_lack ((then) s b) e =
 ports_lack : (ps : List PortTree) → are_ports ps ≡ true → lacking_ports ps ≡ None
 ports_lack [] e = refl
 ports_lack (p ∷ ps) e =
-    let h = each (is_port_type p.data_type) (are_ports ps) e in
-    no_other (lacking_port p) (lacking_ports ps) (passes (is_port_type p.data_type) None _ h.0 refl) (ports_lack ps h.1)
+    let h = each (is_port_type p.direction p.data_type) (are_ports ps) e in
+    no_other (lacking_port p) (lacking_ports ps) (passes (is_port_type p.direction p.data_type) None _ h.0 refl) (ports_lack ps h.1)
 
 modules_lack : (n : Named) (ms : List ModuleTree) → is_in_language (record { named = n; modules = ms }) ≡ true → lacking (record { named = n; modules = ms }) ≡ None
 modules_lack n [] e = absurd cc

@@ -2,25 +2,25 @@
 
 ghost use Rattle.std.specs.Prelude.{◌≡◌, ◌+◌, ◌<◌, length, option_map, slice_get, unwrap_or};
 ghost use Rattle.fir_lex.specs.View.{placed};
-ghost use Rattle.fir_driver.specs.Lacks.{is_word_at, place_before, place_behind, place_of};
+ghost use Rattle.fir_driver.specs.Lacks.{is_that_word, is_word, is_word_at, place_before, place_behind, place_of};
 
 use fir_ast::Place;
 use fir_lex::{Kind, TokenRef, Tokens};
 
-/// A token, by its own place or by a word beside it.
+/// The first token of a form, by its own place or by a word beside it.
 #[derive(Clone, Copy, Debug, PartialEq, Eq)]
 pub enum Spot {
     At(Place),
-    /// The token before the word at the place.
+    /// The last token of the form's word before the word at the place.
     Before(Place),
     /// So many tokens behind the word at the place.
     Behind(Place, usize),
 }
 
-fn is_word_at(place: Place, token: TokenRef) -> bool
-    ensures { result ≡ is_word_at place (placed token.entry) }
+fn is_word(token: TokenRef) -> bool
+    ensures { result ≡ is_word (placed token.entry).token }
 {
-    let is_word = match token.kind {
+    match token.kind {
         Kind::Word => true,
         Kind::DashWord
         | Kind::Integer
@@ -30,8 +30,19 @@ fn is_word_at(place: Place, token: TokenRef) -> bool
         | Kind::LineEnd
         | Kind::LevelOpens
         | Kind::LevelCloses => false,
-    };
-    is_word && (token.place.line == place.line && token.place.col == place.col)
+    }
+}
+
+fn is_word_at(place: Place, token: TokenRef) -> bool
+    ensures { result ≡ is_word_at place (placed token.entry) }
+{
+    is_word(token) && (token.place.line == place.line && token.place.col == place.col)
+}
+
+fn is_that_word(word: &[u8], token: TokenRef) -> bool
+    ensures { result ≡ is_that_word word.now (placed token.entry).token }
+{
+    is_word(token) && token.spelling == word
 }
 
 /// The token so many behind the one at the index.
@@ -69,9 +80,9 @@ fn place_behind(tokens: &Tokens, place: Place, count: usize) -> Place
     place
 }
 
-/// The place of the token before the word at the place.
-fn place_before(tokens: &Tokens, place: Place) -> Place
-    ensures { result ≡ place_before place place tokens.now.tokens }
+/// The place of the last token of that word before the word at the place.
+fn place_before(tokens: &Tokens, word: &[u8], place: Place) -> Place
+    ensures { result ≡ place_before word.now place place tokens.now.tokens }
 {
     let mut last = place;
     for index in 0..tokens.len() {
@@ -79,19 +90,21 @@ fn place_before(tokens: &Tokens, place: Place) -> Place
             if is_word_at(place, token) {
                 return last;
             }
-            last = token.place;
+            if is_that_word(word, token) {
+                last = token.place;
+            }
         }
     }
     place
 }
 
-/// The place of the token.
-pub fn place_of(tokens: &Tokens, spot: Spot) -> Place
-    ensures { result ≡ place_of spot tokens.now.tokens }
+/// The place of the token that the spot means, where the form's first token is that word.
+pub fn place_of(tokens: &Tokens, spot: Spot, word: &[u8]) -> Place
+    ensures { result ≡ place_of spot word.now tokens.now.tokens }
 {
     match spot {
         Spot::At(place) => place,
-        Spot::Before(place) => place_before(tokens, place),
+        Spot::Before(place) => place_before(tokens, word, place),
         Spot::Behind(place, count) => place_behind(tokens, place, count),
     }
 }

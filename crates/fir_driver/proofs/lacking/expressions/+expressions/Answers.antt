@@ -3,7 +3,7 @@ use Rattle.fir_ast.specs.View.{expr_of, expressions_of}
 use Rattle.fir_driver.specs.Lacking.{lack, lacking_operands}
 use Rattle.fir_driver.specs.declared.spot.Spot.TheVariants.{At}
 use Rattle.fir_driver.proofs.LackingOperations.{counted_right, counted_wrong}
-use Rattle.fir_driver.proofs.lacking.+expressions.Goals as goal
+use Rattle.fir_driver.proofs.lacking.expressions.+expressions.Goals as goal
 
 pub lacking_expression-returns-then-has_counts : goal.lacking_expression-returns-then-has_counts
 lacking_expression-returns-then-has_counts t c =
