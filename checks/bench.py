@@ -1,77 +1,85 @@
 #!/usr/bin/env python3
-"""Prints a Verilog test bench that puts the inputs of an .expected file and prints its lines.
+"""Prints a Verilog test bench that runs a trace and prints the lines of NAME.expected.
 
-The names of the module and its ports are worked out here once more: a name that is reserved in Verilog or
-taken by a port before it gets the first free of `_0`, `_1` and so on behind it, and a port of no bits is
-left out.
+It sets the words of the state at time 0, a word that the trace does not name to 0. At each tick it puts the inputs
+and shows the outputs, raises the clocks of the tick at one time, shows the state, and lowers the clocks later. The
+state is shown while the clocks are high, so that what the falling edge changes is seen at this tick or the next.
 
-usage: bench.py SOURCE.fir SOURCE.expected
+usage: bench.py SOURCE.fir SOURCE.trace
 """
 import pathlib
 import sys
 
 sys.path.insert(0, str(pathlib.Path(__file__).resolve().parent.parent / "examples"))
-from expected import name_of, parse  # noqa: E402
-
-RESERVED = """always and assign automatic begin buf bufif0 bufif1 case casex casez cell cmos config deassign default
-defparam design disable edge else end endcase endconfig endfunction endgenerate endmodule endprimitive endspecify
-endtable endtask event for force forever fork function generate genvar highz0 highz1 if ifnone incdir include initial
-inout input instance integer join large liblist library localparam macromodule medium module nand negedge nmos nor
-noshowcancelled not notif0 notif1 or output parameter pmos posedge primitive pull0 pull1 pulldown pullup
-pulsestyle_ondetect pulsestyle_onevent rcmos real realtime reg release repeat rnmos rpmos rtran rtranif0 rtranif1
-scalared showcancelled signed small specify specparam strong0 strong1 supply0 supply1 table task time tran tranif0
-tranif1 tri tri0 tri1 triand trior trireg unsigned use uwire vectored wait wand weak0 weak1 while wire wor xnor
-xor""".split()
+from emitted_names import emitted_module, emitted_names  # noqa: E402
+from expected import Circuit  # noqa: E402
 
 
-def free(name, taken):
-    """The name, or the first free one with a number behind it."""
-    if name not in RESERVED and name not in taken:
-        return name
-    return next(f"{name}_{k}" for k in range(len(taken) + 1) if f"{name}_{k}" not in taken)
+def read_trace(text):
+    """The init lines as a name with its value, and the ticks as the numbers of the rising clocks with the inputs."""
+    init, ticks = {}, []
+    for words in map(str.split, text.splitlines()):
+        if words[0] == "init":
+            init[words[1]] = words[2]
+        else:
+            ticks.append(([] if words[0] == "-" else [int(k) for k in words[0].split(",")], words[1:]))
+    return init, ticks
 
 
-def verilog_ports(text):
-    """The ports of the emitted module: direction, name and width."""
-    ports, taken = [], set()
-    for direction, name, width in parse(text)[0]:
-        if width:
-            name = free(name, taken)
-            taken.add(name)
-            ports.append((direction, name, width))
-    return ports
+def variables(kind, letter, widths):
+    """Declarations of variables of the bench, each named by a letter and its number."""
+    for k, width in enumerate(widths):
+        yield f"  {kind} {f'[{width - 1}:0] ' if width > 1 else ''}{letter}{k};"
 
 
-def verilog_module(text):
-    name = name_of(text)
-    return name + "_0" if name in RESERVED else name
+def connections(circuit, names):
+    """The ports of the module, each at the variable of the bench that stands for it."""
+    for letter, ports in (("i", circuit.inputs), ("o", circuit.outputs), ("c", [(name, 1) for name in circuit.clocks])):
+        for k, (name, width) in enumerate(ports):
+            yield f".{names[name]}({letter}{k})"
+
+
+def shows(task, shape, values):
+    return f"{task}({', '.join([chr(34) + shape + chr(34)] + values)});"
+
+
+def tick(circuit, words, rising, inputs):
+    """The statements of a tick; all clocks are set by one assignment."""
+    outputs = [f"o{k}" for k in range(len(circuit.outputs))]
+    for k, ((name, width), value) in enumerate(zip(circuit.inputs, inputs)):
+        yield f"i{k} = {width}'h{value};"
+    yield "#1 " + shows("$write", "%h " * len(outputs) + "|", outputs)
+    clocks = "{" + ", ".join(f"c{k}" for k in range(len(circuit.clocks))) + "}"
+    levels = "".join("1" if k in rising else "0" for k in range(len(circuit.clocks)))
+    if rising:
+        yield f"#1 {clocks} = {len(levels)}'b{levels};"
+    yield "#1 " + shows("$display", " %h" * len(words), words)
+    if rising:
+        yield f"#1 {clocks} = 0;"
+
+
+def bench(circuit, init, ticks):
+    """The lines of the bench."""
+    names, module = emitted_names(circuit), emitted_module(circuit)
+    words = [names[name] for name, width, clock in circuit.words]
+    yield f"module {'bench_0' if module == 'bench' else 'bench'};"
+    yield from variables("reg", "i", [width for name, width in circuit.inputs])
+    yield from variables("reg", "c", [1] * len(circuit.clocks))
+    yield from variables("wire", "o", [width for name, width in circuit.outputs])
+    yield f"  {module} dut({', '.join(connections(circuit, names))});"
+    yield "  initial begin"
+    yield from (f"    c{k} = 0;" for k in range(len(circuit.clocks)))
+    for word, (name, width, clock) in zip(words, circuit.words):
+        yield f"    dut.{word} = {width}'h{init.get(word, '0')};"
+    for rising, inputs in ticks:
+        yield "    " + " ".join(tick(circuit, [f"dut.{word}" for word in words], rising, inputs))
+    yield "  end"
+    yield "endmodule"
 
 
 def main():
-    source, expected = map(pathlib.Path, sys.argv[1:3])
-    text = source.read_text()
-    ports = verilog_ports(text)
-    inputs = [(name, width) for direction, name, width in ports if direction == "input"]
-    outputs = [(name, width) for direction, name, width in ports if direction == "output"]
-
-    def net(kind, name, width):
-        return f"  {kind} {f'[{width - 1}:0] ' if width > 1 else ''}{name};"
-
-    print("module bench;")
-    for name, width in inputs:
-        print(net("reg", name, width))
-    for name, width in outputs:
-        print(net("wire", name, width))
-    print(f"  {verilog_module(text)} dut(" + ", ".join(f".{name}({name})" for _, name, _ in ports) + ");")
-    print("  initial begin")
-    shape = " ".join(["%0h"] * len(inputs) + ["->"] + ["%0h"] * len(outputs))
-    names = ", ".join(name for name, _ in inputs + outputs)
-    for line in expected.read_text().splitlines():
-        values = line.split("->")[0].split()
-        puts = " ".join(f"{name} = {width}'h{value};" for (name, width), value in zip(inputs, values))
-        print(f'    {puts} #1 $display("{shape}", {names});')
-    print("  end")
-    print("endmodule")
+    source, trace = map(pathlib.Path, sys.argv[1:3])
+    print("\n".join(bench(Circuit(source.read_text()), *read_trace(trace.read_text()))))
 
 
 if __name__ == "__main__":

@@ -1,16 +1,24 @@
 #!/usr/bin/env python3
-"""Writes NAME.expected for each NAME.fir beside it: 64 lines of input values and output values.
+"""Writes NAME.trace and NAME.expected for each NAME.fir beside it: 64 ticks, and what the circuit shows.
 
-The values are computed from the source's statements by Python's integers, without firc and without a
-Verilog tool. A line is the inputs in port order, `->`, and the outputs in port order, in hexadecimal;
-ports of no bits are left out. Run it with --check to compare with the files that are there.
+A trace begins with a line `init NAME HEX` for each word of the state, with its name of the emitted text. Then each
+line is a tick: `-`, or the numbers of the clocks that rise, counted from 0 in port order, rising, parted by commas;
+and the value of each input. A line of NAME.expected has the outputs of a tick, `|`, and the state after it. All are
+parted by single spaces, and values are hexadecimal in lower case with as many digits as the width needs; ports and
+registers of no bits are left out.
+
+The values are computed from the source's statements by Python's integers, without firc and without a Verilog tool.
+Run it with --check to compare with the files that are there.
 """
 import pathlib
 import re
 import sys
 
+sys.path.insert(0, str(pathlib.Path(__file__).resolve().parent))
+from emitted_names import emitted_names  # noqa: E402
+
 HERE = pathlib.Path(__file__).resolve().parent
-LINES = 64
+TICKS = 64
 TOKEN = re.compile(r'[A-Za-z_][\w$]*|[+-]?\d+|"[^"]*"|<=|[=<>(),:]')
 
 
@@ -23,26 +31,58 @@ def statements(text):
             yield tokens
 
 
-def name_of(text):
-    return re.search(r"^circuit\s+([\w$]+)", text, re.M)[1]
-
-
-def parse(text):
-    """The ports as (direction, name, width), and the other statements as tokens."""
-    ports, body = [], []
-    for tokens in statements(text):
-        if tokens[0] in ("input", "output") and len(tokens) > 2 and tokens[2] == ":":
-            ports.append((tokens[0], tokens[1], int(tokens[5])))
-        else:
-            body.append(tokens)
-    return ports, body
-
-
 def number(spelling):
     if not spelling.startswith('"'):
         return int(spelling)
     digits = spelling[1:-1].replace("+", "")
     return int(digits[1:], {"b": 2, "o": 8, "h": 16}[digits[0]])
+
+
+class Circuit:
+    """A source: its ports as (kind, name, width), its registers as (name, width, clock), its other statements as tokens."""
+
+    def __init__(self, text):
+        self.name = re.search(r"^circuit\s+([\w$]+)", text, re.M)[1]
+        self.ports, self.registers, self.body = [], [], []
+        for tokens in statements(text):
+            if tokens[2:3] != [":"]:
+                self.body.append(tokens)
+            elif tokens[0] == "reg":
+                self.registers.append((tokens[1], int(tokens[5]), tokens[8]))
+            elif tokens[3] == "Clock":
+                self.ports.append(("clock", tokens[1], 1))
+            else:
+                self.ports.append((tokens[0], tokens[1], int(tokens[5])))
+        self.inputs, self.outputs = self.ports_of("input"), self.ports_of("output")
+        self.clocks = [name for name, width in self.ports_of("clock")]
+        self.words = [register for register in self.registers if register[1]]
+
+    def ports_of(self, kind):
+        """The names and widths of the ports of a kind that have bits."""
+        return [port[1:] for port in self.ports if port[0] == kind and port[2]]
+
+    def tick(self, state, rising, inputs):
+        """The values of the outputs, and the state after a tick at which the clocks of these numbers rise."""
+        known = {name: (0, width) for kind, name, width in self.ports if kind == "input"}
+        known.update({name: (0, width) for name, width, clock in self.registers})
+        known.update({name: (value, width) for (name, width), value in zip(self.inputs, inputs)})
+        known.update({name: (value, width) for (name, width, clock), value in zip(self.words, state)})
+        stored = self.stored(known)
+        shown = [stored[name] % (1 << width) for name, width in self.outputs]
+        return shown, [
+            stored.get(name, value) % (1 << width) if self.clocks.index(clock) in rising else value
+            for (name, width, clock), value in zip(self.words, state)
+        ]
+
+    def stored(self, known):
+        """The value of the last connect to each name that has one, from values and widths of the inputs and registers."""
+        stored = {}
+        for tokens in self.body:
+            if tokens[0] == "node" and tokens[2] == "=":
+                known[tokens[1]] = Reader(tokens[3:], known).value()
+            elif tokens != ["skip"]:
+                stored[tokens[0]] = Reader(tokens[2:], known).value()[0]
+        return stored
 
 
 class Reader:
@@ -92,51 +132,71 @@ def apply(op, operands, integers):
     return {"and": a & b, "or": a | b, "xor": a ^ b}[op], max(v, w)
 
 
-def inputs_of(ports, line):
-    """Input values of a line: corners first, then a linear congruence, cut to each width."""
-    state = line + 1
-    for direction, name, width in ports:
-        if direction != "input":
-            continue
+def draws(state):
+    """Numbers of a linear congruence, each of three of its rounds."""
+    while True:
         bits = 0
         for _ in range(3):
             state = (state * 6364136223846793005 + 1442695040888963407) % 2**64
             bits = (bits << 64) | state
-        corner = {0: 0, 1: (1 << width) - 1, 2: min(1, width), 3: (1 << width) >> 1}
-        yield name, width, corner.get(line, (bits >> 13) % (1 << width))
+        yield bits >> 13
 
 
-def outputs_of(ports, body, known):
-    """The values of the outputs: the last connect of each, with zeros above or cut to the low bits."""
-    driven = {}
-    for tokens in body:
-        if tokens[0] == "node" and tokens[2] == "=":
-            known[tokens[1]] = Reader(tokens[3:], known).value()
-        elif tokens != ["skip"]:
-            driven[tokens[0]] = Reader(tokens[2:], known).value()[0]
-    return {name: driven[name] % (1 << width) for direction, name, width in ports if direction == "output"}
+def corner(line, width, drawn):
+    """A value of a width: in the first lines a corner, then the number that was drawn, cut."""
+    return {0: 0, 1: (1 << width) - 1, 2: min(1, width), 3: (1 << width) >> 1}.get(line, drawn % (1 << width))
 
 
-def lines_of(text):
-    ports, body = parse(text)
-    for line in range(LINES):
-        known = {name: (value, width) for name, width, value in inputs_of(ports, line)}
-        given = [f"{known[name][0]:x}" for direction, name, width in ports if direction == "input" and width]
-        shown = outputs_of(ports, body, dict(known))
-        yield " ".join(given + ["->"] + [f"{shown[name]:x}" for direction, name, width in ports if direction == "output" and width])
+def drawn_trace(circuit):
+    """The initial state, and the ticks as the numbers of the clocks that rise and the inputs."""
+    source = draws(0)
+    init = [next(source) % (1 << width) for name, width, clock in circuit.words]
+    ticks, count = [], len(circuit.clocks)
+    for line in range(TICKS):
+        rising = corner(line, count, next(source))
+        inputs = [corner(line, width, drawn) for (name, width), drawn in zip(circuit.inputs, draws(line + 1))]
+        ticks.append(([k for k in range(count) if rising >> k & 1], inputs))
+    return init, ticks
+
+
+def hexadecimals(widths, values):
+    return [f"{value:0{(width + 3) // 4}x}" for width, value in zip(widths, values)]
+
+
+def trace_lines(circuit, init, ticks):
+    """The lines of NAME.trace."""
+    names = emitted_names(circuit)
+    widths = [width for name, width, clock in circuit.words]
+    for (name, _, _), value in zip(circuit.words, hexadecimals(widths, init)):
+        yield f"init {names[name]} {value}"
+    widths = [width for name, width in circuit.inputs]
+    for rising, inputs in ticks:
+        yield " ".join([",".join(map(str, rising)) or "-"] + hexadecimals(widths, inputs))
+
+
+def shown_lines(circuit, init, ticks):
+    """The lines of NAME.expected."""
+    widths, word_widths = [width for name, width in circuit.outputs], [width for name, width, clock in circuit.words]
+    state = init
+    for rising, inputs in ticks:
+        shown, state = circuit.tick(state, rising, inputs)
+        yield " ".join(hexadecimals(widths, shown) + ["|"] + hexadecimals(word_widths, state))
 
 
 def main():
     check = sys.argv[1:] == ["--check"]
     differs = False
     for source in sorted(HERE.glob("*.fir")):
-        text = "".join(line + "\n" for line in lines_of(source.read_text()))
-        target = source.with_suffix(".expected")
-        if not check:
-            target.write_text(text)
-        elif not target.exists() or target.read_text() != text:
-            print(f"{target.name} differs from what {source.name} gives")
-            differs = True
+        circuit = Circuit(source.read_text())
+        trace = drawn_trace(circuit)
+        for suffix, lines in ((".trace", trace_lines), (".expected", shown_lines)):
+            text = "".join(line + "\n" for line in lines(circuit, *trace))
+            target = source.with_suffix(suffix)
+            if not check:
+                target.write_text(text)
+            elif not target.exists() or target.read_text() != text:
+                print(f"{target.name} differs from what {source.name} gives")
+                differs = True
     sys.exit(1 if differs else 0)
 
 
