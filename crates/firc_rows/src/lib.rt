@@ -14,3 +14,5 @@ mod outcome;
 mod program;
 #[cfg(test)]
 mod refusals;
+#[cfg(test)]
+mod registers;

@@ -37,18 +37,14 @@ const LACKING: &[(&[u8], &[u8])] = &[
         b"E05 3:15 unsupported UInt\n",
     ),
     (
-        b"    input clock : Clock\n",
-        b"E05 3:19 unsupported Clock\n",
+        b"    output clock : Clock\n",
+        b"E05 3:20 unsupported Clock\n",
     ),
     (
         b"    input a : { flip b : UInt<4> }\n",
         b"E05 3:15 unsupported {\n",
     ),
     (b"    wire w : SInt<4>\n", b"E05 3:5 unsupported wire\n"),
-    (
-        b"    reg r : UInt<4>, clock\n",
-        b"E05 3:5 unsupported reg\n",
-    ),
     (b"    inst i of I\n", b"E05 3:5 unsupported inst\n"),
     (b"    o <- a.b\n", b"E05 3:5 unsupported o\n"),
     (b"    o is invalid\n", b"E05 3:5 unsupported o\n"),
@@ -77,6 +73,68 @@ const LACKING: &[(&[u8], &[u8])] = &[
     (
         b"    input a : SInt<4>\n    when b :\n",
         b"E05 3:15 unsupported SInt\n",
+    ),
+];
+
+/// Registers of forms that are lacking, in the same way: of other types, with clocks of other forms, or with a reset.
+const LACKING_REGISTERS: &[(&[u8], &[u8])] = &[
+    (
+        b"    reg r : SInt<4>, clock\n",
+        b"E05 3:13 unsupported SInt\n",
+    ),
+    (b"    reg r : UInt, clock\n", b"E05 3:13 unsupported UInt\n"),
+    (
+        b"    reg r : Clock, clock\n",
+        b"E05 3:13 unsupported Clock\n",
+    ),
+    (
+        b"    reg r : AsyncReset, clock\n",
+        b"E05 3:13 unsupported AsyncReset\n",
+    ),
+    (
+        b"    reg r : UInt<4>[2], clock\n",
+        b"E05 3:13 unsupported UInt\n",
+    ),
+    (
+        b"    reg r : { a : UInt<4> }, clock\n",
+        b"E05 3:13 unsupported {\n",
+    ),
+    (b"    reg r : UInt<4>, a.b\n", b"E05 3:23 unsupported .\n"),
+    (
+        b"    reg r : UInt<4>, mux(a, b, c)\n",
+        b"E05 3:22 unsupported mux\n",
+    ),
+    (
+        b"    reg r : UInt<4>, not(neg(a))\n",
+        b"E05 3:26 unsupported neg\n",
+    ),
+    (
+        b"    reg r : UInt<4>, clock with : (reset => (reset, UInt<4>(0)))\n",
+        b"E05 3:28 unsupported with\n",
+    ),
+    (
+        b"    reg r : UInt<4>, clock with :\n      reset => (UInt<1>(0), r)\n",
+        b"E05 3:28 unsupported with\n",
+    ),
+    (
+        b"    reg r : UInt<4>, clock with : (reset => (not(a), neg(b)))\n",
+        b"E05 3:28 unsupported with\n",
+    ),
+    (
+        b"    reg with : UInt<4>, with with : (reset => (with, with))\n",
+        b"E05 3:30 unsupported with\n",
+    ),
+    (
+        b"    reg r : SInt<4>, a.b with : (reset => (a, b))\n",
+        b"E05 3:13 unsupported SInt\n",
+    ),
+    (
+        b"    reg r : UInt<4>, a.b with : (reset => (a, b))\n",
+        b"E05 3:23 unsupported .\n",
+    ),
+    (
+        b"    reg r : UInt<4>, clock\n    reg s : UInt<4>, r with : (reset => (r, r))\n",
+        b"E05 4:24 unsupported with\n",
     ),
 ];
 
@@ -118,8 +176,114 @@ const NAME_FAULTS: &[(&[u8], &[u8])] = &[
     ),
 ];
 
-/// A connect that drives a source.
-const FLOW_FAULTS: &[(&[u8], &[u8])] = &[
+/// Names of registers and clocks: a clock is visible behind a register's comma alone, and an output nowhere.
+const REGISTER_NAME_FAULTS: &[(&[u8], &[u8])] = &[
+    (b"    reg r : UInt<4>, clock\n", b"E08 3:22 unknown clock\n"),
+    (b"    reg r : UInt<4>, r\n", b"E08 3:22 unknown r\n"),
+    (
+        b"    reg r : UInt<4>, s\n    reg s : UInt<4>, r\n",
+        b"E08 3:22 unknown s\n",
+    ),
+    (
+        b"    output o : UInt<1>\n    reg r : UInt<4>, o\n",
+        b"E08 4:22 unknown o\n",
+    ),
+    (
+        b"    input clock : Clock\n    reg r : UInt<4>, not(clock)\n",
+        b"E08 4:26 unknown clock\n",
+    ),
+    (
+        b"    input clock : Clock\n    node n = clock\n",
+        b"E08 4:14 unknown clock\n",
+    ),
+    (
+        b"    input clock : Clock\n    output o : UInt<1>\n    o <= not(clock)\n",
+        b"E08 5:14 unknown clock\n",
+    ),
+    (
+        b"    input clock : Clock\n    input c : Clock\n    clock <= c\n",
+        b"E08 5:14 unknown c\n",
+    ),
+    (
+        b"    input clock : Clock\n    node n = r\n    reg r : UInt<1>, clock\n",
+        b"E08 4:14 unknown r\n",
+    ),
+    (
+        b"    input clock : Clock\n    r <= UInt<1>(0)\n    reg r : UInt<1>, clock\n",
+        b"E08 4:5 unknown r\n",
+    ),
+    (
+        b"    input clock : Clock\n    reg clock : UInt<4>, clock\n",
+        b"E09 4:9 twice clock 3:11\n",
+    ),
+    (
+        b"    input clock : Clock\n    reg r : UInt<4>, clock\n    reg r : UInt<2>, c\n",
+        b"E09 5:9 twice r 4:9\n",
+    ),
+    (
+        b"    input clock : Clock\n    reg r : UInt<4>, clock\n    node r = r\n",
+        b"E09 5:10 twice r 4:9\n",
+    ),
+    (
+        b"    input clock : Clock\n    input clock : UInt<1>\n",
+        b"E09 4:11 twice clock 3:11\n",
+    ),
+];
+
+/// What is no clock behind a register's comma, a connect to a clock, and one that drives a source.
+const TYPE_FAULTS: &[(&[u8], &[u8])] = &[
+    (
+        b"    input a : UInt<4>\n    reg r : UInt<1>, a\n",
+        b"E12 4:22 kinds UInt<4>\n",
+    ),
+    (
+        b"    input a : UInt<04>\n    node n = a\n    node m = n\n    reg r : UInt<1>, m\n",
+        b"E12 6:22 kinds UInt<4>\n",
+    ),
+    (
+        b"    input z : UInt<0>\n    reg r : UInt<1>, z\n",
+        b"E12 4:22 kinds UInt<0>\n",
+    ),
+    (
+        b"    input a : UInt<200>\n    reg r : UInt<1>, a\n",
+        b"E12 4:22 kinds UInt<200>\n",
+    ),
+    (
+        b"    input clock : Clock\n    reg r : UInt<3>, clock\n    reg s : UInt<1>, r\n",
+        b"E12 5:22 kinds UInt<3>\n",
+    ),
+    (
+        b"    reg r : UInt<4>, UInt<1>(0)\n",
+        b"E12 3:22 kinds UInt<1>\n",
+    ),
+    (
+        b"    node n = UInt<5>(9)\n    reg r : UInt<4>, n\n",
+        b"E12 4:22 kinds UInt<5>\n",
+    ),
+    (
+        b"    input a : UInt<4>\n    reg r : UInt<4>, not(a)\n",
+        b"E12 4:22 kinds UInt\n",
+    ),
+    (
+        b"    input a : UInt<4>\n    node n = bits(a, 0, 0)\n    reg r : UInt<4>, n\n",
+        b"E12 5:22 kinds UInt\n",
+    ),
+    (
+        b"    input clock : Clock\n    input a : UInt<4>\n    clock <= a\n",
+        b"E13 5:5 types Clock; UInt<4>\n",
+    ),
+    (
+        b"    input clock : Clock\n    input a : UInt<4>\n    clock <= xor(a, a)\n",
+        b"E13 5:5 types Clock; UInt\n",
+    ),
+    (
+        b"    input clock : Clock\n    clock <= UInt<1>(1)\n",
+        b"E13 4:5 types Clock; UInt<1>\n",
+    ),
+    (
+        b"    input clock : Clock\n    reg r : UInt<7>, clock\n    clock <= r\n",
+        b"E13 5:5 types Clock; UInt<7>\n",
+    ),
     (
         b"    input a : UInt<4>\n    a <= UInt<4>(1)\n",
         b"E14 4:5 flow a\n",
@@ -127,6 +291,22 @@ const FLOW_FAULTS: &[(&[u8], &[u8])] = &[
     (
         b"    input a : UInt<4>\n    node n = a\n    n <= a\n",
         b"E14 5:5 flow n\n",
+    ),
+    (
+        b"    input clock : Clock\n    input a : UInt<4>\n    reg r : UInt<4>, clock\n    a <= r\n",
+        b"E14 6:5 flow a\n",
+    ),
+    (
+        b"    input clock : Clock\n    input a : UInt<4>\n    a <= a\n    clock <= a\n    reg r : UInt<4>, a\n",
+        b"E14 5:5 flow a\n",
+    ),
+    (
+        b"    input clock : Clock\n    input a : UInt<4>\n    clock <= a\n    reg r : UInt<4>, a\n    a <= a\n",
+        b"E13 5:5 types Clock; UInt<4>\n",
+    ),
+    (
+        b"    input clock : Clock\n    input a : UInt<4>\n    reg r : UInt<4>, a\n    a <= a\n    clock <= a\n",
+        b"E12 5:22 kinds UInt<4>\n",
     ),
 ];
 
@@ -153,6 +333,14 @@ const WIDTH_FAULTS: &[(&[u8], &[u8])] = &[
         b"    input a : UInt<4>\n    output o : UInt<1>\n    o <= bits(a, 340282366920938463463374607431768211455, 0)\n",
         b"E19 5:10 width over 128 bits\n",
     ),
+    (
+        b"    input clock : Clock\n    reg r : UInt<129>, clock\n",
+        b"E19 4:9 width over 128 r\n",
+    ),
+    (
+        b"    input clock : Clock\n    reg r : UInt<128>, clock\n    r <= cat(r, r)\n",
+        b"E19 5:10 width over 128 cat\n",
+    ),
 ];
 
 /// Integers that `bits` may not have beside its operand, and literals that do not fit.
@@ -173,18 +361,26 @@ const LEGALITY_FAULTS: &[(&[u8], &[u8])] = &[
         b"    output o : UInt<2>\n    o <= UInt<0>(1)\n",
         b"E21 4:10 legality literal 0 1\n",
     ),
+    (
+        b"    input clock : Clock\n    reg r : UInt<4>, clock\n    r <= bits(r, 4, 0)\n",
+        b"E21 5:10 legality bits 4 4 0\n",
+    ),
 ];
 
-/// Outputs that no connect reaches.
+/// Outputs that no connect reaches; a register need have none.
 const UNDRIVEN: &[(&[u8], &[u8])] = &[
     (b"    output o : UInt<1>\n", b"E24 3:12 undriven o\n"),
     (
         b"    output o : UInt<1>\n    output p : UInt<0>\n    output q : UInt<1>\n    o <= UInt<1>(1)\n",
         b"E24 4:12 undriven p\n",
     ),
+    (
+        b"    input clock : Clock\n    output o : UInt<1>\n    reg r : UInt<1>, clock\n    reg s : UInt<1>, clock\n    s <= r\n",
+        b"E24 4:12 undriven o\n",
+    ),
 ];
 
-/// Of several faults: first the names, then the flows, the widths, the integers and the outputs.
+/// Of several faults: first the forms that are lacking, then the names, the types, the widths, the integers and the outputs.
 const ORDER: &[(&[u8], &[u8])] = &[
     (
         b"    output o : UInt<1>\n    input a : UInt<200>\n    a <= UInt<1>(7)\n    node n = c\n",
@@ -210,6 +406,30 @@ const ORDER: &[(&[u8], &[u8])] = &[
         b"    output o : UInt<1>\n    node n = c\n    wire w : UInt<1>\n",
         b"E05 5:5 unsupported wire\n",
     ),
+    (
+        b"    output c : Clock\n    output c : UInt<1>\n    wire w : UInt<1>\n",
+        b"E05 3:16 unsupported Clock\n",
+    ),
+    (
+        b"    reg r : UInt<4>, s\n    reg s : UInt, clock\n",
+        b"E05 4:13 unsupported UInt\n",
+    ),
+    (
+        b"    input a : UInt<1>\n    reg r : UInt<1>, a\n    reg s : UInt<1>, c\n",
+        b"E08 5:22 unknown c\n",
+    ),
+    (
+        b"    output o : UInt<1>\n    input a : UInt<1>\n    reg r : UInt<129>, a\n    node n = UInt<1>(7)\n",
+        b"E12 5:24 kinds UInt<1>\n",
+    ),
+    (
+        b"    input a : UInt<4>\n    node n = UInt<1>(7)\n    reg r : UInt<1>, bits(a, 9, 0)\n",
+        b"E12 5:22 kinds UInt\n",
+    ),
+    (
+        b"    output o : UInt<1>\n    input clock : Clock\n    node n = UInt<1>(7)\n    reg r : UInt<129>, clock\n",
+        b"E19 6:9 width over 128 r\n",
+    ),
 ];
 
 #[test]
@@ -227,8 +447,10 @@ fn faults_of_the_text_are_told_first(rt: HostRuntime) -> Result<(), Fail> {
 fn refused_modules_are_told_by_their_first_fault(rt: HostRuntime) -> Result<(), Fail> {
     for rows in [
         LACKING,
+        LACKING_REGISTERS,
         NAME_FAULTS,
-        FLOW_FAULTS,
+        REGISTER_NAME_FAULTS,
+        TYPE_FAULTS,
         WIDTH_FAULTS,
         LEGALITY_FAULTS,
         UNDRIVEN,
