@@ -11,10 +11,11 @@ use Rattle.fir_meaning.specs.Faults.{Faultless}
 use Rattle.fir_meaning.specs.Language.{is_in_language}
 use Rattle.fir_meaning.specs.Laws.{FaultlessHasOne}
 use Rattle.fir_net.specs.declared.net.FlatNet.{FlatNet}
-use Rattle.fir_driver.specs.PortRows.{net_rows}
-use Rattle.fir_driver.specs.Named.{Named}
+use Rattle.ver_build.specs.Rows.{net_rows, net_words}
+use Rattle.ver_build.specs.Named.{Named}
+use Rattle.ver_build.specs.Builds.{Builds}
+use Rattle.fir_driver.specs.CircuitRows.{circuit_rows}
 use Rattle.fir_driver.specs.Lowers.{Lowers}
-use Rattle.fir_driver.specs.Builds.{Builds}
 use Rattle.fir_driver.specs.Compiles.{Compiles}
 
 -- what one allows the other allows too
@@ -36,7 +37,9 @@ module _ (c : CircuitTree) (net : FlatNet) (v : Verilog) (low : Lowers c net) (m
 
   compiles : ValidHasOne → FaultlessHasOne → IsTrue (is_in_language c) → Faultless c → Compiles c v
   compiles valid_one faultless_one language faultless = record {
-    named = subst (λ rows. Named c.named.name rows v) low.ports (subst (λ name. Named name (net_rows net) v) low.named made.named);
+    named =
+        subst (λ words. Named c.named.name (circuit_rows c) words v) low.words
+        (subst (λ rows. Named c.named.name rows (net_words net) v) low.ports (subst (λ name. Named name (net_rows net) (net_words net) v) low.named made.named));
     shapes = made.shapes ∙ low.shapes;
     valid = made.valid;
     one = faultless_one c language faultless;
