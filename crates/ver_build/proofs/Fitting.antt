@@ -1,6 +1,6 @@
 -- Each assign of the tree has operands of its target's width.
 -- A node has the width of its operation, and what drives an output is taken at the width of its leaf.
-use Rattle.std.proofs.Common.{◌≡◌, ℕ, List, refl, subst}
+use Rattle.std.proofs.Common.{◌≡◌, ℕ, List, true, refl}
 use Rattle.std.specs.Prelude.{Option, Some, None}
 use Rattle.std.specs.List.{AllByRecursion}
 use Rattle.fir_base.specs.Lists.{Distinct}
@@ -16,11 +16,11 @@ use Rattle.fir_net.specs.IsTable.{IsTable, all_names}
 use Rattle.ver_ast.specs.Valid.{HasOneWidth}
 use Rattle.ver_build.specs.Built.{held}
 use Rattle.ver_build.proofs.Members.{all_joined}
-use Rattle.ver_build.proofs.Names.{zipped, each_with, all_zipped}
+use Rattle.ver_build.proofs.Names.{zipped, all_zipped}
 use Rattle.ver_build.proofs.Parts.{node_assigned, role_assigned, leaf_assigned, assigns_of}
+use Rattle.ver_build.proofs.LeafKinds.{is_net}
 use Rattle.ver_build.proofs.Nets.{sizes}
-use Rattle.ver_build.proofs.Sizes.{IsSized, LeafSized, NodeSized, leaf_sizes, node_sizes}
-use Rattle.ver_build.proofs.Whole.{all_nodes}
+use Rattle.ver_build.proofs.Sizes.{IsSized, LeafSized, NodeSized, leaf_is_sized, leaf_facts, node_facts}
 use Rattle.ver_build.proofs.Held.{held_is, reads_held}
 use Rattle.ver_build.proofs.Typed.{operation_fits}
 use Rattle.ver_build.proofs.Widths.{atom_fits}
@@ -34,28 +34,20 @@ module _ (net : FlatNet) (t : NameTable) (whole : IsNet net) (table : IsTable ne
       let fits = operation_fits (sizes net t) (read_width net.leaves net.nodes) (held net t) o.width size.one o.op o.reads o.integers h.1.has_type (reads_held net t whole table once o.reads h.1.reads) in
       ((o.width, size.among, fits), tt)
 
-  role_fits : (r : Role) (w : ℕ) (n : Option (List ℕ)) → ((name : List ℕ) → n ≡ Some name → IsSized (sizes net t) name w) → IsRole net.leaves net.nodes r → AllByRecursion (HasOneWidth (sizes net t)) (role_assigned net t r w n)
+  role_fits : (r : Role) (w : ℕ) (n : Option (List ℕ)) → (is_net r ≡ true → (name : List ℕ) → n ≡ Some name → IsSized (sizes net t) name w) → IsRole net.leaves net.nodes w r → AllByRecursion (HasOneWidth (sizes net t)) (role_assigned net t r w n)
   role_fits role.Input w n h k = tt
+  role_fits role.Clock w n h k = tt
   role_fits (role.Output r) w None h k = tt
   role_fits (role.Output r) w (Some name) h k =
-      let size = h name refl in
+      let size = h refl name refl in
       ((w, size.among, (atom_fits (sizes net t) w (read_width net.leaves net.nodes r) (held net t r) size.one size.narrow (held_is net t whole table once r k), tt)), tt)
-
-  leaf_size_at : (l : Leaf) (n : Option (List ℕ)) → LeafSized (sizes net t) l n → (name : List ℕ) → n ≡ Some name → IsSized (sizes net t) name l.width
-  leaf_size_at l None h name e = absurd (cc)
-  leaf_size_at l (Some other) h name e =
-      let same : other ≡ name = cc in
-      subst (λ (m : List ℕ). IsSized (sizes net t) m l.width) same h
+  role_fits (role.Register r) w n h k = tt
 
   leaf_fits : (l : Leaf) (n : Option (List ℕ)) → LeafSized (sizes net t) l n × IsLeaf net.leaves net.nodes l → AllByRecursion (HasOneWidth (sizes net t)) (leaf_assigned net t l n)
-  leaf_fits l n h = role_fits l.role l.width n (leaf_size_at l n h.0) h.1.driven
+  leaf_fits l n h = role_fits l.role l.width n (leaf_is_sized (sizes net t) l n h.0) h.1.driven
 
   pub assigns_fit : AllByRecursion (HasOneWidth (sizes net t)) (assigns_of net t)
   assigns_fit =
-      let P = λ (x : Node) (n : Option (List ℕ)). NodeSized (sizes net t) x n × IsNode net.leaves net.nodes x in
-      let Q = λ (l : Leaf) (n : Option (List ℕ)). LeafSized (sizes net t) l n × IsLeaf net.leaves net.nodes l in
       all_joined (HasOneWidth (sizes net t)) (zipped (node_assigned net t) t.nodes net.nodes) (zipped (leaf_assigned net t) t.leaves net.leaves)
-      (all_zipped P (HasOneWidth (sizes net t)) (node_assigned net t) node_fits t.nodes net.nodes
-      (each_with (NodeSized (sizes net t)) P (IsNode net.leaves net.nodes) (λ x n h k. (h, k)) t.nodes net.nodes (node_sizes net t whole table once) (all_nodes net.leaves net.nodes whole.nodes)))
-      (all_zipped Q (HasOneWidth (sizes net t)) (leaf_assigned net t) leaf_fits t.leaves net.leaves
-      (each_with (LeafSized (sizes net t)) Q (IsLeaf net.leaves net.nodes) (λ l n h k. (h, k)) t.leaves net.leaves (leaf_sizes net t whole table once) whole.leaves))
+      (all_zipped (λ x n. NodeSized (sizes net t) x n × IsNode net.leaves net.nodes x) (HasOneWidth (sizes net t)) (node_assigned net t) node_fits t.nodes net.nodes (node_facts net t whole table once))
+      (all_zipped (λ l n. LeafSized (sizes net t) l n × IsLeaf net.leaves net.nodes l) (HasOneWidth (sizes net t)) (leaf_assigned net t) leaf_fits t.leaves net.leaves (leaf_facts net t whole table once))

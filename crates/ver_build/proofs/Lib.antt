@@ -7,6 +7,8 @@ pub mod Widths
 pub mod Operations
 pub mod Typed
 pub mod Parts
+pub mod ItemLists
+pub mod LeafKinds
 pub mod Nets
 pub mod Whole
 pub mod Sizes
@@ -15,10 +17,13 @@ pub mod Operands
 pub mod Fitting
 pub mod Order
 pub mod Driven
-pub mod Split
+pub mod Picked
 pub mod Declared
+pub mod TextOrder
 pub mod Placed
+pub mod Blocks
 pub mod Valid
+pub mod Rowed
 pub mod Named
 pub mod Shapes
 pub mod Atoms

@@ -1,6 +1,6 @@
 -- The assigns of the tree stand in an order: each after all that it reads.
--- What a node reads is an input, or a node before it; an output reads inputs and nodes, which all stand before.
-use Rattle.std.proofs.Common.{◌≡◌, ℕ, ◌+◌, ◌<◌, List, [], ◌∷◌, ◌++◌, length, refl, sym, ap, ◌∙◌, inl, inr, ◌⊎◌, ⊎_elim, subst, arith, append_assoc, length-append}
+-- What a node reads is an input, a register, or a node before it; an output reads inputs, registers and nodes, which all stand before.
+use Rattle.std.proofs.Common.{◌≡◌, ℕ, ◌+◌, ◌<◌, List, [], ◌∷◌, ◌++◌, length, true, refl, sym, ap, ◌∙◌, inl, inr, ◌⊎◌, ⊎_elim, subst, arith, append_assoc, length-append}
 use Rattle.std.specs.Prelude.{slice_get, Option, Some, None, nat_eq}
 use Rattle.std.specs.List.{AllByRecursion}
 use Rattle.fir_base.specs.Lists.{In}
@@ -13,7 +13,7 @@ use Rattle.fir_net.specs.declared.net.Node.{Node}
 use Rattle.fir_net.specs.declared.net.Node.TheVariants as node
 use Rattle.fir_net.specs.declared.net.FlatNet.{FlatNet}
 use Rattle.fir_net.specs.declared.name_table.NameTable.{NameTable}
-use Rattle.fir_net.specs.IsNet.{CanRead, IsNode, AreNodes, IsRole, IsLeaf}
+use Rattle.fir_net.specs.IsNet.{is_readable, CanRead, IsNode, AreNodes, IsRole, IsLeaf}
 use Rattle.ver_ast.specs.declared.tree.Assign.{Assign}
 use Rattle.ver_ast.specs.Spells.{atom_names}
 use Rattle.ver_ast.specs.Valid.{ReadsBefore}
@@ -24,9 +24,9 @@ use Rattle.ver_build.proofs.Parts.{NodeNamed, node_assigned, role_assigned, leaf
 use Rattle.ver_build.proofs.Operands.{HeldIn, atom_known, operation_known}
 use Rattle.ver_build.proofs.Widths.{chosen}
 
--- the names of inputs, and of so many nodes
+-- the names of inputs and registers, and of so many nodes
 pub record Knows (net : FlatNet) (t : NameTable) (known : List (List ℕ)) (count : ℕ) : Type 0 where
-  pub leaf : (k : ℕ) (l : Leaf) (name : List ℕ) → slice_get net.leaves k ≡ Some l → l.role ≡ role.Input → name_at t.leaves k ≡ Some name → In known name
+  pub leaf : (k : ℕ) (l : Leaf) (name : List ℕ) → slice_get net.leaves k ≡ Some l → is_readable l.role ≡ true → name_at t.leaves k ≡ Some name → In known name
   pub node : (k : ℕ) (name : List ℕ) → k < count → name_at t.nodes k ≡ Some name → In known name
 
 by_known : (known : List (List ℕ)) (w : ℕ) (n : Option (List ℕ)) → ((name : List ℕ) → n ≡ Some name → In known name) → HeldIn known (held_by w n)
@@ -90,14 +90,16 @@ module _ (net : FlatNet) (t : NameTable) (rest : List Assign) (total : ℕ) (las
       (λ after l. nodes_after (before ++ x ∷ []) ns (front ++ m ∷ []) names after are.1 named.1 (at ∙ sym (append_assoc front (m ∷ []) names)) beyond (omega arith) (subst (Knows net t after) (sym longer) l)))
 
 -- an output, and what is behind it
-role_after : (net : FlatNet) (t : NameTable) (r : Role) (w : ℕ) (m : Option (List ℕ)) (more : List Assign) (known : List (List ℕ)) → IsRole net.leaves net.nodes r → Knows net t known (length net.nodes)
+role_after : (net : FlatNet) (t : NameTable) (r : Role) (w : ℕ) (m : Option (List ℕ)) (more : List Assign) (known : List (List ℕ)) → IsRole net.leaves net.nodes w r → Knows net t known (length net.nodes)
     → ((after : List (List ℕ)) → Knows net t after (length net.nodes) → ReadsBefore after more) → ReadsBefore known (role_assigned net t r w m ++ more)
 role_after net t role.Input w m more known is k go = go known k
+role_after net t role.Clock w m more known is k go = go known k
 role_after net t (role.Output r) w None more known is k go = go known k
 role_after net t (role.Output r) w (Some name) more known is k go = (
   each_joined (atom_names (atom_at w (held net t r))) [] known (atom_known known w (held net t r) (read_known net t known net.nodes k r is)) tt,
   go (name ∷ known) (more_known net t known (length net.nodes) name k),
 )
+role_after net t (role.Register r) w m more known is k go = go known k
 
 pub leaves_after : (net : FlatNet) (t : NameTable) (names : Names) (ls : List Leaf) (known : List (List ℕ)) → AllByRecursion (IsLeaf net.leaves net.nodes) ls → Knows net t known (length net.nodes)
     → ReadsBefore known (zipped (leaf_assigned net t) names ls)

@@ -1,6 +1,6 @@
--- The tree of a net has its shape: the widths of the inputs with bits, in order.
+-- The tree of a net has its shape: the widths of the inputs and registers with bits in order, and as many clocks.
 -- A leaf that is numbered from the front has the width that stands in its place.
-use Rattle.std.proofs.Common.{◌≡◌, ℕ, ◌+◌, List, [], ◌∷◌, ◌++◌, Bool, true, false, refl, sym, ap, ◌∙◌, arith}
+use Rattle.std.proofs.Common.{◌≡◌, ℕ, ◌+◌, List, [], ◌∷◌, Bool, true, false, length, refl, sym, ap, ◌∙◌, arith, length-append}
 use Rattle.std.specs.Prelude.{map, Option, Some, None, nat_eq, if◌then◌else◌}
 use Rattle.std.specs.List.{AllByRecursion}
 use Rattle.std.proofs.Math.Numerals.{add-one}
@@ -9,20 +9,27 @@ use Rattle.fir_base.specs.Lists.{Distinct}
 use Rattle.fir_net.specs.declared.net.Role.{Role}
 use Rattle.fir_net.specs.declared.net.Role.TheVariants as role
 use Rattle.fir_net.specs.declared.net.Leaf.{Leaf}
+use Rattle.fir_net.specs.declared.net.Node.{Node}
 use Rattle.fir_net.specs.declared.net.FlatNet.{FlatNet}
 use Rattle.fir_net.specs.declared.name_table.NameTable.{NameTable}
 use Rattle.fir_net.specs.Values.{leaf_width}
-use Rattle.fir_net.specs.Settled.{with_bits, input_number, inputs_from, shape as net_shape}
-use Rattle.fir_net.specs.IsNet.{IsNet}
+use Rattle.fir_net.specs.Settled.{with_bits, input_number, clock_number, register_number, numbers_by, shape as net_shape}
+use Rattle.fir_net.specs.IsNet.{IsRole, IsLeaf, IsNet}
 use Rattle.fir_net.specs.IsTable.{IsTable, all_names}
 use Rattle.ver_ast.specs.Names.{IsName}
 use Rattle.ver_ast.specs.declared.tree.Verilog.{Verilog}
-use Rattle.ver_ast.specs.Nets.{Sized, inputs, widths_of, shape as v_shape}
+use Rattle.ver_ast.specs.Nets.{Sized, inputs, clocks, regs, widths_of, shape as v_shape}
 use Rattle.ver_build.specs.Built.{built}
 use Rattle.ver_build.proofs.Names.{Names, Each, zipped}
-use Rattle.ver_build.proofs.Parts.{LeafNamed, leaves_named, in_parts, built_in_parts}
-use Rattle.ver_build.proofs.Driven.{input_sized, inputs_sized}
+use Rattle.ver_build.proofs.Parts.{BitsNamed, LeafNamed, leaves_named, leaves_known, in_parts, built_in_parts}
+use Rattle.ver_build.proofs.LeafKinds.{is_input, is_clock, is_register, name_if, sized_if, picked, picked_sized}
+use Rattle.ver_build.proofs.Nets.{inputs_sized, clocks_are, registers_sized}
 use Rattle.ver_build.proofs.Widths.{if_equal}
+
+-- the number of a leaf with bits, where it is of a kind
+abbrev number_if : Bool → ℕ → ℕ → List ℕ
+number_if false w k = []
+number_if true w k = with_bits w k
 
 width_behind : (l : Leaf) (all : List Leaf) (k : ℕ) → leaf_width (l ∷ all) (k + 1) ≡ leaf_width all k
 width_behind l all k = rw add-one refl
@@ -34,40 +41,80 @@ bits_behind l all w k = by_bool (nat_eq w 0)
     by_bool true = refl
     by_bool false = ap (λ v. v ∷ []) (width_behind l all k)
 
-number_behind : (l : Leaf) (all : List Leaf) (r : Role) (w k : ℕ) → map (leaf_width (l ∷ all)) (input_number r w (k + 1)) ≡ map (leaf_width all) (input_number r w k)
-number_behind l all role.Input w k = bits_behind l all w k
-number_behind l all (role.Output r) w k = refl
+number_behind : (l : Leaf) (all : List Leaf) (b : Bool) (w k : ℕ) → map (leaf_width (l ∷ all)) (number_if b w (k + 1)) ≡ map (leaf_width all) (number_if b w k)
+number_behind l all false w k = refl
+number_behind l all true w k = bits_behind l all w k
 
--- the widths of the leaves behind one
-inputs_behind : (l : Leaf) (all : List Leaf) (k : ℕ) (ls : List Leaf) → map (leaf_width (l ∷ all)) (inputs_from (k + 1) ls) ≡ map (leaf_width all) (inputs_from k ls)
-inputs_behind l all k [] = refl
-inputs_behind l all k (x ∷ ls) =
-    map-append (leaf_width (l ∷ all)) (input_number x.role x.width (k + 1)) (inputs_from (k + 1 + 1) ls)
-    ∙ ap (λ ws. ws ++ map (leaf_width (l ∷ all)) (inputs_from (k + 1 + 1) ls)) (number_behind l all x.role x.width k)
-    ∙ ap (λ ws. map (leaf_width all) (input_number x.role x.width k) ++ ws) (inputs_behind l all (k + 1) ls)
-    ∙ sym (map-append (leaf_width all) (input_number x.role x.width k) (inputs_from (k + 1) ls))
-
--- the width of one leaf, where it is an input with bits
-one_width : (r : Role) (w : ℕ) (n : Option (List ℕ)) (f : ℕ → ℕ) (l : Leaf) → f 0 ≡ w → l.width ≡ w → LeafNamed l n → widths_of (input_sized r w n) ≡ map f (input_number r w 0)
-one_width (role.Output r) w n f l e g h = refl
-one_width role.Input w None f l e g h =
-    let zero : w ≡ 0 = sym g ∙ h in
-    if_equal (λ (ks : List ℕ). [] ≡ map f ks) w 0 [] (0 ∷ []) (λ _. refl) (λ other. absurd (other zero))
-one_width role.Input w (Some name) f l e g h =
+-- the width of one leaf of a kind, where it has bits
+one_width : (b : Bool) (w : ℕ) (n : Option (List ℕ)) (f : ℕ → ℕ) → f 0 ≡ w → BitsNamed w n → widths_of (sized_if b w n) ≡ map f (number_if b w 0)
+one_width false w n f e h = refl
+one_width true w None f e h = if_equal (λ (ks : List ℕ). [] ≡ map f ks) w 0 [] (0 ∷ []) (λ _. refl) (λ other. absurd (other h))
+one_width true w (Some name) f e h =
     if_equal (λ (ks : List ℕ). w ∷ [] ≡ map f ks) w 0 [] (0 ∷ []) (λ same. absurd (omega arith)) (λ _. ap (λ v. v ∷ []) (sym e))
 
-widths_along : (names : Names) (ls : List Leaf) → Each LeafNamed names ls → widths_of (zipped (λ l n. input_sized l.role l.width n) names ls) ≡ map (leaf_width ls) (inputs_from 0 ls)
-unfolding zipped
-widths_along [] [] h = refl
-widths_along [] (l ∷ ls) h = absurd h
-widths_along (n ∷ names) [] h = absurd h
-widths_along (n ∷ names) (l ∷ ls) h =
-    map-append (λ (s : Sized). s.1) (input_sized l.role l.width n) (zipped (λ x m. input_sized x.role x.width m) names ls)
-    ∙ ap (λ ws. ws ++ widths_of (zipped (λ x m. input_sized x.role x.width m) names ls)) (one_width l.role l.width n (leaf_width (l ∷ ls)) l refl refl h.0)
-    ∙ ap (λ ws. map (leaf_width (l ∷ ls)) (input_number l.role l.width 0) ++ ws) (widths_along names ls h.1 ∙ sym (inputs_behind l ls 0 ls))
-    ∙ sym (map-append (leaf_width (l ∷ ls)) (input_number l.role l.width 0) (inputs_from 1 ls))
+module _ (p : Role → Bool) (number : Role → ℕ → ℕ → List ℕ) (is : (r : Role) (w k : ℕ) → number r w k ≡ number_if (p r) w k) where
+  -- the widths of the leaves behind one
+  numbers_behind : (l : Leaf) (all : List Leaf) (k : ℕ) (ls : List Leaf) → map (leaf_width (l ∷ all)) (numbers_by number (k + 1) ls) ≡ map (leaf_width all) (numbers_by number k ls)
+  numbers_behind l all k [] = refl
+  numbers_behind l all k (x ∷ ls) =
+      let here : map (leaf_width (l ∷ all)) (number x.role x.width (k + 1)) ≡ map (leaf_width all) (number x.role x.width k) =
+      ap (map (leaf_width (l ∷ all))) (is x.role x.width (k + 1)) ∙ number_behind l all (p x.role) x.width k ∙ ap (map (leaf_width all)) (sym (is x.role x.width k)) in
+      map-append (leaf_width (l ∷ all)) (number x.role x.width (k + 1)) (numbers_by number (k + 1 + 1) ls)
+      ∙ rw (here, numbers_behind l all (k + 1) ls) refl
+      ∙ sym (map-append (leaf_width all) (number x.role x.width k) (numbers_by number (k + 1) ls))
+
+  widths_along : (names : Names) (ls : List Leaf) → Each LeafNamed names ls → widths_of (picked_sized p names ls) ≡ map (leaf_width ls) (numbers_by number 0 ls)
+  unfolding zipped
+  widths_along [] [] h = refl
+  widths_along [] (l ∷ ls) h = absurd h
+  widths_along (n ∷ names) [] h = absurd h
+  widths_along (n ∷ names) (l ∷ ls) h =
+      let here : widths_of (sized_if (p l.role) l.width n) ≡ map (leaf_width (l ∷ ls)) (number l.role l.width 0) =
+      one_width (p l.role) l.width n (leaf_width (l ∷ ls)) refl h.0 ∙ ap (map (leaf_width (l ∷ ls))) (sym (is l.role l.width 0)) in
+      map-append (λ (s : Sized). s.1) (sized_if (p l.role) l.width n) (picked_sized p names ls)
+      ∙ rw (here, widths_along names ls h.1 ∙ sym (numbers_behind l ls 0 ls)) refl
+      ∙ sym (map-append (leaf_width (l ∷ ls)) (number l.role l.width 0) (numbers_by number 1 ls))
+
+input_is : (r : Role) (w k : ℕ) → input_number r w k ≡ number_if (is_input r) w k
+input_is role.Input w k = refl
+input_is role.Clock w k = refl
+input_is (role.Output r) w k = refl
+input_is (role.Register r) w k = refl
+
+register_is : (r : Role) (w k : ℕ) → register_number r w k ≡ number_if (is_register r) w k
+register_is role.Input w k = refl
+register_is role.Clock w k = refl
+register_is (role.Output r) w k = refl
+register_is (role.Register r) w k = refl
+
+module _ (leaves : List Leaf) (nodes : List Node) where
+  one_clock : (r : Role) (w : ℕ) (n : Option (List ℕ)) (k : ℕ) → BitsNamed w n → IsRole leaves nodes w r → length (name_if (is_clock r) n) ≡ length (clock_number r w k)
+  one_clock role.Input w n k h is = refl
+  one_clock role.Clock w None k h is = absurd (omega arith)
+  one_clock role.Clock w (Some name) k h is = refl
+  one_clock (role.Output r) w n k h is = refl
+  one_clock (role.Register r) w n k h is = refl
+
+  clocks_along : (names : Names) (ls : List Leaf) (k : ℕ) → Each (λ l n. LeafNamed l n × IsLeaf leaves nodes l) names ls → length (picked is_clock names ls) ≡ length (numbers_by clock_number k ls)
+  unfolding zipped
+  clocks_along [] [] k h = refl
+  clocks_along [] (l ∷ ls) k h = absurd h
+  clocks_along (n ∷ names) [] k h = absurd h
+  clocks_along (n ∷ names) (l ∷ ls) k h =
+      rw (
+        length-append (name_if (is_clock l.role) n) (picked is_clock names ls),
+        length-append (clock_number l.role l.width k) (numbers_by clock_number (k + 1) ls),
+        one_clock l.role l.width n k h.0.0 h.0.1.driven,
+        clocks_along names ls (k + 1) h.1,
+      ) refl
 
 pub built_shape : (net : FlatNet) (t : NameTable) → IsNet net → IsTable net t → Distinct (all_names t) → AllByRecursion IsName (all_names t) → IsName t.circuit → v_shape (built net t) ≡ net_shape net
 built_shape net t whole table once spelled circuit =
-    let widths : widths_of (inputs (in_parts net t)) ≡ map (leaf_width net.leaves) (inputs_from 0 net.leaves) = ap widths_of (inputs_sized net t) ∙ widths_along t.leaves net.leaves (leaves_named net t table) in
-    ap (λ (v : Verilog). v_shape v) (built_in_parts net t table) ∙ ap (λ (ws : List ℕ). record { inputs = ws; clocks = 0; state = [] }) widths
+    let named = leaves_named net t table in
+    let ins : widths_of (inputs (in_parts net t)) ≡ map (leaf_width net.leaves) (numbers_by input_number 0 net.leaves) =
+    ap widths_of (inputs_sized net t) ∙ widths_along is_input input_number input_is t.leaves net.leaves named in
+    let state : widths_of (regs (in_parts net t)) ≡ map (leaf_width net.leaves) (numbers_by register_number 0 net.leaves) =
+    ap widths_of (registers_sized net t) ∙ widths_along is_register register_number register_is t.leaves net.leaves named in
+    let count : length (clocks (in_parts net t)) ≡ length (numbers_by clock_number 0 net.leaves) =
+    ap length (clocks_are net t) ∙ clocks_along net.leaves net.nodes t.leaves net.leaves 0 (leaves_known net t whole table) in
+    ap (λ (v : Verilog). v_shape v) (built_in_parts net t table) ∙ rw (ins, state, count) refl

@@ -54,9 +54,9 @@ selected_is nets v name w hi lo e two low high wide =
 net_fits : (nets : List Sized) (w v : ℕ) (name : List ℕ) → 1 ≤ w → w ≤ 128 → 1 ≤ v → width_in nets name ≡ v → FitsWidth nets w (atom_at w (in_net v name))
 net_fits nets w v name h k l e =
     if_equal (FitsWidth nets w) v w (atom.Primary (primary.Net name)) (if nat_lt v w then atom.Concat (primary.Constant (w - v) 0) (primary.Net name ∷ []) else atom.Primary (selected name (w - 1) 0))
-    (λ same. record { sound = (tt, tt); wide = e ∙ same })
+    (λ same. record { sound = (omega arith, tt); wide = e ∙ same })
     (λ other. if_less (FitsWidth nets w) v w (atom.Concat (primary.Constant (w - v) 0) (primary.Net name ∷ [])) (atom.Primary (selected name (w - 1) 0))
-    (λ less. record { sound = ((omega arith, omega arith, pow_pos (w - v)), (tt, tt)); wide = omega arith })
+    (λ less. record { sound = ((omega arith, omega arith, pow_pos (w - v)), (omega arith, tt)); wide = omega arith })
     (λ more. alone nets w (selected name (w - 1) 0) (selected_is nets v name w (w - 1) 0 e (omega arith) (omega arith) (omega arith) (omega arith))))
 
 pub atom_fits : (nets : List Sized) (w u : ℕ) (h : Held) → 1 ≤ w → w ≤ 128 → HeldIs nets u h → FitsWidth nets w (atom_at w h)
@@ -74,7 +74,7 @@ field_fits nets w u hi lo (in_net v name) one narrow low high wide is =
     let bound : v ≤ 128 = is.2 in
     alone nets w (field_of w hi lo (in_net v name))
     (if_equal (IsPart nets w) v 1 (primary.Net name) (selected name (min hi 4294967295) (min lo 4294967295))
-    (λ single. record { sound = tt; wide = is.3 ∙ omega arith })
+    (λ single. record { sound = omega (arith, is.1, is.3); wide = is.3 ∙ omega arith })
     (λ other. selected_is nets v name w (min hi 4294967295) (min lo 4294967295) is.3 (omega (arith, is.1)) (omega arith) (omega arith) (omega arith)))
 
 pub record ArePartsOf (nets : List Sized) (u : ℕ) (ps : List Primary) : Type 0 where
@@ -84,7 +84,7 @@ pub record ArePartsOf (nets : List Sized) (u : ℕ) (ps : List Primary) : Type 0
 pub parts_are : (nets : List Sized) (u : ℕ) (h : Held) → HeldIs nets u h → ArePartsOf nets u (parts h)
 parts_are nets u no_bits is = record { sound = tt; wide = sym is }
 parts_are nets u (in_constant v n) is = record { sound = ((is.1, is.2, is.3), tt); wide = omega (arith, is.0) }
-parts_are nets u (in_net v name) is = record { sound = (tt, tt); wide = omega (arith, is.0, is.3) }
+parts_are nets u (in_net v name) is = record { sound = (omega (arith, is.1, is.3), tt); wide = omega (arith, is.0, is.3) }
 
 joined_both : (nets : List Sized) (ps qs : List Primary) → joined_width nets (ps ++ qs) ≡ joined_width nets ps + joined_width nets qs
 joined_both nets [] qs = omega arith
