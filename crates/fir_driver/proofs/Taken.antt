@@ -20,7 +20,7 @@ use Rattle.fir_driver.specs.Readings.{IsTaken}
 use Rattle.fir_driver.proofs.LacksNothing.{whole}
 
 -- a form that is lacking is a fault of the text
-pub lacks_form : (bytes : List ℕ) (t : CircuitTree) (ts : List Placed) (l : Lack) (p : Place) (w : List ℕ) → Spells bytes t → lexed bytes ≡ Ok ts → lacking t ≡ Some l → p ≡ place_of l.spot ts → w ≡ l.word → HasFault bytes (Unsupported p w)
+pub lacks_form : (bytes : List ℕ) (t : CircuitTree) (ts : List Placed) (l : Lack) (p : Place) (w : List ℕ) → Spells bytes t → lexed bytes ≡ Ok ts → lacking t ≡ Some l → p ≡ place_of l.spot l.word ts → w ≡ l.word → HasFault bytes (Unsupported p w)
 lacks_form bytes t ts l p w (us, m, r) e first place word =
     let ok : Ok us ≡ Ok ts = sym m ∙ e in
     let same : us ≡ ts = cc in

@@ -2,7 +2,7 @@
 use Rattle.std.specs.Prelude.{ℕ, List, [], flat_map}
 use Rattle.fir_base.specs.declared.direction.Direction.TheVariants as direction
 use Rattle.fir_ast.specs.Circuits.{CircuitTree}
-use Rattle.fir_meaning.specs.Scopes.{Kind, input, clock_input, output, register_value, Declared}
+use Rattle.fir_meaning.specs.Scopes.{Kind, input, clock_input, output, register_value}
 use Rattle.fir_meaning.specs.Leaves.{main_scope}
 use Rattle.ver_build.specs.Rows.{Row, row, clock_row, Word, word}
 

@@ -1,9 +1,9 @@
 -- A circuit whose names can be written in Verilog: its own, and those of its ports and registers, are words (FIRRTL spec, "Details about Syntax").
-use Rattle.std.specs.Prelude.{ℕ, IsTrue}
+use Rattle.std.specs.Prelude.{IsTrue}
 use Rattle.std.specs.List.{AllByRecursion}
 use Rattle.ver_ast.specs.Names.{is_word}
 use Rattle.fir_ast.specs.Statements.{Statement, register, Block, done, then}
-use Rattle.fir_ast.specs.Circuits.{PortTree, ModuleTree, CircuitTree}
+use Rattle.fir_ast.specs.Circuits.{ModuleTree, CircuitTree}
 
 abbrev pub StatementHasWords : Statement → Type 0
 StatementHasWords (register p n t c r) = IsTrue (is_word n.name)

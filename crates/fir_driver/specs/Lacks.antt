@@ -1,7 +1,7 @@
 -- Which fault a text has by a form that the language lacks: the first such form of its tree, at the place of its first token.
 -- The tree has no place for a type, a part of a reference and the words `module` and `with`, so that these are found among the tokens, from a name or
 -- an expression beside them.
-use Rattle.std.specs.Prelude.{◌≡◌, ℕ, List, [], ◌∷◌, slice_get, Bool, true, false, ◌&&◌, nat_eq, if◌then◌else◌, Option, Some, None, unwrap_or, option_map, Ok}
+use Rattle.std.specs.Prelude.{◌≡◌, ℕ, List, [], ◌∷◌, slice_get, Bool, true, false, ◌&&◌, nat_eq, if◌then◌else◌, Some, unwrap_or, option_map, Ok}
 use Rattle.std.specs.Str.{bytes_eq}
 use Rattle.fir_ast.specs.declared.place.Place.{Place}
 use Rattle.fir_ast.specs.declared.fault.FirFault.{FirFault}

@@ -38,7 +38,10 @@ fn lacks(alloc: Global, bytes: &[u8], tree: &Circuit, lack: Lack) -> Refused<Fir
 {
     match lex(alloc, bytes) {
         Ok(tokens) => match Name::new(alloc, lack.word) {
-            Ok(word) => Refused::Fault(FirFault::Unsupported(place_of(&tokens, lack.spot, lack.word), word)),
+            Ok(word) => Refused::Fault(FirFault::Unsupported(
+                place_of(&tokens, lack.spot, lack.word),
+                word,
+            )),
             Err(MemoryOut) => Refused::Memory,
         },
         Err(refused) => refused,

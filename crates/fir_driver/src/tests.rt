@@ -15,6 +15,27 @@ const PARTS: &[(&str, &str)] = &[
     ("input a : UInt\n", "E05 3:15 unsupported UInt\n"),
     ("input a : { b : UInt<1> }\n", "E05 3:15 unsupported {\n"),
     ("input a : Clock[2]\n", "E05 3:15 unsupported Clock\n"),
+    ("output a : Clock\n", "E05 3:16 unsupported Clock\n"),
+    (
+        "input c : Clock\n    reg r : SInt<4>, c\n",
+        "E05 4:13 unsupported SInt\n",
+    ),
+    (
+        "input c : Clock\n    reg r : UInt<4>, c.d with : (reset => (c, r))\n",
+        "E05 4:23 unsupported .\n",
+    ),
+    (
+        "input c : Clock\n    reg r : UInt<4>, c with : (reset => (UInt<1>(0), r))\n",
+        "E05 4:24 unsupported with\n",
+    ),
+    (
+        "input c : Clock\n    reg r : UInt<4>, with with :\n      reset => (not(c), r)\n",
+        "E05 4:27 unsupported with\n",
+    ),
+    (
+        "input c : Clock\n    output o : UInt<4>\n    reg r : UInt<4>, c\n    r <= r\n    o <= r\n",
+        "",
+    ),
     (
         "output o : UInt<1>\n    o <= a.x\n",
         "E05 4:11 unsupported .\n",
@@ -80,7 +101,8 @@ fn line_of(alloc: Global, text: &[u8]) -> Result<Vec<u8>, Fail> {
     let tokens = lex(alloc, text).ok().ok_or("the text has tokens")?;
     if let Some(lack) = lacking(&tree) {
         let word = Name::new(alloc, lack.word)?;
-        FirFault::Unsupported(place_of(&tokens, lack.spot), word).put_line(alloc, &mut line)?;
+        let place = place_of(&tokens, lack.spot, lack.word);
+        FirFault::Unsupported(place, word).put_line(alloc, &mut line)?;
     }
     Ok(line)
 }

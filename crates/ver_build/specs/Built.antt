@@ -30,7 +30,6 @@ use Rattle.ver_ast.specs.declared.tree.Atom.TheVariants as atom
 use Rattle.ver_ast.specs.declared.tree.Primary.{Primary}
 use Rattle.ver_ast.specs.declared.tree.Primary.TheVariants as primary
 use Rattle.ver_ast.specs.declared.tree.UnaryOp.TheVariants as unary
-use Rattle.ver_ast.specs.declared.tree.BinaryOp.{BinaryOp}
 use Rattle.ver_ast.specs.declared.tree.BinaryOp.TheVariants as binary
 
 -- where a value is: nowhere, as it has no bits; in a constant of a width; in the net of that width and name
