@@ -1,9 +1,7 @@
 -- Values that fit their widths, one by one.
-use Rattle.std.proofs.Common.{◌≡◌, ℕ, zero, suc, ◌<◌, List, [], ◌∷◌, length, get_or, Bool, nat_eq, refl, sym, ap, ◌∙◌, arith}
-use Rattle.std.specs.Prelude.{IsTrue, ◌↔◌, map}
-use Rattle.std.proofs.lemmas.Bool.{false≢true}
-use Rattle.std.proofs.lemmas.Bool.Decides.{nat_tests}
-use Rattle.fir_base.specs.Ticks.{FitEach, AreClocks, Env}
+use Rattle.std.proofs.Common.{◌≡◌, ℕ, zero, suc, ◌<◌, List, [], ◌∷◌, length, get_or, refl, sym, ap, arith}
+use Rattle.std.specs.Prelude.{map}
+use Rattle.fir_base.specs.Ticks.{FitEach, Env}
 use Rattle.ver_ast.specs.Nets.{Sized, names_of}
 
 pub fit_length : (ws vs : List ℕ) → FitEach ws vs → length ws ≡ length vs
@@ -11,10 +9,6 @@ fit_length [] [] h = refl
 fit_length [] (v ∷ vs) h = absurd h
 fit_length (w ∷ ws) [] h = absurd h
 fit_length (w ∷ ws) (v ∷ vs) h = ap suc (fit_length ws vs h.1)
-
-pub no_clocks : (ks : List ℕ) (b : Bool) → b ≡ nat_eq (length ks) 0 → IsTrue b ↔ AreClocks 0 0 ks
-no_clocks [] b e = (λ t. tt, λ h. e)
-no_clocks (k ∷ ks) b e = (λ t. absurd (false≢true (sym (e ∙ grind (arith, nat_tests)) ∙ t)), λ h. absurd (omega (arith, h.1)))
 
 pub value_at : (env : Env) (nets : List Sized) (i : ℕ) (n : Sized) → i < length nets → n ≡ get_or nets i n → get_or (map env (names_of nets)) i 0 ≡ env n.0
 value_at env [] i n h e = absurd (omega arith)

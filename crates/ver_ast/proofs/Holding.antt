@@ -24,8 +24,8 @@ at_net : (env : Env) (nets : List Sized) (items : List Item) → AllHold env net
 at_net env nets items h a m n i e = h a n.1 m (subst (λ (k : List ℕ). In nets (k, n.1)) e i)
 
 back : (env : Env) (nets : List Sized) (items : List Item) → AllHold env nets items → (i : Item) → In items i → ItemHolds env nets i
-back env nets items h (item.Wire n) m = tt
 back env nets items h (item.Assign a) m = all_from_each (HoldsAtNet nets env a) nets (at_net env nets items h a (assign_among items a m))
+back env nets items h _ m = tt
 
 pub items_hold : (env : Env) (nets : List Sized) (items : List Item) → All (ItemHolds env nets) items ↔ AllHold env nets items
 items_hold env nets items = (forth env nets items, λ h. all_from_each (ItemHolds env nets) items (back env nets items h))

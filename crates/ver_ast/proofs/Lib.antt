@@ -3,7 +3,9 @@ pub mod Items
 pub mod Known
 pub mod Widths
 pub mod Values
+pub mod Parts
 pub mod Nets
+pub mod Starting
 pub mod OneChoice
 pub mod OneAtom
 pub mod OneRhs
@@ -16,5 +18,6 @@ pub mod Naming
 pub mod Ordering
 pub mod Fitting
 pub mod Shifts
+pub mod Blocks
 pub mod Narrow
 pub mod Holding

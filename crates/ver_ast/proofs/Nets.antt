@@ -1,81 +1,85 @@
--- How the nets are made of inputs, outputs and wires.
-use Rattle.std.proofs.Common.{◌≡◌, ℕ, List, [], ◌∷◌, ◌++◌, refl, inl, inr, ◌⊎◌, ⊎_elim, subst}
-use Rattle.std.specs.Prelude.{map, flat_map}
+-- How the nets are made of inputs, outputs, wires and registers.
+use Rattle.std.proofs.Common.{◌≡◌, List, [], ◌++◌, refl, sym, inl, inr, ◌⊎◌, ⊎_elim, subst}
+use Rattle.std.specs.Prelude.{flat_map}
+use Rattle.std.proofs.lemmas.List.{map-append}
 use Rattle.fir_base.specs.declared.direction.Direction.{Direction}
 use Rattle.fir_base.specs.declared.direction.Direction.TheVariants.{Input, Output}
 use Rattle.fir_base.specs.Lists.{In, Distinct}
 use Rattle.ver_ast.specs.declared.tree.Verilog.{Verilog}
 use Rattle.ver_ast.specs.declared.tree.Port.{Port}
-use Rattle.ver_ast.specs.Nets.{Sized, port_net, input_net, output_net, inputs, outputs, wires, nets, names_of}
+use Rattle.ver_ast.specs.declared.tree.Item.{Item}
+use Rattle.ver_ast.specs.declared.tree.Item.TheVariants as item
+use Rattle.ver_ast.specs.Nets.{Sized, port_net, input_net, output_net, item_net, wire_net, reg_net, inputs, outputs, wires, regs, port_nets, nets, names_of}
 use Rattle.ver_ast.proofs.Members.{in_map, in_left, in_right, in_either}
+use Rattle.ver_ast.proofs.Parts.{distinct_left, distinct_right, distinct_apart, distinct_join, part_in, part_named, part_once, split_in}
 
-abbrev inputs_of : List Port → List Sized
-inputs_of = flat_map (λ p. input_net p.direction p)
+abbrev as_input : Port → List Sized
+as_input p = input_net p.direction p
 
-abbrev outputs_of : List Port → List Sized
-outputs_of = flat_map (λ p. output_net p.direction p)
+abbrev as_output : Port → List Sized
+as_output p = output_net p.direction p
 
-in_input : (d : Direction) (p : Port) (s : Sized) → In (input_net d p) s → port_net p ≡ s
-in_input Input p s (inl e) = e
-in_input Input p s (inr m) = absurd m
-in_input Output p s m = absurd m
+abbrev item_nets : Verilog → List Sized
+item_nets v = flat_map item_net v.items
 
--- an input is a port
-in_ports : (ps : List Port) (s : Sized) → In (inputs_of ps) s → In (map port_net ps) s
-in_ports [] s m = m
-in_ports (p ∷ ps) s m =
-    ⊎_elim (λ (n : In (input_net p.direction p) s). inl (in_input p.direction p s n)) (λ (n : In (inputs_of ps) s). inr (in_ports ps s n))
-    (in_either (input_net p.direction p) (inputs_of ps) s m)
+by_direction : (d : Direction) (p : Port) → (input_net d p ≡ port_net p) ⊎ (input_net d p ≡ [])
+by_direction Input p = inl refl
+by_direction Output p = inr refl
 
-pub input_is_net : (v : Verilog) (s : Sized) → In (inputs v) s → In (nets v) s
-input_is_net v s m = in_left (map port_net v.ports) (wires v) s (in_ports v.ports s m)
+input_part : (p : Port) → (as_input p ≡ port_net p) ⊎ (as_input p ≡ [])
+input_part p = by_direction p.direction p
 
-name_in_more : (d : Direction) (p : Port) (rest : List Sized) (n : List ℕ) → In (names_of (input_net d p ++ rest)) n → (p.name ≡ n) ⊎ In (names_of rest) n
-name_in_more Input p rest n m = m
-name_in_more Output p rest n m = inr m
+reg_part : (i : Item) → (reg_net i ≡ item_net i) ⊎ (reg_net i ≡ [])
+reg_part (item.Wire n) = inr refl
+reg_part (item.Reg n) = inl refl
+reg_part (item.Assign a) = inr refl
+reg_part (item.Always b) = inr refl
 
-name_is_port : (ps : List Port) (ws : List Sized) (n : List ℕ) → In (names_of (inputs_of ps)) n → In (names_of (map port_net ps ++ ws)) n
-name_is_port [] ws n m = absurd m
-name_is_port (p ∷ ps) ws n m =
-    ⊎_elim (λ (e : p.name ≡ n). inl e) (λ (o : In (names_of (inputs_of ps)) n). inr (name_is_port ps ws n o)) (name_in_more p.direction p (inputs_of ps) n m)
+pub reg_is_net : (v : Verilog) (s : Sized) → In (regs v) s → In (nets v) s
+reg_is_net v s m = in_right (port_nets v) (item_nets v) s (part_in item_net reg_net reg_part v.items s m)
 
-more_distinct : (d : Direction) (p : Port) (rest : List Sized) → (In (names_of rest) p.name → ⊥) → Distinct (names_of rest) → Distinct (names_of (input_net d p ++ rest))
-more_distinct Input p rest fresh h = (fresh, h)
-more_distinct Output p rest fresh h = h
-
-inputs_once : (ps : List Port) (ws : List Sized) → Distinct (names_of (map port_net ps ++ ws)) → Distinct (names_of (inputs_of ps))
-inputs_once [] ws d = tt
-inputs_once (p ∷ ps) ws d = more_distinct p.direction p (inputs_of ps) (λ m. d.0 (name_is_port ps ws p.name m)) (inputs_once ps ws d.1)
-
--- where each net is declared once, so is each input
-pub inputs_distinct : (v : Verilog) → Distinct (names_of (nets v)) → Distinct (names_of (inputs v))
-inputs_distinct v d = inputs_once v.ports (wires v) d
-
-in_direction : (d : Direction) (p : Port) → In (input_net d p) (port_net p) ⊎ In (output_net d p) (port_net p)
-in_direction Input p = inl (inl refl)
-in_direction Output p = inr (inl refl)
-
-in_either_direction : (ps : List Port) (s : Sized) → In (map port_net ps) s → In (inputs_of ps) s ⊎ In (outputs_of ps) s
-in_either_direction [] s m = absurd m
-in_either_direction (p ∷ ps) s (inl e) =
+-- an input or a register is a net
+pub source_is_net : (v : Verilog) (s : Sized) → In (inputs v ++ regs v) s → In (nets v) s
+source_is_net v s m =
     ⊎_elim
-    (λ (n : In (input_net p.direction p) (port_net p)). inl (in_left (input_net p.direction p) (inputs_of ps) s (subst (In (input_net p.direction p)) e n)))
-    (λ (n : In (output_net p.direction p) (port_net p)). inr (in_left (output_net p.direction p) (outputs_of ps) s (subst (In (output_net p.direction p)) e n)))
-    (in_direction p.direction p)
-in_either_direction (p ∷ ps) s (inr m) =
-    ⊎_elim
-    (λ (n : In (inputs_of ps) s). inl (in_right (input_net p.direction p) (inputs_of ps) s n))
-    (λ (n : In (outputs_of ps) s). inr (in_right (output_net p.direction p) (outputs_of ps) s n))
-    (in_either_direction ps s m)
+    (λ (n : In (inputs v) s). in_left (port_nets v) (item_nets v) s (part_in port_net as_input input_part v.ports s n))
+    (λ (n : In (regs v) s). reg_is_net v s n)
+    (in_either (inputs v) (regs v) s m)
 
--- a net is an input, or else a wire or an output
-pub net_is_input_or_driven : (v : Verilog) (s : Sized) → In (nets v) s → In (inputs v) s ⊎ In (names_of (wires v ++ outputs v)) s.0
-net_is_input_or_driven v s m =
+-- where each net is declared once, so is each input and register
+pub sources_distinct : (v : Verilog) → Distinct (names_of (nets v)) → Distinct (names_of (inputs v ++ regs v))
+sources_distinct v d =
+    let first = λ (s : Sized). s.0 in
+    let ports = names_of (port_nets v) in
+    let items = names_of (item_nets v) in
+    let whole : Distinct (ports ++ items) = subst Distinct (map-append first (port_nets v) (item_nets v)) d in
+    subst Distinct (sym (map-append first (inputs v) (regs v)))
+    (distinct_join (names_of (inputs v)) (names_of (regs v))
+    (part_once port_net as_input input_part v.ports (distinct_left ports items whole))
+    (part_once item_net reg_net reg_part v.items (distinct_right ports items whole))
+    (λ n m o. distinct_apart ports items whole n (part_named port_net as_input input_part v.ports n m) (part_named item_net reg_net reg_part v.items n o)))
+
+in_direction : (d : Direction) (p : Port) (s : Sized) → In (port_net p) s → In (input_net d p) s ⊎ In (output_net d p) s
+in_direction Input p s m = inl m
+in_direction Output p s m = inr m
+
+wire_or_reg : (i : Item) (s : Sized) → In (item_net i) s → In (wire_net i) s ⊎ In (reg_net i) s
+wire_or_reg (item.Wire n) s m = inl m
+wire_or_reg (item.Reg n) s m = inr m
+wire_or_reg (item.Assign a) s m = absurd m
+wire_or_reg (item.Always b) s m = absurd m
+
+-- a net is an input or a register, or else a wire or an output
+pub net_is_source_or_driven : (v : Verilog) (s : Sized) → In (nets v) s → In (inputs v ++ regs v) s ⊎ In (names_of (wires v ++ outputs v)) s.0
+net_is_source_or_driven v s m =
     let first = λ (q : Sized). q.0 in
     ⊎_elim
-    (λ (n : In (map port_net v.ports) s). ⊎_elim
-    (λ (o : In (inputs_of v.ports) s). inl o)
-    (λ (o : In (outputs_of v.ports) s). inr (in_map first (wires v ++ outputs v) s (in_right (wires v) (outputs v) s o)))
-    (in_either_direction v.ports s n))
-    (λ (n : In (wires v) s). inr (in_map first (wires v ++ outputs v) s (in_left (wires v) (outputs v) s n)))
-    (in_either (map port_net v.ports) (wires v) s m)
+    (λ (n : In (port_nets v) s). ⊎_elim
+    (λ (o : In (inputs v) s). inl (in_left (inputs v) (regs v) s o))
+    (λ (o : In (outputs v) s). inr (in_map first (wires v ++ outputs v) s (in_right (wires v) (outputs v) s o)))
+    (split_in port_net as_input as_output (λ p t o. in_direction p.direction p t o) v.ports s n))
+    (λ (n : In (item_nets v) s). ⊎_elim
+    (λ (o : In (wires v) s). inr (in_map first (wires v ++ outputs v) s (in_left (wires v) (outputs v) s o)))
+    (λ (o : In (regs v) s). inl (in_right (inputs v) (regs v) s o))
+    (split_in item_net wire_net reg_net wire_or_reg v.items s n))
+    (in_either (port_nets v) (item_nets v) s m)

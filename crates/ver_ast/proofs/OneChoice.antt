@@ -1,75 +1,21 @@
 -- A valid tree has exactly one choice of values: existence puts in one target after the other, uniqueness goes along the same order.
-use Rattle.std.proofs.Common.{◌≡◌, ℕ, ◌^◌, ◌<◌, List, [], ◌∷◌, ◌++◌, Bool, true, false, cond, refl, sym, ap, ◌∙◌, inl, inr, ⊎_elim, subst}
-use Rattle.std.specs.Prelude.{map}
-use Rattle.std.specs.Str.{bytes_eq}
-use Rattle.std.proofs.lemmas.Slice.Eq.{bytes_eq-Decides}
+use Rattle.std.proofs.Common.{◌≡◌, ℕ, ◌+◌, ◌^◌, ◌<◌, List, [], ◌∷◌, ◌++◌, refl, sym, ap, ◌∙◌, inl, inr, ⊎_elim, subst, arith}
+use Rattle.std.specs.Prelude.{map, slice_get, Some}
+use Rattle.std.proofs.lemmas.List.{map-append}
 use Rattle.fir_base.specs.Lists.{In, Distinct}
 use Rattle.fir_base.specs.Ticks.{Env, Tick, FitEach, HasShape}
 use Rattle.ver_ast.specs.declared.tree.Verilog.{Verilog}
 use Rattle.ver_ast.specs.declared.tree.Assign.{Assign}
-use Rattle.ver_ast.specs.Nets.{Sized, width_in, inputs, outputs, wires, nets, assigns, targets, names_of, widths_of, shape}
+use Rattle.ver_ast.specs.Nets.{Sized, width_in, inputs, outputs, clocks, wires, regs, nets, assigns, targets, names_of, widths_of, shape}
 use Rattle.ver_ast.specs.Valid.{Valid, HasOneWidth, ReadsBefore, reads}
 use Rattle.ver_ast.specs.Settled.{VSettled, rhs_value}
 use Rattle.ver_ast.specs.Allows.{VHasOne}
 use Rattle.ver_ast.proofs.Members.{in_map, in_map_from, each_in}
 use Rattle.ver_ast.proofs.Widths.{declared_width}
 use Rattle.ver_ast.proofs.Values.{rhs_fits, same_rhs}
-use Rattle.ver_ast.proofs.Nets.{input_is_net, inputs_distinct, net_is_input_or_driven}
-
--- the env with another value for one name
-abbrev put : Env → List ℕ → ℕ → Env
-put env n x = λ m. cond (bytes_eq m n) x (env m)
-
-put_here : (env : Env) (n : List ℕ) (x : ℕ) → put env n x n ≡ x
-put_here env n x = rw ((bytes_eq-Decides n n).1 refl) refl
-
-at_test : (b : Bool) (x y : ℕ) → (b ≡ true → ⊥) → cond b x y ≡ y
-at_test true x y h = absurd (h refl)
-at_test false x y h = refl
-
-put_other : (env : Env) (n : List ℕ) (x : ℕ) (m : List ℕ) → (m ≡ n → ⊥) → put env n x m ≡ env m
-put_other env n x m h = at_test (bytes_eq m n) x (env m) (λ t. h ((bytes_eq-Decides m n).0 t))
-
-map_same : (e f : Env) (ns : List (List ℕ)) → ((n : List ℕ) → In ns n → e n ≡ f n) → map e ns ≡ map f ns
-map_same e f [] h = refl
-map_same e f (n ∷ ns) h = rw (h n (inl refl), map_same e f ns (λ m o. h m (inr o))) refl
-
-same_at : (e f : Env) (ns : List (List ℕ)) → map e ns ≡ map f ns → (n : List ℕ) → In ns n → e n ≡ f n
-same_at e f [] h n m = absurd m
-same_at e f (k ∷ ns) h n (inl p) = let here : e k ≡ f k = cc in ap e (sym p) ∙ here ∙ ap f p
-same_at e f (k ∷ ns) h n (inr m) = let rest : map e ns ≡ map f ns = cc in same_at e f ns rest n m
-
--- each of the names has its value of the list
-start : List Sized → List ℕ → Env
-start (p ∷ ps) (x ∷ xs) = put (start ps xs) p.0 x
-start _ _ = λ _. 0
-
-start_values : (ps : List Sized) (xs : List ℕ) → Distinct (names_of ps) → FitEach (widths_of ps) xs → map (start ps xs) (names_of ps) ≡ xs
-unfolding start
-start_values [] [] d h = refl
-start_values [] (x ∷ xs) d h = absurd h
-start_values (p ∷ ps) [] d h = absurd h
-start_values (p ∷ ps) (x ∷ xs) d h =
-    let env = start ps xs in
-    let others : map (put env p.0 x) (names_of ps) ≡ map env (names_of ps) =
-    map_same (put env p.0 x) env (names_of ps) (λ n m. put_other env p.0 x n (λ e. d.0 (subst (In (names_of ps)) e m))) in
-    let all : map env (names_of ps) ≡ xs = start_values ps xs d.1 h.1 in
-    ap (λ y. y ∷ map (put env p.0 x) (names_of ps)) (put_here env p.0 x) ∙ ap (λ ys. x ∷ ys) (others ∙ all)
-
-start_fits : (ps : List Sized) (xs : List ℕ) → Distinct (names_of ps) → FitEach (widths_of ps) xs → (n : List ℕ) (w : ℕ) → In ps (n, w) → start ps xs n < 2 ^ w
-unfolding start
-start_fits [] xs d h n w m = absurd m
-start_fits (p ∷ ps) [] d h n w m = absurd h
-start_fits (p ∷ ps) (x ∷ xs) d h n w (inl e) =
-    let first = λ (q : Sized). q.0 in
-    let value : put (start ps xs) p.0 x n ≡ x = ap (put (start ps xs) p.0 x) (sym (ap first e)) ∙ put_here (start ps xs) p.0 x in
-    let below : x < 2 ^ w = subst (λ (k : ℕ). x < 2 ^ k) (ap (λ (q : Sized). q.1) e) h.0 in
-    rw value below
-start_fits (p ∷ ps) (x ∷ xs) d h n w (inr m) =
-    let first = λ (q : Sized). q.0 in
-    let name : In (names_of ps) n = in_map first ps (n, w) m in
-    let value : put (start ps xs) p.0 x n ≡ start ps xs n = put_other (start ps xs) p.0 x n (λ e. d.0 (subst (In (names_of ps)) e name)) in
-    rw value (start_fits ps xs d.1 h.1 n w m)
+use Rattle.ver_ast.proofs.Parts.{distinct_left, distinct_right, distinct_apart, named_either}
+use Rattle.ver_ast.proofs.Nets.{source_is_net, sources_distinct, net_is_source_or_driven}
+use Rattle.ver_ast.proofs.Starting.{put, put_here, put_other, map_same, same_at, start, start_values, start_fits, start_other, numbered, numbered_at, get_in, place_of, fit_joined, split_values}
 
 -- the known names have values of their widths
 record Fits (v : Verilog) (known : List (List ℕ)) (env : Env) : Type 0 where
@@ -187,8 +133,17 @@ module _ (v : Verilog) (valid : Valid v) (state : List ℕ) (tick : Tick) (shape
   abbrev first : Sized → List ℕ
   first s = s.0
 
+  abbrev sources : List Sized
+  sources = inputs v ++ regs v
+
   abbrev order : List Assign
   order = valid.ordered.0
+
+  nets_once : Distinct (names_of (nets v))
+  nets_once = distinct_right (clocks v) (names_of (nets v)) valid.declared_once
+
+  sources_once : Distinct (names_of sources)
+  sources_once = sources_distinct v nets_once
 
   -- what a wire or an output names is a target of the order
   in_order : (n : List ℕ) → In (names_of (wires v ++ outputs v)) n → In (targets order) n
@@ -196,15 +151,12 @@ module _ (v : Verilog) (valid : Valid v) (state : List ℕ) (tick : Tick) (shape
       let t = in_map_from (λ a. a.target) (assigns v) n (valid.driven n m) in
       subst (In (targets order)) t.2 (in_map (λ a. a.target) order t.0 (valid.ordered.1.each t.0 t.1))
 
-  input_values_once : Distinct (names_of (inputs v))
-  input_values_once = inputs_distinct v valid.declared_once
-
-  fresh_targets : (n : List ℕ) → In (names_of (inputs v)) n → In (targets order) n → ⊥
+  fresh_targets : (n : List ℕ) → In (names_of sources) n → In (targets order) n → ⊥
   fresh_targets n m t =
       let a = in_map_from (λ b. b.target) order n t in
-      valid.undriven_inputs n m (subst (In (targets (assigns v))) a.2 (in_map (λ b. b.target) (assigns v) a.0 (valid.ordered.1.only a.0 a.1)))
+      valid.undriven_sources n m (subst (In (targets (assigns v))) a.2 (in_map (λ b. b.target) (assigns v) a.0 (valid.ordered.1.only a.0 a.1)))
 
-  follows : Follows v (names_of (inputs v)) order
+  follows : Follows v (names_of sources) order
   follows = record {
     once = valid.ordered.1.once;
     after = valid.ordered.1.after;
@@ -212,51 +164,101 @@ module _ (v : Verilog) (valid : Valid v) (state : List ℕ) (tick : Tick) (shape
     widths = λ a m. valid.fitting a (valid.ordered.1.only a m);
   }
 
-  input_fits : (n : List ℕ) (w : ℕ) → In (inputs v) (n, w) → start (inputs v) tick.inputs n < 2 ^ w
-  input_fits = start_fits (inputs v) tick.inputs input_values_once shaped.inputs_fit
+  -- the clocks have their numbers, the inputs the tick's values, and the registers the state's words
+  abbrev begin : Env
+  begin = start (numbered 0 (clocks v)) sources (tick.inputs ++ state)
 
-  begin_fits : Fits v (names_of (inputs v)) (start (inputs v) tick.inputs)
+  given_fit : FitEach (widths_of sources) (tick.inputs ++ state)
+  given_fit =
+      subst (λ ws. FitEach ws (tick.inputs ++ state)) (sym (map-append (λ (s : Sized). s.1) (inputs v) (regs v)))
+      (fit_joined (widths_of (inputs v)) (widths_of (regs v)) tick.inputs state shaped.inputs_fit shaped.state_fits)
+
+  source_fits : (n : List ℕ) (w : ℕ) → In sources (n, w) → begin n < 2 ^ w
+  source_fits = start_fits (numbered 0 (clocks v)) sources (tick.inputs ++ state) sources_once given_fit
+
+  begin_fits : Fits v (names_of sources) begin
   begin_fits = record { each = each }
     where
-      each : (n : List ℕ) → In (names_of (inputs v)) n → start (inputs v) tick.inputs n < 2 ^ width_in (nets v) n
+      each : (n : List ℕ) → In (names_of sources) n → begin n < 2 ^ width_in (nets v) n
       each n m =
-          let s = in_map_from first (inputs v) n m in
-          let there : In (inputs v) (n, s.0.1) = subst (λ (k : List ℕ). In (inputs v) (k, s.0.1)) s.2 s.1 in
-          rw (declared_width (nets v) valid.declared_once n s.0.1 (input_is_net v (n, s.0.1) there)) (input_fits n s.0.1 there)
+          let s = in_map_from first sources n m in
+          let there : In sources (n, s.0.1) = subst (λ (k : List ℕ). In sources (k, s.0.1)) s.2 s.1 in
+          rw (declared_width (nets v) nets_once n s.0.1 (source_is_net v (n, s.0.1) there)) (source_fits n s.0.1 there)
 
-  filled : Filled v (names_of (inputs v)) order (start (inputs v) tick.inputs)
-  filled = fill v valid.declared_once order (names_of (inputs v)) (start (inputs v) tick.inputs) follows begin_fits
+  filled : Filled v (names_of sources) order begin
+  filled = fill v nets_once order (names_of sources) begin follows begin_fits
 
   abbrev last : Env
   last = filled.last
 
-  input_kept : (n : List ℕ) → In (names_of (inputs v)) n → last n ≡ start (inputs v) tick.inputs n
-  input_kept n m = filled.keeps n (fresh_targets n m)
+  source_kept : (n : List ℕ) → In (names_of sources) n → last n ≡ begin n
+  source_kept n m = filled.keeps n (fresh_targets n m)
 
   all_fit : (n : List ℕ) (w : ℕ) → In (nets v) (n, w) → last n < 2 ^ w
   all_fit n w i =
       ⊎_elim
-      (λ (m : In (inputs v) (n, w)). rw (input_kept n (in_map first (inputs v) (n, w) m)) (input_fits n w m))
-      (λ (m : In (names_of (wires v ++ outputs v)) n). subst (λ (k : ℕ). last n < 2 ^ k) (declared_width (nets v) valid.declared_once n w i) (filled.driven_fits n (in_order n m)))
-      (net_is_input_or_driven v (n, w) i)
+      (λ (m : In sources (n, w)). rw (source_kept n (in_map first sources (n, w) m)) (source_fits n w m))
+      (λ (m : In (names_of (wires v ++ outputs v)) n). subst (λ (k : ℕ). last n < 2 ^ k) (declared_width (nets v) nets_once n w i) (filled.driven_fits n (in_order n m)))
+      (net_is_source_or_driven v (n, w) i)
+
+  -- both parts of the sources have their values
+  given_values : (map last (names_of (inputs v)) ≡ tick.inputs) × (map last (names_of (regs v)) ≡ state)
+  given_values =
+      split_values last (inputs v) (regs v) tick.inputs state shaped.inputs_fit
+      (map_same last begin (names_of sources) source_kept ∙ start_values (numbered 0 (clocks v)) sources (tick.inputs ++ state) sources_once given_fit)
+
+  -- a clock is no net
+  no_net : (n : List ℕ) → In (clocks v) n → In (names_of (nets v)) n → ⊥
+  no_net = distinct_apart (clocks v) (names_of (nets v)) valid.declared_once
+
+  no_source : (n : List ℕ) → In (clocks v) n → In (names_of sources) n → ⊥
+  no_source n m o =
+      let s = in_map_from first sources n o in
+      no_net n m (subst (In (names_of (nets v))) s.2 (in_map first (nets v) s.0 (source_is_net v s.0 s.1)))
+
+  no_target : (n : List ℕ) → In (clocks v) n → In (targets order) n → ⊥
+  no_target n m t =
+      let a = in_map_from (λ b. b.target) order n t in
+      let f = valid.fitting a.0 (valid.ordered.1.only a.0 a.1) in
+      no_net n m (subst (In (names_of (nets v))) a.2 (in_map first (nets v) (a.0.target, f.0) f.1))
+
+  clock_values : (k : ℕ) (n : List ℕ) → slice_get (clocks v) k ≡ Some n → last n ≡ k
+  clock_values k n e =
+      let m : In (clocks v) n = get_in (clocks v) k n e in
+      let kept : last n ≡ begin n = filled.keeps n (no_target n m) in
+      let number : begin n ≡ numbered 0 (clocks v) n = start_other (numbered 0 (clocks v)) sources (tick.inputs ++ state) n (no_source n m) in
+      let is : numbered 0 (clocks v) n ≡ 0 + k = numbered_at 0 (clocks v) (distinct_left (clocks v) (names_of (nets v)) valid.declared_once) k n e in
+      omega arith
 
   settled : VSettled v state tick last
   settled = record {
     shaped = shaped;
     fits = all_fit;
-    input_values = map_same last (start (inputs v) tick.inputs) (names_of (inputs v)) input_kept ∙ start_values (inputs v) tick.inputs input_values_once shaped.inputs_fit;
+    input_values = given_values.0;
+    clock_values = clock_values;
+    state_values = given_values.1;
     equations = λ a w m i. filled.equations a w (valid.ordered.1.each a m) i;
   }
 
-  agree : (e f : Env) → VSettled v state tick e → VSettled v state tick f → (n : List ℕ) (w : ℕ) → In (nets v) (n, w) → e n ≡ f n
-  agree e f p q n w i =
-      let on_inputs : (k : List ℕ) → In (names_of (inputs v)) k → e k ≡ f k = same_at e f (names_of (inputs v)) (p.input_values ∙ sym q.input_values) in
-      ⊎_elim
-      (λ (m : In (inputs v) (n, w)). on_inputs n (in_map first (inputs v) (n, w) m))
-      (λ (m : In (names_of (wires v ++ outputs v)) n).
-      agree_along v valid.declared_once state tick e f p q (names_of (inputs v)) order valid.ordered.1.after
-      (λ a o. (valid.ordered.1.only a o, valid.fitting a (valid.ordered.1.only a o))) on_inputs n (in_order n m))
-      (net_is_input_or_driven v (n, w) i)
+  module _ (e f : Env) (p : VSettled v state tick e) (q : VSettled v state tick f) where
+    on_sources : (k : List ℕ) → In (names_of sources) k → e k ≡ f k
+    on_sources k m =
+        ⊎_elim
+        (λ (o : In (names_of (inputs v)) k). same_at e f (names_of (inputs v)) (p.input_values ∙ sym q.input_values) k o)
+        (λ (o : In (names_of (regs v)) k). same_at e f (names_of (regs v)) (p.state_values ∙ sym q.state_values) k o)
+        (named_either (inputs v) (regs v) k m)
+
+    agree : (n : List ℕ) (w : ℕ) → In (nets v) (n, w) → e n ≡ f n
+    agree n w i =
+        ⊎_elim
+        (λ (m : In sources (n, w)). on_sources n (in_map first sources (n, w) m))
+        (λ (m : In (names_of (wires v ++ outputs v)) n).
+        agree_along v nets_once state tick e f p q (names_of sources) order valid.ordered.1.after
+        (λ a o. (valid.ordered.1.only a o, valid.fitting a (valid.ordered.1.only a o))) on_sources n (in_order n m))
+        (net_is_source_or_driven v (n, w) i)
+
+    agree_clocks : (n : List ℕ) → In (clocks v) n → e n ≡ f n
+    agree_clocks n m = let t = place_of (clocks v) n m in p.clock_values t.0 n t.1 ∙ sym (q.clock_values t.0 n t.1)
 
   pub has_one : VHasOne v state tick
-  has_one = record { env = last; settled = settled; same = agree }
+  has_one = record { env = last; settled = settled; same = agree; same_clocks = agree_clocks }

@@ -11,7 +11,7 @@ use Rattle.ver_ast.specs.declared.tree.Verilog.{Verilog}
 use Rattle.ver_ast.specs.declared.tree.Assign.{Assign}
 use Rattle.ver_ast.specs.declared.tree.Item.{Item}
 use Rattle.ver_ast.specs.declared.tree.Item.TheVariants as item
-use Rattle.ver_ast.specs.Nets.{inputs, item_assign, assigns, targets, names_of}
+use Rattle.ver_ast.specs.Nets.{inputs, regs, item_assign, assigns, targets, names_of}
 use Rattle.ver_ast.specs.Valid.{reads, ReadsBefore, IsOrder}
 use Rattle.ver_ast.specs.Checked.{CanPlace, CannotPlace, IsPlaced}
 use Rattle.ver_ast.proofs.Items.{each_from_all, all_from_each}
@@ -20,16 +20,16 @@ use Rattle.ver_ast.proofs.Members.{in_map, in_map_from}
 -- an assign among the items, and among the assigns
 pub assign_among : (is : List Item) (a : Assign) → In is (item.Assign a) → In (flat_map item_assign is) a
 assign_among [] a m = absurd m
-assign_among (item.Wire n ∷ is) a (inl e) = absurd (cc)
-assign_among (item.Wire n ∷ is) a (inr m) = assign_among is a m
 assign_among (item.Assign b ∷ is) a (inl e) = inl (cc)
 assign_among (item.Assign b ∷ is) a (inr m) = inr (assign_among is a m)
+assign_among (_ ∷ is) a (inl e) = absurd (cc)
+assign_among (_ ∷ is) a (inr m) = assign_among is a m
 
 pub item_among : (is : List Item) (a : Assign) → In (flat_map item_assign is) a → In is (item.Assign a)
 item_among [] a m = absurd m
-item_among (item.Wire n ∷ is) a m = inr (item_among is a m)
 item_among (item.Assign b ∷ is) a (inl e) = inl (ap item.Assign e)
 item_among (item.Assign b ∷ is) a (inr m) = inr (item_among is a m)
+item_among (_ ∷ is) a m = inr (item_among is a m)
 
 unfoldable pub is_known : List (List ℕ) → List ℕ → Bool
 is_known [] n = false
@@ -53,8 +53,8 @@ one_if_open known = if known then 0 else 1
 -- how many assigns have a target that is not known
 unfoldable pub open_count : List (List ℕ) → List Item → ℕ
 open_count known [] = 0
-open_count known (item.Wire n ∷ is) = open_count known is
 open_count known (item.Assign a ∷ is) = one_if_open (is_known known a.target) + open_count known is
+open_count known (_ ∷ is) = open_count known is
 
 one_less : (x y : Bool) → one_if_open (x || y) ≤ one_if_open y
 one_less true true = omega arith
@@ -69,9 +69,9 @@ one_drop t known n = one_less (bytes_eq t n) (is_known known n)
 open_no_more : (t : List ℕ) (known : List (List ℕ)) (is : List Item) → open_count (t ∷ known) is ≤ open_count known is
 unfolding open_count
 open_no_more t known [] = omega arith
-open_no_more t known (item.Wire n ∷ is) = open_no_more t known is
 open_no_more t known (item.Assign a ∷ is) =
     omega (arith, one_drop t known a.target, open_no_more t known is)
+open_no_more t known (_ ∷ is) = open_no_more t known is
 
 known_itself : (t : List ℕ) (known : List (List ℕ)) → one_if_open (is_known (t ∷ known) t) ≡ 0
 known_itself t known = ap one_if_open ((known_decides (t ∷ known) t).1 (inl refl))
@@ -86,8 +86,6 @@ unknown_one t known h = cases (is_known known t) (known_decides known t)
 pub open_less : (known : List (List ℕ)) (is : List Item) (a : Assign) → In is (item.Assign a) → (In known a.target → ⊥) → open_count (a.target ∷ known) is < open_count known is
 unfolding open_count
 open_less known [] a m h = absurd m
-open_less known (item.Wire n ∷ is) a (inl e) h = absurd (cc)
-open_less known (item.Wire n ∷ is) a (inr m) h = open_less known is a m h
 open_less known (item.Assign b ∷ is) a (inl e) h =
     let same : b ≡ a = cc in
     let first : one_if_open (is_known (a.target ∷ known) b.target) ≡ 0 = ap (λ (x : Assign). one_if_open (is_known (a.target ∷ known) x.target)) same ∙ known_itself a.target known in
@@ -95,6 +93,8 @@ open_less known (item.Assign b ∷ is) a (inl e) h =
     omega (arith, first, before, open_no_more a.target known is)
 open_less known (item.Assign b ∷ is) a (inr m) h =
     omega (arith, one_drop a.target known b.target, open_less known is a m h)
+open_less known (_ ∷ is) a (inl e) h = absurd (cc)
+open_less known (_ ∷ is) a (inr m) h = open_less known is a m h
 
 -- the names that are known once the assigns are placed
 unfoldable grown : List (List ℕ) → List Assign → List (List ℕ)
@@ -150,24 +150,24 @@ only_more [] a x (inr m) = absurd m
 only_more (b ∷ order) a x (inl e) = inl (inl e)
 only_more (b ∷ order) a x (inr m) = ⊎_elim (λ (t : In order x). inl (inr t)) (λ (e : a ≡ x). inr e) (only_more order a x m)
 
--- the known names come from the inputs and from assigns in an order
+-- the known names come from the inputs and registers, and from assigns in an order
 pub record Placed (v : Verilog) (known : List (List ℕ)) : Type 0 where
   order : List Assign
-  known_is : known ≡ grown (names_of (inputs v)) order
-  after : ReadsBefore (names_of (inputs v)) order
+  known_is : known ≡ grown (names_of (inputs v ++ regs v)) order
+  after : ReadsBefore (names_of (inputs v ++ regs v)) order
   once : Distinct (targets order)
   only : (a : Assign) → In order a → In (assigns v) a
 
-pub placed_none : (v : Verilog) → Placed v (names_of (inputs v))
+pub placed_none : (v : Verilog) → Placed v (names_of (inputs v ++ regs v))
 unfolding grown
 placed_none v = record { order = []; known_is = refl; after = tt; once = tt; only = λ a m. absurd m }
 
 pub placed_more : (v : Verilog) (known : List (List ℕ)) (a : Assign) → Placed v known → In (assigns v) a → CanPlace known a → Placed v (a.target ∷ known)
 placed_more v known a p m can = record {
   order = p.order ++ a ∷ [];
-  known_is = ap (λ k. a.target ∷ k) p.known_is ∙ sym (grown_more (names_of (inputs v)) p.order a);
-  after = after_more (names_of (inputs v)) p.order a p.after (subst (EachIn (reads a)) p.known_is can.read);
-  once = once_more p.order a p.once (λ t. can.fresh (subst (λ k. In k a.target) (sym p.known_is) (grown_target (names_of (inputs v)) p.order a.target t)));
+  known_is = ap (λ k. a.target ∷ k) p.known_is ∙ sym (grown_more (names_of (inputs v ++ regs v)) p.order a);
+  after = after_more (names_of (inputs v ++ regs v)) p.order a p.after (subst (EachIn (reads a)) p.known_is can.read);
+  once = once_more p.order a p.once (λ t. can.fresh (subst (λ k. In k a.target) (sym p.known_is) (grown_target (names_of (inputs v ++ regs v)) p.order a.target t)));
   only = λ x o. ⊎_elim (λ (i : In p.order x). p.only x i) (λ (e : a ≡ x). subst (In (assigns v)) e m) (only_more p.order a x o);
 }
 
@@ -181,18 +181,18 @@ same_assign (c ∷ all) d a b (inr m) (inl q) e =
 same_assign (c ∷ all) d a b (inr m) (inr n) e = same_assign all d.1 a b m n e
 
 -- once all targets are known, the order has all assigns
-pub placed_all : (v : Verilog) (known : List (List ℕ)) → Placed v known → Distinct (targets (assigns v)) → ((n : List ℕ) → In (names_of (inputs v)) n → In (targets (assigns v)) n → ⊥) → All (IsPlaced known) v.items → (order : List Assign) × IsOrder v order
+pub placed_all : (v : Verilog) (known : List (List ℕ)) → Placed v known → Distinct (targets (assigns v)) → ((n : List ℕ) → In (names_of (inputs v ++ regs v)) n → In (targets (assigns v)) n → ⊥) → All (IsPlaced known) v.items → (order : List Assign) × IsOrder v order
 placed_all v known p once undriven all = (p.order, record { each = each; only = p.only; once = p.once; after = p.after })
   where
     each : (a : Assign) → In (assigns v) a → In p.order a
     each a m =
         let there : In known a.target = each_from_all (IsPlaced known) v.items all (item.Assign a) (item_among v.items a m) in
         ⊎_elim
-        (λ (i : In (names_of (inputs v)) a.target). absurd (undriven a.target i (in_map (λ x. x.target) (assigns v) a m)))
+        (λ (i : In (names_of (inputs v ++ regs v)) a.target). absurd (undriven a.target i (in_map (λ x. x.target) (assigns v) a m)))
         (λ (t : In (targets p.order) a.target).
         let b = in_map_from (λ x. x.target) p.order a.target t in
         subst (In p.order) (same_assign (assigns v) once b.0 a (p.only b.0 b.1) m b.2) b.1)
-        (grown_from (names_of (inputs v)) p.order a.target (subst (λ k. In k a.target) p.known_is there))
+        (grown_from (names_of (inputs v ++ regs v)) p.order a.target (subst (λ k. In k a.target) p.known_is there))
 
 each_in_more : (ns ks known : List (List ℕ)) → ((n : List ℕ) → In ks n → In known n) → EachIn ns ks → EachIn ns known
 each_in_more [] ks known h e = tt
@@ -219,9 +219,9 @@ stuck v known p none order o = all_from_each (IsPlaced known) v.items each
     cannot : (a : Assign) → In order a → CanPlace known a → ⊥
     cannot a m = each_from_all (CannotPlace known) v.items none (item.Assign a) (item_among v.items a (o.only a m))
 
-    inputs_known : (n : List ℕ) → In (names_of (inputs v)) n → In known n
-    inputs_known n m = subst (λ k. In k n) (sym p.known_is) (grown_known (names_of (inputs v)) p.order n m)
+    sources_known : (n : List ℕ) → In (names_of (inputs v ++ regs v)) n → In known n
+    sources_known n m = subst (λ k. In k n) (sym p.known_is) (grown_known (names_of (inputs v ++ regs v)) p.order n m)
 
     each : (i : Item) → In v.items i → IsPlaced known i
-    each (item.Wire n) m = tt
-    each (item.Assign a) m = stuck_along known (names_of (inputs v)) order o.after inputs_known cannot a (o.each a (assign_among v.items a m))
+    each (item.Assign a) m = stuck_along known (names_of (inputs v ++ regs v)) order o.after sources_known cannot a (o.each a (assign_among v.items a m))
+    each _ m = tt

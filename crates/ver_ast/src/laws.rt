@@ -7,7 +7,7 @@ pub fn spells_one_tree()
     ensures { SpellsOneTree }
 {}
 
-/// A valid tree has, at every state and tick of its shape, exactly one choice of values for its nets.
+/// A valid tree has, at every state and tick of its shape, exactly one choice of values for its nets and clocks.
 pub fn valid_has_one()
     ensures { ValidHasOne }
 {}

@@ -1,7 +1,8 @@
 //! The tree of the Verilog subset, and what it means: which bytes spell a tree, when a tree is valid,
-//! and which values its nets take (a subset of IEEE 1364-2005). The definitions stand in specs/; here are
-//! the types, the table of reserved words, plain programs that decide the definitions on small trees, and
-//! two laws: a text spells one tree at most, and a valid tree has exactly one choice of values.
+//! which values its nets take, and which words its registers hold after a tick (a subset of IEEE
+//! 1364-2005). The definitions stand in specs/; here are the types, the table of reserved words, plain
+//! programs that decide the definitions on small trees, and two laws: a text spells one tree at most, and
+//! a valid tree has exactly one choice of values.
 #![tactic(auto)]
 
 mod decide;
@@ -11,7 +12,7 @@ mod reserved;
 mod tests;
 mod tree;
 
-pub use decide::{TickValues, Valued, settled, spells, valid};
+pub use decide::{TickValues, Valued, next_state, settled, spells, valid};
 pub use laws::{spells_one_tree, valid_has_one};
 pub use reserved::is_reserved;
 pub use tree::{

@@ -1,18 +1,18 @@
 //! The parts of validity, but for the order of the assigns.
 
-ghost use Rattle.std.specs.Prelude.{◌≡◌, ◌≤◌, ◌↔◌, IsTrue, IfOk, List, ℕ, map, flat_map};
+ghost use Rattle.std.specs.Prelude.{◌≡◌, ◌≤◌, ◌↔◌, IsTrue, IfOk, List, ℕ, flat_map};
 ghost use Rattle.std.specs.List.{AllByRecursion};
 ghost use Rattle.fir_base.specs.Lists.{In, Distinct, EachIn};
-ghost use Rattle.ver_ast.specs.Nets.{assigns, item_assign, names_of, width_in};
+ghost use Rattle.ver_ast.specs.Nets.{item_assign, width_in};
 ghost use Rattle.ver_ast.specs.Spells.{atom_names, primary_names, rhs_atoms, rhs_names};
 ghost use Rattle.ver_ast.specs.AtomWidths.{joined_width, primary_width};
-ghost use Rattle.ver_ast.specs.Valid.{reads, DeclaredBefore, FitsWidth, HasOneWidth, IsSound};
-ghost use Rattle.ver_ast.specs.Checked.{HasItemWidth};
+ghost use Rattle.ver_ast.specs.Valid.{DeclaredBefore, FitsWidth, HasOneWidth, IsSound};
+ghost use Rattle.ver_ast.specs.Checked.{HasItemWidth, IsClockInput};
 
 use crate::decide::names::{contains, same};
 use crate::decide::nets::SizedNet;
-use crate::tree::{Assign, Atom, Item, Primary, Rhs};
-use fir_base::{MemoryOut, Name};
+use crate::tree::{Assign, Atom, Item, Port, Primary, Rhs, Signal};
+use fir_base::{Direction, MemoryOut, Name};
 use fir_bits::mask;
 use std::alloc::Global;
 
@@ -48,6 +48,22 @@ pub fn are_narrow(nets: &[SizedNet]) -> bool
 {
     nets.iter()
         .all(|net| 1 <= net.width() && net.width() <= 128)
+}
+
+fn is_clock_input(port: &Port) -> bool
+    ensures { IsTrue result ↔ IsClockInput port.now }
+{
+    match port.signal {
+        Signal::Bits(_) => true,
+        Signal::Clock => port.direction == Direction::Input,
+    }
+}
+
+/// Whether each clock is an input.
+pub fn are_clock_inputs(ports: &[Port]) -> bool
+    ensures { IsTrue result ↔ ((p : Port) → In ports.now p → IsClockInput p) }
+{
+    ports.iter().all(|port| is_clock_input(port))
 }
 
 fn is_primary_known(primary: &Primary, known: &[Name]) -> bool
@@ -100,10 +116,17 @@ pub fn is_declared_before(alloc: Global, names: &[Name], items: &[Item]) -> Resu
     }
     for item in items {
         match item {
-            Item::Wire(net) => known.insert(0, net.name.copy(alloc)?)?,
+            Item::Wire(net) | Item::Reg(net) => known.insert(0, net.name.copy(alloc)?)?,
             Item::Assign(assign) => {
                 if !contains(known.as_slice(), &assign.target)
                     || !is_rhs_known(&assign.rhs, known.as_slice())
+                {
+                    return Ok(false);
+                }
+            }
+            Item::Always(block) => {
+                if !contains(known.as_slice(), &block.target)
+                    || !is_atom_known(&block.source, known.as_slice())
                 {
                     return Ok(false);
                 }
@@ -156,7 +179,7 @@ fn is_sound(nets: &[SizedNet], primary: &Primary) -> bool
     ensures { IsTrue result ↔ IsSound nets.now primary.now }
 {
     match primary {
-        Primary::Net(_) => true,
+        Primary::Net(name) => 1 <= width_in(nets, name),
         Primary::Constant(width, value) => 1 <= *width && *width <= 128 && *value <= mask(*width),
         Primary::BitSelect(name, index) => {
             let width = width_in(nets, name);
@@ -175,7 +198,8 @@ fn are_sound(nets: &[SizedNet], primaries: &[Primary]) -> bool
     primaries.iter().all(|primary| is_sound(nets, primary))
 }
 
-fn fits_width(nets: &[SizedNet], atom: &Atom, width: u32) -> bool
+/// Whether the operand is sound and has that width.
+pub fn fits_width(nets: &[SizedNet], atom: &Atom, width: u32) -> bool
     ensures { IsTrue result ↔ FitsWidth nets.now width atom.now }
 {
     match atom {
@@ -216,8 +240,8 @@ fn has_item_width(nets: &[SizedNet], item: &Item) -> bool
     ensures { IsTrue result ↔ HasItemWidth nets.now item.now }
 {
     match item {
-        Item::Wire(_) => true,
         Item::Assign(assign) => has_one_width(nets, assign),
+        Item::Wire(_) | Item::Reg(_) | Item::Always(_) => true,
     }
 }
 

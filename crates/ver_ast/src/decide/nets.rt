@@ -1,9 +1,9 @@
 //! What a tree declares and drives, as lists.
 
-ghost use Rattle.std.specs.Prelude.{◌≡◌, ◌∷◌, ◌++◌, [], IfOk, OnOk, map};
-ghost use Rattle.ver_ast.specs.Nets.{Sized, port_net, input_net, output_net, inputs, outputs, wire_net, wires, nets, item_assign, assigns, targets, names_of};
+ghost use Rattle.std.specs.Prelude.{◌≡◌, ◌∷◌, ◌++◌, [], IfOk, OnOk};
+ghost use Rattle.ver_ast.specs.Nets.{port_net, port_nets, port_clock, clocks, input_net, output_net, inputs, outputs, wire_net, wires, reg_net, regs, item_net, nets, item_assign, assigns, targets, item_block, blocks, block_targets, names_of};
 
-use crate::tree::{Item, Port, Verilog};
+use crate::tree::{Item, Net, Port, Signal, Verilog};
 use fir_base::{Direction, MemoryOut, Name};
 use std::alloc::Global;
 use std::marker::Model;
@@ -47,10 +47,15 @@ impl SizedNet {
 }
 
 fn push_port(alloc: Global, out: &mut Vec<SizedNet>, port: &Port) -> Result<(), MemoryOut>
-    ensures { OnOk result (out.new.items ≡ out.old.items ++ port_net port.now ∷ []) }
+    ensures { OnOk result (out.new.items ≡ out.old.items ++ port_net port.now) }
 {
-    out.push(SizedNet::new(alloc, &port.name, port.width)?)?;
-    Ok(())
+    match port.signal {
+        Signal::Bits(width) => {
+            out.push(SizedNet::new(alloc, &port.name, width)?)?;
+            Ok(())
+        }
+        Signal::Clock => Ok(()),
+    }
 }
 
 fn push_input(alloc: Global, out: &mut Vec<SizedNet>, port: &Port) -> Result<(), MemoryOut>
@@ -71,15 +76,37 @@ fn push_output(alloc: Global, out: &mut Vec<SizedNet>, port: &Port) -> Result<()
     }
 }
 
+fn push_net(alloc: Global, out: &mut Vec<SizedNet>, net: &Net) -> Result<(), MemoryOut>
+    ensures { OnOk result (out.new.items ≡ out.old.items ++ (net.now.name, net.now.width) ∷ []) }
+{
+    out.push(SizedNet::new(alloc, &net.name, net.width)?)?;
+    Ok(())
+}
+
 fn push_wire(alloc: Global, out: &mut Vec<SizedNet>, item: &Item) -> Result<(), MemoryOut>
     ensures { OnOk result (out.new.items ≡ out.old.items ++ wire_net item.now) }
 {
     match item {
-        Item::Wire(net) => {
-            out.push(SizedNet::new(alloc, &net.name, net.width)?)?;
-            Ok(())
-        }
-        Item::Assign(_) => Ok(()),
+        Item::Wire(net) => push_net(alloc, out, net),
+        Item::Reg(_) | Item::Assign(_) | Item::Always(_) => Ok(()),
+    }
+}
+
+fn push_reg(alloc: Global, out: &mut Vec<SizedNet>, item: &Item) -> Result<(), MemoryOut>
+    ensures { OnOk result (out.new.items ≡ out.old.items ++ reg_net item.now) }
+{
+    match item {
+        Item::Reg(net) => push_net(alloc, out, net),
+        Item::Wire(_) | Item::Assign(_) | Item::Always(_) => Ok(()),
+    }
+}
+
+fn push_declared(alloc: Global, out: &mut Vec<SizedNet>, item: &Item) -> Result<(), MemoryOut>
+    ensures { OnOk result (out.new.items ≡ out.old.items ++ item_net item.now) }
+{
+    match item {
+        Item::Wire(net) | Item::Reg(net) => push_net(alloc, out, net),
+        Item::Assign(_) | Item::Always(_) => Ok(()),
     }
 }
 
@@ -88,6 +115,15 @@ fn push_wires(alloc: Global, out: &mut Vec<SizedNet>, v: &Verilog) -> Result<(),
 {
     for item in v.items.as_slice() {
         push_wire(alloc, out, item)?;
+    }
+    Ok(())
+}
+
+fn push_regs(alloc: Global, out: &mut Vec<SizedNet>, v: &Verilog) -> Result<(), MemoryOut>
+    ensures { OnOk result (out.new.items ≡ out.old.items ++ regs v.now) }
+{
+    for item in v.items.as_slice() {
+        push_reg(alloc, out, item)?;
     }
     Ok(())
 }
@@ -101,7 +137,7 @@ fn push_outputs(alloc: Global, out: &mut Vec<SizedNet>, v: &Verilog) -> Result<(
     Ok(())
 }
 
-/// The inputs, in port order.
+/// The inputs without the clocks, in port order.
 pub fn inputs(alloc: Global, v: &Verilog) -> Result<Vec<SizedNet>, MemoryOut>
     ensures { IfOk result (λ s. s.items ≡ inputs v.now) }
 {
@@ -112,9 +148,9 @@ pub fn inputs(alloc: Global, v: &Verilog) -> Result<Vec<SizedNet>, MemoryOut>
     Ok(out)
 }
 
-/// The ports, in port order.
+/// The ports without the clocks, in port order.
 pub fn ports(alloc: Global, v: &Verilog) -> Result<Vec<SizedNet>, MemoryOut>
-    ensures { IfOk result (λ s. s.items ≡ map port_net v.now.ports) }
+    ensures { IfOk result (λ s. s.items ≡ port_nets v.now) }
 {
     let mut out = Vec::new(alloc);
     for port in v.ports.as_slice() {
@@ -123,12 +159,32 @@ pub fn ports(alloc: Global, v: &Verilog) -> Result<Vec<SizedNet>, MemoryOut>
     Ok(out)
 }
 
-/// All that is declared: the ports, then the wires.
+/// The registers, in text order.
+pub fn regs(alloc: Global, v: &Verilog) -> Result<Vec<SizedNet>, MemoryOut>
+    ensures { IfOk result (λ s. s.items ≡ regs v.now) }
+{
+    let mut out = Vec::new(alloc);
+    push_regs(alloc, &mut out, v)?;
+    Ok(out)
+}
+
+/// What has its value from outside or from the state: the inputs, then the registers.
+pub fn sources(alloc: Global, v: &Verilog) -> Result<Vec<SizedNet>, MemoryOut>
+    ensures { IfOk result (λ s. s.items ≡ inputs v.now ++ regs v.now) }
+{
+    let mut out = inputs(alloc, v)?;
+    push_regs(alloc, &mut out, v)?;
+    Ok(out)
+}
+
+/// All that has a value of some bits: the ports, then the wires and registers.
 pub fn nets(alloc: Global, v: &Verilog) -> Result<Vec<SizedNet>, MemoryOut>
     ensures { IfOk result (λ s. s.items ≡ nets v.now) }
 {
     let mut out = ports(alloc, v)?;
-    push_wires(alloc, &mut out, v)?;
+    for item in v.items.as_slice() {
+        push_declared(alloc, &mut out, item)?;
+    }
     Ok(out)
 }
 
@@ -142,13 +198,44 @@ pub fn driven_nets(alloc: Global, v: &Verilog) -> Result<Vec<SizedNet>, MemoryOu
     Ok(out)
 }
 
+/// Adds the names of the nets, in the same order.
+pub fn push_names(alloc: Global, out: &mut Vec<Name>, sized: &[SizedNet]) -> Result<(), MemoryOut>
+    ensures { OnOk result (out.new.items ≡ out.old.items ++ names_of sized.now) }
+{
+    for net in sized {
+        out.push(net.name().copy(alloc)?)?;
+    }
+    Ok(())
+}
+
 /// The names of the nets, in the same order.
 pub fn names(alloc: Global, sized: &[SizedNet]) -> Result<Vec<Name>, MemoryOut>
     ensures { IfOk result (λ ns. ns.items ≡ names_of sized.now) }
 {
     let mut out = Vec::new(alloc);
-    for net in sized {
-        out.push(net.name().copy(alloc)?)?;
+    push_names(alloc, &mut out, sized)?;
+    Ok(out)
+}
+
+fn push_clock(alloc: Global, out: &mut Vec<Name>, port: &Port) -> Result<(), MemoryOut>
+    ensures { OnOk result (out.new.items ≡ out.old.items ++ port_clock port.now) }
+{
+    match port.signal {
+        Signal::Bits(_) => Ok(()),
+        Signal::Clock => {
+            out.push(port.name.copy(alloc)?)?;
+            Ok(())
+        }
+    }
+}
+
+/// The names of the clocks, in port order.
+pub fn clocks(alloc: Global, v: &Verilog) -> Result<Vec<Name>, MemoryOut>
+    ensures { IfOk result (λ ns. ns.items ≡ clocks v.now) }
+{
+    let mut out = Vec::new(alloc);
+    for port in v.ports.as_slice() {
+        push_clock(alloc, &mut out, port)?;
     }
     Ok(out)
 }
@@ -157,11 +244,11 @@ fn push_target(alloc: Global, out: &mut Vec<Name>, item: &Item) -> Result<(), Me
     ensures { OnOk result (out.new.items ≡ out.old.items ++ targets (item_assign item.now)) }
 {
     match item {
-        Item::Wire(_) => Ok(()),
         Item::Assign(assign) => {
             out.push(assign.target.copy(alloc)?)?;
             Ok(())
         }
+        Item::Wire(_) | Item::Reg(_) | Item::Always(_) => Ok(()),
     }
 }
 
@@ -172,6 +259,29 @@ pub fn targets(alloc: Global, v: &Verilog) -> Result<Vec<Name>, MemoryOut>
     let mut out = Vec::new(alloc);
     for item in v.items.as_slice() {
         push_target(alloc, &mut out, item)?;
+    }
+    Ok(out)
+}
+
+fn push_block_target(alloc: Global, out: &mut Vec<Name>, item: &Item) -> Result<(), MemoryOut>
+    ensures { OnOk result (out.new.items ≡ out.old.items ++ block_targets (item_block item.now)) }
+{
+    match item {
+        Item::Always(block) => {
+            out.push(block.target.copy(alloc)?)?;
+            Ok(())
+        }
+        Item::Wire(_) | Item::Reg(_) | Item::Assign(_) => Ok(()),
+    }
+}
+
+/// The targets of the blocks, in text order.
+pub fn block_targets(alloc: Global, v: &Verilog) -> Result<Vec<Name>, MemoryOut>
+    ensures { IfOk result (λ ns. ns.items ≡ block_targets (blocks v.now)) }
+{
+    let mut out = Vec::new(alloc);
+    for item in v.items.as_slice() {
+        push_block_target(alloc, &mut out, item)?;
     }
     Ok(out)
 }

@@ -1,8 +1,8 @@
 //! Whether the assigns have an order in which each reads only what is known before it.
 
-ghost use Rattle.std.specs.Prelude.{◌≡◌, ◌↔◌, IsTrue, IfOk, IfSome, IfNone, All, List, ℕ};
+ghost use Rattle.std.specs.Prelude.{◌≡◌, ◌++◌, ◌↔◌, IsTrue, IfOk, IfSome, IfNone, All, List, ℕ};
 ghost use Rattle.fir_base.specs.Lists.{In, Distinct};
-ghost use Rattle.ver_ast.specs.Nets.{inputs, assigns, targets, names_of};
+ghost use Rattle.ver_ast.specs.Nets.{inputs, regs, assigns, targets, names_of};
 ghost use Rattle.ver_ast.specs.Valid.{IsOrder};
 ghost use Rattle.ver_ast.specs.Checked.{CanPlace, CannotPlace, IsPlaced};
 ghost use Rattle.ver_ast.specs.declared.tree.Item.TheVariants as item;
@@ -47,8 +47,8 @@ fn is_placed(item: &Item, known: &[Name]) -> bool
     ensures { IsTrue result ↔ IsPlaced known.now item.now }
 {
     match item {
-        Item::Wire(_) => true,
         Item::Assign(assign) => contains(known, &assign.target),
+        Item::Wire(_) | Item::Reg(_) | Item::Always(_) => true,
     }
 }
 
@@ -58,12 +58,12 @@ fn are_placed(items: &[Item], known: &[Name]) -> bool
     items.iter().all(|item| is_placed(item, known))
 }
 
-/// Whether the assigns have such an order, where at first the inputs are known. It places any assign that can be placed: where none
+/// Whether the assigns have such an order, where at first the inputs and registers are known. It places any assign that can be placed: where none
 /// can, what is left reads in a circle.
 pub fn is_ordered(alloc: Global, mut known: Vec<Name>, v: &Verilog) -> Result<bool, MemoryOut>
-    requires named { known.items ≡ names_of (inputs v.now) }
+    requires named { known.items ≡ names_of (inputs v.now ++ regs v.now) }
     requires driven_once { Distinct (targets (assigns v.now)) }
-    requires undriven { (n : List ℕ) → In (names_of (inputs v.now)) n → In (targets (assigns v.now)) n → ⊥ }
+    requires undriven { (n : List ℕ) → In (names_of (inputs v.now ++ regs v.now)) n → In (targets (assigns v.now)) n → ⊥ }
     ensures { IfOk result (λ b. IsTrue b ↔ ((order : List Assign) × IsOrder v.now order)) }
 {
     while let Some(assign) = next_assign(v.items.as_slice(), known.as_slice()) {

@@ -1,18 +1,18 @@
 //! Whether values are settled.
 
-ghost use Rattle.std.specs.Prelude.{◌≡◌, ◌<◌, ◌+◌, ◌*◌, ◌^◌, ◌/◌, ◌%◌, ◌↔◌, IsTrue, IfOk, All, List, ℕ, [], map};
+ghost use Rattle.std.specs.Prelude.{◌≡◌, ◌<◌, ◌+◌, ◌*◌, ◌^◌, ◌/◌, ◌%◌, ◌↔◌, IsTrue, IfOk, All, List, ℕ, map};
 ghost use Rattle.fir_base.specs.Lists.{In};
-ghost use Rattle.fir_base.specs.Ticks.{FitEach, AreClocks, HasShape};
 ghost use Rattle.fir_bits.specs.Values.{complement};
-ghost use Rattle.ver_ast.specs.Nets.{nets, inputs, assigns, names_of, widths_of, shape};
+ghost use Rattle.ver_ast.specs.Nets.{nets, assigns, names_of};
 ghost use Rattle.ver_ast.specs.AtomWidths.{joined_width};
 ghost use Rattle.ver_ast.specs.Settled.{primary_value, joined_value, atom_value, unary_value, binary_value, rhs_value, VSettled};
 ghost use Rattle.ver_ast.specs.Valid.{Valid};
-ghost use Rattle.ver_ast.specs.Table.{env_of, tick_of, HasNarrowValues, ItemIsNarrow, HoldsAtNet, ItemHolds};
+ghost use Rattle.ver_ast.specs.Table.{env_of, tick_of, AreNumbered, IsGiven, HasNarrowValues, ItemIsNarrow, HoldsAtNet, ItemHolds};
 
 use crate::decide::fields::primary_width;
 use crate::decide::names::same;
-use crate::decide::nets::{SizedNet, inputs, nets};
+use crate::decide::nets::{SizedNet, clocks, inputs, nets, regs};
+use crate::decide::shape::{has_shape, is_below};
 use crate::tree::{Assign, Atom, BinaryOp, Item, Primary, Rhs, UnaryOp, Verilog};
 use fir_base::{MemoryOut, Name};
 use fir_bits::mask;
@@ -32,7 +32,8 @@ pub struct TickValues {
     pub clocks: Vec<u32>,
 }
 
-fn value_of(table: &[Valued], name: &Name) -> u128
+/// The value that the table has for the name, or 0.
+pub fn value_of(table: &[Valued], name: &Name) -> u128
     ensures { result ≡ env_of table.now name.now }
 {
     for entry in table {
@@ -41,54 +42,6 @@ fn value_of(table: &[Valued], name: &Name) -> u128
         }
     }
     0
-}
-
-fn is_below(value: u128, width: u32) -> bool
-    ensures { IsTrue result ↔ (value < 2 ^ width) }
-{
-    width >= 128 || value <= mask(width)
-}
-
-fn fit_each(sized: &[SizedNet], values: &[u128]) -> bool
-    ensures { IsTrue result ↔ FitEach (widths_of sized.now) values.now }
-{
-    if sized.len() != values.len() {
-        return false;
-    }
-    for i in 0..sized.len() {
-        if !is_below(values[i], sized[i].width()) {
-            return false;
-        }
-    }
-    true
-}
-
-fn are_no_values(values: &[u128]) -> bool
-    ensures { IsTrue result ↔ FitEach [] values.now }
-{
-    values.is_empty()
-}
-
-fn are_no_clocks(clocks: &[u32]) -> bool
-    ensures { IsTrue result ↔ AreClocks 0 0 clocks.now }
-{
-    clocks.is_empty()
-}
-
-fn has_shape(
-    alloc: Global,
-    v: &Verilog,
-    state: &[u128],
-    tick: &TickValues,
-) -> Result<bool, MemoryOut>
-    ensures { IfOk result (λ b. IsTrue b ↔ HasShape (shape v.now) state.now (tick_of tick.now)) }
-{
-    let given = inputs(alloc, v)?;
-    Ok(
-        are_no_values(state)
-            && are_no_clocks(tick.clocks.as_slice())
-            && fit_each(given.as_slice(), tick.inputs.as_slice()),
-    )
 }
 
 fn all_fit(all_nets: &[SizedNet], table: &[Valued]) -> bool
@@ -120,16 +73,35 @@ fn have_values(given: &[SizedNet], table: &[Valued], values: &[u128]) -> bool
     true
 }
 
-fn has_inputs(
+fn have_numbers(clocks: &[Name], table: &[Valued]) -> bool
+    ensures { IsTrue result ↔ AreNumbered (env_of table.now) clocks.now }
+{
+    for i in 0..clocks.len() {
+        if value_of(table, &clocks[i]) != i as u128 {
+            return false;
+        }
+    }
+    true
+}
+
+/// Whether the inputs have the tick's values, the registers the state's words, and the clocks their numbers.
+fn is_given(
     alloc: Global,
     v: &Verilog,
+    state: &[u128],
     tick: &TickValues,
     table: &[Valued],
 ) -> Result<bool, MemoryOut>
-    ensures { IfOk result (λ b. IsTrue b ↔ (map (env_of table.now) (names_of (inputs v.now)) ≡ tick.now.inputs.items)) }
+    ensures { IfOk result (λ b. IsTrue b ↔ IsGiven v.now state.now (tick_of tick.now) (env_of table.now)) }
 {
     let given = inputs(alloc, v)?;
-    Ok(have_values(given.as_slice(), table, tick.inputs.as_slice()))
+    let stored = regs(alloc, v)?;
+    let all_clocks = clocks(alloc, v)?;
+    Ok(
+        have_values(given.as_slice(), table, tick.inputs.as_slice())
+            && have_values(stored.as_slice(), table, state)
+            && have_numbers(all_clocks.as_slice(), table),
+    )
 }
 
 /// The number without so many of its low bits.
@@ -184,7 +156,8 @@ fn joined_value(all_nets: &[SizedNet], table: &[Valued], before: u128, parts: &[
     value
 }
 
-fn atom_value(all_nets: &[SizedNet], table: &[Valued], atom: &Atom) -> u128
+/// The operand's value.
+pub fn atom_value(all_nets: &[SizedNet], table: &[Valued], atom: &Atom) -> u128
     requires { atom_value all_nets.now (env_of table.now) atom.now < 2 ^ 128 }
     ensures { result ≡ atom_value all_nets.now (env_of table.now) atom.now }
 {
@@ -266,8 +239,8 @@ fn holds(all_nets: &[SizedNet], table: &[Valued], item: &Item) -> bool
     ensures { IsTrue result ↔ ItemHolds (env_of table.now) all_nets.now item.now }
 {
     match item {
-        Item::Wire(_) => true,
         Item::Assign(assign) => assign_holds(all_nets, table, assign),
+        Item::Wire(_) | Item::Reg(_) | Item::Always(_) => true,
     }
 }
 
@@ -307,5 +280,5 @@ pub fn settled(
     if !has_shape(alloc, v, state, tick)? || !nets_fit(alloc, v, table)? {
         return Ok(false);
     }
-    Ok(has_inputs(alloc, v, tick, table)? && assigns_hold(alloc, v, table)?)
+    Ok(is_given(alloc, v, state, tick, table)? && assigns_hold(alloc, v, table)?)
 }

@@ -23,5 +23,5 @@ returns c =
     )
   where
     each : (items : List Item) (nets : List Sized) → ((a : Assign) → In (flat_map item_assign items) a → HasOneWidth nets a) → (i : Item) → In items i → HasItemWidth nets i
-    each items nets h (item.Wire n) m = tt
     each items nets h (item.Assign a) m = h a (assign_among items a m)
+    each items nets h _ m = tt

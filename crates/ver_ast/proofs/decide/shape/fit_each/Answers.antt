@@ -3,7 +3,7 @@ use Rattle.std.proofs.lemmas.Bool.{false≢true}
 use Rattle.std.proofs.lemmas.List.{length-map}
 use Rattle.ver_ast.specs.Nets.{widths_of}
 use Rattle.ver_ast.proofs.Fitting.{fit_length}
-use Rattle.ver_ast.proofs.decide.values.fit_each.Goals as goal
+use Rattle.ver_ast.proofs.decide.shape.fit_each.Goals as goal
 
 pub returns-then-sized-values : goal.returns-then-sized-values
 returns-then-sized-values c = (

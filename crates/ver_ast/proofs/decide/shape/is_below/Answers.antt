@@ -1,6 +1,6 @@
 use Rattle.std.proofs.Common.{◌^◌, ◌≤◌, arith, rules, tests}
 use Rattle.std.proofs.Math.Nat.{pow-le-pow_right}
-use Rattle.ver_ast.proofs.decide.values.is_below.Goals as goal
+use Rattle.ver_ast.proofs.decide.shape.is_below.Goals as goal
 
 pub returns-then-width-ge128 : goal.returns-then-width-ge128
 returns-then-width-ge128 c =
