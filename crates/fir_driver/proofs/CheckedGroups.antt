@@ -22,25 +22,25 @@ checks_last c fault (Ok x) told last = none_is (faults c) (sym told ∙ last)
 checks_last c fault (Err (Fault f)) told last = first_is (faults c) f (sym told ∙ last)
 checks_last c fault (Err Memory) told last = tt
 
-module _ (names main flows widths legality driven : List FirFault) where
-  whole_first : first_of (names ++ main ++ flows ++ widths ++ legality ++ driven)
-      ≡ option_or (option_or (option_or (option_or (option_or (first_of names) (first_of main)) (first_of flows)) (first_of widths)) (first_of legality)) (first_of driven)
+module _ (names main types widths legality driven : List FirFault) where
+  whole_first : first_of (names ++ main ++ types ++ widths ++ legality ++ driven)
+      ≡ option_or (option_or (option_or (option_or (option_or (first_of names) (first_of main)) (first_of types)) (first_of widths)) (first_of legality)) (first_of driven)
   whole_first = simp first_append
 
-  pub in_names : (f : FirFault) → Some f ≡ first_of names → Some f ≡ first_of (names ++ main ++ flows ++ widths ++ legality ++ driven)
+  pub in_names : (f : FirFault) → Some f ≡ first_of names → Some f ≡ first_of (names ++ main ++ types ++ widths ++ legality ++ driven)
   in_names f some = rw (whole_first, ← some) refl
 
-  pub in_main : (f : FirFault) → None ≡ first_of names → Some f ≡ first_of main → Some f ≡ first_of (names ++ main ++ flows ++ widths ++ legality ++ driven)
+  pub in_main : (f : FirFault) → None ≡ first_of names → Some f ≡ first_of main → Some f ≡ first_of (names ++ main ++ types ++ widths ++ legality ++ driven)
   in_main f n some = rw (whole_first, ← n, ← some) refl
 
-  pub in_flows : (f : FirFault) → None ≡ first_of names → None ≡ first_of main → Some f ≡ first_of flows → Some f ≡ first_of (names ++ main ++ flows ++ widths ++ legality ++ driven)
-  in_flows f n m some = rw (whole_first, ← n, ← m, ← some) refl
+  pub in_types : (f : FirFault) → None ≡ first_of names → None ≡ first_of main → Some f ≡ first_of types → Some f ≡ first_of (names ++ main ++ types ++ widths ++ legality ++ driven)
+  in_types f n m some = rw (whole_first, ← n, ← m, ← some) refl
 
-  pub in_widths : (f : FirFault) → None ≡ first_of names → None ≡ first_of main → None ≡ first_of flows → Some f ≡ first_of widths → Some f ≡ first_of (names ++ main ++ flows ++ widths ++ legality ++ driven)
+  pub in_widths : (f : FirFault) → None ≡ first_of names → None ≡ first_of main → None ≡ first_of types → Some f ≡ first_of widths → Some f ≡ first_of (names ++ main ++ types ++ widths ++ legality ++ driven)
   in_widths f n m l some = rw (whole_first, ← n, ← m, ← l, ← some) refl
 
-  pub in_legality : (f : FirFault) → None ≡ first_of names → None ≡ first_of main → None ≡ first_of flows → None ≡ first_of widths → Some f ≡ first_of legality → Some f ≡ first_of (names ++ main ++ flows ++ widths ++ legality ++ driven)
+  pub in_legality : (f : FirFault) → None ≡ first_of names → None ≡ first_of main → None ≡ first_of types → None ≡ first_of widths → Some f ≡ first_of legality → Some f ≡ first_of (names ++ main ++ types ++ widths ++ legality ++ driven)
   in_legality f n m l w some = rw (whole_first, ← n, ← m, ← l, ← w, ← some) refl
 
-  pub in_driven : None ≡ first_of names → None ≡ first_of main → None ≡ first_of flows → None ≡ first_of widths → None ≡ first_of legality → first_of driven ≡ first_of (names ++ main ++ flows ++ widths ++ legality ++ driven)
+  pub in_driven : None ≡ first_of names → None ≡ first_of main → None ≡ first_of types → None ≡ first_of widths → None ≡ first_of legality → first_of driven ≡ first_of (names ++ main ++ types ++ widths ++ legality ++ driven)
   in_driven n m l w g = rw (whole_first, ← n, ← m, ← l, ← w, ← g) refl

@@ -1,5 +1,5 @@
 -- The net of a faultless circuit allows what the circuit allows.
--- Settled values of the one give settled values of the other, and they show the same.
+-- Settled values of the one give settled values of the other, which show the same and have the same next state.
 use Rattle.std.proofs.Common.{ℕ, List, IsTrue, sym, ◌∙◌, subst}
 use Rattle.std.specs.Prelude.{◌↔◌}
 use Rattle.fir_base.specs.Ticks.{Tick}
@@ -15,8 +15,9 @@ use Rattle.fir_net.specs.Allows.{Allows as NetAllows}
 use Rattle.fir_driver.specs.Lowered.{lowered}
 use Rattle.fir_driver.proofs.LoweredCircuits.{main_clean, lowered_is}
 use Rattle.fir_driver.proofs.LoweredSettled.{net, output_lists}
-use Rattle.fir_driver.proofs.LoweredTicks.{by_number, numbered, net_settled}
-use Rattle.fir_driver.proofs.LoweredNames.{by_name, paired, circuit_settled}
+use Rattle.fir_driver.proofs.LoweredTicks.{by_number, numbered, numbered_runs, net_settled}
+use Rattle.fir_driver.proofs.LoweredNames.{by_name, paired, named_runs, circuit_settled}
+use Rattle.fir_driver.proofs.LoweredNext.{next_lists}
 
 module _ (law : CleanHasValue) (c : CircuitTree) (clean : IsCleanModule (main_module c)) (state : List ℕ) (tick : Tick) where
   abbrev the_net : FlatNet
@@ -26,13 +27,15 @@ module _ (law : CleanHasValue) (c : CircuitTree) (clean : IsCleanModule (main_mo
   from_net shown after h =
       let values = by_name law c clean state tick h.0 h.1 in
       let same = output_lists law c clean values h.0 (paired law c clean state tick h.0 h.1) in
-      (values, circuit_settled law c clean state tick h.0 h.1, sym same ∙ h.2, sym h.3)
+      let after_same = next_lists law c clean values h.0 (paired law c clean state tick h.0 h.1) (named_runs law c clean state tick h.0 h.1) tick in
+      (values, circuit_settled law c clean state tick h.0 h.1, sym same ∙ h.2, sym after_same ∙ h.3)
 
   from_circuit : (shown after : List ℕ) → Allows c state tick shown after → NetAllows the_net state tick shown after
   from_circuit shown after h =
       let env = by_number law c clean state tick h.0 h.1 in
       let same = output_lists law c clean h.0 env (numbered law c clean state tick h.0 h.1) in
-      (env, net_settled law c clean state tick h.0 h.1, same ∙ h.2, sym h.3)
+      let after_same = next_lists law c clean h.0 env (numbered law c clean state tick h.0 h.1) (numbered_runs law c clean state tick h.0 h.1) tick in
+      (env, net_settled law c clean state tick h.0 h.1, same ∙ h.2, after_same ∙ h.3)
 
 pub lowered_allows : FaultlessIsClean → CleanHasValue → (c : CircuitTree) → IsTrue (is_in_language c) → Faultless c
     → (state : List ℕ) (tick : Tick) (shown after : List ℕ) → NetAllows (lowered c) state tick shown after ↔ Allows c state tick shown after

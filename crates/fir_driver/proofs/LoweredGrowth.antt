@@ -1,7 +1,7 @@
 -- What a body leaves as it is in the net.
 -- It adds nodes behind the others, and binds no name that is found before it.
 use Rattle.std.proofs.Common.{◌≡◌, ℕ, List, [], ◌∷◌, ◌++◌, Some, None, refl, ◌∙◌}
-use Rattle.fir_ast.specs.Statements.{Statement, node, connect, skip, Block, done, then}
+use Rattle.fir_ast.specs.Statements.{Statement, register, node, connect, skip, Block, done, then}
 use Rattle.fir_meaning.specs.Paths.{Values}
 use Rattle.fir_meaning.specs.Scopes.{Declared, Scope, look_up}
 use Rattle.fir_meaning.specs.Clean.{AreCleanStatements}
@@ -16,6 +16,8 @@ use Rattle.fir_driver.proofs.LoweredExpressions.{grows_with}
 pub kept_bound : (n : List ℕ) (d : Declared) (scope : Scope) (l : Lowering) (b : Block) → AreCleanStatements scope b → look_up scope n ≡ Some d
     → bound_of (with_body l b).bindings n ≡ bound_of l.bindings n
 kept_bound n d scope l done c h = refl
+kept_bound n d scope l ((then) (register p m t k r) b) c h =
+    kept_bound n d (scope ++ _) (with_statement l (register p m t k r)) b c.1 (found_front scope _ n d h) ∙ rw (found_apart scope n d m.name h c.0.0) refl
 kept_bound n d scope l ((then) (node p m x) b) c h =
     kept_bound n d (scope ++ _) (with_statement l (node p m x)) b c.1 (found_front scope _ n d h) ∙ rw (found_apart scope n d m.name h c.0.0) refl
 kept_bound n d scope l ((then) (connect p sink x) b) c h = kept_bound n d (scope ++ []) (with_statement l (connect p sink x)) b c.1 (found_front scope [] n d h)
@@ -24,6 +26,7 @@ kept_bound n d scope l ((then) s b) c h = absurd c.0
 
 module _ (leaves : List Leaf) (env : ℕ → ℕ) where
   grows_statement : (l : Lowering) (s : Statement) → Grows (values_of leaves env l.nodes) (values_of leaves env (with_statement l s).nodes)
+  grows_statement l (register p n t c r) = grows_none (values_of leaves env l.nodes)
   grows_statement l (node p n x) = grows_with leaves env l.bindings x l.nodes
   grows_statement l (connect p sink x) = grows_with leaves env l.bindings x l.nodes
   grows_statement l s = grows_none (values_of leaves env l.nodes)

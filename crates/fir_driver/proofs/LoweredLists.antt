@@ -7,7 +7,7 @@ use Rattle.fir_ast.specs.declared.circuit.Port.{Port}
 use Rattle.fir_ast.specs.declared.expressions.Expr.{Expr}
 use Rattle.fir_ast.specs.declared.statements.Stmt.{Stmt}
 use Rattle.fir_ast.specs.Expressions.{Expression}
-use Rattle.fir_ast.specs.Statements.{Statement}
+use Rattle.fir_ast.specs.Statements.{Statement, register, node, connect, Block, done, then}
 use Rattle.fir_ast.specs.Circuits.{PortTree}
 use Rattle.fir_ast.specs.View.{circuit_of, module_of, port_of, expr_of, expressions_of, stmt_of, block_of}
 use Rattle.fir_net.specs.declared.net.FlatNet.{FlatNet}
@@ -45,6 +45,21 @@ body_push l (x ∷ ss) s = body_push (with_statement l x) ss s
 pub body_more : (l : Lowering) (ss : List Stmt) (i : ℕ) (s : Stmt) → i < length ss → s ≡ get_or ss i s
     → with_body l (block_of (map stmt_of (take (i + 1) ss))) ≡ with_statement (with_body l (block_of (map stmt_of (take i ss)))) (stmt_of s)
 body_more l ss i s lt is = ap (λ b. with_body l (block_of b)) (mapped_more stmt_of ss i s lt is) ∙ body_push l (map stmt_of (take i ss)) (stmt_of s)
+
+-- what stands before the body of a module of these ports
+abbrev pub begun : List PortTree → Lowering
+begun ps = record { ports = length ps; bindings = port_bindings [] 0 ps; nodes = []; drivers = []; registers = [] }
+
+statement_ports : (l : Lowering) (s : Statement) → (with_statement l s).ports ≡ l.ports
+statement_ports l (register p n t c r) = refl
+statement_ports l (node p n e) = refl
+statement_ports l (connect p sink e) = refl
+statement_ports l s = refl
+
+-- a body adds no ports
+pub body_ports : (l : Lowering) (b : Block) → (with_body l b).ports ≡ l.ports
+body_ports l done = refl
+body_ports l ((then) s b) = body_ports (with_statement l s) b ∙ statement_ports l s
 
 bindings_push : (bs : List Binding) (k : ℕ) (ps : List PortTree) (p : PortTree) → port_bindings bs k (ps ++ p ∷ []) ≡ input_binding p.direction (k + length ps) p ++ port_bindings bs k ps
 bindings_push bs k [] p = let e : k ≡ k + 0 = omega arith in ap (λ j. input_binding p.direction j p ++ port_bindings bs k []) e

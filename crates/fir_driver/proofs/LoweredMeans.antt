@@ -1,5 +1,5 @@
 -- The net of a faultless circuit is what the circuit is lowered to.
--- It is whole, with the circuit's name, ports and shape, and it allows what the circuit allows.
+-- It is whole, with the circuit's name, ports, state and shape, and it allows what the circuit allows.
 use Rattle.std.specs.Prelude.{IsTrue}
 use Rattle.fir_ast.specs.Circuits.{CircuitTree}
 use Rattle.fir_meaning.specs.Faults.{Faultless}
@@ -9,7 +9,7 @@ use Rattle.fir_driver.specs.HasWords.{HasWords}
 use Rattle.fir_driver.specs.Lowered.{lowered}
 use Rattle.fir_driver.specs.Lowers.{Lowers}
 use Rattle.fir_driver.proofs.LoweredWhole.{lowered_whole}
-use Rattle.fir_driver.proofs.LoweredRows.{lowered_name, lowered_ports}
+use Rattle.fir_driver.proofs.LoweredRows.{lowered_name, lowered_ports, lowered_words}
 use Rattle.fir_driver.proofs.LoweredShape.{lowered_shape}
 use Rattle.fir_driver.proofs.LoweredAllows.{lowered_allows}
 
@@ -19,6 +19,7 @@ lowers cleans values c in_language words faultless =
       whole = lowered_whole cleans c in_language words faultless;
       named = lowered_name c;
       ports = lowered_ports cleans c in_language faultless;
+      words = lowered_words cleans c in_language faultless;
       shapes = lowered_shape cleans c in_language faultless;
       allows = lowered_allows cleans values c in_language faultless;
     }

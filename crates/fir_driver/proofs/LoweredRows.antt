@@ -1,17 +1,19 @@
--- The net of a circuit has the circuit's name, and the net of a faultless circuit its ports.
-use Rattle.std.proofs.Common.{◌≡◌, ℕ, List, [], ◌∷◌, ◌++◌, map, flat_map, IsTrue, refl, sym, ap, ap₂, ◌∙◌}
-use Rattle.fir_base.specs.declared.direction.Direction.{Direction}
-use Rattle.fir_base.specs.declared.direction.Direction.TheVariants as direction
-use Rattle.fir_ast.specs.Circuits.{PortTree, ModuleTree, CircuitTree}
-use Rattle.fir_meaning.specs.Scopes.{Kind, Scope, port_kind, port_declared}
+-- The net of a circuit has the circuit's name, and the net of a faultless circuit its ports and its state.
+use Rattle.std.proofs.Common.{◌≡◌, ℕ, List, [], ◌∷◌, IsTrue, refl, ap, ◌∙◌}
+use Rattle.fir_ast.specs.Circuits.{ModuleTree, CircuitTree}
+use Rattle.fir_meaning.specs.Scopes.{Kind, input, clock_input, output, register_value}
+use Rattle.fir_meaning.specs.Leaves.{main_module}
 use Rattle.fir_meaning.specs.Faults.{Faultless}
 use Rattle.fir_meaning.specs.Language.{is_in_language}
-use Rattle.fir_meaning.specs.Clean.{AreCleanPorts}
 use Rattle.fir_meaning.specs.Laws.{FaultlessIsClean}
-use Rattle.fir_driver.specs.PortRows.{Row, row, declared_row, role_direction, circuit_rows, net_rows}
-use Rattle.fir_driver.specs.Lowered.{Driver, port_width, port_role, port_leaf, lowering, lowered_first, lowered}
-use Rattle.fir_driver.proofs.CleanPorts.{port_holds_width}
-use Rattle.fir_driver.proofs.MainScope.{SkipsNodes, main_lists}
+use Rattle.fir_net.specs.declared.net.Role.{Role}
+use Rattle.fir_net.specs.declared.net.Role.TheVariants as role
+use Rattle.ver_build.specs.Rows.{role_row, role_word, net_rows, net_words}
+use Rattle.fir_driver.specs.CircuitRows.{declared_row, declared_word, circuit_rows, circuit_words}
+use Rattle.fir_driver.specs.Lowered.{Driver, lowering, lowered_first, lowered}
+use Rattle.fir_driver.proofs.LoweredLeaves.{Stands, lists}
+use Rattle.fir_driver.proofs.LoweredListed.{module_listed}
+use Rattle.fir_driver.proofs.LoweredCircuits.{main_clean, lowered_is}
 
 first_name : (name : List ℕ) (ms : List ModuleTree) → (lowered_first name ms).name ≡ name
 first_name name [] = refl
@@ -21,25 +23,37 @@ pub lowered_name : (c : CircuitTree) → (lowered c).name ≡ c.named.name
 unfolding lowered
 lowered_name c = first_name c.named.name c.modules
 
--- the row of a port on both sides
-port_row : (d : Direction) (drivers : List Driver) (name : List ℕ) (w v : ℕ) → w ≡ v → row name (role_direction (port_role d drivers name)) v ≡ declared_row (port_kind d) name w
-port_row direction.Input drivers name w v e = ap (row name direction.Input) (sym e)
-port_row direction.Output drivers name w v e = ap (row name direction.Output) (sym e)
+module _ (ds : List Driver) where
+  same_row : (name own : List ℕ) (w : ℕ) (r : Role) (k : Kind) (v : ℕ) → name ≡ own → Stands ds name w r k v → role_row r name w ≡ declared_row k own v
+  same_row name own w role.Input input v e s = rw (e, s) refl
+  same_row name own w role.Clock clock_input v e s = rw e refl
+  same_row name own w (role.Output r) output v e s = rw (e, s.0) refl
+  same_row name own w (role.Register r) register_value v e s = refl
+  same_row name own w r k v e s = absurd s
 
-ports_rows : (drivers : List Driver) (scope : Scope) (ps : List PortTree) → AreCleanPorts scope ps
-    → flat_map (λ l. row l.name (role_direction l.role) l.width) (map (port_leaf drivers) ps) ≡ flat_map (λ d. declared_row d.kind d.named.name d.holds.width) (map port_declared ps)
-ports_rows drivers scope [] c = refl
-ports_rows drivers scope (p ∷ ps) c =
-    ap₂ (λ (x y : List Row). x ++ y) (port_row p.direction drivers p.named.name (port_declared p).holds.width (port_width p.data_type) (port_holds_width scope p c.0))
-    (ports_rows drivers (scope ++ port_declared p ∷ []) ps c.1)
-
-skips_nodes : SkipsNodes (λ d. declared_row d.kind d.named.name d.holds.width)
-skips_nodes = record { each = λ d h. ap (λ (k : Kind). declared_row k d.named.name d.holds.width) h }
+  same_word : (name own : List ℕ) (w : ℕ) (r : Role) (k : Kind) (v : ℕ) → name ≡ own → Stands ds name w r k v → role_word r name w ≡ declared_word k own v
+  same_word name own w role.Input input v e s = refl
+  same_word name own w role.Clock clock_input v e s = refl
+  same_word name own w (role.Output r) output v e s = refl
+  same_word name own w (role.Register r) register_value v e s = rw (e, s.0) refl
+  same_word name own w r k v e s = absurd s
 
 pub lowered_ports : FaultlessIsClean → (c : CircuitTree) → IsTrue (is_in_language c) → Faultless c → net_rows (lowered c) ≡ circuit_rows c
-unfolding lowered
 lowered_ports law c language faultless =
-    let clean = law c language faultless in
-    ap (λ (ms : List ModuleTree). net_rows (lowered_first c.named.name ms)) clean.only
-    ∙ ports_rows (lowering clean.main).drivers [] clean.main.ports clean.clean.ports
-    ∙ sym (main_lists (λ d. declared_row d.kind d.named.name d.holds.width) skips_nodes c clean)
+    let k = law c language faultless in
+    let clean = main_clean c k in
+    let ds = (lowering (main_module c)).drivers in
+    ap net_rows (lowered_is c k)
+    ∙ lists ds (λ l. role_row l.role l.name l.width) (λ d. declared_row d.kind d.named.name d.holds.width)
+    (λ l d i. same_row ds l.name d.named.name l.width l.role d.kind d.holds.width i.name i.stands)
+    (λ d e. ap (λ (k : Kind). declared_row k d.named.name d.holds.width) e) (module_listed (main_module c) clean)
+
+pub lowered_words : FaultlessIsClean → (c : CircuitTree) → IsTrue (is_in_language c) → Faultless c → net_words (lowered c) ≡ circuit_words c
+lowered_words law c language faultless =
+    let k = law c language faultless in
+    let clean = main_clean c k in
+    let ds = (lowering (main_module c)).drivers in
+    ap net_words (lowered_is c k)
+    ∙ lists ds (λ l. role_word l.role l.name l.width) (λ d. declared_word d.kind d.named.name d.holds.width)
+    (λ l d i. same_word ds l.name d.named.name l.width l.role d.kind d.holds.width i.name i.stands)
+    (λ d e. ap (λ (k : Kind). declared_word k d.named.name d.holds.width) e) (module_listed (main_module c) clean)

@@ -1,16 +1,13 @@
 -- What a scope finds as it grows, and the names that a body adds.
 -- New declarations stand behind the others under new names, so what is found stays found.
-use Rattle.std.proofs.Common.{◌≡◌, ℕ, List, [], ◌∷◌, ◌++◌, Bool, true, false, if◌then◌else◌, Some, None, flat_map, refl, sym, ap, ◌∙◌, inl, inr, ◌⊎◌, ⊎_elim, subst}
+use Rattle.std.proofs.Common.{◌≡◌, ℕ, List, [], ◌∷◌, ◌++◌, Bool, true, false, if◌then◌else◌, Some, None, refl, sym, ap, ◌∙◌, inl, inr, ◌⊎◌, ⊎_elim, subst}
 use Rattle.std.specs.Str.{bytes_eq}
 use Rattle.std.proofs.lemmas.Bool.{false_from_ne_true}
-use Rattle.std.proofs.lemmas.Grind.{flat_map-append}
-use Rattle.std.proofs.lemmas.List.{append-nil}
 use Rattle.std.proofs.lemmas.Slice.Eq.{bytes_eq-Decides}
 use Rattle.fir_base.specs.Lists.{In}
-use Rattle.fir_ast.specs.Statements.{node, connect, skip, Block, done, then}
-use Rattle.fir_meaning.specs.Scopes.{node_value, Declared, Scope, look_up, declares, behind}
+use Rattle.fir_ast.specs.Statements.{Block, done, then}
+use Rattle.fir_meaning.specs.Scopes.{Declared, Scope, look_up, declares, behind}
 use Rattle.fir_meaning.specs.Laws.{Finds}
-use Rattle.fir_meaning.specs.Clean.{AreCleanStatements}
 
 -- which of two is chosen
 pub chosen : {A : Type 0} → (b : Bool) (x y z : A) → (if b then x else y) ≡ z → ((b ≡ true) × (x ≡ z)) ⊎ ((b ≡ false) × (y ≡ z))
@@ -91,13 +88,13 @@ found_behind scope ((then) s b) n d h = found_behind (scope ++ declares 0 scope 
 pub finds_behind : (scope : Scope) (b : Block) (whole : Scope) → behind 0 scope b ≡ whole → Finds scope whole
 finds_behind scope b whole same = record { each = λ n d h. ap (λ s. look_up s n) (sym same) ∙ found_behind scope b n d h }
 
--- a body adds nodes alone
-pub nodes_behind : {A : Type 0} → (f : Declared → List A) → ((d : Declared) → d.kind ≡ node_value → f d ≡ []) → (scope : Scope) (b : Block) → AreCleanStatements scope b
-    → flat_map f (behind 0 scope b) ≡ flat_map f scope
-nodes_behind f none scope done c = refl
-nodes_behind f none scope ((then) (node p n x) b) c =
-    let d = declares 0 scope (node p n x) in
-    nodes_behind f none (scope ++ d) b c.1 ∙ flat_map-append f scope d ∙ ap (λ l. flat_map f scope ++ l) (ap (λ l. l ++ []) (none _ refl)) ∙ append-nil (flat_map f scope)
-nodes_behind f none scope ((then) (connect p sink x) b) c = nodes_behind f none (scope ++ []) b c.1 ∙ ap (flat_map f) (append-nil scope)
-nodes_behind f none scope ((then) (skip p) b) c = nodes_behind f none (scope ++ []) b c.1 ∙ ap (flat_map f) (append-nil scope)
-nodes_behind f none scope ((then) s b) c = absurd c.0
+pub finds_more : (ports scope more : Scope) → Finds ports scope → Finds ports (scope ++ more)
+finds_more ports scope more f = record { each = λ n d h. found_front scope more n d (f.each n d h) }
+
+-- a name that is new is none of those that were found before
+pub new_before : (ports scope : Scope) (n : List ℕ) → Finds ports scope → look_up scope n ≡ None → look_up ports n ≡ None
+new_before ports scope n finds new =
+    ⊎_elim
+    (λ (f : (d : Declared) × (look_up ports n ≡ Some d)). let e : Some f.0 ≡ None = sym (finds.each n f.0 f.1) ∙ new in cc)
+    (λ (f : look_up ports n ≡ None). f)
+    (found_or_new ports n)

@@ -1,35 +1,59 @@
 -- The net of a faultless circuit has the circuit's shape.
--- Its inputs are the circuit's, with the same widths.
-use Rattle.std.proofs.Common.{◌≡◌, ℕ, List, [], IsTrue, map, flat_map, refl, sym, ap, ◌∙◌}
+-- It has as many clocks, and inputs and registers of the same widths.
+use Rattle.std.proofs.Common.{◌≡◌, ℕ, List, IsTrue, length, map, unwrap_or, option_map, refl, sym, ap, ◌∙◌}
+use Rattle.std.proofs.lemmas.List.{length-map}
+use Rattle.fir_base.specs.Ticks.{Shape}
 use Rattle.fir_ast.specs.Circuits.{CircuitTree}
-use Rattle.fir_meaning.specs.Scopes.{port_declared}
-use Rattle.fir_meaning.specs.Leaves.{Leaf, leaves_of, input_leaves, with_bits, main_module, inputs, shape}
+use Rattle.fir_meaning.specs.Paths.{Path}
+use Rattle.fir_meaning.specs.Leaves.{Leaf, input_leaves, register_leaves, main_module, main_scope, clocks, shape}
 use Rattle.fir_meaning.specs.Clean.{IsCleanModule}
 use Rattle.fir_meaning.specs.Faults.{Faultless}
 use Rattle.fir_meaning.specs.Language.{is_in_language}
 use Rattle.fir_meaning.specs.Laws.{FaultlessIsClean}
+use Rattle.fir_net.specs.declared.net.FlatNet.{FlatNet}
+use Rattle.fir_net.specs.declared.net.Leaf.{Leaf as NetLeaf}
 use Rattle.fir_net.specs.Values.{leaf_width}
-use Rattle.fir_net.specs.Settled.{shape as net_shape}
-use Rattle.fir_driver.specs.Lowered.{port_leaf, lowering, lowered_module, lowered}
-use Rattle.fir_driver.proofs.LoweredCircuits.{main_clean, lowered_is, width_at}
-use Rattle.fir_driver.proofs.LoweredPorts.{each_port_zero, plain_ports, IsSame, same_inputs}
-use Rattle.fir_driver.proofs.LoweredScopes.{nodes_behind}
+use Rattle.fir_net.specs.Settled.{input_number, register_number, shape as net_shape, clocks as net_clocks}
+use Rattle.fir_driver.specs.Lowered.{Driver, lowering, lowered_module, lowered}
+use Rattle.fir_driver.proofs.LoweredEach.{EachFrom, each_zero}
+use Rattle.fir_driver.proofs.LoweredListed.{module_listed}
+use Rattle.fir_driver.proofs.LoweredNumbers.{same_lists, same_clocks, input_picks, register_picks, input_matches, register_matches}
+use Rattle.fir_driver.proofs.LoweredCircuits.{main_clean, lowered_is}
 
--- nodes are no inputs
-pub inputs_are : (c : CircuitTree) → IsCleanModule (main_module c)
-    → inputs c ≡ flat_map with_bits (flat_map (λ d. input_leaves d.kind (leaves_of [] d)) (map port_declared (main_module c).ports))
-inputs_are c clean =
-    ap (flat_map with_bits) (nodes_behind (λ d. input_leaves d.kind (leaves_of [] d)) (λ d h. rw h refl) (map port_declared (main_module c).ports) (main_module c).body clean.body)
+same_shape : (w v s t : List ℕ) (k n : ℕ) → w ≡ v → k ≡ n → s ≡ t → ◌≡◌ {A = Shape} (record { inputs = w; clocks = k; state = s }) (record { inputs = v; clocks = n; state = t })
+same_shape w v s t k n e f g = rw (e, f, g) refl
 
-pub module_shape : (c : CircuitTree) → IsCleanModule (main_module c) → net_shape (lowered_module c.named.name (main_module c)) ≡ shape c
-module_shape c clean =
-    let m = main_module c in
-    let drivers = (lowering m).drivers in
-    let width = leaf_width (map (port_leaf drivers) m.ports) in
-    let each = each_port_zero (IsSame drivers width (λ (l : Leaf). l.holds.width)) m.ports
-    (λ i p h. let plain = plain_ports [] m.ports clean.ports i p h in record { is_plain = plain; same = width_at drivers m.ports i p h ∙ plain.width }) in
-    ap (λ (ws : List ℕ). record { inputs = ws; clocks = 0; state = [] })
-    (same_inputs drivers width (λ (l : Leaf). l.holds.width) 0 m.ports each ∙ ap (map (λ (l : Leaf). l.holds.width)) (sym (inputs_are c clean)))
+module _ (c : CircuitTree) (clean : IsCleanModule (main_module c)) where
+  abbrev the_net : FlatNet
+  the_net = lowered_module c.named.name (main_module c)
+
+  abbrev drivers : List Driver
+  drivers = (lowering (main_module c)).drivers
+
+  widths : EachFrom (λ i l. leaf_width the_net.leaves i ≡ l.width) 0 the_net.leaves
+  widths = each_zero (λ i l. leaf_width the_net.leaves i ≡ l.width) the_net.leaves (λ i l h. ap (λ o. unwrap_or (option_map (λ (x : NetLeaf). x.width) o) 0) h)
+
+  input_widths : (net_shape the_net).inputs ≡ (shape c).inputs
+  input_widths =
+      same_lists input_number input_leaves (leaf_width the_net.leaves) (λ l. l.width) (λ (m : Leaf). m.holds.width) (input_picks (leaf_width the_net.leaves))
+      (input_matches (λ (m : Leaf). m.holds.width)) drivers the_net.leaves (main_scope c) (module_listed (main_module c) clean) widths (λ l d i e. e)
+
+  register_widths : (net_shape the_net).state ≡ (shape c).state
+  register_widths =
+      same_lists register_number register_leaves (leaf_width the_net.leaves) (λ l. l.width) (λ (m : Leaf). m.holds.width) (register_picks (leaf_width the_net.leaves))
+      (register_matches (λ (m : Leaf). m.holds.width)) drivers the_net.leaves (main_scope c) (module_listed (main_module c) clean) widths (λ l d i e. e)
+
+  counts : map {B = ℕ} (λ (k : ℕ). 0) (net_clocks the_net) ≡ map {B = ℕ} (λ (x : Path). 0) (clocks c)
+  counts =
+      same_clocks {A = ℕ} (λ (k : ℕ). 0) (λ (x : Path). 0) drivers the_net.leaves (main_scope c) (module_listed (main_module c) clean)
+      (each_zero (λ i (l : NetLeaf). ◌≡◌ {A = ℕ} 0 0) the_net.leaves (λ i l h. refl))
+
+  as_many_clocks : length (net_clocks the_net) ≡ length (clocks c)
+  as_many_clocks =
+      sym (length-map (net_clocks the_net) (λ (k : ℕ). 0)) ∙ ap length counts ∙ length-map (clocks c) (λ (x : Path). 0)
+
+  pub module_shape : net_shape the_net ≡ shape c
+  module_shape = same_shape _ _ _ _ _ _ input_widths as_many_clocks register_widths
 
 pub lowered_shape : FaultlessIsClean → (c : CircuitTree) → IsTrue (is_in_language c) → Faultless c → net_shape (lowered c) ≡ shape c
 lowered_shape law c in_language faultless =

@@ -4,15 +4,17 @@ ghost use Rattle.fir_ast.specs.View.{circuit_of};
 ghost use Rattle.fir_driver.specs.Checks.{Checks};
 ghost use Rattle.fir_driver.specs.Firsts.{Tells};
 
+mod clocks;
+mod connects;
 mod declared;
 mod driven;
 mod expressions;
-mod flows;
 mod group;
 mod legality;
 mod main_module;
 mod module;
 mod names;
+mod printed;
 mod scope;
 mod widths;
 
@@ -24,15 +26,15 @@ use main_module::main_fault;
 use module::first_by;
 use std::alloc::Global;
 
-/// Ok where the circuit shows no fault of names, flows, widths, integers and drivers, else the first
-/// (FIRRTL spec, "Namespaces", "Flow", "Width Inference", "Primitive Operations", "Initialization of
-/// Components").
+/// Ok where the circuit shows no fault of names, types, widths, integers and drivers, else the first
+/// (FIRRTL spec, "Namespaces", "Registers", "Type Equivalence", "Flow", "Width Inference", "Primitive
+/// Operations", "Initialization of Components").
 pub fn check_small(alloc: Global, c: &Circuit) -> Result<(), Refused<FirFault>>
     ensures { Checks (circuit_of c.now) result }
 {
     tell(first_by(alloc, Group::Names, c)?)?;
     tell(main_fault(alloc, c)?)?;
-    tell(first_by(alloc, Group::Flows, c)?)?;
+    tell(first_by(alloc, Group::Types, c)?)?;
     tell(first_by(alloc, Group::Widths, c)?)?;
     tell(first_by(alloc, Group::Legality, c)?)?;
     tell(first_undriven(alloc, c)?)
@@ -48,5 +50,7 @@ fn tell(fault: Option<FirFault>) -> Result<(), Refused<FirFault>>
     }
 }
 
+#[cfg(test)]
+mod register_tests;
 #[cfg(test)]
 mod tests;

@@ -1,11 +1,14 @@
 //! From a circuit without faults to its net, in the time of n log n.
 
 mod expressions;
+mod leaves;
 mod ports;
+mod registers;
 mod statements;
 mod tables;
 #[cfg(test)]
 mod tests;
+mod widths;
 
 ghost use Rattle.std.specs.Prelude.{◌≡◌, IfOk, IsTrue};
 ghost use Rattle.fir_ast.specs.View.{circuit_of, module_of};
@@ -19,7 +22,7 @@ use fir_ast::{Circuit, Module};
 use fir_base::{MemoryOut, Name, Seq};
 use fir_meaning::{clean_has_value, faultless_is_clean};
 use fir_net::FlatNet;
-use ports::leaves_of;
+use leaves::leaves_of;
 use statements::body_tables;
 use std::alloc::Global;
 use tables::Tables;
@@ -43,12 +46,8 @@ fn lowered_module(alloc: Global, name: &Name, m: &Module) -> Result<FlatNet, Mem
     ensures { IfOk result (λ net. net ≡ lowered_module name.now (module_of m.now)) }
 {
     let tables = body_tables(alloc, m)?;
-    let leaves = leaves_of(alloc, &tables.drivers, m.ports.as_slice())?;
-    let Tables {
-        bindings: _,
-        nodes,
-        drivers: _,
-    } = tables;
+    let leaves = leaves_of(alloc, &tables, m.ports.as_slice())?;
+    let Tables { nodes, .. } = tables;
     Ok(FlatNet {
         name: name.copy(alloc)?,
         leaves: Seq::from_vec(leaves),
@@ -56,8 +55,8 @@ fn lowered_module(alloc: Global, name: &Name, m: &Module) -> Result<FlatNet, Mem
     })
 }
 
-/// The net that a circuit without faults is lowered to: whole, with the circuit's name and ports, and
-/// allowing at every tick what the circuit allows. Only memory can be wanting.
+/// The net that a circuit without faults is lowered to: whole, with the circuit's name, ports and state,
+/// and allowing at every tick what the circuit allows. Only memory can be wanting.
 #[tactic(auto, using(crate::proofs::LoweredMeans::lowers))]
 pub fn lower(alloc: Global, c: &Circuit) -> Result<FlatNet, MemoryOut>
     requires in_language { IsTrue (is_in_language (circuit_of c.now)) }

@@ -1,5 +1,5 @@
 -- A built tree allows at each tick what its net allows.
--- Settled values of the one give settled values of the other, with the same outputs.
+-- Settled values of the one give settled values of the other, with the same outputs and the same state after the tick.
 use Rattle.std.proofs.Common.{◌≡◌, ℕ, List, sym, ◌∙◌}
 use Rattle.std.specs.Prelude.{◌↔◌}
 use Rattle.fir_base.specs.Lists.{Distinct}
@@ -14,7 +14,7 @@ use Rattle.fir_net.specs.Allows.{Allows as NetAllows}
 use Rattle.ver_ast.specs.Nets.{shape as v_shape}
 use Rattle.ver_ast.specs.Allows.{VAllows}
 use Rattle.ver_build.specs.Built.{built}
-use Rattle.ver_build.proofs.Ports.{outputs_same}
+use Rattle.ver_build.proofs.LeafValues.{outputs_same}
 use Rattle.ver_build.proofs.Rights.{IsNamed}
 use Rattle.ver_build.proofs.TreeSettled as of_net
 use Rattle.ver_build.proofs.NetSettled as of_tree
@@ -29,11 +29,19 @@ built_allows law net t whole table distinct shapes state tick shown after = (to_
     to_net : VAllows (built net t) state tick shown after → NetAllows net state tick shown after
     to_net a =
         let f = a.0 in
-        let e = of_tree.leaf_values t f in
-        (e, of_tree.is_settled law net t is state tick f a.1 shapes, sym (outputs_same net t table e f (of_tree.leaves law net t is state tick f a.1)) ∙ a.2, sym a.3)
+        let e = of_tree.leaf_values t f in (
+          e,
+          of_tree.is_settled law net t is state tick f a.1 shapes,
+          sym (outputs_same net t whole table e f (of_tree.leaves law net t is state tick f a.1)) ∙ a.2,
+          sym (of_tree.next_state law net t is state tick f a.1) ∙ a.3,
+        )
 
     to_tree : NetAllows net state tick shown after → VAllows (built net t) state tick shown after
     to_tree a =
         let e = a.0 in
-        let f = of_net.env law net t is state tick e a.1 in
-        (f, of_net.settles law net t is state tick e a.1 shapes, outputs_same net t table e f (of_net.leaves law net t is state tick e a.1) ∙ a.2, sym a.3)
+        let f = of_net.env law net t is state tick e a.1 in (
+          f,
+          of_net.settles law net t is state tick e a.1 shapes,
+          outputs_same net t whole table e f (of_net.leaves law net t is state tick e a.1) ∙ a.2,
+          of_net.next_state law net t is state tick e a.1 ∙ a.3,
+        )

@@ -8,7 +8,7 @@ use Rattle.fir_base.specs.Ticks.{Env}
 use Rattle.fir_net.specs.declared.name_table.NameTable.{NameTable}
 use Rattle.fir_net.specs.IsTable.{somes, all_names}
 use Rattle.ver_build.specs.Built.{name_at}
-use Rattle.ver_build.proofs.Atoms.{choose}
+use Rattle.ver_build.proofs.AtomValues.{choose}
 use Rattle.ver_build.proofs.InLists.{distinct_left, distinct_right, apart}
 
 -- the value that a name has by its number, else the rest's
@@ -36,6 +36,10 @@ picked_at (Some m ∷ names) g rest (suc k) n d e =
     choose (bytes_eq m n) (g zero) (picked names (λ i. g (suc i)) rest n) (λ x. x ≡ g (suc k))
     (λ h. absurd (d.0 (subst (In (somes names)) (sym ((bytes_eq-Decides m n).0 h)) (in_somes names k n e))))
     (λ h. picked_at names (λ i. g (suc i)) rest k n d.1 e)
+
+-- a name stands in one place
+pub same_place : (names : List (Option (List ℕ))) → Distinct (somes names) → (i k : ℕ) (n : List ℕ) → name_at names i ≡ Some n → name_at names k ≡ Some n → i ≡ k
+same_place names d i k n e h = sym (picked_at names (λ j. j) (λ _. 0) i n d e) ∙ picked_at names (λ j. j) (λ _. 0) k n d h
 
 picked_none : (names : List (Option (List ℕ))) (g : ℕ → ℕ) (rest : Env) (n : List ℕ) → (In (somes names) n → ⊥) → picked names g rest n ≡ rest n
 picked_none [] g rest n h = refl

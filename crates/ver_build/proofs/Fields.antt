@@ -9,7 +9,7 @@ use Rattle.ver_ast.specs.declared.tree.Primary.TheVariants as primary
 use Rattle.ver_ast.specs.Nets.{Sized}
 use Rattle.ver_ast.specs.Settled.{primary_value, atom_value}
 use Rattle.ver_build.specs.Built.{Held, no_bits, in_constant, in_net, selected, parts, side_by_side, field_of}
-use Rattle.ver_build.proofs.Atoms.{Holds, choose, wide, nothing}
+use Rattle.ver_build.proofs.AtomValues.{Holds, choose, wide, nothing}
 
 joined : (a b w : ℕ) → a * 2 ^ (w + 0) + (b * 2 ^ 0 + 0) ≡ a * 2 ^ w + b
 joined a b w = let e : w + 0 ≡ w = omega arith in rw e (omega arith)

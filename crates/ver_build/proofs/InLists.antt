@@ -1,6 +1,6 @@
--- Members of lists one behind the other, and of mapped lists.
+-- Members of lists one behind the other, and of what the elements of a list give.
 -- Of two lists that are distinct together each is distinct, and they have no member in common.
-use Rattle.std.proofs.Common.{◌≡◌, List, [], ◌∷◌, ◌++◌, map, flat_map, refl, sym, ap, inl, inr, ◌⊎◌, ⊎_elim, subst}
+use Rattle.std.proofs.Common.{List, [], ◌∷◌, ◌++◌, flat_map, refl, sym, inl, inr, ◌⊎◌, ⊎_elim, subst}
 use Rattle.fir_base.specs.Lists.{In, Distinct}
 
 pub in_left : {A : Type 0} → (xs ys : List A) (x : A) → In xs x → In (xs ++ ys) x
@@ -29,16 +29,6 @@ pub in_either : {A : Type 0} → (xs ys : List A) (x : A) → In (xs ++ ys) x �
 in_either [] ys x m = inr m
 in_either (z ∷ xs) ys x (inl e) = inl (inl e)
 in_either (z ∷ xs) ys x (inr m) = ⊎_elim (λ (n : In xs x). inl (inr n)) (λ (n : In ys x). inr n) (in_either xs ys x m)
-
-pub in_map : {A B : Type 0} → (f : A → B) (xs : List A) (x : A) → In xs x → In (map f xs) (f x)
-in_map f [] x m = m
-in_map f (y ∷ ys) x (inl e) = inl (ap f e)
-in_map f (y ∷ ys) x (inr m) = inr (in_map f ys x m)
-
-pub in_map_from : {A B : Type 0} → (f : A → B) (xs : List A) (y : B) → In (map f xs) y → (x : A) × In xs x × (f x ≡ y)
-in_map_from f [] y m = absurd m
-in_map_from f (x ∷ xs) y (inl e) = (x, inl refl, e)
-in_map_from f (x ∷ xs) y (inr m) = let r = in_map_from f xs y m in (r.0, inr r.1, r.2)
 
 pub in_flat_map : {X A : Type 0} → (f : X → List A) (xs : List X) (x : X) (y : A) → In xs x → In (f x) y → In (flat_map f xs) y
 in_flat_map f [] x y m h = absurd m

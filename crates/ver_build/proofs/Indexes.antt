@@ -1,6 +1,6 @@
 -- Elements of lists by their index.
--- In lists one behind the other, in the first elements, and where something holds of each.
-use Rattle.std.proofs.Common.{◌≡◌, ℕ, zero, suc, ◌<◌, List, [], ◌∷◌, ◌++◌, length, take, refl, subst, arith, Some}
+-- In lists one behind the other, in the first elements, where something holds of each, and in lists of the same values.
+use Rattle.std.proofs.Common.{◌≡◌, ℕ, zero, suc, ◌<◌, List, [], ◌∷◌, ◌++◌, length, map, take, refl, subst, arith, Some}
 use Rattle.std.specs.Prelude.{slice_get}
 use Rattle.std.specs.List.{AllByRecursion}
 
@@ -34,3 +34,10 @@ pub all_at : {A : Type 0} → (P : A → Type 0) (xs : List A) → AllByRecursio
 all_at P [] h k x e = cc
 all_at P (y ∷ xs) h zero x e = let same : y ≡ x = cc in subst P same h.0
 all_at P (y ∷ xs) h (suc k) x e = all_at P xs h.1 k x e
+
+-- where both lists have the same values
+pub matched : {A B : Type 0} → (f : A → ℕ) (g : B → ℕ) (xs : List A) (ys : List B) → map f xs ≡ map g ys → (k : ℕ) (y : B) → slice_get ys k ≡ Some y → (x : A) × (slice_get xs k ≡ Some x) × (f x ≡ g y)
+matched f g xs [] h k y e = cc
+matched f g [] (z ∷ ys) h k y e = cc
+matched f g (x ∷ xs) (z ∷ ys) h zero y e = (x, refl, cc)
+matched f g (x ∷ xs) (z ∷ ys) h (suc k) y e = let rest : map f xs ≡ map g ys = cc in matched f g xs ys rest k y e

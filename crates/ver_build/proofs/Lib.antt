@@ -1,6 +1,3 @@
-pub mod LowBits
-pub mod Lists
-pub mod Tree
 pub mod Members
 pub mod Names
 pub mod Widths
@@ -26,7 +23,10 @@ pub mod Valid
 pub mod Rowed
 pub mod Named
 pub mod Shapes
-pub mod Atoms
+pub mod LowBits
+pub mod Lists
+pub mod Tree
+pub mod AtomValues
 pub mod Counts
 pub mod Values
 pub mod Fields
@@ -37,11 +37,16 @@ pub mod Envs
 pub mod Tables
 pub mod InLists
 pub mod Along
+pub mod ItemOrigins
 pub mod Origins
 pub mod OneWidth
 pub mod Assigns
-pub mod Ports
+pub mod LeafLists
+pub mod TreeLists
+pub mod LeafValues
 pub mod Rights
+pub mod Written
+pub mod NextStates
 pub mod TreeSettled
 pub mod NetSettled
 pub mod Allows

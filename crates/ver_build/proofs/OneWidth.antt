@@ -15,7 +15,7 @@ use Rattle.fir_net.specs.IsNet.{node_width, read_width}
 use Rattle.fir_net.specs.IsTable.{all_names}
 use Rattle.ver_ast.specs.Nets.{Sized, nets, width_in}
 use Rattle.ver_build.specs.Built.{built}
-use Rattle.ver_build.proofs.Atoms.{choose}
+use Rattle.ver_build.proofs.AtomValues.{choose}
 use Rattle.ver_build.proofs.Envs.{env_of, at_leaf, at_node}
 use Rattle.ver_build.proofs.Origins.{LeafNet, NodeNet, net_from}
 

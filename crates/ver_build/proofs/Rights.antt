@@ -16,6 +16,7 @@ use Rattle.fir_bits.specs.declared.types.NumTy.{NumTy}
 use Rattle.fir_bits.specs.declared.values.Num.{Num}
 use Rattle.fir_net.specs.declared.reads.Read.{Read}
 use Rattle.fir_net.specs.declared.reads.Read.TheVariants as read
+use Rattle.fir_net.specs.declared.net.Role.TheVariants as role
 use Rattle.fir_net.specs.declared.net.Leaf.{Leaf}
 use Rattle.fir_net.specs.declared.net.Operation.{Operation}
 use Rattle.fir_net.specs.declared.net.Node.{Node}
@@ -29,16 +30,16 @@ use Rattle.fir_net.specs.IsTable.{IsTable, all_names, somes}
 use Rattle.ver_ast.specs.Nets.{Sized, nets}
 use Rattle.ver_ast.specs.Settled.{rhs_value}
 use Rattle.ver_build.specs.Built.{no_bits, in_constant, name_at, held_by, held_literal, held_node, held, node_rhs, built}
-use Rattle.ver_build.proofs.Atoms.{Holds, choose, atom_is, fitted_is}
+use Rattle.ver_build.proofs.AtomValues.{Holds, choose, atom_is, fitted_is}
 use Rattle.ver_build.proofs.Values.{HoldsEach, operation_is}
 use Rattle.ver_build.proofs.Indexes.{within_take, there}
 use Rattle.ver_build.proofs.Nodes.{is_node_at, node_value_at}
-use Rattle.ver_build.proofs.Vectors.{FitsLeaves, node_vector, read_vector, read_types}
+use Rattle.ver_build.proofs.Vectors.{readable, FitsLeaves, node_vector, read_vector, read_types}
 use Rattle.ver_build.proofs.Tables.{HasLeafName, HasNodeName, leaf_named, node_named}
 use Rattle.ver_build.proofs.Origins.{leaf_net, node_net}
 use Rattle.ver_build.proofs.OneWidth.{width_is}
 use Rattle.ver_build.proofs.Assigns.{leaf_rhs}
-use Rattle.ver_build.proofs.Ports.{AgreesLeaves}
+use Rattle.ver_build.proofs.LeafValues.{AgreesLeaves}
 
 -- each of the first m nodes that has a name has its value there
 pub record AgreesNodes (net : FlatNet) (t : NameTable) (e : ℕ → ℕ) (f : Env) (m : ℕ) : Type 0 where
@@ -60,9 +61,9 @@ module _ (law : HasItsType) (net : FlatNet) (t : NameTable) (is : IsNamed net t)
   abbrev ns : List Sized
   ns = nets (built net t)
 
-  leaf_held : (k : ℕ) (l : Leaf) (n : Option (List ℕ)) → slice_get net.leaves k ≡ Some l → name_at t.leaves k ≡ n → HasLeafName l.width n → IsBitVector (value_at net e (read.Leaf k))
-      → Holds ns f (held_by (leaf_width net.leaves k) n) (value_at net e (read.Leaf k))
-  leaf_held k l n at named has vector = from n named has
+  leaf_held : (k : ℕ) (l : Leaf) (n : Option (List ℕ)) → slice_get net.leaves k ≡ Some l → (l.role ≡ role.Clock → ⊥) → name_at t.leaves k ≡ n → HasLeafName l.width n
+      → IsBitVector (value_at net e (read.Leaf k)) → Holds ns f (held_by (leaf_width net.leaves k) n) (value_at net e (read.Leaf k))
+  leaf_held k l n at plain named has vector = from n named has
     where
       width : leaf_width net.leaves k ≡ l.width
       width = ap (λ (o : Option Leaf). unwrap_or (option_map (λ (x : Leaf). x.width) o) 0) at
@@ -70,7 +71,7 @@ module _ (law : HasItsType) (net : FlatNet) (t : NameTable) (is : IsNamed net t)
       from : (n : Option (List ℕ)) → name_at t.leaves k ≡ n → HasLeafName l.width n → Holds ns f (held_by (leaf_width net.leaves k) n) (value_at net e (read.Leaf k))
       from None named has = record { held = width ∙ has; vector = vector }
       from (Some n) named has =
-          record { held = (refl, leaves.each k l n at named, width_is net t is.distinct n l.width (leaf_net net t k l n at named) ∙ sym width); vector = vector }
+          record { held = (refl, leaves.each k l n at named, width_is net t is.distinct n l.width (leaf_net net t k l n at named plain) ∙ sym width); vector = vector }
 
   literal_held : (v : BitVector) → IsBitVector v → Holds ns f (held_literal v) v
   literal_held v vector =
@@ -97,7 +98,7 @@ module _ (law : HasItsType) (net : FlatNet) (t : NameTable) (is : IsNamed net t)
     -- what can be read among the first nodes
     read_held : (r : Read) → CanRead net.leaves (take m net.nodes) r → Holds ns f (held net t r) (value_at net e r)
     read_held (read.Leaf k) can =
-        leaf_held k can.0 (name_at t.leaves k) can.1 refl (leaf_named [] net.leaves t.leaves is.table.leaves k can.0 can.1)
+        leaf_held k can.0 (name_at t.leaves k) can.1 (readable can.0.role can.2) refl (leaf_named [] net.leaves t.leaves is.table.leaves k can.0 can.1)
         (read_vector law net is.whole e fits m (read.Leaf k) can).vector
     read_held (read.Node k) can =
         let within = within_take m net.nodes k can in

@@ -16,7 +16,7 @@ use Rattle.fir_net.specs.IsNet.{is_operation}
 use Rattle.ver_ast.specs.Nets.{Sized}
 use Rattle.ver_ast.specs.Settled.{rhs_value}
 use Rattle.ver_build.specs.Built.{Held, operation_rhs}
-use Rattle.ver_build.proofs.Atoms.{Holds, whole_atom}
+use Rattle.ver_build.proofs.AtomValues.{Holds, whole_atom}
 use Rattle.ver_build.proofs.Fields.{beside, field}
 use Rattle.ver_build.proofs.Counts.{both, IsTyped, is_typed, no_items, two_items}
 

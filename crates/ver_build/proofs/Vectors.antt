@@ -1,6 +1,6 @@
 -- The values of a whole net over values that fit its leaves: each has its node's width, and fits it.
 -- It goes along the nodes by the law of the operator table.
-use Rattle.std.proofs.Common.{◌≡◌, ℕ, zero, suc, ◌^◌, ◌<◌, ◌≤◌, List, [], ◌∷◌, length, map, take, refl, sym, ap, ◌∙◌, subst, arith, Ok, Option, Some, unwrap_or, option_map, ⊎_elim, false}
+use Rattle.std.proofs.Common.{◌≡◌, ℕ, zero, suc, ◌^◌, ◌<◌, ◌≤◌, List, [], ◌∷◌, length, map, take, true, refl, sym, ap, ◌∙◌, subst, arith, Ok, Option, Some, unwrap_or, option_map, ⊎_elim, false}
 use Rattle.std.specs.Prelude.{slice_get}
 use Rattle.std.specs.List.{AllByRecursion}
 use Rattle.std.proofs.Math.Nat.{eq-or-lt_of_le}
@@ -15,19 +15,25 @@ use Rattle.fir_bits.specs.declared.types.NumTy.{NumTy}
 use Rattle.fir_bits.specs.declared.values.Num.{Num}
 use Rattle.fir_net.specs.declared.reads.Read.{Read}
 use Rattle.fir_net.specs.declared.reads.Read.TheVariants as read
+use Rattle.fir_net.specs.declared.net.Role.{Role}
+use Rattle.fir_net.specs.declared.net.Role.TheVariants as role
 use Rattle.fir_net.specs.declared.net.Leaf.{Leaf}
 use Rattle.fir_net.specs.declared.net.Node.{Node}
 use Rattle.fir_net.specs.declared.net.Node.TheVariants as node
 use Rattle.fir_net.specs.declared.net.FlatNet.{FlatNet}
 use Rattle.fir_net.specs.Values.{leaf_width, unsigned, node_value, values}
-use Rattle.fir_net.specs.IsNet.{node_width, read_width, read_type, CanRead, IsNode, IsLeaf, IsNet}
+use Rattle.fir_net.specs.IsNet.{node_width, read_width, read_type, is_readable, CanRead, IsNode, IsLeaf, IsNet}
 use Rattle.fir_net.specs.Settled.{value_at}
 use Rattle.ver_build.proofs.Indexes.{get_take, within_take, there, all_at}
 use Rattle.ver_build.proofs.Nodes.{is_node_at, node_value_at}
 
--- each leaf's value is below two to the power of its width
+-- a clock cannot be read
+pub readable : (r : Role) → is_readable r ≡ true → r ≡ role.Clock → ⊥
+readable r h clock = let bad : is_readable role.Clock ≡ true = rw clock at h in cc
+
+-- the value of each leaf that is no clock is below two to the power of its width
 pub record FitsLeaves (net : FlatNet) (env : ℕ → ℕ) : Type 0 where
-  pub each : (k : ℕ) (l : Leaf) → slice_get net.leaves k ≡ Some l → env k < 2 ^ l.width
+  pub each : (k : ℕ) (l : Leaf) → slice_get net.leaves k ≡ Some l → (l.role ≡ role.Clock → ⊥) → env k < 2 ^ l.width
 
 -- a value of a width
 pub record HasWidth (v : BitVector) (w : ℕ) : Type 0 where
@@ -39,14 +45,14 @@ module _ (law : HasItsType) (net : FlatNet) (whole : IsNet net) (env : ℕ → �
   record Known (m : ℕ) : Type 0 where
     each : (k : ℕ) (n : Node) → k < m → slice_get net.nodes k ≡ Some n → HasWidth (value_at net env (read.Node k)) (node_width n)
 
-  leaf_has : (k : ℕ) (l : Leaf) → slice_get net.leaves k ≡ Some l → HasWidth (value_at net env (read.Leaf k)) (leaf_width net.leaves k)
-  leaf_has k l e =
+  leaf_has : (k : ℕ) (l : Leaf) → slice_get net.leaves k ≡ Some l → (l.role ≡ role.Clock → ⊥) → HasWidth (value_at net env (read.Leaf k)) (leaf_width net.leaves k)
+  leaf_has k l e plain =
       let width : leaf_width net.leaves k ≡ l.width = ap (λ (o : Option Leaf). unwrap_or (option_map (λ (x : Leaf). x.width) o) 0) e in
       let narrow = (all_at (IsLeaf net.leaves net.nodes) net.leaves whole.leaves k l e).narrow in
-      record { vector = record { narrow = rw width narrow; below = rw width (fits.each k l e) }; width = refl }
+      record { vector = record { narrow = rw width narrow; below = rw width (fits.each k l e plain) }; width = refl }
 
   read_has : (m : ℕ) → Known m → (r : Read) → CanRead net.leaves (take m net.nodes) r → HasWidth (value_at net env r) (read_width net.leaves (take m net.nodes) r)
-  read_has m known (read.Leaf k) can = leaf_has k can.0 can.1
+  read_has m known (read.Leaf k) can = leaf_has k can.0 can.1 (readable can.0.role can.2)
   read_has m known (read.Node k) can =
       let within = within_take m net.nodes k can in
       let n = there net.nodes k within.1 in

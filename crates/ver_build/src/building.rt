@@ -5,7 +5,9 @@ ghost use Rattle.fir_net.specs.IsNet.{IsNet};
 ghost use Rattle.ver_build.specs.Built.{built};
 ghost use Rattle.ver_build.specs.Builds.{Builds};
 
-use crate::items::{ports_of, put_blocks, put_node_assigns, put_output_assigns, put_regs, put_wires};
+use crate::items::{
+    ports_of, put_blocks, put_node_assigns, put_output_assigns, put_regs, put_wires,
+};
 use fir_base::{MemoryOut, Seq};
 use fir_bits::laws::has_its_type;
 use fir_net::{FlatNet, NameTable, names};

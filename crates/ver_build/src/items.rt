@@ -7,7 +7,7 @@ use crate::atoms::atom_at;
 use crate::held::find_held;
 use crate::right_sides::node_rhs;
 use fir_base::{Direction, MemoryOut, Name};
-use fir_net::{FlatNet, Leaf, NameTable, Node, Register, Role};
+use fir_net::{FlatNet, Leaf, NameTable, Node, Role};
 use std::alloc::Global;
 use ver_ast::{Always, Assign, Item, Net, Port, Rhs, Signal};
 
@@ -219,22 +219,16 @@ fn put_block(
 ) -> Result<(), MemoryOut>
     ensures { OnOk result (items.new.items ≡ items.old.items ++ leaf_block net.now table.now leaf.now.role leaf.now.width (option_map (λ n. n.now) name.entry)) }
 {
-    match (leaf.role, name) {
-        (
-            Role::Register(Register {
-                clock,
-                next: Some(read),
-            }),
-            Some(name),
-        ) => {
-            let source = atom_at(alloc, leaf.width, find_held(alloc, net, table, read)?)?;
-            items.push(Item::Always(Always {
-                clock: clock_name(alloc, table, clock)?,
-                target: name.copy(alloc)?,
-                source,
-            }))?;
-        }
-        _ => (),
+    let (Role::Register(register), Some(name)) = (leaf.role, name) else {
+        return Ok(());
+    };
+    if let Some(read) = register.next {
+        let source = atom_at(alloc, leaf.width, find_held(alloc, net, table, read)?)?;
+        items.push(Item::Always(Always {
+            clock: clock_name(alloc, table, register.clock)?,
+            target: name.copy(alloc)?,
+            source,
+        }))?;
     }
     Ok(())
 }

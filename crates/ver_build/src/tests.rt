@@ -1,28 +1,42 @@
 //! A net, and the tree that was written by hand for it.
 
-ghost use Rattle.std.specs.Prelude.{IfOk, IsTrue};
+ghost use Rattle.std.specs.Prelude.{IfOk, OnOk, IsTrue};
 ghost use Rattle.std.specs.List.{AllByRecursion};
 ghost use Rattle.ver_ast.specs.Names.{is_word};
 
 use crate::building::built_tree;
 use fir_base::{Direction, MemoryOut, Name, Seq, put_decimal};
 use fir_bits::{Bits, PrimOp};
-use fir_net::{FlatNet, Leaf, Node, Operation, Read, Reads, Role, names};
+use fir_net::{FlatNet, Leaf, Node, Operation, Read, Reads, Register, Role, names};
 use std::alloc::Global;
 use std::test::Fail;
-use ver_ast::{Atom, BinaryOp, Item, Net, Primary, Rhs, UnaryOp, Verilog};
+use ver_ast::{Atom, BinaryOp, Item, Net, Port, Primary, Rhs, Signal, UnaryOp, Verilog};
 
-/// The name, width and role of each leaf.
-const LEAVES: &[(u8, u32, Role)] = &[
+/// The name, width and role of each port.
+const PORTS: &[(u8, u32, Role)] = &[
     (b'a', 4, Role::Input),
     (b'c', 1, Role::Input),
     (b'z', 0, Role::Input),
+    (b'k', 1, Role::Clock),
     // Wider and narrower than what drives them, and driven by a literal and by no bits.
     (b'o', 6, Role::Output(Read::Leaf(0))),
     (b'p', 2, Role::Output(Read::Leaf(0))),
     (b'q', 1, Role::Output(Read::Node(3))),
     (b'r', 2, Role::Output(Read::Node(0))),
     (b's', 3, Role::Output(Read::Leaf(2))),
+    (b'm', 1, Role::Clock),
+];
+
+/// The name, width, clock and driver of each register behind the ports.
+const REGISTERS: &[(u8, u32, usize, Option<Read>)] = &[
+    // Driven by an input, by another register on the other clock, and by nothing.
+    (b'u', 4, 3, Some(Read::Leaf(0))),
+    (b'v', 4, 9, Some(Read::Leaf(10))),
+    (b'w', 3, 3, None),
+    // Of no bits, and wider and narrower than what drives them.
+    (b'x', 0, 3, Some(Read::Leaf(0))),
+    (b'y', 6, 9, Some(Read::Leaf(0))),
+    (b'b', 2, 3, Some(Read::Node(3))),
 ];
 
 /// The operation, width, operands and integers of each node behind the first, which is a literal.
@@ -38,16 +52,24 @@ const OPERATIONS: &[(PrimOp, u32, &[Read], &[u128])] = &[
     (PrimOp::Or, 4, &[Read::Leaf(0), Read::Leaf(1)], &[]),
     (PrimOp::Not, 7, &[Read::Node(3)], &[]),
     (PrimOp::Xor, 4, &[Read::Node(5), Read::Leaf(2)], &[]),
+    (PrimOp::And, 4, &[Read::Leaf(10), Read::Leaf(11)], &[]),
 ];
 
 const TREE: &[u8] = b"t
 input 4 a
 input 1 c
+input clock k
 output 6 o
 output 2 p
 output 1 q
 output 2 r
 output 3 s
+input clock m
+reg 4 u
+reg 4 v
+reg 3 w
+reg 6 y
+reg 2 b
 wire 4 _n0
 wire 4 _n1
 wire 7 _n2
@@ -58,6 +80,7 @@ wire 1 _n6
 wire 4 _n7
 wire 7 _n8
 wire 4 _n9
+wire 4 _n10
 _n0 = a & 4'5
 _n1 = a
 _n2 = {a, 3'5}
@@ -68,11 +91,16 @@ _n6 = c
 _n7 = a | {3'0, c}
 _n8 = ~_n2
 _n9 = {2'0, _n3} ^ 4'0
+_n10 = u & v
 o = {2'0, a}
 p = a[1:0]
 q = _n2[0]
 r = 2'1
 s = 3'0
+@k u <= a
+@m v <= u
+@m y <= {2'0, a}
+@k b <= _n2[1:0]
 ";
 
 #[test]
@@ -92,11 +120,29 @@ fn leaves(alloc: Global) -> Result<Vec<Leaf>, MemoryOut>
     ensures { IfOk result (λ v. AllByRecursion (λ l. IsTrue (is_word l.name)) v.items) }
 {
     let mut leaves = Vec::new(alloc);
-    for &(name, width, role) in LEAVES {
-        let name = letter(alloc, name)?;
-        leaves.push(Leaf { name, width, role })?;
+    for &(name, width, role) in PORTS {
+        put_leaf(alloc, &mut leaves, name, width, role)?;
+    }
+    for &(name, width, clock, next) in REGISTERS {
+        let role = Role::Register(Register { clock, next });
+        put_leaf(alloc, &mut leaves, name, width, role)?;
     }
     Ok(leaves)
+}
+
+fn put_leaf(
+    alloc: Global,
+    leaves: &mut Vec<Leaf>,
+    name: u8,
+    width: u32,
+    role: Role,
+) -> Result<(), MemoryOut>
+    requires { AllByRecursion (λ l. IsTrue (is_word l.name)) leaves.old.items }
+    ensures { OnOk result (AllByRecursion (λ l. IsTrue (is_word l.name)) leaves.new.items) }
+{
+    let name = letter(alloc, name)?;
+    leaves.push(Leaf { name, width, role })?;
+    Ok(())
 }
 
 /// The name of a small letter alone. Anything else is refused.
@@ -133,11 +179,7 @@ fn lines_of(alloc: Global, tree: &Verilog) -> Result<Vec<u8>, MemoryOut> {
     let mut out = Vec::from_slice(alloc, tree.name.as_bytes())?;
     put(&mut out, b"\n")?;
     for port in tree.ports.as_slice() {
-        match port.direction {
-            Direction::Input => put(&mut out, b"input ")?,
-            Direction::Output => put(&mut out, b"output ")?,
-        }
-        put_net(&mut out, port.width, &port.name)?;
+        put_port(&mut out, port)?;
         put(&mut out, b"\n")?;
     }
     for item in tree.items.as_slice() {
@@ -147,16 +189,42 @@ fn lines_of(alloc: Global, tree: &Verilog) -> Result<Vec<u8>, MemoryOut> {
     Ok(out)
 }
 
+fn put_port(out: &mut Vec<u8>, port: &Port) -> Result<(), MemoryOut> {
+    match port.direction {
+        Direction::Input => put(out, b"input ")?,
+        Direction::Output => put(out, b"output ")?,
+    }
+    match port.signal {
+        Signal::Bits(width) => put_net(out, width, &port.name),
+        Signal::Clock => {
+            put(out, b"clock ")?;
+            put(out, port.name.as_bytes())
+        }
+    }
+}
+
 fn put_item(out: &mut Vec<u8>, item: &Item) -> Result<(), MemoryOut> {
     match item {
         Item::Wire(Net { width, name }) => {
             put(out, b"wire ")?;
             put_net(out, *width, name)
         }
+        Item::Reg(Net { width, name }) => {
+            put(out, b"reg ")?;
+            put_net(out, *width, name)
+        }
         Item::Assign(assign) => {
             put(out, assign.target.as_bytes())?;
             put(out, b" = ")?;
             put_rhs(out, &assign.rhs)
+        }
+        Item::Always(block) => {
+            put(out, b"@")?;
+            put(out, block.clock.as_bytes())?;
+            put(out, b" ")?;
+            put(out, block.target.as_bytes())?;
+            put(out, b" <= ")?;
+            put_atom(out, &block.source)
         }
     }
 }

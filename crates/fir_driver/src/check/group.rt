@@ -1,19 +1,20 @@
 //! The groups of faults that are found in the order of the text, and the faults of each at one place.
 
 ghost use Rattle.std.specs.Prelude.{◌≡◌, IfOk};
-ghost use Rattle.fir_ast.specs.View.{named_of, port_of, sink_of};
+ghost use Rattle.fir_ast.specs.View.{expr_of, named_of, port_of, sink_of};
 ghost use Rattle.fir_meaning.specs.Scopes.{Scope};
 ghost use Rattle.fir_driver.specs.Firsts.{first_of};
-ghost use Rattle.fir_driver.specs.Groups.{connect_faults, expression_rule, node_faults, rule_of};
+ghost use Rattle.fir_driver.specs.Groups.{connect_faults, declaration_faults, expression_rule, rule_of};
 ghost use Rattle.fir_driver.specs.Tabulated.{Tabulates};
 
-use super::flows::driven_source;
+use super::connects::connect_types;
 use super::legality::{illegal, unfit};
 use super::names::{twice, undeclared, unread};
+use super::printed::printed_type;
 use super::scope::Table;
 use super::widths::{literal_type, operation_type, over_width, written_type};
 use crate::operator_word::operator_word;
-use fir_ast::{FirFault, Ident, Literal, Place, Port, Reference};
+use fir_ast::{Expr, FirFault, Ident, Literal, Place, Port, Reference};
 use fir_base::MemoryOut;
 use fir_bits::{NumTy, PrimOp};
 use std::alloc::Global;
@@ -23,8 +24,8 @@ use std::alloc::Global;
 pub enum Group {
     /// E08 and E09.
     Names,
-    /// E14.
-    Flows,
+    /// E12 to E14.
+    Types,
     /// E19.
     Widths,
     /// E21.
@@ -47,24 +48,24 @@ impl Group {
                 let width = written_type(&port.ty).width;
                 over_width(alloc, width, port.ident.place, port.ident.name.as_bytes())
             }
-            Group::Flows | Group::Legality => Ok(None),
+            Group::Types | Group::Legality => Ok(None),
         }
     }
 
-    /// The fault of a node, but for those in its expression, which is of this type.
-    pub fn of_node(
+    /// The fault of a node or a register of this type, but for those in its expression.
+    pub fn of_declaration(
         self,
         alloc: Global,
         table: &Table,
         ident: &Ident,
         holds: NumTy,
     ) -> Result<Option<FirFault>, MemoryOut>
-        ensures { IfOk result (λ f. (scope : Scope) → Tabulates table.now scope → f ≡ first_of (node_faults self scope (named_of ident.now) holds)) }
+        ensures { IfOk result (λ f. (scope : Scope) → Tabulates table.now scope → f ≡ first_of (declaration_faults self scope (named_of ident.now) holds)) }
     {
         match self {
             Group::Names => twice(alloc, table, ident),
             Group::Widths => over_width(alloc, holds.width, ident.place, ident.name.as_bytes()),
-            Group::Flows | Group::Legality => Ok(None),
+            Group::Types | Group::Legality => Ok(None),
         }
     }
 
@@ -75,12 +76,16 @@ impl Group {
         table: &Table,
         place: Place,
         sink: &Reference,
+        value: &Expr,
     ) -> Result<Option<FirFault>, MemoryOut>
-        ensures { IfOk result (λ f. (scope : Scope) → Tabulates table.now scope → f ≡ first_of (connect_faults self scope place (sink_of sink.now))) }
+        ensures { IfOk result (λ f. (scope : Scope) → Tabulates table.now scope → f ≡ first_of (connect_faults self scope place (sink_of sink.now) (expr_of value.now))) }
     {
         match self {
             Group::Names => undeclared(alloc, table, sink.place, &sink.name),
-            Group::Flows => driven_source(alloc, table, place, &sink.name),
+            Group::Types => {
+                let source = printed_type(table, value);
+                connect_types(alloc, table, place, &sink.name, source)
+            }
             Group::Widths | Group::Legality => Ok(None),
         }
     }
@@ -96,7 +101,7 @@ impl Group {
     {
         match self {
             Group::Names => unread(alloc, table, reference.place, &reference.name),
-            Group::Flows | Group::Widths | Group::Legality => Ok(None),
+            Group::Types | Group::Widths | Group::Legality => Ok(None),
         }
     }
 
@@ -110,7 +115,7 @@ impl Group {
                 over_width(alloc, width, literal.place, b"literal")
             }
             Group::Legality => Ok(unfit(literal)),
-            Group::Names | Group::Flows => Ok(None),
+            Group::Names | Group::Types => Ok(None),
         }
     }
 
@@ -131,7 +136,7 @@ impl Group {
                 over_width(alloc, width, place, operator_word(op))
             }
             Group::Legality => illegal(alloc, place, op, types, integers),
-            Group::Names | Group::Flows => Ok(None),
+            Group::Names | Group::Types => Ok(None),
         }
     }
 }

@@ -1,20 +1,22 @@
 //! The first fault of a group: in the ports of a module, then in its statements, module by module.
 
 ghost use Rattle.std.specs.Prelude.{◌≡◌, [], ◌∷◌, ◌++◌, IfOk, MatchOption, OnOk, flat_map, map};
-ghost use Rattle.fir_ast.specs.View.{block_of, circuit_of, expr_of, module_of, named_of, port_of, sink_of, stmt_of};
+ghost use Rattle.fir_ast.specs.View.{block_of, circuit_of, expr_of, module_of, named_of, port_of, sink_of, stmt_of, type_of};
 ghost use Rattle.fir_bits.specs.Forms.{first_type};
-ghost use Rattle.fir_meaning.specs.Scopes.{Scope, declares, port_declared, types};
+ghost use Rattle.fir_meaning.specs.Scopes.{Scope, declares, node_value, port_declared, printed_type, register_value, types, written_printed, written_type};
 ghost use Rattle.fir_meaning.specs.FaultRules.{along, along_ports, faults_by, within};
 ghost use Rattle.fir_driver.specs.Firsts.{first_of};
-ghost use Rattle.fir_driver.specs.Groups.{connect_faults, expression_rule, node_faults, rule_of};
-ghost use Rattle.fir_driver.specs.Tabulated.{Tabulates, declared_of};
+ghost use Rattle.fir_driver.specs.Groups.{clock_faults, connect_faults, declaration_faults, expression_rule, rule_of};
+ghost use Rattle.fir_driver.specs.Tabulated.{Tabulates, declared_as};
 
-use super::declared::Kind;
+use super::clocks::in_clock;
+use super::declared::{Declared, Kind};
 use super::expressions::walk;
 use super::group::Group;
+use super::printed::printed_type;
 use super::scope::{Table, declare};
-use super::widths::{first_type, written_type};
-use fir_ast::{Circuit, Expr, FirFault, Ident, Module, Place, Port, Reference, Stmt};
+use super::widths::first_type;
+use fir_ast::{Circuit, Expr, FirFault, Ident, Module, Place, Port, Reference, Register, Stmt};
 use fir_base::MemoryOut;
 use std::alloc::Global;
 use std::collections::BTreeMap;
@@ -56,8 +58,7 @@ fn in_ports(
         if let Some(fault) = group.of_port(alloc, table, port)? {
             return Ok(Some(fault));
         }
-        let kind = Kind::of_port(port.direction);
-        declare(alloc, table, &port.ident, kind, written_type(&port.ty))?;
+        declare(alloc, table, &port.ident.name, Declared::by_port(port))?;
     }
     Ok(None)
 }
@@ -90,10 +91,28 @@ fn in_statement(
     ensures passed { OnOk result ((scope : Scope) → Tabulates table.old scope → Tabulates table.new (scope ++ declares 0 scope (stmt_of statement.now))) }
 {
     match statement {
+        Stmt::Reg(_, register) => in_register(alloc, group, table, register),
         Stmt::Node(_, ident, value) => in_node(alloc, group, table, ident, value),
         Stmt::Connect(place, sink, value) => in_connect(alloc, group, table, *place, sink, value),
         _ => Ok(None),
     }
+}
+
+/// The first fault of the group in a register, which is declared behind its clock.
+fn in_register(
+    alloc: Global,
+    group: Group,
+    table: &mut Table,
+    register: &Register,
+) -> Result<Option<FirFault>, MemoryOut>
+    ensures first { IfOk result (λ f. (scope : Scope) → Tabulates table.old scope → f ≡ first_of (declaration_faults group scope (named_of register.now.ident) (written_type (type_of register.now.ty)) ++ clock_faults group scope (expr_of register.now.clock))) }
+    ensures passed { OnOk result ((scope : Scope) → Tabulates table.old scope → Tabulates table.new (scope ++ declared_as (named_of register.now.ident) register_value (written_type (type_of register.now.ty)) (written_printed (type_of register.now.ty)) ∷ [])) }
+{
+    let inner = in_clock(alloc, group, table, &register.clock)?;
+    let declared = Declared::by_register(register);
+    let own = group.of_declaration(alloc, table, &register.ident, declared.holds)?;
+    declare(alloc, table, &register.ident.name, declared)?;
+    Ok(own.or(inner))
 }
 
 /// The first fault of the group in a node, which is declared.
@@ -104,14 +123,20 @@ fn in_node(
     ident: &Ident,
     value: &Expr,
 ) -> Result<Option<FirFault>, MemoryOut>
-    ensures first { IfOk result (λ f. (scope : Scope) → Tabulates table.old scope → f ≡ first_of (node_faults group scope (named_of ident.now) (first_type (types scope (expr_of value.now))) ++ within (expression_rule group) scope (expr_of value.now))) }
-    ensures passed { OnOk result ((scope : Scope) → Tabulates table.old scope → Tabulates table.new (scope ++ declared_of ident.now.name (record { place = ident.now.place; kind = Kind.Node; holds = first_type (types scope (expr_of value.now)) }) ∷ [])) }
+    ensures first { IfOk result (λ f. (scope : Scope) → Tabulates table.old scope → f ≡ first_of (declaration_faults group scope (named_of ident.now) (first_type (types scope (expr_of value.now))) ++ within (expression_rule group) scope (expr_of value.now))) }
+    ensures passed { OnOk result ((scope : Scope) → Tabulates table.old scope → Tabulates table.new (scope ++ declared_as (named_of ident.now) node_value (first_type (types scope (expr_of value.now))) (printed_type scope (expr_of value.now)) ∷ [])) }
 {
     let mut types = Vec::new(alloc);
     let inner = walk(alloc, group, table, value, &mut types)?;
     let holds = first_type(&types);
-    let own = group.of_node(alloc, table, ident, holds)?;
-    declare(alloc, table, ident, Kind::Node, holds)?;
+    let own = group.of_declaration(alloc, table, ident, holds)?;
+    let declared = Declared {
+        place: ident.place,
+        kind: Kind::Node,
+        holds,
+        printed: printed_type(table, value),
+    };
+    declare(alloc, table, &ident.name, declared)?;
     Ok(own.or(inner))
 }
 
@@ -124,10 +149,10 @@ fn in_connect(
     sink: &Reference,
     value: &Expr,
 ) -> Result<Option<FirFault>, MemoryOut>
-    ensures { IfOk result (λ f. (scope : Scope) → Tabulates table.now scope → f ≡ first_of (connect_faults group scope place (sink_of sink.now) ++ within (expression_rule group) scope (expr_of value.now))) }
+    ensures { IfOk result (λ f. (scope : Scope) → Tabulates table.now scope → f ≡ first_of (connect_faults group scope place (sink_of sink.now) (expr_of value.now) ++ within (expression_rule group) scope (expr_of value.now))) }
 {
     let mut types = Vec::new(alloc);
     let inner = walk(alloc, group, table, value, &mut types)?;
-    let own = group.of_connect(alloc, table, place, sink)?;
+    let own = group.of_connect(alloc, table, place, sink, value)?;
     Ok(own.or(inner))
 }

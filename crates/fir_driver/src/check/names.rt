@@ -5,6 +5,7 @@ ghost use Rattle.fir_ast.specs.View.{named_of};
 ghost use Rattle.fir_meaning.specs.Scopes.{Scope, look_up};
 ghost use Rattle.fir_meaning.specs.NameFaults.{twice, undeclared, unread};
 ghost use Rattle.fir_driver.specs.Firsts.{first_of};
+ghost use Rattle.fir_driver.specs.Groups.{unclocked};
 ghost use Rattle.fir_driver.specs.Tabulated.{Tabulates};
 
 use super::scope::Table;
@@ -40,7 +41,7 @@ pub fn undeclared(
     }
 }
 
-/// The fault of a name in an expression that is not declared before it, or as an output.
+/// The fault of a name in an expression that is not declared before it, or as an output or a clock.
 pub fn unread(
     alloc: Global,
     table: &Table,
@@ -51,6 +52,21 @@ pub fn unread(
 {
     match table.get(name) {
         Some(declared) if declared.kind.is_readable() => Ok(None),
+        _ => Ok(Some(FirFault::Unknown(place, name.copy(alloc)?))),
+    }
+}
+
+/// The fault of a name behind a register's comma that is not declared before it, or as an output.
+pub fn unclocked(
+    alloc: Global,
+    table: &Table,
+    place: Place,
+    name: &Name,
+) -> Result<Option<FirFault>, MemoryOut>
+    ensures { IfOk result (λ f. (scope : Scope) → Tabulates table.now scope → f ≡ first_of (unclocked scope place name.now)) }
+{
+    match table.get(name) {
+        Some(declared) if declared.kind.is_clock_or_readable() => Ok(None),
         _ => Ok(Some(FirFault::Unknown(place, name.copy(alloc)?))),
     }
 }

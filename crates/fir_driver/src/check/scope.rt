@@ -2,11 +2,10 @@
 
 ghost use Rattle.std.specs.Prelude.{◌≡◌, OnOk, [], ◌∷◌, ◌++◌};
 ghost use Rattle.fir_meaning.specs.Scopes.{Scope, type_in};
-ghost use Rattle.fir_driver.specs.Tabulated.{Tabulates, declared_of, kind_of};
+ghost use Rattle.fir_driver.specs.Tabulated.{Tabulates, declared_of};
 
-use super::declared::{Declared, Kind};
+use super::declared::Declared;
 use super::widths::NO_TYPE;
-use fir_ast::Ident;
 use fir_base::{MemoryOut, Name};
 use fir_bits::NumTy;
 use std::alloc::Global;
@@ -19,17 +18,13 @@ pub type Table = BTreeMap<Name, Declared>;
 pub fn declare(
     alloc: Global,
     table: &mut Table,
-    ident: &Ident,
-    kind: Kind,
-    holds: NumTy,
+    name: &Name,
+    declared: Declared,
 ) -> Result<(), MemoryOut>
-    ensures { OnOk result
-        ((scope : Scope) → Tabulates table.old scope
-        → Tabulates table.new (scope ++ declared_of ident.now.name (record { place = ident.now.place; kind = kind; holds = holds }) ∷ [])) }
+    ensures { OnOk result ((scope : Scope) → Tabulates table.old scope → Tabulates table.new (scope ++ declared_of name.now declared ∷ [])) }
 {
-    if !table.contains_key(&ident.name) {
-        let place = ident.place;
-        table.insert(ident.name.copy(alloc)?, Declared { place, kind, holds })?;
+    if !table.contains_key(name) {
+        table.insert(name.copy(alloc)?, declared)?;
     }
     Ok(())
 }

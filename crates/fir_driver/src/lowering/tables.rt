@@ -35,12 +35,31 @@ impl Bound {
     };
 }
 
-/// The value of each visible name, the nodes in order, and what drives each sink.
+/// A register: its name, its width in bits, and the number of its clock's leaf.
+#[derive(Drop)]
+pub struct RegisterLeaf {
+    pub name: Name,
+    pub width: u32,
+    pub clock: usize,
+}
+
+impl Model for RegisterLeaf {
+    ghost use Rattle.fir_driver.specs.Lowered as definition;
+
+    ghost Value = { definition.RegisterLeaf };
+
+    ghost view = { λ r. record { name = r.name; width = r.width; clock = r.clock } };
+}
+
+/// The number of ports, the value of each visible name, the nodes in order, what drives each sink, and the
+/// registers in order.
 #[derive(Drop)]
 pub struct Tables {
+    pub ports: usize,
     pub bindings: BTreeMap<Name, Bound>,
     pub nodes: Vec<Node>,
     pub drivers: BTreeMap<Name, Read>,
+    pub registers: Vec<RegisterLeaf>,
 }
 
 /// The value of a name. An unknown name has no bits.
@@ -53,12 +72,12 @@ pub fn bound_of(bindings: &BTreeMap<Name, Bound>, name: &Name) -> Bound
     }
 }
 
-/// What drives a sink. A sink without a driver reads the first leaf.
-pub fn driver_of(drivers: &BTreeMap<Name, Read>, sink: &Name) -> Read
+/// What drives a sink.
+pub fn driver_of(drivers: &BTreeMap<Name, Read>, sink: &Name) -> Option<Read>
     ensures { (ds : List definition.Driver) → HasDrivers drivers.now ds → result ≡ driver_of ds sink.now }
 {
     match drivers.get(sink) {
-        Some(source) => *source,
-        None => Read::Leaf(0),
+        Some(source) => Some(*source),
+        None => None,
     }
 }

@@ -1,7 +1,7 @@
 //! Circuits, and the nets that were written by hand for them.
 
 use crate::lowering::lowered_net;
-use fir_ast::{Circuit, Expr, Ident, Literal, Module, Place, Port, Reference, Stmt, Ty};
+use fir_ast::{Circuit, Expr, Ident, Literal, Module, Place, Port, Reference, Register, Stmt, Ty};
 use fir_base::{Direction, MemoryOut, Name, put_decimal};
 use fir_bits::PrimOp;
 use fir_net::{FlatNet, Leaf, Node, Operation, Read, Role};
@@ -79,6 +79,102 @@ n4 0 0
     Ok(())
 }
 
+#[test]
+fn registers_are_leaves_behind_the_ports(rt: HostRuntime) -> Result<(), Fail> {
+    let m = Maker { alloc: rt.alloc() };
+    let mut body = Vec::new(rt.alloc());
+    body.push(m.register(b"r", 4, b"clk")?)?;
+    // node n = not(r)
+    body.push(m.node(b"n", m.unary(PrimOp::Not, m.named(b"r")?, &[])?)?)?;
+    // r <= a
+    body.push(m.connect(b"r", m.named(b"a")?)?)?;
+    body.push(m.register(b"s", 2, b"slow")?)?;
+    // r <= and(n, s)
+    body.push(m.connect(b"r", m.binary(PrimOp::And, m.named(b"n")?, m.named(b"s")?)?)?)?;
+    // s <= r
+    body.push(m.connect(b"s", m.named(b"r")?)?)?;
+    // o <= r
+    body.push(m.connect(b"o", m.named(b"r")?)?)?;
+    let net = lowered_net(rt.alloc(), &m.clocked(body)?)?;
+    assert_eq!(rt;
+        lines_of(rt.alloc(), &net)?.as_slice(),
+        b"T
+1 clk clock
+4 a input
+1 slow clock
+4 o l4
+4 r clocked 0 n1
+2 s clocked 2 l4
+n0 4 not l4
+n1 4 and n0 l5
+"
+            .as_slice()
+    );
+    Ok(())
+}
+
+#[test]
+fn registers_swap_hold_and_have_no_bits(rt: HostRuntime) -> Result<(), Fail> {
+    let m = Maker { alloc: rt.alloc() };
+    let mut body = Vec::new(rt.alloc());
+    body.push(m.register(b"x", 4, b"clk")?)?;
+    body.push(m.register(b"y", 4, b"clk")?)?;
+    body.push(m.register(b"none", 0, b"slow")?)?;
+    body.push(m.register(b"held", 3, b"slow")?)?;
+    // x <= y
+    body.push(m.connect(b"x", m.named(b"y")?)?)?;
+    // y <= x
+    body.push(m.connect(b"y", m.named(b"x")?)?)?;
+    // none <= x
+    body.push(m.connect(b"none", m.named(b"x")?)?)?;
+    // o <= held
+    body.push(m.connect(b"o", m.named(b"held")?)?)?;
+    let net = lowered_net(rt.alloc(), &m.clocked(body)?)?;
+    assert_eq!(rt;
+        lines_of(rt.alloc(), &net)?.as_slice(),
+        b"T
+1 clk clock
+4 a input
+1 slow clock
+4 o l7
+4 x clocked 0 l5
+4 y clocked 0 l4
+0 none clocked 2 l4
+3 held clocked 2
+"
+            .as_slice()
+    );
+    Ok(())
+}
+
+/// Registers of many names, each of which takes what the one before it shows.
+#[test]
+fn each_register_has_a_number(rt: HostRuntime) -> Result<(), Fail> {
+    let m = Maker { alloc: rt.alloc() };
+    let mut body = Vec::new(rt.alloc());
+    let mut before = Vec::from_slice(rt.alloc(), b"a")?;
+    for k in 0..40u32 {
+        let mut name = Vec::from_slice(rt.alloc(), b"r")?;
+        put_decimal(&mut name, u128::from(40 - k))?;
+        body.push(m.register(name.as_slice(), u128::from(k), b"clk")?)?;
+        body.push(m.connect(name.as_slice(), m.named(before.as_slice())?)?)?;
+        before = name;
+    }
+    let net = lowered_net(rt.alloc(), &m.clocked(body)?)?;
+    assert_eq!(rt; net.leaves.as_slice().len(), 44);
+    for (k, leaf) in net.leaves.as_slice().iter().enumerate() {
+        let next = Some(Read::Leaf(if k == 4 { 1 } else { k.saturating_sub(1) }));
+        if k >= 4 {
+            assert_eq!(rt;
+                leaf.role,
+                Role::Register(fir_net::Register { clock: 0, next })
+            );
+            assert_eq!(rt; leaf.width as usize, k - 4);
+        }
+    }
+    Ok(())
+}
+
 impl Maker {
     fn named(self, name: &[u8]) -> Result<Expr, MemoryOut> {
         Ok(Expr::Ref(self.reference(name)?))
@@ -127,6 +223,17 @@ impl Maker {
         Ok(Stmt::Node(HERE, self.ident(name)?, value))
     }
 
+    /// A register of that width in bits and that clock.
+    fn register(self, name: &[u8], width: u128, clock: &[u8]) -> Result<Stmt, MemoryOut> {
+        let register = Register {
+            ident: self.ident(name)?,
+            ty: Ty::UInt(Some(width)),
+            clock: self.named(clock)?,
+            reset: None,
+        };
+        Ok(Stmt::Reg(HERE, register))
+    }
+
     fn connect(self, sink: &[u8], source: Expr) -> Result<Stmt, MemoryOut> {
         Ok(Stmt::Connect(HERE, self.reference(sink)?, source))
     }
@@ -139,6 +246,14 @@ impl Maker {
         })
     }
 
+    fn clock(self, name: &[u8]) -> Result<Port, MemoryOut> {
+        Ok(Port {
+            direction: Direction::Input,
+            ident: self.ident(name)?,
+            ty: Ty::Clock,
+        })
+    }
+
     /// Two inputs, three outputs, and this body.
     fn circuit(self, body: Vec<Stmt>) -> Result<Circuit, MemoryOut> {
         let mut ports = Vec::new(self.alloc);
@@ -147,6 +262,20 @@ impl Maker {
         ports.push(self.port(Direction::Output, b"o", 4)?)?;
         ports.push(self.port(Direction::Output, b"p", 2)?)?;
         ports.push(self.port(Direction::Output, b"q", 7)?)?;
+        self.module(ports, body)
+    }
+
+    /// Two clocks, an input, an output, and this body.
+    fn clocked(self, body: Vec<Stmt>) -> Result<Circuit, MemoryOut> {
+        let mut ports = Vec::new(self.alloc);
+        ports.push(self.clock(b"clk")?)?;
+        ports.push(self.port(Direction::Input, b"a", 4)?)?;
+        ports.push(self.clock(b"slow")?)?;
+        ports.push(self.port(Direction::Output, b"o", 4)?)?;
+        self.module(ports, body)
+    }
+
+    fn module(self, ports: Vec<Port>, body: Vec<Stmt>) -> Result<Circuit, MemoryOut> {
         let mut modules = Vec::new(self.alloc);
         modules.push(Module {
             ident: self.ident(b"T")?,
@@ -187,7 +316,14 @@ fn put_leaf(out: &mut Vec<u8>, leaf: &Leaf) -> Result<(), MemoryOut> {
     put(out, leaf.name.as_bytes())?;
     match leaf.role {
         Role::Input => put(out, b" input")?,
+        Role::Clock => put(out, b" clock")?,
         Role::Output(read) => put_read(out, read)?,
+        Role::Register(register) => {
+            put_number(out, b" clocked ", register.clock as u128)?;
+            if let Some(read) = register.next {
+                put_read(out, read)?;
+            }
+        }
     }
     put(out, b"\n")
 }

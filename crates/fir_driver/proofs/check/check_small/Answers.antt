@@ -1,7 +1,7 @@
 use Rattle.std.proofs.Common.{◌∙◌, sym}
 use Rattle.std.proofs.lemmas.Result.{err_from_is_err_and}
 use Rattle.fir_ast.specs.View.{circuit_of}
-use Rattle.fir_driver.proofs.CheckedGroups.{checks_fault, checks_last, in_names, in_main, in_flows, in_widths, in_legality, in_driven}
+use Rattle.fir_driver.proofs.CheckedGroups.{checks_fault, checks_last, in_names, in_main, in_types, in_widths, in_legality, in_driven}
 use Rattle.fir_driver.proofs.check.check_small.Goals as goal
 
 pub returns-in_err-tell : goal.returns-in_err-tell
@@ -17,7 +17,7 @@ returns-in_err-tell-2 c =
 pub returns-in_err-tell-3 : goal.returns-in_err-tell-3
 returns-in_err-tell-3 c =
     let p = err_from_is_err_and c.from_residual-in_err-tell-3.result c.from_residual-in_err-tell-3.ensures.1 in
-    rw (p.1, p.2) (checks_fault (Unit {0}) (circuit_of c.args.c.now) c.in_ok-first_by-2.field-0 _ c.in_err-tell-3.ensures (λ f some. in_flows _ _ _ _ _ _ f (sym c.in_ok-tell.ensures ∙ c.in_ok-first_by.ensures) (sym c.in_ok-tell-2.ensures ∙ c.in_ok-main_fault.ensures) (some ∙ c.in_ok-first_by-2.ensures)))
+    rw (p.1, p.2) (checks_fault (Unit {0}) (circuit_of c.args.c.now) c.in_ok-first_by-2.field-0 _ c.in_err-tell-3.ensures (λ f some. in_types _ _ _ _ _ _ f (sym c.in_ok-tell.ensures ∙ c.in_ok-first_by.ensures) (sym c.in_ok-tell-2.ensures ∙ c.in_ok-main_fault.ensures) (some ∙ c.in_ok-first_by-2.ensures)))
 
 pub returns-in_err-tell-4 : goal.returns-in_err-tell-4
 returns-in_err-tell-4 c =

@@ -5,7 +5,7 @@ use Rattle.fir_ast.specs.View.{expr_of, named_of}
 use Rattle.fir_meaning.specs.Scopes.{types}
 use Rattle.fir_meaning.specs.FaultRules.{within}
 use Rattle.fir_driver.specs.Firsts.{first_of}
-use Rattle.fir_driver.specs.Groups.{node_faults, expression_rule}
+use Rattle.fir_driver.specs.Groups.{declaration_faults, expression_rule}
 use Rattle.fir_driver.proofs.FirstFaults.{first_append}
 use Rattle.fir_driver.proofs.check.module.in_node.Goals as goal
 
@@ -15,6 +15,6 @@ returns-clause-first c = λ scope t.
     let e = expr_of c.args.value.now in
     let holds : c.first_type-holds.result ≡ first_type (types scope e) =
     c.first_type-holds.ensures ∙ ap first_type (c.deref.ensures.value ∙ c.in_ok-inner.ensures.types scope t ∙ ap (λ ts. ts ++ types scope e) c.new-types.ensures.items) in
-    let own = c.in_ok-own.ensures scope t ∙ ap (λ h. first_of (node_faults c.args.group scope named h)) holds in
-    c.or.ensures ∙ ap (λ f. option_or f c.in_ok-inner.inner) own ∙ ap (option_or (first_of (node_faults c.args.group scope named (first_type (types scope e))))) (c.in_ok-inner.ensures.first scope t)
-    ∙ sym (first_append (node_faults c.args.group scope named (first_type (types scope e))) (within (expression_rule c.args.group) scope e))
+    let own = c.in_ok-own.ensures scope t ∙ ap (λ h. first_of (declaration_faults c.args.group scope named h)) holds in
+    c.or.ensures ∙ ap (λ f. option_or f c.in_ok-inner.inner) own ∙ ap (option_or (first_of (declaration_faults c.args.group scope named (first_type (types scope e))))) (c.in_ok-inner.ensures.first scope t)
+    ∙ sym (first_append (declaration_faults c.args.group scope named (first_type (types scope e))) (within (expression_rule c.args.group) scope e))

@@ -17,5 +17,5 @@ loop-port-preserved c = λ scope t.
     let left = views_left port_of c.args.ports.now c.loop-port.port-index c.port-item.result c.loop-port-test.true c.port-item.is in
     ports_next (rule_of c.args.group) c.loop-port.table c.declare.new.table scope (map port_of c.args.ports.now) (map port_of (drop (c.loop-port.port-index + 1) c.args.ports.now)) (port_of c.port-item.result)
     (λ now held. sym c.in_default.is ∙ c.in_ok-fault.ensures now held)
-    (λ now held. rw (← c.of_port-kind.ensures, ← c.written_type.ensures) (c.in_ok-declare.ensures now held))
+    (λ now held. rw (← c.by_port.ensures) (c.in_ok-declare.ensures now held))
     (rw (← left) (c.loop-port.invariant scope t))

@@ -14,4 +14,4 @@ returns-in_ok-insert c = λ scope held.
 
 pub returns-else-not-contains_key : goal.returns-else-not-contains_key
 returns-else-not-contains_key c = λ scope held.
-    tabulates_old c.args.table.now scope c.args.ident.now.name _ (sym c.if-not-contains_key.ensures) held
+    tabulates_old c.args.table.now scope c.args.name.now _ (sym c.if-not-contains_key.ensures) held

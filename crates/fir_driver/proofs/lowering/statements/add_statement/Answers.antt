@@ -10,7 +10,7 @@ returns-in_ok-insert-in-Node c = λ l r.
     node_kept c.args.tables.now _ l c.in_ok-copy-in-Node.field-0 c.in_ok-bound-in-Node.bound (stmt_of c.args.statement.now) c.in-Node.field-0 (named_of c.in-Node.ident) (expr_of c.in-Node.e)
     (ap stmt_of c.in-Node.is ∙ node_view c.in-Node.field-0 c.in-Node.ident c.in-Node.e)
     c.in_ok-insert-in-Node.ensures.updates c.in_ok-copy-in-Node.ensures (c.in_ok-bound-in-Node.ensures.bound l.bindings r.bindings)
-    (c.in_ok-bound-in-Node.ensures.nodes l.bindings r.bindings) refl r
+    (c.in_ok-bound-in-Node.ensures.nodes l.bindings r.bindings) refl refl refl r
 
 pub returns-in_ok-insert-in-Connect : goal.returns-in_ok-insert-in-Connect
 returns-in_ok-insert-in-Connect c = λ l r.
@@ -18,4 +18,4 @@ returns-in_ok-insert-in-Connect c = λ l r.
     (ap stmt_of c.in-Connect.is ∙ connect_view c.in-Connect.field-0 c.in-Connect.sink c.in-Connect.e)
     c.in_ok-insert-in-Connect.ensures.updates (c.in_ok-copy-in-Connect.ensures ∙ sym (sink_name c.in-Connect.sink))
     (ap (λ (b : Bound). b.read) (c.bound.view_is ∙ c.in_ok-bound-in-Connect.ensures.bound l.bindings r.bindings))
-    (c.in_ok-bound-in-Connect.ensures.nodes l.bindings r.bindings) refl r
+    (c.in_ok-bound-in-Connect.ensures.nodes l.bindings r.bindings) refl refl refl r
