@@ -21,7 +21,7 @@ use Rattle.ver_build.proofs.LeafKinds.{is_clock, is_register, is_net, sized_if, 
 use Rattle.ver_build.proofs.Picked.{picked_at}
 use Rattle.ver_build.proofs.Nets.{sizes, clocks_are, registers_sized, nets_sized}
 use Rattle.ver_build.proofs.Sizes.{IsSized, LeafSized, leaf_is_sized, leaf_facts}
-use Rattle.ver_build.proofs.Held.{held_is}
+use Rattle.ver_build.proofs.HeldNets.{held_is}
 use Rattle.ver_build.proofs.Widths.{atom_fits}
 
 one_bit : (net : FlatNet) (l : Leaf) → IsLeaf net.leaves net.nodes l → l.role ≡ role.Clock → l.width ≡ 1

@@ -26,7 +26,7 @@ use Rattle.ver_build.proofs.LeafKinds.{is_net}
 use Rattle.ver_build.proofs.Nets.{sizes}
 use Rattle.ver_build.proofs.Whole.{there}
 use Rattle.ver_build.proofs.Sizes.{IsSized, LeafSized, NodeSized, leaf_is_sized, node_is_sized, leaf_sizes, node_sizes, leaf_facts, node_facts}
-use Rattle.ver_build.proofs.Held.{readable_is_net}
+use Rattle.ver_build.proofs.HeldNets.{readable_is_net}
 use Rattle.ver_build.proofs.Operands.{atom_known, operation_known}
 use Rattle.ver_build.proofs.Order.{Knows, read_known, reads_known}
 

@@ -21,7 +21,7 @@ use Rattle.ver_build.proofs.Parts.{node_assigned, role_assigned, leaf_assigned, 
 use Rattle.ver_build.proofs.LeafKinds.{is_net}
 use Rattle.ver_build.proofs.Nets.{sizes}
 use Rattle.ver_build.proofs.Sizes.{IsSized, LeafSized, NodeSized, leaf_is_sized, leaf_facts, node_facts}
-use Rattle.ver_build.proofs.Held.{held_is, reads_held}
+use Rattle.ver_build.proofs.HeldNets.{held_is, reads_held}
 use Rattle.ver_build.proofs.Typed.{operation_fits}
 use Rattle.ver_build.proofs.Widths.{atom_fits}
 

@@ -9,7 +9,7 @@ pub mod LeafKinds
 pub mod Nets
 pub mod Whole
 pub mod Sizes
-pub mod Held
+pub mod HeldNets
 pub mod Operands
 pub mod Fitting
 pub mod Order
