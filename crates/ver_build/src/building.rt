@@ -16,7 +16,7 @@ use ver_ast::Verilog;
 
 /// The tree of the net with these names: a net of its own for each operation, an assign for each of these
 /// and each output, and a block for each register that is driven.
-fn built_tree(alloc: Global, net: &FlatNet, table: &NameTable) -> Result<Verilog, MemoryOut>
+pub fn built_tree(alloc: Global, net: &FlatNet, table: &NameTable) -> Result<Verilog, MemoryOut>
     ensures { IfOk result (λ v. v ≡ built net.now table.now) }
 {
     let mut items = Vec::new(alloc);
