@@ -8,6 +8,7 @@
 mod check;
 mod command;
 mod emission;
+mod expression_place;
 mod lacking;
 mod laws;
 mod lowering;

@@ -15,6 +15,7 @@ use super::group::Group;
 use super::names::unclocked;
 use super::printed::{Printed, printed_type};
 use super::scope::Table;
+use crate::expression_place::place_of;
 use fir_ast::{Expr, FirFault, Place, Ty};
 use fir_base::{MemoryOut, Name, Seq};
 use std::alloc::Global;
@@ -83,16 +84,5 @@ fn clock_found(table: &Table, name: &Name) -> Option<Printed>
     match table.get(name) {
         Some(declared) if declared.kind.is_clock_or_readable() => declared.printed,
         _ => None,
-    }
-}
-
-/// Where an expression stands.
-fn place_of(value: &Expr) -> Place
-    ensures { result ≡ place_of (expr_of value.now) }
-{
-    match value {
-        Expr::Ref(reference) => reference.place,
-        Expr::Literal(literal) => literal.place,
-        Expr::Op(place, _, _, _) | Expr::Mux(place, _, _, _) | Expr::Validif(place, _, _) => *place,
     }
 }

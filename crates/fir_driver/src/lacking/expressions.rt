@@ -4,14 +4,13 @@ ghost use Rattle.std.specs.Prelude.{◌≡◌, map, option_map};
 ghost use Rattle.fir_ast.specs.View.{expr_of, expressions_of, sink_of};
 ghost use Rattle.fir_ast.specs.Expressions.{literal};
 ghost use Rattle.fir_meaning.specs.Language.{counts, has_counts, is_unsigned};
-ghost use Rattle.fir_meaning.specs.TypeFaults.{place_of};
 ghost use Rattle.fir_driver.specs.Lacked.{lack_of};
 ghost use Rattle.fir_driver.specs.Lacking.{lacking_expression, lacking_operands, lacking_part, literal_word};
 
 use super::{Lack, told};
 use crate::operator_word::operator_word;
 use crate::spot::Spot;
-use fir_ast::{Expr, Literal, Part, Place, Reference};
+use fir_ast::{Expr, Literal, Part, Reference};
 use fir_bits::PrimOp;
 
 /// The first part of the reference.
@@ -115,15 +114,4 @@ fn lacking_operands(operands: &[Expr]) -> Option<Lack<'_>>
         }
     }
     None
-}
-
-/// Where the first token of an expression stands.
-pub fn place_of(expr: &Expr) -> Place
-    ensures { result ≡ place_of (expr_of expr.now) }
-{
-    match expr {
-        Expr::Ref(reference) => reference.place,
-        Expr::Literal(literal) => literal.place,
-        Expr::Op(place, _, _, _) | Expr::Mux(place, _, _, _) | Expr::Validif(place, _, _) => *place,
-    }
 }

@@ -6,9 +6,10 @@ ghost use Rattle.fir_driver.specs.Lacked.{lack_of};
 ghost use Rattle.fir_driver.specs.Lacking.{lacking_expression, lacking_part, lacking_register_type, lacking_reset, lacking_statement, lacking_statements};
 ghost use Rattle.fir_driver.specs.Options.{or_else};
 
-use super::expressions::{lacking_expression, lacking_part, place_of};
+use super::expressions::{lacking_expression, lacking_part};
 use super::types::{is_register_type, type_word};
 use super::{Lack, told};
+use crate::expression_place::place_of;
 use crate::spot::Spot;
 use fir_ast::{Expr, Reference, Register, RegisterReset, Stmt};
 
