@@ -1,0 +1,13 @@
+pub mod EmptyLists
+pub mod ClockLists
+pub mod TickLines
+pub mod InitLines
+pub mod JudgedLines
+pub mod LineKinds
+pub mod ReadLines
+pub mod OneReading
+pub mod LineFronts
+pub mod BadLines
+pub mod FirstBad
+pub mod PaddedDigits
+pub mod ClosedLines

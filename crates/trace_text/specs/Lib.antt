@@ -1,0 +1,12 @@
+pub mod Lines
+pub mod Spelling
+pub mod Shapes
+pub mod SpelledLines
+pub mod LineFaults
+pub mod TraceSpells
+pub mod BadLine
+pub mod OutputLines
+pub mod ClosedWords
+pub mod FaultTexts
+pub mod Readings
+pub mod Laws

@@ -1,0 +1,44 @@
+//! Numbers in hexadecimal.
+
+ghost use Rattle.std.specs.Prelude.{◌≡◌, ◌++◌, ◌<◌, OnOk, false, replicate};
+ghost use Rattle.std.specs.Fmt.{digit_glyph, digits};
+ghost use Rattle.trace_text.specs.OutputLines.{padded};
+
+use fir_base::MemoryOut;
+
+/// Appends the number in hexadecimal digits, whose letters are in lower case, with leading zeros up to so
+/// many digits.
+#[tactic(auto, using(crate::proofs::PaddedDigits::padded_one, crate::proofs::PaddedDigits::padded_more))]
+pub fn put_padded(out: &mut Vec<u8>, count: u32, n: u128) -> Result<(), MemoryOut>
+    ensures { OnOk result (out.new.items ≡ out.old.items ++ padded count (digits 16 false n)) }
+{
+    let before = count.saturating_sub(1);
+    if n < 16 {
+        put_zeros(out, before)?;
+    } else {
+        put_padded(out, before, n / 16)?;
+    }
+    out.push(digit_byte(n % 16))?;
+    Ok(())
+}
+
+#[tactic(auto, using(crate::proofs::PaddedDigits::zero_more))]
+fn put_zeros(out: &mut Vec<u8>, count: u32) -> Result<(), MemoryOut>
+    ensures { OnOk result (out.new.items ≡ out.old.items ++ replicate count 48) }
+{
+    for _ in 0..count {
+        out.push(b'0')?;
+    }
+    Ok(())
+}
+
+fn digit_byte(digit: u128) -> u8
+    requires { digit < 16 }
+    ensures { result ≡ digit_glyph false digit }
+{
+    if digit < 10 {
+        b'0' + digit as u8
+    } else {
+        b'a' + (digit - 10) as u8
+    }
+}
