@@ -66,6 +66,15 @@ def many_ports(size):
     return "circuit T :\n  module T :\n" + ports + "".join(f"    o{k} <= i{k}\n" for k in range(count))
 
 
+def chain_of_registers(size):
+    """Registers in a chain, each of which takes the one before, under a clock of its own for each 100."""
+    count = size // 70
+    clocks = "".join(f"    input c{k} : Clock\n" for k in range(count // 100 + 1))
+    registers = "".join(f"    reg r{i} : UInt<4>, c{i // 100}\n" for i in range(count))
+    takes = "".join(f"    r{i} <= not(r{i - 1})\n" for i in range(1, count))
+    return "circuit T :\n  module T :\n" + clocks + registers + takes
+
+
 def dots(size):
     return HEAD + "    o <= a" + ".b" * ((size - len(HEAD) - 20) // 2) + "\n"
 
@@ -91,7 +100,7 @@ def main():
     print("| Text | Bytes | Seconds | Twice the bytes | Seconds | Status |")
     print("|---|---|---|---|---|---|")
     pairs = [("chain of 20000 and of 200000 nodes", chain(20000), chain(200000))]
-    shapes = (blank_lines, one_comment, chain_of_nodes, one_information, one_long_name, skips, connects, many_ports, dots, modules)
+    shapes = (blank_lines, one_comment, chain_of_nodes, one_information, one_long_name, skips, connects, many_ports, chain_of_registers, dots, modules)
     pairs += [(make.__name__.replace("_", " "), make(8 * MIB), make(16 * MIB)) for make in shapes]
     with tempfile.TemporaryDirectory() as work:
         path = pathlib.Path(work) / "t.fir"
