@@ -2,8 +2,8 @@
 """Compares firc with a second reading of the language's rules, on circuits made at random.
 
 Each circuit is either refused with the line of its first fault, which is worked out here once more from
-the table of faults, or emitted; what is emitted is run by Icarus Verilog, where it is installed, from a random
-state over random ticks, and shows the values that Python's integers give.
+the table of faults, or emitted; what is emitted is run by the simulator, and by Icarus Verilog where that is installed,
+from a random state over random ticks, and shows the values that Python's integers give.
 
 usage: circuits.py COUNT [SEED]
 """
@@ -168,6 +168,13 @@ def shown_by_icarus(work, verilog, lines):
     return subprocess.run(["vvp", "-n", str(work / "t.vvp")], capture_output=True, text=True, check=True).stdout
 
 
+def shown_by_sim(work, source, trace):
+    """What the simulator shows of the circuit, or what it says where it refuses it."""
+    (work / "t.trace").write_text(trace)
+    done = subprocess.run(["./firc", "sim", str(source), str(work / "t.trace"), "--state"], cwd=ROOT, capture_output=True, text=True)
+    return done.stdout + done.stderr
+
+
 def compare(work, text, chance, with_icarus):
     """What firc says of the text, or None where it is emitted. Ends where the two differ."""
     source = work / "t.fir"
@@ -177,15 +184,18 @@ def compare(work, text, chance, with_icarus):
     says = done.stderr.strip() or None
     if says != fault or done.returncode != (1 if fault else 0):
         sys.exit(f"of\n{text}firc says {says!r} with status {done.returncode}, the rules {fault!r}")
-    if fault or not with_icarus:
+    if fault:
         return fault
     circuit = expected.Circuit(text)
     run = random_run(circuit, chance)
     trace = "\n".join(expected.trace_lines(circuit, *run))
     wanted = "".join(line + "\n" for line in expected.shown_lines(circuit, *run))
-    shown = shown_by_icarus(work, done.stdout, bench(circuit, *read_trace(trace)))
-    if shown != wanted:
-        sys.exit(f"of\n{text}with the trace\n{trace}\nIcarus shows\n{shown}where the source has\n{wanted}")
+    shows = {"firc sim": shown_by_sim(work, source, trace)}
+    if with_icarus:
+        shows["Icarus"] = shown_by_icarus(work, done.stdout, bench(circuit, *read_trace(trace)))
+    for by, shown in shows.items():
+        if shown != wanted:
+            sys.exit(f"of\n{text}with the trace\n{trace}\n{by} shows\n{shown}where the source has\n{wanted}")
     return None
 
 

@@ -1,7 +1,8 @@
 #!/usr/bin/env bash
-# Reads each emitted example with Icarus Verilog, Verilator and Yosys, and runs it with Icarus on the 64
-# ticks of examples/NAME.trace against examples/NAME.expected. A tool that is not installed is skipped; one
-# that is there and refuses the text, or shows other values, fails the check.
+# Simulates each example on the 64 ticks of examples/NAME.trace against examples/NAME.expected; reads its
+# emitted text with Icarus Verilog, Verilator and Yosys, and runs it with Icarus on the same ticks. A tool
+# that is not installed is skipped; one that is there and refuses the text, or shows other values, fails the
+# check.
 set -u
 cd "$(dirname "$0")/.." || exit 1
 work=$(mktemp -d) || exit 1
@@ -15,6 +16,12 @@ for name in python3 iverilog verilator yosys; do tool "$name"; done
 if has python3; then
   python3 examples/expected.py --check || fail "examples/*.trace and *.expected are not what the sources give"
 fi
+
+for source in examples/*.fir; do
+  name=$(basename "$source" .fir)
+  ./firc sim "$source" "examples/$name.trace" --state >"$work/$name.printed" &&
+    diff "examples/$name.expected" "$work/$name.printed" || fail "$name shows other values under firc sim"
+done
 
 if ! has iverilog && ! has verilator && ! has yosys; then
   echo "interop: no tool is there to compare with"

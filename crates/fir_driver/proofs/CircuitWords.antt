@@ -8,7 +8,7 @@ use Rattle.fir_ast.specs.Circuits.{PortTree, ModuleTree, CircuitTree}
 use Rattle.fir_parse.specs.Lexemes.{Terminal, word}
 use Rattle.fir_parse.specs.StatementForms.{IsStatement, AreStatements}
 use Rattle.fir_parse.specs.CircuitForms.{IsPort, ArePorts, IsBody, IsModule, AreModules, AreSomeModules, IsVersion, IsSpelled}
-use Rattle.fir_driver.specs.HasWords.{StatementHasWords, BodyHasWords, ModuleHasWords, HasWords}
+use Rattle.fir_lower.specs.HasWords.{StatementHasWords, BodyHasWords, ModuleHasWords, HasWords}
 use Rattle.fir_driver.proofs.WordPieces.{AreSpelledWell, KeepsWords, token, somewhere, nothing, next, either, name_is_word}
 use Rattle.fir_driver.proofs.TypesKeepWords.{int, type_keeps}
 use Rattle.fir_driver.proofs.StatementsKeepWords.{statement_keeps}

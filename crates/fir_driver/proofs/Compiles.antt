@@ -11,11 +11,11 @@ use Rattle.fir_meaning.specs.Faults.{Faultless}
 use Rattle.fir_meaning.specs.Language.{is_in_language}
 use Rattle.fir_meaning.specs.Laws.{FaultlessHasOne}
 use Rattle.fir_net.specs.declared.net.FlatNet.{FlatNet}
-use Rattle.ver_build.specs.Rows.{net_rows, net_words}
+use Rattle.fir_net.specs.Rows.{net_rows, net_words}
 use Rattle.ver_build.specs.Named.{Named}
 use Rattle.ver_build.specs.Builds.{Builds}
-use Rattle.fir_driver.specs.CircuitRows.{circuit_rows}
-use Rattle.fir_driver.specs.Lowers.{Lowers}
+use Rattle.fir_lower.specs.CircuitRows.{circuit_rows}
+use Rattle.fir_lower.specs.Lowers.{Lowers}
 use Rattle.fir_driver.specs.Compiles.{Compiles}
 
 -- what one allows the other allows too

@@ -1,16 +1,18 @@
 -- From how the parts of a run end to what the whole does.
-use Rattle.std.proofs.Common.{◌≡◌, ℕ, ◌+◌, ◌<◌, ◌≤◌, List, [], ◌++◌, length, Option, Some, None, String, Global, IfSome, inl, inr, refl, sym, ap, ◌∙◌, subst, arith, append-nil}
+use Rattle.std.proofs.Common.{◌≡◌, ℕ, ◌+◌, ◌<◌, ◌≤◌, List, [], ◌++◌, length, Option, Some, None, Err, String, Global, IfSome, inl, inr, refl, sym, ap, ◌∙◌, subst, arith, append-nil}
 use Rattle.std.specs.Prelude.{option_map}
 use Rattle.fir_ast.specs.Circuits.{CircuitTree}
 use Rattle.fir_parse.specs.Laws.{SpellsOneTree, HasTreeOrFault}
-use Rattle.fir_io.specs.Ports.{FilesSeen, SinkSeen, Rose, AtLeast, Grew}
+use Rattle.fir_io.specs.declared.ports.FileFault.{FileFault}
+use Rattle.fir_io.specs.declared.ports.FileFault.TheVariants as file
+use Rattle.fir_io.specs.Ports.{FilesSeen, SinkSeen, Rose, AtLeast, Grew, ReadShows}
 use Rattle.fir_driver.specs.declared.status.Status.{Status}
-use Rattle.fir_driver.specs.declared.status.Status.TheVariants.{Done, Refused, Usage, Unread, Unwritten, NoMemory, TooLong}
+use Rattle.fir_driver.specs.declared.status.Status.TheVariants.{Done, Refused, Usage, Unread, Unwritten, NoMemory, BadTrace, TooLong}
 use Rattle.fir_driver.specs.Command.{named_file}
 use Rattle.fir_driver.specs.Messages.{usage_line, unread_line, too_long_line, memory_line}
 use Rattle.fir_driver.specs.Emits.{Takes, Emits}
 use Rattle.fir_driver.specs.Headline.{Outside, outside, IsContent, Kept, Due, Headline, code, limit}
-use Rattle.fir_driver.specs.Endings.{Said, Complained, Emitted}
+use Rattle.fir_driver.specs.Endings.{Said, Complained, Untaken, Emitted}
 use Rattle.fir_driver.specs.Refusals.{Refuses}
 use Rattle.fir_driver.proofs.Refused.{refused_is_not_taken}
 use Rattle.fir_driver.specs.Complete.{Names, Answers, Complete}
@@ -47,21 +49,27 @@ module _ (words : List (String Global)) (files files' : FilesSeen) (out err err'
   said due line s cause whole (inr (inl p)) = subst Ends (sym p.0) (inr (due, line, cause, kept_same out, p.1, p.2))
   said due line s cause whole (inr (inr p)) = subst Ends (sym p.0) (inl (kept_same out), inr p.1)
 
-  pub memory_ended : (s : Status) → Said memory_line NoMemory err err' s → Ends s
+  memory_ended : (s : Status) → Said memory_line NoMemory err err' s → Ends s
   memory_ended s h = said NoMemory memory_line s refl (λ g. (inl (kept_same out), inl g)) h
 
   pub usage_ended : (s : Status) → named_file words ≡ None → Said usage_line Usage err err' s → Ends s
   usage_ended s none h = said Usage usage_line s (none, refl) (λ g. (usage_line, (none, refl), refl, g)) h
 
-  pub unread_ended : (name : List ℕ) (s : Status) → named_file words ≡ Some name → Rose files.faults files'.faults → Complained (unread_line name) Unread err err' s → Ends s
+  unread_ended : (name : List ℕ) (s : Status) → named_file words ≡ Some name → Rose files.faults files'.faults → Complained (unread_line name) Unread err err' s → Ends s
   unread_ended name s named rose (inl h) =
       said Unread (unread_line name) s (name, named, rose, refl) (λ g. (unread_line name, (name, named, rose, refl), refl, g)) h
   unread_ended name s named rose (inr h) = memory_ended s h
 
-  pub too_long_ended : (name : List ℕ) (s : Status) → named_file words ≡ Some name → AtLeast (limit + 1) files'.taken → IfSome (files.told name) (λ content. limit < length content) → Complained (too_long_line name) TooLong err err' s → Ends s
+  too_long_ended : (name : List ℕ) (s : Status) → named_file words ≡ Some name → AtLeast (limit + 1) files'.taken → IfSome (files.told name) (λ content. limit < length content) → Complained (too_long_line name) TooLong err err' s → Ends s
   too_long_ended name s named taken long (inl h) =
       said TooLong (too_long_line name) s (name, named, taken, long, refl) (λ g. (too_long_line name, (name, named, taken, long, refl), refl, g)) h
   too_long_ended name s named taken long (inr h) = memory_ended s h
+
+  -- the file was not read, and it was said why
+  pub untaken_ended : (name : List ℕ) (fault : FileFault) (s : Status) → named_file words ≡ Some name → ReadShows limit name files files' (Err fault) → Untaken name fault err err' s → Ends s
+  untaken_ended name file.Failed s named shows h = unread_ended name s named shows h
+  untaken_ended name file.TooLong s named shows h = too_long_ended name s named shows.0 shows.1 h
+  untaken_ended name file.Memory s named shows h = memory_ended s h
 
 -- what was done with the bytes is what is done for the words
 pub emitted_ended : (words : List (String Global)) (files files' : FilesSeen) (out out' err err' : SinkSeen) (bytes : List ℕ) (s : Status) → IsContent words (outside files out err) bytes → Emitted bytes out out' err err' s → Headline words (outside files out err) (outside files' out' err') s
@@ -70,6 +78,7 @@ emitted_ended words files files' out out' err err' bytes Refused content h = (h.
 emitted_ended words files files' out out' err err' bytes Usage content h = absurd h
 emitted_ended words files files' out out' err err' bytes Unread content h = absurd h
 emitted_ended words files files' out out' err err' bytes TooLong content h = absurd h
+emitted_ended words files files' out out' err err' bytes BadTrace content h = absurd h
 emitted_ended words files files' out out' err err' bytes Unwritten content (inl h) =
     inl (record { read = bytes; written = h.0; content = content; emits = h.1; front = h.3 }, h.2, h.4)
 emitted_ended words files files' out out' err err' bytes Unwritten content (inr (kept, rose, inl front)) =
@@ -146,3 +155,4 @@ complete one tree_or_fault words before after Unwritten (inl h) not_memory none_
 complete one tree_or_fault words before after Unwritten (inr h) not_memory none_failed = absurd (none_failed.err h.4)
 complete one tree_or_fault words before after NoMemory h not_memory none_failed = absurd (not_memory refl)
 complete one tree_or_fault words before after TooLong h not_memory none_failed = too_long_answers words before h.1.0 h.1.1 h.1.3
+complete one tree_or_fault words before after BadTrace h not_memory none_failed = absurd h.1

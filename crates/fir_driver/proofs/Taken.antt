@@ -13,7 +13,7 @@ use Rattle.fir_parse.specs.Spells.{Spells, end_of, terminals}
 use Rattle.fir_meaning.specs.Faults.{Faultless}
 use Rattle.fir_driver.specs.Lacking.{Lack, lacking}
 use Rattle.fir_driver.specs.Lacks.{place_of}
-use Rattle.fir_driver.specs.Checks.{Checks}
+use Rattle.fir_check.specs.Checks.{Checks}
 use Rattle.fir_driver.specs.Emits.{Takes}
 use Rattle.fir_driver.specs.Refusals.{HasFault}
 use Rattle.fir_driver.specs.Readings.{IsTaken}

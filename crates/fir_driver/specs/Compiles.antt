@@ -10,7 +10,7 @@ use Rattle.fir_ast.specs.Circuits.{CircuitTree}
 use Rattle.fir_meaning.specs.Leaves.{shape}
 use Rattle.fir_meaning.specs.Allows.{One, Allows, Run}
 use Rattle.ver_build.specs.Named.{Named}
-use Rattle.fir_driver.specs.CircuitRows.{circuit_rows, circuit_words}
+use Rattle.fir_lower.specs.CircuitRows.{circuit_rows, circuit_words}
 
 pub record Compiles (c : CircuitTree) (v : Verilog) : Type 0 where
   pub named : Named c.named.name (circuit_rows c) (circuit_words c) v

@@ -1,11 +1,13 @@
 -- How the parts of a run end: a put of a line, a put of the emitted text, and all that is done with the bytes that were read.
 -- A put that fails makes the status `Unwritten`, one that finds no memory `NoMemory`.
 use Rattle.std.specs.Prelude.{◌≡◌, ℕ, List, ◌⊎◌}
+use Rattle.fir_io.specs.declared.ports.FileFault.{FileFault}
+use Rattle.fir_io.specs.declared.ports.FileFault.TheVariants as file
 use Rattle.fir_io.specs.Ports.{SinkSeen, Rose, Grew}
 use Rattle.fir_driver.specs.declared.status.Status.{Status}
 use Rattle.fir_driver.specs.declared.status.Status.TheVariants as status
 use Rattle.fir_driver.specs.Headline.{Kept, GrewByFront}
-use Rattle.fir_driver.specs.Messages.{unwritten_line, memory_line}
+use Rattle.fir_driver.specs.Messages.{unread_line, too_long_line, unwritten_line, memory_line}
 use Rattle.fir_driver.specs.Emits.{Emits}
 use Rattle.fir_driver.specs.Refusals.{Refuses}
 
@@ -19,6 +21,12 @@ Said line due old new ending =
 -- a line that names a file was put, or the one on memory where there was none to make it
 abbrev pub Complained : List ℕ → Status → SinkSeen → SinkSeen → Status → Type 0
 Complained line due old new ending = Said line due old new ending ⊎ Said memory_line status.NoMemory old new ending
+
+-- a file was not read, and the line that is due was put
+abbrev pub Untaken : List ℕ → FileFault → SinkSeen → SinkSeen → Status → Type 0
+Untaken name file.Failed old new ending = Complained (unread_line name) status.Unread old new ending
+Untaken name file.TooLong old new ending = Complained (too_long_line name) status.TooLong old new ending
+Untaken name file.Memory old new ending = Said memory_line status.NoMemory old new ending
 
 -- the text was put to the output, and what is due then to the error output
 abbrev pub Written : List ℕ → SinkSeen → SinkSeen → SinkSeen → SinkSeen → Status → Type 0

@@ -1,4 +1,4 @@
--- What the program does: each status, with its cause and with what stands on the outputs.
+-- What the program does where the words ask for no simulation: each status, with its cause and with what stands on the outputs.
 use Rattle.std.specs.Prelude.{◌≡◌, ℕ, ◌+◌, ◌<◌, ◌≤◌, List, [], ◌++◌, length, Some, None, String, IfSome, ◌⊎◌}
 use Rattle.std.specs.declared.alloc.Global.{Global}
 use Rattle.fir_io.specs.Ports.{FilesSeen, SinkSeen, Rose, AtLeast, Grew}
@@ -20,6 +20,7 @@ code status.Usage = 2
 code status.Unread = 3
 code status.Unwritten = 4
 code status.NoMemory = 5
+code status.BadTrace = 6
 code status.TooLong = 8
 
 -- the files, the output and the error output at a moment
@@ -58,6 +59,7 @@ Due words before after status.TooLong line =
 Due words before after status.NoMemory line = line ≡ memory_line
 Due words before after status.Done line = ⊥
 Due words before after status.Unwritten line = ⊥
+Due words before after status.BadTrace line = ⊥
 
 -- emitted bytes of which the output took a front at least
 pub record Began (words : List (String Global)) (before after : Outside) : Type 0 where

@@ -4,15 +4,15 @@ ghost use Rattle.std.specs.Prelude.{◌≤◌, IfOk, IsTrue, length};
 ghost use Rattle.fir_ast.specs.View.{circuit_of};
 ghost use Rattle.fir_meaning.specs.Faults.{Faultless};
 ghost use Rattle.fir_meaning.specs.Language.{is_in_language};
-ghost use Rattle.fir_driver.specs.HasWords.{HasWords};
+ghost use Rattle.fir_lower.specs.HasWords.{HasWords};
 ghost use Rattle.fir_driver.specs.Compiles.{Compiles};
 ghost use Rattle.fir_driver.specs.Readings.{IsEmitted};
 
 use crate::laws::spelled_names_are_words;
-use crate::lowering::lower;
 use crate::reader::read_circuit;
 use fir_ast::{Circuit, FirFault};
 use fir_base::{MemoryOut, Refused};
+use fir_lower::lower;
 use fir_meaning::faultless_has_one;
 use std::alloc::Global;
 use ver_ast::{Verilog, valid_has_one};

@@ -1,29 +1,29 @@
 //! What the program does. `run` is the one call that it makes: it reads the words, reads the file that they
-//! name, and emits its circuit as Verilog or says why not. The way of a circuit is `reader` (which reads by
-//! fir_lex and fir_parse, and asks `lacking` and `check`), `lower`, then `build` of ver_build and the writer of
-//! ver_emit; `emission` joins them, and `run` carries the theorem from the bytes of the file to the bytes
-//! that are written (`specs/`: Lacking, Checks, Lowers, Compiles, Emits, Refusals, Headline, Complete).
+//! name, and emits its circuit as Verilog, or simulates it on a trace, or says why not. Both begin with `reader`
+//! (which reads by fir_lex and fir_parse, and asks `lacking` and fir_check) and fir_lower. Then `emission` goes on
+//! by ver_build and ver_emit; and `simulation` by `compiled` (the net and the shape of its traces, by fir_sim),
+//! `runner` (tick by tick, by trace_text and fir_sim) and `lines`. `run` carries the theorem from the bytes of the
+//! files to the bytes that are written (`specs/`: Lacking, Compiles, Emits, Refusals, Headline and Complete; of a
+//! simulation Traces, Simulations, Simulates and SimulationAnswers; and Program, which joins them).
 #![tactic(auto)]
 
-mod check;
 mod command;
+mod compiled;
 mod emission;
-mod expression_place;
 mod lacking;
 mod laws;
-mod lowering;
+mod lines;
 mod messages;
-mod operator_word;
 mod program;
 mod reader;
+mod runner;
+mod simulation;
 mod spot;
 mod status;
 
-pub use check::check_small;
-pub use command::named_file;
+pub use command::{Simulated, named_file, named_simulation};
 pub use emission::compile;
 pub use laws::spelled_names_are_words;
-pub use lowering::lower;
 pub use program::run;
 pub use reader::read_circuit;
 pub use status::Status;

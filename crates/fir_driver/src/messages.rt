@@ -1,16 +1,21 @@
 //! The lines of the error output.
 
-ghost use Rattle.std.specs.Prelude.{◌≡◌, ◌++◌, IfOk, codes};
+ghost use Rattle.std.specs.Prelude.{◌≡◌, ◌++◌, IfOk, List, ℕ, codes};
+ghost use Rattle.fir_base.specs.Ticks.{Tick};
 ghost use Rattle.fir_ast.specs.FaultLines.{fault_line};
 ghost use Rattle.fir_io.specs.Ports.{SinkSeen};
 ghost use Rattle.fir_driver.specs.declared.status.Status.TheVariants as status;
-ghost use Rattle.fir_driver.specs.Endings.{Said, Complained};
+ghost use Rattle.trace_text.specs.Shapes.{TraceShape};
+ghost use Rattle.trace_text.specs.BadLine.{BadLine};
+ghost use Rattle.trace_text.specs.FaultTexts.{fault_text};
+ghost use Rattle.fir_driver.specs.Endings.{Said, Complained, Untaken};
 
 use crate::status::Status;
 use fir_ast::FirFault;
 use fir_base::MemoryOut;
-use fir_io::{PutFault, Sink};
+use fir_io::{FileFault, PutFault, Sink};
 use std::alloc::Global;
+use trace_text::{TraceFault, bad_line};
 
 pub const USAGE_LINE: &[u8] =
     b"usage: firc check FILE | lower FILE | emit FILE | sim FILE TRACE [--state] | vsim VFILE TRACE [--state] [--order N] | gen N\n";
@@ -64,5 +69,27 @@ pub fn say_fault<T: Sink>(alloc: Global, err: &mut T, fault: &FirFault) -> Statu
     match fault.put_line(alloc, &mut line) {
         Ok(()) => say(err, line.as_slice(), Status::Refused),
         Err(MemoryOut) => say(err, MEMORY_LINE, Status::NoMemory),
+    }
+}
+
+/// Puts the line of the bad line of a trace, and ends with `BadTrace` where that succeeds.
+pub fn say_bad_line<T: Sink>(alloc: Global, err: &mut T, trace: &[u8], fault: &TraceFault) -> Status
+    ensures { (s : TraceShape) (init : List ℕ) (ticks : List Tick) (bad : BadLine trace.now s init ticks fault.now) → Complained (fault_text fault.now bad.bad) status.BadTrace (T.seen err.old) (T.seen err.new) result }
+{
+    let mut line = Vec::new(alloc);
+    match fault.put_line(alloc, bad_line(trace, fault), &mut line) {
+        Ok(()) => say(err, line.as_slice(), Status::BadTrace),
+        Err(MemoryOut) => say(err, MEMORY_LINE, Status::NoMemory),
+    }
+}
+
+/// Says why a file was not read.
+pub fn say_unread<T: Sink>(alloc: Global, err: &mut T, name: &str, fault: FileFault) -> Status
+    ensures { Untaken name.now fault (T.seen err.old) (T.seen err.new) result }
+{
+    match fault {
+        FileFault::Failed => complain(alloc, err, b"read ", name, Status::Unread),
+        FileFault::TooLong => complain(alloc, err, b"too long ", name, Status::TooLong),
+        FileFault::Memory => say(err, MEMORY_LINE, Status::NoMemory),
     }
 }

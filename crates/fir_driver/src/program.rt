@@ -4,19 +4,21 @@ ghost use Rattle.std.specs.Prelude.{◌≡◌, ◌≤◌, IsTrue, IfSome, length
 ghost use Rattle.fir_driver.specs.Command.{named_file};
 ghost use Rattle.fir_driver.specs.Headline.{outside, code, Headline};
 ghost use Rattle.fir_driver.specs.Endings.{Written, Emitted};
-ghost use Rattle.fir_driver.specs.Complete.{Complete};
+ghost use Rattle.fir_driver.specs.Program.{MayAsk, Does, AlwaysAnswers};
 
-use crate::command::named_file;
+use crate::command::{named_file, named_simulation};
 use crate::emission::emitted;
-use crate::messages::{MEMORY_LINE, UNWRITTEN_LINE, USAGE_LINE, complain, say, say_fault};
+use crate::messages::{MEMORY_LINE, UNWRITTEN_LINE, USAGE_LINE, say, say_fault, say_unread};
+use crate::simulation::simulate;
 use crate::status::Status;
 use fir_base::Refused;
-use fir_io::{FileFault, Files, PutFault, Sink};
+use fir_io::{Files, PutFault, Sink};
 use fir_parse::laws::{has_tree_or_fault, spells_one_tree};
 use std::alloc::Global;
+use trace_text::laws::spelled_is_not_bad;
 
 /// The most bytes of a file that are taken.
-const LIMIT: u64 = 16777216;
+pub const LIMIT: u64 = 16777216;
 
 /// Does what the words say, and gives the exit status. `words[0]` is the program's name.
 pub fn run<F: Files, S: Sink, T: Sink>(
@@ -26,16 +28,34 @@ pub fn run<F: Files, S: Sink, T: Sink>(
     out: &mut S,
     err: &mut T,
 ) -> u8
-    requires { IfSome (named_file words.now.items) (λ name. IsTrue ((F.seen files.old).may name)) }
-    ensures headline { (s : _) × (result ≡ code s) × Headline words.now.items (outside (F.seen files.old) (S.seen out.old) (T.seen err.old)) (outside (F.seen files.new) (S.seen out.new) (T.seen err.new)) s }
-    ensures complete { Complete words.now.items (outside (F.seen files.old) (S.seen out.old) (T.seen err.old)) (outside (F.seen files.new) (S.seen out.new) (T.seen err.new)) result }
+    requires { MayAsk words.now.items (F.seen files.old).may }
+    ensures headline { (s : _) × (result ≡ code s) × Does words.now.items (outside (F.seen files.old) (S.seen out.old) (T.seen err.old)) (outside (F.seen files.new) (S.seen out.new) (T.seen err.new)) s }
+    ensures complete { AlwaysAnswers words.now.items (outside (F.seen files.old) (S.seen out.old) (T.seen err.old)) (outside (F.seen files.new) (S.seen out.new) (T.seen err.new)) result }
 {
     spells_one_tree();
     has_tree_or_fault();
+    spelled_is_not_bad();
     ending(alloc, words.as_slice(), files, out, err).code()
 }
 
 fn ending<F: Files, S: Sink, T: Sink>(
+    alloc: Global,
+    words: &[String],
+    files: &mut F,
+    out: &mut S,
+    err: &mut T,
+) -> Status
+    requires { MayAsk words.now (F.seen files.old).may }
+    ensures { Does words.now (outside (F.seen files.old) (S.seen out.old) (T.seen err.old)) (outside (F.seen files.new) (S.seen out.new) (T.seen err.new)) result }
+{
+    match named_simulation(words) {
+        Some(simulation) => simulate(alloc, &simulation, files, out, err),
+        None => emission(alloc, words, files, out, err),
+    }
+}
+
+/// Emits the circuit of the file that the words name.
+fn emission<F: Files, S: Sink, T: Sink>(
     alloc: Global,
     words: &[String],
     files: &mut F,
@@ -50,9 +70,7 @@ fn ending<F: Files, S: Sink, T: Sink>(
     };
     match files.read(alloc, name, LIMIT) {
         Ok(text) => emit(alloc, text.as_slice(), out, err),
-        Err(FileFault::Failed) => complain(alloc, err, b"read ", name, Status::Unread),
-        Err(FileFault::TooLong) => complain(alloc, err, b"too long ", name, Status::TooLong),
-        Err(FileFault::Memory) => say(err, MEMORY_LINE, Status::NoMemory),
+        Err(fault) => say_unread(alloc, err, name, fault),
     }
 }
 

@@ -7,11 +7,11 @@ ghost use Rattle.fir_driver.specs.Lacked.{lack_of};
 ghost use Rattle.fir_driver.specs.Lacking.{lacking};
 ghost use Rattle.fir_driver.specs.Readings.{IsTaken, IsTree};
 
-use crate::check::check_small;
 use crate::lacking::{Lack, lacking};
 use crate::spot::place_of;
 use fir_ast::{Circuit, FirFault};
 use fir_base::{MemoryOut, Name, Refused};
+use fir_check::check_small;
 use fir_lex::lex;
 use fir_parse::parse;
 use std::alloc::Global;

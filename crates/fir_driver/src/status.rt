@@ -18,6 +18,8 @@ pub enum Status {
     Unwritten,
     /// Memory was wanted and not there.
     NoMemory,
+    /// The trace has a bad line.
+    BadTrace,
     /// The file is longer than the limit.
     TooLong,
 }
@@ -34,6 +36,7 @@ impl Status {
             Status::Unread => 3,
             Status::Unwritten => 4,
             Status::NoMemory => 5,
+            Status::BadTrace => 6,
             Status::TooLong => 8,
         }
     }

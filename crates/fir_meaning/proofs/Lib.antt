@@ -23,3 +23,4 @@ pub mod Faultless
 pub mod CleanCircuits
 pub mod CircuitValues
 pub mod OneCircuit
+pub mod OneRun

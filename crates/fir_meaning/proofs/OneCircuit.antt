@@ -117,7 +117,7 @@ clean_has_one law c clean state tick shaped =
     }
 
 -- the main module is the one module
-main_is : (c : CircuitTree) (k : IsCleanCircuit c) → k.main ≡ main_module c
+pub main_is : (c : CircuitTree) (k : IsCleanCircuit c) → k.main ≡ main_module c
 main_is c k =
     let none : ModuleTree = record { named = c.named; ports = []; body = done } in
     let here : module_named c.named.name (k.main ∷ []) none ≡ k.main = rw (k.named, name_same c.named.name) refl in

@@ -1,5 +1,6 @@
 -- Laws about the definitions.
 use Rattle.std.specs.Prelude.{◌≡◌, ℕ, ◌^◌, ◌<◌, ◌≤◌, List, [], ◌∷◌, ◌++◌, true, false, IsTrue, Some}
+use Rattle.fir_base.specs.Ticks.{Tick, Shown}
 use Rattle.fir_bits.specs.Values.{IsBitVector}
 use Rattle.fir_bits.specs.Operators.{type_of}
 use Rattle.fir_bits.specs.declared.values.Num.{Num}
@@ -13,13 +14,19 @@ use Rattle.fir_meaning.specs.Scopes.{is_readable, Declared, Scope, look_up, type
 use Rattle.fir_meaning.specs.Clean.{IsClean, IsCleanCircuit}
 use Rattle.fir_meaning.specs.Eval.{eval}
 use Rattle.fir_meaning.specs.Exec.{fit, exec}
-use Rattle.fir_meaning.specs.Allows.{One}
+use Rattle.fir_meaning.specs.Allows.{One, Run}
 use Rattle.fir_meaning.specs.Faults.{First, Faultless}
 use Rattle.fir_meaning.specs.Language.{is_in_language}
 
 -- a circuit without a fault has, at every state and tick of its shape, exactly one choice of values
 abbrev pub FaultlessHasOne : Type 0
 FaultlessHasOne = (c : CircuitTree) → IsTrue (is_in_language c) → Faultless c → One c
+
+-- it has from any state one run at most through the same ticks
+abbrev pub FaultlessRunsOnce : Type 0
+FaultlessRunsOnce =
+    (c : CircuitTree) → IsTrue (is_in_language c) → Faultless c
+    → (state : List ℕ) (ticks : List Tick) (shown others : List Shown) → Run c state ticks shown → Run c state ticks others → others ≡ shown
 
 -- a circuit has one first fault at most
 abbrev pub ShowsOneFirst : Type 0

@@ -1,6 +1,6 @@
 //! Laws about the definitions, each the contract of a function that does nothing.
 
-ghost use Rattle.fir_meaning.specs.Laws.{FaultlessHasOne, ShowsOneFirst, LastConnect, FaultlessIsClean, CleanHasValue};
+ghost use Rattle.fir_meaning.specs.Laws.{FaultlessHasOne, FaultlessRunsOnce, ShowsOneFirst, LastConnect, FaultlessIsClean, CleanHasValue};
 
 /// A circuit of the language that shows no fault has, at every state and tick of its shape, exactly one
 /// choice of values for its leaves and clocks.
@@ -8,6 +8,14 @@ pub fn faultless_has_one()
     ensures { FaultlessHasOne }
 {
     fir_bits::laws::has_its_type()
+}
+
+/// Such a circuit has from any state one run at most through the same ticks.
+pub fn faultless_runs_once()
+    ensures { FaultlessRunsOnce }
+{
+    faultless_has_one();
+    faultless_is_clean()
 }
 
 /// A circuit has one first fault at most.

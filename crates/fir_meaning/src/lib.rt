@@ -7,5 +7,6 @@
 mod laws;
 
 pub use laws::{
-    clean_has_value, faultless_has_one, faultless_is_clean, last_connect, shows_one_first,
+    clean_has_value, faultless_has_one, faultless_is_clean, faultless_runs_once, last_connect,
+    shows_one_first,
 };

@@ -6,3 +6,4 @@ pub mod IsNet
 pub mod Names
 pub mod IsTable
 pub mod NameSets
+pub mod Rows

@@ -1,10 +1,12 @@
 //! Tests of the whole program: `run` over files and sinks in memory, row by row, and over those that
-//! never fail, where its contract leaves four statuses.
+//! never fail, where its contract leaves few statuses.
 #![tactic(auto)]
 
 mod sure;
+mod sure_simulations;
 
 pub use sure::sure_status;
+pub use sure_simulations::sure_simulation;
 
 #[cfg(test)]
 mod emit;
@@ -16,3 +18,5 @@ mod program;
 mod refusals;
 #[cfg(test)]
 mod registers;
+#[cfg(test)]
+mod simulations;

@@ -40,8 +40,33 @@ pub fn run_over(
     content: &[u8],
     failing: Failing,
 ) -> Result<Outcome, MemoryOut> {
+    let mut files = Vec::new(alloc);
+    files.push(FileEntry::new(alloc, name, content)?)?;
+    run_over_files(alloc, words, files, failing)
+}
+
+/// Runs the words over a circuit's text in the file f.fir and a trace in the file t.
+pub fn run_over_two(
+    alloc: Global,
+    words: &[&str],
+    text: &[u8],
+    trace: &[u8],
+    failing: Failing,
+) -> Result<Outcome, MemoryOut> {
+    let mut files = Vec::new(alloc);
+    files.push(FileEntry::new(alloc, "f.fir", text)?)?;
+    files.push(FileEntry::new(alloc, "t", trace)?)?;
+    run_over_files(alloc, words, files, failing)
+}
+
+fn run_over_files(
+    alloc: Global,
+    words: &[&str],
+    files: Vec<FileEntry>,
+    failing: Failing,
+) -> Result<Outcome, MemoryOut> {
     let Failing { reads, out, err } = failing;
-    let mut files = MemFiles::new(one_file(alloc, name, content)?, reads);
+    let mut files = MemFiles::new(files, reads);
     let mut out = MemSink::new(alloc, out);
     let mut err = MemSink::new(alloc, err);
     let words = owned_words(alloc, words)?;
@@ -69,12 +94,6 @@ pub fn body(alloc: Global, lines: &[u8]) -> Result<Vec<u8>, MemoryOut> {
     let mut text = Vec::from_slice(alloc, b"circuit T :\n  module T :\n")?;
     text.extend_from_slice(lines)?;
     Ok(text)
-}
-
-fn one_file(alloc: Global, name: &str, content: &[u8]) -> Result<Vec<FileEntry>, MemoryOut> {
-    let mut files = Vec::new(alloc);
-    files.push(FileEntry::new(alloc, name, content)?)?;
-    Ok(files)
 }
 
 fn owned_words(alloc: Global, words: &[&str]) -> Result<Vec<String>, MemoryOut> {

@@ -7,18 +7,19 @@ use Rattle.trace_text.specs.declared.fault.Cause.{Cause}
 use Rattle.trace_text.specs.declared.fault.Cause.TheVariants.{Misspelled, Count, Absent}
 use Rattle.trace_text.specs.Lines.{line_limit, words_of}
 use Rattle.trace_text.specs.Spelling.{is_value, value_of, is_decimal, decimal_of}
-use Rattle.trace_text.specs.Shapes.{TraceShape, Found, found}
+use Rattle.trace_text.specs.declared.shape.FoundWord.{FoundWord}
+use Rattle.trace_text.specs.Shapes.{TraceShape, found}
 use Rattle.trace_text.specs.SpelledLines.{IsRegisterLine, IsArrayLine, IsInitLine}
 use Rattle.trace_text.specs.LineFaults.{unless, absent_name, register_named, array_named, wide_word, init_words, init_count, init_faults}
 use Rattle.trace_text.proofs.EmptyLists.{parts, passes, passed, empty_right, chosen}
 use Rattle.trace_text.proofs.TickLines.{word_fits, not_wide}
 
 -- what a name stands for
-abbrev word_at : ℕ → ℕ → Option ℕ → Option Found
+abbrev word_at : ℕ → ℕ → Option ℕ → Option FoundWord
 word_at place width depth = Some (record { place = place; width = width; depth = depth })
 
 -- a register that is there, and fits the value
-record IsRegister (o : Option Found) (value : ℕ) : Type 0 where
+record IsRegister (o : Option FoundWord) (value : ℕ) : Type 0 where
   place : ℕ
   width : ℕ
   there : o ≡ word_at place width None
@@ -29,12 +30,12 @@ register_at : (k place width : ℕ) (depth : Option ℕ) (name w : List ℕ) →
 register_at k place width None name w h g = record { place = place; width = width; there = refl; fits = word_fits k width w g }
 register_at k place width (Some depth) name w h g = let e : absent_name name ≡ [] = h in cc
 
-register_there : (k : ℕ) (o : Option Found) (name w : List ℕ) → register_named o name ≡ [] → wide_word k o w ≡ [] → IsRegister o (value_of w)
+register_there : (k : ℕ) (o : Option FoundWord) (name w : List ℕ) → register_named o name ≡ [] → wide_word k o w ≡ [] → IsRegister o (value_of w)
 register_there k None name w h g = cc
 register_there k (Some f) name w h g = register_at k f.place f.width f.depth name w h g
 
 -- an array that is there, has the address, and fits the value
-record IsArray (o : Option Found) (address value : ℕ) : Type 0 where
+record IsArray (o : Option FoundWord) (address value : ℕ) : Type 0 where
   place : ℕ
   width : ℕ
   depth : ℕ
@@ -57,7 +58,7 @@ array_at k place width (Some depth) name address w h g = record {
   fits = word_fits k width w g;
 }
 
-array_there : (k : ℕ) (o : Option Found) (name address w : List ℕ) → array_named o name address ≡ [] → wide_word k o w ≡ [] → IsArray o (decimal_of address) (value_of w)
+array_there : (k : ℕ) (o : Option FoundWord) (name address w : List ℕ) → array_named o name address ≡ [] → wide_word k o w ≡ [] → IsArray o (decimal_of address) (value_of w)
 array_there k None name address w h g = cc
 array_there k (Some f) name address w h g = array_at k f.place f.width f.depth name address w h g
 

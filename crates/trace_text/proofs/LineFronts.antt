@@ -9,6 +9,15 @@ pub front_lines : (bytes : List ℕ) (xs ys : List (List ℕ)) → AreLines byte
 front_lines bytes [] ys h = tt
 front_lines bytes (x ∷ xs) ys h = (h.0, h.1, front_lines (later_lines bytes) xs ys h.2)
 
+-- the last of lines stands behind the others
+pub last_there : (bytes : List ℕ) (lines : List (List ℕ)) (last : List ℕ) → AreLines bytes (lines ++ last ∷ []) → behind bytes lines ≢ []
+last_there bytes [] last h = h.0
+last_there bytes (line ∷ lines) last h = last_there (later_lines bytes) lines last h.2
+
+pub last_is : (bytes : List ℕ) (lines : List (List ℕ)) (last : List ℕ) → AreLines bytes (lines ++ last ∷ []) → last ≡ first_line (behind bytes lines)
+last_is bytes [] last h = h.1
+last_is bytes (line ∷ lines) last h = last_is (later_lines bytes) lines last h.2
+
 -- a list of lines is a front of all lines
 pub front_of_all : (bytes : List ℕ) (xs ys : List (List ℕ)) → AreLines bytes xs → behind bytes xs ≡ [] → AreLines bytes ys → (more : List (List ℕ)) × (xs ≡ ys ++ more)
 front_of_all bytes xs [] h whole k = (xs, refl)
@@ -58,6 +67,16 @@ lines_within (suc n) (b ∷ bs) h =
     let r = lines_within n (later_lines (b ∷ bs)) (shorter n (position_or_len is_newline (b ∷ bs)) b bs h) in
     let filled : b ∷ bs ≢ [] = λ (e : b ∷ bs ≡ []). cc in
     (first_line (b ∷ bs) ∷ r.0, record { lines_are = (filled, refl, r.1.lines_are); whole = r.1.whole })
+
+later_shorter : (k : ℕ) (bytes : List ℕ) → length (drop k bytes) ≤ length bytes
+later_shorter k bytes = omega (arith, length-drop k bytes)
+
+-- no more is left behind lines than before them
+pub behind_within : (bytes : List ℕ) (lines : List (List ℕ)) → length (behind bytes lines) ≤ length bytes
+behind_within bytes [] = omega arith
+behind_within bytes (line ∷ lines) =
+    let first : length (later_lines bytes) ≤ length bytes = later_shorter (position_or_len is_newline bytes + 1) bytes in
+    omega (arith, behind_within (later_lines bytes) lines)
 
 -- bytes have lines that are all of them
 pub all_lines : (bytes : List ℕ) → (lines : List (List ℕ)) × AreAllLines bytes lines

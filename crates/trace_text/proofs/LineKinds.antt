@@ -6,7 +6,8 @@ use Rattle.std.proofs.lemmas.Bool.{eqb-true}
 use Rattle.fir_base.specs.Ticks.{Tick}
 use Rattle.trace_text.specs.Lines.{words_of, is_remark, IsSkipped}
 use Rattle.trace_text.specs.Spelling.{value_of, decimal_of, is_clock_list, are_clocks, clocks_of, listed}
-use Rattle.trace_text.specs.Shapes.{TraceShape, Found, found}
+use Rattle.trace_text.specs.declared.shape.FoundWord.{FoundWord}
+use Rattle.trace_text.specs.Shapes.{TraceShape, found}
 use Rattle.trace_text.specs.SpelledLines.{IsInitLine, IsTickLine}
 
 first_with : (b : ℕ) (parts : List (List ℕ)) (w : List ℕ) (ws : List (List ℕ)) → onto_first b parts ≡ w ∷ ws → (rest : List ℕ) × (b ∷ rest ≡ w)
@@ -61,7 +62,7 @@ module _ (shape : TraceShape) (line : List ℕ) where
       let f : false ≡ true = subst (λ v. is_clock_list v ≡ true) e t.clocks_spelled in
       cc
 
-  abbrev place_of : Option Found → ℕ
+  abbrev place_of : Option FoundWord → ℕ
   place_of None = 0
   place_of (Some f) = f.place
 

@@ -17,7 +17,7 @@ use Rattle.trace_text.proofs.ClockLists.{list_rises, none_absent_in}
 abbrev IsValue : List ℕ → Type 0
 IsValue w = is_value w ≡ true
 
-values_spelled : (k : ℕ) (ws : List (List ℕ)) → misspelled_values k ws ≡ [] → AllByRecursion IsValue ws
+pub values_spelled : (k : ℕ) (ws : List (List ℕ)) → misspelled_values k ws ≡ [] → AllByRecursion IsValue ws
 values_spelled k [] h = tt
 values_spelled k (w ∷ ws) h =
     let p = parts (unless (is_value w) (Misspelled k)) (misspelled_values (k + 1) ws) h in (
@@ -50,7 +50,7 @@ none_wide k (width ∷ widths) [] h = refl
 none_wide k (width ∷ widths) (w ∷ ws) h =
     joined (wide k width w) (wide_values (k + 1) widths ws) (not_wide k width w h.0) (none_wide (k + 1) widths ws h.1)
 
-as_many : (widths : List ℕ) (ws : List (List ℕ)) → FitEach widths (map value_of ws) → length ws ≡ length widths
+pub as_many : (widths : List ℕ) (ws : List (List ℕ)) → FitEach widths (map value_of ws) → length ws ≡ length widths
 as_many [] [] h = refl
 as_many [] (w ∷ ws) h = absurd h
 as_many (width ∷ widths) [] h = absurd h

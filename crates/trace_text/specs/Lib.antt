@@ -10,3 +10,11 @@ pub mod ClosedWords
 pub mod FaultTexts
 pub mod Readings
 pub mod Laws
+pub mod Places
+pub mod Rooms
+pub mod RunLines
+pub mod Steps
+pub mod ClockRooms
+pub mod InitWords
+pub mod TickWords
+pub mod Walks

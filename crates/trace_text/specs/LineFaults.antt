@@ -8,7 +8,8 @@ use Rattle.trace_text.specs.declared.fault.Cause.{Cause}
 use Rattle.trace_text.specs.declared.fault.Cause.TheVariants.{Misspelled, Count, Wide, Absent, Long}
 use Rattle.trace_text.specs.Lines.{line_limit, words_of, is_remark}
 use Rattle.trace_text.specs.Spelling.{is_value, value_of, is_decimal, decimal_of, listed, is_no_clock, is_clock_list}
-use Rattle.trace_text.specs.Shapes.{TraceShape, Found, found}
+use Rattle.trace_text.specs.declared.shape.FoundWord.{FoundWord}
+use Rattle.trace_text.specs.Shapes.{TraceShape, found}
 
 abbrev pub unless : Bool → Cause → List Cause
 unless holds cause = if holds then [] else cause ∷ []
@@ -50,7 +51,7 @@ tick_faults shape w ws =
 abbrev pub absent_name : List ℕ → List Cause
 absent_name name = Absent 5 (length name) ∷ []
 
-abbrev pub register_named : Option Found → List ℕ → List Cause
+abbrev pub register_named : Option FoundWord → List ℕ → List Cause
 register_named None name = absent_name name
 register_named (Some f) name = if is_array f.depth then absent_name name else []
   where
@@ -62,11 +63,11 @@ abbrev pub address_within : Option ℕ → List ℕ → List ℕ → List Cause
 address_within None name address = absent_name name
 address_within (Some depth) name address = unless (nat_lt (decimal_of address) depth) (Absent (6 + length name) (length address))
 
-abbrev pub array_named : Option Found → List ℕ → List ℕ → List Cause
+abbrev pub array_named : Option FoundWord → List ℕ → List ℕ → List Cause
 array_named None name address = absent_name name
 array_named (Some f) name address = address_within f.depth name address
 
-abbrev pub wide_word : ℕ → Option Found → List ℕ → List Cause
+abbrev pub wide_word : ℕ → Option FoundWord → List ℕ → List Cause
 wide_word k None w = []
 wide_word k (Some f) w = wide k f.width w
 

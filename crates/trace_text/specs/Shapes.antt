@@ -8,6 +8,7 @@ use Rattle.fir_base.specs.Lists.{Distinct}
 use Rattle.fir_base.specs.Ticks.{Shape}
 use Rattle.ver_ast.specs.Names.{is_word}
 use Rattle.trace_text.specs.declared.shape.StateWord.{StateWord}
+use Rattle.trace_text.specs.declared.shape.FoundWord.{FoundWord}
 
 -- the most words that all arrays have together
 abbrev pub word_limit : ℕ
@@ -17,6 +18,9 @@ pub record TraceShape : Type 0 where
   pub inputs : List ℕ
   pub clocks : ℕ
   pub state : List StateWord
+
+abbrev pub shape_of : List ℕ → ℕ → List StateWord → TraceShape
+shape_of inputs clocks state = record { inputs = inputs; clocks = clocks; state = state }
 
 -- how many words there are under one name
 abbrev pub size_of : StateWord → ℕ
@@ -29,18 +33,13 @@ state_widths = flat_map (λ s. replicate (size_of s) s.width)
 abbrev pub plain : TraceShape → Shape
 plain shape = record { inputs = shape.inputs; clocks = shape.clocks; state = state_widths shape.state }
 
--- what a name stands for, and the place of its first word in the state
-pub record Found : Type 0 where
-  pub place : ℕ
-  pub width : ℕ
-  pub depth : Option ℕ
-
-abbrev pub found_from : ℕ → List StateWord → List ℕ → Option Found
+-- what a name stands for, where the words before have so many places
+abbrev pub found_from : ℕ → List StateWord → List ℕ → Option FoundWord
 found_from place [] name = None
 found_from place (s ∷ ss) name =
     if bytes_eq s.name name then Some (record { place = place; width = s.width; depth = s.depth }) else found_from (place + size_of s) ss name
 
-abbrev pub found : TraceShape → List ℕ → Option Found
+abbrev pub found : TraceShape → List ℕ → Option FoundWord
 found shape name = found_from 0 shape.state name
 
 abbrev pub IsWidth : ℕ → Type 0

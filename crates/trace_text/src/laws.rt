@@ -1,5 +1,6 @@
 //! Laws about the definitions, each the contract of a function that does nothing.
 
+ghost use Rattle.trace_text.specs.Steps.{TraceReadsInSteps};
 ghost use Rattle.trace_text.specs.Laws.{LineIsSpelledOrBad, TraceIsSpelledOrBad, SpelledIsNotBad, SpellsOneTrace, ShowsOneBadLine};
 
 /// A line is spelled in its place exactly where nothing is wrong with it.
@@ -25,4 +26,9 @@ pub fn spells_one_trace()
 /// Bytes have one first bad line at most.
 pub fn shows_one_bad_line()
     ensures { ShowsOneBadLine }
+{}
+
+/// What the readers give step by step is what the whole trace spells, or its first bad line.
+pub fn trace_reads_in_steps()
+    ensures { TraceReadsInSteps }
 {}

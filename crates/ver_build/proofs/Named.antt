@@ -20,7 +20,8 @@ use Rattle.ver_ast.specs.Nets.{names_of, widths_of, port_nets, regs, wires}
 use Rattle.ver_ast.specs.Spells.{HasItemNames, HasNames, atom_names, rhs_names}
 use Rattle.ver_ast.specs.Valid.{IsBlock}
 use Rattle.ver_build.specs.Built.{built}
-use Rattle.ver_build.specs.Rows.{net_rows, net_words, row_names, word_names, port_names}
+use Rattle.fir_net.specs.Rows.{net_rows, net_words, row_names, word_names}
+use Rattle.ver_build.specs.Ports.{port_names}
 use Rattle.ver_build.specs.Named.{Named, leaf_names}
 use Rattle.ver_build.proofs.Members.{in_map, in_left, in_right, in_either, all_at, all_from, all_among, all_joined, all_mapped}
 use Rattle.ver_build.proofs.Names.{Names}

@@ -15,7 +15,7 @@ use Rattle.ver_ast.specs.declared.tree.Net.{Net}
 use Rattle.ver_ast.specs.declared.tree.Port.{Port}
 use Rattle.ver_ast.specs.Nets.{Sized, port_net, port_clock, input_net, output_net, item_net, inputs, outputs, clocks, port_nets, wires, regs, nets, assigns, blocks, names_of}
 use Rattle.ver_build.specs.Built.{leaf_port, port_of}
-use Rattle.ver_build.specs.Rows.{port_names}
+use Rattle.ver_build.specs.Ports.{port_names}
 use Rattle.ver_build.proofs.Names.{Names, Each, zipped, map_zipped, flat_zipped}
 use Rattle.ver_build.proofs.Parts.{LeafNamed, NodeNamed, leaves_named, nodes_named, role_registers, leaf_registers, node_net, registers_of, wires_of, assigns_of, blocks_of, in_parts}
 use Rattle.ver_build.proofs.ItemLists.{net_sized, registers_among, wires_among, nets_among, assigns_among, blocks_among}

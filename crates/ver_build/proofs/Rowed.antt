@@ -15,7 +15,7 @@ use Rattle.ver_ast.specs.declared.tree.Signal.TheVariants.{Bits}
 use Rattle.ver_ast.specs.declared.tree.Port.{Port}
 use Rattle.ver_ast.specs.Nets.{Sized, widths_of}
 use Rattle.ver_build.specs.Built.{leaf_port, port_of}
-use Rattle.ver_build.specs.Rows.{Row, row, Word, word, role_row, role_word, row_names, row_kinds, word_names, word_widths, PortKind}
+use Rattle.fir_net.specs.Rows.{Row, row, Word, word, role_row, role_word, row_names, row_kinds, word_names, word_widths, PortKind}
 use Rattle.ver_build.proofs.Names.{Names, Each, zipped, map_zipped, same_zipped}
 use Rattle.ver_build.proofs.Parts.{BitsNamed, LeafNamed}
 use Rattle.ver_build.proofs.LeafKinds.{is_register, sized_if, picked_sized, ports_then_registers}

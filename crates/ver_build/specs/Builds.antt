@@ -9,7 +9,7 @@ use Rattle.ver_ast.specs.Allows.{VAllows}
 use Rattle.fir_net.specs.declared.net.FlatNet.{FlatNet}
 use Rattle.fir_net.specs.Settled.{shape as net_shape}
 use Rattle.fir_net.specs.Allows.{Allows as NetAllows}
-use Rattle.ver_build.specs.Rows.{net_rows, net_words}
+use Rattle.fir_net.specs.Rows.{net_rows, net_words}
 use Rattle.ver_build.specs.Named.{Named}
 
 pub record Builds (net : FlatNet) (v : Verilog) : Type 0 where

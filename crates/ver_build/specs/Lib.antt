@@ -1,5 +1,6 @@
-pub mod Rows
+pub mod Ports
 pub mod Named
 pub mod Built
 pub mod Builds
 pub mod HeldView
+pub mod Laws

@@ -7,7 +7,8 @@ use Rattle.ver_ast.specs.declared.tree.Verilog.{Verilog}
 use Rattle.ver_ast.specs.Spells.{HasNames}
 use Rattle.ver_ast.specs.Nets.{names_of, widths_of, regs, wires}
 use Rattle.fir_net.specs.Names.{AreNamed, AreInner, module_name}
-use Rattle.ver_build.specs.Rows.{Row, Word, row_names, row_kinds, word_names, word_widths, port_kinds, port_names}
+use Rattle.fir_net.specs.Rows.{Row, Word, row_names, row_kinds, word_names, word_widths}
+use Rattle.ver_build.specs.Ports.{port_kinds, port_names}
 
 -- the names of ports and registers
 abbrev pub leaf_names : Verilog → List (List ℕ)

@@ -8,9 +8,11 @@ mod atoms;
 mod building;
 mod held;
 mod items;
+mod laws;
 mod right_sides;
 
 pub use building::build;
+pub use laws::names_are_for_rows;
 
 #[cfg(test)]
 mod tests;

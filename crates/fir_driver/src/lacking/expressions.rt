@@ -8,10 +8,10 @@ ghost use Rattle.fir_driver.specs.Lacked.{lack_of};
 ghost use Rattle.fir_driver.specs.Lacking.{lacking_expression, lacking_operands, lacking_part, literal_word};
 
 use super::{Lack, told};
-use crate::operator_word::operator_word;
 use crate::spot::Spot;
 use fir_ast::{Expr, Literal, Part, Reference};
 use fir_bits::PrimOp;
+use fir_check::operator_word;
 
 /// The first part of the reference.
 pub fn lacking_part(reference: &Reference) -> Option<Lack<'_>>

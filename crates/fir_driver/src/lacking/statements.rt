@@ -9,9 +9,9 @@ ghost use Rattle.fir_driver.specs.Options.{or_else};
 use super::expressions::{lacking_expression, lacking_part};
 use super::types::{is_register_type, type_word};
 use super::{Lack, told};
-use crate::expression_place::place_of;
 use crate::spot::Spot;
 use fir_ast::{Expr, Reference, Register, RegisterReset, Stmt};
+use fir_check::place_of;
 
 /// The type of a register.
 fn lacking_register_type(register: &Register) -> Option<Lack<'_>>

@@ -1,0 +1,5 @@
+pub mod Checks
+pub mod Firsts
+pub mod Tabulated
+pub mod AskedWidths
+pub mod Groups

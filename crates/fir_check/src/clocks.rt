@@ -1,0 +1,88 @@
+//! Faults behind a register's comma: of the names there, E08, and of what is no clock, E12 (FIRRTL spec,
+//! "Registers").
+
+ghost use Rattle.std.specs.Prelude.{◌≡◌, IfOk};
+ghost use Rattle.fir_ast.specs.View.{expr_of};
+ghost use Rattle.fir_meaning.specs.Scopes.{Scope, look_up};
+ghost use Rattle.fir_meaning.specs.NameFaults.{names_in_clock};
+ghost use Rattle.fir_meaning.specs.TypeFaults.{clock_found, clock_type, no_clock, place_of};
+ghost use Rattle.fir_check.specs.Firsts.{first_of};
+ghost use Rattle.fir_check.specs.Groups.{clock_faults};
+ghost use Rattle.fir_check.specs.Tabulated.{Tabulates, printed_of};
+
+use crate::expression_place::place_of;
+use crate::expressions::walk;
+use crate::group::Group;
+use crate::names::unclocked;
+use crate::printed::{Printed, printed_type};
+use crate::scope::Table;
+use fir_ast::{Expr, FirFault, Place, Ty};
+use fir_base::{MemoryOut, Name, Seq};
+use std::alloc::Global;
+
+/// The first fault of the group in what stands behind a register's comma.
+pub fn in_clock(
+    alloc: Global,
+    group: Group,
+    table: &Table,
+    clock: &Expr,
+) -> Result<Option<FirFault>, MemoryOut>
+    ensures { IfOk result (λ f. (scope : Scope) → Tabulates table.now scope → f ≡ first_of (clock_faults group scope (expr_of clock.now))) }
+{
+    match group {
+        Group::Names => names_in_clock(alloc, table, clock),
+        Group::Types => no_clock(alloc, clock_type(table, clock), place_of(clock)),
+        Group::Widths | Group::Legality => {
+            walk(alloc, group, table, clock, &mut Vec::new(alloc))
+        }
+    }
+}
+
+/// The first fault of names there, where a clock may be named if it stands alone.
+fn names_in_clock(alloc: Global, table: &Table, clock: &Expr) -> Result<Option<FirFault>, MemoryOut>
+    ensures { IfOk result (λ f. (scope : Scope) → Tabulates table.now scope → f ≡ first_of (names_in_clock scope (expr_of clock.now))) }
+{
+    match clock {
+        Expr::Ref(reference) => unclocked(alloc, table, reference.place, &reference.name),
+        Expr::Literal(_) | Expr::Op(_, _, _, _) | Expr::Mux(_, _, _, _) | Expr::Validif(_, _, _) =>
+            { walk(alloc, Group::Names, table, clock, &mut Vec::new(alloc)) }
+    }
+}
+
+/// The fault of what is there at this place, and is no clock.
+fn no_clock(
+    alloc: Global,
+    found: Option<Printed>,
+    place: Place,
+) -> Result<Option<FirFault>, MemoryOut>
+    ensures { IfOk result (λ f. f ≡ first_of (no_clock (printed_of found) place)) }
+{
+    match found {
+        Some(Printed::UInt(width)) => {
+            let types = vec![in alloc; Ty::UInt(width)]?;
+            Ok(Some(FirFault::Kinds(place, Seq::from_vec(types))))
+        }
+        Some(Printed::Clock) | None => Ok(None),
+    }
+}
+
+/// The type of what is there.
+fn clock_type(table: &Table, clock: &Expr) -> Option<Printed>
+    ensures { (scope : Scope) → Tabulates table.now scope → printed_of result ≡ clock_type scope (expr_of clock.now) }
+{
+    match clock {
+        Expr::Ref(reference) => clock_found(table, &reference.name),
+        Expr::Literal(_) | Expr::Op(_, _, _, _) | Expr::Mux(_, _, _, _) | Expr::Validif(_, _, _) =>
+            { printed_type(table, clock) }
+    }
+}
+
+/// The type of a name there.
+fn clock_found(table: &Table, name: &Name) -> Option<Printed>
+    ensures { (scope : Scope) → Tabulates table.now scope → printed_of result ≡ clock_found (look_up scope name.now) }
+{
+    match table.get(name) {
+        Some(declared) if declared.kind.is_clock_or_readable() => declared.printed,
+        _ => None,
+    }
+}

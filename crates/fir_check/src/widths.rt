@@ -1,0 +1,144 @@
+//! Counted widths, and their faults: E19 (FIRRTL spec, "Width Inference"). Widths count up to 128, and all
+//! that is over that is 129.
+
+ghost use Rattle.std.specs.Prelude.{◌≡◌, IfOk, slice_index};
+ghost use Rattle.fir_bits.specs.Types.{signed_of};
+ghost use Rattle.fir_bits.specs.Forms.{first_type};
+ghost use Rattle.fir_ast.specs.View.{type_of};
+ghost use Rattle.fir_meaning.specs.Operations.{counted, operation_type};
+ghost use Rattle.fir_meaning.specs.Scopes.{literal_type, written_type};
+ghost use Rattle.fir_meaning.specs.WidthFaults.{over_width};
+ghost use Rattle.fir_check.specs.Firsts.{first_of};
+ghost use Rattle.fir_check.specs.AskedWidths.{asked};
+
+use fir_ast::{FirFault, Literal, Place, Ty};
+use fir_base::{MemoryOut, Name};
+use fir_bits::{NumTy, OpFault, PrimOp, result_type};
+use std::alloc::Global;
+
+/// The width of all that is over 128 bits.
+const OVER: u32 = 129;
+
+/// The type of what has no bits.
+pub const NO_TYPE: NumTy = NumTy {
+    signed: false,
+    width: 0,
+};
+
+/// The fault of a place whose width is over 128 bits.
+pub fn over_width(
+    alloc: Global,
+    width: u32,
+    place: Place,
+    what: &[u8],
+) -> Result<Option<FirFault>, MemoryOut>
+    ensures { IfOk result (λ f. f ≡ first_of (over_width width place what.now)) }
+{
+    if width == OVER {
+        Ok(Some(FirFault::Over(place, Name::new(alloc, what)?)))
+    } else {
+        Ok(None)
+    }
+}
+
+/// The type of the first operand.
+pub fn first_type(types: &[NumTy]) -> NumTy
+    ensures { result ≡ first_type types.now }
+{
+    match types.first() {
+        Some(first) => *first,
+        None => NO_TYPE,
+    }
+}
+
+/// A written width, or 129 where it is greater.
+fn counted(width: u128) -> u32
+    ensures { result ≡ counted width }
+{
+    width.min(u128::from(OVER)) as u32
+}
+
+/// The type of a literal.
+pub fn literal_type(literal: &Literal) -> NumTy
+    ensures { result ≡ literal_type literal.now }
+{
+    NumTy {
+        signed: literal.signed,
+        width: counted(literal.width.unwrap_or(0)),
+    }
+}
+
+/// The type that is written.
+pub fn written_type(ty: &Ty) -> NumTy
+    ensures { result ≡ written_type (type_of ty.now) }
+{
+    match ty {
+        Ty::UInt(width) => NumTy {
+            signed: false,
+            width: counted(width.unwrap_or(0)),
+        },
+        Ty::SInt(width) => NumTy {
+            signed: true,
+            width: counted(width.unwrap_or(0)),
+        },
+        Ty::Clock | Ty::Reset | Ty::AsyncReset | Ty::Bundle(_) | Ty::Vector(_, _) => NO_TYPE,
+    }
+}
+
+/// Whether the operation's result is an SInt, where the first operand is one or not.
+fn is_signed(op: PrimOp, signed: bool) -> bool
+    ensures { result ≡ signed_of op signed }
+{
+    match op {
+        PrimOp::Add | PrimOp::Sub | PrimOp::Mul | PrimOp::Div | PrimOp::Rem => signed,
+        PrimOp::Pad | PrimOp::Shl | PrimOp::Shr | PrimOp::Dshl | PrimOp::Dshr => signed,
+        PrimOp::Cvt | PrimOp::Neg | PrimOp::AsSInt => true,
+        PrimOp::Lt | PrimOp::Leq | PrimOp::Gt | PrimOp::Geq | PrimOp::Eq | PrimOp::Neq => false,
+        PrimOp::Not | PrimOp::And | PrimOp::Or | PrimOp::Xor => false,
+        PrimOp::Andr | PrimOp::Orr | PrimOp::Xorr | PrimOp::Cat => false,
+        PrimOp::Bits | PrimOp::Head | PrimOp::Tail | PrimOp::AsUInt | PrimOp::AsAsyncReset => false,
+    }
+}
+
+/// The width for which the integers ask, where they are not legal. Only four operations have such.
+fn asked(op: PrimOp, n: u128, m: u128) -> u32
+    ensures { result ≡ asked op n m }
+{
+    match op {
+        PrimOp::Bits => {
+            if m > n {
+                0
+            } else {
+                counted(n - m).min(128) + 1
+            }
+        }
+        PrimOp::Head => counted(n),
+        PrimOp::AsAsyncReset => 1,
+        _ => 0,
+    }
+}
+
+/// The type of an operation's result, where one that its integers make illegal has a type all the same.
+pub fn operation_type(op: PrimOp, types: &[NumTy], integers: &[u128]) -> NumTy
+    ensures { result ≡ operation_type op types.now integers.now }
+{
+    match result_type(op, types, integers) {
+        Ok(holds) => holds,
+        Err(OpFault::Kinds) => NO_TYPE,
+        Err(OpFault::Over) => NumTy {
+            signed: is_signed(op, first_type(types).signed),
+            width: OVER,
+        },
+        Err(OpFault::Legality) => NumTy {
+            signed: is_signed(op, first_type(types).signed),
+            width: asked(op, integer(integers, 0), integer(integers, 1)),
+        },
+    }
+}
+
+/// The integer at a place, or 0.
+fn integer(integers: &[u128], i: usize) -> u128
+    ensures { result ≡ slice_index integers.now i }
+{
+    integers.get(i).copied().unwrap_or(0)
+}

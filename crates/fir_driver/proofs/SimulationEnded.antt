@@ -1,0 +1,167 @@
+-- From how the parts of a simulation end to what the whole does.
+use Rattle.std.proofs.Common.{◌≡◌, ℕ, ◌<◌, List, [], ◌∷◌, length, Option, Bool, IfSome, ◌⊎◌, inl, inr, refl, sym, ap, ◌∙◌, subst}
+use Rattle.fir_base.specs.Ticks.{Tick, Shown, Allowance, IsRun}
+use Rattle.fir_io.specs.Ports.{FilesSeen, SinkSeen, Rose, Grew}
+use Rattle.fir_ast.specs.Circuits.{CircuitTree}
+use Rattle.fir_meaning.specs.Leaves.{outputs, widths}
+use Rattle.fir_meaning.specs.Allows.{Allows}
+use Rattle.fir_net.specs.declared.net.FlatNet.{FlatNet}
+use Rattle.fir_net.specs.Settled.{shape as net_shape}
+use Rattle.fir_net.specs.Allows.{Allows as NetAllows}
+use Rattle.trace_text.specs.Shapes.{TraceShape}
+use Rattle.trace_text.specs.RunLines.{run_text}
+use Rattle.fir_driver.specs.declared.status.Status.{Status}
+use Rattle.fir_driver.specs.declared.status.Status.TheVariants.{Done, Refused, Usage, Unread, Unwritten, NoMemory, BadTrace, TooLong}
+use Rattle.fir_driver.specs.Command.{Simulated}
+use Rattle.fir_driver.specs.Messages.{unread_line, too_long_line, memory_line}
+use Rattle.fir_driver.specs.Refusals.{Refuses}
+use Rattle.fir_driver.specs.Headline.{Outside, outside, limit, Kept}
+use Rattle.fir_driver.specs.Endings.{Said, Complained}
+use Rattle.fir_driver.specs.Simulations.{Prints}
+use Rattle.fir_driver.specs.Simulates.{IsRead, IsAsked, DueAtOnce, BeganTicks, MetBadLine, Simulates}
+use Rattle.fir_driver.specs.Running.{Ran}
+use Rattle.fir_driver.specs.Made.{IsMadeOf}
+use Rattle.fir_driver.specs.SimulationEndings.{BeganLines, MetBadly, OfTrace, NotRead, OfText}
+use Rattle.fir_driver.proofs.Ended.{kept_same}
+
+-- what one allows the other allows too
+run_of : (p q : Allowance) → ((state : List ℕ) (tick : Tick) (shown after : List ℕ) → p state tick shown after → q state tick shown after)
+    → (state : List ℕ) (ticks : List Tick) (shown : List Shown) → IsRun p state ticks shown → IsRun q state ticks shown
+run_of p q h state [] [] r = tt
+run_of p q h state [] (s ∷ shown) r = absurd r
+run_of p q h state (t ∷ ticks) [] r = absurd r
+run_of p q h state (t ∷ ticks) (s ∷ shown) r = (h state t s.outputs s.state r.0, run_of p q h s.state ticks shown r.1)
+
+-- a run of the net is one of the circuit that it was made of
+pub prints : (text : List ℕ) (net : FlatNet) (s : TraceShape) (with_state : Bool) (Says : TraceShape → List ℕ → List Tick → Type 0) (printed : List ℕ) → IsMadeOf text net s
+    → Ran net s with_state Says printed → Prints text with_state Says printed
+prints text net s with_state Says printed made ran =
+    let c : CircuitTree = made.circuit in
+    let run : IsRun (Allows c) ran.init ran.ticks ran.shown =
+    run_of (NetAllows net) (Allows c) (λ state tick shown after. (made.lowered.allows state tick shown after).0) ran.init ran.ticks ran.shown ran.run in
+    record {
+      circuit = c;
+      taken = made.taken;
+      only_circuit = made.only_circuit;
+      one = made.one;
+      of_trace = s;
+      shaped = made.shaped;
+      init = ran.init;
+      ticks = ran.ticks;
+      said = ran.said;
+      shown = ran.shown;
+      run = run;
+      only_run = λ others other. made.runs_once ran.init ran.ticks ran.shown others run other;
+      lines =
+          ran.lines
+          ∙ ap (λ (ws : List ℕ). run_text ws (net_shape net).state with_state ran.shown) made.lowered.output_widths
+          ∙ ap (λ x. run_text (widths (outputs c)) x.state with_state ran.shown) made.lowered.shapes;
+    }
+
+module _ (s : Simulated) (files files' : FilesSeen) (out out' err err' : SinkSeen) where
+  abbrev before : Outside
+  before = outside files out err
+
+  abbrev after : Outside
+  after = outside files' out' err'
+
+  abbrev Ends : Status → Type 0
+  Ends = Simulates s before after
+
+  kept : out' ≡ out → Kept out out'
+  kept same = subst (λ o. Kept out o) (sym same) (kept_same out)
+
+  -- a line that was due before the ticks was put, or was not
+  said_at_once : (due : Status) (line : List ℕ) (ending : Status) → DueAtOnce s before after due line → out' ≡ out → (Grew err err' line → Ends due) → Said line due err err' ending → Ends ending
+  said_at_once due line ending cause same whole (inl p) = subst Ends (sym p.0) (whole p.1)
+  said_at_once due line ending cause same whole (inr (inl p)) = subst Ends (sym p.0) (inr (line, p.1, p.2, inl (due, cause, kept same)))
+  said_at_once due line ending cause same whole (inr (inr p)) = subst Ends (sym p.0) (inl (kept same), inr p.1)
+
+  -- the line on memory was put, or was not
+  memory_said : (ending : Status) → (Kept out out' ⊎ BeganTicks s before after) → Said memory_line NoMemory err err' ending → Ends ending
+  memory_said ending holds (inl p) = subst Ends (sym p.0) (holds, inl p.1)
+  memory_said ending holds (inr (inl p)) = subst Ends (sym p.0) (inr (memory_line, p.1, p.2, inr (inr (refl, holds))))
+  memory_said ending holds (inr (inr p)) = subst Ends (sym p.0) (holds, inr p.1)
+
+  told_at_once : (due : Status) (line : List ℕ) (ending : Status) → DueAtOnce s before after due line → out' ≡ out → (Grew err err' line → Ends due) → Complained line due err err' ending → Ends ending
+  told_at_once due line ending cause same whole (inl h) = said_at_once due line ending cause same whole h
+  told_at_once due line ending cause same whole (inr h) = memory_said ending (inl (kept same)) h
+
+  -- a file was not read
+  pub not_read : (name : List ℕ) (ending : Status) → IsAsked s before name → NotRead name before after ending → Ends ending
+  not_read name ending asked (same, inl (rose, h)) =
+      told_at_once Unread (unread_line name) ending (name, asked, rose, refl) same (λ g. (unread_line name, (name, asked, rose, refl), same, g)) h
+  not_read name ending asked (same, inr (inl (long, h))) =
+      told_at_once TooLong (too_long_line name) ending (name, asked, long.0, long.1, refl) same (λ g. (too_long_line name, (name, asked, long.0, long.1, refl), same, g)) h
+  not_read name ending asked (same, inr (inr h)) = memory_said ending (inl (kept same)) h
+
+  module _ (text : List ℕ) (read_text : IsRead s.circuit before text) where
+    -- the text was refused
+    refused : (line : List ℕ) (ending : Status) → Refuses text line → out' ≡ out → Complained line Refused err err' ending → Ends ending
+    refused line ending why same h = told_at_once Refused line ending (text, read_text, why) same (λ g. (line, (text, read_text, why), same, g)) h
+
+    module _ (net : FlatNet) (shape_of : TraceShape) (made : IsMadeOf text net shape_of) (trace : List ℕ) (read_trace : IsRead s.trace before trace) where
+      began : BeganLines trace net shape_of s.with_state out out' → BeganTicks s before after
+      began h = record {
+        text = text;
+        trace = trace;
+        printed = h.0;
+        read_text = read_text;
+        read_trace = read_trace;
+        prints = prints text net shape_of s.with_state _ h.0 made h.1;
+        front = h.2;
+      }
+
+      met : (line : List ℕ) → MetBadly trace net shape_of s.with_state out out' line → MetBadLine s before after line
+      met line h = record {
+        text = text;
+        trace = trace;
+        printed = h.0;
+        read_text = read_text;
+        read_trace = read_trace;
+        prints = prints text net shape_of s.with_state _ h.0 made h.1;
+        whole = h.2;
+      }
+
+      began_or_kept : (Kept out out' ⊎ BeganLines trace net shape_of s.with_state out out') → Kept out out' ⊎ BeganTicks s before after
+      began_or_kept (inl k) = inl k
+      began_or_kept (inr b) = inr (began b)
+
+      -- the ticks were run
+      traced : (ending : Status) → OfTrace trace net shape_of s.with_state out out' err err' ending → Ends ending
+      traced Done h = (text, trace, h.0, read_text, read_trace, prints text net shape_of s.with_state _ h.0 made h.1, h.2, h.3)
+      traced BadTrace h = (h.0, met h.0 h.1, h.2)
+      traced Unwritten (inl h) = inl (began h.0, h.1, h.2)
+      traced Unwritten (inr (line, rose, front, inl bad)) = inr (line, rose, front, inr (inl (met line bad)))
+      traced Unwritten (inr (line, rose, front, inr memory)) = inr (line, rose, front, inr (inr (memory.0, began_or_kept memory.1)))
+      traced NoMemory h = (began_or_kept h.0, h.1)
+      traced Refused h = absurd h
+      traced Usage h = absurd h
+      traced Unread h = absurd h
+      traced TooLong h = absurd h
+
+-- the files before the trace was asked tell what they told, and none failed
+pub record AsBefore (files between : FilesSeen) : Type 0 where
+  pub told : between.told ≡ files.told
+  pub faults : between.faults ≡ files.faults
+
+module _ (s : Simulated) (files between files' : FilesSeen) (out out' err err' : SinkSeen) (as_before : AsBefore files between) where
+  read_before : (name bytes : List ℕ) → IsRead name (outside between out err) bytes → IsRead name (outside files out err) bytes
+  read_before name bytes h =
+      record { told = subst (λ (t : List ℕ → Option (List ℕ)). IfSome (t name) (λ content. bytes ≡ content)) as_before.told h.told; short = h.short }
+
+  not_read_before : (name : List ℕ) (ending : Status) → NotRead name (outside between out err) (outside files' out' err') ending → NotRead name (outside files out err) (outside files' out' err') ending
+  not_read_before name ending (same, inl (rose, h)) = (same, inl (subst (λ n. Rose n files'.faults) as_before.faults rose, h))
+  not_read_before name ending (same, inr (inl (long, h))) =
+      (same, inr (inl ((long.0, subst (λ (t : List ℕ → Option (List ℕ)). IfSome (t name) (λ content. limit < length content)) as_before.told long.1), h)))
+  not_read_before name ending (same, inr (inr h)) = (same, inr (inr h))
+
+  -- what was done with the text of the circuit is what is done for the words
+  pub text_ended : (text : List ℕ) (ending : Status) → IsRead s.circuit (outside files out err) text
+      → OfText text s.trace s.with_state (outside between out err) (outside files' out' err') ending → Simulates s (outside files out err) (outside files' out' err') ending
+  text_ended text ending read (inl (net, shape_of, made, inl (trace, read_trace, h))) =
+      traced s files files' out out' err err' text read net shape_of made trace (read_before s.trace trace read_trace) ending h
+  text_ended text ending read (inl (net, shape_of, made, inr h)) =
+      not_read s files files' out out' err err' s.trace ending (inr (refl, text, read, made.circuit, made.taken)) (not_read_before s.trace ending h)
+  text_ended text ending read (inr (inl (line, why, same, h))) = refused s files files' out out' err err' text read line ending why same h
+  text_ended text ending read (inr (inr (same, h))) = memory_said s files files' out out' err err' ending (inl (kept s files files' out out' err err' same)) h

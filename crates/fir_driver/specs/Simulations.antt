@@ -1,0 +1,51 @@
+-- What a simulation prints.
+-- The circuit of a text runs from the initial state of a trace through its ticks, and each tick gives a line.
+use Rattle.std.specs.Prelude.{◌≡◌, ℕ, List, Bool, ◌⊎◌}
+use Rattle.fir_base.specs.Ticks.{Tick, Shown}
+use Rattle.fir_ast.specs.Circuits.{CircuitTree}
+use Rattle.fir_parse.specs.Spells.{Spells}
+use Rattle.fir_meaning.specs.Leaves.{outputs, widths, shape}
+use Rattle.fir_meaning.specs.Allows.{One, Run}
+use Rattle.trace_text.specs.declared.fault.TraceFault.{TraceFault}
+use Rattle.trace_text.specs.Lines.{AreLines}
+use Rattle.trace_text.specs.Shapes.{TraceShape}
+use Rattle.trace_text.specs.TraceSpells.{LinesSpell, TraceSpells}
+use Rattle.trace_text.specs.BadLine.{BadLine}
+use Rattle.trace_text.specs.FaultTexts.{fault_text}
+use Rattle.trace_text.specs.RunLines.{run_text}
+use Rattle.fir_driver.specs.Emits.{Takes}
+use Rattle.fir_driver.specs.Traces.{IsTraceShape}
+
+-- the lines of the one run of the circuit over what a trace says
+pub record Prints (text : List ℕ) (with_state : Bool) (Says : TraceShape → List ℕ → List Tick → Type 0) (printed : List ℕ) : Type 0 where
+  pub circuit : CircuitTree
+  pub taken : Takes text circuit
+  pub only_circuit : (other : CircuitTree) → Spells text other → other ≡ circuit
+  pub one : One circuit
+  pub of_trace : TraceShape
+  pub shaped : IsTraceShape circuit of_trace
+  pub init : List ℕ
+  pub ticks : List Tick
+  pub said : Says of_trace init ticks
+  pub shown : List Shown
+  pub run : Run circuit init ticks shown
+  pub only_run : (others : List Shown) → Run circuit init ticks others → others ≡ shown
+  pub lines : printed ≡ run_text (widths (outputs circuit)) (shape circuit).state with_state shown
+
+-- the whole trace is spelled
+abbrev pub PrintsWhole : List ℕ → List ℕ → Bool → List ℕ → Type 0
+PrintsWhole text trace with_state printed = Prints text with_state (TraceSpells trace) printed
+
+-- the trace has a bad line, and says this before it; the line that tells so
+abbrev pub SaysBadly : List ℕ → List ℕ → TraceShape → List ℕ → List Tick → Type 0
+SaysBadly trace line s init ticks = (fault : TraceFault) × (bad : BadLine trace s init ticks fault) × (line ≡ fault_text fault bad.bad)
+
+abbrev pub PrintsBadly : List ℕ → List ℕ → Bool → List ℕ → List ℕ → Type 0
+PrintsBadly text trace with_state line printed = Prints text with_state (SaysBadly trace line) printed
+
+-- the lines at the front of the trace say this
+abbrev pub SaysFront : List ℕ → TraceShape → List ℕ → List Tick → Type 0
+SaysFront trace s init ticks = (lines : List (List ℕ)) × AreLines trace lines × LinesSpell s lines init ticks
+
+abbrev pub PrintsFront : List ℕ → List ℕ → Bool → List ℕ → Type 0
+PrintsFront text trace with_state printed = Prints text with_state (SaysFront trace) printed

@@ -1,0 +1,94 @@
+-- A lowering with one more port, expression or statement.
+use Rattle.std.proofs.Common.{◌≡◌, ℕ, ◌+◌, ◌<◌, ◌≤◌, List, [], ◌∷◌, ◌++◌, map, take, length, get_or, refl, sym, ap, ◌∙◌, arith, length-take}
+use Rattle.std.proofs.lemmas.List.{map_more, length-map}
+use Rattle.fir_ast.specs.declared.circuit.Circuit.{Circuit}
+use Rattle.fir_ast.specs.declared.circuit.Module.{Module}
+use Rattle.fir_ast.specs.declared.circuit.Port.{Port}
+use Rattle.fir_ast.specs.declared.expressions.Expr.{Expr}
+use Rattle.fir_ast.specs.declared.statements.Stmt.{Stmt}
+use Rattle.fir_ast.specs.Expressions.{Expression}
+use Rattle.fir_ast.specs.Statements.{Statement, register, node, connect, Block, done, then}
+use Rattle.fir_ast.specs.Circuits.{PortTree}
+use Rattle.fir_ast.specs.View.{circuit_of, module_of, port_of, expr_of, expressions_of, stmt_of, block_of}
+use Rattle.fir_net.specs.declared.net.FlatNet.{FlatNet}
+use Rattle.fir_net.specs.declared.net.Leaf.{Leaf}
+use Rattle.fir_net.specs.declared.net.Node.{Node}
+use Rattle.fir_lower.specs.Lowered.{Binding, nodes_with, bound_with, nodes_with_each, bounds_with_each, Lowering, with_statement, with_body, input_binding, port_bindings, lowered_module, lowered_first, lowered}
+
+-- the list of what the first i + 1 are seen as
+mapped_more : {A B : Type 0} → (f : A → B) (xs : List A) (i : ℕ) (x : A) → i < length xs → x ≡ get_or xs i x → map f (take (i + 1) xs) ≡ map f (take i xs) ++ f x ∷ []
+mapped_more f xs i x lt is = map_more f xs i x lt ∙ ap (λ y. map f (take i xs) ++ f y ∷ []) (sym is)
+
+nodes_push : (bs : List Binding) (ns : List Node) (es : List Expression) (e : Expression)
+    → nodes_with_each bs ns (expressions_of (es ++ e ∷ [])) ≡ nodes_with bs (nodes_with_each bs ns (expressions_of es)) e
+nodes_push bs ns [] e = refl
+nodes_push bs ns (x ∷ es) e = nodes_push bs (nodes_with bs ns x) es e
+
+bounds_push : (bs : List Binding) (ns : List Node) (es : List Expression) (e : Expression)
+    → bounds_with_each bs ns (expressions_of (es ++ e ∷ [])) ≡ bounds_with_each bs ns (expressions_of es) ++ bound_with bs (nodes_with_each bs ns (expressions_of es)) e ∷ []
+bounds_push bs ns [] e = refl
+bounds_push bs ns (x ∷ es) e = ap (λ l. bound_with bs ns x ∷ l) (bounds_push bs (nodes_with bs ns x) es e)
+
+pub nodes_more : (bs : List Binding) (ns : List Node) (es : List Expr) (i : ℕ) (e : Expr) → i < length es → e ≡ get_or es i e
+    → nodes_with_each bs ns (expressions_of (map expr_of (take (i + 1) es))) ≡ nodes_with bs (nodes_with_each bs ns (expressions_of (map expr_of (take i es)))) (expr_of e)
+nodes_more bs ns es i e lt is = ap (λ l. nodes_with_each bs ns (expressions_of l)) (mapped_more expr_of es i e lt is) ∙ nodes_push bs ns (map expr_of (take i es)) (expr_of e)
+
+pub bounds_more : (bs : List Binding) (ns : List Node) (es : List Expr) (i : ℕ) (e : Expr) → i < length es → e ≡ get_or es i e
+    → bounds_with_each bs ns (expressions_of (map expr_of (take (i + 1) es)))
+    ≡ bounds_with_each bs ns (expressions_of (map expr_of (take i es))) ++ bound_with bs (nodes_with_each bs ns (expressions_of (map expr_of (take i es)))) (expr_of e) ∷ []
+bounds_more bs ns es i e lt is = ap (λ l. bounds_with_each bs ns (expressions_of l)) (mapped_more expr_of es i e lt is) ∙ bounds_push bs ns (map expr_of (take i es)) (expr_of e)
+
+body_push : (l : Lowering) (ss : List Statement) (s : Statement) → with_body l (block_of (ss ++ s ∷ [])) ≡ with_statement (with_body l (block_of ss)) s
+body_push l [] s = refl
+body_push l (x ∷ ss) s = body_push (with_statement l x) ss s
+
+pub body_more : (l : Lowering) (ss : List Stmt) (i : ℕ) (s : Stmt) → i < length ss → s ≡ get_or ss i s
+    → with_body l (block_of (map stmt_of (take (i + 1) ss))) ≡ with_statement (with_body l (block_of (map stmt_of (take i ss)))) (stmt_of s)
+body_more l ss i s lt is = ap (λ b. with_body l (block_of b)) (mapped_more stmt_of ss i s lt is) ∙ body_push l (map stmt_of (take i ss)) (stmt_of s)
+
+-- what stands before the body of a module of these ports
+abbrev pub begun : List PortTree → Lowering
+begun ps = record { ports = length ps; bindings = port_bindings [] 0 ps; nodes = []; drivers = []; registers = [] }
+
+statement_ports : (l : Lowering) (s : Statement) → (with_statement l s).ports ≡ l.ports
+statement_ports l (register p n t c r) = refl
+statement_ports l (node p n e) = refl
+statement_ports l (connect p sink e) = refl
+statement_ports l s = refl
+
+-- a body adds no ports
+pub body_ports : (l : Lowering) (b : Block) → (with_body l b).ports ≡ l.ports
+body_ports l done = refl
+body_ports l ((then) s b) = body_ports (with_statement l s) b ∙ statement_ports l s
+
+bindings_push : (bs : List Binding) (k : ℕ) (ps : List PortTree) (p : PortTree) → port_bindings bs k (ps ++ p ∷ []) ≡ input_binding p.direction (k + length ps) p ++ port_bindings bs k ps
+bindings_push bs k [] p = let e : k ≡ k + 0 = omega arith in ap (λ j. input_binding p.direction j p ++ port_bindings bs k []) e
+bindings_push bs k (x ∷ ps) p =
+    let e : (k + 1) + length ps ≡ k + length (x ∷ ps) = omega arith in
+    bindings_push (input_binding x.direction k x ++ bs) (k + 1) ps p
+    ∙ ap (λ j. input_binding p.direction j p ++ port_bindings (input_binding x.direction k x ++ bs) (k + 1) ps) e
+
+pub bindings_more : (ps : List Port) (i : ℕ) (p : Port) → i < length ps → p ≡ get_or ps i p
+    → port_bindings [] 0 (map port_of (take (i + 1) ps)) ≡ input_binding p.direction i (port_of p) ++ port_bindings [] 0 (map port_of (take i ps))
+bindings_more ps i p lt is =
+    let long : 0 + length (map port_of (take i ps)) ≡ i = simp (length-map, length-take) (omega arith) in
+    ap (port_bindings [] 0) (mapped_more port_of ps i p lt is) ∙ bindings_push [] 0 (map port_of (take i ps)) (port_of p)
+    ∙ ap (λ j. input_binding p.direction j (port_of p) ++ port_bindings [] 0 (map port_of (take i ps))) long
+
+-- a circuit of no modules, and of a first module
+pub lowered_none : (c : Circuit) (name : List ℕ) (leaves : List Leaf) (nodes : List Node) (ms : List Module) → ms ≡ c.modules.items → length ms < 1 → name ≡ c.ident.name → leaves ≡ [] → nodes ≡ []
+    → (record { name = name; leaves = leaves; nodes = nodes }) ≡ lowered (circuit_of c)
+unfolding lowered
+lowered_none c name leaves nodes ms is lt n l d = rw (← is, n, l, d) (none ms lt)
+  where
+    none : (ms : List Module) → length ms < 1 → record { name = c.ident.name; leaves = []; nodes = [] } ≡ lowered_first c.ident.name (map module_of ms)
+    none [] lt = refl
+    none (m ∷ ms) lt = absurd (omega arith)
+
+pub lowered_some : (c : Circuit) (m : Module) (net : FlatNet) (ms : List Module) → ms ≡ c.modules.items → 1 ≤ length ms → m ≡ get_or ms 0 m → net ≡ lowered_module c.ident.name (module_of m) → net ≡ lowered (circuit_of c)
+unfolding lowered
+lowered_some c m net ms is le at e = rw (← is, e) (some ms le at)
+  where
+    some : (ms : List Module) → 1 ≤ length ms → m ≡ get_or ms 0 m → lowered_module c.ident.name (module_of m) ≡ lowered_first c.ident.name (map module_of ms)
+    some [] le at = absurd (omega arith)
+    some (x ∷ ms) le at = ap (λ y. lowered_module c.ident.name (module_of y)) at

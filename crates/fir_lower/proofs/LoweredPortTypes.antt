@@ -1,0 +1,27 @@
+-- The types, kinds and roles of clean ports.
+use Rattle.std.proofs.Common.{◌≡◌, ℕ, zero, suc, List, [], ◌∷◌, ◌++◌, Some, slice_get, refl, subst}
+use Rattle.fir_base.specs.declared.direction.Direction.{Direction}
+use Rattle.fir_base.specs.declared.direction.Direction.TheVariants as direction
+use Rattle.fir_ast.specs.Types.{DataType, clock}
+use Rattle.fir_ast.specs.Circuits.{PortTree}
+use Rattle.fir_meaning.specs.Scopes.{clock_input, Scope, port_kind, port_declared, written_type}
+use Rattle.fir_meaning.specs.Clean.{IsPortType, AreCleanPorts}
+use Rattle.fir_net.specs.declared.net.Role.TheVariants as role
+use Rattle.fir_lower.specs.Lowered.{Driver, leaf_width, port_role}
+use Rattle.fir_lower.proofs.LoweredTypes.{plain}
+
+pub port_type : (scope : Scope) (ps : List PortTree) → AreCleanPorts scope ps → (i : ℕ) (p : PortTree) → slice_get ps i ≡ Some p → IsPortType p.direction p.data_type
+port_type scope [] c i p h = cc
+port_type scope (q ∷ ps) c zero p h = let e : q ≡ p = cc in subst (λ (x : PortTree). IsPortType x.direction x.data_type) e c.0.type
+port_type scope (q ∷ ps) c (suc i) p h = port_type (scope ++ port_declared q ∷ []) ps c.1 i p h
+
+-- a port that is no clock has one width on both sides
+pub port_width : (d : Direction) (t : DataType) → IsPortType d t → (port_kind d t ≡ clock_input → ⊥) → leaf_width t ≡ (written_type t).width
+port_width direction.Input clock c n = absurd (n refl)
+port_width direction.Input t c n = (plain t c).width
+port_width direction.Output t c n = (plain t c).width
+
+pub port_no_clock : (d : Direction) (t : DataType) (ds : List Driver) (name : List ℕ) → (port_kind d t ≡ clock_input → ⊥) → port_role d t ds name ≡ role.Clock → ⊥
+port_no_clock direction.Input clock ds name n h = n refl
+port_no_clock direction.Input t ds name n h = cc
+port_no_clock direction.Output t ds name n h = cc

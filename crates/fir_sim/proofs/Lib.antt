@@ -1,0 +1,19 @@
+pub mod ShapeNames
+pub mod ShapeNumbers
+pub mod ShapeWords
+pub mod WholeShapes
+mod Typings
+pub mod NodeValues
+pub mod ClockNumbers
+pub mod Fits
+pub mod InTurn
+pub mod Lists
+pub mod Passing
+pub mod Placings
+pub mod PlanFacts
+pub mod PlanLists
+pub mod PlanPairs
+pub mod SettledValues
+pub mod Starting
+pub mod Ticking
+pub mod ValueBits

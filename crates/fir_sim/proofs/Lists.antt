@@ -1,0 +1,71 @@
+-- Elements of lists by their places, what holds of each, and lists whose elements are related in pairs.
+use Rattle.std.proofs.Common.{◌≡◌, ℕ, zero, suc, ◌<◌, List, [], ◌∷◌, ◌++◌, length, map, set, refl, ap, subst, arith, Some, unwrap_or}
+use Rattle.std.specs.Prelude.{slice_get}
+use Rattle.std.specs.List.{AllByRecursion, AllZip}
+
+pub all_at : {A : Type 0} → (P : A → Type 0) (xs : List A) → AllByRecursion P xs → (k : ℕ) (x : A) → slice_get xs k ≡ Some x → P x
+all_at P [] h k x e = cc
+all_at P (y ∷ xs) h zero x e = let same : y ≡ x = cc in subst P same h.0
+all_at P (y ∷ xs) h (suc k) x e = all_at P xs h.1 k x e
+
+-- the element at a place, or the other past the end
+pub all_or : {A : Type 0} → (P : A → Type 0) (xs : List A) (d : A) → AllByRecursion P xs → P d → (k : ℕ) → P (unwrap_or (slice_get xs k) d)
+all_or P [] d h other k = other
+all_or P (x ∷ xs) d h other zero = h.0
+all_or P (x ∷ xs) d h other (suc k) = all_or P xs d h.1 other k
+
+pub all_push : {A : Type 0} → (P : A → Type 0) (xs : List A) (x : A) → AllByRecursion P xs → P x → AllByRecursion P (xs ++ x ∷ [])
+all_push P [] x h p = (p, tt)
+all_push P (y ∷ xs) x h p = (h.0, all_push P xs x h.1 p)
+
+pub all_set : {A : Type 0} → (P : A → Type 0) (xs : List A) (k : ℕ) (x : A) → AllByRecursion P xs → P x → AllByRecursion P (set xs k x)
+all_set P [] k x h p = tt
+all_set P (y ∷ xs) zero x h p = (p, h.1)
+all_set P (y ∷ xs) (suc k) x h p = (h.0, all_set P xs k x h.1 p)
+
+pub all_map : {A : Type 0} → (P Q : A → Type 0) → ((x : A) → P x → Q x) → (xs : List A) → AllByRecursion P xs → AllByRecursion Q xs
+all_map P Q f [] h = tt
+all_map P Q f (x ∷ xs) h = (f x h.0, all_map P Q f xs h.1)
+
+pub get_set_same : {A : Type 0} → (xs : List A) (k : ℕ) (x : A) → k < length xs → slice_get (set xs k x) k ≡ Some x
+get_set_same [] k x h = absurd (omega arith)
+get_set_same (y ∷ xs) zero x h = refl
+get_set_same (y ∷ xs) (suc k) x h = get_set_same xs k x (omega arith)
+
+pub get_set_other : {A : Type 0} → (xs : List A) (k : ℕ) (x : A) (j : ℕ) → (k ≡ j → ⊥) → slice_get (set xs k x) j ≡ slice_get xs j
+get_set_other [] k x j h = refl
+get_set_other (y ∷ xs) zero x zero h = absurd (h refl)
+get_set_other (y ∷ xs) zero x (suc j) h = refl
+get_set_other (y ∷ xs) (suc k) x zero h = refl
+get_set_other (y ∷ xs) (suc k) x (suc j) h = get_set_other xs k x j (λ e. h (ap suc e))
+
+-- a change that keeps a value of the element keeps the list of these values
+pub map_set_same : {A : Type 0} → (f : A → ℕ) (xs : List A) (k : ℕ) (x : A) → slice_get (map f xs) k ≡ Some (f x) → map f (set xs k x) ≡ map f xs
+map_set_same f [] k x h = refl
+map_set_same f (y ∷ xs) zero x h = let same : f y ≡ f x = cc in rw same refl
+map_set_same f (y ∷ xs) (suc k) x h = ap (λ r. f y ∷ r) (map_set_same f xs k x h)
+
+-- pairs
+pub pairs_joined : {A B : Type 0} → (R : A → B → Type 0) (xs us : List A) (ys vs : List B) → AllZip R xs ys → AllZip R us vs → AllZip R (xs ++ us) (ys ++ vs)
+pairs_joined R [] us [] vs h g = g
+pairs_joined R [] us (y ∷ ys) vs h g = absurd h
+pairs_joined R (x ∷ xs) us [] vs h g = absurd h
+pairs_joined R (x ∷ xs) us (y ∷ ys) vs h g = (h.0, pairs_joined R xs us ys vs h.1 g)
+
+pub pairs_left : {A B : Type 0} → (R : A → B → Type 0) (P : A → Type 0) → ((x : A) (y : B) → R x y → P x) → (xs : List A) (ys : List B) → AllZip R xs ys → AllByRecursion P xs
+pairs_left R P f [] [] h = tt
+pairs_left R P f [] (y ∷ ys) h = absurd h
+pairs_left R P f (x ∷ xs) [] h = absurd h
+pairs_left R P f (x ∷ xs) (y ∷ ys) h = (f x y h.0, pairs_left R P f xs ys h.1)
+
+pub pairs_right : {A B : Type 0} → (R : A → B → Type 0) (P : B → Type 0) → ((x : A) (y : B) → R x y → P y) → (xs : List A) (ys : List B) → AllZip R xs ys → AllByRecursion P ys
+pairs_right R P f [] [] h = tt
+pairs_right R P f [] (y ∷ ys) h = absurd h
+pairs_right R P f (x ∷ xs) [] h = absurd h
+pairs_right R P f (x ∷ xs) (y ∷ ys) h = (f x y h.0, pairs_right R P f xs ys h.1)
+
+pub pairs_same : {A B C : Type 0} → (R : A → B → Type 0) (f : A → C) (g : B → C) → ((x : A) (y : B) → R x y → f x ≡ g y) → (xs : List A) (ys : List B) → AllZip R xs ys → map f xs ≡ map g ys
+pairs_same R f g same [] [] h = refl
+pairs_same R f g same [] (y ∷ ys) h = absurd h
+pairs_same R f g same (x ∷ xs) [] h = absurd h
+pairs_same R f g same (x ∷ xs) (y ∷ ys) h = let first = same x y h.0 in let rest = pairs_same R f g same xs ys h.1 in rw (first, rest) refl

@@ -1,0 +1,78 @@
+-- What the simulator begins with: each leaf and output at 0, and the registers at the words of the state.
+use Rattle.std.proofs.Common.{◌≡◌, ℕ, ◌≤◌, List, [], ◌∷◌, length, map, sym, ap, ◌∙◌, subst}
+use Rattle.std.specs.List.{AllByRecursion}
+use Rattle.std.proofs.Math.Pow.{pow_pos}
+use Rattle.std.proofs.lemmas.List.{length-map}
+use Rattle.fir_base.specs.Ticks.{FitEach}
+use Rattle.fir_bits.specs.Values.{BitVector, IsBitVector}
+use Rattle.fir_net.specs.declared.net.FlatNet.{FlatNet}
+use Rattle.fir_net.specs.IsNet.{IsLeaf, IsNet}
+use Rattle.fir_net.specs.Settled.{registers, shape}
+use Rattle.fir_sim.specs.declared.plan.Plan.{Plan}
+use Rattle.fir_sim.specs.declared.plan.RegisterPlan.{RegisterPlan}
+use Rattle.fir_sim.specs.declared.values.Values.{Values}
+use Rattle.fir_sim.specs.Held.{env_of}
+use Rattle.fir_sim.specs.Views.{numbers, widths}
+use Rattle.fir_sim.specs.Plans.{IsPlan}
+use Rattle.fir_sim.specs.Passes.{zero_of, leaf_zero, output_zero, register_width, values_of, with_state, IsNarrowLeaf, IsNarrowRegister}
+use Rattle.fir_sim.specs.Running.{IsHeld, IsRunning}
+use Rattle.fir_sim.proofs.Lists.{all_map}
+use Rattle.fir_sim.proofs.Placings.{values_numbers, values_widths, values_whole}
+use Rattle.fir_sim.proofs.PlanFacts.{shown_widths, state_widths, outputs_narrow, registers_narrow}
+use Rattle.fir_sim.proofs.Ticking.{widths_of, words_held, words_given}
+
+zero_whole : (w : ℕ) → w ≤ 128 → IsBitVector (zero_of w)
+zero_whole w narrow = record { narrow = narrow; below = pow_pos w }
+
+zeros_whole : {P : Type 0} → (width : P → ℕ) (ps : List P) → AllByRecursion (λ q. width q ≤ 128) ps → AllByRecursion IsBitVector (map (λ q. zero_of (width q)) ps)
+zeros_whole width [] h = tt
+zeros_whole width (q ∷ ps) h = (zero_whole (width q) h.0, zeros_whole width ps h.1)
+
+narrow_words : (ps : List RegisterPlan) → AllByRecursion IsNarrowRegister ps → AllByRecursion (λ w. w ≤ 128) (map register_width ps)
+narrow_words [] h = tt
+narrow_words (q ∷ ps) h = (h.0, narrow_words ps h.1)
+
+module _ (net : FlatNet) (whole : IsNet net) where
+  narrow_leaves : AllByRecursion IsNarrowLeaf net.leaves
+  narrow_leaves = all_map (IsLeaf net.leaves net.nodes) IsNarrowLeaf (λ l is. is.narrow) net.leaves whole.leaves
+
+  zeros_held : IsHeld net (map leaf_zero net.leaves)
+  zeros_held = record { widths = widths_of leaf_zero net.leaves; whole = zeros_whole (λ l. l.width) net.leaves narrow_leaves }
+
+  module _ (p : Plan) (plan : IsPlan net p) (ns : List ℕ) (fit : FitEach (shape net).state ns) where
+    pub fit_registers : FitEach (map register_width p.registers.items) ns
+    fit_registers = subst (λ (ws : List ℕ). FitEach ws ns) (sym (state_widths net whole p plan)) fit
+
+    abbrev words : List BitVector
+    words = values_of (map register_width p.registers.items) ns
+
+    words_wide : widths words ≡ (shape net).state
+    words_wide = values_widths (map register_width p.registers.items) ns fit_registers ∙ state_widths net whole p plan
+
+    words_whole : AllByRecursion IsBitVector words
+    words_whole = values_whole (map register_width p.registers.items) ns fit_registers (narrow_words p.registers.items (registers_narrow net whole p plan))
+
+    pub words_count : length words ≡ length p.registers.items
+    words_count = sym (length-map words (λ v. v.width)) ∙ ap length (values_widths (map register_width p.registers.items) ns fit_registers) ∙ length-map p.registers.items register_width
+
+    pub zeros_count : length net.leaves ≡ length (map leaf_zero net.leaves)
+    zeros_count = sym (length-map net.leaves leaf_zero)
+
+    module _ (v : Values) (state : v.state.items ≡ words) where
+      pub state_is : numbers v.state.items ≡ ns
+      state_is = ap numbers state ∙ values_numbers (map register_width p.registers.items) ns fit_registers
+
+      pub starts : v.leaves.items ≡ with_state p.registers.items words (map leaf_zero net.leaves) → v.outputs.items ≡ map output_zero p.outputs.items → length v.nodes.items ≡ length net.nodes → IsRunning net p v
+      starts leaves outputs nodes = record {
+        whole = whole;
+        view = record {
+          outputs = ap widths outputs ∙ widths_of output_zero p.outputs.items ∙ shown_widths net whole p plan;
+          outputs_are = subst (AllByRecursion IsBitVector) (sym outputs) (zeros_whole (λ q. q.width) p.outputs.items (outputs_narrow net whole p plan));
+          state = ap widths state ∙ words_wide;
+          state_is = subst (AllByRecursion IsBitVector) (sym state) words_whole;
+        };
+        plan = plan;
+        leaves = subst (IsHeld net) (sym leaves) (words_held net whole p plan (map leaf_zero net.leaves) zeros_held words words_wide words_whole);
+        nodes = nodes;
+        state = ap (λ (h : List BitVector). map (env_of h) (registers net)) leaves ∙ words_given net whole p plan (map leaf_zero net.leaves) zeros_held words words_wide words_whole ∙ ap numbers (sym state);
+      }

@@ -1,0 +1,188 @@
+-- What the passes of a tick leave, one behind the other: the values that a net allows, and what the simulator keeps.
+use Rattle.std.proofs.Common.{◌≡◌, ℕ, suc, ◌<◌, ◌≤◌, List, [], ◌∷◌, length, map, refl, sym, ap, ◌∙◌, subst, Some}
+use Rattle.std.specs.Prelude.{slice_get}
+use Rattle.std.specs.List.{AllByRecursion}
+use Rattle.std.proofs.lemmas.List.{length-map}
+use Rattle.std.proofs.lemmas.Option.{slice_get_within}
+use Rattle.fir_base.specs.Ticks.{Tick, FitEach}
+use Rattle.fir_bits.specs.Values.{BitVector, IsBitVector}
+use Rattle.fir_bits.specs.Laws.{HasItsType}
+use Rattle.fir_net.specs.declared.net.FlatNet.{FlatNet}
+use Rattle.fir_net.specs.Values.{values}
+use Rattle.fir_net.specs.IsNet.{IsNet}
+use Rattle.fir_net.specs.Settled.{inputs, registers, shape}
+use Rattle.fir_net.specs.Allows.{Allows}
+use Rattle.fir_sim.specs.declared.plan.InputPlan.{InputPlan}
+use Rattle.fir_sim.specs.declared.plan.Plan.{Plan}
+use Rattle.fir_sim.specs.declared.values.Values.{Values}
+use Rattle.fir_sim.specs.Held.{env_of, Holds}
+use Rattle.fir_sim.specs.Views.{numbers, widths, output_widths, IsTickOf}
+use Rattle.fir_sim.specs.Plans.{IsPlan}
+use Rattle.fir_sim.specs.Passes.{values_of, placed, with_inputs, with_state, input_leaf, input_width, output_width, register_leaf, register_width, output_value, register_value, IsWithin}
+use Rattle.fir_sim.specs.Running.{width_of_leaf, IsHeld, IsRunning}
+use Rattle.fir_sim.proofs.Placings.{AreAt, AreRising, placed_widths, placed_whole, placed_here, placed_elsewhere, inputs_placed, state_placed, values_numbers, values_widths, values_whole, whole_fit}
+use Rattle.fir_sim.proofs.PlanPairs.{inputs_rise, registers_rise}
+use Rattle.fir_sim.proofs.PlanFacts.{input_leaves, register_leaves, input_widths, shown_widths, state_widths, inputs_within, inputs_wide, registers_wide, registers_apart}
+use Rattle.fir_sim.proofs.SettledValues.{settled, holds, settled_holds, settles, outputs_shown, words_taken}
+use Rattle.fir_sim.proofs.ValueBits.{values_count}
+
+-- values of the plans' widths, at their places
+at_places : {P : Type 0} → (leaf width : P → ℕ) (ws : List ℕ) (ps : List P) (vs : List BitVector) → AllByRecursion (λ q. slice_get ws (leaf q) ≡ Some (width q)) ps → widths vs ≡ map width ps → AreAt ws (map leaf ps) vs
+at_places leaf width ws [] [] h e = tt
+at_places leaf width ws [] (v ∷ vs) h e = absurd (cc)
+at_places leaf width ws (q ∷ ps) [] h e = absurd (cc)
+at_places leaf width ws (q ∷ ps) (v ∷ vs) h e =
+    let first : v.width ≡ width q = cc in
+    let rest : widths vs ≡ map width ps = cc in
+    (h.0 ∙ ap (λ (w : ℕ). Some w) (sym first), at_places leaf width ws ps vs h.1 rest)
+
+at_long : (ws ks : List ℕ) (vs : List BitVector) → AreAt ws ks vs → length ks ≡ length vs
+at_long ws [] [] h = refl
+at_long ws [] (v ∷ vs) h = absurd h
+at_long ws (k ∷ ks) [] h = absurd h
+at_long ws (k ∷ ks) (v ∷ vs) h = ap suc (at_long ws ks vs h.1)
+
+at_within : (ws ks : List ℕ) (vs : List BitVector) → AreAt ws ks vs → AllByRecursion (λ k. k < length ws) ks
+at_within ws [] [] h = tt
+at_within ws [] (v ∷ vs) h = absurd h
+at_within ws (k ∷ ks) [] h = absurd h
+at_within ws (k ∷ ks) (v ∷ vs) h = (slice_get_within ws k v.width h.0, at_within ws ks vs h.1)
+
+narrow_inputs : (room : ℕ) (ps : List InputPlan) → AllByRecursion (IsWithin room) ps → AllByRecursion (λ w. w ≤ 128) (map input_width ps)
+narrow_inputs room [] h = tt
+narrow_inputs room (q ∷ ps) h = (h.0.narrow, narrow_inputs room ps h.1)
+
+-- as many are held as there are leaves
+pub held_count : (net : FlatNet) (held : List BitVector) → IsHeld net held → length net.leaves ≡ length held
+held_count net held h = sym (length-map net.leaves width_of_leaf) ∙ ap length (sym h.widths) ∙ length-map held (λ v. v.width)
+
+-- values that were put at some numbers
+module _ (net : FlatNet) (held : List BitVector) (is_held : IsHeld net held) (ks : List ℕ) (vs : List BitVector) (at : AreAt (map width_of_leaf net.leaves) ks vs) (are : AllByRecursion IsBitVector vs) where
+  put_held : IsHeld net (placed ks vs held)
+  put_held = record { widths = placed_widths (map width_of_leaf net.leaves) ks vs held is_held.widths at; whole = placed_whole ks vs held are is_held.whole }
+
+  put_here : AreRising 0 ks → map (env_of (placed ks vs held)) ks ≡ numbers vs
+  put_here rise =
+      let room : length (map width_of_leaf net.leaves) ≡ length held = length-map net.leaves width_of_leaf ∙ held_count net held is_held in
+      placed_here 0 ks vs held rise (subst (λ (n : ℕ). AllByRecursion (λ k. k < n) ks) room (at_within (map width_of_leaf net.leaves) ks vs at)) (at_long (map width_of_leaf net.leaves) ks vs at)
+
+module _ (net : FlatNet) (whole : IsNet net) (p : Plan) (plan : IsPlan net p) (held : List BitVector) (is_held : IsHeld net held) where
+  module _ (ns : List ℕ) (fit : FitEach (shape net).inputs ns) where
+    abbrev vs : List BitVector
+    vs = values_of (map input_width p.inputs.items) ns
+
+    fit_plan : FitEach (map input_width p.inputs.items) ns
+    fit_plan = subst (λ (ws : List ℕ). FitEach ws ns) (sym (input_widths net whole p plan)) fit
+
+    inputs_at : AreAt (map width_of_leaf net.leaves) (inputs net) vs
+    inputs_at =
+        subst (λ (ks : List ℕ). AreAt (map width_of_leaf net.leaves) ks vs) (input_leaves net whole p plan)
+        (at_places input_leaf input_width (map width_of_leaf net.leaves) p.inputs.items vs (inputs_wide net whole p plan) (values_widths (map input_width p.inputs.items) ns fit_plan))
+
+    are_whole : AllByRecursion IsBitVector vs
+    are_whole = values_whole (map input_width p.inputs.items) ns fit_plan (narrow_inputs (length net.leaves) p.inputs.items (inputs_within net whole p plan (length net.leaves) refl))
+
+    is_placed : with_inputs p.inputs.items ns held ≡ placed (inputs net) vs held
+    is_placed = inputs_placed p.inputs.items ns held ∙ ap (λ (ks : List ℕ). placed ks vs held) (input_leaves net whole p plan)
+
+    pub inputs_held : IsHeld net (with_inputs p.inputs.items ns held)
+    inputs_held = subst (IsHeld net) (sym is_placed) (put_held net held is_held (inputs net) vs inputs_at are_whole)
+
+    pub inputs_given : map (env_of (with_inputs p.inputs.items ns held)) (inputs net) ≡ ns
+    inputs_given =
+        ap (λ (h : List BitVector). map (env_of h) (inputs net)) is_placed
+        ∙ put_here net held is_held (inputs net) vs inputs_at are_whole (inputs_rise net)
+        ∙ values_numbers (map input_width p.inputs.items) ns fit_plan
+
+    pub state_kept : map (env_of (with_inputs p.inputs.items ns held)) (registers net) ≡ map (env_of held) (registers net)
+    state_kept = ap (λ (h : List BitVector). map (env_of h) (registers net)) is_placed ∙ placed_elsewhere (inputs net) vs held (registers net) (registers_apart net whole)
+
+  module _ (words : List BitVector) (wide : widths words ≡ (shape net).state) (are : AllByRecursion IsBitVector words) where
+    words_at : AreAt (map width_of_leaf net.leaves) (registers net) words
+    words_at =
+        subst (λ (ks : List ℕ). AreAt (map width_of_leaf net.leaves) ks words) (register_leaves net whole p plan)
+        (at_places register_leaf register_width (map width_of_leaf net.leaves) p.registers.items words (registers_wide net whole p plan) (wide ∙ sym (state_widths net whole p plan)))
+
+    words_placed : with_state p.registers.items words held ≡ placed (registers net) words held
+    words_placed = state_placed p.registers.items words held ∙ ap (λ (ks : List ℕ). placed ks words held) (register_leaves net whole p plan)
+
+    pub words_held : IsHeld net (with_state p.registers.items words held)
+    words_held = subst (IsHeld net) (sym words_placed) (put_held net held is_held (registers net) words words_at are)
+
+    pub words_given : map (env_of (with_state p.registers.items words held)) (registers net) ≡ numbers words
+    words_given = ap (λ (h : List BitVector). map (env_of h) (registers net)) words_placed ∙ put_here net held is_held (registers net) words words_at are (registers_rise net)
+
+map_both : {A B C : Type 0} → (f : A → B) (g : B → C) (xs : List A) → map g (map f xs) ≡ map (λ x. g (f x)) xs
+map_both f g [] = refl
+map_both f g (x ∷ xs) = ap (λ r. g (f x) ∷ r) (map_both f g xs)
+
+pub numbers_of : {P : Type 0} → (f : P → BitVector) (ps : List P) → numbers (map f ps) ≡ map (λ q. (f q).number) ps
+numbers_of f ps = map_both f (λ v. v.number) ps
+
+pub widths_of : {P : Type 0} → (f : P → BitVector) (ps : List P) → widths (map f ps) ≡ map (λ q. (f q).width) ps
+widths_of f ps = map_both f (λ v. v.width) ps
+
+-- a tick: the inputs are put, the nodes get their values, and outputs and words come from them
+pub record IsTicked (net : FlatNet) (p : Plan) (tick : Tick) (before after : Values) (held : List BitVector) : Type 0 where
+  pub put : held ≡ with_inputs p.inputs.items tick.inputs before.leaves.items
+  pub settled : (env : ℕ → ℕ) → Holds net held env → after.nodes.items ≡ values net env
+  pub outputs : after.outputs.items ≡ map (output_value net (env_of held)) p.outputs.items
+  pub outputs_whole : AllByRecursion IsBitVector after.outputs.items
+  pub state : after.state.items ≡ map (register_value net (env_of held) tick.clocks) p.registers.items
+  pub state_whole : AllByRecursion IsBitVector after.state.items
+  pub leaves : after.leaves.items ≡ with_state p.registers.items after.state.items held
+
+module _ (net : FlatNet) (p : Plan) (tick : Tick) (is_tick : IsTickOf net tick) (before after : Values) (held : List BitVector) (running : IsRunning net p before) (t : IsTicked net p tick before after held) where
+  whole : IsNet net
+  whole = running.whole
+
+  is_held : IsHeld net held
+  is_held = subst (IsHeld net) (sym t.put) (inputs_held net whole p running.plan before.leaves.items running.leaves tick.inputs is_tick.inputs)
+
+  state_wide : widths after.state.items ≡ (shape net).state
+  state_wide = ap widths t.state ∙ widths_of (register_value net (env_of held) tick.clocks) p.registers.items ∙ state_widths net whole p running.plan
+
+  outputs_wide : widths after.outputs.items ≡ output_widths net
+  outputs_wide = ap widths t.outputs ∙ widths_of (output_value net (env_of held)) p.outputs.items ∙ shown_widths net whole p running.plan
+
+  pub still_running : IsRunning net p after
+  still_running = record {
+    whole = whole;
+    view = record { outputs = outputs_wide; outputs_are = t.outputs_whole; state = state_wide; state_is = t.state_whole };
+    plan = running.plan;
+    leaves = subst (IsHeld net) (sym t.leaves) (words_held net whole p running.plan held is_held after.state.items state_wide t.state_whole);
+    nodes = ap length (t.settled (env_of held) (holds net held is_held)) ∙ values_count net (env_of held);
+    state = ap (λ (h : List BitVector). map (env_of h) (registers net)) t.leaves ∙ words_given net whole p running.plan held is_held after.state.items state_wide t.state_whole;
+  }
+
+  -- the values that settle
+  same : values net (settled net (env_of held)) ≡ values net (env_of held)
+  same = sym (t.settled (settled net (env_of held)) (settled_holds net held is_held)) ∙ t.settled (env_of held) (holds net held is_held)
+
+  given : map (env_of held) (inputs net) ≡ tick.inputs
+  given = ap (λ (h : List BitVector). map (env_of h) (inputs net)) t.put ∙ inputs_given net whole p running.plan before.leaves.items running.leaves tick.inputs is_tick.inputs
+
+  kept : map (env_of held) (registers net) ≡ numbers before.state.items
+  kept =
+      ap (λ (h : List BitVector). map (env_of h) (registers net)) t.put
+      ∙ state_kept net whole p running.plan before.leaves.items running.leaves tick.inputs is_tick.inputs
+      ∙ running.state
+
+  state_fits : FitEach (shape net).state (numbers before.state.items)
+  state_fits = subst (λ (ws : List ℕ). FitEach ws (numbers before.state.items)) running.view.state (whole_fit before.state.items running.view.state_is)
+
+  pub allows : HasItsType → Allows net (numbers before.state.items) tick (numbers after.outputs.items) (numbers after.state.items)
+  allows law = (
+    settled net (env_of held),
+    settles net whole held is_held same law (numbers before.state.items) tick is_tick state_fits given kept,
+    sym (ap numbers t.outputs ∙ numbers_of (output_value net (env_of held)) p.outputs.items ∙ ap (map (λ q. (output_value net (env_of held) q).number)) running.plan.outputs ∙ outputs_shown net whole held is_held same),
+    sym (ap numbers t.state ∙ numbers_of (register_value net (env_of held) tick.clocks) p.registers.items ∙ ap (map (λ q. (register_value net (env_of held) tick.clocks q).number)) running.plan.registers ∙ words_taken net whole held is_held same tick),
+  )
+
+-- what the tick asks of the passes
+module _ (net : FlatNet) (p : Plan) (v : Values) (running : IsRunning net p v) where
+  pub outputs_room : length v.outputs.items ≡ length p.outputs.items
+  outputs_room = sym (length-map v.outputs.items (λ x. x.width)) ∙ ap length (running.view.outputs ∙ sym (shown_widths net running.whole p running.plan)) ∙ length-map p.outputs.items output_width
+
+  pub state_room : length v.state.items ≡ length p.registers.items
+  state_room = sym (length-map v.state.items (λ x. x.width)) ∙ ap length (running.view.state ∙ sym (state_widths net running.whole p running.plan)) ∙ length-map p.registers.items register_width

@@ -1,0 +1,10 @@
+-- The ports of a Verilog tree, beside the rows of a net (IEEE 1364-2005, 12.3).
+use Rattle.std.specs.Prelude.{ℕ, List, map}
+use Rattle.fir_net.specs.Rows.{PortKind}
+use Rattle.ver_ast.specs.declared.tree.Verilog.{Verilog}
+
+abbrev pub port_kinds : Verilog → List PortKind
+port_kinds v = map (λ p. (p.direction, p.signal)) v.ports
+
+abbrev pub port_names : Verilog → List (List ℕ)
+port_names v = map (λ p. p.name) v.ports
