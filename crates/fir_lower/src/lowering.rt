@@ -18,7 +18,7 @@ use fir_net::FlatNet;
 use std::alloc::Global;
 
 /// The net of the circuit: a node for each operation and literal, in the order of the text.
-fn lowered_net(alloc: Global, c: &Circuit) -> Result<FlatNet, MemoryOut>
+pub(crate) fn lowered_net(alloc: Global, c: &Circuit) -> Result<FlatNet, MemoryOut>
     ensures { IfOk result (λ net. net ≡ lowered (circuit_of c.now)) }
 {
     match c.modules.as_slice() {
