@@ -46,7 +46,7 @@ found_narrow place (s ∷ ss) name f all h =
       | inr a ↦ found_narrow (place + size_of s) ss name f all.1 a.1
     ]
 
-one_or_array : (s : StateWord) → size_of s ≤ 1 + array_size s
+pub one_or_array : (s : StateWord) → size_of s ≤ 1 + array_size s
 one_or_array s = elim s.depth as (λ d. unwrap_or d 1 ≤ 1 + unwrap_or d 0) [ None ↦ omega arith | Some d ↦ omega arith ]
 
 -- registers are as many as there are names at most, and arrays have few words

@@ -1,8 +1,7 @@
 -- What is told of a line that begins with `init` where no tick came before it.
 -- It is no remark, so after its length its words are judged.
-use Rattle.std.proofs.Common.{◌≡◌, ℕ, ◌+◌, ◌<◌, ◌≤◌, List, [], ◌∷◌, ◌++◌, length, true, false, codes, Some, Result, Ok, Err, refl, ap, ◌∙◌, subst, arith}
-use Rattle.std.specs.List.{onto_first}
-use Rattle.std.proofs.lemmas.Bool.{eqb-true, false_from_ne_true, le-leb, lt-leb}
+use Rattle.std.proofs.Common.{◌≡◌, ℕ, ◌+◌, ◌<◌, ◌≤◌, List, [], ◌∷◌, ◌++◌, length, true, false, codes, Some, Result, Ok, Err, ap, ◌∙◌, arith}
+use Rattle.std.proofs.lemmas.Bool.{false_from_ne_true, le-leb, lt-leb}
 use Rattle.fir_base.specs.declared.refused.Refused.{Refused}
 use Rattle.fir_base.specs.declared.refused.Refused.TheVariants.{Fault, Memory}
 use Rattle.trace_text.specs.declared.fault.Cause.{Cause}
@@ -14,19 +13,10 @@ use Rattle.trace_text.specs.LineFaults.{init_count, init_words, init_faults, lin
 use Rattle.trace_text.specs.Readings.{begins_with_init, is_init_line, first_cause, ReadsInitLine}
 use Rattle.trace_text.specs.InitWords.{ReadsInitWords}
 use Rattle.trace_text.proofs.EmptyLists.{bytes_are}
-
--- the first word of a remark is one
-first_is_remark : (parts : List (List ℕ)) (w : List ℕ) (ws : List (List ℕ)) → onto_first 35 parts ≡ w ∷ ws → is_remark w ≡ true
-first_is_remark [] w ws h = let e : 35 ∷ [] ≡ w = cc in subst (λ v. is_remark v ≡ true) e refl
-first_is_remark (part ∷ parts) w ws h = let e : 35 ∷ part ≡ w = cc in subst (λ v. is_remark v ≡ true) e refl
-
--- and so is a line's that is empty
-word_is_remark : (line w : List ℕ) (ws : List (List ℕ)) → words_of line ≡ w ∷ ws → is_remark line ≡ true → is_remark w ≡ true
-word_is_remark [] w ws h r = let e : [] ≡ w = cc in subst (λ v. is_remark v ≡ true) e refl
-word_is_remark (b ∷ bs) w ws h r = first_is_remark (words_of bs) w ws (subst (λ c. words_of (c ∷ bs) ≡ w ∷ ws) (eqb-true b 35 r) h)
+use Rattle.trace_text.proofs.LineKinds.{remark_word}
 
 no_remark : (line : List ℕ) (ws : List (List ℕ)) → words_of line ≡ codes "init" ∷ ws → is_remark line ≡ false
-no_remark line ws h = false_from_ne_true (is_remark line) (λ r. let e : false ≡ true = word_is_remark line (codes "init") ws h r in cc)
+no_remark line ws h = false_from_ne_true (is_remark line) (λ r. let e : false ≡ true = remark_word line (codes "init") ws r h in cc)
 
 begins : (words : List (List ℕ)) → begins_with_init words ≡ true → (ws : List (List ℕ)) × (words ≡ codes "init" ∷ ws)
 begins [] h = cc

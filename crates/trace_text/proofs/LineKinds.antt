@@ -15,7 +15,7 @@ first_with b [] w ws h = ([], (cc))
 first_with b (part ∷ parts) w ws h = (part, (cc))
 
 -- the first word of a remark is one
-remark_word : (line w : List ℕ) (ws : List (List ℕ)) → is_remark line ≡ true → words_of line ≡ w ∷ ws → is_remark w ≡ true
+pub remark_word : (line w : List ℕ) (ws : List (List ℕ)) → is_remark line ≡ true → words_of line ≡ w ∷ ws → is_remark w ≡ true
 remark_word [] w ws r h = let e : [] ≡ w = cc in subst (λ v. is_remark v ≡ true) e refl
 remark_word (b ∷ bs) w ws r h =
     let e : words_of (35 ∷ bs) ≡ w ∷ ws = subst (λ c. words_of (c ∷ bs) ≡ w ∷ ws) (eqb-true b 35 r) h in
@@ -41,8 +41,8 @@ plain_tick inputs clocks = record { inputs = inputs; clocks = clocks }
 same_sum : (a b c d : ℕ) → a ≡ b → c ≡ d → a + c ≡ b + d
 same_sum a b c d h k = cc
 
-same_tick : (inputs others clocks rest : List ℕ) → inputs ≡ others → clocks ≡ rest → plain_tick inputs clocks ≡ plain_tick others rest
-same_tick inputs others clocks rest h k = cc
+pub same_tick : (a b : Tick) → a.inputs ≡ b.inputs → a.clocks ≡ b.clocks → a ≡ b
+same_tick a b h k = ap (λ inputs. plain_tick inputs a.clocks) h ∙ ap (λ clocks. plain_tick b.inputs clocks) k
 
 module _ (shape : TraceShape) (line : List ℕ) where
   pub skipped_no_init : IsSkipped line → (place value : ℕ) → IsInitLine shape line place value → ⊥
@@ -95,6 +95,6 @@ module _ (shape : TraceShape) (line : List ℕ) where
       let e : i.clock_list ∷ i.values ≡ j.clock_list ∷ j.values = sym i.words ∙ j.words in
       let clock_list : i.clock_list ≡ j.clock_list = cc in
       let values : i.values ≡ j.values = cc in
-      same_tick tick.inputs other.inputs tick.clocks other.clocks
+      same_tick tick other
       (sym i.values_are ∙ ap (map value_of) values ∙ j.values_are)
       (sym i.clocks_are ∙ ap clocks_of clock_list ∙ j.clocks_are)

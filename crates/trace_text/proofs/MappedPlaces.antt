@@ -1,6 +1,6 @@
 -- The map of places, word by word: what it finds, that no name stands twice, and that the places are few.
 use Rattle.std.proofs.Common.{◌≡◌, ℕ, ◌+◌, ◌<◌, ◌≤◌, List, [], ◌∷◌, ◌++◌, length, take, drop, get_or, Bool, true, false, cond, refl, sym, ap, ◌∙◌, subst, inl, inr, arith, add-zero, zero-add}
-use Rattle.std.specs.Prelude.{Option, Some, None, is_some, unwrap_or, map, sum_by}
+use Rattle.std.specs.Prelude.{Option, Some, None, is_some, map, sum_by}
 use Rattle.std.specs.Option.{option_or}
 use Rattle.std.specs.BTreeMap.{BTreeMap, get}
 use Rattle.std.specs.BTreeMap as tree
@@ -17,6 +17,7 @@ use Rattle.trace_text.specs.declared.shape.FoundWord.{FoundWord}
 use Rattle.trace_text.specs.Shapes.{found_from, size_of, array_size}
 use Rattle.trace_text.specs.Places.{HasPlaces}
 use Rattle.trace_text.proofs.DistinctLists.{distinct_last, distinct_not}
+use Rattle.trace_text.proofs.FoundPlaces.{one_or_array}
 
 abbrev names : List StateWord → List (List ℕ)
 names = map (λ s. s.name)
@@ -76,14 +77,10 @@ places_last m n front s key e named is u new h = record {
       ∙ sym (found_last 0 front s q);
 }
 
-one_more_word : (d : Option ℕ) → unwrap_or d 1 ≤ 1 + unwrap_or d 0
-one_more_word None = omega arith
-one_more_word (Some n) = omega arith
-
 -- there are no more words than registers and words of arrays
 words_few : (ss : List StateWord) → sum_by size_of ss ≤ length ss + sum_by array_size ss
 words_few [] = omega arith
-words_few (s ∷ ss) = omega (arith, words_few ss, one_more_word s.depth, sum_by-cons size_of s ss, sum_by-cons array_size s ss)
+words_few (s ∷ ss) = omega (arith, words_few ss, one_or_array s, sum_by-cons size_of s ss, sum_by-cons array_size s ss)
 
 -- a word behind the first so many
 module _ (ss : List StateWord) (i : ℕ) (s : StateWord) (within : i < length ss) (is : s ≡ get_or ss i s) where

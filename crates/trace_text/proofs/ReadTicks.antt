@@ -1,11 +1,10 @@
 -- A line that has no fault in the place of a tick is one, and its words give the tick.
-use Rattle.std.proofs.Common.{◌≡◌, ℕ, ◌+◌, ◌^◌, ◌<◌, ◌≤◌, List, [], ◌∷◌, length, drop, map, Bool, true, false, ◌&&◌, nat_le, refl, ap, sym, ◌∙◌, arith, Option, None, subst, inl, inr, ◌⊎◌}
+use Rattle.std.proofs.Common.{◌≡◌, ℕ, ◌^◌, ◌<◌, ◌≤◌, List, [], ◌∷◌, length, drop, map, true, false, ◌&&◌, refl, ap, sym, ◌∙◌, arith, None, subst, inl, inr}
 use Rattle.std.proofs.Math.Pow.{pow_mono}
 use Rattle.std.proofs.lemmas.Bool.{le-leb}
-use Rattle.std.proofs.lemmas.List.{length-map}
 use Rattle.std.specs.List.{before_first}
 use Rattle.fir_base.specs.Ticks.{Tick, FitEach, AreClocks}
-use Rattle.trace_text.specs.Lines.{line_limit, words_of, is_remark, IsSkipped}
+use Rattle.trace_text.specs.Lines.{line_limit, words_of, is_remark}
 use Rattle.trace_text.specs.Spelling.{value_of, is_clock_list, clocks_of}
 use Rattle.trace_text.specs.Shapes.{TraceShape}
 use Rattle.trace_text.specs.SpelledLines.{IsTickLine}
@@ -14,6 +13,7 @@ use Rattle.trace_text.specs.Readings.{first_cause, is_skipped}
 use Rattle.trace_text.specs.TickWords.{AreValues, AreWidths, AreNarrowValues}
 use Rattle.trace_text.proofs.ClockLists.{none_absent_in}
 use Rattle.trace_text.proofs.JudgedLines.{Spelled, line_judged}
+use Rattle.trace_text.proofs.LineKinds.{same_tick}
 use Rattle.trace_text.proofs.TickLines.{as_many}
 use Rattle.trace_text.proofs.ToldInOrder.{nothing_told}
 use Rattle.trace_text.proofs.WordWalks.{is_space, first_of_words}
@@ -27,12 +27,6 @@ narrow_values (width ∷ widths) (w ∷ ws) n v f =
     let most : 2 ^ width ≤ 2 ^ 128 = pow_mono n.0.1 in
     let small : value_of w < 2 ^ width = f.0 in
     (record { spelled = v.0; narrow = omega arith }, narrow_values widths ws n.1 v.1 f.1)
-
-abbrev tick_with : List ℕ → List ℕ → Tick
-tick_with inputs clocks = record { inputs = inputs; clocks = clocks }
-
-same_tick : (a b : Tick) → a.inputs ≡ b.inputs → a.clocks ≡ b.clocks → a ≡ b
-same_tick a b h k = ap (λ inputs. tick_with inputs a.clocks) h ∙ ap (λ clocks. tick_with b.inputs clocks) k
 
 module _ (shape : TraceShape) (line : List ℕ) where
   abbrev first : List ℕ

@@ -1,9 +1,9 @@
 -- The steps of the readers make the whole trace, or its first bad line.
-use Rattle.std.proofs.Common.{◌≡◌, ◌≢◌, ℕ, List, [], ◌∷◌, ◌++◌, drop, Bool, true, false, refl, ap, sym, ◌∙◌, subst, arith, append_assoc}
+use Rattle.std.proofs.Common.{◌≡◌, ℕ, List, [], ◌∷◌, ◌++◌, drop, Bool, true, false, refl, ap, sym, ◌∙◌, subst, arith, append_assoc}
 use Rattle.std.specs.List.{AllByRecursion}
 use Rattle.fir_base.specs.Ticks.{Tick}
 use Rattle.trace_text.specs.declared.fault.TraceFault.{TraceFault}
-use Rattle.trace_text.specs.Lines.{words_of, later_lines, AreLines, behind, IsSkipped}
+use Rattle.trace_text.specs.Lines.{words_of, AreLines, behind, IsSkipped}
 use Rattle.trace_text.specs.Shapes.{TraceShape}
 use Rattle.trace_text.specs.LineFaults.{word_faults, line_faults}
 use Rattle.trace_text.specs.TraceSpells.{LinesSpell, TraceSpells}

@@ -1,12 +1,11 @@
 -- The values of a tick's line against the widths of the inputs.
 -- Where they are walked side by side, the first value that does not fit gives the first cause.
-use Rattle.std.proofs.Common.{◌≡◌, ℕ, zero, suc, ◌+◌, ◌-◌, ◌*◌, ◌/◌, ◌^◌, ◌<◌, ◌≤◌, List, [], ◌∷◌, ◌++◌, length, drop, Bool, true, false, nat_eq, nat_lt, not, cond, refl, ap, sym, ◌∙◌, arith, get_or, Option, Some, None, length-drop}
+use Rattle.std.proofs.Common.{◌≡◌, ℕ, zero, suc, ◌+◌, ◌*◌, ◌/◌, ◌^◌, ◌<◌, ◌≤◌, List, [], ◌∷◌, ◌++◌, length, drop, Bool, true, false, nat_eq, nat_lt, not, cond, refl, ap, ◌∙◌, arith, get_or, Option, Some, length-drop}
 use Rattle.std.proofs.Math.Seq.{drop-cons}
 use Rattle.std.proofs.Math.Pow.{pow_mono}
 use Rattle.std.proofs.Math.Nat.{div-eq_of_lt, lt-div-mul-add}
-use Rattle.std.proofs.lemmas.Nat.{pow_pos}
 use Rattle.std.proofs.lemmas.Bool.{ltb-true, ltb-false, le-ltb, ne_eqb}
-use Rattle.std.specs.List.{AllByRecursion, zip, position_from}
+use Rattle.std.specs.List.{zip, position_from}
 use Rattle.std.specs.Option.{option_map}
 use Rattle.trace_text.specs.declared.fault.Cause.{Cause}
 use Rattle.trace_text.specs.declared.fault.Cause.TheVariants.{Wide}

@@ -1,50 +1,24 @@
 -- Walks over the words of a tick's line.
 -- The first of them stands before the first space. Where the values are judged one by one, the first that fails gives the first cause.
-use Rattle.std.proofs.Common.{◌≡◌, ℕ, ◌+◌, ◌*◌, ◌^◌, ◌<◌, ◌≤◌, List, [], ◌∷◌, ◌++◌, length, drop, take, Bool, true, false, nat_eq, nat_lt, not, cond, refl, ap, sym, ◌∙◌, arith, inl, inr, ◌⊎◌, subst, Option, Some, None, zero, suc, get_or}
-use Rattle.std.specs.List.{AllByRecursion, zip, position_from, onto_first, before_first, position_or_len, slice_split}
+use Rattle.std.proofs.Common.{◌≡◌, ℕ, ◌+◌, ◌≤◌, List, [], ◌∷◌, ◌++◌, length, drop, Bool, true, false, nat_eq, nat_lt, not, cond, refl, ap, sym, ◌∙◌, arith, Option, Some, None}
+use Rattle.std.specs.List.{position_from, before_first, position_or_len}
 use Rattle.std.specs.Option.{option_map, unwrap_or}
 use Rattle.std.proofs.lemmas.Bool.{ltb-false}
 use Rattle.std.proofs.lemmas.List.Sums.{prefix_len-le-length}
-use Rattle.std.proofs.lemmas.Grind.{common_steps}
-use Rattle.std.proofs.lemmas.List.Splits.{slice_split-cons_yes, slice_split-cons_no}
 use Rattle.trace_text.specs.declared.fault.Cause.{Cause}
-use Rattle.trace_text.specs.declared.fault.Cause.TheVariants.{Misspelled, Wide}
+use Rattle.trace_text.specs.declared.fault.Cause.TheVariants.{Misspelled}
 use Rattle.trace_text.specs.Lines.{words_of}
-use Rattle.trace_text.specs.Spelling.{is_value, value_of}
-use Rattle.trace_text.specs.LineFaults.{unless, misspelled_values, wide, wide_values}
+use Rattle.trace_text.specs.Spelling.{is_value}
+use Rattle.trace_text.specs.LineFaults.{unless, misspelled_values}
 use Rattle.trace_text.specs.Readings.{first_cause}
+use Rattle.trace_text.proofs.InitFronts.{split_front}
 
 abbrev pub is_space : ℕ → Bool
 is_space b = nat_eq b 32
 
-onto_is : (b : ℕ) (w : List ℕ) (ws : List (List ℕ)) → onto_first b (w ∷ ws) ≡ (b ∷ w) ∷ ws
-onto_is b w ws = refl
-
-one_more : (n : ℕ) → 1 + n ≡ suc n
-one_more n = omega arith
-
-length_at : (b : ℕ) (bs : List ℕ) (test : Bool) → is_space b ≡ test → before_first is_space (b ∷ bs) ≡ cond test [] (b ∷ before_first is_space bs)
-length_at b bs true e = grind (arith, common_steps)
-length_at b bs false e =
-    let n : ℕ = position_or_len is_space bs in
-    let m : position_or_len is_space (b ∷ bs) ≡ suc n = ap (λ t. cond (not t) (1 + n) 0) e ∙ one_more n in
-    ap (λ i. take i (b ∷ bs)) m
-
 -- what stands before the first space is the first word
-first_behind : (b : ℕ) (bs : List ℕ) (test : Bool) → is_space b ≡ test → words_of bs ≡ before_first is_space bs ∷ drop 1 (words_of bs)
-    → words_of (b ∷ bs) ≡ before_first is_space (b ∷ bs) ∷ drop 1 (words_of (b ∷ bs))
-first_behind b bs true e h =
-    let s : words_of (b ∷ bs) ≡ [] ∷ words_of bs = slice_split-cons_yes is_space b bs e in
-    let f : before_first is_space (b ∷ bs) ≡ [] = length_at b bs true e in
-    rw (s, f) refl
-first_behind b bs false e h =
-    let s : words_of (b ∷ bs) ≡ (b ∷ before_first is_space bs) ∷ drop 1 (words_of bs) = slice_split-cons_no is_space b bs e ∙ ap (onto_first b) h in
-    let f : before_first is_space (b ∷ bs) ≡ b ∷ before_first is_space bs = length_at b bs false e in
-    rw (s, f) refl
-
 pub first_of_words : (line : List ℕ) → words_of line ≡ before_first is_space line ∷ drop 1 (words_of line)
-first_of_words [] = refl
-first_of_words (b ∷ bs) = first_behind b bs (is_space b) refl (first_of_words bs)
+first_of_words line = let words = (split_front is_space line).1 in words ∙ ap (λ rest. before_first is_space line ∷ rest) (sym (ap (drop 1) words))
 
 -- the end of the first word, from the place of the first space
 end_at : (n m end : ℕ) (test : Bool) (place : Option ℕ) → nat_lt n m ≡ test → n ≤ m → place ≡ cond test (Some n) None → end ≡ unwrap_or place m → end ≡ n

@@ -1,5 +1,5 @@
 -- The line of a fault: its code, the number of the bad line, and the evidence, parted by single spaces.
-use Rattle.std.specs.Prelude.{ℕ, List, [], ◌∷◌, ◌++◌, take, drop, codes, decimal}
+use Rattle.std.specs.Prelude.{ℕ, List, [], ◌++◌, take, drop, codes, decimal}
 use Rattle.trace_text.specs.declared.fault.Cause.{Cause}
 use Rattle.trace_text.specs.declared.fault.Cause.TheVariants.{Misspelled, Count, Wide, Absent, Long}
 use Rattle.trace_text.specs.declared.fault.TraceFault.{TraceFault}

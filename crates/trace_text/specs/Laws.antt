@@ -1,9 +1,9 @@
 -- Laws about the definitions.
-use Rattle.std.specs.Prelude.{◌≡◌, ◌↔◌, ℕ, List, [], ◌∷◌, ◌++◌, Bool, true, false, ◌⊎◌}
+use Rattle.std.specs.Prelude.{◌≡◌, ◌↔◌, ℕ, List, [], Bool, false, ◌⊎◌}
 use Rattle.fir_base.specs.Ticks.{Tick}
 use Rattle.trace_text.specs.declared.fault.TraceFault.{TraceFault}
 use Rattle.trace_text.specs.Lines.{IsSkipped}
-use Rattle.trace_text.specs.Shapes.{TraceShape, IsShape}
+use Rattle.trace_text.specs.Shapes.{TraceShape}
 use Rattle.trace_text.specs.SpelledLines.{IsInitLine, IsTickLine}
 use Rattle.trace_text.specs.LineFaults.{line_faults}
 use Rattle.trace_text.specs.TraceSpells.{TraceSpells}

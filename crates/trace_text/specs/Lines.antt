@@ -1,7 +1,7 @@
 -- The lines of a trace, and the words of a line.
 -- A line ends with a newline; the last may lack it. Words are parted by single spaces, so that an empty word stands between two spaces and at a space at
 -- either end.
-use Rattle.std.specs.Prelude.{◌≡◌, ◌≢◌, ℕ, ◌≤◌, List, [], ◌∷◌, length, Bool, true, nat_eq, nat_le}
+use Rattle.std.specs.Prelude.{◌≡◌, ◌≢◌, ℕ, ◌≤◌, List, [], ◌∷◌, length, Bool, true, nat_eq}
 use Rattle.std.specs.List.{before_first, after_first, slice_split}
 
 -- the most bytes of a line without its newline

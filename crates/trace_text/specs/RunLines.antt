@@ -1,5 +1,5 @@
 -- The lines of a whole run, one for each tick.
-use Rattle.std.specs.Prelude.{ℕ, List, [], ◌∷◌, ◌++◌, Bool, if◌then◌else◌, Option, Some, None}
+use Rattle.std.specs.Prelude.{ℕ, List, [], ◌∷◌, ◌++◌, Bool, if◌then◌else◌, Some, None}
 use Rattle.fir_base.specs.Ticks.{Shown}
 use Rattle.fir_bits.specs.Values.{BitVector}
 use Rattle.trace_text.specs.OutputLines.{line_text}

@@ -1,7 +1,7 @@
 -- The shape of a trace: which inputs and clocks a tick has, and which words the state.
 -- A register is one word and an array as many as its depth; the registers stand before the arrays. Widths are 1 to 128, a depth is at least 1, all arrays
 -- together have at most 4194304 words, and the names are distinct words.
-use Rattle.std.specs.Prelude.{◌≡◌, ℕ, ◌+◌, ◌≤◌, List, [], ◌∷◌, ◌++◌, length, map, flat_map, Bool, true, false, if◌then◌else◌, Option, Some, None, unwrap_or, is_some, is_none, IsTrue, sum_by, MatchBool, replicate}
+use Rattle.std.specs.Prelude.{◌≡◌, ℕ, ◌+◌, ◌≤◌, List, [], ◌∷◌, map, flat_map, true, if◌then◌else◌, Option, Some, None, unwrap_or, is_some, is_none, IsTrue, sum_by, MatchBool, replicate}
 use Rattle.std.specs.List.{AllByRecursion}
 use Rattle.std.specs.Str.{bytes_eq}
 use Rattle.fir_base.specs.Lists.{Distinct}

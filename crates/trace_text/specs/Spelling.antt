@@ -1,7 +1,7 @@
 -- How the words of a trace are spelled.
 -- A value is hexadecimal digits in either case, an address and a clock are decimal digits; leading zeros are free, and there may be any number of digits.
 -- A clock list is `-`, or rising numbers parted by commas.
-use Rattle.std.specs.Prelude.{ℕ, ◌+◌, ◌-◌, ◌*◌, List, [], ◌∷◌, map, codes, Bool, true, false, not, ◌&&◌, ◌||◌, nat_eq, nat_le, nat_lt, if◌then◌else◌}
+use Rattle.std.specs.Prelude.{ℕ, ◌+◌, ◌-◌, ◌*◌, List, [], ◌∷◌, map, codes, Bool, true, false, ◌&&◌, ◌||◌, nat_eq, nat_le, if◌then◌else◌}
 use Rattle.std.specs.List.{list_all, slice_split}
 use Rattle.std.specs.Str.{bytes_eq}
 use Rattle.ver_ast.specs.Names.{is_digit}

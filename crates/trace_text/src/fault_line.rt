@@ -1,6 +1,6 @@
 //! The line of a fault.
 
-ghost use Rattle.std.specs.Prelude.{◌≡◌, ◌++◌, IfOk, OnErr, OnOk, codes, decimal, drop, take};
+ghost use Rattle.std.specs.Prelude.{◌≡◌, ◌++◌, IfOk, OnErr, OnOk, decimal, drop, take};
 ghost use Rattle.trace_text.specs.FaultTexts.{code_text, evidence_text, fault_text};
 
 use crate::fault::{Cause, TraceFault};

@@ -1,7 +1,7 @@
 //! The line of a tick.
 
 ghost use Rattle.std.specs.Prelude.{◌≡◌, ◌++◌, IfOk, OnErr, OnOk, map, option_map};
-ghost use Rattle.trace_text.specs.OutputLines.{line_text, line_words, round_words, state_words, value_text};
+ghost use Rattle.trace_text.specs.OutputLines.{line_text, round_words, state_words, value_text};
 ghost use Rattle.trace_text.specs.ClosedWords.{closed};
 
 use crate::hexadecimal::put_padded;

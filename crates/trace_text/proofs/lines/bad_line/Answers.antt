@@ -1,4 +1,4 @@
-use Rattle.std.proofs.Common.{◌≡◌, ◌-◌, length, drop, min, ap, sym, ◌∙◌, arith}
+use Rattle.std.proofs.Common.{◌≡◌, ◌-◌, length, drop, ap, ◌∙◌, arith}
 use Rattle.trace_text.specs.Lines.{first_line, behind}
 use Rattle.trace_text.proofs.PlacedLines.{last_at}
 use Rattle.trace_text.proofs.lines.bad_line.Goals as goal

@@ -1,4 +1,4 @@
-use Rattle.std.proofs.Common.{ℕ, ◌≡◌, ◌+◌, length, drop, map, ap, sym, ◌∙◌, subst, arith, [], length-drop}
+use Rattle.std.proofs.Common.{length, drop, ap, ◌∙◌, arith}
 use Rattle.std.proofs.lemmas.List.{length-map}
 use Rattle.trace_text.specs.Lines.{words_of}
 use Rattle.trace_text.specs.Spelling.{value_of, is_clock_list, clocks_of}

@@ -1,4 +1,4 @@
-use Rattle.std.proofs.Common.{◌≡◌, ℕ, List, length, nat_eq, nat_lt, cond, Some, None, rules, tests, ap, take}
+use Rattle.std.proofs.Common.{◌≡◌, length, nat_eq, nat_lt, cond, Some, None, rules, tests, ap, take}
 use Rattle.std.specs.List.{position_or_len}
 use Rattle.std.proofs.lemmas.Iterator.{YieldsList-from_slice}
 use Rattle.std.proofs.lemmas.Iterator.Search.{position_from_yields_List}

@@ -1,4 +1,4 @@
-use Rattle.std.proofs.Common.{◌^◌, refl, nat_eq, nat_lt, not, ap, ◌∙◌, ◌/◌}
+use Rattle.std.proofs.Common.{◌^◌, refl, nat_eq, not, ap, ◌∙◌, ◌/◌}
 use Rattle.std.proofs.lemmas.Nat.{pow_pos}
 use Rattle.trace_text.specs.Spelling.{value_of}
 use Rattle.trace_text.proofs.WideValues.{quotient_tells, beyond}

@@ -1,5 +1,5 @@
 -- Each item of the loop is the next value, by what its chain yields.
-use Rattle.std.proofs.Common.{nat_eq, rules, tests, drop, ℕ, length, ◌+◌, ◌≡◌, ◌∷◌, [], ◌++◌, take, map, arith, length-append, length-drop, length-set, ap, ◌∙◌, sym, refl}
+use Rattle.std.proofs.Common.{nat_eq, rules, tests, drop, length, ◌+◌, ◌≡◌, ◌∷◌, [], ◌++◌, arith, length-append, length-drop, length-set, ap, ◌∙◌, refl}
 use Rattle.std.proofs.lemmas.Iterator.Adapters.{YieldsList-from_skip}
 use Rattle.std.proofs.lemmas.Iterator.Consumers.{YieldsList-at, YieldsList-from_enumerate, YieldsList-turn, YieldsList-end}
 use Rattle.std.proofs.lemmas.Iterator.Splits.{YieldsList-from_slice_split}

@@ -1,4 +1,4 @@
-use Rattle.std.proofs.Common.{nat_eq, refl, not, drop, rules, tests, ◌∙◌}
+use Rattle.std.proofs.Common.{nat_eq, refl, drop, rules, tests, ◌∙◌}
 use Rattle.std.specs.List.{zip}
 use Rattle.std.proofs.lemmas.Iterator.{YieldsList-from_zip, YieldsList-from_slice}
 use Rattle.std.proofs.lemmas.Iterator.Adapters.{YieldsList-from_skip, position_from-zero, serves_from_places}
@@ -6,7 +6,6 @@ use Rattle.std.proofs.lemmas.Iterator.Consumers.{YieldsList-at}
 use Rattle.std.proofs.lemmas.Iterator.Search.{position_from_yields_List}
 use Rattle.std.proofs.lemmas.Iterator.Splits.{YieldsList-from_slice_split}
 use Rattle.trace_text.specs.Lines.{words_of}
-use Rattle.trace_text.specs.Spelling.{is_value}
 use Rattle.trace_text.specs.TickWords.{is_too_wide}
 use Rattle.trace_text.proofs.WideValues.{side_by_side}
 use Rattle.trace_text.proofs.tick_words.wide_place.Goals as goal
