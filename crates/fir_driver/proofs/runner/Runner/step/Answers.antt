@@ -16,7 +16,7 @@ returns-in-Err-clause-steps c printed h =
 
 pub returns-clause-steps : goal.returns-clause-steps
 returns-clause-steps c printed h =
-    let new : Runner = record { shape = c.args.self.now.shape; sim = c.tick.new.sim; tick = c.next_tick.new.tick; at = c.next_tick.new.at } in
+    let new : Runner = record { shape = c.args.self.now.shape; sim = c.tick.new.self; tick = c.next_tick.new.tick; at = c.next_tick.new.at } in
     tick_ran c.args.trace.now c.args.with_state c.args.self.now new printed (c.trace_reads_in_steps.ensures c.args.trace.now c.args.self.now.shape) h
     (record { net = c.tick.ensures.net; shape_stays = refl }) c.next_tick.new.tick.tick (rw c.in-Ok-true.field-0-test at c.in-Ok-true.ensures.steps) c.tick.ensures.allows
     c.write_line.new.out.items (ap widths (sym c.outputs.ensures.value) ∙ c.outputs.ensures.widths ∙ ap output_widths c.tick.ensures.net)
