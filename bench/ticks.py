@@ -3,17 +3,18 @@
 
 A circuit of 4096 registers in a chain, each of which takes ten operators over the one before it, runs for 10000 ticks. Both
 show the last register after each tick and must show the same; the ratio of the two speeds is printed. The times
-are those of whole runs: `firc sim` reads and compiles the circuit, and vvp runs what iverilog has compiled before.
+are seconds of a processor for whole runs: `firc sim` reads and compiles the circuit, and vvp runs what iverilog has
+compiled before.
 
 usage: ticks.py [REGISTERS [TICKS]]
 """
 import pathlib
 import random
+import resource
 import shutil
 import subprocess
 import sys
 import tempfile
-import time
 
 ROOT = pathlib.Path(__file__).resolve().parent.parent
 WIDTH = 16
@@ -59,10 +60,16 @@ def zeros(text):
     return "\n".join(line[:-1] + " = 0;" if line.startswith("  reg [") else line for line in text.split("\n"))
 
 
+def spent():
+    """The seconds of a processor that ended children took."""
+    usage = resource.getrusage(resource.RUSAGE_CHILDREN)
+    return usage.ru_utime + usage.ru_stime
+
+
 def timed(command, work):
-    start = time.monotonic()
+    start = spent()
     done = subprocess.run(command, cwd=work, capture_output=True, text=True, check=True)
-    return done.stdout, time.monotonic() - start
+    return done.stdout, spent() - start
 
 
 def main():
