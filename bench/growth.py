@@ -1,17 +1,20 @@
 #!/usr/bin/env python3
 """Times `firc emit` on texts and on texts of twice the size, and prints a table of both.
 
-Chains of 20000 and 200000 nodes, and texts of 8 and 16 MiB of several shapes. It fails where twice the
-text takes more than 2.5 times the time; times under 0.2 seconds are too short to compare.
+Chains of 20000 and 200000 nodes, texts of 8 and 16 MiB of several shapes, and short texts of which
+long ones are made: a port with a name of 4000 bytes that 8192 and 16384 connects read under another
+name. Time goes with the bytes that are read and written. It fails where the time of the second text
+grows by more than 1.25 times what these bytes grow by; times under 0.2 seconds are too short to
+compare. Seconds are those of a processor, the least of three runs.
 
 usage: growth.py [FIRC]
 """
+import os
 import pathlib
 import resource
 import subprocess
 import sys
 import tempfile
-import time
 
 MIB = 1048576
 HEAD = "circuit T :\n  module T :\n    input a : UInt<4>\n    output o : UInt<4>\n"
@@ -60,14 +63,24 @@ def connects(size):
     return fill(size, "    o <= and(not(a), xor(a, UInt<4>(3)))\n")
 
 
+def one_long_name_used_many_times(size):
+    """A connect for each KiB. Each reads a port of a long name by the short one of a node, so that
+    in the written text the long one stands in each assign."""
+    count, name = size // 1024, "n" * 4000
+    ports = "".join(f"    output o{k} : UInt<4>\n" for k in range(count))
+    head = f"circuit T :\n  module T :\n    input {name} : UInt<4>\n{ports}    node n = {name}\n"
+    return head + "".join(f"    o{k} <= n\n" for k in range(count))
+
+
 def many_ports(size):
     count = size // 86
     ports = "".join(f"    input i{k} : UInt<4>\n    output o{k} : UInt<4>\n" for k in range(count))
-    return "circuit T :\n  module T :\n" + ports + "".join(f"    o{k} <= i{k}\n" for k in range(count))
+    takes = "".join(f"    o{k} <= i{k}\n" for k in range(count))
+    return "circuit T :\n  module T :\n" + ports + takes
 
 
 def chain_of_registers(size):
-    """Registers in a chain, each of which takes the one before, under a clock of its own for each 100."""
+    """Registers in a chain, each of which takes the one before, with a clock for each 100."""
     count = size // 70
     clocks = "".join(f"    input c{k} : Clock\n" for k in range(count // 100 + 1))
     registers = "".join(f"    reg r{i} : UInt<4>, c{i // 100}\n" for i in range(count))
@@ -83,33 +96,53 @@ def modules(size):
     return "circuit T :\n" + "".join(f"  module M{i} :\n" for i in range(size // 20))
 
 
+def spent():
+    """The seconds of a processor that ended children took."""
+    usage = resource.getrusage(resource.RUSAGE_CHILDREN)
+    return usage.ru_utime + usage.ru_stime
+
+
 def run(firc, path, text):
-    """The size, the least time of three runs, the status and what is said."""
+    """The bytes read and written, the least time of three runs, the status and what is said."""
     path.write_text(text)
-    times = []
-    for _ in range(3):
-        start = time.perf_counter()
-        done = subprocess.run([firc, "emit", str(path)], stdout=subprocess.DEVNULL, stderr=subprocess.PIPE)
-        times.append(time.perf_counter() - start)
-    return path.stat().st_size, min(times), done.returncode, done.stderr.decode(errors="replace").strip().replace(str(path), "FILE")[:40]
+    times, written = [], path.with_suffix(".v")
+    for target in (written, os.devnull, os.devnull):
+        with open(target, "wb") as out:
+            start = spent()
+            done = subprocess.run([firc, "emit", str(path)], stdout=out, stderr=subprocess.PIPE)
+            times.append(spent() - start)
+    says = done.stderr.decode(errors="replace").strip().replace(str(path), "FILE")[:40]
+    size = path.stat().st_size, written.stat().st_size
+    return size, min(times), f"{done.returncode} {says}".strip()
+
+
+SHAPES = (blank_lines, one_comment, chain_of_nodes, one_information, one_long_name,
+          one_long_name_used_many_times, skips, connects, many_ports, chain_of_registers, dots,
+          modules)
+
+
+def texts():
+    """The names of the rows, each with its two texts."""
+    yield "chain of 20000 and of 200000 nodes", chain(20000), chain(200000)
+    for make in SHAPES:
+        yield make.__name__.replace("_", " "), make(8 * MIB), make(16 * MIB)
 
 
 def main():
     firc = sys.argv[1] if len(sys.argv) > 1 else "./firc"
     failed = False
-    print("| Text | Bytes | Seconds | Twice the bytes | Seconds | Status |")
-    print("|---|---|---|---|---|---|")
-    pairs = [("chain of 20000 and of 200000 nodes", chain(20000), chain(200000))]
-    shapes = (blank_lines, one_comment, chain_of_nodes, one_information, one_long_name, skips, connects, many_ports, chain_of_registers, dots, modules)
-    pairs += [(make.__name__.replace("_", " "), make(8 * MIB), make(16 * MIB)) for make in shapes]
+    print("| Text | Read | Written | Seconds | Twice: read | Written | Seconds | Status |")
+    print("|---|---|---|---|---|---|---|---|")
     with tempfile.TemporaryDirectory() as work:
         path = pathlib.Path(work) / "t.fir"
-        for name, half, whole in pairs:
-            size, took, status, says = run(firc, path, half)
-            size2, took2, status2, says = run(firc, path, whole)
-            print(f"| {name} | {size} | {took:.2f} | {size2} | {took2:.2f} | {status2} {says} |")
-            if took2 > 0.2 and took2 / max(took, 0.01) > 2.5 * (size2 / size) / 2:
-                print(f"growth: {name} takes {took2 / took:.1f} times the time", file=sys.stderr)
+        for name, half, whole in texts():
+            size, took, status = run(firc, path, half)
+            size2, took2, status = run(firc, path, whole)
+            cells = [name, *size, f"{took:.2f}", *size2, f"{took2:.2f}", status]
+            print("| " + " | ".join(map(str, cells)) + " |", flush=True)
+            grew = took2 / max(took, 0.01)
+            if took2 > 0.2 and grew > 1.25 * sum(size2) / sum(size):
+                print(f"growth: {name} takes {grew:.1f} times the time", file=sys.stderr)
                 failed = True
     peak = resource.getrusage(resource.RUSAGE_CHILDREN).ru_maxrss // 1024
     print(f"\nmost memory: {peak} MB")

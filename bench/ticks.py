@@ -1,10 +1,11 @@
 #!/usr/bin/env python3
-"""Compares the speed of `firc sim` with that of Icarus Verilog on the emitted text, in ticks a second.
+"""Compares the speed of `firc sim` with that of Icarus Verilog on the emitted text, in ticks a
+second.
 
-A circuit of 4096 registers in a chain, each of which takes ten operators over the one before it, runs for 10000 ticks. Both
-show the last register after each tick and must show the same; the ratio of the two speeds is printed. The times
-are seconds of a processor for whole runs: `firc sim` reads and compiles the circuit, and vvp runs what iverilog has
-compiled before.
+A circuit of 4096 registers in a chain, each of which takes ten operators over the one before it,
+runs for 10000 ticks. Both show the last register after each tick and must show the same; the ratio
+of the two speeds is printed. The times are seconds of a processor for whole runs: `firc sim` reads
+and compiles the circuit, and vvp runs what iverilog has compiled before.
 
 usage: ticks.py [REGISTERS [TICKS]]
 """
@@ -22,12 +23,14 @@ WIDTH = 16
 
 def circuit(registers):
     """The text of the chain."""
-    lines = ["circuit Chain :", "  module Chain :", "    input clock : Clock", f"    input a : UInt<{WIDTH}>", f"    output o : UInt<{WIDTH}>"]
+    lines = ["circuit Chain :", "  module Chain :", "    input clock : Clock"]
+    lines += [f"    input a : UInt<{WIDTH}>", f"    output o : UInt<{WIDTH}>"]
     last = "a"
     for k in range(registers):
         lines.append(f"    reg r{k} : UInt<{WIDTH}>, clock")
         turned = f"cat(bits({last}, {WIDTH - 2}, 0), bits({last}, {WIDTH - 1}, {WIDTH - 1}))"
-        lines.append(f"    r{k} <= xor(or(and({turned}, r{k}), not({last})), or(xor(r{k}, {last}), not(r{k})))")
+        first, second = f"or(and({turned}, r{k}), not({last}))", f"or(xor(r{k}, {last}), not(r{k}))"
+        lines.append(f"    r{k} <= xor({first}, {second})")
         last = f"r{k}"
     return "\n".join(lines + [f"    o <= {last}"]) + "\n"
 
@@ -57,7 +60,8 @@ endmodule
 
 def zeros(text):
     """The text with a start at 0 for each register, as in a trace without init lines."""
-    return "\n".join(line[:-1] + " = 0;" if line.startswith("  reg [") else line for line in text.split("\n"))
+    lines = text.split("\n")
+    return "\n".join(line[:-1] + " = 0;" if line.startswith("  reg [") else line for line in lines)
 
 
 def spent():
@@ -83,14 +87,16 @@ def main():
         (work / "chain.trace").write_text("".join(f"0 {value}\n" for value in inputs))
         program = str(ROOT / "firc")
         shown, seconds = timed([program, "sim", "chain.fir", "chain.trace"], work)
-        print(f"firc sim: {ticks / seconds:.0f} ticks a second ({seconds:.1f} s for {ticks} ticks of {registers} registers)")
+        print(f"firc sim: {ticks / seconds:.0f} ticks a second ({seconds:.1f} s for {ticks} ticks "
+              f"of {registers} registers)")
         if not (shutil.which("iverilog") and shutil.which("vvp")):
             sys.exit("ticks: Icarus Verilog is not installed, so there is nothing to compare with")
         text, _ = timed([program, "emit", "chain.fir"], work)
         (work / "chain.v").write_text(zeros(text))
         (work / "bench.v").write_text(bench(inputs))
         (work / "inputs.hex").write_text("\n".join(inputs) + "\n")
-        subprocess.run(["iverilog", "-g2005", "-o", "chain.vvp", "chain.v", "bench.v"], cwd=work, check=True)
+        words = ["iverilog", "-g2005", "-o", "chain.vvp", "chain.v", "bench.v"]
+        subprocess.run(words, cwd=work, check=True)
         other, other_seconds = timed(["vvp", "-n", "chain.vvp"], work)
         print(f"vvp:      {ticks / other_seconds:.0f} ticks a second ({other_seconds:.1f} s)")
         print(f"ratio:    {other_seconds / seconds:.2f}")

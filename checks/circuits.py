@@ -1,9 +1,10 @@
 #!/usr/bin/env python3
 """Compares firc with a second reading of the language's rules, on circuits made at random.
 
-Each circuit is either refused with the line of its first fault, which is worked out here once more from
-the table of faults, or emitted; what is emitted is run by the simulator, and by Icarus Verilog where that is installed,
-from a random state over random ticks, and shows the values that Python's integers give.
+Each circuit is either refused with the line of its first fault, which is worked out here once more
+from the table of faults, or emitted; what is emitted is run by the simulator, and by Icarus Verilog
+where that is installed, from a random state over random ticks, and shows the values that Python's
+integers give.
 
 usage: circuits.py COUNT [SEED]
 """
@@ -14,14 +15,14 @@ import subprocess
 import sys
 import tempfile
 
-ROOT = pathlib.Path(__file__).resolve().parent.parent
-sys.path.insert(0, str(ROOT / "examples"))
-import expected  # noqa: E402
-from bench import bench, read_trace  # noqa: E402
-from faults import Faults  # noqa: E402
+import expected
+from faults import Faults
+from test_bench import test_bench
 
-NAMES = ["a", "b", "c", "d", "o", "p", "q", "r", "clock", "clock_0", "wire", "assign", "assign_0", "reg", "reg_0",
-         "always", "posedge", "_n0", "_n1", "x_0", "x"]
+ROOT = pathlib.Path(__file__).resolve().parent.parent
+NAMES = """a b c d o p q r clock clock_0 wire assign assign_0 reg reg_0 always posedge _n0 _n1 x_0
+x""".split()
+WIDTHS = [0, 1, 1, 2, 3, 4, 4, 5, 8, 16, 33, 64, 65, 128]
 WAYS = ["form", "name", "again", "module", "clock", "sink", "width", "integer", "driver"]
 TICKS = 32
 
@@ -31,14 +32,15 @@ class Maker:
 
     def __init__(self, chance):
         self.chance = chance
-        self.wrong = chance.sample(WAYS, chance.choice([1, 1, 2, 3])) if chance.random() < 0.5 else []
+        is_wild = chance.random() < 0.5
+        self.wrong = chance.sample(WAYS, chance.choice([1, 1, 2, 3])) if is_wild else []
 
     def slip(self, way, rate):
         """Whether this is to be wrong here."""
         return way in self.wrong and self.chance.random() < rate
 
     def width(self):
-        return self.chance.choice([129, 200] if self.slip("width", 0.1) else [0, 1, 1, 2, 3, 4, 4, 5, 8, 16, 33, 64, 65, 128])
+        return self.chance.choice([129, 200] if self.slip("width", 0.1) else WIDTHS)
 
     def leaf(self):
         """A name or a literal, and its width."""
@@ -80,7 +82,9 @@ class Maker:
         """The lines of the ports, in any order."""
         lines = [f"input {n} : Clock" for n in self.clocks]
         lines += [f"input {n} : UInt<{width}>" for n, width in self.readable.items()]
-        lines += [f"output {n} : {'Clock' if self.slip('form', 0.1) else f'UInt<{self.width()}>'}" for n in self.outputs]
+        for n in self.outputs:
+            kind = "Clock" if self.slip("form", 0.1) else f"UInt<{self.width()}>"
+            lines.append(f"output {n} : {kind}")
         self.chance.shuffle(lines)
         return lines
 
@@ -89,16 +93,27 @@ class Maker:
         clock = self.chance.choice(self.clocks or [name])
         if self.slip("clock", 0.3):
             others = [name, self.chance.choice(NAMES), self.chance.choice(self.outputs)]
-            clock = self.chance.choice(others + [self.expression(depth)[0] for depth in (0, 0, 2, 2)])
+            others += [self.expression(depth)[0] for depth in (0, 0, 2, 2)]
+            clock = self.chance.choice(others)
         width = self.width()
-        kind = self.chance.choice(["UInt", "SInt<4>", "Clock", "AsyncReset"]) if self.slip("form", 0.2) else f"UInt<{width}>"
-        reset = f" with : (reset => ({self.chance.choice(NAMES)}, UInt<1>(0)))" if self.slip("form", 0.2) else ""
+        kind, reset = f"UInt<{width}>", ""
+        if self.slip("form", 0.2):
+            kind = self.chance.choice(["UInt", "SInt<4>", "Clock", "AsyncReset"])
+        if self.slip("form", 0.2):
+            reset = f" with : (reset => ({self.chance.choice(NAMES)}, UInt<1>(0)))"
         self.targets += [name] * self.chance.choice([0, 1, 1, 1, 2])
         self.readable[name] = width
         return f"reg {name} : {kind}, {clock}{reset}"
 
+    def whole_expression(self):
+        """The text of an expression, and its width. Some stand twice, so that they have one net."""
+        if self.made and self.chance.random() < 0.2:
+            return self.chance.choice(self.made)
+        self.made.append(self.expression(self.chance.randrange(4)))
+        return self.made[-1]
+
     def node(self, name):
-        text, width = self.expression(self.chance.randrange(4))
+        text, width = self.whole_expression()
         self.readable[name] = width
         return f"node {name} = {text}"
 
@@ -113,7 +128,7 @@ class Maker:
             name = self.chance.choice(NAMES)
         elif self.slip("sink", 0.2):
             name = self.chance.choice(self.clocks + list(self.readable))
-        return f"{name} <= {self.expression(self.chance.randrange(4))[0]}"
+        return f"{name} <= {self.whole_expression()[0]}"
 
     def body(self):
         """The lines behind the ports."""
@@ -135,21 +150,25 @@ class Maker:
         self.clocks = [names.pop() for _ in range(chance.randrange(4))]
         self.readable = {names.pop(): self.width() for _ in range(chance.randrange(1, 4))}
         self.outputs = [names.pop() for _ in range(chance.randrange(1, 4))]
-        self.fresh = names
-        self.targets = self.outputs + [chance.choice(self.outputs) for _ in range(chance.randrange(2))]
+        self.fresh, self.made = names, []
+        twice = [chance.choice(self.outputs) for _ in range(chance.randrange(2))]
+        self.targets = self.outputs + twice
         lines, body = self.ports(), self.body()
         if self.slip("again", 0.8):
             name = chance.choice(NAMES)
-            body.insert(chance.randrange(len(body) + 1), chance.choice([f"node {name} = UInt<1>(0)", f"reg {name} : UInt<1>, {name}"]))
+            again = [f"node {name} = UInt<1>(0)", f"reg {name} : UInt<1>, {name}"]
+            body.insert(chance.randrange(len(body) + 1), chance.choice(again))
         name = chance.choice(["T", "top", "table", "bench"])
         module = "S" if self.slip("module", 0.8) else name
-        return f"circuit {name} :\n  module {module} :\n" + "".join(f"    {line}\n" for line in lines + body)
+        head = [f"circuit {name} :", f"  module {module} :"]
+        return "\n".join(head + [f"    {line}" for line in lines + body]) + "\n"
 
 
 def random_run(circuit, chance):
     """An initial state, and ticks as the numbers of the clocks that rise and the inputs."""
     def value(width):
-        return chance.choice([0, (1 << width) - 1, chance.randrange(1 << width), chance.randrange(1 << width)])
+        drawn = [chance.randrange(1 << width) for _ in range(2)]
+        return chance.choice([0, (1 << width) - 1] + drawn)
 
     ticks = []
     for _ in range(TICKS):
@@ -162,16 +181,22 @@ def shown_by_icarus(work, verilog, lines):
     """What Icarus shows of the emitted text in the bench, or what it says where it refuses them."""
     (work / "t.v").write_text(verilog)
     (work / "bench.v").write_text("\n".join(lines) + "\n")
-    built = subprocess.run(["iverilog", "-g2005", "-o", str(work / "t.vvp"), str(work / "t.v"), str(work / "bench.v")], capture_output=True, text=True)
+    words = ["iverilog", "-g2005", "-o", "t.vvp", "t.v", "bench.v"]
+    built = subprocess.run(words, cwd=work, capture_output=True, text=True)
     if built.returncode:
         return built.stderr
-    return subprocess.run(["vvp", "-n", str(work / "t.vvp")], capture_output=True, text=True, check=True).stdout
+    words = ["vvp", "-n", "t.vvp"]
+    return subprocess.run(words, cwd=work, capture_output=True, text=True, check=True).stdout
+
+
+def firc(*words):
+    return subprocess.run(["./firc", *map(str, words)], cwd=ROOT, capture_output=True, text=True)
 
 
 def shown_by_sim(work, source, trace):
     """What the simulator shows of the circuit, or what it says where it refuses it."""
     (work / "t.trace").write_text(trace)
-    done = subprocess.run(["./firc", "sim", str(source), str(work / "t.trace"), "--state"], cwd=ROOT, capture_output=True, text=True)
+    done = firc("sim", source, work / "t.trace", "--state")
     return done.stdout + done.stderr
 
 
@@ -179,8 +204,7 @@ def compare(work, text, chance, with_icarus):
     """What firc says of the text, or None where it is emitted. Ends where the two differ."""
     source = work / "t.fir"
     source.write_text(text)
-    done = subprocess.run(["./firc", "emit", str(source)], cwd=ROOT, capture_output=True, text=True)
-    fault = Faults(text).first()
+    done, fault = firc("emit", source), Faults(text).first()
     says = done.stderr.strip() or None
     if says != fault or done.returncode != (1 if fault else 0):
         sys.exit(f"of\n{text}firc says {says!r} with status {done.returncode}, the rules {fault!r}")
@@ -192,10 +216,11 @@ def compare(work, text, chance, with_icarus):
     wanted = "".join(line + "\n" for line in expected.shown_lines(circuit, *run))
     shows = {"firc sim": shown_by_sim(work, source, trace)}
     if with_icarus:
-        shows["Icarus"] = shown_by_icarus(work, done.stdout, bench(circuit, *read_trace(trace)))
+        shows["Icarus"] = shown_by_icarus(work, done.stdout, test_bench(circuit, *run))
     for by, shown in shows.items():
         if shown != wanted:
-            sys.exit(f"of\n{text}with the trace\n{trace}\n{by} shows\n{shown}where the source has\n{wanted}")
+            shown = f"{by} shows\n{shown}where the source has\n{wanted}"
+            sys.exit(f"of\n{text}with the trace\n{trace}\n{shown}")
     return None
 
 
@@ -208,8 +233,11 @@ def main():
     with tempfile.TemporaryDirectory() as work:
         for _ in range(int(sys.argv[1])):
             fault = compare(pathlib.Path(work), Maker(chance).text(), chance, with_icarus)
-            said[fault[:3] if fault else "emitted"] = said.get(fault[:3] if fault else "emitted", 0) + 1
-    print("circuits: the same on", sum(said.values()), "circuits:", dict(sorted(said.items())), "" if with_icarus else "(Icarus is not installed)")
+            came_to = fault[:3] if fault else "emitted"
+            said[came_to] = said.get(came_to, 0) + 1
+    if not with_icarus:
+        print("circuits: Icarus is not installed, so only the simulator was compared")
+    print("circuits: the same on", sum(said.values()), "circuits:", dict(sorted(said.items())))
 
 
 if __name__ == "__main__":

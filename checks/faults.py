@@ -1,14 +1,17 @@
-"""A second reading of the rules of faults, for circuits as circuits.py makes them: a statement a line."""
+"""A second reading of the rules of faults, for circuits as circuits.py makes them: a statement a
+line."""
 import re
 
 OVER = 129
+GROUPS = ["lacking", "names", "main", "types", "widths", "integers", "drivers"]
 
 
 class Faults:
-    """The faults of a text, group by group in the order of the text. In the first group stands what the language lacks."""
+    """The faults of a text, group by group in the order of the text. In the first group stands what
+    the language lacks."""
 
     def __init__(self, text):
-        self.groups = {group: [] for group in ("lacking", "names", "main", "types", "widths", "integers", "drivers")}
+        self.groups = {group: [] for group in GROUPS}
         lines = text.splitlines()
         name, module = lines[0].split()[1], lines[1].split()[1]
         if name != module:
@@ -43,11 +46,13 @@ class Faults:
             self.groups["widths"].append(f"E19 {place} width over 128 {name}")
 
     def written(self, number, line, lasts):
-        """The width of the type that is written behind the colon, and that type; `lasts` are types without a width that may stand there."""
+        """The width of the type that is written behind the colon, and that type; `lasts` are types
+        without a width that may stand there."""
         at = line.index(" : ") + 3
         kind = re.match(r"\w+(<\d+>)?", line[at:])[0]
         if not re.fullmatch(r"UInt<\d+>", kind) and kind not in lasts:
-            self.groups["lacking"].append(f"E05 {number}:{at + 1} unsupported {re.match('[A-Za-z]+', kind)[0]}")
+            word = re.match("[A-Za-z]+", kind)[0]
+            self.groups["lacking"].append(f"E05 {number}:{at + 1} unsupported {word}")
         width = re.search(r"\d+", kind)
         return int(width[0]) if width else 0, kind
 
@@ -57,7 +62,8 @@ class Faults:
         width, printed = self.written(number, line, ["Clock"] if direction == "input" else [])
         self.twice(place, name)
         self.over(place, width, name)
-        self.known.setdefault(name, ("clock" if printed == "Clock" else direction, place, width, printed))
+        kind = "clock" if printed == "Clock" else direction
+        self.known.setdefault(name, (kind, place, width, printed))
 
     def register(self, number, line, name):
         place = f"{number}:9"
@@ -70,7 +76,8 @@ class Faults:
         self.known.setdefault(name, ("register", place, width, printed))
 
     def clock(self, number, line, at):
-        """What stands behind a register's comma, and the byte behind it: a clock, and of all else that may be read its type is told."""
+        """The byte behind what stands behind a register's comma: a clock; of all else that may be
+        read its type is told."""
         word = re.match(r"[\w$]+", line[at:])[0]
         if word in self.known and self.known[word][0] == "clock":
             return at + len(word)
@@ -100,7 +107,8 @@ class Faults:
             self.groups["types"].append(f"E14 {place} flow {sink}")
 
     def expression(self, number, line, at):
-        """The width of the expression that begins at the byte, its type as faults print it, and the byte behind it."""
+        """The width of the expression that begins at the byte, its type as faults print it, and the
+        byte behind it."""
         end = at
         while end < len(line) and (line[end].isalnum() or line[end] in "_$"):
             end += 1
@@ -109,7 +117,8 @@ class Faults:
             return *self.reference(place, word), end
         if word == "UInt":
             close = line.index(")", end)
-            return *self.literal(place, *(int(part) for part in line[end + 1:close].split(">("))), close + 1
+            width, value = map(int, line[end + 1:close].split(">("))
+            return *self.literal(place, width, value), close + 1
         widths, types, integers, at = [], [], [], end + 1
         while line[at - 1] != ")":
             if line[at].isdigit():
@@ -124,7 +133,8 @@ class Faults:
         return self.operation(place, word, widths, integers), "UInt" if all(types) else None, at
 
     def reference(self, place, name):
-        """The width and type of a name in an expression, where neither outputs nor clocks may be read."""
+        """The width and type of a name in an expression, where neither outputs nor clocks may be
+        read."""
         kind, _, width, printed = self.known.get(name, (None, None, 0, None))
         if kind in ("input", "node", "register"):
             return min(width, OVER), printed
@@ -143,7 +153,8 @@ class Faults:
             high, low = integers
             width = max(high - low + 1, 0)
             if widths[0] != OVER and width <= 128 and not low <= high < widths[0]:
-                self.groups["integers"].append(f"E21 {place} legality bits {widths[0]} {high} {low}")
+                fault = f"E21 {place} legality bits {widths[0]} {high} {low}"
+                self.groups["integers"].append(fault)
         else:
             width = {"not": widths[0], "cat": sum(widths)}.get(op, max(widths))
         if OVER in widths:

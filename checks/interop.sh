@@ -1,8 +1,8 @@
 #!/usr/bin/env bash
-# Simulates each example on the 64 ticks of examples/NAME.trace against examples/NAME.expected; reads its
-# emitted text with Icarus Verilog, Verilator and Yosys, and runs it with Icarus on the same ticks. A tool
-# that is not installed is skipped; one that is there and refuses the text, or shows other values, fails the
-# check.
+# Simulates each example on the ticks of examples/NAME.trace against examples/NAME.expected; reads
+# its emitted text with Icarus Verilog, Verilator and Yosys, and runs it with Icarus on the same
+# ticks. A tool that is not installed is skipped; one that is there and refuses the text, or shows
+# other values, fails the check.
 set -u
 cd "$(dirname "$0")/.." || exit 1
 work=$(mktemp -d) || exit 1
@@ -14,28 +14,24 @@ tool() { has "$1" || echo "interop: $1 is not installed, skipped"; }
 for name in python3 iverilog verilator yosys; do tool "$name"; done
 
 if has python3; then
-  python3 examples/expected.py --check || fail "examples/*.trace and *.expected are not what the sources give"
-fi
-
-for source in examples/*.fir; do
-  name=$(basename "$source" .fir)
-  ./firc sim "$source" "examples/$name.trace" --state >"$work/$name.printed" &&
-    diff "examples/$name.expected" "$work/$name.printed" || fail "$name shows other values under firc sim"
-done
-
-if ! has iverilog && ! has verilator && ! has yosys; then
-  echo "interop: no tool is there to compare with"
-  exit "$failed"
+  python3 checks/expected.py --check || fail "traces or expected lines are not those of the sources"
 fi
 
 # Whether each register of the text has a block.
 drives_registers() {
-  awk '$1 == "reg" { held[$NF] } $1 == "always" { delete held[$4 ";"] } END { for (r in held) exit 1 }' "$1"
+  awk '$1 == "reg" { held[$NF] } $1 == "always" { delete held[$4 ";"] }
+    END { for (r in held) exit 1 }' "$1"
 }
 
+examples=0
 for source in examples/*.fir; do
+  examples=$((examples + 1))
   name=$(basename "$source" .fir)
+  trace="examples/$name.trace"
+  expected="examples/$name.expected"
   text="$work/$name.v"
+  ./firc sim "$source" "$trace" --state >"$work/$name.printed" &&
+    diff "$expected" "$work/$name.printed" || fail "$name shows other values under firc sim"
   if ! ./firc emit "$source" >"$text"; then
     fail "firc refuses $source"
     continue
@@ -47,18 +43,18 @@ for source in examples/*.fir; do
     verilator --lint-only --default-language 1364-2005 "$text" || fail "verilator refuses $name"
   fi
   if has yosys; then
-    # A register without a block holds what it has from the start; `check -assert` refuses it as used without a
-    # driver, so texts with one are read without that check.
+    # A register without a block holds what it has from the start; `check -assert` refuses it as
+    # used without a driver, so texts with one are read without that check.
     passes="hierarchy -check; proc"
     drives_registers "$text" && passes="$passes; check -assert"
     yosys -q -p "read_verilog $text; $passes" || fail "yosys refuses $name"
   fi
   if has iverilog && has vvp && has python3; then
-    python3 checks/bench.py "$source" "examples/$name.trace" >"$work/$name-bench.v" &&
+    python3 checks/test_bench.py "$source" "$trace" >"$work/$name-bench.v" &&
       iverilog -g2005 -o "$work/$name.vvp" "$text" "$work/$name-bench.v" &&
       vvp -n "$work/$name.vvp" >"$work/$name.shown" &&
-      diff "examples/$name.expected" "$work/$name.shown" || fail "$name shows other values under iverilog"
+      diff "$expected" "$work/$name.shown" || fail "$name shows other values under iverilog"
   fi
 done
-[ "$failed" -eq 0 ] && echo "interop: passed"
+[ "$failed" -eq 0 ] && echo "interop: $examples examples passed"
 exit "$failed"

@@ -1,5 +1,5 @@
-circuit Last :
-  module Last :
+circuit LastConnect :
+  module LastConnect :
     input a : UInt<4>
     input b : UInt<4>
     output o : UInt<4>

@@ -1,5 +1,5 @@
-circuit Zero :
-  module Zero :
+circuit ZeroWidth :
+  module ZeroWidth :
     input a : UInt<4>
     input none : UInt<0>
     output o : UInt<4>

@@ -6,9 +6,9 @@ use Rattle.fir_ast.specs.declared.types.Field.{Field, fold_out-Field}
 use Rattle.fir_ast.specs.Types.{DataType, Fields, no_fields, field}
 use Rattle.fir_ast.specs.View.{type_step, field_step, fields_of, type_of}
 use Rattle.fir_ast.specs.Texts.{flip_text, type_text, next_fields_text}
-use Rattle.fir_ast.specs.BundleText.{bundle_text, field_of}
+use Rattle.fir_ast.specs.working.BundleText.{bundle_text, field_of}
 
-pub field_of-is : (f : Field) (rest : Fields) → field_of f rest ≡ field f.place f.flip f.name (type_of f.ty) rest
+pub field_of-is : (f : Field) (rest : Fields) → field_of f rest ≡ field f.place f.flip f.name f.type_place (type_of f.ty) rest
 field_of-is f rest = ap (λ (g : Fields → Fields). g rest) (fold_out-Field DataType (Fields → Fields) type_step field_step f)
 
 -- one field

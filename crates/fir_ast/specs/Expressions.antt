@@ -12,11 +12,12 @@ mutual
     mux : Place → Expression → Expression → Expression → Expression
     validif : Place → Expression → Expression → Expression
 
+  -- where the `.` or the `[` stands; of a name and of a plain number where it stands
   pub data Parts : Type 0 where
     no_parts : Parts
-    subfield : Place → List ℕ → Parts → Parts
-    subindex : Place → ℕ → Parts → Parts
-    subaccess : Expression → Parts → Parts
+    subfield : Place → Place → List ℕ → Parts → Parts
+    subindex : Place → Place → ℕ → Parts → Parts
+    subaccess : Place → Expression → Parts → Parts
 
   pub data Expressions : Type 0 where
     no_expressions : Expressions

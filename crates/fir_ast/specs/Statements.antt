@@ -6,7 +6,7 @@ use Rattle.fir_ast.specs.Types.{DataType}
 use Rattle.fir_ast.specs.Expressions.{Expression, Parts}
 
 -- a name where it is declared or named
-pub record Named : Type 0 where
+pub record PlacedName : Type 0 where
   pub place : Place
   pub name : List ℕ
 
@@ -16,27 +16,30 @@ pub record Sink : Type 0 where
   pub name : List ℕ
   pub parts : Parts
 
+-- where `with` stands, the condition, the value
 pub record Reset : Type 0 where
+  pub place : Place
   pub condition : Expression
   pub init : Expression
 
+-- a type stands behind the place where it begins
 pub data MemoryPart : Type 0 where
-  data_type : Place → DataType → MemoryPart
+  data_type : Place → Place → DataType → MemoryPart
   depth : Place → ℕ → MemoryPart
   read_latency : Place → ℕ → MemoryPart
   write_latency : Place → ℕ → MemoryPart
-  reader : Place → List Named → MemoryPart
-  writer : Place → List Named → MemoryPart
-  readwriter : Place → List Named → MemoryPart
+  reader : Place → List PlacedName → MemoryPart
+  writer : Place → List PlacedName → MemoryPart
+  readwriter : Place → List PlacedName → MemoryPart
   read_under_write : Place → ReadUnderWrite → MemoryPart
 
 mutual
   pub data Statement : Type 0 where
-    wire : Place → Named → DataType → Statement
-    register : Place → Named → DataType → Expression → Option Reset → Statement
-    node : Place → Named → Expression → Statement
-    instance : Place → Named → Named → Statement
-    memory : Place → Named → List MemoryPart → Statement
+    wire : Place → PlacedName → Place → DataType → Statement
+    register : Place → PlacedName → Place → DataType → Expression → Option Reset → Statement
+    node : Place → PlacedName → Expression → Statement
+    instance : Place → PlacedName → PlacedName → Statement
+    memory : Place → PlacedName → List MemoryPart → Statement
     when : Place → Expression → Block → Block → Statement
     connect : Place → Sink → Expression → Statement
     partial_connect : Place → Sink → Expression → Statement

@@ -28,13 +28,13 @@ abbrev mutual
   type_text reset = codes "Reset"
   type_text async_reset = codes "AsyncReset"
   type_text (bundle no_fields) = codes "{}"
-  type_text (bundle (field place flip name t rest)) = codes "{" ++ flip_text flip ++ name ++ codes ": " ++ type_text t ++ next_fields_text rest ++ codes "}"
+  type_text (bundle (field place flip name begins t rest)) = codes "{" ++ flip_text flip ++ name ++ codes ": " ++ type_text t ++ next_fields_text rest ++ codes "}"
   type_text (vector t n) = type_text t ++ codes "[" ++ decimal n ++ codes "]"
 
   -- fields behind another
   pub next_fields_text : Fields → List ℕ
   next_fields_text no_fields = []
-  next_fields_text (field place flip name t rest) = codes ", " ++ flip_text flip ++ name ++ codes ": " ++ type_text t ++ next_fields_text rest
+  next_fields_text (field place flip name begins t rest) = codes ", " ++ flip_text flip ++ name ++ codes ": " ++ type_text t ++ next_fields_text rest
 
 -- texts with a separator between any two
 abbrev pub separated : List ℕ → List (List ℕ) → List ℕ

@@ -12,7 +12,7 @@ mutual
     bundle : Fields → DataType
     vector : DataType → ℕ → DataType
 
-  -- where the name stands, whether it is flipped, the name, the type
+  -- where the name stands, whether it is flipped, the name, where the type begins, the type
   pub data Fields : Type 0 where
     no_fields : Fields
-    field : Place → Bool → List ℕ → DataType → Fields → Fields
+    field : Place → Bool → List ℕ → Place → DataType → Fields → Fields

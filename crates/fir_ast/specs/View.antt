@@ -17,7 +17,7 @@ use Rattle.fir_ast.specs.declared.circuit.Module.{Module}
 use Rattle.fir_ast.specs.declared.circuit.Port.{Port}
 use Rattle.fir_ast.specs.Types.{DataType, uint, sint, clock, reset, async_reset, bundle, vector, Fields, no_fields, field}
 use Rattle.fir_ast.specs.Expressions.{Expression, reference, literal, operation, mux, validif, Parts, no_parts, subfield, subindex, subaccess, Expressions, no_expressions, expression}
-use Rattle.fir_ast.specs.Statements.{Named, Sink, Reset, MemoryPart, data_type, depth, read_latency, write_latency, reader, writer, readwriter, read_under_write, Statement, wire, register, node, instance, memory, when, connect, partial_connect, invalid, skip, Block, done, then}
+use Rattle.fir_ast.specs.Statements.{PlacedName, Sink, Reset, MemoryPart, data_type, depth, read_latency, write_latency, reader, writer, readwriter, read_under_write, Statement, wire, register, node, instance, memory, when, connect, partial_connect, invalid, skip, Block, done, then}
 use Rattle.fir_ast.specs.Circuits.{PortTree, ModuleTree, CircuitTree}
 
 -- a field is what it puts before the fields behind it
@@ -35,7 +35,7 @@ type_step (Ty-F.Bundle fs) = bundle (fields_of fs.items)
 type_step (Ty-F.Vector t n) = vector t.value n
 
 abbrev pub field_step : Field-F DataType (Fields → Fields) → Fields → Fields
-field_step f rest = field f.place f.flip f.name f.ty rest
+field_step f rest = field f.place f.flip f.name f.type_place f.ty rest
 
 abbrev pub type_of : Ty → DataType
 type_of = fold-Ty DataType (Fields → Fields) type_step field_step
@@ -60,9 +60,9 @@ abbrev pub reference_step : Reference-F Expression (Parts → Parts) Sink → Si
 reference_step r = record { place = r.place; name = r.name; parts = parts_of r.parts.items }
 
 abbrev pub part_step : Part-F Expression (Parts → Parts) Sink → Parts → Parts
-part_step (Part-F.Field place name) rest = subfield place name rest
-part_step (Part-F.Index place index) rest = subindex place index rest
-part_step (Part-F.Access e) rest = subaccess e.value rest
+part_step (Part-F.Field first place name) rest = subfield first place name rest
+part_step (Part-F.Index first place index) rest = subindex first place index rest
+part_step (Part-F.Access first e) rest = subaccess first e.value rest
 
 abbrev pub expr_of : Expr → Expression
 expr_of = fold-Expr Expression (Parts → Parts) Sink expr_step part_step reference_step
@@ -70,14 +70,14 @@ expr_of = fold-Expr Expression (Parts → Parts) Sink expr_step part_step refere
 abbrev pub sink_of : Reference → Sink
 sink_of = fold-Reference Expression (Parts → Parts) Sink expr_step part_step reference_step
 
-abbrev pub named_of : Ident → Named
+abbrev pub named_of : Ident → PlacedName
 named_of i = record { place = i.place; name = i.name }
 
 abbrev pub reset_of : RegisterReset → Reset
-reset_of r = record { condition = expr_of r.condition; init = expr_of r.init }
+reset_of r = record { place = r.place; condition = expr_of r.condition; init = expr_of r.init }
 
 abbrev pub memory_part_of : MemoryField → MemoryPart
-memory_part_of (field_of_memory.DataType place t) = data_type place (type_of t)
+memory_part_of (field_of_memory.DataType place begins t) = data_type place begins (type_of t)
 memory_part_of (field_of_memory.Depth place n) = depth place n
 memory_part_of (field_of_memory.ReadLatency place n) = read_latency place n
 memory_part_of (field_of_memory.WriteLatency place n) = write_latency place n
@@ -92,8 +92,9 @@ block_of (s ∷ ss) = then s (block_of ss)
 
 -- a when is what it makes of its place
 abbrev pub stmt_step : Stmt-F Statement (Place → Statement) → Statement
-stmt_step (Stmt-F.Wire place i t) = wire place (named_of i) (type_of t)
-stmt_step (Stmt-F.Reg place r) = register place (named_of r.ident) (type_of r.ty) (expr_of r.clock) (option_map reset_of r.reset)
+stmt_step (Stmt-F.Wire place i begins t) = wire place (named_of i) begins (type_of t)
+stmt_step (Stmt-F.Reg place r) =
+    register place (named_of r.value.ident) r.value.type_place (type_of r.value.ty) (expr_of r.value.clock) (option_map reset_of r.value.reset)
 stmt_step (Stmt-F.Node place i e) = node place (named_of i) (expr_of e)
 stmt_step (Stmt-F.Inst place i m) = instance place (named_of i) (named_of m)
 stmt_step (Stmt-F.Mem place m) = memory place (named_of m.ident) (map memory_part_of m.fields.items)
@@ -110,10 +111,10 @@ abbrev pub stmt_of : Stmt → Statement
 stmt_of = fold-Stmt Statement (Place → Statement) stmt_step when_step
 
 abbrev pub port_of : Port → PortTree
-port_of p = record { direction = p.direction; named = named_of p.ident; data_type = type_of p.ty }
+port_of p = record { direction = p.direction; named = named_of p.ident; type_place = p.type_place; data_type = type_of p.ty }
 
 abbrev pub module_of : Module → ModuleTree
-module_of m = record { named = named_of m.ident; ports = map port_of m.ports.items; body = block_of (map stmt_of m.body.items) }
+module_of m = record { place = m.place; named = named_of m.ident; ports = map port_of m.ports.items; body = block_of (map stmt_of m.body.items) }
 
 abbrev pub circuit_of : Circuit → CircuitTree
 circuit_of c = record { named = named_of c.ident; modules = map module_of c.modules.items }

@@ -1,5 +1,6 @@
 //! Circuits and modules (FIRRTL spec, "Circuits", "Modules").
 
+use crate::place::Place;
 use crate::statements::{Ident, Stmt};
 use crate::types::Ty;
 use fir_base::Direction;
@@ -14,6 +15,8 @@ pub struct Circuit {
 /// A module.
 #[derive(Drop)]
 pub struct Module {
+    /// Where its word `module` stands.
+    pub place: Place,
     pub ident: Ident,
     pub ports: Vec<Port>,
     pub body: Vec<Stmt>,
@@ -24,5 +27,7 @@ pub struct Module {
 pub struct Port {
     pub direction: Direction,
     pub ident: Ident,
+    /// Where the first token of its type stands.
+    pub type_place: Place,
     pub ty: Ty,
 }

@@ -28,16 +28,16 @@ pub struct Reference {
     pub parts: Vec<Part>,
 }
 
-/// A part of a reference.
+/// A part of a reference. Its first place is that of its first token, the `.` or the `[`.
 #[cycle(expressions)]
 #[derive(Drop)]
 pub enum Part {
     /// `.name`, with the place of the field's name.
-    Field(Place, Name),
+    Field(Place, Place, Name),
     /// `[index]`, with the place of the plain number.
-    Index(Place, u128),
+    Index(Place, Place, u128),
     /// `[index]`, with an expression.
-    Access(Box<Expr>),
+    Access(Place, Box<Expr>),
 }
 
 /// A literal.

@@ -12,12 +12,13 @@ pub struct Ident {
     pub name: Name,
 }
 
-/// A statement. Its place is that of its first token.
+/// A statement. Its first place is that of its first token.
 #[cycle(statements)]
 #[derive(Drop)]
 pub enum Stmt {
-    Wire(Place, Ident, Ty),
-    Reg(Place, Register),
+    /// A wire, with the place of the first token of its type.
+    Wire(Place, Ident, Place, Ty),
+    Reg(Place, Box<Register>),
     Node(Place, Ident, Expr),
     /// An instance, and the module of which it is one.
     Inst(Place, Ident, Ident),
@@ -36,6 +37,8 @@ pub enum Stmt {
 #[derive(Drop)]
 pub struct Register {
     pub ident: Ident,
+    /// Where the first token of its type stands.
+    pub type_place: Place,
     pub ty: Ty,
     pub clock: Expr,
     pub reset: Option<RegisterReset>,
@@ -44,6 +47,8 @@ pub struct Register {
 /// What resets a register, and to what.
 #[derive(Drop)]
 pub struct RegisterReset {
+    /// Where its word `with` stands.
+    pub place: Place,
     pub condition: Expr,
     pub init: Expr,
 }
@@ -55,10 +60,11 @@ pub struct Memory {
     pub fields: Vec<MemoryField>,
 }
 
-/// A field of a memory, with the place of its first word.
+/// A field of a memory. Its first place is that of its first word.
 #[derive(Drop)]
 pub enum MemoryField {
-    DataType(Place, Ty),
+    /// The type of its words, with the place of the first token of the type.
+    DataType(Place, Place, Ty),
     Depth(Place, u128),
     ReadLatency(Place, u128),
     WriteLatency(Place, u128),

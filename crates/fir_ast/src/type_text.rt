@@ -1,7 +1,7 @@
 //! Types as text: as in the grammar, with one space after a colon, a comma and `flip`.
 
 ghost use Rattle.std.specs.Prelude.{◌≡◌, ◌++◌, OnOk, codes, decimal, map};
-ghost use Rattle.fir_ast.specs.BundleText.{bundle_text, field_of};
+ghost use Rattle.fir_ast.specs.working.BundleText.{bundle_text, field_of};
 ghost use Rattle.fir_ast.specs.Texts.{flip_text, type_text, width_text};
 ghost use Rattle.fir_ast.specs.View.{fields_of, type_of};
 

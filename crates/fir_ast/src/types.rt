@@ -1,7 +1,7 @@
 //! Types as the text writes them (FIRRTL spec, "Types").
 
 ghost use Rattle.std.specs.Prelude.{◌≡◌, IfOk, map};
-ghost use Rattle.fir_ast.specs.BundleText.{field_of};
+ghost use Rattle.fir_ast.specs.working.BundleText.{field_of};
 ghost use Rattle.fir_ast.specs.View.{type_of};
 
 use crate::place::Place;
@@ -31,6 +31,8 @@ pub struct Field {
     pub place: Place,
     pub flip: bool,
     pub name: Name,
+    /// Where the first token of its type stands.
+    pub type_place: Place,
     pub ty: Ty,
 }
 
@@ -65,6 +67,7 @@ fn copy_fields(alloc: Global, fields: &[Field]) -> Result<Vec<Field>, MemoryOut>
             place: field.place,
             flip: field.flip,
             name: field.name.copy(alloc)?,
+            type_place: field.type_place,
             ty: field.ty.copy(alloc)?,
         })?;
     }

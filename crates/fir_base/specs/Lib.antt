@@ -1,3 +1,5 @@
+pub mod Bytes
+pub mod Digits
 pub mod Lists
 pub mod Ticks
 pub mod Words

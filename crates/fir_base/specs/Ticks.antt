@@ -1,6 +1,7 @@
 -- Ticks and runs, for circuits of both languages.
 -- At a tick the inputs have values and some clocks rise; a run takes one tick after the other.
-use Rattle.std.specs.Prelude.{ℕ, ◌+◌, ◌^◌, ◌<◌, ◌≤◌, List, [], ◌∷◌}
+use Rattle.std.specs.Prelude.{ℕ, ◌+◌, ◌^◌, ◌<◌, ◌≤◌, List, [], ◌∷◌, Bool, nat_eq}
+use Rattle.std.specs.List.{list_any}
 
 -- a value for each name
 abbrev pub Env : Type 0
@@ -28,6 +29,10 @@ abbrev pub AreClocks : ℕ → ℕ → List ℕ → Type 0
 AreClocks low count [] = Unit {0}
 AreClocks low count (k ∷ ks) = (low ≤ k) × (k < count) × AreClocks (k + 1) count ks
 
+-- whether the clock of that number is among those that rise
+abbrev pub rises : List ℕ → ℕ → Bool
+rises named clock = list_any (nat_eq clock) named
+
 -- a state and a tick of that shape
 pub record HasShape (shape : Shape) (state : List ℕ) (tick : Tick) : Type 0 where
   pub inputs_fit : FitEach shape.inputs tick.inputs
@@ -39,12 +44,12 @@ abbrev pub Allowance : Type 1
 Allowance = List ℕ → Tick → List ℕ → List ℕ → Type 0
 
 -- what one tick shows: the outputs, and the state after it
-pub record Shown : Type 0 where
+pub record TickResult : Type 0 where
   pub outputs : List ℕ
   pub state : List ℕ
 
 -- tick for tick what is allowed, from an initial state on
-abbrev pub IsRun : Allowance → List ℕ → List Tick → List Shown → Type 0
+abbrev pub IsRun : Allowance → List ℕ → List Tick → List TickResult → Type 0
 IsRun allows state [] [] = Unit {0}
 IsRun allows state (tick ∷ ticks) (shown ∷ rest) = allows state tick shown.outputs shown.state × IsRun allows shown.state ticks rest
 IsRun allows state _ _ = ⊥

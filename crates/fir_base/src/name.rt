@@ -27,6 +27,13 @@ impl Model for Name {
 }
 
 impl Name {
+    /// The name that these bytes spell. It takes no memory.
+    pub fn from_vec(bytes: Vec<u8>) -> Name
+        ensures { result ≡ bytes.items }
+    {
+        Name { bytes }
+    }
+
     /// The name that these bytes spell.
     pub fn new(alloc: Global, bytes: &[u8]) -> Result<Name, MemoryOut>
         ensures { IfOk result (λ n. n ≡ bytes.now) }

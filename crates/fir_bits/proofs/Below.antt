@@ -33,7 +33,7 @@ widened_below a to is wider =
     filled_below (a.signed && is_negative a.value.width a.value.number) a.value.number a.value.width to is.below wider
 
 -- two values side by side
-joined_below : (a b w v : ℕ) → a < 2 ^ w → b < 2 ^ v → a * 2 ^ v + b < 2 ^ (w + v)
+pub joined_below : (a b w v : ℕ) → a < 2 ^ w → b < 2 ^ v → a * 2 ^ v + b < 2 ^ (w + v)
 joined_below a b w v h k = omega (arith, mul-add-lt a (2 ^ v) b (2 ^ w) h k, pow-add 2 w v)
 
 -- the high n bits of w

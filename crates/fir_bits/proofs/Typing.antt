@@ -1,5 +1,5 @@
 -- What it means that an operation has a type.
-use Rattle.std.proofs.Common.{◌≡◌, ℕ, ◌≤◌, Bool, true, false, not, ◌&&◌, if◌then◌else◌, Ok, Err, IsOk, IfOk, IsTrue, refl, List, [], ◌∷◌, map, slice_index, arith, lit<, lit≤}
+use Rattle.std.proofs.Common.{◌≡◌, ℕ, ◌≤◌, Bool, true, false, not, ◌&&◌, if◌then◌else◌, Result, Ok, Err, IsOk, IfOk, IsTrue, refl, List, [], ◌∷◌, map, slice_index, arith, lit<, lit≤}
 use Rattle.std.specs.List.{All}
 use Rattle.std.proofs.lemmas.Bool.{leb-true}
 use Rattle.fir_bits.specs.Widths.{is_narrow}
@@ -12,6 +12,7 @@ use Rattle.fir_bits.specs.declared.values.Num.{Num}
 use Rattle.fir_bits.specs.Widths.{width_of}
 use Rattle.fir_bits.specs.declared.operators.PrimOp.{PrimOp}
 use Rattle.fir_bits.specs.declared.types.NumTy.{NumTy}
+use Rattle.fir_bits.specs.declared.types.OpFault.{OpFault}
 use Rattle.fir_bits.specs.declared.types.OpFault.TheVariants.{Kinds, Over, Legality}
 
 -- both tests are passed where neither fault is given
@@ -65,6 +66,17 @@ second_type-is : (args : List Num) → second_type (map type_of args) ≡ type_o
 second_type-is [] = refl
 second_type-is (a ∷ []) = refl
 second_type-is (a ∷ b ∷ args) = refl
+
+-- what has a type has one where the kinds are right
+of_kinds : (kinds : Bool) (r : Result NumTy OpFault) → IsOk (if not kinds then Err Kinds else r) → IsOk r
+of_kinds true r ok = ok
+of_kinds false r ok = cc
+
+pub typed-ok : (op : PrimOp) (args : List Num) (consts : List ℕ) → IsOk (typed op (map type_of args) consts)
+    → IsOk (typed_at op (type_of (first_operand args)) (type_of (second_operand args)) (slice_index consts 0) (slice_index consts 1))
+typed-ok op args consts ok =
+    let h = of_kinds (takes (form_of op) (map type_of args) consts) (typed_at op (first_type (map type_of args)) (second_type (map type_of args)) (slice_index consts 0) (slice_index consts 1)) ok in
+    rw (first_type-is args, second_type-is args) at h
 
 -- the result is a value of its type
 pub typed-outcome : (op : PrimOp) (args : List Num) (consts : List ℕ) → All (λ a. IsBitVector a.value) args

@@ -1,6 +1,6 @@
 -- The operands and integers that each primitive operation takes.
 -- FIRRTL spec, "Primitive Operations": operands of one signedness, a shift amount that is a UInt, and integers, as many as the operation has.
-use Rattle.std.specs.Prelude.{ℕ, Bool, false, not, ◌&&◌, ◌==◌, List, length, slice_index_or}
+use Rattle.std.specs.Prelude.{ℕ, Bool, true, false, not, ◌&&◌, ◌==◌, List, length, slice_index_or}
 use Rattle.std.specs.Bool.{beq}
 use Rattle.fir_bits.specs.declared.operators.PrimOp.{PrimOp}
 use Rattle.fir_bits.specs.declared.operators.PrimOp.TheVariants.{Add, Sub, Mul, Div, Rem, Lt, Leq, Gt, Geq, Eq, Neq, Pad, Shl, Shr, Dshl, Dshr, Cvt, Neg, Not, And, Or, Xor, Andr, Orr, Xorr, Cat, Bits, Head, Tail, AsUInt, AsSInt, AsAsyncReset}
@@ -43,6 +43,25 @@ form_of AsUInt = Single
 form_of AsSInt = Single
 form_of AsAsyncReset = Single
 
+-- how many operands and how many integers each form has
+abbrev pub operands : Form → ℕ
+operands Pair = 2
+operands Shift = 2
+operands Single = 1
+operands WithInteger = 1
+operands WithRange = 1
+
+abbrev pub integers : Form → ℕ
+integers Pair = 0
+integers Shift = 0
+integers Single = 0
+integers WithInteger = 1
+integers WithRange = 2
+
+-- whether so many operands and integers are those of the form
+abbrev pub has_counts : Form → ℕ → ℕ → Bool
+has_counts form m n = (m == operands form) && (n == integers form)
+
 -- the type of an operand that is not there: a UInt of no bits
 abbrev pub no_type : NumTy
 no_type = record { signed = false; width = 0 }
@@ -54,14 +73,12 @@ first_type args = slice_index_or args 0 no_type
 abbrev pub second_type : List NumTy → NumTy
 second_type args = slice_index_or args 1 no_type
 
--- whether there are that many operands and integers
-abbrev pub has_counts : ℕ → ℕ → List NumTy → List ℕ → Bool
-has_counts operands integers args consts = (length args == operands) && (length consts == integers)
+-- whether operands of these types are of the form's kinds
+abbrev pub has_kinds : Form → List NumTy → Bool
+has_kinds Pair args = beq (first_type args).signed (second_type args).signed
+has_kinds Shift args = not (second_type args).signed
+has_kinds _ args = true
 
 -- whether the operands and integers are those of the form
 abbrev pub takes : Form → List NumTy → List ℕ → Bool
-takes Pair args consts = has_counts 2 0 args consts && beq (first_type args).signed (second_type args).signed
-takes Shift args consts = has_counts 2 0 args consts && not (second_type args).signed
-takes Single args consts = has_counts 1 0 args consts
-takes WithInteger args consts = has_counts 1 1 args consts
-takes WithRange args consts = has_counts 1 2 args consts
+takes form args consts = has_counts form (length args) (length consts) && has_kinds form args

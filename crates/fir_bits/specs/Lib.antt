@@ -1,7 +1,9 @@
 pub mod Values
 pub mod Integers
+pub mod OperatorWords
+pub mod Taken
 pub mod Forms
 pub mod Widths
 pub mod Types
 pub mod Operators
-pub mod Laws
+pub mod working

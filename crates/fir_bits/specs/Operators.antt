@@ -28,39 +28,39 @@ abbrev pub flag : Bool → ℕ
 flag b = if b then 1 else 0
 
 -- the number of each result
-abbrev pub value_of : PrimOp → ℕ → Num → Num → ℕ → ℕ → ℕ
-value_of Add r a b n m = bits_of r (integer_of a +ℤ integer_of b)
-value_of Sub r a b n m = bits_of r (integer_of a -ℤ integer_of b)
-value_of Mul r a b n m = bits_of r (integer_of a *ℤ integer_of b)
-value_of Div r a b n m = bits_of r (quotient (integer_of a) (integer_of b))
-value_of Rem r a b n m = bits_of r (remainder (integer_of a) (integer_of b))
-value_of Lt r a b n m = flag (int_lt (integer_of a) (integer_of b))
-value_of Leq r a b n m = flag (int_le (integer_of a) (integer_of b))
-value_of Gt r a b n m = flag (int_lt (integer_of b) (integer_of a))
-value_of Geq r a b n m = flag (int_le (integer_of b) (integer_of a))
-value_of Eq r a b n m = flag (int_eq (integer_of a) (integer_of b))
-value_of Neq r a b n m = flag (not (int_eq (integer_of a) (integer_of b)))
-value_of Pad r a b n m = widened a r
-value_of Shl r a b n m = bits_of r (integer_of a *ℤ pos (2 ^ n))
-value_of Shr r a b n m = bits_of r (shifted_down (integer_of a) n)
-value_of Dshl r a b n m = bits_of r (integer_of a *ℤ pos (2 ^ b.value.number))
-value_of Dshr r a b n m = bits_of r (shifted_down (integer_of a) b.value.number)
-value_of Cvt r a b n m = bits_of r (integer_of a)
-value_of Neg r a b n m = bits_of r (neg_ℤ (integer_of a))
-value_of Not r a b n m = complement a.value.width a.value.number
-value_of And r a b n m = bit_and (widened a r) (widened b r)
-value_of Or r a b n m = bit_or (widened a r) (widened b r)
-value_of Xor r a b n m = bit_xor (widened a r) (widened b r)
-value_of Andr r a b n m = flag (a.value.number == 2 ^ a.value.width - 1)
-value_of Orr r a b n m = flag (not (a.value.number == 0))
-value_of Xorr r a b n m = count_ones a.value.number % 2
-value_of Cat r a b n m = a.value.number * 2 ^ b.value.width + b.value.number
-value_of Bits r a b n m = a.value.number / 2 ^ m % 2 ^ (n + 1 - m)
-value_of Head r a b n m = a.value.number / 2 ^ (a.value.width - n)
-value_of Tail r a b n m = low_bits (a.value.width - n) a.value.number
-value_of AsUInt r a b n m = a.value.number
-value_of AsSInt r a b n m = a.value.number
-value_of AsAsyncReset r a b n m = a.value.number
+abbrev pub operation_value : PrimOp → ℕ → Num → Num → ℕ → ℕ → ℕ
+operation_value Add r a b n m = bits_of r (integer_of a +ℤ integer_of b)
+operation_value Sub r a b n m = bits_of r (integer_of a -ℤ integer_of b)
+operation_value Mul r a b n m = bits_of r (integer_of a *ℤ integer_of b)
+operation_value Div r a b n m = bits_of r (quotient (integer_of a) (integer_of b))
+operation_value Rem r a b n m = bits_of r (remainder (integer_of a) (integer_of b))
+operation_value Lt r a b n m = flag (int_lt (integer_of a) (integer_of b))
+operation_value Leq r a b n m = flag (int_le (integer_of a) (integer_of b))
+operation_value Gt r a b n m = flag (int_lt (integer_of b) (integer_of a))
+operation_value Geq r a b n m = flag (int_le (integer_of b) (integer_of a))
+operation_value Eq r a b n m = flag (int_eq (integer_of a) (integer_of b))
+operation_value Neq r a b n m = flag (not (int_eq (integer_of a) (integer_of b)))
+operation_value Pad r a b n m = widened a r
+operation_value Shl r a b n m = bits_of r (integer_of a *ℤ pos (2 ^ n))
+operation_value Shr r a b n m = bits_of r (shifted_down (integer_of a) n)
+operation_value Dshl r a b n m = bits_of r (integer_of a *ℤ pos (2 ^ b.value.number))
+operation_value Dshr r a b n m = bits_of r (shifted_down (integer_of a) b.value.number)
+operation_value Cvt r a b n m = bits_of r (integer_of a)
+operation_value Neg r a b n m = bits_of r (neg_ℤ (integer_of a))
+operation_value Not r a b n m = complement a.value.width a.value.number
+operation_value And r a b n m = bit_and (widened a r) (widened b r)
+operation_value Or r a b n m = bit_or (widened a r) (widened b r)
+operation_value Xor r a b n m = bit_xor (widened a r) (widened b r)
+operation_value Andr r a b n m = flag (a.value.number == 2 ^ a.value.width - 1)
+operation_value Orr r a b n m = flag (not (a.value.number == 0))
+operation_value Xorr r a b n m = count_ones a.value.number % 2
+operation_value Cat r a b n m = a.value.number * 2 ^ b.value.width + b.value.number
+operation_value Bits r a b n m = a.value.number / 2 ^ m % 2 ^ (n + 1 - m)
+operation_value Head r a b n m = a.value.number / 2 ^ (a.value.width - n)
+operation_value Tail r a b n m = low_bits (a.value.width - n) a.value.number
+operation_value AsUInt r a b n m = a.value.number
+operation_value AsSInt r a b n m = a.value.number
+operation_value AsAsyncReset r a b n m = a.value.number
 
 -- an operand that is not there: a UInt of no bits
 abbrev pub no_operand : Num
@@ -77,7 +77,7 @@ second_operand args = slice_index_or args 1 no_operand
 abbrev pub applied_at : PrimOp → Num → Num → ℕ → ℕ → BitVector
 applied_at op a b n m =
     let r = width_of op a.signed a.value.width b.value.width n m in
-    record { width = r; number = value_of op r a b n m }
+    record { width = r; number = operation_value op r a b n m }
 
 -- the result on operands and integers
 abbrev pub applied : PrimOp → List Num → List ℕ → BitVector

@@ -1,7 +1,7 @@
 //! Laws of the operator table, for the layers that stand on it. Each is the contract of a function
 //! that does nothing.
 
-ghost use Rattle.fir_bits.specs.Laws.{Monotone, HasItsType, CutUndoesExtend, ExtendKeepsInteger, HeadBesideTail, CvtKeepsInteger, PadKeepsInteger, NegGivesNegative, ReinterpretKeepsBits};
+ghost use Rattle.fir_bits.specs.working.Laws.{Monotone, HasItsType, CutUndoesExtend, ExtendKeepsInteger, HeadBesideTail, CvtKeepsInteger, PadKeepsInteger, NegGivesNegative, ReinterpretKeepsBits, WordsAreRead};
 
 /// Wider operands never give a narrower result, so that a least solution of widths exists. An
 /// operand or result of more than 128 bits counts as 129 (FIRRTL spec, "Width Inference").
@@ -47,4 +47,9 @@ pub fn neg_gives_negative()
 /// `asUInt` and `asSInt` keep the bits.
 pub fn reinterpret_keeps_bits()
     ensures { ReinterpretKeepsBits }
+{}
+
+/// The word of an operation is read as that operation.
+pub fn words_are_read()
+    ensures { WordsAreRead }
 {}

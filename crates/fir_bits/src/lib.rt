@@ -3,7 +3,8 @@
 //!
 //! In come an operation, operands and integers. Out comes the type of the result or the fault
 //! (`result_type`), and where there is a type the value (`apply`). Both are the operator table, which
-//! `specs/` states over whole numbers. No call takes memory.
+//! `specs/` states over whole numbers. The words by which operations are spelled stand in the same
+//! table. No call takes memory.
 #![tactic(auto)]
 
 mod bits;
@@ -12,10 +13,11 @@ mod operators;
 mod types;
 mod values;
 mod whole;
+mod words;
 
 pub use bits::{Bits, mask};
 pub use operators::{Form, PrimOp};
-pub use types::{NumTy, OpFault, result_type};
+pub use types::{NO_TYPE, NumTy, OpFault, result_type};
 pub use values::{Num, apply};
 
 #[cfg(test)]

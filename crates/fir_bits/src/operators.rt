@@ -1,4 +1,4 @@
-//! The primitive operations, and the one list of what each takes and gives.
+//! The primitive operations, and the one list of how each is spelled and what it takes and gives.
 
 /// A primitive operation (FIRRTL spec, "Primitive Operations").
 #[derive(Clone, Copy, Debug, PartialEq, Eq)]
@@ -84,83 +84,84 @@ pub enum Form {
     WithRange,
 }
 
-/// Each operation with what it takes, whether its result is an SInt, the result's width and the
-/// value. `$column` names the macro that matches `$op` against one of these columns.
+/// Each operation with its word, what it takes, whether its result is an SInt, the result's width
+/// and the value. `$column` names the macro that matches `$op` against one of these columns.
 ///
 /// Widths are `u32` expressions over whether the first operand is an SInt (`$signed`), its width
 /// `$w`, the second one's width `$v` and the integers `$n` and `$m`. Values are `u128` expressions
 /// over the result's width `$r`, the operands `$a` and `$b` and the same integers.
-#[macro_export]
 macro_rules! operators {
     (
         $column:ident, $op:expr, $signed:ident, $w:ident, $v:ident, $n:ident, $m:ident,
         $r:ident, $a:ident, $b:ident
     ) => {
         $column! { $op;
-            Add: Pair, $signed, $w.max($v) + 1,
+            Add: b"add", Pair, $signed, $w.max($v) + 1,
                 integer($a).plus(integer($b)).low_bits($r);
-            Sub: Pair, $signed, $w.max($v) + 1,
+            Sub: b"sub", Pair, $signed, $w.max($v) + 1,
                 integer($a).minus(integer($b)).low_bits($r);
-            Mul: Pair, $signed, $w + $v,
+            Mul: b"mul", Pair, $signed, $w + $v,
                 integer($a).times(integer($b)).low_bits($r);
-            Div: Pair, $signed, $w + u32::from($signed),
+            Div: b"div", Pair, $signed, $w + u32::from($signed),
                 integer($a).quotient(integer($b)).low_bits($r);
-            Rem: Pair, $signed, $w.min($v),
+            Rem: b"rem", Pair, $signed, $w.min($v),
                 integer($a).remainder(integer($b)).low_bits($r);
-            Lt: Pair, false, 1,
+            Lt: b"lt", Pair, false, 1,
                 u128::from(integer($a).is_below(&integer($b)));
-            Leq: Pair, false, 1,
+            Leq: b"leq", Pair, false, 1,
                 u128::from(integer($a).is_at_most(&integer($b)));
-            Gt: Pair, false, 1,
+            Gt: b"gt", Pair, false, 1,
                 u128::from(integer($b).is_below(&integer($a)));
-            Geq: Pair, false, 1,
+            Geq: b"geq", Pair, false, 1,
                 u128::from(integer($b).is_at_most(&integer($a)));
-            Eq: Pair, false, 1,
+            Eq: b"eq", Pair, false, 1,
                 u128::from(integer($a).is_same(&integer($b)));
-            Neq: Pair, false, 1,
+            Neq: b"neq", Pair, false, 1,
                 u128::from(!integer($a).is_same(&integer($b)));
-            Pad: WithInteger, $signed, $w.max(capped($n)),
+            Pad: b"pad", WithInteger, $signed, $w.max(capped($n)),
                 widened($a, $r);
-            Shl: WithInteger, $signed, $w + capped($n),
+            Shl: b"shl", WithInteger, $signed, $w + capped($n),
                 integer($a).shifted_up($n).low_bits($r);
-            Shr: WithInteger, $signed, $w.saturating_sub(capped($n)).max(1),
+            Shr: b"shr", WithInteger, $signed, $w.saturating_sub(capped($n)).max(1),
                 integer($a).shifted_down($n).low_bits($r);
-            Dshl: Shift, $signed, $w + capped(mask($v)),
+            Dshl: b"dshl", Shift, $signed, $w + capped(mask($v)),
                 integer($a).shifted_up($b.value.bits()).low_bits($r);
-            Dshr: Shift, $signed, $w,
+            Dshr: b"dshr", Shift, $signed, $w,
                 integer($a).shifted_down($b.value.bits()).low_bits($r);
-            Cvt: Single, true, $w + u32::from(!$signed),
+            Cvt: b"cvt", Single, true, $w + u32::from(!$signed),
                 integer($a).low_bits($r);
-            Neg: Single, true, $w + 1,
+            Neg: b"neg", Single, true, $w + 1,
                 integer($a).negated().low_bits($r);
-            Not: Single, false, $w,
+            Not: b"not", Single, false, $w,
                 complement($a);
-            And: Pair, false, $w.max($v),
+            And: b"and", Pair, false, $w.max($v),
                 widened($a, $r) & widened($b, $r);
-            Or: Pair, false, $w.max($v),
+            Or: b"or", Pair, false, $w.max($v),
                 widened($a, $r) | widened($b, $r);
-            Xor: Pair, false, $w.max($v),
+            Xor: b"xor", Pair, false, $w.max($v),
                 widened($a, $r) ^ widened($b, $r);
-            Andr: Single, false, 1,
+            Andr: b"andr", Single, false, 1,
                 u128::from($a.value.bits() == mask($a.value.width()));
-            Orr: Single, false, 1,
+            Orr: b"orr", Single, false, 1,
                 u128::from($a.value.bits() != 0);
-            Xorr: Single, false, 1,
+            Xorr: b"xorr", Single, false, 1,
                 parity($a);
-            Cat: Pair, false, $w + $v,
+            Cat: b"cat", Pair, false, $w + $v,
                 joined($a, $b);
-            Bits: WithRange, false, span($n, $m),
+            Bits: b"bits", WithRange, false, span($n, $m),
                 field($a, $m, $r);
-            Head: WithInteger, false, capped($n),
+            Head: b"head", WithInteger, false, capped($n),
                 high_bits($a, $n);
-            Tail: WithInteger, false, $w.saturating_sub(capped($n)),
+            Tail: b"tail", WithInteger, false, $w.saturating_sub(capped($n)),
                 $a.value.cut($r).bits();
-            AsUInt: Single, false, $w,
+            AsUInt: b"asUInt", Single, false, $w,
                 $a.value.bits();
-            AsSInt: Single, true, $w,
+            AsSInt: b"asSInt", Single, true, $w,
                 $a.value.bits();
-            AsAsyncReset: Single, false, 1,
+            AsAsyncReset: b"asAsyncReset", Single, false, 1,
                 $a.value.bits();
         }
     };
 }
+
+pub(crate) use operators;

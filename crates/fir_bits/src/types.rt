@@ -1,13 +1,13 @@
 //! The type of an operation's result.
 
 ghost use Rattle.std.specs.Prelude.{◌≡◌, ◌+◌, ◌-◌, ◌^◌, ◌<◌, ◌≤◌, min, slice_index, slice_index_or};
-ghost use Rattle.fir_bits.specs.Forms.{form_of, takes, first_type, second_type};
+ghost use Rattle.fir_bits.specs.Taken.{is_taken};
+ghost use Rattle.fir_bits.specs.Forms.{form_of, has_counts, has_kinds, takes, first_type, second_type};
 ghost use Rattle.fir_bits.specs.Widths.{width_of};
 ghost use Rattle.fir_bits.specs.Types.{signed_of, is_legal, typed_at, typed};
 
 use crate::bits::mask;
-use crate::operators;
-use crate::operators::{Form, PrimOp};
+use crate::operators::{Form, PrimOp, operators};
 use thiserror::Error;
 
 /// The type of an operand or of a result: its kind, SInt or UInt, and its width in bits.
@@ -34,42 +34,69 @@ pub enum OpFault {
 /// The greatest width of a value, in bits.
 const WIDEST: u32 = 128;
 
-/// The type of an operand that is not there.
-const NO_TYPE: NumTy = NumTy {
+/// The type of what is not there: a UInt of no bits.
+pub const NO_TYPE: NumTy = NumTy {
     signed: false,
     width: 0,
 };
 
 macro_rules! forms {
-    ($op:expr; $($name:ident: $form:ident, $signed:expr, $width:expr, $value:expr;)*) => {
+    ($op:expr; $($name:ident: $word:literal, $form:ident, $signed:expr, $width:expr, $value:expr;)*) => {
         match $op { $(PrimOp::$name => Form::$form,)* }
     };
 }
 
 macro_rules! kinds {
-    ($op:expr; $($name:ident: $form:ident, $signed:expr, $width:expr, $value:expr;)*) => {
+    ($op:expr; $($name:ident: $word:literal, $form:ident, $signed:expr, $width:expr, $value:expr;)*) => {
         match $op { $(PrimOp::$name => $signed,)* }
     };
 }
 
 macro_rules! widths {
-    ($op:expr; $($name:ident: $form:ident, $signed:expr, $width:expr, $value:expr;)*) => {
+    ($op:expr; $($name:ident: $word:literal, $form:ident, $signed:expr, $width:expr, $value:expr;)*) => {
         match $op { $(PrimOp::$name => $width,)* }
     };
 }
 
-/// What the operation takes.
-fn form(op: PrimOp) -> Form
-    ensures { result ≡ form_of op }
-{
-    operators!(forms, op, signed, w, v, n, m, r, a, b)
+impl Form {
+    /// Whether so many operands and integers are those of the form.
+    pub fn has_counts(self, operands: usize, integers: usize) -> bool
+        ensures { result ≡ has_counts self operands integers }
+    {
+        let counts = match self {
+            Form::Pair | Form::Shift => (2, 0),
+            Form::Single => (1, 0),
+            Form::WithInteger => (1, 1),
+            Form::WithRange => (1, 2),
+        };
+        counts == (operands, integers)
+    }
 }
 
-/// Whether the operation's result is an SInt, where the first operand is one or not.
-fn is_signed(op: PrimOp, signed: bool) -> bool
-    ensures { result ≡ signed_of op signed }
-{
-    operators!(kinds, op, signed, w, v, n, m, r, a, b)
+impl PrimOp {
+    /// Whether `emit` and `sim` have the operation.
+    pub fn is_taken(self) -> bool
+        ensures { result ≡ is_taken self }
+    {
+        matches!(
+            self,
+            PrimOp::Not | PrimOp::And | PrimOp::Or | PrimOp::Xor | PrimOp::Cat | PrimOp::Bits
+        )
+    }
+
+    /// What the operation takes.
+    pub fn form(self) -> Form
+        ensures { result ≡ form_of self }
+    {
+        operators!(forms, self, signed, w, v, n, m, r, a, b)
+    }
+
+    /// Whether the operation's result is an SInt, where the first operand is one or not.
+    pub fn is_signed(self, signed: bool) -> bool
+        ensures { result ≡ signed_of self signed }
+    {
+        operators!(kinds, self, signed, w, v, n, m, r, a, b)
+    }
 }
 
 /// The integer, or 129 where it is greater.
@@ -119,19 +146,23 @@ pub(crate) fn entry<'a, T>(entries: &'a [T], i: usize, none: &'a T) -> &'a T
     if i < entries.len() { &entries[i] } else { none }
 }
 
+/// Whether operands of these types are of the form's kinds.
+fn has_kinds(form: Form, args: &[NumTy]) -> bool
+    ensures { result ≡ has_kinds form args.now }
+{
+    let (a, b) = (entry(args, 0, &NO_TYPE), entry(args, 1, &NO_TYPE));
+    match form {
+        Form::Pair => a.signed == b.signed,
+        Form::Shift => !b.signed,
+        Form::Single | Form::WithInteger | Form::WithRange => true,
+    }
+}
+
 /// Whether the operands and integers are those of the form.
 fn has_form(form: Form, args: &[NumTy], consts: &[u128]) -> bool
     ensures { result ≡ takes form args.now consts.now }
 {
-    let (a, b) = (entry(args, 0, &NO_TYPE), entry(args, 1, &NO_TYPE));
-    let counts = (args.len(), consts.len());
-    match form {
-        Form::Pair => counts == (2, 0) && a.signed == b.signed,
-        Form::Shift => counts == (2, 0) && !b.signed,
-        Form::Single => counts == (1, 0),
-        Form::WithInteger => counts == (1, 1),
-        Form::WithRange => counts == (1, 2),
-    }
+    form.has_counts(args.len(), consts.len()) && has_kinds(form, args)
 }
 
 /// The type of the result, where the kinds are those of the operation.
@@ -149,7 +180,7 @@ fn type_at(op: PrimOp, a: NumTy, b: NumTy, n: u128, m: u128) -> Result<NumTy, Op
         return Err(OpFault::Legality);
     }
     Ok(NumTy {
-        signed: is_signed(op, a.signed),
+        signed: op.is_signed(a.signed),
         width,
     })
 }
@@ -163,7 +194,7 @@ fn type_at(op: PrimOp, a: NumTy, b: NumTy, n: u128, m: u128) -> Result<NumTy, Op
 pub fn result_type(op: PrimOp, args: &[NumTy], consts: &[u128]) -> Result<NumTy, OpFault>
     ensures { result ≡ typed op args.now consts.now }
 {
-    if !has_form(form(op), args, consts) {
+    if !has_form(op.form(), args, consts) {
         return Err(OpFault::Kinds);
     }
     let (a, b) = (entry(args, 0, &NO_TYPE), entry(args, 1, &NO_TYPE));

@@ -4,11 +4,10 @@ ghost use Rattle.std.specs.Prelude.{◌≡◌, ◌+◌, ◌-◌, ◌*◌, ◌/�
 ghost use Rattle.fir_bits.specs.Values.{complement};
 ghost use Rattle.fir_bits.specs.Widths.{width_of};
 ghost use Rattle.fir_bits.specs.Types.{is_legal, typed, typed_at};
-ghost use Rattle.fir_bits.specs.Operators.{type_of, integer_of, widened, value_of, applied_at, applied};
+ghost use Rattle.fir_bits.specs.Operators.{type_of, integer_of, widened, operation_value, applied_at, applied};
 
 use crate::bits::{Bits, mask};
-use crate::operators;
-use crate::operators::PrimOp;
+use crate::operators::{PrimOp, operators};
 use crate::types::{NumTy, entry, width};
 use crate::whole::{Whole, shifted_right};
 
@@ -32,7 +31,7 @@ impl Num {
 }
 
 macro_rules! values {
-    ($op:expr; $($name:ident: $form:ident, $signed:expr, $width:expr, $value:expr;)*) => {
+    ($op:expr; $($name:ident: $word:literal, $form:ident, $signed:expr, $width:expr, $value:expr;)*) => {
         match $op { $(PrimOp::$name => $value,)* }
     };
 }
@@ -99,7 +98,7 @@ fn value(op: PrimOp, r: u32, a: &Num, b: &Num, n: u128, m: u128) -> u128
     requires width { r ≡ width_of op a.now.signed a.now.value.width b.now.value.width n m }
     requires narrow { r ≤ 128 }
     requires legal { IsTrue (is_legal op a.now.value.width n m) }
-    ensures { result ≡ value_of op r a.now b.now n m }
+    ensures { result ≡ operation_value op r a.now b.now n m }
 {
     operators!(values, op, signed, w, v, n, m, r, a, b)
 }

@@ -7,8 +7,8 @@ use Rattle.fir_base.specs.declared.refused.Refused.TheVariants.{Fault, Memory}
 use Rattle.fir_ast.specs.declared.fault.FirFault.{FirFault}
 use Rattle.fir_ast.specs.Circuits.{CircuitTree}
 use Rattle.fir_meaning.specs.Faults.{faults}
-use Rattle.fir_check.specs.Checks.{Checks}
-use Rattle.fir_check.specs.Firsts.{first_of, Tells}
+use Rattle.fir_check.specs.working.Checks.{Checks}
+use Rattle.fir_check.specs.working.Firsts.{first_of, Tells}
 use Rattle.fir_check.proofs.FirstFaults.{first_append, first_is, none_is}
 
 -- a fault that is told is the circuit's first

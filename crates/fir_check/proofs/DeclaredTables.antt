@@ -15,7 +15,7 @@ use Rattle.std.proofs.lemmas.Map.Text.{is_eq-slice_cmp}
 use Rattle.std.proofs.lemmas.List.{append-nil}
 use Rattle.fir_meaning.specs.Scopes.{Declared, Scope, look_up}
 use Rattle.fir_check.specs.declared.declared.Declared.{Declared as Entry}
-use Rattle.fir_check.specs.Tabulated.{declared_of, Tabulates}
+use Rattle.fir_check.specs.working.Tabulated.{declared_of, Tabulates}
 
 -- a condition before the first value
 or_cond : (b : Bool) (x : Declared) (y z : Option Declared) → cond b (Some x) (option_or y z) ≡ option_or (cond b (Some x) y) z

@@ -13,11 +13,11 @@ use Rattle.fir_ast.specs.declared.fault.FirFault.{FirFault}
 use Rattle.fir_ast.specs.Statements.{Statement, Block, done}
 use Rattle.fir_ast.specs.Circuits.{PortTree}
 use Rattle.fir_ast.specs.View.{block_of}
-use Rattle.fir_meaning.specs.DrivenFaults.{drives, is_connected, undriven_output}
-use Rattle.fir_check.specs.Tabulated.{Connects}
+use Rattle.fir_meaning.specs.DrivenFaults.{drives, is_connected, output_faults}
+use Rattle.fir_check.specs.working.Tabulated.{Connects}
 
 abbrev pub undriven_among : Block → List PortTree → List FirFault
-undriven_among body = flat_map (λ p. undriven_output p.direction body p.named)
+undriven_among body = flat_map (λ p. output_faults p.direction body p.named)
 
 or_none : (b : Bool) → (b || false) ≡ b
 or_none true = refl

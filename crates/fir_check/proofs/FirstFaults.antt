@@ -12,7 +12,7 @@ use Rattle.fir_ast.specs.Expressions.{Expression, Expressions, operation}
 use Rattle.fir_ast.specs.View.{expressions_of}
 use Rattle.fir_meaning.specs.Scopes.{Scope, types, types_of_each}
 use Rattle.fir_meaning.specs.FaultRules.{ExpressionRule, within, within_each}
-use Rattle.fir_check.specs.Firsts.{first_of}
+use Rattle.fir_check.specs.working.Firsts.{first_of}
 
 pub first_append : {A : Type 0} (a b : List A) → first_of (a ++ b) ≡ option_or (first_of a) (first_of b)
 first_append [] b = refl

@@ -10,8 +10,8 @@ use Rattle.fir_ast.specs.Circuits.{PortTree}
 use Rattle.fir_meaning.specs.Scopes.{Scope, declares, port_declared}
 use Rattle.fir_meaning.specs.FaultRules.{Rule, along, along_ports}
 use Rattle.fir_check.specs.declared.declared.Declared.{Declared as Entry}
-use Rattle.fir_check.specs.Firsts.{first_of}
-use Rattle.fir_check.specs.Tabulated.{Tabulates}
+use Rattle.fir_check.specs.working.Firsts.{first_of}
+use Rattle.fir_check.specs.working.Tabulated.{Tabulates}
 use Rattle.fir_check.proofs.FirstFaults.{first_behind, first_front}
 
 pub record AtPorts (rule : Rule) (table : BTreeMap (List ℕ) Entry) (start : Scope) (whole left : List PortTree) : Type 0 where

@@ -1,5 +1,1 @@
-pub mod Checks
-pub mod Firsts
-pub mod Tabulated
-pub mod AskedWidths
-pub mod Groups
+pub mod working

@@ -1,10 +1,10 @@
 //! Whether a circuit shows a fault.
 
 ghost use Rattle.fir_ast.specs.View.{circuit_of};
-ghost use Rattle.fir_check.specs.Checks.{Checks};
-ghost use Rattle.fir_check.specs.Firsts.{Tells};
+ghost use Rattle.fir_check.specs.working.Checks.{Checks};
+ghost use Rattle.fir_check.specs.working.Firsts.{Tells};
 
-use crate::driven::first_undriven;
+use crate::driven::undriven_fault;
 use crate::group::Group;
 use crate::main_module::main_fault;
 use crate::module::first_by;
@@ -23,7 +23,7 @@ pub fn check_small(alloc: Global, c: &Circuit) -> Result<(), Refused<FirFault>>
     tell(first_by(alloc, Group::Types, c)?)?;
     tell(first_by(alloc, Group::Widths, c)?)?;
     tell(first_by(alloc, Group::Legality, c)?)?;
-    tell(first_undriven(alloc, c)?)
+    tell(undriven_fault(alloc, c)?)
 }
 
 /// Refuses with the fault, where there is one.

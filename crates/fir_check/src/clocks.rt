@@ -4,16 +4,16 @@
 ghost use Rattle.std.specs.Prelude.{◌≡◌, IfOk};
 ghost use Rattle.fir_ast.specs.View.{expr_of};
 ghost use Rattle.fir_meaning.specs.Scopes.{Scope, look_up};
-ghost use Rattle.fir_meaning.specs.NameFaults.{names_in_clock};
-ghost use Rattle.fir_meaning.specs.TypeFaults.{clock_found, clock_type, no_clock, place_of};
-ghost use Rattle.fir_check.specs.Firsts.{first_of};
-ghost use Rattle.fir_check.specs.Groups.{clock_faults};
-ghost use Rattle.fir_check.specs.Tabulated.{Tabulates, printed_of};
+ghost use Rattle.fir_meaning.specs.NameFaults.{clock_name_faults};
+ghost use Rattle.fir_meaning.specs.TypeFaults.{clock_found, clock_type, clock_kind_faults, place_of};
+ghost use Rattle.fir_check.specs.working.Firsts.{first_of};
+ghost use Rattle.fir_check.specs.working.Groups.{clock_faults};
+ghost use Rattle.fir_check.specs.working.Tabulated.{Tabulates, printed_of};
 
 use crate::expression_place::place_of;
 use crate::expressions::walk;
 use crate::group::Group;
-use crate::names::unclocked;
+use crate::names::clock_reference_fault;
 use crate::printed::{Printed, printed_type};
 use crate::scope::Table;
 use fir_ast::{Expr, FirFault, Place, Ty};
@@ -30,8 +30,8 @@ pub fn in_clock(
     ensures { IfOk result (λ f. (scope : Scope) → Tabulates table.now scope → f ≡ first_of (clock_faults group scope (expr_of clock.now))) }
 {
     match group {
-        Group::Names => names_in_clock(alloc, table, clock),
-        Group::Types => no_clock(alloc, clock_type(table, clock), place_of(clock)),
+        Group::Names => clock_name_fault(alloc, table, clock),
+        Group::Types => clock_kind_fault(alloc, clock_type(table, clock), place_of(clock)),
         Group::Widths | Group::Legality => {
             walk(alloc, group, table, clock, &mut Vec::new(alloc))
         }
@@ -39,23 +39,32 @@ pub fn in_clock(
 }
 
 /// The first fault of names there, where a clock may be named if it stands alone.
-fn names_in_clock(alloc: Global, table: &Table, clock: &Expr) -> Result<Option<FirFault>, MemoryOut>
-    ensures { IfOk result (λ f. (scope : Scope) → Tabulates table.now scope → f ≡ first_of (names_in_clock scope (expr_of clock.now))) }
+fn clock_name_fault(
+    alloc: Global,
+    table: &Table,
+    clock: &Expr,
+) -> Result<Option<FirFault>, MemoryOut>
+    ensures { IfOk result (λ f. (scope : Scope) → Tabulates table.now scope → f ≡ first_of (clock_name_faults scope (expr_of clock.now))) }
 {
     match clock {
-        Expr::Ref(reference) => unclocked(alloc, table, reference.place, &reference.name),
+        Expr::Ref(reference) => clock_reference_fault(
+            alloc,
+            table,
+            reference.place,
+            &reference.name,
+        ),
         Expr::Literal(_) | Expr::Op(_, _, _, _) | Expr::Mux(_, _, _, _) | Expr::Validif(_, _, _) =>
             { walk(alloc, Group::Names, table, clock, &mut Vec::new(alloc)) }
     }
 }
 
 /// The fault of what is there at this place, and is no clock.
-fn no_clock(
+fn clock_kind_fault(
     alloc: Global,
     found: Option<Printed>,
     place: Place,
 ) -> Result<Option<FirFault>, MemoryOut>
-    ensures { IfOk result (λ f. f ≡ first_of (no_clock (printed_of found) place)) }
+    ensures { IfOk result (λ f. f ≡ first_of (clock_kind_faults (printed_of found) place)) }
 {
     match found {
         Some(Printed::UInt(width)) => {

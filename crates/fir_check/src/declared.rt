@@ -5,7 +5,7 @@ ghost use Rattle.fir_ast.specs.View.{named_of, port_of, type_of};
 ghost use Rattle.fir_meaning.specs.Scopes.{input_kind, is_readable, port_declared, port_kind, register_value, written_printed, written_type};
 ghost use Rattle.fir_meaning.specs.NameFaults.{is_clock_or_readable};
 ghost use Rattle.fir_meaning.specs.TypeFaults.{is_source};
-ghost use Rattle.fir_check.specs.Tabulated.{declared_as, declared_of, kind_of};
+ghost use Rattle.fir_check.specs.working.Tabulated.{declared_as, declared_of, kind_of};
 
 use crate::printed::Printed;
 use crate::widths::written_type;

@@ -5,9 +5,9 @@ ghost use Rattle.std.specs.BTreeSet.{contains};
 ghost use Rattle.std.specs.Cmp.Lexicographic.{slice_cmp};
 ghost use Rattle.std.specs.Ordering.{nat_cmp};
 ghost use Rattle.fir_ast.specs.View.{block_of, circuit_of, module_of, stmt_of};
-ghost use Rattle.fir_meaning.specs.DrivenFaults.{drives, undriven};
-ghost use Rattle.fir_check.specs.Firsts.{first_of};
-ghost use Rattle.fir_check.specs.Tabulated.{Connects};
+ghost use Rattle.fir_meaning.specs.DrivenFaults.{drives, undriven_faults};
+ghost use Rattle.fir_check.specs.working.Firsts.{first_of};
+ghost use Rattle.fir_check.specs.working.Tabulated.{Connects};
 
 use fir_ast::{Circuit, FirFault, Module, Stmt};
 use fir_base::{Direction, MemoryOut, Name, Seq};
@@ -15,8 +15,8 @@ use std::alloc::Global;
 use std::collections::BTreeSet;
 
 /// The first output that is not driven, in the modules of a circuit.
-pub fn first_undriven(alloc: Global, c: &Circuit) -> Result<Option<FirFault>, MemoryOut>
-    ensures { IfOk result (λ f. f ≡ first_of (flat_map undriven (circuit_of c.now).modules)) }
+pub fn undriven_fault(alloc: Global, c: &Circuit) -> Result<Option<FirFault>, MemoryOut>
+    ensures { IfOk result (λ f. f ≡ first_of (flat_map undriven_faults (circuit_of c.now).modules)) }
 {
     for m in &c.modules {
         if let Some(fault) = in_module(alloc, m)? {
@@ -28,7 +28,7 @@ pub fn first_undriven(alloc: Global, c: &Circuit) -> Result<Option<FirFault>, Me
 
 /// The first output of a module that is not driven.
 fn in_module(alloc: Global, m: &Module) -> Result<Option<FirFault>, MemoryOut>
-    ensures { IfOk result (λ f. f ≡ first_of (undriven (module_of m.now))) }
+    ensures { IfOk result (λ f. f ≡ first_of (undriven_faults (module_of m.now))) }
 {
     let connected = connected(alloc, &m.body)?;
     for port in &m.ports {

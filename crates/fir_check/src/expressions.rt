@@ -6,9 +6,9 @@ ghost use Rattle.fir_ast.specs.Expressions.{operation};
 ghost use Rattle.fir_ast.specs.View.{expr_of, expressions_of};
 ghost use Rattle.fir_meaning.specs.Scopes.{Scope, types, types_of_each};
 ghost use Rattle.fir_meaning.specs.FaultRules.{within, within_each};
-ghost use Rattle.fir_check.specs.Firsts.{first_of};
-ghost use Rattle.fir_check.specs.Groups.{expression_rule};
-ghost use Rattle.fir_check.specs.Tabulated.{Tabulates};
+ghost use Rattle.fir_check.specs.working.Firsts.{first_of};
+ghost use Rattle.fir_check.specs.working.Groups.{expression_rule};
+ghost use Rattle.fir_check.specs.working.Tabulated.{Tabulates};
 
 use crate::group::Group;
 use crate::scope::{Table, type_in};

@@ -3,17 +3,16 @@
 ghost use Rattle.std.specs.Prelude.{◌≡◌, IfOk};
 ghost use Rattle.fir_ast.specs.View.{expr_of, named_of, port_of, sink_of};
 ghost use Rattle.fir_meaning.specs.Scopes.{Scope};
-ghost use Rattle.fir_check.specs.Firsts.{first_of};
-ghost use Rattle.fir_check.specs.Groups.{connect_faults, declaration_faults, expression_rule, rule_of};
-ghost use Rattle.fir_check.specs.Tabulated.{Tabulates};
+ghost use Rattle.fir_check.specs.working.Firsts.{first_of};
+ghost use Rattle.fir_check.specs.working.Groups.{connect_faults, declaration_faults, expression_rule, rule_of};
+ghost use Rattle.fir_check.specs.working.Tabulated.{Tabulates};
 
-use crate::connects::connect_types;
-use crate::legality::{illegal, unfit};
-use crate::names::{twice, undeclared, unread};
-use crate::operator_words::operator_word;
+use crate::connects::connect_type_fault;
+use crate::legality::{integer_fault, literal_fault};
+use crate::names::{repeated_name_fault, undeclared_name_fault, unreadable_name_fault};
 use crate::printed::printed_type;
 use crate::scope::Table;
-use crate::widths::{literal_type, operation_type, over_width, written_type};
+use crate::widths::{literal_type, operation_type, over_width_fault, written_type};
 use fir_ast::{Expr, FirFault, Ident, Literal, Place, Port, Reference};
 use fir_base::MemoryOut;
 use fir_bits::{NumTy, PrimOp};
@@ -43,10 +42,10 @@ impl Group {
         ensures { IfOk result (λ f. (scope : Scope) → Tabulates table.now scope → f ≡ first_of ((rule_of self).of_port scope (port_of port.now))) }
     {
         match self {
-            Group::Names => twice(alloc, table, &port.ident),
+            Group::Names => repeated_name_fault(alloc, table, &port.ident),
             Group::Widths => {
                 let width = written_type(&port.ty).width;
-                over_width(alloc, width, port.ident.place, port.ident.name.as_bytes())
+                over_width_fault(alloc, width, port.ident.place, port.ident.name.as_bytes())
             }
             Group::Types | Group::Legality => Ok(None),
         }
@@ -63,8 +62,13 @@ impl Group {
         ensures { IfOk result (λ f. (scope : Scope) → Tabulates table.now scope → f ≡ first_of (declaration_faults self scope (named_of ident.now) holds)) }
     {
         match self {
-            Group::Names => twice(alloc, table, ident),
-            Group::Widths => over_width(alloc, holds.width, ident.place, ident.name.as_bytes()),
+            Group::Names => repeated_name_fault(alloc, table, ident),
+            Group::Widths => over_width_fault(
+                alloc,
+                holds.width,
+                ident.place,
+                ident.name.as_bytes(),
+            ),
             Group::Types | Group::Legality => Ok(None),
         }
     }
@@ -81,10 +85,10 @@ impl Group {
         ensures { IfOk result (λ f. (scope : Scope) → Tabulates table.now scope → f ≡ first_of (connect_faults self scope place (sink_of sink.now) (expr_of value.now))) }
     {
         match self {
-            Group::Names => undeclared(alloc, table, sink.place, &sink.name),
+            Group::Names => undeclared_name_fault(alloc, table, sink.place, &sink.name),
             Group::Types => {
                 let source = printed_type(table, value);
-                connect_types(alloc, table, place, &sink.name, source)
+                connect_type_fault(alloc, table, place, &sink.name, source)
             }
             Group::Widths | Group::Legality => Ok(None),
         }
@@ -100,7 +104,7 @@ impl Group {
         ensures { IfOk result (λ f. (scope : Scope) → Tabulates table.now scope → f ≡ first_of ((expression_rule self).of_reference scope (sink_of reference.now).place (sink_of reference.now).name)) }
     {
         match self {
-            Group::Names => unread(alloc, table, reference.place, &reference.name),
+            Group::Names => unreadable_name_fault(alloc, table, reference.place, &reference.name),
             Group::Types | Group::Widths | Group::Legality => Ok(None),
         }
     }
@@ -112,9 +116,9 @@ impl Group {
         match self {
             Group::Widths => {
                 let width = literal_type(literal).width;
-                over_width(alloc, width, literal.place, b"literal")
+                over_width_fault(alloc, width, literal.place, b"literal")
             }
-            Group::Legality => Ok(unfit(literal)),
+            Group::Legality => Ok(literal_fault(literal)),
             Group::Names | Group::Types => Ok(None),
         }
     }
@@ -133,9 +137,9 @@ impl Group {
         match self {
             Group::Widths => {
                 let width = operation_type(op, types, integers).width;
-                over_width(alloc, width, place, operator_word(op))
+                over_width_fault(alloc, width, place, op.word())
             }
-            Group::Legality => illegal(alloc, place, op, types, integers),
+            Group::Legality => integer_fault(alloc, place, op, types, integers),
             Group::Names | Group::Types => Ok(None),
         }
     }

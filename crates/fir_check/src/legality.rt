@@ -2,10 +2,9 @@
 
 ghost use Rattle.std.specs.Prelude.{◌≡◌, ◌^◌, IfOk, nat_lt};
 ghost use Rattle.fir_bits.specs.Types.{typed};
-ghost use Rattle.fir_meaning.specs.LegalityFaults.{illegal_by, unfit};
-ghost use Rattle.fir_check.specs.Firsts.{first_of};
+ghost use Rattle.fir_meaning.specs.LegalityFaults.{integer_faults, literal_faults};
+ghost use Rattle.fir_check.specs.working.Firsts.{first_of};
 
-use crate::operator_words::operator_word;
 use crate::widths::first_type;
 use fir_ast::{FirFault, Literal, Place};
 use fir_base::{MemoryOut, Name, Seq};
@@ -13,8 +12,8 @@ use fir_bits::{NumTy, OpFault, PrimOp, result_type};
 use std::alloc::Global;
 
 /// The fault of a literal whose number is not below two to its width.
-pub fn unfit(literal: &Literal) -> Option<FirFault>
-    ensures { result ≡ first_of (unfit literal.now) }
+pub fn literal_fault(literal: &Literal) -> Option<FirFault>
+    ensures { result ≡ first_of (literal_faults literal.now) }
 {
     let width = literal.width.unwrap_or(0);
     if is_below_power(literal.magnitude, width) {
@@ -35,22 +34,22 @@ fn is_below_power(number: u128, width: u128) -> bool
     }
 }
 
-/// The fault of an operation whose integers do not fit its operand.
-pub fn illegal(
+/// The fault of an operation that may not have its integers beside its operand.
+pub fn integer_fault(
     alloc: Global,
     place: Place,
     op: PrimOp,
     types: &[NumTy],
     integers: &[u128],
 ) -> Result<Option<FirFault>, MemoryOut>
-    ensures { IfOk result (λ f. f ≡ first_of (illegal_by (typed op types.now integers.now) place op types.now integers.now)) }
+    ensures { IfOk result (λ f. f ≡ first_of (integer_faults (typed op types.now integers.now) place op types.now integers.now)) }
 {
     match result_type(op, types, integers) {
         Err(OpFault::Legality) => {
             let mut numbers = Vec::new(alloc);
             numbers.push(u128::from(first_type(types).width))?;
             numbers.extend_from_slice(integers)?;
-            let word = Name::new(alloc, operator_word(op))?;
+            let word = Name::new(alloc, op.word())?;
             let numbers = Seq::from_vec(numbers);
             Ok(Some(FirFault::Legality(place, word, numbers)))
         }

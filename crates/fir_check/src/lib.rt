@@ -16,15 +16,10 @@ mod legality;
 mod main_module;
 mod module;
 mod names;
-mod operator_words;
 mod printed;
-#[cfg(test)]
-mod register_tests;
 mod scope;
 #[cfg(test)]
 mod tests;
 mod widths;
 
 pub use check::check_small;
-pub use expression_place::place_of;
-pub use operator_words::operator_word;

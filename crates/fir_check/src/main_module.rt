@@ -3,7 +3,7 @@
 ghost use Rattle.std.specs.Prelude.{◌≡◌, IfOk, map};
 ghost use Rattle.fir_ast.specs.View.{circuit_of, module_of};
 ghost use Rattle.fir_meaning.specs.Faults.{is_module, main_faults};
-ghost use Rattle.fir_check.specs.Firsts.{first_of};
+ghost use Rattle.fir_check.specs.working.Firsts.{first_of};
 
 use fir_ast::{Circuit, FirFault, Module};
 use fir_base::{MemoryOut, Name};

@@ -5,9 +5,9 @@ ghost use Rattle.fir_ast.specs.View.{block_of, circuit_of, expr_of, module_of, n
 ghost use Rattle.fir_bits.specs.Forms.{first_type};
 ghost use Rattle.fir_meaning.specs.Scopes.{Scope, declares, node_value, port_declared, printed_type, register_value, types, written_printed, written_type};
 ghost use Rattle.fir_meaning.specs.FaultRules.{along, along_ports, faults_by, within};
-ghost use Rattle.fir_check.specs.Firsts.{first_of};
-ghost use Rattle.fir_check.specs.Groups.{clock_faults, connect_faults, declaration_faults, expression_rule, rule_of};
-ghost use Rattle.fir_check.specs.Tabulated.{Tabulates, declared_as};
+ghost use Rattle.fir_check.specs.working.Firsts.{first_of};
+ghost use Rattle.fir_check.specs.working.Groups.{clock_faults, connect_faults, declaration_faults, expression_rule, rule_of};
+ghost use Rattle.fir_check.specs.working.Tabulated.{Tabulates, declared_as};
 
 use crate::clocks::in_clock;
 use crate::declared::{Declared, Kind};

@@ -3,10 +3,10 @@
 ghost use Rattle.std.specs.Prelude.{◌≡◌, IfOk};
 ghost use Rattle.fir_ast.specs.View.{named_of};
 ghost use Rattle.fir_meaning.specs.Scopes.{Scope, look_up};
-ghost use Rattle.fir_meaning.specs.NameFaults.{twice, undeclared, unread};
-ghost use Rattle.fir_check.specs.Firsts.{first_of};
-ghost use Rattle.fir_check.specs.Groups.{unclocked};
-ghost use Rattle.fir_check.specs.Tabulated.{Tabulates};
+ghost use Rattle.fir_meaning.specs.NameFaults.{repeated_name_faults, undeclared_name_faults, unreadable_name_faults};
+ghost use Rattle.fir_check.specs.working.Firsts.{first_of};
+ghost use Rattle.fir_check.specs.working.Groups.{clock_reference_faults};
+ghost use Rattle.fir_check.specs.working.Tabulated.{Tabulates};
 
 use crate::scope::Table;
 use fir_ast::{FirFault, Ident, Place};
@@ -14,8 +14,12 @@ use fir_base::{MemoryOut, Name};
 use std::alloc::Global;
 
 /// The fault of a declaration whose name is declared before it.
-pub fn twice(alloc: Global, table: &Table, ident: &Ident) -> Result<Option<FirFault>, MemoryOut>
-    ensures { IfOk result (λ f. (scope : Scope) → Tabulates table.now scope → f ≡ first_of (twice scope (named_of ident.now))) }
+pub fn repeated_name_fault(
+    alloc: Global,
+    table: &Table,
+    ident: &Ident,
+) -> Result<Option<FirFault>, MemoryOut>
+    ensures { IfOk result (λ f. (scope : Scope) → Tabulates table.now scope → f ≡ first_of (repeated_name_faults scope (named_of ident.now))) }
 {
     match table.get(&ident.name) {
         Some(first) => {
@@ -27,13 +31,13 @@ pub fn twice(alloc: Global, table: &Table, ident: &Ident) -> Result<Option<FirFa
 }
 
 /// The fault of a sink whose name is not declared before it.
-pub fn undeclared(
+pub fn undeclared_name_fault(
     alloc: Global,
     table: &Table,
     place: Place,
     name: &Name,
 ) -> Result<Option<FirFault>, MemoryOut>
-    ensures { IfOk result (λ f. (scope : Scope) → Tabulates table.now scope → f ≡ first_of (undeclared (look_up scope name.now) place name.now)) }
+    ensures { IfOk result (λ f. (scope : Scope) → Tabulates table.now scope → f ≡ first_of (undeclared_name_faults (look_up scope name.now) place name.now)) }
 {
     match table.get(name) {
         Some(_) => Ok(None),
@@ -42,13 +46,13 @@ pub fn undeclared(
 }
 
 /// The fault of a name in an expression that is not declared before it, or as an output or a clock.
-pub fn unread(
+pub fn unreadable_name_fault(
     alloc: Global,
     table: &Table,
     place: Place,
     name: &Name,
 ) -> Result<Option<FirFault>, MemoryOut>
-    ensures { IfOk result (λ f. (scope : Scope) → Tabulates table.now scope → f ≡ first_of (unread scope place name.now)) }
+    ensures { IfOk result (λ f. (scope : Scope) → Tabulates table.now scope → f ≡ first_of (unreadable_name_faults scope place name.now)) }
 {
     match table.get(name) {
         Some(declared) if declared.kind.is_readable() => Ok(None),
@@ -57,13 +61,13 @@ pub fn unread(
 }
 
 /// The fault of a name behind a register's comma that is not declared before it, or as an output.
-pub fn unclocked(
+pub fn clock_reference_fault(
     alloc: Global,
     table: &Table,
     place: Place,
     name: &Name,
 ) -> Result<Option<FirFault>, MemoryOut>
-    ensures { IfOk result (λ f. (scope : Scope) → Tabulates table.now scope → f ≡ first_of (unclocked scope place name.now)) }
+    ensures { IfOk result (λ f. (scope : Scope) → Tabulates table.now scope → f ≡ first_of (clock_reference_faults scope place name.now)) }
 {
     match table.get(name) {
         Some(declared) if declared.kind.is_clock_or_readable() => Ok(None),

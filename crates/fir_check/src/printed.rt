@@ -5,7 +5,7 @@ ghost use Rattle.std.specs.Prelude.{◌≡◌, map};
 ghost use Rattle.fir_ast.specs.View.{expr_of, expressions_of, type_of};
 ghost use Rattle.fir_meaning.specs.Scopes.{Scope, have_types, look_up, operation_printed, printed_type, type_read, written_printed};
 ghost use Rattle.fir_meaning.specs.TypeFaults.{is_clock, is_equivalent};
-ghost use Rattle.fir_check.specs.Tabulated.{Tabulates, printed_of, ty_of};
+ghost use Rattle.fir_check.specs.working.Tabulated.{Tabulates, printed_of, ty_of};
 
 use crate::scope::Table;
 use fir_ast::{Expr, Ty};
@@ -52,7 +52,7 @@ impl Printed {
     }
 
     /// Whether a source of the other type may be connected to a sink of this one (FIRRTL spec, "Type
-    /// Equivalence"): clocks fit clocks, and a UInt one of any width.
+    /// Equivalence"): a clock to a clock, and a UInt to one of any width.
     pub fn is_equivalent(self, source: Printed) -> bool
         ensures { result ≡ is_equivalent (ty_of self) (ty_of source) }
     {

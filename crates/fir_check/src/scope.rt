@@ -2,12 +2,11 @@
 
 ghost use Rattle.std.specs.Prelude.{◌≡◌, OnOk, [], ◌∷◌, ◌++◌};
 ghost use Rattle.fir_meaning.specs.Scopes.{Scope, type_in};
-ghost use Rattle.fir_check.specs.Tabulated.{Tabulates, declared_of};
+ghost use Rattle.fir_check.specs.working.Tabulated.{Tabulates, declared_of};
 
 use crate::declared::Declared;
-use crate::widths::NO_TYPE;
 use fir_base::{MemoryOut, Name};
-use fir_bits::NumTy;
+use fir_bits::{NO_TYPE, NumTy};
 use std::alloc::Global;
 use std::collections::BTreeMap;
 

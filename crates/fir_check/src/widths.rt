@@ -2,37 +2,30 @@
 //! that is over that is 129.
 
 ghost use Rattle.std.specs.Prelude.{◌≡◌, IfOk, slice_index};
-ghost use Rattle.fir_bits.specs.Types.{signed_of};
 ghost use Rattle.fir_bits.specs.Forms.{first_type};
 ghost use Rattle.fir_ast.specs.View.{type_of};
 ghost use Rattle.fir_meaning.specs.Operations.{counted, operation_type};
 ghost use Rattle.fir_meaning.specs.Scopes.{literal_type, written_type};
-ghost use Rattle.fir_meaning.specs.WidthFaults.{over_width};
-ghost use Rattle.fir_check.specs.Firsts.{first_of};
-ghost use Rattle.fir_check.specs.AskedWidths.{asked};
+ghost use Rattle.fir_meaning.specs.WidthFaults.{over_width_faults};
+ghost use Rattle.fir_check.specs.working.Firsts.{first_of};
+ghost use Rattle.fir_check.specs.working.AskedWidths.{asked};
 
 use fir_ast::{FirFault, Literal, Place, Ty};
 use fir_base::{MemoryOut, Name};
-use fir_bits::{NumTy, OpFault, PrimOp, result_type};
+use fir_bits::{NO_TYPE, NumTy, OpFault, PrimOp, result_type};
 use std::alloc::Global;
 
 /// The width of all that is over 128 bits.
 const OVER: u32 = 129;
 
-/// The type of what has no bits.
-pub const NO_TYPE: NumTy = NumTy {
-    signed: false,
-    width: 0,
-};
-
 /// The fault of a place whose width is over 128 bits.
-pub fn over_width(
+pub fn over_width_fault(
     alloc: Global,
     width: u32,
     place: Place,
     what: &[u8],
 ) -> Result<Option<FirFault>, MemoryOut>
-    ensures { IfOk result (λ f. f ≡ first_of (over_width width place what.now)) }
+    ensures { IfOk result (λ f. f ≡ first_of (over_width_faults width place what.now)) }
 {
     if width == OVER {
         Ok(Some(FirFault::Over(place, Name::new(alloc, what)?)))
@@ -85,21 +78,6 @@ pub fn written_type(ty: &Ty) -> NumTy
     }
 }
 
-/// Whether the operation's result is an SInt, where the first operand is one or not.
-fn is_signed(op: PrimOp, signed: bool) -> bool
-    ensures { result ≡ signed_of op signed }
-{
-    match op {
-        PrimOp::Add | PrimOp::Sub | PrimOp::Mul | PrimOp::Div | PrimOp::Rem => signed,
-        PrimOp::Pad | PrimOp::Shl | PrimOp::Shr | PrimOp::Dshl | PrimOp::Dshr => signed,
-        PrimOp::Cvt | PrimOp::Neg | PrimOp::AsSInt => true,
-        PrimOp::Lt | PrimOp::Leq | PrimOp::Gt | PrimOp::Geq | PrimOp::Eq | PrimOp::Neq => false,
-        PrimOp::Not | PrimOp::And | PrimOp::Or | PrimOp::Xor => false,
-        PrimOp::Andr | PrimOp::Orr | PrimOp::Xorr | PrimOp::Cat => false,
-        PrimOp::Bits | PrimOp::Head | PrimOp::Tail | PrimOp::AsUInt | PrimOp::AsAsyncReset => false,
-    }
-}
-
 /// The width for which the integers ask, where they are not legal. Only four operations have such.
 fn asked(op: PrimOp, n: u128, m: u128) -> u32
     ensures { result ≡ asked op n m }
@@ -126,11 +104,11 @@ pub fn operation_type(op: PrimOp, types: &[NumTy], integers: &[u128]) -> NumTy
         Ok(holds) => holds,
         Err(OpFault::Kinds) => NO_TYPE,
         Err(OpFault::Over) => NumTy {
-            signed: is_signed(op, first_type(types).signed),
+            signed: op.is_signed(first_type(types).signed),
             width: OVER,
         },
         Err(OpFault::Legality) => NumTy {
-            signed: is_signed(op, first_type(types).signed),
+            signed: op.is_signed(first_type(types).signed),
             width: asked(op, integer(integers, 0), integer(integers, 1)),
         },
     }

@@ -5,12 +5,12 @@ use Rattle.fir_base.specs.declared.refused.Refused.TheVariants.{Fault, Memory}
 use Rattle.fir_net.specs.declared.net.FlatNet.{FlatNet}
 use Rattle.trace_text.specs.declared.fault.TraceFault.{TraceFault}
 use Rattle.trace_text.specs.Shapes.{TraceShape}
-use Rattle.trace_text.specs.Readings.{InitsRead, ReadsInit}
-use Rattle.trace_text.specs.Steps.{ReadsInSteps}
+use Rattle.trace_text.specs.working.Readings.{InitsRead, ReadsInit}
+use Rattle.trace_text.specs.working.Steps.{ReadsInSteps}
 use Rattle.trace_text.specs.RunLines.{run_text}
-use Rattle.fir_sim.specs.Views.{numbers}
+use Rattle.fir_sim.specs.working.Views.{numbers}
 use Rattle.fir_driver.specs.declared.runner.Runner.{Runner}
-use Rattle.fir_driver.specs.Running.{IsRunning, Begins, last_state}
+use Rattle.fir_driver.specs.working.Running.{IsRunning, Begins, last_state}
 
 pub begun : (trace : List ℕ) (r : Runner) (init : List ℕ) → ReadsInSteps trace r.shape → InitsRead trace r.shape init r.at → numbers r.sim.state ≡ init → (with_state : Bool) → IsRunning trace with_state r []
 unfolding last_state run_text

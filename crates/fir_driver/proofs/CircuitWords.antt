@@ -2,14 +2,14 @@
 use Rattle.std.proofs.Common.{ℕ, List, [], ◌∷◌, sym, subst, inl, inr}
 use Rattle.std.specs.Prelude.{IsTrue}
 use Rattle.std.specs.List.{AllByRecursion}
-use Rattle.ver_ast.specs.Names.{is_word}
-use Rattle.fir_ast.specs.Statements.{Statement, register, Block, done, then}
+use Rattle.ver_words.specs.Names.{is_word}
+use Rattle.fir_ast.specs.Statements.{Statement, register, node, Block, done, then}
 use Rattle.fir_ast.specs.Circuits.{PortTree, ModuleTree, CircuitTree}
 use Rattle.fir_parse.specs.Lexemes.{Terminal, word}
-use Rattle.fir_parse.specs.StatementForms.{IsStatement, AreStatements}
-use Rattle.fir_parse.specs.CircuitForms.{IsPort, ArePorts, IsBody, IsModule, AreModules, AreSomeModules, IsVersion, IsSpelled}
-use Rattle.fir_lower.specs.HasWords.{StatementHasWords, BodyHasWords, ModuleHasWords, HasWords}
-use Rattle.fir_driver.proofs.WordPieces.{AreSpelledWell, KeepsWords, token, somewhere, nothing, next, either, name_is_word}
+use Rattle.fir_parse.specs.working.StatementForms.{IsStatement, AreStatements}
+use Rattle.fir_parse.specs.working.CircuitForms.{IsPort, ArePorts, IsBody, IsModule, AreModules, AreSomeModules, IsVersion, IsSpelled}
+use Rattle.fir_lower.specs.working.HasWords.{StatementHasWords, BodyHasWords, ModuleHasWords, HasWords}
+use Rattle.fir_driver.proofs.WordPieces.{AreSpelledWell, KeepsWords, token, somewhere, nothing, at, next, either, name_is_word}
 use Rattle.fir_driver.proofs.TypesKeepWords.{int, type_keeps}
 use Rattle.fir_driver.proofs.StatementsKeepWords.{statement_keeps}
 
@@ -19,7 +19,7 @@ AreNamedWell = AllByRecursion (λ p. IsTrue (is_word p.named.name))
 port_words : (p : PortTree) (a b : List Terminal) → IsPort p a b → AreSpelledWell a → IsTrue (is_word p.named.name) × AreSpelledWell b
 port_words p a b (m, (w, r, x), (n, name, rest)) h =
     let well : AreSpelledWell m = (somewhere {l = word w}).behind a m x h in
-    (name_is_word p.named m n name well, (next token (next somewhere (next (type_keeps 0 p.data_type) somewhere))).behind m b (n, name, rest) well)
+    (name_is_word p.named m n name well, (next token (next somewhere (next (next at (type_keeps 0 p.data_type)) somewhere))).behind m b (n, name, rest) well)
 
 ports_words : (ps : List PortTree) (a b : List Terminal) → ArePorts ps a b → AreSpelledWell a → AreNamedWell ps × AreSpelledWell b
 ports_words [] a b e h = (tt, (nothing).behind a b e h)
@@ -28,9 +28,10 @@ ports_words (p ∷ ps) a b (m, x, y) h =
     let others = ports_words ps m b y first.1 in
     ((first.0, others.0), others.1)
 
--- the name of a register
+-- the name of a register or a node
 statement_words : (d : ℕ) (s : Statement) (a b : List Terminal) → IsStatement d s a b → AreSpelledWell a → StatementHasWords s
-statement_words d (register p n t c r) a b (m, first, (k, name, rest)) h = name_is_word n m k name ((token).behind a m first h)
+statement_words d (register p n q t c r) a b (m, first, (k, name, rest)) h = name_is_word n m k name ((token).behind a m first h)
+statement_words d (node p n e) a b (m, first, (k, name, rest)) h = name_is_word n m k name ((token).behind a m first h)
 statement_words d s a b x h = tt
 
 statements_words : (d : ℕ) (body : Block) (a b : List Terminal) → AreStatements d body a b → AreSpelledWell a → BodyHasWords body × AreSpelledWell b
@@ -48,7 +49,7 @@ body_words ps body a b (inr (m, opens, (n, x, (k, y, closes)))) h =
 
 module_words : (m : ModuleTree) (a b : List Terminal) → IsModule m a b → AreSpelledWell a → ModuleHasWords m × AreSpelledWell b
 module_words m a b (n1, x, (n2, name, (n3, colon, (n4, end, body)))) h =
-    body_words m.ports m.body n4 b body ((next somewhere (next token (next somewhere somewhere))).behind a n4 (n1, x, (n2, name, (n3, colon, end))) h)
+    body_words m.ports m.body n4 b body ((next token (next token (next somewhere somewhere))).behind a n4 (n1, x, (n2, name, (n3, colon, end))) h)
 
 modules_words : (ms : List ModuleTree) (a b : List Terminal) → AreModules ms a b → AreSpelledWell a → AllByRecursion ModuleHasWords ms
 modules_words [] a b e h = tt

@@ -1,28 +1,28 @@
 -- What a circuit compiles to, by way of its net.
 use Rattle.std.proofs.Common.{ℕ, List, [], ◌∷◌, ◌∙◌, subst, IsTrue, Result, Ok, Err, IfOk}
-use Rattle.fir_base.specs.Ticks.{Tick, Shown, Allowance, IsRun}
+use Rattle.fir_base.specs.Ticks.{Tick, TickResult, Allowance, IsRun}
 use Rattle.fir_base.specs.declared.refused.MemoryOut.{MemoryOut}
 use Rattle.ver_ast.specs.declared.tree.Verilog.{Verilog}
-use Rattle.ver_ast.specs.Laws.{ValidHasOne}
+use Rattle.ver_ast.specs.working.Laws.{ValidHasOne}
 use Rattle.ver_ast.specs.Allows.{VAllows}
 use Rattle.fir_ast.specs.Circuits.{CircuitTree}
 use Rattle.fir_meaning.specs.Allows.{Allows}
 use Rattle.fir_meaning.specs.Faults.{Faultless}
-use Rattle.fir_meaning.specs.Language.{is_in_language}
-use Rattle.fir_meaning.specs.Laws.{FaultlessHasOne}
+use Rattle.fir_meaning.specs.Lacking.{is_in_language}
+use Rattle.fir_meaning.specs.working.Laws.{FaultlessHasOne}
 use Rattle.fir_net.specs.declared.net.FlatNet.{FlatNet}
 use Rattle.fir_net.specs.Rows.{net_rows, net_words}
-use Rattle.ver_build.specs.Named.{Named}
-use Rattle.ver_build.specs.Builds.{Builds}
+use Rattle.ver_build.specs.NamedFor.{IsNamedFor}
+use Rattle.ver_build.specs.working.Builds.{Builds}
 use Rattle.fir_lower.specs.CircuitRows.{circuit_rows}
-use Rattle.fir_lower.specs.Lowers.{Lowers}
+use Rattle.fir_lower.specs.working.Lowers.{Lowers}
 use Rattle.fir_driver.specs.Compiles.{Compiles}
 
 -- what one allows the other allows too
 abbrev Includes : Allowance → Allowance → Type 0
 Includes p q = (state : List ℕ) (tick : Tick) (shown after : List ℕ) → p state tick shown after → q state tick shown after
 
-same_runs : (p q : Allowance) → Includes p q → (state : List ℕ) (ticks : List Tick) (shown : List Shown) → IsRun p state ticks shown → IsRun q state ticks shown
+same_runs : (p q : Allowance) → Includes p q → (state : List ℕ) (ticks : List Tick) (shown : List TickResult) → IsRun p state ticks shown → IsRun q state ticks shown
 same_runs p q h state [] [] r = tt
 same_runs p q h state [] (s ∷ shown) r = absurd r
 same_runs p q h state (t ∷ ticks) [] r = absurd r
@@ -38,8 +38,8 @@ module _ (c : CircuitTree) (net : FlatNet) (v : Verilog) (low : Lowers c net) (m
   compiles : ValidHasOne → FaultlessHasOne → IsTrue (is_in_language c) → Faultless c → Compiles c v
   compiles valid_one faultless_one language faultless = record {
     named =
-        subst (λ words. Named c.named.name (circuit_rows c) words v) low.words
-        (subst (λ rows. Named c.named.name rows (net_words net) v) low.ports (subst (λ name. Named name (net_rows net) (net_words net) v) low.named made.named));
+        subst (λ words. IsNamedFor c.named.name (circuit_rows c) words v) low.words
+        (subst (λ rows. IsNamedFor c.named.name rows (net_words net) v) low.ports (subst (λ name. IsNamedFor name (net_rows net) (net_words net) v) low.named made.named));
     shapes = made.shapes ∙ low.shapes;
     valid = made.valid;
     one = faultless_one c language faultless;

@@ -2,11 +2,11 @@
 use Rattle.std.proofs.Common.{◌≡◌, ℕ, List, sym, subst}
 use Rattle.ver_ast.specs.declared.tree.Verilog.{Verilog}
 use Rattle.ver_ast.specs.Spells.{VSpells}
-use Rattle.ver_ast.specs.Laws.{SpellsOneTree as VSpellsOneTree}
+use Rattle.ver_ast.specs.working.Laws.{SpellsOneTree as VSpellsOneTree}
 use Rattle.ver_emit.specs.Layout.{layout}
-use Rattle.ver_emit.specs.Laws.{LayoutIsSpelled}
+use Rattle.ver_emit.specs.working.Laws.{LayoutIsSpelled}
 use Rattle.fir_ast.specs.Circuits.{CircuitTree}
-use Rattle.fir_parse.specs.Laws.{SpellsOneTree}
+use Rattle.fir_parse.specs.working.Laws.{SpellsOneTree}
 use Rattle.fir_driver.specs.Compiles.{Compiles}
 use Rattle.fir_driver.specs.Emits.{Takes, Emits}
 

@@ -7,7 +7,7 @@ use Rattle.fir_ast.specs.Expressions.{Expression, reference, literal, operation,
 use Rattle.fir_ast.specs.Statements.{Sink}
 use Rattle.fir_parse.specs.Numbers.{Numeral}
 use Rattle.fir_parse.specs.Heights.{height}
-use Rattle.fir_parse.specs.ExpressionForms.{IsNumeral, IsNumber, IsLiteral, IsOperator, AreIntegers, IsExpression, AreParts, AreOperands, AreMoreOperands, IsSink}
+use Rattle.fir_parse.specs.working.ExpressionForms.{IsNumeral, IsNumber, IsLiteral, IsOperator, AreIntegers, IsExpression, AreParts, AreOperands, AreMoreOperands, IsSink}
 use Rattle.fir_driver.proofs.WordPieces.{KeepsWords, token, somewhere, nothing, given, next}
 use Rattle.fir_driver.proofs.TypesKeepWords.{int_at, int, field_name, width}
 
@@ -40,10 +40,10 @@ mutual
 
   pub parts_keep : (d h : ℕ) (ps : Parts) → KeepsWords (AreParts d h ps)
   parts_keep d h no_parts = nothing
-  parts_keep d h (subfield p n rest) = next somewhere (next field_name (next given (parts_keep d (h + 1) rest)))
-  parts_keep d h (subindex p n rest) = next somewhere (next given (next int_at (next somewhere (next given (parts_keep d (h + 1) rest)))))
-  parts_keep d h (subaccess e rest) =
-      next somewhere (next given (next (expression_keeps (d + 1) e) (next somewhere (next given (parts_keep d (max h (height e) + 1) rest)))))
+  parts_keep d h (subfield q p n rest) = next token (next field_name (next given (parts_keep d (h + 1) rest)))
+  parts_keep d h (subindex q p n rest) = next token (next given (next int_at (next somewhere (next given (parts_keep d (h + 1) rest)))))
+  parts_keep d h (subaccess q e rest) =
+      next token (next given (next (expression_keeps (d + 1) e) (next somewhere (next given (parts_keep d (max h (height e) + 1) rest)))))
 
   operands_keep : (d : ℕ) (es : Expressions) → KeepsWords (AreOperands d es)
   operands_keep d no_expressions = nothing

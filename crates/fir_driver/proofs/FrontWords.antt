@@ -4,9 +4,11 @@ use Rattle.std.specs.Prelude.{IsTrue, codes, nat_eq, nat_lt, ◌^◌, take_while
 use Rattle.std.specs.Str.{bytes_eq}
 use Rattle.std.specs.List.{list_all}
 use Rattle.std.proofs.lemmas.List.Sums.{take_while-cons}
-use Rattle.ver_ast.specs.Names.{is_word}
-use Rattle.fir_lex.specs.Bytes.{starts_with_byte, is_digit, is_word_start, is_word_byte, is_blank}
-use Rattle.fir_lex.specs.Front.{Front, found, number_of, dash_word_at, dash_or_word, integer_front, closed_string, string_front, string_length, information_front, information_length, annotations_front, block_length, in_brackets, is_single, starts_with_digit, front}
+use Rattle.ver_words.specs.Names.{is_word}
+use Rattle.fir_lex.specs.Bytes.{starts_with_byte, is_blank}
+use Rattle.fir_base.specs.Bytes.{is_digit, starts_with_digit, is_word_start, is_word_byte}
+use Rattle.fir_base.specs.Digits.{decimal_value}
+use Rattle.fir_lex.specs.Front.{Front, found, dash_word_at, dash_or_word, integer_front, closed_string, string_front, string_length, information_front, information_length, annotations_front, block_length, in_brackets, is_single, front}
 use Rattle.fir_parse.specs.Lexemes.{Lexeme, sign_lexeme, lexeme_of}
 use Rattle.fir_driver.proofs.WordPieces.{IsSpelledWell}
 
@@ -57,7 +59,7 @@ word_well b bs (Some w) e = tt
 word_well b bs None e = word_taken b bs e
 
 integer_well : (sign digits : List ℕ) → IsFrontWell (integer_front sign digits)
-integer_well sign digits = front_if (nat_lt (number_of (take_while is_digit digits)) (2 ^ 128)) _ _ (λ e. tt) tt
+integer_well sign digits = front_if (nat_lt (decimal_value (take_while is_digit digits)) (2 ^ 128)) _ _ (λ e. tt) tt
 
 closed_well : (content : List ℕ) (o : Option ℕ) → IsFrontWell (closed_string content o)
 closed_well content None = tt

@@ -2,16 +2,14 @@
 use Rattle.std.proofs.Common.{◌≡◌, ℕ, List, [], ◌∷◌, Bool, true, false, cond, length, map, refl, sym, ap, ◌∙◌, arith, Vec, vec_len, Global}
 use Rattle.std.proofs.lemmas.List.{length-map}
 use Rattle.fir_bits.specs.declared.operators.PrimOp.{PrimOp}
+use Rattle.fir_bits.specs.OperatorWords.{operator_word}
 use Rattle.fir_ast.specs.declared.place.Place.{Place}
 use Rattle.fir_ast.specs.declared.expressions.Expr.{Expr, fold-roll-Expr}
 use Rattle.fir_ast.specs.declared.expressions.Expr.TheVariants.{Op, rolls-Op}
 use Rattle.fir_ast.specs.Expressions.{Expression, operation, Parts}
 use Rattle.fir_ast.specs.Statements.{Sink}
 use Rattle.fir_ast.specs.View.{expr_of, expressions_of, expr_step, part_step, reference_step}
-use Rattle.fir_meaning.specs.OperatorWords.{operator_word}
-use Rattle.fir_meaning.specs.Language.{counts, count, has_counts}
-use Rattle.fir_driver.specs.declared.spot.Spot.TheVariants.{At}
-use Rattle.fir_driver.specs.Lacking.{lack, lacking_expression, lacking_operands}
+use Rattle.fir_meaning.specs.Lacking.{count, is_operation, lack, lacking_expression, lacking_operands}
 
 count_of : (es : List Expression) → count (expressions_of es) ≡ length es
 count_of [] = refl
@@ -27,12 +25,12 @@ module _ (e : Expr) (p : Place) (o : PrimOp) (es : Vec Expr Global) (ks : Vec �
   integers_are : m ≡ length ks.items
   integers_are = m_is ∙ ks.ok.0
 
-  counted : (b : Bool) → has_counts (counts o) n m ≡ b
-      → lacking_expression (expr_of e) ≡ cond b (lacking_operands (expressions_of (map expr_of es.items))) (lack (At p) (operator_word o))
+  counted : (b : Bool) → is_operation o n m ≡ b
+      → lacking_expression (expr_of e) ≡ cond b (lacking_operands (expressions_of (map expr_of es.items))) (lack p (operator_word o))
   counted b test = rw (is, tree_of p o es ks, sym operands_are, sym integers_are, test) refl
 
-  pub counted_right : has_counts (counts o) n m ≡ true → lacking_operands (expressions_of (map expr_of es.items)) ≡ lacking_expression (expr_of e)
+  pub counted_right : is_operation o n m ≡ true → lacking_operands (expressions_of (map expr_of es.items)) ≡ lacking_expression (expr_of e)
   counted_right test = sym (counted true test)
 
-  pub counted_wrong : has_counts (counts o) n m ≡ false → lack (At p) (operator_word o) ≡ lacking_expression (expr_of e)
+  pub counted_wrong : is_operation o n m ≡ false → lack p (operator_word o) ≡ lacking_expression (expr_of e)
   counted_wrong test = sym (counted false test)

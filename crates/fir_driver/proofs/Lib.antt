@@ -1,6 +1,4 @@
-pub mod TokensAhead
 pub mod LackingOperations
-pub mod LacksNothing
 pub mod Taken
 pub mod WordPieces
 pub mod TypesKeepWords
@@ -12,7 +10,8 @@ pub mod LexedWords
 pub mod Compiles
 pub mod Emitted
 pub mod Refused
-pub mod Ended
+pub mod Told
+pub mod EmitEnded
 pub mod SimulationEnded
 pub mod TraceEnded
 pub mod TraceShapes

@@ -1,19 +1,19 @@
 -- What a simulation of a text is made of, by way of the circuit's net.
-use Rattle.std.proofs.Common.{◌≡◌, ℕ, List, [], ◌++◌, ◌∙◌, subst, map}
+use Rattle.std.proofs.Common.{ℕ, List, [], ◌++◌, ◌∙◌, subst, map}
 use Rattle.fir_ast.specs.Circuits.{CircuitTree}
-use Rattle.fir_parse.specs.Laws.{SpellsOneTree}
-use Rattle.fir_meaning.specs.Laws.{FaultlessHasOne, FaultlessRunsOnce}
+use Rattle.fir_parse.specs.working.Laws.{SpellsOneTree}
+use Rattle.fir_meaning.specs.working.Laws.{FaultlessHasOne, FaultlessRunsOnce}
 use Rattle.fir_net.specs.declared.net.FlatNet.{FlatNet}
 use Rattle.fir_net.specs.Names.{AreNamed}
 use Rattle.fir_net.specs.Rows.{Row, Word, net_rows, net_words, row_names, word_names}
-use Rattle.fir_lower.specs.CircuitRows.{circuit_rows, circuit_words}
-use Rattle.fir_lower.specs.Lowers.{Lowers}
-use Rattle.ver_build.specs.Laws.{NamesAreForRows}
+use Rattle.fir_lower.specs.CircuitRows.{circuit_rows}
+use Rattle.fir_lower.specs.working.Lowers.{Lowers}
+use Rattle.ver_build.specs.working.Laws.{NamesAreForRows}
 use Rattle.trace_text.specs.Shapes.{TraceShape}
-use Rattle.fir_sim.specs.Shapes.{IsShapeOf}
+use Rattle.fir_sim.specs.working.Shapes.{IsShapeOf}
 use Rattle.fir_driver.specs.Emits.{Takes}
 use Rattle.fir_driver.specs.Traces.{IsTraceShape}
-use Rattle.fir_driver.specs.Made.{IsMadeOf}
+use Rattle.fir_driver.specs.working.Made.{IsMadeOf}
 
 module _ (c : CircuitTree) (net : FlatNet) (s : TraceShape) (lowered : Lowers c net) (of_net : IsShapeOf net s) where
   trace_shape : NamesAreForRows → IsTraceShape c s

@@ -1,21 +1,21 @@
 -- A text that is refused is not taken.
-use Rattle.std.proofs.Common.{◌≡◌, ℕ, List, [], ◌∷◌, Some, None, sym, ap, ◌∙◌, inl, inr}
+use Rattle.std.proofs.Common.{◌≡◌, ℕ, List, [], ◌∷◌, true, Some, sym, ap, ◌∙◌, inl, inr}
+use Rattle.std.specs.Prelude.{is_none}
 use Rattle.fir_ast.specs.declared.fault.FirFault.{FirFault}
 use Rattle.fir_ast.specs.Circuits.{CircuitTree}
-use Rattle.fir_parse.specs.Laws.{SpellsOneTree, HasTreeOrFault}
+use Rattle.fir_parse.specs.working.Laws.{SpellsOneTree, HasTreeOrFault}
 use Rattle.fir_meaning.specs.Faults.{faults}
-use Rattle.fir_driver.specs.Lacking.{lacking}
+use Rattle.fir_meaning.specs.Lacking.{lacking}
 use Rattle.fir_driver.specs.Emits.{Takes}
-use Rattle.fir_driver.specs.Refusals.{HasFault, Refuses}
-use Rattle.fir_driver.proofs.LacksNothing.{lacks_nothing}
+use Rattle.fir_driver.specs.Refusals.{RefusedFor, Refuses}
 
 module _ (one : SpellsOneTree) (tree_or_fault : HasTreeOrFault) (bytes : List ℕ) (c : CircuitTree) (taken : Takes bytes c) where
   -- a text that is taken has no fault
-  taken_has_no_fault : (f : FirFault) → HasFault bytes f → ⊥
+  taken_has_no_fault : (f : FirFault) → RefusedFor bytes f → ⊥
   taken_has_no_fault f (inl bad) = (tree_or_fault bytes).1 (c, taken.spelled) (f, bad)
   taken_has_no_fault f (inr (inl lack)) =
-      let same : lack.tree ≡ c = one bytes lack.tree c (lack.tokens, lack.are_lexed, lack.is_read) taken.spelled in
-      let e : Some lack.lack ≡ None = sym lack.first ∙ ap lacking same ∙ lacks_nothing c taken.in_language in
+      let same : lack.circuit ≡ c = one bytes lack.circuit c lack.spelled taken.spelled in
+      let e : is_none (Some lack.lack) ≡ true = ap is_none (sym lack.first ∙ ap lacking same) ∙ taken.in_language in
       absurd cc
   taken_has_no_fault f (inr (inr shows)) =
       let same : shows.circuit ≡ c = one bytes shows.circuit c shows.spelled taken.spelled in

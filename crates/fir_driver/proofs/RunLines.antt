@@ -1,30 +1,30 @@
 -- A run and its lines grow tick by tick.
-use Rattle.std.proofs.Common.{◌≡◌, ℕ, List, [], ◌∷◌, ◌++◌, Bool, refl, sym, ap, ◌∙◌, map}
+use Rattle.std.proofs.Common.{◌≡◌, ℕ, List, [], ◌∷◌, ◌++◌, Bool, refl, sym, ap, ◌∙◌}
 use Rattle.std.proofs.lemmas.List.{append-nil, append_assoc}
-use Rattle.fir_base.specs.Ticks.{Tick, Shown, Allowance, IsRun}
+use Rattle.fir_base.specs.Ticks.{Tick, TickResult, Allowance, IsRun}
 use Rattle.fir_bits.specs.Values.{BitVector}
 use Rattle.trace_text.specs.RunLines.{with_widths, shown_text, run_text}
-use Rattle.fir_sim.specs.Views.{numbers, widths}
-use Rattle.fir_driver.specs.Running.{last_state}
+use Rattle.fir_sim.specs.working.Views.{numbers, widths}
+use Rattle.fir_driver.specs.working.Running.{last_state}
 
-abbrev pub shows : List ℕ → List ℕ → Shown
+abbrev pub shows : List ℕ → List ℕ → TickResult
 shows outputs state = record { outputs = outputs; state = state }
 
-module _ (allows : Allowance) (tick : Tick) (last : Shown) where
-  pub run_more : (init : List ℕ) (ticks : List Tick) (shown : List Shown) → IsRun allows init ticks shown → allows (last_state init shown) tick last.outputs last.state → IsRun allows init (ticks ++ tick ∷ []) (shown ++ last ∷ [])
+module _ (allows : Allowance) (tick : Tick) (last : TickResult) where
+  pub run_more : (init : List ℕ) (ticks : List Tick) (shown : List TickResult) → IsRun allows init ticks shown → allows (last_state init shown) tick last.outputs last.state → IsRun allows init (ticks ++ tick ∷ []) (shown ++ last ∷ [])
   unfolding last_state
   run_more init [] [] run here = (here, tt)
   run_more init [] (s ∷ shown) run here = absurd run
   run_more init (t ∷ ticks) [] run here = absurd run
   run_more init (t ∷ ticks) (s ∷ shown) run here = (run.0, run_more s.state ticks shown run.1 here)
 
-pub last_of : (init : List ℕ) (shown : List Shown) (last : Shown) → last_state init (shown ++ last ∷ []) ≡ last.state
+pub last_of : (init : List ℕ) (shown : List TickResult) (last : TickResult) → last_state init (shown ++ last ∷ []) ≡ last.state
 unfolding last_state
 last_of init [] last = refl
 last_of init (s ∷ shown) last = last_of s.state shown last
 
-module _ (outputs state : List ℕ) (with_state : Bool) (last : Shown) where
-  pub text_more : (shown : List Shown) → run_text outputs state with_state (shown ++ last ∷ []) ≡ run_text outputs state with_state shown ++ shown_text outputs state with_state last
+module _ (outputs state : List ℕ) (with_state : Bool) (last : TickResult) where
+  pub text_more : (shown : List TickResult) → run_text outputs state with_state (shown ++ last ∷ []) ≡ run_text outputs state with_state shown ++ shown_text outputs state with_state last
   unfolding run_text
   text_more [] = append-nil (shown_text outputs state with_state last)
   text_more (s ∷ shown) =

@@ -1,45 +1,26 @@
 -- Where nothing failed and memory was there, the status is the one that the words and the told contents give.
-use Rattle.std.proofs.Common.{◌≡◌, ℕ, ◌<◌, ◌≤◌, List, length, Option, Some, None, String, Global, IfSome, inl, inr, refl, sym, subst, arith}
+use Rattle.std.proofs.Common.{◌≡◌, ℕ, List, Option, Some, None, String, Global, inl, inr, refl, sym, subst}
 use Rattle.fir_base.specs.Ticks.{Tick}
 use Rattle.fir_ast.specs.Circuits.{CircuitTree}
-use Rattle.fir_parse.specs.Laws.{SpellsOneTree, HasTreeOrFault}
+use Rattle.fir_parse.specs.working.Laws.{SpellsOneTree, HasTreeOrFault}
 use Rattle.trace_text.specs.declared.fault.TraceFault.{TraceFault}
 use Rattle.trace_text.specs.Shapes.{TraceShape}
 use Rattle.trace_text.specs.TraceSpells.{TraceSpells}
 use Rattle.trace_text.specs.BadLine.{BadLine}
-use Rattle.trace_text.specs.Laws.{SpelledIsNotBad}
+use Rattle.trace_text.specs.working.Laws.{SpelledIsNotBad}
 use Rattle.fir_driver.specs.declared.status.Status.{Status}
 use Rattle.fir_driver.specs.declared.status.Status.TheVariants.{Done, Refused, Usage, Unread, Unwritten, NoMemory, BadTrace, TooLong}
-use Rattle.fir_driver.specs.Command.{Simulated, named_simulation}
+use Rattle.fir_driver.specs.Command.{Simulated, Command, emit, sim, command_of}
 use Rattle.fir_driver.specs.Emits.{Takes}
-use Rattle.fir_driver.specs.Headline.{Outside, limit, code}
+use Rattle.fir_driver.specs.Outside.{Outside, IsRead, Tells, TellsTooMuch, code}
 use Rattle.fir_driver.specs.Traces.{IsTraceShape}
-use Rattle.fir_driver.specs.Simulates.{IsRead, IsAsked, Simulates}
-use Rattle.fir_driver.specs.SimulationAnswers.{Tells, TellsTooMuch, SimulationAnswers, SimulationComplete}
-use Rattle.fir_driver.specs.Program.{Does, DoesFor, AlwaysAnswers, AnswersFor}
+use Rattle.fir_driver.specs.Simulates.{IsAsked, Simulates}
+use Rattle.fir_driver.specs.SimulationAnswers.{SimulationAnswers, SimulationComplete}
+use Rattle.fir_driver.specs.Program.{NotTaken, Does, DoesFor, Answers, AnswersFor}
 use Rattle.fir_driver.proofs.Refused.{refused_is_not_taken}
-use Rattle.fir_driver.proofs.Ended.{complete}
+use Rattle.fir_driver.proofs.Told.{IsTooLong, not_short, read_is, not_too_much}
+use Rattle.fir_driver.proofs.EmitEnded.{emit_complete}
 use Rattle.fir_driver.proofs.TraceShapes.{one_shape}
-
--- a told content is not short and too long
-abbrev IsTooLong : Outside → List ℕ → Type 0
-IsTooLong before name = IfSome (before.files.told name) (λ content. limit < length content)
-
-not_short : (before : Outside) (name bytes : List ℕ) → IsTooLong before name → Tells before name bytes → ⊥
-not_short before name bytes long tells =
-    let l : limit < length bytes = subst (λ o. IfSome o (λ content. limit < length content)) tells.told long in
-    let short : length bytes ≤ limit = tells.short in
-    omega arith
-
--- of a told content the bytes that were read are all
-read_is : (before : Outside) (name bytes read : List ℕ) → before.files.told name ≡ Some bytes → IsRead name before read → read ≡ bytes
-read_is before name bytes read told h = subst (λ o. IfSome o (λ content. read ≡ content)) told h.told
-
-not_too_much : (before : Outside) (name read : List ℕ) → IsRead name before read → TellsTooMuch before name → ⊥
-not_too_much before name read h much =
-    let short : length much.bytes ≤ limit = subst (λ x. length x ≤ limit) (read_is before name much.bytes read much.told h) h.short in
-    let long : limit < length much.bytes = much.long in
-    omega arith
 
 module _ (s : Simulated) (before : Outside) (text : List ℕ) (read_text : IsRead s.circuit before text) where
   told_text : (other : List ℕ) → Tells before s.circuit other → text ≡ other
@@ -145,11 +126,21 @@ module _ (one : SpellsOneTree) (tree_or_fault : HasTreeOrFault) (not_bad : Spell
       m.prints.init m.prints.ticks m.prints.said.0 m.prints.said.1
   simulation_complete s before after TooLong h not_memory none_failed = too_long_answers s before h.1.0 h.1.1 h.1.3
 
-  answers_for : (asked : Option Simulated) (words : List (String Global)) (before after : Outside) (ending : Status) → DoesFor asked words before after ending
-      → AnswersFor asked words before after (code ending)
-  answers_for None words before after ending h = complete one tree_or_fault words before after ending h
-  answers_for (Some s) words before after ending h = simulation_complete s before after ending h
+  untaken_answers : (before after : Outside) (ending : Status) → NotTaken before after ending → AnswersFor None before after (code ending)
+  untaken_answers before after Usage h = λ not_memory none_failed. refl
+  untaken_answers before after Unwritten h = λ not_memory none_failed. absurd (none_failed.err h.1)
+  untaken_answers before after NoMemory h = λ not_memory none_failed. absurd (not_memory refl)
+  untaken_answers before after Done h = absurd h
+  untaken_answers before after Refused h = absurd h
+  untaken_answers before after Unread h = absurd h
+  untaken_answers before after BadTrace h = absurd h
+  untaken_answers before after TooLong h = absurd h
 
-pub always_answers : SpellsOneTree → HasTreeOrFault → SpelledIsNotBad → (words : List (String Global)) (before after : Outside) (ending : Status)
-    → Does words before after ending → AlwaysAnswers words before after (code ending)
-always_answers one tree_or_fault not_bad words = answers_for one tree_or_fault not_bad (named_simulation words) words
+  answers_for : (asked : Option Command) (before after : Outside) (ending : Status) → DoesFor asked before after ending → AnswersFor asked before after (code ending)
+  answers_for None before after ending h = untaken_answers before after ending h
+  answers_for (Some (emit name)) before after ending h = emit_complete one tree_or_fault name before after ending h
+  answers_for (Some (sim s)) before after ending h = simulation_complete s before after ending h
+
+pub answers : SpellsOneTree → HasTreeOrFault → SpelledIsNotBad → (words : List (String Global)) (before after : Outside) (ending : Status)
+    → Does words before after ending → Answers words before after (code ending)
+answers one tree_or_fault not_bad words = answers_for one tree_or_fault not_bad (command_of words)

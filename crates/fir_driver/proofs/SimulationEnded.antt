@@ -1,13 +1,13 @@
 -- From how the parts of a simulation end to what the whole does.
 use Rattle.std.proofs.Common.{◌≡◌, ℕ, ◌<◌, List, [], ◌∷◌, length, Option, Bool, IfSome, ◌⊎◌, inl, inr, refl, sym, ap, ◌∙◌, subst}
-use Rattle.fir_base.specs.Ticks.{Tick, Shown, Allowance, IsRun}
+use Rattle.fir_base.specs.Ticks.{Tick, TickResult, Allowance, IsRun}
 use Rattle.fir_io.specs.Ports.{FilesSeen, SinkSeen, Rose, Grew}
 use Rattle.fir_ast.specs.Circuits.{CircuitTree}
 use Rattle.fir_meaning.specs.Leaves.{outputs, widths}
 use Rattle.fir_meaning.specs.Allows.{Allows}
 use Rattle.fir_net.specs.declared.net.FlatNet.{FlatNet}
-use Rattle.fir_net.specs.Settled.{shape as net_shape}
-use Rattle.fir_net.specs.Allows.{Allows as NetAllows}
+use Rattle.fir_net.specs.working.Settled.{shape as net_shape}
+use Rattle.fir_net.specs.working.Allows.{Allows as NetAllows}
 use Rattle.trace_text.specs.Shapes.{TraceShape}
 use Rattle.trace_text.specs.RunLines.{run_text}
 use Rattle.fir_driver.specs.declared.status.Status.{Status}
@@ -15,18 +15,18 @@ use Rattle.fir_driver.specs.declared.status.Status.TheVariants.{Done, Refused, U
 use Rattle.fir_driver.specs.Command.{Simulated}
 use Rattle.fir_driver.specs.Messages.{unread_line, too_long_line, memory_line}
 use Rattle.fir_driver.specs.Refusals.{Refuses}
-use Rattle.fir_driver.specs.Headline.{Outside, outside, limit, Kept}
-use Rattle.fir_driver.specs.Endings.{Said, Complained}
+use Rattle.fir_driver.specs.Outside.{IsRead, Outside, outside, limit, Kept}
+use Rattle.fir_driver.specs.working.Endings.{Said, Complained}
 use Rattle.fir_driver.specs.Simulations.{Prints}
-use Rattle.fir_driver.specs.Simulates.{IsRead, IsAsked, DueAtOnce, BeganTicks, MetBadLine, Simulates}
-use Rattle.fir_driver.specs.Running.{Ran}
-use Rattle.fir_driver.specs.Made.{IsMadeOf}
-use Rattle.fir_driver.specs.SimulationEndings.{BeganLines, MetBadly, OfTrace, NotRead, OfText}
-use Rattle.fir_driver.proofs.Ended.{kept_same}
+use Rattle.fir_driver.specs.Simulates.{IsAsked, DueAtOnce, BeganTicks, MetBadLine, Simulates}
+use Rattle.fir_driver.specs.working.Running.{Ran}
+use Rattle.fir_driver.specs.working.Made.{IsMadeOf}
+use Rattle.fir_driver.specs.working.SimulationEndings.{BeganLines, MetBadly, OfTrace, NotRead, OfText}
+use Rattle.fir_driver.proofs.Told.{kept_same}
 
 -- what one allows the other allows too
 run_of : (p q : Allowance) → ((state : List ℕ) (tick : Tick) (shown after : List ℕ) → p state tick shown after → q state tick shown after)
-    → (state : List ℕ) (ticks : List Tick) (shown : List Shown) → IsRun p state ticks shown → IsRun q state ticks shown
+    → (state : List ℕ) (ticks : List Tick) (shown : List TickResult) → IsRun p state ticks shown → IsRun q state ticks shown
 run_of p q h state [] [] r = tt
 run_of p q h state [] (s ∷ shown) r = absurd r
 run_of p q h state (t ∷ ticks) [] r = absurd r

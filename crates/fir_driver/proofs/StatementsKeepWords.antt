@@ -1,9 +1,9 @@
 -- Behind the statements of a level all words are spelled as words that were before.
 use Rattle.std.proofs.Common.{ℕ, ◌+◌, List, [], ◌∷◌, Option, Some, None}
 use Rattle.fir_ast.specs.declared.statements.ReadUnderWrite.{ReadUnderWrite}
-use Rattle.fir_ast.specs.Statements.{Named, Reset, MemoryPart, data_type, depth, read_latency, write_latency, reader, writer, readwriter, read_under_write, Statement, wire, register, node, instance, memory, when, connect, partial_connect, invalid, skip, Block, done, then}
-use Rattle.fir_parse.specs.StatementForms.{IsResetPair, IsReset, AreNames, IsNames, IsUnderWrite, IsMemoryPart, AreMemoryParts, IsMemoryBody, IsStatement, AreStatements, IsBlock, IsElse}
-use Rattle.fir_driver.proofs.WordPieces.{KeepsWords, token, somewhere, nothing, given, next, either}
+use Rattle.fir_ast.specs.Statements.{PlacedName, Reset, MemoryPart, data_type, depth, read_latency, write_latency, reader, writer, readwriter, read_under_write, Statement, wire, register, node, instance, memory, when, connect, partial_connect, invalid, skip, Block, done, then}
+use Rattle.fir_parse.specs.working.StatementForms.{IsResetPair, IsReset, AreNames, IsNames, IsUnderWrite, IsMemoryPart, AreMemoryParts, IsMemoryBody, IsStatement, AreStatements, IsBlock, IsElse}
+use Rattle.fir_driver.proofs.WordPieces.{KeepsWords, token, somewhere, nothing, given, at, next, either}
 use Rattle.fir_driver.proofs.TypesKeepWords.{int, type_keeps}
 use Rattle.fir_driver.proofs.ExpressionsKeepWords.{expression_keeps, sink_keeps}
 
@@ -14,13 +14,13 @@ reset_pair d r =
 reset_keeps : (d : ℕ) (r : Option Reset) → KeepsWords (IsReset d r)
 reset_keeps d None = somewhere
 reset_keeps d (Some r) =
-    next somewhere (next somewhere (either (next somewhere (next given (next (reset_pair (d + 1) r) (next somewhere somewhere)))) (next somewhere (next somewhere (next (reset_pair d r) (next somewhere somewhere))))))
+    next token (next somewhere (either (next somewhere (next given (next (reset_pair (d + 1) r) (next somewhere somewhere)))) (next somewhere (next somewhere (next (reset_pair d r) (next somewhere somewhere))))))
 
-names_keep : (ns : List Named) → KeepsWords (AreNames ns)
+names_keep : (ns : List PlacedName) → KeepsWords (AreNames ns)
 names_keep [] = nothing
 names_keep (n ∷ ns) = next token (names_keep ns)
 
-some_names_keep : (ns : List Named) → KeepsWords (IsNames ns)
+some_names_keep : (ns : List PlacedName) → KeepsWords (IsNames ns)
 some_names_keep [] = record { behind = λ a b x h. absurd x }
 some_names_keep (n ∷ ns) = next somewhere (next token (next (names_keep ns) somewhere))
 
@@ -28,7 +28,7 @@ under_write : (u : ReadUnderWrite) → KeepsWords (IsUnderWrite u)
 under_write u = record { behind = λ a b x h. (somewhere).behind a b x.2 h }
 
 memory_part : (d : ℕ) (f : MemoryPart) → KeepsWords (IsMemoryPart d f)
-memory_part d (data_type p t) = next token (next somewhere (next (type_keeps d t) somewhere))
+memory_part d (data_type p q t) = next token (next somewhere (next (next at (type_keeps d t)) somewhere))
 memory_part d (depth p n) = next token (next somewhere (next int somewhere))
 memory_part d (read_latency p n) = next token (next somewhere (next int somewhere))
 memory_part d (write_latency p n) = next token (next somewhere (next int somewhere))
@@ -47,9 +47,9 @@ memory_body d (f ∷ fs) = next somewhere (next (memory_part d f) (next (memory_
 
 mutual
   pub statement_keeps : (d : ℕ) (s : Statement) → KeepsWords (IsStatement d s)
-  statement_keeps d (wire p n t) = next token (next token (next somewhere (next (type_keeps d t) somewhere)))
-  statement_keeps d (register p n t c r) =
-      next token (next token (next somewhere (next (type_keeps d t) (next somewhere (next (expression_keeps d c) (reset_keeps d r))))))
+  statement_keeps d (wire p n q t) = next token (next token (next somewhere (next (next at (type_keeps d t)) somewhere)))
+  statement_keeps d (register p n q t c r) =
+      next token (next token (next somewhere (next (next at (type_keeps d t)) (next somewhere (next (expression_keeps d c) (reset_keeps d r))))))
   statement_keeps d (node p n e) = next token (next token (next somewhere (next (expression_keeps d e) somewhere)))
   statement_keeps d (instance p n m) = next token (next token (next somewhere (next token somewhere)))
   statement_keeps d (memory p n fs) = next token (next token (next somewhere (next somewhere (memory_body d fs))))

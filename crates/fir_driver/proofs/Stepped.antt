@@ -1,21 +1,21 @@
 -- What a step of a simulation makes of what was there before it.
-use Rattle.std.proofs.Common.{◌≡◌, ℕ, List, [], ◌∷◌, ◌++◌, Bool, if◌then◌else◌, Some, None, refl, sym, ap, ◌∙◌, subst}
-use Rattle.fir_base.specs.Ticks.{Tick, Shown, IsRun}
+use Rattle.std.proofs.Common.{◌≡◌, ℕ, List, [], ◌∷◌, ◌++◌, Bool, if◌then◌else◌, Some, None, sym, ap, ◌∙◌, subst}
+use Rattle.fir_base.specs.Ticks.{Tick, TickResult, IsRun}
 use Rattle.fir_bits.specs.Values.{BitVector}
-use Rattle.fir_net.specs.Settled.{shape}
-use Rattle.fir_net.specs.Allows.{Allows}
+use Rattle.fir_net.specs.working.Settled.{shape}
+use Rattle.fir_net.specs.working.Allows.{Allows}
 use Rattle.trace_text.specs.Shapes.{TraceShape}
 use Rattle.trace_text.specs.TraceSpells.{TraceSpells}
 use Rattle.trace_text.specs.BadLine.{BadLine}
 use Rattle.trace_text.specs.declared.fault.TraceFault.{TraceFault}
 use Rattle.trace_text.specs.OutputLines.{line_text}
 use Rattle.trace_text.specs.RunLines.{with_widths, shown_text, run_text}
-use Rattle.trace_text.specs.Readings.{TickRead, NoTick, TickIsBad}
-use Rattle.trace_text.specs.Steps.{IsReadTo, ReadsInSteps}
-use Rattle.fir_sim.specs.Views.{numbers, widths, output_widths}
+use Rattle.trace_text.specs.working.Readings.{TickRead, NoTick, TickIsBad}
+use Rattle.trace_text.specs.working.Steps.{IsReadTo, ReadsInSteps}
+use Rattle.fir_sim.specs.working.Views.{numbers, widths, output_widths}
 use Rattle.fir_driver.specs.declared.runner.Runner.{Runner}
 use Rattle.fir_driver.specs.Simulations.{SaysFront}
-use Rattle.fir_driver.specs.Running.{Ran, IsRunning, Stays, last_state}
+use Rattle.fir_driver.specs.working.Running.{Ran, IsRunning, Stays}
 use Rattle.fir_driver.proofs.RunLines.{shows, run_more, last_of, text_more, at_widths}
 
 -- what was read up to a place stands at the front of the trace
@@ -57,7 +57,7 @@ module _ (trace : List ℕ) (with_state : Bool) (old new : Runner) (printed : Li
       rw (stays.net, stays.shape_stays) ran
 
   module _ (tick : Tick) (read : TickRead trace old.shape old.at new.at tick) (allows : Allows old.sim.net (numbers old.sim.state) tick (numbers new.sim.outputs) (numbers new.sim.state)) where
-    abbrev last : Shown
+    abbrev last : TickResult
     last = shows (numbers new.sim.outputs) (numbers new.sim.state)
 
     ran_more : IsRun (Allows old.sim.net) h.init (h.ticks ++ tick ∷ []) (h.shown ++ last ∷ [])

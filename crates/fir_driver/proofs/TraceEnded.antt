@@ -1,41 +1,37 @@
 -- From how the ticks of a trace ended, and what was said of that, to what was done with the trace.
-use Rattle.std.proofs.Common.{◌≡◌, ℕ, List, [], ◌∷◌, ◌++◌, Bool, Err, ◌⊎◌, inl, inr, refl, sym, subst, append-nil}
+use Rattle.std.proofs.Common.{◌≡◌, ℕ, List, [], ◌∷◌, Bool, Err, ◌⊎◌, inl, inr, refl, sym, subst, append-nil}
 use Rattle.fir_base.specs.Ticks.{Tick}
 use Rattle.fir_io.specs.declared.ports.FileFault.{FileFault}
 use Rattle.fir_io.specs.declared.ports.FileFault.TheVariants.{Failed, TooLong, Memory}
 use Rattle.fir_io.specs.Ports.{FilesSeen, SinkSeen, Grew, ReadShows}
 use Rattle.fir_net.specs.declared.net.FlatNet.{FlatNet}
 use Rattle.trace_text.specs.declared.fault.TraceFault.{TraceFault}
-use Rattle.trace_text.specs.Lines.{AreLines, later_lines}
 use Rattle.trace_text.specs.Shapes.{TraceShape}
 use Rattle.trace_text.specs.BadLine.{BadLine}
 use Rattle.trace_text.specs.FaultTexts.{fault_text}
 use Rattle.trace_text.specs.RunLines.{run_text}
+use Rattle.trace_text.proofs.LineFronts.{front_lines}
 use Rattle.fir_driver.specs.declared.status.Status.{Status}
 use Rattle.fir_driver.specs.declared.status.Status.TheVariants as status
 use Rattle.fir_driver.specs.declared.lines.Finish.{Finish}
 use Rattle.fir_driver.specs.declared.lines.Finish.TheVariants as finish
 use Rattle.fir_driver.specs.Messages.{unwritten_line, memory_line}
-use Rattle.fir_driver.specs.Headline.{outside, limit, Kept, GrewByFront}
-use Rattle.fir_driver.specs.Endings.{Said, Complained, Untaken}
+use Rattle.fir_driver.specs.Outside.{outside, limit, Kept, GrewByFront}
+use Rattle.fir_driver.specs.working.Endings.{Said, Complained, Untaken}
 use Rattle.fir_driver.specs.Simulations.{SaysFront}
-use Rattle.fir_driver.specs.Running.{Ran}
-use Rattle.fir_driver.specs.Lined.{Lined}
-use Rattle.fir_driver.specs.SimulationEndings.{FinishSaid, BeganLines, MetBadly, OfTrace, NotRead}
-use Rattle.fir_driver.proofs.Ended.{kept_same}
+use Rattle.fir_driver.specs.working.Running.{Ran}
+use Rattle.fir_driver.specs.working.Lined.{Lined}
+use Rattle.fir_driver.specs.working.SimulationEndings.{FinishSaid, BeganLines, MetBadly, OfTrace, NotRead}
+use Rattle.fir_driver.proofs.Told.{kept_same}
 
 -- what was grown by, was grown by a front of it
 whole_front : (old new : SinkSeen) (piece : List ℕ) → Grew old new piece → GrewByFront old new piece
 whole_front old new piece grew = (piece, [], sym (append-nil piece), grew)
 
-fewer_lines : (bytes : List ℕ) (lines more : List (List ℕ)) → AreLines bytes (lines ++ more) → AreLines bytes lines
-fewer_lines bytes [] more h = tt
-fewer_lines bytes (line ∷ lines) more h = (h.0, h.1, fewer_lines (later_lines bytes) lines more h.2)
-
 -- the lines before a bad one say what the trace says
 before_bad : (trace : List ℕ) (s : TraceShape) (init : List ℕ) (ticks : List Tick) (fault : TraceFault) → BadLine trace s init ticks fault
     → SaysFront trace s init ticks
-before_bad trace s init ticks fault bad = (bad.before, fewer_lines trace bad.before (bad.bad ∷ []) bad.lines, bad.spelled)
+before_bad trace s init ticks fault bad = (bad.before, front_lines trace bad.before (bad.bad ∷ []) bad.lines, bad.spelled)
 
 -- no tick was run
 none_ran : (net : FlatNet) (s : TraceShape) (with_state : Bool) (Says : TraceShape → List ℕ → List Tick → Type 0) (init : List ℕ) → Says s init []

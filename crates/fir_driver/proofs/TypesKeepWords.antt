@@ -1,11 +1,11 @@
 -- Behind a type all words are spelled as words that were before.
 use Rattle.std.proofs.Common.{ℕ, ◌+◌, Bool, true, false, Option, Some, None}
 use Rattle.fir_ast.specs.declared.place.Place.{Place}
-use Rattle.fir_ast.specs.Statements.{Named}
+use Rattle.fir_ast.specs.Statements.{PlacedName}
 use Rattle.fir_ast.specs.Types.{DataType, uint, sint, clock, reset, async_reset, bundle, vector, Fields, no_fields, field}
-use Rattle.fir_parse.specs.Pieces.{FieldName, Int, IntAt}
-use Rattle.fir_parse.specs.TypeForms.{IsWidth, IsFlip, IsType, AreFields, AreMoreFields}
-use Rattle.fir_driver.proofs.WordPieces.{KeepsWords, token, somewhere, nothing, given, next, either}
+use Rattle.fir_parse.specs.working.Pieces.{FieldName, Int, IntAt}
+use Rattle.fir_parse.specs.working.TypeForms.{IsWidth, IsFlip, IsType, AreFields, AreMoreFields}
+use Rattle.fir_driver.proofs.WordPieces.{KeepsWords, token, somewhere, nothing, given, at, next, either}
 
 pub int_at : {n : ℕ} {p : Place} → KeepsWords (IntAt n p)
 int_at = record { behind = λ a b x h. (token).behind a b x.4 h }
@@ -13,7 +13,7 @@ int_at = record { behind = λ a b x h. (token).behind a b x.4 h }
 pub int : {n : ℕ} → KeepsWords (Int n)
 int = record { behind = λ a b x h. (int_at).behind a b x.1 h }
 
-pub field_name : {n : Named} → KeepsWords (FieldName n)
+pub field_name : {n : PlacedName} → KeepsWords (FieldName n)
 field_name = either token (next given token)
 
 pub width : (w : Option ℕ) → KeepsWords (IsWidth w)
@@ -36,9 +36,9 @@ mutual
 
   fields_keep : (d : ℕ) (fs : Fields) → KeepsWords (AreFields d fs)
   fields_keep d no_fields = nothing
-  fields_keep d (field p flip n t rest) = next (flipped flip) (next field_name (next somewhere (next (type_keeps d t) (more_fields_keep d rest))))
+  fields_keep d (field p flip n q t rest) = next (flipped flip) (next field_name (next somewhere (next (next at (type_keeps d t)) (more_fields_keep d rest))))
 
   more_fields_keep : (d : ℕ) (fs : Fields) → KeepsWords (AreMoreFields d fs)
   more_fields_keep d no_fields = nothing
-  more_fields_keep d (field p flip n t rest) =
-      next somewhere (next (flipped flip) (next field_name (next somewhere (next (type_keeps d t) (more_fields_keep d rest)))))
+  more_fields_keep d (field p flip n q t rest) =
+      next somewhere (next (flipped flip) (next field_name (next somewhere (next (next at (type_keeps d t)) (more_fields_keep d rest)))))

@@ -2,11 +2,11 @@
 use Rattle.std.proofs.Common.{◌≡◌, List, ◌∷◌, subst, inl, inr}
 use Rattle.std.specs.Prelude.{IsTrue}
 use Rattle.std.specs.List.{AllByRecursion}
-use Rattle.ver_ast.specs.Names.{is_word}
+use Rattle.ver_words.specs.Names.{is_word}
 use Rattle.fir_ast.specs.declared.place.Place.{Place}
-use Rattle.fir_ast.specs.Statements.{Named}
+use Rattle.fir_ast.specs.Statements.{PlacedName}
 use Rattle.fir_parse.specs.Lexemes.{Terminal, Lexeme, word}
-use Rattle.fir_parse.specs.Pieces.{◌▸◌, Either, Given, Nothing, Token, Somewhere, Name}
+use Rattle.fir_parse.specs.working.Pieces.{◌▸◌, At, Either, Given, Nothing, Token, Somewhere, Name}
 
 abbrev pub IsSpelledWell : Lexeme → Type 0
 IsSpelledWell (word w) = IsTrue (is_word w)
@@ -33,6 +33,9 @@ nothing = record { behind = λ a b e h. subst AreSpelledWell e h }
 pub given : {C : Type 0} → KeepsWords (Given C)
 given = record { behind = λ a b x h. subst AreSpelledWell x.1 h }
 
+pub at : {q : Place} → KeepsWords (At q)
+at = record { behind = λ a b x h. subst AreSpelledWell x.1 h }
+
 pub next : {P Q : List Terminal → List Terminal → Type 0} → KeepsWords P → KeepsWords Q → KeepsWords (P ▸ Q)
 next p q = record { behind = λ a b x h. q.behind x.0 b x.2 (p.behind a x.0 x.1 h) }
 
@@ -40,5 +43,5 @@ pub either : {P Q : List Terminal → List Terminal → Type 0} → KeepsWords P
 either p q = record { behind = λ a b x h. elim x [ inl y ↦ p.behind a b y h | inr y ↦ q.behind a b y h ] }
 
 -- a name is a word
-pub name_is_word : (n : Named) (a b : List Terminal) → Name n a b → AreSpelledWell a → IsTrue (is_word n.name)
+pub name_is_word : (n : PlacedName) (a b : List Terminal) → Name n a b → AreSpelledWell a → IsTrue (is_word n.name)
 name_is_word n a b e h = (taken (record { lexeme = word n.name; place = n.place }) a b e h).0

@@ -7,7 +7,7 @@ use Rattle.ver_ast.specs.Spells.{VSpells}
 use Rattle.ver_emit.specs.Layout.{layout}
 use Rattle.fir_ast.specs.Circuits.{CircuitTree}
 use Rattle.fir_parse.specs.Spells.{Spells}
-use Rattle.fir_meaning.specs.Language.{is_in_language}
+use Rattle.fir_meaning.specs.Lacking.{is_in_language}
 use Rattle.fir_meaning.specs.Faults.{Faultless}
 use Rattle.fir_driver.specs.Compiles.{Compiles}
 

@@ -1,29 +1,46 @@
--- What the program does for its words: a simulation where they ask for one, else what is said of an emission and of words that are not taken.
-use Rattle.std.specs.Prelude.{ℕ, List, Option, Some, None, String, IfSome, IsTrue, Bool}
+-- What the program does for its words: what is said of the command that they ask for, and of words that are not taken.
+use Rattle.std.specs.Prelude.{◌≡◌, ◌≢◌, ℕ, List, Option, Some, None, String, IsTrue, Bool}
 use Rattle.std.specs.declared.alloc.Global.{Global}
+use Rattle.fir_io.specs.Ports.{Rose, Grew}
 use Rattle.fir_driver.specs.declared.status.Status.{Status}
-use Rattle.fir_driver.specs.Command.{named_file, Simulated, named_simulation}
-use Rattle.fir_driver.specs.Headline.{Outside, Headline}
-use Rattle.fir_driver.specs.Complete.{Complete}
+use Rattle.fir_driver.specs.declared.status.Status.TheVariants as status
+use Rattle.fir_driver.specs.Command.{Command, emit, sim, command_of}
+use Rattle.fir_driver.specs.Messages.{usage_line}
+use Rattle.fir_driver.specs.Outside.{Outside, Kept, GrewByFront, NoneFailed}
+use Rattle.fir_driver.specs.EmitsFile.{EmitsFile}
+use Rattle.fir_driver.specs.EmitAnswers.{EmitComplete}
 use Rattle.fir_driver.specs.Simulates.{Simulates}
 use Rattle.fir_driver.specs.SimulationAnswers.{SimulationComplete}
 
--- the files that the words name may be asked
-pub record MayAsk (words : List (String Global)) (may : List ℕ → Bool) : Type 0 where
-  pub emitted : IfSome (named_file words) (λ name. IsTrue (may name))
-  pub circuit : IfSome (named_simulation words) (λ s. IsTrue (may s.circuit))
-  pub trace : IfSome (named_simulation words) (λ s. IsTrue (may s.trace))
+-- the files that a command names may be asked
+abbrev pub MayAskFor : Option Command → (List ℕ → Bool) → Type 0
+MayAskFor None may = Unit {0}
+MayAskFor (Some (emit name)) may = IsTrue (may name)
+MayAskFor (Some (sim s)) may = IsTrue (may s.circuit) × IsTrue (may s.trace)
 
-abbrev pub DoesFor : Option Simulated → List (String Global) → Outside → Outside → Status → Type 0
-DoesFor None words before after ending = Headline words before after ending
-DoesFor (Some s) words before after ending = Simulates s before after ending
+abbrev pub MayAsk : List (String Global) → (List ℕ → Bool) → Type 0
+MayAsk words = MayAskFor (command_of words)
+
+-- words that are not taken: the usage line is due
+abbrev pub NotTaken : Outside → Outside → Status → Type 0
+NotTaken before after status.Usage = (after.out ≡ before.out) × Grew before.err after.err usage_line
+NotTaken before after status.Unwritten = (after.out ≡ before.out) × Rose before.err.faults after.err.faults × GrewByFront before.err after.err usage_line
+NotTaken before after status.NoMemory = (after.out ≡ before.out) × Kept before.err after.err
+NotTaken before after _ = ⊥
+
+abbrev pub DoesFor : Option Command → Outside → Outside → Status → Type 0
+DoesFor None before after ending = NotTaken before after ending
+DoesFor (Some (emit name)) before after ending = EmitsFile name before after ending
+DoesFor (Some (sim s)) before after ending = Simulates s before after ending
 
 abbrev pub Does : List (String Global) → Outside → Outside → Status → Type 0
-Does words = DoesFor (named_simulation words) words
+Does words = DoesFor (command_of words)
 
-abbrev pub AnswersFor : Option Simulated → List (String Global) → Outside → Outside → ℕ → Type 0
-AnswersFor None words before after answer = Complete words before after answer
-AnswersFor (Some s) words before after answer = SimulationComplete s before after answer
+-- which status comes, where memory is there and no read or write fails
+abbrev pub AnswersFor : Option Command → Outside → Outside → ℕ → Type 0
+AnswersFor None before after answer = answer ≢ 5 → NoneFailed before after → answer ≡ 2
+AnswersFor (Some (emit name)) before after answer = EmitComplete name before after answer
+AnswersFor (Some (sim s)) before after answer = SimulationComplete s before after answer
 
-abbrev pub AlwaysAnswers : List (String Global) → Outside → Outside → ℕ → Type 0
-AlwaysAnswers words = AnswersFor (named_simulation words) words
+abbrev pub Answers : List (String Global) → Outside → Outside → ℕ → Type 0
+Answers words = AnswersFor (command_of words)

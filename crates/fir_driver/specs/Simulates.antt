@@ -1,21 +1,16 @@
 -- What the program does where the words ask for a simulation: each status, with its cause and with what stands on the outputs.
 -- The circuit's file is read whole and its text refused or compiled; then the trace is read whole; then tick after tick gives a line.
-use Rattle.std.specs.Prelude.{◌≡◌, ℕ, ◌+◌, ◌<◌, ◌≤◌, List, length, IfSome, ◌⊎◌}
+use Rattle.std.specs.Prelude.{◌≡◌, ℕ, ◌+◌, ◌<◌, List, length, IfSome, ◌⊎◌}
 use Rattle.fir_io.specs.Ports.{Rose, AtLeast, Grew}
 use Rattle.fir_ast.specs.Circuits.{CircuitTree}
 use Rattle.fir_driver.specs.declared.status.Status.{Status}
 use Rattle.fir_driver.specs.declared.status.Status.TheVariants as status
 use Rattle.fir_driver.specs.Command.{Simulated}
-use Rattle.fir_driver.specs.Messages.{unread_line, too_long_line, unwritten_line, memory_line}
+use Rattle.fir_driver.specs.Messages.{unread_line, too_long_line, memory_line}
 use Rattle.fir_driver.specs.Emits.{Takes}
 use Rattle.fir_driver.specs.Refusals.{Refuses}
-use Rattle.fir_driver.specs.Headline.{Outside, limit, Kept, GrewByFront}
+use Rattle.fir_driver.specs.Outside.{limit, Outside, IsRead, Kept, GrewByFront, OutFailed, ErrFailed, MemoryFailed}
 use Rattle.fir_driver.specs.Simulations.{PrintsWhole, PrintsBadly, PrintsFront}
-
--- bytes that were read whole from the file of that name: its told content, where that is told
-pub record IsRead (name : List ℕ) (before : Outside) (bytes : List ℕ) : Type 0 where
-  pub told : IfSome (before.files.told name) (λ content. bytes ≡ content)
-  pub short : length bytes ≤ limit
 
 -- the file that is asked: the circuit's, and where its text is taken the trace's
 abbrev pub IsAsked : Simulated → Outside → List ℕ → Type 0
@@ -52,24 +47,18 @@ pub record MetBadLine (s : Simulated) (before after : Outside) (line : List ℕ)
   pub prints : PrintsBadly text trace s.with_state line printed
   pub whole : Grew before.out after.out printed
 
--- the output failed, and the line on it was tried once on the error output
-abbrev pub OutFailed : Simulated → Outside → Outside → Type 0
-OutFailed s before after = BeganTicks s before after × Rose before.out.faults after.out.faults × GrewByFront before.err after.err unwritten_line
-
--- the error output failed while a line was put that was due
-abbrev pub ErrFailed : Simulated → Outside → Outside → Type 0
-ErrFailed s before after =
-    (line : List ℕ) × Rose before.err.faults after.err.faults × GrewByFront before.err after.err line
-    × (((due : Status) × DueAtOnce s before after due line × Kept before.out after.out)
+-- a line is due, and what was put to the output by then
+abbrev pub IsDueInSimulation : Simulated → Outside → Outside → List ℕ → Type 0
+IsDueInSimulation s before after line =
+    ((due : Status) × DueAtOnce s before after due line × Kept before.out after.out)
     ⊎ MetBadLine s before after line
-    ⊎ ((line ≡ memory_line) × (Kept before.out after.out ⊎ BeganTicks s before after)))
+    ⊎ ((line ≡ memory_line) × (Kept before.out after.out ⊎ BeganTicks s before after))
 
 abbrev pub Simulates : Simulated → Outside → Outside → Status → Type 0
 Simulates s before after status.Done =
     (text : List ℕ) × (trace : List ℕ) × (printed : List ℕ) × IsRead s.circuit before text × IsRead s.trace before trace
     × PrintsWhole text trace s.with_state printed × Grew before.out after.out printed × (after.err ≡ before.err)
 Simulates s before after status.BadTrace = (line : List ℕ) × MetBadLine s before after line × Grew before.err after.err line
-Simulates s before after status.Unwritten = OutFailed s before after ⊎ ErrFailed s before after
-Simulates s before after status.NoMemory =
-    (Kept before.out after.out ⊎ BeganTicks s before after) × (Grew before.err after.err memory_line ⊎ Kept before.err after.err)
+Simulates s before after status.Unwritten = OutFailed (BeganTicks s before after) before after ⊎ ErrFailed (IsDueInSimulation s before after) before after
+Simulates s before after status.NoMemory = MemoryFailed (BeganTicks s before after) before after
 Simulates s before after other = (line : List ℕ) × DueAtOnce s before after other line × (after.out ≡ before.out) × Grew before.err after.err line

@@ -1,5 +1,5 @@
 -- Which status a simulation gives, where memory is there and no read or write fails.
-use Rattle.std.specs.Prelude.{◌≡◌, ◌≢◌, ℕ, ◌<◌, ◌≤◌, List, length, Some}
+use Rattle.std.specs.Prelude.{◌≡◌, ◌≢◌, ℕ, List}
 use Rattle.fir_base.specs.Ticks.{Tick}
 use Rattle.fir_ast.specs.Circuits.{CircuitTree}
 use Rattle.trace_text.specs.declared.fault.TraceFault.{TraceFault}
@@ -8,20 +8,8 @@ use Rattle.trace_text.specs.TraceSpells.{TraceSpells}
 use Rattle.trace_text.specs.BadLine.{BadLine}
 use Rattle.fir_driver.specs.Command.{Simulated}
 use Rattle.fir_driver.specs.Emits.{Takes}
-use Rattle.fir_driver.specs.Headline.{Outside, limit}
-use Rattle.fir_driver.specs.Complete.{NoneFailed}
+use Rattle.fir_driver.specs.Outside.{Outside, NoneFailed, Tells, TellsTooMuch}
 use Rattle.fir_driver.specs.Traces.{IsTraceShape}
-
--- the file of that name has this content, which is short enough
-pub record Tells (before : Outside) (name bytes : List ℕ) : Type 0 where
-  pub told : before.files.told name ≡ Some bytes
-  pub short : length bytes ≤ limit
-
--- the file of that name has a content that is too long
-pub record TellsTooMuch (before : Outside) (name : List ℕ) : Type 0 where
-  pub bytes : List ℕ
-  pub told : before.files.told name ≡ Some bytes
-  pub long : limit < length bytes
 
 pub record SimulationAnswers (s : Simulated) (before : Outside) (answer : ℕ) : Type 0 where
   pub too_long : TellsTooMuch before s.circuit → answer ≡ 8

@@ -1,7 +1,7 @@
 -- What a simulation prints.
 -- The circuit of a text runs from the initial state of a trace through its ticks, and each tick gives a line.
-use Rattle.std.specs.Prelude.{◌≡◌, ℕ, List, Bool, ◌⊎◌}
-use Rattle.fir_base.specs.Ticks.{Tick, Shown}
+use Rattle.std.specs.Prelude.{◌≡◌, ℕ, List, Bool}
+use Rattle.fir_base.specs.Ticks.{Tick, TickResult}
 use Rattle.fir_ast.specs.Circuits.{CircuitTree}
 use Rattle.fir_parse.specs.Spells.{Spells}
 use Rattle.fir_meaning.specs.Leaves.{outputs, widths, shape}
@@ -27,9 +27,9 @@ pub record Prints (text : List ℕ) (with_state : Bool) (Says : TraceShape → L
   pub init : List ℕ
   pub ticks : List Tick
   pub said : Says of_trace init ticks
-  pub shown : List Shown
+  pub shown : List TickResult
   pub run : Run circuit init ticks shown
-  pub only_run : (others : List Shown) → Run circuit init ticks others → others ≡ shown
+  pub only_run : (others : List TickResult) → Run circuit init ticks others → others ≡ shown
   pub lines : printed ≡ run_text (widths (outputs circuit)) (shape circuit).state with_state shown
 
 -- the whole trace is spelled

@@ -1,6 +1,6 @@
 //! Laws about the definitions, each the contract of a function that does nothing.
 
-ghost use Rattle.fir_driver.specs.Laws.{SpelledNamesAreWords};
+ghost use Rattle.fir_driver.specs.working.Laws.{SpelledNamesAreWords};
 
 /// The names in the circuit of a text are words.
 pub fn spelled_names_are_words()

@@ -1,31 +1,28 @@
-//! What the program does. `run` is the one call that it makes: it reads the words, reads the file that they
-//! name, and emits its circuit as Verilog, or simulates it on a trace, or says why not. Both begin with `reader`
-//! (which reads by fir_lex and fir_parse, and asks `lacking` and fir_check) and fir_lower. Then `emission` goes on
-//! by ver_build and ver_emit; and `simulation` by `compiled` (the net and the shape of its traces, by fir_sim),
-//! `runner` (tick by tick, by trace_text and fir_sim) and `lines`. `run` carries the theorem from the bytes of the
-//! files to the bytes that are written (`specs/`: Lacking, Compiles, Emits, Refusals, Headline and Complete; of a
-//! simulation Traces, Simulations, Simulates and SimulationAnswers; and Program, which joins them).
+//! What the program does. `run` is the one call that it makes: it judges the words (`command`), and does what they
+//! ask for: `emit` the Verilog of a circuit, or a `simulation` of it on a trace, or says why not. Both go the way of
+//! `passes`, which reads as their list. A simulation is then run by `runner`, tick by tick, and printed by `lines`.
+//! `run` carries the theorem from the bytes of the files to the bytes that are written (`specs/`: Command, Outside;
+//! Compiles, Emits, Refusals, EmitsFile and EmitAnswers for `emit`; Traces, Simulations, Simulates and
+//! SimulationAnswers for `sim`; and Program, which joins them).
 #![tactic(auto)]
 
 mod command;
-mod compiled;
-mod emission;
+mod emit;
 mod lacking;
 mod laws;
 mod lines;
 mod messages;
+mod ordered_net;
+mod passes;
 mod program;
-mod reader;
 mod runner;
 mod simulation;
-mod spot;
 mod status;
 
-pub use command::{Simulated, named_file, named_simulation};
-pub use emission::compile;
+pub use command::{Command, Simulation, command_of};
 pub use laws::spelled_names_are_words;
+pub use passes::{compile, read_circuit};
 pub use program::run;
-pub use reader::read_circuit;
 pub use status::Status;
 
 #[cfg(test)]

@@ -8,7 +8,7 @@ ghost use Rattle.fir_driver.specs.declared.status.Status.TheVariants as status;
 ghost use Rattle.trace_text.specs.Shapes.{TraceShape};
 ghost use Rattle.trace_text.specs.BadLine.{BadLine};
 ghost use Rattle.trace_text.specs.FaultTexts.{fault_text};
-ghost use Rattle.fir_driver.specs.Endings.{Said, Complained, Untaken};
+ghost use Rattle.fir_driver.specs.working.Endings.{Said, Complained, Untaken};
 
 use crate::status::Status;
 use fir_ast::FirFault;

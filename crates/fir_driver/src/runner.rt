@@ -1,16 +1,17 @@
 //! A simulation under way: the simulator of a net, and the place in the trace up to which it has come.
 
 ghost use Rattle.std.specs.Prelude.{◌≡◌, ◌<◌, List, ℕ, Bool, Ok, Some, None, true, option_map, if◌then◌else◌};
-ghost use Rattle.fir_net.specs.IsNet.{IsNet};
-ghost use Rattle.fir_net.specs.Settled.{shape as shape_of_net};
+ghost use Rattle.fir_net.specs.working.IsNet.{IsNet};
+ghost use Rattle.fir_net.specs.working.IsOrder.{IsOrder};
+ghost use Rattle.fir_net.specs.working.Settled.{shape as shape_of_net};
 ghost use Rattle.trace_text.specs.RunLines.{with_widths};
 ghost use Rattle.trace_text.specs.Shapes.{plain};
-ghost use Rattle.fir_sim.specs.Views.{numbers};
-ghost use Rattle.fir_driver.specs.Running.{IsReady, IsRunning, Stays, Steps, Begins};
+ghost use Rattle.fir_sim.specs.working.Views.{numbers};
+ghost use Rattle.fir_driver.specs.working.Running.{IsReady, IsRunning, Stays, Steps, Begins};
 
+use crate::ordered_net::OrderedNet;
 use fir_base::Refused;
 use fir_bits::Bits;
-use fir_net::FlatNet;
 use fir_sim::Sim;
 use std::alloc::Global;
 use trace_text::laws::trace_reads_in_steps;
@@ -29,20 +30,22 @@ impl Runner {
     /// A runner of the net in the initial state that the trace gives, or the init line that is bad.
     pub fn new(
         alloc: Global,
-        net: FlatNet,
+        ordered: OrderedNet,
         shape: Shape,
         trace: &[u8],
     ) -> Result<Runner, Refused<TraceFault>>
-        requires whole { IsNet net }
-        requires of_net { plain shape ≡ shape_of_net net }
-        ensures { (with_state : Bool) → Begins trace.now net shape with_state result }
+        requires whole { IsNet ordered.net }
+        requires in_order { IsOrder ordered.net ordered.order }
+        requires of_net { plain shape ≡ shape_of_net ordered.net }
+        ensures { (with_state : Bool) → Begins trace.now ordered.net shape with_state result }
     {
         trace_reads_in_steps();
         let (init, at) = match read_init(alloc, trace, &shape) {
             Ok(read) => read,
             Err(refused) => return Err(refused),
         };
-        let sim = Sim::new(alloc, net, &init)?;
+        let OrderedNet { net, order } = ordered;
+        let sim = Sim::new(alloc, net, order, &init)?;
         let tick = Tick::new(alloc, &shape)?;
         Ok(Runner {
             shape,
@@ -52,20 +55,20 @@ impl Runner {
         })
     }
 
-    /// Runs the next tick of the trace and puts its line in the place of what stands in `line`; false where
-    /// no tick is left.
+    /// Runs the next tick of the trace and appends its line; false where no tick is left. Where no line is
+    /// made, `lines` is as before.
     pub fn step(
         &mut self,
         alloc: Global,
         trace: &[u8],
         with_state: bool,
-        line: &mut Vec<u8>,
+        lines: &mut Vec<u8>,
     ) -> Result<bool, Refused<TraceFault>>
         requires { IsReady trace.now self.old }
         ensures ready { IsReady trace.now self.new }
         ensures stays { Stays self.old self.new }
         ensures later { result ≡ Ok true → self.old.at < self.new.at }
-        ensures steps { (printed : List ℕ) → IsRunning trace.now with_state self.old printed → Steps trace.now with_state self.new printed line.new.items result }
+        ensures steps { (printed : List ℕ) → IsRunning trace.now with_state self.old printed → Steps trace.now with_state self.new printed lines.old.items lines.new.items result }
     {
         trace_reads_in_steps();
         match next_tick(trace, &mut self.at, &self.shape, &mut self.tick) {
@@ -74,13 +77,12 @@ impl Runner {
             Err(fault) => return Err(Refused::Fault(fault)),
         }
         self.sim.tick(&self.tick);
-        line.clear();
         write_line(
             alloc,
             self.sim.outputs(),
             shown_state(&self.sim, with_state),
             None,
-            line,
+            lines,
         )?;
         Ok(true)
     }

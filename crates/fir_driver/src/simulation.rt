@@ -1,38 +1,39 @@
-//! A simulation: the circuit of one file on the trace of another.
+//! The command `sim`: the circuit of one file on the trace of another.
 
 ghost use Rattle.std.specs.Prelude.{◌≡◌, ◌≤◌, IsTrue, length};
-ghost use Rattle.fir_net.specs.IsNet.{IsNet};
-ghost use Rattle.fir_net.specs.Settled.{shape as shape_of_net};
+ghost use Rattle.fir_net.specs.working.IsNet.{IsNet};
+ghost use Rattle.fir_net.specs.working.IsOrder.{IsOrder};
+ghost use Rattle.fir_net.specs.working.Settled.{shape as shape_of_net};
 ghost use Rattle.trace_text.specs.Shapes.{plain};
-ghost use Rattle.fir_driver.specs.Command.{simulation_of};
-ghost use Rattle.fir_driver.specs.Headline.{outside};
+ghost use Rattle.fir_driver.specs.Outside.{outside};
 ghost use Rattle.fir_driver.specs.Simulates.{Simulates};
-ghost use Rattle.fir_driver.specs.SimulationEndings.{FinishSaid, OfText, OfNet, OfTrace};
+ghost use Rattle.fir_driver.specs.working.Commanded.{simulated};
+ghost use Rattle.fir_driver.specs.working.SimulationEndings.{FinishSaid, OfText, OfNet, OfTrace};
 
-use crate::command::Simulated;
-use crate::compiled::net_of;
+use crate::command::Simulation;
 use crate::lines::{Finish, put_lines};
 use crate::messages::{MEMORY_LINE, UNWRITTEN_LINE, say, say_bad_line, say_fault, say_unread};
+use crate::ordered_net::OrderedNet;
+use crate::passes::net_of;
 use crate::program::LIMIT;
 use crate::runner::Runner;
 use crate::status::Status;
 use fir_base::Refused;
 use fir_io::{Files, Sink};
-use fir_net::FlatNet;
 use std::alloc::Global;
 use trace_text::Shape;
 
 /// Reads the circuit and the trace, and prints a line for each tick of the trace.
 pub fn simulate<F: Files, S: Sink, T: Sink>(
     alloc: Global,
-    words: &Simulated,
+    words: &Simulation,
     files: &mut F,
     out: &mut S,
     err: &mut T,
 ) -> Status
     requires circuit { IsTrue ((F.seen files.old).may words.now.circuit.now) }
     requires trace { IsTrue ((F.seen files.old).may words.now.trace.now) }
-    ensures { Simulates (simulation_of words.now.circuit.now words.now.trace.now words.now.with_state) (outside (F.seen files.old) (S.seen out.old) (T.seen err.old)) (outside (F.seen files.new) (S.seen out.new) (T.seen err.new)) result }
+    ensures { Simulates (simulated words.now) (outside (F.seen files.old) (S.seen out.old) (T.seen err.old)) (outside (F.seen files.new) (S.seen out.new) (T.seen err.new)) result }
 {
     match files.read(alloc, words.circuit, LIMIT) {
         Ok(text) => simulate_text(alloc, text.as_slice(), words, files, out, err),
@@ -44,7 +45,7 @@ pub fn simulate<F: Files, S: Sink, T: Sink>(
 fn simulate_text<F: Files, S: Sink, T: Sink>(
     alloc: Global,
     text: &[u8],
-    words: &Simulated,
+    words: &Simulation,
     files: &mut F,
     out: &mut S,
     err: &mut T,
@@ -54,7 +55,7 @@ fn simulate_text<F: Files, S: Sink, T: Sink>(
     ensures { OfText text.now words.now.trace.now words.now.with_state (outside (F.seen files.old) (S.seen out.old) (T.seen err.old)) (outside (F.seen files.new) (S.seen out.new) (T.seen err.new)) result }
 {
     match net_of(alloc, text) {
-        Ok((net, shape)) => simulate_net(alloc, net, shape, words, files, out, err),
+        Ok((ordered, shape)) => simulate_net(alloc, ordered, shape, words, files, out, err),
         Err(Refused::Fault(fault)) => say_fault(alloc, err, &fault),
         Err(Refused::Memory) => say(err, MEMORY_LINE, Status::NoMemory),
     }
@@ -63,22 +64,23 @@ fn simulate_text<F: Files, S: Sink, T: Sink>(
 /// Goes on with the circuit's net.
 fn simulate_net<F: Files, S: Sink, T: Sink>(
     alloc: Global,
-    net: FlatNet,
+    ordered: OrderedNet,
     shape: Shape,
-    words: &Simulated,
+    words: &Simulation,
     files: &mut F,
     out: &mut S,
     err: &mut T,
 ) -> Status
     requires trace { IsTrue ((F.seen files.old).may words.now.trace.now) }
-    requires whole { IsNet net }
-    requires of_net { plain shape ≡ shape_of_net net }
-    ensures { OfNet net shape words.now.trace.now words.now.with_state (outside (F.seen files.old) (S.seen out.old) (T.seen err.old)) (outside (F.seen files.new) (S.seen out.new) (T.seen err.new)) result }
+    requires whole { IsNet ordered.net }
+    requires in_order { IsOrder ordered.net ordered.order }
+    requires of_net { plain shape ≡ shape_of_net ordered.net }
+    ensures { OfNet ordered.net shape words.now.trace.now words.now.with_state (outside (F.seen files.old) (S.seen out.old) (T.seen err.old)) (outside (F.seen files.new) (S.seen out.new) (T.seen err.new)) result }
 {
     match files.read(alloc, words.trace, LIMIT) {
         Ok(trace) => simulate_trace(
             alloc,
-            net,
+            ordered,
             shape,
             trace.as_slice(),
             words.with_state,
@@ -92,18 +94,19 @@ fn simulate_net<F: Files, S: Sink, T: Sink>(
 /// Goes on with the trace, tick by tick.
 fn simulate_trace<S: Sink, T: Sink>(
     alloc: Global,
-    net: FlatNet,
+    ordered: OrderedNet,
     shape: Shape,
     trace: &[u8],
     with_state: bool,
     out: &mut S,
     err: &mut T,
 ) -> Status
-    requires whole { IsNet net }
-    requires of_net { plain shape ≡ shape_of_net net }
-    ensures { OfTrace trace.now net shape with_state (S.seen out.old) (S.seen out.new) (T.seen err.old) (T.seen err.new) result }
+    requires whole { IsNet ordered.net }
+    requires in_order { IsOrder ordered.net ordered.order }
+    requires of_net { plain shape ≡ shape_of_net ordered.net }
+    ensures { OfTrace trace.now ordered.net shape with_state (S.seen out.old) (S.seen out.new) (T.seen err.old) (T.seen err.new) result }
 {
-    match Runner::new(alloc, net, shape, trace) {
+    match Runner::new(alloc, ordered, shape, trace) {
         Ok(mut runner) => {
             let finish = put_lines(alloc, &mut runner, trace, with_state, out);
             say_finish(alloc, trace, finish, err)

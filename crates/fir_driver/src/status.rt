@@ -1,7 +1,7 @@
 //! How a run of the program ends.
 
 ghost use Rattle.std.specs.Prelude.{◌≡◌};
-ghost use Rattle.fir_driver.specs.Headline.{code};
+ghost use Rattle.fir_driver.specs.Outside.{code};
 
 /// How a run ends; its number is the program's exit status.
 #[derive(Clone, Copy, Debug, PartialEq, Eq)]

@@ -1,5 +1,2 @@
-pub mod Memory
-pub mod Os
-pub mod Planned
 pub mod Ports
-pub mod Sure
+pub mod working

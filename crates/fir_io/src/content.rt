@@ -1,7 +1,7 @@
 //! Reading what files in memory hold.
 
 ghost use Rattle.std.specs.Prelude.{◌≡◌, option_map};
-ghost use Rattle.fir_io.specs.Memory.{content_of, ReadsContent};
+ghost use Rattle.fir_io.specs.working.Memory.{content_of, ReadsContent};
 
 use crate::entry::FileEntry;
 use crate::ports::FileFault;

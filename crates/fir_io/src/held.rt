@@ -1,7 +1,7 @@
 //! The bytes that sinks in memory hold.
 
 ghost use Rattle.std.specs.Prelude.{◌≡◌, ◌+◌, ◌≤◌, ◌++◌, ◌⊎◌, [], length, take, vec_len, vec_capacity, IsOk};
-ghost use Rattle.fir_io.specs.Memory.{HoldsPiece};
+ghost use Rattle.fir_io.specs.working.Memory.{HoldsPiece};
 
 use crate::ports::PutFault;
 

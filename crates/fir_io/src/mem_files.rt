@@ -1,7 +1,7 @@
 //! Files in memory, of whose reads a list is to fail.
 
 ghost use Rattle.std.specs.Prelude.{◌≡◌, List, ℕ, IsTrue};
-ghost use Rattle.fir_io.specs.Memory.{content_of, mem_files_seen, MemReads};
+ghost use Rattle.fir_io.specs.working.Memory.{content_of, mem_files_seen, MemReads};
 ghost use Rattle.fir_io.specs.Ports.{Reads};
 
 use crate::content::{content_of, read_content};
@@ -22,7 +22,7 @@ pub struct MemFiles {
 }
 
 impl Model for MemFiles {
-    ghost use Rattle.fir_io.specs.Memory.{MemFilesView};
+    ghost use Rattle.fir_io.specs.working.Memory.{MemFilesView};
 
     ghost Value = { MemFilesView };
 

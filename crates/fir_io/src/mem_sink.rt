@@ -1,7 +1,7 @@
 //! A sink in memory, of whose puts a list is to fail.
 
 ghost use Rattle.std.specs.Prelude.{◌≡◌, [], Some};
-ghost use Rattle.fir_io.specs.Memory.{mem_sink_seen, MemPuts};
+ghost use Rattle.fir_io.specs.working.Memory.{mem_sink_seen, MemPuts};
 ghost use Rattle.fir_io.specs.Ports.{Puts};
 
 use crate::held::{append, append_front};
@@ -20,7 +20,7 @@ pub struct MemSink {
 }
 
 impl Model for MemSink {
-    ghost use Rattle.fir_io.specs.Memory.{MemSinkView};
+    ghost use Rattle.fir_io.specs.working.Memory.{MemSinkView};
 
     ghost Value = { MemSinkView };
 

@@ -1,7 +1,7 @@
 //! The files of the system.
 
 ghost use Rattle.std.specs.Prelude.{◌≡◌, ◌≢◌, List, ℕ, IsTrue, None};
-ghost use Rattle.fir_io.specs.Os.{os_files_seen, ReadsAll};
+ghost use Rattle.fir_io.specs.working.Os.{os_files_seen, ReadsAll};
 ghost use Rattle.fir_io.specs.Ports.{Reads};
 
 use crate::ports::{FileFault, Files};

@@ -1,7 +1,7 @@
 //! Calls that are to fail, for tests of what stands above.
 
 ghost use Rattle.std.specs.Prelude.{◌≡◌};
-ghost use Rattle.fir_io.specs.Planned.{planned};
+ghost use Rattle.fir_io.specs.working.Planned.{planned};
 
 /// How a call is to fail.
 #[derive(Clone, Copy, Debug, PartialEq, Eq)]

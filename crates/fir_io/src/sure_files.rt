@@ -2,7 +2,7 @@
 
 ghost use Rattle.std.specs.Prelude.{◌≡◌, List, ℕ, IsTrue, Some};
 ghost use Rattle.fir_io.specs.Ports.{Reads};
-ghost use Rattle.fir_io.specs.Sure.{sure_content, sure_files_seen, SureReads};
+ghost use Rattle.fir_io.specs.working.Sure.{sure_content, sure_files_seen, SureReads};
 
 use crate::content::{content_of, read_content};
 use crate::entry::FileEntry;
@@ -18,7 +18,7 @@ pub struct SureFiles {
 }
 
 impl Model for SureFiles {
-    ghost use Rattle.fir_io.specs.Sure.{SureFilesView};
+    ghost use Rattle.fir_io.specs.working.Sure.{SureFilesView};
 
     ghost Value = { SureFilesView };
 

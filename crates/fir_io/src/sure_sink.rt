@@ -1,9 +1,9 @@
 //! A sink in memory, of which no put fails.
 
 ghost use Rattle.std.specs.Prelude.{◌≡◌, [], Some};
-ghost use Rattle.fir_io.specs.Memory.{HoldsPiece};
+ghost use Rattle.fir_io.specs.working.Memory.{HoldsPiece};
 ghost use Rattle.fir_io.specs.Ports.{Puts};
-ghost use Rattle.fir_io.specs.Sure.{sure_sink_seen};
+ghost use Rattle.fir_io.specs.working.Sure.{sure_sink_seen};
 
 use crate::held::append;
 use crate::ports::{PutFault, Sink};

@@ -11,8 +11,8 @@ use Rattle.fir_lex.specs.Bytes.{place_behind, ends_line, line_end_length, is_bla
 use Rattle.fir_lex.specs.Front.{Front, found, passed, bad_byte, bad_literal, front}
 use Rattle.fir_lex.specs.Levels.{Move, move_to}
 use Rattle.fir_lex.specs.Lexed.{Lexed, placed_at, with_tokens, is_idle, idle_length, unmet, closed_at, lexed_from, lexed}
-use Rattle.fir_lex.specs.Steps.{tokens_in, in_front, moved, MovesTo}
-use Rattle.fir_lex.specs.Ways.{rest_of, left, Passes}
+use Rattle.fir_lex.specs.working.Steps.{tokens_in, in_front, moved, MovesTo}
+use Rattle.fir_lex.specs.working.Ways.{rest_of, left, Passes}
 use Rattle.fir_lex.proofs.Moves.{closed_reversed}
 use Rattle.fir_lex.proofs.Way.{joins, way_ends, front_at, way_found, way_passed, way_bad_byte, way_bad_literal, way_idle, blanks_of, blanks_are, way_tab, way_unmet, way_met, front_first}
 

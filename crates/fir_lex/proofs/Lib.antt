@@ -1,7 +1,7 @@
 pub mod Bytes
 pub mod Words
+pub mod Integers
 pub mod Lengths
-pub mod Numbers
 pub mod Moves
 pub mod Way
 pub mod Lexing

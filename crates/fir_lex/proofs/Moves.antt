@@ -7,7 +7,7 @@ use Rattle.fir_ast.specs.declared.place.Place.{Place}
 use Rattle.fir_lex.specs.Tokens.{Placed, level_opens, level_closes}
 use Rattle.fir_lex.specs.Levels.{Move, closing, move_out, innermost, move_to}
 use Rattle.fir_lex.specs.Lexed.{placed_at, closed_at}
-use Rattle.fir_lex.specs.Steps.{moved}
+use Rattle.fir_lex.specs.working.Steps.{moved}
 
 -- ---- the innermost level stands last
 

@@ -11,7 +11,7 @@ use Rattle.fir_lex.specs.Bytes.{next_place, place_behind, starts_with_byte, ends
 use Rattle.fir_lex.specs.Front.{Front, found, passed, bad_byte, bad_literal, comment_length, front}
 use Rattle.fir_lex.specs.Levels.{Move, move_to}
 use Rattle.fir_lex.specs.Lexed.{Lexed, Rest, placed_at, with_tokens, go_on, is_idle, idle_length, unmet, behind_spaces, begin_counted, begin_line, lexed_from}
-use Rattle.fir_lex.specs.Steps.{in_front}
+use Rattle.fir_lex.specs.working.Steps.{in_front}
 
 -- ---- taken bytes lead to the place behind them
 
@@ -55,9 +55,9 @@ ending false true [] h = absurd cc
 ending false true (c ∷ cs) h = (omega arith, omega arith)
 ending false false bs h = absurd cc
 
-pub line_end_fits : (bytes : List ℕ) → ends_line bytes ≡ true → (1 ≤ line_end_length bytes) × (line_end_length bytes ≤ length bytes)
-line_end_fits [] h = absurd cc
-line_end_fits (b ∷ bs) h = ending (eqb b 10) (eqb b 13) bs h
+pub line_end_bounds : (bytes : List ℕ) → ends_line bytes ≡ true → (1 ≤ line_end_length bytes) × (line_end_length bytes ≤ length bytes)
+line_end_bounds [] h = absurd cc
+line_end_bounds (b ∷ bs) h = ending (eqb b 10) (eqb b 13) bs h
 
 line_end_some : (b : ℕ) (bs : List ℕ) → 1 ≤ line_end_length (b ∷ bs)
 line_end_some b bs = some (eqb b 10) where
@@ -71,8 +71,8 @@ pub way_ends : (ls : List ℕ) (p : Place) (bytes : List ℕ) → 0 < length byt
 unfolding lexed_from
 way_ends ls p [] some h = absurd (omega arith)
 way_ends ls p (b ∷ bs) some h =
-    let fits = line_end_fits (b ∷ bs) h in
-    rw h (ap (with_tokens p (line_end ∷ [])) (taken ls true (line_end_length (b ∷ bs)) p b bs fits.0 fits.1))
+    let bounds = line_end_bounds (b ∷ bs) h in
+    rw h (ap (with_tokens p (line_end ∷ [])) (taken ls true (line_end_length (b ∷ bs)) p b bs bounds.0 bounds.1))
 
 way_goes_on : (ls : List ℕ) (p : Place) (b : ℕ) (bs : List ℕ) → ends_line (b ∷ bs) ≡ false → lexed_from ls false zero p (b ∷ bs) ≡ go_on ls p (b ∷ bs) (front b bs) (rest_from (next_place p b) bs)
 unfolding lexed_from
@@ -107,7 +107,7 @@ unfolding lexed_from
 way_begins ls p b bs = refl
 
 idle_at : (b : ℕ) (bs : List ℕ) (t : Bool) → ends_line (b ∷ bs) ≡ t → idle_length bs ≤ length bs → cond t 0 (suc (comment_length bs)) + line_end_length (drop (cond t 0 (suc (comment_length bs))) (b ∷ bs)) ≤ length (b ∷ bs)
-idle_at b bs true e deep = omega (arith, (line_end_fits (b ∷ bs) e).1)
+idle_at b bs true e deep = omega (arith, (line_end_bounds (b ∷ bs) e).1)
 idle_at b bs false e deep = omega (arith, deep)
 
 pub idle_within : (s : List ℕ) → idle_length s ≤ length s
@@ -127,8 +127,8 @@ blanks_within bytes = omega (arith, length-prefix_len is_blank bytes, prefix_len
 pub blanks_are : (bytes : List ℕ) → take (length (take_while is_blank bytes)) bytes ≡ take_while is_blank bytes
 blanks_are bytes = ap (λ (n : ℕ). take n bytes) (length-prefix_len is_blank bytes)
 
-idle_fits : (n : ℕ) (bytes : List ℕ) → 0 < length bytes → n ≤ length bytes → (1 ≤ n + idle_length (drop n bytes)) × (n + idle_length (drop n bytes) ≤ length bytes)
-idle_fits n bytes some le = (low n bytes some, omega (arith, idle_within (drop n bytes), length-drop n bytes)) where
+idle_bounds : (n : ℕ) (bytes : List ℕ) → 0 < length bytes → n ≤ length bytes → (1 ≤ n + idle_length (drop n bytes)) × (n + idle_length (drop n bytes) ≤ length bytes)
+idle_bounds n bytes some le = (low n bytes some, omega (arith, idle_within (drop n bytes), length-drop n bytes)) where
   low : (n : ℕ) (bytes : List ℕ) → 0 < length bytes → 1 ≤ n + idle_length (drop n bytes)
   low zero [] some = absurd (omega arith)
   low zero (b ∷ bs) some = omega (arith, idle_some b bs)
@@ -137,8 +137,8 @@ idle_fits n bytes some le = (low n bytes some, omega (arith, idle_within (drop n
 pub way_idle : (ls : List ℕ) (p : Place) (bytes : List ℕ) (n : ℕ) → 0 < length bytes → n ≡ length (take_while is_blank bytes) → is_idle (drop n bytes) ≡ true → lexed_from ls true zero p bytes ≡ lexed_from ls true zero (place_behind p (take (n + idle_length (drop n bytes)) bytes)) (drop (n + idle_length (drop n bytes)) bytes)
 way_idle ls p [] n some is idle = absurd (omega arith)
 way_idle ls p (b ∷ bs) n some is idle =
-    let fits = idle_fits n (b ∷ bs) some (omega (arith, is, blanks_within (b ∷ bs))) in
-    way_begins ls p b bs ∙ by_length (length (take_while is_blank (b ∷ bs))) is ∙ taken ls true (n + idle_length (drop n (b ∷ bs))) p b bs fits.0 fits.1 where
+    let bounds = idle_bounds n (b ∷ bs) some (omega (arith, is, blanks_within (b ∷ bs))) in
+    way_begins ls p b bs ∙ by_length (length (take_while is_blank (b ∷ bs))) is ∙ taken ls true (n + idle_length (drop n (b ∷ bs))) p b bs bounds.0 bounds.1 where
       by_length : (m : ℕ) → n ≡ m → cond (is_idle (drop m (b ∷ bs))) (rest_from (next_place p b) bs ls true (m + idle_length (drop m (b ∷ bs)) - 1)) (begin_counted ls p b bs (take_while is_blank (b ∷ bs)) (drop m (b ∷ bs)) (position (λ c. nat_eq c 9) (take_while is_blank (b ∷ bs))) (rest_from (next_place p b) bs)) ≡ rest_from (next_place p b) bs ls true (n + idle_length (drop n (b ∷ bs)) - 1)
       by_length m e = rw (← e) (rw idle refl)
 

@@ -1,6 +1,6 @@
 -- Bytes and places.
 -- Lines and columns count from 1, columns in bytes. A line ends with a newline, or with a carriage return and a newline.
-use Rattle.std.specs.Prelude.{ℕ, ◌+◌, List, [], ◌∷◌, Bool, false, ◌||◌, ◌&&◌, nat_eq, nat_le, if◌then◌else◌}
+use Rattle.std.specs.Prelude.{ℕ, ◌+◌, List, [], ◌∷◌, Bool, false, ◌||◌, ◌&&◌, nat_eq, if◌then◌else◌}
 use Rattle.fir_ast.specs.declared.place.Place.{Place}
 
 abbrev pub next_place : Place → ℕ → Place
@@ -24,18 +24,6 @@ ends_line (b ∷ bs) = nat_eq b 10 || (nat_eq b 13 && starts_with_byte 10 bs)
 abbrev pub line_end_length : List ℕ → ℕ
 line_end_length [] = 0
 line_end_length (b ∷ bs) = if nat_eq b 10 then 1 else 2
-
-abbrev pub is_letter : ℕ → Bool
-is_letter b = (nat_le 97 b && nat_le b 122) || (nat_le 65 b && nat_le b 90)
-
-abbrev pub is_digit : ℕ → Bool
-is_digit b = nat_le 48 b && nat_le b 57
-
-abbrev pub is_word_start : ℕ → Bool
-is_word_start b = is_letter b || nat_eq b 95
-
-abbrev pub is_word_byte : ℕ → Bool
-is_word_byte b = is_word_start b || (is_digit b || nat_eq b 36)
 
 -- space or tab
 abbrev pub is_blank : ℕ → Bool

@@ -1,8 +1,10 @@
 -- What stands at the front of a text, within a line: the longest token, or bytes that are no token, or a fault.
-use Rattle.std.specs.Prelude.{ℕ, suc, ◌+◌, ◌-◌, ◌*◌, ◌^◌, List, [], ◌∷◌, ◌++◌, length, take, drop, take_while, position, Bool, true, false, ◌||◌, ◌&&◌, not, nat_eq, nat_le, nat_lt, if◌then◌else◌, Option, Some, None, option_map, codes, fold, slice_index}
+use Rattle.std.specs.Prelude.{ℕ, suc, ◌+◌, ◌-◌, ◌^◌, List, [], ◌∷◌, ◌++◌, length, take, drop, take_while, position, Bool, true, false, ◌||◌, ◌&&◌, not, nat_eq, nat_le, nat_lt, if◌then◌else◌, Option, Some, None, option_map, codes, slice_index}
 use Rattle.std.specs.List.{starts_with}
 use Rattle.fir_lex.specs.Tokens.{Token, word, dash_word, integer, text, sign, annotations}
-use Rattle.fir_lex.specs.Bytes.{ends_line, starts_with_byte, is_digit, is_word_start, is_word_byte, is_blank}
+use Rattle.fir_lex.specs.Bytes.{ends_line, starts_with_byte, is_blank}
+use Rattle.fir_base.specs.Bytes.{is_digit, starts_with_digit, is_word_start, is_word_byte}
+use Rattle.fir_base.specs.Digits.{decimal_value}
 
 -- a token and its length; a number of bytes that are no token; a byte in no token, so many bytes on; a literal out of form or range
 pub data Front : Type 0 where
@@ -10,10 +12,6 @@ pub data Front : Type 0 where
   passed : ℕ → Front
   bad_byte : ℕ → ℕ → Front
   bad_literal : Front
-
--- the number that digits spell
-abbrev pub number_of : List ℕ → ℕ
-number_of = fold (λ n d. 10 * n + (d - 48)) 0
 
 -- the first of the four words with a dash that stands at the front
 abbrev pub dash_word_at : List ℕ → Option (List ℕ)
@@ -36,7 +34,7 @@ word_front bytes = dash_or_word bytes (dash_word_at bytes)
 abbrev pub integer_front : List ℕ → List ℕ → Front
 integer_front plus_or_minus digits_on =
     let digits = take_while is_digit digits_on in
-    if nat_lt (number_of digits) (2 ^ 128) then found (integer (plus_or_minus ++ digits)) (length plus_or_minus + length digits) else bad_literal
+    if nat_lt (decimal_value digits) (2 ^ 128) then found (integer (plus_or_minus ++ digits)) (length plus_or_minus + length digits) else bad_literal
 
 -- how many bytes stand before the quote that closes a string on its line; a backslash takes the byte behind it along
 abbrev pub string_length : Bool → List ℕ → Option ℕ
@@ -108,9 +106,24 @@ is_single b = nat_eq b 62 || (nat_eq b 40 || (nat_eq b 41 || (nat_eq b 91 || (na
 abbrev pub sign_front : List ℕ → Front
 sign_front s = found (sign s) (length s)
 
-abbrev pub starts_with_digit : List ℕ → Bool
-starts_with_digit [] = false
-starts_with_digit (c ∷ cs) = is_digit c
+-- a sign, or a byte in no token
+abbrev pub sign_at : ℕ → List ℕ → Front
+sign_at b bs =
+    if nat_eq b 60 && starts_with_byte 61 bs then sign_front (codes "<=")
+    else if nat_eq b 60 && starts_with_byte 45 bs then sign_front (codes "<-")
+    else if nat_eq b 60 then sign_front (codes "<")
+    else if nat_eq b 61 && starts_with_byte 62 bs then sign_front (codes "=>")
+    else if nat_eq b 61 then sign_front (codes "=")
+    else if is_single b then sign_front (b ∷ [])
+    else bad_byte 0 b
+
+-- a string, file information, an annotation block, a sign, or a byte in no token
+abbrev pub marked_at : ℕ → List ℕ → Front
+marked_at b bs =
+    if nat_eq b 34 then string_front bs (string_length false bs)
+    else if nat_eq b 64 && starts_with_byte 91 bs then information_front (information_length false (drop 1 bs))
+    else if nat_eq b 37 && starts_with_byte 91 bs then annotations_front (block_length (in_brackets 1) (drop 1 bs))
+    else sign_at b bs
 
 -- within a line, at no line's end; the bytes behind b are bs
 abbrev pub front : ℕ → List ℕ → Front
@@ -120,13 +133,4 @@ front b bs =
     else if is_word_start b then word_front (b ∷ bs)
     else if is_digit b then integer_front [] (b ∷ bs)
     else if (nat_eq b 43 || nat_eq b 45) && starts_with_digit bs then integer_front (b ∷ []) bs
-    else if nat_eq b 34 then string_front bs (string_length false bs)
-    else if nat_eq b 64 && starts_with_byte 91 bs then information_front (information_length false (drop 1 bs))
-    else if nat_eq b 37 && starts_with_byte 91 bs then annotations_front (block_length (in_brackets 1) (drop 1 bs))
-    else if nat_eq b 60 && starts_with_byte 61 bs then sign_front (codes "<=")
-    else if nat_eq b 60 && starts_with_byte 45 bs then sign_front (codes "<-")
-    else if nat_eq b 60 then sign_front (codes "<")
-    else if nat_eq b 61 && starts_with_byte 62 bs then sign_front (codes "=>")
-    else if nat_eq b 61 then sign_front (codes "=")
-    else if is_single b then sign_front (b ∷ [])
-    else bad_byte 0 b
+    else marked_at b bs

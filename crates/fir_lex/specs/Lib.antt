@@ -1,11 +1,7 @@
 pub mod Tokens
-pub mod TokenText
 pub mod Bytes
 pub mod Front
 pub mod Levels
 pub mod Lexed
-pub mod View
-pub mod Blocks
-pub mod Steps
-pub mod Ways
+pub mod working
 pub use Rattle.fir_ast.specs.FaultLines

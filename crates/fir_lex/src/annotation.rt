@@ -2,8 +2,8 @@
 
 ghost use Rattle.std.specs.Prelude.{◌≡◌, ◌+◌, ◌<◌, ◌≤◌, ◌^◌, IfSome, length, drop};
 ghost use Rattle.fir_lex.specs.Front.{in_brackets, within_step, is_closed, block_length, annotations_front};
-ghost use Rattle.fir_lex.specs.View.{front_of, Fits};
-ghost use Rattle.fir_lex.specs.Blocks.{within_of, depth_of};
+ghost use Rattle.fir_lex.specs.working.View.{front_of, IsWithinBytes};
+ghost use Rattle.fir_lex.specs.working.Blocks.{within_of, depth_of};
 
 use crate::piece::{Found, Piece};
 use crate::token::Kind;
@@ -71,7 +71,7 @@ pub fn read_annotations(bytes: &[u8]) -> Piece
     requires some { 2 ≤ length bytes.now }
     requires short { length bytes.now ≤ 16777216 }
     ensures front { front_of bytes.now result ≡ annotations_front (block_length (in_brackets 1) (drop 2 bytes.now)) }
-    ensures fits { Fits bytes.now result }
+    ensures within { IsWithinBytes bytes.now result }
 {
     let (_, block) = bytes.split_at(2);
     match block_length(block) {

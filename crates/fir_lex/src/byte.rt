@@ -1,33 +1,7 @@
 //! Kinds of bytes.
 
-ghost use Rattle.std.specs.Prelude.{◌≡◌, ◌≤◌, length, IsTrue};
-ghost use Rattle.fir_lex.specs.Bytes.{starts_with_byte, ends_line, line_end_length, is_letter, is_digit, is_word_start, is_word_byte, is_blank};
-
-fn is_letter(byte: u8) -> bool
-    ensures { result ≡ is_letter byte }
-{
-    (97 <= byte && byte <= 122) || (65 <= byte && byte <= 90)
-}
-
-pub fn is_digit(byte: u8) -> bool
-    ensures { result ≡ is_digit byte }
-{
-    48 <= byte && byte <= 57
-}
-
-/// Whether a word may begin with the byte.
-pub fn is_word_start(byte: u8) -> bool
-    ensures { result ≡ is_word_start byte }
-{
-    is_letter(byte) || byte == b'_'
-}
-
-/// Whether a word may go on with the byte.
-pub fn is_word_byte(byte: u8) -> bool
-    ensures { result ≡ is_word_byte byte }
-{
-    is_word_start(byte) || (is_digit(byte) || byte == b'$')
-}
+ghost use Rattle.std.specs.Prelude.{◌≡◌};
+ghost use Rattle.fir_lex.specs.Bytes.{starts_with_byte, ends_line, line_end_length, is_blank};
 
 /// Whether the byte is a space or a tab.
 pub fn is_blank(byte: u8) -> bool

@@ -1,7 +1,7 @@
 //! The tokens of a text that are found so far.
 
 ghost use Rattle.std.specs.Prelude.{◌≤◌, All, length};
-ghost use Rattle.fir_lex.specs.View.{IsWithin};
+ghost use Rattle.fir_lex.specs.working.View.{IsWithin};
 
 use crate::token::{Item, Kind};
 use crate::tokens::Tokens;
@@ -19,8 +19,9 @@ pub struct Draft {
 
 impl Draft {
     ghost use Rattle.std.specs.Prelude.{◌≡◌, ◌++◌, ◌∷◌, [], ◌≤◌, IfOk, OnOk, slice_range, length, drop};
-    ghost use Rattle.fir_lex.specs.View.{token_of};
-    ghost use Rattle.fir_lex.specs.Steps.{tokens_in};
+    ghost use Rattle.fir_lex.specs.working.Numbers.{HasNumber};
+    ghost use Rattle.fir_lex.specs.working.View.{token_of};
+    ghost use Rattle.fir_lex.specs.working.Steps.{tokens_in};
 
     pub fn new(alloc: Global, bytes: &[u8]) -> Result<Draft, MemoryOut>
         requires { length bytes.now ≤ 16777216 }
@@ -53,6 +54,7 @@ impl Draft {
     ) -> Result<(), MemoryOut>
         requires ordered { start ≤ end }
         requires within { end ≤ length self.old.text.items }
+        requires number { HasNumber kind (slice_range self.old.text.items start end) }
         ensures text { self.new.text.items ≡ self.old.text.items }
         ensures tokens { OnOk result (tokens_in self.new ≡ tokens_in self.old ++ record { token = token_of kind (slice_range self.old.text.items start end); place = place } ∷ []) }
     {
@@ -68,6 +70,7 @@ impl Draft {
 
     /// Adds a token without a spelling.
     pub fn push_bare(&mut self, kind: Kind, place: Place) -> Result<(), MemoryOut>
+        requires { HasNumber kind [] }
         ensures text { self.new.text.items ≡ self.old.text.items }
         ensures tokens { OnOk result (tokens_in self.new ≡ tokens_in self.old ++ record { token = token_of kind []; place = place } ∷ []) }
     {

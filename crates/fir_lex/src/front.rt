@@ -1,17 +1,19 @@
 //! The longest token at the front of a text, within a line.
 
 ghost use Rattle.std.specs.Prelude.{◌≡◌, ◌≤◌, length, slice_index, drop};
-ghost use Rattle.fir_lex.specs.Front.{front, starts_with_digit};
-ghost use Rattle.fir_lex.specs.View.{front_of, Fits, marked_at};
+ghost use Rattle.fir_base.specs.Bytes.{starts_with_digit};
+ghost use Rattle.fir_lex.specs.Front.{marked_at, front};
+ghost use Rattle.fir_lex.specs.working.View.{front_of, IsWithinBytes};
 
 use crate::annotation::read_annotations;
-use crate::byte::{is_blank, is_digit, is_word_start, starts_with_byte};
+use crate::byte::{is_blank, starts_with_byte};
 use crate::information::{comment_length, read_information};
 use crate::number::read_integer;
 use crate::piece::Piece;
 use crate::sign::read_sign;
 use crate::string::read_string;
 use crate::word::read_word;
+use fir_base::{is_digit, is_word_start};
 
 #[tactic(auto, using(crate::proofs::Bytes::digit_first_is))]
 fn starts_with_digit(bytes: &[u8]) -> bool
@@ -28,7 +30,7 @@ fn read_marked(bytes: &[u8]) -> Piece
     requires some { 1 ≤ length bytes.now }
     requires short { length bytes.now ≤ 16777216 }
     ensures front { front_of bytes.now result ≡ marked_at (slice_index bytes.now 0) (drop 1 bytes.now) }
-    ensures fits { Fits bytes.now result }
+    ensures within { IsWithinBytes bytes.now result }
 {
     let first = bytes[0];
     let (_, behind) = bytes.split_at(1);
@@ -48,7 +50,7 @@ pub fn read_front(bytes: &[u8]) -> Piece
     requires some { 1 ≤ length bytes.now }
     requires short { length bytes.now ≤ 16777216 }
     ensures front { front_of bytes.now result ≡ front (slice_index bytes.now 0) (drop 1 bytes.now) }
-    ensures fits { Fits bytes.now result }
+    ensures within { IsWithinBytes bytes.now result }
 {
     let first = bytes[0];
     let (_, behind) = bytes.split_at(1);

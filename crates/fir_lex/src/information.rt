@@ -2,7 +2,7 @@
 
 ghost use Rattle.std.specs.Prelude.{◌≡◌, ◌<◌, ◌≤◌, IfSome, false, length, drop};
 ghost use Rattle.fir_lex.specs.Front.{comment_length, information_length, information_front};
-ghost use Rattle.fir_lex.specs.View.{front_of, Fits};
+ghost use Rattle.fir_lex.specs.working.View.{front_of, IsWithinBytes};
 
 use crate::byte::ends_line;
 use crate::piece::Piece;
@@ -44,7 +44,7 @@ fn information_length(bytes: &[u8]) -> Option<usize>
 pub fn read_information(bytes: &[u8]) -> Piece
     requires { 2 ≤ length bytes.now }
     ensures front { front_of bytes.now result ≡ information_front (information_length false (drop 2 bytes.now)) }
-    ensures fits { Fits bytes.now result }
+    ensures within { IsWithinBytes bytes.now result }
 {
     let (_, content) = bytes.split_at(2);
     match information_length(content) {

@@ -3,7 +3,7 @@
 ghost use Rattle.std.specs.Prelude.{◌≡◌, ◌++◌, IfOk, OnOk, reverse};
 ghost use Rattle.fir_lex.specs.Levels.{innermost, move_to};
 ghost use Rattle.fir_lex.specs.Lexed.{closed_at};
-ghost use Rattle.fir_lex.specs.Steps.{tokens_in, moved, MovesTo};
+ghost use Rattle.fir_lex.specs.working.Steps.{tokens_in, moved, MovesTo};
 
 use crate::draft::Draft;
 use crate::token::Kind;

@@ -2,7 +2,7 @@
 
 ghost use Rattle.std.specs.Prelude.{◌≡◌, ◌≤◌, IfOk, length};
 ghost use Rattle.fir_lex.specs.Lexed.{lexed};
-ghost use Rattle.fir_lex.specs.Steps.{Gives};
+ghost use Rattle.fir_lex.specs.working.Steps.{Gives};
 
 use crate::byte::{ends_line, line_end_length};
 use crate::cursor::Cursor;
@@ -34,9 +34,10 @@ impl Lexer {
     ghost use Rattle.fir_lex.specs.Tokens.{line_end};
     ghost use Rattle.fir_lex.specs.Bytes.{place_behind};
     ghost use Rattle.fir_lex.specs.Lexed.{lexed};
-    ghost use Rattle.fir_lex.specs.View.{token_of};
-    ghost use Rattle.fir_lex.specs.Steps.{tokens_in, Leaves};
-    ghost use Rattle.fir_lex.specs.Ways.{left, turns, Passes};
+    ghost use Rattle.fir_lex.specs.working.Numbers.{HasNumber};
+    ghost use Rattle.fir_lex.specs.working.View.{token_of};
+    ghost use Rattle.fir_lex.specs.working.Steps.{tokens_in, Leaves};
+    ghost use Rattle.fir_lex.specs.working.Ways.{left, turns, Passes};
 
     pub fn new(alloc: Global, bytes: &[u8]) -> Result<Lexer, MemoryOut>
         requires { length bytes.now ≤ 16777216 }
@@ -118,7 +119,8 @@ impl Lexer {
 
     /// The token at the cursor.
     fn take(&mut self, found: Found) -> Result<(), MemoryOut>
-        requires { self.old.cursor.index + found.length ≤ length self.old.draft.text.items }
+        requires within { self.old.cursor.index + found.length ≤ length self.old.draft.text.items }
+        requires number { HasNumber found.kind (slice_range (drop self.old.cursor.index self.old.draft.text.items) found.from found.upto) }
         ensures text { self.new.draft.text.items ≡ self.old.draft.text.items }
         ensures passes { OnOk result (Passes self.old found.length self.new) }
         ensures tokens { OnOk result (tokens_in self.new.draft ≡ tokens_in self.old.draft ++ record { token = token_of found.kind (slice_range (drop self.old.cursor.index self.old.draft.text.items) found.from found.upto); place = self.old.cursor.place } ∷ []) }

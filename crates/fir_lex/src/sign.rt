@@ -1,8 +1,8 @@
 //! Signs.
 
-ghost use Rattle.std.specs.Prelude.{◌≡◌, ◌≤◌, length, take, drop, slice_index};
-ghost use Rattle.fir_lex.specs.Front.{is_single};
-ghost use Rattle.fir_lex.specs.View.{front_of, Fits, sign_at};
+ghost use Rattle.std.specs.Prelude.{◌≡◌, ◌≤◌, length, drop, slice_index};
+ghost use Rattle.fir_lex.specs.Front.{is_single, sign_at};
+ghost use Rattle.fir_lex.specs.working.View.{front_of, IsWithinBytes};
 
 use crate::byte::starts_with_byte;
 use crate::piece::{Found, Piece};
@@ -22,7 +22,7 @@ fn is_single(byte: u8) -> bool
 pub fn read_sign(bytes: &[u8]) -> Piece
     requires { 1 ≤ length bytes.now }
     ensures front { front_of bytes.now result ≡ sign_at (slice_index bytes.now 0) (drop 1 bytes.now) }
-    ensures fits { Fits bytes.now result }
+    ensures within { IsWithinBytes bytes.now result }
 {
     let first = bytes[0];
     let (_, behind) = bytes.split_at(1);

@@ -2,7 +2,7 @@
 
 ghost use Rattle.std.specs.Prelude.{◌≡◌, ◌+◌, ◌<◌, ◌≤◌, IfSome, Some, false, length, drop, position, nat_le};
 ghost use Rattle.fir_lex.specs.Front.{string_length, string_front};
-ghost use Rattle.fir_lex.specs.View.{front_of, Fits};
+ghost use Rattle.fir_lex.specs.working.View.{front_of, IsWithinBytes};
 
 use crate::byte::ends_line;
 use crate::piece::{Found, Piece};
@@ -39,7 +39,7 @@ fn non_ascii_position(bytes: &[u8]) -> Option<usize>
 fn closed_string(bytes: &[u8], count: usize) -> Piece
     requires { count + 2 ≤ length bytes.now }
     ensures front { front_of bytes.now result ≡ string_front (drop 1 bytes.now) (Some count) }
-    ensures fits { Fits bytes.now result }
+    ensures within { IsWithinBytes bytes.now result }
 {
     let (_, behind) = bytes.split_at(1);
     let (content, _) = behind.split_at(count);
@@ -58,7 +58,7 @@ fn closed_string(bytes: &[u8], count: usize) -> Piece
 pub fn read_string(bytes: &[u8]) -> Piece
     requires { 1 ≤ length bytes.now }
     ensures front { front_of bytes.now result ≡ string_front (drop 1 bytes.now) (string_length false (drop 1 bytes.now)) }
-    ensures fits { Fits bytes.now result }
+    ensures within { IsWithinBytes bytes.now result }
 {
     let (_, behind) = bytes.split_at(1);
     match string_length(behind) {

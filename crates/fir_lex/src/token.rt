@@ -1,5 +1,7 @@
 //! Tokens.
 
+ghost use Rattle.fir_lex.specs.working.Numbers.{HasNumber};
+
 use fir_ast::Place;
 
 /// What a token is.
@@ -9,8 +11,8 @@ pub enum Kind {
     Word,
     /// One of the four words with a dash.
     DashWord,
-    /// Digits, behind a sign or none.
-    Integer,
+    /// Digits, behind a sign or none, and the number that the digits spell.
+    Integer(u128),
     /// A string in double quotes.
     Text,
     /// One of `<= <- => = < > ( ) [ ] { } , : .`.
@@ -31,6 +33,7 @@ pub struct TokenRef<'a> {
     pub spelling: &'a [u8],
     /// Where its first byte stands.
     pub place: Place,
+    ghost number: { HasNumber kind spelling.now },
 }
 
 /// A token, and the bytes of the text that spell it, from `start` to before `end`.

@@ -2,7 +2,7 @@
 
 ghost use Rattle.std.specs.Prelude.{◌≡◌, ◌≤◌, All, length, map, nat_eq, option_map, slice_get};
 ghost use Rattle.fir_lex.specs.Bytes.{place_behind};
-ghost use Rattle.fir_lex.specs.View.{IsWithin, spelled, placed};
+ghost use Rattle.fir_lex.specs.working.View.{IsWithin, spelled, placed};
 
 use crate::cursor::Cursor;
 use crate::token::{Item, TokenRef};
@@ -18,8 +18,8 @@ pub struct Tokens {
 
 impl Model for Tokens {
     ghost use Rattle.std.specs.Prelude.{◌≤◌, All, length, map};
-    ghost use Rattle.fir_lex.specs.TokenText.{TokenText};
-    ghost use Rattle.fir_lex.specs.View.{IsWithin, spelled};
+    ghost use Rattle.fir_lex.specs.working.TokenText.{TokenText};
+    ghost use Rattle.fir_lex.specs.working.View.{IsWithin, spelled};
 
     ghost Value = { TokenText };
 

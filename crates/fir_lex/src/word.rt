@@ -1,13 +1,13 @@
 //! Words (FIRRTL spec, "Details about Syntax").
 
-ghost use Rattle.std.specs.Prelude.{◌≡◌, ◌≤◌, IsTrue, IfSome, length, take, take_while, option_map};
-ghost use Rattle.fir_lex.specs.Bytes.{is_word_byte};
+ghost use Rattle.std.specs.Prelude.{◌≡◌, ◌≤◌, IfSome, length, take, take_while, option_map};
+ghost use Rattle.fir_base.specs.Bytes.{is_word_byte};
 ghost use Rattle.fir_lex.specs.Front.{dash_word_at, word_front};
-ghost use Rattle.fir_lex.specs.View.{front_of, Fits, AtWord};
+ghost use Rattle.fir_lex.specs.working.View.{front_of, IsWithinBytes, AtWord};
 
-use crate::byte::is_word_byte;
 use crate::piece::{Found, Piece};
 use crate::token::Kind;
+use fir_base::is_word_byte;
 
 /// How many bytes the word with a dash at the front has.
 fn dash_word_length(bytes: &[u8]) -> Option<usize>
@@ -38,7 +38,7 @@ fn word_length(bytes: &[u8]) -> usize
 pub fn read_word(bytes: &[u8]) -> Piece
     requires { AtWord bytes.now }
     ensures front { front_of bytes.now result ≡ word_front bytes.now }
-    ensures fits { Fits bytes.now result }
+    ensures within { IsWithinBytes bytes.now result }
 {
     match dash_word_length(bytes) {
         Some(count) => Piece::Found(Found::whole(Kind::DashWord, count)),

@@ -1,16 +1,15 @@
--- Leaves that a name of a narrow type is bound to.
-use Rattle.std.proofs.Common.{◌≡◌, ℕ, ◌≤◌, min, slice_get, Bool, true, false, if◌then◌else◌, nat_le, Option, Some, unwrap_or, option_map, le-leb, sym, ap, ◌∙◌, refl, arith}
+-- Leaves that a name is bound to.
+use Rattle.std.proofs.Common.{◌≡◌, ℕ, ◌+◌, ◌≤◌, length, slice_get, Bool, true, false, if◌then◌else◌, nat_le, Option, Some, unwrap_or, option_map, ap, ◌∙◌, refl, arith}
 use Rattle.std.specs.Prelude.{List}
 use Rattle.std.proofs.lemmas.Bool.{leb-true}
+use Rattle.fir_bits.specs.declared.types.NumTy.{NumTy}
 use Rattle.fir_ast.specs.Types.{DataType, uint}
 use Rattle.fir_net.specs.declared.reads.Read.TheVariants as read
-use Rattle.fir_net.specs.declared.net.Leaf.{Leaf}
-use Rattle.fir_net.specs.declared.net.Node.{Node}
-use Rattle.fir_net.specs.IsNet.{is_readable}
-use Rattle.fir_meaning.specs.Scopes.{written_type}
-use Rattle.fir_meaning.specs.Clean.{IsNarrow}
-use Rattle.fir_lower.specs.Lowered.{leaf_width}
-use Rattle.fir_lower.proofs.NetGrowth.{IsBound}
+use Rattle.fir_net.specs.declared.leaf.Leaf.{Leaf}
+use Rattle.fir_net.specs.declared.node.Node.{Node}
+use Rattle.fir_net.specs.working.Settled.{is_clock}
+use Rattle.fir_lower.specs.working.Lowered.{leaf_width}
+use Rattle.fir_lower.proofs.NetGrowth.{Ground, IsBound}
 
 -- a leaf's width is at most 128
 pub width_narrow : (t : DataType) → leaf_width t ≤ 128
@@ -21,18 +20,13 @@ width_narrow (uint (Some w)) = by (nat_le w 128) (leb-true w 128)
     by false h = omega arith
 width_narrow t = omega arith
 
--- a narrow type is that of a UInt of its leaf's width
-pub narrow_holds : (t : DataType) → IsNarrow t → written_type t ≡ record { signed = false; width = leaf_width t }
-narrow_holds t c =
-    let e : min c.width 129 ≡ c.width = omega (arith, c.narrow) in
-    rw (c.type, le-leb c.width 128 c.narrow) (ap (λ (w : ℕ). record { signed = false; width = w }) e)
-
--- a leaf of a narrow type that may be read
-pub leaf_bound : (leaves : List Leaf) (nodes : List Node) (l : Leaf) (k : ℕ) (t : DataType) → slice_get leaves k ≡ Some l → is_readable l.role ≡ true → l.width ≡ leaf_width t → IsNarrow t
-    → IsBound leaves nodes (written_type t) (record { read = read.Leaf k; width = leaf_width t })
-leaf_bound leaves nodes l k t at r w c =
+-- a leaf that is no clock, and stands low enough, may be read
+pub leaf_bound : (g : Ground) (nodes : List Node) (number : ℕ) (l : Leaf) (k w : ℕ) (t : NumTy) → slice_get g.leaves k ≡ Some l → is_clock l.role ≡ false → l.width ≡ w → w ≤ 128
+    → record { signed = false; width = w } ≡ t → g.height (read.Leaf k) ≤ g.level (length nodes) + number → IsBound g nodes number t (record { read = read.Leaf k; width = w })
+leaf_bound g nodes number l k w t at r wide narrow type low =
     record {
-      reads = (l, at, r);
-      of_width = ap (λ (o : Option Leaf). unwrap_or (option_map (λ l. l.width) o) 0) at ∙ w;
-      of_type = sym (narrow_holds t c);
+      readable = record { reads = (l, at, r); low = low };
+      narrow = narrow;
+      of_width = ap (λ (o : Option Leaf). unwrap_or (option_map (λ l. l.width) o) 0) at ∙ wide;
+      of_type = type;
     }

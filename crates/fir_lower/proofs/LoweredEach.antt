@@ -1,5 +1,5 @@
 -- What holds of each element of a list by its number.
-use Rattle.std.proofs.Common.{◌≡◌, ℕ, zero, suc, ◌+◌, List, [], ◌∷◌, Some, slice_get, refl, subst, arith}
+use Rattle.std.proofs.Common.{◌≡◌, ℕ, zero, suc, ◌+◌, List, [], ◌∷◌, ◌++◌, length, Some, slice_get, refl, sym, subst, arith}
 
 get_zero : (k : ℕ) → k + 0 ≡ k
 get_zero k = omega arith
@@ -30,3 +30,19 @@ module _ {A : Type 0} (P : ℕ → A → Type 0) where
   from_each k (y ∷ xs) h (suc i) x g =
       let back : (k + 1) + i ≡ k + suc i = omega arith in
       subst (λ (j : ℕ). P j x) back (from_each (k + 1) xs h.1 i x g)
+
+  pub each_push : (k : ℕ) (xs : List A) (x : A) → EachFrom k xs → P (k + length xs) x → EachFrom k (xs ++ x ∷ [])
+  each_push k [] x h p = (subst (λ (j : ℕ). P j x) (get_zero k) p, tt)
+  each_push k (y ∷ xs) x h p = (h.0, each_push (k + 1) xs x h.1 (subst (λ (j : ℕ). P j x) (get_suc k (length xs)) p))
+
+  pub each_front : (k : ℕ) (xs ys : List A) → EachFrom k (xs ++ ys) → EachFrom k xs
+  each_front k [] ys h = tt
+  each_front k (x ∷ xs) ys h = (h.0, each_front (k + 1) xs ys h.1)
+
+  pub each_behind : (k : ℕ) (xs ys : List A) → EachFrom k (xs ++ ys) → EachFrom (k + length xs) ys
+  each_behind k [] ys h = subst (λ (j : ℕ). EachFrom j ys) (sym (get_zero k)) h
+  each_behind k (x ∷ xs) ys h = subst (λ (j : ℕ). EachFrom j ys) (sym (get_suc k (length xs))) (each_behind (k + 1) xs ys h.1)
+
+pub each_kept : {A : Type 0} → (P Q : ℕ → A → Type 0) → ((k : ℕ) (x : A) → P k x → Q k x) → (k : ℕ) (xs : List A) → EachFrom P k xs → EachFrom Q k xs
+each_kept P Q f k [] h = tt
+each_kept P Q f k (x ∷ xs) h = (f k x h.0, each_kept P Q f (k + 1) xs h.1)

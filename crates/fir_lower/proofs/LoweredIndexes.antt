@@ -1,5 +1,5 @@
 -- What stands in a list at a number: in its front or behind that, and in a mapped list.
-use Rattle.std.proofs.Common.{◌≡◌, ℕ, zero, suc, ◌+◌, List, [], ◌∷◌, ◌++◌, Some, map, option_map, length, slice_get, refl, sym, ap, ◌∙◌, inl, inr, ◌⊎◌, ⊎_elim, arith}
+use Rattle.std.proofs.Common.{◌≡◌, ℕ, zero, suc, ◌+◌, List, [], ◌∷◌, ◌++◌, Some, map, option_map, length, slice_get, refl, ap, ◌∙◌, inl, inr, ◌⊎◌, ⊎_elim, arith}
 use Rattle.std.proofs.lemmas.Option.{slice_get-map}
 
 -- in the front, or behind it
@@ -24,8 +24,3 @@ pub get_before : {A B : Type 0} → (f : A → B) (xs : List A) (k : ℕ) (y : B
 get_before f [] k y h = cc
 get_before f (x ∷ xs) zero y h = let e : f x ≡ y = cc in (x, refl, e)
 get_before f (x ∷ xs) (suc k) y h = get_before f xs k y h
-
--- two lists that are mapped to one
-pub get_beside : {A B C : Type 0} → (f : A → C) (g : B → C) (xs : List A) (ys : List B) → map f xs ≡ map g ys → (n : ℕ) (x : A) → slice_get xs n ≡ Some x
-    → (y : B) × (slice_get ys n ≡ Some y) × (g y ≡ f x)
-get_beside f g xs ys same n x h = get_before g ys n (f x) (ap (λ zs. slice_get zs n) (sym same) ∙ get_mapped f xs n x h)

@@ -1,19 +1,24 @@
 -- A lowering with one more port, expression or statement.
-use Rattle.std.proofs.Common.{◌≡◌, ℕ, ◌+◌, ◌<◌, ◌≤◌, List, [], ◌∷◌, ◌++◌, map, take, length, get_or, refl, sym, ap, ◌∙◌, arith, length-take}
+use Rattle.std.proofs.Common.{◌≡◌, ℕ, ◌+◌, ◌<◌, ◌≤◌, List, [], ◌∷◌, ◌++◌, map, take, length, get_or, refl, sym, ap, ◌∙◌, arith, length-take, Vec, Global}
 use Rattle.std.proofs.lemmas.List.{map_more, length-map}
 use Rattle.fir_ast.specs.declared.circuit.Circuit.{Circuit}
 use Rattle.fir_ast.specs.declared.circuit.Module.{Module}
 use Rattle.fir_ast.specs.declared.circuit.Port.{Port}
 use Rattle.fir_ast.specs.declared.expressions.Expr.{Expr}
+use Rattle.fir_ast.specs.declared.expressions.Expr.TheVariants as code_expr
 use Rattle.fir_ast.specs.declared.statements.Stmt.{Stmt}
-use Rattle.fir_ast.specs.Expressions.{Expression}
+use Rattle.fir_bits.specs.declared.operators.PrimOp.{PrimOp}
+use Rattle.fir_ast.specs.declared.place.Place.{Place}
+use Rattle.fir_ast.specs.Expressions.{Expression, Expressions, operation}
 use Rattle.fir_ast.specs.Statements.{Statement, register, node, connect, Block, done, then}
 use Rattle.fir_ast.specs.Circuits.{PortTree}
 use Rattle.fir_ast.specs.View.{circuit_of, module_of, port_of, expr_of, expressions_of, stmt_of, block_of}
+use Rattle.fir_ast.proofs.TreeViews.{operation_view}
 use Rattle.fir_net.specs.declared.net.FlatNet.{FlatNet}
-use Rattle.fir_net.specs.declared.net.Leaf.{Leaf}
-use Rattle.fir_net.specs.declared.net.Node.{Node}
-use Rattle.fir_lower.specs.Lowered.{Binding, nodes_with, bound_with, nodes_with_each, bounds_with_each, Lowering, with_statement, with_body, input_binding, port_bindings, lowered_module, lowered_first, lowered}
+use Rattle.fir_net.specs.declared.leaf.Leaf.{Leaf}
+use Rattle.fir_net.specs.declared.node.Node.{Node}
+use Rattle.fir_net.specs.declared.reads.Read.TheVariants as read
+use Rattle.fir_lower.specs.working.Lowered.{Bound, Binding, operation_width, operation_node, with_shared, shared_number, nodes_with, bound_with, nodes_with_each, bounds_with_each, Lowering, with_statement, with_body, input_binding, port_bindings, lowered_module, lowered_first, lowered}
 
 -- the list of what the first i + 1 are seen as
 mapped_more : {A B : Type 0} → (f : A → B) (xs : List A) (i : ℕ) (x : A) → i < length xs → x ≡ get_or xs i x → map f (take (i + 1) xs) ≡ map f (take i xs) ++ f x ∷ []
@@ -48,10 +53,11 @@ body_more l ss i s lt is = ap (λ b. with_body l (block_of b)) (mapped_more stmt
 
 -- what stands before the body of a module of these ports
 abbrev pub begun : List PortTree → Lowering
-begun ps = record { ports = length ps; bindings = port_bindings [] 0 ps; nodes = []; drivers = []; registers = [] }
+begun ps = record { ports = length ps; bindings = port_bindings [] 0 ps; nodes = []; drivers = []; inner = [] }
 
-statement_ports : (l : Lowering) (s : Statement) → (with_statement l s).ports ≡ l.ports
-statement_ports l (register p n t c r) = refl
+-- a statement adds no ports
+pub statement_ports : (l : Lowering) (s : Statement) → (with_statement l s).ports ≡ l.ports
+statement_ports l (register p n begins t c r) = refl
 statement_ports l (node p n e) = refl
 statement_ports l (connect p sink e) = refl
 statement_ports l s = refl
@@ -92,3 +98,18 @@ lowered_some c m net ms is le at e = rw (← is, e) (some ms le at)
     some : (ms : List Module) → 1 ≤ length ms → m ≡ get_or ms 0 m → lowered_module c.ident.name (module_of m) ≡ lowered_first c.ident.name (map module_of ms)
     some [] le at = absurd (omega arith)
     some (x ∷ ms) le at = ap (λ y. lowered_module c.ident.name (module_of y)) at
+
+-- the node of an operation over those of its operands
+pub operation_bound : (bs : List Binding) (ns : List Node) (e : Expression) (p : Place) (o : PrimOp) (es : Expressions) (ks : List ℕ) → e ≡ operation p o es ks
+    → (before : List Node) (bounds : List Bound) (b : Bound) → before ≡ nodes_with_each bs ns es → bounds ≡ bounds_with_each bs ns es
+    → b ≡ record { read = read.Node (shared_number before (operation_node o bounds ks)); width = operation_width o bounds ks } → b ≡ bound_with bs ns e
+operation_bound bs ns e p o es ks tree before bounds b n v is = is ∙ rw (tree, n, v) refl
+
+pub operation_nodes : (bs : List Binding) (ns : List Node) (e : Expression) (p : Place) (o : PrimOp) (es : Expressions) (ks : List ℕ) → e ≡ operation p o es ks
+    → (before : List Node) (bounds : List Bound) (new : List Node) → before ≡ nodes_with_each bs ns es → bounds ≡ bounds_with_each bs ns es
+    → new ≡ with_shared before (operation_node o bounds ks) → new ≡ nodes_with bs ns e
+operation_nodes bs ns e p o es ks tree before bounds new n v is = is ∙ rw (tree, n, v) refl
+
+pub operation_tree : (e : Expr) (p : Place) (o : PrimOp) (es : Vec Expr Global) (ks : Vec ℕ Global) (operands : List Expr) (integers : List ℕ) → e ≡ code_expr.Op p o es ks
+    → operands ≡ es.items → integers ≡ ks.items → expr_of e ≡ operation p o (expressions_of (map expr_of operands)) integers
+operation_tree e p o es ks operands integers is f g = rw (f, g) (ap expr_of is ∙ operation_view p o es ks)

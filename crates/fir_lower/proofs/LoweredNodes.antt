@@ -1,12 +1,14 @@
 -- The values of nodes, as nodes are added behind them.
 -- What is read of the nodes in front stays, whatever stands behind.
-use Rattle.std.proofs.Common.{◌≡◌, ℕ, ◌+◌, List, [], ◌∷◌, ◌++◌, length, Some, slice_get, unwrap_or, refl, sym, ap, ◌∙◌, subst, append_assoc, append-nil, arith, length-append}
+use Rattle.std.proofs.Common.{◌≡◌, ℕ, ◌+◌, List, [], ◌∷◌, ◌++◌, length, Some, slice_get, unwrap_or, refl, sym, ap, ◌∙◌, ⊎_elim, subst, append_assoc, append-nil, arith, length-append}
 use Rattle.fir_bits.specs.Values.{BitVector}
 use Rattle.fir_net.specs.declared.reads.Read.{Read}
 use Rattle.fir_net.specs.declared.reads.Read.TheVariants as read
-use Rattle.fir_net.specs.declared.net.Leaf.{Leaf}
-use Rattle.fir_net.specs.declared.net.Node.{Node}
-use Rattle.fir_net.specs.Values.{no_value, read_value, node_value, values_from}
+use Rattle.fir_net.specs.declared.leaf.Leaf.{Leaf}
+use Rattle.fir_net.specs.declared.node.Node.{Node}
+use Rattle.fir_lower.specs.working.Lowered.{with_shared, shared_number}
+use Rattle.fir_lower.proofs.SharedNodes.{shared, last_or}
+use Rattle.fir_net.specs.working.Values.{no_value, read_value, node_value, values_from}
 
 -- values with more behind them
 pub record Grows (known larger : List BitVector) : Type 0 where
@@ -53,19 +55,76 @@ module _ (leaves : List Leaf) (env : ℕ → ℕ) where
   from_length known [] = omega arith
   from_length known (n ∷ nodes) = let h = from_length (known ++ node_value leaves env known n ∷ []) nodes in let l = length-append known (node_value leaves env known n ∷ []) in omega arith
 
-  pub grows_node : (nodes : List Node) (n : Node) → Grows (values_of nodes) (values_of (nodes ++ n ∷ []))
+  grows_node : (nodes : List Node) (n : Node) → Grows (values_of nodes) (values_of (nodes ++ n ∷ []))
   grows_node nodes n = record { more = node_value leaves env (values_of nodes) n ∷ []; is = values_push nodes n }
 
-  -- a new node is read under its number
-  pub reads_node : (nodes : List Node) (n : Node) (v : BitVector) → node_value leaves env (values_of nodes) n ≡ v
-      → Reads (values_of (nodes ++ n ∷ [])) (read.Node (length nodes)) v
-  reads_node nodes n v e =
-      let new = node_value leaves env (values_of nodes) n in
-      let counted = from_length [] nodes in
-      let count : length (values_of nodes) ≡ length nodes = omega arith in
-      record {
-        whatever = λ more.
-            ap (λ l. unwrap_or (slice_get (l ++ more) (length nodes)) no_value) (values_push nodes n)
-            ∙ ap (λ k. unwrap_or (slice_get ((values_of nodes ++ new ∷ []) ++ more) k) no_value) (sym count)
-            ∙ ap (λ o. unwrap_or o no_value) (at_end (values_of nodes) new more) ∙ e;
-      }
+  -- also where an equal node may stand among them
+  pub grows_shared : (nodes : List Node) (n : Node) → Grows (values_of nodes) (values_of (with_shared nodes n))
+  grows_shared nodes n =
+      ⊎_elim
+      (λ (e : with_shared nodes n ≡ nodes). subst (λ (new : List Node). Grows (values_of nodes) (values_of new)) (sym e) (grows_none (values_of nodes)))
+      (λ (e : (with_shared nodes n ≡ nodes ++ n ∷ []) × (shared_number nodes n ≡ length nodes)).
+      subst (λ (new : List Node). Grows (values_of nodes) (values_of new)) (sym e.0) (grows_node nodes n))
+      (shared nodes n).is
+
+  -- the value of each node is what it makes of the values, whatever stands behind
+  pub record AreStable (nodes : List Node) : Type 0 where
+    pub each : (k : ℕ) (n : Node) → slice_get nodes k ≡ Some n → (more : List BitVector)
+        → read_value leaves env (values_of nodes ++ more) (read.Node k) ≡ node_value leaves env (values_of nodes ++ more) n
+
+  pub stable_none : AreStable []
+  stable_none = record { each = λ k n h more. cc }
+
+  -- a node makes one value of the values, whatever stands behind
+  pub record Makes (nodes : List Node) (n : Node) (v : BitVector) : Type 0 where
+    pub whatever : (more : List BitVector) → node_value leaves env (values_of nodes ++ more) n ≡ v
+
+  module _ (nodes : List Node) (n : Node) (v : BitVector) (stable : AreStable nodes) (makes : Makes nodes n v) where
+    abbrev new : BitVector
+    new = node_value leaves env (values_of nodes) n
+
+    new_is : new ≡ v
+    new_is = ap (λ l. node_value leaves env l n) (sym (append-nil (values_of nodes))) ∙ makes.whatever []
+
+    pushed : (more : List BitVector) → values_of (nodes ++ n ∷ []) ++ more ≡ values_of nodes ++ new ∷ more
+    pushed more = ap (λ l. l ++ more) (values_push nodes n) ∙ append_assoc (values_of nodes) (new ∷ []) more
+
+    read_last : (more : List BitVector) → read_value leaves env (values_of (nodes ++ n ∷ []) ++ more) (read.Node (length nodes)) ≡ v
+    read_last more =
+        let counted = from_length [] nodes in
+        let count : length (values_of nodes) ≡ length nodes = omega arith in
+        ap (λ l. unwrap_or (slice_get (l ++ more) (length nodes)) no_value) (values_push nodes n)
+        ∙ ap (λ k. unwrap_or (slice_get ((values_of nodes ++ new ∷ []) ++ more) k) no_value) (sym count)
+        ∙ ap (λ o. unwrap_or o no_value) (at_end (values_of nodes) new more) ∙ new_is
+
+    stable_more : AreStable (nodes ++ n ∷ [])
+    stable_more = record { each = each }
+      where
+        each : (k : ℕ) (m : Node) → slice_get (nodes ++ n ∷ []) k ≡ Some m → (more : List BitVector)
+            → read_value leaves env (values_of (nodes ++ n ∷ []) ++ more) (read.Node k) ≡ node_value leaves env (values_of (nodes ++ n ∷ []) ++ more) m
+        each k m h more =
+            ⊎_elim
+            (λ (f : slice_get nodes k ≡ Some m).
+            ap (λ l. read_value leaves env l (read.Node k)) (pushed more) ∙ stable.each k m f (new ∷ more) ∙ ap (λ l. node_value leaves env l m) (sym (pushed more)))
+            (λ (b : (k ≡ length nodes) × (n ≡ m)).
+            ap (λ (j : ℕ). read_value leaves env (values_of (nodes ++ n ∷ []) ++ more) (read.Node j)) b.0 ∙ read_last more
+            ∙ sym (makes.whatever (new ∷ more)) ∙ ap (λ l. node_value leaves env l n) (sym (pushed more))
+            ∙ ap (node_value leaves env (values_of (nodes ++ n ∷ []) ++ more)) b.1)
+            (last_or nodes n m k h)
+
+    pub stable_shared : AreStable (with_shared nodes n)
+    stable_shared =
+        ⊎_elim
+        (λ (e : with_shared nodes n ≡ nodes). subst AreStable (sym e) stable)
+        (λ (e : (with_shared nodes n ≡ nodes ++ n ∷ []) × (shared_number nodes n ≡ length nodes)). subst AreStable (sym e.0) stable_more)
+        (shared nodes n).is
+
+    -- the node is read under its number
+    pub reads_shared : Reads (values_of (with_shared nodes n)) (read.Node (shared_number nodes n)) v
+    reads_shared = record {
+      whatever = λ more.
+          let grown = grows_shared nodes n in
+          let all : values_of (with_shared nodes n) ++ more ≡ values_of nodes ++ (grown.more ++ more) =
+          ap (λ l. l ++ more) grown.is ∙ append_assoc (values_of nodes) grown.more more in
+          stable_shared.each (shared_number nodes n) n (shared nodes n).stands more ∙ ap (λ l. node_value leaves env l n) all ∙ makes.whatever (grown.more ++ more);
+    }

@@ -5,18 +5,18 @@ use Rattle.std.proofs.lemmas.List.Concat.{flat_map-append}
 use Rattle.fir_meaning.specs.Paths.{Path}
 use Rattle.fir_meaning.specs.Scopes.{Kind, input, clock_input, output, node_value, register_value, Declared, Scope}
 use Rattle.fir_meaning.specs.Leaves.{Leaf, leaves_of, clock_paths, input_leaves, output_leaves, register_leaves, with_bits}
-use Rattle.fir_net.specs.declared.net.Leaf.{Leaf as NetLeaf}
-use Rattle.fir_net.specs.declared.net.Role.{Role}
-use Rattle.fir_net.specs.declared.net.Role.TheVariants as role
-use Rattle.fir_net.specs.Settled.{with_bits as number_with_bits, input_number, clock_number, output_number, register_number, numbers_by}
-use Rattle.fir_lower.specs.Lowered.{Driver}
+use Rattle.fir_net.specs.declared.leaf.Leaf.{Leaf as NetLeaf}
+use Rattle.fir_net.specs.declared.leaf.Role.{Role}
+use Rattle.fir_net.specs.declared.leaf.Role.TheVariants as role
+use Rattle.fir_net.specs.working.Settled.{is_clock, with_bits as number_with_bits, input_number, clock_number, output_number, register_number, numbers_by}
+use Rattle.fir_lower.specs.working.Lowered.{Driver}
 use Rattle.fir_lower.proofs.LoweredEach.{EachFrom}
 use Rattle.fir_lower.proofs.LoweredLeaves.{Stands, IsLeafOf, Listed, lists}
 
 module _ {A : Type 0} where
-  -- what a list of numbers makes of a leaf depends on the leaf's number only by what stands there
-  pub record Picks (number : Role → ℕ → ℕ → List ℕ) (f : ℕ → A) : Type 0 where
-    pub each : (r : Role) (w k : ℕ) (x : A) → f k ≡ x → map f (number r w k) ≡ map (λ j. x) (number r w 0)
+  -- what a list of numbers makes of a leaf, which is a clock or none, depends on the leaf's number only by what stands there
+  pub record Picks (number : Role → ℕ → ℕ → List ℕ) (clocks : Bool) (f : ℕ → A) : Type 0 where
+    pub each : (r : Role) (w k : ℕ) (x : A) → (is_clock r ≡ clocks → f k ≡ x) → map f (number r w k) ≡ map (λ j. x) (number r w 0)
 
   pub bits_pick : (f : ℕ → A) (w k : ℕ) (x : A) → f k ≡ x → map f (number_with_bits w k) ≡ map (λ j. x) (number_with_bits w 0)
   bits_pick f w k x e = by (nat_eq w 0)
@@ -25,16 +25,16 @@ module _ {A : Type 0} where
       by true = refl
       by false = ap (λ y. y ∷ []) e
 
-  pub numbered : (number : Role → ℕ → ℕ → List ℕ) (f : ℕ → A) (a : NetLeaf → A) → Picks number f → (k : ℕ) (ls : List NetLeaf) → EachFrom (λ i l. f i ≡ a l) k ls
+  pub numbered : (number : Role → ℕ → ℕ → List ℕ) (clocks : Bool) (f : ℕ → A) (a : NetLeaf → A) → Picks number clocks f → (k : ℕ) (ls : List NetLeaf)
+      → EachFrom (λ i l. is_clock l.role ≡ clocks → f i ≡ a l) k ls
       → map f (numbers_by number k ls) ≡ flat_map (λ l. map (λ j. a l) (number l.role l.width 0)) ls
-  numbered number f a picks k [] e = refl
-  numbered number f a picks k (l ∷ ls) e =
+  numbered number clocks f a picks k [] e = refl
+  numbered number clocks f a picks k (l ∷ ls) e =
       map-append f (number l.role l.width k) (numbers_by number (k + 1) ls)
-      ∙ ap₂ (λ (x y : List A). x ++ y) (picks.each l.role l.width k (a l) e.0) (numbered number f a picks (k + 1) ls e.1)
+      ∙ ap₂ (λ (x y : List A). x ++ y) (picks.each l.role l.width k (a l) e.0) (numbered number clocks f a picks (k + 1) ls e.1)
 
   -- the leaves of a kind that have bits, beside their numbers
   pub record Matches (number : Role → ℕ → ℕ → List ℕ) (chosen : Kind → List Leaf → List Leaf) (b : Leaf → A) : Type 0 where
-    pub passes : (ls : List Leaf) → chosen node_value ls ≡ []
     pub each : (ds : List Driver) (name : List ℕ) (w : ℕ) (r : Role) (k : Kind) (m : Leaf) (x : A) → Stands ds name w r k m.holds.width → (w ≡ m.holds.width → x ≡ b m)
         → map (λ j. x) (number r w 0) ≡ map b (flat_map with_bits (chosen k (m ∷ [])))
 
@@ -51,47 +51,46 @@ module _ {A : Type 0} where
       ap (map b) (flat_map-append with_bits (h d) (flat_map h scope)) ∙ map-append b (flat_map with_bits (h d)) (flat_map with_bits (flat_map h scope))
       ∙ ap (λ (y : List A). map b (flat_map with_bits (h d)) ++ y) (flattened b h scope)
 
-  pub same_lists : (number : Role → ℕ → ℕ → List ℕ) (chosen : Kind → List Leaf → List Leaf) (f : ℕ → A) (a : NetLeaf → A) (b : Leaf → A) → Picks number f
-      → Matches number chosen b → (ds : List Driver) (ls : List NetLeaf) (scope : Scope) → Listed ds ls scope → EachFrom (λ i l. f i ≡ a l) 0 ls
+  pub same_lists : (number : Role → ℕ → ℕ → List ℕ) (chosen : Kind → List Leaf → List Leaf) (f : ℕ → A) (a : NetLeaf → A) (b : Leaf → A) → Picks number false f
+      → Matches number chosen b → (ds : List Driver) (ls : List NetLeaf) (scope : Scope) → Listed ds ls scope → EachFrom (λ i l. is_clock l.role ≡ false → f i ≡ a l) 0 ls
       → ((l : NetLeaf) (d : Declared) → IsLeafOf ds l d → l.width ≡ d.holds.width → a l ≡ b (record { path = d.named.name ∷ []; holds = d.holds; depth = d.depth }))
       → map f (numbers_by number 0 ls) ≡ map b (flat_map with_bits (flat_map (λ d. chosen d.kind (leaves_of [] d)) scope))
   same_lists number chosen f a b picks matches ds ls scope same_order each same =
-      numbered number f a picks 0 ls each
+      numbered number false f a picks 0 ls each
       ∙ lists ds (λ l. map (λ j. a l) (number l.role l.width 0)) (λ d. map b (flat_map with_bits (chosen d.kind (leaves_of [] d))))
-      (λ l d i. matches.each ds l.name l.width l.role d.kind (record { path = d.named.name ∷ []; holds = d.holds; depth = d.depth }) (a l) i.stands (same l d i))
-      (λ d e. ap (λ (k : Kind). map b (flat_map with_bits (chosen k (leaves_of [] d)))) e ∙ ap (λ ms. map b (flat_map with_bits ms)) (matches.passes (leaves_of [] d))) same_order
+      (λ l d i. matches.each ds l.path l.width l.role d.kind (record { path = d.named.name ∷ []; holds = d.holds; depth = d.depth }) (a l) i.stands (same l d i)) same_order
       ∙ sym (flattened b (λ d. chosen d.kind (leaves_of [] d)) scope)
 
-  pub input_picks : (f : ℕ → A) → Picks input_number f
+  pub input_picks : (f : ℕ → A) → Picks input_number false f
   input_picks f = record { each = each }
     where
-      each : (r : Role) (w k : ℕ) (x : A) → f k ≡ x → map f (input_number r w k) ≡ map (λ j. x) (input_number r w 0)
-      each role.Input w k x e = bits_pick f w k x e
+      each : (r : Role) (w k : ℕ) (x : A) → (is_clock r ≡ false → f k ≡ x) → map f (input_number r w k) ≡ map (λ j. x) (input_number r w 0)
+      each role.Input w k x e = bits_pick f w k x (e refl)
       each r w k x e = refl
 
-  pub output_picks : (f : ℕ → A) → Picks output_number f
+  pub output_picks : (f : ℕ → A) → Picks output_number false f
   output_picks f = record { each = each }
     where
-      each : (r : Role) (w k : ℕ) (x : A) → f k ≡ x → map f (output_number r w k) ≡ map (λ j. x) (output_number r w 0)
-      each (role.Output r) w k x e = bits_pick f w k x e
+      each : (r : Role) (w k : ℕ) (x : A) → (is_clock r ≡ false → f k ≡ x) → map f (output_number r w k) ≡ map (λ j. x) (output_number r w 0)
+      each (role.Output r) w k x e = bits_pick f w k x (e refl)
       each r w k x e = refl
 
-  pub register_picks : (f : ℕ → A) → Picks register_number f
+  pub register_picks : (f : ℕ → A) → Picks register_number false f
   register_picks f = record { each = each }
     where
-      each : (r : Role) (w k : ℕ) (x : A) → f k ≡ x → map f (register_number r w k) ≡ map (λ j. x) (register_number r w 0)
-      each (role.Register r) w k x e = bits_pick f w k x e
+      each : (r : Role) (w k : ℕ) (x : A) → (is_clock r ≡ false → f k ≡ x) → map f (register_number r w k) ≡ map (λ j. x) (register_number r w 0)
+      each (role.Register r) w k x e = bits_pick f w k x (e refl)
       each r w k x e = refl
 
-  clock_picks : (f : ℕ → A) → Picks clock_number f
+  clock_picks : (f : ℕ → A) → Picks clock_number true f
   clock_picks f = record { each = each }
     where
-      each : (r : Role) (w k : ℕ) (x : A) → f k ≡ x → map f (clock_number r w k) ≡ map (λ j. x) (clock_number r w 0)
-      each role.Clock w k x e = ap (λ y. y ∷ []) e
+      each : (r : Role) (w k : ℕ) (x : A) → (is_clock r ≡ true → f k ≡ x) → map f (clock_number r w k) ≡ map (λ j. x) (clock_number r w 0)
+      each role.Clock w k x e = ap (λ y. y ∷ []) (e refl)
       each r w k x e = refl
 
   pub input_matches : (b : Leaf → A) → Matches input_number input_leaves b
-  input_matches b = record { passes = λ ls. refl; each = each }
+  input_matches b = record { each = each }
     where
       each : (ds : List Driver) (name : List ℕ) (w : ℕ) (r : Role) (k : Kind) (m : Leaf) (x : A) → Stands ds name w r k m.holds.width → (w ≡ m.holds.width → x ≡ b m)
           → map (λ j. x) (input_number r w 0) ≡ map b (flat_map with_bits (input_leaves k (m ∷ [])))
@@ -99,10 +98,11 @@ module _ {A : Type 0} where
       each ds name w role.Clock clock_input m x s h = refl
       each ds name w (role.Output r) output m x s h = refl
       each ds name w (role.Register r) register_value m x s h = refl
+      each ds name w (role.Wire r) node_value m x s h = refl
       each ds name w r k m x s h = absurd s
 
   pub output_matches : (b : Leaf → A) → Matches output_number output_leaves b
-  output_matches b = record { passes = λ ls. refl; each = each }
+  output_matches b = record { each = each }
     where
       each : (ds : List Driver) (name : List ℕ) (w : ℕ) (r : Role) (k : Kind) (m : Leaf) (x : A) → Stands ds name w r k m.holds.width → (w ≡ m.holds.width → x ≡ b m)
           → map (λ j. x) (output_number r w 0) ≡ map b (flat_map with_bits (output_leaves k (m ∷ [])))
@@ -110,10 +110,11 @@ module _ {A : Type 0} where
       each ds name w role.Clock clock_input m x s h = refl
       each ds name w (role.Output r) output m x s h = bits_match b w m x s.0 h
       each ds name w (role.Register r) register_value m x s h = refl
+      each ds name w (role.Wire r) node_value m x s h = refl
       each ds name w r k m x s h = absurd s
 
   pub register_matches : (b : Leaf → A) → Matches register_number register_leaves b
-  register_matches b = record { passes = λ ls. refl; each = each }
+  register_matches b = record { each = each }
     where
       each : (ds : List Driver) (name : List ℕ) (w : ℕ) (r : Role) (k : Kind) (m : Leaf) (x : A) → Stands ds name w r k m.holds.width → (w ≡ m.holds.width → x ≡ b m)
           → map (λ j. x) (register_number r w 0) ≡ map b (flat_map with_bits (register_leaves k (m ∷ [])))
@@ -121,6 +122,7 @@ module _ {A : Type 0} where
       each ds name w role.Clock clock_input m x s h = refl
       each ds name w (role.Output r) output m x s h = refl
       each ds name w (role.Register r) register_value m x s h = bits_match b w m x s.0 h
+      each ds name w (role.Wire r) node_value m x s h = refl
       each ds name w r k m x s h = absurd s
 
   paths_mapped : (v : Path → A) (h : Declared → List Path) (scope : Scope) → map v (flat_map h scope) ≡ flat_map (λ d. map v (h d)) scope
@@ -133,14 +135,14 @@ module _ {A : Type 0} where
   clock_match v ds name own w role.Clock clock_input u e s = ap (λ n. v (n ∷ []) ∷ []) e
   clock_match v ds name own w (role.Output r) output u e s = refl
   clock_match v ds name own w (role.Register r) register_value u e s = refl
+  clock_match v ds name own w (role.Wire r) node_value u e s = refl
   clock_match v ds name own w r k u e s = absurd s
 
   -- the clocks on both sides
-  pub same_clocks : (f : ℕ → A) (v : Path → A) (ds : List Driver) (ls : List NetLeaf) (scope : Scope) → Listed ds ls scope → EachFrom (λ i l. f i ≡ v (l.name ∷ [])) 0 ls
+  pub same_clocks : (f : ℕ → A) (v : Path → A) (ds : List Driver) (ls : List NetLeaf) (scope : Scope) → Listed ds ls scope → EachFrom (λ i l. is_clock l.role ≡ true → f i ≡ v (l.path ∷ [])) 0 ls
       → map f (numbers_by clock_number 0 ls) ≡ map v (flat_map (λ d. clock_paths d.kind ((d.named.name ∷ []) ∷ [])) scope)
   same_clocks f v ds ls scope same_order each =
-      numbered clock_number f (λ l. v (l.name ∷ [])) (clock_picks f) 0 ls each
-      ∙ lists ds (λ l. map (λ j. v (l.name ∷ [])) (clock_number l.role l.width 0)) (λ d. map v (clock_paths d.kind ((d.named.name ∷ []) ∷ [])))
-      (λ l d i. clock_match v ds l.name d.named.name l.width l.role d.kind d.holds.width i.name i.stands)
-      (λ d e. ap (λ (k : Kind). map v (clock_paths k ((d.named.name ∷ []) ∷ []))) e) same_order
+      numbered clock_number true f (λ l. v (l.path ∷ [])) (clock_picks f) 0 ls each
+      ∙ lists ds (λ l. map (λ j. v (l.path ∷ [])) (clock_number l.role l.width 0)) (λ d. map v (clock_paths d.kind ((d.named.name ∷ []) ∷ [])))
+      (λ l d i. clock_match v ds l.path d.named.name l.width l.role d.kind d.holds.width i.name i.stands) same_order
       ∙ sym (paths_mapped v (λ d. clock_paths d.kind ((d.named.name ∷ []) ∷ [])) scope)

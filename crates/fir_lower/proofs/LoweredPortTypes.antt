@@ -1,13 +1,13 @@
 -- The types, kinds and roles of clean ports.
-use Rattle.std.proofs.Common.{◌≡◌, ℕ, zero, suc, List, [], ◌∷◌, ◌++◌, Some, slice_get, refl, subst}
+use Rattle.std.proofs.Common.{◌≡◌, ℕ, zero, suc, List, [], ◌∷◌, ◌++◌, true, false, Some, slice_get, refl, subst}
 use Rattle.fir_base.specs.declared.direction.Direction.{Direction}
 use Rattle.fir_base.specs.declared.direction.Direction.TheVariants as direction
 use Rattle.fir_ast.specs.Types.{DataType, clock}
 use Rattle.fir_ast.specs.Circuits.{PortTree}
 use Rattle.fir_meaning.specs.Scopes.{clock_input, Scope, port_kind, port_declared, written_type}
-use Rattle.fir_meaning.specs.Clean.{IsPortType, AreCleanPorts}
-use Rattle.fir_net.specs.declared.net.Role.TheVariants as role
-use Rattle.fir_lower.specs.Lowered.{Driver, leaf_width, port_role}
+use Rattle.fir_meaning.specs.working.Clean.{IsPortType, AreCleanPorts}
+use Rattle.fir_net.specs.working.Settled.{is_clock}
+use Rattle.fir_lower.specs.working.Lowered.{Driver, leaf_width, port_role}
 use Rattle.fir_lower.proofs.LoweredTypes.{plain}
 
 pub port_type : (scope : Scope) (ps : List PortTree) → AreCleanPorts scope ps → (i : ℕ) (p : PortTree) → slice_get ps i ≡ Some p → IsPortType p.direction p.data_type
@@ -21,7 +21,13 @@ port_width direction.Input clock c n = absurd (n refl)
 port_width direction.Input t c n = (plain t c).width
 port_width direction.Output t c n = (plain t c).width
 
-pub port_no_clock : (d : Direction) (t : DataType) (ds : List Driver) (name : List ℕ) → (port_kind d t ≡ clock_input → ⊥) → port_role d t ds name ≡ role.Clock → ⊥
-port_no_clock direction.Input clock ds name n h = n refl
-port_no_clock direction.Input t ds name n h = cc
-port_no_clock direction.Output t ds name n h = cc
+-- a port's leaf is a clock where the port is one
+pub port_no_clock : (d : Direction) (t : DataType) (ds : List Driver) (name : List ℕ) → (port_kind d t ≡ clock_input → ⊥) → is_clock (port_role d t ds name) ≡ false
+port_no_clock direction.Input clock ds name n = absurd (n refl)
+port_no_clock direction.Input t ds name n = refl
+port_no_clock direction.Output t ds name n = refl
+
+pub port_clock : (d : Direction) (t : DataType) (ds : List Driver) (name : List ℕ) → port_kind d t ≡ clock_input → is_clock (port_role d t ds name) ≡ true
+port_clock direction.Input clock ds name e = refl
+port_clock direction.Input t ds name e = cc
+port_clock direction.Output t ds name e = cc

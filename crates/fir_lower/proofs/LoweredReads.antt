@@ -1,16 +1,17 @@
 -- Values of a net beside values of a circuit.
 -- Each name that may be read is bound where the net has the name's value.
-use Rattle.std.proofs.Common.{◌≡◌, ℕ, ◌^◌, ◌<◌, ◌≤◌, List, [], ◌∷◌, ◌++◌, true, false, Some, None, refl, sym, ap, ◌∙◌, subst}
+use Rattle.std.proofs.Common.{◌≡◌, ℕ, ◌^◌, ◌<◌, ◌≤◌, List, [], ◌∷◌, ◌++◌, true, false, Option, Some, None, refl, sym, ap, ◌∙◌, subst}
 use Rattle.fir_bits.specs.Values.{BitVector}
 use Rattle.fir_meaning.specs.Paths.{Values}
 use Rattle.fir_meaning.specs.Scopes.{Kind, clock_input, is_readable, Declared, Scope, look_up}
-use Rattle.fir_meaning.specs.Laws.{Holds}
-use Rattle.fir_net.specs.declared.net.Leaf.{Leaf}
-use Rattle.fir_lower.specs.Lowered.{Bound, Binding, bound_of, leaf_number}
+use Rattle.fir_meaning.specs.working.Laws.{Holds}
+use Rattle.fir_net.specs.declared.leaf.Leaf.{Leaf}
+use Rattle.fir_lower.specs.working.Lowered.{Bound, Binding, bound_of, leaf_number}
 use Rattle.fir_lower.proofs.LoweredNodes.{Grows, Reads, reads_then}
-use Rattle.fir_lower.proofs.LoweredScopes.{found_apart, found_more}
+use Rattle.fir_meaning.proofs.LookUps.{found_more}
+use Rattle.fir_lower.proofs.LoweredScopes.{found_apart}
 
-module _ (leaves : List Leaf) (env : ℕ → ℕ) (values : Values) where
+module _ (leaves : List Leaf) (env : ℕ → ℕ) (clock_at : ℕ → Option ℕ) (values : Values) where
   -- a UInt of at most 128 bits with a value of its width, which is read where the name is bound; or a clock, whose number is there
   pub record Seen (bs : List Binding) (known : List BitVector) (n : List ℕ) (d : Declared) : Type 0 where
     pub unsigned : d.holds.signed ≡ false
@@ -18,7 +19,7 @@ module _ (leaves : List Leaf) (env : ℕ → ℕ) (values : Values) where
     pub below : (d.kind ≡ clock_input → ⊥) → values (n ∷ []) < 2 ^ d.holds.width
     pub width : is_readable d.kind ≡ true → (bound_of bs n).width ≡ d.holds.width
     pub reads : is_readable d.kind ≡ true → Reads leaves env known (bound_of bs n).read (record { width = d.holds.width; number = values (n ∷ []) })
-    pub clock : d.kind ≡ clock_input → env (leaf_number (bound_of bs n).read) ≡ values (n ∷ [])
+    pub clock : d.kind ≡ clock_input → clock_at (leaf_number (bound_of bs n).read) ≡ Some (values (n ∷ []))
 
   pub record Agrees (scope : Scope) (bs : List Binding) (known : List BitVector) : Type 0 where
     pub each : (n : List ℕ) (d : Declared) → look_up scope n ≡ Some d → Seen bs known n d
@@ -49,7 +50,7 @@ module _ (leaves : List Leaf) (env : ℕ → ℕ) (values : Values) where
   module _ (scope : Scope) (x : Declared) (new : look_up scope x.named.name ≡ None) (bs : List Binding) (known : List BitVector) (a : Agrees scope bs known) where
     -- one more declaration, which is not bound
     pub agrees_unbound : Seen bs known x.named.name x → Agrees (scope ++ x ∷ []) bs known
-    agrees_unbound s = record { each = found_more (Seen bs known) scope x new a.each s }
+    agrees_unbound s = record { each = found_more (Seen bs known) scope x a.each s }
 
     module _ (b : Bound) where
       abbrev more : List Binding
@@ -60,7 +61,7 @@ module _ (leaves : List Leaf) (env : ℕ → ℕ) (values : Values) where
 
       -- one more declaration, with its binding
       pub agrees_bound : Seen more known x.named.name x → Agrees (scope ++ x ∷ []) more known
-      agrees_bound s = record { each = found_more (Seen more known) scope x new old s }
+      agrees_bound s = record { each = found_more (Seen more known) scope x old s }
         where
           old : (n : List ℕ) (d : Declared) → look_up scope n ≡ Some d → Seen more known n d
           old n d h =
@@ -71,5 +72,5 @@ module _ (leaves : List Leaf) (env : ℕ → ℕ) (values : Values) where
                 below = s.below;
                 width = λ r. ap (λ (c : Bound). c.width) (sym (kept n d h)) ∙ s.width r;
                 reads = λ r. subst (λ (c : Bound). Reads leaves env known c.read (record { width = d.holds.width; number = values (n ∷ []) })) (kept n d h) (s.reads r);
-                clock = λ e. ap (λ (c : Bound). env (leaf_number c.read)) (sym (kept n d h)) ∙ s.clock e;
+                clock = λ e. ap (λ (c : Bound). clock_at (leaf_number c.read)) (sym (kept n d h)) ∙ s.clock e;
               }

@@ -1,19 +1,28 @@
 -- The net of a circuit has the circuit's name, and the net of a faultless circuit its ports and its state.
-use Rattle.std.proofs.Common.{◌≡◌, ℕ, List, [], ◌∷◌, IsTrue, refl, ap, ◌∙◌}
+use Rattle.std.proofs.Common.{◌≡◌, ℕ, List, [], ◌∷◌, ◌++◌, IsTrue, flat_map, refl, ap, ap₂, ◌∙◌}
+use Rattle.std.specs.List.{AllByRecursion}
+use Rattle.ver_words.specs.Names.{is_word}
 use Rattle.fir_ast.specs.Circuits.{ModuleTree, CircuitTree}
-use Rattle.fir_meaning.specs.Scopes.{Kind, input, clock_input, output, register_value}
+use Rattle.fir_meaning.specs.Scopes.{Kind, input, clock_input, output, node_value, register_value}
 use Rattle.fir_meaning.specs.Leaves.{main_module}
 use Rattle.fir_meaning.specs.Faults.{Faultless}
-use Rattle.fir_meaning.specs.Language.{is_in_language}
-use Rattle.fir_meaning.specs.Laws.{FaultlessIsClean}
-use Rattle.fir_net.specs.declared.net.Role.{Role}
-use Rattle.fir_net.specs.declared.net.Role.TheVariants as role
+use Rattle.fir_meaning.specs.Lacking.{is_in_language}
+use Rattle.fir_meaning.specs.working.Clean.{IsCleanCircuit}
+use Rattle.fir_meaning.specs.working.Laws.{FaultlessIsClean}
+use Rattle.fir_net.specs.declared.leaf.Leaf.{Leaf}
+use Rattle.fir_net.specs.Paths.{base_name}
+use Rattle.fir_net.specs.declared.leaf.Role.{Role}
+use Rattle.fir_net.specs.declared.leaf.Role.TheVariants as role
 use Rattle.fir_net.specs.Rows.{role_row, role_word, net_rows, net_words}
 use Rattle.fir_lower.specs.CircuitRows.{declared_row, declared_word, circuit_rows, circuit_words}
-use Rattle.fir_lower.specs.Lowered.{Driver, lowering, lowered_first, lowered}
+use Rattle.fir_lower.specs.working.HasWords.{HasWords}
+use Rattle.fir_lower.specs.working.Lowered.{Driver, leaves_of, lowering, lowered_first, lowered}
 use Rattle.fir_lower.proofs.LoweredLeaves.{Stands, lists}
 use Rattle.fir_lower.proofs.LoweredListed.{module_listed}
-use Rattle.fir_lower.proofs.LoweredCircuits.{main_clean, lowered_is}
+use Rattle.fir_meaning.proofs.CleanCircuits.{main_clean}
+use Rattle.fir_lower.proofs.LoweredCircuits.{lowered_is}
+use Rattle.fir_lower.proofs.WordPaths.{word_base}
+use Rattle.fir_lower.proofs.LoweredWhole.{main_words, module_paths}
 
 first_name : (name : List ℕ) (ms : List ModuleTree) → (lowered_first name ms).name ≡ name
 first_name name [] = refl
@@ -29,6 +38,7 @@ module _ (ds : List Driver) where
   same_row name own w role.Clock clock_input v e s = rw e refl
   same_row name own w (role.Output r) output v e s = rw (e, s.0) refl
   same_row name own w (role.Register r) register_value v e s = refl
+  same_row name own w (role.Wire r) node_value v e s = refl
   same_row name own w r k v e s = absurd s
 
   same_word : (name own : List ℕ) (w : ℕ) (r : Role) (k : Kind) (v : ℕ) → name ≡ own → Stands ds name w r k v → role_word r name w ≡ declared_word k own v
@@ -36,24 +46,36 @@ module _ (ds : List Driver) where
   same_word name own w role.Clock clock_input v e s = refl
   same_word name own w (role.Output r) output v e s = refl
   same_word name own w (role.Register r) register_value v e s = rw (e, s.0) refl
+  same_word name own w (role.Wire r) node_value v e s = refl
   same_word name own w r k v e s = absurd s
 
-pub lowered_ports : FaultlessIsClean → (c : CircuitTree) → IsTrue (is_in_language c) → Faultless c → net_rows (lowered c) ≡ circuit_rows c
-lowered_ports law c language faultless =
-    let k = law c language faultless in
-    let clean = main_clean c k in
-    let ds = (lowering (main_module c)).drivers in
-    ap net_rows (lowered_is c k)
-    ∙ lists ds (λ l. role_row l.role l.name l.width) (λ d. declared_row d.kind d.named.name d.holds.width)
-    (λ l d i. same_row ds l.name d.named.name l.width l.role d.kind d.holds.width i.name i.stands)
-    (λ d e. ap (λ (k : Kind). declared_row k d.named.name d.holds.width) e) (module_listed (main_module c) clean)
+-- in the net of a faultless circuit each path is its own base name
+paths_based : {A : Type 0} → (f : Leaf → List ℕ → List A) (ls : List Leaf) → AllByRecursion (λ l. IsTrue (is_word l.path)) ls
+    → flat_map (λ l. f l (base_name l.path)) ls ≡ flat_map (λ l. f l l.path) ls
+paths_based f [] h = refl
+paths_based f (l ∷ ls) h = ap₂ (λ x y. x ++ y) (ap (f l) (word_base l.path h.0)) (paths_based f ls h.1)
 
-pub lowered_words : FaultlessIsClean → (c : CircuitTree) → IsTrue (is_in_language c) → Faultless c → net_words (lowered c) ≡ circuit_words c
-lowered_words law c language faultless =
-    let k = law c language faultless in
-    let clean = main_clean c k in
-    let ds = (lowering (main_module c)).drivers in
-    ap net_words (lowered_is c k)
-    ∙ lists ds (λ l. role_word l.role l.name l.width) (λ d. declared_word d.kind d.named.name d.holds.width)
-    (λ l d i. same_word ds l.name d.named.name l.width l.role d.kind d.holds.width i.name i.stands)
-    (λ d e. ap (λ (k : Kind). declared_word k d.named.name d.holds.width) e) (module_listed (main_module c) clean)
+module _ (law : FaultlessIsClean) (c : CircuitTree) (language : IsTrue (is_in_language c)) (words : HasWords c) (faultless : Faultless c) where
+  abbrev k : IsCleanCircuit c
+  k = law c language faultless
+
+  abbrev m : ModuleTree
+  m = main_module c
+
+  abbrev drivers : List Driver
+  drivers = (lowering m).drivers
+
+  based : AllByRecursion (λ l. IsTrue (is_word l.path)) (leaves_of (lowering m) m.ports)
+  based = module_paths m (main_clean c k) (main_words c k words)
+
+  pub lowered_ports : net_rows (lowered c) ≡ circuit_rows c
+  lowered_ports =
+      ap net_rows (lowered_is c k) ∙ paths_based (λ l n. role_row l.role n l.width) (leaves_of (lowering m) m.ports) based
+      ∙ lists drivers (λ l. role_row l.role l.path l.width) (λ d. declared_row d.kind d.named.name d.holds.width)
+      (λ l d i. same_row drivers l.path d.named.name l.width l.role d.kind d.holds.width i.name i.stands) (module_listed m (main_clean c k))
+
+  pub lowered_words : net_words (lowered c) ≡ circuit_words c
+  lowered_words =
+      ap net_words (lowered_is c k) ∙ paths_based (λ l n. role_word l.role n l.width) (leaves_of (lowering m) m.ports) based
+      ∙ lists drivers (λ l. role_word l.role l.path l.width) (λ d. declared_word d.kind d.named.name d.holds.width)
+      (λ l d i. same_word drivers l.path d.named.name l.width l.role d.kind d.holds.width i.name i.stands) (module_listed m (main_clean c k))

@@ -1,24 +1,25 @@
 -- The net of a faultless circuit has the circuit's shape.
 -- It has as many clocks, and inputs, outputs and registers of the same widths.
-use Rattle.std.proofs.Common.{◌≡◌, ℕ, List, IsTrue, length, map, unwrap_or, option_map, refl, sym, ap, ◌∙◌}
+use Rattle.std.proofs.Common.{◌≡◌, ℕ, List, IsTrue, true, false, length, map, unwrap_or, option_map, refl, sym, ap, ◌∙◌}
 use Rattle.std.proofs.lemmas.List.{length-map}
 use Rattle.fir_base.specs.Ticks.{Shape}
 use Rattle.fir_ast.specs.Circuits.{CircuitTree}
 use Rattle.fir_meaning.specs.Paths.{Path}
 use Rattle.fir_meaning.specs.Leaves.{Leaf, input_leaves, output_leaves, register_leaves, outputs, main_module, main_scope, clocks, shape}
-use Rattle.fir_meaning.specs.Clean.{IsCleanModule}
+use Rattle.fir_meaning.specs.working.Clean.{IsCleanModule}
 use Rattle.fir_meaning.specs.Faults.{Faultless}
-use Rattle.fir_meaning.specs.Language.{is_in_language}
-use Rattle.fir_meaning.specs.Laws.{FaultlessIsClean}
+use Rattle.fir_meaning.specs.Lacking.{is_in_language}
+use Rattle.fir_meaning.specs.working.Laws.{FaultlessIsClean}
 use Rattle.fir_net.specs.declared.net.FlatNet.{FlatNet}
-use Rattle.fir_net.specs.declared.net.Leaf.{Leaf as NetLeaf}
-use Rattle.fir_net.specs.Values.{leaf_width}
-use Rattle.fir_net.specs.Settled.{input_number, output_number, register_number, shape as net_shape, clocks as net_clocks, outputs as net_outputs}
-use Rattle.fir_lower.specs.Lowered.{Driver, lowering, lowered_module, lowered}
+use Rattle.fir_net.specs.declared.leaf.Leaf.{Leaf as NetLeaf}
+use Rattle.fir_net.specs.working.Values.{leaf_width}
+use Rattle.fir_net.specs.working.Settled.{is_clock, input_number, output_number, register_number, shape as net_shape, clocks as net_clocks, outputs as net_outputs}
+use Rattle.fir_lower.specs.working.Lowered.{Driver, lowering, lowered_module, lowered}
 use Rattle.fir_lower.proofs.LoweredEach.{EachFrom, each_zero}
 use Rattle.fir_lower.proofs.LoweredListed.{module_listed}
 use Rattle.fir_lower.proofs.LoweredNumbers.{same_lists, same_clocks, input_picks, output_picks, register_picks, input_matches, output_matches, register_matches}
-use Rattle.fir_lower.proofs.LoweredCircuits.{main_clean, lowered_is}
+use Rattle.fir_meaning.proofs.CleanCircuits.{main_clean}
+use Rattle.fir_lower.proofs.LoweredCircuits.{lowered_is}
 
 same_shape : (w v s t : List ℕ) (k n : ℕ) → w ≡ v → k ≡ n → s ≡ t → ◌≡◌ {A = Shape} (record { inputs = w; clocks = k; state = s }) (record { inputs = v; clocks = n; state = t })
 same_shape w v s t k n e f g = rw (e, f, g) refl
@@ -30,8 +31,10 @@ module _ (c : CircuitTree) (clean : IsCleanModule (main_module c)) where
   abbrev drivers : List Driver
   drivers = (lowering (main_module c)).drivers
 
-  widths : EachFrom (λ i l. leaf_width the_net.leaves i ≡ l.width) 0 the_net.leaves
-  widths = each_zero (λ i l. leaf_width the_net.leaves i ≡ l.width) the_net.leaves (λ i l h. ap (λ o. unwrap_or (option_map (λ (x : NetLeaf). x.width) o) 0) h)
+  widths : EachFrom (λ i l. is_clock l.role ≡ false → leaf_width the_net.leaves i ≡ l.width) 0 the_net.leaves
+  widths =
+      each_zero (λ i l. is_clock l.role ≡ false → leaf_width the_net.leaves i ≡ l.width) the_net.leaves
+      (λ i l h n. ap (λ o. unwrap_or (option_map (λ (x : NetLeaf). x.width) o) 0) h)
 
   input_widths : (net_shape the_net).inputs ≡ (shape c).inputs
   input_widths =
@@ -51,7 +54,7 @@ module _ (c : CircuitTree) (clean : IsCleanModule (main_module c)) where
   counts : map {B = ℕ} (λ (k : ℕ). 0) (net_clocks the_net) ≡ map {B = ℕ} (λ (x : Path). 0) (clocks c)
   counts =
       same_clocks {A = ℕ} (λ (k : ℕ). 0) (λ (x : Path). 0) drivers the_net.leaves (main_scope c) (module_listed (main_module c) clean)
-      (each_zero (λ i (l : NetLeaf). ◌≡◌ {A = ℕ} 0 0) the_net.leaves (λ i l h. refl))
+      (each_zero (λ i (l : NetLeaf). is_clock l.role ≡ true → ◌≡◌ {A = ℕ} 0 0) the_net.leaves (λ i l h n. refl))
 
   as_many_clocks : length (net_clocks the_net) ≡ length (clocks c)
   as_many_clocks =

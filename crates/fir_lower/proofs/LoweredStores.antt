@@ -14,11 +14,12 @@ use Rattle.fir_meaning.specs.Scopes.{Declared, Scope, look_up}
 use Rattle.fir_meaning.specs.Leaves.{leaves_of, leaves_found}
 use Rattle.fir_meaning.specs.Eval.{eval}
 use Rattle.fir_meaning.specs.Exec.{fit, pairs, drive_all, all_true, exec}
-use Rattle.fir_net.specs.declared.net.Leaf.{Leaf}
+use Rattle.fir_net.specs.declared.leaf.Leaf.{Leaf}
 use Rattle.fir_net.specs.declared.reads.Read.{Read}
-use Rattle.fir_lower.specs.Lowered.{Driver, driver_of}
+use Rattle.fir_lower.specs.working.Lowered.{Driver, driver_of}
 use Rattle.fir_lower.proofs.LoweredNodes.{Grows, Reads, reads_then}
-use Rattle.fir_lower.proofs.LoweredScopes.{name_is, found_in}
+use Rattle.fir_base.proofs.SameNames.{name_is}
+use Rattle.fir_meaning.proofs.LookUps.{found_in}
 
 driven : (d : Declared) (v : Num) (store : Store) → drive_all [] (pairs (leaves_of [] d) (v ∷ [])) store ≡ stored_at (d.named.name ∷ []) (fit v d.holds) store
 driven d v store = ap (λ (bs : List Bool). if all_true bs then stored_at (d.named.name ∷ []) (fit v d.holds) store else store) (drop-nil {A = Bool} d.depth)

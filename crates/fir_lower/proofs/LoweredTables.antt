@@ -1,5 +1,5 @@
 -- What the tables of a lowering say, and how they grow.
-use Rattle.std.proofs.Common.{◌≡◌, ℕ, ◌+◌, List, [], ◌∷◌, ◌++◌, length, Bool, true, false, cond, Option, Some, refl, ap, ◌∙◌}
+use Rattle.std.proofs.Common.{◌≡◌, ℕ, ◌+◌, List, [], ◌∷◌, ◌++◌, length, Bool, true, false, cond, Option, Some, refl, ap, ◌∙◌, subst}
 use Rattle.std.specs.Prelude.{unwrap_or}
 use Rattle.std.specs.BTreeMap.{BTreeMap, get}
 use Rattle.std.specs.BTreeMap as tree
@@ -11,13 +11,14 @@ use Rattle.fir_net.specs.declared.reads.Read.{Read}
 use Rattle.fir_net.specs.declared.reads.Read.TheVariants as read
 use Rattle.fir_base.specs.declared.direction.Direction.TheVariants.{Input}
 use Rattle.fir_ast.specs.declared.place.Place.{Place}
-use Rattle.fir_ast.specs.Types.{DataType}
 use Rattle.fir_ast.specs.Expressions.{Expression}
-use Rattle.fir_ast.specs.Statements.{Named, Sink, Statement, node, connect}
+use Rattle.fir_ast.specs.Statements.{PlacedName, Sink, Statement, node, connect}
 use Rattle.fir_ast.specs.Circuits.{PortTree}
+use Rattle.fir_lower.specs.declared.inner.InnerLeaf.{InnerLeaf}
 use Rattle.fir_lower.specs.declared.tables.Tables.{Tables}
-use Rattle.fir_lower.specs.Lowered.{Bound, Binding, nowhere, Driver, nodes_with, bound_with, Lowering, with_register, with_statement, leaf_width, clock_number, input_binding}
-use Rattle.fir_lower.specs.Tabled.{HasBounds, HasDrivers, IsTabled}
+use Rattle.fir_lower.specs.working.Lowered.{Bound, Binding, nowhere, Driver, nodes_with, bound_with, bound_in, inner_node, Lowering, with_leaf, with_nodes, with_statement, leaf_width, input_binding}
+use Rattle.fir_lower.specs.working.Tabled.{HasBounds, HasDrivers, IsTabled}
+use Rattle.fir_lower.proofs.SharedNodes.{once_with}
 
 -- a look-up in a map with one more entry
 updated : {X : Type 0} → (m n : BTreeMap (List ℕ) X) (name : List ℕ) (x : X) → tree.Updates (slice_cmp nat_cmp) m n name (Some x) → (q : List ℕ)
@@ -39,44 +40,53 @@ driver_first : (m n : BTreeMap (List ℕ) Read) (ds : List Driver) (name : List 
     → HasDrivers n (record { sink = name; source = r } ∷ ds)
 driver_first m n ds name r u h = record { each = λ q. updated m n name r u q ∙ ap (cond (bytes_eq name q) (Some r)) (h.each q) }
 
-pub input_first : (m n : BTreeMap (List ℕ) Bound) (bs : List Binding) (p : PortTree) (k : ℕ) (name : List ℕ) (w : ℕ) → name ≡ p.named.name → w ≡ leaf_width p.data_type
-    → tree.Updates (slice_cmp nat_cmp) m n name (Some (record { read = read.Leaf k; width = w })) → HasBounds m bs → HasBounds n (input_binding Input k p ++ bs)
-input_first m n bs p k name w e f u h = rw (← e, ← f) (bound_first m n bs name (record { read = read.Leaf k; width = w }) u h)
+pub input_first : (m n : BTreeMap (List ℕ) Bound) (bs : List Binding) (p : PortTree) (k j : ℕ) (name : List ℕ) (w : ℕ) → name ≡ p.named.name → w ≡ leaf_width p.data_type → j ≡ k
+    → tree.Updates (slice_cmp nat_cmp) m n name (Some (record { read = read.Leaf j; width = w })) → HasBounds m bs → HasBounds n (input_binding Input k p ++ bs)
+input_first m n bs p k j name w e f at u h = rw (← e, ← f, ← at) (bound_first m n bs name (record { read = read.Leaf j; width = w }) u h)
 
--- the tables behind a node, a connect and a register
-pub node_kept : (t u : Tables) (l : Lowering) (name : List ℕ) (b : Bound) (s : Statement) (p : Place) (n : Named) (e : Expression) → s ≡ node p n e
-    → tree.Updates (slice_cmp nat_cmp) t.bindings u.bindings name (Some b) → name ≡ n.name → b ≡ bound_with l.bindings t.nodes.items e
-    → u.nodes.items ≡ nodes_with l.bindings t.nodes.items e → u.drivers ≡ t.drivers → u.ports ≡ t.ports → u.registers ≡ t.registers → IsTabled t l
-    → IsTabled u (with_statement l s)
-node_kept t u l name b s p n e tree up i is nodes same ports registers r = rw tree (record {
+-- the tables with the nodes of an expression
+pub nodes_kept : (t u : Tables) (l : Lowering) (e : Expression) → u.nodes.keys ≡ nodes_with l.bindings t.nodes.keys e → u.bindings ≡ t.bindings → u.drivers ≡ t.drivers
+    → u.ports ≡ t.ports → u.inner ≡ t.inner → IsTabled t l → IsTabled u (with_nodes l e)
+nodes_kept t u l e nodes bindings drivers ports inner r = record {
   ports = ports ∙ r.ports;
-  bindings = rw (← i, ← r.nodes, ← is) (bound_first t.bindings u.bindings l.bindings name b up r.bindings);
+  bindings = rw bindings r.bindings;
   nodes = nodes ∙ ap (λ ns. nodes_with l.bindings ns e) r.nodes;
-  drivers = rw same r.drivers;
-  registers = rw registers r.registers;
-})
+  once = rw nodes (once_with l.bindings t.nodes.keys e r.once);
+  drivers = rw drivers r.drivers;
+  inner = rw inner r.inner;
+}
+
+-- and behind a node, with its leaf
+pub node_kept : (t m u : Tables) (l : Lowering) (b : Bound) (s : Statement) (p : Place) (n : PlacedName) (e : Expression) → s ≡ node p n e
+    → ((k : Lowering) → IsTabled m k → IsTabled u (with_leaf k (inner_node n b))) → b ≡ bound_with l.bindings t.nodes.keys e
+    → m.nodes.keys ≡ nodes_with l.bindings t.nodes.keys e → m.bindings ≡ t.bindings → m.drivers ≡ t.drivers → m.ports ≡ t.ports → m.inner ≡ t.inner → IsTabled t l
+    → IsTabled u (with_statement l s)
+node_kept t m u l b s p n e tree leaf is nodes bindings drivers ports inner r =
+    let same : b ≡ bound_in l e = is ∙ ap (λ ns. bound_with l.bindings ns e) r.nodes in
+    rw tree (subst (λ (c : Bound). IsTabled u (with_leaf (with_nodes l e) (inner_node n c))) same (leaf (with_nodes l e) (nodes_kept t m l e nodes bindings drivers ports inner r)))
 
 pub connect_kept : (t u : Tables) (l : Lowering) (name : List ℕ) (source : Read) (s : Statement) (p : Place) (n : Sink) (e : Expression) → s ≡ connect p n e
-    → tree.Updates (slice_cmp nat_cmp) t.drivers u.drivers name (Some source) → name ≡ n.name → source ≡ (bound_with l.bindings t.nodes.items e).read
-    → u.nodes.items ≡ nodes_with l.bindings t.nodes.items e → u.bindings ≡ t.bindings → u.ports ≡ t.ports → u.registers ≡ t.registers → IsTabled t l
+    → tree.Updates (slice_cmp nat_cmp) t.drivers u.drivers name (Some source) → name ≡ n.name → source ≡ (bound_with l.bindings t.nodes.keys e).read
+    → u.nodes.keys ≡ nodes_with l.bindings t.nodes.keys e → u.bindings ≡ t.bindings → u.ports ≡ t.ports → u.inner ≡ t.inner → IsTabled t l
     → IsTabled u (with_statement l s)
-connect_kept t u l name source s p n e tree up i is nodes same ports registers r = rw tree (record {
+connect_kept t u l name source s p n e tree up i is nodes same ports inner r = rw tree (record {
   ports = ports ∙ r.ports;
   bindings = rw same r.bindings;
   nodes = nodes ∙ ap (λ ns. nodes_with l.bindings ns e) r.nodes;
+  once = rw nodes (once_with l.bindings t.nodes.keys e r.once);
   drivers = rw (← i, ← r.nodes, ← is) (driver_first t.drivers u.drivers l.drivers name source up r.drivers);
-  registers = rw registers r.registers;
+  inner = rw inner r.inner;
 })
 
-pub register_kept : (t u : Tables) (l : Lowering) (name key : List ℕ) (own : List ℕ) (ty : DataType) (c : Expression) (number width clock : ℕ) → IsTabled t l
-    → name ≡ own → key ≡ own
-    → tree.Updates (slice_cmp nat_cmp) t.bindings u.bindings key (Some (record { read = read.Leaf number; width = width })) → number ≡ t.ports + length t.registers.items
-    → width ≡ leaf_width ty → clock ≡ clock_number l.bindings c → u.registers.items ≡ t.registers.items ++ record { name = name; width = width; clock = clock } ∷ []
-    → u.nodes ≡ t.nodes → u.drivers ≡ t.drivers → u.ports ≡ t.ports → IsTabled u (with_register l own ty c)
-register_kept t u l name key own ty c number width clock r named keyed up at wide clocked registers nodes drivers ports = record {
+-- the tables with one more leaf
+pub leaf_kept : (t u : Tables) (l : Lowering) (x : InnerLeaf) (name : List ℕ) (number : ℕ) → IsTabled t l → name ≡ x.name
+    → tree.Updates (slice_cmp nat_cmp) t.bindings u.bindings name (Some (record { read = read.Leaf number; width = x.width })) → number ≡ t.ports + length t.inner.items
+    → u.inner.items ≡ t.inner.items ++ x ∷ [] → u.nodes ≡ t.nodes → u.drivers ≡ t.drivers → u.ports ≡ t.ports → IsTabled u (with_leaf l x)
+leaf_kept t u l x name number r named up at inner nodes drivers ports = record {
   ports = ports ∙ r.ports;
-  bindings = rw (← keyed, ← r.ports, ← r.registers, ← at, ← wide) (bound_first t.bindings u.bindings l.bindings key (record { read = read.Leaf number; width = width }) up r.bindings);
+  bindings = rw (← named, ← r.ports, ← r.inner, ← at) (bound_first t.bindings u.bindings l.bindings name (record { read = read.Leaf number; width = x.width }) up r.bindings);
   nodes = rw nodes r.nodes;
+  once = rw nodes r.once;
   drivers = rw drivers r.drivers;
-  registers = registers ∙ rw (named, wide, clocked, r.registers) refl;
+  inner = inner ∙ ap (λ xs. xs ++ x ∷ []) r.inner;
 }

@@ -1,111 +1,197 @@
--- The net of a faultless circuit is whole.
--- Its names are words, the registers stand behind the ports, each node stands over those before it, each output is driven by what can be read, and each
--- register is clocked by a clock.
-use Rattle.std.proofs.Common.{◌≡◌, ℕ, List, [], ◌∷◌, ◌++◌, length, map, IsTrue, Option, Some, None, unwrap_or, refl, sym, inl, inr, subst}
+-- The net of a faultless circuit is whole, it has a Verilog text, and no leaf of it hangs on itself.
+-- Its names are words, the other leaves stand behind the ports, each node stands over those before it, each output is driven by what can be read, and each
+-- register is clocked by a clock. A leaf stands higher than the nodes and leaves that it hangs on.
+use Rattle.std.proofs.Common.{◌≡◌, ℕ, ◌+◌, ◌<◌, List, [], length, map, slice_get, IsTrue, Option, Some, None, unwrap_or, refl, sym, ap, ◌∙◌, ⊎_elim, subst, arith}
 use Rattle.std.specs.List.{AllByRecursion}
 use Rattle.std.proofs.lemmas.List.{length-map}
 use Rattle.fir_base.specs.Lists.{In}
 use Rattle.fir_base.specs.declared.direction.Direction.{Direction}
 use Rattle.fir_base.specs.declared.direction.Direction.TheVariants as direction
-use Rattle.ver_ast.specs.Names.{is_word}
+use Rattle.ver_words.specs.Names.{is_word}
 use Rattle.fir_ast.specs.Types.{DataType, clock}
 use Rattle.fir_ast.specs.Circuits.{PortTree, ModuleTree, CircuitTree}
 use Rattle.fir_net.specs.declared.reads.Read.{Read}
 use Rattle.fir_net.specs.declared.reads.Read.TheVariants as read
-use Rattle.fir_net.specs.declared.net.Leaf.{Leaf}
-use Rattle.fir_net.specs.declared.net.Node.{Node}
-use Rattle.fir_net.specs.IsNet.{CanRead, CanBeRead, IsRole, IsLeaf, IsNet}
+use Rattle.fir_net.specs.declared.leaf.Role.{Role}
+use Rattle.fir_net.specs.declared.leaf.Leaf.{Leaf}
+use Rattle.fir_net.specs.declared.node.Node.{Node}
+use Rattle.fir_net.specs.declared.net.FlatNet.{FlatNet}
+use Rattle.fir_net.specs.Paths.{base_name}
+use Rattle.fir_net.specs.working.Dependence.{support_of, role_reads, leaf_reads, node_reads, Reads}
+use Rattle.fir_net.specs.working.HasHeights.{HasHeights}
+use Rattle.fir_net.specs.working.IsNet.{CanBeRead, IsRole, IsLeaf, IsNet}
+use Rattle.fir_net.specs.working.IsWritable.{IsWritableRole, IsWritable}
 use Rattle.fir_meaning.specs.Scopes.{port_declared}
-use Rattle.fir_meaning.specs.Faults.{Faultless}
-use Rattle.fir_meaning.specs.Language.{is_in_language}
-use Rattle.fir_meaning.specs.Clean.{IsCleanModule}
-use Rattle.fir_meaning.specs.Laws.{FaultlessIsClean}
-use Rattle.fir_lower.specs.HasWords.{ModuleHasWords, HasWords}
-use Rattle.fir_lower.specs.Lowered.{leaf_width, RegisterLeaf, input_role, port_bindings, port_role, port_leaf, register_leaf, leaves_of, Lowering, lowering, lowered_module, lowered_first, lowered}
-use Rattle.fir_lower.proofs.ListParts.{StandsAt, stands_first, stands_last}
+use Rattle.fir_meaning.specs.Leaves.{main_module}
+use Rattle.fir_meaning.specs.working.Clean.{IsCleanModule, IsCleanCircuit}
+use Rattle.fir_meaning.proofs.CleanCircuits.{main_is, main_clean}
+use Rattle.fir_lower.specs.declared.inner.InnerRole.{InnerRole}
+use Rattle.fir_lower.specs.declared.inner.InnerRole.TheVariants as inner_role
+use Rattle.fir_lower.specs.declared.inner.InnerLeaf.{InnerLeaf}
+use Rattle.fir_lower.specs.working.HasWords.{ModuleHasWords, HasWords}
+use Rattle.fir_lower.specs.working.Lowered.{leaf_width, driver_of, input_role, port_role, port_leaf, role_of, inner_leaf, Lowering, next_number, lowering, lowered_module, lowered}
+use Rattle.fir_base.proofs.Each.{all_from}
+use Rattle.fir_base.proofs.Elements.{get_in, all_there, number_of}
+use Rattle.fir_lower.proofs.ListParts.{stands_first}
+use Rattle.fir_lower.proofs.LoweredIndexes.{IsBehind, get_either, get_before}
+use Rattle.fir_lower.proofs.LoweredEach.{from_each}
+use Rattle.fir_lower.proofs.LoweredLists.{begun, body_ports}
+use Rattle.fir_lower.proofs.LoweredPlaces.{inner_at, inner_each}
+use Rattle.fir_lower.proofs.LoweredCircuits.{lowered_is}
+use Rattle.fir_lower.proofs.WordPaths.{word_base}
 use Rattle.fir_lower.proofs.BoundLeaves.{width_narrow}
+use Rattle.fir_lower.proofs.NetGrowth.{Ground, IsReadable}
 use Rattle.fir_lower.proofs.CleanPorts.{bindings_bind}
 use Rattle.fir_lower.proofs.PortsFirst.{ports_stand_first}
 use Rattle.fir_lower.proofs.DrivenSinks.{connected_driven}
-use Rattle.fir_lower.proofs.WholeStatements.{IsRegister, IsLowering}
+use Rattle.fir_lower.proofs.ModuleHeights.{port_height, ground, port_stands, ports_low, inner_high}
+use Rattle.fir_lower.proofs.WholeStatements.{CanDrive, RoleIs, IsInner, IsLowering}
 use Rattle.fir_lower.proofs.WholeBodies.{IsWholeBody, body_lowered}
 
--- the roles of inputs, and of an output that is driven
-input_whole : (leaves : List Leaf) (nodes : List Node) (t : DataType) → IsRole leaves nodes (leaf_width t) (input_role t)
-input_whole leaves nodes clock = refl
-input_whole leaves nodes t = tt
+pub record IsWholeNet (net : FlatNet) : Type 0 where
+  pub whole : IsNet net
+  pub writable : IsWritable net
+  pub heights : HasHeights net
 
-source_read : (leaves : List Leaf) (nodes : List Node) (o : Option Read) (r : Read) → o ≡ Some r → CanBeRead leaves nodes o → CanRead leaves nodes (unwrap_or o (read.Leaf 0))
-source_read leaves nodes None r e h = let n : None ≡ Some r = e in cc
-source_read leaves nodes (Some x) r e h = h
+word_path : (n : List ℕ) → IsTrue (is_word n) → IsTrue (is_word (base_name n))
+word_path n w = ap is_word (word_base n w) ∙ w
 
--- all of two lists
-all_of_both : {A : Type 0} → (P : A → Type 0) (xs ys : List A) → AllByRecursion P xs → AllByRecursion P ys → AllByRecursion P (xs ++ ys)
-all_of_both P [] ys h k = k
-all_of_both P (x ∷ xs) ys h k = (h.0, all_of_both P xs ys h.1 k)
+-- a role of the leaf of that number that is whole, has a Verilog text, and hangs on what stands lower
+record IsWholeRole (g : Ground) (nodes : List Node) (k width : ℕ) (r : Role) : Type 0 where
+  pub is : IsRole g.leaves nodes width r
+  pub writable : IsWritableRole r
+  pub falls : AllByRecursion (λ x. g.height x < g.height (read.Leaf k)) (role_reads r)
+
+record IsWholeLeaf (g : Ground) (nodes : List Node) (k : ℕ) (l : Leaf) : Type 0 where
+  pub word : IsTrue (is_word l.path)
+  pub leaf : IsLeaf g.leaves nodes l
+  pub role : IsWholeRole g nodes k l.width l.role
+
+input_whole : (g : Ground) (nodes : List Node) (k : ℕ) (t : DataType) → IsWholeRole g nodes k (leaf_width t) (input_role t)
+input_whole g nodes k clock = record { is = refl; writable = tt; falls = tt }
+input_whole g nodes k t = record { is = tt; writable = tt; falls = tt }
+
+-- what drives a sink that is driven
+source_there : (g : Ground) (nodes : List Node) (number : ℕ) (o : Option Read) (r : Read) → o ≡ Some r → CanDrive g nodes number o → IsReadable g nodes number (unwrap_or o (read.Leaf 0))
+source_there g nodes number None r e h = let n : None ≡ Some r = e in cc
+source_there g nodes number (Some x) r e h = h
+
+source_reads : (g : Ground) (nodes : List Node) (number : ℕ) (o : Option Read) → CanDrive g nodes number o → CanBeRead g.leaves nodes o
+source_reads g nodes number None h = tt
+source_reads g nodes number (Some r) h = h.reads
 
 module _ (m : ModuleTree) (clean : IsCleanModule m) (words : ModuleHasWords m) where
-  abbrev begun : Lowering
-  begun = record { ports = length m.ports; bindings = port_bindings [] 0 m.ports; nodes = []; drivers = []; registers = [] }
-
   abbrev ended : Lowering
   ended = lowering m
 
-  abbrev whole_leaves : List Leaf
-  whole_leaves = leaves_of ended m.ports
+  abbrev number : ℕ
+  number = next_number ended
 
-  begun_is : IsLowering whole_leaves (map port_declared m.ports) begun
-  begun_is =
-      let ports = stands_first (map (port_leaf ended.drivers) m.ports) (map (register_leaf ended.drivers) ended.registers) in
-      record {
-        binds = bindings_bind whole_leaves ended.drivers 0 [] [] m.ports clean.ports ports (record { each = λ n d h. cc });
-        nodes = tt;
-        sources = λ name. tt;
-        registers = tt;
-      }
+  abbrev g : Ground
+  g = ground m
 
-  body_whole : IsWholeBody whole_leaves ended
-  body_whole =
-      let registers = stands_last (map (port_leaf ended.drivers) m.ports) (map (register_leaf ended.drivers) ended.registers) in
-      body_lowered whole_leaves ended.drivers (map port_declared m.ports) begun m.body begun_is clean.body words.1
-      (subst (λ (k : ℕ). StandsAt whole_leaves k (map (register_leaf ended.drivers) ended.registers)) (length-map m.ports (port_leaf ended.drivers)) registers)
+  abbrev front : List Leaf
+  front = map (port_leaf ended.drivers) m.ports
 
-  port_driven : (d : Direction) (p : PortTree) → In m.ports p → p.direction ≡ d
-      → IsRole whole_leaves ended.nodes (leaf_width p.data_type) (port_role d p.data_type ended.drivers p.named.name)
-  port_driven direction.Input p i e = input_whole whole_leaves ended.nodes p.data_type
-  port_driven direction.Output p i e =
-      let driven = connected_driven begun m.body p.named.name (clean.connected p i e) in
-      source_read whole_leaves ended.nodes _ driven.source driven.found (body_whole.sources p.named.name)
+  abbrev back : List Leaf
+  back = map (inner_leaf ended.drivers) ended.inner
 
-  ports_whole : (ps : List PortTree) → ((p : PortTree) → In ps p → In m.ports p) → AllByRecursion (λ p. IsTrue (is_word p.named.name)) ps
-      → AllByRecursion (IsLeaf whole_leaves ended.nodes) (map (port_leaf ended.drivers) ps)
-  ports_whole [] i w = tt
-  ports_whole (p ∷ ps) i w = (
-    record { word = w.0; narrow = width_narrow p.data_type; driven = port_driven p.direction p (i p (inl refl)) refl },
-    ports_whole ps (λ q j. i q (inr j)) w.1,
-  )
-
-  registers_whole : (rs : List RegisterLeaf) → AllByRecursion (IsRegister whole_leaves) rs → AllByRecursion (IsLeaf whole_leaves ended.nodes) (map (register_leaf ended.drivers) rs)
-  registers_whole [] h = tt
-  registers_whole (r ∷ rs) h =
-      (record { word = h.0.word; narrow = h.0.narrow; driven = (h.0.clocked, body_whole.sources r.name) }, registers_whole rs h.1)
-
-  module_whole : (name : List ℕ) → IsTrue (is_word name) → IsNet (lowered_module name m)
-  module_whole name w = record {
-    word = w;
-    leaves =
-        all_of_both (IsLeaf whole_leaves ended.nodes) (map (port_leaf ended.drivers) m.ports) (map (register_leaf ended.drivers) ended.registers)
-        (ports_whole m.ports (λ p i. i) words.0) (registers_whole ended.registers body_whole.registers);
-    ports_first = ports_stand_first ended.drivers m.ports ended.registers;
-    nodes = body_whole.nodes;
+  begun_is : IsLowering g (map port_declared m.ports) (begun m.ports)
+  begun_is = record {
+    nodes = record { are = tt; good = λ k n h. cc };
+    parts = record {
+      binds = bindings_bind g ended.drivers (next_number (begun m.ports)) 0 [] [] m.ports clean.ports (stands_first front back) (ports_low m) (record { each = λ n d h. cc });
+      sources = λ name. tt;
+      inner = tt;
+    };
   }
 
-first_whole : (name : List ℕ) (ms : List ModuleTree) (m : ModuleTree) → ms ≡ m ∷ [] → IsCleanModule m → IsTrue (is_word name) → AllByRecursion ModuleHasWords ms
-    → IsNet (lowered_first name ms)
-first_whole name ms m e clean w words =
-    subst (λ (x : List ModuleTree). IsNet (lowered_first name x)) (sym e) (module_whole m clean (subst (AllByRecursion ModuleHasWords) e words).0 name w)
+  body_whole : IsWholeBody g ended
+  body_whole =
+      body_lowered g ended.drivers (map port_declared m.ports) (begun m.ports) m.body begun_is clean.body words.1 (omega arith)
+      (inner_each m (λ k x. slice_get g.leaves k ≡ Some (inner_leaf ended.drivers x)) (inner_at m)) (inner_high m)
 
-pub lowered_whole : FaultlessIsClean → (c : CircuitTree) → IsTrue (is_in_language c) → HasWords c → Faultless c → IsNet (lowered c)
-unfolding lowered
-lowered_whole law c language words faultless =
-    let clean = law c language faultless in first_whole c.named.name c.modules clean.main clean.only clean.clean words.own words.modules
+  port_whole : (d : Direction) (k : ℕ) (p : PortTree) → In m.ports p → p.direction ≡ d → g.height (read.Leaf k) ≡ port_height m d
+      → IsWholeRole g ended.nodes k (leaf_width p.data_type) (port_role d p.data_type ended.drivers p.named.name)
+  port_whole direction.Input k p i e h = input_whole g ended.nodes k p.data_type
+  port_whole direction.Output k p i e h =
+      let driven = connected_driven (begun m.ports) m.body p.named.name (clean.connected p i e) in
+      let there = source_there g ended.nodes number (driver_of ended.drivers p.named.name) driven.source driven.found (body_whole.sources p.named.name) in
+      let low = there.low in
+      let up = g.rises (length ended.nodes) in
+      record { is = there.reads; writable = tt; falls = (omega arith, tt) }
+
+  role_whole : (k width : ℕ) (name : List ℕ) (r : InnerRole) → RoleIs g ended.nodes number k r → IsWholeRole g ended.nodes k width (role_of ended.drivers name r)
+  role_whole k width name (inner_role.Register c) h =
+      record { is = (h, tt, source_reads g ended.nodes number (driver_of ended.drivers name) (body_whole.sources name)); writable = refl; falls = tt }
+  role_whole k width name (inner_role.Node r) h = record { is = h.0.reads; writable = tt; falls = (h.1, tt) }
+
+  port_leaf_whole : (k : ℕ) (p : PortTree) → slice_get m.ports k ≡ Some p → IsWholeLeaf g ended.nodes k (port_leaf ended.drivers p)
+  port_leaf_whole k p h =
+      let role = port_whole p.direction k p (get_in m.ports k p h) refl (port_stands m k p h) in
+      let word = all_there (λ (q : PortTree). IsTrue (is_word q.named.name)) m.ports words.0 k p h in
+      record { word = word; leaf = record { word = word_path p.named.name word; narrow = width_narrow p.data_type; driven = role.is }; role = role }
+
+  inner_leaf_whole : (k : ℕ) (x : InnerLeaf) → IsInner g ended.nodes number k x → IsWholeLeaf g ended.nodes k (inner_leaf ended.drivers x)
+  inner_leaf_whole k x h =
+      let role = role_whole k x.width x.name x.role h.role in
+      record { word = h.word; leaf = record { word = word_path x.name h.word; narrow = h.narrow; driven = role.is }; role = role }
+
+  leaf_whole : (k : ℕ) (l : Leaf) → slice_get g.leaves k ≡ Some l → IsWholeLeaf g ended.nodes k l
+  leaf_whole k l h =
+      ⊎_elim
+      (λ (f : slice_get front k ≡ Some l).
+      let p = get_before (port_leaf ended.drivers) m.ports k l f in
+      subst (IsWholeLeaf g ended.nodes k) p.2 (port_leaf_whole k p.0 p.1))
+      (λ (b : IsBehind front back k l).
+      let x = get_before (inner_leaf ended.drivers) ended.inner b.number l b.found in
+      let count : length front ≡ length m.ports = length-map m.ports (port_leaf ended.drivers) in
+      let ports : ended.ports ≡ length m.ports = body_ports (begun m.ports) m.body in
+      let is = b.is in
+      let at : ended.ports + b.number ≡ k = omega arith in
+      let inner = from_each (IsInner g ended.nodes number) ended.ports ended.inner body_whole.inner b.number x.0 x.1 in
+      subst (IsWholeLeaf g ended.nodes k) x.2 (inner_leaf_whole k x.0 (subst (λ (j : ℕ). IsInner g ended.nodes number j x.0) at inner)))
+      (get_either front back k l h)
+
+  -- what holds of each leaf
+  each_leaf : (P : Leaf → Type 0) → ((k : ℕ) (l : Leaf) → IsWholeLeaf g ended.nodes k l → P l) → AllByRecursion P g.leaves
+  each_leaf P f =
+      all_from P g.leaves
+      (λ l i.
+      let n = number_of g.leaves l i in
+      f n.0 l (leaf_whole n.0 l n.1))
+
+  -- each path is a word
+  pub module_paths : AllByRecursion (λ l. IsTrue (is_word l.path)) g.leaves
+  module_paths = each_leaf (λ l. IsTrue (is_word l.path)) (λ k l h. h.word)
+
+  leaf_falls : (k : ℕ) (w : Read) (o : Option Leaf) (place : ℕ) → slice_get g.leaves k ≡ o → slice_get (leaf_reads o) place ≡ Some w → g.height w < g.height (read.Leaf k)
+  leaf_falls k w None place e h = cc
+  leaf_falls k w (Some l) place e h = all_there (λ (x : Read). g.height x < g.height (read.Leaf k)) (role_reads l.role) (leaf_whole k l e).role.falls place w h
+
+  node_falls : (k : ℕ) (w : Read) (o : Option Node) (place : ℕ) → slice_get ended.nodes k ≡ o → slice_get (node_reads o) place ≡ Some w → g.height w < g.height (read.Node k)
+  node_falls k w None place e h = cc
+  node_falls k w (Some n) place e h = all_there (λ (x : Read). g.height x < g.height (read.Node k)) (support_of n) (body_whole.nodes.good k n e).falls place w h
+
+  module _ (name : List ℕ) (word : IsTrue (is_word name)) where
+    falls : (v w : Read) → Reads (lowered_module name m) v w → g.height w < g.height v
+    falls (read.Leaf k) w r = leaf_falls k w (slice_get g.leaves k) r.place refl r.is
+    falls (read.Node k) w r = node_falls k w (slice_get ended.nodes k) r.place refl r.is
+
+    pub module_whole : IsWholeNet (lowered_module name m)
+    module_whole = record {
+      whole = record {
+        word = word;
+        leaves = each_leaf (IsLeaf g.leaves ended.nodes) (λ k l h. h.leaf);
+        ports_first = ports_stand_first ended.drivers m.ports ended.inner;
+        nodes = body_whole.nodes.are;
+      };
+      writable = record { nodes = λ k n h. (body_whole.nodes.good k n h).writable; leaves = λ k l h. (leaf_whole k l h).role.writable };
+      heights = record { height = g.height; falls = falls };
+    }
+
+pub main_words : (c : CircuitTree) → IsCleanCircuit c → HasWords c → ModuleHasWords (main_module c)
+main_words c k words = subst ModuleHasWords (main_is c k) (subst (AllByRecursion ModuleHasWords) k.only words.modules).0
+
+pub lowered_whole : (c : CircuitTree) → IsCleanCircuit c → HasWords c → IsWholeNet (lowered c)
+lowered_whole c k words = subst IsWholeNet (sym (lowered_is c k)) (module_whole (main_module c) (main_clean c k) (main_words c k words) c.named.name words.own)

@@ -1,13 +1,16 @@
--- In the net of a module the registers stand behind the ports.
-use Rattle.std.proofs.Common.{◌≡◌, ℕ, List, [], ◌∷◌, ◌++◌, map, true, refl}
+-- In the net of a module the other leaves stand behind the ports.
+use Rattle.std.proofs.Common.{◌≡◌, ℕ, List, [], ◌∷◌, ◌++◌, map, true, false, refl}
 use Rattle.fir_base.specs.declared.direction.Direction.{Direction}
 use Rattle.fir_base.specs.declared.direction.Direction.TheVariants as direction
 use Rattle.fir_ast.specs.Types.{DataType, clock}
 use Rattle.fir_ast.specs.Circuits.{PortTree}
-use Rattle.fir_net.specs.IsNet.{is_port, AreRegisters, ArePortsFirst}
-use Rattle.fir_lower.specs.Lowered.{Driver, RegisterLeaf, input_role, port_role, port_leaf, register_leaf}
+use Rattle.fir_net.specs.working.IsNet.{is_port, AreInside, ArePortsFirst}
+use Rattle.fir_lower.specs.declared.inner.InnerRole.{InnerRole}
+use Rattle.fir_lower.specs.declared.inner.InnerRole.TheVariants as inner_role
+use Rattle.fir_lower.specs.declared.inner.InnerLeaf.{InnerLeaf}
+use Rattle.fir_lower.specs.working.Lowered.{Driver, input_role, port_role, port_leaf, role_of, inner_leaf}
 
--- a port's role is not a register's
+-- a port's role is that of a port
 input_port : (t : DataType) → is_port (input_role t) ≡ true
 input_port clock = refl
 input_port t = refl
@@ -16,14 +19,18 @@ port_is : (drivers : List Driver) (name : List ℕ) (d : Direction) (t : DataTyp
 port_is drivers name direction.Input t = input_port t
 port_is drivers name direction.Output t = refl
 
-are_registers : (drivers : List Driver) (rs : List RegisterLeaf) → AreRegisters (map (register_leaf drivers) rs)
-are_registers drivers [] = tt
-are_registers drivers (r ∷ rs) = (refl, are_registers drivers rs)
+inner_is : (drivers : List Driver) (name : List ℕ) (r : InnerRole) → is_port (role_of drivers name r) ≡ false
+inner_is drivers name (inner_role.Register c) = refl
+inner_is drivers name (inner_role.Node r) = refl
 
-registers_last : (drivers : List Driver) (rs : List RegisterLeaf) → ArePortsFirst (map (register_leaf drivers) rs)
-registers_last drivers [] = tt
-registers_last drivers (r ∷ rs) = are_registers drivers rs
+are_inside : (drivers : List Driver) (xs : List InnerLeaf) → AreInside (map (inner_leaf drivers) xs)
+are_inside drivers [] = tt
+are_inside drivers (x ∷ xs) = (inner_is drivers x.name x.role, are_inside drivers xs)
 
-pub ports_stand_first : (drivers : List Driver) (ps : List PortTree) (rs : List RegisterLeaf) → ArePortsFirst (map (port_leaf drivers) ps ++ map (register_leaf drivers) rs)
-ports_stand_first drivers [] rs = registers_last drivers rs
-ports_stand_first drivers (p ∷ ps) rs = rw (port_is drivers p.named.name p.direction p.data_type) (ports_stand_first drivers ps rs)
+inside_last : (drivers : List Driver) (xs : List InnerLeaf) → ArePortsFirst (map (inner_leaf drivers) xs)
+inside_last drivers [] = tt
+inside_last drivers (x ∷ xs) = rw (inner_is drivers x.name x.role) (are_inside drivers xs)
+
+pub ports_stand_first : (drivers : List Driver) (ps : List PortTree) (xs : List InnerLeaf) → ArePortsFirst (map (port_leaf drivers) ps ++ map (inner_leaf drivers) xs)
+ports_stand_first drivers [] xs = inside_last drivers xs
+ports_stand_first drivers (p ∷ ps) xs = rw (port_is drivers p.named.name p.direction p.data_type) (ports_stand_first drivers ps xs)

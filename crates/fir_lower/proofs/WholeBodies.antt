@@ -1,45 +1,46 @@
 -- A clean body over a scope whose names are bound.
--- Behind it the net is whole, where the leaves of its registers stand behind the ports.
-use Rattle.std.proofs.Common.{◌≡◌, ℕ, List, [], ◌∷◌, ◌++◌, map, refl, sym, subst}
-use Rattle.std.specs.List.{AllByRecursion}
-use Rattle.std.proofs.lemmas.List.{map-append}
-use Rattle.fir_ast.specs.Statements.{Statement, register, skip, Block, done, then}
-use Rattle.fir_net.specs.declared.net.Leaf.{Leaf}
-use Rattle.fir_net.specs.IsNet.{CanBeRead, AreNodes}
+-- Behind it the net is whole, where its leaves stand behind the ports.
+use Rattle.std.proofs.Common.{◌≡◌, ℕ, ◌+◌, ◌<◌, List, ◌++◌, length, slice_get, Some, sym, ap, ◌∙◌, subst, arith}
+use Rattle.std.proofs.lemmas.List.{length-map}
+use Rattle.fir_ast.specs.Statements.{Block, done, then}
+use Rattle.fir_net.specs.declared.reads.Read.TheVariants as read
 use Rattle.fir_meaning.specs.Scopes.{Scope, declares}
-use Rattle.fir_meaning.specs.Clean.{AreCleanStatements}
-use Rattle.fir_lower.specs.HasWords.{BodyHasWords}
-use Rattle.fir_lower.specs.Lowered.{Driver, driver_of, leaf_width, clock_number, RegisterLeaf, register_leaf, Lowering, with_statement, with_body}
-use Rattle.fir_lower.proofs.ListParts.{StandsAt, front_stands}
-use Rattle.fir_lower.proofs.WholeStatements.{IsRegister, IsLowering, statement_lowered}
+use Rattle.fir_meaning.specs.working.Clean.{AreCleanStatements}
+use Rattle.fir_lower.specs.declared.inner.InnerLeaf.{InnerLeaf}
+use Rattle.fir_lower.specs.working.HasWords.{BodyHasWords}
+use Rattle.fir_lower.specs.working.Lowered.{Driver, driver_of, inner_leaf, Lowering, next_number, with_statement, with_body}
+use Rattle.fir_lower.proofs.LoweredEach.{EachFrom, each_front, each_behind}
+use Rattle.fir_lower.proofs.LoweredInner.{added, inner_of, number_after, number_body, height_added, heights_of}
+use Rattle.fir_lower.proofs.NetGrowth.{Ground, AreWhole}
+use Rattle.fir_lower.proofs.WholeStatements.{CanDrive, IsInner, IsLowering, statement_lowered}
 
--- the ports stay as many, and the registers of before stand in front
-ports_same : (l : Lowering) (s : Statement) → (with_statement l s).ports ≡ l.ports
-ports_same l (skip p) = refl
-ports_same l s = refl
+pub record IsWholeBody (g : Ground) (l : Lowering) : Type 0 where
+  pub nodes : AreWhole g l.nodes
+  pub sources : (name : List ℕ) → CanDrive g l.nodes (next_number l) (driver_of l.drivers name)
+  pub inner : EachFrom (IsInner g l.nodes (next_number l)) l.ports l.inner
 
-module _ (leaves : List Leaf) (drivers : List Driver) (k : ℕ) where
-  statement_front : (l : Lowering) (s : Statement) → StandsAt leaves k (map (register_leaf drivers) (with_statement l s).registers) → StandsAt leaves k (map (register_leaf drivers) l.registers)
-  statement_front l (register p n t c r) h =
-      let new : RegisterLeaf = record { name = n.name; width = leaf_width t; clock = clock_number l.bindings c } in
-      front_stands leaves k (map (register_leaf drivers) l.registers) (register_leaf drivers new ∷ [])
-      (subst (StandsAt leaves k) (map-append (register_leaf drivers) l.registers (new ∷ [])) h)
-  statement_front l s h = h
+module _ (g : Ground) (drivers : List Driver) where
+  abbrev Stands : ℕ → InnerLeaf → Type 0
+  Stands k x = slice_get g.leaves k ≡ Some (inner_leaf drivers x)
 
-  body_front : (l : Lowering) (b : Block) → StandsAt leaves k (map (register_leaf drivers) (with_body l b).registers) → StandsAt leaves k (map (register_leaf drivers) l.registers)
-  body_front l done h = h
-  body_front l ((then) s b) h = statement_front l s (body_front (with_statement l s) b h)
+  abbrev IsHigh : ℕ → ℕ → Type 0
+  IsHigh k h = g.height (read.Leaf k) ≡ h
 
-pub record IsWholeBody (leaves : List Leaf) (l : Lowering) : Type 0 where
-  pub nodes : AreNodes leaves [] l.nodes
-  pub sources : (name : List ℕ) → CanBeRead leaves l.nodes (driver_of l.drivers name)
-  pub registers : AllByRecursion (IsRegister leaves) l.registers
-
-pub body_lowered : (leaves : List Leaf) (drivers : List Driver) (scope : Scope) (l : Lowering) (b : Block) → IsLowering leaves scope l → AreCleanStatements scope b → BodyHasWords b
-    → StandsAt leaves l.ports (map (register_leaf drivers) (with_body l b).registers) → IsWholeBody leaves (with_body l b)
-body_lowered leaves drivers scope l done w c words stands = record { nodes = w.nodes; sources = w.sources; registers = w.registers }
-body_lowered leaves drivers scope l ((then) s b) w c words stands =
-    let new = with_statement l s in
-    let first = statement_lowered leaves drivers scope l s w c.0 words.0 (body_front leaves drivers l.ports new b stands) in
-    body_lowered leaves drivers (scope ++ declares 0 scope s) new b first c.1 words.1
-    (subst (λ (k : ℕ). StandsAt leaves k (map (register_leaf drivers) (with_body new b).registers)) (sym (ports_same l s)) stands)
+  pub body_lowered : (scope : Scope) (l : Lowering) (b : Block) → IsLowering g scope l → AreCleanStatements scope b → BodyHasWords b → next_number (with_body l b) < g.room
+      → EachFrom Stands (next_number l) (inner_of l b) → EachFrom IsHigh (next_number l) (heights_of g.level l b) → IsWholeBody g (with_body l b)
+  body_lowered scope l done is c words fits at high = record { nodes = is.nodes; sources = is.parts.sources; inner = is.parts.inner }
+  body_lowered scope l ((then) s b) is c words fits at high =
+      let new = with_statement l s in
+      let rest = inner_of new b in
+      let heights = height_added g.level l s in
+      let number = number_after l s in
+      let count : length heights ≡ length (added l s) = length-map (added l s) (λ x. g.level (length new.nodes) + (next_number l + 1)) in
+      let higher : next_number l + length heights ≡ next_number new = ap (λ k. next_number l + k) count ∙ sym number in
+      let grown = number_body new b in
+      let room : next_number l < g.room = omega arith in
+      let first =
+      statement_lowered g drivers scope l s is c.0 words.0 room (each_front Stands (next_number l) (added l s) rest at)
+      (each_front IsHigh (next_number l) heights (heights_of g.level new b) high) in
+      body_lowered (scope ++ declares 0 scope s) new b first c.1 words.1 fits
+      (subst (λ (k : ℕ). EachFrom Stands k rest) (sym number) (each_behind Stands (next_number l) (added l s) rest at))
+      (subst (λ (k : ℕ). EachFrom IsHigh k (heights_of g.level new b)) higher (each_behind IsHigh (next_number l) heights (heights_of g.level new b) high))

@@ -1,113 +1,162 @@
 -- A clean statement over a scope whose names are bound.
--- Behind it each node stands over those before it, what drives a sink can be read, and each register is clocked by a clock.
-use Rattle.std.proofs.Common.{◌≡◌, ℕ, ◌+◌, ◌≤◌, List, [], ◌∷◌, ◌++◌, length, map, slice_get, Bool, true, false, if◌then◌else◌, Option, Some, None, option_map, refl, sym, ap, ◌∙◌, subst}
+-- Behind it each node stands over those before it, what drives a sink can be read, each register is clocked by a clock, and what a node of the circuit
+-- reads stands lower than its leaf.
+use Rattle.std.proofs.Common.{◌≡◌, ℕ, ◌+◌, ◌<◌, ◌≤◌, List, [], ◌∷◌, ◌++◌, length, slice_get, Bool, true, false, if◌then◌else◌, Option, Some, None, refl, sym, ap, ◌∙◌, subst, arith}
 use Rattle.std.specs.Prelude.{IsTrue}
-use Rattle.std.specs.List.{AllByRecursion}
 use Rattle.std.specs.Str.{bytes_eq}
 use Rattle.std.proofs.lemmas.List.{append-nil}
-use Rattle.std.proofs.lemmas.Option.{slice_get-map}
-use Rattle.fir_bits.specs.declared.types.NumTy.{NumTy}
 use Rattle.fir_bits.specs.Forms.{first_type}
-use Rattle.ver_ast.specs.Names.{is_word}
+use Rattle.ver_words.specs.Names.{is_word}
+use Rattle.fir_ast.specs.declared.place.Place.{Place}
 use Rattle.fir_ast.specs.Expressions.{Expression, reference}
 use Rattle.fir_ast.specs.Statements.{Statement, register, node, connect, skip}
 use Rattle.fir_net.specs.declared.reads.Read.{Read}
 use Rattle.fir_net.specs.declared.reads.Read.TheVariants as read
-use Rattle.fir_net.specs.declared.net.Leaf.{Leaf}
-use Rattle.fir_net.specs.declared.net.Node.{Node}
-use Rattle.fir_net.specs.IsNet.{CanBeRead, IsClock, AreNodes}
-use Rattle.fir_meaning.specs.Scopes.{register_value, node_value, Declared, Scope, types, printed_type, written_type, written_printed, declares}
-use Rattle.fir_meaning.specs.Clean.{IsClock as IsCleanClock, IsCleanStatement}
-use Rattle.fir_lower.specs.HasWords.{StatementHasWords}
-use Rattle.fir_lower.specs.Lowered.{Binding, Bound, leaf_width, bound_with, nodes_with, clock_number, Driver, driver_of, RegisterLeaf, register_leaf, Lowering, with_statement}
-use Rattle.fir_lower.proofs.ListParts.{get_behind, StandsAt}
-use Rattle.fir_lower.proofs.NetGrowth.{IsBound, Keeps}
-use Rattle.fir_lower.proofs.Bindings.{Binds, binds_kept, binds_more, found_clock}
+use Rattle.fir_net.specs.declared.node.Node.{Node}
+use Rattle.fir_net.specs.working.Settled.{is_clock}
+use Rattle.fir_net.specs.working.IsNet.{IsClock}
+use Rattle.fir_meaning.specs.Scopes.{Declared, Scope, look_up, declares}
+use Rattle.fir_meaning.specs.working.Clean.{IsClock as IsCleanClock, IsCleanStatement}
+use Rattle.fir_meaning.proofs.Bodies.{node_declared, register_declared}
+use Rattle.fir_lower.specs.declared.inner.InnerRole.{InnerRole}
+use Rattle.fir_lower.specs.declared.inner.InnerRole.TheVariants as inner_role
+use Rattle.fir_lower.specs.declared.inner.InnerLeaf.{InnerLeaf}
+use Rattle.fir_lower.specs.working.HasWords.{StatementHasWords}
+use Rattle.fir_lower.specs.working.Lowered.{Binding, Bound, bound_type, leaf_width, bound_in, clock_number, Driver, driver_of, role_of, inner_leaf, Lowering, next_number, with_leaf, with_nodes, with_statement}
+use Rattle.fir_lower.proofs.LoweredTypes.{narrow_holds}
+use Rattle.fir_lower.proofs.LoweredEach.{EachFrom, each_push, each_kept}
+use Rattle.fir_lower.proofs.LoweredInner.{added, number_then, height_added}
+use Rattle.fir_lower.proofs.NetGrowth.{Ground, IsReadable, IsBound, Keeps, keeps_leaf, AreWhole}
+use Rattle.fir_lower.proofs.Bindings.{IsBoundAs, Binds, binds_kept, binds_more, found_clock}
 use Rattle.fir_lower.proofs.BoundLeaves.{width_narrow, leaf_bound}
-use Rattle.fir_lower.proofs.WholeExpressions.{expression_lowered}
+use Rattle.fir_lower.proofs.WholeExpressions.{IsLowered, expression_lowered}
 
-pub record IsRegister (leaves : List Leaf) (r : RegisterLeaf) : Type 0 where
-  pub word : IsTrue (is_word r.name)
-  pub narrow : r.width ≤ 128
-  pub clocked : IsClock leaves r.clock
+-- a register is clocked by a clock; what a node of the circuit reads stands lower than its leaf
+abbrev pub RoleIs : Ground → List Node → ℕ → ℕ → InnerRole → Type 0
+RoleIs g nodes number k (inner_role.Register c) = IsClock g.leaves c
+RoleIs g nodes number k (inner_role.Node r) = IsReadable g nodes number r × (g.height r < g.height (read.Leaf k))
 
--- what stands behind the statements of a scope
-pub record IsLowering (leaves : List Leaf) (scope : Scope) (l : Lowering) : Type 0 where
-  pub binds : Binds leaves l.nodes scope l.bindings
-  pub nodes : AreNodes leaves [] l.nodes
-  pub sources : (name : List ℕ) → CanBeRead leaves l.nodes (driver_of l.drivers name)
-  pub registers : AllByRecursion (IsRegister leaves) l.registers
+-- the leaf of that number, where so many are there
+pub record IsInner (g : Ground) (nodes : List Node) (number k : ℕ) (x : InnerLeaf) : Type 0 where
+  pub word : IsTrue (is_word x.name)
+  pub narrow : x.width ≤ 128
+  pub role : RoleIs g nodes number k x.role
 
-registers_more : (leaves : List Leaf) (rs : List RegisterLeaf) (r : RegisterLeaf) → AllByRecursion (IsRegister leaves) rs → IsRegister leaves r → AllByRecursion (IsRegister leaves) (rs ++ r ∷ [])
-registers_more leaves [] r all h = (h, tt)
-registers_more leaves (x ∷ rs) r all h = (all.0, registers_more leaves rs r all.1 h)
+abbrev pub CanDrive : Ground → List Node → ℕ → Option Read → Type 0
+CanDrive g nodes number None = Unit {0}
+CanDrive g nodes number (Some r) = IsReadable g nodes number r
+
+-- what stands behind the statements of a scope, in a net of these nodes and so many leaves
+pub record AreParts (g : Ground) (nodes : List Node) (number : ℕ) (scope : Scope) (l : Lowering) : Type 0 where
+  pub binds : Binds g nodes number scope l.bindings
+  pub sources : (name : List ℕ) → CanDrive g nodes number (driver_of l.drivers name)
+  pub inner : EachFrom (IsInner g nodes number) l.ports l.inner
+
+pub record IsLowering (g : Ground) (scope : Scope) (l : Lowering) : Type 0 where
+  pub nodes : AreWhole g l.nodes
+  pub parts : AreParts g l.nodes (next_number l) scope l
+
+-- the inner leaves are no clocks
+pub role_no_clock : (drivers : List Driver) (name : List ℕ) (r : InnerRole) → is_clock (role_of drivers name r) ≡ false
+role_no_clock drivers name (inner_role.Register c) = refl
+role_no_clock drivers name (inner_role.Node r) = refl
+
+module _ (g : Ground) (old : List Node) (number : ℕ) (new : List Node) (larger : ℕ) (s : Keeps g old number new larger) where
+  source_kept : (o : Option Read) → CanDrive g old number o → CanDrive g new larger o
+  source_kept None h = tt
+  source_kept (Some r) h = s.reads r h
+
+  role_kept : (k : ℕ) (r : InnerRole) → RoleIs g old number k r → RoleIs g new larger k r
+  role_kept k (inner_role.Register c) h = h
+  role_kept k (inner_role.Node r) h = (s.reads r h.0, h.1)
+
+  inner_kept : (k : ℕ) (x : InnerLeaf) → IsInner g old number k x → IsInner g new larger k x
+  inner_kept k x h = record { word = h.word; narrow = h.narrow; role = role_kept k x.role h.role }
+
+  parts_kept : (scope : Scope) (l : Lowering) → AreParts g old number scope l → AreParts g new larger scope l
+  parts_kept scope l w = record {
+    binds = binds_kept g old number new larger s scope l.bindings w.binds;
+    sources = λ name. source_kept (driver_of l.drivers name) (w.sources name);
+    inner = each_kept (IsInner g old number) (IsInner g new larger) inner_kept l.ports l.inner w.inner;
+  }
 
 -- a clean clock is bound to a clock's leaf
-clock_numbered : (leaves : List Leaf) (nodes : List Node) (scope : Scope) (bs : List Binding) (e : Expression) → Binds leaves nodes scope bs → IsCleanClock scope e
-    → IsClock leaves (clock_number bs e)
-clock_numbered leaves nodes scope bs (reference p n ps) b c = found_clock leaves nodes scope bs b n c.declared c.found c.kind
-clock_numbered leaves nodes scope bs e b c = absurd c
+clock_numbered : (g : Ground) (nodes : List Node) (number : ℕ) (scope : Scope) (bs : List Binding) (e : Expression) → Binds g nodes number scope bs → IsCleanClock scope e
+    → IsClock g.leaves (clock_number bs e)
+clock_numbered g nodes number scope bs (reference p n ps) b c = found_clock g nodes number scope bs b n c.declared c.found c.kind
+clock_numbered g nodes number scope bs e b c = absurd c
 
--- a driver among the old nodes, and the later one of two
-source_kept : (leaves : List Leaf) (old new : List Node) → Keeps leaves old new → (o : Option Read) → CanBeRead leaves old o → CanBeRead leaves new o
-source_kept leaves old new k None h = tt
-source_kept leaves old new k (Some r) h = k.reads r h
+source_of_two : (g : Ground) (nodes : List Node) (number : ℕ) (b : Bool) (x y : Option Read) → CanDrive g nodes number x → CanDrive g nodes number y → CanDrive g nodes number (if b then x else y)
+source_of_two g nodes number true x y h k = h
+source_of_two g nodes number false x y h k = k
 
-source_of_two : (leaves : List Leaf) (nodes : List Node) (b : Bool) (x y : Option Read) → CanBeRead leaves nodes x → CanBeRead leaves nodes y → CanBeRead leaves nodes (if b then x else y)
-source_of_two leaves nodes true x y h k = h
-source_of_two leaves nodes false x y h k = k
+same_parts : (g : Ground) (nodes : List Node) (number : ℕ) (scope : Scope) (l : Lowering) → AreParts g nodes number scope l → AreParts g nodes number (scope ++ []) l
+same_parts g nodes number scope l w = subst (λ (x : Scope). AreParts g nodes number x l) (sym (append-nil scope)) w
 
--- the leaf of the last register
-last_leaf : (leaves : List Leaf) (drivers : List Driver) (k : ℕ) (rs : List RegisterLeaf) (r : RegisterLeaf) → StandsAt leaves k (map (register_leaf drivers) (rs ++ r ∷ []))
-    → slice_get leaves (k + length rs) ≡ Some (register_leaf drivers r)
-last_leaf leaves drivers k rs r s =
-    s.each (length rs) (register_leaf drivers r)
-    (slice_get-map (register_leaf drivers) (rs ++ r ∷ []) (length rs) ∙ ap (λ (o : Option RegisterLeaf). option_map (register_leaf drivers) o) (get_behind rs [] r))
+module _ (g : Ground) (drivers : List Driver) (scope : Scope) where
+  -- behind one more leaf
+  leaf_lowered : (l : Lowering) (d : Declared) (place : Place) (w : ℕ) (role : InnerRole) → IsLowering g scope l → look_up scope d.named.name ≡ None
+      → slice_get g.leaves (next_number l) ≡ Some (inner_leaf drivers (record { name = d.named.name; place = place; width = w; role = role }))
+      → g.height (read.Leaf (next_number l)) ≡ g.level (length l.nodes) + (next_number l + 1)
+      → w ≤ 128 → record { signed = false; width = w } ≡ d.holds → ((number : ℕ) (b : Bound) → IsBound g l.nodes number d.holds b → IsBoundAs g l.nodes number d.kind d.holds b)
+      → IsTrue (is_word d.named.name) → RoleIs g l.nodes (next_number l) (next_number l) role
+      → IsLowering g (scope ++ d ∷ []) (with_leaf l (record { name = d.named.name; place = place; width = w; role = role }))
+  leaf_lowered l d place w role is new at high narrow type as_kind word role_is =
+      let k = next_number l in
+      let x : InnerLeaf = record { name = d.named.name; place = place; width = w; role = role } in
+      let bound : Bound = record { read = read.Leaf k; width = w } in
+      let keeps = keeps_leaf g l.nodes k in
+      let parts = parts_kept g l.nodes k l.nodes (k + 1) keeps scope l is.parts in
+      let binds = leaf_bound g l.nodes (k + 1) (inner_leaf drivers x) k w d.holds at (role_no_clock drivers d.named.name role) refl narrow type (omega (arith, high)) in
+      record {
+        nodes = is.nodes;
+        parts =
+            subst (λ (j : ℕ). AreParts g l.nodes j (scope ++ d ∷ []) (with_leaf l x)) (sym (number_then l x))
+            (record {
+              binds = binds_more g l.nodes (k + 1) scope l.bindings d bound new (as_kind (k + 1) bound binds) parts.binds;
+              sources = parts.sources;
+              inner =
+                  each_push (IsInner g l.nodes (k + 1)) l.ports l.inner x parts.inner
+                  (record { word = word; narrow = narrow; role = role_kept g l.nodes k l.nodes (k + 1) keeps k role role_is });
+            });
+      }
 
-pub statement_lowered : (leaves : List Leaf) (drivers : List Driver) (scope : Scope) (l : Lowering) (s : Statement) → IsLowering leaves scope l → IsCleanStatement scope s → StatementHasWords s
-    → StandsAt leaves l.ports (map (register_leaf drivers) (with_statement l s).registers) → IsLowering leaves (scope ++ declares 0 scope s) (with_statement l s)
-statement_lowered leaves drivers scope l (register p n t c r) w clean word stands =
-    let k = l.ports + length l.registers in
-    let new : RegisterLeaf = record { name = n.name; width = leaf_width t; clock = clock_number l.bindings c } in
-    let x : Declared = record { named = n; kind = register_value; holds = written_type t; printed = written_printed t; depth = 0 } in
-    let bound : Bound = record { read = read.Leaf k; width = leaf_width t } in
-    let at = last_leaf leaves drivers l.ports l.registers new stands in
-    record {
-      binds = binds_more leaves l.nodes scope l.bindings x bound clean.0 (leaf_bound leaves l.nodes (register_leaf drivers new) k t at refl refl clean.1) w.binds;
-      nodes = w.nodes;
-      sources = w.sources;
-      registers =
-          registers_more leaves l.registers new w.registers
-          (record { word = word; narrow = width_narrow t; clocked = clock_numbered leaves l.nodes scope l.bindings c w.binds clean.2 });
-    }
-statement_lowered leaves drivers scope l (node p n e) w clean word stands =
-    let r = expression_lowered leaves scope l.bindings l.nodes e w.binds w.nodes clean.1 in
-    let new = nodes_with l.bindings l.nodes e in
-    let bound = bound_with l.bindings l.nodes e in
-    let x : Declared = record { named = n; kind = node_value; holds = first_type (types scope e); printed = printed_type scope e; depth = 0 } in
-    let here : IsBound leaves new x.holds bound = subst (λ (ts : List NumTy). IsBound leaves new (first_type ts) bound) (sym r.types_are) r.bound in
-    record {
-      binds = binds_more leaves new scope l.bindings x bound clean.0 here (binds_kept leaves l.nodes new scope l.bindings r.keeps w.binds);
-      nodes = r.nodes;
-      sources = λ name. source_kept leaves l.nodes new r.keeps (driver_of l.drivers name) (w.sources name);
-      registers = w.registers;
-    }
-statement_lowered leaves drivers scope l (connect p sink e) w clean word stands =
-    let r = expression_lowered leaves scope l.bindings l.nodes e w.binds w.nodes clean.1 in
-    let new = nodes_with l.bindings l.nodes e in
-    let source : Option Read = Some (bound_with l.bindings l.nodes e).read in
-    record {
-      binds = subst (λ (x : Scope). Binds leaves new x l.bindings) (sym (append-nil scope)) (binds_kept leaves l.nodes new scope l.bindings r.keeps w.binds);
-      nodes = r.nodes;
-      sources = λ name.
-          let before = driver_of l.drivers name in
-          source_of_two leaves new (bytes_eq sink.name name) source before r.bound.reads (source_kept leaves l.nodes new r.keeps before (w.sources name));
-      registers = w.registers;
-    }
-statement_lowered leaves drivers scope l (skip p) w clean word stands = record {
-  binds = subst (λ (x : Scope). Binds leaves l.nodes x l.bindings) (sym (append-nil scope)) w.binds;
-  nodes = w.nodes;
-  sources = w.sources;
-  registers = w.registers;
-}
-statement_lowered leaves drivers scope l s w clean word stands = absurd clean
+  -- behind the nodes of an expression
+  nodes_lowered : (l : Lowering) (e : Expression) → IsLowering g scope l → IsLowered g (next_number l) scope l.bindings l.nodes e → IsLowering g scope (with_nodes l e)
+  nodes_lowered l e is r =
+      let parts = parts_kept g l.nodes (next_number l) (with_nodes l e).nodes (next_number l) r.keeps scope l is.parts in
+      record { nodes = r.nodes; parts = record { binds = parts.binds; sources = parts.sources; inner = parts.inner } }
+
+  pub statement_lowered : (l : Lowering) (s : Statement) → IsLowering g scope l → IsCleanStatement scope s → StatementHasWords s → next_number l < g.room
+      → EachFrom (λ k x. slice_get g.leaves k ≡ Some (inner_leaf drivers x)) (next_number l) (added l s)
+      → EachFrom (λ k (h : ℕ). g.height (read.Leaf k) ≡ h) (next_number l) (height_added g.level l s)
+      → IsLowering g (scope ++ declares 0 scope s) (with_statement l s)
+  statement_lowered l (register p n begins t c r) is clean word fits at high =
+      leaf_lowered l (register_declared n t) n.place (leaf_width t) (inner_role.Register (clock_number l.bindings c)) is clean.0 at.0 high.0 (width_narrow t)
+      (sym (narrow_holds t clean.1)) (λ number b h. h) word (clock_numbered g l.nodes (next_number l) scope l.bindings c is.parts.binds clean.2)
+  statement_lowered l (node p n e) is clean word fits at high =
+      let r = expression_lowered g (next_number l) fits scope l.bindings l.nodes e is.parts.binds is.nodes clean.1 in
+      let b = bound_in l e in
+      let type : bound_type b ≡ (node_declared scope n e).holds = r.bound.of_type ∙ ap first_type (sym r.types_are) in
+      let low = r.bound.readable.low in
+      let up = high.0 in
+      leaf_lowered (with_nodes l e) (node_declared scope n e) n.place b.width (inner_role.Node b.read) (nodes_lowered l e is r) clean.0 at.0 high.0 r.bound.narrow
+      type (λ number b h. h) word (r.bound.readable, omega arith)
+  statement_lowered l (connect p sink e) is clean word fits at high =
+      let r = expression_lowered g (next_number l) fits scope l.bindings l.nodes e is.parts.binds is.nodes clean.1 in
+      let number = next_number l in
+      let new = (with_nodes l e).nodes in
+      let source : Option Read = Some (bound_in l e).read in
+      let parts = parts_kept g l.nodes number new number r.keeps scope l is.parts in
+      record {
+        nodes = r.nodes;
+        parts =
+            same_parts g new number scope (with_statement l (connect p sink e))
+            (record {
+              binds = parts.binds;
+              sources = λ name. source_of_two g new number (bytes_eq sink.name name) source (driver_of l.drivers name) r.bound.readable (parts.sources name);
+              inner = parts.inner;
+            });
+      }
+  statement_lowered l (skip p) is clean word fits at high = record { nodes = is.nodes; parts = same_parts g l.nodes (next_number l) scope l is.parts }
+  statement_lowered l s is clean word fits at high = absurd clean

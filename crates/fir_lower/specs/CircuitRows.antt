@@ -8,7 +8,7 @@ use Rattle.fir_net.specs.Rows.{Row, row, clock_row, Word, word}
 
 abbrev pub declared_row : Kind → List ℕ → ℕ → List Row
 declared_row input name width = row name direction.Input width
-declared_row clock_input name width = clock_row name
+declared_row clock_input name width = clock_row name direction.Input
 declared_row output name width = row name direction.Output width
 declared_row _ name width = []
 

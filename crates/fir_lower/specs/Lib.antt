@@ -1,5 +1,2 @@
-pub mod HasWords
 pub mod CircuitRows
-pub mod Lowered
-pub mod Tabled
-pub mod Lowers
+pub mod working

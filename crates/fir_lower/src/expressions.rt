@@ -1,15 +1,16 @@
 //! The nodes of an expression.
 
-ghost use Rattle.std.specs.Prelude.{◌≡◌, [], ◌∷◌, ◌++◌, length, map, List, IfOk, OnOk};
+ghost use Rattle.std.specs.Prelude.{◌≡◌, map, List, IfOk, OnOk};
 ghost use Rattle.fir_ast.specs.View.{expr_of, expressions_of};
-ghost use Rattle.fir_lower.specs.Lowered.{Binding, literal_bits, operation_width, operation_node, bound_with, nodes_with, bounds_with_each, nodes_with_each};
-ghost use Rattle.fir_lower.specs.Tabled.{HasBounds};
+ghost use Rattle.fir_lower.specs.working.Lowered.{Binding, literal_bits, operation_width, operation_node, with_shared, shared_number, bound_with, nodes_with, bounds_with_each, nodes_with_each};
+ghost use Rattle.fir_lower.specs.working.Tabled.{HasBounds, IsOnce};
 
 use crate::tables::{Bound, bound_of};
 use fir_ast::{Expr, Literal};
 use fir_base::{MemoryOut, Name, Seq};
 use fir_bits::{Bits, NumTy, PrimOp, result_type};
-use fir_net::{Node, Operation, Read, Reads};
+use fir_net::{Node, Operation, Read, Reads, share};
+use indexmap::IndexSet;
 use std::alloc::Global;
 use std::collections::BTreeMap;
 
@@ -18,11 +19,11 @@ use std::collections::BTreeMap;
 pub fn add_expression(
     alloc: Global,
     bindings: &BTreeMap<Name, Bound>,
-    nodes: &mut Vec<Node>,
+    nodes: &mut IndexSet<Node>,
     e: &Expr,
 ) -> Result<Bound, MemoryOut>
-    ensures bound { IfOk result (λ b. (bs : List Binding) → HasBounds bindings.now bs → b ≡ bound_with bs nodes.old.items (expr_of e.now)) }
-    ensures nodes { OnOk result ((bs : List Binding) → HasBounds bindings.now bs → nodes.new.items ≡ nodes_with bs nodes.old.items (expr_of e.now)) }
+    ensures bound { IfOk result (λ b. (bs : List Binding) → HasBounds bindings.now bs → IsOnce nodes.old.keys → b ≡ bound_with bs nodes.old.keys (expr_of e.now)) }
+    ensures nodes { OnOk result ((bs : List Binding) → HasBounds bindings.now bs → IsOnce nodes.old.keys → nodes.new.keys ≡ nodes_with bs nodes.old.keys (expr_of e.now)) }
 {
     match e {
         Expr::Ref(reference) => Ok(bound_of(bindings, &reference.name)),
@@ -31,7 +32,7 @@ pub fn add_expression(
             let bounds = add_expressions(alloc, bindings, nodes, operands)?;
             Ok(add_operation(alloc, nodes, *op, bounds.as_slice(), integers.as_slice())?)
         }
-        Expr::Mux(_, _, _, _) | Expr::Validif(_, _, _) => Ok(Bound::NOWHERE),
+        Expr::Mux(_, _, _, _) | Expr::Validif(_, _, _) => Ok(Bound::nowhere()),
     }
 }
 
@@ -40,11 +41,11 @@ pub fn add_expression(
 fn add_expressions(
     alloc: Global,
     bindings: &BTreeMap<Name, Bound>,
-    nodes: &mut Vec<Node>,
+    nodes: &mut IndexSet<Node>,
     es: &[Expr],
 ) -> Result<Vec<Bound>, MemoryOut>
-    ensures bounds { IfOk result (λ v. (bs : List Binding) → HasBounds bindings.now bs → v.items ≡ bounds_with_each bs nodes.old.items (expressions_of (map expr_of es.now))) }
-    ensures nodes { OnOk result ((bs : List Binding) → HasBounds bindings.now bs → nodes.new.items ≡ nodes_with_each bs nodes.old.items (expressions_of (map expr_of es.now))) }
+    ensures bounds { IfOk result (λ v. (bs : List Binding) → HasBounds bindings.now bs → IsOnce nodes.old.keys → v.items ≡ bounds_with_each bs nodes.old.keys (expressions_of (map expr_of es.now))) }
+    ensures nodes { OnOk result ((bs : List Binding) → HasBounds bindings.now bs → IsOnce nodes.old.keys → nodes.new.keys ≡ nodes_with_each bs nodes.old.keys (expressions_of (map expr_of es.now))) }
 {
     let mut bounds = Vec::new(alloc);
     for e in es {
@@ -54,15 +55,14 @@ fn add_expressions(
     Ok(bounds)
 }
 
-fn add_literal(nodes: &mut Vec<Node>, l: &Literal) -> Result<Bound, MemoryOut>
-    ensures bound { IfOk result (λ b. b ≡ record { read = Read.Node (length nodes.old.items); width = (literal_bits l.now).width }) }
-    ensures nodes { OnOk result (nodes.new.items ≡ nodes.old.items ++ Node.Literal (literal_bits l.now) ∷ []) }
+fn add_literal(nodes: &mut IndexSet<Node>, l: &Literal) -> Result<Bound, MemoryOut>
+    ensures bound { IfOk result (λ b. IsOnce nodes.old.keys → b ≡ record { read = Read.Node (shared_number nodes.old.keys (Node.Literal (literal_bits l.now))); width = (literal_bits l.now).width }) }
+    ensures nodes { OnOk result (IsOnce nodes.old.keys → nodes.new.keys ≡ with_shared nodes.old.keys (Node.Literal (literal_bits l.now))) }
 {
     let bits = literal_bits(l);
-    let read = Read::Node(nodes.len());
-    nodes.push(Node::Literal(bits))?;
+    let node = share(nodes, Node::Literal(bits))?;
     Ok(Bound {
-        read,
+        read: Read::Node(node),
         width: bits.width(),
     })
 }
@@ -83,23 +83,26 @@ fn literal_bits(l: &Literal) -> Bits
 
 fn add_operation(
     alloc: Global,
-    nodes: &mut Vec<Node>,
+    nodes: &mut IndexSet<Node>,
     op: PrimOp,
     bounds: &[Bound],
     integers: &[u128],
 ) -> Result<Bound, MemoryOut>
-    ensures bound { IfOk result (λ b. b ≡ record { read = Read.Node (length nodes.old.items); width = operation_width op bounds.now integers.now }) }
-    ensures nodes { OnOk result (nodes.new.items ≡ nodes.old.items ++ operation_node op bounds.now integers.now ∷ []) }
+    ensures bound { IfOk result (λ b. IsOnce nodes.old.keys → b ≡ record { read = Read.Node (shared_number nodes.old.keys (operation_node op bounds.now integers.now)); width = operation_width op bounds.now integers.now }) }
+    ensures nodes { OnOk result (IsOnce nodes.old.keys → nodes.new.keys ≡ with_shared nodes.old.keys (operation_node op bounds.now integers.now)) }
 {
     let width = operation_width(alloc, op, bounds, integers)?;
-    let read = Read::Node(nodes.len());
-    nodes.push(Node::Operation(Operation {
+    let operation = Operation {
         op,
         reads: reads_of(alloc, bounds)?,
         integers: Seq::from_vec(Vec::from_slice(alloc, integers)?),
         width,
-    }))?;
-    Ok(Bound { read, width })
+    };
+    let node = share(nodes, Node::Operation(operation))?;
+    Ok(Bound {
+        read: Read::Node(node),
+        width,
+    })
 }
 
 /// The width of the operation's result. One that has no type has no bits.

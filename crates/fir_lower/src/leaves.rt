@@ -1,29 +1,25 @@
-//! The leaves: the ports, and behind them the registers.
+//! The leaves: the ports, and behind them the registers and the nodes of the circuit.
 
 ghost use Rattle.std.specs.Prelude.{◌≡◌, ◌++◌, List, map, IfOk, OnOk};
 ghost use Rattle.fir_ast.specs.View.{type_of, port_of};
-ghost use Rattle.fir_lower.specs.Lowered.{Driver, Lowering, leaf_width, input_role, port_role, port_leaf, register_leaf, leaves_of};
-ghost use Rattle.fir_lower.specs.Tabled.{HasDrivers, IsTabled};
+ghost use Rattle.fir_lower.specs.working.Lowered.{Driver, Lowering, leaf_width, input_role, port_role, port_leaf, role_of, inner_leaf, leaves_of};
+ghost use Rattle.fir_lower.specs.working.Tabled.{HasDrivers, IsTabled};
 
-use crate::tables::{RegisterLeaf, Tables, driver_of};
+use crate::inner::{InnerLeaf, InnerRole};
+use crate::tables::{Tables, driver_of};
 use crate::widths::leaf_width;
 use fir_ast::{Port, Ty};
 use fir_base::{Direction, MemoryOut, Name};
-use fir_net::{Leaf, Read, Register, Role};
+use fir_net::{Leaf, LeafId, Read, Register, Role};
 use std::alloc::Global;
 use std::collections::BTreeMap;
 
-/// The leaves of the ports and of the registers, each output and register with what drives it.
+/// The leaves of the ports and those behind them, each output and register with what drives it.
 pub fn leaves_of(alloc: Global, tables: &Tables, ports: &[Port]) -> Result<Vec<Leaf>, MemoryOut>
     ensures { IfOk result (λ v. (l : Lowering) → IsTabled tables.now l → v.items ≡ leaves_of l (map port_of ports.now)) }
 {
     let mut leaves = port_leaves(alloc, &tables.drivers, ports)?;
-    add_registers(
-        alloc,
-        &mut leaves,
-        &tables.drivers,
-        tables.registers.as_slice(),
-    )?;
+    add_inner(alloc, &mut leaves, &tables.drivers, tables.inner.as_slice())?;
     Ok(leaves)
 }
 
@@ -37,7 +33,8 @@ fn port_leaves(
     let mut leaves = Vec::new(alloc);
     for port in ports {
         leaves.push(Leaf {
-            name: port.ident.name.copy(alloc)?,
+            path: port.ident.name.copy(alloc)?,
+            place: port.ident.place,
             width: leaf_width(&port.ty),
             role: port_role(drivers, port),
         })?;
@@ -52,7 +49,7 @@ fn port_role(drivers: &BTreeMap<Name, Read>, port: &Port) -> Role
         Direction::Input => input_role(&port.ty),
         Direction::Output => Role::Output(match driver_of(drivers, &port.ident.name) {
             Some(source) => source,
-            None => Read::Leaf(0),
+            None => Read::Leaf(LeafId::new(0)),
         }),
     }
 }
@@ -66,24 +63,35 @@ fn input_role(ty: &Ty) -> Role
     }
 }
 
-fn add_registers(
+fn add_inner(
     alloc: Global,
     leaves: &mut Vec<Leaf>,
     drivers: &BTreeMap<Name, Read>,
-    registers: &[RegisterLeaf],
+    inner: &[InnerLeaf],
 ) -> Result<(), MemoryOut>
     ensures { OnOk result
-        ((ds : List Driver) → HasDrivers drivers.now ds → leaves.new.items ≡ leaves.old.items ++ map (register_leaf ds) registers.now) }
+        ((ds : List Driver) → HasDrivers drivers.now ds → leaves.new.items ≡ leaves.old.items ++ map (inner_leaf ds) inner.now) }
 {
-    for register in registers {
+    for leaf in inner {
         leaves.push(Leaf {
-            name: register.name.copy(alloc)?,
-            width: register.width,
-            role: Role::Register(Register {
-                clock: register.clock,
-                next: driver_of(drivers, &register.name),
-            }),
+            path: leaf.name.copy(alloc)?,
+            place: leaf.place,
+            width: leaf.width,
+            role: inner_role(drivers, leaf),
         })?;
     }
     Ok(())
+}
+
+fn inner_role(drivers: &BTreeMap<Name, Read>, leaf: &InnerLeaf) -> Role
+    ensures { (ds : List Driver) → HasDrivers drivers.now ds → result ≡ role_of ds leaf.now.name leaf.now.role }
+{
+    match leaf.role {
+        InnerRole::Register(clock) => Role::Register(Register {
+            clock,
+            reset: None,
+            next: driver_of(drivers, &leaf.name),
+        }),
+        InnerRole::Node(read) => Role::Wire(read),
+    }
 }

@@ -1,15 +1,17 @@
-//! From a circuit without faults to its net: a node for each operation and literal, in the order of the text
-//! (FIRRTL spec, "Conditionally Last Connect Semantics"). The net is whole and allows at every tick what the
-//! circuit allows (`lower`; specs/ Lowers). The tables of a walk over the statements (`tables`, `statements`,
-//! `expressions`, `registers`) are those of specs/Lowered, the plain form of the lowering; `leaves` makes the
+//! From a circuit without faults to its net: a leaf for each port, register and node of the circuit, and a
+//! node for each operation and literal, in the order of the text (FIRRTL spec, "Conditionally Last Connect
+//! Semantics"). The net is whole, no leaf of it hangs on itself, and it allows at every tick what the circuit
+//! allows (`lower`; specs/ Lowers). The tables of a walk over the statements (`tables`, `statements`,
+//! `expressions`, `declarations`) are those of specs/Lowered, the plain form of the lowering; `leaves` makes the
 //! leaves of them.
 #![tactic(auto)]
 
+mod declarations;
 mod expressions;
+mod inner;
 mod leaves;
 mod lowering;
 mod ports;
-mod registers;
 mod statements;
 mod tables;
 #[cfg(test)]

@@ -3,10 +3,10 @@
 ghost use Rattle.std.specs.Prelude.{◌≡◌, IfOk, IsTrue};
 ghost use Rattle.fir_ast.specs.View.{circuit_of, module_of};
 ghost use Rattle.fir_meaning.specs.Faults.{Faultless};
-ghost use Rattle.fir_meaning.specs.Language.{is_in_language};
-ghost use Rattle.fir_lower.specs.HasWords.{HasWords};
-ghost use Rattle.fir_lower.specs.Lowered.{lowered, lowered_module};
-ghost use Rattle.fir_lower.specs.Lowers.{Lowers};
+ghost use Rattle.fir_meaning.specs.Lacking.{is_in_language};
+ghost use Rattle.fir_lower.specs.working.HasWords.{HasWords};
+ghost use Rattle.fir_lower.specs.working.Lowered.{lowered, lowered_module};
+ghost use Rattle.fir_lower.specs.working.Lowers.{Lowers};
 
 use crate::leaves::leaves_of;
 use crate::statements::body_tables;
@@ -17,7 +17,8 @@ use fir_meaning::{clean_has_value, faultless_is_clean};
 use fir_net::FlatNet;
 use std::alloc::Global;
 
-/// The net of the circuit: a node for each operation and literal, in the order of the text.
+/// The net of the circuit: a node for each operation and literal, in the order of the text; equal ones have
+/// one.
 pub(crate) fn lowered_net(alloc: Global, c: &Circuit) -> Result<FlatNet, MemoryOut>
     ensures { IfOk result (λ net. net ≡ lowered (circuit_of c.now)) }
 {
@@ -41,7 +42,7 @@ fn lowered_module(alloc: Global, name: &Name, m: &Module) -> Result<FlatNet, Mem
     Ok(FlatNet {
         name: name.copy(alloc)?,
         leaves: Seq::from_vec(leaves),
-        nodes: Seq::from_vec(nodes),
+        nodes: Seq::from_vec(nodes.into_iter().collect(alloc)?),
     })
 }
 

@@ -2,14 +2,14 @@
 
 ghost use Rattle.std.specs.Prelude.{[], ◌++◌, List, map, IfOk, OnOk};
 ghost use Rattle.fir_ast.specs.View.{port_of};
-ghost use Rattle.fir_lower.specs.Lowered.{Binding, input_binding, port_bindings};
-ghost use Rattle.fir_lower.specs.Tabled.{HasBounds};
+ghost use Rattle.fir_lower.specs.working.Lowered.{Binding, input_binding, port_bindings};
+ghost use Rattle.fir_lower.specs.working.Tabled.{HasBounds};
 
 use crate::tables::Bound;
 use crate::widths::leaf_width;
 use fir_ast::Port;
 use fir_base::{Direction, MemoryOut, Name};
-use fir_net::Read;
+use fir_net::{LeafId, Read};
 use std::alloc::Global;
 use std::collections::BTreeMap;
 
@@ -36,7 +36,7 @@ fn add_input(
     match port.direction {
         Direction::Input => {
             let bound = Bound {
-                read: Read::Leaf(k),
+                read: Read::Leaf(LeafId::new(k)),
                 width: leaf_width(&port.ty),
             };
             bindings.insert(port.ident.name.copy(alloc)?, bound)?;

@@ -2,16 +2,17 @@
 
 ghost use Rattle.std.specs.Prelude.{◌≡◌, ◌^◌, ◌<◌, IfOk, OnOk};
 ghost use Rattle.fir_ast.specs.View.{stmt_of, module_of};
-ghost use Rattle.fir_lower.specs.Lowered as definition;
-ghost use Rattle.fir_lower.specs.Lowered.{lowering, with_statement};
-ghost use Rattle.fir_lower.specs.Tabled.{IsTabled};
+ghost use Rattle.fir_lower.specs.working.Lowered as definition;
+ghost use Rattle.fir_lower.specs.working.Lowered.{lowering, with_statement};
+ghost use Rattle.fir_lower.specs.working.Tabled.{IsTabled};
 
+use crate::declarations::{add_node, add_register};
 use crate::expressions::add_expression;
 use crate::ports::input_bindings;
-use crate::registers::add_register;
 use crate::tables::Tables;
 use fir_ast::{Module, Stmt};
 use fir_base::MemoryOut;
+use indexmap::IndexSet;
 use std::alloc::Global;
 use std::collections::BTreeMap;
 
@@ -22,9 +23,9 @@ pub fn body_tables(alloc: Global, m: &Module) -> Result<Tables, MemoryOut>
     let mut tables = Tables {
         ports: m.ports.len(),
         bindings: input_bindings(alloc, m.ports.as_slice())?,
-        nodes: Vec::new(alloc),
+        nodes: IndexSet::new(alloc),
         drivers: BTreeMap::new(alloc),
-        registers: Vec::new(alloc),
+        inner: Vec::new(alloc),
     };
     for statement in m.body.as_slice() {
         add_statement(alloc, &mut tables, statement)?;
@@ -40,7 +41,7 @@ fn add_statement(alloc: Global, tables: &mut Tables, statement: &Stmt) -> Result
         Stmt::Reg(_, register) => add_register(alloc, tables, register)?,
         Stmt::Node(_, ident, e) => {
             let bound = add_expression(alloc, &tables.bindings, &mut tables.nodes, e)?;
-            tables.bindings.insert(ident.name.copy(alloc)?, bound)?;
+            add_node(alloc, tables, ident, bound)?;
         }
         Stmt::Connect(_, sink, e) => {
             let bound = add_expression(alloc, &tables.bindings, &mut tables.nodes, e)?;

@@ -1,12 +1,14 @@
 //! What is kept of the body so far.
 
 ghost use Rattle.std.specs.Prelude.{◌≡◌, List};
-ghost use Rattle.fir_lower.specs.Lowered as definition;
-ghost use Rattle.fir_lower.specs.Lowered.{Binding, bound_of, driver_of};
-ghost use Rattle.fir_lower.specs.Tabled.{HasBounds, HasDrivers};
+ghost use Rattle.fir_lower.specs.working.Lowered as definition;
+ghost use Rattle.fir_lower.specs.working.Lowered.{Binding, bound_of, driver_of};
+ghost use Rattle.fir_lower.specs.working.Tabled.{HasBounds, HasDrivers};
 
+use crate::inner::InnerLeaf;
 use fir_base::Name;
-use fir_net::{Node, Read};
+use fir_net::{LeafId, Node, Read};
+use indexmap::IndexSet;
 use std::collections::BTreeMap;
 use std::marker::Model;
 
@@ -18,7 +20,7 @@ pub struct Bound {
 }
 
 impl Model for Bound {
-    ghost use Rattle.fir_lower.specs.Lowered as definition;
+    ghost use Rattle.fir_lower.specs.working.Lowered as definition;
 
     ghost Value = { definition.Bound };
 
@@ -29,37 +31,25 @@ impl Model for Bound {
 
 impl Bound {
     /// What stands for a value that is nowhere.
-    pub const NOWHERE: Bound = Bound {
-        read: Read::Leaf(0),
-        width: 0,
-    };
+    pub fn nowhere() -> Bound
+        ensures { result ≡ definition.nowhere }
+    {
+        Bound {
+            read: Read::Leaf(LeafId::new(0)),
+            width: 0,
+        }
+    }
 }
 
-/// A register: its name, its width in bits, and the number of its clock's leaf.
-#[derive(Drop)]
-pub struct RegisterLeaf {
-    pub name: Name,
-    pub width: u32,
-    pub clock: usize,
-}
-
-impl Model for RegisterLeaf {
-    ghost use Rattle.fir_lower.specs.Lowered as definition;
-
-    ghost Value = { definition.RegisterLeaf };
-
-    ghost view = { λ r. record { name = r.name; width = r.width; clock = r.clock } };
-}
-
-/// The number of ports, the value of each visible name, the nodes in order, what drives each sink, and the
-/// registers in order.
+/// The number of ports, the value of each visible name, the nodes in order, no two of them equal, what drives each sink, and the
+/// leaves behind the ports in order.
 #[derive(Drop)]
 pub struct Tables {
     pub ports: usize,
     pub bindings: BTreeMap<Name, Bound>,
-    pub nodes: Vec<Node>,
+    pub nodes: IndexSet<Node>,
     pub drivers: BTreeMap<Name, Read>,
-    pub registers: Vec<RegisterLeaf>,
+    pub inner: Vec<InnerLeaf>,
 }
 
 /// The value of a name. An unknown name has no bits.
@@ -68,7 +58,7 @@ pub fn bound_of(bindings: &BTreeMap<Name, Bound>, name: &Name) -> Bound
 {
     match bindings.get(name) {
         Some(bound) => *bound,
-        None => Bound::NOWHERE,
+        None => Bound::nowhere(),
     }
 }
 

@@ -2,7 +2,7 @@
 
 ghost use Rattle.std.specs.Prelude.{◌≡◌, nat_le, if◌then◌else◌};
 ghost use Rattle.fir_ast.specs.View.{type_of};
-ghost use Rattle.fir_lower.specs.Lowered.{leaf_width};
+ghost use Rattle.fir_lower.specs.working.Lowered.{leaf_width};
 
 use fir_ast::Ty;
 

@@ -4,13 +4,14 @@ use Rattle.std.proofs.Common.{◌≡◌, ℕ, ◌+◌, ◌^◌, ◌<◌, List, S
 use Rattle.std.proofs.lemmas.Nat.{pow_pos}
 use Rattle.fir_base.specs.Lists.{In, Distinct}
 use Rattle.fir_base.specs.Ticks.{FitEach}
+use Rattle.fir_base.proofs.Members.{map_same}
 use Rattle.fir_meaning.specs.Paths.{Path, Values}
 use Rattle.fir_meaning.specs.Scopes.{input, clock_input, Declared, Scope}
 use Rattle.fir_meaning.specs.Leaves.{Leaf, paths, widths}
-use Rattle.fir_meaning.proofs.Members.{map_same}
 use Rattle.fir_meaning.proofs.LookUps.{Once}
 use Rattle.fir_meaning.proofs.ChosenLeaves.{leaf_of, path_of, inputs_chosen, registers_chosen, clocks_chosen, once_same, chosen, chosen_from, chosen_once, bits_from, bits_once}
-use Rattle.fir_meaning.proofs.InputValues.{start, start_values, start_others, start_below, got_in, numbered, numbered_values, numbered_others, inputs_of, states_of, clocks_of, input_at, state_at, clock_at}
+use Rattle.fir_base.proofs.Elements.{get_in}
+use Rattle.fir_meaning.proofs.InputValues.{start, start_values, start_others, start_below, numbered, numbered_values, numbered_others, inputs_of, states_of, clocks_of, input_at, state_at, clock_at}
 
 module _ (scope : Scope) (once : Once scope) (given words : List ℕ) (given_fit : FitEach (widths (inputs_of scope)) given) (words_fit : FitEach (widths (states_of scope)) words) where
   abbrev held : Values
@@ -37,7 +38,7 @@ module _ (scope : Scope) (once : Once scope) (given words : List ℕ) (given_fit
 
   pub begun_clocks : (k : ℕ) (x : Path) → slice_get (clocks_of scope) k ≡ Some x → begun x ≡ k
   begun_clocks k x h =
-      let q = clock_at scope x (got_in (clocks_of scope) k x h) in
+      let q = clock_at scope x (get_in (clocks_of scope) k x h) in
       start_others (inputs_of scope) given clocked x (no_input q.0 q.1 (λ e. cc) x q.3)
       ∙ numbered_values (clocks_of scope) 0 held (subst Distinct (map-id (clocks_of scope)) (chosen_once clocks_chosen path_of (λ y. y) (λ d. refl) scope once)) k x h
       ∙ zero_more k

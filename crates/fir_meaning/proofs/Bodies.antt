@@ -3,14 +3,14 @@
 use Rattle.std.proofs.Common.{◌≡◌, [], ◌∷◌, ◌++◌, Some, refl, sym, inl, inr, ◌⊎◌, ⊎_elim, subst}
 use Rattle.std.proofs.lemmas.List.{append-nil}
 use Rattle.fir_base.specs.Lists.{In}
+use Rattle.fir_base.proofs.Members.{in_either}
 use Rattle.fir_bits.specs.Forms.{first_type}
 use Rattle.fir_ast.specs.Expressions.{Expression}
 use Rattle.fir_ast.specs.Types.{DataType}
-use Rattle.fir_ast.specs.Statements.{Named, Statement, register, node, Block, done, then}
+use Rattle.fir_ast.specs.Statements.{PlacedName, Statement, register, node, Block, done, then}
 use Rattle.fir_meaning.specs.Scopes.{Kind, node_value, register_value, Declared, Scope, look_up, types, printed_type, written_type, written_printed, declares, behind}
-use Rattle.fir_meaning.specs.Clean.{IsCleanStatement, AreCleanStatements}
-use Rattle.fir_meaning.specs.Laws.{Finds}
-use Rattle.fir_meaning.proofs.Members.{in_either}
+use Rattle.fir_meaning.specs.working.Clean.{IsCleanStatement, AreCleanStatements}
+use Rattle.fir_meaning.specs.working.Laws.{Finds}
 use Rattle.fir_meaning.proofs.LookUps.{found_front, Once, once_more}
 use Rattle.fir_meaning.proofs.SoundScopes.{Plain, Sound, sound_more}
 use Rattle.fir_meaning.proofs.CleanExpressions.{one_type, prints_uint}
@@ -24,11 +24,11 @@ kept_behind scope ((then) s b) whole same =
     record { each = λ n d h. r.each n d (found_front scope (declares 0 scope s) n d h) }
 
 -- the declaration of a node
-abbrev pub node_declared : Scope → Named → Expression → Declared
+abbrev pub node_declared : Scope → PlacedName → Expression → Declared
 node_declared scope n e = record { named = n; kind = node_value; holds = first_type (types scope e); printed = printed_type scope e; depth = 0 }
 
 -- and of a register
-abbrev pub register_declared : Named → DataType → Declared
+abbrev pub register_declared : PlacedName → DataType → Declared
 register_declared n t = record { named = n; kind = register_value; holds = written_type t; printed = written_printed t; depth = 0 }
 
 -- the scope stays sound
@@ -36,15 +36,15 @@ pub sound_behind : (scope : Scope) → Sound scope → (s : Statement) → IsCle
 sound_behind scope sound (node p n e) c =
     let t = one_type scope sound e c.1 in
     let plain : Plain (first_type (types scope e)) = rw t.of_type t.plain in
-    sound_more scope (node_declared scope n e) c.0 sound plain (prints_uint scope sound e c.1)
-sound_behind scope sound (register p n t k r) c = sound_more scope (register_declared n t) c.0 sound (narrow_plain t c.1) (narrow_printed t c.1)
+    sound_more scope (node_declared scope n e) sound plain (prints_uint scope sound e c.1)
+sound_behind scope sound (register p n begins t k r) c = sound_more scope (register_declared n t) sound (narrow_plain t c.1) (narrow_printed t c.1)
 sound_behind scope sound s c = subst Sound (sym (append-nil scope)) sound
 
 -- names stay declared once
 pub once_behind : (scope : Scope) (body : Block) → AreCleanStatements scope body → Once scope → Once (behind 0 scope body)
 once_behind scope done c o = o
 once_behind scope ((then) (node p n e) b) c o = once_behind (scope ++ node_declared scope n e ∷ []) b c.1 (once_more scope (node_declared scope n e) o c.0.0)
-once_behind scope ((then) (register p n t k r) b) c o = once_behind (scope ++ register_declared n t ∷ []) b c.1 (once_more scope (register_declared n t) o c.0.0)
+once_behind scope ((then) (register p n begins t k r) b) c o = once_behind (scope ++ register_declared n t ∷ []) b c.1 (once_more scope (register_declared n t) o c.0.0)
 once_behind scope ((then) s b) c o = once_behind (scope ++ []) b c.1 (subst Once (sym (append-nil scope)) o)
 
 -- what a body declares are nodes and registers
@@ -65,7 +65,7 @@ declared_before scope ((then) (node p n e) b) d m =
     (λ (i : In (scope ++ node_declared scope n e ∷ []) d). one_before scope (node_declared scope n e) d (inl refl) i)
     (λ (k : IsOfBody d.kind). inr k)
     (declared_before (scope ++ node_declared scope n e ∷ []) b d m)
-declared_before scope ((then) (register p n t c r) b) d m =
+declared_before scope ((then) (register p n begins t c r) b) d m =
     ⊎_elim
     (λ (i : In (scope ++ register_declared n t ∷ []) d). one_before scope (register_declared n t) d (inr refl) i)
     (λ (k : IsOfBody d.kind). inr k)

@@ -4,7 +4,7 @@ use Rattle.std.proofs.Common.{◌≡◌, ℕ, ◌^◌, ◌<◌, List, [], ◌∷
 use Rattle.std.specs.Str.{bytes_eq}
 use Rattle.std.proofs.lemmas.Bool.{cases_Bool}
 use Rattle.fir_bits.specs.declared.values.Num.{Num}
-use Rattle.fir_bits.specs.Laws.{HasItsType}
+use Rattle.fir_bits.specs.working.Laws.{HasItsType}
 use Rattle.fir_bits.specs.Values.{IsBitVector}
 use Rattle.fir_ast.specs.declared.place.Place.{Place}
 use Rattle.fir_ast.specs.Expressions.{Expression}
@@ -14,9 +14,9 @@ use Rattle.fir_meaning.specs.Scopes.{Declared, Scope, look_up, declares, behind}
 use Rattle.fir_meaning.specs.Leaves.{leaves_named}
 use Rattle.fir_meaning.specs.Exec.{fit, pairs, drive_all, exec, exec_all}
 use Rattle.fir_meaning.specs.DrivenFaults.{is_connected}
-use Rattle.fir_meaning.specs.Clean.{AreCleanStatements}
-use Rattle.fir_meaning.specs.Laws.{HasValue}
-use Rattle.fir_meaning.proofs.SamePath.{name_is}
+use Rattle.fir_meaning.specs.working.Clean.{AreCleanStatements}
+use Rattle.fir_meaning.specs.working.Laws.{HasValue}
+use Rattle.fir_base.proofs.SameNames.{name_is}
 use Rattle.fir_meaning.proofs.SoundScopes.{Sound, Fits, held, Agree, agree_front, sound_front, fits_front}
 use Rattle.fir_meaning.proofs.CleanValues.{has_value}
 use Rattle.fir_meaning.proofs.SameValues.{same_value}

@@ -8,7 +8,7 @@ use Rattle.fir_meaning.specs.Scopes.{register_value, Declared, Scope, look_up, d
 use Rattle.fir_meaning.specs.Leaves.{leaves_found, leaves_named, paths}
 use Rattle.fir_meaning.specs.Eval.{numbers}
 use Rattle.fir_meaning.specs.Settled.{NodeHolds, NodesHold}
-use Rattle.fir_meaning.specs.Clean.{AreCleanStatements}
+use Rattle.fir_meaning.specs.working.Clean.{AreCleanStatements}
 use Rattle.fir_meaning.proofs.LookUps.{found_last}
 use Rattle.fir_meaning.proofs.SoundScopes.{Agree, agree_front, agree_more}
 use Rattle.fir_meaning.proofs.SameValues.{same_value}
@@ -36,12 +36,12 @@ agree_along e f scope ((then) (node p n x) b) whole same c r h k a =
     let here : e (n.name ∷ []) ≡ f (n.name ∷ []) =
     first_of (e (n.name ∷ [])) (f (n.name ∷ []))
     (sym (leaf_value whole n.name d e found) ∙ h.0 ∙ ap numbers (same_value scope whole e f a x c.0.1) ∙ sym k.0 ∙ leaf_value whole n.name d f found) in
-    agree_along e f more b whole same c.1 r h.1 k.1 (agree_more scope d c.0.0 e f a here)
-agree_along e f scope ((then) (register p n t x y) b) whole same c r h k a =
+    agree_along e f more b whole same c.1 r h.1 k.1 (agree_more scope d e f a here)
+agree_along e f scope ((then) (register p n begins t x y) b) whole same c r h k a =
     let d = register_declared n t in
     let more = scope ++ d ∷ [] in
     let here = r.each n.name d ((kept_behind more b whole same).each n.name d (found_last scope d c.0.0)) refl in
-    agree_along e f more b whole same c.1 r h.1 k.1 (agree_more scope d c.0.0 e f a here)
+    agree_along e f more b whole same c.1 r h.1 k.1 (agree_more scope d e f a here)
 agree_along e f scope ((then) s b) whole same c r h k a =
     agree_along e f (scope ++ []) b whole same c.1 r h.1 k.1 (subst (λ (t : Scope). Agree t e f) (sym (append-nil scope)) a)
 

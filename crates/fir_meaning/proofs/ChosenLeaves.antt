@@ -2,10 +2,10 @@
 -- Where names are declared once, each is chosen once.
 use Rattle.std.proofs.Common.{◌≡◌, List, [], ◌∷◌, ◌++◌, Bool, true, false, if◌then◌else◌, nat_eq, Some, None, map, flat_map, refl, sym, ap, ◌∙◌, inl, inr, ◌⊎◌, ⊎_elim, subst}
 use Rattle.fir_base.specs.Lists.{In, Distinct}
+use Rattle.fir_base.proofs.Members.{in_map, in_map_from, in_flat_map_from, in_flat_map}
 use Rattle.fir_meaning.specs.Paths.{Path}
 use Rattle.fir_meaning.specs.Scopes.{Kind, input, clock_input, output, register_value, Declared, Scope, look_up}
 use Rattle.fir_meaning.specs.Leaves.{Leaf, value_leaves, clock_paths, input_leaves, output_leaves, register_leaves, with_bits, paths}
-use Rattle.fir_meaning.proofs.Members.{in_map, in_map_from, in_flat_map, flat_map_in}
 use Rattle.fir_meaning.proofs.LookUps.{Once, once_found}
 
 abbrev pub leaf_of : Declared → Leaf
@@ -71,7 +71,7 @@ module _ {A : Type 0} {choice : Kind → List A → List A} {IsChosen : Kind →
   -- what is chosen is declared, and of a kind that is chosen
   pub chosen_from : (scope : Scope) (y : A) → In (chosen scope) y → (d : Declared) × In scope d × IsChosen d.kind × (make d ≡ y)
   chosen_from scope y m =
-      let r = in_flat_map (λ (d : Declared). choice d.kind (make d ∷ [])) scope y m in
+      let r = in_flat_map_from (λ (d : Declared). choice d.kind (make d ∷ [])) scope y m in
       ⊎_elim
       (λ (h : IsChosen r.0.kind × (choice r.0.kind (make r.0 ∷ []) ≡ make r.0 ∷ [])). (r.0, r.1, h.0, only_one (make r.0) y (subst (λ (ys : List A). In ys y) h.1 r.2)))
       (λ (h : (IsChosen r.0.kind → ⊥) × (choice r.0.kind (make r.0 ∷ []) ≡ [])). absurd (subst (λ (ys : List A). In ys y) h.1 r.2))
@@ -85,7 +85,7 @@ module _ {A : Type 0} {choice : Kind → List A → List A} {IsChosen : Kind →
       (λ (h : IsChosen d.kind × (choice d.kind (make d ∷ []) ≡ make d ∷ [])). subst (λ (ys : List A). In ys (make d)) (sym h.1) (inl refl))
       (λ (h : (IsChosen d.kind → ⊥) × (choice d.kind (make d ∷ []) ≡ [])). absurd (h.0 k))
       (chooses.each d.kind (make d)) in
-      flat_map_in (λ (x : Declared). choice x.kind (make x ∷ [])) scope d (make d) m here
+      in_flat_map (λ (x : Declared). choice x.kind (make x ∷ [])) scope d (make d) m here
 
   module _ (path : A → Path) (placed : (d : Declared) → path (make d) ≡ path_of d) where
     pub chosen_once : (scope : Scope) → Once scope → Distinct (map path (chosen scope))
@@ -112,11 +112,11 @@ some_bits false l m i = only_one l m i
 
 pub bits_from : (ls : List Leaf) (l : Leaf) → In (flat_map with_bits ls) l → In ls l
 bits_from ls l m =
-    let r = in_flat_map with_bits ls l m in
+    let r = in_flat_map_from with_bits ls l m in
     subst (In ls) (some_bits (nat_eq r.0.holds.width 0) r.0 l r.2) r.1
 
 pub bits_in : (ls : List Leaf) (l : Leaf) → In ls l → nat_eq l.holds.width 0 ≡ false → In (flat_map with_bits ls) l
-bits_in ls l m bits = let here : In (with_bits l) l = rw bits (inl refl) in flat_map_in with_bits ls l l m here
+bits_in ls l m bits = let here : In (with_bits l) l = rw bits (inl refl) in in_flat_map with_bits ls l l m here
 
 bits_more : (b : Bool) (l : Leaf) (ls : List Leaf) → (In (paths ls) l.path → ⊥) → Distinct (paths ls) → Distinct (paths ((if b then [] else (l ∷ [])) ++ ls))
 bits_more true l ls h d = d

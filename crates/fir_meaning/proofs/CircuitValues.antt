@@ -3,23 +3,24 @@
 use Rattle.std.proofs.Common.{◌≡◌, ℕ, ◌^◌, ◌<◌, List, [], ◌∷◌, true, Option, Some, None, IsSome, IfSome, unwrap_or, slice_get, refl, sym, ap, ◌∙◌, inl, inr, ◌⊎◌, ⊎_elim, subst}
 use Rattle.fir_base.specs.Lists.{In}
 use Rattle.fir_base.specs.Ticks.{Tick, HasShape}
-use Rattle.fir_bits.specs.Laws.{HasItsType}
+use Rattle.fir_base.proofs.Members.{map_same}
+use Rattle.fir_bits.specs.working.Laws.{HasItsType}
 use Rattle.fir_ast.specs.Statements.{Block}
 use Rattle.fir_ast.specs.Circuits.{CircuitTree}
 use Rattle.fir_meaning.specs.Paths.{Path, Values, Store, empty}
 use Rattle.fir_meaning.specs.Scopes.{Kind, clock_input, output, node_value, is_readable, Declared, Scope, look_up}
 use Rattle.fir_meaning.specs.Leaves.{Leaf, main_module, main_scope, inputs, clocks, state_leaves, paths, shape}
-use Rattle.fir_meaning.specs.Exec.{exec_all}
+use Rattle.fir_meaning.specs.Exec.{stored}
 use Rattle.fir_meaning.specs.Settled.{Settled}
-use Rattle.fir_meaning.specs.Clean.{IsCleanModule}
-use Rattle.fir_meaning.proofs.Members.{map_same}
+use Rattle.fir_meaning.specs.working.Clean.{IsCleanModule}
 use Rattle.fir_meaning.proofs.LookUps.{found_in}
 use Rattle.fir_meaning.proofs.SoundScopes.{none_sound, Fits, Agree, agree_back}
 use Rattle.fir_meaning.proofs.BodyValues.{nodes_hold}
 use Rattle.fir_meaning.proofs.RanBodies.{RegistersFit, Ran, ran}
 use Rattle.fir_meaning.proofs.BodyStores.{same_store, stored_fits, stored_where}
 use Rattle.fir_meaning.proofs.ChosenLeaves.{path_of}
-use Rattle.fir_meaning.proofs.InputValues.{got_in, input_at, state_at, clock_at}
+use Rattle.fir_base.proofs.Elements.{get_in}
+use Rattle.fir_meaning.proofs.InputValues.{input_at, state_at, clock_at}
 use Rattle.fir_meaning.proofs.BegunValues.{begun, begun_inputs, begun_clocks, begun_states, begun_below}
 use Rattle.fir_meaning.proofs.Ports.{ports_sound, port_driven}
 use Rattle.fir_meaning.proofs.CleanCircuits.{main_ports, main_body, kept, once, output_port, leaf_from, sink_from}
@@ -85,7 +86,7 @@ module _ (law : HasItsType) (c : CircuitTree) (clean : IsCleanModule (main_modul
     run = ran law ports body whole refl clean.body begin (ports_sound [] (main_module c).ports clean.ports none_sound) begin_fits registers_fit
 
     abbrev store : Store
-    store = exec_all whole [] [] run.last body empty
+    store = stored c run.last
 
     -- the nodes' values, with what is stored at the outputs
     abbrev final : Values
@@ -143,11 +144,11 @@ module _ (law : HasItsType) (c : CircuitTree) (clean : IsCleanModule (main_modul
 
     clock_value : (k : ℕ) (x : Path) → slice_get (clocks c) k ≡ Some x → final x ≡ k
     clock_value k x h =
-        let q = clock_at whole x (got_in (clocks c) k x h) in
+        let q = clock_at whole x (get_in (clocks c) k x h) in
         final_as_begun q.0 q.1 (λ i. cc) (λ i. cc) x q.3
         ∙ begun_clocks whole (once c clean) tick.inputs state shaped.inputs_fit shaped.state_fits k x h
 
-    sink_value : (d : Declared) → In whole d → d.kind ≡ output → exec_all whole [] [] final body empty (path_of d) ≡ Some (final (path_of d))
+    sink_value : (d : Declared) → In whole d → d.kind ≡ output → stored c final (path_of d) ≡ Some (final (path_of d))
     sink_value d m k =
         ap (λ (s : Store). s (path_of d)) (same_store final run.last ports body whole refl clean.body final_agrees empty) ∙ (output_value d m k).1
 
@@ -159,7 +160,7 @@ module _ (law : HasItsType) (c : CircuitTree) (clean : IsCleanModule (main_modul
       clock_values = clock_value;
       state_values = map_same final begin (paths (state_leaves c)) state_value ∙ begun_states whole (once c clean) tick.inputs state shaped.inputs_fit shaped.state_fits;
       node_values = nodes_hold run.last final ports body whole refl clean.body (agree_back whole final run.last final_agrees) run.holds;
-      sink_values = λ l m. let r = sink_from c clean l m in subst (λ (x : Leaf). exec_all whole [] [] final body empty x.path ≡ Some (final x.path)) r.3 (sink_value r.0 r.1 r.2);
+      sink_values = λ l m. let r = sink_from c clean l m in subst (λ (x : Leaf). stored c final x.path ≡ Some (final x.path)) r.3 (sink_value r.0 r.1 r.2);
     }
 
     pub some_settled : (env : Values) × Settled c state tick env

@@ -1,18 +1,28 @@
 -- What a clean circuit declares.
 -- Names are declared once, and each leaf is that of a declaration.
-use Rattle.std.proofs.Common.{◌≡◌, [], map, refl, inl, inr, ⊎_elim}
+use Rattle.std.proofs.Common.{◌≡◌, List, [], ◌∷◌, map, refl, sym, ap, ◌∙◌, inl, inr, ⊎_elim, subst}
 use Rattle.fir_base.specs.Lists.{In}
+use Rattle.fir_base.proofs.Members.{in_map_from}
+use Rattle.fir_base.proofs.SameNames.{name_same}
 use Rattle.fir_ast.specs.Statements.{Block}
-use Rattle.fir_ast.specs.Circuits.{PortTree, CircuitTree}
+use Rattle.fir_ast.specs.Circuits.{PortTree, ModuleTree, CircuitTree}
 use Rattle.fir_meaning.specs.Scopes.{Kind, clock_input, output, Declared, Scope, port_declared}
-use Rattle.fir_meaning.specs.Leaves.{Leaf, main_module, main_scope, leaves, sinks}
-use Rattle.fir_meaning.specs.Clean.{IsCleanModule}
-use Rattle.fir_meaning.specs.Laws.{Finds}
-use Rattle.fir_meaning.proofs.Members.{in_map_from}
+use Rattle.fir_meaning.specs.Leaves.{Leaf, module_named, empty_module, main_module, main_scope, leaves, sinks}
+use Rattle.fir_meaning.specs.working.Clean.{IsCleanModule, IsCleanCircuit}
+use Rattle.fir_meaning.specs.working.Laws.{Finds}
 use Rattle.fir_meaning.proofs.LookUps.{Once}
 use Rattle.fir_meaning.proofs.Bodies.{kept_behind, once_behind, IsOfBody, declared_before}
 use Rattle.fir_meaning.proofs.Ports.{ports_once}
 use Rattle.fir_meaning.proofs.ChosenLeaves.{leaf_of, values_chosen, outputs_chosen, chosen_from, chosen_in}
+
+-- the main module is the one module
+pub main_is : (c : CircuitTree) (k : IsCleanCircuit c) → k.main ≡ main_module c
+main_is c k =
+    let here : module_named c.named.name (k.main ∷ []) (empty_module c) ≡ k.main = rw (k.named, name_same c.named.name) refl in
+    sym (ap (λ (ms : List ModuleTree). module_named c.named.name ms (empty_module c)) k.only ∙ here)
+
+pub main_clean : (c : CircuitTree) → IsCleanCircuit c → IsCleanModule (main_module c)
+main_clean c k = subst IsCleanModule (main_is c k) k.clean
 
 -- the main module's ports as declarations, and its body
 abbrev pub main_ports : CircuitTree → Scope

@@ -1,6 +1,6 @@
 -- What clean expressions evaluate to.
 -- Over values that the scope holds, one value of the expression's type.
-use Rattle.std.proofs.Common.{◌≡◌, ℕ, ◌^◌, ◌<◌, List, [], ◌∷◌, Bool, false, map, refl, sym, ap, ◌∙◌, Result, Ok, IfOk, subst}
+use Rattle.std.proofs.Common.{◌≡◌, ℕ, ◌^◌, ◌<◌, List, [], ◌∷◌, Bool, false, map, refl, sym, ap, ◌∙◌, Result, IfOk, subst}
 use Rattle.std.specs.List.{AllByRecursion}
 use Rattle.std.proofs.lemmas.List.Elements.{All-from_recursion}
 use Rattle.std.proofs.lemmas.Nat.{pow_pos}
@@ -10,7 +10,7 @@ use Rattle.fir_bits.specs.declared.types.NumTy.{NumTy}
 use Rattle.fir_bits.specs.declared.types.OpFault.{OpFault}
 use Rattle.fir_bits.specs.declared.values.Num.{Num}
 use Rattle.fir_bits.specs.Integers.{bits_of, of_sign}
-use Rattle.fir_bits.specs.Laws.{HasItsType}
+use Rattle.fir_bits.specs.working.Laws.{HasItsType}
 use Rattle.fir_bits.specs.Values.{IsBitVector}
 use Rattle.fir_bits.specs.Types.{typed}
 use Rattle.fir_bits.specs.Operators.{type_of, applied, outcome}
@@ -21,8 +21,8 @@ use Rattle.fir_meaning.specs.Paths.{Values}
 use Rattle.fir_meaning.specs.Scopes.{Scope, literal_type, types_of_each}
 use Rattle.fir_meaning.specs.Operations.{type_or}
 use Rattle.fir_meaning.specs.Eval.{number_of, literal_value, eval_each}
-use Rattle.fir_meaning.specs.Clean.{IsRead, IsFit, HasType, IsClean, AreClean}
-use Rattle.fir_meaning.specs.Laws.{HasValue, Finds, Holds, CleanHasValue}
+use Rattle.fir_meaning.specs.working.Clean.{IsReadable, LiteralFits, HasType, IsClean, AreClean}
+use Rattle.fir_meaning.specs.working.Laws.{HasValue, Finds, Holds, CleanHasValue}
 use Rattle.fir_meaning.proofs.LookUps.{found_type}
 use Rattle.fir_meaning.proofs.CleanExpressions.{literal_narrow}
 
@@ -36,7 +36,7 @@ unsigned_below : (w magnitude : ℕ) (negative : Bool) → negative ≡ false �
 unsigned_below w magnitude negative h = rw h (mod-lt magnitude (pow_pos w))
 
 module _ (law : HasItsType) (scope whole : Scope) (env : Values) (finds : Finds scope whole) (holds : Holds scope env) where
-  value_read : (p : Place) (n : List ℕ) (ps : Parts) → IsRead scope n → HasValue scope whole env (reference p n ps)
+  value_read : (p : Place) (n : List ℕ) (ps : Parts) → IsReadable scope n → HasValue scope whole env (reference p n ps)
   value_read p n ps c =
       let d = c.declared in
       record {
@@ -47,7 +47,7 @@ module _ (law : HasItsType) (scope whole : Scope) (env : Values) (finds : Finds 
         unsigned = holds.unsigned n d c.found;
       }
 
-  value_written : (l : Literal) → IsFit l → HasValue scope whole env (literal l)
+  value_written : (l : Literal) → LiteralFits l → HasValue scope whole env (literal l)
   value_written l c = record {
     value = literal_value l;
     of_type = refl;
@@ -57,7 +57,7 @@ module _ (law : HasItsType) (scope whole : Scope) (env : Values) (finds : Finds 
   }
 
   value_given : (p : Place) (o : PrimOp) (es : Expressions) (ks : List ℕ) → HasValues scope whole env es
-      → HasType scope es (λ t. typed o (types_of_each scope es) ks ≡ Ok t) → HasValue scope whole env (operation p o es ks)
+      → HasType (typed o (types_of_each scope es) ks) → HasValue scope whole env (operation p o es ks)
   value_given p o es ks r c =
       let ts = types_of_each scope es in
       let t : NumTy = record { signed = false; width = c.width } in

@@ -16,7 +16,7 @@ use Rattle.fir_meaning.specs.Scopes.{Declared, Scope, look_up}
 use Rattle.fir_meaning.specs.Leaves.{leaves_of, leaves_found}
 use Rattle.fir_meaning.specs.Eval.{eval}
 use Rattle.fir_meaning.specs.Exec.{fit, pairs, drive_all, all_true, exec}
-use Rattle.fir_meaning.specs.Laws.{LastConnect}
+use Rattle.fir_meaning.specs.working.Laws.{LastConnect}
 use Rattle.fir_meaning.proofs.SamePath.{path_is, stored_here, stored_other}
 use Rattle.fir_meaning.proofs.LookUps.{found_in}
 

@@ -1,27 +1,30 @@
 -- A circuit of the language that shows no fault is clean.
 -- Each rule finds nothing at the ports and in the body of its one module, which has the circuit's name.
-use Rattle.std.proofs.Common.{◌≡◌, List, [], ◌∷◌, ◌++◌, Bool, true, false, ◌||◌, map, flat_map, IsTrue, refl}
+use Rattle.std.proofs.Common.{◌≡◌, List, [], ◌∷◌, ◌++◌, Bool, true, false, ◌||◌, map, flat_map, codes, None, refl}
 use Rattle.std.specs.Str.{bytes_eq}
 use Rattle.fir_base.specs.declared.direction.Direction.{Direction}
 use Rattle.fir_base.specs.declared.direction.Direction.TheVariants.{Input, Output}
+use Rattle.fir_ast.specs.declared.place.Place.{Place}
 use Rattle.fir_ast.specs.declared.fault.FirFault.TheVariants.{NoModule, Over, Undriven}
-use Rattle.fir_ast.specs.Types.{DataType, uint, clock}
-use Rattle.fir_ast.specs.Statements.{Named, Block}
+use Rattle.fir_ast.specs.Types.{DataType, clock}
+use Rattle.fir_ast.specs.Statements.{PlacedName, Block}
 use Rattle.fir_ast.specs.Circuits.{PortTree, ModuleTree}
 use Rattle.fir_meaning.specs.Scopes.{Scope, look_up, port_declared, written_type, behind}
 use Rattle.fir_meaning.specs.Operations.{is_over}
 use Rattle.fir_meaning.specs.FaultRules.{Rule, along_ports, along, faults_by}
-use Rattle.fir_meaning.specs.NameFaults.{twice, name_rule}
+use Rattle.fir_meaning.specs.NameFaults.{repeated_name_faults, name_rule}
 use Rattle.fir_meaning.specs.TypeFaults.{type_rule}
-use Rattle.fir_meaning.specs.WidthFaults.{over_width, width_rule}
+use Rattle.fir_meaning.specs.WidthFaults.{over_width_faults, width_rule}
 use Rattle.fir_meaning.specs.LegalityFaults.{legality_rule}
-use Rattle.fir_meaning.specs.DrivenFaults.{is_connected, undriven_output, undriven}
+use Rattle.fir_meaning.specs.DrivenFaults.{is_connected, output_faults, undriven_faults}
 use Rattle.fir_meaning.specs.Faults.{is_module, main_faults, Faultless}
-use Rattle.fir_meaning.specs.Language.{is_port_type, are_ports, are_statements, is_in_language}
-use Rattle.fir_meaning.specs.Clean.{IsPortType, IsCleanPort, AreCleanPorts, IsCleanModule, IsCleanCircuit}
-use Rattle.fir_meaning.specs.Laws.{FaultlessIsClean}
-use Rattle.fir_meaning.proofs.Members.{empty_left, empty_right, empty_at, both, passes, fails}
-use Rattle.fir_meaning.proofs.SamePath.{name_is}
+use Rattle.fir_meaning.specs.Lacking.{lack, lacking_module, lacking_port_type, lacking_ports, lacking_statements, lacking}
+use Rattle.fir_meaning.specs.working.Clean.{IsPortType, IsCleanPort, AreCleanPorts, IsCleanModule, IsCleanCircuit}
+use Rattle.fir_meaning.specs.working.Laws.{FaultlessIsClean}
+use Rattle.fir_base.proofs.Empty.{empty_left, empty_right, empty_at}
+use Rattle.fir_meaning.proofs.PassedTests.{passes, fails}
+use Rattle.fir_meaning.proofs.NothingLacking.{nothing, neither}
+use Rattle.fir_base.proofs.SameNames.{name_is}
 use Rattle.fir_meaning.proofs.LookUps.{once_found}
 use Rattle.fir_meaning.proofs.SoundScopes.{Sound, none_sound}
 use Rattle.fir_meaning.proofs.NarrowTypes.{narrow_type}
@@ -30,42 +33,41 @@ use Rattle.fir_meaning.proofs.FaultlessBodies.{FaultlessBody, new_name, clean_st
 use Rattle.fir_meaning.proofs.Ports.{port_sound, ports_once, ports_sound}
 
 -- a port's type is a `UInt` of a written width, or at an input a clock
-port_type : (d : Direction) (t : DataType) → is_port_type d t ≡ true → is_over (written_type t).width ≡ false → IsPortType d t
-port_type Input (uint width) l h = narrow_type width l h
-port_type Output (uint width) l h = narrow_type width l h
-port_type Input clock l h = tt
-port_type d t l h = let e : false ≡ true = l in cc
+port_type : (d : Direction) (p : Place) (t : DataType) → lacking_port_type d p t ≡ None → is_over (written_type t).width ≡ false → IsPortType d t
+port_type Input p clock l h = tt
+port_type Input p t l h = narrow_type p t l h
+port_type Output p t l h = narrow_type p t l h
 
-clean_ports : (scope : Scope) → Sound scope → (ps : List PortTree) → are_ports ps ≡ true → along_ports name_rule scope ps ≡ [] → along_ports width_rule scope ps ≡ [] → AreCleanPorts scope ps
+clean_ports : (scope : Scope) → Sound scope → (ps : List PortTree) → lacking_ports ps ≡ None → along_ports name_rule scope ps ≡ [] → along_ports width_rule scope ps ≡ [] → AreCleanPorts scope ps
 clean_ports scope sound [] l names widths = tt
 clean_ports scope sound (p ∷ ps) l names widths =
     let more = scope ++ port_declared p ∷ [] in
-    let language = both (is_port_type p.direction p.data_type) (are_ports ps) l in
-    let wide = over_width (written_type p.data_type).width p.named.place p.named.name in
-    let t = port_type p.direction p.data_type language.0 (fails (is_over (written_type p.data_type).width) (Over p.named.place p.named.name) (empty_left wide (along_ports width_rule more ps) widths)) in
+    let language = neither (lacking_port_type p.direction p.type_place p.data_type) (lacking_ports ps) l in
+    let wide = over_width_faults (written_type p.data_type).width p.named.place p.named.name in
+    let t = port_type p.direction p.type_place p.data_type language.0 (fails (is_over (written_type p.data_type).width) (Over p.named.place p.named.name) (empty_left wide (along_ports width_rule more ps) widths)) in
     let here : IsCleanPort scope p = record {
       type = t;
-      new = new_name (look_up scope p.named.name) p.named (empty_left (twice scope p.named) (along_ports name_rule more ps) names);
+      new = new_name (look_up scope p.named.name) p.named (empty_left (repeated_name_faults scope p.named) (along_ports name_rule more ps) names);
     } in (
       here,
       clean_ports more (port_sound scope sound p here) ps language.1
-          (empty_right (twice scope p.named) (along_ports name_rule more ps) names)
+          (empty_right (repeated_name_faults scope p.named) (along_ports name_rule more ps) names)
           (empty_right wide (along_ports width_rule more ps) widths),
     )
 
 -- an output that is not undriven is connected
-port_connected : (d : Direction) (body : Block) (n : Named) → d ≡ Output → undriven_output d body n ≡ [] → is_connected body n.name ≡ true
+port_connected : (d : Direction) (body : Block) (n : PlacedName) → d ≡ Output → output_faults d body n ≡ [] → is_connected body n.name ≡ true
 port_connected Input body n k h = cc
 port_connected Output body n k h = passes (is_connected body n.name) (Undriven n.place n.name []) h
 
 -- a module of the language in which each rule finds nothing
 record FaultlessModule (m : ModuleTree) : Type 0 where
-  language : (are_ports m.ports ≡ true) × (are_statements m.body ≡ true)
+  language : (lacking_ports m.ports ≡ None) × (lacking_statements m.body ≡ None)
   names : flat_map (faults_by name_rule) (m ∷ []) ≡ []
   types : flat_map (faults_by type_rule) (m ∷ []) ≡ []
   widths : flat_map (faults_by width_rule) (m ∷ []) ≡ []
   legality : flat_map (faults_by legality_rule) (m ∷ []) ≡ []
-  connected : flat_map undriven (m ∷ []) ≡ []
+  connected : flat_map undriven_faults (m ∷ []) ≡ []
 
 module _ (m : ModuleTree) (c : FaultlessModule m) where
   at_ports : (rule : Rule) → flat_map (faults_by rule) (m ∷ []) ≡ [] → along_ports rule [] m.ports ≡ []
@@ -86,11 +88,11 @@ module _ (m : ModuleTree) (c : FaultlessModule m) where
       } in
       let body = clean_statements (map port_declared m.ports) (ports_sound [] m.ports ports none_sound) m.body faultless in
       let once = once_behind (map port_declared m.ports) m.body body (ports_once [] m.ports ports tt) in
-      let connected = empty_left (undriven m) [] c.connected in
+      let connected = empty_left (undriven_faults m) [] c.connected in
       record {
         ports = ports;
         body = body;
-        connected = λ p i k. port_connected p.direction m.body p.named k (empty_at (λ (q : PortTree). undriven_output q.direction m.body q.named) m.ports connected p i);
+        connected = λ p i k. port_connected p.direction m.body p.named k (empty_at (λ (q : PortTree). output_faults q.direction m.body q.named) m.ports connected p i);
         found = λ d i. once_found (behind 0 (map port_declared m.ports) m.body) once d i;
       }
 
@@ -98,16 +100,16 @@ first_holds : (b : Bool) → (b || false) ≡ true → b ≡ true
 first_holds true h = refl
 first_holds false h = h
 
-clean_circuit : (n : Named) (ms : List ModuleTree) → IsTrue (is_in_language (record { named = n; modules = ms })) → Faultless (record { named = n; modules = ms })
+clean_circuit : (n : PlacedName) (ms : List ModuleTree) → lacking (record { named = n; modules = ms }) ≡ None → Faultless (record { named = n; modules = ms })
     → IsCleanCircuit (record { named = n; modules = ms })
-clean_circuit n [] l h = cc
+clean_circuit n [] l h = let none : lack n.place (codes "circuit") ≡ None = l in cc
 clean_circuit n (m ∷ []) l h =
     let names = flat_map (faults_by name_rule) (m ∷ []) in
     let mains = main_faults (record { named = n; modules = m ∷ [] }) in
     let types = flat_map (faults_by type_rule) (m ∷ []) in
     let wides = flat_map (faults_by width_rule) (m ∷ []) in
     let laws = flat_map (faults_by legality_rule) (m ∷ []) in
-    let drives = flat_map undriven (m ∷ []) in
+    let drives = flat_map undriven_faults (m ∷ []) in
     let e = empty_left (names ++ mains ++ types ++ wides ++ laws) drives h in
     let d = empty_left (names ++ mains ++ types ++ wides) laws e in
     let w = empty_left (names ++ mains ++ types) wides d in
@@ -118,7 +120,7 @@ clean_circuit n (m ∷ []) l h =
       only = refl;
       named = name_is m.named.name n.name main;
       clean = clean_module m (record {
-        language = both (are_ports m.ports) (are_statements m.body) l;
+        language = neither (lacking_ports m.ports) (lacking_statements m.body) l;
         names = empty_left names mains f;
         types = empty_right (names ++ mains) types w;
         widths = empty_right (names ++ mains ++ types) wides d;
@@ -126,7 +128,7 @@ clean_circuit n (m ∷ []) l h =
         connected = empty_right (names ++ mains ++ types ++ wides ++ laws) drives h;
       });
     }
-clean_circuit n (m ∷ k ∷ ms) l h = cc
+clean_circuit n (m ∷ k ∷ ms) l h = let second : lack k.place (codes "module") ≡ None = (neither (lacking_module m) (lack k.place (codes "module")) l).1 in cc
 
 pub faultless_clean : FaultlessIsClean
-faultless_clean c l h = clean_circuit c.named c.modules l h
+faultless_clean c l h = clean_circuit c.named c.modules (nothing (lacking c) l) h

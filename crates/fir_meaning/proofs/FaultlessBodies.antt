@@ -1,21 +1,23 @@
 -- Bodies of the language that show no fault are clean, statement by statement.
 -- An expression is clean over a sound scope, and a clean statement leaves the scope sound.
-use Rattle.std.proofs.Common.{◌≡◌, [], ◌++◌, true, false, ◌&&◌, Option, Some, None, is_none, refl}
+use Rattle.std.proofs.Common.{◌≡◌, [], ◌++◌, Option, Some, None, refl}
+use Rattle.std.specs.Option.{option_or}
 use Rattle.fir_bits.specs.Forms.{first_type}
 use Rattle.fir_ast.specs.declared.fault.FirFault.TheVariants.{Over}
 use Rattle.fir_ast.specs.declared.types.Ty.TheVariants.{UInt}
-use Rattle.fir_ast.specs.Types.{DataType, uint}
-use Rattle.fir_ast.specs.Statements.{Named, Reset, Statement, register, node, connect, skip, Block, done, then}
+use Rattle.fir_ast.specs.Statements.{PlacedName, Statement, register, node, connect, skip, Block, done, then}
 use Rattle.fir_meaning.specs.Scopes.{Declared, Scope, look_up, types, printed_type, written_type, declares}
 use Rattle.fir_meaning.specs.FaultRules.{along, within}
-use Rattle.fir_meaning.specs.NameFaults.{undeclared, repeated, twice, names_in_expression, names_in_clock, name_rule}
+use Rattle.fir_meaning.specs.NameFaults.{undeclared_name_faults, second_declaration_faults, repeated_name_faults, names_in_expression, clock_name_faults, name_rule}
 use Rattle.fir_meaning.specs.TypeFaults.{type_rule}
-use Rattle.fir_meaning.specs.WidthFaults.{over_width, widths_in_expression, width_rule}
+use Rattle.fir_meaning.specs.WidthFaults.{over_width_faults, widths_in_expression, width_rule}
 use Rattle.fir_meaning.specs.LegalityFaults.{legality_rule}
 use Rattle.fir_meaning.specs.Operations.{is_over}
-use Rattle.fir_meaning.specs.Language.{is_plain, is_expression, is_register_type, is_statement, are_statements}
-use Rattle.fir_meaning.specs.Clean.{IsNarrow, IsCleanStatement, AreCleanStatements}
-use Rattle.fir_meaning.proofs.Members.{empty_left, empty_right, both, fails}
+use Rattle.fir_meaning.specs.Lacking.{lacking_type, lacking_part, lacking_expression, lacking_reset, lacking_statement, lacking_statements}
+use Rattle.fir_meaning.specs.working.Clean.{IsCleanStatement, AreCleanStatements}
+use Rattle.fir_base.proofs.Empty.{empty_left, empty_right}
+use Rattle.fir_meaning.proofs.PassedTests.{fails}
+use Rattle.fir_meaning.proofs.NothingLacking.{neither, no_reset}
 use Rattle.fir_meaning.proofs.SoundScopes.{Sound}
 use Rattle.fir_meaning.proofs.CleanExpressions.{clean_expression, prints_uint}
 use Rattle.fir_meaning.proofs.NarrowTypes.{narrow_type}
@@ -25,14 +27,14 @@ use Rattle.fir_meaning.proofs.Bodies.{sound_behind}
 
 -- a statement of the language that shows no fault behind a scope
 pub record FaultlessStatement (scope : Scope) (s : Statement) : Type 0 where
-  pub language : is_statement s ≡ true
+  pub language : lacking_statement s ≡ None
   pub names : name_rule.of_statement scope s ≡ []
   pub types : type_rule.of_statement scope s ≡ []
   pub widths : width_rule.of_statement scope s ≡ []
   pub legality : legality_rule.of_statement scope s ≡ []
 
 pub record FaultlessBody (scope : Scope) (body : Block) : Type 0 where
-  pub language : are_statements body ≡ true
+  pub language : lacking_statements body ≡ None
   pub names : along name_rule 0 scope body ≡ []
   pub types : along type_rule 0 scope body ≡ []
   pub widths : along width_rule 0 scope body ≡ []
@@ -44,7 +46,7 @@ module _ (scope : Scope) (s : Statement) (b : Block) (c : FaultlessBody scope ((
 
   first_faultless : FaultlessStatement scope s
   first_faultless = record {
-    language = (both (is_statement s) (are_statements b) c.language).0;
+    language = (neither (lacking_statement s) (lacking_statements b) c.language).0;
     names = empty_left (name_rule.of_statement scope s) (along name_rule 0 more b) c.names;
     types = empty_left (type_rule.of_statement scope s) (along type_rule 0 more b) c.types;
     widths = empty_left (width_rule.of_statement scope s) (along width_rule 0 more b) c.widths;
@@ -53,7 +55,7 @@ module _ (scope : Scope) (s : Statement) (b : Block) (c : FaultlessBody scope ((
 
   rest_faultless : FaultlessBody more b
   rest_faultless = record {
-    language = (both (is_statement s) (are_statements b) c.language).1;
+    language = (neither (lacking_statement s) (lacking_statements b) c.language).1;
     names = empty_right (name_rule.of_statement scope s) (along name_rule 0 more b) c.names;
     types = empty_right (type_rule.of_statement scope s) (along type_rule 0 more b) c.types;
     widths = empty_right (width_rule.of_statement scope s) (along width_rule 0 more b) c.widths;
@@ -61,38 +63,30 @@ module _ (scope : Scope) (s : Statement) (b : Block) (c : FaultlessBody scope ((
   }
 
 -- a name that is not repeated is new
-pub new_name : (o : Option Declared) (n : Named) → repeated o n ≡ [] → o ≡ None
+pub new_name : (o : Option Declared) (n : PlacedName) → second_declaration_faults o n ≡ [] → o ≡ None
 new_name None n h = refl
 new_name (Some d) n h = cc
 
-no_reset : (r : Option Reset) → is_none r ≡ true → r ≡ None
-no_reset None h = refl
-no_reset (Some r) h = cc
-
-register_type : (t : DataType) → is_register_type t ≡ true → is_over (written_type t).width ≡ false → IsNarrow t
-register_type (uint width) l wide = narrow_type width l wide
-register_type t l wide = let e : false ≡ true = l in cc
-
 clean_statement : (scope : Scope) → Sound scope → (s : Statement) → FaultlessStatement scope s → IsCleanStatement scope s
 clean_statement scope sound (node p n e) c = (
-  new_name (look_up scope n.name) n (empty_left (twice scope n) (within names_in_expression scope e) c.names),
+  new_name (look_up scope n.name) n (empty_left (repeated_name_faults scope n) (within names_in_expression scope e) c.names),
   clean_expression scope sound e (record {
     language = c.language;
-    names = empty_right (twice scope n) (within names_in_expression scope e) c.names;
-    widths = empty_right (over_width (first_type (types scope e)).width n.place n.name) (within widths_in_expression scope e) c.widths;
+    names = empty_right (repeated_name_faults scope n) (within names_in_expression scope e) c.names;
+    widths = empty_right (over_width_faults (first_type (types scope e)).width n.place n.name) (within widths_in_expression scope e) c.widths;
     legality = c.legality;
   }),
 )
-clean_statement scope sound (register p n t k r) c =
-    let l = both (is_register_type t) (is_expression k && is_none r) c.language in
-    let m = both (is_expression k) (is_none r) l.1 in
+clean_statement scope sound (register p n begins t k r) c =
+    let l = neither (lacking_type begins t) (option_or (lacking_expression k) (lacking_reset r)) c.language in
+    let m = neither (lacking_expression k) (lacking_reset r) l.1 in
     let width = (written_type t).width in
-    let wide = over_width width n.place n.name in (
-      new_name (look_up scope n.name) n (empty_left (twice scope n) (names_in_clock scope k) c.names),
-      register_type t l.0 (fails (is_over width) (Over n.place n.name) (empty_left wide (within widths_in_expression scope k) c.widths)),
+    let wide = over_width_faults width n.place n.name in (
+      new_name (look_up scope n.name) n (empty_left (repeated_name_faults scope n) (clock_name_faults scope k) c.names),
+      narrow_type begins t l.0 (fails (is_over width) (Over n.place n.name) (empty_left wide (within widths_in_expression scope k) c.widths)),
       clean_clock scope sound k (record {
         language = m.0;
-        names = empty_right (twice scope n) (names_in_clock scope k) c.names;
+        names = empty_right (repeated_name_faults scope n) (clock_name_faults scope k) c.names;
         types = c.types;
         widths = empty_right wide (within widths_in_expression scope k) c.widths;
         legality = c.legality;
@@ -100,9 +94,9 @@ clean_statement scope sound (register p n t k r) c =
       no_reset r m.1,
     )
 clean_statement scope sound (connect p sink e) c =
-    let unknown = undeclared (look_up scope sink.name) sink.place sink.name in
+    let unknown = undeclared_name_faults (look_up scope sink.name) sink.place sink.name in
     let source = clean_expression scope sound e (record {
-      language = (both (is_plain sink.parts) (is_expression e) c.language).1;
+      language = (neither (lacking_part sink.parts) (lacking_expression e) c.language).1;
       names = empty_right unknown (within names_in_expression scope e) c.names;
       widths = c.widths;
       legality = c.legality;
@@ -112,7 +106,7 @@ clean_statement scope sound (connect p sink e) c =
       source,
     )
 clean_statement scope sound (skip p) c = tt
-clean_statement scope sound s c = let h : false ≡ true = c.language in cc
+clean_statement scope sound s c = let h : lacking_statement s ≡ None = c.language in cc
 
 pub clean_statements : (scope : Scope) → Sound scope → (body : Block) → FaultlessBody scope body → AreCleanStatements scope body
 clean_statements scope sound done c = tt

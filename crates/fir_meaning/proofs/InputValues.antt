@@ -4,10 +4,11 @@ use Rattle.std.proofs.Common.{◌≡◌, ℕ, zero, suc, ◌+◌, ◌^◌, ◌<�
 use Rattle.std.proofs.lemmas.Bool.{cases_Bool}
 use Rattle.fir_base.specs.Lists.{In, Distinct}
 use Rattle.fir_base.specs.Ticks.{FitEach}
+use Rattle.fir_base.proofs.Elements.{get_in}
+use Rattle.fir_base.proofs.Members.{in_map_from, map_same}
 use Rattle.fir_meaning.specs.Paths.{Path, same_path, Values}
 use Rattle.fir_meaning.specs.Scopes.{input, clock_input, register_value, Declared, Scope}
 use Rattle.fir_meaning.specs.Leaves.{Leaf, with_bits, paths, widths}
-use Rattle.fir_meaning.proofs.Members.{in_map_from, map_same}
 use Rattle.fir_meaning.proofs.SamePath.{path_is, put, put_here, put_other}
 use Rattle.fir_meaning.proofs.ChosenLeaves.{leaf_of, path_of, inputs_chosen, registers_chosen, clocks_chosen, chosen, chosen_from, bits_from}
 
@@ -41,17 +42,6 @@ start_below (l ∷ ls) (x ∷ xs) env y w h k b =
     (λ (t : same_path l.path y ≡ false). rw t (start_below ls xs env y w h.1 (λ m i. k m (inr i)) b))
     (cases_Bool (same_path l.path y))
 
--- an element with its place
-pub got_in : (xs : List Path) (k : ℕ) (x : Path) → slice_get xs k ≡ Some x → In xs x
-got_in [] k x h = cc
-got_in (y ∷ xs) zero x h = let e : y ≡ x = cc in inl e
-got_in (y ∷ xs) (suc k) x h = inr (got_in xs k x h)
-
-pub in_got : (xs : List Path) (x : Path) → In xs x → (k : ℕ) × (slice_get xs k ≡ Some x)
-in_got [] x m = absurd m
-in_got (y ∷ xs) x (inl e) = (0, ap Some e)
-in_got (y ∷ xs) x (inr m) = let r = in_got xs x m in (suc r.0, r.1)
-
 -- the paths are numbered from low on
 abbrev pub numbered : List Path → ℕ → Values → Values
 numbered [] low env = env
@@ -65,7 +55,7 @@ numbered_values (y ∷ xs) low env d zero x h =
     subst (λ (z : Path). put (numbered xs (low + 1) env) y low z ≡ low + 0) same (put_here (numbered xs (low + 1) env) y low ∙ sum)
 numbered_values (y ∷ xs) low env d (suc k) x h =
     let sum : low + 1 + k ≡ low + suc k = omega arith in
-    put_other (numbered xs (low + 1) env) y low x (λ e. d.0 (subst (In xs) (sym e) (got_in xs k x h))) ∙ numbered_values xs (low + 1) env d.1 k x h ∙ sum
+    put_other (numbered xs (low + 1) env) y low x (λ e. d.0 (subst (In xs) (sym e) (get_in xs k x h))) ∙ numbered_values xs (low + 1) env d.1 k x h ∙ sum
 
 pub numbered_others : (xs : List Path) (low : ℕ) (env : Values) (y : Path) → (In xs y → ⊥) → numbered xs low env y ≡ env y
 numbered_others [] low env y h = refl

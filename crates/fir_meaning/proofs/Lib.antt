@@ -1,4 +1,5 @@
-pub mod Members
+pub mod PassedTests
+pub mod NothingLacking
 pub mod SamePath
 pub mod LookUps
 pub mod SoundScopes

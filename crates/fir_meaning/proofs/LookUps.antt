@@ -4,8 +4,8 @@ use Rattle.std.proofs.Common.{◌≡◌, ℕ, List, [], ◌∷◌, ◌++◌, tru
 use Rattle.std.specs.Str.{bytes_eq}
 use Rattle.fir_base.specs.Lists.{In}
 use Rattle.fir_meaning.specs.Scopes.{Declared, Scope, look_up, type_in}
-use Rattle.fir_meaning.proofs.Members.{chosen}
-use Rattle.fir_meaning.proofs.SamePath.{name_is, name_same, name_other, name_apart}
+use Rattle.fir_base.proofs.Tests.{chosen}
+use Rattle.fir_base.proofs.SameNames.{name_is, name_same, name_other, name_apart}
 
 -- what is found stands in the scope, under its name
 pub found_in : (scope : Scope) (n : List ℕ) (d : Declared) → look_up scope n ≡ Some d → In scope d × (d.named.name ≡ n)
@@ -44,22 +44,27 @@ pub found_last : (scope : Scope) (x : Declared) → look_up scope x.named.name �
 found_last scope x h = lacked_front scope (x ∷ []) x.named.name h ∙ rw (name_same x.named.name) refl
 
 -- what is found with one more declaration is found before it, or is that one
-pub found_before : (scope : Scope) (x : Declared) (n : List ℕ) (d : Declared) → look_up scope x.named.name ≡ None → look_up (scope ++ x ∷ []) n ≡ Some d
+found_before : (scope : Scope) (x : Declared) (n : List ℕ) (d : Declared) → look_up (scope ++ x ∷ []) n ≡ Some d
     → (look_up scope n ≡ Some d) ⊎ ((x ≡ d) × (x.named.name ≡ n))
-found_before [] x n d new h =
+found_before [] x n d h =
     ⊎_elim
     (λ (c : (bytes_eq x.named.name n ≡ true) × (Some x ≡ Some d)). let e : x ≡ d = cc in inr (e, name_is x.named.name n c.0))
     (λ (c : (bytes_eq x.named.name n ≡ false) × (None ≡ Some d)). let e : None ≡ Some d = c.1 in cc)
     (chosen (bytes_eq x.named.name n) (Some x) None (Some d) h)
-found_before (y ∷ scope) x n d new h =
+found_before (y ∷ scope) x n d h =
     ⊎_elim
     (λ (c : (bytes_eq y.named.name n ≡ true) × (Some y ≡ Some d)). inl (rw c.0 c.1))
-    (λ (c : (bytes_eq y.named.name n ≡ false) × (look_up (scope ++ x ∷ []) n ≡ Some d)).
-    ⊎_elim
-    (λ (k : (bytes_eq y.named.name x.named.name ≡ true) × (Some y ≡ None)). let e : Some y ≡ None = k.1 in cc)
-    (λ (k : (bytes_eq y.named.name x.named.name ≡ false) × (look_up scope x.named.name ≡ None)). rw c.0 (found_before scope x n d k.1 c.1))
-    (chosen (bytes_eq y.named.name x.named.name) (Some y) (look_up scope x.named.name) None new))
+    (λ (c : (bytes_eq y.named.name n ≡ false) × (look_up (scope ++ x ∷ []) n ≡ Some d)). rw c.0 (found_before scope x n d c.1))
     (chosen (bytes_eq y.named.name n) (Some y) (look_up (scope ++ x ∷ []) n) (Some d) h)
+
+-- what holds of all that is found, and of a new declaration, holds with it
+pub found_more : (P : List ℕ → Declared → Type 0) (scope : Scope) (x : Declared) → ((n : List ℕ) (d : Declared) → look_up scope n ≡ Some d → P n d)
+    → P x.named.name x → (n : List ℕ) (d : Declared) → look_up (scope ++ x ∷ []) n ≡ Some d → P n d
+found_more P scope x old here n d h =
+    ⊎_elim
+    (λ (o : look_up scope n ≡ Some d). old n d o)
+    (λ (o : (x ≡ d) × (x.named.name ≡ n)). subst (P n) o.0 (subst (λ (m : List ℕ). P m x) o.1 here))
+    (found_before scope x n d h)
 
 -- each name is declared once
 abbrev pub Once : Scope → Type 0

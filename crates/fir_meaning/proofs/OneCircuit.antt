@@ -5,26 +5,25 @@ use Rattle.std.proofs.lemmas.Bool.{cases_Bool}
 use Rattle.std.proofs.lemmas.Bool.Decides.{Decides-eqb}
 use Rattle.fir_base.specs.Lists.{In}
 use Rattle.fir_base.specs.Ticks.{Tick}
-use Rattle.fir_bits.specs.Laws.{HasItsType}
-use Rattle.fir_ast.specs.Statements.{Block, done}
-use Rattle.fir_ast.specs.Circuits.{ModuleTree, CircuitTree}
+use Rattle.fir_base.proofs.Members.{in_map, in_map_from, same_at}
+use Rattle.fir_bits.specs.working.Laws.{HasItsType}
+use Rattle.fir_ast.specs.Statements.{Block}
+use Rattle.fir_ast.specs.Circuits.{CircuitTree}
 use Rattle.fir_meaning.specs.Paths.{Path, Values, Store, empty}
 use Rattle.fir_meaning.specs.Scopes.{input, clock_input, output, register_value, is_readable, Declared, Scope, look_up, port_declared}
-use Rattle.fir_meaning.specs.Leaves.{Leaf, module_named, main_module, main_scope, leaves, clocks, inputs, state_leaves, paths}
+use Rattle.fir_meaning.specs.Leaves.{Leaf, main_module, main_scope, leaves, clocks, inputs, state_leaves, paths}
 use Rattle.fir_meaning.specs.Settled.{Settled}
 use Rattle.fir_meaning.specs.Allows.{One}
-use Rattle.fir_meaning.specs.Clean.{IsCleanModule, IsCleanCircuit}
-use Rattle.fir_meaning.specs.Laws.{FaultlessHasOne}
-use Rattle.fir_meaning.proofs.Members.{in_map, in_map_from, same_at}
-use Rattle.fir_meaning.proofs.SamePath.{name_same}
+use Rattle.fir_meaning.specs.working.Clean.{IsCleanModule}
+use Rattle.fir_meaning.specs.working.Laws.{FaultlessHasOne}
 use Rattle.fir_meaning.proofs.LookUps.{found_in}
 use Rattle.fir_meaning.proofs.SoundScopes.{Agree}
 use Rattle.fir_meaning.proofs.BodyValues.{RegistersAgree, agree_along}
 use Rattle.fir_meaning.proofs.BodyStores.{same_store}
 use Rattle.fir_meaning.proofs.ChosenLeaves.{leaf_of, path_of, inputs_chosen, registers_chosen, chosen, chosen_in, bits_in}
-use Rattle.fir_meaning.proofs.InputValues.{in_got}
+use Rattle.fir_base.proofs.Elements.{number_of}
 use Rattle.fir_meaning.proofs.Ports.{port_read}
-use Rattle.fir_meaning.proofs.CleanCircuits.{main_ports, main_body, kept, leaf_from, leaf_in, sink_in}
+use Rattle.fir_meaning.proofs.CleanCircuits.{main_clean, main_ports, main_body, kept, leaf_from, leaf_in, sink_in}
 use Rattle.fir_meaning.proofs.CircuitValues.{read_or_driven, some_settled}
 use Rattle.fir_meaning.proofs.Faultless.{faultless_clean}
 
@@ -103,7 +102,7 @@ module _ (c : CircuitTree) (clean : IsCleanModule (main_module c)) (state : List
         subst (λ (x : Leaf). e x.path ≡ f x.path) r.3 here
 
     clocks_agree : (x : Path) → In (clocks c) x → e x ≡ f x
-    clocks_agree x m = let g = in_got (clocks c) x m in p.clock_values g.0 x g.1 ∙ sym (q.clock_values g.0 x g.1)
+    clocks_agree x m = let g = number_of (clocks c) x m in p.clock_values g.0 x g.1 ∙ sym (q.clock_values g.0 x g.1)
 
 -- a clean circuit has exactly one choice of values
 clean_has_one : HasItsType → (c : CircuitTree) → IsCleanModule (main_module c) → One c
@@ -116,14 +115,6 @@ clean_has_one law c clean state tick shaped =
       same_clocks = λ e f p q x m. clocks_agree c clean state tick e f p q x m;
     }
 
--- the main module is the one module
-pub main_is : (c : CircuitTree) (k : IsCleanCircuit c) → k.main ≡ main_module c
-main_is c k =
-    let none : ModuleTree = record { named = c.named; ports = []; body = done } in
-    let here : module_named c.named.name (k.main ∷ []) none ≡ k.main = rw (k.named, name_same c.named.name) refl in
-    sym (ap (λ (ms : List ModuleTree). module_named c.named.name ms none) k.only ∙ here)
-
 pub faultless_one : HasItsType → FaultlessHasOne
 faultless_one law c l h =
-    let k = faultless_clean c l h in
-    clean_has_one law c (subst IsCleanModule (main_is c k) k.clean)
+    clean_has_one law c (main_clean c (faultless_clean c l h))

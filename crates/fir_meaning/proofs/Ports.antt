@@ -7,7 +7,7 @@ use Rattle.fir_base.specs.declared.direction.Direction.TheVariants.{Input, Outpu
 use Rattle.fir_ast.specs.Types.{DataType, clock}
 use Rattle.fir_ast.specs.Circuits.{PortTree}
 use Rattle.fir_meaning.specs.Scopes.{input, output, is_readable, Scope, port_kind, port_declared, written_type, written_printed}
-use Rattle.fir_meaning.specs.Clean.{IsPortType, IsCleanPort, AreCleanPorts}
+use Rattle.fir_meaning.specs.working.Clean.{IsPortType, IsCleanPort, AreCleanPorts}
 use Rattle.fir_meaning.proofs.LookUps.{Once, once_more}
 use Rattle.fir_meaning.proofs.SoundScopes.{Plain, IsPrinted, Sound, sound_more}
 use Rattle.fir_meaning.proofs.NarrowTypes.{narrow_plain, narrow_printed}
@@ -26,7 +26,7 @@ port_printed Output t h = narrow_printed t h
 -- one more port
 pub port_sound : (scope : Scope) → Sound scope → (p : PortTree) → IsCleanPort scope p → Sound (scope ++ port_declared p ∷ [])
 port_sound scope sound p c =
-    sound_more scope (port_declared p) c.new sound (port_plain p.direction p.data_type c.type) (port_printed p.direction p.data_type c.type)
+    sound_more scope (port_declared p) sound (port_plain p.direction p.data_type c.type) (port_printed p.direction p.data_type c.type)
 
 pub ports_once : (scope : Scope) (ps : List PortTree) → AreCleanPorts scope ps → Once scope → Once (scope ++ map port_declared ps)
 ports_once scope [] c o = subst Once (sym (append-nil scope)) o

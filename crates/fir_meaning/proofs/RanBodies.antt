@@ -1,23 +1,23 @@
 -- Values in which the nodes of a body hold.
 -- Each node in turn gets the value of its expression; all that is no node stays as it was.
-use Rattle.std.proofs.Common.{◌≡◌, ℕ, ◌^◌, ◌<◌, List, [], ◌∷◌, ◌++◌, true, Some, None, refl, sym, ap, ◌∙◌, ⊎_elim, subst}
+use Rattle.std.proofs.Common.{◌≡◌, ℕ, ◌^◌, ◌<◌, List, [], ◌∷◌, ◌++◌, Some, refl, sym, ap, ◌∙◌, subst}
 use Rattle.std.proofs.lemmas.List.{append-nil}
 use Rattle.fir_bits.specs.declared.types.NumTy.{NumTy}
 use Rattle.fir_bits.specs.Forms.{first_type}
-use Rattle.fir_bits.specs.Laws.{HasItsType}
+use Rattle.fir_bits.specs.working.Laws.{HasItsType}
 use Rattle.fir_bits.specs.Operators.{type_of}
 use Rattle.fir_ast.specs.declared.place.Place.{Place}
 use Rattle.fir_ast.specs.Expressions.{Expression}
-use Rattle.fir_ast.specs.Statements.{Named, register, node, Block, done, then}
+use Rattle.fir_ast.specs.Statements.{PlacedName, register, node, Block, done, then}
 use Rattle.fir_meaning.specs.Paths.{Values}
-use Rattle.fir_meaning.specs.Scopes.{node_value, register_value, is_readable, Declared, Scope, look_up, behind}
+use Rattle.fir_meaning.specs.Scopes.{node_value, register_value, Declared, Scope, look_up, behind}
 use Rattle.fir_meaning.specs.Eval.{numbers}
 use Rattle.fir_meaning.specs.Settled.{NodeHolds, NodesHold}
-use Rattle.fir_meaning.specs.Clean.{IsCleanStatement, AreCleanStatements}
-use Rattle.fir_meaning.specs.Laws.{HasValue, Finds}
+use Rattle.fir_meaning.specs.working.Clean.{IsCleanStatement, AreCleanStatements}
+use Rattle.fir_meaning.specs.working.Laws.{HasValue, Finds}
 use Rattle.fir_meaning.proofs.SamePath.{put, put_here, put_other}
-use Rattle.fir_meaning.proofs.LookUps.{found_front, found_last, found_before}
-use Rattle.fir_meaning.proofs.SoundScopes.{Sound, Fits, held, Agree, agree_front, agree_through, put_new, fits_more}
+use Rattle.fir_meaning.proofs.LookUps.{found_front, found_last}
+use Rattle.fir_meaning.proofs.SoundScopes.{Sound, Fits, held, Agree, agree_front, agree_through, put_new, fits_more, fits_put}
 use Rattle.fir_meaning.proofs.CleanValues.{has_value}
 use Rattle.fir_meaning.proofs.SameValues.{same_value}
 use Rattle.fir_meaning.proofs.Bodies.{node_declared, register_declared, kept_behind, sound_behind}
@@ -40,7 +40,7 @@ pub record Ran (scope whole : Scope) (env : Values) (body : Block) : Type 0 wher
   pub fits : Fits whole last
   pub sound : Sound whole
 
-module _ (law : HasItsType) (scope whole : Scope) (env : Values) (sound : Sound scope) (fits : Fits scope env) (p : Place) (n : Named) (x : Expression) (b : Block) (same : behind 0 (scope ++ node_declared scope n x ∷ []) b ≡ whole) (c : IsCleanStatement scope (node p n x)) where
+module _ (law : HasItsType) (scope whole : Scope) (env : Values) (sound : Sound scope) (fits : Fits scope env) (p : Place) (n : PlacedName) (x : Expression) (b : Block) (same : behind 0 (scope ++ node_declared scope n x ∷ []) b ≡ whole) (c : IsCleanStatement scope (node p n x)) where
   abbrev declared : Declared
   declared = node_declared scope n x
 
@@ -72,7 +72,7 @@ module _ (law : HasItsType) (scope whole : Scope) (env : Values) (sound : Sound 
   node_sound = sound_behind scope sound (node p n x) c
 
   node_fits : Fits more with_node
-  node_fits = fits_more scope declared c.0 env number fits below
+  node_fits = fits_put scope declared c.0 env number fits below
 
   node_stays : Stays whole with_node env
   node_stays = record { each = λ m d h k. put_other env (n.name ∷ []) number (m ∷ []) (differs m d h k) }
@@ -112,17 +112,6 @@ module _ (law : HasItsType) (scope whole : Scope) (env : Values) (sound : Sound 
           ∙ ap numbers (sym value.evaluated)
           ∙ ap numbers (sym (same_value scope whole r.last env keeps x c.1))
 
--- a new declaration that fits
-fits_there : (scope : Scope) (x : Declared) (env : Values) → look_up scope x.named.name ≡ None → Fits scope env → env (x.named.name ∷ []) < 2 ^ x.holds.width → Fits (scope ++ x ∷ []) env
-fits_there scope x env new fits below = record { each = each }
-  where
-    each : (n : List ℕ) (d : Declared) → look_up (scope ++ x ∷ []) n ≡ Some d → is_readable d.kind ≡ true → env (n ∷ []) < 2 ^ d.holds.width
-    each n d h r = ⊎_elim
-        (λ (o : look_up scope n ≡ Some d). fits.each n d o r)
-        (λ (o : (x ≡ d) × (x.named.name ≡ n)).
-        subst (λ (k : List ℕ). env (k ∷ []) < 2 ^ d.holds.width) o.1 (subst (λ (y : Declared). env (x.named.name ∷ []) < 2 ^ y.holds.width) o.0 below))
-        (found_before scope x n d new h)
-
 -- a clean body gives each node its value
 pub ran : HasItsType → (scope : Scope) (body : Block) (whole : Scope) → behind 0 scope body ≡ whole → AreCleanStatements scope body → (env : Values) → Sound scope → Fits scope env
     → RegistersFit whole env → Ran scope whole env body
@@ -141,11 +130,11 @@ ran law scope ((then) (node p n x) b) whole same c env sound fits registers =
     (node_sound law scope whole env sound fits p n x b same c.0)
     (node_fits law scope whole env sound fits p n x b same c.0)
     (node_registers law scope whole env sound fits p n x b same c.0 registers))
-ran law scope ((then) (register p n t x y) b) whole same c env sound fits registers =
+ran law scope ((then) (register p n begins t x y) b) whole same c env sound fits registers =
     let d = register_declared n t in
     let more = scope ++ d ∷ [] in
     let below = registers.each n.name d ((kept_behind more b whole same).each n.name d (found_last scope d c.0.0)) refl in
-    let r = ran law more b whole same c.1 env (sound_behind scope sound (register p n t x y) c.0) (fits_there scope d env c.0.0 fits below) registers in
+    let r = ran law more b whole same c.1 env (sound_behind scope sound (register p n begins t x y) c.0) (fits_more scope d env fits below) registers in
     record {
       last = r.last;
       keeps = agree_front scope more r.last env (record { each = λ m k h. found_front scope (d ∷ []) m k h }) r.keeps;

@@ -1,24 +1,11 @@
--- `same_path` and `bytes_eq` decide equality.
+-- `same_path` decides equality.
 -- So a value that is put at one path is read there and nowhere else.
-use Rattle.std.proofs.Common.{◌≡◌, ℕ, List, [], ◌∷◌, true, false, if◌then◌else◌, Some, refl, sym, ◌∙◌}
+use Rattle.std.proofs.Common.{◌≡◌, ℕ, [], ◌∷◌, true, false, if◌then◌else◌, Some, refl}
 use Rattle.std.specs.Str.{bytes_eq}
 use Rattle.std.proofs.lemmas.Bool.{false_from_ne_true}
-use Rattle.std.proofs.lemmas.Slice.Eq.{bytes_eq-Decides}
+use Rattle.fir_base.proofs.SameNames.{name_is, name_same}
 use Rattle.fir_meaning.specs.Paths.{Path, same_path, Values, Store, stored_at}
-use Rattle.fir_meaning.proofs.Members.{both}
-
-pub name_is : (a b : List ℕ) → bytes_eq a b ≡ true → a ≡ b
-name_is a b h = (bytes_eq-Decides a b).0 h
-
-pub name_same : (a : List ℕ) → bytes_eq a a ≡ true
-name_same a = (bytes_eq-Decides a a).1 refl
-
-pub name_other : (a b : List ℕ) → (a ≡ b → ⊥) → bytes_eq a b ≡ false
-name_other a b h = false_from_ne_true (bytes_eq a b) (λ t. h (name_is a b t))
-
--- names that differ do so the other way round
-pub name_apart : (a b : List ℕ) → bytes_eq a b ≡ false → a ≡ b → ⊥
-name_apart a b h e = let t : bytes_eq a b ≡ true = (bytes_eq-Decides a b).1 e in let f : true ≡ false = sym t ∙ h in cc
+use Rattle.fir_base.proofs.Tests.{both}
 
 pub path_is : (x y : Path) → same_path x y ≡ true → x ≡ y
 path_is [] [] h = refl

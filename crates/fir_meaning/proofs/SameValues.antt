@@ -7,7 +7,7 @@ use Rattle.fir_ast.specs.Expressions.{Expression, reference, literal, operation,
 use Rattle.fir_meaning.specs.Paths.{Values}
 use Rattle.fir_meaning.specs.Scopes.{Scope, type_in}
 use Rattle.fir_meaning.specs.Eval.{number_of, eval, eval_each}
-use Rattle.fir_meaning.specs.Clean.{IsClean, AreClean}
+use Rattle.fir_meaning.specs.working.Clean.{IsClean, AreClean}
 use Rattle.fir_meaning.proofs.SoundScopes.{Agree}
 
 module _ (scope whole : Scope) (e f : Values) (agree : Agree scope e f) where

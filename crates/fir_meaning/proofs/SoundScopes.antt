@@ -1,14 +1,14 @@
 -- What is known of a scope without faults, and of values over it.
 -- The scope grows to that of the whole module, which finds the same.
-use Rattle.std.proofs.Common.{◌≡◌, ℕ, ◌^◌, ◌<◌, ◌≤◌, List, [], ◌∷◌, ◌++◌, true, false, Option, Some, None, sym, ap, ◌∙◌, ⊎_elim, subst}
+use Rattle.std.proofs.Common.{◌≡◌, ℕ, ◌^◌, ◌<◌, ◌≤◌, List, [], ◌∷◌, ◌++◌, true, false, Option, Some, None, sym, ap, ◌∙◌}
 use Rattle.fir_bits.specs.declared.types.NumTy.{NumTy}
 use Rattle.fir_ast.specs.declared.types.Ty.{Ty}
 use Rattle.fir_ast.specs.declared.types.Ty.TheVariants.{UInt, Clock}
 use Rattle.fir_meaning.specs.Paths.{Values}
 use Rattle.fir_meaning.specs.Scopes.{Kind, input, clock_input, output, node_value, register_value, is_readable, Declared, Scope, look_up}
-use Rattle.fir_meaning.specs.Laws.{Finds, Holds}
+use Rattle.fir_meaning.specs.working.Laws.{Finds, Holds}
 use Rattle.fir_meaning.proofs.SamePath.{put, put_here, put_other}
-use Rattle.fir_meaning.proofs.LookUps.{found_before}
+use Rattle.fir_meaning.proofs.LookUps.{found_more}
 
 -- a type of the language: a `UInt` of at most 128 bits
 pub record Plain (t : NumTy) : Type 0 where
@@ -74,34 +74,23 @@ sound_front scope whole kept s = record { each = λ n d h. s.each n d (kept.each
 pub fits_front : (scope whole : Scope) (env : Values) → Finds scope whole → Fits whole env → Fits scope env
 fits_front scope whole env kept fits = record { each = λ n d h r. fits.each n d (kept.each n d h) r }
 
-module _ (scope : Scope) (x : Declared) (new : look_up scope x.named.name ≡ None) where
+module _ (scope : Scope) (x : Declared) where
   pub sound_more : Sound scope → Plain x.holds → IsPrinted x.kind x.printed → Sound (scope ++ x ∷ [])
-  sound_more s p q = record { each = each; printed = printed }
-    where
-      each : (n : List ℕ) (d : Declared) → look_up (scope ++ x ∷ []) n ≡ Some d → Plain d.holds
-      each n d h = ⊎_elim
-          (λ (o : look_up scope n ≡ Some d). s.each n d o)
-          (λ (o : (x ≡ d) × (x.named.name ≡ n)). subst (λ (y : Declared). Plain y.holds) o.0 p)
-          (found_before scope x n d new h)
-
-      printed : (n : List ℕ) (d : Declared) → look_up (scope ++ x ∷ []) n ≡ Some d → IsPrinted d.kind d.printed
-      printed n d h = ⊎_elim
-          (λ (o : look_up scope n ≡ Some d). s.printed n d o)
-          (λ (o : (x ≡ d) × (x.named.name ≡ n)). subst (λ (y : Declared). IsPrinted y.kind y.printed) o.0 q)
-          (found_before scope x n d new h)
+  sound_more s p q = record {
+    each = found_more (λ n d. Plain d.holds) scope x s.each p;
+    printed = found_more (λ n d. IsPrinted d.kind d.printed) scope x s.printed q;
+  }
 
   pub agree_more : (e f : Values) → Agree scope e f → e (x.named.name ∷ []) ≡ f (x.named.name ∷ []) → Agree (scope ++ x ∷ []) e f
-  agree_more e f a here = record { each = each }
-    where
-      each : (n : List ℕ) (d : Declared) → look_up (scope ++ x ∷ []) n ≡ Some d → is_readable d.kind ≡ true → e (n ∷ []) ≡ f (n ∷ [])
-      each n d h r = ⊎_elim
-          (λ (o : look_up scope n ≡ Some d). a.each n d o r)
-          (λ (o : (x ≡ d) × (x.named.name ≡ n)). subst (λ (k : List ℕ). e (k ∷ []) ≡ f (k ∷ [])) o.1 here)
-          (found_before scope x n d new h)
+  agree_more e f a here = record { each = found_more (λ n d. is_readable d.kind ≡ true → e (n ∷ []) ≡ f (n ∷ [])) scope x a.each (λ r. here) }
 
+  pub fits_more : (env : Values) → Fits scope env → env (x.named.name ∷ []) < 2 ^ x.holds.width → Fits (scope ++ x ∷ []) env
+  fits_more env fits below = record { each = found_more (λ n d. is_readable d.kind ≡ true → env (n ∷ []) < 2 ^ d.holds.width) scope x fits.each (λ r. below) }
+
+module _ (scope : Scope) (x : Declared) (new : look_up scope x.named.name ≡ None) (env : Values) (v : ℕ) where
   -- a value at a new name changes nothing that is declared
-  pub put_new : (env : Values) (v : ℕ) → Agree scope (put env (x.named.name ∷ []) v) env
-  put_new env v = record { each = λ n d h r. put_other env (x.named.name ∷ []) v (n ∷ []) (differs n d h) }
+  pub put_new : Agree scope (put env (x.named.name ∷ []) v) env
+  put_new = record { each = λ n d h r. put_other env (x.named.name ∷ []) v (n ∷ []) (differs n d h) }
     where
       differs : (n : List ℕ) (d : Declared) → look_up scope n ≡ Some d → x.named.name ∷ [] ≡ n ∷ [] → ⊥
       differs n d h e =
@@ -109,13 +98,7 @@ module _ (scope : Scope) (x : Declared) (new : look_up scope x.named.name ≡ No
           let f : Some d ≡ None = sym h ∙ ap (look_up scope) (sym same) ∙ new in
           cc
 
-  pub fits_more : (env : Values) (v : ℕ) → Fits scope env → v < 2 ^ x.holds.width → Fits (scope ++ x ∷ []) (put env (x.named.name ∷ []) v)
-  fits_more env v fits below = record { each = each }
-    where
-      each : (n : List ℕ) (d : Declared) → look_up (scope ++ x ∷ []) n ≡ Some d → is_readable d.kind ≡ true → put env (x.named.name ∷ []) v (n ∷ []) < 2 ^ d.holds.width
-      each n d h r = ⊎_elim
-          (λ (o : look_up scope n ≡ Some d). rw ((put_new env v).each n d o r) (fits.each n d o r))
-          (λ (o : (x ≡ d) × (x.named.name ≡ n)).
-          subst (λ (k : List ℕ). put env (x.named.name ∷ []) v (k ∷ []) < 2 ^ d.holds.width) o.1
-          (subst (λ (y : Declared). put env (x.named.name ∷ []) v (x.named.name ∷ []) < 2 ^ y.holds.width) o.0 (rw (put_here env (x.named.name ∷ []) v) below)))
-          (found_before scope x n d new h)
+  pub fits_put : Fits scope env → v < 2 ^ x.holds.width → Fits (scope ++ x ∷ []) (put env (x.named.name ∷ []) v)
+  fits_put fits below =
+      fits_more scope x (put env (x.named.name ∷ []) v) (record { each = λ n d h r. rw (put_new.each n d h r) (fits.each n d h r) })
+      (rw (put_here env (x.named.name ∷ []) v) below)

@@ -1,7 +1,7 @@
 -- What a circuit allows at a tick, and over a run.
 use Rattle.std.specs.Prelude.{◌≡◌, ℕ, List, map}
 use Rattle.fir_base.specs.Lists.{In}
-use Rattle.fir_base.specs.Ticks.{Tick, Shown, HasShape, Allowance, IsRun}
+use Rattle.fir_base.specs.Ticks.{Tick, TickResult, HasShape, Allowance, IsRun}
 use Rattle.fir_ast.specs.Circuits.{CircuitTree}
 use Rattle.fir_meaning.specs.Paths.{Path, Values}
 use Rattle.fir_meaning.specs.Leaves.{Leaf, leaves, clocks, outputs, paths, shape}
@@ -12,7 +12,7 @@ use Rattle.fir_meaning.specs.Next.{next}
 abbrev pub Allows : CircuitTree → Allowance
 Allows c state tick shown after = (env : Values) × Settled c state tick env × (map env (paths (outputs c)) ≡ shown) × (next c env tick ≡ after)
 
-abbrev pub Run : CircuitTree → List ℕ → List Tick → List Shown → Type 0
+abbrev pub Run : CircuitTree → List ℕ → List Tick → List TickResult → Type 0
 Run c = IsRun (Allows c)
 
 -- some values are settled, and any two agree on every leaf and clock

@@ -6,7 +6,7 @@ use Rattle.fir_base.specs.declared.direction.Direction.{Direction}
 use Rattle.fir_base.specs.declared.direction.Direction.TheVariants as direction
 use Rattle.fir_ast.specs.declared.fault.FirFault.{FirFault}
 use Rattle.fir_ast.specs.declared.fault.FirFault.TheVariants.{Undriven}
-use Rattle.fir_ast.specs.Statements.{Named, Statement, connect, Block, done, then}
+use Rattle.fir_ast.specs.Statements.{PlacedName, Statement, connect, Block, done, then}
 use Rattle.fir_ast.specs.Circuits.{ModuleTree}
 
 abbrev pub drives : Statement → List ℕ → Bool
@@ -18,9 +18,9 @@ abbrev pub is_connected : Block → List ℕ → Bool
 is_connected done name = false
 is_connected ((then) s b) name = drives s name || is_connected b name
 
-abbrev pub undriven_output : Direction → Block → Named → List FirFault
-undriven_output direction.Input body n = []
-undriven_output direction.Output body n = if is_connected body n.name then [] else Undriven n.place n.name [] ∷ []
+abbrev pub output_faults : Direction → Block → PlacedName → List FirFault
+output_faults direction.Input body n = []
+output_faults direction.Output body n = if is_connected body n.name then [] else Undriven n.place n.name [] ∷ []
 
-abbrev pub undriven : ModuleTree → List FirFault
-undriven m = flat_map (λ p. undriven_output p.direction m.body p.named) m.ports
+abbrev pub undriven_faults : ModuleTree → List FirFault
+undriven_faults m = flat_map (λ p. output_faults p.direction m.body p.named) m.ports

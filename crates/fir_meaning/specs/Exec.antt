@@ -6,9 +6,10 @@ use Rattle.fir_bits.specs.declared.types.NumTy.{NumTy}
 use Rattle.fir_bits.specs.declared.values.Num.{Num}
 use Rattle.fir_bits.specs.Values.{fitted}
 use Rattle.fir_ast.specs.Statements.{Statement, connect, Block, done, then}
-use Rattle.fir_meaning.specs.Paths.{Path, Values, Store, stored_at}
+use Rattle.fir_ast.specs.Circuits.{CircuitTree}
+use Rattle.fir_meaning.specs.Paths.{Path, Values, Store, empty, stored_at}
 use Rattle.fir_meaning.specs.Scopes.{Scope}
-use Rattle.fir_meaning.specs.Leaves.{Leaf, leaves_named}
+use Rattle.fir_meaning.specs.Leaves.{Leaf, leaves_named, main_module, main_scope}
 use Rattle.fir_meaning.specs.Eval.{eval}
 
 abbrev pub all_true : List Bool → Bool
@@ -44,3 +45,7 @@ exec scope path taken env _ store = store
 abbrev pub exec_all : Scope → Path → List Bool → Values → Block → Store → Store
 exec_all scope path taken env done store = store
 exec_all scope path taken env ((then) s b) store = exec_all scope path taken env b (exec scope path taken env s store)
+
+-- what the statements of the main module store
+abbrev pub stored : CircuitTree → Values → Store
+stored c env = exec_all (main_scope c) [] [] env (main_module c).body empty

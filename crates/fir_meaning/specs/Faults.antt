@@ -11,7 +11,7 @@ use Rattle.fir_meaning.specs.NameFaults.{name_rule}
 use Rattle.fir_meaning.specs.TypeFaults.{type_rule}
 use Rattle.fir_meaning.specs.WidthFaults.{width_rule}
 use Rattle.fir_meaning.specs.LegalityFaults.{legality_rule}
-use Rattle.fir_meaning.specs.DrivenFaults.{undriven}
+use Rattle.fir_meaning.specs.DrivenFaults.{undriven_faults}
 
 abbrev pub is_module : List ModuleTree → List ℕ → Bool
 is_module [] name = false
@@ -24,7 +24,7 @@ main_faults c = if is_module c.modules c.named.name then [] else NoModule c.name
 abbrev pub faults : CircuitTree → List FirFault
 faults c =
     flat_map (faults_by name_rule) c.modules ++ main_faults c ++ flat_map (faults_by type_rule) c.modules ++ flat_map (faults_by width_rule) c.modules
-    ++ flat_map (faults_by legality_rule) c.modules ++ flat_map undriven c.modules
+    ++ flat_map (faults_by legality_rule) c.modules ++ flat_map undriven_faults c.modules
 
 abbrev pub Shown : CircuitTree → FirFault → Type 0
 Shown c f = In (faults c) f

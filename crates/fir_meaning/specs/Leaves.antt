@@ -26,13 +26,17 @@ leaves_found path (Some d) = leaves_of path d
 abbrev pub leaves_named : Scope → Path → List ℕ → List Leaf
 leaves_named scope path name = leaves_found path (look_up scope name)
 
--- the module with the circuit's name; without it, one with nothing in it
+-- the module of that name, or else the other
 abbrev pub module_named : List ℕ → List ModuleTree → ModuleTree → ModuleTree
 module_named name [] none = none
 module_named name (m ∷ ms) none = if bytes_eq m.named.name name then m else module_named name ms none
 
+abbrev pub empty_module : CircuitTree → ModuleTree
+empty_module c = record { place = c.named.place; named = c.named; ports = []; body = done }
+
+-- the module with the circuit's name; without it, one with nothing in it
 abbrev pub main_module : CircuitTree → ModuleTree
-main_module c = module_named c.named.name c.modules (record { named = c.named; ports = []; body = done })
+main_module c = module_named c.named.name c.modules (empty_module c)
 
 abbrev pub main_scope : CircuitTree → Scope
 main_scope c = scope_of (main_module c)

@@ -12,26 +12,26 @@ use Rattle.fir_bits.specs.declared.types.OpFault.{OpFault}
 use Rattle.fir_bits.specs.declared.types.OpFault.TheVariants as op_fault
 use Rattle.fir_bits.specs.Forms.{first_type}
 use Rattle.fir_bits.specs.Types.{typed}
-use Rattle.fir_meaning.specs.OperatorWords.{operator_word}
+use Rattle.fir_bits.specs.OperatorWords.{operator_word}
 use Rattle.fir_meaning.specs.Scopes.{Scope}
 use Rattle.fir_meaning.specs.FaultRules.{Rule, ExpressionRule, within}
 
 -- the number of a UInt literal is below two to its width
-abbrev pub unfit : Literal → List FirFault
-unfit l = if nat_lt l.magnitude (2 ^ unwrap_or l.width 0) then [] else LiteralLegality l.place (unwrap_or l.width 0) l.negative l.magnitude ∷ []
+abbrev pub literal_faults : Literal → List FirFault
+literal_faults l = if nat_lt l.magnitude (2 ^ unwrap_or l.width 0) then [] else LiteralLegality l.place (unwrap_or l.width 0) l.negative l.magnitude ∷ []
 
-abbrev pub illegal_by : Result NumTy OpFault → Place → PrimOp → List NumTy → List ℕ → List FirFault
-illegal_by (Err op_fault.Legality) p op ts ks = Legality p (operator_word op) ((first_type ts).width ∷ ks) ∷ []
-illegal_by _ p op ts ks = []
+abbrev pub integer_faults : Result NumTy OpFault → Place → PrimOp → List NumTy → List ℕ → List FirFault
+integer_faults (Err op_fault.Legality) p op ts ks = Legality p (operator_word op) ((first_type ts).width ∷ ks) ∷ []
+integer_faults _ p op ts ks = []
 
 abbrev pub legality_in_expression : ExpressionRule
-legality_in_expression = record { of_reference = λ scope p name. []; of_literal = unfit; of_operation = λ p op ts ks. illegal_by (typed op ts ks) p op ts ks }
+legality_in_expression = record { of_reference = λ scope p name. []; of_literal = literal_faults; of_operation = λ p op ts ks. integer_faults (typed op ts ks) p op ts ks }
 
-abbrev pub legality_in_statement : Scope → Statement → List FirFault
-legality_in_statement scope (node p n e) = within legality_in_expression scope e
-legality_in_statement scope (register p n t c r) = within legality_in_expression scope c
-legality_in_statement scope (connect p sink e) = within legality_in_expression scope e
-legality_in_statement scope _ = []
+abbrev pub statement_legality_faults : Scope → Statement → List FirFault
+statement_legality_faults scope (node p n e) = within legality_in_expression scope e
+statement_legality_faults scope (register p n begins t c r) = within legality_in_expression scope c
+statement_legality_faults scope (connect p sink e) = within legality_in_expression scope e
+statement_legality_faults scope _ = []
 
 abbrev pub legality_rule : Rule
-legality_rule = record { of_port = λ scope p. []; of_statement = legality_in_statement }
+legality_rule = record { of_port = λ scope p. []; of_statement = statement_legality_faults }

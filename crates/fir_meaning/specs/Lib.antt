@@ -1,6 +1,5 @@
 pub mod Paths
 pub mod Operations
-pub mod OperatorWords
 pub mod Scopes
 pub mod Leaves
 pub mod Eval
@@ -15,6 +14,5 @@ pub mod WidthFaults
 pub mod LegalityFaults
 pub mod DrivenFaults
 pub mod Faults
-pub mod Language
-pub mod Clean
-pub mod Laws
+pub mod Lacking
+pub mod working

@@ -1,15 +1,14 @@
 -- The state after a tick (FIRRTL spec, "Registers").
 -- A register whose clock is named takes what the statements store, or what it shows where they store nothing. Else it keeps its state.
-use Rattle.std.specs.Prelude.{ℕ, List, [], ◌∷◌, ◌++◌, map, flat_map, Bool, false, nat_eq, if◌then◌else◌, unwrap_or}
-use Rattle.std.specs.List.{list_any}
-use Rattle.fir_base.specs.Ticks.{Tick}
+use Rattle.std.specs.Prelude.{ℕ, List, [], ◌∷◌, ◌++◌, map, flat_map, Bool, false, if◌then◌else◌, unwrap_or}
+use Rattle.fir_base.specs.Ticks.{Tick, rises}
 use Rattle.fir_ast.specs.Expressions.{Expression, reference}
 use Rattle.fir_ast.specs.Statements.{Statement, register, Block, done, then}
 use Rattle.fir_ast.specs.Circuits.{CircuitTree}
-use Rattle.fir_meaning.specs.Paths.{Path, Values, empty}
+use Rattle.fir_meaning.specs.Paths.{Path, Values}
 use Rattle.fir_meaning.specs.Scopes.{Scope}
 use Rattle.fir_meaning.specs.Leaves.{Leaf, leaves_named, main_module, main_scope, with_bits}
-use Rattle.fir_meaning.specs.Exec.{exec_all}
+use Rattle.fir_meaning.specs.Exec.{stored}
 
 -- a leaf of a register of the instance at the path, and what clocks it
 pub record Clocked : Type 0 where
@@ -18,7 +17,7 @@ pub record Clocked : Type 0 where
   pub clock : Expression
 
 abbrev pub clocked_by : Scope → Path → Statement → List Clocked
-clocked_by scope path (register p n t c r) = map (λ l. record { leaf = l; path = path; clock = c }) (flat_map with_bits (leaves_named scope path n.name))
+clocked_by scope path (register p n begins t c r) = map (λ l. record { leaf = l; path = path; clock = c }) (flat_map with_bits (leaves_named scope path n.name))
 clocked_by scope path _ = []
 
 abbrev pub clocked_in : Scope → Path → Block → List Clocked
@@ -29,10 +28,6 @@ clocked_in scope path ((then) s b) = clocked_by scope path s ++ clocked_in scope
 abbrev pub registers : CircuitTree → List Clocked
 registers c = clocked_in (main_scope c) [] (main_module c).body
 
--- whether the clock of that number is named
-abbrev pub rises : List ℕ → ℕ → Bool
-rises named clock = list_any (nat_eq clock) named
-
 -- whether a clock is named
 abbrev pub ticks : List ℕ → Path → Values → Expression → Bool
 ticks named path env (reference p n ps) = rises named (env (path ++ n ∷ []))
@@ -41,7 +36,7 @@ ticks named path env _ = false
 abbrev pub next_word : CircuitTree → Values → List ℕ → Clocked → ℕ
 next_word c env named r =
     if ticks named r.path env r.clock
-    then unwrap_or (exec_all (main_scope c) [] [] env (main_module c).body empty r.leaf.path) (env r.leaf.path)
+    then unwrap_or (stored c env r.leaf.path) (env r.leaf.path)
     else env r.leaf.path
 
 abbrev pub next : CircuitTree → Values → Tick → List ℕ

@@ -11,7 +11,7 @@ use Rattle.fir_ast.specs.declared.types.Ty.{Ty}
 use Rattle.fir_ast.specs.declared.types.Ty.TheVariants.{UInt, Clock}
 use Rattle.fir_ast.specs.Types.{DataType, uint, sint, clock}
 use Rattle.fir_ast.specs.Expressions.{Expression, reference, literal, operation, mux, validif, Expressions, no_expressions, expression}
-use Rattle.fir_ast.specs.Statements.{Named, Statement, register, node, Block, done, then}
+use Rattle.fir_ast.specs.Statements.{PlacedName, Statement, register, node, Block, done, then}
 use Rattle.fir_ast.specs.Circuits.{PortTree, ModuleTree}
 use Rattle.fir_meaning.specs.Operations.{counted, operation_type}
 
@@ -32,7 +32,7 @@ is_readable register_value = true
 
 -- a declared component: the type that its leaf holds, counted, and as faults print it; and the number of whens that stand round its declaration
 pub record Declared : Type 0 where
-  pub named : Named
+  pub named : PlacedName
   pub kind : Kind
   pub holds : NumTy
   pub printed : Option Ty
@@ -108,7 +108,7 @@ written_printed _ = None
 abbrev pub declares : ℕ → Scope → Statement → Scope
 declares depth scope (node p n e) =
     record { named = n; kind = node_value; holds = first_type (types scope e); printed = printed_type scope e; depth = depth } ∷ []
-declares depth scope (register p n t c r) =
+declares depth scope (register p n begins t c r) =
     record { named = n; kind = register_value; holds = written_type t; printed = written_printed t; depth = depth } ∷ []
 declares depth scope _ = []
 

@@ -6,11 +6,11 @@ use Rattle.fir_base.specs.Lists.{In}
 use Rattle.fir_base.specs.Ticks.{Tick, HasShape}
 use Rattle.fir_ast.specs.Statements.{Statement, node, Block, done, then}
 use Rattle.fir_ast.specs.Circuits.{CircuitTree}
-use Rattle.fir_meaning.specs.Paths.{Path, Values, empty}
+use Rattle.fir_meaning.specs.Paths.{Path, Values}
 use Rattle.fir_meaning.specs.Scopes.{Scope}
 use Rattle.fir_meaning.specs.Leaves.{Leaf, leaves_named, main_module, main_scope, leaves, clocks, sinks, inputs, state_leaves, paths, shape}
 use Rattle.fir_meaning.specs.Eval.{eval, numbers}
-use Rattle.fir_meaning.specs.Exec.{exec_all}
+use Rattle.fir_meaning.specs.Exec.{stored}
 
 -- where the statement is a node, its leaves have the values of its expression
 abbrev pub NodeHolds : Scope → Path → Values → Statement → Type 0
@@ -31,4 +31,4 @@ pub record Settled (c : CircuitTree) (state : List ℕ) (tick : Tick) (env : Val
   pub clock_values : (k : ℕ) (x : Path) → slice_get (clocks c) k ≡ Some x → env x ≡ k
   pub state_values : map env (paths (state_leaves c)) ≡ state
   pub node_values : NodesHold (main_scope c) [] env (main_module c).body
-  pub sink_values : (l : Leaf) → In (sinks c) l → exec_all (main_scope c) [] [] env (main_module c).body empty l.path ≡ Some (env l.path)
+  pub sink_values : (l : Leaf) → In (sinks c) l → stored c env l.path ≡ Some (env l.path)

@@ -1,4 +1,4 @@
--- E12, what is no clock behind a register's comma; E13, a connect whose source does not fit its sink; E14, a connect that drives a source
+-- E12, what is no clock behind a register's comma; E13, a connect whose source is not equivalent to its sink; E14, a connect that drives a source
 -- (FIRRTL spec, "Registers", "Type Equivalence", "Flow"): input ports and nodes are sources.
 -- A fault is shown only where the expressions have types.
 use Rattle.std.specs.Prelude.{ℕ, List, [], ◌∷◌, Bool, true, false, if◌then◌else◌, Option, Some, None}
@@ -36,9 +36,9 @@ abbrev pub is_clock : Ty → Bool
 is_clock Clock = true
 is_clock _ = false
 
-abbrev pub no_clock : Option Ty → Place → List FirFault
-no_clock None p = []
-no_clock (Some t) p = if is_clock t then [] else Kinds p (t ∷ []) ∷ []
+abbrev pub clock_kind_faults : Option Ty → Place → List FirFault
+clock_kind_faults None p = []
+clock_kind_faults (Some t) p = if is_clock t then [] else Kinds p (t ∷ []) ∷ []
 
 abbrev pub is_source : Kind → Bool
 is_source input = true
@@ -47,27 +47,27 @@ is_source output = false
 is_source node_value = true
 is_source register_value = false
 
--- clocks fit clocks, and a UInt one of any width
+-- a clock is equivalent to a clock, and a UInt to one of any width
 abbrev pub is_equivalent : Ty → Ty → Bool
 is_equivalent Clock t = is_clock t
 is_equivalent s Clock = false
 is_equivalent s t = true
 
-abbrev pub driven : Kind → Place → List ℕ → List FirFault
-driven kind p name = if is_source kind then Flow p name ∷ [] else []
+abbrev pub flow_faults : Kind → Place → List ℕ → List FirFault
+flow_faults kind p name = if is_source kind then Flow p name ∷ [] else []
 
-abbrev pub connected : Kind → Place → List ℕ → Option Ty → Option Ty → List FirFault
-connected kind p name (Some s) (Some t) = if is_equivalent s t then driven kind p name else Types p s t ∷ []
-connected kind p name _ _ = []
+abbrev pub equivalence_faults : Kind → Place → List ℕ → Option Ty → Option Ty → List FirFault
+equivalence_faults kind p name (Some s) (Some t) = if is_equivalent s t then flow_faults kind p name else Types p s t ∷ []
+equivalence_faults kind p name _ _ = []
 
-abbrev pub connect_types : Option Declared → Place → List ℕ → Option Ty → List FirFault
-connect_types None p name source = []
-connect_types (Some d) p name source = connected d.kind p name d.printed source
+abbrev pub connect_type_faults : Option Declared → Place → List ℕ → Option Ty → List FirFault
+connect_type_faults None p name source = []
+connect_type_faults (Some d) p name source = equivalence_faults d.kind p name d.printed source
 
-abbrev pub types_in_statement : Scope → Statement → List FirFault
-types_in_statement scope (register p n t c r) = no_clock (clock_type scope c) (place_of c)
-types_in_statement scope (connect p sink e) = connect_types (look_up scope sink.name) p sink.name (printed_type scope e)
-types_in_statement scope _ = []
+abbrev pub statement_type_faults : Scope → Statement → List FirFault
+statement_type_faults scope (register p n begins t c r) = clock_kind_faults (clock_type scope c) (place_of c)
+statement_type_faults scope (connect p sink e) = connect_type_faults (look_up scope sink.name) p sink.name (printed_type scope e)
+statement_type_faults scope _ = []
 
 abbrev pub type_rule : Rule
-type_rule = record { of_port = λ scope p. []; of_statement = types_in_statement }
+type_rule = record { of_port = λ scope p. []; of_statement = statement_type_faults }

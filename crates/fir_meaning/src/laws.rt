@@ -1,6 +1,6 @@
 //! Laws about the definitions, each the contract of a function that does nothing.
 
-ghost use Rattle.fir_meaning.specs.Laws.{FaultlessHasOne, FaultlessRunsOnce, ShowsOneFirst, LastConnect, FaultlessIsClean, CleanHasValue};
+ghost use Rattle.fir_meaning.specs.working.Laws.{FaultlessHasOne, FaultlessRunsOnce, ShowsOneFirst, LastConnect, FaultlessIsClean, CleanHasValue};
 
 /// A circuit of the language that shows no fault has, at every state and tick of its shape, exactly one
 /// choice of values for its leaves and clocks.

@@ -2,10 +2,10 @@
 use Rattle.std.proofs.Common.{◌≡◌, ℕ, List, ◌++◌, Bool, true, false, ◌&&◌, sym, ap, ◌∙◌, arith}
 use Rattle.std.specs.Prelude.{not, decimal, codes}
 use Rattle.std.specs.BTreeSet.{BTreeSet}
-use Rattle.ver_ast.specs.Reserved.{is_reserved}
+use Rattle.ver_words.specs.Reserved.{is_reserved}
 use Rattle.fir_net.specs.declared.numbered.Numbered.{Numbered}
 use Rattle.fir_net.specs.Names.{is_free, suffixed, inner_name, IsFirstFree, IsNameFor, IsInner}
-use Rattle.fir_net.specs.NameSets.{Holds, IsFirstUntaken, has}
+use Rattle.fir_net.specs.working.NameSets.{Holds, IsFirstUntaken, has}
 use Rattle.fir_net.proofs.Unreserved.{suffixed_unreserved, inner_unreserved}
 
 -- free is what is not reserved and not in the set

@@ -1,5 +1,5 @@
 -- Sets of names, and the lists that they hold.
-use Rattle.std.proofs.Common.{◌≡◌, ℕ, List, [], ◌∷◌, ◌++◌, Bool, true, false, cond, ◌||◌, refl, ap, ◌∙◌, inl, inr}
+use Rattle.std.proofs.Common.{◌≡◌, ℕ, List, [], ◌∷◌, ◌++◌, Bool, true, false, cond, ◌||◌, refl, ap, ◌∙◌}
 use Rattle.std.specs.BTreeSet.{BTreeSet, contains}
 use Rattle.std.specs.BTreeSet as sorted
 use Rattle.std.specs.BTreeMap.{is_at}
@@ -7,12 +7,9 @@ use Rattle.std.specs.List.{list_any}
 use Rattle.std.specs.Cmp.Lexicographic.{slice_cmp}
 use Rattle.std.specs.Ordering.{nat_cmp}
 use Rattle.std.specs.Str.{bytes_eq}
-use Rattle.std.proofs.lemmas.Bool.{or_left, or_right}
-use Rattle.std.proofs.lemmas.Slice.Eq.{bytes_eq-Decides}
 use Rattle.std.proofs.lemmas.Map.Text.{is_eq-slice_cmp}
-use Rattle.fir_base.specs.Lists.{In}
 use Rattle.fir_base.specs.Words.{is_among}
-use Rattle.fir_net.specs.NameSets.{Holds}
+use Rattle.fir_net.specs.working.NameSets.{Holds}
 
 -- a choice of two tests, as a condition
 or_as_cond : (b c : Bool) → cond b true c ≡ (b || c)
@@ -44,9 +41,3 @@ holds_first old new names name u h = record {
 -- a list with the same names
 pub holds_same : (set : BTreeSet (List ℕ)) (names others : List (List ℕ)) → ((n : List ℕ) → is_among names n ≡ is_among others n) → Holds set names → Holds set others
 holds_same set names others same h = record { each = λ n. h.each n ∙ same n }
-
--- a member is found
-pub among_members : (names : List (List ℕ)) (n : List ℕ) → In names n → is_among names n ≡ true
-among_members [] n m = absurd m
-among_members (name ∷ names) n (inl e) = or_left _ _ ((bytes_eq-Decides name n).1 e)
-among_members (name ∷ names) n (inr m) = or_right _ _ (among_members names n m)

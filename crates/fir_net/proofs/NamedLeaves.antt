@@ -1,5 +1,5 @@
 -- The names of leaves: how the list of them grows, and that none stands twice and each is spelled as a name.
-use Rattle.std.proofs.Common.{◌≡◌, ℕ, ◌≤◌, List, [], ◌∷◌, ◌++◌, Bool, true, false, ◌||◌, refl, sym, ap, ◌∙◌, inl, inr, subst, append_assoc}
+use Rattle.std.proofs.Common.{◌≡◌, ℕ, List, [], ◌∷◌, ◌++◌, Bool, true, false, ◌||◌, refl, sym, ap, ◌∙◌, inl, inr, subst, append_assoc}
 use Rattle.std.specs.Prelude.{Option, Some, None, not, IsTrue}
 use Rattle.std.specs.BTreeSet.{BTreeSet}
 use Rattle.std.specs.BTreeSet as sorted
@@ -12,24 +12,25 @@ use Rattle.std.proofs.lemmas.List.{append-nil}
 use Rattle.std.proofs.lemmas.Slice.Eq.{bytes_eq-Decides}
 use Rattle.fir_base.specs.Words.{is_among}
 use Rattle.fir_base.specs.Lists.{In, Distinct}
-use Rattle.ver_ast.specs.Names.{is_word, IsName}
-use Rattle.ver_ast.specs.Reserved.{is_reserved}
-use Rattle.fir_net.specs.declared.net.Leaf.{Leaf}
+use Rattle.ver_words.specs.Names.{is_word, IsName}
+use Rattle.ver_words.specs.Reserved.{is_reserved}
+use Rattle.fir_net.specs.declared.leaf.Leaf.{Leaf}
 use Rattle.fir_net.specs.Names.{is_free, IsFirstFree, IsNameFor}
-use Rattle.fir_net.specs.IsTable.{somes, with_some, AreLeafNames}
-use Rattle.fir_net.specs.NameSets.{Holds, TakesName}
+use Rattle.fir_net.specs.Paths.{base_name}
+use Rattle.fir_net.specs.working.LeafNamed.{somes, with_some, has_name, AreLeafNames}
+use Rattle.fir_net.specs.working.NameSets.{Holds, TakesName}
 use Rattle.fir_net.proofs.HeldNames.{among_last, holds_none, holds_first, holds_same}
-use Rattle.fir_net.proofs.Members.{somes_none, somes_more}
+use Rattle.fir_net.proofs.Somes.{somes_none, somes_more}
 use Rattle.fir_net.proofs.Unreserved.{suffixed_word}
 
--- a leaf of no bits
-pub takes_none : (set : BTreeSet (List ℕ)) (leaf : Leaf) → leaf.width ≡ 0 → TakesName set set leaf None
+-- a leaf that has no name
+pub takes_none : (set : BTreeSet (List ℕ)) (leaf : Leaf) → has_name leaf ≡ false → TakesName set set leaf None
 takes_none set leaf e = record { named = λ names h. e; held = λ names h. h }
 
--- a leaf with bits
-pub takes_some : (old new : BTreeSet (List ℕ)) (leaf : Leaf) (name copy : List ℕ) → 1 ≤ leaf.width → ((names : List (List ℕ)) → Holds old names → IsNameFor names leaf.name name) → copy ≡ name → sorted.Updates (slice_cmp nat_cmp) old new copy true → TakesName old new leaf (Some name)
-takes_some old new leaf name copy wide free same u = record {
-  named = λ names h. (wide, free names h);
+-- a leaf that has one
+pub takes_some : (old new : BTreeSet (List ℕ)) (leaf : Leaf) (name copy : List ℕ) → has_name leaf ≡ true → ((names : List (List ℕ)) → Holds old names → IsNameFor names (base_name leaf.path) name) → copy ≡ name → sorted.Updates (slice_cmp nat_cmp) old new copy true → TakesName old new leaf (Some name)
+takes_some old new leaf name copy has free same u = record {
+  named = λ names h. (has, free names h);
   held = λ names h. subst (λ n. Holds new (n ∷ names)) same (holds_first old new names copy u h);
 }
 
@@ -92,7 +93,7 @@ leaves_new taken [] [] h n m = absurd m
 leaves_new taken [] (name ∷ names) h n m = absurd h
 leaves_new taken (l ∷ leaves) [] h n m = absurd h
 leaves_new taken (l ∷ leaves) (None ∷ names) h n m = leaves_new taken leaves names h.1 n m
-leaves_new taken (l ∷ leaves) (Some name ∷ names) h n (inl e) = ap (is_among taken) (sym e) ∙ name_new taken l.name name h.0.1
+leaves_new taken (l ∷ leaves) (Some name ∷ names) h n (inl e) = ap (is_among taken) (sym e) ∙ name_new taken (base_name l.path) name h.0.1
 leaves_new taken (l ∷ leaves) (Some name ∷ names) h n (inr m) = (or_parts (bytes_eq name n) (is_among taken n) (leaves_new (name ∷ taken) leaves names h.1 n m)).1
 
 pub leaves_distinct : (taken : List (List ℕ)) (leaves : List Leaf) (names : List (Option (List ℕ))) → AreLeafNames taken leaves names → Distinct (somes names)
@@ -103,9 +104,9 @@ leaves_distinct taken (l ∷ leaves) (None ∷ names) h = leaves_distinct taken 
 leaves_distinct taken (l ∷ leaves) (Some name ∷ names) h =
     (λ m. both_ways (bytes_eq name name) (or_parts (bytes_eq name name) (is_among taken name) (leaves_new (name ∷ taken) leaves names h.1 name m)).0 ((bytes_eq-Decides name name).1 refl), leaves_distinct (name ∷ taken) leaves names h.1)
 
-pub leaves_spelled : (taken : List (List ℕ)) (leaves : List Leaf) (names : List (Option (List ℕ))) → AllByRecursion (λ l. IsTrue (is_word l.name)) leaves → AreLeafNames taken leaves names → AllByRecursion IsName (somes names)
+pub leaves_spelled : (taken : List (List ℕ)) (leaves : List Leaf) (names : List (Option (List ℕ))) → AllByRecursion (λ l. IsTrue (is_word (base_name l.path))) leaves → AreLeafNames taken leaves names → AllByRecursion IsName (somes names)
 leaves_spelled taken [] [] w h = tt
 leaves_spelled taken [] (name ∷ names) w h = absurd h
 leaves_spelled taken (l ∷ leaves) [] w h = absurd h
 leaves_spelled taken (l ∷ leaves) (None ∷ names) w h = leaves_spelled taken leaves names w.1 h.1
-leaves_spelled taken (l ∷ leaves) (Some name ∷ names) w h = (name_is_name taken l.name name w.0 h.0.1, leaves_spelled (name ∷ taken) leaves names w.1 h.1)
+leaves_spelled taken (l ∷ leaves) (Some name ∷ names) w h = (name_is_name taken (base_name l.path) name w.0 h.0.1, leaves_spelled (name ∷ taken) leaves names w.1 h.1)

@@ -8,15 +8,11 @@ use Rattle.std.proofs.lemmas.Bool.{not-true, both_ways, and_parts, and_from, or_
 use Rattle.std.proofs.lemmas.List.Folds.{list_all-append}
 use Rattle.std.proofs.lemmas.Slice.Eq.{bytes_eq-Decides}
 use Rattle.fir_base.specs.Words.{is_among}
-use Rattle.ver_ast.specs.declared.reserved.TheConstants.{RESERVED_WORDS}
-use Rattle.ver_ast.specs.Names.{is_digit, is_word_byte, is_word_start, is_word, IsName}
-use Rattle.ver_ast.specs.Reserved.{is_reserved}
-use Rattle.fir_net.specs.Names.{suffixed, inner_name, module_name}
-
--- a digit comes first
-abbrev starts_with_digit : List ℕ → Bool
-starts_with_digit [] = false
-starts_with_digit (b ∷ bs) = is_digit b
+use Rattle.ver_words.specs.declared.reserved.TheConstants.{RESERVED_WORDS}
+use Rattle.ver_words.specs.Names.{is_word, IsName, module_name}
+use Rattle.fir_base.specs.Bytes.{is_digit, starts_with_digit, is_word_byte, is_word_start}
+use Rattle.ver_words.specs.Reserved.{is_reserved}
+use Rattle.fir_net.specs.Names.{suffixed, inner_name}
 
 -- somewhere an underscore stands before a digit
 abbrev is_numbered : List ℕ → Bool
@@ -81,9 +77,6 @@ longer_word (b ∷ bs) more h m =
 pub suffixed_word : (base : List ℕ) (k : ℕ) → is_word base ≡ true → is_word (suffixed base k) ≡ true
 suffixed_word base k h = longer_word (base ++ codes "_") (decimal k) (longer_word base (codes "_") h refl) (word_bytes (decimal k) (decimal_is_digits k))
 
-pub inner_word : (k : ℕ) → is_word (inner_name k) ≡ true
-inner_word k = word_bytes (decimal k) (decimal_is_digits k)
-
 -- a word with a mark that no word of a table has
 not_among : (mark : List ℕ → Bool) (table : List (List ℕ)) (word : List ℕ) → list_all (λ w. not (mark w)) table ≡ true → mark word ≡ true → is_among table word ≡ false
 not_among mark [] word t b = refl
@@ -114,9 +107,6 @@ pub inner_unreserved : (k : ℕ) → is_reserved (inner_name k) ≡ false
 unfolding is_reserved
 inner_unreserved k = not_among starts_with_underscore (map (λ entry. entry.now) RESERVED_WORDS.now) (inner_name k) none_starts_with_underscore refl
 
-pub inner_is_name : (k : ℕ) → IsName (inner_name k)
-inner_is_name k = record { spelled = inner_word k; free = ap not (inner_unreserved k) }
-
 -- the module's name
 pub module_is_name : (name : List ℕ) → is_word name ≡ true → IsName (module_name name)
 module_is_name name h = choose (is_reserved name) refl
@@ -124,3 +114,10 @@ module_is_name name h = choose (is_reserved name) refl
     choose : (b : Bool) → is_reserved name ≡ b → IsName (module_name name)
     choose true e = rw e (record { spelled = longer_word name (95 ∷ 48 ∷ []) h refl; free = ap not (behind_unreserved name (48 ∷ []) refl) })
     choose false e = rw e (record { spelled = h; free = ap not e })
+
+-- the names of inner nets are spelled as names
+inner_word : (k : ℕ) → is_word (inner_name k) ≡ true
+inner_word k = word_bytes (decimal k) (decimal_is_digits k)
+
+pub inner_is_name : (k : ℕ) → IsName (inner_name k)
+inner_is_name k = record { spelled = inner_word k; free = ap not (inner_unreserved k) }

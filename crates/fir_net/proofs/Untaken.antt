@@ -12,7 +12,7 @@ use Rattle.std.proofs.lemmas.Fmt.{decimal_is_IsNumeral_wide}
 use Rattle.std.proofs.lemmas.Slice.Eq.{bytes_eq-Decides}
 use Rattle.std.proofs.lemmas.Map.Text.{is_eq-slice_cmp}
 use Rattle.fir_base.specs.Lists.{In}
-use Rattle.fir_net.specs.NameSets.{has}
+use Rattle.fir_net.specs.working.NameSets.{has}
 use Rattle.fir_net.proofs.Pigeons.{pigeons}
 
 -- the numbers of the code have decimals of their own

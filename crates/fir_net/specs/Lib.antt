@@ -1,9 +1,4 @@
-pub mod Values
-pub mod Settled
-pub mod Next
-pub mod Allows
-pub mod IsNet
+pub mod Paths
 pub mod Names
-pub mod IsTable
-pub mod NameSets
 pub mod Rows
+pub mod working

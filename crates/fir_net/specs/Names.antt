@@ -1,10 +1,9 @@
 -- The names of the emitted text (IEEE 1364-2005, 3.7).
--- A leaf takes its own name, its path with `_` between the parts; where that is reserved or taken by a leaf before it, the first free of that name
--- with `_0`, `_1` and so on behind it. The nets of nodes are `_n0`, `_n1` and so on, without the taken ones. The module has the circuit's name, with
--- `_0` behind it where it is reserved.
-use Rattle.std.specs.Prelude.{◌≡◌, ℕ, ◌+◌, ◌<◌, ◌≤◌, List, [], ◌∷◌, ◌++◌, Bool, true, false, not, ◌&&◌, codes, decimal, if◌then◌else◌, MatchBool}
+-- A leaf takes its base name; where that is reserved or taken by a leaf before it, the first free of that name
+-- with `_0`, `_1` and so on behind it. The nets of nodes are `_n0`, `_n1` and so on, without the taken ones.
+use Rattle.std.specs.Prelude.{◌≡◌, ℕ, ◌+◌, ◌<◌, ◌≤◌, List, [], ◌∷◌, ◌++◌, Bool, true, false, not, ◌&&◌, codes, decimal, MatchBool}
 use Rattle.fir_base.specs.Words.{is_among}
-use Rattle.ver_ast.specs.Reserved.{is_reserved}
+use Rattle.ver_words.specs.Reserved.{is_reserved}
 
 abbrev pub is_free : List (List ℕ) → List ℕ → Bool
 is_free taken name = not (is_reserved name) && not (is_among taken name)
@@ -41,6 +40,3 @@ pub record IsInner (taken : List (List ℕ)) (from number : ℕ) : Type 0 where
 abbrev pub AreInner : List (List ℕ) → ℕ → List (List ℕ) → Type 0
 AreInner taken from [] = Unit {0}
 AreInner taken from (name ∷ names) = (k : ℕ) × IsInner taken from k × (name ≡ inner_name k) × AreInner taken (k + 1) names
-
-abbrev pub module_name : List ℕ → List ℕ
-module_name name = if is_reserved name then name ++ codes "_0" else name

@@ -2,11 +2,12 @@
 use Rattle.std.specs.Prelude.{ℕ, List, [], ◌∷◌, map, flat_map, nat_eq, if◌then◌else◌}
 use Rattle.fir_base.specs.declared.direction.Direction.{Direction}
 use Rattle.fir_base.specs.declared.direction.Direction.TheVariants as direction
-use Rattle.fir_net.specs.declared.net.Role.{Role}
-use Rattle.fir_net.specs.declared.net.Role.TheVariants as role
+use Rattle.fir_net.specs.declared.leaf.Role.{Role}
+use Rattle.fir_net.specs.declared.leaf.Role.TheVariants as role
 use Rattle.fir_net.specs.declared.net.FlatNet.{FlatNet}
-use Rattle.ver_ast.specs.declared.tree.Signal.{Signal}
-use Rattle.ver_ast.specs.declared.tree.Signal.TheVariants.{Bits, Clock}
+use Rattle.fir_net.specs.Paths.{base_name}
+use Rattle.ver_words.specs.declared.signal.Signal.{Signal}
+use Rattle.ver_words.specs.declared.signal.Signal.TheVariants.{Bits, Clock}
 
 -- a port's name before it is made one of Verilog, its direction, and what it carries
 pub record Row : Type 0 where
@@ -17,8 +18,8 @@ pub record Row : Type 0 where
 abbrev pub row : List ℕ → Direction → ℕ → List Row
 row name d width = if nat_eq width 0 then [] else (record { name = name; direction = d; signal = Bits width } ∷ [])
 
-abbrev pub clock_row : List ℕ → List Row
-clock_row name = record { name = name; direction = direction.Input; signal = Clock } ∷ []
+abbrev pub clock_row : List ℕ → Direction → List Row
+clock_row name d = record { name = name; direction = d; signal = Clock } ∷ []
 
 -- a word of the state: its name before it is made one of Verilog, and its width
 pub record Word : Type 0 where
@@ -30,19 +31,20 @@ word name width = if nat_eq width 0 then [] else (record { name = name; width = 
 
 abbrev pub role_row : Role → List ℕ → ℕ → List Row
 role_row role.Input name width = row name direction.Input width
-role_row role.Clock name width = clock_row name
+role_row role.Clock name width = clock_row name direction.Input
 role_row (role.Output r) name width = row name direction.Output width
-role_row (role.Register r) name width = []
+role_row (role.ClockOutput c) name width = clock_row name direction.Output
+role_row _ name width = []
 
 abbrev pub role_word : Role → List ℕ → ℕ → List Word
 role_word (role.Register r) name width = word name width
 role_word _ name width = []
 
 abbrev pub net_rows : FlatNet → List Row
-net_rows net = flat_map (λ l. role_row l.role l.name l.width) net.leaves
+net_rows net = flat_map (λ l. role_row l.role (base_name l.path) l.width) net.leaves
 
 abbrev pub net_words : FlatNet → List Word
-net_words net = flat_map (λ l. role_word l.role l.name l.width) net.leaves
+net_words net = flat_map (λ l. role_word l.role (base_name l.path) l.width) net.leaves
 
 abbrev pub row_names : List Row → List (List ℕ)
 row_names = map (λ r. r.name)

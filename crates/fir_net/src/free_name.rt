@@ -1,15 +1,15 @@
 //! Names that are free.
 
 ghost use Rattle.std.specs.Prelude.{◌≡◌, IfOk, List, ℕ, ◌++◌, codes, not, ◌&&◌};
-ghost use Rattle.ver_ast.specs.Reserved.{is_reserved};
+ghost use Rattle.ver_words.specs.Reserved.{is_reserved};
 ghost use Rattle.fir_net.specs.Names.{IsNameFor};
-ghost use Rattle.fir_net.specs.NameSets.{Holds, has};
+ghost use Rattle.fir_net.specs.working.NameSets.{Holds, has};
 
 use crate::numbered::{Numbered, first_untaken};
 use fir_base::{MemoryOut, Name};
 use std::alloc::Global;
 use std::collections::BTreeSet;
-use ver_ast::is_reserved;
+use ver_words::is_reserved;
 
 /// The name of a leaf whose path is joined to that base: the base, or where that is reserved or taken the
 /// first free of `base_0`, `base_1` and so on.

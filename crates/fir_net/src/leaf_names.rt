@@ -1,11 +1,12 @@
-//! The names of leaves.
+//! The names of ports and registers.
 
-ghost use Rattle.std.specs.Prelude.{IfOk, []};
-ghost use Rattle.fir_net.specs.IsTable.{AreLeafNames, somes};
-ghost use Rattle.fir_net.specs.NameSets.{Holds, TakesName};
+ghost use Rattle.std.specs.Prelude.{◌≡◌, IfOk, []};
+ghost use Rattle.fir_net.specs.working.LeafNamed.{AreLeafNames, has_name, somes};
+ghost use Rattle.fir_net.specs.working.NameSets.{Holds, TakesName};
 
+use crate::base_name::base_name;
 use crate::free_name::free_name;
-use crate::net::Leaf;
+use crate::leaf::{Leaf, Role};
 use fir_base::{MemoryOut, Name, Seq};
 use std::alloc::Global;
 use std::collections::BTreeSet;
@@ -33,7 +34,7 @@ pub fn leaf_names(alloc: Global, leaves: &[Leaf]) -> Result<LeafNames, MemoryOut
     })
 }
 
-/// The name of a leaf behind those whose names are taken; it is taken then. A leaf of no bits has none.
+/// The name of a leaf behind those whose names are taken; it is taken then.
 fn leaf_name(
     alloc: Global,
     taken: &mut BTreeSet<Name>,
@@ -41,10 +42,21 @@ fn leaf_name(
 ) -> Result<Option<Name>, MemoryOut>
     ensures { IfOk result (λ n. TakesName taken.old taken.new leaf.now n) }
 {
-    if leaf.width == 0 {
+    if !has_name(leaf) {
         return Ok(None);
     }
-    let name = free_name(alloc, taken, &leaf.name)?;
+    let base = base_name(alloc, &leaf.path)?;
+    let name = free_name(alloc, taken, &base)?;
     taken.insert(name.copy(alloc)?)?;
     Ok(Some(name))
+}
+
+/// Whether a leaf has a name: a port or a register that has bits.
+fn has_name(leaf: &Leaf) -> bool
+    ensures { result ≡ has_name leaf.now }
+{
+    match leaf.role {
+        Role::Wire(_) | Role::ClockWire(_) => false,
+        _ => leaf.width != 0,
+    }
 }

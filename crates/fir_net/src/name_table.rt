@@ -1,24 +1,27 @@
 //! The names of a net in the emitted text.
 
-ghost use Rattle.std.specs.Prelude.{◌≡◌, ◌++◌, IsTrue, IfOk, List, ℕ, slice_get, Option, Some, None, unwrap_or, option_map};
-ghost use Rattle.std.specs.List.{AllByRecursion};
-ghost use Rattle.fir_base.specs.Lists.{Distinct};
-ghost use Rattle.ver_ast.specs.Names.{is_word, IsName};
-ghost use Rattle.fir_net.specs.IsTable.{IsTable, somes, all_names};
+ghost use Rattle.std.specs.Prelude.{◌≡◌, ◌+◌, ◌^◌, ◌≤◌, IfOk, slice_get, None, unwrap_or, option_map};
+ghost use Rattle.ver_words.specs.Names.{IsName};
+ghost use Rattle.fir_net.specs.Names.{IsInner, inner_name};
+ghost use Rattle.fir_net.specs.working.LeafNamed.{somes};
+ghost use Rattle.fir_net.specs.working.NameSets.{Holds};
 
-use crate::leaf_names::{LeafNames, leaf_names};
-use crate::module_name::module_name;
-use crate::net::FlatNet;
-use crate::node_names::node_names;
+mod naming;
+
+use crate::ids::LeafId;
+use crate::numbered::{Numbered, first_untaken};
 use fir_base::{MemoryOut, Name, Seq};
+pub use naming::names;
 use std::alloc::Global;
+use std::collections::BTreeSet;
 
-/// The names of a net: of the module, of each leaf and of each node that has a net of its own.
+/// The names of a net: of the module, and of each port and register.
 #[derive(Drop)]
 pub struct NameTable {
     circuit: Name,
     leaves: Seq<Option<Name>>,
-    nodes: Seq<Option<Name>>,
+    taken: BTreeSet<Name>,
+    ghost held: { Holds taken (somes leaves) },
 }
 
 impl NameTable {
@@ -29,47 +32,25 @@ impl NameTable {
         &self.circuit
     }
 
-    /// The name of the leaf of that number; a leaf of no bits has none.
-    pub fn leaf(&self, number: usize) -> Option<&Name>
-        ensures { option_map (λ n. n.now) result ≡ unwrap_or (slice_get self.now.leaves number) None }
+    /// The name of a port or register; one of no bits, and a wire, has none.
+    pub fn leaf(&self, leaf: LeafId) -> Option<&Name>
+        ensures { option_map (λ n. n.now) result ≡ unwrap_or (slice_get self.now.leaves leaf) None }
     {
-        match self.leaves.as_slice().get(number) {
+        match self.leaves.as_slice().get(leaf.number()) {
             Some(Some(name)) => Some(name),
             _ => None,
         }
     }
 
-    /// The name of the net of the node of that number; a literal and a node of no bits have none.
-    pub fn node(&self, number: usize) -> Option<&Name>
-        ensures { option_map (λ n. n.now) result ≡ unwrap_or (slice_get self.now.nodes number) None }
+    /// The first name of an inner net, from that number on, that no port and no register has: `_n0`, `_n1`
+    /// and so on. Only memory can be wanting.
+    pub fn inner(&self, alloc: Global, from: u128) -> Result<Numbered, MemoryOut>
+        requires room { from + 2 ^ 64 ≤ 2 ^ 128 }
+        ensures first { IfOk result (λ n. IsInner (somes self.now.leaves) from n.number) }
+        ensures named { IfOk result (λ n. n.name ≡ inner_name n.number) }
+        ensures spelled { IfOk result (λ n. IsName n.name) }
+        ensures near { IfOk result (λ n. n.number + 1 ≤ from + 2 ^ 63) }
     {
-        match self.nodes.as_slice().get(number) {
-            Some(Some(name)) => Some(name),
-            _ => None,
-        }
+        first_untaken(alloc, &self.taken, b"_n", from)
     }
-}
-
-/// The names of the net: in the order of the leaves each takes its own name, or the first free of that with
-/// `_0`, `_1` and so on behind it; the nets of nodes are `_n0`, `_n1` and so on, without those that leaves
-/// have. No two are the same, and none is reserved (IEEE 1364-2005, 3.7). Only memory can be wanting.
-pub fn names(alloc: Global, net: &FlatNet) -> Result<NameTable, MemoryOut>
-    requires word { IsTrue (is_word net.now.name) }
-    requires words { AllByRecursion (λ l. IsTrue (is_word l.name)) net.now.leaves }
-    ensures table { IfOk result (λ t. IsTable net.now t) }
-    ensures distinct { IfOk result (λ t. Distinct (all_names t)) }
-    ensures spelled { IfOk result (λ t. AllByRecursion IsName (all_names t)) }
-    ensures module_spelled { IfOk result (λ t. IsName t.circuit) }
-{
-    let circuit = module_name(alloc, &net.name)?;
-    let LeafNames {
-        names: leaves,
-        taken,
-    } = leaf_names(alloc, net.leaves.as_slice())?;
-    let nodes = node_names(alloc, &taken, net.nodes.as_slice())?;
-    Ok(NameTable {
-        circuit,
-        leaves,
-        nodes,
-    })
 }

@@ -1,7 +1,7 @@
 //! Names that end with a number.
 
 ghost use Rattle.std.specs.Prelude.{◌≡◌, ◌+◌, ◌^◌, ◌≤◌, ◌++◌, IfOk, decimal};
-ghost use Rattle.fir_net.specs.NameSets.{IsFirstUntaken};
+ghost use Rattle.fir_net.specs.working.NameSets.{IsFirstUntaken};
 
 use fir_base::{MemoryOut, Name, put_decimal};
 use std::alloc::Global;
@@ -44,5 +44,5 @@ fn with_number(alloc: Global, front: &[u8], number: u128) -> Result<Name, Memory
 {
     let mut bytes = Vec::from_slice(alloc, front)?;
     put_decimal(&mut bytes, number)?;
-    Name::new(alloc, bytes.as_slice())
+    Ok(Name::from_vec(bytes))
 }

@@ -2,22 +2,24 @@
 
 ghost use Rattle.std.specs.Prelude.{◌≡◌, [], ◌∷◌, ◌++◌, OnOk};
 
+use crate::ids::{LeafId, NodeId};
 use fir_base::MemoryOut;
 use smallvec::SmallVec;
 use std::alloc::Global;
+use std::hash::{Hash, Hasher};
 use std::marker::Model;
 
-/// A leaf or a node, by its number from 0.
-#[derive(Clone, Copy, Debug, PartialEq, Eq)]
+/// A leaf or a node.
+#[derive(Clone, Copy, Debug, PartialEq, Eq, Hash)]
 pub enum Read {
-    Leaf(usize),
-    Node(usize),
+    Leaf(LeafId),
+    Node(NodeId),
 }
 
 /// What stands in the unused room of a short list of operands.
 impl Default for Read {
     fn default() -> Read {
-        Read::Leaf(0)
+        Read::Leaf(LeafId::new(0))
     }
 }
 
@@ -59,5 +61,40 @@ impl Reads {
         ensures { result.now ≡ self.now }
     {
         self.entries.as_slice()
+    }
+}
+
+impl PartialEq for Reads {
+    ghost use Rattle.std.specs.Cmp.Lexicographic.{lists_per};
+    ghost use Rattle.fir_net.specs.contracts.reads.ReadPartialEq.TheImpl.Laws.{laws-law};
+    ghost use Rattle.fir_net.specs.working.EqualNodes.{equal_reads};
+
+    ghost eq = { equal_reads };
+
+    ghost laws = { lists_per laws-law };
+
+    fn eq(&self, other: &Reads) -> bool {
+        self.entries == other.entries
+    }
+}
+
+impl Eq for Reads {
+    ghost use Rattle.std.specs.Cmp.Lexicographic.{lists_equiv};
+    ghost use Rattle.fir_net.specs.contracts.reads.ReadEq.TheImpl.Laws.{laws-law};
+
+    ghost laws = { lists_equiv laws-law };
+}
+
+impl Hash for Reads {
+    ghost use Rattle.std.specs.Hash.{items_Alike};
+    ghost use Rattle.fir_net.specs.contracts.reads.ReadHash.TheImpl.Laws.{respects_eq-law};
+    ghost use Rattle.fir_net.specs.working.EqualNodes.{read_writes};
+
+    ghost hash_input = { read_writes };
+
+    ghost respects_eq = { (items_Alike (record { fed = respects_eq-law })).fed };
+
+    fn hash<H: Hasher>(&self, state: &mut H) {
+        self.entries.hash(state);
     }
 }

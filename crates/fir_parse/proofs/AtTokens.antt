@@ -5,31 +5,31 @@ use Rattle.fir_ast.specs.declared.fault.FirFault.TheVariants.{Syntax, Unsupporte
 use Rattle.fir_parse.specs.Lexemes.{Terminal}
 use Rattle.fir_parse.specs.States.{State, Limit, done, limit, wants, Step, takes, without, refuses, unsupported, fault_of}
 use Rattle.fir_parse.specs.Reading.{Outcome, step, goes_on, at_token, at_end}
-use Rattle.fir_parse.specs.TextFaults.{Fit, fits, unfit, missing, fit, fit_by, passed_limit}
+use Rattle.fir_parse.specs.TextFaults.{Verdict, continues, unexpected, missing, judge, verdict_by, passed_limit}
 use Rattle.fir_ast.specs.Circuits.{CircuitTree}
 use Rattle.fir_parse.proofs.Guards.{Guard, free, unlimited, firm, guard_of, Meets, Guarded}
 use Rattle.fir_parse.proofs.Keeping.{Keeps, MayBeEmpty}
 use Rattle.fir_parse.proofs.StepKeeps.{keeps}
 
 -- how a text goes on where a token does so
-abbrev pub outcome_of : Fit → Place → (State → Outcome) → Outcome
-outcome_of (fits next) p behind = behind next
-outcome_of unfit p behind = Err (Syntax p)
+abbrev pub outcome_of : Verdict → Place → (State → Outcome) → Outcome
+outcome_of (continues next) p behind = behind next
+outcome_of unexpected p behind = Err (Syntax p)
 outcome_of (missing q w) p behind = Err (Unsupported q w)
 
-by_step_without_limits : {T : Type 0} (u : Step T) (k : T → State) (t : Terminal) (behind : State → Outcome) → ((x : T) → at_token false (k x) t behind ≡ outcome_of (fit (k x) t) t.place behind) → goes_on u t.place k behind (λ x. at_token false (k x) t behind) ≡ outcome_of (fit_by u k (λ x. fit (k x) t)) t.place behind
+by_step_without_limits : {T : Type 0} (u : Step T) (k : T → State) (t : Terminal) (behind : State → Outcome) → ((x : T) → at_token false (k x) t behind ≡ outcome_of (judge (k x) t) t.place behind) → goes_on u t.place k behind (λ x. at_token false (k x) t behind) ≡ outcome_of (verdict_by u k (λ x. judge (k x) t)) t.place behind
 by_step_without_limits (takes g) k t behind h = refl
 by_step_without_limits (without x) k t behind h = h x
 by_step_without_limits refuses k t behind h = refl
 by_step_without_limits (unsupported q w) k t behind h = refl
 
 -- where limits do not count
-pub without_limits : (st : State) (t : Terminal) (behind : State → Outcome) → at_token false st t behind ≡ outcome_of (fit st t) t.place behind
+pub without_limits : (st : State) (t : Terminal) (behind : State → Outcome) → at_token false st t behind ≡ outcome_of (judge st t) t.place behind
 without_limits (done c) t behind = refl
 without_limits (limit passed l st) t behind = without_limits st t behind
 without_limits (wants s k) t behind = by_step_without_limits (step s t.lexeme t.place) k t behind (λ x. without_limits (k x) t behind)
 
-by_step_within_limits : {T : Type 0} (g : Guard) (u : Step T) (k : T → State) (t : Terminal) (behind : State → Outcome) → Keeps g u → (MayBeEmpty g → (x : T) → at_token true (k x) t behind ≡ outcome_of (fit (k x) t) t.place behind) → goes_on u t.place k behind (λ x. at_token true (k x) t behind) ≡ outcome_of (fit_by u k (λ x. fit (k x) t)) t.place behind
+by_step_within_limits : {T : Type 0} (g : Guard) (u : Step T) (k : T → State) (t : Terminal) (behind : State → Outcome) → Keeps g u → (MayBeEmpty g → (x : T) → at_token true (k x) t behind ≡ outcome_of (judge (k x) t) t.place behind) → goes_on u t.place k behind (λ x. at_token true (k x) t behind) ≡ outcome_of (verdict_by u k (λ x. judge (k x) t)) t.place behind
 by_step_within_limits g (takes f) k t behind keep h = refl
 by_step_within_limits g (without x) k t behind keep h = h keep x
 by_step_within_limits g refuses k t behind keep h = refl
@@ -46,7 +46,7 @@ none_passed firm (limit passed l st) e m = absurd m
 none_passed firm (wants s k) e m = refl
 
 -- where no limit is passed
-pub within_limits : (st : State) (t : Terminal) (behind : State → Outcome) → Guarded st → passed_limit st ≡ None → at_token true st t behind ≡ outcome_of (fit st t) t.place behind
+pub within_limits : (st : State) (t : Terminal) (behind : State → Outcome) → Guarded st → passed_limit st ≡ None → at_token true st t behind ≡ outcome_of (judge st t) t.place behind
 within_limits (done c) t behind h e = refl
 within_limits (limit true l st) t behind h e = absurd (cc)
 within_limits (limit false l st) t behind h e = within_limits st t behind h e

@@ -6,7 +6,7 @@ use Rattle.fir_ast.specs.declared.expressions.Expr.{Expr}
 use Rattle.fir_ast.specs.Expressions.{Expression, reference, no_parts}
 use Rattle.fir_ast.specs.View.{expr_of}
 use Rattle.fir_ast.specs.declared.fault.FirFault.TheVariants.{Depth}
-use Rattle.fir_parse.specs.AtHand.{StandsFirst}
+use Rattle.fir_parse.specs.working.AtHand.{StandsFirst}
 use Rattle.fir_parse.specs.declared.lexeme.Lexeme.{Lexeme as LexemeRef}
 use Rattle.fir_parse.specs.declared.lexeme.Lexeme.TheVariants as code
 use Rattle.fir_parse.specs.declared.lexeme.Mark.TheVariants.{Less, Greater, OpenRound}
@@ -17,12 +17,12 @@ use Rattle.fir_parse.specs.declared.words.Applied.{Applied}
 use Rattle.fir_parse.specs.declared.words.Applied.TheVariants as applied
 use Rattle.fir_parse.specs.ExpressionRules.{literal_rest, sized_rest, sized_by, applied_rest}
 use Rattle.fir_parse.specs.Lexemes.{Terminal, mark, seen}
-use Rattle.fir_parse.specs.Plans.{sized_plan}
+use Rattle.fir_parse.specs.working.Plans.{sized_plan}
 use Rattle.fir_parse.specs.Reading.{read_on, step}
-use Rattle.fir_parse.specs.Reads.{Plan, Gives, Reads}
+use Rattle.fir_parse.specs.working.Reads.{Plan, Gives, Reads}
 use Rattle.fir_parse.specs.States.{State, wants, takes, refuses, without, opens}
 use Rattle.fir_parse.specs.Symbols.{a_mark, a_natural, an_expression, behind_word, parts}
-use Rattle.fir_parse.specs.Trees.{tall_expression}
+use Rattle.fir_parse.specs.working.Trees.{tall_expression}
 use Rattle.fir_parse.specs.Words.{applied_of}
 use Rattle.fir_parse.proofs.Plans.{takes_first, exits_behind, reads_behind, opened, opened_too_many}
 

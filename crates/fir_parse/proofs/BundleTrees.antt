@@ -5,17 +5,17 @@ use Rattle.std.proofs.lemmas.List.{map-append}
 use Rattle.fir_ast.specs.declared.place.Place.{Place}
 use Rattle.fir_ast.specs.declared.types.Field.{Field}
 use Rattle.fir_ast.specs.Types.{Fields, no_fields, field}
-use Rattle.fir_ast.specs.BundleText.{field_of}
+use Rattle.fir_ast.specs.working.BundleText.{field_of}
 use Rattle.fir_ast.specs.View.{type_of, fields_of}
-use Rattle.fir_parse.proofs.TypeViews.{field_view}
-use Rattle.fir_parse.specs.BundlePlans.{some_fields, before}
+use Rattle.fir_ast.proofs.Fields.{field_of-is}
+use Rattle.fir_parse.specs.working.BundlePlans.{some_fields, before}
 use Rattle.fir_parse.specs.Heights.{type_height, fields_height}
 use Rattle.fir_parse.specs.Lexemes.{Terminal}
 use Rattle.fir_parse.specs.Reading.{read_on}
 use Rattle.fir_parse.specs.States.{State}
 use Rattle.fir_parse.specs.Symbols.{FieldsTree}
 use Rattle.fir_parse.specs.TypeRules.{with_field}
-use Rattle.fir_parse.specs.Trees.{onto, field_tree}
+use Rattle.fir_parse.specs.working.Trees.{onto, field_tree}
 
 onto-append : (fs gs : List (Fields → Fields)) (rest : Fields) → onto (fs ++ gs) rest ≡ onto fs (onto gs rest)
 onto-append [] gs rest = refl
@@ -26,8 +26,8 @@ fields_onto [] = refl
 fields_onto (f ∷ fs) = ap f (fields_onto fs)
 
 -- one field more stands last of those before
-last_before : (xs : List Field) (f : Field) (rest : Fields) → onto (map field_of (xs ++ (f ∷ []))) rest ≡ onto (map field_of xs) (field f.place f.flip f.name (type_of f.ty) rest)
-last_before xs f rest = ap (λ fs. onto fs rest) (map-append field_of xs (f ∷ [])) ∙ onto-append (map field_of xs) (map field_of (f ∷ [])) rest ∙ ap (onto (map field_of xs)) (field_view f rest)
+last_before : (xs : List Field) (f : Field) (rest : Fields) → onto (map field_of (xs ++ (f ∷ []))) rest ≡ onto (map field_of xs) (field f.place f.flip f.name f.type_place (type_of f.ty) rest)
+last_before xs f rest = ap (λ fs. onto fs rest) (map-append field_of xs (f ∷ [])) ∙ onto-append (map field_of xs) (map field_of (f ∷ [])) rest ∙ ap (onto (map field_of xs)) (field_of-is f rest)
 
 pub one_more_before : (xs ys : List Field) (f : Field) → ys ≡ xs ++ (f ∷ []) → (rest : FieldsTree) → before (map field_of xs) (with_field (field_tree f) rest) ≡ before (map field_of ys) rest
 one_more_before xs ys f e rest = rw e (ap (λ fs. record { fields = fs; close = rest.close }) (sym (last_before xs f rest.fields)))
@@ -38,7 +38,7 @@ last_field xs ys f e p = one_more_before xs ys f e (record { fields = no_fields;
 
 height_before : (xs : List Field) (rest : Fields) → fields_height (onto (map field_of xs) rest) ≡ max (fields_height (fields_of (map field_of xs))) (fields_height rest)
 height_before [] rest = omega arith
-height_before (f ∷ xs) rest = rw (field_view f (onto (map field_of xs) rest), field_view f (fields_of (map field_of xs))) (omega (arith, height_before xs rest))
+height_before (f ∷ xs) rest = rw (field_of-is f (onto (map field_of xs) rest), field_of-is f (fields_of (map field_of xs))) (omega (arith, height_before xs rest))
 
 -- the code's `max`
 pub taller : (a b : ℕ) → ord_max nat_cmp a b ≡ max a b
@@ -49,7 +49,7 @@ height_with_last : (xs ys : List Field) (f : Field) (h g : ℕ) → ys ≡ xs ++
 height_with_last xs ys f h g e i j =
     let q : fields_height (fields_of (map field_of ys)) ≡ max (fields_height (fields_of (map field_of xs))) (max (type_height (type_of f.ty)) 0) =
     ap fields_height (fields_onto (map field_of ys) ∙ ap (λ zs. onto (map field_of zs) no_fields) e ∙ last_before xs f no_fields)
-    ∙ height_before xs (field f.place f.flip f.name (type_of f.ty) no_fields) in
+    ∙ height_before xs (field f.place f.flip f.name f.type_place (type_of f.ty) no_fields) in
     omega arith
 
 pub high_with_last : (xs ys : List Field) (f : Field) (h g m : ℕ) → ys ≡ xs ++ (f ∷ []) → m ≡ max h g → (h ≡ fields_height (fields_of (map field_of xs))) × (h ≤ 256) → (g ≡ type_height (type_of f.ty)) × (g ≤ 256) → (m ≡ fields_height (fields_of (map field_of ys))) × (m ≤ 256)

@@ -3,7 +3,7 @@ use Rattle.std.proofs.Common.{ℕ, refl, List, Option, Some, None, codes, if◌t
 use Rattle.std.specs.Str.{bytes_eq}
 use Rattle.fir_base.specs.declared.direction.Direction.{Direction}
 use Rattle.fir_ast.specs.declared.place.Place.{Place}
-use Rattle.fir_ast.specs.Statements.{Named, invalid}
+use Rattle.fir_ast.specs.Statements.{PlacedName, invalid}
 use Rattle.fir_ast.specs.Circuits.{CircuitTree}
 use Rattle.fir_parse.specs.declared.lexeme.Mark.TheVariants.{Colon}
 use Rattle.fir_parse.specs.declared.words.ModuleWord.{ModuleWord}
@@ -69,7 +69,7 @@ keeps_ports level_closes p = λ k after. (after _).0
 keeps_ports (word w) p = keeps_body_by_word (direction_of w) p w
 keeps_ports _ p = tt
 
-guarded_port : (r : Direction) (n : Named) (k : PortOr → State) → ((x : PortOr) → After unlimited (k x)) → Guarded (port_rest r n k)
+guarded_port : (r : Direction) (n : PlacedName) (k : PortOr → State) → ((x : PortOr) → After unlimited (k x)) → Guarded (port_rest r n k)
 guarded_port r n k after = λ t. (λ p. freed unlimited _ (after _), refl)
 
 keeps_direction_word : (r : Direction) (p : Place) (w x : List ℕ) (q : Place) → Keeps unlimited (direction_step r p w (word x) q)

@@ -8,7 +8,7 @@ use Rattle.fir_parse.specs.declared.lexeme.Mark.{Mark}
 use Rattle.fir_parse.specs.declared.lexeme.Mark.TheVariants.{Connect, PartialConnect, Arrow, Equals, Less, Greater, OpenRound, CloseRound, OpenSquare, CloseSquare, OpenCurly, CloseCurly, Comma, Colon, Dot}
 use Rattle.fir_parse.specs.Lexemes.{Lexeme, word, integer, mark, line_end, level_opens, level_closes, Terminal}
 use Rattle.fir_parse.specs.Marks.{same_mark}
-use Rattle.fir_parse.specs.Symbols.{Tree, a_mark, a_word, a_name, a_field_name, a_natural, a_line_end, an_opening, a_closing, a_type, a_width, dimensions, fields, more_fields, a_field, behind_flip, an_expression, behind_word, parts, an_index, a_literal}
+use Rattle.fir_parse.specs.Symbols.{Tree, a_mark, a_word, a_name, a_field_name, a_natural, a_line_end, an_opening, a_closing, a_type, a_width, dimensions, fields, more_fields, a_field, behind_flip, an_expression, behind_word, parts, an_index, a_literal, TypeTree}
 use Rattle.fir_parse.specs.States.{State, wants, without}
 use Rattle.fir_parse.specs.Reading.{one}
 use Rattle.fir_parse.specs.TypeRules.{dimensions_step}
@@ -75,8 +75,8 @@ dimensions_skip d t (u ∷ ts) h = dimensions_end d t u.lexeme u.place h
 pub complete_dimensions : (d : ℕ) (t : DataType) (k : DataType → State) → ((x : DataType) → Ended (k x)) → Completion (wants (dimensions d t) k)
 complete_dimensions d t k h = let c : Completion (k t) = (h t).0 in skipped (dimensions d t) k t c (dimensions_skip d t c.more (tail_ends (k t) (h t).1 c))
 
-pub complete_type : (d : ℕ) (k : DataType → State) → ((x : DataType) → Ended (k x)) → Completion (wants (a_type d) k)
-complete_type d k h = taken (a_type d) k (word (codes "Clock")) _ refl (complete_dimensions d clock k h)
+pub complete_type : (d : ℕ) (k : TypeTree → State) → ((x : TypeTree) → Ended (k x)) → Completion (wants (a_type d) k)
+complete_type d k h = taken (a_type d) k (word (codes "Clock")) _ refl (complete_dimensions d clock _ (λ t. h _))
 
 pub complete_fields : (d : ℕ) (k : Tree (fields d) → State) → ((x : Tree (fields d)) → Completion (k x)) → Completion (wants (fields d) k)
 complete_fields d k h = taken (fields d) k (mark CloseCurly) _ refl (h _)

@@ -32,13 +32,13 @@ complete_block d k h = taken (an_indented_block d) k level_opens _ refl (complet
 pub complete_reset : (d : ℕ) (k : Tree (a_reset d) → State) → ((x : Tree (a_reset d)) → Completion (k x)) → Completion (wants (a_reset d) k)
 complete_reset d k h = taken (a_reset d) k line_end _ refl (h _)
 
-complete_reset_rest : (d : ℕ) (k : Reset → State) → ((r : Reset) → Completion (k r)) → Completion (reset_rest d k)
-complete_reset_rest d k h =
+complete_reset_rest : (d : ℕ) (w : Place) (k : Reset → State) → ((r : Reset) → Completion (k r)) → Completion (reset_rest d w k)
+complete_reset_rest d w k h =
     complete_word (codes "reset") _ (λ p. complete_mark Arrow _ (λ q. complete_mark OpenRound _ (λ r. below_limit _ _ _
     (complete_expression (d + 1) _ (λ c. (complete_mark Comma _ (λ s. complete_expression (d + 1) _ (λ i. (complete_mark CloseRound _ (λ t. h _), refl))), refl))))))
 
-pub complete_with : (d : ℕ) (k : Tree (behind_with d) → State) → ((x : Tree (behind_with d)) → Completion (k x)) → Completion (wants (behind_with d) k)
-complete_with d k h = taken (behind_with d) k line_end _ refl (complete_opening _ (λ q. complete_reset_rest d _ (λ r. complete_line_end _ (λ s. complete_closing _ (λ t. h r)))))
+pub complete_with : (d : ℕ) (w : Place) (k : Tree (behind_with d w) → State) → ((x : Tree (behind_with d w)) → Completion (k x)) → Completion (wants (behind_with d w) k)
+complete_with d w k h = taken (behind_with d w) k line_end _ refl (complete_opening _ (λ q. complete_reset_rest d w _ (λ r. complete_line_end _ (λ s. complete_closing _ (λ t. h r)))))
 
 pub complete_memory_field : (d : ℕ) (k : Tree (a_memory_field d) → State) → ((x : Tree (a_memory_field d)) → Completion (k x)) → Completion (wants (a_memory_field d) k)
 complete_memory_field d k h = taken (a_memory_field d) k (word (codes "depth")) _ refl (complete_mark Arrow _ (λ q. complete_natural _ (λ n. complete_line_end _ (λ r. h _))))

@@ -7,9 +7,9 @@ use Rattle.fir_parse.specs.Lexemes.{Lexeme, mark, Terminal}
 use Rattle.fir_parse.specs.Symbols.{Sym, Tree, a_mark, a_line_end, more_fields, behind_sink, a_reset}
 use Rattle.fir_parse.specs.States.{State, Limit, done, limit, wants, takes, without, refuses}
 use Rattle.fir_parse.specs.Reading.{step, goes_on, at_token, read_on}
-use Rattle.fir_parse.specs.TextFaults.{fit, fit_by}
+use Rattle.fir_parse.specs.TextFaults.{judge, verdict_by}
 use Rattle.fir_parse.proofs.Guards.{firm, is_firm, is_tail_mark, Meets}
-use Rattle.fir_parse.proofs.Along.{fits_without_limits}
+use Rattle.fir_parse.proofs.Along.{continues_without_limits}
 
 pub record Completion (st : State) : Type 0 where
   pub more : List Terminal
@@ -27,7 +27,7 @@ pub taken : (s : Sym) (k : Tree s → State) (l : Lexeme) (f : (Tree s → State
 taken s k l f e c = record {
   more = token l ∷ c.more;
   circuit = c.circuit;
-  completes = λ end. fits_without_limits end (wants s k) (f k) (token l) c.more (ap (λ u. fit_by u k (λ x. fit (k x) (token l))) e) ∙ c.completes end;
+  completes = λ end. continues_without_limits end (wants s k) (f k) (token l) c.more (ap (λ u. verdict_by u k (λ x. judge (k x) (token l))) e) ∙ c.completes end;
 }
 
 reads_below : (passed : Bool) (l : Limit) (st : State) (ts : List Terminal) (end : Place) → read_on false end (limit passed l st) ts ≡ read_on false end st ts

@@ -11,7 +11,8 @@ use Rattle.fir_parse.specs.declared.words.Applied.{Applied}
 use Rattle.fir_parse.specs.declared.words.Applied.TheVariants as applied
 use Rattle.fir_parse.specs.Lexemes.{Lexeme, word, mark, integer, text}
 use Rattle.fir_parse.specs.Words.{applied_of}
-use Rattle.fir_parse.specs.Numbers.{has_sign, is_in_range, decimal_value}
+use Rattle.fir_base.specs.Digits.{decimal_value}
+use Rattle.fir_parse.specs.Numbers.{has_sign, is_in_range}
 use Rattle.fir_parse.specs.Symbols.{plain_index}
 use Rattle.fir_parse.specs.States.{State, limit, in_range, takes, refuses}
 use Rattle.fir_parse.specs.ExpressionRules.{by_form, literal_rest, applied_rest, sized_rest, sized_by, dot_rest, index_rest, parts_step, behind_word_step, expression_step, index_step, literal_step}
@@ -46,22 +47,22 @@ keeps_sized_by applied.SInt d p w = keeps_sized true d p
 keeps_sized_by _ d p w = tt
 
 -- the parts behind a dot
-pub guarded_dot : (d h : ℕ) (k : Parts → State) → ((ps : Parts) → After firm (k ps)) → Guarded (dot_rest d h k)
-guarded_dot d h k after = λ f. (λ ps. after _, tt)
+pub guarded_dot : (d h : ℕ) (p : Place) (k : Parts → State) → ((ps : Parts) → After firm (k ps)) → Guarded (dot_rest d h p k)
+guarded_dot d h p k after = λ f. (λ ps. after _, tt)
 
 -- the parts behind a bracket
 pub guarded_index : (d h : ℕ) (p : Place) (k : Parts → State) → ((ps : Parts) → After firm (k ps)) → Guarded (index_rest d h p k)
 guarded_index d h p k after = λ i. (λ q. (λ ps. after _, tt), refl)
 
 pub keeps_parts : (d h : ℕ) (l : Lexeme) (p : Place) → Keeps firm (parts_step d h l p)
-keeps_parts d h (mark Dot) p = λ k after. guarded_dot d h k after
+keeps_parts d h (mark Dot) p = λ k after. guarded_dot d h p k after
 keeps_parts d h (mark OpenSquare) p = λ k after. guarded_index d h p k after
 keeps_parts d h _ p = tt
 
 pub keeps_behind_word : (d : ℕ) (p : Place) (w : List ℕ) (l : Lexeme) (q : Place) → Keeps firm (behind_word_step d p w l q)
 keeps_behind_word d p w (mark OpenRound) q = keeps_applied (applied_of w) d p w q
 keeps_behind_word d p w (mark Less) q = keeps_sized_by (applied_of w) d p w
-keeps_behind_word d p w (mark Dot) q = λ k after. guarded_dot d 1 (λ ps. k (reference p w ps)) (λ ps. after (reference p w ps))
+keeps_behind_word d p w (mark Dot) q = λ k after. guarded_dot d 1 q (λ ps. k (reference p w ps)) (λ ps. after (reference p w ps))
 keeps_behind_word d p w (mark OpenSquare) q = λ k after. guarded_index d 1 q (λ ps. k (reference p w ps)) (λ ps. after (reference p w ps))
 keeps_behind_word d p w _ q = tt
 

@@ -11,7 +11,7 @@ use Rattle.fir_ast.specs.declared.expressions.Reference.{Reference, fold_out-Ref
 use Rattle.fir_ast.specs.Expressions.{Expression, Parts, reference, literal, no_parts, subfield}
 use Rattle.fir_ast.specs.Statements.{Sink}
 use Rattle.fir_ast.specs.View.{expr_of, sink_of, parts_of, expr_step, part_step, reference_step}
-use Rattle.fir_parse.specs.Trees.{part_of}
+use Rattle.fir_parse.specs.working.Trees.{part_of}
 
 -- a reference that is read, as an expression
 abbrev pub with_sink : Sink → Expression
@@ -26,8 +26,8 @@ reference_view r = ap expr_of (sym (code.rolls-Ref r)) ∙ fold-roll-Expr Expres
 pub literal_view : (l : Literal) → expr_of (code.Literal l) ≡ literal l
 literal_view l = ap expr_of (sym (code.rolls-Literal l)) ∙ fold-roll-Expr Expression (Parts → Parts) Sink expr_step part_step reference_step (layer.Literal l)
 
-pub field_view : (p : Place) (w : List ℕ) → part_of (part.Field p w) ≡ subfield p w
-field_view p w = ap part_of (sym (part.rolls-Field p w)) ∙ fold-roll-Part Expression (Parts → Parts) Sink expr_step part_step reference_step (layer.Field p w)
+pub field_view : (q p : Place) (w : List ℕ) → part_of (part.Field q p w) ≡ subfield q p w
+field_view q p w = ap part_of (sym (part.rolls-Field q p w)) ∙ fold-roll-Part Expression (Parts → Parts) Sink expr_step part_step reference_step (layer.Field q p w)
 
 -- a name with no parts
 pub name_view : (p : Place) (n w : List ℕ) (v : Vec Part Global) → n ≡ w → v.items ≡ [] → expr_of (code.Ref (record { place = p; name = n; parts = v })) ≡ reference p w no_parts

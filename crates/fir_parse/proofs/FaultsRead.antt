@@ -7,7 +7,7 @@ use Rattle.fir_ast.specs.Circuits.{CircuitTree}
 use Rattle.fir_parse.specs.Lexemes.{Terminal}
 use Rattle.fir_parse.specs.States.{State, Limit, in_range, nesting, version, fault_of}
 use Rattle.fir_parse.specs.Reading.{at_end, read_on, read, whole}
-use Rattle.fir_parse.specs.TextFaults.{IsText, StopsAt, unfit, missing, passed_limit, Reaches, place_at, next_fit, Shows, IsFirst}
+use Rattle.fir_parse.specs.TextFaults.{IsText, StopsAt, unexpected, missing, passed_limit, Reaches, place_at, next_verdict, Shows, IsFirst}
 use Rattle.fir_parse.proofs.Guards.{Guarded}
 use Rattle.fir_parse.proofs.AtTokens.{outcome_of, within_limits, past_limit, end_past_limit, end_within_limits, ends_so}
 use Rattle.fir_parse.proofs.StepKeeps.{whole_guarded}
@@ -30,18 +30,18 @@ open_reads end last front r none stops =
       | inr x ↦ end_within_limits end last none ∙ x end
     ]
 
-unfit_reads : (end : Place) (last : State) (front back : List Terminal) → Guarded last → Reaches whole front last → passed_limit last ≡ None → StopsAt front back → next_fit last back ≡ unfit → read_on true end last back ≡ Err (fault.Syntax (place_at end back))
+unexpected_reads : (end : Place) (last : State) (front back : List Terminal) → Guarded last → Reaches whole front last → passed_limit last ≡ None → StopsAt front back → next_verdict last back ≡ unexpected → read_on true end last back ≡ Err (fault.Syntax (place_at end back))
 unfolding read_on
-unfit_reads end last front [] g r none stops e = open_reads end last front r none stops
-unfit_reads end last front (t ∷ back) g r none stops e = within_limits last t _ g none ∙ ap (λ u. outcome_of u t.place (λ n. read_on true end n back)) e
+unexpected_reads end last front [] g r none stops e = open_reads end last front r none stops
+unexpected_reads end last front (t ∷ back) g r none stops e = within_limits last t _ g none ∙ ap (λ u. outcome_of u t.place (λ n. read_on true end n back)) e
 
-missing_reads : (end : Place) (last : State) (back : List Terminal) (p : Place) (w : List ℕ) → Guarded last → passed_limit last ≡ None → next_fit last back ≡ missing p w → read_on true end last back ≡ Err (fault.Unsupported p w)
+missing_reads : (end : Place) (last : State) (back : List Terminal) (p : Place) (w : List ℕ) → Guarded last → passed_limit last ≡ None → next_verdict last back ≡ missing p w → read_on true end last back ≡ Err (fault.Unsupported p w)
 unfolding read_on
 missing_reads end last [] p w g none e = absurd (cc)
 missing_reads end last (t ∷ back) p w g none e = within_limits last t _ g none ∙ ap (λ u. outcome_of u t.place (λ n. read_on true end n back)) e
 
 shown_reads : (end : Place) (last : State) (front back : List Terminal) (f : FirFault) → Guarded last → Reaches whole front last → Shows end last front back f → read_on true end last back ≡ Err f
-shown_reads end last front back (fault.Syntax p) g r h = unfit_reads end last front back g r h.1 h.3 h.4 ∙ ap (λ q. Err (fault.Syntax q)) (sym h.0)
+shown_reads end last front back (fault.Syntax p) g r h = unexpected_reads end last front back g r h.1 h.3 h.4 ∙ ap (λ q. Err (fault.Syntax q)) (sym h.0)
 shown_reads end last front back (fault.Unsupported p w) g r h = missing_reads end last back p w g h.0 h.3
 shown_reads end last front back (fault.BadLiteral p) g r h = limit_reads end last back (in_range p) h
 shown_reads end last front back (fault.Depth p) g r h = limit_reads end last back (nesting p) h

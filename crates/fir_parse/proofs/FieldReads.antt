@@ -8,11 +8,11 @@ use Rattle.fir_parse.specs.declared.parser.Next.{Next}
 use Rattle.fir_parse.specs.declared.stop.Stop.{Stop}
 use Rattle.fir_parse.specs.declared.words.FieldWord.{FieldWord}
 use Rattle.fir_parse.specs.declared.words.FieldWord.TheVariants.{Name}
-use Rattle.fir_parse.specs.AtHand.{IsAtHand, stop_at}
+use Rattle.fir_parse.specs.working.AtHand.{IsAtHand, stop_at}
 use Rattle.fir_parse.specs.Lexemes.{Terminal, seen}
 use Rattle.fir_parse.specs.MemoryRules.{by_field_word}
 use Rattle.fir_parse.specs.Reading.{read_on}
-use Rattle.fir_parse.specs.Reads.{Plan, Stops}
+use Rattle.fir_parse.specs.working.Reads.{Plan, Stops}
 use Rattle.fir_parse.specs.States.{State, wants, takes}
 use Rattle.fir_parse.specs.Symbols.{a_memory_field}
 use Rattle.fir_parse.specs.Words.{field_word_of}

@@ -1,8 +1,8 @@
 -- What each symbol of a text stands for, form by form, and what a state then derives.
-use Rattle.std.proofs.Common.{◌≡◌, ℕ, ◌+◌, ◌<◌, ◌≤◌, Bool, true, false, List, [], ◌∷◌, length, Option, Some, codes, if◌then◌else◌, refl}
+use Rattle.std.proofs.Common.{◌≡◌, ℕ, ◌+◌, ◌<◌, ◌≤◌, true, false, List, [], ◌∷◌, length, Option, Some, codes, if◌then◌else◌}
 use Rattle.std.specs.Prelude.{nat_le, nat_lt}
 use Rattle.std.specs.Str.{bytes_eq}
-use Rattle.std.proofs.lemmas.Bool.{ltb-false, leb-false}
+use Rattle.std.proofs.lemmas.Bool.{ltb-false, leb-false, cond_both}
 use Rattle.std.proofs.lemmas.Slice.Eq.{bytes_eq-Decides}
 use Rattle.fir_ast.specs.declared.place.Place.{Place}
 use Rattle.fir_ast.specs.Statements.{Reset, Block}
@@ -12,11 +12,11 @@ use Rattle.fir_parse.specs.declared.lexeme.Mark.TheVariants.{OpenRound, CloseRou
 use Rattle.fir_parse.specs.Lexemes.{Lexeme, Terminal, word, mark, line_end, level_opens, level_closes}
 use Rattle.fir_parse.specs.Words.{direction_of}
 use Rattle.fir_parse.specs.Numbers.{Numeral, is_allowed, literal_of}
-use Rattle.fir_parse.specs.Pieces.{◌▸◌, Either, Given, Nothing, Token, Sign, Word, LineEnd, Opens, Closes, Annotations, Name, FieldName, IntAt}
-use Rattle.fir_parse.specs.TypeForms.{IsWidth, IsFlip, IsType, AreFields, AreMoreFields}
-use Rattle.fir_parse.specs.ExpressionForms.{IsNumeral, IsExpression, AreParts, IsSink}
-use Rattle.fir_parse.specs.StatementForms.{IsResetPair, IsReset, AreNames, IsUnderWrite, IsMemoryPart, AreMemoryParts, IsMemoryBody, IsStatement, AreStatements, IsBlock, IsElse}
-use Rattle.fir_parse.specs.CircuitForms.{IsPort, ArePorts, IsBody, AreModules, AreSomeModules, IsVersion}
+use Rattle.fir_parse.specs.working.Pieces.{◌▸◌, At, Either, Given, Nothing, Token, Sign, Word, LineEnd, Opens, Closes, Annotations, Name, FieldName, IntAt}
+use Rattle.fir_parse.specs.working.TypeForms.{IsWidth, IsFlip, IsType, AreFields, AreMoreFields}
+use Rattle.fir_parse.specs.working.ExpressionForms.{IsNumeral, IsExpression, AreParts, IsSink}
+use Rattle.fir_parse.specs.working.StatementForms.{IsResetPair, IsReset, AreNames, IsUnderWrite, IsMemoryPart, AreMemoryParts, IsMemoryBody, IsStatement, AreStatements, IsBlock, IsElse}
+use Rattle.fir_parse.specs.working.CircuitForms.{IsPort, ArePorts, IsBody, AreModules, AreSomeModules, IsVersion}
 use Rattle.fir_parse.specs.Symbols.{Sym, Tree, FieldTree, IndexTree, plain_index, computed_index, OpenWhen, Begun, statement, open_when, Otherwise, else_block, else_when, no_else, PortOr, port, no_port, a_mark, a_word, a_name, a_field_name, a_natural, a_line_end, an_opening, a_closing, a_type, a_width, dimensions, fields, more_fields, a_field, behind_flip, an_expression, behind_word, parts, an_index, a_literal, statements, behind_first, behind_is, behind_else, behind_sink, an_indented_block, a_reset, behind_with, a_memory_body, a_memory_field, more_memory_fields, more_names, an_under_write, a_text, some_annotations, first_module, more_modules, a_body, ports_and_statements, behind_direction, behind_port_is}
 use Rattle.fir_parse.specs.States.{State, done, limit, wants, Step, takes, without, refuses, unsupported}
 use Rattle.fir_parse.specs.StatementRules.{closed_before}
@@ -25,7 +25,7 @@ abbrev pub token_at : Lexeme → Place → Terminal
 token_at l p = record { lexeme = l; place = p }
 
 abbrev pub IsField : ℕ → FieldTree → List Terminal → List Terminal → Type 0
-IsField d f = IsFlip f.flip ▸ FieldName (record { place = f.place; name = f.name }) ▸ Sign Colon ▸ IsType d f.data_type
+IsField d f = IsFlip f.flip ▸ FieldName (record { place = f.place; name = f.name }) ▸ Sign Colon ▸ (At f.type_place ▸ IsType d f.data_type)
 
 abbrev pub IsIndex : ℕ → IndexTree → List Terminal → List Terminal → Type 0
 IsIndex d (plain_index p n) = IntAt n p
@@ -50,9 +50,10 @@ abbrev pub AreBehind : ℕ → List OpenWhen → Block → List Terminal → Lis
 AreBehind d [] b a z = (AreStatements d b ▸ Closes) a z
 AreBehind d (w ∷ ws) b a z = (f : Block) × (rest : Block) × (b ≡ closed_before (w ∷ ws) f rest) × (IsElse (d + length ws) f ▸ AreStatements d rest ▸ Closes) a z
 
-abbrev pub IsBehindWith : ℕ → Reset → List Terminal → List Terminal → Type 0
-IsBehindWith d r =
-    Either (Sign OpenRound ▸ Given (d < 256) ▸ IsResetPair (d + 1) r ▸ Sign CloseRound ▸ LineEnd) (LineEnd ▸ Opens ▸ IsResetPair d r ▸ LineEnd ▸ Closes)
+abbrev pub IsBehindWith : ℕ → Place → Reset → List Terminal → List Terminal → Type 0
+IsBehindWith d p r =
+    Given (p ≡ r.place)
+    ▸ Either (Sign OpenRound ▸ Given (d < 256) ▸ IsResetPair (d + 1) r ▸ Sign CloseRound ▸ LineEnd) (LineEnd ▸ Opens ▸ IsResetPair d r ▸ LineEnd ▸ Closes)
 
 abbrev pub IsText : CircuitTree → List Terminal → List Terminal → Type 0
 IsText c =
@@ -73,7 +74,7 @@ Is a_natural n a z = IntAt n.number n.place a z
 Is a_line_end q a z = Token line_end q a z
 Is an_opening q a z = Token level_opens q a z
 Is a_closing q a z = Token level_closes q a z
-Is (a_type d) t a z = IsType d t a z
+Is (a_type d) t a z = (At t.place ▸ IsType d t.data_type) a z
 Is a_width w a z = IsWidth w a z
 Is (dimensions d t) x a z = (before : List Terminal) → IsType d t before a → IsType d x before z
 Is (fields d) fs a z = (AreFields d fs.fields ▸ Token (mark CloseCurly) fs.close) a z
@@ -92,7 +93,7 @@ Is (behind_else d n p) x a z = IsOtherwise d n p x a z
 Is (behind_sink d s) t a z = (before : List Terminal) → IsSink d s before a → IsStatement d t before z
 Is (an_indented_block d) b a z = IsBlock d b a z
 Is (a_reset d) r a z = IsReset d r a z
-Is (behind_with d) r a z = IsBehindWith d r a z
+Is (behind_with d p) r a z = IsBehindWith d p r a z
 Is (a_memory_body d) fs a z = IsMemoryBody d fs a z
 Is (a_memory_field d) f a z = IsMemoryPart d f a z
 Is (more_memory_fields d) fs a z = (AreMemoryParts d fs ▸ Closes) a z
@@ -124,13 +125,9 @@ Extends P t ts (without x) = P x (t ∷ ts) (t ∷ ts)
 Extends P t ts refuses = Unit {0}
 Extends P t ts (unsupported p w) = Unit {0}
 
--- by a test
-pub by_test : {T : Type 0} (F : T → Type 0) (b : Bool) (x y : T) → (b ≡ true → F x) → (b ≡ false → F y) → F (if b then x else y)
-by_test F true x y p q = p refl
-by_test F false x y p q = q refl
-
+-- by a word
 pub by_word : {T : Type 0} (F : T → Type 0) (w v : List ℕ) (x y : T) → (w ≡ v → F x) → F y → F (if bytes_eq w v then x else y)
-by_word F w v x y p q = by_test F (bytes_eq w v) x y (λ h. p ((bytes_eq-Decides w v).0 h)) (λ h. q)
+by_word F w v x y p q = cond_both (bytes_eq w v) x y F (λ h. p ((bytes_eq-Decides w v).0 h)) (λ h. q)
 
 pub within : (d : ℕ) → nat_le 256 d ≡ false → d < 256
 within d h = leb-false 256 d h

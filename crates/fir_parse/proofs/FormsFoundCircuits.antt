@@ -2,15 +2,15 @@
 use Rattle.std.proofs.Common.{◌≡◌, ℕ, List, [], ◌∷◌, Option, Some, None, codes, refl, inl, inr, subst, sym}
 use Rattle.fir_base.specs.declared.direction.Direction.{Direction}
 use Rattle.fir_ast.specs.declared.place.Place.{Place}
-use Rattle.fir_ast.specs.Statements.{Named, invalid, Block, done}
+use Rattle.fir_ast.specs.Statements.{PlacedName, invalid, Block, done}
 use Rattle.fir_ast.specs.Circuits.{ModuleTree, CircuitTree}
 use Rattle.fir_parse.specs.declared.lexeme.Mark.TheVariants.{Colon}
 use Rattle.fir_parse.specs.declared.words.ModuleWord.{ModuleWord}
 use Rattle.fir_parse.specs.declared.words.ModuleWord.TheVariants as modules
 use Rattle.fir_parse.specs.Lexemes.{Lexeme, Terminal, word, mark, annotations, level_opens, level_closes}
 use Rattle.fir_parse.specs.Words.{direction_of, module_word_of}
-use Rattle.fir_parse.specs.Pieces.{Either, Nothing, Annotations, Word, Name, Sign}
-use Rattle.fir_parse.specs.CircuitForms.{IsBody, IsVersion}
+use Rattle.fir_parse.specs.working.Pieces.{Either, Nothing, Annotations, Word, Name, Sign}
+use Rattle.fir_parse.specs.working.CircuitForms.{IsBody, IsVersion}
 use Rattle.fir_parse.specs.Symbols.{statement, PortOr, port, no_port, BodyTree, a_mark, behind_first, behind_direction, behind_port_is, ports_and_statements, first_module, more_modules}
 use Rattle.fir_parse.specs.States.{State, Step, wants, mapped}
 use Rattle.fir_parse.specs.StatementRules.{ends_line, bare, is_named, first_step}
@@ -24,9 +24,9 @@ use Rattle.fir_parse.proofs.FormsFoundDeclarations.{extends_first}
 use Rattle.fir_parse.proofs.FormsFoundStatements.{found_begun}
 
 -- ports
-found_port : (r : Direction) (n : Named) (w : List ℕ) (p : Place) (m1 m2 m3 : List Terminal) → Name n m1 m2 → Sign Colon m2 m3 → (k : PortOr → State) (c : CircuitTree) → Derives (port_rest r n k) c m3 → Found (IsPortOr r w) k c (token_at (word w) p ∷ m1)
+found_port : (r : Direction) (n : PlacedName) (w : List ℕ) (p : Place) (m1 m2 m3 : List Terminal) → Name n m1 m2 → Sign Colon m2 m3 → (k : PortOr → State) (c : CircuitTree) → Derives (port_rest r n k) c m3 → Found (IsPortOr r w) k c (token_at (word w) p ∷ m1)
 found_port r n w p m1 m2 m3 x s k c (t, m, y, (q, rest, l, more)) =
-    (port (record { direction = r; named = n; data_type = t }), rest, (λ h. (m1, (w, h, (p, refl)), (m2, x, (m3, s, (m, y, (q, l)))))), more)
+    (port (record { direction = r; named = n; type_place = t.place; data_type = t.data_type }), rest, (λ h. (m1, (w, h, (p, refl)), (m2, x, (m3, s, (m, y, (q, l)))))), more)
 
 found_named_port : (r : Direction) (p : Place) (w x : List ℕ) (q : Place) (ts : List Terminal) (k : PortOr → State) (c : CircuitTree) → Derives (wants (a_mark Colon) (λ s. port_rest r (record { place = q; name = x }) k)) c ts → Found (Is (behind_direction r p w)) k c (token_at (word x) q ∷ ts)
 found_named_port r p w x q ts k c (e, m, s, more) = found_port r (record { place = q; name = x }) w p (token_at (word x) q ∷ ts) ts m refl (e, s) k c more
@@ -83,13 +83,13 @@ extends_body level_opens p ts = found_body p ts
 extends_body _ p ts = inl ((refl, refl), refl)
 
 -- modules
-found_first_module : (p : Place) (w : List ℕ) (ts : List Terminal) → w ≡ codes "module" → (k : List ModuleTree → State) (c : CircuitTree) → Derives (module_rest k) c ts → Found (Is first_module) k c (token_at (word w) p ∷ ts)
+found_first_module : (p : Place) (w : List ℕ) (ts : List Terminal) → w ≡ codes "module" → (k : List ModuleTree → State) (c : CircuitTree) → Derives (module_rest p k) c ts → Found (Is first_module) k c (token_at (word w) p ∷ ts)
 found_first_module p w ts h k c (n, m1, x, (q, m2, s, (r, m3, l, (b, m4, y, (ms, z, (m5, ys, e), more))))) =
-    (record { named = n; ports = b.ports; body = b.block } ∷ ms, z, (m5, (m4, (ts, (p, token_of (codes "module") w p ts h), (m1, x, (m2, (q, s), (m3, (r, l), y)))), ys), e), more)
+    (record { place = p; named = n; ports = b.ports; body = b.block } ∷ ms, z, (m5, (m4, (ts, token_of (codes "module") w p ts h, (m1, x, (m2, (q, s), (m3, (r, l), y)))), ys), e), more)
 
-found_module : (p : Place) (w : List ℕ) (ts : List Terminal) → w ≡ codes "module" → (k : List ModuleTree → State) (c : CircuitTree) → Derives (module_rest k) c ts → Found (Is more_modules) k c (token_at (word w) p ∷ ts)
+found_module : (p : Place) (w : List ℕ) (ts : List Terminal) → w ≡ codes "module" → (k : List ModuleTree → State) (c : CircuitTree) → Derives (module_rest p k) c ts → Found (Is more_modules) k c (token_at (word w) p ∷ ts)
 found_module p w ts h k c (n, m1, x, (q, m2, s, (r, m3, l, (b, m4, y, (ms, z, (m5, ys, e), more))))) =
-    (record { named = n; ports = b.ports; body = b.block } ∷ ms, z, (m5, (m4, (ts, (p, token_of (codes "module") w p ts h), (m1, x, (m2, (q, s), (m3, (r, l), y)))), ys), e), more)
+    (record { place = p; named = n; ports = b.ports; body = b.block } ∷ ms, z, (m5, (m4, (ts, token_of (codes "module") w p ts h, (m1, x, (m2, (q, s), (m3, (r, l), y)))), ys), e), more)
 
 by_first_word : (v : ModuleWord) (p : Place) (w : List ℕ) (ts : List Terminal) → IsModuleWord w v → Extends (Is first_module) (token_at (word w) p) ts (by_module_word v p w)
 by_first_word modules.Module p w ts h = found_first_module p w ts h

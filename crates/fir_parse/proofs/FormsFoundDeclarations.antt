@@ -3,7 +3,7 @@ use Rattle.std.proofs.Common.{◌≡◌, ℕ, List, ◌∷◌, Option, Some, Non
 use Rattle.std.specs.Str.{bytes_eq}
 use Rattle.fir_ast.specs.declared.place.Place.{Place}
 use Rattle.fir_ast.specs.Expressions.{Expression, reference, no_parts}
-use Rattle.fir_ast.specs.Statements.{Named, Statement, wire, register, node, instance, memory, invalid, skip}
+use Rattle.fir_ast.specs.Statements.{PlacedName, Statement, wire, register, node, instance, memory, invalid, skip}
 use Rattle.fir_ast.specs.Circuits.{CircuitTree}
 use Rattle.fir_parse.specs.declared.lexeme.Mark.TheVariants.{Equals, OpenSquare, Colon, Dot}
 use Rattle.fir_parse.specs.declared.words.Declaration.{Declaration}
@@ -12,31 +12,32 @@ use Rattle.fir_parse.specs.declared.words.Lead.{Lead}
 use Rattle.fir_parse.specs.declared.words.Lead.TheVariants as lead
 use Rattle.fir_parse.specs.Lexemes.{Lexeme, Terminal, word, mark, line_end}
 use Rattle.fir_parse.specs.Words.{lead_of}
-use Rattle.fir_parse.specs.Pieces.{Token, Name, Sign, Word}
-use Rattle.fir_parse.specs.ExpressionForms.{IsExpression, AreParts}
+use Rattle.fir_parse.specs.working.Pieces.{Token, Name, Sign, Word}
+use Rattle.fir_parse.specs.working.ExpressionForms.{IsExpression, AreParts}
 use Rattle.fir_parse.specs.Symbols.{OpenWhen, Begun, statement, open_when, behind_first, behind_is}
 use Rattle.fir_parse.specs.States.{State, Step, wants, refuses, unsupported}
 use Rattle.fir_parse.specs.StatementRules.{ends_line, bare, begun, ref_step, wire_rest, register_rest, node_rest, instance_rest, memory_rest, when_block, when_rest, declared, declaration_step, stuck_behind, end_behind, ref_or, first_step, is_named, declaration_of_is, invalid_or, is_step}
-use Rattle.fir_parse.proofs.FormsFound.{token_at, IsOpenWhen, IsBegun, Is, Derives, Found, Extends, by_word, by_test, within}
+use Rattle.fir_parse.proofs.FormsFound.{token_at, IsOpenWhen, IsBegun, Is, Derives, Found, Extends, by_word, within}
 use Rattle.fir_parse.proofs.FormsFoundWords.{IsLead, lead_word}
 use Rattle.fir_parse.proofs.FormsFoundTypes.{token_of}
 use Rattle.fir_parse.proofs.FormsFoundReferences.{found_dot, found_index}
 use Rattle.fir_parse.proofs.FormsFoundRefs.{BehindName, ExtendsRef, extends_mapped, extends_ref, invalid_spelled}
+use Rattle.std.proofs.lemmas.Bool.{cond_both}
 
 -- behind the name and the sign of a declaration
-found_wire : (d : ℕ) (p : Place) (n : Named) (a m1 m2 m3 : List Terminal) → Token (word (codes "wire")) p a m1 → Name n m1 m2 → Sign Colon m2 m3 → (k : Begun → State) (c : CircuitTree) → Derives (wire_rest d p n (begun k)) c m3 → Found (IsBegun d) k c a
-found_wire d p n a m1 m2 m3 t x s k c (y, m, z, (q, rest, l, more)) = (statement (wire p n y), rest, (m1, t, (m2, x, (m3, s, (m, z, (q, l))))), more)
+found_wire : (d : ℕ) (p : Place) (n : PlacedName) (a m1 m2 m3 : List Terminal) → Token (word (codes "wire")) p a m1 → Name n m1 m2 → Sign Colon m2 m3 → (k : Begun → State) (c : CircuitTree) → Derives (wire_rest d p n (begun k)) c m3 → Found (IsBegun d) k c a
+found_wire d p n a m1 m2 m3 t x s k c (y, m, z, (q, rest, l, more)) = (statement (wire p n y.place y.data_type), rest, (m1, t, (m2, x, (m3, s, (m, z, (q, l))))), more)
 
-found_register : (d : ℕ) (p : Place) (n : Named) (a m1 m2 m3 : List Terminal) → Token (word (codes "reg")) p a m1 → Name n m1 m2 → Sign Colon m2 m3 → (k : Begun → State) (c : CircuitTree) → Derives (register_rest d p n (begun k)) c m3 → Found (IsBegun d) k c a
-found_register d p n a m1 m2 m3 t x s k c (y, m4, z, (q, m5, u, (e, m6, v, (r, rest, w, more)))) = (statement (register p n y e r), rest, (m1, t, (m2, x, (m3, s, (m4, z, (m5, (q, u), (m6, v, w)))))), more)
+found_register : (d : ℕ) (p : Place) (n : PlacedName) (a m1 m2 m3 : List Terminal) → Token (word (codes "reg")) p a m1 → Name n m1 m2 → Sign Colon m2 m3 → (k : Begun → State) (c : CircuitTree) → Derives (register_rest d p n (begun k)) c m3 → Found (IsBegun d) k c a
+found_register d p n a m1 m2 m3 t x s k c (y, m4, z, (q, m5, u, (e, m6, v, (r, rest, w, more)))) = (statement (register p n y.place y.data_type e r), rest, (m1, t, (m2, x, (m3, s, (m4, z, (m5, (q, u), (m6, v, w)))))), more)
 
-found_node : (d : ℕ) (p : Place) (n : Named) (a m1 m2 m3 : List Terminal) → Token (word (codes "node")) p a m1 → Name n m1 m2 → Sign Equals m2 m3 → (k : Begun → State) (c : CircuitTree) → Derives (node_rest d p n (begun k)) c m3 → Found (IsBegun d) k c a
+found_node : (d : ℕ) (p : Place) (n : PlacedName) (a m1 m2 m3 : List Terminal) → Token (word (codes "node")) p a m1 → Name n m1 m2 → Sign Equals m2 m3 → (k : Begun → State) (c : CircuitTree) → Derives (node_rest d p n (begun k)) c m3 → Found (IsBegun d) k c a
 found_node d p n a m1 m2 m3 t x s k c (y, m, z, (q, rest, l, more)) = (statement (node p n y), rest, (m1, t, (m2, x, (m3, s, (m, z, (q, l))))), more)
 
-found_instance : (d : ℕ) (p : Place) (n : Named) (a m1 m2 m3 : List Terminal) → Token (word (codes "inst")) p a m1 → Name n m1 m2 → Word (codes "of") m2 m3 → (k : Begun → State) (c : CircuitTree) → Derives (instance_rest p n (begun k)) c m3 → Found (IsBegun d) k c a
+found_instance : (d : ℕ) (p : Place) (n : PlacedName) (a m1 m2 m3 : List Terminal) → Token (word (codes "inst")) p a m1 → Name n m1 m2 → Word (codes "of") m2 m3 → (k : Begun → State) (c : CircuitTree) → Derives (instance_rest p n (begun k)) c m3 → Found (IsBegun d) k c a
 found_instance d p n a m1 m2 m3 t x s k c (y, m, z, (q, rest, l, more)) = (statement (instance p n y), rest, (m1, t, (m2, x, (m3, s, (m, z, (q, l))))), more)
 
-found_memory : (d : ℕ) (p : Place) (n : Named) (a m1 m2 m3 : List Terminal) → Token (word (codes "mem")) p a m1 → Name n m1 m2 → Sign Colon m2 m3 → (k : Begun → State) (c : CircuitTree) → Derives (memory_rest d p n (begun k)) c m3 → Found (IsBegun d) k c a
+found_memory : (d : ℕ) (p : Place) (n : PlacedName) (a m1 m2 m3 : List Terminal) → Token (word (codes "mem")) p a m1 → Name n m1 m2 → Sign Colon m2 m3 → (k : Begun → State) (c : CircuitTree) → Derives (memory_rest d p n (begun k)) c m3 → Found (IsBegun d) k c a
 found_memory d p n a m1 m2 m3 t x s k c (q, m, l, (fs, rest, y, more)) = (statement (memory p n fs), rest, (m1, t, (m2, x, (m3, s, (m, (q, l), y)))), more)
 
 -- behind the colon of a when
@@ -62,7 +63,7 @@ found_declared declares.When d p w x q ts e k c (y, m, z, more) =
 extends_declaration : (l : Lead) (d : ℕ) (p : Place) (w x : List ℕ) (q : Place) (ts : List Terminal) → IsLead w l → Extends (Is (behind_first d p w)) (token_at (word x) q) ts (declaration_step l d p w x q)
 extends_declaration lead.Skip d p w x q ts e = tt
 extends_declaration lead.Missing d p w x q ts e = tt
-extends_declaration lead.MissingPort d p w x q ts e = by_test (Extends (Is (behind_first d p w)) (token_at (word x) q) ts) (bytes_eq x (codes "mport")) (unsupported p w) refuses (λ h. tt) (λ h. tt)
+extends_declaration lead.MissingPort d p w x q ts e = cond_both (bytes_eq x (codes "mport")) (unsupported p w) refuses (Extends (Is (behind_first d p w)) (token_at (word x) q) ts) (λ h. tt) (λ h. tt)
 extends_declaration lead.Name d p w x q ts e = tt
 extends_declaration (lead.Declares l) d p w x q ts e = found_declared l d p w x q ts e
 

@@ -12,17 +12,20 @@ use Rattle.fir_parse.specs.declared.words.Applied.{Applied}
 use Rattle.fir_parse.specs.declared.words.Applied.TheVariants as applied
 use Rattle.fir_parse.specs.Lexemes.{Lexeme, Terminal, word, mark, integer}
 use Rattle.fir_parse.specs.Words.{applied_of}
-use Rattle.fir_parse.specs.Numbers.{has_sign, is_in_range, decimal_value}
+use Rattle.fir_base.specs.Digits.{decimal_value}
+use Rattle.fir_parse.specs.Numbers.{has_sign, is_in_range}
 use Rattle.fir_parse.specs.Heights.{height}
-use Rattle.fir_parse.specs.Pieces.{Sign}
-use Rattle.fir_parse.specs.ExpressionForms.{count, operands, integers, IsExpression, AreOperands, AreIntegers}
+use Rattle.fir_parse.specs.working.Pieces.{Sign}
+use Rattle.fir_bits.specs.Forms.{operands, integers}
+use Rattle.fir_parse.specs.working.ExpressionForms.{count, IsExpression, AreOperands, AreIntegers}
 use Rattle.fir_parse.specs.Symbols.{IndexTree, plain_index, computed_index, behind_word}
 use Rattle.fir_parse.specs.States.{State, wants, limit, in_range, opens}
 use Rattle.fir_parse.specs.ExpressionRules.{by_form, mux_rest, validif_rest, applied_rest, sized_by, behind_word_step, expression_step, index_step}
-use Rattle.fir_parse.proofs.FormsFound.{token_at, Is, IsIndex, Derives, Found, Extends, by_test, within, no_taller}
+use Rattle.fir_parse.proofs.FormsFound.{token_at, Is, IsIndex, Derives, Found, Extends, within, no_taller}
 use Rattle.fir_parse.proofs.FormsFoundWords.{IsApplied, applied_word}
 use Rattle.fir_parse.proofs.FormsFoundTypes.{token_of}
 use Rattle.fir_parse.proofs.FormsFoundReferences.{in_bounds, found_dot, found_index, found_reference, found_plain_literal, found_sized_literal}
+use Rattle.std.proofs.lemmas.Bool.{cond_both}
 
 -- behind a word and its parenthesis
 abbrev applied_to : List ℕ → Place → Place → List Terminal → List Terminal
@@ -97,6 +100,6 @@ found_computed_index : (d : ℕ) (p : Place) (w : List ℕ) (ts : List Terminal)
 found_computed_index d p w ts k c (e, rest, x, more) = (computed_index e, rest, x, more)
 
 pub extends_index : (d : ℕ) (l : Lexeme) (p : Place) (ts : List Terminal) → Extends (IsIndex d) (token_at l p) ts (index_step d l p)
-extends_index d (integer s) p ts = by_test (Extends (IsIndex d) (token_at (integer s) p) ts) (has_sign s) _ _ (λ h. tt) (found_plain_index d s p ts)
+extends_index d (integer s) p ts = cond_both (has_sign s) _ _ (Extends (IsIndex d) (token_at (integer s) p) ts) (λ h. tt) (found_plain_index d s p ts)
 extends_index d (word w) p ts = found_computed_index d p w ts
 extends_index d _ p ts = tt

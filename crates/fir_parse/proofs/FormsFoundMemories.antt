@@ -1,16 +1,16 @@
 -- Tokens that are read as a memory's fields, or as the reset of a register, spell them.
-use Rattle.std.proofs.Common.{◌≡◌, ℕ, ◌+◌, List, [], ◌∷◌, Option, Some, None, codes, refl, ap, inl, inr}
+use Rattle.std.proofs.Common.{◌≡◌, ℕ, ◌+◌, List, [], ◌∷◌, Option, Some, None, codes, refl, ap, inl, inr, sym, subst, ◌<◌}
 use Rattle.fir_ast.specs.declared.place.Place.{Place}
 use Rattle.fir_ast.specs.declared.statements.ReadUnderWrite.{ReadUnderWrite}
-use Rattle.fir_ast.specs.Statements.{Named, Reset, MemoryPart, data_type, depth, read_latency, write_latency, reader, writer, readwriter, read_under_write}
+use Rattle.fir_ast.specs.Statements.{PlacedName, Reset, MemoryPart, data_type, depth, read_latency, write_latency, reader, writer, readwriter, read_under_write}
 use Rattle.fir_ast.specs.Circuits.{CircuitTree}
 use Rattle.fir_parse.specs.declared.lexeme.Mark.TheVariants.{Arrow, OpenRound, CloseRound, Colon}
 use Rattle.fir_parse.specs.declared.words.FieldWord.{FieldWord}
 use Rattle.fir_parse.specs.declared.words.FieldWord.TheVariants as memory
 use Rattle.fir_parse.specs.Lexemes.{Lexeme, Terminal, word, dash_word, mark, line_end, level_opens, level_closes}
 use Rattle.fir_parse.specs.Words.{plain_field_word, dash_field_word, under_write_of}
-use Rattle.fir_parse.specs.Pieces.{◌▸◌, Sign, Int, LineEnd, Token}
-use Rattle.fir_parse.specs.StatementForms.{IsResetPair, IsReset, IsNames, IsUnderWrite, IsMemoryPart, IsMemoryBody}
+use Rattle.fir_parse.specs.working.Pieces.{◌▸◌, Sign, Int, LineEnd, Token, Either, Given, Opens, Closes}
+use Rattle.fir_parse.specs.working.StatementForms.{IsResetPair, IsReset, IsNames, IsUnderWrite, IsMemoryPart, IsMemoryBody}
 use Rattle.fir_parse.specs.Symbols.{a_mark, an_opening, a_closing, a_type, an_under_write, behind_with, a_memory_field, more_memory_fields, more_names}
 use Rattle.fir_parse.specs.States.{State, wants, Step, takes, without, refuses, unsupported, opens}
 use Rattle.fir_parse.specs.StatementRules.{ends_line, reset_rest, reset_step, with_step}
@@ -26,11 +26,11 @@ dash_token_of v w p ts e = ap (λ x. token_at (dash_word x) p ∷ ts) e
 found_number : (d : ℕ) (make : Place → ℕ → MemoryPart) (p : Place) (a ts : List Terminal) → ((n : ℕ) (m : List Terminal) → (Sign Arrow ▸ Int n ▸ LineEnd) ts m → IsMemoryPart d (make p n) a m) → (k : MemoryPart → State) (c : CircuitTree) → Derives (number_field make p k) c ts → Found (IsMemoryPart d) k c a
 found_number d make p a ts h k c (q, m1, s, (n, m2, i, (r, rest, l, more))) = (make p n.number, rest, h n.number rest (m1, (q, s), (m2, (n.place, i), (r, l))), more)
 
-found_names : (d : ℕ) (make : Place → List Named → MemoryPart) (p : Place) (a ts : List Terminal) → ((ns : List Named) (m : List Terminal) → IsNames ns ts m → IsMemoryPart d (make p ns) a m) → (k : MemoryPart → State) (c : CircuitTree) → Derives (names_field make p k) c ts → Found (IsMemoryPart d) k c a
+found_names : (d : ℕ) (make : Place → List PlacedName → MemoryPart) (p : Place) (a ts : List Terminal) → ((ns : List PlacedName) (m : List Terminal) → IsNames ns ts m → IsMemoryPart d (make p ns) a m) → (k : MemoryPart → State) (c : CircuitTree) → Derives (names_field make p k) c ts → Found (IsMemoryPart d) k c a
 found_names d make p a ts h k c (q, m1, s, (n, m2, x, (ns, rest, (m3, y, l), more))) = (make p (n ∷ ns), rest, h (n ∷ ns) rest (m1, (q, s), (m2, x, (m3, y, l))), more)
 
-found_data_type : (d : ℕ) (p : Place) (a ts : List Terminal) → Token (dash_word (codes "data-type")) p a ts → (k : MemoryPart → State) (c : CircuitTree) → Derives (wants (a_mark Arrow) (λ q. wants (a_type d) (λ t. ends_line (data_type p t) k))) c ts → Found (IsMemoryPart d) k c a
-found_data_type d p a ts e k c (q, m1, s, (t, m2, x, (r, rest, l, more))) = (data_type p t, rest, (ts, e, (m1, (q, s), (m2, x, (r, l)))), more)
+found_data_type : (d : ℕ) (p : Place) (a ts : List Terminal) → Token (dash_word (codes "data-type")) p a ts → (k : MemoryPart → State) (c : CircuitTree) → Derives (wants (a_mark Arrow) (λ q. wants (a_type d) (λ t. ends_line (data_type p t.place t.data_type) k))) c ts → Found (IsMemoryPart d) k c a
+found_data_type d p a ts e k c (q, m1, s, (t, m2, x, (r, rest, l, more))) = (data_type p t.place t.data_type, rest, (ts, e, (m1, (q, s), (m2, x, (r, l)))), more)
 
 found_rule : (d : ℕ) (p : Place) (a ts : List Terminal) → Token (dash_word (codes "read-under-write")) p a ts → (k : MemoryPart → State) (c : CircuitTree) → Derives (wants (a_mark Arrow) (λ q. wants an_under_write (λ u. ends_line (read_under_write p u) k))) c ts → Found (IsMemoryPart d) k c a
 found_rule d p a ts e k c (q, m1, s, (u, m2, x, (r, rest, l, more))) = (read_under_write p u, rest, (ts, e, (m1, (q, s), (m2, x, (r, l)))), more)
@@ -89,10 +89,10 @@ pub extends_more_memory_fields : (d : ℕ) (l : Lexeme) (p : Place) (ts : List T
 extends_more_memory_fields d level_closes p ts = found_last d p ts
 extends_more_memory_fields d l p ts = extends_next d l p ts
 
-found_last_name : (p : Place) (ts : List Terminal) (k : List Named → State) (c : CircuitTree) → Derives (k []) c ts → Found (Is more_names) k c (token_at line_end p ∷ ts)
+found_last_name : (p : Place) (ts : List Terminal) (k : List PlacedName → State) (c : CircuitTree) → Derives (k []) c ts → Found (Is more_names) k c (token_at line_end p ∷ ts)
 found_last_name p ts k c more = ([], ts, (token_at line_end p ∷ ts, refl, (p, refl)), more)
 
-found_name : (w : List ℕ) (p : Place) (ts : List Terminal) (k : List Named → State) (c : CircuitTree) → Derives (wants more_names (λ ns. k (record { place = p; name = w } ∷ ns))) c ts → Found (Is more_names) k c (token_at (word w) p ∷ ts)
+found_name : (w : List ℕ) (p : Place) (ts : List Terminal) (k : List PlacedName → State) (c : CircuitTree) → Derives (wants more_names (λ ns. k (record { place = p; name = w } ∷ ns))) c ts → Found (Is more_names) k c (token_at (word w) p ∷ ts)
 found_name w p ts k c (ns, rest, (m, x, l), more) = (record { place = p; name = w } ∷ ns, rest, (m, (ts, refl, x), l), more)
 
 pub extends_more_names : (l : Lexeme) (p : Place) (ts : List Terminal) → Extends (Is more_names) (token_at l p) ts (more_names_step l p)
@@ -109,32 +109,37 @@ extends_under_write (word w) p ts = by_rule (under_write_of w) w p ts refl
 extends_under_write _ p ts = tt
 
 -- resets
-found_pair : (d : ℕ) (ts : List Terminal) (k : Reset → State) (c : CircuitTree) → Derives (reset_rest d k) c ts → Found (IsResetPair d) k c ts
-found_pair d ts k c (p, m1, w, (q, m2, s, (r, m3, o, (lt, (x, m4, y, (t, m5, u, (i, m6, z, (v, rest, e, more)))))))) =
-    (record { condition = x; init = i }, rest, (m1, (p, w), (m2, (q, s), (m3, (r, o), (m3, (within d lt, refl), (m4, y, (m5, (t, u), (m6, z, (v, e)))))))), more)
+found_pair : (d : ℕ) (w : Place) (ts : List Terminal) (k : Reset → State) (c : CircuitTree) → Derives (reset_rest d w k) c ts
+    → Found (λ r a z. (w ≡ r.place) × IsResetPair d r a z) k c ts
+found_pair d at ts k c (p, m1, w, (q, m2, s, (r, m3, o, (lt, (x, m4, y, (t, m5, u, (i, m6, z, (v, rest, e, more)))))))) =
+    (record { place = at; condition = x; init = i }, rest, (refl, (m1, (p, w), (m2, (q, s), (m3, (r, o), (m3, (within d lt, refl), (m4, y, (m5, (t, u), (m6, z, (v, e))))))))), more)
 
-found_round : (d : ℕ) (p : Place) (ts : List Terminal) (k : Reset → State) (c : CircuitTree) → Derives (opens d p (reset_rest (d + 1) (λ r. wants (a_mark CloseRound) (λ q. ends_line r k)))) c ts → Found (IsBehindWith d) k c (token_at (mark OpenRound) p ∷ ts)
-found_round d p ts k c (lt, more) = closed (found_pair (d + 1) ts (λ r. wants (a_mark CloseRound) (λ q. ends_line r k)) c more)
+found_round : (d : ℕ) (at p : Place) (ts : List Terminal) (k : Reset → State) (c : CircuitTree) → Derives (opens d p (reset_rest (d + 1) at (λ r. wants (a_mark CloseRound) (λ q. ends_line r k)))) c ts → Found (IsBehindWith d at) k c (token_at (mark OpenRound) p ∷ ts)
+found_round d at p ts k c (lt, more) = closed (found_pair (d + 1) at ts (λ r. wants (a_mark CloseRound) (λ q. ends_line r k)) c more)
   where
-    closed : Found (IsResetPair (d + 1)) (λ r. wants (a_mark CloseRound) (λ q. ends_line r k)) c ts → Found (IsBehindWith d) k c (token_at (mark OpenRound) p ∷ ts)
-    closed (r, m1, x, (q, m2, s, (e, rest, l, more2))) = (r, rest, inl (ts, (p, refl), (ts, (within d lt, refl), (m1, x, (m2, (q, s), (e, l))))), more2)
+    closed : Found (λ r a z. (at ≡ r.place) × IsResetPair (d + 1) r a z) (λ r. wants (a_mark CloseRound) (λ q. ends_line r k)) c ts → Found (IsBehindWith d at) k c (token_at (mark OpenRound) p ∷ ts)
+    closed (r, m1, (same, x), (q, m2, s, (e, rest, l, more2))) = (r, rest, (_, (same, refl), inl (ts, (p, refl), (ts, (within d lt, refl), (m1, x, (m2, (q, s), (e, l)))))), more2)
 
-found_lines : (d : ℕ) (p : Place) (ts : List Terminal) (k : Reset → State) (c : CircuitTree) → Derives (wants an_opening (λ q. reset_rest d (λ r. ends_line r (λ s. wants a_closing (λ t. k s))))) c ts → Found (IsBehindWith d) k c (token_at line_end p ∷ ts)
-found_lines d p ts k c (q, m0, o, more) = closed (found_pair d m0 (λ r. ends_line r (λ s. wants a_closing (λ t. k s))) c more)
+found_lines : (d : ℕ) (at p : Place) (ts : List Terminal) (k : Reset → State) (c : CircuitTree) → Derives (wants an_opening (λ q. reset_rest d at (λ r. ends_line r (λ s. wants a_closing (λ t. k s))))) c ts → Found (IsBehindWith d at) k c (token_at line_end p ∷ ts)
+found_lines d at p ts k c (q, m0, o, more) = closed (found_pair d at m0 (λ r. ends_line r (λ s. wants a_closing (λ t. k s))) c more)
   where
-    closed : Found (IsResetPair d) (λ r. ends_line r (λ s. wants a_closing (λ t. k s))) c m0 → Found (IsBehindWith d) k c (token_at line_end p ∷ ts)
-    closed (r, m1, x, (e, m2, l, (t, rest, s, more2))) = (r, rest, inr (ts, (p, refl), (m0, (q, o), (m1, x, (m2, (e, l), (t, s))))), more2)
+    closed : Found (λ r a z. (at ≡ r.place) × IsResetPair d r a z) (λ r. ends_line r (λ s. wants a_closing (λ t. k s))) c m0 → Found (IsBehindWith d at) k c (token_at line_end p ∷ ts)
+    closed (r, m1, (same, x), (e, m2, l, (t, rest, s, more2))) = (r, rest, (_, (same, refl), inr (ts, (p, refl), (m0, (q, o), (m1, x, (m2, (e, l), (t, s)))))), more2)
 
-pub extends_with : (d : ℕ) (l : Lexeme) (p : Place) (ts : List Terminal) → Extends (IsBehindWith d) (token_at l p) ts (with_step d l p)
-extends_with d (mark OpenRound) p ts = found_round d p ts
-extends_with d line_end p ts = found_lines d p ts
-extends_with d _ p ts = tt
+pub extends_with : (d : ℕ) (at : Place) (l : Lexeme) (p : Place) (ts : List Terminal) → Extends (IsBehindWith d at) (token_at l p) ts (with_step d at l p)
+extends_with d at (mark OpenRound) p ts = found_round d at p ts
+extends_with d at line_end p ts = found_lines d at p ts
+extends_with d at _ p ts = tt
 
 found_no_reset : (d : ℕ) (p : Place) (ts : List Terminal) (k : Option Reset → State) (c : CircuitTree) → Derives (k None) c ts → Found (IsReset d) k c (token_at line_end p ∷ ts)
 found_no_reset d p ts k c more = (None, ts, (p, refl), more)
 
-found_reset : (d : ℕ) (w : List ℕ) (p : Place) (ts : List Terminal) → w ≡ codes "with" → (k : Option Reset → State) (c : CircuitTree) → Derives (wants (a_mark Colon) (λ q. wants (behind_with d) (λ r. k (Some r)))) c ts → Found (IsReset d) k c (token_at (word w) p ∷ ts)
-found_reset d w p ts e k c (q, m1, s, (r, rest, x, more)) = (Some r, rest, (ts, (p, token_of (codes "with") w p ts e), (m1, (q, s), x)), more)
+found_reset : (d : ℕ) (w : List ℕ) (p : Place) (ts : List Terminal) → w ≡ codes "with" → (k : Option Reset → State) (c : CircuitTree) → Derives (wants (a_mark Colon) (λ q. wants (behind_with d p) (λ r. k (Some r)))) c ts → Found (IsReset d) k c (token_at (word w) p ∷ ts)
+found_reset d w p ts e k c (q, m1, s, (r, rest, (m2, (same, here), x), more)) =
+    let P : Place → Type 0 = λ at. token_at (word w) p ∷ ts ≡ token_at (word (codes "with")) at ∷ ts in
+    let Q : List Terminal → Type 0 = λ y.
+    Either (Sign OpenRound ▸ Given (d < 256) ▸ IsResetPair (d + 1) r ▸ Sign CloseRound ▸ LineEnd) (LineEnd ▸ Opens ▸ IsResetPair d r ▸ LineEnd ▸ Closes) y rest in
+    (Some r, rest, (ts, subst P same (token_of (codes "with") w p ts e), (m1, (q, s), subst Q (sym here) x)), more)
 
 pub extends_reset : (d : ℕ) (l : Lexeme) (p : Place) (ts : List Terminal) → Extends (IsReset d) (token_at l p) ts (reset_step d l p)
 extends_reset d line_end p ts = found_no_reset d p ts

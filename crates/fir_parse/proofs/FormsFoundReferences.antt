@@ -8,9 +8,9 @@ use Rattle.fir_ast.specs.Circuits.{CircuitTree}
 use Rattle.fir_parse.specs.declared.lexeme.Mark.TheVariants.{Less, OpenRound, CloseRound, OpenSquare, Dot}
 use Rattle.fir_parse.specs.Lexemes.{Lexeme, Terminal, word, mark, integer, text}
 use Rattle.fir_parse.specs.Numbers.{Numeral, is_in_range, is_allowed, integer_value, text_value, literal_of}
-use Rattle.fir_parse.specs.Pieces.{Token, Sign}
-use Rattle.fir_parse.specs.TypeForms.{IsWidth}
-use Rattle.fir_parse.specs.ExpressionForms.{literal_word, IsNumeral, IsLiteral, IsExpression, AreParts}
+use Rattle.fir_parse.specs.working.Pieces.{Token, Sign}
+use Rattle.fir_parse.specs.working.TypeForms.{IsWidth}
+use Rattle.fir_parse.specs.working.ExpressionForms.{literal_word, IsNumeral, IsLiteral, IsExpression, AreParts}
 use Rattle.fir_parse.specs.Symbols.{plain_index, computed_index, a_literal}
 use Rattle.fir_parse.specs.States.{State, opens}
 use Rattle.fir_parse.specs.ExpressionRules.{literal_rest, dot_rest, index_rest, indexed_height, parts_step, numbered, literal_step, sized_rest}
@@ -24,15 +24,15 @@ pub in_bounds : (n : ℕ) → not (is_in_range n) ≡ false → n < 2 ^ 128
 in_bounds n h = ltb-true n (2 ^ 128) (holds (is_in_range n) h)
 
 -- a dot or a bracket, and what follows it
-pub found_dot : (d h : ℕ) (p : Place) (ts : List Terminal) (k : Parts → State) (c : CircuitTree) → Derives (dot_rest d h k) c ts → Found (AreParts d h) k c (token_at (mark Dot) p ∷ ts)
+pub found_dot : (d h : ℕ) (p : Place) (ts : List Terminal) (k : Parts → State) (c : CircuitTree) → Derives (dot_rest d h p k) c ts → Found (AreParts d h) k c (token_at (mark Dot) p ∷ ts)
 found_dot d h p ts k c (f, m, name, (le, (ps, rest, x, more))) =
-    (subfield f.place f.name ps, rest, (ts, (p, refl), (m, name, (m, (no_taller (h + 1) le, refl), x))), more)
+    (subfield p f.place f.name ps, rest, (ts, refl, (m, name, (m, (no_taller (h + 1) le, refl), x))), more)
 
 pub found_index : (d h : ℕ) (p : Place) (ts : List Terminal) (k : Parts → State) (c : CircuitTree) → Derives (index_rest d h p k) c ts → Found (AreParts d h) k c (token_at (mark OpenSquare) p ∷ ts)
 found_index d h p ts k c (lt, (plain_index q n, m, i, (r, m2, s, (le, (ps, rest, x, more))))) =
-    (subindex q n ps, rest, (ts, (p, refl), (ts, (within d lt, refl), (m, i, (m2, (r, s), (m2, (no_taller (h + 1) le, refl), x))))), more)
+    (subindex p q n ps, rest, (ts, refl, (ts, (within d lt, refl), (m, i, (m2, (r, s), (m2, (no_taller (h + 1) le, refl), x))))), more)
 found_index d h p ts k c (lt, (computed_index e, m, i, (r, m2, s, (le, (ps, rest, x, more))))) =
-    (subaccess e ps, rest, (ts, (p, refl), (ts, (within d lt, refl), (m, i, (m2, (r, s), (m2, (no_taller (indexed_height h (computed_index e)) le, refl), x))))), more)
+    (subaccess p e ps, rest, (ts, refl, (ts, (within d lt, refl), (m, i, (m2, (r, s), (m2, (no_taller (indexed_height h (computed_index e)) le, refl), x))))), more)
 
 pub extends_parts : (d h : ℕ) (l : Lexeme) (p : Place) (ts : List Terminal) → Extends (AreParts d h) (token_at l p) ts (parts_step d h l p)
 extends_parts d h (mark Dot) p ts = found_dot d h p ts

@@ -6,8 +6,8 @@ use Rattle.fir_ast.specs.Circuits.{CircuitTree}
 use Rattle.fir_parse.specs.declared.lexeme.Mark.{Mark}
 use Rattle.fir_parse.specs.declared.lexeme.Mark.TheVariants.{Connect, PartialConnect, OpenSquare, Dot}
 use Rattle.fir_parse.specs.Lexemes.{Lexeme, Terminal, word, mark, line_end}
-use Rattle.fir_parse.specs.ExpressionForms.{AreParts}
-use Rattle.fir_parse.specs.StatementForms.{IsStatement}
+use Rattle.fir_parse.specs.working.ExpressionForms.{AreParts}
+use Rattle.fir_parse.specs.working.StatementForms.{IsStatement}
 use Rattle.fir_parse.specs.Symbols.{a_word, behind_sink}
 use Rattle.fir_parse.specs.States.{State, Step, wants, takes, without, refuses, unsupported, mapped}
 use Rattle.fir_parse.specs.StatementRules.{ends_line, bare, connect_rest, partial_connect_rest, sink_step, ref_step}

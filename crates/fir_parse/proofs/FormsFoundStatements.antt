@@ -7,16 +7,17 @@ use Rattle.fir_ast.specs.Circuits.{CircuitTree}
 use Rattle.fir_parse.specs.declared.lexeme.Mark.{Mark}
 use Rattle.fir_parse.specs.declared.lexeme.Mark.TheVariants.{Colon}
 use Rattle.fir_parse.specs.Lexemes.{Lexeme, Terminal, word, mark, level_opens, level_closes}
-use Rattle.fir_parse.specs.Pieces.{Sign, LineEnd, Closes}
-use Rattle.fir_parse.specs.StatementForms.{IsStatement, AreStatements, IsBlock, IsElse}
+use Rattle.fir_parse.specs.working.Pieces.{Sign, LineEnd, Closes}
+use Rattle.fir_parse.specs.working.StatementForms.{IsStatement, AreStatements, IsBlock, IsElse}
 use Rattle.fir_parse.specs.Symbols.{OpenWhen, statement, open_when, Otherwise, else_block, else_when, no_else, a_word, a_line_end, an_expression, statements, behind_else, an_indented_block}
 use Rattle.fir_parse.specs.States.{State, Step, wants}
 use Rattle.fir_parse.specs.StatementRules.{ends_line, bare, ref_step, when_rest, behind_statement, behind_otherwise, closed_before, may_be_else, statements_step, otherwise_ref, else_step, block_step}
 use Rattle.fir_parse.proofs.FormsReadWhens.{chain_more}
-use Rattle.fir_parse.proofs.FormsFound.{token_at, IsOpenWhen, IsBegun, IsOtherwise, AreBehind, Derives, Found, Extends, by_test, by_word}
+use Rattle.fir_parse.proofs.FormsFound.{token_at, IsOpenWhen, IsBegun, IsOtherwise, AreBehind, Derives, Found, Extends, by_word}
 use Rattle.fir_parse.proofs.FormsFoundTypes.{token_of}
 use Rattle.fir_parse.proofs.FormsFoundRefs.{BehindName, ExtendsRef, extends_mapped, extends_ref, invalid_spelled}
 use Rattle.fir_parse.proofs.FormsFoundDeclarations.{found_when_rest}
+use Rattle.std.proofs.lemmas.Bool.{cond_both}
 
 when_spelled : (d : ℕ) (o : OpenWhen) (f : Block) (a m z : List Terminal) → IsOpenWhen d o a m → IsElse d f m z → IsStatement d (when o.place o.condition o.block f) a z
 when_spelled d o f a m z (m1, t, (m2, x, (m3, s, (m4, l, (m5, g, b))))) e = (m1, t, (m2, x, (m3, s, (m4, l, (m5, g, (m, b, e))))))
@@ -76,7 +77,7 @@ found_level_end d ws p ts k c more = (closed_before ws done done, ts, statements
 
 pub extends_statements : (d : ℕ) (ws : List OpenWhen) (l : Lexeme) (p : Place) (ts : List Terminal) → Extends (AreBehind d ws) (token_at l p) ts (statements_step d ws l p)
 extends_statements d ws level_closes p ts = found_level_end d ws p ts
-extends_statements d ws (word w) p ts = by_test (Extends (AreBehind d ws) (token_at (word w) p) ts) (may_be_else ws w) _ _ (else_chain d ws w p ts) (λ h k c x. found_begun d ws (token_at (word w) p ∷ ts) k c x)
+extends_statements d ws (word w) p ts = cond_both (may_be_else ws w) _ _ (Extends (AreBehind d ws) (token_at (word w) p) ts) (else_chain d ws w p ts) (λ h k c x. found_begun d ws (token_at (word w) p ∷ ts) k c x)
 extends_statements d ws _ p ts = tt
 
 -- behind the word `else`

@@ -3,18 +3,19 @@ use Rattle.std.proofs.Common.{◌≡◌, ℕ, Bool, true, false, not, List, ◌�
 use Rattle.std.specs.Str.{bytes_eq}
 use Rattle.std.proofs.lemmas.Slice.Eq.{bytes_eq-Decides}
 use Rattle.fir_ast.specs.declared.place.Place.{Place}
-use Rattle.fir_ast.specs.Statements.{Named}
+use Rattle.fir_ast.specs.Statements.{PlacedName}
 use Rattle.fir_ast.specs.Circuits.{CircuitTree}
 use Rattle.fir_parse.specs.declared.lexeme.Mark.{Mark}
 use Rattle.fir_parse.specs.declared.lexeme.Mark.TheVariants.{Connect, PartialConnect, Arrow, Equals, Less, Greater, OpenRound, CloseRound, OpenSquare, CloseSquare, OpenCurly, CloseCurly, Comma, Colon, Dot}
 use Rattle.fir_parse.specs.Lexemes.{Lexeme, word, integer, mark, line_end, level_opens, level_closes, Terminal}
 use Rattle.fir_parse.specs.Marks.{same_mark}
-use Rattle.fir_parse.specs.Numbers.{has_sign, is_in_range, decimal_value}
+use Rattle.fir_base.specs.Digits.{decimal_value}
+use Rattle.fir_parse.specs.Numbers.{has_sign, is_in_range}
 use Rattle.fir_parse.specs.Symbols.{Sym, Natural, a_mark, a_word, a_name, a_field_name, a_natural, a_line_end, an_opening, a_closing, a_type, a_width, dimensions, fields, more_fields, a_field, behind_flip, an_expression, behind_word, parts, an_index, a_literal, statements, behind_first, behind_is, behind_else, behind_sink, an_indented_block, a_reset, behind_with, a_memory_body, a_memory_field, more_memory_fields, more_names, an_under_write, a_text, some_annotations, first_module, more_modules, a_body, ports_and_statements, behind_direction, behind_port_is}
 use Rattle.fir_parse.specs.States.{State, limit, in_range}
 use Rattle.fir_parse.specs.Reading.{one, step, mark_step, word_step, name_step, field_name_step, natural_step, line_end_step, opening_step, closing_step}
-use Rattle.fir_parse.proofs.FormsFound.{token_at, Is, Derives, Found, Extends, by_test}
-use Rattle.fir_parse.proofs.FormsFoundTypes.{token_of, extends_type, extends_width, extends_dimensions, extends_fields, extends_more_fields, extends_field, extends_flip}
+use Rattle.fir_parse.proofs.FormsFound.{token_at, Is, Derives, Found, Extends}
+use Rattle.fir_parse.proofs.FormsFoundTypes.{token_of, extends_type, extends_width, extends_dimensions, extends_fields, extends_more_fields, extends_field, extends_flip, extends_placed_type}
 use Rattle.fir_parse.proofs.FormsFoundReferences.{in_bounds, extends_parts, extends_literal}
 use Rattle.fir_parse.proofs.FormsFoundExpressions.{extends_expression, extends_behind_word, extends_index}
 use Rattle.fir_parse.proofs.FormsFoundMemories.{extends_memory_body, extends_memory_field, extends_more_memory_fields, extends_more_names, extends_under_write, extends_reset, extends_with}
@@ -22,6 +23,8 @@ use Rattle.fir_parse.proofs.FormsFoundRefs.{extends_sink}
 use Rattle.fir_parse.proofs.FormsFoundDeclarations.{extends_first, extends_is}
 use Rattle.fir_parse.proofs.FormsFoundStatements.{extends_statements, extends_else, extends_block}
 use Rattle.fir_parse.proofs.FormsFoundCircuits.{extends_text, extends_annotations, extends_first_module, extends_more_modules, extends_body, extends_ports, extends_direction, extends_port_is}
+use Rattle.fir_parse.specs.TypeRules.{type_step}
+use Rattle.std.proofs.lemmas.Bool.{cond_both}
 
 same_marks : (m n : Mark) → same_mark m n ≡ true → n ≡ m
 same_marks Connect Connect h = refl
@@ -58,19 +61,19 @@ extends_name : (l : Lexeme) (p : Place) (ts : List Terminal) → Extends (Is a_n
 extends_name (word w) p ts = λ k c more. (record { place = p; name = w }, ts, refl, more)
 extends_name _ p ts = tt
 
-found_digits : (s : List ℕ) (p : Place) (ts : List Terminal) → has_sign s ≡ false → (k : Named → State) (c : CircuitTree) → Derives (k (record { place = p; name = s })) c ts → Found (Is a_field_name) k c (token_at (integer s) p ∷ ts)
+found_digits : (s : List ℕ) (p : Place) (ts : List Terminal) → has_sign s ≡ false → (k : PlacedName → State) (c : CircuitTree) → Derives (k (record { place = p; name = s })) c ts → Found (Is a_field_name) k c (token_at (integer s) p ∷ ts)
 found_digits s p ts h k c more = (record { place = p; name = s }, ts, inr (token_at (integer s) p ∷ ts, (h, refl), refl), more)
 
 extends_field_name : (l : Lexeme) (p : Place) (ts : List Terminal) → Extends (Is a_field_name) (token_at l p) ts (field_name_step l p)
 extends_field_name (word w) p ts = λ k c more. (record { place = p; name = w }, ts, inl refl, more)
-extends_field_name (integer s) p ts = by_test (Extends (Is a_field_name) (token_at (integer s) p) ts) (has_sign s) _ _ (λ h. tt) (found_digits s p ts)
+extends_field_name (integer s) p ts = cond_both (has_sign s) _ _ (Extends (Is a_field_name) (token_at (integer s) p) ts) (λ h. tt) (found_digits s p ts)
 extends_field_name _ p ts = tt
 
 found_natural : (s : List ℕ) (p : Place) (ts : List Terminal) → has_sign s ≡ false → (k : Natural → State) (c : CircuitTree) → Derives (limit (not (is_in_range (decimal_value s))) (in_range p) (k (record { place = p; number = decimal_value s }))) c ts → Found (Is a_natural) k c (token_at (integer s) p ∷ ts)
 found_natural s p ts h k c (r, more) = (record { place = p; number = decimal_value s }, ts, (s, h, refl, in_bounds (decimal_value s) r, refl), more)
 
 extends_natural : (l : Lexeme) (p : Place) (ts : List Terminal) → Extends (Is a_natural) (token_at l p) ts (natural_step l p)
-extends_natural (integer s) p ts = by_test (Extends (Is a_natural) (token_at (integer s) p) ts) (has_sign s) _ _ (λ h. tt) (found_natural s p ts)
+extends_natural (integer s) p ts = cond_both (has_sign s) _ _ (Extends (Is a_natural) (token_at (integer s) p) ts) (λ h. tt) (found_natural s p ts)
 extends_natural _ p ts = tt
 
 extends_line_end : (l : Lexeme) (p : Place) (ts : List Terminal) → Extends (Is a_line_end) (token_at l p) ts (line_end_step l p)
@@ -94,7 +97,7 @@ extends a_natural l p ts = extends_natural l p ts
 extends a_line_end l p ts = extends_line_end l p ts
 extends an_opening l p ts = extends_opening l p ts
 extends a_closing l p ts = extends_closing l p ts
-extends (a_type d) l p ts = extends_type d l p ts
+extends (a_type d) l p ts = extends_placed_type d l p ts (type_step d l p) (extends_type d l p ts)
 extends a_width l p ts = extends_width l p ts
 extends (dimensions d t) l p ts = extends_dimensions d t l p ts
 extends (fields d) l p ts = extends_fields d l p ts
@@ -113,7 +116,7 @@ extends (behind_else d n q) l p ts = extends_else d n q l p ts
 extends (behind_sink d s) l p ts = extends_sink d s l p ts
 extends (an_indented_block d) l p ts = extends_block d l p ts
 extends (a_reset d) l p ts = extends_reset d l p ts
-extends (behind_with d) l p ts = extends_with d l p ts
+extends (behind_with d q) l p ts = extends_with d q l p ts
 extends (a_memory_body d) l p ts = extends_memory_body d l p ts
 extends (a_memory_field d) l p ts = extends_memory_field d l p ts
 extends (more_memory_fields d) l p ts = extends_more_memory_fields d l p ts

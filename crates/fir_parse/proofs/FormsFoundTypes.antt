@@ -10,12 +10,13 @@ use Rattle.fir_parse.specs.Lexemes.{Lexeme, Terminal, word, mark, integer}
 use Rattle.fir_parse.specs.Words.{type_word_of}
 use Rattle.fir_parse.specs.Numbers.{has_sign}
 use Rattle.fir_parse.specs.Heights.{type_height}
-use Rattle.fir_parse.specs.TypeForms.{IsWidth, IsType, AreFields, AreMoreFields}
+use Rattle.fir_parse.specs.working.TypeForms.{IsWidth, IsType, AreFields, AreMoreFields}
 use Rattle.fir_parse.specs.Symbols.{FieldTree, FieldsTree, a_mark, a_natural, a_type, a_width, dimensions, fields, more_fields, a_field, behind_flip}
-use Rattle.fir_parse.specs.States.{State, wants, Step, takes, without, refuses, unsupported, opens, ends_form}
-use Rattle.fir_parse.specs.TypeRules.{by_type_word, type_step, width_step, dimensions_step, with_field, then_more, field_rest, field_step, flip_step, fields_step, more_fields_step}
-use Rattle.fir_parse.proofs.FormsFound.{token_at, IsField, Is, Derives, Found, Extends, by_test, by_word, within, no_taller}
+use Rattle.fir_parse.specs.States.{State, wants, Step, takes, without, refuses, unsupported, opens, ends_form, mapped}
+use Rattle.fir_parse.specs.TypeRules.{by_type_word, type_step, width_step, dimensions_step, with_field, then_more, field_rest, field_step, flip_step, fields_step, more_fields_step, type_at}
+use Rattle.fir_parse.proofs.FormsFound.{token_at, IsField, Is, Derives, Found, Extends, by_word, within, no_taller}
 use Rattle.fir_parse.proofs.FormsFoundWords.{IsTypeWord, type_word}
+use Rattle.std.proofs.lemmas.Bool.{cond_both}
 
 pub token_of : (v w : List ℕ) (p : Place) (ts : List Terminal) → w ≡ v → token_at (word w) p ∷ ts ≡ token_at (word v) p ∷ ts
 token_of v w p ts e = ap (λ x. token_at (word x) p ∷ ts) e
@@ -45,6 +46,14 @@ extends_type d (word w) p ts = by_type (type_word_of w) d p w ts (type_word w)
 extends_type d (mark OpenCurly) p ts = found_bundle d p ts
 extends_type d _ p ts = tt
 
+-- with the place of its first token
+pub extends_placed_type : (d : ℕ) (l : Lexeme) (p : Place) (ts : List Terminal) (u : Step DataType) → Extends (IsType d) (token_at l p) ts u
+    → Extends (Is (a_type d)) (token_at l p) ts (mapped (type_at p) u)
+extends_placed_type d l p ts (takes g) h = λ k c x. let found = h (λ t. k (type_at p t)) c x in (type_at p found.0, found.1, (token_at l p ∷ ts, (refl, refl), found.2), found.3)
+extends_placed_type d l p ts (without t) h = (token_at l p ∷ ts, (refl, refl), h)
+extends_placed_type d l p ts refuses h = tt
+extends_placed_type d l p ts (unsupported q w) h = tt
+
 found_width : (p : Place) (ts : List Terminal) (k : Option ℕ → State) (c : CircuitTree) → Derives (wants a_natural (λ n. wants (a_mark Greater) (λ q. k (Some n.number)))) c ts → Found IsWidth k c (token_at (mark Less) p ∷ ts)
 found_width p ts k c (n, m, i, (q, r, s, more)) = (Some n.number, r, (ts, (p, refl), (m, (n.place, i), (q, s))), more)
 
@@ -61,7 +70,7 @@ extends_dimensions d t (mark OpenSquare) p ts = found_dimension d t p ts
 extends_dimensions d t _ p ts = λ before y. y
 
 -- fields
-fields_with : (d : ℕ) (f : FieldTree) (fs : Fields) (a m b : List Terminal) → IsField d f a m → AreMoreFields d fs m b → AreFields d (field f.place f.flip f.name f.data_type fs) a b
+fields_with : (d : ℕ) (f : FieldTree) (fs : Fields) (a m b : List Terminal) → IsField d f a m → AreMoreFields d fs m b → AreFields d (field f.place f.flip f.name f.type_place f.data_type fs) a b
 fields_with d f fs a m b (m1, x, (m2, y, (m3, z, t))) more = (m1, x, (m2, y, (m3, z, (m, t, more))))
 
 found_first_field : (d : ℕ) (u : Terminal) (ts : List Terminal) (k : FieldsTree → State) (c : CircuitTree) → Found (IsField d) (λ f. wants (more_fields d) (λ fs. k (with_field f fs))) c (u ∷ ts) → Found (Is (fields d)) k c (u ∷ ts)
@@ -79,7 +88,7 @@ found_end d p ts k c more = (record { fields = no_fields; close = p }, ts, (toke
 found_more_end : (d : ℕ) (p : Place) (ts : List Terminal) (k : FieldsTree → State) (c : CircuitTree) → Derives (k (record { fields = no_fields; close = p })) c ts → Found (Is (more_fields d)) k c (token_at (mark CloseCurly) p ∷ ts)
 found_more_end d p ts k c more = (record { fields = no_fields; close = p }, ts, (token_at (mark CloseCurly) p ∷ ts, refl, refl), more)
 
-more_with : (d : ℕ) (f : FieldTree) (fs : Fields) (p : Place) (a m b : List Terminal) → IsField d f a m → AreMoreFields d fs m b → AreMoreFields d (field f.place f.flip f.name f.data_type fs) (token_at (mark Comma) p ∷ a) b
+more_with : (d : ℕ) (f : FieldTree) (fs : Fields) (p : Place) (a m b : List Terminal) → IsField d f a m → AreMoreFields d fs m b → AreMoreFields d (field f.place f.flip f.name f.type_place f.data_type fs) (token_at (mark Comma) p ∷ a) b
 more_with d f fs p a m b (m1, x, (m2, y, (m3, z, t))) more = (a, (p, refl), (m1, x, (m2, y, (m3, z, (m, t, more)))))
 
 found_more : (d : ℕ) (p : Place) (ts : List Terminal) (k : FieldsTree → State) (c : CircuitTree) → Derives (wants (a_field d) (λ f. wants (more_fields d) (λ fs. k (with_field f fs)))) c ts → Found (Is (more_fields d)) k c (token_at (mark Comma) p ∷ ts)
@@ -87,36 +96,36 @@ found_more d p ts k c (f, m, x, (fs, rest, (n, y, e), more)) = (with_field f fs,
 
 -- one field
 found_named : (d : ℕ) (p : Place) (w : List ℕ) (ts : List Terminal) (k : FieldTree → State) (c : CircuitTree) → Derives (field_rest d p false w k) c ts → Found (IsField d) k c (token_at (word w) p ∷ ts)
-found_named d p w ts k c (q, m, s, (t, rest, y, more)) = (record { place = p; flip = false; name = w; data_type = t }, rest, (token_at (word w) p ∷ ts, refl, (ts, inl refl, (m, (q, s), y))), more)
+found_named d p w ts k c (q, m, s, (t, rest, y, more)) = (record { place = p; flip = false; name = w; type_place = t.place; data_type = t.data_type }, rest, (token_at (word w) p ∷ ts, refl, (ts, inl refl, (m, (q, s), y))), more)
 
 found_numbered : (d : ℕ) (p : Place) (w : List ℕ) (ts : List Terminal) → has_sign w ≡ false → (k : FieldTree → State) (c : CircuitTree) → Derives (field_rest d p false w k) c ts → Found (IsField d) k c (token_at (integer w) p ∷ ts)
 found_numbered d p w ts u k c (q, m, s, (t, rest, y, more)) =
-    (record { place = p; flip = false; name = w; data_type = t }, rest, (token_at (integer w) p ∷ ts, refl, (ts, inr (token_at (integer w) p ∷ ts, (u, refl), refl), (m, (q, s), y))), more)
+    (record { place = p; flip = false; name = w; type_place = t.place; data_type = t.data_type }, rest, (token_at (integer w) p ∷ ts, refl, (ts, inr (token_at (integer w) p ∷ ts, (u, refl), refl), (m, (q, s), y))), more)
 
 found_flip : (d : ℕ) (p : Place) (w : List ℕ) (ts : List Terminal) → w ≡ codes "flip" → (k : FieldTree → State) (c : CircuitTree) → Derives (wants (behind_flip d p) k) c ts → Found (IsField d) k c (token_at (word w) p ∷ ts)
 found_flip d p w ts e k c (f, rest, x, more) = let P : List ℕ → Type 0 = λ v. IsField d f (token_at (word v) p ∷ ts) rest in (f, rest, subst P (sym e) x, more)
 
 pub extends_field : (d : ℕ) (l : Lexeme) (p : Place) (ts : List Terminal) → Extends (IsField d) (token_at l p) ts (field_step d l p)
 extends_field d (word w) p ts = by_word (Extends (IsField d) (token_at (word w) p) ts) w (codes "flip") _ _ (found_flip d p w ts) (found_named d p w ts)
-extends_field d (integer s) p ts = by_test (Extends (IsField d) (token_at (integer s) p) ts) (has_sign s) _ _ (λ h. tt) (found_numbered d p s ts)
+extends_field d (integer s) p ts = cond_both (has_sign s) _ _ (Extends (IsField d) (token_at (integer s) p) ts) (λ h. tt) (found_numbered d p s ts)
 extends_field d _ p ts = tt
 
 -- behind the word `flip`
-found_named_flip : (d : ℕ) (p q : Place) (ts : List Terminal) (k : FieldTree → State) (c : CircuitTree) → Derives (wants (a_type d) (λ t. k (record { place = p; flip = false; name = codes "flip"; data_type = t }))) c ts → Found (Is (behind_flip d p)) k c (token_at (mark Colon) q ∷ ts)
+found_named_flip : (d : ℕ) (p q : Place) (ts : List Terminal) (k : FieldTree → State) (c : CircuitTree) → Derives (wants (a_type d) (λ t. k (record { place = p; flip = false; name = codes "flip"; type_place = t.place; data_type = t.data_type }))) c ts → Found (Is (behind_flip d p)) k c (token_at (mark Colon) q ∷ ts)
 found_named_flip d p q ts k c (t, rest, y, more) =
-    (record { place = p; flip = false; name = codes "flip"; data_type = t }, rest, (token_at (word (codes "flip")) p ∷ token_at (mark Colon) q ∷ ts, refl, (token_at (mark Colon) q ∷ ts, inl refl, (ts, (q, refl), y))), more)
+    (record { place = p; flip = false; name = codes "flip"; type_place = t.place; data_type = t.data_type }, rest, (token_at (word (codes "flip")) p ∷ token_at (mark Colon) q ∷ ts, refl, (token_at (mark Colon) q ∷ ts, inl refl, (ts, (q, refl), y))), more)
 
 found_flipped : (d : ℕ) (p q : Place) (w : List ℕ) (ts : List Terminal) (k : FieldTree → State) (c : CircuitTree) → Derives (field_rest d q true w k) c ts → Found (Is (behind_flip d p)) k c (token_at (word w) q ∷ ts)
-found_flipped d p q w ts k c (r, m, s, (t, rest, y, more)) = (record { place = q; flip = true; name = w; data_type = t }, rest, (token_at (word w) q ∷ ts, (p, refl), (ts, inl refl, (m, (r, s), y))), more)
+found_flipped d p q w ts k c (r, m, s, (t, rest, y, more)) = (record { place = q; flip = true; name = w; type_place = t.place; data_type = t.data_type }, rest, (token_at (word w) q ∷ ts, (p, refl), (ts, inl refl, (m, (r, s), y))), more)
 
 found_flipped_number : (d : ℕ) (p q : Place) (w : List ℕ) (ts : List Terminal) → has_sign w ≡ false → (k : FieldTree → State) (c : CircuitTree) → Derives (field_rest d q true w k) c ts → Found (Is (behind_flip d p)) k c (token_at (integer w) q ∷ ts)
 found_flipped_number d p q w ts u k c (r, m, s, (t, rest, y, more)) =
-    (record { place = q; flip = true; name = w; data_type = t }, rest, (token_at (integer w) q ∷ ts, (p, refl), (ts, inr (token_at (integer w) q ∷ ts, (u, refl), refl), (m, (r, s), y))), more)
+    (record { place = q; flip = true; name = w; type_place = t.place; data_type = t.data_type }, rest, (token_at (integer w) q ∷ ts, (p, refl), (ts, inr (token_at (integer w) q ∷ ts, (u, refl), refl), (m, (r, s), y))), more)
 
 pub extends_flip : (d : ℕ) (p : Place) (l : Lexeme) (q : Place) (ts : List Terminal) → Extends (Is (behind_flip d p)) (token_at l q) ts (flip_step d p l q)
 extends_flip d p (mark Colon) q ts = found_named_flip d p q ts
 extends_flip d p (word w) q ts = found_flipped d p q w ts
-extends_flip d p (integer s) q ts = by_test (Extends (Is (behind_flip d p)) (token_at (integer s) q) ts) (has_sign s) _ _ (λ h. tt) (found_flipped_number d p q s ts)
+extends_flip d p (integer s) q ts = cond_both (has_sign s) _ _ (Extends (Is (behind_flip d p)) (token_at (integer s) q) ts) (λ h. tt) (found_flipped_number d p q s ts)
 extends_flip d p _ q ts = tt
 
 extends_first : (d : ℕ) (l : Lexeme) (p : Place) (ts : List Terminal) → Extends (Is (fields d)) (token_at l p) ts (then_more d (field_step d l p))

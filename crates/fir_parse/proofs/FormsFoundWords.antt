@@ -1,6 +1,7 @@
 -- What a word with a meaning is.
 use Rattle.std.proofs.Common.{◌≡◌, ℕ, List, Option, Some, None, codes}
 use Rattle.fir_bits.specs.declared.operators.PrimOp.{PrimOp}
+use Rattle.fir_bits.specs.OperatorWords.{operator_of}
 use Rattle.fir_parse.specs.declared.words.TypeWord.{TypeWord}
 use Rattle.fir_parse.specs.declared.words.TypeWord.TheVariants as types
 use Rattle.fir_parse.specs.declared.words.Applied.{Applied}
@@ -12,7 +13,7 @@ use Rattle.fir_parse.specs.declared.words.FieldWord.{FieldWord}
 use Rattle.fir_parse.specs.declared.words.FieldWord.TheVariants as memory
 use Rattle.fir_parse.specs.declared.words.ModuleWord.{ModuleWord}
 use Rattle.fir_parse.specs.declared.words.ModuleWord.TheVariants as modules
-use Rattle.fir_parse.specs.Words.{type_word_of, operator_of, operator_or, applied_of, lead_of, plain_field_word, dash_field_word, module_word_of}
+use Rattle.fir_parse.specs.Words.{type_word_of, operator_or, applied_of, lead_of, plain_field_word, dash_field_word, module_word_of}
 use Rattle.fir_parse.proofs.FormsFound.{by_word}
 
 abbrev pub IsTypeWord : List ℕ → TypeWord → Type 0

@@ -4,8 +4,8 @@ use Rattle.fir_ast.specs.declared.place.Place.{Place}
 use Rattle.fir_ast.specs.Circuits.{ModuleTree, CircuitTree}
 use Rattle.fir_parse.specs.declared.lexeme.Mark.TheVariants.{Colon, Dot}
 use Rattle.fir_parse.specs.Lexemes.{Terminal, word, annotations, line_end, level_closes}
-use Rattle.fir_parse.specs.Pieces.{Either, Nothing, LineEnd, Closes, Annotations}
-use Rattle.fir_parse.specs.CircuitForms.{IsModule, AreModules, AreSomeModules, IsVersion, IsSpelled}
+use Rattle.fir_parse.specs.working.Pieces.{Either, Nothing, LineEnd, Closes, Annotations}
+use Rattle.fir_parse.specs.working.CircuitForms.{IsModule, AreModules, AreSomeModules, IsVersion, IsSpelled}
 use Rattle.fir_parse.specs.Symbols.{a_text, some_annotations, first_module, more_modules, a_word}
 use Rattle.fir_parse.specs.States.{State, done, wants}
 use Rattle.fir_parse.specs.CircuitRules.{one_module, module_rest, circuit_rest, version_rest}
@@ -16,25 +16,25 @@ use Rattle.fir_parse.proofs.FormsReadDeclarations.{NoLevel, no_level_at}
 use Rattle.fir_parse.proofs.FormsReadPorts.{read_body}
 
 -- behind the word `module`
-read_module : (m : ModuleTree) (a z : List Terminal) (x : IsModule m a z) → NoLevel z → (end : Place) (k : ModuleTree → State) → read_on true end (one_module k) x.0 ≡ read_on true end (k m) z
+read_module : (m : ModuleTree) (a z : List Terminal) (x : IsModule m a z) → NoLevel z → (end : Place) (k : ModuleTree → State) → read_on true end (one_module m.place k) x.0 ≡ read_on true end (k m) z
 read_module m a z (m1, w, (m2, n, (m3, c, (m4, l, b)))) h end k =
     read_name m.named m1 m2 n end _ ∙ read_sign Colon m2 m3 c end _ ∙ read_line_end m3 m4 l end _ ∙ read_body m.ports m.body m4 z b h end _
 
 modules_begin : (ms : List ModuleTree) (a m z : List Terminal) → AreModules ms a m → Closes m z → NoLevel a
 modules_begin [] a m z x (p, e) = no_level_at level_closes p a z (x ∙ e) refl
-modules_begin (n ∷ ms) a m z (c, (m1, (p, e), x), y) l = no_level_at (word (codes "module")) p a m1 e refl
+modules_begin (n ∷ ms) a m z (c, (m1, e, x), y) l = no_level_at (word (codes "module")) n.place a m1 e refl
 
 read_more_modules : (ms : List ModuleTree) (a m z : List Terminal) → AreModules ms a m → Closes m z → (end : Place) (k : List ModuleTree → State) → read_on true end (wants more_modules k) a ≡ read_on true end (k ms) z
 read_more_modules [] a m z x (p, e) end k = takes_token more_modules (λ f. f []) level_closes p a z (x ∙ e) refl end k
-read_more_modules (n ∷ ms) a m z (c, (m1, (p, e), x), y) l end k =
-    takes_token more_modules (λ f. module_rest f) (word (codes "module")) p a m1 e refl end k
-    ∙ read_module n a c (m1, (p, e), x) (modules_begin ms c m z y l) end (λ x. wants more_modules (λ xs. k (x ∷ xs))) ∙ read_more_modules ms c m z y l end _
+read_more_modules (n ∷ ms) a m z (c, (m1, e, x), y) l end k =
+    takes_token more_modules (λ f. module_rest n.place f) (word (codes "module")) n.place a m1 e refl end k
+    ∙ read_module n a c (m1, e, x) (modules_begin ms c m z y l) end (λ x. wants more_modules (λ xs. k (x ∷ xs))) ∙ read_more_modules ms c m z y l end _
 
 read_modules : (ms : List ModuleTree) (a m z : List Terminal) → AreSomeModules ms a m → Closes m z → (end : Place) (k : List ModuleTree → State) → read_on true end (wants first_module k) a ≡ read_on true end (k ms) z
 read_modules [] a m z x l end k = absurd x
-read_modules (n ∷ ms) a m z (c, (m1, (p, e), x), y) l end k =
-    takes_token first_module (λ f. module_rest f) (word (codes "module")) p a m1 e refl end k
-    ∙ read_module n a c (m1, (p, e), x) (modules_begin ms c m z y l) end (λ x. wants more_modules (λ xs. k (x ∷ xs))) ∙ read_more_modules ms c m z y l end _
+read_modules (n ∷ ms) a m z (c, (m1, e, x), y) l end k =
+    takes_token first_module (λ f. module_rest n.place f) (word (codes "module")) n.place a m1 e refl end k
+    ∙ read_module n a c (m1, e, x) (modules_begin ms c m z y l) end (λ x. wants more_modules (λ xs. k (x ∷ xs))) ∙ read_more_modules ms c m z y l end _
 
 read_annotations : (a m b : List Terminal) → Either Nothing Annotations a m → LineEnd m b → (end : Place) (k : Unit {0} → State) → read_on true end (wants some_annotations k) a ≡ read_on true end (k tt) m
 read_annotations a m b (inl e) (p, x) end k = reads_same (wants some_annotations k) a m e end ∙ leaves_token some_annotations tt m (skips_at some_annotations tt line_end p m b x refl) end k

@@ -3,7 +3,7 @@ use Rattle.std.proofs.Common.{◌≡◌, ℕ, Bool, true, false, List, [], ◌�
 use Rattle.std.specs.Str.{bytes_eq}
 use Rattle.std.proofs.lemmas.Slice.Eq.{bytes_eq-Decides}
 use Rattle.fir_ast.specs.declared.place.Place.{Place}
-use Rattle.fir_ast.specs.Statements.{Named, Statement, wire, register, node, instance, memory, when, connect, partial_connect, invalid, skip}
+use Rattle.fir_ast.specs.Statements.{PlacedName, Statement, wire, register, node, instance, memory, when, connect, partial_connect, invalid, skip}
 use Rattle.fir_parse.specs.declared.lexeme.Mark.{Mark}
 use Rattle.fir_parse.specs.declared.lexeme.Mark.TheVariants.{Connect, PartialConnect, Equals, Comma, Colon}
 use Rattle.fir_parse.specs.declared.words.Declaration.{Declaration}
@@ -11,8 +11,8 @@ use Rattle.fir_parse.specs.declared.words.Declaration.TheVariants as declares
 use Rattle.fir_parse.specs.declared.words.Lead.TheVariants as lead
 use Rattle.fir_parse.specs.Lexemes.{Lexeme, Terminal, word, mark, line_end, level_opens}
 use Rattle.fir_parse.specs.Words.{lead_of, direction_of}
-use Rattle.fir_parse.specs.Pieces.{Token, Name, Sign, Word}
-use Rattle.fir_parse.specs.StatementForms.{IsStatement}
+use Rattle.fir_parse.specs.working.Pieces.{Token, Name, Sign, Word}
+use Rattle.fir_parse.specs.working.StatementForms.{IsStatement}
 use Rattle.fir_parse.specs.Symbols.{Begun, statement, a_mark, behind_first, behind_is, a_memory_body}
 use Rattle.fir_parse.specs.States.{State, wants, takes, without}
 use Rattle.fir_parse.specs.StatementRules.{begun, declared, declaration_step, is_step, is_named, wire_rest, register_rest, node_rest, instance_rest, memory_rest}
@@ -58,11 +58,11 @@ abbrev pub StatementRead : ℕ → Statement → List Terminal → List Terminal
 StatementRead d s a b = (p : Place) × (w : List ℕ) × (m : List Terminal) × Token (word w) p a m × (RefRead d p w s m b ⊎ DeclarationRead d p w s m b)
 
 -- the name `is`
-pub named_is : (n : Named) → bytes_eq n.name (codes "is") ≡ true → is_named n.place ≡ n
+pub named_is : (n : PlacedName) → bytes_eq n.name (codes "is") ≡ true → is_named n.place ≡ n
 named_is n h = ap (λ y. record { place = n.place; name = y }) (sym ((bytes_eq-Decides n.name (codes "is")).0 h))
 
 -- behind the name of a declaration a sign, and what follows it
-named_by : (c : Bool) (w : List ℕ) (l : Declaration) (d : ℕ) (p : Place) (s : Mark) (rest : Named → (Begun → State) → State) (n : Named) (a m b : List Terminal) → bytes_eq n.name (codes "is") ≡ c → lead_of w ≡ lead.Declares l → ((k : Begun → State) → declared l d p n k ≡ wants (a_mark s) (λ r. rest n k)) → ((q r : Place) → is_step d p w q (mark s) r ≡ takes (λ k. rest (is_named q) k)) → Name n a m → Sign s m b → (end : Place) (k : Begun → State) → read_on true end (wants (behind_first d p w) k) a ≡ read_on true end (rest n k) b
+named_by : (c : Bool) (w : List ℕ) (l : Declaration) (d : ℕ) (p : Place) (s : Mark) (rest : PlacedName → (Begun → State) → State) (n : PlacedName) (a m b : List Terminal) → bytes_eq n.name (codes "is") ≡ c → lead_of w ≡ lead.Declares l → ((k : Begun → State) → declared l d p n k ≡ wants (a_mark s) (λ r. rest n k)) → ((q r : Place) → is_step d p w q (mark s) r ≡ takes (λ k. rest (is_named q) k)) → Name n a m → Sign s m b → (end : Place) (k : Begun → State) → read_on true end (wants (behind_first d p w) k) a ≡ read_on true end (rest n k) b
 named_by true w l d p s rest n a m b c h1 h2 h3 e (q, x) end k =
     takes_token (behind_first d p w) (λ f. wants (behind_is d p w n.place) f) (word n.name) n.place a m e (rw c refl) end k
     ∙ takes_token (behind_is d p w n.place) (λ f. rest (is_named n.place) f) (mark s) q m b x (h3 n.place q) end k
@@ -71,7 +71,7 @@ named_by false w l d p s rest n a m b c h1 h2 h3 e x end k =
     takes_token (behind_first d p w) (λ f. declared l d p n f) (word n.name) n.place a m e (rw c (ap (λ v. declaration_step v d p w n.name n.place) h1)) end k
     ∙ ap (λ st. read_on true end st m) (h2 k) ∙ read_sign s m b x end _
 
-instance_by : (c : Bool) (d : ℕ) (p : Place) (n : Named) (a m b : List Terminal) → bytes_eq n.name (codes "is") ≡ c → Name n a m → Word (codes "of") m b → (end : Place) (k : Begun → State) → read_on true end (wants (behind_first d p (codes "inst")) k) a ≡ read_on true end (instance_rest p n (begun k)) b
+instance_by : (c : Bool) (d : ℕ) (p : Place) (n : PlacedName) (a m b : List Terminal) → bytes_eq n.name (codes "is") ≡ c → Name n a m → Word (codes "of") m b → (end : Place) (k : Begun → State) → read_on true end (wants (behind_first d p (codes "inst")) k) a ≡ read_on true end (instance_rest p n (begun k)) b
 instance_by true d p n a m b c e (q, x) end k =
     takes_token (behind_first d p (codes "inst")) (λ f. wants (behind_is d p (codes "inst") n.place) f) (word n.name) n.place a m e (rw c refl) end k
     ∙ takes_token (behind_is d p (codes "inst") n.place) (λ f. instance_rest p (is_named n.place) (begun f)) (word (codes "of")) q m b x refl end k
@@ -96,7 +96,7 @@ along : (d : ℕ) (p : Place) (w : List ℕ) (s : Statement) (a b c : List Termi
 along d p w s a b c e r = let P : List Terminal → Type 0 = λ x. RefRead d p w s a x in subst P e r
 
 pub statement_read : (d : ℕ) (s : Statement) (a b : List Terminal) → NoWhen s → IsStatement d s a b → NoLevel b → StatementRead d s a b
-statement_read d (wire p n t) a b nw (m1, e, (m2, x, (m3, c, (m4, y, l)))) f = (
+statement_read d (wire p n s t) a b nw (m1, e, (m2, x, (m3, c, (m4, y, l)))) f = (
   p,
   codes "wire",
   m1,
@@ -106,10 +106,10 @@ statement_read d (wire p n t) a b nw (m1, e, (m2, x, (m3, c, (m4, y, l)))) f = (
     refl,
     λ end k.
         named_by (bytes_eq n.name (codes "is")) (codes "wire") declares.Wire d p Colon (λ y k. wire_rest d p y (begun k)) n m1 m2 m3 refl refl (λ k. refl) (λ q r. refl) x c end k
-        ∙ read_whole_type d t m3 m4 y (line_ends m4 b l) end _ ∙ read_line_end m4 b l end _,
+        ∙ read_whole_type d s t m3 m4 y (line_ends m4 b l) end _ ∙ read_line_end m4 b l end _,
   ),
 )
-statement_read d (register p n t clk r) a b nw (m1, e, (m2, x, (m3, c, (m4, y, (m5, comma, (m6, z, v)))))) f = (
+statement_read d (register p n s t clk r) a b nw (m1, e, (m2, x, (m3, c, (m4, y, (m5, comma, (m6, z, v)))))) f = (
   p,
   codes "reg",
   m1,
@@ -119,7 +119,7 @@ statement_read d (register p n t clk r) a b nw (m1, e, (m2, x, (m3, c, (m4, y, (
     refl,
     λ end k.
         named_by (bytes_eq n.name (codes "is")) (codes "reg") declares.Reg d p Colon (λ y k. register_rest d p y (begun k)) n m1 m2 m3 refl refl (λ k. refl) (λ q r. refl) x c end k
-        ∙ read_whole_type d t m3 m4 y (comma_ends m4 m5 comma) end _ ∙ read_sign Comma m4 m5 comma end _ ∙ read_whole_expression d clk m5 m6 z (reset_ends d r m6 b v) end _ ∙ read_reset d r m6 b v end _,
+        ∙ read_whole_type d s t m3 m4 y (comma_ends m4 m5 comma) end _ ∙ read_sign Comma m4 m5 comma end _ ∙ read_whole_expression d clk m5 m6 z (reset_ends d r m6 b v) end _ ∙ read_reset d r m6 b v end _,
   ),
 )
 statement_read d (node p n t) a b nw (m1, e, (m2, x, (m3, c, (m4, y, l)))) f = (

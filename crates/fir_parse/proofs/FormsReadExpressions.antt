@@ -9,9 +9,10 @@ use Rattle.fir_parse.specs.declared.words.Applied.TheVariants.{Operator}
 use Rattle.fir_parse.specs.Lexemes.{Terminal, mark}
 use Rattle.fir_parse.specs.Words.{applied_of}
 use Rattle.fir_parse.specs.Heights.{height}
-use Rattle.fir_parse.specs.Pieces.{Given, Sign}
-use Rattle.fir_parse.specs.TypeForms.{IsWidth}
-use Rattle.fir_parse.specs.ExpressionForms.{count, operands, integers, literal_word, IsExpression, AreParts, AreOperands, AreMoreOperands, AreIntegers}
+use Rattle.fir_parse.specs.working.Pieces.{Given, Sign}
+use Rattle.fir_parse.specs.working.TypeForms.{IsWidth}
+use Rattle.fir_bits.specs.Forms.{operands, integers}
+use Rattle.fir_parse.specs.working.ExpressionForms.{count, literal_word, IsExpression, AreParts, AreOperands, AreMoreOperands, AreIntegers}
 use Rattle.fir_parse.specs.Symbols.{behind_word}
 use Rattle.fir_parse.specs.States.{State, wants, opens}
 use Rattle.fir_parse.specs.ExpressionRules.{applied_rest, operator_rest, mux_rest, validif_rest}
@@ -80,9 +81,9 @@ mutual
 
   pub parts_read : (d h : ℕ) (ps : Parts) (a b : List Terminal) → AreParts d h ps a b → TailEnds b → PartsRead d h ps a b
   parts_read d h no_parts a b x f = inl (refl, x)
-  parts_read d h (subfield p n rest) a b (m, (q, x), (m1, name, (m2, g, y))) f =
+  parts_read d h (subfield q p n rest) a b (m, x, (m1, name, (m2, g, y))) f =
       inr (inl (q, m, x, λ end k. read_field_name (record { place = p; name = n }) m m1 name end _ ∙ read_ends (h + 1) p _ m1 m2 g end ∙ read_parts d (h + 1) rest m2 b (parts_read d (h + 1) rest m2 b y f) f end _))
-  parts_read d h (subindex p n rest) a b (m, (q, x), (m1, g, (m2, i, (m3, (r, c), (m4, l, y))))) f =
+  parts_read d h (subindex q p n rest) a b (m, x, (m1, g, (m2, i, (m3, (r, c), (m4, l, y))))) f =
       inr (inr (
         q,
         m,
@@ -90,7 +91,7 @@ mutual
         λ end k. read_opens d q _ m m1 g end ∙ read_plain_index (d + 1) n p m1 m2 i end _ ∙ read_sign CloseSquare m2 m3 (r, c) end _
             ∙ read_ends (h + 1) r _ m3 m4 l end ∙ read_parts d (h + 1) rest m4 b (parts_read d (h + 1) rest m4 b y f) f end _,
       ))
-  parts_read d h (subaccess e rest) a b (m, (q, x), (m1, g, (m2, i, (m3, (r, c), (m4, l, y))))) f =
+  parts_read d h (subaccess q e rest) a b (m, x, (m1, g, (m2, i, (m3, (r, c), (m4, l, y))))) f =
       inr (inr (
         q,
         m,

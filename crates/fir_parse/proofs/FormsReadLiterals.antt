@@ -6,9 +6,9 @@ use Rattle.fir_ast.specs.Expressions.{Expression, literal}
 use Rattle.fir_parse.specs.declared.lexeme.Mark.TheVariants.{Less, Greater, OpenRound, CloseRound}
 use Rattle.fir_parse.specs.Lexemes.{Terminal, Lexeme, integer, text, mark}
 use Rattle.fir_parse.specs.Numbers.{Numeral, integer_value, text_value, is_allowed, literal_of}
-use Rattle.fir_parse.specs.Pieces.{Sign, Given, Token}
-use Rattle.fir_parse.specs.TypeForms.{IsWidth}
-use Rattle.fir_parse.specs.ExpressionForms.{literal_word, IsNumeral, IsNumber}
+use Rattle.fir_parse.specs.working.Pieces.{Sign, Given, Token}
+use Rattle.fir_parse.specs.working.TypeForms.{IsWidth}
+use Rattle.fir_parse.specs.working.ExpressionForms.{literal_word, IsNumeral, IsNumber}
 use Rattle.fir_parse.specs.Symbols.{behind_word, a_literal}
 use Rattle.fir_parse.specs.States.{State, wants, opens, limit, in_range}
 use Rattle.fir_parse.specs.ExpressionRules.{literal_rest, literal_step, numbered}

@@ -2,14 +2,14 @@
 use Rattle.std.proofs.Common.{◌≡◌, ℕ, true, List, [], ◌∷◌, codes, refl, ap, ◌∙◌}
 use Rattle.fir_ast.specs.declared.place.Place.{Place}
 use Rattle.fir_ast.specs.declared.statements.ReadUnderWrite.{ReadUnderWrite}
-use Rattle.fir_ast.specs.Statements.{Named, MemoryPart, data_type, depth, read_latency, write_latency, reader, writer, readwriter, read_under_write}
+use Rattle.fir_ast.specs.Statements.{PlacedName, MemoryPart, data_type, depth, read_latency, write_latency, reader, writer, readwriter, read_under_write}
 use Rattle.fir_parse.specs.declared.words.FieldWord.{FieldWord}
 use Rattle.fir_parse.specs.declared.words.FieldWord.TheVariants as memory_word
 use Rattle.fir_parse.specs.declared.lexeme.Mark.TheVariants.{Arrow}
 use Rattle.fir_parse.specs.Lexemes.{Lexeme, Terminal, word, dash_word, line_end, level_opens, level_closes}
 use Rattle.fir_parse.specs.Words.{field_word_of}
-use Rattle.fir_parse.specs.Pieces.{Token, Sign, LineEnd, Closes, Int}
-use Rattle.fir_parse.specs.StatementForms.{AreNames, IsNames, IsUnderWrite, IsMemoryPart, AreMemoryParts, IsMemoryBody}
+use Rattle.fir_parse.specs.working.Pieces.{Token, Sign, LineEnd, Closes, Int}
+use Rattle.fir_parse.specs.working.StatementForms.{AreNames, IsNames, IsUnderWrite, IsMemoryPart, AreMemoryParts, IsMemoryBody}
 use Rattle.fir_parse.specs.Symbols.{a_memory_body, a_memory_field, more_memory_fields, more_names, an_under_write}
 use Rattle.fir_parse.specs.States.{State, wants}
 use Rattle.fir_parse.specs.MemoryRules.{number_plan, names_plan, by_field_word, memory_field_step, then_fields, more_memory_fields_step, under_write}
@@ -24,11 +24,11 @@ line_ends a b (p, e) = tail_ends_at line_end p a b e refl
 read_number : (n : ℕ) (a m c b : List Terminal) → Sign Arrow a m → Int n m c → LineEnd c b → (end : Place) (k : ℕ → State) → read_on true end (number_plan k) a ≡ read_on true end (k n) b
 read_number n a m c b s (q, i) l end k = read_sign Arrow a m s end _ ∙ read_natural n q m c i end _ ∙ read_line_end c b l end _
 
-read_more_names : (ns : List Named) (a m b : List Terminal) → AreNames ns a m → LineEnd m b → (end : Place) (k : List Named → State) → read_on true end (wants more_names k) a ≡ read_on true end (k ns) b
+read_more_names : (ns : List PlacedName) (a m b : List Terminal) → AreNames ns a m → LineEnd m b → (end : Place) (k : List PlacedName → State) → read_on true end (wants more_names k) a ≡ read_on true end (k ns) b
 read_more_names [] a m b x (p, e) end k = takes_token more_names _ line_end p a b (x ∙ e) refl end k
 read_more_names (n ∷ ns) a m b (c, e, x) l end k = takes_token more_names _ (word n.name) n.place a c e refl end k ∙ read_more_names ns c m b x l end _
 
-read_names : (ns : List Named) (a b : List Terminal) → IsNames ns a b → (end : Place) (k : List Named → State) → read_on true end (names_plan k) a ≡ read_on true end (k ns) b
+read_names : (ns : List PlacedName) (a b : List Terminal) → IsNames ns a b → (end : Place) (k : List PlacedName → State) → read_on true end (names_plan k) a ≡ read_on true end (k ns) b
 read_names [] a b x end k = absurd x
 read_names (n ∷ ns) a b (m1, s, (m2, e, (m3, x, l))) end k = read_sign Arrow a m1 s end _ ∙ read_name n m1 m2 e end _ ∙ read_more_names ns m2 m3 b x l end _
 
@@ -37,7 +37,7 @@ read_rule u a b (w, h, (p, e)) end k = takes_token an_under_write (λ f. f u) (w
 
 -- one field
 read_part : (d : ℕ) (f : MemoryPart) (a b : List Terminal) → IsMemoryPart d f a b → (end : Place) (k : MemoryPart → State) → read_on true end (wants (a_memory_field d) k) a ≡ read_on true end (k f) b
-read_part d (data_type p t) a b (m1, e, (m2, s, (m3, x, l))) end k = takes_token (a_memory_field d) _ (dash_word (codes "data-type")) p a m1 e refl end k ∙ read_sign Arrow m1 m2 s end _ ∙ read_whole_type d t m2 m3 x (line_ends m3 b l) end _ ∙ read_line_end m3 b l end _
+read_part d (data_type p q t) a b (m1, e, (m2, s, (m3, x, l))) end k = takes_token (a_memory_field d) _ (dash_word (codes "data-type")) p a m1 e refl end k ∙ read_sign Arrow m1 m2 s end _ ∙ read_whole_type d q t m2 m3 x (line_ends m3 b l) end _ ∙ read_line_end m3 b l end _
 read_part d (depth p n) a b (m1, e, (m2, s, (m3, i, l))) end k = takes_token (a_memory_field d) _ (word (codes "depth")) p a m1 e refl end k ∙ read_number n m1 m2 m3 b s i l end _
 read_part d (read_latency p n) a b (m1, e, (m2, s, (m3, i, l))) end k = takes_token (a_memory_field d) _ (dash_word (codes "read-latency")) p a m1 e refl end k ∙ read_number n m1 m2 m3 b s i l end _
 read_part d (write_latency p n) a b (m1, e, (m2, s, (m3, i, l))) end k = takes_token (a_memory_field d) _ (dash_word (codes "write-latency")) p a m1 e refl end k ∙ read_number n m1 m2 m3 b s i l end _
@@ -66,7 +66,7 @@ unfolding read_on
 begins_at d l p a b e h end k = rw e (rw h (same_field (field_word_of l) d p k _ _ _))
 
 begins_part : (d : ℕ) (f : MemoryPart) (a b : List Terminal) → IsMemoryPart d f a b → (end : Place) (k : List MemoryPart → State) → read_on true end (wants (more_memory_fields d) k) a ≡ read_on true end (wants (a_memory_field d) (then_parts d k)) a
-begins_part d (data_type p t) a b (m, e, x) = begins_at d (dash_word (codes "data-type")) p a m e refl
+begins_part d (data_type p q t) a b (m, e, x) = begins_at d (dash_word (codes "data-type")) p a m e refl
 begins_part d (depth p n) a b (m, e, x) = begins_at d (word (codes "depth")) p a m e refl
 begins_part d (read_latency p n) a b (m, e, x) = begins_at d (dash_word (codes "read-latency")) p a m e refl
 begins_part d (write_latency p n) a b (m, e, x) = begins_at d (dash_word (codes "write-latency")) p a m e refl

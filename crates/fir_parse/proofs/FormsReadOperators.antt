@@ -8,8 +8,9 @@ use Rattle.fir_ast.specs.Expressions.{Expression, operation, Expressions, no_exp
 use Rattle.fir_parse.specs.declared.lexeme.Mark.TheVariants.{CloseRound, Comma}
 use Rattle.fir_parse.specs.Lexemes.{Terminal, mark}
 use Rattle.fir_parse.specs.Heights.{height}
-use Rattle.fir_parse.specs.Pieces.{Given, Sign}
-use Rattle.fir_parse.specs.ExpressionForms.{count, operands, integers, AreIntegers, AreMoreOperands}
+use Rattle.fir_parse.specs.working.Pieces.{Given, Sign}
+use Rattle.fir_bits.specs.Forms.{operands, integers}
+use Rattle.fir_parse.specs.working.ExpressionForms.{count, AreIntegers, AreMoreOperands}
 use Rattle.fir_parse.specs.States.{State}
 use Rattle.fir_parse.specs.ExpressionRules.{closes_form, next_operand, next_integer, by_form}
 use Rattle.fir_parse.specs.Reading.{read_on}

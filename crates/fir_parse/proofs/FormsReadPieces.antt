@@ -1,13 +1,13 @@
 -- Reading over the pieces of a text, each where it is expected.
-use Rattle.std.proofs.Common.{◌≡◌, ℕ, ◌^◌, ◌<◌, ◌≤◌, true, false, not, List, [], ◌∷◌, refl, ap, ◌∙◌, inl, inr}
+use Rattle.std.proofs.Common.{◌≡◌, ℕ, ◌^◌, ◌<◌, ◌≤◌, true, false, not, List, [], ◌∷◌, refl, ap, ◌∙◌, subst, inl, inr}
 use Rattle.std.proofs.lemmas.Bool.{lt-ltb}
 use Rattle.std.proofs.lemmas.Slice.Eq.{bytes_eq-Decides}
 use Rattle.fir_ast.specs.declared.place.Place.{Place}
-use Rattle.fir_ast.specs.Statements.{Named}
+use Rattle.fir_ast.specs.Statements.{PlacedName}
 use Rattle.fir_parse.specs.declared.lexeme.Mark.{Mark}
 use Rattle.fir_parse.specs.Lexemes.{Terminal, Lexeme, word, integer, mark, line_end, level_opens, level_closes}
 use Rattle.fir_parse.specs.Numbers.{is_in_range}
-use Rattle.fir_parse.specs.Pieces.{Given, Sign, Word, LineEnd, Opens, Closes, Name, FieldName, IntAt}
+use Rattle.fir_parse.specs.working.Pieces.{IsNextAt, Given, Token, Sign, Word, LineEnd, Opens, Closes, Name, FieldName, IntAt}
 use Rattle.fir_parse.specs.States.{State, wants, takes, without, opens, ends_form}
 use Rattle.fir_parse.specs.Symbols.{Sym, Tree, Natural, a_mark, a_word, a_name, a_field_name, a_natural, a_line_end, an_opening, a_closing}
 use Rattle.fir_parse.specs.Reading.{one, step, goes_on, at_token, read_on}
@@ -17,6 +17,10 @@ use Rattle.fir_parse.proofs.Others.{digits_field_name, digits_natural}
 use Rattle.fir_parse.proofs.Plans.{limit_kept, opened, ended}
 
 -- a token that is taken
+-- the next token stands where it is said to stand
+pub token_next : (q : Place) (l : Lexeme) (p : Place) (a b : List Terminal) → IsNextAt q a → Token l p a b → Token l q a b
+token_next q l p a b at e = e ∙ ap (λ (r : Place). record { lexeme = l; place = r } ∷ b) (subst (IsNextAt q) e at)
+
 pub takes_token : (s : Sym) (g : (Tree s → State) → State) (l : Lexeme) (p : Place) (a b : List Terminal) → a ≡ record { lexeme = l; place = p } ∷ b → step s l p ≡ takes g → (end : Place) (k : Tree s → State) → read_on true end (wants s k) a ≡ read_on true end (g k) b
 unfolding read_on
 takes_token s g l p a b e h end k = rw e (ap (λ u. goes_on u p k (λ next. read_on true end next b) (λ y. at_token true (k y) (record { lexeme = l; place = p }) (λ next. read_on true end next b))) h)
@@ -52,10 +56,10 @@ read_opening a b (p, e) end k = takes_token an_opening _ level_opens p a b e ref
 pub read_closing : (a b : List Terminal) (x : Closes a b) (end : Place) (k : Place → State) → read_on true end (wants a_closing k) a ≡ read_on true end (k x.0) b
 read_closing a b (p, e) end k = takes_token a_closing _ level_closes p a b e refl end k
 
-pub read_name : (n : Named) (a b : List Terminal) → Name n a b → (end : Place) (k : Named → State) → read_on true end (wants a_name k) a ≡ read_on true end (k n) b
+pub read_name : (n : PlacedName) (a b : List Terminal) → Name n a b → (end : Place) (k : PlacedName → State) → read_on true end (wants a_name k) a ≡ read_on true end (k n) b
 read_name n a b e end k = takes_token a_name _ (word n.name) n.place a b e refl end k
 
-pub read_field_name : (n : Named) (a b : List Terminal) → FieldName n a b → (end : Place) (k : Named → State) → read_on true end (wants a_field_name k) a ≡ read_on true end (k n) b
+pub read_field_name : (n : PlacedName) (a b : List Terminal) → FieldName n a b → (end : Place) (k : PlacedName → State) → read_on true end (wants a_field_name k) a ≡ read_on true end (k n) b
 read_field_name n a b (inl e) end k = takes_token a_field_name _ (word n.name) n.place a b e refl end k
 read_field_name n a b (inr (m, (u, g), e)) end k = takes_token a_field_name _ (integer n.name) n.place a b (g ∙ e) (digits_field_name n.name n.place u) end k
 

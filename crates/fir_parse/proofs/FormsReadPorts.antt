@@ -3,14 +3,14 @@ use Rattle.std.proofs.Common.{◌≡◌, ℕ, Bool, true, false, List, [], ◌�
 use Rattle.std.specs.Str.{bytes_eq}
 use Rattle.fir_base.specs.declared.direction.Direction.{Direction}
 use Rattle.fir_ast.specs.declared.place.Place.{Place}
-use Rattle.fir_ast.specs.Statements.{Named, Statement, wire, when, Block, done, then}
+use Rattle.fir_ast.specs.Statements.{PlacedName, Statement, wire, when, Block, done, then}
 use Rattle.fir_ast.specs.Circuits.{PortTree}
 use Rattle.fir_parse.specs.declared.lexeme.Mark.TheVariants.{Colon}
 use Rattle.fir_parse.specs.Lexemes.{Lexeme, Terminal, word, mark, level_opens, level_closes}
 use Rattle.fir_parse.specs.Words.{direction_of}
-use Rattle.fir_parse.specs.Pieces.{Token, Name, Sign, Closes}
-use Rattle.fir_parse.specs.StatementForms.{AreStatements}
-use Rattle.fir_parse.specs.CircuitForms.{ArePorts, IsBody}
+use Rattle.fir_parse.specs.working.Pieces.{Token, Name, Sign, Closes}
+use Rattle.fir_parse.specs.working.StatementForms.{AreStatements}
+use Rattle.fir_parse.specs.working.CircuitForms.{ArePorts, IsBody}
 use Rattle.fir_parse.specs.Symbols.{BodyTree, PortOr, a_mark, statements, behind_first, behind_direction, behind_port_is, ports_and_statements, a_body}
 use Rattle.fir_parse.specs.States.{State, wants, without}
 use Rattle.fir_parse.specs.StatementRules.{is_named, behind_statement}
@@ -52,11 +52,11 @@ statements_level : (b : Block) (a m z : List Terminal) → AreStatements 0 b a m
 statements_level done a m z x (p, e) end k = takes_token ports_and_statements (λ f. f (record { ports = []; block = done })) level_closes p a z (x ∙ e) refl end k
 statements_level ((then) (when p e b f) rest) a m z (m1, (m0, t, x), y) c end k =
     same_level (codes "when") p a m0 refl t end k ∙ (first_read 0 (when p e b f) rest a m1 z (m0, t, x) (statements_read 0 rest m1 m z y c)).1 [] end (no_ports k)
-statements_level ((then) (wire p n t) rest) a m z (m1, x, y) c end k = let r : StatementsRead 0 rest m1 z = statements_read 0 rest m1 m z y c in level_first (wire p n t) rest a m1 z (statement_read 0 (wire p n t) a m1 tt x r.0) r end k
+statements_level ((then) (wire p n q t) rest) a m z (m1, x, y) c end k = let r : StatementsRead 0 rest m1 z = statements_read 0 rest m1 m z y c in level_first (wire p n q t) rest a m1 z (statement_read 0 (wire p n q t) a m1 tt x r.0) r end k
 statements_level ((then) s rest) a m z (m1, x, y) c end k = let r : StatementsRead 0 rest m1 z = statements_read 0 rest m1 m z y c in level_first s rest a m1 z (statement_read 0 s a m1 tt x r.0) r end k
 
 -- a port, behind the word of its direction
-port_by : (c : Bool) (v : Direction) (p : Place) (w : List ℕ) (n : Named) (a m b : List Terminal) → bytes_eq n.name (codes "is") ≡ c → Name n a m → Sign Colon m b → (end : Place) (k : PortOr → State) → read_on true end (wants (behind_direction v p w) k) a ≡ read_on true end (port_rest v n k) b
+port_by : (c : Bool) (v : Direction) (p : Place) (w : List ℕ) (n : PlacedName) (a m b : List Terminal) → bytes_eq n.name (codes "is") ≡ c → Name n a m → Sign Colon m b → (end : Place) (k : PortOr → State) → read_on true end (wants (behind_direction v p w) k) a ≡ read_on true end (port_rest v n k) b
 port_by true v p w n a m b c e (q, x) end k =
     takes_token (behind_direction v p w) (λ f. wants (behind_port_is v p w n.place) f) (word n.name) n.place a m e (rw c refl) end k
     ∙ takes_token (behind_port_is v p w n.place) (λ f. port_rest v (is_named n.place) f) (mark Colon) q m b x refl end k ∙ ap (λ y. read_on true end (port_rest v y k) b) (named_is n c)
@@ -68,7 +68,7 @@ ports_read [] b a m z x r end k = reads_same (wants ports_and_statements k) a m 
 ports_read (p ∷ ps) b a m z (c, (m1, (w, h, (q, t)), (m2, n, (m3, s, (m4, y, l)))), x) r end k =
     takes_token ports_and_statements (λ f. wants (behind_direction p.direction q w) (λ y. behind_port y f)) (word w) q a m1 t (ap (λ o. body_by_word o q w) h) end k
     ∙ port_by (bytes_eq p.named.name (codes "is")) p.direction q w p.named m1 m2 m3 refl n s end (λ y. behind_port y k)
-    ∙ read_whole_type 0 p.data_type m3 m4 y (line_ends m4 c l) end _ ∙ read_line_end m4 c l end _ ∙ ports_read ps b c m z x r end (λ y. k (with_port p y))
+    ∙ read_whole_type 0 p.type_place p.data_type m3 m4 y (line_ends m4 c l) end _ ∙ read_line_end m4 c l end _ ∙ ports_read ps b c m z x r end (λ y. k (with_port p y))
 
 body_stays_at : (l : Lexeme) → opens_level l ≡ false → body_step l ≡ without (record { ports = []; block = done })
 body_stays_at level_opens h = absurd (cc)

@@ -5,8 +5,9 @@ use Rattle.fir_ast.specs.Expressions.{Expression, reference, Parts, no_parts}
 use Rattle.fir_parse.specs.declared.lexeme.Mark.{Mark}
 use Rattle.fir_parse.specs.declared.lexeme.Mark.TheVariants.{Dot, OpenSquare}
 use Rattle.fir_parse.specs.Lexemes.{Lexeme, Terminal, word, integer, mark}
-use Rattle.fir_parse.specs.Numbers.{is_in_range, decimal_value}
-use Rattle.fir_parse.specs.Pieces.{IntAt, Token}
+use Rattle.fir_base.specs.Digits.{decimal_value}
+use Rattle.fir_parse.specs.Numbers.{is_in_range}
+use Rattle.fir_parse.specs.working.Pieces.{IntAt, Token}
 use Rattle.fir_parse.specs.Symbols.{IndexTree, plain_index, computed_index, an_expression, behind_word, parts, an_index}
 use Rattle.fir_parse.specs.States.{State, wants, limit, in_range}
 use Rattle.fir_parse.specs.ExpressionRules.{dot_rest, index_rest}
@@ -45,7 +46,7 @@ abbrev pub NoParts : Parts → List Terminal → List Terminal → Type 0
 NoParts ps a b = (ps ≡ no_parts) × (a ≡ b)
 
 abbrev pub DotRead : ℕ → ℕ → Parts → List Terminal → List Terminal → Type 0
-DotRead d h ps a b = (p : Place) × (m : List Terminal) × Token (mark Dot) p a m × ((end : Place) (k : Parts → State) → read_on true end (dot_rest d h k) m ≡ read_on true end (k ps) b)
+DotRead d h ps a b = (p : Place) × (m : List Terminal) × Token (mark Dot) p a m × ((end : Place) (k : Parts → State) → read_on true end (dot_rest d h p k) m ≡ read_on true end (k ps) b)
 
 abbrev pub IndexRead : ℕ → ℕ → Parts → List Terminal → List Terminal → Type 0
 IndexRead d h ps a b = (p : Place) × (m : List Terminal) × Token (mark OpenSquare) p a m × ((end : Place) (k : Parts → State) → read_on true end (index_rest d h p k) m ≡ read_on true end (k ps) b)
@@ -57,7 +58,7 @@ PartsRead d h ps a b = NoParts ps a b ⊎ DotRead d h ps a b ⊎ IndexRead d h p
 pub read_parts : (d h : ℕ) (ps : Parts) (a b : List Terminal) → PartsRead d h ps a b → TailEnds b → (end : Place) (k : Parts → State) → read_on true end (wants (parts d h) k) a ≡ read_on true end (k ps) b
 read_parts d h ps a b (inl (none, e)) f end k =
     reads_same (wants (parts d h) k) a b e end ∙ leaves_token (parts d h) no_parts b (parts_skip d h b f) end k ∙ ap (λ x. read_on true end (k x) b) (sym none)
-read_parts d h ps a b (inr (inl (p, m, e, r))) f end k = takes_token (parts d h) (λ g. dot_rest d h g) (mark Dot) p a m e refl end k ∙ r end k
+read_parts d h ps a b (inr (inl (p, m, e, r))) f end k = takes_token (parts d h) (λ g. dot_rest d h p g) (mark Dot) p a m e refl end k ∙ r end k
 read_parts d h ps a b (inr (inr (p, m, e, r))) f end k = takes_token (parts d h) (λ g. index_rest d h p g) (mark OpenSquare) p a m e refl end k ∙ r end k
 
 pub parts_begin : (d h : ℕ) (ps : Parts) (a b : List Terminal) → PartsRead d h ps a b → BeginsWithMark b → BeginsWithMark a
@@ -69,7 +70,7 @@ parts_begin d h ps a b (inr (inr (p, m, e, r))) f = mark_begins OpenSquare p a m
 pub read_reference : (d : ℕ) (p : Place) (w : List ℕ) (ps : Parts) (a b : List Terminal) → PartsRead d 1 ps a b → TailEnds b → (end : Place) (k : Expression → State) → read_on true end (wants (behind_word d p w) k) a ≡ read_on true end (k (reference p w ps)) b
 read_reference d p w ps a b (inl (none, e)) f end k =
     reads_same (wants (behind_word d p w) k) a b e end ∙ leaves_token (behind_word d p w) (reference p w no_parts) b (word_skip d p w b f) end k ∙ ap (λ x. read_on true end (k (reference p w x)) b) (sym none)
-read_reference d p w ps a b (inr (inl (q, m, e, r))) f end k = takes_token (behind_word d p w) (λ g. dot_rest d 1 (λ x. g (reference p w x))) (mark Dot) q a m e refl end k ∙ r end (λ x. k (reference p w x))
+read_reference d p w ps a b (inr (inl (q, m, e, r))) f end k = takes_token (behind_word d p w) (λ g. dot_rest d 1 q (λ x. g (reference p w x))) (mark Dot) q a m e refl end k ∙ r end (λ x. k (reference p w x))
 read_reference d p w ps a b (inr (inr (q, m, e, r))) f end k = takes_token (behind_word d p w) (λ g. index_rest d 1 q (λ x. g (reference p w x))) (mark OpenSquare) q a m e refl end k ∙ r end (λ x. k (reference p w x))
 
 -- an index

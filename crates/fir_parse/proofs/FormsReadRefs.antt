@@ -8,8 +8,8 @@ use Rattle.fir_parse.specs.declared.lexeme.Mark.{Mark}
 use Rattle.fir_parse.specs.declared.lexeme.Mark.TheVariants.{Connect, PartialConnect, OpenSquare, Colon, Dot}
 use Rattle.fir_parse.specs.Lexemes.{Terminal, word, mark}
 use Rattle.fir_parse.specs.Words.{lead_of}
-use Rattle.fir_parse.specs.Pieces.{Token, Sign, Word, LineEnd}
-use Rattle.fir_parse.specs.ExpressionForms.{IsExpression}
+use Rattle.fir_parse.specs.working.Pieces.{Token, Sign, Word, LineEnd}
+use Rattle.fir_parse.specs.working.ExpressionForms.{IsExpression}
 use Rattle.fir_parse.specs.Symbols.{Begun, statement, Otherwise, no_else, PortOr, no_port, a_word, behind_sink, behind_first, behind_is, behind_else, behind_direction, behind_port_is}
 use Rattle.fir_parse.specs.States.{State, Step, wants, takes, mapped}
 use Rattle.fir_parse.specs.ExpressionRules.{dot_rest, index_rest}
@@ -76,7 +76,7 @@ same_sink s h = ap (λ x. record { place = s.place; name = s.name; parts = x }) 
 behind_parts : (d : ℕ) (s : Sink) (t : Statement) (a m b : List Terminal) → PartsRead d 1 s.parts a m → ((end : Place) (k : Statement → State) → read_on true end (wants (behind_sink d s) k) m ≡ read_on true end (k t) b) → (s.parts ≡ no_parts → RefRead d s.place s.name t m b) → RefRead d s.place s.name t a b
 behind_parts d s t a m b (inl (none, e)) r plain = let P : List Terminal → Type 0 = λ x. RefRead d s.place s.name t x b in subst P (sym e) (plain none)
 behind_parts d s t a m b (inr (inl (q, n, e, x))) r plain =
-    inl (Dot, q, n, λ f. dot_rest d 1 (λ ps. wants (behind_sink d (record { place = s.place; name = s.name; parts = ps })) f), e, refl, λ end k. x end (λ ps. wants (behind_sink d (record { place = s.place; name = s.name; parts = ps })) k) ∙ r end k)
+    inl (Dot, q, n, λ f. dot_rest d 1 q (λ ps. wants (behind_sink d (record { place = s.place; name = s.name; parts = ps })) f), e, refl, λ end k. x end (λ ps. wants (behind_sink d (record { place = s.place; name = s.name; parts = ps })) k) ∙ r end k)
 behind_parts d s t a m b (inr (inr (q, n, e, x))) r plain =
     inl (OpenSquare, q, n, λ f. index_rest d 1 q (λ ps. wants (behind_sink d (record { place = s.place; name = s.name; parts = ps })) f), e, refl, λ end k. x end (λ ps. wants (behind_sink d (record { place = s.place; name = s.name; parts = ps })) k) ∙ r end k)
 

@@ -3,8 +3,8 @@ use Rattle.std.proofs.Common.{◌≡◌, ℕ, ◌+◌, List, [], ◌∷◌, ◌+
 use Rattle.fir_ast.specs.Statements.{Statement, wire, when, Block, done, then}
 use Rattle.fir_parse.specs.declared.lexeme.Mark.TheVariants.{Colon}
 use Rattle.fir_parse.specs.Lexemes.{Terminal, word, mark}
-use Rattle.fir_parse.specs.Pieces.{Sign, Word, Closes}
-use Rattle.fir_parse.specs.StatementForms.{IsWhen, IsStatement, AreStatements, IsBlock, IsElse}
+use Rattle.fir_parse.specs.working.Pieces.{Sign, Word, Closes}
+use Rattle.fir_parse.specs.working.StatementForms.{IsWhen, IsStatement, AreStatements, IsBlock, IsElse}
 use Rattle.fir_parse.specs.Symbols.{OpenWhen}
 use Rattle.fir_parse.proofs.Completions.{TailEnds}
 use Rattle.fir_parse.proofs.FormsReadPieces.{tail_ends_at}
@@ -39,7 +39,7 @@ mutual
   first_read d (when p e b f) rest a m z (m1, t, (m2, x, (m3, c, (m4, l, (m5, g, (m6, y, v)))))) r =
       whole_when d p e b f rest a m1 m2 m3 m4 m5 m6 z t (expression_read d e m1 m2 x (colon_ends m2 m3 c)) c l g (block_read (d + 1) b m5 m6 y (else_begins d f m6 m v r.0))
       (λ o. else_read d d o [] f rest m6 m z refl v r)
-  first_read d (wire p n t) rest a m z x r = another d (wire p n t) rest a m z (statement_read d (wire p n t) a m tt x r.0) r
+  first_read d (wire p n s t) rest a m z x r = another d (wire p n s t) rest a m z (statement_read d (wire p n s t) a m tt x r.0) r
   first_read d s rest a m z x r = another d s rest a m z (statement_read d s a m tt x r.0) r
 
   block_read : (d : ℕ) (b : Block) (a z : List Terminal) → IsBlock d b a z → NoLevel z → BlockRead d b a z
@@ -66,5 +66,5 @@ mutual
       read_else_when n o ws p c b f rest a m1 m3 m8 z w (g ∙ t)
       (subst within e (read_when (d + 1) p c b m3 m4 m5 m6 m7 m8 (whole_expression (d + 1) c m3 m4 (expression_read (d + 1) c m3 m4 x (colon_ends m4 m5 k))) k l lt (block_read (d + 1 + 1) b m7 m8 y (else_begins (d + 1) f m8 m v r.0))))
       (else_read (d + 1) n o (ws ++ record { place = p; condition = c; block = b } ∷ []) f rest m8 m z (one_more d n o (record { place = p; condition = c; block = b }) ws e) v r)
-  else_when_read d n o ws (wire p x t) rest a m1 m2 m z e w g h y r = absurd h
+  else_when_read d n o ws (wire p x s t) rest a m1 m2 m z e w g h y r = absurd h
   else_when_read d n o ws s rest a m1 m2 m z e w g h y r = absurd h

@@ -1,5 +1,5 @@
 -- Tokens that spell a type are read as that type.
-use Rattle.std.proofs.Common.{◌≡◌, ℕ, ◌+◌, Bool, true, false, List, [], ◌∷◌, Option, Some, None, codes, refl, sym, ap, ◌∙◌, inl, inr, if◌then◌else◌}
+use Rattle.std.proofs.Common.{◌≡◌, ℕ, ◌+◌, Bool, true, false, List, [], ◌∷◌, Option, Some, None, codes, refl, sym, ap, ◌∙◌, subst, inl, inr, if◌then◌else◌}
 use Rattle.std.specs.Str.{bytes_eq}
 use Rattle.std.proofs.lemmas.Slice.Eq.{bytes_eq-Decides}
 use Rattle.fir_ast.specs.declared.place.Place.{Place}
@@ -7,15 +7,15 @@ use Rattle.fir_ast.specs.Types.{DataType, uint, sint, clock, reset, async_reset,
 use Rattle.fir_parse.specs.declared.lexeme.Mark.TheVariants.{Less, Greater, OpenSquare, CloseSquare, OpenCurly, CloseCurly, Comma, Colon}
 use Rattle.fir_parse.specs.Lexemes.{Lexeme, Terminal, word, integer, mark}
 use Rattle.fir_parse.specs.Numbers.{has_sign}
-use Rattle.fir_parse.specs.Pieces.{Sign, FieldName, Token}
-use Rattle.fir_parse.specs.TypeForms.{IsWidth, IsFlip, IsType, AreFields, AreMoreFields}
-use Rattle.fir_parse.specs.Symbols.{FieldTree, FieldsTree, a_width, a_type, dimensions, fields, more_fields, a_field, behind_flip}
+use Rattle.fir_parse.specs.working.Pieces.{◌▸◌, At, IsNextAt, Sign, FieldName, Token}
+use Rattle.fir_parse.specs.working.TypeForms.{IsWidth, IsFlip, IsType, AreFields, AreMoreFields}
+use Rattle.fir_parse.specs.Symbols.{TypeTree, FieldTree, FieldsTree, a_width, a_type, dimensions, fields, more_fields, a_field, behind_flip}
 use Rattle.fir_parse.specs.States.{State, wants, Step, takes, without, refuses, unsupported}
-use Rattle.fir_parse.specs.TypeRules.{width_step, field_step, then_more, with_field, field_rest, field_behind_name}
+use Rattle.fir_parse.specs.TypeRules.{type_at, width_step, field_step, then_more, with_field, field_rest, field_behind_name}
 use Rattle.fir_parse.specs.Reading.{Outcome, read_on, goes_on}
 use Rattle.fir_parse.proofs.Completions.{Skips, TailEnds, goes_on_tail}
 use Rattle.fir_parse.proofs.CompleteParts.{dimensions_skip}
-use Rattle.fir_parse.proofs.FormsReadPieces.{takes_token, leaves_token, skips_at, tail_ends_at, reads_same, read_sign, read_natural, read_opens, read_ends}
+use Rattle.fir_parse.proofs.FormsReadPieces.{token_next, takes_token, leaves_token, skips_at, tail_ends_at, reads_same, read_sign, read_natural, read_opens, read_ends}
 
 width_end : (l : Lexeme) → goes_on_tail l ≡ false → width_step l ≡ without None
 width_end (mark Less) h = absurd (cc)
@@ -34,25 +34,25 @@ flipped_name : (d : ℕ) (p : Place) (r : Place) (n : List ℕ) (a b : List Term
 flipped_name d p r n a b (inl e) end k = takes_token (behind_flip d r) _ (word n) p a b e refl end k
 flipped_name d p r n a b (inr (m, (u, g), e)) end k = takes_token (behind_flip d r) (λ f. field_rest d p true n f) (integer n) p a b (g ∙ e) (rw u refl) end k
 
--- these tokens are read as a type
-abbrev pub TypeRead : ℕ → DataType → List Terminal → List Terminal → Type 0
-TypeRead d t a b = (end : Place) (k : DataType → State) → read_on true end (wants (a_type d) k) a ≡ read_on true end (k t) b
+-- these tokens are read as a type that begins at a place
+abbrev pub TypeRead : ℕ → Place → DataType → List Terminal → List Terminal → Type 0
+TypeRead d s t a b = (end : Place) (k : TypeTree → State) → read_on true end (wants (a_type d) k) a ≡ read_on true end (k (type_at s t)) b
 
 -- a name that may be `flip`
-plain_word : (d : ℕ) (p : Place) (n : List ℕ) (t : DataType) (a m c e : List Terminal) → Token (word n) p a m → Sign Colon m c → TypeRead d t c e → (b : Bool) → bytes_eq n (codes "flip") ≡ b → (end : Place) (k : FieldTree → State) → read_on true end (wants (a_field d) k) a ≡ read_on true end (k (record { place = p; flip = false; name = n; data_type = t })) e
-plain_word d p n t a m c e x (q, y) ty true h end k =
+plain_word : (d : ℕ) (p : Place) (n : List ℕ) (s : Place) (t : DataType) (a m c e : List Terminal) → Token (word n) p a m → Sign Colon m c → TypeRead d s t c e → (b : Bool) → bytes_eq n (codes "flip") ≡ b → (end : Place) (k : FieldTree → State) → read_on true end (wants (a_field d) k) a ≡ read_on true end (k (record { place = p; flip = false; name = n; type_place = s; data_type = t })) e
+plain_word d p n s t a m c e x (q, y) ty true h end k =
     takes_token (a_field d) (λ f. wants (behind_flip d p) f) (word n) p a m x (rw h refl) end k
     ∙ takes_token (behind_flip d p) _ (mark Colon) q m c y refl end k
     ∙ ty end _
-    ∙ ap (λ w. read_on true end (k (record { place = p; flip = false; name = w; data_type = t })) e) (sym ((bytes_eq-Decides n (codes "flip")).0 h))
-plain_word d p n t a m c e x y ty false h end k =
+    ∙ ap (λ w. read_on true end (k (record { place = p; flip = false; name = w; type_place = s; data_type = t })) e) (sym ((bytes_eq-Decides n (codes "flip")).0 h))
+plain_word d p n s t a m c e x y ty false h end k =
     takes_token (a_field d) (λ f. field_rest d p false n f) (word n) p a m x (rw h refl) end k ∙ read_sign Colon m c y end _ ∙ ty end _
 
-read_field : (d : ℕ) (p : Place) (flip : Bool) (n : List ℕ) (t : DataType) (a m1 m2 m3 b : List Terminal) → IsFlip flip a m1 → FieldName (record { place = p; name = n }) m1 m2 → Sign Colon m2 m3 → TypeRead d t m3 b → (end : Place) (k : FieldTree → State) → read_on true end (wants (a_field d) k) a ≡ read_on true end (k (record { place = p; flip = flip; name = n; data_type = t })) b
-read_field d p true n t a m1 m2 m3 b (r, e) name colon ty end k =
+read_field : (d : ℕ) (p : Place) (flip : Bool) (n : List ℕ) (s : Place) (t : DataType) (a m1 m2 m3 b : List Terminal) → IsFlip flip a m1 → FieldName (record { place = p; name = n }) m1 m2 → Sign Colon m2 m3 → TypeRead d s t m3 b → (end : Place) (k : FieldTree → State) → read_on true end (wants (a_field d) k) a ≡ read_on true end (k (record { place = p; flip = flip; name = n; type_place = s; data_type = t })) b
+read_field d p true n s t a m1 m2 m3 b (r, e) name colon ty end k =
     takes_token (a_field d) (λ f. wants (behind_flip d r) f) (word (codes "flip")) r a m1 e refl end k ∙ flipped_name d p r n m1 m2 name end k ∙ read_sign Colon m2 m3 colon end _ ∙ ty end _
-read_field d p false n t a m1 m2 m3 b g (inl e) colon ty end k = plain_word d p n t a m2 m3 b (g ∙ e) colon ty (bytes_eq n (codes "flip")) refl end k
-read_field d p false n t a m1 m2 m3 b g (inr (m, (u, h), e)) colon ty end k =
+read_field d p false n s t a m1 m2 m3 b g (inl e) colon ty end k = plain_word d p n s t a m2 m3 b (g ∙ e) colon ty (bytes_eq n (codes "flip")) refl end k
+read_field d p false n s t a m1 m2 m3 b g (inr (m, (u, h), e)) colon ty end k =
     takes_token (a_field d) (λ f. field_rest d p false n f) (integer n) p a m2 (g ∙ h ∙ e) (rw u refl) end k ∙ read_sign Colon m2 m3 colon end _ ∙ ty end _
 
 -- a bundle's first field is read as a field
@@ -91,39 +91,46 @@ begins_field d p false n a m b g (inr (c, (u, h), e)) end k = begins_with_digits
 -- a field ends before a comma or the end of its bundle
 field_ends : (d : ℕ) (fs : Fields) (q : Place) (a b c : List Terminal) → AreMoreFields d fs a b → Token (mark CloseCurly) q b c → TailEnds a
 field_ends d no_fields q a b c x e = tail_ends_at (mark CloseCurly) q a c (x ∙ e) refl
-field_ends d (field p flip n t rest) q a b c (m, (r, x), y) e = tail_ends_at (mark Comma) r a m x refl
+field_ends d (field p flip n s t rest) q a b c (m, (r, x), y) e = tail_ends_at (mark Comma) r a m x refl
 
 mutual
   -- as far as its dimensions, which may go on
-  pub read_type : (d : ℕ) (t : DataType) (a b : List Terminal) → IsType d t a b → Skips a_width None b → (end : Place) (k : DataType → State) → read_on true end (wants (a_type d) k) a ≡ read_on true end (wants (dimensions d t) k) b
-  read_type d (uint w) a b (m, (p, e), x) f end k = takes_token (a_type d) _ (word (codes "UInt")) p a m e refl end k ∙ read_width w m b x f end _
-  read_type d (sint w) a b (m, (p, e), x) f end k = takes_token (a_type d) _ (word (codes "SInt")) p a m e refl end k ∙ read_width w m b x f end _
-  read_type d clock a b (p, e) f end k = takes_token (a_type d) _ (word (codes "Clock")) p a b e refl end k
-  read_type d reset a b (p, e) f end k = takes_token (a_type d) _ (word (codes "Reset")) p a b e refl end k
-  read_type d async_reset a b (p, e) f end k = takes_token (a_type d) _ (word (codes "AsyncReset")) p a b e refl end k
-  read_type d (bundle fs) a b (m1, (p, e), (m2, g, (m3, x, (m4, (q, c), h)))) f end k =
-      takes_token (a_type d) _ (mark OpenCurly) p a m1 e refl end k ∙ read_opens d p _ m1 m2 g end ∙ read_fields (d + 1) fs q m2 m3 m4 x c end _ ∙ read_ends _ q _ m4 b h end
-  read_type d (vector t n) a b (m1, x, (m2, (p, e), (m3, g, (m4, (q, i), (m5, (r, c), h))))) f end k =
-      read_type d t a m1 x (skips_at a_width None (mark OpenSquare) p m1 m2 e refl) end k
-      ∙ takes_token (dimensions d t) _ (mark OpenSquare) p m1 m2 e refl end k ∙ read_opens d p _ m2 m3 g end ∙ read_natural n q m3 m4 i end _
-      ∙ read_sign CloseSquare m4 m5 (r, c) end _ ∙ read_ends _ r _ m5 b h end
+  pub read_type : (d : ℕ) (s : Place) (t : DataType) (a b : List Terminal) → IsNextAt s a → IsType d t a b → Skips a_width None b → (end : Place) (k : TypeTree → State)
+      → read_on true end (wants (a_type d) k) a ≡ read_on true end (wants (dimensions d t) (λ u. k (type_at s u))) b
+  read_type d s (uint w) a b at (m, (p, e), x) f end k =
+      takes_token (a_type d) _ (word (codes "UInt")) s a m (token_next s _ p a m at e) refl end k ∙ read_width w m b x f end _
+  read_type d s (sint w) a b at (m, (p, e), x) f end k =
+      takes_token (a_type d) _ (word (codes "SInt")) s a m (token_next s _ p a m at e) refl end k ∙ read_width w m b x f end _
+  read_type d s clock a b at (p, e) f end k = takes_token (a_type d) _ (word (codes "Clock")) s a b (token_next s _ p a b at e) refl end k
+  read_type d s reset a b at (p, e) f end k = takes_token (a_type d) _ (word (codes "Reset")) s a b (token_next s _ p a b at e) refl end k
+  read_type d s async_reset a b at (p, e) f end k = takes_token (a_type d) _ (word (codes "AsyncReset")) s a b (token_next s _ p a b at e) refl end k
+  read_type d s (bundle fs) a b at (m1, (p, e), (m2, g, (m3, x, (m4, (q, c), h)))) f end k =
+      takes_token (a_type d) _ (mark OpenCurly) s a m1 (token_next s _ p a m1 at e) refl end k ∙ read_opens d s _ m1 m2 g end
+      ∙ read_fields (d + 1) fs q m2 m3 m4 x c end _ ∙ read_ends _ q _ m4 b h end
+  read_type d s (vector t n) a b at (m1, x, (m2, (p, e), (m3, g, (m4, (q, i), (m5, (r, c), h))))) f end k =
+      read_type d s t a m1 at x (skips_at a_width None (mark OpenSquare) p m1 m2 e refl) end k
+      ∙ takes_token (dimensions d t) _ (mark OpenSquare) p m1 m2 e refl end (λ u. k (type_at s u)) ∙ read_opens d p _ m2 m3 g end
+      ∙ read_natural n q m3 m4 i end _ ∙ read_sign CloseSquare m4 m5 (r, c) end _ ∙ read_ends _ r _ m5 b h end
 
   read_fields : (d : ℕ) (fs : Fields) (q : Place) (a b c : List Terminal) → AreFields d fs a b → Token (mark CloseCurly) q b c → (end : Place) (k : FieldsTree → State) → read_on true end (wants (fields d) k) a ≡ read_on true end (k (record { fields = fs; close = q })) c
   read_fields d no_fields q a b c x e end k = takes_token (fields d) _ (mark CloseCurly) q a c (x ∙ e) refl end k
-  read_fields d (field p flip n t rest) q a b c (m1, fl, (m2, name, (m3, colon, (m4, ty, more)))) e end k =
+  read_fields d (field p flip n s t rest) q a b c (m1, fl, (m2, name, (m3, colon, (m4, (m5, (at, same), ty), more)))) e end k =
       let ends : TailEnds m4 = field_ends d rest q m4 b c more e in
       begins_field d p flip n a m1 m2 fl name end k
-      ∙ read_field d p flip n t a m1 m2 m3 m4 fl name colon (λ x f. read_type d t m3 m4 ty (width_stays m4 ends) x f ∙ leaves_token (dimensions d t) t m4 (dimensions_skip d t m4 ends) x f) end _
+      ∙ read_field d p flip n s t a m1 m2 m3 m4 fl name colon
+      (λ x f. read_type d s t m3 m4 at (subst (λ z. IsType d t z m4) (sym same) ty) (width_stays m4 ends) x f ∙ leaves_token (dimensions d t) t m4 (dimensions_skip d t m4 ends) x _) end _
       ∙ read_more_fields d rest q m4 b c more e end _
 
   read_more_fields : (d : ℕ) (fs : Fields) (q : Place) (a b c : List Terminal) → AreMoreFields d fs a b → Token (mark CloseCurly) q b c → (end : Place) (k : FieldsTree → State) → read_on true end (wants (more_fields d) k) a ≡ read_on true end (k (record { fields = fs; close = q })) c
   read_more_fields d no_fields q a b c x e end k = takes_token (more_fields d) _ (mark CloseCurly) q a c (x ∙ e) refl end k
-  read_more_fields d (field p flip n t rest) q a b c (m, (r, y), (m1, fl, (m2, name, (m3, colon, (m4, ty, more))))) e end k =
+  read_more_fields d (field p flip n s t rest) q a b c (m, (r, y), (m1, fl, (m2, name, (m3, colon, (m4, (m5, (at, same), ty), more))))) e end k =
       let ends : TailEnds m4 = field_ends d rest q m4 b c more e in
       takes_token (more_fields d) _ (mark Comma) r a m y refl end k
-      ∙ read_field d p flip n t m m1 m2 m3 m4 fl name colon (λ x f. read_type d t m3 m4 ty (width_stays m4 ends) x f ∙ leaves_token (dimensions d t) t m4 (dimensions_skip d t m4 ends) x f) end _
+      ∙ read_field d p flip n s t m m1 m2 m3 m4 fl name colon
+      (λ x f. read_type d s t m3 m4 at (subst (λ z. IsType d t z m4) (sym same) ty) (width_stays m4 ends) x f ∙ leaves_token (dimensions d t) t m4 (dimensions_skip d t m4 ends) x _) end _
       ∙ read_more_fields d rest q m4 b c more e end _
 
--- a type behind which no sign goes on with it
-pub read_whole_type : (d : ℕ) (t : DataType) (a b : List Terminal) → IsType d t a b → TailEnds b → TypeRead d t a b
-read_whole_type d t a b x f end k = read_type d t a b x (width_stays b f) end k ∙ leaves_token (dimensions d t) t b (dimensions_skip d t b f) end k
+-- a type that begins at a place, behind which no sign goes on with it
+pub read_whole_type : (d : ℕ) (s : Place) (t : DataType) (a b : List Terminal) → (At s ▸ IsType d t) a b → TailEnds b → TypeRead d s t a b
+read_whole_type d s t a b (m, (at, same), x) f end k =
+    read_type d s t a b at (subst (λ z. IsType d t z b) (sym same) x) (width_stays b f) end k ∙ leaves_token (dimensions d t) t b (dimensions_skip d t b f) end _

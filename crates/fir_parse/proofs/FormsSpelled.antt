@@ -3,7 +3,7 @@ use Rattle.std.proofs.Common.{◌≡◌, true, false, List, [], ◌∷◌, Ok, r
 use Rattle.fir_ast.specs.declared.place.Place.{Place}
 use Rattle.fir_ast.specs.Circuits.{CircuitTree}
 use Rattle.fir_parse.specs.Lexemes.{Terminal}
-use Rattle.fir_parse.specs.CircuitForms.{IsSpelled}
+use Rattle.fir_parse.specs.working.CircuitForms.{IsSpelled}
 use Rattle.fir_parse.specs.States.{State, done, limit, wants, Step, takes, without, refuses, unsupported}
 use Rattle.fir_parse.specs.Reading.{Outcome, step, goes_on, at_token, at_end, read_on, read, whole}
 use Rattle.fir_parse.proofs.FormsFound.{IsText, Is, Derives, Found, Extends}

@@ -6,10 +6,10 @@ use Rattle.fir_ast.specs.declared.fault.FirFault.TheVariants.{Syntax, Unsupporte
 use Rattle.fir_parse.specs.Lexemes.{Terminal}
 use Rattle.fir_parse.specs.States.{State, Limit, fault_of}
 use Rattle.fir_parse.specs.Reading.{Outcome, at_token, at_end, read_on}
-use Rattle.fir_parse.specs.TextFaults.{Fit, fits, unfit, missing, fit, passed_limit, Reaches, place_at, next_fit}
+use Rattle.fir_parse.specs.TextFaults.{Verdict, continues, unexpected, missing, judge, passed_limit, Reaches, place_at, next_verdict}
 use Rattle.fir_parse.proofs.Guards.{Guarded}
 use Rattle.fir_parse.proofs.AtTokens.{outcome_of, within_limits, past_limit, end_past_limit, end_within_limits, ends_so}
-use Rattle.fir_parse.proofs.Along.{fitting_guarded}
+use Rattle.fir_parse.proofs.Along.{continues_guarded}
 
 -- no text ends in this state
 abbrev pub IsOpen : State → Type 0
@@ -23,15 +23,15 @@ OpenAtEnd st (t ∷ back) = Unit {0}
 abbrev pub PassesLimit : State → FirFault → Type 0
 PassesLimit st f = (l : Limit) × (passed_limit st ≡ Some l) × (f ≡ fault_of l)
 
-abbrev pub FitsNothing : Place → State → List Terminal → FirFault → Type 0
-FitsNothing end st back f = (passed_limit st ≡ None) × (next_fit st back ≡ unfit) × OpenAtEnd st back × (f ≡ Syntax (place_at end back))
+abbrev pub IsUnexpected : Place → State → List Terminal → FirFault → Type 0
+IsUnexpected end st back f = (passed_limit st ≡ None) × (next_verdict st back ≡ unexpected) × OpenAtEnd st back × (f ≡ Syntax (place_at end back))
 
 abbrev pub IsMissing : State → List Terminal → FirFault → Type 0
-IsMissing st back f = (p : Place) × (w : List ℕ) × (passed_limit st ≡ None) × (next_fit st back ≡ missing p w) × (f ≡ Unsupported p w)
+IsMissing st back f = (p : Place) × (w : List ℕ) × (passed_limit st ≡ None) × (next_verdict st back ≡ missing p w) × (f ≡ Unsupported p w)
 
 -- reading stops in this state, before these tokens
 abbrev pub Halts : Place → State → List Terminal → FirFault → Type 0
-Halts end st back f = PassesLimit st f ⊎ FitsNothing end st back f ⊎ IsMissing st back f
+Halts end st back f = PassesLimit st f ⊎ IsUnexpected end st back f ⊎ IsMissing st back f
 
 -- reading stops behind some of the tokens
 pub record HaltsIn (end : Place) (st : State) (ts : List Terminal) (f : FirFault) : Type 0 where
@@ -56,21 +56,21 @@ at_the_end end st f None e r =
       | inr x ↦ here end st [] f (inr (inl (e, refl, x, same_fault _ _ _ (end_within_limits end st e ∙ x end) r)))
     ]
 
-behind : (end : Place) (st next : State) (t : Terminal) (ts : List Terminal) (f : FirFault) → passed_limit st ≡ None → fit st t ≡ fits next → HaltsIn end next ts f → HaltsIn end st (t ∷ ts) f
+behind : (end : Place) (st next : State) (t : Terminal) (ts : List Terminal) (f : FirFault) → passed_limit st ≡ None → judge st t ≡ continues next → HaltsIn end next ts f → HaltsIn end st (t ∷ ts) f
 behind end st next t ts f none e h =
     record { front = t ∷ h.front; back = h.back; parts = ap (λ x. t ∷ x) h.parts; last = h.last; reaches = (next, none, e, h.reaches); halts = h.halts }
 
-by_fit : (end : Place) (st : State) (t : Terminal) (ts : List Terminal) (f : FirFault) → passed_limit st ≡ None → (u : Fit) → fit st t ≡ u → outcome_of u t.place (λ n. read_on true end n ts) ≡ Err f → ((next : State) → fit st t ≡ fits next → read_on true end next ts ≡ Err f → HaltsIn end next ts f) → HaltsIn end st (t ∷ ts) f
-by_fit end st t ts f none (fits next) e r later = behind end st next t ts f none e (later next e r)
-by_fit end st t ts f none unfit e r later = here end st (t ∷ ts) f (inr (inl (none, e, tt, same_fault _ _ _ refl r)))
-by_fit end st t ts f none (missing p w) e r later = here end st (t ∷ ts) f (inr (inr (p, w, none, e, same_fault _ _ _ refl r)))
+by_verdict : (end : Place) (st : State) (t : Terminal) (ts : List Terminal) (f : FirFault) → passed_limit st ≡ None → (u : Verdict) → judge st t ≡ u → outcome_of u t.place (λ n. read_on true end n ts) ≡ Err f → ((next : State) → judge st t ≡ continues next → read_on true end next ts ≡ Err f → HaltsIn end next ts f) → HaltsIn end st (t ∷ ts) f
+by_verdict end st t ts f none (continues next) e r later = behind end st next t ts f none e (later next e r)
+by_verdict end st t ts f none unexpected e r later = here end st (t ∷ ts) f (inr (inl (none, e, tt, same_fault _ _ _ refl r)))
+by_verdict end st t ts f none (missing p w) e r later = here end st (t ∷ ts) f (inr (inr (p, w, none, e, same_fault _ _ _ refl r)))
 
-by_limit : (end : Place) (st : State) (t : Terminal) (ts : List Terminal) (f : FirFault) → Guarded st → (o : Option Limit) → passed_limit st ≡ o → at_token true st t (λ n. read_on true end n ts) ≡ Err f → ((next : State) → fit st t ≡ fits next → read_on true end next ts ≡ Err f → HaltsIn end next ts f) → HaltsIn end st (t ∷ ts) f
+by_limit : (end : Place) (st : State) (t : Terminal) (ts : List Terminal) (f : FirFault) → Guarded st → (o : Option Limit) → passed_limit st ≡ o → at_token true st t (λ n. read_on true end n ts) ≡ Err f → ((next : State) → judge st t ≡ continues next → read_on true end next ts ≡ Err f → HaltsIn end next ts f) → HaltsIn end st (t ∷ ts) f
 by_limit end st t ts f g (Some l) e r later = here end st (t ∷ ts) f (inl (l, e, same_fault _ _ _ (past_limit st l t _ e) r))
-by_limit end st t ts f g None e r later = by_fit end st t ts f e (fit st t) refl (sym (within_limits st t _ g e) ∙ r) later
+by_limit end st t ts f g None e r later = by_verdict end st t ts f e (judge st t) refl (sym (within_limits st t _ g e) ∙ r) later
 
 -- where reading ends with a fault, it stops so
 pub halts_in : (ts : List Terminal) (end : Place) (st : State) (f : FirFault) → Guarded st → read_on true end st ts ≡ Err f → HaltsIn end st ts f
 unfolding read_on
 halts_in [] end st f g r = at_the_end end st f (passed_limit st) refl r
-halts_in (t ∷ ts) end st f g r = by_limit end st t ts f g (passed_limit st) refl r (λ next e q. halts_in ts end next f (fitting_guarded st next t g e) q)
+halts_in (t ∷ ts) end st f g r = by_limit end st t ts f g (passed_limit st) refl r (λ next e q. halts_in ts end next f (continues_guarded st next t g e) q)

@@ -8,17 +8,17 @@ use Rattle.fir_parse.specs.Reading.{read_on}
 use Rattle.fir_parse.proofs.Guards.{Guarded}
 use Rattle.fir_parse.proofs.AtTokens.{outcome_of, within_limits, past_limit, end_past_limit, end_within_limits}
 use Rattle.fir_parse.proofs.Along.{guarded_along, along_within_limits}
-use Rattle.fir_parse.proofs.Halting.{FitsNothing, IsMissing, PassesLimit, Halts, HaltsIn}
+use Rattle.fir_parse.proofs.Halting.{IsUnexpected, IsMissing, PassesLimit, Halts, HaltsIn}
 
 limit_halts : (end : Place) (st : State) (ts : List Terminal) (f : FirFault) → PassesLimit st f → read_on true end st ts ≡ Err f
 unfolding read_on
 limit_halts end st [] f h = end_past_limit end st h.0 h.1 ∙ ap (λ g. Err g) (sym h.2)
 limit_halts end st (t ∷ ts) f h = past_limit st h.0 t _ h.1 ∙ ap (λ g. Err g) (sym h.2)
 
-unfit_halts : (end : Place) (st : State) (ts : List Terminal) (f : FirFault) → Guarded st → FitsNothing end st ts f → read_on true end st ts ≡ Err f
+unexpected_halts : (end : Place) (st : State) (ts : List Terminal) (f : FirFault) → Guarded st → IsUnexpected end st ts f → read_on true end st ts ≡ Err f
 unfolding read_on
-unfit_halts end st [] f g h = end_within_limits end st h.0 ∙ h.2 end ∙ ap (λ x. Err x) (sym h.3)
-unfit_halts end st (t ∷ ts) f g h = within_limits st t _ g h.0 ∙ ap (λ u. outcome_of u t.place (λ n. read_on true end n ts)) h.1 ∙ ap (λ x. Err x) (sym h.3)
+unexpected_halts end st [] f g h = end_within_limits end st h.0 ∙ h.2 end ∙ ap (λ x. Err x) (sym h.3)
+unexpected_halts end st (t ∷ ts) f g h = within_limits st t _ g h.0 ∙ ap (λ u. outcome_of u t.place (λ n. read_on true end n ts)) h.1 ∙ ap (λ x. Err x) (sym h.3)
 
 missing_halts : (end : Place) (st : State) (ts : List Terminal) (f : FirFault) → Guarded st → IsMissing st ts f → read_on true end st ts ≡ Err f
 unfolding read_on
@@ -27,7 +27,7 @@ missing_halts end st (t ∷ ts) f g h = within_limits st t _ g h.2 ∙ ap (λ u.
 
 pub halting_reads : (end : Place) (st : State) (ts : List Terminal) (f : FirFault) → Guarded st → Halts end st ts f → read_on true end st ts ≡ Err f
 halting_reads end st ts f g (inl h) = limit_halts end st ts f h
-halting_reads end st ts f g (inr (inl h)) = unfit_halts end st ts f g h
+halting_reads end st ts f g (inr (inl h)) = unexpected_halts end st ts f g h
 halting_reads end st ts f g (inr (inr h)) = missing_halts end st ts f g h
 
 pub halts_read : (end : Place) (st : State) (ts : List Terminal) (f : FirFault) → Guarded st → HaltsIn end st ts f → read_on true end st ts ≡ Err f

@@ -28,7 +28,6 @@ pub mod MissingForms
 pub mod Others
 pub mod SameMarks
 pub mod Digits
-pub mod SameWords
 pub mod HaltsRead
 pub mod LiteralNumbers
 pub mod Signs

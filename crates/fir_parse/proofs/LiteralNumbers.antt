@@ -2,20 +2,21 @@
 use Rattle.std.proofs.Common.{◌≡◌, ℕ, Bool, true, false, not, List, ◌∷◌, Option, Some, None, Result, Ok, Err, drop, refl, sym, ap, ◌∙◌, Bor}
 use Rattle.fir_ast.specs.declared.place.Place.{Place}
 use Rattle.fir_ast.specs.declared.expressions.Literal.{Literal}
+use Rattle.fir_parse.specs.declared.integer.Integer.{Integer}
 use Rattle.fir_parse.specs.declared.lexeme.Lexeme.{Lexeme as LexemeRef}
 use Rattle.fir_parse.specs.declared.lexeme.Lexeme.TheVariants as code
 use Rattle.fir_parse.specs.declared.stop.Stop.{Stop}
 use Rattle.fir_parse.specs.Lexemes.{Terminal, Lexeme, seen}
 use Rattle.fir_parse.specs.Numbers.{Numeral, is_in_range, is_allowed, literal_of}
-use Rattle.fir_parse.specs.Ranges.{numeral_within, IsNumbered}
+use Rattle.fir_parse.specs.working.Ranges.{numeral_within, IsNumbered}
 use Rattle.fir_parse.specs.States.{in_range, limit, wants, refuses}
 use Rattle.fir_parse.specs.Symbols.{a_literal}
 use Rattle.fir_parse.specs.ExpressionRules.{numbered}
 use Rattle.fir_parse.specs.Reading.{read_on, step}
-use Rattle.fir_parse.specs.Reads.{Reads}
+use Rattle.fir_parse.specs.working.Reads.{Reads}
 use Rattle.fir_parse.proofs.Plans.{takes_first, limit_kept, limit_passed}
 
-pub other_literal : (p : Place) (signed : Bool) (width : Option ℕ) (l : LexemeRef) (q : Place) → ((x : Bor (List ℕ)) → l ≡ code.Integer x → ⊥) → ((x : Bor (List ℕ)) → l ≡ code.Text x → ⊥) → step (a_literal p signed width) (seen l) q ≡ refuses
+pub other_literal : (p : Place) (signed : Bool) (width : Option ℕ) (l : LexemeRef) (q : Place) → ((x : Integer) → l ≡ code.Integer x → ⊥) → ((x : Bor (List ℕ)) → l ≡ code.Text x → ⊥) → step (a_literal p signed width) (seen l) q ≡ refuses
 other_literal p signed width (code.Integer x) q h g = absurd (h x refl)
 other_literal p signed width (code.Text x) q h g = absurd (g x refl)
 other_literal p signed width _ q h g = refl

@@ -5,10 +5,10 @@ use Rattle.fir_ast.specs.declared.place.Place.{Place}
 use Rattle.fir_parse.specs.declared.lexeme.Lexeme.TheVariants.{End}
 use Rattle.fir_parse.specs.declared.parser.Next.{Next}
 use Rattle.fir_parse.specs.declared.stop.Stop.{Stop}
-use Rattle.fir_parse.specs.AtHand.{IsAtHand, stop_at}
+use Rattle.fir_parse.specs.working.AtHand.{IsAtHand, stop_at}
 use Rattle.fir_parse.specs.Lexemes.{Terminal}
 use Rattle.fir_parse.specs.Reading.{read_on}
-use Rattle.fir_parse.specs.Reads.{Plan, Stops, Reads, Leads}
+use Rattle.fir_parse.specs.working.Reads.{Plan, Stops, Reads, Leads}
 use Rattle.fir_parse.specs.States.{State, wants}
 use Rattle.fir_parse.specs.Symbols.{Sym}
 use Rattle.fir_parse.proofs.Plans.{ends_here, found, stops_behind}

@@ -1,13 +1,16 @@
 -- Tokens that are not expected where one token is.
-use Rattle.std.proofs.Common.{◌≡◌, ℕ, List, true, false, not, refl, Bor}
+use Rattle.std.proofs.Common.{◌≡◌, ℕ, List, [], ◌∷◌, true, false, not, refl, sym, ap, ◌∙◌, Bor}
 use Rattle.std.specs.Str.{bytes_eq}
 use Rattle.fir_ast.specs.declared.place.Place.{Place}
+use Rattle.fir_parse.specs.declared.integer.Integer.{Integer}
 use Rattle.fir_parse.specs.declared.lexeme.Mark.{Mark}
 use Rattle.fir_parse.specs.declared.lexeme.Lexeme.{Lexeme}
 use Rattle.fir_parse.specs.declared.lexeme.Lexeme.TheVariants as code
+use Rattle.fir_lex.specs.working.Numbers.{digits_of}
 use Rattle.fir_parse.specs.Lexemes.{seen, word, integer, mark}
 use Rattle.fir_parse.specs.Marks.{same_mark}
-use Rattle.fir_parse.specs.Numbers.{has_sign, is_in_range, decimal_value}
+use Rattle.fir_base.specs.Digits.{decimal_value}
+use Rattle.fir_parse.specs.Numbers.{has_sign, is_in_range}
 use Rattle.fir_parse.specs.Symbols.{a_mark, a_word, a_name, a_field_name, a_natural, a_line_end, an_opening, a_closing}
 use Rattle.fir_parse.specs.States.{limit, in_range, takes, refuses}
 use Rattle.fir_parse.specs.Reading.{step}
@@ -48,23 +51,33 @@ pub other_name : (l : Lexeme) (p : Place) → ((x : Bor (List ℕ)) → l ≡ co
 other_name (code.Word x) p h = absurd (h x refl)
 other_name _ p h = refl
 
-pub other_field_name : (l : Lexeme) (p : Place) → ((x : Bor (List ℕ)) → l ≡ code.Word x → ⊥) → ((x : Bor (List ℕ)) → l ≡ code.Integer x → ⊥) → step a_field_name (seen l) p ≡ refuses
+pub other_field_name : (l : Lexeme) (p : Place) → ((x : Bor (List ℕ)) → l ≡ code.Word x → ⊥) → ((x : Integer) → l ≡ code.Integer x → ⊥) → step a_field_name (seen l) p ≡ refuses
 other_field_name (code.Word x) p h g = absurd (h x refl)
 other_field_name (code.Integer x) p h g = absurd (g x refl)
 other_field_name _ p h g = refl
 
-pub signed_field_name : (x : Bor (List ℕ)) (l : Lexeme) (p : Place) → l ≡ code.Integer x → has_sign x.now ≡ true → step a_field_name (seen l) p ≡ refuses
+pub signed_field_name : (x : Integer) (l : Lexeme) (p : Place) → l ≡ code.Integer x → has_sign x.spelling.now ≡ true → step a_field_name (seen l) p ≡ refuses
 signed_field_name x l p e h = rw e (rw h refl)
 
 pub digits_field_name : (s : List ℕ) (p : Place) → has_sign s ≡ false → step a_field_name (integer s) p ≡ takes (λ k. k (record { place = p; name = s }))
 digits_field_name s p h = rw h refl
 
-pub other_natural : (l : Lexeme) (p : Place) → ((x : Bor (List ℕ)) → l ≡ code.Integer x → ⊥) → step a_natural (seen l) p ≡ refuses
+pub other_natural : (l : Lexeme) (p : Place) → ((x : Integer) → l ≡ code.Integer x → ⊥) → step a_natural (seen l) p ≡ refuses
 other_natural (code.Integer x) p g = absurd (g x refl)
 other_natural _ p g = refl
 
-pub signed_natural : (x : Bor (List ℕ)) (l : Lexeme) (p : Place) → l ≡ code.Integer x → has_sign x.now ≡ true → step a_natural (seen l) p ≡ refuses
+pub signed_natural : (x : Integer) (l : Lexeme) (p : Place) → l ≡ code.Integer x → has_sign x.spelling.now ≡ true → step a_natural (seen l) p ≡ refuses
 signed_natural x l p e h = rw e (rw h refl)
 
 pub digits_natural : (s : List ℕ) (p : Place) → has_sign s ≡ false → step a_natural (integer s) p ≡ takes (λ k. limit (not (is_in_range (decimal_value s))) (in_range p) (k (record { place = p; number = decimal_value s })))
 digits_natural s p h = rw h refl
+
+-- an integer without a sign is its digits
+unsigned : (s : List ℕ) → has_sign s ≡ false → digits_of s ≡ s
+unsigned [] h = refl
+unsigned (b ∷ bs) h = rw h refl
+
+pub integer_natural : (i : Integer) (p : Place) → has_sign i.spelling.now ≡ false → step a_natural (integer i.spelling.now) p ≡ takes (λ k. limit (not (is_in_range i.number)) (in_range p) (k (record { place = p; number = i.number })))
+integer_natural i p h =
+    digits_natural i.spelling.now p h
+    ∙ ap (λ n. takes (λ k. limit (not (is_in_range n)) (in_range p) (k (record { place = p; number = n })))) (sym (i.value ∙ ap decimal_value (unsigned i.spelling.now h)))

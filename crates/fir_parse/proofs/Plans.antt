@@ -8,14 +8,14 @@ use Rattle.fir_parse.specs.declared.stop.Stop.TheVariants as stop
 use Rattle.fir_ast.specs.declared.fault.FirFault.TheVariants.{Syntax, Depth}
 use Rattle.fir_parse.specs.declared.lexeme.Lexeme.{Lexeme as LexemeRef}
 use Rattle.fir_parse.specs.declared.lexeme.Lexeme.TheVariants as code
-use Rattle.fir_parse.specs.AtHand.{StandsFirst, IsAtHand, stop_at}
+use Rattle.fir_parse.specs.working.AtHand.{StandsFirst, IsAtHand, stop_at}
 use Rattle.fir_parse.specs.declared.parser.Next.{Next}
 use Rattle.fir_parse.specs.Lexemes.{Lexeme, Terminal, seen}
 use Rattle.fir_parse.specs.States.{State, Limit, fault_of, limit, wants, takes, without, refuses, unsupported, opens, ends_form}
 use Rattle.fir_parse.specs.Symbols.{Sym, Tree}
 use Rattle.fir_parse.specs.Reading.{read_on, at_token, goes_on, step}
-use Rattle.fir_parse.specs.Reads.{Plan, Stops, Gives, Reads}
-use Rattle.fir_parse.specs.Trees.{IsUnsupported}
+use Rattle.fir_parse.specs.working.Reads.{Plan, Stops, Gives, Reads, Leads}
+use Rattle.fir_parse.specs.working.Trees.{IsUnsupported}
 
 -- a token that is expected is taken
 pub takes_one : (s : Sym) (x : Tree s) (l : Lexeme) (p : Place) (a b : List Terminal) → a ≡ record { lexeme = l; place = p } ∷ drop 1 a → b ≡ drop 1 a → step s l p ≡ takes (λ k. k x) → Gives (wants s) x a b
@@ -91,10 +91,20 @@ pub reads_behind : {A T : Type 0} (P Q : Plan T) (view : A → T) (a b c : List 
 reads_behind P Q view a b c (Ok x) g h = λ end k. g end k ∙ h end k
 reads_behind P Q view a b c (Err e) g h = stops_behind P Q a b e (λ k. k) g h
 
+-- what is read is made part of another tree
+pub reads_mapped : {A T U : Type 0} (P : Plan U) (Q : Plan T) (f : T → U) (view : A → T) (a b c : List Terminal) (r : Result A Stop) → ((end : Place) (k : U → State) → read_on true end (P k) a ≡ read_on true end (Q (λ x. k (f x))) b) → Reads Q view b c r → Reads P (λ x. f (view x)) a c r
+reads_mapped P Q f view a b c (Ok x) g h = λ end k. g end k ∙ h end _
+reads_mapped P Q f view a b c (Err e) g h = stops_behind P Q a b e (λ k x. k (f x)) g h
+
 -- the exit of a `?`, behind what was read; `f` is how the text goes on behind the part that stops
 pub exits_behind : {A T U : Type 0} (P : Plan T) (Q : Plan U) (view : A → T) (a b c : List Terminal) (r : Result A Stop) (e : Stop) (f : (T → State) → U → State) → IsErrAnd r (λ s. s ≡ e) → ((end : Place) (k : T → State) → read_on true end (P k) a ≡ read_on true end (Q (f k)) b) → Stops Q b e → Reads P view a c r
 exits_behind P Q view a b c (Ok x) e f i g h = absurd i
 exits_behind P Q view a b c (Err s) e f i g h = rw i (stops_behind P Q a b e f g h)
+
+-- the exit of a `?` where another part follows; `f` is how the text goes on behind the part that stops
+pub exits_before : {A T U : Type 0} (P : Plan T) (Q : Plan U) (next : A → Plan T) (a b c : List Terminal) (r : Result A Stop) (e : Stop) (f : (T → State) → U → State) → IsErrAnd r (λ s. s ≡ e) → ((end : Place) (k : T → State) → read_on true end (P k) a ≡ read_on true end (Q (f k)) b) → Stops Q b e → Leads P next a c r
+exits_before P Q next a b c (Ok x) e f i g h = absurd i
+exits_before P Q next a b c (Err s) e f i g h = rw i (stops_behind P Q a b e f g h)
 
 -- a block or bracket that opens within the limit
 pub opened : (d : ℕ) (p : Place) (st : State) (end : Place) (ts : List Terminal) → d < 256 → read_on true end (opens d p st) ts ≡ read_on true end st ts

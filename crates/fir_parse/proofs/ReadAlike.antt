@@ -3,23 +3,23 @@ use Rattle.std.proofs.Common.{◌≡◌, ℕ, List, ◌∷◌, Bool, true, false
 use Rattle.std.specs.Str.{bytes_eq}
 use Rattle.fir_base.specs.declared.direction.Direction.{Direction}
 use Rattle.fir_ast.specs.declared.place.Place.{Place}
-use Rattle.fir_ast.specs.Statements.{MemoryPart, Named, Reset}
+use Rattle.fir_ast.specs.Statements.{MemoryPart, PlacedName, Reset}
 use Rattle.fir_ast.specs.Circuits.{CircuitTree, ModuleTree}
 use Rattle.fir_parse.specs.declared.lexeme.Lexeme.{Lexeme as LexemeRef}
 use Rattle.fir_parse.specs.declared.lexeme.Lexeme.TheVariants as code
 use Rattle.fir_parse.specs.declared.lexeme.Mark.TheVariants.{OpenRound, Colon}
 use Rattle.fir_parse.specs.declared.words.FieldWord.{FieldWord}
 use Rattle.fir_parse.specs.declared.words.FieldWord.TheVariants as memory
-use Rattle.fir_parse.specs.AtHand.{StandsFirst}
+use Rattle.fir_parse.specs.working.AtHand.{StandsFirst}
 use Rattle.fir_parse.specs.Lexemes.{Terminal, seen}
 use Rattle.fir_parse.specs.Words.{field_word_of}
 use Rattle.fir_parse.specs.States.{State, wants, Step, takes, without, refuses, unsupported, mapped}
 use Rattle.fir_parse.specs.Symbols.{PortOr, no_port, a_name, a_reset, behind_with, a_memory_field, more_memory_fields, more_names, a_text, first_module, more_modules, behind_direction, behind_port_is}
 use Rattle.fir_parse.specs.StatementRules.{first_step}
 use Rattle.fir_parse.specs.MemoryRules.{by_field_word, then_fields}
-use Rattle.fir_parse.specs.PartPlans.{reset_part_plan, level_reset_plan, no_port_plan, port_plan, invalid_plan, circuit_plan}
+use Rattle.fir_parse.specs.working.PartPlans.{reset_part_plan, level_reset_plan, no_port_plan, port_plan, invalid_plan, circuit_plan}
 use Rattle.fir_parse.specs.Reading.{Outcome, one, goes_on, read_on}
-use Rattle.fir_parse.specs.Reads.{Plan}
+use Rattle.fir_parse.specs.working.Reads.{Plan}
 
 -- a word that is taken if it is the one that is expected
 taken_or_not : {T : Type 0} (b : Bool) (g : Plan T) (p : Place) (k : T → State) (j : Place → State) (behind : State → Outcome) (x : T → Outcome) (y : Place → Outcome) → g k ≡ j p → goes_on (if b then takes g else refuses) p k behind x ≡ goes_on (one b p) p j behind y
@@ -35,12 +35,12 @@ resets_by_word d a (code.Word w) p e h end k = rw e (taken_or_not (bytes_eq w.no
 resets_by_word d a _ p e h end k = rw e refl
 
 -- behind `with :` and at no parenthesis a level of its own follows
-pub resets_in_level : (d : ℕ) (a : List Terminal) (l : LexemeRef) (p : Place) → StandsFirst a l p → (l ≡ code.Mark OpenRound → ⊥) → (end : Place) (k : Reset → State) → read_on true end (wants (behind_with d) k) a ≡ read_on true end (level_reset_plan d k) a
+pub resets_in_level : (d : ℕ) (w : Place) (a : List Terminal) (l : LexemeRef) (p : Place) → StandsFirst a l p → (l ≡ code.Mark OpenRound → ⊥) → (end : Place) (k : Reset → State) → read_on true end (wants (behind_with d w) k) a ≡ read_on true end (level_reset_plan d w k) a
 unfolding read_on
-resets_in_level d a (code.Mark OpenRound) p e h end k = absurd (h refl)
-resets_in_level d a (code.Mark _) p e h end k = rw e refl
-resets_in_level d a code.End p e h end k = rw e refl
-resets_in_level d a _ p e h end k = rw e refl
+resets_in_level d w a (code.Mark OpenRound) p e h end k = absurd (h refl)
+resets_in_level d w a (code.Mark _) p e h end k = rw e refl
+resets_in_level d w a code.End p e h end k = rw e refl
+resets_in_level d w a _ p e h end k = rw e refl
 
 -- a field more, with the token that begins it
 field_goes_on : (d : ℕ) (w : FieldWord) (p : Place) (k : List MemoryPart → State) (behind : State → Outcome) (x : List MemoryPart → Outcome) (y : MemoryPart → Outcome) → goes_on (then_fields d (by_field_word w d p)) p k behind x ≡ goes_on (by_field_word w d p) p (λ f. wants (more_memory_fields d) (λ fs. k (f ∷ fs))) behind y
@@ -64,7 +64,7 @@ one_field_more d a (code.DashWord w) p e h end k = rw e (field_goes_on d (field_
 one_field_more d a _ p e h end k = rw e refl
 
 -- at no line's end one name more is read
-pub one_name_more : (a : List Terminal) (l : LexemeRef) (p : Place) → StandsFirst a l p → (l ≡ code.LineEnd → ⊥) → (end : Place) (k : List Named → State) → read_on true end (wants more_names k) a ≡ read_on true end (wants a_name (λ n. wants more_names (λ ns. k (n ∷ ns)))) a
+pub one_name_more : (a : List Terminal) (l : LexemeRef) (p : Place) → StandsFirst a l p → (l ≡ code.LineEnd → ⊥) → (end : Place) (k : List PlacedName → State) → read_on true end (wants more_names k) a ≡ read_on true end (wants a_name (λ n. wants more_names (λ ns. k (n ∷ ns)))) a
 unfolding read_on
 one_name_more a code.LineEnd p e h end k = absurd (h refl)
 one_name_more a code.End p e h end k = rw e refl

@@ -1,6 +1,5 @@
 -- What the parts of a reference read, one after another.
-use Rattle.std.proofs.Common.{◌≡◌, ℕ, List, [], ◌∷◌, ◌++◌, map, true, refl, sym, ap, ◌∙◌, Result, Ok, Err, Vec, Global}
-use Rattle.std.specs.Result.{IsErrAnd}
+use Rattle.std.proofs.Common.{◌≡◌, ℕ, List, [], ◌∷◌, ◌++◌, map, true, refl, sym, ap, ◌∙◌, Vec, Global}
 use Rattle.fir_ast.specs.declared.place.Place.{Place}
 use Rattle.fir_ast.specs.declared.expressions.Part.{Part}
 use Rattle.fir_ast.specs.Expressions.{Parts, no_parts}
@@ -8,21 +7,13 @@ use Rattle.fir_ast.specs.View.{parts_of, sink_of}
 use Rattle.fir_parse.specs.declared.lexeme.Lexeme.{Lexeme as LexemeRef}
 use Rattle.fir_parse.specs.declared.lexeme.Lexeme.TheVariants as code
 use Rattle.fir_parse.specs.declared.lexeme.Mark.TheVariants.{Dot, OpenSquare}
-use Rattle.fir_parse.specs.declared.stop.Stop.{Stop}
 use Rattle.fir_parse.specs.Heights.{height_with}
 use Rattle.fir_parse.specs.Lexemes.{Terminal, seen}
 use Rattle.fir_parse.specs.Reading.{read_on, step}
-use Rattle.fir_parse.specs.Reads.{Plan, Stops, Leads}
 use Rattle.fir_parse.specs.States.{State, wants, without}
 use Rattle.fir_parse.specs.Symbols.{parts}
-use Rattle.fir_parse.specs.Trees.{onto, part_of}
+use Rattle.fir_parse.specs.working.Trees.{onto, part_of}
 use Rattle.fir_parse.proofs.ExpressionViews.{sink_view}
-use Rattle.fir_parse.proofs.Plans.{stops_behind}
-
--- the exit of a `?`, behind what was read; `f` is how the text goes on behind the part that stops
-pub exit_leads : {A T U : Type 0} (P : Plan T) (next : A → Plan T) (Q : Plan U) (a b c : List Terminal) (r : Result A Stop) (e : Stop) (f : (T → State) → U → State) → IsErrAnd r (λ s. s ≡ e) → ((end : Place) (k : T → State) → read_on true end (P k) a ≡ read_on true end (Q (f k)) b) → Stops Q b e → Leads P next a c r
-exit_leads P next Q a b c (Ok x) e f i g h = absurd i
-exit_leads P next Q a b c (Err s) e f i g h = rw i (stops_behind P Q a b e f g h)
 
 -- the parts of a reference are all its parts with nothing behind them
 pub onto_none : (fs : List (Parts → Parts)) → onto fs no_parts ≡ parts_of fs

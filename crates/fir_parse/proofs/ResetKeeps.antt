@@ -11,15 +11,15 @@ use Rattle.fir_parse.specs.StatementRules.{ends_line, reset_rest, reset_step, wi
 use Rattle.fir_parse.proofs.Guards.{free, Guarded, After}
 use Rattle.fir_parse.proofs.Keeping.{Keeps, keeps_if}
 
-guarded_reset : (d : ℕ) (k : Reset → State) → ((r : Reset) → After free (k r)) → Guarded (reset_rest d k)
-guarded_reset d k h = λ p. (λ q. (λ r. (λ c. (λ s. (λ i. (λ t. h _, refl), tt), refl), tt), tt), tt)
+guarded_reset : (d : ℕ) (w : Place) (k : Reset → State) → ((r : Reset) → After free (k r)) → Guarded (reset_rest d w k)
+guarded_reset d w k h = λ p. (λ q. (λ r. (λ c. (λ s. (λ i. (λ t. h _, refl), tt), refl), tt), tt), tt)
 
 pub keeps_reset : (d : ℕ) (l : Lexeme) (p : Place) → Keeps free (reset_step d l p)
 keeps_reset d line_end p = λ k after. (after _).0
-keeps_reset d (word w) p = keeps_if free (bytes_eq w (codes "with")) (takes (λ k. wants (a_mark Colon) (λ q. wants (behind_with d) (λ r. k (Some r))))) refuses (λ k after. λ q. (λ r. after _, tt)) tt
+keeps_reset d (word w) p = keeps_if free (bytes_eq w (codes "with")) (takes (λ k. wants (a_mark Colon) (λ q. wants (behind_with d p) (λ r. k (Some r))))) refuses (λ k after. λ q. (λ r. after _, tt)) tt
 keeps_reset d _ p = tt
 
-pub keeps_with : (d : ℕ) (l : Lexeme) (p : Place) → Keeps free (with_step d l p)
-keeps_with d (mark OpenRound) p = λ k after. guarded_reset (d + 1) (λ r. wants (a_mark CloseRound) (λ q. ends_line r k)) (λ r. (λ q. (λ s. after r, tt), tt))
-keeps_with d line_end p = λ k after. λ q. (guarded_reset d (λ r. ends_line r (λ s. wants a_closing (λ t. k s))) (λ r. (λ s. (λ t. after r, tt), tt)), tt)
-keeps_with d _ p = tt
+pub keeps_with : (d : ℕ) (w : Place) (l : Lexeme) (p : Place) → Keeps free (with_step d w l p)
+keeps_with d w (mark OpenRound) p = λ k after. guarded_reset (d + 1) w (λ r. wants (a_mark CloseRound) (λ q. ends_line r k)) (λ r. (λ q. (λ s. after r, tt), tt))
+keeps_with d w line_end p = λ k after. λ q. (guarded_reset d w (λ r. ends_line r (λ s. wants a_closing (λ t. k s))) (λ r. (λ s. (λ t. after r, tt), tt)), tt)
+keeps_with d w _ p = tt

@@ -12,7 +12,7 @@ use Rattle.fir_parse.specs.declared.whens.OpenWhen.{OpenWhen as OpenWhenRef}
 use Rattle.fir_parse.specs.Symbols.{OpenWhen, statements}
 use Rattle.fir_parse.specs.States.{State, wants}
 use Rattle.fir_parse.specs.StatementRules.{chain, closed_before, may_be_else}
-use Rattle.fir_parse.specs.StatementTrees.{open_when_of, statements_before}
+use Rattle.fir_parse.specs.working.StatementTrees.{open_when_of, statements_before}
 
 abbrev closed : OpenWhen → Block → Statement
 closed w last = when w.place w.condition w.block last

@@ -3,7 +3,7 @@ use Rattle.std.proofs.Common.{ℕ, ◌+◌, refl, List, length, Option, Some, No
 use Rattle.std.specs.Str.{bytes_eq}
 use Rattle.fir_ast.specs.declared.place.Place.{Place}
 use Rattle.fir_ast.specs.Expressions.{Expression, reference}
-use Rattle.fir_ast.specs.Statements.{Named, Sink, Statement, Block, done, invalid}
+use Rattle.fir_ast.specs.Statements.{PlacedName, Sink, Statement, Block, done, invalid}
 use Rattle.fir_parse.specs.declared.lexeme.Mark.{Mark}
 use Rattle.fir_parse.specs.declared.lexeme.Mark.TheVariants.{Connect, PartialConnect, Equals, OpenSquare, Colon, Dot}
 use Rattle.fir_parse.specs.declared.words.Declaration.{Declaration}
@@ -33,7 +33,7 @@ KeepsRef None = Unit {0}
 keeps_ref : (d : ℕ) (p : Place) (w : List ℕ) (m : Mark) (q : Place) → KeepsRef (ref_step d p w m q)
 keeps_ref d p w Connect q = λ k after. λ e. (λ r. freed unlimited _ (after _), refl)
 keeps_ref d p w PartialConnect q = λ k after. λ e. (λ r. freed unlimited _ (after _), refl)
-keeps_ref d p w Dot q = λ k after. guarded_dot d 1 (λ ps. wants (behind_sink d (record { place = p; name = w; parts = ps })) k) (λ ps. (λ s. freed unlimited _ (after s), refl))
+keeps_ref d p w Dot q = λ k after. guarded_dot d 1 q (λ ps. wants (behind_sink d (record { place = p; name = w; parts = ps })) k) (λ ps. (λ s. freed unlimited _ (after s), refl))
 keeps_ref d p w OpenSquare q = λ k after. guarded_index d 1 q (λ ps. wants (behind_sink d (record { place = p; name = w; parts = ps })) k) (λ ps. (λ s. freed unlimited _ (after s), refl))
 keeps_ref d p w _ q = tt
 
@@ -47,7 +47,7 @@ guarded_when d p e k after = (λ q. (guarded_when_block d p e k after, tt), refl
 abbrev opened : (Begun → State) → OpenWhen → State
 opened k s = k (open_when s)
 
-guarded_declared : (l : Declaration) (d : ℕ) (p : Place) (n : Named) (k : Begun → State) → ((x : Begun) → After unlimited (k x)) → Guarded (declared l d p n k)
+guarded_declared : (l : Declaration) (d : ℕ) (p : Place) (n : PlacedName) (k : Begun → State) → ((x : Begun) → After unlimited (k x)) → Guarded (declared l d p n k)
 guarded_declared declares.Wire d p n k after = λ r. (λ t. (λ s. freed unlimited _ (after _), refl), tt)
 guarded_declared declares.Reg d p n k after = λ r. (λ t. (λ s. (λ c. (λ i. freed unlimited _ (after _), refl), tt), refl), tt)
 guarded_declared declares.Node d p n k after = λ r. (λ e. (λ s. freed unlimited _ (after _), refl), tt)
@@ -88,7 +88,7 @@ keeps_declaration_of_is (lead.Declares declares.Node) d p q (mark Equals) r = λ
 keeps_declaration_of_is (lead.Declares declares.Inst) d p q (word x) r = keeps_if {T = Begun} unlimited (bytes_eq x (codes "of")) (takes (λ k. instance_rest p (is_named q) (begun k))) refuses (λ k after. λ m. (λ s. freed unlimited _ (after _), tt)) tt
 keeps_declaration_of_is (lead.Declares declares.Mem) d p q (mark Colon) r = λ k after. λ s. (λ fs. after _, tt)
 keeps_declaration_of_is (lead.Declares declares.When) d p q (mark Colon) r = λ k after. guarded_when_block d p _ (opened k) (λ s. after (open_when s))
-keeps_declaration_of_is (lead.Declares declares.When) d p q (mark Dot) r = λ k after. guarded_dot d 1 (λ ps. when_rest d p (reference q (codes "is") ps) (opened k)) (λ ps. guarded_when d p (reference q (codes "is") ps) (opened k) (λ s. after (open_when s)))
+keeps_declaration_of_is (lead.Declares declares.When) d p q (mark Dot) r = λ k after. guarded_dot d 1 r (λ ps. when_rest d p (reference q (codes "is") ps) (opened k)) (λ ps. guarded_when d p (reference q (codes "is") ps) (opened k) (λ s. after (open_when s)))
 keeps_declaration_of_is (lead.Declares declares.When) d p q (mark OpenSquare) r = λ k after. guarded_index d 1 r (λ ps. when_rest d p (reference q (codes "is") ps) (opened k)) (λ ps. guarded_when d p (reference q (codes "is") ps) (opened k) (λ s. after (open_when s)))
 keeps_declaration_of_is _ d p q _ r = tt
 

@@ -1,10 +1,9 @@
 -- Statements whose first words leave more than one way open: behind them two plans read on alike, by the token at hand.
-use Rattle.std.proofs.Common.{◌≡◌, ℕ, ◌+◌, List, [], ◌∷◌, drop, length, Bool, Bor, true, false, codes, if◌then◌else◌, Result, Ok, Err, refl, sym, ap, ◌∙◌}
-use Rattle.std.specs.Result.{IsErrAnd}
+use Rattle.std.proofs.Common.{◌≡◌, ℕ, ◌+◌, List, [], ◌∷◌, drop, length, Bool, Bor, true, false, codes, if◌then◌else◌, Err, refl, sym, ap, ◌∙◌}
 use Rattle.std.specs.Str.{bytes_eq}
 use Rattle.fir_ast.specs.declared.place.Place.{Place}
 use Rattle.fir_ast.specs.declared.fault.FirFault.TheVariants.{Syntax}
-use Rattle.fir_ast.specs.Statements.{Named, Sink, Statement, invalid, skip, done}
+use Rattle.fir_ast.specs.Statements.{PlacedName, Sink, Statement, invalid, skip, done}
 use Rattle.fir_parse.specs.declared.lexeme.Mark.TheVariants.{Connect, PartialConnect, Dot, OpenSquare, Colon, Equals}
 use Rattle.fir_parse.specs.declared.lexeme.Lexeme.{Lexeme as LexemeRef}
 use Rattle.fir_parse.specs.declared.lexeme.Lexeme.TheVariants as code
@@ -17,12 +16,10 @@ use Rattle.fir_parse.specs.Words.{lead_of}
 use Rattle.fir_parse.specs.Symbols.{OpenWhen, Begun, statement, Otherwise, no_else, else_when, a_line_end, a_word, an_expression, an_indented_block, behind_first, behind_is, behind_else, behind_sink, statements}
 use Rattle.fir_parse.specs.States.{State, wants, Step, takes, without, refuses, unsupported}
 use Rattle.fir_parse.specs.StatementRules.{bare, begun, declared, declaration_of_is, declaration_step, behind_otherwise, behind_statement, closed_before, ends_line, instance_rest, invalid_or, is_named, may_be_else, ref_rest, end_behind, stuck_behind, when_rest}
-use Rattle.fir_parse.specs.AtHand.{StandsFirst}
+use Rattle.fir_parse.specs.working.AtHand.{StandsFirst}
 use Rattle.fir_parse.specs.Reading.{Outcome, read_on, at_token, at_end, goes_on, one, step}
-use Rattle.fir_parse.specs.Reads.{Plan, Stops, Leads}
-use Rattle.fir_parse.specs.declared.stop.Stop.{Stop}
-use Rattle.fir_parse.proofs.Plans.{stops_behind}
-use Rattle.fir_parse.specs.StatementTrees.{IsNeither}
+use Rattle.fir_parse.specs.working.Reads.{Plan}
+use Rattle.fir_parse.specs.working.StatementTrees.{IsNeither}
 
 -- states that do alike at the token at hand, and at the end
 pub alike : (A B : State) (l : LexemeRef) (p : Place) (a : List Terminal) (end : Place) → StandsFirst a l p → at_end true end A ≡ at_end true end B → ((behind : State → Outcome) → at_token true A (record { lexeme = seen l; place = p }) behind ≡ at_token true B (record { lexeme = seen l; place = p }) behind) → read_on true end A a ≡ read_on true end B a
@@ -134,7 +131,7 @@ behind_is_declares what d p w q k l r e h behind =
     ap (λ u. goes_on u r k behind (λ x. at_token true (k x) (record { lexeme = seen l; place = r }) behind)) (not_invalid (bare p w) (declaration_of_is (lead_of w) d p q (seen l) r) l h ∙ ap (λ y. declaration_of_is y d p q (seen l) r) (sym e))
     ∙ declares_is what d p q k l r behind
 
-pub declared_at_end : (what : Declaration) (d : ℕ) (p : Place) (n : Named) (k : Begun → State) (end : Place) → at_end true end (declared what d p n k) ≡ Err (Syntax end)
+pub declared_at_end : (what : Declaration) (d : ℕ) (p : Place) (n : PlacedName) (k : Begun → State) (end : Place) → at_end true end (declared what d p n k) ≡ Err (Syntax end)
 declared_at_end declares.Wire d p n k end = refl
 declared_at_end declares.Reg d p n k end = refl
 declared_at_end declares.Node d p n k end = refl
@@ -200,8 +197,3 @@ port_of_memory d p w x q e = rw e refl
 
 pub no_port_of_memory : (d : ℕ) (p : Place) (w x : List ℕ) (q : Place) → bytes_eq x (codes "mport") ≡ false → declaration_step lead.MissingPort d p w x q ≡ refuses
 no_port_of_memory d p w x q e = rw e refl
-
--- the exit of a `?` where a plan leads to another, behind what was read
-pub leaves_behind : {A T U : Type 0} (P : Plan T) (Q : Plan U) (next : A → Plan T) (a b c : List Terminal) (r : Result A Stop) (e : Stop) (f : (T → State) → U → State) → IsErrAnd r (λ s. s ≡ e) → ((end : Place) (k : T → State) → read_on true end (P k) a ≡ read_on true end (Q (f k)) b) → Stops Q b e → Leads P next a c r
-leaves_behind P Q next a b c (Ok x) e f i g h = absurd i
-leaves_behind P Q next a b c (Err s) e f i g h = rw i (stops_behind P Q a b e f g h)

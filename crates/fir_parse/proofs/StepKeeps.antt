@@ -1,23 +1,25 @@
--- Every step keeps the guards, and so does every token that fits.
+-- Every step keeps the guards, and so does every token that is expected.
 use Rattle.std.proofs.Common.{ℕ, List, not}
 use Rattle.std.specs.Str.{bytes_eq}
 use Rattle.fir_ast.specs.declared.place.Place.{Place}
 use Rattle.fir_parse.specs.declared.lexeme.Mark.{Mark}
 use Rattle.fir_parse.specs.Lexemes.{Lexeme, word, integer, mark, line_end, level_opens, level_closes, Terminal}
 use Rattle.fir_parse.specs.Marks.{same_mark}
-use Rattle.fir_parse.specs.Numbers.{has_sign, is_in_range, decimal_value}
+use Rattle.fir_base.specs.Digits.{decimal_value}
+use Rattle.fir_parse.specs.Numbers.{has_sign, is_in_range}
 use Rattle.fir_parse.specs.Symbols.{Sym, a_mark, a_word, a_name, a_field_name, a_natural, a_line_end, an_opening, a_closing, a_type, a_width, dimensions, fields, more_fields, a_field, behind_flip, an_expression, behind_word, parts, an_index, a_literal, statements, behind_first, behind_is, behind_else, behind_sink, an_indented_block, a_reset, behind_with, a_memory_body, a_memory_field, more_memory_fields, more_names, an_under_write, a_text, some_annotations, first_module, more_modules, a_body, ports_and_statements, behind_direction, behind_port_is}
 use Rattle.fir_parse.specs.States.{State, in_range, done, limit, wants, Step, takes, without, refuses, unsupported}
 use Rattle.fir_parse.specs.Reading.{mark_step, word_step, name_step, field_name_step, natural_step, line_end_step, opening_step, closing_step, step, whole}
-use Rattle.fir_parse.specs.TextFaults.{Fit, fits, unfit, missing, fit, fit_by}
-use Rattle.fir_parse.proofs.Guards.{Guard, free, guard_of, Guarded, After}
-use Rattle.fir_parse.proofs.Keeping.{Keeps, keeps_if, keeps_one}
+use Rattle.fir_parse.specs.TextFaults.{Verdict, continues, unexpected, missing, judge, verdict_by}
+use Rattle.fir_parse.proofs.Guards.{Guard, firm, free, guard_of, Guarded, After}
+use Rattle.fir_parse.proofs.Keeping.{Keeps, keeps_if, keeps_one, keeps_mapped}
 use Rattle.fir_parse.proofs.TypeKeeps.{keeps_type, keeps_width, keeps_dimensions, keeps_fields, keeps_more_fields, keeps_field, keeps_flip}
 use Rattle.fir_parse.proofs.ExpressionKeeps.{keeps_expression, keeps_behind_word, keeps_parts, keeps_index, keeps_literal}
 use Rattle.fir_parse.proofs.StatementKeeps.{keeps_statements, keeps_first, keeps_is, keeps_else, keeps_sink, keeps_block}
 use Rattle.fir_parse.proofs.ResetKeeps.{keeps_reset, keeps_with}
 use Rattle.fir_parse.proofs.MemoryKeeps.{keeps_memory_body, keeps_memory_field, keeps_more_memory_fields, keeps_more_names, keeps_under_write}
 use Rattle.fir_parse.proofs.CircuitKeeps.{keeps_text, keeps_annotations, keeps_first_module, keeps_more_modules, keeps_body, keeps_ports, keeps_direction, keeps_port_is}
+use Rattle.fir_parse.specs.TypeRules.{type_at, type_step}
 
 keeps_mark : (m : Mark) (l : Lexeme) (p : Place) → Keeps free (mark_step m l p)
 keeps_mark m (mark n) p = keeps_one (same_mark m n) p
@@ -61,7 +63,7 @@ keeps a_natural l p = keeps_natural l p
 keeps a_line_end l p = keeps_line_end l p
 keeps an_opening l p = keeps_opening l p
 keeps a_closing l p = keeps_closing l p
-keeps (a_type d) l p = keeps_type d l p
+keeps (a_type d) l p = keeps_mapped firm (type_at p) (type_step d l p) (keeps_type d l p)
 keeps a_width l p = keeps_width l p
 keeps (dimensions d t) l p = keeps_dimensions d t l p
 keeps (fields d) l p = keeps_fields d l p
@@ -80,7 +82,7 @@ keeps (behind_else d n q) l p = keeps_else d n q l p
 keeps (behind_sink d s) l p = keeps_sink d s l p
 keeps (an_indented_block d) l p = keeps_block d l
 keeps (a_reset d) l p = keeps_reset d l p
-keeps (behind_with d) l p = keeps_with d l p
+keeps (behind_with d q) l p = keeps_with d q l p
 keeps (a_memory_body d) l p = keeps_memory_body d l
 keeps (a_memory_field d) l p = keeps_memory_field d l p
 keeps (more_memory_fields d) l p = keeps_more_memory_fields d l p
@@ -95,22 +97,22 @@ keeps ports_and_statements l p = keeps_ports l p
 keeps (behind_direction r q w) l p = keeps_direction r q w l p
 keeps (behind_port_is r q w s) l p = keeps_port_is r q w s l p
 
--- the guards hold behind a token that fits
-abbrev pub StaysGuarded : Fit → Type 0
-StaysGuarded (fits next) = Guarded next
-StaysGuarded unfit = Unit {0}
+-- the guards hold behind a token that is expected
+abbrev pub StaysGuarded : Verdict → Type 0
+StaysGuarded (continues next) = Guarded next
+StaysGuarded unexpected = Unit {0}
 StaysGuarded (missing p w) = Unit {0}
 
-stays_by : {T : Type 0} (g : Guard) (u : Step T) (k : T → State) (with_it : T → Fit) → Keeps g u → ((x : T) → After g (k x)) → ((x : T) → StaysGuarded (with_it x)) → StaysGuarded (fit_by u k with_it)
+stays_by : {T : Type 0} (g : Guard) (u : Step T) (k : T → State) (with_it : T → Verdict) → Keeps g u → ((x : T) → After g (k x)) → ((x : T) → StaysGuarded (with_it x)) → StaysGuarded (verdict_by u k with_it)
 stays_by g (takes f) k with_it keep after h = keep k after
 stays_by g (without x) k with_it keep after h = h x
 stays_by g refuses k with_it keep after h = tt
 stays_by g (unsupported p w) k with_it keep after h = tt
 
-pub stays_guarded : (st : State) (t : Terminal) → Guarded st → StaysGuarded (fit st t)
+pub stays_guarded : (st : State) (t : Terminal) → Guarded st → StaysGuarded (judge st t)
 stays_guarded (done c) t h = tt
 stays_guarded (limit passed l st) t h = stays_guarded st t h
-stays_guarded (wants s k) t h = stays_by (guard_of s) (step s t.lexeme t.place) k (λ x. fit (k x) t) (keeps s t.lexeme t.place) h (λ x. stays_guarded (k x) t (h x).0)
+stays_guarded (wants s k) t h = stays_by (guard_of s) (step s t.lexeme t.place) k (λ x. judge (k x) t) (keeps s t.lexeme t.place) h (λ x. stays_guarded (k x) t (h x).0)
 
 pub whole_guarded : Guarded whole
 whole_guarded = λ c. (tt, tt)

@@ -5,14 +5,16 @@ use Rattle.fir_ast.specs.declared.place.Place.{Place}
 use Rattle.fir_parse.specs.declared.lexeme.Mark.{Mark}
 use Rattle.fir_parse.specs.Lexemes.{Lexeme, word, integer, mark, line_end, level_opens, level_closes, Terminal}
 use Rattle.fir_parse.specs.Marks.{same_mark}
-use Rattle.fir_parse.specs.Numbers.{has_sign, is_in_range, decimal_value}
+use Rattle.fir_base.specs.Digits.{decimal_value}
+use Rattle.fir_parse.specs.Numbers.{has_sign, is_in_range}
 use Rattle.fir_parse.specs.Symbols.{Sym, Natural, a_mark, a_word, a_name, a_field_name, a_natural, a_line_end, an_opening, a_closing, a_type, a_width, dimensions, fields, more_fields, a_field, behind_flip, an_expression, behind_word, parts, an_index, a_literal, statements, behind_first, behind_is, behind_else, behind_sink, an_indented_block, a_reset, behind_with, a_memory_body, a_memory_field, more_memory_fields, more_names, an_under_write, a_text, some_annotations, first_module, more_modules, a_body, ports_and_statements, behind_direction, behind_port_is}
 use Rattle.fir_parse.specs.States.{in_range, limit, takes, refuses}
 use Rattle.fir_parse.specs.Reading.{mark_step, word_step, name_step, field_name_step, natural_step, line_end_step, opening_step, closing_step, step}
-use Rattle.fir_parse.proofs.Naming.{at, own_word, Tells, tells_if, tells_one, tells_taken, tells_limited}
+use Rattle.fir_parse.proofs.Naming.{at, own_word, Tells, tells_if, tells_one, tells_taken, tells_limited, tells_mapped}
 use Rattle.fir_parse.proofs.TellingParts.{tells_type, tells_width, tells_dimensions, tells_fields, tells_more_fields, tells_field, tells_flip, tells_expression, tells_behind_word, tells_parts, tells_index, tells_literal, tells_memory_body, tells_memory_field, tells_more_memory_fields, tells_more_names, tells_under_write}
 use Rattle.fir_parse.proofs.TellingStatements.{tells_statements, tells_first, tells_is, tells_else, tells_sink, tells_block, tells_reset, tells_with}
 use Rattle.fir_parse.proofs.TellingCircuits.{tells_text, tells_annotations, tells_first_module, tells_more_modules, tells_body, tells_ports, tells_direction, tells_port_is}
+use Rattle.fir_parse.specs.TypeRules.{type_at, type_step}
 
 tells_mark : (m : Mark) (l : Lexeme) (p : Place) → Tells (at l p) None (mark_step m l p)
 tells_mark m (mark n) p = tells_one (at (mark n) p) None (same_mark m n) p
@@ -59,7 +61,7 @@ tells a_natural l p = tells_natural l p
 tells a_line_end l p = tells_line_end l p
 tells an_opening l p = tells_opening l p
 tells a_closing l p = tells_closing l p
-tells (a_type d) l p = tells_type d l p
+tells (a_type d) l p = tells_mapped (at l p) None (type_at p) (type_step d l p) (tells_type d l p)
 tells a_width l p = tells_width l p
 tells (dimensions d t) l p = tells_dimensions d t l p
 tells (fields d) l p = tells_fields d l p
@@ -78,7 +80,7 @@ tells (behind_else d n q) l p = tells_else d n q l p
 tells (behind_sink d s) l p = tells_sink d s l p
 tells (an_indented_block d) l p = tells_block d l p
 tells (a_reset d) l p = tells_reset d l p
-tells (behind_with d) l p = tells_with d l p
+tells (behind_with d q) l p = tells_with d q l p
 tells (a_memory_body d) l p = tells_memory_body d l p
 tells (a_memory_field d) l p = tells_memory_field d l p
 tells (more_memory_fields d) l p = tells_more_memory_fields d l p

@@ -19,7 +19,8 @@ use Rattle.fir_parse.specs.declared.words.FieldWord.{FieldWord}
 use Rattle.fir_parse.specs.declared.words.FieldWord.TheVariants as memory
 use Rattle.fir_parse.specs.Lexemes.{Lexeme, word, mark, integer, text, line_end, level_opens, level_closes, Terminal}
 use Rattle.fir_parse.specs.Words.{type_word_of, applied_of, field_word_of, under_write_of}
-use Rattle.fir_parse.specs.Numbers.{Numeral, has_sign, is_in_range, is_allowed, decimal_value, integer_value, text_value, literal_of}
+use Rattle.fir_base.specs.Digits.{decimal_value}
+use Rattle.fir_parse.specs.Numbers.{Numeral, has_sign, is_in_range, is_allowed, integer_value, text_value, literal_of}
 use Rattle.fir_parse.specs.Symbols.{FieldTree, plain_index, behind_flip}
 use Rattle.fir_parse.specs.States.{State, Step, limit, in_range, wants, takes, without, refuses, unsupported}
 use Rattle.fir_parse.specs.TypeRules.{by_type_word, type_step, width_step, dimensions_step, then_more, field_behind_name, field_step, flip_step, fields_step, more_fields_step}

@@ -2,7 +2,7 @@
 use Rattle.std.proofs.Common.{ℕ, ◌+◌, List, length, Option, Some, None, codes, refl, inr, if◌then◌else◌}
 use Rattle.std.specs.Str.{bytes_eq}
 use Rattle.fir_ast.specs.declared.place.Place.{Place}
-use Rattle.fir_ast.specs.Statements.{Named, Sink, Statement, Block, done, invalid}
+use Rattle.fir_ast.specs.Statements.{PlacedName, Sink, Statement, Block, done, invalid}
 use Rattle.fir_parse.specs.declared.lexeme.Mark.{Mark}
 use Rattle.fir_parse.specs.declared.lexeme.Mark.TheVariants.{Connect, PartialConnect, Equals, OpenRound, OpenSquare, Colon, Dot}
 use Rattle.fir_parse.specs.declared.words.Declaration.{Declaration}
@@ -33,7 +33,7 @@ tells_ref t own d p w Dot q = λ k plain. tt
 tells_ref t own d p w OpenSquare q = λ k plain. tt
 tells_ref t own d p w _ q = tt
 
-declared_follows : (l : Declaration) (d : ℕ) (p : Place) (n : Named) (k : Begun → State) → Follows (at (word n.name) n.place) (declared l d p n k)
+declared_follows : (l : Declaration) (d : ℕ) (p : Place) (n : PlacedName) (k : Begun → State) → Follows (at (word n.name) n.place) (declared l d p n k)
 declared_follows declares.When d p n k = refl
 declared_follows _ d p n k = tt
 
@@ -115,10 +115,10 @@ tells_block d _ p = tt
 
 pub tells_reset : (d : ℕ) (l : Lexeme) (p : Place) → Tells (at l p) None (reset_step d l p)
 tells_reset d line_end p = tells_taken (at line_end p) None _
-tells_reset d (word w) p = tells_if (at (word w) p) None (bytes_eq w (codes "with")) (takes (λ k. wants (a_mark Colon) (λ q. wants (behind_with d) (λ r. k (Some r))))) refuses (λ k plain. tt) tt
+tells_reset d (word w) p = tells_if (at (word w) p) None (bytes_eq w (codes "with")) (takes (λ k. wants (a_mark Colon) (λ q. wants (behind_with d p) (λ r. k (Some r))))) refuses (λ k plain. tt) tt
 tells_reset d _ p = tt
 
-pub tells_with : (d : ℕ) (l : Lexeme) (p : Place) → Tells (at l p) None (with_step d l p)
-tells_with d (mark OpenRound) p = λ k plain. tt
-tells_with d line_end p = λ k plain. tt
-tells_with d _ p = tt
+pub tells_with : (d : ℕ) (w : Place) (l : Lexeme) (p : Place) → Tells (at l p) None (with_step d w l p)
+tells_with d w (mark OpenRound) p = λ k plain. tt
+tells_with d w line_end p = λ k plain. tt
+tells_with d w _ p = tt

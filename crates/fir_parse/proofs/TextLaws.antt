@@ -7,7 +7,7 @@ use Rattle.fir_lex.specs.Lexed.{lexed}
 use Rattle.fir_parse.specs.Spells.{Spells, end_of, terminals}
 use Rattle.fir_parse.specs.Reading.{Outcome, read}
 use Rattle.fir_parse.specs.TextFaults.{TextFault, IsFirst}
-use Rattle.fir_parse.specs.Laws.{HasTree, HasFault}
+use Rattle.fir_parse.specs.working.Laws.{HasTree, HasFault}
 use Rattle.fir_parse.proofs.FirstFaults.{first_fault}
 use Rattle.fir_parse.proofs.FaultsRead.{one_fault, no_tree}
 

@@ -1,8 +1,7 @@
 -- How a type reads, by the token at hand.
-use Rattle.std.proofs.Common.{◌≡◌, ℕ, ◌+◌, ◌<◌, ◌≤◌, Bool, true, false, List, ◌∷◌, drop, codes, refl, sym, ap, ◌∙◌, subst, Result, Ok, Err, Bor, None, if◌then◌else◌}
+use Rattle.std.proofs.Common.{◌≡◌, ℕ, ◌+◌, ◌<◌, ◌≤◌, Bool, true, false, List, ◌∷◌, drop, codes, refl, sym, ap, ◌∙◌, subst, Bor, None, if◌then◌else◌}
 use Rattle.std.specs.Str.{bytes_eq}
 use Rattle.std.proofs.lemmas.Slice.Eq.{bytes_eq-Decides}
-use Rattle.std.specs.Result.{IsErrAnd}
 use Rattle.fir_ast.specs.declared.place.Place.{Place}
 use Rattle.fir_ast.specs.declared.fault.FirFault.TheVariants.{Depth}
 use Rattle.fir_ast.specs.Types.{DataType, bundle, vector}
@@ -11,28 +10,23 @@ use Rattle.fir_parse.specs.declared.lexeme.Lexeme.TheVariants as code
 use Rattle.fir_parse.specs.declared.lexeme.Mark.TheVariants.{Less, OpenSquare, CloseSquare, OpenCurly, CloseCurly, Comma, Colon}
 use Rattle.fir_parse.specs.declared.stop.Stop.{Stop}
 use Rattle.fir_parse.specs.declared.stop.Stop.TheVariants as stop
-use Rattle.fir_parse.specs.AtHand.{StandsFirst, stop_at}
-use Rattle.fir_parse.specs.BundlePlans.{some_fields}
+use Rattle.fir_parse.specs.working.AtHand.{StandsFirst, stop_at}
+use Rattle.fir_parse.specs.working.BundlePlans.{some_fields}
 use Rattle.fir_parse.specs.Heights.{type_height}
 use Rattle.fir_parse.specs.Lexemes.{seen, word, integer, mark, Terminal}
 use Rattle.fir_parse.specs.Numbers.{has_sign}
-use Rattle.fir_parse.specs.Symbols.{Sym, FieldsTree, FieldTree, a_mark, a_natural, a_field_name, a_type, a_width, dimensions, fields, more_fields, a_field, behind_flip}
+use Rattle.fir_parse.specs.Symbols.{Sym, FieldsTree, FieldTree, a_mark, a_natural, a_field_name, a_type, a_width, dimensions, fields, more_fields, a_field, behind_flip, TypeTree}
 use Rattle.fir_parse.specs.States.{State, Step, wants, without, refuses, opens, ends_form}
-use Rattle.fir_parse.specs.TypeRules.{field_rest, with_field, then_more}
+use Rattle.fir_parse.specs.TypeRules.{field_rest, with_field, then_more, type_at}
 use Rattle.fir_parse.specs.Reading.{read_on, at_token, goes_on, step, Outcome}
-use Rattle.fir_parse.specs.Reads.{Plan, Stops, Leads}
-use Rattle.fir_parse.proofs.Plans.{takes_first, ends_here, stops_behind, ended, not_ended}
+use Rattle.fir_parse.specs.working.Reads.{Plan, Stops}
+use Rattle.fir_parse.proofs.Plans.{takes_first, ends_here, ended, not_ended}
 
 -- where the text has ended, whatever is expected
 pub ends_there : (s : Sym) (a : List Terminal) (l : LexemeRef) (p : Place) (e : Stop) → StandsFirst a l p → l ≡ code.End → e ≡ stop_at l p → Stops (wants s) a e
 ends_there s a l p e h i j =
     let P : LexemeRef → Type 0 = λ x. StandsFirst a x p in
     rw (j ∙ ap (λ x. stop_at x p) i) (ends_here s a (subst P i h))
-
--- the exit of a `?` where another part follows; `f` is how the text goes on behind the part that stops
-pub exits_before : {A T U : Type 0} (P : Plan T) (Q : Plan U) (next : A → Plan T) (a b c : List Terminal) (r : Result A Stop) (e : Stop) (f : (T → State) → U → State) → IsErrAnd r (λ s. s ≡ e) → ((end : Place) (k : T → State) → read_on true end (P k) a ≡ read_on true end (Q (f k)) b) → Stops Q b e → Leads P next a c r
-exits_before P Q next a b c (Ok x) e f i g h = absurd i
-exits_before P Q next a b c (Err s) e f i g h = rw i (stops_behind P Q a b e f g h)
 
 -- a form of a height that is counted beside it
 pub ended_at : (g h : ℕ) → g ≡ h → (p : Place) (st : State) (end : Place) (ts : List Terminal) → g ≤ 256 → read_on true end (ends_form h p st) ts ≡ read_on true end st ts
@@ -90,10 +84,9 @@ closed_bundle d fs = λ k. ends_form (type_height (bundle fs.fields)) fs.close (
 abbrev pub open_bundle : ℕ → Plan DataType
 open_bundle d = λ k. wants (fields (d + 1)) (λ fs. closed_bundle d fs k)
 
-pub begins_bundle : (d : ℕ) (p : Place) (a : List Terminal) → a ≡ record { lexeme = mark OpenCurly; place = p } ∷ drop 1 a → (end : Place) (k : DataType → State) → read_on true end (wants (a_type d) k) a ≡ read_on true end (wants (a_mark OpenCurly) (λ o. opens d o (open_bundle d k))) a
-begins_bundle d p a e end k =
-    takes_first (a_type d) (λ k. opens d p (open_bundle d k)) (mark OpenCurly) p a (drop 1 a) e refl refl end k
-    ∙ sym (takes_first (a_mark OpenCurly) (λ k. k p) (mark OpenCurly) p a (drop 1 a) e refl refl end (λ o. opens d o (open_bundle d k)))
+pub begins_bundle : (d : ℕ) (p : Place) (a b : List Terminal) → a ≡ record { lexeme = mark OpenCurly; place = p } ∷ drop 1 a → b ≡ drop 1 a → (end : Place) (k : TypeTree → State)
+    → read_on true end (wants (a_type d) k) a ≡ read_on true end (opens d p (open_bundle d (λ t. k (type_at p t)))) b
+begins_bundle d p a b e r end k = takes_first (a_type d) (λ k. opens d p (open_bundle d (λ t. k (type_at p t)))) (mark OpenCurly) p a b e r refl end k
 
 pub not_behind_field : (d : ℕ) (l : LexemeRef) (p : Place) → (l ≡ code.Mark Comma → ⊥) → (l ≡ code.Mark CloseCurly → ⊥) → step (more_fields d) (seen l) p ≡ refuses
 not_behind_field d (code.Mark Comma) p h g = absurd (h refl)
@@ -132,7 +125,7 @@ unfolding read_on
 flips_name d q a code.End p e h end k = rw e refl
 flips_name d q a (code.Mark Colon) p e h end k = absurd (h refl)
 flips_name d q a (code.Mark _) p e h end k = rw e refl
-flips_name d q a (code.Integer s) p e h end k = rw e (either_way (at_first end a (digits_at s.now p) k) (at_first end a (digits_at s.now p) (λ n. field_rest d n.place true n.name k)) (has_sign s.now) _ _ _ _ refl refl)
+flips_name d q a (code.Integer s) p e h end k = rw e (either_way (at_first end a (digits_at s.spelling.now p) k) (at_first end a (digits_at s.spelling.now p) (λ n. field_rest d n.place true n.name k)) (has_sign s.spelling.now) _ _ _ _ refl refl)
 flips_name d q a _ p e h end k = rw e refl
 
 -- and before a colon it is a name itself
@@ -145,7 +138,7 @@ pub begins_with_name : (d : ℕ) (a : List Terminal) (l : LexemeRef) (p : Place)
 unfolding read_on
 begins_with_name d a code.End p e h end k = rw e refl
 begins_with_name d a (code.Word x) p e h end k = rw e (rw (h x refl) refl)
-begins_with_name d a (code.Integer s) p e h end k = rw e (either_way (at_first end a (digits_at s.now p) k) (at_first end a (digits_at s.now p) (λ n. field_rest d n.place false n.name k)) (has_sign s.now) _ _ _ _ refl refl)
+begins_with_name d a (code.Integer s) p e h end k = rw e (either_way (at_first end a (digits_at s.spelling.now p) k) (at_first end a (digits_at s.spelling.now p) (λ n. field_rest d n.place false n.name k)) (has_sign s.spelling.now) _ _ _ _ refl refl)
 begins_with_name d a _ p e h end k = rw e refl
 
 abbrev behind_one : ℕ → (FieldsTree → State) → FieldTree → State
@@ -158,5 +151,5 @@ begins_with_field d a code.End p e h end k = rw e refl
 begins_with_field d a (code.Mark CloseCurly) p e h end k = absurd (h refl)
 begins_with_field d a (code.Mark _) p e h end k = rw e refl
 begins_with_field d a (code.Word x) p e h end k = rw e (either_way (λ s. at_first end a (word_at x.now p) k (then_more d s)) (at_first end a (word_at x.now p) (behind_one d k)) (bytes_eq x.now (codes "flip")) _ _ _ _ refl refl)
-begins_with_field d a (code.Integer s) p e h end k = rw e (either_way (λ t. at_first end a (digits_at s.now p) k (then_more d t)) (at_first end a (digits_at s.now p) (behind_one d k)) (has_sign s.now) _ _ _ _ refl refl)
+begins_with_field d a (code.Integer s) p e h end k = rw e (either_way (λ t. at_first end a (digits_at s.spelling.now p) k (then_more d t)) (at_first end a (digits_at s.spelling.now p) (behind_one d k)) (has_sign s.spelling.now) _ _ _ _ refl refl)
 begins_with_field d a _ p e h end k = rw e refl

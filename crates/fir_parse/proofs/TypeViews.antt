@@ -1,11 +1,11 @@
 -- What each form of a type of the code stands for.
 use Rattle.std.proofs.Common.{◌≡◌, ℕ, Option, map, sym, ap, ◌∙◌, Vec, Box, Global}
-use Rattle.fir_ast.specs.declared.types.Field.{Field, fold_out-Field}
+use Rattle.fir_ast.specs.declared.types.Field.{Field}
 use Rattle.fir_ast.specs.declared.types.Ty.{Ty, fold-roll-Ty}
 use Rattle.fir_ast.specs.declared.types.Ty.TheVariants as code
 use Rattle.fir_ast.specs.declared.types.Ty.TheOpen as layer
-use Rattle.fir_ast.specs.Types.{DataType, uint, sint, clock, reset, async_reset, bundle, vector, Fields, field}
-use Rattle.fir_ast.specs.BundleText.{field_of}
+use Rattle.fir_ast.specs.Types.{DataType, uint, sint, clock, reset, async_reset, bundle, vector, Fields}
+use Rattle.fir_ast.specs.working.BundleText.{field_of}
 use Rattle.fir_ast.specs.View.{type_of, fields_of, type_step, field_step}
 
 pub uint_view : (w : Option ℕ) → type_of (code.UInt w) ≡ uint w
@@ -28,6 +28,3 @@ bundle_view fs = ap type_of (sym (code.rolls-Bundle fs)) ∙ fold-roll-Ty DataTy
 
 pub vector_view : (t : Box Ty Global) (n : ℕ) → type_of (code.Vector t n) ≡ vector (type_of t.value) n
 vector_view t n = ap type_of (sym (code.rolls-Vector t n)) ∙ fold-roll-Ty DataType (Fields → Fields) type_step field_step (layer.Vector t n)
-
-pub field_view : (f : Field) (rest : Fields) → field_of f rest ≡ field f.place f.flip f.name (type_of f.ty) rest
-field_view f rest = ap (λ (g : Fields → Fields). g rest) (fold_out-Field DataType (Fields → Fields) type_step field_step f)

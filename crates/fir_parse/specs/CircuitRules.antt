@@ -6,7 +6,7 @@ use Rattle.std.specs.Prelude.{ℕ, Bool, List, [], ◌∷◌, not, ◌||◌, nat
 use Rattle.std.specs.Str.{bytes_eq}
 use Rattle.fir_base.specs.declared.direction.Direction.{Direction}
 use Rattle.fir_ast.specs.declared.place.Place.{Place}
-use Rattle.fir_ast.specs.Statements.{Named, done, invalid}
+use Rattle.fir_ast.specs.Statements.{PlacedName, done, invalid}
 use Rattle.fir_ast.specs.Circuits.{PortTree, ModuleTree, CircuitTree}
 use Rattle.fir_parse.specs.declared.lexeme.Mark.TheVariants.{Colon, Dot}
 use Rattle.fir_parse.specs.declared.words.ModuleWord.{ModuleWord}
@@ -47,15 +47,15 @@ abbrev pub annotations_step : Lexeme → Step (Unit {0})
 annotations_step annotations = takes (λ k. k tt)
 annotations_step _ = without tt
 
--- behind the word `module`
-abbrev pub one_module : (ModuleTree → State) → State
-one_module k = wants a_name (λ n. wants (a_mark Colon) (λ p. wants a_line_end (λ q. wants a_body (λ b. k (record { named = n; ports = b.ports; body = b.block })))))
+-- behind the word `module` at a place
+abbrev pub one_module : Place → (ModuleTree → State) → State
+one_module w k = wants a_name (λ n. wants (a_mark Colon) (λ p. wants a_line_end (λ q. wants a_body (λ b. k (record { place = w; named = n; ports = b.ports; body = b.block })))))
 
-abbrev pub module_rest : (List ModuleTree → State) → State
-module_rest k = one_module (λ m. wants more_modules (λ ms. k (m ∷ ms)))
+abbrev pub module_rest : Place → (List ModuleTree → State) → State
+module_rest w k = one_module w (λ m. wants more_modules (λ ms. k (m ∷ ms)))
 
 abbrev pub by_module_word : ModuleWord → Place → List ℕ → Step (List ModuleTree)
-by_module_word modules.Module p w = takes (λ k. module_rest k)
+by_module_word modules.Module p w = takes (λ k. module_rest p k)
 by_module_word modules.Missing p w = unsupported p w
 by_module_word modules.Name p w = refuses
 
@@ -93,8 +93,8 @@ ports_step (word w) p = body_by_word (direction_of w) p w
 ports_step _ p = refuses
 
 -- behind `input name :` or `output name :`
-abbrev pub port_rest : Direction → Named → (PortOr → State) → State
-port_rest r n k = wants (a_type 0) (λ t. ends_line (port (record { direction = r; named = n; data_type = t })) k)
+abbrev pub port_rest : Direction → PlacedName → (PortOr → State) → State
+port_rest r n k = wants (a_type 0) (λ t. ends_line (port (record { direction = r; named = n; type_place = t.place; data_type = t.data_type })) k)
 
 -- behind the word `input` or `output`: a port's name, or a statement that begins with a ref
 abbrev pub direction_step : Direction → Place → List ℕ → Lexeme → Place → Step PortOr

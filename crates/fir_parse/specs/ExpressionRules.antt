@@ -17,7 +17,8 @@ use Rattle.fir_parse.specs.declared.words.Applied.{Applied}
 use Rattle.fir_parse.specs.declared.words.Applied.TheVariants as applied
 use Rattle.fir_parse.specs.Lexemes.{Lexeme, word, mark, integer, text}
 use Rattle.fir_parse.specs.Words.{applied_of}
-use Rattle.fir_parse.specs.Numbers.{Numeral, integer_value, text_value, has_sign, is_in_range, is_allowed, literal_of, decimal_value}
+use Rattle.fir_base.specs.Digits.{decimal_value}
+use Rattle.fir_parse.specs.Numbers.{Numeral, integer_value, text_value, has_sign, is_in_range, is_allowed, literal_of}
 use Rattle.fir_parse.specs.Heights.{height}
 use Rattle.fir_parse.specs.Symbols.{IndexTree, plain_index, computed_index, a_mark, a_field_name, a_natural, an_expression, behind_word, parts, an_index, a_literal}
 use Rattle.fir_parse.specs.States.{State, limit, in_range, wants, Step, takes, without, refuses, unsupported, opens, ends_form}
@@ -85,36 +86,36 @@ sized_by applied.SInt d p w = sized_rest true d p
 sized_by _ d p w = without (reference p w no_parts)
 
 -- "." fieldname, behind its dot, and the parts that follow; the form ends at the field's name
-abbrev pub dot_rest : ℕ → ℕ → (Parts → State) → State
-dot_rest d h k = wants a_field_name (λ f. ends_form (h + 1) f.place (wants (parts d (h + 1)) (λ ps. k (subfield f.place f.name ps))))
+abbrev pub dot_rest : ℕ → ℕ → Place → (Parts → State) → State
+dot_rest d h p k = wants a_field_name (λ f. ends_form (h + 1) f.place (wants (parts d (h + 1)) (λ ps. k (subfield p f.place f.name ps))))
 
 -- the height of what was indexed, with its index
 abbrev pub indexed_height : ℕ → IndexTree → ℕ
 indexed_height h (plain_index p n) = h + 1
 indexed_height h (computed_index e) = max h (height e) + 1
 
-abbrev pub indexed : IndexTree → Parts → Parts
-indexed (plain_index p n) ps = subindex p n ps
-indexed (computed_index e) ps = subaccess e ps
+abbrev pub indexed : Place → IndexTree → Parts → Parts
+indexed p (plain_index q n) ps = subindex p q n ps
+indexed p (computed_index e) ps = subaccess p e ps
 
 -- "[" int "]" or "[" expr "]", behind its bracket, and the parts that follow; the form ends at the closing bracket
 abbrev pub index_rest : ℕ → ℕ → Place → (Parts → State) → State
 index_rest d h p k =
-    opens d p (wants (an_index (d + 1)) (λ i. wants (a_mark CloseSquare) (λ q. ends_form (indexed_height h i) q (wants (parts d (indexed_height h i)) (λ ps. k (indexed i ps))))))
+    opens d p (wants (an_index (d + 1)) (λ i. wants (a_mark CloseSquare) (λ q. ends_form (indexed_height h i) q (wants (parts d (indexed_height h i)) (λ ps. k (indexed p i ps))))))
 
 -- a name and what follows it
 abbrev pub reference_rest : ℕ → Place → List ℕ → (Sink → State) → State
 reference_rest d p w k = wants (parts d 1) (λ ps. k (record { place = p; name = w; parts = ps }))
 
 abbrev pub parts_step : ℕ → ℕ → Lexeme → Place → Step Parts
-parts_step d h (mark Dot) p = takes (λ k. dot_rest d h k)
+parts_step d h (mark Dot) p = takes (λ k. dot_rest d h p k)
 parts_step d h (mark OpenSquare) p = takes (λ k. index_rest d h p k)
 parts_step d h _ p = without no_parts
 
 abbrev pub behind_word_step : ℕ → Place → List ℕ → Lexeme → Place → Step Expression
 behind_word_step d p w (mark OpenRound) q = applied_rest (applied_of w) d p w q
 behind_word_step d p w (mark Less) q = sized_by (applied_of w) d p w
-behind_word_step d p w (mark Dot) q = takes (λ k. dot_rest d 1 (λ ps. k (reference p w ps)))
+behind_word_step d p w (mark Dot) q = takes (λ k. dot_rest d 1 q (λ ps. k (reference p w ps)))
 behind_word_step d p w (mark OpenSquare) q = takes (λ k. index_rest d 1 q (λ ps. k (reference p w ps)))
 behind_word_step d p w _ q = without (reference p w no_parts)
 

@@ -17,7 +17,7 @@ abbrev mutual
   -- of the tallest field
   pub fields_height : Fields → ℕ
   fields_height no_fields = 0
-  fields_height (field place flip name t rest) = max (type_height t) (fields_height rest)
+  fields_height (field place flip name begins t rest) = max (type_height t) (fields_height rest)
 
 abbrev mutual
   pub height : Expression → ℕ
@@ -30,9 +30,9 @@ abbrev mutual
   -- of what has a height, with parts behind it
   pub height_with : Parts → ℕ → ℕ
   height_with no_parts h = h
-  height_with (subfield place name rest) h = height_with rest (h + 1)
-  height_with (subindex place n rest) h = height_with rest (h + 1)
-  height_with (subaccess e rest) h = height_with rest (max h (height e) + 1)
+  height_with (subfield first place name rest) h = height_with rest (h + 1)
+  height_with (subindex first place n rest) h = height_with rest (h + 1)
+  height_with (subaccess first e rest) h = height_with rest (max h (height e) + 1)
 
   pub tallest : Expressions → ℕ
   tallest no_expressions = 0

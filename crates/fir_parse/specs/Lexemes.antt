@@ -67,7 +67,7 @@ option_mark None = other
 abbrev pub seen : LexemeRef → Lexeme
 seen (code.Word s) = word s.now
 seen (code.DashWord s) = dash_word s.now
-seen (code.Integer s) = integer s.now
+seen (code.Integer i) = integer i.spelling.now
 seen (code.Text s) = text s.now
 seen (code.Mark m) = mark m
 seen code.Annotations = annotations

@@ -4,7 +4,7 @@
 use Rattle.std.specs.Prelude.{ℕ, List, [], ◌∷◌, Option, Some, None}
 use Rattle.fir_ast.specs.declared.place.Place.{Place}
 use Rattle.fir_ast.specs.declared.statements.ReadUnderWrite.{ReadUnderWrite}
-use Rattle.fir_ast.specs.Statements.{Named, MemoryPart, data_type, depth, read_latency, write_latency, reader, writer, readwriter, read_under_write}
+use Rattle.fir_ast.specs.Statements.{PlacedName, MemoryPart, data_type, depth, read_latency, write_latency, reader, writer, readwriter, read_under_write}
 use Rattle.fir_parse.specs.declared.lexeme.Mark.TheVariants.{Arrow}
 use Rattle.fir_parse.specs.declared.words.FieldWord.{FieldWord}
 use Rattle.fir_parse.specs.declared.words.FieldWord.TheVariants as memory
@@ -22,14 +22,14 @@ abbrev pub number_field : (Place → ℕ → MemoryPart) → Place → (MemoryPa
 number_field make p k = number_plan (λ n. k (make p n))
 
 -- "=>" name+ NL
-abbrev pub names_plan : (List Named → State) → State
+abbrev pub names_plan : (List PlacedName → State) → State
 names_plan k = wants (a_mark Arrow) (λ q. wants a_name (λ n. wants more_names (λ ns. k (n ∷ ns))))
 
-abbrev pub names_field : (Place → List Named → MemoryPart) → Place → (MemoryPart → State) → State
+abbrev pub names_field : (Place → List PlacedName → MemoryPart) → Place → (MemoryPart → State) → State
 names_field make p k = names_plan (λ ns. k (make p ns))
 
 abbrev pub by_field_word : FieldWord → ℕ → Place → Step MemoryPart
-by_field_word memory.DataType d p = takes (λ k. wants (a_mark Arrow) (λ q. wants (a_type d) (λ t. ends_line (data_type p t) k)))
+by_field_word memory.DataType d p = takes (λ k. wants (a_mark Arrow) (λ q. wants (a_type d) (λ t. ends_line (data_type p t.place t.data_type) k)))
 by_field_word memory.Depth d p = takes (λ k. number_field depth p k)
 by_field_word memory.ReadLatency d p = takes (λ k. number_field read_latency p k)
 by_field_word memory.WriteLatency d p = takes (λ k. number_field write_latency p k)
@@ -59,7 +59,7 @@ more_memory_fields_step d level_closes p = takes (λ k. k [])
 more_memory_fields_step d l p = then_fields d (memory_field_step d l p)
 
 -- the names of one line, up to its end
-abbrev pub more_names_step : Lexeme → Place → Step (List Named)
+abbrev pub more_names_step : Lexeme → Place → Step (List PlacedName)
 more_names_step line_end p = takes (λ k. k [])
 more_names_step (word w) p = takes (λ k. wants more_names (λ ns. k (record { place = p; name = w } ∷ ns)))
 more_names_step _ p = refuses

@@ -1,5 +1,6 @@
 -- The numbers of integers and of literals (FIRRTL spec, "Details about Syntax", "Literals").
-use Rattle.std.specs.Prelude.{ℕ, ◌+◌, ◌-◌, ◌*◌, ◌^◌, List, [], ◌∷◌, fold, Bool, true, false, not, ◌&&◌, ◌||◌, nat_eq, nat_le, nat_lt, Option, Some, None, if◌then◌else◌}
+use Rattle.std.specs.Prelude.{ℕ, ◌+◌, ◌*◌, ◌^◌, List, [], ◌∷◌, Bool, true, false, not, ◌&&◌, ◌||◌, nat_eq, nat_lt, Option, Some, None, if◌then◌else◌}
+use Rattle.fir_base.specs.Digits.{digit_value, decimal_value}
 use Rattle.fir_ast.specs.declared.place.Place.{Place}
 use Rattle.fir_ast.specs.declared.expressions.Literal.{Literal}
 
@@ -10,10 +11,6 @@ pub record Numeral : Type 0 where
 
 abbrev pub is_in_range : ℕ → Bool
 is_in_range n = nat_lt n (2 ^ 128)
-
--- the number that decimal digits spell
-abbrev pub decimal_value : List ℕ → ℕ
-decimal_value = fold (λ n d. 10 * n + (d - 48)) 0
 
 -- an integer of the text: digits, behind a sign or none
 abbrev pub integer_value : List ℕ → Numeral
@@ -26,14 +23,6 @@ integer_value (b ∷ bs) =
 abbrev pub has_sign : List ℕ → Bool
 has_sign [] = false
 has_sign (b ∷ bs) = nat_eq b 43 || nat_eq b 45
-
--- a digit of up to sixteen, in either case
-abbrev pub digit_value : ℕ → Option ℕ
-digit_value b =
-    if nat_le 48 b && nat_le b 57 then Some (b - 48)
-    else if nat_le 97 b && nat_le b 102 then Some (b - 87)
-    else if nat_le 65 b && nat_le b 70 then Some (b - 55)
-    else None
 
 abbrev pub next_value : ℕ → ℕ → Option ℕ → Option ℕ
 next_value radix n None = None

@@ -4,15 +4,16 @@ use Rattle.std.specs.Str.{bytes_eq}
 use Rattle.fir_ast.specs.declared.place.Place.{Place}
 use Rattle.fir_ast.specs.declared.fault.FirFault.{FirFault}
 use Rattle.fir_ast.specs.declared.fault.FirFault.TheVariants.{Syntax, Unsupported}
-use Rattle.fir_ast.specs.Statements.{Named}
+use Rattle.fir_ast.specs.Statements.{PlacedName}
 use Rattle.fir_ast.specs.Circuits.{CircuitTree}
 use Rattle.fir_parse.specs.declared.lexeme.Mark.{Mark}
 use Rattle.fir_parse.specs.Lexemes.{Lexeme, word, integer, mark, line_end, level_opens, level_closes, Terminal}
 use Rattle.fir_parse.specs.Marks.{same_mark}
-use Rattle.fir_parse.specs.Numbers.{has_sign, is_in_range, decimal_value}
+use Rattle.fir_base.specs.Digits.{decimal_value}
+use Rattle.fir_parse.specs.Numbers.{has_sign, is_in_range}
 use Rattle.fir_parse.specs.Symbols.{Sym, Tree, Natural, a_mark, a_word, a_name, a_field_name, a_natural, a_line_end, an_opening, a_closing, a_type, a_width, dimensions, fields, more_fields, a_field, behind_flip, an_expression, behind_word, parts, an_index, a_literal, statements, behind_first, behind_is, behind_else, behind_sink, an_indented_block, a_reset, behind_with, a_memory_body, a_memory_field, more_memory_fields, more_names, an_under_write, a_text, some_annotations, first_module, more_modules, a_body, ports_and_statements, behind_direction, behind_port_is}
-use Rattle.fir_parse.specs.States.{State, done, in_range, fault_of, limit, wants, Step, takes, without, refuses, unsupported}
-use Rattle.fir_parse.specs.TypeRules.{type_step, width_step, dimensions_step, field_step, flip_step, fields_step, more_fields_step}
+use Rattle.fir_parse.specs.States.{State, done, in_range, fault_of, limit, wants, Step, takes, without, refuses, unsupported, mapped}
+use Rattle.fir_parse.specs.TypeRules.{type_at, type_step, width_step, dimensions_step, field_step, flip_step, fields_step, more_fields_step}
 use Rattle.fir_parse.specs.ExpressionRules.{expression_step, behind_word_step, parts_step, index_step, literal_step}
 use Rattle.fir_parse.specs.StatementRules.{statements_step, first_step, is_step, else_step, sink_step, block_step, reset_step, with_step}
 use Rattle.fir_parse.specs.MemoryRules.{memory_body_step, memory_field_step, more_memory_fields_step, more_names_step, under_write_step}
@@ -30,12 +31,12 @@ abbrev pub word_step : List ℕ → Lexeme → Place → Step Place
 word_step w (word x) p = one (bytes_eq x w) p
 word_step w _ p = refuses
 
-abbrev pub name_step : Lexeme → Place → Step Named
+abbrev pub name_step : Lexeme → Place → Step PlacedName
 name_step (word w) p = takes (λ k. k (record { place = p; name = w }))
 name_step _ p = refuses
 
 -- a word, or a run of digits
-abbrev pub field_name_step : Lexeme → Place → Step Named
+abbrev pub field_name_step : Lexeme → Place → Step PlacedName
 field_name_step (word w) p = takes (λ k. k (record { place = p; name = w }))
 field_name_step (integer s) p = if has_sign s then refuses else takes (λ k. k (record { place = p; name = s }))
 field_name_step _ p = refuses
@@ -69,7 +70,7 @@ step a_natural l p = natural_step l p
 step a_line_end l p = line_end_step l p
 step an_opening l p = opening_step l p
 step a_closing l p = closing_step l p
-step (a_type d) l p = type_step d l p
+step (a_type d) l p = mapped (type_at p) (type_step d l p)
 step a_width l p = width_step l
 step (dimensions d t) l p = dimensions_step d t l p
 step (fields d) l p = fields_step d l p
@@ -88,7 +89,7 @@ step (behind_else d n q) l p = else_step d n q l p
 step (behind_sink d s) l p = sink_step d s l p
 step (an_indented_block d) l p = block_step d l
 step (a_reset d) l p = reset_step d l p
-step (behind_with d) l p = with_step d l p
+step (behind_with d q) l p = with_step d q l p
 step (a_memory_body d) l p = memory_body_step d l
 step (a_memory_field d) l p = memory_field_step d l p
 step (more_memory_fields d) l p = more_memory_fields_step d l p

@@ -10,7 +10,7 @@ use Rattle.std.specs.Prelude.{ℕ, ◌+◌, List, [], ◌∷◌, ◌++◌, lengt
 use Rattle.std.specs.Str.{bytes_eq}
 use Rattle.fir_ast.specs.declared.place.Place.{Place}
 use Rattle.fir_ast.specs.Expressions.{Expression, reference, no_parts}
-use Rattle.fir_ast.specs.Statements.{Named, Sink, Reset, Statement, wire, register, node, instance, memory, when, connect, partial_connect, invalid, skip, Block, done, then}
+use Rattle.fir_ast.specs.Statements.{PlacedName, Sink, Reset, Statement, wire, register, node, instance, memory, when, connect, partial_connect, invalid, skip, Block, done, then}
 use Rattle.fir_parse.specs.declared.lexeme.Mark.{Mark}
 use Rattle.fir_parse.specs.declared.lexeme.Mark.TheVariants.{Connect, PartialConnect, Arrow, Equals, OpenRound, CloseRound, OpenSquare, Comma, Colon, Dot}
 use Rattle.fir_parse.specs.declared.words.Declaration.{Declaration}
@@ -48,29 +48,29 @@ sink_step d s _ p = refuses
 abbrev pub ref_step : ℕ → Place → List ℕ → Mark → Place → Option (Step Statement)
 ref_step d p w Connect q = Some (takes (λ k. connect_rest d (bare p w) k))
 ref_step d p w PartialConnect q = Some (takes (λ k. partial_connect_rest d (bare p w) k))
-ref_step d p w Dot q = Some (takes (λ k. dot_rest d 1 (λ ps. wants (behind_sink d (record { place = p; name = w; parts = ps })) k)))
+ref_step d p w Dot q = Some (takes (λ k. dot_rest d 1 q (λ ps. wants (behind_sink d (record { place = p; name = w; parts = ps })) k)))
 ref_step d p w OpenSquare q = Some (takes (λ k. index_rest d 1 q (λ ps. wants (behind_sink d (record { place = p; name = w; parts = ps })) k)))
 ref_step d p w _ q = None
 
 -- behind `wire name :`
-abbrev pub wire_rest : ℕ → Place → Named → (Statement → State) → State
-wire_rest d p n k = wants (a_type d) (λ t. ends_line (wire p n t) k)
+abbrev pub wire_rest : ℕ → Place → PlacedName → (Statement → State) → State
+wire_rest d p n k = wants (a_type d) (λ t. ends_line (wire p n t.place t.data_type) k)
 
 -- behind `reg name :`
-abbrev pub register_rest : ℕ → Place → Named → (Statement → State) → State
+abbrev pub register_rest : ℕ → Place → PlacedName → (Statement → State) → State
 register_rest d p n k =
-    wants (a_type d) (λ t. wants (a_mark Comma) (λ q. wants (an_expression d) (λ c. wants (a_reset d) (λ r. k (register p n t c r)))))
+    wants (a_type d) (λ t. wants (a_mark Comma) (λ q. wants (an_expression d) (λ c. wants (a_reset d) (λ r. k (register p n t.place t.data_type c r)))))
 
 -- behind `node name =`
-abbrev pub node_rest : ℕ → Place → Named → (Statement → State) → State
+abbrev pub node_rest : ℕ → Place → PlacedName → (Statement → State) → State
 node_rest d p n k = wants (an_expression d) (λ e. ends_line (node p n e) k)
 
 -- behind `inst name of`
-abbrev pub instance_rest : Place → Named → (Statement → State) → State
+abbrev pub instance_rest : Place → PlacedName → (Statement → State) → State
 instance_rest p n k = wants a_name (λ m. ends_line (instance p n m) k)
 
 -- behind `mem name :`
-abbrev pub memory_rest : ℕ → Place → Named → (Statement → State) → State
+abbrev pub memory_rest : ℕ → Place → PlacedName → (Statement → State) → State
 memory_rest d p n k = wants a_line_end (λ q. wants (a_memory_body d) (λ fs. k (memory p n fs)))
 
 -- behind the colon of a when
@@ -89,7 +89,7 @@ abbrev pub ref_rest : ℕ → Place → List ℕ → (Statement → State) → S
 ref_rest d p w k = reference_rest d p w (λ s. wants (behind_sink d s) k)
 
 -- a declaration behind its name, or a when behind the first word of its condition
-abbrev pub declared : Declaration → ℕ → Place → Named → (Begun → State) → State
+abbrev pub declared : Declaration → ℕ → Place → PlacedName → (Begun → State) → State
 declared declares.Wire d p n k = wants (a_mark Colon) (λ r. wire_rest d p n (begun k))
 declared declares.Reg d p n k = wants (a_mark Colon) (λ r. register_rest d p n (begun k))
 declared declares.Node d p n k = wants (a_mark Equals) (λ r. node_rest d p n (begun k))
@@ -127,7 +127,7 @@ first_step d p w (word x) q =
 first_step d p w line_end q = end_behind (lead_of w) p w
 first_step d p w _ q = stuck_behind (lead_of w) p w
 
-abbrev pub is_named : Place → Named
+abbrev pub is_named : Place → PlacedName
 is_named q = record { place = q; name = codes "is" }
 
 -- a declaration of the name `is`, or a when whose condition begins with it, behind that name
@@ -138,7 +138,7 @@ declaration_of_is (lead.Declares declares.Node) d p q (mark Equals) r = takes (�
 declaration_of_is (lead.Declares declares.Inst) d p q (word x) r = if bytes_eq x (codes "of") then takes (λ k. instance_rest p (is_named q) (begun k)) else refuses
 declaration_of_is (lead.Declares declares.Mem) d p q (mark Colon) r = takes (λ k. memory_rest d p (is_named q) (begun k))
 declaration_of_is (lead.Declares declares.When) d p q (mark Colon) r = takes (λ k. when_block d p (reference q (codes "is") no_parts) (λ s. k (open_when s)))
-declaration_of_is (lead.Declares declares.When) d p q (mark Dot) r = takes (λ k. dot_rest d 1 (λ ps. when_rest d p (reference q (codes "is") ps) (λ s. k (open_when s))))
+declaration_of_is (lead.Declares declares.When) d p q (mark Dot) r = takes (λ k. dot_rest d 1 r (λ ps. when_rest d p (reference q (codes "is") ps) (λ s. k (open_when s))))
 declaration_of_is (lead.Declares declares.When) d p q (mark OpenSquare) r = takes (λ k. index_rest d 1 r (λ ps. when_rest d p (reference q (codes "is") ps) (λ s. k (open_when s))))
 declaration_of_is _ d p q _ r = refuses
 
@@ -201,19 +201,19 @@ abbrev pub block_step : ℕ → Lexeme → Step Block
 block_step d level_opens = takes (λ k. wants (statements d []) k)
 block_step d _ = without done
 
--- "reset" "=>" "(" expr "," expr ")"
-abbrev pub reset_rest : ℕ → (Reset → State) → State
-reset_rest d k =
+-- "reset" "=>" "(" expr "," expr ")", behind the word `with` at a place
+abbrev pub reset_rest : ℕ → Place → (Reset → State) → State
+reset_rest d w k =
     wants (a_word (codes "reset")) (λ p. wants (a_mark Arrow) (λ q. wants (a_mark OpenRound) (λ r. opens d r
-    (wants (an_expression (d + 1)) (λ c. wants (a_mark Comma) (λ s. wants (an_expression (d + 1)) (λ i. wants (a_mark CloseRound) (λ t. k (record { condition = c; init = i })))))))))
+    (wants (an_expression (d + 1)) (λ c. wants (a_mark Comma) (λ s. wants (an_expression (d + 1)) (λ i. wants (a_mark CloseRound) (λ t. k (record { place = w; condition = c; init = i })))))))))
 
 -- [ with ] NL
 abbrev pub reset_step : ℕ → Lexeme → Place → Step (Option Reset)
 reset_step d line_end p = takes (λ k. k None)
-reset_step d (word w) p = if bytes_eq w (codes "with") then takes (λ k. wants (a_mark Colon) (λ q. wants (behind_with d) (λ r. k (Some r)))) else refuses
+reset_step d (word w) p = if bytes_eq w (codes "with") then takes (λ k. wants (a_mark Colon) (λ q. wants (behind_with d p) (λ r. k (Some r)))) else refuses
 reset_step d _ p = refuses
 
-abbrev pub with_step : ℕ → Lexeme → Place → Step Reset
-with_step d (mark OpenRound) p = takes (λ k. opens d p (reset_rest (d + 1) (λ r. wants (a_mark CloseRound) (λ q. ends_line r k))))
-with_step d line_end p = takes (λ k. wants an_opening (λ q. reset_rest d (λ r. ends_line r (λ s. wants a_closing (λ t. k s)))))
-with_step d _ p = refuses
+abbrev pub with_step : ℕ → Place → Lexeme → Place → Step Reset
+with_step d w (mark OpenRound) p = takes (λ k. opens d p (reset_rest (d + 1) w (λ r. wants (a_mark CloseRound) (λ q. ends_line r k))))
+with_step d w line_end p = takes (λ k. wants an_opening (λ q. reset_rest d w (λ r. ends_line r (λ s. wants a_closing (λ t. k s)))))
+with_step d w _ p = refuses

@@ -26,7 +26,7 @@ pub data State : Type 0 where
   wants : (s : Sym) → (Tree s → State) → State
 
 -- what a token does in a place: it is taken, and so the text goes on; nothing of what is expected stands here, and the token belongs to what
--- follows; it fits nothing; or it or the word before it begins a form that is not in the language
+-- follows; it is not expected; or it or the word before it begins a form that is not in the language
 pub data Step (T : Type 0) : Type 0 where
   takes : ((T → State) → State) → Step T
   without : T → Step T

@@ -8,7 +8,7 @@ use Rattle.fir_ast.specs.declared.expressions.Literal.{Literal}
 use Rattle.fir_ast.specs.declared.statements.ReadUnderWrite.{ReadUnderWrite}
 use Rattle.fir_ast.specs.Types.{DataType, Fields}
 use Rattle.fir_ast.specs.Expressions.{Expression, Parts}
-use Rattle.fir_ast.specs.Statements.{Named, Sink, Reset, MemoryPart, Statement, Block}
+use Rattle.fir_ast.specs.Statements.{PlacedName, Sink, Reset, MemoryPart, Statement, Block}
 use Rattle.fir_ast.specs.Circuits.{PortTree, ModuleTree, CircuitTree}
 use Rattle.fir_parse.specs.declared.lexeme.Mark.{Mark}
 
@@ -43,10 +43,16 @@ pub record FieldsTree : Type 0 where
   pub fields : Fields
   pub close : Place
 
+-- a type, and where it begins
+pub record TypeTree : Type 0 where
+  pub place : Place
+  pub data_type : DataType
+
 pub record FieldTree : Type 0 where
   pub place : Place
   pub flip : Bool
   pub name : List ℕ
+  pub type_place : Place
   pub data_type : DataType
 
 -- an index of a reference
@@ -90,7 +96,7 @@ pub data Sym : Type 0 where
   behind_sink : ℕ → Sink → Sym
   an_indented_block : ℕ → Sym
   a_reset : ℕ → Sym
-  behind_with : ℕ → Sym
+  behind_with : ℕ → Place → Sym
   -- memories
   a_memory_body : ℕ → Sym
   a_memory_field : ℕ → Sym
@@ -111,13 +117,13 @@ pub data Sym : Type 0 where
 abbrev pub Tree : Sym → Type 0
 Tree (a_mark m) = Place
 Tree (a_word w) = Place
-Tree a_name = Named
-Tree a_field_name = Named
+Tree a_name = PlacedName
+Tree a_field_name = PlacedName
 Tree a_natural = Natural
 Tree a_line_end = Place
 Tree an_opening = Place
 Tree a_closing = Place
-Tree (a_type d) = DataType
+Tree (a_type d) = TypeTree
 Tree a_width = Option ℕ
 Tree (dimensions d t) = DataType
 Tree (fields d) = FieldsTree
@@ -136,11 +142,11 @@ Tree (behind_else d n p) = Otherwise
 Tree (behind_sink d s) = Statement
 Tree (an_indented_block d) = Block
 Tree (a_reset d) = Option Reset
-Tree (behind_with d) = Reset
+Tree (behind_with d p) = Reset
 Tree (a_memory_body d) = List MemoryPart
 Tree (a_memory_field d) = MemoryPart
 Tree (more_memory_fields d) = List MemoryPart
-Tree more_names = List Named
+Tree more_names = List PlacedName
 Tree an_under_write = ReadUnderWrite
 Tree a_text = CircuitTree
 Tree some_annotations = Unit {0}

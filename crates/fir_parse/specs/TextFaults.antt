@@ -24,23 +24,23 @@ abbrev pub StopsAt : List Terminal → List Terminal → Type 0
 StopsAt front [] = IsText front → ⊥
 StopsAt front (t ∷ back) = IsFront (front ++ t ∷ []) → ⊥
 
--- what a token does where a text may go on so: it fits, and so the text may go on behind it; it fits nothing; or it or the word before it begins a
+-- what a token does where a text may go on so: the text may go on behind it; it is not expected; or it or the word before it begins a
 -- form that is not in the language
-pub data Fit : Type 0 where
-  fits : State → Fit
-  unfit : Fit
-  missing : Place → List ℕ → Fit
+pub data Verdict : Type 0 where
+  continues : State → Verdict
+  unexpected : Verdict
+  missing : Place → List ℕ → Verdict
 
-abbrev pub fit_by : {T : Type 0} → Step T → (T → State) → (T → Fit) → Fit
-fit_by (takes g) k with_it = fits (g k)
-fit_by (without x) k with_it = with_it x
-fit_by refuses k with_it = unfit
-fit_by (unsupported p w) k with_it = missing p w
+abbrev pub verdict_by : {T : Type 0} → Step T → (T → State) → (T → Verdict) → Verdict
+verdict_by (takes g) k with_it = continues (g k)
+verdict_by (without x) k with_it = with_it x
+verdict_by refuses k with_it = unexpected
+verdict_by (unsupported p w) k with_it = missing p w
 
-abbrev pub fit : State → Terminal → Fit
-fit (done c) t = unfit
-fit (limit passed l st) t = fit st t
-fit (wants s k) t = fit_by (step s t.lexeme t.place) k (λ x. fit (k x) t)
+abbrev pub judge : State → Terminal → Verdict
+judge (done c) t = unexpected
+judge (limit passed l st) t = judge st t
+judge (wants s k) t = verdict_by (step s t.lexeme t.place) k (λ x. judge (k x) t)
 
 -- the limit that is passed at the token before, if one is
 abbrev pub passed_limit : State → Option Limit
@@ -51,23 +51,23 @@ passed_limit (wants s k) = None
 -- from one state a text gets to another with these tokens, before the last of which no limit is passed
 abbrev pub Reaches : State → List Terminal → State → Type 0
 Reaches st [] last = st ≡ last
-Reaches st (t ∷ ts) last = (next : State) × (passed_limit st ≡ None) × (fit st t ≡ fits next) × Reaches next ts last
+Reaches st (t ∷ ts) last = (next : State) × (passed_limit st ≡ None) × (judge st t ≡ continues next) × Reaches next ts last
 
 abbrev pub place_at : Place → List Terminal → Place
 place_at end [] = end
 place_at end (t ∷ ts) = t.place
 
--- what the next token does; at the end nothing fits
-abbrev pub next_fit : State → List Terminal → Fit
-next_fit st [] = unfit
-next_fit st (t ∷ back) = fit st t
+-- what the next token does; at the end nothing is expected
+abbrev pub next_verdict : State → List Terminal → Verdict
+next_verdict st [] = unexpected
+next_verdict st (t ∷ back) = judge st t
 
 -- Where a text that may go on so stops. E04 and E05 are shown by the first token with which no text of the grammar goes on: E05 where it or the word
 -- before it begins a form that is not in the language, at that word, and else E04. E03, E06 and E07 are shown by the token at which a limit is
 -- passed.
 abbrev pub Shows : Place → State → List Terminal → List Terminal → FirFault → Type 0
-Shows end st front back (fault.Syntax p) = (p ≡ place_at end back) × (passed_limit st ≡ None) × IsFront front × StopsAt front back × (next_fit st back ≡ unfit)
-Shows end st front back (fault.Unsupported p w) = (passed_limit st ≡ None) × IsFront front × StopsAt front back × (next_fit st back ≡ missing p w)
+Shows end st front back (fault.Syntax p) = (p ≡ place_at end back) × (passed_limit st ≡ None) × IsFront front × StopsAt front back × (next_verdict st back ≡ unexpected)
+Shows end st front back (fault.Unsupported p w) = (passed_limit st ≡ None) × IsFront front × StopsAt front back × (next_verdict st back ≡ missing p w)
 Shows end st front back (fault.BadLiteral p) = passed_limit st ≡ Some (in_range p)
 Shows end st front back (fault.Depth p) = passed_limit st ≡ Some (nesting p)
 Shows end st front back (fault.Version p n) = passed_limit st ≡ Some (version p n)

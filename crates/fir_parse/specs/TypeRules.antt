@@ -12,8 +12,11 @@ use Rattle.fir_parse.specs.Lexemes.{Lexeme, word, mark, integer}
 use Rattle.fir_parse.specs.Words.{type_word_of}
 use Rattle.fir_parse.specs.Numbers.{has_sign}
 use Rattle.fir_parse.specs.Heights.{type_height}
-use Rattle.fir_parse.specs.Symbols.{FieldsTree, FieldTree, a_mark, a_natural, a_type, a_width, dimensions, fields, more_fields, a_field, behind_flip}
+use Rattle.fir_parse.specs.Symbols.{TypeTree, FieldsTree, FieldTree, a_mark, a_natural, a_type, a_width, dimensions, fields, more_fields, a_field, behind_flip}
 use Rattle.fir_parse.specs.States.{State, wants, Step, takes, without, refuses, unsupported, opens, ends_form}
+
+abbrev pub type_at : Place → DataType → TypeTree
+type_at p t = record { place = p; data_type = t }
 
 abbrev pub ground : ℕ → DataType → Step DataType
 ground d t = takes (λ k. wants (dimensions d t) k)
@@ -45,7 +48,7 @@ dimensions_step d t (mark OpenSquare) p =
 dimensions_step d t _ p = without t
 
 abbrev pub with_field : FieldTree → FieldsTree → FieldsTree
-with_field f fs = record { fields = field f.place f.flip f.name f.data_type fs.fields; close = fs.close }
+with_field f fs = record { fields = field f.place f.flip f.name f.type_place f.data_type fs.fields; close = fs.close }
 
 -- one field more of a bundle, with the token that begins it
 abbrev pub then_more : ℕ → Step FieldTree → Step FieldsTree
@@ -56,7 +59,7 @@ then_more d (unsupported p w) = unsupported p w
 
 -- behind a field's name
 abbrev pub field_rest : ℕ → Place → Bool → List ℕ → (FieldTree → State) → State
-field_rest d p flip w k = wants (a_mark Colon) (λ q. wants (a_type d) (λ t. k (record { place = p; flip = flip; name = w; data_type = t })))
+field_rest d p flip w k = wants (a_mark Colon) (λ q. wants (a_type d) (λ t. k (record { place = p; flip = flip; name = w; type_place = t.place; data_type = t.data_type })))
 
 abbrev pub field_behind_name : ℕ → Place → Bool → List ℕ → Step FieldTree
 field_behind_name d p flip w = takes (λ k. field_rest d p flip w k)
@@ -68,7 +71,7 @@ field_step d _ p = refuses
 
 -- before a colon `flip` is a name
 abbrev pub flip_step : ℕ → Place → Lexeme → Place → Step FieldTree
-flip_step d p (mark Colon) q = takes (λ k. wants (a_type d) (λ t. k (record { place = p; flip = false; name = codes "flip"; data_type = t })))
+flip_step d p (mark Colon) q = takes (λ k. wants (a_type d) (λ t. k (record { place = p; flip = false; name = codes "flip"; type_place = t.place; data_type = t.data_type })))
 flip_step d p (word w) q = field_behind_name d q true w
 flip_step d p (integer s) q = if has_sign s then refuses else field_behind_name d q true s
 flip_step d p _ q = refuses

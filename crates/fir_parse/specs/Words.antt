@@ -3,8 +3,8 @@ use Rattle.std.specs.Prelude.{ℕ, List, Option, Some, None, codes, if◌then◌
 use Rattle.std.specs.Str.{bytes_eq}
 use Rattle.fir_base.specs.declared.direction.Direction.{Direction}
 use Rattle.fir_base.specs.declared.direction.Direction.TheVariants as direction
-use Rattle.fir_bits.specs.declared.operators.PrimOp.TheVariants as op
 use Rattle.fir_bits.specs.declared.operators.PrimOp.{PrimOp}
+use Rattle.fir_bits.specs.OperatorWords.{operator_of}
 use Rattle.fir_ast.specs.declared.statements.ReadUnderWrite.{ReadUnderWrite}
 use Rattle.fir_ast.specs.declared.statements.ReadUnderWrite.TheVariants as under
 use Rattle.fir_parse.specs.declared.words.Declaration.TheVariants as declares
@@ -55,42 +55,6 @@ type_word_of w =
     else if bytes_eq w (codes "Fixed") then types.Missing
     else if bytes_eq w (codes "Interval") then types.Missing
     else types.Name
-
-abbrev pub operator_of : List ℕ → Option PrimOp
-operator_of w =
-    if bytes_eq w (codes "add") then Some op.Add
-    else if bytes_eq w (codes "sub") then Some op.Sub
-    else if bytes_eq w (codes "mul") then Some op.Mul
-    else if bytes_eq w (codes "div") then Some op.Div
-    else if bytes_eq w (codes "rem") then Some op.Rem
-    else if bytes_eq w (codes "lt") then Some op.Lt
-    else if bytes_eq w (codes "leq") then Some op.Leq
-    else if bytes_eq w (codes "gt") then Some op.Gt
-    else if bytes_eq w (codes "geq") then Some op.Geq
-    else if bytes_eq w (codes "eq") then Some op.Eq
-    else if bytes_eq w (codes "neq") then Some op.Neq
-    else if bytes_eq w (codes "pad") then Some op.Pad
-    else if bytes_eq w (codes "shl") then Some op.Shl
-    else if bytes_eq w (codes "shr") then Some op.Shr
-    else if bytes_eq w (codes "dshl") then Some op.Dshl
-    else if bytes_eq w (codes "dshr") then Some op.Dshr
-    else if bytes_eq w (codes "cvt") then Some op.Cvt
-    else if bytes_eq w (codes "neg") then Some op.Neg
-    else if bytes_eq w (codes "not") then Some op.Not
-    else if bytes_eq w (codes "and") then Some op.And
-    else if bytes_eq w (codes "or") then Some op.Or
-    else if bytes_eq w (codes "xor") then Some op.Xor
-    else if bytes_eq w (codes "andr") then Some op.Andr
-    else if bytes_eq w (codes "orr") then Some op.Orr
-    else if bytes_eq w (codes "xorr") then Some op.Xorr
-    else if bytes_eq w (codes "cat") then Some op.Cat
-    else if bytes_eq w (codes "bits") then Some op.Bits
-    else if bytes_eq w (codes "head") then Some op.Head
-    else if bytes_eq w (codes "tail") then Some op.Tail
-    else if bytes_eq w (codes "asUInt") then Some op.AsUInt
-    else if bytes_eq w (codes "asSInt") then Some op.AsSInt
-    else if bytes_eq w (codes "asAsyncReset") then Some op.AsAsyncReset
-    else None
 
 abbrev pub operator_or : Option PrimOp → Applied → Applied
 operator_or (Some o) otherwise = applied.Operator o

@@ -17,26 +17,26 @@ pub struct BundleFields {
 impl<'t> Parser<'t> {
     ghost use Rattle.std.specs.Prelude.{◌≡◌, ℕ, ◌<◌, ◌≤◌, ◌∷◌, IfOk, OnOk, codes, drop};
     ghost use Rattle.fir_ast.specs.View.{type_of};
-    ghost use Rattle.fir_parse.specs.BundlePlans.{some_fields, behind_field};
+    ghost use Rattle.fir_parse.specs.working.BundlePlans.{some_fields, behind_field};
     ghost use Rattle.fir_parse.specs.Heights.{type_height, fields_height};
     ghost use Rattle.fir_parse.specs.Lexemes.{mark, word};
-    ghost use Rattle.fir_parse.specs.Reads.{left, rest, HasHeight, Leads, Reads};
+    ghost use Rattle.fir_parse.specs.working.Reads.{left, rest, HasHeight, Leads, Reads};
     ghost use Rattle.fir_parse.specs.States.{wants};
     ghost use Rattle.fir_parse.specs.Symbols.{a_type, fields, more_fields, a_field};
-    ghost use Rattle.fir_parse.specs.Trees.{tall_type, tall_field, field_tree, field_height, bundle_fields};
+    ghost use Rattle.fir_parse.specs.working.Trees.{tall_type_at, tall_field, field_tree, field_height, bundle_fields};
     ghost use Rattle.fir_parse.specs.TypeRules.{field_rest};
 
-    /// A bundle, whose brace is at hand, and the lengths behind it.
+    /// A bundle, whose brace is at hand at the place, and the lengths behind it.
     #[cycle(types)]
-    pub fn bundle(&mut self, depth: u32) -> Result<Tall<Ty>, Stop>
+    pub fn bundle(&mut self, depth: u32, place: Place) -> Result<Tall<Ty>, Stop>
         requires depth { depth ≤ 256 }
-        requires at_hand { (p : Place) × (rest self.old ≡ record { lexeme = mark Mark.OpenCurly; place = p } ∷ drop 1 (rest self.old)) }
-        ensures reads { Reads (wants (a_type depth)) tall_type (rest self.old) (rest self.new) result }
+        requires at_hand { rest self.old ≡ record { lexeme = mark Mark.OpenCurly; place = place } ∷ drop 1 (rest self.old) }
+        ensures reads { Reads (wants (a_type depth)) (tall_type_at place) (rest self.old) (rest self.new) result }
         ensures high { IfOk result (HasHeight type_of type_height) }
         ensures nearer { OnOk result (left self.new < left self.old) }
     {
-        let open = self.mark(Mark::OpenCurly)?;
-        open_one(depth, open)?;
+        self.pass();
+        open_one(depth, place)?;
         let fields = self.fields(depth + 1)?;
         let height = fields.height + 1;
         end_form(height, fields.close)?;
@@ -166,7 +166,8 @@ impl<'t> Parser<'t> {
                 place: name.place,
                 flip,
                 name: name.name,
-                ty: ty.tree,
+                type_place: ty.tree.place,
+                ty: ty.tree.ty,
             },
             height: ty.height,
         })

@@ -1,6 +1,6 @@
 //! The whole text: its version and its circuit (FIRRTL spec, "Circuits").
 
-ghost use Rattle.fir_parse.specs.PartPlans.{IsKnown};
+ghost use Rattle.fir_parse.specs.working.PartPlans.{IsKnown};
 
 use crate::lexeme::{Lexeme, Mark};
 use crate::parser::Parser;
@@ -10,8 +10,8 @@ use fir_ast::{Circuit, FirFault, Place};
 impl<'t> Parser<'t> {
     ghost use Rattle.fir_ast.specs.View.{circuit_of};
     ghost use Rattle.fir_parse.specs.CircuitRules.{circuit_rest, version_plan, version_rest};
-    ghost use Rattle.fir_parse.specs.PartPlans.{circuit_plan};
-    ghost use Rattle.fir_parse.specs.Reads.{rest, Reads};
+    ghost use Rattle.fir_parse.specs.working.PartPlans.{circuit_plan};
+    ghost use Rattle.fir_parse.specs.working.Reads.{rest, Reads};
     ghost use Rattle.fir_parse.specs.States.{wants};
     ghost use Rattle.fir_parse.specs.Symbols.{a_text, some_annotations};
 

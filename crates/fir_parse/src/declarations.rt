@@ -9,16 +9,16 @@ use fir_ast::{FirFault, Place, Reference, Stmt};
 use fir_base::Name;
 
 impl<'t> Parser<'t> {
-    ghost use Rattle.std.specs.Prelude.{◌≡◌, ◌≢◌, ℕ, ◌<◌, ◌≤◌, ◌∷◌, IfOk, OnOk, codes, drop};
+    ghost use Rattle.std.specs.Prelude.{◌≡◌, ℕ, ◌<◌, ◌≤◌, ◌∷◌, IfOk, OnOk, codes, drop};
     ghost use Rattle.fir_ast.specs.Statements.{invalid, skip};
     ghost use Rattle.fir_ast.specs.View.{sink_of, stmt_of};
     ghost use Rattle.fir_parse.specs.Lexemes.{word};
-    ghost use Rattle.fir_parse.specs.Reads.{left, rest, Reads};
+    ghost use Rattle.fir_parse.specs.working.Reads.{left, rest, Reads};
     ghost use Rattle.fir_parse.specs.StatementRules.{begun, connect_rest, declared, ends_line, partial_connect_rest, ref_rest};
     ghost use Rattle.fir_parse.specs.States.{wants};
     ghost use Rattle.fir_parse.specs.Symbols.{a_line_end, a_word, behind_first, behind_is, behind_sink, statement};
-    ghost use Rattle.fir_parse.specs.StatementTrees.{begun_of, Deepens, IsBare, IsNeither};
-    ghost use Rattle.fir_parse.specs.AtHand.{IsAtHand};
+    ghost use Rattle.fir_parse.specs.working.StatementTrees.{begun_of, Deepens, IsBare, IsNeither};
+    ghost use Rattle.fir_parse.specs.working.AtHand.{IsAtHand};
 
     /// A statement that begins with the word, behind it. A when is read up to where its else may stand.
     #[cycle(statements)]
@@ -261,7 +261,7 @@ impl<'t> Parser<'t> {
         self.mark(Mark::Colon)?;
         let ty = self.ty(depth)?;
         self.line_end()?;
-        Ok(Begun::Statement(Stmt::Wire(place, ident, ty.tree)))
+        Ok(Begun::Statement(Stmt::Wire(place, ident, ty.tree.place, ty.tree.ty)))
     }
 
     /// A register, behind its name.

@@ -1,6 +1,6 @@
 //! Laws about the definitions, each the contract of a function that does nothing.
 
-ghost use Rattle.fir_parse.specs.Laws.{SpellsOneTree, HasTreeOrFault, ShowsOneFault, UnsupportedNamesItsWord, SpelledFormByForm};
+ghost use Rattle.fir_parse.specs.working.Laws.{SpellsOneTree, HasTreeOrFault, ShowsOneFault, UnsupportedNamesItsWord, SpelledFormByForm};
 
 /// A text spells one tree at most.
 pub fn spells_one_tree()

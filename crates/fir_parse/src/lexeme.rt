@@ -3,6 +3,7 @@
 ghost use Rattle.std.specs.Prelude.{◌≡◌};
 ghost use Rattle.fir_parse.specs.Lexemes.{sign_lexeme, option_mark};
 
+use crate::integer::Integer;
 use fir_lex::{Kind, TokenRef};
 
 /// A sign of the grammar.
@@ -37,8 +38,7 @@ pub enum Lexeme<'a> {
     Word(&'a [u8]),
     /// One of the four words with a dash.
     DashWord(&'a [u8]),
-    /// Digits, behind a sign or none.
-    Integer(&'a [u8]),
+    Integer(Integer<'a>),
     /// The bytes between the quotes of a string.
     Text(&'a [u8]),
     Mark(Mark),
@@ -54,7 +54,7 @@ pub enum Lexeme<'a> {
 
 impl<'a> Lexeme<'a> {
     ghost use Rattle.std.specs.Prelude.{◌≡◌, ◌≢◌};
-    ghost use Rattle.fir_lex.specs.View.{token_of};
+    ghost use Rattle.fir_lex.specs.working.View.{token_of};
     ghost use Rattle.fir_parse.specs.Lexemes.{lexeme_of, seen, sign_lexeme};
 
     /// The token as the grammar sees it.
@@ -65,7 +65,10 @@ impl<'a> Lexeme<'a> {
         match token.kind {
             Kind::Word => Lexeme::Word(token.spelling),
             Kind::DashWord => Lexeme::DashWord(token.spelling),
-            Kind::Integer => Lexeme::Integer(token.spelling),
+            Kind::Integer(number) => Lexeme::Integer(Integer {
+                spelling: token.spelling,
+                number,
+            }),
             Kind::Text => Lexeme::Text(token.spelling),
             Kind::Sign => Lexeme::of_sign(token.spelling),
             Kind::Annotations => Lexeme::Annotations,

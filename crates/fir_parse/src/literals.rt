@@ -1,6 +1,6 @@
 //! Literals (FIRRTL spec, "Literals").
 
-ghost use Rattle.fir_parse.specs.Ranges.{numeral_of, IsNumbered};
+ghost use Rattle.fir_parse.specs.working.Ranges.{numeral_of, IsNumbered};
 
 use crate::lexeme::{Lexeme, Mark};
 use crate::numerals::{Numeral, integer_numeral, text_numeral};
@@ -13,8 +13,8 @@ impl<'t> Parser<'t> {
     ghost use Rattle.std.specs.Prelude.{◌<◌, OnOk};
     ghost use Rattle.fir_ast.specs.Expressions.{literal};
     ghost use Rattle.fir_parse.specs.ExpressionRules.{literal_rest};
-    ghost use Rattle.fir_parse.specs.Plans.{sized_plan};
-    ghost use Rattle.fir_parse.specs.Reads.{left, rest, Reads};
+    ghost use Rattle.fir_parse.specs.working.Plans.{sized_plan};
+    ghost use Rattle.fir_parse.specs.working.Reads.{left, rest, Reads};
     ghost use Rattle.fir_parse.specs.States.{wants};
     ghost use Rattle.fir_parse.specs.Symbols.{a_literal};
 
@@ -30,9 +30,10 @@ impl<'t> Parser<'t> {
     {
         let next = self.peek();
         match next.lexeme {
-            Lexeme::Integer(spelling) => {
+            Lexeme::Integer(integer) => {
                 self.pass();
-                numbered(place, signed, width, integer_numeral(spelling), next.place)
+                let numeral = integer_numeral(integer);
+                numbered(place, signed, width, Some(numeral), next.place)
             }
             Lexeme::Text(spelling) => {
                 self.pass();

@@ -10,8 +10,8 @@ impl<'t> Parser<'t> {
     ghost use Rattle.std.specs.Prelude.{◌<◌, ◌≤◌, ◌∷◌, ◌++◌, OnOk, map};
     ghost use Rattle.fir_ast.specs.View.{memory_part_of, named_of, stmt_of};
     ghost use Rattle.fir_parse.specs.MemoryRules.{names_plan, number_plan};
-    ghost use Rattle.fir_parse.specs.PartPlans.{data_type_plan, under_write_plan};
-    ghost use Rattle.fir_parse.specs.Reads.{left, rest, Reads};
+    ghost use Rattle.fir_parse.specs.working.PartPlans.{data_type_plan, under_write_plan};
+    ghost use Rattle.fir_parse.specs.working.Reads.{left, rest, Reads};
     ghost use Rattle.fir_parse.specs.StatementRules.{memory_rest};
     ghost use Rattle.fir_parse.specs.States.{wants};
     ghost use Rattle.fir_parse.specs.Symbols.{a_mark, a_memory_body, a_memory_field, an_under_write, more_memory_fields, more_names};
@@ -136,7 +136,7 @@ impl<'t> Parser<'t> {
         self.mark(Mark::Arrow)?;
         let ty = self.ty(depth)?;
         self.line_end()?;
-        Ok(MemoryField::DataType(place, ty.tree))
+        Ok(MemoryField::DataType(place, ty.tree.place, ty.tree.ty))
     }
 
     /// What is read under a write, and the line's end.

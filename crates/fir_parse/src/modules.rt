@@ -28,9 +28,9 @@ impl<'t> Parser<'t> {
     ghost use Rattle.fir_ast.specs.View.{module_of, named_of};
     ghost use Rattle.fir_parse.specs.CircuitRules.{behind_port, one_module, port_rest};
     ghost use Rattle.fir_parse.specs.Lexemes.{word};
-    ghost use Rattle.fir_parse.specs.ModuleTrees.{body_of, port_or_of, HasRoom};
-    ghost use Rattle.fir_parse.specs.PartPlans.{invalid_plan, no_port_plan, port_plan};
-    ghost use Rattle.fir_parse.specs.Reads.{left, rest, Leads, Reads};
+    ghost use Rattle.fir_parse.specs.working.ModuleTrees.{body_of, port_or_of, HasRoom};
+    ghost use Rattle.fir_parse.specs.working.PartPlans.{invalid_plan, no_port_plan, port_plan};
+    ghost use Rattle.fir_parse.specs.working.Reads.{left, rest, Leads, Reads};
     ghost use Rattle.fir_parse.specs.StatementRules.{is_named};
     ghost use Rattle.fir_parse.specs.States.{wants};
     ghost use Rattle.fir_parse.specs.Symbols.{a_body, behind_direction, behind_port_is, first_module, more_modules, ports_and_statements};
@@ -77,7 +77,7 @@ impl<'t> Parser<'t> {
             Lexeme::Word(word) => match ModuleWord::of(word) {
                 ModuleWord::Module => {
                     self.pass();
-                    self.module_behind()
+                    self.module_behind(next.place)
                 }
                 ModuleWord::Missing => Err(self.unsupported(next.place, word)),
                 ModuleWord::Name => Err(next.refused()),
@@ -86,9 +86,9 @@ impl<'t> Parser<'t> {
         }
     }
 
-    /// A module, behind its word.
-    fn module_behind(&mut self) -> Result<Module, Stop>
-        ensures reads { Reads (λ k. one_module k) module_of (rest self.old) (rest self.new) result }
+    /// A module, behind its word at the place.
+    fn module_behind(&mut self, place: Place) -> Result<Module, Stop>
+        ensures reads { Reads (λ k. one_module place k) module_of (rest self.old) (rest self.new) result }
         ensures nearer { OnOk result (left self.new < left self.old) }
     {
         let ident = self.name()?;
@@ -96,6 +96,7 @@ impl<'t> Parser<'t> {
         self.line_end()?;
         let body = self.body()?;
         Ok(Module {
+            place,
             ident,
             ports: body.ports,
             body: body.statements,
@@ -259,7 +260,8 @@ impl<'t> Parser<'t> {
         Ok(PortOr::Port(Port {
             direction,
             ident,
-            ty: ty.tree,
+            type_place: ty.tree.place,
+            ty: ty.tree.ty,
         }))
     }
 }

@@ -2,9 +2,9 @@
 
 ghost use Rattle.std.specs.Prelude.{◌≡◌, Some};
 ghost use Rattle.fir_parse.specs.Numbers.{numeral, integer_value, text_value, behind_sign, signed_digits};
-ghost use Rattle.fir_parse.specs.Ranges.{numeral_of, numeral_within};
+ghost use Rattle.fir_parse.specs.working.Ranges.{numeral_of, numeral_within};
 
-use crate::numbers::decimal_value;
+use crate::integer::Integer;
 use crate::radix::{digits_value, radix_of};
 
 /// Whether a number is below zero, and how far from zero.
@@ -14,14 +14,13 @@ pub struct Numeral {
     pub magnitude: u128,
 }
 
-/// What an integer of the text spells, unless it is 2^128 or more in size.
-pub fn integer_numeral(integer: &[u8]) -> Option<Numeral>
-    ensures { numeral_of result ≡ numeral_within (Some (integer_value integer.now)) }
+/// What an integer of the text spells.
+pub fn integer_numeral(integer: Integer) -> Numeral
+    ensures { numeral_of (Some result) ≡ Some (integer_value integer.entry.spelling.now) }
 {
-    match integer {
-        [b'-', digits @ ..] => with_sign(true, decimal_value(digits)),
-        [b'+', digits @ ..] => with_sign(false, decimal_value(digits)),
-        _ => with_sign(false, decimal_value(integer)),
+    Numeral {
+        negative: integer.has_minus(),
+        magnitude: integer.number,
     }
 }
 

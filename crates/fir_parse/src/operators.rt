@@ -1,7 +1,6 @@
 //! Operators, `mux` and `validif`, behind their parenthesis (FIRRTL spec, "Primitive Operations",
 //! "Multiplexers", "Conditionally Valids").
 
-use crate::forms::form_of;
 use crate::lexeme::Mark;
 use crate::parser::{Parser, Tall};
 use crate::stop::Stop;
@@ -10,12 +9,12 @@ use fir_ast::{Expr, Place};
 use fir_bits::{Form, PrimOp};
 
 impl<'t> Parser<'t> {
-    ghost use Rattle.std.specs.Prelude.{◌≡◌, ◌<◌, ◌≤◌, IfOk, OnOk};
+    ghost use Rattle.std.specs.Prelude.{◌<◌, ◌≤◌, IfOk, OnOk};
     ghost use Rattle.fir_ast.specs.View.{expr_of};
     ghost use Rattle.fir_parse.specs.ExpressionRules.{by_form, closing_plan, mux_rest, next_integer, next_operand, operator_rest, validif_rest};
     ghost use Rattle.fir_parse.specs.Heights.{height};
-    ghost use Rattle.fir_parse.specs.Reads.{left, rest, HasHeight, Reads};
-    ghost use Rattle.fir_parse.specs.Trees.{tall_expression};
+    ghost use Rattle.fir_parse.specs.working.Reads.{left, rest, HasHeight, Reads};
+    ghost use Rattle.fir_parse.specs.working.Trees.{tall_expression};
 
     /// The operands and integers of an operator, and its closing parenthesis.
     #[cycle(expressions)]
@@ -25,7 +24,7 @@ impl<'t> Parser<'t> {
         ensures high { IfOk result (HasHeight expr_of height) }
         ensures nearer { OnOk result (left self.new < left self.old) }
     {
-        match form_of(op) {
+        match op.form() {
             Form::Pair | Form::Shift => self.binary(depth, place, op),
             Form::Single => self.unary(depth, place, op),
             Form::WithInteger => self.with_integer(depth, place, op),

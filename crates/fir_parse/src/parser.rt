@@ -1,6 +1,9 @@
 //! The parser's place among the tokens.
 
-ghost use Rattle.std.specs.Prelude.{◌≤◌, length};
+ghost use Rattle.std.specs.Prelude.{◌≡◌, ◌≤◌, length, drop, map};
+ghost use Rattle.fir_parse.specs.declared.lexeme.Lexeme.TheVariants.{End};
+ghost use Rattle.fir_parse.specs.Lexemes.{terminal_of};
+ghost use Rattle.fir_parse.specs.working.AtHand.{IsAtHand};
 
 use crate::lexeme::Lexeme;
 use crate::stop::Stop;
@@ -27,40 +30,64 @@ pub struct Tall<T> {
 pub struct Parser<'t> {
     pub alloc: Global,
     pub tokens: &'t Tokens,
-    /// The index of the token at hand.
+    /// The token at hand, which is matched once, however often it is looked at; or the end.
+    pub at_hand: Next<'t>,
+    /// The index of the token behind it.
     pub next: usize,
-    ghost within: { next ≤ length tokens.now.tokens },
+    ghost ended: { at_hand.lexeme ≡ End → length tokens.now.tokens ≤ next },
+}
+
+/// The token at an index, or the end.
+#[tactic(auto, using(crate::proofs::Remaining::at_the_end))]
+fn token_at<'t>(tokens: &'t Tokens, index: usize) -> Next<'t>
+    ensures { IsAtHand (map terminal_of (drop index tokens.now.tokens)) result }
+{
+    match tokens.get(index) {
+        Some(token) => Next {
+            lexeme: Lexeme::of(token),
+            place: token.place,
+        },
+        None => Next {
+            lexeme: Lexeme::End,
+            place: Place { line: 0, col: 0 },
+        },
+    }
 }
 
 impl<'t> Parser<'t> {
-    ghost use Rattle.std.specs.Prelude.{◌≡◌, ◌≢◌, ◌<◌, [], drop};
-    ghost use Rattle.fir_parse.specs.AtHand.{IsAtHand};
-    ghost use Rattle.fir_parse.specs.Reads.{left, rest};
+    ghost use Rattle.std.specs.Prelude.{◌≡◌, ◌≢◌, ◌<◌, [], drop, map};
+    ghost use Rattle.fir_parse.specs.working.AtHand.{IsAtHand};
+    ghost use Rattle.fir_parse.specs.working.Reads.{left, rest};
 
-    /// The token at hand, or the end.
-    #[tactic(auto, using(crate::proofs::Remaining::at_hand, crate::proofs::Remaining::at_the_end))]
-    pub fn peek(&self) -> Next<'t>
-        ensures { IsAtHand (rest self.now) result }
+    /// The way from the first token on.
+    #[tactic(auto, using(crate::proofs::Remaining::all_behind, crate::proofs::Remaining::joined, crate::proofs::Remaining::joined_at_end))]
+    pub fn new(alloc: Global, tokens: &'t Tokens) -> Parser<'t>
+        ensures { rest result ≡ map terminal_of tokens.now.tokens }
     {
-        match self.tokens.get(self.next) {
-            Some(token) => Next {
-                lexeme: Lexeme::of(token),
-                place: token.place,
-            },
-            None => Next {
-                lexeme: Lexeme::End,
-                place: Place { line: 0, col: 0 },
-            },
+        Parser {
+            alloc,
+            tokens,
+            at_hand: token_at(tokens, 0),
+            next: 1,
         }
     }
 
+    /// The token at hand, or the end.
+    #[tactic(auto, using(crate::proofs::Remaining::stands_at_hand))]
+    pub fn peek(&self) -> Next<'t>
+        ensures { IsAtHand (rest self.now) result }
+    {
+        self.at_hand
+    }
+
     /// Takes the token at hand.
-    #[tactic(auto, using(crate::proofs::Remaining::rest_behind, crate::proofs::Remaining::nothing_left))]
+    #[tactic(auto, using(crate::proofs::Remaining::all_behind, crate::proofs::Remaining::joined, crate::proofs::Remaining::joined_at_end, crate::proofs::Remaining::left_behind))]
     pub fn pass(&mut self)
         requires { rest self.old ≢ [] }
         ensures rest { rest self.new ≡ drop 1 (rest self.old) }
         ensures nearer { left self.new < left self.old }
     {
+        self.at_hand = token_at(self.tokens, self.next);
         if self.next < self.tokens.len() {
             self.next += 1;
         }
@@ -69,9 +96,9 @@ impl<'t> Parser<'t> {
 
 impl<'t> Next<'t> {
     ghost use Rattle.std.specs.Prelude.{◌≡◌};
-    ghost use Rattle.fir_parse.specs.AtHand.{stop_at};
+    ghost use Rattle.fir_parse.specs.working.AtHand.{stop_at};
 
-    /// Why nothing is read where this token fits nothing.
+    /// Why nothing is read where this token is not expected.
     pub fn refused(&self) -> Stop
         ensures { result ≡ stop_at self.now.lexeme self.now.place }
     {

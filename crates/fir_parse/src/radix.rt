@@ -1,8 +1,11 @@
 //! The numbers of digits in a radix (FIRRTL spec, "Literals").
 
 ghost use Rattle.std.specs.Prelude.{◌≡◌};
-ghost use Rattle.fir_parse.specs.Numbers.{radix_of, digit_value, next_value, digits_value};
-ghost use Rattle.fir_parse.specs.Ranges.{number_within};
+ghost use Rattle.fir_base.specs.Digits.{digit_value};
+ghost use Rattle.fir_parse.specs.Numbers.{radix_of, next_value, digits_value};
+ghost use Rattle.fir_parse.specs.working.Ranges.{number_within};
+
+use fir_base::digit_value;
 
 /// The radix of the letter `b`, `o` or `h`.
 pub fn radix_of(letter: u8) -> Option<u128>
@@ -16,23 +19,11 @@ pub fn radix_of(letter: u8) -> Option<u128>
     }
 }
 
-/// The digit, one of up to sixteen, in either case.
-fn digit_value(byte: u8) -> Option<u128>
-    ensures { result ≡ digit_value byte }
-{
-    match byte {
-        b'0'..=b'9' => Some(u128::from(byte - b'0')),
-        b'a'..=b'f' => Some(u128::from(byte - b'a' + 10)),
-        b'A'..=b'F' => Some(u128::from(byte - b'A' + 10)),
-        _ => None,
-    }
-}
-
 /// The number with one more digit of the radix, unless it is out of range.
 fn next_value(radix: u128, number: u128, byte: u8) -> Option<u128>
     ensures { result ≡ number_within (next_value radix number (digit_value byte)) }
 {
-    let digit = digit_value(byte)?;
+    let digit = u128::from(digit_value(byte)?);
     if digit >= radix {
         return None;
     }

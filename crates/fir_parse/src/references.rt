@@ -18,14 +18,14 @@ pub enum Index {
 impl<'t> Parser<'t> {
     ghost use Rattle.std.specs.Prelude.{◌≡◌, ◌<◌, ◌≤◌, ◌+◌, ◌∷◌, IfErr, IfOk, OnOk, drop};
     ghost use Rattle.fir_ast.specs.Expressions.{Parts};
-    ghost use Rattle.fir_ast.specs.View.{expr_of, sink_of};
+    ghost use Rattle.fir_ast.specs.View.{sink_of};
     ghost use Rattle.fir_parse.specs.Heights.{height, height_with};
     ghost use Rattle.fir_parse.specs.Lexemes.{mark};
-    ghost use Rattle.fir_parse.specs.Reads.{left, rest, HasHeight, Leads, Reads};
+    ghost use Rattle.fir_parse.specs.working.Reads.{left, rest, HasHeight, Leads, Reads};
     ghost use Rattle.fir_parse.specs.States.{wants};
     ghost use Rattle.fir_parse.specs.Symbols.{parts, an_index};
     ghost use Rattle.fir_parse.specs.ExpressionRules.{indexed, reference_rest};
-    ghost use Rattle.fir_parse.specs.Trees.{tall_sink, sink_height, part_of, index_tree, index_height};
+    ghost use Rattle.fir_parse.specs.working.Trees.{tall_sink, sink_height, part_of, index_tree, index_height};
 
     /// What stands behind a name, where so many blocks and brackets are open.
     #[cycle(expressions)]
@@ -47,7 +47,7 @@ impl<'t> Parser<'t> {
             let next = self.peek();
             match next.lexeme {
                 Lexeme::Mark(Mark::Dot) => {
-                    parts.push(self.subfield(depth, height)?)?;
+                    parts.push(self.subfield(depth, height, next.place)?)?;
                     height += 1;
                 }
                 Lexeme::Mark(Mark::OpenSquare) => {
@@ -64,10 +64,10 @@ impl<'t> Parser<'t> {
         }
     }
 
-    /// `.name`, behind what has that height.
-    fn subfield(&mut self, depth: u32, height: u32) -> Result<Part, Stop>
+    /// `.name`, behind what has that height; its dot is at hand at the place.
+    fn subfield(&mut self, depth: u32, height: u32, dot: Place) -> Result<Part, Stop>
         requires low { height ≤ 256 }
-        requires at_hand { (p : _) × (rest self.old ≡ record { lexeme = mark Mark.Dot; place = p } ∷ drop 1 (rest self.old)) }
+        requires at_hand { rest self.old ≡ record { lexeme = mark Mark.Dot; place = dot } ∷ drop 1 (rest self.old) }
         ensures reads { Leads (wants (parts depth height)) (λ x k. wants (parts depth (height + 1)) (λ ps. k (part_of x ps))) (rest self.old) (rest self.new) result }
         ensures high { IfOk result (λ x. (ps : Parts) → height_with (part_of x ps) height ≡ height_with ps (height + 1)) }
         ensures low { OnOk result (height + 1 ≤ 256) }
@@ -76,7 +76,7 @@ impl<'t> Parser<'t> {
         self.pass();
         let name = self.field_name()?;
         end_form(height + 1, name.place)?;
-        Ok(Part::Field(name.place, name.name))
+        Ok(Part::Field(dot, name.place, name.name))
     }
 
     /// `[index]`, behind what has that height, with the height of both.
@@ -96,18 +96,18 @@ impl<'t> Parser<'t> {
         let close = self.mark(Mark::CloseSquare)?;
         let height = height.max(index.height) + 1;
         end_form(height, close)?;
-        let tree = self.index_part(index.tree)?;
+        let tree = self.index_part(bracket, index.tree)?;
         Ok(Tall { tree, height })
     }
 
-    /// The part that an index makes.
-    fn index_part(&self, index: Index) -> Result<Part, Stop>
-        ensures part { IfOk result (λ x. part_of x ≡ indexed (index_tree index)) }
+    /// The part that an index makes behind its bracket.
+    fn index_part(&self, bracket: Place, index: Index) -> Result<Part, Stop>
+        ensures part { IfOk result (λ x. part_of x ≡ indexed bracket (index_tree index)) }
         ensures why { IfErr result (λ s. s ≡ Stop.Memory) }
     {
         match index {
-            Index::Plain(place, number) => Ok(Part::Index(place, number)),
-            Index::Computed(expr) => Ok(Part::Access(Box::new(self.alloc, expr)?)),
+            Index::Plain(place, number) => Ok(Part::Index(bracket, place, number)),
+            Index::Computed(expr) => Ok(Part::Access(bracket, Box::new(self.alloc, expr)?)),
         }
     }
 

@@ -9,8 +9,8 @@ use fir_ast::{Ident, Place, Register, RegisterReset, Stmt};
 impl<'t> Parser<'t> {
     ghost use Rattle.std.specs.Prelude.{◌<◌, ◌≤◌, OnOk, option_map};
     ghost use Rattle.fir_ast.specs.View.{named_of, reset_of, stmt_of};
-    ghost use Rattle.fir_parse.specs.PartPlans.{level_reset_plan, reset_part_plan, round_reset_plan};
-    ghost use Rattle.fir_parse.specs.Reads.{left, rest, Reads};
+    ghost use Rattle.fir_parse.specs.working.PartPlans.{level_reset_plan, reset_part_plan, round_reset_plan};
+    ghost use Rattle.fir_parse.specs.working.Reads.{left, rest, Reads};
     ghost use Rattle.fir_parse.specs.StatementRules.{register_rest, reset_rest};
     ghost use Rattle.fir_parse.specs.States.{wants};
     ghost use Rattle.fir_parse.specs.Symbols.{a_mark, a_reset, behind_with};
@@ -28,11 +28,12 @@ impl<'t> Parser<'t> {
         let reset = self.reset(depth)?;
         let register = Register {
             ident,
-            ty: ty.tree,
+            type_place: ty.tree.place,
+            ty: ty.tree.ty,
             clock: clock.tree,
             reset,
         };
-        Ok(Stmt::Reg(place, register))
+        Ok(Stmt::Reg(place, Box::new(self.alloc, register)?))
     }
 
     /// The reset part, or none, and the line's end.
@@ -57,50 +58,55 @@ impl<'t> Parser<'t> {
         ensures reads { Reads (λ k. reset_part_plan depth k) (option_map reset_of) (rest self.old) (rest self.new) result }
         ensures nearer { OnOk result (left self.new < left self.old) }
     {
-        self.word(b"with")?;
+        let with = self.word(b"with")?;
         self.mark(Mark::Colon)?;
-        Ok(Some(self.behind_with(depth)?))
+        Ok(Some(self.behind_with(depth, with)?))
     }
 
-    /// The reset part in parentheses, or on a line of its own.
-    fn behind_with(&mut self, depth: u32) -> Result<RegisterReset, Stop>
+    /// The reset part in parentheses, or on a line of its own, behind the word `with` at the place.
+    fn behind_with(&mut self, depth: u32, with: Place) -> Result<RegisterReset, Stop>
         requires { depth ≤ 256 }
-        ensures reads { Reads (wants (behind_with depth)) reset_of (rest self.old) (rest self.new) result }
+        ensures reads { Reads (wants (behind_with depth with)) reset_of (rest self.old) (rest self.new) result }
         ensures nearer { OnOk result (left self.new < left self.old) }
     {
         let next = self.peek();
         match next.lexeme {
             Lexeme::Mark(Mark::OpenRound) => {
                 self.pass();
-                self.reset_in_round(depth, next.place)
+                self.reset_in_round(depth, with, next.place)
             }
-            _ => self.reset_in_level(depth),
+            _ => self.reset_in_level(depth, with),
         }
     }
 
     /// The reset part in parentheses, of which the first stands at the place.
     #[tactic(auto, using(crate::proofs::Plans::limits))]
-    fn reset_in_round(&mut self, depth: u32, place: Place) -> Result<RegisterReset, Stop>
+    fn reset_in_round(
+        &mut self,
+        depth: u32,
+        with: Place,
+        place: Place,
+    ) -> Result<RegisterReset, Stop>
         requires { depth ≤ 256 }
-        ensures reads { Reads (λ k. round_reset_plan depth place k) reset_of (rest self.old) (rest self.new) result }
+        ensures reads { Reads (λ k. round_reset_plan depth with place k) reset_of (rest self.old) (rest self.new) result }
         ensures nearer { OnOk result (left self.new < left self.old) }
     {
         open_one(depth, place)?;
-        let reset = self.reset_pair(depth + 1)?;
+        let reset = self.reset_pair(depth + 1, with)?;
         self.mark(Mark::CloseRound)?;
         self.line_end()?;
         Ok(reset)
     }
 
     /// The reset part on a line of its own, in a level of its own.
-    fn reset_in_level(&mut self, depth: u32) -> Result<RegisterReset, Stop>
+    fn reset_in_level(&mut self, depth: u32, with: Place) -> Result<RegisterReset, Stop>
         requires { depth ≤ 256 }
-        ensures reads { Reads (λ k. level_reset_plan depth k) reset_of (rest self.old) (rest self.new) result }
+        ensures reads { Reads (λ k. level_reset_plan depth with k) reset_of (rest self.old) (rest self.new) result }
         ensures nearer { OnOk result (left self.new < left self.old) }
     {
         self.line_end()?;
         self.opening()?;
-        let reset = self.reset_pair(depth)?;
+        let reset = self.reset_pair(depth, with)?;
         self.line_end()?;
         self.closing()?;
         Ok(reset)
@@ -108,9 +114,9 @@ impl<'t> Parser<'t> {
 
     /// `reset => (condition, init)`
     #[tactic(auto, using(crate::proofs::Plans::limits))]
-    fn reset_pair(&mut self, depth: u32) -> Result<RegisterReset, Stop>
+    fn reset_pair(&mut self, depth: u32, with: Place) -> Result<RegisterReset, Stop>
         requires { depth ≤ 256 }
-        ensures reads { Reads (λ k. reset_rest depth k) reset_of (rest self.old) (rest self.new) result }
+        ensures reads { Reads (λ k. reset_rest depth with k) reset_of (rest self.old) (rest self.new) result }
         ensures nearer { OnOk result (left self.new < left self.old) }
     {
         self.word(b"reset")?;
@@ -122,6 +128,7 @@ impl<'t> Parser<'t> {
         let init = self.expression(depth + 1)?;
         self.mark(Mark::CloseRound)?;
         Ok(RegisterReset {
+            place: with,
             condition: condition.tree,
             init: init.tree,
         })

@@ -1,9 +1,8 @@
 //! One token that is expected.
 
-ghost use Rattle.fir_parse.specs.Trees.{IsOpened, IsEnded};
+ghost use Rattle.fir_parse.specs.working.Trees.{IsOpened, IsEnded};
 
 use crate::lexeme::{Lexeme, Mark};
-use crate::numbers::{decimal_value, has_sign};
 use crate::parser::Parser;
 use crate::stop::Stop;
 use fir_ast::{FirFault, Ident, Place};
@@ -16,13 +15,24 @@ pub struct Natural {
     pub number: u128,
 }
 
+impl Natural {
+    ghost use Rattle.std.specs.Prelude.{◌≡◌, ◌^◌, ◌<◌};
+
+    fn new(place: Place, number: u128) -> Natural
+        ensures parts { result ≡ record { place = place; number = number } }
+        ensures in_range { number < 2 ^ 128 }
+    {
+        Natural { place, number }
+    }
+}
+
 impl<'t> Parser<'t> {
     ghost use Rattle.std.specs.Prelude.{◌≡◌, ◌<◌, IfOk, OnOk};
     ghost use Rattle.fir_ast.specs.View.{named_of};
-    ghost use Rattle.fir_parse.specs.Reads.{left, rest, Reads};
+    ghost use Rattle.fir_parse.specs.working.Reads.{left, rest, Reads};
     ghost use Rattle.fir_parse.specs.States.{wants};
     ghost use Rattle.fir_parse.specs.Symbols.{a_mark, a_word, a_name, a_field_name, a_natural, a_line_end, an_opening, a_closing};
-    ghost use Rattle.fir_parse.specs.Trees.{natural_of, IsUnsupported};
+    ghost use Rattle.fir_parse.specs.working.Trees.{natural_of, IsUnsupported};
 
     /// The sign, and where it stands.
     pub fn mark(&mut self, mark: Mark) -> Result<Place, Stop>
@@ -80,9 +90,9 @@ impl<'t> Parser<'t> {
                 self.pass();
                 Ok(self.ident(next.place, word)?)
             }
-            Lexeme::Integer(digits) if !has_sign(digits) => {
+            Lexeme::Integer(integer) if !integer.has_sign() => {
                 self.pass();
-                Ok(self.ident(next.place, digits)?)
+                Ok(self.ident(next.place, integer.spelling)?)
             }
             _ => Err(next.refused()),
         }
@@ -105,15 +115,9 @@ impl<'t> Parser<'t> {
     {
         let next = self.peek();
         match next.lexeme {
-            Lexeme::Integer(digits) if !has_sign(digits) => {
+            Lexeme::Integer(integer) if !integer.has_sign() => {
                 self.pass();
-                match decimal_value(digits) {
-                    Some(number) => Ok(Natural {
-                        place: next.place,
-                        number,
-                    }),
-                    None => Err(Stop::Fault(FirFault::BadLiteral(next.place))),
-                }
+                Ok(Natural::new(next.place, integer.number))
             }
             _ => Err(next.refused()),
         }

@@ -1,13 +1,10 @@
-//! Texts and their trees or faults.
+//! Texts and their trees.
 
-mod limits;
+mod forms_of_expressions;
+mod forms_of_statements;
+mod nesting;
 mod short_form;
 mod spellings;
-mod texts_1;
-mod texts_2;
-mod texts_3;
-mod texts_4;
-mod texts_5;
 
 use crate::text::parse;
 use fir_ast::Place;
@@ -17,68 +14,45 @@ use short_form::put_circuit;
 use std::alloc::Global;
 use std::test::Fail;
 
-/// The tree of a text in a short form, or the line of its fault without its newline.
-pub fn read(alloc: Global, text: &[u8]) -> Result<Vec<u8>, MemoryOut> {
+/// The tree of a text in a short form; nothing where the text has a fault.
+pub fn tree_of(alloc: Global, text: &[u8]) -> Result<Vec<u8>, MemoryOut> {
     let mut out = Vec::new(alloc);
     if text.len() > 16777216 {
         return Ok(out);
     }
     let tokens = match lex(alloc, text) {
         Ok(tokens) => tokens,
-        Err(Refused::Fault(fault)) => {
-            fault.put_line(alloc, &mut out)?;
-            out.pop();
-            return Ok(out);
-        }
+        Err(Refused::Fault(_fault)) => return Ok(out),
         Err(Refused::Memory) => return Err(MemoryOut),
     };
     match parse(alloc, tokens) {
         Ok(circuit) => put_circuit(&mut out, &circuit)?,
-        Err(Refused::Fault((fault, _tokens))) => {
-            fault.put_line(alloc, &mut out)?;
-            out.pop();
-        }
+        Err(Refused::Fault(_fault)) => {}
         Err(Refused::Memory) => return Err(MemoryOut),
     }
     Ok(out)
 }
 
 #[test]
-fn reads_small_texts_of_table_1_as_the_grammar_says(rt: HostRuntime) -> Result<(), Fail> {
-    for (text, form) in texts_1::ROWS {
-        assert_eq!(rt; read(rt.alloc(), text)?.as_slice(), *form);
+fn each_form_of_a_statement_gives_its_tree(rt: HostRuntime) -> Result<(), Fail> {
+    for (text, form) in forms_of_statements::ROWS {
+        assert_eq!(rt; tree_of(rt.alloc(), text)?.as_slice(), *form);
     }
     Ok(())
 }
 
 #[test]
-fn reads_small_texts_of_table_2_as_the_grammar_says(rt: HostRuntime) -> Result<(), Fail> {
-    for (text, form) in texts_2::ROWS {
-        assert_eq!(rt; read(rt.alloc(), text)?.as_slice(), *form);
+fn each_form_of_an_expression_gives_its_tree(rt: HostRuntime) -> Result<(), Fail> {
+    for (text, form) in forms_of_expressions::ROWS {
+        assert_eq!(rt; tree_of(rt.alloc(), text)?.as_slice(), *form);
     }
     Ok(())
 }
 
 #[test]
-fn reads_small_texts_of_table_3_as_the_grammar_says(rt: HostRuntime) -> Result<(), Fail> {
-    for (text, form) in texts_3::ROWS {
-        assert_eq!(rt; read(rt.alloc(), text)?.as_slice(), *form);
-    }
-    Ok(())
-}
-
-#[test]
-fn reads_small_texts_of_table_4_as_the_grammar_says(rt: HostRuntime) -> Result<(), Fail> {
-    for (text, form) in texts_4::ROWS {
-        assert_eq!(rt; read(rt.alloc(), text)?.as_slice(), *form);
-    }
-    Ok(())
-}
-
-#[test]
-fn reads_small_texts_of_table_5_as_the_grammar_says(rt: HostRuntime) -> Result<(), Fail> {
-    for (text, form) in texts_5::ROWS {
-        assert_eq!(rt; read(rt.alloc(), text)?.as_slice(), *form);
+fn numbers_blanks_and_versions_are_read_in_each_spelling(rt: HostRuntime) -> Result<(), Fail> {
+    for (text, form) in spellings::ROWS {
+        assert_eq!(rt; tree_of(rt.alloc(), text)?.as_slice(), *form);
     }
     Ok(())
 }
@@ -103,7 +77,7 @@ fn handed_back(alloc: Global, text: &[u8]) -> Option<(Place, usize, Option<Place
 }
 
 #[test]
-fn hands_the_tokens_back_with_a_fault(rt: HostRuntime) -> Result<(), Fail> {
+fn the_tokens_come_back_with_a_fault(rt: HostRuntime) -> Result<(), Fail> {
     let back = handed_back(rt.alloc(), b"circuit T :\n  modul M :\n");
     let fault = Place { line: 2, col: 3 };
     let second = Place { line: 1, col: 9 };

@@ -1,6 +1,6 @@
 //! From tokens to the tree.
 
-ghost use Rattle.fir_parse.specs.Parsed.{Parsed, ReadWhole};
+ghost use Rattle.fir_parse.specs.working.Parsed.{Parsed, ReadWhole};
 
 use crate::lexeme::Lexeme;
 use crate::parser::Parser;
@@ -30,11 +30,7 @@ pub fn parse(alloc: Global, tokens: Tokens) -> Result<Circuit, Refused<(FirFault
 fn read_whole(alloc: Global, tokens: &Tokens) -> Result<Circuit, Stop>
     ensures { ReadWhole tokens.now result }
 {
-    let mut parser = Parser {
-        alloc,
-        tokens,
-        next: 0,
-    };
+    let mut parser = Parser::new(alloc, tokens);
     let circuit = parser.text()?;
     let next = parser.peek();
     match next.lexeme {

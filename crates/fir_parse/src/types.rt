@@ -1,34 +1,59 @@
 //! Types (FIRRTL spec, "Types").
 
 use crate::lexeme::{Lexeme, Mark};
-use crate::parser::{Parser, Tall};
+use crate::parser::{Next, Parser, Tall};
 use crate::stop::Stop;
 use crate::terminals::{end_form, open_one};
 use crate::words::TypeWord;
 use fir_ast::{FirFault, Place, Ty};
+
+/// A type, and where its first token stands.
+#[derive(Drop)]
+pub struct WrittenType {
+    pub place: Place,
+    pub ty: Ty,
+}
 
 impl<'t> Parser<'t> {
     ghost use Rattle.std.specs.Prelude.{◌≡◌, ◌<◌, ◌≤◌, ◌∷◌, IfOk, OnOk, drop};
     ghost use Rattle.fir_ast.specs.View.{type_of};
     ghost use Rattle.fir_parse.specs.Heights.{type_height};
     ghost use Rattle.fir_parse.specs.Lexemes.{mark, word};
-    ghost use Rattle.fir_parse.specs.Reads.{left, rest, HasHeight, Leads, Reads};
+    ghost use Rattle.fir_parse.specs.working.Reads.{left, rest, HasHeight, Leads, Reads};
+    ghost use Rattle.fir_parse.specs.working.AtHand.{IsAtHand};
     ghost use Rattle.fir_parse.specs.States.{wants};
     ghost use Rattle.fir_parse.specs.Symbols.{a_type, a_width, dimensions};
-    ghost use Rattle.fir_parse.specs.Trees.{tall_type};
+    ghost use Rattle.fir_parse.specs.working.Trees.{placed_type, placed_type_height, tall_placed_type, tall_type, tall_type_at};
 
     /// A type, where so many blocks and brackets are open.
     #[cycle(types)]
-    pub fn ty(&mut self, depth: u32) -> Result<Tall<Ty>, Stop>
+    pub fn ty(&mut self, depth: u32) -> Result<Tall<WrittenType>, Stop>
         requires { depth ≤ 256 }
-        ensures reads { Reads (wants (a_type depth)) tall_type (rest self.old) (rest self.new) result }
-        ensures high { IfOk result (HasHeight type_of type_height) }
+        ensures reads { Reads (wants (a_type depth)) tall_placed_type (rest self.old) (rest self.new) result }
+        ensures high { IfOk result (HasHeight placed_type placed_type_height) }
         ensures nearer { OnOk result (left self.new < left self.old) }
     {
         let next = self.peek();
+        let place = next.place;
+        let ty = self.type_at_hand(depth, next)?;
+        Ok(Tall {
+            tree: WrittenType { place, ty: ty.tree },
+            height: ty.height,
+        })
+    }
+
+    /// A type whose first token is at hand.
+    #[cycle(types)]
+    fn type_at_hand(&mut self, depth: u32, next: Next<'t>) -> Result<Tall<Ty>, Stop>
+        requires depth { depth ≤ 256 }
+        requires at_hand { IsAtHand (rest self.old) next }
+        ensures reads { Reads (wants (a_type depth)) (tall_type_at next.entry.place) (rest self.old) (rest self.new) result }
+        ensures high { IfOk result (HasHeight type_of type_height) }
+        ensures nearer { OnOk result (left self.new < left self.old) }
+    {
         match next.lexeme {
             Lexeme::Word(word) => self.worded_type(depth, next.place, word),
-            Lexeme::Mark(Mark::OpenCurly) => self.bundle(depth),
+            Lexeme::Mark(Mark::OpenCurly) => self.bundle(depth, next.place),
             _ => Err(next.refused()),
         }
     }
@@ -37,7 +62,7 @@ impl<'t> Parser<'t> {
     fn worded_type(&mut self, depth: u32, place: Place, name: &[u8]) -> Result<Tall<Ty>, Stop>
         requires depth { depth ≤ 256 }
         requires at_hand { rest self.old ≡ record { lexeme = word name.now; place = place } ∷ drop 1 (rest self.old) }
-        ensures reads { Reads (wants (a_type depth)) tall_type (rest self.old) (rest self.new) result }
+        ensures reads { Reads (wants (a_type depth)) (tall_type_at place) (rest self.old) (rest self.new) result }
         ensures high { IfOk result (HasHeight type_of type_height) }
         ensures nearer { OnOk result (left self.new < left self.old) }
     {

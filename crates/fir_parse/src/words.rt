@@ -1,7 +1,7 @@
 //! Words that have a meaning in their place. Everywhere else each of them is a name.
 
 ghost use Rattle.std.specs.Prelude.{◌≡◌};
-ghost use Rattle.fir_parse.specs.Words.{operator_of, under_write_of, direction_of};
+ghost use Rattle.fir_parse.specs.Words.{under_write_of, direction_of};
 
 use crate::lexeme::Lexeme;
 use fir_ast::ReadUnderWrite;
@@ -138,7 +138,7 @@ impl Applied {
     pub fn of(word: &[u8]) -> Applied
         ensures { result ≡ applied_of word.now }
     {
-        if let Some(op) = operator_of(word) {
+        if let Some(op) = PrimOp::of_word(word) {
             return Applied::Operator(op);
         }
         match word {
@@ -214,47 +214,6 @@ impl ModuleWord {
             b"extmodule" | b"intmodule" => ModuleWord::Missing,
             _ => ModuleWord::Name,
         }
-    }
-}
-
-/// The operator that the word names.
-pub fn operator_of(word: &[u8]) -> Option<PrimOp>
-    ensures { result ≡ operator_of word.now }
-{
-    match word {
-        b"add" => Some(PrimOp::Add),
-        b"sub" => Some(PrimOp::Sub),
-        b"mul" => Some(PrimOp::Mul),
-        b"div" => Some(PrimOp::Div),
-        b"rem" => Some(PrimOp::Rem),
-        b"lt" => Some(PrimOp::Lt),
-        b"leq" => Some(PrimOp::Leq),
-        b"gt" => Some(PrimOp::Gt),
-        b"geq" => Some(PrimOp::Geq),
-        b"eq" => Some(PrimOp::Eq),
-        b"neq" => Some(PrimOp::Neq),
-        b"pad" => Some(PrimOp::Pad),
-        b"shl" => Some(PrimOp::Shl),
-        b"shr" => Some(PrimOp::Shr),
-        b"dshl" => Some(PrimOp::Dshl),
-        b"dshr" => Some(PrimOp::Dshr),
-        b"cvt" => Some(PrimOp::Cvt),
-        b"neg" => Some(PrimOp::Neg),
-        b"not" => Some(PrimOp::Not),
-        b"and" => Some(PrimOp::And),
-        b"or" => Some(PrimOp::Or),
-        b"xor" => Some(PrimOp::Xor),
-        b"andr" => Some(PrimOp::Andr),
-        b"orr" => Some(PrimOp::Orr),
-        b"xorr" => Some(PrimOp::Xorr),
-        b"cat" => Some(PrimOp::Cat),
-        b"bits" => Some(PrimOp::Bits),
-        b"head" => Some(PrimOp::Head),
-        b"tail" => Some(PrimOp::Tail),
-        b"asUInt" => Some(PrimOp::AsUInt),
-        b"asSInt" => Some(PrimOp::AsSInt),
-        b"asAsyncReset" => Some(PrimOp::AsAsyncReset),
-        _ => None,
     }
 }
 

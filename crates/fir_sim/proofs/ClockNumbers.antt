@@ -1,11 +1,11 @@
 -- The number of a clock among the clocks is what stands at its leaf.
 use Rattle.std.proofs.Common.{◌≡◌, ℕ, zero, suc, ◌+◌, List, [], ◌∷◌, ◌++◌, refl, ap, ◌∙◌, arith, Some, slice_index}
 use Rattle.std.specs.Prelude.{slice_get}
-use Rattle.fir_net.specs.declared.net.Role.{Role}
-use Rattle.fir_net.specs.declared.net.Role.TheVariants as role
-use Rattle.fir_net.specs.declared.net.Leaf.{Leaf}
-use Rattle.fir_net.specs.Settled.{clock_number, numbers_by}
-use Rattle.fir_sim.specs.Plans.{clock_count, clocks_before}
+use Rattle.fir_net.specs.declared.leaf.Role.{Role}
+use Rattle.fir_net.specs.declared.leaf.Role.TheVariants as role
+use Rattle.fir_net.specs.declared.leaf.Leaf.{Leaf}
+use Rattle.fir_net.specs.working.Settled.{clock_number, numbers_by}
+use Rattle.fir_sim.specs.working.Plans.{clock_count, clocks_before}
 
 -- the clock of a number, among leaves that are numbered from `from` on and before which there are m clocks
 pub record IsClockAt (from m : ℕ) (ls : List Leaf) (n k : ℕ) : Type 0 where
@@ -34,6 +34,9 @@ module _ (from m k : ℕ) (l : Leaf) (ls : List Leaf) (rest : (c i : ℕ) → sl
   by_role role.Input s i h = plain (ap clock_count s) i (rw s at h)
   by_role (role.Output d) s i h = plain (ap clock_count s) i (rw s at h)
   by_role (role.Register d) s i h = plain (ap clock_count s) i (rw s at h)
+  by_role (role.Wire d) s i h = plain (ap clock_count s) i (rw s at h)
+  by_role (role.ClockOutput d) s i h = plain (ap clock_count s) i (rw s at h)
+  by_role (role.ClockWire d) s i h = plain (ap clock_count s) i (rw s at h)
 
 pub clock_at : (ls : List Leaf) (from m n k : ℕ) → slice_get (numbers_by clock_number from ls) n ≡ Some k → IsClockAt from m ls n k
 clock_at [] from m n k e = cc

@@ -5,8 +5,7 @@ use Rattle.std.proofs.lemmas.List.{get_or-map, length-map}
 use Rattle.std.proofs.lemmas.List.Folds.{list_any_at, list_any_none}
 use Rattle.std.proofs.lemmas.List.Elements.{All-from_get_or}
 use Rattle.std.proofs.lemmas.Bool.Decides.{nat_tests}
-use Rattle.fir_base.specs.Ticks.{FitEach, AreClocks}
-use Rattle.fir_net.specs.Next.{rises}
+use Rattle.fir_base.specs.Ticks.{FitEach, AreClocks, rises}
 
 pub fit_long : (ws vs : List ℕ) → FitEach ws vs → length vs ≡ length ws
 fit_long [] [] h = refl

@@ -1,86 +1,102 @@
 -- The passes of a tick in turn: what each finds, and that they make a tick.
-use Rattle.std.proofs.Common.{◌≡◌, ℕ, List, length, map, sym, ap, ◌∙◌, subst}
+use Rattle.std.proofs.Common.{◌≡◌, List, length, map, sym, ap, ◌∙◌, subst}
 use Rattle.std.specs.List.{AllByRecursion}
 use Rattle.fir_base.specs.Ticks.{Tick}
 use Rattle.fir_bits.specs.Values.{BitVector, IsBitVector}
+use Rattle.fir_net.specs.declared.reads.Read.{Read}
 use Rattle.fir_net.specs.declared.net.FlatNet.{FlatNet}
-use Rattle.fir_net.specs.Values.{values}
 use Rattle.fir_sim.specs.declared.plan.Plan.{Plan}
 use Rattle.fir_sim.specs.declared.values.Values.{Values}
-use Rattle.fir_sim.specs.Held.{env_of, Holds}
-use Rattle.fir_sim.specs.Views.{IsTickOf}
-use Rattle.fir_sim.specs.Passes.{with_inputs, with_state, IsPlaced, output_value, register_value}
-use Rattle.fir_sim.specs.Running.{IsHeld, IsRunning}
-use Rattle.fir_sim.proofs.PlanFacts.{registers_placed}
-use Rattle.fir_sim.proofs.SettledValues.{holds}
-use Rattle.fir_sim.proofs.Ticking.{held_count, inputs_held, outputs_room, state_room, IsTicked}
+use Rattle.fir_sim.specs.working.Held.{IsHeld}
+use Rattle.fir_sim.specs.working.Views.{IsTickOf}
+use Rattle.fir_sim.specs.working.Settling.{IsSettled}
+use Rattle.fir_sim.specs.working.Passes.{with_inputs, with_state, IsPlaced, IsShown, IsWithin, output_value, register_value}
+use Rattle.fir_sim.specs.working.Running.{IsRunning}
+use Rattle.fir_sim.proofs.PlanFacts.{registers_placed, inputs_within, outputs_shown_within}
+use Rattle.fir_sim.proofs.Settling.{held_count}
+use Rattle.fir_sim.proofs.Ticking.{state_put, inputs_put, outputs_room, state_room, IsTicked}
 
-module _ (net : FlatNet) (p : Plan) (tick : Tick) (is_tick : IsTickOf net tick) (v0 : Values) (running : IsRunning net p v0) where
-  module _ (v1 : Values) (put : v1.leaves.items ≡ with_inputs p.inputs.items tick.inputs v0.leaves.items) (others1 : v1 ≡ record v0 { leaves = v1.leaves }) where
-    pub held_put : IsHeld net v1.leaves.items
-    held_put = subst (IsHeld net) (sym put) (inputs_held net running.whole p running.plan v0.leaves.items running.leaves tick.inputs is_tick.inputs)
+module _ (net : FlatNet) (order : List Read) (p : Plan) (tick : Tick) (is_tick : IsTickOf net tick) (v0 : Values) (running : IsRunning net order p v0) where
+  pub placed0 : AllByRecursion (IsPlaced (length v0.leaves.items)) p.registers.items
+  placed0 = registers_placed net running.whole p running.plan (length v0.leaves.items) (held_count net v0.leaves.items running.leaves)
 
-    module _ (v2 : Values) (nodes : (env : ℕ → ℕ) → Holds net v1.leaves.items env → v2.nodes.items ≡ values net env) (others2 : v2 ≡ record v1 { nodes = v2.nodes }) where
-      leaves2 : v2.leaves.items ≡ v1.leaves.items
-      leaves2 = ap (λ (v : Values). v.leaves.items) others2
+  module _ (v1 : Values) (put1 : v1.leaves.items ≡ with_state p.registers.items v0.state.items v0.leaves.items) (others1 : v1 ≡ record v0 { leaves = v1.leaves }) where
+    held1 : IsHeld net v1.leaves.items
+    held1 = subst (IsHeld net) (sym put1) (state_put net order p v0 running)
 
-      pub held_evaluated : IsHeld net v2.leaves.items
-      held_evaluated = subst (IsHeld net) (sym leaves2) held_put
+    pub within1 : AllByRecursion (IsWithin (length v1.leaves.items)) p.inputs.items
+    within1 = inputs_within net running.whole p running.plan (length v1.leaves.items) (held_count net v1.leaves.items held1)
 
-      pub settled_evaluated : v2.nodes.items ≡ values net (env_of v2.leaves.items)
-      settled_evaluated = nodes (env_of v1.leaves.items) (holds net v1.leaves.items held_put) ∙ ap (λ (ls : List BitVector). values net (env_of ls)) (sym leaves2)
+    module _ (v2 : Values) (put2 : v2.leaves.items ≡ with_inputs p.inputs.items tick.inputs v1.leaves.items) (others2 : v2 ≡ record v1 { leaves = v2.leaves }) where
+      put : v2.leaves.items ≡ with_inputs p.inputs.items tick.inputs (with_state p.registers.items v0.state.items v0.leaves.items)
+      put = put2 ∙ ap (with_inputs p.inputs.items tick.inputs) put1
 
-      pub outputs_room_evaluated : length v2.outputs.items ≡ length p.outputs.items
-      outputs_room_evaluated = ap (λ (v : Values). length v.outputs.items) (others2 ∙ ap (λ (v : Values). record v { nodes = v2.nodes }) others1) ∙ outputs_room net p v0 running
+      pub held2 : IsHeld net v2.leaves.items
+      held2 = subst (IsHeld net) (sym put) (inputs_put net order p v0 running tick is_tick)
 
-      module _ (v3 : Values) (others3 : v3 ≡ record v2 { outputs = v3.outputs }) where
-        leaves3 : v3.leaves.items ≡ v2.leaves.items
-        leaves3 = ap (λ (v : Values). v.leaves.items) others3
+      pub nodes2 : length v2.nodes.items ≡ length net.nodes
+      nodes2 = ap (λ (v : Values). length v.nodes.items) others2 ∙ ap (λ (v : Values). length v.nodes.items) others1 ∙ running.nodes
 
-        pub held_shown : IsHeld net v3.leaves.items
-        held_shown = subst (IsHeld net) (sym leaves3) held_evaluated
+      module _ (v3 : Values) (settled3 : IsSettled net v2.leaves.items v3.leaves.items v3.nodes.items) (others3 : v3 ≡ record v2 { leaves = v3.leaves; nodes = v3.nodes }) where
+        pub shown3 : AllByRecursion (IsShown (length v3.leaves.items)) p.outputs.items
+        shown3 = outputs_shown_within net running.whole p running.plan (length v3.leaves.items) (held_count net v3.leaves.items settled3.held)
 
-        pub settled_shown : v3.nodes.items ≡ values net (env_of v3.leaves.items)
-        settled_shown = ap (λ (v : Values). v.nodes.items) others3 ∙ settled_evaluated ∙ ap (λ (ls : List BitVector). values net (env_of ls)) (sym leaves3)
+        pub room3 : length v3.outputs.items ≡ length p.outputs.items
+        room3 = ap (λ (v : Values). length v.outputs.items) others3 ∙ ap (λ (v : Values). length v.outputs.items) others2 ∙ ap (λ (v : Values). length v.outputs.items) others1 ∙ outputs_room net order p v0 running
 
-        pub state_room_shown : length v3.state.items ≡ length p.registers.items
-        state_room_shown =
-            ap (λ (v : Values). length v.state.items) others3
-            ∙ ap (λ (v : Values). length v.state.items) others2
-            ∙ ap (λ (v : Values). length v.state.items) others1
-            ∙ state_room net p v0 running
+        module _ (v4 : Values) (others4 : v4 ≡ record v3 { outputs = v4.outputs }) where
+          leaves4 : v4.leaves.items ≡ v3.leaves.items
+          leaves4 = ap (λ (v : Values). v.leaves.items) others4
 
-        module _ (v4 : Values) (others4 : v4 ≡ record v3 { state = v4.state }) where
-          leaves4 : v4.leaves.items ≡ v1.leaves.items
-          leaves4 = ap (λ (v : Values). v.leaves.items) others4 ∙ leaves3 ∙ leaves2
+          nodes4 : v4.nodes.items ≡ v3.nodes.items
+          nodes4 = ap (λ (v : Values). v.nodes.items) others4
 
-          pub placed_taken : AllByRecursion (IsPlaced (length v4.leaves.items)) p.registers.items
-          placed_taken = registers_placed net running.whole p running.plan (length v4.leaves.items) (held_count net v4.leaves.items (subst (IsHeld net) (sym leaves4) held_put))
+          held4 : IsHeld net v4.leaves.items
+          held4 = subst (IsHeld net) (sym leaves4) settled3.held
+
+          pub whole4 : AllByRecursion IsBitVector v4.leaves.items
+          whole4 = held4.whole
+
+          pub placed4 : AllByRecursion (IsPlaced (length v4.leaves.items)) p.registers.items
+          placed4 = registers_placed net running.whole p running.plan (length v4.leaves.items) (held_count net v4.leaves.items held4)
+
+          pub room4 : length v4.state.items ≡ length p.registers.items
+          room4 =
+              ap (λ (v : Values). length v.state.items) others4
+              ∙ ap (λ (v : Values). length v.state.items) others3
+              ∙ ap (λ (v : Values). length v.state.items) others2
+              ∙ ap (λ (v : Values). length v.state.items) others1
+              ∙ state_room net order p v0 running
 
           module _
               (v5 : Values)
-              (outputs : v3.outputs.items ≡ map (output_value net (env_of v2.leaves.items)) p.outputs.items)
-              (outputs_whole : AllByRecursion IsBitVector v3.outputs.items)
-              (state : v4.state.items ≡ map (register_value net (env_of v3.leaves.items) tick.clocks) p.registers.items)
-              (state_whole : AllByRecursion IsBitVector v4.state.items)
-              (leaves : v5.leaves.items ≡ with_state p.registers.items v4.state.items v4.leaves.items)
-              (others5 : v5 ≡ record v4 { leaves = v5.leaves }) where
-            outputs5 : v5.outputs.items ≡ v3.outputs.items
-            outputs5 = ap (λ (v : Values). v.outputs.items) others5 ∙ ap (λ (v : Values). v.outputs.items) others4
+              (outputs : v4.outputs.items ≡ map (output_value v3.leaves.items) p.outputs.items)
+              (outputs_whole : AllByRecursion IsBitVector v4.outputs.items)
+              (state : v5.state.items ≡ map (register_value v4.leaves.items v4.nodes.items tick.clocks) p.registers.items)
+              (state_whole : AllByRecursion IsBitVector v5.state.items)
+              (others5 : v5 ≡ record v4 { state = v5.state }) where
+            leaves5 : v5.leaves.items ≡ v4.leaves.items
+            leaves5 = ap (λ (v : Values). v.leaves.items) others5
 
-            state5 : v5.state.items ≡ v4.state.items
-            state5 = ap (λ (v : Values). v.state.items) others5
+            nodes5 : v5.nodes.items ≡ v4.nodes.items
+            nodes5 = ap (λ (v : Values). v.nodes.items) others5
 
-            nodes5 : v5.nodes.items ≡ v2.nodes.items
-            nodes5 = ap (λ (v : Values). v.nodes.items) others5 ∙ ap (λ (v : Values). v.nodes.items) others4 ∙ ap (λ (v : Values). v.nodes.items) others3
+            outputs5 : v5.outputs.items ≡ v4.outputs.items
+            outputs5 = ap (λ (v : Values). v.outputs.items) others5
 
-            pub ticked : IsTicked net p tick v0 v5 v1.leaves.items
+            settled5 : IsSettled net v2.leaves.items v5.leaves.items v5.nodes.items
+            settled5 =
+                subst (λ (ls : List BitVector). IsSettled net v2.leaves.items ls v5.nodes.items) (sym (leaves5 ∙ leaves4))
+                (subst (IsSettled net v2.leaves.items v3.leaves.items) (sym (nodes5 ∙ nodes4)) settled3)
+
+            pub ticked : IsTicked net p tick v0 v5 v2.leaves.items
             ticked = record {
               put = put;
-              settled = λ env h. nodes5 ∙ nodes env h;
-              outputs = outputs5 ∙ outputs ∙ ap (λ (ls : List BitVector). map (output_value net (env_of ls)) p.outputs.items) leaves2;
+              settled = settled5;
+              outputs = outputs5 ∙ outputs ∙ ap (λ (ls : List BitVector). map (output_value ls) p.outputs.items) (sym (leaves5 ∙ leaves4));
               outputs_whole = subst (AllByRecursion IsBitVector) (sym outputs5) outputs_whole;
-              state = state5 ∙ state ∙ ap (λ (ls : List BitVector). map (register_value net (env_of ls) tick.clocks) p.registers.items) (leaves3 ∙ leaves2);
-              state_whole = subst (AllByRecursion IsBitVector) (sym state5) state_whole;
-              leaves = leaves ∙ ap (λ (ws : List BitVector). with_state p.registers.items ws v4.leaves.items) (sym state5) ∙ ap (with_state p.registers.items v5.state.items) leaves4;
+              state =
+                  state ∙ ap (λ (ls : List BitVector). map (register_value ls v4.nodes.items tick.clocks) p.registers.items) (sym leaves5)
+                  ∙ ap (λ (ns : List BitVector). map (register_value v5.leaves.items ns tick.clocks) p.registers.items) (sym nodes5);
+              state_whole = state_whole;
             }

@@ -1,22 +1,13 @@
 -- Elements of lists by their places, what holds of each, and lists whose elements are related in pairs.
-use Rattle.std.proofs.Common.{◌≡◌, ℕ, zero, suc, ◌<◌, List, [], ◌∷◌, ◌++◌, length, map, set, refl, ap, subst, arith, Some, unwrap_or}
+use Rattle.std.proofs.Common.{◌≡◌, ℕ, zero, suc, ◌<◌, List, [], ◌∷◌, ◌++◌, length, map, set, refl, ap, arith, Some, unwrap_or}
 use Rattle.std.specs.Prelude.{slice_get}
 use Rattle.std.specs.List.{AllByRecursion, AllZip}
-
-pub all_at : {A : Type 0} → (P : A → Type 0) (xs : List A) → AllByRecursion P xs → (k : ℕ) (x : A) → slice_get xs k ≡ Some x → P x
-all_at P [] h k x e = cc
-all_at P (y ∷ xs) h zero x e = let same : y ≡ x = cc in subst P same h.0
-all_at P (y ∷ xs) h (suc k) x e = all_at P xs h.1 k x e
 
 -- the element at a place, or the other past the end
 pub all_or : {A : Type 0} → (P : A → Type 0) (xs : List A) (d : A) → AllByRecursion P xs → P d → (k : ℕ) → P (unwrap_or (slice_get xs k) d)
 all_or P [] d h other k = other
 all_or P (x ∷ xs) d h other zero = h.0
 all_or P (x ∷ xs) d h other (suc k) = all_or P xs d h.1 other k
-
-pub all_push : {A : Type 0} → (P : A → Type 0) (xs : List A) (x : A) → AllByRecursion P xs → P x → AllByRecursion P (xs ++ x ∷ [])
-all_push P [] x h p = (p, tt)
-all_push P (y ∷ xs) x h p = (h.0, all_push P xs x h.1 p)
 
 pub all_set : {A : Type 0} → (P : A → Type 0) (xs : List A) (k : ℕ) (x : A) → AllByRecursion P xs → P x → AllByRecursion P (set xs k x)
 all_set P [] k x h p = tt

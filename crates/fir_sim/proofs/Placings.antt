@@ -4,12 +4,12 @@ use Rattle.std.specs.Prelude.{slice_get}
 use Rattle.std.specs.List.{AllByRecursion}
 use Rattle.fir_base.specs.Ticks.{FitEach}
 use Rattle.fir_bits.specs.Values.{BitVector, IsBitVector}
-use Rattle.fir_net.specs.Values.{no_value}
+use Rattle.fir_net.specs.working.Values.{no_value}
 use Rattle.fir_sim.specs.declared.plan.InputPlan.{InputPlan}
 use Rattle.fir_sim.specs.declared.plan.RegisterPlan.{RegisterPlan}
-use Rattle.fir_sim.specs.Held.{env_of}
-use Rattle.fir_sim.specs.Views.{numbers, widths}
-use Rattle.fir_sim.specs.Passes.{value_of, values_of, placed, with_inputs, with_state, input_leaf, input_width, register_leaf}
+use Rattle.fir_sim.specs.working.Held.{env_of}
+use Rattle.fir_sim.specs.working.Views.{numbers, widths}
+use Rattle.fir_sim.specs.working.Passes.{vector_of, values_of, placed, with_inputs, with_state, input_leaf, input_width, register_leaf}
 use Rattle.fir_sim.proofs.Lists.{all_set, get_set_same, get_set_other, map_set_same}
 
 -- a number that is none of these
@@ -81,7 +81,7 @@ placed_elsewhere ks vs held (k ∷ others) h =
 pub inputs_placed : (ps : List InputPlan) (ns : List ℕ) (held : List BitVector) → with_inputs ps ns held ≡ placed (map input_leaf ps) (values_of (map input_width ps) ns) held
 inputs_placed [] ns held = refl
 inputs_placed (p ∷ ps) [] held = refl
-inputs_placed (p ∷ ps) (n ∷ ns) held = inputs_placed ps ns (set held p.leaf (value_of p.width n))
+inputs_placed (p ∷ ps) (n ∷ ns) held = inputs_placed ps ns (set held p.leaf (vector_of p.width n))
 
 pub state_placed : (ps : List RegisterPlan) (vs held : List BitVector) → with_state ps vs held ≡ placed (map register_leaf ps) vs held
 state_placed [] vs held = refl

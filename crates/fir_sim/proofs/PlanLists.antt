@@ -1,10 +1,9 @@
 -- Plans along the first leaves, with one more; and the clocks before each leaf.
-use Rattle.std.proofs.Common.{◌≡◌, ℕ, ◌+◌, ◌<◌, List, [], ◌∷◌, ◌++◌, take, length, get_or, refl, sym, ap, ◌∙◌, append_assoc, append-nil, arith, length-take}
+use Rattle.std.proofs.Common.{◌≡◌, ℕ, ◌+◌, ◌<◌, List, [], ◌∷◌, ◌++◌, take, length, get_or, sym, ap, ◌∙◌, append_assoc, append-nil, arith, length-take}
 use Rattle.std.proofs.lemmas.List.{take_more}
-use Rattle.fir_net.specs.declared.net.Role.{Role}
-use Rattle.fir_net.specs.declared.net.Role.TheVariants as role
-use Rattle.fir_net.specs.declared.net.Leaf.{Leaf}
-use Rattle.fir_sim.specs.Plans.{plans_by, output_plan}
+use Rattle.fir_net.specs.declared.leaf.Role.{Role}
+use Rattle.fir_net.specs.declared.leaf.Leaf.{Leaf}
+use Rattle.fir_sim.specs.working.Plans.{plans_by}
 
 plans_push : {P : Type 0} → (plan : Role → ℕ → ℕ → List P) (k : ℕ) (ls : List Leaf) (l : Leaf)
     → plans_by plan k (ls ++ l ∷ []) ≡ plans_by plan k ls ++ plan l.role l.width (k + length ls)
@@ -31,10 +30,3 @@ pub plan_less : {P : Type 0} → (plan : Role → ℕ → ℕ → List P) (ls : 
     → [] ≡ plan l.role l.width i → plans ≡ plans_by plan 0 (take i ls) → plans ≡ plans_by plan 0 (take (i + 1) ls)
 plan_less plan ls i l plans lt is given b =
     sym (append-nil plans) ∙ ap (λ r. plans ++ r) given ∙ ap (λ r. r ++ plan l.role l.width i) b ∙ sym (plans_more plan ls i l lt is)
-
--- the number of an output's leaf is not in its plan
-pub any_number : (r : Role) (width k : ℕ) → output_plan r width 0 ≡ output_plan r width k
-any_number role.Input width k = refl
-any_number role.Clock width k = refl
-any_number (role.Output d) width k = refl
-any_number (role.Register d) width k = refl

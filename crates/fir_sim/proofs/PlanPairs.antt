@@ -1,20 +1,23 @@
 -- The plans of a whole net beside the numbers of their leaves.
 -- What each plan says of its leaf gives what the passes ask of it, and the lists that specs of the net speak of.
-use Rattle.std.proofs.Common.{◌≡◌, ℕ, zero, suc, ◌+◌, ◌≤◌, List, [], ◌∷◌, Bool, true, false, refl, subst, inl, inr, ◌⊎◌, ⊎_elim, arith, Some, slice_index}
+use Rattle.std.proofs.Common.{◌≡◌, ℕ, zero, suc, ◌+◌, ◌≤◌, List, [], ◌∷◌, Bool, true, false, refl, subst, ⊎_elim, arith, Option, Some}
 use Rattle.std.specs.Prelude.{slice_get, nat_eq, if◌then◌else◌}
 use Rattle.std.specs.List.{AllZip}
-use Rattle.fir_net.specs.declared.net.Register.{Register}
-use Rattle.fir_net.specs.declared.net.Role.{Role}
-use Rattle.fir_net.specs.declared.net.Role.TheVariants as role
-use Rattle.fir_net.specs.declared.net.Leaf.{Leaf}
+use Rattle.fir_net.specs.declared.leaf.Register.{Register}
+use Rattle.fir_net.specs.declared.leaf.Role.{Role}
+use Rattle.fir_net.specs.declared.leaf.Role.TheVariants as role
+use Rattle.fir_net.specs.declared.leaf.Leaf.{Leaf}
 use Rattle.fir_net.specs.declared.net.FlatNet.{FlatNet}
-use Rattle.fir_net.specs.IsNet.{IsLeaf, IsNet, IsRole, CanRead, CanBeRead}
-use Rattle.fir_net.specs.Settled.{with_bits, input_number, output_number, register_number, numbers_by}
+use Rattle.fir_net.specs.working.IsNet.{IsLeaf, IsNet, IsRole}
+use Rattle.fir_net.proofs.NumberedLeaves.{GivesOwn, inputs_own, registers_own}
+use Rattle.fir_base.proofs.Elements.{all_there}
+use Rattle.fir_net.specs.declared.reads.Read.{Read}
+use Rattle.fir_net.specs.working.Settled.{with_bits, input_number, output_number, register_number, numbers_by}
 use Rattle.fir_sim.specs.declared.plan.InputPlan.{InputPlan}
 use Rattle.fir_sim.specs.declared.plan.OutputPlan.{OutputPlan}
 use Rattle.fir_sim.specs.declared.plan.RegisterPlan.{RegisterPlan}
-use Rattle.fir_sim.specs.Plans.{planned, input_plan, output_plan, register_plan, plans_by, clock_numbers}
-use Rattle.fir_sim.proofs.Lists.{all_at, pairs_joined}
+use Rattle.fir_sim.specs.working.Plans.{planned, input_plan, output_plan, register_plan, plans_by, root_at}
+use Rattle.fir_sim.proofs.Lists.{pairs_joined}
 use Rattle.fir_sim.proofs.Placings.{AreRising, rising_from}
 
 -- a plan for each number
@@ -46,12 +49,13 @@ pub record IsInput (net : FlatNet) (p : InputPlan) (k : ℕ) : Type 0 where
 pub record IsOutput (net : FlatNet) (p : OutputPlan) (k : ℕ) : Type 0 where
   pub leaf : Leaf
   pub at : slice_get net.leaves k ≡ Some leaf
-  pub kind : leaf.role ≡ role.Output p.read
+  pub driver : Read
+  pub kind : leaf.role ≡ role.Output driver
+  pub place : p.leaf ≡ k
   pub width : leaf.width ≡ p.width
   pub narrow : p.width ≤ 128
-  pub read : CanRead net.leaves net.nodes p.read
 
-pub record IsRegister (net : FlatNet) (p : RegisterPlan) (k : ℕ) : Type 0 where
+pub record IsRegister (net : FlatNet) (roots : List (Option ℕ)) (p : RegisterPlan) (k : ℕ) : Type 0 where
   pub leaf : Leaf
   pub register : Register
   pub at : slice_get net.leaves k ≡ Some leaf
@@ -59,39 +63,32 @@ pub record IsRegister (net : FlatNet) (p : RegisterPlan) (k : ℕ) : Type 0 wher
   pub place : p.leaf ≡ k
   pub width : leaf.width ≡ p.width
   pub narrow : p.width ≤ 128
-  pub clock : p.clock ≡ slice_index (clock_numbers net) register.clock
+  pub clock : p.clock ≡ root_at roots register.clock
+  pub reset : p.reset ≡ register.reset
   pub next : p.next ≡ register.next
-  pub clocked : (l : Leaf) × (slice_get net.leaves register.clock ≡ Some l) × (l.role ≡ role.Clock)
-  pub driven : CanBeRead net.leaves net.nodes p.next
+  pub driven : IsRole net.leaves net.nodes leaf.width (role.Register register)
 
 module _ (net : FlatNet) (whole : IsNet net) where
   module _ (k : ℕ) (l : Leaf) (at : slice_get net.leaves k ≡ Some l) where
     is_leaf : IsLeaf net.leaves net.nodes l
-    is_leaf = all_at (IsLeaf net.leaves net.nodes) net.leaves whole.leaves k l at
+    is_leaf = all_there (IsLeaf net.leaves net.nodes) net.leaves whole.leaves k l at
 
     pub driven_by : (r : Role) → l.role ≡ r → IsRole net.leaves net.nodes l.width r
     driven_by r e = subst (IsRole net.leaves net.nodes l.width) e is_leaf.driven
 
     one_input : (r : Role) → l.role ≡ r → AllZip (IsInput net) (input_plan r l.width k) (input_number r l.width k)
     one_input role.Input e = pair_planned (IsInput net) l.width (record { leaf = k; width = l.width }) k (record { leaf = l; at = at; kind = e; place = refl; width = refl; narrow = is_leaf.narrow })
-    one_input role.Clock e = tt
-    one_input (role.Output d) e = tt
-    one_input (role.Register d) e = tt
+    one_input _ e = tt
 
     one_output : (r : Role) → l.role ≡ r → AllZip (IsOutput net) (output_plan r l.width k) (output_number r l.width k)
-    one_output role.Input e = tt
-    one_output role.Clock e = tt
-    one_output (role.Output d) e = pair_planned (IsOutput net) l.width (record { read = d; width = l.width }) k (record { leaf = l; at = at; kind = e; width = refl; narrow = is_leaf.narrow; read = driven_by (role.Output d) e })
-    one_output (role.Register d) e = tt
+    one_output (role.Output d) e = pair_planned (IsOutput net) l.width (record { leaf = k; width = l.width }) k (record { leaf = l; at = at; driver = d; kind = e; place = refl; width = refl; narrow = is_leaf.narrow })
+    one_output _ e = tt
 
-    one_register : (r : Role) → l.role ≡ r → AllZip (IsRegister net) (register_plan (clock_numbers net) r l.width k) (register_number r l.width k)
-    one_register role.Input e = tt
-    one_register role.Clock e = tt
-    one_register (role.Output d) e = tt
-    one_register (role.Register d) e =
-        let h = driven_by (role.Register d) e in
-        pair_planned (IsRegister net) l.width (record { leaf = k; width = l.width; clock = slice_index (clock_numbers net) d.clock; next = d.next }) k
-        (record { leaf = l; register = d; at = at; kind = e; place = refl; width = refl; narrow = is_leaf.narrow; clock = refl; next = refl; clocked = h.0; driven = h.1 })
+    one_register : (roots : List (Option ℕ)) (r : Role) → l.role ≡ r → AllZip (IsRegister net roots) (register_plan roots r l.width k) (register_number r l.width k)
+    one_register roots (role.Register d) e =
+        pair_planned (IsRegister net roots) l.width (record { leaf = k; width = l.width; clock = root_at roots d.clock; reset = d.reset; next = d.next }) k
+        (record { leaf = l; register = d; at = at; kind = e; place = refl; width = refl; narrow = is_leaf.narrow; clock = refl; reset = refl; next = refl; driven = driven_by (role.Register d) e })
+    one_register roots _ e = tt
 
   pub inputs_paired : AllZip (IsInput net) (plans_by input_plan 0 net.leaves) (numbers_by input_number 0 net.leaves)
   inputs_paired =
@@ -103,42 +100,23 @@ module _ (net : FlatNet) (whole : IsNet net) where
       paired (IsOutput net) output_plan output_number net.leaves 0
       (λ k l e. let here : 0 + k ≡ k = omega arith in rw here (one_output k l e l.role refl))
 
-  pub registers_paired : AllZip (IsRegister net) (plans_by (register_plan (clock_numbers net)) 0 net.leaves) (numbers_by register_number 0 net.leaves)
-  registers_paired =
-      paired (IsRegister net) (register_plan (clock_numbers net)) register_number net.leaves 0
-      (λ k l e. let here : 0 + k ≡ k = omega arith in rw here (one_register k l e l.role refl))
+  pub registers_paired : (roots : List (Option ℕ)) → AllZip (IsRegister net roots) (plans_by (register_plan roots) 0 net.leaves) (numbers_by register_number 0 net.leaves)
+  registers_paired roots =
+      paired (IsRegister net roots) (register_plan roots) register_number net.leaves 0
+      (λ k l e. let here : 0 + k ≡ k = omega arith in rw here (one_register k l e roots l.role refl))
 
 -- the numbers of leaves of one kind rise
-none_or_one : (width k : ℕ) → (with_bits width k ≡ []) ⊎ (with_bits width k ≡ k ∷ [])
-none_or_one width k = by_test (nat_eq width 0)
-  where
-    by_test : (b : Bool) → ((if b then [] else (k ∷ [])) ≡ []) ⊎ ((if b then [] else (k ∷ [])) ≡ k ∷ [])
-    by_test true = inl refl
-    by_test false = inr refl
-
-rising : (number : Role → ℕ → ℕ → List ℕ) → ((r : Role) (width k : ℕ) → (number r width k ≡ []) ⊎ (number r width k ≡ k ∷ [])) → (from : ℕ) (ls : List Leaf) → AreRising from (numbers_by number from ls)
-rising number each from [] = tt
-rising number each from (l ∷ ls) =
-    let rest = rising number each (from + 1) ls in
+rising : (number : Role → ℕ → ℕ → List ℕ) → GivesOwn number → (from : ℕ) (ls : List Leaf) → AreRising from (numbers_by number from ls)
+rising number own from [] = tt
+rising number own from (l ∷ ls) =
+    let rest = rising number own (from + 1) ls in
     ⊎_elim
     (λ (e : number l.role l.width from ≡ []). rw e (rising_from from (from + 1) (numbers_by number (from + 1) ls) (omega arith) rest))
     (λ (e : number l.role l.width from ≡ from ∷ []). rw e (let le : from ≤ from = omega arith in (le, rest)))
-    (each l.role l.width from)
+    (own.each l.role l.width from)
 
 pub inputs_rise : (net : FlatNet) → AreRising 0 (numbers_by input_number 0 net.leaves)
-inputs_rise net = rising input_number each 0 net.leaves
-  where
-    each : (r : Role) (width k : ℕ) → (input_number r width k ≡ []) ⊎ (input_number r width k ≡ k ∷ [])
-    each role.Input width k = none_or_one width k
-    each role.Clock width k = inl refl
-    each (role.Output d) width k = inl refl
-    each (role.Register d) width k = inl refl
+inputs_rise net = rising input_number inputs_own 0 net.leaves
 
 pub registers_rise : (net : FlatNet) → AreRising 0 (numbers_by register_number 0 net.leaves)
-registers_rise net = rising register_number each 0 net.leaves
-  where
-    each : (r : Role) (width k : ℕ) → (register_number r width k ≡ []) ⊎ (register_number r width k ≡ k ∷ [])
-    each role.Input width k = inl refl
-    each role.Clock width k = inl refl
-    each (role.Output d) width k = inl refl
-    each (role.Register d) width k = none_or_one width k
+registers_rise net = rising register_number registers_own 0 net.leaves

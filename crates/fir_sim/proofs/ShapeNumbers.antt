@@ -3,12 +3,12 @@ use Rattle.std.proofs.Common.{◌≡◌, ℕ, suc, ◌+◌, List, [], ◌∷◌,
 use Rattle.std.specs.Prelude.{flat_map, nat_eq, if◌then◌else◌, cond, count_by}
 use Rattle.std.proofs.lemmas.List.{map-append}
 use Rattle.std.proofs.lemmas.List.Sums.{sum_by-cons}
-use Rattle.fir_net.specs.declared.net.Role.{Role}
-use Rattle.fir_net.specs.declared.net.Role.TheVariants as role
-use Rattle.fir_net.specs.declared.net.Leaf.{Leaf}
-use Rattle.fir_net.specs.Values.{leaf_width}
-use Rattle.fir_net.specs.Settled.{with_bits, input_number, clock_number, register_number, numbers_by}
-use Rattle.fir_sim.specs.StateWords.{input_width, input_widths, is_clock}
+use Rattle.fir_net.specs.declared.leaf.Role.{Role}
+use Rattle.fir_net.specs.declared.leaf.Role.TheVariants as role
+use Rattle.fir_net.specs.declared.leaf.Leaf.{Leaf}
+use Rattle.fir_net.specs.working.Values.{leaf_width}
+use Rattle.fir_net.specs.working.Settled.{with_bits, input_number, clock_number, register_number, numbers_by}
+use Rattle.fir_sim.specs.working.StateWords.{input_width, input_widths, is_clock}
 
 -- the width of a leaf, where it has bits
 abbrev pub width_with_bits : ℕ → List ℕ

@@ -2,11 +2,11 @@
 use Rattle.std.proofs.Common.{◌≡◌, ℕ, zero, suc, ◌+◌, List, [], ◌∷◌, ◌++◌, drop, refl, sym, ap, ◌∙◌, add-one, append_assoc, Option, None}
 use Rattle.std.specs.Prelude.{slice_get, unwrap_or}
 use Rattle.std.proofs.lemmas.List.{append-nil}
-use Rattle.fir_net.specs.declared.net.Role.{Role}
-use Rattle.fir_net.specs.declared.net.Role.TheVariants as role
-use Rattle.fir_net.specs.declared.net.Leaf.{Leaf}
+use Rattle.fir_net.specs.declared.leaf.Role.{Role}
+use Rattle.fir_net.specs.declared.leaf.Role.TheVariants as role
+use Rattle.fir_net.specs.declared.leaf.Leaf.{Leaf}
 use Rattle.trace_text.specs.declared.shape.StateWord.{StateWord}
-use Rattle.fir_sim.specs.StateWords.{state_word, state_words}
+use Rattle.fir_sim.specs.working.StateWords.{state_word, state_words}
 
 -- without a name there is no word
 pub unnamed : (r : Role) (w : ℕ) → state_word r w None ≡ []

@@ -2,24 +2,25 @@
 use Rattle.std.proofs.Common.{◌≡◌, ℕ, ◌≤◌, List, [], ◌∷◌, length, map, sym, ap, ◌∙◌, subst}
 use Rattle.std.specs.List.{AllByRecursion}
 use Rattle.std.proofs.Math.Pow.{pow_pos}
-use Rattle.std.proofs.lemmas.List.{length-map}
 use Rattle.fir_base.specs.Ticks.{FitEach}
 use Rattle.fir_bits.specs.Values.{BitVector, IsBitVector}
 use Rattle.fir_net.specs.declared.net.FlatNet.{FlatNet}
-use Rattle.fir_net.specs.IsNet.{IsLeaf, IsNet}
-use Rattle.fir_net.specs.Settled.{registers, shape}
+use Rattle.fir_net.specs.working.IsNet.{IsLeaf, IsNet}
+use Rattle.fir_net.specs.working.Settled.{shape}
+use Rattle.fir_net.specs.working.IsOrder.{IsOrder}
+use Rattle.fir_net.specs.declared.reads.Read.{Read}
 use Rattle.fir_sim.specs.declared.plan.Plan.{Plan}
 use Rattle.fir_sim.specs.declared.plan.RegisterPlan.{RegisterPlan}
 use Rattle.fir_sim.specs.declared.values.Values.{Values}
-use Rattle.fir_sim.specs.Held.{env_of}
-use Rattle.fir_sim.specs.Views.{numbers, widths}
-use Rattle.fir_sim.specs.Plans.{IsPlan}
-use Rattle.fir_sim.specs.Passes.{zero_of, leaf_zero, output_zero, register_width, values_of, with_state, IsNarrowLeaf, IsNarrowRegister}
-use Rattle.fir_sim.specs.Running.{IsHeld, IsRunning}
+use Rattle.fir_sim.specs.working.Held.{IsHeld}
+use Rattle.fir_sim.specs.working.Views.{numbers, widths}
+use Rattle.fir_sim.specs.working.Plans.{IsPlan}
+use Rattle.fir_sim.specs.working.Passes.{zero_of, leaf_zero, output_zero, register_width, values_of, IsNarrowLeaf, IsNarrowRegister}
+use Rattle.fir_sim.specs.working.Running.{IsRunning}
 use Rattle.fir_sim.proofs.Lists.{all_map}
 use Rattle.fir_sim.proofs.Placings.{values_numbers, values_widths, values_whole}
 use Rattle.fir_sim.proofs.PlanFacts.{shown_widths, state_widths, outputs_narrow, registers_narrow}
-use Rattle.fir_sim.proofs.Ticking.{widths_of, words_held, words_given}
+use Rattle.fir_sim.proofs.Ticking.{widths_of}
 
 zero_whole : (w : ℕ) → w ≤ 128 → IsBitVector (zero_of w)
 zero_whole w narrow = record { narrow = narrow; below = pow_pos w }
@@ -52,19 +53,14 @@ module _ (net : FlatNet) (whole : IsNet net) where
     words_whole : AllByRecursion IsBitVector words
     words_whole = values_whole (map register_width p.registers.items) ns fit_registers (narrow_words p.registers.items (registers_narrow net whole p plan))
 
-    pub words_count : length words ≡ length p.registers.items
-    words_count = sym (length-map words (λ v. v.width)) ∙ ap length (values_widths (map register_width p.registers.items) ns fit_registers) ∙ length-map p.registers.items register_width
-
-    pub zeros_count : length net.leaves ≡ length (map leaf_zero net.leaves)
-    zeros_count = sym (length-map net.leaves leaf_zero)
-
     module _ (v : Values) (state : v.state.items ≡ words) where
       pub state_is : numbers v.state.items ≡ ns
       state_is = ap numbers state ∙ values_numbers (map register_width p.registers.items) ns fit_registers
 
-      pub starts : v.leaves.items ≡ with_state p.registers.items words (map leaf_zero net.leaves) → v.outputs.items ≡ map output_zero p.outputs.items → length v.nodes.items ≡ length net.nodes → IsRunning net p v
-      starts leaves outputs nodes = record {
+      pub starts : (order : List Read) → IsOrder net order → v.leaves.items ≡ map leaf_zero net.leaves → v.outputs.items ≡ map output_zero p.outputs.items → length v.nodes.items ≡ length net.nodes → IsRunning net order p v
+      starts order ordered leaves outputs nodes = record {
         whole = whole;
+        ordered = ordered;
         view = record {
           outputs = ap widths outputs ∙ widths_of output_zero p.outputs.items ∙ shown_widths net whole p plan;
           outputs_are = subst (AllByRecursion IsBitVector) (sym outputs) (zeros_whole (λ q. q.width) p.outputs.items (outputs_narrow net whole p plan));
@@ -72,7 +68,6 @@ module _ (net : FlatNet) (whole : IsNet net) where
           state_is = subst (AllByRecursion IsBitVector) (sym state) words_whole;
         };
         plan = plan;
-        leaves = subst (IsHeld net) (sym leaves) (words_held net whole p plan (map leaf_zero net.leaves) zeros_held words words_wide words_whole);
+        leaves = subst (IsHeld net) (sym leaves) zeros_held;
         nodes = nodes;
-        state = ap (λ (h : List BitVector). map (env_of h) (registers net)) leaves ∙ words_given net whole p plan (map leaf_zero net.leaves) zeros_held words words_wide words_whole ∙ ap numbers (sym state);
       }

@@ -6,25 +6,27 @@ use Rattle.std.proofs.lemmas.List.{length-map}
 use Rattle.std.proofs.lemmas.Option.{slice_get_within}
 use Rattle.fir_base.specs.Ticks.{Tick, FitEach}
 use Rattle.fir_bits.specs.Values.{BitVector, IsBitVector}
-use Rattle.fir_bits.specs.Laws.{HasItsType}
+use Rattle.fir_net.specs.declared.reads.Read.{Read}
 use Rattle.fir_net.specs.declared.net.FlatNet.{FlatNet}
-use Rattle.fir_net.specs.Values.{values}
-use Rattle.fir_net.specs.IsNet.{IsNet}
-use Rattle.fir_net.specs.Settled.{inputs, registers, shape}
-use Rattle.fir_net.specs.Allows.{Allows}
+use Rattle.fir_net.specs.working.IsNet.{IsNet}
+use Rattle.fir_net.specs.working.Laws.{NodesHaveTheirValues}
+use Rattle.fir_net.specs.working.Settled.{inputs, registers, shape}
+use Rattle.fir_net.specs.working.Allows.{Allows}
 use Rattle.fir_sim.specs.declared.plan.InputPlan.{InputPlan}
 use Rattle.fir_sim.specs.declared.plan.Plan.{Plan}
 use Rattle.fir_sim.specs.declared.values.Values.{Values}
-use Rattle.fir_sim.specs.Held.{env_of, Holds}
-use Rattle.fir_sim.specs.Views.{numbers, widths, output_widths, IsTickOf}
-use Rattle.fir_sim.specs.Plans.{IsPlan}
-use Rattle.fir_sim.specs.Passes.{values_of, placed, with_inputs, with_state, input_leaf, input_width, output_width, register_leaf, register_width, output_value, register_value, IsWithin}
-use Rattle.fir_sim.specs.Running.{width_of_leaf, IsHeld, IsRunning}
+use Rattle.fir_sim.specs.working.Held.{env_of, width_of_leaf, IsHeld}
+use Rattle.fir_sim.specs.working.Views.{numbers, widths, output_widths, IsTickOf}
+use Rattle.fir_sim.specs.working.Plans.{IsPlan, root_at}
+use Rattle.fir_sim.specs.working.Passes.{values_of, placed, with_inputs, with_state, input_leaf, input_width, output_width, register_leaf, register_width, output_value, register_value, IsWithin}
+use Rattle.fir_sim.specs.working.Settling.{IsSettled}
+use Rattle.fir_sim.specs.working.Running.{IsRunning}
 use Rattle.fir_sim.proofs.Placings.{AreAt, AreRising, placed_widths, placed_whole, placed_here, placed_elsewhere, inputs_placed, state_placed, values_numbers, values_widths, values_whole, whole_fit}
 use Rattle.fir_sim.proofs.PlanPairs.{inputs_rise, registers_rise}
 use Rattle.fir_sim.proofs.PlanFacts.{input_leaves, register_leaves, input_widths, shown_widths, state_widths, inputs_within, inputs_wide, registers_wide, registers_apart}
-use Rattle.fir_sim.proofs.SettledValues.{settled, holds, settled_holds, settles, outputs_shown, words_taken}
-use Rattle.fir_sim.proofs.ValueBits.{values_count}
+use Rattle.fir_sim.proofs.Settling.{held_count}
+use Rattle.fir_sim.proofs.SettledValues.{settles}
+use Rattle.fir_sim.proofs.Words.{outputs_shown, words_taken, words_wide, outputs_wide as shown_outputs_wide}
 
 -- values of the plans' widths, at their places
 at_places : {P : Type 0} → (leaf width : P → ℕ) (ws : List ℕ) (ps : List P) (vs : List BitVector) → AllByRecursion (λ q. slice_get ws (leaf q) ≡ Some (width q)) ps → widths vs ≡ map width ps → AreAt ws (map leaf ps) vs
@@ -51,10 +53,6 @@ at_within ws (k ∷ ks) (v ∷ vs) h = (slice_get_within ws k v.width h.0, at_wi
 narrow_inputs : (room : ℕ) (ps : List InputPlan) → AllByRecursion (IsWithin room) ps → AllByRecursion (λ w. w ≤ 128) (map input_width ps)
 narrow_inputs room [] h = tt
 narrow_inputs room (q ∷ ps) h = (h.0.narrow, narrow_inputs room ps h.1)
-
--- as many are held as there are leaves
-pub held_count : (net : FlatNet) (held : List BitVector) → IsHeld net held → length net.leaves ≡ length held
-held_count net held h = sym (length-map net.leaves width_of_leaf) ∙ ap length (sym h.widths) ∙ length-map held (λ v. v.width)
 
 -- values that were put at some numbers
 module _ (net : FlatNet) (held : List BitVector) (is_held : IsHeld net held) (ks : List ℕ) (vs : List BitVector) (at : AreAt (map width_of_leaf net.leaves) ks vs) (are : AllByRecursion IsBitVector vs) where
@@ -122,67 +120,80 @@ numbers_of f ps = map_both f (λ v. v.number) ps
 pub widths_of : {P : Type 0} → (f : P → BitVector) (ps : List P) → widths (map f ps) ≡ map (λ q. (f q).width) ps
 widths_of f ps = map_both f (λ v. v.width) ps
 
--- a tick: the inputs are put, the nodes get their values, and outputs and words come from them
-pub record IsTicked (net : FlatNet) (p : Plan) (tick : Tick) (before after : Values) (held : List BitVector) : Type 0 where
-  pub put : held ≡ with_inputs p.inputs.items tick.inputs before.leaves.items
-  pub settled : (env : ℕ → ℕ) → Holds net held env → after.nodes.items ≡ values net env
-  pub outputs : after.outputs.items ≡ map (output_value net (env_of held)) p.outputs.items
+-- a tick: the words and the inputs are put, all is settled, and outputs and words come from it
+pub record IsTicked (net : FlatNet) (p : Plan) (tick : Tick) (before after : Values) (start : List BitVector) : Type 0 where
+  pub put : start ≡ with_inputs p.inputs.items tick.inputs (with_state p.registers.items before.state.items before.leaves.items)
+  pub settled : IsSettled net start after.leaves.items after.nodes.items
+  pub outputs : after.outputs.items ≡ map (output_value after.leaves.items) p.outputs.items
   pub outputs_whole : AllByRecursion IsBitVector after.outputs.items
-  pub state : after.state.items ≡ map (register_value net (env_of held) tick.clocks) p.registers.items
+  pub state : after.state.items ≡ map (register_value after.leaves.items after.nodes.items tick.clocks) p.registers.items
   pub state_whole : AllByRecursion IsBitVector after.state.items
-  pub leaves : after.leaves.items ≡ with_state p.registers.items after.state.items held
 
-module _ (net : FlatNet) (p : Plan) (tick : Tick) (is_tick : IsTickOf net tick) (before after : Values) (held : List BitVector) (running : IsRunning net p before) (t : IsTicked net p tick before after held) where
-  whole : IsNet net
-  whole = running.whole
+-- what is put
+module _ (net : FlatNet) (order : List Read) (p : Plan) (v : Values) (running : IsRunning net order p v) where
+  pub state_put : IsHeld net (with_state p.registers.items v.state.items v.leaves.items)
+  state_put = words_held net running.whole p running.plan v.leaves.items running.leaves v.state.items running.view.state running.view.state_is
 
-  is_held : IsHeld net held
-  is_held = subst (IsHeld net) (sym t.put) (inputs_held net whole p running.plan before.leaves.items running.leaves tick.inputs is_tick.inputs)
-
-  state_wide : widths after.state.items ≡ (shape net).state
-  state_wide = ap widths t.state ∙ widths_of (register_value net (env_of held) tick.clocks) p.registers.items ∙ state_widths net whole p running.plan
-
-  outputs_wide : widths after.outputs.items ≡ output_widths net
-  outputs_wide = ap widths t.outputs ∙ widths_of (output_value net (env_of held)) p.outputs.items ∙ shown_widths net whole p running.plan
-
-  pub still_running : IsRunning net p after
-  still_running = record {
-    whole = whole;
-    view = record { outputs = outputs_wide; outputs_are = t.outputs_whole; state = state_wide; state_is = t.state_whole };
-    plan = running.plan;
-    leaves = subst (IsHeld net) (sym t.leaves) (words_held net whole p running.plan held is_held after.state.items state_wide t.state_whole);
-    nodes = ap length (t.settled (env_of held) (holds net held is_held)) ∙ values_count net (env_of held);
-    state = ap (λ (h : List BitVector). map (env_of h) (registers net)) t.leaves ∙ words_given net whole p running.plan held is_held after.state.items state_wide t.state_whole;
-  }
-
-  -- the values that settle
-  same : values net (settled net (env_of held)) ≡ values net (env_of held)
-  same = sym (t.settled (settled net (env_of held)) (settled_holds net held is_held)) ∙ t.settled (env_of held) (holds net held is_held)
-
-  given : map (env_of held) (inputs net) ≡ tick.inputs
-  given = ap (λ (h : List BitVector). map (env_of h) (inputs net)) t.put ∙ inputs_given net whole p running.plan before.leaves.items running.leaves tick.inputs is_tick.inputs
-
-  kept : map (env_of held) (registers net) ≡ numbers before.state.items
-  kept =
-      ap (λ (h : List BitVector). map (env_of h) (registers net)) t.put
-      ∙ state_kept net whole p running.plan before.leaves.items running.leaves tick.inputs is_tick.inputs
-      ∙ running.state
-
-  state_fits : FitEach (shape net).state (numbers before.state.items)
-  state_fits = subst (λ (ws : List ℕ). FitEach ws (numbers before.state.items)) running.view.state (whole_fit before.state.items running.view.state_is)
-
-  pub allows : HasItsType → Allows net (numbers before.state.items) tick (numbers after.outputs.items) (numbers after.state.items)
-  allows law = (
-    settled net (env_of held),
-    settles net whole held is_held same law (numbers before.state.items) tick is_tick state_fits given kept,
-    sym (ap numbers t.outputs ∙ numbers_of (output_value net (env_of held)) p.outputs.items ∙ ap (map (λ q. (output_value net (env_of held) q).number)) running.plan.outputs ∙ outputs_shown net whole held is_held same),
-    sym (ap numbers t.state ∙ numbers_of (register_value net (env_of held) tick.clocks) p.registers.items ∙ ap (map (λ q. (register_value net (env_of held) tick.clocks q).number)) running.plan.registers ∙ words_taken net whole held is_held same tick),
-  )
-
--- what the tick asks of the passes
-module _ (net : FlatNet) (p : Plan) (v : Values) (running : IsRunning net p v) where
   pub outputs_room : length v.outputs.items ≡ length p.outputs.items
   outputs_room = sym (length-map v.outputs.items (λ x. x.width)) ∙ ap length (running.view.outputs ∙ sym (shown_widths net running.whole p running.plan)) ∙ length-map p.outputs.items output_width
 
   pub state_room : length v.state.items ≡ length p.registers.items
   state_room = sym (length-map v.state.items (λ x. x.width)) ∙ ap length (running.view.state ∙ sym (state_widths net running.whole p running.plan)) ∙ length-map p.registers.items register_width
+
+  module _ (tick : Tick) (is_tick : IsTickOf net tick) where
+    abbrev start : List BitVector
+    start = with_inputs p.inputs.items tick.inputs (with_state p.registers.items v.state.items v.leaves.items)
+
+    pub inputs_put : IsHeld net start
+    inputs_put = inputs_held net running.whole p running.plan (with_state p.registers.items v.state.items v.leaves.items) state_put tick.inputs is_tick.inputs
+
+    pub given : map (env_of start) (inputs net) ≡ tick.inputs
+    given = inputs_given net running.whole p running.plan (with_state p.registers.items v.state.items v.leaves.items) state_put tick.inputs is_tick.inputs
+
+    pub kept : map (env_of start) (registers net) ≡ numbers v.state.items
+    kept =
+        state_kept net running.whole p running.plan (with_state p.registers.items v.state.items v.leaves.items) state_put tick.inputs is_tick.inputs
+        ∙ words_given net running.whole p running.plan v.leaves.items running.leaves v.state.items running.view.state running.view.state_is
+
+module _ (net : FlatNet) (order : List Read) (p : Plan) (tick : Tick) (is_tick : IsTickOf net tick) (before after : Values) (start : List BitVector) (running : IsRunning net order p before) (t : IsTicked net p tick before after start) where
+  state_wide : widths after.state.items ≡ (shape net).state
+  state_wide =
+      ap widths t.state ∙ widths_of (register_value after.leaves.items after.nodes.items tick.clocks) p.registers.items
+      ∙ ap (map (λ q. (register_value after.leaves.items after.nodes.items tick.clocks q).width)) running.plan.registers
+      ∙ words_wide net running.whole after.leaves.items t.settled.held after.nodes.items running.plan.roots tick.clocks
+
+  outputs_wide : widths after.outputs.items ≡ output_widths net
+  outputs_wide =
+      ap widths t.outputs ∙ widths_of (output_value after.leaves.items) p.outputs.items ∙ ap (map (λ q. (output_value after.leaves.items q).width)) running.plan.outputs
+      ∙ shown_outputs_wide net running.whole after.leaves.items t.settled.held
+
+  pub still_running : IsRunning net order p after
+  still_running = record {
+    whole = running.whole;
+    ordered = running.ordered;
+    view = record { outputs = outputs_wide; outputs_are = t.outputs_whole; state = state_wide; state_is = t.state_whole };
+    plan = running.plan;
+    leaves = t.settled.held;
+    nodes = t.settled.room;
+  }
+
+  state_fits : FitEach (shape net).state (numbers before.state.items)
+  state_fits = subst (λ (ws : List ℕ). FitEach ws (numbers before.state.items)) running.view.state (whole_fit before.state.items running.view.state_is)
+
+  inputs_are : map (env_of start) (inputs net) ≡ tick.inputs
+  inputs_are = ap (λ (h : List BitVector). map (env_of h) (inputs net)) t.put ∙ given net order p before running tick is_tick
+
+  words_are : map (env_of start) (registers net) ≡ numbers before.state.items
+  words_are = ap (λ (h : List BitVector). map (env_of h) (registers net)) t.put ∙ kept net order p before running tick is_tick
+
+  pub allows : NodesHaveTheirValues → Allows net (numbers before.state.items) tick (numbers after.outputs.items) (numbers after.state.items)
+  allows law =
+      let roots = running.plan.roots in
+      let leaves = after.leaves.items in
+      let nodes = after.nodes.items in (
+        env_of leaves,
+        root_at roots,
+        settles law net running.whole start leaves nodes t.settled roots running.plan.are_roots (numbers before.state.items) tick is_tick state_fits inputs_are words_are,
+        sym (ap numbers t.outputs ∙ numbers_of (output_value leaves) p.outputs.items ∙ ap (map (λ q. (output_value leaves q).number)) running.plan.outputs ∙ outputs_shown net running.whole leaves),
+        sym (ap numbers t.state ∙ numbers_of (register_value leaves nodes tick.clocks) p.registers.items ∙ ap (map (λ q. (register_value leaves nodes tick.clocks q).number)) running.plan.registers ∙ words_taken law net running.whole start leaves nodes t.settled roots tick),
+      )

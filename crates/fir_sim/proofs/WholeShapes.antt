@@ -1,27 +1,29 @@
 -- What is made of a net's leaves is a shape, and it is the shape of the net's states and ticks.
-use Rattle.std.proofs.Common.{◌≡◌, ℕ, ◌≤◌, List, [], ◌∷◌, ◌++◌, Bool, true, false, IsTrue, refl, ap₂, ◌∙◌, arith, Option, Some, None}
-use Rattle.std.specs.Prelude.{flat_map, nat_eq, count_by, sum_by, replicate}
+use Rattle.std.proofs.Common.{◌≡◌, ℕ, ◌≤◌, List, [], ◌∷◌, ◌++◌, Bool, true, false, IsTrue, refl, ap₂, ◌∙◌, subst, arith, Option, Some, None}
+use Rattle.std.specs.Prelude.{not, ◌&&◌, flat_map, nat_eq, count_by, sum_by, replicate}
 use Rattle.std.specs.List.{AllByRecursion}
-use Rattle.std.proofs.lemmas.Bool.{eqb-true, eqb-false}
+use Rattle.std.proofs.lemmas.Bool.{eqb-false}
 use Rattle.std.proofs.lemmas.List.Concat.{flat_map-append}
 use Rattle.std.proofs.lemmas.List.Sums.{sum_by-cons}
 use Rattle.fir_base.specs.Ticks.{Shape}
 use Rattle.fir_base.specs.Lists.{Distinct}
-use Rattle.ver_ast.specs.Names.{is_word, IsName}
-use Rattle.fir_net.specs.declared.net.Role.{Role}
-use Rattle.fir_net.specs.declared.net.Role.TheVariants as role
-use Rattle.fir_net.specs.declared.net.Leaf.{Leaf}
-use Rattle.fir_net.specs.declared.net.Node.{Node}
+use Rattle.ver_words.specs.Names.{is_word, IsName}
+use Rattle.fir_net.specs.declared.leaf.Role.{Role}
+use Rattle.fir_net.specs.declared.leaf.Role.TheVariants as role
+use Rattle.fir_net.specs.declared.leaf.Leaf.{Leaf}
+use Rattle.fir_net.specs.declared.node.Node.{Node}
 use Rattle.fir_net.specs.declared.net.FlatNet.{FlatNet}
 use Rattle.fir_net.specs.declared.name_table.NameTable.{NameTable}
-use Rattle.fir_net.specs.Settled.{shape as net_shape}
-use Rattle.fir_net.specs.IsNet.{IsLeaf, IsNet}
-use Rattle.fir_net.specs.IsTable.{with_some, somes, IsLeafName, AreLeafNames, IsTable, all_names}
+use Rattle.fir_net.specs.working.Settled.{shape as net_shape}
+use Rattle.fir_net.specs.working.IsNet.{IsLeaf, IsNet}
+use Rattle.fir_net.specs.Paths.{base_name}
+use Rattle.fir_net.specs.working.IsTable.{IsTable}
+use Rattle.fir_net.specs.working.LeafNamed.{with_some, somes, is_wire, has_name, IsLeafName, AreLeafNames}
 use Rattle.trace_text.specs.declared.shape.StateWord.{StateWord}
 use Rattle.trace_text.specs.Shapes.{TraceShape, shape_of, plain, size_of, state_widths, IsWidth, IsStateWord, AreRegistersFirst, array_size, IsShape}
-use Rattle.fir_sim.specs.Shapes.{IsShapeOf}
-use Rattle.fir_sim.specs.StateWords.{input_width, input_widths, is_clock, state_word, state_words}
-use Rattle.fir_sim.proofs.ShapeNames.{names_of, ports_before, distinct_part, all_front}
+use Rattle.fir_sim.specs.working.Shapes.{IsShapeOf}
+use Rattle.fir_sim.specs.working.StateWords.{input_width, input_widths, is_clock, state_word, state_words}
+use Rattle.fir_sim.proofs.ShapeNames.{names_of, ports_before, distinct_back}
 use Rattle.fir_sim.proofs.ShapeNumbers.{width_with_bits, register_width, input_widths_are, register_widths_are, clock_count_is}
 use Rattle.fir_sim.proofs.ShapeWords.{unnamed}
 
@@ -67,6 +69,15 @@ word_first : (r : Role) (w : ℕ) (name : List ℕ) (words : List StateWord) →
 word_first (role.Register r) w name words bits narrow is rest = (record { word = is.spelled; narrow = (bits, narrow); filled = omega arith }, rest)
 word_first _ w name words bits narrow is rest = rest
 
+-- what has a name has bits
+named_bits : (b c : Bool) → (not b && not c) ≡ true → c ≡ false
+named_bits true c h = cc
+named_bits false true h = cc
+named_bits false false h = refl
+
+has_bits : (l : Leaf) → has_name l ≡ true → 1 ≤ l.width
+has_bits l h = let other = eqb-false l.width 0 (named_bits (is_wire l.role) (nat_eq l.width 0) h) in omega arith
+
 words_are : (leaves : List Leaf) (nodes : List Node) (taken : List (List ℕ)) (ls : List Leaf) (names : List (Option (List ℕ))) → AllByRecursion (IsLeaf leaves nodes) ls
     → AreLeafNames taken ls names → AllByRecursion IsName (somes names) → AllByRecursion IsStateWord (state_words names ls)
 words_are leaves nodes taken [] [] are named spelled = tt
@@ -74,23 +85,27 @@ words_are leaves nodes taken [] (n ∷ names) are named spelled = absurd named
 words_are leaves nodes taken (l ∷ ls) [] are named spelled = absurd named
 words_are leaves nodes taken (l ∷ ls) (None ∷ names) are named spelled = rw (unnamed l.role l.width) (words_are leaves nodes taken ls names are.1 named.1 spelled)
 words_are leaves nodes taken (l ∷ ls) (Some name ∷ names) are named spelled =
-    word_first l.role l.width name (state_words names ls) named.0.0 are.0.narrow spelled.0 (words_are leaves nodes (name ∷ taken) ls names are.1 named.1 spelled.1)
+    word_first l.role l.width name (state_words names ls) (has_bits l named.0.0) are.0.narrow spelled.0 (words_are leaves nodes (name ∷ taken) ls names are.1 named.1 spelled.1)
 
--- the widths of a leaf's word: none, where it has no bits
-abbrev HasLeafName : ℕ → Option (List ℕ) → Type 0
-HasLeafName width None = width ≡ 0
-HasLeafName width (Some name) = 1 ≤ width
+-- the widths of a leaf's word: none, where it has no name
+abbrev HasLeafName : Role → ℕ → Option (List ℕ) → Type 0
+HasLeafName r width None = (not (is_wire r) && not (nat_eq width 0)) ≡ false
+HasLeafName r width (Some name) = (not (is_wire r) && not (nat_eq width 0)) ≡ true
 
-has_leaf_name : (taken : List (List ℕ)) (l : Leaf) (name : Option (List ℕ)) → IsLeafName taken l name → HasLeafName l.width name
+has_leaf_name : (taken : List (List ℕ)) (l : Leaf) (name : Option (List ℕ)) → IsLeafName taken l name → HasLeafName l.role l.width name
 has_leaf_name taken l None is = is
 has_leaf_name taken l (Some name) is = is.0
 
-word_widths : (r : Role) (w : ℕ) (name : Option (List ℕ)) → HasLeafName w name → state_widths (state_word r w name) ≡ register_width r w
-word_widths (role.Register r) w None none = rw none refl
+word_widths : (r : Role) (w : ℕ) (name : Option (List ℕ)) → HasLeafName r w name → state_widths (state_word r w name) ≡ register_width r w
+word_widths (role.Register r) w None none = choose (nat_eq w 0) refl
+  where
+    choose : (b : Bool) → nat_eq w 0 ≡ b → [] ≡ width_with_bits w
+    choose true e = rw e refl
+    choose false e = let no : true ≡ false = rw e at none in cc
 word_widths (role.Register r) w (Some name) bits = choose (nat_eq w 0) refl
   where
     choose : (b : Bool) → nat_eq w 0 ≡ b → w ∷ [] ≡ width_with_bits w
-    choose true e = let none = eqb-true w 0 e in absurd (omega arith)
+    choose true e = let no : false ≡ true = rw e at bits in cc
     choose false e = rw e refl
 word_widths _ w name has = refl
 
@@ -116,14 +131,14 @@ module _ (net : FlatNet) (table : NameTable) where
       → state ≡ state_words table.leaves leaves → shape_of inputs clocks state ≡ made
   made_by inputs clocks state leaves same e f g = rw (e, f, g, same) refl
 
-  pub made_is_shape : IsNet net → IsTable net table → Distinct (all_names table) → AllByRecursion IsName (all_names table) → IsShape made
+  pub made_is_shape : IsNet net → IsTable net table → Distinct (somes table.leaves) → AllByRecursion IsName (somes table.leaves) → IsShape made
   made_is_shape whole is distinct spelled =
       let before = ports_before [] net.leaves table.leaves is.leaves whole.ports_first in
       record {
         inputs_narrow = inputs_narrow net.leaves net.nodes net.leaves whole.leaves;
-        words = words_are net.leaves net.nodes [] net.leaves table.leaves whole.leaves is.leaves (all_front IsName (somes table.leaves) (somes table.nodes) spelled);
+        words = words_are net.leaves net.nodes [] net.leaves table.leaves whole.leaves is.leaves spelled;
         registers_first = registers_first (state_words table.leaves net.leaves) (depthless table.leaves net.leaves);
-        distinct = distinct_part (somes table.leaves) before.ports (names_of (state_words table.leaves net.leaves)) (somes table.nodes) before.is distinct;
+        distinct = distinct_back before.ports (names_of (state_words table.leaves net.leaves)) (subst (λ (ns : List (List ℕ)). Distinct ns) before.is distinct);
         few = omega (arith, no_array_words (state_words table.leaves net.leaves) (depthless table.leaves net.leaves));
       }
 
@@ -143,6 +158,6 @@ module _ (net : FlatNet) (table : NameTable) where
       }
 
 -- the words of leaves, as the table of names wants them
-pub leaf_words : (leaves : List Leaf) (nodes : List Node) (ls : List Leaf) → AllByRecursion (IsLeaf leaves nodes) ls → AllByRecursion (λ l. IsTrue (is_word l.name)) ls
+pub leaf_words : (leaves : List Leaf) (nodes : List Node) (ls : List Leaf) → AllByRecursion (IsLeaf leaves nodes) ls → AllByRecursion (λ l. IsTrue (is_word (base_name l.path))) ls
 leaf_words leaves nodes [] are = tt
 leaf_words leaves nodes (l ∷ ls) are = (are.0.word, leaf_words leaves nodes ls are.1)

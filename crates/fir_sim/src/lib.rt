@@ -1,11 +1,12 @@
-//! The simulator: the one run of a net. In comes a net, the state before the first tick and then tick after
-//! tick; out come the outputs of each tick and the state after it, which are those that the net allows
+//! The simulator: the one run of a net. In comes a net with an order, the state before the first tick and then
+//! tick after tick; out come the outputs of each tick and the state after it, which are those that the net allows
 //! (specs/Views; `Allows` of fir_net). `shape` tells what the traces of the net are made of (specs/Shapes).
 #![tactic(auto)]
 
 mod evaluate;
 mod passes;
 mod plan;
+mod roots;
 mod sim;
 mod start;
 mod trace_shape;

@@ -2,19 +2,16 @@
 
 ghost use Rattle.std.specs.Prelude.{◌≡◌, ℕ, ◌<◌, ◌≤◌, length, map, slice_index};
 ghost use Rattle.std.specs.List.{AllByRecursion};
-ghost use Rattle.fir_base.specs.Ticks.{FitEach};
+ghost use Rattle.fir_base.specs.Ticks.{FitEach, rises};
 ghost use Rattle.fir_bits.specs.Values.{IsBitVector};
-ghost use Rattle.fir_net.specs.Settled.{fit};
-ghost use Rattle.fir_net.specs.Next.{rises};
-ghost use Rattle.fir_net.specs.Values.{values};
-ghost use Rattle.fir_sim.specs.Held.{env_of, Holds};
-ghost use Rattle.fir_sim.specs.Plans.{IsDriven, IsClocked};
-ghost use Rattle.fir_sim.specs.Passes.{value_of, input_width, with_inputs, with_state, IsWithin, IsPlaced, output_value, register_value};
+ghost use Rattle.fir_net.specs.working.Next.{ticks};
+ghost use Rattle.fir_sim.specs.working.Held.{entry, held_value};
+ghost use Rattle.fir_sim.specs.working.Passes.{input_width, with_inputs, with_state, IsWithin, IsPlaced, IsShown, output_value, held_next, held_init, held_taken, register_value};
 
-use crate::evaluate::read_value;
+use crate::evaluate::{fitted, held_value, is_high};
 use crate::plan::{InputPlan, OutputPlan, RegisterPlan};
 use fir_bits::Bits;
-use fir_net::FlatNet;
+use fir_net::ResetKind;
 
 /// Puts the inputs' values into their places among the leaves.
 pub fn put_inputs(plans: &[InputPlan], values: &[u128], leaves: &mut [Bits])
@@ -38,71 +35,103 @@ pub fn put_state(plans: &[RegisterPlan], state: &[Bits], leaves: &mut [Bits])
     }
 }
 
-/// Shows at each output what drives it, from the values of leaves and nodes.
-pub fn show_outputs(
-    net: &FlatNet,
-    plans: &[OutputPlan],
-    leaves: &[Bits],
-    nodes: &[Bits],
-    outputs: &mut [Bits],
-)
-    requires driven { AllByRecursion (IsDriven net.now) plans.now }
-    requires held { Holds net.now leaves.now (env_of leaves.now) }
-    requires settled { nodes.now ≡ values net.now (env_of leaves.now) }
+/// Shows the outputs, which are leaves.
+pub fn show_outputs(plans: &[OutputPlan], leaves: &[Bits], outputs: &mut [Bits])
+    requires within { AllByRecursion (IsShown (length leaves.now)) plans.now }
+    requires held_whole { AllByRecursion IsBitVector leaves.now }
     requires room { length outputs.old ≡ length plans.now }
-    ensures values { outputs.new ≡ map (output_value net.now (env_of leaves.now)) plans.now }
+    ensures values { outputs.new ≡ map (output_value leaves.now) plans.now }
     ensures whole { AllByRecursion IsBitVector outputs.new }
 {
     for (j, plan) in plans.iter().enumerate() {
-        outputs[j] = fitted(read_value(net, leaves, nodes, plan.read), plan.width);
+        outputs[j] = held_at(leaves, plan.leaf);
     }
+}
+
+/// The value of a leaf.
+fn held_at(leaves: &[Bits], leaf: usize) -> Bits
+    requires within { leaf < length leaves.now }
+    requires held_whole { AllByRecursion IsBitVector leaves.now }
+    ensures value { result ≡ entry leaves.now leaf }
+    ensures whole { IsBitVector result }
+{
+    leaves[leaf]
 }
 
 /// Gives each register its word after the edges of the named clocks, from the values of leaves and nodes
 /// before them.
 pub fn take_edges(
-    net: &FlatNet,
     plans: &[RegisterPlan],
     named: &[usize],
     leaves: &[Bits],
     nodes: &[Bits],
     state: &mut [Bits],
 )
-    requires clocked { AllByRecursion (IsClocked net.now) plans.now }
+    requires within { AllByRecursion (IsPlaced (length leaves.now)) plans.now }
     requires rising { (i j : ℕ) → i ≤ j → j < length named.now → slice_index named.now i ≤ slice_index named.now j }
-    requires held { Holds net.now leaves.now (env_of leaves.now) }
     requires held_whole { AllByRecursion IsBitVector leaves.now }
-    requires settled { nodes.now ≡ values net.now (env_of leaves.now) }
     requires room { length state.old ≡ length plans.now }
-    ensures values { state.new ≡ map (register_value net.now (env_of leaves.now) named.now) plans.now }
+    ensures values { state.new ≡ map (register_value leaves.now nodes.now named.now) plans.now }
     ensures whole { AllByRecursion IsBitVector state.new }
 {
     for (j, plan) in plans.iter().enumerate() {
-        state[j] = next_word(net, plan, named, leaves, nodes);
+        state[j] = next_word(plan, named, leaves, nodes);
     }
 }
 
 /// The word of a register after the edges of the named clocks.
-fn next_word(
-    net: &FlatNet,
-    plan: &RegisterPlan,
-    named: &[usize],
-    leaves: &[Bits],
-    nodes: &[Bits],
-) -> Bits
-    requires clocked { IsClocked net.now plan.now }
+fn next_word(plan: &RegisterPlan, named: &[usize], leaves: &[Bits], nodes: &[Bits]) -> Bits
+    requires within { IsPlaced (length leaves.now) plan.now }
     requires rising { (i j : ℕ) → i ≤ j → j < length named.now → slice_index named.now i ≤ slice_index named.now j }
-    requires held { Holds net.now leaves.now (env_of leaves.now) }
     requires held_whole { AllByRecursion IsBitVector leaves.now }
-    requires settled { nodes.now ≡ values net.now (env_of leaves.now) }
-    ensures value { result ≡ register_value net.now (env_of leaves.now) named.now plan.now }
+    ensures value { result ≡ register_value leaves.now nodes.now named.now plan.now }
+    ensures whole { IsBitVector result }
+{
+    let now = held_at(leaves, plan.leaf);
+    if ticks(named, plan.clock) {
+        taken(plan, now, leaves, nodes)
+    } else {
+        now
+    }
+}
+
+/// What a register takes at an edge.
+fn taken(plan: &RegisterPlan, now: Bits, leaves: &[Bits], nodes: &[Bits]) -> Bits
+    requires narrow { plan.now.width ≤ 128 }
+    requires whole { IsBitVector now }
+    ensures value { result ≡ held_taken (held_value leaves.now nodes.now) plan.now.width now plan.now.reset plan.now.next }
+    ensures whole { IsBitVector result }
+{
+    match plan.reset {
+        Some(reset) if is_high(leaves, nodes, reset.condition) => match reset.kind {
+            ResetKind::Synchronous => fitted(held_value(leaves, nodes, reset.init), plan.width),
+            ResetKind::Asynchronous => now,
+        },
+        _ => driven(plan, now, leaves, nodes),
+    }
+}
+
+/// What drives a register, or what it shows.
+fn driven(plan: &RegisterPlan, now: Bits, leaves: &[Bits], nodes: &[Bits]) -> Bits
+    requires narrow { plan.now.width ≤ 128 }
+    requires whole { IsBitVector now }
+    ensures value { result ≡ held_next (held_value leaves.now nodes.now) plan.now.width now plan.now.next }
     ensures whole { IsBitVector result }
 {
     match plan.next {
-        Some(read) if rises(named, plan.clock) => {
-            fitted(read_value(net, leaves, nodes, read), plan.width)
-        }
-        _ => leaves[plan.leaf],
+        Some(read) => fitted(held_value(leaves, nodes, read), plan.width),
+        None => now,
+    }
+}
+
+/// Whether a clock, or none, is among the named ones.
+fn ticks(named: &[usize], clock: Option<usize>) -> bool
+    requires { (i j : ℕ) → i ≤ j → j < length named.now → slice_index named.now i ≤ slice_index named.now j }
+    ensures { result ≡ ticks named.now clock }
+{
+    match clock {
+        Some(clock) => rises(named, clock),
+        None => false,
     }
 }
 
@@ -112,17 +141,4 @@ fn rises(named: &[usize], clock: usize) -> bool
     ensures { result ≡ rises named.now clock }
 {
     named.binary_search(&clock).is_ok()
-}
-
-/// The value at a width: with zeros above it, or its low bits.
-fn fitted(value: Bits, width: u32) -> Bits
-    requires { width ≤ 128 }
-    ensures value { result ≡ value_of width (fit value width) }
-    ensures whole { IsBitVector result }
-{
-    if value.width() == width {
-        value
-    } else {
-        value.fit(false, width)
-    }
 }

@@ -1,12 +1,13 @@
 //! What a tick does with the leaves that have bits, worked out once.
 
-ghost use Rattle.std.specs.Prelude.{◌≡◌, IfOk, length, slice_index};
+ghost use Rattle.std.specs.Prelude.{◌≡◌, IfOk};
 ghost use Rattle.std.specs.Option.{option_to_list};
-ghost use Rattle.fir_net.specs.IsNet.{IsNet};
-ghost use Rattle.fir_sim.specs.Plans.{input_plan, output_plan, register_plan, plans_by, clocks_before, clock_count, IsPlan};
+ghost use Rattle.fir_net.specs.working.IsOrder.{IsOrder};
+ghost use Rattle.fir_sim.specs.working.Plans.{input_plan, output_plan, register_plan, plans_by, IsPlan};
 
+use crate::roots::{clock_roots, root_at};
 use fir_base::MemoryOut;
-use fir_net::{FlatNet, Leaf, Read, Role};
+use fir_net::{FlatNet, Leaf, Read, Reset, Role};
 use std::alloc::Global;
 
 /// An input: the number of its leaf, and its width in bits.
@@ -16,20 +17,21 @@ pub(crate) struct InputPlan {
     pub width: u32,
 }
 
-/// An output: what drives it, and its width in bits.
+/// An output: the number of its leaf, and its width in bits.
 #[derive(Clone, Copy)]
 pub(crate) struct OutputPlan {
-    pub read: Read,
+    pub leaf: usize,
     pub width: u32,
 }
 
-/// A register: the number of its leaf, its width in bits, the number of its clock among the clocks, and what
-/// drives it.
+/// A register: the number of its leaf, its width in bits, the number of its clock among the clock inputs, if it
+/// has one, its reset, and what drives it.
 #[derive(Clone, Copy)]
 pub(crate) struct RegisterPlan {
     pub leaf: usize,
     pub width: u32,
-    pub clock: usize,
+    pub clock: Option<usize>,
+    pub reset: Option<Reset>,
     pub next: Option<Read>,
 }
 
@@ -42,34 +44,19 @@ pub(crate) struct Plan {
 }
 
 impl Plan {
-    /// The plan of a net.
-    pub fn new(alloc: Global, net: &FlatNet) -> Result<Plan, MemoryOut>
-        requires { IsNet net.now }
+    /// The plan of a net, with an order of it.
+    pub fn new(alloc: Global, net: &FlatNet, order: &[Read]) -> Result<Plan, MemoryOut>
+        requires { IsOrder net.now order.now }
         ensures { IfOk result (λ p. IsPlan net.now p) }
     {
         let leaves = net.leaves.as_slice();
-        let clocks = clocks_before(alloc, leaves)?;
+        let roots = clock_roots(alloc, net, order)?;
         Ok(Plan {
             inputs: input_plans(alloc, leaves)?,
             outputs: output_plans(alloc, leaves)?,
-            registers: register_plans(alloc, clocks.as_slice(), leaves)?,
+            registers: register_plans(alloc, roots.as_slice(), leaves)?,
         })
     }
-}
-
-/// How many clocks stand before each leaf.
-fn clocks_before(alloc: Global, leaves: &[Leaf]) -> Result<Vec<usize>, MemoryOut>
-    ensures { IfOk result (λ v. v.items ≡ clocks_before 0 leaves.now) }
-{
-    let mut numbers = Vec::new(alloc);
-    let mut count = 0;
-    for leaf in leaves {
-        numbers.push(count)?;
-        if let Role::Clock = leaf.role {
-            count += 1;
-        }
-    }
-    Ok(numbers)
 }
 
 fn input_plans(alloc: Global, leaves: &[Leaf]) -> Result<Vec<InputPlan>, MemoryOut>
@@ -98,49 +85,50 @@ fn output_plans(alloc: Global, leaves: &[Leaf]) -> Result<Vec<OutputPlan>, Memor
     ensures { IfOk result (λ v. v.items ≡ plans_by output_plan 0 leaves.now) }
 {
     let mut plans = Vec::new(alloc);
-    for leaf in leaves {
-        if let Some(plan) = output_plan(leaf) {
+    for (k, leaf) in leaves.iter().enumerate() {
+        if let Some(plan) = output_plan(leaf, k) {
             plans.push(plan)?;
         }
     }
     Ok(plans)
 }
 
-fn output_plan(leaf: &Leaf) -> Option<OutputPlan>
-    ensures { option_to_list result ≡ output_plan leaf.now.role leaf.now.width 0 }
+fn output_plan(leaf: &Leaf, k: usize) -> Option<OutputPlan>
+    ensures { option_to_list result ≡ output_plan leaf.now.role leaf.now.width k }
 {
     let width = leaf.width;
     match leaf.role {
-        Role::Output(read) if width > 0 => Some(OutputPlan { read, width }),
+        Role::Output(_) if width > 0 => Some(OutputPlan { leaf: k, width }),
         _ => None,
     }
 }
 
 fn register_plans(
     alloc: Global,
-    clocks: &[usize],
+    roots: &[Option<usize>],
     leaves: &[Leaf],
 ) -> Result<Vec<RegisterPlan>, MemoryOut>
-    ensures { IfOk result (λ v. v.items ≡ plans_by (register_plan clocks.now) 0 leaves.now) }
+    ensures { IfOk result (λ v. v.items ≡ plans_by (register_plan roots.now) 0 leaves.now) }
 {
     let mut plans = Vec::new(alloc);
     for (k, leaf) in leaves.iter().enumerate() {
-        if let Some(plan) = register_plan(clocks, leaf, k) {
+        if let Some(plan) = register_plan(roots, leaf, k) {
             plans.push(plan)?;
         }
     }
     Ok(plans)
 }
 
-fn register_plan(clocks: &[usize], leaf: &Leaf, k: usize) -> Option<RegisterPlan>
-    ensures { option_to_list result ≡ register_plan clocks.now leaf.now.role leaf.now.width k }
+fn register_plan(roots: &[Option<usize>], leaf: &Leaf, k: usize) -> Option<RegisterPlan>
+    ensures { option_to_list result ≡ register_plan roots.now leaf.now.role leaf.now.width k }
 {
     let width = leaf.width;
     match leaf.role {
         Role::Register(register) if width > 0 => Some(RegisterPlan {
             leaf: k,
             width,
-            clock: clocks.get(register.clock).copied().unwrap_or(0),
+            clock: root_at(roots, register.clock),
+            reset: register.reset,
             next: register.next,
         }),
         _ => None,

@@ -2,59 +2,67 @@
 
 ghost use Rattle.std.specs.Prelude.{◌≡◌, IfOk};
 ghost use Rattle.fir_base.specs.Ticks.{FitEach};
-ghost use Rattle.fir_net.specs.IsNet.{IsNet};
-ghost use Rattle.fir_net.specs.Settled.{shape};
-ghost use Rattle.fir_net.specs.Allows.{Allows};
-ghost use Rattle.fir_sim.specs.Views.{numbers, widths, output_widths, HasWidths, IsTickOf};
+ghost use Rattle.fir_net.specs.working.IsNet.{IsNet};
+ghost use Rattle.fir_net.specs.working.IsOrder.{IsOrder};
+ghost use Rattle.fir_net.specs.working.Settled.{shape};
+ghost use Rattle.fir_net.specs.working.Allows.{Allows};
+ghost use Rattle.fir_sim.specs.working.Views.{numbers, widths, output_widths, HasWidths, IsTickOf};
 
 use crate::plan::Plan;
 use crate::start::{leaf_zeros, node_room, output_zeros, state_of};
 use crate::values::Values;
 use fir_base::MemoryOut;
 use fir_bits::Bits;
-use fir_bits::laws::has_its_type;
+use fir_loop::Order;
 use fir_net::FlatNet;
+use fir_net::laws::nodes_have_their_values;
 use std::alloc::Global;
 use std::marker::Model;
 use trace_text::{Init, Tick};
 
-/// A net with the values of its last tick, and its state.
+/// A net and an order of it, with the values of its last tick, and its state.
 #[derive(Drop)]
 pub struct Sim {
     net: FlatNet,
+    order: Order,
     plan: Plan,
     values: Values,
 }
 
 impl Model for Sim {
-    ghost use Rattle.fir_sim.specs.Views.{SimView, view_of};
-    ghost use Rattle.fir_sim.specs.Running.{IsRunning};
+    ghost use Rattle.fir_sim.specs.working.Views.{SimView, view_of};
+    ghost use Rattle.fir_sim.specs.working.Running.{IsRunning};
 
     ghost Value = { SimView };
 
     ghost view = { λ s. view_of s.net s.values.outputs.items s.values.state.items };
 
-    ghost invariant = { λ s. IsRunning s.net s.plan s.values };
+    ghost invariant = { λ s. IsRunning s.net s.order s.plan s.values };
 }
 
 impl Sim {
-    /// A simulator of the net in that state. The outputs are 0 before the first tick. Only memory can be
+    /// A simulator of the net in that state, which walks this order of the net at each tick. The outputs are 0 before the first tick. Only memory can be
     /// wanting.
-    pub fn new(alloc: Global, net: FlatNet, init: &Init) -> Result<Sim, MemoryOut>
+    pub fn new(alloc: Global, net: FlatNet, order: Order, init: &Init) -> Result<Sim, MemoryOut>
         requires whole { IsNet net }
+        requires ordered { IsOrder net order }
         requires fits { FitEach (shape net).state init.now }
         ensures net { IfOk result (λ s. s.net ≡ net) }
         ensures state { IfOk result (λ s. numbers s.state ≡ init.now) }
     {
-        let plan = Plan::new(alloc, &net)?;
-        let mut values = Values {
+        let plan = Plan::new(alloc, &net, order.as_slice())?;
+        let values = Values {
             leaves: leaf_zeros(alloc, net.leaves.as_slice())?,
             nodes: node_room(alloc, net.nodes.as_slice().len())?,
             outputs: output_zeros(alloc, plan.outputs.as_slice())?,
             state: state_of(alloc, plan.registers.as_slice(), init.words())?,
         };
-        values.put_state(&plan);
-        Ok(Sim { net, plan, values })
+        Ok(Sim {
+            net,
+            order,
+            plan,
+            values,
+        })
     }
 
     /// Takes one tick: the outputs are then those of the tick, and the state the one after it. It takes no
@@ -73,12 +81,12 @@ impl Sim {
         ensures net { self.new.net ≡ self.old.net }
         ensures allows { Allows self.old.net (numbers self.old.state) (record { inputs = inputs.now; clocks = clocks.now }) (numbers self.new.outputs) (numbers self.new.state) }
     {
-        has_its_type();
-        self.values.put_inputs(&self.plan, inputs);
-        self.values.evaluate(&self.net);
-        self.values.show_outputs(&self.net, &self.plan);
-        self.values.take_edges(&self.net, &self.plan, clocks);
+        nodes_have_their_values();
         self.values.put_state(&self.plan);
+        self.values.put_inputs(&self.plan, inputs);
+        self.values.settle(&self.net, &self.order);
+        self.values.show_outputs(&self.plan);
+        self.values.take_edges(&self.plan, clocks);
     }
 
     /// The outputs of the last tick in port order.

@@ -3,7 +3,7 @@
 ghost use Rattle.std.specs.Prelude.{◌≡◌, ◌≤◌, IfOk, length, map};
 ghost use Rattle.std.specs.List.{AllByRecursion};
 ghost use Rattle.fir_base.specs.Ticks.{FitEach};
-ghost use Rattle.fir_sim.specs.Passes.{values_of, leaf_zero, output_zero, register_width, IsNarrowLeaf, IsNarrowOutput, IsNarrowRegister};
+ghost use Rattle.fir_sim.specs.working.Passes.{values_of, leaf_zero, output_zero, register_width, IsNarrowLeaf, IsNarrowOutput, IsNarrowRegister};
 
 use crate::plan::{OutputPlan, RegisterPlan};
 use fir_base::MemoryOut;

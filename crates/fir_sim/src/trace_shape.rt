@@ -1,12 +1,12 @@
 //! The shape of a net's traces.
 
 ghost use Rattle.std.specs.Prelude.{◌≡◌, ◌++◌, IfOk, OnOk, option_map, count_by};
-ghost use Rattle.fir_net.specs.IsNet.{IsNet};
-ghost use Rattle.fir_sim.specs.Shapes.{IsShapeOf};
-ghost use Rattle.fir_sim.specs.StateWords.{input_widths, is_clock, state_word, state_words};
+ghost use Rattle.fir_net.specs.working.IsNet.{IsNet};
+ghost use Rattle.fir_sim.specs.working.Shapes.{IsShapeOf};
+ghost use Rattle.fir_sim.specs.working.StateWords.{input_widths, is_clock, state_word, state_words};
 
 use fir_base::{MemoryOut, Name};
-use fir_net::{FlatNet, Leaf, NameTable, Role, names};
+use fir_net::{FlatNet, Leaf, LeafId, NameTable, Role, names};
 use std::alloc::Global;
 use trace_text::{Shape, StateWord};
 
@@ -63,7 +63,7 @@ fn state_words(
 {
     let mut words = Vec::new(alloc);
     for (number, leaf) in leaves.iter().enumerate() {
-        put_state_word(alloc, &mut words, leaf, table.leaf(number))?;
+        put_state_word(alloc, &mut words, leaf, table.leaf(LeafId::new(number)))?;
     }
     Ok(words)
 }

@@ -1,22 +1,23 @@
 //! The values of a net at a tick. No pass of a tick takes memory.
 
-ghost use Rattle.std.specs.Prelude.{◌≡◌, ℕ, ◌<◌, ◌≤◌, length, map, slice_index};
+ghost use Rattle.std.specs.Prelude.{◌≡◌, ◌≤◌, ◌<◌, ℕ, length, map, slice_index};
 ghost use Rattle.std.specs.List.{AllByRecursion};
 ghost use Rattle.fir_base.specs.Ticks.{FitEach};
 ghost use Rattle.fir_bits.specs.Values.{IsBitVector};
-ghost use Rattle.fir_net.specs.IsNet.{IsNet};
-ghost use Rattle.fir_net.specs.Values.{values};
-ghost use Rattle.fir_sim.specs.Held.{env_of, Holds};
-ghost use Rattle.fir_sim.specs.Plans.{IsDriven, IsClocked};
-ghost use Rattle.fir_sim.specs.Passes.{input_width, with_inputs, with_state, IsWithin, IsPlaced, output_value, register_value};
+ghost use Rattle.fir_net.specs.working.IsNet.{IsNet};
+ghost use Rattle.fir_net.specs.working.IsOrder.{IsOrder};
+ghost use Rattle.fir_sim.specs.working.Held.{IsHeld};
+ghost use Rattle.fir_sim.specs.working.Settling.{IsSettled};
+ghost use Rattle.fir_sim.specs.working.Passes.{input_width, with_inputs, with_state, IsWithin, IsPlaced, IsShown, output_value, register_value};
 
 use crate::plan::Plan;
 use crate::{evaluate, passes};
 use fir_bits::Bits;
+use fir_loop::Order;
 use fir_net::FlatNet;
 
-/// The values of all leaves and nodes at their numbers, of which only inputs and registers are kept up among
-/// the leaves; and the values of the outputs and the words of the state, in their order.
+/// The values of all leaves and nodes at their numbers, where a clock's leaf has none to speak of; and the
+/// values of the outputs and the words of the state, in their order.
 #[derive(Drop)]
 pub(crate) struct Values {
     pub leaves: Vec<Bits>,
@@ -26,16 +27,6 @@ pub(crate) struct Values {
 }
 
 impl Values {
-    /// Puts the inputs into their places among the leaves.
-    pub fn put_inputs(&mut self, plan: &Plan, inputs: &[u128])
-        requires within { AllByRecursion (IsWithin (length self.old.leaves.items)) plan.now.inputs.items }
-        requires fits { FitEach (map input_width plan.now.inputs.items) inputs.now }
-        ensures leaves { self.new.leaves.items ≡ with_inputs plan.now.inputs.items inputs.now self.old.leaves.items }
-        ensures others { self.new ≡ record self.old { leaves = self.new.leaves } }
-    {
-        passes::put_inputs(plan.inputs.as_slice(), inputs, &mut self.leaves);
-    }
-
     /// Puts the words of the state into the registers' places among the leaves.
     pub fn put_state(&mut self, plan: &Plan)
         requires within { AllByRecursion (IsPlaced (length self.old.leaves.items)) plan.now.registers.items }
@@ -47,53 +38,54 @@ impl Values {
         passes::put_state(plan.registers.as_slice(), state, &mut self.leaves);
     }
 
-    /// Computes the nodes from the leaves.
-    pub fn evaluate(&mut self, net: &FlatNet)
-        requires whole { IsNet net.now }
-        requires held { Holds net.now self.old.leaves.items (env_of self.old.leaves.items) }
-        requires room { length self.old.nodes.items ≡ length net.now.nodes }
-        ensures nodes { (env : ℕ → ℕ) → Holds net.now self.old.leaves.items env → self.new.nodes.items ≡ values net.now env }
-        ensures others { self.new ≡ record self.old { nodes = self.new.nodes } }
+    /// Puts the inputs into their places among the leaves.
+    pub fn put_inputs(&mut self, plan: &Plan, inputs: &[u128])
+        requires within { AllByRecursion (IsWithin (length self.old.leaves.items)) plan.now.inputs.items }
+        requires fits { FitEach (map input_width plan.now.inputs.items) inputs.now }
+        ensures leaves { self.new.leaves.items ≡ with_inputs plan.now.inputs.items inputs.now self.old.leaves.items }
+        ensures others { self.new ≡ record self.old { leaves = self.new.leaves } }
     {
-        evaluate::evaluate(net, self.leaves.as_slice(), &mut self.nodes);
+        passes::put_inputs(plan.inputs.as_slice(), inputs, &mut self.leaves);
     }
 
-    /// Shows at each output what drives it.
-    pub fn show_outputs(&mut self, net: &FlatNet, plan: &Plan)
-        requires driven { AllByRecursion (IsDriven net.now) plan.now.outputs.items }
-        requires held { Holds net.now self.old.leaves.items (env_of self.old.leaves.items) }
-        requires settled { self.old.nodes.items ≡ values net.now (env_of self.old.leaves.items) }
+    /// Gives all leaves and nodes their values.
+    pub fn settle(&mut self, net: &FlatNet, order: &Order)
+        requires whole { IsNet net.now }
+        requires ordered { IsOrder net.now order.now }
+        requires held { IsHeld net.now self.old.leaves.items }
+        requires room { length self.old.nodes.items ≡ length net.now.nodes }
+        ensures settled { IsSettled net.now self.old.leaves.items self.new.leaves.items self.new.nodes.items }
+        ensures others { self.new ≡ record self.old { leaves = self.new.leaves; nodes = self.new.nodes } }
+    {
+        evaluate::settle(net, order.as_slice(), &mut self.leaves, &mut self.nodes);
+    }
+
+    /// Shows the outputs.
+    pub fn show_outputs(&mut self, plan: &Plan)
+        requires within { AllByRecursion (IsShown (length self.old.leaves.items)) plan.now.outputs.items }
+        requires held_whole { AllByRecursion IsBitVector self.old.leaves.items }
         requires room { length self.old.outputs.items ≡ length plan.now.outputs.items }
-        ensures outputs { self.new.outputs.items ≡ map (output_value net.now (env_of self.old.leaves.items)) plan.now.outputs.items }
+        ensures outputs { self.new.outputs.items ≡ map (output_value self.old.leaves.items) plan.now.outputs.items }
         ensures whole { AllByRecursion IsBitVector self.new.outputs.items }
         ensures others { self.new ≡ record self.old { outputs = self.new.outputs } }
     {
-        let (leaves, nodes) = (self.leaves.as_slice(), self.nodes.as_slice());
-        passes::show_outputs(
-            net,
-            plan.outputs.as_slice(),
-            leaves,
-            nodes,
-            &mut self.outputs,
-        );
+        let leaves = self.leaves.as_slice();
+        passes::show_outputs(plan.outputs.as_slice(), leaves, &mut self.outputs);
     }
 
-    /// Gives each register its word after the edges of the named clocks. Among the leaves it keeps the one
-    /// before them.
-    pub fn take_edges(&mut self, net: &FlatNet, plan: &Plan, named: &[usize])
-        requires clocked { AllByRecursion (IsClocked net.now) plan.now.registers.items }
+    /// Gives each register its word after the edges of the named clocks. The leaves keep what they are before
+    /// them.
+    pub fn take_edges(&mut self, plan: &Plan, named: &[usize])
+        requires within { AllByRecursion (IsPlaced (length self.old.leaves.items)) plan.now.registers.items }
         requires rising { (i j : ℕ) → i ≤ j → j < length named.now → slice_index named.now i ≤ slice_index named.now j }
-        requires held { Holds net.now self.old.leaves.items (env_of self.old.leaves.items) }
         requires held_whole { AllByRecursion IsBitVector self.old.leaves.items }
-        requires settled { self.old.nodes.items ≡ values net.now (env_of self.old.leaves.items) }
         requires room { length self.old.state.items ≡ length plan.now.registers.items }
-        ensures state { self.new.state.items ≡ map (register_value net.now (env_of self.old.leaves.items) named.now) plan.now.registers.items }
+        ensures state { self.new.state.items ≡ map (register_value self.old.leaves.items self.old.nodes.items named.now) plan.now.registers.items }
         ensures whole { AllByRecursion IsBitVector self.new.state.items }
         ensures others { self.new ≡ record self.old { state = self.new.state } }
     {
         let (leaves, nodes) = (self.leaves.as_slice(), self.nodes.as_slice());
         passes::take_edges(
-            net,
             plan.registers.as_slice(),
             named,
             leaves,

@@ -8,7 +8,7 @@ use Rattle.trace_text.specs.Shapes.{TraceShape}
 use Rattle.trace_text.specs.LineFaults.{line_faults}
 use Rattle.trace_text.specs.TraceSpells.{zeros, LinesSpell}
 use Rattle.trace_text.specs.BadLine.{are_some, BadLine}
-use Rattle.trace_text.specs.Laws.{SpelledIsNotBad, SpellsOneTrace, ShowsOneBadLine}
+use Rattle.trace_text.specs.working.Laws.{SpelledIsNotBad, SpellsOneTrace, ShowsOneBadLine}
 use Rattle.trace_text.proofs.ReadLines.{AreRead, spelled_read}
 use Rattle.trace_text.proofs.OneReading.{one_reading, before_all, read_faultless}
 use Rattle.trace_text.proofs.LineFronts.{front_of_all, one_whole, SameEnd, compare_ends}

@@ -7,7 +7,8 @@ use Rattle.trace_text.specs.declared.fault.Cause.TheVariants.{Absent}
 use Rattle.trace_text.specs.Spelling.{decimal_of, listed, are_rising, is_no_clock, are_clocks, is_clock_list, clocks_of, is_decimal}
 use Rattle.std.specs.List.{list_all}
 use Rattle.trace_text.specs.LineFaults.{unless, absent_clocks, absent_in_list}
-use Rattle.trace_text.proofs.EmptyLists.{parts, joined, passes, passed, both}
+use Rattle.fir_base.proofs.Tests.{both}
+use Rattle.trace_text.proofs.EmptyLists.{parts, joined, passes, passed}
 
 clocks_there : (low clocks place : ℕ) (ws : List (List ℕ)) → are_rising low (map decimal_of ws) ≡ true → absent_clocks clocks place ws ≡ [] → AreClocks low clocks (map decimal_of ws)
 clocks_there low clocks place [] rising none = tt

@@ -1,14 +1,15 @@
 -- The pieces of a clock list, judged one by one.
-use Rattle.std.proofs.Common.{◌≡◌, ℕ, ◌+◌, List, [], ◌∷◌, map, Option, Some, None, Bool, true, false, ◌&&◌, nat_le, nat_lt, Bor, refl, sym, ap, ◌∙◌, add-one, arith}
+use Rattle.std.proofs.Common.{◌≡◌, ℕ, ◌+◌, List, [], ◌∷◌, map, Option, Some, None, Bool, true, false, ◌&&◌, nat_le, nat_lt, refl, sym, ap, ◌∙◌, add-one, arith}
 use Rattle.std.specs.Prelude.{MatchOption}
 use Rattle.std.specs.List.{list_all}
 use Rattle.std.proofs.lemmas.Bool.{and_left, and_right, le-leb}
+use Rattle.trace_text.specs.declared.clock_list.Clock.{Clock}
 use Rattle.trace_text.specs.Spelling.{is_decimal, decimal_of, are_rising}
 
 -- the least number that may stand behind a piece
-abbrev pub low_behind : Option (Bor (List ℕ)) → ℕ
+abbrev pub low_behind : Option Clock → ℕ
 low_behind None = 0
-low_behind (Some before) = decimal_of before.now + 1
+low_behind (Some before) = decimal_of before.digits.now + 1
 
 -- whether these are the pieces of rising clocks from a number on
 abbrev pub rise_from : ℕ → List (List ℕ) → Bool
@@ -34,7 +35,7 @@ pub none_left : (low : ℕ) (left : List (List ℕ)) (whole : Bool) → left ≡
 none_left low left whole none decides = sym (ap (rise_from low) none) ∙ decides
 
 -- what the test of a piece against the one before it tells
-pub low_is : (before : Option (Bor (List ℕ))) (piece : List ℕ) (rises : Bool)
-    → MatchOption before (rises ≡ true) (λ w. rises ≡ nat_lt (decimal_of w.now) (decimal_of piece)) → nat_le (low_behind before) (decimal_of piece) ≡ rises
+pub low_is : (before : Option Clock) (piece : List ℕ) (rises : Bool)
+    → MatchOption before (rises ≡ true) (λ w. rises ≡ nat_lt (decimal_of w.digits.now) (decimal_of piece)) → nat_le (low_behind before) (decimal_of piece) ≡ rises
 low_is None piece rises h = le-leb 0 (decimal_of piece) (omega arith) ∙ sym h
 low_is (Some w) piece rises h = rw add-one (sym h)

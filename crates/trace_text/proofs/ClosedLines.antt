@@ -4,7 +4,7 @@ use Rattle.std.proofs.Math.Seq.{take-append_seam}
 use Rattle.std.proofs.lemmas.List.{append-nil, map-append, take_more}
 use Rattle.fir_bits.specs.Values.{BitVector}
 use Rattle.trace_text.specs.OutputLines.{spaced, value_text}
-use Rattle.trace_text.specs.ClosedWords.{closed}
+use Rattle.trace_text.specs.working.ClosedWords.{closed}
 
 pub closed-append : (vs ws : List (List ℕ)) → closed (vs ++ ws) ≡ closed vs ++ closed ws
 closed-append [] ws = refl

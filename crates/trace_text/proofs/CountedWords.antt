@@ -1,5 +1,5 @@
 -- An init line with too many words.
-use Rattle.std.proofs.Common.{◌≡◌, ℕ, ◌<◌, List, [], ◌∷◌, length, nat_lt, nat_le, false, ap, arith}
+use Rattle.std.proofs.Common.{◌≡◌, ℕ, ◌+◌, ◌<◌, List, [], ◌∷◌, length, nat_lt, nat_le, false, ap, arith}
 use Rattle.std.proofs.lemmas.Bool.{le-ltb, lt-leb}
 use Rattle.trace_text.specs.declared.fault.Cause.TheVariants.{Count}
 use Rattle.trace_text.specs.Lines.{words_of}
@@ -13,7 +13,8 @@ many_words n h =
     rw (few, most)
 
 -- words behind the fourth
-pub miscounted : (words : List (List ℕ)) (a b c d rest : List ℕ) (n : ℕ) → words ≡ a ∷ b ∷ c ∷ d ∷ words_of rest → n ≡ length words → init_count (length words) ≡ Count n 4 ∷ []
+pub miscounted : (words : List (List ℕ)) (a b c d rest : List ℕ) (n : ℕ) → words ≡ a ∷ b ∷ c ∷ d ∷ words_of rest → n ≡ length (words_of rest)
+    → init_count (length words) ≡ Count (4 + n) 4 ∷ []
 miscounted words a b c d rest n e count =
-    let many : 4 < n = omega (arith, some_word rest, ap length e) in
-    rw (← count) (many_words n many)
+    let all : length words ≡ 4 + n = omega (arith, ap length e) in
+    rw all (many_words (4 + n) (omega (arith, some_word rest)))

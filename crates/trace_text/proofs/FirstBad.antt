@@ -11,7 +11,7 @@ use Rattle.trace_text.specs.SpelledLines.{IsInitLine, IsTickLine}
 use Rattle.trace_text.specs.LineFaults.{line_faults}
 use Rattle.trace_text.specs.TraceSpells.{zeros}
 use Rattle.trace_text.specs.BadLine.{BadLine}
-use Rattle.trace_text.specs.Laws.{TraceIsSpelledOrBad}
+use Rattle.trace_text.specs.working.Laws.{TraceIsSpelledOrBad}
 use Rattle.trace_text.proofs.JudgedLines.{Spelled, line_judged}
 use Rattle.trace_text.proofs.ReadLines.{AreRead, read_spelled}
 use Rattle.trace_text.proofs.OneReading.{follows, behind_a_tick, before_all}

@@ -5,7 +5,7 @@ use Rattle.std.proofs.lemmas.Bool.{ltb-true, ltb-false}
 use Rattle.std.proofs.lemmas.List.Sums.{fails_before_first}
 use Rattle.std.proofs.lemmas.List.Splits.{slice_split_first, slice_split_none, length-slice_split}
 use Rattle.trace_text.specs.Lines.{words_of}
-use Rattle.trace_text.proofs.EmptyLists.{chosen}
+use Rattle.fir_base.proofs.Tests.{chosen}
 
 abbrev pub is_space : ℕ → Bool
 is_space b = nat_eq b 32

@@ -9,7 +9,7 @@ use Rattle.std.proofs.lemmas.List.Sums.{sum_by-cons}
 use Rattle.trace_text.specs.declared.shape.StateWord.{StateWord}
 use Rattle.trace_text.specs.declared.shape.FoundWord.{FoundWord}
 use Rattle.trace_text.specs.Shapes.{IsStateWord, size_of, array_size, state_widths, found_from}
-use Rattle.trace_text.proofs.EmptyLists.{chosen}
+use Rattle.fir_base.proofs.Tests.{chosen}
 
 abbrev here : ℕ → StateWord → FoundWord
 here place s = record { place = place; width = s.width; depth = s.depth }

@@ -1,15 +1,15 @@
 -- The words of a register and of an array that are read, and the values that fit or do not.
-use Rattle.std.proofs.Common.{◌≡◌, ℕ, ◌+◌, ◌^◌, ◌<◌, ◌≤◌, List, [], ◌∷◌, length, true, false, nat_lt, codes, Option, Some, None, inl, inr, arith}
-use Rattle.std.proofs.Math.Pow.{pow_mono}
+use Rattle.std.proofs.Common.{◌≡◌, ℕ, ◌+◌, ◌^◌, ◌<◌, ◌≤◌, List, [], ◌∷◌, length, true, false, nat_lt, codes, Option, Some, None, inl, inr, refl, arith}
 use Rattle.std.proofs.lemmas.Bool.{le-ltb}
-use Rattle.ver_ast.specs.Names.{is_word}
-use Rattle.trace_text.specs.declared.fault.Cause.TheVariants.{Wide}
+use Rattle.ver_words.specs.Names.{is_word}
+use Rattle.trace_text.specs.declared.fault.Cause.TheVariants.{Absent, Wide}
 use Rattle.trace_text.specs.declared.shape.FoundWord.{FoundWord}
 use Rattle.trace_text.specs.Lines.{line_limit, words_of}
-use Rattle.trace_text.specs.Spelling.{is_value, value_of, is_decimal, decimal_of}
+use Rattle.trace_text.specs.Spelling.{is_value, hexadecimal_of, is_decimal, decimal_of}
 use Rattle.trace_text.specs.Shapes.{TraceShape, state_widths, found}
 use Rattle.trace_text.specs.SpelledLines.{IsInitLine}
-use Rattle.trace_text.specs.LineFaults.{wide}
+use Rattle.trace_text.specs.LineFaults.{init_words, wide}
+use Rattle.trace_text.specs.working.Readings.{first_cause}
 use Rattle.trace_text.proofs.FoundPlaces.{found_within}
 
 abbrev pub word_at : ℕ → ℕ → Option ℕ → FoundWord
@@ -21,7 +21,7 @@ Gives shape words place value =
     ((line : List ℕ) → length line ≤ line_limit → words_of line ≡ codes "init" ∷ words → IsInitLine shape line place value) × (place < length (state_widths shape.state))
 
 module _ (shape : TraceShape) (name digits : List ℕ) (place width value : ℕ) where
-  pub register_given : is_word name ≡ true → is_value digits ≡ true → found shape name ≡ Some (word_at place width None) → value_of digits ≡ value → value < 2 ^ width
+  pub register_given : is_word name ≡ true → is_value digits ≡ true → found shape name ≡ Some (word_at place width None) → hexadecimal_of digits ≡ value → value < 2 ^ width
       → Gives shape (name ∷ digits ∷ []) place value
   register_given spelled digits_spelled named is fits =
       let within = found_within 0 shape.state name (word_at place width None) named in (
@@ -41,7 +41,7 @@ module _ (shape : TraceShape) (name digits : List ℕ) (place width value : ℕ)
       )
 
   pub array_given : (address : List ℕ) (depth offset : ℕ) → is_word name ≡ true → is_decimal address ≡ true → is_value digits ≡ true → found shape name ≡ Some (word_at place width (Some depth))
-      → offset ≡ decimal_of address → offset < depth → value_of digits ≡ value → value < 2 ^ width → Gives shape (name ∷ address ∷ digits ∷ []) (place + offset) value
+      → offset ≡ decimal_of address → offset < depth → hexadecimal_of digits ≡ value → value < 2 ^ width → Gives shape (name ∷ address ∷ digits ∷ []) (place + offset) value
   array_given address depth offset spelled address_spelled digits_spelled named offset_is below is fits =
       let within = found_within 0 shape.state name (word_at place width (Some depth)) named in (
         λ line short words. inr (record {
@@ -65,9 +65,14 @@ module _ (shape : TraceShape) (name digits : List ℕ) (place width value : ℕ)
         omega arith,
       )
 
--- a number that a u128 does not hold fits no width up to 128 bits
-pub none_fit : (k width : ℕ) (digits : List ℕ) → width ≤ 128 → 2 ^ 128 ≤ value_of digits → wide k width digits ≡ Wide k width ∷ []
-none_fit k width digits narrow high =
-    let grown : 2 ^ width ≤ 2 ^ 128 = pow_mono narrow in
-    let above : nat_lt (value_of digits) (2 ^ width) ≡ false = le-ltb (value_of digits) (2 ^ width) (omega arith) in
-    rw above
+-- an address that the array does not have
+pub address_told : (shape : TraceShape) (name address digits : List ℕ) (place width depth : ℕ) → is_word name ≡ true → is_decimal address ≡ true → is_value digits ≡ true
+    → found shape name ≡ Some (word_at place width (Some depth)) → depth ≤ decimal_of address
+    → first_cause (init_words shape (name ∷ address ∷ digits ∷ [])) ≡ Some (Absent (6 + length name) (length address))
+address_told shape name address digits place width depth spelled address_spelled digits_spelled named beyond =
+    let past : nat_lt (decimal_of address) depth ≡ false = le-ltb (decimal_of address) depth beyond in
+    rw (spelled, address_spelled, digits_spelled, named, past) refl
+
+-- a number that does not fit the width
+pub none_fit : (k width : ℕ) (digits : List ℕ) → 2 ^ width ≤ hexadecimal_of digits → wide k width digits ≡ Wide k width ∷ []
+none_fit k width digits high = let above : nat_lt (hexadecimal_of digits) (2 ^ width) ≡ false = le-ltb (hexadecimal_of digits) (2 ^ width) high in rw above

@@ -2,16 +2,18 @@
 -- The name is a word of the state, a register with a value or an array with an address and a value, and the value fits.
 use Rattle.std.proofs.Common.{◌≡◌, ℕ, ◌+◌, ◌^◌, ◌<◌, ◌≤◌, List, [], ◌∷◌, ◌++◌, length, Bool, true, false, nat_lt, nat_le, refl, arith, codes, Option, Some, None, inl, inr}
 use Rattle.std.proofs.lemmas.Bool.{ltb-true, lt-ltb, leb-true}
-use Rattle.ver_ast.specs.Names.{is_word}
+use Rattle.ver_words.specs.Names.{is_word}
 use Rattle.trace_text.specs.declared.fault.Cause.{Cause}
 use Rattle.trace_text.specs.declared.fault.Cause.TheVariants.{Misspelled, Count, Absent}
 use Rattle.trace_text.specs.Lines.{line_limit, words_of}
-use Rattle.trace_text.specs.Spelling.{is_value, value_of, is_decimal, decimal_of}
+use Rattle.trace_text.specs.Spelling.{is_value, hexadecimal_of, is_decimal, decimal_of}
 use Rattle.trace_text.specs.declared.shape.FoundWord.{FoundWord}
 use Rattle.trace_text.specs.Shapes.{TraceShape, found}
 use Rattle.trace_text.specs.SpelledLines.{IsRegisterLine, IsArrayLine, IsInitLine}
 use Rattle.trace_text.specs.LineFaults.{unless, absent_name, register_named, array_named, wide_word, init_words, init_count, init_faults}
-use Rattle.trace_text.proofs.EmptyLists.{parts, passes, passed, empty_right, chosen}
+use Rattle.fir_base.proofs.Empty.{empty_right}
+use Rattle.fir_base.proofs.Tests.{chosen}
+use Rattle.trace_text.proofs.EmptyLists.{parts, passes, passed}
 use Rattle.trace_text.proofs.TickLines.{word_fits, not_wide}
 
 -- what a name stands for
@@ -26,11 +28,11 @@ record IsRegister (o : Option FoundWord) (value : ℕ) : Type 0 where
   fits : value < 2 ^ width
 
 register_at : (k place width : ℕ) (depth : Option ℕ) (name w : List ℕ) → register_named (word_at place width depth) name ≡ [] → wide_word k (word_at place width depth) w ≡ []
-    → IsRegister (word_at place width depth) (value_of w)
+    → IsRegister (word_at place width depth) (hexadecimal_of w)
 register_at k place width None name w h g = record { place = place; width = width; there = refl; fits = word_fits k width w g }
 register_at k place width (Some depth) name w h g = let e : absent_name name ≡ [] = h in cc
 
-register_there : (k : ℕ) (o : Option FoundWord) (name w : List ℕ) → register_named o name ≡ [] → wide_word k o w ≡ [] → IsRegister o (value_of w)
+register_there : (k : ℕ) (o : Option FoundWord) (name w : List ℕ) → register_named o name ≡ [] → wide_word k o w ≡ [] → IsRegister o (hexadecimal_of w)
 register_there k None name w h g = cc
 register_there k (Some f) name w h g = register_at k f.place f.width f.depth name w h g
 
@@ -47,7 +49,7 @@ abbrev address_absent : List ℕ → List ℕ → Cause
 address_absent name address = Absent (6 + length name) (length address)
 
 array_at : (k place width : ℕ) (depth : Option ℕ) (name address w : List ℕ) → array_named (word_at place width depth) name address ≡ [] → wide_word k (word_at place width depth) w ≡ []
-    → IsArray (word_at place width depth) (decimal_of address) (value_of w)
+    → IsArray (word_at place width depth) (decimal_of address) (hexadecimal_of w)
 array_at k place width None name address w h g = let e : absent_name name ≡ [] = h in cc
 array_at k place width (Some depth) name address w h g = record {
   place = place;
@@ -58,7 +60,7 @@ array_at k place width (Some depth) name address w h g = record {
   fits = word_fits k width w g;
 }
 
-array_there : (k : ℕ) (o : Option FoundWord) (name address w : List ℕ) → array_named o name address ≡ [] → wide_word k o w ≡ [] → IsArray o (decimal_of address) (value_of w)
+array_there : (k : ℕ) (o : Option FoundWord) (name address w : List ℕ) → array_named o name address ≡ [] → wide_word k o w ≡ [] → IsArray o (decimal_of address) (hexadecimal_of w)
 array_there k None name address w h g = cc
 array_there k (Some f) name address w h g = array_at k f.place f.width f.depth name address w h g
 
@@ -83,7 +85,7 @@ module _ (shape : TraceShape) (line : List ℕ) (short : length line ≤ line_li
       let q = parts (a ++ b) (register_named o name) p.0 in
       let r = parts a b q.0 in
       let f = register_there 3 o name digits q.1 p.1 in
-      let here : IsRegisterLine shape line f.place (value_of digits) = record {
+      let here : IsRegisterLine shape line f.place (hexadecimal_of digits) = record {
         short = short;
         name = name;
         digits = digits;
@@ -95,7 +97,7 @@ module _ (shape : TraceShape) (line : List ℕ) (short : length line ≤ line_li
         is = refl;
         fits = f.fits;
       } in
-      (f.place, value_of digits, inl here)
+      (f.place, hexadecimal_of digits, inl here)
 
   array_spelled : (name address digits : List ℕ) → words_of line ≡ codes "init" ∷ name ∷ address ∷ digits ∷ [] → init_words shape (name ∷ address ∷ digits ∷ []) ≡ [] → InitSpelled shape line
   array_spelled name address digits words h =
@@ -108,7 +110,7 @@ module _ (shape : TraceShape) (line : List ℕ) (short : length line ≤ line_li
       let r = parts (a ++ b) c q.0 in
       let s = parts a b r.0 in
       let f = array_there 4 o name address digits q.1 p.1 in
-      let here : IsArrayLine shape line (f.place + decimal_of address) (value_of digits) = record {
+      let here : IsArrayLine shape line (f.place + decimal_of address) (hexadecimal_of digits) = record {
         short = short;
         name = name;
         address = address;
@@ -126,7 +128,7 @@ module _ (shape : TraceShape) (line : List ℕ) (short : length line ≤ line_li
         is = refl;
         fits = f.fits;
       } in
-      (f.place + decimal_of address, value_of digits, inr here)
+      (f.place + decimal_of address, hexadecimal_of digits, inr here)
 
   words_spelled : (ws : List (List ℕ)) → words_of line ≡ codes "init" ∷ ws → init_count (1 + length ws) ≡ [] → init_words shape ws ≡ [] → InitSpelled shape line
   words_spelled [] words n h = let e : Count 1 3 ∷ [] ≡ [] = n in cc
@@ -141,11 +143,11 @@ module _ (shape : TraceShape) (line : List ℕ) (short : length line ≤ line_li
 
 pub register_faultless : (shape : TraceShape) (line : List ℕ) (place value : ℕ) (i : IsRegisterLine shape line place value) → init_faults shape false (i.name ∷ i.digits ∷ []) ≡ []
 register_faultless shape line place value i =
-    let fits : value_of i.digits < 2 ^ i.width = rw i.is i.fits in
+    let fits : hexadecimal_of i.digits < 2 ^ i.width = rw i.is i.fits in
     rw (i.name_spelled, i.digits_spelled, i.named) (not_wide 3 i.width i.digits fits)
 
 pub array_faultless : (shape : TraceShape) (line : List ℕ) (place value : ℕ) (i : IsArrayLine shape line place value) → init_faults shape false (i.name ∷ i.address ∷ i.digits ∷ []) ≡ []
 array_faultless shape line place value i =
-    let fits : value_of i.digits < 2 ^ i.width = rw i.is i.fits in
+    let fits : hexadecimal_of i.digits < 2 ^ i.width = rw i.is i.fits in
     let there = passed (nat_lt (decimal_of i.address) i.depth) (address_absent i.name i.address) (lt-ltb (decimal_of i.address) i.depth i.within) in
     rw (i.name_spelled, i.address_spelled, i.digits_spelled, i.named) (rw there (not_wide 4 i.width i.digits fits))

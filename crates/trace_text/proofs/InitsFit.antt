@@ -12,7 +12,7 @@ use Rattle.trace_text.specs.Spelling.{decimal_of}
 use Rattle.trace_text.specs.Shapes.{TraceShape, IsShape, size_of, state_widths, found_from, found}
 use Rattle.trace_text.specs.SpelledLines.{IsInitLine}
 use Rattle.trace_text.specs.TraceSpells.{AreInits, zeros}
-use Rattle.trace_text.proofs.EmptyLists.{chosen}
+use Rattle.fir_base.proofs.Tests.{chosen}
 
 zeros_fit : (widths : List ℕ) → FitEach widths (replicate (length widths) 0)
 zeros_fit [] = tt

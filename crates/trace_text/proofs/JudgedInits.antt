@@ -10,9 +10,9 @@ use Rattle.trace_text.specs.declared.init_line.InitWord.{InitWord}
 use Rattle.trace_text.specs.Lines.{line_limit, words_of, is_remark}
 use Rattle.trace_text.specs.Shapes.{TraceShape}
 use Rattle.trace_text.specs.LineFaults.{init_count, init_words, init_faults, line_faults}
-use Rattle.trace_text.specs.Readings.{begins_with_init, is_init_line, first_cause, ReadsInitLine}
-use Rattle.trace_text.specs.InitWords.{ReadsInitWords}
-use Rattle.trace_text.proofs.EmptyLists.{bytes_are}
+use Rattle.trace_text.specs.working.Readings.{begins_with_init, is_init_line, first_cause, ReadsInitLine}
+use Rattle.trace_text.specs.working.InitWords.{ReadsInitWords}
+use Rattle.fir_base.proofs.SameNames.{name_is}
 use Rattle.trace_text.proofs.LineKinds.{remark_word}
 
 no_remark : (line : List ℕ) (ws : List (List ℕ)) → words_of line ≡ codes "init" ∷ ws → is_remark line ≡ false
@@ -20,7 +20,7 @@ no_remark line ws h = false_from_ne_true (is_remark line) (λ r. let e : false �
 
 begins : (words : List (List ℕ)) → begins_with_init words ≡ true → (ws : List (List ℕ)) × (words ≡ codes "init" ∷ ws)
 begins [] h = cc
-begins (w ∷ ws) h = (ws, ap (λ v. v ∷ ws) (bytes_are w (codes "init") h))
+begins (w ∷ ws) h = (ws, ap (λ v. v ∷ ws) (name_is w (codes "init") h))
 
 module _ (shape : TraceShape) (line : List ℕ) where
   pub long_told : line_limit < length line → first_cause (line_faults shape false line) ≡ Some Long

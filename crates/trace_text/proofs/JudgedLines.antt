@@ -12,9 +12,12 @@ use Rattle.trace_text.specs.Spelling.{is_clock_list}
 use Rattle.trace_text.specs.Shapes.{TraceShape}
 use Rattle.trace_text.specs.SpelledLines.{IsInitLine, IsTickLine}
 use Rattle.trace_text.specs.LineFaults.{unless, init_faults, tick_faults, word_faults, line_faults}
-use Rattle.trace_text.specs.Laws.{LineIsSpelledOrBad}
-use Rattle.trace_text.proofs.EmptyLists.{parts, joined, passes, passed, chosen, bytes_are}
-use Rattle.trace_text.proofs.TickLines.{tick_of, tick_spelled, tick_faultless}
+use Rattle.trace_text.specs.working.Laws.{LineIsSpelledOrBad}
+use Rattle.trace_text.specs.working.TickWords.{tick_of}
+use Rattle.fir_base.proofs.Tests.{chosen}
+use Rattle.fir_base.proofs.SameNames.{name_is}
+use Rattle.trace_text.proofs.EmptyLists.{parts, joined, passes, passed}
+use Rattle.trace_text.proofs.TickLines.{tick_spelled, tick_faultless}
 use Rattle.trace_text.proofs.InitLines.{init_spelled, register_faultless, array_faultless}
 
 abbrev pub Spelled : TraceShape → Bool → List ℕ → Type 0
@@ -26,7 +29,7 @@ some_word line e = let n = length-slice_split (λ b. nat_eq b 32) line in let m 
 
 -- a clock list is not `init`
 no_init : (w : List ℕ) → is_clock_list w ≡ true → bytes_eq w (codes "init") ≡ false
-no_init w h = false_from_ne_true (bytes_eq w (codes "init")) (λ t. let e : is_clock_list (codes "init") ≡ true = subst (λ v. is_clock_list v ≡ true) (bytes_are w (codes "init") t) h in let f : false ≡ true = e in cc)
+no_init w h = false_from_ne_true (bytes_eq w (codes "init")) (λ t. let e : is_clock_list (codes "init") ≡ true = subst (λ v. is_clock_list v ≡ true) (name_is w (codes "init") t) h in let f : false ≡ true = e in cc)
 
 module _ (shape : TraceShape) (after : Bool) (line : List ℕ) where
   words_judged : (ws : List (List ℕ)) → length line ≤ line_limit → words_of line ≡ ws → word_faults shape after ws ≡ [] → Spelled shape after line
@@ -34,7 +37,7 @@ module _ (shape : TraceShape) (after : Bool) (line : List ℕ) where
   words_judged (w ∷ ws) short words h =
       elim (chosen (bytes_eq w (codes "init")) (init_faults shape after ws) (tick_faults shape w ws) [] h) [
         | inl a ↦
-            let e : words_of line ≡ codes "init" ∷ ws = words ∙ ap (λ v. v ∷ ws) (bytes_are w (codes "init") a.0) in
+            let e : words_of line ≡ codes "init" ∷ ws = words ∙ ap (λ v. v ∷ ws) (name_is w (codes "init") a.0) in
             inr (inl (init_spelled shape line short after ws e a.1))
         | inr a ↦ inr (inr (tick_of w ws, tick_spelled shape w ws line short words a.1))
       ]

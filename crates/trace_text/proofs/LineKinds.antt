@@ -5,7 +5,7 @@ use Rattle.std.specs.List.{onto_first}
 use Rattle.std.proofs.lemmas.Bool.{eqb-true}
 use Rattle.fir_base.specs.Ticks.{Tick}
 use Rattle.trace_text.specs.Lines.{words_of, is_remark, IsSkipped}
-use Rattle.trace_text.specs.Spelling.{value_of, decimal_of, is_clock_list, are_clocks, clocks_of, listed}
+use Rattle.trace_text.specs.Spelling.{hexadecimal_of, decimal_of, is_clock_list, are_clocks, clocks_of, listed}
 use Rattle.trace_text.specs.declared.shape.FoundWord.{FoundWord}
 use Rattle.trace_text.specs.Shapes.{TraceShape, found}
 use Rattle.trace_text.specs.SpelledLines.{IsInitLine, IsTickLine}
@@ -72,7 +72,7 @@ module _ (shape : TraceShape) (line : List ℕ) where
       let name : i.name ≡ j.name = cc in
       let digits : i.digits ≡ j.digits = cc in (
         ap place_of (sym i.named ∙ ap (found shape) name ∙ j.named),
-        sym i.is ∙ ap value_of digits ∙ j.is,
+        sym i.is ∙ ap hexadecimal_of digits ∙ j.is,
       )
   one_init place p value v (inl i) (inr j) =
       let e : codes "init" ∷ i.name ∷ i.digits ∷ [] ≡ codes "init" ∷ j.name ∷ j.address ∷ j.digits ∷ [] = sym i.words ∙ j.words in
@@ -87,7 +87,7 @@ module _ (shape : TraceShape) (line : List ℕ) where
       let digits : i.digits ≡ j.digits = cc in
       let first = ap place_of (sym i.named ∙ ap (found shape) name ∙ j.named) in (
         sym i.place_is ∙ same_sum i.first j.first (decimal_of i.address) (decimal_of j.address) first (ap decimal_of address) ∙ j.place_is,
-        sym i.is ∙ ap value_of digits ∙ j.is,
+        sym i.is ∙ ap hexadecimal_of digits ∙ j.is,
       )
 
   pub one_tick : (tick other : Tick) → IsTickLine shape line tick → IsTickLine shape line other → tick ≡ other
@@ -96,5 +96,5 @@ module _ (shape : TraceShape) (line : List ℕ) where
       let clock_list : i.clock_list ≡ j.clock_list = cc in
       let values : i.values ≡ j.values = cc in
       same_tick tick other
-      (sym i.values_are ∙ ap (map value_of) values ∙ j.values_are)
+      (sym i.values_are ∙ ap (map hexadecimal_of) values ∙ j.values_are)
       (sym i.clocks_are ∙ ap clocks_of clock_list ∙ j.clocks_are)

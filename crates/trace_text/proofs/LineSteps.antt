@@ -5,12 +5,12 @@ use Rattle.std.specs.List.{AllByRecursion}
 use Rattle.std.proofs.lemmas.Bool.{leb-true, le-leb}
 use Rattle.std.proofs.lemmas.List.{drop_all}
 use Rattle.trace_text.specs.Lines.{line_limit, AreLines, behind, first_line, later_lines, is_remark, IsSkipped}
-use Rattle.trace_text.specs.Readings.{IsPlace, is_skipped, first_cause, IsBad}
+use Rattle.trace_text.specs.working.Readings.{IsPlace, is_skipped, first_cause, IsBad}
 use Rattle.trace_text.specs.declared.fault.Cause.{Cause}
 use Rattle.trace_text.specs.Shapes.{TraceShape}
 use Rattle.trace_text.specs.LineFaults.{line_faults}
-use Rattle.trace_text.specs.Walks.{fault_at}
-use Rattle.trace_text.proofs.EmptyLists.{both}
+use Rattle.trace_text.specs.working.Walks.{fault_at}
+use Rattle.fir_base.proofs.Tests.{both}
 
 pub skipped_so : (line : List ℕ) → is_skipped line ≡ true → IsSkipped line
 skipped_so line h = let p = both (nat_le (length line) line_limit) (is_remark line) h in record { short = leb-true (length line) line_limit p.0; remark = p.1 }

@@ -15,8 +15,8 @@ use Rattle.fir_base.specs.Lists.{In, Distinct}
 use Rattle.trace_text.specs.declared.shape.StateWord.{StateWord}
 use Rattle.trace_text.specs.declared.shape.FoundWord.{FoundWord}
 use Rattle.trace_text.specs.Shapes.{found_from, size_of, array_size}
-use Rattle.trace_text.specs.Places.{HasPlaces}
-use Rattle.trace_text.proofs.DistinctLists.{distinct_last, distinct_not}
+use Rattle.trace_text.specs.working.Places.{HasPlaces}
+use Rattle.fir_base.proofs.Twins.{apart, distinct_more}
 use Rattle.trace_text.proofs.FoundPlaces.{one_or_array}
 
 abbrev names : List StateWord → List (List ℕ)
@@ -102,13 +102,13 @@ module _ (ss : List StateWord) (i : ℕ) (s : StateWord) (within : i < length ss
       let there = in_found 0 (take i ss) s.name k in
       let found : is_some (get (slice_cmp nat_cmp) m key) ≡ true = ap is_some (h.each key ∙ ap (found_from 0 (take i ss)) named) ∙ there in
       cc in
-      rw (front_more, map-append) (distinct_last (names (take i ss)) s.name d missing)
+      rw (front_more, map-append) (distinct_more (names (take i ss)) s.name d missing)
 
   pub twice : (m : BTreeMap (List ℕ) FoundWord) (key : List ℕ) → key ≡ s.name → is_some (get (slice_cmp nat_cmp) m key) ≡ true → HasPlaces m (take i ss) → Distinct (names ss) → ⊥
   twice m key named known h d =
       let there : is_some (found_from 0 (take i ss) s.name) ≡ true = ap is_some (sym (h.each key ∙ ap (found_from 0 (take i ss)) named)) ∙ known in
       let parts : names ss ≡ names (take i ss) ++ s.name ∷ names (drop (i + 1) ss) = ap names whole ∙ map-append (λ (s : StateWord). s.name) (take i ss) (s ∷ drop (i + 1) ss) in
-      distinct_not (names (take i ss)) s.name (names (drop (i + 1) ss)) (found_in 0 (take i ss) s.name there) (subst Distinct parts d)
+      apart (names (take i ss)) (s.name ∷ names (drop (i + 1) ss)) (subst Distinct parts d) s.name (found_in 0 (take i ss) s.name there) (inl refl)
 
   pub place_more : (place size : ℕ) → place ≡ sum_by size_of (take i ss) → size ≡ size_of s → place + size ≡ sum_by size_of (take (i + 1) ss)
   place_more place size p q = rw (p, q, front_more) (sym (sum_by_push size_of (take i ss) s))

@@ -1,11 +1,13 @@
 -- The numbers of digits.
--- A number grows with each digit, so one that is too great stays so; decimal digits are hexadecimal ones.
-use Rattle.std.proofs.Common.{◌≡◌, ℕ, ◌+◌, ◌*◌, ◌<◌, ◌≤◌, List, [], ◌∷◌, length, get_or, drop, true, refl, sym, ◌∙◌, arith}
+-- A number grows with each digit, so one that is too great stays so.
+use Rattle.std.proofs.Common.{◌≡◌, ℕ, ◌+◌, ◌*◌, ◌^◌, ◌<◌, ◌≤◌, List, [], ◌∷◌, length, get_or, drop, Bool, ◌&&◌, refl, sym, ap, ◌∙◌, arith}
 use Rattle.std.specs.List.{list_all}
 use Rattle.std.proofs.lemmas.List.{at_drop_more}
-use Rattle.std.proofs.lemmas.Bool.{and_parts, and_from, or_left}
-use Rattle.ver_ast.specs.Names.{is_digit}
-use Rattle.trace_text.specs.Spelling.{is_hexadecimal, digit_value, number_from, is_filled, is_decimal}
+use Rattle.std.proofs.lemmas.Bool.Decides.{nat_tests}
+use Rattle.std.proofs.Math.Pow.{pow_mono}
+use Rattle.fir_base.specs.Bytes.{is_digit}
+use Rattle.trace_text.specs.Spelling.{is_hexadecimal, digit_number, number_from, is_filled, is_value, is_decimal}
+use Rattle.trace_text.specs.working.Numbers.{is_digit_in, is_number}
 
 more : (base n digit : ℕ) → 1 ≤ base → n ≤ base * n + digit
 more base n digit h = grind arith
@@ -13,22 +15,33 @@ more base n digit h = grind arith
 -- more digits make no smaller number
 pub number_grows : (base n : ℕ) (bs : List ℕ) → 1 ≤ base → n ≤ number_from base n bs
 number_grows base n [] h = omega arith
-number_grows base n (b ∷ bs) h = omega (arith, more base n (digit_value b) h, number_grows base (base * n + digit_value b) bs h)
+number_grows base n (b ∷ bs) h = omega (arith, more base n (digit_number b) h, number_grows base (base * n + digit_number b) bs h)
 
 -- a number that is too great at a digit is so at the end
-pub too_great : (base n top whole : ℕ) (digits : List ℕ) (i : ℕ) → 1 ≤ base → i < length digits → top ≤ base * n + digit_value (get_or digits i 0)
+pub too_great : (base n top whole : ℕ) (digits : List ℕ) (i : ℕ) → 1 ≤ base → i < length digits → top ≤ base * n + digit_number (get_or digits i 0)
     → number_from base n (drop i digits) ≡ whole → top ≤ whole
 too_great base n top whole digits i h within great is =
-    let next = base * n + digit_value (get_or digits i 0) in
+    let next = base * n + digit_number (get_or digits i 0) in
     let e : whole ≡ number_from base next (drop (i + 1) digits) = sym is ∙ at_drop_more (number_from base n) digits i 0 within in
     omega (arith, number_grows base next (drop (i + 1) digits) h)
 
-digits_among : (bs : List ℕ) → list_all is_digit bs ≡ true → list_all is_hexadecimal bs ≡ true
-digits_among [] h = refl
-digits_among (b ∷ bs) h =
-    let p = and_parts (is_digit b) (list_all is_digit bs) h in
-    and_from (is_hexadecimal b) (list_all is_hexadecimal bs) (or_left (is_digit b) _ p.0) (digits_among bs p.1)
+-- the digits of the two bases
+sixteen : (b : ℕ) → is_digit_in 16 b ≡ is_hexadecimal b
+sixteen b = grind (arith, nat_tests)
 
--- decimal digits are hexadecimal ones
-pub hexadecimal_digits : (word : List ℕ) → is_decimal word ≡ true → list_all is_hexadecimal word ≡ true
-hexadecimal_digits word h = digits_among word (and_parts (is_filled word) (list_all is_digit word) h).1
+ten : (b : ℕ) → is_digit_in 10 b ≡ is_digit b
+ten b = grind (arith, nat_tests)
+
+all_alike : (p q : ℕ → Bool) → ((b : ℕ) → p b ≡ q b) → (bs : List ℕ) → list_all p bs ≡ list_all q bs
+all_alike p q h [] = refl
+all_alike p q h (b ∷ bs) = rw (h b, all_alike p q h bs) refl
+
+pub in_sixteen : (word : List ℕ) → is_number 16 word ≡ is_value word
+in_sixteen word = ap (λ b. is_filled word && b) (all_alike (is_digit_in 16) is_hexadecimal sixteen word)
+
+pub in_ten : (word : List ℕ) → is_number 10 word ≡ is_decimal word
+in_ten word = ap (λ b. is_filled word && b) (all_alike (is_digit_in 10) is_digit ten word)
+
+-- a number with more than 128 bits fits no width of up to so many
+pub beyond : (n width : ℕ) → 2 ^ 128 ≤ n → width ≤ 128 → 2 ^ width ≤ n
+beyond n width h w = let p : 2 ^ width ≤ 2 ^ 128 = pow_mono w in omega arith

@@ -1,57 +1,14 @@
 -- The padded hexadecimal digits of a number below 2 ^ 128: those of its sixteenth part with one digit less, then the last.
-use Rattle.std.proofs.Common.{◌≡◌, ℕ, zero, suc, ◌+◌, ◌-◌, ◌/◌, ◌%◌, ◌^◌, ◌<◌, ◌≤◌, inl, inr, List, [], ◌∷◌, ◌++◌, length, false, refl, sym, ap, ◌∙◌, append_assoc, length-append, arith}
+use Rattle.std.proofs.Common.{◌≡◌, ℕ, ◌+◌, ◌-◌, ◌/◌, ◌%◌, ◌^◌, ◌<◌, ◌≤◌, List, [], ◌∷◌, ◌++◌, length, false, sym, ap, ◌∙◌, append_assoc, length-append, arith}
 use Rattle.std.specs.Prelude.{replicate}
-use Rattle.std.specs.Fmt.{digit_glyph, digits_onto, digits}
+use Rattle.std.specs.Fmt.{digit_glyph}
 use Rattle.std.specs.Int.{div_ceil}
-use Rattle.std.proofs.lemmas.Bool.{cases_lt}
-use Rattle.std.proofs.lemmas.Bool.Decides.{nat_tests}
 use Rattle.std.proofs.lemmas.Fmt.{hex_one_digit}
 use Rattle.std.proofs.lemmas.List.{replicate-append-replicate}
+use Rattle.fir_base.specs.Digits.{hexadecimal}
+use Rattle.fir_base.proofs.Digits.{last_digit, hexadecimal_more}
 use Rattle.fir_bits.specs.Values.{BitVector}
 use Rattle.trace_text.specs.OutputLines.{padded, value_text}
-
-abbrev hexadecimal : ℕ → List ℕ
-hexadecimal n = digits 16 false n
-
--- the last digit of n
-abbrev last_digit : ℕ → ℕ
-last_digit n = digit_glyph false (n % 16)
-
--- at most k digits of n before acc
-abbrev spell : ℕ → ℕ → List ℕ → List ℕ
-spell k n acc = digits_onto k 16 false n acc
-
--- a number of one digit
-spell_one : (k n : ℕ) (acc : List ℕ) → n < 16 → spell (suc k) n acc ≡ last_digit n ∷ acc
-spell_one k n acc h = grind (arith, nat_tests)
-
--- a longer one
-spell_more : (k n : ℕ) (acc : List ℕ) → 16 ≤ n → spell (suc k) n acc ≡ spell k (n / 16) (last_digit n ∷ acc)
-spell_more k n acc h = grind (arith, nat_tests)
-
--- what stands behind the digits stays behind them
-spell_before : (k n : ℕ) (acc : List ℕ) → spell k n acc ≡ spell k n [] ++ acc
-spell_before zero n acc = refl
-spell_before (suc k) n acc = elim (cases_lt n 16) [
-  | inl h ↦ rw (spell_one k n acc h, spell_one k n [] h) refl
-  | inr h ↦ spell_more k n acc h ∙ spell_before k (n / 16) (last_digit n ∷ acc) ∙ sym (append_assoc (spell k (n / 16) []) (last_digit n ∷ []) acc)
-      ∙ ap (λ ds. ds ++ acc) (sym (spell_more k n [] h ∙ spell_before k (n / 16) (last_digit n ∷ [])))
-]
-
--- the limit is free once it is high enough
-spell_enough : (j k n : ℕ) (acc : List ℕ) → n < 16 ^ suc j → n < 16 ^ suc k → spell (suc j) n acc ≡ spell (suc k) n acc
-spell_enough zero k n acc p q = spell_one zero n acc (omega arith) ∙ sym (spell_one k n acc (omega arith))
-spell_enough (suc j) zero n acc p q = spell_one (suc j) n acc (omega arith) ∙ sym (spell_one zero n acc (omega arith))
-spell_enough (suc j) (suc k) n acc p q = elim (cases_lt n 16) [
-  | inl h ↦ spell_one (suc j) n acc h ∙ sym (spell_one (suc k) n acc h)
-  | inr h ↦ spell_more (suc j) n acc h ∙ spell_enough j k (n / 16) (last_digit n ∷ acc) (omega arith) (omega arith) ∙ sym (spell_more (suc k) n acc h)
-]
-
--- a digit more
-hexadecimal_more : (n : ℕ) → 16 ≤ n → n < 2 ^ 128 → hexadecimal n ≡ hexadecimal (n / 16) ++ last_digit n ∷ []
-unfolding digits
-hexadecimal_more n h small =
-    spell_more 63 n [] h ∙ spell_enough 62 63 (n / 16) (last_digit n ∷ []) (omega arith) (omega arith) ∙ spell_before 64 (n / 16) (last_digit n ∷ [])
 
 -- one digit more needs one zero less
 one_less : (count : ℕ) (ds : List ℕ) (d : ℕ) → padded count (ds ++ d ∷ []) ≡ padded (count - 1) ds ++ d ∷ []

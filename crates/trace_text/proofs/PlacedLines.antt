@@ -7,8 +7,8 @@ use Rattle.std.specs.List.{position_or_len}
 use Rattle.std.proofs.Math.Seq.{take-append_seam, drop-append_seam}
 use Rattle.std.proofs.lemmas.List.Sums.{sum_by-append, sum_by-cons}
 use Rattle.trace_text.specs.Lines.{is_newline, first_line, later_lines, AreLines, behind}
-use Rattle.trace_text.specs.Readings.{IsPlace}
-use Rattle.trace_text.proofs.EmptyLists.{empty_right}
+use Rattle.trace_text.specs.working.Readings.{IsPlace}
+use Rattle.fir_base.proofs.Empty.{empty_right}
 use Rattle.trace_text.proofs.LineFronts.{front_lines, last_is, last_there}
 
 -- what stands before the rest, with so many newlines

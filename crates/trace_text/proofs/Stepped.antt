@@ -8,9 +8,9 @@ use Rattle.trace_text.specs.Shapes.{TraceShape}
 use Rattle.trace_text.specs.LineFaults.{word_faults, line_faults}
 use Rattle.trace_text.specs.TraceSpells.{LinesSpell, TraceSpells}
 use Rattle.trace_text.specs.BadLine.{are_some, BadLine}
-use Rattle.trace_text.specs.Readings.{IsPlace, InitsStop, InitsRead, InitIsBad, TickRead, NoTick, TickIsBad, IsBad, begins_with_init, is_init_line}
-use Rattle.trace_text.specs.Steps.{IsReadTo, TraceReadsInSteps}
-use Rattle.trace_text.proofs.EmptyLists.{empty_right}
+use Rattle.trace_text.specs.working.Readings.{IsPlace, InitsStop, InitsRead, InitIsBad, TickRead, NoTick, TickIsBad, IsBad, begins_with_init, is_init_line}
+use Rattle.trace_text.specs.working.Steps.{IsReadTo, TraceReadsInSteps}
+use Rattle.fir_base.proofs.Empty.{empty_right}
 use Rattle.trace_text.proofs.LineFronts.{front_lines, last_there}
 use Rattle.trace_text.proofs.JoinedLines.{lines_behind, behind-append, spelled_tick, spelled_skipped, spelled_inits}
 use Rattle.trace_text.proofs.PlacedLines.{place_is, newlines_before}

@@ -3,14 +3,15 @@
 use Rattle.std.proofs.Common.{◌≤◌, ◌≡◌, ℕ, ◌+◌, ◌^◌, ◌<◌, List, [], ◌∷◌, ◌++◌, length, Bool, true, map, nat_lt, nat_eq, refl, arith}
 use Rattle.std.specs.List.{AllByRecursion}
 use Rattle.std.proofs.lemmas.Bool.{ltb-true, lt-ltb, eqb-true, eq-eqb}
-use Rattle.fir_base.specs.Ticks.{Tick, FitEach, AreClocks}
+use Rattle.fir_base.specs.Ticks.{FitEach, AreClocks}
 use Rattle.trace_text.specs.declared.fault.Cause.{Cause}
 use Rattle.trace_text.specs.declared.fault.Cause.TheVariants.{Misspelled, Count, Wide}
 use Rattle.trace_text.specs.Lines.{line_limit, words_of}
-use Rattle.trace_text.specs.Spelling.{is_value, value_of, is_clock_list, clocks_of}
+use Rattle.trace_text.specs.Spelling.{is_value, hexadecimal_of, is_clock_list, clocks_of}
 use Rattle.trace_text.specs.Shapes.{TraceShape}
 use Rattle.trace_text.specs.SpelledLines.{IsTickLine}
 use Rattle.trace_text.specs.LineFaults.{unless, tick_count, misspelled_values, wide, wide_values, absent_in_list, tick_faults}
+use Rattle.trace_text.specs.working.TickWords.{tick_of}
 use Rattle.trace_text.proofs.EmptyLists.{parts, joined, passes, passed}
 use Rattle.trace_text.proofs.ClockLists.{list_rises, none_absent_in}
 
@@ -31,34 +32,30 @@ none_misspelled k (w ∷ ws) h =
     joined (unless (is_value w) (Misspelled k)) (misspelled_values (k + 1) ws) (passed (is_value w) (Misspelled k) h.0) (none_misspelled (k + 1) ws h.1)
 
 -- a value that is not wide fits
-pub word_fits : (k width : ℕ) (w : List ℕ) → wide k width w ≡ [] → value_of w < 2 ^ width
-word_fits k width w h = ltb-true (value_of w) (2 ^ width) (passes (nat_lt (value_of w) (2 ^ width)) (Wide k width) h)
+pub word_fits : (k width : ℕ) (w : List ℕ) → wide k width w ≡ [] → hexadecimal_of w < 2 ^ width
+word_fits k width w h = ltb-true (hexadecimal_of w) (2 ^ width) (passes (nat_lt (hexadecimal_of w) (2 ^ width)) (Wide k width) h)
 
-pub not_wide : (k width : ℕ) (w : List ℕ) → value_of w < 2 ^ width → wide k width w ≡ []
-not_wide k width w h = passed (nat_lt (value_of w) (2 ^ width)) (Wide k width) (lt-ltb (value_of w) (2 ^ width) h)
+pub not_wide : (k width : ℕ) (w : List ℕ) → hexadecimal_of w < 2 ^ width → wide k width w ≡ []
+not_wide k width w h = passed (nat_lt (hexadecimal_of w) (2 ^ width)) (Wide k width) (lt-ltb (hexadecimal_of w) (2 ^ width) h)
 
-values_fit : (k : ℕ) (widths : List ℕ) (ws : List (List ℕ)) → length ws ≡ length widths → wide_values k widths ws ≡ [] → FitEach widths (map value_of ws)
+values_fit : (k : ℕ) (widths : List ℕ) (ws : List (List ℕ)) → length ws ≡ length widths → wide_values k widths ws ≡ [] → FitEach widths (map hexadecimal_of ws)
 values_fit k [] [] e h = tt
 values_fit k [] (w ∷ ws) e h = absurd (omega arith)
 values_fit k (width ∷ widths) [] e h = absurd (omega arith)
 values_fit k (width ∷ widths) (w ∷ ws) e h =
     let p = parts (wide k width w) (wide_values (k + 1) widths ws) h in (word_fits k width w p.0, values_fit (k + 1) widths ws (omega arith) p.1)
 
-none_wide : (k : ℕ) (widths : List ℕ) (ws : List (List ℕ)) → FitEach widths (map value_of ws) → wide_values k widths ws ≡ []
+none_wide : (k : ℕ) (widths : List ℕ) (ws : List (List ℕ)) → FitEach widths (map hexadecimal_of ws) → wide_values k widths ws ≡ []
 none_wide k [] ws h = refl
 none_wide k (width ∷ widths) [] h = refl
 none_wide k (width ∷ widths) (w ∷ ws) h =
     joined (wide k width w) (wide_values (k + 1) widths ws) (not_wide k width w h.0) (none_wide (k + 1) widths ws h.1)
 
-pub as_many : (widths : List ℕ) (ws : List (List ℕ)) → FitEach widths (map value_of ws) → length ws ≡ length widths
+pub as_many : (widths : List ℕ) (ws : List (List ℕ)) → FitEach widths (map hexadecimal_of ws) → length ws ≡ length widths
 as_many [] [] h = refl
 as_many [] (w ∷ ws) h = absurd h
 as_many (width ∷ widths) [] h = absurd h
 as_many (width ∷ widths) (w ∷ ws) h = let e = as_many widths ws h.1 in omega arith
-
--- the tick that words spell
-abbrev pub tick_of : List ℕ → List (List ℕ) → Tick
-tick_of w ws = record { inputs = map value_of ws; clocks = clocks_of w }
 
 -- the parts of what is wrong with the words of a tick
 module _ (shape : TraceShape) (w : List ℕ) (ws : List (List ℕ)) where
@@ -104,7 +101,7 @@ module _ (shape : TraceShape) (w : List ℕ) (ws : List (List ℕ)) where
         inputs_fit = values_fit 2 shape.inputs ws (omega arith) p.1;
       }
 
-  pub tick_faultless : is_clock_list w ≡ true → AreClocks 0 shape.clocks (clocks_of w) → AllByRecursion IsValue ws → FitEach shape.inputs (map value_of ws) → tick_faults shape w ws ≡ []
+  pub tick_faultless : is_clock_list w ≡ true → AreClocks 0 shape.clocks (clocks_of w) → AllByRecursion IsValue ws → FitEach shape.inputs (map hexadecimal_of ws) → tick_faults shape w ws ≡ []
   tick_faultless clocks rise values fit =
       let e = as_many shape.inputs ws fit in
       let same : 1 + length ws ≡ 1 + length shape.inputs = omega arith in

@@ -1,65 +1,62 @@
 -- What the next tick shows of the lines behind a place.
 -- Skipped lines are passed one after the other, and the line behind them is the tick's, or the bad one.
-use Rattle.std.proofs.Common.{◌≡◌, ℕ, ◌<◌, ◌≤◌, List, [], ◌∷◌, ◌++◌, length, drop, length-drop, true, false, sym, ap, ◌∙◌, arith}
+use Rattle.std.proofs.Common.{◌≡◌, ℕ, ◌≤◌, List, [], ◌∷◌, ◌++◌, length, drop, length-drop, true, false, sym, ap, ◌∙◌, arith}
 use Rattle.fir_base.specs.Ticks.{Tick}
 use Rattle.std.specs.Prelude.{Some}
 use Rattle.trace_text.specs.declared.fault.Cause.{Cause}
+use Rattle.trace_text.specs.declared.lines.Line.{Line}
 use Rattle.trace_text.specs.Lines.{AreLines, behind, first_line, later_lines, IsSkipped}
 use Rattle.trace_text.specs.Shapes.{TraceShape}
 use Rattle.trace_text.specs.SpelledLines.{IsTickLine}
 use Rattle.trace_text.specs.LineFaults.{line_faults}
-use Rattle.trace_text.specs.Readings.{IsPlace, is_skipped, first_cause, TickRead, NoTick, TickIsBad}
-use Rattle.trace_text.specs.Walks.{IsPast, fault_at}
+use Rattle.trace_text.specs.working.Readings.{IsPlace, is_skipped, first_cause, TickRead, TickIsBad}
+use Rattle.trace_text.specs.working.Walks.{IsPast, IsLine, fault_at}
 use Rattle.trace_text.proofs.LineFronts.{behind_within}
-use Rattle.trace_text.proofs.LineSteps.{skipped_so, skipped_is, lines_grow, behind_grows, all_grow, filled_at, empty_at, place_moves, bad_at}
+use Rattle.trace_text.proofs.LineSteps.{skipped_so, skipped_is, lines_grow, behind_grows, all_grow, filled_at, place_moves, bad_at}
 
-module _ (bytes : List ℕ) (from place : ℕ) (past : IsPast bytes from place) (before : place < length bytes) (line : List ℕ) (here : line ≡ first_line (drop place bytes)) where
-  reached : AreLines (drop from bytes) (past.skipped ++ line ∷ [])
-  reached = lines_grow (drop from bytes) past.skipped line past.lines_are (filled_at bytes place (behind (drop from bytes) past.skipped) past.rest before) (here ∙ ap first_line past.rest.left)
+module _ (bytes : List ℕ) (from : ℕ) (line : Line) (past : IsPast bytes from line.place) (here : IsLine bytes line) where
+  abbrev text : List ℕ
+  text = line.text.now
 
-  left_behind : (to : ℕ) → IsPlace bytes to (later_lines (drop place bytes)) → IsPlace bytes to (behind (drop from bytes) (past.skipped ++ line ∷ []))
-  left_behind to there =
-      place_moves bytes to (later_lines (drop place bytes)) there (behind (drop from bytes) (past.skipped ++ line ∷ []))
-      (ap later_lines past.rest.left ∙ sym (behind_grows (drop from bytes) past.skipped line))
+  reached : AreLines (drop from bytes) (past.skipped ++ text ∷ [])
+  reached =
+      lines_grow (drop from bytes) past.skipped text past.lines_are (filled_at bytes line.place (behind (drop from bytes) past.skipped) past.rest here.before)
+      (here.text ∙ ap first_line past.rest.left)
 
-  pub one_passed : (to : ℕ) → is_skipped line ≡ true → IsPlace bytes to (later_lines (drop place bytes)) → IsPast bytes from to
-  one_passed to skipped there = record {
-    skipped = past.skipped ++ line ∷ [];
+  left_behind : IsPlace bytes line.behind (behind (drop from bytes) (past.skipped ++ text ∷ []))
+  left_behind =
+      place_moves bytes line.behind (later_lines (drop line.place bytes)) here.rest (behind (drop from bytes) (past.skipped ++ text ∷ []))
+      (ap later_lines past.rest.left ∙ sym (behind_grows (drop from bytes) past.skipped text))
+
+  pub one_passed : is_skipped text ≡ true → IsPast bytes from line.behind
+  one_passed skipped = record {
+    skipped = past.skipped ++ text ∷ [];
     lines_are = reached;
-    are_skipped = all_grow IsSkipped past.skipped line past.are_skipped (skipped_so line skipped);
-    rest = left_behind to there;
+    are_skipped = all_grow IsSkipped past.skipped text past.are_skipped (skipped_so text skipped);
+    rest = left_behind;
   }
 
-  pub tick_read : (shape : TraceShape) (tick : Tick) (to : ℕ) → IsTickLine shape line tick → IsPlace bytes to (later_lines (drop place bytes)) → TickRead bytes shape from to tick
-  tick_read shape tick to spelled there = record {
+  pub tick_read : (shape : TraceShape) (tick : Tick) → IsTickLine shape text tick → TickRead bytes shape from line.behind tick
+  tick_read shape tick spelled = record {
     skipped = past.skipped;
-    line = line;
+    line = text;
     lines_are = reached;
     are_skipped = past.are_skipped;
     spelled = spelled;
-    rest = left_behind to there;
+    rest = left_behind;
   }
 
-  pub tick_is_bad : (shape : TraceShape) (cause : Cause) → is_skipped line ≡ false → first_cause (line_faults shape true line) ≡ Some cause → TickIsBad bytes shape from place (fault_at bytes place cause)
+  pub tick_is_bad : (shape : TraceShape) (cause : Cause) → is_skipped text ≡ false → first_cause (line_faults shape true text) ≡ Some cause
+      → TickIsBad bytes shape from line.place (fault_at bytes line.place cause)
   tick_is_bad shape cause counts first = record {
     skipped = past.skipped;
-    bad = line;
+    bad = text;
     lines_are = reached;
     are_skipped = past.are_skipped;
-    not_skipped = λ s. let e = skipped_is line s in cc;
+    not_skipped = λ s. let e = skipped_is text s in cc;
     rest = past.rest;
-    is_bad = bad_at bytes shape true line place cause first;
+    is_bad = bad_at bytes shape true text line.place cause first;
   }
-
--- at the end only skipped lines were passed
-pub no_tick : (bytes : List ℕ) (from place : ℕ) → IsPast bytes from place → place ≡ length bytes → NoTick bytes from place
-no_tick bytes from place past end = record {
-  skipped = past.skipped;
-  lines_are = past.lines_are;
-  are_skipped = past.are_skipped;
-  whole = empty_at bytes place (behind (drop from bytes) past.skipped) past.rest (omega arith);
-  end = end;
-}
 
 -- the walk does not go back
 pub past_behind : (bytes : List ℕ) (from place : ℕ) → IsPast bytes from place → from ≤ length bytes → from ≤ place

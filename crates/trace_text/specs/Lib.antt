@@ -6,15 +6,6 @@ pub mod LineFaults
 pub mod TraceSpells
 pub mod BadLine
 pub mod OutputLines
-pub mod ClosedWords
 pub mod FaultTexts
-pub mod Readings
-pub mod Laws
-pub mod Places
-pub mod Rooms
 pub mod RunLines
-pub mod Steps
-pub mod ClockRooms
-pub mod InitWords
-pub mod TickWords
-pub mod Walks
+pub mod working

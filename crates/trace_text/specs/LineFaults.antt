@@ -3,11 +3,11 @@
 -- after a tick. X04: no such word, address or clock. X03: a value does not fit its width.
 use Rattle.std.specs.Prelude.{ℕ, ◌+◌, ◌^◌, List, [], ◌∷◌, ◌++◌, length, codes, Bool, true, false, nat_eq, nat_le, nat_lt, if◌then◌else◌, Option, Some, None}
 use Rattle.std.specs.Str.{bytes_eq}
-use Rattle.ver_ast.specs.Names.{is_word}
+use Rattle.ver_words.specs.Names.{is_word}
 use Rattle.trace_text.specs.declared.fault.Cause.{Cause}
 use Rattle.trace_text.specs.declared.fault.Cause.TheVariants.{Misspelled, Count, Wide, Absent, Long}
 use Rattle.trace_text.specs.Lines.{line_limit, words_of, is_remark}
-use Rattle.trace_text.specs.Spelling.{is_value, value_of, is_decimal, decimal_of, listed, is_no_clock, is_clock_list}
+use Rattle.trace_text.specs.Spelling.{is_value, hexadecimal_of, is_decimal, decimal_of, listed, is_no_clock, is_clock_list}
 use Rattle.trace_text.specs.declared.shape.FoundWord.{FoundWord}
 use Rattle.trace_text.specs.Shapes.{TraceShape, found}
 
@@ -27,7 +27,7 @@ misspelled_values k [] = []
 misspelled_values k (w ∷ ws) = unless (is_value w) (Misspelled k) ++ misspelled_values (k + 1) ws
 
 abbrev pub wide : ℕ → ℕ → List ℕ → List Cause
-wide k width w = unless (nat_lt (value_of w) (2 ^ width)) (Wide k width)
+wide k width w = unless (nat_lt (hexadecimal_of w) (2 ^ width)) (Wide k width)
 
 abbrev pub wide_values : ℕ → List ℕ → List (List ℕ) → List Cause
 wide_values k [] ws = []

@@ -6,7 +6,7 @@ use Rattle.std.specs.List.{AllByRecursion}
 use Rattle.std.specs.Str.{bytes_eq}
 use Rattle.fir_base.specs.Lists.{Distinct}
 use Rattle.fir_base.specs.Ticks.{Shape}
-use Rattle.ver_ast.specs.Names.{is_word}
+use Rattle.ver_words.specs.Names.{is_word}
 use Rattle.trace_text.specs.declared.shape.StateWord.{StateWord}
 use Rattle.trace_text.specs.declared.shape.FoundWord.{FoundWord}
 

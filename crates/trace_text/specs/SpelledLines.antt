@@ -2,9 +2,9 @@
 use Rattle.std.specs.Prelude.{◌≡◌, ℕ, ◌+◌, ◌^◌, ◌<◌, ◌≤◌, List, [], ◌∷◌, length, map, codes, true, Some, None, ◌⊎◌}
 use Rattle.std.specs.List.{AllByRecursion}
 use Rattle.fir_base.specs.Ticks.{Tick, FitEach, AreClocks}
-use Rattle.ver_ast.specs.Names.{is_word}
+use Rattle.ver_words.specs.Names.{is_word}
 use Rattle.trace_text.specs.Lines.{line_limit, words_of}
-use Rattle.trace_text.specs.Spelling.{is_value, value_of, is_decimal, decimal_of, is_clock_list, clocks_of}
+use Rattle.trace_text.specs.Spelling.{is_value, hexadecimal_of, is_decimal, decimal_of, is_clock_list, clocks_of}
 use Rattle.trace_text.specs.Shapes.{TraceShape, found}
 
 -- `init NAME HEX`: the value of a register
@@ -17,7 +17,7 @@ pub record IsRegisterLine (shape : TraceShape) (line : List ℕ) (place value : 
   pub width : ℕ
   pub named : found shape name ≡ Some (record { place = place; width = width; depth = None })
   pub digits_spelled : is_value digits ≡ true
-  pub is : value_of digits ≡ value
+  pub is : hexadecimal_of digits ≡ value
   pub fits : value < 2 ^ width
 
 -- `init NAME ADDR HEX`: the value of a word of an array
@@ -36,7 +36,7 @@ pub record IsArrayLine (shape : TraceShape) (line : List ℕ) (place value : ℕ
   pub within : decimal_of address < depth
   pub place_is : first + decimal_of address ≡ place
   pub digits_spelled : is_value digits ≡ true
-  pub is : value_of digits ≡ value
+  pub is : hexadecimal_of digits ≡ value
   pub fits : value < 2 ^ width
 
 -- the line gives the word of the state at the place this value
@@ -53,5 +53,5 @@ pub record IsTickLine (shape : TraceShape) (line : List ℕ) (tick : Tick) : Typ
   pub clocks_are : clocks_of clock_list ≡ tick.clocks
   pub clocks_rise : AreClocks 0 shape.clocks tick.clocks
   pub values_spelled : AllByRecursion (λ w. is_value w ≡ true) values
-  pub values_are : map value_of values ≡ tick.inputs
+  pub values_are : map hexadecimal_of values ≡ tick.inputs
   pub inputs_fit : FitEach shape.inputs tick.inputs

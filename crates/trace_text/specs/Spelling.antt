@@ -1,21 +1,23 @@
 -- How the words of a trace are spelled.
 -- A value is hexadecimal digits in either case, an address and a clock are decimal digits; leading zeros are free, and there may be any number of digits.
 -- A clock list is `-`, or rising numbers parted by commas.
-use Rattle.std.specs.Prelude.{ℕ, ◌+◌, ◌-◌, ◌*◌, List, [], ◌∷◌, map, codes, Bool, true, false, ◌&&◌, ◌||◌, nat_eq, nat_le, if◌then◌else◌}
+use Rattle.std.specs.Prelude.{ℕ, ◌+◌, ◌*◌, List, [], ◌∷◌, map, codes, Bool, true, false, ◌&&◌, ◌||◌, nat_eq, nat_le, if◌then◌else◌, is_some, unwrap_or}
 use Rattle.std.specs.List.{list_all, slice_split}
 use Rattle.std.specs.Str.{bytes_eq}
-use Rattle.ver_ast.specs.Names.{is_digit}
+use Rattle.fir_base.specs.Bytes.{is_digit}
+use Rattle.fir_base.specs.Digits.{digit_value}
 
 abbrev pub is_hexadecimal : ℕ → Bool
-is_hexadecimal b = is_digit b || ((nat_le 97 b && nat_le b 102) || (nat_le 65 b && nat_le b 70))
+is_hexadecimal b = is_some (digit_value b)
 
-abbrev pub digit_value : ℕ → ℕ
-digit_value b = if is_digit b then b - 48 else if nat_le 97 b then b - 87 else b - 55
+-- the number of a digit
+abbrev pub digit_number : ℕ → ℕ
+digit_number b = unwrap_or (digit_value b) 0
 
 -- the number of digits in a base, behind a number
 abbrev pub number_from : ℕ → ℕ → List ℕ → ℕ
 number_from base n [] = n
-number_from base n (b ∷ bs) = number_from base (base * n + digit_value b) bs
+number_from base n (b ∷ bs) = number_from base (base * n + digit_number b) bs
 
 abbrev pub is_filled : List ℕ → Bool
 is_filled [] = false
@@ -24,8 +26,8 @@ is_filled (b ∷ bs) = true
 abbrev pub is_value : List ℕ → Bool
 is_value word = is_filled word && list_all is_hexadecimal word
 
-abbrev pub value_of : List ℕ → ℕ
-value_of = number_from 16 0
+abbrev pub hexadecimal_of : List ℕ → ℕ
+hexadecimal_of = number_from 16 0
 
 abbrev pub is_decimal : List ℕ → Bool
 is_decimal word = is_filled word && list_all is_digit word

@@ -1,13 +1,25 @@
-//! The list of the clocks that rise.
+//! The list of the clocks that rise, read in one walk.
 
-ghost use Rattle.std.specs.Prelude.{◌≡◌, true, false, [], length, IfSome, MatchOption, nat_lt};
-ghost use Rattle.trace_text.specs.Spelling.{is_decimal, decimal_of, listed, is_no_clock, are_clocks, is_clock_list};
-ghost use Rattle.trace_text.specs.LineFaults.{absent_clocks, absent_in_list};
-ghost use Rattle.trace_text.specs.Readings.{first_cause};
-ghost use Rattle.trace_text.specs.ClockRooms.{Names};
+ghost use Rattle.std.specs.Prelude.{◌≡◌, ◌+◌, ◌≤◌, ℕ, List, [], ◌∷◌, true, false, length, IfSome, MatchOption, nat_lt};
+ghost use Rattle.trace_text.specs.Spelling.{decimal_of, listed, is_no_clock, are_clocks};
+ghost use Rattle.trace_text.specs.working.ClockLists.{IsClock, ClocksAreRead, ReadsClockList};
 
 use crate::fault::Cause;
-use crate::spelling::{decimal_below, decimal_less, is_decimal};
+use crate::number::{Reading, decimal_less, read_decimal};
+
+/// What is read of a clock list: how many clocks are named in the room, and the first number that is no clock.
+#[derive(Clone, Copy)]
+pub struct ReadClocks {
+    pub named: usize,
+    pub absent: Option<Cause>,
+}
+
+/// A number of a clock list, with its digits.
+#[derive(Clone, Copy)]
+struct Clock<'a> {
+    digits: &'a [u8],
+    number: Reading,
+}
 
 fn is_no_clock(word: &[u8]) -> bool
     ensures { result ≡ is_no_clock word.now }
@@ -15,94 +27,93 @@ fn is_no_clock(word: &[u8]) -> bool
     word == b"-".as_slice()
 }
 
-/// Whether the number is greater than the one before it, where there is one.
-fn rises(before: Option<&[u8]>, piece: &[u8]) -> bool
-    requires before { IfSome before (λ w. is_decimal w.now ≡ true) }
-    requires piece { is_decimal piece.now ≡ true }
-    ensures { MatchOption before.entry (result ≡ true) (λ w. result ≡ nat_lt (decimal_of w.now) (decimal_of piece.now)) }
+/// Whether the first number is the smaller one. Digits are looked at again only where both numbers are wide.
+fn is_less(a: Clock, b: Clock) -> bool
+    requires a { IsClock a }
+    requires b { IsClock b }
+    ensures { result ≡ nat_lt (decimal_of a.entry.digits.now) (decimal_of b.entry.digits.now) }
+{
+    match (a.number, b.number) {
+        (Reading::Number(a), Reading::Number(b)) => a < b,
+        (Reading::Number(_), _) => true,
+        (_, Reading::Number(_)) => false,
+        _ => decimal_less(a.digits, b.digits),
+    }
+}
+
+/// Whether a number is greater than the one before it, where there is one.
+fn is_greater(before: Option<Clock>, clock: Clock) -> bool
+    requires before { IfSome before (λ b. IsClock b) }
+    requires clock { IsClock clock }
+    ensures { MatchOption before.entry (result ≡ true) (λ b. result ≡ nat_lt (decimal_of b.digits.now) (decimal_of clock.entry.digits.now)) }
 {
     match before {
         None => true,
-        Some(before) => decimal_less(before, piece),
+        Some(before) => is_less(before, clock),
     }
 }
 
-/// Whether a word is rising decimal numbers parted by commas.
-fn are_clocks(word: &[u8]) -> bool
-    ensures { result ≡ are_clocks (listed word.now) }
+impl ReadClocks {
+    /// Takes the number that stands at the place in a list: names the clock, or tells that there is none.
+    fn take(&mut self, clock: Clock, place: usize, room: &mut [usize])
+        requires clock { IsClock clock }
+        requires behind { self.old.named ≤ decimal_of clock.digits.now }
+        ensures named { self.new.named ≤ decimal_of clock.entry.digits.now + 1 }
+        ensures room { length room.new ≡ length room.old }
+        ensures read { (pieces left : List (List ℕ)) → ClocksAreRead pieces (clock.entry.digits.now ∷ left) place self.old room.old → ClocksAreRead pieces left (place + (length clock.entry.digits.now + 1)) self.new room.new }
+    {
+        match clock.number.below(room.len()) {
+            Some(number) => {
+                room[self.named] = number;
+                self.named += 1;
+            }
+            None => {
+                let absent = Cause::Absent(place as u64, clock.digits.len() as u64);
+                self.absent = self.absent.or(Some(absent));
+            }
+        }
+    }
+}
+
+/// Reads rising decimal numbers parted by commas. None where a word is no such list.
+fn read_clocks(word: &[u8], room: &mut [usize]) -> Option<ReadClocks>
+    ensures read { MatchOption result (are_clocks (listed word.now) ≡ false) (λ read. (are_clocks (listed word.now) ≡ true) × ClocksAreRead (listed word.now) [] 0 read room.new) }
+    ensures room { length room.new ≡ length room.old }
 {
+    let mut read = ReadClocks {
+        named: 0,
+        absent: None,
+    };
     let mut before = None;
-    for piece in word.split(|byte| *byte == b',') {
-        if !is_decimal(piece) || !rises(before, piece) {
-            return false;
-        }
-        before = Some(piece);
-    }
-    true
-}
-
-/// Whether a word is `-`, or rising decimal numbers parted by commas.
-pub fn is_clock_list(word: &[u8]) -> bool
-    ensures { result ≡ is_clock_list word.now }
-{
-    is_no_clock(word) || are_clocks(word)
-}
-
-/// The first number of rising clocks that is none of so many clocks.
-fn absent_piece(clocks: usize, word: &[u8]) -> Option<Cause>
-    requires { are_clocks (listed word.now) ≡ true }
-    ensures { result ≡ first_cause (absent_clocks clocks 0 (listed word.now)) }
-{
     let mut place = 0;
-    for piece in word.split(|byte| *byte == b',') {
-        if decimal_below(piece, clocks).is_none() {
-            return Some(Cause::Absent(place as u64, piece.len() as u64));
+    for digits in word.split(|byte| *byte == b',') {
+        let number = read_decimal(digits);
+        if let Reading::Misspelled = number {
+            return None;
         }
-        place += piece.len() + 1;
+        let clock = Clock { digits, number };
+        if !is_greater(before, clock) {
+            return None;
+        }
+        read.take(clock, place, room);
+        before = Some(clock);
+        place += digits.len() + 1;
     }
-    None
+    Some(read)
 }
 
-/// The first number of a clock list that is none of so many clocks.
-pub fn absent_clock(clocks: usize, word: &[u8]) -> Option<Cause>
-    requires { is_clock_list word.now ≡ true }
-    ensures { result ≡ first_cause (absent_in_list clocks word.now) }
+/// Reads a clock list into the room, which has a place for each clock. None where a word is neither `-` nor
+/// rising decimal numbers parted by commas.
+pub fn read_clock_list(word: &[u8], room: &mut [usize]) -> Option<ReadClocks>
+    ensures read { ReadsClockList word.now result room.new }
+    ensures room { length room.new ≡ length room.old }
 {
     if is_no_clock(word) {
-        None
+        Some(ReadClocks {
+            named: 0,
+            absent: None,
+        })
     } else {
-        absent_piece(clocks, word)
-    }
-}
-
-/// Puts the numbers of a clock list that is not `-` to the front of the room, and tells how many they are.
-fn name_pieces(word: &[u8], room: &mut Vec<usize>) -> usize
-    requires some { is_no_clock word.now ≡ false }
-    requires spelled { is_clock_list word.now ≡ true }
-    requires there { absent_in_list (length room.old.items) word.now ≡ [] }
-    ensures { Names word.now room.old.items room.new.items result }
-{
-    let mut count = 0;
-    for piece in word.split(|byte| *byte == b',') {
-        let Some(clock) = decimal_below(piece, room.len()) else {
-            unreachable!();
-        };
-        room[count] = clock;
-        count += 1;
-    }
-    count
-}
-
-/// Puts the numbers of a clock list to the front of the room, which has a place for each clock, and tells how
-/// many they are.
-pub fn name_clocks(word: &[u8], room: &mut Vec<usize>) -> usize
-    requires spelled { is_clock_list word.now ≡ true }
-    requires there { absent_in_list (length room.old.items) word.now ≡ [] }
-    ensures { Names word.now room.old.items room.new.items result }
-{
-    if is_no_clock(word) {
-        0
-    } else {
-        name_pieces(word, room)
+        read_clocks(word, room)
     }
 }

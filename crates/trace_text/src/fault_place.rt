@@ -1,7 +1,7 @@
 //! The fault of a line, by the place at which the line begins.
 
 ghost use Rattle.std.specs.Prelude.{◌≡◌, ◌≤◌, length};
-ghost use Rattle.trace_text.specs.Walks.{fault_at, refused_at};
+ghost use Rattle.trace_text.specs.working.Walks.{fault_at, refused_at};
 
 use crate::fault::{Cause, TraceFault};
 use crate::lines::line_number;

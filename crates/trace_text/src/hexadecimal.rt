@@ -1,10 +1,10 @@
 //! Numbers in hexadecimal.
 
-ghost use Rattle.std.specs.Prelude.{◌≡◌, ◌++◌, ◌<◌, OnOk, false, replicate};
-ghost use Rattle.std.specs.Fmt.{digit_glyph, digits};
+ghost use Rattle.std.specs.Prelude.{◌≡◌, ◌++◌, OnOk, false, replicate};
+ghost use Rattle.std.specs.Fmt.{digits};
 ghost use Rattle.trace_text.specs.OutputLines.{padded};
 
-use fir_base::MemoryOut;
+use fir_base::{MemoryOut, hex_digit};
 
 /// Appends the number in hexadecimal digits, whose letters are in lower case, with leading zeros up to so
 /// many digits.
@@ -18,7 +18,7 @@ pub fn put_padded(out: &mut Vec<u8>, count: u32, n: u128) -> Result<(), MemoryOu
     } else {
         put_padded(out, before, n / 16)?;
     }
-    out.push(digit_byte(n % 16))?;
+    out.push(hex_digit((n % 16) as u8))?;
     Ok(())
 }
 
@@ -30,15 +30,4 @@ fn put_zeros(out: &mut Vec<u8>, count: u32) -> Result<(), MemoryOut>
         out.push(b'0')?;
     }
     Ok(())
-}
-
-fn digit_byte(digit: u128) -> u8
-    requires { digit < 16 }
-    ensures { result ≡ digit_glyph false digit }
-{
-    if digit < 10 {
-        b'0' + digit as u8
-    } else {
-        b'a' + (digit - 10) as u8
-    }
 }

@@ -1,16 +1,18 @@
 //! A line that gives a word of the state its initial value.
 
-ghost use Rattle.std.specs.Prelude.{◌≡◌, ◌≤◌, [], ◌∷◌, true};
-ghost use Rattle.trace_text.specs.Spelling.{is_value};
+ghost use Rattle.std.specs.Prelude.{◌≡◌, ◌≤◌, ℕ, List, [], ◌∷◌, true};
+ghost use Rattle.trace_text.specs.Spelling.{hexadecimal_of};
 ghost use Rattle.trace_text.specs.LineFaults.{absent_name};
-ghost use Rattle.trace_text.specs.Readings.{is_init_line, ReadsInitLine};
-ghost use Rattle.trace_text.specs.InitWords.{GivesValue, ReadsInitWords};
+ghost use Rattle.trace_text.specs.working.Readings.{is_init_line, ReadsInitLine};
+ghost use Rattle.trace_text.specs.working.Numbers.{IsNumber};
+ghost use Rattle.trace_text.specs.working.InitWords.{GivesValue, ReadsInitWords};
 
 use crate::fault::Cause;
 use crate::init_words::{InitWords, init_words};
 use crate::lines::LINE_LIMIT;
+use crate::number::{Reading, read_decimal, read_value};
 use crate::shape::{FoundWord, Shape};
-use crate::spelling::{decimal_below, is_decimal, is_value, is_word, value};
+use crate::spelling::is_word;
 use fir_base::{Name, Refused};
 use fir_bits::mask;
 use std::alloc::Global;
@@ -51,7 +53,8 @@ fn read_register(
     if !is_word(name) {
         return Err(Refused::Fault(Cause::Misspelled(2)));
     }
-    if !is_value(digits) {
+    let number = read_value(digits);
+    if let Reading::Misspelled = number {
         return Err(Refused::Fault(Cause::Misspelled(3)));
     }
     let known = Name::new(alloc, name)?;
@@ -65,7 +68,7 @@ fn read_register(
     else {
         return Err(Refused::Fault(absent_name(name)));
     };
-    let value = fitting(3, width, digits)?;
+    let value = fitting(3, width, number)?;
     Ok(InitWord { place, value })
 }
 
@@ -82,10 +85,12 @@ fn read_array(
     if !is_word(name) {
         return Err(Refused::Fault(Cause::Misspelled(2)));
     }
-    if !is_decimal(address) {
+    let offset = read_decimal(address);
+    if let Reading::Misspelled = offset {
         return Err(Refused::Fault(Cause::Misspelled(3)));
     }
-    if !is_value(digits) {
+    let number = read_value(digits);
+    if let Reading::Misspelled = number {
         return Err(Refused::Fault(Cause::Misspelled(4)));
     }
     let known = Name::new(alloc, name)?;
@@ -99,10 +104,10 @@ fn read_array(
     else {
         return Err(Refused::Fault(absent_name(name)));
     };
-    let Some(offset) = decimal_below(address, depth as usize) else {
+    let Some(offset) = offset.below(depth as usize) else {
         return Err(Refused::Fault(Cause::Absent(6 + name.len() as u64, address.len() as u64)));
     };
-    let value = fitting(4, width, digits)?;
+    let value = fitting(4, width, number)?;
     let place = place + offset;
     Ok(InitWord { place, value })
 }
@@ -114,14 +119,13 @@ fn absent_name(name: &[u8]) -> Cause
     Cause::Absent(5, name.len() as u64)
 }
 
-/// The number of the digits, which are the word of that number in the line, or that it does not fit the width.
-fn fitting(word: u64, width: u32, digits: &[u8]) -> Result<u128, Refused<Cause>>
-    requires narrow { width ≤ 128 }
-    requires spelled { is_value digits.now ≡ true }
-    ensures { GivesValue word width digits.now result }
+/// The value that was read of the word of that number in the line, or that it does not fit the width.
+fn fitting(word: u64, width: u32, number: Reading) -> Result<u128, Refused<Cause>>
+    requires { width ≤ 128 }
+    ensures { (digits : List ℕ) → IsNumber number (hexadecimal_of digits) → GivesValue word width digits result }
 {
-    match value(digits) {
-        Some(number) if number <= mask(width) => Ok(number),
-        _ => Err(Refused::Fault(Cause::Wide(word, width))),
+    match number.fitting(width) {
+        Some(value) => Ok(value),
+        None => Err(Refused::Fault(Cause::Wide(word, width))),
     }
 }

@@ -1,16 +1,17 @@
 //! The init lines at the front of a trace.
 
-ghost use Rattle.std.specs.Prelude.{◌≡◌, ◌≤◌, length, true, IfOk, replicate};
-ghost use Rattle.trace_text.specs.Readings.{ReadsInit};
+ghost use Rattle.std.specs.Prelude.{◌≡◌, ◌≤◌, length, true, false, IfOk, MatchOption, replicate};
+ghost use Rattle.trace_text.specs.working.Readings.{ReadsInit};
+ghost use Rattle.trace_text.specs.working.LineStarts.{may_go_on};
 ghost use Rattle.trace_text.specs.Shapes.{state_widths};
 ghost use Rattle.trace_text.specs.TraceSpells.{zeros};
-ghost use Rattle.trace_text.specs.Walks.{is_before_ticks, goes_on, TakesLine};
+ghost use Rattle.trace_text.specs.working.Walks.{is_before_ticks, goes_on, IsBeforeTicks, TakesLine};
 
 use crate::fault::{Cause, TraceFault};
 use crate::fault_place::refused_at;
 use crate::init::Init;
 use crate::init_line::read_init_line;
-use crate::lines::{is_init_line, is_skipped, line_at, place_behind};
+use crate::lines::{Line, is_init_line, is_skipped, line_at};
 use crate::shape::{Shape, StateWord};
 use fir_base::{MemoryOut, Refused};
 use std::alloc::Global;
@@ -27,16 +28,27 @@ fn zeros(alloc: Global, state: &[StateWord]) -> Result<Vec<u128>, MemoryOut>
     Ok(words)
 }
 
-/// Whether a line begins at the place that is skipped or begins with `init`.
-fn goes_on(bytes: &[u8], place: usize) -> bool
-    requires { place ≤ length bytes.now }
-    ensures { result ≡ goes_on bytes.now place }
+/// Whether a line begins here that may be skipped or begin with `init`, as far as its first byte shows.
+fn may_go_on(rest: &[u8]) -> bool
+    ensures { result ≡ may_go_on rest.now }
 {
-    if place == bytes.len() {
-        return false;
+    matches!(rest, [b'#' | b'\n' | b'i', ..])
+}
+
+/// The line that begins at the place, if it is skipped or begins with `init`.
+fn line_before_ticks(bytes: &[u8], place: usize) -> Option<Line<'_>>
+    requires { place ≤ length bytes.now }
+    ensures { MatchOption result (goes_on bytes.now place ≡ false) (λ line. IsBeforeTicks bytes.now place line) }
+{
+    if !may_go_on(&bytes[place..]) {
+        return None;
     }
     let line = line_at(bytes, place);
-    is_skipped(line) || is_init_line(line)
+    if is_skipped(line.text) || is_init_line(line.text) {
+        Some(line)
+    } else {
+        None
+    }
 }
 
 /// Sets the word that the line gives, if it is not skipped, or tells what is wrong with the line.
@@ -70,11 +82,11 @@ pub fn read_init(
 {
     let mut words = zeros(alloc, shape.state())?;
     let mut place = 0;
-    while goes_on(bytes, place) {
-        if let Err(refused) = take_line(alloc, shape, line_at(bytes, place), &mut words) {
+    while let Some(line) = line_before_ticks(bytes, place) {
+        if let Err(refused) = take_line(alloc, shape, line.text, &mut words) {
             return Err(refused_at(bytes, place, refused));
         }
-        place = place_behind(bytes, place);
+        place = line.behind;
     }
     Ok((Init::new(words), place as u64))
 }

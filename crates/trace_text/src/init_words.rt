@@ -1,12 +1,12 @@
 //! The words of an init line.
 
-ghost use Rattle.std.specs.Prelude.{◌≡◌, [], ◌∷◌, length, nat_eq, position, true};
-ghost use Rattle.std.specs.Option.{option_map_or};
+ghost use Rattle.std.specs.Prelude.{◌≡◌, true};
 ghost use Rattle.trace_text.specs.Lines.{words_of};
-ghost use Rattle.trace_text.specs.Readings.{is_init_line};
-ghost use Rattle.trace_text.specs.InitWords.{GivesWords};
+ghost use Rattle.trace_text.specs.working.Readings.{is_init_line};
+ghost use Rattle.trace_text.specs.working.InitWords.{GivesWords};
 
 use crate::fault::Cause;
+use crate::words::{first_word, word_count};
 
 /// The words behind `init`.
 #[derive(Clone, Copy)]
@@ -32,31 +32,7 @@ pub fn init_words(line: &[u8]) -> Result<InitWords<'_>, Cause>
         (digits, None) => Ok(InitWords::Register(name, digits)),
         (address, Some(rest)) => match first_word(rest) {
             (digits, None) => Ok(InitWords::Array(name, address, digits)),
-            (_, Some(_)) => Err(Cause::Count(word_count(line), 4)),
+            (_, Some(rest)) => Err(Cause::Count(4 + word_count(rest), 4)),
         },
     }
-}
-
-/// The first word, and what stands behind the space that ends it.
-fn first_word(text: &[u8]) -> (&[u8], Option<&[u8]>)
-    ensures { words_of text.now ≡ result.0.now ∷ option_map_or (λ rest. words_of rest.now) result.1 [] }
-{
-    match first_space(text) {
-        Some(end) => (&text[..end], Some(&text[end + 1..])),
-        None => (text, None),
-    }
-}
-
-/// Where the first space of a text stands.
-fn first_space(text: &[u8]) -> Option<usize>
-    ensures { result ≡ position (λ b. nat_eq b 32) text.now }
-{
-    text.iter().position(|byte| *byte == b' ')
-}
-
-/// How many words a line has: one more than it has spaces.
-fn word_count(line: &[u8]) -> u64
-    ensures { result ≡ length (words_of line.now) }
-{
-    line.iter().filter(|byte| **byte == b' ').count() as u64 + 1
 }

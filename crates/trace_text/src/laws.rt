@@ -1,7 +1,7 @@
 //! Laws about the definitions, each the contract of a function that does nothing.
 
-ghost use Rattle.trace_text.specs.Steps.{TraceReadsInSteps};
-ghost use Rattle.trace_text.specs.Laws.{LineIsSpelledOrBad, TraceIsSpelledOrBad, SpelledIsNotBad, SpellsOneTrace, ShowsOneBadLine};
+ghost use Rattle.trace_text.specs.working.Steps.{TraceReadsInSteps};
+ghost use Rattle.trace_text.specs.working.Laws.{LineIsSpelledOrBad, TraceIsSpelledOrBad, SpelledIsNotBad, SpellsOneTrace, ShowsOneBadLine};
 
 /// A line is spelled in its place exactly where nothing is wrong with it.
 pub fn line_is_spelled_or_bad()

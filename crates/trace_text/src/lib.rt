@@ -26,9 +26,11 @@ mod spelling;
 #[cfg(test)]
 mod tests;
 mod tick;
+mod tick_faults;
 mod tick_line;
 mod tick_reader;
 mod tick_words;
+mod words;
 
 pub use fault::{Cause, TraceFault};
 pub use init::Init;

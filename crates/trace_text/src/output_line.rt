@@ -2,7 +2,7 @@
 
 ghost use Rattle.std.specs.Prelude.{◌≡◌, ◌++◌, IfOk, OnErr, OnOk, map, option_map};
 ghost use Rattle.trace_text.specs.OutputLines.{line_text, round_words, state_words, value_text};
-ghost use Rattle.trace_text.specs.ClosedWords.{closed};
+ghost use Rattle.trace_text.specs.working.ClosedWords.{closed};
 
 use crate::hexadecimal::put_padded;
 use fir_base::{MemoryOut, put_decimal};

@@ -3,7 +3,7 @@
 ghost use Rattle.std.specs.Prelude.{◌≡◌, ◌≤◌, IfOk, IfSome, Ok, None, map, sum_by};
 ghost use Rattle.fir_base.specs.Lists.{Distinct};
 ghost use Rattle.trace_text.specs.Shapes.{array_size, word_limit};
-ghost use Rattle.trace_text.specs.Places.{HasPlaces};
+ghost use Rattle.trace_text.specs.working.Places.{HasPlaces};
 
 use crate::shape::{FoundWord, StateWord};
 use crate::shape_rules::size;

@@ -2,7 +2,7 @@
 
 ghost use Rattle.std.specs.Prelude.{◌≡◌, ◌^◌, ◌<◌, IfOk, IfSome, Ok, None, length};
 ghost use Rattle.trace_text.specs.Shapes.{found, IsShape, shape_of, state_widths};
-ghost use Rattle.trace_text.specs.TickWords.{AreWidths};
+ghost use Rattle.trace_text.specs.working.TickWords.{AreWidths};
 
 use crate::places::places_of;
 use crate::shape_rules::{are_widths, is_state};
@@ -42,7 +42,7 @@ pub struct Shape {
 
 impl Model for Shape {
     ghost use Rattle.trace_text.specs.Shapes.{TraceShape, IsShape, shape_of};
-    ghost use Rattle.trace_text.specs.Places.{HasPlaces};
+    ghost use Rattle.trace_text.specs.working.Places.{HasPlaces};
 
     ghost Value = { TraceShape };
 

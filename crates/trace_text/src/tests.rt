@@ -1,10 +1,5 @@
-//! The spelling of words and lines, shapes, whole traces, and the lines of faults and simulations, each against
-//! what was written by hand.
+//! Shapes with arrays, traces of them, and lines that tell rounds or faults, each against what was written by hand.
 
-mod fault_lines;
-mod init_lines;
-mod output_lines;
+mod lines;
 mod readers;
 mod shapes;
-mod spellings;
-mod tick_lines;

@@ -1,18 +1,19 @@
 //! A tick, with room for the widest line of its shape.
 
-ghost use Rattle.std.specs.Prelude.{◌≡◌, ◌+◌, [], drop, IfOk, length, map, true};
-ghost use Rattle.trace_text.specs.LineFaults.{absent_in_list};
-ghost use Rattle.trace_text.specs.Lines.{words_of};
-ghost use Rattle.trace_text.specs.Rooms.{HasRoom};
-ghost use Rattle.trace_text.specs.Spelling.{clocks_of, is_clock_list, value_of};
-ghost use Rattle.trace_text.specs.TickWords.{AreNarrowValues};
+ghost use Rattle.std.specs.Prelude.{◌≡◌, IfOk};
+ghost use Rattle.trace_text.specs.working.Rooms.{HasRoom};
+ghost use Rattle.trace_text.specs.working.TickWords.{ReadsTickWords};
 
-use crate::clock_list::name_clocks;
+use crate::clock_list::read_clock_list;
+use crate::fault::Cause;
 use crate::shape::Shape;
-use crate::tick_words::put_values;
+use crate::tick_faults::judge;
+use crate::tick_words::read_values;
+use crate::words::first_word;
 use fir_base::MemoryOut;
 use std::alloc::Global;
 use std::marker::Model;
+use std::mem::swap;
 
 /// A tick: a value for each input, and the numbers of the clocks that rise, from 0, rising.
 #[derive(Drop)]
@@ -21,17 +22,20 @@ pub struct Tick {
     /// Room for all clocks, of which the first are named.
     clocks: Vec<usize>,
     named: usize,
+    /// Room into which the next line is read; it becomes the tick where nothing is wrong with the line.
+    next_inputs: Vec<u128>,
+    next_clocks: Vec<usize>,
 }
 
 impl Model for Tick {
-    ghost use Rattle.std.specs.Prelude.{◌≤◌, length};
-    ghost use Rattle.trace_text.specs.Rooms.{TickRoom, room_of};
+    ghost use Rattle.std.specs.Prelude.{◌≡◌, ◌≤◌, length};
+    ghost use Rattle.trace_text.specs.working.Rooms.{TickRoom, room_of};
 
     ghost Value = { TickRoom };
 
     ghost view = { λ t. room_of t.inputs.items t.clocks.items t.named };
 
-    ghost invariant = { λ t. t.named ≤ length t.clocks.items };
+    ghost invariant = { λ t. (t.named ≤ length t.clocks.items) × (length t.next_inputs.items ≡ length t.inputs.items) × (length t.next_clocks.items ≡ length t.clocks.items) };
 }
 
 impl Tick {
@@ -39,12 +43,12 @@ impl Tick {
     pub fn new(alloc: Global, shape: &Shape) -> Result<Tick, MemoryOut>
         ensures { IfOk result (λ t. HasRoom shape.now t) }
     {
-        let inputs = vec![in alloc; 0; shape.inputs().len()]?;
-        let clocks = vec![in alloc; 0; shape.clocks()]?;
         Ok(Tick {
-            inputs,
-            clocks,
+            inputs: vec![in alloc; 0; shape.inputs().len()]?,
+            clocks: vec![in alloc; 0; shape.clocks()]?,
             named: 0,
+            next_inputs: vec![in alloc; 0; shape.inputs().len()]?,
+            next_clocks: vec![in alloc; 0; shape.clocks()]?,
         })
     }
 
@@ -62,25 +66,20 @@ impl Tick {
         &self.clocks.as_slice()[..self.named]
     }
 
-    /// Takes the clocks of a clock list, each of which is there.
-    pub(crate) fn set_clocks(&mut self, clock_list: &[u8])
-        requires spelled { is_clock_list clock_list.now ≡ true }
-        requires there { absent_in_list self.old.room clock_list.now ≡ [] }
-        ensures clocks { self.new.tick.clocks ≡ clocks_of clock_list.now }
-        ensures inputs { self.new.tick.inputs ≡ self.old.tick.inputs }
-        ensures room { self.new.room ≡ self.old.room }
+    /// Reads the words of a line, or tells what is wrong with them and leaves the tick as it was.
+    pub(crate) fn read_words(&mut self, shape: &Shape, line: &[u8]) -> Result<(), Cause>
+        requires room { HasRoom shape.now self.old }
+        ensures reads { ReadsTickWords shape.now line.now self.old.tick self.new.tick result }
+        ensures room { HasRoom shape.now self.new }
     {
-        self.named = name_clocks(clock_list, &mut self.clocks);
-    }
-
-    /// Takes the values of a line, which stand behind its first word, one for each input.
-    pub(crate) fn set_inputs(&mut self, line: &[u8])
-        requires counted { length (words_of line.now) ≡ 1 + length self.old.tick.inputs }
-        requires values { AreNarrowValues (drop 1 (words_of line.now)) }
-        ensures inputs { self.new.tick.inputs ≡ map value_of (drop 1 (words_of line.now)) }
-        ensures clocks { self.new.tick.clocks ≡ self.old.tick.clocks }
-        ensures room { self.new.room ≡ self.old.room }
-    {
-        put_values(line, self.inputs.as_mut_slice());
+        let widths = shape.inputs();
+        let (clock_list, rest) = first_word(line);
+        let clocks = read_clock_list(clock_list, self.next_clocks.as_mut_slice());
+        let values = read_values(rest, widths, self.next_inputs.as_mut_slice());
+        let named = judge(widths, clocks, values)?;
+        swap(&mut self.inputs, &mut self.next_inputs);
+        swap(&mut self.clocks, &mut self.next_clocks);
+        self.named = named;
+        Ok(())
     }
 }

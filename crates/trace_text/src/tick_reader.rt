@@ -1,29 +1,31 @@
 //! The ticks of a trace, one after the other.
 
-ghost use Rattle.std.specs.Prelude.{◌≡◌, ◌≤◌, ◌<◌, length, drop, false, true, Ok};
-ghost use Rattle.trace_text.specs.Lines.{first_line};
-ghost use Rattle.trace_text.specs.Readings.{StepsToTick, is_skipped};
-ghost use Rattle.trace_text.specs.Rooms.{HasRoom};
-ghost use Rattle.trace_text.specs.Walks.{IsPast};
+ghost use Rattle.std.specs.Prelude.{◌≡◌, ◌≤◌, ◌<◌, length, true, Ok, MatchOption};
+ghost use Rattle.trace_text.specs.working.Readings.{StepsToTick};
+ghost use Rattle.trace_text.specs.working.Rooms.{HasRoom};
+ghost use Rattle.trace_text.specs.working.Walks.{IsPast, IsCounting};
 
 use crate::fault::TraceFault;
 use crate::fault_place::fault_at;
-use crate::lines::{is_skipped, line_at, place_behind};
+use crate::lines::{Line, is_skipped, line_at};
 use crate::shape::Shape;
 use crate::tick::Tick;
 use crate::tick_line::read_tick_line;
 
-/// The place of the first line from the place on that counts, or the end.
-fn counting_place(bytes: &[u8], from: usize) -> usize
+/// The first line from the place on that counts. None where only skipped lines are left.
+fn counting_line(bytes: &[u8], from: usize) -> Option<Line<'_>>
     requires { from ≤ length bytes.now }
-    ensures past { IsPast bytes.now from result }
-    ensures counts { result < length bytes.now → is_skipped (first_line (drop result bytes.now)) ≡ false }
+    ensures { MatchOption result (IsPast bytes.now from (length bytes.now)) (λ line. IsCounting bytes.now from line) }
 {
     let mut place = from;
-    while place < bytes.len() && is_skipped(line_at(bytes, place)) {
-        place = place_behind(bytes, place);
+    while place < bytes.len() {
+        let line = line_at(bytes, place);
+        if !is_skipped(line.text) {
+            return Some(line);
+        }
+        place = line.behind;
     }
-    place
+    None
 }
 
 /// Reads the next tick from the place on, which is then the one behind its line; false, with the place at
@@ -42,16 +44,16 @@ pub fn next_tick(
     ensures later { result ≡ Ok true → at.old < at.new }
     ensures room { HasRoom shape.now tick.new }
 {
-    let place = counting_place(bytes, *at as usize);
-    *at = place as u64;
-    if place == bytes.len() {
+    let Some(line) = counting_line(bytes, *at as usize) else {
+        *at = bytes.len() as u64;
         return Ok(false);
-    }
-    match read_tick_line(shape, line_at(bytes, place), tick) {
+    };
+    *at = line.place as u64;
+    match read_tick_line(shape, line.text, tick) {
         Ok(()) => {
-            *at = place_behind(bytes, place) as u64;
+            *at = line.behind as u64;
             Ok(true)
         }
-        Err(cause) => Err(fault_at(bytes, place, cause)),
+        Err(cause) => Err(fault_at(bytes, line.place, cause)),
     }
 }

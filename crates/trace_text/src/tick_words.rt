@@ -1,103 +1,80 @@
-//! The words of a line of a tick: a clock list, and behind it the values of the inputs.
+//! The values of the inputs in the line of a tick, read in one walk.
 
-ghost use Rattle.std.specs.Prelude.{◌≡◌, ◌==◌, ◌+◌, ◌^◌, ◌<◌, ◌≤◌, drop, IfSome, length, map, nat_lt, not, slice_set, true};
-ghost use Rattle.std.specs.List.{before_first, position_from, zip};
-ghost use Rattle.trace_text.specs.LineFaults.{misspelled_values, wide_values};
+ghost use Rattle.std.specs.Prelude.{◌≡◌, ◌+◌, ◌^◌, ◌<◌, ℕ, List, [], ◌∷◌, length};
+ghost use Rattle.std.specs.Option.{option_map_or};
 ghost use Rattle.trace_text.specs.Lines.{words_of};
-ghost use Rattle.trace_text.specs.Readings.{first_cause};
-ghost use Rattle.trace_text.specs.Spelling.{is_value, value_of};
-ghost use Rattle.trace_text.specs.TickWords.{AreNarrowValues, AreValues, AreWidths, IsNarrowValue, is_too_wide};
+ghost use Rattle.trace_text.specs.working.TickWords.{AreWidths, ValuesAreRead};
 
 use crate::fault::Cause;
-use crate::spelling::{is_value, value};
+use crate::number::{Reading, read_value};
 
-/// How many words a line has.
-pub fn count_words(line: &[u8]) -> u64
-    ensures { result ≡ length (words_of line.now) }
-{
-    line.split(|b| *b == b' ').count() as u64
+/// What is read of the values of a line: how many they are, the first that is misspelled, and the first that is
+/// too wide.
+#[derive(Clone, Copy)]
+pub struct ReadValues {
+    pub count: usize,
+    pub misspelled: Option<Cause>,
+    pub wide: Option<Cause>,
 }
 
-/// The first word of a line.
-pub fn first_word(line: &[u8]) -> &[u8]
-    ensures { result.now ≡ before_first (λ b. b == 32) line.now }
-{
-    let end = line.iter().position(|b| *b == b' ').unwrap_or(line.len());
-    &line[..end]
-}
+impl ReadValues {
+    /// Takes the next value: puts it to the input of its place, or tells what is wrong with it. A value too many
+    /// is only counted.
+    fn take(&mut self, word: &[u8], widths: &[u32], inputs: &mut [u128])
+        requires few { self.old.count + 1 < 2 ^ 64 }
+        requires narrow { AreWidths widths.now }
+        requires room { length inputs.old ≡ length widths.now }
+        ensures count { self.new.count ≡ self.old.count + 1 }
+        ensures room { length inputs.new ≡ length inputs.old }
+        ensures read { (words left : List (List ℕ)) → ValuesAreRead widths.now words (word.now ∷ left) self.old inputs.old → ValuesAreRead widths.now words left self.new inputs.new }
+    {
+        let place = self.count;
+        self.count += 1;
+        if place >= widths.len() {
+            return;
+        }
+        let number = read_value(word);
+        if let Reading::Misspelled = number {
+            self.misspelled = self
+                .misspelled
+                .or(Some(Cause::Misspelled(place as u64 + 2)));
+            return;
+        }
+        match number.fitting(widths[place]) {
+            Some(value) => inputs[place] = value,
+            None => self.wide = self
+                .wide
+                .or(Some(Cause::Wide(place as u64 + 2, widths[place]))),
+        }
+    }
 
-/// The first of the values that is misspelled.
-pub fn misspelled_value(line: &[u8]) -> Option<Cause>
-    ensures { result ≡ first_cause (misspelled_values 2 (drop 1 (words_of line.now))) }
-{
-    match misspelled_place(line) {
-        Some(place) => Some(Cause::Misspelled(place as u64 + 2)),
-        None => None,
+    /// Takes all values of a text.
+    fn take_all(&mut self, text: &[u8], widths: &[u32], inputs: &mut [u128])
+        requires narrow { AreWidths widths.now }
+        requires read { ValuesAreRead widths.now (words_of text.now) (words_of text.now) self.old inputs.old }
+        ensures read { ValuesAreRead widths.now (words_of text.now) [] self.new inputs.new }
+        ensures few { self.new.count + 1 < 2 ^ 64 }
+    {
+        for word in text.split(|byte| *byte == b' ') {
+            self.take(word, widths, inputs);
+        }
     }
 }
 
-/// The place of that value among the values, from 0.
-fn misspelled_place(line: &[u8]) -> Option<usize>
-    ensures place { result ≡ position_from (λ w. not (is_value w)) 0 (drop 1 (words_of line.now)) }
-    ensures within { IfSome result (λ place. place ≤ length line.now) }
-{
-    line.split(|b| *b == b' ')
-        .skip(1)
-        .position(|word| !is_value(word))
-}
-
-/// The first of the values that does not fit the width of its input.
-pub fn wide_value(widths: &[u32], line: &[u8]) -> Option<Cause>
+/// Reads the values of a line, which stand behind its first word, into the inputs of these widths in bits.
+pub fn read_values(rest: Option<&[u8]>, widths: &[u32], inputs: &mut [u128]) -> ReadValues
     requires narrow { AreWidths widths.now }
-    requires values { AreValues (drop 1 (words_of line.now)) }
-    ensures { result ≡ first_cause (wide_values 2 widths.now (drop 1 (words_of line.now))) }
+    requires room { length inputs.old ≡ length widths.now }
+    ensures read { ValuesAreRead widths.now (option_map_or (λ text. words_of text.now) rest.entry []) [] result inputs.new }
+    ensures few { result.count + 1 < 2 ^ 64 }
 {
-    match wide_place(widths, line) {
-        Some(place) => Some(Cause::Wide(place as u64 + 2, widths[place])),
-        None => None,
+    let mut read = ReadValues {
+        count: 0,
+        misspelled: None,
+        wide: None,
+    };
+    if let Some(values) = rest {
+        read.take_all(values, widths, inputs);
     }
-}
-
-/// The place of that value among the values, from 0.
-fn wide_place(widths: &[u32], line: &[u8]) -> Option<usize>
-    requires narrow { AreWidths widths.now }
-    requires values { AreValues (drop 1 (words_of line.now)) }
-    ensures place { result ≡ position_from is_too_wide 0 (zip (drop 1 (words_of line.now)) widths.now) }
-    ensures within { IfSome result (λ place. place < length widths.now) }
-{
-    line.split(|b| *b == b' ')
-        .skip(1)
-        .zip(widths)
-        .position(|(word, width)| is_wide(word, *width))
-}
-
-/// Whether a value is too great for a width of up to 128 bits.
-fn is_wide(word: &[u8], width: u32) -> bool
-    requires narrow { width ≤ 128 }
-    requires value { is_value word.now ≡ true }
-    ensures { result ≡ not (nat_lt (value_of word.now) (2 ^ width)) }
-{
-    match value(word) {
-        Some(number) => width < 128 && number >> width != 0,
-        None => true,
-    }
-}
-
-/// Puts the values of a line to the inputs, of which there are as many.
-pub fn put_values(line: &[u8], inputs: &mut [u128])
-    requires counted { length (words_of line.now) ≡ 1 + length inputs.old }
-    requires values { AreNarrowValues (drop 1 (words_of line.now)) }
-    ensures { inputs.new ≡ map value_of (drop 1 (words_of line.now)) }
-{
-    for (place, word) in line.split(|b| *b == b' ').skip(1).enumerate() {
-        put_value(word, place, inputs);
-    }
-}
-
-fn put_value(word: &[u8], place: usize, inputs: &mut [u128])
-    requires there { place < length inputs.old }
-    requires value { IsNarrowValue word.now }
-    ensures { inputs.new ≡ slice_set inputs.old place (value_of word.now) }
-{
-    inputs[place] = value(word).unwrap_or(0);
+    read
 }

@@ -1,6 +1,3 @@
-pub mod Members
-pub mod Items
-pub mod Known
 pub mod Widths
 pub mod Values
 pub mod Parts
@@ -10,14 +7,3 @@ pub mod OneChoice
 pub mod OneAtom
 pub mod OneRhs
 pub mod OneTree
-pub mod Capping
-pub mod Scanning
-pub mod Putting
-pub mod Spelled
-pub mod Naming
-pub mod Ordering
-pub mod Fitting
-pub mod Shifts
-pub mod Blocks
-pub mod Narrow
-pub mod Holding

@@ -5,13 +5,14 @@ use Rattle.std.proofs.lemmas.List.{map-append}
 use Rattle.fir_base.specs.declared.direction.Direction.{Direction}
 use Rattle.fir_base.specs.declared.direction.Direction.TheVariants.{Input, Output}
 use Rattle.fir_base.specs.Lists.{In, Distinct}
+use Rattle.fir_base.proofs.Members.{in_map, in_left, in_right, in_either}
+use Rattle.fir_base.proofs.Twins.{distinct_left, distinct_right, apart, distinct_joined}
 use Rattle.ver_ast.specs.declared.tree.Verilog.{Verilog}
 use Rattle.ver_ast.specs.declared.tree.Port.{Port}
 use Rattle.ver_ast.specs.declared.tree.Item.{Item}
 use Rattle.ver_ast.specs.declared.tree.Item.TheVariants as item
 use Rattle.ver_ast.specs.Nets.{Sized, port_net, input_net, output_net, item_net, wire_net, reg_net, inputs, outputs, wires, regs, port_nets, nets, names_of}
-use Rattle.ver_ast.proofs.Members.{in_map, in_left, in_right, in_either}
-use Rattle.ver_ast.proofs.Parts.{distinct_left, distinct_right, distinct_apart, distinct_join, part_in, part_named, part_once, split_in}
+use Rattle.ver_ast.proofs.Parts.{part_in, part_named, part_once, split_in}
 
 abbrev as_input : Port → List Sized
 as_input p = input_net p.direction p
@@ -54,10 +55,10 @@ sources_distinct v d =
     let items = names_of (item_nets v) in
     let whole : Distinct (ports ++ items) = subst Distinct (map-append first (port_nets v) (item_nets v)) d in
     subst Distinct (sym (map-append first (inputs v) (regs v)))
-    (distinct_join (names_of (inputs v)) (names_of (regs v))
+    (distinct_joined (names_of (inputs v)) (names_of (regs v))
     (part_once port_net as_input input_part v.ports (distinct_left ports items whole))
     (part_once item_net reg_net reg_part v.items (distinct_right ports items whole))
-    (λ n m o. distinct_apart ports items whole n (part_named port_net as_input input_part v.ports n m) (part_named item_net reg_net reg_part v.items n o)))
+    (λ n m o. apart ports items whole n (part_named port_net as_input input_part v.ports n m) (part_named item_net reg_net reg_part v.items n o)))
 
 in_direction : (d : Direction) (p : Port) (s : Sized) → In (port_net p) s → In (input_net d p) s ⊎ In (output_net d p) s
 in_direction Input p s m = inl m

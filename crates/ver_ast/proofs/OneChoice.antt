@@ -4,18 +4,20 @@ use Rattle.std.specs.Prelude.{map, slice_get, Some}
 use Rattle.std.proofs.lemmas.List.{map-append}
 use Rattle.fir_base.specs.Lists.{In, Distinct}
 use Rattle.fir_base.specs.Ticks.{Env, Tick, FitEach, HasShape}
+use Rattle.fir_base.proofs.Elements.{get_in, number_of}
+use Rattle.fir_base.proofs.Members.{in_map, in_map_from, each_in, map_same, same_at}
+use Rattle.fir_base.proofs.Twins.{distinct_left, distinct_right, apart}
 use Rattle.ver_ast.specs.declared.tree.Verilog.{Verilog}
 use Rattle.ver_ast.specs.declared.tree.Assign.{Assign}
 use Rattle.ver_ast.specs.Nets.{Sized, width_in, inputs, outputs, clocks, wires, regs, nets, assigns, targets, names_of, widths_of, shape}
 use Rattle.ver_ast.specs.Valid.{Valid, HasOneWidth, ReadsBefore, reads}
 use Rattle.ver_ast.specs.Settled.{VSettled, rhs_value}
 use Rattle.ver_ast.specs.Allows.{VHasOne}
-use Rattle.ver_ast.proofs.Members.{in_map, in_map_from, each_in}
 use Rattle.ver_ast.proofs.Widths.{declared_width}
 use Rattle.ver_ast.proofs.Values.{rhs_fits, same_rhs}
-use Rattle.ver_ast.proofs.Parts.{distinct_left, distinct_right, distinct_apart, named_either}
+use Rattle.ver_ast.proofs.Parts.{named_either}
 use Rattle.ver_ast.proofs.Nets.{source_is_net, sources_distinct, net_is_source_or_driven}
-use Rattle.ver_ast.proofs.Starting.{put, put_here, put_other, map_same, same_at, start, start_values, start_fits, start_other, numbered, numbered_at, get_in, place_of, fit_joined, split_values}
+use Rattle.ver_ast.proofs.Starting.{put, put_here, put_other, start, start_values, start_fits, start_other, numbered, numbered_at, fit_joined, split_values}
 
 -- the known names have values of their widths
 record Fits (v : Verilog) (known : List (List ℕ)) (env : Env) : Type 0 where
@@ -161,7 +163,7 @@ module _ (v : Verilog) (valid : Valid v) (state : List ℕ) (tick : Tick) (shape
     once = valid.ordered.1.once;
     after = valid.ordered.1.after;
     fresh = fresh_targets;
-    widths = λ a m. valid.fitting a (valid.ordered.1.only a m);
+    widths = λ a m. valid.one_width a (valid.ordered.1.only a m);
   }
 
   -- the clocks have their numbers, the inputs the tick's values, and the registers the state's words
@@ -209,7 +211,7 @@ module _ (v : Verilog) (valid : Valid v) (state : List ℕ) (tick : Tick) (shape
 
   -- a clock is no net
   no_net : (n : List ℕ) → In (clocks v) n → In (names_of (nets v)) n → ⊥
-  no_net = distinct_apart (clocks v) (names_of (nets v)) valid.declared_once
+  no_net = apart (clocks v) (names_of (nets v)) valid.declared_once
 
   no_source : (n : List ℕ) → In (clocks v) n → In (names_of sources) n → ⊥
   no_source n m o =
@@ -219,7 +221,7 @@ module _ (v : Verilog) (valid : Valid v) (state : List ℕ) (tick : Tick) (shape
   no_target : (n : List ℕ) → In (clocks v) n → In (targets order) n → ⊥
   no_target n m t =
       let a = in_map_from (λ b. b.target) order n t in
-      let f = valid.fitting a.0 (valid.ordered.1.only a.0 a.1) in
+      let f = valid.one_width a.0 (valid.ordered.1.only a.0 a.1) in
       no_net n m (subst (In (names_of (nets v))) a.2 (in_map first (nets v) (a.0.target, f.0) f.1))
 
   clock_values : (k : ℕ) (n : List ℕ) → slice_get (clocks v) k ≡ Some n → last n ≡ k
@@ -254,11 +256,11 @@ module _ (v : Verilog) (valid : Valid v) (state : List ℕ) (tick : Tick) (shape
         (λ (m : In sources (n, w)). on_sources n (in_map first sources (n, w) m))
         (λ (m : In (names_of (wires v ++ outputs v)) n).
         agree_along v nets_once state tick e f p q (names_of sources) order valid.ordered.1.after
-        (λ a o. (valid.ordered.1.only a o, valid.fitting a (valid.ordered.1.only a o))) on_sources n (in_order n m))
+        (λ a o. (valid.ordered.1.only a o, valid.one_width a (valid.ordered.1.only a o))) on_sources n (in_order n m))
         (net_is_source_or_driven v (n, w) i)
 
     agree_clocks : (n : List ℕ) → In (clocks v) n → e n ≡ f n
-    agree_clocks n m = let t = place_of (clocks v) n m in p.clock_values t.0 n t.1 ∙ sym (q.clock_values t.0 n t.1)
+    agree_clocks n m = let t = number_of (clocks v) n m in p.clock_values t.0 n t.1 ∙ sym (q.clock_values t.0 n t.1)
 
   pub has_one : VHasOne v state tick
   has_one = record { env = last; settled = settled; same = agree; same_clocks = agree_clocks }

@@ -1,35 +1,24 @@
 -- Choices of values that are made of lists of names.
-use Rattle.std.proofs.Common.{◌≡◌, ℕ, zero, suc, ◌+◌, ◌^◌, ◌<◌, List, [], ◌∷◌, ◌++◌, Bool, true, false, cond, refl, sym, ap, ◌∙◌, inl, inr, subst, arith}
+use Rattle.std.proofs.Common.{◌≡◌, ℕ, zero, suc, ◌+◌, ◌^◌, ◌<◌, List, [], ◌∷◌, ◌++◌, cond, refl, sym, ap, ◌∙◌, inl, inr, subst, arith}
 use Rattle.std.specs.Prelude.{map, slice_get, Some}
 use Rattle.std.specs.Str.{bytes_eq}
-use Rattle.std.proofs.lemmas.Slice.Eq.{bytes_eq-Decides}
+use Rattle.std.proofs.lemmas.Bool.{cond-true, cond-false}
 use Rattle.fir_base.specs.Lists.{In, Distinct}
 use Rattle.fir_base.specs.Ticks.{Env, FitEach}
+use Rattle.fir_base.proofs.Elements.{get_in}
+use Rattle.fir_base.proofs.Members.{in_map, map_same}
+use Rattle.fir_base.proofs.SameNames.{name_same, name_other}
 use Rattle.ver_ast.specs.Nets.{Sized, names_of, widths_of}
-use Rattle.ver_ast.proofs.Members.{in_map}
 
 -- the env with another value for one name
 abbrev pub put : Env → List ℕ → ℕ → Env
 put env n x = λ m. cond (bytes_eq m n) x (env m)
 
 pub put_here : (env : Env) (n : List ℕ) (x : ℕ) → put env n x n ≡ x
-put_here env n x = rw ((bytes_eq-Decides n n).1 refl) refl
-
-at_test : (b : Bool) (x y : ℕ) → (b ≡ true → ⊥) → cond b x y ≡ y
-at_test true x y h = absurd (h refl)
-at_test false x y h = refl
+put_here env n x = cond-true (bytes_eq n n) x (env n) (name_same n)
 
 pub put_other : (env : Env) (n : List ℕ) (x : ℕ) (m : List ℕ) → (m ≡ n → ⊥) → put env n x m ≡ env m
-put_other env n x m h = at_test (bytes_eq m n) x (env m) (λ t. h ((bytes_eq-Decides m n).0 t))
-
-pub map_same : (e f : Env) (ns : List (List ℕ)) → ((n : List ℕ) → In ns n → e n ≡ f n) → map e ns ≡ map f ns
-map_same e f [] h = refl
-map_same e f (n ∷ ns) h = rw (h n (inl refl), map_same e f ns (λ m o. h m (inr o))) refl
-
-pub same_at : (e f : Env) (ns : List (List ℕ)) → map e ns ≡ map f ns → (n : List ℕ) → In ns n → e n ≡ f n
-same_at e f [] h n m = absurd m
-same_at e f (k ∷ ns) h n (inl p) = let here : e k ≡ f k = cc in ap e (sym p) ∙ here ∙ ap f p
-same_at e f (k ∷ ns) h n (inr m) = let rest : map e ns ≡ map f ns = cc in same_at e f ns rest n m
+put_other env n x m h = cond-false (bytes_eq m n) x (env m) (name_other m n h)
 
 -- each of the names has its value of the list
 unfoldable pub start : Env → List Sized → List ℕ → Env
@@ -74,17 +63,6 @@ start_other base (p ∷ ps) (x ∷ xs) n h =
 unfoldable pub numbered : ℕ → List (List ℕ) → Env
 numbered k [] = λ _. 0
 numbered k (c ∷ cs) = put (numbered (k + 1) cs) c k
-
-pub get_in : {X : Type 0} → (xs : List X) (i : ℕ) (x : X) → slice_get xs i ≡ Some x → In xs x
-get_in [] i x e = absurd (cc)
-get_in (y ∷ xs) zero x e = inl (cc)
-get_in (y ∷ xs) (suc i) x e = inr (get_in xs i x e)
-
--- each of a list has a place
-pub place_of : {X : Type 0} → (xs : List X) (x : X) → In xs x → (i : ℕ) × (slice_get xs i ≡ Some x)
-place_of [] x m = absurd m
-place_of (y ∷ xs) x (inl e) = (0, ap Some e)
-place_of (y ∷ xs) x (inr m) = let t = place_of xs x m in (suc t.0, t.1)
 
 pub numbered_at : (k : ℕ) (cs : List (List ℕ)) → Distinct cs → (i : ℕ) (n : List ℕ) → slice_get cs i ≡ Some n → numbered k cs n ≡ k + i
 unfolding numbered

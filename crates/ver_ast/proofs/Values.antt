@@ -7,6 +7,7 @@ use Rattle.std.specs.Int.Bits.{and_lt}
 use Rattle.std.proofs.lemmas.Nat.{or_lt, xor_lt}
 use Rattle.fir_base.specs.Lists.{In}
 use Rattle.fir_base.specs.Ticks.{Env}
+use Rattle.fir_base.proofs.Members.{in_left, in_right}
 use Rattle.ver_ast.specs.declared.tree.Rhs.{Rhs}
 use Rattle.ver_ast.specs.declared.tree.Rhs.TheVariants as rhs
 use Rattle.ver_ast.specs.declared.tree.Atom.{Atom}
@@ -20,9 +21,8 @@ use Rattle.ver_ast.specs.declared.tree.BinaryOp.TheVariants.{And, Or, Xor}
 use Rattle.ver_ast.specs.Nets.{Sized}
 use Rattle.ver_ast.specs.AtomWidths.{joined_width}
 use Rattle.ver_ast.specs.Spells.{primary_names, atom_names, rhs_atoms, rhs_names}
-use Rattle.ver_ast.specs.Valid.{FitsWidth}
+use Rattle.ver_ast.specs.Valid.{HasWidth}
 use Rattle.ver_ast.specs.Settled.{primary_value, joined_value, atom_value, rhs_value, binary_value, unary_value}
-use Rattle.ver_ast.proofs.Members.{in_left, in_right}
 use Rattle.ver_ast.proofs.Widths.{FitNames, atom_fits}
 
 binary_fits : (op : BinaryOp) (w a b : ℕ) → a < 2 ^ w → b < 2 ^ w → binary_value op a b < 2 ^ w
@@ -40,7 +40,7 @@ of_rest : (ns : List Sized) (env : Env) (a : Atom) (more : List Atom) → FitNam
 of_rest ns env a more h = record { each = λ n m. h.each n (in_right (atom_names a) (flat_map atom_names more) n m) }
 
 -- operands of a width give a value of that width
-pub rhs_fits : (ns : List Sized) (env : Env) (w : ℕ) (r : Rhs) → AllByRecursion (FitsWidth ns w) (rhs_atoms r) → FitNames ns env (rhs_names r) → rhs_value ns env w r < 2 ^ w
+pub rhs_fits : (ns : List Sized) (env : Env) (w : ℕ) (r : Rhs) → AllByRecursion (HasWidth ns w) (rhs_atoms r) → FitNames ns env (rhs_names r) → rhs_value ns env w r < 2 ^ w
 rhs_fits ns env w (rhs.Atom a) f h = atom_fits ns env w a f.0 (of_first ns env a [] h)
 rhs_fits ns env w (rhs.Unary op a) f h = unary_fits op w (atom_value ns env a) (atom_fits ns env w a f.0 (of_first ns env a [] h))
 rhs_fits ns env w (rhs.Binary a op b) f h =

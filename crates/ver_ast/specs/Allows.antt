@@ -1,7 +1,7 @@
 -- What a tree allows at a tick, and over a run.
 use Rattle.std.specs.Prelude.{◌≡◌, ℕ, List, map}
 use Rattle.fir_base.specs.Lists.{In}
-use Rattle.fir_base.specs.Ticks.{Env, Tick, Shown, HasShape, Allowance, IsRun}
+use Rattle.fir_base.specs.Ticks.{Env, Tick, TickResult, HasShape, Allowance, IsRun}
 use Rattle.ver_ast.specs.declared.tree.Verilog.{Verilog}
 use Rattle.ver_ast.specs.Nets.{outputs, nets, clocks, names_of, shape}
 use Rattle.ver_ast.specs.Settled.{VSettled}
@@ -12,7 +12,7 @@ abbrev pub VAllows : Verilog → Allowance
 VAllows v state tick shown next =
     (env : Env) × VSettled v state tick env × (map env (names_of (outputs v)) ≡ shown) × (v_next v env tick ≡ next)
 
-abbrev pub VRun : Verilog → List ℕ → List Tick → List Shown → Type 0
+abbrev pub VRun : Verilog → List ℕ → List Tick → List TickResult → Type 0
 VRun v = IsRun (VAllows v)
 
 -- some values are settled, and any two agree on every net and clock

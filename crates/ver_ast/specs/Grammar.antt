@@ -13,8 +13,8 @@ use Rattle.fir_base.specs.declared.direction.Direction.{Direction}
 use Rattle.fir_base.specs.declared.direction.Direction.TheVariants.{Input, Output}
 use Rattle.ver_ast.specs.declared.tree.Verilog.{Verilog}
 use Rattle.ver_ast.specs.declared.tree.Port.{Port}
-use Rattle.ver_ast.specs.declared.tree.Signal.{Signal}
-use Rattle.ver_ast.specs.declared.tree.Signal.TheVariants.{Bits, Clock}
+use Rattle.ver_words.specs.declared.signal.Signal.{Signal}
+use Rattle.ver_words.specs.declared.signal.Signal.TheVariants.{Bits, Clock}
 use Rattle.ver_ast.specs.declared.tree.Item.{Item}
 use Rattle.ver_ast.specs.declared.tree.Item.TheVariants as item
 use Rattle.ver_ast.specs.declared.tree.Rhs.{Rhs}

@@ -1,5 +1,3 @@
-pub mod Reserved
-pub mod Names
 pub mod Tokens
 pub mod Grammar
 pub mod Spells
@@ -9,10 +7,6 @@ pub mod Valid
 pub mod Settled
 pub mod Next
 pub mod Allows
-pub mod Laws
-pub mod Scanned
-pub mod Put
-pub mod Checked
-pub mod Table
+pub mod working
 pub use Rattle.fir_base.specs.Lists
 pub use Rattle.fir_base.specs.Ticks

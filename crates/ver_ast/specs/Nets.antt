@@ -6,8 +6,8 @@ use Rattle.fir_base.specs.declared.direction.Direction.TheVariants.{Input, Outpu
 use Rattle.fir_base.specs.Ticks.{Shape}
 use Rattle.ver_ast.specs.declared.tree.Verilog.{Verilog}
 use Rattle.ver_ast.specs.declared.tree.Port.{Port}
-use Rattle.ver_ast.specs.declared.tree.Signal.{Signal}
-use Rattle.ver_ast.specs.declared.tree.Signal.TheVariants.{Bits, Clock}
+use Rattle.ver_words.specs.declared.signal.Signal.{Signal}
+use Rattle.ver_words.specs.declared.signal.Signal.TheVariants.{Bits, Clock}
 use Rattle.ver_ast.specs.declared.tree.Assign.{Assign}
 use Rattle.ver_ast.specs.declared.tree.Always.{Always}
 use Rattle.ver_ast.specs.declared.tree.Item.{Item}

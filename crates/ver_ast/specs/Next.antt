@@ -1,17 +1,12 @@
 -- The state after a tick (IEEE 1364-2005, 9.2.2, 9.7.2).
 -- At a tick the named clocks rise. Each block of such a clock reads settled values, then all writes happen; a register without such a block holds.
-use Rattle.std.specs.Prelude.{ℕ, List, [], ◌∷◌, map, Bool, ◌&&◌, nat_eq, if◌then◌else◌}
-use Rattle.std.specs.List.{list_any}
+use Rattle.std.specs.Prelude.{ℕ, List, [], ◌∷◌, map, ◌&&◌, if◌then◌else◌}
 use Rattle.std.specs.Str.{bytes_eq}
-use Rattle.fir_base.specs.Ticks.{Env, Tick}
+use Rattle.fir_base.specs.Ticks.{Env, Tick, rises}
 use Rattle.ver_ast.specs.declared.tree.Verilog.{Verilog}
 use Rattle.ver_ast.specs.declared.tree.Always.{Always}
 use Rattle.ver_ast.specs.Nets.{Sized, regs, nets, blocks}
 use Rattle.ver_ast.specs.Settled.{atom_value}
-
--- whether the clock of that number is named
-abbrev pub rises : List ℕ → ℕ → Bool
-rises named clock = list_any (nat_eq clock) named
 
 -- what a register shows, or what the block of a named clock writes to it
 abbrev pub written : List Sized → Env → List ℕ → List Always → List ℕ → ℕ

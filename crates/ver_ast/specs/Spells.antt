@@ -11,7 +11,7 @@ use Rattle.ver_ast.specs.declared.tree.Atom.{Atom}
 use Rattle.ver_ast.specs.declared.tree.Atom.TheVariants as atom
 use Rattle.ver_ast.specs.declared.tree.Primary.{Primary}
 use Rattle.ver_ast.specs.declared.tree.Primary.TheVariants as primary
-use Rattle.ver_ast.specs.Names.{IsName}
+use Rattle.ver_words.specs.Names.{IsName}
 use Rattle.ver_ast.specs.Tokens.{tokens}
 use Rattle.ver_ast.specs.Grammar.{module_tokens}
 

@@ -2,8 +2,9 @@
 -- White space and comments are free between tokens, and the longest token is taken. A constant is one token: a width, a quote, a letter for the base,
 -- and digits of it. `(*`, `*)` and `<=` are tokens wherever they stand. A text has no tokens where a byte is in none, or where a constant is not ended
 -- or a block comment not closed.
-use Rattle.std.specs.Prelude.{ℕ, ◌+◌, ◌-◌, ◌*◌, List, [], ◌∷◌, ◌++◌, Bool, false, ◌||◌, ◌&&◌, nat_eq, nat_le, nat_lt, if◌then◌else◌, Option, Some, None, option_map}
-use Rattle.ver_ast.specs.Names.{is_digit, is_word_start, is_word_byte}
+use Rattle.std.specs.Prelude.{ℕ, ◌+◌, ◌-◌, ◌*◌, List, [], ◌∷◌, ◌++◌, Bool, false, ◌||◌, ◌&&◌, nat_eq, nat_lt, if◌then◌else◌, Option, Some, None, option_map}
+use Rattle.fir_base.specs.Bytes.{is_digit, is_word_start, is_word_byte}
+use Rattle.fir_base.specs.Digits.{digit_value}
 
 -- a word is a name or reserved; a number is the one digit 0, or else counts by its value, since leading zeros are free; a constant is its width and
 -- its value
@@ -82,21 +83,13 @@ radix binary = 2
 radix decimal = 10
 radix hexadecimal = 16
 
--- the number of a digit, in either case
-abbrev pub any_digit : ℕ → Option ℕ
-any_digit b =
-    if is_digit b then Some (b - 48)
-    else if nat_le 97 b && nat_le b 102 then Some (b - 87)
-    else if nat_le 65 b && nat_le b 70 then Some (b - 55)
-    else None
-
 -- the number of a digit of the base
 abbrev pub below : ℕ → Option ℕ → Option ℕ
 below limit None = None
 below limit (Some d) = if nat_lt d limit then Some d else None
 
 abbrev pub digit_in : Base → ℕ → Option ℕ
-digit_in base b = below (radix base) (any_digit b)
+digit_in base b = below (radix base) (digit_value b)
 
 -- a letter behind the quote
 abbrev pub with_base : ℕ → Option Base → Step

@@ -9,7 +9,7 @@ use Rattle.fir_base.specs.Lists.{In, Distinct, EachIn}
 use Rattle.fir_base.specs.declared.direction.Direction.TheVariants.{Input}
 use Rattle.ver_ast.specs.declared.tree.Verilog.{Verilog}
 use Rattle.ver_ast.specs.declared.tree.Port.{Port}
-use Rattle.ver_ast.specs.declared.tree.Signal.TheVariants.{Clock}
+use Rattle.ver_words.specs.declared.signal.Signal.TheVariants.{Clock}
 use Rattle.ver_ast.specs.declared.tree.Assign.{Assign}
 use Rattle.ver_ast.specs.declared.tree.Always.{Always}
 use Rattle.ver_ast.specs.declared.tree.Item.{Item}
@@ -41,20 +41,20 @@ IsSound nets (primary.BitSelect n i) = (2 ≤ width_in nets n) × (i < width_in 
 IsSound nets (primary.PartSelect n hi lo) = (2 ≤ width_in nets n) × (lo ≤ hi) × (hi < width_in nets n)
 
 -- an atom of w bits
-pub record FitsWidth (nets : List Sized) (w : ℕ) (a : Atom) : Type 0 where
+pub record HasWidth (nets : List Sized) (w : ℕ) (a : Atom) : Type 0 where
   pub sound : AllByRecursion (IsSound nets) (primaries a)
   pub wide : atom_width nets a ≡ w
 
 -- the target has a width, and each operand has the same
 abbrev pub HasOneWidth : List Sized → Assign → Type 0
-HasOneWidth nets a = (w : ℕ) × In nets (a.target, w) × AllByRecursion (FitsWidth nets w) (rhs_atoms a.rhs)
+HasOneWidth nets a = (w : ℕ) × In nets (a.target, w) × AllByRecursion (HasWidth nets w) (rhs_atoms a.rhs)
 
 -- the clock is one, and the target a register of the width of the source
 pub record IsBlock (v : Verilog) (b : Always) : Type 0 where
   pub clocked : In (clocks v) b.clock
   pub width : ℕ
   pub register : In (regs v) (b.target, width)
-  pub fitting : FitsWidth (nets v) width b.source
+  pub wide : HasWidth (nets v) width b.source
 
 -- each assign reads only what is known before it: the inputs and registers, and the targets of assigns before it
 abbrev pub ReadsBefore : List (List ℕ) → List Assign → Type 0
@@ -73,7 +73,7 @@ pub record Valid (v : Verilog) : Type 0 where
   pub declared_before : DeclaredBefore (names_of (port_nets v)) v.items
   pub clock_inputs : (p : Port) → In v.ports p → p.signal ≡ Clock → p.direction ≡ Input
   pub narrow : (n : List ℕ) (w : ℕ) → In (nets v) (n, w) → (1 ≤ w) × (w ≤ 128)
-  pub fitting : (a : Assign) → In (assigns v) a → HasOneWidth (nets v) a
+  pub one_width : (a : Assign) → In (assigns v) a → HasOneWidth (nets v) a
   pub driven_once : Distinct (targets (assigns v))
   pub driven : (n : List ℕ) → In (names_of (wires v ++ outputs v)) n → In (targets (assigns v)) n
   pub undriven_sources : (n : List ℕ) → In (names_of (inputs v ++ regs v)) n → In (targets (assigns v)) n → ⊥

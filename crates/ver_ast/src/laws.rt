@@ -1,6 +1,6 @@
 //! Laws about the definitions, each the contract of a function that does nothing.
 
-ghost use Rattle.ver_ast.specs.Laws.{SpellsOneTree, ValidHasOne};
+ghost use Rattle.ver_ast.specs.working.Laws.{SpellsOneTree, ValidHasOne};
 
 /// A text spells one tree at most.
 pub fn spells_one_tree()

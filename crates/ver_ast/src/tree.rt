@@ -1,15 +1,7 @@
 //! The tree of a module (IEEE 1364-2005, 12.1).
 
 use fir_base::{Direction, Name, Seq};
-
-/// What a port carries.
-#[derive(Clone, Copy, Debug, PartialEq, Eq)]
-pub enum Signal {
-    /// A value of so many bits.
-    Bits(u32),
-    /// A clock, which is marked `(* clock *)` and has no range.
-    Clock,
-}
+use ver_words::Signal;
 
 /// A port.
 #[derive(Drop)]

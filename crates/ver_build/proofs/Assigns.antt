@@ -1,108 +1,80 @@
--- The assigns of a built tree are those of the nodes and of the outputs that have names.
--- A node's gives the right side of its operation, and an output's the value that drives it at the output's width.
-use Rattle.std.proofs.Common.{◌≡◌, ℕ, List, [], ◌∷◌, refl, sym, ap, ◌∙◌, inl, inr, ◌⊎◌, subst, Option, Some, None}
+-- The assigns of the tree are those of the operations that have a net and of the outputs that have a name.
+use Rattle.std.proofs.Common.{◌≡◌, ℕ, suc, List, [], ◌∷◌, map, refl, sym, inl, inr, ◌⊎◌, ⊎_elim, subst, ap, ◌∙◌, Option, Some, None}
 use Rattle.std.specs.Prelude.{slice_get}
 use Rattle.fir_base.specs.Lists.{In}
+use Rattle.fir_base.proofs.Members.{in_map, in_map_from, in_left, in_right, in_either}
 use Rattle.fir_net.specs.declared.reads.Read.{Read}
-use Rattle.fir_net.specs.declared.net.Role.{Role}
-use Rattle.fir_net.specs.declared.net.Role.TheVariants as role
-use Rattle.fir_net.specs.declared.net.Leaf.{Leaf}
-use Rattle.fir_net.specs.declared.net.Operation.{Operation}
-use Rattle.fir_net.specs.declared.net.Node.{Node}
-use Rattle.fir_net.specs.declared.net.Node.TheVariants as node
+use Rattle.fir_net.specs.declared.leaf.Role.{Role}
+use Rattle.fir_net.specs.declared.leaf.Role.TheVariants as role
+use Rattle.fir_net.specs.declared.leaf.Leaf.{Leaf}
 use Rattle.fir_net.specs.declared.net.FlatNet.{FlatNet}
 use Rattle.fir_net.specs.declared.name_table.NameTable.{NameTable}
 use Rattle.ver_ast.specs.declared.tree.Assign.{Assign}
-use Rattle.ver_ast.specs.declared.tree.Rhs.{Rhs}
 use Rattle.ver_ast.specs.declared.tree.Rhs.TheVariants as rhs
-use Rattle.ver_ast.specs.declared.tree.Item.{Item}
-use Rattle.ver_ast.specs.declared.tree.Item.TheVariants as item
-use Rattle.ver_ast.specs.Nets.{item_assign, assigns}
-use Rattle.ver_build.specs.Built.{name_at, leaf_reg, node_wire, node_rhs, node_assign, leaf_assign, block_of, leaf_block, atom_at, held, built}
-use Rattle.ver_build.proofs.InLists.{in_flat_map, in_flat_map_from}
-use Rattle.ver_build.proofs.ItemOrigins.{Origin, of_reg, of_wire, of_node, of_output, of_block, item_from, node_in, output_in}
+use Rattle.ver_ast.specs.Nets.{assigns}
+use Rattle.ver_build.specs.declared.places.Places.{Places}
+use Rattle.ver_build.specs.working.Places.{name_at, held_of, Inner, inner}
+use Rattle.ver_build.specs.working.Built.{atom_at, inner_assign, leaf_assign, role_assign}
+use Rattle.ver_build.proofs.Names.{NameList, Each, zipped, each_part, each_at}
+use Rattle.ver_build.proofs.Premises.{Premises, LeafNamed, leaves_named}
+use Rattle.ver_build.proofs.Parts.{in_parts}
+use Rattle.ver_build.proofs.Nets.{assigns_are}
 
-abbrev pub leaf_rhs : FlatNet → NameTable → ℕ → Read → Rhs
-leaf_rhs net t w r = rhs.Atom (atom_at w (held net t r))
-
--- the assign of a node, and of an output
-pub record NodeAssign (net : FlatNet) (t : NameTable) (a : Assign) : Type 0 where
-  pub index : ℕ
-  pub operation : Operation
-  pub at : slice_get net.nodes index ≡ Some (node.Operation operation)
-  pub named : name_at t.nodes index ≡ Some a.target
-  pub right : node_rhs net t operation ≡ a.rhs
-
-pub record LeafAssign (net : FlatNet) (t : NameTable) (a : Assign) : Type 0 where
+-- the assign of an output
+pub record OutputAssign (net : FlatNet) (t : NameTable) (p : Places) (a : Assign) : Type 0 where
   pub index : ℕ
   pub leaf : Leaf
   pub source : Read
   pub at : slice_get net.leaves index ≡ Some leaf
   pub named : name_at t.leaves index ≡ Some a.target
   pub driven : leaf.role ≡ role.Output source
-  pub right : leaf_rhs net t leaf.width source ≡ a.rhs
+  pub right : rhs.Atom (atom_at leaf.width (held_of p source)) ≡ a.rhs
 
-of_item : (i j : Item) (a : Assign) → In (i ∷ []) j → In (item_assign j) a → In (item_assign i) a
-of_item i j a (inl e) h = subst (λ (x : Item). In (item_assign x) a) (sym e) h
-of_item i j a (inr m) h = absurd m
+-- a part of what elements with their names give
+pub zipped_from : {A B : Type 0} → (P : A → Option (List ℕ) → Type 0) (f : A → Option (List ℕ) → List B) (names : NameList) (xs : List A) (b : B) → Each P names xs → In (zipped f names xs) b
+    → (k : ℕ) × (x : A) × (slice_get xs k ≡ Some x) × In (f x (name_at names k)) b
+unfolding zipped
+zipped_from P f [] [] b h m = absurd m
+zipped_from P f [] (x ∷ xs) b h m = absurd m
+zipped_from P f (n ∷ names) [] b h m = absurd m
+zipped_from P f (n ∷ names) (x ∷ xs) b h m =
+    ⊎_elim
+    (λ (i : In (f x n) b). (0, x, refl, i))
+    (λ (i : In (zipped f names xs) b). let r = zipped_from P f names xs b h.1 i in (suc r.0, r.1, r.2, r.3))
+    (in_either (f x n) (zipped f names xs) b m)
 
-one_assign : (name : List ℕ) (r : Rhs) (a : Assign) → In (record { target = name; rhs = r } ∷ []) a → (Some name ≡ Some a.target) × (r ≡ a.rhs)
-one_assign name r a (inl e) = (ap (λ (x : Assign). Some x.target) e, ap (λ (x : Assign). x.rhs) e)
-one_assign name r a (inr m) = absurd m
+module _ (net : FlatNet) (t : NameTable) (p : Places) (order : List Read) where
+  pub inner_assign_in : (x : Inner) → In (inner net p.nodes order) x → In (assigns (in_parts net t p order)) (inner_assign p x)
+  inner_assign_in x m =
+      subst (λ (xs : List Assign). In xs (inner_assign p x)) (sym (assigns_are net t p order))
+      (in_left (map (inner_assign p) (inner net p.nodes order)) (zipped (leaf_assign p) t.leaves net.leaves) (inner_assign p x) (in_map (inner_assign p) (inner net p.nodes order) x m))
 
--- registers and wires assign nothing
-reg_none : (r : Role) (w : ℕ) (n : Option (List ℕ)) (i : Item) (a : Assign) → In (leaf_reg r w n) i → In (item_assign i) a → ⊥
-reg_none (role.Register r) w (Some name) i a m h = of_item _ i a m h
-reg_none _ w n i a m h = m
+  module _ (is : Premises net t p order) where
+    abbrev output : Leaf → Read → List ℕ → Assign
+    output l r n = record { target = n; rhs = rhs.Atom (atom_at l.width (held_of p r)) }
 
-wire_none : (n : Node) (name : Option (List ℕ)) (i : Item) (a : Assign) → In (node_wire n name) i → In (item_assign i) a → ⊥
-wire_none n None i a m h = m
-wire_none n (Some name) i a m h = of_item _ i a m h
+    pub output_assign_in : (k : ℕ) (l : Leaf) (r : Read) (n : List ℕ) → slice_get net.leaves k ≡ Some l → l.role ≡ role.Output r → name_at t.leaves k ≡ Some n
+        → In (assigns (in_parts net t p order)) (record { target = n; rhs = rhs.Atom (atom_at l.width (held_of p r)) })
+    output_assign_in k l r n at driven named =
+        let Q = λ (x : Leaf) (m : Option (List ℕ)). (y : Assign) → In (leaf_assign p x m) y → In (zipped (leaf_assign p) t.leaves net.leaves) y in
+        let parts = each_part LeafNamed (leaf_assign p) (zipped (leaf_assign p) t.leaves net.leaves) t.leaves net.leaves (leaves_named net t is.table) (λ y m. m) in
+        let given : In (leaf_assign p l (name_at t.leaves k)) (output l r n) = rw (driven, named) (inl refl) in
+        subst (λ (xs : List Assign). In xs (output l r n)) (sym (assigns_are net t p order))
+        (in_right (map (inner_assign p) (inner net p.nodes order)) (zipped (leaf_assign p) t.leaves net.leaves) (output l r n) (each_at Q t.leaves net.leaves parts k l at (output l r n) given))
 
-module _ (net : FlatNet) (t : NameTable) where
-  -- and neither do blocks
-  driven_none : (c w : ℕ) (r : Option Read) (name : List ℕ) (i : Item) (a : Assign) → In (block_of net t c w r name) i → In (item_assign i) a → ⊥
-  driven_none c w None name i a m h = m
-  driven_none c w (Some r) name i a m h = of_item _ i a m h
+    by_role : (k : ℕ) (l : Leaf) (d : Role) (n : Option (List ℕ)) (a : Assign) → slice_get net.leaves k ≡ Some l → l.role ≡ d → name_at t.leaves k ≡ n → In (role_assign p d l.width n) a → OutputAssign net t p a
+    by_role k l (role.Output r) None a at same named m = absurd m
+    by_role k l (role.Output r) (Some n) a at same named (inl e) =
+        record { index = k; leaf = l; source = r; at = at; named = named ∙ ap (λ (x : Assign). Some x.target) e; driven = same; right = ap (λ (x : Assign). x.rhs) e }
+    by_role k l (role.Output r) (Some n) a at same named (inr m) = absurd m
+    by_role k l _ n a at same named m = absurd m
 
-  block_none : (r : Role) (w : ℕ) (n : Option (List ℕ)) (i : Item) (a : Assign) → In (leaf_block net t r w n) i → In (item_assign i) a → ⊥
-  block_none (role.Register r) w (Some name) i a m h = driven_none r.clock w r.next name i a m h
-  block_none _ w n i a m h = m
-
-  node_given : (k : ℕ) (n : Node) (name : Option (List ℕ)) (i : Item) (a : Assign) → slice_get net.nodes k ≡ Some n → name_at t.nodes k ≡ name → In (node_assign net t n name) i → In (item_assign i) a
-      → NodeAssign net t a
-  node_given k (node.Operation o) (Some name) i a at named m h =
-      let g = one_assign name (node_rhs net t o) a (of_item _ i a m h) in
-      record { index = k; operation = o; at = at; named = named ∙ g.0; right = g.1 }
-  node_given k _ name i a at named m h = absurd m
-
-  leaf_given : (k : ℕ) (l : Leaf) (r : Role) (name : Option (List ℕ)) (i : Item) (a : Assign) → slice_get net.leaves k ≡ Some l → l.role ≡ r → name_at t.leaves k ≡ name
-      → In (leaf_assign net t r l.width name) i → In (item_assign i) a → LeafAssign net t a
-  leaf_given k l (role.Output r) (Some name) i a at is named m h =
-      let g = one_assign name (leaf_rhs net t l.width r) a (of_item _ i a m h) in
-      record { index = k; leaf = l; source = r; at = at; named = named ∙ g.0; driven = is; right = g.1 }
-  leaf_given k l _ name i a at is named m h = absurd m
-
-  by_origin : (i : Item) (a : Assign) → Origin net t i → In (item_assign i) a → NodeAssign net t a ⊎ LeafAssign net t a
-  by_origin i a (of_reg o) h = absurd (reg_none o.element.role o.element.width (name_at t.leaves o.index) i a o.given h)
-  by_origin i a (of_wire o) h = absurd (wire_none o.element (name_at t.nodes o.index) i a o.given h)
-  by_origin i a (of_node o) h = inl (node_given o.index o.element (name_at t.nodes o.index) i a o.at refl o.given h)
-  by_origin i a (of_output o) h = inr (leaf_given o.index o.element o.element.role (name_at t.leaves o.index) i a o.at refl refl o.given h)
-  by_origin i a (of_block o) h = absurd (block_none o.element.role o.element.width (name_at t.leaves o.index) i a o.given h)
-
-  -- an assign is a node's or an output's
-  pub assign_from : (a : Assign) → In (assigns (built net t)) a → NodeAssign net t a ⊎ LeafAssign net t a
-  assign_from a m = let i = in_flat_map_from item_assign (built net t).items a m in by_origin i.0 a (item_from net t i.0 i.1) i.2
-
-  pub node_assign_in : (k : ℕ) (o : Operation) (n : List ℕ) → slice_get net.nodes k ≡ Some (node.Operation o) → name_at t.nodes k ≡ Some n → In (assigns (built net t)) (record { target = n; rhs = node_rhs net t o })
-  node_assign_in k o n at named =
-      let a : Assign = record { target = n; rhs = node_rhs net t o } in
-      let given : In (node_assign net t (node.Operation o) (name_at t.nodes k)) (item.Assign a) = rw named (inl refl) in
-      in_flat_map item_assign (built net t).items (item.Assign a) a (node_in net t (item.Assign a) k (node.Operation o) at given) (inl refl)
-
-  pub leaf_assign_in : (k : ℕ) (l : Leaf) (r : Read) (n : List ℕ) → slice_get net.leaves k ≡ Some l → l.role ≡ role.Output r → name_at t.leaves k ≡ Some n
-      → In (assigns (built net t)) (record { target = n; rhs = leaf_rhs net t l.width r })
-  leaf_assign_in k l r n at driven named =
-      let a : Assign = record { target = n; rhs = leaf_rhs net t l.width r } in
-      let given : In (leaf_assign net t l.role l.width (name_at t.leaves k)) (item.Assign a) = rw (driven, named) (inl refl) in
-      in_flat_map item_assign (built net t).items (item.Assign a) a (output_in net t (item.Assign a) k l at given) (inl refl)
+    -- an assign is an operation's or an output's
+    pub assign_from : (a : Assign) → In (assigns (in_parts net t p order)) a → ((x : Inner) × In (inner net p.nodes order) x × (inner_assign p x ≡ a)) ⊎ OutputAssign net t p a
+    assign_from a m =
+        ⊎_elim
+        (λ (i : In (map (inner_assign p) (inner net p.nodes order)) a). inl (in_map_from (inner_assign p) (inner net p.nodes order) a i))
+        (λ (o : In (zipped (leaf_assign p) t.leaves net.leaves) a).
+        let z = zipped_from LeafNamed (leaf_assign p) t.leaves net.leaves a (leaves_named net t is.table) o in
+        inr (by_role z.0 z.1 z.1.role (name_at t.leaves z.0) a z.2 refl refl z.3))
+        (in_either (map (inner_assign p) (inner net p.nodes order)) (zipped (leaf_assign p) t.leaves net.leaves) a (subst (λ (xs : List Assign). In xs a) (assigns_are net t p order) m))

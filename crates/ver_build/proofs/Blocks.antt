@@ -1,78 +1,124 @@
 -- Each block of the tree is on a clock and drives a register of its width.
--- The clock of a register has one bit, so it has a name and is a port.
-use Rattle.std.proofs.Common.{◌≡◌, ℕ, List, [], true, refl, sym, ap, inl, subst, arith}
-use Rattle.std.specs.Prelude.{Option, Some, None, unwrap_or}
+-- Where the drivers of a clock leaf end at a clock input, this has one bit, so it has a name and is a port.
+use Rattle.std.proofs.Common.{◌≡◌, ℕ, List, [], true, refl, sym, ap, ◌∙◌, inl, subst, arith}
+use Rattle.std.specs.Prelude.{slice_get, Option, Some, None, unwrap_or}
 use Rattle.std.specs.List.{AllByRecursion}
-use Rattle.fir_base.specs.Lists.{In, Distinct}
+use Rattle.std.proofs.lemmas.Option.{slice_get_within}
+use Rattle.fir_base.specs.Lists.{In}
+use Rattle.fir_base.proofs.Elements.{there}
 use Rattle.fir_net.specs.declared.reads.Read.{Read}
-use Rattle.fir_net.specs.declared.net.Role.{Role}
-use Rattle.fir_net.specs.declared.net.Role.TheVariants as role
-use Rattle.fir_net.specs.declared.net.Leaf.{Leaf}
+use Rattle.fir_net.specs.declared.reads.Read.TheVariants as read
+use Rattle.fir_net.specs.declared.leaf.Role.{Role}
+use Rattle.fir_net.specs.declared.leaf.Role.TheVariants as role
+use Rattle.fir_net.specs.declared.leaf.Leaf.{Leaf}
 use Rattle.fir_net.specs.declared.net.FlatNet.{FlatNet}
 use Rattle.fir_net.specs.declared.name_table.NameTable.{NameTable}
-use Rattle.fir_net.specs.IsNet.{read_width, IsClock, CanBeRead, IsRole, IsLeaf, IsNet}
-use Rattle.fir_net.specs.IsTable.{IsTable, all_names}
+use Rattle.fir_net.specs.working.Dependence.{IsOf, Reads}
+use Rattle.fir_net.specs.working.IsNet.{read_width, CanBeRead, IsRole}
+use Rattle.fir_net.specs.working.LeafNamed.{is_wire}
 use Rattle.ver_ast.specs.Nets.{Sized, clocks}
-use Rattle.ver_ast.specs.Valid.{FitsWidth, IsBlock}
-use Rattle.ver_build.specs.Built.{name_at, clock_name, held, atom_at}
+use Rattle.ver_ast.specs.Valid.{HasWidth, IsBlock}
+use Rattle.ver_build.specs.declared.places.Places.{Places}
+use Rattle.ver_build.specs.working.Places.{name_at, held_of, clock_in, place_clock, placed, driven_clock_in}
+use Rattle.ver_build.specs.working.Built.{leaf_block, role_block, block_on, atom_at}
 use Rattle.ver_build.proofs.Names.{all_zipped, each_and, each_part, each_at}
-use Rattle.ver_build.proofs.Parts.{BitsNamed, LeafNamed, leaves_named, leaves_known, block_given, role_blocks, leaf_blocks, blocks_of, in_parts}
-use Rattle.ver_build.proofs.LeafKinds.{is_clock, is_register, is_net, sized_if, picked, picked_sized}
+use Rattle.ver_build.proofs.AlongOrder.{along_order}
+use Rattle.ver_build.proofs.Premises.{Premises, LeafNamed, leaves_named}
+use Rattle.ver_build.proofs.Parts.{blocks_of, in_parts}
+use Rattle.ver_build.proofs.LeafKinds.{is_clock_input, is_register, is_net, sized_if, picked_sized}
 use Rattle.ver_build.proofs.Picked.{picked_at}
 use Rattle.ver_build.proofs.Nets.{sizes, clocks_are, registers_sized, nets_sized}
-use Rattle.ver_build.proofs.Sizes.{IsSized, LeafSized, leaf_is_sized, leaf_facts}
-use Rattle.ver_build.proofs.HeldNets.{held_is}
+use Rattle.ver_build.proofs.Sizes.{IsSized, LeafFact, leaf_is_sized, leaf_facts, unnamed_bits}
+use Rattle.ver_build.proofs.HeldNets.{held_is, leaf_at, leaf_read}
 use Rattle.ver_build.proofs.Widths.{atom_fits}
 
-one_bit : (net : FlatNet) (l : Leaf) → IsLeaf net.leaves net.nodes l → l.role ≡ role.Clock → l.width ≡ 1
-one_bit net l is e = let driven : IsRole net.leaves net.nodes l.width role.Clock = subst (IsRole net.leaves net.nodes l.width) e is.driven in driven
+-- a clock input, with its name
+pub record IsClockInput (net : FlatNet) (t : NameTable) (k : ℕ) : Type 0 where
+  pub leaf : Leaf
+  pub at : slice_get net.leaves k ≡ Some leaf
+  pub input : leaf.role ≡ role.Clock
+  pub name : List ℕ
+  pub named : name_at t.leaves k ≡ Some name
 
-module _ (net : FlatNet) (t : NameTable) (whole : IsNet net) (table : IsTable net t) (once : Distinct (all_names t)) where
-  clock_is_port : (k : ℕ) → IsClock net.leaves k → In (clocks (in_parts net t)) (clock_name t k)
-  clock_is_port k h = subst (λ (ns : List (List ℕ)). In ns (clock_name t k)) (sym (clocks_are net t)) (by_name (name_at t.leaves k) refl)
+module _ (net : FlatNet) (t : NameTable) (p : Places) (order : List Read) (is : Premises net t p order) where
+  -- what the places say of a clock leaf
+  pub clock_at : (k : ℕ) (l : Leaf) → slice_get net.leaves k ≡ Some l → clock_in p.leaves k ≡ place_clock (placed p.leaves p.nodes (name_at t.leaves k) k l.width l.role)
+  clock_at k l at = ap place_clock (is.places.leaves.each k l at)
+
+  pub clock_input : (k : ℕ) (l : Leaf) → slice_get net.leaves k ≡ Some l → l.role ≡ role.Clock → IsClockInput net t k
+  clock_input k l at e = by_name (name_at t.leaves k) refl (each_at LeafNamed t.leaves net.leaves (leaves_named net t is.table) k l at)
     where
-      by_name : (n : Option (List ℕ)) → name_at t.leaves k ≡ n → In (picked is_clock t.leaves net.leaves) (unwrap_or n [])
-      by_name None e =
-          let P = λ (l : Leaf) (n : Option (List ℕ)). LeafNamed l n × IsLeaf net.leaves net.nodes l in
-          let here = each_at P t.leaves net.leaves (leaves_known net t whole table) k h.0 h.1 in
-          let none : h.0.width ≡ 0 = subst (BitsNamed h.0.width) e here.0 in
-          let one : h.0.width ≡ 1 = one_bit net h.0 here.1 h.2 in
-          absurd (omega arith)
-      by_name (Some name) e = picked_at LeafNamed is_clock t.leaves net.leaves (leaves_named net t table) k h.0 name h.1 (ap is_clock h.2) e
+      one : l.width ≡ 1
+      one = let driven = (leaf_at net t p order is k l at).driven in rw e at driven
+
+      by_name : (n : Option (List ℕ)) → name_at t.leaves k ≡ n → LeafNamed l n → IsClockInput net t k
+      by_name None named has = let none : l.width ≡ 0 = unnamed_bits l (ap is_wire e) has in absurd (omega (arith, one))
+      by_name (Some name) named has = record { leaf = l; at = at; input = e; name = name; named = named }
+
+  -- where the drivers of a leaf end
+  abbrev Ends : Read → Type 0
+  Ends r = (j k : ℕ) → r ≡ read.Leaf j → clock_in p.leaves j ≡ Some k → IsClockInput net t k
+
+  driven_ends : (j : ℕ) (l : Leaf) (r : Role) (c : Option ℕ) (k : ℕ) → slice_get net.leaves j ≡ Some l → l.role ≡ r → ((i : ℕ) → c ≡ Some i → Reads net (read.Leaf j) (read.Leaf i)) → ((w : Read) → Reads net (read.Leaf j) w → Ends w) → driven_clock_in p.leaves c ≡ Some k → IsClockInput net t k
+  driven_ends j l r None k at e reads below ends = absurd (cc)
+  driven_ends j l r (Some i) k at e reads below ends = below (read.Leaf i) (reads i refl) i k refl ends
+
+  role_ends : (j : ℕ) (l : Leaf) (r : Role) (k : ℕ) → slice_get net.leaves j ≡ Some l → l.role ≡ r → ((w : Read) → Reads net (read.Leaf j) w → Ends w) → place_clock (placed p.leaves p.nodes (name_at t.leaves j) j l.width r) ≡ Some k → IsClockInput net t k
+  role_ends j l role.Clock k at e below ends = let same : j ≡ k = cc in subst (IsClockInput net t) same (clock_input j l at e)
+  role_ends j l (role.ClockOutput c) k at e below ends =
+      driven_ends j l (role.ClockOutput c) c k at e (λ i same. leaf_read net j l (role.ClockOutput c) 0 (read.Leaf i) at e (rw same refl)) below ends
+  role_ends j l (role.ClockWire c) k at e below ends =
+      driven_ends j l (role.ClockWire c) c k at e (λ i same. leaf_read net j l (role.ClockWire c) 0 (read.Leaf i) at e (rw same refl)) below ends
+  role_ends j l _ k at e below ends = absurd (cc)
+
+  ends_step : (v : Read) → IsOf net v → ((w : Read) → Reads net v w → Ends w) → Ends v
+  ends_step (read.Leaf i) of below j k e ends =
+      let same : i ≡ j = cc in
+      let l = there net.leaves i of in
+      role_ends i l.0 l.0.role k l.1 refl below (sym (clock_at i l.0 l.1) ∙ ap (clock_in p.leaves) same ∙ ends)
+  ends_step (read.Node i) of below j k e ends = absurd (cc)
+
+  pub ends_at : (j : ℕ) (l : Leaf) (k : ℕ) → slice_get net.leaves j ≡ Some l → clock_in p.leaves j ≡ Some k → IsClockInput net t k
+  ends_at j l k at ends = along_order net order is.ordered Ends ends_step (read.Leaf j) (slice_get_within net.leaves j l at) j k refl ends
+
+  clock_is_port : (k : ℕ) → IsClockInput net t k → In (clocks (in_parts net t p order)) (unwrap_or (name_at t.leaves k) [])
+  clock_is_port k c =
+      rw c.named (subst (λ (ns : List (List ℕ)). In ns c.name) (sym (clocks_are net t p order))
+      (picked_at LeafNamed is_clock_input t.leaves net.leaves (leaves_named net t is.table) k c.leaf c.name c.at (ap is_clock_input c.input) c.named))
 
   abbrev Registered : List ℕ → ℕ → Type 0
   Registered name w = In (picked_sized is_register t.leaves net.leaves) (name, w)
 
-  given_sound : (clock w : ℕ) (next : Option Read) (name : List ℕ) → IsSized (sizes net t) name w → Registered name w → IsClock net.leaves clock → CanBeRead net.leaves net.nodes next
-      → AllByRecursion (IsBlock (in_parts net t)) (block_given net t clock w next name)
-  given_sound clock w None name size m c k = tt
-  given_sound clock w (Some r) name size m c k = (
+  given_sound : (clock : Option ℕ) (w : ℕ) (next : Option Read) (name : List ℕ) → IsSized (sizes net t p order) name w → Registered name w → ((k : ℕ) → clock ≡ Some k → IsClockInput net t k) → CanBeRead net.leaves net.nodes next
+      → AllByRecursion (IsBlock (in_parts net t p order)) (block_on t p clock w next name)
+  given_sound None w next name size m c k = tt
+  given_sound (Some i) w None name size m c k = tt
+  given_sound (Some i) w (Some r) name size m c k = (
     record {
-      clocked = clock_is_port clock c;
+      clocked = clock_is_port i (c i refl);
       width = w;
-      register = subst (λ (ns : List Sized). In ns (name, w)) (sym (registers_sized net t)) m;
-      fitting =
-          subst (λ (ns : List Sized). FitsWidth ns w (atom_at w (held net t r))) (sym (nets_sized net t whole table))
-          (atom_fits (sizes net t) w (read_width net.leaves net.nodes r) (held net t r) size.one size.narrow (held_is net t whole table once r k));
+      register = subst (λ (ns : List Sized). In ns (name, w)) (sym (registers_sized net t p order)) m;
+      wide =
+          subst (λ (ns : List Sized). HasWidth ns w (atom_at w (held_of p r))) (sym (nets_sized net t p order is))
+          (atom_fits (sizes net t p order) w (read_width net.leaves net.nodes r) (held_of p r) size.one size.narrow (held_is net t p order is r k));
     },
     tt,
   )
 
-  role_sound : (r : Role) (w : ℕ) (n : Option (List ℕ)) → (is_net r ≡ true → (name : List ℕ) → n ≡ Some name → IsSized (sizes net t) name w)
-      → ((y : Sized) → In (sized_if (is_register r) w n) y → In (picked_sized is_register t.leaves net.leaves) y) → IsRole net.leaves net.nodes w r → AllByRecursion (IsBlock (in_parts net t)) (role_blocks net t r w n)
-  role_sound role.Input w n h m k = tt
-  role_sound role.Clock w n h m k = tt
-  role_sound (role.Output r) w n h m k = tt
+  role_sound : (r : Role) (w : ℕ) (n : Option (List ℕ)) → (is_net r ≡ true → (name : List ℕ) → n ≡ Some name → IsSized (sizes net t p order) name w)
+      → ((y : Sized) → In (sized_if (is_register r) w n) y → In (picked_sized is_register t.leaves net.leaves) y) → IsRole net.leaves net.nodes w r → AllByRecursion (IsBlock (in_parts net t p order)) (role_block t p r w n)
   role_sound (role.Register r) w None h m k = tt
-  role_sound (role.Register r) w (Some name) h m k = given_sound r.clock w r.next name (h refl name refl) (m (name, w) (inl refl)) k.0 k.1
+  role_sound (role.Register r) w (Some name) h m k =
+      given_sound (clock_in p.leaves r.clock) w r.next name (h refl name refl) (m (name, w) (inl refl)) (λ c e. let clock = k.0 in ends_at r.clock clock.0 c clock.1 e) k.2
+  role_sound _ w n h m k = tt
 
-  pub blocks_sound : AllByRecursion (IsBlock (in_parts net t)) (blocks_of net t)
+  pub blocks_sound : AllByRecursion (IsBlock (in_parts net t p order)) (blocks_of net t p order)
   blocks_sound =
       let part = λ (l : Leaf) (n : Option (List ℕ)). sized_if (is_register l.role) l.width n in
-      let F = λ (l : Leaf) (n : Option (List ℕ)). LeafSized (sizes net t) l n × IsLeaf net.leaves net.nodes l in
+      let F = LeafFact net (sizes net t p order) in
       let M = λ (l : Leaf) (n : Option (List ℕ)). (y : Sized) → In (part l n) y → In (picked_sized is_register t.leaves net.leaves) y in
       let Q = λ (l : Leaf) (n : Option (List ℕ)). F l n × M l n in
-      let facts = leaf_facts net t whole table once in
+      let facts = leaf_facts net t p order is in
       let parts = each_part F part (picked_sized is_register t.leaves net.leaves) t.leaves net.leaves facts (λ y m. m) in
-      all_zipped Q (IsBlock (in_parts net t)) (leaf_blocks net t) (λ l n h. role_sound l.role l.width n (leaf_is_sized (sizes net t) l n h.0.0) h.1 h.0.1.driven) t.leaves net.leaves
+      all_zipped Q (IsBlock (in_parts net t p order)) (leaf_block t p) (λ l n h. role_sound l.role l.width n (leaf_is_sized (sizes net t p order) l n h.0.0) h.1 h.0.1.driven) t.leaves net.leaves
       (each_and F M Q (λ l n h k. (h, k)) t.leaves net.leaves facts parts)

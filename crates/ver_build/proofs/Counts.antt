@@ -1,6 +1,6 @@
 -- What the operands of a typed operation of a net are.
 -- Their number and that of the integers are those of the operation, the result's width is its type's, and what the integers say is legal.
-use Rattle.std.proofs.Common.{◌≡◌, ℕ, List, [], ◌∷◌, Bool, true, false, not, ◌&&◌, if◌then◌else◌, ◌==◌, length, Ok, Err, refl, arith, slice_index}
+use Rattle.std.proofs.Common.{◌≡◌, ℕ, List, [], ◌∷◌, Bool, true, false, not, if◌then◌else◌, ◌==◌, length, Ok, Err, refl, arith, slice_index}
 use Rattle.std.proofs.lemmas.Bool.{eqb-true}
 use Rattle.fir_bits.specs.declared.operators.PrimOp.{PrimOp}
 use Rattle.fir_bits.specs.declared.types.NumTy.{NumTy}
@@ -8,10 +8,6 @@ use Rattle.fir_bits.specs.declared.types.OpFault.TheVariants.{Kinds, Over, Legal
 use Rattle.fir_bits.specs.Forms.{form_of, takes, first_type, second_type}
 use Rattle.fir_bits.specs.Types.{is_legal, signed_of, typed}
 use Rattle.fir_bits.specs.Widths.{width_of, is_narrow}
-
-pub both : (a b : Bool) → (a && b) ≡ true → (a ≡ true) × (b ≡ true)
-both true b h = (refl, h)
-both false b h = cc
 
 -- what it means that there is a type
 pub record IsTyped (o : PrimOp) (ts : List NumTy) (ks : List ℕ) (w : ℕ) : Type 0 where

@@ -1,62 +1,89 @@
--- Values by name from values by number, for the names of a table.
--- Where the names are distinct, each has the value of its leaf or node.
-use Rattle.std.proofs.Common.{◌≡◌, ℕ, zero, suc, List, [], ◌∷◌, true, if◌then◌else◌, refl, sym, ◌∙◌, inl, inr, subst, Option, Some, None}
-use Rattle.std.specs.Str.{bytes_eq}
-use Rattle.std.proofs.lemmas.Slice.Eq.{bytes_eq-Decides}
+-- Values by name from values by number, for the names of leaves and of operations.
+-- Where the names are distinct, each has the value of its leaf or its operation.
+use Rattle.std.proofs.Common.{◌≡◌, ℕ, zero, suc, ◌+◌, List, [], ◌∷◌, ◌++◌, map, flat_map, refl, sym, ap, ◌∙◌, inl, inr, subst, arith, Option, Some, None}
+use Rattle.std.proofs.lemmas.List.{map-append}
 use Rattle.fir_base.specs.Lists.{In, Distinct}
 use Rattle.fir_base.specs.Ticks.{Env}
-use Rattle.fir_net.specs.declared.name_table.NameTable.{NameTable}
-use Rattle.fir_net.specs.IsTable.{somes, all_names}
-use Rattle.ver_build.specs.Built.{name_at}
-use Rattle.ver_build.proofs.AtomValues.{choose}
-use Rattle.ver_build.proofs.InLists.{distinct_left, distinct_right, apart}
+use Rattle.fir_base.proofs.Members.{in_map, in_left, in_right, in_flat_map}
+use Rattle.fir_net.specs.declared.reads.Read.{Read}
+use Rattle.fir_net.specs.working.LeafNamed.{somes}
+use Rattle.ver_ast.specs.Nets.{Sized, names_of, width_in}
+use Rattle.ver_ast.proofs.Widths.{declared_width}
+use Rattle.ver_build.specs.working.Places.{name_at, Inner}
 
--- the value that a name has by its number, else the rest's
-abbrev picked : List (Option (List ℕ)) → (ℕ → ℕ) → Env → Env
-picked [] g rest n = rest n
-picked (None ∷ names) g rest n = picked names (λ k. g (suc k)) rest n
-picked (Some m ∷ names) g rest n = if bytes_eq m n then g zero else picked names (λ k. g (suc k)) rest n
+-- the names with their values, where they are numbered from k on
+pub with_values : (ℕ → ℕ) → ℕ → List (Option (List ℕ)) → List Sized
+with_values g k [] = []
+with_values g k (None ∷ names) = with_values g (suc k) names
+with_values g k (Some n ∷ names) = (n, g k) ∷ with_values g (suc k) names
 
-in_somes : (names : List (Option (List ℕ))) (k : ℕ) (n : List ℕ) → name_at names k ≡ Some n → In (somes names) n
-in_somes [] k n e = cc
-in_somes (None ∷ names) zero n e = cc
-in_somes (None ∷ names) (suc k) n e = in_somes names k n e
-in_somes (Some m ∷ names) zero n e = inl cc
-in_somes (Some m ∷ names) (suc k) n e = inr (in_somes names k n e)
+leaf_names : (g : ℕ → ℕ) (k : ℕ) (names : List (Option (List ℕ))) → names_of (with_values g k names) ≡ somes names
+unfolding with_values
+leaf_names g k [] = refl
+leaf_names g k (None ∷ names) = leaf_names g (suc k) names
+leaf_names g k (Some n ∷ names) = ap (λ ns. n ∷ ns) (leaf_names g (suc k) names)
 
-picked_at : (names : List (Option (List ℕ))) (g : ℕ → ℕ) (rest : Env) (k : ℕ) (n : List ℕ) → Distinct (somes names) → name_at names k ≡ Some n → picked names g rest n ≡ g k
-picked_at [] g rest k n d e = cc
-picked_at (None ∷ names) g rest zero n d e = cc
-picked_at (None ∷ names) g rest (suc k) n d e = picked_at names (λ i. g (suc i)) rest k n d e
-picked_at (Some m ∷ names) g rest zero n d e =
+in_values : (g : ℕ → ℕ) (j : ℕ) (names : List (Option (List ℕ))) (k : ℕ) (n : List ℕ) → name_at names k ≡ Some n → In (with_values g j names) (n, g (j + k))
+unfolding with_values
+in_values g j [] k n e = absurd (cc)
+in_values g j (None ∷ names) zero n e = absurd (cc)
+in_values g j (None ∷ names) (suc k) n e = let place : suc j + k ≡ j + suc k = omega arith in subst (λ (i : ℕ). In (with_values g (suc j) names) (n, g i)) place (in_values g (suc j) names k n e)
+in_values g j (Some m ∷ names) zero n e =
     let same : m ≡ n = cc in
-    let test : bytes_eq m n ≡ true = (bytes_eq-Decides m n).1 same in
-    rw test refl
-picked_at (Some m ∷ names) g rest (suc k) n d e =
-    choose (bytes_eq m n) (g zero) (picked names (λ i. g (suc i)) rest n) (λ x. x ≡ g (suc k))
-    (λ h. absurd (d.0 (subst (In (somes names)) (sym ((bytes_eq-Decides m n).0 h)) (in_somes names k n e))))
-    (λ h. picked_at names (λ i. g (suc i)) rest k n d.1 e)
+    let place : j ≡ j + 0 = omega arith in
+    inl (ap (λ (x : List ℕ). (x, g j)) same ∙ ap (λ (i : ℕ). (n, g i)) place)
+in_values g j (Some m ∷ names) (suc k) n e = let place : suc j + k ≡ j + suc k = omega arith in inr (subst (λ (i : ℕ). In (with_values g (suc j) names) (n, g i)) place (in_values g (suc j) names k n e))
 
 -- a name stands in one place
 pub same_place : (names : List (Option (List ℕ))) → Distinct (somes names) → (i k : ℕ) (n : List ℕ) → name_at names i ≡ Some n → name_at names k ≡ Some n → i ≡ k
-same_place names d i k n e h = sym (picked_at names (λ j. j) (λ _. 0) i n d e) ∙ picked_at names (λ j. j) (λ _. 0) k n d h
+same_place names once i k n a b =
+    let values = with_values (λ j. j) 0 names in
+    let each : Distinct (names_of values) = subst Distinct (sym (leaf_names (λ j. j) 0 names)) once in
+    let first : 0 + i ≡ i = omega arith in
+    let second : 0 + k ≡ k = omega arith in
+    let x = subst (λ (j : ℕ). In values (n, j)) first (in_values (λ j. j) 0 names i n a) in
+    let y = subst (λ (j : ℕ). In values (n, j)) second (in_values (λ j. j) 0 names k n b) in
+    sym (declared_width values each n i x) ∙ declared_width values each n k y
 
-picked_none : (names : List (Option (List ℕ))) (g : ℕ → ℕ) (rest : Env) (n : List ℕ) → (In (somes names) n → ⊥) → picked names g rest n ≡ rest n
-picked_none [] g rest n h = refl
-picked_none (None ∷ names) g rest n h = picked_none names (λ k. g (suc k)) rest n h
-picked_none (Some m ∷ names) g rest n h =
-    choose (bytes_eq m n) (g zero) (picked names (λ i. g (suc i)) rest n) (λ x. x ≡ rest n)
-    (λ t. absurd (h (inl ((bytes_eq-Decides m n).0 t))))
-    (λ t. picked_none names (λ i. g (suc i)) rest n (λ m. h (inr m)))
+-- the operations' names with their values
+abbrev read_values : (Read → List Inner) → (Read → ℕ) → Read → List Sized
+read_values give h r = map (λ (x : Inner). (x.name, h r)) (give r)
 
--- the values of leaves and of nodes, by name
-abbrev pub env_of : NameTable → (ℕ → ℕ) → (ℕ → ℕ) → Env
-env_of t of_leaf of_node = picked t.leaves of_leaf (picked t.nodes of_node (λ _. 0))
+inside_names : (give : Read → List Inner) (h : Read → ℕ) (order : List Read) → names_of (flat_map (read_values give h) order) ≡ map (λ (x : Inner). x.name) (flat_map give order)
+inside_names give h [] = refl
+inside_names give h (r ∷ order) =
+    map-append (λ (s : Sized). s.0) (read_values give h r) (flat_map (read_values give h) order)
+    ∙ ap (λ (ns : List (List ℕ)). ns ++ names_of (flat_map (read_values give h) order)) (one (give r))
+    ∙ ap (λ (ns : List (List ℕ)). map (λ (x : Inner). x.name) (give r) ++ ns) (inside_names give h order)
+    ∙ sym (map-append (λ (x : Inner). x.name) (give r) (flat_map give order))
+  where
+    one : (xs : List Inner) → names_of (map (λ (x : Inner). (x.name, h r)) xs) ≡ map (λ (x : Inner). x.name) xs
+    one [] = refl
+    one (x ∷ xs) = ap (λ (ns : List (List ℕ)). x.name ∷ ns) (one xs)
 
-pub at_leaf : (t : NameTable) (g h : ℕ → ℕ) → Distinct (all_names t) → (k : ℕ) (n : List ℕ) → name_at t.leaves k ≡ Some n → env_of t g h n ≡ g k
-at_leaf t g h d k n e = picked_at t.leaves g _ k n (distinct_left (somes t.leaves) (somes t.nodes) d) e
+module _ (names : List (Option (List ℕ))) (give : Read → List Inner) (order : List Read) (g : ℕ → ℕ) (h : Read → ℕ) (once : Distinct (somes names ++ map (λ (x : Inner). x.name) (flat_map give order))) where
+  abbrev all_values : List Sized
+  all_values = with_values g 0 names ++ flat_map (read_values give h) order
 
-pub at_node : (t : NameTable) (g h : ℕ → ℕ) → Distinct (all_names t) → (k : ℕ) (n : List ℕ) → name_at t.nodes k ≡ Some n → env_of t g h n ≡ h k
-at_node t g h d k n e =
-    picked_none t.leaves g _ n (λ m. apart (somes t.leaves) (somes t.nodes) d n m (in_somes t.nodes k n e))
-    ∙ picked_at t.nodes h (λ _. 0) k n (distinct_right (somes t.leaves) (somes t.nodes) d) e
+  -- the values by name
+  pub env_of : Env
+  env_of n = width_in all_values n
+
+  all_once : Distinct (names_of all_values)
+  all_once =
+      subst Distinct
+      (sym (map-append (λ (s : Sized). s.0) (with_values g 0 names) (flat_map (read_values give h) order) ∙ rw (leaf_names g 0 names, inside_names give h order) refl)) once
+
+  pub at_leaf : (k : ℕ) (n : List ℕ) → name_at names k ≡ Some n → env_of n ≡ g k
+  unfolding env_of
+  at_leaf k n e =
+      let start : 0 + k ≡ k = omega arith in
+      let m : In (with_values g 0 names) (n, g k) = subst (λ (i : ℕ). In (with_values g 0 names) (n, g i)) start (in_values g 0 names k n e) in
+      declared_width all_values all_once n (g k) (in_left (with_values g 0 names) (flat_map (read_values give h) order) (n, g k) m)
+
+  pub at_inner : (r : Read) (x : Inner) → In order r → In (give r) x → env_of x.name ≡ h r
+  unfolding env_of
+  at_inner r x m given =
+      let here : In (read_values give h r) (x.name, h r) = in_map (λ (y : Inner). (y.name, h r)) (give r) x given in
+      declared_width all_values all_once x.name (h r)
+      (in_right (with_values g 0 names) (flat_map (read_values give h) order) (x.name, h r) (in_flat_map (read_values give h) order r (x.name, h r) m here))

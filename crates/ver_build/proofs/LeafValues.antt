@@ -1,135 +1,101 @@
--- The values of a built tree's inputs, clocks, outputs and registers are those of the net's.
+-- The values of a tree's inputs, clocks, outputs and registers are those of the net's.
 -- Leaves of no bits are in no list.
-use Rattle.std.proofs.Common.{◌≡◌, ℕ, ◌+◌, ◌≤◌, List, [], ◌∷◌, map, flat_map, nat_eq, refl, ap, ◌∙◌, arith, Option, Some, None}
+use Rattle.std.proofs.Common.{◌≡◌, ℕ, List, [], ◌∷◌, map, Bool, true, false, nat_eq, refl, sym, ap, ◌∙◌, arith, Option, Some, None}
 use Rattle.std.specs.Prelude.{slice_get}
-use Rattle.std.proofs.lemmas.Bool.{eqb-true}
+use Rattle.std.proofs.lemmas.Bool.{cond_both, eqb-true}
 use Rattle.fir_base.specs.Ticks.{Env}
-use Rattle.fir_net.specs.declared.net.Role.{Role}
-use Rattle.fir_net.specs.declared.net.Role.TheVariants as role
-use Rattle.fir_net.specs.declared.net.Leaf.{Leaf}
-use Rattle.fir_net.specs.declared.net.Node.{Node}
+use Rattle.fir_net.specs.declared.reads.Read.{Read}
+use Rattle.fir_net.specs.declared.leaf.Role.{Role}
+use Rattle.fir_net.specs.declared.leaf.Role.TheVariants as role
+use Rattle.fir_net.specs.declared.leaf.Leaf.{Leaf}
 use Rattle.fir_net.specs.declared.net.FlatNet.{FlatNet}
 use Rattle.fir_net.specs.declared.name_table.NameTable.{NameTable}
-use Rattle.fir_net.specs.Settled.{with_bits, input_number, clock_number, output_number, register_number, inputs, clocks, outputs, registers}
-use Rattle.fir_net.specs.IsNet.{IsLeaf, IsNet}
-use Rattle.fir_net.specs.IsTable.{IsTable}
-use Rattle.ver_ast.specs.declared.tree.Port.{Port}
-use Rattle.ver_ast.specs.Nets.{Sized, input_net, output_net, port_clock, reg_net, names_of, inputs as v_inputs, outputs as v_outputs, clocks as v_clocks, regs}
-use Rattle.ver_build.specs.Built.{name_at, port_of, leaf_port, leaf_reg, built}
-use Rattle.ver_build.proofs.AtomValues.{choose}
-use Rattle.ver_build.proofs.Indexes.{all_at}
-use Rattle.ver_build.proofs.Tables.{HasLeafName, leaf_named}
-use Rattle.ver_build.proofs.LeafLists.{listed_along, mapped_along, same_lists}
-use Rattle.ver_build.proofs.TreeLists.{regs_are}
+use Rattle.fir_net.specs.working.IsNet.{IsRole}
+use Rattle.fir_net.specs.working.LeafNamed.{is_wire}
+use Rattle.fir_net.specs.working.Settled.{is_clock, input_number, clock_number, output_number, register_number, numbers_by, inputs, clocks, outputs, registers}
+use Rattle.ver_ast.specs.Nets.{Sized, names_of, inputs as v_inputs, outputs as v_outputs, clocks as v_clocks, regs}
+use Rattle.ver_build.specs.declared.places.Places.{Places}
+use Rattle.ver_build.specs.working.Places.{name_at}
+use Rattle.ver_build.proofs.Names.{along_zipped, each_at}
+use Rattle.ver_build.proofs.Premises.{Premises, LeafNamed, RoleNamed, BitsNamed, role_named, bits_named, leaves_named}
+use Rattle.ver_build.proofs.Parts.{in_parts}
+use Rattle.ver_build.proofs.LeafKinds.{is_input, is_clock_input, is_output, is_register, name_if, picked, picked_names}
+use Rattle.ver_build.proofs.Nets.{inputs_sized, outputs_sized, clocks_are, registers_sized}
+use Rattle.ver_build.proofs.Shapes.{number_if, input_is, output_is, register_is, input_plain, output_plain, register_plain}
+use Rattle.ver_build.proofs.HeldNets.{leaf_at}
+use Rattle.ver_build.proofs.LeafLists.{same_lists}
 
--- each leaf that has a name has its value there
-pub record AgreesLeaves (net : FlatNet) (t : NameTable) (e : ℕ → ℕ) (f : Env) : Type 0 where
-  pub each : (k : ℕ) (l : Leaf) (n : List ℕ) → slice_get net.leaves k ≡ Some l → name_at t.leaves k ≡ Some n → f n ≡ e k
+-- each leaf that has a name has its value there, and each clock input its number
+pub record AgreesLeaves (net : FlatNet) (t : NameTable) (e : ℕ → ℕ) (clock : ℕ → Option ℕ) (f : Env) : Type 0 where
+  pub value : (k : ℕ) (l : Leaf) (n : List ℕ) → slice_get net.leaves k ≡ Some l → is_clock l.role ≡ false → name_at t.leaves k ≡ Some n → f n ≡ e k
+  pub number : (k : ℕ) (l : Leaf) (n : List ℕ) → slice_get net.leaves k ≡ Some l → l.role ≡ role.Clock → name_at t.leaves k ≡ Some n → Some (f n) ≡ clock k
 
-abbrev inputs_of : List Port → List Sized
-inputs_of = flat_map (λ p. input_net p.direction p)
+plain_input : (r : Role) → is_input r ≡ true → is_clock r ≡ false
+plain_input role.Input e = refl
+plain_input _ e = absurd (cc)
 
-abbrev outputs_of : List Port → List Sized
-outputs_of = flat_map (λ p. output_net p.direction p)
+plain_output : (r : Role) → is_output r ≡ true → is_clock r ≡ false
+plain_output (role.Output r) e = refl
+plain_output _ e = absurd (cc)
 
--- a clock has bits
-clocked : (leaves : List Leaf) (nodes : List Node) (l : Leaf) → IsLeaf leaves nodes l → l.role ≡ role.Clock → 1 ≤ l.width
-clocked leaves nodes l is clock = let width : l.width ≡ 1 = rw clock at is.driven in omega arith
+pub plain_register : (r : Role) → is_register r ≡ true → is_clock r ≡ false
+plain_register (role.Register r) e = refl
+plain_register _ e = absurd (cc)
 
--- what is known of a leaf with that number
-abbrev IsKnown : (ℕ → ℕ) → Env → ℕ → ℕ → Option (List ℕ) → Type 0
-IsKnown e f w k None = w ≡ 0
-IsKnown e f w k (Some n) = (1 ≤ w) × (f n ≡ e k)
+one_value : (e : ℕ → ℕ) (f : Env) (b : Bool) (w k : ℕ) (n : Option (List ℕ)) → (b ≡ true → BitsNamed w n) → (b ≡ true → (name : List ℕ) → n ≡ Some name → f name ≡ e k) → map f (name_if b n) ≡ map e (number_if b w k)
+one_value e f false w k n bits same = refl
+one_value e f true w k None bits same = let none : w ≡ 0 = bits refl in rw none refl
+one_value e f true w k (Some name) bits same =
+    cond_both (nat_eq w 0) [] (k ∷ []) (λ ys. f name ∷ [] ≡ map e ys)
+    (λ h. let none : w ≡ 0 = eqb-true _ _ h in let some = bits refl in absurd (omega arith)) (λ h. ap (λ (x : ℕ). x ∷ []) (same refl name refl))
 
-module _ (e : ℕ → ℕ) (f : Env) where
-  one_value : (w k : ℕ) (n : List ℕ) → 1 ≤ w → f n ≡ e k → f n ∷ [] ≡ map e (with_bits w k)
-  one_value w k n some same =
-      choose (nat_eq w 0) [] (k ∷ []) (λ ys. f n ∷ [] ≡ map e ys)
-      (λ h. let none : w ≡ 0 = eqb-true _ _ h in absurd (omega arith)) (λ h. ap (λ (x : ℕ). x ∷ []) same)
+module _ (net : FlatNet) (t : NameTable) (p : Places) (order : List Read) (is : Premises net t p order) where
+  named_at : (k : ℕ) (l : Leaf) → slice_get net.leaves k ≡ Some l → LeafNamed l (name_at t.leaves k)
+  named_at k l at = each_at LeafNamed t.leaves net.leaves (leaves_named net t is.table) k l at
 
-  no_value : (w k : ℕ) → w ≡ 0 → [] ≡ map e (with_bits w k)
-  no_value w k none = rw none refl
+  module _ (e : ℕ → ℕ) (f : Env) where
+    -- each leaf of the kind that has a name has its value there
+    abbrev Same : (Role → Bool) → Type 0
+    Same q = (k : ℕ) (l : Leaf) (name : List ℕ) → slice_get net.leaves k ≡ Some l → q l.role ≡ true → name_at t.leaves k ≡ Some name → f name ≡ e k
 
-  some_input : (r : Role) (w k : ℕ) (n : List ℕ) → 1 ≤ w → f n ≡ e k → map f (names_of (inputs_of (port_of r w n))) ≡ map e (input_number r w k)
-  some_input role.Input w k n some same = one_value w k n some same
-  some_input _ w k n some same = refl
+    values_same : (q : Role → Bool) (number : Role → ℕ → ℕ → List ℕ) → ((r : Role) (w k : ℕ) → number r w k ≡ number_if (q r) w k) → ((r : Role) → q r ≡ true → is_wire r ≡ false) → Same q
+        → map f (picked q t.leaves net.leaves) ≡ map e (numbers_by number 0 net.leaves)
+    values_same q number by plain same =
+        ap (map f) (sym (along_zipped LeafNamed (λ (l : Leaf) n. name_if (q l.role) n) t.leaves net.leaves (leaves_named net t is.table)))
+        ∙ same_lists e f (λ l n. name_if (q l.role) n) number t.leaves net.leaves one
+      where
+        one : (k : ℕ) (l : Leaf) → slice_get net.leaves k ≡ Some l → map f (name_if (q l.role) (name_at t.leaves k)) ≡ map e (number l.role l.width k)
+        one k l at =
+            one_value e f (q l.role) l.width k (name_at t.leaves k) (λ b. bits_named l.role l.width (name_at t.leaves k) (plain l.role b) (role_named l (name_at t.leaves k) (named_at k l at)))
+            (λ b name named. same k l name at b named)
+            ∙ ap (map e) (sym (by l.role l.width k))
 
-  no_input : (r : Role) (w k : ℕ) → w ≡ 0 → [] ≡ map e (input_number r w k)
-  no_input role.Input w k none = no_value w k none
-  no_input _ w k none = refl
+    pub registers_same : Same is_register → map f (names_of (regs (in_parts net t p order))) ≡ map e (registers net)
+    registers_same same =
+        ap (λ (s : List Sized). map f (names_of s)) (registers_sized net t p order) ∙ ap (map f) (picked_names is_register t.leaves net.leaves)
+        ∙ values_same is_register register_number register_is register_plain same
 
-  one_input : (l : Leaf) (k : ℕ) (n : Option (List ℕ)) → IsKnown e f l.width k n → map f (names_of (inputs_of (leaf_port l n))) ≡ map e (input_number l.role l.width k)
-  one_input l k None is = no_input l.role l.width k is
-  one_input l k (Some n) is = some_input l.role l.width k n is.0 is.1
+  module _ (e : ℕ → ℕ) (clock : ℕ → Option ℕ) (f : Env) (agrees : AgreesLeaves net t e clock f) where
+    pub inputs_same : map f (names_of (v_inputs (in_parts net t p order))) ≡ map e (inputs net)
+    inputs_same =
+        ap (λ (s : List Sized). map f (names_of s)) (inputs_sized net t p order) ∙ ap (map f) (picked_names is_input t.leaves net.leaves)
+        ∙ values_same e f is_input input_number input_is input_plain (λ k l n at q. agrees.value k l n at (plain_input l.role q))
 
-  some_output : (r : Role) (w k : ℕ) (n : List ℕ) → 1 ≤ w → f n ≡ e k → map f (names_of (outputs_of (port_of r w n))) ≡ map e (output_number r w k)
-  some_output (role.Output r) w k n some same = one_value w k n some same
-  some_output _ w k n some same = refl
+    pub outputs_same : map f (names_of (v_outputs (in_parts net t p order))) ≡ map e (outputs net)
+    outputs_same =
+        ap (λ (s : List Sized). map f (names_of s)) (outputs_sized net t p order) ∙ ap (map f) (picked_names is_output t.leaves net.leaves)
+        ∙ values_same e f is_output output_number output_is output_plain (λ k l n at q. agrees.value k l n at (plain_output l.role q))
 
-  no_output : (r : Role) (w k : ℕ) → w ≡ 0 → [] ≡ map e (output_number r w k)
-  no_output (role.Output r) w k none = no_value w k none
-  no_output _ w k none = refl
+    pub words_same : map f (names_of (regs (in_parts net t p order))) ≡ map e (registers net)
+    words_same = registers_same e f (λ k l n at q. agrees.value k l n at (plain_register l.role q))
 
-  one_output : (l : Leaf) (k : ℕ) (n : Option (List ℕ)) → IsKnown e f l.width k n → map f (names_of (outputs_of (leaf_port l n))) ≡ map e (output_number l.role l.width k)
-  one_output l k None is = no_output l.role l.width k is
-  one_output l k (Some n) is = some_output l.role l.width k n is.0 is.1
+    one_clock : (r : Role) (w k : ℕ) (n : Option (List ℕ)) → RoleNamed r w n → IsRole net.leaves net.nodes w r → (r ≡ role.Clock → (name : List ℕ) → n ≡ Some name → Some (f name) ≡ clock k) → map (λ m. Some (f m)) (name_if (is_clock_input r) n) ≡ map clock (clock_number r w k)
+    one_clock role.Clock w k None h d same = let none = bits_named role.Clock w None refl h in absurd (omega arith)
+    one_clock role.Clock w k (Some name) h d same = ap (λ (x : Option ℕ). x ∷ []) (same refl name refl)
+    one_clock _ w k n h d same = refl
 
-  some_clock : (r : Role) (w k : ℕ) (n : List ℕ) → f n ≡ e k → map f (flat_map port_clock (port_of r w n)) ≡ map e (clock_number r w k)
-  some_clock role.Clock w k n same = ap (λ (x : ℕ). x ∷ []) same
-  some_clock _ w k n same = refl
-
-  no_clock : (r : Role) (w k : ℕ) → w ≡ 0 → (r ≡ role.Clock → 1 ≤ w) → [] ≡ map e (clock_number r w k)
-  no_clock role.Clock w k none some = absurd (omega (arith, some refl))
-  no_clock _ w k none some = refl
-
-  one_clock : (l : Leaf) (k : ℕ) (n : Option (List ℕ)) → IsKnown e f l.width k n → (l.role ≡ role.Clock → 1 ≤ l.width) → map f (flat_map port_clock (leaf_port l n)) ≡ map e (clock_number l.role l.width k)
-  one_clock l k None is some = no_clock l.role l.width k is some
-  one_clock l k (Some n) is some = some_clock l.role l.width k n is.1
-
-  one_register : (r : Role) (w k : ℕ) (n : Option (List ℕ)) → IsKnown e f w k n → map f (names_of (flat_map reg_net (leaf_reg r w n))) ≡ map e (register_number r w k)
-  one_register (role.Register r) w k None is = no_value w k is
-  one_register (role.Register r) w k (Some n) is = one_value w k n is.0 is.1
-  one_register _ w k n is = refl
-
-module _ (net : FlatNet) (t : NameTable) (whole : IsNet net) (table : IsTable net t) (e : ℕ → ℕ) (f : Env) (agrees : AgreesLeaves net t e f) where
-  known_by : (k : ℕ) (l : Leaf) (n : Option (List ℕ)) → slice_get net.leaves k ≡ Some l → name_at t.leaves k ≡ n → HasLeafName l.width n → IsKnown e f l.width k n
-  known_by k l None at named has = has
-  known_by k l (Some n) at named has = (has, agrees.each k l n at named)
-
-  known : (k : ℕ) (l : Leaf) → slice_get net.leaves k ≡ Some l → IsKnown e f l.width k (name_at t.leaves k)
-  known k l at = known_by k l (name_at t.leaves k) at refl (leaf_named [] net.leaves t.leaves table.leaves k l at)
-
-  pub inputs_same : map f (names_of (v_inputs (built net t))) ≡ map e (inputs net)
-  unfolding built
-  inputs_same =
-      ap (λ (s : List Sized). map f (names_of s)) (listed_along (λ p. input_net p.direction p) leaf_port t.leaves 0 net.leaves)
-      ∙ ap (map f) (mapped_along (λ (s : Sized). s.0) (λ l n. inputs_of (leaf_port l n)) t.leaves 0 net.leaves)
-      ∙ same_lists e f (λ l n. names_of (inputs_of (leaf_port l n))) input_number t.leaves net.leaves
-      (record { each = λ k l at. let start : 0 + k ≡ k = omega arith in rw start (one_input e f l k (name_at t.leaves k) (known k l at)) })
-
-  pub outputs_same : map f (names_of (v_outputs (built net t))) ≡ map e (outputs net)
-  unfolding built
-  outputs_same =
-      ap (λ (s : List Sized). map f (names_of s)) (listed_along (λ p. output_net p.direction p) leaf_port t.leaves 0 net.leaves)
-      ∙ ap (map f) (mapped_along (λ (s : Sized). s.0) (λ l n. outputs_of (leaf_port l n)) t.leaves 0 net.leaves)
-      ∙ same_lists e f (λ l n. names_of (outputs_of (leaf_port l n))) output_number t.leaves net.leaves
-      (record { each = λ k l at. let start : 0 + k ≡ k = omega arith in rw start (one_output e f l k (name_at t.leaves k) (known k l at)) })
-
-  pub clocks_same : map f (v_clocks (built net t)) ≡ map e (clocks net)
-  unfolding built
-  clocks_same =
-      ap (map f) (listed_along port_clock leaf_port t.leaves 0 net.leaves)
-      ∙ same_lists e f (λ l n. flat_map port_clock (leaf_port l n)) clock_number t.leaves net.leaves
-      (record {
-        each = λ k l at.
-            let start : 0 + k ≡ k = omega arith in
-            let is = all_at (IsLeaf net.leaves net.nodes) net.leaves whole.leaves k l at in
-            rw start (one_clock e f l k (name_at t.leaves k) (known k l at) (clocked net.leaves net.nodes l is));
-      })
-
-  pub registers_same : map f (names_of (regs (built net t))) ≡ map e (registers net)
-  registers_same =
-      ap (λ (s : List Sized). map f (names_of s)) (regs_are net t)
-      ∙ ap (map f) (mapped_along (λ (s : Sized). s.0) (λ (l : Leaf) n. flat_map reg_net (leaf_reg l.role l.width n)) t.leaves 0 net.leaves)
-      ∙ same_lists e f (λ l n. names_of (flat_map reg_net (leaf_reg l.role l.width n))) register_number t.leaves net.leaves
-      (record { each = λ k l at. let start : 0 + k ≡ k = omega arith in rw start (one_register e f l.role l.width k (name_at t.leaves k) (known k l at)) })
+    pub clocks_same : map (λ n. Some (f n)) (v_clocks (in_parts net t p order)) ≡ map clock (clocks net)
+    clocks_same =
+        ap (map (λ n. Some (f n))) (clocks_are net t p order ∙ sym (along_zipped LeafNamed (λ (l : Leaf) n. name_if (is_clock_input l.role) n) t.leaves net.leaves (leaves_named net t is.table)))
+        ∙ same_lists clock (λ n. Some (f n)) (λ l n. name_if (is_clock_input l.role) n) clock_number t.leaves net.leaves
+        (λ k l at. one_clock l.role l.width k (name_at t.leaves k) (role_named l (name_at t.leaves k) (named_at k l at)) (leaf_at net t p order is k l at).driven (λ c name named. agrees.number k l name at c named))

@@ -1,7 +1,9 @@
--- What is built along the leaves or the nodes, with one more.
-use Rattle.std.proofs.Common.{◌≡◌, ℕ, ◌+◌, ◌<◌, List, [], ◌∷◌, ◌++◌, Option, take, length, get_or, sym, ap, ◌∙◌, append_assoc, append-nil, arith, length-take}
-use Rattle.std.proofs.lemmas.List.{take_more}
-use Rattle.ver_build.specs.Built.{name_at, along}
+-- What is built along leaves, or along an order, with one more.
+use Rattle.std.proofs.Common.{◌≡◌, ℕ, ◌+◌, ◌<◌, List, [], ◌∷◌, ◌++◌, Option, take, length, get_or, flat_map, map, refl, sym, ap, ◌∙◌, append_assoc, append-nil, arith, length-take}
+use Rattle.std.proofs.lemmas.List.{take_more, map-append}
+use Rattle.std.proofs.lemmas.List.Concat.{flat_map-append}
+use Rattle.ver_build.specs.working.Places.{name_at}
+use Rattle.ver_build.specs.working.Built.{along}
 
 along_push : {A B : Type 0} → (f : A → Option (List ℕ) → List B) (names : List (Option (List ℕ))) (k : ℕ) (xs : List A) (x : A)
     → along f names k (xs ++ x ∷ []) ≡ along f names k xs ++ f x (name_at names (k + length xs))
@@ -26,3 +28,31 @@ put_more f names xs i x name s before after lt is named b a =
     let added = along f names 0 (take i xs) in
     a ∙ ap (λ n. before ++ f x n) named ∙ ap (λ l. l ++ f x (name_at names i)) b ∙ append_assoc s added (f x (name_at names i))
     ∙ ap (λ l. s ++ l) (sym (along_more f names xs i x lt is))
+
+-- the first i and one more, each with what it gives
+pub flat_more : {A B : Type 0} → (f : A → List B) (xs : List A) (i : ℕ) (x : A) → i < length xs → x ≡ get_or xs i x → flat_map f (take (i + 1) xs) ≡ flat_map f (take i xs) ++ f x
+flat_more f xs i x lt is =
+    ap (flat_map f) (take_more xs i x lt ∙ ap (λ y. take i xs ++ y ∷ []) (sym is)) ∙ flat_map-append f (take i xs) (x ∷ [])
+    ∙ ap (λ l. flat_map f (take i xs) ++ l) (append-nil (f x))
+
+pub put_flat : {A B : Type 0} → (f : A → List B) (xs : List A) (i : ℕ) (x : A) (s before after : List B) → i < length xs → x ≡ get_or xs i x → before ≡ s ++ flat_map f (take i xs) → after ≡ before ++ f x
+    → after ≡ s ++ flat_map f (take (i + 1) xs)
+put_flat f xs i x s before after lt is b a =
+    a ∙ ap (λ l. l ++ f x) b ∙ append_assoc s (flat_map f (take i xs)) (f x) ∙ ap (λ l. s ++ l) (sym (flat_more f xs i x lt is))
+
+-- what is made of all that is given
+pub mapped_along : {A B C : Type 0} → (g : B → C) (f : A → Option (List ℕ) → List B) (names : List (Option (List ℕ))) (j : ℕ) (xs : List A)
+    → map g (along f names j xs) ≡ along (λ x n. map g (f x n)) names j xs
+mapped_along g f names j [] = refl
+mapped_along {A} {B} {C} g f names j (x ∷ xs) =
+    map-append g (f x (name_at names j)) (along f names (j + 1) xs) ∙ ap (λ (ys : List C). map g (f x (name_at names j)) ++ ys) (mapped_along g f names (j + 1) xs)
+
+pub mapped_flat : {A B C D : Type 0} → (g : B → C) (h : C → D) (f : A → List B) (xs : List A) → map h (map g (flat_map f xs)) ≡ flat_map (λ x. map (λ y. h (g y)) (f x)) xs
+mapped_flat g h f [] = refl
+mapped_flat {A} {B} {C} {D} g h f (x ∷ xs) =
+    ap (map h) (map-append g (f x) (flat_map f xs)) ∙ map-append h (map g (f x)) (map g (flat_map f xs))
+    ∙ ap (λ (ys : List D). map h (map g (f x)) ++ ys) (mapped_flat g h f xs) ∙ ap (λ (ys : List D). ys ++ flat_map (λ x. map (λ y. h (g y)) (f x)) xs) (twice (f x))
+  where
+    twice : (ys : List B) → map h (map g ys) ≡ map (λ y. h (g y)) ys
+    twice [] = refl
+    twice (y ∷ ys) = ap (λ (zs : List D). h (g y) ∷ zs) (twice ys)

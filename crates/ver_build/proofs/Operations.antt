@@ -9,12 +9,13 @@ use Rattle.ver_ast.specs.declared.tree.Atom.{Atom}
 use Rattle.ver_ast.specs.declared.tree.Atom.TheVariants as atom
 use Rattle.ver_ast.specs.declared.tree.Primary.TheVariants as primary
 use Rattle.ver_ast.specs.Spells.{rhs_atoms}
-use Rattle.ver_build.specs.Built.{Held, atom_at, parts, side_by_side, field_of, operation_rhs}
+use Rattle.ver_build.specs.declared.held.Held.{Held}
+use Rattle.ver_build.specs.working.Built.{atom_at, parts, side_by_side, field_parts, operation_rhs}
 
 -- what is to hold where the operands are not all taken at the width
 abbrev pub Apart : {R : Type 0} → (Atom → Type 0) → (R → Held) → ℕ → PrimOp → List R → List ℕ → Type 0
 Apart P held w op.Cat (r ∷ s ∷ []) [] = P (side_by_side (parts (held r) ++ parts (held s)))
-Apart P held w op.Bits (r ∷ []) (hi ∷ lo ∷ []) = P (atom.Primary (field_of w hi lo (held r)))
+Apart P held w op.Bits (r ∷ []) (hi ∷ lo ∷ []) = P (side_by_side (field_parts w hi lo (held r)))
 Apart P held w _ _ _ = Unit {0}
 
 -- a property that the constant 0 of that width has

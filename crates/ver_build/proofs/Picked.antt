@@ -3,12 +3,12 @@
 use Rattle.std.proofs.Common.{◌≡◌, ℕ, List, [], ◌∷◌, ◌++◌, Bool, true, false, refl, sym, inl, inr, ⊎_elim, subst}
 use Rattle.std.specs.Prelude.{slice_get, Option, Some, None}
 use Rattle.fir_base.specs.Lists.{In, Distinct}
-use Rattle.fir_net.specs.declared.net.Role.{Role}
-use Rattle.fir_net.specs.declared.net.Leaf.{Leaf}
-use Rattle.fir_net.specs.IsTable.{somes, with_some}
-use Rattle.ver_build.specs.Built.{name_at}
-use Rattle.ver_build.proofs.Members.{in_either}
-use Rattle.ver_build.proofs.Names.{Names, Each, zipped, each_part, each_at}
+use Rattle.fir_base.proofs.Members.{in_either}
+use Rattle.fir_net.specs.declared.leaf.Role.{Role}
+use Rattle.fir_net.specs.declared.leaf.Leaf.{Leaf}
+use Rattle.fir_net.specs.working.LeafNamed.{somes, with_some}
+use Rattle.ver_build.specs.working.Places.{name_at}
+use Rattle.ver_build.proofs.Names.{NameList, Each, zipped, each_part, each_at}
 use Rattle.ver_build.proofs.LeafKinds.{name_if, picked}
 
 in_named : (b : Bool) (n : Option (List ℕ)) (rest : List (List ℕ)) (x : List ℕ) → In (name_if b n) x → In (with_some n rest) x
@@ -21,7 +21,7 @@ behind : (n : Option (List ℕ)) (rest : List (List ℕ)) (x : List ℕ) → In 
 behind None rest x m = m
 behind (Some name) rest x m = inr m
 
-pub picked_named : (p : Role → Bool) (names : Names) (ls : List Leaf) (x : List ℕ) → In (picked p names ls) x → In (somes names) x
+pub picked_named : (p : Role → Bool) (names : NameList) (ls : List Leaf) (x : List ℕ) → In (picked p names ls) x → In (somes names) x
 unfolding zipped
 picked_named p [] ls x m = absurd m
 picked_named p (n ∷ names) [] x m = absurd m
@@ -40,7 +40,7 @@ one_more false n rest ps d h e = e
 one_more true None rest ps d h e = e
 one_more true (Some name) rest ps d h e = (λ m. d.0 (h name m), e)
 
-pub picked_once : (p : Role → Bool) (names : Names) (ls : List Leaf) → Distinct (somes names) → Distinct (picked p names ls)
+pub picked_once : (p : Role → Bool) (names : NameList) (ls : List Leaf) → Distinct (somes names) → Distinct (picked p names ls)
 unfolding zipped
 picked_once p [] ls d = tt
 picked_once p (n ∷ names) [] d = tt
@@ -58,7 +58,7 @@ one_apart true false not_both (Some name) rest ps qs d f g h x (inl e) o = d.0 (
 one_apart true false not_both (Some name) rest ps qs d f g h x (inr i) o = h x i o
 one_apart true true not_both n rest ps qs d f g h x i o = not_both refl refl
 
-pub picked_apart : (p q : Role → Bool) → ((r : Role) → p r ≡ true → q r ≡ true → ⊥) → (names : Names) (ls : List Leaf) → Distinct (somes names) → (x : List ℕ) → In (picked p names ls) x → In (picked q names ls) x → ⊥
+pub picked_apart : (p q : Role → Bool) → ((r : Role) → p r ≡ true → q r ≡ true → ⊥) → (names : NameList) (ls : List Leaf) → Distinct (somes names) → (x : List ℕ) → In (picked p names ls) x → In (picked q names ls) x → ⊥
 unfolding zipped
 picked_apart p q not_both [] ls d x i o = i
 picked_apart p q not_both (n ∷ names) [] d x i o = i
@@ -67,7 +67,7 @@ picked_apart p q not_both (n ∷ names) (l ∷ ls) d x i o =
     (picked_apart p q not_both names ls (rest_once n (somes names) d)) x i o
 
 -- the name of a leaf that is of the kind
-pub picked_at : (P : Leaf → Option (List ℕ) → Type 0) (p : Role → Bool) (names : Names) (ls : List Leaf) → Each P names ls
+pub picked_at : (P : Leaf → Option (List ℕ) → Type 0) (p : Role → Bool) (names : NameList) (ls : List Leaf) → Each P names ls
     → (k : ℕ) (l : Leaf) (name : List ℕ) → slice_get ls k ≡ Some l → p l.role ≡ true → name_at names k ≡ Some name → In (picked p names ls) name
 picked_at P p names ls each k l name e f g =
     let Q = λ (x : Leaf) (n : Option (List ℕ)). (y : List ℕ) → In (name_if (p x.role) n) y → In (picked p names ls) y in

@@ -2,32 +2,29 @@
 -- A leaf that is numbered from the front has the width that stands in its place.
 use Rattle.std.proofs.Common.{◌≡◌, ℕ, ◌+◌, List, [], ◌∷◌, Bool, true, false, length, refl, sym, ap, ◌∙◌, arith, length-append}
 use Rattle.std.specs.Prelude.{map, Option, Some, None, nat_eq, if◌then◌else◌}
-use Rattle.std.specs.List.{AllByRecursion}
 use Rattle.std.proofs.Math.Numerals.{add-one}
 use Rattle.std.proofs.lemmas.List.{map-append}
-use Rattle.fir_base.specs.Lists.{Distinct}
-use Rattle.fir_net.specs.declared.net.Role.{Role}
-use Rattle.fir_net.specs.declared.net.Role.TheVariants as role
-use Rattle.fir_net.specs.declared.net.Leaf.{Leaf}
-use Rattle.fir_net.specs.declared.net.Node.{Node}
+use Rattle.fir_net.specs.declared.reads.Read.{Read}
+use Rattle.fir_net.specs.declared.leaf.Role.{Role}
+use Rattle.fir_net.specs.declared.leaf.Role.TheVariants as role
+use Rattle.fir_net.specs.declared.leaf.Leaf.{Leaf}
 use Rattle.fir_net.specs.declared.net.FlatNet.{FlatNet}
 use Rattle.fir_net.specs.declared.name_table.NameTable.{NameTable}
-use Rattle.fir_net.specs.Values.{leaf_width}
-use Rattle.fir_net.specs.Settled.{with_bits, input_number, clock_number, register_number, numbers_by, shape as net_shape}
-use Rattle.fir_net.specs.IsNet.{IsRole, IsLeaf, IsNet}
-use Rattle.fir_net.specs.IsTable.{IsTable, all_names}
-use Rattle.ver_ast.specs.Names.{IsName}
-use Rattle.ver_ast.specs.declared.tree.Verilog.{Verilog}
+use Rattle.fir_net.specs.working.Values.{leaf_width}
+use Rattle.fir_net.specs.working.Settled.{with_bits, input_number, clock_number, output_number, register_number, numbers_by, shape as net_shape}
+use Rattle.fir_net.specs.working.IsNet.{IsRole}
+use Rattle.fir_net.specs.working.LeafNamed.{is_wire}
 use Rattle.ver_ast.specs.Nets.{Sized, inputs, clocks, regs, widths_of, shape as v_shape}
-use Rattle.ver_build.specs.Built.{built}
-use Rattle.ver_build.proofs.Names.{Names, Each, zipped}
-use Rattle.ver_build.proofs.Parts.{BitsNamed, LeafNamed, leaves_named, leaves_known, in_parts, built_in_parts}
-use Rattle.ver_build.proofs.LeafKinds.{is_input, is_clock, is_register, name_if, sized_if, picked, picked_sized}
+use Rattle.ver_build.specs.declared.places.Places.{Places}
+use Rattle.ver_build.proofs.Names.{NameList, Each, zipped}
+use Rattle.ver_build.proofs.Premises.{Premises, BitsNamed, LeafNamed, RoleNamed, role_named, bits_named, leaves_named, Whole, leaves_whole}
+use Rattle.ver_build.proofs.Parts.{in_parts}
+use Rattle.ver_build.proofs.LeafKinds.{is_input, is_clock_input, is_output, is_register, name_if, sized_if, picked, picked_sized}
 use Rattle.ver_build.proofs.Nets.{inputs_sized, clocks_are, registers_sized}
 use Rattle.ver_build.proofs.Widths.{if_equal}
 
 -- the number of a leaf with bits, where it is of a kind
-abbrev number_if : Bool → ℕ → ℕ → List ℕ
+abbrev pub number_if : Bool → ℕ → ℕ → List ℕ
 number_if false w k = []
 number_if true w k = with_bits w k
 
@@ -46,13 +43,13 @@ number_behind l all false w k = refl
 number_behind l all true w k = bits_behind l all w k
 
 -- the width of one leaf of a kind, where it has bits
-one_width : (b : Bool) (w : ℕ) (n : Option (List ℕ)) (f : ℕ → ℕ) → f 0 ≡ w → BitsNamed w n → widths_of (sized_if b w n) ≡ map f (number_if b w 0)
+one_width : (b : Bool) (w : ℕ) (n : Option (List ℕ)) (f : ℕ → ℕ) → f 0 ≡ w → (b ≡ true → BitsNamed w n) → widths_of (sized_if b w n) ≡ map f (number_if b w 0)
 one_width false w n f e h = refl
-one_width true w None f e h = if_equal (λ (ks : List ℕ). [] ≡ map f ks) w 0 [] (0 ∷ []) (λ _. refl) (λ other. absurd (other h))
+one_width true w None f e h = if_equal (λ (ks : List ℕ). [] ≡ map f ks) w 0 [] (0 ∷ []) (λ _. refl) (λ other. absurd (other (h refl)))
 one_width true w (Some name) f e h =
-    if_equal (λ (ks : List ℕ). w ∷ [] ≡ map f ks) w 0 [] (0 ∷ []) (λ same. absurd (omega arith)) (λ _. ap (λ v. v ∷ []) (sym e))
+    if_equal (λ (ks : List ℕ). w ∷ [] ≡ map f ks) w 0 [] (0 ∷ []) (λ same. let some = h refl in absurd (omega arith)) (λ _. ap (λ v. v ∷ []) (sym e))
 
-module _ (p : Role → Bool) (number : Role → ℕ → ℕ → List ℕ) (is : (r : Role) (w k : ℕ) → number r w k ≡ number_if (p r) w k) where
+module _ (p : Role → Bool) (number : Role → ℕ → ℕ → List ℕ) (is : (r : Role) (w k : ℕ) → number r w k ≡ number_if (p r) w k) (plain : (r : Role) → p r ≡ true → is_wire r ≡ false) where
   -- the widths of the leaves behind one
   numbers_behind : (l : Leaf) (all : List Leaf) (k : ℕ) (ls : List Leaf) → map (leaf_width (l ∷ all)) (numbers_by number (k + 1) ls) ≡ map (leaf_width all) (numbers_by number k ls)
   numbers_behind l all k [] = refl
@@ -63,58 +60,68 @@ module _ (p : Role → Bool) (number : Role → ℕ → ℕ → List ℕ) (is : 
       ∙ rw (here, numbers_behind l all (k + 1) ls) refl
       ∙ sym (map-append (leaf_width all) (number x.role x.width k) (numbers_by number (k + 1) ls))
 
-  widths_along : (names : Names) (ls : List Leaf) → Each LeafNamed names ls → widths_of (picked_sized p names ls) ≡ map (leaf_width ls) (numbers_by number 0 ls)
+  pub widths_along : (names : NameList) (ls : List Leaf) → Each LeafNamed names ls → widths_of (picked_sized p names ls) ≡ map (leaf_width ls) (numbers_by number 0 ls)
   unfolding zipped
   widths_along [] [] h = refl
   widths_along [] (l ∷ ls) h = absurd h
   widths_along (n ∷ names) [] h = absurd h
   widths_along (n ∷ names) (l ∷ ls) h =
       let here : widths_of (sized_if (p l.role) l.width n) ≡ map (leaf_width (l ∷ ls)) (number l.role l.width 0) =
-      one_width (p l.role) l.width n (leaf_width (l ∷ ls)) refl h.0 ∙ ap (map (leaf_width (l ∷ ls))) (sym (is l.role l.width 0)) in
+      one_width (p l.role) l.width n (leaf_width (l ∷ ls)) refl (λ e. bits_named l.role l.width n (plain l.role e) (role_named l n h.0)) ∙ ap (map (leaf_width (l ∷ ls))) (sym (is l.role l.width 0)) in
       map-append (λ (s : Sized). s.1) (sized_if (p l.role) l.width n) (picked_sized p names ls)
       ∙ rw (here, widths_along names ls h.1 ∙ sym (numbers_behind l ls 0 ls)) refl
       ∙ sym (map-append (leaf_width (l ∷ ls)) (number l.role l.width 0) (numbers_by number 1 ls))
 
-input_is : (r : Role) (w k : ℕ) → input_number r w k ≡ number_if (is_input r) w k
+pub input_is : (r : Role) (w k : ℕ) → input_number r w k ≡ number_if (is_input r) w k
 input_is role.Input w k = refl
-input_is role.Clock w k = refl
-input_is (role.Output r) w k = refl
-input_is (role.Register r) w k = refl
+input_is _ w k = refl
 
-register_is : (r : Role) (w k : ℕ) → register_number r w k ≡ number_if (is_register r) w k
-register_is role.Input w k = refl
-register_is role.Clock w k = refl
-register_is (role.Output r) w k = refl
+pub output_is : (r : Role) (w k : ℕ) → output_number r w k ≡ number_if (is_output r) w k
+output_is (role.Output r) w k = refl
+output_is _ w k = refl
+
+pub register_is : (r : Role) (w k : ℕ) → register_number r w k ≡ number_if (is_register r) w k
 register_is (role.Register r) w k = refl
+register_is _ w k = refl
 
-module _ (leaves : List Leaf) (nodes : List Node) where
-  one_clock : (r : Role) (w : ℕ) (n : Option (List ℕ)) (k : ℕ) → BitsNamed w n → IsRole leaves nodes w r → length (name_if (is_clock r) n) ≡ length (clock_number r w k)
-  one_clock role.Input w n k h is = refl
-  one_clock role.Clock w None k h is = absurd (omega arith)
+pub input_plain : (r : Role) → is_input r ≡ true → is_wire r ≡ false
+input_plain role.Input e = refl
+input_plain _ e = absurd (cc)
+
+pub output_plain : (r : Role) → is_output r ≡ true → is_wire r ≡ false
+output_plain (role.Output r) e = refl
+output_plain _ e = absurd (cc)
+
+pub register_plain : (r : Role) → is_register r ≡ true → is_wire r ≡ false
+register_plain (role.Register r) e = refl
+register_plain _ e = absurd (cc)
+
+module _ (net : FlatNet) where
+  one_clock : (r : Role) (w : ℕ) (n : Option (List ℕ)) (k : ℕ) → RoleNamed r w n → IsRole net.leaves net.nodes w r → length (name_if (is_clock_input r) n) ≡ length (clock_number r w k)
+  one_clock role.Clock w None k h is = let none = bits_named role.Clock w None refl h in absurd (omega arith)
   one_clock role.Clock w (Some name) k h is = refl
-  one_clock (role.Output r) w n k h is = refl
-  one_clock (role.Register r) w n k h is = refl
+  one_clock _ w n k h is = refl
 
-  clocks_along : (names : Names) (ls : List Leaf) (k : ℕ) → Each (λ l n. LeafNamed l n × IsLeaf leaves nodes l) names ls → length (picked is_clock names ls) ≡ length (numbers_by clock_number k ls)
+  clocks_along : (names : NameList) (ls : List Leaf) (k : ℕ) → Each (Whole net) names ls → length (picked is_clock_input names ls) ≡ length (numbers_by clock_number k ls)
   unfolding zipped
   clocks_along [] [] k h = refl
   clocks_along [] (l ∷ ls) k h = absurd h
   clocks_along (n ∷ names) [] k h = absurd h
   clocks_along (n ∷ names) (l ∷ ls) k h =
       rw (
-        length-append (name_if (is_clock l.role) n) (picked is_clock names ls),
+        length-append (name_if (is_clock_input l.role) n) (picked is_clock_input names ls),
         length-append (clock_number l.role l.width k) (numbers_by clock_number (k + 1) ls),
-        one_clock l.role l.width n k h.0.0 h.0.1.driven,
+        one_clock l.role l.width n k (role_named l n h.0.0) h.0.1.driven,
         clocks_along names ls (k + 1) h.1,
       ) refl
 
-pub built_shape : (net : FlatNet) (t : NameTable) → IsNet net → IsTable net t → Distinct (all_names t) → AllByRecursion IsName (all_names t) → IsName t.circuit → v_shape (built net t) ≡ net_shape net
-built_shape net t whole table once spelled circuit =
-    let named = leaves_named net t table in
-    let ins : widths_of (inputs (in_parts net t)) ≡ map (leaf_width net.leaves) (numbers_by input_number 0 net.leaves) =
-    ap widths_of (inputs_sized net t) ∙ widths_along is_input input_number input_is t.leaves net.leaves named in
-    let state : widths_of (regs (in_parts net t)) ≡ map (leaf_width net.leaves) (numbers_by register_number 0 net.leaves) =
-    ap widths_of (registers_sized net t) ∙ widths_along is_register register_number register_is t.leaves net.leaves named in
-    let count : length (clocks (in_parts net t)) ≡ length (numbers_by clock_number 0 net.leaves) =
-    ap length (clocks_are net t) ∙ clocks_along net.leaves net.nodes t.leaves net.leaves 0 (leaves_known net t whole table) in
-    ap (λ (v : Verilog). v_shape v) (built_in_parts net t table) ∙ rw (ins, state, count) refl
+pub built_shape : (net : FlatNet) (t : NameTable) (p : Places) (order : List Read) → Premises net t p order → v_shape (in_parts net t p order) ≡ net_shape net
+built_shape net t p order is =
+    let named = leaves_named net t is.table in
+    let ins : widths_of (inputs (in_parts net t p order)) ≡ map (leaf_width net.leaves) (numbers_by input_number 0 net.leaves) =
+    ap widths_of (inputs_sized net t p order) ∙ widths_along is_input input_number input_is input_plain t.leaves net.leaves named in
+    let state : widths_of (regs (in_parts net t p order)) ≡ map (leaf_width net.leaves) (numbers_by register_number 0 net.leaves) =
+    ap widths_of (registers_sized net t p order) ∙ widths_along is_register register_number register_is register_plain t.leaves net.leaves named in
+    let count : length (clocks (in_parts net t p order)) ≡ length (numbers_by clock_number 0 net.leaves) =
+    ap length (clocks_are net t p order) ∙ clocks_along net t.leaves net.leaves 0 (leaves_whole net t is.whole is.table) in
+    rw (ins, state, count) refl

@@ -3,6 +3,8 @@ use Rattle.std.proofs.Common.{◌≡◌, ℕ, List, [], ◌∷◌, ◌++◌, sym
 use Rattle.std.specs.Prelude.{map}
 use Rattle.std.specs.List.{AllByRecursion}
 use Rattle.fir_base.specs.Lists.{In}
+use Rattle.fir_base.proofs.Each.{each_more}
+use Rattle.fir_base.proofs.Members.{in_left, in_right, in_either}
 use Rattle.ver_ast.specs.declared.tree.Net.{Net}
 use Rattle.ver_ast.specs.declared.tree.Assign.{Assign}
 use Rattle.ver_ast.specs.declared.tree.Always.{Always}
@@ -10,9 +12,8 @@ use Rattle.ver_ast.specs.declared.tree.Item.{Item}
 use Rattle.ver_ast.specs.declared.tree.Item.TheVariants as item
 use Rattle.ver_ast.specs.Spells.{atom_names, rhs_names}
 use Rattle.ver_ast.specs.Valid.{DeclaredBefore}
-use Rattle.ver_build.proofs.Members.{in_left, in_right, in_either, each_more}
-use Rattle.ver_build.proofs.Parts.{items}
-use Rattle.ver_build.proofs.Declared.{AssignAmong, BlockAmong}
+use Rattle.ver_build.specs.working.Built.{items}
+use Rattle.ver_build.proofs.Fitting.{AssignAmong, BlockAmong}
 
 abbrev Within : List (List ℕ) → List (List ℕ) → Type 0
 Within xs ys = (x : List ℕ) → In xs x → In ys x

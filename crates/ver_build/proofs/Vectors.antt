@@ -1,112 +1,102 @@
--- The values of a whole net over values that fit its leaves: each has its node's width, and fits it.
--- It goes along the nodes by the law of the operator table.
-use Rattle.std.proofs.Common.{◌≡◌, ℕ, zero, suc, ◌^◌, ◌<◌, ◌≤◌, List, [], ◌∷◌, length, map, take, true, refl, sym, ap, ◌∙◌, subst, arith, Ok, Option, Some, unwrap_or, option_map, ⊎_elim, false}
+-- The values of a net's leaves and nodes, where the leaves' fit: each has its width, and fits it.
+-- It goes along the order, by the law of the operator table.
+use Rattle.std.proofs.Common.{◌≡◌, ℕ, ◌^◌, ◌<◌, List, [], ◌∷◌, map, false, refl, sym, ap, ◌∙◌, subst, Ok, Option, Some, unwrap_or, option_map}
 use Rattle.std.specs.Prelude.{slice_get}
 use Rattle.std.specs.List.{AllByRecursion}
-use Rattle.std.proofs.Math.Nat.{eq-or-lt_of_le}
-use Rattle.std.proofs.Math.Seq.{take-length}
 use Rattle.std.proofs.lemmas.Result.{IfOk-at_ok}
 use Rattle.std.proofs.lemmas.List.Elements.{All-from_recursion}
+use Rattle.fir_base.proofs.Elements.{there, all_there}
 use Rattle.fir_bits.specs.Values.{BitVector, IsBitVector}
-use Rattle.fir_bits.specs.Laws.{HasItsType}
+use Rattle.fir_bits.specs.working.Laws.{HasItsType}
 use Rattle.fir_bits.specs.Types.{typed}
 use Rattle.fir_bits.specs.Operators.{type_of, applied, outcome}
 use Rattle.fir_bits.specs.declared.types.NumTy.{NumTy}
 use Rattle.fir_bits.specs.declared.values.Num.{Num}
 use Rattle.fir_net.specs.declared.reads.Read.{Read}
 use Rattle.fir_net.specs.declared.reads.Read.TheVariants as read
-use Rattle.fir_net.specs.declared.net.Role.{Role}
-use Rattle.fir_net.specs.declared.net.Role.TheVariants as role
-use Rattle.fir_net.specs.declared.net.Leaf.{Leaf}
-use Rattle.fir_net.specs.declared.net.Node.{Node}
-use Rattle.fir_net.specs.declared.net.Node.TheVariants as node
+use Rattle.fir_net.specs.declared.leaf.Leaf.{Leaf}
+use Rattle.fir_net.specs.declared.node.Operation.{Operation}
+use Rattle.fir_net.specs.declared.node.Node.{Node}
+use Rattle.fir_net.specs.declared.node.Node.TheVariants as node
 use Rattle.fir_net.specs.declared.net.FlatNet.{FlatNet}
-use Rattle.fir_net.specs.Values.{leaf_width, unsigned, node_value, values}
-use Rattle.fir_net.specs.IsNet.{node_width, read_width, read_type, is_readable, CanRead, IsNode, IsLeaf, IsNet}
-use Rattle.fir_net.specs.Settled.{value_at}
-use Rattle.ver_build.proofs.Indexes.{get_take, within_take, there, all_at}
-use Rattle.ver_build.proofs.Nodes.{is_node_at, node_value_at}
-
--- a clock cannot be read
-pub readable : (r : Role) → is_readable r ≡ true → r ≡ role.Clock → ⊥
-readable r h clock = let bad : is_readable role.Clock ≡ true = rw clock at h in cc
+use Rattle.fir_net.specs.declared.name_table.NameTable.{NameTable}
+use Rattle.fir_net.specs.working.Values.{leaf_width, unsigned, no_value, node_value, values}
+use Rattle.fir_net.specs.working.Dependence.{IsOf, Reads}
+use Rattle.fir_net.specs.working.IsNet.{node_width, read_width, read_type, CanRead, IsOperation}
+use Rattle.fir_net.specs.working.Settled.{value_at, is_clock}
+use Rattle.fir_net.specs.working.Laws.{NodesHaveTheirValues}
+use Rattle.ver_build.specs.declared.places.Places.{Places}
+use Rattle.ver_build.proofs.AlongOrder.{along_order}
+use Rattle.ver_build.proofs.Premises.{Premises, all_by_number}
+use Rattle.ver_build.proofs.HeldNets.{leaf_at, node_at, read_of}
 
 -- the value of each leaf that is no clock is below two to the power of its width
 pub record FitsLeaves (net : FlatNet) (env : ℕ → ℕ) : Type 0 where
-  pub each : (k : ℕ) (l : Leaf) → slice_get net.leaves k ≡ Some l → (l.role ≡ role.Clock → ⊥) → env k < 2 ^ l.width
+  pub each : (k : ℕ) (l : Leaf) → slice_get net.leaves k ≡ Some l → is_clock l.role ≡ false → env k < 2 ^ l.width
 
 -- a value of a width
-pub record HasWidth (v : BitVector) (w : ℕ) : Type 0 where
+pub record IsVectorOf (v : BitVector) (w : ℕ) : Type 0 where
   pub vector : IsBitVector v
   pub width : v.width ≡ w
 
-module _ (law : HasItsType) (net : FlatNet) (whole : IsNet net) (env : ℕ → ℕ) (fits : FitsLeaves net env) where
-  -- the first m nodes have values of their widths
-  record Known (m : ℕ) : Type 0 where
-    each : (k : ℕ) (n : Node) → k < m → slice_get net.nodes k ≡ Some n → HasWidth (value_at net env (read.Node k)) (node_width n)
+-- the laws of the operator table and of the nodes
+pub record AreLaws : Type 0 where
+  pub typing : HasItsType
+  pub nodes : NodesHaveTheirValues
 
-  leaf_has : (k : ℕ) (l : Leaf) → slice_get net.leaves k ≡ Some l → (l.role ≡ role.Clock → ⊥) → HasWidth (value_at net env (read.Leaf k)) (leaf_width net.leaves k)
-  leaf_has k l e plain =
-      let width : leaf_width net.leaves k ≡ l.width = ap (λ (o : Option Leaf). unwrap_or (option_map (λ (x : Leaf). x.width) o) 0) e in
-      let narrow = (all_at (IsLeaf net.leaves net.nodes) net.leaves whole.leaves k l e).narrow in
-      record { vector = record { narrow = rw width narrow; below = rw width (fits.each k l e plain) }; width = refl }
+module _ (laws : AreLaws) (net : FlatNet) (t : NameTable) (p : Places) (order : List Read) (is : Premises net t p order) (env : ℕ → ℕ) (fits : FitsLeaves net env) where
+  -- the value of a node
+  pub node_value_at : (k : ℕ) (n : Node) → slice_get net.nodes k ≡ Some n → value_at net env (read.Node k) ≡ node_value net.leaves env (values net env) n
+  node_value_at k n at = ap (λ (o : Option BitVector). unwrap_or o no_value) (laws.nodes net env k n is.whole at)
 
-  read_has : (m : ℕ) → Known m → (r : Read) → CanRead net.leaves (take m net.nodes) r → HasWidth (value_at net env r) (read_width net.leaves (take m net.nodes) r)
-  read_has m known (read.Leaf k) can = leaf_has k can.0 can.1 (readable can.0.role can.2)
-  read_has m known (read.Node k) can =
-      let within = within_take m net.nodes k can in
-      let n = there net.nodes k within.1 in
-      let same : slice_get (take m net.nodes) k ≡ Some n.0 = get_take m net.nodes k within.0 ∙ n.1 in
-      rw same (known.each k n.0 within.0 n.1)
+  abbrev Has : Read → Type 0
+  Has r = IsVectorOf (value_at net env r) (read_width net.leaves net.nodes r)
 
-  abbrev value : Read → Num
-  value r = unsigned (value_at net env r)
+  abbrev Can : Read → Type 0
+  Can r = CanRead net.leaves net.nodes r → Has r
 
-  vectors : (m : ℕ) → Known m → (rs : List Read) → AllByRecursion (CanRead net.leaves (take m net.nodes)) rs → AllByRecursion (λ a. IsBitVector a.value) (map value rs)
-  vectors m known [] can = tt
-  vectors m known (r ∷ rs) can = ((read_has m known r can.0).vector, vectors m known rs can.1)
+  vectors : (rs : List Read) → AllByRecursion Has rs → AllByRecursion (λ a. IsBitVector a.value) (map (λ r. unsigned (value_at net env r)) rs)
+  vectors [] h = tt
+  vectors (r ∷ rs) h = (h.0.vector, vectors rs h.1)
 
-  types : (m : ℕ) → Known m → (rs : List Read) → AllByRecursion (CanRead net.leaves (take m net.nodes)) rs → map type_of (map value rs) ≡ map (read_type net.leaves (take m net.nodes)) rs
-  types m known [] can = refl
-  types m known (r ∷ rs) can = rw ((read_has m known r can.0).width, types m known rs can.1) refl
+  types : (rs : List Read) → AllByRecursion Has rs → map type_of (map (λ r. unsigned (value_at net env r)) rs) ≡ map (read_type net.leaves net.nodes) rs
+  types [] h = refl
+  types (r ∷ rs) h = rw (h.0.width, types rs h.1) refl
 
-  node_has : (m : ℕ) → Known m → (n : Node) → IsNode net.leaves (take m net.nodes) n → HasWidth (node_value net.leaves env (values net env) n) (node_width n)
-  node_has m known (node.Literal v) is = record { vector = is; width = refl }
-  node_has m known (node.Operation o) is =
-      let args = map value o.reads in
-      let t : typed o.op (map type_of args) o.integers ≡ Ok (record { signed = false; width = o.width }) = ap (λ (ts : List NumTy). typed o.op ts o.integers) (types m known o.reads is.reads) ∙ is.has_type in
+  operation_has : (o : Operation) → IsOperation net.leaves net.nodes o → AllByRecursion Has o.reads → IsVectorOf (node_value net.leaves env (values net env) (node.Operation o)) o.width
+  operation_has o whole has =
+      let args = map (λ r. unsigned (value_at net env r)) o.reads in
+      let t : typed o.op (map type_of args) o.integers ≡ Ok (record { signed = false; width = o.width }) = ap (λ (ts : List NumTy). typed o.op ts o.integers) (types o.reads has) ∙ whole.has_type in
       let r = IfOk-at_ok (λ (u : NumTy). IsBitVector (applied o.op args o.integers) × (type_of (outcome o.op args o.integers) ≡ u)) t
-      (law o.op args o.integers (All-from_recursion (λ (a : Num). IsBitVector a.value) args (vectors m known o.reads is.reads))) in
+      (laws.typing o.op args o.integers (All-from_recursion (λ (a : Num). IsBitVector a.value) args (vectors o.reads has))) in
       record { vector = r.0; width = ap (λ (u : NumTy). u.width) r.1 }
 
-  next : (m : ℕ) → Known m → Known (suc m)
-  next m known = record { each = each }
-    where
-      each : (k : ℕ) (n : Node) → k < suc m → slice_get net.nodes k ≡ Some n → HasWidth (value_at net env (read.Node k)) (node_width n)
-      each k n h e =
-          ⊎_elim
-          (λ (same : k ≡ m).
-          let at : slice_get net.nodes m ≡ Some n = subst (λ (i : ℕ). slice_get net.nodes i ≡ Some n) same e in
-          subst (λ (v : BitVector). HasWidth v (node_width n)) (sym (node_value_at net whole env k n e))
-          (node_has m known n (is_node_at net.leaves net.nodes [] whole.nodes m n at)))
-          (λ (less : k < m). known.each k n less e)
-          (eq-or-lt_of_le (let le : k ≤ m = omega arith in le))
+  node_has : (k : ℕ) (n : Node) → slice_get net.nodes k ≡ Some n → ((w : Read) → Reads net (read.Node k) w → Can w) → IsVectorOf (node_value net.leaves env (values net env) n) (node_width n)
+  node_has k (node.Literal v) at below = record { vector = node_at net t p order is k (node.Literal v) at; width = refl }
+  node_has k (node.Operation o) at below =
+      let whole = node_at net t p order is k (node.Operation o) at in
+      operation_has o whole (all_by_number Has o.reads (λ i w e. below w (record { place = i; is = rw at e }) (all_there (CanRead net.leaves net.nodes) o.reads whole.reads i w e)))
+  node_has k (node.Mux m) at below = absurd (is.writable.nodes k (node.Mux m) at)
 
-  all_known : (m : ℕ) → Known m
-  all_known zero = record { each = λ k n h e. absurd (omega arith) }
-  all_known (suc m) = next m (all_known m)
+  step : (v : Read) → IsOf net v → ((w : Read) → Reads net v w → Can w) → Can v
+  step (read.Leaf k) of below can =
+      let l = can.0 in
+      let width : leaf_width net.leaves k ≡ l.width = ap (λ (o : Option Leaf). unwrap_or (option_map (λ (x : Leaf). x.width) o) 0) can.1 in
+      let narrow = (leaf_at net t p order is k l can.1).narrow in
+      record { vector = record { narrow = rw width narrow; below = rw width (fits.each k l can.1 can.2) }; width = refl }
+  step (read.Node k) of below can =
+      let n = there net.nodes k of in
+      let has = node_has k n.0 n.1 below in
+      let width : read_width net.leaves net.nodes (read.Node k) ≡ node_width n.0 = ap (λ (o : Option Node). unwrap_or (option_map node_width o) 0) n.1 in
+      subst (IsVectorOf (value_at net env (read.Node k))) (sym width) (subst (λ (v : BitVector). IsVectorOf v (node_width n.0)) (sym (node_value_at k n.0 n.1)) has)
 
-  -- a node's value
-  pub node_vector : (k : ℕ) (n : Node) → slice_get net.nodes k ≡ Some n → HasWidth (value_at net env (read.Node k)) (node_width n)
-  node_vector k n e = (all_known (suc k)).each k n (omega arith) e
+  -- what can be read has a value of its width
+  pub read_has : (r : Read) → CanRead net.leaves net.nodes r → IsVectorOf (value_at net env r) (read_width net.leaves net.nodes r)
+  read_has r can = along_order net order is.ordered Can step r (read_of net r can) can
 
-  -- what can be read among the first nodes, and among all
-  pub read_vector : (m : ℕ) (r : Read) → CanRead net.leaves (take m net.nodes) r → HasWidth (value_at net env r) (read_width net.leaves (take m net.nodes) r)
-  read_vector m r can = read_has m (all_known m) r can
+  pub all_have : (rs : List Read) → AllByRecursion (CanRead net.leaves net.nodes) rs → AllByRecursion Has rs
+  all_have [] can = tt
+  all_have (r ∷ rs) can = (read_has r can.0, all_have rs can.1)
 
-  pub read_types : (m : ℕ) (rs : List Read) → AllByRecursion (CanRead net.leaves (take m net.nodes)) rs → map type_of (map (λ r. unsigned (value_at net env r)) rs) ≡ map (read_type net.leaves (take m net.nodes)) rs
-  read_types m rs can = types m (all_known m) rs can
-
-  -- what can be read among all nodes
-  pub any_vector : (r : Read) → CanRead net.leaves net.nodes r → IsBitVector (value_at net env r)
-  any_vector r can = (read_vector (length net.nodes) r (subst (λ (xs : List Node). CanRead net.leaves xs r) (sym (take-length net.nodes)) can)).vector
+  pub read_types : (rs : List Read) → AllByRecursion (CanRead net.leaves net.nodes) rs → map type_of (map (λ r. unsigned (value_at net env r)) rs) ≡ map (read_type net.leaves net.nodes) rs
+  read_types rs can = types rs (all_have rs can)

@@ -5,16 +5,17 @@ use Rattle.std.specs.Prelude.{slice_get}
 use Rattle.std.specs.Str.{bytes_eq}
 use Rattle.std.proofs.lemmas.Slice.Eq.{bytes_eq-Decides}
 use Rattle.fir_base.specs.Lists.{In}
-use Rattle.fir_base.specs.Ticks.{Env}
-use Rattle.fir_net.specs.declared.net.Leaf.{Leaf}
+use Rattle.fir_base.specs.Ticks.{Env, rises}
+use Rattle.fir_base.proofs.Members.{in_either}
+use Rattle.fir_net.specs.declared.leaf.Leaf.{Leaf}
 use Rattle.ver_ast.specs.declared.tree.Always.{Always}
 use Rattle.ver_ast.specs.Nets.{Sized}
 use Rattle.ver_ast.specs.Settled.{atom_value}
-use Rattle.ver_ast.specs.Next.{rises, written}
-use Rattle.ver_build.specs.Built.{name_at, along}
-use Rattle.ver_build.proofs.AtomValues.{choose}
-use Rattle.ver_build.proofs.Counts.{both}
-use Rattle.ver_build.proofs.InLists.{in_either}
+use Rattle.ver_ast.specs.Next.{written}
+use Rattle.ver_build.specs.working.Places.{name_at}
+use Rattle.ver_build.specs.working.Built.{along}
+use Rattle.std.proofs.lemmas.Bool.{cond_both}
+use Rattle.fir_base.proofs.Tests.{both}
 
 -- none of the blocks has that target
 pub record NoTarget (n : List ℕ) (bs : List Always) : Type 0 where
@@ -23,7 +24,7 @@ pub record NoTarget (n : List ℕ) (bs : List Always) : Type 0 where
 module _ (ns : List Sized) (f : Env) (named : List ℕ) (n : List ℕ) where
   other_target : (b : Always) (bs : List Always) → (b.target ≡ n → ⊥) → written ns f named (b ∷ bs) n ≡ written ns f named bs n
   other_target b bs other =
-      choose (bytes_eq b.target n && rises named (f b.clock)) (atom_value ns f b.source) (written ns f named bs n) (λ x. x ≡ written ns f named bs n)
+      cond_both (bytes_eq b.target n && rises named (f b.clock)) (atom_value ns f b.source) (written ns f named bs n) (λ x. x ≡ written ns f named bs n)
       (λ h. absurd (other ((bytes_eq-Decides b.target n).0 (both _ _ h).0))) (λ h. refl)
 
   behind : (b : Always) (bs : List Always) → NoTarget n (b ∷ bs) → NoTarget n bs

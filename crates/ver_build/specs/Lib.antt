@@ -1,6 +1,3 @@
 pub mod Ports
-pub mod Named
-pub mod Built
-pub mod Builds
-pub mod HeldView
-pub mod Laws
+pub mod NamedFor
+pub mod working

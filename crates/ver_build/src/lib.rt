@@ -1,7 +1,8 @@
-//! From a net to a Verilog tree. In comes a whole net; out comes a valid tree, named by the net's table of
-//! names, which allows at every tick what the net allows (`specs/`: Named, Built, Builds). Each operation
-//! has an inner net and an assign, each output an assign, and each driven register a block
-//! (IEEE 1364-2005, 6.1, 9.2.2, 12.1).
+//! From a net to a Verilog tree. In come a whole net and an order of its leaves and nodes; out comes a valid
+//! tree, named by the net's table of names, which allows at every tick what the net allows (`specs/`:
+//! NamedFor, Built, Builds). Each operation has an inner net and an assign, each output an assign, and each
+//! register that something drives on a clock a block (IEEE 1364-2005, 6.1, 9.2.2, 12.1). Wires have no net:
+//! what reads a wire reads what drives it, fitted to the wire's width (`Places`).
 #![tactic(auto)]
 
 mod atoms;
@@ -9,6 +10,9 @@ mod building;
 mod held;
 mod items;
 mod laws;
+mod leaf_places;
+mod node_places;
+mod places;
 mod right_sides;
 
 pub use building::build;

@@ -1,61 +1,119 @@
-//! A net, and the tree that was written by hand for it.
+//! Nets, and the trees that were written by hand for them.
 
 ghost use Rattle.std.specs.Prelude.{IfOk, OnOk, IsTrue};
 ghost use Rattle.std.specs.List.{AllByRecursion};
-ghost use Rattle.ver_ast.specs.Names.{is_word};
+ghost use Rattle.ver_words.specs.Names.{is_word};
+ghost use Rattle.fir_net.specs.Paths.{base_name};
 
 use crate::building::built_tree;
+use crate::places::places_of;
+use fir_ast::Place as SourcePlace;
 use fir_base::{Direction, MemoryOut, Name, Seq, put_decimal};
 use fir_bits::{Bits, PrimOp};
-use fir_net::{FlatNet, Leaf, Node, Operation, Read, Reads, Register, Role, names};
+use fir_net::{FlatNet, Leaf, LeafId, Node, NodeId, Operation, Read, Reads, Register, Role, names};
 use std::alloc::Global;
 use std::test::Fail;
-use ver_ast::{Atom, BinaryOp, Item, Net, Port, Primary, Rhs, Signal, UnaryOp, Verilog};
+use ver_ast::{Atom, BinaryOp, Item, Net, Port, Primary, Rhs, UnaryOp, Verilog};
+use ver_words::Signal;
 
-/// The name, width and role of each port.
-const PORTS: &[(u8, u32, Role)] = &[
-    (b'a', 4, Role::Input),
-    (b'c', 1, Role::Input),
-    (b'z', 0, Role::Input),
-    (b'k', 1, Role::Clock),
-    // Wider and narrower than what drives them, and driven by a literal and by no bits.
-    (b'o', 6, Role::Output(Read::Leaf(0))),
-    (b'p', 2, Role::Output(Read::Leaf(0))),
-    (b'q', 1, Role::Output(Read::Node(3))),
-    (b'r', 2, Role::Output(Read::Node(0))),
-    (b's', 3, Role::Output(Read::Leaf(2))),
-    (b'm', 1, Role::Clock),
-];
+/// What a leaf is driven by, by numbers.
+enum Kind {
+    Input,
+    Clock,
+    Output(Source),
+    Wire(Source),
+    /// A clock's leaf, and what drives the register.
+    Register(usize, Option<Source>),
+    ClockWire(Option<usize>),
+}
 
-/// The name, width, clock and driver of each register behind the ports.
-const REGISTERS: &[(u8, u32, usize, Option<Read>)] = &[
-    // Driven by an input, by another register on the other clock, and by nothing.
-    (b'u', 4, 3, Some(Read::Leaf(0))),
-    (b'v', 4, 9, Some(Read::Leaf(10))),
-    (b'w', 3, 3, None),
-    // Of no bits, and wider and narrower than what drives them.
-    (b'x', 0, 3, Some(Read::Leaf(0))),
-    (b'y', 6, 9, Some(Read::Leaf(0))),
-    (b'b', 2, 3, Some(Read::Node(3))),
-];
+/// The number of a leaf or of a node.
+enum Source {
+    L(usize),
+    N(usize),
+}
 
-/// The operation, width, operands and integers of each node behind the first, which is a literal.
-const OPERATIONS: &[(PrimOp, u32, &[Read], &[u128])] = &[
-    (PrimOp::And, 4, &[Read::Leaf(0), Read::Node(0)], &[]),
-    (PrimOp::Cat, 4, &[Read::Leaf(2), Read::Leaf(0)], &[]),
-    (PrimOp::Cat, 7, &[Read::Leaf(0), Read::Node(0)], &[]),
-    (PrimOp::Cat, 0, &[Read::Leaf(2), Read::Leaf(2)], &[]),
-    (PrimOp::Bits, 2, &[Read::Leaf(0)], &[2, 1]),
-    (PrimOp::Bits, 1, &[Read::Leaf(0)], &[3, 3]),
-    (PrimOp::Bits, 2, &[Read::Node(0)], &[2, 1]),
-    (PrimOp::Bits, 1, &[Read::Leaf(1)], &[0, 0]),
-    (PrimOp::Or, 4, &[Read::Leaf(0), Read::Leaf(1)], &[]),
-    (PrimOp::Not, 7, &[Read::Node(3)], &[]),
-    (PrimOp::Xor, 4, &[Read::Node(5), Read::Leaf(2)], &[]),
-    (PrimOp::And, 4, &[Read::Leaf(10), Read::Leaf(11)], &[]),
-];
+use Kind::{ClockWire, Output, Wire};
+use Source::{L, N};
 
-const TREE: &[u8] = b"t
+/// A net whose first node is a literal: the name, width and kind of each leaf; the operation, width, operands
+/// and integers of each node behind the first; and an order.
+struct Case {
+    leaves: &'static [(u8, u32, Kind)],
+    operations: &'static [(PrimOp, u32, &'static [Source], &'static [u128])],
+    order: &'static [Source],
+}
+
+const OPERANDS: Case = Case {
+    leaves: &[
+        (b'a', 4, Kind::Input),
+        (b'c', 1, Kind::Input),
+        (b'z', 0, Kind::Input),
+        (b'k', 1, Kind::Clock),
+        // Wider and narrower than what drives them, and driven by a literal and by no bits.
+        (b'o', 6, Output(L(0))),
+        (b'p', 2, Output(L(0))),
+        (b'q', 1, Output(N(3))),
+        (b'r', 2, Output(N(0))),
+        (b's', 3, Output(L(2))),
+        (b'm', 1, Kind::Clock),
+        // Driven by an input, by another register on the other clock, and by nothing.
+        (b'u', 4, Kind::Register(3, Some(L(0)))),
+        (b'v', 4, Kind::Register(9, Some(L(10)))),
+        (b'w', 3, Kind::Register(3, None)),
+        // Of no bits, and wider and narrower than what drives them.
+        (b'x', 0, Kind::Register(3, Some(L(0)))),
+        (b'y', 6, Kind::Register(9, Some(L(0)))),
+        (b'b', 2, Kind::Register(3, Some(N(3)))),
+    ],
+    operations: &[
+        (PrimOp::And, 4, &[L(0), N(0)], &[]),
+        (PrimOp::Cat, 4, &[L(2), L(0)], &[]),
+        (PrimOp::Cat, 7, &[L(0), N(0)], &[]),
+        (PrimOp::Cat, 0, &[L(2), L(2)], &[]),
+        (PrimOp::Bits, 2, &[L(0)], &[2, 1]),
+        (PrimOp::Bits, 1, &[L(0)], &[3, 3]),
+        (PrimOp::Bits, 2, &[N(0)], &[2, 1]),
+        (PrimOp::Bits, 1, &[L(1)], &[0, 0]),
+        (PrimOp::Or, 4, &[L(0), L(1)], &[]),
+        (PrimOp::Not, 7, &[N(3)], &[]),
+        (PrimOp::Xor, 4, &[N(5), L(2)], &[]),
+        (PrimOp::And, 4, &[L(10), L(11)], &[]),
+    ],
+    order: &[
+        L(0),
+        L(1),
+        L(2),
+        L(3),
+        L(9),
+        L(10),
+        L(11),
+        L(12),
+        L(13),
+        L(14),
+        L(15),
+        N(0),
+        N(1),
+        N(2),
+        N(3),
+        N(4),
+        N(5),
+        N(6),
+        N(7),
+        N(8),
+        N(9),
+        N(10),
+        N(11),
+        N(12),
+        L(4),
+        L(5),
+        L(6),
+        L(7),
+        L(8),
+    ],
+};
+
+const OPERANDS_TREE: &[u8] = b"t
 input 4 a
 input 1 c
 input clock k
@@ -103,51 +161,159 @@ s = 3'0
 @k b <= _n2[1:0]
 ";
 
+const WIRES: Case = Case {
+    leaves: &[
+        (b'a', 4, Kind::Input),
+        (b'k', 1, Kind::Clock),
+        // Read by another output and by an operation.
+        (b'o', 4, Output(L(5))),
+        (b'p', 8, Output(N(2))),
+        (b'q', 3, Output(L(2))),
+        // Wider than what drives it, then narrower, and wider again.
+        (b'd', 6, Wire(L(0))),
+        (b'e', 2, Wire(L(5))),
+        (b'f', 5, Wire(L(6))),
+        (b'g', 7, Wire(N(1))),
+        (b'i', 1, ClockWire(Some(10))),
+        (b'j', 1, ClockWire(Some(1))),
+        (b'l', 1, ClockWire(None)),
+        (b'u', 4, Kind::Register(9, Some(L(7)))),
+        // On no clock.
+        (b'v', 2, Kind::Register(11, Some(L(0)))),
+    ],
+    operations: &[
+        (PrimOp::Cat, 7, &[L(6), L(7)], &[]),
+        (PrimOp::Cat, 8, &[L(5), L(6)], &[]),
+        // Of a net and zeros above it, of zeros alone, and of a net alone.
+        (PrimOp::Bits, 3, &[L(5)], &[5, 3]),
+        (PrimOp::Bits, 3, &[L(7)], &[4, 2]),
+        (PrimOp::Bits, 1, &[L(6)], &[1, 1]),
+        (PrimOp::And, 4, &[L(2), N(3)], &[]),
+        (PrimOp::Bits, 7, &[L(8)], &[6, 0]),
+    ],
+    order: &[
+        L(0),
+        L(1),
+        L(10),
+        L(9),
+        L(11),
+        L(12),
+        L(13),
+        L(5),
+        N(3),
+        L(6),
+        L(7),
+        N(0),
+        N(4),
+        N(5),
+        N(2),
+        L(2),
+        L(4),
+        N(6),
+        N(1),
+        L(8),
+        N(7),
+        L(3),
+    ],
+};
+
+const WIRES_TREE: &[u8] = b"t
+input 4 a
+input clock k
+output 4 o
+output 8 p
+output 3 q
+reg 4 u
+reg 2 v
+wire 3 _n0
+wire 3 _n1
+wire 1 _n2
+wire 8 _n3
+wire 4 _n4
+wire 7 _n5
+wire 7 _n6
+_n0 = {2'0, a[3]}
+_n1 = 3'0
+_n2 = a[1]
+_n3 = {2'0, a, a[1:0]}
+_n4 = a & {1'0, _n0}
+_n5 = {a[1:0], 3'0, a[1:0]}
+_n6 = _n5[6:0]
+o = a
+p = _n3
+q = a[2:0]
+@k u <= {2'0, a[1:0]}
+";
+
 #[test]
 fn operands_take_the_width_of_their_operation(rt: HostRuntime) -> Result<(), Fail> {
-    let net = FlatNet {
-        name: letter(rt.alloc(), b't')?,
-        leaves: Seq::from_vec(leaves(rt.alloc())?),
-        nodes: Seq::from_vec(nodes(rt.alloc())?),
-    };
-    let table = names(rt.alloc(), &net)?;
-    let tree = built_tree(rt.alloc(), &net, &table)?;
-    assert_eq!(rt; lines_of(rt.alloc(), &tree)?.as_slice(), TREE);
+    let lines = lines_of(rt.alloc(), &OPERANDS)?;
+    assert_eq!(rt; lines.as_slice(), OPERANDS_TREE);
     Ok(())
 }
 
-fn leaves(alloc: Global) -> Result<Vec<Leaf>, MemoryOut>
-    ensures { IfOk result (λ v. AllByRecursion (λ l. IsTrue (is_word l.name)) v.items) }
+#[test]
+fn wires_have_no_net(rt: HostRuntime) -> Result<(), Fail> {
+    let lines = lines_of(rt.alloc(), &WIRES)?;
+    assert_eq!(rt; lines.as_slice(), WIRES_TREE);
+    Ok(())
+}
+
+/// The tree of a net, as lines.
+fn lines_of(alloc: Global, case: &Case) -> Result<Vec<u8>, MemoryOut> {
+    let net = FlatNet {
+        name: letter(alloc, b't')?,
+        leaves: Seq::from_vec(leaves(alloc, case)?),
+        nodes: Seq::from_vec(nodes(alloc, case)?),
+    };
+    let order = order_of(alloc, case)?;
+    let table = names(alloc, &net)?;
+    let places = places_of(alloc, &net, &table, order.as_slice())?;
+    let tree = built_tree(alloc, &net, &table, &places, order.as_slice())?;
+    tree_lines(alloc, &tree)
+}
+
+fn leaves(alloc: Global, case: &Case) -> Result<Vec<Leaf>, MemoryOut>
+    ensures { IfOk result (λ v. AllByRecursion (λ l. IsTrue (is_word (base_name l.path))) v.items) }
 {
     let mut leaves = Vec::new(alloc);
-    for &(name, width, role) in PORTS {
-        put_leaf(alloc, &mut leaves, name, width, role)?;
-    }
-    for &(name, width, clock, next) in REGISTERS {
-        let role = Role::Register(Register { clock, next });
-        put_leaf(alloc, &mut leaves, name, width, role)?;
+    for (name, width, kind) in case.leaves {
+        leaves.push(Leaf {
+            path: letter(alloc, *name)?,
+            place: SourcePlace { line: 1, col: 1 },
+            width: *width,
+            role: role_of(kind),
+        })?;
     }
     Ok(leaves)
 }
 
-fn put_leaf(
-    alloc: Global,
-    leaves: &mut Vec<Leaf>,
-    name: u8,
-    width: u32,
-    role: Role,
-) -> Result<(), MemoryOut>
-    requires { AllByRecursion (λ l. IsTrue (is_word l.name)) leaves.old.items }
-    ensures { OnOk result (AllByRecursion (λ l. IsTrue (is_word l.name)) leaves.new.items) }
-{
-    let name = letter(alloc, name)?;
-    leaves.push(Leaf { name, width, role })?;
-    Ok(())
+fn role_of(kind: &Kind) -> Role {
+    match kind {
+        Kind::Input => Role::Input,
+        Kind::Clock => Role::Clock,
+        Kind::Output(source) => Role::Output(read_of(source)),
+        Kind::Wire(source) => Role::Wire(read_of(source)),
+        Kind::Register(clock, next) => Role::Register(Register {
+            clock: LeafId::new(*clock),
+            reset: None,
+            next: next.as_ref().map(|source| read_of(source)),
+        }),
+        Kind::ClockWire(driver) => Role::ClockWire(driver.map(|leaf| LeafId::new(leaf))),
+    }
+}
+
+fn read_of(source: &Source) -> Read {
+    match source {
+        L(k) => Read::Leaf(LeafId::new(*k)),
+        N(k) => Read::Node(NodeId::new(*k)),
+    }
 }
 
 /// The name of a small letter alone. Anything else is refused.
 fn letter(alloc: Global, byte: u8) -> Result<Name, MemoryOut>
-    ensures { IfOk result (λ n. IsTrue (is_word n)) }
+    ensures word { IfOk result (λ n. IsTrue (is_word n)) }
+    ensures base { IfOk result (λ n. IsTrue (is_word (base_name n))) }
 {
     if b'a' <= byte && byte <= b'z' {
         Name::new(alloc, &[byte])
@@ -156,26 +322,34 @@ fn letter(alloc: Global, byte: u8) -> Result<Name, MemoryOut>
     }
 }
 
-fn nodes(alloc: Global) -> Result<Vec<Node>, MemoryOut> {
+fn nodes(alloc: Global, case: &Case) -> Result<Vec<Node>, MemoryOut> {
     let mut nodes = Vec::new(alloc);
     nodes.push(Node::Literal(Bits::of(3, 5)))?;
-    for &(op, width, operands, integers) in OPERATIONS {
+    for (op, width, operands, integers) in case.operations {
         let mut reads = Reads::new(alloc);
-        for read in operands {
-            reads.push(*read)?;
+        for source in *operands {
+            reads.push(read_of(source))?;
         }
         nodes.push(Node::Operation(Operation {
-            op,
+            op: *op,
             reads,
             integers: Seq::from_vec(Vec::from_slice(alloc, integers)?),
-            width,
+            width: *width,
         }))?;
     }
     Ok(nodes)
 }
 
+fn order_of(alloc: Global, case: &Case) -> Result<Vec<Read>, MemoryOut> {
+    let mut order = Vec::new(alloc);
+    for source in case.order {
+        order.push(read_of(source))?;
+    }
+    Ok(order)
+}
+
 /// The name, and a line for each port and each item.
-fn lines_of(alloc: Global, tree: &Verilog) -> Result<Vec<u8>, MemoryOut> {
+fn tree_lines(alloc: Global, tree: &Verilog) -> Result<Vec<u8>, MemoryOut> {
     let mut out = Vec::from_slice(alloc, tree.name.as_bytes())?;
     put(&mut out, b"\n")?;
     for port in tree.ports.as_slice() {

@@ -4,12 +4,12 @@ use Rattle.std.specs.Prelude.{codes, decimal, nat_le, nat_lt}
 use Rattle.std.specs.Fmt.{digit_glyph}
 use Rattle.std.proofs.lemmas.Bool.{cases_lt}
 use Rattle.std.proofs.lemmas.Bool.Decides.{nat_tests}
-use Rattle.ver_ast.specs.Names.{is_digit, is_word_byte}
+use Rattle.fir_base.specs.Bytes.{is_digit, is_word_byte}
 use Rattle.ver_ast.specs.Tokens.{Token, constant, hexadecimal, in_number, at_digits, in_constant, digit_in, begin, tokens_from, tokens}
-use Rattle.ver_emit.specs.Layout as layout
+use Rattle.fir_base.specs.Digits as digits
 use Rattle.ver_emit.proofs.Words.{ClosesWord, closed_behind}
 use Rattle.ver_emit.proofs.Numbers.{number_read}
-use Rattle.ver_emit.proofs.HexDigits.{hexadecimal_by_steps}
+use Rattle.fir_base.proofs.Digits.{hexadecimal_by_steps}
 
 -- behind the base, the digits are read as this number, whatever stands behind them
 abbrev ReadsAs : ℕ → List ℕ → Type 0
@@ -73,7 +73,7 @@ unfolding tokens_from
 quote_read w rest ts e = rw e refl
 
 -- a constant before what closes it
-pub constant_spelled : (w n : ℕ) (rest : List ℕ) (ts : List Token) → 1 ≤ w → w ≤ 128 → n < 2 ^ 128 → ClosesWord rest → tokens rest ≡ Some ts → tokens (decimal w ++ (codes "'h" ++ (layout.hexadecimal n ++ rest))) ≡ Some (constant w n ∷ ts)
+pub constant_spelled : (w n : ℕ) (rest : List ℕ) (ts : List Token) → 1 ≤ w → w ≤ 128 → n < 2 ^ 128 → ClosesWord rest → tokens rest ≡ Some ts → tokens (decimal w ++ (codes "'h" ++ (digits.hexadecimal n ++ rest))) ≡ Some (constant w n ∷ ts)
 constant_spelled w n rest ts low high small c e =
-    let digits = hexadecimal_by_steps ReadsAs one_digit more_digits n small w rest _ (close_constant w n rest ts c e) in
-    number_read w _ _ low (omega arith) (quote_read w _ _ digits)
+    let read = hexadecimal_by_steps ReadsAs one_digit more_digits n small w rest _ (close_constant w n rest ts c e) in
+    number_read w _ _ low (omega arith) (quote_read w _ _ read)

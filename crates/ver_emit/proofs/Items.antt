@@ -14,9 +14,9 @@ use Rattle.ver_ast.specs.declared.tree.BinaryOp.TheVariants.{And, Or, Xor}
 use Rattle.ver_ast.specs.declared.tree.Net.{Net}
 use Rattle.ver_ast.specs.declared.tree.Assign.{Assign}
 use Rattle.ver_ast.specs.declared.tree.Always.{Always}
-use Rattle.ver_ast.specs.Names.{IsName}
+use Rattle.ver_words.specs.Names.{IsName}
 use Rattle.ver_ast.specs.Spells.{primaries, atom_names, rhs_atoms, rhs_names, HasItemNames}
-use Rattle.ver_ast.specs.Valid.{IsSound, FitsWidth, HasOneWidth}
+use Rattle.ver_ast.specs.Valid.{IsSound, HasWidth, HasOneWidth}
 use Rattle.ver_ast.specs.Nets.{Sized, item_net, item_assign, item_block}
 use Rattle.ver_ast.specs.Tokens.{Token, word, sign, double, between, begin, tokens_from, tokens}
 use Rattle.ver_ast.specs.Grammar.{range_tokens, atom_tokens, unary_sign, binary_sign, rhs_tokens, item_tokens}
@@ -24,7 +24,8 @@ use Rattle.ver_emit.specs.Layout.{range_text, atom_text, rhs_text, item_text}
 use Rattle.ver_emit.proofs.Grouping.{four_joined}
 use Rattle.ver_emit.proofs.Words.{ClosesWord, word_spelled, sign_spelled}
 use Rattle.ver_emit.proofs.Numbers.{range_spelled}
-use Rattle.ver_emit.proofs.Primaries.{all_front, all_rest, atom_spelled}
+use Rattle.fir_base.proofs.Each.{all_left, all_right}
+use Rattle.ver_emit.proofs.Primaries.{atom_spelled}
 use Rattle.ver_emit.proofs.Narrow.{AllNarrow, narrow_first, narrow_others}
 
 -- the end of an item
@@ -44,13 +45,13 @@ binary_sign_spelled Or rest ts e = rw e refl
 binary_sign_spelled Xor rest ts e = rw e refl
 
 -- a right side before what closes it
-rhs_spelled : (nets : List Sized) (w : ℕ) (r : Rhs) (rest : List ℕ) (ts : List Token) → AllNarrow nets → AllByRecursion (FitsWidth nets w) (rhs_atoms r) → AllByRecursion IsName (rhs_names r) → ClosesWord rest → tokens rest ≡ Some ts → tokens (rhs_text r ++ rest) ≡ Some (rhs_tokens r ++ ts)
-rhs_spelled nets w (rhs.Atom a) rest ts narrow fits named c e = atom_spelled nets a rest ts narrow fits.0.sound (all_front _ (atom_names a) [] named) c e
+rhs_spelled : (nets : List Sized) (w : ℕ) (r : Rhs) (rest : List ℕ) (ts : List Token) → AllNarrow nets → AllByRecursion (HasWidth nets w) (rhs_atoms r) → AllByRecursion IsName (rhs_names r) → ClosesWord rest → tokens rest ≡ Some ts → tokens (rhs_text r ++ rest) ≡ Some (rhs_tokens r ++ ts)
+rhs_spelled nets w (rhs.Atom a) rest ts narrow fits named c e = atom_spelled nets a rest ts narrow fits.0.sound (all_left _ (atom_names a) [] named) c e
 rhs_spelled nets w (rhs.Unary op a) rest ts narrow fits named c e =
-    sign_spelled (unary_sign op) _ _ (unary_sign_begins op) (atom_spelled nets a rest ts narrow fits.0.sound (all_front _ (atom_names a) [] named) c e)
+    sign_spelled (unary_sign op) _ _ (unary_sign_begins op) (atom_spelled nets a rest ts narrow fits.0.sound (all_left _ (atom_names a) [] named) c e)
 rhs_spelled nets w (rhs.Binary a op b) rest ts narrow fits named c e =
-    let right = atom_spelled nets b rest ts narrow fits.1.0.sound (all_front _ (atom_names b) [] (all_rest _ (atom_names a) _ named)) c e in
-    let left = atom_spelled nets a _ _ narrow fits.0.sound (all_front _ (atom_names a) _ named) refl (binary_sign_spelled op _ _ right) in
+    let right = atom_spelled nets b rest ts narrow fits.1.0.sound (all_left _ (atom_names b) [] (all_right _ (atom_names a) _ named)) c e in
+    let left = atom_spelled nets a _ _ narrow fits.0.sound (all_left _ (atom_names a) _ named) refl (binary_sign_spelled op _ _ right) in
     let grouped : rhs_text (rhs.Binary a op b) ++ rest ≡ atom_text a ++ (32 ∷ binary_sign op ∷ 32 ∷ (atom_text b ++ rest)) = simp append_assoc in
     ap tokens grouped ∙ left ∙ ap Some (sym (append_assoc (atom_tokens a) (sign (binary_sign op) ∷ atom_tokens b) ts))
 

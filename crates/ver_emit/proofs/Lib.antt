@@ -1,6 +1,5 @@
 pub mod Grouping
 pub mod Words
-pub mod HexDigits
 pub mod Numbers
 pub mod Constants
 pub mod Narrow

@@ -2,32 +2,22 @@
 use Rattle.std.proofs.Common.{ℕ, ◌≤◌, List, [], ◌∷◌, ◌++◌, true, false, if◌then◌else◌, inl, inr, refl, arith}
 use Rattle.std.specs.Str.{bytes_eq}
 use Rattle.fir_base.specs.Lists.{In}
-use Rattle.ver_ast.specs.declared.tree.Signal.{Signal}
-use Rattle.ver_ast.specs.declared.tree.Signal.TheVariants.{Bits, Clock}
+use Rattle.fir_base.proofs.Members.{in_left, in_right}
+use Rattle.ver_words.specs.declared.signal.Signal.{Signal}
+use Rattle.ver_words.specs.declared.signal.Signal.TheVariants.{Bits, Clock}
 use Rattle.ver_ast.specs.Nets.{Sized, signal_net, width_in}
 
 -- in the form of a valid tree's promise
 abbrev pub AllNarrow : List Sized → Type 0
 AllNarrow nets = (n : List ℕ) (w : ℕ) → In nets (n, w) → (1 ≤ w) × (w ≤ 128)
 
--- what is in a front is in the whole
-in_front : (xs ys : List Sized) (x : Sized) → In xs x → In (xs ++ ys) x
-in_front [] ys x i = absurd i
-in_front (z ∷ zs) ys x (inl e) = inl e
-in_front (z ∷ zs) ys x (inr i) = inr (in_front zs ys x i)
-
--- and so is what is in the rest
-in_rest : (xs ys : List Sized) (x : Sized) → In ys x → In (xs ++ ys) x
-in_rest [] ys x i = i
-in_rest (z ∷ zs) ys x i = inr (in_rest zs ys x i)
-
 -- the nets of a front
 pub narrow_front : (xs ys : List Sized) → AllNarrow (xs ++ ys) → AllNarrow xs
-narrow_front xs ys h n w i = h n w (in_front xs ys (n, w) i)
+narrow_front xs ys h n w i = h n w (in_left xs ys (n, w) i)
 
 -- the nets of the rest
 pub narrow_rest : (xs ys : List Sized) → AllNarrow (xs ++ ys) → AllNarrow ys
-narrow_rest xs ys h n w i = h n w (in_rest xs ys (n, w) i)
+narrow_rest xs ys h n w i = h n w (in_right xs ys (n, w) i)
 
 -- the first net
 pub narrow_first : (n : List ℕ) (w : ℕ) (nets : List Sized) → AllNarrow ((n, w) ∷ nets) → (1 ≤ w) × (w ≤ 128)

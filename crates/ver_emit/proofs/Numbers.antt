@@ -3,7 +3,7 @@ use Rattle.std.proofs.Common.{◌≡◌, ℕ, zero, suc, ◌+◌, ◌-◌, ◌*�
 use Rattle.std.specs.Prelude.{codes, decimal, nat_eq}
 use Rattle.std.proofs.lemmas.Fmt.{decimal_by_steps, decimal_digit}
 use Rattle.std.proofs.lemmas.Bool.Decides.{nat_tests}
-use Rattle.ver_ast.specs.Names.{is_digit, is_word_start}
+use Rattle.fir_base.specs.Bytes.{is_digit, is_word_start}
 use Rattle.ver_ast.specs.Tokens.{Token, number, digit_zero, sign, in_number, number_token, begin, close_and_begin, step, go_on, tokens_from, tokens}
 use Rattle.ver_ast.specs.Grammar.{range_tokens, select_number}
 use Rattle.ver_emit.specs.Layout.{range_text}

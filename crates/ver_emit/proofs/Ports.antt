@@ -5,9 +5,9 @@ use Rattle.std.specs.List.{AllByRecursion}
 use Rattle.fir_base.specs.declared.direction.Direction.{Direction}
 use Rattle.fir_base.specs.declared.direction.Direction.TheVariants.{Input, Output}
 use Rattle.ver_ast.specs.declared.tree.Port.{Port}
-use Rattle.ver_ast.specs.declared.tree.Signal.{Signal}
-use Rattle.ver_ast.specs.declared.tree.Signal.TheVariants.{Bits, Clock}
-use Rattle.ver_ast.specs.Names.{IsName}
+use Rattle.ver_words.specs.declared.signal.Signal.{Signal}
+use Rattle.ver_words.specs.declared.signal.Signal.TheVariants.{Bits, Clock}
+use Rattle.ver_words.specs.Names.{IsName}
 use Rattle.ver_ast.specs.Nets.{port_net}
 use Rattle.ver_ast.specs.Tokens.{Token, word, sign, double, tokens_from, tokens}
 use Rattle.ver_ast.specs.Grammar.{direction_word, signal_tokens, port_tokens, next_port_tokens, ports_tokens}

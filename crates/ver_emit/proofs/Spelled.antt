@@ -34,7 +34,7 @@ unfolding layout
 layout_tokens v valid named =
     let narrow_items = narrow_rest (port_nets v) (flat_map item_net v.items) valid.narrow in
     let narrow_ports = narrow_front (port_nets v) (flat_map item_net v.items) valid.narrow in
-    let items = items_spelled v.items (nets v) _ _ narrow_items valid.narrow valid.fitting (λ b i. (valid.sound_blocks b i).fitting.sound) named.of_items end_spelled in
+    let items = items_spelled v.items (nets v) _ _ narrow_items valid.narrow valid.one_width (λ b i. (valid.sound_blocks b i).wide.sound) named.of_items end_spelled in
     let ports = ports_spelled v.ports _ _ narrow_ports named.of_ports (close_spelled _ _ items) in
     let name = word_spelled v.name _ _ named.of_module.spelled refl (parenthesis_spelled _ _ (ports_open_no_mark v.ports _) ports) in
     let grouped : layout v ≡ codes "module " ++ (v.name ++ (40 ∷ (ports_text v.ports ++ (codes ");\n" ++ (flat_map item_text v.items ++ codes "endmodule\n"))))) = simp append_assoc in

@@ -1,8 +1,10 @@
 -- Words and signs in a text: bytes of a word go on with it, and any other byte closes it.
-use Rattle.std.proofs.Common.{◌≡◌, ℕ, List, [], ◌∷◌, ◌++◌, Bool, true, false, ◌&&◌, Option, Some, None, refl, sym, ap, ◌∙◌, append_assoc, append-nil}
+use Rattle.std.proofs.Common.{◌≡◌, ℕ, List, [], ◌∷◌, ◌++◌, true, false, Option, Some, None, refl, sym, ap, ◌∙◌, append_assoc, append-nil}
 use Rattle.std.specs.Prelude.{IsTrue, option_map}
 use Rattle.std.specs.List.{list_all}
-use Rattle.ver_ast.specs.Names.{is_word, is_word_start, is_word_byte}
+use Rattle.std.proofs.lemmas.Bool.{and_parts}
+use Rattle.ver_words.specs.Names.{is_word}
+use Rattle.fir_base.specs.Bytes.{is_word_start, is_word_byte}
 use Rattle.ver_ast.specs.Tokens.{Token, word, Pending, between, in_word, in_sign, sign, Step, is_double, go_on, begin, tokens_from, tokens}
 
 -- a text that begins with a byte which goes on with no word
@@ -10,17 +12,12 @@ abbrev pub ClosesWord : List ℕ → Type 0
 ClosesWord [] = ⊥
 ClosesWord (b ∷ bs) = is_word_byte b ≡ false
 
--- a test of two parts
-both_true : (a b : Bool) → (a && b) ≡ true → (a ≡ true) × (b ≡ true)
-both_true true b h = (refl, h)
-both_true false b h = absurd cc
-
 -- the bytes of a word go on with the pending one
 word_run : (w begun rest : List ℕ) (ts : List Token) → list_all is_word_byte w ≡ true → tokens_from (in_word (begun ++ w)) rest ≡ Some ts → tokens_from (in_word begun) (w ++ rest) ≡ Some ts
 unfolding tokens_from
 word_run [] begun rest ts h e = ap (λ p. tokens_from (in_word p) rest) (sym (append-nil begun)) ∙ e
 word_run (b ∷ bs) begun rest ts h e =
-    let p = both_true (is_word_byte b) (list_all is_word_byte bs) h in
+    let p = and_parts (is_word_byte b) (list_all is_word_byte bs) h in
     let go : tokens_from (in_word (begun ++ b ∷ [])) (bs ++ rest) ≡ Some ts = word_run bs (begun ++ b ∷ []) rest ts p.1 (ap (λ q. tokens_from (in_word q) rest) (append_assoc begun (b ∷ []) bs) ∙ e) in
     rw (p.0, go) refl
 
@@ -45,7 +42,7 @@ pub word_spelled : (w rest : List ℕ) (ts : List Token) → IsTrue (is_word w) 
 unfolding tokens_from
 word_spelled [] rest ts h c e = absurd cc
 word_spelled (b ∷ bs) rest ts h c e =
-    let p = both_true (is_word_start b) (list_all is_word_byte bs) h in
+    let p = and_parts (is_word_start b) (list_all is_word_byte bs) h in
     let run : tokens_from (in_word (b ∷ [])) (bs ++ rest) ≡ Some (word (b ∷ bs) ∷ ts) = word_run bs (b ∷ []) rest _ p.1 (close_word (b ∷ bs) rest ts c e) in
     rw (p.0, run) refl
 

@@ -1,13 +1,13 @@
 -- The layout of the emitted text, as a function of the tree.
 -- A port a line with two spaces, then an item a line with two spaces; single spaces between words and behind each comma of a concatenation, none
 -- inside a range, a select or a constant, or before a semicolon.
-use Rattle.std.specs.Prelude.{ℕ, ◌-◌, List, [], ◌∷◌, ◌++◌, flat_map, codes, decimal, false, nat_eq, if◌then◌else◌}
-use Rattle.std.specs.Fmt.{digits}
+use Rattle.std.specs.Prelude.{ℕ, ◌-◌, List, [], ◌∷◌, ◌++◌, flat_map, codes, decimal, nat_eq, if◌then◌else◌}
 use Rattle.ver_ast.specs.declared.tree.Verilog.{Verilog}
+use Rattle.fir_base.specs.Digits.{hexadecimal}
 use Rattle.fir_base.specs.declared.direction.Direction.{Direction}
 use Rattle.ver_ast.specs.declared.tree.Port.{Port}
-use Rattle.ver_ast.specs.declared.tree.Signal.{Signal}
-use Rattle.ver_ast.specs.declared.tree.Signal.TheVariants.{Bits, Clock}
+use Rattle.ver_words.specs.declared.signal.Signal.{Signal}
+use Rattle.ver_words.specs.declared.signal.Signal.TheVariants.{Bits, Clock}
 use Rattle.ver_ast.specs.declared.tree.Item.{Item}
 use Rattle.ver_ast.specs.declared.tree.Item.TheVariants as item
 use Rattle.ver_ast.specs.declared.tree.Rhs.{Rhs}
@@ -37,10 +37,6 @@ next_port_text p = codes "," ++ port_text p
 abbrev pub ports_text : List Port → List ℕ
 ports_text [] = []
 ports_text (p ∷ ps) = port_text p ++ flat_map next_port_text ps ++ codes "\n"
-
--- as few digits as the number has, with letters in lower case
-abbrev pub hexadecimal : ℕ → List ℕ
-hexadecimal n = digits 16 false n
 
 abbrev pub primary_text : Primary → List ℕ
 primary_text (primary.Net n) = n

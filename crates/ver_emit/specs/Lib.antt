@@ -1,4 +1,4 @@
 pub mod Layout
-pub mod Laws
+pub mod working
 pub use Rattle.ver_ast.specs.Spells
 pub use Rattle.ver_ast.specs.Valid

@@ -1,7 +1,7 @@
 //! Items.
 
-ghost use Rattle.std.specs.Prelude.{◌≡◌, ◌++◌, OnOk, flat_map};
-ghost use Rattle.ver_emit.specs.Layout.{item_text};
+ghost use Rattle.std.specs.Prelude.{◌≡◌, ◌++◌, OnOk, codes, flat_map};
+ghost use Rattle.ver_emit.specs.Layout.{item_text, range_text};
 
 use crate::atom::put_atom;
 use crate::range::put_range;
@@ -23,27 +23,18 @@ fn put_item(out: &mut Vec<u8>, item: &Item) -> Result<(), MemoryOut>
     ensures { OnOk result (out.new.items ≡ out.old.items ++ item_text item.now) }
 {
     match item {
-        Item::Wire(net) => put_wire(out, net),
-        Item::Reg(net) => put_reg(out, net),
+        Item::Wire(net) => put_net(out, b"  wire ", net),
+        Item::Reg(net) => put_net(out, b"  reg ", net),
         Item::Assign(assign) => put_assign(out, assign),
         Item::Always(always) => put_always(out, always),
     }
 }
 
-fn put_wire(out: &mut Vec<u8>, net: &Net) -> Result<(), MemoryOut>
-    ensures { OnOk result (out.new.items ≡ out.old.items ++ item_text (Item.Wire net.now)) }
+/// A net behind the word that declares it.
+fn put_net(out: &mut Vec<u8>, word: &[u8], net: &Net) -> Result<(), MemoryOut>
+    ensures { OnOk result (out.new.items ≡ out.old.items ++ (word.now ++ range_text net.now.width ++ net.now.name ++ codes ";\n")) }
 {
-    out.extend_from_slice(b"  wire ")?;
-    put_range(out, net.width)?;
-    out.extend_from_slice(net.name.as_bytes())?;
-    out.extend_from_slice(b";\n")?;
-    Ok(())
-}
-
-fn put_reg(out: &mut Vec<u8>, net: &Net) -> Result<(), MemoryOut>
-    ensures { OnOk result (out.new.items ≡ out.old.items ++ item_text (Item.Reg net.now)) }
-{
-    out.extend_from_slice(b"  reg ")?;
+    out.extend_from_slice(word)?;
     put_range(out, net.width)?;
     out.extend_from_slice(net.name.as_bytes())?;
     out.extend_from_slice(b";\n")?;

@@ -3,7 +3,6 @@
 #![tactic(auto)]
 
 mod atom;
-mod hexadecimal;
 mod item;
 mod laws;
 mod primary;

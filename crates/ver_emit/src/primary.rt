@@ -3,8 +3,7 @@
 ghost use Rattle.std.specs.Prelude.{◌≡◌, ◌++◌, OnOk};
 ghost use Rattle.ver_emit.specs.Layout.{primary_text};
 
-use crate::hexadecimal::put_hexadecimal;
-use fir_base::{MemoryOut, Name, put_decimal};
+use fir_base::{MemoryOut, Name, put_decimal, put_hexadecimal};
 use ver_ast::Primary;
 
 /// Appends a primary.

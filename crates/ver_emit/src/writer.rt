@@ -8,7 +8,8 @@ use crate::item::put_items;
 use crate::range::put_range;
 use fir_base::{Direction, MemoryOut};
 use std::alloc::Global;
-use ver_ast::{Port, Signal, Verilog};
+use ver_ast::{Port, Verilog};
+use ver_words::Signal;
 
 /// The text of a module, without a comment (IEEE 1364-2005, 12.1). Only memory can be wanting.
 #[tactic(auto, unfolding(crate::specs::Layout::layout))]

@@ -2,27 +2,22 @@
 
 ghost use Rattle.std.specs.Prelude.{◌≡◌, map, option_map};
 ghost use Rattle.fir_ast.specs.View.{expr_of, expressions_of, sink_of};
-ghost use Rattle.fir_ast.specs.Expressions.{literal};
-ghost use Rattle.fir_meaning.specs.Language.{counts, has_counts, is_unsigned};
-ghost use Rattle.fir_driver.specs.Lacked.{lack_of};
-ghost use Rattle.fir_driver.specs.Lacking.{lacking_expression, lacking_operands, lacking_part, literal_word};
+ghost use Rattle.fir_meaning.specs.Lacking.{is_operation, is_unsigned, lacking_expression, lacking_literal, lacking_operands, lacking_part, literal_word};
+ghost use Rattle.fir_driver.specs.working.Lacked.{lack_of};
 
 use super::{Lack, told};
-use crate::spot::Spot;
 use fir_ast::{Expr, Literal, Part, Reference};
 use fir_bits::PrimOp;
-use fir_check::operator_word;
 
 /// The first part of the reference.
 pub fn lacking_part(reference: &Reference) -> Option<Lack<'_>>
-    ensures { option_map lack_of result ≡ lacking_part (sink_of reference.now).place (sink_of reference.now).parts }
+    ensures { option_map lack_of result ≡ lacking_part (sink_of reference.now).parts }
 {
     match reference.parts.as_slice() {
         [] => None,
-        [Part::Field(_, _), ..] => told(Spot::Behind(reference.place, 1), b"."),
-        [Part::Index(_, _), ..] | [Part::Access(_), ..] => {
-            told(Spot::Behind(reference.place, 1), b"[")
-        }
+        [Part::Field(place, _, _), ..] => told(*place, b"."),
+        [Part::Index(place, _, _), ..] => told(*place, b"["),
+        [Part::Access(place, _), ..] => told(*place, b"["),
     }
 }
 
@@ -39,50 +34,20 @@ fn literal_word(literal: Literal) -> &'static [u8]
 }
 
 fn lacking_literal(this: Literal) -> Option<Lack<'static>>
-    ensures { option_map lack_of result ≡ lacking_expression (literal this) }
+    ensures { option_map lack_of result ≡ lacking_literal this }
 {
     if is_unsigned(this) {
         None
     } else {
-        told(Spot::At(this.place), literal_word(this))
+        told(this.place, literal_word(this))
     }
 }
 
-/// Whether the language has the operation, and with so many operands and integers.
-fn has_counts(op: PrimOp, operands: usize, integers: usize) -> bool
-    ensures { result ≡ has_counts (counts op) operands integers }
+/// Whether the language has the operation, with so many operands and integers.
+fn is_operation(op: PrimOp, operands: usize, integers: usize) -> bool
+    ensures { result ≡ is_operation op operands integers }
 {
-    match op {
-        PrimOp::Not => operands == 1 && integers == 0,
-        PrimOp::And | PrimOp::Or | PrimOp::Xor | PrimOp::Cat => operands == 2 && integers == 0,
-        PrimOp::Bits => operands == 1 && integers == 2,
-        PrimOp::Add
-        | PrimOp::Sub
-        | PrimOp::Mul
-        | PrimOp::Div
-        | PrimOp::Rem
-        | PrimOp::Lt
-        | PrimOp::Leq
-        | PrimOp::Gt
-        | PrimOp::Geq
-        | PrimOp::Eq
-        | PrimOp::Neq
-        | PrimOp::Pad
-        | PrimOp::Shl
-        | PrimOp::Shr
-        | PrimOp::Dshl
-        | PrimOp::Dshr
-        | PrimOp::Cvt
-        | PrimOp::Neg
-        | PrimOp::Andr
-        | PrimOp::Orr
-        | PrimOp::Xorr
-        | PrimOp::Head
-        | PrimOp::Tail
-        | PrimOp::AsUInt
-        | PrimOp::AsSInt
-        | PrimOp::AsAsyncReset => false,
-    }
+    op.is_taken() && op.form().has_counts(operands, integers)
 }
 
 #[cycle(expressions)]
@@ -93,14 +58,14 @@ pub fn lacking_expression(expr: &Expr) -> Option<Lack<'_>>
         Expr::Ref(reference) => lacking_part(reference),
         Expr::Literal(literal) => lacking_literal(*literal),
         Expr::Op(place, op, operands, integers) => {
-            if has_counts(*op, operands.len(), integers.len()) {
+            if is_operation(*op, operands.len(), integers.len()) {
                 lacking_operands(operands)
             } else {
-                told(Spot::At(*place), operator_word(*op))
+                told(*place, op.word())
             }
         }
-        Expr::Mux(place, _, _, _) => told(Spot::At(*place), b"mux"),
-        Expr::Validif(place, _, _) => told(Spot::At(*place), b"validif"),
+        Expr::Mux(place, _, _, _) => told(*place, b"mux"),
+        Expr::Validif(place, _, _) => told(*place, b"validif"),
     }
 }
 

@@ -1,41 +1,37 @@
-//! Which types the language has, and how the others begin (FIRRTL spec, "Types").
+//! Which types a port and a register may have so far (FIRRTL spec, "Types").
 
-ghost use Rattle.std.specs.Prelude.{◌≡◌};
+ghost use Rattle.std.specs.Prelude.{◌≡◌, option_map};
 ghost use Rattle.fir_ast.specs.View.{type_of};
-ghost use Rattle.fir_meaning.specs.Language.{is_port_type, is_register_type};
-ghost use Rattle.fir_driver.specs.Lacking.{type_word};
+ghost use Rattle.fir_meaning.specs.Lacking.{lacking_port_type, lacking_type, type_word};
+ghost use Rattle.fir_driver.specs.working.Lacked.{lack_of};
 
-use fir_ast::Ty;
+use super::{Lack, told};
+use fir_ast::{Place, Ty};
 use fir_base::Direction;
 
-/// Whether a port of the direction may have the type.
-pub fn is_port_type(direction: Direction, ty: &Ty) -> bool
-    ensures { result ≡ is_port_type direction (type_of ty.now) }
+/// The type of a port of the direction, which begins at the place.
+pub fn lacking_port_type(direction: Direction, place: Place, ty: &Ty) -> Option<Lack<'static>>
+    ensures { option_map lack_of result ≡ lacking_port_type direction place (type_of ty.now) }
 {
-    match ty {
-        Ty::UInt(width) => width.is_some(),
-        Ty::Clock => match direction {
-            Direction::Input => true,
-            Direction::Output => false,
-        },
-        Ty::SInt(_) | Ty::Reset | Ty::AsyncReset | Ty::Bundle(_) | Ty::Vector(_, _) => false,
+    match (direction, ty) {
+        (Direction::Input, Ty::Clock) => None,
+        _ => lacking_type(place, ty),
     }
 }
 
-/// Whether a register may have the type.
-pub fn is_register_type(ty: &Ty) -> bool
-    ensures { result ≡ is_register_type (type_of ty.now) }
+/// The type of a register, which begins at the place.
+pub fn lacking_type(place: Place, ty: &Ty) -> Option<Lack<'static>>
+    ensures { option_map lack_of result ≡ lacking_type place (type_of ty.now) }
 {
     match ty {
-        Ty::UInt(width) => width.is_some(),
-        Ty::SInt(_) | Ty::Clock | Ty::Reset | Ty::AsyncReset | Ty::Bundle(_) | Ty::Vector(_, _) =>
-            false,
+        Ty::UInt(Some(_)) => None,
+        _ => told(place, type_word(ty)),
     }
 }
 
 /// The first token of a type.
 #[cycle(type_word)]
-pub fn type_word(ty: &Ty) -> &'static [u8]
+fn type_word(ty: &Ty) -> &'static [u8]
     ensures { result.now ≡ type_word (type_of ty.now) }
 {
     match ty {

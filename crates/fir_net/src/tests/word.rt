@@ -1,10 +1,13 @@
-//! Words for tests: what is no word is refused.
+//! Words and paths for tests: what is none is refused.
 
 ghost use Rattle.std.specs.Prelude.{◌≡◌, IfOk, IsTrue};
 ghost use Rattle.std.specs.List.{list_all};
-ghost use Rattle.ver_ast.specs.Names.{is_word_start, is_word_byte, is_word};
+ghost use Rattle.ver_words.specs.Names.{is_word};
+ghost use Rattle.fir_base.specs.Bytes.{is_word_byte};
+ghost use Rattle.fir_net.specs.Paths.{base_name};
 
-use fir_base::{MemoryOut, Name};
+use crate::base_name::base_name;
+use fir_base::{MemoryOut, Name, is_word_byte, is_word_start};
 use std::alloc::Global;
 
 pub fn word(alloc: Global, bytes: &[u8]) -> Result<Name, MemoryOut>
@@ -14,6 +17,17 @@ pub fn word(alloc: Global, bytes: &[u8]) -> Result<Name, MemoryOut>
         return Err(MemoryOut);
     }
     Name::new(alloc, bytes)
+}
+
+pub fn path(alloc: Global, bytes: &[u8]) -> Result<Name, MemoryOut>
+    ensures { IfOk result (λ n. IsTrue (is_word (base_name n))) }
+{
+    let path = Name::new(alloc, bytes)?;
+    let base = base_name(alloc, &path)?;
+    if !is_word(base.as_bytes()) {
+        return Err(MemoryOut);
+    }
+    Ok(path)
 }
 
 fn is_word(bytes: &[u8]) -> bool
@@ -29,16 +43,4 @@ fn are_word_bytes(bytes: &[u8]) -> bool
     ensures { result ≡ list_all is_word_byte bytes.now }
 {
     bytes.iter().all(|byte| is_word_byte(*byte))
-}
-
-fn is_word_start(byte: u8) -> bool
-    ensures { result ≡ is_word_start byte }
-{
-    ((b'a' <= byte && byte <= b'z') || (b'A' <= byte && byte <= b'Z')) || byte == b'_'
-}
-
-fn is_word_byte(byte: u8) -> bool
-    ensures { result ≡ is_word_byte byte }
-{
-    is_word_start(byte) || ((b'0' <= byte && byte <= b'9') || byte == b'$')
 }

@@ -1,11 +1,10 @@
-//! A tree in a short form, for comparison: names and expressions with their places, as `a@3:5`.
+//! A tree in a short form, for comparison: all that has a place with it, as `a@3:5`.
 
 use fir_ast::{
     Circuit, Expr, Ident, Literal, Memory, MemoryField, Module, Part, Place, Port, ReadUnderWrite,
     Reference, Register, Stmt, Ty, When,
 };
 use fir_base::{Direction, MemoryOut, put_decimal};
-use fir_bits::PrimOp;
 
 type Put = Result<(), MemoryOut>;
 
@@ -20,6 +19,7 @@ fn put_place(out: &mut Vec<u8>, place: Place) -> Put {
     put_decimal(out, u128::from(place.col))
 }
 
+/// Appends what a form begins with, and where it stands.
 fn put_named(out: &mut Vec<u8>, name: &[u8], place: Place) -> Put {
     put(out, name)?;
     put(out, b"@")?;
@@ -44,6 +44,7 @@ pub fn put_circuit(out: &mut Vec<u8>, circuit: &Circuit) -> Put {
 }
 
 fn put_module(out: &mut Vec<u8>, module: &Module) -> Put {
+    put_first(out, module.place, b"")?;
     put_ident(out, &module.ident)?;
     put(out, b"(")?;
     for (i, port) in module.ports.iter().enumerate() {
@@ -63,8 +64,16 @@ fn put_port(out: &mut Vec<u8>, port: &Port) -> Put {
         Direction::Output => put(out, b"output ")?,
     }
     put_ident(out, &port.ident)?;
+    put_typed(out, port.type_place, &port.ty)
+}
+
+/// Appends the type behind a name, and where it stands.
+#[cycle(short_types)]
+fn put_typed(out: &mut Vec<u8>, place: Place, ty: &Ty) -> Put {
     put(out, b":")?;
-    put_ty(out, &port.ty)
+    put_ty(out, ty)?;
+    put(out, b"@")?;
+    put_place(out, place)
 }
 
 #[cycle(short_types)]
@@ -85,8 +94,7 @@ fn put_ty(out: &mut Vec<u8>, ty: &Ty) -> Put {
                     put(out, b"~")?;
                 }
                 put_named(out, field.name.as_bytes(), field.place)?;
-                put(out, b":")?;
-                put_ty(out, &field.ty)?;
+                put_typed(out, field.type_place, &field.ty)?;
             }
             put(out, b"}")
         }
@@ -131,7 +139,7 @@ fn put_expr(out: &mut Vec<u8>, expr: &Expr) -> Put {
         Expr::Ref(reference) => put_reference(out, reference),
         Expr::Literal(literal) => put_literal(out, literal),
         Expr::Op(place, op, operands, integers) => {
-            put_named(out, word_of(*op), *place)?;
+            put_named(out, op.word(), *place)?;
             put(out, b"(")?;
             put_operands(out, operands)?;
             for integer in integers {
@@ -184,59 +192,25 @@ fn put_reference(out: &mut Vec<u8>, reference: &Reference) -> Put {
 #[cycle(short_expressions)]
 fn put_part(out: &mut Vec<u8>, part: &Part) -> Put {
     match part {
-        Part::Field(place, name) => {
-            put(out, b".")?;
-            put_named(out, name.as_bytes(), *place)
+        Part::Field(place, name_place, name) => {
+            put_named(out, b".", *place)?;
+            put(out, b" ")?;
+            put_named(out, name.as_bytes(), *name_place)
         }
-        Part::Index(place, index) => {
-            put(out, b"[")?;
+        Part::Index(place, index_place, index) => {
+            put_named(out, b"[", *place)?;
+            put(out, b" ")?;
             put_decimal(out, *index)?;
             put(out, b"@")?;
-            put_place(out, *place)?;
+            put_place(out, *index_place)?;
             put(out, b"]")
         }
-        Part::Access(index) => {
-            put(out, b"[")?;
+        Part::Access(place, index) => {
+            put_named(out, b"[", *place)?;
+            put(out, b" ")?;
             put_expr(out, index)?;
             put(out, b"]")
         }
-    }
-}
-
-fn word_of(op: PrimOp) -> &'static [u8] {
-    match op {
-        PrimOp::Add => b"add",
-        PrimOp::Sub => b"sub",
-        PrimOp::Mul => b"mul",
-        PrimOp::Div => b"div",
-        PrimOp::Rem => b"rem",
-        PrimOp::Lt => b"lt",
-        PrimOp::Leq => b"leq",
-        PrimOp::Gt => b"gt",
-        PrimOp::Geq => b"geq",
-        PrimOp::Eq => b"eq",
-        PrimOp::Neq => b"neq",
-        PrimOp::Pad => b"pad",
-        PrimOp::Shl => b"shl",
-        PrimOp::Shr => b"shr",
-        PrimOp::Dshl => b"dshl",
-        PrimOp::Dshr => b"dshr",
-        PrimOp::Cvt => b"cvt",
-        PrimOp::Neg => b"neg",
-        PrimOp::Not => b"not",
-        PrimOp::And => b"and",
-        PrimOp::Or => b"or",
-        PrimOp::Xor => b"xor",
-        PrimOp::Andr => b"andr",
-        PrimOp::Orr => b"orr",
-        PrimOp::Xorr => b"xorr",
-        PrimOp::Cat => b"cat",
-        PrimOp::Bits => b"bits",
-        PrimOp::Head => b"head",
-        PrimOp::Tail => b"tail",
-        PrimOp::AsUInt => b"asUInt",
-        PrimOp::AsSInt => b"asSInt",
-        PrimOp::AsAsyncReset => b"asAsyncReset",
     }
 }
 
@@ -254,11 +228,10 @@ fn put_block(out: &mut Vec<u8>, block: &[Stmt]) -> Put {
 #[cycle(short_statements)]
 fn put_statement(out: &mut Vec<u8>, statement: &Stmt) -> Put {
     match statement {
-        Stmt::Wire(place, ident, ty) => {
+        Stmt::Wire(place, ident, type_place, ty) => {
             put_first(out, *place, b"wire ")?;
             put_ident(out, ident)?;
-            put(out, b":")?;
-            put_ty(out, ty)
+            put_typed(out, *type_place, ty)
         }
         Stmt::Reg(place, register) => {
             put_first(out, *place, b"reg ")?;
@@ -324,12 +297,13 @@ fn put_when(out: &mut Vec<u8>, place: Place, when: &When) -> Put {
 
 fn put_register(out: &mut Vec<u8>, register: &Register) -> Put {
     put_ident(out, &register.ident)?;
-    put(out, b":")?;
-    put_ty(out, &register.ty)?;
+    put_typed(out, register.type_place, &register.ty)?;
     put(out, b",")?;
     put_expr(out, &register.clock)?;
     if let Some(reset) = &register.reset {
-        put(out, b",reset(")?;
+        put(out, b",")?;
+        put_named(out, b"reset", reset.place)?;
+        put(out, b"(")?;
         put_expr(out, &reset.condition)?;
         put(out, b",")?;
         put_expr(out, &reset.init)?;
@@ -352,9 +326,9 @@ fn put_memory(out: &mut Vec<u8>, memory: &Memory) -> Put {
 
 fn put_field(out: &mut Vec<u8>, field: &MemoryField) -> Put {
     match field {
-        MemoryField::DataType(place, ty) => {
-            put_first(out, *place, b"data-type ")?;
-            put_ty(out, ty)
+        MemoryField::DataType(place, type_place, ty) => {
+            put_first(out, *place, b"data-type")?;
+            put_typed(out, *type_place, ty)
         }
         MemoryField::Depth(place, number) => put_number(out, *place, b"depth ", *number),
         MemoryField::ReadLatency(place, number) => put_number(

@@ -30,98 +30,26 @@ struct Row {
     ends: u64,
 }
 
-const NONE: &[u128] = &[0, 0, 0, 0];
-
 const ROWS: &[Row] = &[
     Row {
-        trace: (b"init r c\n0 5\n0 3\n- f", 0, b""),
-        state: &[12, 0, 0, 0],
-        begins: 9,
-        ticks: &[(&[0], 5), (&[0], 3), (&[], 15)],
-        bad: None,
-        ends: 20,
-    },
-    Row {
-        trace: (b"init r 1\ninit s ff\ninit r 2\ninit m 1 7\n0 0\n", 0, b""),
+        trace: (
+            b"init r 1\ninit s ff\ninit r 2\ninit m 00001 7\n0 0",
+            0,
+            b"",
+        ),
         state: &[2, 255, 0, 7],
-        begins: 39,
+        begins: 43,
         ticks: &[(&[0], 0)],
         bad: None,
-        ends: 43,
+        ends: 46,
     },
     Row {
-        trace: (b"init r 1\ninit r 0", 0, b""),
-        state: NONE,
-        begins: 17,
-        ticks: &[],
-        bad: None,
-        ends: 17,
-    },
-    Row {
-        trace: (b"", 0, b""),
-        state: NONE,
-        begins: 0,
-        ticks: &[],
-        bad: None,
-        ends: 0,
-    },
-    Row {
-        trace: (b"\n\n# init r 1\n\n", 0, b""),
-        state: NONE,
-        begins: 14,
-        ticks: &[],
-        bad: None,
-        ends: 14,
-    },
-    Row {
-        trace: (b"\ninit r 1\n#\n\n0,1 a\n\n#x\n1 b\n#", 0, b""),
-        state: &[1, 0, 0, 0],
-        begins: 13,
+        trace: (b"\ninit m 0 1\n#\n\n0,1 a\n\n#x\n1 b\n#", 0, b""),
+        state: &[0, 0, 1, 0],
+        begins: 15,
         ticks: &[(&[0, 1], 10), (&[1], 11)],
         bad: None,
-        ends: 28,
-    },
-    // lines of the greatest length and beyond
-    Row {
-        trace: (b"", 4096, b"\n0 5"),
-        state: NONE,
-        begins: 4097,
-        ticks: &[(&[0], 5)],
-        bad: None,
-        ends: 4100,
-    },
-    Row {
-        trace: (b"0 5\n", 4096, b""),
-        state: NONE,
-        begins: 0,
-        ticks: &[(&[0], 5)],
-        bad: None,
-        ends: 4100,
-    },
-    Row {
-        trace: (b"", 4097, b"\n0 5"),
-        state: NONE,
-        begins: 0,
-        ticks: &[],
-        bad: Some((1, 0, Cause::Long)),
-        ends: 0,
-    },
-    Row {
-        trace: (b"init r 3\n\n0 5\n", 4097, b""),
-        state: &[3, 0, 0, 0],
-        begins: 10,
-        ticks: &[(&[0], 5)],
-        bad: Some((4, 14, Cause::Long)),
-        ends: 14,
-    },
-    // faults
-    Row {
-        trace: (b"0 5\ninit r 1\n0 6\n", 0, b""),
-        state: NONE,
-        begins: 0,
-        ticks: &[(&[0], 5)],
-        bad: Some((2, 4, Cause::Misspelled(1))),
-        ends: 4,
+        ends: 30,
     },
     Row {
         trace: (b"init r 1\n\n0 5\n# x\n0 10\n- f\n", 0, b""),
@@ -132,60 +60,28 @@ const ROWS: &[Row] = &[
         ends: 18,
     },
     Row {
-        trace: (b"0 5\n 0 5", 0, b""),
-        state: NONE,
-        begins: 0,
+        trace: (b"init r 3\n\n0 5\n", 4097, b""),
+        state: &[3, 0, 0, 0],
+        begins: 10,
         ticks: &[(&[0], 5)],
-        bad: Some((2, 4, Cause::Count(3, 2))),
-        ends: 4,
-    },
-    Row {
-        trace: (b"- 0\n2 5", 0, b""),
-        state: NONE,
-        begins: 0,
-        ticks: &[(&[], 0)],
-        bad: Some((2, 4, Cause::Absent(0, 1))),
-        ends: 4,
-    },
-    Row {
-        trace: (b"inits 0", 0, b""),
-        state: NONE,
-        begins: 0,
-        ticks: &[],
-        bad: Some((1, 0, Cause::Misspelled(1))),
-        ends: 0,
-    },
-    Row {
-        trace: (b"\r\n0 5", 0, b""),
-        state: NONE,
-        begins: 0,
-        ticks: &[],
-        bad: Some((1, 0, Cause::Count(1, 2))),
-        ends: 0,
-    },
-    Row {
-        trace: (b"# x\r\n0 5\r\n", 0, b""),
-        state: NONE,
-        begins: 5,
-        ticks: &[],
-        bad: Some((2, 5, Cause::Misspelled(2))),
-        ends: 5,
+        bad: Some((4, 14, Cause::Long)),
+        ends: 14,
     },
 ];
 
-/// Traces with a bad init line.
+/// Traces with a bad init line; where an array and an address may stand, and where none.
 const BAD: &[(Trace, FaultRow)] = &[
-    ((b"init", 0, b""), (1, 0, Cause::Count(1, 3))),
-    ((b"init r 10\n0 5", 0, b""), (1, 0, Cause::Wide(3, 4))),
-    ((b"init r c\r\n", 0, b""), (1, 0, Cause::Misspelled(3))),
-    (
-        (b"\n# x\ninit r 1\ninit q 1\n", 0, b""),
-        (4, 14, Cause::Absent(5, 1)),
-    ),
     ((b"init r 1\ninit m 0", 0, b""), (2, 9, Cause::Absent(5, 1))),
-    ((b"init m 2 0", 0, b""), (1, 0, Cause::Absent(7, 1))),
+    ((b"init r 0 0", 0, b""), (1, 0, Cause::Absent(5, 1))),
+    ((b"init m 2 100", 0, b""), (1, 0, Cause::Absent(7, 1))),
+    (
+        (b"init m 18446744073709551616 0", 0, b""),
+        (1, 0, Cause::Absent(7, 20)),
+    ),
+    ((b"init m 1 100", 0, b""), (1, 0, Cause::Wide(4, 8))),
+    ((b"init m a g", 0, b""), (1, 0, Cause::Misspelled(3))),
+    ((b"init m 2 g", 0, b""), (1, 0, Cause::Misspelled(4))),
     ((b"#\ninit r 0", 4097, b""), (2, 2, Cause::Long)),
-    ((b"init r 10\ninit q 1", 0, b""), (1, 0, Cause::Wide(3, 4))),
 ];
 
 fn fault_of(row: &FaultRow) -> TraceFault {
@@ -247,7 +143,7 @@ fn check_ticks(
 }
 
 #[test]
-fn traces_are_read(rt: HostRuntime) -> Result<(), Fail> {
+fn a_trace_gives_its_state_and_its_ticks(rt: HostRuntime) -> Result<(), Fail> {
     let alloc = rt.alloc();
     let shape = shape(alloc)?.expect(&rt, "a shape");
     for row in ROWS {
@@ -260,7 +156,7 @@ fn traces_are_read(rt: HostRuntime) -> Result<(), Fail> {
 }
 
 #[test]
-fn bad_init_lines_are_told(rt: HostRuntime) -> Result<(), Fail> {
+fn a_bad_init_line_is_told_with_its_place(rt: HostRuntime) -> Result<(), Fail> {
     let alloc = rt.alloc();
     let shape = shape(alloc)?.expect(&rt, "a shape");
     for (pieces, bad) in BAD {

@@ -1,5 +1,5 @@
 use Rattle.std.proofs.Common.{◌≡◌, ◌++◌, map, take}
-use Rattle.fir_ast.specs.BundleText.{bundle_text, field_of}
+use Rattle.fir_ast.specs.working.BundleText.{bundle_text, field_of}
 use Rattle.fir_ast.specs.View.{fields_of}
 use Rattle.fir_ast.proofs.type_text.+type_text.Given as goal
 

@@ -1,5 +1,5 @@
 use Rattle.std.proofs.Common.{◌≡◌, map, take}
-use Rattle.fir_ast.specs.BundleText.{field_of}
+use Rattle.fir_ast.specs.working.BundleText.{field_of}
 use Rattle.fir_ast.proofs.types.+copy.Given as goal
 
 abbrev pub invariant-copy_fields-loop-field : goal.invariant-copy_fields-loop-field

@@ -30,4 +30,4 @@ returns-in_err-tell-5 c =
     rw (p.1, p.2) (checks_fault (Unit {0}) (circuit_of c.args.c.now) c.in_ok-first_by-4.field-0 _ c.in_err-tell-5.ensures (λ f some. in_legality _ _ _ _ _ _ f (sym c.in_ok-tell.ensures ∙ c.in_ok-first_by.ensures) (sym c.in_ok-tell-2.ensures ∙ c.in_ok-main_fault.ensures) (sym c.in_ok-tell-3.ensures ∙ c.in_ok-first_by-2.ensures) (sym c.in_ok-tell-4.ensures ∙ c.in_ok-first_by-3.ensures) (some ∙ c.in_ok-first_by-4.ensures)))
 
 pub returns : goal.returns
-returns c = checks_last (circuit_of c.args.c.now) c.in_ok-first_undriven.field-0 c.tell-6.result c.tell-6.ensures (c.in_ok-first_undriven.ensures ∙ in_driven _ _ _ _ _ _ (sym c.in_ok-tell.ensures ∙ c.in_ok-first_by.ensures) (sym c.in_ok-tell-2.ensures ∙ c.in_ok-main_fault.ensures) (sym c.in_ok-tell-3.ensures ∙ c.in_ok-first_by-2.ensures) (sym c.in_ok-tell-4.ensures ∙ c.in_ok-first_by-3.ensures) (sym c.in_ok-tell-5.ensures ∙ c.in_ok-first_by-4.ensures))
+returns c = checks_last (circuit_of c.args.c.now) c.in_ok-undriven_fault.field-0 c.tell-6.result c.tell-6.ensures (c.in_ok-undriven_fault.ensures ∙ in_driven _ _ _ _ _ _ (sym c.in_ok-tell.ensures ∙ c.in_ok-first_by.ensures) (sym c.in_ok-tell-2.ensures ∙ c.in_ok-main_fault.ensures) (sym c.in_ok-tell-3.ensures ∙ c.in_ok-first_by-2.ensures) (sym c.in_ok-tell-4.ensures ∙ c.in_ok-first_by-3.ensures) (sym c.in_ok-tell-5.ensures ∙ c.in_ok-first_by-4.ensures))

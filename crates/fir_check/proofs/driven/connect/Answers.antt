@@ -4,7 +4,7 @@ use Rattle.std.specs.Cmp.Lexicographic.{slice_cmp}
 use Rattle.std.specs.Ordering.{nat_cmp}
 use Rattle.std.specs.Str.{bytes_eq}
 use Rattle.fir_ast.specs.View.{stmt_of}
-use Rattle.fir_check.proofs.TreeViews.{connect_view, sink_name}
+use Rattle.fir_ast.proofs.TreeViews.{connect_view, sink_name}
 use Rattle.fir_check.proofs.DrivenOutputs.{inserted}
 use Rattle.fir_check.proofs.driven.connect.Goals as goal
 

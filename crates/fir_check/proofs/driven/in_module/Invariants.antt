@@ -1,6 +1,6 @@
 use Rattle.std.proofs.Common.{◌≡◌, map, drop}
 use Rattle.fir_ast.specs.View.{block_of, stmt_of, port_of}
-use Rattle.fir_check.specs.Firsts.{first_of}
+use Rattle.fir_check.specs.working.Firsts.{first_of}
 use Rattle.fir_check.proofs.DrivenOutputs.{undriven_among}
 use Rattle.fir_check.proofs.driven.in_module.Given as goal
 

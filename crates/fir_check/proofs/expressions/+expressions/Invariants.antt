@@ -2,9 +2,9 @@ use Rattle.std.proofs.Common.{◌≡◌, ◌++◌, map, take}
 use Rattle.fir_ast.specs.View.{expr_of, expressions_of}
 use Rattle.fir_meaning.specs.Scopes.{Scope, types_of_each}
 use Rattle.fir_meaning.specs.FaultRules.{within_each}
-use Rattle.fir_check.specs.Firsts.{first_of}
-use Rattle.fir_check.specs.Groups.{expression_rule}
-use Rattle.fir_check.specs.Tabulated.{Tabulates}
+use Rattle.fir_check.specs.working.Firsts.{first_of}
+use Rattle.fir_check.specs.working.Groups.{expression_rule}
+use Rattle.fir_check.specs.working.Tabulated.{Tabulates}
 use Rattle.fir_check.proofs.expressions.+expressions.Given as goal
 
 abbrev pub invariant-walk_each-loop-operand : goal.invariant-walk_each-loop-operand

@@ -1,8 +1,8 @@
 use Rattle.std.proofs.Common.{◌≡◌, map, drop, flat_map}
 use Rattle.fir_ast.specs.View.{module_of}
 use Rattle.fir_meaning.specs.FaultRules.{faults_by}
-use Rattle.fir_check.specs.Firsts.{first_of}
-use Rattle.fir_check.specs.Groups.{rule_of}
+use Rattle.fir_check.specs.working.Firsts.{first_of}
+use Rattle.fir_check.specs.working.Groups.{rule_of}
 use Rattle.fir_check.proofs.module.first_by.Given as goal
 
 abbrev pub invariant-loop-m : goal.invariant-loop-m

@@ -1,6 +1,6 @@
 use Rattle.std.proofs.Common.{◌∙◌, ◌+◌, map, drop, sym, ap}
 use Rattle.fir_ast.specs.View.{block_of, stmt_of}
-use Rattle.fir_check.specs.Groups.{rule_of}
+use Rattle.fir_check.specs.working.Groups.{rule_of}
 use Rattle.fir_check.proofs.FirstFaults.{views_left}
 use Rattle.fir_check.proofs.WalkedModules.{body_found, body_next}
 use Rattle.fir_check.proofs.module.in_body.Goals as goal

@@ -1,8 +1,8 @@
 use Rattle.std.proofs.Common.{map, drop}
 use Rattle.fir_ast.specs.View.{block_of, stmt_of}
 use Rattle.fir_meaning.specs.Scopes.{Scope}
-use Rattle.fir_check.specs.Groups.{rule_of}
-use Rattle.fir_check.specs.Tabulated.{Tabulates}
+use Rattle.fir_check.specs.working.Groups.{rule_of}
+use Rattle.fir_check.specs.working.Tabulated.{Tabulates}
 use Rattle.fir_check.proofs.WalkedModules.{AtBody}
 use Rattle.fir_check.proofs.module.in_body.Given as goal
 

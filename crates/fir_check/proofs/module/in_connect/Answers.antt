@@ -2,8 +2,8 @@ use Rattle.std.proofs.Common.{◌∙◌, ap, sym}
 use Rattle.std.specs.Option.{option_or}
 use Rattle.fir_ast.specs.View.{expr_of, sink_of}
 use Rattle.fir_meaning.specs.FaultRules.{within}
-use Rattle.fir_check.specs.Firsts.{first_of}
-use Rattle.fir_check.specs.Groups.{connect_faults, expression_rule}
+use Rattle.fir_check.specs.working.Firsts.{first_of}
+use Rattle.fir_check.specs.working.Groups.{connect_faults, expression_rule}
 use Rattle.fir_check.proofs.FirstFaults.{first_append}
 use Rattle.fir_check.proofs.module.in_connect.Goals as goal
 

@@ -4,8 +4,8 @@ use Rattle.fir_bits.specs.Forms.{first_type}
 use Rattle.fir_ast.specs.View.{expr_of, named_of}
 use Rattle.fir_meaning.specs.Scopes.{types}
 use Rattle.fir_meaning.specs.FaultRules.{within}
-use Rattle.fir_check.specs.Firsts.{first_of}
-use Rattle.fir_check.specs.Groups.{declaration_faults, expression_rule}
+use Rattle.fir_check.specs.working.Firsts.{first_of}
+use Rattle.fir_check.specs.working.Groups.{declaration_faults, expression_rule}
 use Rattle.fir_check.proofs.FirstFaults.{first_append}
 use Rattle.fir_check.proofs.module.in_node.Goals as goal
 

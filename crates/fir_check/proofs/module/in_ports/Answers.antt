@@ -1,6 +1,6 @@
 use Rattle.std.proofs.Common.{◌+◌, ◌∙◌, map, drop, sym}
 use Rattle.fir_ast.specs.View.{port_of}
-use Rattle.fir_check.specs.Groups.{rule_of}
+use Rattle.fir_check.specs.working.Groups.{rule_of}
 use Rattle.fir_check.proofs.FirstFaults.{views_left}
 use Rattle.fir_check.proofs.WalkedModules.{ports_found, ports_next}
 use Rattle.fir_check.proofs.module.in_ports.Goals as goal

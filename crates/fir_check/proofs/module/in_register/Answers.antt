@@ -2,8 +2,8 @@ use Rattle.std.proofs.Common.{◌∙◌, ap, sym}
 use Rattle.std.specs.Option.{option_or}
 use Rattle.fir_ast.specs.View.{expr_of, named_of, type_of}
 use Rattle.fir_meaning.specs.Scopes.{Declared, written_type}
-use Rattle.fir_check.specs.Firsts.{first_of}
-use Rattle.fir_check.specs.Groups.{declaration_faults, clock_faults}
+use Rattle.fir_check.specs.working.Firsts.{first_of}
+use Rattle.fir_check.specs.working.Groups.{declaration_faults, clock_faults}
 use Rattle.fir_check.proofs.FirstFaults.{first_append}
 use Rattle.fir_check.proofs.module.in_register.Goals as goal
 

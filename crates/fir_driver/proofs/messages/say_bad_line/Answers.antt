@@ -1,4 +1,4 @@
-use Rattle.std.proofs.Common.{inl, inr, ap, ◌∙◌, ◌++◌}
+use Rattle.std.proofs.Common.{inl, ap, ◌∙◌, ◌++◌}
 use Rattle.trace_text.specs.FaultTexts.{fault_text}
 use Rattle.fir_driver.proofs.messages.say_bad_line.Goals as goal
 

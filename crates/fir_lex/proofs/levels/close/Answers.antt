@@ -1,5 +1,5 @@
 use Rattle.std.proofs.Common.{◌∙◌, arith}
-use Rattle.fir_lex.specs.Steps.{tokens_in}
+use Rattle.fir_lex.specs.working.Steps.{tokens_in}
 use Rattle.fir_lex.proofs.Moves.{close_more}
 use Rattle.fir_lex.proofs.levels.close.Goals as goal
 

@@ -1,6 +1,6 @@
 use Rattle.std.proofs.Common.{◌≡◌, ◌++◌, take}
 use Rattle.fir_lex.specs.Lexed.{closed_at}
-use Rattle.fir_lex.specs.Steps.{tokens_in}
+use Rattle.fir_lex.specs.working.Steps.{tokens_in}
 use Rattle.fir_lex.proofs.levels.close.Given as goal
 
 abbrev pub invariant-loop-level : goal.invariant-loop-level

@@ -1,6 +1,6 @@
 use Rattle.std.proofs.Common.{◌≡◌, reverse, length}
 use Rattle.fir_lex.specs.Levels.{move_out}
-use Rattle.fir_lex.specs.Steps.{tokens_in, moved}
+use Rattle.fir_lex.specs.working.Steps.{tokens_in, moved}
 use Rattle.fir_lex.proofs.levels.move_to.Given as goal
 
 abbrev pub invariant-loop-place : goal.invariant-loop-place

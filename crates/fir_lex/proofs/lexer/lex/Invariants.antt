@@ -1,6 +1,6 @@
 use Rattle.std.proofs.Common.{◌≡◌}
 use Rattle.fir_lex.specs.Lexed.{lexed}
-use Rattle.fir_lex.specs.Ways.{left, turns}
+use Rattle.fir_lex.specs.working.Ways.{left, turns}
 use Rattle.fir_lex.proofs.lexer.lex.Given as goal
 
 abbrev pub invariant-loop-lexer : goal.invariant-loop-lexer

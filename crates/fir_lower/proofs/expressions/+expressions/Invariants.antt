@@ -1,11 +1,11 @@
 use Rattle.std.proofs.Common.{◌≡◌, List, map, take}
 use Rattle.fir_ast.specs.View.{expr_of, expressions_of}
-use Rattle.fir_lower.specs.Lowered.{Binding, nodes_with_each, bounds_with_each}
-use Rattle.fir_lower.specs.Tabled.{HasBounds}
+use Rattle.fir_lower.specs.working.Lowered.{Binding, nodes_with_each, bounds_with_each}
+use Rattle.fir_lower.specs.working.Tabled.{HasBounds, IsOnce}
 use Rattle.fir_lower.proofs.expressions.+expressions.Given as goal
 
 abbrev pub invariant-add_expressions-loop-e : goal.invariant-add_expressions-loop-e
 invariant-add_expressions-loop-e l =
-    (bs : List Binding) → HasBounds l.bindings bs
-    → (l.nodes.items ≡ nodes_with_each bs l.initial.nodes.items (expressions_of (map expr_of (take l.e-index l.es))))
-    × (l.bounds.items ≡ bounds_with_each bs l.initial.nodes.items (expressions_of (map expr_of (take l.e-index l.es))))
+    (bs : List Binding) → HasBounds l.bindings bs → IsOnce l.initial.nodes.keys
+    → (l.nodes.keys ≡ nodes_with_each bs l.initial.nodes.keys (expressions_of (map expr_of (take l.e-index l.es))))
+    × (l.bounds.items ≡ bounds_with_each bs l.initial.nodes.keys (expressions_of (map expr_of (take l.e-index l.es))))

@@ -1,5 +1,5 @@
 use Rattle.std.proofs.Common.{◌≡◌, map, take}
-use Rattle.fir_lower.specs.Lowered.{bound_type}
+use Rattle.fir_lower.specs.working.Lowered.{bound_type}
 use Rattle.fir_lower.proofs.expressions.operation_width.Given as goal
 
 abbrev pub invariant-loop-bound : goal.invariant-loop-bound

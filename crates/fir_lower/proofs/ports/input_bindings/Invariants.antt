@@ -1,7 +1,7 @@
 use Rattle.std.proofs.Common.{[], map, take}
 use Rattle.fir_ast.specs.View.{port_of}
-use Rattle.fir_lower.specs.Lowered.{port_bindings}
-use Rattle.fir_lower.specs.Tabled.{HasBounds}
+use Rattle.fir_lower.specs.working.Lowered.{port_bindings}
+use Rattle.fir_lower.specs.working.Tabled.{HasBounds}
 use Rattle.fir_lower.proofs.ports.input_bindings.Given as goal
 
 abbrev pub invariant-loop-k : goal.invariant-loop-k

@@ -1,8 +1,16 @@
-use Rattle.std.proofs.Common.{◌≤◌, arith}
+use Rattle.std.proofs.Common.{◌≡◌, List, ℕ, true, sym, subst, ◌∙◌}
+use Rattle.fir_net.specs.Names.{IsNameFor}
+use Rattle.fir_net.specs.Paths.{base_name}
+use Rattle.fir_net.specs.working.LeafNamed.{has_name}
+use Rattle.fir_net.specs.working.NameSets.{Holds}
 use Rattle.fir_net.proofs.NamedLeaves.{takes_some}
 use Rattle.fir_net.proofs.leaf_names.leaf_name.Goals as goal
 
 pub returns : goal.returns
 returns c =
-    let wide : 1 ≤ c.args.leaf.now.width = omega arith in
-    takes_some c.args.taken.now c.insert.new.self c.args.leaf.now c.in_ok-name.name c.in_ok-copy.field-0 wide c.in_ok-name.ensures c.in_ok-copy.ensures c.in_ok-insert.ensures.updates
+    let taken = c.args.taken.now in
+    let leaf = c.args.leaf.now in
+    let name = c.in_ok-name.name in
+    let named : has_name leaf ≡ true = sym c.has_name.ensures ∙ c.if-not-has_name.false in
+    let free : (names : List (List ℕ)) → Holds taken names → IsNameFor names (base_name leaf.path) name = λ names h. subst (λ base. IsNameFor names base name) c.in_ok-base.ensures (c.in_ok-name.ensures names h) in
+    takes_some taken c.insert.new.self leaf name c.in_ok-copy.field-0 named free c.in_ok-copy.ensures c.in_ok-insert.ensures.updates

@@ -1,6 +1,6 @@
 use Rattle.std.proofs.Common.{◌≡◌, ℕ, ◌+◌, ◌<◌, ◌≤◌, ◌++◌, true, false, length, sym, subst, arith}
 use Rattle.std.specs.Prelude.{decimal}
-use Rattle.fir_net.specs.NameSets.{has}
+use Rattle.fir_net.specs.working.NameSets.{has}
 use Rattle.fir_net.proofs.Untaken.{taken_more, last_is_free}
 use Rattle.fir_net.proofs.numbered.first_untaken.Goals as goal
 

@@ -1,6 +1,6 @@
 use Rattle.std.proofs.Common.{◌≡◌, ℕ, ◌<◌, ◌≤◌, ◌++◌, true}
 use Rattle.std.specs.Prelude.{decimal}
-use Rattle.fir_net.specs.NameSets.{has}
+use Rattle.fir_net.specs.working.NameSets.{has}
 use Rattle.fir_net.proofs.numbered.first_untaken.Given as goal
 
 abbrev pub invariant-loop-number : goal.invariant-loop-number

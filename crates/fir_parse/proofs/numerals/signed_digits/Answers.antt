@@ -1,6 +1,6 @@
 use Rattle.std.proofs.Common.{true, false, drop, sym, ap, ◌∙◌, arith, rules}
 use Rattle.fir_parse.specs.Numbers.{numeral, digits_value}
-use Rattle.fir_parse.specs.Ranges.{number_within, numeral_within}
+use Rattle.fir_parse.specs.working.Ranges.{number_within, numeral_within}
 use Rattle.fir_parse.proofs.Signs.{rest_taken, signed_within, behind_minus, behind_plus}
 use Rattle.fir_parse.proofs.numerals.signed_digits.Goals as goal
 

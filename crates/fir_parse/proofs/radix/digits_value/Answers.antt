@@ -1,6 +1,7 @@
 use Rattle.std.proofs.Common.{refl, sym, ap, ◌+◌, ◌∙◌, drop, get_or}
-use Rattle.fir_parse.specs.Numbers.{next_value, digit_value, digits_from}
-use Rattle.fir_parse.specs.Ranges.{number_within}
+use Rattle.fir_base.specs.Digits.{digit_value}
+use Rattle.fir_parse.specs.Numbers.{next_value, digits_from}
+use Rattle.fir_parse.specs.working.Ranges.{number_within}
 use Rattle.fir_parse.proofs.Digits.{first_digit, next_of_radix, last_of_radix, too_large, in_range_is, stays_in_range}
 use Rattle.fir_parse.proofs.radix.digits_value.Goals as goal
 

@@ -2,7 +2,7 @@ use Rattle.std.proofs.Common.{◌≡◌, Err, refl, subst, rules}
 use Rattle.fir_ast.specs.declared.fault.FirFault.TheVariants.{Syntax}
 use Rattle.fir_parse.specs.declared.stop.Stop.{Stop}
 use Rattle.fir_parse.specs.declared.stop.Stop.TheVariants.{AtEnd, Fault}
-use Rattle.fir_parse.specs.Parsed.{ReadWhole}
+use Rattle.fir_parse.specs.working.Parsed.{ReadWhole}
 use Rattle.fir_parse.specs.Spells.{end_of, terminals}
 use Rattle.fir_parse.proofs.FirstFaults.{first_fault}
 use Rattle.fir_parse.proofs.text.parse.Goals as goal

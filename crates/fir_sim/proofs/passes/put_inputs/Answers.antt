@@ -1,5 +1,5 @@
 use Rattle.std.proofs.Common.{◌<◌, length, arith}
-use Rattle.fir_sim.specs.Passes.{input_width}
+use Rattle.fir_sim.specs.working.Passes.{input_width}
 use Rattle.fir_sim.proofs.Fits.{fit_at, fit_count}
 use Rattle.fir_sim.proofs.Passing.{inputs_more}
 use Rattle.fir_sim.proofs.passes.put_inputs.Goals as goal

@@ -1,5 +1,5 @@
 use Rattle.std.proofs.Common.{◌≡◌, drop}
-use Rattle.fir_sim.specs.Passes.{with_inputs}
+use Rattle.fir_sim.specs.working.Passes.{with_inputs}
 use Rattle.fir_sim.proofs.passes.put_inputs.Given as goal
 
 abbrev pub invariant-loop-j : goal.invariant-loop-j

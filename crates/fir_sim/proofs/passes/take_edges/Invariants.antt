@@ -1,12 +1,11 @@
 use Rattle.std.proofs.Common.{◌≡◌, take, map}
 use Rattle.std.specs.List.{AllByRecursion}
 use Rattle.fir_bits.specs.Values.{IsBitVector}
-use Rattle.fir_sim.specs.Held.{env_of}
-use Rattle.fir_sim.specs.Passes.{register_value}
+use Rattle.fir_sim.specs.working.Passes.{register_value}
 use Rattle.fir_sim.proofs.passes.take_edges.Given as goal
 
 abbrev pub invariant-loop-j : goal.invariant-loop-j
 invariant-loop-j l = record {
-  values : take l.j l.state ≡ map (register_value l.net (env_of l.leaves) l.named) (take l.j l.plans);
+  values : take l.j l.state ≡ map (register_value l.leaves l.nodes l.named) (take l.j l.plans);
   whole : AllByRecursion IsBitVector (take l.j l.state);
 }

@@ -1,4 +1,4 @@
-use Rattle.fir_sim.specs.Plans.{input_plan}
+use Rattle.fir_sim.specs.working.Plans.{input_plan}
 use Rattle.fir_sim.proofs.PlanLists.{plan_more, plan_less}
 use Rattle.fir_sim.proofs.plan.input_plans.Goals as goal
 use Rattle.fir_sim.proofs.plan.input_plans.Goals.{in-Some+in_ok-push, in_default}

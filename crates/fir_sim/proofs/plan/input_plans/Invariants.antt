@@ -1,5 +1,5 @@
 use Rattle.std.proofs.Common.{◌≡◌, take}
-use Rattle.fir_sim.specs.Plans.{input_plan, plans_by}
+use Rattle.fir_sim.specs.working.Plans.{input_plan, plans_by}
 use Rattle.fir_sim.proofs.plan.input_plans.Given as goal
 
 abbrev pub invariant-loop-k : goal.invariant-loop-k

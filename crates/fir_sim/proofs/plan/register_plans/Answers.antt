@@ -1,4 +1,4 @@
-use Rattle.fir_sim.specs.Plans.{register_plan}
+use Rattle.fir_sim.specs.working.Plans.{register_plan}
 use Rattle.fir_sim.proofs.PlanLists.{plan_more, plan_less}
 use Rattle.fir_sim.proofs.plan.register_plans.Goals as goal
 use Rattle.fir_sim.proofs.plan.register_plans.Goals.{in-Some+in_ok-push, in_default}
@@ -8,6 +8,6 @@ loop-k-preserved c =
     let ls = c.args.leaves.now in
     elim c.match-register_plan.branch [
       | in-Some+in_ok-push w ↦
-          rw w.plans-is (plan_more (register_plan c.args.clocks.now) ls c.loop-k.k c.index-leaves-k.result c.loop-k.plans.items w.push.new.self.items w.in-Some.plan c.loop-k-test.true c.index-leaves-k.is w.in-Some.ensures c.loop-k.invariant w.in_ok-push.ensures.items)
-      | in_default w ↦ rw w.plans-is (plan_less (register_plan c.args.clocks.now) ls c.loop-k.k c.index-leaves-k.result c.loop-k.plans.items c.loop-k-test.true c.index-leaves-k.is w.in_default.ensures c.loop-k.invariant)
+          rw w.plans-is (plan_more (register_plan c.args.roots.now) ls c.loop-k.k c.index-leaves-k.result c.loop-k.plans.items w.push.new.self.items w.in-Some.plan c.loop-k-test.true c.index-leaves-k.is w.in-Some.ensures c.loop-k.invariant w.in_ok-push.ensures.items)
+      | in_default w ↦ rw w.plans-is (plan_less (register_plan c.args.roots.now) ls c.loop-k.k c.index-leaves-k.result c.loop-k.plans.items c.loop-k-test.true c.index-leaves-k.is w.in_default.ensures c.loop-k.invariant)
     ]

@@ -1,5 +1,5 @@
 use Rattle.std.proofs.Common.{◌≡◌, map, take}
-use Rattle.fir_sim.specs.Passes.{leaf_zero}
+use Rattle.fir_sim.specs.working.Passes.{leaf_zero}
 use Rattle.fir_sim.proofs.start.leaf_zeros.Given as goal
 
 abbrev pub invariant-loop-leaf : goal.invariant-loop-leaf

@@ -1,5 +1,5 @@
 use Rattle.std.proofs.Common.{◌≡◌, map, take}
-use Rattle.fir_sim.specs.Passes.{output_zero}
+use Rattle.fir_sim.specs.working.Passes.{output_zero}
 use Rattle.fir_sim.proofs.start.output_zeros.Given as goal
 
 abbrev pub invariant-loop-plan : goal.invariant-loop-plan

@@ -1,5 +1,5 @@
 use Rattle.std.proofs.Common.{◌≡◌, ◌++◌, map, drop}
-use Rattle.fir_sim.specs.Passes.{values_of, register_width}
+use Rattle.fir_sim.specs.working.Passes.{values_of, register_width}
 use Rattle.fir_sim.proofs.start.state_of.Given as goal
 
 abbrev pub invariant-loop-j : goal.invariant-loop-j

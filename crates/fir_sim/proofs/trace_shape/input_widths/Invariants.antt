@@ -1,5 +1,5 @@
 use Rattle.std.proofs.Common.{◌≡◌, ◌++◌, drop}
-use Rattle.fir_sim.specs.StateWords.{input_widths}
+use Rattle.fir_sim.specs.working.StateWords.{input_widths}
 use Rattle.fir_sim.proofs.trace_shape.input_widths.Given as goal
 
 abbrev pub invariant-loop-leaf : goal.invariant-loop-leaf

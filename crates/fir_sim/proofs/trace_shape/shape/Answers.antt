@@ -1,5 +1,5 @@
 use Rattle.std.proofs.Common.{sym, ◌∙◌, ap, subst, Ok}
-use Rattle.fir_sim.specs.Shapes.{IsShapeOf}
+use Rattle.fir_sim.specs.working.Shapes.{IsShapeOf}
 use Rattle.trace_text.specs.Shapes.{IsShape}
 use Rattle.fir_sim.proofs.WholeShapes.{made_by, made_is_shape, made_of_net, leaf_words}
 use Rattle.fir_sim.proofs.trace_shape.shape.Goals as goal

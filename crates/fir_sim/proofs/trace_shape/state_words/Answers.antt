@@ -11,7 +11,7 @@ loop-number-preserved c =
     let leaf = c.index-leaves-number.result in
     let next : drop i leaves ≡ leaf ∷ drop (i + 1) leaves =
     drop_more leaves i leaf c.loop-number-test.true ∙ ap (λ l. l ∷ drop (i + 1) leaves) (sym c.index-leaves-number.is) in
-    words_more c.args.table.now.leaves leaves i leaf (option_map (λ n. n.now) c.leaf.result) c.loop-number.words.items c.put_state_word.new.words.items _ next c.leaf.ensures c.in_ok-put_state_word.ensures c.loop-number.invariant
+    words_more c.args.table.now.leaves leaves i leaf (option_map (λ n. n.now) c.leaf.result) c.loop-number.words.items c.put_state_word.new.words.items _ next (rw c.new.ensures at c.leaf.ensures) c.in_ok-put_state_word.ensures c.loop-number.invariant
 
 pub returns : goal.returns
 returns c = words_all _ _ _ _ (drop_all c.loop-number.number c.args.leaves.now c.loop-number-test.false) c.loop-number.invariant

@@ -1,5 +1,5 @@
 use Rattle.std.proofs.Common.{◌≡◌, ◌++◌, drop}
-use Rattle.fir_sim.specs.StateWords.{state_words}
+use Rattle.fir_sim.specs.working.StateWords.{state_words}
 use Rattle.fir_sim.proofs.trace_shape.state_words.Given as goal
 
 abbrev pub invariant-loop-number : goal.invariant-loop-number

@@ -1,6 +1,6 @@
 use Rattle.std.proofs.Common.{◌≡◌, length, true}
 use Rattle.std.specs.List.{list_all}
-use Rattle.ver_ast.specs.Names.{is_digit}
+use Rattle.fir_base.specs.Bytes.{is_digit}
 use Rattle.trace_text.specs.Spelling.{decimal_of}
 use Rattle.trace_text.proofs.number.without_zeros.Given as goal
 

@@ -1,5 +1,5 @@
 use Rattle.std.proofs.Common.{◌≡◌, ◌++◌, map, take}
-use Rattle.trace_text.specs.ClosedWords.{closed}
+use Rattle.trace_text.specs.working.ClosedWords.{closed}
 use Rattle.trace_text.specs.OutputLines.{value_text}
 use Rattle.trace_text.proofs.output_line.put_values.Given as goal
 

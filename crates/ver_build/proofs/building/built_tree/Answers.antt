@@ -4,18 +4,18 @@ use Rattle.ver_build.proofs.building.built_tree.Goals as goal
 
 pub returns : goal.returns
 returns c =
-    tree_built c.args.net.now c.args.table.now (record { name = c.in_ok-copy.field-0; ports = c.from_vec.result; items = c.from_vec-2.result })
+    tree_built c.args.net.now c.args.table.now c.args.places.now c.args.order.now (record { name = c.in_ok-copy.field-0; ports = c.from_vec.result; items = c.from_vec-2.result })
     (c.in_ok-copy.ensures ∙ c.module_name.ensures) (c.from_vec.ensures ∙ c.in_ok-ports_of.ensures)
     (record {
       none = c.new-items.result.items;
       regs = c.put_regs.new.items.items;
       wires = c.put_wires.new.items.items;
-      node_assigns = c.put_node_assigns.new.items.items;
+      inner_assigns = c.put_inner_assigns.new.items.items;
       assigns = c.put_output_assigns.new.items.items;
       nothing = c.new-items.ensures.items;
       put_regs = c.in_ok-put_regs.ensures;
       put_wires = c.in_ok-put_wires.ensures;
-      put_node_assigns = c.in_ok-put_node_assigns.ensures;
+      put_inner_assigns = c.in_ok-put_inner_assigns.ensures;
       put_assigns = c.in_ok-put_output_assigns.ensures;
       put_blocks = c.from_vec-2.ensures ∙ c.in_ok-put_blocks.ensures;
     })

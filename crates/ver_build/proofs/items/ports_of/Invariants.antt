@@ -1,5 +1,5 @@
 use Rattle.std.proofs.Common.{◌≡◌, take}
-use Rattle.ver_build.specs.Built.{leaf_port, along}
+use Rattle.ver_build.specs.working.Built.{leaf_port, along}
 use Rattle.ver_build.proofs.items.ports_of.Given as goal
 
 abbrev pub invariant-loop-k : goal.invariant-loop-k

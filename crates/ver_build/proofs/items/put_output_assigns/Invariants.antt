@@ -1,6 +1,7 @@
 use Rattle.std.proofs.Common.{◌≡◌, ◌++◌, take}
-use Rattle.ver_build.specs.Built.{leaf_assign, along}
+use Rattle.ver_ast.specs.declared.tree.Item.TheVariants as item
+use Rattle.ver_build.specs.working.Built.{given, leaf_assign, along}
 use Rattle.ver_build.proofs.items.put_output_assigns.Given as goal
 
 abbrev pub invariant-loop-k : goal.invariant-loop-k
-invariant-loop-k l = l.items.items ≡ l.initial.items.items ++ along (λ x. leaf_assign l.net l.table x.role x.width) l.table.leaves 0 (take l.k l.leaves)
+invariant-loop-k l = l.items.items ≡ l.initial.items.items ++ along (given item.Assign (leaf_assign l.places)) l.table.leaves 0 (take l.k l.leaves)

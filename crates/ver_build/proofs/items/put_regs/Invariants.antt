@@ -1,6 +1,7 @@
 use Rattle.std.proofs.Common.{◌≡◌, ◌++◌, take}
-use Rattle.ver_build.specs.Built.{leaf_reg, along}
+use Rattle.ver_ast.specs.declared.tree.Item.TheVariants as item
+use Rattle.ver_build.specs.working.Built.{given, leaf_reg, along}
 use Rattle.ver_build.proofs.items.put_regs.Given as goal
 
 abbrev pub invariant-loop-k : goal.invariant-loop-k
-invariant-loop-k l = l.items.items ≡ l.initial.items.items ++ along (λ x. leaf_reg x.role x.width) l.table.leaves 0 (take l.k l.leaves)
+invariant-loop-k l = l.items.items ≡ l.initial.items.items ++ along (given item.Reg leaf_reg) l.table.leaves 0 (take l.k l.leaves)

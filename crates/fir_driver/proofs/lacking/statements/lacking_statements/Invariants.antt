@@ -1,6 +1,6 @@
 use Rattle.std.proofs.Common.{◌≡◌, drop, map}
 use Rattle.fir_ast.specs.View.{stmt_of, block_of}
-use Rattle.fir_driver.specs.Lacking.{lacking_statements}
+use Rattle.fir_meaning.specs.Lacking.{lacking_statements}
 use Rattle.fir_driver.proofs.lacking.statements.lacking_statements.Given as goal
 
 abbrev pub invariant-loop-stmt : goal.invariant-loop-stmt

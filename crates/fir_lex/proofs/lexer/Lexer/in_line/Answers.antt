@@ -1,12 +1,12 @@
 use Rattle.std.proofs.Common.{◌≡◌, ℕ, true, List, [], ◌∷◌, ◌++◌, take, sym, ap, subst, ◌∙◌}
 use Rattle.std.specs.Prelude.{Err, slice_range}
-use Rattle.fir_lex.specs.View.{token_of}
-use Rattle.fir_lex.specs.Steps.{tokens_in}
+use Rattle.fir_lex.specs.working.View.{token_of}
+use Rattle.fir_lex.specs.working.Steps.{tokens_in}
 use Rattle.fir_ast.specs.declared.place.Place.{Place}
 use Rattle.fir_ast.specs.declared.fault.FirFault.TheVariants as fault
 use Rattle.fir_lex.specs.Bytes.{place_behind, ends_line, line_end_length}
 use Rattle.fir_lex.specs.Lexed.{Lexed}
-use Rattle.fir_lex.specs.Ways.{rest_of, left, Passes}
+use Rattle.fir_lex.specs.working.Ways.{rest_of, left, Passes}
 use Rattle.fir_lex.proofs.Lexing.{line_end_left, found_left, passed_left, bad_byte_left, bad_literal_left}
 use Rattle.fir_lex.proofs.lexer.Lexer.in_line.Goals as goal
 use Rattle.fir_lex.proofs.lexer.Lexer.in_line.Goals.{in-Found+in_ok-take-in-Found, in-Passed}
@@ -31,9 +31,9 @@ pub returns-clause-same : goal.returns-clause-same
 returns-clause-same c =
     elim c.match-read_front.branch [
       | in-Found+in_ok-take-in-Found w ↦
-          found_left c.args.self.now w.take.new.self c.rest-rest.result.now _ w.in-Found.found.length (record { begun = c.requires.begins; some = c.requires.some; is = c.rest-rest.ensures.value; goes_on = c.if-ends_line.ensures; seen = w.in-Found.ensures.front }) w.in-Found.found.some w.in-Found.ensures.fits w.take.ensures.text w.in_ok-take-in-Found.ensures.passes (subst (λ (bytes : List ℕ). tokens_in w.take.new.self.draft ≡ tokens_in c.args.self.now.draft ++ record { token = token_of w.in-Found.found.kind (slice_range bytes w.in-Found.found.from w.in-Found.found.upto); place = c.args.self.now.cursor.place } ∷ []) (sym c.rest-rest.ensures.value) w.in_ok-take-in-Found.ensures.tokens) w.take.ensures.begins
+          found_left c.args.self.now w.take.new.self c.rest-rest.result.now _ w.in-Found.found.length (record { begun = c.requires.begins; some = c.requires.some; is = c.rest-rest.ensures.value; goes_on = c.if-ends_line.ensures; seen = w.in-Found.ensures.front }) w.in-Found.found.some w.in-Found.ensures.within.0 w.take.ensures.text w.in_ok-take-in-Found.ensures.passes (subst (λ (bytes : List ℕ). tokens_in w.take.new.self.draft ≡ tokens_in c.args.self.now.draft ++ record { token = token_of w.in-Found.found.kind (slice_range bytes w.in-Found.found.from w.in-Found.found.upto); place = c.args.self.now.cursor.place } ∷ []) (sym c.rest-rest.ensures.value) w.in_ok-take-in-Found.ensures.tokens) w.take.ensures.begins
           ∙ ap left (sym w.self-is)
       | in-Passed w ↦
-          passed_left c.args.self.now w.pass.new.self c.rest-rest.result.now w.in-Passed.count (record { begun = c.requires.begins; some = c.requires.some; is = c.rest-rest.ensures.value; goes_on = c.if-ends_line.ensures; seen = w.in-Passed.ensures.front }) w.in-Passed.ensures.fits.0 w.in-Passed.ensures.fits.1 (record { index = w.pass.ensures.index; place = w.pass.ensures.place; levels = w.pass.ensures.levels }) w.pass.ensures.draft w.pass.ensures.begins
+          passed_left c.args.self.now w.pass.new.self c.rest-rest.result.now w.in-Passed.count (record { begun = c.requires.begins; some = c.requires.some; is = c.rest-rest.ensures.value; goes_on = c.if-ends_line.ensures; seen = w.in-Passed.ensures.front }) w.in-Passed.ensures.within.0 w.in-Passed.ensures.within.1 (record { index = w.pass.ensures.index; place = w.pass.ensures.place; levels = w.pass.ensures.levels }) w.pass.ensures.draft w.pass.ensures.begins
           ∙ ap left (sym w.self-is)
     ]

@@ -1,7 +1,7 @@
 use Rattle.std.proofs.Common.{◌≡◌, ◌+◌, true, false, None, refl, sym, ap, ◌∙◌, le_trans, le_of_lt, rules}
 use Rattle.fir_ast.specs.Expressions.{Parts, no_parts, reference}
 use Rattle.fir_ast.specs.Statements.{Sink}
-use Rattle.fir_parse.specs.AtHand.{stop_at}
+use Rattle.fir_parse.specs.working.AtHand.{stop_at}
 use Rattle.fir_parse.specs.declared.lexeme.Lexeme.TheVariants.{Word, End}
 use Rattle.fir_parse.specs.declared.stop.Stop.TheVariants as stop
 use Rattle.fir_parse.specs.Heights.{height_with}
@@ -11,14 +11,14 @@ use Rattle.fir_parse.specs.declared.words.Applied.TheVariants as applied
 use Rattle.fir_parse.specs.ExpressionRules.{applied_rest, operator_rest, mux_rest, validif_rest, literal_rest, index_rest, reference_rest}
 use Rattle.fir_parse.specs.Lexemes.{mark, word}
 use Rattle.fir_parse.specs.Reading.{read_on}
-use Rattle.fir_parse.specs.Reads.{rest}
+use Rattle.fir_parse.specs.working.Reads.{rest}
 use Rattle.fir_parse.specs.States.{State, wants}
 use Rattle.fir_parse.specs.Symbols.{behind_word, an_expression, parts}
-use Rattle.fir_parse.specs.Trees.{tall_expression, sink_height, index_tree, part_of}
+use Rattle.fir_parse.specs.working.Trees.{tall_expression, sink_height, index_tree, part_of}
 use Rattle.fir_parse.proofs.BehindWords.{form_not_opened, form_opened, name_reads, begins_reference, other_expression}
 use Rattle.fir_parse.proofs.IndexReads.{computed_first, plain_first, height_added, height_behind_index, index_ends, index_too_tall}
-use Rattle.fir_parse.proofs.Plans.{takes_first, stays_before, unsupported_there, found, reads_behind, exits_behind, refused, opened, opened_too_many, ends_here, stands_there}
-use Rattle.fir_parse.proofs.ReferenceReads.{exit_leads, part_behind, height_behind, sink_of_parts, not_part}
+use Rattle.fir_parse.proofs.Plans.{takes_first, stays_before, unsupported_there, found, reads_behind, exits_behind, refused, opened, opened_too_many, ends_here, stands_there, exits_before}
+use Rattle.fir_parse.proofs.ReferenceReads.{part_behind, height_behind, sink_of_parts, not_part}
 use Rattle.fir_parse.proofs.parser.Parser.+expressions.Goals as goal
 use Rattle.fir_parse.proofs.parser.Parser.+expressions.Goals.{behind_word-in_default-via-in-Mark+in_default, behind_word-in_default-via-in_default, reference-in_default-via-in-Mark+in_default, reference-in_default-via-in_default}
 
@@ -166,41 +166,41 @@ reference-returns-in_default-clause-high t c =
 
 pub subindex-returns-in_err-open_one-clause-reads : goal.subindex-returns-in_err-open_one-clause-reads
 subindex-returns-in_err-open_one-clause-reads t c =
-    exit_leads _ _ _ _ _ _ c.from_residual.result _ (λ (k : Parts → State). k) c.from_residual.ensures.1
+    exits_before _ _ _ _ _ _ c.from_residual.result _ (λ (k : Parts → State). k) c.from_residual.ensures.1
     (takes_first (parts c.args.depth c.args.height) (index_rest c.args.depth c.args.height c.args.bracket) (mark OpenSquare) _ _ _ c.requires.at_hand c.pass.ensures.rest refl)
     (opened_too_many c.args.depth c.args.bracket _ _ _ c.in_err-open_one.ensures.opens)
 
 pub subindex-returns-in_err-index-clause-reads : goal.subindex-returns-in_err-index-clause-reads
 subindex-returns-in_err-index-clause-reads t c =
-    exit_leads _ _ _ _ _ _ c.from_residual-in_err-index.result _ _ c.from_residual-in_err-index.ensures.1
+    exits_before _ _ _ _ _ _ c.from_residual-in_err-index.result _ _ c.from_residual-in_err-index.ensures.1
     (λ end k. takes_first (parts c.args.depth c.args.height) (index_rest c.args.depth c.args.height c.args.bracket) (mark OpenSquare) _ _ _ c.requires.at_hand c.pass.ensures.rest refl end k
     ∙ opened c.args.depth c.args.bracket _ end _ c.in_ok-open_one.ensures.opens)
     c.in_err-index.ensures.reads
 
 pub subindex-returns-in_err-close-clause-reads : goal.subindex-returns-in_err-close-clause-reads
 subindex-returns-in_err-close-clause-reads t c =
-    exit_leads _ _ _ _ _ _ c.from_residual-in_err-close.result _ _ c.from_residual-in_err-close.ensures.1
+    exits_before _ _ _ _ _ _ c.from_residual-in_err-close.result _ _ c.from_residual-in_err-close.ensures.1
     (λ end k. takes_first (parts c.args.depth c.args.height) (index_rest c.args.depth c.args.height c.args.bracket) (mark OpenSquare) _ _ _ c.requires.at_hand c.pass.ensures.rest refl end k
     ∙ opened c.args.depth c.args.bracket _ end _ c.in_ok-open_one.ensures.opens ∙ c.in_ok-index.ensures.reads end _)
     c.in_err-close.ensures.reads
 
 pub subindex-returns-in_err-end_form-clause-reads : goal.subindex-returns-in_err-end_form-clause-reads
 subindex-returns-in_err-end_form-clause-reads t c =
-    exit_leads _ _ _ _ _ _ c.from_residual-in_err-end_form.result _ (λ (k : Parts → State). k) c.from_residual-in_err-end_form.ensures.1
+    exits_before _ _ _ _ _ _ c.from_residual-in_err-end_form.result _ (λ (k : Parts → State). k) c.from_residual-in_err-end_form.ensures.1
     (λ end k. takes_first (parts c.args.depth c.args.height) (index_rest c.args.depth c.args.height c.args.bracket) (mark OpenSquare) _ _ _ c.requires.at_hand c.pass.ensures.rest refl end k
     ∙ opened c.args.depth c.args.bracket _ end _ c.in_ok-open_one.ensures.opens ∙ c.in_ok-index.ensures.reads end _ ∙ c.in_ok-close.ensures.reads end _)
-    (index_too_tall c.args.depth c.args.height (c.max-height.result + 1) (index_tree c.in_ok-index.index.tree) c.in_ok-close.close _ _
+    (index_too_tall c.args.depth c.args.height (c.max-height.result + 1) c.args.bracket (index_tree c.in_ok-index.index.tree) c.in_ok-close.close _ _
     (height_added c.args.height _ _ _ c.max-height.ensures c.in_ok-index.ensures.high.0) c.in_err-end_form.ensures.ends)
 
 pub subindex-returns-clause-reads : goal.subindex-returns-clause-reads
 subindex-returns-clause-reads t c = λ end k.
     takes_first (parts c.args.depth c.args.height) (index_rest c.args.depth c.args.height c.args.bracket) (mark OpenSquare) _ _ _ c.requires.at_hand c.pass.ensures.rest refl end k
     ∙ opened c.args.depth c.args.bracket _ end _ c.in_ok-open_one.ensures.opens ∙ c.in_ok-index.ensures.reads end _ ∙ c.in_ok-close.ensures.reads end _
-    ∙ index_ends c.args.depth c.args.height (c.max-height.result + 1) (index_tree c.in_ok-index.index.tree) (part_of c.in_ok-tree.tree) c.in_ok-close.close _
+    ∙ index_ends c.args.depth c.args.height (c.max-height.result + 1) c.args.bracket (index_tree c.in_ok-index.index.tree) (part_of c.in_ok-tree.tree) c.in_ok-close.close _
     (height_added c.args.height _ _ _ c.max-height.ensures c.in_ok-index.ensures.high.0) c.in_ok-tree.ensures.part c.in_ok-end_form.ensures.ends end k
 
 pub subindex-returns-clause-high : goal.subindex-returns-clause-high
 subindex-returns-clause-high t c = λ ps.
     ap (λ (f : Parts → Parts). height_with (f ps) c.args.height) c.in_ok-tree.ensures.part
-    ∙ height_behind_index c.args.height (index_tree c.in_ok-index.index.tree) ps
+    ∙ height_behind_index c.args.height c.args.bracket (index_tree c.in_ok-index.index.tree) ps
     ∙ ap (λ n. height_with ps n) (sym (height_added c.args.height _ _ (index_tree c.in_ok-index.index.tree) c.max-height.ensures c.in_ok-index.ensures.high.0))

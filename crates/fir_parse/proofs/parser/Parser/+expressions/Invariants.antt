@@ -3,11 +3,11 @@ use Rattle.std.proofs.Common.{◌≡◌, ℕ, ◌+◌, ◌-◌, ◌*◌, ◌≤�
 use Rattle.fir_ast.specs.declared.place.Place.{Place}
 use Rattle.fir_ast.specs.Expressions.{Parts}
 use Rattle.fir_parse.specs.Heights.{height_with}
-use Rattle.fir_parse.specs.Reads.{left, rest}
+use Rattle.fir_parse.specs.working.Reads.{left, rest}
 use Rattle.fir_parse.specs.Reading.{read_on}
 use Rattle.fir_parse.specs.States.{State, wants}
 use Rattle.fir_parse.specs.Symbols.{parts}
-use Rattle.fir_parse.specs.Trees.{part_of, onto}
+use Rattle.fir_parse.specs.working.Trees.{part_of, onto}
 use Rattle.fir_parse.proofs.parser.Parser.+expressions.Given as goal
 
 -- how many brackets may still be opened, and then the kind of the call

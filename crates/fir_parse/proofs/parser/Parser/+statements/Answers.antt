@@ -10,15 +10,15 @@ use Rattle.fir_parse.specs.declared.lexeme.Mark.TheVariants.{Colon}
 use Rattle.fir_parse.specs.declared.words.Lead.TheVariants as lead
 use Rattle.fir_parse.specs.Lexemes.{seen, word, mark, level_opens, level_closes}
 use Rattle.fir_parse.specs.Reading.{read_on}
-use Rattle.fir_parse.specs.Reads.{rest}
+use Rattle.fir_parse.specs.working.Reads.{rest}
 use Rattle.fir_parse.specs.States.{wants}
 use Rattle.fir_parse.specs.StatementRules.{begun, behind_otherwise, behind_statement, closed_before, declared, is_named, may_be_else, ref_rest}
-use Rattle.fir_parse.specs.StatementTrees.{begun_of, done_of, more_statements, open_when_of, opens_of, otherwise_of, statements_before, DeepensElse}
+use Rattle.fir_parse.specs.working.StatementTrees.{begun_of, done_of, more_statements, open_when_of, opens_of, otherwise_of, statements_before, DeepensElse}
 use Rattle.fir_parse.specs.Symbols.{an_indented_block, behind_else, behind_first, behind_is, else_when, no_else, statement, statements}
-use Rattle.fir_parse.proofs.Plans.{ends_here, exits_behind, found, reads_behind, refused, refuses_one, stands_there, stays_before, stops_behind, takes_first, unsupported_there}
+use Rattle.fir_parse.proofs.Plans.{ends_here, exits_behind, found, reads_behind, refused, refuses_one, stands_there, stays_before, stops_behind, takes_first, unsupported_there, exits_before}
 use Rattle.fir_parse.proofs.Sequences.{before_done, behind_alike, closed_all, no_else_word, no_whens, none_left, some_open, starts}
 use Rattle.fir_parse.proofs.StatementViews.{invalid_view}
-use Rattle.fir_parse.proofs.StatementReads.{alike, begins_reference, behind_is_declares, behind_is_refuses, by_second_word, declared_at_end, declares_nothing, else_word, first_word, invalid_behind_is, leaves_behind, no_block, no_else_behind, no_port_of_memory, other_statement, port_of_memory, second_is_is, when_behind_else, GoesOn}
+use Rattle.fir_parse.proofs.StatementReads.{alike, begins_reference, behind_is_declares, behind_is_refuses, by_second_word, declared_at_end, declares_nothing, else_word, first_word, invalid_behind_is, no_block, no_else_behind, no_port_of_memory, other_statement, port_of_memory, second_is_is, when_behind_else, GoesOn}
 use Rattle.fir_parse.proofs.parser.Parser.+statements.Goals as goal
 use Rattle.fir_parse.proofs.parser.Parser.+statements.Goals.{behind_is-in_default-via-in-Word+else-eq, behind_is-in_default-via-in_default, behind_else-in_default-via-in-Mark+in_default, behind_else-in_default-via-in-Word+else-eq, behind_else-in_default-via-in_default, next_statement-else-eq-via-then-eq+else-not-is_empty, next_statement-else-eq-via-else-eq}
 
@@ -211,7 +211,7 @@ more_statements-returns-in_default-clause-reads t c =
 
 pub next_else-returns-in_err-otherwise-clause-reads : goal.next_else-returns-in_err-otherwise-clause-reads
 next_else-returns-in_err-otherwise-clause-reads t c =
-    leaves_behind (λ k. more_statements c.args.depth c.args.sequence k) (wants (behind_else c.args.depth c.len-whens.result c.args.place)) (λ s k. more_statements c.args.depth s k) _ _ _ c.from_residual.result _ (λ k x. behind_otherwise c.args.depth (opens_of c.args.sequence) x (λ behind. k (statements_before (done_of c.args.sequence) behind))) c.from_residual.ensures.1
+    exits_before (λ k. more_statements c.args.depth c.args.sequence k) (wants (behind_else c.args.depth c.len-whens.result c.args.place)) (λ s k. more_statements c.args.depth s k) _ _ _ c.from_residual.result _ (λ k x. behind_otherwise c.args.depth (opens_of c.args.sequence) x (λ behind. k (statements_before (done_of c.args.sequence) behind))) c.from_residual.ensures.1
     (λ end k. takes_first (statements c.args.depth (opens_of c.args.sequence)) _ (word (codes "else")) c.args.place _ _ c.requires.at_hand c.pass.ensures.rest (else_word c.args.depth (opens_of c.args.sequence) c.args.place (some_open c.args.sequence.pending.items c.requires.some)) end (λ behind. k (statements_before (done_of c.args.sequence) behind))
     ∙ ap (λ n. read_on true end (wants (behind_else c.args.depth n c.args.place) (λ x. behind_otherwise c.args.depth (opens_of c.args.sequence) x (λ behind. k (statements_before (done_of c.args.sequence) behind)))) (rest c.pass.new.self)) (length-map c.args.sequence.pending.items open_when_of ∙ sym (c.len-whens.ensures ∙ c.args.sequence.pending.ok.0)))
     c.in_err-otherwise.ensures.reads
@@ -235,7 +235,7 @@ next_statement-returns-in_err-begun-clause-reads t c =
       | next_statement-else-eq-via-then-eq+else-not-is_empty w ↦ no_whens c.args.sequence.pending.items c.args.name.now (none_left c.args.sequence.pending.items (sym c.args.sequence.pending.ok.0 ∙ eqb-true _ _ (sym w.is_empty.ensures ∙ w.if-not-is_empty.false)))
       | next_statement-else-eq-via-else-eq w ↦ let apart : bytes_eq c.args.name.now (codes "else") ≡ false = search rules in no_else_word (opens_of c.args.sequence) c.args.name.now apart
     ] in
-    leaves_behind (λ k. more_statements c.args.depth c.args.sequence k) (wants (behind_first c.args.depth c.args.place c.args.name.now)) (λ s k. more_statements c.args.depth s k) _ _ _ c.from_residual.result _ (λ k s. behind_statement c.args.depth s (λ behind. k (statements_before (done_of c.args.sequence) (closed_before (opens_of c.args.sequence) done behind)))) c.from_residual.ensures.1
+    exits_before (λ k. more_statements c.args.depth c.args.sequence k) (wants (behind_first c.args.depth c.args.place c.args.name.now)) (λ s k. more_statements c.args.depth s k) _ _ _ c.from_residual.result _ (λ k s. behind_statement c.args.depth s (λ behind. k (statements_before (done_of c.args.sequence) (closed_before (opens_of c.args.sequence) done behind)))) c.from_residual.ensures.1
     (λ end k. takes_first (statements c.args.depth (opens_of c.args.sequence)) _ (word c.args.name.now) c.args.place _ _ c.requires.at_hand c.pass.ensures.rest (first_word c.args.depth (opens_of c.args.sequence) c.args.name.now c.args.place no_else_here) end (λ behind. k (statements_before (done_of c.args.sequence) behind)))
     c.in_err-begun.ensures.reads
 

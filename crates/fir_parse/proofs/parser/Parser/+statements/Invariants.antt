@@ -3,9 +3,9 @@ use Rattle.std.proofs.Common.{◌≡◌, ◌+◌, ◌*◌, ◌≤◌, true}
 use Rattle.fir_ast.specs.declared.place.Place.{Place}
 use Rattle.fir_ast.specs.Statements.{Block}
 use Rattle.fir_parse.specs.Reading.{read_on}
-use Rattle.fir_parse.specs.Reads.{left, rest}
+use Rattle.fir_parse.specs.working.Reads.{left, rest}
 use Rattle.fir_parse.specs.States.{State}
-use Rattle.fir_parse.specs.StatementTrees.{more_statements, IsWithin}
+use Rattle.fir_parse.specs.working.StatementTrees.{more_statements, IsWithin}
 use Rattle.fir_parse.proofs.parser.Parser.+statements.Given as goal
 
 abbrev pub decreases-begun : goal.decreases-begun

@@ -2,86 +2,78 @@
 use Rattle.std.proofs.Common.{true, false, refl, sym, ap, ◌∙◌, ◌+◌, codes, map, rules, arith}
 use Rattle.std.specs.Str.{bytes_eq}
 use Rattle.fir_ast.specs.Types.{bundle}
-use Rattle.fir_ast.specs.Statements.{Named}
-use Rattle.fir_ast.specs.BundleText.{field_of}
+use Rattle.fir_ast.specs.Statements.{PlacedName}
+use Rattle.fir_ast.specs.working.BundleText.{field_of}
 use Rattle.fir_ast.specs.View.{fields_of}
 use Rattle.fir_parse.specs.declared.lexeme.Lexeme.TheVariants.{Word, Mark}
 use Rattle.fir_parse.specs.declared.lexeme.Mark.TheVariants.{OpenCurly, CloseCurly, Colon}
-use Rattle.fir_parse.specs.BundlePlans.{some_fields, behind_field, before}
+use Rattle.fir_parse.specs.working.BundlePlans.{some_fields, behind_field, before}
 use Rattle.fir_parse.specs.Lexemes.{mark, word}
 use Rattle.fir_parse.specs.Reading.{read_on}
-use Rattle.fir_parse.specs.Reads.{rest}
+use Rattle.fir_parse.specs.working.Reads.{rest}
 use Rattle.fir_parse.specs.States.{wants, opens}
 use Rattle.fir_parse.specs.Symbols.{a_type, a_field, behind_flip, fields, more_fields, dimensions}
-use Rattle.fir_parse.specs.Trees.{tall_type, tall_field, bundle_fields}
-use Rattle.fir_parse.specs.TypeRules.{field_rest, with_field}
-use Rattle.fir_parse.proofs.Plans.{found, takes_first, refused, exits_behind, reads_behind, opened, opened_too_many}
+use Rattle.fir_parse.specs.working.Trees.{tall_type, tall_field, bundle_fields}
+use Rattle.fir_parse.specs.TypeRules.{type_at, field_rest, with_field}
+use Rattle.fir_parse.proofs.Plans.{found, takes_first, refused, exits_behind, reads_behind, reads_mapped, opened, opened_too_many}
 use Rattle.fir_parse.proofs.TypeReads.{begins_bundle, open_bundle, closed_bundle, ended_at, too_tall_at, same_dimensions, begins_with_name, begins_with_field, flips_name, names_flip, is_flip, is_no_flip, not_type}
 use Rattle.fir_parse.proofs.TypeViews.{bundle_view}
 use Rattle.fir_parse.proofs.BundleTrees.{none_before, none_high, last_field, taller, high_with_last, behind_one_more}
 use Rattle.fir_parse.proofs.parser.Parser.+types.Goals as goal
-use Rattle.fir_parse.proofs.parser.Parser.+types.Goals.{field-in_default-via-in-Word+else-eq, field-in_default-via-in_default, flipped_field-in_default-via-in-Mark+in_default, flipped_field-in_default-via-in_default, ty-in_default-via-in-Mark+in_default, ty-in_default-via-in_default, fields-in_default-via-in-Mark+in_default, fields-in_default-via-in_default}
+use Rattle.fir_parse.proofs.parser.Parser.+types.Goals.{field-in_default-via-in-Word+else-eq, field-in_default-via-in_default, flipped_field-in_default-via-in-Mark+in_default, flipped_field-in_default-via-in_default, type_at_hand-in_default-via-in-Mark+in_default, type_at_hand-in_default-via-in_default, fields-in_default-via-in-Mark+in_default, fields-in_default-via-in_default}
 
 -- a type
 
-pub ty-returns-in_default-clause-reads : goal.ty-returns-in_default-clause-reads
-ty-returns-in_default-clause-reads t c =
-    refused (a_type c.args.depth) _ c.peek-next.result.lexeme _ _ c.peek-next.ensures c.refused.ensures
-    (not_type c.args.depth c.peek-next.result.lexeme c.peek-next.result.place
-    (elim c.in_default.branch [ ty-in_default-via-in-Mark+in_default w ↦ w.in_default.not-Word | ty-in_default-via-in_default w ↦ w.in_default.not-Word ])
-    (elim c.in_default.branch [ ty-in_default-via-in-Mark+in_default w ↦ λ h. search rules | ty-in_default-via-in_default w ↦ λ h. search rules ]))
+pub ty-type_at_hand-requires : goal.ty-type_at_hand-requires
+ty-type_at_hand-requires t c = (omega arith, (c.requires, c.peek-next.ensures))
 
-pub ty-bundle-requires : goal.ty-bundle-requires
-ty-bundle-requires t c = (omega arith, (c.requires, (c.peek-next.result.place, found _ c.peek-next.result (Mark OpenCurly) c.peek-next.ensures (search rules))))
+pub type_at_hand-returns-in_default-clause-reads : goal.type_at_hand-returns-in_default-clause-reads
+type_at_hand-returns-in_default-clause-reads t c =
+    refused (a_type c.args.depth) _ c.args.next.lexeme _ _ c.requires.at_hand c.refused.ensures
+    (not_type c.args.depth c.args.next.lexeme c.args.next.place
+    (elim c.in_default.branch [ type_at_hand-in_default-via-in-Mark+in_default w ↦ w.in_default.not-Word | type_at_hand-in_default-via-in_default w ↦ w.in_default.not-Word ])
+    (elim c.in_default.branch [ type_at_hand-in_default-via-in-Mark+in_default w ↦ λ h. search rules | type_at_hand-in_default-via-in_default w ↦ λ h. search rules ]))
+
+pub type_at_hand-bundle-requires : goal.type_at_hand-bundle-requires
+type_at_hand-bundle-requires t c = (omega arith, (c.requires.depth, found _ c.args.next (Mark OpenCurly) c.requires.at_hand (search rules)))
 
 -- a bundle
 
-pub bundle-returns-in_err-open-clause-reads : goal.bundle-returns-in_err-open-clause-reads
-bundle-returns-in_err-open-clause-reads t c =
-    exits_behind _ _ _ _ _ _ c.from_residual.result _ _ c.from_residual.ensures.1
-    (begins_bundle c.args.depth _ _ c.requires.at_hand.1)
-    c.in_err-open.ensures.reads
-
 pub bundle-returns-in_err-open_one-clause-reads : goal.bundle-returns-in_err-open_one-clause-reads
 bundle-returns-in_err-open_one-clause-reads t c =
-    exits_behind _ (λ k. opens c.args.depth c.in_ok-open.open (open_bundle c.args.depth k)) _ _ _ _ c.from_residual-in_err-open_one.result _ (λ k. k) c.from_residual-in_err-open_one.ensures.1
-    (λ end k.
-    begins_bundle c.args.depth _ _ c.requires.at_hand.1 end k
-    ∙ c.in_ok-open.ensures.reads end _)
-    (opened_too_many c.args.depth c.in_ok-open.open (open_bundle c.args.depth) _ _ c.in_err-open_one.ensures.opens)
+    exits_behind _ (λ k. opens c.args.depth c.args.place (open_bundle c.args.depth k)) _ _ _ _ c.from_residual.result _ _ c.from_residual.ensures.1
+    (begins_bundle c.args.depth _ _ _ c.requires.at_hand c.pass.ensures.rest)
+    (opened_too_many c.args.depth c.args.place (open_bundle c.args.depth) _ _ c.in_err-open_one.ensures.opens)
 
 pub bundle-fields-requires : goal.bundle-fields-requires
-bundle-fields-requires t c = (omega (arith, c.in_ok-open.ensures.nearer), omega (arith, c.in_ok-open_one.ensures.opens))
+bundle-fields-requires t c = (omega (arith, c.pass.ensures.nearer), omega (arith, c.in_ok-open_one.ensures.opens))
 
 pub bundle-returns-in_err-fields-clause-reads : goal.bundle-returns-in_err-fields-clause-reads
 bundle-returns-in_err-fields-clause-reads t c =
     exits_behind _ _ _ _ _ _ c.from_residual-in_err-fields.result _ _ c.from_residual-in_err-fields.ensures.1
     (λ end k.
-    begins_bundle c.args.depth _ _ c.requires.at_hand.1 end k
-    ∙ c.in_ok-open.ensures.reads end _
-    ∙ opened c.args.depth c.in_ok-open.open _ end _ c.in_ok-open_one.ensures.opens)
+    begins_bundle c.args.depth _ _ _ c.requires.at_hand c.pass.ensures.rest end k
+    ∙ opened c.args.depth c.args.place _ end _ c.in_ok-open_one.ensures.opens)
     c.in_err-fields.ensures.reads
 
 pub bundle-returns-in_err-end_form-clause-reads : goal.bundle-returns-in_err-end_form-clause-reads
 bundle-returns-in_err-end_form-clause-reads t c =
-    exits_behind _ (closed_bundle c.args.depth (bundle_fields c.in_ok-fields.fields)) _ _ _ _ c.from_residual-in_err-end_form.result _ (λ k. k) c.from_residual-in_err-end_form.ensures.1
+    exits_behind _ (closed_bundle c.args.depth (bundle_fields c.in_ok-fields.fields)) _ _ _ _ c.from_residual-in_err-end_form.result _ (λ k t. k (type_at c.args.place t)) c.from_residual-in_err-end_form.ensures.1
     (λ end k.
-    begins_bundle c.args.depth _ _ c.requires.at_hand.1 end k
-    ∙ c.in_ok-open.ensures.reads end _
-    ∙ opened c.args.depth c.in_ok-open.open _ end _ c.in_ok-open_one.ensures.opens
+    begins_bundle c.args.depth _ _ _ c.requires.at_hand c.pass.ensures.rest end k
+    ∙ opened c.args.depth c.args.place _ end _ c.in_ok-open_one.ensures.opens
     ∙ c.in_ok-fields.ensures.reads end _)
     (too_tall_at (c.in_ok-fields.fields.height + 1) _ (ap (λ n. n + 1) c.in_ok-fields.ensures.high.0) c.in_ok-fields.fields.close (λ k. wants (dimensions c.args.depth (bundle (bundle_fields c.in_ok-fields.fields).fields)) k) _ _ c.in_err-end_form.ensures.ends)
 
 pub bundle-returns-clause-reads : goal.bundle-returns-clause-reads
 bundle-returns-clause-reads t c =
-    reads_behind _ _ tall_type _ _ (rest c.dimensions.new.self) c.dimensions.result
+    reads_mapped _ _ (type_at c.args.place) tall_type _ _ (rest c.dimensions.new.self) c.dimensions.result
     (λ end k.
-    begins_bundle c.args.depth _ _ c.requires.at_hand.1 end k
-    ∙ c.in_ok-open.ensures.reads end _
-    ∙ opened c.args.depth c.in_ok-open.open _ end _ c.in_ok-open_one.ensures.opens
+    begins_bundle c.args.depth _ _ _ c.requires.at_hand c.pass.ensures.rest end k
+    ∙ opened c.args.depth c.args.place _ end _ c.in_ok-open_one.ensures.opens
     ∙ c.in_ok-fields.ensures.reads end _
     ∙ ended_at (c.in_ok-fields.fields.height + 1) _ (ap (λ n. n + 1) c.in_ok-fields.ensures.high.0) c.in_ok-fields.fields.close _ end _ c.in_ok-end_form.ensures.ends
-    ∙ same_dimensions c.args.depth _ _ (sym (bundle_view c.in_ok-fields.fields.fields)) end k _)
+    ∙ same_dimensions c.args.depth _ _ (sym (bundle_view c.in_ok-fields.fields.fields)) end _ _)
     c.dimensions.ensures.reads
 
 -- the fields of a bundle
@@ -204,7 +196,7 @@ flipped_field-returns-in_ok-name-in-Mark-Colon-clause-reads t c =
     (λ end k.
     takes_first (a_field c.args.depth) (wants (behind_flip c.args.depth c.args.place)) (word (codes "flip")) c.args.place _ _ c.requires.at_hand c.pass.ensures.rest refl end k
     ∙ names_flip c.args.depth c.args.place _ _ (found _ c.peek-next.result (Mark Colon) c.peek-next.ensures (search rules)) end k
-    ∙ ap (λ (n : Named). read_on true end (field_rest c.args.depth n.place false n.name k) (rest c.pass.new.self)) (sym c.in_ok-name-in-Mark-Colon.ensures))
+    ∙ ap (λ (n : PlacedName). read_on true end (field_rest c.args.depth n.place false n.name k) (rest c.pass.new.self)) (sym c.in_ok-name-in-Mark-Colon.ensures))
     c.field_behind.ensures.reads
 
 pub flipped_field-returns-in_err-name-in_default-clause-reads : goal.flipped_field-returns-in_err-name-in_default-clause-reads

@@ -1,18 +1,21 @@
 -- Each call has fewer tokens left, or passes the same ones to a later method of the cycle.
 use Rattle.std.proofs.Common.{◌≡◌, ◌+◌, ◌*◌, ◌≤◌, map, true}
-use Rattle.fir_ast.specs.BundleText.{field_of}
+use Rattle.fir_ast.specs.working.BundleText.{field_of}
 use Rattle.fir_ast.specs.View.{fields_of}
 use Rattle.fir_ast.specs.declared.place.Place.{Place}
-use Rattle.fir_parse.specs.BundlePlans.{some_fields, before}
+use Rattle.fir_parse.specs.working.BundlePlans.{some_fields, before}
 use Rattle.fir_parse.specs.Heights.{fields_height}
 use Rattle.fir_parse.specs.Reading.{read_on}
-use Rattle.fir_parse.specs.Reads.{left, rest}
+use Rattle.fir_parse.specs.working.Reads.{left, rest}
 use Rattle.fir_parse.specs.States.{State}
 use Rattle.fir_parse.specs.Symbols.{FieldsTree}
 use Rattle.fir_parse.proofs.parser.Parser.+types.Given as goal
 
 abbrev pub decreases-ty : goal.decreases-ty
-decreases-ty l = 4 * left l.self.now + 1
+decreases-ty l = 4 * left l.self.now + 2
+
+abbrev pub decreases-type_at_hand : goal.decreases-type_at_hand
+decreases-type_at_hand l = 4 * left l.self.now + 1
 
 abbrev pub decreases-bundle : goal.decreases-bundle
 decreases-bundle l = 4 * left l.self.now

@@ -2,8 +2,8 @@ use Rattle.std.proofs.Common.{◌≡◌, true, false, codes, refl, sym, ap, ◌�
 use Rattle.std.specs.Str.{bytes_eq}
 use Rattle.fir_parse.specs.declared.lexeme.Lexeme.TheVariants.{Word}
 use Rattle.fir_parse.specs.Lexemes.{word}
-use Rattle.fir_parse.specs.ModuleTrees.{port_or_of}
-use Rattle.fir_parse.specs.PartPlans.{no_port_plan, port_plan}
+use Rattle.fir_parse.specs.working.ModuleTrees.{port_or_of}
+use Rattle.fir_parse.specs.working.PartPlans.{no_port_plan, port_plan}
 use Rattle.fir_parse.specs.States.{wants}
 use Rattle.fir_parse.specs.Symbols.{behind_direction, behind_port_is}
 use Rattle.fir_parse.proofs.Plans.{found, reads_behind, takes_first}

@@ -3,8 +3,8 @@ use Rattle.fir_parse.specs.declared.lexeme.Lexeme.TheVariants.{Mark}
 use Rattle.fir_parse.specs.declared.lexeme.Mark.TheVariants.{Colon}
 use Rattle.fir_parse.specs.CircuitRules.{port_rest}
 use Rattle.fir_parse.specs.Lexemes.{mark}
-use Rattle.fir_parse.specs.ModuleTrees.{port_or_of}
-use Rattle.fir_parse.specs.PartPlans.{invalid_plan}
+use Rattle.fir_parse.specs.working.ModuleTrees.{port_or_of}
+use Rattle.fir_parse.specs.working.PartPlans.{invalid_plan}
 use Rattle.fir_parse.specs.StatementRules.{is_named}
 use Rattle.fir_parse.specs.States.{wants}
 use Rattle.fir_parse.specs.Symbols.{behind_port_is}

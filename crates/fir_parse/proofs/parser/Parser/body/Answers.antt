@@ -5,7 +5,7 @@ use Rattle.fir_ast.specs.View.{port_of}
 use Rattle.fir_parse.specs.declared.lexeme.Lexeme.{Lexeme}
 use Rattle.fir_parse.specs.declared.lexeme.Lexeme.TheVariants.{LevelOpens}
 use Rattle.fir_parse.specs.Lexemes.{level_opens, seen}
-use Rattle.fir_parse.specs.ModuleTrees.{body_of}
+use Rattle.fir_parse.specs.working.ModuleTrees.{body_of}
 use Rattle.fir_parse.specs.Reading.{step}
 use Rattle.fir_parse.specs.States.{wants, without}
 use Rattle.fir_parse.specs.Symbols.{a_body, ports_and_statements}

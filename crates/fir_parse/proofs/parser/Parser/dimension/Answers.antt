@@ -4,9 +4,9 @@ use Rattle.fir_ast.specs.Types.{vector}
 use Rattle.fir_ast.specs.View.{type_of}
 use Rattle.fir_parse.specs.Symbols.{dimensions}
 use Rattle.fir_parse.specs.States.{wants, opens}
-use Rattle.fir_parse.specs.Reads.{rest}
-use Rattle.fir_parse.proofs.Plans.{opened, opened_too_many}
-use Rattle.fir_parse.proofs.TypeReads.{exits_before, begins_dimension, open_dimension, closed_dimension, ended_at, too_tall_at, same_dimensions}
+use Rattle.fir_parse.specs.working.Reads.{rest}
+use Rattle.fir_parse.proofs.Plans.{opened, opened_too_many, exits_before}
+use Rattle.fir_parse.proofs.TypeReads.{begins_dimension, open_dimension, closed_dimension, ended_at, too_tall_at, same_dimensions}
 use Rattle.fir_parse.proofs.TypeViews.{vector_view}
 use Rattle.fir_parse.proofs.parser.Parser.dimension.Goals as goal
 

@@ -5,7 +5,7 @@ use Rattle.fir_ast.specs.Types.{DataType}
 use Rattle.fir_ast.specs.View.{type_of}
 use Rattle.fir_parse.specs.Heights.{type_height}
 use Rattle.fir_parse.specs.Reading.{read_on}
-use Rattle.fir_parse.specs.Reads.{left, rest, HasHeight}
+use Rattle.fir_parse.specs.working.Reads.{left, rest, HasHeight}
 use Rattle.fir_parse.specs.States.{State, wants}
 use Rattle.fir_parse.specs.Symbols.{dimensions}
 use Rattle.fir_parse.proofs.parser.Parser.dimensions.Given as goal

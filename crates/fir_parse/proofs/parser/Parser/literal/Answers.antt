@@ -9,9 +9,9 @@ use Rattle.fir_parse.proofs.parser.Parser.literal.Goals as goal
 
 pub returns-in-Integer-clause-reads : goal.returns-in-Integer-clause-reads
 returns-in-Integer-clause-reads c =
-    reads_numeral c.args.place c.args.signed c.args.width (Some (integer_value c.in-Integer.spelling.now)) (integer c.in-Integer.spelling.now) c.peek-next.result.place _ _ c.numbered.result
-    (found _ c.peek-next.result (Integer c.in-Integer.spelling) c.peek-next.ensures c.in-Integer.is) c.pass.ensures.rest refl
-    (numbered_as_spelled c.args.place c.args.signed c.args.width (Some (integer_value c.in-Integer.spelling.now)) c.peek-next.result.place c.numbered.result (rw c.integer_numeral.ensures at c.numbered.ensures))
+    reads_numeral c.args.place c.args.signed c.args.width (Some (integer_value c.in-Integer.integer.spelling.now)) (integer c.in-Integer.integer.spelling.now) c.peek-next.result.place _ _ c.numbered.result
+    (found _ c.peek-next.result (Integer c.in-Integer.integer) c.peek-next.ensures c.in-Integer.is) c.pass.ensures.rest refl
+    (rw c.integer_numeral-numeral.ensures at c.numbered.ensures)
 
 pub returns-in-Text-clause-reads : goal.returns-in-Text-clause-reads
 returns-in-Text-clause-reads c =

@@ -16,7 +16,7 @@ use Rattle.fir_parse.proofs.parser.Parser.module.Goals as goal
 
 pub returns-in-Module-clause-reads : goal.returns-in-Module-clause-reads
 returns-in-Module-clause-reads c =
-    leads_behind (wants first_module) (λ m k. wants more_modules (λ ms. k (module_of m ∷ ms))) (λ k. one_module k) module_of _ _ _ c.module_behind.result
+    leads_behind (wants first_module) (λ m k. wants more_modules (λ ms. k (module_of m ∷ ms))) (λ k. one_module c.peek-next.result.place k) module_of _ _ _ c.module_behind.result
     (λ k m. wants more_modules (λ ms. k (m ∷ ms))) (λ x k. refl)
     (takes_first first_module _ (word c.in-Word.word.now) c.peek-next.result.place _ _ (found _ c.peek-next.result (Word c.in-Word.word) c.peek-next.ensures c.in-Word.is) c.pass.ensures.rest (ap (λ m. by_module_word m c.peek-next.result.place c.in-Word.word.now) (sym c.in-Module.ensures)))
     c.module_behind.ensures.reads

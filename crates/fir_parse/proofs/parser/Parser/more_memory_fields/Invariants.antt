@@ -3,7 +3,7 @@ use Rattle.fir_ast.specs.declared.place.Place.{Place}
 use Rattle.fir_ast.specs.Statements.{MemoryPart}
 use Rattle.fir_ast.specs.View.{memory_part_of}
 use Rattle.fir_parse.specs.Reading.{read_on}
-use Rattle.fir_parse.specs.Reads.{left, rest}
+use Rattle.fir_parse.specs.working.Reads.{left, rest}
 use Rattle.fir_parse.specs.States.{State, wants}
 use Rattle.fir_parse.specs.Symbols.{more_memory_fields}
 use Rattle.fir_parse.proofs.parser.Parser.more_memory_fields.Given as goal

@@ -4,7 +4,7 @@ use Rattle.fir_ast.specs.View.{module_of}
 use Rattle.fir_parse.specs.declared.lexeme.Lexeme.TheVariants.{LevelCloses}
 use Rattle.fir_parse.specs.Lexemes.{level_closes}
 use Rattle.fir_parse.specs.Reading.{read_on}
-use Rattle.fir_parse.specs.Reads.{rest}
+use Rattle.fir_parse.specs.working.Reads.{rest}
 use Rattle.fir_parse.specs.States.{wants}
 use Rattle.fir_parse.specs.Symbols.{first_module, more_modules}
 use Rattle.fir_parse.proofs.LoopReads.{pushed}

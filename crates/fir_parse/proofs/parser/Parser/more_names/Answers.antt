@@ -4,7 +4,7 @@ use Rattle.fir_ast.specs.View.{named_of}
 use Rattle.fir_parse.specs.declared.lexeme.Lexeme.TheVariants.{LineEnd}
 use Rattle.fir_parse.specs.Lexemes.{line_end}
 use Rattle.fir_parse.specs.Reading.{read_on}
-use Rattle.fir_parse.specs.Reads.{rest}
+use Rattle.fir_parse.specs.working.Reads.{rest}
 use Rattle.fir_parse.specs.States.{wants}
 use Rattle.fir_parse.specs.Symbols.{a_name, more_names}
 use Rattle.fir_parse.proofs.LoopReads.{pushed}

@@ -4,9 +4,9 @@ use Rattle.fir_ast.specs.View.{port_of}
 use Rattle.fir_parse.specs.declared.lexeme.Lexeme.TheVariants.{LevelCloses}
 use Rattle.fir_parse.specs.CircuitRules.{behind_port}
 use Rattle.fir_parse.specs.Lexemes.{level_closes}
-use Rattle.fir_parse.specs.ModuleTrees.{port_or_of}
+use Rattle.fir_parse.specs.working.ModuleTrees.{port_or_of}
 use Rattle.fir_parse.specs.Reading.{read_on}
-use Rattle.fir_parse.specs.Reads.{rest}
+use Rattle.fir_parse.specs.working.Reads.{rest}
 use Rattle.fir_parse.specs.States.{wants}
 use Rattle.fir_parse.specs.Symbols.{ports_and_statements}
 use Rattle.fir_parse.proofs.PortReads.{after_ports, no_port_behind, no_port_here, no_statements, one_port_more}

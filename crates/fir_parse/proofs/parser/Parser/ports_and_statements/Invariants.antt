@@ -2,7 +2,7 @@ use Rattle.std.proofs.Common.{◌≡◌, ◌≤◌, map, true}
 use Rattle.fir_ast.specs.declared.place.Place.{Place}
 use Rattle.fir_ast.specs.View.{port_of}
 use Rattle.fir_parse.specs.Reading.{read_on}
-use Rattle.fir_parse.specs.Reads.{left, rest}
+use Rattle.fir_parse.specs.working.Reads.{left, rest}
 use Rattle.fir_parse.specs.States.{State, wants}
 use Rattle.fir_parse.specs.Symbols.{BodyTree, ports_and_statements}
 use Rattle.fir_parse.proofs.PortReads.{after_ports}

@@ -2,7 +2,7 @@ use Rattle.std.proofs.Common.{true, sym, ap, ◌∙◌}
 use Rattle.fir_ast.specs.View.{named_of}
 use Rattle.fir_parse.specs.declared.lexeme.Mark.TheVariants.{Colon}
 use Rattle.fir_parse.specs.Reading.{read_on}
-use Rattle.fir_parse.specs.Reads.{rest}
+use Rattle.fir_parse.specs.working.Reads.{rest}
 use Rattle.fir_parse.specs.States.{wants}
 use Rattle.fir_parse.specs.StatementRules.{begun, register_rest}
 use Rattle.fir_parse.specs.Symbols.{a_mark}

@@ -5,7 +5,7 @@ use Rattle.fir_parse.specs.declared.words.Applied.{Applied}
 use Rattle.fir_parse.specs.ExpressionRules.{sized_by}
 use Rattle.fir_parse.specs.Lexemes.{mark}
 use Rattle.fir_parse.specs.Reading.{read_on}
-use Rattle.fir_parse.specs.Reads.{rest}
+use Rattle.fir_parse.specs.working.Reads.{rest}
 use Rattle.fir_parse.specs.States.{State}
 use Rattle.fir_parse.specs.Symbols.{behind_word}
 use Rattle.fir_parse.proofs.BehindWords.{sized_first, not_sized, name_reads}

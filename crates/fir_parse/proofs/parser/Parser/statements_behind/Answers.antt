@@ -1,9 +1,9 @@
 use Rattle.std.proofs.Common.{true, map, sym, ap, ◌∙◌}
 use Rattle.fir_ast.specs.View.{block_of, stmt_of}
 use Rattle.fir_parse.specs.Reading.{read_on}
-use Rattle.fir_parse.specs.Reads.{rest}
+use Rattle.fir_parse.specs.working.Reads.{rest}
 use Rattle.fir_parse.specs.StatementRules.{behind_statement}
-use Rattle.fir_parse.specs.StatementTrees.{begun_of, done_of, more_statements, statements_before}
+use Rattle.fir_parse.specs.working.StatementTrees.{begun_of, done_of, more_statements, statements_before}
 use Rattle.fir_parse.proofs.Plans.{reads_behind}
 use Rattle.fir_parse.proofs.Sequences.{behind_alike}
 use Rattle.fir_parse.proofs.parser.Parser.statements_behind.Goals as goal

@@ -5,7 +5,7 @@ use Rattle.fir_parse.specs.declared.lexeme.Lexeme.{Lexeme}
 use Rattle.fir_parse.specs.declared.lexeme.Lexeme.TheVariants.{Word}
 use Rattle.fir_parse.specs.CircuitRules.{version_rest}
 use Rattle.fir_parse.specs.Lexemes.{word}
-use Rattle.fir_parse.specs.PartPlans.{circuit_plan}
+use Rattle.fir_parse.specs.working.PartPlans.{circuit_plan}
 use Rattle.fir_parse.specs.States.{wants}
 use Rattle.fir_parse.specs.Symbols.{a_text}
 use Rattle.fir_parse.proofs.Plans.{found, reads_behind, takes_first}

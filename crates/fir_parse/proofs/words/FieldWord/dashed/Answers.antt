@@ -1,6 +1,6 @@
 use Rattle.std.proofs.Common.{refl, arith, ap, codes, get_or, length, rules}
 use Rattle.std.proofs.lemmas.Slice.Eq.{text_from_reads}
-use Rattle.fir_parse.proofs.SameWords.{apart}
+use Rattle.fir_base.proofs.SameNames.{name_other}
 use Rattle.fir_parse.proofs.words.FieldWord.dashed.Goals as goal
 
 pub returns-in-100 : goal.returns-in-100
@@ -19,18 +19,18 @@ pub returns-in_default-13 : goal.returns-in_default-13
 returns-in_default-13 c =
     let w = c.args.word.now in
     rw (
-      apart w (codes "data-type") (λ e. omega (arith, ap length e)),
-      apart w (codes "read-latency") (λ e. omega (arith, ap (λ s. get_or s 10 0) e)),
-      apart w (codes "write-latency") (λ e. omega (arith, ap length e)),
-      apart w (codes "read-under-write") (λ e. omega (arith, ap length e)),
+      name_other w (codes "data-type") (λ e. omega (arith, ap length e)),
+      name_other w (codes "read-latency") (λ e. omega (arith, ap (λ s. get_or s 10 0) e)),
+      name_other w (codes "write-latency") (λ e. omega (arith, ap length e)),
+      name_other w (codes "read-under-write") (λ e. omega (arith, ap length e)),
     ) refl
 
 pub returns-in_default-25 : goal.returns-in_default-25
 returns-in_default-25 c =
     let w = c.args.word.now in
     rw (
-      apart w (codes "data-type") (λ e. omega (arith, ap length e)),
-      apart w (codes "read-latency") (λ e. omega (arith, ap length e)),
-      apart w (codes "write-latency") (λ e. omega (arith, ap (λ s. get_or s 11 0) e)),
-      apart w (codes "read-under-write") (λ e. omega (arith, ap length e)),
+      name_other w (codes "data-type") (λ e. omega (arith, ap length e)),
+      name_other w (codes "read-latency") (λ e. omega (arith, ap length e)),
+      name_other w (codes "write-latency") (λ e. omega (arith, ap (λ s. get_or s 11 0) e)),
+      name_other w (codes "read-under-write") (λ e. omega (arith, ap length e)),
     ) refl

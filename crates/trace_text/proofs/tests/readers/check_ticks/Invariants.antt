@@ -1,5 +1,5 @@
 use Rattle.std.proofs.Common.{◌≤◌, length}
-use Rattle.trace_text.specs.Rooms.{HasRoom}
+use Rattle.trace_text.specs.working.Rooms.{HasRoom}
 use Rattle.trace_text.proofs.tests.readers.check_ticks.Given as goal
 
 abbrev pub invariant-loop-clocks : goal.invariant-loop-clocks

@@ -1,0 +1,55 @@
+#!/usr/bin/env bash
+# The checks beside the proofs, over the program as it is built: the rows, the second readings of
+# the rules and of the grammar, the list of definitions, and other tools. All parts run, also behind
+# one that failed. The last line says how much passed; the status is 1 where a part failed.
+set -u
+cd "$(dirname "$0")/.." || exit 1
+log=$(mktemp) || exit 1
+trap 'rm -f "$log"' EXIT
+failed=()
+
+if ! ./firc emit examples/xor.fir >/dev/null; then
+  echo "checks: FAILED: there is no program"
+  exit 1
+fi
+
+# Runs a part of that name, and keeps what it says.
+part() {
+  local name=$1
+  shift
+  "$@" 2>&1 | tee "$log"
+  [ "${PIPESTATUS[0]}" -eq 0 ] || failed+=("$name")
+}
+
+# Sets `counted` to how many passed by the last part's line of that form; one of none failed.
+count() {
+  counted=$(sed -n "s/^$2\$/\\1/p" "$log" | tail -n 1)
+  counted=${counted:-0}
+  if [ "$counted" -eq 0 ] && [[ " ${failed[*]:-} " != *" $1 "* ]]; then
+    echo "checks: $1 counted nothing"
+    failed+=("$1")
+  fi
+}
+
+rows=0 circuits=0 skipped=
+if command -v python3 >/dev/null 2>&1; then
+  part rows python3 checks/rows.py
+  count rows 'rows: \([0-9]*\) passed.*'
+  rows=$counted
+  part grammar python3 checks/grammar.py check
+  part cuts python3 checks/grammar.py cuts
+  part circuits python3 checks/circuits.py 200
+  count circuits 'circuits: the same on \([0-9]*\) circuits.*'
+  circuits=$counted
+  part definitions python3 checks/definitions.py --check
+else
+  skipped=" (python3 is not installed)"
+  echo "checks: python3 is not installed; rows, grammar, circuits and definitions are skipped"
+fi
+part interop checks/interop.sh
+count interop 'interop: \([0-9]*\) examples passed'
+
+outcome="passed$skipped"
+[ "${#failed[@]}" -eq 0 ] || outcome="FAILED: ${failed[*]}$skipped"
+echo "checks: $rows rows, $circuits circuits, $counted examples: $outcome"
+[ "${#failed[@]}" -eq 0 ]

@@ -1,0 +1,79 @@
+#!/usr/bin/env python3
+"""Prints a Verilog test bench that runs a trace and prints the lines of NAME.expected.
+
+It sets the words of the state at time 0. At each tick it puts the inputs and shows the outputs,
+raises the clocks of the tick at one time, shows the state, and lowers the clocks later. The state
+is shown while the clocks are high, so that what the falling edge changes is seen at this tick or
+the next.
+
+usage: test_bench.py SOURCE.fir SOURCE.trace
+"""
+import pathlib
+import sys
+
+from emitted_names import emitted_module, emitted_names
+from expected import Circuit, read_trace
+
+
+def variables(kind, letter, widths):
+    """Declarations of variables of the bench, each named by a letter and its number."""
+    for k, width in enumerate(widths):
+        yield f"  {kind} {f'[{width - 1}:0] ' if width > 1 else ''}{letter}{k};"
+
+
+def connections(circuit, names):
+    """The ports of the module, each at the variable of the bench that stands for it."""
+    clocks = [(name, 1) for name in circuit.clocks]
+    for letter, ports in (("i", circuit.inputs), ("o", circuit.outputs), ("c", clocks)):
+        for k, (name, width) in enumerate(ports):
+            yield f".{names[name]}({letter}{k})"
+
+
+def shows(task, shape, values):
+    return f"{task}({', '.join([chr(34) + shape + chr(34)] + values)});"
+
+
+def tick(circuit, words, rising, inputs):
+    """The statements of a tick; all clocks are set by one assignment."""
+    outputs = [f"o{k}" for k in range(len(circuit.outputs))]
+    for k, ((name, width), value) in enumerate(zip(circuit.inputs, inputs)):
+        yield f"i{k} = {width}'h{value:x};"
+    yield "#1 " + shows("$write", "%h " * len(outputs) + "|", outputs)
+    clocks = "{" + ", ".join(f"c{k}" for k in range(len(circuit.clocks))) + "}"
+    levels = "".join("1" if k in rising else "0" for k in range(len(circuit.clocks)))
+    if rising:
+        yield f"#1 {clocks} = {len(levels)}'b{levels};"
+    yield "#1 " + shows("$display", " %h" * len(words), words)
+    if rising:
+        yield f"#1 {clocks} = 0;"
+
+
+def test_bench(circuit, init, ticks):
+    """The lines of the bench, for an initial state and ticks as `read_trace` gives them."""
+    names, module = emitted_names(circuit), emitted_module(circuit)
+    words = [names[name] for name, width, clock in circuit.words]
+    yield f"module {'bench_0' if module == 'bench' else 'bench'};"
+    yield from variables("reg", "i", [width for name, width in circuit.inputs])
+    yield from variables("reg", "c", [1] * len(circuit.clocks))
+    yield from variables("wire", "o", [width for name, width in circuit.outputs])
+    yield f"  {module} dut({', '.join(connections(circuit, names))});"
+    yield "  initial begin"
+    yield from (f"    c{k} = 0;" for k in range(len(circuit.clocks)))
+    for word, (name, width, clock), value in zip(words, circuit.words, init):
+        yield f"    dut.{word} = {width}'h{value:x};"
+    for rising, inputs in ticks:
+        yield "    " + " ".join(tick(circuit, [f"dut.{word}" for word in words], rising, inputs))
+    yield "  end"
+    yield "endmodule"
+
+
+def main():
+    if len(sys.argv) != 3:
+        sys.exit(__doc__)
+    source, trace = (pathlib.Path(word).read_text() for word in sys.argv[1:])
+    circuit = Circuit(source)
+    print("\n".join(test_bench(circuit, *read_trace(circuit, trace))))
+
+
+if __name__ == "__main__":
+    main()

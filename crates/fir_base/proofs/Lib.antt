@@ -1,0 +1,9 @@
+pub mod Decimals
+pub mod Digits
+pub mod Elements
+pub mod Members
+pub mod Twins
+pub mod Each
+pub mod Tests
+pub mod Empty
+pub mod SameNames

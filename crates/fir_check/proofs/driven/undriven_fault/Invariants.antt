@@ -1,0 +1,9 @@
+use Rattle.std.proofs.Common.{◌≡◌, map, drop, flat_map}
+use Rattle.fir_ast.specs.View.{module_of}
+use Rattle.fir_meaning.specs.DrivenFaults.{undriven_faults}
+use Rattle.fir_check.specs.working.Firsts.{first_of}
+use Rattle.fir_check.proofs.driven.undriven_fault.Given as goal
+
+abbrev pub invariant-loop-m : goal.invariant-loop-m
+invariant-loop-m l =
+    first_of (flat_map undriven_faults (map module_of l.c.modules.items)) ≡ first_of (flat_map undriven_faults (map module_of (drop l.m-index l.m-items)))

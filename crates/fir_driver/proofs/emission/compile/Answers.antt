@@ -1,8 +1,0 @@
-use Rattle.fir_ast.specs.View.{circuit_of}
-use Rattle.fir_driver.proofs.Compiles.{compiled}
-use Rattle.fir_driver.proofs.emission.compile.Goals as goal
-
-pub returns : goal.returns
-returns c =
-    compiled c.valid_has_one.ensures c.faultless_has_one.ensures (circuit_of c.args.c.now) c.in_ok-net.net c.requires.in_language c.requires.faultless c.in_ok-net.ensures
-    c.build.result c.build.ensures

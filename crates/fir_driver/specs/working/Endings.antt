@@ -1,0 +1,49 @@
+-- How the parts of a run end: a put of a line, a put of the emitted text, and all that is done with the bytes that were read.
+-- A put that fails makes the status `Unwritten`, one that finds no memory `NoMemory`.
+use Rattle.std.specs.Prelude.{◌≡◌, ℕ, List, ◌⊎◌}
+use Rattle.fir_io.specs.declared.ports.FileFault.{FileFault}
+use Rattle.fir_io.specs.declared.ports.FileFault.TheVariants as file
+use Rattle.fir_io.specs.Ports.{SinkSeen, Rose, Grew}
+use Rattle.fir_driver.specs.declared.status.Status.{Status}
+use Rattle.fir_driver.specs.declared.status.Status.TheVariants as status
+use Rattle.fir_driver.specs.Outside.{Kept, GrewByFront}
+use Rattle.fir_driver.specs.Messages.{unread_line, too_long_line, unwritten_line, memory_line}
+use Rattle.fir_driver.specs.Emits.{Emits}
+use Rattle.fir_driver.specs.Refusals.{Refuses}
+
+-- a line was put, which ends with the due status
+abbrev pub Said : List ℕ → Status → SinkSeen → SinkSeen → Status → Type 0
+Said line due old new ending =
+    ((ending ≡ due) × Grew old new line)
+    ⊎ ((ending ≡ status.Unwritten) × Rose old.faults new.faults × GrewByFront old new line)
+    ⊎ ((ending ≡ status.NoMemory) × Kept old new)
+
+-- a line that names a file was put, or the one on memory where there was none to make it
+abbrev pub Complained : List ℕ → Status → SinkSeen → SinkSeen → Status → Type 0
+Complained line due old new ending = Said line due old new ending ⊎ Said memory_line status.NoMemory old new ending
+
+-- a file was not read, and the line that is due was put
+abbrev pub Untaken : List ℕ → FileFault → SinkSeen → SinkSeen → Status → Type 0
+Untaken name file.Failed old new ending = Complained (unread_line name) status.Unread old new ending
+Untaken name file.TooLong old new ending = Complained (too_long_line name) status.TooLong old new ending
+Untaken name file.Memory old new ending = Said memory_line status.NoMemory old new ending
+
+-- the text was put to the output, and what is due then to the error output
+abbrev pub Written : List ℕ → SinkSeen → SinkSeen → SinkSeen → SinkSeen → Status → Type 0
+Written text out out' err err' status.Done = Grew out out' text × (err' ≡ err)
+Written text out out' err err' status.Unwritten =
+    (Rose out.faults out'.faults × GrewByFront out out' text × GrewByFront err err' unwritten_line)
+    ⊎ (Kept out out' × Rose err.faults err'.faults × GrewByFront err err' memory_line)
+Written text out out' err err' status.NoMemory = (Kept out out' ⊎ GrewByFront out out' text) × (Grew err err' memory_line ⊎ Kept err err')
+Written text out out' err err' other = ⊥
+
+-- the bytes were emitted or refused
+abbrev pub Emitted : List ℕ → SinkSeen → SinkSeen → SinkSeen → SinkSeen → Status → Type 0
+Emitted bytes out out' err err' status.Done = (text : List ℕ) × Emits bytes text × Grew out out' text × (err' ≡ err)
+Emitted bytes out out' err err' status.Refused = (line : List ℕ) × Refuses bytes line × (out' ≡ out) × Grew err err' line
+Emitted bytes out out' err err' status.Unwritten =
+    ((text : List ℕ) × Emits bytes text × Rose out.faults out'.faults × GrewByFront out out' text × GrewByFront err err' unwritten_line)
+    ⊎ (Kept out out' × Rose err.faults err'.faults × (GrewByFront err err' memory_line ⊎ ((line : List ℕ) × Refuses bytes line × GrewByFront err err' line)))
+Emitted bytes out out' err err' status.NoMemory =
+    (Kept out out' ⊎ ((text : List ℕ) × Emits bytes text × GrewByFront out out' text)) × (Grew err err' memory_line ⊎ Kept err err')
+Emitted bytes out out' err err' other = ⊥

@@ -1,0 +1,6 @@
+-- A lacking form in the code, as the definitions see it.
+use Rattle.fir_meaning.specs.Lacking.{Lack}
+use Rattle.fir_driver.specs.declared.lacking.Lack.{Lack as LackOfCode}
+
+abbrev pub lack_of : LackOfCode → Lack
+lack_of l = record { place = l.place; word = l.word.now }

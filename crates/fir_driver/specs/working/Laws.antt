@@ -1,0 +1,9 @@
+-- Laws about the definitions.
+use Rattle.std.specs.Prelude.{ℕ, List}
+use Rattle.fir_ast.specs.Circuits.{CircuitTree}
+use Rattle.fir_parse.specs.Spells.{Spells}
+use Rattle.fir_lower.specs.working.HasWords.{HasWords}
+
+-- the names in the circuit of a text are words
+abbrev pub SpelledNamesAreWords : Type 0
+SpelledNamesAreWords = (bytes : List ℕ) (c : CircuitTree) → Spells bytes c → HasWords c

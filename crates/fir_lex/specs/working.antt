@@ -1,0 +1,7 @@
+-- What no clause of `run` reads: contracts between layers, laws, views of the code and its states.
+pub mod TokenText
+pub mod Numbers
+pub mod View
+pub mod Blocks
+pub mod Steps
+pub mod Ways

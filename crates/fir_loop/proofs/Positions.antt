@@ -1,0 +1,54 @@
+-- Elements of a list after a push, a write and a cut, and lists in which none stands twice.
+use Rattle.std.proofs.Common.{◌≡◌, ℕ, zero, suc, ◌+◌, ◌<◌, List, [], ◌∷◌, ◌++◌, Some, length, set, drop, refl, sym, ap, ◌∙◌, inl, inr, ◌⊎◌, arith, zero-add}
+use Rattle.std.specs.Prelude.{slice_get}
+use Rattle.std.proofs.lemmas.Option.{none-some, slice_get_within}
+use Rattle.fir_base.specs.Lists.{Distinct}
+use Rattle.fir_base.proofs.Elements.{get_left, get_behind, get_in, number_of}
+
+pub push_left : {A : Type 0} → (xs ys : List A) (i : ℕ) (z : A) → slice_get xs i ≡ Some z → slice_get (xs ++ ys) i ≡ Some z
+push_left xs ys i z h = get_left xs ys i (slice_get_within xs i z h) ∙ h
+
+pub push_end : {A : Type 0} → (xs : List A) (y : A) → slice_get (xs ++ y ∷ []) (length xs) ≡ Some y
+push_end xs y = get_behind xs [] y
+
+-- an old one, or the new one
+pub push_cases : {A : Type 0} → (xs : List A) (y : A) (i : ℕ) (z : A) → slice_get (xs ++ y ∷ []) i ≡ Some z → (slice_get xs i ≡ Some z) ⊎ ((i ≡ length xs) × (y ≡ z))
+push_cases [] y zero z h = inr (refl, cc)
+push_cases [] y (suc i) z h = absurd (none-some z h)
+push_cases (x ∷ xs) y zero z h = inl h
+push_cases (x ∷ xs) y (suc i) z h = more (push_cases xs y i z h)
+  where
+    more : (slice_get xs i ≡ Some z) ⊎ ((i ≡ length xs) × (y ≡ z)) → (slice_get xs i ≡ Some z) ⊎ ((suc i ≡ suc (length xs)) × (y ≡ z))
+    more (inl e) = inl e
+    more (inr (e, f)) = inr (ap suc e, f)
+
+pub write_same : {A : Type 0} → (xs : List A) (i : ℕ) (y : A) → i < length xs → slice_get (set xs i y) i ≡ Some y
+write_same [] i y h = absurd (omega (arith, h))
+write_same (x ∷ xs) zero y h = refl
+write_same (x ∷ xs) (suc i) y h = write_same xs i y (omega (arith, h))
+
+pub write_other : {A : Type 0} → (xs : List A) (i : ℕ) (y : A) (j : ℕ) → (j ≡ i → ⊥) → slice_get (set xs i y) j ≡ slice_get xs j
+write_other [] i y j n = refl
+write_other (x ∷ xs) zero y zero n = absurd (n refl)
+write_other (x ∷ xs) zero y (suc j) n = refl
+write_other (x ∷ xs) (suc i) y zero n = refl
+write_other (x ∷ xs) (suc i) y (suc j) n = write_other xs i y j (λ e. n (ap suc e))
+
+pub get-drop : {A : Type 0} → (s : ℕ) (xs : List A) (i : ℕ) → slice_get (drop s xs) i ≡ slice_get xs (s + i)
+get-drop zero xs i = rw zero-add refl
+get-drop (suc s) [] i = refl
+get-drop (suc s) (x ∷ xs) i =
+    let e : suc s + i ≡ suc (s + i) = omega arith in
+    get-drop s xs i ∙ ap (slice_get (x ∷ xs)) (sym e)
+
+-- none stands twice: by places, and by recursion
+pub distinct_from : {A : Type 0} → (xs : List A) → ((i j : ℕ) (x : A) → slice_get xs i ≡ Some x → slice_get xs j ≡ Some x → i ≡ j) → Distinct xs
+distinct_from [] h = tt
+distinct_from (x ∷ xs) h = ((λ m. let at = number_of xs x m in omega (arith, h 0 (suc at.0) x refl at.1)), distinct_from xs (λ i j y p q. omega (arith, h (suc i) (suc j) y p q)))
+
+pub distinct_at : {A : Type 0} → (xs : List A) → Distinct xs → (i j : ℕ) (x : A) → slice_get xs i ≡ Some x → slice_get xs j ≡ Some x → i ≡ j
+distinct_at [] d i j x p q = absurd (none-some x p)
+distinct_at (y ∷ xs) d zero zero x p q = refl
+distinct_at (y ∷ xs) d zero (suc j) x p q = let same : x ≡ y = cc in absurd (d.0 (get_in xs j y (q ∙ ap Some same)))
+distinct_at (y ∷ xs) d (suc i) zero x p q = let same : x ≡ y = cc in absurd (d.0 (get_in xs i y (p ∙ ap Some same)))
+distinct_at (y ∷ xs) d (suc i) (suc j) x p q = ap suc (distinct_at xs d.1 i j x p q)

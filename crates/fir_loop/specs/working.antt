@@ -1,0 +1,7 @@
+-- What no clause of `run` reads: contracts between layers, laws, views of the code and its states.
+pub mod IsLoop
+pub mod Orders
+pub mod Laws
+pub mod IsCircle
+pub mod Marked
+pub mod Searched

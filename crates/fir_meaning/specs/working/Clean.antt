@@ -1,0 +1,112 @@
+-- What it means, form by form, that a circuit of the language shows no fault.
+-- Each name is declared once and read where it may be, each literal fits its width, each operation has a type, each register is clocked by a clock,
+-- each sink is an output or a register, and each output is connected.
+use Rattle.std.specs.Prelude.{◌≡◌, ℕ, ◌^◌, ◌<◌, ◌≤◌, List, [], ◌∷◌, ◌++◌, true, false, map, Some, None, Result, Ok, ◌⊎◌}
+use Rattle.fir_base.specs.Lists.{In}
+use Rattle.fir_base.specs.declared.direction.Direction.{Direction}
+use Rattle.fir_base.specs.declared.direction.Direction.TheVariants as direction
+use Rattle.fir_bits.specs.declared.types.NumTy.{NumTy}
+use Rattle.fir_bits.specs.declared.types.OpFault.{OpFault}
+use Rattle.fir_bits.specs.Types.{typed}
+use Rattle.fir_bits.specs.Taken.{is_taken}
+use Rattle.fir_ast.specs.declared.expressions.Literal.{Literal}
+use Rattle.fir_ast.specs.Types.{DataType, uint, clock}
+use Rattle.fir_ast.specs.Expressions.{Expression, reference, literal, operation, mux, validif, Expressions, no_expressions, expression}
+use Rattle.fir_ast.specs.Statements.{Statement, register, node, connect, skip, Block, done, then}
+use Rattle.fir_ast.specs.Circuits.{PortTree, ModuleTree, CircuitTree}
+use Rattle.fir_meaning.specs.Scopes.{clock_input, output, register_value, is_readable, Declared, Scope, look_up, types_of_each, declares, port_declared, scope_of}
+use Rattle.fir_meaning.specs.DrivenFaults.{is_connected}
+
+-- a name that may be read
+pub record IsReadable (scope : Scope) (name : List ℕ) : Type 0 where
+  pub declared : Declared
+  pub found : look_up scope name ≡ Some declared
+  pub readable : is_readable declared.kind ≡ true
+
+-- a literal of a UInt that fits its width
+pub record LiteralFits (l : Literal) : Type 0 where
+  pub width : ℕ
+  pub written : l.width ≡ Some width
+  pub narrow : width ≤ 128
+  pub below : l.magnitude < 2 ^ width
+  pub unsigned : l.signed ≡ false
+  pub positive : l.negative ≡ false
+
+-- the type of an operation, which is a UInt
+pub record HasType (type : Result NumTy OpFault) : Type 0 where
+  pub width : ℕ
+  pub narrow : width ≤ 128
+  pub has_type : type ≡ Ok (record { signed = false; width = width })
+
+abbrev mutual
+  pub IsClean : Scope → Expression → Type 0
+  IsClean scope (reference p n ps) = IsReadable scope n
+  IsClean scope (literal l) = LiteralFits l
+  IsClean scope (operation p o es ks) = AreClean scope es × (is_taken o ≡ true) × HasType (typed o (types_of_each scope es) ks)
+  IsClean scope (mux p c a b) = ⊥
+  IsClean scope (validif p c a) = ⊥
+
+  pub AreClean : Scope → Expressions → Type 0
+  AreClean scope no_expressions = Unit {0}
+  AreClean scope (expression e es) = IsClean scope e × AreClean scope es
+
+-- a declared output or register
+pub record IsSink (scope : Scope) (name : List ℕ) : Type 0 where
+  pub declared : Declared
+  pub found : look_up scope name ≡ Some declared
+  pub kind : (declared.kind ≡ output) ⊎ (declared.kind ≡ register_value)
+
+-- a name of a clock input
+pub record IsClockName (scope : Scope) (name : List ℕ) : Type 0 where
+  pub declared : Declared
+  pub found : look_up scope name ≡ Some declared
+  pub kind : declared.kind ≡ clock_input
+
+abbrev pub IsClock : Scope → Expression → Type 0
+IsClock scope (reference p n ps) = IsClockName scope n
+IsClock scope _ = ⊥
+
+-- a UInt of at most 128 bits, whose width is written
+pub record IsNarrow (t : DataType) : Type 0 where
+  pub width : ℕ
+  pub type : t ≡ uint (Some width)
+  pub narrow : width ≤ 128
+
+abbrev pub IsCleanStatement : Scope → Statement → Type 0
+IsCleanStatement scope (register p n begins t c r) = (look_up scope n.name ≡ None) × IsNarrow t × IsClock scope c × (r ≡ None)
+IsCleanStatement scope (node p n e) = (look_up scope n.name ≡ None) × IsClean scope e
+IsCleanStatement scope (connect p sink e) = IsSink scope sink.name × IsClean scope e
+IsCleanStatement scope (skip p) = Unit {0}
+IsCleanStatement scope _ = ⊥
+
+abbrev pub AreCleanStatements : Scope → Block → Type 0
+AreCleanStatements scope done = Unit {0}
+AreCleanStatements scope ((then) s b) = IsCleanStatement scope s × AreCleanStatements (scope ++ declares 0 scope s) b
+
+-- a port of a UInt of at most 128 bits, or a clock that is an input
+abbrev pub IsPortType : Direction → DataType → Type 0
+IsPortType direction.Input clock = Unit {0}
+IsPortType d t = IsNarrow t
+
+-- a port with a new name
+pub record IsCleanPort (scope : Scope) (p : PortTree) : Type 0 where
+  pub type : IsPortType p.direction p.data_type
+  pub new : look_up scope p.named.name ≡ None
+
+abbrev pub AreCleanPorts : Scope → List PortTree → Type 0
+AreCleanPorts scope [] = Unit {0}
+AreCleanPorts scope (p ∷ ps) = IsCleanPort scope p × AreCleanPorts (scope ++ port_declared p ∷ []) ps
+
+pub record IsCleanModule (m : ModuleTree) : Type 0 where
+  pub ports : AreCleanPorts [] m.ports
+  pub body : AreCleanStatements (map port_declared m.ports) m.body
+  pub connected : (p : PortTree) → In m.ports p → p.direction ≡ direction.Output → is_connected m.body p.named.name ≡ true
+  -- each declaration is the first of its name
+  pub found : (d : Declared) → In (scope_of m) d → look_up (scope_of m) d.named.name ≡ Some d
+
+-- the one module, of the circuit's name
+pub record IsCleanCircuit (c : CircuitTree) : Type 0 where
+  pub main : ModuleTree
+  pub only : c.modules ≡ main ∷ []
+  pub named : main.named.name ≡ c.named.name
+  pub clean : IsCleanModule main

@@ -1,0 +1,118 @@
+-- Which nets are whole.
+-- Each node reads leaves and nodes before it and has the type of its operation; what drives a leaf is a value of the net, and what drives a clock leaf a clock
+-- leaf or none; a register is clocked by a clock leaf, and the condition of its reset is one bit; a clock is one bit wide; the ports stand before the other
+-- leaves; all widths are at most 128, and all names are words.
+use Rattle.std.specs.Prelude.{◌≡◌, ℕ, ◌<◌, ◌≤◌, max, List, [], ◌∷◌, ◌++◌, length, map, slice_get, Bool, true, false, Option, Some, None, unwrap_or, option_map, Ok, IsTrue, MatchBool}
+use Rattle.std.specs.List.{AllByRecursion}
+use Rattle.ver_words.specs.Names.{is_word}
+use Rattle.fir_bits.specs.Values.{IsBitVector}
+use Rattle.fir_bits.specs.Types.{typed}
+use Rattle.fir_bits.specs.declared.types.NumTy.{NumTy}
+use Rattle.fir_net.specs.Paths.{base_name}
+use Rattle.fir_net.specs.declared.reads.Read.{Read}
+use Rattle.fir_net.specs.declared.reads.Read.TheVariants as read
+use Rattle.fir_net.specs.declared.leaf.Reset.{Reset}
+use Rattle.fir_net.specs.declared.leaf.Role.{Role}
+use Rattle.fir_net.specs.declared.leaf.Role.TheVariants as role
+use Rattle.fir_net.specs.declared.leaf.Leaf.{Leaf}
+use Rattle.fir_net.specs.declared.node.Operation.{Operation}
+use Rattle.fir_net.specs.declared.node.Mux.{Mux}
+use Rattle.fir_net.specs.declared.node.Node.{Node}
+use Rattle.fir_net.specs.declared.node.Node.TheVariants as node
+use Rattle.fir_net.specs.declared.net.FlatNet.{FlatNet}
+use Rattle.fir_net.specs.working.Values.{leaf_width}
+use Rattle.fir_net.specs.working.Settled.{is_clock}
+
+abbrev pub node_width : Node → ℕ
+node_width (node.Literal v) = v.width
+node_width (node.Operation o) = o.width
+node_width (node.Mux m) = m.width
+
+abbrev pub read_width : List Leaf → List Node → Read → ℕ
+read_width leaves nodes (read.Leaf k) = leaf_width leaves k
+read_width leaves nodes (read.Node k) = unwrap_or (option_map node_width (slice_get nodes k)) 0
+
+abbrev pub read_type : List Leaf → List Node → Read → NumTy
+read_type leaves nodes r = record { signed = false; width = read_width leaves nodes r }
+
+-- a leaf that is no clock, or one of these nodes
+abbrev pub CanRead : List Leaf → List Node → Read → Type 0
+CanRead leaves nodes (read.Leaf k) = (l : Leaf) × (slice_get leaves k ≡ Some l) × (is_clock l.role ≡ false)
+CanRead leaves nodes (read.Node k) = k < length nodes
+
+pub record IsOperation (leaves : List Leaf) (before : List Node) (o : Operation) : Type 0 where
+  pub reads : AllByRecursion (CanRead leaves before) o.reads
+  pub has_type : typed o.op (map (read_type leaves before) o.reads) o.integers ≡ Ok (record { signed = false; width = o.width })
+
+-- a condition of one bit, and the greater of the widths of both values
+abbrev pub IsChoice : ℕ → List ℕ → Type 0
+IsChoice w (c ∷ a ∷ b ∷ []) = (c ≡ 1) × (w ≡ max a b)
+IsChoice w _ = ⊥
+
+pub record IsMux (leaves : List Leaf) (before : List Node) (m : Mux) : Type 0 where
+  pub reads : AllByRecursion (CanRead leaves before) m.reads
+  pub has_width : IsChoice m.width (map (read_width leaves before) m.reads)
+
+abbrev pub IsNode : List Leaf → List Node → Node → Type 0
+IsNode leaves before (node.Literal v) = IsBitVector v
+IsNode leaves before (node.Operation o) = IsOperation leaves before o
+IsNode leaves before (node.Mux m) = IsMux leaves before m
+
+-- each node over those before it
+abbrev pub AreNodes : List Leaf → List Node → List Node → Type 0
+AreNodes leaves before [] = Unit {0}
+AreNodes leaves before (n ∷ ns) = IsNode leaves before n × AreNodes leaves (before ++ n ∷ []) ns
+
+abbrev pub CanBeRead : List Leaf → List Node → Option Read → Type 0
+CanBeRead leaves nodes None = Unit {0}
+CanBeRead leaves nodes (Some r) = CanRead leaves nodes r
+
+abbrev pub IsClock : List Leaf → ℕ → Type 0
+IsClock leaves k = (l : Leaf) × (slice_get leaves k ≡ Some l) × (is_clock l.role ≡ true)
+
+abbrev pub CanBeClock : List Leaf → Option ℕ → Type 0
+CanBeClock leaves None = Unit {0}
+CanBeClock leaves (Some k) = IsClock leaves k
+
+pub record IsReset (leaves : List Leaf) (nodes : List Node) (r : Reset) : Type 0 where
+  pub condition : CanRead leaves nodes r.condition
+  pub one_bit : read_width leaves nodes r.condition ≡ 1
+  pub init : CanRead leaves nodes r.init
+
+abbrev pub CanBeReset : List Leaf → List Node → Option Reset → Type 0
+CanBeReset leaves nodes None = Unit {0}
+CanBeReset leaves nodes (Some r) = IsReset leaves nodes r
+
+abbrev pub IsRole : List Leaf → List Node → ℕ → Role → Type 0
+IsRole leaves nodes width role.Input = Unit {0}
+IsRole leaves nodes width role.Clock = width ≡ 1
+IsRole leaves nodes width (role.Output r) = CanRead leaves nodes r
+IsRole leaves nodes width (role.Wire r) = CanRead leaves nodes r
+IsRole leaves nodes width (role.Register r) = IsClock leaves r.clock × CanBeReset leaves nodes r.reset × CanBeRead leaves nodes r.next
+IsRole leaves nodes width (role.ClockOutput c) = (width ≡ 1) × CanBeClock leaves c
+IsRole leaves nodes width (role.ClockWire c) = (width ≡ 1) × CanBeClock leaves c
+
+pub record IsLeaf (leaves : List Leaf) (nodes : List Node) (l : Leaf) : Type 0 where
+  pub word : IsTrue (is_word (base_name l.path))
+  pub narrow : l.width ≤ 128
+  pub driven : IsRole leaves nodes l.width l.role
+
+abbrev pub is_port : Role → Bool
+is_port (role.Register r) = false
+is_port (role.Wire r) = false
+is_port (role.ClockWire c) = false
+is_port _ = true
+
+-- ports, then all others
+abbrev pub AreInside : List Leaf → Type 0
+AreInside = AllByRecursion (λ l. is_port l.role ≡ false)
+
+abbrev pub ArePortsFirst : List Leaf → Type 0
+ArePortsFirst [] = Unit {0}
+ArePortsFirst (l ∷ ls) = MatchBool (is_port l.role) (ArePortsFirst ls) (AreInside ls)
+
+pub record IsNet (net : FlatNet) : Type 0 where
+  pub word : IsTrue (is_word net.name)
+  pub leaves : AllByRecursion (IsLeaf net.leaves net.nodes) net.leaves
+  pub ports_first : ArePortsFirst net.leaves
+  pub nodes : AreNodes net.leaves [] net.nodes

@@ -1,0 +1,48 @@
+-- The state after a tick.
+-- A register whose asynchronous reset is 1 takes its init, which is what it shows. Else, where its clock is named, it takes its init while a synchronous reset
+-- is 1, and else the value that drives it, fitted to its width. One that nothing drives, or whose clock is not named or none, holds.
+use Rattle.std.specs.Prelude.{ℕ, List, map, Bool, false, slice_get, if◌then◌else◌, Option, Some, None}
+use Rattle.fir_base.specs.Ticks.{Tick, rises}
+use Rattle.fir_net.specs.declared.reads.Read.{Read}
+use Rattle.fir_net.specs.declared.leaf.ResetKind.{ResetKind}
+use Rattle.fir_net.specs.declared.leaf.ResetKind.TheVariants.{Synchronous, Asynchronous}
+use Rattle.fir_net.specs.declared.leaf.Reset.{Reset}
+use Rattle.fir_net.specs.declared.leaf.Role.{Role}
+use Rattle.fir_net.specs.declared.leaf.Role.TheVariants as role
+use Rattle.fir_net.specs.declared.leaf.Leaf.{Leaf}
+use Rattle.fir_net.specs.declared.net.FlatNet.{FlatNet}
+use Rattle.fir_net.specs.working.Settled.{value_at, at_width, is_high, registers}
+
+-- what drives a register of that width, or what it shows
+abbrev pub taken : FlatNet → (ℕ → ℕ) → ℕ → ℕ → Option Read → ℕ
+taken net env width now None = now
+taken net env width now (Some r) = at_width (value_at net env r) width
+
+-- what a register takes at an edge of its clock; while an asynchronous reset is 1 it shows its init, and keeps it
+abbrev pub taken_under : FlatNet → (ℕ → ℕ) → ℕ → ℕ → ResetKind → Read → Read → ℕ → ℕ
+taken_under net env width now Synchronous condition init next = if is_high net env condition then at_width (value_at net env init) width else next
+taken_under net env width now Asynchronous condition init next = if is_high net env condition then now else next
+
+abbrev pub taken_with : FlatNet → (ℕ → ℕ) → ℕ → ℕ → Option Reset → ℕ → ℕ
+taken_with net env width now None next = next
+taken_with net env width now (Some r) next = taken_under net env width now r.kind r.condition r.init next
+
+-- whether a clock, or none, is named
+abbrev pub ticks : List ℕ → Option ℕ → Bool
+ticks named None = false
+ticks named (Some clock) = rises named clock
+
+abbrev pub next_by : FlatNet → (ℕ → ℕ) → (ℕ → Option ℕ) → List ℕ → ℕ → ℕ → Role → ℕ
+next_by net env clock named width now (role.Register r) =
+    if ticks named (clock r.clock) then taken_with net env width now r.reset (taken net env width now r.next) else now
+next_by net env clock named width now _ = now
+
+abbrev pub next_of : FlatNet → (ℕ → ℕ) → (ℕ → Option ℕ) → List ℕ → ℕ → Option Leaf → ℕ
+next_of net env clock named now None = now
+next_of net env clock named now (Some l) = next_by net env clock named l.width now l.role
+
+abbrev pub next_word : FlatNet → (ℕ → ℕ) → (ℕ → Option ℕ) → List ℕ → ℕ → ℕ
+next_word net env clock named k = next_of net env clock named (env k) (slice_get net.leaves k)
+
+abbrev pub next : FlatNet → (ℕ → ℕ) → (ℕ → Option ℕ) → Tick → List ℕ
+next net env clock tick = map (next_word net env clock tick.clocks) (registers net)

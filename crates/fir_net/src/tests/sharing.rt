@@ -1,0 +1,76 @@
+//! Equal nodes get one number, and others numbers of their own.
+
+use crate::{LeafId, Mux, Node, Operation, Read, Reads, share};
+use fir_base::{MemoryOut, Seq};
+use fir_bits::{Bits, PrimOp};
+use indexmap::IndexSet;
+use std::alloc::Global;
+use std::test::Fail;
+
+/// An operation on one leaf: the operation, the leaf, the integer, the width, and the number that the node
+/// gets.
+const OPERATIONS: &[(PrimOp, usize, u128, u32, usize)] = &[
+    (PrimOp::Shr, 3, 1, 8, 0),
+    (PrimOp::Shr, 3, 1, 7, 1),
+    (PrimOp::Shr, 3, 1, 8, 0),
+    (PrimOp::Shr, 3, 2, 8, 2),
+    (PrimOp::Shr, 4, 1, 8, 3),
+    (PrimOp::Tail, 3, 1, 8, 4),
+    (PrimOp::Shr, 3, 1, 7, 1),
+];
+
+#[test]
+fn equal_nodes_get_one_number(rt: HostRuntime) -> Result<(), Fail> {
+    let mut nodes = IndexSet::new(rt.alloc());
+    for &(op, leaf, integer, width, number) in OPERATIONS {
+        let node = operation(rt.alloc(), op, leaf, integer, width)?;
+        assert_eq!(rt; share(&mut nodes, node)?.number(), number);
+    }
+    assert_eq!(rt;
+        share(&mut nodes, Node::Literal(Bits::of(1, 1)))?.number(),
+        5
+    );
+    assert_eq!(rt;
+        share(&mut nodes, Node::Literal(Bits::of(2, 1)))?.number(),
+        6
+    );
+    assert_eq!(rt;
+        share(&mut nodes, Node::Literal(Bits::of(1, 1)))?.number(),
+        5
+    );
+    assert_eq!(rt; share(&mut nodes, mux(8))?.number(), 7);
+    assert_eq!(rt; share(&mut nodes, mux(9))?.number(), 8);
+    assert_eq!(rt; share(&mut nodes, mux(8))?.number(), 7);
+    assert_eq!(rt; nodes.len(), 9);
+    Ok(())
+}
+
+fn operation(
+    alloc: Global,
+    op: PrimOp,
+    leaf: usize,
+    integer: u128,
+    width: u32,
+) -> Result<Node, MemoryOut> {
+    let mut reads = Reads::new(alloc);
+    reads.push(Read::Leaf(LeafId::new(leaf)))?;
+    let mut integers = Vec::new(alloc);
+    integers.push(integer)?;
+    Ok(Node::Operation(Operation {
+        op,
+        reads,
+        integers: Seq::from_vec(integers),
+        width,
+    }))
+}
+
+fn mux(width: u32) -> Node {
+    Node::Mux(Mux {
+        reads: [
+            Read::Leaf(LeafId::new(0)),
+            Read::Leaf(LeafId::new(1)),
+            Read::Leaf(LeafId::new(2)),
+        ],
+        width,
+    })
+}

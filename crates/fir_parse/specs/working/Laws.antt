@@ -1,0 +1,46 @@
+-- Laws about the definitions.
+use Rattle.std.specs.Prelude.{◌≡◌, ◌↔◌, ℕ, List, [], ◌∷◌, ◌++◌, ◌⊎◌, Ok}
+use Rattle.fir_ast.specs.declared.place.Place.{Place}
+use Rattle.fir_ast.specs.declared.fault.FirFault.{FirFault}
+use Rattle.fir_ast.specs.declared.fault.FirFault.TheVariants.{Unsupported}
+use Rattle.fir_ast.specs.Circuits.{CircuitTree}
+use Rattle.fir_parse.specs.Spells.{Spells}
+use Rattle.fir_parse.specs.Lexemes.{word, Terminal}
+use Rattle.fir_parse.specs.States.{State}
+use Rattle.fir_parse.specs.Reading.{whole, read}
+use Rattle.fir_parse.specs.TextFaults.{Reaches, Shows, TextFault}
+use Rattle.fir_parse.specs.working.CircuitForms.{IsSpelled}
+
+-- a text spells one tree at most
+abbrev pub SpellsOneTree : Type 0
+SpellsOneTree = (bytes : List ℕ) (a b : CircuitTree) → Spells bytes a → Spells bytes b → a ≡ b
+
+abbrev pub HasTree : List ℕ → Type 0
+HasTree bytes = (c : CircuitTree) × Spells bytes c
+
+abbrev pub HasFault : List ℕ → Type 0
+HasFault bytes = (f : FirFault) × TextFault bytes f
+
+-- a text spells a tree, or it has a fault, and not both
+abbrev pub HasTreeOrFault : Type 0
+HasTreeOrFault = (bytes : List ℕ) → (HasTree bytes ⊎ HasFault bytes) × (HasTree bytes → HasFault bytes → ⊥)
+
+-- a text shows one fault at most
+abbrev pub ShowsOneFault : Type 0
+ShowsOneFault = (bytes : List ℕ) (f g : FirFault) → TextFault bytes f → TextFault bytes g → f ≡ g
+
+abbrev pub word_at : List ℕ → Place → Terminal
+word_at w p = record { lexeme = word w; place = p }
+
+abbrev pub EndsIn : List Terminal → Terminal → Type 0
+EndsIn ts t = (before : List Terminal) × (ts ≡ before ++ t ∷ [])
+
+-- a form that is not in the language is shown at its word: that is the token with which no text goes on, or the last before it
+abbrev pub UnsupportedNamesItsWord : Type 0
+UnsupportedNamesItsWord =
+    (end : Place) (st : State) (front back : List Terminal) (t : Terminal) (p : Place) (w : List ℕ) →
+    Reaches whole front st → Shows end st front (t ∷ back) (Unsupported p w) → (t ≡ word_at w p) ⊎ EndsIn front (word_at w p)
+
+-- the tree that is read, token by token, is the tree that the tokens spell, form by form
+abbrev pub SpelledFormByForm : Type 0
+SpelledFormByForm = (end : Place) (ts : List Terminal) (c : CircuitTree) → (read end ts ≡ Ok c) ↔ IsSpelled c ts

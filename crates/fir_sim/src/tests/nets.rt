@@ -1,0 +1,172 @@
+//! Three small nets.
+
+ghost use Rattle.std.specs.Prelude.{◌≡◌, [], ◌∷◌, map, IfOk, Some};
+ghost use Rattle.fir_net.specs.declared.node.Node.{Node};
+ghost use Rattle.fir_net.specs.declared.reads.Read.{Read};
+ghost use Rattle.fir_net.specs.working.IsNet.{IsNet};
+ghost use Rattle.fir_net.specs.working.Settled.{shape};
+
+use fir_ast::Place;
+use fir_base::{MemoryOut, Name, Seq};
+use fir_bits::{Bits, PrimOp};
+use fir_net::{
+    FlatNet, Leaf, LeafId, Mux, Node, NodeId, Operation, Read, Reads, Register, Reset, ResetKind,
+    Role,
+};
+use std::alloc::Global;
+
+/// The name of a leaf, its width and its role.
+type Row = (u8, u32, Role);
+
+/// A net whose register takes itself xor the input, and is shown.
+pub fn sum(alloc: Global) -> Result<FlatNet, MemoryOut>
+    ensures whole { IfOk result (λ n. IsNet n) }
+    ensures shape { IfOk result (λ n. shape n ≡ record { inputs = 4 ∷ []; clocks = 1; state = 4 ∷ [] }) }
+{
+    let xor = binary(alloc, PrimOp::Xor, leaf(3), leaf(1))?;
+    net(
+        alloc,
+        &[
+            (b'k', 1, Role::Clock),
+            (b'a', 4, Role::Input),
+            (b'o', 4, Role::Output(leaf(3))),
+            (b'r', 4, Role::Register(register(0, None, node(0)))),
+        ],
+        vec![in alloc; xor]?,
+    )
+}
+
+/// A net whose second node drives wires, and whose first reads the output that they drive.
+pub fn wires(alloc: Global) -> Result<FlatNet, MemoryOut>
+    ensures whole { IfOk result (λ n. IsNet n) }
+    ensures shape { IfOk result (λ n. shape n ≡ record { inputs = 4 ∷ 1 ∷ []; clocks = 0; state = [] }) }
+{
+    let xor = binary(alloc, PrimOp::Xor, leaf(2), leaf(0))?;
+    let not = unary(alloc, PrimOp::Not, leaf(0))?;
+    let mux = Node::Mux(Mux {
+        reads: [leaf(1), leaf(0), node(0)],
+        width: 4,
+    });
+    net(
+        alloc,
+        &[
+            (b'a', 4, Role::Input),
+            (b'c', 1, Role::Input),
+            (b'o', 4, Role::Output(leaf(4))),
+            (b'p', 4, Role::Output(node(2))),
+            (b'w', 4, Role::Wire(leaf(5))),
+            (b'v', 4, Role::Wire(node(1))),
+        ],
+        vec![in alloc; xor, not, mux]?,
+    )
+}
+
+/// A net of registers with a synchronous and an asynchronous reset, and of one without a clock.
+pub fn resets(alloc: Global) -> Result<FlatNet, MemoryOut>
+    ensures whole { IfOk result (λ n. IsNet n) }
+    ensures shape { IfOk result (λ n. shape n ≡ record { inputs = 1 ∷ 4 ∷ []; clocks = 1; state = 4 ∷ 4 ∷ 4 ∷ [] }) }
+{
+    let synchronous = Some(reset(ResetKind::Synchronous));
+    let asynchronous = Some(reset(ResetKind::Asynchronous));
+    net(
+        alloc,
+        &[
+            (b'k', 1, Role::Clock),
+            (b'r', 1, Role::Input),
+            (b'a', 4, Role::Input),
+            (b's', 4, Role::Output(leaf(6))),
+            (b't', 4, Role::Output(leaf(7))),
+            (b'u', 4, Role::Output(leaf(8))),
+            (b'x', 4, Role::Register(register(9, synchronous, leaf(2)))),
+            (b'y', 4, Role::Register(register(0, asynchronous, leaf(2)))),
+            (b'z', 4, Role::Register(register(10, None, leaf(2)))),
+            (b'l', 1, Role::ClockWire(Some(LeafId::new(0)))),
+            (b'm', 1, Role::ClockWire(None)),
+        ],
+        vec![in alloc; Node::Literal(Bits::of(4, 0x9))]?,
+    )
+}
+
+fn leaf(number: usize) -> Read
+    ensures { result ≡ Read.Leaf number }
+{
+    Read::Leaf(LeafId::new(number))
+}
+
+fn node(number: usize) -> Read
+    ensures { result ≡ Read.Node number }
+{
+    Read::Node(NodeId::new(number))
+}
+
+fn register(clock: usize, reset: Option<Reset>, next: Read) -> Register
+    ensures { result ≡ record { clock = clock; reset = reset; next = Some next } }
+{
+    Register {
+        clock: LeafId::new(clock),
+        reset,
+        next: Some(next),
+    }
+}
+
+/// A reset to the first node while the second leaf is 1.
+fn reset(kind: ResetKind) -> Reset
+    ensures { result ≡ record { kind = kind; condition = Read.Leaf 1; init = Read.Node 0 } }
+{
+    Reset {
+        kind,
+        condition: leaf(1),
+        init: node(0),
+    }
+}
+
+/// An operation of one operand whose result has 4 bits.
+fn unary(alloc: Global, op: PrimOp, a: Read) -> Result<Node, MemoryOut>
+    ensures { IfOk result (λ n. n ≡ Node.Operation (record { op = op; reads = a ∷ []; integers = []; width = 4 })) }
+{
+    let mut reads = Reads::new(alloc);
+    reads.push(a)?;
+    Ok(Node::Operation(Operation {
+        op,
+        reads,
+        integers: Seq::from_vec(Vec::new(alloc)),
+        width: 4,
+    }))
+}
+
+/// An operation of two operands whose result has 4 bits.
+fn binary(alloc: Global, op: PrimOp, a: Read, b: Read) -> Result<Node, MemoryOut>
+    ensures { IfOk result (λ n. n ≡ Node.Operation (record { op = op; reads = a ∷ b ∷ []; integers = []; width = 4 })) }
+{
+    let mut reads = Reads::new(alloc);
+    reads.push(a)?;
+    reads.push(b)?;
+    Ok(Node::Operation(Operation {
+        op,
+        reads,
+        integers: Seq::from_vec(Vec::new(alloc)),
+        width: 4,
+    }))
+}
+
+fn net(alloc: Global, rows: &[Row], nodes: Vec<Node>) -> Result<FlatNet, MemoryOut>
+    ensures { IfOk result (λ n. n ≡ record { name = 110 ∷ []; leaves = map (λ t. record { path = t.0 ∷ []; place = record { line = 1; col = 1 }; width = t.1; role = t.2 }) rows.now; nodes = nodes.items }) }
+{
+    let name = Name::new(alloc, b"n")?;
+    let mut leaves = Vec::new(alloc);
+    for &(name, width, role) in rows {
+        let path = Name::new(alloc, &[name])?;
+        let place = Place { line: 1, col: 1 };
+        leaves.push(Leaf {
+            path,
+            place,
+            width,
+            role,
+        })?;
+    }
+    Ok(FlatNet {
+        name,
+        leaves: Seq::from_vec(leaves),
+        nodes: Seq::from_vec(nodes),
+    })
+}

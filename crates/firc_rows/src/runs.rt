@@ -1,0 +1,423 @@
+//! Runs of the program over files in memory.
+
+use crate::sure::sure_status;
+use fir_base::MemoryOut;
+use fir_driver::run;
+use fir_io::{CallFault, FailingCall, FileEntry, MemFiles, MemSink, SureFiles};
+use std::alloc::Global;
+use std::test::Fail;
+
+/// Which call is to fail, counted from 0, and how.
+#[derive(Clone, Copy)]
+enum Failing {
+    Nothing,
+    Read(u64, CallFault),
+    Out(u64, CallFault),
+    Err(u64, CallFault),
+}
+
+/// The words, the circuit in the file f.fir, the trace in the file t, and what is to fail; then the status, and what
+/// stands on both outputs.
+type Run = (
+    &'static [&'static str],
+    &'static [u8],
+    &'static [u8],
+    Failing,
+    u8,
+    &'static [u8],
+    &'static [u8],
+);
+
+const EMIT: &[&str] = &["firc", "emit", "f.fir"];
+
+const SIM: &[&str] = &["firc", "sim", "f.fir", "t"];
+
+const SIM_STATE: &[&str] = &["firc", "sim", "f.fir", "t", "--state"];
+
+const XOR: &[u8] =
+    b"circuit T :\n  module T :\n    input a : UInt<4>\n    input b : UInt<4>\n    output o : UInt<4>\n    o <= xor(a, b)\n";
+
+const XOR_TEXT: &[u8] =
+    b"module T(\n  input [3:0] a,\n  input [3:0] b,\n  output [3:0] o\n);\n  wire [3:0] _n0;\n  assign _n0 = a ^ b;\n  assign o = _n0;\nendmodule\n";
+
+const WIRE: &[u8] =
+    b"circuit T :\n  module T :\n    input a : UInt<8>\n    output o : UInt<8>\n    o <= a\n";
+
+/// A register of four bits that takes, at each edge, its exclusive or with the input.
+const ACCUMULATOR: &[u8] =
+    b"circuit T :\n  module T :\n    input clock : Clock\n    input a : UInt<4>\n    output o : UInt<4>\n    reg r : UInt<4>, clock\n    r <= xor(r, a)\n    o <= r\n";
+
+/// Two ticks, each of which prints three bytes.
+const TICKS: &[u8] = b"- 1\n- 2\n";
+
+const USAGE: &[u8] =
+    b"usage: firc check FILE | lower FILE | emit FILE | sim FILE TRACE [--state] | vsim VFILE TRACE [--state] [--order N] | gen N\n";
+
+const RUNS: &[Run] = &[
+    (EMIT, XOR, b"", Failing::Nothing, 0, XOR_TEXT, b""),
+    (
+        EMIT,
+        b"",
+        b"",
+        Failing::Nothing,
+        1,
+        b"",
+        b"E04 1:1 syntax\n",
+    ),
+    (
+        EMIT,
+        b"circuit T :\n  module T :\n    input a : UInt<4>\n    input b : UInt<4>\n    output o : UInt<4>\n    o <= xor(a, c)\n",
+        b"",
+        Failing::Nothing,
+        1,
+        b"",
+        b"E08 6:17 unknown c\n",
+    ),
+    (
+        EMIT,
+        b"circuit T :\n  module T :\n    input a : UInt<4>\n    input b : UInt<4>\n    output o : UInt<4>\n    when a :\n",
+        b"",
+        Failing::Nothing,
+        1,
+        b"",
+        b"E05 6:5 unsupported when\n",
+    ),
+    (
+        EMIT,
+        b"circuit T :\n  module T :\n    input a UInt<4>\n    input b : UInt<4>\n    output o : UInt<4>\n    o <= xor(a, b)\n",
+        b"",
+        Failing::Nothing,
+        1,
+        b"",
+        b"E04 3:13 syntax\n",
+    ),
+    (
+        EMIT,
+        b"circuit T :\n  module T :\n    stop(clock, UInt<1>(1), 1)\n",
+        b"",
+        Failing::Nothing,
+        1,
+        b"",
+        b"E05 3:5 unsupported stop\n",
+    ),
+    (
+        EMIT,
+        b"circuit T :\n  module T :\n\tinput a : UInt<4>\n    input b : UInt<4>\n    output o : UInt<4>\n    o <= xor(a, b)\n",
+        b"",
+        Failing::Nothing,
+        1,
+        b"",
+        b"E02 3:1 tab\n",
+    ),
+    (
+        EMIT,
+        b"circuit T :\n  module T :\n    output o : UInt<1>\n",
+        b"",
+        Failing::Nothing,
+        1,
+        b"",
+        b"E24 3:12 undriven o\n",
+    ),
+    (
+        EMIT,
+        b"circuit T :\n  module T :\n    output o : UInt<2>\n    o <= UInt<2>(4)\n",
+        b"",
+        Failing::Nothing,
+        1,
+        b"",
+        b"E21 4:10 legality literal 2 4\n",
+    ),
+    (
+        EMIT,
+        b"FIRRTL version 3.0.0\ncircuit T : %[[{\"class\":\"x]\"}]]\n  ; a comment\n  module T :\n    input clock : Clock\n    input reset : UInt<1>\n    output io : { flip d : UInt<8>, q : UInt<8>}\n\n    reg q : UInt, clock with :\n      reset => (UInt<1>(\"h0\"), q) @[T.scala 9:14]\n    q <= io.d @[T.scala 10:5]\n    io.q <= q @[T.scala 11:8]\n",
+        b"",
+        Failing::Nothing,
+        1,
+        b"",
+        b"E07 1:16 version 3\n",
+    ),
+    (
+        SIM_STATE,
+        ACCUMULATOR,
+        b"init r c\n0 5\n0 3\n- f\n",
+        Failing::Nothing,
+        0,
+        b"c | 9\n9 | a\na | a\n",
+        b"",
+    ),
+    (
+        SIM_STATE,
+        ACCUMULATOR,
+        b"init r 1c\n0 5\n0 3\n- f\n",
+        Failing::Nothing,
+        6,
+        b"",
+        b"X03 1 word 3 width 4\n",
+    ),
+    (
+        SIM_STATE,
+        ACCUMULATOR,
+        b"init q 0\n0 5\n0 3\n- f\n",
+        Failing::Nothing,
+        6,
+        b"",
+        b"X04 1 name q\n",
+    ),
+    (
+        SIM_STATE,
+        ACCUMULATOR,
+        b"init r c\n1 5\n0 3\n- f\n",
+        Failing::Nothing,
+        6,
+        b"",
+        b"X04 2 name 1\n",
+    ),
+    (SIM, XOR, b"", Failing::Nothing, 0, b"", b""),
+    (
+        SIM,
+        WIRE,
+        b"- 7f\n- 100\n",
+        Failing::Nothing,
+        6,
+        b"7f\n",
+        b"X03 2 word 2 width 8\n",
+    ),
+    (&[], XOR, b"", Failing::Nothing, 2, b"", USAGE),
+    (
+        EMIT,
+        XOR,
+        b"",
+        Failing::Read(0, CallFault::Failed(3)),
+        3,
+        b"",
+        b"read f.fir\n",
+    ),
+    (
+        EMIT,
+        XOR,
+        b"",
+        Failing::Read(0, CallFault::Memory),
+        5,
+        b"",
+        b"memory\n",
+    ),
+    (
+        EMIT,
+        XOR,
+        b"",
+        Failing::Out(0, CallFault::Failed(6)),
+        4,
+        b"module",
+        b"write\n",
+    ),
+    (
+        EMIT,
+        XOR,
+        b"",
+        Failing::Out(0, CallFault::Memory),
+        5,
+        b"",
+        b"memory\n",
+    ),
+    (
+        EMIT,
+        b"",
+        b"",
+        Failing::Err(0, CallFault::Failed(5)),
+        4,
+        b"",
+        b"E04 1",
+    ),
+    (
+        &[],
+        XOR,
+        b"",
+        Failing::Err(0, CallFault::Failed(2)),
+        4,
+        b"",
+        b"us",
+    ),
+    (
+        SIM,
+        WIRE,
+        TICKS,
+        Failing::Read(0, CallFault::Failed(0)),
+        3,
+        b"",
+        b"read f.fir\n",
+    ),
+    (
+        SIM,
+        WIRE,
+        TICKS,
+        Failing::Read(1, CallFault::Failed(7)),
+        3,
+        b"",
+        b"read t\n",
+    ),
+    (
+        SIM,
+        WIRE,
+        TICKS,
+        Failing::Read(1, CallFault::Memory),
+        5,
+        b"",
+        b"memory\n",
+    ),
+    (
+        SIM,
+        WIRE,
+        TICKS,
+        Failing::Out(0, CallFault::Failed(4)),
+        4,
+        b"01\n0",
+        b"write\n",
+    ),
+    (
+        SIM,
+        WIRE,
+        TICKS,
+        Failing::Out(0, CallFault::Memory),
+        5,
+        b"",
+        b"memory\n",
+    ),
+    (
+        SIM,
+        WIRE,
+        TICKS,
+        Failing::Out(1, CallFault::Failed(0)),
+        0,
+        b"01\n02\n",
+        b"",
+    ),
+];
+
+/// What a run shows.
+#[derive(Drop)]
+struct Outcome {
+    status: u8,
+    out: Vec<u8>,
+    err: Vec<u8>,
+}
+
+fn outcome_of(
+    alloc: Global,
+    words: &[&str],
+    text: &[u8],
+    trace: &[u8],
+    failing: Failing,
+) -> Result<Outcome, MemoryOut> {
+    let mut reads = Vec::new(alloc);
+    let mut puts = Vec::new(alloc);
+    let mut complaints = Vec::new(alloc);
+    match failing {
+        Failing::Nothing => {}
+        Failing::Read(call, fault) => reads.push(FailingCall { call, fault })?,
+        Failing::Out(call, fault) => puts.push(FailingCall { call, fault })?,
+        Failing::Err(call, fault) => complaints.push(FailingCall { call, fault })?,
+    }
+    let mut files = MemFiles::new(entries(alloc, text, trace)?, reads);
+    let mut out = MemSink::new(alloc, puts);
+    let mut err = MemSink::new(alloc, complaints);
+    let words = owned(alloc, words)?;
+    let status = run(alloc, &words, &mut files, &mut out, &mut err);
+    Ok(Outcome {
+        status,
+        out: out.into_bytes(),
+        err: err.into_bytes(),
+    })
+}
+
+fn entries(alloc: Global, text: &[u8], trace: &[u8]) -> Result<Vec<FileEntry>, MemoryOut> {
+    let mut entries = Vec::new(alloc);
+    entries.push(FileEntry::new(alloc, "f.fir", text)?)?;
+    entries.push(FileEntry::new(alloc, "t", trace)?)?;
+    Ok(entries)
+}
+
+fn owned(alloc: Global, words: &[&str]) -> Result<Vec<String>, MemoryOut> {
+    let mut owned = Vec::new(alloc);
+    for word in words {
+        owned.push(String::from_str(alloc, word)?)?;
+    }
+    Ok(owned)
+}
+
+#[test]
+fn runs_end_as_they_are_to(rt: HostRuntime) -> Result<(), Fail> {
+    for (words, text, trace, failing, status, out, err) in RUNS {
+        let shown = outcome_of(rt.alloc(), words, text, trace, *failing)?;
+        assert_eq!(rt; shown.status, *status);
+        assert_eq!(rt; shown.out.as_slice(), *out);
+        assert_eq!(rt; shown.err.as_slice(), *err);
+    }
+    Ok(())
+}
+
+/// A node of so many operations within each other.
+fn nested(alloc: Global, count: u32) -> Result<Vec<u8>, MemoryOut> {
+    let mut text = Vec::new(alloc);
+    text.extend_from_slice(b"circuit T :\n  module T :\n    input a : UInt<1>\n    node n = ")?;
+    for _ in 0..count {
+        text.extend_from_slice(b"not(")?;
+    }
+    text.extend_from_slice(b"a")?;
+    for _ in 0..count {
+        text.extend_from_slice(b")")?;
+    }
+    text.extend_from_slice(b"\n")?;
+    Ok(text)
+}
+
+#[test]
+fn a_nesting_of_256_is_taken_and_of_257_is_told(rt: HostRuntime) -> Result<(), Fail> {
+    let text = nested(rt.alloc(), 255)?;
+    let shown = outcome_of(rt.alloc(), EMIT, text.as_slice(), b"", Failing::Nothing)?;
+    assert_eq!(rt; shown.status, 0);
+    assert_eq!(rt; shown.err.len(), 0);
+    let text = nested(rt.alloc(), 256)?;
+    let shown = outcome_of(rt.alloc(), EMIT, text.as_slice(), b"", Failing::Nothing)?;
+    assert_eq!(rt; shown.status, 1);
+    assert_eq!(rt; shown.out.len(), 0);
+    assert_eq!(rt; shown.err.as_slice(), b"E06 4:1294 depth 257\n".as_slice());
+    Ok(())
+}
+
+#[test]
+fn a_file_of_a_byte_more_than_the_limit_is_too_long(rt: HostRuntime) -> Result<(), Fail> {
+    let text = vec![in rt.alloc(); b'\n'; 16777217]?;
+    let shown = outcome_of(rt.alloc(), EMIT, text.as_slice(), b"", Failing::Nothing)?;
+    assert_eq!(rt; shown.status, 8);
+    assert_eq!(rt; shown.out.len(), 0);
+    assert_eq!(rt; shown.err.as_slice(), b"too long f.fir\n".as_slice());
+    Ok(())
+}
+
+/// Lines are put some tens of kilobytes at a time, so that the second put is in the midst of them.
+#[test]
+fn a_put_that_fails_in_the_midst_of_a_simulation_is_told(rt: HostRuntime) -> Result<(), Fail> {
+    let mut trace = Vec::new(rt.alloc());
+    for _ in 0..30000u32 {
+        trace.extend_from_slice(b"- ab\n")?;
+    }
+    let failing = Failing::Out(1, CallFault::Failed(5));
+    let shown = outcome_of(rt.alloc(), SIM, WIRE, trace.as_slice(), failing)?;
+    assert_eq!(rt; shown.status, 4);
+    assert!(rt; shown.out.len() < 90000);
+    assert!(rt; shown.out.as_slice().ends_with(b"\nab\nab"));
+    assert_eq!(rt; shown.err.as_slice(), b"write\n".as_slice());
+    Ok(())
+}
+
+#[test]
+fn where_nothing_fails_few_statuses_are_left(rt: HostRuntime) -> Result<(), Fail> {
+    for words in [EMIT, SIM] {
+        let files = SureFiles::new(entries(rt.alloc(), XOR, b"- 5 3\n")?);
+        assert_eq!(rt;
+            sure_status(rt.alloc(), &owned(rt.alloc(), words)?, files),
+            0
+        );
+    }
+    Ok(())
+}

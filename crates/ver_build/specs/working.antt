@@ -1,0 +1,6 @@
+-- What no clause of `run` reads: contracts between layers, laws, views of the code and its states.
+pub mod Places
+pub mod Walks
+pub mod Built
+pub mod Builds
+pub mod Laws

@@ -1,6 +1,0 @@
-circuit Fixed :
-  module Fixed :
-    output magic : UInt<32>
-    output zero : UInt<1>
-    magic <= UInt<32>("hdeadbeef")
-    zero <= UInt<1>(0)
