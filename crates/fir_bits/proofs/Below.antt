@@ -18,7 +18,7 @@ bits_of-below w (pos n) = mod_below n (2 ^ w) (pow_pos w)
 bits_of-below w (negsuc n) = omega (arith, pow_pos w)
 
 -- a truth as one bit
-flag_below : (b : Bool) → flag b < 2 ^ 1
+pub flag_below : (b : Bool) → flag b < 2 ^ 1
 flag_below true = lit< tt
 flag_below false = lit< tt
 

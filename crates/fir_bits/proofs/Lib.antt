@@ -4,3 +4,4 @@ pub mod Below
 pub mod Typing
 pub mod Wider
 pub mod Readings
+pub mod LiteralWidths

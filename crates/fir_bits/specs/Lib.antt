@@ -1,5 +1,6 @@
 pub mod Values
 pub mod Integers
+pub mod Literals
 pub mod OperatorWords
 pub mod Taken
 pub mod Forms

@@ -2,7 +2,7 @@
 
 ghost use Rattle.std.specs.Prelude.{◌≡◌, ◌+◌, ◌^◌, ◌<◌, ◌≤◌, SomeIff, unsigned_abs};
 ghost use Rattle.fir_bits.specs.Values.{IsBitVector, extended, fitted, low_bits};
-ghost use Rattle.fir_bits.specs.Integers.{reading};
+ghost use Rattle.fir_bits.specs.Integers.{reading, bits_of, of_sign};
 
 use crate::whole::Whole;
 use std::marker::Model;
@@ -60,6 +60,20 @@ impl Bits {
             Some(Bits { width, bits })
         } else {
             None
+        }
+    }
+
+    /// The low bits, in two's complement, of the integer of that sign and magnitude.
+    pub fn of_integer(width: u32, negative: bool, magnitude: u128) -> Bits
+        requires { width ≤ 128 }
+        ensures { result ≡ record {
+          width = width;
+          number = bits_of width (of_sign negative magnitude);
+        } }
+    {
+        Bits {
+            width,
+            bits: Whole::new(negative, magnitude).low_bits(width),
         }
     }
 

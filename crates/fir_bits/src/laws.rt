@@ -1,7 +1,7 @@
 //! Laws of the operator table, for the layers that stand on it. Each is the contract of a function
 //! that does nothing.
 
-ghost use Rattle.fir_bits.specs.working.Laws.{Monotone, HasItsType, CutUndoesExtend, ExtendKeepsInteger, HeadBesideTail, CvtKeepsInteger, PadKeepsInteger, NegGivesNegative, ReinterpretKeepsBits, WordsAreRead};
+ghost use Rattle.fir_bits.specs.working.Laws.{Monotone, HasItsType, CutUndoesExtend, ExtendKeepsInteger, HeadBesideTail, CvtKeepsInteger, PadKeepsInteger, NegGivesNegative, ReinterpretKeepsBits, WordsAreRead, LeastWidthIsLeast};
 
 /// Wider operands never give a narrower result, so that a least solution of widths exists. An
 /// operand or result of more than 128 bits counts as 129 (FIRRTL spec, "Width Inference").
@@ -52,4 +52,9 @@ pub fn reinterpret_keeps_bits()
 /// The word of an operation is read as that operation.
 pub fn words_are_read()
     ensures { WordsAreRead }
+{}
+
+/// A literal's least width holds its number, and no lesser one from 1 on does (FIRRTL spec, "Literals").
+pub fn least_width_is_least()
+    ensures { LeastWidthIsLeast }
 {}

@@ -16,11 +16,13 @@ macro_rules! rows {
 mod arithmetic;
 mod bitwise;
 mod faults;
+mod literals;
 
-use crate::{Bits, Num, PrimOp, apply, result_type};
+use crate::{Bits, Num, PrimOp, apply, holds_number, least_width, result_type};
 use arithmetic::ARITHMETIC;
 use bitwise::BITWISE;
 use faults::FAULTS;
+use literals::LITERALS;
 use std::test::Fail;
 
 /// A value as its kind, SInt or not, its width and its number.
@@ -94,4 +96,17 @@ fn values_fit_other_widths(rt: HostRuntime) -> Result<(), Fail> {
     assert_eq!(rt; minus_three.fit(true, 5), Bits::of(5, 29));
     assert_eq!(rt; (minus_three.width(), minus_three.bits()), (4, 13));
     Ok(())
+}
+
+#[test]
+fn literals_have_their_least_width(rt: HostRuntime) {
+    for (signed, negative, magnitude, width) in LITERALS {
+        let least = u128::from(*width);
+        assert_eq!(rt; least_width(*signed, *negative, *magnitude), *width);
+        assert!(rt; holds_number(*signed, least, *negative, *magnitude));
+        if least > 1 {
+            assert!(rt; !holds_number(*signed, least - 1, *negative, *magnitude));
+        }
+    }
+    assert_eq!(rt; Bits::of_integer(4, true, 8), Bits::of(4, 8));
 }

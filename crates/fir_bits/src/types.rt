@@ -78,10 +78,7 @@ impl PrimOp {
     pub fn is_taken(self) -> bool
         ensures { result ≡ is_taken self }
     {
-        matches!(
-            self,
-            PrimOp::Not | PrimOp::And | PrimOp::Or | PrimOp::Xor | PrimOp::Cat | PrimOp::Bits
-        )
+        !matches!(self, PrimOp::AsAsyncReset)
     }
 
     /// What the operation takes.
@@ -146,8 +143,9 @@ pub(crate) fn entry<'a, T>(entries: &'a [T], i: usize, none: &'a T) -> &'a T
     if i < entries.len() { &entries[i] } else { none }
 }
 
-/// Whether operands of these types are of the form's kinds.
-fn has_kinds(form: Form, args: &[NumTy]) -> bool
+/// Whether operands of these types are of the form's kinds: two of one signedness, and an amount of a
+/// shift a UInt (FIRRTL spec, "Primitive Operations").
+pub fn has_kinds(form: Form, args: &[NumTy]) -> bool
     ensures { result ≡ has_kinds form args.now }
 {
     let (a, b) = (entry(args, 0, &NO_TYPE), entry(args, 1, &NO_TYPE));

@@ -22,19 +22,23 @@ or_cond : (b : Bool) (x : Declared) (y z : Option Declared) → cond b (Some x) 
 or_cond true x y z = refl
 or_cond false x y z = refl
 
-look_up_last : (scope : Scope) (d : Declared) (n : List ℕ) → look_up (scope ++ d ∷ []) n ≡ option_or (look_up scope n) (cond (bytes_eq d.named.name n) (Some d) None)
+look_up_last : (scope : Scope) (d : Declared) (n : List ℕ)
+    → look_up (scope ++ d ∷ []) n ≡ option_or (look_up scope n) (cond (bytes_eq d.named.name n) (Some d) None)
 look_up_last [] d n = refl
 look_up_last (x ∷ scope) d n =
-    ap (cond (bytes_eq x.named.name n) (Some x)) (look_up_last scope d n) ∙ or_cond (bytes_eq x.named.name n) x (look_up scope n) (cond (bytes_eq d.named.name n) (Some d) None)
+    ap (cond (bytes_eq x.named.name n) (Some x)) (look_up_last scope d n)
+    ∙ or_cond (bytes_eq x.named.name n) x (look_up scope n) (cond (bytes_eq d.named.name n) (Some d) None)
 
 -- the last declaration is hidden where the name was found before, and seen where it was not
-hidden : (b : Bool) (d : Declared) (found : Option Declared) → (b ≡ true → is_some found ≡ true) → option_or found (cond b (Some d) None) ≡ found
+hidden : (b : Bool) (d : Declared) (found : Option Declared) → (b ≡ true → is_some found ≡ true)
+    → option_or found (cond b (Some d) None) ≡ found
 hidden b d (Some x) h = refl
 hidden true d None h = absurd (let no : false ≡ true = h refl in cc)
 hidden false d None h = refl
 
 seen : (b : Bool) (n name : List ℕ) (entry : Entry) (found : Option Entry) → (b ≡ true → (name ≡ n) × (is_some found ≡ false))
-    → option_or (option_map (declared_of n) found) (cond b (Some (declared_of name entry)) None) ≡ option_map (declared_of n) (cond b (Some entry) found)
+    → option_or (option_map (declared_of n) found) (cond b (Some (declared_of name entry)) None) ≡ option_map (declared_of n)
+    (cond b (Some entry) found)
 seen true n name entry None h = ap (λ m. Some (declared_of m entry)) (h refl).0
 seen true n name entry (Some x) h = absurd (let no : true ≡ false = (h refl).1 in cc)
 seen false n name entry None h = refl
@@ -44,22 +48,27 @@ some_map : {A B : Type 0} (f : A → B) (o : Option A) → is_some (option_map f
 some_map f None = refl
 some_map f (Some x) = refl
 
-pub tabulates_old : (table : BTreeMap (List ℕ) Entry) (scope : Scope) (name : List ℕ) (entry : Entry) → is_some (get (slice_cmp nat_cmp) table name) ≡ true → Tabulates table scope → Tabulates table (scope ++ declared_of name entry ∷ [])
+pub tabulates_old : (table : BTreeMap (List ℕ) Entry) (scope : Scope) (name : List ℕ) (entry : Entry)
+    → is_some (get (slice_cmp nat_cmp) table name) ≡ true → Tabulates table scope → Tabulates table (scope ++ declared_of name entry ∷ [])
 tabulates_old table scope name entry known t = record {
   each = λ n.
       let there : bytes_eq name n ≡ true → is_some (look_up scope n) ≡ true =
-      λ e. ap (λ m. is_some (look_up scope m)) (sym ((bytes_eq-Decides name n).0 e)) ∙ ap is_some (t.each name) ∙ some_map (declared_of name) (get (slice_cmp nat_cmp) table name) ∙ known in
+      λ e. ap (λ m. is_some (look_up scope m)) (sym ((bytes_eq-Decides name n).0 e)) ∙ ap is_some (t.each name)
+      ∙ some_map (declared_of name) (get (slice_cmp nat_cmp) table name) ∙ known in
       look_up_last scope (declared_of name entry) n ∙ hidden (bytes_eq name n) (declared_of name entry) (look_up scope n) there ∙ t.each n;
 }
 
-pub tabulates_new : (old new : BTreeMap (List ℕ) Entry) (scope : Scope) (name : List ℕ) (entry : Entry) → tree.Updates (slice_cmp nat_cmp) old new name (Some entry) → is_some (get (slice_cmp nat_cmp) old name) ≡ false → Tabulates old scope → Tabulates new (scope ++ declared_of name entry ∷ [])
+pub tabulates_new : (old new : BTreeMap (List ℕ) Entry) (scope : Scope) (name : List ℕ) (entry : Entry)
+    → tree.Updates (slice_cmp nat_cmp) old new name (Some entry) → is_some (get (slice_cmp nat_cmp) old name) ≡ false → Tabulates old scope
+    → Tabulates new (scope ++ declared_of name entry ∷ [])
 tabulates_new old new scope name entry u unknown t = record {
   each = λ n.
       let missing : bytes_eq name n ≡ true → (name ≡ n) × (is_some (get (slice_cmp nat_cmp) old n) ≡ false) =
       λ e. let same = (bytes_eq-Decides name n).0 e in (same, ap (λ m. is_some (get (slice_cmp nat_cmp) old m)) (sym same) ∙ unknown) in
       let updated : get (slice_cmp nat_cmp) new n ≡ cond (bytes_eq name n) (Some entry) (get (slice_cmp nat_cmp) old n) =
       u.0 n ∙ ap (λ b. cond b (Some entry) (get (slice_cmp nat_cmp) old n)) (is_eq-slice_cmp name n) in
-      look_up_last scope (declared_of name entry) n ∙ ap (λ found. option_or found (cond (bytes_eq name n) (Some (declared_of name entry)) None)) (t.each n)
+      look_up_last scope (declared_of name entry) n
+      ∙ ap (λ found. option_or found (cond (bytes_eq name n) (Some (declared_of name entry)) None)) (t.each n)
       ∙ seen (bytes_eq name n) n name entry (get (slice_cmp nat_cmp) old n) missing ∙ ap (option_map (declared_of n)) (sym updated);
 }
 

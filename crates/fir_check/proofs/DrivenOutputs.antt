@@ -27,14 +27,18 @@ or_assoc : (a b c : Bool) → (a || (b || c)) ≡ ((a || b) || c)
 or_assoc true b c = refl
 or_assoc false b c = refl
 
-connected_more : (ss : List Statement) (s : Statement) (n : List ℕ) → is_connected (block_of (ss ++ s ∷ [])) n ≡ (is_connected (block_of ss) n || drives s n)
+connected_more : (ss : List Statement) (s : Statement) (n : List ℕ)
+    → is_connected (block_of (ss ++ s ∷ [])) n ≡ (is_connected (block_of ss) n || drives s n)
 connected_more [] s n = or_none (drives s n)
-connected_more (x ∷ ss) s n = ap (λ b. drives x n || b) (connected_more ss s n) ∙ or_assoc (drives x n) (is_connected (block_of ss) n) (drives s n)
+connected_more (x ∷ ss) s n =
+    ap (λ b. drives x n || b) (connected_more ss s n) ∙ or_assoc (drives x n) (is_connected (block_of ss) n) (drives s n)
 
 pub connects_none : (names : BTreeSet (List ℕ)) → sorted.IsEmpty names → Connects names done
 connects_none names empty = record { each = λ n. ap (list_any (is_at (slice_cmp nat_cmp n))) (sym empty) }
 
-pub connects_more : (old new : BTreeSet (List ℕ)) (ss : List Statement) (s : Statement) → ((n : List ℕ) → contains (slice_cmp nat_cmp) new n ≡ (contains (slice_cmp nat_cmp) old n || drives s n)) → Connects old (block_of ss) → Connects new (block_of (ss ++ s ∷ []))
+pub connects_more : (old new : BTreeSet (List ℕ)) (ss : List Statement) (s : Statement)
+    → ((n : List ℕ) → contains (slice_cmp nat_cmp) new n ≡ (contains (slice_cmp nat_cmp) old n || drives s n)) → Connects old (block_of ss)
+    → Connects new (block_of (ss ++ s ∷ []))
 connects_more old new ss s more c = record { each = λ n. connected_more ss s n ∙ ap (λ b. b || drives s n) (c.each n) ∙ sym (more n) }
 
 -- a set with one name more
@@ -44,6 +48,8 @@ or_turned true false = refl
 or_turned false true = refl
 or_turned false false = refl
 
-pub inserted : (old new : BTreeSet (List ℕ)) (name n : List ℕ) → sorted.Updates (slice_cmp nat_cmp) old new name true → contains (slice_cmp nat_cmp) new n ≡ (contains (slice_cmp nat_cmp) old n || bytes_eq name n)
+pub inserted : (old new : BTreeSet (List ℕ)) (name n : List ℕ) → sorted.Updates (slice_cmp nat_cmp) old new name true
+    → contains (slice_cmp nat_cmp) new n ≡ (contains (slice_cmp nat_cmp) old n || bytes_eq name n)
 inserted old new name n u =
-    u.0 n ∙ ap (λ b. cond b true (contains (slice_cmp nat_cmp) old n)) (is_eq-slice_cmp name n) ∙ or_turned (bytes_eq name n) (contains (slice_cmp nat_cmp) old n)
+    u.0 n ∙ ap (λ b. cond b true (contains (slice_cmp nat_cmp) old n)) (is_eq-slice_cmp name n)
+    ∙ or_turned (bytes_eq name n) (contains (slice_cmp nat_cmp) old n)

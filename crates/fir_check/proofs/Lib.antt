@@ -3,4 +3,5 @@ pub mod DeclaredTables
 pub mod WalkedModules
 pub mod DrivenOutputs
 pub mod GroupRules
+pub mod WalkedExpressions
 pub mod CheckedGroups

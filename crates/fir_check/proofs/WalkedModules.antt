@@ -20,11 +20,13 @@ pub record AtPorts (rule : Rule) (table : BTreeMap (List ℕ) Entry) (start : Sc
   pub same : first_of (along_ports rule start whole) ≡ first_of (along_ports rule scope left)
   pub reached : scope ++ map port_declared left ≡ start ++ map port_declared whole
 
-pub ports_start : (rule : Rule) (table : BTreeMap (List ℕ) Entry) (start : Scope) (whole : List PortTree) → Tabulates table start → AtPorts rule table start whole whole
+pub ports_start : (rule : Rule) (table : BTreeMap (List ℕ) Entry) (start : Scope) (whole : List PortTree) → Tabulates table start
+    → AtPorts rule table start whole whole
 ports_start rule table start whole t = record { scope = start; held = t; same = refl; reached = refl }
 
 pub ports_next : (rule : Rule) (old new : BTreeMap (List ℕ) Entry) (start : Scope) (whole left : List PortTree) (p : PortTree)
-    → ((scope : Scope) → Tabulates old scope → None ≡ first_of (rule.of_port scope p)) → ((scope : Scope) → Tabulates old scope → Tabulates new (scope ++ port_declared p ∷ []))
+    → ((scope : Scope) → Tabulates old scope → None ≡ first_of (rule.of_port scope p))
+    → ((scope : Scope) → Tabulates old scope → Tabulates new (scope ++ port_declared p ∷ []))
     → AtPorts rule old start whole (p ∷ left) → AtPorts rule new start whole left
 ports_next rule old new start whole left p none passed a = record {
   scope = a.scope ++ port_declared p ∷ [];
@@ -34,11 +36,13 @@ ports_next rule old new start whole left p none passed a = record {
 }
 
 pub ports_found : (rule : Rule) (table : BTreeMap (List ℕ) Entry) (start : Scope) (whole left : List PortTree) (p : PortTree) (f : FirFault)
-    → ((scope : Scope) → Tabulates table scope → Some f ≡ first_of (rule.of_port scope p)) → AtPorts rule table start whole (p ∷ left) → Some f ≡ first_of (along_ports rule start whole)
+    → ((scope : Scope) → Tabulates table scope → Some f ≡ first_of (rule.of_port scope p)) → AtPorts rule table start whole (p ∷ left)
+    → Some f ≡ first_of (along_ports rule start whole)
 ports_found rule table start whole left p f found a =
     first_front (rule.of_port a.scope p) (along_ports rule (a.scope ++ port_declared p ∷ []) left) f (found a.scope a.held) ∙ sym a.same
 
-pub ports_passed : (rule : Rule) (table : BTreeMap (List ℕ) Entry) (start : Scope) (whole : List PortTree) → AtPorts rule table start whole [] → Tabulates table (start ++ map port_declared whole)
+pub ports_passed : (rule : Rule) (table : BTreeMap (List ℕ) Entry) (start : Scope) (whole : List PortTree)
+    → AtPorts rule table start whole [] → Tabulates table (start ++ map port_declared whole)
 ports_passed rule table start whole a = rw (← a.reached, append-nil) a.held
 
 pub record AtBody (rule : Rule) (table : BTreeMap (List ℕ) Entry) (start : Scope) (whole left : Block) : Type 0 where
@@ -46,11 +50,13 @@ pub record AtBody (rule : Rule) (table : BTreeMap (List ℕ) Entry) (start : Sco
   pub held : Tabulates table scope
   pub same : first_of (along rule 0 start whole) ≡ first_of (along rule 0 scope left)
 
-pub body_start : (rule : Rule) (table : BTreeMap (List ℕ) Entry) (start : Scope) (whole : Block) → Tabulates table start → AtBody rule table start whole whole
+pub body_start : (rule : Rule) (table : BTreeMap (List ℕ) Entry) (start : Scope) (whole : Block) → Tabulates table start
+    → AtBody rule table start whole whole
 body_start rule table start whole t = record { scope = start; held = t; same = refl }
 
 pub body_next : (rule : Rule) (old new : BTreeMap (List ℕ) Entry) (start : Scope) (whole left : Block) (s : Statement)
-    → ((scope : Scope) → Tabulates old scope → None ≡ first_of (rule.of_statement scope s)) → ((scope : Scope) → Tabulates old scope → Tabulates new (scope ++ declares 0 scope s))
+    → ((scope : Scope) → Tabulates old scope → None ≡ first_of (rule.of_statement scope s))
+    → ((scope : Scope) → Tabulates old scope → Tabulates new (scope ++ declares 0 scope s))
     → AtBody rule old start whole ((then) s left) → AtBody rule new start whole left
 body_next rule old new start whole left s none passed a = record {
   scope = a.scope ++ declares 0 a.scope s;
@@ -59,6 +65,7 @@ body_next rule old new start whole left s none passed a = record {
 }
 
 pub body_found : (rule : Rule) (table : BTreeMap (List ℕ) Entry) (start : Scope) (whole left : Block) (s : Statement) (f : FirFault)
-    → ((scope : Scope) → Tabulates table scope → Some f ≡ first_of (rule.of_statement scope s)) → AtBody rule table start whole ((then) s left) → Some f ≡ first_of (along rule 0 start whole)
+    → ((scope : Scope) → Tabulates table scope → Some f ≡ first_of (rule.of_statement scope s))
+    → AtBody rule table start whole ((then) s left) → Some f ≡ first_of (along rule 0 start whole)
 body_found rule table start whole left s f found a =
     first_front (rule.of_statement a.scope s) (along rule 0 (a.scope ++ declares 0 a.scope s) left) f (found a.scope a.held) ∙ sym a.same

@@ -4,3 +4,4 @@ pub mod Firsts
 pub mod Tabulated
 pub mod AskedWidths
 pub mod Groups
+pub mod Walks

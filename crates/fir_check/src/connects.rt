@@ -4,7 +4,7 @@ ghost use Rattle.std.specs.Prelude.{◌≡◌, IfOk};
 ghost use Rattle.fir_meaning.specs.Scopes.{Scope, look_up};
 ghost use Rattle.fir_meaning.specs.TypeFaults.{connect_type_faults, equivalence_faults, flow_faults};
 ghost use Rattle.fir_check.specs.working.Firsts.{first_of};
-ghost use Rattle.fir_check.specs.working.Tabulated.{Tabulates, kind_of, printed_of, ty_of};
+ghost use Rattle.fir_check.specs.working.Tabulated.{Tabulates, kind_of, printed_of};
 
 use crate::declared::{Declared, Kind};
 use crate::printed::Printed;

@@ -2,7 +2,7 @@
 
 ghost use Rattle.std.specs.Prelude.{◌≡◌};
 ghost use Rattle.fir_ast.specs.View.{expr_of};
-ghost use Rattle.fir_meaning.specs.TypeFaults.{place_of};
+ghost use Rattle.fir_meaning.specs.FaultRules.{place_of};
 
 use fir_ast::{Expr, Place};
 

@@ -1,71 +1,57 @@
-//! The types of an expression and its first fault of a group, in one walk: a type is found once, however
+//! The type of an expression and its first fault of a group, in one walk: a type is found once, however
 //! deep it stands.
 
 ghost use Rattle.std.specs.Prelude.{◌≡◌, ◌++◌, IfOk, OnOk, map};
-ghost use Rattle.fir_ast.specs.Expressions.{operation};
 ghost use Rattle.fir_ast.specs.View.{expr_of, expressions_of};
-ghost use Rattle.fir_meaning.specs.Scopes.{Scope, types, types_of_each};
-ghost use Rattle.fir_meaning.specs.FaultRules.{within, within_each};
+ghost use Rattle.fir_meaning.specs.Scopes.{Scope};
+ghost use Rattle.fir_meaning.specs.FaultRules.{typing, within, within_each};
 ghost use Rattle.fir_check.specs.working.Firsts.{first_of};
 ghost use Rattle.fir_check.specs.working.Groups.{expression_rule};
 ghost use Rattle.fir_check.specs.working.Tabulated.{Tabulates};
+ghost use Rattle.fir_check.specs.working.Walks.{Walks, typing_of};
 
+use crate::expression_place::place_of;
 use crate::group::Group;
-use crate::scope::{Table, type_in};
-use crate::widths::{literal_type, operation_type};
-use fir_ast::{Expr, FirFault, Place};
+use crate::scope::Table;
+use crate::typing::Typing;
+use crate::walked::Walked;
+use fir_ast::{Expr, FirFault};
 use fir_base::MemoryOut;
-use fir_bits::{NumTy, PrimOp};
 use std::alloc::Global;
 
-/// Appends the types of an expression, and tells its first fault.
+/// Tells the type of an expression, and its first fault.
 #[cycle(expressions)]
-pub fn walk(
-    alloc: Global,
-    group: Group,
-    table: &Table,
-    value: &Expr,
-    held: &mut Vec<NumTy>,
-) -> Result<Option<FirFault>, MemoryOut>
-    ensures first { IfOk result (λ f. (scope : Scope) → Tabulates table.now scope → f ≡ first_of (within (expression_rule group) scope (expr_of value.now))) }
-    ensures types { OnOk result ((scope : Scope) → Tabulates table.now scope → held.new.items ≡ held.old.items ++ types scope (expr_of value.now)) }
+pub fn walk(alloc: Global, group: Group, table: &Table, value: &Expr) -> Result<Walked, MemoryOut>
+    ensures { IfOk result (λ w. (scope : Scope) → Tabulates table.now scope → Walks (typing scope (expr_of value.now)) (within (expression_rule group) scope (expr_of value.now)) w) }
 {
     match value {
-        Expr::Ref(reference) => {
-            held.push(type_in(table, &reference.name))?;
-            group.of_reference(alloc, table, reference)
-        }
-        Expr::Literal(literal) => {
-            held.push(literal_type(literal))?;
-            group.of_literal(alloc, literal)
-        }
+        Expr::Ref(reference) => Ok(Walked {
+            typing: Typing::of_name(table, &reference.name),
+            first: group.of_reference(alloc, table, reference)?,
+        }),
+        Expr::Literal(literal) => Ok(Walked {
+            typing: Typing::of_literal(literal),
+            first: group.of_literal(alloc, literal)?,
+        }),
         Expr::Op(place, op, operands, integers) => {
-            walk_operation(alloc, group, table, *place, *op, operands, integers, held)
+            let mut typings = Vec::new(alloc);
+            let inner = walk_each(alloc, group, table, operands, &mut typings)?;
+            Ok(Walked::of_operation(alloc, group, *place, *op, &typings, integers, inner)?)
         }
-        Expr::Mux(_, _, _, _) | Expr::Validif(_, _, _) => Ok(None),
+        Expr::Mux(place, condition, high, low) => {
+            let chooser = walk(alloc, group, table, condition)?;
+            let chooser = chooser.in_condition(alloc, group, place_of(condition))?;
+            let high = walk(alloc, group, table, high)?;
+            let low = walk(alloc, group, table, low)?;
+            Ok(Walked::of_mux(alloc, group, *place, chooser, high, low)?)
+        }
+        Expr::Validif(place, condition, chosen) => {
+            let chooser = walk(alloc, group, table, condition)?;
+            let chooser = chooser.in_condition(alloc, group, place_of(condition))?;
+            let chosen = walk(alloc, group, table, chosen)?;
+            Ok(Walked::of_validif(alloc, group, *place, chooser, chosen)?)
+        }
     }
-}
-
-/// Appends the type of an operation, and tells the first fault in its operands, or else its own.
-#[cycle(expressions)]
-fn walk_operation(
-    alloc: Global,
-    group: Group,
-    table: &Table,
-    place: Place,
-    op: PrimOp,
-    operands: &[Expr],
-    integers: &[u128],
-    held: &mut Vec<NumTy>,
-) -> Result<Option<FirFault>, MemoryOut>
-    ensures first { IfOk result (λ f. (scope : Scope) → Tabulates table.now scope → f ≡ first_of (within (expression_rule group) scope (operation place op (expressions_of (map expr_of operands.now)) integers.now))) }
-    ensures types { OnOk result ((scope : Scope) → Tabulates table.now scope → held.new.items ≡ held.old.items ++ types scope (operation place op (expressions_of (map expr_of operands.now)) integers.now)) }
-{
-    let mut inner = Vec::new(alloc);
-    let first = walk_each(alloc, group, table, operands, &mut inner)?;
-    held.push(operation_type(op, &inner, integers))?;
-    let own = group.of_operation(alloc, place, op, &inner, integers)?;
-    Ok(first.or(own))
 }
 
 /// Appends the types of operands, and tells the first fault in them.
@@ -75,15 +61,16 @@ fn walk_each(
     group: Group,
     table: &Table,
     operands: &[Expr],
-    held: &mut Vec<NumTy>,
+    typings: &mut Vec<Typing>,
 ) -> Result<Option<FirFault>, MemoryOut>
     ensures first { IfOk result (λ f. (scope : Scope) → Tabulates table.now scope → f ≡ first_of (within_each (expression_rule group) scope (expressions_of (map expr_of operands.now)))) }
-    ensures types { OnOk result ((scope : Scope) → Tabulates table.now scope → held.new.items ≡ held.old.items ++ types_of_each scope (expressions_of (map expr_of operands.now))) }
+    ensures typings { OnOk result ((scope : Scope) → Tabulates table.now scope → map typing_of typings.new.items ≡ map typing_of typings.old.items ++ map (typing scope) (map expr_of operands.now)) }
 {
     let mut first = None;
     for operand in operands {
-        let fault = walk(alloc, group, table, operand, held)?;
-        first = first.or(fault);
+        let walked = walk(alloc, group, table, operand)?;
+        typings.push(walked.typing)?;
+        first = first.or(walked.first);
     }
     Ok(first)
 }

@@ -1,36 +1,38 @@
-//! Faults of integers: E21 (FIRRTL spec, "Primitive Operations", "Literals").
+//! Faults of integers, E21, and of the widths of conditions, E22 (FIRRTL spec, "Primitive Operations",
+//! "Literals", "Multiplexers").
 
-ghost use Rattle.std.specs.Prelude.{◌≡◌, ◌^◌, IfOk, nat_lt};
+ghost use Rattle.std.specs.Prelude.{◌≡◌, IfOk};
 ghost use Rattle.fir_bits.specs.Types.{typed};
-ghost use Rattle.fir_meaning.specs.LegalityFaults.{integer_faults, literal_faults};
+ghost use Rattle.fir_meaning.specs.LegalityFaults.{condition_width_faults, integer_faults, literal_faults};
 ghost use Rattle.fir_check.specs.working.Firsts.{first_of};
 
 use crate::widths::first_type;
 use fir_ast::{FirFault, Literal, Place};
 use fir_base::{MemoryOut, Name, Seq};
-use fir_bits::{NumTy, OpFault, PrimOp, result_type};
+use fir_bits::{NumTy, OpFault, PrimOp, holds_number, result_type};
 use std::alloc::Global;
 
-/// The fault of a literal whose number is not below two to its width.
+/// The fault of a literal that does not fit its written width.
 pub fn literal_fault(literal: &Literal) -> Option<FirFault>
     ensures { result ≡ first_of (literal_faults literal.now) }
 {
-    let width = literal.width.unwrap_or(0);
-    if is_below_power(literal.magnitude, width) {
-        return None;
+    let width = literal.width?;
+    let (place, negative, magnitude) = (literal.place, literal.negative, literal.magnitude);
+    if holds_number(literal.signed, width, negative, magnitude) {
+        None
+    } else {
+        Some(FirFault::LiteralLegality(place, width, negative, magnitude))
     }
-    let (place, negative) = (literal.place, literal.negative);
-    Some(FirFault::LiteralLegality(place, width, negative, literal.magnitude))
 }
 
-/// Whether the number is below two to the power of the width.
-fn is_below_power(number: u128, width: u128) -> bool
-    ensures { result ≡ nat_lt number (2 ^ width) }
+/// The fault of a condition at this place whose width is not 1.
+pub fn condition_width_fault(place: Place, width: u32) -> Option<FirFault>
+    ensures { result ≡ first_of (condition_width_faults place width) }
 {
-    if width < 128 {
-        number < 1 << (width as u32)
+    if width == 1 {
+        None
     } else {
-        true
+        Some(FirFault::Condition(place, u128::from(width)))
     }
 }
 

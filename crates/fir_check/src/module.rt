@@ -1,21 +1,20 @@
 //! The first fault of a group: in the ports of a module, then in its statements, module by module.
 
-ghost use Rattle.std.specs.Prelude.{◌≡◌, [], ◌∷◌, ◌++◌, IfOk, MatchOption, OnOk, flat_map, map};
-ghost use Rattle.fir_ast.specs.View.{block_of, circuit_of, expr_of, module_of, named_of, port_of, sink_of, stmt_of, type_of};
-ghost use Rattle.fir_bits.specs.Forms.{first_type};
-ghost use Rattle.fir_meaning.specs.Scopes.{Scope, declares, node_value, port_declared, printed_type, register_value, types, written_printed, written_type};
+ghost use Rattle.std.specs.Prelude.{◌≡◌, [], ◌∷◌, ◌++◌, IfOk, OnOk, flat_map, map};
+ghost use Rattle.fir_ast.specs.Statements.{connect};
+ghost use Rattle.fir_ast.specs.View.{block_of, circuit_of, expr_of, module_of, named_of, port_of, sink_of, stmt_of};
+ghost use Rattle.fir_ast.specs.View as tree;
+ghost use Rattle.fir_meaning.specs.Scopes.{Scope, declares, node_value, port_declared, printed_type, register_value, type_of, written_printed, written_type};
 ghost use Rattle.fir_meaning.specs.FaultRules.{along, along_ports, faults_by, within};
 ghost use Rattle.fir_check.specs.working.Firsts.{first_of};
-ghost use Rattle.fir_check.specs.working.Groups.{clock_faults, connect_faults, declaration_faults, expression_rule, rule_of};
+ghost use Rattle.fir_check.specs.working.Groups.{clock_faults, declaration_faults, expression_rule, rule_of};
 ghost use Rattle.fir_check.specs.working.Tabulated.{Tabulates, declared_as};
 
 use crate::clocks::in_clock;
 use crate::declared::{Declared, Kind};
 use crate::expressions::walk;
 use crate::group::Group;
-use crate::printed::printed_type;
 use crate::scope::{Table, declare};
-use crate::widths::first_type;
 use fir_ast::{Circuit, Expr, FirFault, Ident, Module, Place, Port, Reference, Register, Stmt};
 use fir_base::MemoryOut;
 use std::alloc::Global;
@@ -105,8 +104,8 @@ fn in_register(
     table: &mut Table,
     register: &Register,
 ) -> Result<Option<FirFault>, MemoryOut>
-    ensures first { IfOk result (λ f. (scope : Scope) → Tabulates table.old scope → f ≡ first_of (declaration_faults group scope (named_of register.now.ident) (written_type (type_of register.now.ty)) ++ clock_faults group scope (expr_of register.now.clock))) }
-    ensures passed { OnOk result ((scope : Scope) → Tabulates table.old scope → Tabulates table.new (scope ++ declared_as (named_of register.now.ident) register_value (written_type (type_of register.now.ty)) (written_printed (type_of register.now.ty)) ∷ [])) }
+    ensures first { IfOk result (λ f. (scope : Scope) → Tabulates table.old scope → f ≡ first_of (declaration_faults group scope (named_of register.now.ident) (written_type (tree.type_of register.now.ty)) ++ clock_faults group scope (expr_of register.now.clock))) }
+    ensures passed { OnOk result ((scope : Scope) → Tabulates table.old scope → Tabulates table.new (scope ++ declared_as (named_of register.now.ident) register_value (written_type (tree.type_of register.now.ty)) (written_printed (tree.type_of register.now.ty)) ∷ [])) }
 {
     let inner = in_clock(alloc, group, table, &register.clock)?;
     let declared = Declared::by_register(register);
@@ -123,21 +122,20 @@ fn in_node(
     ident: &Ident,
     value: &Expr,
 ) -> Result<Option<FirFault>, MemoryOut>
-    ensures first { IfOk result (λ f. (scope : Scope) → Tabulates table.old scope → f ≡ first_of (declaration_faults group scope (named_of ident.now) (first_type (types scope (expr_of value.now))) ++ within (expression_rule group) scope (expr_of value.now))) }
-    ensures passed { OnOk result ((scope : Scope) → Tabulates table.old scope → Tabulates table.new (scope ++ declared_as (named_of ident.now) node_value (first_type (types scope (expr_of value.now))) (printed_type scope (expr_of value.now)) ∷ [])) }
+    ensures first { IfOk result (λ f. (scope : Scope) → Tabulates table.old scope → f ≡ first_of (declaration_faults group scope (named_of ident.now) (type_of scope (expr_of value.now)) ++ within (expression_rule group) scope (expr_of value.now))) }
+    ensures passed { OnOk result ((scope : Scope) → Tabulates table.old scope → Tabulates table.new (scope ++ declared_as (named_of ident.now) node_value (type_of scope (expr_of value.now)) (printed_type scope (expr_of value.now)) ∷ [])) }
 {
-    let mut types = Vec::new(alloc);
-    let inner = walk(alloc, group, table, value, &mut types)?;
-    let holds = first_type(&types);
+    let walked = walk(alloc, group, table, value)?;
+    let holds = walked.typing.holds;
     let own = group.of_declaration(alloc, table, ident, holds)?;
     let declared = Declared {
         place: ident.place,
         kind: Kind::Node,
         holds,
-        printed: printed_type(table, value),
+        printed: walked.typing.printed,
     };
     declare(alloc, table, &ident.name, declared)?;
-    Ok(own.or(inner))
+    Ok(own.or(walked.first))
 }
 
 /// The first fault of the group in a connect.
@@ -149,10 +147,10 @@ fn in_connect(
     sink: &Reference,
     value: &Expr,
 ) -> Result<Option<FirFault>, MemoryOut>
-    ensures { IfOk result (λ f. (scope : Scope) → Tabulates table.now scope → f ≡ first_of (connect_faults group scope place (sink_of sink.now) (expr_of value.now) ++ within (expression_rule group) scope (expr_of value.now))) }
+    ensures { IfOk result (λ f. (scope : Scope) → Tabulates table.now scope → f ≡ first_of ((rule_of group).of_statement scope (connect place (sink_of sink.now) (expr_of value.now)))) }
 {
-    let mut types = Vec::new(alloc);
-    let inner = walk(alloc, group, table, value, &mut types)?;
-    let own = group.of_connect(alloc, table, place, sink, value)?;
-    Ok(own.or(inner))
+    let before = group.of_sink(alloc, table, sink)?;
+    let walked = walk(alloc, group, table, value)?;
+    let behind = group.of_connect(alloc, table, place, sink, walked.typing.printed)?;
+    Ok(before.or(walked.first).or(behind))
 }

@@ -4,7 +4,7 @@
 ghost use Rattle.std.specs.Prelude.{◌≡◌, IfOk, slice_index};
 ghost use Rattle.fir_bits.specs.Forms.{first_type};
 ghost use Rattle.fir_ast.specs.View.{type_of};
-ghost use Rattle.fir_meaning.specs.Operations.{counted, operation_type};
+ghost use Rattle.fir_meaning.specs.Operations.{counted, mux_type, operation_type, validif_type};
 ghost use Rattle.fir_meaning.specs.Scopes.{literal_type, written_type};
 ghost use Rattle.fir_meaning.specs.WidthFaults.{over_width_faults};
 ghost use Rattle.fir_check.specs.working.Firsts.{first_of};
@@ -12,7 +12,7 @@ ghost use Rattle.fir_check.specs.working.AskedWidths.{asked};
 
 use fir_ast::{FirFault, Literal, Place, Ty};
 use fir_base::{MemoryOut, Name};
-use fir_bits::{NO_TYPE, NumTy, OpFault, PrimOp, result_type};
+use fir_bits::{NO_TYPE, NumTy, OpFault, PrimOp, least_width, result_type};
 use std::alloc::Global;
 
 /// The width of all that is over 128 bits.
@@ -51,14 +51,16 @@ fn counted(width: u128) -> u32
     width.min(u128::from(OVER)) as u32
 }
 
-/// The type of a literal.
+/// The type of a literal. Without a written width it has the least that holds it.
 pub fn literal_type(literal: &Literal) -> NumTy
     ensures { result ≡ literal_type literal.now }
 {
-    NumTy {
-        signed: literal.signed,
-        width: counted(literal.width.unwrap_or(0)),
-    }
+    let signed = literal.signed;
+    let width = match literal.width {
+        Some(width) => counted(width),
+        None => least_width(signed, literal.negative, literal.magnitude),
+    };
+    NumTy { signed, width }
 }
 
 /// The type that is written.
@@ -111,6 +113,36 @@ pub fn operation_type(op: PrimOp, types: &[NumTy], integers: &[u128]) -> NumTy
             signed: op.is_signed(first_type(types).signed),
             width: asked(op, integer(integers, 0), integer(integers, 1)),
         },
+    }
+}
+
+/// The type of a mux: as wide as the wider arm, and over where the condition is.
+pub fn mux_type(condition: NumTy, high: NumTy, low: NumTy) -> NumTy
+    ensures { result ≡ mux_type condition high low }
+{
+    let width = if condition.width == OVER {
+        OVER
+    } else {
+        high.width.max(low.width)
+    };
+    NumTy {
+        signed: high.signed,
+        width,
+    }
+}
+
+/// The type of a validif: that of its value, and over where the condition is.
+pub fn validif_type(condition: NumTy, value: NumTy) -> NumTy
+    ensures { result ≡ validif_type condition value }
+{
+    let width = if condition.width == OVER {
+        OVER
+    } else {
+        value.width
+    };
+    NumTy {
+        signed: value.signed,
+        width,
     }
 }
 

@@ -3,7 +3,6 @@ use Rattle.std.proofs.Common.{ℕ, List, [], ◌∷◌, ◌∙◌, subst, IsTrue
 use Rattle.fir_base.specs.Ticks.{Tick, TickResult, Allowance, IsRun}
 use Rattle.fir_base.specs.declared.refused.MemoryOut.{MemoryOut}
 use Rattle.ver_ast.specs.declared.tree.Verilog.{Verilog}
-use Rattle.ver_ast.specs.working.Laws.{ValidHasOne}
 use Rattle.ver_ast.specs.Allows.{VAllows}
 use Rattle.fir_ast.specs.Circuits.{CircuitTree}
 use Rattle.fir_meaning.specs.Allows.{Allows}
@@ -35,20 +34,20 @@ module _ (c : CircuitTree) (net : FlatNet) (v : Verilog) (low : Lowers c net) (m
   back : Includes (Allows c) (VAllows v)
   back s t o n x = (made.allows s t o n).1 ((low.allows s t o n).1 x)
 
-  compiles : ValidHasOne → FaultlessHasOne → IsTrue (is_in_language c) → Faultless c → Compiles c v
-  compiles valid_one faultless_one language faultless = record {
+  compiles : FaultlessHasOne → IsTrue (is_in_language c) → Faultless c → Compiles c v
+  compiles faultless_one language faultless = record {
     named =
         subst (λ words. IsNamedFor c.named.name (circuit_rows c) words v) low.words
         (subst (λ rows. IsNamedFor c.named.name rows (net_words net) v) low.ports (subst (λ name. IsNamedFor name (net_rows net) (net_words net) v) low.named made.named));
     shapes = made.shapes ∙ low.shapes;
     valid = made.valid;
     one = faultless_one c language faultless;
-    v_one = valid_one v made.valid;
+    v_one = made.one;
     allows = λ s t o n. (forth s t o n, back s t o n);
     runs = λ s ts os. (same_runs (VAllows v) (Allows c) forth s ts os, same_runs (Allows c) (VAllows v) back s ts os);
   }
 
-pub compiled : ValidHasOne → FaultlessHasOne → (c : CircuitTree) (net : FlatNet) → IsTrue (is_in_language c) → Faultless c → Lowers c net
+pub compiled : FaultlessHasOne → (c : CircuitTree) (net : FlatNet) → IsTrue (is_in_language c) → Faultless c → Lowers c net
     → (r : Result Verilog MemoryOut) → IfOk r (λ v. Builds net v) → IfOk r (λ v. Compiles c v)
-compiled valid_one faultless_one c net language faultless low (Ok v) made = compiles c net v low made valid_one faultless_one language faultless
-compiled valid_one faultless_one c net language faultless low (Err e) made = tt
+compiled faultless_one c net language faultless low (Ok v) made = compiles c net v low made faultless_one language faultless
+compiled faultless_one c net language faultless low (Err e) made = tt

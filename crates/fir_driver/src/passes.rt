@@ -32,7 +32,7 @@ use fir_parse::parse;
 use fir_sim::shape;
 use std::alloc::Global;
 use trace_text::Shape;
-use ver_ast::{Verilog, valid_has_one};
+use ver_ast::Verilog;
 use ver_build::{build, names_are_for_rows};
 use ver_emit::{layout_is_spelled, write_verilog};
 
@@ -109,7 +109,6 @@ pub fn compile(alloc: Global, c: &Circuit) -> Result<Verilog, MemoryOut>
     ensures { IfOk result (λ v. Compiles (circuit_of c.now) v) }
 {
     faultless_has_one();
-    valid_has_one();
     let ordered = ordered_net(alloc, c)?;
     build(alloc, &ordered.net, &ordered.order)
 }

@@ -1,5 +1,5 @@
 -- What the leaves and nodes of a whole net hang on.
-use Rattle.std.proofs.Common.{◌≡◌, ℕ, zero, suc, ◌+◌, ◌<◌, ◌≤◌, List, [], ◌∷◌, ◌++◌, Option, Some, None, length, sym, ap, ◌∙◌, subst, inl, inr, ◌⊎◌, arith, length-append}
+use Rattle.std.proofs.Common.{◌≡◌, ℕ, Bool, zero, suc, ◌+◌, ◌<◌, ◌≤◌, List, [], ◌∷◌, ◌++◌, Option, Some, None, length, sym, ap, ◌∙◌, subst, inl, inr, ◌⊎◌, arith, length-append}
 use Rattle.std.specs.Prelude.{slice_get}
 use Rattle.std.proofs.lemmas.Bool.{cases_eq, cases_lt}
 use Rattle.std.proofs.lemmas.Option.{none-some, same_Some, slice_get_within, slice_get_past}
@@ -60,20 +60,20 @@ module _ (net : FlatNet) where
   kind_within Asynchronous condition init c i zero w e = subst (IsOf net) (same_Some condition w e) c
   kind_within Asynchronous condition init c i (suc place) w e = first_of init i place w e
 
-  reset_within : (reset : Option Reset) → CanBeReset net.leaves net.nodes reset → (place : ℕ) (w : Read) → slice_get (reset_reads reset) place ≡ Some w → IsOf net w
-  reset_within None h place w e = absurd (none-some w e)
-  reset_within (Some r) h place w e = kind_within r.kind r.condition r.init (can_read_of net r.condition h.condition) (can_read_of net r.init h.init) place w e
+  reset_within : (signed : Bool) (reset : Option Reset) → CanBeReset net.leaves net.nodes signed reset → (place : ℕ) (w : Read) → slice_get (reset_reads reset) place ≡ Some w → IsOf net w
+  reset_within signed None h place w e = absurd (none-some w e)
+  reset_within signed (Some r) h place w e = kind_within r.kind r.condition r.init (can_read_of net r.condition h.condition) (can_read_of net r.init h.init.can) place w e
 
-  role_within : (width : ℕ) (role : Role) → IsRole net.leaves net.nodes width role → (place : ℕ) (w : Read) → slice_get (role_reads role) place ≡ Some w → IsOf net w
-  role_within width role.Input h place w e = absurd (none-some w e)
-  role_within width role.Clock h place w e = absurd (none-some w e)
-  role_within width (role.Output r) h place w e = first_of r (can_read_of net r h) place w e
-  role_within width (role.Wire r) h place w e = first_of r (can_read_of net r h) place w e
-  role_within width (role.Register r) h place w e = reset_within r.reset h.1 place w e
-  role_within width (role.ClockOutput None) h place w e = absurd (none-some w e)
-  role_within width (role.ClockOutput (Some k)) h place w e = first_of (read.Leaf k) (slice_get_within net.leaves k h.1.0 h.1.1) place w e
-  role_within width (role.ClockWire None) h place w e = absurd (none-some w e)
-  role_within width (role.ClockWire (Some k)) h place w e = first_of (read.Leaf k) (slice_get_within net.leaves k h.1.0 h.1.1) place w e
+  role_within : (signed : Bool) (width : ℕ) (role : Role) → IsRole net.leaves net.nodes signed width role → (place : ℕ) (w : Read) → slice_get (role_reads role) place ≡ Some w → IsOf net w
+  role_within signed width role.Input h place w e = absurd (none-some w e)
+  role_within signed width role.Clock h place w e = absurd (none-some w e)
+  role_within signed width (role.Output r) h place w e = first_of r (can_read_of net r h.can) place w e
+  role_within signed width (role.Wire r) h place w e = first_of r (can_read_of net r h.can) place w e
+  role_within signed width (role.Register r) h place w e = reset_within signed r.reset h.1 place w e
+  role_within signed width (role.ClockOutput None) h place w e = absurd (none-some w e)
+  role_within signed width (role.ClockOutput (Some k)) h place w e = first_of (read.Leaf k) (slice_get_within net.leaves k h.1.0 h.1.1) place w e
+  role_within signed width (role.ClockWire None) h place w e = absurd (none-some w e)
+  role_within signed width (role.ClockWire (Some k)) h place w e = first_of (read.Leaf k) (slice_get_within net.leaves k h.1.0 h.1.1) place w e
 
 -- a node over those before it
 record IsNodeAt (leaves : List Leaf) (k : ℕ) (n : Node) : Type 0 where
@@ -123,5 +123,5 @@ module _ (net : FlatNet) (whole : IsNet net) where
   reads_within (read.Leaf k) w r =
       let l = there net.leaves k (reads_from net (read.Leaf k) w r) in
       let leaf = all_there (IsLeaf net.leaves net.nodes) net.leaves whole.leaves k l.0 l.1 in
-      role_within net l.0.width l.0.role leaf.driven r.place w (ap (λ o. slice_get (leaf_reads o) r.place) (sym l.1) ∙ r.is)
+      role_within net l.0.signed l.0.width l.0.role leaf.driven r.place w (ap (λ o. slice_get (leaf_reads o) r.place) (sym l.1) ∙ r.is)
   reads_within (read.Node k) w r = of_before k w (reads_from net (read.Node k) w r) (reads_before k w r)

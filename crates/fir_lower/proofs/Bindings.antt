@@ -5,7 +5,8 @@ use Rattle.fir_bits.specs.declared.types.NumTy.{NumTy}
 use Rattle.fir_net.specs.declared.node.Node.{Node}
 use Rattle.fir_net.specs.working.IsNet.{IsClock}
 use Rattle.fir_meaning.specs.Scopes.{Kind, input, clock_input, output, node_value, register_value, is_readable, Declared, Scope, look_up}
-use Rattle.fir_lower.specs.working.Lowered.{Bound, Binding, bound_of, leaf_number}
+use Rattle.fir_lower.specs.working.Bounds.{Bound, Binding, bound_of}
+use Rattle.fir_lower.specs.working.Lowering.{leaf_number}
 use Rattle.fir_base.proofs.SameNames.{name_same}
 use Rattle.fir_meaning.proofs.LookUps.{found_more}
 use Rattle.fir_lower.proofs.LoweredScopes.{found_apart}

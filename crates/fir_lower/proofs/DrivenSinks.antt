@@ -4,7 +4,8 @@ use Rattle.std.specs.Str.{bytes_eq}
 use Rattle.fir_ast.specs.Statements.{Statement, connect, Block, done, then}
 use Rattle.fir_net.specs.declared.reads.Read.{Read}
 use Rattle.fir_meaning.specs.DrivenFaults.{drives, is_connected}
-use Rattle.fir_lower.specs.working.Lowered.{bound_with, Driver, driver_of, Lowering, with_statement, with_body}
+use Rattle.fir_lower.specs.working.ExpressionNodes.{bound_with}
+use Rattle.fir_lower.specs.working.Lowering.{Driver, driver_of, Lowering, with_statement, with_body}
 
 pub record IsDriven (drivers : List Driver) (name : List ℕ) : Type 0 where
   pub source : Read

@@ -38,6 +38,8 @@ pub mod LoweredTypes
 pub mod LoweredWhole
 pub mod ModuleHeights
 pub mod NetGrowth
+pub mod OwnWidths
+pub mod PlacedNodes
 pub mod PortsFirst
 pub mod SharedNodes
 pub mod WholeBodies

@@ -11,7 +11,7 @@ use Rattle.fir_meaning.specs.working.Laws.{CleanHasValue}
 use Rattle.fir_meaning.proofs.LookUps.{found_last}
 use Rattle.fir_meaning.proofs.Bodies.{kept_behind, node_declared, register_declared}
 use Rattle.fir_net.specs.declared.leaf.Leaf.{Leaf}
-use Rattle.fir_lower.specs.working.Lowered.{Lowering, next_number, with_statement, with_body}
+use Rattle.fir_lower.specs.working.Lowering.{Lowering, next_number, with_statement, with_body}
 use Rattle.fir_lower.proofs.LoweredEach.{EachFrom}
 use Rattle.fir_lower.proofs.LoweredNodes.{values_of}
 use Rattle.fir_lower.proofs.LoweredReads.{agrees_then}
@@ -71,7 +71,7 @@ module _ (leaves : List Leaf) (env : ℕ → ℕ) (clock_at : ℕ → Option ℕ
       let grown =
       agrees_then leaves env clock_at values scope l.bindings (values_of leaves env l.nodes) (values_of leaves env next.nodes) (grows_with leaves env l.bindings x l.nodes) a.agrees in
       ran_connect leaves env clock_at law whole values end scope l p b finds a sink x c.0.0 c.0.1
-      (ran (scope ++ []) next b same ends c.1 v rest (at_same scope next (record { agrees = grown; stable = r.stable })))
+      (ran (scope ++ []) next b same ends c.1 v rest (at_same scope next (record { agrees = grown; stable = r.there.stable })))
   ran scope l ((then) (skip p) b) same ends c v k a =
       let rest = known_rest leaves env clock_at law whole values end l (skip p) b k in
       ran_skip leaves env clock_at law whole values end l p b (ran (scope ++ []) l b same ends c.1 v rest (at_same scope l a))

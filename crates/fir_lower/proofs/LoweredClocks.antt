@@ -5,7 +5,7 @@ use Rattle.fir_ast.specs.declared.place.Place.{Place}
 use Rattle.fir_ast.specs.Types.{DataType}
 use Rattle.fir_ast.specs.Expressions.{Expression, reference}
 use Rattle.fir_ast.specs.Statements.{PlacedName, Reset, register}
-use Rattle.fir_bits.specs.Values.{BitVector}
+use Rattle.fir_bits.specs.declared.values.Num.{Num}
 use Rattle.fir_meaning.specs.Paths.{Values}
 use Rattle.fir_meaning.specs.Scopes.{Declared, Scope, look_up}
 use Rattle.fir_meaning.specs.Leaves.{Leaf, leaves_found, with_bits}
@@ -18,7 +18,8 @@ use Rattle.fir_net.specs.working.Next.{ticks as net_ticks}
 use Rattle.fir_lower.specs.declared.inner.InnerRole.{InnerRole}
 use Rattle.fir_lower.specs.declared.inner.InnerRole.TheVariants as inner_role
 use Rattle.fir_lower.specs.declared.inner.InnerLeaf.{InnerLeaf}
-use Rattle.fir_lower.specs.working.Lowered.{Binding, clock_number}
+use Rattle.fir_lower.specs.working.Bounds.{Binding}
+use Rattle.fir_lower.specs.working.Lowering.{clock_number}
 use Rattle.fir_lower.proofs.LoweredReads.{Agrees}
 
 -- the word of a register that has bits; a node of the circuit has none
@@ -34,34 +35,34 @@ module _ (leaves : List NetLeaf) (env : ℕ → ℕ) (clock_at : ℕ → Option 
     pub declared : Declared
     pub found : look_up whole r.name ≡ Some declared
     pub named : declared.named.name ≡ r.name
-    pub width : r.width ≡ declared.holds.width
+    pub type : r.ty ≡ declared.holds
     pub leaf : k.leaf ≡ leaf_of declared
     pub ticks_are : (rising : List ℕ) → ticks rising k.path values k.clock ≡ net_ticks rising (clock_at clock)
 
   -- the clock that is named at a register has its number
-  pub clock_ticks : (scope : Scope) (bs : List Binding) (known : List BitVector) (c : Expression) → IsClock scope c → Agrees leaves env clock_at values scope bs known
+  pub clock_ticks : (scope : Scope) (bs : List Binding) (known : List Num) (c : Expression) → IsClock scope c → Agrees leaves env clock_at values scope bs known
       → (rising : List ℕ) → ticks rising [] values c ≡ net_ticks rising (clock_at (clock_number bs c))
   clock_ticks scope bs known (reference p n ps) k a rising = ap (net_ticks rising) (sym ((a.each n k.declared k.found).clock k.kind))
   clock_ticks scope bs known c k a rising = absurd k
 
   abbrev pub row_of : (InnerLeaf → ℕ) → InnerLeaf → List ℕ
-  row_of f r = map (λ j. f r) (inner_word r.role r.width)
+  row_of f r = map (λ j. f r) (inner_word r.role r.ty.width)
 
   -- whatever is made of each register with bits is the same on both sides
   abbrev pub AreClocked : List InnerLeaf → List Clocked → Type 0
   AreClocked rs ks = (f : InnerLeaf → ℕ) (g : Clocked → ℕ) → ((r : InnerLeaf) (k : Clocked) → IsClocked r k → f r ≡ g k) → flat_map (row_of f) rs ≡ map g ks
 
-  one_clocked : (f : InnerLeaf → ℕ) (g : Clocked → ℕ) (r : InnerLeaf) (m : Leaf) (of_leaf : Leaf → Clocked) (clock : ℕ) → r.role ≡ inner_role.Register clock → r.width ≡ m.holds.width → f r ≡ g (of_leaf m)
+  one_clocked : (f : InnerLeaf → ℕ) (g : Clocked → ℕ) (r : InnerLeaf) (m : Leaf) (of_leaf : Leaf → Clocked) (clock : ℕ) → r.role ≡ inner_role.Register clock → r.ty.width ≡ m.holds.width → f r ≡ g (of_leaf m)
       → row_of f r ≡ map g (map of_leaf (with_bits m ++ []))
   one_clocked f g r m of_leaf clock role w e =
-      ap (λ (o : InnerRole). map (λ j. f r) (inner_word o r.width)) role ∙ ap (λ (v : ℕ). map (λ j. f r) (number_with_bits v 0)) w ∙ by (nat_eq m.holds.width 0)
+      ap (λ (o : InnerRole). map (λ j. f r) (inner_word o r.ty.width)) role ∙ ap (λ (v : ℕ). map (λ j. f r) (number_with_bits v 0)) w ∙ by (nat_eq m.holds.width 0)
     where
       by : (t : Bool) → map {A = ℕ} (λ j. f r) (if t then [] else (0 ∷ [])) ≡ map g (map of_leaf ((if t then [] else (m ∷ [])) ++ []))
       by true = refl
       by false = ap (λ y. y ∷ []) e
 
   pub register_clocked : (r : InnerLeaf) (p : Place) (n : PlacedName) (begins : Place) (t : DataType) (c : Expression) (o : Option Reset) (d : Declared) (rs : List InnerLeaf) (ks : List Clocked)
-      → look_up whole n.name ≡ Some d → r.width ≡ d.holds.width → IsClocked r (record { leaf = leaf_of d; path = []; clock = c }) → AreClocked rs ks
+      → look_up whole n.name ≡ Some d → r.ty.width ≡ d.holds.width → IsClocked r (record { leaf = leaf_of d; path = []; clock = c }) → AreClocked rs ks
       → AreClocked (r ∷ rs) (clocked_by whole [] (register p n begins t c o) ++ ks)
   register_clocked r p n begins t c o d rs ks found wide is rest f g each =
       let of_leaf = λ (m : Leaf). let k : Clocked = record { leaf = m; path = []; clock = c } in k in

@@ -5,7 +5,8 @@ use Rattle.fir_ast.specs.Statements.{Statement, register, node, connect, skip, B
 use Rattle.fir_meaning.specs.Scopes.{Declared, Scope, look_up}
 use Rattle.fir_meaning.specs.working.Clean.{AreCleanStatements}
 use Rattle.fir_net.specs.declared.leaf.Leaf.{Leaf}
-use Rattle.fir_lower.specs.working.Lowered.{bound_of, Lowering, with_statement, with_body}
+use Rattle.fir_lower.specs.working.Bounds.{bound_of}
+use Rattle.fir_lower.specs.working.Lowering.{Lowering, with_statement, with_body}
 use Rattle.fir_lower.proofs.LoweredNodes.{Grows, grows_none, grows_twice, values_of}
 use Rattle.fir_meaning.proofs.LookUps.{found_front}
 use Rattle.fir_lower.proofs.LoweredScopes.{found_apart}

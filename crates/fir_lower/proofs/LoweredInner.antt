@@ -4,7 +4,7 @@ use Rattle.std.proofs.Common.{◌≡◌, ℕ, ◌+◌, ◌≤◌, List, [], ◌�
 use Rattle.std.proofs.lemmas.List.{append-nil}
 use Rattle.fir_ast.specs.Statements.{Statement, register, node, connect, Block, done, then}
 use Rattle.fir_lower.specs.declared.inner.InnerLeaf.{InnerLeaf}
-use Rattle.fir_lower.specs.working.Lowered.{Lowering, next_number, bound_in, inner_register, inner_node, with_statement, with_body}
+use Rattle.fir_lower.specs.working.Lowering.{Lowering, next_number, bound_in, inner_register, inner_node, with_statement, with_body}
 use Rattle.fir_lower.proofs.LoweredLists.{statement_ports}
 
 -- the leaf of a statement

@@ -7,7 +7,7 @@ use Rattle.fir_net.specs.declared.reads.Read.TheVariants as read
 use Rattle.fir_net.specs.declared.leaf.Role.{Role}
 use Rattle.fir_net.specs.declared.leaf.Role.TheVariants as role
 use Rattle.fir_net.specs.declared.leaf.Leaf.{Leaf}
-use Rattle.fir_lower.specs.working.Lowered.{Driver, driver_of}
+use Rattle.fir_lower.specs.working.Lowering.{Driver, driver_of}
 
 -- a leaf of that name, width and role beside a declaration of that kind and width
 abbrev pub Stands : List Driver → List ℕ → ℕ → Role → Kind → ℕ → Type 0

@@ -11,18 +11,19 @@ use Rattle.fir_meaning.specs.working.Clean.{IsPortType, AreCleanPorts, AreCleanS
 use Rattle.fir_net.specs.declared.leaf.Leaf.{Leaf}
 use Rattle.fir_meaning.proofs.Bodies.{node_declared, register_declared}
 use Rattle.fir_lower.specs.declared.inner.InnerLeaf.{InnerLeaf}
-use Rattle.fir_lower.specs.working.Lowered.{Driver, leaf_width, bound_in, inner_register, inner_node, Lowering, with_statement, lowering, port_role, port_leaf, inner_leaf, leaves_of}
+use Rattle.fir_lower.specs.working.Lowering.{Driver, leaf_type, bound_in, inner_register, inner_node, Lowering, with_statement, lowering}
+use Rattle.fir_lower.specs.working.Lowered.{port_role, port_leaf, inner_leaf, leaves_of}
 use Rattle.fir_lower.proofs.LoweredLists.{begun}
 use Rattle.fir_lower.proofs.LoweredLeaves.{Stands, IsLeafOf, Listed, none, listed, listed_behind}
 use Rattle.fir_lower.proofs.LoweredInner.{inner_of}
 use Rattle.fir_lower.proofs.LoweredPlaces.{inner_are}
-use Rattle.fir_lower.proofs.LoweredTypes.{plain}
+use Rattle.fir_lower.proofs.LoweredTypes.{leaf_wide}
 
 module _ (ds : List Driver) where
-  port_stands : (d : Direction) (t : DataType) (name : List ℕ) → IsPortType d t → Stands ds name (leaf_width t) (port_role d t ds name) (port_kind d t) (written_type t).width
+  port_stands : (d : Direction) (t : DataType) (name : List ℕ) → IsPortType d t → Stands ds name (leaf_type t).width (port_role d t ds name) (port_kind d t) (written_type t).width
   port_stands direction.Input clock name c = tt
-  port_stands direction.Input t name c = (plain t c).width
-  port_stands direction.Output t name c = ((plain t c).width, refl)
+  port_stands direction.Input t name c = leaf_wide t c
+  port_stands direction.Output t name c = (leaf_wide t c, refl)
 
   pub ports_listed : (scope : Scope) (ps : List PortTree) → AreCleanPorts scope ps → Listed ds (map (port_leaf ds) ps) (map port_declared ps)
   ports_listed scope [] c = none
@@ -46,7 +47,7 @@ module _ (ds : List Driver) where
       let next = with_statement l (register p n begins t e r) in
       let x = inner_register l n t e in
       one_listed front scope x (register_declared n t) (map (inner_leaf ds) (inner_of next b)) (behind 0 (scope ++ register_declared n t ∷ []) b)
-      (record { name = refl; stands = ((plain t c.0.1).width, refl, refl) }) h
+      (record { name = refl; stands = (leaf_wide t c.0.1, refl, refl) }) h
       (λ h. body_listed (front ++ inner_leaf ds x ∷ []) (scope ++ register_declared n t ∷ []) next b c.1 h)
   body_listed front scope l ((then) (node p n e) b) c h =
       let next = with_statement l (node p n e) in

@@ -1,5 +1,5 @@
 -- A lowering with one more port, expression or statement.
-use Rattle.std.proofs.Common.{◌≡◌, ℕ, ◌+◌, ◌<◌, ◌≤◌, List, [], ◌∷◌, ◌++◌, map, take, length, get_or, refl, sym, ap, ◌∙◌, arith, length-take, Vec, Global}
+use Rattle.std.proofs.Common.{◌≡◌, ℕ, ◌+◌, ◌<◌, ◌≤◌, List, [], ◌∷◌, ◌++◌, map, take, length, get_or, refl, sym, ap, ◌∙◌, arith, length-take, Vec, Box, Global}
 use Rattle.std.proofs.lemmas.List.{map_more, length-map}
 use Rattle.fir_ast.specs.declared.circuit.Circuit.{Circuit}
 use Rattle.fir_ast.specs.declared.circuit.Module.{Module}
@@ -9,16 +9,20 @@ use Rattle.fir_ast.specs.declared.expressions.Expr.TheVariants as code_expr
 use Rattle.fir_ast.specs.declared.statements.Stmt.{Stmt}
 use Rattle.fir_bits.specs.declared.operators.PrimOp.{PrimOp}
 use Rattle.fir_ast.specs.declared.place.Place.{Place}
-use Rattle.fir_ast.specs.Expressions.{Expression, Expressions, operation}
+use Rattle.fir_ast.specs.Expressions.{Expression, Expressions, operation, mux, validif}
 use Rattle.fir_ast.specs.Statements.{Statement, register, node, connect, Block, done, then}
 use Rattle.fir_ast.specs.Circuits.{PortTree}
 use Rattle.fir_ast.specs.View.{circuit_of, module_of, port_of, expr_of, expressions_of, stmt_of, block_of}
-use Rattle.fir_ast.proofs.TreeViews.{operation_view}
+use Rattle.fir_ast.proofs.TreeViews.{operation_view, mux_view, validif_view}
 use Rattle.fir_net.specs.declared.net.FlatNet.{FlatNet}
 use Rattle.fir_net.specs.declared.leaf.Leaf.{Leaf}
 use Rattle.fir_net.specs.declared.node.Node.{Node}
-use Rattle.fir_net.specs.declared.reads.Read.TheVariants as read
-use Rattle.fir_lower.specs.working.Lowered.{Bound, Binding, operation_width, operation_node, with_shared, shared_number, nodes_with, bound_with, nodes_with_each, bounds_with_each, Lowering, with_statement, with_body, input_binding, port_bindings, lowered_module, lowered_first, lowered}
+use Rattle.fir_lower.specs.working.Tabled.{IsOnce}
+use Rattle.fir_lower.proofs.SharedNodes.{once_with}
+use Rattle.fir_lower.specs.working.Bounds.{Bound, Binding}
+use Rattle.fir_lower.specs.working.ExpressionNodes.{operation_node, with_shared, shared_bound, nodes_with_mux, bound_with_mux, nodes_with_validif, bound_with_validif, nodes_with, bound_with, nodes_with_each, bounds_with_each}
+use Rattle.fir_lower.specs.working.Lowering.{Lowering, with_statement, with_body, input_binding, port_bindings}
+use Rattle.fir_lower.specs.working.Lowered.{lowered_module, lowered_first, lowered}
 
 -- the list of what the first i + 1 are seen as
 mapped_more : {A B : Type 0} → (f : A → B) (xs : List A) (i : ℕ) (x : A) → i < length xs → x ≡ get_or xs i x → map f (take (i + 1) xs) ≡ map f (take i xs) ++ f x ∷ []
@@ -102,7 +106,7 @@ lowered_some c m net ms is le at e = rw (← is, e) (some ms le at)
 -- the node of an operation over those of its operands
 pub operation_bound : (bs : List Binding) (ns : List Node) (e : Expression) (p : Place) (o : PrimOp) (es : Expressions) (ks : List ℕ) → e ≡ operation p o es ks
     → (before : List Node) (bounds : List Bound) (b : Bound) → before ≡ nodes_with_each bs ns es → bounds ≡ bounds_with_each bs ns es
-    → b ≡ record { read = read.Node (shared_number before (operation_node o bounds ks)); width = operation_width o bounds ks } → b ≡ bound_with bs ns e
+    → b ≡ shared_bound before (operation_node o bounds ks) → b ≡ bound_with bs ns e
 operation_bound bs ns e p o es ks tree before bounds b n v is = is ∙ rw (tree, n, v) refl
 
 pub operation_nodes : (bs : List Binding) (ns : List Node) (e : Expression) (p : Place) (o : PrimOp) (es : Expressions) (ks : List ℕ) → e ≡ operation p o es ks
@@ -113,3 +117,34 @@ operation_nodes bs ns e p o es ks tree before bounds new n v is = is ∙ rw (tre
 pub operation_tree : (e : Expr) (p : Place) (o : PrimOp) (es : Vec Expr Global) (ks : Vec ℕ Global) (operands : List Expr) (integers : List ℕ) → e ≡ code_expr.Op p o es ks
     → operands ≡ es.items → integers ≡ ks.items → expr_of e ≡ operation p o (expressions_of (map expr_of operands)) integers
 operation_tree e p o es ks operands integers is f g = rw (f, g) (ap expr_of is ∙ operation_view p o es ks)
+
+-- a condition and a value, one after the other
+pub record AreTwo (bs : List Binding) (ns : List Node) (c a : Expression) (first second : List Node) (bc ba : Bound) : Type 0 where
+  pub first_nodes : first ≡ nodes_with bs ns c
+  pub second_nodes : second ≡ nodes_with bs first a
+  pub condition : bc ≡ bound_with bs ns c
+  pub value : ba ≡ bound_with bs first a
+
+pub once_two : {bs : List Binding} {ns : List Node} {c a : Expression} {first second : List Node} {bc ba : Bound} → AreTwo bs ns c a first second bc ba → IsOnce ns → IsOnce second
+once_two {bs} {ns} {c} {a} {first} two o = rw (two.second_nodes, two.first_nodes) (once_with bs (nodes_with bs ns c) a (once_with bs ns c o))
+
+module _ (bs : List Binding) (ns : List Node) (e : Expression) (p : Place) (c a : Expression) (first second : List Node) (bc ba : Bound) (two : AreTwo bs ns c a first second bc ba) where
+  pub validif_bound : e ≡ validif p c a → (r : Bound) → r ≡ bound_with_validif second bc ba → r ≡ bound_with bs ns e
+  validif_bound tree r is = is ∙ rw (tree, two.condition, two.value, two.second_nodes, two.first_nodes) refl
+
+  pub validif_nodes : e ≡ validif p c a → (new : List Node) → new ≡ nodes_with_validif second bc ba → new ≡ nodes_with bs ns e
+  validif_nodes tree new is = is ∙ rw (tree, two.condition, two.value, two.second_nodes, two.first_nodes) refl
+
+  module _ (b : Expression) (third : List Node) (bb : Bound) (nodes : third ≡ nodes_with bs second b) (bound : bb ≡ bound_with bs second b) (tree : e ≡ mux p c a b) where
+    pub mux_bound : (r : Bound) → r ≡ bound_with_mux third bc ba bb → r ≡ bound_with bs ns e
+    mux_bound r is = is ∙ rw (tree, two.condition, two.value, bound, nodes, two.second_nodes, two.first_nodes) refl
+
+    pub mux_nodes : (new : List Node) → new ≡ nodes_with_mux third bc ba bb → new ≡ nodes_with bs ns e
+    mux_nodes new is = is ∙ rw (tree, two.condition, two.value, bound, nodes, two.second_nodes, two.first_nodes) refl
+
+pub mux_tree : (e : Expr) (p : Place) (c a b : Box Expr Global) (x y z : Expr) → e ≡ code_expr.Mux p c a b → x ≡ c.value → y ≡ a.value → z ≡ b.value
+    → expr_of e ≡ mux p (expr_of x) (expr_of y) (expr_of z)
+mux_tree e p c a b x y z is f g h = rw (f, g, h) (ap expr_of is ∙ mux_view p c a b)
+
+pub validif_tree : (e : Expr) (p : Place) (c a : Box Expr Global) (x y : Expr) → e ≡ code_expr.Validif p c a → x ≡ c.value → y ≡ a.value → expr_of e ≡ validif p (expr_of x) (expr_of y)
+validif_tree e p c a x y is f g = rw (f, g) (ap expr_of is ∙ validif_view p c a)

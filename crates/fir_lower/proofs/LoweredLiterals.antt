@@ -1,35 +1,24 @@
--- A literal that fits its width, in the net.
--- Its node has its magnitude and its width.
-use Rattle.std.proofs.Common.{◌≡◌, ℕ, ◌^◌, ◌<◌, ◌≤◌, Bool, true, false, nat_le, nat_lt, refl, arith, mod-eq_of_lt}
-use Rattle.std.proofs.lemmas.Bool.Decides.{nat_tests}
+-- Literals of at most 128 bits, in the net.
+-- The node of each has its type and its value; so has a zero.
+use Rattle.std.proofs.Common.{◌≡◌, ℕ, ◌≤◌, Bool, false, refl, le-leb, ap, ◌∙◌, mod-eq_of_lt}
+use Rattle.std.proofs.lemmas.Nat.{pow_pos}
 use Rattle.fir_ast.specs.declared.expressions.Literal.{Literal}
-use Rattle.fir_bits.specs.Values.{BitVector}
 use Rattle.fir_bits.specs.Integers.{bits_of, of_sign}
+use Rattle.fir_bits.specs.Operators.{type_of}
+use Rattle.fir_bits.specs.declared.types.NumTy.{NumTy}
 use Rattle.fir_meaning.specs.Scopes.{literal_type}
-use Rattle.fir_meaning.specs.Operations.{counted}
 use Rattle.fir_meaning.specs.Eval.{literal_value}
-use Rattle.fir_meaning.specs.working.Clean.{LiteralFits}
-use Rattle.fir_lower.specs.working.Lowered.{vector_or_none, literal_bits}
+use Rattle.fir_net.specs.working.Values.{number_of}
+use Rattle.fir_lower.specs.working.ExpressionNodes.{num_or_none}
 
-counted-is : (w : ℕ) → w ≤ 128 → counted w ≡ w
-counted-is w h = omega arith
+num_is : (t : NumTy) (negative : Bool) (m : ℕ) → t.width ≤ 128 → num_or_none t negative m ≡ number_of t (bits_of t.width (of_sign negative m))
+num_is t negative m narrow = rw (le-leb t.width 128 narrow) refl
 
-vector_or_none-value : (w m : ℕ) (negative : Bool) → w ≤ 128 → m < 2 ^ w → negative ≡ false
-    → ◌≡◌ {A = BitVector} (record { width = counted w; number = bits_of (counted w) (of_sign negative m) }) (vector_or_none w m)
-vector_or_none-value w m negative narrow below positive =
-    let a : nat_le w 128 ≡ true = grind (arith, nat_tests) in
-    let b : nat_lt m (2 ^ w) ≡ true = grind (arith, nat_tests) in
-    rw (positive, counted-is w narrow, a, b, mod-eq_of_lt below) refl
+pub num_typed : (t : NumTy) (negative : Bool) (m : ℕ) → t.width ≤ 128 → type_of (num_or_none t negative m) ≡ t
+num_typed t negative m narrow = ap type_of (num_is t negative m narrow)
 
-vector_or_none-width : (w m : ℕ) → w ≤ 128 → m < 2 ^ w → (vector_or_none w m).width ≡ w
-vector_or_none-width w m narrow below =
-    let a : nat_le w 128 ≡ true = grind (arith, nat_tests) in
-    let b : nat_lt m (2 ^ w) ≡ true = grind (arith, nat_tests) in
-    rw (a, b) refl
+pub literal_value-is : (l : Literal) → (literal_type l).width ≤ 128 → num_or_none (literal_type l) l.negative l.magnitude ≡ literal_value l
+literal_value-is l narrow = num_is (literal_type l) l.negative l.magnitude narrow
 
--- a literal that fits has its magnitude
-pub literal_value-is : (l : Literal) → LiteralFits l → (literal_value l).value ≡ literal_bits l
-literal_value-is l f = rw f.written (vector_or_none-value f.width l.magnitude l.negative f.narrow f.below f.positive)
-
-pub literal_typed : (l : Literal) → LiteralFits l → literal_type l ≡ record { signed = false; width = (literal_bits l).width }
-literal_typed l f = rw (f.written, f.unsigned, counted-is f.width f.narrow, vector_or_none-width f.width l.magnitude f.narrow f.below) refl
+pub zero-is : (t : NumTy) → t.width ≤ 128 → num_or_none t false 0 ≡ number_of t 0
+zero-is t narrow = num_is t false 0 narrow ∙ ap (number_of t) (mod-eq_of_lt (pow_pos t.width))

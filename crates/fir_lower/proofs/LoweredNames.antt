@@ -16,9 +16,9 @@ use Rattle.fir_net.specs.declared.leaf.Leaf.{Leaf as NetLeaf}
 use Rattle.fir_net.specs.declared.leaf.Role.{Role}
 use Rattle.fir_net.specs.declared.leaf.Role.TheVariants as role
 use Rattle.fir_net.specs.declared.reads.Read.TheVariants as read
-use Rattle.fir_net.specs.working.Values.{leaf_width}
-use Rattle.fir_net.specs.working.Settled.{Settled as NetSettled, clocks as net_clocks, registers as net_registers, is_clock, driver, value_at, at_width}
-use Rattle.fir_lower.specs.working.Lowered.{Driver, driver_of}
+use Rattle.fir_net.specs.working.Values.{at_width, leaf_width}
+use Rattle.fir_net.specs.working.Settled.{Settled as NetSettled, clocks as net_clocks, registers as net_registers, is_clock, driver, value_at}
+use Rattle.fir_lower.specs.working.Lowering.{Driver, driver_of}
 use Rattle.fir_base.proofs.Elements.{beside, get_in, number_of}
 use Rattle.fir_lower.proofs.LoweredScopes.{number_in, number_found}
 use Rattle.fir_lower.proofs.LoweredLeaves.{Stands, leaf_of_declared}

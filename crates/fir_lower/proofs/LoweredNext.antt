@@ -7,6 +7,7 @@ use Rattle.fir_base.specs.declared.direction.Direction.{Direction}
 use Rattle.fir_base.specs.declared.direction.Direction.TheVariants as direction
 use Rattle.fir_ast.specs.Types.{DataType, clock}
 use Rattle.fir_ast.specs.Circuits.{PortTree, CircuitTree}
+use Rattle.fir_bits.specs.declared.types.NumTy.{NumTy}
 use Rattle.fir_meaning.specs.Paths.{Path, Values}
 use Rattle.fir_meaning.specs.Leaves.{Leaf, main_module, main_scope}
 use Rattle.fir_meaning.specs.Exec.{stored}
@@ -21,7 +22,8 @@ use Rattle.fir_net.specs.working.Next.{taken, ticks as net_ticks, next_by, next_
 use Rattle.fir_lower.specs.declared.inner.InnerRole.{InnerRole}
 use Rattle.fir_lower.specs.declared.inner.InnerRole.TheVariants as inner_role
 use Rattle.fir_lower.specs.declared.inner.InnerLeaf.{InnerLeaf}
-use Rattle.fir_lower.specs.working.Lowered.{Driver, driver_of, leaf_width, port_role, port_leaf, role_of, inner_leaf}
+use Rattle.fir_lower.specs.working.Lowering.{Driver, driver_of, leaf_type}
+use Rattle.fir_lower.specs.working.Lowered.{port_role, port_leaf, role_of, inner_leaf}
 use Rattle.fir_lower.proofs.LoweredEach.{EachFrom, each_zero}
 use Rattle.fir_meaning.proofs.LookUps.{found_in}
 use Rattle.fir_lower.proofs.LoweredNumbers.{numbered, register_picks}
@@ -42,11 +44,11 @@ module _ (ds : List Driver) (a : NetLeaf → ℕ) where
   port_rows : (ps : List PortTree) → flat_map word_of (map (port_leaf ds) ps) ≡ []
   port_rows [] = refl
   port_rows (p ∷ ps) =
-      ap (λ (y : List ℕ). y ++ flat_map word_of (map (port_leaf ds) ps)) (port_row p.direction p.data_type p.named.name (leaf_width p.data_type) (a (port_leaf ds p))) ∙ port_rows ps
+      ap (λ (y : List ℕ). y ++ flat_map word_of (map (port_leaf ds) ps)) (port_row p.direction p.data_type p.named.name (leaf_type p.data_type).width (a (port_leaf ds p))) ∙ port_rows ps
 
   -- among the others only registers have words
   abbrev row_in : InnerLeaf → List ℕ
-  row_in r = map (λ j. a (inner_leaf ds r)) (inner_word r.role r.width)
+  row_in r = map (λ j. a (inner_leaf ds r)) (inner_word r.role r.ty.width)
 
   inner_row : (name : List ℕ) (w x : ℕ) (o : InnerRole) → map (λ (j : ℕ). x) (register_number (role_of ds name o) w 0) ≡ map (λ j. x) (inner_word o w)
   inner_row name w x (inner_role.Register c) = refl
@@ -54,7 +56,7 @@ module _ (ds : List Driver) (a : NetLeaf → ℕ) where
 
   inner_rows : (rs : List InnerLeaf) → flat_map word_of (map (inner_leaf ds) rs) ≡ flat_map row_in rs
   inner_rows [] = refl
-  inner_rows (r ∷ rs) = ap₂ (λ (x y : List ℕ). x ++ y) (inner_row r.name r.width (a (inner_leaf ds r)) r.role) (inner_rows rs)
+  inner_rows (r ∷ rs) = ap₂ (λ (x y : List ℕ). x ++ y) (inner_row r.name r.ty.width (a (inner_leaf ds r)) r.role) (inner_rows rs)
 
   pub rows : (ps : List PortTree) (rs : List InnerLeaf) → flat_map word_of (map (port_leaf ds) ps ++ map (inner_leaf ds) rs) ≡ flat_map row_in rs
   rows ps rs =
@@ -90,14 +92,14 @@ module _ (law : CleanHasValue) (c : CircuitTree) (clean : IsCleanModule (main_mo
       let d = i.declared in
       let path : r.name ∷ [] ≡ k.leaf.path = ap (λ (n : List ℕ). n ∷ []) (sym i.named) ∙ ap (λ (m : Leaf). m.path) (sym i.leaf) in
       let store = final_store law c clean values env clock_at paired ran d (found_in (main_scope c) r.name d i.found).0 in
-      let there : stored c values (r.name ∷ []) ≡ stored_by law c clean values env clock_at paired (driver_of drivers r.name) r.width =
+      let there : stored c values (r.name ∷ []) ≡ stored_by law c clean values env clock_at paired (driver_of drivers r.name) r.ty.width =
       ap (λ (n : List ℕ). stored c values (n ∷ [])) (sym i.named) ∙ store
       ∙ ap (λ (n : List ℕ). stored_by law c clean values env clock_at paired (driver_of drivers n) d.holds.width) i.named
-      ∙ ap (stored_by law c clean values env clock_at paired (driver_of drivers r.name)) (sym i.width) in
+      ∙ ap (stored_by law c clean values env clock_at paired (driver_of drivers r.name)) (sym (ap (λ (t : NumTy). t.width) i.type)) in
       let now = values (r.name ∷ []) in
-      let word : taken the_net env r.width now (driver_of drivers r.name) ≡ unwrap_or (stored c values (r.name ∷ [])) now =
-      sym (taken_is r.width now (driver_of drivers r.name)) ∙ ap (λ (o : Option ℕ). unwrap_or o now) (sym there) in
-      ap (λ (o : InnerRole). next_by the_net env clock_at tick.clocks r.width now (role_of drivers r.name o)) i.role
+      let word : taken the_net env r.ty.width now (driver_of drivers r.name) ≡ unwrap_or (stored c values (r.name ∷ [])) now =
+      sym (taken_is r.ty.width now (driver_of drivers r.name)) ∙ ap (λ (o : Option ℕ). unwrap_or o now) (sym there) in
+      ap (λ (o : InnerRole). next_by the_net env clock_at tick.clocks r.ty.width now (role_of drivers r.name o)) i.role
       ∙ ap (λ (x : ℕ). if net_ticks tick.clocks (clock_at i.clock) then x else now) word
       ∙ ap (λ (t : Bool). if t then unwrap_or (stored c values (r.name ∷ [])) now else now) (sym (i.ticks_are tick.clocks))
       ∙ ap (λ (x : Path). if ticks tick.clocks k.path values k.clock then unwrap_or (stored c values x) (values x) else values x) path

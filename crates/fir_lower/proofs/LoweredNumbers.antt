@@ -9,7 +9,7 @@ use Rattle.fir_net.specs.declared.leaf.Leaf.{Leaf as NetLeaf}
 use Rattle.fir_net.specs.declared.leaf.Role.{Role}
 use Rattle.fir_net.specs.declared.leaf.Role.TheVariants as role
 use Rattle.fir_net.specs.working.Settled.{is_clock, with_bits as number_with_bits, input_number, clock_number, output_number, register_number, numbers_by}
-use Rattle.fir_lower.specs.working.Lowered.{Driver}
+use Rattle.fir_lower.specs.working.Lowering.{Driver}
 use Rattle.fir_lower.proofs.LoweredEach.{EachFrom}
 use Rattle.fir_lower.proofs.LoweredLeaves.{Stands, IsLeafOf, Listed, lists}
 

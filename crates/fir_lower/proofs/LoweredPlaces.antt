@@ -5,7 +5,8 @@ use Rattle.std.proofs.lemmas.List.{length-map}
 use Rattle.fir_ast.specs.Circuits.{PortTree, ModuleTree}
 use Rattle.fir_net.specs.declared.leaf.Leaf.{Leaf}
 use Rattle.fir_lower.specs.declared.inner.InnerLeaf.{InnerLeaf}
-use Rattle.fir_lower.specs.working.Lowered.{port_leaf, inner_leaf, leaves_of, Lowering, lowering, next_number}
+use Rattle.fir_lower.specs.working.Lowering.{Lowering, lowering, next_number}
+use Rattle.fir_lower.specs.working.Lowered.{port_leaf, inner_leaf, leaves_of}
 use Rattle.fir_lower.proofs.ListParts.{stands_first, stands_last}
 use Rattle.fir_lower.proofs.LoweredEach.{EachFrom, each_from}
 use Rattle.fir_lower.proofs.LoweredIndexes.{get_mapped}

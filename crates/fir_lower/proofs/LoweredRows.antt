@@ -16,7 +16,8 @@ use Rattle.fir_net.specs.declared.leaf.Role.TheVariants as role
 use Rattle.fir_net.specs.Rows.{role_row, role_word, net_rows, net_words}
 use Rattle.fir_lower.specs.CircuitRows.{declared_row, declared_word, circuit_rows, circuit_words}
 use Rattle.fir_lower.specs.working.HasWords.{HasWords}
-use Rattle.fir_lower.specs.working.Lowered.{Driver, leaves_of, lowering, lowered_first, lowered}
+use Rattle.fir_lower.specs.working.Lowering.{Driver, lowering}
+use Rattle.fir_lower.specs.working.Lowered.{leaves_of, lowered_first, lowered}
 use Rattle.fir_lower.proofs.LoweredLeaves.{Stands, lists}
 use Rattle.fir_lower.proofs.LoweredListed.{module_listed}
 use Rattle.fir_meaning.proofs.CleanCircuits.{main_clean}

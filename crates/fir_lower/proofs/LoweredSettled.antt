@@ -8,7 +8,8 @@ use Rattle.fir_base.specs.declared.direction.Direction.{Direction}
 use Rattle.fir_base.specs.declared.direction.Direction.TheVariants as direction
 use Rattle.fir_ast.specs.Types.{DataType, clock}
 use Rattle.fir_ast.specs.Circuits.{PortTree, CircuitTree}
-use Rattle.fir_bits.specs.Values.{BitVector}
+use Rattle.fir_bits.specs.Forms.{no_type}
+use Rattle.fir_bits.specs.declared.values.Num.{Num}
 use Rattle.fir_meaning.specs.Paths.{Path, Values, empty}
 use Rattle.fir_meaning.specs.Scopes.{output, Declared, port_declared}
 use Rattle.fir_meaning.specs.Leaves.{Leaf, input_leaves, output_leaves, register_leaves, main_module, main_scope, inputs, outputs, clocks, state_leaves, paths}
@@ -20,12 +21,13 @@ use Rattle.fir_net.specs.declared.leaf.Leaf.{Leaf as NetLeaf}
 use Rattle.fir_net.specs.declared.leaf.Role.TheVariants as role
 use Rattle.fir_net.specs.declared.reads.Read.{Read}
 use Rattle.fir_net.specs.declared.reads.Read.TheVariants as read
-use Rattle.fir_net.specs.working.Values.{leaf_width as net_width, values_from}
-use Rattle.fir_net.specs.working.Settled.{is_clock, input_number, output_number, register_number, inputs as net_inputs, outputs as net_outputs, clocks as net_clocks, registers as net_registers, value_at, at_width}
+use Rattle.fir_net.specs.working.Values.{at_width, type_of_leaf, leaf_type as net_type, values_from}
+use Rattle.fir_net.specs.working.Settled.{is_clock, input_number, output_number, register_number, inputs as net_inputs, outputs as net_outputs, clocks as net_clocks, registers as net_registers, value_at}
 use Rattle.fir_lower.specs.declared.inner.InnerRole.{InnerRole}
 use Rattle.fir_lower.specs.declared.inner.InnerRole.TheVariants as inner_role
 use Rattle.fir_lower.specs.declared.inner.InnerLeaf.{InnerLeaf}
-use Rattle.fir_lower.specs.working.Lowered.{driver_of, port_bindings, input_role, port_role, port_leaf, role_of, inner_leaf, Lowering, next_number, lowering, lowered_module}
+use Rattle.fir_lower.specs.working.Lowering.{driver_of, port_bindings, Lowering, next_number, lowering}
+use Rattle.fir_lower.specs.working.Lowered.{input_role, port_role, port_leaf, role_of, inner_leaf, lowered_module}
 use Rattle.fir_lower.proofs.LoweredLists.{begun}
 use Rattle.fir_lower.proofs.LoweredIndexes.{IsBehind, get_either, get_before}
 use Rattle.fir_lower.proofs.LoweredEach.{EachFrom, each_zero, from_each}
@@ -70,8 +72,8 @@ module _ (law : CleanHasValue) (c : CircuitTree) (clean : IsCleanModule (main_mo
     pub ticks : (k : ℕ) (l : NetLeaf) → slice_get net.leaves k ≡ Some l → is_clock l.role ≡ true → clock_at k ≡ Some (values (l.path ∷ []))
     pub below : (k : ℕ) (l : NetLeaf) → slice_get net.leaves k ≡ Some l → is_clock l.role ≡ false → ((r : Read) → l.role ≡ role.Wire r → ⊥) → values (l.path ∷ []) < 2 ^ l.width
 
-  width_at : (k : ℕ) (l : NetLeaf) → slice_get net.leaves k ≡ Some l → net_width net.leaves k ≡ l.width
-  width_at k l h = ap (λ o. unwrap_or (option_map (λ (x : NetLeaf). x.width) o) 0) h
+  type_at : (k : ℕ) (l : NetLeaf) → slice_get net.leaves k ≡ Some l → net_type net.leaves k ≡ type_of_leaf l
+  type_at k l h = ap (λ o. unwrap_or (option_map type_of_leaf o) no_type) h
 
   -- a leaf of a node of the circuit is no port's and no register's
   input_no_wire : (t : DataType) (r : Read) → input_role t ≡ role.Wire r → ⊥
@@ -105,7 +107,7 @@ module _ (law : CleanHasValue) (c : CircuitTree) (clean : IsCleanModule (main_mo
         → AllHold net.leaves env clock_at law (main_scope c) values end (begun ports) (main_module c).body
     wires_hold f =
         inner_each (main_module c) (Holds net.leaves env clock_at law (main_scope c) values end)
-        (λ i x h. held_of x.name (length ports + i) x.width x.role (λ r e. f (length ports + i) (inner_leaf end.drivers x) r (inner_at (main_module c) i x h) e))
+        (λ i x h. held_of x.name (length ports + i) x.ty.width x.role (λ r e. f (length ports + i) (inner_leaf end.drivers x) r (inner_at (main_module c) i x h) e))
 
     wire_held : AllHold net.leaves env clock_at law (main_scope c) values end (begun ports) (main_module c).body → (k : ℕ) (l : NetLeaf) (r : Read) → slice_get net.leaves k ≡ Some l
         → l.role ≡ role.Wire r → WireHolds k l.width r
@@ -124,8 +126,8 @@ module _ (law : CleanHasValue) (c : CircuitTree) (clean : IsCleanModule (main_mo
         let P = Holds net.leaves env clock_at law (main_scope c) values end in
         let held = from_each P (next_number (begun ports)) (inner_of (begun ports) (main_module c).body) all b.number x.0 here in
         let q : role_of end.drivers x.0.name x.0.role ≡ role.Wire r = ap (λ (y : NetLeaf). y.role) x.2 ∙ e in
-        let value = driven_of x.0.name (next_number (begun ports) + b.number) x.0.width x.0.role r q held in
-        subst (λ (w : ℕ). WireHolds k w r) (ap (λ (y : NetLeaf). y.width) x.2) (subst (λ (j : ℕ). WireHolds j x.0.width r) number value))
+        let value = driven_of x.0.name (next_number (begun ports) + b.number) x.0.ty.width x.0.role r q held in
+        subst (λ (w : ℕ). WireHolds k w r) (ap (λ (y : NetLeaf). y.width) x.2) (subst (λ (j : ℕ). WireHolds j x.0.ty.width r) number value))
         (get_either front back k l h)
 
   module _ (values : Values) (env : ℕ → ℕ) (clock_at : ℕ → Option ℕ) (paired : Paired values env clock_at) where
@@ -136,7 +138,7 @@ module _ (law : CleanHasValue) (c : CircuitTree) (clean : IsCleanModule (main_mo
         let leaf = port_leaf end.drivers p in
         let at = port_at (main_module c) k p h in
         record {
-          width = width_at k leaf at;
+          type = type_at k leaf at;
           value = λ other. paired.value k leaf at (port_no_clock p.direction p.data_type end.drivers p.named.name other);
           ticks = λ e. paired.ticks k leaf at (port_clock p.direction p.data_type end.drivers p.named.name e);
           below = λ other.
@@ -153,7 +155,7 @@ module _ (law : CleanHasValue) (c : CircuitTree) (clean : IsCleanModule (main_mo
         let at = inner_at (main_module c) i x h in
         let other = role_no_clock end.drivers x.name x.role in
         record {
-          width = width_at k leaf at;
+          type = type_at k leaf at;
           value = paired.value k leaf at other;
           below = λ clock e. paired.below k leaf at other (λ r q. register_no_wire x.name x.role clock r e q);
         })
@@ -210,7 +212,7 @@ module _ (law : CleanHasValue) (c : CircuitTree) (clean : IsCleanModule (main_mo
     driven_value : (width : ℕ) (o : Option Read) (there : Option ℕ) → Drives net.leaves env (values_of net.leaves env end.nodes) width o there → there ≡ stored_by o width
     driven_value width None there h = h
     driven_value width (Some r) there h =
-        h.2 ∙ ap (λ (v : BitVector). Some (at_width v width)) (sym (reads_now net.leaves env (values_of net.leaves env end.nodes) r h.0 h.1))
+        h.2 ∙ ap (λ (v : Num). Some (at_width v width)) (sym (reads_now net.leaves env (values_of net.leaves env end.nodes) r h.0 h.1))
 
     pub final_store : runs → (d : Declared) → In (main_scope c) d
         → stored c values (d.named.name ∷ []) ≡ stored_by (driver_of end.drivers d.named.name) d.holds.width

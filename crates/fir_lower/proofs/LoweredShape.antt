@@ -14,7 +14,8 @@ use Rattle.fir_net.specs.declared.net.FlatNet.{FlatNet}
 use Rattle.fir_net.specs.declared.leaf.Leaf.{Leaf as NetLeaf}
 use Rattle.fir_net.specs.working.Values.{leaf_width}
 use Rattle.fir_net.specs.working.Settled.{is_clock, input_number, output_number, register_number, shape as net_shape, clocks as net_clocks, outputs as net_outputs}
-use Rattle.fir_lower.specs.working.Lowered.{Driver, lowering, lowered_module, lowered}
+use Rattle.fir_lower.specs.working.Lowering.{Driver, lowering}
+use Rattle.fir_lower.specs.working.Lowered.{lowered_module, lowered}
 use Rattle.fir_lower.proofs.LoweredEach.{EachFrom, each_zero}
 use Rattle.fir_lower.proofs.LoweredListed.{module_listed}
 use Rattle.fir_lower.proofs.LoweredNumbers.{same_lists, same_clocks, input_picks, output_picks, register_picks, input_matches, output_matches, register_matches}

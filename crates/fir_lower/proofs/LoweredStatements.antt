@@ -1,16 +1,16 @@
 -- The net of a statement has the statement's values.
 -- Either the nodes of the circuit are known to hold, or their leaves are known to be driven.
-use Rattle.std.proofs.Common.{◌≡◌, ℕ, ◌^◌, ◌<◌, ◌≤◌, List, [], ◌∷◌, ◌++◌, false, Option, Some, None, map, refl, sym, ap, ◌∙◌, inl, inr, ◌⊎◌, ⊎_elim, subst, le-leb, arith}
+use Rattle.std.proofs.Common.{◌≡◌, ℕ, ◌^◌, ◌<◌, ◌≤◌, List, [], ◌∷◌, ◌++◌, Option, Some, None, map, refl, sym, ap, ◌∙◌, inl, inr, ◌⊎◌, ⊎_elim, subst}
 use Rattle.fir_ast.specs.declared.place.Place.{Place}
 use Rattle.fir_ast.specs.Types.{DataType}
 use Rattle.fir_ast.specs.Expressions.{Expression}
 use Rattle.fir_ast.specs.Statements.{PlacedName, Sink, Reset, Statement, register, node, connect, skip, Block, done, then}
-use Rattle.fir_bits.specs.Values.{BitVector}
 use Rattle.fir_bits.specs.declared.types.NumTy.{NumTy}
-use Rattle.fir_bits.specs.Operators.{type_of}
+use Rattle.fir_bits.specs.declared.values.Num.{Num}
+use Rattle.fir_bits.specs.Operators as operators
 use Rattle.fir_bits.specs.Forms.{first_type}
 use Rattle.fir_meaning.specs.Paths.{Values, Store}
-use Rattle.fir_meaning.specs.Scopes.{clock_input, Declared, Scope, look_up}
+use Rattle.fir_meaning.specs.Scopes.{clock_input, Declared, Scope, look_up, type_of}
 use Rattle.fir_meaning.specs.Leaves.{leaves_found, leaves_named, paths}
 use Rattle.fir_meaning.specs.Eval.{eval, numbers}
 use Rattle.fir_meaning.specs.Exec.{exec, exec_all}
@@ -21,46 +21,44 @@ use Rattle.fir_meaning.specs.working.Laws.{Finds, CleanHasValue}
 use Rattle.fir_meaning.proofs.Bodies.{node_declared, register_declared}
 use Rattle.fir_net.specs.declared.leaf.Leaf.{Leaf}
 use Rattle.fir_net.specs.declared.reads.Read.TheVariants as read
-use Rattle.fir_net.specs.working.Values.{leaf_width as net_width, read_value}
-use Rattle.fir_net.specs.working.Settled.{at_width}
+use Rattle.fir_net.specs.working.Values.{number_of, at_width, leaf_type as net_type, read_value}
 use Rattle.fir_lower.specs.declared.inner.InnerRole.{InnerRole}
 use Rattle.fir_lower.specs.declared.inner.InnerRole.TheVariants as inner_role
 use Rattle.fir_lower.specs.declared.inner.InnerLeaf.{InnerLeaf}
-use Rattle.fir_lower.specs.working.Lowered.{Bound, bound_of, bound_in, inner_register, inner_node, Lowering, next_number, leaf_width, clock_number, with_leaf, with_nodes, with_statement, with_body}
-use Rattle.fir_lower.proofs.LoweredTypes.{plain}
+use Rattle.fir_lower.specs.working.Bounds.{Bound, bound_of}
+use Rattle.fir_lower.specs.working.Lowering.{bound_in, inner_register, inner_node, Lowering, next_number, leaf_type, clock_number, with_leaf, with_nodes, with_statement, with_body}
+use Rattle.fir_meaning.proofs.NarrowTypes.{type_narrow}
+use Rattle.fir_lower.proofs.LoweredTypes.{leaf_typed, leaf_wide}
+use Rattle.fir_lower.proofs.OwnWidths.{own_width}
 use Rattle.fir_lower.proofs.LoweredEach.{EachFrom, each_behind}
 use Rattle.fir_lower.proofs.LoweredNodes.{Grows, values_of, AreStable, Reads, reads_now, reads_then}
 use Rattle.fir_base.proofs.SameNames.{name_same}
 use Rattle.fir_lower.proofs.LoweredReads.{Agrees, agrees_then, agrees_bound}
-use Rattle.fir_lower.proofs.LoweredExpressions.{grows_with, Placed, placed}
+use Rattle.fir_lower.proofs.LoweredExpressions.{grows_with, PlacedValue, placed}
 use Rattle.fir_lower.proofs.LoweredStores.{connect_stores, Stored, stored_then, stored_more}
 use Rattle.fir_lower.proofs.LoweredGrowth.{grows_body}
 use Rattle.fir_lower.proofs.LoweredInner.{added, inner_of, number_then, number_after}
 use Rattle.fir_lower.proofs.LoweredClocks.{AreClocked, clock_ticks, register_clocked}
-use Rattle.fir_lower.proofs.LoweredPorts.{same_vector}
-
--- a value at its own width is itself
-own_width : (v : BitVector) → at_width v v.width ≡ v.number
-own_width v = rw (le-leb v.width v.width (omega arith)) refl
+use Rattle.fir_lower.proofs.LoweredPorts.{same_number}
 
 module _ (leaves : List Leaf) (env : ℕ → ℕ) where
-  -- a leaf of the body has its width, and the value of its name; a register's fits
+  -- a leaf of the body has its type, and the value of its name; a register's fits
   pub record InnerValue (values : Values) (k : ℕ) (x : InnerLeaf) : Type 0 where
-    pub width : net_width leaves k ≡ x.width
+    pub type : net_type leaves k ≡ x.ty
     pub value : values (x.name ∷ []) ≡ env k
-    pub below : (clock : ℕ) → x.role ≡ inner_role.Register clock → values (x.name ∷ []) < 2 ^ x.width
+    pub below : (clock : ℕ) → x.role ≡ inner_role.Register clock → values (x.name ∷ []) < 2 ^ x.ty.width
 
   -- the leaf of a node of the circuit has the value that is read for it, in its width, and it fits
-  abbrev pub RoleHolds : List BitVector → ℕ → ℕ → InnerRole → Type 0
+  abbrev pub RoleHolds : List Num → ℕ → ℕ → InnerRole → Type 0
   RoleHolds known k width (inner_role.Register c) = Unit {0}
   RoleHolds known k width (inner_role.Node r) = (env k ≡ at_width (read_value leaves env known r) width) × (env k < 2 ^ width)
 
 module _ (leaves : List Leaf) (env : ℕ → ℕ) (clock_at : ℕ → Option ℕ) (law : CleanHasValue) (whole : Scope) (values : Values) (end : Lowering) where
-  abbrev last : List BitVector
+  abbrev last : List Num
   last = values_of leaves env end.nodes
 
   abbrev pub Holds : ℕ → InnerLeaf → Type 0
-  Holds k x = RoleHolds leaves env last k x.width x.role
+  Holds k x = RoleHolds leaves env last k x.ty.width x.role
 
   abbrev pub AllHold : Lowering → Block → Type 0
   AllHold l b = EachFrom Holds (next_number l) (inner_of l b)
@@ -106,30 +104,29 @@ module _ (leaves : List Leaf) (env : ℕ → ℕ) (clock_at : ℕ → Option ℕ
   ran_skip l p b rest = record { agrees = rest.agrees; hold = (tt, rest.hold); leaves_hold = rest.leaves_hold; stored = rest.stored; clocked = rest.clocked }
 
   -- behind one more leaf, whose name has its value
-  pub at_leaf : (scope : Scope) (l : Lowering) (d : Declared) (place : Place) (w : ℕ) (role : InnerRole) → look_up scope d.named.name ≡ None → (d.kind ≡ clock_input → ⊥)
-      → d.holds.signed ≡ false → d.holds.width ≤ 128 → w ≡ d.holds.width → net_width leaves (next_number l) ≡ w → values (d.named.name ∷ []) ≡ env (next_number l)
+  pub at_leaf : (scope : Scope) (l : Lowering) (d : Declared) (place : Place) (t : NumTy) (role : InnerRole) → look_up scope d.named.name ≡ None → (d.kind ≡ clock_input → ⊥)
+      → d.holds.width ≤ 128 → t ≡ d.holds → net_type leaves (next_number l) ≡ t → values (d.named.name ∷ []) ≡ env (next_number l)
       → values (d.named.name ∷ []) < 2 ^ d.holds.width → At scope l
-      → At (scope ++ d ∷ []) (with_leaf l (record { name = d.named.name; place = place; width = w; role = role }))
-  at_leaf scope l d place w role new no_clock unsigned narrow wide is_wide value below a =
-      let b : Bound = record { read = read.Leaf (next_number l); width = w } in
-      let x : InnerLeaf = record { name = d.named.name; place = place; width = w; role = role } in
+      → At (scope ++ d ∷ []) (with_leaf l (record { name = d.named.name; place = place; ty = t; role = role }))
+  at_leaf scope l d place t role new no_clock narrow type is_type value below a =
+      let b : Bound = record { read = read.Leaf (next_number l); ty = t } in
+      let x : InnerLeaf = record { name = d.named.name; place = place; ty = t; role = role } in
       let there : bound_of (with_leaf l x).bindings d.named.name ≡ b = rw (name_same d.named.name) refl in
       let agrees =
       agrees_bound leaves env clock_at values scope d new l.bindings (values_of leaves env l.nodes) a.agrees b
       (record {
-        unsigned = unsigned;
         narrow = narrow;
         below = λ other. below;
-        width = λ q. ap (λ (k : Bound). k.width) there ∙ wide;
+        type = λ q. ap (λ (k : Bound). k.ty) there ∙ type;
         reads = λ q.
-            subst (λ (k : Bound). Reads leaves env (values_of leaves env l.nodes) k.read (record { width = d.holds.width; number = values (d.named.name ∷ []) })) (sym there)
-            (record { whatever = λ more. same_vector _ _ _ _ (is_wide ∙ wide) (sym value) });
+            subst (λ (k : Bound). Reads leaves env (values_of leaves env l.nodes) k.read (number_of d.holds (values (d.named.name ∷ [])))) (sym there)
+            (record { whatever = λ more. same_number _ _ _ _ (is_type ∙ type) (sym value) });
         clock = λ e. absurd (no_clock e);
       }) in
       record { agrees = agrees; stable = a.stable }
 
   module _ (scope : Scope) (l : Lowering) (p : Place) (b : Block) (finds : Finds scope whole) (a : At scope l) where
-    pub ran_connect : (sink : Sink) (x : Expression) → IsSink scope sink.name → IsClean scope x → Ran (with_statement l (connect p sink x)) b → Ran l ((then) (connect p sink x) b)
+    pub ran_connect : (sink : Sink) (x : Expression) → IsSink scope sink.name (type_of scope x).signed → IsClean scope x → Ran (with_statement l (connect p sink x)) b → Ran l ((then) (connect p sink x) b)
     ran_connect sink x into clean rest =
         record { agrees = rest.agrees; hold = (tt, rest.hold); leaves_hold = rest.leaves_hold; stored = stored; clocked = rest.clocked }
       where
@@ -147,7 +144,7 @@ module _ (leaves : List Leaf) (env : ℕ → ℕ) (clock_at : ℕ → Option ℕ
             (subst (λ (s : Store). Stored leaves env (values_of leaves env next.nodes) next.drivers n d s)
             (sym (connect_stores whole values p sink x into.declared v store there r.has.evaluated))
             (stored_more leaves env (values_of leaves env l.nodes) (values_of leaves env next.nodes) (grows_with leaves env l.bindings x l.nodes) l.drivers
-            sink.name (bound_in l x).read v into.declared r.has.unsigned r.reads n d store same given))
+            sink.name (bound_in l x).read v into.declared r.there.reads n d store same given))
 
     module _ (m : PlacedName) (begins : Place) (t : DataType) (c : Expression) (o : Option Reset) (new : look_up scope m.name ≡ None) (narrow : IsNarrow t) where
       abbrev register_statement : Statement
@@ -161,10 +158,9 @@ module _ (leaves : List Leaf) (env : ℕ → ℕ) (clock_at : ℕ → Option ℕ
 
       pub at_register : InnerValue leaves env values (next_number l) leaf → At (scope ++ register_declared m t ∷ []) register_next
       at_register v =
-          let is = plain t narrow in
-          let below = subst (λ (w : ℕ). values (m.name ∷ []) < 2 ^ w) is.width (v.below (clock_number l.bindings c) refl) in
-          at_leaf scope l (register_declared m t) m.place (leaf_width t) (inner_role.Register (clock_number l.bindings c)) new (λ e. cc) is.unsigned is.narrow is.width
-          v.width v.value below a
+          let below = subst (λ (w : ℕ). values (m.name ∷ []) < 2 ^ w) (leaf_wide t narrow) (v.below (clock_number l.bindings c) refl) in
+          at_leaf scope l (register_declared m t) m.place (leaf_type t) (inner_role.Register (clock_number l.bindings c)) new (λ e. cc) (type_narrow t narrow) (leaf_typed t narrow)
+          v.type v.value below a
 
       pub ran_register : look_up whole m.name ≡ Some (register_declared m t) → IsClock scope c → Ran register_next b → Ran l ((then) register_statement b)
       ran_register found clock rest = record {
@@ -173,23 +169,23 @@ module _ (leaves : List Leaf) (env : ℕ → ℕ) (clock_at : ℕ → Option ℕ
         leaves_hold = (tt, subst (λ (j : ℕ). EachFrom Holds j (inner_of register_next b)) (number_then l leaf) rest.leaves_hold);
         stored = rest.stored;
         clocked =
-            register_clocked leaves env clock_at whole values leaf p m begins t c o (register_declared m t) (inner_of register_next b) (clocked_in whole [] b) found (plain t narrow).width
+            register_clocked leaves env clock_at whole values leaf p m begins t c o (register_declared m t) (inner_of register_next b) (clocked_in whole [] b) found (leaf_wide t narrow)
             (record {
               clock = clock_number l.bindings c;
               role = refl;
               declared = register_declared m t;
               found = found;
               named = refl;
-              width = (plain t narrow).width;
+              type = leaf_typed t narrow;
               leaf = refl;
               ticks_are = clock_ticks leaves env clock_at whole values scope l.bindings (values_of leaves env l.nodes) c clock a.agrees;
             })
             rest.clocked;
       }
 
-    module _ (m : PlacedName) (x : Expression) (new : look_up scope m.name ≡ None) (r : Placed leaves env l.bindings clock_at law scope whole values finds l.nodes x) where
-      abbrev v : BitVector
-      v = r.has.value.value
+    module _ (m : PlacedName) (x : Expression) (new : look_up scope m.name ≡ None) (r : PlacedValue leaves env l.bindings clock_at law scope whole values finds l.nodes x) where
+      abbrev v : Num
+      v = r.has.value
 
       abbrev bound : Bound
       bound = bound_in l x
@@ -203,48 +199,45 @@ module _ (leaves : List Leaf) (env : ℕ → ℕ) (clock_at : ℕ → Option ℕ
       abbrev node_leaf : InnerLeaf
       node_leaf = inner_node m bound
 
-      declared_type : declared.holds ≡ type_of r.has.value
+      declared_type : declared.holds ≡ operators.type_of r.has.value
       declared_type = ap first_type r.has.of_type
 
-      bound_wide : bound.width ≡ declared.holds.width
-      bound_wide = ap (λ (t : NumTy). t.width) (sym (ap first_type r.of_type))
+      wide : bound.ty.width ≡ v.value.width
+      wide = ap (λ (t : NumTy). t.width) r.there.of_type
 
-      wide : bound.width ≡ v.width
-      wide = bound_wide ∙ ap (λ (t : NumTy). t.width) declared_type
-
-      pub at_node : InnerValue leaves env values (next_number l) node_leaf → values (m.name ∷ []) ≡ v.number → At (scope ++ declared ∷ []) next
+      pub at_node : InnerValue leaves env values (next_number l) node_leaf → values (m.name ∷ []) ≡ v.value.number → At (scope ++ declared ∷ []) next
       at_node is e =
           let below : values (m.name ∷ []) < 2 ^ declared.holds.width = rw (e, declared_type) r.has.vector.below in
-          at_leaf scope (with_nodes l x) declared m.place bound.width (inner_role.Node bound.read) new (λ q. cc) (ap (λ (t : NumTy). t.signed) declared_type ∙ r.has.unsigned)
-          (rw declared_type r.has.vector.narrow) bound_wide is.width is.value below
+          at_leaf scope (with_nodes l x) declared m.place bound.ty (inner_role.Node bound.read) new (λ q. cc) (rw declared_type r.has.vector.narrow)
+          (r.there.of_type ∙ sym declared_type) is.type is.value below
           (record {
             agrees =
                 agrees_then leaves env clock_at values scope l.bindings (values_of leaves env l.nodes) (values_of leaves env next.nodes) (grows_with leaves env l.bindings x l.nodes)
                 a.agrees;
-            stable = r.stable;
+            stable = r.there.stable;
           })
 
       leaf_value : look_up whole m.name ≡ Some declared → map values (paths (leaves_named whole [] m.name)) ≡ values (m.name ∷ []) ∷ []
       leaf_value found = ap (λ o. map values (paths (leaves_found [] o))) found
 
-      evaluated : numbers (eval whole [] values x) ≡ v.number ∷ []
+      evaluated : numbers (eval whole [] values x) ≡ v.value.number ∷ []
       evaluated = ap numbers r.has.evaluated
 
-      pub held_value : look_up whole m.name ≡ Some declared → NodeHolds whole [] values (node p m x) → values (m.name ∷ []) ≡ v.number
-      held_value found h = let e : values (m.name ∷ []) ∷ [] ≡ v.number ∷ [] = sym (leaf_value found) ∙ h ∙ evaluated in cc
+      pub held_value : look_up whole m.name ≡ Some declared → NodeHolds whole [] values (node p m x) → values (m.name ∷ []) ≡ v.value.number
+      held_value found h = let e : values (m.name ∷ []) ∷ [] ≡ v.value.number ∷ [] = sym (leaf_value found) ∙ h ∙ evaluated in cc
 
       -- what is read for the leaf of the node is the value of its expression
-      pub read_there : with_body next b ≡ end → at_width (read_value leaves env last bound.read) bound.width ≡ v.number
+      pub read_there : with_body next b ≡ end → at_width (read_value leaves env last bound.read) bound.ty.width ≡ v.value.number
       read_there ends =
           let grown : Grows (values_of leaves env next.nodes) last =
           subst (λ (k : Lowering). Grows (values_of leaves env next.nodes) (values_of leaves env k.nodes)) ends (grows_body leaves env next b) in
-          let there = reads_now leaves env last bound.read v (reads_then leaves env (values_of leaves env next.nodes) last bound.read v grown r.reads) in
-          ap (λ (u : BitVector). at_width u bound.width) there ∙ ap (at_width v) wide ∙ own_width v
+          let there = reads_now leaves env last bound.read v (reads_then leaves env (values_of leaves env next.nodes) last bound.read v grown r.there.reads) in
+          ap (λ (u : Num). at_width u bound.ty.width) there ∙ ap (at_width v) wide ∙ own_width v
 
-      fits : values (m.name ∷ []) ≡ env (next_number l) → values (m.name ∷ []) ≡ v.number → env (next_number l) < 2 ^ bound.width
+      fits : values (m.name ∷ []) ≡ env (next_number l) → values (m.name ∷ []) ≡ v.value.number → env (next_number l) < 2 ^ bound.ty.width
       fits here e = rw (wide, ← here, e) r.has.vector.below
 
-      pub ran_node : look_up whole m.name ≡ Some declared → with_body next b ≡ end → values (m.name ∷ []) ≡ env (next_number l) → values (m.name ∷ []) ≡ v.number → Ran next b
+      pub ran_node : look_up whole m.name ≡ Some declared → with_body next b ≡ end → values (m.name ∷ []) ≡ env (next_number l) → values (m.name ∷ []) ≡ v.value.number → Ran next b
           → Ran l ((then) (node p m x) b)
       ran_node found ends here e rest = record {
         agrees = rest.agrees;

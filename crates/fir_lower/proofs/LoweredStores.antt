@@ -7,16 +7,15 @@ use Rattle.std.proofs.Math.Seq.{drop-nil}
 use Rattle.fir_ast.specs.declared.place.Place.{Place}
 use Rattle.fir_ast.specs.Expressions.{Expression}
 use Rattle.fir_ast.specs.Statements.{Sink, connect}
-use Rattle.fir_bits.specs.Values.{BitVector, fitted}
 use Rattle.fir_bits.specs.declared.values.Num.{Num}
 use Rattle.fir_meaning.specs.Paths.{Values, Store, stored_at}
 use Rattle.fir_meaning.specs.Scopes.{Declared, Scope, look_up}
 use Rattle.fir_meaning.specs.Leaves.{leaves_of, leaves_found}
-use Rattle.fir_meaning.specs.Eval.{eval}
+use Rattle.fir_meaning.specs.Eval.{at_width, eval}
 use Rattle.fir_meaning.specs.Exec.{fit, pairs, drive_all, all_true, exec}
 use Rattle.fir_net.specs.declared.leaf.Leaf.{Leaf}
 use Rattle.fir_net.specs.declared.reads.Read.{Read}
-use Rattle.fir_lower.specs.working.Lowered.{Driver, driver_of}
+use Rattle.fir_lower.specs.working.Lowering.{Driver, driver_of}
 use Rattle.fir_lower.proofs.LoweredNodes.{Grows, Reads, reads_then}
 use Rattle.fir_base.proofs.SameNames.{name_is}
 use Rattle.fir_meaning.proofs.LookUps.{found_in}
@@ -35,32 +34,29 @@ connect_stores whole values p sink x d v store found value =
 
 module _ (leaves : List Leaf) (env : ℕ → ℕ) where
   -- where something drives a name, its value in that width, and else nothing
-  abbrev pub Drives : List BitVector → ℕ → Option Read → Option ℕ → Type 0
+  abbrev pub Drives : List Num → ℕ → Option Read → Option ℕ → Type 0
   Drives known width None there = there ≡ None
-  Drives known width (Some r) there = (v : BitVector) × Reads leaves env known r v × (there ≡ Some (fitted false v.width v.number width))
+  Drives known width (Some r) there = (v : Num) × Reads leaves env known r v × (there ≡ Some (at_width v width))
 
   -- at a name's leaf stands its driver's value
-  pub record Stored (known : List BitVector) (drivers : List Driver) (n : List ℕ) (d : Declared) (store : Store) : Type 0 where
+  pub record Stored (known : List Num) (drivers : List Driver) (n : List ℕ) (d : Declared) (store : Store) : Type 0 where
     pub there : Drives known d.holds.width (driver_of drivers n) (store (n ∷ []))
 
-  drives_then : (known larger : List BitVector) (width : ℕ) (o : Option Read) (there : Option ℕ) → Grows known larger → Drives known width o there → Drives larger width o there
+  drives_then : (known larger : List Num) (width : ℕ) (o : Option Read) (there : Option ℕ) → Grows known larger → Drives known width o there → Drives larger width o there
   drives_then known larger width None there g h = h
   drives_then known larger width (Some r) there g h = (h.0, reads_then leaves env known larger r h.0 g h.1, h.2)
 
-  pub stored_then : (known larger : List BitVector) (drivers : List Driver) (n : List ℕ) (d : Declared) (store : Store) → Grows known larger → Stored known drivers n d store
+  pub stored_then : (known larger : List Num) (drivers : List Driver) (n : List ℕ) (d : Declared) (store : Store) → Grows known larger → Stored known drivers n d store
       → Stored larger drivers n d store
   stored_then known larger drivers n d store g s = record { there = drives_then known larger d.holds.width (driver_of drivers n) (store (n ∷ [])) g s.there }
 
-  module _ (old known : List BitVector) (grows : Grows old known) (drivers : List Driver) (name : List ℕ) (source : Read) (v : Num) (into : Declared)
-      (unsigned : v.signed ≡ false) (reads : Reads leaves env known source v.value) (n : List ℕ) (d : Declared) (store : Store) where
+  module _ (old known : List Num) (grows : Grows old known) (drivers : List Driver) (name : List ℕ) (source : Read) (v : Num) (into : Declared)
+      (reads : Reads leaves env known source v) (n : List ℕ) (d : Declared) (store : Store) where
     abbrev more : List Driver
     more = record { sink = name; source = source } ∷ drivers
 
     stored_here : into ≡ d → bytes_eq name n ≡ true → Stored known more n d (stored_at (name ∷ []) (fit v into.holds) store)
-    stored_here same t =
-        let value : Some (fit v into.holds) ≡ Some (fitted false v.value.width v.value.number d.holds.width) =
-        ap (λ (s : Bool). Some (fitted s v.value.width v.value.number into.holds.width)) unsigned ∙ ap (λ (y : Declared). Some (fitted false v.value.width v.value.number y.holds.width)) same in
-        record { there = rw t (v.value, reads, value) }
+    stored_here same t = record { there = rw t (v, reads, ap (λ (y : Declared). Some (at_width v y.holds.width)) same) }
 
     stored_there : bytes_eq name n ≡ false → Stored old drivers n d store → Stored known more n d (stored_at (name ∷ []) (fit v into.holds) store)
     stored_there t s = record { there = rw t (drives_then old known d.holds.width (driver_of drivers n) (store (n ∷ [])) grows s.there) }

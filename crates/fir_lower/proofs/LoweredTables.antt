@@ -7,6 +7,7 @@ use Rattle.std.specs.Cmp.Lexicographic.{slice_cmp}
 use Rattle.std.specs.Ordering.{nat_cmp}
 use Rattle.std.specs.Str.{bytes_eq}
 use Rattle.std.proofs.lemmas.Map.Text.{is_eq-slice_cmp}
+use Rattle.fir_bits.specs.declared.types.NumTy.{NumTy}
 use Rattle.fir_net.specs.declared.reads.Read.{Read}
 use Rattle.fir_net.specs.declared.reads.Read.TheVariants as read
 use Rattle.fir_base.specs.declared.direction.Direction.TheVariants.{Input}
@@ -16,7 +17,9 @@ use Rattle.fir_ast.specs.Statements.{PlacedName, Sink, Statement, node, connect}
 use Rattle.fir_ast.specs.Circuits.{PortTree}
 use Rattle.fir_lower.specs.declared.inner.InnerLeaf.{InnerLeaf}
 use Rattle.fir_lower.specs.declared.tables.Tables.{Tables}
-use Rattle.fir_lower.specs.working.Lowered.{Bound, Binding, nowhere, Driver, nodes_with, bound_with, bound_in, inner_node, Lowering, with_leaf, with_nodes, with_statement, leaf_width, input_binding}
+use Rattle.fir_lower.specs.working.Bounds.{Bound, Binding, nowhere}
+use Rattle.fir_lower.specs.working.ExpressionNodes.{nodes_with, bound_with}
+use Rattle.fir_lower.specs.working.Lowering.{Driver, bound_in, inner_node, Lowering, with_leaf, with_nodes, with_statement, leaf_type, input_binding}
 use Rattle.fir_lower.specs.working.Tabled.{HasBounds, HasDrivers, IsTabled}
 use Rattle.fir_lower.proofs.SharedNodes.{once_with}
 
@@ -40,9 +43,9 @@ driver_first : (m n : BTreeMap (List ℕ) Read) (ds : List Driver) (name : List 
     → HasDrivers n (record { sink = name; source = r } ∷ ds)
 driver_first m n ds name r u h = record { each = λ q. updated m n name r u q ∙ ap (cond (bytes_eq name q) (Some r)) (h.each q) }
 
-pub input_first : (m n : BTreeMap (List ℕ) Bound) (bs : List Binding) (p : PortTree) (k j : ℕ) (name : List ℕ) (w : ℕ) → name ≡ p.named.name → w ≡ leaf_width p.data_type → j ≡ k
-    → tree.Updates (slice_cmp nat_cmp) m n name (Some (record { read = read.Leaf j; width = w })) → HasBounds m bs → HasBounds n (input_binding Input k p ++ bs)
-input_first m n bs p k j name w e f at u h = rw (← e, ← f, ← at) (bound_first m n bs name (record { read = read.Leaf j; width = w }) u h)
+pub input_first : (m n : BTreeMap (List ℕ) Bound) (bs : List Binding) (p : PortTree) (k j : ℕ) (name : List ℕ) (t : NumTy) → name ≡ p.named.name → t ≡ leaf_type p.data_type → j ≡ k
+    → tree.Updates (slice_cmp nat_cmp) m n name (Some (record { read = read.Leaf j; ty = t })) → HasBounds m bs → HasBounds n (input_binding Input k p ++ bs)
+input_first m n bs p k j name t e f at u h = rw (← e, ← f, ← at) (bound_first m n bs name (record { read = read.Leaf j; ty = t }) u h)
 
 -- the tables with the nodes of an expression
 pub nodes_kept : (t u : Tables) (l : Lowering) (e : Expression) → u.nodes.keys ≡ nodes_with l.bindings t.nodes.keys e → u.bindings ≡ t.bindings → u.drivers ≡ t.drivers
@@ -80,11 +83,11 @@ connect_kept t u l name source s p n e tree up i is nodes same ports inner r = r
 
 -- the tables with one more leaf
 pub leaf_kept : (t u : Tables) (l : Lowering) (x : InnerLeaf) (name : List ℕ) (number : ℕ) → IsTabled t l → name ≡ x.name
-    → tree.Updates (slice_cmp nat_cmp) t.bindings u.bindings name (Some (record { read = read.Leaf number; width = x.width })) → number ≡ t.ports + length t.inner.items
+    → tree.Updates (slice_cmp nat_cmp) t.bindings u.bindings name (Some (record { read = read.Leaf number; ty = x.ty })) → number ≡ t.ports + length t.inner.items
     → u.inner.items ≡ t.inner.items ++ x ∷ [] → u.nodes ≡ t.nodes → u.drivers ≡ t.drivers → u.ports ≡ t.ports → IsTabled u (with_leaf l x)
 leaf_kept t u l x name number r named up at inner nodes drivers ports = record {
   ports = ports ∙ r.ports;
-  bindings = rw (← named, ← r.ports, ← r.inner, ← at) (bound_first t.bindings u.bindings l.bindings name (record { read = read.Leaf number; width = x.width }) up r.bindings);
+  bindings = rw (← named, ← r.ports, ← r.inner, ← at) (bound_first t.bindings u.bindings l.bindings name (record { read = read.Leaf number; ty = x.ty }) up r.bindings);
   nodes = rw nodes r.nodes;
   once = rw nodes r.once;
   drivers = rw drivers r.drivers;

@@ -18,8 +18,9 @@ use Rattle.fir_net.specs.declared.leaf.Role.{Role}
 use Rattle.fir_net.specs.declared.leaf.Role.TheVariants as role
 use Rattle.fir_net.specs.declared.reads.Read.{Read}
 use Rattle.fir_net.specs.declared.reads.Read.TheVariants as read
-use Rattle.fir_net.specs.working.Settled.{Settled as NetSettled, clocks as net_clocks, registers as net_registers, is_clock, driver, clock_driver, driven_clock, value_at, at_width, shown}
-use Rattle.fir_lower.specs.working.Lowered.{Driver, driver_of}
+use Rattle.fir_net.specs.working.Values.{at_width}
+use Rattle.fir_net.specs.working.Settled.{Settled as NetSettled, clocks as net_clocks, registers as net_registers, is_clock, driver, clock_driver, driven_clock, value_at, shown}
+use Rattle.fir_lower.specs.working.Lowering.{Driver, driver_of}
 use Rattle.fir_base.proofs.Elements.{beside, get_in}
 use Rattle.fir_lower.proofs.LoweredLeaves.{Stands, HasDeclared, declared_of}
 use Rattle.fir_meaning.proofs.ChosenLeaves.{leaf_of}

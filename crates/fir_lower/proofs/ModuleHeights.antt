@@ -7,7 +7,8 @@ use Rattle.fir_base.specs.declared.direction.Direction.TheVariants as direction
 use Rattle.fir_ast.specs.Circuits.{PortTree, ModuleTree}
 use Rattle.fir_net.specs.declared.reads.Read.{Read}
 use Rattle.fir_net.specs.declared.reads.Read.TheVariants as read
-use Rattle.fir_lower.specs.working.Lowered.{leaves_of, Lowering, next_number, lowering}
+use Rattle.fir_lower.specs.working.Lowering.{Lowering, next_number, lowering}
+use Rattle.fir_lower.specs.working.Lowered.{leaves_of}
 use Rattle.fir_lower.proofs.ListParts.{stands_first, stands_last}
 use Rattle.fir_lower.proofs.LoweredIndexes.{get_mapped}
 use Rattle.fir_lower.proofs.LoweredEach.{EachFrom, each_from, each_zero}

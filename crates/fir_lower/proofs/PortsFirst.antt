@@ -8,7 +8,8 @@ use Rattle.fir_net.specs.working.IsNet.{is_port, AreInside, ArePortsFirst}
 use Rattle.fir_lower.specs.declared.inner.InnerRole.{InnerRole}
 use Rattle.fir_lower.specs.declared.inner.InnerRole.TheVariants as inner_role
 use Rattle.fir_lower.specs.declared.inner.InnerLeaf.{InnerLeaf}
-use Rattle.fir_lower.specs.working.Lowered.{Driver, input_role, port_role, port_leaf, role_of, inner_leaf}
+use Rattle.fir_lower.specs.working.Lowering.{Driver}
+use Rattle.fir_lower.specs.working.Lowered.{input_role, port_role, port_leaf, role_of, inner_leaf}
 
 -- a port's role is that of a port
 input_port : (t : DataType) → is_port (input_role t) ≡ true

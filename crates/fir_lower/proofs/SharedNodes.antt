@@ -3,6 +3,7 @@ use Rattle.std.proofs.Common.{◌≡◌, ℕ, zero, suc, List, [], ◌∷◌, �
 use Rattle.std.proofs.lemmas.Option.{slice_get_within}
 use Rattle.fir_ast.specs.Expressions.{Expression, reference, literal, operation, mux, validif, Expressions, no_expressions, expression}
 use Rattle.fir_bits.specs.declared.operators.PrimOp.{PrimOp}
+use Rattle.fir_bits.specs.declared.types.NumTy.{NumTy}
 use Rattle.fir_net.specs.declared.reads.Read.{Read}
 use Rattle.fir_net.specs.declared.reads.Read.TheVariants as read
 use Rattle.fir_net.specs.declared.node.Node.{Node}
@@ -10,7 +11,8 @@ use Rattle.fir_net.specs.declared.node.Node.TheVariants as net_node
 use Rattle.fir_net.specs.working.Shares.{Shares}
 use Rattle.fir_net.proofs.SameNodes.{equal_node, node_itself}
 use Rattle.fir_base.proofs.Elements.{get_behind}
-use Rattle.fir_lower.specs.working.Lowered.{Bound, Binding, literal_bits, operation_width, operation_node, equal, with_shared, shared_number, nodes_with, nodes_with_each, bounds_with_each}
+use Rattle.fir_lower.specs.working.Bounds.{Bound, Binding}
+use Rattle.fir_lower.specs.working.ExpressionNodes.{literal_node, zero_node, operation_type, operation_node, mux_node, equal, with_shared, shared_number, shared_bound, nodes_with_mux, nodes_with_validif, nodes_with, bound_with, nodes_with_each, bounds_with_each}
 use Rattle.fir_lower.specs.working.Tabled.{IsOnce}
 use Rattle.fir_lower.proofs.LoweredIndexes.{IsBehind, get_either}
 
@@ -119,23 +121,37 @@ shares_is old new n k s o =
     s.keeps in
     (same, (once_shared old n o).each k (shared_number old n) n (ap (λ (xs : List Node). slice_get xs k) (sym same) ∙ s.stands) is.stands)
 
+-- nor with a mux, nor with the mux of a validif
+once_mux : (ns : List Node) (c a b : Bound) → IsOnce ns → IsOnce (nodes_with_mux ns c a b)
+once_mux ns c a b o = once_shared ns (mux_node c a b) o
+
+once_validif : (ns : List Node) (c a : Bound) → IsOnce ns → IsOnce (nodes_with_validif ns c a)
+once_validif ns c a o = once_mux (with_shared ns (zero_node a.ty)) c a (shared_bound ns (zero_node a.ty)) (once_shared ns (zero_node a.ty) o)
+
 -- nor with those of an expression
 mutual
   pub once_with : (bs : List Binding) (ns : List Node) (e : Expression) → IsOnce ns → IsOnce (nodes_with bs ns e)
   once_with bs ns (reference p n ps) o = o
-  once_with bs ns (literal l) o = once_shared ns (net_node.Literal (literal_bits l)) o
+  once_with bs ns (literal l) o = once_shared ns (literal_node l) o
   once_with bs ns (operation p op es ks) o = once_shared (nodes_with_each bs ns es) (operation_node op (bounds_with_each bs ns es) ks) (once_with_each bs ns es o)
-  once_with bs ns (mux p c a b) o = o
-  once_with bs ns (validif p c a) o = o
+  once_with bs ns (mux p c a b) o =
+      let first = nodes_with bs ns c in
+      let second = nodes_with bs first a in
+      once_mux (nodes_with bs second b) (bound_with bs ns c) (bound_with bs first a) (bound_with bs second b)
+      (once_with bs second b (once_with bs first a (once_with bs ns c o)))
+  once_with bs ns (validif p c a) o =
+      let first = nodes_with bs ns c in
+      once_validif (nodes_with bs first a) (bound_with bs ns c) (bound_with bs first a) (once_with bs first a (once_with bs ns c o))
 
   pub once_with_each : (bs : List Binding) (ns : List Node) (es : Expressions) → IsOnce ns → IsOnce (nodes_with_each bs ns es)
   once_with_each bs ns no_expressions o = o
   once_with_each bs ns (expression e es) o = once_with_each bs (nodes_with bs ns e) es (once_with bs ns e o)
 
 -- where a value is, and an operation, made of equal parts
-pub bound_same : (k j w v : ℕ) → k ≡ j → w ≡ v → ◌≡◌ {A = Bound} (record { read = read.Node k; width = w }) (record { read = read.Node j; width = v })
-bound_same k j w v e f = rw (e, f) refl
+pub bound_same : (k j : ℕ) (t u : NumTy) → k ≡ j → t ≡ u → ◌≡◌ {A = Bound} (record { read = read.Node k; ty = t }) (record { read = read.Node j; ty = u })
+bound_same k j t u e f = rw (e, f) refl
 
-pub operation_same : (o : PrimOp) (bounds : List Bound) (ks : List ℕ) (reads : List Read) (integers : List ℕ) (width : ℕ) → reads ≡ map (λ b. b.read) bounds → integers ≡ ks
-    → width ≡ operation_width o bounds ks → net_node.Operation (record { op = o; reads = reads; integers = integers; width = width }) ≡ operation_node o bounds ks
-operation_same o bounds ks reads integers width e f g = rw (e, f, g) refl
+pub operation_same : (o : PrimOp) (bounds : List Bound) (ks : List ℕ) (reads : List Read) (integers : List ℕ) (t : NumTy) → reads ≡ map (λ b. b.read) bounds → integers ≡ ks
+    → t ≡ operation_type o bounds ks
+    → net_node.Operation (record { op = o; reads = reads; integers = integers; signed = t.signed; width = t.width }) ≡ operation_node o bounds ks
+operation_same o bounds ks reads integers t e f g = rw (e, f, g) refl

@@ -4,20 +4,21 @@ use Rattle.std.proofs.Common.{◌≡◌, ℕ, ◌+◌, ◌<◌, List, ◌++◌, 
 use Rattle.std.proofs.lemmas.List.{length-map}
 use Rattle.fir_ast.specs.Statements.{Block, done, then}
 use Rattle.fir_net.specs.declared.reads.Read.TheVariants as read
-use Rattle.fir_meaning.specs.Scopes.{Scope, declares}
+use Rattle.fir_meaning.specs.Scopes.{Scope, declares, behind}
 use Rattle.fir_meaning.specs.working.Clean.{AreCleanStatements}
 use Rattle.fir_lower.specs.declared.inner.InnerLeaf.{InnerLeaf}
 use Rattle.fir_lower.specs.working.HasWords.{BodyHasWords}
-use Rattle.fir_lower.specs.working.Lowered.{Driver, driver_of, inner_leaf, Lowering, next_number, with_statement, with_body}
+use Rattle.fir_lower.specs.working.Lowering.{Driver, driver_of, Lowering, next_number, with_statement, with_body}
+use Rattle.fir_lower.specs.working.Lowered.{inner_leaf}
 use Rattle.fir_lower.proofs.LoweredEach.{EachFrom, each_front, each_behind}
 use Rattle.fir_lower.proofs.LoweredInner.{added, inner_of, number_after, number_body, height_added, heights_of}
 use Rattle.fir_lower.proofs.NetGrowth.{Ground, AreWhole}
 use Rattle.fir_lower.proofs.WholeStatements.{CanDrive, IsInner, IsLowering, statement_lowered}
 
-pub record IsWholeBody (g : Ground) (l : Lowering) : Type 0 where
+pub record IsWholeBody (g : Ground) (scope : Scope) (l : Lowering) : Type 0 where
   pub nodes : AreWhole g l.nodes
-  pub sources : (name : List ℕ) → CanDrive g l.nodes (next_number l) (driver_of l.drivers name)
-  pub inner : EachFrom (IsInner g l.nodes (next_number l)) l.ports l.inner
+  pub sources : (name : List ℕ) → CanDrive g l.nodes (next_number l) scope name (driver_of l.drivers name)
+  pub inner : EachFrom (IsInner g l.nodes (next_number l) scope) l.ports l.inner
 
 module _ (g : Ground) (drivers : List Driver) where
   abbrev Stands : ℕ → InnerLeaf → Type 0
@@ -27,7 +28,7 @@ module _ (g : Ground) (drivers : List Driver) where
   IsHigh k h = g.height (read.Leaf k) ≡ h
 
   pub body_lowered : (scope : Scope) (l : Lowering) (b : Block) → IsLowering g scope l → AreCleanStatements scope b → BodyHasWords b → next_number (with_body l b) < g.room
-      → EachFrom Stands (next_number l) (inner_of l b) → EachFrom IsHigh (next_number l) (heights_of g.level l b) → IsWholeBody g (with_body l b)
+      → EachFrom Stands (next_number l) (inner_of l b) → EachFrom IsHigh (next_number l) (heights_of g.level l b) → IsWholeBody g (behind 0 scope b) (with_body l b)
   body_lowered scope l done is c words fits at high = record { nodes = is.nodes; sources = is.parts.sources; inner = is.parts.inner }
   body_lowered scope l ((then) s b) is c words fits at high =
       let new = with_statement l s in

@@ -2,13 +2,14 @@
 
 ghost use Rattle.std.specs.Prelude.{◌≡◌, ◌^◌, ◌<◌, List, OnOk};
 ghost use Rattle.fir_ast.specs.View.{type_of, expr_of, named_of};
-ghost use Rattle.fir_lower.specs.working.Lowered as definition;
-ghost use Rattle.fir_lower.specs.working.Lowered.{Binding, clock_number, inner_register, inner_node, with_leaf};
+ghost use Rattle.fir_lower.specs.working.Lowering as definition;
+ghost use Rattle.fir_lower.specs.working.Bounds.{Binding};
+ghost use Rattle.fir_lower.specs.working.Lowering.{clock_number, inner_register, inner_node, with_leaf};
 ghost use Rattle.fir_lower.specs.working.Tabled.{HasBounds, IsTabled};
 
 use crate::inner::{InnerLeaf, InnerRole};
 use crate::tables::{Bound, Tables, bound_of};
-use crate::widths::leaf_width;
+use crate::types::leaf_type;
 use fir_ast::{Expr, Ident, Register};
 use fir_base::{MemoryOut, Name};
 use fir_net::{LeafId, Read};
@@ -30,7 +31,7 @@ pub fn add_register(
     let leaf = InnerLeaf {
         name: register.ident.name.copy(alloc)?,
         place: register.ident.place,
-        width: leaf_width(&register.ty),
+        ty: leaf_type(&register.ty),
         role: InnerRole::Register(clock),
     };
     add_leaf(alloc, tables, leaf)
@@ -50,7 +51,7 @@ pub fn add_node(
     let leaf = InnerLeaf {
         name: ident.name.copy(alloc)?,
         place: ident.place,
-        width: bound.width,
+        ty: bound.ty,
         role: InnerRole::Node(bound.read),
     };
     add_leaf(alloc, tables, leaf)
@@ -66,7 +67,7 @@ fn add_leaf(alloc: Global, tables: &mut Tables, leaf: InnerLeaf) -> Result<(), M
     let name = leaf.name.copy(alloc)?;
     let bound = Bound {
         read: Read::Leaf(LeafId::new(number)),
-        width: leaf.width,
+        ty: leaf.ty,
     };
     tables.inner.push(leaf)?;
     tables.bindings.insert(name, bound)?;

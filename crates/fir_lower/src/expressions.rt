@@ -2,14 +2,16 @@
 
 ghost use Rattle.std.specs.Prelude.{◌≡◌, map, List, IfOk, OnOk};
 ghost use Rattle.fir_ast.specs.View.{expr_of, expressions_of};
-ghost use Rattle.fir_lower.specs.working.Lowered.{Binding, literal_bits, operation_width, operation_node, with_shared, shared_number, bound_with, nodes_with, bounds_with_each, nodes_with_each};
+ghost use Rattle.fir_lower.specs.working.Bounds.{Binding};
+ghost use Rattle.fir_lower.specs.working.ExpressionNodes.{num_or_none, literal_node, operation_type, operation_node, with_shared, shared_bound, nodes_with_mux, bound_with_mux, nodes_with_validif, bound_with_validif, bound_with, nodes_with, bounds_with_each, nodes_with_each};
 ghost use Rattle.fir_lower.specs.working.Tabled.{HasBounds, IsOnce};
 
 use crate::tables::{Bound, bound_of};
+use crate::types::{literal_type, node_type};
 use fir_ast::{Expr, Literal};
 use fir_base::{MemoryOut, Name, Seq};
-use fir_bits::{Bits, NumTy, PrimOp, result_type};
-use fir_net::{Node, Operation, Read, Reads, share};
+use fir_bits::{Bits, NO_TYPE, Num, NumTy, PrimOp, result_type};
+use fir_net::{Mux, Node, Operation, Read, Reads, share};
 use indexmap::IndexSet;
 use std::alloc::Global;
 use std::collections::BTreeMap;
@@ -32,7 +34,17 @@ pub fn add_expression(
             let bounds = add_expressions(alloc, bindings, nodes, operands)?;
             Ok(add_operation(alloc, nodes, *op, bounds.as_slice(), integers.as_slice())?)
         }
-        Expr::Mux(_, _, _, _) | Expr::Validif(_, _, _) => Ok(Bound::nowhere()),
+        Expr::Mux(_, condition, first, second) => {
+            let c = add_expression(alloc, bindings, nodes, condition)?;
+            let a = add_expression(alloc, bindings, nodes, first)?;
+            let b = add_expression(alloc, bindings, nodes, second)?;
+            Ok(add_mux(nodes, c, a, b)?)
+        }
+        Expr::Validif(_, condition, value) => {
+            let c = add_expression(alloc, bindings, nodes, condition)?;
+            let a = add_expression(alloc, bindings, nodes, value)?;
+            Ok(add_validif(nodes, c, a)?)
+        }
     }
 }
 
@@ -55,30 +67,41 @@ fn add_expressions(
     Ok(bounds)
 }
 
-fn add_literal(nodes: &mut IndexSet<Node>, l: &Literal) -> Result<Bound, MemoryOut>
-    ensures bound { IfOk result (λ b. IsOnce nodes.old.keys → b ≡ record { read = Read.Node (shared_number nodes.old.keys (Node.Literal (literal_bits l.now))); width = (literal_bits l.now).width }) }
-    ensures nodes { OnOk result (IsOnce nodes.old.keys → nodes.new.keys ≡ with_shared nodes.old.keys (Node.Literal (literal_bits l.now))) }
+/// Adds a node, or finds the one that is equal, and tells where its value is.
+fn add_node(nodes: &mut IndexSet<Node>, node: Node) -> Result<Bound, MemoryOut>
+    ensures bound { IfOk result (λ b. IsOnce nodes.old.keys → b ≡ shared_bound nodes.old.keys node) }
+    ensures nodes { OnOk result (IsOnce nodes.old.keys → nodes.new.keys ≡ with_shared nodes.old.keys node) }
 {
-    let bits = literal_bits(l);
-    let node = share(nodes, Node::Literal(bits))?;
+    let ty = node_type(&node);
+    let number = share(nodes, node)?;
     Ok(Bound {
-        read: Read::Node(node),
-        width: bits.width(),
+        read: Read::Node(number),
+        ty,
     })
 }
 
-/// The literal's value. One that does not fit its width has no bits.
-fn literal_bits(l: &Literal) -> Bits
-    ensures { result ≡ literal_bits l.now }
+/// The integer of that sign and magnitude as a value of the type. One of more than 128 bits counts as one of none.
+fn num_of(ty: NumTy, negative: bool, magnitude: u128) -> Num
+    ensures { result ≡ num_or_none ty negative magnitude }
 {
-    let width = l.width.unwrap_or(0);
-    if width > 128 {
-        return Bits::EMPTY;
+    if ty.width > 128 {
+        return Num {
+            signed: false,
+            value: Bits::EMPTY,
+        };
     }
-    match Bits::new(width as u32, l.magnitude) {
-        Some(bits) => bits,
-        None => Bits::EMPTY,
+    Num {
+        signed: ty.signed,
+        value: Bits::of_integer(ty.width, negative, magnitude),
     }
+}
+
+fn add_literal(nodes: &mut IndexSet<Node>, l: &Literal) -> Result<Bound, MemoryOut>
+    ensures bound { IfOk result (λ b. IsOnce nodes.old.keys → b ≡ shared_bound nodes.old.keys (literal_node l.now)) }
+    ensures nodes { OnOk result (IsOnce nodes.old.keys → nodes.new.keys ≡ with_shared nodes.old.keys (literal_node l.now)) }
+{
+    let value = num_of(literal_type(l), l.negative, l.magnitude);
+    add_node(nodes, Node::Literal(value))
 }
 
 fn add_operation(
@@ -88,43 +111,59 @@ fn add_operation(
     bounds: &[Bound],
     integers: &[u128],
 ) -> Result<Bound, MemoryOut>
-    ensures bound { IfOk result (λ b. IsOnce nodes.old.keys → b ≡ record { read = Read.Node (shared_number nodes.old.keys (operation_node op bounds.now integers.now)); width = operation_width op bounds.now integers.now }) }
+    ensures bound { IfOk result (λ b. IsOnce nodes.old.keys → b ≡ shared_bound nodes.old.keys (operation_node op bounds.now integers.now)) }
     ensures nodes { OnOk result (IsOnce nodes.old.keys → nodes.new.keys ≡ with_shared nodes.old.keys (operation_node op bounds.now integers.now)) }
 {
-    let width = operation_width(alloc, op, bounds, integers)?;
+    let ty = operation_type(alloc, op, bounds, integers)?;
     let operation = Operation {
         op,
         reads: reads_of(alloc, bounds)?,
         integers: Seq::from_vec(Vec::from_slice(alloc, integers)?),
-        width,
+        signed: ty.signed,
+        width: ty.width,
     };
-    let node = share(nodes, Node::Operation(operation))?;
-    Ok(Bound {
-        read: Read::Node(node),
-        width,
-    })
+    add_node(nodes, Node::Operation(operation))
 }
 
-/// The width of the operation's result. One that has no type has no bits.
-fn operation_width(
+/// The type of the operation's result. One that has no type counts as one of no bits.
+fn operation_type(
     alloc: Global,
     op: PrimOp,
     bounds: &[Bound],
     integers: &[u128],
-) -> Result<u32, MemoryOut>
-    ensures { IfOk result (λ w. w ≡ operation_width op bounds.now integers.now) }
+) -> Result<NumTy, MemoryOut>
+    ensures { IfOk result (λ t. t ≡ operation_type op bounds.now integers.now) }
 {
     let mut types = Vec::new(alloc);
     for bound in bounds {
-        types.push(NumTy {
-            signed: false,
-            width: bound.width,
-        })?;
+        types.push(bound.ty)?;
     }
     match result_type(op, types.as_slice(), integers) {
-        Ok(ty) => Ok(ty.width),
-        Err(_) => Ok(0),
+        Ok(ty) => Ok(ty),
+        Err(_) => Ok(NO_TYPE),
     }
+}
+
+/// Adds the choice of `a` where the condition `c` is 1, and of `b` where it is 0.
+fn add_mux(nodes: &mut IndexSet<Node>, c: Bound, a: Bound, b: Bound) -> Result<Bound, MemoryOut>
+    ensures bound { IfOk result (λ r. IsOnce nodes.old.keys → r ≡ bound_with_mux nodes.old.keys c a b) }
+    ensures nodes { OnOk result (IsOnce nodes.old.keys → nodes.new.keys ≡ nodes_with_mux nodes.old.keys c a b) }
+{
+    let mux = Mux {
+        reads: [c.read, a.read, b.read],
+        signed: a.ty.signed,
+        width: a.ty.width.max(b.ty.width),
+    };
+    add_node(nodes, Node::Mux(mux))
+}
+
+/// Adds the choice of `a` where the condition `c` is 1, and of zero where it is 0.
+fn add_validif(nodes: &mut IndexSet<Node>, c: Bound, a: Bound) -> Result<Bound, MemoryOut>
+    ensures bound { IfOk result (λ r. IsOnce nodes.old.keys → r ≡ bound_with_validif nodes.old.keys c a) }
+    ensures nodes { OnOk result (IsOnce nodes.old.keys → nodes.new.keys ≡ nodes_with_validif nodes.old.keys c a) }
+{
+    let zero = add_node(nodes, Node::Literal(num_of(a.ty, false, 0)))?;
+    Ok(add_mux(nodes, c, a, zero)?)
 }
 
 fn reads_of(alloc: Global, bounds: &[Bound]) -> Result<Reads, MemoryOut>

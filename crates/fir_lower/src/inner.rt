@@ -2,6 +2,7 @@
 
 use fir_ast::Place;
 use fir_base::Name;
+use fir_bits::NumTy;
 use fir_net::{LeafId, Read};
 
 /// What gives an inner leaf its value.
@@ -19,7 +20,6 @@ pub struct InnerLeaf {
     pub name: Name,
     /// Where the name is declared.
     pub place: Place,
-    /// Its width in bits.
-    pub width: u32,
+    pub ty: NumTy,
     pub role: InnerRole,
 }

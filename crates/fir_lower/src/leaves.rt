@@ -2,12 +2,13 @@
 
 ghost use Rattle.std.specs.Prelude.{◌≡◌, ◌++◌, List, map, IfOk, OnOk};
 ghost use Rattle.fir_ast.specs.View.{type_of, port_of};
-ghost use Rattle.fir_lower.specs.working.Lowered.{Driver, Lowering, leaf_width, input_role, port_role, port_leaf, role_of, inner_leaf, leaves_of};
+ghost use Rattle.fir_lower.specs.working.Lowering.{Driver, Lowering};
+ghost use Rattle.fir_lower.specs.working.Lowered.{input_role, port_role, port_leaf, role_of, inner_leaf, leaves_of};
 ghost use Rattle.fir_lower.specs.working.Tabled.{HasDrivers, IsTabled};
 
 use crate::inner::{InnerLeaf, InnerRole};
 use crate::tables::{Tables, driver_of};
-use crate::widths::leaf_width;
+use crate::types::leaf_type;
 use fir_ast::{Port, Ty};
 use fir_base::{Direction, MemoryOut, Name};
 use fir_net::{Leaf, LeafId, Read, Register, Role};
@@ -32,10 +33,12 @@ fn port_leaves(
 {
     let mut leaves = Vec::new(alloc);
     for port in ports {
+        let ty = leaf_type(&port.ty);
         leaves.push(Leaf {
             path: port.ident.name.copy(alloc)?,
             place: port.ident.place,
-            width: leaf_width(&port.ty),
+            signed: ty.signed,
+            width: ty.width,
             role: port_role(drivers, port),
         })?;
     }
@@ -76,7 +79,8 @@ fn add_inner(
         leaves.push(Leaf {
             path: leaf.name.copy(alloc)?,
             place: leaf.place,
-            width: leaf.width,
+            signed: leaf.ty.signed,
+            width: leaf.ty.width,
             role: inner_role(drivers, leaf),
         })?;
     }

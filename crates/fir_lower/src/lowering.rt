@@ -17,8 +17,8 @@ use fir_meaning::{clean_has_value, faultless_is_clean};
 use fir_net::FlatNet;
 use std::alloc::Global;
 
-/// The net of the circuit: a node for each operation and literal, in the order of the text; equal ones have
-/// one.
+/// The net of the circuit: a node for each operation, mux, validif and literal, in the order of the text; equal
+/// ones have one.
 pub(crate) fn lowered_net(alloc: Global, c: &Circuit) -> Result<FlatNet, MemoryOut>
     ensures { IfOk result (λ net. net ≡ lowered (circuit_of c.now)) }
 {

@@ -2,11 +2,12 @@
 
 ghost use Rattle.std.specs.Prelude.{[], ◌++◌, List, map, IfOk, OnOk};
 ghost use Rattle.fir_ast.specs.View.{port_of};
-ghost use Rattle.fir_lower.specs.working.Lowered.{Binding, input_binding, port_bindings};
+ghost use Rattle.fir_lower.specs.working.Bounds.{Binding};
+ghost use Rattle.fir_lower.specs.working.Lowering.{input_binding, port_bindings};
 ghost use Rattle.fir_lower.specs.working.Tabled.{HasBounds};
 
 use crate::tables::Bound;
-use crate::widths::leaf_width;
+use crate::types::leaf_type;
 use fir_ast::Port;
 use fir_base::{Direction, MemoryOut, Name};
 use fir_net::{LeafId, Read};
@@ -37,7 +38,7 @@ fn add_input(
         Direction::Input => {
             let bound = Bound {
                 read: Read::Leaf(LeafId::new(k)),
-                width: leaf_width(&port.ty),
+                ty: leaf_type(&port.ty),
             };
             bindings.insert(port.ident.name.copy(alloc)?, bound)?;
         }

@@ -2,8 +2,8 @@
 
 ghost use Rattle.std.specs.Prelude.{◌≡◌, ◌^◌, ◌<◌, IfOk, OnOk};
 ghost use Rattle.fir_ast.specs.View.{stmt_of, module_of};
-ghost use Rattle.fir_lower.specs.working.Lowered as definition;
-ghost use Rattle.fir_lower.specs.working.Lowered.{lowering, with_statement};
+ghost use Rattle.fir_lower.specs.working.Lowering as definition;
+ghost use Rattle.fir_lower.specs.working.Lowering.{lowering, with_statement};
 ghost use Rattle.fir_lower.specs.working.Tabled.{IsTabled};
 
 use crate::declarations::{add_node, add_register};

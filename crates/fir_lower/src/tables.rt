@@ -1,32 +1,34 @@
 //! What is kept of the body so far.
 
 ghost use Rattle.std.specs.Prelude.{◌≡◌, List};
-ghost use Rattle.fir_lower.specs.working.Lowered as definition;
-ghost use Rattle.fir_lower.specs.working.Lowered.{Binding, bound_of, driver_of};
+ghost use Rattle.fir_lower.specs.working.Bounds as definition;
+ghost use Rattle.fir_lower.specs.working.Bounds.{Binding, bound_of};
+ghost use Rattle.fir_lower.specs.working.Lowering.{Driver, driver_of};
 ghost use Rattle.fir_lower.specs.working.Tabled.{HasBounds, HasDrivers};
 
 use crate::inner::InnerLeaf;
 use fir_base::Name;
+use fir_bits::{NO_TYPE, NumTy};
 use fir_net::{LeafId, Node, Read};
 use indexmap::IndexSet;
 use std::collections::BTreeMap;
 use std::marker::Model;
 
-/// Where a value is in the net, and its width in bits.
+/// Where a value is in the net, and its type.
 #[derive(Clone, Copy)]
 pub struct Bound {
     pub read: Read,
-    pub width: u32,
+    pub ty: NumTy,
 }
 
 impl Model for Bound {
-    ghost use Rattle.fir_lower.specs.working.Lowered as definition;
+    ghost use Rattle.fir_lower.specs.working.Bounds as definition;
 
     ghost Value = { definition.Bound };
 
-    ghost view = { λ b. record { read = b.read; width = b.width } };
+    ghost view = { λ b. record { read = b.read; ty = b.ty } };
 
-    ghost inverse = { λ b. record { read = b.read; width = b.width } };
+    ghost inverse = { λ b. record { read = b.read; ty = b.ty } };
 }
 
 impl Bound {
@@ -36,7 +38,7 @@ impl Bound {
     {
         Bound {
             read: Read::Leaf(LeafId::new(0)),
-            width: 0,
+            ty: NO_TYPE,
         }
     }
 }
@@ -64,7 +66,7 @@ pub fn bound_of(bindings: &BTreeMap<Name, Bound>, name: &Name) -> Bound
 
 /// What drives a sink.
 pub fn driver_of(drivers: &BTreeMap<Name, Read>, sink: &Name) -> Option<Read>
-    ensures { (ds : List definition.Driver) → HasDrivers drivers.now ds → result ≡ driver_of ds sink.now }
+    ensures { (ds : List Driver) → HasDrivers drivers.now ds → result ≡ driver_of ds sink.now }
 {
     match drivers.get(sink) {
         Some(source) => Some(*source),

@@ -4,17 +4,16 @@ use Rattle.std.proofs.Common.{◌≡◌, [], ◌∷◌, ◌++◌, Some, refl, sy
 use Rattle.std.proofs.lemmas.List.{append-nil}
 use Rattle.fir_base.specs.Lists.{In}
 use Rattle.fir_base.proofs.Members.{in_either}
-use Rattle.fir_bits.specs.Forms.{first_type}
 use Rattle.fir_ast.specs.Expressions.{Expression}
 use Rattle.fir_ast.specs.Types.{DataType}
 use Rattle.fir_ast.specs.Statements.{PlacedName, Statement, register, node, Block, done, then}
-use Rattle.fir_meaning.specs.Scopes.{Kind, node_value, register_value, Declared, Scope, look_up, types, printed_type, written_type, written_printed, declares, behind}
+use Rattle.fir_meaning.specs.Scopes.{Kind, node_value, register_value, Declared, Scope, look_up, type_of, printed_type, written_type, written_printed, declares, behind}
 use Rattle.fir_meaning.specs.working.Clean.{IsCleanStatement, AreCleanStatements}
 use Rattle.fir_meaning.specs.working.Laws.{Finds}
 use Rattle.fir_meaning.proofs.LookUps.{found_front, Once, once_more}
-use Rattle.fir_meaning.proofs.SoundScopes.{Plain, Sound, sound_more}
-use Rattle.fir_meaning.proofs.CleanExpressions.{one_type, prints_uint}
-use Rattle.fir_meaning.proofs.NarrowTypes.{narrow_plain, narrow_printed}
+use Rattle.fir_meaning.proofs.SoundScopes.{Sound, sound_more}
+use Rattle.fir_meaning.proofs.TypedExpressions as typed
+use Rattle.fir_meaning.proofs.NarrowTypes as written
 
 -- what a scope finds stays found behind a body
 pub kept_behind : (scope : Scope) (body : Block) (whole : Scope) → behind 0 scope body ≡ whole → Finds scope whole
@@ -25,7 +24,7 @@ kept_behind scope ((then) s b) whole same =
 
 -- the declaration of a node
 abbrev pub node_declared : Scope → PlacedName → Expression → Declared
-node_declared scope n e = record { named = n; kind = node_value; holds = first_type (types scope e); printed = printed_type scope e; depth = 0 }
+node_declared scope n e = record { named = n; kind = node_value; holds = type_of scope e; printed = printed_type scope e; depth = 0 }
 
 -- and of a register
 abbrev pub register_declared : PlacedName → DataType → Declared
@@ -33,11 +32,8 @@ register_declared n t = record { named = n; kind = register_value; holds = writt
 
 -- the scope stays sound
 pub sound_behind : (scope : Scope) → Sound scope → (s : Statement) → IsCleanStatement scope s → Sound (scope ++ declares 0 scope s)
-sound_behind scope sound (node p n e) c =
-    let t = one_type scope sound e c.1 in
-    let plain : Plain (first_type (types scope e)) = rw t.of_type t.plain in
-    sound_more scope (node_declared scope n e) sound plain (prints_uint scope sound e c.1)
-sound_behind scope sound (register p n begins t k r) c = sound_more scope (register_declared n t) sound (narrow_plain t c.1) (narrow_printed t c.1)
+sound_behind scope sound (node p n e) c = sound_more scope (node_declared scope n e) sound (typed.type_narrow scope sound e c.1) (typed.prints scope sound e c.1)
+sound_behind scope sound (register p n begins t k r) c = sound_more scope (register_declared n t) sound (written.type_narrow t c.1) (written.type_printed t c.1)
 sound_behind scope sound s c = subst Sound (sym (append-nil scope)) sound
 
 -- names stay declared once

@@ -20,7 +20,8 @@ use Rattle.fir_base.proofs.SameNames.{name_is}
 use Rattle.fir_meaning.proofs.SoundScopes.{Sound, Fits, held, Agree, agree_front, sound_front, fits_front}
 use Rattle.fir_meaning.proofs.CleanValues.{has_value}
 use Rattle.fir_meaning.proofs.SameValues.{same_value}
-use Rattle.fir_meaning.proofs.Connects.{fit_below, stored_either, connect_stores, connect_stores_there}
+use Rattle.fir_meaning.proofs.FittedValues.{at_width_below}
+use Rattle.fir_meaning.proofs.Connects.{stored_either, connect_stores, connect_stores_there}
 use Rattle.fir_meaning.proofs.Bodies.{kept_behind}
 
 -- values that agree on what can be read give one store
@@ -66,7 +67,7 @@ module _ (law : HasItsType) (whole : Scope) (env : Values) (sound : Sound whole)
     pub stored_fits : (scope : Scope) (body : Block) → behind 0 scope body ≡ whole → AreCleanStatements scope body → (store : Store) → store (n ∷ []) ≡ None
         → IfSome (exec_all whole [] [] env body store (n ∷ [])) (λ v. v < 2 ^ d.holds.width)
     stored_fits scope body same c store h =
-        stores_along n d found (λ o. IfSome o (λ v. v < 2 ^ d.holds.width)) (λ v b. fit_below v d.holds b) scope body same c store (rw h tt)
+        stores_along n d found (λ o. IfSome o (λ v. v < 2 ^ d.holds.width)) (λ v b. at_width_below v d.holds.width b) scope body same c store (rw h tt)
 
     -- a name that is connected has a value in the store
     pub stored_where : (scope : Scope) (body : Block) → behind 0 scope body ≡ whole → AreCleanStatements scope body → (store : Store) → is_connected body n ≡ true

@@ -1,13 +1,9 @@
--- What a connect stores, and that it fits.
+-- What a connect stores.
 -- The last connect of a name overwrites what stood at its leaf and leaves every other path.
-use Rattle.std.proofs.Common.{◌≡◌, ℕ, ◌+◌, ◌-◌, ◌^◌, ◌<◌, ◌≤◌, List, [], ◌∷◌, ◌++◌, Bool, true, false, ◌&&◌, if◌then◌else◌, nat_le, Option, Some, ap, ◌∙◌, ⊎_elim, arith}
-use Rattle.std.proofs.lemmas.Bool.{cases_Bool, leb-true}
-use Rattle.std.proofs.lemmas.Nat.{pow_pos}
-use Rattle.std.proofs.Math.Nat.{mod-lt, pow-le-pow_right}
+use Rattle.std.proofs.Common.{◌≡◌, ℕ, List, [], ◌∷◌, ◌++◌, Bool, true, false, if◌then◌else◌, Option, Some, ap, ◌∙◌, ⊎_elim}
+use Rattle.std.proofs.lemmas.Bool.{cases_Bool}
 use Rattle.std.proofs.Math.Seq.{drop-nil}
-use Rattle.fir_bits.specs.declared.types.NumTy.{NumTy}
 use Rattle.fir_bits.specs.declared.values.Num.{Num}
-use Rattle.fir_bits.specs.Values.{IsBitVector, is_negative}
 use Rattle.fir_ast.specs.declared.place.Place.{Place}
 use Rattle.fir_ast.specs.Expressions.{Expression}
 use Rattle.fir_ast.specs.Statements.{Sink, connect}
@@ -19,19 +15,6 @@ use Rattle.fir_meaning.specs.Exec.{fit, pairs, drive_all, all_true, exec}
 use Rattle.fir_meaning.specs.working.Laws.{LastConnect}
 use Rattle.fir_meaning.proofs.SamePath.{path_is, stored_here, stored_other}
 use Rattle.fir_meaning.proofs.LookUps.{found_in}
-
-extended_below : (signed_low : Bool) (w n to : ℕ) → n < 2 ^ w → w ≤ to → (if signed_low then n + (2 ^ to - 2 ^ w) else n) < 2 ^ to
-extended_below true w n to below wide = let most : 2 ^ w ≤ 2 ^ to = pow-le-pow_right (omega arith) wide in omega arith
-extended_below false w n to below wide = let most : 2 ^ w ≤ 2 ^ to = pow-le-pow_right (omega arith) wide in omega arith
-
--- a value that is fitted is below two to the width
-pub fit_below : (v : Num) (t : NumTy) → IsBitVector v.value → fit v t < 2 ^ t.width
-fit_below v t b =
-    ⊎_elim
-    (λ (h : nat_le v.value.width t.width ≡ true).
-    rw h (extended_below (v.signed && is_negative v.value.width v.value.number) v.value.width v.value.number t.width b.below (leb-true v.value.width t.width h)))
-    (λ (h : nat_le v.value.width t.width ≡ false). rw h (mod-lt v.value.number (pow_pos t.width)))
-    (cases_Bool (nat_le v.value.width t.width))
 
 -- what holds of the value that is stored and of what stood there holds of what stands there then
 pub stored_either : (x : Path) (v : ℕ) (store : Store) (y : Path) (P : Option ℕ → Type 0) → (x ≡ y → P (Some v)) → P (store y) → P (stored_at x v store y)

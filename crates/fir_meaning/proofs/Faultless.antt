@@ -32,7 +32,7 @@ use Rattle.fir_meaning.proofs.Bodies.{once_behind}
 use Rattle.fir_meaning.proofs.FaultlessBodies.{FaultlessBody, new_name, clean_statements}
 use Rattle.fir_meaning.proofs.Ports.{port_sound, ports_once, ports_sound}
 
--- a port's type is a `UInt` of a written width, or at an input a clock
+-- a port's type is a `UInt` or an `SInt` of a written width, or at an input a clock
 port_type : (d : Direction) (p : Place) (t : DataType) → lacking_port_type d p t ≡ None → is_over (written_type t).width ≡ false → IsPortType d t
 port_type Input p clock l h = tt
 port_type Input p t l h = narrow_type p t l h

@@ -2,14 +2,12 @@
 -- An expression is clean over a sound scope, and a clean statement leaves the scope sound.
 use Rattle.std.proofs.Common.{◌≡◌, [], ◌++◌, Option, Some, None, refl}
 use Rattle.std.specs.Option.{option_or}
-use Rattle.fir_bits.specs.Forms.{first_type}
 use Rattle.fir_ast.specs.declared.fault.FirFault.TheVariants.{Over}
-use Rattle.fir_ast.specs.declared.types.Ty.TheVariants.{UInt}
 use Rattle.fir_ast.specs.Statements.{PlacedName, Statement, register, node, connect, skip, Block, done, then}
-use Rattle.fir_meaning.specs.Scopes.{Declared, Scope, look_up, types, printed_type, written_type, declares}
-use Rattle.fir_meaning.specs.FaultRules.{along, within}
+use Rattle.fir_meaning.specs.Scopes.{Declared, Scope, look_up, type_of, printed_type, written_type, declares}
+use Rattle.fir_meaning.specs.FaultRules.{place_of, along, within}
 use Rattle.fir_meaning.specs.NameFaults.{undeclared_name_faults, second_declaration_faults, repeated_name_faults, names_in_expression, clock_name_faults, name_rule}
-use Rattle.fir_meaning.specs.TypeFaults.{type_rule}
+use Rattle.fir_meaning.specs.TypeFaults.{clock_type, clock_kind_faults, connect_type_faults, types_in_expression, type_rule}
 use Rattle.fir_meaning.specs.WidthFaults.{over_width_faults, widths_in_expression, width_rule}
 use Rattle.fir_meaning.specs.LegalityFaults.{legality_rule}
 use Rattle.fir_meaning.specs.Operations.{is_over}
@@ -19,7 +17,9 @@ use Rattle.fir_base.proofs.Empty.{empty_left, empty_right}
 use Rattle.fir_meaning.proofs.PassedTests.{fails}
 use Rattle.fir_meaning.proofs.NothingLacking.{neither, no_reset}
 use Rattle.fir_meaning.proofs.SoundScopes.{Sound}
-use Rattle.fir_meaning.proofs.CleanExpressions.{clean_expression, prints_uint}
+use Rattle.fir_meaning.proofs.TypedExpressions.{prints}
+use Rattle.fir_meaning.proofs.FaultlessExpressions.{each_group}
+use Rattle.fir_meaning.proofs.CleanExpressions.{clean_expression}
 use Rattle.fir_meaning.proofs.NarrowTypes.{narrow_type}
 use Rattle.fir_meaning.proofs.CleanClocks.{clean_clock}
 use Rattle.fir_meaning.proofs.CleanSinks.{clean_sink}
@@ -72,22 +72,26 @@ clean_statement scope sound (node p n e) c = (
   new_name (look_up scope n.name) n (empty_left (repeated_name_faults scope n) (within names_in_expression scope e) c.names),
   clean_expression scope sound e (record {
     language = c.language;
-    names = empty_right (repeated_name_faults scope n) (within names_in_expression scope e) c.names;
-    widths = empty_right (over_width_faults (first_type (types scope e)).width n.place n.name) (within widths_in_expression scope e) c.widths;
-    legality = c.legality;
+    none = each_group (λ rule. within rule scope e ≡ [])
+        (empty_right (repeated_name_faults scope n) (within names_in_expression scope e) c.names)
+        c.types
+        (empty_right (over_width_faults (type_of scope e).width n.place n.name) (within widths_in_expression scope e) c.widths)
+        c.legality;
   }),
 )
 clean_statement scope sound (register p n begins t k r) c =
     let l = neither (lacking_type begins t) (option_or (lacking_expression k) (lacking_reset r)) c.language in
     let m = neither (lacking_expression k) (lacking_reset r) l.1 in
     let width = (written_type t).width in
+    let kind = clock_kind_faults (clock_type scope k) (place_of k) in
     let wide = over_width_faults width n.place n.name in (
       new_name (look_up scope n.name) n (empty_left (repeated_name_faults scope n) (clock_name_faults scope k) c.names),
       narrow_type begins t l.0 (fails (is_over width) (Over n.place n.name) (empty_left wide (within widths_in_expression scope k) c.widths)),
       clean_clock scope sound k (record {
         language = m.0;
         names = empty_right (repeated_name_faults scope n) (clock_name_faults scope k) c.names;
-        types = c.types;
+        types = empty_left (within types_in_expression scope k) kind c.types;
+        kind = empty_right (within types_in_expression scope k) kind c.types;
         widths = empty_right wide (within widths_in_expression scope k) c.widths;
         legality = c.legality;
       }),
@@ -95,14 +99,18 @@ clean_statement scope sound (register p n begins t k r) c =
     )
 clean_statement scope sound (connect p sink e) c =
     let unknown = undeclared_name_faults (look_up scope sink.name) sink.place sink.name in
+    let kinds = connect_type_faults (look_up scope sink.name) p sink.name (printed_type scope e) in
     let source = clean_expression scope sound e (record {
       language = (neither (lacking_part sink.parts) (lacking_expression e) c.language).1;
-      names = empty_right unknown (within names_in_expression scope e) c.names;
-      widths = c.widths;
-      legality = c.legality;
-    }) in
-    let t = prints_uint scope sound e source in (
-      clean_sink scope sound sink.place p sink.name (printed_type scope e) (UInt t.0, t.1) (empty_left unknown (within names_in_expression scope e) c.names) c.types,
+      none = each_group (λ rule. within rule scope e ≡ [])
+          (empty_right unknown (within names_in_expression scope e) c.names)
+          (empty_left (within types_in_expression scope e) kinds c.types)
+          c.widths
+          c.legality;
+    }) in (
+      clean_sink scope sound sink.place p sink.name (type_of scope e).signed (printed_type scope e) (prints scope sound e source)
+          (empty_left unknown (within names_in_expression scope e) c.names)
+          (empty_right (within types_in_expression scope e) kinds c.types),
       source,
     )
 clean_statement scope sound (skip p) c = tt

@@ -2,10 +2,14 @@ pub mod PassedTests
 pub mod NothingLacking
 pub mod SamePath
 pub mod LookUps
+pub mod PrintedTypes
 pub mod SoundScopes
 pub mod SoundOperations
 pub mod NarrowTypes
+pub mod TypedExpressions
+pub mod FaultlessExpressions
 pub mod CleanExpressions
+pub mod FittedValues
 pub mod CleanValues
 pub mod SameValues
 pub mod Connects

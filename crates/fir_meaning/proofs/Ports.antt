@@ -1,6 +1,6 @@
 -- Clean ports.
--- Their names are declared once, and their types are plain.
-use Rattle.std.proofs.Common.{◌≡◌, List, [], ◌∷◌, ◌++◌, true, map, refl, sym, subst, append_assoc, lit≤}
+-- Their names are declared once, and their types have at most 128 bits.
+use Rattle.std.proofs.Common.{◌≡◌, ◌≤◌, List, [], ◌∷◌, ◌++◌, true, map, refl, sym, subst, append_assoc, lit≤}
 use Rattle.std.proofs.lemmas.List.{append-nil}
 use Rattle.fir_base.specs.declared.direction.Direction.{Direction}
 use Rattle.fir_base.specs.declared.direction.Direction.TheVariants.{Input, Output}
@@ -9,24 +9,24 @@ use Rattle.fir_ast.specs.Circuits.{PortTree}
 use Rattle.fir_meaning.specs.Scopes.{input, output, is_readable, Scope, port_kind, port_declared, written_type, written_printed}
 use Rattle.fir_meaning.specs.working.Clean.{IsPortType, IsCleanPort, AreCleanPorts}
 use Rattle.fir_meaning.proofs.LookUps.{Once, once_more}
-use Rattle.fir_meaning.proofs.SoundScopes.{Plain, IsPrinted, Sound, sound_more}
-use Rattle.fir_meaning.proofs.NarrowTypes.{narrow_plain, narrow_printed}
+use Rattle.fir_meaning.proofs.SoundScopes.{IsPrinted, Sound, sound_more}
+use Rattle.fir_meaning.proofs.NarrowTypes.{type_narrow, type_printed}
 
 -- a clock holds no bits
-port_plain : (d : Direction) (t : DataType) → IsPortType d t → Plain (written_type t)
-port_plain Input clock h = record { unsigned = refl; narrow = lit≤ tt }
-port_plain Input t h = narrow_plain t h
-port_plain Output t h = narrow_plain t h
+port_narrow : (d : Direction) (t : DataType) → IsPortType d t → (written_type t).width ≤ 128
+port_narrow Input clock h = lit≤ tt
+port_narrow Input t h = type_narrow t h
+port_narrow Output t h = type_narrow t h
 
-port_printed : (d : Direction) (t : DataType) → IsPortType d t → IsPrinted (port_kind d t) (written_printed t)
+port_printed : (d : Direction) (t : DataType) → IsPortType d t → IsPrinted (port_kind d t) (written_type t).signed (written_printed t)
 port_printed Input clock h = refl
-port_printed Input t h = narrow_printed t h
-port_printed Output t h = narrow_printed t h
+port_printed Input t h = type_printed t h
+port_printed Output t h = type_printed t h
 
 -- one more port
 pub port_sound : (scope : Scope) → Sound scope → (p : PortTree) → IsCleanPort scope p → Sound (scope ++ port_declared p ∷ [])
 port_sound scope sound p c =
-    sound_more scope (port_declared p) sound (port_plain p.direction p.data_type c.type) (port_printed p.direction p.data_type c.type)
+    sound_more scope (port_declared p) sound (port_narrow p.direction p.data_type c.type) (port_printed p.direction p.data_type c.type)
 
 pub ports_once : (scope : Scope) (ps : List PortTree) → AreCleanPorts scope ps → Once scope → Once (scope ++ map port_declared ps)
 ports_once scope [] c o = subst Once (sym (append-nil scope)) o

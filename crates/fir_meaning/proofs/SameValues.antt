@@ -16,8 +16,8 @@ module _ (scope whole : Scope) (e f : Values) (agree : Agree scope e f) where
     same_value (reference p n ps) c = ap (λ (v : ℕ). number_of (type_in whole n) v ∷ []) (agree.each n c.declared c.found c.readable)
     same_value (literal l) c = refl
     same_value (operation p o es ks) c = ap (λ (vs : List Num). outcome o vs ks ∷ []) (same_values es c.0)
-    same_value (mux p a b d) c = refl
-    same_value (validif p a b) c = refl
+    same_value (mux p x a b) c = rw (same_value x c.0, same_value a c.1, same_value b c.2) refl
+    same_value (validif p x a) c = rw (same_value x c.0, same_value a c.1) refl
 
     same_values : (xs : Expressions) → AreClean scope xs → eval_each whole [] e xs ≡ eval_each whole [] f xs
     same_values no_expressions c = refl

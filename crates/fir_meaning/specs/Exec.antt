@@ -4,13 +4,12 @@
 use Rattle.std.specs.Prelude.{ℕ, List, [], ◌∷◌, drop, Bool, true, ◌&&◌, if◌then◌else◌}
 use Rattle.fir_bits.specs.declared.types.NumTy.{NumTy}
 use Rattle.fir_bits.specs.declared.values.Num.{Num}
-use Rattle.fir_bits.specs.Values.{fitted}
 use Rattle.fir_ast.specs.Statements.{Statement, connect, Block, done, then}
 use Rattle.fir_ast.specs.Circuits.{CircuitTree}
 use Rattle.fir_meaning.specs.Paths.{Path, Values, Store, empty, stored_at}
 use Rattle.fir_meaning.specs.Scopes.{Scope}
 use Rattle.fir_meaning.specs.Leaves.{Leaf, leaves_named, main_module, main_scope}
-use Rattle.fir_meaning.specs.Eval.{eval}
+use Rattle.fir_meaning.specs.Eval.{at_width, eval}
 
 abbrev pub all_true : List Bool → Bool
 all_true [] = true
@@ -18,7 +17,7 @@ all_true (b ∷ bs) = b && all_true bs
 
 -- a value at the type of a sink: a narrower one is extended by its own sign, a wider one cut to its low bits
 abbrev pub fit : Num → NumTy → ℕ
-fit v t = fitted v.signed v.value.width v.value.number t.width
+fit v t = at_width v t.width
 
 -- a leaf that is driven, and the value of the leaf that gives
 pub record Pair : Type 0 where

@@ -1,5 +1,5 @@
 -- The faults that a circuit shows, behind those of its text, and the first of them.
--- They go in groups: E08 and E09; E10; E12 to E14; E19; E21; E24. Within a group they go in the order of the text.
+-- They go in groups: E08 and E09; E10; E12 to E14; E19; E21 and E22; E24. Within a group they go in the order of the text.
 use Rattle.std.specs.Prelude.{◌≡◌, ℕ, List, [], ◌∷◌, ◌++◌, flat_map, Bool, false, ◌||◌, if◌then◌else◌}
 use Rattle.std.specs.Str.{bytes_eq}
 use Rattle.fir_base.specs.Lists.{In}

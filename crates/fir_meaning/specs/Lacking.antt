@@ -1,8 +1,8 @@
 -- The first form of a circuit that `emit` and `sim` lack: where it begins, and its first token.
--- They have one module; ports and registers of a `UInt` whose width is written, and inputs of a `Clock`; as statements `node`, `reg` without a reset, a
--- connect and `skip`; and as expressions names, literals of a `UInt` whose width is written, and the operations that are taken. All else is lacking, and
--- has no meaning yet.
-use Rattle.std.specs.Prelude.{ℕ, ◌+◌, List, [], ◌∷◌, length, codes, Bool, not, ◌&&◌, if◌then◌else◌, Option, Some, None, is_some, is_none}
+-- They have one module; ports and registers of a `UInt` or an `SInt` whose width is written, and inputs of a `Clock`; as statements `node`, `reg` without a
+-- reset, a connect and `skip`; and as expressions names, literals, the operations that are taken, `mux` and `validif`. All else is lacking, and has no meaning
+-- yet.
+use Rattle.std.specs.Prelude.{ℕ, ◌+◌, List, [], ◌∷◌, length, codes, Bool, ◌&&◌, if◌then◌else◌, Option, Some, None, is_none}
 use Rattle.std.specs.Option.{option_or}
 use Rattle.fir_base.specs.declared.direction.Direction.{Direction}
 use Rattle.fir_base.specs.declared.direction.Direction.TheVariants as direction
@@ -11,7 +11,6 @@ use Rattle.fir_bits.specs.Forms.{form_of, has_counts}
 use Rattle.fir_bits.specs.Taken.{is_taken}
 use Rattle.fir_bits.specs.OperatorWords.{operator_word}
 use Rattle.fir_ast.specs.declared.place.Place.{Place}
-use Rattle.fir_ast.specs.declared.expressions.Literal.{Literal}
 use Rattle.fir_ast.specs.Types.{DataType, uint, sint, clock, reset, async_reset, bundle, vector}
 use Rattle.fir_ast.specs.Expressions.{Expression, reference, literal, operation, mux, validif, Parts, no_parts, subfield, subindex, subaccess, Expressions, no_expressions, expression}
 use Rattle.fir_ast.specs.Statements.{Reset, Statement, wire, register, node, instance, memory, when, connect, partial_connect, invalid, skip, Block, done, then}
@@ -36,6 +35,7 @@ type_word (vector t n) = type_word t
 -- the type of a port or a register, which begins at the place
 abbrev pub lacking_type : Place → DataType → Option Lack
 lacking_type place (uint (Some width)) = None
+lacking_type place (sint (Some width)) = None
 lacking_type place t = lack place (type_word t)
 
 abbrev pub lacking_port_type : Direction → Place → DataType → Option Lack
@@ -45,16 +45,6 @@ lacking_port_type d place t = lacking_type place t
 abbrev pub lacking_ports : List PortTree → Option Lack
 lacking_ports [] = None
 lacking_ports (p ∷ ps) = option_or (lacking_port_type p.direction p.type_place p.data_type) (lacking_ports ps)
-
--- a `UInt` whose width is written
-abbrev pub is_unsigned : Literal → Bool
-is_unsigned l = not l.signed && (not l.negative && is_some l.width)
-
-abbrev pub literal_word : Literal → List ℕ
-literal_word l = if l.signed then codes "SInt" else codes "UInt"
-
-abbrev pub lacking_literal : Literal → Option Lack
-lacking_literal l = if is_unsigned l then None else lack l.place (literal_word l)
 
 abbrev pub lacking_part : Parts → Option Lack
 lacking_part no_parts = None
@@ -73,10 +63,10 @@ is_operation op operands integers = is_taken op && has_counts (form_of op) opera
 abbrev mutual
   pub lacking_expression : Expression → Option Lack
   lacking_expression (reference p n ps) = lacking_part ps
-  lacking_expression (literal l) = lacking_literal l
+  lacking_expression (literal l) = None
   lacking_expression (operation p op es ks) = if is_operation op (count es) (length ks) then lacking_operands es else lack p (operator_word op)
-  lacking_expression (mux p c a b) = lack p (codes "mux")
-  lacking_expression (validif p c a) = lack p (codes "validif")
+  lacking_expression (mux p c a b) = option_or (lacking_expression c) (option_or (lacking_expression a) (lacking_expression b))
+  lacking_expression (validif p c a) = option_or (lacking_expression c) (lacking_expression a)
 
   pub lacking_operands : Expressions → Option Lack
   lacking_operands no_expressions = None

@@ -28,7 +28,15 @@ abbrev pub repeated_name_faults : Scope → PlacedName → List FirFault
 repeated_name_faults scope n = second_declaration_faults (look_up scope n.name) n
 
 abbrev pub names_in_expression : ExpressionRule
-names_in_expression = record { of_reference = unreadable_name_faults; of_literal = λ l. []; of_operation = λ p op ts ks. [] }
+names_in_expression =
+    record {
+      of_reference = unreadable_name_faults;
+      of_literal = λ l. [];
+      of_operation = λ p op ts shown ks. [];
+      of_condition = λ p c. [];
+      of_mux = λ p c a b. [];
+      of_validif = λ p c a. [];
+    }
 
 -- what may stand behind a register's comma
 abbrev pub is_clock_or_readable : Kind → Bool

@@ -1,7 +1,7 @@
--- The type of an operation's result, counted (FIRRTL spec, "Primitive Operations", "Width Inference").
+-- The type of the result of an operation, a mux and a validif, counted (FIRRTL spec, "Primitive Operations", "Width Inference").
 -- Widths count in the numbers 0 to 128 and one value above them. An operation that is over 128 bits, or has an operand that is, is over; one that its
--- integers make illegal has a width all the same, which the operator table says.
-use Rattle.std.specs.Prelude.{ℕ, List, Bool, nat_eq, slice_index, min, Result, Ok, Err}
+-- integers make illegal has a width all the same, which the operator table says. A mux is as wide as the wider of its arms, and over where its condition is.
+use Rattle.std.specs.Prelude.{ℕ, List, Bool, nat_eq, slice_index, min, max, if◌then◌else◌, Result, Ok, Err}
 use Rattle.fir_bits.specs.declared.operators.PrimOp.{PrimOp}
 use Rattle.fir_bits.specs.declared.types.NumTy.{NumTy}
 use Rattle.fir_bits.specs.declared.types.OpFault.{OpFault}
@@ -33,3 +33,11 @@ type_or (Err Legality) op args consts =
 
 abbrev pub operation_type : PrimOp → List NumTy → List ℕ → NumTy
 operation_type op args consts = type_or (typed op args consts) op args consts
+
+-- of a condition and two arms
+abbrev pub mux_type : NumTy → NumTy → NumTy → NumTy
+mux_type c a b = record { signed = a.signed; width = if is_over c.width then over else max a.width b.width }
+
+-- of a condition and a value
+abbrev pub validif_type : NumTy → NumTy → NumTy
+validif_type c a = record { signed = a.signed; width = if is_over c.width then over else a.width }

@@ -47,7 +47,7 @@ module _ (net : FlatNet) (whole : IsNet net) (order : List Read) (is_order : IsO
         let before = is_order.after i (read.Leaf k) (read.Leaf j) here hangs in
         same.each before.0 j before.1 before.2 (record { leaf = can.0; at = can.1; ticking = can.2 })
 
-    role_same : (r : Role) → l.role ≡ r → IsRole net.leaves net.nodes l.width r → role_clock net c k r ≡ role_clock net d k r
+    role_same : (r : Role) → l.role ≡ r → IsRole net.leaves net.nodes l.signed l.width r → role_clock net c k r ≡ role_clock net d k r
     role_same role.Input is can = refl
     role_same role.Clock is can = refl
     role_same (role.Output r) is can = refl

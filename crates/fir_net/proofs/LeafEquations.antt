@@ -4,8 +4,8 @@ use Rattle.std.specs.Prelude.{slice_get, Option, Some, None}
 use Rattle.std.proofs.lemmas.Nat.{pow_pos}
 use Rattle.fir_base.specs.Ticks.{Tick, HasShape}
 use Rattle.fir_base.proofs.Elements.{all_there}
-use Rattle.fir_bits.specs.Values.{BitVector}
 use Rattle.fir_bits.specs.working.Laws.{HasItsType}
+use Rattle.fir_bits.specs.declared.values.Num.{Num}
 use Rattle.fir_net.specs.declared.reads.Read.{Read}
 use Rattle.fir_net.specs.declared.reads.Read.TheVariants as read
 use Rattle.fir_net.specs.declared.leaf.ResetKind.{ResetKind}
@@ -18,10 +18,11 @@ use Rattle.fir_net.specs.declared.net.FlatNet.{FlatNet}
 use Rattle.fir_net.specs.working.Dependence.{kind_reads, reset_reads, role_reads, leaf_reads, Reads}
 use Rattle.fir_net.specs.working.IsNet.{CanRead, CanBeReset, IsRole, IsLeaf, IsNet}
 use Rattle.fir_net.specs.working.IsOrder.{IsOrder}
-use Rattle.fir_net.specs.working.Values.{leaf_width}
-use Rattle.fir_net.specs.working.Settled.{value_at, at_width, is_high, shown_by, shown, shape, inputs, registers}
+use Rattle.fir_net.specs.working.Values.{at_width, leaf_width}
+use Rattle.fir_net.specs.working.Settled.{value_at, is_high, shown_by, shown, shape, inputs, registers}
 use Rattle.fir_net.proofs.Places.{place_of, place_fits}
-use Rattle.fir_net.proofs.WholeValues.{LeavesFit, width_at, fit_below, value_whole}
+use Rattle.fir_net.specs.working.Laws.{LeavesFit}
+use Rattle.fir_net.proofs.WholeValues.{width_at, fit_below, value_whole}
 use Rattle.fir_net.proofs.AlongOrder.{SameBefore, HangsBefore}
 use Rattle.fir_net.proofs.ValuesAlong.{IsPlain, values_agree}
 
@@ -44,8 +45,8 @@ pub equation_at : (net : FlatNet) (state : List ℕ) (tick : Tick) (env : ℕ �
 equation_at net state tick env k l r at is = ap (leaf_value net state tick env k) at ∙ ap (role_value net state tick env k l.width) is
 
 -- what a leaf's role asks for
-pub driven_at : (net : FlatNet) → IsNet net → (k : ℕ) (l : Leaf) (r : Role) → slice_get net.leaves k ≡ Some l → l.role ≡ r → IsRole net.leaves net.nodes l.width r
-driven_at net whole k l r at is = subst (IsRole net.leaves net.nodes l.width) is (all_there (IsLeaf net.leaves net.nodes) net.leaves whole.leaves k l at).driven
+pub driven_at : (net : FlatNet) → IsNet net → (k : ℕ) (l : Leaf) (r : Role) → slice_get net.leaves k ≡ Some l → l.role ≡ r → IsRole net.leaves net.nodes l.signed l.width r
+driven_at net whole k l r at is = subst (IsRole net.leaves net.nodes l.signed l.width) is (all_there (IsLeaf net.leaves net.nodes) net.leaves whole.leaves k l at).driven
 
 one_of : (b : Bool) (x y w : ℕ) → x < 2 ^ w → y < 2 ^ w → (if b then x else y) < 2 ^ w
 one_of true x y w h g = h
@@ -60,20 +61,20 @@ module _ (law : HasItsType) (net : FlatNet) (whole : IsNet net) (env : ℕ → �
   shown_by_below w Synchronous condition init word can h = h
   shown_by_below w Asynchronous condition init word can h = one_of (is_high net env condition) (at_width (value_at net env init) w) word w (fitted_below w init can) h
 
-  shown_below : (w : ℕ) (o : Option Reset) (word : ℕ) → CanBeReset net.leaves net.nodes o → word < 2 ^ w → shown net env w o word < 2 ^ w
-  shown_below w None word can h = h
-  shown_below w (Some d) word can h = shown_by_below w d.kind d.condition d.init word can.init h
+  shown_below : (w : ℕ) (signed : Bool) (o : Option Reset) (word : ℕ) → CanBeReset net.leaves net.nodes signed o → word < 2 ^ w → shown net env w o word < 2 ^ w
+  shown_below w signed None word can h = h
+  shown_below w signed (Some d) word can h = shown_by_below w d.kind d.condition d.init word can.init.can h
 
   module _ (state : List ℕ) (tick : Tick) (shaped : HasShape (shape net) state tick) where
-    role_below : (k : ℕ) (l : Leaf) (r : Role) → slice_get net.leaves k ≡ Some l → IsRole net.leaves net.nodes l.width r → role_value net state tick env k l.width r < 2 ^ l.width
+    role_below : (k : ℕ) (l : Leaf) (r : Role) → slice_get net.leaves k ≡ Some l → IsRole net.leaves net.nodes l.signed l.width r → role_value net state tick env k l.width r < 2 ^ l.width
     role_below k l role.Input at is = subst (λ (w : ℕ). slice_index tick.inputs (place_of k (inputs net)) < 2 ^ w) (width_at net.leaves k l at) (place_fits (leaf_width net.leaves) (inputs net) tick.inputs shaped.inputs_fit k)
     role_below k l role.Clock at is = pow_pos l.width
-    role_below k l (role.Output r) at is = fitted_below l.width r is
-    role_below k l (role.Wire r) at is = fitted_below l.width r is
+    role_below k l (role.Output r) at is = fitted_below l.width r is.can
+    role_below k l (role.Wire r) at is = fitted_below l.width r is.can
     role_below k l (role.Register d) at is =
         let word : slice_index state (place_of k (registers net)) < 2 ^ l.width =
         subst (λ (w : ℕ). slice_index state (place_of k (registers net)) < 2 ^ w) (width_at net.leaves k l at) (place_fits (leaf_width net.leaves) (registers net) state shaped.state_fits k) in
-        shown_below l.width d.reset (slice_index state (place_of k (registers net))) is.1 word
+        shown_below l.width l.signed d.reset (slice_index state (place_of k (registers net))) is.1 word
     role_below k l (role.ClockOutput c) at is = pow_pos l.width
     role_below k l (role.ClockWire c) at is = pow_pos l.width
 
@@ -93,7 +94,7 @@ module _ (net : FlatNet) (whole : IsNet net) (order : List Read) (is_order : IsO
         values_agree net whole order is_order e f i same i before.0 r before.1 (omega arith) before.2 can
 
     fitted_same : (place : ℕ) (r : Read) → slice_get (role_reads l.role) place ≡ Some r → CanRead net.leaves net.nodes r → at_width (value_at net e r) l.width ≡ at_width (value_at net f r) l.width
-    fitted_same place r reads can = ap (λ (v : BitVector). at_width v l.width) (read_same place r reads can)
+    fitted_same place r reads can = ap (λ (v : Num). at_width v l.width) (read_same place r reads can)
 
     shown_by_same : (kind : ResetKind) (condition init : Read) (word : ℕ) → role_reads l.role ≡ kind_reads kind condition init → CanRead net.leaves net.nodes condition → CanRead net.leaves net.nodes init
         → shown_by net e l.width kind condition init word ≡ shown_by net f l.width kind condition init word
@@ -103,15 +104,15 @@ module _ (net : FlatNet) (whole : IsNet net) (order : List Read) (is_order : IsO
         let value = fitted_same 1 init (ap (λ (rs : List Read). slice_get rs 1) reads) d in
         rw (high, value) refl
 
-    shown_same : (o : Option Reset) (word : ℕ) → role_reads l.role ≡ reset_reads o → CanBeReset net.leaves net.nodes o → shown net e l.width o word ≡ shown net f l.width o word
+    shown_same : (o : Option Reset) (word : ℕ) → role_reads l.role ≡ reset_reads o → CanBeReset net.leaves net.nodes l.signed o → shown net e l.width o word ≡ shown net f l.width o word
     shown_same None word reads can = refl
-    shown_same (Some d) word reads can = shown_by_same d.kind d.condition d.init word reads can.condition can.init
+    shown_same (Some d) word reads can = shown_by_same d.kind d.condition d.init word reads can.condition can.init.can
 
-    role_same : (r : Role) → l.role ≡ r → IsRole net.leaves net.nodes l.width r → role_value net state tick e k l.width r ≡ role_value net state tick f k l.width r
+    role_same : (r : Role) → l.role ≡ r → IsRole net.leaves net.nodes l.signed l.width r → role_value net state tick e k l.width r ≡ role_value net state tick f k l.width r
     role_same role.Input is can = refl
     role_same role.Clock is can = refl
-    role_same (role.Output r) is can = fitted_same 0 r (ap (λ (x : Role). slice_get (role_reads x) 0) is) can
-    role_same (role.Wire r) is can = fitted_same 0 r (ap (λ (x : Role). slice_get (role_reads x) 0) is) can
+    role_same (role.Output r) is can = fitted_same 0 r (ap (λ (x : Role). slice_get (role_reads x) 0) is) can.can
+    role_same (role.Wire r) is can = fitted_same 0 r (ap (λ (x : Role). slice_get (role_reads x) 0) is) can.can
     role_same (role.Register d) is can = shown_same d.reset (slice_index state (place_of k (registers net))) (ap role_reads is) can.1
     role_same (role.ClockOutput c) is can = refl
     role_same (role.ClockWire c) is can = refl

@@ -9,6 +9,7 @@ pub mod Places
 pub mod NodeReads
 pub mod KnownValues
 pub mod AlongOrder
+pub mod WholeNodes
 pub mod WholeValues
 pub mod ValuesAlong
 pub mod NumberedLeaves

@@ -1,8 +1,7 @@
 -- What nodes read: leaves that are no clocks, and nodes before them. The value of a node hangs on these alone.
 use Rattle.std.proofs.Common.{◌≡◌, ℕ, zero, suc, List, [], ◌∷◌, ◌++◌, take, refl, ap, subst, arith, append_assoc, append-nil, length-take}
 use Rattle.std.specs.Prelude.{slice_get, Some}
-use Rattle.fir_bits.specs.Values.{BitVector}
-use Rattle.fir_bits.specs.Operators.{applied}
+use Rattle.fir_bits.specs.Operators.{outcome}
 use Rattle.fir_bits.specs.declared.values.Num.{Num}
 use Rattle.fir_base.proofs.Elements.{all_there}
 use Rattle.fir_net.specs.declared.reads.Read.{Read}
@@ -10,19 +9,18 @@ use Rattle.fir_net.specs.declared.reads.Read.TheVariants as read
 use Rattle.fir_net.specs.declared.leaf.Leaf.{Leaf}
 use Rattle.fir_net.specs.declared.node.Node.{Node}
 use Rattle.fir_net.specs.declared.node.Node.TheVariants as node
-use Rattle.fir_net.specs.working.Values.{read_value, unsigned, node_value, chosen}
+use Rattle.fir_net.specs.working.Values.{read_value, node_value, chosen}
 use Rattle.fir_net.specs.working.Dependence.{support_of}
-use Rattle.fir_net.specs.working.IsNet.{CanRead, IsNode, AreNodes}
+use Rattle.fir_net.specs.working.IsNet.{node_type, CanRead, IsNode, AreNodes}
 use Rattle.fir_net.proofs.Places.{map_at}
 
 -- the value of a node hangs on what it reads alone
-pub same_node : (leaves : List Leaf) (e f : ℕ → ℕ) (known others : List BitVector) (n : Node) → ((j : ℕ) (r : Read) → slice_get (support_of n) j ≡ Some r → read_value leaves e known r ≡ read_value leaves f others r)
+pub same_node : (leaves : List Leaf) (e f : ℕ → ℕ) (known others : List Num) (n : Node) → ((j : ℕ) (r : Read) → slice_get (support_of n) j ≡ Some r → read_value leaves e known r ≡ read_value leaves f others r)
     → node_value leaves e known n ≡ node_value leaves f others n
 same_node leaves e f known others (node.Literal v) h = refl
 same_node leaves e f known others (node.Operation o) h =
-    ap (λ (xs : List Num). applied o.op xs o.integers)
-    (map_at (λ r. unsigned (read_value leaves e known r)) (λ r. unsigned (read_value leaves f others r)) o.reads (λ j r at. ap unsigned (h j r at)))
-same_node leaves e f known others (node.Mux m) h = ap (chosen m.width) (map_at (read_value leaves e known) (read_value leaves f others) m.reads h)
+    ap (λ (xs : List Num). outcome o.op xs o.integers) (map_at (read_value leaves e known) (read_value leaves f others) o.reads h)
+same_node leaves e f known others (node.Mux m) h = ap (chosen (node_type (node.Mux m))) (map_at (read_value leaves e known) (read_value leaves f others) m.reads h)
 
 -- each node stands over those before it
 pub node_at : (leaves : List Leaf) (ns before : List Node) → AreNodes leaves before ns → (k : ℕ) (n : Node) → slice_get ns k ≡ Some n → IsNode leaves (before ++ take k ns) n

@@ -12,10 +12,9 @@ use Rattle.fir_net.specs.declared.net.FlatNet.{FlatNet}
 use Rattle.fir_net.specs.working.IsNet.{IsNet}
 use Rattle.fir_net.specs.working.IsOrder.{IsOrder}
 use Rattle.fir_net.specs.working.One.{HasOne}
-use Rattle.fir_net.specs.working.Laws.{OrderedHasOne}
+use Rattle.fir_net.specs.working.Laws.{LeavesFit, OrderedHasOne}
 use Rattle.fir_net.specs.working.Settled.{shape, is_clock, Settled}
 use Rattle.fir_net.proofs.AlongOrder.{MeetsBefore, Filled, agree, fill}
-use Rattle.fir_net.proofs.WholeValues.{LeavesFit}
 use Rattle.fir_net.proofs.ValuesAlong.{IsPlain}
 use Rattle.fir_net.proofs.LeafEquations.{value_equation, value_below, values_hang}
 use Rattle.fir_net.proofs.ClockEquations.{IsTicking, clock_equation, clocks_hang}

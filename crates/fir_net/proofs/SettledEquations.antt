@@ -11,11 +11,11 @@ use Rattle.fir_net.specs.declared.leaf.Role.TheVariants as role
 use Rattle.fir_net.specs.declared.leaf.Leaf.{Leaf}
 use Rattle.fir_net.specs.declared.net.FlatNet.{FlatNet}
 use Rattle.fir_net.specs.working.IsNet.{IsNet}
-use Rattle.fir_net.specs.working.Values.{leaf_width}
-use Rattle.fir_net.specs.working.Settled.{with_bits, input_number, register_number, clock_number, inputs, clocks, registers, shape, value_at, at_width, is_clock, driver, clock_driver, driven_clock, shown, Settled}
+use Rattle.fir_net.specs.working.Values.{at_width, leaf_width}
+use Rattle.fir_net.specs.working.Settled.{with_bits, input_number, register_number, clock_number, inputs, clocks, registers, shape, value_at, is_clock, driver, clock_driver, driven_clock, shown, Settled}
 use Rattle.fir_net.proofs.Places.{place_of, value_at_place, values_at_places}
 use Rattle.fir_net.proofs.NumberedLeaves.{inputs_own, clocks_own, registers_own, input_role, clock_role, place_among, among, leaf_at}
-use Rattle.fir_net.proofs.WholeValues.{LeavesFit}
+use Rattle.fir_net.specs.working.Laws.{LeavesFit}
 use Rattle.fir_net.proofs.ValuesAlong.{IsPlain}
 use Rattle.fir_net.proofs.LeafEquations.{role_value, value_equation, equation_at, value_below}
 use Rattle.fir_net.proofs.ClockEquations.{IsTicking, role_clock, clock_equation, clock_at}

@@ -7,7 +7,7 @@ use Rattle.fir_net.specs.declared.reads.Read.TheVariants as read
 use Rattle.fir_net.specs.declared.leaf.Leaf.{Leaf}
 use Rattle.fir_net.specs.declared.node.Node.{Node}
 use Rattle.fir_net.specs.declared.net.FlatNet.{FlatNet}
-use Rattle.fir_net.specs.working.Values.{leaf_width, values}
+use Rattle.fir_net.specs.working.Values.{number_of, leaf_type, values}
 use Rattle.fir_net.specs.working.Dependence.{support_of, node_reads, Reads}
 use Rattle.fir_net.specs.working.IsNet.{CanRead, IsNode, IsNet}
 use Rattle.fir_net.specs.working.IsOrder.{IsOrder}
@@ -26,7 +26,7 @@ module _ (net : FlatNet) (whole : IsNet net) (order : List Read) (is_order : IsO
   pub values_agree : (n : ℕ) → SameBefore order (IsPlain net) n e f → (m i : ℕ) (v : Read) → i < m → m ≤ n → slice_get order i ≡ Some v → CanRead net.leaves net.nodes v → value_at net e v ≡ value_at net f v
   values_agree n agree zero i v l le at can = absurd (omega (arith, l))
   values_agree n agree (suc m) i (read.Leaf k) l le at can =
-      ap (λ (x : ℕ). record { width = leaf_width net.leaves k; number = x }) (agree.each i k (omega (arith, l, le)) at (record { leaf = can.0; at = can.1; plain = can.2 }))
+      ap (number_of (leaf_type net.leaves k)) (agree.each i k (omega (arith, l, le)) at (record { leaf = can.0; at = can.1; plain = can.2 }))
   values_agree n agree (suc m) i (read.Node k) l le at can =
       let found = there net.nodes k can in
       let node = found.0 in

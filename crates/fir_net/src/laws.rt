@@ -1,6 +1,6 @@
 //! Laws about the definitions, each the contract of a function that does nothing.
 
-ghost use Rattle.fir_net.specs.working.Laws.{NodesHaveTheirValues, OrderedHasOne};
+ghost use Rattle.fir_net.specs.working.Laws.{NodesHaveTheirValues, NodesHaveTheirTypes, OrderedHasOne};
 
 use fir_bits::laws::has_its_type;
 
@@ -8,6 +8,13 @@ use fir_bits::laws::has_its_type;
 pub fn nodes_have_their_values()
     ensures { NodesHaveTheirValues }
 {}
+
+/// Where the leaves of a whole net have values of their widths, what can be read has a value of its type.
+pub fn nodes_have_their_types()
+    ensures { NodesHaveTheirTypes }
+{
+    has_its_type()
+}
 
 /// A whole net whose leaves and nodes have an order has exactly one choice of values at every state and tick.
 pub fn ordered_has_one()

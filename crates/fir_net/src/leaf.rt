@@ -60,6 +60,8 @@ pub struct Leaf {
     pub path: Name,
     /// Where it is declared.
     pub place: Place,
+    /// Whether its value is read as signed, an SInt. A clock's is not.
+    pub signed: bool,
     /// Its width in bits, which is 1 for a clock.
     pub width: u32,
     pub role: Role,

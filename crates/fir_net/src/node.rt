@@ -5,15 +5,16 @@ ghost use Rattle.fir_net.specs.working.Dependence.{support_of};
 
 use crate::reads::{Read, Reads};
 use fir_base::Seq;
-use fir_bits::{Bits, PrimOp};
+use fir_bits::{Num, PrimOp};
 use std::hash::{Hash, Hasher};
 
-/// An operation, with the width of its result in bits.
+/// An operation, with the type of its result: whether it is an SInt, and its width in bits.
 #[derive(Drop)]
 pub struct Operation {
     pub op: PrimOp,
     pub reads: Reads,
     pub integers: Seq<u128>,
+    pub signed: bool,
     pub width: u32,
 }
 
@@ -29,6 +30,7 @@ impl PartialEq for Operation {
         self.op == other.op
             && self.reads == other.reads
             && self.integers.as_slice() == other.integers.as_slice()
+            && self.signed == other.signed
             && self.width == other.width
     }
 }
@@ -50,22 +52,25 @@ impl Hash for Operation {
         (self.op as u8).hash(state);
         self.reads.hash(state);
         self.integers.as_slice().hash(state);
+        self.signed.hash(state);
         self.width.hash(state);
     }
 }
 
-/// A choice between two values, with the width of its result in bits.
+/// A choice between two values of one signedness, with the type of its result: whether it is an SInt, and its
+/// width in bits, which is the greater one of theirs.
 #[derive(PartialEq, Eq, Hash, Drop)]
 pub struct Mux {
     /// The condition, what counts where it is 1, and what counts where it is 0.
     pub reads: [Read; 3],
+    pub signed: bool,
     pub width: u32,
 }
 
-/// A node: a value that is computed from leaves and from nodes of lower numbers. All values are unsigned.
+/// A node: a value that is computed from leaves and from nodes of lower numbers.
 #[derive(PartialEq, Eq, Drop)]
 pub enum Node {
-    Literal(Bits),
+    Literal(Num),
     Operation(Operation),
     Mux(Mux),
 }
@@ -94,8 +99,9 @@ impl Hash for Node {
         match self {
             Node::Literal(value) => {
                 state.write_u8(0);
-                value.width().hash(state);
-                value.bits().hash(state);
+                value.signed.hash(state);
+                value.value.width().hash(state);
+                value.value.bits().hash(state);
             }
             Node::Operation(operation) => {
                 state.write_u8(1);

@@ -1,5 +1,6 @@
 //! The names of a net, its counts and what its nodes read, against what was worked out by hand.
 
+mod muxes;
 mod sharing;
 mod word;
 
@@ -13,7 +14,7 @@ use crate::{
 };
 use fir_ast::Place;
 use fir_base::{MemoryOut, Name, Seq};
-use fir_bits::{Bits, PrimOp};
+use fir_bits::{Bits, Num, PrimOp};
 use std::alloc::Global;
 use std::test::Fail;
 use word::{path, word};
@@ -84,7 +85,10 @@ fn a_net_has_its_counts(rt: HostRuntime) -> Result<(), Fail> {
 
 #[test]
 fn a_node_reads_its_operands(rt: HostRuntime) -> Result<(), Fail> {
-    let literal = Node::Literal(Bits::of(1, 1));
+    let literal = Node::Literal(Num {
+        signed: false,
+        value: Bits::of(1, 1),
+    });
     assert_eq!(rt; literal.support().len(), 0);
     let mut reads = Reads::new(rt.alloc());
     reads.push(driver())?;
@@ -93,6 +97,7 @@ fn a_node_reads_its_operands(rt: HostRuntime) -> Result<(), Fail> {
         op: PrimOp::Cat,
         reads,
         integers: Seq::from_vec(Vec::new(rt.alloc())),
+        signed: false,
         width: 12,
     });
     assert_eq!(rt;
@@ -101,6 +106,7 @@ fn a_node_reads_its_operands(rt: HostRuntime) -> Result<(), Fail> {
     );
     let mux = Node::Mux(Mux {
         reads: choice(),
+        signed: false,
         width: 8,
     });
     assert_eq!(rt; mux.support(), choice().as_slice());
@@ -135,6 +141,7 @@ fn leaves_of(alloc: Global) -> Result<Seq<Leaf>, MemoryOut>
         leaves.push(Leaf {
             path,
             place,
+            signed: false,
             width,
             role: role_of(kind),
         })?;

@@ -2,12 +2,13 @@
 use Rattle.std.proofs.Common.{◌≡◌, List, length, map, sym, ap, ◌∙◌, subst}
 use Rattle.std.specs.List.{AllByRecursion}
 use Rattle.fir_base.specs.Ticks.{Tick}
-use Rattle.fir_bits.specs.Values.{BitVector, IsBitVector}
+use Rattle.fir_bits.specs.Values.{IsBitVector}
+use Rattle.fir_bits.specs.declared.values.Num.{Num}
 use Rattle.fir_net.specs.declared.reads.Read.{Read}
 use Rattle.fir_net.specs.declared.net.FlatNet.{FlatNet}
 use Rattle.fir_sim.specs.declared.plan.Plan.{Plan}
 use Rattle.fir_sim.specs.declared.values.Values.{Values}
-use Rattle.fir_sim.specs.working.Held.{IsHeld}
+use Rattle.fir_sim.specs.working.Held.{IsNum, IsHeld}
 use Rattle.fir_sim.specs.working.Views.{IsTickOf}
 use Rattle.fir_sim.specs.working.Settling.{IsSettled}
 use Rattle.fir_sim.specs.working.Passes.{with_inputs, with_state, IsPlaced, IsShown, IsWithin, output_value, register_value}
@@ -54,7 +55,7 @@ module _ (net : FlatNet) (order : List Read) (p : Plan) (tick : Tick) (is_tick :
           held4 : IsHeld net v4.leaves.items
           held4 = subst (IsHeld net) (sym leaves4) settled3.held
 
-          pub whole4 : AllByRecursion IsBitVector v4.leaves.items
+          pub whole4 : AllByRecursion IsNum v4.leaves.items
           whole4 = held4.whole
 
           pub placed4 : AllByRecursion (IsPlaced (length v4.leaves.items)) p.registers.items
@@ -86,17 +87,17 @@ module _ (net : FlatNet) (order : List Read) (p : Plan) (tick : Tick) (is_tick :
 
             settled5 : IsSettled net v2.leaves.items v5.leaves.items v5.nodes.items
             settled5 =
-                subst (λ (ls : List BitVector). IsSettled net v2.leaves.items ls v5.nodes.items) (sym (leaves5 ∙ leaves4))
+                subst (λ (ls : List Num). IsSettled net v2.leaves.items ls v5.nodes.items) (sym (leaves5 ∙ leaves4))
                 (subst (IsSettled net v2.leaves.items v3.leaves.items) (sym (nodes5 ∙ nodes4)) settled3)
 
             pub ticked : IsTicked net p tick v0 v5 v2.leaves.items
             ticked = record {
               put = put;
               settled = settled5;
-              outputs = outputs5 ∙ outputs ∙ ap (λ (ls : List BitVector). map (output_value ls) p.outputs.items) (sym (leaves5 ∙ leaves4));
+              outputs = outputs5 ∙ outputs ∙ ap (λ (ls : List Num). map (output_value ls) p.outputs.items) (sym (leaves5 ∙ leaves4));
               outputs_whole = subst (AllByRecursion IsBitVector) (sym outputs5) outputs_whole;
               state =
-                  state ∙ ap (λ (ls : List BitVector). map (register_value ls v4.nodes.items tick.clocks) p.registers.items) (sym leaves5)
-                  ∙ ap (λ (ns : List BitVector). map (register_value v5.leaves.items ns tick.clocks) p.registers.items) (sym nodes5);
+                  state ∙ ap (λ (ls : List Num). map (register_value ls v4.nodes.items tick.clocks) p.registers.items) (sym leaves5)
+                  ∙ ap (λ (ns : List Num). map (register_value v5.leaves.items ns tick.clocks) p.registers.items) (sym nodes5);
               state_whole = state_whole;
             }

@@ -2,9 +2,9 @@ pub mod ShapeNames
 pub mod ShapeNumbers
 pub mod ShapeWords
 pub mod WholeShapes
-pub mod Typings
 pub mod Walks
 pub mod HeldValues
+pub mod HeldReads
 pub mod HeldTypes
 pub mod Settling
 pub mod ClockRoots
@@ -21,3 +21,4 @@ pub mod Placings
 pub mod PlanFacts
 pub mod PlanLists
 pub mod PlanPairs
+pub mod TestLeaves

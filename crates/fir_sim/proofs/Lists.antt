@@ -1,13 +1,7 @@
 -- Elements of lists by their places, what holds of each, and lists whose elements are related in pairs.
-use Rattle.std.proofs.Common.{◌≡◌, ℕ, zero, suc, ◌<◌, List, [], ◌∷◌, ◌++◌, length, map, set, refl, ap, arith, Some, unwrap_or}
+use Rattle.std.proofs.Common.{◌≡◌, ℕ, zero, suc, ◌<◌, List, [], ◌∷◌, ◌++◌, length, map, set, refl, ap, arith, Some}
 use Rattle.std.specs.Prelude.{slice_get}
 use Rattle.std.specs.List.{AllByRecursion, AllZip}
-
--- the element at a place, or the other past the end
-pub all_or : {A : Type 0} → (P : A → Type 0) (xs : List A) (d : A) → AllByRecursion P xs → P d → (k : ℕ) → P (unwrap_or (slice_get xs k) d)
-all_or P [] d h other k = other
-all_or P (x ∷ xs) d h other zero = h.0
-all_or P (x ∷ xs) d h other (suc k) = all_or P xs d h.1 other k
 
 pub all_set : {A : Type 0} → (P : A → Type 0) (xs : List A) (k : ℕ) (x : A) → AllByRecursion P xs → P x → AllByRecursion P (set xs k x)
 all_set P [] k x h p = tt
@@ -30,11 +24,9 @@ get_set_other (y ∷ xs) zero x (suc j) h = refl
 get_set_other (y ∷ xs) (suc k) x zero h = refl
 get_set_other (y ∷ xs) (suc k) x (suc j) h = get_set_other xs k x j (λ e. h (ap suc e))
 
--- a change that keeps a value of the element keeps the list of these values
-pub map_set_same : {A : Type 0} → (f : A → ℕ) (xs : List A) (k : ℕ) (x : A) → slice_get (map f xs) k ≡ Some (f x) → map f (set xs k x) ≡ map f xs
-map_set_same f [] k x h = refl
-map_set_same f (y ∷ xs) zero x h = let same : f y ≡ f x = cc in rw same refl
-map_set_same f (y ∷ xs) (suc k) x h = ap (λ r. f y ∷ r) (map_set_same f xs k x h)
+pub map_both : {A B C : Type 0} → (f : A → B) (g : B → C) (xs : List A) → map g (map f xs) ≡ map (λ x. g (f x)) xs
+map_both f g [] = refl
+map_both f g (x ∷ xs) = ap (λ r. g (f x) ∷ r) (map_both f g xs)
 
 -- pairs
 pub pairs_joined : {A B : Type 0} → (R : A → B → Type 0) (xs us : List A) (ys vs : List B) → AllZip R xs ys → AllZip R us vs → AllZip R (xs ++ us) (ys ++ vs)

@@ -8,7 +8,8 @@ use Rattle.fir_net.specs.declared.leaf.Register.{Register}
 use Rattle.fir_net.specs.declared.leaf.Role.TheVariants as role
 use Rattle.fir_net.specs.declared.leaf.Leaf.{Leaf}
 use Rattle.fir_net.specs.declared.net.FlatNet.{FlatNet}
-use Rattle.fir_net.specs.working.Values.{leaf_width}
+use Rattle.fir_bits.specs.declared.types.NumTy.{NumTy}
+use Rattle.fir_net.specs.working.Values.{leaf_width, type_of_leaf}
 use Rattle.fir_net.specs.working.IsNet.{IsNet}
 use Rattle.fir_net.specs.working.Settled.{inputs, outputs, registers, shape}
 use Rattle.fir_sim.specs.declared.plan.InputPlan.{InputPlan}
@@ -18,14 +19,13 @@ use Rattle.fir_sim.specs.declared.plan.Plan.{Plan}
 use Rattle.fir_sim.specs.working.Views.{output_widths}
 use Rattle.fir_sim.specs.working.Plans.{IsPlan}
 use Rattle.fir_sim.specs.working.Passes.{input_leaf, input_width, output_width, register_leaf, register_width, IsWithin, IsPlaced, IsShown, IsNarrowOutput, IsNarrowRegister}
-use Rattle.fir_sim.specs.working.Held.{width_of_leaf}
 use Rattle.fir_net.proofs.WholeValues.{width_at}
 use Rattle.fir_sim.proofs.Lists.{pairs_left, pairs_right, pairs_same}
-use Rattle.fir_sim.proofs.Placings.{Apart}
+use Rattle.fir_sim.proofs.Placings.{Apart, HasWidthAt}
 use Rattle.fir_sim.proofs.PlanPairs.{IsInput, IsOutput, IsRegister, inputs_paired, outputs_paired, registers_paired}
 
-pub wide_at : (ls : List Leaf) (k : ℕ) (l : Leaf) → slice_get ls k ≡ Some l → slice_get (map width_of_leaf ls) k ≡ Some l.width
-wide_at ls k l e = slice_get-map width_of_leaf ls k ∙ ap (option_map width_of_leaf) e
+pub wide_at : (ls : List Leaf) (k : ℕ) (l : Leaf) → slice_get ls k ≡ Some l → HasWidthAt (map type_of_leaf ls) k l.width
+wide_at ls k l e = ap (option_map (λ (t : NumTy). t.width)) (slice_get-map type_of_leaf ls k ∙ ap (option_map type_of_leaf) e)
 
 -- a leaf is not both
 clash : (o : Option Leaf) (a b : Leaf) (d : Register) → o ≡ Some a → o ≡ Some b → a.role ≡ role.Input → b.role ≡ role.Register d → ⊥
@@ -82,17 +82,17 @@ module _ (net : FlatNet) (whole : IsNet net) (p : Plan) (plan : IsPlan net p) wh
   registers_narrow = pairs_left (IsRegister net plan.roots) IsNarrowRegister (λ q k i. i.narrow) p.registers.items (registers net) register_pairs
 
   -- the widths at the places
-  pub inputs_wide : AllByRecursion (λ q. slice_get (map width_of_leaf net.leaves) (input_leaf q) ≡ Some (input_width q)) p.inputs.items
-  inputs_wide = pairs_left (IsInput net) (λ q. slice_get (map width_of_leaf net.leaves) q.leaf ≡ Some q.width) wide p.inputs.items (inputs net) input_pairs
+  pub inputs_wide : AllByRecursion (λ q. HasWidthAt (map type_of_leaf net.leaves) (input_leaf q) (input_width q)) p.inputs.items
+  inputs_wide = pairs_left (IsInput net) (λ q. HasWidthAt (map type_of_leaf net.leaves) q.leaf q.width) wide p.inputs.items (inputs net) input_pairs
     where
-      wide : (q : InputPlan) (k : ℕ) → IsInput net q k → slice_get (map width_of_leaf net.leaves) q.leaf ≡ Some q.width
-      wide q k i = ap (slice_get (map width_of_leaf net.leaves)) i.place ∙ wide_at net.leaves k i.leaf i.at ∙ ap (λ (w : ℕ). Some w) i.width
+      wide : (q : InputPlan) (k : ℕ) → IsInput net q k → HasWidthAt (map type_of_leaf net.leaves) q.leaf q.width
+      wide q k i = ap (λ (j : ℕ). option_map (λ (t : NumTy). t.width) (slice_get (map type_of_leaf net.leaves) j)) i.place ∙ wide_at net.leaves k i.leaf i.at ∙ ap (λ (w : ℕ). Some w) i.width
 
-  pub registers_wide : AllByRecursion (λ q. slice_get (map width_of_leaf net.leaves) (register_leaf q) ≡ Some (register_width q)) p.registers.items
-  registers_wide = pairs_left (IsRegister net plan.roots) (λ q. slice_get (map width_of_leaf net.leaves) q.leaf ≡ Some q.width) wide p.registers.items (registers net) register_pairs
+  pub registers_wide : AllByRecursion (λ q. HasWidthAt (map type_of_leaf net.leaves) (register_leaf q) (register_width q)) p.registers.items
+  registers_wide = pairs_left (IsRegister net plan.roots) (λ q. HasWidthAt (map type_of_leaf net.leaves) q.leaf q.width) wide p.registers.items (registers net) register_pairs
     where
-      wide : (q : RegisterPlan) (k : ℕ) → IsRegister net plan.roots q k → slice_get (map width_of_leaf net.leaves) q.leaf ≡ Some q.width
-      wide q k i = ap (slice_get (map width_of_leaf net.leaves)) i.place ∙ wide_at net.leaves k i.leaf i.at ∙ ap (λ (w : ℕ). Some w) i.width
+      wide : (q : RegisterPlan) (k : ℕ) → IsRegister net plan.roots q k → HasWidthAt (map type_of_leaf net.leaves) q.leaf q.width
+      wide q k i = ap (λ (j : ℕ). option_map (λ (t : NumTy). t.width) (slice_get (map type_of_leaf net.leaves) j)) i.place ∙ wide_at net.leaves k i.leaf i.at ∙ ap (λ (w : ℕ). Some w) i.width
 
 -- no register is an input
 pub registers_apart : (net : FlatNet) → IsNet net → AllByRecursion (λ k. Apart k (inputs net)) (registers net)

@@ -66,15 +66,15 @@ pub record IsRegister (net : FlatNet) (roots : List (Option ℕ)) (p : RegisterP
   pub clock : p.clock ≡ root_at roots register.clock
   pub reset : p.reset ≡ register.reset
   pub next : p.next ≡ register.next
-  pub driven : IsRole net.leaves net.nodes leaf.width (role.Register register)
+  pub driven : IsRole net.leaves net.nodes leaf.signed leaf.width (role.Register register)
 
 module _ (net : FlatNet) (whole : IsNet net) where
   module _ (k : ℕ) (l : Leaf) (at : slice_get net.leaves k ≡ Some l) where
     is_leaf : IsLeaf net.leaves net.nodes l
     is_leaf = all_there (IsLeaf net.leaves net.nodes) net.leaves whole.leaves k l at
 
-    pub driven_by : (r : Role) → l.role ≡ r → IsRole net.leaves net.nodes l.width r
-    driven_by r e = subst (IsRole net.leaves net.nodes l.width) e is_leaf.driven
+    pub driven_by : (r : Role) → l.role ≡ r → IsRole net.leaves net.nodes l.signed l.width r
+    driven_by r e = subst (IsRole net.leaves net.nodes l.signed l.width) e is_leaf.driven
 
     one_input : (r : Role) → l.role ≡ r → AllZip (IsInput net) (input_plan r l.width k) (input_number r l.width k)
     one_input role.Input e = pair_planned (IsInput net) l.width (record { leaf = k; width = l.width }) k (record { leaf = l; at = at; kind = e; place = refl; width = refl; narrow = is_leaf.narrow })

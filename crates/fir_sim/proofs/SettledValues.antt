@@ -1,11 +1,11 @@
 -- Held values that are settled are settled values of the net.
-use Rattle.std.proofs.Common.{◌≡◌, ℕ, zero, suc, ◌^◌, ◌<◌, List, [], ◌∷◌, take, map, length, refl, sym, ap, ◌∙◌, subst, arith, Bool, true, false, if◌then◌else◌, unwrap_or, length-take, lit<, lit≤}
+use Rattle.std.proofs.Common.{◌≡◌, ℕ, List, [], ◌∷◌, map, refl, ap, ◌∙◌, Bool, true, false, if◌then◌else◌}
 use Rattle.std.specs.Prelude.{slice_get, Option, Some, None}
 use Rattle.std.specs.List.{AllByRecursion}
 use Rattle.std.proofs.lemmas.Option.{slice_get_within}
 use Rattle.fir_base.specs.Ticks.{Tick, FitEach}
-use Rattle.fir_base.proofs.Elements.{there}
-use Rattle.fir_bits.specs.Values.{BitVector, IsBitVector}
+use Rattle.fir_bits.specs.Values.{BitVector}
+use Rattle.fir_bits.specs.declared.values.Num.{Num}
 use Rattle.fir_net.specs.declared.reads.Read.{Read}
 use Rattle.fir_net.specs.declared.reads.Read.TheVariants as read
 use Rattle.fir_net.specs.declared.leaf.ResetKind.{ResetKind}
@@ -14,30 +14,22 @@ use Rattle.fir_net.specs.declared.leaf.Reset.{Reset}
 use Rattle.fir_net.specs.declared.leaf.Role.{Role}
 use Rattle.fir_net.specs.declared.leaf.Role.TheVariants as role
 use Rattle.fir_net.specs.declared.leaf.Leaf.{Leaf}
-use Rattle.fir_net.specs.declared.node.Node.{Node}
-use Rattle.fir_net.specs.declared.node.Node.TheVariants as node
 use Rattle.fir_net.specs.declared.net.FlatNet.{FlatNet}
-use Rattle.fir_net.specs.working.Values.{no_value, node_value, values}
+use Rattle.fir_net.specs.working.Values.{at_width}
 use Rattle.fir_net.specs.working.IsNet.{CanRead, CanBeReset, IsNet}
 use Rattle.fir_net.specs.working.Laws.{NodesHaveTheirValues}
-use Rattle.fir_net.specs.working.Settled.{value_at, at_width, driver, shown_by, shown, is_high, inputs, registers, shape, Settled}
+use Rattle.fir_net.specs.working.Settled.{value_at, driver, shown_by, shown, is_high, inputs, registers, shape, Settled}
 use Rattle.fir_net.proofs.Places.{value_at_place}
-use Rattle.fir_net.proofs.NodeReads.{node_at, reads_can, can_more}
-use Rattle.fir_net.proofs.WholeValues.{width_at}
 use Rattle.fir_net.proofs.LeafEquations.{driven_at}
-use Rattle.fir_sim.specs.working.Held.{entry, env_of, held_value}
+use Rattle.fir_sim.specs.working.Held.{entry, env_of, held_value, with_value}
 use Rattle.fir_sim.specs.working.Views.{IsTickOf}
-use Rattle.fir_sim.specs.working.Operands.{held_node, held_node_at}
+use Rattle.fir_sim.specs.working.Operands.{held_node_at}
 use Rattle.fir_sim.specs.working.Plans.{root_at, AreRoots}
 use Rattle.fir_sim.specs.working.Settling.{fitted_to, is_one, held_under, held_register, held_role, held_leaf_at, IsSettled}
 use Rattle.fir_sim.specs.declared.plan.InputPlan.{InputPlan}
-use Rattle.fir_sim.proofs.Lists.{all_or, pairs_right}
+use Rattle.fir_sim.proofs.Lists.{pairs_right}
 use Rattle.fir_sim.proofs.PlanPairs.{IsInput, inputs_paired}
-use Rattle.fir_sim.proofs.HeldValues.{node_same}
-use Rattle.fir_sim.proofs.HeldTypes.{entry_wide}
-
-no_bits : IsBitVector no_value
-no_bits = record { narrow = lit≤ tt; below = lit< tt }
+use Rattle.fir_sim.proofs.HeldReads.{leaves_fit, leaf_read, node_read}
 
 map_same : {A B : Type 0} → (f g : A → B) (xs : List A) → AllByRecursion (λ x. f x ≡ g x) xs → map f xs ≡ map g xs
 map_same f g [] h = refl
@@ -48,43 +40,22 @@ pub number_of_choice : (b : Bool) (x y : BitVector) → (if b then x else y).num
 number_of_choice true x y = refl
 number_of_choice false x y = refl
 
-module _ (law : NodesHaveTheirValues) (net : FlatNet) (whole : IsNet net) (start leaves nodes : List BitVector) (s : IsSettled net start leaves nodes) where
-  abbrev pub value : Read → BitVector
+module _ (law : NodesHaveTheirValues) (net : FlatNet) (whole : IsNet net) (start leaves nodes : List Num) (s : IsSettled net start leaves nodes) where
+  abbrev pub value : Read → Num
   value = held_value leaves nodes
 
   abbrev pub env : ℕ → ℕ
   env = env_of leaves
 
-  leaf_read : (k : ℕ) → value (read.Leaf k) ≡ value_at net env (read.Leaf k)
-  leaf_read k = ap (λ (w : ℕ). record { width = w; number = env k }) (entry_wide leaves net.leaves s.held.widths k)
-
-  same_node : (n : Node) → held_node (value_at net env) n ≡ node_value net.leaves env (values net env) n
-  same_node (node.Literal v) = refl
-  same_node (node.Operation o) = refl
-  same_node (node.Mux m) = refl
-
-  -- a node's value, where those before it have theirs
-  node_over : (k : ℕ) (n : Node) → slice_get net.nodes k ≡ Some n → ((i : ℕ) → i < k → i < length net.nodes → value (read.Node i) ≡ value_at net env (read.Node i)) → value (read.Node k) ≡ value_at net env (read.Node k)
-  node_over k n at before =
-      s.meets (read.Node k) (slice_get_within net.nodes k n at) ∙ ap (held_node_at value) at
-      ∙ node_same value (value_at net env) n (λ j r e. by r (reads_can net.leaves (take k net.nodes) n (node_at net.leaves net.nodes [] whole.nodes k n at) j r e)) ∙ same_node n
-      ∙ sym (ap (λ (o : Option BitVector). unwrap_or o no_value) (law net env k n whole at))
-    where
-      by : (r : Read) → CanRead net.leaves (take k net.nodes) r → value r ≡ value_at net env r
-      by (read.Leaf i) can = leaf_read i
-      by (read.Node i) can = let long = length-take k net.nodes in before i (omega (arith, can, long)) (can_more net.leaves net.nodes k (read.Node i) can)
-
-  node_read : (m k : ℕ) → k < m → k < length net.nodes → value (read.Node k) ≡ value_at net env (read.Node k)
-  node_read zero k l within = absurd (omega (arith, l))
-  node_read (suc m) k l within = let found = there net.nodes k within in node_over k found.0 found.1 (λ i less of. node_read m i (omega (arith, l, less)) of)
-
   -- what is held is what is read
   pub same_read : (r : Read) → CanRead net.leaves net.nodes r → value r ≡ value_at net env r
-  same_read (read.Leaf k) can = leaf_read k
-  same_read (read.Node k) can = node_read (suc k) k (omega arith) can
+  same_read (read.Leaf k) can = leaf_read net leaves s.held law whole nodes k
+  same_read (read.Node k) can =
+      node_read net leaves s.held law whole nodes (λ i. Unit {0}) (λ i j has reads. tt)
+      (λ i n has at. s.meets (read.Node i) (slice_get_within net.nodes i n at) ∙ ap (held_node_at value) at) k can tt
 
   pub same_fitted : (w : ℕ) (r : Read) → CanRead net.leaves net.nodes r → at_width (value r) w ≡ at_width (value_at net env r) w
-  same_fitted w r can = ap (λ (v : BitVector). at_width v w) (same_read r can)
+  same_fitted w r can = ap (λ (v : Num). at_width v w) (same_read r can)
 
   pub same_high : (r : Read) → CanRead net.leaves net.nodes r → is_one (value r) ≡ is_high net env r
   same_high r can = ap is_one (same_read r can)
@@ -96,19 +67,16 @@ module _ (law : NodesHaveTheirValues) (net : FlatNet) (whole : IsNet net) (start
       ∙ ap (λ (b : Bool). if b then at_width (value i) w else now.number) (same_high c can_c)
       ∙ ap (λ (n : ℕ). if is_high net env c then n else now.number) (same_fitted w i can_i)
 
-  register_shown : (w : ℕ) (o : Option Reset) (now : BitVector) → CanBeReset net.leaves net.nodes o → (held_register value w o now).number ≡ shown net env w o now.number
-  register_shown w None now can = refl
-  register_shown w (Some r) now can = under_shown w r.kind r.condition r.init now can.condition can.init
+  register_shown : (w : ℕ) (signed : Bool) (o : Option Reset) (now : BitVector) → CanBeReset net.leaves net.nodes signed o → (held_register value w o now).number ≡ shown net env w o now.number
+  register_shown w signed None now can = refl
+  register_shown w signed (Some r) now can = under_shown w r.kind r.condition r.init now can.condition can.init.can
 
   -- each leaf has what its role gives it
-  leaf_is : (k : ℕ) (l : Leaf) (r : Role) → slice_get net.leaves k ≡ Some l → l.role ≡ r → env k ≡ (held_role value l.width (entry start k) r).number
+  leaf_is : (k : ℕ) (l : Leaf) (r : Role) → slice_get net.leaves k ≡ Some l → l.role ≡ r → env k ≡ (held_role value l.width (entry start k).value r).number
   leaf_is k l r at is =
-      ap (λ (v : BitVector). v.number) (s.meets (read.Leaf k) (slice_get_within net.leaves k l at) ∙ ap (held_leaf_at value (entry start k)) at ∙ ap (held_role value l.width (entry start k)) is)
-
-  fits : (k : ℕ) (l : Leaf) → slice_get net.leaves k ≡ Some l → env k < 2 ^ l.width
-  fits k l at =
-      let is = all_or IsBitVector leaves no_value s.held.whole no_bits k in
-      subst (λ (w : ℕ). env k < 2 ^ w) (entry_wide leaves net.leaves s.held.widths k ∙ width_at net.leaves k l at) is.below
+      ap (λ (v : Num). v.value.number)
+      (s.meets (read.Leaf k) (slice_get_within net.leaves k l at) ∙ ap (λ (o : Option Leaf). with_value (entry start k) (held_leaf_at value (entry start k).value o)) at
+      ∙ ap (λ (x : Role). with_value (entry start k) (held_role value l.width (entry start k).value x)) is)
 
   input_kept : (p : InputPlan) (k : ℕ) → IsInput net p k → env k ≡ env_of start k
   input_kept p k i = leaf_is k i.leaf role.Input i.at i.kind
@@ -116,8 +84,8 @@ module _ (law : NodesHaveTheirValues) (net : FlatNet) (whole : IsNet net) (start
   role_driven : (k : ℕ) (l : Leaf) (x : Role) (r : Read) → slice_get net.leaves k ≡ Some l → l.role ≡ x → driver x ≡ Some r → env k ≡ at_width (value_at net env r) l.width
   role_driven k l role.Input r at is e = cc
   role_driven k l role.Clock r at is e = cc
-  role_driven k l (role.Output q) r at is e = let same : q ≡ r = cc in leaf_is k l (role.Output q) at is ∙ same_fitted l.width q (driven_at net whole k l (role.Output q) at is) ∙ ap (λ (p : Read). at_width (value_at net env p) l.width) same
-  role_driven k l (role.Wire q) r at is e = let same : q ≡ r = cc in leaf_is k l (role.Wire q) at is ∙ same_fitted l.width q (driven_at net whole k l (role.Wire q) at is) ∙ ap (λ (p : Read). at_width (value_at net env p) l.width) same
+  role_driven k l (role.Output q) r at is e = let same : q ≡ r = cc in leaf_is k l (role.Output q) at is ∙ same_fitted l.width q (driven_at net whole k l (role.Output q) at is).can ∙ ap (λ (p : Read). at_width (value_at net env p) l.width) same
+  role_driven k l (role.Wire q) r at is e = let same : q ≡ r = cc in leaf_is k l (role.Wire q) at is ∙ same_fitted l.width q (driven_at net whole k l (role.Wire q) at is).can ∙ ap (λ (p : Read). at_width (value_at net env p) l.width) same
   role_driven k l (role.Register d) r at is e = cc
   role_driven k l (role.ClockOutput c) r at is e = cc
   role_driven k l (role.ClockWire c) r at is e = cc
@@ -126,10 +94,10 @@ module _ (law : NodesHaveTheirValues) (net : FlatNet) (whole : IsNet net) (start
       → Settled net state tick env (root_at roots)
   settles roots are state tick is state_fits given kept = record {
     shaped = record { inputs_fit = is.inputs; clocks_rise = is.clocks; state_fits = state_fits };
-    fits = λ k l at plain. fits k l at;
+    fits = (leaves_fit net leaves s.held).each;
     input_values = map_same env (env_of start) (inputs net) (pairs_right (IsInput net) (λ k. env k ≡ env_of start k) input_kept _ (inputs net) (inputs_paired net whole)) ∙ given;
     registers_show = λ n k l d e at is_d.
-        leaf_is k l (role.Register d) at is_d ∙ register_shown l.width d.reset (entry start k) (driven_at net whole k l (role.Register d) at is_d).1
+        leaf_is k l (role.Register d) at is_d ∙ register_shown l.width l.signed d.reset (entry start k).value (driven_at net whole k l (role.Register d) at is_d).1
         ∙ ap (shown net env l.width d.reset) (value_at_place (env_of start) (registers net) state kept n k e);
     driven = λ k l r at e. role_driven k l l.role r at refl e;
     clock_inputs = are.inputs;

@@ -3,7 +3,9 @@ use Rattle.std.proofs.Common.{◌≡◌, ℕ, ◌≤◌, List, [], ◌∷◌, le
 use Rattle.std.specs.List.{AllByRecursion}
 use Rattle.std.proofs.Math.Pow.{pow_pos}
 use Rattle.fir_base.specs.Ticks.{FitEach}
+use Rattle.fir_base.proofs.Each.{all_mapped}
 use Rattle.fir_bits.specs.Values.{BitVector, IsBitVector}
+use Rattle.fir_bits.specs.Operators.{type_of}
 use Rattle.fir_net.specs.declared.net.FlatNet.{FlatNet}
 use Rattle.fir_net.specs.working.IsNet.{IsLeaf, IsNet}
 use Rattle.fir_net.specs.working.Settled.{shape}
@@ -12,12 +14,12 @@ use Rattle.fir_net.specs.declared.reads.Read.{Read}
 use Rattle.fir_sim.specs.declared.plan.Plan.{Plan}
 use Rattle.fir_sim.specs.declared.plan.RegisterPlan.{RegisterPlan}
 use Rattle.fir_sim.specs.declared.values.Values.{Values}
-use Rattle.fir_sim.specs.working.Held.{IsHeld}
+use Rattle.fir_sim.specs.working.Held.{IsNum, IsHeld}
 use Rattle.fir_sim.specs.working.Views.{numbers, widths}
 use Rattle.fir_sim.specs.working.Plans.{IsPlan}
-use Rattle.fir_sim.specs.working.Passes.{zero_of, leaf_zero, output_zero, register_width, values_of, IsNarrowLeaf, IsNarrowRegister}
+use Rattle.fir_sim.specs.working.Passes.{zero_of, leaf_zero, output_zero, register_width, values_of, IsNarrowOutput, IsNarrowRegister}
 use Rattle.fir_sim.specs.working.Running.{IsRunning}
-use Rattle.fir_sim.proofs.Lists.{all_map}
+use Rattle.fir_sim.proofs.Lists.{all_map, map_both}
 use Rattle.fir_sim.proofs.Placings.{values_numbers, values_widths, values_whole}
 use Rattle.fir_sim.proofs.PlanFacts.{shown_widths, state_widths, outputs_narrow, registers_narrow}
 use Rattle.fir_sim.proofs.Ticking.{widths_of}
@@ -25,20 +27,21 @@ use Rattle.fir_sim.proofs.Ticking.{widths_of}
 zero_whole : (w : ℕ) → w ≤ 128 → IsBitVector (zero_of w)
 zero_whole w narrow = record { narrow = narrow; below = pow_pos w }
 
-zeros_whole : {P : Type 0} → (width : P → ℕ) (ps : List P) → AllByRecursion (λ q. width q ≤ 128) ps → AllByRecursion IsBitVector (map (λ q. zero_of (width q)) ps)
-zeros_whole width [] h = tt
-zeros_whole width (q ∷ ps) h = (zero_whole (width q) h.0, zeros_whole width ps h.1)
-
 narrow_words : (ps : List RegisterPlan) → AllByRecursion IsNarrowRegister ps → AllByRecursion (λ w. w ≤ 128) (map register_width ps)
 narrow_words [] h = tt
 narrow_words (q ∷ ps) h = (h.0, narrow_words ps h.1)
 
 module _ (net : FlatNet) (whole : IsNet net) where
-  narrow_leaves : AllByRecursion IsNarrowLeaf net.leaves
-  narrow_leaves = all_map (IsLeaf net.leaves net.nodes) IsNarrowLeaf (λ l is. is.narrow) net.leaves whole.leaves
-
   zeros_held : IsHeld net (map leaf_zero net.leaves)
-  zeros_held = record { widths = widths_of leaf_zero net.leaves; whole = zeros_whole (λ l. l.width) net.leaves narrow_leaves }
+  zeros_held = record {
+    types = map_both leaf_zero type_of net.leaves;
+    whole = all_mapped IsNum leaf_zero net.leaves (all_map (IsLeaf net.leaves net.nodes) (λ l. IsNum (leaf_zero l)) (λ l is. zero_whole l.width is.narrow) net.leaves whole.leaves);
+  }
+
+  zeros_whole : (p : Plan) → IsPlan net p → AllByRecursion IsBitVector (map output_zero p.outputs.items)
+  zeros_whole p plan =
+      all_mapped IsBitVector output_zero p.outputs.items
+      (all_map IsNarrowOutput (λ q. IsBitVector (output_zero q)) (λ q narrow. zero_whole q.width narrow) p.outputs.items (outputs_narrow net whole p plan))
 
   module _ (p : Plan) (plan : IsPlan net p) (ns : List ℕ) (fit : FitEach (shape net).state ns) where
     pub fit_registers : FitEach (map register_width p.registers.items) ns
@@ -63,7 +66,7 @@ module _ (net : FlatNet) (whole : IsNet net) where
         ordered = ordered;
         view = record {
           outputs = ap widths outputs ∙ widths_of output_zero p.outputs.items ∙ shown_widths net whole p plan;
-          outputs_are = subst (AllByRecursion IsBitVector) (sym outputs) (zeros_whole (λ q. q.width) p.outputs.items (outputs_narrow net whole p plan));
+          outputs_are = subst (AllByRecursion IsBitVector) (sym outputs) (zeros_whole p plan);
           state = ap widths state ∙ words_wide;
           state_is = subst (AllByRecursion IsBitVector) (sym state) words_whole;
         };

@@ -5,23 +5,30 @@ ghost use Rattle.std.specs.List.{AllByRecursion};
 ghost use Rattle.fir_bits.specs.Values.{IsBitVector};
 ghost use Rattle.fir_net.specs.working.IsNet.{IsNet};
 ghost use Rattle.fir_net.specs.working.IsOrder.{IsOrder};
-ghost use Rattle.fir_net.specs.working.Values.{unsigned, chosen};
-ghost use Rattle.fir_sim.specs.working.Held.{entry, held_value, leaves_with, nodes_with, IsHeld};
-ghost use Rattle.fir_sim.specs.working.Operands.{HasType, IsWide, NodeHasType, held_operation, held_node};
+ghost use Rattle.fir_net.specs.working.Values.{chosen};
+ghost use Rattle.fir_sim.specs.working.Held.{entry, held_value, with_value, leaves_with, nodes_with, IsNum, IsHeld};
+ghost use Rattle.fir_sim.specs.working.Operands.{HasType, NodeHasType, held_operation, held_node};
 ghost use Rattle.fir_sim.specs.working.Settling.{fitted_to, is_one, hangs, held_register, held_role, worth, CanSettle, IsSettled};
 
 use fir_bits::{Bits, Num, apply};
+use fir_net::laws::{nodes_have_their_types, nodes_have_their_values};
 use fir_net::{FlatNet, Leaf, Mux, Node, Operation, Read, Reset, ResetKind, Role};
 
+/// The value of no bits.
+pub const NO_VALUE: Num = Num {
+    signed: false,
+    value: Bits::EMPTY,
+};
+
 /// The value at the number, or the one of no bits past the end.
-fn entry(values: &[Bits], number: usize) -> Bits
+fn entry(values: &[Num], number: usize) -> Num
     ensures { result ≡ entry values.now number }
 {
-    values.get(number).copied().unwrap_or(Bits::EMPTY)
+    values.get(number).copied().unwrap_or(NO_VALUE)
 }
 
 /// The value that is read.
-pub fn held_value(leaves: &[Bits], nodes: &[Bits], read: Read) -> Bits
+pub fn held_value(leaves: &[Num], nodes: &[Num], read: Read) -> Num
     ensures { result ≡ held_value leaves.now nodes.now read }
 {
     match read {
@@ -30,74 +37,73 @@ pub fn held_value(leaves: &[Bits], nodes: &[Bits], read: Read) -> Bits
     }
 }
 
-/// The value at a width: with zeros above it, or its low bits.
-pub fn fitted(value: Bits, width: u32) -> Bits
+/// The bits of a value at a width: extended by its sign, or cut.
+pub fn fitted(value: Num, width: u32) -> Bits
     requires { width ≤ 128 }
     ensures value { result ≡ fitted_to value width }
     ensures whole { IsBitVector result }
 {
-    if value.width() == width {
-        value
+    if value.value.width() == width {
+        value.value
     } else {
-        value.fit(false, width)
+        value.value.fit(value.signed, width)
     }
 }
 
 /// Whether a condition is 1.
-pub fn is_high(leaves: &[Bits], nodes: &[Bits], condition: Read) -> bool
+pub fn is_high(leaves: &[Num], nodes: &[Num], condition: Read) -> bool
     ensures { result ≡ is_one (held_value leaves.now nodes.now condition) }
 {
-    held_value(leaves, nodes, condition).bits() == 1
+    held_value(leaves, nodes, condition).value.bits() == 1
 }
 
-/// What an operation reads, as an operand.
-fn operand(leaves: &[Bits], nodes: &[Bits], read: Read) -> Num
-    ensures { result ≡ unsigned (held_value leaves.now nodes.now read) }
-{
-    Num {
-        signed: false,
-        value: held_value(leaves, nodes, read),
-    }
-}
-
-/// The result of an operation.
-fn held_operation(leaves: &[Bits], nodes: &[Bits], operation: &Operation) -> Bits
+/// The bits of the result of an operation.
+fn result_bits(leaves: &[Num], nodes: &[Num], operation: &Operation) -> Bits
     requires { HasType (held_value leaves.now nodes.now) operation.now }
-    ensures { result ≡ held_operation (held_value leaves.now nodes.now) operation.now }
+    ensures { result ≡ (held_operation (held_value leaves.now nodes.now) operation.now).value }
 {
     let integers = operation.integers.as_slice();
     match operation.reads.as_slice() {
-        [a] => apply(operation.op, &[operand(leaves, nodes, *a)], integers),
+        [a] => apply(operation.op, &[held_value(leaves, nodes, *a)], integers),
         [a, b] => apply(
             operation.op,
-            &[operand(leaves, nodes, *a), operand(leaves, nodes, *b)],
+            &[held_value(leaves, nodes, *a), held_value(leaves, nodes, *b)],
             integers,
         ),
         _ => unreachable!(),
     }
 }
 
-/// The one of two values that a condition chooses, at the greater one of their widths.
-fn held_mux(leaves: &[Bits], nodes: &[Bits], mux: &Mux) -> Bits
-    requires { IsWide (held_value leaves.now nodes.now) mux.now }
-    ensures { result ≡ chosen mux.now.width (map (held_value leaves.now nodes.now) mux.now.reads) }
+/// The result of an operation.
+fn held_operation(leaves: &[Num], nodes: &[Num], operation: &Operation) -> Num
+    requires { HasType (held_value leaves.now nodes.now) operation.now }
+    ensures { result ≡ held_operation (held_value leaves.now nodes.now) operation.now }
+{
+    Num {
+        signed: operation.signed,
+        value: result_bits(leaves, nodes, operation),
+    }
+}
+
+/// The one of two values that a condition chooses, at the mux's width.
+fn held_mux(leaves: &[Num], nodes: &[Num], mux: &Mux) -> Num
+    requires { mux.now.width ≤ 128 }
+    ensures { result ≡ chosen (record { signed = mux.now.signed; width = mux.now.width }) (map (held_value leaves.now nodes.now) mux.now.reads) }
 {
     let [condition, one, zero] = mux.reads;
-    let (one, zero) = (
-        held_value(leaves, nodes, one),
-        held_value(leaves, nodes, zero),
-    );
-    let width = one.width().max(zero.width());
-    let value = if is_high(leaves, nodes, condition) {
+    let taken = if is_high(leaves, nodes, condition) {
         one
     } else {
         zero
     };
-    value.extend(false, width)
+    Num {
+        signed: mux.signed,
+        value: fitted(held_value(leaves, nodes, taken), mux.width),
+    }
 }
 
 /// The value of a node.
-fn held_node(leaves: &[Bits], nodes: &[Bits], node: &Node) -> Bits
+fn held_node(leaves: &[Num], nodes: &[Num], node: &Node) -> Num
     requires { NodeHasType (held_value leaves.now nodes.now) node.now }
     ensures { result ≡ held_node (held_value leaves.now nodes.now) node.now }
 {
@@ -109,13 +115,7 @@ fn held_node(leaves: &[Bits], nodes: &[Bits], node: &Node) -> Bits
 }
 
 /// What a register shows whose word is this.
-fn held_register(
-    leaves: &[Bits],
-    nodes: &[Bits],
-    width: u32,
-    reset: Option<Reset>,
-    now: Bits,
-) -> Bits
+fn held_register(leaves: &[Num], nodes: &[Num], width: u32, reset: Option<Reset>, now: Bits) -> Bits
     requires narrow { width ≤ 128 }
     requires whole { IsBitVector now }
     ensures value { result ≡ held_register (held_value leaves.now nodes.now) width reset now }
@@ -133,8 +133,8 @@ fn held_register(
     }
 }
 
-/// The value of a leaf at which this one was put.
-fn held_role(leaves: &[Bits], nodes: &[Bits], leaf: &Leaf, now: Bits) -> Bits
+/// The bits of a leaf at which these were put.
+fn held_role(leaves: &[Num], nodes: &[Num], leaf: &Leaf, now: Bits) -> Bits
     requires narrow { leaf.now.width ≤ 128 }
     requires whole { IsBitVector now }
     ensures value { result ≡ held_role (held_value leaves.now nodes.now) leaf.now.width now leaf.now.role }
@@ -152,15 +152,15 @@ fn held_role(leaves: &[Bits], nodes: &[Bits], leaf: &Leaf, now: Bits) -> Bits
 }
 
 /// Gives a leaf its value.
-fn settle_leaf(leaves: &mut [Bits], nodes: &[Bits], leaf: &Leaf, number: usize)
+fn settle_leaf(leaves: &mut [Num], nodes: &[Num], leaf: &Leaf, number: usize)
     requires narrow { leaf.now.width ≤ 128 }
     requires within { number < length leaves.old }
-    requires whole { AllByRecursion IsBitVector leaves.old }
-    ensures value { leaves.new ≡ slice_set leaves.old number (held_role (held_value leaves.old nodes.now) leaf.now.width (entry leaves.old number) leaf.now.role) }
-    ensures whole { AllByRecursion IsBitVector leaves.new }
+    requires whole { AllByRecursion IsNum leaves.old }
+    ensures value { leaves.new ≡ slice_set leaves.old number (with_value (entry leaves.old number) (held_role (held_value leaves.old nodes.now) leaf.now.width (entry leaves.old number).value leaf.now.role)) }
+    ensures whole { AllByRecursion IsNum leaves.new }
 {
     if hangs(leaf.role) {
-        leaves[number] = held_role(leaves, nodes, leaf, leaves[number]);
+        leaves[number].value = held_role(leaves, nodes, leaf, leaves[number].value);
     }
 }
 
@@ -179,12 +179,12 @@ fn hangs(role: Role) -> bool
 }
 
 /// Gives a leaf or a node its value.
-fn settle_one(net: &FlatNet, leaves: &mut [Bits], nodes: &mut [Bits], read: Read)
+fn settle_one(net: &FlatNet, leaves: &mut [Num], nodes: &mut [Num], read: Read)
     requires can { CanSettle net.now leaves.old nodes.old read }
-    requires whole { AllByRecursion IsBitVector leaves.old }
+    requires whole { AllByRecursion IsNum leaves.old }
     ensures leaves { leaves.new ≡ leaves_with read (worth net.now leaves.old (held_value leaves.old nodes.old) read) leaves.old }
     ensures nodes { nodes.new ≡ nodes_with read (worth net.now leaves.old (held_value leaves.old nodes.old) read) nodes.old }
-    ensures whole { AllByRecursion IsBitVector leaves.new }
+    ensures whole { AllByRecursion IsNum leaves.new }
 {
     match read {
         Read::Leaf(leaf) => {
@@ -199,13 +199,15 @@ fn settle_one(net: &FlatNet, leaves: &mut [Bits], nodes: &mut [Bits], read: Read
 }
 
 /// Gives all leaves and nodes their values, in an order. It takes no memory.
-pub fn settle(net: &FlatNet, order: &[Read], leaves: &mut [Bits], nodes: &mut [Bits])
+pub fn settle(net: &FlatNet, order: &[Read], leaves: &mut [Num], nodes: &mut [Num])
     requires whole { IsNet net.now }
     requires ordered { IsOrder net.now order.now }
     requires held { IsHeld net.now leaves.old }
     requires room { length nodes.old ≡ length net.now.nodes }
     ensures { IsSettled net.now leaves.old leaves.new nodes.new }
 {
+    nodes_have_their_values();
+    nodes_have_their_types();
     for read in order {
         settle_one(net, leaves, nodes, *read);
     }

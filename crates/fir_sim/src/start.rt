@@ -5,9 +5,10 @@ ghost use Rattle.std.specs.List.{AllByRecursion};
 ghost use Rattle.fir_base.specs.Ticks.{FitEach};
 ghost use Rattle.fir_sim.specs.working.Passes.{values_of, leaf_zero, output_zero, register_width, IsNarrowLeaf, IsNarrowOutput, IsNarrowRegister};
 
+use crate::evaluate::NO_VALUE;
 use crate::plan::{OutputPlan, RegisterPlan};
 use fir_base::MemoryOut;
-use fir_bits::Bits;
+use fir_bits::{Bits, Num};
 use fir_net::Leaf;
 use std::alloc::Global;
 
@@ -28,14 +29,17 @@ pub fn state_of(
     Ok(state)
 }
 
-/// A 0 for each leaf, at its width.
-pub fn leaf_zeros(alloc: Global, leaves: &[Leaf]) -> Result<Vec<Bits>, MemoryOut>
+/// A 0 for each leaf, of its type.
+pub fn leaf_zeros(alloc: Global, leaves: &[Leaf]) -> Result<Vec<Num>, MemoryOut>
     requires { AllByRecursion IsNarrowLeaf leaves.now }
     ensures { IfOk result (λ v. v.items ≡ map leaf_zero leaves.now) }
 {
     let mut zeros = Vec::new(alloc);
     for leaf in leaves {
-        zeros.push(Bits::of(leaf.width, 0))?;
+        zeros.push(Num {
+            signed: leaf.signed,
+            value: Bits::of(leaf.width, 0),
+        })?;
     }
     Ok(zeros)
 }
@@ -53,8 +57,8 @@ pub fn output_zeros(alloc: Global, plans: &[OutputPlan]) -> Result<Vec<Bits>, Me
 }
 
 /// Room for the values of so many nodes.
-pub fn node_room(alloc: Global, count: usize) -> Result<Vec<Bits>, MemoryOut>
+pub fn node_room(alloc: Global, count: usize) -> Result<Vec<Num>, MemoryOut>
     ensures { IfOk result (λ v. length v.items ≡ count) }
 {
-    Ok(vec![in alloc; Bits::EMPTY; count]?)
+    Ok(vec![in alloc; NO_VALUE; count]?)
 }

@@ -12,7 +12,7 @@ use fir_base::MemoryOut;
 use fir_bits::Bits;
 use fir_loop::{Order, order};
 use fir_net::FlatNet;
-use nets::{resets, sum, wires};
+use nets::{resets, signs, sum, wires};
 use std::alloc::Global;
 use std::test::Fail;
 use trace_text::Init;
@@ -69,6 +69,22 @@ fn a_reset_wins_and_a_register_without_a_clock_holds(rt: HostRuntime) -> Result<
     assert!(rt; shows(&sim, &[0x6, 0x9, 0x3], &[0x9, 0x9, 0x3]));
     sim.step(&[0, 0x5], &[0]);
     assert!(rt; shows(&sim, &[0x9, 0x9, 0x3], &[0x5, 0x5, 0x3]));
+    Ok(())
+}
+
+/// The output is -a where c is 1, and else b: -3 is 0x3d in its six bits.
+#[test]
+fn a_mux_and_an_output_extend_signed_values(rt: HostRuntime) -> Result<(), Fail> {
+    let net = signs(rt.alloc())?;
+    let order = order_of(rt.alloc(), &net)?;
+    let words = Vec::new(rt.alloc());
+    let mut sim = Sim::new(rt.alloc(), net, order, &Init::new(words))?;
+    sim.step(&[0x3, 0x2, 1], &[]);
+    assert!(rt; shows(&sim, &[0x3d], &[]));
+    sim.step(&[0x8, 0x2, 1], &[]);
+    assert!(rt; shows(&sim, &[0x08], &[]));
+    sim.step(&[0x3, 0x5, 0], &[]);
+    assert!(rt; shows(&sim, &[0x3d], &[]));
     Ok(())
 }
 

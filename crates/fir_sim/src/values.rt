@@ -6,13 +6,13 @@ ghost use Rattle.fir_base.specs.Ticks.{FitEach};
 ghost use Rattle.fir_bits.specs.Values.{IsBitVector};
 ghost use Rattle.fir_net.specs.working.IsNet.{IsNet};
 ghost use Rattle.fir_net.specs.working.IsOrder.{IsOrder};
-ghost use Rattle.fir_sim.specs.working.Held.{IsHeld};
+ghost use Rattle.fir_sim.specs.working.Held.{IsNum, IsHeld};
 ghost use Rattle.fir_sim.specs.working.Settling.{IsSettled};
 ghost use Rattle.fir_sim.specs.working.Passes.{input_width, with_inputs, with_state, IsWithin, IsPlaced, IsShown, output_value, register_value};
 
 use crate::plan::Plan;
 use crate::{evaluate, passes};
-use fir_bits::Bits;
+use fir_bits::{Bits, Num};
 use fir_loop::Order;
 use fir_net::FlatNet;
 
@@ -20,8 +20,8 @@ use fir_net::FlatNet;
 /// values of the outputs and the words of the state, in their order.
 #[derive(Drop)]
 pub(crate) struct Values {
-    pub leaves: Vec<Bits>,
-    pub nodes: Vec<Bits>,
+    pub leaves: Vec<Num>,
+    pub nodes: Vec<Num>,
     pub outputs: Vec<Bits>,
     pub state: Vec<Bits>,
 }
@@ -63,7 +63,7 @@ impl Values {
     /// Shows the outputs.
     pub fn show_outputs(&mut self, plan: &Plan)
         requires within { AllByRecursion (IsShown (length self.old.leaves.items)) plan.now.outputs.items }
-        requires held_whole { AllByRecursion IsBitVector self.old.leaves.items }
+        requires held_whole { AllByRecursion IsNum self.old.leaves.items }
         requires room { length self.old.outputs.items ≡ length plan.now.outputs.items }
         ensures outputs { self.new.outputs.items ≡ map (output_value self.old.leaves.items) plan.now.outputs.items }
         ensures whole { AllByRecursion IsBitVector self.new.outputs.items }
@@ -78,7 +78,7 @@ impl Values {
     pub fn take_edges(&mut self, plan: &Plan, named: &[usize])
         requires within { AllByRecursion (IsPlaced (length self.old.leaves.items)) plan.now.registers.items }
         requires rising { (i j : ℕ) → i ≤ j → j < length named.now → slice_index named.now i ≤ slice_index named.now j }
-        requires held_whole { AllByRecursion IsBitVector self.old.leaves.items }
+        requires held_whole { AllByRecursion IsNum self.old.leaves.items }
         requires room { length self.old.state.items ≡ length plan.now.registers.items }
         ensures state { self.new.state.items ≡ map (register_value self.old.leaves.items self.old.nodes.items named.now) plan.now.registers.items }
         ensures whole { AllByRecursion IsBitVector self.new.state.items }

@@ -3,7 +3,8 @@ pub mod Values
 pub mod Parts
 pub mod Nets
 pub mod Starting
-pub mod OneChoice
+pub mod OneRest
 pub mod OneAtom
+pub mod Operators
 pub mod OneRhs
 pub mod OneTree

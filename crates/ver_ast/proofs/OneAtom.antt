@@ -1,14 +1,12 @@
 -- No two operands have the same tokens.
 -- Behind an operand stands no bracket, so that a name alone differs from a name with a select.
-use Rattle.std.proofs.Common.{◌≡◌, ℕ, List, [], ◌∷◌, ◌++◌, Bool, true, false, refl, sym, ap, ◌∙◌, ⊎_elim, arith, append_assoc, eqb}
-use Rattle.std.specs.Prelude.{flat_map, if◌then◌else◌, ◌≢◌}
+use Rattle.std.proofs.Common.{◌≡◌, ℕ, List, ◌∷◌, ◌++◌, Bool, true, false, refl, sym, ap, ◌∙◌, ⊎_elim, arith, append_assoc, eqb}
+use Rattle.std.specs.Prelude.{if◌then◌else◌, ◌≢◌}
 use Rattle.std.proofs.lemmas.Bool.Decides.{eqb_tells}
-use Rattle.ver_ast.specs.declared.tree.Primary.{Primary}
-use Rattle.ver_ast.specs.declared.tree.Primary.TheVariants as primary
-use Rattle.ver_ast.specs.declared.tree.Atom.{Atom}
-use Rattle.ver_ast.specs.declared.tree.Atom.TheVariants as atom
+use Rattle.ver_ast.specs.Atoms.{AtomTree, net, constant, bit_select, part_select, concat, repeat, AtomTrees, no_atoms, atom_before}
 use Rattle.ver_ast.specs.Tokens.{Token, word, digit_zero, number, sign}
-use Rattle.ver_ast.specs.Grammar.{select_number, primary_tokens, next_primary_tokens, atom_tokens}
+use Rattle.ver_ast.specs.Grammar.{plain_number, atom_tokens, next_atom_tokens}
+use Rattle.ver_ast.proofs.Operators.{operand, plain, front_of}
 
 -- the sign, or the first letter of the word, at the front
 abbrev pub front : List Token → ℕ
@@ -16,9 +14,13 @@ front (sign b ∷ ts) = b
 front (word (c ∷ cs) ∷ ts) = c
 front _ = 0
 
--- the number of a select where it is known whether it is 0
+-- a plain number where it is known whether it is 0
 abbrev number_at : Bool → ℕ → Token
 number_at zero n = if zero then digit_zero else number n
+
+number_begins : (b : Bool) (n : ℕ) (r : List Token) → front_of (number_at b n ∷ r) ≡ plain
+number_begins true n r = refl
+number_begins false n r = refl
 
 split_at : (b c : Bool) (i j : ℕ) (r s : List Token) → number_at b i ∷ r ≡ number_at c j ∷ s → (b ≡ c) × (b ≡ false → i ≡ j) × (r ≡ s)
 split_at true true i j r s e = (refl, λ h. absurd (cc), (cc))
@@ -26,93 +28,121 @@ split_at true false i j r s e = absurd (cc)
 split_at false true i j r s e = absurd (cc)
 split_at false false i j r s e = (refl, λ h. (cc), (cc))
 
-same_number : (i j : ℕ) → eqb i 0 ≡ eqb j 0 → (eqb i 0 ≡ false → i ≡ j) → i ≡ j
-same_number i j e h =
+-- two numbers of which both or neither are k
+pub same_apart_from : (k i j : ℕ) → eqb i k ≡ eqb j k → (eqb i k ≡ false → i ≢ k → j ≢ k → i ≡ j) → i ≡ j
+same_apart_from k i j e h =
     ⊎_elim
-    (λ (t : (eqb i 0 ≡ true) × (i ≡ 0)). ⊎_elim
-    (λ (k : (eqb j 0 ≡ true) × (j ≡ 0)). t.1 ∙ sym k.1)
-    (λ (k : (eqb j 0 ≡ false) × (j ≢ 0)). let no : true ≡ false = sym t.0 ∙ e ∙ k.0 in absurd (cc))
-    (eqb_tells j 0))
-    (λ (t : (eqb i 0 ≡ false) × (i ≢ 0)). h t.0)
-    (eqb_tells i 0)
+    (λ (t : (eqb i k ≡ true) × (i ≡ k)). ⊎_elim
+    (λ (u : (eqb j k ≡ true) × (j ≡ k)). t.1 ∙ sym u.1)
+    (λ (u : (eqb j k ≡ false) × (j ≢ k)). let no : true ≡ false = sym t.0 ∙ e ∙ u.0 in absurd (cc))
+    (eqb_tells j k))
+    (λ (t : (eqb i k ≡ false) × (i ≢ k)). ⊎_elim
+    (λ (u : (eqb j k ≡ true) × (j ≡ k)). let no : true ≡ false = sym u.0 ∙ sym e ∙ t.0 in absurd (cc))
+    (λ (u : (eqb j k ≡ false) × (j ≢ k)). h t.0 t.1 u.1)
+    (eqb_tells j k))
+    (eqb_tells i k)
 
-split_number : (i j : ℕ) (r s : List Token) → select_number i ∷ r ≡ select_number j ∷ s → (i ≡ j) × (r ≡ s)
-split_number i j r s e = let t = split_at (eqb i 0) (eqb j 0) i j r s e in (same_number i j t.0 t.1, t.2)
+split_number : (i j : ℕ) (r s : List Token) → plain_number i ∷ r ≡ plain_number j ∷ s → (i ≡ j) × (r ≡ s)
+split_number i j r s e = let t = split_at (eqb i 0) (eqb j 0) i j r s e in (same_apart_from 0 i j t.0 (λ f _ _. t.1 f), t.2)
 
-split_primary : (p q : Primary) (r s : List Token) → front r ≢ 91 → front s ≢ 91 → primary_tokens p ++ r ≡ primary_tokens q ++ s → (p ≡ q) × (r ≡ s)
-split_primary (primary.Net n) (primary.Net m) r s h k e = ((cc), (cc))
-split_primary (primary.Net n) (primary.BitSelect m j) r s h k e = let t : r ≡ sign 91 ∷ select_number j ∷ sign 93 ∷ s = cc in absurd (h (ap front t))
-split_primary (primary.Net n) (primary.PartSelect m j l) r s h k e =
-    let t : r ≡ sign 91 ∷ select_number j ∷ sign 58 ∷ select_number l ∷ sign 93 ∷ s = cc in absurd (h (ap front t))
-split_primary (primary.BitSelect n i) (primary.Net m) r s h k e = let t : s ≡ sign 91 ∷ select_number i ∷ sign 93 ∷ r = cc in absurd (k (ap front t))
-split_primary (primary.PartSelect n i o) (primary.Net m) r s h k e =
-    let t : s ≡ sign 91 ∷ select_number i ∷ sign 58 ∷ select_number o ∷ sign 93 ∷ r = cc in absurd (k (ap front t))
-split_primary (primary.Constant w x) (primary.Constant u y) r s h k e = ((cc), (cc))
-split_primary (primary.BitSelect n i) (primary.BitSelect m j) r s h k e =
-    let tails : select_number i ∷ sign 93 ∷ r ≡ select_number j ∷ sign 93 ∷ s = cc in
-    let t = split_number i j _ _ tails in
-    let name : n ≡ m = cc in
-    let index : i ≡ j = t.0 in
-    let rest : sign 93 ∷ r ≡ sign 93 ∷ s = t.1 in
-    ((cc), (cc))
-split_primary (primary.BitSelect n i) (primary.PartSelect m j l) r s h k e =
-    let tails : select_number i ∷ sign 93 ∷ r ≡ select_number j ∷ sign 58 ∷ select_number l ∷ sign 93 ∷ s = cc in
-    let t = split_number i j _ _ tails in
-    absurd (omega (arith, ap front t.1))
-split_primary (primary.PartSelect n i o) (primary.BitSelect m j) r s h k e =
-    let tails : select_number i ∷ sign 58 ∷ select_number o ∷ sign 93 ∷ r ≡ select_number j ∷ sign 93 ∷ s = cc in
-    let t = split_number i j _ _ tails in
-    absurd (omega (arith, ap front t.1))
-split_primary (primary.PartSelect n i o) (primary.PartSelect m j l) r s h k e =
-    let tails : select_number i ∷ sign 58 ∷ select_number o ∷ sign 93 ∷ r ≡ select_number j ∷ sign 58 ∷ select_number l ∷ sign 93 ∷ s = cc in
-    let t = split_number i j _ _ tails in
-    let more : sign 58 ∷ select_number o ∷ sign 93 ∷ r ≡ sign 58 ∷ select_number l ∷ sign 93 ∷ s = t.1 in
-    let lows : select_number o ∷ sign 93 ∷ r ≡ select_number l ∷ sign 93 ∷ s = cc in
-    let u = split_number o l _ _ lows in
-    let name : n ≡ m = cc in
-    let high : i ≡ j = t.0 in
-    let low : o ≡ l = u.0 in
-    let rest : sign 93 ∷ r ≡ sign 93 ∷ s = u.1 in
-    ((cc), (cc))
-split_primary p q r s h k e = absurd (cc)
+-- the tokens in groups from the right
+concat_grouped : (a : AtomTree) (more : AtomTrees) (r : List Token)
+    → atom_tokens (concat a more) ++ r ≡ sign 123 ∷ (atom_tokens a ++ (next_atom_tokens more ++ sign 125 ∷ r))
+concat_grouped a more r = simp append_assoc
 
-primary_is_no_sign : (p : Primary) (b : ℕ) (r s : List Token) → primary_tokens p ++ r ≡ sign b ∷ s → ⊥
-primary_is_no_sign (primary.Net n) b r s e = cc
-primary_is_no_sign (primary.Constant w x) b r s e = cc
-primary_is_no_sign (primary.BitSelect n i) b r s e = cc
-primary_is_no_sign (primary.PartSelect n i l) b r s e = cc
+repeat_grouped : (count : ℕ) (a : AtomTree) (r : List Token)
+    → atom_tokens (repeat count a) ++ r ≡ sign 123 ∷ plain_number count ∷ sign 123 ∷ (atom_tokens a ++ sign 125 ∷ sign 125 ∷ r)
+repeat_grouped count a r = simp append_assoc
 
-next_is_no_bracket : (ps : List Primary) (r : List Token) → front (flat_map next_primary_tokens ps ++ sign 125 ∷ r) ≢ 91
-next_is_no_bracket [] r e = omega arith
-next_is_no_bracket (p ∷ ps) r e = omega arith
+next_grouped : (a : AtomTree) (more : AtomTrees) (r : List Token)
+    → next_atom_tokens (atom_before a more) ++ r ≡ sign 44 ∷ (atom_tokens a ++ (next_atom_tokens more ++ r))
+next_grouped a more r = simp append_assoc
 
--- the primaries behind the first, up to the closing brace
-split_next : (ps qs : List Primary) (r s : List Token) → flat_map next_primary_tokens ps ++ sign 125 ∷ r ≡ flat_map next_primary_tokens qs ++ sign 125 ∷ s → (ps ≡ qs) × (r ≡ s)
-split_next [] [] r s e = (refl, (cc))
-split_next [] (q ∷ qs) r s e = absurd (omega (arith, ap front e))
-split_next (p ∷ ps) [] r s e = absurd (omega (arith, ap front e))
-split_next (p ∷ ps) (q ∷ qs) r s e =
-    let grouped = sym (append_assoc (next_primary_tokens p) (flat_map next_primary_tokens ps) (sign 125 ∷ r)) ∙ e ∙ append_assoc (next_primary_tokens q) (flat_map next_primary_tokens qs) (sign 125 ∷ s) in
-    let behind : primary_tokens p ++ (flat_map next_primary_tokens ps ++ sign 125 ∷ r) ≡ primary_tokens q ++ (flat_map next_primary_tokens qs ++ sign 125 ∷ s) = cc in
-    let t = split_primary p q _ _ (next_is_no_bracket ps r) (next_is_no_bracket qs s) behind in
-    let rest = split_next ps qs r s t.1 in
-    (rw (t.0, rest.0) refl, rest.1)
+-- an operand begins with no number, and with no sign in front of an operand
+pub operand_front : (a : AtomTree) (r : List Token) → front_of (atom_tokens a ++ r) ≡ operand
+operand_front (net n) r = refl
+operand_front (constant width value) r = refl
+operand_front (bit_select n i) r = refl
+operand_front (part_select n hi lo) r = refl
+operand_front (concat a more) r = refl
+operand_front (repeat count a) r = refl
 
--- the tokens of a concatenation in groups from the right
-grouped : (p : Primary) (ps : List Primary) (r : List Token) → atom_tokens (atom.Concat p ps) ++ r ≡ sign 123 ∷ (primary_tokens p ++ (flat_map next_primary_tokens ps ++ sign 125 ∷ r))
-grouped p ps r = simp append_assoc
+concat_is_no_repeat : (a : AtomTree) (more : AtomTrees) (count : ℕ) (b : AtomTree) (r s : List Token)
+    → atom_tokens (concat a more) ++ r ≡ atom_tokens (repeat count b) ++ s → ⊥
+concat_is_no_repeat a more count b r s e =
+    let whole = sym (concat_grouped a more r) ∙ e ∙ repeat_grouped count b s in
+    let inside : atom_tokens a ++ (next_atom_tokens more ++ sign 125 ∷ r) ≡ plain_number count ∷ sign 123 ∷ (atom_tokens b ++ sign 125 ∷ sign 125 ∷ s) =
+    cc in
+    let no : operand ≡ plain = sym (operand_front a _) ∙ ap front_of inside ∙ number_begins (eqb count 0) count _ in
+    absurd (cc)
 
-pub split_atom : (a b : Atom) (r s : List Token) → front r ≢ 91 → front s ≢ 91 → atom_tokens a ++ r ≡ atom_tokens b ++ s → (a ≡ b) × (r ≡ s)
-split_atom (atom.Primary p) (atom.Primary q) r s h k e = let t = split_primary p q r s h k e in (ap atom.Primary t.0, t.1)
-split_atom (atom.Primary p) (atom.Concat q qs) r s h k e = absurd (primary_is_no_sign p _ _ _ (e ∙ grouped q qs s))
-split_atom (atom.Concat p ps) (atom.Primary q) r s h k e = absurd (primary_is_no_sign q _ _ _ (sym e ∙ grouped p ps r))
-split_atom (atom.Concat p ps) (atom.Concat q qs) r s h k e =
-    let whole = sym (grouped p ps r) ∙ e ∙ grouped q qs s in
-    let behind : primary_tokens p ++ (flat_map next_primary_tokens ps ++ sign 125 ∷ r) ≡ primary_tokens q ++ (flat_map next_primary_tokens qs ++ sign 125 ∷ s) = cc in
-    let t = split_primary p q _ _ (next_is_no_bracket ps r) (next_is_no_bracket qs s) behind in
-    let rest = split_next ps qs r s t.1 in
-    (rw (t.0, rest.0) refl, rest.1)
+next_is_no_bracket : (more : AtomTrees) (r : List Token) → front (next_atom_tokens more ++ sign 125 ∷ r) ≢ 91
+next_is_no_bracket no_atoms r e = omega arith
+next_is_no_bracket (atom_before a more) r e = omega arith
 
-pub atom_is_no_not : (a : Atom) (r s : List Token) → atom_tokens a ++ r ≡ sign 126 ∷ s → ⊥
-atom_is_no_not (atom.Primary p) r s e = primary_is_no_sign p 126 r s e
-atom_is_no_not (atom.Concat p ps) r s e = omega (arith, ap front e)
+mutual
+  pub split_atom : (a b : AtomTree) (r s : List Token) → front r ≢ 91 → front s ≢ 91 → atom_tokens a ++ r ≡ atom_tokens b ++ s → (a ≡ b) × (r ≡ s)
+  split_atom (net n) (net m) r s h k e = ((cc), (cc))
+  split_atom (net n) (bit_select m j) r s h k e =
+      let t : r ≡ sign 91 ∷ plain_number j ∷ sign 93 ∷ s = cc in absurd (h (ap front t))
+  split_atom (net n) (part_select m j l) r s h k e =
+      let t : r ≡ sign 91 ∷ plain_number j ∷ sign 58 ∷ plain_number l ∷ sign 93 ∷ s = cc in absurd (h (ap front t))
+  split_atom (bit_select n i) (net m) r s h k e =
+      let t : s ≡ sign 91 ∷ plain_number i ∷ sign 93 ∷ r = cc in absurd (k (ap front t))
+  split_atom (part_select n i o) (net m) r s h k e =
+      let t : s ≡ sign 91 ∷ plain_number i ∷ sign 58 ∷ plain_number o ∷ sign 93 ∷ r = cc in absurd (k (ap front t))
+  split_atom (constant w x) (constant u y) r s h k e = ((cc), (cc))
+  split_atom (bit_select n i) (bit_select m j) r s h k e =
+      let name : n ≡ m = cc in
+      let tails : plain_number i ∷ sign 93 ∷ r ≡ plain_number j ∷ sign 93 ∷ s = cc in
+      let t = split_number i j _ _ tails in
+      let rest : sign 93 ∷ r ≡ sign 93 ∷ s = t.1 in
+      (rw (name, t.0) refl, (cc))
+  split_atom (bit_select n i) (part_select m j l) r s h k e =
+      let tails : plain_number i ∷ sign 93 ∷ r ≡ plain_number j ∷ sign 58 ∷ plain_number l ∷ sign 93 ∷ s = cc in
+      absurd (omega (arith, ap front (split_number i j _ _ tails).1))
+  split_atom (part_select n i o) (bit_select m j) r s h k e =
+      let tails : plain_number i ∷ sign 58 ∷ plain_number o ∷ sign 93 ∷ r ≡ plain_number j ∷ sign 93 ∷ s = cc in
+      absurd (omega (arith, ap front (split_number i j _ _ tails).1))
+  split_atom (part_select n i o) (part_select m j l) r s h k e =
+      let name : n ≡ m = cc in
+      let tails : plain_number i ∷ sign 58 ∷ plain_number o ∷ sign 93 ∷ r ≡ plain_number j ∷ sign 58 ∷ plain_number l ∷ sign 93 ∷ s = cc in
+      let t = split_number i j _ _ tails in
+      let more : sign 58 ∷ plain_number o ∷ sign 93 ∷ r ≡ sign 58 ∷ plain_number l ∷ sign 93 ∷ s = t.1 in
+      let lows : plain_number o ∷ sign 93 ∷ r ≡ plain_number l ∷ sign 93 ∷ s = cc in
+      let u = split_number o l _ _ lows in
+      let rest : sign 93 ∷ r ≡ sign 93 ∷ s = u.1 in
+      (rw (name, t.0, u.0) refl, (cc))
+  split_atom (concat a more) (concat b others) r s h k e =
+      let whole = sym (concat_grouped a more r) ∙ e ∙ concat_grouped b others s in
+      let behind : atom_tokens a ++ (next_atom_tokens more ++ sign 125 ∷ r) ≡ atom_tokens b ++ (next_atom_tokens others ++ sign 125 ∷ s) = cc in
+      let t = split_atom a b _ _ (next_is_no_bracket more r) (next_is_no_bracket others s) behind in
+      let u = split_next more others r s t.1 in
+      (rw (t.0, u.0) refl, u.1)
+  split_atom (repeat count a) (repeat times b) r s h k e =
+      let whole = sym (repeat_grouped count a r) ∙ e ∙ repeat_grouped times b s in
+      let braced_a = sign 123 ∷ (atom_tokens a ++ sign 125 ∷ sign 125 ∷ r) in
+      let braced_b = sign 123 ∷ (atom_tokens b ++ sign 125 ∷ sign 125 ∷ s) in
+      let numbers : plain_number count ∷ braced_a ≡ plain_number times ∷ braced_b = cc in
+      let t = split_number count times _ _ numbers in
+      let braced : braced_a ≡ braced_b = t.1 in
+      let behind : atom_tokens a ++ sign 125 ∷ sign 125 ∷ r ≡ atom_tokens b ++ sign 125 ∷ sign 125 ∷ s = cc in
+      let u = split_atom a b _ _ (λ p. omega arith) (λ p. omega arith) behind in
+      let rest : sign 125 ∷ sign 125 ∷ r ≡ sign 125 ∷ sign 125 ∷ s = u.1 in
+      (rw (t.0, u.0) refl, (cc))
+  split_atom (concat a more) (repeat count b) r s h k e = absurd (concat_is_no_repeat a more count b r s e)
+  split_atom (repeat count a) (concat b more) r s h k e = absurd (concat_is_no_repeat b more count a s r (sym e))
+  split_atom a b r s h k e = absurd (cc)
+
+  -- the operands behind the first, up to the closing brace
+  split_next : (more others : AtomTrees) (r s : List Token) → next_atom_tokens more ++ sign 125 ∷ r ≡ next_atom_tokens others ++ sign 125 ∷ s
+      → (more ≡ others) × (r ≡ s)
+  split_next no_atoms no_atoms r s e = (refl, (cc))
+  split_next no_atoms (atom_before b others) r s e = absurd (omega (arith, ap front e))
+  split_next (atom_before a more) no_atoms r s e = absurd (omega (arith, ap front e))
+  split_next (atom_before a more) (atom_before b others) r s e =
+      let whole = sym (next_grouped a more (sign 125 ∷ r)) ∙ e ∙ next_grouped b others (sign 125 ∷ s) in
+      let behind : atom_tokens a ++ (next_atom_tokens more ++ sign 125 ∷ r) ≡ atom_tokens b ++ (next_atom_tokens others ++ sign 125 ∷ s) = cc in
+      let t = split_atom a b _ _ (next_is_no_bracket more r) (next_is_no_bracket others s) behind in
+      let u = split_next more others r s t.1 in
+      (rw (t.0, u.0) refl, u.1)

@@ -1,8 +1,6 @@
 -- Operands fit their widths.
 -- A net's width is the one with which it is declared, and what fits its parts' widths side by side fits their sum.
-use Rattle.std.proofs.Common.{◌≡◌, ℕ, ◌^◌, ◌<◌, List, [], ◌∷◌, refl, sym, ap, inl, inr, subst, arith}
-use Rattle.std.specs.Prelude.{flat_map}
-use Rattle.std.specs.List.{AllByRecursion}
+use Rattle.std.proofs.Common.{◌≡◌, ℕ, zero, suc, ◌+◌, ◌*◌, ◌^◌, ◌<◌, List, [], ◌∷◌, ◌++◌, refl, sym, ap, inl, inr, subst, arith}
 use Rattle.std.specs.Str.{bytes_eq}
 use Rattle.std.proofs.lemmas.Bool.{cond_both}
 use Rattle.std.proofs.lemmas.Nat.{pow_pos, mod_below}
@@ -11,15 +9,12 @@ use Rattle.fir_bits.proofs.Below.{joined_below}
 use Rattle.fir_base.specs.Lists.{In, Distinct}
 use Rattle.fir_base.specs.Ticks.{Env}
 use Rattle.fir_base.proofs.Members.{in_map, in_left, in_right}
-use Rattle.ver_ast.specs.declared.tree.Atom.{Atom}
-use Rattle.ver_ast.specs.declared.tree.Atom.TheVariants as atom
-use Rattle.ver_ast.specs.declared.tree.Primary.{Primary}
-use Rattle.ver_ast.specs.declared.tree.Primary.TheVariants as primary
+use Rattle.ver_ast.specs.Atoms.{AtomTree, net, constant, bit_select, part_select, concat, repeat, AtomTrees, no_atoms, atom_before}
 use Rattle.ver_ast.specs.Nets.{Sized, width_in, names_of}
-use Rattle.ver_ast.specs.AtomWidths.{primary_width, joined_width}
-use Rattle.ver_ast.specs.Spells.{primary_names, atom_names}
-use Rattle.ver_ast.specs.Valid.{IsSound, HasWidth}
-use Rattle.ver_ast.specs.Settled.{primary_value, joined_value, atom_value}
+use Rattle.ver_ast.specs.AtomWidths.{atom_width, joined_width}
+use Rattle.ver_ast.specs.AtomValues.{copies, atom_value, joined_value}
+use Rattle.ver_ast.specs.SoundSides.{IsSound, AreSound}
+use Rattle.ver_ast.specs.Spells.{atom_names, joined_names}
 
 -- the width of a net that is declared once
 pub declared_width : (ns : List Sized) → Distinct (names_of ns) → (n : List ℕ) (w : ℕ) → In ns (n, w) → width_in ns n ≡ w
@@ -36,23 +31,36 @@ declared_width (p ∷ ps) d n w (inr m) =
 pub record FitNames (ns : List Sized) (env : Env) (names : List (List ℕ)) : Type 0 where
   pub each : (n : List ℕ) → In names n → env n < 2 ^ width_in ns n
 
-primary_fits : (ns : List Sized) (env : Env) (p : Primary) → IsSound ns p → FitNames ns env (primary_names p) → primary_value env p < 2 ^ primary_width ns p
-primary_fits ns env (primary.Net n) s h = h.each n (inl refl)
-primary_fits ns env (primary.Constant width value) s h = s.2
-primary_fits ns env (primary.BitSelect n i) s h = mod_below _ 2 (omega arith)
-primary_fits ns env (primary.PartSelect n hi lo) s h = mod_below _ _ (pow_pos _)
+pub fit_left : (ns : List Sized) (env : Env) (front back : List (List ℕ)) → FitNames ns env (front ++ back) → FitNames ns env front
+fit_left ns env front back h = record { each = λ n m. h.each n (in_left front back n m) }
 
-joined_fits : (ns : List Sized) (env : Env) (ps : List Primary) → AllByRecursion (IsSound ns) ps → FitNames ns env (flat_map primary_names ps) → joined_value ns env ps < 2 ^ joined_width ns ps
-joined_fits ns env [] s h = omega arith
-joined_fits ns env (p ∷ ps) s h =
-    joined_below (primary_value env p) (joined_value ns env ps) (primary_width ns p) (joined_width ns ps)
-    (primary_fits ns env p s.0 (record { each = λ n m. h.each n (in_left (primary_names p) (flat_map primary_names ps) n m) }))
-    (joined_fits ns env ps s.1 (record { each = λ n m. h.each n (in_right (primary_names p) (flat_map primary_names ps) n m) }))
+pub fit_right : (ns : List Sized) (env : Env) (front back : List (List ℕ)) → FitNames ns env (front ++ back) → FitNames ns env back
+fit_right ns env front back h = record { each = λ n m. h.each n (in_right front back n m) }
 
--- an operand of w bits has a value of w bits
-pub atom_fits : (ns : List Sized) (env : Env) (w : ℕ) (a : Atom) → HasWidth ns w a → FitNames ns env (atom_names a) → atom_value ns env a < 2 ^ w
-atom_fits ns env w (atom.Primary p) f h =
-    subst (λ (k : ℕ). primary_value env p < 2 ^ k) f.wide
-    (primary_fits ns env p f.sound.0 (record { each = λ n m. h.each n (in_left (primary_names p) [] n m) }))
-atom_fits ns env w (atom.Concat p ps) f h =
-    subst (λ (k : ℕ). joined_value ns env (p ∷ ps) < 2 ^ k) f.wide (joined_fits ns env (p ∷ ps) f.sound h)
+copies_fit : (n w a : ℕ) → a < 2 ^ w → copies n w a < 2 ^ (n * w)
+copies_fit zero w a h = pow_pos _
+copies_fit (suc n) w a h =
+    let sum : w + n * w ≡ suc n * w = omega arith in
+    subst (λ (k : ℕ). copies (suc n) w a < 2 ^ k) sum (joined_below a (copies n w a) w (n * w) h (copies_fit n w a h))
+
+mutual
+  -- a sound operand has a value of its width
+  pub atom_fits : (ns : List Sized) (env : Env) (a : AtomTree) → IsSound ns a → FitNames ns env (atom_names a)
+      → atom_value ns env a < 2 ^ atom_width ns a
+  atom_fits ns env (net n) s h = h.each n (inl refl)
+  atom_fits ns env (constant width value) s h = s.2
+  atom_fits ns env (bit_select n i) s h = mod_below _ 2 (omega arith)
+  atom_fits ns env (part_select n hi lo) s h = mod_below _ _ (pow_pos _)
+  atom_fits ns env (concat a more) s h =
+      joined_below (atom_value ns env a) (joined_value ns env more) (atom_width ns a) (joined_width ns more)
+      (atom_fits ns env a s.0 (fit_left ns env (atom_names a) (joined_names more) h))
+      (joined_fits ns env more s.1 (fit_right ns env (atom_names a) (joined_names more) h))
+  atom_fits ns env (repeat count a) s h = copies_fit count (atom_width ns a) (atom_value ns env a) (atom_fits ns env a s.0 h)
+
+  joined_fits : (ns : List Sized) (env : Env) (more : AtomTrees) → AreSound ns more → FitNames ns env (joined_names more)
+      → joined_value ns env more < 2 ^ joined_width ns more
+  joined_fits ns env no_atoms s h = omega arith
+  joined_fits ns env (atom_before a more) s h =
+      joined_below (atom_value ns env a) (joined_value ns env more) (atom_width ns a) (joined_width ns more)
+      (atom_fits ns env a s.0 (fit_left ns env (atom_names a) (joined_names more) h))
+      (joined_fits ns env more s.1 (fit_right ns env (atom_names a) (joined_names more) h))

@@ -4,10 +4,11 @@
 --   item   = "wire" [range] name ";" | "reg" [range] name ";" | "assign" name "=" rhs ";"
 --          | "always" "@" "(" "posedge" name ")" name "<=" atom ";"
 --   range  = "[" num ":" "0" "]"            without a range the width is 1
---   rhs    = atom | "~" atom | atom ("&" | "|" | "^") atom
---   atom   = primary | "{" primary { "," primary } "}"
---   primary = name | constant | name "[" num "]" | name "[" num ":" num "]"
--- The number 0 is written as the one digit here, in a range and in a select.
+--   rhs    = atom | ("~" | "&" | "|" | "^") atom | atom bin atom | signed sbin signed | signed ">>>" atom | atom "?" atom ":" atom
+--   bin    = "+" | "-" | "*" | "/" | "%" | "&" | "|" | "^" | "<<" | ">>" | "==" | "!=" | "<" | "<=" | ">" | ">="
+--   signed = "$signed" "(" atom ")"          sbin = "/" | "%" | "<" | "<=" | ">" | ">="
+--   atom   = name | constant | name "[" num "]" | name "[" num ":" num "]" | "{" atom { "," atom } "}" | "{" num "{" atom "}" "}"
+-- The number 0 is written as the one digit here, in a range, in a select and before copies.
 use Rattle.std.specs.Prelude.{ℕ, ◌-◌, List, [], ◌∷◌, ◌++◌, flat_map, codes, nat_eq, if◌then◌else◌}
 use Rattle.fir_base.specs.declared.direction.Direction.{Direction}
 use Rattle.fir_base.specs.declared.direction.Direction.TheVariants.{Input, Output}
@@ -19,15 +20,15 @@ use Rattle.ver_ast.specs.declared.tree.Item.{Item}
 use Rattle.ver_ast.specs.declared.tree.Item.TheVariants as item
 use Rattle.ver_ast.specs.declared.tree.Rhs.{Rhs}
 use Rattle.ver_ast.specs.declared.tree.Rhs.TheVariants as rhs
-use Rattle.ver_ast.specs.declared.tree.Atom.{Atom}
-use Rattle.ver_ast.specs.declared.tree.Atom.TheVariants as atom
-use Rattle.ver_ast.specs.declared.tree.Primary.{Primary}
-use Rattle.ver_ast.specs.declared.tree.Primary.TheVariants as primary
 use Rattle.ver_ast.specs.declared.tree.UnaryOp.{UnaryOp}
-use Rattle.ver_ast.specs.declared.tree.UnaryOp.TheVariants.{Not}
+use Rattle.ver_ast.specs.declared.tree.UnaryOp.TheVariants as unary
 use Rattle.ver_ast.specs.declared.tree.BinaryOp.{BinaryOp}
-use Rattle.ver_ast.specs.declared.tree.BinaryOp.TheVariants.{And, Or, Xor}
-use Rattle.ver_ast.specs.Tokens.{Token, word, digit_zero, number, constant, sign, double}
+use Rattle.ver_ast.specs.declared.tree.BinaryOp.TheVariants as binary
+use Rattle.ver_ast.specs.declared.tree.SignedOp.{SignedOp}
+use Rattle.ver_ast.specs.declared.tree.SignedOp.TheVariants as signed
+use Rattle.ver_ast.specs.Atoms as atom
+use Rattle.ver_ast.specs.Atoms.{AtomTree, AtomTrees}
+use Rattle.ver_ast.specs.Tokens.{Token, word, digit_zero, number, constant, sign, double, signed_shift, signed_word}
 
 abbrev pub direction_word : Direction → List ℕ
 direction_word Input = codes "input"
@@ -51,35 +52,66 @@ abbrev pub ports_tokens : List Port → List Token
 ports_tokens [] = []
 ports_tokens (p ∷ ps) = port_tokens p ++ flat_map next_port_tokens ps
 
-abbrev pub select_number : ℕ → Token
-select_number n = if nat_eq n 0 then digit_zero else number n
+abbrev pub plain_number : ℕ → Token
+plain_number n = if nat_eq n 0 then digit_zero else number n
 
-abbrev pub primary_tokens : Primary → List Token
-primary_tokens (primary.Net n) = word n ∷ []
-primary_tokens (primary.Constant width value) = constant width value ∷ []
-primary_tokens (primary.BitSelect n i) = word n ∷ sign 91 ∷ select_number i ∷ sign 93 ∷ []
-primary_tokens (primary.PartSelect n hi lo) = word n ∷ sign 91 ∷ select_number hi ∷ sign 58 ∷ select_number lo ∷ sign 93 ∷ []
+abbrev mutual
+  pub atom_tokens : AtomTree → List Token
+  atom_tokens (atom.net n) = word n ∷ []
+  atom_tokens (atom.constant width value) = constant width value ∷ []
+  atom_tokens (atom.bit_select n i) = word n ∷ sign 91 ∷ plain_number i ∷ sign 93 ∷ []
+  atom_tokens (atom.part_select n hi lo) = word n ∷ sign 91 ∷ plain_number hi ∷ sign 58 ∷ plain_number lo ∷ sign 93 ∷ []
+  atom_tokens (atom.concat a more) = sign 123 ∷ atom_tokens a ++ next_atom_tokens more ++ sign 125 ∷ []
+  atom_tokens (atom.repeat count a) = sign 123 ∷ plain_number count ∷ sign 123 ∷ atom_tokens a ++ sign 125 ∷ sign 125 ∷ []
 
--- a primary behind another
-abbrev pub next_primary_tokens : Primary → List Token
-next_primary_tokens p = sign 44 ∷ primary_tokens p
-
-abbrev pub atom_tokens : Atom → List Token
-atom_tokens (atom.Primary p) = primary_tokens p
-atom_tokens (atom.Concat p ps) = sign 123 ∷ primary_tokens p ++ flat_map next_primary_tokens ps ++ sign 125 ∷ []
+  -- operands behind another
+  pub next_atom_tokens : AtomTrees → List Token
+  next_atom_tokens atom.no_atoms = []
+  next_atom_tokens (atom.atom_before a more) = sign 44 ∷ atom_tokens a ++ next_atom_tokens more
 
 abbrev pub unary_sign : UnaryOp → ℕ
-unary_sign Not = 126
+unary_sign unary.Not = 126
+unary_sign unary.And = 38
+unary_sign unary.Or = 124
+unary_sign unary.Xor = 94
 
-abbrev pub binary_sign : BinaryOp → ℕ
-binary_sign And = 38
-binary_sign Or = 124
-binary_sign Xor = 94
+abbrev pub binary_token : BinaryOp → Token
+binary_token binary.Add = sign 43
+binary_token binary.Sub = sign 45
+binary_token binary.Mul = sign 42
+binary_token binary.Div = sign 47
+binary_token binary.Rem = sign 37
+binary_token binary.And = sign 38
+binary_token binary.Or = sign 124
+binary_token binary.Xor = sign 94
+binary_token binary.Shl = double 60 60
+binary_token binary.Shr = double 62 62
+binary_token binary.Eq = double 61 61
+binary_token binary.Neq = double 33 61
+binary_token binary.Lt = sign 60
+binary_token binary.Leq = double 60 61
+binary_token binary.Gt = sign 62
+binary_token binary.Geq = double 62 61
+
+-- an operator between signed operands is spelled as between others
+abbrev pub unsigned_op : SignedOp → BinaryOp
+unsigned_op signed.Div = binary.Div
+unsigned_op signed.Rem = binary.Rem
+unsigned_op signed.Lt = binary.Lt
+unsigned_op signed.Leq = binary.Leq
+unsigned_op signed.Gt = binary.Gt
+unsigned_op signed.Geq = binary.Geq
+
+abbrev pub signed_tokens : AtomTree → List Token
+signed_tokens a = signed_word ∷ sign 40 ∷ atom_tokens a ++ sign 41 ∷ []
 
 abbrev pub rhs_tokens : Rhs → List Token
 rhs_tokens (rhs.Atom a) = atom_tokens a
 rhs_tokens (rhs.Unary op a) = sign (unary_sign op) ∷ atom_tokens a
-rhs_tokens (rhs.Binary a op b) = atom_tokens a ++ sign (binary_sign op) ∷ atom_tokens b
+rhs_tokens (rhs.Binary a op b) = atom_tokens a ++ binary_token op ∷ atom_tokens b
+rhs_tokens (rhs.Signed a op b) = signed_tokens a ++ binary_token (unsigned_op op) ∷ signed_tokens b
+rhs_tokens (rhs.SignedShift a b) = signed_tokens a ++ signed_shift ∷ atom_tokens b
+rhs_tokens (rhs.Conditional c a b) = atom_tokens c ++ sign 63 ∷ atom_tokens a ++ sign 58 ∷ atom_tokens b
 
 abbrev pub item_tokens : Item → List Token
 item_tokens (item.Wire n) = word (codes "wire") ∷ range_tokens n.width ++ word n.name ∷ sign 59 ∷ []

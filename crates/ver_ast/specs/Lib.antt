@@ -1,9 +1,14 @@
+pub mod Atoms
+pub mod AtomForms
 pub mod Tokens
 pub mod Grammar
 pub mod Spells
 pub mod Nets
 pub mod AtomWidths
+pub mod SoundSides
 pub mod Valid
+pub mod AtomValues
+pub mod SideValues
 pub mod Settled
 pub mod Next
 pub mod Allows

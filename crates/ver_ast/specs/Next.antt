@@ -6,7 +6,7 @@ use Rattle.fir_base.specs.Ticks.{Env, Tick, rises}
 use Rattle.ver_ast.specs.declared.tree.Verilog.{Verilog}
 use Rattle.ver_ast.specs.declared.tree.Always.{Always}
 use Rattle.ver_ast.specs.Nets.{Sized, regs, nets, blocks}
-use Rattle.ver_ast.specs.Settled.{atom_value}
+use Rattle.ver_ast.specs.AtomValues.{atom_value}
 
 -- what a register shows, or what the block of a named clock writes to it
 abbrev pub written : List Sized → Env → List ℕ → List Always → List ℕ → ℕ

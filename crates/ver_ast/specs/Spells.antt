@@ -1,37 +1,38 @@
 -- Which bytes spell which tree.
 -- The tokens of the bytes are those of the tree, and each name in it is spelled as a name and not reserved.
-use Rattle.std.specs.Prelude.{◌≡◌, ℕ, List, [], ◌∷◌, flat_map, Some}
+use Rattle.std.specs.Prelude.{◌≡◌, ℕ, List, [], ◌∷◌, ◌++◌, flat_map, Some}
 use Rattle.std.specs.List.{AllByRecursion}
 use Rattle.ver_ast.specs.declared.tree.Verilog.{Verilog}
 use Rattle.ver_ast.specs.declared.tree.Item.{Item}
 use Rattle.ver_ast.specs.declared.tree.Item.TheVariants as item
 use Rattle.ver_ast.specs.declared.tree.Rhs.{Rhs}
 use Rattle.ver_ast.specs.declared.tree.Rhs.TheVariants as rhs
-use Rattle.ver_ast.specs.declared.tree.Atom.{Atom}
-use Rattle.ver_ast.specs.declared.tree.Atom.TheVariants as atom
-use Rattle.ver_ast.specs.declared.tree.Primary.{Primary}
-use Rattle.ver_ast.specs.declared.tree.Primary.TheVariants as primary
+use Rattle.ver_ast.specs.Atoms.{AtomTree, net, constant, bit_select, part_select, concat, repeat, AtomTrees, no_atoms, atom_before}
 use Rattle.ver_words.specs.Names.{IsName}
 use Rattle.ver_ast.specs.Tokens.{tokens}
 use Rattle.ver_ast.specs.Grammar.{module_tokens}
 
-abbrev pub primary_names : Primary → List (List ℕ)
-primary_names (primary.Net n) = n ∷ []
-primary_names (primary.Constant width value) = []
-primary_names (primary.BitSelect n i) = n ∷ []
-primary_names (primary.PartSelect n hi lo) = n ∷ []
+abbrev mutual
+  pub atom_names : AtomTree → List (List ℕ)
+  atom_names (net n) = n ∷ []
+  atom_names (constant width value) = []
+  atom_names (bit_select n i) = n ∷ []
+  atom_names (part_select n hi lo) = n ∷ []
+  atom_names (concat a more) = atom_names a ++ joined_names more
+  atom_names (repeat count a) = atom_names a
 
-abbrev pub primaries : Atom → List Primary
-primaries (atom.Primary p) = p ∷ []
-primaries (atom.Concat p ps) = p ∷ ps
+  pub joined_names : AtomTrees → List (List ℕ)
+  joined_names no_atoms = []
+  joined_names (atom_before a more) = atom_names a ++ joined_names more
 
-abbrev pub atom_names : Atom → List (List ℕ)
-atom_names a = flat_map primary_names (primaries a)
-
-abbrev pub rhs_atoms : Rhs → List Atom
+-- the operands of a right side
+abbrev pub rhs_atoms : Rhs → List AtomTree
 rhs_atoms (rhs.Atom a) = a ∷ []
 rhs_atoms (rhs.Unary op a) = a ∷ []
 rhs_atoms (rhs.Binary a op b) = a ∷ b ∷ []
+rhs_atoms (rhs.Signed a op b) = a ∷ b ∷ []
+rhs_atoms (rhs.SignedShift a b) = a ∷ b ∷ []
+rhs_atoms (rhs.Conditional c a b) = c ∷ a ∷ b ∷ []
 
 abbrev pub rhs_names : Rhs → List (List ℕ)
 rhs_names r = flat_map atom_names (rhs_atoms r)

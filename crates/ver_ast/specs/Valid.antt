@@ -1,10 +1,8 @@
 -- Which trees are valid (IEEE 1364-2005, 3.7, 4.2, 5.2.1, 5.4, 6.1).
--- Each net is declared once, before it is used, with a width from 1 to 128; a select stands within a net that has a range, and a constant fits its
--- width, which is 1 to 128; the operands of an assign have its target's width; each wire and output has exactly one assign, an input and a register
--- none; a register has at most one block, on a clock, which is an input and stands in no operand; and no closed walk of assigns exists, which is said
--- as: some order of the assigns has each once, after all that it reads.
-use Rattle.std.specs.Prelude.{◌≡◌, ℕ, ◌^◌, ◌<◌, ◌≤◌, List, [], ◌∷◌, ◌++◌}
-use Rattle.std.specs.List.{AllByRecursion}
+-- Each net is declared once, before it is used, with a width from 1 to 128; right sides are sound beside their targets' widths; each wire and output has
+-- exactly one assign, an input and a register none; a register has at most one block, on a clock, which is an input and stands in no operand; and no closed
+-- walk of assigns exists, which is said as: some order of the assigns has each once, after all that it reads.
+use Rattle.std.specs.Prelude.{◌≡◌, ℕ, ◌≤◌, List, [], ◌∷◌, ◌++◌}
 use Rattle.fir_base.specs.Lists.{In, Distinct, EachIn}
 use Rattle.fir_base.specs.declared.direction.Direction.TheVariants.{Input}
 use Rattle.ver_ast.specs.declared.tree.Verilog.{Verilog}
@@ -14,12 +12,9 @@ use Rattle.ver_ast.specs.declared.tree.Assign.{Assign}
 use Rattle.ver_ast.specs.declared.tree.Always.{Always}
 use Rattle.ver_ast.specs.declared.tree.Item.{Item}
 use Rattle.ver_ast.specs.declared.tree.Item.TheVariants as item
-use Rattle.ver_ast.specs.declared.tree.Atom.{Atom}
-use Rattle.ver_ast.specs.declared.tree.Primary.{Primary}
-use Rattle.ver_ast.specs.declared.tree.Primary.TheVariants as primary
-use Rattle.ver_ast.specs.Spells.{primaries, atom_names, rhs_atoms, rhs_names}
-use Rattle.ver_ast.specs.AtomWidths.{atom_width}
-use Rattle.ver_ast.specs.Nets.{Sized, width_in, inputs, outputs, clocks, wires, regs, port_nets, nets, assigns, targets, blocks, block_targets, names_of}
+use Rattle.ver_ast.specs.Spells.{atom_names, rhs_names}
+use Rattle.ver_ast.specs.SoundSides.{HasWidth, IsSoundSide}
+use Rattle.ver_ast.specs.Nets.{Sized, inputs, outputs, clocks, wires, regs, port_nets, nets, assigns, targets, blocks, block_targets, names_of}
 
 -- the names that an assign reads
 abbrev pub reads : Assign → List (List ℕ)
@@ -33,21 +28,9 @@ DeclaredBefore known (item.Reg n ∷ rest) = DeclaredBefore (n.name ∷ known) r
 DeclaredBefore known (item.Assign a ∷ rest) = In known a.target × EachIn (reads a) known × DeclaredBefore known rest
 DeclaredBefore known (item.Always b ∷ rest) = In known b.target × EachIn (atom_names b.source) known × DeclaredBefore known rest
 
--- a name is a net's, a select is within a net with a range, and a constant fits its width
-abbrev pub IsSound : List Sized → Primary → Type 0
-IsSound nets (primary.Net n) = 1 ≤ width_in nets n
-IsSound nets (primary.Constant width value) = (1 ≤ width) × (width ≤ 128) × (value < 2 ^ width)
-IsSound nets (primary.BitSelect n i) = (2 ≤ width_in nets n) × (i < width_in nets n)
-IsSound nets (primary.PartSelect n hi lo) = (2 ≤ width_in nets n) × (lo ≤ hi) × (hi < width_in nets n)
-
--- an atom of w bits
-pub record HasWidth (nets : List Sized) (w : ℕ) (a : Atom) : Type 0 where
-  pub sound : AllByRecursion (IsSound nets) (primaries a)
-  pub wide : atom_width nets a ≡ w
-
--- the target has a width, and each operand has the same
-abbrev pub HasOneWidth : List Sized → Assign → Type 0
-HasOneWidth nets a = (w : ℕ) × In nets (a.target, w) × AllByRecursion (HasWidth nets w) (rhs_atoms a.rhs)
+-- the target has a width, and the right side is sound beside it
+abbrev pub IsSoundAssign : List Sized → Assign → Type 0
+IsSoundAssign nets a = (w : ℕ) × In nets (a.target, w) × IsSoundSide nets w a.rhs
 
 -- the clock is one, and the target a register of the width of the source
 pub record IsBlock (v : Verilog) (b : Always) : Type 0 where
@@ -73,7 +56,7 @@ pub record Valid (v : Verilog) : Type 0 where
   pub declared_before : DeclaredBefore (names_of (port_nets v)) v.items
   pub clock_inputs : (p : Port) → In v.ports p → p.signal ≡ Clock → p.direction ≡ Input
   pub narrow : (n : List ℕ) (w : ℕ) → In (nets v) (n, w) → (1 ≤ w) × (w ≤ 128)
-  pub one_width : (a : Assign) → In (assigns v) a → HasOneWidth (nets v) a
+  pub sound_assigns : (a : Assign) → In (assigns v) a → IsSoundAssign (nets v) a
   pub driven_once : Distinct (targets (assigns v))
   pub driven : (n : List ℕ) → In (names_of (wires v ++ outputs v)) n → In (targets (assigns v)) n
   pub undriven_sources : (n : List ℕ) → In (names_of (inputs v ++ regs v)) n → In (targets (assigns v)) n → ⊥

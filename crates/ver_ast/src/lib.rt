@@ -7,5 +7,7 @@
 mod laws;
 mod tree;
 
-pub use laws::{spells_one_tree, valid_has_one};
-pub use tree::{Always, Assign, Atom, BinaryOp, Item, Net, Port, Primary, Rhs, UnaryOp, Verilog};
+pub use laws::{spells_one_tree, valid_has_one_rest};
+pub use tree::{
+    Always, Assign, Atom, AtomForm, BinaryOp, Item, Net, Port, Rhs, SignedOp, UnaryOp, Verilog,
+};

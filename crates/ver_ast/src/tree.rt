@@ -1,6 +1,7 @@
 //! The tree of a module (IEEE 1364-2005, 12.1).
 
 use fir_base::{Direction, Name, Seq};
+use std::marker::Model;
 use ver_words::Signal;
 
 /// A port.
@@ -18,9 +19,17 @@ pub struct Net {
     pub name: Name,
 }
 
-/// What stands alone as an operand, or beside others in a concatenation (IEEE 1364-2005, 5.2).
+/// An operand (IEEE 1364-2005, 5.1.14, 5.2).
+#[cycle(atoms)]
 #[derive(Drop)]
-pub enum Primary {
+pub struct Atom {
+    pub form: AtomForm,
+}
+
+/// The forms of an operand.
+#[cycle(atoms)]
+#[derive(Drop)]
+pub enum AtomForm {
     Net(Name),
     /// A constant: its width in bits, and its number.
     Constant(u32, u128),
@@ -28,32 +37,100 @@ pub enum Primary {
     BitSelect(Name, u32),
     /// The bits of a net from the first number down to the second.
     PartSelect(Name, u32, u32),
-}
-
-/// An operand (IEEE 1364-2005, 5.1.14).
-#[derive(Drop)]
-pub enum Atom {
-    Primary(Primary),
     /// A concatenation of one or more, the first at the high end.
-    Concat(Primary, Seq<Primary>),
+    Concat(Box<Atom>, Vec<Atom>),
+    /// A concatenation of so many copies of one operand.
+    Repeat(u32, Box<Atom>),
 }
 
-/// An operator before its operand (IEEE 1364-2005, 5.1).
+/// To contracts an operand is a plain tree.
+impl Model for Atom {
+    ghost use Rattle.ver_ast.specs.Atoms.{AtomTree};
+
+    ghost Value = { AtomTree };
+
+    ghost use Rattle.ver_ast.specs.working.AtomCodes.{atom_code};
+
+    ghost coded = { atom_code };
+
+    ghost use Rattle.ver_ast.specs.AtomForms.{atom_of};
+
+    ghost view = { λ a. atom_of a.form };
+
+    ghost use Rattle.ver_ast.specs.working.AtomSizes.{atom_size};
+
+    ghost size = { atom_size };
+
+    ghost use Rattle.ver_ast.specs.working.AtomParts.{parts_are_less};
+
+    ghost size_decreases = { λ a h. parts_are_less a.form };
+}
+
+/// An operator before its operand (IEEE 1364-2005, 5.1.10, 5.1.11).
 #[derive(Clone, Copy, Debug, PartialEq, Eq)]
 pub enum UnaryOp {
     /// `~`, each bit turned.
     Not,
+    /// `&`, whether all bits are 1.
+    And,
+    /// `|`, whether some bit is 1.
+    Or,
+    /// `^`, whether an odd number of bits is 1.
+    Xor,
 }
 
-/// An operator between its operands (IEEE 1364-2005, 5.1).
+/// An operator between its operands (IEEE 1364-2005, 5.1.5 to 5.1.12).
 #[derive(Clone, Copy, Debug, PartialEq, Eq)]
 pub enum BinaryOp {
+    /// `+`
+    Add,
+    /// `-`
+    Sub,
+    /// `*`
+    Mul,
+    /// `/`
+    Div,
+    /// `%`
+    Rem,
     /// `&`, bit by bit.
     And,
     /// `|`, bit by bit.
     Or,
     /// `^`, bit by bit.
     Xor,
+    /// `<<`, filled with zeros.
+    Shl,
+    /// `>>`, filled with zeros.
+    Shr,
+    /// `==`
+    Eq,
+    /// `!=`
+    Neq,
+    /// `<`
+    Lt,
+    /// `<=`
+    Leq,
+    /// `>`
+    Gt,
+    /// `>=`
+    Geq,
+}
+
+/// An operator between operands that are read as signed numbers (IEEE 1364-2005, 5.5).
+#[derive(Clone, Copy, Debug, PartialEq, Eq)]
+pub enum SignedOp {
+    /// `/`, towards zero.
+    Div,
+    /// `%`, with the sign of the first operand.
+    Rem,
+    /// `<`
+    Lt,
+    /// `<=`
+    Leq,
+    /// `>`
+    Gt,
+    /// `>=`
+    Geq,
 }
 
 /// A right side.
@@ -62,6 +139,12 @@ pub enum Rhs {
     Atom(Atom),
     Unary(UnaryOp, Atom),
     Binary(Atom, BinaryOp, Atom),
+    /// `$signed(a) / $signed(b)`, and so on.
+    Signed(Atom, SignedOp, Atom),
+    /// `$signed(a) >>> b`: `a` shifted down, filled with its sign (IEEE 1364-2005, 5.1.12).
+    SignedShift(Atom, Atom),
+    /// `c ? a : b`: `a` where the condition `c` is 1, else `b` (IEEE 1364-2005, 5.1.13).
+    Conditional(Atom, Atom, Atom),
 }
 
 /// A continuous assignment (IEEE 1364-2005, 6.1).

@@ -1,59 +1,121 @@
--- The tree of a net allows at each tick what the net allows.
--- Settled values of the one give settled values of the other, with the same outputs and the same state after the tick.
-use Rattle.std.proofs.Common.{◌≡◌, ℕ, List, map, sym, ◌∙◌, subst}
-use Rattle.std.specs.Prelude.{◌↔◌}
-use Rattle.fir_base.specs.Ticks.{Env, Tick}
+-- The tree of a net has one choice of values at every state and tick, and allows what the net allows.
+-- Its values at rest are settled, and so are those of the net's leaves that they hold. As the net has one choice too, that choice shows the same outputs, and the
+-- same state follows from it.
+use Rattle.std.proofs.Common.{◌≡◌, ℕ, ◌≤◌, List, map, true, false, length, sym, ap, ◌∙◌, subst, arith, Option, Some}
+use Rattle.std.specs.Prelude.{◌↔◌, slice_get}
+use Rattle.std.proofs.lemmas.Option.{slice_get_within}
+use Rattle.fir_base.specs.Ticks.{Env, Tick, Shape, HasShape}
 use Rattle.fir_net.specs.declared.reads.Read.{Read}
+use Rattle.fir_net.specs.declared.leaf.Leaf.{Leaf}
 use Rattle.fir_net.specs.declared.net.FlatNet.{FlatNet}
 use Rattle.fir_net.specs.declared.name_table.NameTable.{NameTable}
-use Rattle.fir_net.specs.working.Settled.{shape as net_shape}
+use Rattle.fir_net.specs.working.IsNet.{CanRead}
+use Rattle.fir_net.specs.working.Values.{at_width}
+use Rattle.fir_net.specs.working.Settled.{value_at, is_clock, Settled, registers, shape as net_shape}
+use Rattle.fir_net.specs.working.Next.{next_word}
+use Rattle.fir_net.specs.working.One.{HasOne}
 use Rattle.fir_net.specs.working.Allows.{Allows as NetAllows}
+use Rattle.fir_net.proofs.AlongOrder.{SameBefore}
+use Rattle.fir_net.proofs.ValuesAlong.{IsPlain, values_agree}
+use Rattle.ver_ast.specs.Valid.{Valid}
 use Rattle.ver_ast.specs.Nets.{Sized, nets, regs, blocks, shape as v_shape}
+use Rattle.ver_ast.specs.AtomValues.{atom_value}
+use Rattle.ver_ast.specs.Settled.{Rest}
 use Rattle.ver_ast.specs.Next.{written}
-use Rattle.ver_ast.specs.Allows.{VAllows}
+use Rattle.ver_ast.specs.Allows.{VAllows, VOne}
 use Rattle.ver_build.specs.declared.places.Places.{Places}
+use Rattle.ver_build.specs.working.Operands.{atom_at}
+use Rattle.ver_build.specs.working.Places.{held_of}
 use Rattle.ver_build.proofs.Premises.{Premises}
 use Rattle.ver_build.proofs.Parts.{in_parts}
 use Rattle.ver_build.proofs.Nets.{sizes, nets_sized}
-use Rattle.ver_build.proofs.Vectors.{AreLaws}
-use Rattle.ver_build.proofs.LeafValues.{outputs_same}
-use Rattle.ver_build.proofs.TreeSettled as of_net
-use Rattle.ver_build.proofs.NetSettled as of_tree
+use Rattle.ver_build.proofs.ReadsStand.{read_of}
+use Rattle.ver_build.proofs.LeafValues.{AgreesLeaves, outputs_same}
+use Rattle.ver_build.proofs.NextStates.{states_same}
+use Rattle.ver_build.proofs.NodeValues.{leaf_values}
+use Rattle.ver_build.proofs.NetSettled.{leaf_clocks, agrees, source_value, next_state, net_settled, tree_settled}
 
-pub parts_allow : AreLaws → (net : FlatNet) (t : NameTable) (p : Places) (order : List Read) → Premises net t p order → v_shape (in_parts net t p order) ≡ net_shape net
-    → (state : List ℕ) (tick : Tick) (shown after : List ℕ) → VAllows (in_parts net t p order) state tick shown after ↔ NetAllows net state tick shown after
-parts_allow laws net t p order is shapes state tick shown after = (to_net, to_tree)
-  where
+module _ (net : FlatNet) (t : NameTable) (p : Places) (order : List Read) (is : Premises net t p order) (valid : Valid (in_parts net t p order))
+    (shapes : v_shape (in_parts net t p order) ≡ net_shape net) where
+  pub parts_one : VOne (in_parts net t p order)
+  parts_one state tick shaped =
+      let one = is.laws.one_rest (in_parts net t p order) valid state tick shaped in
+      record {
+        env = one.env;
+        settled = tree_settled net t p order is state tick one.env one.rest;
+        same = λ e f a b. one.same e f a.rest b.rest;
+        same_clocks = λ e f a b. one.same_clocks e f a.rest b.rest;
+      }
+
+  module _ (state : List ℕ) (tick : Tick) where
     -- the words that registers take, over the nets as they stand in the tree
-    stored : (f : Env) (words : List ℕ) → map (λ (r : Sized). written (nets (in_parts net t p order)) f tick.clocks (blocks (in_parts net t p order)) r.0) (regs (in_parts net t p order)) ≡ words
-        → map (λ (r : Sized). written (sizes net t p order) f tick.clocks (blocks (in_parts net t p order)) r.0) (regs (in_parts net t p order)) ≡ words
-    stored f words e =
-        subst (λ (xs : List Sized). map (λ (r : Sized). written xs f tick.clocks (blocks (in_parts net t p order)) r.0) (regs (in_parts net t p order)) ≡ words) (nets_sized net t p order is) e
+    abbrev words : List Sized → Env → List ℕ
+    words ns f = map (λ (r : Sized). written ns f tick.clocks (blocks (in_parts net t p order)) r.0) (regs (in_parts net t p order))
 
-    taken : (f : Env) (words : List ℕ) → map (λ (r : Sized). written (sizes net t p order) f tick.clocks (blocks (in_parts net t p order)) r.0) (regs (in_parts net t p order)) ≡ words
-        → map (λ (r : Sized). written (nets (in_parts net t p order)) f tick.clocks (blocks (in_parts net t p order)) r.0) (regs (in_parts net t p order)) ≡ words
-    taken f words e =
-        subst (λ (xs : List Sized). map (λ (r : Sized). written xs f tick.clocks (blocks (in_parts net t p order)) r.0) (regs (in_parts net t p order)) ≡ words) (sym (nets_sized net t p order is)) e
+    stored : (f : Env) → words (nets (in_parts net t p order)) f ≡ words (sizes net t p order) f
+    stored f = ap (λ (ns : List Sized). words ns f) (nets_sized net t p order is)
 
-    to_net : VAllows (in_parts net t p order) state tick shown after → NetAllows net state tick shown after
-    to_net a =
+    to_net : (shown after : List ℕ) → VAllows (in_parts net t p order) state tick shown after → NetAllows net state tick shown after
+    to_net shown after a =
         let f = a.0 in
-        let e = of_tree.leaf_values p f in
-        let clock = of_tree.leaf_clocks t p f in (
-          e,
-          clock,
-          of_tree.is_settled laws net t p order is state tick f a.1 shapes,
-          sym (outputs_same net t p order is e clock f (of_tree.tree_agrees laws net t p order is state tick f a.1)) ∙ a.2,
-          sym (of_tree.next_state laws net t p order is state tick f a.1) ∙ stored f after a.3,
+        let rest = a.1.rest in (
+          leaf_values p f,
+          leaf_clocks t p f,
+          net_settled net t p order is state tick f rest shapes,
+          sym (outputs_same net t p order is (leaf_values p f) (leaf_clocks t p f) f (agrees net t p order is state tick f rest)) ∙ a.2,
+          sym (next_state net t p order is state tick f rest) ∙ sym (stored f) ∙ a.3,
         )
 
-    to_tree : NetAllows net state tick shown after → VAllows (in_parts net t p order) state tick shown after
-    to_tree a =
-        let e = a.0 in
-        let clock = a.1 in
-        let f = of_net.env laws net t p order is state tick e clock a.2 in (
+    -- a choice of the net, beside the tree's
+    module _ (e : ℕ → ℕ) (clock : ℕ → Option ℕ) (settled : Settled net state tick e clock) (f : Env)
+        (rest : Rest (in_parts net t p order) state tick f) where
+      one : HasOne net state tick
+      one = is.laws.one_choice net order is.whole is.ordered state tick settled.shaped
+
+      held : Settled net state tick (leaf_values p f) (leaf_clocks t p f)
+      held = net_settled net t p order is state tick f rest shapes
+
+      same_value : (k : ℕ) (l : Leaf) → slice_get net.leaves k ≡ Some l → is_clock l.role ≡ false → leaf_values p f k ≡ e k
+      same_value k l at plain = one.same (leaf_values p f) e (leaf_clocks t p f) clock held settled k l at plain
+
+      same_clock : (k : ℕ) (l : Leaf) → slice_get net.leaves k ≡ Some l → is_clock l.role ≡ true → clock k ≡ leaf_clocks t p f k
+      same_clock k l at ticking = one.same_clocks e (leaf_values p f) clock (leaf_clocks t p f) settled held k l at ticking
+
+      agrees_too : AgreesLeaves net t e clock f
+      agrees_too =
+          let a = agrees net t p order is state tick f rest in
+          record {
+            value = λ k l n at plain named. a.value k l n at plain named ∙ same_value k l at plain;
+            number = λ k l n at same named. a.number k l n at same named ∙ sym (same_clock k l at (ap is_clock same));
+          }
+
+      -- what can be read has the same value
+      same_read : (r : Read) → CanRead net.leaves net.nodes r → value_at net (leaf_values p f) r ≡ value_at net e r
+      same_read r can =
+          let place = is.ordered.all r (read_of net r can) in
+          let same : SameBefore order (IsPlain net) (length order) (leaf_values p f) e =
+          record { each = λ i k less at plain. same_value k plain.leaf plain.at plain.plain } in
+          values_agree net is.whole order is.ordered (leaf_values p f) e (length order) same (length order) place.0 r
+          (slice_get_within order place.0 r place.1) (omega arith) place.1 can
+
+      source_too : (r : Read) → CanRead net.leaves net.nodes r → (w : ℕ) → 1 ≤ w → w ≤ 128
+          → atom_value (sizes net t p order) f (atom_at w (held_of p r)) ≡ at_width (value_at net e r) w
+      source_too r can w some narrow = source_value net t p order is state tick f rest r can w some narrow ∙ ap (λ v. at_width v w) (same_read r can)
+
+      next_too : words (sizes net t p order) f ≡ map (next_word net e clock tick.clocks) (registers net)
+      next_too = states_same net t p order is e clock f agrees_too same_clock source_too tick.clocks
+
+    to_tree : (shown after : List ℕ) → NetAllows net state tick shown after → VAllows (in_parts net t p order) state tick shown after
+    to_tree shown after a =
+        let shaped = subst (λ (s : Shape). HasShape s state tick) (sym shapes) a.2.shaped in
+        let at_rest = is.laws.one_rest (in_parts net t p order) valid state tick shaped in
+        let f = at_rest.env in (
           f,
-          of_net.settles laws net t p order is state tick e clock a.2 shapes,
-          outputs_same net t p order is e clock f (of_net.agrees laws net t p order is state tick e clock a.2) ∙ a.3,
-          taken f after (of_net.next_state laws net t p order is state tick e clock a.2 ∙ a.4),
+          tree_settled net t p order is state tick f at_rest.rest,
+          outputs_same net t p order is a.0 a.1 f (agrees_too a.0 a.1 a.2 f at_rest.rest) ∙ a.3,
+          stored f ∙ next_too a.0 a.1 a.2 f at_rest.rest ∙ a.4,
         )
+
+  pub parts_allow : (state : List ℕ) (tick : Tick) (shown after : List ℕ)
+      → VAllows (in_parts net t p order) state tick shown after ↔ NetAllows net state tick shown after
+  parts_allow state tick shown after = (to_net state tick shown after, to_tree state tick shown after)

@@ -1,6 +1,6 @@
 -- Each block of the tree is on a clock and drives a register of its width.
 -- Where the drivers of a clock leaf end at a clock input, this has one bit, so it has a name and is a port.
-use Rattle.std.proofs.Common.{◌≡◌, ℕ, List, [], true, refl, sym, ap, ◌∙◌, inl, subst, arith}
+use Rattle.std.proofs.Common.{◌≡◌, ℕ, List, [], Bool, true, refl, sym, ap, ◌∙◌, inl, subst, arith}
 use Rattle.std.specs.Prelude.{slice_get, Option, Some, None, unwrap_or}
 use Rattle.std.specs.List.{AllByRecursion}
 use Rattle.std.proofs.lemmas.Option.{slice_get_within}
@@ -14,13 +14,15 @@ use Rattle.fir_net.specs.declared.leaf.Leaf.{Leaf}
 use Rattle.fir_net.specs.declared.net.FlatNet.{FlatNet}
 use Rattle.fir_net.specs.declared.name_table.NameTable.{NameTable}
 use Rattle.fir_net.specs.working.Dependence.{IsOf, Reads}
-use Rattle.fir_net.specs.working.IsNet.{read_width, CanBeRead, IsRole}
+use Rattle.fir_net.specs.working.IsNet.{CanBeDriven, IsRole}
 use Rattle.fir_net.specs.working.LeafNamed.{is_wire}
 use Rattle.ver_ast.specs.Nets.{Sized, clocks}
-use Rattle.ver_ast.specs.Valid.{HasWidth, IsBlock}
+use Rattle.ver_ast.specs.SoundSides.{HasWidth}
+use Rattle.ver_ast.specs.Valid.{IsBlock}
 use Rattle.ver_build.specs.declared.places.Places.{Places}
+use Rattle.ver_build.specs.working.Operands.{atom_at}
 use Rattle.ver_build.specs.working.Places.{name_at, held_of, clock_in, place_clock, placed, driven_clock_in}
-use Rattle.ver_build.specs.working.Built.{leaf_block, role_block, block_on, atom_at}
+use Rattle.ver_build.specs.working.Built.{leaf_block, role_block, block_on}
 use Rattle.ver_build.proofs.Names.{all_zipped, each_and, each_part, each_at}
 use Rattle.ver_build.proofs.AlongOrder.{along_order}
 use Rattle.ver_build.proofs.Premises.{Premises, LeafNamed, leaves_named}
@@ -29,8 +31,8 @@ use Rattle.ver_build.proofs.LeafKinds.{is_clock_input, is_register, is_net, size
 use Rattle.ver_build.proofs.Picked.{picked_at}
 use Rattle.ver_build.proofs.Nets.{sizes, clocks_are, registers_sized, nets_sized}
 use Rattle.ver_build.proofs.Sizes.{IsSized, LeafFact, leaf_is_sized, leaf_facts, unnamed_bits}
-use Rattle.ver_build.proofs.HeldNets.{held_is, leaf_at, leaf_read}
-use Rattle.ver_build.proofs.Widths.{atom_fits}
+use Rattle.ver_build.proofs.OperandAtoms.{atom_fits}
+use Rattle.ver_build.proofs.ReadsStand.{read_stands, leaf_at, leaf_read}
 
 -- a clock input, with its name
 pub record IsClockInput (net : FlatNet) (t : NameTable) (k : ℕ) : Type 0 where
@@ -42,7 +44,8 @@ pub record IsClockInput (net : FlatNet) (t : NameTable) (k : ℕ) : Type 0 where
 
 module _ (net : FlatNet) (t : NameTable) (p : Places) (order : List Read) (is : Premises net t p order) where
   -- what the places say of a clock leaf
-  pub clock_at : (k : ℕ) (l : Leaf) → slice_get net.leaves k ≡ Some l → clock_in p.leaves k ≡ place_clock (placed p.leaves p.nodes (name_at t.leaves k) k l.width l.role)
+  pub clock_at : (k : ℕ) (l : Leaf) → slice_get net.leaves k ≡ Some l
+      → clock_in p.leaves k ≡ place_clock (placed p.leaves p.nodes (name_at t.leaves k) k l.signed l.width l.role)
   clock_at k l at = ap place_clock (is.places.leaves.each k l at)
 
   pub clock_input : (k : ℕ) (l : Leaf) → slice_get net.leaves k ≡ Some l → l.role ≡ role.Clock → IsClockInput net t k
@@ -59,11 +62,15 @@ module _ (net : FlatNet) (t : NameTable) (p : Places) (order : List Read) (is : 
   abbrev Ends : Read → Type 0
   Ends r = (j k : ℕ) → r ≡ read.Leaf j → clock_in p.leaves j ≡ Some k → IsClockInput net t k
 
-  driven_ends : (j : ℕ) (l : Leaf) (r : Role) (c : Option ℕ) (k : ℕ) → slice_get net.leaves j ≡ Some l → l.role ≡ r → ((i : ℕ) → c ≡ Some i → Reads net (read.Leaf j) (read.Leaf i)) → ((w : Read) → Reads net (read.Leaf j) w → Ends w) → driven_clock_in p.leaves c ≡ Some k → IsClockInput net t k
+  driven_ends : (j : ℕ) (l : Leaf) (r : Role) (c : Option ℕ) (k : ℕ) → slice_get net.leaves j ≡ Some l → l.role ≡ r
+      → ((i : ℕ) → c ≡ Some i → Reads net (read.Leaf j) (read.Leaf i)) → ((w : Read) → Reads net (read.Leaf j) w → Ends w)
+      → driven_clock_in p.leaves c ≡ Some k → IsClockInput net t k
   driven_ends j l r None k at e reads below ends = absurd (cc)
   driven_ends j l r (Some i) k at e reads below ends = below (read.Leaf i) (reads i refl) i k refl ends
 
-  role_ends : (j : ℕ) (l : Leaf) (r : Role) (k : ℕ) → slice_get net.leaves j ≡ Some l → l.role ≡ r → ((w : Read) → Reads net (read.Leaf j) w → Ends w) → place_clock (placed p.leaves p.nodes (name_at t.leaves j) j l.width r) ≡ Some k → IsClockInput net t k
+  role_ends : (j : ℕ) (l : Leaf) (r : Role) (k : ℕ) → slice_get net.leaves j ≡ Some l → l.role ≡ r
+      → ((w : Read) → Reads net (read.Leaf j) w → Ends w) → place_clock (placed p.leaves p.nodes (name_at t.leaves j) j l.signed l.width r) ≡ Some k
+      → IsClockInput net t k
   role_ends j l role.Clock k at e below ends = let same : j ≡ k = cc in subst (IsClockInput net t) same (clock_input j l at e)
   role_ends j l (role.ClockOutput c) k at e below ends =
       driven_ends j l (role.ClockOutput c) c k at e (λ i same. leaf_read net j l (role.ClockOutput c) 0 (read.Leaf i) at e (rw same refl)) below ends
@@ -89,28 +96,32 @@ module _ (net : FlatNet) (t : NameTable) (p : Places) (order : List Read) (is : 
   abbrev Registered : List ℕ → ℕ → Type 0
   Registered name w = In (picked_sized is_register t.leaves net.leaves) (name, w)
 
-  given_sound : (clock : Option ℕ) (w : ℕ) (next : Option Read) (name : List ℕ) → IsSized (sizes net t p order) name w → Registered name w → ((k : ℕ) → clock ≡ Some k → IsClockInput net t k) → CanBeRead net.leaves net.nodes next
+  given_sound : (clock : Option ℕ) (s : Bool) (w : ℕ) (next : Option Read) (name : List ℕ) → IsSized (sizes net t p order) name w → Registered name w
+      → ((k : ℕ) → clock ≡ Some k → IsClockInput net t k) → CanBeDriven net.leaves net.nodes s next
       → AllByRecursion (IsBlock (in_parts net t p order)) (block_on t p clock w next name)
-  given_sound None w next name size m c k = tt
-  given_sound (Some i) w None name size m c k = tt
-  given_sound (Some i) w (Some r) name size m c k = (
+  given_sound None s w next name size m c k = tt
+  given_sound (Some i) s w None name size m c k = tt
+  given_sound (Some i) s w (Some r) name size m c k = (
     record {
       clocked = clock_is_port i (c i refl);
       width = w;
       register = subst (λ (ns : List Sized). In ns (name, w)) (sym (registers_sized net t p order)) m;
       wide =
           subst (λ (ns : List Sized). HasWidth ns w (atom_at w (held_of p r))) (sym (nets_sized net t p order is))
-          (atom_fits (sizes net t p order) w (read_width net.leaves net.nodes r) (held_of p r) size.one size.narrow (held_is net t p order is r k));
+          (atom_fits (sizes net t p order) w (held_of p r) (read_stands net t p order is r k.can).stands size.one size.narrow);
     },
     tt,
   )
 
-  role_sound : (r : Role) (w : ℕ) (n : Option (List ℕ)) → (is_net r ≡ true → (name : List ℕ) → n ≡ Some name → IsSized (sizes net t p order) name w)
-      → ((y : Sized) → In (sized_if (is_register r) w n) y → In (picked_sized is_register t.leaves net.leaves) y) → IsRole net.leaves net.nodes w r → AllByRecursion (IsBlock (in_parts net t p order)) (role_block t p r w n)
-  role_sound (role.Register r) w None h m k = tt
-  role_sound (role.Register r) w (Some name) h m k =
-      given_sound (clock_in p.leaves r.clock) w r.next name (h refl name refl) (m (name, w) (inl refl)) (λ c e. let clock = k.0 in ends_at r.clock clock.0 c clock.1 e) k.2
-  role_sound _ w n h m k = tt
+  role_sound : (s : Bool) (r : Role) (w : ℕ) (n : Option (List ℕ))
+      → (is_net r ≡ true → (name : List ℕ) → n ≡ Some name → IsSized (sizes net t p order) name w)
+      → ((y : Sized) → In (sized_if (is_register r) w n) y → In (picked_sized is_register t.leaves net.leaves) y) → IsRole net.leaves net.nodes s w r
+      → AllByRecursion (IsBlock (in_parts net t p order)) (role_block t p r w n)
+  role_sound s (role.Register r) w None h m k = tt
+  role_sound s (role.Register r) w (Some name) h m k =
+      given_sound (clock_in p.leaves r.clock) s w r.next name (h refl name refl) (m (name, w) (inl refl))
+      (λ c e. let clock = k.0 in ends_at r.clock clock.0 c clock.1 e) k.2
+  role_sound s _ w n h m k = tt
 
   pub blocks_sound : AllByRecursion (IsBlock (in_parts net t p order)) (blocks_of net t p order)
   blocks_sound =
@@ -120,5 +131,6 @@ module _ (net : FlatNet) (t : NameTable) (p : Places) (order : List Read) (is : 
       let Q = λ (l : Leaf) (n : Option (List ℕ)). F l n × M l n in
       let facts = leaf_facts net t p order is in
       let parts = each_part F part (picked_sized is_register t.leaves net.leaves) t.leaves net.leaves facts (λ y m. m) in
-      all_zipped Q (IsBlock (in_parts net t p order)) (leaf_block t p) (λ l n h. role_sound l.role l.width n (leaf_is_sized (sizes net t p order) l n h.0.0) h.1 h.0.1.driven) t.leaves net.leaves
+      all_zipped Q (IsBlock (in_parts net t p order)) (leaf_block t p)
+      (λ l n h. role_sound l.signed l.role l.width n (leaf_is_sized (sizes net t p order) l n h.0.0) h.1 h.0.1.driven) t.leaves net.leaves
       (each_and F M Q (λ l n h k. (h, k)) t.leaves net.leaves facts parts)

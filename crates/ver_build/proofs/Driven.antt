@@ -13,10 +13,11 @@ use Rattle.ver_ast.specs.declared.tree.Assign.{Assign}
 use Rattle.ver_ast.specs.declared.tree.Always.{Always}
 use Rattle.ver_ast.specs.Nets.{targets, block_targets}
 use Rattle.ver_build.specs.declared.places.Places.{Places}
-use Rattle.ver_build.specs.working.Places.{clock_in, inner, inner_names}
-use Rattle.ver_build.specs.working.Built.{inner_assign, leaf_assign, role_assign, leaf_block, role_block, block_on}
+use Rattle.ver_build.specs.working.Places.{clock_in}
+use Rattle.ver_build.specs.working.Built.{inners, inner_assign, leaf_assign, role_assign, leaf_block, role_block, block_on}
 use Rattle.ver_build.proofs.Names.{zipped, map_zipped}
 use Rattle.ver_build.proofs.Parts.{assigns_of, blocks_of}
+use Rattle.ver_build.proofs.Nets.{inner_name}
 use Rattle.ver_build.proofs.LeafKinds.{is_output, is_clocked, is_written, name_if, picked, no_name}
 
 output_target : (p : Places) (r : Role) (w : ℕ) (n : Option (List ℕ)) → targets (role_assign p r w n) ≡ name_if (is_output r) n
@@ -24,25 +25,29 @@ output_target p (role.Output r) w None = refl
 output_target p (role.Output r) w (Some name) = refl
 output_target p _ w n = refl
 
-given_target : (t : NameTable) (p : Places) (clock : Option ℕ) (w : ℕ) (next : Option Read) (name : List ℕ) → block_targets (block_on t p clock w next name) ≡ name_if (is_clocked clock next) (Some name)
+given_target : (t : NameTable) (p : Places) (clock : Option ℕ) (w : ℕ) (next : Option Read) (name : List ℕ)
+    → block_targets (block_on t p clock w next name) ≡ name_if (is_clocked clock next) (Some name)
 given_target t p None w next name = refl
 given_target t p (Some k) w None name = refl
 given_target t p (Some k) w (Some r) name = refl
 
-block_target : (t : NameTable) (p : Places) (r : Role) (w : ℕ) (n : Option (List ℕ)) → block_targets (role_block t p r w n) ≡ name_if (is_written (clock_in p.leaves) r) n
+block_target : (t : NameTable) (p : Places) (r : Role) (w : ℕ) (n : Option (List ℕ))
+    → block_targets (role_block t p r w n) ≡ name_if (is_written (clock_in p.leaves) r) n
 block_target t p (role.Register r) w None = sym (no_name (is_clocked (clock_in p.leaves r.clock) r.next))
 block_target t p (role.Register r) w (Some name) = given_target t p (clock_in p.leaves r.clock) w r.next name
 block_target t p _ w n = refl
 
 module _ (net : FlatNet) (t : NameTable) (p : Places) (order : List Read) where
-  pub targets_are : targets (assigns_of net t p order) ≡ inner_names (inner net p.nodes order) ++ picked is_output t.leaves net.leaves
+  pub targets_are : targets (assigns_of net t p order) ≡ map inner_name (inners net p order) ++ picked is_output t.leaves net.leaves
   targets_are =
       let target = λ (a : Assign). a.target in
-      let first : targets (map (inner_assign p) (inner net p.nodes order)) ≡ inner_names (inner net p.nodes order) = map-map target (inner_assign p) (inner net p.nodes order) in
+      let first : targets (map inner_assign (inners net p order)) ≡ map inner_name (inners net p order) =
+      map-map target inner_assign (inners net p order) in
       let second : targets (zipped (leaf_assign p) t.leaves net.leaves) ≡ picked is_output t.leaves net.leaves =
       map_zipped target (leaf_assign p) (λ l n. name_if (is_output l.role) n) (λ l n. output_target p l.role l.width n) t.leaves net.leaves in
-      map-append target (map (inner_assign p) (inner net p.nodes order)) (zipped (leaf_assign p) t.leaves net.leaves) ∙ rw (first, second) refl
+      map-append target (map inner_assign (inners net p order)) (zipped (leaf_assign p) t.leaves net.leaves) ∙ rw (first, second) refl
 
   pub block_targets_are : block_targets (blocks_of net t p order) ≡ picked (is_written (clock_in p.leaves)) t.leaves net.leaves
   block_targets_are =
-      map_zipped (λ (b : Always). b.target) (leaf_block t p) (λ l n. name_if (is_written (clock_in p.leaves) l.role) n) (λ l n. block_target t p l.role l.width n) t.leaves net.leaves
+      map_zipped (λ (b : Always). b.target) (leaf_block t p) (λ l n. name_if (is_written (clock_in p.leaves) l.role) n)
+      (λ l n. block_target t p l.role l.width n) t.leaves net.leaves

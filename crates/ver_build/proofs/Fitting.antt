@@ -1,38 +1,48 @@
--- Each assign of the tree has operands of its target's width, and names only nets.
--- An operation's net has the width of the operation, and what drives an output is taken at the width of its leaf.
-use Rattle.std.proofs.Common.{◌≡◌, ℕ, List, [], ◌∷◌, map, true, refl}
-use Rattle.std.specs.Prelude.{Option, Some, None}
+-- Each assign of the tree is sound beside its target's width, and assigns and blocks name only nets.
+-- An inner net has the width of its value, and what drives an output is taken at the width of its leaf.
+use Rattle.std.proofs.Common.{◌≡◌, ℕ, ◌≤◌, List, [], ◌∷◌, map, Bool, true, false, refl, ap, inl, inr, ⊎_elim, subst, arith}
+use Rattle.std.specs.Prelude.{Option, Some, None, if◌then◌else◌}
 use Rattle.std.specs.List.{AllByRecursion}
+use Rattle.std.specs.Str.{bytes_eq}
+use Rattle.std.proofs.lemmas.Slice.Eq.{bytes_eq-Decides}
 use Rattle.fir_base.specs.Lists.{In, EachIn}
-use Rattle.fir_base.proofs.Each.{all_from, all_joined, all_mapped, each_joined}
+use Rattle.fir_base.proofs.Each.{all_at, all_from, all_joined, all_mapped, each_joined, each_more}
 use Rattle.fir_base.proofs.Members.{in_map}
 use Rattle.fir_net.specs.declared.reads.Read.{Read}
 use Rattle.fir_net.specs.declared.leaf.Role.{Role}
 use Rattle.fir_net.specs.declared.leaf.Role.TheVariants as role
+use Rattle.fir_net.specs.declared.node.Node.{Node}
+use Rattle.fir_net.specs.declared.node.Node.TheVariants as node
 use Rattle.fir_net.specs.declared.net.FlatNet.{FlatNet}
 use Rattle.fir_net.specs.declared.name_table.NameTable.{NameTable}
-use Rattle.fir_net.specs.declared.node.Node.TheVariants as node
-use Rattle.fir_net.specs.working.IsNet.{read_width, IsOperation, CanRead, CanBeRead, IsRole}
+use Rattle.fir_net.specs.working.Dependence.{support_of}
+use Rattle.fir_net.specs.working.IsNet.{CanRead, CanBeDriven, IsRole, IsNode}
 use Rattle.ver_ast.specs.declared.tree.Assign.{Assign}
 use Rattle.ver_ast.specs.declared.tree.Always.{Always}
-use Rattle.ver_ast.specs.Nets.{Sized, names_of}
 use Rattle.ver_ast.specs.Spells.{atom_names, rhs_names}
-use Rattle.ver_ast.specs.Valid.{HasOneWidth}
+use Rattle.ver_ast.specs.Valid.{IsSoundAssign}
+use Rattle.ver_ast.specs.Nets.{Sized, width_in, names_of}
+use Rattle.ver_build.specs.declared.held.Part.{Part}
+use Rattle.ver_build.specs.declared.held.Source.{Source}
+use Rattle.ver_build.specs.declared.held.Source.TheVariants as source
 use Rattle.ver_build.specs.declared.held.Held.{Held}
-use Rattle.ver_build.specs.declared.held.Held.TheVariants as held
 use Rattle.ver_build.specs.declared.places.Places.{Places}
-use Rattle.ver_build.specs.working.Places.{held_of, clock_in, Inner, inner}
-use Rattle.ver_build.specs.working.Built.{atom_at, inner_assign, leaf_assign, role_assign, leaf_block, role_block, block_on}
+use Rattle.ver_build.specs.working.Operands.{atom_at}
+use Rattle.ver_build.specs.declared.right_sides.Inner.{Inner}
+use Rattle.ver_build.specs.working.Places.{held_of, clock_in, source_name, node_at}
+use Rattle.ver_build.specs.working.Built.{inners, node_inners, inner_assign, leaf_assign, role_assign, leaf_block, role_block, block_on}
 use Rattle.ver_build.proofs.Names.{zipped, all_zipped}
 use Rattle.ver_build.proofs.Premises.{Premises}
 use Rattle.ver_build.proofs.Parts.{assigns_of, blocks_of}
 use Rattle.ver_build.proofs.LeafKinds.{is_net}
 use Rattle.ver_build.proofs.Nets.{sizes}
-use Rattle.ver_build.proofs.Sizes.{IsSized, LeafFact, leaf_is_sized, leaf_facts, inner_of, inner_size}
-use Rattle.ver_build.proofs.HeldNets.{held_is, reads_held, node_at}
-use Rattle.ver_build.proofs.Operands.{HeldIn, atom_known, operation_known}
-use Rattle.ver_build.proofs.Typed.{operation_fits}
-use Rattle.ver_build.proofs.Widths.{HeldIs, atom_fits}
+use Rattle.ver_build.proofs.Standing.{IsPart, IsSource, IsKnown, ReadsInTurn}
+use Rattle.ver_build.proofs.OperandAtoms.{atom_fits}
+use Rattle.ver_build.proofs.OperandNames.{atom_known}
+use Rattle.ver_build.proofs.NodeMeaning.{operation_reads, choice_reads}
+use Rattle.ver_build.proofs.Sizes.{IsSized, LeafFact, leaf_is_sized, leaf_facts, inner_of, inners_among}
+use Rattle.ver_build.proofs.ReadsStand.{whole_at, read_stands}
+use Rattle.ver_build.proofs.InnersSound.{inner_sound, inner_size}
 
 -- target and reads are among these names
 pub record Among (all : List (List ℕ)) (name : List ℕ) (reads : List (List ℕ)) : Type 0 where
@@ -45,14 +55,28 @@ AssignAmong all a = Among all a.target (rhs_names a.rhs)
 abbrev pub BlockAmong : List (List ℕ) → Always → Type 0
 BlockAmong all b = Among all b.target (atom_names b.source)
 
--- an assign of one width, among these nets
+-- a sound assign, among these nets
 abbrev Fits : List Sized → Assign → Type 0
-Fits ns a = HasOneWidth ns a × AssignAmong (names_of ns) a
+Fits ns a = IsSoundAssign ns a × AssignAmong (names_of ns) a
 
-held_known : (ns : List Sized) (w : ℕ) (h : Held) → HeldIs ns w h → HeldIn (names_of ns) h
-held_known ns w held.NoBits is = tt
-held_known ns w (held.Constant v n) is = tt
-held_known ns w (held.Net p) is = in_map (λ (s : Sized). s.0) ns (p.name, p.own) is.among
+-- what has a width is a net of it
+pub declared_among : (ns : List Sized) (name : List ℕ) → 1 ≤ width_in ns name → In ns (name, width_in ns name)
+declared_among [] name some = absurd (omega arith)
+declared_among (s ∷ ns) name some = by_test (declared_among ns name) (bytes_eq s.0 name) refl some
+  where
+    by_test : (1 ≤ width_in ns name → In ns (name, width_in ns name)) → (b : Bool) → bytes_eq s.0 name ≡ b → 1 ≤ (if b then s.1 else width_in ns name)
+        → In (s ∷ ns) (name, if b then s.1 else width_in ns name)
+    by_test behind true e one = inl (ap (λ (n : List ℕ). (n, s.1)) ((bytes_eq-Decides s.0 name).0 e))
+    by_test behind false e one = inr (behind one)
+
+-- the net of a value, with its width
+pub part_among : (ns : List Sized) (w : ℕ) (p : Part) → IsPart ns w p → In ns (p.name, p.own)
+part_among ns w p is =
+    subst (λ (v : ℕ). In ns (p.name, v)) is.declared (declared_among ns p.name (omega (arith, is.some, is.within, is.declared)))
+
+source_known : (ns : List Sized) (w : ℕ) (s : Source) → IsSource ns w s → EachIn (source_name s) (names_of ns)
+source_known ns w (source.Number n) is = tt
+source_known ns w (source.Net p) is = (in_map (λ (s : Sized). s.0) ns (p.name, p.own) (part_among ns w p is), tt)
 
 first_of : {A : Type 0} → (P Q : A → Type 0) (xs : List A) → AllByRecursion (λ x. P x × Q x) xs → AllByRecursion P xs
 first_of P Q [] h = tt
@@ -62,6 +86,38 @@ second_of : {A : Type 0} → (P Q : A → Type 0) (xs : List A) → AllByRecursi
 second_of P Q [] h = tt
 second_of P Q (x ∷ xs) h = (h.0.1, second_of P Q xs h.1)
 
+-- what some inner nets read in turn, where their names are known
+all_reads : (known all : List (List ℕ)) (xs : List Inner) → ((x : List ℕ) → In known x → In all x) → ((i : Inner) → In xs i → In all i.name)
+    → ReadsInTurn known xs
+    → AllByRecursion (λ (i : Inner). EachIn (rhs_names i.rhs) all) xs
+all_reads known all [] h k r = tt
+all_reads known all (i ∷ xs) h k r = (
+  each_more (rhs_names i.rhs) known all h r.0,
+  all_reads (i.name ∷ known) all xs (λ x m. ⊎_elim (λ (e : i.name ≡ x). subst (In all) e (k i (inl refl))) (λ (n : In known x). h x n) m)
+      (λ j m. k j (inr m)) r.1,
+)
+
+-- many values that are known
+pub all_known : (known : List (List ℕ)) (f : Read → Held) (rs : List Read) → AllByRecursion (λ r. IsKnown known (f r)) rs
+    → AllByRecursion (IsKnown known) (map f rs)
+all_known known f [] h = tt
+all_known known f (r ∷ rs) h = (h.0, all_known known f rs h.1)
+
+-- the inner nets of a node read what it reads
+pub node_reads : (p : Places) (known : List (List ℕ)) (n : Node) (helpers : List (List ℕ)) (name : List ℕ)
+    → AllByRecursion (λ r. IsKnown known (held_of p r)) (support_of n) → ReadsInTurn known (node_inners p n helpers name)
+node_reads p known (node.Literal v) helpers name sources = tt
+node_reads p known (node.Operation o) helpers name sources =
+    operation_reads o.op o.integers (map (held_of p) o.reads) helpers name o.width known (all_known known (held_of p) o.reads sources)
+node_reads p known (node.Mux m) helpers name sources =
+    choice_reads (map (held_of p) m.reads) name m.width known (all_known known (held_of p) m.reads sources)
+
+-- what a node reads can be read
+pub support_can : (net : FlatNet) (n : Node) → IsNode net.leaves net.nodes n → AllByRecursion (CanRead net.leaves net.nodes) (support_of n)
+support_can net (node.Literal v) whole = tt
+support_can net (node.Operation o) whole = whole.reads
+support_can net (node.Mux m) whole = whole.reads
+
 module _ (net : FlatNet) (t : NameTable) (p : Places) (order : List Read) (is : Premises net t p order) where
   abbrev ns : List Sized
   ns = sizes net t p order
@@ -69,65 +125,78 @@ module _ (net : FlatNet) (t : NameTable) (p : Places) (order : List Read) (is : 
   named : (name : List ℕ) (w : ℕ) → IsSized ns name w → In (names_of ns) name
   named name w size = in_map (λ (s : Sized). s.0) ns (name, w) size.among
 
-  pub read_known : (r : Read) → CanRead net.leaves net.nodes r → HeldIn (names_of ns) (held_of p r)
-  read_known r can = held_known ns (read_width net.leaves net.nodes r) (held_of p r) (held_is net t p order is r can)
+  read_known : (r : Read) → CanRead net.leaves net.nodes r → IsKnown (names_of ns) (held_of p r)
+  read_known r can =
+      let stands = (read_stands net t p order is r can).stands in source_known ns (held_of p r).width (held_of p r).source stands.source
 
-  reads_known : (rs : List Read) → AllByRecursion (CanRead net.leaves net.nodes) rs → AllByRecursion (λ r. HeldIn (names_of ns) (held_of p r)) rs
+  reads_known : (rs : List Read) → AllByRecursion (CanRead net.leaves net.nodes) rs → AllByRecursion (λ r. IsKnown (names_of ns) (held_of p r)) rs
   reads_known [] h = tt
   reads_known (r ∷ rs) h = (read_known r h.0, reads_known rs h.1)
 
-  pub operation_at : (x : Inner) → In (inner net p.nodes order) x → IsOperation net.leaves net.nodes x.operation
-  operation_at x m = let o = inner_of net t p order is x m in node_at net t p order is o.number (node.Operation x.operation) o.at
+  inner_reads : (i : Inner) → In (inners net p order) i → EachIn (rhs_names i.rhs) (names_of ns)
+  inner_reads i m =
+      let o = inner_of net t p order is i m in
+      let whole = whole_at net t p order is o.number o.node o.at in
+      let xs = node_inners p o.node (node_at p.nodes o.number).helpers o.netted.name in
+      let turn =
+      node_reads p (names_of ns) o.node (node_at p.nodes o.number).helpers o.netted.name
+      (reads_known (support_of o.node) (support_can net o.node whole)) in
+      all_at (λ (j : Inner). EachIn (rhs_names j.rhs) (names_of ns)) xs
+      (all_reads (names_of ns) (names_of ns) xs (λ x k. k)
+      (λ j k. named j.name j.width (inner_size net t p order is j (inners_among net t p order is o.number o.node o.netted o.at j k))) turn) i o.inside
 
-  inner_fits : (x : Inner) → In (inner net p.nodes order) x → Fits ns (inner_assign p x)
-  inner_fits x m =
-      let o = x.operation in
-      let size = inner_size net t p order is x m in
-      let whole = operation_at x m in (
-        (o.width, size.among, operation_fits ns (read_width net.leaves net.nodes) (held_of p) o.width size.one o.op o.reads o.integers whole.has_type (reads_held net t p order is o.reads whole.reads)),
-        record {
-          target = named x.name o.width size;
-          sources = operation_known (names_of ns) (held_of p) o.width o.op o.reads o.integers (reads_known o.reads whole.reads);
-        },
-      )
+  inner_fits : (i : Inner) → In (inners net p order) i → Fits ns (inner_assign i)
+  inner_fits i m =
+      let size = inner_size net t p order is i m in
+      let sound = inner_sound net t p order is i m in
+      ((i.width, size.among, sound.side), record { target = named i.name i.width size; sources = inner_reads i m })
 
   atom_among : (w : ℕ) (r : Read) → CanRead net.leaves net.nodes r → EachIn (atom_names (atom_at w (held_of p r))) (names_of ns)
   atom_among w r can = atom_known (names_of ns) w (held_of p r) (read_known r can)
 
-  role_fits : (r : Role) (w : ℕ) (n : Option (List ℕ)) → (is_net r ≡ true → (name : List ℕ) → n ≡ Some name → IsSized ns name w) → IsRole net.leaves net.nodes w r → AllByRecursion (Fits ns) (role_assign p r w n)
-  role_fits (role.Output r) w None h k = tt
-  role_fits (role.Output r) w (Some name) h k =
-      let size = h refl name refl in (
+  role_fits : (s : Bool) (r : Role) (w : ℕ) (n : Option (List ℕ)) → (is_net r ≡ true → (name : List ℕ) → n ≡ Some name → IsSized ns name w)
+      → IsRole net.leaves net.nodes s w r
+      → AllByRecursion (Fits ns) (role_assign p r w n)
+  role_fits s (role.Output r) w None h k = tt
+  role_fits s (role.Output r) w (Some name) h k =
+      let size = h refl name refl in
+      let wide = atom_fits ns w (held_of p r) (read_stands net t p order is r k.can).stands size.one size.narrow in (
         (
-          (w, size.among, (atom_fits ns w (read_width net.leaves net.nodes r) (held_of p r) size.one size.narrow (held_is net t p order is r k), tt)),
-          record { target = named name w size; sources = each_joined (atom_names (atom_at w (held_of p r))) [] (names_of ns) (atom_among w r k) tt },
+          (w, size.among, record { operands = (wide.operand, tt); widths = wide.wide }),
+          record { target = named name w size; sources = each_joined (atom_names (atom_at w (held_of p r))) [] (names_of ns) (atom_among w r k.can) tt },
         ),
         tt,
       )
-  role_fits _ w n h k = tt
+  role_fits s _ w n h k = tt
 
   all_fit : AllByRecursion (Fits ns) (assigns_of net t p order)
   all_fit =
-      all_joined (Fits ns) (map (inner_assign p) (inner net p.nodes order)) (zipped (leaf_assign p) t.leaves net.leaves)
-      (all_mapped (Fits ns) (inner_assign p) (inner net p.nodes order) (all_from (λ x. Fits ns (inner_assign p x)) (inner net p.nodes order) inner_fits))
-      (all_zipped (LeafFact net ns) (Fits ns) (leaf_assign p) (λ l n h. role_fits l.role l.width n (leaf_is_sized ns l n h.0) h.1.driven) t.leaves net.leaves (leaf_facts net t p order is))
+      all_joined (Fits ns) (map inner_assign (inners net p order)) (zipped (leaf_assign p) t.leaves net.leaves)
+      (all_mapped (Fits ns) inner_assign (inners net p order) (all_from (λ i. Fits ns (inner_assign i)) (inners net p order) inner_fits))
+      (all_zipped (LeafFact net ns) (Fits ns) (leaf_assign p) (λ l n h. role_fits l.signed l.role l.width n (leaf_is_sized ns l n h.0) h.1.driven)
+      t.leaves net.leaves (leaf_facts net t p order is))
 
-  pub assigns_fit : AllByRecursion (HasOneWidth ns) (assigns_of net t p order)
-  assigns_fit = first_of (HasOneWidth ns) (AssignAmong (names_of ns)) (assigns_of net t p order) all_fit
+  pub assigns_sound : AllByRecursion (IsSoundAssign ns) (assigns_of net t p order)
+  assigns_sound = first_of (IsSoundAssign ns) (AssignAmong (names_of ns)) (assigns_of net t p order) all_fit
 
   pub assigns_name_nets : AllByRecursion (AssignAmong (names_of ns)) (assigns_of net t p order)
-  assigns_name_nets = second_of (HasOneWidth ns) (AssignAmong (names_of ns)) (assigns_of net t p order) all_fit
+  assigns_name_nets = second_of (IsSoundAssign ns) (AssignAmong (names_of ns)) (assigns_of net t p order) all_fit
 
-  given_among : (clock : Option ℕ) (w : ℕ) (next : Option Read) (name : List ℕ) → IsSized ns name w → CanBeRead net.leaves net.nodes next → AllByRecursion (BlockAmong (names_of ns)) (block_on t p clock w next name)
-  given_among None w next name size k = tt
-  given_among (Some c) w None name size k = tt
-  given_among (Some c) w (Some r) name size k = (record { target = named name w size; sources = atom_among w r k }, tt)
+  given_among : (clock : Option ℕ) (s : Bool) (w : ℕ) (next : Option Read) (name : List ℕ) → IsSized ns name w
+      → CanBeDriven net.leaves net.nodes s next → AllByRecursion (BlockAmong (names_of ns)) (block_on t p clock w next name)
+  given_among None s w next name size k = tt
+  given_among (Some c) s w None name size k = tt
+  given_among (Some c) s w (Some r) name size k = (record { target = named name w size; sources = atom_among w r k.can }, tt)
 
-  block_among : (r : Role) (w : ℕ) (n : Option (List ℕ)) → (is_net r ≡ true → (name : List ℕ) → n ≡ Some name → IsSized ns name w) → IsRole net.leaves net.nodes w r → AllByRecursion (BlockAmong (names_of ns)) (role_block t p r w n)
-  block_among (role.Register r) w None h k = tt
-  block_among (role.Register r) w (Some name) h k = given_among (clock_in p.leaves r.clock) w r.next name (h refl name refl) k.2
-  block_among _ w n h k = tt
+  block_among : (s : Bool) (r : Role) (w : ℕ) (n : Option (List ℕ)) → (is_net r ≡ true → (name : List ℕ) → n ≡ Some name → IsSized ns name w)
+      → IsRole net.leaves net.nodes s w r
+      → AllByRecursion (BlockAmong (names_of ns)) (role_block t p r w n)
+  block_among s (role.Register r) w None h k = tt
+  block_among s (role.Register r) w (Some name) h k = given_among (clock_in p.leaves r.clock) s w r.next name (h refl name refl) k.2
+  block_among s _ w n h k = tt
 
   pub blocks_name_nets : AllByRecursion (BlockAmong (names_of ns)) (blocks_of net t p order)
   blocks_name_nets =
-      all_zipped (LeafFact net ns) (BlockAmong (names_of ns)) (leaf_block t p) (λ l n h. block_among l.role l.width n (leaf_is_sized ns l n h.0) h.1.driven) t.leaves net.leaves (leaf_facts net t p order is)
+      all_zipped (LeafFact net ns) (BlockAmong (names_of ns)) (leaf_block t p)
+      (λ l n h. block_among l.signed l.role l.width n (leaf_is_sized ns l n h.0) h.1.driven) t.leaves net.leaves
+      (leaf_facts net t p order is)

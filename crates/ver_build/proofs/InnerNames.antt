@@ -37,7 +37,8 @@ up_to : (taken : List (List ℕ)) (from to : ℕ) (names : List (List ℕ)) → 
 up_to taken from to [] h = omega arith
 up_to taken from to (n ∷ names) h = let low = h.1.low in let rest = up_to taken (h.0 + 1) to names h.3 in omega arith
 
-pub numbered : (taken : List (List ℕ)) (from to : ℕ) (names : List (List ℕ)) → AreInnerTo taken from names to → (x : List ℕ) → In names x → IsNumber taken from to x
+pub numbered : (taken : List (List ℕ)) (from to : ℕ) (names : List (List ℕ)) → AreInnerTo taken from names to → (x : List ℕ) → In names x
+    → IsNumber taken from to x
 numbered taken from to [] h x m = absurd m
 numbered taken from to (n ∷ names) h x (inl e) =
     let low = h.1.low in
@@ -65,7 +66,8 @@ names_once taken from to (n ∷ names) small h = (
 pub free_apart : (taken : List (List ℕ)) (x : List ℕ) → is_free taken x ≡ true → In taken x → ⊥
 free_apart taken x free m = not_true (is_among taken x) (both (not (is_reserved x)) (not (is_among taken x)) free).1 (among taken x m)
 
-pub all_once : (taken : List (List ℕ)) (to : ℕ) (names : List (List ℕ)) → Distinct taken → to ≤ 2 ^ 127 → AreInnerTo taken 0 names to → Distinct (taken ++ names)
+pub all_once : (taken : List (List ℕ)) (to : ℕ) (names : List (List ℕ)) → Distinct taken → to ≤ 2 ^ 127 → AreInnerTo taken 0 names to
+    → Distinct (taken ++ names)
 all_once taken to names once small h =
     distinct_joined taken names once (names_once taken 0 to names small h) (λ x m n. free_apart taken x (numbered taken 0 to names h x n).free m)
 

@@ -17,7 +17,8 @@ none_of : {A C : Type 0} → (f : Item → List C) (c : A → Item) → ((x : A)
 none_of f c e [] = refl
 none_of f c e (x ∷ xs) = rw (e x) (none_of f c e xs)
 
-each_of : {A C : Type 0} → (f : Item → List C) (c : A → Item) (h : A → C) → ((x : A) → f (c x) ≡ h x ∷ []) → (xs : List A) → flat_map f (map c xs) ≡ map h xs
+each_of : {A C : Type 0} → (f : Item → List C) (c : A → Item) (h : A → C) → ((x : A) → f (c x) ≡ h x ∷ []) → (xs : List A)
+    → flat_map f (map c xs) ≡ map h xs
 each_of f c h e [] = refl
 each_of f c h e (x ∷ xs) = rw (e x) (ap (λ ys. h x ∷ ys) (each_of f c h e xs))
 
@@ -27,30 +28,57 @@ same_map (x ∷ xs) = ap (λ ys. x ∷ ys) (same_map xs)
 
 module _ (rs ws : List Net) (xs : List Assign) (bs : List Always) where
   by_parts : {C : Type 0} → (f : Item → List C)
-      → flat_map f (items rs ws xs bs) ≡ flat_map f (map item.Reg rs) ++ (flat_map f (map item.Wire ws) ++ (flat_map f (map item.Assign xs) ++ flat_map f (map item.Always bs)))
+      → flat_map f (items rs ws xs bs) ≡ flat_map f (map item.Reg rs) ++
+      (flat_map f (map item.Wire ws) ++ (flat_map f (map item.Assign xs) ++ flat_map f (map item.Always bs)))
   by_parts f = simp flat_map-append
 
   pub registers_among : flat_map reg_net (items rs ws xs bs) ≡ map net_sized rs
   registers_among =
-      by_parts reg_net ∙ rw (none_of reg_net item.Wire (λ x. refl) ws, none_of reg_net item.Assign (λ x. refl) xs, none_of reg_net item.Always (λ x. refl) bs)
+      by_parts reg_net ∙ rw (
+        none_of reg_net item.Wire (λ x. refl) ws,
+        none_of reg_net item.Assign (λ x. refl) xs,
+        none_of reg_net item.Always
+            (λ x. refl) bs,
+      )
       (append-nil (flat_map reg_net (map item.Reg rs)) ∙ each_of reg_net item.Reg net_sized (λ x. refl) rs)
 
   pub wires_among : flat_map wire_net (items rs ws xs bs) ≡ map net_sized ws
   wires_among =
-      by_parts wire_net ∙ rw (none_of wire_net item.Reg (λ x. refl) rs, none_of wire_net item.Assign (λ x. refl) xs, none_of wire_net item.Always (λ x. refl) bs)
+      by_parts wire_net ∙ rw (
+        none_of wire_net item.Reg (λ x. refl) rs,
+        none_of wire_net item.Assign (λ x. refl) xs,
+        none_of wire_net item.Always
+            (λ x. refl) bs,
+      )
       (append-nil (flat_map wire_net (map item.Wire ws)) ∙ each_of wire_net item.Wire net_sized (λ x. refl) ws)
 
   pub nets_among : flat_map item_net (items rs ws xs bs) ≡ map net_sized rs ++ map net_sized ws
   nets_among =
-      by_parts item_net ∙ rw (none_of item_net item.Assign (λ x. refl) xs, none_of item_net item.Always (λ x. refl) bs, each_of item_net item.Reg net_sized (λ x. refl) rs, each_of item_net item.Wire net_sized (λ x. refl) ws)
+      by_parts item_net ∙ rw (
+        none_of item_net item.Assign (λ x. refl) xs,
+        none_of item_net item.Always
+            (λ x. refl) bs,
+        each_of item_net item.Reg net_sized (λ x. refl) rs,
+        each_of item_net item.Wire net_sized (λ x. refl) ws,
+      )
       (ap (λ ns. map net_sized rs ++ ns) (append-nil (map net_sized ws)))
 
   pub assigns_among : flat_map item_assign (items rs ws xs bs) ≡ xs
   assigns_among =
-      by_parts item_assign ∙ rw (none_of item_assign item.Reg (λ x. refl) rs, none_of item_assign item.Wire (λ x. refl) ws, none_of item_assign item.Always (λ x. refl) bs)
+      by_parts item_assign ∙ rw (
+        none_of item_assign item.Reg (λ x. refl) rs,
+        none_of item_assign item.Wire
+            (λ x. refl) ws,
+        none_of item_assign item.Always (λ x. refl) bs,
+      )
       (append-nil (flat_map item_assign (map item.Assign xs)) ∙ each_of item_assign item.Assign (λ x. x) (λ x. refl) xs ∙ same_map xs)
 
   pub blocks_among : flat_map item_block (items rs ws xs bs) ≡ bs
   blocks_among =
-      by_parts item_block ∙ rw (none_of item_block item.Reg (λ x. refl) rs, none_of item_block item.Wire (λ x. refl) ws, none_of item_block item.Assign (λ x. refl) xs)
+      by_parts item_block ∙ rw (
+        none_of item_block item.Reg (λ x. refl) rs,
+        none_of item_block item.Wire
+            (λ x. refl) ws,
+        none_of item_block item.Assign (λ x. refl) xs,
+      )
       (each_of item_block item.Always (λ x. x) (λ x. refl) bs ∙ same_map bs)

@@ -76,7 +76,8 @@ sized_names true w (Some name) = refl
 
 pub picked_names : (p : Role → Bool) (names : NameList) (ls : List Leaf) → names_of (picked_sized p names ls) ≡ picked p names ls
 picked_names p names ls =
-    map_zipped (λ (s : Sized). s.0) (λ (l : Leaf) n. sized_if (p l.role) l.width n) (λ (l : Leaf) n. name_if (p l.role) n) (λ l n. sized_names (p l.role) l.width n) names ls
+    map_zipped (λ (s : Sized). s.0) (λ (l : Leaf) n. sized_if (p l.role) l.width n) (λ (l : Leaf) n. name_if (p l.role) n)
+    (λ l n. sized_names (p l.role) l.width n) names ls
 
 pub no_size : (b : Bool) (w : ℕ) → sized_if b w None ≡ []
 no_size false w = refl
@@ -90,7 +91,8 @@ no_name true = refl
 module _ {C : Type 0} (P : Leaf → Option (List ℕ) → Type 0) (f g h : Leaf → Option (List ℕ) → List C)
     (ports : (l : Leaf) (n : Option (List ℕ)) → P l n → is_port l.role ≡ true → (f l n ≡ h l n) × (g l n ≡ []))
     (inside : (l : Leaf) (n : Option (List ℕ)) → P l n → is_port l.role ≡ false → (f l n ≡ []) × (g l n ≡ h l n)) where
-  inside_alone : (names : NameList) (ls : List Leaf) → Each P names ls → AreInside ls → (zipped f names ls ≡ []) × (zipped g names ls ≡ zipped h names ls)
+  inside_alone : (names : NameList) (ls : List Leaf) → Each P names ls → AreInside ls
+      → (zipped f names ls ≡ []) × (zipped g names ls ≡ zipped h names ls)
   unfolding zipped
   inside_alone [] ls each are = (refl, refl)
   inside_alone (n ∷ names) [] each are = (refl, refl)
@@ -99,13 +101,15 @@ module _ {C : Type 0} (P : Leaf → Option (List ℕ) → Type 0) (f g h : Leaf 
       let rest = inside_alone names ls each.1 are.1 in
       (rw (here.0, rest.0) refl, rw (here.1, rest.1) refl)
 
-  pub ports_then_inside : (names : NameList) (ls : List Leaf) → Each P names ls → ArePortsFirst ls → zipped f names ls ++ zipped g names ls ≡ zipped h names ls
+  pub ports_then_inside : (names : NameList) (ls : List Leaf) → Each P names ls → ArePortsFirst ls
+      → zipped f names ls ++ zipped g names ls ≡ zipped h names ls
   unfolding zipped
   ports_then_inside [] ls each are = refl
   ports_then_inside (n ∷ names) [] each are = refl
   ports_then_inside (n ∷ names) (l ∷ ls) each are = by_kind (is_port l.role) refl are (ports_then_inside names ls each.1)
     where
-      by_kind : (b : Bool) → is_port l.role ≡ b → MatchBool b (ArePortsFirst ls) (AreInside ls) → (ArePortsFirst ls → zipped f names ls ++ zipped g names ls ≡ zipped h names ls)
+      by_kind : (b : Bool) → is_port l.role ≡ b → MatchBool b (ArePortsFirst ls) (AreInside ls)
+          → (ArePortsFirst ls → zipped f names ls ++ zipped g names ls ≡ zipped h names ls)
           → (f l n ++ zipped f names ls) ++ (g l n ++ zipped g names ls) ≡ h l n ++ zipped h names ls
       by_kind true e first go =
           let here = ports l n each.0 e in

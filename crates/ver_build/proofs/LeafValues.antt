@@ -22,13 +22,14 @@ use Rattle.ver_build.proofs.Parts.{in_parts}
 use Rattle.ver_build.proofs.LeafKinds.{is_input, is_clock_input, is_output, is_register, name_if, picked, picked_names}
 use Rattle.ver_build.proofs.Nets.{inputs_sized, outputs_sized, clocks_are, registers_sized}
 use Rattle.ver_build.proofs.Shapes.{number_if, input_is, output_is, register_is, input_plain, output_plain, register_plain}
-use Rattle.ver_build.proofs.HeldNets.{leaf_at}
+use Rattle.ver_build.proofs.ReadsStand.{leaf_at}
 use Rattle.ver_build.proofs.LeafLists.{same_lists}
 
 -- each leaf that has a name has its value there, and each clock input its number
 pub record AgreesLeaves (net : FlatNet) (t : NameTable) (e : ℕ → ℕ) (clock : ℕ → Option ℕ) (f : Env) : Type 0 where
   pub value : (k : ℕ) (l : Leaf) (n : List ℕ) → slice_get net.leaves k ≡ Some l → is_clock l.role ≡ false → name_at t.leaves k ≡ Some n → f n ≡ e k
-  pub number : (k : ℕ) (l : Leaf) (n : List ℕ) → slice_get net.leaves k ≡ Some l → l.role ≡ role.Clock → name_at t.leaves k ≡ Some n → Some (f n) ≡ clock k
+  pub number : (k : ℕ) (l : Leaf) (n : List ℕ) → slice_get net.leaves k ≡ Some l → l.role ≡ role.Clock → name_at t.leaves k ≡ Some n
+      → Some (f n) ≡ clock k
 
 plain_input : (r : Role) → is_input r ≡ true → is_clock r ≡ false
 plain_input role.Input e = refl
@@ -42,7 +43,8 @@ pub plain_register : (r : Role) → is_register r ≡ true → is_clock r ≡ fa
 plain_register (role.Register r) e = refl
 plain_register _ e = absurd (cc)
 
-one_value : (e : ℕ → ℕ) (f : Env) (b : Bool) (w k : ℕ) (n : Option (List ℕ)) → (b ≡ true → BitsNamed w n) → (b ≡ true → (name : List ℕ) → n ≡ Some name → f name ≡ e k) → map f (name_if b n) ≡ map e (number_if b w k)
+one_value : (e : ℕ → ℕ) (f : Env) (b : Bool) (w k : ℕ) (n : Option (List ℕ)) → (b ≡ true → BitsNamed w n)
+    → (b ≡ true → (name : List ℕ) → n ≡ Some name → f name ≡ e k) → map f (name_if b n) ≡ map e (number_if b w k)
 one_value e f false w k n bits same = refl
 one_value e f true w k None bits same = let none : w ≡ 0 = bits refl in rw none refl
 one_value e f true w k (Some name) bits same =
@@ -58,7 +60,8 @@ module _ (net : FlatNet) (t : NameTable) (p : Places) (order : List Read) (is : 
     abbrev Same : (Role → Bool) → Type 0
     Same q = (k : ℕ) (l : Leaf) (name : List ℕ) → slice_get net.leaves k ≡ Some l → q l.role ≡ true → name_at t.leaves k ≡ Some name → f name ≡ e k
 
-    values_same : (q : Role → Bool) (number : Role → ℕ → ℕ → List ℕ) → ((r : Role) (w k : ℕ) → number r w k ≡ number_if (q r) w k) → ((r : Role) → q r ≡ true → is_wire r ≡ false) → Same q
+    values_same : (q : Role → Bool) (number : Role → ℕ → ℕ → List ℕ) → ((r : Role) (w k : ℕ) → number r w k ≡ number_if (q r) w k)
+        → ((r : Role) → q r ≡ true → is_wire r ≡ false) → Same q
         → map f (picked q t.leaves net.leaves) ≡ map e (numbers_by number 0 net.leaves)
     values_same q number by plain same =
         ap (map f) (sym (along_zipped LeafNamed (λ (l : Leaf) n. name_if (q l.role) n) t.leaves net.leaves (leaves_named net t is.table)))
@@ -66,7 +69,8 @@ module _ (net : FlatNet) (t : NameTable) (p : Places) (order : List Read) (is : 
       where
         one : (k : ℕ) (l : Leaf) → slice_get net.leaves k ≡ Some l → map f (name_if (q l.role) (name_at t.leaves k)) ≡ map e (number l.role l.width k)
         one k l at =
-            one_value e f (q l.role) l.width k (name_at t.leaves k) (λ b. bits_named l.role l.width (name_at t.leaves k) (plain l.role b) (role_named l (name_at t.leaves k) (named_at k l at)))
+            one_value e f (q l.role) l.width k (name_at t.leaves k)
+            (λ b. bits_named l.role l.width (name_at t.leaves k) (plain l.role b) (role_named l (name_at t.leaves k) (named_at k l at)))
             (λ b name named. same k l name at b named)
             ∙ ap (map e) (sym (by l.role l.width k))
 
@@ -89,13 +93,17 @@ module _ (net : FlatNet) (t : NameTable) (p : Places) (order : List Read) (is : 
     pub words_same : map f (names_of (regs (in_parts net t p order))) ≡ map e (registers net)
     words_same = registers_same e f (λ k l n at q. agrees.value k l n at (plain_register l.role q))
 
-    one_clock : (r : Role) (w k : ℕ) (n : Option (List ℕ)) → RoleNamed r w n → IsRole net.leaves net.nodes w r → (r ≡ role.Clock → (name : List ℕ) → n ≡ Some name → Some (f name) ≡ clock k) → map (λ m. Some (f m)) (name_if (is_clock_input r) n) ≡ map clock (clock_number r w k)
-    one_clock role.Clock w k None h d same = let none = bits_named role.Clock w None refl h in absurd (omega arith)
-    one_clock role.Clock w k (Some name) h d same = ap (λ (x : Option ℕ). x ∷ []) (same refl name refl)
-    one_clock _ w k n h d same = refl
+    one_clock : (s : Bool) (r : Role) (w k : ℕ) (n : Option (List ℕ)) → RoleNamed r w n → IsRole net.leaves net.nodes s w r
+        → (r ≡ role.Clock → (name : List ℕ) → n ≡ Some name → Some (f name) ≡ clock k)
+        → map (λ m. Some (f m)) (name_if (is_clock_input r) n) ≡ map clock (clock_number r w k)
+    one_clock s role.Clock w k None h d same = let none = bits_named role.Clock w None refl h in absurd (omega arith)
+    one_clock s role.Clock w k (Some name) h d same = ap (λ (x : Option ℕ). x ∷ []) (same refl name refl)
+    one_clock s _ w k n h d same = refl
 
     pub clocks_same : map (λ n. Some (f n)) (v_clocks (in_parts net t p order)) ≡ map clock (clocks net)
     clocks_same =
-        ap (map (λ n. Some (f n))) (clocks_are net t p order ∙ sym (along_zipped LeafNamed (λ (l : Leaf) n. name_if (is_clock_input l.role) n) t.leaves net.leaves (leaves_named net t is.table)))
+        ap (map (λ n. Some (f n))) (clocks_are net t p order
+        ∙ sym (along_zipped LeafNamed (λ (l : Leaf) n. name_if (is_clock_input l.role) n) t.leaves net.leaves (leaves_named net t is.table)))
         ∙ same_lists clock (λ n. Some (f n)) (λ l n. name_if (is_clock_input l.role) n) clock_number t.leaves net.leaves
-        (λ k l at. one_clock l.role l.width k (name_at t.leaves k) (role_named l (name_at t.leaves k) (named_at k l at)) (leaf_at net t p order is k l at).driven (λ c name named. agrees.number k l name at c named))
+        (λ k l at. one_clock l.signed l.role l.width k (name_at t.leaves k) (role_named l (name_at t.leaves k) (named_at k l at))
+        (leaf_at net t p order is k l at).driven (λ c name named. agrees.number k l name at c named))

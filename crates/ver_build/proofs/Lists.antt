@@ -13,7 +13,8 @@ along_push f names k (y ∷ xs) x =
     ap (λ l. f y (name_at names k) ++ l) (along_push f names (k + 1) xs x ∙ ap (λ j. along f names (k + 1) xs ++ f x (name_at names j)) e)
     ∙ sym (append_assoc (f y (name_at names k)) (along f names (k + 1) xs) (f x (name_at names (k + length (y ∷ xs)))))
 
-along_more : {A B : Type 0} → (f : A → Option (List ℕ) → List B) (names : List (Option (List ℕ))) (xs : List A) (i : ℕ) (x : A) → i < length xs → x ≡ get_or xs i x
+along_more : {A B : Type 0} → (f : A → Option (List ℕ) → List B) (names : List (Option (List ℕ))) (xs : List A) (i : ℕ) (x : A) → i < length xs
+    → x ≡ get_or xs i x
     → along f names 0 (take (i + 1) xs) ≡ along f names 0 (take i xs) ++ f x (name_at names i)
 along_more f names xs i x lt is =
     let long : 0 + length (take i xs) ≡ i = simp length-take (omega arith) in
@@ -21,7 +22,9 @@ along_more f names xs i x lt is =
     ∙ ap (λ j. along f names 0 (take i xs) ++ f x (name_at names j)) long
 
 -- a list that begins with s and goes on along the first i, and what is put behind it
-pub put_more : {A B : Type 0} → (f : A → Option (List ℕ) → List B) (names : List (Option (List ℕ))) (xs : List A) (i : ℕ) (x : A) (name : Option (List ℕ)) (s before after : List B)
+pub put_more : {A B : Type 0}
+    → (f : A → Option (List ℕ) → List B) (names : List (Option (List ℕ))) (xs : List A) (i : ℕ) (x : A) (name : Option (List ℕ))
+    (s before after : List B)
     → i < length xs → x ≡ get_or xs i x → name ≡ name_at names i → before ≡ s ++ along f names 0 (take i xs) → after ≡ before ++ f x name
     → after ≡ s ++ along f names 0 (take (i + 1) xs)
 put_more f names xs i x name s before after lt is named b a =
@@ -30,29 +33,16 @@ put_more f names xs i x name s before after lt is named b a =
     ∙ ap (λ l. s ++ l) (sym (along_more f names xs i x lt is))
 
 -- the first i and one more, each with what it gives
-pub flat_more : {A B : Type 0} → (f : A → List B) (xs : List A) (i : ℕ) (x : A) → i < length xs → x ≡ get_or xs i x → flat_map f (take (i + 1) xs) ≡ flat_map f (take i xs) ++ f x
+pub flat_more : {A B : Type 0} → (f : A → List B) (xs : List A) (i : ℕ) (x : A) → i < length xs → x ≡ get_or xs i x
+    → flat_map f (take (i + 1) xs) ≡ flat_map f (take i xs) ++ f x
 flat_more f xs i x lt is =
     ap (flat_map f) (take_more xs i x lt ∙ ap (λ y. take i xs ++ y ∷ []) (sym is)) ∙ flat_map-append f (take i xs) (x ∷ [])
     ∙ ap (λ l. flat_map f (take i xs) ++ l) (append-nil (f x))
-
-pub put_flat : {A B : Type 0} → (f : A → List B) (xs : List A) (i : ℕ) (x : A) (s before after : List B) → i < length xs → x ≡ get_or xs i x → before ≡ s ++ flat_map f (take i xs) → after ≡ before ++ f x
-    → after ≡ s ++ flat_map f (take (i + 1) xs)
-put_flat f xs i x s before after lt is b a =
-    a ∙ ap (λ l. l ++ f x) b ∙ append_assoc s (flat_map f (take i xs)) (f x) ∙ ap (λ l. s ++ l) (sym (flat_more f xs i x lt is))
 
 -- what is made of all that is given
 pub mapped_along : {A B C : Type 0} → (g : B → C) (f : A → Option (List ℕ) → List B) (names : List (Option (List ℕ))) (j : ℕ) (xs : List A)
     → map g (along f names j xs) ≡ along (λ x n. map g (f x n)) names j xs
 mapped_along g f names j [] = refl
 mapped_along {A} {B} {C} g f names j (x ∷ xs) =
-    map-append g (f x (name_at names j)) (along f names (j + 1) xs) ∙ ap (λ (ys : List C). map g (f x (name_at names j)) ++ ys) (mapped_along g f names (j + 1) xs)
-
-pub mapped_flat : {A B C D : Type 0} → (g : B → C) (h : C → D) (f : A → List B) (xs : List A) → map h (map g (flat_map f xs)) ≡ flat_map (λ x. map (λ y. h (g y)) (f x)) xs
-mapped_flat g h f [] = refl
-mapped_flat {A} {B} {C} {D} g h f (x ∷ xs) =
-    ap (map h) (map-append g (f x) (flat_map f xs)) ∙ map-append h (map g (f x)) (map g (flat_map f xs))
-    ∙ ap (λ (ys : List D). map h (map g (f x)) ++ ys) (mapped_flat g h f xs) ∙ ap (λ (ys : List D). ys ++ flat_map (λ x. map (λ y. h (g y)) (f x)) xs) (twice (f x))
-  where
-    twice : (ys : List B) → map h (map g ys) ≡ map (λ y. h (g y)) ys
-    twice [] = refl
-    twice (y ∷ ys) = ap (λ (zs : List D). h (g y) ∷ zs) (twice ys)
+    map-append g (f x (name_at names j)) (along f names (j + 1) xs)
+    ∙ ap (λ (ys : List C). map g (f x (name_at names j)) ++ ys) (mapped_along g f names (j + 1) xs)

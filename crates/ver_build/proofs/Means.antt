@@ -1,9 +1,8 @@
 -- The tree of a whole net is what the net is built as.
--- It is valid, named after the net and of its shape, and it allows what the net allows.
+-- It is valid, named after the net and of its shape, it has one choice of values, and it allows what the net allows.
 use Rattle.std.proofs.Common.{List, sym, subst}
 use Rattle.std.specs.List.{AllByRecursion}
 use Rattle.fir_base.specs.Lists.{Distinct}
-use Rattle.fir_bits.specs.working.Laws.{HasItsType}
 use Rattle.ver_words.specs.Names.{IsName}
 use Rattle.fir_net.specs.declared.reads.Read.{Read}
 use Rattle.fir_net.specs.declared.net.FlatNet.{FlatNet}
@@ -13,7 +12,8 @@ use Rattle.fir_net.specs.working.IsOrder.{IsOrder}
 use Rattle.fir_net.specs.working.IsWritable.{IsWritable}
 use Rattle.fir_net.specs.working.IsTable.{IsTable}
 use Rattle.fir_net.specs.working.LeafNamed.{somes}
-use Rattle.fir_net.specs.working.Laws.{NodesHaveTheirValues}
+use Rattle.fir_net.specs.working.Laws.{NodesHaveTheirValues, NodesHaveTheirTypes, OrderedHasOne}
+use Rattle.ver_ast.specs.working.Laws.{ValidHasOneRest}
 use Rattle.ver_build.specs.declared.places.Places.{Places}
 use Rattle.ver_build.specs.working.Places.{IsPlaces}
 use Rattle.ver_build.specs.working.Built.{built}
@@ -23,17 +23,22 @@ use Rattle.ver_build.proofs.Parts.{built_in_parts}
 use Rattle.ver_build.proofs.Named.{parts_named}
 use Rattle.ver_build.proofs.Valid.{parts_valid}
 use Rattle.ver_build.proofs.Shapes.{built_shape}
-use Rattle.ver_build.proofs.Allows.{parts_allow}
+use Rattle.ver_build.proofs.Allows.{parts_one, parts_allow}
 
-pub builds : HasItsType → NodesHaveTheirValues → (net : FlatNet) (t : NameTable) (p : Places) (order : List Read) → IsNet net → IsWritable net → IsOrder net order → IsTable net t → IsPlaces net t order p → Distinct (somes t.leaves) → AllByRecursion IsName (somes t.leaves) → IsName t.circuit
+pub builds : NodesHaveTheirValues → NodesHaveTheirTypes → OrderedHasOne → ValidHasOneRest
+    → (net : FlatNet) (t : NameTable) (p : Places) (order : List Read) → IsNet net → IsWritable net → IsOrder net order → IsTable net t
+    → IsPlaces net t order p → Distinct (somes t.leaves) → AllByRecursion IsName (somes t.leaves) → IsName t.circuit
     → Builds net (built net t p order)
-builds typing nodes net t p order whole writable ordered table places once spelled circuit =
-    let is : Premises net t p order = record { whole = whole; writable = writable; ordered = ordered; table = table; places = places; once = once; spelled = spelled; circuit = circuit } in
+builds values types one_choice one_rest net t p order whole writable ordered table places once spelled circuit =
+    let is : Premises net t p order =
+    record { laws = record { values = values; types = types; one_choice = one_choice; one_rest = one_rest }; whole = whole; writable = writable; ordered = ordered; table = table; places = places; once = once; spelled = spelled; circuit = circuit } in
     let shapes = built_shape net t p order is in
+    let valid = parts_valid net t p order is in
     subst (Builds net) (sym (built_in_parts net t p order table))
     (record {
       named = parts_named net t p order is;
-      valid = parts_valid net t p order is;
+      valid = valid;
       shapes = shapes;
-      allows = parts_allow (record { typing = typing; nodes = nodes }) net t p order is shapes;
+      one = parts_one net t p order is valid shapes;
+      allows = parts_allow net t p order is valid shapes;
     })

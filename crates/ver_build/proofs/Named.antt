@@ -1,5 +1,5 @@
 -- The tree of a whole net is named after it.
--- Ports and registers are the leaves with bits in order, wires the operations with a net, and every name is one of these.
+-- Ports and registers are the leaves with bits in order, wires the inner nets, and every name is one of these.
 use Rattle.std.proofs.Common.{ℕ, List, [], ◌++◌, sym, ap, ◌∙◌, ⊎_elim, subst}
 use Rattle.std.specs.Prelude.{map}
 use Rattle.std.specs.List.{AllByRecursion}
@@ -23,15 +23,17 @@ use Rattle.ver_ast.specs.Spells.{HasItemNames, HasNames, atom_names, rhs_names}
 use Rattle.ver_ast.specs.Valid.{IsBlock}
 use Rattle.fir_net.specs.Rows.{net_rows, net_words, row_names, word_names}
 use Rattle.ver_build.specs.declared.places.Places.{Places}
-use Rattle.ver_build.specs.working.Places.{inner, inner_names}
+use Rattle.ver_build.specs.working.Places.{inner_names}
+use Rattle.ver_build.specs.working.Built.{inners}
 use Rattle.ver_build.specs.Ports.{port_names}
 use Rattle.ver_build.specs.NamedFor.{IsNamedFor, leaf_names}
 use Rattle.ver_build.proofs.Premises.{Premises, leaves_named, leaves_whole, leaves_known}
 use Rattle.ver_build.proofs.Parts.{registers_of, wires_of, assigns_of, blocks_of, in_parts}
 use Rattle.ver_build.proofs.LeafKinds.{is_clock_input, is_net, picked}
 use Rattle.ver_build.proofs.Picked.{picked_named}
-use Rattle.ver_build.proofs.Nets.{inner_sized, sizes, clocks_are, registers_sized, wires_sized, nets_by_part, sizes_named, leaf_names_are}
+use Rattle.ver_build.proofs.Nets.{inner_name, inner_sized, sizes, clocks_are, registers_sized, wires_sized, nets_by_part, sizes_named, leaf_names_are}
 use Rattle.ver_build.proofs.InnerNames.{are_inner}
+use Rattle.ver_build.proofs.NodeNets.{inners_named}
 use Rattle.ver_build.proofs.Fitting.{AssignAmong, BlockAmong, assigns_name_nets, blocks_name_nets}
 use Rattle.ver_build.proofs.TextOrder.{net_name}
 use Rattle.ver_build.proofs.Blocks.{blocks_sound}
@@ -39,7 +41,10 @@ use Rattle.ver_build.proofs.Rowed.{kinds_along, widths_along, named_along}
 
 module _ (net : FlatNet) (t : NameTable) (p : Places) (order : List Read) (is : Premises net t p order) where
   abbrev inside : List (List ℕ)
-  inside = inner_names (inner net p.nodes order)
+  inside = map inner_name (inners net p order)
+
+  spelled : AllByRecursion IsName (map inner_name (inners net p order))
+  spelled = let nodes = is.places.nodes in rw (inners_named net p nodes.held order) nodes.spelled
 
   abbrev all_names : List (List ℕ)
   all_names = names_of (sizes net t p order)
@@ -51,7 +56,7 @@ module _ (net : FlatNet) (t : NameTable) (p : Places) (order : List Read) (is : 
   net_is_name x m =
       ⊎_elim
       (λ (k : In (picked is_net t.leaves net.leaves) x). leaf_is_name x (picked_named is_net t.leaves net.leaves x k))
-      (λ (k : In inside x). all_at IsName inside is.places.nodes.spelled x k)
+      (λ (k : In inside x). all_at IsName inside spelled x k)
       (in_either (picked is_net t.leaves net.leaves) inside x (subst (λ (ns : List (List ℕ)). In ns x) (sizes_named net t p order) m))
 
   nets_are_names : AllByRecursion IsName all_names
@@ -66,14 +71,20 @@ module _ (net : FlatNet) (t : NameTable) (p : Places) (order : List Read) (is : 
   -- what is declared within the module
   declared_name : (x : List ℕ) → In (map net_name (registers_of net t p order) ++ map net_name (wires_of net t p order)) x → IsName x
   declared_name x m =
-      let among = in_right (names_of (port_nets (in_parts net t p order))) (map net_name (registers_of net t p order) ++ map net_name (wires_of net t p order)) x m in
+      let among =
+      in_right (names_of (port_nets (in_parts net t p order))) (map net_name (registers_of net t p order) ++ map net_name (wires_of net t p order)) x
+      m in
       net_is_name x (subst (λ (ns : List (List ℕ)). In ns x) (sym (nets_by_part net t p order is)) among)
 
   register_name : (w : Net) → In (registers_of net t p order) w → IsName w.name
-  register_name w m = declared_name w.name (in_left (map net_name (registers_of net t p order)) (map net_name (wires_of net t p order)) w.name (in_map net_name (registers_of net t p order) w m))
+  register_name w m =
+      declared_name w.name (in_left (map net_name (registers_of net t p order)) (map net_name (wires_of net t p order)) w.name
+      (in_map net_name (registers_of net t p order) w m))
 
   wire_name : (w : Net) → In (wires_of net t p order) w → IsName w.name
-  wire_name w m = declared_name w.name (in_right (map net_name (registers_of net t p order)) (map net_name (wires_of net t p order)) w.name (in_map net_name (wires_of net t p order) w m))
+  wire_name w m =
+      declared_name w.name (in_right (map net_name (registers_of net t p order)) (map net_name (wires_of net t p order)) w.name
+      (in_map net_name (wires_of net t p order) w m))
 
   assign_names : (a : Assign) → In (assigns_of net t p order) a → HasItemNames (item.Assign a)
   assign_names a m =
@@ -111,8 +122,9 @@ module _ (net : FlatNet) (t : NameTable) (p : Places) (order : List Read) (is : 
 
   wires_inner : AreInner (leaf_names (in_parts net t p order)) 0 (names_of (wires (in_parts net t p order)))
   wires_inner =
-      rw (leaf_names_are net t p order is, wires_sized net t p order, map-map (λ (s : Sized). s.0) inner_sized (inner net p.nodes order))
-      (are_inner (somes t.leaves) 0 is.places.nodes.last inside is.places.nodes.named)
+      rw (leaf_names_are net t p order is, wires_sized net t p order, map-map (λ (s : Sized). s.0) inner_sized (inners net p order))
+      (let nodes = is.places.nodes in rw (inners_named net p nodes.held order)
+      (are_inner (somes t.leaves) 0 nodes.last (inner_names net p.nodes order) nodes.named))
 
   pub parts_named : IsNamedFor net.name (net_rows net) (net_words net) (in_parts net t p order)
   parts_named = record {
@@ -120,7 +132,8 @@ module _ (net : FlatNet) (t : NameTable) (p : Places) (order : List Read) (is : 
     ports = kinds_along net t.leaves net.leaves (leaves_known net t p order is);
     state = ap widths_of (registers_sized net t p order) ∙ widths_along net t.leaves net.leaves (leaves_named net t is.table);
     named_leaves =
-        subst (λ (ns : List (List ℕ)). AreNamed [] (row_names (net_rows net) ++ word_names (net_words net)) ns) (sym (leaf_names_are net t p order is))
+        subst (λ (ns : List (List ℕ)). AreNamed [] (row_names (net_rows net) ++ word_names (net_words net)) ns)
+        (sym (leaf_names_are net t p order is))
         (named_along net t.leaves net.leaves (leaves_whole net t is.whole is.table) is.whole.ports_first is.table.leaves);
     named_wires = wires_inner;
     spelled = has_names;

@@ -30,12 +30,15 @@ Each P _ _ = ⊥
 name_behind : (n : Option (List ℕ)) (names : NameList) (k : ℕ) → name_at (n ∷ names) (k + 1) ≡ name_at names k
 name_behind n names k = rw add-one refl
 
-along_behind : {A B : Type 0} → (f : A → Option (List ℕ) → List B) (n : Option (List ℕ)) (names : NameList) (k : ℕ) (xs : List A) → along f (n ∷ names) (k + 1) xs ≡ along f names k xs
+along_behind : {A B : Type 0} → (f : A → Option (List ℕ) → List B) (n : Option (List ℕ)) (names : NameList) (k : ℕ) (xs : List A)
+    → along f (n ∷ names) (k + 1) xs ≡ along f names k xs
 along_behind f n names k [] = refl
 along_behind f n names k (x ∷ xs) =
-    ap (λ m. f x m ++ along f (n ∷ names) (k + 1 + 1) xs) (name_behind n names k) ∙ ap (λ ys. f x (name_at names k) ++ ys) (along_behind f n names (k + 1) xs)
+    ap (λ m. f x m ++ along f (n ∷ names) (k + 1 + 1) xs) (name_behind n names k)
+    ∙ ap (λ ys. f x (name_at names k) ++ ys) (along_behind f n names (k + 1) xs)
 
-pub along_zipped : {A B : Type 0} → (P : A → Option (List ℕ) → Type 0) (f : A → Option (List ℕ) → List B) (names : NameList) (xs : List A) → Each P names xs → along f names 0 xs ≡ zipped f names xs
+pub along_zipped : {A B : Type 0} → (P : A → Option (List ℕ) → Type 0) (f : A → Option (List ℕ) → List B) (names : NameList) (xs : List A)
+    → Each P names xs → along f names 0 xs ≡ zipped f names xs
 unfolding zipped
 along_zipped P f [] [] h = refl
 along_zipped P f [] (x ∷ xs) h = absurd h
@@ -43,22 +46,29 @@ along_zipped P f (n ∷ names) [] h = refl
 along_zipped P f (n ∷ names) (x ∷ xs) h = ap (λ ys. f x n ++ ys) (along_behind f n names 0 xs ∙ along_zipped P f names xs h.1)
 
 -- what is made of the parts
-pub flat_zipped : {A B C : Type 0} → (g : B → List C) (f : A → Option (List ℕ) → List B) (h : A → Option (List ℕ) → List C) → ((x : A) (n : Option (List ℕ)) → flat_map g (f x n) ≡ h x n) → (names : NameList) (xs : List A) → flat_map g (zipped f names xs) ≡ zipped h names xs
+pub flat_zipped : {A B C : Type 0} → (g : B → List C) (f : A → Option (List ℕ) → List B) (h : A → Option (List ℕ) → List C)
+    → ((x : A) (n : Option (List ℕ)) → flat_map g (f x n) ≡ h x n) → (names : NameList) (xs : List A)
+    → flat_map g (zipped f names xs) ≡ zipped h names xs
 unfolding zipped
 flat_zipped g f h e [] xs = refl
 flat_zipped g f h e (n ∷ names) [] = refl
 flat_zipped g f h e (n ∷ names) (x ∷ xs) =
-    flat_map-append g (f x n) (zipped f names xs) ∙ ap (λ ys. ys ++ flat_map g (zipped f names xs)) (e x n) ∙ ap (λ ys. h x n ++ ys) (flat_zipped g f h e names xs)
+    flat_map-append g (f x n) (zipped f names xs) ∙ ap (λ ys. ys ++ flat_map g (zipped f names xs)) (e x n)
+    ∙ ap (λ ys. h x n ++ ys) (flat_zipped g f h e names xs)
 
-pub map_zipped : {A B C : Type 0} → (g : B → C) (f : A → Option (List ℕ) → List B) (h : A → Option (List ℕ) → List C) → ((x : A) (n : Option (List ℕ)) → map g (f x n) ≡ h x n) → (names : NameList) (xs : List A) → map g (zipped f names xs) ≡ zipped h names xs
+pub map_zipped : {A B C : Type 0} → (g : B → C) (f : A → Option (List ℕ) → List B) (h : A → Option (List ℕ) → List C)
+    → ((x : A) (n : Option (List ℕ)) → map g (f x n) ≡ h x n) → (names : NameList) (xs : List A) → map g (zipped f names xs) ≡ zipped h names xs
 unfolding zipped
 map_zipped g f h e [] xs = refl
 map_zipped g f h e (n ∷ names) [] = refl
 map_zipped g f h e (n ∷ names) (x ∷ xs) =
-    map-append g (f x n) (zipped f names xs) ∙ ap (λ ys. ys ++ map g (zipped f names xs)) (e x n) ∙ ap (λ ys. h x n ++ ys) (map_zipped g f h e names xs)
+    map-append g (f x n) (zipped f names xs) ∙ ap (λ ys. ys ++ map g (zipped f names xs)) (e x n)
+    ∙ ap (λ ys. h x n ++ ys) (map_zipped g f h e names xs)
 
 -- the same parts, where something holds of each
-pub same_zipped : {A B : Type 0} → (P : A → Option (List ℕ) → Type 0) (f g : A → Option (List ℕ) → List B) → ((x : A) (n : Option (List ℕ)) → P x n → f x n ≡ g x n) → (names : NameList) (xs : List A) → Each P names xs → zipped f names xs ≡ zipped g names xs
+pub same_zipped : {A B : Type 0} → (P : A → Option (List ℕ) → Type 0) (f g : A → Option (List ℕ) → List B)
+    → ((x : A) (n : Option (List ℕ)) → P x n → f x n ≡ g x n) → (names : NameList) (xs : List A) → Each P names xs
+    → zipped f names xs ≡ zipped g names xs
 unfolding zipped
 same_zipped P f g e [] xs h = refl
 same_zipped P f g e (n ∷ names) [] h = refl
@@ -66,26 +76,32 @@ same_zipped P f g e (n ∷ names) (x ∷ xs) h =
     ap (λ ys. ys ++ zipped f names xs) (e x n h.0) ∙ ap (λ ys. g x n ++ ys) (same_zipped P f g e names xs h.1)
 
 -- what holds of each part
-pub all_zipped : {A B : Type 0} → (P : A → Option (List ℕ) → Type 0) (Q : B → Type 0) (f : A → Option (List ℕ) → List B) → ((x : A) (n : Option (List ℕ)) → P x n → AllByRecursion Q (f x n)) → (names : NameList) (xs : List A) → Each P names xs → AllByRecursion Q (zipped f names xs)
+pub all_zipped : {A B : Type 0} → (P : A → Option (List ℕ) → Type 0) (Q : B → Type 0) (f : A → Option (List ℕ) → List B)
+    → ((x : A) (n : Option (List ℕ)) → P x n → AllByRecursion Q (f x n)) → (names : NameList) (xs : List A) → Each P names xs
+    → AllByRecursion Q (zipped f names xs)
 unfolding zipped
 all_zipped P Q f e [] xs h = tt
 all_zipped P Q f e (n ∷ names) [] h = tt
 all_zipped P Q f e (n ∷ names) (x ∷ xs) h = all_joined Q (f x n) (zipped f names xs) (e x n h.0) (all_zipped P Q f e names xs h.1)
 
-pub each_with : {A : Type 0} → (P Q : A → Option (List ℕ) → Type 0) (R : A → Type 0) → ((x : A) (n : Option (List ℕ)) → P x n → R x → Q x n) → (names : NameList) (xs : List A) → Each P names xs → AllByRecursion R xs → Each Q names xs
+pub each_with : {A : Type 0} → (P Q : A → Option (List ℕ) → Type 0) (R : A → Type 0) → ((x : A) (n : Option (List ℕ)) → P x n → R x → Q x n)
+    → (names : NameList) (xs : List A) → Each P names xs → AllByRecursion R xs → Each Q names xs
 each_with P Q R f [] [] h k = tt
 each_with P Q R f [] (x ∷ xs) h k = h
 each_with P Q R f (n ∷ names) [] h k = h
 each_with P Q R f (n ∷ names) (x ∷ xs) h k = (f x n h.0 k.0, each_with P Q R f names xs h.1 k.1)
 
-pub each_and : {A : Type 0} → (P Q R : A → Option (List ℕ) → Type 0) → ((x : A) (n : Option (List ℕ)) → P x n → Q x n → R x n) → (names : NameList) (xs : List A) → Each P names xs → Each Q names xs → Each R names xs
+pub each_and : {A : Type 0} → (P Q R : A → Option (List ℕ) → Type 0) → ((x : A) (n : Option (List ℕ)) → P x n → Q x n → R x n)
+    → (names : NameList) (xs : List A) → Each P names xs → Each Q names xs → Each R names xs
 each_and P Q R f [] [] h k = tt
 each_and P Q R f [] (x ∷ xs) h k = h
 each_and P Q R f (n ∷ names) [] h k = h
 each_and P Q R f (n ∷ names) (x ∷ xs) h k = (f x n h.0 k.0, each_and P Q R f names xs h.1 k.1)
 
 -- each part is in the whole
-pub each_part : {A B : Type 0} → (P : A → Option (List ℕ) → Type 0) (f : A → Option (List ℕ) → List B) (all : List B) (names : NameList) (xs : List A) → Each P names xs → ((y : B) → In (zipped f names xs) y → In all y)
+pub each_part : {A B : Type 0}
+    → (P : A → Option (List ℕ) → Type 0) (f : A → Option (List ℕ) → List B) (all : List B) (names : NameList) (xs : List A) → Each P names xs
+    → ((y : B) → In (zipped f names xs) y → In all y)
     → Each (λ x n. (y : B) → In (f x n) y → In all y) names xs
 unfolding zipped
 each_part P f all [] [] h k = tt
@@ -97,7 +113,8 @@ each_part P f all (n ∷ names) (x ∷ xs) h k = (
 )
 
 -- what holds of the element of a number
-pub each_at : {A : Type 0} → (P : A → Option (List ℕ) → Type 0) (names : NameList) (xs : List A) → Each P names xs → (k : ℕ) (x : A) → slice_get xs k ≡ Some x → P x (name_at names k)
+pub each_at : {A : Type 0} → (P : A → Option (List ℕ) → Type 0) (names : NameList) (xs : List A) → Each P names xs → (k : ℕ) (x : A)
+    → slice_get xs k ≡ Some x → P x (name_at names k)
 each_at P [] [] h k x e = absurd (cc)
 each_at P [] (y ∷ xs) h k x e = absurd h
 each_at P (n ∷ names) [] h k x e = absurd h

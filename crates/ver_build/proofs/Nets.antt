@@ -17,8 +17,8 @@ use Rattle.ver_ast.specs.declared.tree.Net.{Net}
 use Rattle.ver_ast.specs.declared.tree.Port.{Port}
 use Rattle.ver_ast.specs.Nets.{Sized, port_net, port_clock, input_net, output_net, item_net, inputs, outputs, clocks, port_nets, wires, regs, nets, assigns, blocks, names_of}
 use Rattle.ver_build.specs.declared.places.Places.{Places}
-use Rattle.ver_build.specs.working.Places.{Inner, inner, inner_names}
-use Rattle.ver_build.specs.working.Built.{leaf_port, port_of, leaf_reg, role_reg, inner_wire}
+use Rattle.ver_build.specs.declared.right_sides.Inner.{Inner}
+use Rattle.ver_build.specs.working.Built.{inners, leaf_port, port_of, leaf_reg, role_reg, inner_wire}
 use Rattle.ver_build.specs.Ports.{port_names}
 use Rattle.ver_build.proofs.Names.{NameList, Each, zipped, map_zipped, flat_zipped}
 use Rattle.ver_build.proofs.Premises.{Premises, LeafNamed, RoleNamed, role_named, leaves_named, Known, leaves_known}
@@ -27,11 +27,14 @@ use Rattle.ver_build.proofs.ItemLists.{net_sized, registers_among, wires_among, 
 use Rattle.ver_build.proofs.LeafKinds.{is_input, is_clock_input, is_output, is_register, is_signal, is_net, name_if, sized_if, picked, picked_sized, picked_names, no_size, no_name, ports_then_inside}
 
 abbrev pub inner_sized : Inner → Sized
-inner_sized i = (i.name, i.operation.width)
+inner_sized i = (i.name, i.width)
+
+abbrev pub inner_name : Inner → List ℕ
+inner_name i = i.name
 
 -- the nets of the tree
 abbrev pub sizes : FlatNet → NameTable → Places → List Read → List Sized
-sizes net t p order = picked_sized is_net t.leaves net.leaves ++ map inner_sized (inner net p.nodes order)
+sizes net t p order = picked_sized is_net t.leaves net.leaves ++ map inner_sized (inners net p order)
 
 -- a port that the tree has
 abbrev is_drawn : Role → Bool
@@ -92,7 +95,8 @@ named_first : (n : Option (List ℕ)) (names : List (List ℕ)) → with_some n 
 named_first None names = refl
 named_first (Some name) names = refl
 
-names_along : {A : Type 0} → (P : A → Option (List ℕ) → Type 0) (names : NameList) (xs : List A) → Each P names xs → zipped (λ (x : A) n. with_some n []) names xs ≡ somes names
+names_along : {A : Type 0} → (P : A → Option (List ℕ) → Type 0) (names : NameList) (xs : List A) → Each P names xs
+    → zipped (λ (x : A) n. with_some n []) names xs ≡ somes names
 unfolding zipped
 names_along P [] [] h = refl
 names_along P [] (x ∷ xs) h = absurd h
@@ -113,14 +117,16 @@ inside_bits (role.Wire r) e = (refl, refl)
 inside_bits (role.ClockWire c) e = (refl, refl)
 inside_bits _ e = absurd (cc)
 
-port_name : (r : Role) (n : Option (List ℕ)) → IsWritableRole r → is_port r ≡ true → (name_if (is_drawn r) n ≡ with_some n []) × (name_if (is_register r) n ≡ [])
+port_name : (r : Role) (n : Option (List ℕ)) → IsWritableRole r → is_port r ≡ true
+    → (name_if (is_drawn r) n ≡ with_some n []) × (name_if (is_register r) n ≡ [])
 port_name role.Input n is e = (refl, refl)
 port_name role.Clock n is e = (refl, refl)
 port_name (role.Output r) n is e = (refl, refl)
 port_name (role.ClockOutput c) n is e = absurd is
 port_name _ n is e = absurd (cc)
 
-inside_name : (r : Role) (w : ℕ) (n : Option (List ℕ)) → RoleNamed r w n → is_port r ≡ false → (name_if (is_drawn r) n ≡ []) × (name_if (is_register r) n ≡ with_some n [])
+inside_name : (r : Role) (w : ℕ) (n : Option (List ℕ)) → RoleNamed r w n → is_port r ≡ false
+    → (name_if (is_drawn r) n ≡ []) × (name_if (is_register r) n ≡ with_some n [])
 inside_name (role.Register r) w n h e = (refl, refl)
 inside_name (role.Wire r) w None h e = (refl, refl)
 inside_name (role.Wire r) w (Some name) h e = absurd (cc)
@@ -129,7 +135,8 @@ inside_name (role.ClockWire c) w (Some name) h e = absurd (cc)
 inside_name _ w n h e = absurd (cc)
 
 module _ (net : FlatNet) (t : NameTable) (p : Places) (order : List Read) where
-  sized_ports : (q : Role → Bool) (f : Port → List Sized) → ((r : Role) (w : ℕ) (name : List ℕ) → flat_map f (port_of r w name) ≡ sized_if (q r) w (Some name))
+  sized_ports : (q : Role → Bool) (f : Port → List Sized)
+      → ((r : Role) (w : ℕ) (name : List ℕ) → flat_map f (port_of r w name) ≡ sized_if (q r) w (Some name))
       → flat_map f (in_parts net t p order).ports ≡ picked_sized q t.leaves net.leaves
   sized_ports q f e = flat_zipped f leaf_port (λ l n. sized_if (q l.role) l.width n) part t.leaves net.leaves
     where
@@ -157,9 +164,10 @@ module _ (net : FlatNet) (t : NameTable) (p : Places) (order : List Read) where
       registers_among (registers_of net t p order) (wires_of net t p order) (assigns_of net t p order) (blocks_of net t p order)
       ∙ map_zipped net_sized leaf_reg (λ l n. sized_if (is_register l.role) l.width n) (λ l n. register_part l.role l.width n) t.leaves net.leaves
 
-  pub wires_sized : wires (in_parts net t p order) ≡ map inner_sized (inner net p.nodes order)
+  pub wires_sized : wires (in_parts net t p order) ≡ map inner_sized (inners net p order)
   wires_sized =
-      wires_among (registers_of net t p order) (wires_of net t p order) (assigns_of net t p order) (blocks_of net t p order) ∙ map-map net_sized inner_wire (inner net p.nodes order)
+      wires_among (registers_of net t p order) (wires_of net t p order) (assigns_of net t p order) (blocks_of net t p order)
+      ∙ map-map net_sized inner_wire (inners net p order)
 
   pub assigns_are : assigns (in_parts net t p order) ≡ assigns_of net t p order
   assigns_are = assigns_among (registers_of net t p order) (wires_of net t p order) (assigns_of net t p order) (blocks_of net t p order)
@@ -168,15 +176,16 @@ module _ (net : FlatNet) (t : NameTable) (p : Places) (order : List Read) where
   blocks_are = blocks_among (registers_of net t p order) (wires_of net t p order) (assigns_of net t p order) (blocks_of net t p order)
 
   -- the names of the nets
-  pub sizes_named : names_of (sizes net t p order) ≡ picked is_net t.leaves net.leaves ++ inner_names (inner net p.nodes order)
+  pub sizes_named : names_of (sizes net t p order) ≡ picked is_net t.leaves net.leaves ++ map inner_name (inners net p order)
   sizes_named =
-      map-append (λ (s : Sized). s.0) (picked_sized is_net t.leaves net.leaves) (map inner_sized (inner net p.nodes order))
-      ∙ rw (picked_names is_net t.leaves net.leaves, map-map (λ (s : Sized). s.0) inner_sized (inner net p.nodes order)) refl
+      map-append (λ (s : Sized). s.0) (picked_sized is_net t.leaves net.leaves) (map inner_sized (inners net p order))
+      ∙ rw (picked_names is_net t.leaves net.leaves, map-map (λ (s : Sized). s.0) inner_sized (inners net p order)) refl
 
   module _ (is : Premises net t p order) where
     nets_together : picked_sized is_signal t.leaves net.leaves ++ picked_sized is_register t.leaves net.leaves ≡ picked_sized is_net t.leaves net.leaves
     nets_together =
-        ports_then_inside LeafNamed (λ l n. sized_if (is_signal l.role) l.width n) (λ l n. sized_if (is_register l.role) l.width n) (λ l n. sized_if (is_net l.role) l.width n)
+        ports_then_inside LeafNamed (λ l n. sized_if (is_signal l.role) l.width n) (λ l n. sized_if (is_register l.role) l.width n)
+        (λ l n. sized_if (is_net l.role) l.width n)
         (λ l n h e. let k = port_bits l.role e in (ap (λ b. sized_if b l.width n) k.0, ap (λ b. sized_if b l.width n) k.1))
         (λ l n h e. let k = inside_bits l.role e in (ap (λ b. sized_if b l.width n) k.0, ap (λ b. sized_if b l.width n) k.1))
         t.leaves net.leaves (leaves_named net t is.table) is.whole.ports_first
@@ -196,19 +205,23 @@ module _ (net : FlatNet) (t : NameTable) (p : Places) (order : List Read) where
         nets_among (registers_of net t p order) (wires_of net t p order) (assigns_of net t p order) (blocks_of net t p order) ∙ rw (rs, ws) refl in
         ap (λ ns. port_nets (in_parts net t p order) ++ ns) inside
         ∙ rw (signals_sized, registers_sized, wires_sized)
-        (sym (append_assoc (picked_sized is_signal t.leaves net.leaves) (picked_sized is_register t.leaves net.leaves) (map inner_sized (inner net p.nodes order)))
-        ∙ ap (λ ns. ns ++ map inner_sized (inner net p.nodes order)) nets_together)
+        (sym (append_assoc (picked_sized is_signal t.leaves net.leaves) (picked_sized is_register t.leaves net.leaves)
+        (map inner_sized (inners net p order)))
+        ∙ ap (λ ns. ns ++ map inner_sized (inners net p order)) nets_together)
 
     -- the names of the nets: those of ports, of registers and of wires
-    pub nets_by_part : names_of (sizes net t p order) ≡ names_of (port_nets (in_parts net t p order)) ++ (map (λ (n : Net). n.name) (registers_of net t p order) ++ map (λ (n : Net). n.name) (wires_of net t p order))
+    pub nets_by_part : names_of (sizes net t p order) ≡ names_of (port_nets (in_parts net t p order)) ++
+        (map (λ (n : Net). n.name) (registers_of net t p order) ++ map (λ (n : Net). n.name) (wires_of net t p order))
     nets_by_part =
         let name = λ (s : Sized). s.0 in
         let rs = map net_sized (registers_of net t p order) in
         let ws = map net_sized (wires_of net t p order) in
         ap names_of (sym nets_sized)
-        ∙ ap (λ ns. names_of (port_nets (in_parts net t p order) ++ ns)) (nets_among (registers_of net t p order) (wires_of net t p order) (assigns_of net t p order) (blocks_of net t p order))
+        ∙ ap (λ ns. names_of (port_nets (in_parts net t p order) ++ ns))
+        (nets_among (registers_of net t p order) (wires_of net t p order) (assigns_of net t p order) (blocks_of net t p order))
         ∙ map-append name (port_nets (in_parts net t p order)) (rs ++ ws)
-        ∙ ap (λ ns. names_of (port_nets (in_parts net t p order)) ++ ns) (map-append name rs ws ∙ rw (net_names (registers_of net t p order), net_names (wires_of net t p order)) refl)
+        ∙ ap (λ ns. names_of (port_nets (in_parts net t p order)) ++ ns)
+        (map-append name rs ws ∙ rw (net_names (registers_of net t p order), net_names (wires_of net t p order)) refl)
 
     pub leaf_names_are : port_names (in_parts net t p order) ++ names_of (regs (in_parts net t p order)) ≡ somes t.leaves
     leaf_names_are = rw (port_names_are, registers_sized, picked_names is_register t.leaves net.leaves) names_together

@@ -1,6 +1,6 @@
 -- Where the values of a net and of its tree agree, so do the states after a tick.
 -- A register's block writes what drives it, when its clock is named; one that nothing drives, or that has no clock, has no block.
-use Rattle.std.proofs.Common.{◌≡◌, ℕ, ◌≤◌, List, [], map, true, if◌then◌else◌, refl, sym, ap, ◌∙◌, inl, inr, Option, Some, None, unwrap_or}
+use Rattle.std.proofs.Common.{◌≡◌, ℕ, ◌≤◌, List, [], map, Bool, true, if◌then◌else◌, refl, sym, ap, ◌∙◌, inl, inr, Option, Some, None, unwrap_or}
 use Rattle.std.specs.Prelude.{slice_get}
 use Rattle.std.proofs.lemmas.Bool.{cond_both}
 use Rattle.std.proofs.lemmas.Simd.{map-map}
@@ -14,25 +14,28 @@ use Rattle.fir_net.specs.declared.leaf.Role.TheVariants as role
 use Rattle.fir_net.specs.declared.leaf.Leaf.{Leaf}
 use Rattle.fir_net.specs.declared.net.FlatNet.{FlatNet}
 use Rattle.fir_net.specs.declared.name_table.NameTable.{NameTable}
-use Rattle.fir_net.specs.working.IsNet.{CanRead, CanBeRead, IsRole}
+use Rattle.fir_net.specs.working.IsNet.{CanRead, CanBeDriven, IsRole}
 use Rattle.fir_net.specs.working.IsWritable.{IsWritableRole}
 use Rattle.fir_net.specs.working.Next.{taken, taken_with, ticks, next_by, next_word}
-use Rattle.fir_net.specs.working.Settled.{value_at, at_width, is_clock, registers}
+use Rattle.fir_net.specs.working.Settled.{value_at, is_clock, registers}
+use Rattle.fir_net.specs.working.Values.{at_width}
 use Rattle.ver_ast.specs.declared.tree.Always.{Always}
 use Rattle.ver_ast.specs.Nets.{Sized, regs, blocks}
-use Rattle.ver_ast.specs.Settled.{atom_value}
+use Rattle.ver_ast.specs.AtomValues.{atom_value}
 use Rattle.ver_ast.specs.Next.{written}
 use Rattle.ver_build.specs.declared.places.Places.{Places}
+use Rattle.ver_build.specs.working.Operands.{atom_at}
 use Rattle.ver_build.specs.working.Places.{name_at, held_of, clock_in}
-use Rattle.ver_build.specs.working.Built.{along, atom_at, block_on, role_block, leaf_block}
-use Rattle.ver_build.proofs.Names.{along_zipped}
+use Rattle.ver_build.specs.working.Built.{along, block_on, role_block, leaf_block}
+use Rattle.ver_build.proofs.Names.{along_zipped, each_at}
 use Rattle.ver_build.proofs.Premises.{Premises, LeafNamed, leaves_named}
 use Rattle.ver_build.proofs.Parts.{in_parts}
 use Rattle.ver_build.proofs.LeafKinds.{is_register}
 use Rattle.ver_build.proofs.Nets.{sizes, blocks_are}
-use Rattle.ver_build.proofs.Envs.{same_place}
+use Rattle.ver_build.proofs.Sizes.{named_bits}
+use Rattle.ver_build.proofs.NamePlaces.{same_place}
 use Rattle.ver_build.proofs.Written.{OnlyGives, written_by}
-use Rattle.ver_build.proofs.HeldNets.{leaf_at}
+use Rattle.ver_build.proofs.ReadsStand.{leaf_at}
 use Rattle.ver_build.proofs.LeafValues.{AgreesLeaves, plain_register, registers_same}
 
 -- the clock that a tree shows for a clock input, or none
@@ -41,7 +44,8 @@ shown_clock t f None = None
 shown_clock t f (Some k) = Some (f (unwrap_or (name_at t.leaves k) []))
 
 -- each block has the name of its leaf as its target
-driven_target : (t : NameTable) (p : Places) (c : Option ℕ) (w : ℕ) (r : Option Read) (n : List ℕ) (b : Always) → In (block_on t p c w r n) b → n ≡ b.target
+driven_target : (t : NameTable) (p : Places) (c : Option ℕ) (w : ℕ) (r : Option Read) (n : List ℕ) (b : Always) → In (block_on t p c w r n) b
+    → n ≡ b.target
 driven_target t p None w r n b m = absurd m
 driven_target t p (Some k) w None n b m = absurd m
 driven_target t p (Some k) w (Some r) n b (inl e) = ap (λ (x : Always). x.target) e
@@ -52,31 +56,36 @@ block_target t p (role.Register r) w None b m = absurd m
 block_target t p (role.Register r) w (Some n) b m = ap Some (driven_target t p (clock_in p.leaves r.clock) w r.next n b m)
 block_target t p _ w n b m = absurd m
 
-module _ (net : FlatNet) (t : NameTable) (p : Places) (order : List Read) (is : Premises net t p order) (e : ℕ → ℕ) (clock : ℕ → Option ℕ) (f : Env) (agrees : AgreesLeaves net t e clock f)
+module _ (net : FlatNet) (t : NameTable) (p : Places) (order : List Read) (is : Premises net t p order) (e : ℕ → ℕ) (clock : ℕ → Option ℕ) (f : Env)
+    (agrees : AgreesLeaves net t e clock f)
     (clocks : (k : ℕ) (l : Leaf) → slice_get net.leaves k ≡ Some l → is_clock l.role ≡ true → clock k ≡ shown_clock t f (clock_in p.leaves k))
-    (right : (r : Read) → CanRead net.leaves net.nodes r → (w : ℕ) → w ≤ 128 → atom_value (sizes net t p order) f (atom_at w (held_of p r)) ≡ at_width (value_at net e r) w) (named : List ℕ) where
+    (right : (r : Read) → CanRead net.leaves net.nodes r → (w : ℕ) → 1 ≤ w → w ≤ 128 → atom_value (sizes net t p order) f (atom_at w (held_of p r)) ≡ at_width (value_at net e r) w) (named : List ℕ) where
   abbrev ns : List Sized
   ns = sizes net t p order
 
   -- what a block gives, where its clock ends there
-  given_next : (c d : Option ℕ) (w : ℕ) (r : Option Read) (n : List ℕ) (now : ℕ) → d ≡ shown_clock t f c → CanBeRead net.leaves net.nodes r → w ≤ 128 → f n ≡ now
+  given_next : (c d : Option ℕ) (s : Bool) (w : ℕ) (r : Option Read) (n : List ℕ) (now : ℕ) → d ≡ shown_clock t f c
+      → CanBeDriven net.leaves net.nodes s r → 1 ≤ w → w ≤ 128 → f n ≡ now
       → written ns f named (block_on t p c w r n) n ≡ (if ticks named d then taken net e w now r else now)
-  given_next None d w None n now shown can narrow same = rw shown same
-  given_next None d w (Some r) n now shown can narrow same = rw shown same
-  given_next (Some k) d w None n now shown can narrow same = cond_both (ticks named d) now now (λ x. f n ≡ x) (λ h. same) (λ h. same)
-  given_next (Some k) d w (Some r) n now shown can narrow same = rw (shown, name_same n, same, right r can w narrow) refl
+  given_next None d s w None n now shown can one narrow same = rw shown same
+  given_next None d s w (Some r) n now shown can one narrow same = rw shown same
+  given_next (Some k) d s w None n now shown can one narrow same = cond_both (ticks named d) now now (λ x. f n ≡ x) (λ h. same) (λ h. same)
+  given_next (Some k) d s w (Some r) n now shown can one narrow same = rw (shown, name_same n, same, right r can.can w one narrow) refl
 
-  register_next : (r : Register) (w : ℕ) (n : List ℕ) (now : ℕ) → IsRole net.leaves net.nodes w (role.Register r) → IsWritableRole (role.Register r) → w ≤ 128 → f n ≡ now
+  register_next : (s : Bool) (r : Register) (w : ℕ) (n : List ℕ) (now : ℕ) → IsRole net.leaves net.nodes s w (role.Register r)
+      → IsWritableRole (role.Register r) → 1 ≤ w → w ≤ 128 → f n ≡ now
       → written ns f named (role_block t p (role.Register r) w (Some n)) n ≡ next_by net e clock named w now (role.Register r)
-  register_next r w n now driven plain narrow same =
+  register_next s r w n now driven plain one narrow same =
       let input = driven.0 in
-      given_next (clock_in p.leaves r.clock) (clock r.clock) w r.next n now (clocks r.clock input.0 input.1 input.2) driven.2 narrow same
-      ∙ ap (λ (x : ℕ). if ticks named (clock r.clock) then x else now) (sym (ap (λ reset. taken_with net e w now reset (taken net e w now r.next)) plain))
+      given_next (clock_in p.leaves r.clock) (clock r.clock) s w r.next n now (clocks r.clock input.0 input.1 input.2) driven.2 one narrow same
+      ∙ ap (λ (x : ℕ). if ticks named (clock r.clock) then x else now)
+      (sym (ap (λ reset. taken_with net e w now reset (taken net e w now r.next)) plain))
 
-  role_next : (r : Role) (w : ℕ) (n : List ℕ) (now : ℕ) → is_register r ≡ true → IsRole net.leaves net.nodes w r → IsWritableRole r → w ≤ 128 → f n ≡ now
+  role_next : (s : Bool) (r : Role) (w : ℕ) (n : List ℕ) (now : ℕ) → is_register r ≡ true → IsRole net.leaves net.nodes s w r → IsWritableRole r
+      → 1 ≤ w → w ≤ 128 → f n ≡ now
       → written ns f named (role_block t p r w (Some n)) n ≡ next_by net e clock named w now r
-  role_next (role.Register r) w n now kind driven plain narrow same = register_next r w n now driven plain narrow same
-  role_next _ w n now kind driven plain narrow same = absurd (cc)
+  role_next s (role.Register r) w n now kind driven plain one narrow same = register_next s r w n now driven plain one narrow same
+  role_next s _ w n now kind driven plain one narrow same = absurd (cc)
 
   only : (k : ℕ) (n : List ℕ) → name_at t.leaves k ≡ Some n → OnlyGives ns f named n (leaf_block t p) t.leaves net.leaves k
   only k n name = record {
@@ -91,15 +100,19 @@ module _ (net : FlatNet) (t : NameTable) (p : Places) (order : List Read) (is : 
   blocks_along = blocks_are net t p order ∙ sym (along_zipped LeafNamed (leaf_block t p) t.leaves net.leaves (leaves_named net t is.table))
 
   -- each register that has a name has its next value there
-  next_value : (k : ℕ) (l : Leaf) (n : List ℕ) → slice_get net.leaves k ≡ Some l → is_register l.role ≡ true → name_at t.leaves k ≡ Some n → written ns f named (blocks (in_parts net t p order)) n ≡ next_word net e clock named k
+  next_value : (k : ℕ) (l : Leaf) (n : List ℕ) → slice_get net.leaves k ≡ Some l → is_register l.role ≡ true → name_at t.leaves k ≡ Some n
+      → written ns f named (blocks (in_parts net t p order)) n ≡ next_word net e clock named k
   next_value k l n at kind name =
       let leaf = leaf_at net t p order is k l at in
       let here = written_by ns f named n (leaf_block t p) t.leaves net.leaves k l at (only k n name) in
       rw at (rw blocks_along here
       ∙ ap (λ (o : Option (List ℕ)). written ns f named (leaf_block t p l o) n) name
-      ∙ role_next l.role l.width n (e k) kind leaf.driven (is.writable.leaves k l at) leaf.narrow (agrees.value k l n at (plain_register l.role kind) name))
+      ∙ role_next l.signed l.role l.width n (e k) kind leaf.driven (is.writable.leaves k l at)
+      (named_bits l (rw name at (each_at LeafNamed t.leaves net.leaves (leaves_named net t is.table) k l at))) leaf.narrow
+      (agrees.value k l n at (plain_register l.role kind) name))
 
-  pub states_same : map (λ (r : Sized). written ns f named (blocks (in_parts net t p order)) r.0) (regs (in_parts net t p order)) ≡ map (next_word net e clock named) (registers net)
+  pub states_same : map (λ (r : Sized). written ns f named (blocks (in_parts net t p order)) r.0) (regs (in_parts net t p order)) ≡ map
+      (next_word net e clock named) (registers net)
   states_same =
       sym (map-map (λ (n : List ℕ). written ns f named (blocks (in_parts net t p order)) n) (λ (r : Sized). r.0) (regs (in_parts net t p order)))
       ∙ registers_same net t p order is (next_word net e clock named) (λ n. written ns f named (blocks (in_parts net t p order)) n) next_value

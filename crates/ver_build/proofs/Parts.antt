@@ -10,14 +10,14 @@ use Rattle.ver_ast.specs.declared.tree.Net.{Net}
 use Rattle.ver_ast.specs.declared.tree.Assign.{Assign}
 use Rattle.ver_ast.specs.declared.tree.Always.{Always}
 use Rattle.ver_build.specs.declared.places.Places.{Places}
-use Rattle.ver_build.specs.working.Places.{Inner, inner}
-use Rattle.ver_build.specs.working.Built.{built, items, leaf_port, leaf_reg, leaf_assign, leaf_block, inner_wire, inner_assign}
+use Rattle.ver_build.specs.declared.right_sides.Inner.{Inner}
+use Rattle.ver_build.specs.working.Built.{built, inners, items, leaf_port, leaf_reg, leaf_assign, leaf_block, inner_wire, inner_assign}
 use Rattle.ver_build.proofs.Names.{zipped, along_zipped}
 use Rattle.ver_build.proofs.Premises.{LeafNamed, leaves_named}
 
 module _ (net : FlatNet) (t : NameTable) (p : Places) (order : List Read) where
-  abbrev pub inners : List Inner
-  inners = inner net p.nodes order
+  abbrev pub inners_of : List Inner
+  inners_of = inners net p order
 
   abbrev pub ports_of : List Port
   ports_of = zipped leaf_port t.leaves net.leaves
@@ -26,13 +26,13 @@ module _ (net : FlatNet) (t : NameTable) (p : Places) (order : List Read) where
   registers_of = zipped leaf_reg t.leaves net.leaves
 
   abbrev pub wires_of : List Net
-  wires_of = map inner_wire inners
+  wires_of = map inner_wire inners_of
 
   abbrev pub output_assigns : List Assign
   output_assigns = zipped (leaf_assign p) t.leaves net.leaves
 
   abbrev pub assigns_of : List Assign
-  assigns_of = map (inner_assign p) inners ++ output_assigns
+  assigns_of = map inner_assign inners_of ++ output_assigns
 
   abbrev pub blocks_of : List Always
   blocks_of = zipped (leaf_block t p) t.leaves net.leaves

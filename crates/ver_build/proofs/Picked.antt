@@ -35,7 +35,8 @@ rest_once : (n : Option (List ℕ)) (rest : List (List ℕ)) → Distinct (with_
 rest_once None rest d = d
 rest_once (Some name) rest d = d.1
 
-one_more : (b : Bool) (n : Option (List ℕ)) (rest ps : List (List ℕ)) → Distinct (with_some n rest) → ((x : List ℕ) → In ps x → In rest x) → Distinct ps → Distinct (name_if b n ++ ps)
+one_more : (b : Bool) (n : Option (List ℕ)) (rest ps : List (List ℕ)) → Distinct (with_some n rest) → ((x : List ℕ) → In ps x → In rest x)
+    → Distinct ps → Distinct (name_if b n ++ ps)
 one_more false n rest ps d h e = e
 one_more true None rest ps d h e = e
 one_more true (Some name) rest ps d h e = (λ m. d.0 (h name m), e)
@@ -47,7 +48,8 @@ picked_once p (n ∷ names) [] d = tt
 picked_once p (n ∷ names) (l ∷ ls) d =
     one_more (p l.role) n (somes names) (picked p names ls) d (picked_named p names ls) (picked_once p names ls (rest_once n (somes names) d))
 
-one_apart : (b c : Bool) → (b ≡ true → c ≡ true → ⊥) → (n : Option (List ℕ)) (rest ps qs : List (List ℕ)) → Distinct (with_some n rest) → ((x : List ℕ) → In ps x → In rest x) → ((x : List ℕ) → In qs x → In rest x) → ((x : List ℕ) → In ps x → In qs x → ⊥)
+one_apart : (b c : Bool) → (b ≡ true → c ≡ true → ⊥) → (n : Option (List ℕ)) (rest ps qs : List (List ℕ)) → Distinct (with_some n rest)
+    → ((x : List ℕ) → In ps x → In rest x) → ((x : List ℕ) → In qs x → In rest x) → ((x : List ℕ) → In ps x → In qs x → ⊥)
     → (x : List ℕ) → In (name_if b n ++ ps) x → In (name_if c n ++ qs) x → ⊥
 one_apart false false not_both n rest ps qs d f g h x i o = h x i o
 one_apart false true not_both None rest ps qs d f g h x i o = h x i o
@@ -58,12 +60,14 @@ one_apart true false not_both (Some name) rest ps qs d f g h x (inl e) o = d.0 (
 one_apart true false not_both (Some name) rest ps qs d f g h x (inr i) o = h x i o
 one_apart true true not_both n rest ps qs d f g h x i o = not_both refl refl
 
-pub picked_apart : (p q : Role → Bool) → ((r : Role) → p r ≡ true → q r ≡ true → ⊥) → (names : NameList) (ls : List Leaf) → Distinct (somes names) → (x : List ℕ) → In (picked p names ls) x → In (picked q names ls) x → ⊥
+pub picked_apart : (p q : Role → Bool) → ((r : Role) → p r ≡ true → q r ≡ true → ⊥) → (names : NameList) (ls : List Leaf) → Distinct (somes names)
+    → (x : List ℕ) → In (picked p names ls) x → In (picked q names ls) x → ⊥
 unfolding zipped
 picked_apart p q not_both [] ls d x i o = i
 picked_apart p q not_both (n ∷ names) [] d x i o = i
 picked_apart p q not_both (n ∷ names) (l ∷ ls) d x i o =
-    one_apart (p l.role) (q l.role) (not_both l.role) n (somes names) (picked p names ls) (picked q names ls) d (picked_named p names ls) (picked_named q names ls)
+    one_apart (p l.role) (q l.role) (not_both l.role) n (somes names) (picked p names ls) (picked q names ls) d (picked_named p names ls)
+    (picked_named q names ls)
     (picked_apart p q not_both names ls (rest_once n (somes names) d)) x i o
 
 -- the name of a leaf that is of the kind

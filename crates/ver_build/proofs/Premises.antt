@@ -16,13 +16,23 @@ use Rattle.fir_net.specs.working.IsNet.{IsLeaf, IsNet}
 use Rattle.fir_net.specs.working.IsOrder.{IsOrder}
 use Rattle.fir_net.specs.working.IsWritable.{IsWritable, IsWritableRole}
 use Rattle.fir_net.specs.working.IsTable.{IsTable}
+use Rattle.fir_net.specs.working.Laws.{NodesHaveTheirValues, NodesHaveTheirTypes, OrderedHasOne}
 use Rattle.fir_net.specs.working.LeafNamed.{AreLeafNames, has_name, is_wire, somes}
 use Rattle.ver_words.specs.Names.{IsName}
+use Rattle.ver_ast.specs.working.Laws.{ValidHasOneRest}
 use Rattle.ver_build.specs.declared.places.Places.{Places}
 use Rattle.ver_build.specs.working.Places.{IsPlaces}
 use Rattle.ver_build.proofs.Names.{NameList, Each, each_with}
 
+-- the laws of nets and trees that are used
+pub record AreLaws : Type 0 where
+  pub values : NodesHaveTheirValues
+  pub types : NodesHaveTheirTypes
+  pub one_choice : OrderedHasOne
+  pub one_rest : ValidHasOneRest
+
 pub record Premises (net : FlatNet) (t : NameTable) (p : Places) (order : List Read) : Type 0 where
+  pub laws : AreLaws
   pub whole : IsNet net
   pub writable : IsWritable net
   pub ordered : IsOrder net order
@@ -51,7 +61,9 @@ BitsNamed w None = w ≡ 0
 BitsNamed w (Some name) = 1 ≤ w
 
 pub some_bits : (w : ℕ) → not (nat_eq w 0) ≡ true → 1 ≤ w
-some_bits w h = cond_both {A = ℕ} (nat_eq w 0) 0 0 (λ _. 1 ≤ w) (λ t. let bad : not true ≡ true = rw t at h in cc) (λ t. let some : w ≡ 0 → ⊥ = eqb-false _ _ t in omega arith)
+some_bits w h =
+    cond_both {A = ℕ} (nat_eq w 0) 0 0 (λ _. 1 ≤ w) (λ t. let bad : not true ≡ true = rw t at h in cc)
+    (λ t. let some : w ≡ 0 → ⊥ = eqb-false _ _ t in omega arith)
 
 pub no_bits : (w : ℕ) → not (nat_eq w 0) ≡ false → w ≡ 0
 no_bits w h = cond_both {A = ℕ} (nat_eq w 0) 0 0 (λ _. w ≡ 0) (λ t. eqb-true _ _ t) (λ t. let bad : not false ≡ false = rw t at h in cc)
@@ -78,7 +90,8 @@ abbrev pub Known : FlatNet → Leaf → Option (List ℕ) → Type 0
 Known net l n = LeafNamed l n × IsLeaf net.leaves net.nodes l × IsWritableRole l.role
 
 pub leaves_whole : (net : FlatNet) (t : NameTable) → IsNet net → IsTable net t → Each (Whole net) t.leaves net.leaves
-leaves_whole net t whole table = each_with LeafNamed (Whole net) (IsLeaf net.leaves net.nodes) (λ l n h k. (h, k)) t.leaves net.leaves (leaves_named net t table) whole.leaves
+leaves_whole net t whole table =
+    each_with LeafNamed (Whole net) (IsLeaf net.leaves net.nodes) (λ l n h k. (h, k)) t.leaves net.leaves (leaves_named net t table) whole.leaves
 
 pub all_by_number : {A : Type 0} → (P : A → Type 0) (xs : List A) → ((k : ℕ) (x : A) → slice_get xs k ≡ Some x → P x) → AllByRecursion P xs
 all_by_number P xs h = all_from P xs (λ x m. let n = number_of xs x m in h n.0 x n.1)
@@ -86,5 +99,6 @@ all_by_number P xs h = all_from P xs (λ x m. let n = number_of xs x m in h n.0 
 module _ (net : FlatNet) (t : NameTable) (p : Places) (order : List Read) (is : Premises net t p order) where
   pub leaves_known : Each (Known net) t.leaves net.leaves
   leaves_known =
-      each_with (Whole net) (Known net) (λ l. IsWritableRole l.role) (λ l n h k. (h.0, h.1, k)) t.leaves net.leaves (leaves_whole net t is.whole is.table)
+      each_with (Whole net) (Known net) (λ l. IsWritableRole l.role) (λ l n h k. (h.0, h.1, k)) t.leaves net.leaves
+      (leaves_whole net t is.whole is.table)
       (all_by_number (λ l. IsWritableRole l.role) net.leaves (λ k l at. is.writable.leaves k l at))

@@ -21,7 +21,7 @@ use Rattle.ver_build.proofs.Premises.{Premises, BitsNamed, LeafNamed, RoleNamed,
 use Rattle.ver_build.proofs.Parts.{in_parts}
 use Rattle.ver_build.proofs.LeafKinds.{is_input, is_clock_input, is_output, is_register, name_if, sized_if, picked, picked_sized}
 use Rattle.ver_build.proofs.Nets.{inputs_sized, clocks_are, registers_sized}
-use Rattle.ver_build.proofs.Widths.{if_equal}
+use Rattle.ver_build.proofs.Choices.{if_equal}
 
 -- the number of a leaf with bits, where it is of a kind
 abbrev pub number_if : Bool → ℕ → ℕ → List ℕ
@@ -38,36 +38,43 @@ bits_behind l all w k = by_bool (nat_eq w 0)
     by_bool true = refl
     by_bool false = ap (λ v. v ∷ []) (width_behind l all k)
 
-number_behind : (l : Leaf) (all : List Leaf) (b : Bool) (w k : ℕ) → map (leaf_width (l ∷ all)) (number_if b w (k + 1)) ≡ map (leaf_width all) (number_if b w k)
+number_behind : (l : Leaf) (all : List Leaf) (b : Bool) (w k : ℕ)
+    → map (leaf_width (l ∷ all)) (number_if b w (k + 1)) ≡ map (leaf_width all) (number_if b w k)
 number_behind l all false w k = refl
 number_behind l all true w k = bits_behind l all w k
 
 -- the width of one leaf of a kind, where it has bits
-one_width : (b : Bool) (w : ℕ) (n : Option (List ℕ)) (f : ℕ → ℕ) → f 0 ≡ w → (b ≡ true → BitsNamed w n) → widths_of (sized_if b w n) ≡ map f (number_if b w 0)
+one_width : (b : Bool) (w : ℕ) (n : Option (List ℕ)) (f : ℕ → ℕ) → f 0 ≡ w → (b ≡ true → BitsNamed w n)
+    → widths_of (sized_if b w n) ≡ map f (number_if b w 0)
 one_width false w n f e h = refl
 one_width true w None f e h = if_equal (λ (ks : List ℕ). [] ≡ map f ks) w 0 [] (0 ∷ []) (λ _. refl) (λ other. absurd (other (h refl)))
 one_width true w (Some name) f e h =
     if_equal (λ (ks : List ℕ). w ∷ [] ≡ map f ks) w 0 [] (0 ∷ []) (λ same. let some = h refl in absurd (omega arith)) (λ _. ap (λ v. v ∷ []) (sym e))
 
-module _ (p : Role → Bool) (number : Role → ℕ → ℕ → List ℕ) (is : (r : Role) (w k : ℕ) → number r w k ≡ number_if (p r) w k) (plain : (r : Role) → p r ≡ true → is_wire r ≡ false) where
+module _ (p : Role → Bool) (number : Role → ℕ → ℕ → List ℕ) (is : (r : Role) (w k : ℕ) → number r w k ≡ number_if (p r) w k)
+    (plain : (r : Role) → p r ≡ true → is_wire r ≡ false) where
   -- the widths of the leaves behind one
-  numbers_behind : (l : Leaf) (all : List Leaf) (k : ℕ) (ls : List Leaf) → map (leaf_width (l ∷ all)) (numbers_by number (k + 1) ls) ≡ map (leaf_width all) (numbers_by number k ls)
+  numbers_behind : (l : Leaf) (all : List Leaf) (k : ℕ) (ls : List Leaf)
+      → map (leaf_width (l ∷ all)) (numbers_by number (k + 1) ls) ≡ map (leaf_width all) (numbers_by number k ls)
   numbers_behind l all k [] = refl
   numbers_behind l all k (x ∷ ls) =
       let here : map (leaf_width (l ∷ all)) (number x.role x.width (k + 1)) ≡ map (leaf_width all) (number x.role x.width k) =
-      ap (map (leaf_width (l ∷ all))) (is x.role x.width (k + 1)) ∙ number_behind l all (p x.role) x.width k ∙ ap (map (leaf_width all)) (sym (is x.role x.width k)) in
+      ap (map (leaf_width (l ∷ all))) (is x.role x.width (k + 1)) ∙ number_behind l all (p x.role) x.width k
+      ∙ ap (map (leaf_width all)) (sym (is x.role x.width k)) in
       map-append (leaf_width (l ∷ all)) (number x.role x.width (k + 1)) (numbers_by number (k + 1 + 1) ls)
       ∙ rw (here, numbers_behind l all (k + 1) ls) refl
       ∙ sym (map-append (leaf_width all) (number x.role x.width k) (numbers_by number (k + 1) ls))
 
-  pub widths_along : (names : NameList) (ls : List Leaf) → Each LeafNamed names ls → widths_of (picked_sized p names ls) ≡ map (leaf_width ls) (numbers_by number 0 ls)
+  pub widths_along : (names : NameList) (ls : List Leaf) → Each LeafNamed names ls
+      → widths_of (picked_sized p names ls) ≡ map (leaf_width ls) (numbers_by number 0 ls)
   unfolding zipped
   widths_along [] [] h = refl
   widths_along [] (l ∷ ls) h = absurd h
   widths_along (n ∷ names) [] h = absurd h
   widths_along (n ∷ names) (l ∷ ls) h =
       let here : widths_of (sized_if (p l.role) l.width n) ≡ map (leaf_width (l ∷ ls)) (number l.role l.width 0) =
-      one_width (p l.role) l.width n (leaf_width (l ∷ ls)) refl (λ e. bits_named l.role l.width n (plain l.role e) (role_named l n h.0)) ∙ ap (map (leaf_width (l ∷ ls))) (sym (is l.role l.width 0)) in
+      one_width (p l.role) l.width n (leaf_width (l ∷ ls)) refl (λ e. bits_named l.role l.width n (plain l.role e) (role_named l n h.0))
+      ∙ ap (map (leaf_width (l ∷ ls))) (sym (is l.role l.width 0)) in
       map-append (λ (s : Sized). s.1) (sized_if (p l.role) l.width n) (picked_sized p names ls)
       ∙ rw (here, widths_along names ls h.1 ∙ sym (numbers_behind l ls 0 ls)) refl
       ∙ sym (map-append (leaf_width (l ∷ ls)) (number l.role l.width 0) (numbers_by number 1 ls))
@@ -97,12 +104,14 @@ register_plain (role.Register r) e = refl
 register_plain _ e = absurd (cc)
 
 module _ (net : FlatNet) where
-  one_clock : (r : Role) (w : ℕ) (n : Option (List ℕ)) (k : ℕ) → RoleNamed r w n → IsRole net.leaves net.nodes w r → length (name_if (is_clock_input r) n) ≡ length (clock_number r w k)
-  one_clock role.Clock w None k h is = let none = bits_named role.Clock w None refl h in absurd (omega arith)
-  one_clock role.Clock w (Some name) k h is = refl
-  one_clock _ w n k h is = refl
+  one_clock : (s : Bool) (r : Role) (w : ℕ) (n : Option (List ℕ)) (k : ℕ) → RoleNamed r w n → IsRole net.leaves net.nodes s w r
+      → length (name_if (is_clock_input r) n) ≡ length (clock_number r w k)
+  one_clock s role.Clock w None k h is = let none = bits_named role.Clock w None refl h in absurd (omega arith)
+  one_clock s role.Clock w (Some name) k h is = refl
+  one_clock s _ w n k h is = refl
 
-  clocks_along : (names : NameList) (ls : List Leaf) (k : ℕ) → Each (Whole net) names ls → length (picked is_clock_input names ls) ≡ length (numbers_by clock_number k ls)
+  clocks_along : (names : NameList) (ls : List Leaf) (k : ℕ) → Each (Whole net) names ls
+      → length (picked is_clock_input names ls) ≡ length (numbers_by clock_number k ls)
   unfolding zipped
   clocks_along [] [] k h = refl
   clocks_along [] (l ∷ ls) k h = absurd h
@@ -111,11 +120,12 @@ module _ (net : FlatNet) where
       rw (
         length-append (name_if (is_clock_input l.role) n) (picked is_clock_input names ls),
         length-append (clock_number l.role l.width k) (numbers_by clock_number (k + 1) ls),
-        one_clock l.role l.width n k (role_named l n h.0.0) h.0.1.driven,
+        one_clock l.signed l.role l.width n k (role_named l n h.0.0) h.0.1.driven,
         clocks_along names ls (k + 1) h.1,
       ) refl
 
-pub built_shape : (net : FlatNet) (t : NameTable) (p : Places) (order : List Read) → Premises net t p order → v_shape (in_parts net t p order) ≡ net_shape net
+pub built_shape : (net : FlatNet) (t : NameTable) (p : Places) (order : List Read) → Premises net t p order
+    → v_shape (in_parts net t p order) ≡ net_shape net
 built_shape net t p order is =
     let named = leaves_named net t is.table in
     let ins : widths_of (inputs (in_parts net t p order)) ≡ map (leaf_width net.leaves) (numbers_by input_number 0 net.leaves) =

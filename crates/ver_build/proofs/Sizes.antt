@@ -1,34 +1,36 @@
--- Each leaf with a name that is no clock, and each operation with a name, is a net of its width.
--- Its width is 1 or more, since it has bits, and at most 128.
-use Rattle.std.proofs.Common.{◌≡◌, ℕ, ◌≤◌, List, [], ◌∷◌, ◌++◌, true, false, not, nat_eq, map, refl, sym, ◌∙◌, inl, inr, subst}
+-- Each leaf with a name that is no clock, and each inner net, is a net of its width.
+-- Names stand once. The width of a leaf is 1 or more, since it has bits, and at most 128.
+use Rattle.std.proofs.Common.{◌≡◌, ℕ, ◌≤◌, List, ◌++◌, true, false, not, nat_eq, map, refl, sym, inl, ◌⊎◌, ⊎_elim, subst}
 use Rattle.std.specs.Prelude.{slice_get, Option, Some, None}
 use Rattle.fir_base.specs.Lists.{In, Distinct}
-use Rattle.fir_base.proofs.Members.{in_map, in_left, in_right, in_flat_map_from}
-use Rattle.fir_base.proofs.Elements.{all_there}
+use Rattle.std.proofs.lemmas.Option.{slice_get_within}
+use Rattle.fir_base.proofs.Each.{all_from}
+use Rattle.fir_base.proofs.Members.{in_map, in_left, in_right, in_flat_map, in_flat_map_from}
+use Rattle.fir_base.proofs.Elements.{get_in}
 use Rattle.fir_base.proofs.Twins.{distinct_right, distinct_joined, apart}
 use Rattle.fir_base.proofs.Tests.{both}
 use Rattle.fir_net.specs.declared.reads.Read.{Read}
 use Rattle.fir_net.specs.declared.reads.Read.TheVariants as read
 use Rattle.fir_net.specs.declared.leaf.Leaf.{Leaf}
 use Rattle.fir_net.specs.declared.node.Node.{Node}
-use Rattle.fir_net.specs.declared.node.Node.TheVariants as node
 use Rattle.fir_net.specs.declared.net.FlatNet.{FlatNet}
 use Rattle.fir_net.specs.declared.name_table.NameTable.{NameTable}
-use Rattle.fir_net.specs.working.IsNet.{IsNode, IsOperation, IsLeaf}
+use Rattle.fir_net.specs.working.IsNet.{node_type, IsLeaf}
 use Rattle.fir_net.specs.working.IsWritable.{IsWritableRole}
 use Rattle.fir_net.specs.working.LeafNamed.{somes, has_name, is_wire}
 use Rattle.ver_ast.specs.Nets.{Sized, width_in, names_of}
 use Rattle.ver_ast.proofs.Widths.{declared_width}
-use Rattle.ver_build.specs.declared.held.Held.{Held}
-use Rattle.ver_build.specs.declared.held.Held.TheVariants as held
 use Rattle.ver_build.specs.declared.places.Places.{Places}
-use Rattle.ver_build.specs.working.Places.{held_at, whole_net, IsOwn, Inner, node_inner, read_inner, inner, inner_names}
+use Rattle.ver_build.specs.declared.right_sides.Inner.{Inner}
+use Rattle.ver_build.specs.working.Places.{node_at, inner_names}
+use Rattle.ver_build.specs.working.Built.{inners, node_inners, inners_at, read_inners}
 use Rattle.ver_build.proofs.Names.{Each, each_with, each_and, each_part}
 use Rattle.ver_build.proofs.Premises.{Premises, LeafNamed, some_bits, bits_named, leaves_named, Known, leaves_known}
 use Rattle.ver_build.proofs.LeafKinds.{is_net, sized_if, picked, picked_sized}
 use Rattle.ver_build.proofs.Picked.{picked_named, picked_once}
-use Rattle.ver_build.proofs.Nets.{inner_sized, sizes, sizes_named}
-use Rattle.ver_build.proofs.Whole.{all_nodes, operation_narrow}
+use Rattle.ver_build.proofs.Nets.{inner_name, inner_sized, sizes, sizes_named}
+use Rattle.ver_build.proofs.Standing.{DeclaresInners}
+use Rattle.ver_build.proofs.NodeNets.{IsLiteral, IsEmpty, IsNetted, node_view, given_inners, no_inners, empty_inners, netted_inners, inners_named}
 use Rattle.ver_build.proofs.InnerNames.{all_once}
 
 -- a net of that name and width, from 1 to 128
@@ -57,37 +59,43 @@ pub unnamed_bits : (l : Leaf) → is_wire l.role ≡ false → has_name l ≡ fa
 unnamed_bits l plain h = bits_named l.role l.width None plain h
 
 -- a leaf with a name that is a net
-pub leaf_is_sized : (nets : List Sized) (l : Leaf) (n : Option (List ℕ)) → LeafSized nets l n → is_net l.role ≡ true → (name : List ℕ) → n ≡ Some name → IsSized nets name l.width
+pub leaf_is_sized : (nets : List Sized) (l : Leaf) (n : Option (List ℕ)) → LeafSized nets l n → is_net l.role ≡ true → (name : List ℕ)
+    → n ≡ Some name → IsSized nets name l.width
 leaf_is_sized nets l None h k name e = absurd (cc)
 leaf_is_sized nets l (Some other) h k name e =
     let same : other ≡ name = cc in
     subst (λ (m : List ℕ). IsSized nets m l.width) same (h k)
 
--- the node of an operation that has a net
-pub record InnerOf (net : FlatNet) (p : Places) (x : Inner) : Type 0 where
+-- the node of an inner net
+pub record InnerOf (net : FlatNet) (p : Places) (i : Inner) : Type 0 where
   pub number : ℕ
-  pub at : slice_get net.nodes number ≡ Some (node.Operation x.operation)
-  pub some : 1 ≤ x.operation.width
-  pub is_held : held_at p.nodes number ≡ whole_net x.name x.operation.width
+  pub node : Node
+  pub at : slice_get net.nodes number ≡ Some node
+  pub netted : IsNetted p node (node_at p.nodes number)
+  pub inside : In (node_inners p node (node_at p.nodes number).helpers netted.name) i
 
 abbrev pub LeafFact : FlatNet → List Sized → Leaf → Option (List ℕ) → Type 0
 LeafFact net nets l n = LeafSized nets l n × IsLeaf net.leaves net.nodes l × IsWritableRole l.role
 
 module _ (net : FlatNet) (t : NameTable) (p : Places) (order : List Read) (is : Premises net t p order) where
-  abbrev inners : List Inner
-  inners = inner net p.nodes order
+  abbrev all_inners : List Inner
+  all_inners = inners net p order
 
   -- the names of all
-  pub names_once : Distinct (somes t.leaves ++ inner_names inners)
-  names_once = let nodes = is.places.nodes in all_once (somes t.leaves) nodes.last (inner_names inners) is.once nodes.near nodes.named
+  pub names_once : Distinct (somes t.leaves ++ map inner_name all_inners)
+  names_once =
+      let nodes = is.places.nodes in
+      rw (inners_named net p nodes.held order) (all_once (somes t.leaves) nodes.last (inner_names net p.nodes order) is.once nodes.near nodes.named)
 
   pub sizes_once : Distinct (names_of (sizes net t p order))
   sizes_once =
       subst Distinct (sym (sizes_named net t p order))
-      (distinct_joined (picked is_net t.leaves net.leaves) (inner_names inners) (picked_once is_net t.leaves net.leaves is.once) (distinct_right (somes t.leaves) (inner_names inners) names_once)
-      (λ x m n. apart (somes t.leaves) (inner_names inners) names_once x (picked_named is_net t.leaves net.leaves x m) n))
+      (distinct_joined (picked is_net t.leaves net.leaves) (map inner_name all_inners) (picked_once is_net t.leaves net.leaves is.once)
+      (distinct_right (somes t.leaves) (map inner_name all_inners) names_once)
+      (λ x m n. apart (somes t.leaves) (map inner_name all_inners) names_once x (picked_named is_net t.leaves net.leaves x m) n))
 
-  leaf_size : (l : Leaf) (n : Option (List ℕ)) → LeafNamed l n × PartIn leaf_part (sizes net t p order) l n → IsLeaf net.leaves net.nodes l → LeafSized (sizes net t p order) l n
+  leaf_size : (l : Leaf) (n : Option (List ℕ)) → LeafNamed l n × PartIn leaf_part (sizes net t p order) l n → IsLeaf net.leaves net.nodes l
+      → LeafSized (sizes net t p order) l n
   leaf_size l None h k = h.0
   leaf_size l (Some name) h k =
       λ is.
@@ -97,7 +105,9 @@ module _ (net : FlatNet) (t : NameTable) (p : Places) (order : List Read) (is : 
   pub leaf_sizes : Each (LeafSized (sizes net t p order)) t.leaves net.leaves
   leaf_sizes =
       let named = leaves_named net t is.table in
-      let parts = each_part LeafNamed leaf_part (sizes net t p order) t.leaves net.leaves named (in_left (picked_sized is_net t.leaves net.leaves) (map inner_sized inners)) in
+      let parts =
+      each_part LeafNamed leaf_part (sizes net t p order) t.leaves net.leaves named
+      (in_left (picked_sized is_net t.leaves net.leaves) (map inner_sized all_inners)) in
       let P = λ (l : Leaf) (n : Option (List ℕ)). LeafNamed l n × PartIn leaf_part (sizes net t p order) l n in
       each_with P (LeafSized (sizes net t p order)) (IsLeaf net.leaves net.nodes) leaf_size t.leaves net.leaves
       (each_and LeafNamed (PartIn leaf_part (sizes net t p order)) P (λ l n h k. (h, k)) t.leaves net.leaves named parts) is.whole.leaves
@@ -105,36 +115,56 @@ module _ (net : FlatNet) (t : NameTable) (p : Places) (order : List Read) (is : 
   -- each leaf with what is known of it
   pub leaf_facts : Each (LeafFact net (sizes net t p order)) t.leaves net.leaves
   leaf_facts =
-      each_and (LeafSized (sizes net t p order)) (Known net) (LeafFact net (sizes net t p order)) (λ l n h k. (h, k.1, k.2)) t.leaves net.leaves leaf_sizes (leaves_known net t p order is)
+      each_and (LeafSized (sizes net t p order)) (Known net) (LeafFact net (sizes net t p order))
+      (λ l n h k. (h, k.1, k.2)) t.leaves net.leaves leaf_sizes (leaves_known net t p order is)
 
-  -- each operation that has a net
-  from_held : (k : ℕ) (o : Option Node) (h : Held) (x : Inner) → slice_get net.nodes k ≡ o → held_at p.nodes k ≡ h → In (node_inner o h) x → InnerOf net p x
-  from_held k None h x at here m = absurd m
-  from_held k (Some (node.Literal v)) h x at here m = absurd m
-  from_held k (Some (node.Mux n)) h x at here m = absurd m
-  from_held k (Some (node.Operation o)) held.NoBits x at here m = absurd m
-  from_held k (Some (node.Operation o)) (held.Constant v n) x at here m = absurd m
-  from_held k (Some (node.Operation o)) (held.Net q) x at here m =
-      let own : IsOwn o.width (held.Net q) = subst (IsOwn o.width) here (is.places.nodes.held.each k (node.Operation o) at) in
-      one_inner m own
-    where
-      one_inner : In (record { operation = o; name = q.name } ∷ []) x → IsOwn o.width (held.Net q) → InnerOf net p x
-      one_inner (inl e) own =
-          subst (InnerOf net p) e (record { number = k; at = at; some = own.0; is_held = here ∙ own.1 })
-      one_inner (inr m) own = absurd m
+  -- the inner nets of a node are among all
+  pub inners_among : (k : ℕ) (n : Node) (h : IsNetted p n (node_at p.nodes k)) → slice_get net.nodes k ≡ Some n → (i : Inner)
+      → In (node_inners p n (node_at p.nodes k).helpers h.name) i → In all_inners i
+  inners_among k n h at i m =
+      let place = is.ordered.all (read.Node k) (slice_get_within net.nodes k n at) in
+      let given : In (read_inners net p (read.Node k)) i = rw (at, netted_inners p n (node_at p.nodes k) h) m in
+      in_flat_map (read_inners net p) order (read.Node k) i (get_in order place.0 (read.Node k) place.1) given
 
-  pub inner_of : (x : Inner) → In inners x → InnerOf net p x
-  inner_of x m =
-      let r = in_flat_map_from (read_inner net p.nodes) order x m in
+  from_node : (k : ℕ) (n : Node) (i : Inner) → slice_get net.nodes k ≡ Some n → In (given_inners p n (node_at p.nodes k)) i → InnerOf net p i
+  from_node k n i at m =
+      let here = node_at p.nodes k in
+      ⊎_elim
+      (λ (l : IsLiteral n here). absurd (rw (no_inners p n here l) at m))
+      (λ (o : IsEmpty n here ⊎ IsNetted p n here).
+      ⊎_elim
+      (λ (e : IsEmpty n here). absurd (rw (empty_inners p n here e) at m))
+      (λ (h : IsNetted p n here). record { number = k; node = n; at = at; netted = h; inside = rw (netted_inners p n here h) at m })
+      o)
+      (node_view p n here (is.places.nodes.held.each k n at))
+
+  pub inner_of : (i : Inner) → In all_inners i → InnerOf net p i
+  inner_of i m =
+      let r = in_flat_map_from (read_inners net p) order i m in
       by_read r.0 r.2
     where
-      by_read : (r : Read) → In (read_inner net p.nodes r) x → InnerOf net p x
-      by_read (read.Leaf k) h = absurd h
-      by_read (read.Node k) h = from_held k (slice_get net.nodes k) (held_at p.nodes k) x refl refl h
+      by_node : (k : ℕ) (o : Option Node) → slice_get net.nodes k ≡ o → In (inners_at p o (node_at p.nodes k)) i → InnerOf net p i
+      by_node k None at h = absurd h
+      by_node k (Some n) at h = from_node k n i at h
 
-  pub inner_size : (x : Inner) → In inners x → IsSized (sizes net t p order) x.name x.operation.width
-  inner_size x m =
-      let o = inner_of x m in
-      let whole : IsOperation net.leaves net.nodes x.operation = all_there (IsNode net.leaves net.nodes) net.nodes (all_nodes net.leaves net.nodes is.whole.nodes) o.number (node.Operation x.operation) o.at in
-      let among : In (sizes net t p order) (x.name, x.operation.width) = in_right (picked_sized is_net t.leaves net.leaves) (map inner_sized inners) (x.name, x.operation.width) (in_map inner_sized inners x m) in
-      record { one = o.some; narrow = operation_narrow net.leaves net.nodes x.operation whole; among = among; wide = declared_width (sizes net t p order) sizes_once x.name x.operation.width among }
+      by_read : (r : Read) → In (read_inners net p r) i → InnerOf net p i
+      by_read (read.Leaf k) h = absurd h
+      by_read (read.Node k) h = by_node k (slice_get net.nodes k) refl h
+
+  pub inner_among : (i : Inner) → In all_inners i → In (sizes net t p order) (inner_sized i)
+  inner_among i m =
+      in_right (picked_sized is_net t.leaves net.leaves) (map inner_sized all_inners) (inner_sized i) (in_map inner_sized all_inners i m)
+
+  pub inner_declared : (i : Inner) → In all_inners i → width_in (sizes net t p order) i.name ≡ i.width
+  inner_declared i m = declared_width (sizes net t p order) sizes_once i.name i.width (inner_among i m)
+
+  -- the nets of a node are declared
+  pub node_declared : (k : ℕ) (n : Node) (h : IsNetted p n (node_at p.nodes k)) → slice_get net.nodes k ≡ Some n
+      → DeclaresInners (sizes net t p order) (node_inners p n (node_at p.nodes k).helpers h.name)
+  node_declared k n h at =
+      let here = node_inners p n (node_at p.nodes k).helpers h.name in
+      all_from (λ i. width_in (sizes net t p order) i.name ≡ i.width) here (λ i m. inner_declared i (inners_among k n h at i m))
+
+  pub own_declared : (k : ℕ) (n : Node) (h : IsNetted p n (node_at p.nodes k)) → slice_get net.nodes k ≡ Some n
+      → width_in (sizes net t p order) h.name ≡ (node_type n).width
+  own_declared k n h at = inner_declared _ (inners_among k n h at _ h.inside)

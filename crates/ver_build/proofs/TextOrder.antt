@@ -21,40 +21,51 @@ Within xs ys = (x : List ℕ) → In xs x → In ys x
 abbrev pub net_name : Net → List ℕ
 net_name n = n.name
 
-assigns_declared : (known all : List (List ℕ)) (xs : List Assign) (rest : List Item) → Within all known → AllByRecursion (AssignAmong all) xs → DeclaredBefore known rest → DeclaredBefore known (map item.Assign xs ++ rest)
+assigns_declared : (known all : List (List ℕ)) (xs : List Assign) (rest : List Item) → Within all known → AllByRecursion (AssignAmong all) xs
+    → DeclaredBefore known rest → DeclaredBefore known (map item.Assign xs ++ rest)
 assigns_declared known all [] rest h a d = d
-assigns_declared known all (b ∷ xs) rest h a d = (h b.target a.0.target, each_more (rhs_names b.rhs) all known h a.0.sources, assigns_declared known all xs rest h a.1 d)
+assigns_declared known all (b ∷ xs) rest h a d =
+    (h b.target a.0.target, each_more (rhs_names b.rhs) all known h a.0.sources, assigns_declared known all xs rest h a.1 d)
 
-blocks_declared : (known all : List (List ℕ)) (bs : List Always) → Within all known → AllByRecursion (BlockAmong all) bs → DeclaredBefore known (map item.Always bs)
+blocks_declared : (known all : List (List ℕ)) (bs : List Always) → Within all known → AllByRecursion (BlockAmong all) bs
+    → DeclaredBefore known (map item.Always bs)
 blocks_declared known all [] h a = tt
-blocks_declared known all (b ∷ bs) h a = (h b.target a.0.target, each_more (atom_names b.source) all known h a.0.sources, blocks_declared known all bs h a.1)
+blocks_declared known all (b ∷ bs) h a =
+    (h b.target a.0.target, each_more (atom_names b.source) all known h a.0.sources, blocks_declared known all bs h a.1)
 
 -- declarations, with the names that are known behind them
-nets_declared : (c : Net → Item) → ((known : List (List ℕ)) (n : Net) (rest : List Item) → DeclaredBefore (n.name ∷ known) rest → DeclaredBefore known (c n ∷ rest))
-    → (known : List (List ℕ)) (ns : List Net) (rest : List Item) → ((after : List (List ℕ)) → Within (known ++ map net_name ns) after → DeclaredBefore after rest) → DeclaredBefore known (map c ns ++ rest)
+nets_declared : (c : Net → Item)
+    → ((known : List (List ℕ)) (n : Net) (rest : List Item) → DeclaredBefore (n.name ∷ known) rest → DeclaredBefore known (c n ∷ rest))
+    → (known : List (List ℕ)) (ns : List Net) (rest : List Item)
+    → ((after : List (List ℕ)) → Within (known ++ map net_name ns) after → DeclaredBefore after rest) → DeclaredBefore known (map c ns ++ rest)
 nets_declared c step known [] rest go = go known (λ x m. ⊎_elim (λ (k : In known x). k) (λ (k : ⊥). absurd k) (in_either known [] x m))
-nets_declared c step known (n ∷ ns) rest go = step known n (map c ns ++ rest) (nets_declared c step (n.name ∷ known) ns rest (λ after h. go after (λ x m. h x (moved x m))))
+nets_declared c step known (n ∷ ns) rest go =
+    step known n (map c ns ++ rest) (nets_declared c step (n.name ∷ known) ns rest (λ after h. go after (λ x m. h x (moved x m))))
   where
     moved : (x : List ℕ) → In (known ++ n.name ∷ map net_name ns) x → In (n.name ∷ (known ++ map net_name ns)) x
     moved x m =
         ⊎_elim
         (λ (k : In known x). inr (in_left known (map net_name ns) x k))
-        (λ (k : In (n.name ∷ map net_name ns) x). ⊎_elim (λ (e : n.name ≡ x). inl e) (λ (o : In (map net_name ns) x). inr (in_right known (map net_name ns) x o)) k)
+        (λ (k : In (n.name ∷ map net_name ns) x). ⊎_elim (λ (e : n.name ≡ x). inl e)
+        (λ (o : In (map net_name ns) x). inr (in_right known (map net_name ns) x o)) k)
         (in_either known (n.name ∷ map net_name ns) x m)
 
-pub items_declared : (known all : List (List ℕ)) (rs ws : List Net) (xs : List Assign) (bs : List Always) → ((x : List ℕ) → In all x → In (known ++ (map net_name rs ++ map net_name ws)) x)
+pub items_declared : (known all : List (List ℕ)) (rs ws : List Net) (xs : List Assign) (bs : List Always)
+    → ((x : List ℕ) → In all x → In (known ++ (map net_name rs ++ map net_name ws)) x)
     → AllByRecursion (AssignAmong all) xs → AllByRecursion (BlockAmong all) bs → DeclaredBefore known (items rs ws xs bs)
 items_declared known all rs ws xs bs among assigned blocked =
     nets_declared item.Reg (λ k n rest d. d) known rs (map item.Wire ws ++ (map item.Assign xs ++ map item.Always bs))
     (λ after h. nets_declared item.Wire (λ k n rest d. d) after ws (map item.Assign xs ++ map item.Always bs)
     (λ last k. driven last (λ x m. k x (within after h x (among x m)))))
   where
-    within : (after : List (List ℕ)) → Within (known ++ map net_name rs) after → Within (known ++ (map net_name rs ++ map net_name ws)) (after ++ map net_name ws)
+    within : (after : List (List ℕ)) → Within (known ++ map net_name rs) after
+        → Within (known ++ (map net_name rs ++ map net_name ws)) (after ++ map net_name ws)
     within after h x m =
         ⊎_elim
         (λ (k : In (known ++ map net_name rs) x). in_left after (map net_name ws) x (h x k))
         (λ (k : In (map net_name ws) x). in_right after (map net_name ws) x k)
-        (in_either (known ++ map net_name rs) (map net_name ws) x (subst (λ (ns : List (List ℕ)). In ns x) (sym (append_assoc known (map net_name rs) (map net_name ws))) m))
+        (in_either (known ++ map net_name rs) (map net_name ws) x
+        (subst (λ (ns : List (List ℕ)). In ns x) (sym (append_assoc known (map net_name rs) (map net_name ws))) m))
 
     driven : (last : List (List ℕ)) → Within all last → DeclaredBefore last (map item.Assign xs ++ map item.Always bs)
     driven last h = assigns_declared last all xs (map item.Always bs) h assigned (blocks_declared last all bs h blocked)

@@ -1,6 +1,7 @@
 -- A tree with the name, the ports and the items of a net is the tree of the net.
-use Rattle.std.proofs.Common.{◌≡◌, List, [], ◌++◌, map, flat_map, refl, append_assoc}
+use Rattle.std.proofs.Common.{◌≡◌, List, [], ◌++◌, map, refl, append_assoc}
 use Rattle.std.proofs.lemmas.List.{map-append}
+use Rattle.std.proofs.lemmas.Simd.{map-map}
 use Rattle.fir_net.specs.declared.reads.Read.{Read}
 use Rattle.fir_net.specs.declared.net.FlatNet.{FlatNet}
 use Rattle.fir_net.specs.declared.name_table.NameTable.{NameTable}
@@ -8,9 +9,9 @@ use Rattle.ver_ast.specs.declared.tree.Item.{Item}
 use Rattle.ver_ast.specs.declared.tree.Item.TheVariants as item
 use Rattle.ver_ast.specs.declared.tree.Verilog.{Verilog}
 use Rattle.ver_build.specs.declared.places.Places.{Places}
-use Rattle.ver_build.specs.working.Places.{inner, read_inner}
-use Rattle.ver_build.specs.working.Built.{leaf_port, leaf_reg, leaf_assign, leaf_block, inner_wire, inner_assign, along, given, items, built}
-use Rattle.ver_build.proofs.Lists.{mapped_along, mapped_flat}
+use Rattle.ver_build.specs.declared.right_sides.Inner.{Inner}
+use Rattle.ver_build.specs.working.Built.{inners, leaf_port, leaf_reg, leaf_assign, leaf_block, inner_wire, inner_assign, along, given, items, built}
+use Rattle.ver_build.proofs.Lists.{mapped_along}
 
 -- the items as each part is put behind those before it
 pub record PutItems (net : FlatNet) (t : NameTable) (p : Places) (order : List Read) (all : List Item) : Type 0 where
@@ -21,8 +22,8 @@ pub record PutItems (net : FlatNet) (t : NameTable) (p : Places) (order : List R
   pub assigns : List Item
   pub nothing : none ≡ []
   pub put_regs : regs ≡ none ++ along (given item.Reg leaf_reg) t.leaves 0 net.leaves
-  pub put_wires : wires ≡ regs ++ flat_map (λ r. map (λ i. item.Wire (inner_wire i)) (read_inner net p.nodes r)) order
-  pub put_inner_assigns : inner_assigns ≡ wires ++ flat_map (λ r. map (λ i. item.Assign (inner_assign p i)) (read_inner net p.nodes r)) order
+  pub put_wires : wires ≡ regs ++ map (λ (i : Inner). item.Wire (inner_wire i)) (inners net p order)
+  pub put_inner_assigns : inner_assigns ≡ wires ++ map (λ (i : Inner). item.Assign (inner_assign i)) (inners net p order)
   pub put_assigns : assigns ≡ inner_assigns ++ along (given item.Assign (leaf_assign p)) t.leaves 0 net.leaves
   pub put_blocks : all ≡ assigns ++ along (given item.Always (leaf_block t p)) t.leaves 0 net.leaves
 
@@ -30,19 +31,34 @@ regrouped : (rs ws xs ys bs : List Item) → (((rs ++ ws) ++ xs) ++ ys) ++ bs �
 regrouped rs ws xs ys bs = simp append_assoc
 
 in_parts : (net : FlatNet) (t : NameTable) (p : Places) (order : List Read) (all : List Item) → PutItems net t p order all
-    → all ≡ items (along leaf_reg t.leaves 0 net.leaves) (map inner_wire (inner net p.nodes order))
-    (map (inner_assign p) (inner net p.nodes order) ++ along (leaf_assign p) t.leaves 0 net.leaves) (along (leaf_block t p) t.leaves 0 net.leaves)
+    → all ≡ items (along leaf_reg t.leaves 0 net.leaves) (map inner_wire (inners net p order))
+    (map inner_assign (inners net p order) ++ along (leaf_assign p) t.leaves 0 net.leaves) (along (leaf_block t p) t.leaves 0 net.leaves)
 in_parts net t p order all put =
     let rs = mapped_along item.Reg leaf_reg t.leaves 0 net.leaves in
-    let ws = mapped_flat inner_wire item.Wire (read_inner net p.nodes) order in
-    let xs = mapped_flat (inner_assign p) item.Assign (read_inner net p.nodes) order in
+    let ws = map-map item.Wire inner_wire (inners net p order) in
+    let xs = map-map item.Assign inner_assign (inners net p order) in
     let ys = mapped_along item.Assign (leaf_assign p) t.leaves 0 net.leaves in
     let bs = mapped_along item.Always (leaf_block t p) t.leaves 0 net.leaves in
-    rw (put.put_blocks, put.put_assigns, put.put_inner_assigns, put.put_wires, put.put_regs, put.nothing, map-append item.Assign (map (inner_assign p) (inner net p.nodes order)) (along (leaf_assign p) t.leaves 0 net.leaves), rs, ws, xs, ys, bs)
-    (regrouped (along (given item.Reg leaf_reg) t.leaves 0 net.leaves) (flat_map (λ r. map (λ i. item.Wire (inner_wire i)) (read_inner net p.nodes r)) order)
-    (flat_map (λ r. map (λ i. item.Assign (inner_assign p i)) (read_inner net p.nodes r)) order) (along (given item.Assign (leaf_assign p)) t.leaves 0 net.leaves)
+    rw (
+      put.put_blocks,
+      put.put_assigns,
+      put.put_inner_assigns,
+      put.put_wires,
+      put.put_regs,
+      put.nothing,
+      map-append item.Assign
+          (map inner_assign (inners net p order)) (along (leaf_assign p) t.leaves 0 net.leaves),
+      rs,
+      ws,
+      xs,
+      ys,
+      bs,
+    )
+    (regrouped (along (given item.Reg leaf_reg) t.leaves 0 net.leaves) (map (λ (i : Inner). item.Wire (inner_wire i)) (inners net p order))
+    (map (λ (i : Inner). item.Assign (inner_assign i)) (inners net p order)) (along (given item.Assign (leaf_assign p)) t.leaves 0 net.leaves)
     (along (given item.Always (leaf_block t p)) t.leaves 0 net.leaves))
 
-pub tree_built : (net : FlatNet) (t : NameTable) (p : Places) (order : List Read) (v : Verilog) → v.name ≡ t.circuit → v.ports ≡ along leaf_port t.leaves 0 net.leaves → PutItems net t p order v.items → v ≡ built net t p order
+pub tree_built : (net : FlatNet) (t : NameTable) (p : Places) (order : List Read) (v : Verilog) → v.name ≡ t.circuit
+    → v.ports ≡ along leaf_port t.leaves 0 net.leaves → PutItems net t p order v.items → v ≡ built net t p order
 unfolding built
 tree_built net t p order v name ports put = rw (name, ports, in_parts net t p order v.items put) refl

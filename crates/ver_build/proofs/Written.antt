@@ -10,7 +10,7 @@ use Rattle.fir_base.proofs.Members.{in_either}
 use Rattle.fir_net.specs.declared.leaf.Leaf.{Leaf}
 use Rattle.ver_ast.specs.declared.tree.Always.{Always}
 use Rattle.ver_ast.specs.Nets.{Sized}
-use Rattle.ver_ast.specs.Settled.{atom_value}
+use Rattle.ver_ast.specs.AtomValues.{atom_value}
 use Rattle.ver_ast.specs.Next.{written}
 use Rattle.ver_build.specs.working.Places.{name_at}
 use Rattle.ver_build.specs.working.Built.{along}
@@ -24,7 +24,8 @@ pub record NoTarget (n : List ℕ) (bs : List Always) : Type 0 where
 module _ (ns : List Sized) (f : Env) (named : List ℕ) (n : List ℕ) where
   other_target : (b : Always) (bs : List Always) → (b.target ≡ n → ⊥) → written ns f named (b ∷ bs) n ≡ written ns f named bs n
   other_target b bs other =
-      cond_both (bytes_eq b.target n && rises named (f b.clock)) (atom_value ns f b.source) (written ns f named bs n) (λ x. x ≡ written ns f named bs n)
+      cond_both (bytes_eq b.target n && rises named (f b.clock)) (atom_value ns f b.source) (written ns f named bs n)
+      (λ x. x ≡ written ns f named bs n)
       (λ h. absurd (other ((bytes_eq-Decides b.target n).0 (both _ _ h).0))) (λ h. refl)
 
   behind : (b : Always) (bs : List Always) → NoTarget n (b ∷ bs) → NoTarget n bs
@@ -77,7 +78,8 @@ module _ (ns : List Sized) (f : Env) (named : List ℕ) (n : List ℕ) where
         let first : j ≡ j + 0 = omega arith in
         let none = no_along (j + 1) ls (record { each = λ i x h. there j i x (others.each (suc i) x h (λ e. absurd (omega arith))) }) in
         written_first (give m (name_at names j)) (along give names (j + 1) ls) none
-        ∙ ap (λ (x : Leaf). written ns f named (give x (name_at names j)) n) same ∙ ap (λ (i : ℕ). written ns f named (give l (name_at names i)) n) first
+        ∙ ap (λ (x : Leaf). written ns f named (give x (name_at names j)) n) same
+        ∙ ap (λ (i : ℕ). written ns f named (give l (name_at names i)) n) first
     one_written j (m ∷ ls) (suc k) l at others =
         let place : j + 1 + k ≡ j + suc k = omega arith in
         let mine = here j m (others.each zero m refl (λ e. absurd (omega arith))) in

@@ -1,4 +1,7 @@
 -- What no clause of `run` reads: contracts between layers, laws, views of the code and its states.
+pub mod Held
+pub mod Operands
+pub mod Texts
 pub mod Places
 pub mod Walks
 pub mod Built

@@ -8,19 +8,19 @@ ghost use Rattle.ver_build.specs.working.Built.{built};
 ghost use Rattle.ver_build.specs.working.Builds.{Builds};
 
 use crate::items::{
-    ports_of, put_blocks, put_inner_assigns, put_output_assigns, put_regs, put_wires,
+    inners_of, ports_of, put_blocks, put_inner_assigns, put_output_assigns, put_regs, put_wires,
 };
 use crate::places::{Places, places_of};
 use fir_base::{MemoryOut, Seq};
 use fir_bits::laws::has_its_type;
 use fir_loop::Order;
-use fir_net::laws::nodes_have_their_values;
+use fir_net::laws::{nodes_have_their_types, nodes_have_their_values, ordered_has_one};
 use fir_net::{FlatNet, NameTable, Read, names};
 use std::alloc::Global;
-use ver_ast::Verilog;
+use ver_ast::{Verilog, valid_has_one_rest};
 
-/// The tree of the net with these names and places: a net of its own for each operation, an assign for each
-/// of these and each output, and a block for each register that something drives on a clock.
+/// The tree of the net with these names and places: nets for each operation and mux, an assign for each of
+/// these and each output, and a block for each register that something drives on a clock.
 pub fn built_tree(
     alloc: Global,
     net: &FlatNet,
@@ -30,10 +30,11 @@ pub fn built_tree(
 ) -> Result<Verilog, MemoryOut>
     ensures { IfOk result (λ v. v ≡ built net.now table.now places.now order.now) }
 {
+    let inners = inners_of(alloc, net, places, order)?;
     let mut items = Vec::new(alloc);
     put_regs(alloc, &mut items, net, table)?;
-    put_wires(alloc, &mut items, net, places, order)?;
-    put_inner_assigns(alloc, &mut items, net, places, order)?;
+    put_wires(alloc, &mut items, inners.as_slice())?;
+    put_inner_assigns(&mut items, inners)?;
     put_output_assigns(alloc, &mut items, net, table, places)?;
     put_blocks(alloc, &mut items, net, table, places)?;
     Ok(Verilog {
@@ -54,6 +55,9 @@ pub fn build(alloc: Global, net: &FlatNet, order: &Order) -> Result<Verilog, Mem
 {
     has_its_type();
     nodes_have_their_values();
+    nodes_have_their_types();
+    ordered_has_one();
+    valid_has_one_rest();
     let table = names(alloc, net)?;
     let places = places_of(alloc, net, &table, order.as_slice())?;
     built_tree(alloc, net, &table, &places, order.as_slice())

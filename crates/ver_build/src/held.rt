@@ -1,13 +1,13 @@
 //! Where a value is in the tree.
 
-ghost use Rattle.std.specs.Prelude.{◌≡◌, ◌^◌, ◌/◌, ◌%◌, IfOk, option_map};
-ghost use Rattle.ver_build.specs.working.Places.{fit, fit_some, cut, own_held, whole_net, held_literal};
+ghost use Rattle.std.specs.Prelude.{◌≡◌, IfOk, option_map};
+ghost use Rattle.ver_build.specs.working.Held.{no_bits, whole_net, cut, fit_source, fit, own_held, held_literal};
 
 use fir_base::{MemoryOut, Name};
-use fir_bits::{Bits, mask};
+use fir_bits::{Bits, Num};
 use std::alloc::Global;
 
-/// The low bits of a net, with zeros above them.
+/// The low bits of a net.
 #[derive(Drop)]
 pub struct Part {
     /// The net's name.
@@ -16,64 +16,108 @@ pub struct Part {
     pub own: u32,
     /// How many of its low bits count.
     pub kept: u32,
-    /// The width of the value in bits.
-    pub width: u32,
 }
 
-/// A value of no bits, one in a constant of a width and number, or one in a net.
+/// Where the bits of a value come from.
 #[derive(Drop)]
-pub enum Held {
-    NoBits,
-    Constant(u32, u128),
+pub enum Source {
+    /// A number of the value's width.
+    Number(Bits),
+    /// The low bits of a net, extended to the value's width.
     Net(Part),
 }
 
+/// A value in the tree: whether it is an SInt, by whose sign it is extended then, its width in bits, and where
+/// its bits come from.
+#[derive(Drop)]
+pub struct Held {
+    pub signed: bool,
+    pub width: u32,
+    pub source: Source,
+}
+
 impl Held {
-    /// All bits of the net of that name and width.
-    pub fn whole(name: Name, width: u32) -> Held
-        ensures { result ≡ whole_net name width }
+    /// The value of no bits.
+    pub fn no_bits() -> Held
+        ensures { result ≡ no_bits }
     {
-        Held::Net(Part {
-            name,
-            own: width,
-            kept: width,
+        Held {
+            signed: false,
+            width: 0,
+            source: Source::Number(Bits::of(0, 0)),
+        }
+    }
+
+    /// All bits of the net of that name and width.
+    pub fn whole(name: Name, signed: bool, width: u32) -> Held
+        ensures { result ≡ whole_net name signed width }
+    {
+        Held {
+            signed,
             width,
-        })
+            source: Source::Net(Part {
+                name,
+                own: width,
+                kept: width,
+            }),
+        }
     }
 
     /// A copy.
     pub fn copy(&self, alloc: Global) -> Result<Held, MemoryOut>
         ensures { IfOk result (λ h. h ≡ self.now) }
     {
+        Ok(Held {
+            signed: self.signed,
+            width: self.width,
+            source: self.source.copy(alloc)?,
+        })
+    }
+
+    /// The value at a width: extended by its own sign, or cut to its low bits.
+    pub fn fit(self, width: u32) -> Held
+        ensures { result ≡ fit width self }
+    {
+        Held {
+            signed: self.signed,
+            width,
+            source: self.source.fit(self.signed, width),
+        }
+    }
+}
+
+impl Source {
+    fn copy(&self, alloc: Global) -> Result<Source, MemoryOut>
+        ensures { IfOk result (λ s. s ≡ self.now) }
+    {
         match self {
-            Held::NoBits => Ok(Held::NoBits),
-            Held::Constant(width, number) => Ok(Held::Constant(*width, *number)),
-            Held::Net(part) => Ok(Held::Net(Part {
+            Source::Number(value) => Ok(Source::Number(*value)),
+            Source::Net(part) => Ok(Source::Net(Part {
                 name: part.name.copy(alloc)?,
                 own: part.own,
                 kept: part.kept,
-                width: part.width,
             })),
         }
     }
 
-    /// The value at a width: with zeros above it, or its low bits.
-    pub fn fit(self, width: u32) -> Held
-        ensures { result ≡ fit width self }
+    fn fit(self, signed: bool, width: u32) -> Source
+        ensures { result ≡ fit_source signed width self }
     {
-        if width == 0 {
-            return Held::NoBits;
-        }
         match self {
-            Held::NoBits => Held::Constant(width, 0),
-            Held::Constant(_, number) => Held::Constant(width, low_bits(width, number)),
-            Held::Net(part) => Held::Net(part.cut(width)),
+            Source::Number(value) => Source::Number(value.fit(signed, width.min(128))),
+            Source::Net(part) => {
+                if width == 0 {
+                    Source::Number(Bits::of(0, 0))
+                } else {
+                    Source::Net(part.cut(width))
+                }
+            }
         }
     }
 }
 
 impl Part {
-    /// The low bits at a width.
+    /// The part where no more than so many bits count.
     fn cut(self, width: u32) -> Part
         ensures { result ≡ cut width self }
     {
@@ -82,42 +126,36 @@ impl Part {
             name: self.name,
             own: self.own,
             kept,
-            width,
         }
     }
 }
 
-/// Where the value of a leaf of that name is, which has a net of its own.
-pub fn own_held(alloc: Global, width: u32, name: Option<&Name>) -> Result<Held, MemoryOut>
-    ensures { IfOk result (λ h. h ≡ own_held width (option_map (λ n. n.now) name.entry)) }
+/// Where a value is that has a net of that name, where it has bits.
+pub fn own_held(
+    alloc: Global,
+    signed: bool,
+    width: u32,
+    name: Option<&Name>,
+) -> Result<Held, MemoryOut>
+    ensures { IfOk result (λ h. h ≡ own_held signed width (option_map (λ n. n.now) name.entry)) }
 {
     match name {
-        Some(name) => Ok(Held::whole(name.copy(alloc)?, width)),
-        None => Ok(Held::NoBits),
+        Some(name) => Ok(Held::whole(name.copy(alloc)?, signed, width)),
+        None => Ok(Held {
+            signed,
+            width,
+            source: Source::Number(Bits::of(0, 0)),
+        }),
     }
 }
 
 /// The value of a literal.
-pub fn held_literal(v: &Bits) -> Held
+pub fn held_literal(v: &Num) -> Held
     ensures { result ≡ held_literal v.now }
 {
-    if v.width() == 0 {
-        Held::NoBits
-    } else {
-        Held::Constant(v.width(), v.bits())
+    Held {
+        signed: v.signed,
+        width: v.value.width(),
+        source: Source::Number(v.value),
     }
-}
-
-/// The low bits of a number.
-pub fn low_bits(width: u32, n: u128) -> u128
-    ensures { result ≡ n % 2 ^ width }
-{
-    if width >= 128 { n } else { n & mask(width) }
-}
-
-/// The number without its low bits.
-pub fn shifted_right(n: u128, by: u128) -> u128
-    ensures { result ≡ n / 2 ^ by }
-{
-    if by >= 128 { 0 } else { n >> by }
 }

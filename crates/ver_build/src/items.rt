@@ -1,16 +1,16 @@
 //! The ports and items of the tree.
 
-ghost use Rattle.std.specs.Prelude.{◌≡◌, ◌++◌, IfOk, OnOk, option_map, map, flat_map, unwrap_or, []};
+ghost use Rattle.std.specs.Prelude.{◌≡◌, ◌++◌, IfOk, OnOk, option_map, map, unwrap_or, []};
 ghost use Rattle.ver_ast.specs.declared.tree.Item.TheVariants as item;
-ghost use Rattle.ver_build.specs.working.Places.{read_inner, name_at, listed};
-ghost use Rattle.ver_build.specs.working.Built.{leaf_port, leaf_reg, leaf_assign, leaf_block, inner_wire, inner_assign, along, given};
+ghost use Rattle.ver_build.specs.working.Places.{name_at};
+ghost use Rattle.ver_build.specs.working.Built.{inners, read_inners, leaf_port, leaf_reg, leaf_assign, leaf_block, inner_wire, inner_assign, along, given};
 
 use crate::atoms::atom_at;
-use crate::held::Held;
+use crate::held::Source;
 use crate::places::Places;
-use crate::right_sides::inner_rhs;
+use crate::right_sides::{Inner, node_inners};
 use fir_base::{Direction, MemoryOut, Name};
-use fir_net::{FlatNet, Leaf, LeafId, NameTable, Node, Operation, Read, Role};
+use fir_net::{FlatNet, Leaf, LeafId, NameTable, Read, Role};
 use std::alloc::Global;
 use ver_ast::{Always, Assign, Item, Net, Port, Rhs};
 use ver_words::Signal;
@@ -87,87 +87,67 @@ fn put_reg(
     Ok(())
 }
 
-/// The wires of the operations that have a net, in the order.
-pub fn put_wires(
+/// The inner nets of all nodes that have one, in the order.
+pub fn inners_of(
     alloc: Global,
-    items: &mut Vec<Item>,
     net: &FlatNet,
     places: &Places,
     order: &[Read],
-) -> Result<(), MemoryOut>
-    ensures { OnOk result (items.new.items ≡ items.old.items ++ flat_map (λ r. map (λ i. item.Wire (inner_wire i)) (read_inner net.now places.now.nodes r)) order.now) }
+) -> Result<Vec<Inner>, MemoryOut>
+    ensures { IfOk result (λ v. v.items ≡ inners net.now places.now order.now) }
 {
+    let mut inners = Vec::new(alloc);
     for read in order {
-        put_wire(alloc, items, net, places, *read)?;
+        let mut more = read_inners(alloc, net, places, *read)?;
+        inners.append(&mut more)?;
     }
-    Ok(())
+    Ok(inners)
 }
 
-fn put_wire(
+/// The inner nets of a node; a leaf has none.
+fn read_inners(
     alloc: Global,
-    items: &mut Vec<Item>,
     net: &FlatNet,
     places: &Places,
     read: Read,
-) -> Result<(), MemoryOut>
-    ensures { OnOk result (items.new.items ≡ items.old.items ++ map (λ i. item.Wire (inner_wire i)) (read_inner net.now places.now.nodes read)) }
-{
-    if let Some((operation, name)) = inner_of(net, places, read) {
-        items.push(Item::Wire(Net {
-            width: operation.width,
-            name: name.copy(alloc)?,
-        }))?;
-    }
-    Ok(())
-}
-
-/// The operation of a read that has a net, with the net's name.
-fn inner_of<'a>(
-    net: &'a FlatNet,
-    places: &'a Places,
-    read: Read,
-) -> Option<(&'a Operation, &'a Name)>
-    ensures { listed (option_map (λ r. record { operation = r.0.now; name = r.1.now }) result) ≡ read_inner net.now places.now.nodes read }
+) -> Result<Vec<Inner>, MemoryOut>
+    ensures { IfOk result (λ v. v.items ≡ read_inners net.now places.now read) }
 {
     let Read::Node(k) = read else {
-        return None;
+        return Ok(Vec::new(alloc));
     };
-    match (net.nodes.as_slice().get(k.number()), places.node(k)) {
-        (Some(Node::Operation(operation)), Some(Held::Net(part))) => Some((operation, &part.name)),
-        _ => None,
+    let Some(node) = net.nodes.as_slice().get(k.number()) else {
+        return Ok(Vec::new(alloc));
+    };
+    let Some(place) = places.node(k) else {
+        return Ok(Vec::new(alloc));
+    };
+    match &place.held.source {
+        Source::Number(_) => Ok(Vec::new(alloc)),
+        Source::Net(part) => node_inners(alloc, places, node, place.helpers.as_slice(), &part.name),
     }
 }
 
-/// The assigns of the operations that have a net, in the order.
-pub fn put_inner_assigns(
-    alloc: Global,
-    items: &mut Vec<Item>,
-    net: &FlatNet,
-    places: &Places,
-    order: &[Read],
-) -> Result<(), MemoryOut>
-    ensures { OnOk result (items.new.items ≡ items.old.items ++ flat_map (λ r. map (λ i. item.Assign (inner_assign places.now i)) (read_inner net.now places.now.nodes r)) order.now) }
+/// The wires of the inner nets.
+pub fn put_wires(alloc: Global, items: &mut Vec<Item>, inners: &[Inner]) -> Result<(), MemoryOut>
+    ensures { OnOk result (items.new.items ≡ items.old.items ++ map (λ i. item.Wire (inner_wire i)) inners.now) }
 {
-    for read in order {
-        put_inner_assign(alloc, items, net, places, *read)?;
+    for inner in inners {
+        items.push(Item::Wire(Net {
+            width: inner.width,
+            name: inner.name.copy(alloc)?,
+        }))?;
     }
     Ok(())
 }
 
-fn put_inner_assign(
-    alloc: Global,
-    items: &mut Vec<Item>,
-    net: &FlatNet,
-    places: &Places,
-    read: Read,
-) -> Result<(), MemoryOut>
-    ensures { OnOk result (items.new.items ≡ items.old.items ++ map (λ i. item.Assign (inner_assign places.now i)) (read_inner net.now places.now.nodes read)) }
+/// The assigns of the inner nets.
+pub fn put_inner_assigns(items: &mut Vec<Item>, inners: Vec<Inner>) -> Result<(), MemoryOut>
+    ensures { OnOk result (items.new.items ≡ items.old.items ++ map (λ i. item.Assign (inner_assign i)) inners.items) }
 {
-    if let Some((operation, name)) = inner_of(net, places, read) {
-        items.push(Item::Assign(Assign {
-            target: name.copy(alloc)?,
-            rhs: inner_rhs(alloc, places, operation)?,
-        }))?;
+    for inner in inners {
+        let (target, rhs) = (inner.name, inner.rhs);
+        items.push(Item::Assign(Assign { target, rhs }))?;
     }
     Ok(())
 }

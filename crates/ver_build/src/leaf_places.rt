@@ -7,7 +7,7 @@ ghost use Rattle.ver_build.specs.working.Places.{ArePlaced, placed};
 ghost use Rattle.ver_build.specs.working.Walks.{IsLeafPassed};
 
 use crate::held::{Held, own_held};
-use crate::places::{Place, driven_clock_in, held_in};
+use crate::places::{NodePlace, Place, driven_clock_in, held_in};
 use fir_base::{MemoryOut, Name};
 use fir_net::{FlatNet, Leaf, LeafId, NameTable, Read, Role};
 use std::alloc::Global;
@@ -19,7 +19,7 @@ pub fn leaf_places(
     net: &FlatNet,
     table: &NameTable,
     order: &[Read],
-    nodes: &[Held],
+    nodes: &[NodePlace],
 ) -> Result<Vec<Place>, MemoryOut>
     ensures { IfOk result (λ v. IsOrder net.now order.now → ArePlaced net.now table.now nodes.now v.items) }
 {
@@ -35,7 +35,7 @@ fn pass(
     alloc: Global,
     net: &FlatNet,
     table: &NameTable,
-    nodes: &[Held],
+    nodes: &[NodePlace],
     places: &mut Vec<Place>,
     read: Read,
 ) -> Result<(), MemoryOut>
@@ -59,7 +59,7 @@ fn no_places(alloc: Global, leaves: &[Leaf]) -> Result<Vec<Place>, MemoryOut>
     let mut places = Vec::new(alloc);
     for leaf in leaves {
         let _ = leaf;
-        places.push(Place::Value(Held::NoBits))?;
+        places.push(Place::Value(Held::no_bits()))?;
     }
     Ok(places)
 }
@@ -68,15 +68,18 @@ fn no_places(alloc: Global, leaves: &[Leaf]) -> Result<Vec<Place>, MemoryOut>
 fn leaf_place(
     alloc: Global,
     leaves: &[Place],
-    nodes: &[Held],
+    nodes: &[NodePlace],
     number: LeafId,
     leaf: &Leaf,
     name: Option<&Name>,
 ) -> Result<Place, MemoryOut>
-    ensures { IfOk result (λ p. p ≡ placed leaves.now nodes.now (option_map (λ n. n.now) name.entry) number leaf.now.width leaf.now.role) }
+    ensures { IfOk result (λ p. p ≡ placed leaves.now nodes.now (option_map (λ n. n.now) name.entry) number leaf.now.signed leaf.now.width leaf.now.role) }
 {
     match leaf.role {
-        Role::Input | Role::Register(_) => Ok(Place::Value(own_held(alloc, leaf.width, name)?)),
+        Role::Input | Role::Register(_) => {
+            let held = own_held(alloc, leaf.signed, leaf.width, name)?;
+            Ok(Place::Value(held))
+        },
         Role::Output(read) | Role::Wire(read) => {
             let held = held_in(alloc, leaves, nodes, read)?;
             Ok(Place::Value(held.fit(leaf.width)))

@@ -7,7 +7,7 @@ ghost use Rattle.ver_build.specs.working.Places.{IsPlaces, held_in, held_of, clo
 use crate::held::Held;
 use crate::leaf_places::leaf_places;
 use crate::node_places::node_places;
-use fir_base::{MemoryOut, Seq};
+use fir_base::{MemoryOut, Name, Seq};
 use fir_net::{FlatNet, LeafId, NameTable, NodeId, Read};
 use std::alloc::Global;
 
@@ -18,11 +18,18 @@ pub enum Place {
     Clock(Option<LeafId>),
 }
 
+/// Where the value of a node is, and the names of the nets that it has before its own.
+#[derive(Drop)]
+pub struct NodePlace {
+    pub held: Held,
+    pub helpers: Seq<Name>,
+}
+
 /// Where the values of all leaves and nodes are, by their numbers.
 #[derive(Drop)]
 pub struct Places {
     leaves: Seq<Place>,
-    nodes: Seq<Held>,
+    nodes: Seq<NodePlace>,
 }
 
 impl Places {
@@ -33,8 +40,8 @@ impl Places {
         held_in(alloc, self.leaves.as_slice(), self.nodes.as_slice(), read)
     }
 
-    /// Where the value of a node is.
-    pub fn node(&self, node: NodeId) -> Option<&Held>
+    /// Where the value of a node is, with the names of its nets.
+    pub fn node(&self, node: NodeId) -> Option<&NodePlace>
         ensures { option_map (λ h. h.now) result ≡ slice_get self.now.nodes node }
     {
         self.nodes.as_slice().get(node.number())
@@ -52,7 +59,7 @@ impl Places {
 pub fn held_in(
     alloc: Global,
     leaves: &[Place],
-    nodes: &[Held],
+    nodes: &[NodePlace],
     read: Read,
 ) -> Result<Held, MemoryOut>
     ensures { IfOk result (λ h. h ≡ held_in leaves.now nodes.now read) }
@@ -60,11 +67,11 @@ pub fn held_in(
     match read {
         Read::Leaf(k) => match leaves.get(k.number()) {
             Some(Place::Value(held)) => held.copy(alloc),
-            _ => Ok(Held::NoBits),
+            _ => Ok(Held::no_bits()),
         },
         Read::Node(k) => match nodes.get(k.number()) {
-            Some(held) => held.copy(alloc),
-            None => Ok(Held::NoBits),
+            Some(place) => place.held.copy(alloc),
+            None => Ok(Held::no_bits()),
         },
     }
 }
@@ -89,8 +96,8 @@ pub fn driven_clock_in(leaves: &[Place], driver: Option<LeafId>) -> Option<LeafI
     }
 }
 
-/// Where the values of the net are: wires and outputs where what drives them is, and each operation in a net
-/// of its own, named in the order.
+/// Where the values of the net are: wires and outputs where what drives them is, and each operation and mux in
+/// a net of its own, named in the order.
 pub fn places_of(
     alloc: Global,
     net: &FlatNet,

@@ -1,113 +1,329 @@
-//! The right sides of operations.
+//! The right sides that mean operations (IEEE 1364-2005, 5.1).
 
-ghost use Rattle.std.specs.Prelude.{◌≡◌, IfOk, map};
-ghost use Rattle.ver_build.specs.working.Built as definition;
+ghost use Rattle.std.specs.Prelude.{◌≡◌, [], ◌∷◌, IfOk, map, slice_index, slice_index_or};
+ghost use Rattle.ver_build.specs.working.Held.{no_bits};
 ghost use Rattle.ver_build.specs.working.Places.{held_of};
-ghost use Rattle.ver_build.specs.working.Built.{zero_rhs, not_rhs, bitwise_rhs, cat_rhs, bits_rhs, inner_rhs};
+ghost use Rattle.ver_build.specs.working.Texts as text;
+ghost use Rattle.ver_build.specs.working.Texts.{mux_rhs, helper};
+ghost use Rattle.ver_build.specs.working.Built.{node_inners};
 
-use crate::atoms::{atom_at, field_of, joined};
+use crate::atoms::{above_zeros, amount, atom_at, constant, field, joined, net, shifted};
+use crate::held::Held;
 use crate::places::Places;
-use fir_base::MemoryOut;
+use fir_base::{MemoryOut, Name};
 use fir_bits::PrimOp;
-use fir_net::{Operation, Read};
+use fir_net::{Mux, Node, Operation, Read};
 use std::alloc::Global;
-use ver_ast::{Atom, BinaryOp, Primary, Rhs, UnaryOp};
+use ver_ast::{Atom, BinaryOp, Rhs, SignedOp, UnaryOp};
 
-/// The right side of an operation. One that is not taken, or whose operands or integers are not its own, is 0.
-pub fn inner_rhs(alloc: Global, places: &Places, o: &Operation) -> Result<Rhs, MemoryOut>
-    ensures { IfOk result (λ r. r ≡ inner_rhs places.now o.now) }
+/// A net of the tree: its name, its width in bits, and its right side.
+#[derive(Drop)]
+pub struct Inner {
+    pub name: Name,
+    pub width: u32,
+    pub rhs: Rhs,
+}
+
+/// The nets of a node, the last of which has the given name and the node's value, and those before it the
+/// names of the helpers.
+pub fn node_inners(
+    alloc: Global,
+    places: &Places,
+    node: &Node,
+    helpers: &[Name],
+    name: &Name,
+) -> Result<Vec<Inner>, MemoryOut>
+    ensures { IfOk result (λ v. v.items ≡ node_inners places.now node.now helpers.now name.now) }
 {
-    let (reads, integers) = (o.reads.as_slice(), o.integers.as_slice());
+    match node {
+        Node::Literal(_) => Ok(Vec::new(alloc)),
+        Node::Operation(o) => {
+            let a = operand(alloc, places, o.reads.as_slice(), 0)?;
+            let b = operand(alloc, places, o.reads.as_slice(), 1)?;
+            operation_inners(alloc, o, a, b, helpers, name)
+        }
+        Node::Mux(m) => {
+            let rhs = choice(alloc, places, m)?;
+            alone(alloc, name, m.width, rhs)
+        }
+    }
+}
+
+/// The operand of that number, or one of no bits.
+fn operand(alloc: Global, places: &Places, reads: &[Read], k: usize) -> Result<Held, MemoryOut>
+    ensures { IfOk result (λ h. h ≡ slice_index_or (map (held_of places.now) reads.now) k no_bits) }
+{
+    match reads.get(k) {
+        Some(read) => places.held(alloc, *read),
+        None => Ok(Held::no_bits()),
+    }
+}
+
+fn choice(alloc: Global, places: &Places, m: &Mux) -> Result<Rhs, MemoryOut>
+    ensures { IfOk result (λ r. r ≡ mux_rhs m.now.width (map (held_of places.now) m.now.reads)) }
+{
+    let reads = m.reads.as_slice();
+    let condition = atom_at(alloc, 1, operand(alloc, places, reads, 0)?)?;
+    let high = atom_at(alloc, m.width, operand(alloc, places, reads, 1)?)?;
+    let low = atom_at(alloc, m.width, operand(alloc, places, reads, 2)?)?;
+    Ok(Rhs::Conditional(condition, high, low))
+}
+
+fn operation_inners(
+    alloc: Global,
+    o: &Operation,
+    a: Held,
+    b: Held,
+    helpers: &[Name],
+    name: &Name,
+) -> Result<Vec<Inner>, MemoryOut>
+    ensures { IfOk result (λ v. v.items
+        ≡ text.operation_inners o.now.op o.now.width a b (slice_index o.now.integers 0) (slice_index o.now.integers 1) helpers.now name.now) }
+{
+    let r = o.width;
     match o.op {
-        PrimOp::Not => complement(alloc, places, o.width, reads, integers),
-        PrimOp::And => bitwise(alloc, places, o.width, BinaryOp::And, reads, integers),
-        PrimOp::Or => bitwise(alloc, places, o.width, BinaryOp::Or, reads, integers),
-        PrimOp::Xor => bitwise(alloc, places, o.width, BinaryOp::Xor, reads, integers),
-        PrimOp::Cat => concatenation(alloc, places, o.width, reads, integers),
-        PrimOp::Bits => field(alloc, places, o.width, reads, integers),
-        _ => Ok(zero(o.width)),
-    }
-}
-
-fn zero(width: u32) -> Rhs
-    ensures { result ≡ zero_rhs width }
-{
-    Rhs::Atom(Atom::Primary(Primary::Constant(width, 0)))
-}
-
-fn complement(
-    alloc: Global,
-    places: &Places,
-    width: u32,
-    reads: &[Read],
-    integers: &[u128],
-) -> Result<Rhs, MemoryOut>
-    ensures { IfOk result (λ r. r ≡ not_rhs width (map (held_of places.now) reads.now) integers.now) }
-{
-    match (reads, integers) {
-        ([a], []) => Ok(Rhs::Unary(UnaryOp::Not, operand(alloc, places, width, *a)?)),
-        _ => Ok(zero(width)),
-    }
-}
-
-fn bitwise(
-    alloc: Global,
-    places: &Places,
-    width: u32,
-    op: BinaryOp,
-    reads: &[Read],
-    integers: &[u128],
-) -> Result<Rhs, MemoryOut>
-    ensures { IfOk result (λ r. r ≡ bitwise_rhs op width (map (held_of places.now) reads.now) integers.now) }
-{
-    match (reads, integers) {
-        ([a, b], []) => {
-            let a = operand(alloc, places, width, *a)?;
-            let b = operand(alloc, places, width, *b)?;
-            Ok(Rhs::Binary(a, op, b))
+        PrimOp::Div => division(
+            alloc,
+            (SignedOp::Div, BinaryOp::Div),
+            r,
+            a,
+            b,
+            helpers,
+            name,
+        ),
+        PrimOp::Rem => division(
+            alloc,
+            (SignedOp::Rem, BinaryOp::Rem),
+            r,
+            a,
+            b,
+            helpers,
+            name,
+        ),
+        _ => {
+            let integers = o.integers.as_slice();
+            let rhs = one_rhs(alloc, o.op, r, a, b, at(integers, 0), at(integers, 1))?;
+            alone(alloc, name, r, rhs)
         }
-        _ => Ok(zero(width)),
     }
 }
 
-fn concatenation(
+/// The integer of that number, or 0.
+fn at(integers: &[u128], k: usize) -> u128
+    ensures { result ≡ slice_index integers.now k }
+{
+    integers.get(k).copied().unwrap_or(0)
+}
+
+fn alone(alloc: Global, name: &Name, width: u32, rhs: Rhs) -> Result<Vec<Inner>, MemoryOut>
+    ensures { IfOk result (λ v. v.items ≡ record { name = name.now; width = width; rhs = rhs } ∷ []) }
+{
+    let mut inners = Vec::new(alloc);
+    let name = name.copy(alloc)?;
+    inners.push(Inner { name, width, rhs })?;
+    Ok(inners)
+}
+
+/// The right side of an operation with one net, whose result has `r` bits.
+fn one_rhs(
     alloc: Global,
-    places: &Places,
-    width: u32,
-    reads: &[Read],
-    integers: &[u128],
+    op: PrimOp,
+    r: u32,
+    a: Held,
+    b: Held,
+    n: u128,
+    m: u128,
 ) -> Result<Rhs, MemoryOut>
-    ensures { IfOk result (λ r. r ≡ cat_rhs width (map (held_of places.now) reads.now) integers.now) }
+    ensures { IfOk result (λ rhs. rhs ≡ text.one_rhs op r a b n m) }
 {
-    match (reads, integers) {
-        ([a, b], []) => {
-            let (a, b) = (places.held(alloc, *a)?, places.held(alloc, *b)?);
-            Ok(Rhs::Atom(joined(alloc, a, b)?))
-        }
-        _ => Ok(zero(width)),
+    match op {
+        PrimOp::Add => computed(alloc, BinaryOp::Add, r, a, b),
+        PrimOp::Sub => computed(alloc, BinaryOp::Sub, r, a, b),
+        PrimOp::Mul => computed(alloc, BinaryOp::Mul, r, a, b),
+        PrimOp::Lt => compared(alloc, SignedOp::Lt, BinaryOp::Lt, a, b),
+        PrimOp::Leq => compared(alloc, SignedOp::Leq, BinaryOp::Leq, a, b),
+        PrimOp::Gt => compared(alloc, SignedOp::Gt, BinaryOp::Gt, a, b),
+        PrimOp::Geq => compared(alloc, SignedOp::Geq, BinaryOp::Geq, a, b),
+        PrimOp::Eq => computed(alloc, BinaryOp::Eq, compared_width(&a, &b), a, b),
+        PrimOp::Neq => computed(alloc, BinaryOp::Neq, compared_width(&a, &b), a, b),
+        PrimOp::Shl => shifted_up(alloc, r, a),
+        PrimOp::Shr => Ok(Rhs::Atom(shifted(alloc, r, n, a)?)),
+        PrimOp::Dshl => Ok(Rhs::Binary(atom_at(alloc, r, a)?, BinaryOp::Shl, amount(alloc, b)?)),
+        PrimOp::Dshr => shifted_down(alloc, r, a, b),
+        PrimOp::Neg => Ok(Rhs::Binary(constant(r, 0), BinaryOp::Sub, atom_at(alloc, r, a)?)),
+        PrimOp::Not => Ok(Rhs::Unary(UnaryOp::Not, atom_at(alloc, r, a)?)),
+        PrimOp::And => computed(alloc, BinaryOp::And, r, a, b),
+        PrimOp::Or => computed(alloc, BinaryOp::Or, r, a, b),
+        PrimOp::Xor => computed(alloc, BinaryOp::Xor, r, a, b),
+        PrimOp::Andr => reduced(alloc, UnaryOp::And, 1, a),
+        PrimOp::Orr => reduced(alloc, UnaryOp::Or, 0, a),
+        PrimOp::Xorr => reduced(alloc, UnaryOp::Xor, 0, a),
+        PrimOp::Cat => Ok(Rhs::Atom(joined(alloc, a, b)?)),
+        PrimOp::Bits => Ok(Rhs::Atom(field(alloc, r, n, m, a)?)),
+        PrimOp::Head => head(alloc, r, n, a),
+        _ => Ok(Rhs::Atom(atom_at(alloc, r, a)?)),
     }
 }
 
-fn field(
+fn computed(alloc: Global, o: BinaryOp, r: u32, a: Held, b: Held) -> Result<Rhs, MemoryOut>
+    ensures { IfOk result (λ rhs. rhs ≡ text.computed o r a b) }
+{
+    Ok(Rhs::Binary(atom_at(alloc, r, a)?, o, atom_at(alloc, r, b)?))
+}
+
+/// The width at which operands are compared.
+fn compared_width(a: &Held, b: &Held) -> u32
+    ensures { result ≡ text.compared_width a.now b.now }
+{
+    a.width.max(b.width).max(1)
+}
+
+fn compared(alloc: Global, s: SignedOp, o: BinaryOp, a: Held, b: Held) -> Result<Rhs, MemoryOut>
+    ensures { IfOk result (λ rhs. rhs ≡ text.compared s o a b) }
+{
+    let w = compared_width(&a, &b);
+    between(alloc, s, o, w, a, atom_at(alloc, w, b)?)
+}
+
+/// An operator between a value and an operand of that width: the signed one where the value is an SInt.
+fn between(
     alloc: Global,
-    places: &Places,
-    width: u32,
-    reads: &[Read],
-    integers: &[u128],
+    s: SignedOp,
+    o: BinaryOp,
+    w: u32,
+    a: Held,
+    b: Atom,
 ) -> Result<Rhs, MemoryOut>
-    ensures { IfOk result (λ r. r ≡ bits_rhs width (map (held_of places.now) reads.now) integers.now) }
+    ensures { IfOk result (λ rhs. rhs ≡ text.between s o w a b) }
 {
-    match (reads, integers) {
-        ([a], [hi, lo]) => {
-            let field = field_of(alloc, width, *hi, *lo, places.held(alloc, *a)?)?;
-            Ok(Rhs::Atom(field))
-        }
-        _ => Ok(zero(width)),
+    let signed = a.signed;
+    let a = atom_at(alloc, w, a)?;
+    if signed {
+        Ok(Rhs::Signed(a, s, b))
+    } else {
+        Ok(Rhs::Binary(a, o, b))
     }
 }
 
-fn operand(alloc: Global, places: &Places, width: u32, read: Read) -> Result<Atom, MemoryOut>
-    ensures { IfOk result (λ a. a ≡ definition.atom_at width (held_of places.now read)) }
+/// One bit of all bits of a value; of no bits it is `none`.
+fn reduced(alloc: Global, o: UnaryOp, none: u128, a: Held) -> Result<Rhs, MemoryOut>
+    ensures { IfOk result (λ rhs. rhs ≡ text.reduced o none a) }
 {
-    Ok(atom_at(alloc, width, places.held(alloc, read)?)?)
+    let width = a.width;
+    if width == 0 {
+        Ok(Rhs::Atom(constant(1, none)))
+    } else {
+        Ok(Rhs::Unary(o, atom_at(alloc, width, a)?))
+    }
+}
+
+fn shifted_up(alloc: Global, r: u32, a: Held) -> Result<Rhs, MemoryOut>
+    ensures { IfOk result (λ rhs. rhs ≡ text.shifted_up r a) }
+{
+    let zeros = r.saturating_sub(a.width);
+    Ok(Rhs::Atom(above_zeros(alloc, a, zeros)?))
+}
+
+fn shifted_down(alloc: Global, r: u32, a: Held, b: Held) -> Result<Rhs, MemoryOut>
+    ensures { IfOk result (λ rhs. rhs ≡ text.shifted_down r a b) }
+{
+    let signed = a.signed;
+    let (a, by) = (atom_at(alloc, r, a)?, amount(alloc, b)?);
+    if signed {
+        Ok(Rhs::SignedShift(a, by))
+    } else {
+        Ok(Rhs::Binary(a, BinaryOp::Shr, by))
+    }
+}
+
+/// The high `n` bits.
+fn head(alloc: Global, r: u32, n: u128, a: Held) -> Result<Rhs, MemoryOut>
+    ensures { IfOk result (λ rhs. rhs ≡ text.head r n a) }
+{
+    let width = u128::from(a.width);
+    let atom = field(
+        alloc,
+        r,
+        width.saturating_sub(1),
+        width.saturating_sub(n),
+        a,
+    )?;
+    Ok(Rhs::Atom(atom))
+}
+
+/// The nets of a division: whether the divisor is zero, the divisor or else 1, the quotient or remainder, and
+/// that or else 0.
+fn division(
+    alloc: Global,
+    operators: (SignedOp, BinaryOp),
+    r: u32,
+    a: Held,
+    b: Held,
+    helpers: &[Name],
+    name: &Name,
+) -> Result<Vec<Inner>, MemoryOut>
+    ensures { IfOk result (λ v. v.items ≡ text.division_inners operators.0 operators.1 r a b helpers.now name.now) }
+{
+    let w = r.max(a.width.max(b.width));
+    let signed = a.signed;
+    let mut inners = Vec::new(alloc);
+    inners.push(Inner {
+        name: helper(alloc, helpers, 0)?,
+        width: 1,
+        rhs: zero_test(alloc, w, b.copy(alloc)?)?,
+    })?;
+    inners.push(Inner {
+        name: helper(alloc, helpers, 1)?,
+        width: w,
+        rhs: divisor(alloc, w, helper(alloc, helpers, 0)?, b)?,
+    })?;
+    inners.push(Inner {
+        name: helper(alloc, helpers, 2)?,
+        width: w,
+        rhs: between(
+            alloc,
+            operators.0,
+            operators.1,
+            w,
+            a,
+            net(helper(alloc, helpers, 1)?),
+        )?,
+    })?;
+    let value = Held::whole(helper(alloc, helpers, 2)?, signed, w);
+    inners.push(Inner {
+        name: name.copy(alloc)?,
+        width: r,
+        rhs: guarded(alloc, r, helper(alloc, helpers, 0)?, value)?,
+    })?;
+    Ok(inners)
+}
+
+/// The name of that number, or one of no letters.
+fn helper(alloc: Global, names: &[Name], k: usize) -> Result<Name, MemoryOut>
+    ensures { IfOk result (λ n. n ≡ helper names.now k) }
+{
+    match names.get(k) {
+        Some(name) => name.copy(alloc),
+        None => Name::new(alloc, b""),
+    }
+}
+
+fn zero_test(alloc: Global, w: u32, b: Held) -> Result<Rhs, MemoryOut>
+    ensures { IfOk result (λ rhs. rhs ≡ text.zero_test w b) }
+{
+    Ok(Rhs::Binary(atom_at(alloc, w, b)?, BinaryOp::Eq, constant(w, 0)))
+}
+
+/// The divisor, or 1 where it is zero.
+fn divisor(alloc: Global, w: u32, is_zero: Name, b: Held) -> Result<Rhs, MemoryOut>
+    ensures { IfOk result (λ rhs. rhs ≡ text.divisor w is_zero b) }
+{
+    Ok(Rhs::Conditional(net(is_zero), constant(w, 1), atom_at(alloc, w, b)?))
+}
+
+/// The value, or 0 where the divisor is zero.
+fn guarded(alloc: Global, r: u32, is_zero: Name, value: Held) -> Result<Rhs, MemoryOut>
+    ensures { IfOk result (λ rhs. rhs ≡ text.guarded r is_zero value) }
+{
+    Ok(Rhs::Conditional(net(is_zero), constant(r, 0), atom_at(alloc, r, value)?))
 }

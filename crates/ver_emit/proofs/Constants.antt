@@ -1,19 +1,21 @@
--- Constants in a text: the width, a quote, the base and the hexadecimal digits are one token.
+-- Constants in a text.
+-- The width, a quote, the base and the hexadecimal digits are one token, which any byte closes that is in no word and no question mark.
 use Rattle.std.proofs.Common.{◌≡◌, ℕ, ◌+◌, ◌-◌, ◌*◌, ◌/◌, ◌%◌, ◌^◌, ◌<◌, ◌≤◌, inl, inr, List, [], ◌∷◌, ◌++◌, true, false, ◌&&◌, Some, None, refl, ap, ◌∙◌, append_assoc, arith}
-use Rattle.std.specs.Prelude.{codes, decimal, nat_le, nat_lt}
+use Rattle.std.specs.Prelude.{codes, decimal, nat_eq, nat_le, nat_lt}
 use Rattle.std.specs.Fmt.{digit_glyph}
-use Rattle.std.proofs.lemmas.Bool.{cases_lt}
+use Rattle.std.proofs.lemmas.Bool.{cases_lt, or_parts}
 use Rattle.std.proofs.lemmas.Bool.Decides.{nat_tests}
 use Rattle.fir_base.specs.Bytes.{is_digit, is_word_byte}
-use Rattle.ver_ast.specs.Tokens.{Token, constant, hexadecimal, in_number, at_digits, in_constant, digit_in, begin, tokens_from, tokens}
+use Rattle.ver_ast.specs.Tokens.{Token, constant, hexadecimal, in_number, at_digits, in_constant, digit_in, begin, close_and_begin, step, go_on, tokens_from, tokens}
 use Rattle.fir_base.specs.Digits as digits
-use Rattle.ver_emit.proofs.Words.{ClosesWord, closed_behind}
+use Rattle.ver_emit.proofs.Words.{Closes, closed_behind}
 use Rattle.ver_emit.proofs.Numbers.{number_read}
 use Rattle.fir_base.proofs.Digits.{hexadecimal_by_steps}
 
 -- behind the base, the digits are read as this number, whatever stands behind them
 abbrev ReadsAs : ℕ → List ℕ → Type 0
-ReadsAs n ds = (w : ℕ) (rest : List ℕ) (ts : List Token) → tokens_from (in_constant w hexadecimal n) rest ≡ Some ts → tokens_from (at_digits w hexadecimal) (ds ++ rest) ≡ Some ts
+ReadsAs n ds = (w : ℕ) (rest : List ℕ) (ts : List Token) → tokens_from (in_constant w hexadecimal n) rest ≡ Some ts
+    → tokens_from (at_digits w hexadecimal) (ds ++ rest) ≡ Some ts
 
 -- a digit from 0 to 9
 low_digit_read : (d : ℕ) → d < 10 → digit_in hexadecimal (48 + d) ≡ Some d
@@ -58,22 +60,34 @@ unfolding tokens_from
 more_digits n ds h front w rest ts e =
     let d : n % 16 < 16 = omega arith in
     let whole : 16 * (n / 16) + n % 16 ≡ n = omega arith in
-    let last : tokens_from (in_constant w hexadecimal (n / 16)) (digit_glyph false (n % 16) ∷ rest) ≡ Some ts = rw (glyph_read (n % 16) d, whole, e) refl in
+    let last : tokens_from (in_constant w hexadecimal (n / 16)) (digit_glyph false (n % 16) ∷ rest) ≡ Some ts =
+    rw (glyph_read (n % 16) d, whole, e) refl in
     ap (tokens_from (at_digits w hexadecimal)) (append_assoc ds (digit_glyph false (n % 16) ∷ []) rest) ∙ front w _ ts last
 
--- the end of a constant
-close_constant : (w n : ℕ) (rest : List ℕ) (ts : List Token) → ClosesWord rest → tokens rest ≡ Some ts → tokens_from (in_constant w hexadecimal n) rest ≡ Some (constant w n ∷ ts)
+-- a byte which is no digit and no question mark closes a constant
+close_step : (w n b : ℕ) → digit_in hexadecimal b ≡ None → nat_eq b 63 ≡ false
+    → step (in_constant w hexadecimal n) b ≡ close_and_begin (constant w n) b
+close_step w n b d q = rw (d, q) refl
+
+-- and the token stands before those behind it
+close_constant : (w n : ℕ) (rest : List ℕ) (ts : List Token) → Closes rest → tokens rest ≡ Some ts
+    → tokens_from (in_constant w hexadecimal n) rest ≡ Some (constant w n ∷ ts)
 unfolding tokens_from
 close_constant w n [] ts c e = absurd c
-close_constant w n (b ∷ bs) ts c e = rw (no_digit b c) (closed_behind (constant w n) (begin b) (λ next. tokens_from next bs) ts e)
+close_constant w n (b ∷ bs) ts c e =
+    let p = or_parts (is_word_byte b) (nat_eq b 63) c in
+    ap (λ s. go_on s (λ next. tokens_from next bs)) (close_step w n b (no_digit b p.0) p.1)
+    ∙ closed_behind (constant w n) (begin b) (λ next. tokens_from next bs) ts e
 
 -- what stands behind the width
-quote_read : (w : ℕ) (rest : List ℕ) (ts : List Token) → tokens_from (at_digits w hexadecimal) rest ≡ Some ts → tokens_from (in_number false w) (codes "'h" ++ rest) ≡ Some ts
+quote_read : (w : ℕ) (rest : List ℕ) (ts : List Token) → tokens_from (at_digits w hexadecimal) rest ≡ Some ts
+    → tokens_from (in_number false w) (codes "'h" ++ rest) ≡ Some ts
 unfolding tokens_from
 quote_read w rest ts e = rw e refl
 
 -- a constant before what closes it
-pub constant_spelled : (w n : ℕ) (rest : List ℕ) (ts : List Token) → 1 ≤ w → w ≤ 128 → n < 2 ^ 128 → ClosesWord rest → tokens rest ≡ Some ts → tokens (decimal w ++ (codes "'h" ++ (digits.hexadecimal n ++ rest))) ≡ Some (constant w n ∷ ts)
+pub constant_spelled : (w n : ℕ) (rest : List ℕ) (ts : List Token) → 1 ≤ w → w ≤ 128 → n < 2 ^ 128 → Closes rest
+    → tokens rest ≡ Some ts → tokens (decimal w ++ (codes "'h" ++ (digits.hexadecimal n ++ rest))) ≡ Some (constant w n ∷ ts)
 constant_spelled w n rest ts low high small c e =
     let read = hexadecimal_by_steps ReadsAs one_digit more_digits n small w rest _ (close_constant w n rest ts c e) in
     number_read w _ _ low (omega arith) (quote_read w _ _ read)

@@ -1,9 +1,12 @@
 pub mod Grouping
+pub mod Fixed
 pub mod Words
 pub mod Numbers
+pub mod Ranges
 pub mod Constants
 pub mod Narrow
-pub mod Primaries
+pub mod Operands
+pub mod Sides
 pub mod Ports
 pub mod Items
 pub mod Spelled

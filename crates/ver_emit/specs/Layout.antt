@@ -1,6 +1,6 @@
 -- The layout of the emitted text, as a function of the tree.
 -- A port a line with two spaces, then an item a line with two spaces; single spaces between words and behind each comma of a concatenation, none
--- inside a range, a select or a constant, or before a semicolon.
+-- inside a range, a select or a constant, before or behind a brace, or before a semicolon.
 use Rattle.std.specs.Prelude.{ℕ, ◌-◌, List, [], ◌∷◌, ◌++◌, flat_map, codes, decimal, nat_eq, if◌then◌else◌}
 use Rattle.ver_ast.specs.declared.tree.Verilog.{Verilog}
 use Rattle.fir_base.specs.Digits.{hexadecimal}
@@ -12,11 +12,10 @@ use Rattle.ver_ast.specs.declared.tree.Item.{Item}
 use Rattle.ver_ast.specs.declared.tree.Item.TheVariants as item
 use Rattle.ver_ast.specs.declared.tree.Rhs.{Rhs}
 use Rattle.ver_ast.specs.declared.tree.Rhs.TheVariants as rhs
-use Rattle.ver_ast.specs.declared.tree.Atom.{Atom}
-use Rattle.ver_ast.specs.declared.tree.Atom.TheVariants as atom
-use Rattle.ver_ast.specs.declared.tree.Primary.{Primary}
-use Rattle.ver_ast.specs.declared.tree.Primary.TheVariants as primary
-use Rattle.ver_ast.specs.Grammar.{direction_word, unary_sign, binary_sign}
+use Rattle.ver_ast.specs.declared.tree.BinaryOp.{BinaryOp}
+use Rattle.ver_ast.specs.declared.tree.BinaryOp.TheVariants as binary
+use Rattle.ver_ast.specs.Atoms.{AtomTree, net, constant, bit_select, part_select, concat, repeat, AtomTrees, no_atoms, atom_before}
+use Rattle.ver_ast.specs.Grammar.{direction_word, unary_sign, unsigned_op}
 
 -- the range of a width, with the space behind it; a width of 1 has none
 abbrev pub range_text : ℕ → List ℕ
@@ -38,24 +37,52 @@ abbrev pub ports_text : List Port → List ℕ
 ports_text [] = []
 ports_text (p ∷ ps) = port_text p ++ flat_map next_port_text ps ++ codes "\n"
 
-abbrev pub primary_text : Primary → List ℕ
-primary_text (primary.Net n) = n
-primary_text (primary.Constant width value) = decimal width ++ codes "'h" ++ hexadecimal value
-primary_text (primary.BitSelect n i) = n ++ codes "[" ++ decimal i ++ codes "]"
-primary_text (primary.PartSelect n hi lo) = n ++ codes "[" ++ decimal hi ++ codes ":" ++ decimal lo ++ codes "]"
+abbrev mutual
+  pub atom_text : AtomTree → List ℕ
+  atom_text (net n) = n
+  atom_text (constant width value) = decimal width ++ codes "'h" ++ hexadecimal value
+  atom_text (bit_select n i) = n ++ codes "[" ++ decimal i ++ codes "]"
+  atom_text (part_select n hi lo) = n ++ codes "[" ++ decimal hi ++ codes ":" ++ decimal lo ++ codes "]"
+  atom_text (concat a more) = codes "{" ++ atom_text a ++ next_atom_text more ++ codes "}"
+  atom_text (repeat count a) = codes "{" ++ decimal count ++ codes "{" ++ atom_text a ++ codes "}}"
 
--- a primary behind another
-abbrev pub next_primary_text : Primary → List ℕ
-next_primary_text p = codes ", " ++ primary_text p
+  -- operands behind another
+  pub next_atom_text : AtomTrees → List ℕ
+  next_atom_text no_atoms = []
+  next_atom_text (atom_before a more) = codes ", " ++ atom_text a ++ next_atom_text more
 
-abbrev pub atom_text : Atom → List ℕ
-atom_text (atom.Primary p) = primary_text p
-atom_text (atom.Concat p ps) = codes "{" ++ primary_text p ++ flat_map next_primary_text ps ++ codes "}"
+abbrev pub binary_text : BinaryOp → List ℕ
+binary_text binary.Add = codes "+"
+binary_text binary.Sub = codes "-"
+binary_text binary.Mul = codes "*"
+binary_text binary.Div = codes "/"
+binary_text binary.Rem = codes "%"
+binary_text binary.And = codes "&"
+binary_text binary.Or = codes "|"
+binary_text binary.Xor = codes "^"
+binary_text binary.Shl = codes "<<"
+binary_text binary.Shr = codes ">>"
+binary_text binary.Eq = codes "=="
+binary_text binary.Neq = codes "!="
+binary_text binary.Lt = codes "<"
+binary_text binary.Leq = codes "<="
+binary_text binary.Gt = codes ">"
+binary_text binary.Geq = codes ">="
+
+-- an operator with the spaces round it
+abbrev pub between_text : BinaryOp → List ℕ
+between_text op = codes " " ++ binary_text op ++ codes " "
+
+abbrev pub signed_text : AtomTree → List ℕ
+signed_text a = codes "$signed(" ++ atom_text a ++ codes ")"
 
 abbrev pub rhs_text : Rhs → List ℕ
 rhs_text (rhs.Atom a) = atom_text a
 rhs_text (rhs.Unary op a) = unary_sign op ∷ atom_text a
-rhs_text (rhs.Binary a op b) = atom_text a ++ codes " " ++ binary_sign op ∷ codes " " ++ atom_text b
+rhs_text (rhs.Binary a op b) = atom_text a ++ between_text op ++ atom_text b
+rhs_text (rhs.Signed a op b) = signed_text a ++ between_text (unsigned_op op) ++ signed_text b
+rhs_text (rhs.SignedShift a b) = signed_text a ++ codes " >>> " ++ atom_text b
+rhs_text (rhs.Conditional c a b) = atom_text c ++ codes " ? " ++ atom_text a ++ codes " : " ++ atom_text b
 
 abbrev pub item_text : Item → List ℕ
 item_text (item.Wire n) = codes "  wire " ++ range_text n.width ++ n.name ++ codes ";\n"

@@ -1,38 +1,81 @@
 //! Operands.
 
-ghost use Rattle.std.specs.Prelude.{◌≡◌, ◌++◌, OnOk, flat_map};
-ghost use Rattle.ver_emit.specs.Layout.{atom_text, next_primary_text};
+ghost use Rattle.std.specs.Prelude.{◌≡◌, ◌++◌, OnOk};
+ghost use Rattle.ver_ast.specs.Atoms.{atoms_of, bit_select, constant, part_select};
+ghost use Rattle.ver_emit.specs.Layout.{atom_text, next_atom_text};
 
-use crate::primary::put_primary;
-use fir_base::MemoryOut;
-use ver_ast::{Atom, Primary};
+use fir_base::{MemoryOut, Name, put_decimal, put_hexadecimal};
+use ver_ast::{Atom, AtomForm};
 
 /// Appends an operand.
+#[cycle(atoms)]
 pub fn put_atom(out: &mut Vec<u8>, atom: &Atom) -> Result<(), MemoryOut>
     ensures { OnOk result (out.new.items ≡ out.old.items ++ atom_text atom.now) }
 {
-    match atom {
-        Atom::Primary(primary) => put_primary(out, primary),
-        Atom::Concat(first, rest) => put_concat(out, first, rest.as_slice()),
+    match &atom.form {
+        AtomForm::Net(name) => {
+            out.extend_from_slice(name.as_bytes())?;
+            Ok(())
+        }
+        AtomForm::Constant(width, value) => put_constant(out, *width, *value),
+        AtomForm::BitSelect(name, index) => put_bit_select(out, name, *index),
+        AtomForm::PartSelect(name, high, low) => put_part_select(out, name, *high, *low),
+        AtomForm::Concat(first, rest) => {
+            out.extend_from_slice(b"{")?;
+            put_atom(out, first)?;
+            put_next_atoms(out, rest.as_slice())?;
+            out.extend_from_slice(b"}")?;
+            Ok(())
+        }
+        AtomForm::Repeat(count, copied) => {
+            out.extend_from_slice(b"{")?;
+            put_decimal(out, u128::from(*count))?;
+            out.extend_from_slice(b"{")?;
+            put_atom(out, copied)?;
+            out.extend_from_slice(b"}}")?;
+            Ok(())
+        }
     }
 }
 
-fn put_concat(out: &mut Vec<u8>, first: &Primary, rest: &[Primary]) -> Result<(), MemoryOut>
-    ensures { OnOk result (out.new.items ≡ out.old.items ++ atom_text (Atom.Concat first.now rest.now)) }
+/// Appends the operands that stand behind another in a concatenation.
+#[cycle(atoms)]
+fn put_next_atoms(out: &mut Vec<u8>, atoms: &[Atom]) -> Result<(), MemoryOut>
+    ensures { OnOk result (out.new.items ≡ out.old.items ++ next_atom_text (atoms_of atoms.now)) }
 {
-    out.extend_from_slice(b"{")?;
-    put_primary(out, first)?;
-    put_next_primaries(out, rest)?;
-    out.extend_from_slice(b"}")?;
+    for atom in atoms {
+        out.extend_from_slice(b", ")?;
+        put_atom(out, atom)?;
+    }
     Ok(())
 }
 
-fn put_next_primaries(out: &mut Vec<u8>, primaries: &[Primary]) -> Result<(), MemoryOut>
-    ensures { OnOk result (out.new.items ≡ out.old.items ++ flat_map next_primary_text primaries.now) }
+fn put_constant(out: &mut Vec<u8>, width: u32, value: u128) -> Result<(), MemoryOut>
+    ensures { OnOk result (out.new.items ≡ out.old.items ++ atom_text (constant width value)) }
 {
-    for primary in primaries {
-        out.extend_from_slice(b", ")?;
-        put_primary(out, primary)?;
-    }
+    put_decimal(out, u128::from(width))?;
+    out.extend_from_slice(b"'h")?;
+    put_hexadecimal(out, value)
+}
+
+fn put_bit_select(out: &mut Vec<u8>, name: &Name, index: u32) -> Result<(), MemoryOut>
+    ensures { OnOk result (out.new.items ≡ out.old.items ++ atom_text (bit_select name.now index)) }
+{
+    out.extend_from_slice(name.as_bytes())?;
+    out.extend_from_slice(b"[")?;
+    put_decimal(out, u128::from(index))?;
+    out.extend_from_slice(b"]")?;
+    Ok(())
+}
+
+fn put_part_select(out: &mut Vec<u8>, name: &Name, high: u32, low: u32) -> Result<(), MemoryOut>
+    ensures { OnOk result (out.new.items ≡ out.old.items ++ atom_text (part_select name.now high low)) }
+{
+    out.extend_from_slice(name.as_bytes())?;
+    out.extend_from_slice(b"[")?;
+    put_decimal(out, u128::from(high))?;
+    out.extend_from_slice(b":")?;
+    put_decimal(out, u128::from(low))?;
+    out.extend_from_slice(b"]")?;
     Ok(())
 }

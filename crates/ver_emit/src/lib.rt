@@ -5,7 +5,7 @@
 mod atom;
 mod item;
 mod laws;
-mod primary;
+mod operator;
 mod range;
 mod rhs;
 mod writer;

@@ -4,7 +4,9 @@ use super::write_verilog;
 use fir_base::{Direction, MemoryOut, Name, Seq};
 use std::alloc::Global;
 use std::test::Fail;
-use ver_ast::{Always, Assign, Atom, BinaryOp, Item, Net, Port, Primary, Rhs, UnaryOp, Verilog};
+use ver_ast::{
+    Always, Assign, Atom, AtomForm, BinaryOp, Item, Net, Port, Rhs, SignedOp, UnaryOp, Verilog,
+};
 use ver_words::Signal;
 
 /// A tree in tables, and its text.
@@ -26,10 +28,11 @@ enum Line {
 
 enum Side {
     Plain(Piece),
-    Not(Piece),
-    Pair(Piece, BinaryOp, Piece),
-    /// The pieces of a concatenation.
-    Joined(Piece, &'static [Piece]),
+    Unary(UnaryOp, Piece),
+    Binary(Piece, BinaryOp, Piece),
+    Signed(Piece, SignedOp, Piece),
+    SignedShift(Piece, Piece),
+    Conditional(Piece, Piece, Piece),
 }
 
 enum Piece {
@@ -37,7 +40,14 @@ enum Piece {
     Constant(u32, u128),
     BitSelect(&'static [u8], u32),
     PartSelect(&'static [u8], u32, u32),
+    /// The pieces of a concatenation.
+    Concat(&'static Piece, &'static [Piece]),
+    Repeat(u32, &'static Piece),
 }
+
+const A: Piece = Piece::Net(b"a");
+
+const B: Piece = Piece::Net(b"b");
 
 const CASES: &[Case] = &[
     Case {
@@ -49,7 +59,7 @@ endmodule
 ",
     },
     Case {
-        name: b"Every$form1",
+        name: b"Every$port1",
         ports: &[
             (Direction::Input, Signal::Clock, b"clock"),
             (Direction::Input, Signal::Bits(1), b"a"),
@@ -62,40 +72,10 @@ endmodule
             Line::Reg(1, b"s"),
             Line::Wire(1, b"n"),
             Line::Wire(128, b"m"),
-            Line::Assign(b"n", Side::Not(Piece::BitSelect(b"b", 3))),
-            Line::Assign(
-                b"n",
-                Side::Pair(Piece::Net(b"a"), BinaryOp::And, Piece::Constant(1, 0)),
-            ),
-            Line::Assign(
-                b"n",
-                Side::Pair(Piece::Net(b"s"), BinaryOp::Or, Piece::BitSelect(b"b", 0)),
-            ),
-            Line::Assign(
-                b"m",
-                Side::Pair(
-                    Piece::Net(b"b"),
-                    BinaryOp::Xor,
-                    Piece::Constant(128, u128::MAX),
-                ),
-            ),
-            Line::Assign(b"o", Side::Plain(Piece::PartSelect(b"b", 127, 0))),
-            Line::Assign(b"p", Side::Joined(Piece::Net(b"a"), &[])),
-            Line::Assign(
-                b"p",
-                Side::Joined(
-                    Piece::BitSelect(b"b", 3),
-                    &[
-                        Piece::Constant(12, 3087),
-                        Piece::PartSelect(b"b", 7, 4),
-                        Piece::Net(b"s"),
-                    ],
-                ),
-            ),
             Line::Always(b"clock", b"r", Piece::PartSelect(b"b", 4, 1)),
             Line::Always(b"clock", b"s", Piece::Net(b"n")),
         ],
-        text: b"module Every$form1(
+        text: b"module Every$port1(
   (* clock *) input clock,
   input a,
   input [127:0] b,
@@ -106,15 +86,112 @@ endmodule
   reg s;
   wire n;
   wire [127:0] m;
-  assign n = ~b[3];
-  assign n = a & 1'h0;
-  assign n = s | b[0];
-  assign m = b ^ 128'hffffffffffffffffffffffffffffffff;
-  assign o = b[127:0];
-  assign p = {a};
-  assign p = {b[3], 12'hc0f, b[7:4], s};
   always @(posedge clock) r <= b[4:1];
   always @(posedge clock) s <= n;
+endmodule
+",
+    },
+    Case {
+        name: b"Every_operand",
+        ports: &[],
+        lines: &[
+            Line::Assign(b"x", Side::Plain(A)),
+            Line::Assign(b"x", Side::Plain(Piece::Constant(1, 0))),
+            Line::Assign(b"x", Side::Plain(Piece::Constant(128, u128::MAX))),
+            Line::Assign(b"_n0", Side::Plain(Piece::BitSelect(b"a", 0))),
+            Line::Assign(b"_n0", Side::Plain(Piece::PartSelect(b"a", 3, 0))),
+            Line::Assign(b"x", Side::Plain(Piece::Concat(&A, &[]))),
+            Line::Assign(
+                b"x",
+                Side::Plain(Piece::Concat(&Piece::Repeat(4, &Piece::BitSelect(b"a", 3)), &[A])),
+            ),
+            Line::Assign(
+                b"x",
+                Side::Plain(Piece::Concat(
+                    &Piece::Constant(4, 0),
+                    &[Piece::Concat(&Piece::Constant(2, 1), &[B, A])],
+                )),
+            ),
+            Line::Assign(
+                b"x",
+                Side::Plain(Piece::Repeat(2, &Piece::Concat(&A, &[B]))),
+            ),
+        ],
+        text: b"module Every_operand();
+  assign x = a;
+  assign x = 1'h0;
+  assign x = 128'hffffffffffffffffffffffffffffffff;
+  assign _n0 = a[0];
+  assign _n0 = a[3:0];
+  assign x = {a};
+  assign x = {{4{a[3]}}, a};
+  assign x = {4'h0, {2'h1, b, a}};
+  assign x = {2{{a, b}}};
+endmodule
+",
+    },
+    Case {
+        name: b"Every_right_side",
+        ports: &[],
+        lines: &[
+            Line::Assign(b"_n0", Side::Unary(UnaryOp::Not, A)),
+            Line::Assign(b"_n0", Side::Unary(UnaryOp::And, A)),
+            Line::Assign(b"_n0", Side::Unary(UnaryOp::Or, A)),
+            Line::Assign(b"_n0", Side::Unary(UnaryOp::Xor, A)),
+            Line::Assign(b"x", Side::Binary(A, BinaryOp::Add, B)),
+            Line::Assign(b"x", Side::Binary(A, BinaryOp::Sub, B)),
+            Line::Assign(b"x", Side::Binary(A, BinaryOp::Mul, B)),
+            Line::Assign(b"x", Side::Binary(A, BinaryOp::Div, B)),
+            Line::Assign(b"x", Side::Binary(A, BinaryOp::Rem, B)),
+            Line::Assign(b"x", Side::Binary(A, BinaryOp::And, B)),
+            Line::Assign(b"x", Side::Binary(A, BinaryOp::Or, B)),
+            Line::Assign(b"x", Side::Binary(A, BinaryOp::Xor, B)),
+            Line::Assign(b"x", Side::Binary(A, BinaryOp::Shl, B)),
+            Line::Assign(b"x", Side::Binary(A, BinaryOp::Shr, B)),
+            Line::Assign(b"x", Side::Binary(A, BinaryOp::Eq, B)),
+            Line::Assign(b"x", Side::Binary(A, BinaryOp::Neq, B)),
+            Line::Assign(b"x", Side::Binary(A, BinaryOp::Lt, B)),
+            Line::Assign(b"x", Side::Binary(A, BinaryOp::Leq, B)),
+            Line::Assign(b"x", Side::Binary(A, BinaryOp::Gt, B)),
+            Line::Assign(b"x", Side::Binary(A, BinaryOp::Geq, B)),
+            Line::Assign(b"x", Side::Signed(A, SignedOp::Div, B)),
+            Line::Assign(b"x", Side::Signed(A, SignedOp::Rem, B)),
+            Line::Assign(b"x", Side::Signed(A, SignedOp::Lt, B)),
+            Line::Assign(b"x", Side::Signed(A, SignedOp::Leq, B)),
+            Line::Assign(b"x", Side::Signed(A, SignedOp::Gt, B)),
+            Line::Assign(b"x", Side::Signed(A, SignedOp::Geq, B)),
+            Line::Assign(b"x", Side::SignedShift(A, B)),
+            Line::Assign(b"x", Side::Conditional(Piece::Net(b"c"), A, B)),
+        ],
+        text: b"module Every_right_side();
+  assign _n0 = ~a;
+  assign _n0 = &a;
+  assign _n0 = |a;
+  assign _n0 = ^a;
+  assign x = a + b;
+  assign x = a - b;
+  assign x = a * b;
+  assign x = a / b;
+  assign x = a % b;
+  assign x = a & b;
+  assign x = a | b;
+  assign x = a ^ b;
+  assign x = a << b;
+  assign x = a >> b;
+  assign x = a == b;
+  assign x = a != b;
+  assign x = a < b;
+  assign x = a <= b;
+  assign x = a > b;
+  assign x = a >= b;
+  assign x = $signed(a) / $signed(b);
+  assign x = $signed(a) % $signed(b);
+  assign x = $signed(a) < $signed(b);
+  assign x = $signed(a) <= $signed(b);
+  assign x = $signed(a) > $signed(b);
+  assign x = $signed(a) >= $signed(b);
+  assign x = $signed(a) >>> b;
+  assign x = c ? a : b;
 endmodule
 ",
     },
@@ -162,8 +239,15 @@ fn item_of(alloc: Global, line: &Line) -> Result<Item, MemoryOut> {
     Ok(match line {
         Line::Wire(width, name) => Item::Wire(net_of(alloc, *width, name)?),
         Line::Reg(width, name) => Item::Reg(net_of(alloc, *width, name)?),
-        Line::Assign(target, side) => assign_of(alloc, target, side)?,
-        Line::Always(clock, target, source) => always_of(alloc, clock, target, source)?,
+        Line::Assign(target, side) => Item::Assign(Assign {
+            target: Name::new(alloc, target)?,
+            rhs: rhs_of(alloc, side)?,
+        }),
+        Line::Always(clock, target, source) => Item::Always(Always {
+            clock: Name::new(alloc, clock)?,
+            target: Name::new(alloc, target)?,
+            source: atom_of(alloc, source)?,
+        }),
     })
 }
 
@@ -172,59 +256,44 @@ fn net_of(alloc: Global, width: u32, name: &[u8]) -> Result<Net, MemoryOut> {
     Ok(Net { width, name })
 }
 
-fn always_of(
-    alloc: Global,
-    clock: &[u8],
-    target: &[u8],
-    source: &Piece,
-) -> Result<Item, MemoryOut> {
-    let clock = Name::new(alloc, clock)?;
-    let target = Name::new(alloc, target)?;
-    let source = atom_of(alloc, source)?;
-    Ok(Item::Always(Always {
-        clock,
-        target,
-        source,
-    }))
-}
-
-fn assign_of(alloc: Global, target: &[u8], side: &Side) -> Result<Item, MemoryOut> {
-    let target = Name::new(alloc, target)?;
-    let rhs = rhs_of(alloc, side)?;
-    Ok(Item::Assign(Assign { target, rhs }))
-}
-
 fn rhs_of(alloc: Global, side: &Side) -> Result<Rhs, MemoryOut> {
     Ok(match side {
-        Side::Plain(piece) => Rhs::Atom(atom_of(alloc, piece)?),
-        Side::Not(piece) => Rhs::Unary(UnaryOp::Not, atom_of(alloc, piece)?),
-        Side::Pair(left, op, right) => {
-            Rhs::Binary(atom_of(alloc, left)?, *op, atom_of(alloc, right)?)
+        Side::Plain(a) => Rhs::Atom(atom_of(alloc, a)?),
+        Side::Unary(op, a) => Rhs::Unary(*op, atom_of(alloc, a)?),
+        Side::Binary(a, op, b) => Rhs::Binary(atom_of(alloc, a)?, *op, atom_of(alloc, b)?),
+        Side::Signed(a, op, b) => Rhs::Signed(atom_of(alloc, a)?, *op, atom_of(alloc, b)?),
+        Side::SignedShift(a, b) => Rhs::SignedShift(atom_of(alloc, a)?, atom_of(alloc, b)?),
+        Side::Conditional(c, a, b) => {
+            Rhs::Conditional(atom_of(alloc, c)?, atom_of(alloc, a)?, atom_of(alloc, b)?)
         }
-        Side::Joined(first, others) => Rhs::Atom(joined_of(alloc, first, others)?),
     })
 }
 
-fn joined_of(alloc: Global, first: &Piece, others: &[Piece]) -> Result<Atom, MemoryOut> {
-    let mut rest = Vec::new(alloc);
-    for piece in others {
-        rest.push(primary_of(alloc, piece)?)?;
-    }
-    let first = primary_of(alloc, first)?;
-    Ok(Atom::Concat(first, Seq::from_vec(rest)))
-}
-
+#[cycle(pieces)]
 fn atom_of(alloc: Global, piece: &Piece) -> Result<Atom, MemoryOut> {
-    Ok(Atom::Primary(primary_of(alloc, piece)?))
+    let form = match piece {
+        Piece::Net(name) => AtomForm::Net(Name::new(alloc, name)?),
+        Piece::Constant(width, value) => AtomForm::Constant(*width, *value),
+        Piece::BitSelect(name, index) => AtomForm::BitSelect(Name::new(alloc, name)?, *index),
+        Piece::PartSelect(name, high, low) => {
+            AtomForm::PartSelect(Name::new(alloc, name)?, *high, *low)
+        }
+        Piece::Concat(first, rest) => {
+            let first = Box::new(alloc, atom_of(alloc, first)?)?;
+            AtomForm::Concat(first, atoms_of(alloc, rest)?)
+        }
+        Piece::Repeat(count, copied) => {
+            AtomForm::Repeat(*count, Box::new(alloc, atom_of(alloc, copied)?)?)
+        }
+    };
+    Ok(Atom { form })
 }
 
-fn primary_of(alloc: Global, piece: &Piece) -> Result<Primary, MemoryOut> {
-    Ok(match piece {
-        Piece::Net(name) => Primary::Net(Name::new(alloc, name)?),
-        Piece::Constant(width, value) => Primary::Constant(*width, *value),
-        Piece::BitSelect(name, index) => Primary::BitSelect(Name::new(alloc, name)?, *index),
-        Piece::PartSelect(name, high, low) => {
-            Primary::PartSelect(Name::new(alloc, name)?, *high, *low)
-        }
-    })
+#[cycle(pieces)]
+fn atoms_of(alloc: Global, pieces: &[Piece]) -> Result<Vec<Atom>, MemoryOut> {
+    let mut atoms = Vec::new(alloc);
+    for piece in pieces {
+        atoms.push(atom_of(alloc, piece)?)?;
+    }
+    Ok(atoms)
 }

@@ -1,9 +1,10 @@
 -- Laws of the operator table.
 -- FIRRTL spec, "Primitive Operations" and "Width Inference".
-use Rattle.std.specs.Prelude.{◌≡◌, ℕ, ◌≤◌, Bool, List, [], ◌∷◌, map, Some, IfOk, neg_ℤ}
+use Rattle.std.specs.Prelude.{◌≡◌, ℕ, ◌≤◌, Bool, true, List, [], ◌∷◌, map, Some, IfOk, neg_ℤ}
 use Rattle.std.specs.List.{All}
 use Rattle.fir_bits.specs.Values.{BitVector, IsBitVector, extended, low_bits}
 use Rattle.fir_bits.specs.Integers.{reading}
+use Rattle.fir_bits.specs.Literals.{holds_number, least_width}
 use Rattle.fir_bits.specs.Widths.{counted_width}
 use Rattle.fir_bits.specs.Types.{typed}
 use Rattle.fir_bits.specs.OperatorWords.{operator_word, operator_of}
@@ -61,3 +62,13 @@ ReinterpretKeepsBits = (e : Num) → (applied AsUInt (e ∷ []) [] ≡ e.value) 
 -- the word of an operation is read as that operation
 abbrev pub WordsAreRead : Type 0
 WordsAreRead = (op : PrimOp) → operator_of (operator_word op) ≡ Some op
+
+-- the least width of a literal is one from 1 to 129, holds the number where it is at most 128, and no lesser one from 1 on does
+pub record IsLeastWidth (signed negative : Bool) (m w : ℕ) : Type 0 where
+  pub low : 1 ≤ w
+  pub high : w ≤ 129
+  pub holds : w ≤ 128 → holds_number signed w negative m ≡ true
+  pub least : (v : ℕ) → 1 ≤ v → holds_number signed v negative m ≡ true → w ≤ v
+
+abbrev pub LeastWidthIsLeast : Type 0
+LeastWidthIsLeast = (signed negative : Bool) (m : ℕ) → IsLeastWidth signed negative m (least_width signed negative m)

@@ -6,7 +6,7 @@ use Rattle.std.specs.Cmp.Lexicographic.{slice_cmp}
 use Rattle.std.specs.Ordering.{nat_cmp}
 use Rattle.fir_bits.specs.declared.types.NumTy.{NumTy}
 use Rattle.fir_ast.specs.declared.types.Ty.{Ty}
-use Rattle.fir_ast.specs.declared.types.Ty.TheVariants.{UInt, Clock}
+use Rattle.fir_ast.specs.declared.types.Ty.TheVariants.{UInt, SInt, Clock}
 use Rattle.fir_ast.specs.Statements.{PlacedName, Block}
 use Rattle.fir_meaning.specs.Scopes.{Kind, input, clock_input, output, node_value, register_value, Declared, Scope, look_up}
 use Rattle.fir_meaning.specs.DrivenFaults.{is_connected}
@@ -25,6 +25,7 @@ kind_of entry_kind.Register = register_value
 
 abbrev pub ty_of : Printed → Ty
 ty_of (printed.UInt width) = UInt width
+ty_of (printed.SInt width) = SInt width
 ty_of printed.Clock = Clock
 
 abbrev pub printed_of : Option Printed → Option Ty

@@ -2,11 +2,11 @@
 
 ghost use Rattle.std.specs.Prelude.{◌≡◌, map, option_map};
 ghost use Rattle.fir_ast.specs.View.{expr_of, expressions_of, sink_of};
-ghost use Rattle.fir_meaning.specs.Lacking.{is_operation, is_unsigned, lacking_expression, lacking_literal, lacking_operands, lacking_part, literal_word};
+ghost use Rattle.fir_meaning.specs.Lacking.{is_operation, lacking_expression, lacking_operands, lacking_part};
 ghost use Rattle.fir_driver.specs.working.Lacked.{lack_of};
 
 use super::{Lack, told};
-use fir_ast::{Expr, Literal, Part, Reference};
+use fir_ast::{Expr, Part, Reference};
 use fir_bits::PrimOp;
 
 /// The first part of the reference.
@@ -18,28 +18,6 @@ pub fn lacking_part(reference: &Reference) -> Option<Lack<'_>>
         [Part::Field(place, _, _), ..] => told(*place, b"."),
         [Part::Index(place, _, _), ..] => told(*place, b"["),
         [Part::Access(place, _), ..] => told(*place, b"["),
-    }
-}
-
-fn is_unsigned(literal: Literal) -> bool
-    ensures { result ≡ is_unsigned literal }
-{
-    !literal.signed && (!literal.negative && literal.width.is_some())
-}
-
-fn literal_word(literal: Literal) -> &'static [u8]
-    ensures { result.now ≡ literal_word literal }
-{
-    if literal.signed { b"SInt" } else { b"UInt" }
-}
-
-fn lacking_literal(this: Literal) -> Option<Lack<'static>>
-    ensures { option_map lack_of result ≡ lacking_literal this }
-{
-    if is_unsigned(this) {
-        None
-    } else {
-        told(this.place, literal_word(this))
     }
 }
 
@@ -56,7 +34,7 @@ pub fn lacking_expression(expr: &Expr) -> Option<Lack<'_>>
 {
     match expr {
         Expr::Ref(reference) => lacking_part(reference),
-        Expr::Literal(literal) => lacking_literal(*literal),
+        Expr::Literal(_) => None,
         Expr::Op(place, op, operands, integers) => {
             if is_operation(*op, operands.len(), integers.len()) {
                 lacking_operands(operands)
@@ -64,8 +42,12 @@ pub fn lacking_expression(expr: &Expr) -> Option<Lack<'_>>
                 told(*place, op.word())
             }
         }
-        Expr::Mux(place, _, _, _) => told(*place, b"mux"),
-        Expr::Validif(place, _, _) => told(*place, b"validif"),
+        Expr::Mux(_, condition, one, zero) => lacking_expression(condition)
+            .or(lacking_expression(one))
+            .or(lacking_expression(zero)),
+        Expr::Validif(_, condition, value) => {
+            lacking_expression(condition).or(lacking_expression(value))
+        }
     }
 }
 

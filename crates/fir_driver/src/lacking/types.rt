@@ -24,7 +24,7 @@ pub fn lacking_type(place: Place, ty: &Ty) -> Option<Lack<'static>>
     ensures { option_map lack_of result ≡ lacking_type place (type_of ty.now) }
 {
     match ty {
-        Ty::UInt(Some(_)) => None,
+        Ty::UInt(Some(_)) | Ty::SInt(Some(_)) => None,
         _ => told(place, type_word(ty)),
     }
 }

@@ -53,6 +53,7 @@ fn leaves_of(alloc: Global, kinds: &[Kind]) -> Result<Seq<Leaf>, MemoryOut> {
                 line: line_of(number),
                 col: 1,
             },
+            signed: false,
             width: 1,
             role: role_of(*kind),
         })?;
@@ -93,6 +94,7 @@ fn nodes_of(alloc: Global, choices: &[[Source; 3]]) -> Result<Seq<Node>, MemoryO
     for [condition, high, low] in choices {
         nodes.push(Node::Mux(Mux {
             reads: [read_of(*condition), read_of(*high), read_of(*low)],
+            signed: false,
             width: 1,
         }))?;
     }

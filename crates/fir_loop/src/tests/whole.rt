@@ -1,13 +1,14 @@
 //! Whether a net of choices alone is whole.
 
-ghost use Rattle.std.specs.Prelude.{◌≡◌, [], IsTrue};
+ghost use Rattle.std.specs.Prelude.{◌≡◌, [], IsTrue, false};
 ghost use Rattle.std.specs.List.{AllByRecursion};
 ghost use Rattle.fir_net.specs.working.Settled.{is_clock};
-ghost use Rattle.fir_net.specs.working.IsNet.{IsNet, IsLeaf, IsRole, IsReset, CanBeReset, CanBeRead, CanBeClock, IsClock, CanRead, ArePortsFirst, AreInside, is_port, AreNodes, IsNode, IsMux, read_width};
+ghost use Rattle.fir_net.specs.working.IsNet.{IsNet, IsLeaf, IsRole, IsReset, CanBeReset, CanDrive, CanBeDriven, CanBeClock, IsClock, CanRead, ArePortsFirst, AreInside, is_port, AreNodes, IsNode, IsMux, read_type, one_bit};
 
 use fir_net::{FlatNet, Leaf, LeafId, Mux, Node, Read, Reset, Role};
 
-/// Whether it is. What has operations or literals, or a path of more than a letter, is said not to be.
+/// Whether it is. What has operations or literals, other values than of one bit, or a path of more than a letter,
+/// is said not to be.
 pub fn is_whole(net: &FlatNet) -> bool
     ensures { IsTrue result → IsNet net.now }
 {
@@ -35,50 +36,61 @@ fn is_leaf(leaves: &[Leaf], nodes: &[Node], leaf: &Leaf) -> bool
 {
     match leaf.path.as_bytes() {
         [byte] if b'a' <= *byte && *byte <= b'z' => {
-            leaf.width == 1 && is_role(leaves, nodes, &leaf.role)
+            !leaf.signed && leaf.width == 1 && is_role(leaves, nodes, &leaf.role)
         }
         _ => false,
     }
 }
 
 fn is_role(leaves: &[Leaf], nodes: &[Node], role: &Role) -> bool
-    ensures { IsTrue result → IsRole leaves.now nodes.now 1 role.now }
+    ensures { IsTrue result → IsRole leaves.now nodes.now false 1 role.now }
 {
     match role {
         Role::Input | Role::Clock => true,
-        Role::Output(read) | Role::Wire(read) => can_read(leaves, nodes, read),
+        Role::Output(read) | Role::Wire(read) => can_drive(leaves, nodes, read),
         Role::Register(register) => {
             is_clock_leaf(leaves, register.clock)
                 && can_be_reset(leaves, nodes, &register.reset)
-                && can_be_read(leaves, nodes, &register.next)
+                && can_be_driven(leaves, nodes, &register.next)
         }
         Role::ClockOutput(clock) | Role::ClockWire(clock) => can_be_clock(leaves, *clock),
     }
 }
 
-fn can_read(leaves: &[Leaf], nodes: &[Node], read: &Read) -> bool
-    ensures { IsTrue result → CanRead leaves.now nodes.now read.now }
+/// Whether it can be read, and is an unsigned value of one bit.
+fn reads_bit(leaves: &[Leaf], nodes: &[Node], read: &Read) -> bool
+    ensures can { IsTrue result → CanRead leaves.now nodes.now read.now }
+    ensures bit { IsTrue result → read_type leaves.now nodes.now read.now ≡ one_bit }
 {
     match read {
         Read::Leaf(leaf) => match leaves.get(leaf.number()) {
-            Some(leaf) => !is_clock(&leaf.role),
+            Some(leaf) => !is_clock(&leaf.role) && !leaf.signed && leaf.width == 1,
             None => false,
         },
-        Read::Node(node) => node.number() < nodes.len(),
+        Read::Node(node) => match nodes.get(node.number()) {
+            Some(Node::Mux(mux)) => !mux.signed && mux.width == 1,
+            _ => false,
+        },
     }
 }
 
-fn can_be_read(leaves: &[Leaf], nodes: &[Node], read: &Option<Read>) -> bool
-    ensures { IsTrue result → CanBeRead leaves.now nodes.now read.now }
+fn can_drive(leaves: &[Leaf], nodes: &[Node], read: &Read) -> bool
+    ensures { IsTrue result → CanDrive leaves.now nodes.now false read.now }
+{
+    reads_bit(leaves, nodes, read)
+}
+
+fn can_be_driven(leaves: &[Leaf], nodes: &[Node], read: &Option<Read>) -> bool
+    ensures { IsTrue result → CanBeDriven leaves.now nodes.now false read.now }
 {
     match read {
-        Some(read) => can_read(leaves, nodes, read),
+        Some(read) => can_drive(leaves, nodes, read),
         None => true,
     }
 }
 
 fn can_be_reset(leaves: &[Leaf], nodes: &[Node], reset: &Option<Reset>) -> bool
-    ensures { IsTrue result → CanBeReset leaves.now nodes.now reset.now }
+    ensures { IsTrue result → CanBeReset leaves.now nodes.now false reset.now }
 {
     match reset {
         Some(reset) => is_reset(leaves, nodes, reset),
@@ -87,11 +99,9 @@ fn can_be_reset(leaves: &[Leaf], nodes: &[Node], reset: &Option<Reset>) -> bool
 }
 
 fn is_reset(leaves: &[Leaf], nodes: &[Node], reset: &Reset) -> bool
-    ensures { IsTrue result → IsReset leaves.now nodes.now reset.now }
+    ensures { IsTrue result → IsReset leaves.now nodes.now false reset.now }
 {
-    can_read(leaves, nodes, &reset.condition)
-        && read_width(leaves, nodes, &reset.condition) == 1
-        && can_read(leaves, nodes, &reset.init)
+    reads_bit(leaves, nodes, &reset.condition) && can_drive(leaves, nodes, &reset.init)
 }
 
 fn is_clock_leaf(leaves: &[Leaf], leaf: LeafId) -> bool
@@ -170,25 +180,9 @@ fn is_mux(leaves: &[Leaf], before: &[Node], mux: &Mux) -> bool
     ensures { IsTrue result → IsMux leaves.now before.now mux.now }
 {
     let [condition, high, low] = &mux.reads;
-    can_read(leaves, before, condition)
-        && can_read(leaves, before, high)
-        && can_read(leaves, before, low)
-        && read_width(leaves, before, condition) == 1
-        && read_width(leaves, before, high) == 1
-        && read_width(leaves, before, low) == 1
+    reads_bit(leaves, before, condition)
+        && reads_bit(leaves, before, high)
+        && reads_bit(leaves, before, low)
+        && !mux.signed
         && mux.width == 1
-}
-
-fn read_width(leaves: &[Leaf], nodes: &[Node], read: &Read) -> u32
-    ensures { result ≡ read_width leaves.now nodes.now read.now }
-{
-    match read {
-        Read::Leaf(leaf) => leaves.get(leaf.number()).map_or(0, |leaf| leaf.width),
-        Read::Node(node) => match nodes.get(node.number()) {
-            Some(Node::Literal(bits)) => bits.width(),
-            Some(Node::Operation(operation)) => operation.width,
-            Some(Node::Mux(mux)) => mux.width,
-            None => 0,
-        },
-    }
 }

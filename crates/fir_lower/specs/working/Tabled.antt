@@ -6,7 +6,8 @@ use Rattle.std.specs.Ordering.{nat_cmp}
 use Rattle.fir_net.specs.declared.reads.Read.{Read}
 use Rattle.fir_net.specs.declared.node.Node.{Node}
 use Rattle.fir_lower.specs.declared.tables.Tables.{Tables}
-use Rattle.fir_lower.specs.working.Lowered.{Bound, Binding, nowhere, bound_of, Driver, driver_of, Lowering}
+use Rattle.fir_lower.specs.working.Bounds.{Bound, Binding, nowhere, bound_of}
+use Rattle.fir_lower.specs.working.Lowering.{Driver, driver_of, Lowering}
 
 -- the map has what each name is bound to
 pub record HasBounds (m : BTreeMap (List ℕ) Bound) (bs : List Binding) : Type 0 where

@@ -1,5 +1,5 @@
 -- Laws about the definitions.
-use Rattle.std.specs.Prelude.{◌≡◌, ℕ, ◌^◌, ◌<◌, ◌≤◌, List, [], ◌∷◌, ◌++◌, true, false, IsTrue, Some}
+use Rattle.std.specs.Prelude.{◌≡◌, ℕ, ◌^◌, ◌<◌, ◌≤◌, List, [], ◌∷◌, ◌++◌, true, IsTrue, Some}
 use Rattle.fir_base.specs.Ticks.{Tick, TickResult}
 use Rattle.fir_bits.specs.Values.{IsBitVector}
 use Rattle.fir_bits.specs.Operators.{type_of}
@@ -44,21 +44,19 @@ LastConnect =
 abbrev pub FaultlessIsClean : Type 0
 FaultlessIsClean = (c : CircuitTree) → IsTrue (is_in_language c) → Faultless c → IsCleanCircuit c
 
--- the one value of an expression: of the expression's type, unsigned, and below two to its width
+-- the one value of an expression: of the expression's type, and below two to its width
 pub record HasValue (scope whole : Scope) (env : Values) (e : Expression) : Type 0 where
   pub value : Num
   pub of_type : types scope e ≡ type_of value ∷ []
   pub evaluated : eval whole [] env e ≡ value ∷ []
   pub vector : IsBitVector value.value
-  pub unsigned : value.signed ≡ false
 
 -- a larger scope finds what a scope finds
 pub record Finds (scope whole : Scope) : Type 0 where
   pub each : (n : List ℕ) (d : Declared) → look_up scope n ≡ Some d → look_up whole n ≡ Some d
 
--- what may be read is a UInt of at most 128 bits, and has a value of its width
+-- what is declared has at most 128 bits, and what may be read a value of its width
 pub record Holds (scope : Scope) (env : Values) : Type 0 where
-  pub unsigned : (n : List ℕ) (d : Declared) → look_up scope n ≡ Some d → d.holds.signed ≡ false
   pub narrow : (n : List ℕ) (d : Declared) → look_up scope n ≡ Some d → d.holds.width ≤ 128
   pub below : (n : List ℕ) (d : Declared) → look_up scope n ≡ Some d → is_readable d.kind ≡ true → env (n ∷ []) < 2 ^ d.holds.width
 

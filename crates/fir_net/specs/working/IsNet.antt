@@ -1,12 +1,14 @@
 -- Which nets are whole.
--- Each node reads leaves and nodes before it and has the type of its operation; what drives a leaf is a value of the net, and what drives a clock leaf a clock
--- leaf or none; a register is clocked by a clock leaf, and the condition of its reset is one bit; a clock is one bit wide; the ports stand before the other
--- leaves; all widths are at most 128, and all names are words.
+-- Each node reads leaves and nodes before it and has the type of its operation; what drives a leaf is a value of the net and of the leaf's signedness,
+-- and what drives a clock leaf a clock leaf or none; a register is clocked by a clock leaf, and the condition of its reset is one bit; a clock is one bit
+-- wide; the ports stand before the other leaves; all widths are at most 128, and all names are words.
 use Rattle.std.specs.Prelude.{◌≡◌, ℕ, ◌<◌, ◌≤◌, max, List, [], ◌∷◌, ◌++◌, length, map, slice_get, Bool, true, false, Option, Some, None, unwrap_or, option_map, Ok, IsTrue, MatchBool}
 use Rattle.std.specs.List.{AllByRecursion}
 use Rattle.ver_words.specs.Names.{is_word}
 use Rattle.fir_bits.specs.Values.{IsBitVector}
+use Rattle.fir_bits.specs.Forms.{no_type}
 use Rattle.fir_bits.specs.Types.{typed}
+use Rattle.fir_bits.specs.Operators.{type_of}
 use Rattle.fir_bits.specs.declared.types.NumTy.{NumTy}
 use Rattle.fir_net.specs.Paths.{base_name}
 use Rattle.fir_net.specs.declared.reads.Read.{Read}
@@ -20,20 +22,17 @@ use Rattle.fir_net.specs.declared.node.Mux.{Mux}
 use Rattle.fir_net.specs.declared.node.Node.{Node}
 use Rattle.fir_net.specs.declared.node.Node.TheVariants as node
 use Rattle.fir_net.specs.declared.net.FlatNet.{FlatNet}
-use Rattle.fir_net.specs.working.Values.{leaf_width}
+use Rattle.fir_net.specs.working.Values.{leaf_type}
 use Rattle.fir_net.specs.working.Settled.{is_clock}
 
-abbrev pub node_width : Node → ℕ
-node_width (node.Literal v) = v.width
-node_width (node.Operation o) = o.width
-node_width (node.Mux m) = m.width
-
-abbrev pub read_width : List Leaf → List Node → Read → ℕ
-read_width leaves nodes (read.Leaf k) = leaf_width leaves k
-read_width leaves nodes (read.Node k) = unwrap_or (option_map node_width (slice_get nodes k)) 0
+abbrev pub node_type : Node → NumTy
+node_type (node.Literal v) = type_of v
+node_type (node.Operation o) = record { signed = o.signed; width = o.width }
+node_type (node.Mux m) = record { signed = m.signed; width = m.width }
 
 abbrev pub read_type : List Leaf → List Node → Read → NumTy
-read_type leaves nodes r = record { signed = false; width = read_width leaves nodes r }
+read_type leaves nodes (read.Leaf k) = leaf_type leaves k
+read_type leaves nodes (read.Node k) = unwrap_or (option_map node_type (slice_get nodes k)) no_type
 
 -- a leaf that is no clock, or one of these nodes
 abbrev pub CanRead : List Leaf → List Node → Read → Type 0
@@ -42,19 +41,23 @@ CanRead leaves nodes (read.Node k) = k < length nodes
 
 pub record IsOperation (leaves : List Leaf) (before : List Node) (o : Operation) : Type 0 where
   pub reads : AllByRecursion (CanRead leaves before) o.reads
-  pub has_type : typed o.op (map (read_type leaves before) o.reads) o.integers ≡ Ok (record { signed = false; width = o.width })
+  pub has_type : typed o.op (map (read_type leaves before) o.reads) o.integers ≡ Ok (node_type (node.Operation o))
 
--- a condition of one bit, and the greater of the widths of both values
-abbrev pub IsChoice : ℕ → List ℕ → Type 0
-IsChoice w (c ∷ a ∷ b ∷ []) = (c ≡ 1) × (w ≡ max a b)
-IsChoice w _ = ⊥
+-- the type of one bit
+abbrev pub one_bit : NumTy
+one_bit = record { signed = false; width = 1 }
+
+-- a condition of one bit, and the greater one of the widths of two values of one signedness
+abbrev pub IsChoice : NumTy → List NumTy → Type 0
+IsChoice t (c ∷ a ∷ b ∷ []) = (c ≡ one_bit) × (a.signed ≡ t.signed) × (b.signed ≡ t.signed) × (t.width ≡ max a.width b.width)
+IsChoice t _ = ⊥
 
 pub record IsMux (leaves : List Leaf) (before : List Node) (m : Mux) : Type 0 where
   pub reads : AllByRecursion (CanRead leaves before) m.reads
-  pub has_width : IsChoice m.width (map (read_width leaves before) m.reads)
+  pub has_type : IsChoice (node_type (node.Mux m)) (map (read_type leaves before) m.reads)
 
 abbrev pub IsNode : List Leaf → List Node → Node → Type 0
-IsNode leaves before (node.Literal v) = IsBitVector v
+IsNode leaves before (node.Literal v) = IsBitVector v.value
 IsNode leaves before (node.Operation o) = IsOperation leaves before o
 IsNode leaves before (node.Mux m) = IsMux leaves before m
 
@@ -63,9 +66,14 @@ abbrev pub AreNodes : List Leaf → List Node → List Node → Type 0
 AreNodes leaves before [] = Unit {0}
 AreNodes leaves before (n ∷ ns) = IsNode leaves before n × AreNodes leaves (before ++ n ∷ []) ns
 
-abbrev pub CanBeRead : List Leaf → List Node → Option Read → Type 0
-CanBeRead leaves nodes None = Unit {0}
-CanBeRead leaves nodes (Some r) = CanRead leaves nodes r
+-- what may drive a leaf that is an SInt or a UInt
+pub record CanDrive (leaves : List Leaf) (nodes : List Node) (signed : Bool) (r : Read) : Type 0 where
+  pub can : CanRead leaves nodes r
+  pub kind : (read_type leaves nodes r).signed ≡ signed
+
+abbrev pub CanBeDriven : List Leaf → List Node → Bool → Option Read → Type 0
+CanBeDriven leaves nodes signed None = Unit {0}
+CanBeDriven leaves nodes signed (Some r) = CanDrive leaves nodes signed r
 
 abbrev pub IsClock : List Leaf → ℕ → Type 0
 IsClock leaves k = (l : Leaf) × (slice_get leaves k ≡ Some l) × (is_clock l.role ≡ true)
@@ -74,28 +82,28 @@ abbrev pub CanBeClock : List Leaf → Option ℕ → Type 0
 CanBeClock leaves None = Unit {0}
 CanBeClock leaves (Some k) = IsClock leaves k
 
-pub record IsReset (leaves : List Leaf) (nodes : List Node) (r : Reset) : Type 0 where
+pub record IsReset (leaves : List Leaf) (nodes : List Node) (signed : Bool) (r : Reset) : Type 0 where
   pub condition : CanRead leaves nodes r.condition
-  pub one_bit : read_width leaves nodes r.condition ≡ 1
-  pub init : CanRead leaves nodes r.init
+  pub has_one_bit : read_type leaves nodes r.condition ≡ one_bit
+  pub init : CanDrive leaves nodes signed r.init
 
-abbrev pub CanBeReset : List Leaf → List Node → Option Reset → Type 0
-CanBeReset leaves nodes None = Unit {0}
-CanBeReset leaves nodes (Some r) = IsReset leaves nodes r
+abbrev pub CanBeReset : List Leaf → List Node → Bool → Option Reset → Type 0
+CanBeReset leaves nodes signed None = Unit {0}
+CanBeReset leaves nodes signed (Some r) = IsReset leaves nodes signed r
 
-abbrev pub IsRole : List Leaf → List Node → ℕ → Role → Type 0
-IsRole leaves nodes width role.Input = Unit {0}
-IsRole leaves nodes width role.Clock = width ≡ 1
-IsRole leaves nodes width (role.Output r) = CanRead leaves nodes r
-IsRole leaves nodes width (role.Wire r) = CanRead leaves nodes r
-IsRole leaves nodes width (role.Register r) = IsClock leaves r.clock × CanBeReset leaves nodes r.reset × CanBeRead leaves nodes r.next
-IsRole leaves nodes width (role.ClockOutput c) = (width ≡ 1) × CanBeClock leaves c
-IsRole leaves nodes width (role.ClockWire c) = (width ≡ 1) × CanBeClock leaves c
+abbrev pub IsRole : List Leaf → List Node → Bool → ℕ → Role → Type 0
+IsRole leaves nodes signed width role.Input = Unit {0}
+IsRole leaves nodes signed width role.Clock = width ≡ 1
+IsRole leaves nodes signed width (role.Output r) = CanDrive leaves nodes signed r
+IsRole leaves nodes signed width (role.Wire r) = CanDrive leaves nodes signed r
+IsRole leaves nodes signed width (role.Register r) = IsClock leaves r.clock × CanBeReset leaves nodes signed r.reset × CanBeDriven leaves nodes signed r.next
+IsRole leaves nodes signed width (role.ClockOutput c) = (width ≡ 1) × CanBeClock leaves c
+IsRole leaves nodes signed width (role.ClockWire c) = (width ≡ 1) × CanBeClock leaves c
 
 pub record IsLeaf (leaves : List Leaf) (nodes : List Node) (l : Leaf) : Type 0 where
   pub word : IsTrue (is_word (base_name l.path))
   pub narrow : l.width ≤ 128
-  pub driven : IsRole leaves nodes l.width l.role
+  pub driven : IsRole leaves nodes l.signed l.width l.role
 
 abbrev pub is_port : Role → Bool
 is_port (role.Register r) = false

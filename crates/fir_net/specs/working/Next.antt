@@ -11,7 +11,8 @@ use Rattle.fir_net.specs.declared.leaf.Role.{Role}
 use Rattle.fir_net.specs.declared.leaf.Role.TheVariants as role
 use Rattle.fir_net.specs.declared.leaf.Leaf.{Leaf}
 use Rattle.fir_net.specs.declared.net.FlatNet.{FlatNet}
-use Rattle.fir_net.specs.working.Settled.{value_at, at_width, is_high, registers}
+use Rattle.fir_net.specs.working.Values.{at_width}
+use Rattle.fir_net.specs.working.Settled.{value_at, is_high, registers}
 
 -- what drives a register of that width, or what it shows
 abbrev pub taken : FlatNet → (ℕ → ℕ) → ℕ → ℕ → Option Read → ℕ

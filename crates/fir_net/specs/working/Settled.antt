@@ -1,10 +1,10 @@
 -- The values of a net's leaves while nothing changes.
 -- An input has the tick's value, and a register its word of the state, or its init while an asynchronous reset is 1; every other leaf has the value that
--- drives it. A leaf takes a value fitted to its width. A clock input has its number, counted from 0 in port order, and every other clock leaf is the clock
--- that drives it, or none. All is guessed whole and then tested; no order of evaluation stands in the definition.
+-- drives it. A leaf takes a value fitted to its width, by the value's own sign. A clock input has its number, counted from 0 in port order, and every
+-- other clock leaf is the clock that drives it, or none. All is guessed whole and then tested; no order of evaluation stands in the definition.
 -- Leaves are numbered from 0, the ports in their order and then the others.
 use Rattle.std.specs.Prelude.{◌≡◌, ℕ, ◌+◌, ◌^◌, ◌<◌, List, [], ◌∷◌, ◌++◌, map, length, slice_get, slice_index, nat_eq, if◌then◌else◌, Bool, true, false, Option, Some, None}
-use Rattle.fir_bits.specs.Values.{BitVector, fitted}
+use Rattle.fir_bits.specs.declared.values.Num.{Num}
 use Rattle.fir_base.specs.Ticks.{Tick, Shape, HasShape}
 use Rattle.fir_net.specs.declared.reads.Read.{Read}
 use Rattle.fir_net.specs.declared.leaf.ResetKind.{ResetKind}
@@ -15,7 +15,7 @@ use Rattle.fir_net.specs.declared.leaf.Role.{Role}
 use Rattle.fir_net.specs.declared.leaf.Role.TheVariants as role
 use Rattle.fir_net.specs.declared.leaf.Leaf.{Leaf}
 use Rattle.fir_net.specs.declared.net.FlatNet.{FlatNet}
-use Rattle.fir_net.specs.working.Values.{leaf_width, read_value, values}
+use Rattle.fir_net.specs.working.Values.{at_width, leaf_width, read_value, values}
 
 -- leaves of no bits are in no list of values
 abbrev pub with_bits : ℕ → ℕ → List ℕ
@@ -66,11 +66,8 @@ shape net =
     }
 
 -- the value that is read
-abbrev pub value_at : FlatNet → (ℕ → ℕ) → Read → BitVector
+abbrev pub value_at : FlatNet → (ℕ → ℕ) → Read → Num
 value_at net env r = read_value net.leaves env (values net env) r
-
-abbrev pub at_width : BitVector → ℕ → ℕ
-at_width v width = fitted false v.width v.number width
 
 abbrev pub is_clock : Role → Bool
 is_clock role.Clock = true
@@ -96,7 +93,7 @@ driven_clock clock (Some k) = clock k
 
 -- whether a condition is 1
 abbrev pub is_high : FlatNet → (ℕ → ℕ) → Read → Bool
-is_high net env r = nat_eq (value_at net env r).number 1
+is_high net env r = nat_eq (value_at net env r).value.number 1
 
 abbrev pub shown_by : FlatNet → (ℕ → ℕ) → ℕ → ResetKind → Read → Read → ℕ → ℕ
 shown_by net env width Synchronous condition init word = word

@@ -2,47 +2,57 @@
 
 use crate::{LeafId, Mux, Node, Operation, Read, Reads, share};
 use fir_base::{MemoryOut, Seq};
-use fir_bits::{Bits, PrimOp};
+use fir_bits::{Bits, Num, PrimOp};
 use indexmap::IndexSet;
 use std::alloc::Global;
 use std::test::Fail;
 
-/// An operation on one leaf: the operation, the leaf, the integer, the width, and the number that the node
-/// gets.
-const OPERATIONS: &[(PrimOp, usize, u128, u32, usize)] = &[
-    (PrimOp::Shr, 3, 1, 8, 0),
-    (PrimOp::Shr, 3, 1, 7, 1),
-    (PrimOp::Shr, 3, 1, 8, 0),
-    (PrimOp::Shr, 3, 2, 8, 2),
-    (PrimOp::Shr, 4, 1, 8, 3),
-    (PrimOp::Tail, 3, 1, 8, 4),
-    (PrimOp::Shr, 3, 1, 7, 1),
+/// An operation on one leaf: the operation, the leaf, the integer, whether its result is signed, the width, and
+/// the number that the node gets.
+const OPERATIONS: &[(PrimOp, usize, u128, bool, u32, usize)] = &[
+    (PrimOp::Shr, 3, 1, false, 8, 0),
+    (PrimOp::Shr, 3, 1, false, 7, 1),
+    (PrimOp::Shr, 3, 1, false, 8, 0),
+    (PrimOp::Shr, 3, 2, false, 8, 2),
+    (PrimOp::Shr, 4, 1, false, 8, 3),
+    (PrimOp::Tail, 3, 1, false, 8, 4),
+    (PrimOp::Shr, 3, 1, false, 7, 1),
+    (PrimOp::Shr, 3, 1, true, 8, 5),
 ];
 
 #[test]
 fn equal_nodes_get_one_number(rt: HostRuntime) -> Result<(), Fail> {
     let mut nodes = IndexSet::new(rt.alloc());
-    for &(op, leaf, integer, width, number) in OPERATIONS {
-        let node = operation(rt.alloc(), op, leaf, integer, width)?;
+    for &(op, leaf, integer, signed, width, number) in OPERATIONS {
+        let node = operation(rt.alloc(), op, leaf, integer, signed, width)?;
         assert_eq!(rt; share(&mut nodes, node)?.number(), number);
     }
     assert_eq!(rt;
-        share(&mut nodes, Node::Literal(Bits::of(1, 1)))?.number(),
-        5
-    );
-    assert_eq!(rt;
-        share(&mut nodes, Node::Literal(Bits::of(2, 1)))?.number(),
+        share(&mut nodes, literal(false, Bits::of(1, 1)))?.number(),
         6
     );
     assert_eq!(rt;
-        share(&mut nodes, Node::Literal(Bits::of(1, 1)))?.number(),
-        5
+        share(&mut nodes, literal(false, Bits::of(2, 1)))?.number(),
+        7
     );
-    assert_eq!(rt; share(&mut nodes, mux(8))?.number(), 7);
-    assert_eq!(rt; share(&mut nodes, mux(9))?.number(), 8);
-    assert_eq!(rt; share(&mut nodes, mux(8))?.number(), 7);
-    assert_eq!(rt; nodes.len(), 9);
+    assert_eq!(rt;
+        share(&mut nodes, literal(true, Bits::of(1, 1)))?.number(),
+        8
+    );
+    assert_eq!(rt;
+        share(&mut nodes, literal(false, Bits::of(1, 1)))?.number(),
+        6
+    );
+    assert_eq!(rt; share(&mut nodes, mux(false, 8))?.number(), 9);
+    assert_eq!(rt; share(&mut nodes, mux(false, 9))?.number(), 10);
+    assert_eq!(rt; share(&mut nodes, mux(true, 8))?.number(), 11);
+    assert_eq!(rt; share(&mut nodes, mux(false, 8))?.number(), 9);
+    assert_eq!(rt; nodes.len(), 12);
     Ok(())
+}
+
+fn literal(signed: bool, value: Bits) -> Node {
+    Node::Literal(Num { signed, value })
 }
 
 fn operation(
@@ -50,6 +60,7 @@ fn operation(
     op: PrimOp,
     leaf: usize,
     integer: u128,
+    signed: bool,
     width: u32,
 ) -> Result<Node, MemoryOut> {
     let mut reads = Reads::new(alloc);
@@ -60,17 +71,19 @@ fn operation(
         op,
         reads,
         integers: Seq::from_vec(integers),
+        signed,
         width,
     }))
 }
 
-fn mux(width: u32) -> Node {
+fn mux(signed: bool, width: u32) -> Node {
     Node::Mux(Mux {
         reads: [
             Read::Leaf(LeafId::new(0)),
             Read::Leaf(LeafId::new(1)),
             Read::Leaf(LeafId::new(2)),
         ],
+        signed,
         width,
     })
 }

@@ -1,6 +1,6 @@
-//! Three small nets.
+//! Four small nets.
 
-ghost use Rattle.std.specs.Prelude.{◌≡◌, [], ◌∷◌, map, IfOk, Some};
+ghost use Rattle.std.specs.Prelude.{◌≡◌, [], ◌∷◌, map, IfOk, Some, true, false};
 ghost use Rattle.fir_net.specs.declared.node.Node.{Node};
 ghost use Rattle.fir_net.specs.declared.reads.Read.{Read};
 ghost use Rattle.fir_net.specs.working.IsNet.{IsNet};
@@ -8,15 +8,15 @@ ghost use Rattle.fir_net.specs.working.Settled.{shape};
 
 use fir_ast::Place;
 use fir_base::{MemoryOut, Name, Seq};
-use fir_bits::{Bits, PrimOp};
+use fir_bits::{Bits, Num, PrimOp};
 use fir_net::{
     FlatNet, Leaf, LeafId, Mux, Node, NodeId, Operation, Read, Reads, Register, Reset, ResetKind,
     Role,
 };
 use std::alloc::Global;
 
-/// The name of a leaf, its width and its role.
-type Row = (u8, u32, Role);
+/// The name of a leaf, whether it is signed, its width and its role.
+type Row = (u8, bool, u32, Role);
 
 /// A net whose register takes itself xor the input, and is shown.
 pub fn sum(alloc: Global) -> Result<FlatNet, MemoryOut>
@@ -27,10 +27,10 @@ pub fn sum(alloc: Global) -> Result<FlatNet, MemoryOut>
     net(
         alloc,
         &[
-            (b'k', 1, Role::Clock),
-            (b'a', 4, Role::Input),
-            (b'o', 4, Role::Output(leaf(3))),
-            (b'r', 4, Role::Register(register(0, None, node(0)))),
+            (b'k', false, 1, Role::Clock),
+            (b'a', false, 4, Role::Input),
+            (b'o', false, 4, Role::Output(leaf(3))),
+            (b'r', false, 4, Role::Register(register(0, None, node(0)))),
         ],
         vec![in alloc; xor]?,
     )
@@ -42,20 +42,21 @@ pub fn wires(alloc: Global) -> Result<FlatNet, MemoryOut>
     ensures shape { IfOk result (λ n. shape n ≡ record { inputs = 4 ∷ 1 ∷ []; clocks = 0; state = [] }) }
 {
     let xor = binary(alloc, PrimOp::Xor, leaf(2), leaf(0))?;
-    let not = unary(alloc, PrimOp::Not, leaf(0))?;
+    let not = unary(alloc, PrimOp::Not, leaf(0), false, 4)?;
     let mux = Node::Mux(Mux {
         reads: [leaf(1), leaf(0), node(0)],
+        signed: false,
         width: 4,
     });
     net(
         alloc,
         &[
-            (b'a', 4, Role::Input),
-            (b'c', 1, Role::Input),
-            (b'o', 4, Role::Output(leaf(4))),
-            (b'p', 4, Role::Output(node(2))),
-            (b'w', 4, Role::Wire(leaf(5))),
-            (b'v', 4, Role::Wire(node(1))),
+            (b'a', false, 4, Role::Input),
+            (b'c', false, 1, Role::Input),
+            (b'o', false, 4, Role::Output(leaf(4))),
+            (b'p', false, 4, Role::Output(node(2))),
+            (b'w', false, 4, Role::Wire(leaf(5))),
+            (b'v', false, 4, Role::Wire(node(1))),
         ],
         vec![in alloc; xor, not, mux]?,
     )
@@ -68,22 +69,59 @@ pub fn resets(alloc: Global) -> Result<FlatNet, MemoryOut>
 {
     let synchronous = Some(reset(ResetKind::Synchronous));
     let asynchronous = Some(reset(ResetKind::Asynchronous));
+    let literal = Node::Literal(Num {
+        signed: false,
+        value: Bits::of(4, 0x9),
+    });
     net(
         alloc,
         &[
-            (b'k', 1, Role::Clock),
-            (b'r', 1, Role::Input),
-            (b'a', 4, Role::Input),
-            (b's', 4, Role::Output(leaf(6))),
-            (b't', 4, Role::Output(leaf(7))),
-            (b'u', 4, Role::Output(leaf(8))),
-            (b'x', 4, Role::Register(register(9, synchronous, leaf(2)))),
-            (b'y', 4, Role::Register(register(0, asynchronous, leaf(2)))),
-            (b'z', 4, Role::Register(register(10, None, leaf(2)))),
-            (b'l', 1, Role::ClockWire(Some(LeafId::new(0)))),
-            (b'm', 1, Role::ClockWire(None)),
+            (b'k', false, 1, Role::Clock),
+            (b'r', false, 1, Role::Input),
+            (b'a', false, 4, Role::Input),
+            (b's', false, 4, Role::Output(leaf(6))),
+            (b't', false, 4, Role::Output(leaf(7))),
+            (b'u', false, 4, Role::Output(leaf(8))),
+            (
+                b'x',
+                false,
+                4,
+                Role::Register(register(9, synchronous, leaf(2))),
+            ),
+            (
+                b'y',
+                false,
+                4,
+                Role::Register(register(0, asynchronous, leaf(2))),
+            ),
+            (b'z', false, 4, Role::Register(register(10, None, leaf(2)))),
+            (b'l', false, 1, Role::ClockWire(Some(LeafId::new(0)))),
+            (b'm', false, 1, Role::ClockWire(None)),
         ],
-        vec![in alloc; Node::Literal(Bits::of(4, 0x9))]?,
+        vec![in alloc; literal]?,
+    )
+}
+
+/// A net of signed values: an output of more bits takes -a where c is 1, and else b, which has fewer bits.
+pub fn signs(alloc: Global) -> Result<FlatNet, MemoryOut>
+    ensures whole { IfOk result (λ n. IsNet n) }
+    ensures shape { IfOk result (λ n. shape n ≡ record { inputs = 4 ∷ 3 ∷ 1 ∷ []; clocks = 0; state = [] }) }
+{
+    let negative = unary(alloc, PrimOp::Neg, leaf(0), true, 5)?;
+    let mux = Node::Mux(Mux {
+        reads: [leaf(2), node(0), leaf(1)],
+        signed: true,
+        width: 5,
+    });
+    net(
+        alloc,
+        &[
+            (b'a', true, 4, Role::Input),
+            (b'b', true, 3, Role::Input),
+            (b'c', false, 1, Role::Input),
+            (b'o', true, 6, Role::Output(node(1))),
+        ],
+        vec![in alloc; negative, mux]?,
     )
 }
 
@@ -120,9 +158,9 @@ fn reset(kind: ResetKind) -> Reset
     }
 }
 
-/// An operation of one operand whose result has 4 bits.
-fn unary(alloc: Global, op: PrimOp, a: Read) -> Result<Node, MemoryOut>
-    ensures { IfOk result (λ n. n ≡ Node.Operation (record { op = op; reads = a ∷ []; integers = []; width = 4 })) }
+/// An operation of one operand, whether its result is signed, and its width.
+fn unary(alloc: Global, op: PrimOp, a: Read, signed: bool, width: u32) -> Result<Node, MemoryOut>
+    ensures { IfOk result (λ n. n ≡ Node.Operation (record { op = op; reads = a ∷ []; integers = []; signed = signed; width = width })) }
 {
     let mut reads = Reads::new(alloc);
     reads.push(a)?;
@@ -130,13 +168,14 @@ fn unary(alloc: Global, op: PrimOp, a: Read) -> Result<Node, MemoryOut>
         op,
         reads,
         integers: Seq::from_vec(Vec::new(alloc)),
-        width: 4,
+        signed,
+        width,
     }))
 }
 
-/// An operation of two operands whose result has 4 bits.
+/// An operation of two operands whose result is a UInt of 4 bits.
 fn binary(alloc: Global, op: PrimOp, a: Read, b: Read) -> Result<Node, MemoryOut>
-    ensures { IfOk result (λ n. n ≡ Node.Operation (record { op = op; reads = a ∷ b ∷ []; integers = []; width = 4 })) }
+    ensures { IfOk result (λ n. n ≡ Node.Operation (record { op = op; reads = a ∷ b ∷ []; integers = []; signed = false; width = 4 })) }
 {
     let mut reads = Reads::new(alloc);
     reads.push(a)?;
@@ -145,21 +184,23 @@ fn binary(alloc: Global, op: PrimOp, a: Read, b: Read) -> Result<Node, MemoryOut
         op,
         reads,
         integers: Seq::from_vec(Vec::new(alloc)),
+        signed: false,
         width: 4,
     }))
 }
 
 fn net(alloc: Global, rows: &[Row], nodes: Vec<Node>) -> Result<FlatNet, MemoryOut>
-    ensures { IfOk result (λ n. n ≡ record { name = 110 ∷ []; leaves = map (λ t. record { path = t.0 ∷ []; place = record { line = 1; col = 1 }; width = t.1; role = t.2 }) rows.now; nodes = nodes.items }) }
+    ensures { IfOk result (λ n. n ≡ record { name = 110 ∷ []; leaves = map (λ t. record { path = t.0 ∷ []; place = record { line = 1; col = 1 }; signed = t.1; width = t.2; role = t.3 }) rows.now; nodes = nodes.items }) }
 {
     let name = Name::new(alloc, b"n")?;
     let mut leaves = Vec::new(alloc);
-    for &(name, width, role) in rows {
+    for &(name, signed, width, role) in rows {
         let path = Name::new(alloc, &[name])?;
         let place = Place { line: 1, col: 1 };
         leaves.push(Leaf {
             path,
             place,
+            signed,
             width,
             role,
         })?;

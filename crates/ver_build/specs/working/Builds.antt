@@ -1,11 +1,12 @@
 -- When a Verilog tree is what a net is built as.
--- It is named after the net, it is valid, it has the net's shape, and at every tick it allows what the net allows.
+-- It is named after the net, it is valid, it has the net's shape, at every state and tick of its shape it has exactly one choice of values, and it allows what the
+-- net allows.
 use Rattle.std.specs.Prelude.{◌≡◌, ◌↔◌, ℕ, List}
 use Rattle.fir_base.specs.Ticks.{Tick}
 use Rattle.ver_ast.specs.declared.tree.Verilog.{Verilog}
 use Rattle.ver_ast.specs.Valid.{Valid}
 use Rattle.ver_ast.specs.Nets.{shape as v_shape}
-use Rattle.ver_ast.specs.Allows.{VAllows}
+use Rattle.ver_ast.specs.Allows.{VAllows, VOne}
 use Rattle.fir_net.specs.declared.net.FlatNet.{FlatNet}
 use Rattle.fir_net.specs.working.Settled.{shape as net_shape}
 use Rattle.fir_net.specs.working.Allows.{Allows as NetAllows}
@@ -16,4 +17,5 @@ pub record Builds (net : FlatNet) (v : Verilog) : Type 0 where
   pub named : IsNamedFor net.name (net_rows net) (net_words net) v
   pub valid : Valid v
   pub shapes : v_shape v ≡ net_shape net
+  pub one : VOne v
   pub allows : (state : List ℕ) (tick : Tick) (shown after : List ℕ) → VAllows v state tick shown after ↔ NetAllows net state tick shown after

@@ -1,15 +1,15 @@
 -- The Verilog tree of a net, as a function of the net, its names, where its values are, and an order.
--- The registers come first, then the wires of the operations that have a net and their assigns, both in the order, the assigns of the outputs in port order,
--- and the blocks of the registers that something drives on a clock.
-use Rattle.std.specs.Prelude.{ℕ, ◌+◌, ◌-◌, ◌/◌, ◌%◌, ◌^◌, min, List, [], ◌∷◌, ◌++◌, map, nat_eq, nat_le, if◌then◌else◌, Option, Some, None, unwrap_or}
+-- The registers come first, then the wires of the inner nets and their assigns, both in the order, the assigns of the outputs in port order, and the blocks of the
+-- registers that something drives on a clock.
+use Rattle.std.specs.Prelude.{ℕ, ◌+◌, List, [], ◌∷◌, ◌++◌, map, flat_map, slice_get, slice_index, Option, Some, None, unwrap_or}
 use Rattle.fir_base.specs.declared.direction.Direction.TheVariants as direction
-use Rattle.fir_bits.specs.declared.operators.PrimOp.{PrimOp}
-use Rattle.fir_bits.specs.declared.operators.PrimOp.TheVariants as op
 use Rattle.fir_net.specs.declared.reads.Read.{Read}
+use Rattle.fir_net.specs.declared.reads.Read.TheVariants as read
 use Rattle.fir_net.specs.declared.leaf.Role.{Role}
 use Rattle.fir_net.specs.declared.leaf.Role.TheVariants as role
 use Rattle.fir_net.specs.declared.leaf.Leaf.{Leaf}
-use Rattle.fir_net.specs.declared.node.Operation.{Operation}
+use Rattle.fir_net.specs.declared.node.Node.{Node}
+use Rattle.fir_net.specs.declared.node.Node.TheVariants as node
 use Rattle.fir_net.specs.declared.net.FlatNet.{FlatNet}
 use Rattle.fir_net.specs.declared.name_table.NameTable.{NameTable}
 use Rattle.ver_ast.specs.declared.tree.Verilog.{Verilog}
@@ -20,93 +20,40 @@ use Rattle.ver_ast.specs.declared.tree.Assign.{Assign}
 use Rattle.ver_ast.specs.declared.tree.Always.{Always}
 use Rattle.ver_ast.specs.declared.tree.Item.{Item}
 use Rattle.ver_ast.specs.declared.tree.Item.TheVariants as item
-use Rattle.ver_ast.specs.declared.tree.Rhs.{Rhs}
 use Rattle.ver_ast.specs.declared.tree.Rhs.TheVariants as rhs
-use Rattle.ver_ast.specs.declared.tree.Atom.{Atom}
-use Rattle.ver_ast.specs.declared.tree.Atom.TheVariants as atom
-use Rattle.ver_ast.specs.declared.tree.Primary.{Primary}
-use Rattle.ver_ast.specs.declared.tree.Primary.TheVariants as primary
-use Rattle.ver_ast.specs.declared.tree.UnaryOp.TheVariants as unary
-use Rattle.ver_ast.specs.declared.tree.BinaryOp.{BinaryOp}
-use Rattle.ver_ast.specs.declared.tree.BinaryOp.TheVariants as binary
-use Rattle.ver_build.specs.declared.held.Part.{Part}
-use Rattle.ver_build.specs.declared.held.Held.{Held}
-use Rattle.ver_build.specs.declared.held.Held.TheVariants as held
+use Rattle.ver_build.specs.declared.held.Source.{Source}
+use Rattle.ver_build.specs.declared.held.Source.TheVariants as source
+use Rattle.ver_build.specs.declared.places.NodePlace.{NodePlace}
 use Rattle.ver_build.specs.declared.places.Places.{Places}
-use Rattle.ver_build.specs.working.Places.{fit, held_of, clock_in, name_at, Inner, inner}
+use Rattle.ver_build.specs.working.Operands.{atom_at}
+use Rattle.ver_build.specs.declared.right_sides.Inner.{Inner}
+use Rattle.ver_build.specs.working.Texts.{operation_inners, first_held, second_held, mux_rhs}
+use Rattle.ver_build.specs.working.Places.{held_of, node_at, clock_in, name_at}
 
--- the bits of a net from hi down to lo
-abbrev pub selected : List ℕ → ℕ → ℕ → Primary
-selected name hi lo = if nat_eq hi lo then primary.BitSelect name lo else primary.PartSelect name hi lo
+-- the nets of an operation or a mux that has the place
+abbrev pub node_inners : Places → Node → List (List ℕ) → List ℕ → List Inner
+node_inners p (node.Literal v) helpers name = []
+node_inners p (node.Operation o) helpers name =
+    let hs = map (held_of p) o.reads in
+    operation_inners o.op o.width (first_held hs) (second_held hs) (slice_index o.integers 0) (slice_index o.integers 1) helpers name
+node_inners p (node.Mux m) helpers name =
+    record { name = name; width = m.width; rhs = mux_rhs m.width (map (held_of p) m.reads) } ∷ []
 
--- so many zeros
-abbrev pub zeros : ℕ → List Primary
-zeros w = if nat_eq w 0 then [] else (primary.Constant w 0 ∷ [])
+abbrev pub placed_inners : Places → Node → List (List ℕ) → Source → List Inner
+placed_inners p n helpers (source.Number k) = []
+placed_inners p n helpers (source.Net part) = node_inners p n helpers part.name
 
--- the low bits of a net that count
-abbrev pub kept_bits : Part → Primary
-kept_bits p = if nat_eq p.own p.kept then primary.Net p.name else selected p.name (p.kept - 1) 0
+abbrev pub inners_at : Places → Option Node → NodePlace → List Inner
+inners_at p None at = []
+inners_at p (Some n) at = placed_inners p n at.helpers at.held.source
 
--- the parts of a value in a concatenation
-abbrev pub parts : Held → List Primary
-parts held.NoBits = []
-parts (held.Constant w n) = primary.Constant w n ∷ []
-parts (held.Net p) = zeros (p.width - p.kept) ++ kept_bits p ∷ []
+abbrev pub read_inners : FlatNet → Places → Read → List Inner
+read_inners net p (read.Leaf k) = []
+read_inners net p (read.Node k) = inners_at p (slice_get net.nodes k) (node_at p.nodes k)
 
-abbrev pub side_by_side : List Primary → Atom
-side_by_side [] = atom.Primary (primary.Constant 0 0)
-side_by_side (p ∷ []) = atom.Primary p
-side_by_side (p ∷ q ∷ ps) = atom.Concat p (q ∷ ps)
-
--- a value at a width
-abbrev pub atom_at : ℕ → Held → Atom
-atom_at w h = side_by_side (parts (fit w h))
-
--- the bits of a net from hi down to lo; one of one bit has no select
-abbrev pub bits_of_net : Part → ℕ → ℕ → Primary
-bits_of_net p hi lo = if nat_eq p.own 1 then primary.Net p.name else selected p.name hi lo
-
--- the w bits of a value from hi down to lo
-abbrev pub net_field : ℕ → ℕ → ℕ → Part → List Primary
-net_field w hi lo p =
-    if nat_le p.kept lo then zeros w
-    else (let top = min hi (p.kept - 1) in zeros (w - (top + 1 - lo)) ++ bits_of_net p top lo ∷ [])
-
-abbrev pub field_parts : ℕ → ℕ → ℕ → Held → List Primary
-field_parts w hi lo held.NoBits = zeros w
-field_parts w hi lo (held.Constant v n) = primary.Constant w (n / 2 ^ lo % 2 ^ w) ∷ []
-field_parts w hi lo (held.Net p) = net_field w hi lo p
-
-abbrev pub zero_rhs : ℕ → Rhs
-zero_rhs w = rhs.Atom (atom.Primary (primary.Constant w 0))
-
-abbrev pub not_rhs : ℕ → List Held → List ℕ → Rhs
-not_rhs w (a ∷ []) [] = rhs.Unary unary.Not (atom_at w a)
-not_rhs w hs ks = zero_rhs w
-
-abbrev pub bitwise_rhs : BinaryOp → ℕ → List Held → List ℕ → Rhs
-bitwise_rhs o w (a ∷ b ∷ []) [] = rhs.Binary (atom_at w a) o (atom_at w b)
-bitwise_rhs o w hs ks = zero_rhs w
-
-abbrev pub cat_rhs : ℕ → List Held → List ℕ → Rhs
-cat_rhs w (a ∷ b ∷ []) [] = rhs.Atom (side_by_side (parts a ++ parts b))
-cat_rhs w hs ks = zero_rhs w
-
-abbrev pub bits_rhs : ℕ → List Held → List ℕ → Rhs
-bits_rhs w (a ∷ []) (hi ∷ lo ∷ []) = rhs.Atom (side_by_side (field_parts w hi lo a))
-bits_rhs w hs ks = zero_rhs w
-
-abbrev pub operation_rhs : PrimOp → ℕ → List Held → List ℕ → Rhs
-operation_rhs op.Not w hs ks = not_rhs w hs ks
-operation_rhs op.And w hs ks = bitwise_rhs binary.And w hs ks
-operation_rhs op.Or w hs ks = bitwise_rhs binary.Or w hs ks
-operation_rhs op.Xor w hs ks = bitwise_rhs binary.Xor w hs ks
-operation_rhs op.Cat w hs ks = cat_rhs w hs ks
-operation_rhs op.Bits w hs ks = bits_rhs w hs ks
-operation_rhs o w hs ks = zero_rhs w
-
-abbrev pub inner_rhs : Places → Operation → Rhs
-inner_rhs p o = operation_rhs o.op o.width (map (held_of p) o.reads) o.integers
+-- the inner nets, in the order of the reads
+abbrev pub inners : FlatNet → Places → List Read → List Inner
+inners net p order = flat_map (read_inners net p) order
 
 abbrev pub port_of : Role → ℕ → List ℕ → List Port
 port_of role.Input width name = record { direction = direction.Input; signal = Bits width; name = name } ∷ []
@@ -126,10 +73,10 @@ abbrev pub leaf_reg : Leaf → Option (List ℕ) → List Net
 leaf_reg l name = role_reg l.role l.width name
 
 abbrev pub inner_wire : Inner → Net
-inner_wire i = record { width = i.operation.width; name = i.name }
+inner_wire i = record { width = i.width; name = i.name }
 
-abbrev pub inner_assign : Places → Inner → Assign
-inner_assign p i = record { target = i.name; rhs = inner_rhs p i.operation }
+abbrev pub inner_assign : Inner → Assign
+inner_assign i = record { target = i.name; rhs = i.rhs }
 
 abbrev pub role_assign : Places → Role → ℕ → Option (List ℕ) → List Assign
 role_assign p (role.Output r) width (Some name) = record { target = name; rhs = rhs.Atom (atom_at width (held_of p r)) } ∷ []
@@ -170,7 +117,7 @@ built net t p order =
       name = t.circuit;
       ports = along leaf_port t.leaves 0 net.leaves;
       items =
-          items (along leaf_reg t.leaves 0 net.leaves) (map inner_wire (inner net p.nodes order))
-          (map (inner_assign p) (inner net p.nodes order) ++ along (leaf_assign p) t.leaves 0 net.leaves)
+          items (along leaf_reg t.leaves 0 net.leaves) (map inner_wire (inners net p order))
+          (map inner_assign (inners net p order) ++ along (leaf_assign p) t.leaves 0 net.leaves)
           (along (leaf_block t p) t.leaves 0 net.leaves);
     }

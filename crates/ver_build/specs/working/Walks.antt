@@ -1,5 +1,5 @@
 -- What one step of a walk along an order does.
-use Rattle.std.specs.Prelude.{◌≡◌, ℕ, ◌+◌, ◌^◌, ◌≤◌, List, Some, slice_get, slice_set}
+use Rattle.std.specs.Prelude.{◌≡◌, ℕ, ◌+◌, ◌*◌, ◌^◌, ◌≤◌, List, ◌++◌, length, Bool, nat_eq, if◌then◌else◌, Some, slice_get, slice_set}
 use Rattle.std.specs.List.{AllByRecursion}
 use Rattle.ver_words.specs.Names.{IsName}
 use Rattle.fir_net.specs.declared.reads.Read.{Read}
@@ -9,23 +9,39 @@ use Rattle.fir_net.specs.declared.node.Node.{Node}
 use Rattle.fir_net.specs.declared.net.FlatNet.{FlatNet}
 use Rattle.fir_net.specs.declared.name_table.NameTable.{NameTable}
 use Rattle.fir_net.specs.working.LeafNamed.{somes}
-use Rattle.ver_build.specs.declared.held.Held.{Held}
 use Rattle.ver_build.specs.declared.places.Place.{Place}
-use Rattle.ver_build.specs.working.Places.{name_at, placed, IsNodeHeld, AreInnerTo, node_inner, inner_names}
+use Rattle.ver_build.specs.declared.places.NodePlace.{NodePlace}
+use Rattle.ver_build.specs.working.Places.{name_at, placed, IsOwn, source_name, IsNodePlace, AreInnerTo, node_names}
 
--- where a node is, whose net has the first free inner name from that number on
-pub record IsNumbered (t : NameTable) (n : Node) (from : ℕ) (h : Held) (to : ℕ) : Type 0 where
-  pub held : IsNodeHeld n h
-  pub named : AreInnerTo (somes t.leaves) from (inner_names (node_inner (Some n) h)) to
-  pub near : to ≤ from + 2 ^ 63
-  pub spelled : AllByRecursion IsName (inner_names (node_inner (Some n) h))
+-- where a node is, whose nets have the first free inner names from that number on
+pub record IsNumbered (t : NameTable) (n : Node) (from : ℕ) (p : NodePlace) (to : ℕ) : Type 0 where
+  pub place : IsNodePlace n p
+  pub named : AreInnerTo (somes t.leaves) from (node_names n p) to
+  pub near : to ≤ from + 4 * 2 ^ 63
+  pub spelled : AllByRecursion IsName (node_names n p)
+
+-- so many inner names from that number on
+pub record AreHelpers (t : NameTable) (count from : ℕ) (names : List (List ℕ)) (to : ℕ) : Type 0 where
+  pub counted : length names ≡ count
+  pub named : AreInnerTo (somes t.leaves) from names to
+  pub near : to ≤ from + count * 2 ^ 63
+  pub spelled : AllByRecursion IsName names
+
+-- where a value of that type is, with a net of its own behind so many others where it has bits
+pub record IsOwnPlace (t : NameTable) (count : ℕ) (signed : Bool) (w from : ℕ) (p : NodePlace) (to : ℕ) : Type 0 where
+  pub held : IsOwn signed w p.held
+  pub counted : length p.helpers ≡ if nat_eq w 0 then 0 else count
+  pub named : AreInnerTo (somes t.leaves) from (p.helpers ++ source_name p.held.source) to
+  pub near : to ≤ from + 4 * 2 ^ 63
+  pub spelled : AllByRecursion IsName (p.helpers ++ source_name p.held.source)
 
 -- the place of a node is written; at a leaf nothing is
-abbrev pub IsNodePassed : FlatNet → NameTable → Read → ℕ → List Held → List Held → ℕ → Type 0
+abbrev pub IsNodePassed : FlatNet → NameTable → Read → ℕ → List NodePlace → List NodePlace → ℕ → Type 0
 IsNodePassed net t (read.Leaf k) from old new to = (new ≡ old) × (to ≡ from)
-IsNodePassed net t (read.Node k) from old new to = (n : Node) × (h : Held) × (slice_get net.nodes k ≡ Some n) × (new ≡ slice_set old k h) × IsNumbered t n from h to
+IsNodePassed net t (read.Node k) from old new to = (n : Node) × (p : NodePlace) × (slice_get net.nodes k ≡ Some n) × (new ≡ slice_set old k p) × IsNumbered t n from p to
 
 -- the place of a leaf is written; at a node nothing is
-abbrev pub IsLeafPassed : FlatNet → NameTable → List Held → Read → List Place → List Place → Type 0
-IsLeafPassed net t nodes (read.Leaf k) old new = (l : Leaf) × (slice_get net.leaves k ≡ Some l) × (new ≡ slice_set old k (placed old nodes (name_at t.leaves k) k l.width l.role))
+abbrev pub IsLeafPassed : FlatNet → NameTable → List NodePlace → Read → List Place → List Place → Type 0
+IsLeafPassed net t nodes (read.Leaf k) old new =
+    (l : Leaf) × (slice_get net.leaves k ≡ Some l) × (new ≡ slice_set old k (placed old nodes (name_at t.leaves k) k l.signed l.width l.role))
 IsLeafPassed net t nodes (read.Node k) old new = new ≡ old

@@ -8,5 +8,8 @@ pub loop-statement-preserved : goal.loop-statement-preserved
 loop-statement-preserved c =
     let body = c.args.body.now in
     let i = c.loop-statement.statement-index in
-    let more = map_more stmt_of body i c.statement-item.result c.loop-statement-test.true ∙ ap (λ s. map stmt_of (take i body) ++ stmt_of s ∷ []) (sym c.statement-item.is) in
-    rw more (connects_more c.loop-statement.names c.connect.new.names (map stmt_of (take i body)) (stmt_of c.statement-item.result) c.in_ok-connect.ensures c.loop-statement.invariant)
+    let more = map_more stmt_of body i c.statement-item.result c.loop-statement-test.true
+    ∙ ap (λ s. map stmt_of (take i body) ++ stmt_of s ∷ []) (sym c.statement-item.is) in
+    rw more
+    (connects_more c.loop-statement.names c.connect.new.names (map stmt_of (take i body)) (stmt_of c.statement-item.result)
+    c.in_ok-connect.ensures c.loop-statement.invariant)

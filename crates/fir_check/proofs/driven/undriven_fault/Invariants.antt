@@ -6,4 +6,5 @@ use Rattle.fir_check.proofs.driven.undriven_fault.Given as goal
 
 abbrev pub invariant-loop-m : goal.invariant-loop-m
 invariant-loop-m l =
-    first_of (flat_map undriven_faults (map module_of l.c.modules.items)) ≡ first_of (flat_map undriven_faults (map module_of (drop l.m-index l.m-items)))
+    first_of (flat_map undriven_faults (map module_of l.c.modules.items))
+    ≡ first_of (flat_map undriven_faults (map module_of (drop l.m-index l.m-items)))

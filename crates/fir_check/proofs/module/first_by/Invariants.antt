@@ -7,4 +7,5 @@ use Rattle.fir_check.proofs.module.first_by.Given as goal
 
 abbrev pub invariant-loop-m : goal.invariant-loop-m
 invariant-loop-m l =
-    first_of (flat_map (faults_by (rule_of l.group)) (map module_of l.c.modules.items)) ≡ first_of (flat_map (faults_by (rule_of l.group)) (map module_of (drop l.m-index l.m-items)))
+    first_of (flat_map (faults_by (rule_of l.group)) (map module_of l.c.modules.items))
+    ≡ first_of (flat_map (faults_by (rule_of l.group)) (map module_of (drop l.m-index l.m-items)))

@@ -8,4 +8,5 @@ use Rattle.fir_check.proofs.module.in_body.Given as goal
 
 abbrev pub invariant-loop-statement : goal.invariant-loop-statement
 invariant-loop-statement l =
-    (scope : Scope) → Tabulates l.initial.table scope → AtBody (rule_of l.group) l.table scope (block_of (map stmt_of l.body)) (block_of (map stmt_of (drop l.statement-index l.body)))
+    (scope : Scope) → Tabulates l.initial.table scope
+    → AtBody (rule_of l.group) l.table scope (block_of (map stmt_of l.body)) (block_of (map stmt_of (drop l.statement-index l.body)))

@@ -7,4 +7,6 @@ use Rattle.fir_check.proofs.WalkedModules.{AtPorts}
 use Rattle.fir_check.proofs.module.in_ports.Given as goal
 
 abbrev pub invariant-loop-port : goal.invariant-loop-port
-invariant-loop-port l = (scope : Scope) → Tabulates l.initial.table scope → AtPorts (rule_of l.group) l.table scope (map port_of l.ports) (map port_of (drop l.port-index l.ports))
+invariant-loop-port l =
+    (scope : Scope) → Tabulates l.initial.table scope
+    → AtPorts (rule_of l.group) l.table scope (map port_of l.ports) (map port_of (drop l.port-index l.ports))

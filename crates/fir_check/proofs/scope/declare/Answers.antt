@@ -10,7 +10,8 @@ pub returns-in_ok-insert : goal.returns-in_ok-insert
 returns-in_ok-insert c = λ scope held.
     let unknown : is_some (get (slice_cmp nat_cmp) c.args.table.now c.in_ok-copy.field-0) ≡ false =
     ap (λ k. is_some (get (slice_cmp nat_cmp) c.args.table.now k)) c.in_ok-copy.ensures ∙ sym c.if-not-contains_key.ensures in
-    rw (← c.in_ok-copy.ensures) (tabulates_new c.args.table.now c.insert.new.self scope c.in_ok-copy.field-0 _ c.in_ok-insert.ensures.updates unknown held)
+    rw (← c.in_ok-copy.ensures)
+    (tabulates_new c.args.table.now c.insert.new.self scope c.in_ok-copy.field-0 _ c.in_ok-insert.ensures.updates unknown held)
 
 pub returns-else-not-contains_key : goal.returns-else-not-contains_key
 returns-else-not-contains_key c = λ scope held.

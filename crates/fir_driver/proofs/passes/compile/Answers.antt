@@ -4,5 +4,5 @@ use Rattle.fir_driver.proofs.passes.compile.Goals as goal
 
 pub returns : goal.returns
 returns c =
-    compiled c.valid_has_one.ensures c.faultless_has_one.ensures (circuit_of c.args.c.now) c.in_ok-ordered.ordered.net c.requires.in_language c.requires.faultless c.in_ok-ordered.ensures.lowered
+    compiled c.faultless_has_one.ensures (circuit_of c.args.c.now) c.in_ok-ordered.ordered.net c.requires.in_language c.requires.faultless c.in_ok-ordered.ensures.lowered
     c.build.result c.build.ensures

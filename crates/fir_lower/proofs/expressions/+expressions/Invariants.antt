@@ -1,6 +1,7 @@
 use Rattle.std.proofs.Common.{◌≡◌, List, map, take}
 use Rattle.fir_ast.specs.View.{expr_of, expressions_of}
-use Rattle.fir_lower.specs.working.Lowered.{Binding, nodes_with_each, bounds_with_each}
+use Rattle.fir_lower.specs.working.Bounds.{Binding}
+use Rattle.fir_lower.specs.working.ExpressionNodes.{nodes_with_each, bounds_with_each}
 use Rattle.fir_lower.specs.working.Tabled.{HasBounds, IsOnce}
 use Rattle.fir_lower.proofs.expressions.+expressions.Given as goal
 

@@ -1,5 +1,6 @@
 use Rattle.std.proofs.Common.{◌≡◌, ◌++◌, List, map, take}
-use Rattle.fir_lower.specs.working.Lowered.{Driver, inner_leaf}
+use Rattle.fir_lower.specs.working.Lowering.{Driver}
+use Rattle.fir_lower.specs.working.Lowered.{inner_leaf}
 use Rattle.fir_lower.specs.working.Tabled.{HasDrivers}
 use Rattle.fir_lower.proofs.leaves.add_inner.Given as goal
 

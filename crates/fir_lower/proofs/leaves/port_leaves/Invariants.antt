@@ -1,6 +1,7 @@
 use Rattle.std.proofs.Common.{◌≡◌, List, map, take}
 use Rattle.fir_ast.specs.View.{port_of}
-use Rattle.fir_lower.specs.working.Lowered.{Driver, port_leaf}
+use Rattle.fir_lower.specs.working.Lowering.{Driver}
+use Rattle.fir_lower.specs.working.Lowered.{port_leaf}
 use Rattle.fir_lower.specs.working.Tabled.{HasDrivers}
 use Rattle.fir_lower.proofs.leaves.port_leaves.Given as goal
 

@@ -1,6 +1,6 @@
 use Rattle.std.proofs.Common.{[], map, take}
 use Rattle.fir_ast.specs.View.{port_of}
-use Rattle.fir_lower.specs.working.Lowered.{port_bindings}
+use Rattle.fir_lower.specs.working.Lowering.{port_bindings}
 use Rattle.fir_lower.specs.working.Tabled.{HasBounds}
 use Rattle.fir_lower.proofs.ports.input_bindings.Given as goal
 

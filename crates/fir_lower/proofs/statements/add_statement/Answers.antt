@@ -1,6 +1,6 @@
 use Rattle.std.proofs.Common.{refl, ap, sym, ◌∙◌}
 use Rattle.fir_ast.specs.View.{stmt_of, expr_of, named_of, sink_of}
-use Rattle.fir_lower.specs.working.Lowered.{Bound}
+use Rattle.fir_lower.specs.working.Bounds.{Bound}
 use Rattle.fir_lower.proofs.LoweredTables.{node_kept, connect_kept}
 use Rattle.fir_ast.proofs.TreeViews.{node_view, connect_view, sink_name}
 use Rattle.fir_lower.proofs.statements.add_statement.Goals as goal

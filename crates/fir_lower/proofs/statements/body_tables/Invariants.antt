@@ -1,6 +1,6 @@
 use Rattle.std.proofs.Common.{map, take}
 use Rattle.fir_ast.specs.View.{port_of, stmt_of, block_of}
-use Rattle.fir_lower.specs.working.Lowered.{with_body}
+use Rattle.fir_lower.specs.working.Lowering.{with_body}
 use Rattle.fir_lower.specs.working.Tabled.{IsTabled}
 use Rattle.fir_lower.proofs.LoweredLists.{begun}
 use Rattle.fir_lower.proofs.statements.body_tables.Given as goal

@@ -14,4 +14,4 @@ pub loop-j-preserved : goal.loop-j-preserved
 loop-j-preserved c =
     let long = fit_count input_width c.args.plans.now c.args.values.now c.requires.fits in
     let within : c.loop-j.j < length c.args.values.now = omega arith in
-    rw c.of.ensures (inputs_more c.args.plans.now c.args.values.now c.loop-j.leaves _ c.loop-j.j _ c.loop-j-test.true within c.loop-j.invariant)
+    rw (c.put.ensures, c.of.ensures) (inputs_more c.args.plans.now c.args.values.now c.loop-j.leaves _ c.loop-j.j _ c.loop-j-test.true within c.loop-j.invariant)

@@ -1,10 +1,14 @@
-use Rattle.std.proofs.Common.{◌∙◌}
+use Rattle.std.proofs.Common.{◌++◌, map, ap, ◌∙◌}
+use Rattle.ver_ast.specs.declared.tree.Item.TheVariants as item
+use Rattle.ver_build.specs.declared.right_sides.Inner.{Inner}
+use Rattle.ver_build.specs.working.Built.{inner_wire, inner_assign}
 use Rattle.ver_build.proofs.Tree.{tree_built}
 use Rattle.ver_build.proofs.building.built_tree.Goals as goal
 
 pub returns : goal.returns
 returns c =
-    tree_built c.args.net.now c.args.table.now c.args.places.now c.args.order.now (record { name = c.in_ok-copy.field-0; ports = c.from_vec.result; items = c.from_vec-2.result })
+    tree_built c.args.net.now c.args.table.now c.args.places.now c.args.order.now
+    (record { name = c.in_ok-copy.field-0; ports = c.from_vec.result; items = c.from_vec-2.result })
     (c.in_ok-copy.ensures ∙ c.module_name.ensures) (c.from_vec.ensures ∙ c.in_ok-ports_of.ensures)
     (record {
       none = c.new-items.result.items;
@@ -14,8 +18,12 @@ returns c =
       assigns = c.put_output_assigns.new.items.items;
       nothing = c.new-items.ensures.items;
       put_regs = c.in_ok-put_regs.ensures;
-      put_wires = c.in_ok-put_wires.ensures;
-      put_inner_assigns = c.in_ok-put_inner_assigns.ensures;
+      put_wires =
+          c.in_ok-put_wires.ensures ∙ ap (λ xs. c.put_regs.new.items.items ++ map (λ (i : Inner). item.Wire (inner_wire i)) xs)
+          (c.as_slice.ensures.value ∙ c.in_ok-inners.ensures);
+      put_inner_assigns =
+          c.in_ok-put_inner_assigns.ensures ∙ ap (λ xs. c.put_wires.new.items.items ++ map (λ (i : Inner). item.Assign (inner_assign i)) xs)
+          c.in_ok-inners.ensures;
       put_assigns = c.in_ok-put_output_assigns.ensures;
       put_blocks = c.from_vec-2.ensures ∙ c.in_ok-put_blocks.ensures;
     })

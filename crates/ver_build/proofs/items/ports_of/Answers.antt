@@ -7,4 +7,5 @@ use Rattle.ver_build.proofs.items.ports_of.Goals as goal
 pub loop-k-preserved : goal.loop-k-preserved
 loop-k-preserved c =
     put_more leaf_port c.args.table.now.leaves c.as_slice-leaves.result.now c.loop-k.k c.index-leaves-k.result _ [] _ _
-    c.loop-k-test.true c.index-leaves-k.is (c.leaf.ensures ∙ ap (name_at c.args.table.now.leaves) c.new.ensures) c.loop-k.invariant c.in_ok-put_port.ensures
+    c.loop-k-test.true c.index-leaves-k.is (c.leaf.ensures ∙ ap (name_at c.args.table.now.leaves) c.new.ensures) c.loop-k.invariant
+    c.in_ok-put_port.ensures

@@ -7,5 +7,7 @@ use Rattle.ver_build.proofs.items.put_blocks.Goals as goal
 
 pub loop-k-preserved : goal.loop-k-preserved
 loop-k-preserved c =
-    put_more (given item.Always (leaf_block c.args.table.now c.args.places.now)) c.args.table.now.leaves c.as_slice-leaves.result.now c.loop-k.k c.index-leaves-k.result _ c.args.items.now.items _ _
-    c.loop-k-test.true c.index-leaves-k.is (c.leaf.ensures ∙ ap (name_at c.args.table.now.leaves) c.new.ensures) c.loop-k.invariant c.in_ok-put_block.ensures
+    put_more (given item.Always (leaf_block c.args.table.now c.args.places.now)) c.args.table.now.leaves c.as_slice-leaves.result.now c.loop-k.k
+    c.index-leaves-k.result _ c.args.items.now.items _ _
+    c.loop-k-test.true c.index-leaves-k.is (c.leaf.ensures ∙ ap (name_at c.args.table.now.leaves) c.new.ensures) c.loop-k.invariant
+    c.in_ok-put_block.ensures

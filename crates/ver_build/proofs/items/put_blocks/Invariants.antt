@@ -4,4 +4,5 @@ use Rattle.ver_build.specs.working.Built.{given, leaf_block, along}
 use Rattle.ver_build.proofs.items.put_blocks.Given as goal
 
 abbrev pub invariant-loop-k : goal.invariant-loop-k
-invariant-loop-k l = l.items.items ≡ l.initial.items.items ++ along (given item.Always (leaf_block l.table l.places)) l.table.leaves 0 (take l.k l.leaves)
+invariant-loop-k l =
+    l.items.items ≡ l.initial.items.items ++ along (given item.Always (leaf_block l.table l.places)) l.table.leaves 0 (take l.k l.leaves)

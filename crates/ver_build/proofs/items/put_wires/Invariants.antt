@@ -1,8 +1,7 @@
-use Rattle.std.proofs.Common.{◌≡◌, ◌++◌, take, map, flat_map}
+use Rattle.std.proofs.Common.{◌≡◌, ◌++◌, take, map}
 use Rattle.ver_ast.specs.declared.tree.Item.TheVariants as item
-use Rattle.ver_build.specs.working.Places.{read_inner}
 use Rattle.ver_build.specs.working.Built.{inner_wire}
 use Rattle.ver_build.proofs.items.put_wires.Given as goal
 
-abbrev pub invariant-loop-read : goal.invariant-loop-read
-invariant-loop-read l = l.items.items ≡ l.initial.items.items ++ flat_map (λ r. map (λ i. item.Wire (inner_wire i)) (read_inner l.net l.places.nodes r)) (take l.read-index l.order)
+abbrev pub invariant-loop-inner : goal.invariant-loop-inner
+invariant-loop-inner l = l.items.items ≡ l.initial.items.items ++ map (λ i. item.Wire (inner_wire i)) (take l.inner-index l.inners)

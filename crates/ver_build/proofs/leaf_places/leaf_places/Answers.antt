@@ -4,13 +4,16 @@ use Rattle.ver_build.proofs.LeafWalk.{LeafWalk, leaves_end, loop_begins, loop_go
 use Rattle.ver_build.proofs.leaf_places.leaf_places.Goals as goal
 
 pub loop-read-init : goal.loop-read-init
-loop-read-init c = loop_begins c.args.net.now c.args.table.now c.args.order.now c.args.nodes.now c.in_ok-places.places.items (c.in_ok-places.ensures ∙ ap length c.as_slice.ensures)
+loop-read-init c =
+    loop_begins c.args.net.now c.args.table.now c.args.order.now c.args.nodes.now c.in_ok-places.places.items
+    (c.in_ok-places.ensures ∙ ap length c.as_slice.ensures)
 
 pub loop-read-preserved : goal.loop-read-preserved
 loop-read-preserved c =
     let order = c.args.order.now in
     let here = slice_get_read order (length order) c.loop-read.read-index c.read-item.result refl c.loop-read-test.true c.read-item.is in
-    loop_goes_on c.args.net.now c.args.table.now order c.args.nodes.now c.loop-read.places.items _ c.loop-read.read-index c.read-item.result here c.in_ok-pass.ensures c.loop-read.invariant
+    loop_goes_on c.args.net.now c.args.table.now order c.args.nodes.now c.loop-read.places.items _ c.loop-read.read-index c.read-item.result here
+    c.in_ok-pass.ensures c.loop-read.invariant
 
 pub returns : goal.returns
 returns c =

@@ -1,16 +1,18 @@
-use Rattle.std.proofs.Common.{rules, arith, ◌≡◌, ◌≤◌, ◌^◌, length, refl, ap, ◌∙◌}
+use Rattle.std.proofs.Common.{arith, ◌≡◌, length, refl, ap, ◌∙◌}
 use Rattle.std.proofs.lemmas.Option.{slice_get_read}
 use Rattle.ver_build.proofs.Walk.{nodes_end, loop_begins, loop_goes_on}
 use Rattle.ver_build.proofs.node_places.node_places.Goals as goal
 
 pub loop-read-init : goal.loop-read-init
-loop-read-init c = loop_begins c.args.net.now c.args.table.now c.args.order.now c.in_ok-places.places.items (c.in_ok-places.ensures ∙ ap length c.as_slice.ensures)
+loop-read-init c =
+    loop_begins c.args.net.now c.args.table.now c.args.order.now c.in_ok-places.places.items (c.in_ok-places.ensures ∙ ap length c.as_slice.ensures)
 
 pub loop-read-preserved : goal.loop-read-preserved
 loop-read-preserved c =
     let order = c.args.order.now in
     let here = slice_get_read order (length order) c.loop-read.read-index c.read-item.result refl c.loop-read-test.true c.read-item.is in
-    loop_goes_on c.args.net.now c.args.table.now order c.loop-read.places.items _ c.loop-read.read-index c.loop-read.from c.in_ok-from.from c.read-item.result c.loop-read-test.true here
+    loop_goes_on c.args.net.now c.args.table.now order c.loop-read.places.items _ c.loop-read.read-index c.loop-read.from c.in_ok-from.from
+    c.read-item.result c.loop-read-test.true here (omega (arith, c.if-from-gt-MOST.false))
     c.in_ok-from.ensures.near c.in_ok-from.ensures.passed c.loop-read.invariant
 
 pub returns : goal.returns
@@ -18,5 +20,5 @@ returns c =
     λ is.
     let order = c.args.order.now in
     let last : c.loop-read.read-index ≡ length order = omega (arith, c.loop-read.auto.read-index-end, c.loop-read-test.false) in
-    let small : c.loop-read.read-index ≤ 2 ^ 64 = search rules in
-    nodes_end c.args.net.now c.args.table.now order is c.loop-read.places.items c.loop-read.read-index c.loop-read.from last small (c.loop-read.invariant.walk is)
+    nodes_end c.args.net.now c.args.table.now order is c.loop-read.places.items c.loop-read.read-index c.loop-read.from last
+    c.loop-read.invariant.near (c.loop-read.invariant.walk is)

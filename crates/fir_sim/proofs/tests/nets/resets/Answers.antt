@@ -1,59 +1,56 @@
 -- Each leaf is narrow and driven, registers and clock wires stand behind the ports, and the node is a value of its width.
-use Rattle.std.proofs.Common.{ℕ, [], ◌∷◌, refl, sym, subst, Some, None, lit≤, lit<}
+use Rattle.std.proofs.Common.{[], ◌∷◌, refl, false, sym, subst, Some, None, lit≤, lit<}
 use Rattle.std.proofs.lemmas.Result.{IfOk-weaker}
 use Rattle.fir_net.specs.declared.reads.Read.TheVariants as read
 use Rattle.fir_net.specs.declared.leaf.ResetKind.{ResetKind}
 use Rattle.fir_net.specs.declared.leaf.ResetKind.TheVariants.{Synchronous, Asynchronous}
 use Rattle.fir_net.specs.declared.leaf.Reset.{Reset}
-use Rattle.fir_net.specs.declared.leaf.Role.{Role}
 use Rattle.fir_net.specs.declared.leaf.Role.TheVariants as role
 use Rattle.fir_net.specs.declared.leaf.Leaf.{Leaf}
 use Rattle.fir_net.specs.declared.node.Node.TheVariants as node
 use Rattle.fir_net.specs.declared.net.FlatNet.{FlatNet}
 use Rattle.fir_net.specs.working.IsNet.{IsNet}
+use Rattle.fir_sim.proofs.TestLeaves.{leaf}
 use Rattle.fir_sim.proofs.tests.nets.resets.Goals as goal
-
-abbrev leaf : ℕ → ℕ → Role → Leaf
-leaf name width r = record { path = name ∷ []; place = record { line = 1; col = 1 }; width = width; role = r }
 
 abbrev reset : ResetKind → Reset
 reset kind = record { kind = kind; condition = read.Leaf 1; init = read.Node 0 }
 
 abbrev k : Leaf
-k = leaf 107 1 role.Clock
+k = leaf 107 false 1 role.Clock
 
 abbrev r : Leaf
-r = leaf 114 1 role.Input
+r = leaf 114 false 1 role.Input
 
 abbrev a : Leaf
-a = leaf 97 4 role.Input
+a = leaf 97 false 4 role.Input
 
 abbrev x : Leaf
-x = leaf 120 4 (role.Register (record { clock = 9; reset = Some (reset Synchronous); next = Some (read.Leaf 2) }))
+x = leaf 120 false 4 (role.Register (record { clock = 9; reset = Some (reset Synchronous); next = Some (read.Leaf 2) }))
 
 abbrev y : Leaf
-y = leaf 121 4 (role.Register (record { clock = 0; reset = Some (reset Asynchronous); next = Some (read.Leaf 2) }))
+y = leaf 121 false 4 (role.Register (record { clock = 0; reset = Some (reset Asynchronous); next = Some (read.Leaf 2) }))
 
 abbrev z : Leaf
-z = leaf 122 4 (role.Register (record { clock = 10; reset = None; next = Some (read.Leaf 2) }))
+z = leaf 122 false 4 (role.Register (record { clock = 10; reset = None; next = Some (read.Leaf 2) }))
 
 abbrev l : Leaf
-l = leaf 108 1 (role.ClockWire (Some 0))
+l = leaf 108 false 1 (role.ClockWire (Some 0))
 
 abbrev m : Leaf
-m = leaf 109 1 (role.ClockWire None)
+m = leaf 109 false 1 (role.ClockWire None)
 
 abbrev net : FlatNet
 net = record {
   name = 110 ∷ [];
-  leaves = k ∷ r ∷ a ∷ leaf 115 4 (role.Output (read.Leaf 6)) ∷ leaf 116 4 (role.Output (read.Leaf 7)) ∷ leaf 117 4 (role.Output (read.Leaf 8)) ∷ x ∷ y ∷ z ∷ l ∷ m ∷ [];
-  nodes = node.Literal (record { width = 4; number = 9 }) ∷ [];
+  leaves = k ∷ r ∷ a ∷ leaf 115 false 4 (role.Output (read.Leaf 6)) ∷ leaf 116 false 4 (role.Output (read.Leaf 7)) ∷ leaf 117 false 4 (role.Output (read.Leaf 8)) ∷ x ∷ y ∷ z ∷ l ∷ m ∷ [];
+  nodes = node.Literal (record { signed = false; value = record { width = 4; number = 9 } }) ∷ [];
 }
 
 whole : IsNet net
 whole = record {
   word = refl;
-  leaves = (record { word = refl; narrow = lit≤ tt; driven = refl }, (record { word = refl; narrow = lit≤ tt; driven = tt }, (record { word = refl; narrow = lit≤ tt; driven = tt }, (record { word = refl; narrow = lit≤ tt; driven = (x, refl, refl) }, (record { word = refl; narrow = lit≤ tt; driven = (y, refl, refl) }, (record { word = refl; narrow = lit≤ tt; driven = (z, refl, refl) }, (record { word = refl; narrow = lit≤ tt; driven = ((l, refl, refl), record { condition = (r, refl, refl); one_bit = refl; init = lit< tt }, (a, refl, refl)) }, (record { word = refl; narrow = lit≤ tt; driven = ((k, refl, refl), record { condition = (r, refl, refl); one_bit = refl; init = lit< tt }, (a, refl, refl)) }, (record { word = refl; narrow = lit≤ tt; driven = ((m, refl, refl), tt, (a, refl, refl)) }, (record { word = refl; narrow = lit≤ tt; driven = (refl, (k, refl, refl)) }, (record { word = refl; narrow = lit≤ tt; driven = (refl, tt) }, tt)))))))))));
+  leaves = (record { word = refl; narrow = lit≤ tt; driven = refl }, (record { word = refl; narrow = lit≤ tt; driven = tt }, (record { word = refl; narrow = lit≤ tt; driven = tt }, (record { word = refl; narrow = lit≤ tt; driven = record { can = (x, refl, refl); kind = refl } }, (record { word = refl; narrow = lit≤ tt; driven = record { can = (y, refl, refl); kind = refl } }, (record { word = refl; narrow = lit≤ tt; driven = record { can = (z, refl, refl); kind = refl } }, (record { word = refl; narrow = lit≤ tt; driven = ((l, refl, refl), record { condition = (r, refl, refl); has_one_bit = refl; init = record { can = lit< tt; kind = refl } }, record { can = (a, refl, refl); kind = refl }) }, (record { word = refl; narrow = lit≤ tt; driven = ((k, refl, refl), record { condition = (r, refl, refl); has_one_bit = refl; init = record { can = lit< tt; kind = refl } }, record { can = (a, refl, refl); kind = refl }) }, (record { word = refl; narrow = lit≤ tt; driven = ((m, refl, refl), tt, record { can = (a, refl, refl); kind = refl }) }, (record { word = refl; narrow = lit≤ tt; driven = (refl, (k, refl, refl)) }, (record { word = refl; narrow = lit≤ tt; driven = (refl, tt) }, tt)))))))))));
   ports_first = (refl, (refl, (refl, (refl, tt))));
   nodes = (record { narrow = lit≤ tt; below = lit< tt }, tt);
 }
