@@ -36,6 +36,7 @@ if command -v python3 >/dev/null 2>&1; then
   part rows python3 checks/rows.py
   count rows 'rows: \([0-9]*\) passed.*'
   rows=$counted
+  part operators python3 checks/operator_rows.py --check
   part grammar python3 checks/grammar.py check
   part cuts python3 checks/grammar.py cuts
   part circuits python3 checks/circuits.py 200
@@ -44,7 +45,7 @@ if command -v python3 >/dev/null 2>&1; then
   part definitions python3 checks/definitions.py --check
 else
   skipped=" (python3 is not installed)"
-  echo "checks: python3 is not installed; rows, grammar, circuits and definitions are skipped"
+  echo "checks: python3 is not installed; of the checks all but interop are skipped"
 fi
 part interop checks/interop.sh
 count interop 'interop: \([0-9]*\) examples passed'

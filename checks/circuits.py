@@ -16,159 +16,21 @@ import sys
 import tempfile
 
 import expected
+import operators
+from circuit_maker import Maker
 from faults import Faults
 from test_bench import test_bench
 
 ROOT = pathlib.Path(__file__).resolve().parent.parent
-NAMES = """a b c d o p q r clock clock_0 wire assign assign_0 reg reg_0 always posedge _n0 _n1 x_0
-x""".split()
-WIDTHS = [0, 1, 1, 2, 3, 4, 4, 5, 8, 16, 33, 64, 65, 128]
-WAYS = ["form", "name", "again", "module", "clock", "sink", "width", "integer", "driver"]
 TICKS = 32
-
-
-class Maker:
-    """Makes the text of a circuit. Half of them are wild: they may be wrong in a way or some."""
-
-    def __init__(self, chance):
-        self.chance = chance
-        is_wild = chance.random() < 0.5
-        self.wrong = chance.sample(WAYS, chance.choice([1, 1, 2, 3])) if is_wild else []
-
-    def slip(self, way, rate):
-        """Whether this is to be wrong here."""
-        return way in self.wrong and self.chance.random() < rate
-
-    def width(self):
-        return self.chance.choice([129, 200] if self.slip("width", 0.1) else WIDTHS)
-
-    def leaf(self):
-        """A name or a literal, and its width."""
-        if self.slip("name", 0.1):
-            name = self.chance.choice(NAMES)
-            return name, self.readable.get(name, 0)
-        if self.chance.random() < 0.8:
-            return self.chance.choice(list(self.readable.items()))
-        width = self.width()
-        size = width + self.slip("integer", 0.2)
-        return f"UInt<{width}>({self.chance.randrange(1 << min(size, 127))})", width
-
-    def expression(self, depth):
-        """The text of an expression, and its width."""
-        roll = self.chance.random()
-        if depth == 0 or roll < 0.3:
-            return self.leaf()
-        text, width = self.expression(depth - 1)
-        if roll < 0.4:
-            return f"not({text})", width
-        if roll < 0.55:
-            return self.bits(text, width)
-        other, second = self.expression(depth - 1)
-        if roll < 0.7 and (width + second <= 128 or self.slip("width", 0.5)):
-            return f"cat({text}, {other})", width + second
-        return f"{self.chance.choice(['and', 'or', 'xor'])}({text}, {other})", max(width, second)
-
-    def bits(self, text, width):
-        if self.slip("integer", 0.3):
-            high, low = self.chance.randrange(6), self.chance.randrange(6)
-        elif width == 0:
-            return text, width
-        else:
-            low = self.chance.randrange(width)
-            high = self.chance.randrange(low, width)
-        return f"bits({text}, {high}, {low})", max(high - low + 1, 0)
-
-    def ports(self):
-        """The lines of the ports, in any order."""
-        lines = [f"input {n} : Clock" for n in self.clocks]
-        lines += [f"input {n} : UInt<{width}>" for n, width in self.readable.items()]
-        for n in self.outputs:
-            kind = "Clock" if self.slip("form", 0.1) else f"UInt<{self.width()}>"
-            lines.append(f"output {n} : {kind}")
-        self.chance.shuffle(lines)
-        return lines
-
-    def register(self, name):
-        """The line of a register, which is connected once, often or never."""
-        clock = self.chance.choice(self.clocks or [name])
-        if self.slip("clock", 0.3):
-            others = [name, self.chance.choice(NAMES), self.chance.choice(self.outputs)]
-            others += [self.expression(depth)[0] for depth in (0, 0, 2, 2)]
-            clock = self.chance.choice(others)
-        width = self.width()
-        kind, reset = f"UInt<{width}>", ""
-        if self.slip("form", 0.2):
-            kind = self.chance.choice(["UInt", "SInt<4>", "Clock", "AsyncReset"])
-        if self.slip("form", 0.2):
-            reset = f" with : (reset => ({self.chance.choice(NAMES)}, UInt<1>(0)))"
-        self.targets += [name] * self.chance.choice([0, 1, 1, 1, 2])
-        self.readable[name] = width
-        return f"reg {name} : {kind}, {clock}{reset}"
-
-    def whole_expression(self):
-        """The text of an expression, and its width. Some stand twice, so that they have one net."""
-        if self.made and self.chance.random() < 0.2:
-            return self.chance.choice(self.made)
-        self.made.append(self.expression(self.chance.randrange(4)))
-        return self.made[-1]
-
-    def node(self, name):
-        text, width = self.whole_expression()
-        self.readable[name] = width
-        return f"node {name} = {text}"
-
-    def declaration(self):
-        name = self.fresh.pop()
-        clocked = self.clocks or self.slip("clock", 0.5)
-        return self.register(name) if clocked and self.chance.random() < 0.6 else self.node(name)
-
-    def connect(self):
-        name = self.targets.pop(self.chance.randrange(len(self.targets)))
-        if self.slip("name", 0.1):
-            name = self.chance.choice(NAMES)
-        elif self.slip("sink", 0.2):
-            name = self.chance.choice(self.clocks + list(self.readable))
-        return f"{name} <= {self.whole_expression()[0]}"
-
-    def body(self):
-        """The lines behind the ports."""
-        lines = []
-        while self.targets or (self.fresh and self.chance.random() < 0.6):
-            if self.fresh and self.chance.random() < 0.5:
-                lines.append(self.declaration())
-            elif self.slip("driver", 0.3):
-                del self.targets[:1]
-            elif self.targets:
-                lines.append(self.connect())
-            if self.chance.random() < 0.05:
-                lines.append("skip")
-        return lines
-
-    def text(self):
-        chance = self.chance
-        names = chance.sample(NAMES, 13)
-        self.clocks = [names.pop() for _ in range(chance.randrange(4))]
-        self.readable = {names.pop(): self.width() for _ in range(chance.randrange(1, 4))}
-        self.outputs = [names.pop() for _ in range(chance.randrange(1, 4))]
-        self.fresh, self.made = names, []
-        twice = [chance.choice(self.outputs) for _ in range(chance.randrange(2))]
-        self.targets = self.outputs + twice
-        lines, body = self.ports(), self.body()
-        if self.slip("again", 0.8):
-            name = chance.choice(NAMES)
-            again = [f"node {name} = UInt<1>(0)", f"reg {name} : UInt<1>, {name}"]
-            body.insert(chance.randrange(len(body) + 1), chance.choice(again))
-        name = chance.choice(["T", "top", "table", "bench"])
-        module = "S" if self.slip("module", 0.8) else name
-        head = [f"circuit {name} :", f"  module {module} :"]
-        return "\n".join(head + [f"    {line}" for line in lines + body]) + "\n"
 
 
 def random_run(circuit, chance):
     """An initial state, and ticks as the numbers of the clocks that rise and the inputs."""
     def value(width):
-        drawn = [chance.randrange(1 << width) for _ in range(2)]
-        return chance.choice([0, (1 << width) - 1] + drawn)
+        drawn = [chance.randrange(1 << width) for _ in range(3)]
+        corners = operators.Type(True, width).corners()
+        return chance.choice([corner % (1 << width) for corner in corners] + drawn)
 
     ticks = []
     for _ in range(TICKS):
@@ -229,6 +91,7 @@ def main():
         sys.exit(__doc__)
     chance = random.Random(int(sys.argv[2]) if len(sys.argv) == 3 else 1)
     with_icarus = bool(shutil.which("iverilog") and shutil.which("vvp"))
+    operators.hold_laws(chance)
     said = {}
     with tempfile.TemporaryDirectory() as work:
         for _ in range(int(sys.argv[1])):

@@ -128,13 +128,26 @@ def item_text(file, name):
     return tuple("\n".join(part) + "\n" * bool(part) for part in found)
 
 
+# What of a model says which values its type has. The others tell values apart (`coded`) and let
+# recursions end (`size`, `size_decreases`); no statement hangs on them.
+MEANING = re.compile(r"^ +ghost (?:Value|view|invariant|inverse) = \{.*?\};", re.M | re.S)
+
+
+def read_by_model(model):
+    """What the meaning of a model names."""
+    imports, named = imported_by_name(model), " ".join(MEANING.findall(model))
+    for word in dict.fromkeys(re.findall(r"\w+", named)):
+        if word in imports:
+            yield from nodes_of(*imports[word], [word])
+
+
 def ghost_members(trait):
     return re.findall(r"^ +ghost \w+:[^;]*;", trait, re.M)
 
 
 def read_by_item(file, name):
-    """What an item of the code reads: the types of its fields, and what its model imports; of a
-    trait what its ghost members name."""
+    """What an item of the code reads: the types of its fields, and what the meaning of its model
+    names; of a trait what its ghost members name."""
     item, model = item_text(file, name)
     code = re.sub(r"//.*", "", item)
     if re.search(r"^pub trait ", code, re.M):
@@ -143,7 +156,7 @@ def read_by_item(file, name):
             if word in imports:
                 yield from nodes_of(*imports[word], [word])
         return
-    yield from imported(GHOST_IMPORT, model)
+    yield from read_by_model(model)
     for word in dict.fromkeys(re.findall(r"\b[A-Z]\w*", code)):
         here = re.search(ITEM.format(word), text_of(file), re.M)
         found = (file, word) if here else named_from(file, word)

@@ -19,7 +19,9 @@ import pathlib
 import re
 import sys
 
+import operators
 from emitted_names import emitted_names
+from operators import Type
 
 EXAMPLES = pathlib.Path(__file__).resolve().parent.parent / "examples"
 TICKS = 64
@@ -38,21 +40,25 @@ def statements(text):
 def number(spelling):
     if not spelling.startswith('"'):
         return int(spelling)
-    digits = spelling[1:-1].replace("+", "")
-    return int(digits[1:], {"b": 2, "o": 8, "h": 16}[digits[0]])
+    before, base, behind, digits = re.fullmatch('"([+-]?)([boh])([+-]?)(.*)"', spelling).groups()
+    size = int(digits, {"b": 2, "o": 8, "h": 16}[base])
+    return -size if "-" in before + behind else size
 
 
 class Circuit:
-    """A source: its ports as (kind, name, width), its registers as (name, width, clock), its other
-    statements as tokens."""
+    """A source: its ports as (kind, name, width), its registers as (name, width, clock), which of
+    both are SInt, and its other statements as tokens."""
 
     def __init__(self, text):
         self.name = re.search(r"^circuit\s+([\w$]+)", text, re.M)[1]
-        self.ports, self.registers, self.body = [], [], []
+        self.ports, self.registers, self.signed, self.body = [], [], set(), []
         for tokens in statements(text):
             if tokens[2:3] != [":"]:
                 self.body.append(tokens)
-            elif tokens[0] == "reg":
+                continue
+            if tokens[3] == "SInt":
+                self.signed.add(tokens[1])
+            if tokens[0] == "reg":
                 self.registers.append((tokens[1], int(tokens[5]), tokens[8]))
             elif tokens[3] == "Clock":
                 self.ports.append(("clock", tokens[1], 1))
@@ -67,35 +73,37 @@ class Circuit:
         return [port[1:] for port in self.ports if port[0] == kind and port[2]]
 
     def tick(self, state, rising, inputs):
-        """The values of the outputs, and the state after a tick at which the clocks of these
-        numbers rise."""
-        known = {name: (0, width) for kind, name, width in self.ports if kind == "input"}
-        known.update({name: (0, width) for name, width, clock in self.registers})
-        for (name, width), value in zip(self.inputs, inputs):
-            known[name] = value, width
-        for (name, width, clock), value in zip(self.words, state):
-            known[name] = value, width
+        """The bits of the outputs, and the state after a tick at which the clocks of these numbers
+        rise."""
+        words = dict(zip([name for name, width in self.inputs], inputs))
+        words.update(zip([name for name, width, clock in self.words], state))
+        leaves = [port[1:] for port in self.ports if port[0] == "input"]
+        leaves += [(name, width) for name, width, clock in self.registers]
+        known = {
+            name: Type(name in self.signed, width).value(words.get(name, 0))
+            for name, width in leaves
+        }
         stored = self.stored(known)
         shown = [stored[name] % (1 << width) for name, width in self.outputs]
         return shown, [
-            stored.get(name, value) % (1 << width) if self.clocks.index(clock) in rising else value
-            for (name, width, clock), value in zip(self.words, state)
+            stored.get(name, word) % (1 << width) if self.clocks.index(clock) in rising else word
+            for (name, width, clock), word in zip(self.words, state)
         ]
 
     def stored(self, known):
-        """The value of the last connect to each name that has one, from values and widths of the
-        inputs and registers."""
+        """The number that the last connect to each name gives, from the values of the inputs and
+        registers."""
         stored = {}
         for tokens in self.body:
             if tokens[0] == "node" and tokens[2] == "=":
                 known[tokens[1]] = Reader(tokens[3:], known).value()
             elif tokens != ["skip"]:
-                stored[tokens[0]] = Reader(tokens[2:], known).value()[0]
+                stored[tokens[0]] = Reader(tokens[2:], known).value().number
         return stored
 
 
 class Reader:
-    """Evaluates an expression from its tokens, over the values and widths of the names."""
+    """Evaluates an expression from its tokens, over the values of the names."""
 
     def __init__(self, tokens, known):
         self.tokens, self.known = list(tokens), known
@@ -104,17 +112,11 @@ class Reader:
         return self.tokens.pop(0)
 
     def value(self):
-        """The value and the width."""
         word = self.take()
         if not self.tokens or self.tokens[0] not in ("(", "<"):
             return self.known[word]
-        if word == "UInt":
-            self.take()
-            width = int(self.take())
-            self.take(), self.take()
-            value = number(self.take())
-            self.take()
-            return value, width
+        if word in ("UInt", "SInt"):
+            return self.literal(word == "SInt")
         self.take()
         operands, integers = [], []
         while self.tokens[0] != ")":
@@ -125,20 +127,21 @@ class Reader:
             if self.tokens[0] == ",":
                 self.take()
         self.take()
-        return apply(word, operands, integers)
+        if word in ("mux", "validif"):
+            return getattr(operators, word)(*operands)
+        return operators.applied(word, operands, integers)
 
-
-def apply(op, operands, integers):
-    a, v = operands[0]
-    if op == "not":
-        return a ^ ((1 << v) - 1), v
-    if op == "bits":
-        high, low = integers
-        return a >> low & ((1 << high - low + 1) - 1), high - low + 1
-    b, w = operands[1]
-    if op == "cat":
-        return a << w | b, v + w
-    return {"and": a & b, "or": a | b, "xor": a ^ b}[op], max(v, w)
+    def literal(self, is_signed):
+        """The value of a literal behind its first word."""
+        width = None
+        if self.take() == "<":
+            width = int(self.take())
+            self.take(), self.take()
+        size = number(self.take())
+        self.take()
+        if width is None:
+            return operators.least_type(is_signed, size).value(size)
+        return Type(is_signed, width).value(size)
 
 
 def draws(state):

@@ -3,14 +3,13 @@
 The form has all that has a place with it, as `a@3:5`. The rules of what `emit` has are those of
 docs/LANGUAGE.md, restated here.
 """
+import re
 import sys
 
 from grammar_rules import OPS, spelled_number, tokens
 
 # Texts are nested 256 deep at most, and each level takes a few calls.
 sys.setrecursionlimit(10000)
-
-EMITTED_OPS = ["not", "and", "or", "xor", "cat", "bits"]
 
 
 class Tree:
@@ -235,7 +234,7 @@ class Tree:
             self.take()
             out += "[%s]" % self.number()
             self.take("]")
-        if out not in lasts and not (out.startswith("UInt<") and out.endswith(">")):
+        if out not in lasts and not re.fullmatch("[US]Int<[0-9]+>", out):
             self.lacking.append(first)
         return out
 
@@ -279,8 +278,6 @@ class Tree:
         return self.ref()
 
     def literal(self):
-        if self.peek()[1] == "SInt" or self.peek(1)[1] == "(":
-            self.lack()
         out = self.named()
         if self.take("<", "(") == "<":
             out += "<%s>" % self.number()
@@ -292,7 +289,7 @@ class Tree:
         return f"{out}({number})"
 
     def operation(self):
-        if self.peek()[1] not in EMITTED_OPS:
+        if self.peek()[1] == "asAsyncReset":
             self.lack()
         out = self.named()
         self.take("(")

@@ -2,7 +2,7 @@
 # Simulates each example on the ticks of examples/NAME.trace against examples/NAME.expected; reads
 # its emitted text with Icarus Verilog, Verilator and Yosys, and runs it with Icarus on the same
 # ticks. A tool that is not installed is skipped; one that is there and refuses the text, or shows
-# other values, fails the check.
+# other values, fails the check. What Verilator warns of is listed, and fails nothing.
 set -u
 cd "$(dirname "$0")/.." || exit 1
 work=$(mktemp -d) || exit 1
@@ -23,6 +23,22 @@ drives_registers() {
     END { for (r in held) exit 1 }' "$1"
 }
 
+# Writes a line for each warning of Verilator in a text: its kind, and the example.
+warnings() {
+  verilator --lint-only -Wall -Wno-fatal -Wno-DECLFILENAME -Wno-UNUSED \
+    --default-language 1364-2005 "$1" 2>&1 | sed -n "s/^%Warning-\([A-Z]*\):.*/\1 $2/p"
+}
+
+# Lists how many warnings of each kind there are, and in which examples.
+list_warnings() {
+  sort "$work/warnings" | uniq -c | awk '
+    { count[$2] += $1; names[$2] = names[$2] " " $3 }
+    END {
+      for (kind in count)
+        print "interop: verilator warns of " kind ": " count[kind] " in" names[kind]
+    }' | sort
+}
+
 examples=0
 for source in examples/*.fir; do
   examples=$((examples + 1))
@@ -41,6 +57,7 @@ for source in examples/*.fir; do
   fi
   if has verilator; then
     verilator --lint-only --default-language 1364-2005 "$text" || fail "verilator refuses $name"
+    warnings "$text" "$name" >>"$work/warnings"
   fi
   if has yosys; then
     # A register without a block holds what it has from the start; `check -assert` refuses it as
@@ -56,5 +73,6 @@ for source in examples/*.fir; do
       diff "$expected" "$work/$name.shown" || fail "$name shows other values under iverilog"
   fi
 done
+has verilator && list_warnings
 [ "$failed" -eq 0 ] && echo "interop: $examples examples passed"
 exit "$failed"
