@@ -1,7 +1,7 @@
 -- The first form of a circuit that `emit` and `sim` lack: where it begins, and its first token.
 -- They have one module; ports and registers of a `UInt` or an `SInt` whose width is written, and inputs of a `Clock`; as statements `node`, `reg` without a
--- reset, a connect and `skip`; and as expressions names, literals, the operations that are taken, `mux` and `validif`. All else is lacking, and has no meaning
--- yet.
+-- reset, a connect and `skip`; and as expressions names, literals, the operations that are taken, `mux` and `validif`. All else is lacking, and so is a read of
+-- an output or a clock; it has no meaning yet.
 use Rattle.std.specs.Prelude.{ℕ, ◌+◌, List, [], ◌∷◌, length, codes, Bool, ◌&&◌, if◌then◌else◌, Option, Some, None, is_none}
 use Rattle.std.specs.Option.{option_or}
 use Rattle.fir_base.specs.declared.direction.Direction.{Direction}
@@ -15,13 +15,8 @@ use Rattle.fir_ast.specs.Types.{DataType, uint, sint, clock, reset, async_reset,
 use Rattle.fir_ast.specs.Expressions.{Expression, reference, literal, operation, mux, validif, Parts, no_parts, subfield, subindex, subaccess, Expressions, no_expressions, expression}
 use Rattle.fir_ast.specs.Statements.{Reset, Statement, wire, register, node, instance, memory, when, connect, partial_connect, invalid, skip, Block, done, then}
 use Rattle.fir_ast.specs.Circuits.{PortTree, ModuleTree, CircuitTree}
-
-pub record Lack : Type 0 where
-  pub place : Place
-  pub word : List ℕ
-
-abbrev pub lack : Place → List ℕ → Option Lack
-lack place word = Some (record { place = place; word = word })
+use Rattle.fir_meaning.specs.Lack.{Lack, lack, first_lack}
+use Rattle.fir_meaning.specs.Unread.{unread_module}
 
 abbrev pub type_word : DataType → List ℕ
 type_word (uint width) = codes "UInt"
@@ -92,8 +87,11 @@ abbrev pub lacking_statements : Block → Option Lack
 lacking_statements done = None
 lacking_statements ((then) s b) = option_or (lacking_statement s) (lacking_statements b)
 
+abbrev pub lacking_forms : ModuleTree → Option Lack
+lacking_forms m = option_or (lacking_ports m.ports) (lacking_statements m.body)
+
 abbrev pub lacking_module : ModuleTree → Option Lack
-lacking_module m = option_or (lacking_ports m.ports) (lacking_statements m.body)
+lacking_module m = first_lack (lacking_forms m) (unread_module m)
 
 -- a circuit without a module lacks one, and no text spells it
 abbrev pub lacking_modules : Place → List ModuleTree → Option Lack

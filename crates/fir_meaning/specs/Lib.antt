@@ -14,5 +14,13 @@ pub mod WidthFaults
 pub mod LegalityFaults
 pub mod DrivenFaults
 pub mod Faults
+pub mod Lack
+pub mod Unread
 pub mod Lacking
+pub mod Components
+pub mod Visibility
+pub mod Mentions
+pub mod Hierarchy
+pub mod NameGroups
+pub mod SourceMeaning
 pub mod working

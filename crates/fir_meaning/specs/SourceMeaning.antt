@@ -1,0 +1,55 @@
+-- What a circuit means, as the law of passes sees it.
+-- What it allows is said where nothing is lacking so far, and so are its faults behind those of names; a circuit in which something is lacking allows nothing.
+use Rattle.std.specs.Prelude.{ℕ, List, [], map, flat_map, length, IsTrue}
+use Rattle.fir_base.specs.Ticks.{Tick}
+use Rattle.fir_ast.specs.declared.fault.FirFault.{FirFault}
+use Rattle.fir_ast.specs.Circuits.{ModuleTree, CircuitTree}
+use Rattle.fir_pass.specs.Faults.{fault_of}
+use Rattle.fir_pass.specs.Groups.{Group, Groups, no_groups, then_group, in_order, group_at}
+use Rattle.fir_pass.specs.Meaning.{Meaning, ShapeNames, Counts}
+use Rattle.fir_meaning.specs.Leaves.{leaves, clocks, inputs, outputs, register_leaves, leaves_of, state_leaves, paths, shape, main_scope}
+use Rattle.fir_meaning.specs.Allows.{Allows, One}
+use Rattle.fir_meaning.specs.FaultRules.{Rule, faults_by}
+use Rattle.fir_meaning.specs.TypeFaults.{type_rule}
+use Rattle.fir_meaning.specs.WidthFaults.{width_rule}
+use Rattle.fir_meaning.specs.LegalityFaults.{legality_rule}
+use Rattle.fir_meaning.specs.DrivenFaults.{undriven_faults}
+use Rattle.fir_meaning.specs.Lacking.{is_in_language}
+use Rattle.fir_meaning.specs.NameGroups.{name_group, main_group, hierarchy_group}
+
+-- what the rule finds in each module
+abbrev pub found_by : CircuitTree → (ModuleTree → List FirFault) → Group
+found_by c rule = in_order (map fault_of (flat_map rule c.modules))
+
+-- in the order of the table of faults: none of the text; E08, E09; E10; E11; E12 to E17; E18; E19; E20 to E22; E23; E24; and none from E25 on
+abbrev pub circuit_groups : CircuitTree → Groups
+circuit_groups c =
+    then_group (in_order []) (then_group (name_group c) (then_group (main_group c) (then_group (hierarchy_group c)
+    (then_group (found_by c (faults_by type_rule)) (then_group (in_order []) (then_group (found_by c (faults_by width_rule))
+    (then_group (found_by c (faults_by legality_rule)) (then_group (in_order []) (then_group (found_by c undriven_faults) no_groups)))))))))
+
+abbrev pub circuit_names : CircuitTree → ShapeNames
+circuit_names c = record {
+  circuit = c.named.name;
+  inputs = paths (inputs c);
+  clocks = clocks c;
+  outputs = paths (outputs c);
+  state = paths (state_leaves c);
+}
+
+abbrev pub circuit_counts : CircuitTree → Counts
+circuit_counts c = record {
+  leaves = length (main_scope c);
+  registers = length (flat_map (λ d. register_leaves d.kind (leaves_of [] d)) (main_scope c));
+  memories = 0;
+}
+
+unfoldable pub circuit_meaning : CircuitTree → Meaning
+circuit_meaning c = record {
+  allows = λ state tick shown after. IsTrue (is_in_language c) × Allows c state tick shown after;
+  one = One c;
+  group = group_at (circuit_groups c);
+  shape = shape c;
+  names = circuit_names c;
+  counts = circuit_counts c;
+}

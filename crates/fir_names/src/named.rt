@@ -1,0 +1,79 @@
+//! A circuit whose names are resolved.
+
+ghost use Rattle.std.specs.Prelude.{◌≡◌, ℕ, IfSome, Some, slice_get};
+ghost use Rattle.fir_ast.specs.Circuits.{ModuleTree};
+ghost use Rattle.fir_ast.specs.View.{circuit_of};
+ghost use Rattle.fir_meaning.specs.Mentions.{module_names};
+ghost use Rattle.fir_meaning.specs.NameGroups.{HasNames};
+ghost use Rattle.fir_meaning.specs.Visibility.{declarations};
+ghost use Rattle.fir_names.specs.ModuleOrder.{IsModuleOrder};
+ghost use Rattle.fir_names.specs.working.Tabulated.{Tabulates};
+ghost use Rattle.fir_names.specs.working.IsNamed.{IsNamed};
+
+use crate::names::Names;
+use fir_ast::Circuit;
+use std::marker::Model;
+
+/// A circuit in which no fault of names stands, with a table of what each module declares and an order of
+/// its modules. Contracts see the tree that was given.
+#[derive(Drop)]
+pub struct Named {
+    circuit: Circuit,
+    tables: Vec<Names>,
+    order: Vec<usize>,
+}
+
+impl Model for Named {
+    ghost use Rattle.fir_ast.specs.Circuits.{CircuitTree};
+    ghost use Rattle.fir_ast.specs.View.{circuit_of};
+    ghost use Rattle.fir_names.specs.working.IsNamed.{IsNamed};
+
+    ghost Value = { CircuitTree };
+
+    ghost view = { λ n. circuit_of n.circuit };
+
+    ghost invariant = { λ n. IsNamed (circuit_of n.circuit) n.tables.items n.order.items };
+}
+
+impl Named {
+    /// The circuit with these tables and this order.
+    pub(crate) fn new(circuit: Circuit, tables: Vec<Names>, order: Vec<usize>) -> Named
+        requires { IsNamed (circuit_of circuit) tables.items order.items }
+        ensures { result ≡ circuit_of circuit }
+    {
+        Named {
+            circuit,
+            tables,
+            order,
+        }
+    }
+
+    /// The tree.
+    pub fn circuit(&self) -> &Circuit
+        ensures tree { circuit_of result.now ≡ self.now }
+        ensures named { HasNames self.now }
+    {
+        &self.circuit
+    }
+
+    /// The tree alone.
+    pub fn into_circuit(self) -> Circuit
+        ensures { circuit_of result ≡ self }
+    {
+        self.circuit
+    }
+
+    /// The table of the module with that number, from 0 on in the order of the text.
+    pub fn names(&self, module_number: usize) -> Option<&Names>
+        ensures { (m : ModuleTree) → slice_get self.now.modules module_number ≡ Some m → IfSome result (λ t. Tabulates (module_names self.now) t.now (declarations m)) }
+    {
+        self.tables.get(module_number)
+    }
+
+    /// The numbers of the modules in an order in which each stands behind those that it has instances of.
+    pub fn module_order(&self) -> &[usize]
+        ensures { IsModuleOrder self.now result.now }
+    {
+        self.order.as_slice()
+    }
+}

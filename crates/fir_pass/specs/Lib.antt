@@ -1,0 +1,6 @@
+pub mod Faults
+pub mod Groups
+pub mod Meaning
+pub mod Law
+pub mod Either
+pub mod working

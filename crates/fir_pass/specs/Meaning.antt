@@ -1,0 +1,33 @@
+-- What a tree means, at each stage of its way: what the law of passes speaks of.
+use Rattle.std.specs.Prelude.{ℕ, List}
+use Rattle.fir_base.specs.Ticks.{Allowance, Shape}
+use Rattle.fir_pass.specs.Faults.{Fault}
+use Rattle.fir_pass.specs.Groups.{Group, group_of}
+
+-- the names of the inputs, the clocks, the outputs and the words of the state, each a path of a leaf, in the order of the shape
+pub record ShapeNames : Type 0 where
+  pub circuit : List ℕ
+  pub inputs : List (List (List ℕ))
+  pub clocks : List (List (List ℕ))
+  pub outputs : List (List (List ℕ))
+  pub state : List (List (List ℕ))
+
+pub record Counts : Type 0 where
+  pub leaves : ℕ
+  pub registers : ℕ
+  pub memories : ℕ
+
+pub record Meaning : Type 1 where
+  -- which outputs and which next state a state and a tick allow
+  pub allows : Allowance
+  -- at every state and tick of the shape exactly one choice of values is settled
+  pub one : Type 0
+  -- the groups of faults by their numbers
+  pub group : ℕ → Group
+  pub shape : Shape
+  pub names : ShapeNames
+  pub counts : Counts
+
+-- the fault stands in the tree
+abbrev pub Shown : Meaning → Fault → Type 0
+Shown m f = (m.group (group_of f.code)).shows f

@@ -1,0 +1,35 @@
+//! Two passes in a row.
+
+ghost use Rattle.std.specs.Prelude.{IfOk};
+ghost use Rattle.fir_pass.specs.Law.{Follows, Keeps, IfFault, IsFirst};
+ghost use Rattle.fir_pass.specs.Either.{told_by, HandsBack};
+
+use crate::either::Either;
+use crate::pass::{Meant, Pass};
+use fir_base::Refused;
+use std::alloc::Global;
+
+/// Runs one pass and then the other. A fault is the first pass's on what is given, or the second's on
+/// what the first made of it; either is the first fault of what is given.
+pub fn then<A: Pass, B: Pass<In = A::Out>>(
+    alloc: Global,
+    first: &A,
+    second: &B,
+    x: A::In,
+) -> Result<B::Out, Refused<Either<A::Fault, B::Fault>>>
+    requires { Follows A.from A.upto B.from B.upto }
+    ensures ok { IfOk result (λ y. Keeps A.from B.upto (A.In.meaning x) (B.Out.meaning y)) }
+    ensures fault { IfFault result (λ f. IsFirst A.from B.upto (A.In.meaning x) (told_by A.told B.told f)) }
+    ensures back { IfFault result (λ f. HandsBack A.from A.upto A.In.meaning A.Out.meaning A.hands_back B.hands_back x f) }
+{
+    let made = match first.run(alloc, x) {
+        Ok(made) => made,
+        Err(Refused::Fault(fault)) => return Err(Refused::Fault(Either::One(fault))),
+        Err(Refused::Memory) => return Err(Refused::Memory),
+    };
+    match second.run(alloc, made) {
+        Ok(last) => Ok(last),
+        Err(Refused::Fault(fault)) => Err(Refused::Fault(Either::Two(fault))),
+        Err(Refused::Memory) => Err(Refused::Memory),
+    }
+}
