@@ -9,7 +9,8 @@ use Rattle.fir_ast.specs.declared.expressions.Expr.TheVariants.{Op, rolls-Op}
 use Rattle.fir_ast.specs.Expressions.{Expression, operation, Parts}
 use Rattle.fir_ast.specs.Statements.{Sink}
 use Rattle.fir_ast.specs.View.{expr_of, expressions_of, expr_step, part_step, reference_step}
-use Rattle.fir_meaning.specs.Lacking.{count, is_operation, lack, lacking_expression, lacking_operands}
+use Rattle.fir_meaning.specs.Lack.{lack}
+use Rattle.fir_meaning.specs.Lacking.{count, is_operation, lacking_expression, lacking_operands}
 
 count_of : (es : List Expression) → count (expressions_of es) ≡ length es
 count_of [] = refl

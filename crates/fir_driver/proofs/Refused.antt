@@ -13,11 +13,14 @@ module _ (one : SpellsOneTree) (tree_or_fault : HasTreeOrFault) (bytes : List �
   -- a text that is taken has no fault
   taken_has_no_fault : (f : FirFault) → RefusedFor bytes f → ⊥
   taken_has_no_fault f (inl bad) = (tree_or_fault bytes).1 (c, taken.spelled) (f, bad)
-  taken_has_no_fault f (inr (inl lack)) =
+  taken_has_no_fault f (inr (inl shows)) =
+      let same : shows.circuit ≡ c = one bytes shows.circuit c shows.spelled taken.spelled in
+      named_shows_none c (fault_of f) taken.named (subst (λ t. IsFirst 1 3 (circuit_meaning t) (fault_of f)) same shows.first)
+  taken_has_no_fault f (inr (inr (inl lack))) =
       let same : lack.circuit ≡ c = one bytes lack.circuit c lack.spelled taken.spelled in
       let e : is_none (Some lack.lack) ≡ true = ap is_none (sym lack.first ∙ ap lacking same) ∙ taken.in_language in
       absurd cc
-  taken_has_no_fault f (inr (inr shows)) =
+  taken_has_no_fault f (inr (inr (inr shows))) =
       let same : shows.circuit ≡ c = one bytes shows.circuit c shows.spelled taken.spelled in
       let e : f ∷ shows.first.0 ≡ [] = sym shows.first.1 ∙ ap faults same ∙ taken.faultless in
       absurd cc

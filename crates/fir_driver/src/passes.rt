@@ -1,6 +1,6 @@
-//! The passes on the way of a circuit, in the order in which it takes them: from bytes to tokens, to the tree, which has
-//! only forms that are taken so far and shows no fault, to the net and its order; and from there to the Verilog tree and
-//! its text, or to the simulator's net with the shape of its traces.
+//! The passes on the way of a circuit, in the order in which it takes them: from bytes to tokens, to the tree, to the tree
+//! with its names, which has only forms that are taken so far and shows no fault, to the net and its order; and from there
+//! to the Verilog tree and its text, or to the simulator's net with the shape of its traces.
 
 ghost use Rattle.std.specs.Prelude.{◌≤◌, IfOk, IsTrue, length};
 ghost use Rattle.fir_ast.specs.View.{circuit_of};
@@ -13,7 +13,7 @@ ghost use Rattle.fir_lower.specs.working.HasWords.{HasWords};
 ghost use Rattle.fir_lower.specs.working.Lowers.{Lowers};
 ghost use Rattle.fir_driver.specs.Compiles.{Compiles};
 ghost use Rattle.fir_driver.specs.working.Lacked.{lack_of};
-ghost use Rattle.fir_driver.specs.working.Readings.{IsEmitted, IsTaken, IsTree, IsUnsupported};
+ghost use Rattle.fir_driver.specs.working.Readings.{IsEmitted, IsNamedTree, IsTaken, IsTree, IsUnsupported};
 ghost use Rattle.fir_driver.specs.working.Made.{Makes};
 
 use crate::lacking::{Lack, lacking};
@@ -27,6 +27,7 @@ use fir_loop::laws::heights_have_no_loop;
 use fir_loop::{Order, order};
 use fir_lower::lower;
 use fir_meaning::{faultless_has_one, faultless_runs_once};
+use fir_names::{Named, resolve};
 use fir_net::FlatNet;
 use fir_parse::parse;
 use fir_sim::shape;
@@ -48,6 +49,19 @@ fn read_tree(alloc: Global, bytes: &[u8]) -> Result<Circuit, Refused<FirFault>>
     }
 }
 
+/// The tree of the text with its names, or its first fault, of the text or of names.
+fn read_names(alloc: Global, bytes: &[u8]) -> Result<Named, Refused<FirFault>>
+    requires { length bytes.now ≤ 16777216 }
+    ensures { IsNamedTree bytes.now result }
+{
+    let tree = read_tree(alloc, bytes)?;
+    match resolve(alloc, tree) {
+        Ok(named) => Ok(named),
+        Err(Refused::Fault((fault, _))) => Err(Refused::Fault(fault)),
+        Err(Refused::Memory) => Err(Refused::Memory),
+    }
+}
+
 /// Why a text is refused whose tree has a form that the language lacks.
 fn unsupported(alloc: Global, lack: Lack) -> Refused<FirFault>
     ensures { IsUnsupported (lack_of lack.entry) result }
@@ -58,18 +72,19 @@ fn unsupported(alloc: Global, lack: Lack) -> Refused<FirFault>
     }
 }
 
-/// The circuit that the bytes spell, in the language and without fault, or the fault for which it is
-/// refused: of the text, else the first form that the language lacks, else the first of the circuit.
-pub fn read_circuit(alloc: Global, bytes: &[u8]) -> Result<Circuit, Refused<FirFault>>
+/// The circuit that the bytes spell, with its names, in the language and without fault, or the fault for
+/// which it is refused: of the text, else the first of names, else the first form that the language lacks,
+/// else the first of the circuit.
+pub fn read_circuit(alloc: Global, bytes: &[u8]) -> Result<Named, Refused<FirFault>>
     requires { length bytes.now ≤ 16777216 }
     ensures { IsTaken bytes.now result }
 {
-    let tree = read_tree(alloc, bytes)?;
-    if let Some(lack) = lacking(&tree) {
+    let named = read_names(alloc, bytes)?;
+    if let Some(lack) = lacking(&named) {
         return Err(unsupported(alloc, lack));
     }
-    match check_small(alloc, &tree) {
-        Ok(()) => Ok(tree),
+    match check_small(alloc, named.circuit()) {
+        Ok(()) => Ok(named),
         Err(refused) => Err(refused),
     }
 }
@@ -122,8 +137,8 @@ pub fn verilog_of(alloc: Global, bytes: &[u8]) -> Result<Vec<u8>, Refused<FirFau
     fir_parse::laws::spells_one_tree();
     ver_ast::spells_one_tree();
     layout_is_spelled();
-    let circuit = read_circuit(alloc, bytes)?;
-    let verilog = compile(alloc, &circuit)?;
+    let named = read_circuit(alloc, bytes)?;
+    let verilog = compile(alloc, named.circuit())?;
     Ok(write_verilog(alloc, &verilog)?)
 }
 
@@ -139,8 +154,8 @@ pub fn net_of(alloc: Global, bytes: &[u8]) -> Result<(OrderedNet, Shape), Refuse
     faultless_has_one();
     faultless_runs_once();
     names_are_for_rows();
-    let circuit = read_circuit(alloc, bytes)?;
-    let ordered = ordered_net(alloc, &circuit)?;
+    let named = read_circuit(alloc, bytes)?;
+    let ordered = ordered_net(alloc, named.circuit())?;
     let shape = shape(alloc, &ordered.net)?;
     Ok((ordered, shape))
 }

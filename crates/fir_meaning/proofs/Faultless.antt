@@ -18,7 +18,8 @@ use Rattle.fir_meaning.specs.WidthFaults.{over_width_faults, width_rule}
 use Rattle.fir_meaning.specs.LegalityFaults.{legality_rule}
 use Rattle.fir_meaning.specs.DrivenFaults.{is_connected, output_faults, undriven_faults}
 use Rattle.fir_meaning.specs.Faults.{is_module, main_faults, Faultless}
-use Rattle.fir_meaning.specs.Lacking.{lack, lacking_module, lacking_port_type, lacking_ports, lacking_statements, lacking}
+use Rattle.fir_meaning.specs.Lack.{lack}
+use Rattle.fir_meaning.specs.Lacking.{lacking_module, lacking_port_type, lacking_ports, lacking_statements, lacking}
 use Rattle.fir_meaning.specs.working.Clean.{IsPortType, IsCleanPort, AreCleanPorts, IsCleanModule, IsCleanCircuit}
 use Rattle.fir_meaning.specs.working.Laws.{FaultlessIsClean}
 use Rattle.fir_base.proofs.Empty.{empty_left, empty_right, empty_at}

@@ -1,3 +1,4 @@
 -- What no clause of `run` reads: contracts between layers, laws, views of the code and its states.
 pub mod Clean
 pub mod Laws
+pub mod NameLaws

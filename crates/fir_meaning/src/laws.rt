@@ -1,6 +1,7 @@
 //! Laws about the definitions, each the contract of a function that does nothing.
 
 ghost use Rattle.fir_meaning.specs.working.Laws.{FaultlessHasOne, FaultlessRunsOnce, ShowsOneFirst, LastConnect, FaultlessIsClean, CleanHasValue};
+ghost use Rattle.fir_meaning.specs.working.NameLaws.{NamesLeaveNone, OneLookUp};
 
 /// A circuit of the language that shows no fault has, at every state and tick of its shape, exactly one
 /// choice of values for its leaves and clocks.
@@ -40,3 +41,15 @@ pub fn clean_has_value()
 {
     fir_bits::laws::has_its_type()
 }
+
+/// Where neither E08 nor E09 stands in a circuit, one look-up in all that a module declares finds what is
+/// visible at each place where a name is used.
+pub fn one_look_up()
+    ensures { OneLookUp }
+{}
+
+/// Where no fault of names stands in a circuit and nothing is lacking, the lists of names of the small
+/// language are empty.
+pub fn names_leave_none()
+    ensures { NamesLeaveNone }
+{}

@@ -8,5 +8,5 @@ mod laws;
 
 pub use laws::{
     clean_has_value, faultless_has_one, faultless_is_clean, faultless_runs_once, last_connect,
-    shows_one_first,
+    names_leave_none, one_look_up, shows_one_first,
 };

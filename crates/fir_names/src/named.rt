@@ -1,17 +1,20 @@
 //! A circuit whose names are resolved.
 
-ghost use Rattle.std.specs.Prelude.{◌≡◌, ℕ, IfSome, Some, slice_get};
+ghost use Rattle.std.specs.Prelude.{◌≡◌, IfSome, Some, option_copied, option_map, slice_get};
 ghost use Rattle.fir_ast.specs.Circuits.{ModuleTree};
-ghost use Rattle.fir_ast.specs.View.{circuit_of};
+ghost use Rattle.fir_ast.specs.View.{circuit_of, port_of};
 ghost use Rattle.fir_meaning.specs.Mentions.{module_names};
 ghost use Rattle.fir_meaning.specs.NameGroups.{HasNames};
+ghost use Rattle.fir_meaning.specs.Unread.{find_port};
 ghost use Rattle.fir_meaning.specs.Visibility.{declarations};
 ghost use Rattle.fir_names.specs.ModuleOrder.{IsModuleOrder};
 ghost use Rattle.fir_names.specs.working.Tabulated.{Tabulates};
 ghost use Rattle.fir_names.specs.working.IsNamed.{IsNamed};
 
+use crate::declaration::Component;
 use crate::names::Names;
-use fir_ast::Circuit;
+use fir_ast::{Circuit, Port};
+use fir_base::Name;
 use std::marker::Model;
 
 /// A circuit in which no fault of names stands, with a table of what each module declares and an order of
@@ -68,6 +71,18 @@ impl Named {
         ensures { (m : ModuleTree) → slice_get self.now.modules module_number ≡ Some m → IfSome result (λ t. Tabulates (module_names self.now) t.now (declarations m)) }
     {
         self.tables.get(module_number)
+    }
+
+    /// The port that a name declares in the module with that number.
+    pub fn port(&self, module_number: usize, name: &Name) -> Option<&Port>
+        ensures { (m : ModuleTree) → slice_get self.now.modules module_number ≡ Some m → option_map port_of (option_copied result) ≡ find_port m.ports name.now }
+    {
+        let declaration = self.tables.get(module_number)?.find(name)?;
+        let Component::Port(_) = declaration.component else {
+            return None;
+        };
+        let part = self.circuit.modules.as_slice().get(module_number)?;
+        part.ports.as_slice().get(declaration.position)
     }
 
     /// The numbers of the modules in an order in which each stands behind those that it has instances of.

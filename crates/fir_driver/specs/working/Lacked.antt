@@ -1,5 +1,5 @@
 -- A lacking form in the code, as the definitions see it.
-use Rattle.fir_meaning.specs.Lacking.{Lack}
+use Rattle.fir_meaning.specs.Lack.{Lack}
 use Rattle.fir_driver.specs.declared.lacking.Lack.{Lack as LackOfCode}
 
 abbrev pub lack_of : LackOfCode → Lack

@@ -1,18 +1,5 @@
 use Rattle.std.proofs.Common.{option_map, sym, ap, ◌∙◌}
-use Rattle.fir_ast.specs.View.{circuit_of}
+use Rattle.std.proofs.lemmas.Result.{err_from_is_err_and}
 use Rattle.fir_driver.specs.working.Lacked.{lack_of}
-use Rattle.fir_driver.proofs.Taken.{lacks_form, takes, shows_fault}
+use Rattle.fir_driver.proofs.Taken.{lacks_form, not_named, takes, shows_fault}
 use Rattle.fir_driver.proofs.passes.read_circuit.Goals as goal
-
-pub returns-in-Ok : goal.returns-in-Ok
-returns-in-Ok c =
-    takes c.args.bytes.now (circuit_of c.in_ok-tree.tree) c.in_ok-tree.ensures (sym c.lacking.ensures ∙ ap (option_map lack_of) c.in_default.is) c.in-Ok.ensures
-
-pub returns-in-Err : goal.returns-in-Err
-returns-in-Err c =
-    shows_fault (Unit {0}) c.args.bytes.now (circuit_of c.in_ok-tree.tree) c.in-Err.refused c.in_ok-tree.ensures (sym c.lacking.ensures ∙ ap (option_map lack_of) c.in_default.is) c.in-Err.ensures
-
-pub returns-in-Some : goal.returns-in-Some
-returns-in-Some c =
-    lacks_form c.args.bytes.now (circuit_of c.in_ok-tree.tree) (lack_of c.in-Some.lack) c.unsupported.result c.in_ok-tree.ensures
-    (sym c.lacking.ensures ∙ ap (option_map lack_of) c.in-Some.is) c.unsupported.ensures

@@ -1,6 +1,7 @@
 use Rattle.std.proofs.Common.{map, sym, ap, ◌∙◌}
 use Rattle.fir_ast.specs.View.{expr_of, expressions_of}
-use Rattle.fir_meaning.specs.Lacking.{lack, lacking_operands}
+use Rattle.fir_meaning.specs.Lack.{lack}
+use Rattle.fir_meaning.specs.Lacking.{lacking_operands}
 use Rattle.fir_driver.proofs.LackingOperations.{counted_right, counted_wrong}
 use Rattle.fir_driver.proofs.lacking.expressions.+expressions.Goals as goal
 
