@@ -1,4 +1,0 @@
-pub mod HasTarget
-pub mod IsOrder
-pub mod IsCircle
-pub mod working
