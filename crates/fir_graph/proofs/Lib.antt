@@ -1,0 +1,10 @@
+pub mod Positions
+pub mod Writes
+pub mod StepsLeft
+pub mod Closing
+pub mod Opening
+pub mod Advancing
+pub mod Finishing
+pub mod SearchSteps
+pub mod Reaching
+pub mod Seeing

@@ -1,0 +1,45 @@
+-- Elements of a list after a push and a cut, and lists in which none stands twice.
+use Rattle.std.proofs.Common.{◌≡◌, ℕ, zero, suc, ◌+◌, List, [], ◌∷◌, ◌++◌, Some, length, drop, refl, sym, ap, ◌∙◌, inl, inr, ◌⊎◌, arith, zero-add}
+use Rattle.std.specs.Prelude.{slice_get}
+use Rattle.std.proofs.lemmas.Option.{none-some, slice_get_within}
+use Rattle.fir_base.specs.Lists.{Distinct}
+use Rattle.fir_base.proofs.Elements.{get_left, get_behind, get_in, number_of}
+
+pub push_left : {A : Type 0} → (xs ys : List A) (i : ℕ) (z : A) → slice_get xs i ≡ Some z → slice_get (xs ++ ys) i ≡ Some z
+push_left xs ys i z h = get_left xs ys i (slice_get_within xs i z h) ∙ h
+
+pub push_end : {A : Type 0} → (xs : List A) (y : A) → slice_get (xs ++ y ∷ []) (length xs) ≡ Some y
+push_end xs y = get_behind xs [] y
+
+-- an old one, or the new one
+abbrev pub PushedOr : {A : Type 0} → List A → A → ℕ → A → Type 0
+PushedOr xs y i z = (slice_get xs i ≡ Some z) ⊎ ((i ≡ length xs) × (y ≡ z))
+
+pub push_cases : {A : Type 0} → (xs : List A) (y : A) (i : ℕ) (z : A) → slice_get (xs ++ y ∷ []) i ≡ Some z → PushedOr xs y i z
+push_cases [] y zero z h = inr (refl, cc)
+push_cases [] y (suc i) z h = absurd (none-some z h)
+push_cases (x ∷ xs) y zero z h = inl h
+push_cases (x ∷ xs) y (suc i) z h = more (push_cases xs y i z h)
+  where
+    more : PushedOr xs y i z → PushedOr (x ∷ xs) y (suc i) z
+    more (inl e) = inl e
+    more (inr (e, f)) = inr (ap suc e, f)
+
+pub get-drop : {A : Type 0} → (s : ℕ) (xs : List A) (i : ℕ) → slice_get (drop s xs) i ≡ slice_get xs (s + i)
+get-drop zero xs i = rw zero-add refl
+get-drop (suc s) [] i = refl
+get-drop (suc s) (x ∷ xs) i =
+    let e : suc s + i ≡ suc (s + i) = omega arith in
+    get-drop s xs i ∙ ap (slice_get (x ∷ xs)) (sym e)
+
+-- none stands twice: by places, and by recursion
+pub distinct_from : {A : Type 0} → (xs : List A) → ((i j : ℕ) (x : A) → slice_get xs i ≡ Some x → slice_get xs j ≡ Some x → i ≡ j) → Distinct xs
+distinct_from [] h = tt
+distinct_from (x ∷ xs) h = ((λ m. let at = number_of xs x m in omega (arith, h 0 (suc at.0) x refl at.1)), distinct_from xs (λ i j y p q. omega (arith, h (suc i) (suc j) y p q)))
+
+pub distinct_at : {A : Type 0} → (xs : List A) → Distinct xs → (i j : ℕ) (x : A) → slice_get xs i ≡ Some x → slice_get xs j ≡ Some x → i ≡ j
+distinct_at [] d i j x p q = absurd (none-some x p)
+distinct_at (y ∷ xs) d zero zero x p q = refl
+distinct_at (y ∷ xs) d zero (suc j) x p q = let same : x ≡ y = cc in absurd (d.0 (get_in xs j y (q ∙ ap Some same)))
+distinct_at (y ∷ xs) d (suc i) zero x p q = let same : x ≡ y = cc in absurd (d.0 (get_in xs i y (p ∙ ap Some same)))
+distinct_at (y ∷ xs) d (suc i) (suc j) x p q = ap suc (distinct_at xs d.1 i j x p q)

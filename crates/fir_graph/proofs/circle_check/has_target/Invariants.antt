@@ -1,0 +1,5 @@
+use Rattle.std.proofs.Common.{length, ◌-◌}
+use Rattle.fir_graph.proofs.circle_check.has_target.Given as goal
+
+abbrev pub decreases-loop-target : goal.decreases-loop-target
+decreases-loop-target g l = length (g.G.Graph.targets l.graph l.vertex) - l.place

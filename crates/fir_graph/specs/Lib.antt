@@ -1,0 +1,4 @@
+pub mod HasTarget
+pub mod IsOrder
+pub mod IsCircle
+pub mod working
