@@ -1,1 +1,3 @@
 pub mod FirstMentions
+pub mod HeldNames
+pub mod WalkedNames
