@@ -5,7 +5,7 @@ ghost use Rattle.fir_pass.specs.Either.{told_by, HandsBack};
 
 use crate::either::Either;
 use crate::pass::{Meant, Pass};
-use crate::then::then;
+use crate::two_passes::then;
 use fir_base::Refused;
 use std::alloc::Global;
 

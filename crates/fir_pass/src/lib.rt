@@ -7,12 +7,12 @@
 mod chain;
 mod either;
 mod pass;
-mod then;
+mod two_passes;
 
 pub use chain::Chain;
 pub use either::Either;
 pub use pass::{Meant, Pass};
-pub use then::then;
+pub use two_passes::then;
 
 #[cfg(test)]
 mod tests;
