@@ -22,7 +22,6 @@ use Rattle.fir_names.specs.ModuleOrder.{find_number}
 use Rattle.fir_names.specs.working.Numbered.{HasNumbers, names_of}
 use Rattle.fir_names.proofs.LookUps.{found_before, found_last, map_last, or_cond}
 
-
 pub find_number_last : (ns : List PlacedName) (n : PlacedName) (name : List ℕ)
     → find_number (ns ++ n ∷ []) name ≡ option_or (find_number ns name) (cond (bytes_eq n.name name) (Some (length ns)) None)
 find_number_last [] n name = refl

@@ -1,7 +1,6 @@
 //! The numbers of a circuit's modules, by name.
 
-ghost use Rattle.std.specs.Prelude.{◌≡◌, List, IfOk, map, option_copied};
-ghost use Rattle.fir_ast.specs.Statements.{PlacedName};
+ghost use Rattle.std.specs.Prelude.{IfOk, map};
 ghost use Rattle.fir_ast.specs.View.{module_of};
 ghost use Rattle.fir_names.specs.working.Numbered.{HasNumbers, names_of};
 

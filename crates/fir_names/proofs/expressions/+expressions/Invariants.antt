@@ -2,7 +2,7 @@ use Rattle.std.proofs.Common.{◌≡◌, map, drop}
 use Rattle.fir_ast.specs.View.{expr_of, expressions_of, parts_of}
 use Rattle.fir_pass.specs.Groups.{first_of}
 use Rattle.fir_meaning.specs.Components.{Declarations}
-use Rattle.fir_meaning.specs.Mentions.{operand_mentions, part_mentions, sink_mentions}
+use Rattle.fir_meaning.specs.Mentions.{operand_mentions, part_mentions}
 use Rattle.fir_meaning.specs.NameGroups.{faults_in}
 use Rattle.fir_names.specs.working.Scoped.{Sees}
 use Rattle.fir_names.specs.working.Parts.{part_of}

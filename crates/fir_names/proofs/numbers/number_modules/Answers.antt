@@ -1,4 +1,4 @@
-use Rattle.std.proofs.Common.{◌∙◌, map, take, arith, sym, ap}
+use Rattle.std.proofs.Common.{map, take, arith, sym}
 use Rattle.std.specs.BTreeMap.{get}
 use Rattle.std.specs.Cmp.Lexicographic.{slice_cmp}
 use Rattle.std.specs.Ordering.{nat_cmp}
