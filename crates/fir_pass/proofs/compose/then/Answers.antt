@@ -1,5 +1,5 @@
-use Rattle.fir_pass.proofs.Compose.{first_of_one, keeps_both, first_of_two}
-use Rattle.fir_pass.proofs.two_passes.then.Goals as goal
+use Rattle.fir_pass.proofs.TwoPasses.{first_of_one, keeps_both, first_of_two}
+use Rattle.fir_pass.proofs.compose.then.Goals as goal
 
 pub returns-in-Err-Fault-clause-fault : goal.returns-in-Err-Fault-clause-fault
 returns-in-Err-Fault-clause-fault g c =
