@@ -28,11 +28,11 @@ mod recursion;
 mod scope;
 mod statements;
 
+pub use circuit_names::resolve;
 pub use declaration::{Component, Declaration};
 pub use named::Named;
 pub use names::Names;
 pub use pass::{Parsed, Resolve};
-pub use circuit_names::resolve;
 
 #[cfg(test)]
 mod tests;
