@@ -3,8 +3,8 @@
 ghost use Rattle.std.specs.Prelude.{◌≡◌};
 ghost use Rattle.fir_pass.specs.Faults.{fault_of};
 
+use crate::circuit_names::resolve;
 use crate::named::Named;
-use crate::resolve::resolve;
 use fir_ast::{Circuit, FirFault};
 use fir_base::Refused;
 use fir_pass::{Meant, Pass};
