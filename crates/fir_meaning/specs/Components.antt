@@ -16,11 +16,10 @@ pub data Component : Type 0 where
   instance : List ℕ → Component
   memory : List MemoryPart → Component
 
--- a declaration, with the number of ports and statements that begin before it in its module, and the number of whens that stand round it
+-- a declaration, with the number of whens that stand round it
 pub record Declaration : Type 0 where
   pub named : PlacedName
   pub component : Component
-  pub position : ℕ
   pub depth : ℕ
 
 -- in the order of the text

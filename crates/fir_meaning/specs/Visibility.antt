@@ -9,30 +9,23 @@ use Rattle.fir_meaning.specs.Components as component
 pub record Before : Type 0 where
   pub visible : Declarations
   pub declared : Declarations
-  -- how many ports and statements begin before the place
-  pub position : ℕ
   -- how many whens stand round it
   pub depth : ℕ
 
 -- a component that is declared at the place
 abbrev pub declaration_at : Before → PlacedName → Component → Declaration
-declaration_at before n c = record { named = n; component = c; position = before.position; depth = before.depth }
+declaration_at before n c = record { named = n; component = c; depth = before.depth }
 
 abbrev pub with_declaration : Before → PlacedName → Component → Before
 with_declaration before n c = record {
   visible = before.visible ++ declaration_at before n c ∷ [];
   declared = before.declared ++ declaration_at before n c ∷ [];
-  position = before.position + 1;
   depth = before.depth;
 }
 
--- behind a statement that declares nothing
-abbrev pub passed : Before → Before
-passed before = record before { position = before.position + 1 }
-
 -- in the first block of a when
 abbrev pub opened : Before → Before
-opened before = record before { position = before.position + 1; depth = before.depth + 1 }
+opened before = record before { depth = before.depth + 1 }
 
 -- in the second block, behind the first; behind the when
 abbrev pub reopened : Before → Before → Before
@@ -49,7 +42,7 @@ abbrev mutual
   behind before (instance p n m) = with_declaration before n (component.instance m.name)
   behind before (memory p n parts) = with_declaration before n (component.memory parts)
   behind before (when p c a b) = closed before (behind_block (reopened before (behind_block (opened before) a)) b)
-  behind before _ = passed before
+  behind before _ = before
 
   pub behind_block : Before → Block → Before
   behind_block before done = before
@@ -60,7 +53,7 @@ behind_ports before [] = before
 behind_ports before (p ∷ ps) = behind_ports (with_declaration before p.named (component.port p.direction p.data_type)) ps
 
 abbrev pub at_head : Before
-at_head = record { visible = []; declared = []; position = 0; depth = 0 }
+at_head = record { visible = []; declared = []; depth = 0 }
 
 -- all declarations of a module
 abbrev pub declarations : ModuleTree → Declarations
