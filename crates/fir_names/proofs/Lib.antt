@@ -1,6 +1,13 @@
 pub mod FirstMentions
+pub mod LookUps
+pub mod NumberedModules
 pub mod TableEntries
 pub mod OpenBlocks
 pub mod GrownTables
 pub mod BehindStatements
 pub mod WalkedScopes
+pub mod PassedMentions
+pub mod NamedInstances
+pub mod StatementViews
+pub mod WalkedBlocks
+pub mod WalkedWhens

@@ -1,5 +1,5 @@
 -- What is visible, as declarations come and as blocks are opened and closed.
-use Rattle.std.proofs.Common.{◌≡◌, ℕ, zero, suc, ◌+◌, ◌<◌, ◌≤◌, List, [], ◌∷◌, ◌++◌, map, length, slice_get, Bool, true, false, cond, nat_le, is_some, Option, Some, None, refl, sym, ap, ◌∙◌, inl, inr, subst, arith, le-leb}
+use Rattle.std.proofs.Common.{◌≡◌, ℕ, zero, suc, ◌+◌, ◌<◌, ◌≤◌, List, [], ◌∷◌, ◌++◌, map, length, slice_get, Bool, true, false, cond, is_some, Option, Some, None, refl, sym, ap, ◌∙◌, inl, inr, subst, arith, le-leb}
 use Rattle.std.specs.List.{AllByRecursion}
 use Rattle.std.specs.Str.{bytes_eq}
 use Rattle.std.proofs.lemmas.Bool.{lt-leb}

@@ -1,18 +1,15 @@
 -- The code's scope, as declarations come and as blocks are opened and closed.
-use Rattle.std.proofs.Common.{◌≡◌, ℕ, zero, suc, ◌+◌, ◌≤◌, List, [], ◌∷◌, ◌++◌, map, length, slice_get, Bool, true, false, cond, Option, Some, None, is_some, refl, sym, ap, ◌∙◌, subst, append-nil, length-append, arith}
-use Rattle.std.specs.List.{AllByRecursion}
-use Rattle.fir_base.proofs.Elements.{get_left, there}
+use Rattle.std.proofs.Common.{◌≡◌, ℕ, zero, suc, ◌≤◌, List, [], ◌∷◌, ◌++◌, length, slice_get, Bool, true, false, cond, Some, None, is_some, refl, sym, ap, ◌∙◌, subst, append-nil, length-append, arith}
 use Rattle.fir_ast.specs.Statements.{PlacedName, Block}
-use Rattle.fir_meaning.specs.Components.{Component, Declaration, Declarations, find}
+use Rattle.fir_meaning.specs.Components.{Component, Declaration, find}
 use Rattle.fir_meaning.specs.Visibility.{Before, declaration_at, with_declaration, opened, closed, behind_block, at_head}
-use Rattle.fir_names.specs.declared.names.Names.{Names}
 use Rattle.fir_names.specs.declared.scope.Scope.{Scope}
 use Rattle.fir_names.specs.working.Tabulated.{Tabulates}
 use Rattle.fir_names.specs.working.Opened.{is_open, open_from, Opens, Closes}
 use Rattle.fir_names.specs.working.Scoped.{is_open_entry, Sees, Walks}
 use Rattle.fir_names.proofs.GrownTables.{table_length}
 use Rattle.fir_names.proofs.OpenBlocks.{open_append, open_here, open_more, open_none, seen_is}
-use Rattle.fir_names.proofs.BehindStatements.{AreWithin, Adds, adds_block}
+use Rattle.fir_names.proofs.BehindStatements.{AreWithin, adds_block}
 
 -- a scope that walks sees what is visible
 pub sees : (modules : List PlacedName) (scope : Scope) (before : Before) → Walks modules scope before → Sees scope before.visible
@@ -35,7 +32,7 @@ shown_last : (b : Bool) (d : Declaration) → b ≡ true → cond b (d ∷ []) [
 shown_last true d is = refl
 shown_last false d is = absurd (cc)
 
-pub walks_more : (modules : List PlacedName) (old new : Scope) (before : Before) (n : PlacedName) (c : Component) → new.opened ≡ old.opened
+pub walks_more : (modules : List PlacedName) (old new : Scope) (before : Before) (n : PlacedName) (c : Component) → new.opened.items ≡ old.opened.items
     → Tabulates modules new.names (before.declared ++ declaration_at before n c ∷ []) → Walks modules old before
     → Walks modules new (with_declaration before n c)
 walks_more modules old new before n c same t w =
@@ -48,10 +45,10 @@ walks_more modules old new before n c same t w =
           ap (λ ds. ds ++ d ∷ []) w.visible
           ∙ ap (λ ds. open_from old.opened.items 0 before.declared ++ ds) (sym (shown_last (is_open old.opened.items at before.depth) d here))
           ∙ sym (open_append old.opened.items 0 at before.declared (d ∷ []) (omega arith))
-          ∙ ap (λ blocks. open_from blocks.items 0 (before.declared ++ d ∷ [])) (sym same);
-      depth = w.depth ∙ ap (λ blocks. length blocks.items) (sym same);
+          ∙ ap (λ blocks. open_from blocks 0 (before.declared ++ d ∷ [])) (sym same);
+      depth = w.depth ∙ ap length (sym same);
       begun = λ k start is.
-          let low = w.begun k start (ap (λ blocks. slice_get blocks.items k) (sym same) ∙ is) in
+          let low = w.begun k start (ap (λ blocks. slice_get blocks k) (sym same) ∙ is) in
           omega (arith, length-append before.declared (d ∷ []));
     }
 

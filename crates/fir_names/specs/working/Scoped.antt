@@ -35,4 +35,4 @@ pub record Walks (modules : List PlacedName) (scope : Scope) (before : Before) :
 pub record Passes (modules : List PlacedName) (old new : Scope) (mentions : List Mention) (after : Before) (f : Option FirFault) : Type 0 where
   pub first : option_map fault_of f ≡ first_of (faults_in mentions)
   pub walked : f ≡ None → Walks modules new after
-  pub blocks : f ≡ None → new.opened.items ≡ old.opened.items
+  pub still_open : f ≡ None → new.opened.items ≡ old.opened.items
