@@ -3,3 +3,13 @@ pub mod LookUps
 pub mod HeldNames
 pub mod NumberedModules
 pub mod WalkedNames
+pub mod TableEntries
+pub mod OpenBlocks
+pub mod GrownTables
+pub mod BehindStatements
+pub mod WalkedScopes
+pub mod PassedMentions
+pub mod NamedInstances
+pub mod StatementViews
+pub mod WalkedBlocks
+pub mod WalkedWhens

@@ -37,12 +37,8 @@ pub fn in_module(
 }
 
 /// The first fault of names in ports, which are declared as they are passed.
-fn in_ports(
-    alloc: Global,
-    scope: &mut Scope,
-    ports: &[Port],
-) -> Result<Option<FirFault>, MemoryOut>
-    ensures { IfOk result (λ f. (modules : List PlacedName) (before : Before) → Walks modules scope.old before → Passes modules scope.new (ports_mentions before (map port_of ports.now)) (behind_ports before (map port_of ports.now)) f) }
+fn in_ports(alloc: Global, scope: &mut Scope, ports: &[Port]) -> Result<Option<FirFault>, MemoryOut>
+    ensures { IfOk result (λ f. (modules : List PlacedName) (before : Before) → Walks modules scope.old before → Passes modules scope.old scope.new (ports_mentions before (map port_of ports.now)) (behind_ports before (map port_of ports.now)) f) }
 {
     for port in ports {
         let component = Component::Port(port.direction);

@@ -80,7 +80,8 @@ impl Scope {
         ident: &Ident,
         component: Component,
     ) -> Result<(), MemoryOut>
-        ensures { OnOk result ((modules : List PlacedName) (before : Before) (c : meant.Component) → Walks modules self.old before → find_name (names_declared before) ident.now.name ≡ None → component ≡ component_of modules c → Walks modules self.new (with_declaration before (named_of ident.now) c)) }
+        ensures walks { OnOk result ((modules : List PlacedName) (before : Before) (c : meant.Component) → Walks modules self.old before → find_name (names_declared before) ident.now.name ≡ None → component ≡ component_of modules c → Walks modules self.new (with_declaration before (named_of ident.now) c)) }
+        ensures still_open { self.new.opened.items ≡ self.old.opened.items }
     {
         let depth = self.opened.len();
         self.names.declare(alloc, ident, component, depth)?;

@@ -1,15 +1,16 @@
 //! The names in statements, in the order of the text, blocks of whens entered.
 
 ghost use Rattle.std.specs.Prelude.{◌≡◌, List, [], ◌∷◌, ◌++◌, IfOk, map, option_map};
-ghost use Rattle.fir_ast.specs.Statements.{PlacedName, Reset, register as reg_statement, node as node_statement, instance as instance_statement, memory as memory_statement, wire as wire_statement};
+ghost use Rattle.fir_ast.specs.declared.place.Place.{Place};
+ghost use Rattle.fir_ast.specs.Statements.{PlacedName};
 ghost use Rattle.fir_ast.specs.View.{block_of, expr_of, memory_part_of, named_of, reset_of, sink_of, stmt_of, type_of};
 ghost use Rattle.fir_pass.specs.Faults.{fault_of};
 ghost use Rattle.fir_pass.specs.Groups.{first_of};
-ghost use Rattle.fir_meaning.specs.Components as component;
+ghost use Rattle.fir_meaning.specs.Components as meant;
 ghost use Rattle.fir_meaning.specs.Components.{Declarations};
-ghost use Rattle.fir_meaning.specs.Visibility.{Before, behind, behind_block, closed, opened, reopened, with_declaration};
+ghost use Rattle.fir_meaning.specs.Visibility.{Before, behind, behind_block, with_declaration};
 ghost use Rattle.fir_meaning.specs.Mentions.{block_mentions, declares, expression_mentions, instantiates, memory_mentions, mentions, names_declared, reset_mentions, sink_mentions, type_mentions};
-ghost use Rattle.fir_meaning.specs.NameGroups.{faults_in, mention_faults};
+ghost use Rattle.fir_meaning.specs.NameGroups.{faults_in};
 ghost use Rattle.fir_names.specs.working.Numbered.{HasNumbers, component_of};
 ghost use Rattle.fir_names.specs.working.Scoped.{Passes, Sees, Walks};
 ghost use Rattle.fir_names.specs.working.Parts.{register_mentions, when_view};
@@ -33,7 +34,7 @@ pub fn in_block(
     numbers: &Numbers,
     scope: &mut Scope,
 ) -> Result<Option<FirFault>, MemoryOut>
-    ensures { IfOk result (λ f. (modules : List PlacedName) (before : Before) → HasNumbers numbers.now modules → Walks modules scope.old before → Passes modules scope.new (block_mentions modules before (block_of (map stmt_of body.now))) (behind_block before (block_of (map stmt_of body.now))) f) }
+    ensures { IfOk result (λ f. (modules : List PlacedName) (before : Before) → HasNumbers numbers.now modules → Walks modules scope.old before → Passes modules scope.old scope.new (block_mentions modules before (block_of (map stmt_of body.now))) (behind_block before (block_of (map stmt_of body.now))) f) }
 {
     for statement in body {
         if let Some(fault) = in_statement(statement, alloc, numbers, scope)? {
@@ -50,7 +51,7 @@ fn in_statement(
     numbers: &Numbers,
     scope: &mut Scope,
 ) -> Result<Option<FirFault>, MemoryOut>
-    ensures { IfOk result (λ f. (modules : List PlacedName) (before : Before) → HasNumbers numbers.now modules → Walks modules scope.old before → Passes modules scope.new (mentions modules before (stmt_of statement.now)) (behind before (stmt_of statement.now)) f) }
+    ensures { IfOk result (λ f. (modules : List PlacedName) (before : Before) → HasNumbers numbers.now modules → Walks modules scope.old before → Passes modules scope.old scope.new (mentions modules before (stmt_of statement.now)) (behind before (stmt_of statement.now)) f) }
 {
     match statement {
         Stmt::Wire(_, ident, _, ty) => in_typed(alloc, scope, ident, Component::Wire, ty),
@@ -74,7 +75,7 @@ fn in_when(
     numbers: &Numbers,
     scope: &mut Scope,
 ) -> Result<Option<FirFault>, MemoryOut>
-    ensures { IfOk result (λ f. (modules : List PlacedName) (before : Before) → HasNumbers numbers.now modules → Walks modules scope.old before → Passes modules scope.new (mentions modules before (when_view when.now)) (behind before (when_view when.now)) f) }
+    ensures { IfOk result (λ f. (modules : List PlacedName) (before : Before) (place : Place) → HasNumbers numbers.now modules → Walks modules scope.old before → Passes modules scope.old scope.new (mentions modules before (when_view when.now place)) (behind before (when_view when.now place)) f) }
 {
     if let Some(fault) = in_expression(&when.condition, alloc, scope)? {
         return Ok(Some(fault));
@@ -99,7 +100,7 @@ fn declare(
     ident: &Ident,
     component: Component,
 ) -> Result<Option<FirFault>, MemoryOut>
-    ensures { IfOk result (λ f. (modules : List PlacedName) (before : Before) (c : component.Component) → Walks modules scope.old before → component ≡ component_of modules c → Passes modules scope.new (declares (names_declared before) (named_of ident.now) ∷ []) (with_declaration before (named_of ident.now) c) f) }
+    ensures { IfOk result (λ f. (modules : List PlacedName) (before : Before) (c : meant.Component) → Walks modules scope.old before → component ≡ component_of modules c → Passes modules scope.old scope.new (declares (names_declared before) (named_of ident.now) ∷ []) (with_declaration before (named_of ident.now) c) f) }
 {
     if let Some(fault) = scope.repeated(alloc, ident)? {
         return Ok(Some(fault));
@@ -116,7 +117,7 @@ pub fn in_typed(
     component: Component,
     ty: &Ty,
 ) -> Result<Option<FirFault>, MemoryOut>
-    ensures { IfOk result (λ f. (modules : List PlacedName) (before : Before) (c : component.Component) → Walks modules scope.old before → component ≡ component_of modules c → Passes modules scope.new (declares (names_declared before) (named_of ident.now) ∷ type_mentions (type_of ty.now)) (with_declaration before (named_of ident.now) c) f) }
+    ensures { IfOk result (λ f. (modules : List PlacedName) (before : Before) (c : meant.Component) → Walks modules scope.old before → component ≡ component_of modules c → Passes modules scope.old scope.new (declares (names_declared before) (named_of ident.now) ∷ type_mentions (type_of ty.now)) (with_declaration before (named_of ident.now) c) f) }
 {
     if let Some(fault) = declare(alloc, scope, ident, component)? {
         return Ok(Some(fault));
@@ -130,7 +131,7 @@ fn in_register(
     scope: &mut Scope,
     register: &Register,
 ) -> Result<Option<FirFault>, MemoryOut>
-    ensures { IfOk result (λ f. (modules : List PlacedName) (before : Before) → Walks modules scope.old before → Passes modules scope.new (register_mentions before (named_of register.now.ident) (type_of register.now.ty) (expr_of register.now.clock) (option_map reset_of register.now.reset)) (with_declaration before (named_of register.now.ident) (component.register (type_of register.now.ty))) f) }
+    ensures { IfOk result (λ f. (modules : List PlacedName) (before : Before) → Walks modules scope.old before → Passes modules scope.old scope.new (register_mentions before (named_of register.now.ident) (type_of register.now.ty) (expr_of register.now.clock) (option_map reset_of register.now.reset)) (with_declaration before (named_of register.now.ident) (meant.register (type_of register.now.ty))) f) }
 {
     if let Some(fault) = scope.repeated(alloc, &register.ident)? {
         return Ok(Some(fault));
@@ -168,7 +169,7 @@ fn in_node(
     ident: &Ident,
     value: &Expr,
 ) -> Result<Option<FirFault>, MemoryOut>
-    ensures { IfOk result (λ f. (modules : List PlacedName) (before : Before) → Walks modules scope.old before → Passes modules scope.new (declares (names_declared before) (named_of ident.now) ∷ expression_mentions before.visible (expr_of value.now)) (with_declaration before (named_of ident.now) (component.node (expr_of value.now))) f) }
+    ensures { IfOk result (λ f. (modules : List PlacedName) (before : Before) → Walks modules scope.old before → Passes modules scope.old scope.new (declares (names_declared before) (named_of ident.now) ∷ expression_mentions before.visible (expr_of value.now)) (with_declaration before (named_of ident.now) (meant.node (expr_of value.now))) f) }
 {
     if let Some(fault) = scope.repeated(alloc, ident)? {
         return Ok(Some(fault));
@@ -188,7 +189,7 @@ fn in_instance(
     ident: &Ident,
     of: &Ident,
 ) -> Result<Option<FirFault>, MemoryOut>
-    ensures { IfOk result (λ f. (modules : List PlacedName) (before : Before) → HasNumbers numbers.now modules → Walks modules scope.old before → Passes modules scope.new (declares (names_declared before) (named_of ident.now) ∷ instantiates modules (named_of of.now) ∷ []) (with_declaration before (named_of ident.now) (component.instance of.now.name)) f) }
+    ensures { IfOk result (λ f. (modules : List PlacedName) (before : Before) → HasNumbers numbers.now modules → Walks modules scope.old before → Passes modules scope.old scope.new (declares (names_declared before) (named_of ident.now) ∷ instantiates modules (named_of of.now) ∷ []) (with_declaration before (named_of ident.now) (meant.instance of.now.name)) f) }
 {
     if let Some(fault) = scope.repeated(alloc, ident)? {
         return Ok(Some(fault));
@@ -208,7 +209,7 @@ fn in_memory_statement(
     scope: &mut Scope,
     memory: &Memory,
 ) -> Result<Option<FirFault>, MemoryOut>
-    ensures { IfOk result (λ f. (modules : List PlacedName) (before : Before) → Walks modules scope.old before → Passes modules scope.new (declares (names_declared before) (named_of memory.now.ident) ∷ memory_mentions [] (map memory_part_of memory.now.fields.items)) (with_declaration before (named_of memory.now.ident) (component.memory (map memory_part_of memory.now.fields.items))) f) }
+    ensures { IfOk result (λ f. (modules : List PlacedName) (before : Before) → Walks modules scope.old before → Passes modules scope.old scope.new (declares (names_declared before) (named_of memory.now.ident) ∷ memory_mentions [] (map memory_part_of memory.now.fields.items)) (with_declaration before (named_of memory.now.ident) (meant.memory (map memory_part_of memory.now.fields.items))) f) }
 {
     if let Some(fault) = declare(alloc, scope, &memory.ident, Component::Memory)? {
         return Ok(Some(fault));

@@ -1,5 +1,5 @@
 -- The code's scope, and what stands before a place of the text.
-use Rattle.std.specs.Prelude.{◌≡◌, ℕ, List, Bool, false, Option, Some, None, is_some, length, option_map}
+use Rattle.std.specs.Prelude.{◌≡◌, ℕ, ◌≤◌, List, Bool, false, Option, Some, None, is_some, length, option_map, slice_get}
 use Rattle.fir_ast.specs.declared.fault.FirFault.{FirFault}
 use Rattle.fir_ast.specs.Statements.{PlacedName}
 use Rattle.fir_pass.specs.Faults.{fault_of}
@@ -24,13 +24,15 @@ is_seen scope name = is_open_entry scope.opened.items (found scope.names name)
 pub record Sees (scope : Scope) (visible : Declarations) : Type 0 where
   pub each : (n : List ℕ) → is_seen scope n ≡ is_some (find visible n)
 
--- the scope has what is declared and what is visible before a place
+-- the scope has what is declared and what is visible before a place, and no open block begins behind it
 pub record Walks (modules : List PlacedName) (scope : Scope) (before : Before) : Type 0 where
   pub declared : Tabulates modules scope.names before.declared
   pub visible : before.visible ≡ open_from scope.opened.items 0 before.declared
   pub depth : before.depth ≡ length scope.opened.items
+  pub begun : (k start : ℕ) → slice_get scope.opened.items k ≡ Some start → start ≤ length before.declared
 
--- what a walk over mentions finds: their first fault, or none, and then the scope has what stands behind them
-pub record Passes (modules : List PlacedName) (scope : Scope) (mentions : List Mention) (after : Before) (f : Option FirFault) : Type 0 where
+-- what a walk over mentions finds: their first fault, or none, and then the scope has what stands behind them, and the same blocks are open
+pub record Passes (modules : List PlacedName) (old new : Scope) (mentions : List Mention) (after : Before) (f : Option FirFault) : Type 0 where
   pub first : option_map fault_of f ≡ first_of (faults_in mentions)
-  pub walked : f ≡ None → Walks modules scope after
+  pub walked : f ≡ None → Walks modules new after
+  pub still_open : f ≡ None → new.opened.items ≡ old.opened.items

@@ -1,5 +1,5 @@
 -- The code's table of what a module declares.
-use Rattle.std.specs.Prelude.{◌≡◌, ℕ, suc, ◌<◌, List, [], ◌∷◌, map, if◌then◌else◌, Option, Some, None, slice_get}
+use Rattle.std.specs.Prelude.{◌≡◌, ℕ, suc, List, [], ◌∷◌, map, if◌then◌else◌, Option, Some, None, slice_get}
 use Rattle.std.specs.Str.{bytes_eq}
 use Rattle.std.specs.BTreeMap.{get}
 use Rattle.std.specs.Cmp.Lexicographic.{slice_cmp}
@@ -36,10 +36,11 @@ found_at names (Some id) = held names.declarations id
 abbrev pub found : Names → List ℕ → Option Entry
 found names name = found_at names (get (slice_cmp nat_cmp) names.ids name)
 
--- the table has each declaration, in order and by name, and no name twice
+-- the table has each declaration, in order and by name, the id of each name is held, and no name stands twice
 pub record Tabulates (modules : List PlacedName) (names : Names) (ds : Declarations) : Type 0 where
   pub in_order : map (held names.declarations) names.in_order.items ≡ map Some (entries_from modules 0 ds)
   pub by_name : (n : List ℕ) → found names n ≡ entry_named modules 0 ds n
+  pub filled : (n : List ℕ) → found names n ≡ None → get (slice_cmp nat_cmp) names.ids n ≡ None
   pub once : Distinct (map (λ d. d.named.name) ds)
 
 -- the place of a module's first declared instance of the module of that number
