@@ -4,7 +4,7 @@ ghost use Rattle.std.specs.Prelude.{◌≡◌};
 ghost use Rattle.fir_pass.specs.Faults.{fault_of};
 
 use crate::named::Named;
-use crate::resolve::resolve;
+use crate::circuit_names::resolve;
 use fir_ast::{Circuit, FirFault};
 use fir_base::Refused;
 use fir_pass::{Meant, Pass};
