@@ -1,5 +1,5 @@
 -- What is found among declarations under a name.
-use Rattle.std.proofs.Common.{◌≡◌, ℕ, List, [], ◌∷◌, ◌++◌, map, true, false, Some, None, refl, sym, ap, ◌∙◌, inl, inr, ⊎_elim, subst}
+use Rattle.std.proofs.Common.{◌≡◌, ℕ, List, [], ◌∷◌, ◌++◌, map, true, false, Some, None, refl, sym, ap, inl, inr, ⊎_elim, subst}
 use Rattle.std.specs.Str.{bytes_eq}
 use Rattle.fir_base.specs.Lists.{In, Distinct}
 use Rattle.fir_ast.specs.Statements.{PlacedName}
@@ -56,5 +56,5 @@ map_last (x ∷ ds) d = ap (λ ns. x.named.name ∷ ns) (map_last ds d)
 pub once_more : (ds : Declarations) (d : Declaration) → Once ds → find_name (map (λ d. d.named) ds) d.named.name ≡ None → Once (ds ++ d ∷ [])
 once_more ds d o h =
     let new : In (map (λ d. d.named.name) ds) d.named.name → ⊥ =
-        λ m. unfound (map (λ d. d.named) ds) d.named.name h (subst (λ ns. In ns d.named.name) (sym (names_map ds)) m) in
+    λ m. unfound (map (λ d. d.named) ds) d.named.name h (subst (λ ns. In ns d.named.name) (sym (names_map ds)) m) in
     record { once = subst Distinct (sym (map_last ds d)) (distinct_more (map (λ d. d.named.name) ds) d.named.name o.once new) }

@@ -1,5 +1,5 @@
 -- What is declared grows along a module, and what is visible is declared.
-use Rattle.std.proofs.Common.{◌≡◌, List, [], ◌∷◌, ◌++◌, inl, inr, ⊎_elim, subst}
+use Rattle.std.proofs.Common.{List, [], ◌∷◌, ◌++◌, ⊎_elim}
 use Rattle.fir_base.specs.Lists.{In}
 use Rattle.fir_ast.specs.Statements.{PlacedName, Statement, wire, register, node, instance, memory, when, connect, partial_connect, invalid, skip, Block, done, then}
 use Rattle.fir_ast.specs.Circuits.{PortTree}
@@ -22,8 +22,10 @@ included_front : (ds : Declarations) (d : Declaration) → Included ds (ds ++ d 
 included_front ds d = record { each = λ x m. in_left ds (d ∷ []) x m }
 
 included_more : (ds es : Declarations) (d : Declaration) → Included ds es → Included (ds ++ d ∷ []) (es ++ d ∷ [])
-included_more ds es d h = record { each = λ x m.
-    ⊎_elim (λ (n : In ds x). in_left es (d ∷ []) x (h.each x n)) (λ (n : In (d ∷ []) x). in_right es (d ∷ []) x n) (in_either ds (d ∷ []) x m) }
+included_more ds es d h = record {
+  each = λ x m.
+      ⊎_elim (λ (n : In ds x). in_left es (d ∷ []) x (h.each x n)) (λ (n : In (d ∷ []) x). in_right es (d ∷ []) x n) (in_either ds (d ∷ []) x m);
+}
 
 mutual
   pub grows : (s : Statement) (before : Before) → Included before.declared (behind before s).declared

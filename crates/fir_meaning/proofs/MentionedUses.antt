@@ -1,6 +1,6 @@
 -- What is visible where a name is used.
 -- A name is used in an expression or a sink, where what stands before the statement is visible, or also the register in whose reset it stands.
-use Rattle.std.proofs.Common.{◌≡◌, ℕ, List, [], ◌∷◌, ◌++◌, Option, Some, None, inl, inr, ⊎_elim, subst, sym}
+use Rattle.std.proofs.Common.{ℕ, List, [], ◌∷◌, ◌++◌, Option, Some, None, inl, inr, subst}
 use Rattle.fir_base.specs.Lists.{In}
 use Rattle.fir_ast.specs.declared.place.Place.{Place}
 use Rattle.fir_ast.specs.Types.{DataType, uint, sint, clock, reset, async_reset, bundle, vector, Fields, no_fields, field}
@@ -9,9 +9,9 @@ use Rattle.fir_ast.specs.Statements.{PlacedName, Sink, Reset, MemoryPart, data_t
 use Rattle.fir_ast.specs.Circuits.{PortTree}
 use Rattle.fir_meaning.specs.Components.{Declarations}
 use Rattle.fir_meaning.specs.Components as component
-use Rattle.fir_meaning.specs.Visibility.{Before, with_declaration, opened, reopened, behind, behind_block, behind_ports}
-use Rattle.fir_meaning.specs.Mentions.{Mention, declares, uses, instantiates, placed, names_declared, type_mentions, field_mentions, expression_mentions, part_mentions, operand_mentions, sink_mentions, reset_mentions, port_mentions, ports_of, data_mentions, memory_mentions, mentions, block_mentions, ports_mentions}
-use Rattle.fir_meaning.proofs.GrownDeclarations.{Included, included_all, included_through, grows, grows_block, grows_ports, Declared, declared_more, declared_opened, declared_reopened, declared_behind, declared_ports}
+use Rattle.fir_meaning.specs.Visibility.{Before, with_declaration, opened, reopened, behind, behind_block}
+use Rattle.fir_meaning.specs.Mentions.{Mention, declares, uses, instantiates, placed, type_mentions, field_mentions, expression_mentions, part_mentions, operand_mentions, sink_mentions, reset_mentions, port_mentions, ports_of, data_mentions, memory_mentions, mentions, block_mentions, ports_mentions}
+use Rattle.fir_meaning.proofs.GrownDeclarations.{Included, included_through, grows, grows_block, Declared, declared_more, declared_opened, declared_reopened, declared_behind}
 
 -- what is visible where the mention uses a name is among these
 abbrev pub UsesAmong : Declarations → Mention → Type 0
@@ -109,15 +109,17 @@ mutual
   statement_among modules (register p n begins t c r) before h =
       let after = with_declaration before n (component.register t) in
       let clocked = included_through before.visible before.declared after.declared h.visible (grows (register p n begins t c r) before) in
-      let held = (declared_more before n (component.register t) h).visible in
-      (tt, both_among after.declared (type_mentions t ++ expression_mentions before.visible c) (reset_mentions after.visible r)
-      (both_among after.declared (type_mentions t) (expression_mentions before.visible c) (in_type after.declared t)
-      (in_expression after.declared before.visible clocked c))
-      (in_reset after.declared after.visible held r))
+      let held = (declared_more before n (component.register t) h).visible in (
+        tt,
+        both_among after.declared (type_mentions t ++ expression_mentions before.visible c) (reset_mentions after.visible r)
+            (both_among after.declared (type_mentions t) (expression_mentions before.visible c) (in_type after.declared t)
+            (in_expression after.declared before.visible clocked c))
+            (in_reset after.declared after.visible held r),
+      )
   statement_among modules (node p n e) before h =
       let after = with_declaration before n (component.node e) in
       (tt, in_expression after.declared before.visible (included_through before.visible before.declared after.declared h.visible (grows (node p n e) before)) e)
-  statement_among modules (instance p n m) before h = (tt, tt, tt)
+  statement_among modules (instance p n m) before h = (tt, (tt, tt))
   statement_among modules (memory p n parts) before h = (tt, in_memory (with_declaration before n (component.memory parts)).declared [] parts)
   statement_among modules (when p c a b) before h =
       let inside = behind_block (opened before) a in

@@ -1,19 +1,18 @@
 -- What is visible under a name that is used is what its module declares.
-use Rattle.std.proofs.Common.{◌≡◌, ℕ, List, [], ◌∷◌, ◌++◌, Option, Some, None, refl, sym, inl, inr, ◌∙◌, subst}
+use Rattle.std.proofs.Common.{◌≡◌, ℕ, List, [], ◌∷◌, ◌++◌, Option, Some, None, refl, inl, inr, subst}
 use Rattle.fir_base.specs.Lists.{In}
 use Rattle.fir_ast.specs.declared.place.Place.{Place}
 use Rattle.fir_ast.specs.Statements.{PlacedName}
-use Rattle.fir_ast.specs.Circuits.{ModuleTree, CircuitTree}
-use Rattle.fir_pass.specs.Faults.{Fault}
+use Rattle.fir_ast.specs.Circuits.{ModuleTree}
 use Rattle.fir_meaning.specs.Components.{Declaration, Declarations, find}
-use Rattle.fir_meaning.specs.Visibility.{at_head, behind_ports, behind_block, declarations}
-use Rattle.fir_meaning.specs.Mentions.{Mention, declares, uses, ports_mentions, block_mentions, module_mentions, modules_mentions, module_names, circuit_mentions}
-use Rattle.fir_meaning.specs.NameGroups.{faults_in, hidden_faults, mention_faults, name_group}
+use Rattle.fir_meaning.specs.Visibility.{at_head, behind_ports, declarations}
+use Rattle.fir_meaning.specs.Mentions.{declares, uses, ports_mentions, block_mentions, module_mentions, modules_mentions, module_names, circuit_mentions}
+use Rattle.fir_meaning.specs.NameGroups.{faults_in, hidden_faults, mention_faults}
 use Rattle.fir_meaning.specs.working.NameLaws.{IsOneLookUp, OneLookUp}
 use Rattle.fir_base.proofs.Empty.{empty_at, empty_right}
 use Rattle.fir_meaning.proofs.FoundDeclarations.{Once, found_among, once_found}
-use Rattle.fir_meaning.proofs.GrownDeclarations.{Included, included_all, Declared, declared_ports}
-use Rattle.fir_meaning.proofs.MentionedUses.{AllAmong, both_among, block_among, ports_among, use_among}
+use Rattle.fir_meaning.proofs.GrownDeclarations.{included_all, Declared, declared_ports}
+use Rattle.fir_meaning.proofs.MentionedUses.{both_among, block_among, ports_among, use_among}
 use Rattle.fir_meaning.proofs.OnceDeclared.{clear_left, clear_right, once_block, once_ports}
 
 -- where a list has no members it is empty
@@ -30,8 +29,8 @@ clear_module names before (x ∷ ms) m h i =
     let rest = modules_mentions names (before ++ x.named ∷ []) ms in
     let behind = empty_right (mention_faults (declares before x.named)) (faults_in (here ++ rest)) h in
     elim i as (λ (o : In (x ∷ ms) m). faults_in (module_mentions names m) ≡ []) [
-      inl e ↦ subst (λ (y : ModuleTree). faults_in (module_mentions names y) ≡ []) e (clear_left here rest behind)
-    | inr o ↦ clear_module names (before ++ x.named ∷ []) ms m (clear_right here rest behind) o
+      | inl e ↦ subst (λ (y : ModuleTree). faults_in (module_mentions names y) ≡ []) e (clear_left here rest behind)
+      | inr o ↦ clear_module names (before ++ x.named ∷ []) ms m (clear_right here rest behind) o
     ]
 
 seen : (found : Option Declaration) (p : Place) (n : List ℕ) → hidden_faults found p n ≡ [] → (d : Declaration) × (found ≡ Some d)
@@ -46,7 +45,7 @@ one_look_up_in names m visible p n clear used =
     let body = block_mentions names head m.body in
     let nothing : Declared at_head = record { visible = included_all [] } in
     let among = both_among (declarations m) ports body (ports_among (declarations m) m.ports at_head)
-        (block_among names m.body head (declared_ports m.ports at_head nothing)) in
+    (block_among names m.body head (declared_ports m.ports at_head nothing)) in
     let included = use_among (declarations m) (ports ++ body) visible p n among used in
     let none : Once [] = record { once = tt } in
     let once = once_block names m.body head (once_ports m.ports at_head none (clear_left ports body clear)) (clear_right ports body clear) in

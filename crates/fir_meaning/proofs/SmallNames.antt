@@ -1,7 +1,7 @@
 -- A circuit of the language whose names are there shows no fault of names by the small language's lists.
 -- There the names that are visible are all that are declared, and what may not be read is a port.
-use Rattle.std.proofs.Common.{◌≡◌, ℕ, List, [], ◌∷◌, ◌++◌, map, flat_map, Bool, true, false, Option, Some, None, option_map, refl, sym, ap, ◌∙◌, inl, inr, ◌⊎◌, ⊎_elim, subst, append_assoc, append-nil}
-use Rattle.std.specs.Prelude.{is_none, IsTrue, if◌then◌else◌, codes}
+use Rattle.std.proofs.Common.{◌≡◌, ℕ, List, [], ◌∷◌, ◌++◌, map, flat_map, Bool, true, false, Option, Some, None, option_map, refl, sym, ap, ◌∙◌, ⊎_elim, subst, append_assoc, append-nil}
+use Rattle.std.specs.Prelude.{if◌then◌else◌, codes}
 use Rattle.std.specs.Option.{option_or}
 use Rattle.std.specs.Str.{bytes_eq}
 use Rattle.fir_base.specs.Lists.{In}
@@ -10,22 +10,21 @@ use Rattle.fir_base.specs.declared.direction.Direction.TheVariants as direction
 use Rattle.fir_ast.specs.declared.place.Place.{Place}
 use Rattle.fir_ast.specs.declared.fault.FirFault.TheVariants.{Unknown}
 use Rattle.fir_ast.specs.Types.{DataType, uint, sint, clock, reset, async_reset, bundle, vector}
-use Rattle.fir_ast.specs.Expressions.{Expression, reference, literal, operation, mux, validif, Parts, Expressions, no_expressions, expression}
+use Rattle.fir_ast.specs.Expressions.{Expression, reference, literal, operation, mux, validif, Expressions, no_expressions, expression}
 use Rattle.fir_ast.specs.Statements.{PlacedName, Statement, wire, register, node, instance, memory, when, connect, partial_connect, invalid, skip, Block, done, then}
 use Rattle.fir_ast.specs.Circuits.{PortTree, ModuleTree, CircuitTree}
 use Rattle.fir_meaning.specs.Scopes.{Kind, input, clock_input, output, node_value, register_value, is_readable, Declared, Scope, look_up, declares, port_declared, port_kind, type_of, printed_type, written_type, written_printed}
 use Rattle.fir_meaning.specs.FaultRules.{within, within_each, along, along_ports, faults_by}
-use Rattle.fir_meaning.specs.NameFaults.{is_clock_or_readable, may_be_read, may_be_clock, names_in_expression, name_rule, repeated_name_faults, second_declaration_faults, unreadable_name_faults, undeclared_name_faults, clock_name_faults, statement_name_faults}
-use Rattle.fir_meaning.specs.Faults.{is_module, main_faults}
-use Rattle.fir_meaning.specs.Lack.{Lack, lack, first_lack}
-use Rattle.fir_meaning.specs.Lacking.{lacking, lacking_modules, lacking_module, lacking_forms, lacking_ports, lacking_statement, lacking_statements}
+use Rattle.fir_meaning.specs.NameFaults.{is_clock_or_readable, may_be_read, may_be_clock, names_in_expression, name_rule, repeated_name_faults, unreadable_name_faults, undeclared_name_faults, clock_name_faults, statement_name_faults}
+use Rattle.fir_meaning.specs.Faults.{main_faults}
+use Rattle.fir_meaning.specs.Lack.{lack}
+use Rattle.fir_meaning.specs.Lacking.{lacking, lacking_module, lacking_forms, lacking_ports, lacking_statement, lacking_statements}
 use Rattle.fir_meaning.specs.Unread.{find_port, is_unread, is_no_clock, unread_where, unread_expression, unread_operands, unread_clock, unread_statement, unread_statements, unread_module}
 use Rattle.fir_meaning.specs.Components.{Component, Declaration, Declarations, find, find_name}
 use Rattle.fir_meaning.specs.Components as component
-use Rattle.fir_meaning.specs.Visibility.{Before, declaration_at, with_declaration, behind, behind_block, behind_ports, at_head}
-use Rattle.fir_meaning.specs.Mentions as mention
-use Rattle.fir_meaning.specs.Mentions.{Mention, names_declared, expression_mentions, operand_mentions, part_mentions, mentions, block_mentions, ports_mentions, module_mentions, modules_mentions, module_names, circuit_mentions, type_mentions, reset_mentions, sink_mentions}
-use Rattle.fir_meaning.specs.NameGroups.{HasNames, no_module, faults_in, mention_faults, second_faults, hidden_faults, absent_faults, no_main_faults}
+use Rattle.fir_meaning.specs.Visibility.{Before, declaration_at, with_declaration, behind, behind_ports, at_head}
+use Rattle.fir_meaning.specs.Mentions.{names_declared, expression_mentions, operand_mentions, part_mentions, mentions, block_mentions, ports_mentions, module_mentions, circuit_mentions, type_mentions, reset_mentions, sink_mentions}
+use Rattle.fir_meaning.specs.NameGroups.{HasNames, no_module, faults_in, second_faults, hidden_faults, absent_faults, no_main_faults}
 use Rattle.fir_meaning.specs.working.NameLaws.{NamesLeaveNone}
 use Rattle.fir_base.proofs.Empty.{empty_left, empty_right}
 use Rattle.fir_base.proofs.Members.{in_either}
@@ -63,11 +62,12 @@ not_visible (d ∷ ds) n h =
 -- the ports' declarations under a name, from the ports under it
 port_under : (ps : List PortTree) (n : List ℕ) → look_up (map port_declared ps) n ≡ option_map port_declared (find_port ps n)
 port_under [] n = refl
-port_under (p ∷ ps) n = by (bytes_eq p.named.name n) refl
+port_under (p ∷ ps) n = by (bytes_eq p.named.name n) refl (port_under ps n)
   where
-    by : (b : Bool) → bytes_eq p.named.name n ≡ b → look_up (map port_declared (p ∷ ps)) n ≡ option_map port_declared (find_port (p ∷ ps) n)
-    by true e = rw e refl
-    by false e = rw e (port_under ps n)
+    by : (b : Bool) → bytes_eq p.named.name n ≡ b → look_up (map port_declared ps) n ≡ option_map port_declared (find_port ps n)
+        → look_up (map port_declared (p ∷ ps)) n ≡ option_map port_declared (find_port (p ∷ ps) n)
+    by true e rest = rw e refl
+    by false e rest = rw e rest
 
 -- a port that is read may be read
 readable_port : (d : Direction) (t : DataType) → is_unread d t ≡ false → is_readable (port_kind d t) ≡ true
@@ -254,14 +254,14 @@ mirrors_same ports scope before m = subst (λ s. Mirrors ports s before) (sym (a
 statement_clear : (ports : List PortTree) (modules : List PlacedName) (scope : Scope) (before : Before) (s : Statement) → Mirrors ports scope before
     → lacking_statement s ≡ None → unread_statement ports s ≡ None → faults_in (mentions modules before s) ≡ [] → IsClear ports modules scope before s
 statement_clear ports modules scope before (node p n e) m l u h =
-    let d = record { named = n; kind = node_value; holds = type_of scope e; printed = printed_type scope e; depth = 0 } in
+    let d : Declared = record { named = n; kind = node_value; holds = type_of scope e; printed = printed_type scope e; depth = 0 } in
     let new = empty_left (second_faults (find_name (names_declared before) n.name) n) (faults_in (expression_mentions before.visible e)) h in
     let rest = empty_right (second_faults (find_name (names_declared before) n.name) n) (faults_in (expression_mentions before.visible e)) h in
     let one = new_clear ports scope before n m.declared new in
     let two = within_clear ports scope before m e rest u in
     record { clear = rw (one, two) refl; mirrors = mirrors_more ports scope before d (component.node e) m refl }
 statement_clear ports modules scope before (register p n begins t c r) m l u h =
-    let d = record { named = n; kind = register_value; holds = written_type t; printed = written_printed t; depth = 0 } in
+    let d : Declared = record { named = n; kind = register_value; holds = written_type t; printed = written_printed t; depth = 0 } in
     let typed = type_mentions t in
     let clocked = expression_mentions before.visible c in
     let held = reset_mentions (with_declaration before n (component.register t)).visible r in
@@ -275,7 +275,7 @@ statement_clear ports modules scope before (connect p sink e) m l u h =
     let held = expression_mentions before.visible e in
     let front = clear_left sunk held h in
     let one = sink_clear ports scope before m sink.place sink.name
-        (empty_left (hidden_faults (find before.visible sink.name) sink.place sink.name) (faults_in (part_mentions before.visible sink.parts)) front) in
+    (empty_left (hidden_faults (find before.visible sink.name) sink.place sink.name) (faults_in (part_mentions before.visible sink.parts)) front) in
     let two = within_clear ports scope before m e (clear_right sunk held h) u in
     record { clear = rw (one, two) refl; mirrors = mirrors_same ports scope before m }
 statement_clear ports modules scope before (skip p) m l u h = record { clear = refl; mirrors = mirrors_same ports scope before m }
@@ -364,7 +364,7 @@ small_names : (n : PlacedName) (ms : List ModuleTree) → HasNames (record { nam
     → (flat_map (faults_by name_rule) ms ≡ []) × (main_faults (record { named = n; modules = ms }) ≡ [])
 small_names n [] h l = let none : lack n.place (codes "circuit") ≡ None = l in cc
 small_names n (m ∷ []) h l =
-    let c = record { named = n; modules = m ∷ [] } in
+    let c : CircuitTree = record { named = n; modules = m ∷ [] } in
     let clear = emptied (faults_in (circuit_mentions c)) h.names in
     let inside = module_mentions (m.named ∷ []) m in
     let one = module_clear (m.named ∷ []) m l (clear_left inside [] clear) in

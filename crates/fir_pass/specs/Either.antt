@@ -3,8 +3,8 @@ use Rattle.std.specs.Prelude.{ℕ}
 use Rattle.fir_pass.specs.Faults.{Fault}
 use Rattle.fir_pass.specs.Meaning.{Meaning}
 use Rattle.fir_pass.specs.Law.{Keeps}
-use Rattle.fir_pass.specs.declared.either.Either.{Either}
-use Rattle.fir_pass.specs.declared.either.Either.TheVariants.{One, Two}
+use Rattle.fir_pass.specs.declared.alternative.Either.{Either}
+use Rattle.fir_pass.specs.declared.alternative.Either.TheVariants.{One, Two}
 
 -- the fault that either pass told
 abbrev pub told_by : {A B : Type 0} → (A → Fault) → (B → Fault) → Either A B → Fault

@@ -1,11 +1,11 @@
-//! Two passes in a row.
+//! Two passes in a row, and as one.
 
 ghost use Rattle.std.specs.Prelude.{IfOk};
 ghost use Rattle.fir_pass.specs.Law.{Follows, Keeps, IfFault, IsFirst};
 ghost use Rattle.fir_pass.specs.Either.{told_by, HandsBack};
 
-use crate::either::Either;
-use crate::pass::{Meant, Pass};
+use crate::alternative::Either;
+use crate::law::{Meant, Pass};
 use fir_base::Refused;
 use std::alloc::Global;
 
@@ -31,5 +31,33 @@ pub fn then<A: Pass, B: Pass<In = A::Out>>(
         Ok(last) => Ok(last),
         Err(Refused::Fault(fault)) => Err(Refused::Fault(Either::Two(fault))),
         Err(Refused::Memory) => Err(Refused::Memory),
+    }
+}
+
+/// Two passes as one, for chains of more than two.
+#[derive(Drop)]
+pub struct Chain<A: Pass, B: Pass<In = A::Out>> {
+    pub first: A,
+    pub second: B,
+    ghost follows: { Follows A.from A.upto B.from B.upto },
+}
+
+impl<A: Pass, B: Pass<In = A::Out>> Pass for Chain<A, B> {
+    type In = A::In;
+
+    type Out = B::Out;
+
+    type Fault = Either<A::Fault, B::Fault>;
+
+    ghost from = { A.from };
+
+    ghost upto = { B.upto };
+
+    ghost told = { told_by A.told B.told };
+
+    ghost hands_back = { HandsBack A.from A.upto A.In.meaning A.Out.meaning A.hands_back B.hands_back };
+
+    fn run(&self, alloc: Global, x: A::In) -> Result<B::Out, Refused<Either<A::Fault, B::Fault>>> {
+        then(alloc, &self.first, &self.second, x)
     }
 }

@@ -1,5 +1,5 @@
 -- Two passes in a row keep what each keeps, and tell the first fault of both.
-use Rattle.std.proofs.Common.{◌≡◌, ℕ, ◌+◌, ◌<◌, ◌≤◌, arith, ◌∙◌, ⊎_elim}
+use Rattle.std.proofs.Common.{ℕ, ◌<◌, ◌≤◌, arith, ◌∙◌, ⊎_elim}
 use Rattle.std.proofs.lemmas.Bool.{cases_lt}
 use Rattle.fir_pass.specs.Faults.{Fault}
 use Rattle.fir_pass.specs.Groups.{group_of, IsClear}
@@ -19,9 +19,10 @@ cleared from upto m n h k low after =
 -- what two passes keep
 pub keeps_both : (from upto next last : ℕ) (m n o : Meaning) → Follows from upto next last → Keeps from upto m n → Keeps next last n o → Keeps from last m o
 keeps_both from upto next last m n o e h1 h2 = record {
-  allows = λ state tick shown after.
-      ((λ x. (h2.allows state tick shown after).0 ((h1.allows state tick shown after).0 x)),
-      (λ y. (h1.allows state tick shown after).1 ((h2.allows state tick shown after).1 y)));
+  allows = λ state tick shown after. (
+    (λ x. (h2.allows state tick shown after).0 ((h1.allows state tick shown after).0 x)),
+    (λ y. (h1.allows state tick shown after).1 ((h2.allows state tick shown after).1 y)),
+  );
   one = ((λ x. h2.one.0 (h1.one.0 x)), (λ y. h1.one.1 (h2.one.1 y)));
   clear = λ k low high. cleared from upto m n h1 k low (λ lt. h2.clear k (omega arith) high);
   later = λ k past.
