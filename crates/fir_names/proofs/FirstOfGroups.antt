@@ -1,5 +1,5 @@
 -- From what each group of names has to the first fault of the circuit, and to what the pass keeps.
-use Rattle.std.proofs.Common.{◌≡◌, ℕ, zero, suc, ◌<◌, ◌≤◌, List, [], ◌∷◌, Option, Some, None, Result, Ok, Err, Vec, Global, refl, sym, ap, subst, inl, inr, arith}
+use Rattle.std.proofs.Common.{◌≡◌, ℕ, zero, suc, ◌<◌, ◌≤◌, List, [], ◌∷◌, Option, Some, None, Result, Ok, Err, IfOk, Vec, Global, refl, sym, ap, subst, inl, inr, arith}
 use Rattle.std.proofs.lemmas.Option.{none-some, same_Some}
 use Rattle.fir_base.specs.declared.refused.Refused.{Refused}
 use Rattle.fir_base.specs.declared.refused.Refused.TheVariants.{Fault, Memory}
@@ -8,14 +8,16 @@ use Rattle.fir_base.proofs.Members.{in_flat_map_from}
 use Rattle.fir_ast.specs.declared.place.Place.{Place}
 use Rattle.fir_ast.specs.declared.fault.FirFault.{FirFault}
 use Rattle.fir_ast.specs.Statements.{PlacedName}
+use Rattle.fir_ast.specs.declared.circuit.Circuit.{Circuit}
 use Rattle.fir_ast.specs.Circuits.{CircuitTree}
+use Rattle.fir_ast.specs.View.{circuit_of}
 use Rattle.fir_pass.specs.Faults.{Fault as ToldFault, fault_of}
 use Rattle.fir_pass.specs.Groups.{group_of, first_of, in_order, IsClear}
 use Rattle.fir_pass.specs.Meaning.{Meaning}
 use Rattle.fir_pass.specs.Law.{IsFirst, Keeps}
 use Rattle.fir_meaning.specs.Components.{Declaration, find, find_name}
 use Rattle.fir_meaning.specs.Mentions.{Mention, declares, uses, instantiates, circuit_mentions, module_names}
-use Rattle.fir_meaning.specs.NameGroups.{second_faults, hidden_faults, missing_faults, mention_faults, faults_in, absent_faults, no_main_faults, IsRecursive, HasNames}
+use Rattle.fir_meaning.specs.NameGroups.{second_faults, hidden_faults, missing_faults, mention_faults, faults_in, absent_faults, no_main_faults, IsRecursive, HasNames, name_group}
 use Rattle.fir_meaning.specs.SourceMeaning.{circuit_meaning}
 use Rattle.fir_names.specs.declared.names.Names.{Names}
 use Rattle.fir_names.specs.working.Judged.{JudgesModules, TabulatesEach}
@@ -85,7 +87,6 @@ module _ (c : CircuitTree) where
       first_at 1 3 2 (circuit_meaning c) f (absent_group (find_name (module_names c) c.named.name) c.named f there) (omega arith) (omega arith) h there before
     where
       before : (j : ℕ) → 1 ≤ j → j < 2 → IsClear ((circuit_meaning c).group j)
-      unfolding circuit_meaning
       before zero low high = absurd (omega arith)
       before (suc zero) low high = none_clear (faults_in (circuit_mentions c)) none
       before (suc (suc j)) low high = absurd (omega arith)
@@ -96,7 +97,6 @@ module _ (c : CircuitTree) where
       first_at 1 3 3 (circuit_meaning c) f (ap (λ (g : ToldFault). group_of g.code) r.4) (omega arith) (omega arith) r r before
     where
       before : (j : ℕ) → 1 ≤ j → j < 3 → IsClear ((circuit_meaning c).group j)
-      unfolding circuit_meaning
       before zero low high = absurd (omega arith)
       before (suc zero) low high = none_clear (faults_in (circuit_mentions c)) none
       before (suc (suc zero)) low high = none_clear (no_main_faults c) main
@@ -124,7 +124,7 @@ module _ (c : CircuitTree) where
       main = none_clear (no_main_faults c) (nothing_first (no_main_faults c) main);
       hierarchy = ordered.1;
     };
-    tables = names.1;
+    tabulated = names.1;
     ordered = ordered.0;
   }
 
@@ -147,3 +147,12 @@ module _ (c : CircuitTree) where
     names = refl;
     counts = refl;
   })
+
+  pub names_clear : (ok : faults_in (circuit_mentions c) ≡ []) → IsClear (name_group c)
+  names_clear ok = none_clear (faults_in (circuit_mentions c)) ok
+
+-- what comes out with the same tree means the same
+pub keeps_resolved : {E : Type 0} → (c : Circuit) (r : Result Circuit E) → IfOk r (λ n. n ≡ c) → IfOk r (λ n. HasNames (circuit_of c))
+    → IfOk r (λ n. Keeps 1 3 (circuit_meaning (circuit_of c)) (circuit_meaning (circuit_of n)))
+keeps_resolved c (Ok n) same named = keeps_tree (circuit_of c) (circuit_of n) (ap circuit_of same) named
+keeps_resolved c (Err e) same named = tt

@@ -1,1 +1,3 @@
 pub mod FirstOfGroups
+pub mod TablesByNumber
+pub mod PortEntries
