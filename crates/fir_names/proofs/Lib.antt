@@ -13,3 +13,6 @@ pub mod NamedInstances
 pub mod StatementViews
 pub mod WalkedBlocks
 pub mod WalkedWhens
+pub mod FirstOfGroups
+pub mod TablesByNumber
+pub mod PortEntries

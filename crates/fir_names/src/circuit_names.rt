@@ -22,7 +22,7 @@ use std::alloc::Global;
 /// the order of the text, then E10, then E11 with a shortest closed walk from its first module (FIRRTL spec,
 /// "Circuits", "Namespaces", "Instances"). It takes time of n log n in the text.
 pub fn resolve(alloc: Global, circuit: Circuit) -> Result<Named, Refused<(FirFault, Circuit)>>
-    ensures tree { IfOk result (λ n. n ≡ circuit_of circuit) }
+    ensures tree { IfOk result (λ n. n ≡ circuit) }
     ensures named { IfOk result (λ n. HasNames (circuit_of circuit)) }
     ensures fault { IfFault result (λ f. IsFirst 1 3 (circuit_meaning (circuit_of circuit)) (fault_of f.0)) }
     ensures back { IfFault result (λ f. f.1 ≡ circuit) }

@@ -16,7 +16,7 @@ use Rattle.fir_names.specs.working.Judged.{TabulatesEach}
 
 pub record IsNamed (c : CircuitTree) (tables : List Names) (order : List ℕ) : Type 0 where
   pub clear : HasNames c
-  pub tables : TabulatesEach (module_names c) tables c.modules
+  pub tabulated : TabulatesEach (module_names c) tables c.modules
   pub ordered : IsModuleOrder c order
 
 abbrev pub Judges : CircuitTree → Result (Vec Names Global × Vec ℕ Global) (Refused FirFault) → Type 0
