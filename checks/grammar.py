@@ -6,7 +6,7 @@ and else the first token with which no text of the grammar goes on (grammar_rule
 the grammar it tells the first fault of its names (name_rules.py), or else the first form that
 `emit` lacks (grammar_trees.py).
 
-    grammar.py table     writes the tables of small texts that the tests of fir_parse read
+    grammar.py table     writes the tables of small texts that tests of fir_tests read
     grammar.py check     sees that those tables say of each text what this grammar says, that they
                          use each production, and that the rows of `emit` say so too
     grammar.py cuts      compares `./firc emit` with this grammar on each form with each of its
@@ -27,7 +27,7 @@ from grammar_trees import Tree, first_lacking
 from name_rules import Names
 
 ROOT = pathlib.Path(__file__).resolve().parent.parent
-TESTS = ROOT / "crates/fir_parse/src/tests"
+TESTS = ROOT / "crates/fir_tests/src/trees"
 ROWS = ROOT / "checks/rows"
 
 # Each table by its name, with its texts and what they show.
@@ -48,7 +48,7 @@ def table():
         lines += ["pub const ROWS: &[(&[u8], &[u8])] = &["]
         lines += [f"    ({quoted(text)}, {quoted(Tree(text).form)})," for text in texts]
         (TESTS / f"{name}.rt").write_text("\n".join(lines + ["];", ""]))
-    print("written; rt fmt in crates/fir_parse sets their lines")
+    print("written; rt fmt in crates/fir_tests sets their lines")
 
 
 def strings(path):

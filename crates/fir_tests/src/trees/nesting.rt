@@ -1,6 +1,6 @@
 //! Trees of the greatest nesting.
 
-use crate::tests::tree_of;
+use crate::trees::tree_of;
 use fir_base::MemoryOut;
 use std::alloc::Global;
 use std::test::Fail;

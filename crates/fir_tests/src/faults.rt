@@ -1,11 +1,11 @@
 //! A circuit whose one fault is of the last group, so that each group is looked through, and one with two
 //! faults in one expression.
 
-use crate::check_small;
 use fir_ast::{
     Circuit, Expr, FirFault, Ident, Literal, Module, Place, Port, Reference, Refused, Stmt, Ty,
 };
 use fir_base::{Direction, MemoryOut, Name};
+use fir_check::check_small;
 use std::alloc::Global;
 use std::test::Fail;
 

@@ -6,10 +6,10 @@ mod nesting;
 mod short_form;
 mod spellings;
 
-use crate::text::parse;
 use fir_ast::Place;
 use fir_base::{MemoryOut, Refused};
 use fir_lex::lex;
+use fir_parse::parse;
 use short_form::put_circuit;
 use std::alloc::Global;
 use std::test::Fail;
