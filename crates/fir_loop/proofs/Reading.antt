@@ -4,8 +4,8 @@ use Rattle.std.specs.Prelude.{slice_get}
 use Rattle.std.proofs.lemmas.Option.{slice_get-map}
 use Rattle.fir_base.specs.Lists.{In, Distinct}
 use Rattle.fir_base.proofs.Members.{in_map_from}
-use Rattle.fir_graph.specs.IsOrder as graph
-use Rattle.fir_graph.specs.IsCircle as turning
+use Rattle.fir_graph.specs.working.IsOrder as graph
+use Rattle.fir_graph.specs.working.IsCircle as turning
 use Rattle.fir_net.specs.declared.reads.Read.{Read}
 use Rattle.fir_net.specs.declared.net.FlatNet.{FlatNet}
 use Rattle.fir_net.specs.working.Dependence.{IsOf, Reads}

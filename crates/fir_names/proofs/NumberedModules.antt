@@ -18,7 +18,7 @@ use Rattle.fir_pass.specs.Faults.{Fault}
 use Rattle.fir_pass.specs.Groups.{first_of}
 use Rattle.fir_meaning.specs.Components.{find_name}
 use Rattle.fir_meaning.specs.NameGroups.{absent_faults, no_module}
-use Rattle.fir_names.specs.ModuleOrder.{find_number}
+use Rattle.fir_names.specs.working.ModuleOrder.{find_number}
 use Rattle.fir_names.specs.working.Numbered.{HasNumbers, names_of}
 use Rattle.fir_names.proofs.LookUps.{found_before, found_last, map_last, or_cond}
 

@@ -7,7 +7,7 @@ ghost use Rattle.fir_meaning.specs.Mentions.{module_names};
 ghost use Rattle.fir_meaning.specs.NameGroups.{HasNames};
 ghost use Rattle.fir_meaning.specs.Unread.{find_port};
 ghost use Rattle.fir_meaning.specs.Visibility.{declarations};
-ghost use Rattle.fir_names.specs.ModuleOrder.{IsModuleOrder};
+ghost use Rattle.fir_names.specs.working.ModuleOrder.{IsModuleOrder};
 ghost use Rattle.fir_names.specs.working.Tabulated.{Tabulates};
 ghost use Rattle.fir_names.specs.working.IsNamed.{IsNamed};
 

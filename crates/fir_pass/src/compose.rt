@@ -2,7 +2,7 @@
 
 ghost use Rattle.std.specs.Prelude.{IfOk};
 ghost use Rattle.fir_pass.specs.Law.{Follows, Keeps, IfFault, IsFirst};
-ghost use Rattle.fir_pass.specs.Either.{told_by, HandsBack};
+ghost use Rattle.fir_pass.specs.working.Either.{told_by, HandsBack};
 
 use crate::alternative::Either;
 use crate::law::{Meant, Pass};

@@ -10,7 +10,7 @@ use Rattle.fir_pass.specs.Law.{IsFirst}
 use Rattle.fir_meaning.specs.Mentions.{module_names}
 use Rattle.fir_meaning.specs.NameGroups.{HasNames}
 use Rattle.fir_meaning.specs.SourceMeaning.{circuit_meaning}
-use Rattle.fir_names.specs.ModuleOrder.{IsModuleOrder}
+use Rattle.fir_names.specs.working.ModuleOrder.{IsModuleOrder}
 use Rattle.fir_names.specs.declared.names.Names.{Names}
 use Rattle.fir_names.specs.working.Judged.{TabulatesEach}
 

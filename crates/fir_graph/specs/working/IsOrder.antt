@@ -1,7 +1,7 @@
 -- Orders of the vertices of a graph.
 -- Each vertex stands once, behind all its targets.
 use Rattle.std.specs.Prelude.{◌≡◌, ℕ, ◌<◌, List, slice_get, Some}
-use Rattle.fir_graph.specs.HasTarget.{HasTarget}
+use Rattle.fir_graph.specs.working.HasTarget.{HasTarget}
 
 pub record IsOrder (size : ℕ) (targets : ℕ → List ℕ) (order : List ℕ) : Type 0 where
   pub only : (i v : ℕ) → slice_get order i ≡ Some v → v < size

@@ -4,7 +4,7 @@ use Rattle.std.specs.Prelude.{ℕ, List, [], ◌∷◌, Result, Ok, Err}
 use Rattle.fir_base.specs.declared.refused.Refused.{Refused}
 use Rattle.fir_base.specs.declared.refused.Refused.TheVariants.{Fault, Memory}
 use Rattle.fir_base.specs.Lists.{Distinct}
-use Rattle.fir_graph.specs.HasTarget.{HasTarget}
+use Rattle.fir_graph.specs.working.HasTarget.{HasTarget}
 
 -- from v through the list to w, each has the next as a target
 abbrev pub Chain : (ℕ → List ℕ) → ℕ → List ℕ → ℕ → Type 0
