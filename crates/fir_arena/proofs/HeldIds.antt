@@ -1,6 +1,5 @@
 -- The list of ids has exactly those that are held, and it rises.
-use Rattle.std.proofs.Common.{◌≡◌, ◌↔◌, ℕ, zero, suc, ◌+◌, ◌≤◌, List, [], ◌∷◌, map, get_or, Option, Some, None, is_some, refl, sym, ap, ◌∙◌, inl, inr, add-zero, zero-add, arith}
-use Rattle.std.specs.Prelude.{IsSome}
+use Rattle.std.proofs.Common.{◌≡◌, ◌↔◌, ℕ, zero, suc, ◌+◌, ◌≤◌, List, [], ◌∷◌, map, get_or, Option, Some, None, is_some, IsSome, refl, sym, ap, ◌∙◌, inl, inr, add-zero, zero-add, arith}
 use Rattle.slab.specs.Slab.{entries_from}
 use Rattle.fir_arena.specs.working.Held.{held, ids_from, ids_of, In, IsRising}
 

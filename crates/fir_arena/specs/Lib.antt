@@ -1,1 +1,2 @@
+pub mod formers
 pub mod working

@@ -8,8 +8,9 @@ use std::marker::{Model, PhantomData};
 #[derive_where(Clone, Copy, Debug, PartialEq, Eq)]
 pub struct Id<T> {
     number: usize,
+    // A pointer, since the values themselves may hold ids of their own type.
     #[derive_where(skip)]
-    of: PhantomData<T>,
+    of: PhantomData<*const T>,
 }
 
 impl<T> Model for Id<T> {

@@ -30,8 +30,4 @@ impl<'a, T> Iterator for Ids<'a, T> {
         let (number, _) = self.entries.next()?;
         Some(Id::from_number(number))
     }
-
-    fn size_hint(&self) -> (usize, Option<usize>) {
-        self.entries.size_hint()
-    }
 }

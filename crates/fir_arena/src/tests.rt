@@ -1,6 +1,6 @@
-//! Arenas of numbers, with answers worked by hand.
+//! Small arenas, with answers worked by hand.
 
-use crate::Arena;
+use crate::{Arena, Id};
 use std::test::Fail;
 
 #[test]
@@ -23,17 +23,25 @@ fn what_is_left_keeps_its_value(rt: HostRuntime) -> Result<(), Fail> {
     Ok(())
 }
 
+/// A value that names another of its own type.
+#[derive(Debug, Drop)]
+struct Link {
+    before: Option<Id<Link>>,
+}
+
 #[test]
-fn a_thousand_values_find_room(rt: HostRuntime) -> Result<(), Fail> {
-    let mut arena: Arena<u32> = Arena::new(rt.alloc());
-    for value in 0..1000 {
-        let id = arena.add(value)?;
-        assert_eq!(rt; arena.get(id).copied(), Some(value));
+fn a_chain_of_a_thousand_finds_room(rt: HostRuntime) -> Result<(), Fail> {
+    let mut links = Arena::new(rt.alloc());
+    let mut last = None;
+    for _ in 0..1000 {
+        last = Some(links.add(Link { before: last })?);
     }
-    let mut total = 0u32;
-    for id in arena.ids() {
-        total = total.wrapping_add(arena.get(id).copied().unwrap_or(0));
+    for _ in 0..1000 {
+        let id = last.ok_or("the chain is cut")?;
+        let Link { before } = links.take(id).ok_or("a link is gone")?;
+        last = before;
     }
-    assert_eq!(rt; total, 499_500);
+    assert_eq!(rt; last, None);
+    assert_eq!(rt; links.ids().next(), None);
     Ok(())
 }

@@ -1,7 +1,7 @@
 -- What an arena holds: at each number from 0 on the value under that id, or nothing.
 use Rattle.std.specs.Prelude.{◌≡◌, ◌≢◌, ◌⊎◌, ℕ, ◌+◌, ◌≤◌, List, [], ◌∷◌, Option, Some, None, slice_index_or}
 
--- the id is one of the list
+-- x is one of the list: the same term as `In` of `fir_base`, so that either may stand for the other
 abbrev pub In : {A : Type 0} → List A → A → Type 0
 In [] x = ⊥
 In (y ∷ ys) x = (y ≡ x) ⊎ In ys x
