@@ -11,3 +11,4 @@ pub mod NamedInstances
 pub mod StatementViews
 pub mod WalkedBlocks
 pub mod WalkedWhens
+pub mod WalkedModules
