@@ -3,9 +3,11 @@
 
 Chains of 20000 and 200000 nodes, texts of 8 and 16 MiB of several shapes, and short texts of which
 long ones are made: a port with a name of 4000 bytes that 8192 and 16384 connects read under another
-name. Time goes with the bytes that are read and written. It fails where the time of the second text
-grows by more than 1.25 times what these bytes grow by; times under 0.2 seconds are too short to
-compare. Seconds are those of a processor, the least of three runs.
+name. The last are of forms that emit lacks, and show how the check of names grows: many modules,
+nodes in nested whens, fields of one bundle, ports of one memory, instances, a chain and a ring of
+modules. Time goes with the bytes that are read and written. It fails where the time of the second
+text grows by more than 1.25 times what these bytes grow by; times under 0.2 seconds are too short
+to compare. Seconds are those of a processor, the least of three runs.
 
 usage: growth.py [FIRC]
 """
@@ -96,6 +98,44 @@ def modules(size):
     return "circuit T :\n" + "".join(f"  module M{i} :\n" for i in range(size // 20))
 
 
+def nodes_in_nested_whens(size):
+    """Whens in each other, 100 deep, again and again. In each a node reads a name of the module and
+    the node of the when around it."""
+    def stack(k):
+        for depth in range(100):
+            around, last = " " * (4 + depth), f"n{k}_{depth - 1}" if depth else "a"
+            yield f"{around}when {last} :\n{around} node n{k}_{depth} = and(a, {last})\n"
+
+    return HEAD + "".join(line for k in range(size // 17600) for line in stack(k)) + TAIL
+
+
+def fields_of_one_bundle(size):
+    fields = ",".join(f"f{i}:UInt" for i in range(size // 14))
+    return "circuit T :\n  module T :\n    input b : {" + fields + "}\n"
+
+
+def ports_of_one_memory(size):
+    ports = " ".join(f"r{i}" for i in range(size // 9))
+    return "circuit T :\n  module T :\n    mem m :\n      reader => " + ports + "\n"
+
+
+def instances(size):
+    lines = "".join(f"    inst i{k} of M\n" for k in range(size // 24))
+    return HEAD + lines + TAIL + "  module M :\n"
+
+
+def chain_of_modules(size, last=""):
+    """Modules that instantiate the next one twice each."""
+    count = size // 70
+    lines = "".join(f"  module M{i} :\n    inst a of M{i + 1}\n    inst b of M{i + 1}\n"
+                    for i in range(count))
+    return "circuit M0 :\n" + lines + f"  module M{count} :\n" + last
+
+
+def ring_of_modules(size):
+    return chain_of_modules(size, "    inst a of M0\n    inst b of M0\n")
+
+
 def spent():
     """The seconds of a processor that ended children took."""
     usage = resource.getrusage(resource.RUSAGE_CHILDREN)
@@ -118,7 +158,8 @@ def run(firc, path, text):
 
 SHAPES = (blank_lines, one_comment, chain_of_nodes, one_information, one_long_name,
           one_long_name_used_many_times, skips, connects, many_ports, chain_of_registers, dots,
-          modules)
+          modules, nodes_in_nested_whens, fields_of_one_bundle, ports_of_one_memory, instances,
+          chain_of_modules, ring_of_modules)
 
 
 def texts():

@@ -5,7 +5,7 @@ from operators import Type, result_type
 NAMES = """a b c d o p q r clock clock_0 wire assign assign_0 reg reg_0 always posedge _n0 _n1 x_0
 x""".split()
 WIDTHS = [0, 1, 1, 2, 3, 4, 4, 5, 8, 16, 33, 63, 64, 65, 127, 128]
-WAYS = """form name again module clock sink width integer driver kind arm connect condition
+WAYS = """form name port again module clock sink width integer driver kind arm connect condition
 literal""".split()
 KEEP_THE_KIND = operators.KEEP_THE_KIND + ["mux", "mux", "validif"]
 GIVE_UINT = [op for op in operators.OPERATORS
@@ -66,6 +66,8 @@ class Maker:
         if self.slip("name", 0.1):
             name = self.chance.choice(NAMES)
             return name, self.readable.get(name, Type(is_signed, 0))
+        if self.slip("port", 0.1):
+            return self.chance.choice(self.clocks + list(self.outputs)), Type(is_signed, 0)
         found = [leaf for leaf in self.readable.items() if leaf[1].is_signed == is_signed]
         if found and self.chance.random() < 0.8:
             return self.chance.choice(found)

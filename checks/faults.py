@@ -9,7 +9,7 @@ from operators import Type
 
 OVER = 129
 NO_TYPE = Type(False, 0)
-GROUPS = ["lacking", "names", "main", "types", "widths", "integers", "drivers"]
+GROUPS = ["names", "main", "lacking", "types", "widths", "integers", "drivers"]
 
 
 class Found(typing.NamedTuple):
@@ -25,8 +25,8 @@ class Found(typing.NamedTuple):
 
 
 class Faults:
-    """The faults of a text, group by group in the order of the text. In the first group stands what
-    the language lacks."""
+    """The faults of a text, group by group in the order of the text. What `emit` lacks stands behind
+    the names and the main module."""
 
     def __init__(self, text):
         self.groups = {group: [] for group in GROUPS}
@@ -92,9 +92,10 @@ class Faults:
         self.twice(place, name)
         self.over(place, written.width, name)
         end = self.clock(number, line, line.index(",") + 2)
+        self.known.setdefault(name, ("register", place, written, printed))
         if end < len(line):
             self.groups["lacking"].append(f"E05 {number}:{end + 2} unsupported with")
-        self.known.setdefault(name, ("register", place, written, printed))
+            self.operands(number, line, line.index("=> (", end) + 4)
 
     def clock(self, number, line, at):
         """The byte behind what stands behind a register's comma: a clock; of all else that may be
@@ -167,11 +168,14 @@ class Faults:
         return operands, integers, at
 
     def reference(self, place, name, end):
-        """A name in an expression, where neither outputs nor clocks may be read."""
+        """A name in an expression, where `emit` reads neither outputs nor clocks."""
         kind, _, known, printed = self.known.get(name, (None, None, NO_TYPE, None))
         if kind in ("input", "node", "register"):
             return Found(Type(known.is_signed, min(known.width, OVER)), printed, place, end)
-        self.groups["names"].append(f"E08 {place} unknown {name}")
+        if kind is None:
+            self.groups["names"].append(f"E08 {place} unknown {name}")
+        else:
+            self.groups["lacking"].append(f"E05 {place} unsupported {name}")
         return Found(NO_TYPE, None, place, end)
 
     def literal(self, place, line, at):

@@ -2,9 +2,11 @@
 """Compares firc with a second grammar of FIRRTL texts.
 
 It is restated as productions, and finds by Earley's method whether a text is one of the grammar,
-and else the first token with which no text of the grammar goes on (grammar_rules.py).
+and else the first token with which no text of the grammar goes on (grammar_rules.py). Of a text of
+the grammar it tells the first fault of its names (name_rules.py), or else the first form that
+`emit` lacks (grammar_trees.py).
 
-    grammar.py table     writes the tables of small texts that the tests of fir_parse read
+    grammar.py table     writes the tables of small texts that tests of fir_tests read
     grammar.py check     sees that those tables say of each text what this grammar says, that they
                          use each production, and that the rows of `emit` say so too
     grammar.py cuts      compares `./firc emit` with this grammar on each form with each of its
@@ -22,9 +24,10 @@ import row_files
 from grammar_rules import RULES, Bad, derived, fault, tokens
 from grammar_texts import FORMS_OF_EXPRESSIONS, FORMS_OF_STATEMENTS, HEAD, SPELLED, SPELLINGS
 from grammar_trees import Tree, first_lacking
+from name_rules import Names
 
 ROOT = pathlib.Path(__file__).resolve().parent.parent
-TESTS = ROOT / "crates/fir_parse/src/tests"
+TESTS = ROOT / "crates/fir_tests/src/trees"
 ROWS = ROOT / "checks/rows"
 
 # Each table by its name, with its texts and what they show.
@@ -45,7 +48,7 @@ def table():
         lines += ["pub const ROWS: &[(&[u8], &[u8])] = &["]
         lines += [f"    ({quoted(text)}, {quoted(Tree(text).form)})," for text in texts]
         (TESTS / f"{name}.rt").write_text("\n".join(lines + ["];", ""]))
-    print("written; rt fmt in crates/fir_parse sets their lines")
+    print("written; rt fmt in crates/fir_tests sets their lines")
 
 
 def strings(path):
@@ -145,10 +148,15 @@ OF_TOKENS = "E0[123] .*"
 def line_of(text):
     """The line that firc is to say as a pattern."""
     try:
-        line = fault(text) or first_lacking(text)
+        line = fault(text)
+        names = None if line else Names(text)
     except Bad:
         return OF_TOKENS
-    return re.escape(line) if line else "|E08 .*|E09 .*|E[12].*"
+    line = line or names.first()
+    if not line and names.is_recursive():
+        return "E11 .*"
+    line = line or first_lacking(text)
+    return re.escape(line) if line else "|E1[2-9].*|E2.*"
 
 
 def compare(texts):

@@ -13,10 +13,11 @@ sys.setrecursionlimit(10000)
 
 
 class Tree:
-    """A text of the grammar. `lacking` has the first token of each form that `emit` lacks."""
+    """A text of the grammar. `lacking` has the first token of each form that `emit` lacks, and
+    `ports` the outputs and clocks of the module, which `emit` does not read in expressions."""
 
     def __init__(self, text):
-        self.ts, self.i, self.lacking = tokens(text)[0], 0, []
+        self.ts, self.i, self.lacking, self.ports = tokens(text)[0], 0, [], {}
         self.form = self.text()
 
     def peek(self, ahead=0):
@@ -66,7 +67,7 @@ class Tree:
         out += self.named()
         self.take(":")
         self.take("nl")
-        ports, body = [], []
+        self.ports, ports, body = {}, [], []
         if self.peek()[0] == "in":
             self.take()
             while self.peek()[1] in ("input", "output") and self.peek(2) == ("sign", ":"):
@@ -76,7 +77,9 @@ class Tree:
 
     def port(self):
         direction = self.take()
-        out = direction + " " + self.named() + self.typed(["Clock"] if direction == "input" else [])
+        name, out = self.peek()[1], direction + " " + self.named()
+        self.ports[name] = "clock" if self.peek(1)[1] == "Clock" else direction
+        out += self.typed(["Clock"] if direction == "input" else [])
         self.take("nl")
         return out
 
@@ -144,7 +147,13 @@ class Tree:
         self.take("reg")
         out = "reg " + self.named() + self.typed()
         self.take(",")
-        return out + "," + self.expr() + self.reset()
+        return out + "," + self.clock() + self.reset()
+
+    def clock(self):
+        """What stands behind a register's comma: `emit` has there the name of a clock."""
+        is_alone = self.peek(1)[0] == "nl" or self.peek(1)[1] == "with"
+        is_clock = is_alone and self.ports.get(self.peek()[1]) == "clock"
+        return self.ref() if is_clock else self.expr()
 
     def reset(self):
         if self.peek()[0] == "nl":
@@ -275,6 +284,8 @@ class Tree:
             return self.literal()
         if behind == ("sign", "(") and (word in OPS or word in ("mux", "validif")):
             return self.operation()
+        if self.ports.get(word) in ("output", "clock"):
+            self.lack()
         return self.ref()
 
     def literal(self):

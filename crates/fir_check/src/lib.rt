@@ -20,8 +20,6 @@ mod module;
 mod names;
 mod printed;
 mod scope;
-#[cfg(test)]
-mod tests;
 mod typing;
 mod walked;
 mod widths;

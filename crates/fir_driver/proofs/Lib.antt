@@ -21,3 +21,4 @@ pub mod RunLines
 pub mod Stepped
 pub mod Begun
 pub mod Lining
+pub mod UnreadClocks

@@ -1,13 +1,30 @@
 -- A text that is refused is not taken.
-use Rattle.std.proofs.Common.{◌≡◌, ℕ, List, [], ◌∷◌, true, Some, sym, ap, ◌∙◌, inl, inr}
+use Rattle.std.proofs.Common.{◌≡◌, ℕ, zero, suc, ◌≤◌, List, [], ◌∷◌, true, Some, refl, sym, ap, ◌∙◌, inl, inr, subst, arith}
 use Rattle.std.specs.Prelude.{is_none}
 use Rattle.fir_ast.specs.declared.fault.FirFault.{FirFault}
 use Rattle.fir_ast.specs.Circuits.{CircuitTree}
 use Rattle.fir_parse.specs.working.Laws.{SpellsOneTree, HasTreeOrFault}
 use Rattle.fir_meaning.specs.Faults.{faults}
 use Rattle.fir_meaning.specs.Lacking.{lacking}
+use Rattle.fir_pass.specs.Faults.{Fault, fault_of}
+use Rattle.fir_pass.specs.Groups.{group_of}
+use Rattle.fir_pass.specs.Law.{IsFirst}
+use Rattle.fir_meaning.specs.NameGroups.{HasNames}
+use Rattle.fir_meaning.specs.SourceMeaning.{circuit_meaning}
 use Rattle.fir_driver.specs.Emits.{Takes}
 use Rattle.fir_driver.specs.Refusals.{RefusedFor, Refuses}
+
+-- a circuit that has its names shows no fault of names
+no_name_fault : (c : CircuitTree) (f : Fault) (k : ℕ) → HasNames c → group_of f.code ≡ k → 1 ≤ k → k ≤ 3 → ((circuit_meaning c).group k).shows f → ⊥
+unfolding circuit_meaning
+no_name_fault c f zero named e low high s = absurd (omega arith)
+no_name_fault c f (suc zero) named e low high s = named.names f s
+no_name_fault c f (suc (suc zero)) named e low high s = named.main f s
+no_name_fault c f (suc (suc (suc zero))) named e low high s = named.hierarchy f s
+no_name_fault c f (suc (suc (suc (suc k)))) named e low high s = absurd (omega arith)
+
+named_shows_none : (c : CircuitTree) (f : Fault) → HasNames c → IsFirst 1 3 (circuit_meaning c) f → ⊥
+named_shows_none c f named first = no_name_fault c f (group_of f.code) named refl first.low first.high first.stands
 
 module _ (one : SpellsOneTree) (tree_or_fault : HasTreeOrFault) (bytes : List ℕ) (c : CircuitTree) (taken : Takes bytes c) where
   -- a text that is taken has no fault

@@ -2,7 +2,7 @@
 
 ghost use Rattle.std.specs.Prelude.{◌≡◌, Some, codes, map, option_map, slice_get};
 ghost use Rattle.std.specs.Option.{option_or};
-ghost use Rattle.fir_ast.specs.View.{module_of, port_of, type_of};
+ghost use Rattle.fir_ast.specs.View.{circuit_of, module_of, port_of, type_of};
 ghost use Rattle.fir_ast.specs.Circuits.{ModuleTree};
 ghost use Rattle.fir_meaning.specs.Lack.{first_lack, is_before, lack};
 ghost use Rattle.fir_meaning.specs.Lacking.{lacking, lacking_forms, lacking_module, lacking_port_type, lacking_ports};
@@ -80,7 +80,7 @@ fn first_lack<'a>(one: Option<Lack<'a>>, other: Option<Lack<'a>>) -> Option<Lack
 
 /// In the first module of a circuit.
 fn lacking_module<'a>(named: &Named, part: &'a Module) -> Option<Lack<'a>>
-    requires { slice_get named.now.modules 0 ≡ Some (module_of part.now) }
+    requires { slice_get (circuit_of named.now).modules 0 ≡ Some (module_of part.now) }
     ensures { option_map lack_of result ≡ lacking_module (module_of part.now) }
 {
     let form = lacking_forms(part);
@@ -89,7 +89,7 @@ fn lacking_module<'a>(named: &Named, part: &'a Module) -> Option<Lack<'a>>
 }
 
 fn lacking_second<'a>(named: &Named, first: &'a Module, second: &Module) -> Option<Lack<'a>>
-    requires { slice_get named.now.modules 0 ≡ Some (module_of first.now) }
+    requires { slice_get (circuit_of named.now).modules 0 ≡ Some (module_of first.now) }
     ensures { option_map lack_of result ≡ option_or (lacking_module (module_of first.now)) (lack second.now.place (codes "module")) }
 {
     match lacking_module(named, first) {
@@ -101,7 +101,7 @@ fn lacking_second<'a>(named: &Named, first: &'a Module, second: &Module) -> Opti
 /// The first form that the language lacks, if it lacks one (FIRRTL spec, "Circuits", "Modules",
 /// "Statements", "Expressions").
 pub fn lacking(named: &Named) -> Option<Lack<'_>>
-    ensures { option_map lack_of result ≡ lacking named.now }
+    ensures { option_map lack_of result ≡ lacking (circuit_of named.now) }
 {
     let tree = named.circuit();
     match tree.modules.as_slice() {

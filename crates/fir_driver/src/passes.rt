@@ -57,7 +57,7 @@ fn read_names(alloc: Global, bytes: &[u8]) -> Result<Named, Refused<FirFault>>
     let tree = read_tree(alloc, bytes)?;
     match resolve(alloc, tree) {
         Ok(named) => Ok(named),
-        Err(Refused::Fault((fault, _))) => Err(Refused::Fault(fault)),
+        Err(Refused::Fault((fault, _tree))) => Err(Refused::Fault(fault)),
         Err(Refused::Memory) => Err(Refused::Memory),
     }
 }

@@ -4,7 +4,7 @@ use Rattle.std.specs.Prelude.{slice_get}
 use Rattle.std.proofs.lemmas.Bool.{cases_lt, cases_eq}
 use Rattle.std.proofs.lemmas.Option.{same_Some, slice_get_within}
 use Rattle.fir_graph.specs.declared.marks.Mark.{Mark}
-use Rattle.fir_graph.specs.declared.marks.Mark.TheVariants.{New, Open, Done}
+use Rattle.fir_graph.specs.declared.marks.Mark.TheVariants.{Open, Done}
 use Rattle.fir_graph.specs.working.Searched.{Searched}
 use Rattle.fir_graph.proofs.Writes.{write_same, write_other, SetOr, set_cases, kept}
 use Rattle.fir_graph.proofs.Opening.{same_open}

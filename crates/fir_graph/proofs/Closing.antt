@@ -2,8 +2,8 @@
 use Rattle.std.proofs.Common.{◌≡◌, ℕ, suc, ◌+◌, List, [], ◌∷◌, Some, length, length-drop, drop, refl, sym, ap, ◌∙◌, subst, arith}
 use Rattle.std.specs.Prelude.{slice_get}
 use Rattle.std.proofs.lemmas.Option.{none-some, slice_get_within}
-use Rattle.fir_graph.specs.HasTarget.{HasTarget}
-use Rattle.fir_graph.specs.IsCircle.{Chain, Turns, IsCircle}
+use Rattle.fir_graph.specs.working.HasTarget.{HasTarget}
+use Rattle.fir_graph.specs.working.IsCircle.{Chain, Turns, IsCircle}
 use Rattle.fir_graph.proofs.Positions.{get-drop, distinct_from}
 
 module _ (targets : ℕ → List ℕ) where

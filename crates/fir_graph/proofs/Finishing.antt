@@ -4,9 +4,9 @@ use Rattle.std.specs.Prelude.{slice_get}
 use Rattle.std.proofs.lemmas.Bool.{cases_lt}
 use Rattle.std.proofs.lemmas.Option.{none-some, slice_get_within}
 use Rattle.fir_base.proofs.Elements.{there}
-use Rattle.fir_graph.specs.HasTarget.{HasTarget}
+use Rattle.fir_graph.specs.working.HasTarget.{HasTarget}
 use Rattle.fir_graph.specs.declared.marks.Mark.{Mark}
-use Rattle.fir_graph.specs.declared.marks.Mark.TheVariants.{New, Open, Done}
+use Rattle.fir_graph.specs.declared.marks.Mark.TheVariants.{Open, Done}
 use Rattle.fir_graph.specs.working.Searched.{Searched}
 use Rattle.fir_graph.proofs.Positions.{PushedOr, push_left, push_end, push_cases}
 use Rattle.fir_graph.proofs.Writes.{write_same, write_other, SetOr, set_cases, two_items, kept}

@@ -3,7 +3,7 @@ use Rattle.std.proofs.Common.{◌≡◌, ℕ, ◌<◌, Some, sym, ap, ◌∙◌,
 use Rattle.std.specs.Prelude.{List, slice_get}
 use Rattle.std.proofs.lemmas.Option.{none-some, slice_get_within}
 use Rattle.fir_base.proofs.Elements.{there}
-use Rattle.fir_graph.specs.IsOrder.{IsOrder}
+use Rattle.fir_graph.specs.working.IsOrder.{IsOrder}
 use Rattle.fir_graph.specs.declared.marks.Mark.{Mark}
 use Rattle.fir_graph.specs.declared.marks.Mark.TheVariants.{New, Open, Done}
 use Rattle.fir_graph.specs.declared.search.Search.{Search}

@@ -2,8 +2,8 @@
 use Rattle.std.proofs.Common.{◌≡◌, ℕ, ◌+◌, ◌<◌, List, [], ◌∷◌, ◌++◌, Some, None, length, drop, set, sym, ap, ◌∙◌, subst, inl, inr, arith}
 use Rattle.std.specs.Prelude.{slice_get, slice_set}
 use Rattle.std.proofs.lemmas.Option.{none-some, same_Some, slice_get_within}
-use Rattle.fir_graph.specs.HasTarget.{HasTarget}
-use Rattle.fir_graph.specs.IsCircle.{IsCircle}
+use Rattle.fir_graph.specs.working.HasTarget.{HasTarget}
+use Rattle.fir_graph.specs.working.IsCircle.{IsCircle}
 use Rattle.fir_graph.specs.declared.marks.Mark.{Mark}
 use Rattle.fir_graph.specs.declared.marks.Mark.TheVariants.{New, Open, Done}
 use Rattle.fir_graph.specs.declared.search.Search.{Search}

@@ -1,4 +1,1 @@
-pub mod HasTarget
-pub mod IsOrder
-pub mod IsCircle
 pub mod working

@@ -1,2 +1,5 @@
--- What only the code and the proofs read: the states of a search.
+-- What no clause of `run` reads: graphs, their orders and circles, and the states of a search.
+pub mod HasTarget
+pub mod IsOrder
+pub mod IsCircle
 pub mod Searched

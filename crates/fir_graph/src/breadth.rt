@@ -2,7 +2,7 @@
 //! that nothing has to be known of it; that the circle is a shortest one is tested.
 
 ghost use Rattle.std.specs.Prelude.{IfOk};
-ghost use Rattle.fir_graph.specs.IsCircle.{IsCircle};
+ghost use Rattle.fir_graph.specs.working.IsCircle.{IsCircle};
 
 use crate::circle_check::is_circle;
 use crate::graph::Graph;

@@ -2,8 +2,8 @@
 
 ghost use Rattle.std.specs.Prelude.{IfOk, IsTrue};
 ghost use Rattle.fir_base.specs.Lists.{Distinct};
-ghost use Rattle.fir_graph.specs.HasTarget.{HasTarget};
-ghost use Rattle.fir_graph.specs.IsCircle.{IsCircle, Turns};
+ghost use Rattle.fir_graph.specs.working.HasTarget.{HasTarget};
+ghost use Rattle.fir_graph.specs.working.IsCircle.{IsCircle, Turns};
 
 use crate::graph::Graph;
 use fir_base::MemoryOut;

@@ -1,8 +1,8 @@
 //! The order of a graph's vertices, or a circle.
 
 ghost use Rattle.std.specs.Prelude.{IfOk};
-ghost use Rattle.fir_graph.specs.IsOrder.{IsOrder};
-ghost use Rattle.fir_graph.specs.IsCircle.{IsCircle, IfFault};
+ghost use Rattle.fir_graph.specs.working.IsOrder.{IsOrder};
+ghost use Rattle.fir_graph.specs.working.IsCircle.{IsCircle, IfFault};
 
 use crate::breadth::shortest;
 use crate::graph::Graph;

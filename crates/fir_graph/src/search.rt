@@ -1,7 +1,7 @@
 //! A search by depth from vertices to their targets, without recursion.
 
 ghost use Rattle.std.specs.Prelude.{◌≡◌, ℕ, ◌<◌, IfOk, OnOk, Some, length, drop, slice_get};
-ghost use Rattle.fir_graph.specs.IsCircle.{IsCircle, IfFault};
+ghost use Rattle.fir_graph.specs.working.IsCircle.{IsCircle, IfFault};
 ghost use Rattle.fir_graph.specs.working.Searched.{Knows, IsIdle, IsLast, Entered, Finished, Stepped, Reached};
 
 use crate::graph::Graph;

@@ -1,5 +1,7 @@
 //! Orders and circles of small graphs, against what was worked out by hand.
 
+ghost use Rattle.std.specs.Prelude.{◌≡◌, ◌+◌, ◌^◌, ◌<◌, OnSome, slice_get};
+
 use crate::{Graph, order};
 use fir_base::{MemoryOut, Refused};
 use std::alloc::Global;
@@ -26,8 +28,8 @@ impl Graph for Table {
 
     fn target(&self, vertex: usize, place: usize) -> Option<usize> {
         match self.targets.get(vertex) {
-            Some(row) => match row.get(place) {
-                Some(target) => Some(*target % self.targets.len()),
+            Some(row) => match item(row, place) {
+                Some(target) => Some(target % self.targets.len()),
                 None => None,
             },
             None => None,
@@ -37,6 +39,13 @@ impl Graph for Table {
     fn counts(&self, vertex: usize) -> bool {
         vertex < self.counted
     }
+}
+
+fn item(row: &[usize], place: usize) -> Option<usize>
+    ensures found { result ≡ slice_get row.now place }
+    ensures room { OnSome result (place + 1 < 2 ^ 64) }
+{
+    row.get(place).copied()
 }
 
 /// A graph, how many of its vertices count, whether there is an order, and the order or the circle.

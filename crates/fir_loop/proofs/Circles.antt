@@ -1,5 +1,5 @@
--- Circles of leaves and nodes: that a path closes to one, and that their leaves are closed walks.
-use Rattle.std.proofs.Common.{◌≡◌, ℕ, zero, suc, ◌+◌, ◌-◌, ◌<◌, List, [], ◌∷◌, ◌++◌, Some, length, map, take, get_or, unwrap_or, option_map, length-append, length-drop, drop, refl, sym, ap, ◌∙◌, subst, inl, inr, ◌⊎◌, arith, append-nil}
+-- The leaves of a circle of leaves and nodes are a closed walk.
+use Rattle.std.proofs.Common.{◌≡◌, ℕ, zero, suc, ◌+◌, ◌-◌, ◌<◌, List, [], ◌∷◌, ◌++◌, Some, length, map, take, get_or, unwrap_or, option_map, length-append, refl, sym, ap, ◌∙◌, subst, inl, inr, ◌⊎◌, arith, append-nil}
 use Rattle.std.proofs.lemmas.List.{take_more, map-append}
 use Rattle.std.specs.Prelude.{slice_get}
 use Rattle.std.proofs.lemmas.Option.{none-some, same_Some, slice_get_within, slice_get_read}
@@ -15,30 +15,8 @@ use Rattle.fir_net.specs.working.Dependence.{Reads}
 use Rattle.fir_net.specs.working.IsNet.{IsNet}
 use Rattle.fir_loop.specs.working.IsLoop.{HangsThrough, HangsOn, IsLoop, ShowsLoop, path_of}
 use Rattle.fir_loop.specs.working.IsCircle.{Chain, Turns, IsCircle, leaves_in, AreLeaves}
-use Rattle.fir_loop.proofs.Positions.{push_end, push_cases, get-drop, distinct_from, distinct_at}
+use Rattle.fir_graph.proofs.Positions.{push_end, push_cases, distinct_at}
 use Rattle.fir_loop.proofs.NetReads.{goes_down, reads_from}
-
--- by places or by recursion
-module _ (net : FlatNet) where
-  chain_from : (v : Read) (vs : List Read) (w : Read) → ((i : ℕ) (x y : Read) → slice_get (v ∷ vs) i ≡ Some x → slice_get (v ∷ vs) (suc i) ≡ Some y → Reads net x y) → ((i : ℕ) (x : Read) → slice_get (v ∷ vs) i ≡ Some x → i ≡ length vs → Reads net x w) → Chain net v vs w
-  chain_from v [] w steps last = last 0 v refl refl
-  chain_from v (x ∷ vs) w steps last = (steps 0 v x refl refl, chain_from x vs w (λ i y z p q. steps (suc i) y z p q) (λ i y p e. last (suc i) y p (ap suc e)))
-
-  turns_from : (vs : List Read) (w : Read) → slice_get vs 0 ≡ Some w → ((i : ℕ) (x y : Read) → slice_get vs i ≡ Some x → slice_get vs (suc i) ≡ Some y → Reads net x y) → ((i : ℕ) (x : Read) → slice_get vs i ≡ Some x → suc i ≡ length vs → Reads net x w) → Turns net vs
-  turns_from [] w first steps last = none-some w first
-  turns_from (v ∷ vs) w first steps last = let same : w ≡ v = cc in chain_from v vs v steps (λ i x p e. subst (Reads net x) same (last i x p (ap suc e)))
-
-  -- a path whose last hangs on one of it
-  pub closes : (path : List Read) → ((i j : ℕ) (v : Read) → slice_get path i ≡ Some v → slice_get path j ≡ Some v → i ≡ j) → ((i : ℕ) (v w : Read) → slice_get path i ≡ Some v → slice_get path (i + 1) ≡ Some w → Reads net v w) → (p : ℕ) (w : Read) → slice_get path p ≡ Some w → ((i : ℕ) (x : Read) → slice_get path i ≡ Some x → i + 1 ≡ length path → Reads net x w) → IsCircle net (drop p path)
-  closes path once steps p w at last = record {
-    turns = turns_from (drop p path) w (get-drop p path 0 ∙ ap (slice_get path) (omega arith) ∙ at)
-        (λ i x y h k. steps (p + i) x y (inner i x h) (ap (slice_get path) (omega arith) ∙ inner (suc i) y k))
-        (λ i x h e. last (p + i) x (inner i x h) (omega (arith, e, length-drop p path, slice_get_within path p w at)));
-    once = distinct_from (drop p path) (λ i j x h k. omega (arith, once (p + i) (p + j) x (inner i x h) (inner j x k)));
-  }
-    where
-      inner : (i : ℕ) (x : Read) → slice_get (drop p path) i ≡ Some x → slice_get path (p + i) ≡ Some x
-      inner i x h = sym (get-drop p path i) ∙ h
 
 -- the leaves of joined lists, and which they are
 leaves_in-append : (xs ys : List Read) → leaves_in (xs ++ ys) ≡ leaves_in xs ++ leaves_in ys

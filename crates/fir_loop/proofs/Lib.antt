@@ -1,8 +1,6 @@
-pub mod Positions
 pub mod NetReads
-pub mod Marking
-pub mod SearchSteps
+pub mod Numbering
+pub mod Reading
 pub mod Circles
 pub mod Loops
-pub mod Seeing
 pub mod Heights

@@ -1,7 +1,7 @@
 -- What the leaves and nodes of a whole net hang on.
 use Rattle.std.proofs.Common.{◌≡◌, ℕ, Bool, zero, suc, ◌+◌, ◌<◌, ◌≤◌, List, [], ◌∷◌, ◌++◌, Option, Some, None, length, sym, ap, ◌∙◌, subst, inl, inr, ◌⊎◌, arith, length-append}
 use Rattle.std.specs.Prelude.{slice_get}
-use Rattle.std.proofs.lemmas.Bool.{cases_eq, cases_lt}
+use Rattle.std.proofs.lemmas.Bool.{cases_lt}
 use Rattle.std.proofs.lemmas.Option.{none-some, same_Some, slice_get_within, slice_get_past}
 use Rattle.fir_base.proofs.Elements.{all_there, there}
 use Rattle.fir_net.specs.declared.reads.Read.{Read}
@@ -17,21 +17,6 @@ use Rattle.fir_net.specs.declared.node.Node.TheVariants as node
 use Rattle.fir_net.specs.declared.net.FlatNet.{FlatNet}
 use Rattle.fir_net.specs.working.Dependence.{support_of, kind_reads, reset_reads, role_reads, leaf_reads, node_reads, IsOf, Reads}
 use Rattle.fir_net.specs.working.IsNet.{CanRead, IsNode, AreNodes, CanBeReset, IsRole, IsLeaf, IsNet}
-
--- two are one, or they are not
-pub cases_read : (u v : Read) → (u ≡ v) ⊎ (u ≡ v → ⊥)
-cases_read (read.Leaf j) (read.Leaf k) = by (cases_eq j k)
-  where
-    by : (j ≡ k) ⊎ (j ≡ k → ⊥) → (read.Leaf j ≡ read.Leaf k) ⊎ (read.Leaf j ≡ read.Leaf k → ⊥)
-    by (inl e) = inl (ap read.Leaf e)
-    by (inr n) = inr (λ e. n (cc))
-cases_read (read.Leaf j) (read.Node k) = inr (λ e. cc)
-cases_read (read.Node j) (read.Leaf k) = inr (λ e. cc)
-cases_read (read.Node j) (read.Node k) = by (cases_eq j k)
-  where
-    by : (j ≡ k) ⊎ (j ≡ k → ⊥) → (read.Node j ≡ read.Node k) ⊎ (read.Node j ≡ read.Node k → ⊥)
-    by (inl e) = inl (ap read.Node e)
-    by (inr n) = inr (λ e. n (cc))
 
 -- only what is of the net hangs on anything
 pub reads_from : (net : FlatNet) (v w : Read) → Reads net v w → IsOf net v

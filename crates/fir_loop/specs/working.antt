@@ -3,5 +3,4 @@ pub mod IsLoop
 pub mod Orders
 pub mod Laws
 pub mod IsCircle
-pub mod Marked
-pub mod Searched
+pub mod Numbered

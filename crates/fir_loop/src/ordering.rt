@@ -1,19 +1,15 @@
 //! The order of a net's leaves and nodes, or a closed walk.
 
-ghost use Rattle.std.specs.Prelude.{IfOk};
 ghost use Rattle.fir_net.specs.working.IsNet.{IsNet};
-ghost use Rattle.fir_net.specs.working.IsOrder.{IsOrder};
-ghost use Rattle.fir_loop.specs.working.IsCircle.{IsCircle, IfFault};
 ghost use Rattle.fir_loop.specs.working.Orders.{Orders};
 
-use crate::breadth::shortest;
 use crate::circle::loop_fault;
 use crate::entries::Order;
-use crate::search::Search;
+use crate::net_graph::NetGraph;
 use fir_ast::FirFault;
-use fir_base::{Refused, Seq};
+use fir_base::Refused;
+use fir_net::FlatNet;
 use fir_net::laws::ordered_has_one;
-use fir_net::{FlatNet, LeafId, NodeId, Read};
 use std::alloc::Global;
 
 /// The leaves and nodes of the net in an order in which each stands behind all that it hangs on, nodes in the
@@ -24,31 +20,16 @@ pub fn order(alloc: Global, net: &FlatNet) -> Result<Order, Refused<FirFault>>
     requires { IsNet net.now }
     ensures { Orders net.now result }
 {
-    match search(alloc, net) {
-        Ok(entries) => {
+    let graph = NetGraph::new(net);
+    match fir_graph::order(alloc, &graph) {
+        Ok(order) => {
             ordered_has_one();
-            Ok(Order::from_vec(entries))
+            Ok(Order::from_vec(graph.reads(alloc, order.as_slice())?))
         }
         Err(Refused::Fault(circle)) => {
-            let circle = shortest(alloc, net, circle)?;
+            let circle = graph.reads(alloc, circle.as_slice())?;
             Err(Refused::Fault(loop_fault(alloc, net, circle.as_slice())?))
         }
         Err(Refused::Memory) => Err(Refused::Memory),
     }
-}
-
-/// An order of the net, or leaves and nodes that hang on one another in a circle.
-fn search(alloc: Global, net: &FlatNet) -> Result<Vec<Read>, Refused<Seq<Read>>>
-    requires { IsNet net.now }
-    ensures ok { IfOk result (λ v. IsOrder net.now v.items) }
-    ensures fault { IfFault result (IsCircle net.now) }
-{
-    let mut search = Search::new(alloc, net)?;
-    for node in 0..net.nodes.as_slice().len() {
-        search.reach(alloc, net, Read::Node(NodeId::new(node)))?;
-    }
-    for leaf in 0..net.leaves.as_slice().len() {
-        search.reach(alloc, net, Read::Leaf(LeafId::new(leaf)))?;
-    }
-    Ok(search.into_order())
 }

@@ -19,12 +19,13 @@ use Rattle.fir_meaning.specs.LegalityFaults.{legality_rule}
 use Rattle.fir_meaning.specs.DrivenFaults.{is_connected, output_faults, undriven_faults}
 use Rattle.fir_meaning.specs.Faults.{is_module, main_faults, Faultless}
 use Rattle.fir_meaning.specs.Lack.{lack}
-use Rattle.fir_meaning.specs.Lacking.{lacking_module, lacking_port_type, lacking_ports, lacking_statements, lacking}
+use Rattle.fir_meaning.specs.Unread.{unread_module}
+use Rattle.fir_meaning.specs.Lacking.{lacking_forms, lacking_module, lacking_port_type, lacking_ports, lacking_statements, lacking}
 use Rattle.fir_meaning.specs.working.Clean.{IsPortType, IsCleanPort, AreCleanPorts, IsCleanModule, IsCleanCircuit}
 use Rattle.fir_meaning.specs.working.Laws.{FaultlessIsClean}
 use Rattle.fir_base.proofs.Empty.{empty_left, empty_right, empty_at}
 use Rattle.fir_meaning.proofs.PassedTests.{passes, fails}
-use Rattle.fir_meaning.proofs.NothingLacking.{nothing, neither}
+use Rattle.fir_meaning.proofs.NothingLacking.{none_first, nothing, neither}
 use Rattle.fir_base.proofs.SameNames.{name_is}
 use Rattle.fir_meaning.proofs.LookUps.{once_found}
 use Rattle.fir_meaning.proofs.SoundScopes.{Sound, none_sound}
@@ -121,7 +122,7 @@ clean_circuit n (m ∷ []) l h =
       only = refl;
       named = name_is m.named.name n.name main;
       clean = clean_module m (record {
-        language = neither (lacking_ports m.ports) (lacking_statements m.body) l;
+        language = neither (lacking_ports m.ports) (lacking_statements m.body) (none_first (lacking_forms m) (unread_module m) l).0;
         names = empty_left names mains f;
         types = empty_right (names ++ mains) types w;
         widths = empty_right (names ++ mains ++ types) wides d;

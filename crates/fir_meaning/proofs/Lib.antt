@@ -29,3 +29,9 @@ pub mod CleanCircuits
 pub mod CircuitValues
 pub mod OneCircuit
 pub mod OneRun
+pub mod FoundDeclarations
+pub mod GrownDeclarations
+pub mod MentionedUses
+pub mod OnceDeclared
+pub mod OneLookUp
+pub mod SmallNames

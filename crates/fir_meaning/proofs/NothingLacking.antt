@@ -8,6 +8,7 @@ use Rattle.fir_bits.specs.OperatorWords.{operator_word}
 use Rattle.fir_ast.specs.declared.place.Place.{Place}
 use Rattle.fir_ast.specs.Expressions.{operation, Expressions}
 use Rattle.fir_ast.specs.Statements.{Reset}
+use Rattle.fir_meaning.specs.Lack.{Lack, is_before, first_lack}
 use Rattle.fir_meaning.specs.Lacking.{count, is_operation, lacking_expression, lacking_operands, lacking_reset}
 use Rattle.fir_base.proofs.Tests.{both}
 
@@ -19,6 +20,16 @@ nothing (Some x) h = cc
 pub neither : {A : Type 0} → (a b : Option A) → option_or a b ≡ None → (a ≡ None) × (b ≡ None)
 neither None b h = (refl, h)
 neither (Some x) b h = cc
+
+-- of two forms neither is lacking
+pub none_first : (a b : Option Lack) → first_lack a b ≡ None → (a ≡ None) × (b ≡ None)
+none_first None b h = (refl, h)
+none_first (Some x) None h = cc
+none_first (Some x) (Some y) h = by (is_before y.place x.place) h
+  where
+    by : (t : Bool) → (if t then Some y else Some x) ≡ None → (Some x ≡ None) × (Some y ≡ None)
+    by true e = cc
+    by false e = cc
 
 -- a test without which there is an answer
 pub passed : {A : Type 0} → (b : Bool) (o : Option A) (x : A) → (if b then o else Some x) ≡ None → (b ≡ true) × (o ≡ None)

@@ -1,6 +1,6 @@
 -- What a module declares, over the whole language (FIRRTL spec, "Ports", "Wires", "Registers", "Nodes", "Instances", "Memories").
 -- A component is declared with its type as it is written; widths are found later.
-use Rattle.std.specs.Prelude.{ℕ, List, [], ◌∷◌, Bool, false, ◌||◌, if◌then◌else◌, Option, Some, None}
+use Rattle.std.specs.Prelude.{ℕ, List, [], ◌∷◌, if◌then◌else◌, Option, Some, None}
 use Rattle.std.specs.Str.{bytes_eq}
 use Rattle.fir_base.specs.declared.direction.Direction.{Direction}
 use Rattle.fir_ast.specs.Types.{DataType}

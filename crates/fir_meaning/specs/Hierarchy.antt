@@ -1,6 +1,6 @@
 -- Which modules have instances of which (FIRRTL spec, "Instances").
 -- A circuit of modules that have one another as instances, in a closed walk, has no end: E11.
-use Rattle.std.specs.Prelude.{◌≡◌, ℕ, List, [], ◌∷◌, ◌++◌}
+use Rattle.std.specs.Prelude.{◌≡◌, ℕ, List, [], ◌∷◌}
 use Rattle.fir_base.specs.Lists.{In, Distinct}
 use Rattle.fir_ast.specs.declared.place.Place.{Place}
 use Rattle.fir_ast.specs.Circuits.{ModuleTree}

@@ -7,7 +7,7 @@ use Rattle.fir_ast.specs.Statements.{PlacedName}
 use Rattle.fir_ast.specs.Circuits.{CircuitTree}
 use Rattle.fir_pass.specs.Faults.{Fault, E08, E09, E10, E11}
 use Rattle.fir_pass.specs.Groups.{Group, in_order, any_of, IsClear}
-use Rattle.fir_meaning.specs.Components.{Declarations, Declaration, find, find_name}
+use Rattle.fir_meaning.specs.Components.{Declaration, find, find_name}
 use Rattle.fir_meaning.specs.Mentions.{Mention, declares, uses, instantiates, circuit_mentions, module_names}
 use Rattle.fir_meaning.specs.Hierarchy.{IsClosedWalk}
 

@@ -1,15 +1,14 @@
 -- What a circuit means, as the law of passes sees it.
 -- What it allows is said where nothing is lacking so far, and so are its faults behind those of names; a circuit in which something is lacking allows nothing.
-use Rattle.std.specs.Prelude.{ℕ, List, [], map, flat_map, length, IsTrue}
-use Rattle.fir_base.specs.Ticks.{Tick}
+use Rattle.std.specs.Prelude.{List, [], map, flat_map, length, IsTrue}
 use Rattle.fir_ast.specs.declared.fault.FirFault.{FirFault}
 use Rattle.fir_ast.specs.Circuits.{ModuleTree, CircuitTree}
 use Rattle.fir_pass.specs.Faults.{fault_of}
 use Rattle.fir_pass.specs.Groups.{Group, Groups, no_groups, then_group, in_order, group_at}
 use Rattle.fir_pass.specs.Meaning.{Meaning, ShapeNames, Counts}
-use Rattle.fir_meaning.specs.Leaves.{leaves, clocks, inputs, outputs, register_leaves, leaves_of, state_leaves, paths, shape, main_scope}
+use Rattle.fir_meaning.specs.Leaves.{clocks, inputs, outputs, register_leaves, leaves_of, state_leaves, paths, shape, main_scope}
 use Rattle.fir_meaning.specs.Allows.{Allows, One}
-use Rattle.fir_meaning.specs.FaultRules.{Rule, faults_by}
+use Rattle.fir_meaning.specs.FaultRules.{faults_by}
 use Rattle.fir_meaning.specs.TypeFaults.{type_rule}
 use Rattle.fir_meaning.specs.WidthFaults.{width_rule}
 use Rattle.fir_meaning.specs.LegalityFaults.{legality_rule}

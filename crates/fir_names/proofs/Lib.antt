@@ -1,6 +1,8 @@
 pub mod FirstMentions
 pub mod LookUps
+pub mod HeldNames
 pub mod NumberedModules
+pub mod WalkedNames
 pub mod TableEntries
 pub mod OpenBlocks
 pub mod GrownTables
@@ -12,3 +14,6 @@ pub mod StatementViews
 pub mod WalkedBlocks
 pub mod WalkedWhens
 pub mod WalkedModules
+pub mod FirstOfGroups
+pub mod TablesByNumber
+pub mod PortEntries

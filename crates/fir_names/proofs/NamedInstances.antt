@@ -4,7 +4,7 @@ use Rattle.std.specs.Prelude.{Option}
 use Rattle.fir_ast.specs.Statements.{PlacedName}
 use Rattle.fir_meaning.specs.Components.{find_name}
 use Rattle.fir_meaning.specs.NameGroups.{missing_faults, unknown}
-use Rattle.fir_names.specs.ModuleOrder.{find_number}
+use Rattle.fir_names.specs.working.ModuleOrder.{find_number}
 use Rattle.fir_names.specs.working.Numbered.{number_of}
 use Rattle.fir_names.proofs.NumberedModules.{has_number}
 

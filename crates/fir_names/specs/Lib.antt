@@ -1,2 +1,1 @@
-pub mod ModuleOrder
 pub mod working

@@ -1,6 +1,6 @@
 //! The names in an expression: each is visible (E08).
 
-ghost use Rattle.std.specs.Prelude.{◌≡◌, [], ◌∷◌, IfOk, map, option_map};
+ghost use Rattle.std.specs.Prelude.{◌≡◌, IfOk, map, option_map};
 ghost use Rattle.fir_ast.specs.View.{expr_of, expressions_of, sink_of};
 ghost use Rattle.fir_pass.specs.Faults.{fault_of};
 ghost use Rattle.fir_pass.specs.Groups.{first_of};

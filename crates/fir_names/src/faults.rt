@@ -16,12 +16,7 @@ pub fn unknown(alloc: Global, place: Place, name: &Name) -> Result<FirFault, Mem
 }
 
 /// E09: a second declaration of a name, and the place of the first.
-pub fn twice(
-    alloc: Global,
-    place: Place,
-    name: &Name,
-    first: Place,
-) -> Result<FirFault, MemoryOut>
+pub fn twice(alloc: Global, place: Place, name: &Name, first: Place) -> Result<FirFault, MemoryOut>
     ensures { IfOk result (λ f. fault_of f ≡ group.twice place name.now first) }
 {
     Ok(FirFault::Twice(place, name.copy(alloc)?, first))

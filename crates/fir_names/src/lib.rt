@@ -9,6 +9,7 @@
 //! module's table: no later pass walks scopes again.
 #![tactic(auto)]
 
+mod circuit_names;
 mod declaration;
 mod expressions;
 mod faults;
@@ -24,15 +25,14 @@ mod namespace;
 mod numbers;
 mod pass;
 mod recursion;
-mod resolve;
 mod scope;
 mod statements;
 
+pub use circuit_names::resolve;
 pub use declaration::{Component, Declaration};
 pub use named::Named;
 pub use names::Names;
 pub use pass::{Parsed, Resolve};
-pub use resolve::resolve;
 
 #[cfg(test)]
 mod tests;

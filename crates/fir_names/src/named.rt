@@ -1,13 +1,13 @@
 //! A circuit whose names are resolved.
 
-ghost use Rattle.std.specs.Prelude.{◌≡◌, IfSome, Some, option_copied, option_map, slice_get};
+ghost use Rattle.std.specs.Prelude.{◌≡◌, IsSomeAnd, Some, option_copied, option_map, slice_get};
 ghost use Rattle.fir_ast.specs.Circuits.{ModuleTree};
 ghost use Rattle.fir_ast.specs.View.{circuit_of, port_of};
 ghost use Rattle.fir_meaning.specs.Mentions.{module_names};
 ghost use Rattle.fir_meaning.specs.NameGroups.{HasNames};
 ghost use Rattle.fir_meaning.specs.Unread.{find_port};
 ghost use Rattle.fir_meaning.specs.Visibility.{declarations};
-ghost use Rattle.fir_names.specs.ModuleOrder.{IsModuleOrder};
+ghost use Rattle.fir_names.specs.working.ModuleOrder.{IsModuleOrder};
 ghost use Rattle.fir_names.specs.working.Tabulated.{Tabulates};
 ghost use Rattle.fir_names.specs.working.IsNamed.{IsNamed};
 
@@ -27,13 +27,17 @@ pub struct Named {
 }
 
 impl Model for Named {
-    ghost use Rattle.fir_ast.specs.Circuits.{CircuitTree};
+    ghost use Rattle.fir_ast.specs.declared.circuit.Circuit as tree;
+    ghost use Rattle.fir_ast.specs.contracts.circuit.Circuit as contract;
+
+    ghost Value = { tree.Circuit };
+
+    ghost coded = { contract.the_row.coded };
+
     ghost use Rattle.fir_ast.specs.View.{circuit_of};
     ghost use Rattle.fir_names.specs.working.IsNamed.{IsNamed};
 
-    ghost Value = { CircuitTree };
-
-    ghost view = { λ n. circuit_of n.circuit };
+    ghost view = { λ n. n.circuit };
 
     ghost invariant = { λ n. IsNamed (circuit_of n.circuit) n.tables.items n.order.items };
 }
@@ -42,7 +46,7 @@ impl Named {
     /// The circuit with these tables and this order.
     pub(crate) fn new(circuit: Circuit, tables: Vec<Names>, order: Vec<usize>) -> Named
         requires { IsNamed (circuit_of circuit) tables.items order.items }
-        ensures { result ≡ circuit_of circuit }
+        ensures { result ≡ circuit }
     {
         Named {
             circuit,
@@ -53,29 +57,29 @@ impl Named {
 
     /// The tree.
     pub fn circuit(&self) -> &Circuit
-        ensures tree { circuit_of result.now ≡ self.now }
-        ensures named { HasNames self.now }
+        ensures tree { result.now ≡ self.now }
+        ensures named { HasNames (circuit_of self.now) }
     {
         &self.circuit
     }
 
     /// The tree alone.
     pub fn into_circuit(self) -> Circuit
-        ensures { circuit_of result ≡ self }
+        ensures { result ≡ self }
     {
         self.circuit
     }
 
     /// The table of the module with that number, from 0 on in the order of the text.
     pub fn names(&self, module_number: usize) -> Option<&Names>
-        ensures { (m : ModuleTree) → slice_get self.now.modules module_number ≡ Some m → IfSome result (λ t. Tabulates (module_names self.now) t.now (declarations m)) }
+        ensures { (m : ModuleTree) → slice_get (circuit_of self.now).modules module_number ≡ Some m → IsSomeAnd result (λ t. Tabulates (module_names (circuit_of self.now)) t.now (declarations m)) }
     {
         self.tables.get(module_number)
     }
 
     /// The port that a name declares in the module with that number.
     pub fn port(&self, module_number: usize, name: &Name) -> Option<&Port>
-        ensures { (m : ModuleTree) → slice_get self.now.modules module_number ≡ Some m → option_map port_of (option_copied result) ≡ find_port m.ports name.now }
+        ensures { (m : ModuleTree) → slice_get (circuit_of self.now).modules module_number ≡ Some m → option_map port_of (option_copied result) ≡ find_port m.ports name.now }
     {
         let declaration = self.tables.get(module_number)?.find(name)?;
         let Component::Port(_) = declaration.component else {
@@ -87,7 +91,7 @@ impl Named {
 
     /// The numbers of the modules in an order in which each stands behind those that it has instances of.
     pub fn module_order(&self) -> &[usize]
-        ensures { IsModuleOrder self.now result.now }
+        ensures { IsModuleOrder (circuit_of self.now) result.now }
     {
         self.order.as_slice()
     }

@@ -1,9 +1,8 @@
 //! The numbers of a circuit's modules, by name.
 
-ghost use Rattle.std.specs.Prelude.{◌≡◌, List, IfOk, map, option_copied};
-ghost use Rattle.fir_ast.specs.Statements.{PlacedName};
+ghost use Rattle.std.specs.Prelude.{IfOk, map};
 ghost use Rattle.fir_ast.specs.View.{module_of};
-ghost use Rattle.fir_names.specs.working.Numbered.{HasNumbers, names_of, number_named};
+ghost use Rattle.fir_names.specs.working.Numbered.{HasNumbers, names_of};
 
 use fir_ast::Module;
 use fir_base::{MemoryOut, Name};

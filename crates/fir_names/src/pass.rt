@@ -3,8 +3,8 @@
 ghost use Rattle.std.specs.Prelude.{◌≡◌};
 ghost use Rattle.fir_pass.specs.Faults.{fault_of};
 
+use crate::circuit_names::resolve;
 use crate::named::Named;
-use crate::resolve::resolve;
 use fir_ast::{Circuit, FirFault};
 use fir_base::Refused;
 use fir_pass::{Meant, Pass};
@@ -24,9 +24,10 @@ impl Meant for Parsed {
 }
 
 impl Meant for Named {
+    ghost use Rattle.fir_ast.specs.View.{circuit_of};
     ghost use Rattle.fir_meaning.specs.SourceMeaning.{circuit_meaning};
 
-    ghost meaning = { λ n. circuit_meaning n };
+    ghost meaning = { λ n. circuit_meaning (circuit_of n) };
 }
 
 /// Resolves names: the faults of the first three groups, E08 to E11.

@@ -28,7 +28,9 @@ pub fn module_order(
     circuit: &Circuit,
     tables: &[Names],
 ) -> Result<Vec<usize>, Refused<FirFault>>
-    ensures { TabulatesEach (module_names (circuit_of circuit.now)) tables.now (circuit_of circuit.now).modules → IsClear (name_group (circuit_of circuit.now)) → OrdersModules (circuit_of circuit.now) result }
+    requires tabulated { TabulatesEach (module_names (circuit_of circuit.now)) tables.now (circuit_of circuit.now).modules }
+    requires names { IsClear (name_group (circuit_of circuit.now)) }
+    ensures { OrdersModules (circuit_of circuit.now) result }
 {
     let hierarchy = Hierarchy::new(alloc, tables)?;
     match order(alloc, &hierarchy) {

@@ -32,6 +32,3 @@ pub use fir_ast::{Circuit, FirFault};
 pub use fir_base::{MemoryOut, Refused};
 pub use fir_lex::Tokens;
 pub use text::parse;
-
-#[cfg(test)]
-mod tests;

@@ -2,5 +2,4 @@ pub mod Faults
 pub mod Groups
 pub mod Meaning
 pub mod Law
-pub mod Either
 pub mod working

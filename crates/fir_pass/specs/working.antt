@@ -1,2 +1,3 @@
--- What no clause of a public call reads: the trees of the tests.
+-- What no clause of `run` reads: the fault of one of two passes, and the trees of the tests.
+pub mod Either
 pub mod Sketches

@@ -88,7 +88,12 @@ fn told(alloc: Global, x: Sketch) -> Option<(u8, Sketch)> {
 
 #[test]
 fn the_first_fault_of_two_passes_is_told(rt: HostRuntime) -> Result<(), Fail> {
-    let table = [(false, false, 0), (true, false, 1), (false, true, 2), (true, true, 1)];
+    let table = [
+        (false, false, 0),
+        (true, false, 1),
+        (false, true, 2),
+        (true, true, 1),
+    ];
     for (unnamed, looped, pass) in table {
         let x = Sketch { unnamed, looped };
         let wanted = if pass == 0 { None } else { Some((pass, x)) };

@@ -9,7 +9,6 @@ use Rattle.fir_ast.specs.View.{circuit_of}
 use Rattle.fir_parse.specs.Spells.{Spells}
 use Rattle.fir_parse.specs.TextFaults.{TextFault}
 use Rattle.fir_driver.specs.Emits.{Emits, Takes}
-use Rattle.fir_ast.specs.Circuits.{CircuitTree}
 use Rattle.fir_meaning.specs.NameGroups.{HasNames}
 use Rattle.fir_meaning.specs.Lack.{Lack}
 use Rattle.fir_driver.specs.Refusals.{RefusedFor, ShowsName}
@@ -26,14 +25,14 @@ IsUnsupported l (refused.Fault f) = f ≡ Unsupported l.place l.word
 IsUnsupported l refused.Memory = Unit {0}
 
 -- the tree that the text spells, in which no fault of names stands, or the fault for which it is refused
-abbrev pub IsNamedTree : List ℕ → Result CircuitTree (Refused FirFault) → Type 0
-IsNamedTree bytes (Ok t) = Spells bytes t × HasNames t
+abbrev pub IsNamedTree : List ℕ → Result Circuit (Refused FirFault) → Type 0
+IsNamedTree bytes (Ok t) = Spells bytes (circuit_of t) × HasNames (circuit_of t)
 IsNamedTree bytes (Err (refused.Fault f)) = TextFault bytes f ⊎ ShowsName bytes f
 IsNamedTree bytes (Err refused.Memory) = Unit {0}
 
 -- the circuit that the text spells, which is taken, or the fault for which it is refused
-abbrev pub IsTaken : List ℕ → Result CircuitTree (Refused FirFault) → Type 0
-IsTaken bytes (Ok t) = Takes bytes t
+abbrev pub IsTaken : List ℕ → Result Circuit (Refused FirFault) → Type 0
+IsTaken bytes (Ok t) = Takes bytes (circuit_of t)
 IsTaken bytes (Err (refused.Fault f)) = RefusedFor bytes f
 IsTaken bytes (Err refused.Memory) = Unit {0}
 

@@ -2,7 +2,7 @@
 
 ghost use Rattle.std.specs.Prelude.{◌≡◌, Some, map, option_map, slice_get};
 ghost use Rattle.fir_ast.specs.Circuits.{ModuleTree};
-ghost use Rattle.fir_ast.specs.View.{block_of, expr_of, expressions_of, stmt_of, type_of};
+ghost use Rattle.fir_ast.specs.View.{block_of, circuit_of, expr_of, expressions_of, stmt_of, type_of};
 ghost use Rattle.fir_meaning.specs.Unread.{find_port, is_clock, is_no_clock, is_unread, unread_clock, unread_expression, unread_operands, unread_statement, unread_statements, unread_where};
 ghost use Rattle.fir_driver.specs.working.Lacked.{lack_of};
 
@@ -13,7 +13,7 @@ use fir_names::Named;
 
 /// In the statements of the first module.
 pub fn unread_statements<'a>(named: &Named, body: &'a [Stmt]) -> Option<Lack<'a>>
-    ensures { (m : ModuleTree) → slice_get named.now.modules 0 ≡ Some m → option_map lack_of result ≡ unread_statements m.ports (block_of (map stmt_of body.now)) }
+    ensures { (m : ModuleTree) → slice_get (circuit_of named.now).modules 0 ≡ Some m → option_map lack_of result ≡ unread_statements m.ports (block_of (map stmt_of body.now)) }
 {
     for stmt in body {
         if let Some(lack) = unread_statement(named, stmt) {
@@ -24,7 +24,7 @@ pub fn unread_statements<'a>(named: &Named, body: &'a [Stmt]) -> Option<Lack<'a>
 }
 
 fn unread_statement<'a>(named: &Named, stmt: &'a Stmt) -> Option<Lack<'a>>
-    ensures { (m : ModuleTree) → slice_get named.now.modules 0 ≡ Some m → option_map lack_of result ≡ unread_statement m.ports (stmt_of stmt.now) }
+    ensures { (m : ModuleTree) → slice_get (circuit_of named.now).modules 0 ≡ Some m → option_map lack_of result ≡ unread_statement m.ports (stmt_of stmt.now) }
 {
     match stmt {
         Stmt::Node(_, _, value) => unread_expression(value, named),
@@ -42,20 +42,23 @@ fn unread_statement<'a>(named: &Named, stmt: &'a Stmt) -> Option<Lack<'a>>
 
 /// Behind a register's comma, where a clock may stand by its name.
 fn unread_clock<'a>(named: &Named, clock: &'a Expr) -> Option<Lack<'a>>
-    ensures { (m : ModuleTree) → slice_get named.now.modules 0 ≡ Some m → option_map lack_of result ≡ unread_clock m.ports (expr_of clock.now) }
+    ensures { (m : ModuleTree) → slice_get (circuit_of named.now).modules 0 ≡ Some m → option_map lack_of result ≡ unread_clock m.ports (expr_of clock.now) }
 {
     match clock {
         Expr::Ref(reference) => match named.port(0, &reference.name) {
             Some(port) if is_no_clock(port) => told(reference.place, reference.name.as_bytes()),
             _ => None,
         },
-        _ => unread_expression(clock, named),
+        Expr::Literal(_) => None,
+        Expr::Op(_, _, _, _) => unread_expression(clock, named),
+        Expr::Mux(_, _, _, _) => unread_expression(clock, named),
+        Expr::Validif(_, _, _) => unread_expression(clock, named),
     }
 }
 
 #[cycle(expressions)]
 fn unread_expression<'a>(expr: &'a Expr, named: &Named) -> Option<Lack<'a>>
-    ensures { (m : ModuleTree) → slice_get named.now.modules 0 ≡ Some m → option_map lack_of result ≡ unread_expression m.ports (expr_of expr.now) }
+    ensures { (m : ModuleTree) → slice_get (circuit_of named.now).modules 0 ≡ Some m → option_map lack_of result ≡ unread_expression m.ports (expr_of expr.now) }
 {
     match expr {
         Expr::Ref(reference) => unread_name(named, reference),
@@ -72,7 +75,7 @@ fn unread_expression<'a>(expr: &'a Expr, named: &Named) -> Option<Lack<'a>>
 
 #[cycle(expressions)]
 fn unread_operands<'a>(operands: &'a [Expr], named: &Named) -> Option<Lack<'a>>
-    ensures { (m : ModuleTree) → slice_get named.now.modules 0 ≡ Some m → option_map lack_of result ≡ unread_operands m.ports (expressions_of (map expr_of operands.now)) }
+    ensures { (m : ModuleTree) → slice_get (circuit_of named.now).modules 0 ≡ Some m → option_map lack_of result ≡ unread_operands m.ports (expressions_of (map expr_of operands.now)) }
 {
     for operand in operands {
         if let Some(lack) = unread_expression(operand, named) {
@@ -83,7 +86,7 @@ fn unread_operands<'a>(operands: &'a [Expr], named: &Named) -> Option<Lack<'a>>
 }
 
 fn unread_name<'a>(named: &Named, reference: &'a Reference) -> Option<Lack<'a>>
-    ensures { (m : ModuleTree) → slice_get named.now.modules 0 ≡ Some m → option_map lack_of result ≡ unread_where is_unread (find_port m.ports reference.now.name) reference.now.place reference.now.name }
+    ensures { (m : ModuleTree) → slice_get (circuit_of named.now).modules 0 ≡ Some m → option_map lack_of result ≡ unread_where is_unread (find_port m.ports reference.now.name) reference.now.place reference.now.name }
 {
     match named.port(0, &reference.name) {
         Some(port) if is_unread(port) => told(reference.place, reference.name.as_bytes()),

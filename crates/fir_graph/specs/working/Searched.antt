@@ -1,7 +1,7 @@
 -- How far a search has come.
 -- The open ones are the path, on which each has the next as a target; the done ones are the order, in which each stands behind all its targets.
 use Rattle.std.specs.Prelude.{◌≡◌, ℕ, suc, ◌+◌, ◌-◌, ◌<◌, List, [], ◌∷◌, ◌++◌, length, Some, slice_get, slice_set}
-use Rattle.fir_graph.specs.HasTarget.{HasTarget}
+use Rattle.fir_graph.specs.working.HasTarget.{HasTarget}
 use Rattle.fir_graph.specs.declared.marks.Mark.{Mark}
 use Rattle.fir_graph.specs.declared.marks.Mark.TheVariants.{New, Open, Done}
 use Rattle.fir_graph.specs.declared.search.Search.{Search}

@@ -1,8 +1,6 @@
 -- Circles of leaves and nodes, each of which hangs on the next, and the last on the first.
-use Rattle.std.specs.Prelude.{ℕ, ◌<◌, List, [], ◌∷◌, length, Result, Ok, Err}
+use Rattle.std.specs.Prelude.{ℕ, ◌<◌, List, [], ◌∷◌, length}
 use Rattle.std.specs.List.{AllByRecursion}
-use Rattle.fir_base.specs.declared.refused.Refused.{Refused}
-use Rattle.fir_base.specs.declared.refused.Refused.TheVariants.{Fault, Memory}
 use Rattle.fir_base.specs.Lists.{Distinct}
 use Rattle.fir_net.specs.declared.reads.Read.{Read}
 use Rattle.fir_net.specs.declared.reads.Read.TheVariants as read
@@ -30,12 +28,3 @@ leaves_in (read.Node k ∷ vs) = leaves_in vs
 
 abbrev pub AreLeaves : FlatNet → List ℕ → Type 0
 AreLeaves net = AllByRecursion (λ k. k < length net.leaves)
-
--- P of the fault, where there is one
-abbrev pub IfRefused : {F : Type 0} → Refused F → (F → Type 0) → Type 0
-IfRefused (Fault f) P = P f
-IfRefused Memory P = Unit {0}
-
-abbrev pub IfFault : {T F : Type 0} → Result T (Refused F) → (F → Type 0) → Type 0
-IfFault (Ok x) P = Unit {0}
-IfFault (Err e) P = IfRefused e P

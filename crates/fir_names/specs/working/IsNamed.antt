@@ -10,13 +10,13 @@ use Rattle.fir_pass.specs.Law.{IsFirst}
 use Rattle.fir_meaning.specs.Mentions.{module_names}
 use Rattle.fir_meaning.specs.NameGroups.{HasNames}
 use Rattle.fir_meaning.specs.SourceMeaning.{circuit_meaning}
-use Rattle.fir_names.specs.ModuleOrder.{IsModuleOrder}
+use Rattle.fir_names.specs.working.ModuleOrder.{IsModuleOrder}
 use Rattle.fir_names.specs.declared.names.Names.{Names}
 use Rattle.fir_names.specs.working.Judged.{TabulatesEach}
 
 pub record IsNamed (c : CircuitTree) (tables : List Names) (order : List ℕ) : Type 0 where
   pub clear : HasNames c
-  pub tables : TabulatesEach (module_names c) tables c.modules
+  pub tabulated : TabulatesEach (module_names c) tables c.modules
   pub ordered : IsModuleOrder c order
 
 abbrev pub Judges : CircuitTree → Result (Vec Names Global × Vec ℕ Global) (Refused FirFault) → Type 0

@@ -6,7 +6,7 @@ use Rattle.std.specs.Ordering.{nat_cmp}
 use Rattle.fir_ast.specs.Statements.{PlacedName}
 use Rattle.fir_ast.specs.Circuits.{ModuleTree}
 use Rattle.fir_meaning.specs.Components.{Component, Declarations, port, wire, register, node, instance, memory}
-use Rattle.fir_names.specs.ModuleOrder.{find_number}
+use Rattle.fir_names.specs.working.ModuleOrder.{find_number}
 use Rattle.fir_names.specs.declared.declaration.Component.{Component as ComponentOfCode}
 use Rattle.fir_names.specs.declared.declaration.Component.TheVariants as code
 

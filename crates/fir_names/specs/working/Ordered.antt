@@ -10,7 +10,7 @@ use Rattle.fir_pass.specs.Faults.{fault_of}
 use Rattle.fir_pass.specs.Groups.{IsClear}
 use Rattle.fir_meaning.specs.Visibility.{declarations}
 use Rattle.fir_meaning.specs.NameGroups.{IsRecursive, hierarchy_group}
-use Rattle.fir_names.specs.ModuleOrder.{IsModuleOrder}
+use Rattle.fir_names.specs.working.ModuleOrder.{IsModuleOrder}
 use Rattle.fir_names.specs.working.Numbered.{instance_numbers}
 
 -- for each module the numbers of those that it has instances of

@@ -1,5 +1,5 @@
 -- Small trees for the tests of two passes: one may lack its main module, and may be recursive.
-use Rattle.std.specs.Prelude.{ℕ, List, [], ◌∷◌, Bool, true, false}
+use Rattle.std.specs.Prelude.{List, [], ◌∷◌, Bool, true, false}
 use Rattle.fir_ast.specs.declared.fault.FirFault.{FirFault}
 use Rattle.fir_ast.specs.declared.fault.FirFault.TheVariants.{NoModule, Recursive}
 use Rattle.fir_ast.specs.declared.place.Place.{Place}

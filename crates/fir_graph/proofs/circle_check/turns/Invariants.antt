@@ -1,5 +1,5 @@
 use Rattle.std.proofs.Common.{drop}
-use Rattle.fir_graph.specs.IsCircle.{Chain}
+use Rattle.fir_graph.specs.working.IsCircle.{Chain}
 use Rattle.fir_graph.proofs.circle_check.turns.Given as goal
 
 abbrev pub invariant-loop-vertex : goal.invariant-loop-vertex

@@ -1,0 +1,64 @@
+//! Trees of the greatest nesting.
+
+use crate::trees::tree_of;
+use fir_base::MemoryOut;
+use std::alloc::Global;
+use std::test::Fail;
+
+const HEAD: &[u8] = b"circuit T :\n  module M :\n";
+
+/// What stands before a nesting, what opens each of its forms, what stands within, and what closes each.
+type Nesting = (&'static [u8], &'static [u8], &'static [u8], &'static [u8]);
+
+const NESTINGS: &[Nesting] = &[
+    (b"    node n = ", b"not(", b"a", b")"),
+    (b"    node n = ", b"a[", b"a", b"]"),
+    (b"    wire w : UInt", b"[1]", b"", b""),
+    (b"    wire w : ", b"{a:", b"Clock", b"}"),
+    (b"    when a :\n", b"    else when a :\n", b"", b""),
+];
+
+/// A module with that nesting of 255 forms around what stands within.
+fn nested(alloc: Global, nesting: &Nesting) -> Result<Vec<u8>, MemoryOut> {
+    let (before, open, inner, close) = *nesting;
+    let mut text = Vec::new(alloc);
+    text.extend_from_slice(HEAD)?;
+    text.extend_from_slice(before)?;
+    for _ in 0..255 {
+        text.extend_from_slice(open)?;
+    }
+    text.extend_from_slice(inner)?;
+    for _ in 0..255 {
+        text.extend_from_slice(close)?;
+    }
+    text.extend_from_slice(b"\n")?;
+    Ok(text)
+}
+
+/// A module with 256 lines `when a :`, each in the one before.
+fn whens(alloc: Global) -> Result<Vec<u8>, MemoryOut> {
+    let mut text = Vec::new(alloc);
+    text.extend_from_slice(HEAD)?;
+    for level in 0..256 {
+        text.extend_from_slice(b"    ")?;
+        for _ in 0..level {
+            text.extend_from_slice(b"  ")?;
+        }
+        text.extend_from_slice(b"when a :\n")?;
+    }
+    Ok(text)
+}
+
+#[test]
+fn trees_of_the_greatest_nesting_are_dropped_without_want_of_stack(
+    rt: HostRuntime,
+) -> Result<(), Fail> {
+    let alloc = rt.alloc();
+    for nesting in NESTINGS {
+        let text = nested(alloc, nesting)?;
+        assert!(rt; tree_of(alloc, text.as_slice())?.starts_with(b"T@"));
+    }
+    let text = whens(alloc)?;
+    assert!(rt; tree_of(alloc, text.as_slice())?.starts_with(b"T@"));
+    Ok(())
+}
