@@ -17,3 +17,9 @@ pub mod WalkedModules
 pub mod FirstOfGroups
 pub mod TablesByNumber
 pub mod PortEntries
+pub mod ModulesThere
+pub mod HierarchyTargets
+pub mod ModuleOrders
+pub mod FirstInstances
+pub mod InstanceNumbers
+pub mod ModuleCircles

@@ -1,12 +1,12 @@
 //! Which modules have instances of which, by their numbers.
 
-ghost use Rattle.std.specs.Prelude.{◌≡◌, ℕ, List, IfOk, length, map};
+ghost use Rattle.std.specs.Prelude.{◌≡◌, List, IfOk, map, slice_get};
 ghost use Rattle.fir_ast.specs.Statements.{PlacedName};
 ghost use Rattle.fir_ast.specs.Circuits.{ModuleTree};
 ghost use Rattle.fir_meaning.specs.Components.{Declarations};
-ghost use Rattle.fir_names.specs.working.Tabulated.{Tabulates};
+ghost use Rattle.fir_names.specs.working.Tabulated.{Tabulates, found_at};
 ghost use Rattle.fir_names.specs.working.Judged.{TabulatesEach};
-ghost use Rattle.fir_names.specs.working.Numbered.{instance_numbers};
+ghost use Rattle.fir_names.specs.working.Numbered.{instance_numbers, number_read};
 ghost use Rattle.fir_names.specs.working.Ordered.{instances_each};
 
 use crate::declaration::Component;
@@ -65,11 +65,19 @@ fn instances_in(alloc: Global, table: &Names) -> Result<Vec<usize>, MemoryOut>
 {
     let mut numbers = Vec::new(alloc);
     for position in 0..table.len() {
-        if let Some(declaration) = table.at(position)
-            && let Component::Instance(number) = declaration.component
-        {
+        if let Some(number) = instance_at(table, position) {
             numbers.push(number)?;
         }
     }
     Ok(numbers)
+}
+
+/// The number of the module of an instance that is declared there.
+fn instance_at(table: &Names, position: usize) -> Option<usize>
+    ensures { result ≡ number_read (found_at table.now (slice_get table.now.in_order.items position)) }
+{
+    match table.at(position)?.component {
+        Component::Instance(number) => Some(number),
+        _ => None,
+    }
 }

@@ -1,5 +1,5 @@
 -- Modules by their numbers, and components as the code has them.
-use Rattle.std.specs.Prelude.{◌≡◌, ℕ, List, [], ◌∷◌, map, flat_map, unwrap_or}
+use Rattle.std.specs.Prelude.{◌≡◌, ℕ, List, [], ◌∷◌, map, flat_map, Option, Some, None, unwrap_or}
 use Rattle.std.specs.BTreeMap.{BTreeMap, get}
 use Rattle.std.specs.Cmp.Lexicographic.{slice_cmp}
 use Rattle.std.specs.Ordering.{nat_cmp}
@@ -9,6 +9,7 @@ use Rattle.fir_meaning.specs.Components.{Component, Declarations, port, wire, re
 use Rattle.fir_names.specs.working.ModuleOrder.{find_number}
 use Rattle.fir_names.specs.declared.declaration.Component.{Component as ComponentOfCode}
 use Rattle.fir_names.specs.declared.declaration.Component.TheVariants as code
+use Rattle.fir_names.specs.declared.declaration.Declaration.{Declaration as Entry}
 
 abbrev pub names_of : List ModuleTree → List PlacedName
 names_of = map (λ m. m.named)
@@ -36,3 +37,12 @@ instance_number modules _ = []
 
 abbrev pub instance_numbers : List PlacedName → Declarations → List ℕ
 instance_numbers modules = flat_map (λ d. instance_number modules d.component)
+
+-- and as the code has it
+abbrev pub module_number : ComponentOfCode → Option ℕ
+module_number (code.Instance k) = Some k
+module_number _ = None
+
+abbrev pub number_read : Option Entry → Option ℕ
+number_read None = None
+number_read (Some e) = module_number e.component

@@ -1,16 +1,14 @@
 -- The code's table of what a module declares.
-use Rattle.std.specs.Prelude.{◌≡◌, ℕ, suc, List, [], ◌∷◌, map, if◌then◌else◌, Option, Some, None, slice_get}
+use Rattle.std.specs.Prelude.{◌≡◌, ℕ, suc, List, [], ◌∷◌, map, if◌then◌else◌, Option, Some, None}
 use Rattle.std.specs.Str.{bytes_eq}
 use Rattle.std.specs.BTreeMap.{get}
 use Rattle.std.specs.Cmp.Lexicographic.{slice_cmp}
 use Rattle.std.specs.Ordering.{nat_cmp}
 use Rattle.fir_arena.specs.working.Held.{held}
 use Rattle.fir_base.specs.Lists.{Distinct}
-use Rattle.fir_ast.specs.declared.place.Place.{Place}
 use Rattle.fir_ast.specs.Statements.{PlacedName}
 use Rattle.fir_meaning.specs.Components.{Declaration, Declarations}
 use Rattle.fir_names.specs.declared.declaration.Declaration.{Declaration as Entry}
-use Rattle.fir_names.specs.declared.declaration.Component.TheVariants.{Instance}
 use Rattle.fir_names.specs.declared.names.Names.{Names}
 use Rattle.fir_names.specs.working.Numbered.{component_of}
 
@@ -42,11 +40,3 @@ pub record Tabulates (modules : List PlacedName) (names : Names) (ds : Declarati
   pub by_name : (n : List ℕ) → found names n ≡ entry_named modules 0 ds n
   pub filled : (n : List ℕ) → found names n ≡ None → get (slice_cmp nat_cmp) names.ids n ≡ None
   pub once : Distinct (map (λ d. d.named.name) ds)
-
--- the place of a module's first declared instance of the module of that number
-pub record IsFirstInstance (entries : List Entry) (other : ℕ) (place : Place) : Type 0 where
-  pub at : ℕ
-  pub entry : Entry
-  pub is : slice_get entries at ≡ Some entry
-  pub instance_of : entry.component ≡ Instance other
-  pub place_is : place ≡ entry.place
