@@ -10,6 +10,6 @@ pub returns : goal.returns
 returns c =
     let part = c.args.part.now in
     let read = c.unread_statements-read.ensures (module_of part) c.requires
-        ∙ ap (λ ss. unread_statements (map port_of part.ports.items) (block_of (map stmt_of ss))) c.as_slice.ensures.value in
+    ∙ ap (λ ss. unread_statements (map port_of part.ports.items) (block_of (map stmt_of ss))) c.as_slice.ensures.value in
     c.first_lack.ensures ∙ ap (λ o. first_lack o (option_map lack_of c.unread_statements-read.result)) c.lacking_forms-form.ensures
     ∙ ap (first_lack (lacking_forms (module_of part))) read
