@@ -93,7 +93,7 @@ module _ (c : CircuitTree) (clear : IsClear (name_group c)) where
       let number : number_of names h.name ≡ w = ap (λ (o : Option ℕ). unwrap_or o 0) h.number in
       let one : In (number_of_instance names h.by.component) w = subst (λ (k : Component). In (number_of_instance names k) w) (sym h.is_instance) (inl number) in
       let all : In (instance_numbers names (declarations h.inside)) w =
-          in_flat_map (λ (x : Declaration). number_of_instance names x.component) (declarations h.inside) h.by w h.declares one in
+      in_flat_map (λ (x : Declaration). number_of_instance names x.component) (declarations h.inside) h.by w h.declares one in
       let here : In (instances_of c v) w = subst (λ (o : Option ModuleTree). In (numbers_at names o) w) (sym h.at) all in
       let place = place_of (instances_of c v) w here in
       record { place = place.0; is = place.1 }

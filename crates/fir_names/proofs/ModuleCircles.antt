@@ -2,9 +2,10 @@
 use Rattle.std.proofs.Common.{◌≡◌, ℕ, ◌+◌, ◌<◌, List, [], ◌∷◌, ◌++◌, length, map, take, get_or, slice_get, slice_index, slice_index_or, Some, None, Option, option_map, unwrap_or, refl, sym, ap, subst, inl, inr, ⊎_elim, ◌∙◌, arith}
 use Rattle.std.specs.List.{AllByRecursion}
 use Rattle.std.proofs.lemmas.List.{map-append, take_more}
-use Rattle.std.proofs.lemmas.Option.{none-some, same_Some, slice_get-map, slice_get_within}
+use Rattle.std.proofs.lemmas.Option.{same_Some, slice_get-map, slice_get-get_or, slice_get_read, slice_get_within}
 use Rattle.fir_base.specs.Lists.{In, Distinct}
-use Rattle.fir_base.proofs.Elements.{get_in, number_of as place_of}
+use Rattle.fir_base.proofs.Each.{all_from}
+use Rattle.fir_base.proofs.Elements.{all_there, get_in, number_of as place_of}
 use Rattle.fir_base.proofs.Members.{in_map_from}
 use Rattle.fir_ast.specs.declared.circuit.Module.{Module}
 use Rattle.fir_ast.specs.declared.place.Place.{Place}
@@ -32,7 +33,7 @@ use Rattle.fir_names.specs.working.Ordered.{HasInstance, IsFirstInstance, instan
 use Rattle.fir_names.specs.working.Tabulated.{Tabulates, entry_of}
 use Rattle.fir_names.proofs.HierarchyTargets.{Has, has_from, number_is}
 use Rattle.fir_names.proofs.ModulesThere.{number_named, own_number}
-use Rattle.fir_names.proofs.TablesByNumber.{module_there, entry_read, declaration_read}
+use Rattle.fir_names.proofs.TablesByNumber.{module_there, tables_long, entry_read, declaration_read}
 
 -- the second of a circle, by numbers
 abbrev second_number : ℕ → List ℕ → ℕ
@@ -47,7 +48,7 @@ distinct_map : (f : ℕ → List ℕ) (vs : List ℕ) → ((v w : ℕ) → In vs
 distinct_map f [] apart d = tt
 distinct_map f (v ∷ vs) apart d =
     let first : In (map f vs) (f v) → ⊥ =
-        λ i. let w = in_map_from f vs (f v) i in d.0 (subst (In vs) (apart w.0 v (inr w.1) (inl refl) w.2) w.1) in
+    λ i. let w = in_map_from f vs (f v) i in d.0 (subst (In vs) (apart w.0 v (inr w.1) (inl refl) w.2) w.1) in
     (first, distinct_map f vs (λ w u i j. apart w u (inr i) (inr j)) d.1)
 
 -- each of a chain has a target
@@ -154,7 +155,7 @@ module _ (c : CircuitTree) (clear : IsClear (name_group c)) where
         is_instance = of.1 ∙ ap component.instance (named_at of.0 w number ∙ sym (second_named f v vs));
       } in
       let distinct = distinct_map f (v ∷ vs)
-          (λ x y i j e. let a = in_circle (v ∷ vs) circle.turns x i in let b = in_circle (v ∷ vs) circle.turns y j in apart x y a.0 b.0 a.1 b.1 e) circle.once in
+      (λ x y i j e. let a = in_circle (v ∷ vs) circle.turns x i in let b = in_circle (v ∷ vs) circle.turns y j in apart x y a.0 b.0 a.1 b.1 e) circle.once in
       let closed : IsClosedWalk c.modules (f v) (map f vs) place = record {
         by = by;
         enters = enters_first;
@@ -163,3 +164,46 @@ module _ (c : CircuitTree) (clear : IsClear (name_group c)) where
         once = distinct;
       } in
       (f v, map f vs, place, closed, refl)
+
+-- the same of a circle that is not taken apart
+module _ (c : CircuitTree) (clear : IsClear (name_group c)) (tables : List Names) (tab : TabulatesEach (module_names c) tables c.modules) where
+  pub first_within : (circle : List ℕ) → IsCircle (instances_of c) circle → get_or circle 0 0 < length tables
+  first_within [] circle = absurd circle.turns
+  first_within (v ∷ vs) circle =
+      let m = in_circle c clear (v ∷ vs) circle.turns v (inl refl) in
+      omega (arith, slice_get_within c.modules v m.0 m.1, tables_long (module_names c) tables c.modules tab)
+
+  pub circle_within : (circle : List ℕ) → IsCircle (instances_of c) circle → AllByRecursion (λ k. k < length c.modules) circle
+  circle_within circle h =
+      all_from (λ (k : ℕ). k < length c.modules) circle
+      (λ v i. let m = in_circle c clear circle h.turns v i in slice_get_within c.modules v m.0 m.1)
+
+  pub first_has : (circle : List ℕ) → IsCircle (instances_of c) circle → (t : Names) → slice_get tables (get_or circle 0 0) ≡ Some t
+      → HasInstance t (get_or circle 1 (get_or circle 0 0))
+  first_has [] circle t at = absurd circle.turns
+  first_has (v ∷ vs) circle t at =
+      let m = module_there (module_names c) tables c.modules tab v t at in
+      has_second c clear v vs circle.turns t m.0 m.1 m.2
+
+  pub circle_shows : (circle : List ℕ) → IsCircle (instances_of c) circle → (t : Names) → slice_get tables (get_or circle 0 0) ≡ Some t → (place : Place)
+      → IsFirstInstance t (get_or circle 1 (get_or circle 0 0)) place → (walk : List (List ℕ)) → walk ≡ map (name_at c.modules) circle → (first : List ℕ)
+      → first ≡ get_or walk 0 first → IsRecursive c (recursive place (walk ++ first ∷ []))
+  circle_shows [] circle t at place h walk is first from = absurd circle.turns
+  circle_shows (v ∷ vs) circle t at place h walk is first from =
+      let f = name_at c.modules in
+      let m = module_there (module_names c) tables c.modules tab v t at in
+      let same : first ≡ f v = from ∙ ap (λ (l : List (List ℕ)). get_or l 0 first) is in
+      subst (λ (l : List (List ℕ)). IsRecursive c (recursive place l)) (sym (ap (λ l. l ++ first ∷ []) is ∙ ap (λ (n : List ℕ). map f (v ∷ vs) ++ n ∷ []) same))
+      (circle_recurs c clear v vs circle t m.0 m.1 m.2 place h)
+
+-- one name more
+pub names_more : (modules : List Module) (numbers : List ℕ) (i : ℕ) (m : Module) (names : List (List ℕ)) → names ≡ map (name_at (map module_of modules)) (take i numbers)
+    → i < length numbers → AllByRecursion (λ k. k < length modules) numbers → m ≡ get_or modules (get_or numbers i 0) m
+    → names ++ m.ident.name ∷ [] ≡ map (name_at (map module_of modules)) (take (i + 1) numbers)
+names_more modules numbers i m names is low all at =
+    let k = get_or numbers i 0 in
+    let within = all_there (λ (j : ℕ). j < length modules) numbers all i k (slice_get-get_or numbers i 0 low) in
+    let here = slice_get_read modules (length modules) k m refl within at in
+    let name : name_at (map module_of modules) k ≡ m.ident.name =
+    ap (λ (o : Option ModuleTree). unwrap_or (option_map (λ x. x.named.name) o) []) (slice_get-map module_of modules k ∙ ap (option_map module_of) here) in
+    rw (is, take_more numbers i 0 low, map-append, name) refl

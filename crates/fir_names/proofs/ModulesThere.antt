@@ -156,5 +156,5 @@ module _ (c : CircuitTree) (clear : IsClear (name_group c)) where
       → (k : ℕ) × (find_number (module_names c) name ≡ Some k)
   instance_number m d name i j is =
       let found = all_at (IsThere (module_names c)) (declarations m)
-          (there_module (module_names c) m (clear_module (module_names c) [] c.modules m none i)) d j name is in
+      (there_module (module_names c) m (clear_module (module_names c) [] c.modules m none i)) d j name is in
       number_found (module_names c) name found.0 found.1

@@ -1,7 +1,7 @@
 //! Modules that have one another as instances (E11), or an order in which each stands behind those that it
 //! has instances of.
 
-ghost use Rattle.std.specs.Prelude.{◌≡◌, ◌<◌, IfOk, length, map, slice_index, slice_index_or};
+ghost use Rattle.std.specs.Prelude.{◌≡◌, ◌<◌, IfOk, Some, length, map, slice_get, slice_index, slice_index_or};
 ghost use Rattle.std.specs.List.{AllByRecursion};
 ghost use Rattle.fir_ast.specs.View.{circuit_of, module_of};
 ghost use Rattle.fir_graph.specs.working.IsCircle.{IsCircle};
@@ -53,12 +53,19 @@ fn recursion(
     requires circle { IsCircle (instances_of (circuit_of circuit.now)) circle.now }
     ensures { IfOk result (λ f. IsRecursive (circuit_of circuit.now) (fault_of f)) }
 {
-    let modules = circuit.modules.as_slice();
-    let first = circle[0];
-    let place = first_instance(&tables[first], second(circle));
-    let mut walk = names_at(alloc, modules, circle)?;
-    walk.push(modules[first].ident.name.copy(alloc)?)?;
+    let place = first_instance(table_at(tables, circle[0]), second(circle));
+    let mut walk = names_at(alloc, &circuit.modules, circle)?;
+    let first = walk[0].copy(alloc)?;
+    walk.push(first)?;
     Ok(FirFault::Recursive(place, Seq::from_vec(walk)))
+}
+
+/// The table of the module with that number.
+fn table_at(tables: &[Names], number: usize) -> &Names
+    requires { number < length tables.now }
+    ensures { slice_get tables.now number ≡ Some result.now }
+{
+    &tables[number]
 }
 
 /// The second in a circle, which is the first where that stands alone.
@@ -74,11 +81,7 @@ fn second(circle: &[usize]) -> usize
 }
 
 /// The names of the modules with these numbers.
-fn names_at(
-    alloc: Global,
-    modules: &[Module],
-    numbers: &[usize],
-) -> Result<Vec<Name>, MemoryOut>
+fn names_at(alloc: Global, modules: &[Module], numbers: &[usize]) -> Result<Vec<Name>, MemoryOut>
     requires { AllByRecursion (λ k. k < length modules.now) numbers.now }
     ensures { IfOk result (λ names. names.items ≡ map (name_at (map module_of modules.now)) numbers.now) }
 {

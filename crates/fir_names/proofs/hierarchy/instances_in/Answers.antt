@@ -9,10 +9,10 @@ loop-position-preserved c = λ modules.
     let at = c.loop-position.position in
     let within = c.loop-position-test.true in
     elim c.match-instance_at.branch [
-      in-Some+in_ok-push w ↦ subst (Numbers modules table (at + 1)) (sym w.in_ok-push.ensures.items ∙ ap (λ v. v.items) (sym w.numbers-is))
-        (numbers_more modules table at c.loop-position.numbers.items (c.loop-position.invariant modules) (omega (arith, c.len-position-end.ensures)) w.in-Some.number w.in-Some.ensures)
-    | in_default w ↦ subst (Numbers modules table (at + 1)) (ap (λ v. v.items) (sym w.numbers-is))
-        (numbers_same modules table at c.loop-position.numbers.items (c.loop-position.invariant modules) (omega (arith, c.len-position-end.ensures)) w.in_default.ensures)
+      | in-Some+in_ok-push w ↦ subst (Numbers modules table (at + 1)) (sym w.in_ok-push.ensures.items ∙ ap (λ v. v.items) (sym w.numbers-is))
+          (numbers_more modules table at c.loop-position.numbers.items (c.loop-position.invariant modules) (omega (arith, c.len-position-end.ensures)) w.in-Some.number w.in-Some.ensures)
+      | in_default w ↦ subst (Numbers modules table (at + 1)) (ap (λ v. v.items) (sym w.numbers-is))
+          (numbers_same modules table at c.loop-position.numbers.items (c.loop-position.invariant modules) (omega (arith, c.len-position-end.ensures)) w.in_default.ensures)
     ]
 
 pub returns : goal.returns

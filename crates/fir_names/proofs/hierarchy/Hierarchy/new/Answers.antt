@@ -1,4 +1,4 @@
-use Rattle.std.proofs.Common.{◌+◌, sym, subst}
+use Rattle.std.proofs.Common.{ℕ, ◌+◌, List, Vec, Global, sym, subst}
 use Rattle.fir_names.proofs.InstanceNumbers.{Modules, modules_more, modules_all}
 use Rattle.fir_names.proofs.hierarchy.Hierarchy.new.Goals as goal
 
@@ -6,7 +6,7 @@ pub loop-table-preserved : goal.loop-table-preserved
 loop-table-preserved c = λ names.
     let tables = c.args.tables.now in
     let i = c.loop-table.table-index in
-    subst (Modules names tables (i + 1)) (sym c.in_ok-push.ensures.items)
+    subst (Modules names tables (i + 1)) (sym {A = List (Vec ℕ Global)} c.in_ok-push.ensures.items)
     (modules_more names tables i c.loop-table.instances.items (c.loop-table.invariant names) c.table-item.result c.loop-table-test.true c.table-item.is
     c.in_ok-instances_in.field-0 (c.in_ok-instances_in.ensures names))
 
