@@ -21,7 +21,7 @@ emptied [] h = refl
 emptied (x ∷ xs) h = absurd (h x (inl refl))
 
 -- the mentions of a module are among those of its circuit
-clear_module : (names before : List PlacedName) (ms : List ModuleTree) (m : ModuleTree) → faults_in (modules_mentions names before ms) ≡ [] → In ms m
+pub clear_module : (names before : List PlacedName) (ms : List ModuleTree) (m : ModuleTree) → faults_in (modules_mentions names before ms) ≡ [] → In ms m
     → faults_in (module_mentions names m) ≡ []
 clear_module names before [] m h i = absurd i
 clear_module names before (x ∷ ms) m h i =

@@ -67,10 +67,16 @@ fn tables_and_an_order_are_handed_on(rt: HostRuntime) -> Result<(), Fail> {
         return Err(Fail::new("refused"));
     };
     assert_eq!(rt; named.module_order(), [1, 0].as_slice());
-    let holds = named.names(0).and_then(|names| names.at(0)).map(|found| found.component);
+    let holds = named
+        .names(0)
+        .and_then(|names| names.at(0))
+        .map(|found| found.component);
     assert_eq!(rt; holds, Some(Component::Instance(1)));
     let node = Name::new(alloc, b"n")?;
-    let found = named.names(1).and_then(|names| names.find(&node)).map(|found| found.position);
+    let found = named
+        .names(1)
+        .and_then(|names| names.find(&node))
+        .map(|found| found.position);
     assert_eq!(rt; found, Some(1));
     let input = Name::new(alloc, b"a")?;
     assert!(rt; named.port(1, &input).is_some());
