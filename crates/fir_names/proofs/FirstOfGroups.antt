@@ -20,9 +20,9 @@ use Rattle.fir_meaning.specs.Mentions.{Mention, declares, uses, instantiates, ci
 use Rattle.fir_meaning.specs.NameGroups.{second_faults, hidden_faults, missing_faults, mention_faults, faults_in, absent_faults, no_main_faults, IsRecursive, HasNames, name_group}
 use Rattle.fir_meaning.specs.SourceMeaning.{circuit_meaning}
 use Rattle.fir_names.specs.declared.names.Names.{Names}
-use Rattle.fir_names.specs.working.Judged.{JudgesModules, TabulatesEach}
+use Rattle.fir_names.specs.working.Judged.{JudgesModules}
 use Rattle.fir_names.specs.working.Ordered.{OrdersModules}
-use Rattle.fir_names.specs.working.IsNamed.{IsNamed, Judges}
+use Rattle.fir_names.specs.working.IsNamed.{Judges}
 
 first_in : (fs : List ToldFault) (f : ToldFault) → first_of fs ≡ Some f → In fs f
 first_in [] f h = absurd (none-some f h)

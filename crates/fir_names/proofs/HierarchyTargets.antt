@@ -1,8 +1,8 @@
 -- The code's hierarchy is the circuit's, as a graph.
-use Rattle.std.proofs.Common.{◌≡◌, ℕ, zero, suc, ◌<◌, List, [], ◌∷◌, map, length, slice_get, Some, None, Option, option_map, unwrap_or, Vec, Global, refl, sym, ap, subst, inl, inr, ◌∙◌, map-id, lt-ltb, arith}
+use Rattle.std.proofs.Common.{◌≡◌, ℕ, zero, suc, ◌<◌, List, [], ◌∷◌, map, length, slice_get, Some, None, Option, unwrap_or, Vec, Global, refl, sym, ap, subst, inl, inr, ◌∙◌, map-id, lt-ltb, arith}
 use Rattle.std.proofs.Math.Path.{fun_ext}
 use Rattle.std.proofs.lemmas.List.{length-map}
-use Rattle.std.proofs.lemmas.Option.{none-some, same_Some, slice_get_within}
+use Rattle.std.proofs.lemmas.Option.{slice_get_within}
 use Rattle.fir_base.specs.Lists.{In}
 use Rattle.fir_base.proofs.Elements.{get_in, number_of as place_of}
 use Rattle.fir_base.proofs.Members.{in_flat_map, in_flat_map_from, map_same}

@@ -12,7 +12,7 @@ use Rattle.fir_names.specs.declared.names.Names.{Names}
 use Rattle.fir_names.specs.working.Judged.{TabulatesEach}
 use Rattle.fir_names.specs.working.Numbered.{component_of, instance_number, instance_numbers, module_number, number_read}
 use Rattle.fir_names.specs.working.Ordered.{instances_each}
-use Rattle.fir_names.specs.working.Tabulated.{Tabulates, entry_of, found_at}
+use Rattle.fir_names.specs.working.Tabulated.{Tabulates, found_at}
 use Rattle.fir_names.proofs.TablesByNumber.{entry_read, in_order_long, module_there, tables_long}
 
 one_number : (modules : List PlacedName) (c : Component) → instance_number modules c ≡ option_to_list (module_number (component_of modules c))

@@ -1,5 +1,5 @@
 -- A circle of numbers is a closed walk of modules, by their names.
-use Rattle.std.proofs.Common.{◌≡◌, ℕ, ◌+◌, ◌<◌, List, [], ◌∷◌, ◌++◌, length, map, take, get_or, slice_get, slice_index, slice_index_or, Some, None, Option, option_map, unwrap_or, refl, sym, ap, subst, inl, inr, ⊎_elim, ◌∙◌, arith}
+use Rattle.std.proofs.Common.{◌≡◌, ℕ, ◌+◌, ◌<◌, List, [], ◌∷◌, ◌++◌, length, map, take, get_or, slice_get, Some, None, Option, option_map, unwrap_or, refl, sym, ap, subst, inl, inr, ◌∙◌, arith}
 use Rattle.std.specs.List.{AllByRecursion}
 use Rattle.std.proofs.lemmas.List.{map-append, take_more}
 use Rattle.std.proofs.lemmas.Option.{same_Some, slice_get-map, slice_get-get_or, slice_get_read, slice_get_within}
@@ -14,7 +14,6 @@ use Rattle.fir_ast.specs.Statements.{PlacedName}
 use Rattle.fir_ast.specs.Circuits.{ModuleTree, CircuitTree}
 use Rattle.fir_graph.specs.working.HasTarget.{HasTarget}
 use Rattle.fir_graph.specs.working.IsCircle.{Chain, Turns, IsCircle}
-use Rattle.fir_pass.specs.Faults.{Fault}
 use Rattle.fir_pass.specs.Groups.{IsClear}
 use Rattle.fir_meaning.specs.Components.{Component, Declaration}
 use Rattle.fir_meaning.specs.Components as component
@@ -23,7 +22,6 @@ use Rattle.fir_meaning.specs.Mentions.{module_names}
 use Rattle.fir_meaning.specs.NameGroups.{name_group, IsRecursive, recursive}
 use Rattle.fir_meaning.specs.Visibility.{declarations}
 use Rattle.fir_names.specs.working.ModuleOrder.{find_number}
-use Rattle.fir_names.specs.declared.declaration.Component.{Component as ComponentOfCode}
 use Rattle.fir_names.specs.declared.declaration.Component.TheVariants.{Instance}
 use Rattle.fir_names.specs.declared.declaration.Declaration.{Declaration as Entry}
 use Rattle.fir_names.specs.declared.names.Names.{Names}

@@ -1,8 +1,8 @@
 -- An order of the hierarchy is one of the modules, and then no walk along instances closes.
 use Rattle.std.proofs.Common.{◌≡◌, ℕ, ◌<◌, List, [], ◌∷◌, length, map, slice_get, Some, sym, ap, subst, ◌∙◌, arith, lt_trans}
 use Rattle.std.proofs.lemmas.Option.{same_Some, slice_get_within}
-use Rattle.fir_base.proofs.Elements.{get_in, there, number_of as place_of}
-use Rattle.fir_ast.specs.Circuits.{ModuleTree, CircuitTree}
+use Rattle.fir_base.proofs.Elements.{get_in, number_of as place_of}
+use Rattle.fir_ast.specs.Circuits.{CircuitTree}
 use Rattle.fir_graph.specs.working.IsOrder.{IsOrder}
 use Rattle.fir_graph.specs.working.IsCircle.{IsCircle}
 use Rattle.fir_pass.specs.Groups.{IsClear}

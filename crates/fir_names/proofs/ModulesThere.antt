@@ -1,5 +1,5 @@
 -- Where no fault of the first group stands, each module has a name of its own and each instance a module.
-use Rattle.std.proofs.Common.{◌≡◌, ℕ, zero, suc, ◌+◌, List, [], ◌∷◌, ◌++◌, map, true, false, length, slice_get, Some, None, Option, option_map, refl, sym, ap, subst, inl, inr, ⊎_elim, ◌∙◌, append_assoc, add-one, add-zero, arith}
+use Rattle.std.proofs.Common.{◌≡◌, ℕ, zero, suc, ◌+◌, List, [], ◌∷◌, ◌++◌, true, false, length, slice_get, Some, None, Option, option_map, refl, sym, ap, subst, ⊎_elim, ◌∙◌, append_assoc, add-one, add-zero, arith}
 use Rattle.std.specs.Str.{bytes_eq}
 use Rattle.std.specs.List.{AllByRecursion}
 use Rattle.std.proofs.lemmas.List.{length_push}
@@ -15,7 +15,7 @@ use Rattle.fir_pass.specs.Groups.{IsClear}
 use Rattle.fir_meaning.specs.Components.{Component, Declaration, find_name}
 use Rattle.fir_meaning.specs.Components as component
 use Rattle.fir_meaning.specs.Visibility.{Before, declaration_at, with_declaration, opened, reopened, behind, behind_block, behind_ports, at_head, declarations}
-use Rattle.fir_meaning.specs.Mentions.{Mention, declares, instantiates, expression_mentions, mentions, names_declared, block_mentions, ports_mentions, module_mentions, modules_mentions, module_names, circuit_mentions}
+use Rattle.fir_meaning.specs.Mentions.{declares, instantiates, expression_mentions, mentions, names_declared, block_mentions, ports_mentions, module_mentions, modules_mentions, module_names, circuit_mentions}
 use Rattle.fir_meaning.specs.NameGroups.{second_faults, missing_faults, mention_faults, faults_in, name_group}
 use Rattle.fir_meaning.proofs.OnceDeclared.{clear_left, clear_right}
 use Rattle.fir_meaning.proofs.OneLookUp.{clear_module, emptied}

@@ -1,4 +1,4 @@
-use Rattle.std.proofs.Common.{List, ◌+◌, sym, ap, ◌∙◌, subst, arith}
+use Rattle.std.proofs.Common.{◌+◌, sym, ap, ◌∙◌, subst, arith}
 use Rattle.fir_names.proofs.InstanceNumbers.{Numbers, numbers_more, numbers_same, numbers_all}
 use Rattle.fir_names.proofs.hierarchy.instances_in.Goals as goal
 use Rattle.fir_names.proofs.hierarchy.instances_in.Goals.{in-Some+in_ok-push, in_default}

@@ -1,4 +1,4 @@
-use Rattle.std.proofs.Common.{◌≡◌, ◌∙◌, ap, subst, slice_get, IsSomeAnd, Some}
+use Rattle.std.proofs.Common.{◌∙◌, ap, subst, slice_get}
 use Rattle.fir_ast.specs.declared.circuit.Circuit.{Circuit}
 use Rattle.fir_ast.specs.View.{circuit_of}
 use Rattle.fir_meaning.specs.Mentions.{module_names}
