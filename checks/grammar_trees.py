@@ -150,9 +150,10 @@ class Tree:
         return out + "," + self.clock() + self.reset()
 
     def clock(self):
-        """What stands behind a register's comma: `emit` has there the name of a clock."""
-        is_alone = self.peek(1)[0] == "nl" or self.peek(1)[1] == "with"
-        is_clock = is_alone and self.ports.get(self.peek()[1]) == "clock"
+        """What stands behind a register's comma: `emit` has there the name of a clock, of which it
+        lacks the parts as of each other name."""
+        is_ref = self.peek(1) not in (("sign", "("), ("sign", "<"))
+        is_clock = is_ref and self.ports.get(self.peek()[1]) == "clock"
         return self.ref() if is_clock else self.expr()
 
     def reset(self):
