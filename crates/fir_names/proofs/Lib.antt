@@ -13,6 +13,7 @@ pub mod NamedInstances
 pub mod StatementViews
 pub mod WalkedBlocks
 pub mod WalkedWhens
+pub mod RegisterMentions
 pub mod WalkedModules
 pub mod FirstOfGroups
 pub mod TablesByNumber

@@ -4,14 +4,13 @@ use Rattle.std.proofs.lemmas.List.{drop_all}
 use Rattle.fir_ast.specs.View.{block_of, expr_of, named_of, sink_of, stmt_of, type_of}
 use Rattle.fir_ast.specs.Statements.{wire, when, connect, partial_connect, invalid}
 use Rattle.fir_meaning.specs.Components as component
-use Rattle.fir_meaning.specs.Visibility.{behind_block, closed, opened}
 use Rattle.fir_names.specs.working.Parts.{when_view}
 use Rattle.fir_names.proofs.FirstMentions.{views_left}
 use Rattle.fir_ast.proofs.TreeViews.{connect_view}
 use Rattle.fir_names.proofs.StatementViews.{wire_view, partial_connect_view, invalid_view, when_is}
 use Rattle.fir_names.proofs.WalkedBlocks.{block_found, block_next, block_passed, passes_by}
-use Rattle.fir_names.proofs.WalkedScopes.{sees, walks_opened}
-use Rattle.fir_names.proofs.WalkedWhens.{block_closed, both_passed, condition_told, first_told, second_told}
+use Rattle.fir_names.proofs.WalkedScopes.{sees}
+use Rattle.fir_names.proofs.WalkedWhens.{both_passed, condition_told, first_told, second_told}
 use Rattle.fir_names.proofs.statements.+statements.Goals as goal
 
 pub in_statement-returns-in-Wire : goal.in_statement-returns-in-Wire
@@ -95,48 +94,35 @@ in_when-returns-in-Some-2 t c = λ modules before place numbered w.
     let x = c.args.when.now in
     let a = block_of (map stmt_of c.deref.result.now) in
     let b = block_of (map stmt_of x.else_block.items) in
-    let inside = walks_opened modules c.args.scope.now c.open.new.self before c.in_ok-open.ensures w in
     passes_by modules c.args.scope.now c.in_block.new.scope before (Some c.in-Some-2.fault) (when_view x place) (when place (expr_of x.condition) a b)
     (when_is x place c.deref.result.now x.else_block.items c.deref.ensures.value refl)
     (first_told modules before place (expr_of x.condition) a b c.args.scope.now c.open.new.self c.in_block.new.scope c.in_block.new.scope
     c.in_ok-fault.field-0 c.in_ok-fault-2.field-0 c.in-Some-2.fault c.in_default.is
-    (c.in_ok-fault.ensures before.visible (sees modules c.args.scope.now before w)) c.in-Some-2.is
-    (c.in_ok-fault-2.ensures modules (opened before) numbered inside))
+    (c.in_ok-fault.ensures before.visible (sees modules c.args.scope.now before w)) w c.in_ok-open.ensures c.in-Some-2.is
+    (λ now held. c.in_ok-fault-2.ensures modules now numbered held))
 
 pub in_when-returns-in-Some-3 : goal.in_when-returns-in-Some-3
 in_when-returns-in-Some-3 t c = λ modules before place numbered w.
     let x = c.args.when.now in
     let a = block_of (map stmt_of c.deref.result.now) in
     let b = block_of (map stmt_of c.deref-2.result.now) in
-    let between = closed before (behind_block (opened before) a) in
-    let inside = walks_opened modules c.args.scope.now c.open.new.self before c.in_ok-open.ensures w in
-    let passed = c.in_ok-fault-2.ensures modules (opened before) numbered inside in
-    let middle =
-    block_closed modules c.args.scope.now c.open.new.self c.in_block.new.scope c.close.new.self before a c.in_ok-fault-2.field-0 w c.in_ok-open.ensures
-    c.in_default-2.is passed c.close.ensures in
-    let other = walks_opened modules c.close.new.self c.open-2.new.self between c.in_ok-open-2.ensures middle.0 in
     passes_by modules c.args.scope.now c.in_block-2.new.scope before (Some c.in-Some-3.fault) (when_view x place) (when place (expr_of x.condition) a b)
     (when_is x place c.deref.result.now c.deref-2.result.now c.deref.ensures.value c.deref-2.ensures.value)
-    (second_told modules before place (expr_of x.condition) a b c.args.scope.now c.open.new.self c.in_block.new.scope c.open-2.new.self
-    c.in_block-2.new.scope c.in_block-2.new.scope c.in_ok-fault.field-0 c.in_ok-fault-2.field-0 c.in_ok-fault-3.field-0 c.in-Some-3.fault c.in_default.is
-    (c.in_ok-fault.ensures before.visible (sees modules c.args.scope.now before w)) c.in_default-2.is passed c.in-Some-3.is
-    (c.in_ok-fault-3.ensures modules (opened between) numbered other))
+    (second_told modules before place (expr_of x.condition) a b c.args.scope.now c.open.new.self c.in_block.new.scope c.close.new.self c.open-2.new.self
+    c.in_block-2.new.scope c.in_ok-fault.field-0 c.in_ok-fault-2.field-0 c.in_ok-fault-3.field-0 c.in_default.is
+    (c.in_ok-fault.ensures before.visible (sees modules c.args.scope.now before w)) w c.in_ok-open.ensures c.in_default-2.is
+    (λ now held. c.in_ok-fault-2.ensures modules now numbered held) c.close.ensures c.in_ok-open-2.ensures
+    (λ now held. c.in_ok-fault-3.ensures modules now numbered held) c.in_block-2.new.scope c.in-Some-3.fault c.in-Some-3.is)
 
 pub in_when-returns : goal.in_when-returns
 in_when-returns t c = λ modules before place numbered w.
     let x = c.args.when.now in
     let a = block_of (map stmt_of c.deref.result.now) in
     let b = block_of (map stmt_of c.deref-2.result.now) in
-    let between = closed before (behind_block (opened before) a) in
-    let inside = walks_opened modules c.args.scope.now c.open.new.self before c.in_ok-open.ensures w in
-    let passed = c.in_ok-fault-2.ensures modules (opened before) numbered inside in
-    let middle =
-    block_closed modules c.args.scope.now c.open.new.self c.in_block.new.scope c.close.new.self before a c.in_ok-fault-2.field-0 w c.in_ok-open.ensures
-    c.in_default-2.is passed c.close.ensures in
-    let other = walks_opened modules c.close.new.self c.open-2.new.self between c.in_ok-open-2.ensures middle.0 in
     passes_by modules c.args.scope.now c.close-2.new.self before None (when_view x place) (when place (expr_of x.condition) a b)
     (when_is x place c.deref.result.now c.deref-2.result.now c.deref.ensures.value c.deref-2.ensures.value)
     (both_passed modules before place (expr_of x.condition) a b c.args.scope.now c.open.new.self c.in_block.new.scope c.close.new.self c.open-2.new.self
-    c.in_block-2.new.scope c.close-2.new.self c.in_ok-fault.field-0 c.in_ok-fault-2.field-0 c.in_ok-fault-3.field-0 c.in_default.is
-    (c.in_ok-fault.ensures before.visible (sees modules c.args.scope.now before w)) w c.in_ok-open.ensures c.in_default-2.is passed c.close.ensures
-    c.in_ok-open-2.ensures c.in_default-3.is (c.in_ok-fault-3.ensures modules (opened between) numbered other) c.close-2.ensures)
+    c.in_block-2.new.scope c.in_ok-fault.field-0 c.in_ok-fault-2.field-0 c.in_ok-fault-3.field-0 c.in_default.is
+    (c.in_ok-fault.ensures before.visible (sees modules c.args.scope.now before w)) w c.in_ok-open.ensures c.in_default-2.is
+    (λ now held. c.in_ok-fault-2.ensures modules now numbered held) c.close.ensures c.in_ok-open-2.ensures
+    (λ now held. c.in_ok-fault-3.ensures modules now numbered held) c.close-2.new.self c.in_default-3.is c.close-2.ensures)
