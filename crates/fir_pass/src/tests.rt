@@ -4,7 +4,7 @@ ghost use Rattle.std.specs.Prelude.{◌≡◌};
 ghost use Rattle.fir_pass.specs.Faults.{fault_of};
 ghost use Rattle.fir_pass.specs.working.Sketches.{sketch_meaning};
 
-use crate::{Chain, Either, Meant, Pass, then};
+use crate::{Either, Meant, Pass, then};
 use fir_ast::{FirFault, Place};
 use fir_base::{Name, Refused, Seq};
 use std::alloc::Global;
@@ -76,12 +76,19 @@ impl Pass for FindLoop {
     }
 }
 
+/// Which pass told a fault, and the tree that came back.
+fn told_by(fault: Either<(FirFault, Sketch), (FirFault, Sketch)>) -> (u8, Sketch) {
+    match fault {
+        Either::One(first) => (1, first.1),
+        Either::Two(second) => (2, second.1),
+    }
+}
+
 /// What comes of the tree: nothing, or which pass told a fault, and the tree that came back.
 fn told(alloc: Global, x: Sketch) -> Option<(u8, Sketch)> {
     match then(alloc, &FindMain, &FindLoop, x) {
         Ok(_) => None,
-        Err(Refused::Fault(Either::One((_, back)))) => Some((1, back)),
-        Err(Refused::Fault(Either::Two((_, back)))) => Some((2, back)),
+        Err(Refused::Fault(fault)) => Some(told_by(fault)),
         Err(Refused::Memory) => Some((0, x)),
     }
 }
