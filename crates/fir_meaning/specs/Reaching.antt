@@ -20,9 +20,19 @@ pub record Reached : Type 0 where
 abbrev pub further : Reached → LeafPath → Option LeafPath
 further r steps = option_map (λ path. path ++ steps) r.path
 
+-- a field of what is reached, an element, and an element that an index picks
+abbrev pub at_field : List ℕ → Reached → FieldFound → Reached
+at_field x r f = record { data_type = f.data_type; flow = flow_under f.flip r.flow; path = further r (named x ∷ []) }
+
+abbrev pub at_element : ℕ → Reached → DataType → Reached
+at_element i r t = record { data_type = t; flow = r.flow; path = further r (element i ∷ []) }
+
+abbrev pub at_any : Reached → DataType × ℕ → Reached
+at_any r v = record { data_type = v.0; flow = r.flow; path = if nat_lt 0 v.1 then further r (element 0 ∷ []) else None }
+
 abbrev pub reached_field : Place → List ℕ → Reached → Option FieldFound → Result Reached Fault
 reached_field p x r None = Err (no_field p x)
-reached_field p x r (Some f) = Ok (record { data_type = f.data_type; flow = flow_under f.flip r.flow; path = further r (named x ∷ []) })
+reached_field p x r (Some f) = Ok (at_field x r f)
 
 abbrev pub field_of_type : List ℕ → DataType → Option FieldFound
 field_of_type x (bundle fs) = field_named x fs
@@ -38,15 +48,14 @@ vector_of_type _ = None
 
 abbrev pub element_at : Place → ℕ → Reached → Option (DataType × ℕ) → Result Reached Fault
 element_at p i r None = Err (wrong_kinds p (r.data_type ∷ []))
-element_at p i r (Some v) =
-    if nat_lt i v.1 then Ok (record { data_type = v.0; flow = r.flow; path = further r (element i ∷ []) }) else Err (out_of_range p i v.1)
+element_at p i r (Some v) = if nat_lt i v.1 then Ok (at_element i r v.0) else Err (out_of_range p i v.1)
 
 abbrev pub to_index : Place → ℕ → Reached → Result Reached Fault
 to_index p i r = element_at p i r (vector_of_type r.data_type)
 
 abbrev pub any_element : Place → Reached → Option (DataType × ℕ) → Result Reached Fault
 any_element p r None = Err (wrong_kinds p (r.data_type ∷ []))
-any_element p r (Some v) = Ok (record { data_type = v.0; flow = r.flow; path = if nat_lt 0 v.1 then further r (element 0 ∷ []) else None })
+any_element p r (Some v) = Ok (at_any r v)
 
 abbrev pub to_any : Place → Reached → Result Reached Fault
 to_any p r = any_element p r (vector_of_type r.data_type)

@@ -2,3 +2,5 @@
 pub mod Clean
 pub mod Laws
 pub mod NameLaws
+pub mod WellTyped
+pub mod TypeLaws
