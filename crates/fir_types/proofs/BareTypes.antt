@@ -1,0 +1,75 @@
+-- A type without its widths: what it may be used for, its parts, and which types fit it are those of the type.
+use Rattle.std.proofs.Common.{◌≡◌, ℕ, List, refl, ap, sym, ◌∙◌, Bool, true, false, ◌&&◌, Option, Some, None}
+use Rattle.std.specs.Prelude.{not, ◌||◌, ◌==◌, option_map}
+use Rattle.std.specs.Bool.{beq}
+use Rattle.std.specs.Str.{bytes_eq}
+use Rattle.fir_ast.specs.Types.{DataType, uint, sint, clock, reset, async_reset, bundle, vector, Fields, no_fields, field}
+use Rattle.fir_meaning.specs.TypeKinds.{is_passive, are_passive, is_numeric, are_numeric, bare, bare_fields, FieldFound, field_named}
+use Rattle.fir_meaning.specs.Equivalence.{same_ground, fitting_ground, alike, fields_alike, met, is_partly_connectable, fields_partly_connectable}
+use Rattle.fir_meaning.specs.Reaching.{field_of_type, vector_of_type}
+use Rattle.fir_type_table.specs.working.Tables.{shown}
+
+mutual
+  bare_passive : (t : DataType) → is_passive (bare t) ≡ is_passive t
+  bare_passive (bundle fs) = bare_fields_passive fs
+  bare_passive (vector t n) = bare_passive t
+  bare_passive (uint w) = refl
+  bare_passive (sint w) = refl
+  bare_passive clock = refl
+  bare_passive reset = refl
+  bare_passive async_reset = refl
+
+  bare_fields_passive : (fs : Fields) → are_passive (bare_fields fs) ≡ are_passive fs
+  bare_fields_passive no_fields = refl
+  bare_fields_passive (field p flip x b t fs) =
+      ap (λ y. not flip && (y && are_passive (bare_fields fs))) (bare_passive t) ∙ ap (λ y. not flip && (is_passive t && y)) (bare_fields_passive fs)
+
+pub shown_passive : (is_bare : Bool) (t : DataType) → is_passive (shown is_bare t) ≡ is_passive t
+shown_passive true t = bare_passive t
+shown_passive false t = refl
+
+mutual
+  bare_numeric : (t : DataType) → is_numeric (bare t) ≡ is_numeric t
+  bare_numeric (bundle fs) = bare_fields_numeric fs
+  bare_numeric (vector t n) = ap (λ y. n == 0 || y) (bare_numeric t)
+  bare_numeric (uint w) = refl
+  bare_numeric (sint w) = refl
+  bare_numeric clock = refl
+  bare_numeric reset = refl
+  bare_numeric async_reset = refl
+
+  bare_fields_numeric : (fs : Fields) → are_numeric (bare_fields fs) ≡ are_numeric fs
+  bare_fields_numeric no_fields = refl
+  bare_fields_numeric (field p flip x b t fs) =
+      ap (λ y. y && are_numeric (bare_fields fs)) (bare_numeric t) ∙ ap (λ y. is_numeric t && y) (bare_fields_numeric fs)
+
+pub shown_numeric : (is_bare : Bool) (t : DataType) → is_numeric (shown is_bare t) ≡ is_numeric t
+shown_numeric true t = bare_numeric t
+shown_numeric false t = refl
+
+mutual
+  bare_again : (t : DataType) → bare (bare t) ≡ bare t
+  bare_again (bundle fs) = ap bundle (bare_fields_again fs)
+  bare_again (vector t n) = ap (λ u. vector u n) (bare_again t)
+  bare_again (uint w) = refl
+  bare_again (sint w) = refl
+  bare_again clock = refl
+  bare_again reset = refl
+  bare_again async_reset = refl
+
+  bare_fields_again : (fs : Fields) → bare_fields (bare_fields fs) ≡ bare_fields fs
+  bare_fields_again no_fields = refl
+  bare_fields_again (field p flip x b t fs) =
+      ap (λ u. field p flip x b u (bare_fields (bare_fields fs))) (bare_again t) ∙ ap (field p flip x b (bare t)) (bare_fields_again fs)
+
+pub bare_shown : (is_bare : Bool) (t : DataType) → shown true t ≡ bare (shown is_bare t)
+bare_shown true t = sym (bare_again t)
+bare_shown false t = refl
+
+same_bare_left : (s t : DataType) → same_ground (bare s) t ≡ same_ground s t
+same_bare_left (uint v) (uint w) = refl
+same_bare_left (sint v) (sint w) = refl
+same_bare_left clock clock = refl
+same_bare_left reset reset = refl
+same_bare_left async_reset async_reset = refl
+same_bare_left _ _ = refl

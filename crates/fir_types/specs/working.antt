@@ -1,0 +1,5 @@
+-- What no clause of `run` reads: views of the code's types and scopes, and its walks.
+pub mod Sorts
+pub mod Seen
+pub mod Judged
+pub mod Known

@@ -1,0 +1,142 @@
+//! What an expression is found to be.
+
+ghost use Rattle.std.specs.Prelude.{◌≡◌, ℕ, List, Option, IfOk, option_map};
+ghost use Rattle.fir_ast.specs.View.{type_of};
+ghost use Rattle.fir_meaning.specs.Reaching.{field_of_type, vector_of_type};
+ghost use Rattle.fir_ast.specs.Types.{DataType};
+ghost use Rattle.fir_meaning.specs.TypeKinds.{bare, is_numeric, is_passive};
+ghost use Rattle.fir_meaning.specs.ExpressionTypes.{number_type};
+ghost use Rattle.fir_type_table.specs.declared.entry.Member.{Member};
+ghost use Rattle.fir_type_table.specs.working.Tables.{made_of, types_of};
+ghost use Rattle.fir_types.specs.working.Seen.{field_seen, found_type};
+ghost use Rattle.fir_types.specs.working.Sorts.{sort_of};
+
+use crate::sort::Sort;
+use fir_ast::Ty;
+use fir_base::{MemoryOut, Name};
+use fir_type_table::{Kind, TypeId, TypeTable};
+use std::alloc::Global;
+
+/// The type of an expression.
+#[derive(Clone, Copy, Debug, PartialEq, Eq)]
+pub enum Found {
+    /// A UInt or an SInt that stands in no table, with its width if one is written: that of a literal, or of
+    /// the result of an operation.
+    Number(bool, Option<u128>),
+    /// The result of a conversion to an AsyncReset.
+    AsyncReset,
+    /// A type of the table, and whether it is without its widths: as the result of a mux or a validif, and
+    /// what is part of one.
+    Type(TypeId, bool),
+}
+
+/// A field of what is found.
+#[derive(Clone, Copy, Debug, PartialEq, Eq)]
+pub struct FieldOf {
+    pub flip: bool,
+    pub found: Found,
+}
+
+/// The sort of a type.
+pub fn sort(table: &TypeTable, found: Found) -> Sort
+    ensures { result ≡ sort_of (found_type (types_of table.now) found) }
+{
+    match found {
+        Found::Number(signed, _) => number_sort(signed),
+        Found::AsyncReset => Sort::AsyncReset,
+        Found::Type(id, _) => kind_sort(table.kind(id)),
+    }
+}
+
+fn number_sort(signed: bool) -> Sort
+    ensures { (width : Option ℕ) → result ≡ sort_of (number_type signed width) }
+{
+    if signed { Sort::SInt } else { Sort::UInt }
+}
+
+fn kind_sort(kind: Kind) -> Sort
+    ensures { (ts : List DataType) (members : List Member) → result ≡ sort_of (made_of ts kind members) }
+{
+    match kind {
+        Kind::UInt(_) => Sort::UInt,
+        Kind::SInt(_) => Sort::SInt,
+        Kind::Clock => Sort::Clock,
+        Kind::Reset => Sort::Reset,
+        Kind::AsyncReset => Sort::AsyncReset,
+        Kind::Bundle => Sort::Bundle,
+        Kind::Vector(_, _) => Sort::Vector,
+    }
+}
+
+/// Whether no field of it is flipped, at any depth.
+pub fn is_passive(table: &TypeTable, found: Found) -> bool
+    ensures { result ≡ is_passive (found_type (types_of table.now) found) }
+{
+    match found {
+        Found::Number(_, _) | Found::AsyncReset => true,
+        Found::Type(id, _) => table.is_passive(id),
+    }
+}
+
+/// Whether all its leaves are UInt or SInt.
+pub fn is_numeric(table: &TypeTable, found: Found) -> bool
+    ensures { result ≡ is_numeric (found_type (types_of table.now) found) }
+{
+    match found {
+        Found::Number(_, _) => true,
+        Found::AsyncReset => false,
+        Found::Type(id, _) => table.is_numeric(id),
+    }
+}
+
+/// Its field of that name.
+pub fn field(table: &TypeTable, found: Found, name: &Name) -> Option<FieldOf>
+    ensures { option_map (field_seen (types_of table.now)) result ≡ field_of_type name.now (found_type (types_of table.now) found) }
+{
+    match found {
+        Found::Number(_, _) | Found::AsyncReset => None,
+        Found::Type(id, is_bare) => {
+            let field = table.field(id, name)?;
+            Some(FieldOf {
+                flip: field.flip,
+                found: Found::Type(field.ty, is_bare),
+            })
+        }
+    }
+}
+
+/// Its elements, and how many there are.
+pub fn elements(table: &TypeTable, found: Found) -> Option<(Found, u128)>
+    ensures { option_map (λ e. (found_type (types_of table.now) e.0, e.1)) result ≡ vector_of_type (found_type (types_of table.now) found) }
+{
+    match found {
+        Found::Number(_, _) | Found::AsyncReset => None,
+        Found::Type(id, is_bare) => match table.kind(id) {
+            Kind::Vector(element, length) => Some((Found::Type(element, is_bare), length)),
+            _ => None,
+        },
+    }
+}
+
+/// The same without its widths.
+pub fn bare(found: Found) -> Found
+    ensures { (ts : List DataType) → found_type ts result ≡ bare (found_type ts found) }
+{
+    match found {
+        Found::Number(signed, _) => Found::Number(signed, None),
+        Found::AsyncReset => Found::AsyncReset,
+        Found::Type(id, _) => Found::Type(id, true),
+    }
+}
+
+/// The type, as a text would write it.
+pub fn ty(alloc: Global, table: &TypeTable, found: Found) -> Result<Ty, MemoryOut>
+    ensures { IfOk result (λ t. type_of t ≡ found_type (types_of table.now) found) }
+{
+    match found {
+        Found::Number(true, width) => Ok(Ty::SInt(width)),
+        Found::Number(false, width) => Ok(Ty::UInt(width)),
+        Found::AsyncReset => Ok(Ty::AsyncReset),
+        Found::Type(id, is_bare) => table.ty(alloc, id, is_bare),
+    }
+}

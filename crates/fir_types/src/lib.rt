@@ -1,0 +1,22 @@
+//! The types and flows of a circuit. In comes a `Named`, a circuit without a fault of names; out comes a
+//! `Typed`, the same circuit with the types of what it declares; or the first fault of types and flows, E12
+//! to E17 (FIRRTL spec, "Types", "Flow", "Expressions", "Connects", "Registers", "Memories").
+//!
+//! One walk goes over each module in the order of the text (`module`, `statements`). What an expression is
+//! found to be (`found`) is told from what its operands are (`expressions`, `references`, `forms`,
+//! `operations`); the types of what is declared stand in one table, and are told by their ids.
+#![tactic(auto)]
+
+mod expressions;
+mod faults;
+mod flow;
+mod forms;
+mod found;
+mod found_pairs;
+mod on_found;
+mod on_reached;
+mod operations;
+mod reach;
+mod scope;
+mod sort;
+mod steps;

@@ -1,0 +1,38 @@
+//! What is declared so far in a module.
+
+ghost use Rattle.std.specs.Prelude.{◌≡◌, [], ◌∷◌, option_map};
+ghost use Rattle.fir_meaning.specs.LeafPaths.{named};
+ghost use Rattle.fir_meaning.specs.Reaching.{root};
+ghost use Rattle.fir_meaning.specs.TypedScopes.{TypedScope};
+ghost use Rattle.fir_type_table.specs.working.Tables.{types_of};
+ghost use Rattle.fir_types.specs.working.Known.{Knows};
+ghost use Rattle.fir_types.specs.working.Seen.{reached_as};
+
+use crate::flow::Flow;
+use crate::found::Found;
+use crate::reach::Reach;
+use fir_base::Name;
+use fir_names::Names;
+use fir_type_table::TypeTable;
+
+/// The types that were met so far, and those of the declarations of the module, in the order of the text.
+#[derive(Drop)]
+pub struct Scope {
+    pub table: TypeTable,
+    pub declared: Vec<Option<Found>>,
+}
+
+impl Scope {
+    /// What a name reaches.
+    pub fn root(&self, names: &Names, name: &Name) -> Option<Reach>
+        ensures { (typed : TypedScope) → Knows names.now self.now typed → option_map (reached_as (types_of self.now.table) (named name.now ∷ [])) result ≡ (root typed name.now).has }
+    {
+        let declaration = names.find(name)?;
+        let found = self.declared.get(declaration.position)?;
+        Some(Reach {
+            found: (*found)?,
+            flow: Flow::of(declaration.component),
+            leads: true,
+        })
+    }
+}
