@@ -1,6 +1,6 @@
 //! What the table tells of a type.
 
-ghost use Rattle.std.specs.Prelude.{◌≡◌, ◌<◌, IfOk, flat_map, length, map, option_map};
+ghost use Rattle.std.specs.Prelude.{◌≡◌, ◌<◌, IfOk, flat_map, length, map, option_map, slice_get};
 ghost use Rattle.std.specs.List.{All};
 ghost use Rattle.fir_ast.specs.Types.{bundle, uint, vector};
 ghost use Rattle.std.specs.Prelude.{Some};
@@ -11,7 +11,8 @@ ghost use Rattle.fir_meaning.specs.Reaching.{field_of_type};
 ghost use Rattle.fir_meaning.specs.Equivalence.{is_connectable, is_equivalent, is_partly_connectable};
 ghost use Rattle.fir_meaning.specs.LeafPaths.{step_text};
 ghost use Rattle.fir_meaning.specs.ConnectPairs.{partial_pairs};
-ghost use Rattle.fir_meaning.specs.MemoryTypes.{mask_type};
+ghost use Rattle.fir_ast.specs.Types.{clock};
+ghost use Rattle.fir_meaning.specs.MemoryTypes.{bit, first_one, mask_type};
 ghost use Rattle.fir_type_table.specs.working.Fits.{IsMadeBelow, grounds};
 ghost use Rattle.fir_type_table.specs.working.Saturated.{saturated};
 ghost use Rattle.fir_type_table.specs.working.Sizes.{shared_count};
@@ -152,5 +153,33 @@ impl TypeTable {
         ensures { IfOk result (λ m. Adds self.old self.new m.number (mask_type (type_at (types_of self.old) id.number))) }
     {
         Err(MemoryOut)
+    }
+
+    /// The orientation of the first leaf of a type.
+    pub fn first_flip(&self, id: TypeId) -> Option<bool>
+        ensures { result ≡ option_map (λ l. l.flip) (first_one (type_leaves (type_at (types_of self.now) id.number))) }
+    {
+        match self.never {}
+    }
+
+    /// The orientation of the first pair of a partial connect.
+    pub fn first_pair_flip(&self, a: TypeId, b: TypeId) -> Option<bool>
+        ensures { result ≡ option_map (λ p. p.left.flip) (first_one (partial_pairs (type_at (types_of self.now) a.number) (type_at (types_of self.now) b.number))) }
+    {
+        match self.never {}
+    }
+
+    /// A Clock.
+    pub fn clock(&self) -> TypeId
+        ensures { slice_get (types_of self.now) result.number ≡ Some clock }
+    {
+        match self.never {}
+    }
+
+    /// A UInt of one bit.
+    pub fn bit(&self) -> TypeId
+        ensures { slice_get (types_of self.now) result.number ≡ Some bit }
+    {
+        match self.never {}
     }
 }

@@ -3,3 +3,8 @@ pub mod Sorts
 pub mod Seen
 pub mod Judged
 pub mod Known
+pub mod Walked
+pub mod MemoryFields
+pub mod Connected
+pub mod Registers
+pub mod Statements

@@ -7,16 +7,23 @@
 //! `operations`); the types of what is declared stand in one table, and are told by their ids.
 #![tactic(auto)]
 
+mod connects;
+mod drives;
 mod expressions;
 mod faults;
 mod flow;
 mod forms;
 mod found;
 mod found_pairs;
+mod memory_faults;
+mod memory_fields;
+mod memory_type;
 mod on_found;
 mod on_reached;
 mod operations;
 mod reach;
+mod registers;
 mod scope;
 mod sort;
+mod statements;
 mod steps;

@@ -1,19 +1,23 @@
 //! What is declared so far in a module.
 
-ghost use Rattle.std.specs.Prelude.{◌≡◌, [], ◌∷◌, option_map};
+ghost use Rattle.std.specs.Prelude.{◌≡◌, [], ◌∷◌, IfOk, option_map};
+ghost use Rattle.fir_ast.specs.View.{type_of};
 ghost use Rattle.fir_meaning.specs.LeafPaths.{named};
 ghost use Rattle.fir_meaning.specs.Reaching.{root};
 ghost use Rattle.fir_meaning.specs.TypedScopes.{TypedScope};
 ghost use Rattle.fir_type_table.specs.working.Tables.{types_of};
 ghost use Rattle.fir_types.specs.working.Known.{Knows};
 ghost use Rattle.fir_types.specs.working.Seen.{reached_as};
+ghost use Rattle.fir_types.specs.working.Walked.{Declared, Written};
 
 use crate::flow::Flow;
 use crate::found::Found;
 use crate::reach::Reach;
-use fir_base::Name;
+use fir_ast::Ty;
+use fir_base::{MemoryOut, Name};
 use fir_names::Names;
 use fir_type_table::TypeTable;
+use std::alloc::Global;
 
 /// The types that were met so far, and those of the declarations of the module, in the order of the text.
 #[derive(Drop)]
@@ -34,5 +38,22 @@ impl Scope {
             flow: Flow::of(declaration.component),
             leads: true,
         })
+    }
+
+    /// Puts a type into the table.
+    pub fn add(&mut self, alloc: Global, ty: &Ty) -> Result<Found, MemoryOut>
+        ensures { IfOk result (λ found. Written self.old self.new found (type_of ty.now)) }
+    {
+        let id = self.table.add(alloc, ty)?;
+        Ok(Found::Type(id, false))
+    }
+
+    /// Declares something of a type that is written.
+    pub fn declare(&mut self, alloc: Global, ty: &Ty) -> Result<(), MemoryOut>
+        ensures { IfOk result (λ _. Declared self.old self.new (type_of ty.now)) }
+    {
+        let found = self.add(alloc, ty)?;
+        self.declared.push(Some(found))?;
+        Ok(())
     }
 }

@@ -1,0 +1,82 @@
+//! The faults of a memory, E15 and E17, which stand at its name (FIRRTL spec, "Memories").
+
+ghost use Rattle.std.specs.Prelude.{◌≡◌, flat_map, if◌then◌else◌, map, option_map};
+ghost use Rattle.fir_ast.specs.View.{memory_part_of, named_of};
+ghost use Rattle.fir_meaning.specs.MemoryFaults.{flipped_data, is_one, memory_faults, unless};
+ghost use Rattle.fir_meaning.specs.MemoryTypes.{data_of_part, first_one};
+ghost use Rattle.fir_meaning.specs.TypeKinds.{is_sized};
+ghost use Rattle.fir_type_table.specs.working.Tables.{type_at, types_of};
+ghost use Rattle.fir_types.specs.working.Walked.{Judges};
+
+use crate::faults::not_passive;
+use crate::found::Found;
+use crate::memory_fields::{NumberField, count_data, count_rules, only_number};
+use fir_ast::{FirFault, Ident, Memory, MemoryField};
+use fir_base::{Name, Refused};
+use fir_type_table::{TypeId, TypeTable};
+use std::alloc::Global;
+
+/// The first fault of a memory whose first type of data has that id.
+pub fn in_memory_fields(
+    alloc: Global,
+    table: &TypeTable,
+    memory: &Memory,
+    word_type: Option<TypeId>,
+) -> Result<(), Refused<FirFault>>
+    ensures { option_map (λ id. type_at (types_of table.now) id.number) word_type ≡ first_one (flat_map data_of_part (map memory_part_of memory.now.fields.items)) → Judges (memory_faults (named_of memory.now.ident) (map memory_part_of memory.now.fields.items)) result }
+{
+    let (ident, fields) = (&memory.ident, memory.fields.as_slice());
+    no_flips(alloc, table, ident, word_type)?;
+    unless(alloc, is_one_data(table, fields, word_type), ident, b"data-type")?;
+    let depth = only_number(fields, NumberField::Depth);
+    unless(alloc, depth.is_some_and(|words| words >= 1), ident, b"depth")?;
+    let read = only_number(fields, NumberField::ReadLatency);
+    unless(alloc, read.is_some_and(|ticks| ticks <= 1), ident, b"read-latency")?;
+    let write = only_number(fields, NumberField::WriteLatency);
+    unless(alloc, write == Some(1), ident, b"write-latency")?;
+    unless(alloc, count_rules(fields) <= 1, ident, b"read-under-write")
+}
+
+/// The first data has no flips.
+fn no_flips(
+    alloc: Global,
+    table: &TypeTable,
+    ident: &Ident,
+    word_type: Option<TypeId>,
+) -> Result<(), Refused<FirFault>>
+    ensures { Judges (flipped_data (named_of ident.now) (option_map (λ id. type_at (types_of table.now) id.number) word_type)) result }
+{
+    match word_type {
+        Some(id) if !table.is_passive(id) => {
+            Err(not_passive(alloc, table, ident.place, Found::Type(id, false)))
+        }
+        _ => Ok(()),
+    }
+}
+
+/// Whether there is one type of word_type, of UInt and SInt with written widths.
+fn is_one_data(table: &TypeTable, fields: &[MemoryField], word_type: Option<TypeId>) -> bool
+    ensures { option_map (λ id. type_at (types_of table.now) id.number) word_type ≡ first_one (flat_map data_of_part (map memory_part_of fields.now)) → result ≡ is_one is_sized (flat_map data_of_part (map memory_part_of fields.now)) }
+{
+    match word_type {
+        Some(id) => count_data(fields) == 1 && table.is_sized(id),
+        None => false,
+    }
+}
+
+/// E17 of a field, where it does not stand as it is to.
+fn unless(
+    alloc: Global,
+    holds: bool,
+    ident: &Ident,
+    word: &[u8],
+) -> Result<(), Refused<FirFault>>
+    ensures { Judges (unless holds (named_of ident.now) word.now) result }
+{
+    if holds {
+        return Ok(());
+    }
+    let name = ident.name.copy(alloc)?;
+    let word = Name::new(alloc, word)?;
+    Err(Refused::Fault(FirFault::MemoryField(ident.place, name, word)))
+}

@@ -1,0 +1,182 @@
+//! The types in statements, in the order of the text, blocks of whens entered.
+
+ghost use Rattle.std.specs.Prelude.{◌≡◌, ℕ, List, IfOk, map, option_map};
+ghost use Rattle.fir_ast.specs.declared.place.Place.{Place};
+ghost use Rattle.fir_ast.specs.Circuits.{ModuleTree};
+ghost use Rattle.fir_ast.specs.Statements.{PlacedName};
+ghost use Rattle.fir_ast.specs.View.{block_of, expr_of, memory_part_of, named_of, reset_of, stmt_of, type_of};
+ghost use Rattle.fir_meaning.specs.Components as component;
+ghost use Rattle.fir_meaning.specs.Components.{Declarations};
+ghost use Rattle.fir_meaning.specs.MemoryFaults.{memory_faults};
+ghost use Rattle.fir_meaning.specs.TypeGroup.{type_faults_in, type_faults_in_block};
+ghost use Rattle.fir_meaning.specs.Visibility.{Before, behind, behind_block, with_declaration};
+ghost use Rattle.fir_names.specs.working.Parts.{when_view};
+ghost use Rattle.fir_types.specs.working.Statements.{node_faults, register_faults};
+ghost use Rattle.fir_types.specs.working.Walked.{Begins, IsOfModule, Passes, Walks};
+
+use crate::connects::{in_connect, in_partial_connect};
+use crate::expressions::{in_expression, in_reference, in_unsigned};
+use crate::found::Found;
+use crate::memory_faults::in_memory_fields;
+use crate::memory_fields::{first_data, first_depth};
+use crate::memory_type::memory_type;
+use crate::registers::{in_clock, in_reset, no_flips, register_type};
+use crate::scope::Scope;
+use fir_ast::{Expr, FirFault, Ident, Memory, Register, Stmt, When};
+use fir_base::{MemoryOut, Refused};
+use fir_names::{Component, Names};
+use fir_type_table::{TypeId, TypeTable};
+use std::alloc::Global;
+
+/// The first fault of types in statements, whose types are found as they are passed.
+#[cycle(statements)]
+pub fn in_block(
+    body: &[Stmt],
+    alloc: Global,
+    names: &Names,
+    bundles: &[TypeId],
+    scope: &mut Scope,
+) -> Result<(), Refused<FirFault>>
+    ensures { (modules : List ModuleTree) (before : Before) (whole : Declarations) → IsOfModule modules names.now whole → Begins (behind_block before (block_of (map stmt_of body.now))).declared whole → Walks modules bundles.now scope.old before → Passes modules bundles.now scope.new (type_faults_in_block modules before (block_of (map stmt_of body.now))) (behind_block before (block_of (map stmt_of body.now))) result }
+{
+    for statement in body {
+        in_statement(statement, alloc, names, bundles, scope)?;
+    }
+    Ok(())
+}
+
+#[cycle(statements)]
+fn in_statement(
+    statement: &Stmt,
+    alloc: Global,
+    names: &Names,
+    bundles: &[TypeId],
+    scope: &mut Scope,
+) -> Result<(), Refused<FirFault>>
+    ensures { (modules : List ModuleTree) (before : Before) (whole : Declarations) → IsOfModule modules names.now whole → Begins (behind before (stmt_of statement.now)).declared whole → Walks modules bundles.now scope.old before → Passes modules bundles.now scope.new (type_faults_in modules before (stmt_of statement.now)) (behind before (stmt_of statement.now)) result }
+{
+    match statement {
+        Stmt::Wire(_, _, _, ty) => Ok(scope.declare(alloc, ty)?),
+        Stmt::Reg(_, register) => in_register(alloc, names, scope, register),
+        Stmt::Node(_, ident, value) => in_node(alloc, names, scope, ident, value),
+        Stmt::Inst(_, _, _) => Ok(declare_instance(names, bundles, scope)?),
+        Stmt::Mem(_, memory) => in_memory(alloc, scope, memory),
+        Stmt::When(_, when) => in_when(when, alloc, names, bundles, scope),
+        Stmt::Connect(place, sink, source) => {
+            in_connect(alloc, names, scope, *place, sink, source)
+        }
+        Stmt::PartialConnect(place, sink, source) => {
+            in_partial_connect(alloc, names, scope, *place, sink, source)
+        }
+        Stmt::Invalid(_, sink) => {
+            in_reference(sink, alloc, names, scope)?;
+            Ok(())
+        }
+        Stmt::Skip(_) => Ok(()),
+    }
+}
+
+/// The condition, and then the blocks.
+#[cycle(statements)]
+fn in_when(
+    when: &When,
+    alloc: Global,
+    names: &Names,
+    bundles: &[TypeId],
+    scope: &mut Scope,
+) -> Result<(), Refused<FirFault>>
+    ensures { (modules : List ModuleTree) (before : Before) (whole : Declarations) (place : Place) → IsOfModule modules names.now whole → Begins (behind before (when_view when.now place)).declared whole → Walks modules bundles.now scope.old before → Passes modules bundles.now scope.new (type_faults_in modules before (when_view when.now place)) (behind before (when_view when.now place)) result }
+{
+    in_unsigned(&when.condition, alloc, names, scope)?;
+    in_block(&when.then_block, alloc, names, bundles, scope)?;
+    in_block(&when.else_block, alloc, names, bundles, scope)
+}
+
+/// A register: its own type, its clock, and then its reset, in which it is known.
+fn in_register(
+    alloc: Global,
+    names: &Names,
+    scope: &mut Scope,
+    register: &Register,
+) -> Result<(), Refused<FirFault>>
+    ensures { (modules : List ModuleTree) (bundles : List TypeId) (before : Before) (whole : Declarations) → IsOfModule modules names.now whole → Begins (with_declaration before (named_of register.now.ident) (component.register (type_of register.now.ty))).declared whole → Walks modules bundles scope.old before → Passes modules bundles scope.new (register_faults modules before (named_of register.now.ident) (type_of register.now.ty) (expr_of register.now.clock) (option_map reset_of register.now.reset)) (with_declaration before (named_of register.now.ident) (component.register (type_of register.now.ty))) result }
+{
+    let found = scope.add(alloc, &register.ty)?;
+    register_type(alloc, &scope.table, &register.ident, found)?;
+    in_clock(alloc, names, scope, &register.clock)?;
+    scope.declared.push(Some(found))?;
+    in_reset(alloc, names, scope, found, &register.reset)
+}
+
+/// A node, which is not known in its own expression.
+fn in_node(
+    alloc: Global,
+    names: &Names,
+    scope: &mut Scope,
+    ident: &Ident,
+    value: &Expr,
+) -> Result<(), Refused<FirFault>>
+    ensures { (modules : List ModuleTree) (bundles : List TypeId) (before : Before) (whole : Declarations) → IsOfModule modules names.now whole → Begins (with_declaration before (named_of ident.now) (component.node (expr_of value.now))).declared whole → Walks modules bundles scope.old before → Passes modules bundles scope.new (node_faults modules before (named_of ident.now) (expr_of value.now)) (with_declaration before (named_of ident.now) (component.node (expr_of value.now))) result }
+{
+    let found = in_expression(value, alloc, names, scope)?;
+    no_flips(alloc, &scope.table, ident, found)?;
+    scope.declared.push(found)?;
+    Ok(())
+}
+
+/// An instance, which is as the ports of its module.
+fn declare_instance(
+    names: &Names,
+    bundles: &[TypeId],
+    scope: &mut Scope,
+) -> Result<(), MemoryOut>
+    ensures { IfOk result (λ _. (modules : List ModuleTree) (before : Before) (whole : Declarations) (n : PlacedName) (name : List ℕ) → IsOfModule modules names.now whole → Begins (with_declaration before n (component.instance name)).declared whole → Walks modules bundles.now scope.old before → Walks modules bundles.now scope.new (with_declaration before n (component.instance name))) }
+{
+    let declaration = names.at(scope.declared.len());
+    let found = match declaration {
+        Some(declaration) => bundle_of(bundles, declaration.component),
+        None => None,
+    };
+    scope.declared.push(found)?;
+    Ok(())
+}
+
+fn bundle_of(bundles: &[TypeId], component: Component) -> Option<Found> {
+    let Component::Instance(number) = component else {
+        return None;
+    };
+    let id = bundles.get(number)?;
+    Some(Found::Type(*id, false))
+}
+
+/// A memory: its fields, and then the bundle of its ports.
+fn in_memory(alloc: Global, scope: &mut Scope, memory: &Memory) -> Result<(), Refused<FirFault>>
+    ensures { (modules : List ModuleTree) (bundles : List TypeId) (before : Before) → Walks modules bundles scope.old before → Passes modules bundles scope.new (memory_faults (named_of memory.now.ident) (map memory_part_of memory.now.fields.items)) (with_declaration before (named_of memory.now.ident) (component.memory (map memory_part_of memory.now.fields.items))) result }
+{
+    let data = match first_data(&memory.fields) {
+        Some(ty) => Some(scope.table.add(alloc, ty)?),
+        None => None,
+    };
+    in_memory_fields(alloc, &scope.table, memory, data)?;
+    let found = memory_found(alloc, &mut scope.table, memory, data)?;
+    scope.declared.push(found)?;
+    Ok(())
+}
+
+/// The type of a memory, where data and depth are written.
+fn memory_found(
+    alloc: Global,
+    table: &mut TypeTable,
+    memory: &Memory,
+    data: Option<TypeId>,
+) -> Result<Option<Found>, MemoryOut> {
+    let Some(data) = data else {
+        return Ok(None);
+    };
+    let Some(words) = first_depth(&memory.fields) else {
+        return Ok(None);
+    };
+    let place = memory.ident.place;
+    let id = memory_type(alloc, table, place, &memory.fields, data, words)?;
+    Ok(Some(Found::Type(id, false)))
+}
