@@ -35,3 +35,6 @@ pub mod MentionedUses
 pub mod OnceDeclared
 pub mod OneLookUp
 pub mod SmallNames
+pub mod LeafSteps
+pub mod PairedLeaves
+pub mod PartialPairs
