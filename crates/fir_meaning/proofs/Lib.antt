@@ -38,3 +38,6 @@ pub mod SmallNames
 pub mod LeafSteps
 pub mod PairedLeaves
 pub mod PartialPairs
+pub mod FreshFields
+pub mod DistinctLeaves
+pub mod LeafNumbers
