@@ -41,3 +41,9 @@ pub mod PartialPairs
 pub mod FreshFields
 pub mod DistinctLeaves
 pub mod LeafNumbers
+pub mod KnownNames
+pub mod SmallTypes
+pub mod BesideScopes
+pub mod SmallExpressions
+pub mod SmallConnects
+pub mod SmallFaults

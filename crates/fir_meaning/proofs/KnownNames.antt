@@ -1,0 +1,36 @@
+-- What is known under a name: declarations one by one, and what stays known behind others.
+use Rattle.std.proofs.Common.{◌≡◌, ℕ, List, [], ◌∷◌, ◌++◌, true, false, Some, None, refl, inl, inr, ◌⊎◌, ⊎_elim}
+use Rattle.std.specs.Str.{bytes_eq}
+use Rattle.fir_ast.specs.Circuits.{ModuleTree}
+use Rattle.fir_meaning.specs.Components.{Declaration, Declarations}
+use Rattle.fir_meaning.specs.TypedScopes.{Known, TypedScope, known}
+use Rattle.fir_meaning.specs.ComponentTypes.{known_as, typed_behind}
+use Rattle.fir_base.proofs.Tests.{chosen}
+
+-- one more declaration
+pub typed_more : (modules : List ModuleTree) (scope : TypedScope) (ds : Declarations) (d : Declaration)
+    → typed_behind modules scope (ds ++ d ∷ []) ≡ typed_behind modules scope ds ++ known_as modules (typed_behind modules scope ds) d ∷ []
+typed_more modules scope [] d = refl
+typed_more modules scope (x ∷ ds) d = typed_more modules (scope ++ known_as modules scope x ∷ []) ds d
+
+-- what is known stays known
+pub known_front : (scope more : TypedScope) (n : List ℕ) (k : Known) → known scope n ≡ Some k → known (scope ++ more) n ≡ Some k
+known_front [] more n k h = cc
+known_front (x ∷ scope) more n k h =
+    ⊎_elim
+    (λ (c : (bytes_eq x.name n ≡ true) × (Some x ≡ Some k)). rw c.0 c.1)
+    (λ (c : (bytes_eq x.name n ≡ false) × (known scope n ≡ Some k)). rw c.0 (known_front scope more n k c.1))
+    (chosen (bytes_eq x.name n) (Some x) (known scope n) (Some k) h)
+
+-- what is known with one more was known before it, or is that one
+pub known_before : (scope : TypedScope) (x : Known) (n : List ℕ) (k : Known) → known (scope ++ x ∷ []) n ≡ Some k → (known scope n ≡ Some k) ⊎ (x ≡ k)
+known_before [] x n k h =
+    ⊎_elim
+    (λ (c : (bytes_eq x.name n ≡ true) × (Some x ≡ Some k)). inr cc)
+    (λ (c : (bytes_eq x.name n ≡ false) × (None ≡ Some k)). let e : None ≡ Some k = c.1 in cc)
+    (chosen (bytes_eq x.name n) (Some x) None (Some k) h)
+known_before (y ∷ scope) x n k h =
+    ⊎_elim
+    (λ (c : (bytes_eq y.name n ≡ true) × (Some y ≡ Some k)). inl (rw c.0 c.1))
+    (λ (c : (bytes_eq y.name n ≡ false) × (known (scope ++ x ∷ []) n ≡ Some k)). rw c.0 (known_before scope x n k c.1))
+    (chosen (bytes_eq y.name n) (Some y) (known (scope ++ x ∷ []) n) (Some k) h)
