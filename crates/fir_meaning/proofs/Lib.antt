@@ -47,3 +47,10 @@ pub mod BesideScopes
 pub mod SmallExpressions
 pub mod SmallConnects
 pub mod SmallFaults
+pub mod FoundTypes
+pub mod ClearTypes
+pub mod LegalConnects
+pub mod LegalMemories
+pub mod LegalStatements
+pub mod ClearStatements
+pub mod WellTypedCircuits

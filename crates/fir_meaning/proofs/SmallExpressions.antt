@@ -18,6 +18,7 @@ use Rattle.fir_meaning.specs.TypedScopes.{TypedScope, known}
 use Rattle.fir_meaning.specs.Reaching.{Reached, known_reached}
 use Rattle.fir_meaning.specs.ExpressionTypes.{number_type, unsigned_at, passive_at, expression_type, expression_types, condition_form, passive_form}
 use Rattle.fir_base.proofs.Empty.{empty_left, empty_right}
+use Rattle.fir_meaning.proofs.PassedTests.{passes}
 use Rattle.fir_meaning.proofs.NothingLacking.{neither, whole_operation}
 use Rattle.fir_meaning.proofs.SmallTypes.{is_small, shown, IsShown, is_unsigned, small_condition, small_passive, mux_on, small_mux, validif_on, small_validif, AreShown, one_shown, small_operation, operation_of}
 use Rattle.fir_meaning.proofs.BesideScopes.{Beside, FoundBeside, found_beside, read_beside}
@@ -29,11 +30,7 @@ no_parts_left (subindex first p i rest) h = cc
 no_parts_left (subaccess first e rest) h = cc
 
 may_read : (scope : Scope) (p : Place) (n : List ℕ) → unreadable_name_faults scope p n ≡ [] → may_be_read (look_up scope n) ≡ true
-may_read scope p n h = by (may_be_read (look_up scope n)) refl h
-  where
-    by : (b : Bool) → may_be_read (look_up scope n) ≡ b → (if b then [] else Unknown p n ∷ []) ≡ [] → may_be_read (look_up scope n) ≡ true
-    by true e h = e
-    by false e h = cc
+may_read scope p n h = passes (may_be_read (look_up scope n)) (Unknown p n) h
 
 literal_shown : (l : Literal) → IsShown (Some (number_type l.signed l.width)) (Some (literal_printed l))
 literal_shown l = by l.signed refl
