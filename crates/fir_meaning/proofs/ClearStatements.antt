@@ -15,7 +15,7 @@ use Rattle.fir_meaning.specs.NameGroups.{faults_in, mention_faults, missing_faul
 use Rattle.fir_meaning.specs.LeafPaths.{named}
 use Rattle.fir_meaning.specs.TypeKinds.{is_passive, is_numeric}
 use Rattle.fir_meaning.specs.Equivalence.{is_equivalent, is_connectable, is_partly_connectable}
-use Rattle.fir_meaning.specs.ConnectPairs.{pairs, partial_pairs}
+use Rattle.fir_meaning.specs.ConnectPairs.{Pair, pairs, partial_pairs}
 use Rattle.fir_meaning.specs.FaultRules.{place_of}
 use Rattle.fir_meaning.specs.KindFaults.{wrong_kinds, wrong_types, not_passive}
 use Rattle.fir_meaning.specs.Checked.{Checked, is_found, answer_on, after, together, shown_on, shown_after}
@@ -24,7 +24,6 @@ use Rattle.fir_meaning.specs.Reaching.{Reached, known_reached}
 use Rattle.fir_meaning.specs.ExpressionTypes.{unsigned_at, condition_form, expression_type, reaching, reached_by}
 use Rattle.fir_meaning.specs.ComponentTypes.{find_module, instance_bundle, instance_type, component_type, known_as}
 use Rattle.fir_meaning.specs.MemoryFaults.{memory_faults}
-use Rattle.fir_meaning.specs.ConnectFaults.{connect_faults, partial_connect_faults}
 use Rattle.fir_meaning.specs.TypeGroup.{clock_at, reset_at, init_at, clock_faults, reset_faults, flipped_faults, register_type_faults, sides, scope_at, type_faults_in, type_faults_in_block}
 use Rattle.fir_meaning.specs.working.WellTyped.{HasType, Reaches, MayReset, ResetIsLegal, ConnectIsLegal, IsLegal, AreLegal}
 use Rattle.fir_base.proofs.Empty.{empty_left, empty_right}
@@ -35,7 +34,7 @@ use Rattle.fir_meaning.proofs.OnceDeclared.{clear_left, clear_right}
 use Rattle.fir_meaning.proofs.KnownNames.{typed_more, known_before, known_each}
 use Rattle.fir_meaning.proofs.FoundTypes.{together_found, found_type, found_sink}
 use Rattle.fir_meaning.proofs.ClearTypes.{answer_after, granted, Knows, IsTyped, operand_clear, unsigned_clear, clear_type, clear_sink}
-use Rattle.fir_meaning.proofs.LegalConnects.{clear_connect}
+use Rattle.fir_meaning.proofs.LegalConnects.{faults_of_sides, clear_connect}
 use Rattle.fir_meaning.proofs.LegalMemories.{clear_memory, memory_typed}
 
 -- all that is known has a type
@@ -127,6 +126,17 @@ module _ (scope : TypedScope) (visible : Declarations) (knows : Knows scope visi
         found = together_found (λ x y. (x, y)) r c one.0 two.type (found_sink scope s one.0 one.1) (found_type scope e two.type two.has);
       }
 
+  clear_pairs : (fits : DataType → DataType → Bool) (pairs_of : DataType → DataType → List Pair) (p : Place) (s : Sink) (e : Expression)
+      → faults_in (sink_mentions visible s ++ expression_mentions visible e) ≡ []
+      → shown_after (sides scope s e) (faults_of_sides fits pairs_of p (reached_by scope e)) ≡ [] → ConnectIsLegal fits pairs_of scope s e
+  clear_pairs fits pairs_of p s e m f =
+      let right = reached_by scope e in
+      let own = faults_of_sides fits pairs_of p right in
+      let c = sides scope s e in
+      let two = clear_sides s e m (empty_left c.shows (shown_on c.has own) f) in
+      let r = clear_connect fits pairs_of p right (two.left, two.type) (subst (λ (d : Checked (Reached × DataType)). shown_after d own ≡ []) two.found f) in
+      (two.left, two.type, two.reaches, two.has, r.0, r.1)
+
 -- what stands before a place: what is visible is declared, and what is declared has a type
 module _ (modules : List ModuleTree) where
   pub record Holds (before : Before) : Type 0 where
@@ -217,32 +227,6 @@ module _ (modules : List ModuleTree) where
         behind_it = typed_with before n (component.node e) t.type h (ap (λ d. d.has) found);
       }
 
-  clear_pairs : (before : Before) (p : Place) (s : Sink) (e : Expression) → Holds before → faults_in (sink_mentions before.visible s ++ expression_mentions before.visible e) ≡ []
-      → shown_after (sides (scope_at modules before) s e) (λ found. connect_faults p found.0 (reached_by (scope_at modules before) e) found.1) ≡ []
-      → ConnectIsLegal is_connectable pairs (scope_at modules before) s e
-  clear_pairs before p s e h m f =
-      let scope = scope_at modules before in
-      let right = reached_by scope e in
-      let own : Reached × DataType → _ = λ found. connect_faults p found.0 right found.1 in
-      let c = sides scope s e in
-      let two = clear_sides scope before.visible (knows_visible before h) s e m (empty_left c.shows (shown_on c.has own) f) in
-      let here : connect_faults p two.left right two.type ≡ [] = subst (λ (d : Checked (Reached × DataType)). shown_after d own ≡ []) two.found f in
-      let r = clear_connect p two.left right (is_connectable two.left.data_type two.type) (pairs two.left.data_type two.type) two.type here in
-      (two.left, two.type, two.reaches, two.has, r.0, r.1)
-
-  clear_partial_pairs : (before : Before) (p : Place) (s : Sink) (e : Expression) → Holds before → faults_in (sink_mentions before.visible s ++ expression_mentions before.visible e) ≡ []
-      → shown_after (sides (scope_at modules before) s e) (λ found. partial_connect_faults p found.0 (reached_by (scope_at modules before) e) found.1) ≡ []
-      → ConnectIsLegal is_partly_connectable partial_pairs (scope_at modules before) s e
-  clear_partial_pairs before p s e h m f =
-      let scope = scope_at modules before in
-      let right = reached_by scope e in
-      let own : Reached × DataType → _ = λ found. partial_connect_faults p found.0 right found.1 in
-      let c = sides scope s e in
-      let two = clear_sides scope before.visible (knows_visible before h) s e m (empty_left c.shows (shown_on c.has own) f) in
-      let here : partial_connect_faults p two.left right two.type ≡ [] = subst (λ (d : Checked (Reached × DataType)). shown_after d own ≡ []) two.found f in
-      let r = clear_connect p two.left right (is_partly_connectable two.left.data_type two.type) (partial_pairs two.left.data_type two.type) two.type here in
-      (two.left, two.type, two.reaches, two.has, r.0, r.1)
-
   mutual
     clear_statement : (s : Statement) (before : Before) → Holds before → faults_in (mentions names before s) ≡ [] → type_faults_in modules before s ≡ [] → IsClear before s
     clear_statement (wire p n begins t) before h m f = record { legal = tt; behind_it = typed_with before n (component.wire t) t h refl }
@@ -279,8 +263,8 @@ module _ (modules : List ModuleTree) where
           legal = (one.width, one.has, two.legal, three.legal);
           behind_it = record { declared = declared_behind (when p c a b) before h.declared; typed = three.behind_it.typed };
         }
-    clear_statement (connect p s e) before h m f = record { legal = clear_pairs before p s e h m f; behind_it = h }
-    clear_statement (partial_connect p s e) before h m f = record { legal = clear_partial_pairs before p s e h m f; behind_it = h }
+    clear_statement (connect p s e) before h m f = record { legal = clear_pairs (scope_at modules before) before.visible (knows_visible before h) is_connectable pairs p s e m f; behind_it = h }
+    clear_statement (partial_connect p s e) before h m f = record { legal = clear_pairs (scope_at modules before) before.visible (knows_visible before h) is_partly_connectable partial_pairs p s e m f; behind_it = h }
     clear_statement (invalid p s) before h m f = record { legal = clear_sink (scope_at modules before) before.visible (knows_visible before h) s m f; behind_it = h }
     clear_statement (skip p) before h m f = record { legal = tt; behind_it = h }
 

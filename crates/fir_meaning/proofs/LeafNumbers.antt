@@ -1,9 +1,9 @@
 -- The number of a leaf, found by offsets, is its place among the leaves.
-use Rattle.std.proofs.Common.{◌≡◌, ℕ, zero, suc, ◌+◌, ◌*◌, ◌<◌, List, [], ◌∷◌, ◌++◌, Bool, true, false, map, length, slice_get, refl, sym, ap, ◌∙◌, arith, length-append, Option, Some, None, if◌then◌else◌, option_map, inl, inr, ⊎_elim}
+use Rattle.std.proofs.Common.{◌≡◌, ℕ, zero, suc, ◌+◌, ◌*◌, ◌<◌, List, [], ◌∷◌, ◌++◌, Bool, true, false, map, length, slice_get, refl, sym, ap, ◌∙◌, arith, length-append, add-one, Option, Some, None, if◌then◌else◌, option_map, inl, inr, ⊎_elim}
 use Rattle.std.specs.Str.{bytes_eq}
 use Rattle.std.proofs.lemmas.List.{length-map}
 use Rattle.std.proofs.lemmas.Bool.{lt-ltb}
-use Rattle.std.proofs.Math.Nat.{suc-mul}
+use Rattle.std.proofs.Math.Nat.{suc-mul, zero-add}
 use Rattle.fir_base.specs.Lists.{In}
 use Rattle.fir_ast.specs.declared.place.Place.{Place}
 use Rattle.fir_ast.specs.Types.{DataType, uint, sint, clock, reset, async_reset, bundle, vector, Fields, no_fields, field}
@@ -62,12 +62,6 @@ numbered_later g h c b [] to n = tt
 numbered_later g h c b (l ∷ ls) to n =
     let e : (c + b) + 1 ≡ c + (b + 1) = omega arith in (to l.path b n.0, rw e (numbered_later g h c (b + 1) ls to n.1))
 
-one_more : (i : ℕ) → i + 1 ≡ suc i
-one_more i = omega arith
-
-zero_more : (k : ℕ) → 0 + k ≡ k
-zero_more k = omega arith
-
 numbered_elements : (t : DataType) (n i m : ℕ) → i + m ≡ n → Numbered (leaf_number t) 0 (type_leaves t)
     → Numbered (leaf_number (vector t n)) (i * leaf_count t) (element_leaves i m (type_leaves t))
 numbered_elements t n i zero e h = tt
@@ -78,7 +72,7 @@ numbered_elements t n i (suc m) e h =
     let here : Numbered (leaf_number (vector t n)) (i * leaf_count t + 0) (map (under false (element i)) (type_leaves t)) =
     numbered_under (leaf_number (vector t n)) (leaf_number t) (i * leaf_count t) 0 false (element i) (type_leaves t) (λ p k q. rw (lt-ltb i n lt, q) refl) h in
     let there : (i + 1) * leaf_count t ≡ i * leaf_count t + length (map (under false (element i)) (type_leaves t)) =
-    omega (arith, suc-mul i (leaf_count t), count_under false (element i) t, ap (λ x. x * leaf_count t) (one_more i)) in
+    omega (arith, suc-mul i (leaf_count t), count_under false (element i) t, ap (λ x. x * leaf_count t) (add-one i)) in
     numbered_joined (leaf_number (vector t n)) (i * leaf_count t) _ _ (rw z at here) (rw there at (numbered_elements t n (i + 1) m next h))
 
 some_of : (c : ℕ) (o : Option ℕ) (k : ℕ) → option_map (λ x. c + x) o ≡ Some k → (j : ℕ) × (o ≡ Some j)
@@ -107,7 +101,7 @@ mutual
   numbered : (t : DataType) → HasFreshFields t → Numbered (leaf_number t) 0 (type_leaves t)
   numbered (bundle fs) h = numbered_fields fs h
   numbered (vector t n) h =
-      let z : 0 * leaf_count t ≡ 0 = omega arith in rw z at (numbered_elements t n 0 n (zero_more n) (numbered t h))
+      let z : 0 * leaf_count t ≡ 0 = omega arith in rw z at (numbered_elements t n 0 n (zero-add n) (numbered t h))
   numbered t h = (refl, tt)
 
   numbered_fields : (fs : Fields) → AreFresh fs → Numbered (leaf_number (bundle fs)) 0 (field_leaves fs)
@@ -116,11 +110,11 @@ mutual
       let number = leaf_number (bundle (field q f x b t rest)) in
       let z : leaf_count t + 0 ≡ 0 + length (map (under f (named x)) (type_leaves t)) = omega (arith, count_under f (named x) t) in
       numbered_joined number 0 _ _
-      (numbered_under number (leaf_number t) 0 0 f (named x) (type_leaves t) (λ p k e. rw (name_same x, e) (ap (λ j. Some j) (sym (zero_more k)))) (numbered t h.1))
+      (numbered_under number (leaf_number t) 0 0 f (named x) (type_leaves t) (λ p k e. rw (name_same x, e) (ap (λ j. Some j) (sym (zero-add k)))) (numbered t h.1))
       (rw z at (numbered_later number (leaf_number (bundle rest)) (leaf_count t) 0 (field_leaves rest) (later_number q b f x t rest h.0) (numbered_fields rest h.2)))
 
 pub numbers_leaves : LeavesHaveNumbers
 numbers_leaves t h = record {
   count = count_leaves t;
-  number = λ k l e. numbered_at (leaf_number t) 0 (type_leaves t) (numbered t (fresh_fields t h)) k l e ∙ ap (λ j. Some j) (zero_more k);
+  number = λ k l e. numbered_at (leaf_number t) 0 (type_leaves t) (numbered t (fresh_fields t h)) k l e ∙ ap (λ j. Some j) (zero-add k);
 }

@@ -70,12 +70,27 @@ module _ (p : Place) (left : Reached) (right : Option Reached) where
   legal_each [] h = refl
   legal_each (x ∷ ps) h = rw (legal_pair x (All-head (PairFlows left right) x ps h), legal_each ps (All-tail (PairFlows left right) x ps h)) refl
 
-  -- of types that fit
-  pub clear_connect : (fits : Bool) (ps : List Pair) (t : DataType)
-      → (if fits then driven_faults p (Some left) right ps else wrong_types p left.data_type t ∷ []) ≡ [] → (fits ≡ true) × All (PairFlows left right) ps
-  clear_connect true ps t h = (refl, clear_each ps (first_none (flat_map (driven_of_pair p (Some left) right) ps) h))
-  clear_connect false ps t h = cc
+-- what a connect shows of its sides, by which types it joins and which leaves it pairs
+module _ (fits : DataType → DataType → Bool) (pairs_of : DataType → DataType → List Pair) (p : Place) (right : Option Reached) where
+  abbrev pub faults_of_sides : Reached × DataType → List Fault
+  faults_of_sides found =
+      if fits found.0.data_type found.1
+      then driven_faults p (Some found.0) right (pairs_of found.0.data_type found.1)
+      else wrong_types p found.0.data_type found.1 ∷ []
 
-  pub legal_connect : (fits : Bool) (ps : List Pair) (t : DataType) → fits ≡ true → All (PairFlows left right) ps
-      → (if fits then driven_faults p (Some left) right ps else wrong_types p left.data_type t ∷ []) ≡ []
-  legal_connect fits ps t e h = rw (e, legal_each ps h) refl
+  -- the types fit, and no source is driven
+  abbrev pub SidesFit : Reached × DataType → Type 0
+  SidesFit found = (fits found.0.data_type found.1 ≡ true) × All (PairFlows found.0 right) (pairs_of found.0.data_type found.1)
+
+  pub clear_connect : (found : Reached × DataType) → faults_of_sides found ≡ [] → SidesFit found
+  clear_connect found h = by (fits found.0.data_type found.1) h
+    where
+      ps : List Pair
+      ps = pairs_of found.0.data_type found.1
+
+      by : (b : Bool) → (if b then driven_faults p (Some found.0) right ps else wrong_types p found.0.data_type found.1 ∷ []) ≡ [] → (b ≡ true) × All (PairFlows found.0 right) ps
+      by true k = (refl, clear_each p found.0 right ps (first_none (flat_map (driven_of_pair p (Some found.0) right) ps) k))
+      by false k = cc
+
+  pub legal_connect : (found : Reached × DataType) → SidesFit found → faults_of_sides found ≡ []
+  legal_connect found h = rw (h.0, legal_each p found.0 right (pairs_of found.0.data_type found.1) h.1) refl

@@ -14,15 +14,15 @@ use Rattle.fir_meaning.proofs.PassedTests.{passes}
 use Rattle.fir_base.proofs.Empty.{empty_left, empty_right}
 
 -- the one, which passes
-record IsOne {A : Type 0} (passes : A → Bool) (xs : List A) : Type 0 where
+record IsOne {A : Type 0} (test : A → Bool) (xs : List A) : Type 0 where
   one : A
   alone : xs ≡ one ∷ []
-  passed : passes one ≡ true
+  passed : test one ≡ true
 
-one_passed : {A : Type 0} → (passes : A → Bool) (xs : List A) → is_one passes xs ≡ true → IsOne passes xs
-one_passed passes [] h = cc
-one_passed passes (x ∷ []) h = record { one = x; alone = refl; passed = h }
-one_passed passes (x ∷ y ∷ xs) h = cc
+one_passed : {A : Type 0} → (test : A → Bool) (xs : List A) → is_one test xs ≡ true → IsOne test xs
+one_passed test [] h = cc
+one_passed test (x ∷ []) h = record { one = x; alone = refl; passed = h }
+one_passed test (x ∷ y ∷ xs) h = cc
 
 pub clear_memory : (n : PlacedName) (parts : List MemoryPart) → memory_faults n parts ≡ [] → MemoryIsLegal parts
 clear_memory n parts h =
@@ -37,23 +37,23 @@ clear_memory n parts h =
     let of_read = unless (is_one (λ l. nat_le l 1) reads) n (codes "read-latency") in
     let of_write = unless (is_one (λ l. l == 1) writes) n (codes "write-latency") in
     let of_rule = unless (is_at_most_one rules) n (codes "read-under-write") in
-    let h4 = empty_left ((((flips ++ of_data) ++ of_depth) ++ of_read) ++ of_write) of_rule h in
-    let h3 = empty_left (((flips ++ of_data) ++ of_depth) ++ of_read) of_write h4 in
-    let h2 = empty_left ((flips ++ of_data) ++ of_depth) of_read h3 in
-    let h1 = empty_left (flips ++ of_data) of_depth h2 in
-    let word = one_passed is_sized types (passes (is_one is_sized types) (memory_field n.place n.name (codes "data-type")) (empty_right flips of_data h1)) in
-    let words = one_passed (λ words. nat_le 1 words) depths (passes (is_one (λ words. nat_le 1 words) depths) (memory_field n.place n.name (codes "depth")) (empty_right (flips ++ of_data) of_depth h2)) in
+    let before_rule = empty_left ((((flips ++ of_data) ++ of_depth) ++ of_read) ++ of_write) of_rule h in
+    let before_write = empty_left (((flips ++ of_data) ++ of_depth) ++ of_read) of_write before_rule in
+    let before_read = empty_left ((flips ++ of_data) ++ of_depth) of_read before_write in
+    let before_depth = empty_left (flips ++ of_data) of_depth before_read in
+    let word = one_passed is_sized types (passes (is_one is_sized types) (memory_field n.place n.name (codes "data-type")) (empty_right flips of_data before_depth)) in
+    let words = one_passed (λ words. nat_le 1 words) depths (passes (is_one (λ words. nat_le 1 words) depths) (memory_field n.place n.name (codes "depth")) (empty_right (flips ++ of_data) of_depth before_read)) in
     let read = one_passed (λ l. nat_le l 1) reads
-    (passes (is_one (λ l. nat_le l 1) reads) (memory_field n.place n.name (codes "read-latency")) (empty_right ((flips ++ of_data) ++ of_depth) of_read h3)) in
+    (passes (is_one (λ l. nat_le l 1) reads) (memory_field n.place n.name (codes "read-latency")) (empty_right ((flips ++ of_data) ++ of_depth) of_read before_write)) in
     let write = one_passed (λ l. l == 1) writes
-    (passes (is_one (λ l. l == 1) writes) (memory_field n.place n.name (codes "write-latency")) (empty_right (((flips ++ of_data) ++ of_depth) ++ of_read) of_write h4)) in
+    (passes (is_one (λ l. l == 1) writes) (memory_field n.place n.name (codes "write-latency")) (empty_right (((flips ++ of_data) ++ of_depth) ++ of_read) of_write before_rule)) in
     let one : write.one ≡ 1 = eqb-true write.one 1 write.passed in
     record {
       word_type = word.one;
       words = words.one;
       read = read.one;
       one_data = word.alone;
-      passive = passes (is_passive word.one) (not_passive n.place word.one) (rw word.alone at (empty_left flips of_data h1));
+      passive = passes (is_passive word.one) (not_passive n.place word.one) (rw word.alone at (empty_left flips of_data before_depth));
       sized = word.passed;
       one_depth = words.alone;
       some = leb-true 1 words.one words.passed;

@@ -1,5 +1,5 @@
 -- Legal statements show no fault of types.
-use Rattle.std.proofs.Common.{◌≡◌, List, [], ◌∷◌, ◌++◌, flat_map, Option, Some, None, Result, Ok, refl, ap, ◌∙◌}
+use Rattle.std.proofs.Common.{◌≡◌, List, [], ◌∷◌, ◌++◌, flat_map, Bool, Option, Some, None, Result, Ok, refl, ap, ◌∙◌}
 use Rattle.fir_ast.specs.declared.place.Place.{Place}
 use Rattle.fir_ast.specs.Types.{DataType, uint, sint, clock, reset, async_reset, bundle, vector}
 use Rattle.fir_ast.specs.Expressions.{Expression}
@@ -8,17 +8,16 @@ use Rattle.fir_ast.specs.Circuits.{ModuleTree}
 use Rattle.fir_meaning.specs.Components as component
 use Rattle.fir_meaning.specs.Visibility.{Before, with_declaration, opened, reopened, behind, behind_block}
 use Rattle.fir_meaning.specs.Equivalence.{is_connectable, is_partly_connectable}
-use Rattle.fir_meaning.specs.ConnectPairs.{pairs, partial_pairs}
+use Rattle.fir_meaning.specs.ConnectPairs.{Pair, pairs, partial_pairs}
 use Rattle.fir_meaning.specs.FaultRules.{place_of}
 use Rattle.fir_meaning.specs.Checked.{is_found, after, shown_after}
 use Rattle.fir_meaning.specs.TypedScopes.{TypedScope}
 use Rattle.fir_meaning.specs.Reaching.{Reached}
 use Rattle.fir_meaning.specs.ExpressionTypes.{expression_type, reaching, reached_by}
-use Rattle.fir_meaning.specs.ConnectFaults.{connect_faults, partial_connect_faults}
 use Rattle.fir_meaning.specs.TypeGroup.{clock_at, reset_at, init_at, clock_faults, reset_faults, flipped_faults, sides, scope_at, type_faults_in, type_faults_in_block}
-use Rattle.fir_meaning.specs.working.WellTyped.{HasType, Reaches, MayReset, ResetIsLegal, IsLegal, AreLegal}
+use Rattle.fir_meaning.specs.working.WellTyped.{HasType, Reaches, MayReset, ResetIsLegal, ConnectIsLegal, IsLegal, AreLegal}
 use Rattle.fir_meaning.proofs.FoundTypes.{after_found, together_found, found_condition, found_type, found_sink}
-use Rattle.fir_meaning.proofs.LegalConnects.{legal_connect}
+use Rattle.fir_meaning.proofs.LegalConnects.{faults_of_sides, legal_connect}
 use Rattle.fir_meaning.proofs.LegalMemories.{legal_memory}
 
 may_reset : (p : Place) (t : DataType) → MayReset t → reset_at p t ≡ Ok t
@@ -44,6 +43,13 @@ module _ (scope : TypedScope) where
   legal_sides : (s : Sink) (e : Expression) (r : Reached) (t : DataType) → Reaches scope s r → HasType scope e t → sides scope s e ≡ is_found (r, t)
   legal_sides s e r t h i = together_found (λ x y. (x, y)) (reaching scope s) (expression_type scope e) r t (found_sink scope s r h) (found_type scope e t i)
 
+  legal_pairs : (fits : DataType → DataType → Bool) (pairs_of : DataType → DataType → List Pair) (p : Place) (s : Sink) (e : Expression)
+      → ConnectIsLegal fits pairs_of scope s e → shown_after (sides scope s e) (faults_of_sides fits pairs_of p (reached_by scope e)) ≡ []
+  legal_pairs fits pairs_of p s e h =
+      let right = reached_by scope e in
+      ap (λ c. shown_after c (faults_of_sides fits pairs_of p right)) (legal_sides s e h.0 h.1 h.2 h.3)
+      ∙ legal_connect fits pairs_of p right (h.0, h.1) (h.4, h.5)
+
 module _ (modules : List ModuleTree) where
   mutual
     pub legal_statement : (s : Statement) (before : Before) → IsLegal modules before s → type_faults_in modules before s ≡ []
@@ -61,16 +67,8 @@ module _ (modules : List ModuleTree) where
         let two = legal_block a (opened before) h.2 in
         let three = legal_block b (reopened before (behind_block (opened before) a)) h.3 in
         rw (one, two, three) refl
-    legal_statement (connect p s e) before h =
-        let scope = scope_at modules before in
-        let right = reached_by scope e in
-        ap (λ c. shown_after c (λ found. connect_faults p found.0 right found.1)) (legal_sides scope s e h.0 h.1 h.2 h.3)
-        ∙ legal_connect p h.0 right (is_connectable h.0.data_type h.1) (pairs h.0.data_type h.1) h.1 h.4 h.5
-    legal_statement (partial_connect p s e) before h =
-        let scope = scope_at modules before in
-        let right = reached_by scope e in
-        ap (λ c. shown_after c (λ found. partial_connect_faults p found.0 right found.1)) (legal_sides scope s e h.0 h.1 h.2 h.3)
-        ∙ legal_connect p h.0 right (is_partly_connectable h.0.data_type h.1) (partial_pairs h.0.data_type h.1) h.1 h.4 h.5
+    legal_statement (connect p s e) before h = legal_pairs (scope_at modules before) is_connectable pairs p s e h
+    legal_statement (partial_connect p s e) before h = legal_pairs (scope_at modules before) is_partly_connectable partial_pairs p s e h
     legal_statement (invalid p s) before h = ap (λ c. c.shows) (found_sink (scope_at modules before) s h.0 h.1)
     legal_statement (skip p) before h = refl
 
