@@ -1,5 +1,5 @@
 -- The scope of the small language beside what the whole language knows at the same place.
-use Rattle.std.proofs.Common.{◌≡◌, ℕ, List, [], ◌∷◌, ◌++◌, Bool, true, false, if◌then◌else◌, Option, Some, None, option_map, refl, sym, ap, ◌∙◌}
+use Rattle.std.proofs.Common.{◌≡◌, ℕ, List, [], ◌∷◌, ◌++◌, Bool, true, false, Option, Some, None, option_map, refl, sym, ap, ◌∙◌}
 use Rattle.std.specs.Str.{bytes_eq}
 use Rattle.fir_ast.specs.Types.{DataType}
 use Rattle.fir_meaning.specs.Scopes.{Declared, Scope, look_up, type_read}
@@ -8,7 +8,7 @@ use Rattle.fir_meaning.specs.TypeFaults.{is_source}
 use Rattle.fir_meaning.specs.Flows as flows
 use Rattle.fir_meaning.specs.TypedScopes.{Known, TypedScope, known}
 use Rattle.fir_meaning.specs.Reaching.{Reached, known_reached}
-use Rattle.fir_meaning.proofs.SmallTypes.{shown, IsShown}
+use Rattle.fir_meaning.proofs.SmallTypes.{IsShown}
 
 pub record SameKnown (d : Declared) (k : Known) : Type 0 where
   pub name : d.named.name ≡ k.name

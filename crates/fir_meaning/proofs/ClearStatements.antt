@@ -1,16 +1,15 @@
 -- Statements that show no fault of names or types are legal, and what is declared behind them has a type.
-use Rattle.std.proofs.Common.{◌≡◌, ℕ, List, [], ◌∷◌, ◌++◌, map, flat_map, Bool, true, false, if◌then◌else◌, Option, Some, None, option_map, Result, Ok, Err, refl, sym, ap, ◌∙◌, ⊎_elim, subst}
+use Rattle.std.proofs.Common.{◌≡◌, ℕ, List, [], ◌∷◌, ◌++◌, map, Bool, true, false, if◌then◌else◌, Option, Some, None, Ok, refl, sym, ap, ◌∙◌, ⊎_elim, subst}
 use Rattle.std.specs.Str.{bytes_eq}
-use Rattle.fir_base.specs.Lists.{In}
 use Rattle.fir_ast.specs.declared.place.Place.{Place}
-use Rattle.fir_ast.specs.Types.{DataType, uint, sint, clock, reset, async_reset, bundle, vector}
+use Rattle.fir_ast.specs.Types.{DataType, uint, clock, reset, async_reset}
 use Rattle.fir_ast.specs.Expressions.{Expression}
 use Rattle.fir_ast.specs.Statements.{PlacedName, Sink, Reset, Statement, wire, register, node, instance, memory, when, connect, partial_connect, invalid, skip, Block, done, then}
 use Rattle.fir_ast.specs.Circuits.{PortTree, ModuleTree}
 use Rattle.fir_meaning.specs.Components.{Component, Declarations, find_name}
 use Rattle.fir_meaning.specs.Components as component
 use Rattle.fir_meaning.specs.Visibility.{Before, declaration_at, with_declaration, opened, reopened, behind, behind_block, behind_ports}
-use Rattle.fir_meaning.specs.Mentions.{declares, instantiates, names_declared, type_mentions, expression_mentions, sink_mentions, reset_mentions, memory_mentions, mentions, block_mentions}
+use Rattle.fir_meaning.specs.Mentions.{declares, instantiates, names_declared, type_mentions, expression_mentions, sink_mentions, reset_mentions, mentions, block_mentions}
 use Rattle.fir_meaning.specs.NameGroups.{faults_in, mention_faults, missing_faults}
 use Rattle.fir_meaning.specs.LeafPaths.{named}
 use Rattle.fir_meaning.specs.TypeKinds.{is_passive, is_numeric}
@@ -18,12 +17,11 @@ use Rattle.fir_meaning.specs.Equivalence.{is_equivalent, is_connectable, is_part
 use Rattle.fir_meaning.specs.ConnectPairs.{Pair, pairs, partial_pairs}
 use Rattle.fir_meaning.specs.FaultRules.{place_of}
 use Rattle.fir_meaning.specs.KindFaults.{wrong_kinds, wrong_types, not_passive}
-use Rattle.fir_meaning.specs.Checked.{Checked, is_found, answer_on, after, together, shown_on, shown_after}
+use Rattle.fir_meaning.specs.Checked.{Checked, is_found, after, shown_on, shown_after}
 use Rattle.fir_meaning.specs.TypedScopes.{Known, TypedScope, known}
 use Rattle.fir_meaning.specs.Reaching.{Reached, known_reached}
 use Rattle.fir_meaning.specs.ExpressionTypes.{unsigned_at, condition_form, expression_type, reaching, reached_by}
-use Rattle.fir_meaning.specs.ComponentTypes.{find_module, instance_bundle, instance_type, component_type, known_as}
-use Rattle.fir_meaning.specs.MemoryFaults.{memory_faults}
+use Rattle.fir_meaning.specs.ComponentTypes.{instance_bundle, instance_type, component_type, known_as}
 use Rattle.fir_meaning.specs.TypeGroup.{clock_at, reset_at, init_at, clock_faults, reset_faults, flipped_faults, register_type_faults, sides, scope_at, type_faults_in, type_faults_in_block}
 use Rattle.fir_meaning.specs.working.WellTyped.{HasType, Reaches, MayReset, ResetIsLegal, ConnectIsLegal, IsLegal, AreLegal}
 use Rattle.fir_base.proofs.Empty.{empty_left, empty_right}
@@ -33,7 +31,7 @@ use Rattle.fir_meaning.proofs.GrownDeclarations.{grows_block, Declared, declared
 use Rattle.fir_meaning.proofs.OnceDeclared.{clear_left, clear_right}
 use Rattle.fir_meaning.proofs.KnownNames.{typed_more, known_before, known_each}
 use Rattle.fir_meaning.proofs.FoundTypes.{together_found, found_type, found_sink}
-use Rattle.fir_meaning.proofs.ClearTypes.{answer_after, granted, Knows, IsTyped, operand_clear, unsigned_clear, clear_type, clear_sink}
+use Rattle.fir_meaning.proofs.ClearTypes.{answer_after, granted, Knows, operand_clear, unsigned_clear, clear_type, clear_sink}
 use Rattle.fir_meaning.proofs.LegalConnects.{faults_of_sides, clear_connect}
 use Rattle.fir_meaning.proofs.LegalMemories.{clear_memory, memory_typed}
 

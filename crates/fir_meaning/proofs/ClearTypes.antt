@@ -1,12 +1,12 @@
 -- A form that shows no fault, and whose names are known, has a type.
-use Rattle.std.proofs.Common.{◌≡◌, ℕ, ◌<◌, List, [], ◌∷◌, ◌++◌, Bool, true, false, ◌&&◌, if◌then◌else◌, length, Option, Some, None, Result, Ok, Err, IsTrue, refl, sym, ap, ◌∙◌, subst}
+use Rattle.std.proofs.Common.{◌≡◌, ℕ, ◌<◌, List, [], ◌∷◌, ◌++◌, Bool, true, false, ◌&&◌, if◌then◌else◌, Option, Some, None, Result, Ok, Err, refl, subst}
 use Rattle.std.proofs.lemmas.Bool.{ltb-true}
 use Rattle.std.specs.Prelude.{nat_lt}
 use Rattle.fir_bits.specs.declared.operators.PrimOp.{PrimOp}
 use Rattle.fir_bits.specs.declared.types.NumTy.{NumTy}
 use Rattle.fir_bits.specs.Forms.{form_of, takes}
 use Rattle.fir_ast.specs.declared.place.Place.{Place}
-use Rattle.fir_ast.specs.Types.{DataType, uint, sint, clock, reset, async_reset, bundle, vector}
+use Rattle.fir_ast.specs.Types.{DataType, uint}
 use Rattle.fir_ast.specs.Expressions.{Expression, reference, literal, operation, mux, validif, Parts, no_parts, subfield, subindex, subaccess, Expressions, no_expressions, expression}
 use Rattle.fir_ast.specs.Statements.{Sink}
 use Rattle.fir_pass.specs.Faults.{Fault}
@@ -20,7 +20,7 @@ use Rattle.fir_meaning.specs.KindFaults.{wrong_kinds, wrong_types, not_passive, 
 use Rattle.fir_meaning.specs.Checked.{Checked, is_found, answered, answer_on, after, together}
 use Rattle.fir_meaning.specs.OperationTypes.{is_conversion, operand_kinds, result_of, operation_on, type_of_operation}
 use Rattle.fir_meaning.specs.TypedScopes.{TypedScope, known}
-use Rattle.fir_meaning.specs.Reaching.{Reached, reached_field, to_field, element_at, to_index, any_element, to_any, at_field, at_element, at_any, field_of_type, vector_of_type, known_reached, root}
+use Rattle.fir_meaning.specs.Reaching.{Reached, reached_field, to_field, element_at, to_index, any_element, to_any, at_field, at_element, at_any, field_of_type, vector_of_type, known_reached}
 use Rattle.fir_meaning.specs.ExpressionTypes.{number_type, unsigned_at, passive_at, type_of_mux, type_of_validif, condition_form, passive_form, field_form, index_form, access_form, expression_type, expression_types, along_parts, reaching}
 use Rattle.fir_meaning.specs.working.WellTyped.{HasType, HaveTypes, Leads, Reaches}
 use Rattle.fir_base.proofs.Empty.{empty_left, empty_right}
@@ -204,7 +204,18 @@ module _ (scope : TypedScope) (visible : Declarations) (knows : Knows scope visi
         record {
           type = bare two.type;
           has = (
-            one.width, two.type, three.type, one.has, two.has, two.passive, may.first, three.has, three.passive, may.second, may.equivalent, refl,
+            one.width,
+            two.type,
+            three.type,
+            one.has,
+            two.has,
+            two.passive,
+            may.first,
+            three.has,
+            three.passive,
+            may.second,
+            may.equivalent,
+            refl,
           );
         }
     clear_type (validif p c a) m h =

@@ -1,9 +1,9 @@
 -- Each path is that of one leaf, where no bundle has two fields of one name.
-use Rattle.std.proofs.Common.{◌≡◌, ℕ, zero, suc, ◌+◌, ◌≤◌, List, [], ◌∷◌, ◌++◌, false, map, refl, sym, inl, inr, ⊎_elim, subst, arith}
+use Rattle.std.proofs.Common.{◌≡◌, ℕ, zero, suc, ◌+◌, ◌≤◌, List, [], ◌∷◌, map, refl, sym, inl, inr, ⊎_elim, subst, arith}
 use Rattle.fir_base.specs.Lists.{In, Distinct}
-use Rattle.fir_ast.specs.Types.{DataType, uint, sint, clock, reset, async_reset, bundle, vector, Fields, no_fields, field}
+use Rattle.fir_ast.specs.Types.{DataType, bundle, vector, Fields, no_fields, field}
 use Rattle.fir_meaning.specs.LeafPaths.{Step, named, element, LeafPath}
-use Rattle.fir_meaning.specs.TypeLeaves.{TypeLeaf, under, element_leaves, type_leaves, field_leaves}
+use Rattle.fir_meaning.specs.TypeLeaves.{TypeLeaf, element_leaves, type_leaves, field_leaves}
 use Rattle.fir_meaning.specs.working.TypeLaws.{PathsAreDistinct}
 use Rattle.fir_base.proofs.Members.{in_either}
 use Rattle.fir_base.proofs.Twins.{distinct_joined}

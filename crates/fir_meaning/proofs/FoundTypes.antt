@@ -1,5 +1,5 @@
 -- What has a type is found to have it, and shows no fault.
-use Rattle.std.proofs.Common.{◌≡◌, ℕ, ◌<◌, List, [], ◌∷◌, ◌++◌, Bool, true, false, Option, Some, None, Result, Ok, Err, IsTrue, refl, sym, ap, ◌∙◌}
+use Rattle.std.proofs.Common.{◌≡◌, ℕ, ◌<◌, List, ◌∷◌, true, Option, Some, Result, Ok, refl, sym, ap, ◌∙◌}
 use Rattle.std.proofs.lemmas.Bool.{lt-ltb}
 use Rattle.fir_bits.specs.declared.operators.PrimOp.{PrimOp}
 use Rattle.fir_bits.specs.declared.types.NumTy.{NumTy}
@@ -16,7 +16,7 @@ use Rattle.fir_meaning.specs.Checked.{Checked, is_found, after, together}
 use Rattle.fir_meaning.specs.OperationTypes.{is_conversion, operand_kinds, result_of, type_of_operation}
 use Rattle.fir_meaning.specs.TypedScopes.{TypedScope, known}
 use Rattle.fir_meaning.specs.Reaching.{Reached, to_field, to_index, to_any, at_field, at_element, at_any, field_of_type, vector_of_type, known_reached, root}
-use Rattle.fir_meaning.specs.ExpressionTypes.{unsigned_at, passive_at, type_of_mux, type_of_validif, type_reached, condition_form, passive_form, field_form, index_form, access_form, expression_type, expression_types, along_parts, reaching}
+use Rattle.fir_meaning.specs.ExpressionTypes.{unsigned_at, passive_at, type_of_mux, type_of_validif, type_reached, condition_form, passive_form, expression_type, expression_types, along_parts, reaching}
 use Rattle.fir_meaning.specs.working.WellTyped.{HasType, HaveTypes, Leads, Reaches}
 
 -- a form on an operand that is found, and two operands that are

@@ -1,7 +1,7 @@
 -- Types in which no bundle has two fields of one name.
 use Rattle.std.proofs.Common.{◌≡◌, ℕ, List, [], ◌∷◌, ◌++◌, ⊎_elim, inl, refl}
 use Rattle.fir_base.specs.Lists.{In}
-use Rattle.fir_ast.specs.Types.{DataType, uint, sint, clock, reset, async_reset, bundle, vector, Fields, no_fields, field}
+use Rattle.fir_ast.specs.Types.{DataType, bundle, vector, Fields, no_fields, field}
 use Rattle.fir_ast.specs.Statements.{PlacedName}
 use Rattle.fir_meaning.specs.Components.{find_name}
 use Rattle.fir_meaning.specs.Mentions.{declares, placed, type_mentions, field_mentions}

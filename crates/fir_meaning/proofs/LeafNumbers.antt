@@ -1,16 +1,16 @@
 -- The number of a leaf, found by offsets, is its place among the leaves.
-use Rattle.std.proofs.Common.{◌≡◌, ℕ, zero, suc, ◌+◌, ◌*◌, ◌<◌, List, [], ◌∷◌, ◌++◌, Bool, true, false, map, length, slice_get, refl, sym, ap, ◌∙◌, arith, length-append, add-one, Option, Some, None, if◌then◌else◌, option_map, inl, inr, ⊎_elim}
+use Rattle.std.proofs.Common.{◌≡◌, ℕ, zero, suc, ◌+◌, ◌*◌, ◌<◌, List, [], ◌∷◌, ◌++◌, Bool, true, false, map, length, slice_get, refl, sym, ap, ◌∙◌, arith, length-append, add-one, Option, Some, None, option_map, inl, inr, ⊎_elim}
 use Rattle.std.specs.Str.{bytes_eq}
 use Rattle.std.proofs.lemmas.List.{length-map}
 use Rattle.std.proofs.lemmas.Bool.{lt-ltb}
 use Rattle.std.proofs.Math.Nat.{suc-mul, zero-add}
 use Rattle.fir_base.specs.Lists.{In}
 use Rattle.fir_ast.specs.declared.place.Place.{Place}
-use Rattle.fir_ast.specs.Types.{DataType, uint, sint, clock, reset, async_reset, bundle, vector, Fields, no_fields, field}
+use Rattle.fir_ast.specs.Types.{DataType, bundle, vector, Fields, no_fields, field}
 use Rattle.fir_meaning.specs.LeafPaths.{Step, named, element, LeafPath}
 use Rattle.fir_meaning.specs.TypeLeaves.{TypeLeaf, under, element_leaves, type_leaves, field_leaves, leaf_count, field_count}
 use Rattle.fir_meaning.specs.TypeNumbers.{leaf_number, field_number}
-use Rattle.fir_meaning.specs.working.TypeLaws.{NumbersLeaves, LeavesHaveNumbers}
+use Rattle.fir_meaning.specs.working.TypeLaws.{LeavesHaveNumbers}
 use Rattle.fir_base.proofs.SameNames.{name_is, name_same, name_other}
 use Rattle.fir_base.proofs.Tests.{chosen}
 use Rattle.fir_meaning.proofs.FreshFields.{field_names, HasFreshFields, AreFresh, fresh_fields}

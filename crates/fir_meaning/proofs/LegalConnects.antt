@@ -1,5 +1,5 @@
 -- A connect drives no source exactly where it shows no fault of flows.
-use Rattle.std.proofs.Common.{◌≡◌, List, [], ◌∷◌, ◌++◌, take, flat_map, Bool, true, false, if◌then◌else◌, Option, Some, None, All, refl}
+use Rattle.std.proofs.Common.{◌≡◌, List, [], ◌∷◌, take, flat_map, Bool, true, false, if◌then◌else◌, Option, Some, None, All, refl}
 use Rattle.std.proofs.lemmas.List.Elements.{All-nil, All-cons, All-head, All-tail}
 use Rattle.fir_ast.specs.declared.place.Place.{Place}
 use Rattle.fir_ast.specs.Types.{DataType}

@@ -1,8 +1,7 @@
 -- A memory has each field as it is to be exactly where it shows no fault, and then it has a type.
-use Rattle.std.proofs.Common.{◌≡◌, ℕ, ◌≤◌, List, [], ◌∷◌, ◌++◌, flat_map, codes, nat_le, Bool, true, false, ◌==◌, if◌then◌else◌, Option, Some, None, refl}
+use Rattle.std.proofs.Common.{◌≡◌, List, [], ◌∷◌, ◌++◌, flat_map, codes, nat_le, Bool, true, ◌==◌, Some, refl}
 use Rattle.std.proofs.lemmas.Bool.{leb-true, le-leb, eqb-true}
 use Rattle.fir_ast.specs.declared.place.Place.{Place}
-use Rattle.fir_ast.specs.declared.statements.ReadUnderWrite.{ReadUnderWrite}
 use Rattle.fir_ast.specs.Types.{DataType}
 use Rattle.fir_ast.specs.Statements.{PlacedName, MemoryPart}
 use Rattle.fir_meaning.specs.TypeKinds.{is_passive, is_sized}

@@ -1,7 +1,7 @@
 -- Legal statements show no fault of types.
-use Rattle.std.proofs.Common.{◌≡◌, List, [], ◌∷◌, ◌++◌, flat_map, Bool, Option, Some, None, Result, Ok, refl, ap, ◌∙◌}
+use Rattle.std.proofs.Common.{◌≡◌, List, [], Bool, Option, Some, None, Ok, refl, ap, ◌∙◌}
 use Rattle.fir_ast.specs.declared.place.Place.{Place}
-use Rattle.fir_ast.specs.Types.{DataType, uint, sint, clock, reset, async_reset, bundle, vector}
+use Rattle.fir_ast.specs.Types.{DataType, uint, clock, reset, async_reset}
 use Rattle.fir_ast.specs.Expressions.{Expression}
 use Rattle.fir_ast.specs.Statements.{Sink, Reset, Statement, wire, register, node, instance, memory, when, connect, partial_connect, invalid, skip, Block, done, then}
 use Rattle.fir_ast.specs.Circuits.{ModuleTree}
@@ -10,7 +10,7 @@ use Rattle.fir_meaning.specs.Visibility.{Before, with_declaration, opened, reope
 use Rattle.fir_meaning.specs.Equivalence.{is_connectable, is_partly_connectable}
 use Rattle.fir_meaning.specs.ConnectPairs.{Pair, pairs, partial_pairs}
 use Rattle.fir_meaning.specs.FaultRules.{place_of}
-use Rattle.fir_meaning.specs.Checked.{is_found, after, shown_after}
+use Rattle.fir_meaning.specs.Checked.{is_found, shown_after}
 use Rattle.fir_meaning.specs.TypedScopes.{TypedScope}
 use Rattle.fir_meaning.specs.Reaching.{Reached}
 use Rattle.fir_meaning.specs.ExpressionTypes.{expression_type, reaching, reached_by}

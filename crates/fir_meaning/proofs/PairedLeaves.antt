@@ -4,12 +4,12 @@ use Rattle.std.specs.Bool.{beq}
 use Rattle.std.specs.Str.{bytes_eq}
 use Rattle.std.proofs.lemmas.List.{map-append}
 use Rattle.std.proofs.lemmas.Bool.{eqb-true}
-use Rattle.fir_ast.specs.Types.{DataType, bundle, vector, Fields, no_fields, field}
+use Rattle.fir_ast.specs.Types.{bundle, vector, Fields, no_fields, field}
 use Rattle.fir_meaning.specs.LeafPaths.{Step, named, element}
 use Rattle.fir_meaning.specs.TypeLeaves.{TypeLeaf, under, element_leaves, type_leaves, field_leaves}
 use Rattle.fir_meaning.specs.Equivalence.{fields_alike, is_connectable, fitting_ground}
 use Rattle.fir_meaning.specs.ConnectPairs.{Pair, both_under, element_pairs, pairs, field_pairs}
-use Rattle.fir_meaning.specs.working.TypeLaws.{PairsLeaves, ConnectsLeafByLeaf}
+use Rattle.fir_meaning.specs.working.TypeLaws.{ConnectsLeafByLeaf}
 use Rattle.fir_base.proofs.Tests.{both}
 use Rattle.fir_base.proofs.SameNames.{name_is}
 use Rattle.fir_meaning.proofs.LeafSteps.{path_of, behind_step, paths_joined, element_paths, same_flip}

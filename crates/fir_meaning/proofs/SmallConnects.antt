@@ -1,5 +1,5 @@
 -- A connect of types of the small language in which the whole language finds no fault: the small one finds none.
-use Rattle.std.proofs.Common.{◌≡◌, ℕ, List, [], ◌∷◌, ◌++◌, take, Bool, true, false, if◌then◌else◌, Option, Some, None, refl}
+use Rattle.std.proofs.Common.{◌≡◌, ℕ, List, [], ◌∷◌, ◌++◌, take, true, false, if◌then◌else◌, Option, Some, None, refl}
 use Rattle.fir_ast.specs.declared.place.Place.{Place}
 use Rattle.fir_ast.specs.declared.types.Ty.{Ty}
 use Rattle.fir_ast.specs.Types.{DataType, uint, sint, clock}

@@ -1,27 +1,24 @@
 -- An expression of the small language, of whose names each may be read, and in which the whole language finds no fault of types:
 -- the small one finds none in it, and prints the type that the whole language finds.
-use Rattle.std.proofs.Common.{◌≡◌, ℕ, List, [], ◌∷◌, ◌++◌, Bool, true, false, if◌then◌else◌, Option, Some, None, option_map, refl, sym, ap, ◌∙◌, subst, append-nil}
+use Rattle.std.proofs.Common.{◌≡◌, ℕ, List, [], ◌++◌, Bool, true, false, Some, None, refl, sym, subst}
 use Rattle.std.specs.Option.{option_or}
 use Rattle.fir_ast.specs.declared.place.Place.{Place}
 use Rattle.fir_ast.specs.declared.fault.FirFault.TheVariants.{Unknown}
 use Rattle.fir_ast.specs.declared.expressions.Literal.{Literal}
-use Rattle.fir_ast.specs.Types.{DataType}
 use Rattle.fir_ast.specs.Expressions.{Expression, reference, literal, operation, mux, validif, Parts, no_parts, subfield, subindex, subaccess, Expressions, no_expressions, expression}
-use Rattle.fir_pass.specs.Faults.{Fault}
-use Rattle.fir_meaning.specs.Scopes.{Declared, Scope, look_up, literal_printed, printed_type, printed_types, type_read}
+use Rattle.fir_meaning.specs.Scopes.{Scope, look_up, literal_printed, printed_type, printed_types, type_read}
 use Rattle.fir_meaning.specs.FaultRules.{place_of, within, within_each}
 use Rattle.fir_meaning.specs.NameFaults.{may_be_read, names_in_expression, unreadable_name_faults}
-use Rattle.fir_meaning.specs.TypeFaults.{types_in_expression, condition_kind_faults, arm_faults}
+use Rattle.fir_meaning.specs.TypeFaults.{types_in_expression, condition_kind_faults}
 use Rattle.fir_meaning.specs.Lacking.{lacking_part, lacking_expression, lacking_operands}
-use Rattle.fir_meaning.specs.Checked.{Checked, answer_on}
+use Rattle.fir_meaning.specs.Checked.{answer_on}
 use Rattle.fir_meaning.specs.TypedScopes.{TypedScope, known}
-use Rattle.fir_meaning.specs.Reaching.{Reached, known_reached}
 use Rattle.fir_meaning.specs.ExpressionTypes.{number_type, unsigned_at, passive_at, expression_type, expression_types, condition_form, passive_form}
 use Rattle.fir_base.proofs.Empty.{empty_left, empty_right}
 use Rattle.fir_meaning.proofs.PassedTests.{passes}
 use Rattle.fir_meaning.proofs.NothingLacking.{neither, whole_operation}
-use Rattle.fir_meaning.proofs.SmallTypes.{is_small, shown, IsShown, is_unsigned, small_condition, small_passive, mux_on, small_mux, validif_on, small_validif, AreShown, one_shown, small_operation, operation_of}
-use Rattle.fir_meaning.proofs.BesideScopes.{Beside, FoundBeside, found_beside, read_beside}
+use Rattle.fir_meaning.proofs.SmallTypes.{IsShown, is_unsigned, small_condition, small_passive, mux_on, small_mux, validif_on, small_validif, AreShown, one_shown, small_operation, operation_of}
+use Rattle.fir_meaning.proofs.BesideScopes.{Beside, found_beside, read_beside}
 
 pub no_parts_left : (ps : Parts) → lacking_part ps ≡ None → ps ≡ no_parts
 no_parts_left no_parts h = refl

@@ -1,5 +1,5 @@
 -- A circuit of the language in which no fault of names or types stands shows no fault of types by the small language's list.
-use Rattle.std.proofs.Common.{◌≡◌, ℕ, List, [], ◌∷◌, ◌++◌, map, flat_map, Option, Some, None, option_map, IsTrue, refl, sym, ap, ◌∙◌, subst, append_assoc, append-nil}
+use Rattle.std.proofs.Common.{◌≡◌, List, [], ◌∷◌, ◌++◌, map, flat_map, Option, Some, None, option_map, refl, sym, subst, append_assoc, append-nil}
 use Rattle.std.specs.Prelude.{codes}
 use Rattle.std.specs.Option.{option_or}
 use Rattle.fir_base.specs.declared.direction.Direction.{Direction}
@@ -8,7 +8,7 @@ use Rattle.fir_ast.specs.declared.place.Place.{Place}
 use Rattle.fir_ast.specs.Types.{DataType, uint, sint, clock}
 use Rattle.fir_ast.specs.Expressions.{Expression, reference, literal, operation, mux, validif, Parts}
 use Rattle.fir_ast.specs.Statements.{PlacedName, Statement, wire, register, node, instance, memory, when, connect, partial_connect, invalid, skip, Block, done, then}
-use Rattle.fir_ast.specs.Circuits.{PortTree, ModuleTree, CircuitTree}
+use Rattle.fir_ast.specs.Circuits.{PortTree, ModuleTree}
 use Rattle.fir_meaning.specs.Scopes.{clock_input, node_value, register_value, Declared, Scope, look_up, declares, port_declared, port_kind, type_of, printed_type, written_type, written_printed}
 use Rattle.fir_meaning.specs.FaultRules.{place_of, within, along, along_ports, faults_by}
 use Rattle.fir_meaning.specs.NameFaults.{names_in_expression, name_rule, repeated_name_faults, undeclared_name_faults, clock_name_faults, statement_name_faults}
@@ -20,13 +20,12 @@ use Rattle.fir_meaning.specs.Components.{Component}
 use Rattle.fir_meaning.specs.Components as component
 use Rattle.fir_meaning.specs.Visibility.{Before, declaration_at, with_declaration, behind, behind_ports, at_head}
 use Rattle.fir_meaning.specs.Flows as flows
-use Rattle.fir_meaning.specs.Checked.{answer_on, after, joined, shown_on, shown_after}
+use Rattle.fir_meaning.specs.Checked.{answer_on, shown_on}
 use Rattle.fir_meaning.specs.TypedScopes.{Known, TypedScope, known}
 use Rattle.fir_meaning.specs.Reaching.{Reached, known_reached, root}
 use Rattle.fir_meaning.specs.ExpressionTypes.{expression_type, along_parts, reached_by}
 use Rattle.fir_meaning.specs.ComponentTypes.{known_as}
-use Rattle.fir_meaning.specs.TypeGroup.{clock_at, clock_faults, reset_faults, register_type_faults, flipped_faults, scope_at, type_faults_in, type_faults_in_block, module_type_faults, type_faults}
-use Rattle.fir_meaning.specs.NameGroups.{HasNames}
+use Rattle.fir_meaning.specs.TypeGroup.{clock_at, clock_faults, reset_faults, register_type_faults, flipped_faults, scope_at, type_faults_in, type_faults_in_block, module_type_faults}
 use Rattle.fir_meaning.specs.working.TypeLaws.{TypesLeaveNone}
 use Rattle.fir_base.proofs.Empty.{empty_left, empty_right}
 use Rattle.fir_meaning.proofs.NothingLacking.{nothing, neither, none_first}

@@ -1,6 +1,6 @@
 -- Types of the small language, as the whole language finds them and as the small one prints them.
 -- Where the whole language shows no fault on them, the small one shows none, and what both find fits again.
-use Rattle.std.proofs.Common.{◌≡◌, ℕ, List, [], ◌∷◌, ◌++◌, Bool, true, false, ◌&&◌, if◌then◌else◌, length, Option, Some, None, option_map, Result, Ok, Err, refl, sym, ap, ◌∙◌}
+use Rattle.std.proofs.Common.{◌≡◌, ℕ, List, [], ◌∷◌, Bool, true, false, ◌&&◌, if◌then◌else◌, length, Option, Some, None, Ok, Err, refl, ap, ◌∙◌}
 use Rattle.fir_bits.specs.declared.operators.PrimOp.{PrimOp}
 use Rattle.fir_bits.specs.declared.operators.PrimOp.TheVariants.{AsAsyncReset}
 use Rattle.fir_bits.specs.declared.types.NumTy.{NumTy}
@@ -10,12 +10,12 @@ use Rattle.fir_bits.specs.Types.{signed_of}
 use Rattle.fir_ast.specs.declared.place.Place.{Place}
 use Rattle.fir_ast.specs.declared.types.Ty.{Ty}
 use Rattle.fir_ast.specs.declared.types.Ty.TheVariants.{UInt, SInt, Clock}
-use Rattle.fir_ast.specs.Types.{DataType, uint, sint, clock, reset, async_reset, bundle, vector}
+use Rattle.fir_ast.specs.Types.{DataType, uint, sint, clock}
 use Rattle.fir_meaning.specs.Scopes.{Kind, input, clock_input, output, node_value, register_value, is_signed, bare_type, kinds_of, operation_printed, mux_printed, validif_printed, with_printed, written_printed}
 use Rattle.fir_meaning.specs.TypeFaults.{clock_read, clock_kind_faults, operand_faults, condition_kind_faults, arm_faults}
 use Rattle.fir_meaning.specs.KindFaults.{wrong_kinds}
 use Rattle.fir_meaning.specs.Checked.{Checked, answered, answer_on, joined}
-use Rattle.fir_meaning.specs.OperationTypes.{is_conversion, of_sign, operand_kind, operand_kinds, ground_of, result_of, operation_on, type_of_operation}
+use Rattle.fir_meaning.specs.OperationTypes.{is_conversion, of_sign, operand_kinds, ground_of, result_of, operation_on, type_of_operation}
 use Rattle.fir_meaning.specs.ExpressionTypes.{unsigned_at, passive_at, type_of_mux, type_of_validif}
 use Rattle.fir_meaning.specs.TypeGroup.{clock_at}
 use Rattle.fir_base.proofs.Tests.{both}

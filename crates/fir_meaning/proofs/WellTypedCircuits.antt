@@ -1,15 +1,15 @@
 -- A circuit shows no fault of types exactly where it is well typed, if no fault of names stands in it.
-use Rattle.std.proofs.Common.{◌≡◌, ℕ, List, [], ◌∷◌, flat_map, None, Some, refl, inl, inr}
+use Rattle.std.proofs.Common.{◌≡◌, List, [], ◌∷◌, flat_map, refl, inl, inr}
 use Rattle.fir_base.specs.Lists.{In}
 use Rattle.fir_ast.specs.Circuits.{ModuleTree, CircuitTree}
 use Rattle.fir_meaning.specs.Visibility.{behind_ports, at_head}
 use Rattle.fir_meaning.specs.Mentions.{ports_mentions, block_mentions, module_names, circuit_mentions}
 use Rattle.fir_meaning.specs.NameGroups.{HasNames, faults_in}
 use Rattle.fir_meaning.specs.TypeGroup.{module_type_faults, type_faults}
-use Rattle.fir_meaning.specs.working.WellTyped.{AreLegal, IsWellTyped}
+use Rattle.fir_meaning.specs.working.WellTyped.{IsWellTyped}
 use Rattle.fir_meaning.specs.working.TypeLaws.{FaultlessIsWellTyped}
 use Rattle.fir_base.proofs.Empty.{empty_at}
-use Rattle.fir_meaning.proofs.GrownDeclarations.{included_all, declared_ports}
+use Rattle.fir_meaning.proofs.GrownDeclarations.{included_all}
 use Rattle.fir_meaning.proofs.OnceDeclared.{clear_right}
 use Rattle.fir_meaning.proofs.OneLookUp.{emptied, clear_module}
 use Rattle.fir_meaning.proofs.LegalStatements.{legal_block}
