@@ -85,18 +85,18 @@ module _ (scope : TypedScope) (visible : Declarations) (knows : Knows scope visi
   clear_reset : (t : DataType) (r : Option Reset) → faults_in (reset_mentions visible r) ≡ [] → reset_faults scope t r ≡ [] → ResetIsLegal scope t r
   clear_reset t None m h = tt
   clear_reset t (Some r) m h =
-      let mc = expression_mentions visible r.condition in
-      let mi = expression_mentions visible r.init in
+      let mentioned_c = expression_mentions visible r.condition in
+      let mentioned_i = expression_mentions visible r.init in
       let at_c = reset_at (place_of r.condition) in
       let at_i = init_at (place_of r.init) t in
       let front = (after (expression_type scope r.condition) at_c).shows in
       let back = (after (expression_type scope r.init) at_i).shows in
-      let hc = empty_left front back h in
-      let hi = empty_right front back h in
-      let c = clear_type scope visible knows r.condition (clear_left mc mi m) (operand_clear scope r.condition at_c hc) in
-      let i = clear_type scope visible knows r.init (clear_right mc mi m) (operand_clear scope r.init at_i hi) in
-      let told_c = answer_after (expression_type scope r.condition) c.type at_c (found_type scope r.condition c.type c.has) hc in
-      let told_i = answer_after (expression_type scope r.init) i.type at_i (found_type scope r.init i.type i.has) hi in
+      let clear_c = empty_left front back h in
+      let clear_i = empty_right front back h in
+      let c = clear_type scope visible knows r.condition (clear_left mentioned_c mentioned_i m) (operand_clear scope r.condition at_c clear_c) in
+      let i = clear_type scope visible knows r.init (clear_right mentioned_c mentioned_i m) (operand_clear scope r.init at_i clear_i) in
+      let told_c = answer_after (expression_type scope r.condition) c.type at_c (found_type scope r.condition c.type c.has) clear_c in
+      let told_i = answer_after (expression_type scope r.init) i.type at_i (found_type scope r.init i.type i.has) clear_i in
       let fits = (granted (is_equivalent t i.type) (Ok i.type) (wrong_types (place_of r.init) t i.type) told_i.0 told_i.1).0 in
       (c.type, i.type, c.has, reset_type (place_of r.condition) c.type told_c.0 told_c.1, i.has, fits)
 
@@ -110,12 +110,12 @@ module _ (scope : TypedScope) (visible : Declarations) (knows : Knows scope visi
 
   clear_sides : (s : Sink) (e : Expression) → faults_in (sink_mentions visible s ++ expression_mentions visible e) ≡ [] → (sides scope s e).shows ≡ [] → SidesAre s e
   clear_sides s e m h =
-      let ms = sink_mentions visible s in
-      let me = expression_mentions visible e in
+      let mentioned_s = sink_mentions visible s in
+      let mentioned_e = expression_mentions visible e in
       let r = reaching scope s in
       let c = expression_type scope e in
-      let one = clear_sink scope visible knows s (clear_left ms me m) (empty_left r.shows c.shows h) in
-      let two = clear_type scope visible knows e (clear_right ms me m) (empty_right r.shows c.shows h) in
+      let one = clear_sink scope visible knows s (clear_left mentioned_s mentioned_e m) (empty_left r.shows c.shows h) in
+      let two = clear_type scope visible knows e (clear_right mentioned_s mentioned_e m) (empty_right r.shows c.shows h) in
       record {
         left = one.0;
         type = two.type;
@@ -189,16 +189,16 @@ module _ (modules : List ModuleTree) where
       let next = with_declaration before n (component.register t) in
       let more = scope_at modules next in
       let after_it = typed_with before n (component.register t) t h refl in
-      let mt = type_mentions t in
-      let mc = expression_mentions before.visible c in
-      let mr = reset_mentions next.visible r in
-      let inside = empty_right (mention_faults (declares (names_declared before) n)) (faults_in (mt ++ mc ++ mr)) m in
+      let mentioned_t = type_mentions t in
+      let mentioned_c = expression_mentions before.visible c in
+      let mentioned_r = reset_mentions next.visible r in
+      let inside = empty_right (mention_faults (declares (names_declared before) n)) (faults_in (mentioned_t ++ mentioned_c ++ mentioned_r)) m in
       let numeric = (if is_numeric t then [] else wrong_kinds n.place (t ∷ []) ∷ []) in
       let front = empty_left (register_type_faults n t ++ clock_faults scope c) (reset_faults more t r) f in
       let type = empty_left (register_type_faults n t) (clock_faults scope c) front in
-      let control = clear_clock scope before.visible (knows_visible before h) c (clear_right mt mc (clear_left (mt ++ mc) mr inside))
+      let control = clear_clock scope before.visible (knows_visible before h) c (clear_right mentioned_t mentioned_c (clear_left (mentioned_t ++ mentioned_c) mentioned_r inside))
       (empty_right (register_type_faults n t) (clock_faults scope c) front) in
-      let held = clear_reset more next.visible (knows_visible next after_it) t r (clear_right (mt ++ mc) mr inside)
+      let held = clear_reset more next.visible (knows_visible next after_it) t r (clear_right (mentioned_t ++ mentioned_c) mentioned_r inside)
       (empty_right (register_type_faults n t ++ clock_faults scope c) (reset_faults more t r) f) in
       record {
         legal = (
@@ -241,22 +241,22 @@ module _ (modules : List ModuleTree) where
     clear_statement (when p c a b) before h m f =
         let scope = scope_at modules before in
         let inside = behind_block (opened before) a in
-        let mc = expression_mentions before.visible c in
-        let ma = block_mentions names (opened before) a in
-        let mb = block_mentions names (reopened before inside) b in
-        let front = clear_left (mc ++ ma) mb m in
+        let mentioned_c = expression_mentions before.visible c in
+        let mentioned_a = block_mentions names (opened before) a in
+        let mentioned_b = block_mentions names (reopened before inside) b in
+        let front = clear_left (mentioned_c ++ mentioned_a) mentioned_b m in
         let condition = condition_form (place_of c) (expression_type scope c) in
         let first = type_faults_in_block modules (opened before) a in
         let second = type_faults_in_block modules (reopened before inside) b in
         let shown = empty_left (condition.shows ++ first) second f in
         let at_c = empty_left condition.shows first shown in
-        let t = clear_type scope before.visible (knows_visible before h) c (clear_left mc ma front) (operand_clear scope c (unsigned_at (place_of c)) at_c) in
+        let t = clear_type scope before.visible (knows_visible before h) c (clear_left mentioned_c mentioned_a front) (operand_clear scope c (unsigned_at (place_of c)) at_c) in
         let one = unsigned_clear scope c t at_c in
-        let two = clear_block a (opened before) (record { declared = declared_opened before h.declared; typed = h.typed }) (clear_right mc ma front)
+        let two = clear_block a (opened before) (record { declared = declared_opened before h.declared; typed = h.typed }) (clear_right mentioned_c mentioned_a front)
         (empty_right condition.shows first shown) in
         let three = clear_block b (reopened before inside)
         (record { declared = declared_reopened before inside h.declared (grows_block a (opened before)); typed = two.behind_it.typed })
-        (clear_right (mc ++ ma) mb m) (empty_right (condition.shows ++ first) second f) in
+        (clear_right (mentioned_c ++ mentioned_a) mentioned_b m) (empty_right (condition.shows ++ first) second f) in
         record {
           legal = (one.width, one.has, two.legal, three.legal);
           behind_it = record { declared = declared_behind (when p c a b) before h.declared; typed = three.behind_it.typed };
@@ -270,10 +270,10 @@ module _ (modules : List ModuleTree) where
         → AreClear before b
     clear_block done before h m f = record { legal = tt; behind_it = h }
     clear_block ((then) s b) before h m f =
-        let ms = mentions names before s in
-        let mb = block_mentions names (behind before s) b in
+        let mentioned_s = mentions names before s in
+        let mentioned_b = block_mentions names (behind before s) b in
         let here = type_faults_in modules before s in
         let more = type_faults_in_block modules (behind before s) b in
-        let one = clear_statement s before h (clear_left ms mb m) (empty_left here more f) in
-        let two = clear_block b (behind before s) one.behind_it (clear_right ms mb m) (empty_right here more f) in
+        let one = clear_statement s before h (clear_left mentioned_s mentioned_b m) (empty_left here more f) in
+        let two = clear_block b (behind before s) one.behind_it (clear_right mentioned_s mentioned_b m) (empty_right here more f) in
         record { legal = (one.legal, two.legal); behind_it = two.behind_it }

@@ -177,28 +177,28 @@ module _ (scope : TypedScope) (visible : Declarations) (knows : Knows scope visi
         let may = may_operate p op ks inside.types told.0 told.1 in
         record { type = result_of op may.kinds; has = (inside.types, may.kinds, inside.have, may.are, may.taken, refl) }
     clear_type (mux p c a b) m h =
-        let mc = expression_mentions visible c in
-        let ma = expression_mentions visible a in
-        let mb = expression_mentions visible b in
-        let front = clear_left (mc ++ ma) mb m in
-        let fc = condition_form (place_of c) (expression_type scope c) in
-        let fa = passive_form (place_of a) (expression_type scope a) in
-        let fb = passive_form (place_of b) (expression_type scope b) in
-        let arms = together (λ u v. (u, v)) fa fb in
-        let all = together (λ (u : DataType) v. v) fc arms in
+        let mentioned_c = expression_mentions visible c in
+        let mentioned_a = expression_mentions visible a in
+        let mentioned_b = expression_mentions visible b in
+        let front = clear_left (mentioned_c ++ mentioned_a) mentioned_b m in
+        let form_c = condition_form (place_of c) (expression_type scope c) in
+        let form_a = passive_form (place_of a) (expression_type scope a) in
+        let form_b = passive_form (place_of b) (expression_type scope b) in
+        let arms = together (λ u v. (u, v)) form_a form_b in
+        let all = together (λ (u : DataType) v. v) form_c arms in
         let operands = empty_left all.shows (answer_on all.has (type_of_mux p)).shows h in
-        let later = empty_right fc.shows arms.shows operands in
-        let at_c = empty_left fc.shows arms.shows operands in
-        let at_a = empty_left fa.shows fb.shows later in
-        let at_b = empty_right fa.shows fb.shows later in
-        let one = unsigned_clear scope c (clear_type c (clear_left mc ma front) (operand_clear scope c (unsigned_at (place_of c)) at_c)) at_c in
-        let two = arm_clear scope a (clear_type a (clear_right mc ma front) (operand_clear scope a (passive_at (place_of a)) at_a)) at_a in
-        let three = arm_clear scope b (clear_type b (clear_right (mc ++ ma) mb m) (operand_clear scope b (passive_at (place_of b)) at_b)) at_b in
+        let later = empty_right form_c.shows arms.shows operands in
+        let at_c = empty_left form_c.shows arms.shows operands in
+        let at_a = empty_left form_a.shows form_b.shows later in
+        let at_b = empty_right form_a.shows form_b.shows later in
+        let one = unsigned_clear scope c (clear_type c (clear_left mentioned_c mentioned_a front) (operand_clear scope c (unsigned_at (place_of c)) at_c)) at_c in
+        let two = arm_clear scope a (clear_type a (clear_right mentioned_c mentioned_a front) (operand_clear scope a (passive_at (place_of a)) at_a)) at_a in
+        let three = arm_clear scope b (clear_type b (clear_right (mentioned_c ++ mentioned_a) mentioned_b m) (operand_clear scope b (passive_at (place_of b)) at_b)) at_b in
         let found_c = found_condition scope c one.width (found_type scope c (uint one.width) one.has) in
         let found_a = found_passive scope a two.type (found_type scope a two.type two.has) two.passive in
         let found_b = found_passive scope b three.type (found_type scope b three.type three.has) three.passive in
-        let found = together_found (λ u v. v) fc arms (uint one.width) (two.type, three.type) found_c
-        (together_found (λ u v. (u, v)) fa fb two.type three.type found_a found_b) in
+        let found = together_found (λ u v. v) form_c arms (uint one.width) (two.type, three.type) found_c
+        (together_found (λ u v. (u, v)) form_a form_b two.type three.type found_a found_b) in
         let told = answer_after all (two.type, three.type) (type_of_mux p) found h in
         let may = may_mux p two.type three.type told.0 told.1 in
         record {
@@ -219,19 +219,19 @@ module _ (scope : TypedScope) (visible : Declarations) (knows : Knows scope visi
           );
         }
     clear_type (validif p c a) m h =
-        let mc = expression_mentions visible c in
-        let ma = expression_mentions visible a in
-        let fc = condition_form (place_of c) (expression_type scope c) in
-        let fa = passive_form (place_of a) (expression_type scope a) in
-        let all = together (λ (u v : DataType). v) fc fa in
+        let mentioned_c = expression_mentions visible c in
+        let mentioned_a = expression_mentions visible a in
+        let form_c = condition_form (place_of c) (expression_type scope c) in
+        let form_a = passive_form (place_of a) (expression_type scope a) in
+        let all = together (λ (u v : DataType). v) form_c form_a in
         let operands = empty_left all.shows (answer_on all.has (type_of_validif p)).shows h in
-        let at_c = empty_left fc.shows fa.shows operands in
-        let at_a = empty_right fc.shows fa.shows operands in
-        let one = unsigned_clear scope c (clear_type c (clear_left mc ma m) (operand_clear scope c (unsigned_at (place_of c)) at_c)) at_c in
-        let two = arm_clear scope a (clear_type a (clear_right mc ma m) (operand_clear scope a (passive_at (place_of a)) at_a)) at_a in
+        let at_c = empty_left form_c.shows form_a.shows operands in
+        let at_a = empty_right form_c.shows form_a.shows operands in
+        let one = unsigned_clear scope c (clear_type c (clear_left mentioned_c mentioned_a m) (operand_clear scope c (unsigned_at (place_of c)) at_c)) at_c in
+        let two = arm_clear scope a (clear_type a (clear_right mentioned_c mentioned_a m) (operand_clear scope a (passive_at (place_of a)) at_a)) at_a in
         let found_c = found_condition scope c one.width (found_type scope c (uint one.width) one.has) in
         let found_a = found_passive scope a two.type (found_type scope a two.type two.has) two.passive in
-        let told = answer_after all two.type (type_of_validif p) (together_found (λ u v. v) fc fa (uint one.width) two.type found_c found_a) h in
+        let told = answer_after all two.type (type_of_validif p) (together_found (λ u v. v) form_c form_a (uint one.width) two.type found_c found_a) h in
         let numeric = (granted (is_numeric two.type) (Ok (bare two.type)) (wrong_kinds p (two.type ∷ [])) told.0 told.1).0 in
         record { type = bare two.type; has = (one.width, two.type, one.has, two.has, two.passive, numeric, refl) }
 

@@ -65,23 +65,23 @@ module _ (scope : TypedScope) where
         after_found (expression_types scope es) h.0 (result_of op h.1) (type_of_operation p op ks) (found_types es h.0 h.2) (operation_says p op ks h.0 h.1 h.3 h.4)
         ∙ ap is_found (sym h.5)
     found_type (mux p c a b) t h =
-        let fc = condition_form (place_of c) (expression_type scope c) in
-        let fa = passive_form (place_of a) (expression_type scope a) in
-        let fb = passive_form (place_of b) (expression_type scope b) in
+        let form_c = condition_form (place_of c) (expression_type scope c) in
+        let form_a = passive_form (place_of a) (expression_type scope a) in
+        let form_b = passive_form (place_of b) (expression_type scope b) in
         let one = found_condition c h.0 (found_type c (uint h.0) h.3) in
         let two = found_passive a h.1 (found_type a h.1 h.4) h.5 in
         let three = found_passive b h.2 (found_type b h.2 h.7) h.8 in
-        let arms = together_found (λ u v. (u, v)) fa fb h.1 h.2 two three in
-        let all = together_found (λ u v. v) fc (together (λ u v. (u, v)) fa fb) (uint h.0) (h.1, h.2) one arms in
-        after_found (together (λ u v. v) fc (together (λ u v. (u, v)) fa fb)) (h.1, h.2) (bare h.1) (type_of_mux p) all (mux_says p h.1 h.2 h.6 h.9 h.10)
+        let arms = together_found (λ u v. (u, v)) form_a form_b h.1 h.2 two three in
+        let all = together_found (λ u v. v) form_c (together (λ u v. (u, v)) form_a form_b) (uint h.0) (h.1, h.2) one arms in
+        after_found (together (λ u v. v) form_c (together (λ u v. (u, v)) form_a form_b)) (h.1, h.2) (bare h.1) (type_of_mux p) all (mux_says p h.1 h.2 h.6 h.9 h.10)
         ∙ ap is_found (sym h.11)
     found_type (validif p c a) t h =
-        let fc = condition_form (place_of c) (expression_type scope c) in
-        let fa = passive_form (place_of a) (expression_type scope a) in
+        let form_c = condition_form (place_of c) (expression_type scope c) in
+        let form_a = passive_form (place_of a) (expression_type scope a) in
         let one = found_condition c h.0 (found_type c (uint h.0) h.2) in
         let two = found_passive a h.1 (found_type a h.1 h.3) h.4 in
-        let both = together_found (λ u v. v) fc fa (uint h.0) h.1 one two in
-        after_found (together (λ u v. v) fc fa) h.1 (bare h.1) (type_of_validif p) both (rw h.5 refl) ∙ ap is_found (sym h.6)
+        let both = together_found (λ u v. v) form_c form_a (uint h.0) h.1 one two in
+        after_found (together (λ u v. v) form_c form_a) h.1 (bare h.1) (type_of_validif p) both (rw h.5 refl) ∙ ap is_found (sym h.6)
 
     pub found_types : (es : Expressions) (ts : List DataType) → HaveTypes scope es ts → expression_types scope es ≡ is_found ts
     found_types no_expressions ts h = ap is_found (sym h)

@@ -94,42 +94,42 @@ module _ (scope : Scope) (typed : TypedScope) (beside : Beside scope typed) wher
         let names_b = within names_in_expression scope b in
         let names = empty_left (((names_c ++ []) ++ names_a) ++ names_b) [] m in
         let front = empty_left ((names_c ++ []) ++ names_a) names_b names in
-        let tc = expression_type typed c in
-        let ta = expression_type typed a in
-        let tb = expression_type typed b in
-        let fc = condition_form (place_of c) tc in
-        let fa = passive_form (place_of a) ta in
-        let fb = passive_form (place_of b) tb in
-        let own = (mux_on p fc.has fa.has fb.has).shows in
-        let operands = empty_left (fc.shows ++ (fa.shows ++ fb.shows)) own h in
-        let later = empty_right fc.shows (fa.shows ++ fb.shows) operands in
-        let at_c = empty_left fc.shows (fa.shows ++ fb.shows) operands in
+        let type_c = expression_type typed c in
+        let type_a = expression_type typed a in
+        let type_b = expression_type typed b in
+        let form_c = condition_form (place_of c) type_c in
+        let form_a = passive_form (place_of a) type_a in
+        let form_b = passive_form (place_of b) type_b in
+        let own = (mux_on p form_c.has form_a.has form_b.has).shows in
+        let operands = empty_left (form_c.shows ++ (form_a.shows ++ form_b.shows)) own h in
+        let later = empty_right form_c.shows (form_a.shows ++ form_b.shows) operands in
+        let at_c = empty_left form_c.shows (form_a.shows ++ form_b.shows) operands in
         let one = small_expression c split.0 (empty_left names_c [] (empty_left (names_c ++ []) names_a front)) (unshown_condition c at_c) in
-        let two = small_expression a arms.0 (empty_right (names_c ++ []) names_a front) (unshown_arm a (empty_left fa.shows fb.shows later)) in
-        let three = small_expression b arms.1 (empty_right ((names_c ++ []) ++ names_a) names_b names) (unshown_arm b (empty_right fa.shows fb.shows later)) in
+        let two = small_expression a arms.0 (empty_right (names_c ++ []) names_a front) (unshown_arm a (empty_left form_a.shows form_b.shows later)) in
+        let three = small_expression b arms.1 (empty_right ((names_c ++ []) ++ names_a) names_b names) (unshown_arm b (empty_right form_a.shows form_b.shows later)) in
         let condition = condition_small scope typed c one at_c in
-        let r = small_mux p fc.has fa.has fb.has tc.has ta.has tb.has (printed_type scope c) (printed_type scope a) (printed_type scope b)
-        condition.same (small_passive (place_of a) ta.has two.type.small) (small_passive (place_of b) tb.has three.type.small)
-        one.type.same condition.unsigned two.type three.type (empty_right (fc.shows ++ (fa.shows ++ fb.shows)) own h) in
+        let r = small_mux p form_c.has form_a.has form_b.has type_c.has type_a.has type_b.has (printed_type scope c) (printed_type scope a) (printed_type scope b)
+        condition.same (small_passive (place_of a) type_a.has two.type.small) (small_passive (place_of b) type_b.has three.type.small)
+        one.type.same condition.unsigned two.type three.type (empty_right (form_c.shows ++ (form_a.shows ++ form_b.shows)) own h) in
         record { type = r.found_shown; clear = rw (one.clear, condition.clear, two.clear, three.clear) r.clear }
     small_expression (validif p c a) l m h =
         let split = neither (lacking_expression c) (lacking_expression a) l in
         let names_c = within names_in_expression scope c in
         let names_a = within names_in_expression scope a in
         let names = empty_left ((names_c ++ []) ++ names_a) [] m in
-        let tc = expression_type typed c in
-        let ta = expression_type typed a in
-        let fc = condition_form (place_of c) tc in
-        let fa = passive_form (place_of a) ta in
-        let own = (validif_on p fc.has fa.has).shows in
-        let operands = empty_left (fc.shows ++ fa.shows) own h in
-        let at_c = empty_left fc.shows fa.shows operands in
+        let type_c = expression_type typed c in
+        let type_a = expression_type typed a in
+        let form_c = condition_form (place_of c) type_c in
+        let form_a = passive_form (place_of a) type_a in
+        let own = (validif_on p form_c.has form_a.has).shows in
+        let operands = empty_left (form_c.shows ++ form_a.shows) own h in
+        let at_c = empty_left form_c.shows form_a.shows operands in
         let one = small_expression c split.0 (empty_left names_c [] (empty_left (names_c ++ []) names_a names)) (unshown_condition c at_c) in
-        let two = small_expression a split.1 (empty_right (names_c ++ []) names_a names) (unshown_arm a (empty_right fc.shows fa.shows operands)) in
+        let two = small_expression a split.1 (empty_right (names_c ++ []) names_a names) (unshown_arm a (empty_right form_c.shows form_a.shows operands)) in
         let condition = condition_small scope typed c one at_c in
-        let r = small_validif p fc.has fa.has tc.has ta.has (printed_type scope c) (printed_type scope a)
-        condition.same (small_passive (place_of a) ta.has two.type.small) one.type.same condition.unsigned two.type
-        (empty_right (fc.shows ++ fa.shows) own h) in
+        let r = small_validif p form_c.has form_a.has type_c.has type_a.has (printed_type scope c) (printed_type scope a)
+        condition.same (small_passive (place_of a) type_a.has two.type.small) one.type.same condition.unsigned two.type
+        (empty_right (form_c.shows ++ form_a.shows) own h) in
         record { type = r; clear = rw (one.clear, condition.clear, two.clear) refl }
 
     small_expressions : (es : Expressions) → lacking_operands es ≡ None → within_each names_in_expression scope es ≡ [] → (expression_types typed es).shows ≡ []
