@@ -35,7 +35,7 @@ pub once_found : (ds : Declarations) → Once ds → (d : Declaration) → In ds
 once_found ds o d m = found_alone ds o.once d m
 
 -- a name that is not found is none of theirs
-unfound : (ns : List PlacedName) (n : List ℕ) → find_name ns n ≡ None → In (map (λ m. m.name) ns) n → ⊥
+pub unfound : (ns : List PlacedName) (n : List ℕ) → find_name ns n ≡ None → In (map (λ m. m.name) ns) n → ⊥
 unfound [] n h m = m
 unfound (x ∷ ns) n h m =
     ⊎_elim

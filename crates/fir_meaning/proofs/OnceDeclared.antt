@@ -21,7 +21,7 @@ clear_left ms ns h = empty_left (faults_in ms) (faults_in ns) (rw (← faults_jo
 pub clear_right : (ms ns : List Mention) → faults_in (ms ++ ns) ≡ [] → faults_in ns ≡ []
 clear_right ms ns h = empty_right (faults_in ms) (faults_in ns) (rw (← faults_joined ms ns) h)
 
-not_second : (found : Option PlacedName) (n : PlacedName) → second_faults found n ≡ [] → found ≡ None
+pub not_second : (found : Option PlacedName) (n : PlacedName) → second_faults found n ≡ [] → found ≡ None
 not_second None n h = refl
 not_second (Some first) n h = cc
 

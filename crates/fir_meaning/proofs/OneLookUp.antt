@@ -33,7 +33,7 @@ clear_module names before (x ∷ ms) m h i =
       | inr o ↦ clear_module names (before ++ x.named ∷ []) ms m (clear_right here rest behind) o
     ]
 
-seen : (found : Option Declaration) (p : Place) (n : List ℕ) → hidden_faults found p n ≡ [] → (d : Declaration) × (found ≡ Some d)
+pub seen : (found : Option Declaration) (p : Place) (n : List ℕ) → hidden_faults found p n ≡ [] → (d : Declaration) × (found ≡ Some d)
 seen None p n h = cc
 seen (Some d) p n h = (d, refl)
 
