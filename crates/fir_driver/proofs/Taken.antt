@@ -1,5 +1,5 @@
 -- What is said of a text that spells a tree with its names: it is taken, or it has a fault by its tree.
-use Rattle.std.proofs.Common.{◌≡◌, ℕ, List, Some, None, Err, ap, inl, inr}
+use Rattle.std.proofs.Common.{◌≡◌, ℕ, List, [], Some, None, Err, ap, inl, inr}
 use Rattle.std.specs.Prelude.{is_none}
 use Rattle.fir_base.specs.declared.refused.Refused.{Refused}
 use Rattle.fir_base.specs.declared.refused.Refused.TheVariants.{Fault, Memory}
@@ -7,33 +7,41 @@ use Rattle.fir_ast.specs.declared.fault.FirFault.{FirFault}
 use Rattle.fir_ast.specs.Circuits.{CircuitTree}
 use Rattle.fir_parse.specs.Spells.{Spells}
 use Rattle.fir_meaning.specs.NameGroups.{HasNames}
+use Rattle.fir_meaning.specs.TypeGroup.{type_faults}
 use Rattle.fir_meaning.specs.Faults.{Faultless}
 use Rattle.fir_meaning.specs.Lack.{Lack}
 use Rattle.fir_meaning.specs.Lacking.{lacking}
 use Rattle.fir_check.specs.working.Checks.{Checks}
 use Rattle.fir_driver.specs.Emits.{Takes}
-use Rattle.fir_driver.specs.working.Readings.{IsNamedTree, IsTaken, IsUnsupported}
+use Rattle.fir_driver.specs.working.Readings.{IsNamedTree, IsTaken, IsTypedTree, IsUnsupported}
 
--- a text without a tree, or with a fault of names, is refused for it
-pub not_named : (bytes : List ℕ) (r : Refused FirFault) → IsNamedTree bytes (Err r) → IsTaken bytes (Err r)
+-- a text without a tree, or with a fault of names, has no tree with types
+pub not_named : (bytes : List ℕ) (r : Refused FirFault) → IsNamedTree bytes (Err r) → IsTypedTree bytes (Err r)
 not_named bytes (Fault f) (inl bad) = inl bad
 not_named bytes (Fault f) (inr shows) = inr (inl shows)
 not_named bytes Memory h = tt
 
+-- and one without a tree with types is refused for it
+pub not_typed : (bytes : List ℕ) (r : Refused FirFault) → IsTypedTree bytes (Err r) → IsTaken bytes (Err r)
+not_typed bytes (Fault f) (inl bad) = inl bad
+not_typed bytes (Fault f) (inr (inl shows)) = inr (inl shows)
+not_typed bytes (Fault f) (inr (inr shows)) = inr (inr (inl shows))
+not_typed bytes Memory h = tt
+
 -- a form that is lacking is a fault of the text
-pub lacks_form : (bytes : List ℕ) (t : CircuitTree) (l : Lack) (r : Refused FirFault) → Spells bytes t → HasNames t → lacking t ≡ Some l → IsUnsupported l r
+pub lacks_form : (bytes : List ℕ) (t : CircuitTree) (l : Lack) (r : Refused FirFault) → Spells bytes t → HasNames t → type_faults t ≡ [] → lacking t ≡ Some l → IsUnsupported l r
     → IsTaken bytes (Err r)
-lacks_form bytes t l (Fault f) spelled named first stands =
-    inr (inr (inl (record { circuit = t; spelled = spelled; named = named; lack = l; first = first; stands = stands })))
-lacks_form bytes t l Memory spelled named first stands = tt
+lacks_form bytes t l (Fault f) spelled named typed first stands =
+    inr (inr (inr (inl (record { circuit = t; spelled = spelled; named = named; typed = typed; lack = l; first = first; stands = stands }))))
+lacks_form bytes t l Memory spelled named typed first stands = tt
 
 -- the tree lacks nothing and shows no fault
-pub takes : (bytes : List ℕ) (t : CircuitTree) → Spells bytes t → HasNames t → lacking t ≡ None → Faultless t → Takes bytes t
-takes bytes t spelled named none faultless = record { spelled = spelled; named = named; in_language = ap is_none none; faultless = faultless }
+pub takes : (bytes : List ℕ) (t : CircuitTree) → Spells bytes t → HasNames t → type_faults t ≡ [] → lacking t ≡ None → Faultless t → Takes bytes t
+takes bytes t spelled named typed none faultless = record { spelled = spelled; named = named; typed = typed; in_language = ap is_none none; faultless = faultless }
 
 -- it shows one
-pub shows_fault : (A : Type 0) (bytes : List ℕ) (t : CircuitTree) (r : Refused FirFault) → Spells bytes t → HasNames t → lacking t ≡ None
+pub shows_fault : (A : Type 0) (bytes : List ℕ) (t : CircuitTree) (r : Refused FirFault) → Spells bytes t → HasNames t → type_faults t ≡ [] → lacking t ≡ None
     → Checks t {A = A} (Err r) → IsTaken bytes (Err r)
-shows_fault A bytes t (Fault f) spelled named none first =
-    inr (inr (inr (record { circuit = t; spelled = spelled; named = named; in_language = ap is_none none; first = first })))
-shows_fault A bytes t Memory spelled named none first = tt
+shows_fault A bytes t (Fault f) spelled named typed none first =
+    inr (inr (inr (inr (record { circuit = t; spelled = spelled; named = named; typed = typed; in_language = ap is_none none; first = first }))))
+shows_fault A bytes t Memory spelled named typed none first = tt

@@ -13,7 +13,7 @@ ghost use Rattle.fir_lower.specs.working.HasWords.{HasWords};
 ghost use Rattle.fir_lower.specs.working.Lowers.{Lowers};
 ghost use Rattle.fir_driver.specs.Compiles.{Compiles};
 ghost use Rattle.fir_driver.specs.working.Lacked.{lack_of};
-ghost use Rattle.fir_driver.specs.working.Readings.{IsEmitted, IsNamedTree, IsTaken, IsTree, IsUnsupported};
+ghost use Rattle.fir_driver.specs.working.Readings.{IsEmitted, IsNamedTree, IsTaken, IsTree, IsTypedTree, IsUnsupported};
 ghost use Rattle.fir_driver.specs.working.Made.{Makes};
 
 use crate::lacking::{Lack, lacking};
@@ -31,6 +31,7 @@ use fir_names::{Named, resolve};
 use fir_net::FlatNet;
 use fir_parse::parse;
 use fir_sim::shape;
+use fir_types::check;
 use std::alloc::Global;
 use trace_text::Shape;
 use ver_ast::Verilog;
@@ -62,6 +63,20 @@ fn read_names(alloc: Global, bytes: &[u8]) -> Result<Named, Refused<FirFault>>
     }
 }
 
+/// The tree of the text with its names, in which no fault of types stands, or its first fault, of the text, of
+/// names or of types.
+fn read_types(alloc: Global, bytes: &[u8]) -> Result<Named, Refused<FirFault>>
+    requires { length bytes.now ≤ 16777216 }
+    ensures { IsTypedTree bytes.now result }
+{
+    let named = read_names(alloc, bytes)?;
+    match check(alloc, named) {
+        Ok(typed) => Ok(typed.into_named()),
+        Err(Refused::Fault((fault, _named))) => Err(Refused::Fault(fault)),
+        Err(Refused::Memory) => Err(Refused::Memory),
+    }
+}
+
 /// Why a text is refused whose tree has a form that the language lacks.
 fn unsupported(alloc: Global, lack: Lack) -> Refused<FirFault>
     ensures { IsUnsupported (lack_of lack.entry) result }
@@ -73,13 +88,13 @@ fn unsupported(alloc: Global, lack: Lack) -> Refused<FirFault>
 }
 
 /// The circuit that the bytes spell, with its names, in the language and without fault, or the fault for
-/// which it is refused: of the text, else the first of names, else the first form that the language lacks,
-/// else the first of the circuit.
+/// which it is refused: of the text, else the first of names, else the first of types, else the first form
+/// that the language lacks, else the first of the circuit.
 pub fn read_circuit(alloc: Global, bytes: &[u8]) -> Result<Named, Refused<FirFault>>
     requires { length bytes.now ≤ 16777216 }
     ensures { IsTaken bytes.now result }
 {
-    let named = read_names(alloc, bytes)?;
+    let named = read_types(alloc, bytes)?;
     if let Some(lack) = lacking(&named) {
         return Err(unsupported(alloc, lack));
     }

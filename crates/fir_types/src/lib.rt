@@ -7,6 +7,8 @@
 //! `operations`); the types of what is declared stand in one table, and are told by their ids.
 #![tactic(auto)]
 
+mod bundles;
+mod circuit_types;
 mod connects;
 mod drives;
 mod expressions;
@@ -18,12 +20,23 @@ mod found_pairs;
 mod memory_faults;
 mod memory_fields;
 mod memory_type;
+mod module;
+mod modules;
 mod on_found;
 mod on_reached;
 mod operations;
+mod pass;
 mod reach;
 mod registers;
 mod scope;
 mod sort;
 mod statements;
 mod steps;
+mod typed;
+
+pub use circuit_types::check;
+pub use flow::Flow;
+pub use found::Found;
+pub use pass::CheckTypes;
+pub use sort::Sort;
+pub use typed::Typed;

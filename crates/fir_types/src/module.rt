@@ -1,0 +1,38 @@
+//! The types in a module: of its ports, and then of its statements.
+
+ghost use Rattle.std.specs.Prelude.{◌≡◌, List};
+ghost use Rattle.fir_ast.specs.Circuits.{ModuleTree};
+ghost use Rattle.fir_ast.specs.View.{module_of};
+ghost use Rattle.fir_meaning.specs.Visibility.{declarations};
+ghost use Rattle.fir_type_table.specs.working.Tables.{types_of};
+ghost use Rattle.fir_types.specs.working.Walked.{HoldsBundles, IsOfModule};
+ghost use Rattle.fir_types.specs.working.TypedModules.{JudgesModule};
+
+use crate::scope::Scope;
+use crate::statements::in_block;
+use fir_ast::{FirFault, Module};
+use fir_base::Refused;
+use fir_names::Names;
+use fir_type_table::{TypeId, TypeTable};
+use std::alloc::Global;
+
+/// The types of what a module declares, with the table, or its first fault of types.
+pub fn in_module(
+    alloc: Global,
+    names: &Names,
+    bundles: &[TypeId],
+    part: &Module,
+    table: TypeTable,
+) -> Result<Scope, Refused<FirFault>>
+    ensures { (modules : List ModuleTree) → IsOfModule modules names.now (declarations (module_of part.now)) → HoldsBundles (types_of table) bundles.now modules → JudgesModule modules bundles.now (types_of table) (module_of part.now) result }
+{
+    let mut scope = Scope {
+        table,
+        declared: Vec::new(alloc),
+    };
+    for port in &part.ports {
+        scope.declare(alloc, &port.ty)?;
+    }
+    in_block(&part.body, alloc, names, bundles, &mut scope)?;
+    Ok(scope)
+}

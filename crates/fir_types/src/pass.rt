@@ -1,0 +1,43 @@
+//! The pass of types.
+
+ghost use Rattle.std.specs.Prelude.{◌≡◌};
+ghost use Rattle.fir_pass.specs.Faults.{fault_of};
+
+use crate::circuit_types::check;
+use crate::typed::Typed;
+use fir_ast::FirFault;
+use fir_base::Refused;
+use fir_names::Named;
+use fir_pass::{Meant, Pass};
+use std::alloc::Global;
+
+impl Meant for Typed {
+    ghost use Rattle.fir_ast.specs.View.{circuit_of};
+    ghost use Rattle.fir_meaning.specs.SourceMeaning.{circuit_meaning};
+
+    ghost meaning = { λ t. circuit_meaning (circuit_of t.named) };
+}
+
+/// Finds types: the faults of the fourth group, E12 to E17.
+#[derive(Drop)]
+pub struct CheckTypes;
+
+impl Pass for CheckTypes {
+    type In = Named;
+
+    type Out = Typed;
+
+    type Fault = (FirFault, Named);
+
+    ghost from = { 4 };
+
+    ghost upto = { 4 };
+
+    ghost told = { λ f. fault_of f.0 };
+
+    ghost hands_back = { λ x f. f.1 ≡ x };
+
+    fn run(&self, alloc: Global, x: Named) -> Result<Typed, Refused<(FirFault, Named)>> {
+        check(alloc, x)
+    }
+}
