@@ -1,13 +1,12 @@
 -- The first faults of forms, from what is found of their operands.
-use Rattle.std.proofs.Common.{◌≡◌, ℕ, List, [], ◌∷◌, ◌++◌, Option, Some, None, Ok, Err, Result, refl, ap, ◌∙◌}
-use Rattle.std.specs.Prelude.{option_map}
+use Rattle.std.proofs.Common.{◌≡◌, List, [], ◌∷◌, ◌++◌, Option, Some, Err, Result, refl}
 use Rattle.fir_base.specs.declared.refused.Refused.{Refused}
 use Rattle.fir_base.specs.declared.refused.Refused.TheVariants as refused
 use Rattle.fir_ast.specs.declared.fault.FirFault.{FirFault}
 use Rattle.fir_ast.specs.declared.place.Place.{Place}
 use Rattle.fir_ast.specs.Types.{DataType}
 use Rattle.fir_ast.specs.Expressions.{Expression, Parts, no_parts, subfield, subindex, subaccess}
-use Rattle.fir_pass.specs.Faults.{Fault, fault_of}
+use Rattle.fir_pass.specs.Faults.{Fault}
 use Rattle.fir_meaning.specs.Checked.{Checked, after, answer_on, answered, together}
 use Rattle.fir_meaning.specs.FaultRules.{place_of}
 use Rattle.fir_meaning.specs.Reaching.{Reached}

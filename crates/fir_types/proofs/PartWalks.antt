@@ -1,5 +1,5 @@
 -- Walks along the parts of a reference, part by part.
-use Rattle.std.proofs.Common.{◌≡◌, ℕ, ◌+◌, ◌<◌, ◌≤◌, List, [], ◌∷◌, ◌++◌, map, drop, length, get_or, Option, Ok, Err, Result, refl, sym, ap, ◌∙◌, append_assoc, append-nil}
+use Rattle.std.proofs.Common.{◌≡◌, ℕ, ◌+◌, ◌<◌, ◌≤◌, List, [], ◌∷◌, ◌++◌, map, drop, length, get_or, Option, Ok, Err, Result, sym, ap, ◌∙◌, append_assoc, append-nil}
 use Rattle.std.proofs.lemmas.List.{drop_all}
 use Rattle.std.specs.Prelude.{option_map}
 use Rattle.fir_base.specs.declared.refused.Refused.{Refused}
@@ -20,7 +20,7 @@ use Rattle.fir_types.specs.declared.reach.Reach.{Reach}
 use Rattle.fir_types.specs.working.Judged.{Is, IsFirstOf, Finds, GoesOn}
 use Rattle.fir_types.specs.working.Seen.{reached_as, sink_path, steps_of}
 use Rattle.fir_types.proofs.CheckedForms.{first_along}
-use Rattle.fir_types.proofs.PartViews.{parts_left, part_steps, sink_is}
+use Rattle.fir_types.proofs.PartViews.{parts_left, part_steps}
 
 -- one part, from what its form is found to be
 pub part_goes_on : (ts : List DataType) (typed : TypedScope) (p : Place) (path : LeafPath) (c form : Checked Reached) (part : Parts → Parts) (rest : Parts) (step : Step) (result : Result (Option Reach) (Refused FirFault))
@@ -50,7 +50,7 @@ part_more ts typed p whole all ps i x y z so_far h is leads =
       reached = l.reached;
       same = so_far.same ∙ ap (along_parts typed p so_far.now) (parts_left ps i x h is) ∙ l.same;
       steps = so_far.steps ∙ ap (λ left. so_far.path ++ steps_of left) (parts_left ps i x h is) ∙ ap (λ steps. so_far.path ++ steps) (part_steps x rest)
-      ∙ sym (append_assoc so_far.path (steps_of (part_of x no_parts)) (steps_of rest));
+          ∙ sym (append_assoc so_far.path (steps_of (part_of x no_parts)) (steps_of rest));
     }
 
 pub part_fault : (ts : List DataType) (typed : TypedScope) (p : Place) (whole : Checked Reached) (all : LeafPath) (ps : List Part) (i : ℕ) (x : Part) (y : Option Reach) (e : Refused FirFault)
