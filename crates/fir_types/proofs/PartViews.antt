@@ -7,10 +7,9 @@ use Rattle.fir_ast.specs.declared.expressions.Expr.TheOpen.{Part-F}
 use Rattle.fir_ast.specs.declared.expressions.Expr.TheOpen as layer
 use Rattle.fir_ast.specs.declared.expressions.Part.{Part, fold-roll-Part, fold_out-Part}
 use Rattle.fir_ast.specs.declared.expressions.Part.TheVariants as part
-use Rattle.fir_ast.specs.declared.expressions.Reference.{Reference, fold_out-Reference}
 use Rattle.fir_ast.specs.Expressions.{Expression, Parts, no_parts, subfield, subindex, subaccess}
 use Rattle.fir_ast.specs.Statements.{Sink}
-use Rattle.fir_ast.specs.View.{expr_of, sink_of, parts_of, expr_step, part_step, reference_step}
+use Rattle.fir_ast.specs.View.{expr_of, parts_of, expr_step, part_step, reference_step}
 use Rattle.fir_names.specs.working.Parts.{part_of}
 use Rattle.fir_types.specs.working.Seen.{steps_of}
 
@@ -25,9 +24,6 @@ index_view first q i =
 pub access_view : (first : Place) (e : Box Expr Global) → part_of (part.Access first e) ≡ subaccess first (expr_of e.value)
 access_view first e =
     ap part_of (sym (part.rolls-Access first e)) ∙ fold-roll-Part Expression (Parts → Parts) Sink expr_step part_step reference_step (layer.Access first e)
-
-pub sink_is : (r : Reference) → sink_of r ≡ record { place = r.place; name = r.name; parts = parts_of (map part_of r.parts.items) }
-sink_is r = fold_out-Reference Expression (Parts → Parts) Sink expr_step part_step reference_step r
 
 -- the parts from a number on
 pub parts_left : (ps : List Part) (i : ℕ) (x : Part) → i < length ps → x ≡ get_or ps i x → parts_of (map part_of (drop i ps)) ≡ part_of x (parts_of (map part_of (drop (i + 1) ps)))

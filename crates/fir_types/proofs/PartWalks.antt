@@ -1,6 +1,5 @@
 -- Walks along the parts of a reference, part by part.
-use Rattle.std.proofs.Common.{◌≡◌, ℕ, ◌+◌, ◌<◌, ◌≤◌, List, [], ◌∷◌, ◌++◌, map, drop, length, get_or, Option, Ok, Err, Result, sym, ap, ◌∙◌, append_assoc, append-nil}
-use Rattle.std.proofs.lemmas.List.{drop_all}
+use Rattle.std.proofs.Common.{◌≡◌, ℕ, ◌+◌, ◌<◌, List, [], ◌∷◌, ◌++◌, map, drop, length, get_or, Option, Ok, Err, Result, sym, ap, ◌∙◌, append_assoc}
 use Rattle.std.specs.Prelude.{option_map}
 use Rattle.fir_base.specs.declared.refused.Refused.{Refused}
 use Rattle.fir_ast.specs.declared.fault.FirFault.{FirFault}
@@ -60,14 +59,6 @@ pub part_fault : (ts : List DataType) (typed : TypedScope) (p : Place) (whole : 
 part_fault ts typed p whole all ps i x y e so_far h is fails =
     rw (so_far.same, parts_left ps i x h is) (fails so_far.path so_far.now so_far.reached (parts_of (map part_of (drop (i + 1) ps))))
 
--- at the start and at the end of a reference
+-- the walk of a reference
 abbrev pub Walked : List DataType → TypedScope → Reference → Parts → Option Reach → Type 0
 Walked ts typed r left y = ReachedSoFar ts typed r.place (reaching typed (sink_of r)) (sink_path (sink_of r)) left y
-
-pub all_parts : (ts : List DataType) (typed : TypedScope) (r : Reference) (ps : List Part) (i : ℕ) (y : Option Reach)
-    → Walked ts typed r (parts_of (map part_of (drop i ps))) y → length ps ≤ i → Is (reaching typed (sink_of r)) (option_map (reached_as ts (sink_path (sink_of r))) y)
-all_parts ts typed r ps i y so_far h =
-    let none : parts_of (map part_of (drop i ps)) ≡ no_parts = ap (λ l. parts_of (map part_of l)) (drop_all i ps h) in
-    let same : reaching typed (sink_of r) ≡ so_far.now = so_far.same ∙ ap (along_parts typed r.place so_far.now) none in
-    let path : sink_path (sink_of r) ≡ so_far.path = so_far.steps ∙ ap (λ left. so_far.path ++ steps_of left) none ∙ append-nil so_far.path in
-    rw (same, path) so_far.reached
