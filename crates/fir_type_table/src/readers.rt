@@ -1,6 +1,6 @@
 //! What the table tells of a type.
 
-ghost use Rattle.std.specs.Prelude.{◌≡◌, ◌<◌, IfOk, flat_map, length, map, option_map, slice_get};
+ghost use Rattle.std.specs.Prelude.{◌≡◌, ◌<◌, nat_lt, IfOk, flat_map, length, map, option_map, slice_get};
 ghost use Rattle.std.specs.List.{All};
 ghost use Rattle.fir_ast.specs.Types.{bundle, uint, vector};
 ghost use Rattle.std.specs.Prelude.{Some};
@@ -39,6 +39,13 @@ impl TypeTable {
     pub fn kind(&self, id: TypeId) -> Kind
         ensures made { type_at (types_of self.now) id.number ≡ made_of (types_of self.now) result (members_at self.now id.number) }
         ensures below { IsMadeBelow id.number result }
+    {
+        match self.never {}
+    }
+
+    /// Whether a type stands under the id.
+    pub fn has(&self, id: TypeId) -> bool
+        ensures { result ≡ nat_lt id.number (length (types_of self.now)) }
     {
         match self.never {}
     }

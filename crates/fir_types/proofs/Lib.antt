@@ -5,3 +5,4 @@ pub mod CheckedForms
 pub mod PartViews
 pub mod PartWalks
 pub mod OperandWalks
+mod KnownScopes

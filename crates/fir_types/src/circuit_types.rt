@@ -18,17 +18,13 @@ use std::alloc::Global;
 /// and the circuit as it was given (FIRRTL spec, "Types", "Flow", "Expressions", "Connects", "Registers",
 /// "Memories").
 pub fn check(alloc: Global, named: Named) -> Result<Typed, Refused<(FirFault, Named)>>
-    ensures tree { IfOk result (λ t. t.named ≡ named) }
+    ensures tree { IfOk result (λ t. t ≡ named) }
     ensures clear { IfOk result (λ t. type_faults (circuit_of named) ≡ []) }
     ensures fault { IfFault result (λ f. IsFirst 4 4 (circuit_meaning (circuit_of named)) (fault_of f.0)) }
     ensures back { IfFault result (λ f. f.1 ≡ named) }
 {
     match in_modules(alloc, &named) {
-        Ok((table, declared)) => Ok(Typed {
-            named,
-            table,
-            declared,
-        }),
+        Ok((table, declared)) => Ok(Typed::new(named, table, declared)),
         Err(Refused::Fault(fault)) => Err(Refused::Fault((fault, named))),
         Err(Refused::Memory) => Err(Refused::Memory),
     }

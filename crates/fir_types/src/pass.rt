@@ -15,7 +15,7 @@ impl Meant for Typed {
     ghost use Rattle.fir_ast.specs.View.{circuit_of};
     ghost use Rattle.fir_meaning.specs.SourceMeaning.{circuit_meaning};
 
-    ghost meaning = { λ t. circuit_meaning (circuit_of t.named) };
+    ghost meaning = { λ t. circuit_meaning (circuit_of t) };
 }
 
 /// Finds types: the faults of the fourth group, E12 to E17.

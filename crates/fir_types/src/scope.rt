@@ -1,14 +1,14 @@
 //! What is declared so far in a module.
 
-ghost use Rattle.std.specs.Prelude.{◌≡◌, [], ◌∷◌, IfOk, option_map};
+ghost use Rattle.std.specs.Prelude.{◌≡◌, Some, [], ◌∷◌, IfOk, option_map};
 ghost use Rattle.fir_ast.specs.View.{type_of};
 ghost use Rattle.fir_meaning.specs.LeafPaths.{named};
 ghost use Rattle.fir_meaning.specs.Reaching.{root};
 ghost use Rattle.fir_meaning.specs.TypedScopes.{TypedScope};
 ghost use Rattle.fir_type_table.specs.working.Tables.{types_of};
 ghost use Rattle.fir_types.specs.working.Known.{Knows};
-ghost use Rattle.fir_types.specs.working.Seen.{reached_as};
-ghost use Rattle.fir_types.specs.working.Walked.{Declared, Written};
+ghost use Rattle.fir_types.specs.working.Seen.{found_type, reached_as, seen};
+ghost use Rattle.fir_types.specs.working.Walked.{Declared, DeclaredFound, IsHeld, Written};
 
 use crate::flow::Flow;
 use crate::found::Found;
@@ -55,5 +55,28 @@ impl Scope {
         let found = self.add(alloc, ty)?;
         self.declared.push(Some(found))?;
         Ok(())
+    }
+
+    /// Declares something that is found to be of a type, or to have none.
+    pub fn declare_found(&mut self, found: Option<Found>) -> Result<(), MemoryOut>
+        ensures { IfOk result (λ _. DeclaredFound self.old self.new (seen (types_of self.old.table) found)) }
+    {
+        let found = match found {
+            Some(found) => Some(self.held(found)),
+            None => None,
+        };
+        self.declared.push(found)?;
+        Ok(())
+    }
+
+    /// The same type, under an id that the table has: under another it counts as a UInt.
+    fn held(&self, found: Found) -> Found
+        ensures held { IsHeld (types_of self.now.table) (Some result) }
+        ensures same { found_type (types_of self.now.table) result ≡ found_type (types_of self.now.table) found }
+    {
+        match found {
+            Found::Type(id, _) if !self.table.has(id) => Found::Number(false, None),
+            _ => found,
+        }
     }
 }

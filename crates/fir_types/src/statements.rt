@@ -120,8 +120,7 @@ fn in_node(
 {
     let found = in_expression(value, alloc, names, scope)?;
     no_flips(alloc, &scope.table, ident, found)?;
-    scope.declared.push(found)?;
-    Ok(())
+    Ok(scope.declare_found(found)?)
 }
 
 /// An instance, which is as the ports of its module.

@@ -1,27 +1,89 @@
 //! A circuit with its types.
 
-ghost use Rattle.std.specs.Prelude.{◌≡◌};
-ghost use Rattle.fir_ast.specs.View.{circuit_of};
-ghost use Rattle.fir_types.specs.working.TypedModules.{IsTyped};
+ghost use Rattle.std.specs.Prelude.{◌≡◌, [], IfOk, option_map, slice_get};
+ghost use Rattle.fir_ast.specs.Circuits.{ModuleTree};
+ghost use Rattle.fir_ast.specs.View.{circuit_of, type_of};
+ghost use Rattle.fir_meaning.specs.TypeGroup.{type_faults};
+ghost use Rattle.fir_types.specs.working.TypedModules.{IsTyped, type_declared};
+ghost use Rattle.fir_type_table.specs.working.Tables.{types_of};
 
-use crate::found::Found;
+use crate::found::{Found, ty};
+use fir_ast::Ty;
+use fir_base::MemoryOut;
 use fir_names::Named;
 use fir_type_table::TypeTable;
+use std::alloc::Global;
+use std::marker::Model;
 
-/// A circuit in which no fault of types stands, with the types of what each module declares.
+/// A circuit in which no fault of types stands, with the types of what each module declares. Contracts see
+/// the tree that was given.
 #[derive(Drop)]
 pub struct Typed {
-    pub named: Named,
-    pub table: TypeTable,
-    pub declared: Vec<Vec<Option<Found>>>,
-    ghost typed: { IsTyped (circuit_of named) table declared.items },
+    named: Named,
+    table: TypeTable,
+    declared: Vec<Vec<Option<Found>>>,
+}
+
+impl Model for Typed {
+    ghost use Rattle.fir_ast.specs.declared.circuit.Circuit as tree;
+    ghost use Rattle.fir_ast.specs.contracts.circuit.Circuit as contract;
+
+    ghost Value = { tree.Circuit };
+
+    ghost coded = { contract.the_row.coded };
+
+    ghost use Rattle.fir_ast.specs.View.{circuit_of};
+    ghost use Rattle.fir_types.specs.working.TypedModules.{IsTyped};
+
+    ghost view = { λ t. t.named };
+
+    ghost invariant = { λ t. IsTyped (circuit_of t.named) t.table t.declared.items };
 }
 
 impl Typed {
+    /// The circuit with these types.
+    pub(crate) fn new(named: Named, table: TypeTable, declared: Vec<Vec<Option<Found>>>) -> Typed
+        requires { IsTyped (circuit_of named) table declared.items }
+        ensures { result ≡ named }
+    {
+        Typed {
+            named,
+            table,
+            declared,
+        }
+    }
+
+    /// The circuit with its names.
+    pub fn named(&self) -> &Named
+        ensures tree { result.now ≡ self.now }
+        ensures clear { type_faults (circuit_of self.now) ≡ [] }
+    {
+        &self.named
+    }
+
     /// The circuit with its names alone.
     pub fn into_named(self) -> Named
-        ensures { result ≡ self.named }
+        ensures { result ≡ self }
     {
         self.named
+    }
+
+    /// The type of the declaration before which so many stand in the module with that number, from 0 on in
+    /// the order of the text, as a text would write it. Where neither is there it is None.
+    pub fn declared_type(
+        &self,
+        alloc: Global,
+        module_number: usize,
+        position: usize,
+    ) -> Result<Option<Ty>, MemoryOut>
+        ensures { IfOk result (λ t. option_map type_of t ≡ type_declared (circuit_of self.now) module_number position) }
+    {
+        let Some(declared) = self.declared.get(module_number) else {
+            return Ok(None);
+        };
+        match declared.get(position) {
+            Some(Some(found)) => Ok(Some(ty(alloc, &self.table, *found)?)),
+            _ => Ok(None),
+        }
     }
 }

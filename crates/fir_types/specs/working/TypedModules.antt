@@ -1,5 +1,5 @@
 -- The modules of a circuit, and the types that the code has found of them.
-use Rattle.std.specs.Prelude.{◌≡◌, ℕ, List, [], ◌∷◌, ◌++◌, map, flat_map, Option, Some, None, Result, Ok, Err, Vec}
+use Rattle.std.specs.Prelude.{◌≡◌, ℕ, List, [], ◌∷◌, ◌++◌, map, flat_map, Option, Some, None, Result, Ok, Err, Vec, slice_get, unwrap_or}
 use Rattle.std.specs.List.{AllByRecursion}
 use Rattle.std.specs.declared.alloc.Global.{Global}
 use Rattle.fir_base.specs.declared.refused.Refused.{Refused}
@@ -57,3 +57,10 @@ pub record IsTyped (c : CircuitTree) (table : List Entry) (found : List (Vec (Op
 abbrev pub JudgesTypes : CircuitTree → Result (List Entry × Vec (Vec (Option Found) Global) Global) (Refused FirFault) → Type 0
 JudgesTypes c (Ok (table, found)) = IsTyped c table found.items
 JudgesTypes c (Err e) = IsFirstOf (type_faults c) e
+
+abbrev pub at_position : List (Option DataType) → ℕ → Option DataType
+at_position ts position = unwrap_or (slice_get ts position) None
+
+-- the type of a declaration of a module, by their numbers
+abbrev pub type_declared : CircuitTree → ℕ → ℕ → Option DataType
+type_declared c number position = at_position (unwrap_or (slice_get (declared_types c) number) []) position

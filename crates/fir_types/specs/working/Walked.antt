@@ -75,3 +75,11 @@ pub record Declared (old new : Scope) (t : DataType) : Type 0 where
   pub grown : types_of new.table ≡ types_of old.table ++ more
   pub held : IsHeld (types_of new.table) (Some found)
   pub is : found_type (types_of new.table) found ≡ t
+
+-- something is declared of that type, if of any, and the table stays
+pub record DeclaredFound (old new : Scope) (t : Option DataType) : Type 0 where
+  pub table : new.table ≡ old.table
+  pub found : Option Found
+  pub declared : new.declared.items ≡ old.declared.items ++ found ∷ []
+  pub held : IsHeld (types_of old.table) found
+  pub is : seen (types_of old.table) found ≡ t
