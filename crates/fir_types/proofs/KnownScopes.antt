@@ -10,7 +10,7 @@ use Rattle.fir_ast.specs.Types.{DataType}
 use Rattle.fir_ast.specs.Statements.{PlacedName}
 use Rattle.fir_ast.specs.Circuits.{ModuleTree}
 use Rattle.fir_meaning.specs.Components.{Component, Declaration, Declarations, port, wire, register, node, instance, memory}
-use Rattle.fir_meaning.specs.Visibility.{Before}
+use Rattle.fir_meaning.specs.Visibility.{Before, declaration_at, with_declaration}
 use Rattle.fir_meaning.specs.Flows.{flow_of}
 use Rattle.fir_meaning.specs.TypedScopes.{Known, TypedScope, known}
 use Rattle.fir_meaning.specs.ComponentTypes.{known_as, typed_behind, typed_scope}
@@ -129,3 +129,13 @@ knows_scope modules names whole bundles scope before of begins walks = record {
       ∙ found_known (names_of modules) (types_of scope.table) [] scope.declared.items 0 before.declared begins.0 (scope_at modules before) n refl
         (heads_of modules before.declared) walks.types;
 }
+
+-- what is declared before a place is declared before what is behind it
+pub begins_before : (whole ds es : Declarations) → Begins (ds ++ es) whole → Begins ds whole
+begins_before whole ds es b = (es ++ b.0, b.1 ∙ append_assoc ds es b.0)
+
+-- and so is known before a declaration what stands before it
+pub knows_before : (modules : List ModuleTree) (names : Names) (whole : Declarations) (bundles : List TypeId) (scope : Scope) (before : Before) (n : PlacedName) (c : Component)
+    → IsOfModule modules names whole → Begins (with_declaration before n c).declared whole → Walks modules bundles scope before → Knows names scope (scope_at modules before)
+knows_before modules names whole bundles scope before n c of begins walks =
+    knows_scope modules names whole bundles scope before of (begins_before whole before.declared (declaration_at before n c ∷ []) begins) walks

@@ -6,3 +6,7 @@ pub mod PartViews
 pub mod PartWalks
 pub mod OperandWalks
 mod KnownScopes
+mod GrownScopes
+mod StatementFaults
+mod RegisterWalks
+mod InstanceWalks

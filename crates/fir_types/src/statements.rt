@@ -1,6 +1,6 @@
 //! The types in statements, in the order of the text, blocks of whens entered.
 
-ghost use Rattle.std.specs.Prelude.{◌≡◌, ℕ, List, IfOk, map, option_map};
+ghost use Rattle.std.specs.Prelude.{◌≡◌, ℕ, List, IfOk, map, option_map, slice_get};
 ghost use Rattle.fir_ast.specs.declared.place.Place.{Place};
 ghost use Rattle.fir_ast.specs.Circuits.{ModuleTree};
 ghost use Rattle.fir_ast.specs.Statements.{PlacedName};
@@ -11,7 +11,8 @@ ghost use Rattle.fir_meaning.specs.MemoryFaults.{memory_faults};
 ghost use Rattle.fir_meaning.specs.TypeGroup.{type_faults_in, type_faults_in_block};
 ghost use Rattle.fir_meaning.specs.Visibility.{Before, behind, behind_block, with_declaration};
 ghost use Rattle.fir_names.specs.working.Parts.{when_view};
-ghost use Rattle.fir_types.specs.working.Statements.{node_faults, register_faults};
+ghost use Rattle.fir_names.specs.working.Tabulated.{found_at};
+ghost use Rattle.fir_types.specs.working.Statements.{found_bundle, node_faults, register_faults};
 ghost use Rattle.fir_types.specs.working.Walked.{Begins, IsOfModule, Passes, Walks};
 
 use crate::connects::{in_connect, in_partial_connect};
@@ -131,17 +132,16 @@ fn declare_instance(
 ) -> Result<(), MemoryOut>
     ensures { IfOk result (λ _. (modules : List ModuleTree) (before : Before) (whole : Declarations) (n : PlacedName) (name : List ℕ) → IsOfModule modules names.now whole → Begins (with_declaration before n (component.instance name)).declared whole → Walks modules bundles.now scope.old before → Walks modules bundles.now scope.new (with_declaration before n (component.instance name))) }
 {
-    let declaration = names.at(scope.declared.len());
-    let found = match declaration {
-        Some(declaration) => bundle_of(bundles, declaration.component),
-        None => None,
-    };
-    scope.declared.push(found)?;
-    Ok(())
+    let found = bundle_of(names, bundles, scope.declared.len());
+    scope.declare_found(found)
 }
 
-fn bundle_of(bundles: &[TypeId], component: Component) -> Option<Found> {
-    let Component::Instance(number) = component else {
+/// The bundle of the instance before whose declaration so many stand.
+fn bundle_of(names: &Names, bundles: &[TypeId], position: usize) -> Option<Found>
+    ensures { result ≡ found_bundle bundles.now (found_at names.now (slice_get names.now.in_order.items position)) }
+{
+    let declaration = names.at(position)?;
+    let Component::Instance(number) = declaration.component else {
         return None;
     };
     let id = bundles.get(number)?;

@@ -1,11 +1,37 @@
-use Rattle.fir_types.proofs.KnownScopes.{knows_scope}
+use Rattle.std.proofs.lemmas.Result.{err_from_is_err_and}
+use Rattle.fir_ast.specs.View.{expr_of, named_of}
+use Rattle.fir_meaning.specs.Components.{node}
+use Rattle.fir_meaning.specs.ExpressionTypes.{expression_type}
+use Rattle.fir_meaning.specs.TypeGroup.{scope_at, flipped_faults}
+use Rattle.fir_types.proofs.KnownScopes.{knows_before}
+use Rattle.fir_types.proofs.GrownScopes.{walks_found}
+use Rattle.fir_types.proofs.StatementFaults.{expression_fails, statement_fails, statement_clear}
 use Rattle.fir_types.proofs.statements.in_node.Goals as goal
 
 pub returns-in_err-found : goal.returns-in_err-found
-returns-in_err-found c = ?
+returns-in_err-found c =
+    let p = err_from_is_err_and c.from_residual.result c.from_residual.ensures.1 in
+    let n = named_of c.args.ident.now in
+    let e = expr_of c.args.value.now in
+    λ modules bundles before whole of begins walks.
+    let knows = knows_before modules c.args.names.now whole bundles c.args.scope.now before n (node e) of begins walks in
+    rw (p.1, p.2) (expression_fails (expression_type (scope_at modules before) e) (flipped_faults n) _ (c.in_err-found.ensures (scope_at modules before) knows))
 
 pub returns-in_err-no_flips : goal.returns-in_err-no_flips
-returns-in_err-no_flips c = ?
+returns-in_err-no_flips c =
+    let p = err_from_is_err_and c.from_residual-in_err-no_flips.result c.from_residual-in_err-no_flips.ensures.1 in
+    let n = named_of c.args.ident.now in
+    let e = expr_of c.args.value.now in
+    λ modules bundles before whole of begins walks.
+    let knows = knows_before modules c.args.names.now whole bundles c.args.scope.now before n (node e) of begins walks in
+    rw (p.1, p.2) (statement_fails (expression_type (scope_at modules before) e) (flipped_faults n) _ _ (c.in_ok-found.ensures (scope_at modules before) knows) c.in_err-no_flips.ensures)
 
 pub returns : goal.returns
-returns c = ?
+returns c =
+    let n = named_of c.args.ident.now in
+    let e = expr_of c.args.value.now in
+    λ modules bundles before whole of begins walks.
+    let knows = knows_before modules c.args.names.now whole bundles c.args.scope.now before n (node e) of begins walks in
+    let is = c.in_ok-found.ensures (scope_at modules before) knows in
+    (statement_clear (expression_type (scope_at modules before) e) (flipped_faults n) _ is c.in_ok-no_flips.ensures,
+    walks_found modules bundles c.args.scope.now c.declare_found.new.self before n (node e) _ walks c.in_ok-declare_found.ensures is.has)
