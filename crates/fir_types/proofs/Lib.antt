@@ -1,1 +1,2 @@
 pub mod BareTypes
+pub mod FieldsLeft

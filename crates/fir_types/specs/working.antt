@@ -8,3 +8,4 @@ pub mod MemoryFields
 pub mod Connected
 pub mod Registers
 pub mod Statements
+pub mod MemoryParts
