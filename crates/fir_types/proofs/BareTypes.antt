@@ -1,12 +1,10 @@
--- A type without its widths: what it may be used for, its parts, and which types fit it are those of the type.
-use Rattle.std.proofs.Common.{◌≡◌, ℕ, List, refl, ap, sym, ◌∙◌, Bool, true, false, ◌&&◌, Option, Some, None}
-use Rattle.std.specs.Prelude.{not, ◌||◌, ◌==◌, option_map}
-use Rattle.std.specs.Bool.{beq}
+-- A type without its widths: what it may be used for, and its parts, are those of the type.
+use Rattle.std.proofs.Common.{◌≡◌, ℕ, List, refl, ap, ◌∙◌, Bool, true, false, ◌&&◌, Option, Some, None}
+use Rattle.std.specs.Prelude.{not, ◌||◌, ◌==◌, option_map, if◌then◌else◌}
 use Rattle.std.specs.Str.{bytes_eq}
 use Rattle.fir_ast.specs.Types.{DataType, uint, sint, clock, reset, async_reset, bundle, vector, Fields, no_fields, field}
 use Rattle.fir_meaning.specs.TypeKinds.{is_passive, are_passive, is_numeric, are_numeric, bare, bare_fields, FieldFound, field_named}
-use Rattle.fir_meaning.specs.Equivalence.{same_ground, fitting_ground, alike, fields_alike, met, is_partly_connectable, fields_partly_connectable}
-use Rattle.fir_meaning.specs.Reaching.{field_of_type, vector_of_type}
+use Rattle.fir_meaning.specs.Reaching.{field_of_type}
 use Rattle.fir_type_table.specs.working.Tables.{shown}
 
 mutual
@@ -62,14 +60,36 @@ mutual
   bare_fields_again (field p flip x b t fs) =
       ap (λ u. field p flip x b u (bare_fields (bare_fields fs))) (bare_again t) ∙ ap (field p flip x b (bare t)) (bare_fields_again fs)
 
-pub bare_shown : (is_bare : Bool) (t : DataType) → shown true t ≡ bare (shown is_bare t)
-bare_shown true t = sym (bare_again t)
-bare_shown false t = refl
+pub shown_bare : (is_bare : Bool) (t : DataType) → bare (shown is_bare t) ≡ bare t
+shown_bare true t = bare_again t
+shown_bare false t = refl
 
-same_bare_left : (s t : DataType) → same_ground (bare s) t ≡ same_ground s t
-same_bare_left (uint v) (uint w) = refl
-same_bare_left (sint v) (sint w) = refl
-same_bare_left clock clock = refl
-same_bare_left reset reset = refl
-same_bare_left async_reset async_reset = refl
-same_bare_left _ _ = refl
+-- a field with or without its widths
+abbrev pub shown_field : Bool → FieldFound → FieldFound
+shown_field is_bare f = record { flip = f.flip; data_type = shown is_bare f.data_type }
+
+bare_either : (same : Bool) (flip : Bool) (t : DataType) (rest bare_rest : Option FieldFound) → bare_rest ≡ option_map (shown_field true) rest
+    → (if same then Some (record { flip = flip; data_type = bare t }) else bare_rest) ≡ option_map (shown_field true) (if same then Some (record { flip = flip; data_type = t }) else rest)
+bare_either true flip t rest bare_rest e = refl
+bare_either false flip t rest bare_rest e = e
+
+pub bare_field_named : (x : List ℕ) (fs : Fields) → field_named x (bare_fields fs) ≡ option_map (shown_field true) (field_named x fs)
+bare_field_named x no_fields = refl
+bare_field_named x (field p flip y b t fs) = bare_either (bytes_eq y x) flip t (field_named x fs) (field_named x (bare_fields fs)) (bare_field_named x fs)
+
+bare_field_of_type : (x : List ℕ) (t : DataType) → field_of_type x (bare t) ≡ option_map (shown_field true) (field_of_type x t)
+bare_field_of_type x (bundle fs) = bare_field_named x fs
+bare_field_of_type x (vector t n) = refl
+bare_field_of_type x (uint w) = refl
+bare_field_of_type x (sint w) = refl
+bare_field_of_type x clock = refl
+bare_field_of_type x reset = refl
+bare_field_of_type x async_reset = refl
+
+same_field : (f : Option FieldFound) → f ≡ option_map (shown_field false) f
+same_field None = refl
+same_field (Some f) = refl
+
+pub shown_field_of_type : (is_bare : Bool) (x : List ℕ) (t : DataType) → field_of_type x (shown is_bare t) ≡ option_map (shown_field is_bare) (field_of_type x t)
+shown_field_of_type true x t = bare_field_of_type x t
+shown_field_of_type false x t = same_field (field_of_type x t)

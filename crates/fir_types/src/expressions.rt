@@ -18,9 +18,7 @@ ghost use Rattle.fir_types.specs.working.Seen.{found_type, reached_as, sink_path
 
 use crate::forms::place_of;
 use crate::found::Found;
-use crate::on_found::{
-    on_mux, on_operation, on_passive, on_unsigned, on_validif, with_operand,
-};
+use crate::on_found::{on_mux, on_operation, on_passive, on_unsigned, on_validif, with_operand};
 use crate::on_reached::{on_access, on_field, on_index};
 use crate::reach::Reach;
 use crate::scope::Scope;

@@ -17,10 +17,7 @@ use std::alloc::Global;
 pub fn wrong_kind(alloc: Global, table: &TypeTable, place: Place, found: Found) -> Refused<FirFault>
     ensures { IsFault (wrong_kinds place (found_type (types_of table.now) found ∷ [])) result }
 {
-    match kinds_of(alloc, table, &[found]) {
-        Ok(types) => Refused::Fault(FirFault::Kinds(place, types)),
-        Err(MemoryOut) => Refused::Memory,
-    }
+    wrong_kinds(alloc, table, place, &[found])
 }
 
 /// E12 of several types.

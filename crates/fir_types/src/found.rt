@@ -69,6 +69,7 @@ fn kind_sort(kind: Kind) -> Sort
 }
 
 /// Whether no field of it is flipped, at any depth.
+#[tactic(auto, using(crate::proofs::BareTypes::shown_passive))]
 pub fn is_passive(table: &TypeTable, found: Found) -> bool
     ensures { result ≡ is_passive (found_type (types_of table.now) found) }
 {
@@ -79,6 +80,7 @@ pub fn is_passive(table: &TypeTable, found: Found) -> bool
 }
 
 /// Whether all its leaves are UInt or SInt.
+#[tactic(auto, using(crate::proofs::BareTypes::shown_numeric))]
 pub fn is_numeric(table: &TypeTable, found: Found) -> bool
     ensures { result ≡ is_numeric (found_type (types_of table.now) found) }
 {
@@ -90,6 +92,7 @@ pub fn is_numeric(table: &TypeTable, found: Found) -> bool
 }
 
 /// Its field of that name.
+#[tactic(auto, using(crate::proofs::BareTypes::shown_field_of_type))]
 pub fn field(table: &TypeTable, found: Found, name: &Name) -> Option<FieldOf>
     ensures { option_map (field_seen (types_of table.now)) result ≡ field_of_type name.now (found_type (types_of table.now) found) }
 {
@@ -119,6 +122,7 @@ pub fn elements(table: &TypeTable, found: Found) -> Option<(Found, u128)>
 }
 
 /// The same without its widths.
+#[tactic(auto, using(crate::proofs::BareTypes::shown_bare))]
 pub fn bare(found: Found) -> Found
     ensures { (ts : List DataType) → found_type ts result ≡ bare (found_type ts found) }
 {

@@ -12,6 +12,7 @@ use crate::sort::Sort;
 use fir_type_table::TypeTable;
 
 /// Whether they are equivalent, whatever their widths.
+#[tactic(auto, using(crate::proofs::BarePairs::equivalent_shown))]
 pub fn are_equivalent(table: &TypeTable, a: Found, b: Found) -> bool
     ensures { result ≡ is_equivalent (found_type (types_of table.now) a) (found_type (types_of table.now) b) }
 {
@@ -22,6 +23,7 @@ pub fn are_equivalent(table: &TypeTable, a: Found, b: Found) -> bool
 }
 
 /// Whether a connect may join them.
+#[tactic(auto, using(crate::proofs::BarePairs::connectable_shown))]
 pub fn fit(table: &TypeTable, a: Found, b: Found) -> bool
     ensures { result ≡ is_connectable (found_type (types_of table.now) a) (found_type (types_of table.now) b) }
 {
@@ -32,6 +34,7 @@ pub fn fit(table: &TypeTable, a: Found, b: Found) -> bool
 }
 
 /// Whether a partial connect may join them.
+#[tactic(auto, using(crate::proofs::BarePairs::partly_shown))]
 pub fn fit_partly(table: &TypeTable, a: Found, b: Found) -> bool
     ensures { result ≡ is_partly_connectable (found_type (types_of table.now) a) (found_type (types_of table.now) b) }
 {

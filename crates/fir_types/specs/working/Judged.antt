@@ -1,5 +1,5 @@
 -- How a call answers for a form.
-use Rattle.std.specs.Prelude.{◌≡◌, List, [], ◌++◌, Option, Some, None, option_map, Result, Ok, Err}
+use Rattle.std.specs.Prelude.{◌≡◌, List, [], ◌++◌, Option, Some, option_map, Result, Ok, Err}
 use Rattle.fir_base.specs.declared.refused.Refused.{Refused}
 use Rattle.fir_base.specs.declared.refused.Refused.TheVariants as refused
 use Rattle.fir_ast.specs.declared.place.Place.{Place}
@@ -8,7 +8,7 @@ use Rattle.fir_ast.specs.Types.{DataType}
 use Rattle.fir_ast.specs.Expressions.{Parts, no_parts}
 use Rattle.fir_pass.specs.Faults.{Fault, fault_of}
 use Rattle.fir_pass.specs.Groups.{first_of}
-use Rattle.fir_meaning.specs.Checked.{Checked, joined}
+use Rattle.fir_meaning.specs.Checked.{Checked}
 use Rattle.fir_meaning.specs.TypedScopes.{TypedScope}
 use Rattle.fir_meaning.specs.Reaching.{Reached}
 use Rattle.fir_meaning.specs.LeafPaths.{LeafPath}

@@ -1,9 +1,7 @@
 -- What the code knows of a name.
 use Rattle.std.specs.Prelude.{◌≡◌, ℕ, List, slice_get, Option, Some, None}
 use Rattle.fir_ast.specs.Types.{DataType}
-use Rattle.fir_base.specs.declared.direction.Direction.{Direction}
-use Rattle.fir_base.specs.declared.direction.Direction.TheVariants as direction
-use Rattle.fir_meaning.specs.Flows.{Flow, source, sink, both, port_flow}
+use Rattle.fir_meaning.specs.Flows.{Flow, source, both, port_flow}
 use Rattle.fir_meaning.specs.TypedScopes.{Known, TypedScope, known}
 use Rattle.fir_names.specs.declared.declaration.Component.{Component}
 use Rattle.fir_names.specs.declared.declaration.Component.TheVariants as component

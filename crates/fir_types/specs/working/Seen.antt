@@ -1,10 +1,10 @@
 -- What the code's findings stand for.
-use Rattle.std.specs.Prelude.{ℕ, List, [], ◌∷◌, ◌++◌, Bool, true, false, if◌then◌else◌, Option, Some, None, option_map}
+use Rattle.std.specs.Prelude.{List, [], ◌∷◌, if◌then◌else◌, Option, Some, None, option_map}
 use Rattle.fir_ast.specs.Types.{DataType, async_reset}
 use Rattle.fir_ast.specs.Expressions.{Parts, no_parts, subfield, subindex, subaccess}
 use Rattle.fir_ast.specs.Statements.{Sink}
 use Rattle.fir_meaning.specs.LeafPaths.{LeafPath, named, element}
-use Rattle.fir_meaning.specs.TypeKinds.{bare, FieldFound}
+use Rattle.fir_meaning.specs.TypeKinds.{FieldFound}
 use Rattle.fir_meaning.specs.Flows.{Flow, source, sink, both}
 use Rattle.fir_meaning.specs.Reaching.{Reached}
 use Rattle.fir_meaning.specs.ExpressionTypes.{number_type}
