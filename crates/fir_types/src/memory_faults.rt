@@ -1,9 +1,9 @@
 //! The faults of a memory, E15 and E17, which stand at its name (FIRRTL spec, "Memories").
 
-ghost use Rattle.std.specs.Prelude.{◌≡◌, flat_map, if◌then◌else◌, map, option_map};
+ghost use Rattle.std.specs.Prelude.{◌≡◌, ◌==◌, flat_map, if◌then◌else◌, map, nat_le, option_map};
 ghost use Rattle.fir_ast.specs.View.{memory_part_of, named_of};
-ghost use Rattle.fir_meaning.specs.MemoryFaults.{flipped_data, is_one, memory_faults, unless};
-ghost use Rattle.fir_meaning.specs.MemoryTypes.{data_of_part, first_one};
+ghost use Rattle.fir_meaning.specs.MemoryFaults.{flipped_data, is_one, memory_faults, read_latency_of_part, unless, write_latency_of_part};
+ghost use Rattle.fir_meaning.specs.MemoryTypes.{data_of_part, depth_of_part, first_one};
 ghost use Rattle.fir_meaning.specs.TypeKinds.{is_sized};
 ghost use Rattle.fir_type_table.specs.working.Tables.{type_at, types_of};
 ghost use Rattle.fir_types.specs.working.Walked.{Judges};
@@ -17,6 +17,7 @@ use fir_type_table::{TypeId, TypeTable};
 use std::alloc::Global;
 
 /// The first fault of a memory whose words, where their type is written, have that type.
+#[tactic(auto, using(crate::proofs::CheckedForms::first_left))]
 pub fn in_memory_fields(
     alloc: Global,
     table: &TypeTable,
@@ -27,34 +28,11 @@ pub fn in_memory_fields(
 {
     let (ident, fields) = (&memory.ident, memory.fields.as_slice());
     no_flips(alloc, table, ident, word_type)?;
-    unless(
-        alloc,
-        has_sized_words(table, fields, word_type),
-        ident,
-        b"data-type",
-    )?;
-    let depth = only_number(fields, NumberField::Depth);
-    unless(
-        alloc,
-        depth.is_some_and(|words| words >= 1),
-        ident,
-        b"depth",
-    )?;
-    let read = only_number(fields, NumberField::ReadLatency);
-    unless(
-        alloc,
-        read.is_some_and(|ticks| ticks <= 1),
-        ident,
-        b"read-latency",
-    )?;
-    let write = only_number(fields, NumberField::WriteLatency);
-    unless(alloc, write == Some(1), ident, b"write-latency")?;
-    unless(
-        alloc,
-        has_no_second_rule(fields),
-        ident,
-        b"read-under-write",
-    )
+    unless(alloc, has_sized_words(table, fields, word_type), ident, b"data-type")?;
+    unless(alloc, has_depth(fields), ident, b"depth")?;
+    unless(alloc, has_read_latency(fields), ident, b"read-latency")?;
+    unless(alloc, has_write_latency(fields), ident, b"write-latency")?;
+    unless(alloc, has_no_second_rule(fields), ident, b"read-under-write")
 }
 
 /// The first data has no flips.
@@ -80,6 +58,36 @@ fn has_sized_words(table: &TypeTable, fields: &[MemoryField], word_type: Option<
 {
     match word_type {
         Some(id) => has_one_type(fields) && table.is_sized(id),
+        None => false,
+    }
+}
+
+/// Whether one depth is written, and is not 0.
+fn has_depth(fields: &[MemoryField]) -> bool
+    ensures { result ≡ is_one (λ words. nat_le 1 words) (flat_map depth_of_part (map memory_part_of fields.now)) }
+{
+    match only_number(fields, NumberField::Depth) {
+        Some(words) => words >= 1,
+        None => false,
+    }
+}
+
+/// Whether one latency of reads is written, of 0 or 1.
+fn has_read_latency(fields: &[MemoryField]) -> bool
+    ensures { result ≡ is_one (λ l. nat_le l 1) (flat_map read_latency_of_part (map memory_part_of fields.now)) }
+{
+    match only_number(fields, NumberField::ReadLatency) {
+        Some(ticks) => ticks <= 1,
+        None => false,
+    }
+}
+
+/// Whether one latency of writes is written, of 1.
+fn has_write_latency(fields: &[MemoryField]) -> bool
+    ensures { result ≡ is_one (λ l. l == 1) (flat_map write_latency_of_part (map memory_part_of fields.now)) }
+{
+    match only_number(fields, NumberField::WriteLatency) {
+        Some(ticks) => ticks == 1,
         None => false,
     }
 }
