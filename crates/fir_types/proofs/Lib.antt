@@ -6,3 +6,6 @@ pub mod PartViews
 pub mod PartWalks
 pub mod OperandWalks
 pub mod FieldsLeft
+pub mod HeldTypes
+pub mod MemoryPorts
+pub mod GrownScopes

@@ -1,6 +1,6 @@
 -- The ports of a memory in the making: the types of which they are made, and their fields.
 use Rattle.std.specs.Prelude.{◌≡◌, ℕ, ◌<◌, List, [], ◌∷◌, ◌++◌, Bool, true, false, codes, flat_map, map, length, slice_get, Option, Some, None, option_map}
-use Rattle.std.specs.List.{AllByRecursion}
+use Rattle.std.specs.List.{All}
 use Rattle.fir_ast.specs.declared.place.Place.{Place}
 use Rattle.fir_ast.specs.Statements.{MemoryPart}
 use Rattle.fir_ast.specs.Types.{DataType, Fields, uint, clock}
@@ -45,7 +45,7 @@ pub record HasPortsIn (old new : List Entry) (place : Place) (t : DataType) (wor
 -- the parts are these fields, and their types stand in the table
 pub record AreParts (ts : List DataType) (fs : List (Fields → Fields)) (parts : List Part) : Type 0 where
   pub are : map (part_of ts) parts ≡ fs
-  pub held : AllByRecursion (λ q. q.ty.number < length ts) parts
+  pub held : All (λ q. q.ty.number < length ts) parts
 
 -- what all ports begin with
 abbrev pub controls_of : Place → ℕ → List (Fields → Fields)
