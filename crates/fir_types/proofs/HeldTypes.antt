@@ -1,9 +1,8 @@
 -- Types that a table holds under their ids: as the table grows, and as it finds them.
-use Rattle.std.proofs.Common.{◌≡◌, ℕ, ◌<◌, List, ◌++◌, length, slice_get, Some, refl, sym, ap, ◌∙◌, append_assoc}
-use Rattle.std.specs.Prelude.{unwrap_or}
+use Rattle.std.proofs.Common.{◌≡◌, ℕ, List, ◌++◌, slice_get, Some, refl, ap, ◌∙◌, append_assoc}
 use Rattle.std.proofs.lemmas.Option.{slice_get_within}
 use Rattle.fir_base.proofs.Elements.{get_left}
-use Rattle.fir_ast.specs.Types.{DataType, uint}
+use Rattle.fir_ast.specs.Types.{DataType}
 use Rattle.fir_type_table.specs.declared.entry.Entry.{Entry}
 use Rattle.fir_type_table.specs.working.Tables.{type_at, types_of}
 

@@ -1,5 +1,5 @@
 -- The ports of a memory in the making: the types of which they are made, and their fields.
-use Rattle.std.specs.Prelude.{◌≡◌, ℕ, ◌<◌, List, [], ◌∷◌, ◌++◌, Bool, true, false, codes, flat_map, map, length, slice_get, Option, Some, None, option_map}
+use Rattle.std.specs.Prelude.{◌≡◌, ℕ, ◌<◌, List, [], ◌∷◌, ◌++◌, false, codes, flat_map, map, length, slice_get, Option, Some, None, option_map}
 use Rattle.std.specs.List.{All}
 use Rattle.fir_ast.specs.declared.place.Place.{Place}
 use Rattle.fir_ast.specs.Statements.{MemoryPart}

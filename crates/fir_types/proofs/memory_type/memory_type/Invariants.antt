@@ -1,4 +1,4 @@
-use Rattle.std.proofs.Common.{◌≡◌, List}
+use Rattle.std.proofs.Common.{List}
 use Rattle.fir_ast.specs.Types.{DataType}
 use Rattle.fir_types.specs.working.MemoryParts.{HasPorts}
 use Rattle.fir_types.proofs.MemoryPorts.{PartsLeft}
