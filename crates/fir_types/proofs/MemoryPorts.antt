@@ -1,6 +1,6 @@
 -- The ports of a memory in the making: one more field behind others, bundles of fields, and the types of ports in a table that grows.
-use Rattle.std.proofs.Common.{◌≡◌, ℕ, ◌<◌, List, [], ◌∷◌, ◌++◌, map, length, slice_get, Bool, true, Some, refl, ap, ◌∙◌, sym, subst, append_assoc, take, get_or, ◌+◌, ◌≤◌, flat_map, drop, append-nil}
-use Rattle.std.proofs.lemmas.List.{drop_all, map-append, map_more}
+use Rattle.std.proofs.Common.{◌≡◌, ℕ, ◌<◌, List, [], ◌∷◌, ◌++◌, map, length, slice_get, Bool, true, Some, refl, ap, ◌∙◌, sym, subst, append_assoc, take, get_or, ◌+◌, ◌≤◌, flat_map}
+use Rattle.std.proofs.lemmas.List.{map-append, map_more}
 use Rattle.std.proofs.lemmas.List.Elements.{All-nil, All-push}
 use Rattle.std.proofs.lemmas.Option.{slice_get_within}
 use Rattle.fir_ast.specs.declared.place.Place.{Place}
@@ -17,8 +17,7 @@ use Rattle.fir_type_table.specs.working.Tables.{Adds, part_of, type_at, types_of
 use Rattle.fir_types.specs.declared.memory_type.PortTypes.{PortTypes}
 use Rattle.fir_types.specs.declared.memory_type.Wires.{Wires}
 use Rattle.fir_types.specs.working.MemoryParts.{AreParts, HasPortsIn, HasWires, HasWiresIn}
-use Rattle.fir_names.proofs.FirstMentions.{views_left}
-use Rattle.fir_types.proofs.FieldsLeft.{Left}
+use Rattle.fir_types.proofs.FieldsLeft.{Left, left_next, left_none}
 use Rattle.fir_types.proofs.HeldTypes.{grown_held, grown_twice, type_held}
 
 pub parts_more : (ts : List DataType) (t : DataType) (fs : List (Fields → Fields)) (old new : List Part) (p : Place) (flip : Bool) (x y : List ℕ) (ty : TypeId)
@@ -97,35 +96,26 @@ ports_made old one two new p t words ports reader writer both =
       };
     }
 
--- a walk over the fields of a memory: what those give that are behind it is made
-pub record PartsLeft (ts : List DataType) (p : Place) (t : DataType) (words : ℕ) (fields : List MemoryField) (i : ℕ) (parts : List Part) : Type 0 where
+-- a walk over the fields of a memory: the ports are made of those that are behind it
+pub record PortsSoFar (ts : List DataType) (p : Place) (t : DataType) (words : ℕ) (fields : List MemoryField) (i : ℕ) (parts : List Part) : Type 0 where
   pub so_far : List (Fields → Fields)
   pub left : Left (port_fields_of p t words) so_far fields i
   pub are : AreParts ts so_far parts
 
-pub left_first : (ts : List DataType) (p : Place) (t : DataType) (words : ℕ) (fields : List MemoryField) (parts : List Part) → parts ≡ []
-    → PartsLeft ts p t words fields 0 parts
-left_first ts p t words fields parts none = record { so_far = []; left = record { are = refl }; are = no_parts ts parts none }
+pub ports_first : (ts : List DataType) (p : Place) (t : DataType) (words : ℕ) (fields : List MemoryField) (parts : List Part) → parts ≡ []
+    → PortsSoFar ts p t words fields 0 parts
+ports_first ts p t words fields parts none = record { so_far = []; left = record { are = refl }; are = no_parts ts parts none }
 
-pub left_next : (ts : List DataType) (p : Place) (t : DataType) (words : ℕ) (fields : List MemoryField) (i : ℕ) (f : MemoryField) (old new : List Part)
+pub ports_next : (ts : List DataType) (p : Place) (t : DataType) (words : ℕ) (fields : List MemoryField) (i : ℕ) (f : MemoryField) (old new : List Part)
     → i < length fields → f ≡ get_or fields i f
     → ((fs : List (Fields → Fields)) → AreParts ts fs old → AreParts ts (fs ++ port_fields_of p t words (memory_part_of f)) new)
-    → PartsLeft ts p t words fields i old → PartsLeft ts p t words fields (i + 1) new
-left_next ts p t words fields i f old new within at more left =
-    let here = port_fields_of p t words (memory_part_of f) in
-    record {
-      so_far = left.so_far ++ here;
-      left = record {
-        are =
-            left.left.are ∙ ap (λ parts. left.so_far ++ flat_map (port_fields_of p t words) parts) (views_left memory_part_of fields i f within at)
-            ∙ sym (append_assoc left.so_far here (flat_map (port_fields_of p t words) (map memory_part_of (drop (i + 1) fields))));
-      };
-      are = more left.so_far left.are;
-    }
+    → PortsSoFar ts p t words fields i old → PortsSoFar ts p t words fields (i + 1) new
+ports_next ts p t words fields i f old new within at more ports = record {
+  so_far = ports.so_far ++ port_fields_of p t words (memory_part_of f);
+  left = left_next (port_fields_of p t words) ports.so_far fields i f within at ports.left;
+  are = more ports.so_far ports.are;
+}
 
-pub left_none : (ts : List DataType) (p : Place) (t : DataType) (words : ℕ) (fields : List MemoryField) (i : ℕ) (parts : List Part) → length fields ≤ i
-    → PartsLeft ts p t words fields i parts → AreParts ts (flat_map (port_fields_of p t words) (map memory_part_of fields)) parts
-left_none ts p t words fields i parts past left =
-    let all : flat_map (port_fields_of p t words) (map memory_part_of fields) ≡ left.so_far =
-        left.left.are ∙ ap (λ fs. left.so_far ++ flat_map (port_fields_of p t words) (map memory_part_of fs)) (drop_all i fields past) ∙ append-nil left.so_far in
-    rw all left.are
+pub ports_all : (ts : List DataType) (p : Place) (t : DataType) (words : ℕ) (fields : List MemoryField) (i : ℕ) (parts : List Part) → length fields ≤ i
+    → PortsSoFar ts p t words fields i parts → AreParts ts (flat_map (port_fields_of p t words) (map memory_part_of fields)) parts
+ports_all ts p t words fields i parts past ports = rw (left_none (port_fields_of p t words) ports.so_far fields i past ports.left) ports.are

@@ -10,7 +10,7 @@ ghost use Rattle.fir_types.specs.working.Walked.{Judges};
 
 use crate::faults::not_passive;
 use crate::found::Found;
-use crate::memory_fields::{NumberField, has_no_second_rule, has_one_type, only_number};
+use crate::memory_fields::{NumberField, has_no_second_rule, has_one_word_type, only_number};
 use fir_ast::{FirFault, Ident, Memory, MemoryField};
 use fir_base::{Name, Refused};
 use fir_type_table::{TypeId, TypeTable};
@@ -57,7 +57,7 @@ fn has_sized_words(table: &TypeTable, fields: &[MemoryField], word_type: Option<
     ensures { option_map (λ id. type_at (types_of table.now) id.number) word_type ≡ first_one (flat_map data_of_part (map memory_part_of fields.now)) → result ≡ is_one is_sized (flat_map data_of_part (map memory_part_of fields.now)) }
 {
     match word_type {
-        Some(id) => has_one_type(fields) && table.is_sized(id),
+        Some(id) => has_one_word_type(fields) && table.is_sized(id),
         None => false,
     }
 }

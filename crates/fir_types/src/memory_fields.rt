@@ -57,7 +57,7 @@ pub fn first_depth(fields: &[MemoryField]) -> Option<u128>
 }
 
 /// The type of the words, if a field is that.
-fn words_of(field: &MemoryField) -> Option<&Ty>
+fn word_type_of(field: &MemoryField) -> Option<&Ty>
     ensures { option_to_list (option_map (λ t. type_of t.now) result) ≡ data_of_part (memory_part_of field.now) }
 {
     match field {
@@ -67,11 +67,11 @@ fn words_of(field: &MemoryField) -> Option<&Ty>
 }
 
 /// The type of words that is written first.
-pub fn first_words(fields: &[MemoryField]) -> Option<&Ty>
+pub fn first_word_type(fields: &[MemoryField]) -> Option<&Ty>
     ensures { option_map (λ t. type_of t.now) result ≡ first_one (flat_map data_of_part (map memory_part_of fields.now)) }
 {
     for field in fields {
-        if let Some(ty) = words_of(field) {
+        if let Some(ty) = word_type_of(field) {
             return Some(ty);
         }
     }
@@ -79,12 +79,12 @@ pub fn first_words(fields: &[MemoryField]) -> Option<&Ty>
 }
 
 /// Whether one type of words is written.
-pub fn has_one_type(fields: &[MemoryField]) -> bool
+pub fn has_one_word_type(fields: &[MemoryField]) -> bool
     ensures { result ≡ is_one (λ t. true) (flat_map data_of_part (map memory_part_of fields.now)) }
 {
     let mut is_met = false;
     for field in fields {
-        if words_of(field).is_some() {
+        if word_type_of(field).is_some() {
             if is_met {
                 return false;
             }

@@ -61,6 +61,7 @@ fn address_width(words: u128) -> u128
     u128::from(least_width(false, false, words.saturating_sub(1)))
 }
 
+/// The types of which the ports are made, behind those that the table has.
 fn wire_types(
     alloc: Global,
     table: &mut TypeTable,

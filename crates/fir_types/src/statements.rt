@@ -13,7 +13,7 @@ ghost use Rattle.fir_meaning.specs.TypeGroup.{type_faults_in, type_faults_in_blo
 ghost use Rattle.fir_meaning.specs.Visibility.{Before, behind, behind_block, with_declaration};
 ghost use Rattle.fir_names.specs.working.Parts.{when_view};
 ghost use Rattle.fir_type_table.specs.working.Tables.{type_at, types_of};
-ghost use Rattle.fir_types.specs.working.MemoryParts.{HasWords, IsFoundIn, IsHeldWord};
+ghost use Rattle.fir_types.specs.working.MemoryParts.{HasWordType, IsFoundIn, IsHeldWordType};
 ghost use Rattle.fir_types.specs.working.Statements.{node_faults, register_faults};
 ghost use Rattle.fir_types.specs.working.Walked.{Begins, IsOfModule, Passes, Walks};
 
@@ -21,7 +21,7 @@ use crate::connects::{in_connect, in_partial_connect};
 use crate::expressions::{in_expression, in_reference, in_unsigned};
 use crate::found::Found;
 use crate::memory_faults::in_memory_fields;
-use crate::memory_fields::{first_depth, first_words};
+use crate::memory_fields::{first_depth, first_word_type};
 use crate::memory_type::memory_type;
 use crate::registers::{in_clock, in_reset, no_flips, register_type};
 use crate::scope::Scope;
@@ -152,7 +152,7 @@ fn bundle_of(bundles: &[TypeId], component: Component) -> Option<Found> {
 fn in_memory(alloc: Global, scope: &mut Scope, memory: &Memory) -> Result<(), Refused<FirFault>>
     ensures { (modules : List ModuleTree) (bundles : List TypeId) (before : Before) → Walks modules bundles scope.old before → Passes modules bundles scope.new (memory_faults (named_of memory.now.ident) (map memory_part_of memory.now.fields.items)) (with_declaration before (named_of memory.now.ident) (component.memory (map memory_part_of memory.now.fields.items))) result }
 {
-    let word_type = add_words(alloc, &mut scope.table, memory)?;
+    let word_type = add_word_type(alloc, &mut scope.table, memory)?;
     in_memory_fields(alloc, &scope.table, memory, word_type)?;
     let found = memory_found(alloc, &mut scope.table, memory, word_type)?;
     scope.declared.push(found)?;
@@ -160,14 +160,14 @@ fn in_memory(alloc: Global, scope: &mut Scope, memory: &Memory) -> Result<(), Re
 }
 
 /// Puts the type of a memory's words into the table, where it is written.
-fn add_words(
+fn add_word_type(
     alloc: Global,
     table: &mut TypeTable,
     memory: &Memory,
 ) -> Result<Option<TypeId>, MemoryOut>
-    ensures { IfOk result (λ id. HasWords table.old table.new (map memory_part_of memory.now.fields.items) id) }
+    ensures { IfOk result (λ id. HasWordType table.old table.new (map memory_part_of memory.now.fields.items) id) }
 {
-    match first_words(&memory.fields) {
+    match first_word_type(&memory.fields) {
         Some(ty) => Ok(Some(table.add(alloc, ty)?)),
         None => Ok(None),
     }
@@ -180,7 +180,7 @@ fn memory_found(
     memory: &Memory,
     word_type: Option<TypeId>,
 ) -> Result<Option<Found>, MemoryOut>
-    requires { IsHeldWord (types_of table.old) word_type }
+    requires { IsHeldWordType (types_of table.old) word_type }
     ensures { IfOk result (λ found. option_map (λ id. type_at (types_of table.old) id.number) word_type ≡ first_one (flat_map data_of_part (map memory_part_of memory.now.fields.items)) → IsFoundIn table.old table.new (memory_type memory.now.ident.place (map memory_part_of memory.now.fields.items)) found) }
 {
     let Some(word_type) = word_type else {

@@ -53,14 +53,14 @@ controls_of p words =
     part p false (codes "addr") (uint (Some (address_width words))) ∷ part p false (codes "en") bit ∷ part p false (codes "clk") clock ∷ []
 
 -- the type of a memory's words, where it is written
-abbrev pub IsHeldWord : List DataType → Option TypeId → Type 0
-IsHeldWord ts None = Unit {0}
-IsHeldWord ts (Some id) = id.number < length ts
+abbrev pub IsHeldWordType : List DataType → Option TypeId → Type 0
+IsHeldWordType ts None = Unit {0}
+IsHeldWordType ts (Some id) = id.number < length ts
 
-pub record HasWords (old new : List Entry) (parts : List MemoryPart) (id : Option TypeId) : Type 0 where
+pub record HasWordType (old new : List Entry) (parts : List MemoryPart) (id : Option TypeId) : Type 0 where
   pub more : List DataType
   pub grown : types_of new ≡ types_of old ++ more
-  pub held : IsHeldWord (types_of new) id
+  pub held : IsHeldWordType (types_of new) id
   pub is : option_map (λ id. type_at (types_of new) id.number) id ≡ first_one (flat_map data_of_part parts)
 
 -- what is found stands in a table that has grown

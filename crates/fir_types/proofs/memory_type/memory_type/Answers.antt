@@ -3,7 +3,7 @@ use Rattle.std.proofs.lemmas.Result.{IfOk-weaker}
 use Rattle.fir_base.proofs.Elements.{there}
 use Rattle.fir_type_table.specs.working.Tables.{types_of}
 use Rattle.fir_types.proofs.HeldTypes.{grown_twice}
-use Rattle.fir_types.proofs.MemoryPorts.{left_first, left_next, left_none, parts_bundle}
+use Rattle.fir_types.proofs.MemoryPorts.{parts_bundle, ports_all, ports_first, ports_next}
 use Rattle.fir_types.proofs.memory_type.memory_type.Goals as goal
 
 pub port_types-requires : goal.port_types-requires
@@ -12,11 +12,11 @@ port_types-requires c =
     (word.0, c.args.words, (c.in_ok-wires.ensures word.0 word.1).has)
 
 pub loop-field-init : goal.loop-field-init
-loop-field-init c = λ ts t has. left_first ts c.args.place t c.args.words c.args.fields.now _ c.new-parts.ensures.items
+loop-field-init c = λ ts t has. ports_first ts c.args.place t c.args.words c.args.fields.now _ c.new-parts.ensures.items
 
 pub loop-field-preserved : goal.loop-field-preserved
 loop-field-preserved c = λ ts t has.
-    left_next ts c.args.place t c.args.words c.args.fields.now c.loop-field.field-index c.field-item.result c.loop-field.parts.items _ c.loop-field-test.true
+    ports_next ts c.args.place t c.args.words c.args.fields.now c.loop-field.field-index c.field-item.result c.loop-field.parts.items _ c.loop-field-test.true
     c.field-item.is (λ fs are. c.in_ok-put_ports.ensures ts c.args.place t c.args.words fs has are) (c.loop-field.invariant ts t has)
 
 pub add_bundle-requires : goal.add_bundle-requires
@@ -32,7 +32,7 @@ returns c =
     (λ id adds. λ t at.
     let wires = c.in_ok-wires.ensures t at in
     let ports = c.in_ok-ports.ensures t c.args.words wires.has in
-    let parts = left_none _ c.args.place t c.args.words c.args.fields.now c.loop-field.field-index c.loop-field.parts.items c.loop-field-test.false
+    let parts = ports_all _ c.args.place t c.args.words c.args.fields.now c.loop-field.field-index c.loop-field.parts.items c.loop-field-test.false
     (c.loop-field.invariant _ t ports.has) in
     let last = parts_bundle c.port_types.new.table c.add_bundle.new.self id.number _ c.loop-field.parts.items parts adds in
     let begun = grown_twice c.args.table.now c.wire_types.new.table c.port_types.new.table wires.more ports.more wires.grown ports.grown in

@@ -14,5 +14,5 @@ returns c = λ modules bundles before w.
       c.in_ok-in_memory_fields.ensures words.is,
       walks_more modules bundles scope (record { table = c.memory_found.new.table; declared = c.push.new.self }) before (named_of memory.ident)
           (component.memory (map memory_part_of memory.fields.items)) (words.more ++ found.more) c.in_ok-found.found w c.in_ok-push.ensures.items
-          (grown_twice scope.table c.add_words.new.table c.memory_found.new.table words.more found.more words.grown found.grown) found.held found.is,
+          (grown_twice scope.table c.add_word_type.new.table c.memory_found.new.table words.more found.more words.grown found.grown) found.held found.is,
     )
