@@ -28,11 +28,21 @@ pub fn in_memory_fields(
 {
     let (ident, fields) = (&memory.ident, memory.fields.as_slice());
     no_flips(alloc, table, ident, word_type)?;
-    unless(alloc, has_sized_words(table, fields, word_type), ident, b"data-type")?;
+    unless(
+        alloc,
+        has_sized_words(table, fields, word_type),
+        ident,
+        b"data-type",
+    )?;
     unless(alloc, has_depth(fields), ident, b"depth")?;
     unless(alloc, has_read_latency(fields), ident, b"read-latency")?;
     unless(alloc, has_write_latency(fields), ident, b"write-latency")?;
-    unless(alloc, has_no_second_rule(fields), ident, b"read-under-write")
+    unless(
+        alloc,
+        has_no_second_rule(fields),
+        ident,
+        b"read-under-write",
+    )
 }
 
 /// The first data has no flips.

@@ -8,7 +8,6 @@ ghost use Rattle.fir_meaning.specs.MemoryTypes.{address_width, flipped_fields, m
 ghost use Rattle.fir_type_table.specs.working.Tables.{Adds, types_of};
 ghost use Rattle.fir_types.specs.working.MemoryParts.{AreParts, AreWires, HasPorts, HasPortsIn, HasWires, HasWiresIn, controls_of};
 
-use crate::memory_fields::first_depth;
 use fir_ast::{Ident, MemoryField, Place};
 use fir_base::{MemoryOut, Name};
 use fir_bits::least_width;
@@ -33,7 +32,8 @@ struct PortTypes {
     readwriter: TypeId,
 }
 
-/// The bundle of the ports of a memory whose name stands at the place, with words of that type, and so many.
+/// The bundle of the ports of a memory whose name stands at the place, with words of that type and so many
+/// of them.
 pub fn memory_type(
     alloc: Global,
     table: &mut TypeTable,
