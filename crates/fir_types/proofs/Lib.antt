@@ -5,8 +5,11 @@ pub mod CheckedForms
 pub mod PartViews
 pub mod PartWalks
 pub mod OperandWalks
-mod KnownScopes
-mod GrownScopes
-mod StatementFaults
-mod RegisterWalks
-mod InstanceWalks
+pub mod FieldsLeft
+pub mod HeldTypes
+pub mod MemoryPorts
+pub mod GrownScopes
+pub mod KnownScopes
+pub mod StatementFaults
+pub mod RegisterWalks
+pub mod InstanceWalks

@@ -9,3 +9,4 @@ pub mod Connected
 pub mod Registers
 pub mod Statements
 pub mod TypedModules
+pub mod MemoryParts

@@ -1,12 +1,13 @@
 //! The type of a memory: a bundle of its ports (FIRRTL spec, "Memories").
 
-ghost use Rattle.std.specs.Prelude.{◌≡◌, Some, IfOk, flat_map, map, slice_get};
-ghost use Rattle.fir_ast.specs.Types.{DataType};
-ghost use Rattle.fir_ast.specs.View.{memory_part_of};
-ghost use Rattle.fir_meaning.specs.MemoryTypes.{memory_bundle};
+ghost use Rattle.std.specs.Prelude.{◌≡◌, ◌<◌, ◌++◌, ℕ, List, [], ◌∷◌, Some, IfOk, OnOk, flat_map, length, map, slice_get};
+ghost use Rattle.fir_ast.specs.declared.place.Place.{Place};
+ghost use Rattle.fir_ast.specs.Types.{DataType, Fields};
+ghost use Rattle.fir_ast.specs.View.{memory_part_of, named_of};
+ghost use Rattle.fir_meaning.specs.MemoryTypes.{address_width, flipped_fields, memory_bundle, part, port_fields_of, reader_type, readwriter_type, writer_type};
 ghost use Rattle.fir_type_table.specs.working.Tables.{Adds, types_of};
+ghost use Rattle.fir_types.specs.working.MemoryParts.{AreParts, AreWires, HasPorts, HasPortsIn, HasWires, HasWiresIn, controls_of};
 
-use crate::memory_fields::first_depth;
 use fir_ast::{Ident, MemoryField, Place};
 use fir_base::{MemoryOut, Name};
 use fir_bits::least_width;
@@ -31,8 +32,8 @@ struct PortTypes {
     readwriter: TypeId,
 }
 
-/// The bundle of the ports of a memory whose name stands at the place, with data of that type and so many
-/// words.
+/// The bundle of the ports of a memory whose name stands at the place, with words of that type and so many
+/// of them.
 pub fn memory_type(
     alloc: Global,
     table: &mut TypeTable,
@@ -41,9 +42,11 @@ pub fn memory_type(
     word_type: TypeId,
     words: u128,
 ) -> Result<TypeId, MemoryOut>
+    requires { word_type.number < length (types_of table.old) }
     ensures { IfOk result (λ id. (t : DataType) → slice_get (types_of table.old) word_type.number ≡ Some t → Adds table.old table.new id.number (memory_bundle place (map memory_part_of fields.now) t words)) }
 {
-    let ports = port_types(alloc, table, place, word_type, words)?;
+    let wires = wire_types(alloc, table, word_type, words)?;
+    let ports = port_types(alloc, table, place, wires)?;
     let mut parts = Vec::new(alloc);
     for field in fields {
         put_ports(alloc, &mut parts, ports, field)?;
@@ -52,8 +55,29 @@ pub fn memory_type(
 }
 
 /// The width of an address: the least, at least 1, of the greatest.
-fn address_width(words: u128) -> u128 {
+fn address_width(words: u128) -> u128
+    ensures { result ≡ address_width words }
+{
     u128::from(least_width(false, false, words.saturating_sub(1)))
+}
+
+/// The types of which the ports are made, behind those that the table has.
+fn wire_types(
+    alloc: Global,
+    table: &mut TypeTable,
+    word_type: TypeId,
+    words: u128,
+) -> Result<Wires, MemoryOut>
+    requires { word_type.number < length (types_of table.old) }
+    ensures { IfOk result (λ w. (t : DataType) → slice_get (types_of table.old) word_type.number ≡ Some t → HasWiresIn table.old table.new t words w) }
+{
+    Ok(Wires {
+        clock: table.clock(),
+        bit: table.bit(),
+        address: table.add_uint(address_width(words))?,
+        word_type,
+        mask: table.add_mask(alloc, word_type)?,
+    })
 }
 
 /// The types of ports, whose fields stand at the memory's place.
@@ -61,16 +85,11 @@ fn port_types(
     alloc: Global,
     table: &mut TypeTable,
     place: Place,
-    word_type: TypeId,
-    words: u128,
-) -> Result<PortTypes, MemoryOut> {
-    let wires = Wires {
-        clock: table.clock(),
-        bit: table.bit(),
-        address: table.add_uint(address_width(words))?,
-        word_type,
-        mask: table.add_mask(alloc, word_type)?,
-    };
+    wires: Wires,
+) -> Result<PortTypes, MemoryOut>
+    requires { AreWires (types_of table.old) wires }
+    ensures { IfOk result (λ ports. (t : DataType) (words : ℕ) → HasWires (types_of table.old) t words wires → HasPortsIn table.old table.new place t words ports) }
+{
     Ok(PortTypes {
         reader: reader_type(alloc, table, place, wires)?,
         writer: writer_type(alloc, table, place, wires)?,
@@ -78,29 +97,35 @@ fn port_types(
     })
 }
 
-/// A field of a port.
-fn part(
+/// Puts a field behind others: the place is that of its name and of its type.
+fn put(
     alloc: Global,
+    parts: &mut Vec<Part>,
     place: Place,
     flip: bool,
     name: &[u8],
     ty: TypeId,
-) -> Result<Part, MemoryOut> {
-    Ok(Part {
+) -> Result<(), MemoryOut>
+    ensures { OnOk result ((ts : List DataType) (t : DataType) (fs : List (Fields → Fields)) → slice_get ts ty.number ≡ Some t → AreParts ts fs parts.old.items → AreParts ts (fs ++ part place flip name.now t ∷ []) parts.new.items) }
+{
+    parts.push(Part {
         place,
         flip,
         name: Name::new(alloc, name)?,
         type_place: place,
         ty,
-    })
+    })?;
+    Ok(())
 }
 
 /// What all ports begin with.
-fn controls(alloc: Global, place: Place, wires: Wires) -> Result<Vec<Part>, MemoryOut> {
+fn controls(alloc: Global, place: Place, wires: Wires) -> Result<Vec<Part>, MemoryOut>
+    ensures { IfOk result (λ parts. (ts : List DataType) (t : DataType) (words : ℕ) → HasWires ts t words wires → AreParts ts (controls_of place words) parts.items) }
+{
     let mut parts = Vec::new(alloc);
-    parts.push(part(alloc, place, false, b"addr", wires.address)?)?;
-    parts.push(part(alloc, place, false, b"en", wires.bit)?)?;
-    parts.push(part(alloc, place, false, b"clk", wires.clock)?)?;
+    put(alloc, &mut parts, place, false, b"addr", wires.address)?;
+    put(alloc, &mut parts, place, false, b"en", wires.bit)?;
+    put(alloc, &mut parts, place, false, b"clk", wires.clock)?;
     Ok(parts)
 }
 
@@ -109,9 +134,12 @@ fn reader_type(
     table: &mut TypeTable,
     place: Place,
     wires: Wires,
-) -> Result<TypeId, MemoryOut> {
+) -> Result<TypeId, MemoryOut>
+    requires { AreWires (types_of table.old) wires }
+    ensures { IfOk result (λ id. (t : DataType) (words : ℕ) → HasWires (types_of table.old) t words wires → Adds table.old table.new id.number (reader_type place t words)) }
+{
     let mut parts = controls(alloc, place, wires)?;
-    parts.push(part(alloc, place, true, b"data", wires.word_type)?)?;
+    put(alloc, &mut parts, place, true, b"data", wires.word_type)?;
     table.add_bundle(alloc, parts)
 }
 
@@ -120,10 +148,13 @@ fn writer_type(
     table: &mut TypeTable,
     place: Place,
     wires: Wires,
-) -> Result<TypeId, MemoryOut> {
+) -> Result<TypeId, MemoryOut>
+    requires { AreWires (types_of table.old) wires }
+    ensures { IfOk result (λ id. (t : DataType) (words : ℕ) → HasWires (types_of table.old) t words wires → Adds table.old table.new id.number (writer_type place t words)) }
+{
     let mut parts = controls(alloc, place, wires)?;
-    parts.push(part(alloc, place, false, b"data", wires.word_type)?)?;
-    parts.push(part(alloc, place, false, b"mask", wires.mask)?)?;
+    put(alloc, &mut parts, place, false, b"data", wires.word_type)?;
+    put(alloc, &mut parts, place, false, b"mask", wires.mask)?;
     table.add_bundle(alloc, parts)
 }
 
@@ -132,12 +163,15 @@ fn readwriter_type(
     table: &mut TypeTable,
     place: Place,
     wires: Wires,
-) -> Result<TypeId, MemoryOut> {
+) -> Result<TypeId, MemoryOut>
+    requires { AreWires (types_of table.old) wires }
+    ensures { IfOk result (λ id. (t : DataType) (words : ℕ) → HasWires (types_of table.old) t words wires → Adds table.old table.new id.number (readwriter_type place t words)) }
+{
     let mut parts = controls(alloc, place, wires)?;
-    parts.push(part(alloc, place, true, b"rdata", wires.word_type)?)?;
-    parts.push(part(alloc, place, false, b"wmode", wires.bit)?)?;
-    parts.push(part(alloc, place, false, b"wdata", wires.word_type)?)?;
-    parts.push(part(alloc, place, false, b"wmask", wires.mask)?)?;
+    put(alloc, &mut parts, place, true, b"rdata", wires.word_type)?;
+    put(alloc, &mut parts, place, false, b"wmode", wires.bit)?;
+    put(alloc, &mut parts, place, false, b"wdata", wires.word_type)?;
+    put(alloc, &mut parts, place, false, b"wmask", wires.mask)?;
     table.add_bundle(alloc, parts)
 }
 
@@ -147,7 +181,9 @@ fn put_ports(
     parts: &mut Vec<Part>,
     ports: PortTypes,
     field: &MemoryField,
-) -> Result<(), MemoryOut> {
+) -> Result<(), MemoryOut>
+    ensures { OnOk result ((ts : List DataType) (place : Place) (t : DataType) (words : ℕ) (fs : List (Fields → Fields)) → HasPorts ts place t words ports → AreParts ts fs parts.old.items → AreParts ts (fs ++ port_fields_of place t words (memory_part_of field.now)) parts.new.items) }
+{
     match field {
         MemoryField::Reader(_, names) => put_each(alloc, parts, ports.reader, names),
         MemoryField::Writer(_, names) => put_each(alloc, parts, ports.writer, names),
@@ -162,15 +198,11 @@ fn put_each(
     parts: &mut Vec<Part>,
     ty: TypeId,
     names: &[Ident],
-) -> Result<(), MemoryOut> {
+) -> Result<(), MemoryOut>
+    ensures { OnOk result ((ts : List DataType) (t : DataType) (fs : List (Fields → Fields)) → slice_get ts ty.number ≡ Some t → AreParts ts fs parts.old.items → AreParts ts (fs ++ flipped_fields t (map named_of names.now)) parts.new.items) }
+{
     for ident in names {
-        parts.push(Part {
-            place: ident.place,
-            flip: true,
-            name: ident.name.copy(alloc)?,
-            type_place: ident.place,
-            ty,
-        })?;
+        put(alloc, parts, ident.place, true, ident.name.as_bytes(), ty)?;
     }
     Ok(())
 }

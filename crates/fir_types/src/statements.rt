@@ -1,6 +1,6 @@
 //! The types in statements, in the order of the text, blocks of whens entered.
 
-ghost use Rattle.std.specs.Prelude.{◌≡◌, ℕ, List, IfOk, map, option_map, slice_get};
+ghost use Rattle.std.specs.Prelude.{◌≡◌, ℕ, List, IfOk, flat_map, map, option_map, slice_get};
 ghost use Rattle.fir_ast.specs.declared.place.Place.{Place};
 ghost use Rattle.fir_ast.specs.Circuits.{ModuleTree};
 ghost use Rattle.fir_ast.specs.Statements.{PlacedName};
@@ -8,10 +8,13 @@ ghost use Rattle.fir_ast.specs.View.{block_of, expr_of, memory_part_of, named_of
 ghost use Rattle.fir_meaning.specs.Components as component;
 ghost use Rattle.fir_meaning.specs.Components.{Declarations};
 ghost use Rattle.fir_meaning.specs.MemoryFaults.{memory_faults};
+ghost use Rattle.fir_meaning.specs.MemoryTypes.{data_of_part, first_one, memory_type};
 ghost use Rattle.fir_meaning.specs.TypeGroup.{type_faults_in, type_faults_in_block};
 ghost use Rattle.fir_meaning.specs.Visibility.{Before, behind, behind_block, with_declaration};
 ghost use Rattle.fir_names.specs.working.Parts.{when_view};
 ghost use Rattle.fir_names.specs.working.Tabulated.{found_at};
+ghost use Rattle.fir_type_table.specs.working.Tables.{type_at, types_of};
+ghost use Rattle.fir_types.specs.working.MemoryParts.{HasWordType, IsFoundIn, IsHeldWordType};
 ghost use Rattle.fir_types.specs.working.Statements.{found_bundle, node_faults, register_faults};
 ghost use Rattle.fir_types.specs.working.Walked.{Begins, IsOfModule, Passes, Walks};
 
@@ -19,7 +22,7 @@ use crate::connects::{in_connect, in_partial_connect};
 use crate::expressions::{in_expression, in_reference, in_unsigned};
 use crate::found::Found;
 use crate::memory_faults::in_memory_fields;
-use crate::memory_fields::{first_data, first_depth};
+use crate::memory_fields::{first_depth, first_word_type};
 use crate::memory_type::memory_type;
 use crate::registers::{in_clock, in_reset, no_flips, register_type};
 use crate::scope::Scope;
@@ -125,11 +128,7 @@ fn in_node(
 }
 
 /// An instance, which is as the ports of its module.
-fn declare_instance(
-    names: &Names,
-    bundles: &[TypeId],
-    scope: &mut Scope,
-) -> Result<(), MemoryOut>
+fn declare_instance(names: &Names, bundles: &[TypeId], scope: &mut Scope) -> Result<(), MemoryOut>
     ensures { IfOk result (λ _. (modules : List ModuleTree) (before : Before) (whole : Declarations) (n : PlacedName) (name : List ℕ) → IsOfModule modules names.now whole → Begins (with_declaration before n (component.instance name)).declared whole → Walks modules bundles.now scope.old before → Walks modules bundles.now scope.new (with_declaration before n (component.instance name))) }
 {
     let found = bundle_of(names, bundles, scope.declared.len());
@@ -152,30 +151,44 @@ fn bundle_of(names: &Names, bundles: &[TypeId], position: usize) -> Option<Found
 fn in_memory(alloc: Global, scope: &mut Scope, memory: &Memory) -> Result<(), Refused<FirFault>>
     ensures { (modules : List ModuleTree) (bundles : List TypeId) (before : Before) → Walks modules bundles scope.old before → Passes modules bundles scope.new (memory_faults (named_of memory.now.ident) (map memory_part_of memory.now.fields.items)) (with_declaration before (named_of memory.now.ident) (component.memory (map memory_part_of memory.now.fields.items))) result }
 {
-    let data = match first_data(&memory.fields) {
-        Some(ty) => Some(scope.table.add(alloc, ty)?),
-        None => None,
-    };
-    in_memory_fields(alloc, &scope.table, memory, data)?;
-    let found = memory_found(alloc, &mut scope.table, memory, data)?;
+    let word_type = add_word_type(alloc, &mut scope.table, memory)?;
+    in_memory_fields(alloc, &scope.table, memory, word_type)?;
+    let found = memory_found(alloc, &mut scope.table, memory, word_type)?;
     scope.declared.push(found)?;
     Ok(())
 }
 
-/// The type of a memory, where data and depth are written.
+/// Puts the type of a memory's words into the table, where it is written.
+fn add_word_type(
+    alloc: Global,
+    table: &mut TypeTable,
+    memory: &Memory,
+) -> Result<Option<TypeId>, MemoryOut>
+    ensures { IfOk result (λ id. HasWordType table.old table.new (map memory_part_of memory.now.fields.items) id) }
+{
+    match first_word_type(&memory.fields) {
+        Some(ty) => Ok(Some(table.add(alloc, ty)?)),
+        None => Ok(None),
+    }
+}
+
+/// The type of a memory, where the type of its words and a depth are written.
 fn memory_found(
     alloc: Global,
     table: &mut TypeTable,
     memory: &Memory,
-    data: Option<TypeId>,
-) -> Result<Option<Found>, MemoryOut> {
-    let Some(data) = data else {
+    word_type: Option<TypeId>,
+) -> Result<Option<Found>, MemoryOut>
+    requires { IsHeldWordType (types_of table.old) word_type }
+    ensures { IfOk result (λ found. option_map (λ id. type_at (types_of table.old) id.number) word_type ≡ first_one (flat_map data_of_part (map memory_part_of memory.now.fields.items)) → IsFoundIn table.old table.new (memory_type memory.now.ident.place (map memory_part_of memory.now.fields.items)) found) }
+{
+    let Some(word_type) = word_type else {
         return Ok(None);
     };
     let Some(words) = first_depth(&memory.fields) else {
         return Ok(None);
     };
     let place = memory.ident.place;
-    let id = memory_type(alloc, table, place, &memory.fields, data, words)?;
+    let id = memory_type(alloc, table, place, &memory.fields, word_type, words)?;
     Ok(Some(Found::Type(id, false)))
 }
