@@ -1,1 +1,4 @@
+pub mod LeafSpots
+pub mod FirstDriven
+pub mod FlowFaults
 pub mod BareTypes
