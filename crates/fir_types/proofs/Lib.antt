@@ -1,3 +1,6 @@
+pub mod LeafSpots
+pub mod FirstDriven
+pub mod FlowFaults
 pub mod BareTypes
 pub mod BarePairs
 pub mod KindsFaults

@@ -5,6 +5,7 @@ pub mod Judged
 pub mod Known
 pub mod Walked
 pub mod MemoryFields
+pub mod Driven
 pub mod Connected
 pub mod Registers
 pub mod Statements

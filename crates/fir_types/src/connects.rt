@@ -1,14 +1,13 @@
 //! The types and flows of connects and partial connects (FIRRTL spec, "Connects", "Partial Connects", "Flow").
 
-ghost use Rattle.std.specs.Prelude.{◌≡◌, [], ◌∷◌, ◌++◌, Some, IfErr, IfOk, flat_map, option_map};
 ghost use Rattle.fir_ast.specs.View.{expr_of, sink_of};
 ghost use Rattle.fir_meaning.specs.Checked.{shown_after};
 ghost use Rattle.fir_meaning.specs.ConnectFaults.{connect_faults, partial_connect_faults};
-ghost use Rattle.fir_meaning.specs.ExpressionTypes.{expression_type, reached_by};
+ghost use Rattle.fir_meaning.specs.ExpressionTypes.{reached_by};
 ghost use Rattle.fir_meaning.specs.TypeGroup.{sides};
 ghost use Rattle.fir_meaning.specs.TypedScopes.{TypedScope};
 ghost use Rattle.fir_type_table.specs.working.Tables.{types_of};
-ghost use Rattle.fir_types.specs.working.Connected.{IsSource, right_of};
+ghost use Rattle.fir_types.specs.working.Connected.{IsByReference, IsSource, right_of};
 ghost use Rattle.fir_types.specs.working.Known.{Knows};
 ghost use Rattle.fir_types.specs.working.Seen.{found_type, reached_as, sink_path};
 ghost use Rattle.fir_types.specs.working.Walked.{Judges};
@@ -104,7 +103,7 @@ fn on_connect(
     source: &Expr,
     right: Source,
 ) -> Result<(), Refused<FirFault>>
-    ensures { Judges (connect_faults place (reached_as (types_of scope.now.table) (sink_path (sink_of sink.now)) left) (right_of (types_of scope.now.table) (expr_of source.now) right) (found_type (types_of scope.now.table) right.found)) result }
+    ensures { IsByReference (expr_of source.now) right.reach → Judges (connect_faults place (reached_as (types_of scope.now.table) (sink_path (sink_of sink.now)) left) (right_of (types_of scope.now.table) (expr_of source.now) right) (found_type (types_of scope.now.table) right.found)) result }
 {
     if !fit(&scope.table, left.found, right.found) {
         let fault = wrong_types(alloc, &scope.table, place, left.found, right.found);
@@ -124,7 +123,7 @@ fn on_partial_connect(
     source: &Expr,
     right: Source,
 ) -> Result<(), Refused<FirFault>>
-    ensures { Judges (partial_connect_faults place (reached_as (types_of scope.now.table) (sink_path (sink_of sink.now)) left) (right_of (types_of scope.now.table) (expr_of source.now) right) (found_type (types_of scope.now.table) right.found)) result }
+    ensures { IsByReference (expr_of source.now) right.reach → Judges (partial_connect_faults place (reached_as (types_of scope.now.table) (sink_path (sink_of sink.now)) left) (right_of (types_of scope.now.table) (expr_of source.now) right) (found_type (types_of scope.now.table) right.found)) result }
 {
     if !fit_partly(&scope.table, left.found, right.found) {
         let fault = wrong_types(alloc, &scope.table, place, left.found, right.found);

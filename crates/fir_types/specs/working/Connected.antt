@@ -1,5 +1,5 @@
 -- The two sides of a connect, as the code has them.
-use Rattle.std.specs.Prelude.{◌≡◌, List, [], ◌∷◌, Bool, true, false, Option, Some, None, option_map, Result, Ok, Err}
+use Rattle.std.specs.Prelude.{◌≡◌, List, [], Option, Some, None, option_map, Result, Ok, Err}
 use Rattle.fir_base.specs.declared.refused.Refused.{Refused}
 use Rattle.fir_ast.specs.declared.fault.FirFault.{FirFault}
 use Rattle.fir_ast.specs.Types.{DataType}
@@ -30,3 +30,8 @@ IsRight ts typed e (Some s) = reached_by typed e ≡ right_of ts e s
 abbrev pub IsSource : List DataType → TypedScope → Expression → Result (Option Source) (Refused FirFault) → Type 0
 IsSource ts typed e (Ok s) = Is (expression_type typed e) (option_map (λ s. found_type ts s.found) s) × IsRight ts typed e s
 IsSource ts typed e (Err r) = IsFirstOf (expression_type typed e).shows r
+
+-- what is reached is reached by a reference
+abbrev pub IsByReference : Expression → Option Reach → Type 0
+IsByReference (reference p n ps) r = Unit {0}
+IsByReference e r = r ≡ None
