@@ -2,5 +2,12 @@
 pub mod Saturated
 pub mod Tables
 pub mod Sizes
+pub mod Reads
 pub mod Fits
+pub mod Adding
+pub mod Found
+pub mod Lefts
+pub mod Meetings
+pub mod Made
 pub mod Wanted
+pub mod First

@@ -3,6 +3,7 @@
 use crate::kind::{Kind, TypeId};
 use fir_ast::Place;
 use fir_base::Name;
+use std::collections::BTreeMap;
 
 /// A field of a bundle that is to be made.
 #[derive(Drop)]
@@ -33,7 +34,9 @@ pub struct Member {
 #[derive(Drop)]
 pub struct Entry {
     pub kind: Kind,
+    /// The fields of a bundle in order, and for each name the number of its first field.
     pub members: Vec<Member>,
+    pub by_name: BTreeMap<Name, usize>,
     /// How many leaves it has; at most 2^64 - 1.
     pub leaves: u64,
     /// How many where all elements of a vector share their leaves; at most 2^64 - 1.

@@ -23,7 +23,8 @@ impl TypeId {
     pub const BIT: TypeId = TypeId { number: 5 };
 }
 
-/// A type, without the fields of a bundle (FIRRTL spec, "Types"). A width that is not written is None.
+/// A type, without the fields of a bundle (FIRRTL spec, "Types"). A width that is not written is
+/// None.
 #[derive(Clone, Copy, Debug, PartialEq, Eq)]
 pub enum Kind {
     UInt(Option<u128>),

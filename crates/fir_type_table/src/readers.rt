@@ -1,192 +1,167 @@
-//! What the table tells of a type.
+//! What the table tells of a type in one step.
 
-ghost use Rattle.std.specs.Prelude.{◌≡◌, ◌<◌, nat_lt, IfOk, flat_map, length, map, option_map, slice_get};
+ghost use Rattle.std.specs.Prelude.{◌≡◌, ◌<◌, IfSome, MatchOption, Some, length, nat_lt, option_map, slice_get};
 ghost use Rattle.std.specs.List.{All};
-ghost use Rattle.fir_ast.specs.Types.{bundle, uint, vector};
-ghost use Rattle.std.specs.Prelude.{Some};
-ghost use Rattle.fir_ast.specs.View.{fields_of, type_of};
-ghost use Rattle.fir_meaning.specs.TypeKinds.{is_numeric, is_passive, is_sized};
-ghost use Rattle.fir_meaning.specs.TypeLeaves.{leaf_count, type_leaves};
-ghost use Rattle.fir_meaning.specs.Reaching.{field_of_type};
-ghost use Rattle.fir_meaning.specs.Equivalence.{is_connectable, is_equivalent, is_partly_connectable};
-ghost use Rattle.fir_meaning.specs.LeafPaths.{step_text};
-ghost use Rattle.fir_meaning.specs.ConnectPairs.{partial_pairs};
 ghost use Rattle.fir_ast.specs.Types.{clock};
-ghost use Rattle.fir_meaning.specs.MemoryTypes.{bit, first_one, mask_type};
-ghost use Rattle.fir_type_table.specs.working.Fits.{IsMadeBelow, grounds};
+ghost use Rattle.fir_meaning.specs.MemoryTypes.{bit};
+ghost use Rattle.fir_meaning.specs.TypeKinds.{is_numeric, is_passive, is_sized};
+ghost use Rattle.fir_meaning.specs.TypeLeaves.{leaf_count};
+ghost use Rattle.fir_meaning.specs.Reaching.{field_of_type};
+ghost use Rattle.fir_type_table.specs.working.Fits.{IsMadeBelow};
+ghost use Rattle.fir_type_table.specs.working.Reads.{IsPast, IsReadAt};
 ghost use Rattle.fir_type_table.specs.working.Saturated.{saturated};
-ghost use Rattle.fir_type_table.specs.working.Sizes.{shared_count};
-ghost use Rattle.fir_type_table.specs.working.Tables.{Adds, made_of, members_at, part_of, shown, type_at, types_of};
-ghost use Rattle.fir_type_table.specs.working.Wanted.{first_wanted, first_wanted_pair};
+ghost use Rattle.fir_type_table.specs.working.Found.{IsFieldFound, found_of};
+ghost use Rattle.fir_type_table.specs.working.Sizes.{leaves_before, shared_before, shared_count};
+ghost use Rattle.fir_type_table.specs.working.Tables.{made_of, members_at, type_at, types_of};
 
-use crate::entry::Part;
+use crate::entry::{Entry, Member};
 use crate::kind::{Kind, TypeId};
 use crate::table::TypeTable;
-use fir_ast::Ty;
-use fir_base::{MemoryOut, Name};
-use std::alloc::Global;
+use fir_base::Name;
 
-/// A field of a bundle.
+/// A field of a bundle: its orientation, its type, and the leaves of the bundle before it.
 #[derive(Clone, Copy, Debug, PartialEq, Eq)]
 pub struct FieldFound {
     pub flip: bool,
     pub ty: TypeId,
+    /// At most 2^64 - 1.
     pub offset: u64,
+    /// The same where all elements of a vector share their leaves.
     pub shared_offset: u64,
 }
 
 impl TypeTable {
-    pub fn kind(&self, id: TypeId) -> Kind
-        ensures made { type_at (types_of self.now) id.number ≡ made_of (types_of self.now) result (members_at self.now id.number) }
-        ensures below { IsMadeBelow id.number result }
+    /// The entry of an id.
+    fn entry(&self, id: TypeId) -> Option<&Entry>
+        ensures { MatchOption result (IsPast self.now id.number) (λ e. IsReadAt self.now id.number e.now) }
     {
-        match self.never {}
+        self.entries.get(id.number)
     }
 
     /// Whether a type stands under the id.
     pub fn has(&self, id: TypeId) -> bool
         ensures { result ≡ nat_lt id.number (length (types_of self.now)) }
     {
-        match self.never {}
-    }
-
-    pub fn is_passive(&self, id: TypeId) -> bool
-        ensures { result ≡ is_passive (type_at (types_of self.now) id.number) }
-    {
-        match self.never {}
-    }
-
-    pub fn is_numeric(&self, id: TypeId) -> bool
-        ensures { result ≡ is_numeric (type_at (types_of self.now) id.number) }
-    {
-        match self.never {}
-    }
-
-    pub fn is_sized(&self, id: TypeId) -> bool
-        ensures { result ≡ is_sized (type_at (types_of self.now) id.number) }
-    {
-        match self.never {}
-    }
-
-    pub fn field(&self, id: TypeId, name: &Name) -> Option<FieldFound>
-        ensures found { option_map (λ f. record { flip = f.flip; data_type = type_at (types_of self.now) f.ty.number }) result ≡ field_of_type name.now (type_at (types_of self.now) id.number) }
-    {
-        match self.never {}
-    }
-
-    pub fn are_equivalent(&self, a: TypeId, b: TypeId) -> bool
-        ensures { result ≡ is_equivalent (type_at (types_of self.now) a.number) (type_at (types_of self.now) b.number) }
-    {
-        match self.never {}
-    }
-
-    pub fn fit(&self, a: TypeId, b: TypeId) -> bool
-        ensures { result ≡ is_connectable (type_at (types_of self.now) a.number) (type_at (types_of self.now) b.number) }
-    {
-        match self.never {}
-    }
-
-    pub fn fit_partly(&self, a: TypeId, b: TypeId) -> bool
-        ensures { result ≡ is_partly_connectable (type_at (types_of self.now) a.number) (type_at (types_of self.now) b.number) }
-    {
-        match self.never {}
-    }
-
-    pub fn first_leaf(
-        &self,
-        alloc: Global,
-        id: TypeId,
-        straight: bool,
-        flipped: bool,
-    ) -> Result<Option<Vec<u8>>, MemoryOut>
-        ensures { IfOk result (λ r. option_map (λ v. v.items) r ≡ option_map (flat_map step_text) (first_wanted straight flipped (type_leaves (type_at (types_of self.now) id.number)))) }
-    {
-        match self.never {}
-    }
-
-    pub fn first_partial_leaf(
-        &self,
-        alloc: Global,
-        a: TypeId,
-        b: TypeId,
-        straight: bool,
-        flipped: bool,
-    ) -> Result<Option<Vec<u8>>, MemoryOut>
-        ensures { IfOk result (λ r. option_map (λ v. v.items) r ≡ option_map (flat_map step_text) (first_wanted_pair straight flipped (partial_pairs (type_at (types_of self.now) a.number) (type_at (types_of self.now) b.number)))) }
-    {
-        match self.never {}
-    }
-
-    pub fn ty(&self, alloc: Global, id: TypeId, bare: bool) -> Result<Ty, MemoryOut>
-        ensures { IfOk result (λ t. type_of t ≡ shown bare (type_at (types_of self.now) id.number)) }
-    {
-        match self.never {}
-    }
-
-    pub fn new(alloc: Global) -> Result<TypeTable, MemoryOut>
-        ensures { IfOk result (λ t. types_of t ≡ grounds) }
-    {
-        Err(MemoryOut)
-    }
-
-    pub fn add(&mut self, alloc: Global, ty: &Ty) -> Result<TypeId, MemoryOut>
-        ensures { IfOk result (λ id. Adds self.old self.new id.number (type_of ty.now)) }
-    {
-        Err(MemoryOut)
-    }
-
-    pub fn add_uint(&mut self, width: u128) -> Result<TypeId, MemoryOut>
-        ensures { IfOk result (λ id. Adds self.old self.new id.number (uint (Some width))) }
-    {
-        Err(MemoryOut)
-    }
-
-    pub fn add_bundle(&mut self, alloc: Global, parts: Vec<Part>) -> Result<TypeId, MemoryOut>
-        requires { All (λ p. p.ty.number < length (types_of self.old)) parts.items }
-        ensures { IfOk result (λ id. Adds self.old self.new id.number (bundle (fields_of (map (part_of (types_of self.old)) parts.items)))) }
-    {
-        Err(MemoryOut)
-    }
-
-    pub fn add_vector(&mut self, element: TypeId, count: u128) -> Result<TypeId, MemoryOut>
-        requires { element.number < length (types_of self.old) }
-        ensures { IfOk result (λ id. Adds self.old self.new id.number (vector (type_at (types_of self.old) element.number) count)) }
-    {
-        Err(MemoryOut)
-    }
-
-    pub fn add_mask(&mut self, alloc: Global, id: TypeId) -> Result<TypeId, MemoryOut>
-        requires { id.number < length (types_of self.old) }
-        ensures { IfOk result (λ m. Adds self.old self.new m.number (mask_type (type_at (types_of self.old) id.number))) }
-    {
-        Err(MemoryOut)
-    }
-
-    /// The orientation of the first leaf of a type.
-    pub fn first_flip(&self, id: TypeId) -> Option<bool>
-        ensures { result ≡ option_map (λ l. l.flip) (first_one (type_leaves (type_at (types_of self.now) id.number))) }
-    {
-        match self.never {}
-    }
-
-    /// The orientation of the first pair of a partial connect.
-    pub fn first_pair_flip(&self, a: TypeId, b: TypeId) -> Option<bool>
-        ensures { result ≡ option_map (λ p. p.left.flip) (first_one (partial_pairs (type_at (types_of self.now) a.number) (type_at (types_of self.now) b.number))) }
-    {
-        match self.never {}
+        id.number < self.entries.len()
     }
 
     /// A Clock.
     pub fn clock(&self) -> TypeId
         ensures { slice_get (types_of self.now) result.number ≡ Some clock }
     {
-        match self.never {}
+        // Each table has it, as the invariant of its entries says.
+        let _ = &self.entries;
+        TypeId::CLOCK
     }
 
     /// A UInt of one bit.
     pub fn bit(&self) -> TypeId
         ensures { slice_get (types_of self.now) result.number ≡ Some bit }
     {
-        match self.never {}
+        // Each table has it, as the invariant of its entries says.
+        let _ = &self.entries;
+        TypeId::BIT
+    }
+
+    /// What a type is made of.
+    pub fn kind(&self, id: TypeId) -> Kind
+        ensures made { type_at (types_of self.now) id.number ≡ made_of (types_of self.now) result (members_at self.now id.number) }
+        ensures below { IsMadeBelow id.number result }
+    {
+        match self.entry(id) {
+            Some(entry) => entry.kind,
+            None => Kind::UInt(None),
+        }
+    }
+
+    /// The fields of a bundle, in order; of another type none.
+    pub(crate) fn members(&self, id: TypeId) -> &[Member]
+        ensures members { result.now ≡ members_at self.now id.number }
+        ensures below { All (λ m. m.ty.number < id.number) result.now }
+    {
+        match self.entry(id) {
+            Some(entry) => entry.members.as_slice(),
+            None => &[],
+        }
+    }
+
+    /// Whether no field of a type is flipped, at any depth.
+    pub fn is_passive(&self, id: TypeId) -> bool
+        ensures { result ≡ is_passive (type_at (types_of self.now) id.number) }
+    {
+        match self.entry(id) {
+            Some(entry) => entry.is_passive,
+            None => true,
+        }
+    }
+
+    /// Whether all leaves of a type are UInt or SInt.
+    pub fn is_numeric(&self, id: TypeId) -> bool
+        ensures { result ≡ is_numeric (type_at (types_of self.now) id.number) }
+    {
+        match self.entry(id) {
+            Some(entry) => entry.is_numeric,
+            None => true,
+        }
+    }
+
+    /// Whether they have their widths written too.
+    pub fn is_sized(&self, id: TypeId) -> bool
+        ensures { result ≡ is_sized (type_at (types_of self.now) id.number) }
+    {
+        match self.entry(id) {
+            Some(entry) => entry.is_sized,
+            None => false,
+        }
+    }
+
+    /// How many leaves a type has; at most 2^64 - 1.
+    pub fn leaves(&self, id: TypeId) -> u64
+        ensures { result ≡ saturated (leaf_count (type_at (types_of self.now) id.number)) }
+    {
+        match self.entry(id) {
+            Some(entry) => entry.leaves,
+            None => 1,
+        }
+    }
+
+    /// How many where all elements of a vector share their leaves; at most 2^64 - 1.
+    pub fn shared_leaves(&self, id: TypeId) -> u64
+        ensures { result ≡ saturated (shared_count (type_at (types_of self.now) id.number)) }
+    {
+        match self.entry(id) {
+            Some(entry) => entry.shared_leaves,
+            None => 1,
+        }
+    }
+
+    /// The first field of that name of a bundle.
+    pub fn field(&self, id: TypeId, name: &Name) -> Option<FieldFound>
+        ensures found { option_map (found_of (types_of self.now)) result ≡ field_of_type name.now (type_at (types_of self.now) id.number) }
+        ensures offset { IfSome result (λ f. f.offset ≡ saturated (leaves_before name.now (type_at (types_of self.now) id.number))) }
+        ensures shared_offset { IfSome result (λ f. f.shared_offset ≡ saturated (shared_before name.now (type_at (types_of self.now) id.number))) }
+        ensures below { IfSome result (λ f. f.ty.number < id.number) }
+    {
+        let member = self.member_named(id, name)?;
+        Some(FieldFound {
+            flip: member.flip,
+            ty: member.ty,
+            offset: member.offset,
+            shared_offset: member.shared_offset,
+        })
+    }
+
+    /// The first member of that name of a bundle.
+    fn member_named(&self, id: TypeId, name: &Name) -> Option<&Member>
+        ensures { IsFieldFound self.now id.number name.now (option_map (λ m. m.now) result) }
+    {
+        let entry = self.entry(id)?;
+        let Kind::Bundle = entry.kind else {
+            return None;
+        };
+        let Some(number) = entry.by_name.get(name) else {
+            return None;
+        };
+        entry.members.get(*number)
     }
 }

@@ -24,6 +24,11 @@ abbrev pub IsMadeBelow : ℕ → Kind → Type 0
 IsMadeBelow i (kind.Vector e n) = e.number < i
 IsMadeBelow i k = Unit {0}
 
+abbrev pub IsScalar : Kind → Type 0
+IsScalar kind.Bundle = ⊥
+IsScalar (kind.Vector e n) = ⊥
+IsScalar k = Unit {0}
+
 -- the number of the first member of a name, behind so many
 abbrev pub first_member : List ℕ → ℕ → List Member → Option ℕ
 first_member name i [] = None
@@ -46,6 +51,7 @@ pub record FitsAt (ts : List DataType) (i : ℕ) (e : Entry) : Type 0 where
   pub numeric : e.is_numeric ≡ is_numeric (made_of ts e.kind e.members.items)
   pub sized : e.is_sized ≡ is_sized (made_of ts e.kind e.members.items)
   pub offsets : HasOffsets ts 0 0 e.members.items
+  pub by_name : (n : List ℕ) → get (slice_cmp nat_cmp) e.by_name n ≡ first_member n 0 e.members.items
 
 pub record IsTable (es : List Entry) : Type 0 where
   pub begins : take 6 (types_of es) ≡ grounds

@@ -1,11 +1,11 @@
 -- The types that a table holds.
 -- An entry says what its type is made of: of the types before it in the table.
-use Rattle.std.specs.Prelude.{◌≡◌, Bool, true, false, ℕ, ◌<◌, List, [], ◌∷◌, ◌++◌, map, length, slice_get, Option, Some, None, unwrap_or}
+use Rattle.std.specs.Prelude.{◌≡◌, ℕ, List, [], ◌∷◌, ◌++◌, map, Bool, true, false, slice_get, Option, Some, None, unwrap_or}
 use Rattle.fir_ast.specs.Types.{DataType, uint, sint, clock, reset, async_reset, bundle, vector, Fields, field}
 use Rattle.fir_ast.specs.View.{fields_of}
+use Rattle.fir_meaning.specs.TypeKinds.{bare, bare_fields}
 use Rattle.fir_type_table.specs.declared.kind.Kind.{Kind}
 use Rattle.fir_type_table.specs.declared.kind.Kind.TheVariants as kind
-use Rattle.fir_meaning.specs.TypeKinds.{bare}
 use Rattle.fir_type_table.specs.declared.entry.Member.{Member}
 use Rattle.fir_type_table.specs.declared.entry.Part.{Part}
 use Rattle.fir_type_table.specs.declared.entry.Entry.{Entry}
@@ -17,13 +17,23 @@ type_at ts id = unwrap_or (slice_get ts id) (uint None)
 abbrev pub member_of : List DataType → Member → Fields → Fields
 member_of ts m rest = field m.place m.flip m.name m.type_place (type_at ts m.ty.number) rest
 
+abbrev pub member_fields : List DataType → List Member → Fields
+member_fields ts ms = fields_of (map (member_of ts) ms)
+
+-- and of a bundle that is to be made
+abbrev pub part_of : List DataType → Part → Fields → Fields
+part_of ts p rest = field p.place p.flip p.name p.type_place (type_at ts p.ty.number) rest
+
+abbrev pub part_fields : List DataType → List Part → Fields
+part_fields ts ps = fields_of (map (part_of ts) ps)
+
 abbrev pub made_of : List DataType → Kind → List Member → DataType
 made_of ts (kind.UInt width) ms = uint width
 made_of ts (kind.SInt width) ms = sint width
 made_of ts kind.Clock ms = clock
 made_of ts kind.Reset ms = reset
 made_of ts kind.AsyncReset ms = async_reset
-made_of ts kind.Bundle ms = bundle (fields_of (map (member_of ts) ms))
+made_of ts kind.Bundle ms = bundle (member_fields ts ms)
 made_of ts (kind.Vector e n) ms = vector (type_at ts e.number) n
 
 -- those of the entries behind so many types
@@ -48,10 +58,11 @@ members_of (Some e) = e.members.items
 abbrev pub members_at : List Entry → ℕ → List Member
 members_at es id = members_of (slice_get es id)
 
--- a type with or without its widths
+-- a type as a text shows it: bare of its widths, or with them
 abbrev pub shown : Bool → DataType → DataType
 shown true t = bare t
 shown false t = t
 
-abbrev pub part_of : List DataType → Part → Fields → Fields
-part_of ts p rest = field p.place p.flip p.name p.type_place (type_at ts p.ty.number) rest
+abbrev pub shown_fields : Bool → Fields → Fields
+shown_fields true fs = bare_fields fs
+shown_fields false fs = fs

@@ -1,0 +1,16 @@
+pub mod TableTypes
+pub mod EntriesRead
+pub mod MemberLists
+pub mod NamedMembers
+pub mod GrowingLists
+pub mod CopiedFields
+pub mod PartlyMet
+pub mod WantedPaths
+pub mod WantedFields
+pub mod PairedLefts
+pub mod GrownTables
+pub mod FirstTables
+pub mod FirstMembers
+pub mod AddedParts
+pub mod PlacedMembers
+pub mod FirstFlips

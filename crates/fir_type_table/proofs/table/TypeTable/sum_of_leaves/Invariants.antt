@@ -1,0 +1,13 @@
+use Rattle.std.proofs.Common.{◌≡◌, ◌+◌, ◌<◌, ◌^◌}
+use Rattle.fir_meaning.specs.TypeLeaves.{field_count}
+use Rattle.fir_type_table.specs.working.Saturated.{saturated}
+use Rattle.fir_type_table.specs.working.Tables.{member_fields, types_of}
+use Rattle.fir_type_table.proofs.MemberLists.{members_from}
+use Rattle.fir_type_table.proofs.table.TypeTable.sum_of_leaves.Given as goal
+
+abbrev pub invariant-loop-member : goal.invariant-loop-member
+invariant-loop-member l =
+    record {
+      so_far : saturated (l.sum + field_count (members_from (types_of l.self) l.members l.member-index)) ≡ saturated (field_count (member_fields (types_of l.self) l.members));
+      fits : l.sum < 2 ^ 64;
+    }
