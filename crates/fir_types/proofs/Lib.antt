@@ -16,3 +16,5 @@ pub mod KnownScopes
 pub mod StatementFaults
 pub mod RegisterWalks
 pub mod InstanceWalks
+pub mod StatementWalks
+pub mod StatementParts

@@ -1,0 +1,129 @@
+-- The walk over statements and blocks.
+use Rattle.std.proofs.Common.{◌≡◌, ℕ, List, [], ◌∷◌, ◌++◌, map, Result, Ok, Err, refl, sym, ap, subst, ◌∙◌}
+use Rattle.fir_base.specs.declared.refused.Refused.{Refused}
+use Rattle.fir_ast.specs.declared.fault.FirFault.{FirFault}
+use Rattle.fir_ast.specs.declared.place.Place.{Place}
+use Rattle.fir_ast.specs.Expressions.{Expression}
+use Rattle.fir_ast.specs.Statements.{Statement, when, Block, done, then}
+use Rattle.fir_ast.specs.Circuits.{ModuleTree}
+use Rattle.fir_pass.specs.Faults.{Fault}
+use Rattle.fir_meaning.specs.Components.{Declarations}
+use Rattle.fir_meaning.specs.Visibility.{Before, opened, reopened, closed, behind, behind_block}
+use Rattle.fir_meaning.specs.FaultRules.{place_of}
+use Rattle.fir_meaning.specs.ExpressionTypes.{condition_form, expression_type}
+use Rattle.fir_meaning.specs.ComponentTypes.{typed_scope}
+use Rattle.fir_meaning.specs.TypeGroup.{scope_at, type_faults_in, type_faults_in_block}
+use Rattle.fir_names.proofs.BehindStatements.{adds_block}
+use Rattle.fir_type_table.specs.declared.kind.TypeId.{TypeId}
+use Rattle.fir_types.specs.declared.scope.Scope.{Scope}
+use Rattle.fir_types.specs.working.Judged.{IsFirstOf}
+use Rattle.fir_types.specs.working.Walked.{Begins, Judges, Passes, Walks}
+use Rattle.fir_types.proofs.CheckedForms.{first_left, first_right}
+use Rattle.fir_types.proofs.KnownScopes.{begins_before}
+use Rattle.fir_types.proofs.StatementFaults.{both_clear}
+
+-- the same statement
+pub passes_by : (modules : List ModuleTree) (bundles : List TypeId) (scope : Scope) (before : Before) (s t : Statement) {A : Type 0} (r : Result A (Refused FirFault)) → s ≡ t
+    → Passes modules bundles scope (type_faults_in modules before t) (behind before t) r → Passes modules bundles scope (type_faults_in modules before s) (behind before s) r
+passes_by modules bundles scope before s t r is p = subst (λ u. Passes modules bundles scope (type_faults_in modules before u) (behind before u) r) (sym is) p
+
+pub begins_by : (before : Before) (whole : Declarations) (s t : Statement) → s ≡ t → Begins (behind before s).declared whole → Begins (behind before t).declared whole
+begins_by before whole s t is b = subst (λ u. Begins (behind before u).declared whole) is b
+
+-- a statement that declares nothing
+pub judged_passes : (modules : List ModuleTree) (bundles : List TypeId) (scope : Scope) (before : Before) (faults : List Fault) {A : Type 0} (r : Result A (Refused FirFault))
+    → Judges faults r → Walks modules bundles scope before → Passes modules bundles scope faults before r
+judged_passes modules bundles scope before faults (Ok x) h w = (h, w)
+judged_passes modules bundles scope before faults (Err e) h w = h
+
+-- only what is declared counts
+pub walks_at : (modules : List ModuleTree) (bundles : List TypeId) (scope : Scope) (one other : Before) → one.declared ≡ other.declared
+    → Walks modules bundles scope one → Walks modules bundles scope other
+walks_at modules bundles scope one other same w =
+    record { types = w.types ∙ ap (λ ds. map (λ k. k.data_type) (typed_scope modules ds)) same; held = w.held; holds = w.holds }
+
+-- how far a walk has come in the statements of a block
+pub record AtBlock (modules : List ModuleTree) (bundles : List TypeId) (scope : Scope) (before : Before) (whole left : Block) : Type 0 where
+  pub now : Before
+  pub walks : Walks modules bundles scope now
+  pub same : type_faults_in_block modules before whole ≡ type_faults_in_block modules now left
+  pub reached : behind_block now left ≡ behind_block before whole
+
+pub block_begun : (modules : List ModuleTree) (bundles : List TypeId) (scope : Scope) (before : Before) (whole : Block) → Walks modules bundles scope before
+    → AtBlock modules bundles scope before whole whole
+block_begun modules bundles scope before whole w = record { now = before; walks = w; same = refl; reached = refl }
+
+-- what is declared behind a statement is declared behind its block
+statement_begins : (now before : Before) (s : Statement) (left whole : Block) (all : Declarations) → behind_block now ((then) s left) ≡ behind_block before whole
+    → Begins (behind_block before whole).declared all → Begins (behind now s).declared all
+statement_begins now before s left whole all reached b =
+    let a = adds_block (behind now s) left in
+    begins_before all (behind now s).declared a.added (subst (λ ds. Begins ds all) (sym (ap (λ x. x.declared) reached) ∙ a.declared) b)
+
+module _ (modules : List ModuleTree) (bundles : List TypeId) (old new : Scope) (before : Before) (whole left : Block) (s : Statement) (all : Declarations)
+    (begins : Begins (behind_block before whole).declared all) (a : AtBlock modules bundles old before whole ((then) s left)) where
+
+  pub block_next : (type_faults_in modules a.now s ≡ []) × Walks modules bundles new (behind a.now s) → AtBlock modules bundles new before whole left
+  block_next p = record {
+    now = behind a.now s;
+    walks = p.1;
+    same = a.same ∙ ap (λ fs. fs ++ type_faults_in_block modules (behind a.now s) left) p.0;
+    reached = a.reached;
+  }
+
+  pub block_fails : (e : Refused FirFault) → IsFirstOf (type_faults_in modules a.now s) e → IsFirstOf (type_faults_in_block modules before whole) e
+  block_fails e h =
+      subst (λ fs. IsFirstOf fs e) (sym a.same) (first_left (type_faults_in modules a.now s) (type_faults_in_block modules (behind a.now s) left) e h)
+
+  pub next_begins : Begins (behind a.now s).declared all
+  next_begins = statement_begins a.now before s left whole all a.reached begins
+
+pub block_passed : (modules : List ModuleTree) (bundles : List TypeId) (scope : Scope) (before : Before) (whole : Block) → AtBlock modules bundles scope before whole done
+    → (type_faults_in_block modules before whole ≡ []) × Walks modules bundles scope (behind_block before whole)
+block_passed modules bundles scope before whole a = (a.same, subst (Walks modules bundles scope) a.reached a.walks)
+
+-- a when: its condition, and then its blocks
+module _ (modules : List ModuleTree) (bundles : List TypeId) (before : Before) (p : Place) (c : Expression) (a b : Block) where
+  abbrev condition : List Fault
+  condition = (condition_form (place_of c) (expression_type (scope_at modules before) c)).shows
+
+  abbrev one : List Fault
+  one = type_faults_in_block modules (opened before) a
+
+  abbrev between : Before
+  between = reopened before (behind_block (opened before) a)
+
+  abbrev two : List Fault
+  two = type_faults_in_block modules between b
+
+  pub condition_fails : (e : Refused FirFault) → IsFirstOf condition e → IsFirstOf (type_faults_in modules before (when p c a b)) e
+  condition_fails e h = first_left (condition ++ one) two e (first_left condition one e h)
+
+  pub first_fails : (e : Refused FirFault) → condition ≡ [] → IsFirstOf one e → IsFirstOf (type_faults_in modules before (when p c a b)) e
+  first_fails e none h = first_left (condition ++ one) two e (first_right condition one e none h)
+
+  pub when_passes : (scope : Scope) {A : Type 0} (r : Result A (Refused FirFault)) → condition ≡ [] → one ≡ []
+      → Passes modules bundles scope two (behind_block between b) r
+      → Passes modules bundles scope (type_faults_in modules before (when p c a b)) (behind before (when p c a b)) r
+  when_passes scope (Ok x) none clear h =
+      (both_clear (condition ++ one) two (both_clear condition one none clear) h.0,
+      walks_at modules bundles scope (behind_block between b) (behind before (when p c a b)) refl h.1)
+  when_passes scope (Err e) none clear h = first_right (condition ++ one) two e (both_clear condition one none clear) h
+
+  pub opens : (scope : Scope) → Walks modules bundles scope before → Walks modules bundles scope (opened before)
+  opens scope w = walks_at modules bundles scope before (opened before) refl w
+
+  pub reopens : (scope : Scope) → Walks modules bundles scope (behind_block (opened before) a) → Walks modules bundles scope between
+  reopens scope w = walks_at modules bundles scope (behind_block (opened before) a) between refl w
+
+  -- what is declared in the first block, and before, is declared in the whole
+  pub second_begins : (all : Declarations) → Begins (behind before (when p c a b)).declared all → Begins (behind_block between b).declared all
+  second_begins all g = g
+
+  pub first_begins : (all : Declarations) → Begins (behind before (when p c a b)).declared all → Begins (behind_block (opened before) a).declared all
+  first_begins all g =
+      let x = adds_block between b in begins_before all (behind_block (opened before) a).declared x.added (subst (λ ds. Begins ds all) x.declared g)
+
+  pub condition_begins : (all : Declarations) → Begins (behind before (when p c a b)).declared all → Begins before.declared all
+  condition_begins all g =
+      let x = adds_block (opened before) a in begins_before all before.declared x.added (subst (λ ds. Begins ds all) x.declared (first_begins all g))
