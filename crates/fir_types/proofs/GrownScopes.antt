@@ -1,5 +1,5 @@
 -- The walk goes on where the table grows and where one more is declared.
-use Rattle.std.proofs.Common.{◌≡◌, ℕ, List, [], ◌∷◌, ◌++◌, map, length, Option, Some, None, refl, sym, ap, ◌∙◌, arith}
+use Rattle.std.proofs.Common.{◌≡◌, ℕ, List, [], ◌∷◌, ◌++◌, map, Option, Some, None, refl, sym, ap, ◌∙◌, arith}
 use Rattle.std.specs.Prelude.{slice_get, unwrap_or}
 use Rattle.std.specs.List.{AllByRecursion}
 use Rattle.std.proofs.lemmas.List.{length-append, map-append}
@@ -10,7 +10,6 @@ use Rattle.fir_ast.specs.Types.{DataType, uint}
 use Rattle.fir_ast.specs.Statements.{PlacedName}
 use Rattle.fir_ast.specs.Circuits.{ModuleTree}
 use Rattle.fir_meaning.specs.Components.{Component, Declaration, Declarations}
-use Rattle.fir_meaning.specs.Components as component
 use Rattle.fir_meaning.specs.Visibility.{Before, declaration_at, with_declaration}
 use Rattle.fir_meaning.specs.TypedScopes.{TypedScope}
 use Rattle.fir_meaning.specs.ComponentTypes.{component_type, instance_bundle, known_as, typed_behind, typed_scope}
@@ -46,11 +45,11 @@ seen_grown ts more (Some (found.Number signed width)) h = refl
 seen_grown ts more (Some found.AsyncReset) h = refl
 seen_grown ts more (Some (found.Type id is_bare)) h = ap (λ o. Some (shown is_bare (unwrap_or o (uint None)))) (get_left ts more id.number h)
 
-all_held : (ts more : List DataType) (xs : List (Option Found)) → AllByRecursion (IsHeld ts) xs → AllByRecursion (IsHeld (ts ++ more)) xs
+pub all_held : (ts more : List DataType) (xs : List (Option Found)) → AllByRecursion (IsHeld ts) xs → AllByRecursion (IsHeld (ts ++ more)) xs
 all_held ts more [] h = tt
 all_held ts more (x ∷ xs) h = (held_grown ts more x h.0, all_held ts more xs h.1)
 
-all_seen : (ts more : List DataType) (xs : List (Option Found)) → AllByRecursion (IsHeld ts) xs → map (seen (ts ++ more)) xs ≡ map (seen ts) xs
+pub all_seen : (ts more : List DataType) (xs : List (Option Found)) → AllByRecursion (IsHeld ts) xs → map (seen (ts ++ more)) xs ≡ map (seen ts) xs
 all_seen ts more [] h = refl
 all_seen ts more (x ∷ xs) h = ap (λ y. y ∷ map (seen (ts ++ more)) xs) (seen_grown ts more x h.0) ∙ ap (λ ys. seen ts x ∷ ys) (all_seen ts more xs h.1)
 

@@ -16,5 +16,10 @@ pub mod KnownScopes
 pub mod StatementFaults
 pub mod RegisterWalks
 pub mod InstanceWalks
-pub mod StatementWalks
+pub mod TypeFaultGroups
+pub mod TypePass
+pub mod PortBundles
+pub mod ModuleWalks
+pub mod CircuitWalks
 pub mod StatementParts
+pub mod StatementWalks

@@ -63,9 +63,9 @@ module _ (modules : List ModuleTree) (bundles : List TypeId) (before : Before) (
   pub register_passes : (old new last : Scope) (f : Found) {A : Type 0} (result : Result A (Refused FirFault)) → Written old new f t
       → register_type_faults n (found_type (types_of new.table) f) ≡ [] → clock_faults (scope_at modules before) c ≡ []
       → Judges (reset_faults (scope_at modules (with_declaration before n (component.register t))) t r) result
-      → Walks modules bundles last (with_declaration before n (component.register t))
-      → Passes modules bundles last (register_faults modules before n t c r) (with_declaration before n (component.register t)) result
-  register_passes old new last f (Ok x) w none clear h walks =
-      (both_clear (own ++ clock) reset (both_clear own clock (own_clear old new f w none) clear) h, walks)
-  register_passes old new last f (Err e) w none clear h walks =
+      → Walks modules bundles last (with_declaration before n (component.register t)) → Declared old last t
+      → Passes modules bundles old last (register_faults modules before n t c r) (with_declaration before n (component.register t)) result
+  register_passes old new last f (Ok x) w none clear h walks declared =
+      (both_clear (own ++ clock) reset (both_clear own clock (own_clear old new f w none) clear) h, walks, record { more = declared.more; grown = declared.grown })
+  register_passes old new last f (Err e) w none clear h walks declared =
       first_right (own ++ clock) reset e (both_clear own clock (own_clear old new f w none) clear) h

@@ -14,26 +14,30 @@ use Rattle.fir_meaning.specs.ExpressionTypes.{condition_form, expression_type}
 use Rattle.fir_meaning.specs.ComponentTypes.{typed_scope}
 use Rattle.fir_meaning.specs.TypeGroup.{scope_at, type_faults_in, type_faults_in_block}
 use Rattle.fir_names.proofs.BehindStatements.{adds_block}
+use Rattle.fir_ast.specs.Types.{DataType}
 use Rattle.fir_type_table.specs.declared.kind.TypeId.{TypeId}
+use Rattle.fir_type_table.specs.working.Tables.{types_of}
 use Rattle.fir_types.specs.declared.scope.Scope.{Scope}
 use Rattle.fir_types.specs.working.Judged.{IsFirstOf}
-use Rattle.fir_types.specs.working.Walked.{Begins, Judges, Passes, Walks}
+use Rattle.fir_types.specs.working.Walked.{Begins, GoesOnWith, Judges, Passes, Walks}
 use Rattle.fir_types.proofs.CheckedForms.{first_left, first_right}
 use Rattle.fir_types.proofs.KnownScopes.{begins_before}
+use Rattle.fir_types.proofs.ModuleWalks.{goes_still, goes_twice}
 use Rattle.fir_types.proofs.StatementFaults.{both_clear}
 
 -- the same statement
-pub passes_by : (modules : List ModuleTree) (bundles : List TypeId) (scope : Scope) (before : Before) (s t : Statement) {A : Type 0} (r : Result A (Refused FirFault)) → s ≡ t
-    → Passes modules bundles scope (type_faults_in modules before t) (behind before t) r → Passes modules bundles scope (type_faults_in modules before s) (behind before s) r
-passes_by modules bundles scope before s t r is p = subst (λ u. Passes modules bundles scope (type_faults_in modules before u) (behind before u) r) (sym is) p
+pub passes_by : (modules : List ModuleTree) (bundles : List TypeId) (old new : Scope) (before : Before) (s t : Statement) {A : Type 0} (r : Result A (Refused FirFault)) → s ≡ t
+    → Passes modules bundles old new (type_faults_in modules before t) (behind before t) r
+    → Passes modules bundles old new (type_faults_in modules before s) (behind before s) r
+passes_by modules bundles old new before s t r is p = subst (λ u. Passes modules bundles old new (type_faults_in modules before u) (behind before u) r) (sym is) p
 
 pub begins_by : (before : Before) (whole : Declarations) (s t : Statement) → s ≡ t → Begins (behind before s).declared whole → Begins (behind before t).declared whole
 begins_by before whole s t is b = subst (λ u. Begins (behind before u).declared whole) is b
 
 -- a statement that declares nothing
 pub judged_passes : (modules : List ModuleTree) (bundles : List TypeId) (scope : Scope) (before : Before) (faults : List Fault) {A : Type 0} (r : Result A (Refused FirFault))
-    → Judges faults r → Walks modules bundles scope before → Passes modules bundles scope faults before r
-judged_passes modules bundles scope before faults (Ok x) h w = (h, w)
+    → Judges faults r → Walks modules bundles scope before → Passes modules bundles scope scope faults before r
+judged_passes modules bundles scope before faults (Ok x) h w = (h, w, goes_still scope scope refl)
 judged_passes modules bundles scope before faults (Err e) h w = h
 
 -- only what is declared counts
@@ -43,15 +47,16 @@ walks_at modules bundles scope one other same w =
     record { types = w.types ∙ ap (λ ds. map (λ k. k.data_type) (typed_scope modules ds)) same; held = w.held; holds = w.holds }
 
 -- how far a walk has come in the statements of a block
-pub record AtBlock (modules : List ModuleTree) (bundles : List TypeId) (scope : Scope) (before : Before) (whole left : Block) : Type 0 where
+pub record AtBlock (modules : List ModuleTree) (bundles : List TypeId) (start scope : Scope) (before : Before) (whole left : Block) : Type 0 where
   pub now : Before
   pub walks : Walks modules bundles scope now
   pub same : type_faults_in_block modules before whole ≡ type_faults_in_block modules now left
   pub reached : behind_block now left ≡ behind_block before whole
+  pub grown : GoesOnWith (types_of start.table) scope
 
 pub block_begun : (modules : List ModuleTree) (bundles : List TypeId) (scope : Scope) (before : Before) (whole : Block) → Walks modules bundles scope before
-    → AtBlock modules bundles scope before whole whole
-block_begun modules bundles scope before whole w = record { now = before; walks = w; same = refl; reached = refl }
+    → AtBlock modules bundles scope scope before whole whole
+block_begun modules bundles scope before whole w = record { now = before; walks = w; same = refl; reached = refl; grown = goes_still scope scope refl }
 
 -- what is declared behind a statement is declared behind its block
 statement_begins : (now before : Before) (s : Statement) (left whole : Block) (all : Declarations) → behind_block now ((then) s left) ≡ behind_block before whole
@@ -60,15 +65,17 @@ statement_begins now before s left whole all reached b =
     let a = adds_block (behind now s) left in
     begins_before all (behind now s).declared a.added (subst (λ ds. Begins ds all) (sym (ap (λ x. x.declared) reached) ∙ a.declared) b)
 
-module _ (modules : List ModuleTree) (bundles : List TypeId) (old new : Scope) (before : Before) (whole left : Block) (s : Statement) (all : Declarations)
-    (begins : Begins (behind_block before whole).declared all) (a : AtBlock modules bundles old before whole ((then) s left)) where
+module _ (modules : List ModuleTree) (bundles : List TypeId) (start old new : Scope) (before : Before) (whole left : Block) (s : Statement) (all : Declarations)
+    (begins : Begins (behind_block before whole).declared all) (a : AtBlock modules bundles start old before whole ((then) s left)) where
 
-  pub block_next : (type_faults_in modules a.now s ≡ []) × Walks modules bundles new (behind a.now s) → AtBlock modules bundles new before whole left
+  pub block_next : (type_faults_in modules a.now s ≡ []) × Walks modules bundles new (behind a.now s) × GoesOnWith (types_of old.table) new
+      → AtBlock modules bundles start new before whole left
   block_next p = record {
     now = behind a.now s;
     walks = p.1;
     same = a.same ∙ ap (λ fs. fs ++ type_faults_in_block modules (behind a.now s) left) p.0;
     reached = a.reached;
+    grown = goes_twice (types_of start.table) old new a.grown p.2;
   }
 
   pub block_fails : (e : Refused FirFault) → IsFirstOf (type_faults_in modules a.now s) e → IsFirstOf (type_faults_in_block modules before whole) e
@@ -78,9 +85,10 @@ module _ (modules : List ModuleTree) (bundles : List TypeId) (old new : Scope) (
   pub next_begins : Begins (behind a.now s).declared all
   next_begins = statement_begins a.now before s left whole all a.reached begins
 
-pub block_passed : (modules : List ModuleTree) (bundles : List TypeId) (scope : Scope) (before : Before) (whole : Block) → AtBlock modules bundles scope before whole done
-    → (type_faults_in_block modules before whole ≡ []) × Walks modules bundles scope (behind_block before whole)
-block_passed modules bundles scope before whole a = (a.same, subst (Walks modules bundles scope) a.reached a.walks)
+pub block_passed : (modules : List ModuleTree) (bundles : List TypeId) (start scope : Scope) (before : Before) (whole : Block)
+    → AtBlock modules bundles start scope before whole done
+    → (type_faults_in_block modules before whole ≡ []) × Walks modules bundles scope (behind_block before whole) × GoesOnWith (types_of start.table) scope
+block_passed modules bundles start scope before whole a = (a.same, subst (Walks modules bundles scope) a.reached a.walks, a.grown)
 
 -- a when: its condition, and then its blocks
 module _ (modules : List ModuleTree) (bundles : List TypeId) (before : Before) (p : Place) (c : Expression) (a b : Block) where
@@ -102,13 +110,14 @@ module _ (modules : List ModuleTree) (bundles : List TypeId) (before : Before) (
   pub first_fails : (e : Refused FirFault) → condition ≡ [] → IsFirstOf one e → IsFirstOf (type_faults_in modules before (when p c a b)) e
   first_fails e none h = first_left (condition ++ one) two e (first_right condition one e none h)
 
-  pub when_passes : (scope : Scope) {A : Type 0} (r : Result A (Refused FirFault)) → condition ≡ [] → one ≡ []
-      → Passes modules bundles scope two (behind_block between b) r
-      → Passes modules bundles scope (type_faults_in modules before (when p c a b)) (behind before (when p c a b)) r
-  when_passes scope (Ok x) none clear h =
+  pub when_passes : (old middle scope : Scope) {A : Type 0} (r : Result A (Refused FirFault)) → condition ≡ [] → one ≡ []
+      → GoesOnWith (types_of old.table) middle → Passes modules bundles middle scope two (behind_block between b) r
+      → Passes modules bundles old scope (type_faults_in modules before (when p c a b)) (behind before (when p c a b)) r
+  when_passes old middle scope (Ok x) none clear g h =
       (both_clear (condition ++ one) two (both_clear condition one none clear) h.0,
-      walks_at modules bundles scope (behind_block between b) (behind before (when p c a b)) refl h.1)
-  when_passes scope (Err e) none clear h = first_right (condition ++ one) two e (both_clear condition one none clear) h
+      walks_at modules bundles scope (behind_block between b) (behind before (when p c a b)) refl h.1,
+      goes_twice (types_of old.table) middle scope g h.2)
+  when_passes old middle scope (Err e) none clear g h = first_right (condition ++ one) two e (both_clear condition one none clear) h
 
   pub opens : (scope : Scope) → Walks modules bundles scope before → Walks modules bundles scope (opened before)
   opens scope w = walks_at modules bundles scope before (opened before) refl w

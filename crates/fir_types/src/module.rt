@@ -1,17 +1,17 @@
 //! The types in a module: of its ports, and then of its statements.
 
-ghost use Rattle.std.specs.Prelude.{◌≡◌, List};
+ghost use Rattle.std.specs.Prelude.{◌≡◌, List, IfOk, map};
 ghost use Rattle.fir_ast.specs.Circuits.{ModuleTree};
-ghost use Rattle.fir_ast.specs.View.{module_of};
+ghost use Rattle.fir_ast.specs.View.{module_of, port_of};
 ghost use Rattle.fir_meaning.specs.Visibility.{declarations};
 ghost use Rattle.fir_type_table.specs.working.Tables.{types_of};
-ghost use Rattle.fir_types.specs.working.Walked.{HoldsBundles, IsOfModule};
+ghost use Rattle.fir_types.specs.working.Walked.{HoldsBundles, IsOfModule, PassesPorts};
 ghost use Rattle.fir_types.specs.working.TypedModules.{JudgesModule};
 
 use crate::scope::Scope;
 use crate::statements::in_block;
-use fir_ast::{FirFault, Module};
-use fir_base::Refused;
+use fir_ast::{FirFault, Module, Port};
+use fir_base::{MemoryOut, Refused};
 use fir_names::Names;
 use fir_type_table::{TypeId, TypeTable};
 use std::alloc::Global;
@@ -30,9 +30,17 @@ pub fn in_module(
         table,
         declared: Vec::new(alloc),
     };
-    for port in &part.ports {
-        scope.declare(alloc, &port.ty)?;
-    }
+    declare_ports(alloc, &mut scope, &part.ports)?;
     in_block(&part.body, alloc, names, bundles, &mut scope)?;
     Ok(scope)
+}
+
+/// Declares ports.
+fn declare_ports(alloc: Global, scope: &mut Scope, ports: &[Port]) -> Result<(), MemoryOut>
+    ensures { IfOk result (λ _. PassesPorts scope.old scope.new (map port_of ports.now)) }
+{
+    for port in ports {
+        scope.declare(alloc, &port.ty)?;
+    }
+    Ok(())
 }

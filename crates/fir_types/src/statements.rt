@@ -16,7 +16,7 @@ ghost use Rattle.fir_names.specs.working.Tabulated.{found_at};
 ghost use Rattle.fir_type_table.specs.working.Tables.{type_at, types_of};
 ghost use Rattle.fir_types.specs.working.MemoryParts.{HasWordType, IsFoundIn, IsHeldWordType};
 ghost use Rattle.fir_types.specs.working.Statements.{found_bundle, node_faults, register_faults};
-ghost use Rattle.fir_types.specs.working.Walked.{Begins, IsOfModule, Passes, Walks};
+ghost use Rattle.fir_types.specs.working.Walked.{Begins, GoesOnWith, IsOfModule, Passes, Walks};
 
 use crate::connects::{in_connect, in_partial_connect};
 use crate::expressions::{in_expression, in_reference, in_unsigned};
@@ -41,7 +41,7 @@ pub fn in_block(
     bundles: &[TypeId],
     scope: &mut Scope,
 ) -> Result<(), Refused<FirFault>>
-    ensures { (modules : List ModuleTree) (before : Before) (whole : Declarations) → IsOfModule modules names.now whole → Begins (behind_block before (block_of (map stmt_of body.now))).declared whole → Walks modules bundles.now scope.old before → Passes modules bundles.now scope.new (type_faults_in_block modules before (block_of (map stmt_of body.now))) (behind_block before (block_of (map stmt_of body.now))) result }
+    ensures { (modules : List ModuleTree) (before : Before) (whole : Declarations) → IsOfModule modules names.now whole → Begins (behind_block before (block_of (map stmt_of body.now))).declared whole → Walks modules bundles.now scope.old before → Passes modules bundles.now scope.old scope.new (type_faults_in_block modules before (block_of (map stmt_of body.now))) (behind_block before (block_of (map stmt_of body.now))) result }
 {
     for statement in body {
         in_statement(statement, alloc, names, bundles, scope)?;
@@ -57,7 +57,7 @@ fn in_statement(
     bundles: &[TypeId],
     scope: &mut Scope,
 ) -> Result<(), Refused<FirFault>>
-    ensures { (modules : List ModuleTree) (before : Before) (whole : Declarations) → IsOfModule modules names.now whole → Begins (behind before (stmt_of statement.now)).declared whole → Walks modules bundles.now scope.old before → Passes modules bundles.now scope.new (type_faults_in modules before (stmt_of statement.now)) (behind before (stmt_of statement.now)) result }
+    ensures { (modules : List ModuleTree) (before : Before) (whole : Declarations) → IsOfModule modules names.now whole → Begins (behind before (stmt_of statement.now)).declared whole → Walks modules bundles.now scope.old before → Passes modules bundles.now scope.old scope.new (type_faults_in modules before (stmt_of statement.now)) (behind before (stmt_of statement.now)) result }
 {
     match statement {
         Stmt::Wire(_, _, _, ty) => Ok(scope.declare(alloc, ty)?),
@@ -89,7 +89,7 @@ fn in_when(
     bundles: &[TypeId],
     scope: &mut Scope,
 ) -> Result<(), Refused<FirFault>>
-    ensures { (modules : List ModuleTree) (before : Before) (whole : Declarations) (place : Place) → IsOfModule modules names.now whole → Begins (behind before (when_view when.now place)).declared whole → Walks modules bundles.now scope.old before → Passes modules bundles.now scope.new (type_faults_in modules before (when_view when.now place)) (behind before (when_view when.now place)) result }
+    ensures { (modules : List ModuleTree) (before : Before) (whole : Declarations) (place : Place) → IsOfModule modules names.now whole → Begins (behind before (when_view when.now place)).declared whole → Walks modules bundles.now scope.old before → Passes modules bundles.now scope.old scope.new (type_faults_in modules before (when_view when.now place)) (behind before (when_view when.now place)) result }
 {
     in_unsigned(&when.condition, alloc, names, scope)?;
     in_block(&when.then_block, alloc, names, bundles, scope)?;
@@ -103,7 +103,7 @@ fn in_register(
     scope: &mut Scope,
     register: &Register,
 ) -> Result<(), Refused<FirFault>>
-    ensures { (modules : List ModuleTree) (bundles : List TypeId) (before : Before) (whole : Declarations) → IsOfModule modules names.now whole → Begins (with_declaration before (named_of register.now.ident) (component.register (type_of register.now.ty))).declared whole → Walks modules bundles scope.old before → Passes modules bundles scope.new (register_faults modules before (named_of register.now.ident) (type_of register.now.ty) (expr_of register.now.clock) (option_map reset_of register.now.reset)) (with_declaration before (named_of register.now.ident) (component.register (type_of register.now.ty))) result }
+    ensures { (modules : List ModuleTree) (bundles : List TypeId) (before : Before) (whole : Declarations) → IsOfModule modules names.now whole → Begins (with_declaration before (named_of register.now.ident) (component.register (type_of register.now.ty))).declared whole → Walks modules bundles scope.old before → Passes modules bundles scope.old scope.new (register_faults modules before (named_of register.now.ident) (type_of register.now.ty) (expr_of register.now.clock) (option_map reset_of register.now.reset)) (with_declaration before (named_of register.now.ident) (component.register (type_of register.now.ty))) result }
 {
     let found = scope.add(alloc, &register.ty)?;
     register_type(alloc, &scope.table, &register.ident, found)?;
@@ -120,7 +120,7 @@ fn in_node(
     ident: &Ident,
     value: &Expr,
 ) -> Result<(), Refused<FirFault>>
-    ensures { (modules : List ModuleTree) (bundles : List TypeId) (before : Before) (whole : Declarations) → IsOfModule modules names.now whole → Begins (with_declaration before (named_of ident.now) (component.node (expr_of value.now))).declared whole → Walks modules bundles scope.old before → Passes modules bundles scope.new (node_faults modules before (named_of ident.now) (expr_of value.now)) (with_declaration before (named_of ident.now) (component.node (expr_of value.now))) result }
+    ensures { (modules : List ModuleTree) (bundles : List TypeId) (before : Before) (whole : Declarations) → IsOfModule modules names.now whole → Begins (with_declaration before (named_of ident.now) (component.node (expr_of value.now))).declared whole → Walks modules bundles scope.old before → Passes modules bundles scope.old scope.new (node_faults modules before (named_of ident.now) (expr_of value.now)) (with_declaration before (named_of ident.now) (component.node (expr_of value.now))) result }
 {
     let found = in_expression(value, alloc, names, scope)?;
     no_flips(alloc, &scope.table, ident, found)?;
@@ -129,7 +129,7 @@ fn in_node(
 
 /// An instance, which is as the ports of its module.
 fn declare_instance(names: &Names, bundles: &[TypeId], scope: &mut Scope) -> Result<(), MemoryOut>
-    ensures { IfOk result (λ _. (modules : List ModuleTree) (before : Before) (whole : Declarations) (n : PlacedName) (name : List ℕ) → IsOfModule modules names.now whole → Begins (with_declaration before n (component.instance name)).declared whole → Walks modules bundles.now scope.old before → Walks modules bundles.now scope.new (with_declaration before n (component.instance name))) }
+    ensures { IfOk result (λ _. (modules : List ModuleTree) (before : Before) (whole : Declarations) (n : PlacedName) (name : List ℕ) → IsOfModule modules names.now whole → Begins (with_declaration before n (component.instance name)).declared whole → Walks modules bundles.now scope.old before → Walks modules bundles.now scope.new (with_declaration before n (component.instance name)) × GoesOnWith (types_of scope.old.table) scope.new) }
 {
     let found = bundle_of(names, bundles, scope.declared.len());
     scope.declare_found(found)
@@ -149,7 +149,7 @@ fn bundle_of(names: &Names, bundles: &[TypeId], position: usize) -> Option<Found
 
 /// A memory: its fields, and then the bundle of its ports.
 fn in_memory(alloc: Global, scope: &mut Scope, memory: &Memory) -> Result<(), Refused<FirFault>>
-    ensures { (modules : List ModuleTree) (bundles : List TypeId) (before : Before) → Walks modules bundles scope.old before → Passes modules bundles scope.new (memory_faults (named_of memory.now.ident) (map memory_part_of memory.now.fields.items)) (with_declaration before (named_of memory.now.ident) (component.memory (map memory_part_of memory.now.fields.items))) result }
+    ensures { (modules : List ModuleTree) (bundles : List TypeId) (before : Before) → Walks modules bundles scope.old before → Passes modules bundles scope.old scope.new (memory_faults (named_of memory.now.ident) (map memory_part_of memory.now.fields.items)) (with_declaration before (named_of memory.now.ident) (component.memory (map memory_part_of memory.now.fields.items))) result }
 {
     let word_type = add_word_type(alloc, &mut scope.table, memory)?;
     in_memory_fields(alloc, &scope.table, memory, word_type)?;

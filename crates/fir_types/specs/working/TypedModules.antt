@@ -1,13 +1,11 @@
 -- The modules of a circuit, and the types that the code has found of them.
-use Rattle.std.specs.Prelude.{◌≡◌, ℕ, List, [], ◌∷◌, ◌++◌, map, flat_map, Option, Some, None, Result, Ok, Err, Vec, slice_get, unwrap_or}
+use Rattle.std.specs.Prelude.{◌≡◌, ℕ, List, [], ◌∷◌, map, Option, None, Result, Ok, Err, Vec, slice_get, unwrap_or}
 use Rattle.std.specs.List.{AllByRecursion}
 use Rattle.std.specs.declared.alloc.Global.{Global}
 use Rattle.fir_base.specs.declared.refused.Refused.{Refused}
-use Rattle.fir_base.specs.declared.refused.Refused.TheVariants as refused
 use Rattle.fir_ast.specs.declared.fault.FirFault.{FirFault}
 use Rattle.fir_ast.specs.Types.{DataType}
 use Rattle.fir_ast.specs.Circuits.{ModuleTree, CircuitTree}
-use Rattle.fir_pass.specs.Groups.{first_of}
 use Rattle.fir_meaning.specs.Visibility.{declarations}
 use Rattle.fir_meaning.specs.ComponentTypes.{typed_scope}
 use Rattle.fir_meaning.specs.TypeGroup.{module_type_faults, type_faults}
@@ -18,17 +16,12 @@ use Rattle.fir_types.specs.declared.found.Found.{Found}
 use Rattle.fir_types.specs.declared.scope.Scope.{Scope}
 use Rattle.fir_types.specs.working.Seen.{seen}
 use Rattle.fir_types.specs.working.Judged.{IsFirstOf}
-use Rattle.fir_types.specs.working.Walked.{IsHeld, HoldsBundles}
+use Rattle.fir_types.specs.working.Walked.{GoesOnWith, HoldsBundles, IsHeld}
 
 -- of each declaration of a module its type, in the order of the text
 pub record HasModule (ts : List DataType) (modules : List ModuleTree) (m : ModuleTree) (found : List (Option Found)) : Type 0 where
   pub types : map (seen ts) found ≡ map (λ k. k.data_type) (typed_scope modules (declarations m))
   pub held : AllByRecursion (IsHeld ts) found
-
--- the table has only grown
-pub record GoesOnWith (ts : List DataType) (scope : Scope) : Type 0 where
-  pub more : List DataType
-  pub grown : types_of scope.table ≡ ts ++ more
 
 abbrev pub JudgesModule : List ModuleTree → List TypeId → List DataType → ModuleTree → Result Scope (Refused FirFault) → Type 0
 JudgesModule modules bundles ts m (Ok s) =

@@ -1,15 +1,14 @@
 -- The walk over the statements of a module: what the code has met so far, and what stands before a place.
-use Rattle.std.specs.Prelude.{◌≡◌, ℕ, ◌<◌, List, [], ◌∷◌, ◌++◌, map, length, slice_get, Option, Some, None, Result, Ok, Err}
+use Rattle.std.specs.Prelude.{◌≡◌, ℕ, ◌<◌, List, [], ◌∷◌, ◌++◌, map, length, slice_get, Option, Some, Result, Ok, Err}
 use Rattle.std.specs.List.{AllByRecursion}
 use Rattle.fir_base.specs.Lists.{In}
 use Rattle.fir_base.specs.declared.refused.Refused.{Refused}
 use Rattle.fir_ast.specs.declared.fault.FirFault.{FirFault}
 use Rattle.fir_ast.specs.Types.{DataType}
-use Rattle.fir_ast.specs.Circuits.{ModuleTree}
+use Rattle.fir_ast.specs.Circuits.{ModuleTree, PortTree}
 use Rattle.fir_pass.specs.Faults.{Fault}
 use Rattle.fir_meaning.specs.Components.{Declaration, Declarations, instance}
-use Rattle.fir_meaning.specs.Visibility.{Before}
-use Rattle.fir_meaning.specs.TypedScopes.{TypedScope}
+use Rattle.fir_meaning.specs.Visibility.{Before, behind_ports}
 use Rattle.fir_meaning.specs.ComponentTypes.{instance_bundle}
 use Rattle.fir_meaning.specs.TypeGroup.{scope_at}
 use Rattle.fir_names.specs.declared.names.Names.{Names}
@@ -54,10 +53,20 @@ abbrev pub Judges : {A : Type 0} → List Fault → Result A (Refused FirFault) 
 Judges faults (Ok x) = faults ≡ []
 Judges faults (Err e) = IsFirstOf faults e
 
--- and then the scope has what stands behind
-abbrev pub Passes : {A : Type 0} → List ModuleTree → List TypeId → Scope → List Fault → Before → Result A (Refused FirFault) → Type 0
-Passes modules bundles scope faults after (Ok x) = (faults ≡ []) × Walks modules bundles scope after
-Passes modules bundles scope faults after (Err e) = IsFirstOf faults e
+-- the table has only grown
+pub record GoesOnWith (ts : List DataType) (scope : Scope) : Type 0 where
+  pub more : List DataType
+  pub grown : types_of scope.table ≡ ts ++ more
+
+-- and then the scope has what stands behind, in a table that has only grown
+abbrev pub Passes : {A : Type 0} → List ModuleTree → List TypeId → Scope → Scope → List Fault → Before → Result A (Refused FirFault) → Type 0
+Passes modules bundles old new faults after (Ok x) = (faults ≡ []) × Walks modules bundles new after × GoesOnWith (types_of old.table) new
+Passes modules bundles old new faults after (Err e) = IsFirstOf faults e
+
+-- ports are passed
+pub record PassesPorts (old new : Scope) (ports : List PortTree) : Type 0 where
+  pub walked : (modules : List ModuleTree) (bundles : List TypeId) (before : Before) → Walks modules bundles old before → Walks modules bundles new (behind_ports before ports)
+  pub goes_on : GoesOnWith (types_of old.table) new
 
 -- a type is put into the table, and found there
 pub record Written (old new : Scope) (f : Found) (t : DataType) : Type 0 where

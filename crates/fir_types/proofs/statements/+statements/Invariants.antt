@@ -11,4 +11,4 @@ abbrev pub invariant-in_block-loop-statement : goal.invariant-in_block-loop-stat
 invariant-in_block-loop-statement l =
     (modules : List ModuleTree) (before : Before) (whole : Declarations) → IsOfModule modules l.names whole
     → Begins (behind_block before (block_of (map stmt_of l.body))).declared whole → Walks modules l.bundles l.initial.scope before
-    → AtBlock modules l.bundles l.scope before (block_of (map stmt_of l.body)) (block_of (map stmt_of (drop l.statement-index l.body)))
+    → AtBlock modules l.bundles l.initial.scope l.scope before (block_of (map stmt_of l.body)) (block_of (map stmt_of (drop l.statement-index l.body)))

@@ -7,6 +7,7 @@ use Rattle.fir_type_table.specs.working.Tables.{types_of}
 use Rattle.fir_types.specs.working.Seen.{seen}
 use Rattle.fir_types.specs.working.Statements.{found_bundle}
 use Rattle.fir_types.proofs.GrownScopes.{walks_found}
+use Rattle.fir_types.proofs.ModuleWalks.{goes_still}
 use Rattle.fir_types.proofs.InstanceWalks.{instance_seen}
 use Rattle.fir_types.proofs.statements.declare_instance.Goals as goal
 
@@ -19,7 +20,9 @@ returns c =
     let counted : c.len.result ≡ length scope.declared.items = omega (arith, scope.declared.ok.0, c.len.ensures) in
     let at = ap (λ k. found_bundle bundles (found_at names (slice_get names.in_order.items k))) counted in
     IfOk-weaker c.declare_found.result _ _
-    (λ u d. λ modules before whole n name of begins walks.
-    walks_found modules bundles scope c.declare_found.new.self before n (instance name) _ walks d
-    (sym (ap (seen ts) (c.bundle_of-found.ensures ∙ at) ∙ instance_seen modules names whole bundles scope before n name of begins walks)))
+    (λ u d. λ modules before whole n name of begins walks. (
+      walks_found modules bundles scope c.declare_found.new.self before n (instance name) _ walks d
+          (sym (ap (seen ts) (c.bundle_of-found.ensures ∙ at) ∙ instance_seen modules names whole bundles scope before n name of begins walks)),
+      goes_still scope c.declare_found.new.self d.table,
+    ))
     c.declare_found.ensures

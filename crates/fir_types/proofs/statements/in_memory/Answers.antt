@@ -15,4 +15,8 @@ returns c = λ modules bundles before w.
       walks_more modules bundles scope (record { table = c.memory_found.new.table; declared = c.push.new.self }) before (named_of memory.ident)
           (component.memory (map memory_part_of memory.fields.items)) (words.more ++ found.more) c.in_ok-found.found w c.in_ok-push.ensures.items
           (grown_twice scope.table c.add_word_type.new.table c.memory_found.new.table words.more found.more words.grown found.grown) found.held found.is,
+      record {
+        more = words.more ++ found.more;
+        grown = grown_twice scope.table c.add_word_type.new.table c.memory_found.new.table words.more found.more words.grown found.grown;
+      },
     )

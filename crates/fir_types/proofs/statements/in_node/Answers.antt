@@ -5,6 +5,7 @@ use Rattle.fir_meaning.specs.ExpressionTypes.{expression_type}
 use Rattle.fir_meaning.specs.TypeGroup.{scope_at, flipped_faults}
 use Rattle.fir_types.proofs.KnownScopes.{knows_before}
 use Rattle.fir_types.proofs.GrownScopes.{walks_found}
+use Rattle.fir_types.proofs.ModuleWalks.{goes_still}
 use Rattle.fir_types.proofs.StatementFaults.{expression_fails, statement_fails, statement_clear}
 use Rattle.fir_types.proofs.statements.in_node.Goals as goal
 
@@ -32,6 +33,8 @@ returns c =
     let e = expr_of c.args.value.now in
     λ modules bundles before whole of begins walks.
     let knows = knows_before modules c.args.names.now whole bundles c.args.scope.now before n (node e) of begins walks in
-    let is = c.in_ok-found.ensures (scope_at modules before) knows in
-    (statement_clear (expression_type (scope_at modules before) e) (flipped_faults n) _ is c.in_ok-no_flips.ensures,
-    walks_found modules bundles c.args.scope.now c.declare_found.new.self before n (node e) _ walks c.in_ok-declare_found.ensures is.has)
+    let is = c.in_ok-found.ensures (scope_at modules before) knows in (
+      statement_clear (expression_type (scope_at modules before) e) (flipped_faults n) _ is c.in_ok-no_flips.ensures,
+      walks_found modules bundles c.args.scope.now c.declare_found.new.self before n (node e) _ walks c.in_ok-declare_found.ensures is.has,
+      goes_still c.args.scope.now c.declare_found.new.self c.in_ok-declare_found.ensures.table,
+    )

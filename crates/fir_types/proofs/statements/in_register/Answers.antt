@@ -50,4 +50,4 @@ returns c =
     let known = knows_scope modules c.args.names.now whole bundles last behind of begins after in
     register_passes modules bundles before n t clock reset old new last f c.in_reset.result c.in_ok-found.ensures c.in_ok-register_type.ensures
     (c.in_ok-in_clock.ensures (scope_at modules before) knows)
-    (rw c.in_ok-found.ensures.is at (c.in_reset.ensures (scope_at modules behind) known)) after
+    (rw c.in_ok-found.ensures.is at (c.in_reset.ensures (scope_at modules behind) known)) after declared
