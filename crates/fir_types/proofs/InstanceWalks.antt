@@ -84,6 +84,7 @@ bundle_there ts (id ∷ ids) (m ∷ ms) name k h e = at (bytes_eq m.named.name n
     behind None e rest = absurd (none-some k e)
     behind (Some j) e rest =
         let next : k ≡ suc j = sym (same_Some (j + 1) k e) ∙ add-one j in ap (λ n. seen ts (numbered (id ∷ ids) n)) next ∙ rest j refl
+
     at : (b : Bool) → (if b then Some 0 else option_map (λ j. j + 1) (find_number (names_of ms) name)) ≡ Some k
         → ((j : ℕ) → find_number (names_of ms) name ≡ Some j → seen ts (numbered ids j) ≡ option_map instance_bundle (find_module ms name))
         → seen ts (numbered (id ∷ ids) k) ≡ option_map instance_bundle (if b then Some m else find_module ms name)

@@ -109,6 +109,7 @@ found_known ns ts front (x ∷ xs) i (d ∷ ds) rest (k ∷ ks) n at heads types
   where
     head_is : {y z : Option DataType} {ys zs : List (Option DataType)} → y ∷ ys ≡ z ∷ zs → y ≡ z
     head_is h = cc
+
     tail_is : {y z : Option DataType} {ys zs : List (Option DataType)} → y ∷ ys ≡ z ∷ zs → ys ≡ zs
     tail_is h = cc
 found_known ns ts front (x ∷ xs) i [] rest [] n at heads types = absurd cc
@@ -127,7 +128,7 @@ knows_scope modules names whole bundles scope before of begins walks = record {
       as_known scope n (found names n)
       ∙ ap (known_by (types_of scope.table) scope.declared.items n) (of.tabulated.by_name n ∙ ap (λ ds. entry_named (names_of modules) 0 ds n) begins.1)
       ∙ found_known (names_of modules) (types_of scope.table) [] scope.declared.items 0 before.declared begins.0 (scope_at modules before) n refl
-        (heads_of modules before.declared) walks.types;
+      (heads_of modules before.declared) walks.types;
 }
 
 -- what is declared before a place is declared before what is behind it

@@ -67,7 +67,6 @@ statement_begins now before s left whole all reached b =
 
 module _ (modules : List ModuleTree) (bundles : List TypeId) (start old new : Scope) (before : Before) (whole left : Block) (s : Statement) (all : Declarations)
     (begins : Begins (behind_block before whole).declared all) (a : AtBlock modules bundles start old before whole ((then) s left)) where
-
   pub block_next : (type_faults_in modules a.now s ≡ []) × Walks modules bundles new (behind a.now s) × GoesOnWith (types_of old.table) new
       → AtBlock modules bundles start new before whole left
   block_next p = record {
@@ -113,10 +112,11 @@ module _ (modules : List ModuleTree) (bundles : List TypeId) (before : Before) (
   pub when_passes : (old middle scope : Scope) {A : Type 0} (r : Result A (Refused FirFault)) → condition ≡ [] → one ≡ []
       → GoesOnWith (types_of old.table) middle → Passes modules bundles middle scope two (behind_block between b) r
       → Passes modules bundles old scope (type_faults_in modules before (when p c a b)) (behind before (when p c a b)) r
-  when_passes old middle scope (Ok x) none clear g h =
-      (both_clear (condition ++ one) two (both_clear condition one none clear) h.0,
-      walks_at modules bundles scope (behind_block between b) (behind before (when p c a b)) refl h.1,
-      goes_twice (types_of old.table) middle scope g h.2)
+  when_passes old middle scope (Ok x) none clear g h = (
+    both_clear (condition ++ one) two (both_clear condition one none clear) h.0,
+    walks_at modules bundles scope (behind_block between b) (behind before (when p c a b)) refl h.1,
+    goes_twice (types_of old.table) middle scope g h.2,
+  )
   when_passes old middle scope (Err e) none clear g h = first_right (condition ++ one) two e (both_clear condition one none clear) h
 
   pub opens : (scope : Scope) → Walks modules bundles scope before → Walks modules bundles scope (opened before)

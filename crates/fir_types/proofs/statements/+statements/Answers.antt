@@ -60,11 +60,12 @@ in_statement-returns-in_ok-declare-in-Wire t c =
     let i = c.in-Wire in
     let view = ap stmt_of i.is ∙ wire_view i.field-0 i.field-1 i.field-2 i.ty in
     λ modules before whole of begins walks.
-    rw view
-    (refl,
-    walks_declared modules c.args.bundles.now c.args.scope.now c.declare.new.self before (named_of i.field-1) (component.wire (type_of i.ty)) (type_of i.ty) walks
-    c.in_ok-declare-in-Wire.ensures refl,
-    record { more = c.in_ok-declare-in-Wire.ensures.more; grown = c.in_ok-declare-in-Wire.ensures.grown })
+    rw view (
+      refl,
+      walks_declared modules c.args.bundles.now c.args.scope.now c.declare.new.self before (named_of i.field-1) (component.wire (type_of i.ty)) (type_of i.ty) walks
+          c.in_ok-declare-in-Wire.ensures refl,
+      record { more = c.in_ok-declare-in-Wire.ensures.more; grown = c.in_ok-declare-in-Wire.ensures.grown },
+    )
 
 pub in_statement-returns-in-Reg : goal.in_statement-returns-in-Reg
 in_statement-returns-in-Reg t c =
