@@ -1,4 +1,4 @@
--- What is said of a text that spells a tree with its names: it is taken, or it has a fault by its tree.
+-- What is said of a text that spells a tree with its names and types: it is taken, or it has a fault by its tree.
 use Rattle.std.proofs.Common.{◌≡◌, ℕ, List, [], Some, None, Err, ap, inl, inr}
 use Rattle.std.specs.Prelude.{is_none}
 use Rattle.fir_base.specs.declared.refused.Refused.{Refused}
@@ -13,20 +13,7 @@ use Rattle.fir_meaning.specs.Lack.{Lack}
 use Rattle.fir_meaning.specs.Lacking.{lacking}
 use Rattle.fir_check.specs.working.Checks.{Checks}
 use Rattle.fir_driver.specs.Emits.{Takes}
-use Rattle.fir_driver.specs.working.Readings.{IsNamedTree, IsTaken, IsTypedTree, IsUnsupported}
-
--- a text without a tree, or with a fault of names, has no tree with types
-pub not_named : (bytes : List ℕ) (r : Refused FirFault) → IsNamedTree bytes (Err r) → IsTypedTree bytes (Err r)
-not_named bytes (Fault f) (inl bad) = inl bad
-not_named bytes (Fault f) (inr shows) = inr (inl shows)
-not_named bytes Memory h = tt
-
--- and one without a tree with types is refused for it
-pub not_typed : (bytes : List ℕ) (r : Refused FirFault) → IsTypedTree bytes (Err r) → IsTaken bytes (Err r)
-not_typed bytes (Fault f) (inl bad) = inl bad
-not_typed bytes (Fault f) (inr (inl shows)) = inr (inl shows)
-not_typed bytes (Fault f) (inr (inr shows)) = inr (inr (inl shows))
-not_typed bytes Memory h = tt
+use Rattle.fir_driver.specs.working.Readings.{IsTaken, IsUnsupported}
 
 -- a form that is lacking is a fault of the text
 pub lacks_form : (bytes : List ℕ) (t : CircuitTree) (l : Lack) (r : Refused FirFault) → Spells bytes t → HasNames t → type_faults t ≡ [] → lacking t ≡ Some l → IsUnsupported l r

@@ -1,6 +1,6 @@
 -- E13 and E14 of a connect and a partial connect (FIRRTL spec, "Connects", "Partial Connects", "Flow").
 -- Both sides have types. They have to fit, and then no driven leaf may be a source; the first that is, in the order of the pairs, is told.
-use Rattle.std.specs.Prelude.{ℕ, List, [], ◌∷◌, take, flat_map, Bool, if◌then◌else◌, Option, Some, None}
+use Rattle.std.specs.Prelude.{List, [], ◌∷◌, take, flat_map, if◌then◌else◌, Option, Some, None}
 use Rattle.fir_ast.specs.declared.place.Place.{Place}
 use Rattle.fir_ast.specs.Types.{DataType}
 use Rattle.fir_pass.specs.Faults.{Fault}

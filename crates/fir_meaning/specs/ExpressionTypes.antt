@@ -1,7 +1,7 @@
 -- Types of expressions, with E12, E13, E15 and E16 (FIRRTL spec, "Expressions", "Multiplexers", "Conditionally Valids", "Primitive Operations").
 -- Each form says what it is from what its operands are found to be. A condition, an index and an arm are tested where they stand, before what stands
 -- behind them.
-use Rattle.std.specs.Prelude.{ℕ, List, [], ◌∷◌, Bool, true, false, ◌&&◌, if◌then◌else◌, Option, Some, None, option_map, Result, Ok, Err}
+use Rattle.std.specs.Prelude.{ℕ, List, [], ◌∷◌, Bool, true, false, ◌&&◌, if◌then◌else◌, Option, None, option_map, Result, Ok, Err}
 use Rattle.fir_bits.specs.declared.operators.PrimOp.{PrimOp}
 use Rattle.fir_ast.specs.declared.place.Place.{Place}
 use Rattle.fir_ast.specs.Types.{DataType, uint, sint}

@@ -2,7 +2,7 @@
 -- "Conditionals").
 -- A declaration's own written type is judged first, at its name; then a statement's expressions in the order of the text; and what it shows itself comes
 -- last, where its expressions have types.
-use Rattle.std.specs.Prelude.{ℕ, List, [], ◌∷◌, ◌++◌, flat_map, Bool, if◌then◌else◌, Option, Some, None, Result, Ok, Err}
+use Rattle.std.specs.Prelude.{List, [], ◌∷◌, ◌++◌, flat_map, if◌then◌else◌, Option, Some, None, Result, Ok, Err}
 use Rattle.fir_ast.specs.declared.place.Place.{Place}
 use Rattle.fir_ast.specs.Types.{DataType, uint, clock, reset, async_reset}
 use Rattle.fir_ast.specs.Expressions.{Expression}

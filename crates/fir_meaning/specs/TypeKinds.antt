@@ -1,7 +1,7 @@
 -- What a type may be used for: passive, numeric (FIRRTL spec, "Passive Types", "Registers", "Memories", "Multiplexers"); and a type without its widths.
 use Rattle.std.specs.Prelude.{ℕ, List, Bool, true, false, not, ◌&&◌, ◌||◌, ◌==◌, if◌then◌else◌, Option, Some, None}
 use Rattle.std.specs.Str.{bytes_eq}
-use Rattle.fir_ast.specs.Types.{DataType, uint, sint, clock, reset, async_reset, bundle, vector, Fields, no_fields, field}
+use Rattle.fir_ast.specs.Types.{DataType, uint, sint, bundle, vector, Fields, no_fields, field}
 
 -- whether no field is flipped, at any depth
 abbrev mutual

@@ -1,7 +1,7 @@
 -- The leaves of a type: its ground parts in order, each with its path, its orientation and its ground type (FIRRTL spec, "Types", "Flow").
 -- The number of a leaf is its place in this list.
 use Rattle.std.specs.Prelude.{ℕ, zero, suc, ◌+◌, ◌*◌, List, [], ◌∷◌, ◌++◌, map, Bool, true, false, not}
-use Rattle.fir_ast.specs.Types.{DataType, uint, sint, clock, reset, async_reset, bundle, vector, Fields, no_fields, field}
+use Rattle.fir_ast.specs.Types.{DataType, bundle, vector, Fields, no_fields, field}
 use Rattle.fir_meaning.specs.LeafPaths.{Step, named, element, LeafPath}
 
 -- an orientation behind a field that is flipped or not

@@ -1,5 +1,5 @@
 -- The walk over an instance: the code's bundle of its module is the type of the instance.
-use Rattle.std.proofs.Common.{◌≡◌, ℕ, zero, suc, ◌+◌, List, [], ◌∷◌, ◌++◌, map, length, Bool, true, false, if◌then◌else◌, Option, Some, None, refl, sym, ap, inl, inr, ◌∙◌, append_assoc, add-one, arith}
+use Rattle.std.proofs.Common.{◌≡◌, ℕ, suc, ◌+◌, List, [], ◌∷◌, ◌++◌, map, length, Bool, true, false, if◌then◌else◌, Option, Some, None, refl, sym, ap, inl, inr, ◌∙◌, append_assoc, add-one, arith}
 use Rattle.std.specs.Prelude.{slice_get, option_map, unwrap_or}
 use Rattle.std.specs.Str.{bytes_eq}
 use Rattle.std.proofs.lemmas.Option.{slice_get-map, none-some, same_Some}
@@ -15,7 +15,7 @@ use Rattle.fir_meaning.specs.TypeGroup.{scope_at}
 use Rattle.fir_names.specs.declared.declaration.Declaration.{Declaration as Entry}
 use Rattle.fir_names.specs.declared.names.Names.{Names}
 use Rattle.fir_names.specs.working.ModuleOrder.{find_number}
-use Rattle.fir_names.specs.working.Numbered.{names_of, number_of}
+use Rattle.fir_names.specs.working.Numbered.{names_of}
 use Rattle.fir_names.specs.working.Tabulated.{entries_from, entry_of, found_at, Tabulates}
 use Rattle.fir_type_table.specs.declared.kind.TypeId.{TypeId}
 use Rattle.fir_type_table.specs.working.Tables.{types_of}
@@ -23,7 +23,7 @@ use Rattle.fir_types.specs.declared.found.Found.{Found}
 use Rattle.fir_types.specs.declared.found.Found.TheVariants as found
 use Rattle.fir_types.specs.declared.scope.Scope.{Scope}
 use Rattle.fir_types.specs.working.Seen.{seen}
-use Rattle.fir_types.specs.working.Statements.{bundle_at, found_bundle}
+use Rattle.fir_types.specs.working.Statements.{found_bundle}
 use Rattle.fir_types.specs.working.Walked.{HoldsBundles, Begins, IsOfModule, Walks}
 use Rattle.fir_types.proofs.KnownScopes.{Heads, heads_of}
 

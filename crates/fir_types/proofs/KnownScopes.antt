@@ -1,5 +1,5 @@
 -- What the code's table of names and its list of types know of a name is what the typed scope knows.
-use Rattle.std.proofs.Common.{◌≡◌, ℕ, suc, ◌+◌, ◌≤◌, List, [], ◌∷◌, ◌++◌, map, length, Bool, true, false, if◌then◌else◌, Option, Some, None, refl, sym, ap, ◌∙◌, append_assoc, arith}
+use Rattle.std.proofs.Common.{◌≡◌, ℕ, suc, ◌≤◌, List, [], ◌∷◌, ◌++◌, map, length, Bool, true, false, if◌then◌else◌, Option, Some, None, refl, sym, ap, ◌∙◌, append_assoc, arith}
 use Rattle.std.specs.Prelude.{slice_get}
 use Rattle.std.specs.Str.{bytes_eq}
 use Rattle.std.proofs.lemmas.List.{length_push}
@@ -9,7 +9,7 @@ use Rattle.fir_base.proofs.SameNames.{name_is}
 use Rattle.fir_ast.specs.Types.{DataType}
 use Rattle.fir_ast.specs.Statements.{PlacedName}
 use Rattle.fir_ast.specs.Circuits.{ModuleTree}
-use Rattle.fir_meaning.specs.Components.{Component, Declaration, Declarations, port, wire, register, node, instance, memory}
+use Rattle.fir_meaning.specs.Components.{Component, Declarations, port, wire, register, node, instance, memory}
 use Rattle.fir_meaning.specs.Visibility.{Before, declaration_at, with_declaration}
 use Rattle.fir_meaning.specs.Flows.{flow_of}
 use Rattle.fir_meaning.specs.TypedScopes.{Known, TypedScope, known}
@@ -24,7 +24,7 @@ use Rattle.fir_type_table.specs.working.Tables.{types_of}
 use Rattle.fir_types.specs.declared.found.Found.{Found}
 use Rattle.fir_types.specs.declared.scope.Scope.{Scope}
 use Rattle.fir_types.specs.working.Seen.{seen}
-use Rattle.fir_types.specs.working.Known.{component_flow, known_there, known_at, known_in, Knows}
+use Rattle.fir_types.specs.working.Known.{component_flow, known_there, known_at, Knows}
 use Rattle.fir_types.specs.working.Walked.{Begins, IsOfModule, Walks}
 
 -- names and flows of declarations

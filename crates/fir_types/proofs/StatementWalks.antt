@@ -1,5 +1,5 @@
 -- The walk over statements and blocks.
-use Rattle.std.proofs.Common.{◌≡◌, ℕ, List, [], ◌∷◌, ◌++◌, map, Result, Ok, Err, refl, sym, ap, subst, ◌∙◌}
+use Rattle.std.proofs.Common.{◌≡◌, List, [], ◌++◌, map, Result, Ok, Err, refl, sym, ap, subst, ◌∙◌}
 use Rattle.fir_base.specs.declared.refused.Refused.{Refused}
 use Rattle.fir_ast.specs.declared.fault.FirFault.{FirFault}
 use Rattle.fir_ast.specs.declared.place.Place.{Place}
@@ -8,13 +8,12 @@ use Rattle.fir_ast.specs.Statements.{Statement, when, Block, done, then}
 use Rattle.fir_ast.specs.Circuits.{ModuleTree}
 use Rattle.fir_pass.specs.Faults.{Fault}
 use Rattle.fir_meaning.specs.Components.{Declarations}
-use Rattle.fir_meaning.specs.Visibility.{Before, opened, reopened, closed, behind, behind_block}
+use Rattle.fir_meaning.specs.Visibility.{Before, opened, reopened, behind, behind_block}
 use Rattle.fir_meaning.specs.FaultRules.{place_of}
 use Rattle.fir_meaning.specs.ExpressionTypes.{condition_form, expression_type}
 use Rattle.fir_meaning.specs.ComponentTypes.{typed_scope}
 use Rattle.fir_meaning.specs.TypeGroup.{scope_at, type_faults_in, type_faults_in_block}
 use Rattle.fir_names.proofs.BehindStatements.{adds_block}
-use Rattle.fir_ast.specs.Types.{DataType}
 use Rattle.fir_type_table.specs.declared.kind.TypeId.{TypeId}
 use Rattle.fir_type_table.specs.working.Tables.{types_of}
 use Rattle.fir_types.specs.declared.scope.Scope.{Scope}

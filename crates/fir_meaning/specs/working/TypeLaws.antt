@@ -1,9 +1,8 @@
 -- Laws about types, their leaves, and their faults.
-use Rattle.std.specs.Prelude.{◌≡◌, ◌↔◌, ℕ, ◌+◌, List, [], ◌∷◌, map, flat_map, slice_get, length, true, IsTrue, Option, Some, None}
+use Rattle.std.specs.Prelude.{◌≡◌, ◌↔◌, ℕ, List, [], map, flat_map, slice_get, length, true, IsTrue, Some}
 use Rattle.fir_base.specs.Lists.{In, Distinct}
-use Rattle.fir_ast.specs.Types.{DataType, bundle, vector, Fields, no_fields, field}
+use Rattle.fir_ast.specs.Types.{DataType}
 use Rattle.fir_ast.specs.Circuits.{CircuitTree}
-use Rattle.fir_meaning.specs.LeafPaths.{LeafPath, Step, named, element}
 use Rattle.fir_meaning.specs.TypeLeaves.{TypeLeaf, type_leaves, leaf_count}
 use Rattle.fir_meaning.specs.TypeNumbers.{leaf_number}
 use Rattle.fir_meaning.specs.Equivalence.{fitting_ground, is_connectable, is_partly_connectable}

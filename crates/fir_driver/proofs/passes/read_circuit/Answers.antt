@@ -1,15 +1,9 @@
 use Rattle.std.proofs.Common.{option_map, Err, sym, ap, subst, ◌∙◌}
-use Rattle.std.proofs.lemmas.Result.{err_from_is_err_and}
 use Rattle.fir_ast.specs.View.{circuit_of}
 use Rattle.fir_check.specs.working.Checks.{Checks}
 use Rattle.fir_driver.specs.working.Lacked.{lack_of}
-use Rattle.fir_driver.proofs.Taken.{lacks_form, not_typed, takes, shows_fault}
+use Rattle.fir_driver.proofs.Taken.{lacks_form, takes, shows_fault}
 use Rattle.fir_driver.proofs.passes.read_circuit.Goals as goal
-
-pub returns-in_err-named : goal.returns-in_err-named
-returns-in_err-named c =
-    let p = err_from_is_err_and c.from_residual.result c.from_residual.ensures.1 in
-    rw (p.1, p.2) (not_typed c.args.bytes.now _ c.in_err-named.ensures)
 
 pub returns-in-Ok : goal.returns-in-Ok
 returns-in-Ok c =

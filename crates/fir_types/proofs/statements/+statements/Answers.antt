@@ -1,8 +1,8 @@
-use Rattle.std.proofs.Common.{◌+◌, map, drop, refl, sym, ap, ◌∙◌, arith}
-use Rattle.std.proofs.lemmas.Result.{err_from_is_err_and, IfOk-weaker}
+use Rattle.std.proofs.Common.{◌+◌, map, drop, refl, ap, ◌∙◌, arith}
+use Rattle.std.proofs.lemmas.Result.{err_from_is_err_and}
 use Rattle.std.proofs.lemmas.List.{drop_all}
 use Rattle.fir_ast.specs.View.{block_of, expr_of, named_of, sink_of, stmt_of, type_of}
-use Rattle.fir_ast.specs.Statements.{then, wire, register, node, instance, when, connect, partial_connect, invalid}
+use Rattle.fir_ast.specs.Statements.{then, when, connect, partial_connect, invalid}
 use Rattle.fir_ast.proofs.TreeViews.{connect_view, register_view}
 use Rattle.fir_meaning.specs.Components as component
 use Rattle.fir_meaning.specs.TypeGroup.{scope_at, type_faults_in}
