@@ -22,11 +22,16 @@ class Reading:
         if self.line is None and not self.is_recursive:
             self.line = Types(text).fault or first_lacking(text)
 
-    def takes(self, says):
-        """Whether this may be told, which is empty where nothing is."""
+    def pattern(self):
+        """The line as a pattern, which takes an empty one where firc may tell nothing."""
         if self.is_recursive:
-            return self.names.is_walk(says)
-        return bool(re.fullmatch(re.escape(self.line) if self.line else LATER, says))
+            return "E11 .*"
+        return re.escape(self.line) if self.line else LATER
+
+    def takes(self, says):
+        """Whether this may be told; a walk of E11 is judged."""
+        is_right = bool(re.fullmatch(self.pattern(), says))
+        return is_right and (not self.is_recursive or self.names.is_walk(says))
 
     def __str__(self):
         if self.is_recursive:
