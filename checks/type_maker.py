@@ -72,7 +72,8 @@ class Maker:
         self.heads = chance.sample(MODULES, chance.choice([1, 1, 2, 3]))
         # a module instantiates those alone that come later in this order
         self.order = chance.sample(self.heads, len(self.heads))
-        self.fresh = {head: chance.sample(NAMES, len(NAMES)) for head in self.heads}
+        spare = [f"n{k}" for k in range(99)]
+        self.fresh = {head: spare + chance.sample(NAMES, len(NAMES)) for head in self.heads}
         self.faces = {head: [self.port(head) for _ in range(chance.randrange(2, 6))]
                       for head in self.heads}
         self.modules = [self.module(head) for head in self.heads]
