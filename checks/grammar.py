@@ -3,12 +3,13 @@
 
 It is restated as productions, and finds by Earley's method whether a text is one of the grammar,
 and else the first token with which no text of the grammar goes on (grammar_rules.py). Of a text of
-the grammar it tells the first fault of its names (name_rules.py), or else the first form that
-`emit` lacks (grammar_trees.py).
+the grammar it tells the first fault of its names or types, or else the first form that `emit` lacks
+(readings.py).
 
     grammar.py table     writes the tables of small texts that tests of fir_tests read
     grammar.py check     sees that those tables say of each text what this grammar says, that they
-                         use each production, and that the rows of `emit` say so too
+                         use each production, and that the rows of `emit` say so too; those that
+                         do not are listed
     grammar.py cuts      compares `./firc emit` with this grammar on each form with each of its
                          tokens out of form, and on each beginning of a text
     grammar.py random N  compares them on N texts with a few tokens changed
@@ -23,8 +24,8 @@ import tempfile
 import row_files
 from grammar_rules import RULES, Bad, derived, fault, tokens
 from grammar_texts import FORMS_OF_EXPRESSIONS, FORMS_OF_STATEMENTS, HEAD, SPELLED, SPELLINGS
-from grammar_trees import Tree, first_lacking
-from name_rules import Names
+from grammar_trees import Tree
+from readings import Reading
 
 ROOT = pathlib.Path(__file__).resolve().parent.parent
 TESTS = ROOT / "crates/fir_tests/src/trees"
@@ -76,7 +77,7 @@ def check_tables():
 def check_rows():
     """Sees that each row of `emit` with a text of no great length has the line of this grammar. It
     does not speak of E06, of carriage returns and of annotations over lines."""
-    count = 0
+    count, differ = 0, 0
     for row in [row for path in sorted(ROWS.rglob("*.rows")) for row in row_files.read(path)]:
         if row.words != [b"emit", b"f.fir"] or row.text is None or len(row.text) > 100000:
             continue
@@ -84,9 +85,12 @@ def check_rows():
         is_other = b"\r" in row.text or b"%[" in row.text and line == OF_TOKENS
         if is_other or err.startswith("E06"):
             continue
-        if not re.fullmatch(line, err.removesuffix("\n")):
-            sys.exit(f"{row.place}: the row says {err!r}, the grammar {line!r}")
         count += 1
+        if not re.fullmatch(line, err.removesuffix("\n")):
+            differ += 1
+            print(f"{row.place}: the row says {err!r}, the grammar {line!r}")
+    if differ:
+        sys.exit(f"grammar: {differ} of {count} rows of emit say something else")
     print("grammar:", count, "rows of emit say what it says")
 
 
@@ -149,14 +153,9 @@ def line_of(text):
     """The line that firc is to say as a pattern."""
     try:
         line = fault(text)
-        names = None if line else Names(text)
+        return re.escape(line) if line else Reading(text).pattern()
     except Bad:
         return OF_TOKENS
-    line = line or names.first()
-    if not line and names.is_recursive():
-        return "E11 .*"
-    line = line or first_lacking(text)
-    return re.escape(line) if line else "|E1[2-9].*|E2.*"
 
 
 def compare(texts):

@@ -3,8 +3,8 @@
 language made at random, about half of them with faults of names put in.
 
 The line is that of the first fault E08 to E10 of name_rules.py. Where modules instantiate each
-other in a ring it is E11, whose walk is judged there; else the line of the first form that `emit`
-lacks, or of a fault of a later group.
+other in a ring it is E11, whose walk is judged there; else that of the first fault of types, of the
+first form that `emit` lacks, or of a fault of a later group.
 
 usage: names.py [--program PATH] COUNT [SEED]
 
@@ -18,14 +18,12 @@ import subprocess
 import sys
 import tempfile
 
-from grammar_trees import first_lacking
 from name_maker import Maker
-from name_rules import Names
 from name_slips import Slips
 from name_texts import Writer
+from readings import Reading
 
 ROOT = pathlib.Path(__file__).resolve().parent.parent
-LATER = "|E1[2-9] .*|E2[0-9] .*"
 
 
 def made(chance):
@@ -41,18 +39,10 @@ def compare(program, source, text, is_wrong):
     differ, and where a circuit that was made right has a fault."""
     source.write_text(text)
     done = subprocess.run([program, "emit", source], cwd=ROOT, capture_output=True, text=True)
-    says, names = done.stderr.removesuffix("\n"), Names(text)
-    wants, is_recursive = names.first(), False
-    if wants is None:
-        is_recursive = names.is_recursive()
-        wants = "E11 of a walk" if is_recursive else first_lacking(text)
-    if is_recursive:
-        is_right = names.is_walk(says)
-    else:
-        is_right = bool(re.fullmatch(re.escape(wants) if wants else LATER, says))
-    if not is_right or done.returncode != (1 if says else 0):
+    says, reading = done.stderr.removesuffix("\n"), Reading(text)
+    if not reading.takes(says) or done.returncode != (1 if says else 0):
         says = f"{says!r} with status {done.returncode}"
-        sys.exit(f"of\n{text}\nfirc says {says}, the rules {wants!r}")
+        sys.exit(f"of\n{text}\nfirc says {says}, the rules '{reading}'")
     is_clean = not re.match("E0[89]|E1[01]", says)
     if not is_wrong and not is_clean:
         sys.exit(f"of\n{text}\nwhich was made right, all say {says!r}")
