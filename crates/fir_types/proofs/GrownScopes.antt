@@ -1,5 +1,5 @@
 -- The walk goes on where the table grows and where one more is declared.
-use Rattle.std.proofs.Common.{◌≡◌, ℕ, List, [], ◌∷◌, ◌++◌, map, Option, Some, None, refl, sym, ap, ◌∙◌, arith}
+use Rattle.std.proofs.Common.{◌≡◌, ℕ, List, [], ◌∷◌, ◌++◌, map, Option, Some, None, refl, sym, ap, ◌∙◌, append_assoc, arith}
 use Rattle.std.specs.Prelude.{slice_get, unwrap_or}
 use Rattle.std.specs.List.{AllByRecursion}
 use Rattle.std.proofs.lemmas.List.{length-append, map-append}
@@ -20,7 +20,7 @@ use Rattle.fir_types.specs.declared.found.Found.{Found}
 use Rattle.fir_types.specs.declared.found.Found.TheVariants as found
 use Rattle.fir_types.specs.declared.scope.Scope.{Scope}
 use Rattle.fir_types.specs.working.Seen.{seen}
-use Rattle.fir_types.specs.working.Walked.{IsHeld, HoldsBundles, Walks, Declared, DeclaredFound}
+use Rattle.fir_types.specs.working.Walked.{Declared, DeclaredFound, GoesOnWith, HoldsBundles, IsHeld, Walks}
 
 scope_behind_more : (modules : List ModuleTree) (ks : TypedScope) (ds : Declarations) (d : Declaration)
     → typed_behind modules ks (ds ++ d ∷ []) ≡ typed_behind modules ks ds ++ known_as modules (typed_behind modules ks ds) d ∷ []
@@ -31,6 +31,18 @@ scope_behind_more modules ks (e ∷ es) d = scope_behind_more modules (ks ++ kno
 pub scope_more : (modules : List ModuleTree) (ds : Declarations) (d : Declaration)
     → typed_scope modules (ds ++ d ∷ []) ≡ typed_scope modules ds ++ known_as modules (typed_scope modules ds) d ∷ []
 scope_more modules ds d = scope_behind_more modules [] ds d
+
+pub append_none : {A : Type 0} (xs : List A) → xs ≡ xs ++ []
+append_none [] = refl
+append_none (x ∷ xs) = ap (λ ys. x ∷ ys) (append_none xs)
+
+-- a table that stays has grown, and so has one that has grown once and once more
+pub goes_still : (old new : Scope) → new.table ≡ old.table → GoesOnWith (types_of old.table) new
+goes_still old new same = record { more = []; grown = ap types_of same ∙ append_none (types_of old.table) }
+
+pub goes_twice : (ts : List DataType) (next new : Scope) → GoesOnWith ts next → GoesOnWith (types_of next.table) new → GoesOnWith ts new
+goes_twice ts next new one two =
+    record { more = one.more ++ two.more; grown = two.grown ∙ ap (λ xs. xs ++ two.more) one.grown ∙ append_assoc ts one.more two.more }
 
 -- what is held stays, and is of the same type
 pub held_grown : (ts more : List DataType) (x : Option Found) → IsHeld ts x → IsHeld (ts ++ more) x
@@ -107,7 +119,3 @@ pub walks_found : (modules : List ModuleTree) (bundles : List TypeId) (old new :
     → Walks modules bundles new (with_declaration before n c)
 walks_found modules bundles old new before n c t w d is =
     walks_more modules bundles old new before n c [] d.found w d.declared (ap types_of d.table ∙ append_none (types_of old.table)) (rw d.table d.held) (rw d.table d.is ∙ sym is)
-  where
-    append_none : (xs : List DataType) → xs ≡ xs ++ []
-    append_none [] = refl
-    append_none (x ∷ xs) = ap (λ ys. x ∷ ys) (append_none xs)

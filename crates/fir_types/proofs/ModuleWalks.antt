@@ -1,10 +1,9 @@
 -- The walk over the ports and the body of a module, from an empty scope on.
-use Rattle.std.proofs.Common.{◌≡◌, ℕ, ◌+◌, ◌<◌, ◌≤◌, List, [], ◌∷◌, ◌++◌, map, length, Ok, refl, sym, ap, subst, ◌∙◌, take, get_or, append_assoc}
+use Rattle.std.proofs.Common.{◌≡◌, ℕ, ◌+◌, ◌<◌, ◌≤◌, List, [], ◌∷◌, ◌++◌, map, length, Ok, refl, sym, ap, subst, ◌∙◌, take, get_or}
 use Rattle.std.proofs.lemmas.List.{map_more, take_all}
 use Rattle.fir_base.specs.declared.refused.Refused.{Refused}
 use Rattle.fir_ast.specs.declared.circuit.Port.{Port}
 use Rattle.fir_ast.specs.declared.fault.FirFault.{FirFault}
-use Rattle.fir_ast.specs.Types.{DataType}
 use Rattle.fir_ast.specs.Statements.{Block}
 use Rattle.fir_ast.specs.Circuits.{ModuleTree, PortTree}
 use Rattle.fir_ast.specs.View.{port_of, type_of}
@@ -19,19 +18,7 @@ use Rattle.fir_types.specs.declared.scope.Scope.{Scope}
 use Rattle.fir_types.specs.working.Judged.{IsFirstOf}
 use Rattle.fir_types.specs.working.TypedModules.{JudgesModule}
 use Rattle.fir_types.specs.working.Walked.{Begins, Declared, GoesOnWith, HoldsBundles, PassesPorts, Walks}
-use Rattle.fir_types.proofs.GrownScopes.{walks_declared}
-
-nothing_behind : {A : Type 0} (xs : List A) → xs ≡ xs ++ []
-nothing_behind [] = refl
-nothing_behind (x ∷ xs) = ap (λ ys. x ∷ ys) (nothing_behind xs)
-
--- a table that has grown
-pub goes_still : (old new : Scope) → new.table ≡ old.table → GoesOnWith (types_of old.table) new
-goes_still old new same = record { more = []; grown = ap types_of same ∙ nothing_behind (types_of old.table) }
-
-pub goes_twice : (ts : List DataType) (next new : Scope) → GoesOnWith ts next → GoesOnWith (types_of next.table) new → GoesOnWith ts new
-goes_twice ts next new one two =
-    record { more = one.more ++ two.more; grown = two.grown ∙ ap (λ xs. xs ++ two.more) one.grown ∙ append_assoc ts one.more two.more }
+use Rattle.fir_types.proofs.GrownScopes.{append_none, goes_still, goes_twice, walks_declared}
 
 -- nothing is declared
 pub walks_head : (modules : List ModuleTree) (bundles : List TypeId) (scope : Scope) → scope.declared.items ≡ [] → HoldsBundles (types_of scope.table) bundles modules
@@ -72,7 +59,7 @@ module _ (modules : List ModuleTree) (bundles : List TypeId) (m : ModuleTree) (p
   behind_is = ap (λ ps. (behind_block (behind_ports at_head ps) body).declared) first ∙ ap (λ b. (behind_block (behind_ports at_head m.ports) b).declared) second
 
   pub begins_module : Begins (behind_block (behind_ports at_head ports) body).declared (declarations m)
-  begins_module = ([], sym behind_is ∙ nothing_behind (behind_block (behind_ports at_head ports) body).declared)
+  begins_module = ([], sym behind_is ∙ append_none (behind_block (behind_ports at_head ports) body).declared)
 
   faults_are : type_faults_in_block modules (behind_ports at_head ports) body ≡ module_type_faults modules m
   faults_are =

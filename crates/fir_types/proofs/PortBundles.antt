@@ -17,7 +17,7 @@ use Rattle.fir_type_table.specs.declared.kind.TypeId.{TypeId}
 use Rattle.fir_type_table.specs.working.Tables.{Adds, part_of, type_at, types_of}
 use Rattle.fir_types.specs.working.MemoryParts.{AreParts}
 use Rattle.fir_types.specs.working.Walked.{HoldsBundles}
-use Rattle.fir_types.proofs.GrownScopes.{bundles_grown}
+use Rattle.fir_types.proofs.GrownScopes.{append_none, bundles_grown}
 use Rattle.fir_types.proofs.HeldTypes.{grown_twice, type_held}
 use Rattle.fir_types.proofs.MemoryPorts.{no_parts}
 
@@ -53,10 +53,6 @@ pub record PortsMade (old new : List Entry) (ports : List Port) (i : ℕ) (parts
   pub more : List DataType
   pub grown : types_of new ≡ types_of old ++ more
   pub are : AreParts (types_of new) (map port_part (map port_of (take i ports))) parts
-
-append_none : (xs : List DataType) → xs ≡ xs ++ []
-append_none [] = refl
-append_none (x ∷ xs) = ap (λ ys. x ∷ ys) (append_none xs)
 
 pub made_none : (old : List Entry) (ports : List Port) (parts : List Part) → parts ≡ [] → PortsMade old old ports 0 parts
 made_none old ports parts none = record { more = []; grown = append_none (types_of old); are = no_parts (types_of old) parts none }

@@ -21,7 +21,7 @@ use Rattle.fir_types.specs.working.Judged.{IsFirstOf}
 use Rattle.fir_types.specs.working.Walked.{Begins, GoesOnWith, Judges, Passes, Walks}
 use Rattle.fir_types.proofs.CheckedForms.{first_left, first_right}
 use Rattle.fir_types.proofs.KnownScopes.{begins_before}
-use Rattle.fir_types.proofs.ModuleWalks.{goes_still, goes_twice}
+use Rattle.fir_types.proofs.GrownScopes.{goes_still, goes_twice}
 use Rattle.fir_types.proofs.StatementFaults.{both_clear}
 
 -- the same statement

@@ -1,6 +1,6 @@
 -- All faults of types and flows are of the fourth group.
 use Rattle.std.proofs.Common.{◌≡◌, ℕ, List, [], ◌∷◌, ◌++◌, take, flat_map, Bool, true, false, if◌then◌else◌, Option, Some, None, Result, Ok, Err, refl}
-use Rattle.std.specs.Prelude.{◌&&◌, ◌==◌, codes, nat_le}
+use Rattle.std.specs.Prelude.{◌&&◌, ◌==◌, codes, nat_le, nat_lt}
 use Rattle.std.specs.List.{AllByRecursion}
 use Rattle.fir_base.proofs.Each.{all_joined}
 use Rattle.fir_ast.specs.declared.place.Place.{Place}
@@ -111,7 +111,7 @@ reached_told p x r (Some f) = tt
 
 element_told : (p : Place) (i : ℕ) (r : Reached) (v : Option (DataType × ℕ)) → Told (element_at p i r v)
 element_told p i r None = refl
-element_told p i r (Some (t, n)) = either_told (Rattle.std.specs.Prelude.nat_lt i n) (Ok (at_element i r t)) (Err (out_of_range p i n)) tt refl
+element_told p i r (Some (t, n)) = either_told (nat_lt i n) (Ok (at_element i r t)) (Err (out_of_range p i n)) tt refl
 
 any_told : (p : Place) (r : Reached) (v : Option (DataType × ℕ)) → Told (any_element p r v)
 any_told p r None = refl

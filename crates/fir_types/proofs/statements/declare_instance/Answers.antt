@@ -6,8 +6,7 @@ use Rattle.fir_names.specs.working.Tabulated.{found_at}
 use Rattle.fir_type_table.specs.working.Tables.{types_of}
 use Rattle.fir_types.specs.working.Seen.{seen}
 use Rattle.fir_types.specs.working.Statements.{found_bundle}
-use Rattle.fir_types.proofs.GrownScopes.{walks_found}
-use Rattle.fir_types.proofs.ModuleWalks.{goes_still}
+use Rattle.fir_types.proofs.GrownScopes.{goes_still, walks_found}
 use Rattle.fir_types.proofs.InstanceWalks.{instance_seen}
 use Rattle.fir_types.proofs.statements.declare_instance.Goals as goal
 

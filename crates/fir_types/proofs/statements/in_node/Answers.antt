@@ -4,8 +4,7 @@ use Rattle.fir_meaning.specs.Components.{node}
 use Rattle.fir_meaning.specs.ExpressionTypes.{expression_type}
 use Rattle.fir_meaning.specs.TypeGroup.{scope_at, flipped_faults}
 use Rattle.fir_types.proofs.KnownScopes.{knows_before}
-use Rattle.fir_types.proofs.GrownScopes.{walks_found}
-use Rattle.fir_types.proofs.ModuleWalks.{goes_still}
+use Rattle.fir_types.proofs.GrownScopes.{goes_still, walks_found}
 use Rattle.fir_types.proofs.StatementFaults.{expression_fails, statement_fails, statement_clear}
 use Rattle.fir_types.proofs.statements.in_node.Goals as goal
 
