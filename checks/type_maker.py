@@ -58,6 +58,11 @@ def is_plain(given):
     return has_numbers(given) and is_passive(given)
 
 
+def sized(ground):
+    """The ground type with a width, if it is a number."""
+    return ground._replace(width=ground.width or 3) if ground.kind in NUMBERS else ground
+
+
 def called(word, parts):
     between = [token for part in parts for token in [",", *part]]
     return [word, "(", *between[1:], ")"]
@@ -361,7 +366,7 @@ class Maker:
         if self.slips.here("E15", "data of flips"):
             return self.pick(given for given in self.types if not is_passive(given)) or \
                 Bundle((Field("x", True, Ground("UInt", 1)),))
-        given = mapped(self.plain_type(), lambda ground: ground._replace(width=ground.width or 3))
+        given = mapped(self.plain_type(), sized)
         if self.slips.here("E17", "data without widths"):
             return mapped(given, lambda ground: ground._replace(width=None))
         if self.slips.here("E17", "data of kinds"):

@@ -1,6 +1,6 @@
 //! The passes on the way of a circuit, in the order in which it takes them: from bytes to tokens, to the tree, to the tree
-//! with its names, which has only forms that are taken so far and shows no fault, to the net and its order; and from there
-//! to the Verilog tree and its text, or to the simulator's net with the shape of its traces.
+//! with its names, to the tree with its types, which has only forms that are taken so far and shows no fault, to the net
+//! and its order; and from there to the Verilog tree and its text, or to the simulator's net with the shape of its traces.
 
 ghost use Rattle.std.specs.Prelude.{◌≤◌, IfOk, IsTrue, length};
 ghost use Rattle.fir_ast.specs.View.{circuit_of};

@@ -9,7 +9,7 @@ use Rattle.fir_ast.specs.declared.place.Place.{Place}
 use Rattle.fir_ast.specs.Types.{DataType, bundle, vector, Fields, no_fields, field}
 use Rattle.fir_meaning.specs.LeafPaths.{Step, named, element, LeafPath}
 use Rattle.fir_meaning.specs.TypeLeaves.{TypeLeaf, under, element_leaves, type_leaves, field_leaves, leaf_count, field_count}
-use Rattle.fir_meaning.specs.TypeNumbers.{leaf_number, field_number}
+use Rattle.fir_meaning.specs.working.TypeNumbers.{leaf_number, field_number}
 use Rattle.fir_meaning.specs.working.TypeLaws.{LeavesHaveNumbers}
 use Rattle.fir_base.proofs.SameNames.{name_is, name_same, name_other}
 use Rattle.fir_base.proofs.Tests.{chosen}

@@ -24,7 +24,6 @@ pub mod Hierarchy
 pub mod NameGroups
 pub mod LeafPaths
 pub mod TypeLeaves
-pub mod TypeNumbers
 pub mod TypeKinds
 pub mod Equivalence
 pub mod ConnectPairs

@@ -2,5 +2,6 @@
 pub mod Clean
 pub mod Laws
 pub mod NameLaws
+pub mod TypeNumbers
 pub mod WellTyped
 pub mod TypeLaws

@@ -4,7 +4,7 @@ use Rattle.fir_base.specs.Lists.{In, Distinct}
 use Rattle.fir_ast.specs.Types.{DataType}
 use Rattle.fir_ast.specs.Circuits.{CircuitTree}
 use Rattle.fir_meaning.specs.TypeLeaves.{TypeLeaf, type_leaves, leaf_count}
-use Rattle.fir_meaning.specs.TypeNumbers.{leaf_number}
+use Rattle.fir_meaning.specs.working.TypeNumbers.{leaf_number}
 use Rattle.fir_meaning.specs.Equivalence.{fitting_ground, is_connectable, is_partly_connectable}
 use Rattle.fir_meaning.specs.ConnectPairs.{Pair, pairs, partial_pairs}
 use Rattle.fir_meaning.specs.Mentions.{type_mentions}
