@@ -3,9 +3,10 @@
 
 Chains of 20000 and 200000 nodes, texts of 8 and 16 MiB of several shapes, and short texts of which
 long ones are made: a port with a name of 4000 bytes that 8192 and 16384 connects read under another
-name. The last are of forms that emit lacks, and show how the check of names grows: many modules,
-nodes in nested whens, fields of one bundle, ports of one memory, instances, a chain and a ring of
-modules. Time goes with the bytes that are read and written. It fails where the time of the second
+name. The others are of forms that emit lacks. Many modules, nodes in nested whens, fields of one
+bundle, ports of one memory, instances, a chain and a ring of modules show how the check of names
+grows; parts of references, connects of a bundle with 1000 fields, nodes of such a bundle and
+elements of nested vectors show how the check of types does. Time goes with the bytes that are read and written. It fails where the time of the second
 text grows by more than 1.25 times what these bytes grow by; times under 0.2 seconds are too short
 to compare. Seconds are those of a processor, the least of three runs.
 
@@ -136,6 +137,40 @@ def ring_of_modules(size):
     return chain_of_modules(size, "    inst a of M0\n    inst b of M0\n")
 
 
+def parts_of_references(size):
+    """Connects that read the innermost of 200 bundles in each other."""
+    type_of_port = "{b:" * 200 + "UInt" + "}" * 200
+    head = f"circuit T :\n  module T :\n    input a : {type_of_port}\n    output o : UInt\n"
+    line = "    o <= a" + ".b" * 200 + "\n"
+    return head + line * (size // len(line))
+
+
+def with_1000_fields(name):
+    return f"    wire {name} : {{" + ",".join(f"f{i}:UInt" for i in range(1000)) + "}\n"
+
+
+def connects_of_1000_fields(size):
+    head = "circuit T :\n  module T :\n" + with_1000_fields("p") + with_1000_fields("q")
+    return head + "    p <= q\n" * (size // 11 // 16)
+
+
+def nodes_of_1000_fields(size):
+    """Each node has the type of the one before."""
+    lines, last = [], "p"
+    for i in range(size // 26):
+        lines.append(f"    node n{i} = {last}\n")
+        last = f"n{i}"
+    return "circuit T :\n  module T :\n" + with_1000_fields("p") + "".join(lines)
+
+
+def elements_of_nested_vectors(size):
+    """Reads of an element of 250 vectors in each other, each of 4294967296 elements."""
+    depth = 250
+    head = "circuit T :\n  module T :\n    output o : UInt\n    wire v : UInt"
+    line = "    o <= v" + "[7]" * depth + "\n"
+    return head + "[4294967296]" * depth + "\n" + line * (size // len(line))
+
+
 def spent():
     """The seconds of a processor that ended children took."""
     usage = resource.getrusage(resource.RUSAGE_CHILDREN)
@@ -159,7 +194,8 @@ def run(firc, path, text):
 SHAPES = (blank_lines, one_comment, chain_of_nodes, one_information, one_long_name,
           one_long_name_used_many_times, skips, connects, many_ports, chain_of_registers, dots,
           modules, nodes_in_nested_whens, fields_of_one_bundle, ports_of_one_memory, instances,
-          chain_of_modules, ring_of_modules)
+          chain_of_modules, ring_of_modules, parts_of_references, connects_of_1000_fields,
+          nodes_of_1000_fields, elements_of_nested_vectors)
 
 
 def texts():
