@@ -117,7 +117,9 @@ def fields_of_one_bundle(size):
 
 def ports_of_one_memory(size):
     ports = " ".join(f"r{i}" for i in range(size // 9))
-    return "circuit T :\n  module T :\n    mem m :\n      reader => " + ports + "\n"
+    fields = ("data-type => UInt<1>", "depth => 2", "read-latency => 0", "write-latency => 1")
+    lines = "".join(f"      {field}\n" for field in fields)
+    return f"circuit T :\n  module T :\n    mem m :\n{lines}      reader => {ports}\n"
 
 
 def instances(size):
@@ -142,7 +144,7 @@ def parts_of_references(size):
     type_of_port = "{b:" * 200 + "UInt" + "}" * 200
     head = f"circuit T :\n  module T :\n    input a : {type_of_port}\n    output o : UInt\n"
     line = "    o <= a" + ".b" * 200 + "\n"
-    return head + line * (size // len(line))
+    return head + line * ((size - len(head)) // len(line))
 
 
 def with_1000_fields(name):
@@ -157,7 +159,7 @@ def connects_of_1000_fields(size):
 def nodes_of_1000_fields(size):
     """Each node has the type of the one before."""
     lines, last = [], "p"
-    for i in range(size // 26):
+    for i in range(size // 28):
         lines.append(f"    node n{i} = {last}\n")
         last = f"n{i}"
     return "circuit T :\n  module T :\n" + with_1000_fields("p") + "".join(lines)
@@ -168,7 +170,8 @@ def elements_of_nested_vectors(size):
     depth = 250
     head = "circuit T :\n  module T :\n    output o : UInt\n    wire v : UInt"
     line = "    o <= v" + "[7]" * depth + "\n"
-    return head + "[4294967296]" * depth + "\n" + line * (size // len(line))
+    head += "[4294967296]" * depth + "\n"
+    return head + line * ((size - len(head)) // len(line))
 
 
 def spent():
