@@ -165,7 +165,7 @@ def nodes_of_1000_fields(size):
     return "circuit T :\n  module T :\n" + with_1000_fields("p") + "".join(lines)
 
 
-def elements_of_nested_vectors(size):
+def elements_of_vectors(size):
     """Reads of an element of 250 vectors in each other, each of 4294967296 elements."""
     depth = 250
     head = "circuit T :\n  module T :\n    output o : UInt\n    wire v : UInt"
@@ -198,7 +198,7 @@ SHAPES = (blank_lines, one_comment, chain_of_nodes, one_information, one_long_na
           one_long_name_used_many_times, skips, connects, many_ports, chain_of_registers, dots,
           modules, nodes_in_nested_whens, fields_of_one_bundle, ports_of_one_memory, instances,
           chain_of_modules, ring_of_modules, parts_of_references, connects_of_1000_fields,
-          nodes_of_1000_fields, elements_of_nested_vectors)
+          nodes_of_1000_fields, elements_of_vectors)
 
 
 def texts():
