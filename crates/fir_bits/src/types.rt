@@ -3,7 +3,7 @@
 ghost use Rattle.std.specs.Prelude.{◌≡◌, ◌+◌, ◌-◌, ◌^◌, ◌<◌, ◌≤◌, min, slice_index, slice_index_or};
 ghost use Rattle.fir_bits.specs.Taken.{is_taken};
 ghost use Rattle.fir_bits.specs.Forms.{form_of, has_counts, has_kinds, takes, first_type, second_type};
-ghost use Rattle.fir_bits.specs.Widths.{width_of};
+ghost use Rattle.fir_bits.specs.Widths.{counted_width, width_of};
 ghost use Rattle.fir_bits.specs.Types.{signed_of, is_legal, typed_at, typed};
 
 use crate::bits::mask;
@@ -122,6 +122,18 @@ pub(crate) fn width(op: PrimOp, signed: bool, w: u32, v: u32, n: u128, m: u128) 
 {
     let width: u32 = operators!(widths, op, signed, w, v, n, m, r, a, b);
     width.min(129)
+}
+
+/// The width of an operation's result, in bits, from those of its operands, `w` and `v`, and its integers,
+/// `n` and `m`; `signed` tells whether the first operand is an SInt, and what is not there is 0. Where an
+/// operand or the result has more than 128 bits it is 129 (FIRRTL spec, "Primitive Operations").
+pub fn counted_width(op: PrimOp, signed: bool, w: u32, v: u32, n: u128, m: u128) -> u32
+    ensures { result ≡ counted_width op signed w v n m }
+{
+    if w > WIDEST || v > WIDEST {
+        return WIDEST + 1;
+    }
+    width(op, signed, w, v, n, m)
 }
 
 /// Whether the integers may stand beside an operand of the width `w`.

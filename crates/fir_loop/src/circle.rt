@@ -5,9 +5,9 @@ ghost use Rattle.fir_net.specs.working.IsNet.{IsNet};
 ghost use Rattle.fir_loop.specs.working.IsLoop.{ShowsLoop, path_of};
 ghost use Rattle.fir_loop.specs.working.IsCircle.{IsCircle, leaves_in, AreLeaves};
 
-use fir_ast::FirFault;
+use fir_ast::{FirFault, LeafId};
 use fir_base::{MemoryOut, Name, Seq};
-use fir_net::{FlatNet, Leaf, LeafId, Read};
+use fir_net::{FlatNet, Leaf, Read};
 use std::alloc::Global;
 
 /// E28 at the first leaf of the circle, with the paths of its leaves, the first again at the end.

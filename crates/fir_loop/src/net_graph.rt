@@ -8,7 +8,8 @@ ghost use Rattle.fir_loop.specs.working.Numbered.{vertex_of, read_of, size_of, t
 use crate::vertex::read_at;
 use fir_base::MemoryOut;
 use fir_graph::Graph;
-use fir_net::{FlatNet, LeafId, NodeId, Read};
+use fir_ast::{LeafId, NodeId};
+use fir_net::{FlatNet, Read};
 use std::alloc::Global;
 
 /// A net in which all hang on leaves and nodes of its own.

@@ -10,9 +10,9 @@ ghost use Rattle.fir_lower.specs.working.Tabled.{HasBounds, IsTabled};
 use crate::inner::{InnerLeaf, InnerRole};
 use crate::tables::{Bound, Tables, bound_of};
 use crate::types::leaf_type;
-use fir_ast::{Expr, Ident, Register};
+use fir_ast::{Expr, Ident, LeafId, Register};
 use fir_base::{MemoryOut, Name};
-use fir_net::{LeafId, Read};
+use fir_net::Read;
 use std::alloc::Global;
 use std::collections::BTreeMap;
 

@@ -1,9 +1,9 @@
 //! The leaves behind the ports.
 
-use fir_ast::Place;
+use fir_ast::{LeafId, Place};
 use fir_base::Name;
 use fir_bits::NumTy;
-use fir_net::{LeafId, Read};
+use fir_net::Read;
 
 /// What gives an inner leaf its value.
 #[derive(Clone, Copy)]

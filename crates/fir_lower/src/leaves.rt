@@ -9,9 +9,9 @@ ghost use Rattle.fir_lower.specs.working.Tabled.{HasDrivers, IsTabled};
 use crate::inner::{InnerLeaf, InnerRole};
 use crate::tables::{Tables, driver_of};
 use crate::types::leaf_type;
-use fir_ast::{Port, Ty};
+use fir_ast::{LeafId, Port, Ty};
 use fir_base::{Direction, MemoryOut, Name};
-use fir_net::{Leaf, LeafId, Read, Register, Role};
+use fir_net::{Leaf, Read, Register, Role};
 use std::alloc::Global;
 use std::collections::BTreeMap;
 

@@ -8,9 +8,9 @@ ghost use Rattle.fir_lower.specs.working.Tabled.{HasBounds};
 
 use crate::tables::Bound;
 use crate::types::leaf_type;
-use fir_ast::Port;
+use fir_ast::{LeafId, Port};
 use fir_base::{Direction, MemoryOut, Name};
-use fir_net::{LeafId, Read};
+use fir_net::Read;
 use std::alloc::Global;
 use std::collections::BTreeMap;
 

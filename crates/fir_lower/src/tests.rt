@@ -3,10 +3,10 @@
 mod accumulator;
 mod choices;
 
-use fir_ast::{Circuit, Ident, Module, Place, Port, Reference, Stmt, Ty};
+use fir_ast::{Circuit, Ident, LeafId, Module, NodeId, Place, Port, Reference, Stmt, Ty};
 use fir_base::{Direction, MemoryOut, Name};
 use fir_bits::NumTy;
-use fir_net::{Leaf, LeafId, NodeId, Read, Role};
+use fir_net::{Leaf, Read, Role};
 use std::alloc::Global;
 
 /// Where all stands that is no declared name.

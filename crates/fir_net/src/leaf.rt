@@ -1,8 +1,7 @@
 //! Leaves: what a circuit declares, one ground value each.
 
-use crate::ids::LeafId;
 use crate::reads::Read;
-use fir_ast::Place;
+use fir_ast::{LeafId, Place};
 use fir_base::Name;
 
 /// When a register's reset takes effect.

@@ -8,7 +8,6 @@
 mod base_name;
 mod counting;
 mod free_name;
-mod ids;
 pub mod laws;
 mod leaf;
 mod leaf_names;
@@ -21,7 +20,6 @@ mod sharing;
 mod totals;
 
 pub use counting::counts;
-pub use ids::{LeafId, NodeId};
 pub use leaf::{Leaf, Register, Reset, ResetKind, Role};
 pub use name_table::{NameTable, names};
 pub use net::FlatNet;

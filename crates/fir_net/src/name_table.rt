@@ -8,7 +8,7 @@ ghost use Rattle.fir_net.specs.working.NameSets.{Holds};
 
 mod naming;
 
-use crate::ids::LeafId;
+use fir_ast::LeafId;
 use crate::numbered::{Numbered, first_untaken};
 use fir_base::{MemoryOut, Name, Seq};
 pub use naming::names;

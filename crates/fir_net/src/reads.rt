@@ -2,7 +2,7 @@
 
 ghost use Rattle.std.specs.Prelude.{◌≡◌, [], ◌∷◌, ◌++◌, OnOk};
 
-use crate::ids::{LeafId, NodeId};
+use fir_ast::{LeafId, NodeId};
 use fir_base::MemoryOut;
 use smallvec::SmallVec;
 use std::alloc::Global;

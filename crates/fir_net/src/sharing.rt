@@ -3,7 +3,7 @@
 ghost use Rattle.std.specs.Prelude.{◌≡◌, IfOk, OnErr};
 ghost use Rattle.fir_net.specs.working.Shares.{Shares};
 
-use crate::ids::NodeId;
+use fir_ast::NodeId;
 use crate::node::Node;
 use fir_base::MemoryOut;
 use indexmap::IndexSet;

@@ -5,7 +5,8 @@ ghost use Rattle.fir_net.specs.working.IsOrder.{IsOrder};
 ghost use Rattle.fir_sim.specs.working.Plans.{clocks_before, root_at, role_root, AreRoots};
 
 use fir_base::MemoryOut;
-use fir_net::{FlatNet, Leaf, LeafId, Read, Role};
+use fir_ast::LeafId;
+use fir_net::{FlatNet, Leaf, Read, Role};
 use std::alloc::Global;
 
 /// Of each clock leaf the number of its clock among the clock inputs, or none.

@@ -8,7 +8,8 @@ use crate::held::Held;
 use crate::leaf_places::leaf_places;
 use crate::node_places::node_places;
 use fir_base::{MemoryOut, Name, Seq};
-use fir_net::{FlatNet, LeafId, NameTable, NodeId, Read};
+use fir_ast::{LeafId, NodeId};
+use fir_net::{FlatNet, NameTable, Read};
 use std::alloc::Global;
 
 /// Where the value of a leaf is, or which clock input a leaf of a clock is.

@@ -1,8 +1,8 @@
 //! Small nets from tables.
 
-use fir_ast::Place;
+use fir_ast::{LeafId, NodeId, Place};
 use fir_base::{MemoryOut, Name, Seq};
-use fir_net::{FlatNet, Leaf, LeafId, Mux, Node, NodeId, Read, Register, Reset, ResetKind, Role};
+use fir_net::{FlatNet, Leaf, Mux, Node, Read, Register, Reset, ResetKind, Role};
 use std::alloc::Global;
 
 /// What is read, by its number.

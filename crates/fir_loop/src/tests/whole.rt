@@ -5,7 +5,8 @@ ghost use Rattle.std.specs.List.{AllByRecursion};
 ghost use Rattle.fir_net.specs.working.Settled.{is_clock};
 ghost use Rattle.fir_net.specs.working.IsNet.{IsNet, IsLeaf, IsRole, IsReset, CanBeReset, CanDrive, CanBeDriven, CanBeClock, IsClock, CanRead, ArePortsFirst, AreInside, is_port, AreNodes, IsNode, IsMux, read_type, one_bit};
 
-use fir_net::{FlatNet, Leaf, LeafId, Mux, Node, Read, Reset, Role};
+use fir_ast::LeafId;
+use fir_net::{FlatNet, Leaf, Mux, Node, Read, Reset, Role};
 
 /// Whether it is. What has operations or literals, other values than of one bit, or a path of more than a letter,
 /// is said not to be.

@@ -2,10 +2,10 @@
 
 use super::{HERE, circuit, ident, is_leaf, leaf, node, port, reference, uint};
 use crate::lowering::lowered_net;
-use fir_ast::{Circuit, Expr, Register, Stmt, Ty};
+use fir_ast::{Circuit, Expr, LeafId, Register, Stmt, Ty};
 use fir_base::{Direction, MemoryOut};
 use fir_bits::PrimOp;
-use fir_net::{LeafId, Node, Role};
+use fir_net::{Node, Role};
 use std::alloc::Global;
 use std::test::Fail;
 

@@ -6,13 +6,10 @@ ghost use Rattle.fir_net.specs.declared.reads.Read.{Read};
 ghost use Rattle.fir_net.specs.working.IsNet.{IsNet};
 ghost use Rattle.fir_net.specs.working.Settled.{shape};
 
-use fir_ast::Place;
+use fir_ast::{LeafId, NodeId, Place};
 use fir_base::{MemoryOut, Name, Seq};
 use fir_bits::{Bits, Num, PrimOp};
-use fir_net::{
-    FlatNet, Leaf, LeafId, Mux, Node, NodeId, Operation, Read, Reads, Register, Reset, ResetKind,
-    Role,
-};
+use fir_net::{FlatNet, Leaf, Mux, Node, Operation, Read, Reads, Register, Reset, ResetKind, Role};
 use std::alloc::Global;
 
 /// The name of a leaf, whether it is signed, its width and its role.

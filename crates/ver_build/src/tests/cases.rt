@@ -11,9 +11,8 @@ use crate::places::places_of;
 use fir_ast::Place as SourcePlace;
 use fir_base::{MemoryOut, Name, Seq};
 use fir_bits::{Bits, Num, PrimOp};
-use fir_net::{
-    FlatNet, Leaf, LeafId, Mux, Node, NodeId, Operation, Read, Reads, Register, Role, names,
-};
+use fir_ast::{LeafId, NodeId};
+use fir_net::{FlatNet, Leaf, Mux, Node, Operation, Read, Reads, Register, Role, names};
 use std::alloc::Global;
 
 /// A UInt or an SInt of a width.
