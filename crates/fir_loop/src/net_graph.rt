@@ -6,9 +6,9 @@ ghost use Rattle.fir_net.specs.working.IsNet.{IsNet};
 ghost use Rattle.fir_loop.specs.working.Numbered.{vertex_of, read_of, size_of, targets_of};
 
 use crate::vertex::read_at;
+use fir_ast::{LeafId, NodeId};
 use fir_base::MemoryOut;
 use fir_graph::Graph;
-use fir_ast::{LeafId, NodeId};
 use fir_net::{FlatNet, Read};
 use std::alloc::Global;
 

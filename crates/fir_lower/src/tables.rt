@@ -7,9 +7,9 @@ ghost use Rattle.fir_lower.specs.working.Lowering.{Driver, driver_of};
 ghost use Rattle.fir_lower.specs.working.Tabled.{HasBounds, HasDrivers};
 
 use crate::inner::InnerLeaf;
+use fir_ast::LeafId;
 use fir_base::Name;
 use fir_bits::{NO_TYPE, NumTy};
-use fir_ast::LeafId;
 use fir_net::{Node, Read};
 use indexmap::IndexSet;
 use std::collections::BTreeMap;

@@ -8,8 +8,8 @@ ghost use Rattle.fir_net.specs.working.NameSets.{Holds};
 
 mod naming;
 
-use fir_ast::LeafId;
 use crate::numbered::{Numbered, first_untaken};
+use fir_ast::LeafId;
 use fir_base::{MemoryOut, Name, Seq};
 pub use naming::names;
 use std::alloc::Global;

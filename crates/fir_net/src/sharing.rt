@@ -3,8 +3,8 @@
 ghost use Rattle.std.specs.Prelude.{◌≡◌, IfOk, OnErr};
 ghost use Rattle.fir_net.specs.working.Shares.{Shares};
 
-use fir_ast::NodeId;
 use crate::node::Node;
+use fir_ast::NodeId;
 use fir_base::MemoryOut;
 use indexmap::IndexSet;
 

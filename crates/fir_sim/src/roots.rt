@@ -4,8 +4,8 @@ ghost use Rattle.std.specs.Prelude.{◌≡◌, ◌<◌, IfOk, length, slice_inde
 ghost use Rattle.fir_net.specs.working.IsOrder.{IsOrder};
 ghost use Rattle.fir_sim.specs.working.Plans.{clocks_before, root_at, role_root, AreRoots};
 
-use fir_base::MemoryOut;
 use fir_ast::LeafId;
+use fir_base::MemoryOut;
 use fir_net::{FlatNet, Leaf, Read, Role};
 use std::alloc::Global;
 

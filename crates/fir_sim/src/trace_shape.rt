@@ -5,8 +5,8 @@ ghost use Rattle.fir_net.specs.working.IsNet.{IsNet};
 ghost use Rattle.fir_sim.specs.working.Shapes.{IsShapeOf};
 ghost use Rattle.fir_sim.specs.working.StateWords.{input_widths, is_clock, state_word, state_words};
 
-use fir_base::{MemoryOut, Name};
 use fir_ast::LeafId;
+use fir_base::{MemoryOut, Name};
 use fir_net::{FlatNet, Leaf, NameTable, Role, names};
 use std::alloc::Global;
 use trace_text::{Shape, StateWord};

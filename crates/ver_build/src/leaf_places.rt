@@ -8,8 +8,8 @@ ghost use Rattle.ver_build.specs.working.Walks.{IsLeafPassed};
 
 use crate::held::{Held, own_held};
 use crate::places::{NodePlace, Place, driven_clock_in, held_in};
-use fir_base::{MemoryOut, Name};
 use fir_ast::LeafId;
+use fir_base::{MemoryOut, Name};
 use fir_net::{FlatNet, Leaf, NameTable, Read, Role};
 use std::alloc::Global;
 

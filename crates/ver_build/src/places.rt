@@ -7,8 +7,8 @@ ghost use Rattle.ver_build.specs.working.Places.{IsPlaces, held_in, held_of, clo
 use crate::held::Held;
 use crate::leaf_places::leaf_places;
 use crate::node_places::node_places;
-use fir_base::{MemoryOut, Name, Seq};
 use fir_ast::{LeafId, NodeId};
+use fir_base::{MemoryOut, Name, Seq};
 use fir_net::{FlatNet, NameTable, Read};
 use std::alloc::Global;
 

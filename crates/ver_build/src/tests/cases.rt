@@ -8,10 +8,9 @@ ghost use Rattle.fir_net.specs.Paths.{base_name};
 use super::lines::tree_lines;
 use crate::building::built_tree;
 use crate::places::places_of;
-use fir_ast::Place as SourcePlace;
+use fir_ast::{LeafId, NodeId, Place as SourcePlace};
 use fir_base::{MemoryOut, Name, Seq};
 use fir_bits::{Bits, Num, PrimOp};
-use fir_ast::{LeafId, NodeId};
 use fir_net::{FlatNet, Leaf, Mux, Node, Operation, Read, Reads, Register, Role, names};
 use std::alloc::Global;
 
