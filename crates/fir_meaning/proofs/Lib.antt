@@ -54,3 +54,12 @@ pub mod LegalMemories
 pub mod LegalStatements
 pub mod ClearStatements
 pub mod WellTypedCircuits
+pub mod LeastRules
+pub mod OverLess
+pub mod SmallTrees
+pub mod WidthRows
+pub mod LeastRows
+pub mod OverRows
+pub mod LegalRows
+pub mod SizedShapes
+pub mod SizedExpressions

@@ -5,3 +5,4 @@ pub mod NameLaws
 pub mod TypeNumbers
 pub mod WellTyped
 pub mod TypeLaws
+pub mod WidthLaws

@@ -6,6 +6,7 @@
 
 mod laws;
 mod type_laws;
+mod width_laws;
 
 pub use laws::{
     clean_has_value, faultless_has_one, faultless_is_clean, faultless_runs_once, last_connect,
@@ -14,4 +15,7 @@ pub use laws::{
 pub use type_laws::{
     connects_leaf_by_leaf, faultless_is_well_typed, leaves_have_numbers, partial_connects_fit,
     paths_are_distinct, types_leave_none,
+};
+pub use width_laws::{
+    has_least, least_is_within, one_least, over_is_exact, sized_as_typed, widths_grow,
 };

@@ -1,0 +1,47 @@
+-- Laws about widths that are not written.
+use Rattle.std.specs.Prelude.{◌≡◌, ◌↔◌, ℕ, ◌≤◌, List, [], Some}
+use Rattle.fir_base.specs.Lists.{In}
+use Rattle.fir_ast.specs.Types.{DataType}
+use Rattle.fir_ast.specs.Expressions.{Expression}
+use Rattle.fir_ast.specs.Circuits.{ModuleTree, CircuitTree}
+use Rattle.fir_meaning.specs.Components.{Declarations}
+use Rattle.fir_meaning.specs.TypeKinds.{bare}
+use Rattle.fir_meaning.specs.ExpressionTypes.{expression_type}
+use Rattle.fir_meaning.specs.ComponentTypes.{typed_scope}
+use Rattle.fir_meaning.specs.WidthExpressions.{Widths, Width, width_of, Rule, Meets, IsLeastOf}
+use Rattle.fir_meaning.specs.SizedTypes.{shown_type}
+use Rattle.fir_meaning.specs.SizedScopes.{sized_type}
+use Rattle.fir_meaning.specs.SizedDeclarations.{Numbering, numbered_behind}
+use Rattle.fir_meaning.specs.WidthRules.{rules, AreWidths}
+use Rattle.fir_meaning.specs.OverFaults.{over_faults}
+
+-- wider unknowns never make an expression narrower
+abbrev pub WidthsGrow : Type 0
+WidthsGrow = (e : Width) (w v : Widths) → ((k : ℕ) → w k ≤ v k) → width_of e w ≤ width_of e v
+
+-- rules have a least assignment
+abbrev pub HasLeast : Type 0
+HasLeast = (rules : List Rule) → (w : Widths) × IsLeastOf rules w
+
+-- and one at most
+abbrev pub OneLeast : Type 0
+OneLeast = (rules : List Rule) (w v : Widths) → IsLeastOf rules w → IsLeastOf rules v → (k : ℕ) → w k ≡ v k
+
+-- each of these expressions is within 128 bits
+abbrev pub AllWithin : List Width → Widths → Type 0
+AllWithin es w = (e : Width) → In es e → width_of e w ≤ 128
+
+-- some assignment that meets all rules keeps these expressions within 128 bits exactly where the least one does
+abbrev pub LeastIsWithin : Type 0
+LeastIsWithin = (rules : List Rule) (es : List Width) (w : Widths) → IsLeastOf rules w → ((v : Widths) × Meets rules v × AllWithin es v) ↔ AllWithin es w
+
+-- under the least assignment nothing is over exactly where under some assignment that meets the rules nothing is
+abbrev pub OverIsExact : Type 0
+OverIsExact =
+    (c : CircuitTree) (w : Widths) → AreWidths c w → ((v : Widths) × Meets (rules c) v × (over_faults c v ≡ [])) ↔ (over_faults c w ≡ [])
+
+-- where an expression has a type, its sized type shows the same type without widths, in the scopes of the same declarations
+abbrev pub SizedAsTyped : Type 0
+SizedAsTyped =
+    (modules : List ModuleTree) (numbers : Numbering) (ds : Declarations) (e : Expression) (t : DataType) → numbers.scope ≡ []
+    → (expression_type (typed_scope modules ds) e).has ≡ Some t → shown_type (sized_type (numbered_behind modules numbers ds).scope e) ≡ bare t
