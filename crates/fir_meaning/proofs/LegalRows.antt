@@ -3,7 +3,7 @@ use Rattle.std.proofs.Common.{◌≡◌, List, [], ◌∷◌, true, false, Some,
 use Rattle.std.specs.Prelude.{codes}
 use Rattle.fir_bits.specs.declared.operators.PrimOp.TheVariants as op
 use Rattle.fir_ast.specs.Types.{DataType, uint, sint, clock, reset, async_reset, bundle, vector, no_fields}
-use Rattle.fir_ast.specs.Expressions.{mux}
+use Rattle.fir_ast.specs.Expressions.{mux, validif}
 use Rattle.fir_ast.specs.Statements.{register, when, done}
 use Rattle.fir_ast.specs.Circuits.{PortTree, CircuitTree}
 use Rattle.fir_meaning.specs.LeafPaths.{named, element}
@@ -101,3 +101,12 @@ async_converted = refl
 
 pub wide_converted : legal_faults (converted (uint (Some 2))) (λ k. 0) ≡ wrong_integers (at 4 14) op.AsAsyncReset (2 ∷ []) ∷ []
 wide_converted = refl
+
+-- the condition of a validif, before what it lets through
+abbrev let_through : CircuitTree
+let_through =
+    main_only (input 3 11 (codes "a") (uint (Some 2)) ∷ [])
+    (node_at 4 10 (codes "n") (validif (at 4 14) (ref 4 22 (codes "a")) (one 4 25 op.Head (ref 4 30 (codes "a")) (3 ∷ []))) ∷ [])
+
+pub let_through_faults : legal_faults let_through (λ k. 0) ≡ wrong_condition (at 4 22) 2 ∷ wrong_integers (at 4 25) op.Head (2 ∷ 3 ∷ []) ∷ []
+let_through_faults = refl

@@ -17,7 +17,7 @@ use Rattle.fir_meaning.specs.WidthExpressions.{Widths, width_of}
 use Rattle.fir_meaning.specs.SizedTypes.{Sized}
 use Rattle.fir_meaning.specs.SizedLeaves.{SizedLeaf, sized_leaves}
 use Rattle.fir_meaning.specs.SizedScopes.{SizedScope, sized_type, sink_expression}
-use Rattle.fir_meaning.specs.SizedDeclarations.{Placed, placed_modules, sized_at, sized_declared}
+use Rattle.fir_meaning.specs.SizedDeclarations.{NumberedModule, numbered_modules, sized_at, sized_declared}
 use Rattle.fir_meaning.specs.SizeFaults.{word_over, leaf_over}
 use Rattle.fir_meaning.specs.WidthWalk.{FaultRule, shown_within, shown_within_parts, shown_within_each, shown_within_reset, shown_at, shown_in, shown_in_block, shown_in_ports, shown_in_module, shown_in_circuit}
 use Rattle.fir_meaning.specs.OverFaults.{is_leaf_over, leaves_over, with_leaves, first_path, has_over, form_over, expression_over, over_rule, over_faults}
@@ -67,7 +67,7 @@ module _ (r s : FaultRule) (k : Weaker r s) where
     in_reset None h = refl
     in_reset (Some t) h = joined_less (joined_less (in_expression t.condition) (k.of_condition scope t.condition)) (in_expression t.init) h
 
-  module _ (m : Placed) where
+  module _ (m : NumberedModule) where
     at_declaration : (before : Before) (n : PlacedName) (c : Component) → shown_at r m before n c ≡ [] → shown_at s m before n c ≡ []
     at_declaration before n c h = k.of_component m.inside n c (sized_declared m before n c) h
 
@@ -110,7 +110,7 @@ module _ (r s : FaultRule) (k : Weaker r s) where
     in_module h = joined_less (in_ports at_head m.inside.ports) (in_block (behind_ports at_head m.inside.ports) m.inside.body) h
 
   in_circuit : (c : CircuitTree) → shown_in_circuit r c ≡ [] → shown_in_circuit s c ≡ []
-  in_circuit c h = flat_less (shown_in_module r) (shown_in_module s) (placed_modules c) in_module h
+  in_circuit c h = flat_less (shown_in_module r) (shown_in_module s) (numbered_modules c) in_module h
 
 if_less : {A : Type 0} → (a b : Bool) (x : A) → (b ≡ true → a ≡ true) → (if a then x ∷ [] else []) ≡ [] → (if b then x ∷ [] else []) ≡ []
 if_less a false x h e = refl

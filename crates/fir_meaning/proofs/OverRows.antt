@@ -8,6 +8,7 @@ use Rattle.fir_ast.specs.Expressions.{Expression, no_parts, subaccess, mux, vali
 use Rattle.fir_ast.specs.Statements.{Statement, MemoryPart, instance, memory, data_type, depth, reader}
 use Rattle.fir_ast.specs.Circuits.{PortTree, CircuitTree}
 use Rattle.fir_meaning.specs.LeafPaths.{named, element}
+use Rattle.fir_meaning.specs.WidthExpressions.{known, pair, guarded as guarded_width, width_of}
 use Rattle.fir_meaning.specs.WidthRules.{rules, AreWidths}
 use Rattle.fir_meaning.specs.SizeFaults.{word_over, leaf_over}
 use Rattle.fir_meaning.specs.OverFaults.{over_faults}
@@ -151,3 +152,40 @@ mux_over = refl
 pub validif_over : over_faults (guarded (validif (at 9 12) wide_condition (ref 9 31 (codes "p")))) (λ k. 0)
     ≡ word_over (at 9 20) (codes "cat") ∷ word_over (at 9 12) (codes "validif") ∷ []
 validif_over = refl
+
+-- of a node too
+abbrev guarded_node : CircuitTree
+guarded_node =
+    main_only wide_ports
+    (wire_at 7 10 (codes "p") (bundle (part_of false (codes "x") (uint (Some 1)) (part_of false (codes "y") (uint (Some 1)) no_fields)))
+    ∷ node_at 9 10 (codes "n") (validif (at 9 12) wide_condition (ref 9 31 (codes "p"))) ∷ [])
+
+pub guarded_node_rules : rules guarded_node
+    ≡ record { number = 6; at_least = guarded_width (pair op.Cat false (known 128) (known 128)) (known 1) }
+    ∷ record { number = 7; at_least = guarded_width (pair op.Cat false (known 128) (known 128)) (known 1) } ∷ []
+guarded_node_rules = refl
+
+pub guarded_width_over : width_of (guarded_width (pair op.Cat false (known 128) (known 128)) (known 1)) (λ k. 0) ≡ 129
+guarded_width_over = refl
+
+pub guarded_node_over : over_faults guarded_node (λ k. 129)
+    ≡ leaf_over (at 9 10) (named (codes "n") ∷ named (codes "x") ∷ []) ∷ leaf_over (at 9 10) (named (codes "n") ∷ named (codes "y") ∷ [])
+    ∷ word_over (at 9 20) (codes "cat") ∷ word_over (at 9 12) (codes "validif") ∷ []
+guarded_node_over = refl
+
+-- an AsyncReset leaf has one bit, also where the operation that drives it is over
+abbrev async_node : CircuitTree
+async_node = main_only wide_ports (node_at 9 10 (codes "n") (one 9 14 op.AsAsyncReset wide_condition []) ∷ [])
+
+pub async_node_rules : rules async_node ≡ []
+async_node_rules = refl
+
+pub async_node_over : over_faults async_node (λ k. 0) ≡ word_over (at 9 20) (codes "cat") ∷ word_over (at 9 14) (codes "asAsyncReset") ∷ []
+async_node_over = refl
+
+-- a memory of vectors of length 0 has no leaf
+abbrev empty_words : MemoryPart
+empty_words = data_type (at 5 7) (at 5 20) (vector (uint (Some 200)) 0)
+
+pub empty_array_over : over_faults (with_memory (empty_words ∷ [])) (λ k. 0) ≡ []
+empty_array_over = refl

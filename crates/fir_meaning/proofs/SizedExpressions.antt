@@ -1,4 +1,4 @@
--- Where an expression has a type, its sized type shows that type without widths.
+-- Where an expression has a type, its sized type is that type without widths.
 use Rattle.std.proofs.Common.{◌≡◌, ℕ, ◌+◌, List, [], ◌∷◌, ◌++◌, Bool, true, false, ◌&&◌, if◌then◌else◌, nat_lt, Option, Some, None, option_map, Result, Ok, Err, refl, sym, ap, ◌∙◌, subst}
 use Rattle.std.specs.Str.{bytes_eq}
 use Rattle.fir_bits.specs.declared.operators.PrimOp.{PrimOp}
@@ -23,13 +23,13 @@ use Rattle.fir_meaning.specs.Reaching.{Reached, reached_field, to_field, element
 use Rattle.fir_meaning.specs.ExpressionTypes.{number_type, passive_at, type_of_mux, type_of_validif, condition_form, passive_form, field_form, index_form, access_form, expression_type, expression_types, along_parts}
 use Rattle.fir_meaning.specs.ComponentTypes.{instance_type, instance_bundle, find_module, component_type, known_as, typed_behind, typed_scope}
 use Rattle.fir_meaning.specs.WidthExpressions.{known as known_width}
-use Rattle.fir_meaning.specs.SizedTypes.{Sized, shown_type, sized_named, sized_found, fields_in, element_in}
+use Rattle.fir_meaning.specs.SizedTypes.{Sized, bare_type, sized_named, sized_found, fields_in, element_in}
 use Rattle.fir_meaning.specs.SizedOperations.{is_signed, width_in, first_sized, operation_width, greater_of}
 use Rattle.fir_meaning.specs.SizedScopes.{SizedName, SizedScope, sized_in, sized_part, literal_width, sized_type, sized_types}
 use Rattle.fir_meaning.specs.SizedMemories.{as_written}
 use Rattle.fir_meaning.specs.SizedDeclarations.{Numbering, port_numbers, instance_from, sized_component, numbered_with, numbered_behind}
 use Rattle.fir_meaning.specs.working.WidthLaws.{SizedAsTyped}
-use Rattle.fir_meaning.proofs.SizedShapes.{numbered_shows, bare_again, renumbered_shows, greater_shows, guarded_shows, number_shows, result_shows, operand_signed, field_shown, element_shown}
+use Rattle.fir_meaning.proofs.SizedShapes.{numbered_bare, bare_again, renumbered_bare, greater_bare, guarded_bare, number_bare, result_bare, operand_signed, field_bare, element_bare}
 
 -- what a form that is something is made of
 after_has : {A B : Type 0} → (c : Checked A) (own : A → Result B Fault) (y : B) → (after c own).has ≡ Some y → (x : A) × (c.has ≡ Some x) × (own x ≡ Ok y)
@@ -71,6 +71,16 @@ mux_gives p u v t h =
 validif_gives : (p : Place) (u t : DataType) → type_of_validif p u ≡ Ok t → t ≡ bare u
 validif_gives p u t h = let one : Ok (bare u) ≡ Ok t = granted (is_numeric u) (Ok (bare u)) (wrong_kinds p (u ∷ [])) t h in cc
 
+-- without widths a mux is its first arm, and a validif its value
+mux_bare : (p : Place) (u v : DataType) (both arms : DataType × DataType) (t : DataType) → (u, v) ≡ both → both ≡ arms → type_of_mux p arms ≡ Ok t
+    → bare u ≡ bare t
+mux_bare p u v both arms t e f h =
+    let gives : t ≡ bare u = mux_gives p u v t (subst (λ (a : DataType × DataType). type_of_mux p a ≡ Ok t) (sym (e ∙ f)) h) in
+    sym (bare_again u) ∙ ap bare (sym gives)
+
+validif_bare : (p : Place) (u v t : DataType) → u ≡ v → type_of_validif p v ≡ Ok t → bare u ≡ bare t
+validif_bare p u v t e h = rw e (sym (bare_again v) ∙ ap bare (sym (validif_gives p v t h)))
+
 operation_gives : (p : Place) (op : PrimOp) (ks : List ℕ) (ts : List DataType) (t : DataType) → type_of_operation p op ks ts ≡ Ok t
     → (kinds : List NumTy) × (operand_kinds (is_conversion op) ts ≡ Some kinds) × (t ≡ result_of op kinds)
 operation_gives p op ks ts t h = by (operand_kinds (is_conversion op) ts) refl h
@@ -84,49 +94,49 @@ operation_gives p op ks ts t h = by (operand_kinds (is_conversion op) ts) refl h
         (kinds, e, is)
 
 -- from what a reference has reached to what its next part reaches
-field_step : (p : Place) (x : List ℕ) (s : Sized) (r y : Reached) → shown_type s ≡ bare r.data_type → to_field p x r ≡ Ok y
-    → shown_type (sized_found (sized_named x (fields_in s))) ≡ bare y.data_type
+field_step : (p : Place) (x : List ℕ) (s : Sized) (r y : Reached) → bare_type s ≡ bare r.data_type → to_field p x r ≡ Ok y
+    → bare_type (sized_found (sized_named x (fields_in s))) ≡ bare y.data_type
 field_step p x s r y e h = by (field_of_type x r.data_type) refl h
   where
     by : (o : Option FieldFound) → field_of_type x r.data_type ≡ o → reached_field p x r o ≡ Ok y
-        → shown_type (sized_found (sized_named x (fields_in s))) ≡ bare y.data_type
+        → bare_type (sized_found (sized_named x (fields_in s))) ≡ bare y.data_type
     by None g k = cc
     by (Some f) g k =
         let same : at_field x r f ≡ y = cc in
-        field_shown s r.data_type x f e g ∙ ap (λ (z : Reached). bare z.data_type) same
+        field_bare s r.data_type x f e g ∙ ap (λ (z : Reached). bare z.data_type) same
 
-index_step : (p : Place) (i : ℕ) (s : Sized) (r y : Reached) → shown_type s ≡ bare r.data_type → to_index p i r ≡ Ok y
-    → shown_type (element_in s) ≡ bare y.data_type
+index_step : (p : Place) (i : ℕ) (s : Sized) (r y : Reached) → bare_type s ≡ bare r.data_type → to_index p i r ≡ Ok y
+    → bare_type (element_in s) ≡ bare y.data_type
 index_step p i s r y e h = by (vector_of_type r.data_type) refl h
   where
-    by : (o : Option (DataType × ℕ)) → vector_of_type r.data_type ≡ o → element_at p i r o ≡ Ok y → shown_type (element_in s) ≡ bare y.data_type
+    by : (o : Option (DataType × ℕ)) → vector_of_type r.data_type ≡ o → element_at p i r o ≡ Ok y → bare_type (element_in s) ≡ bare y.data_type
     by None g k = cc
     by (Some v) g k =
         let found : Ok (at_element i r v.0) ≡ Ok y = granted (nat_lt i v.1) (Ok (at_element i r v.0)) (out_of_range p i v.1) y k in
         let same : at_element i r v.0 ≡ y = cc in
-        element_shown s r.data_type v e g ∙ ap (λ (z : Reached). bare z.data_type) same
+        element_bare s r.data_type v e g ∙ ap (λ (z : Reached). bare z.data_type) same
 
-any_step : (p : Place) (s : Sized) (r y : Reached) → shown_type s ≡ bare r.data_type → to_any p r ≡ Ok y → shown_type (element_in s) ≡ bare y.data_type
+any_step : (p : Place) (s : Sized) (r y : Reached) → bare_type s ≡ bare r.data_type → to_any p r ≡ Ok y → bare_type (element_in s) ≡ bare y.data_type
 any_step p s r y e h = by (vector_of_type r.data_type) refl h
   where
-    by : (o : Option (DataType × ℕ)) → vector_of_type r.data_type ≡ o → any_element p r o ≡ Ok y → shown_type (element_in s) ≡ bare y.data_type
+    by : (o : Option (DataType × ℕ)) → vector_of_type r.data_type ≡ o → any_element p r o ≡ Ok y → bare_type (element_in s) ≡ bare y.data_type
     by None g k = cc
     by (Some v) g k =
         let same : at_any r v ≡ y = cc in
-        element_shown s r.data_type v e g ∙ ap (λ (z : Reached). bare z.data_type) same
+        element_bare s r.data_type v e g ∙ ap (λ (z : Reached). bare z.data_type) same
 
--- what a name stands for shows the type that is known
-record SameShown (k : Known) (s : SizedName) : Type 0 where
+-- a name stands for the type that is known
+record SameType (k : Known) (s : SizedName) : Type 0 where
   name : k.name ≡ s.name
-  shown : (t : DataType) → k.data_type ≡ Some t → shown_type s.sized ≡ bare t
+  same : (t : DataType) → k.data_type ≡ Some t → bare_type s.sized ≡ bare t
 
 -- declaration by declaration
 abbrev Beside : TypedScope → SizedScope → Type 0
 Beside [] [] = Unit {0}
-Beside (k ∷ ks) (s ∷ ss) = SameShown k s × Beside ks ss
+Beside (k ∷ ks) (s ∷ ss) = SameType k s × Beside ks ss
 Beside _ _ = ⊥
 
-beside_more : (typed : TypedScope) (sized : SizedScope) (k : Known) (s : SizedName) → Beside typed sized → SameShown k s
+beside_more : (typed : TypedScope) (sized : SizedScope) (k : Known) (s : SizedName) → Beside typed sized → SameType k s
     → Beside (typed ++ k ∷ []) (sized ++ s ∷ [])
 beside_more [] [] k s h same = (same, tt)
 beside_more (x ∷ typed) (y ∷ sized) k s h same = (h.0, beside_more typed sized k s h.1 same)
@@ -134,72 +144,72 @@ beside_more [] (y ∷ sized) k s h same = absurd h
 beside_more (x ∷ typed) [] k s h same = absurd h
 
 found_beside : (typed : TypedScope) (sized : SizedScope) → Beside typed sized → (n : List ℕ) (k : Known) (t : DataType) → known typed n ≡ Some k
-    → k.data_type ≡ Some t → shown_type (sized_in sized n) ≡ bare t
+    → k.data_type ≡ Some t → bare_type (sized_in sized n) ≡ bare t
 found_beside [] [] h n k t e f = cc
 found_beside (x ∷ typed) (y ∷ sized) h n k t e f = by (bytes_eq x.name n) refl (found_beside typed sized h.1 n k t) e
   where
-    by : (b : Bool) → bytes_eq x.name n ≡ b → (known typed n ≡ Some k → k.data_type ≡ Some t → shown_type (sized_in sized n) ≡ bare t)
-        → (if b then Some x else known typed n) ≡ Some k → shown_type (sized_in (y ∷ sized) n) ≡ bare t
+    by : (b : Bool) → bytes_eq x.name n ≡ b → (known typed n ≡ Some k → k.data_type ≡ Some t → bare_type (sized_in sized n) ≡ bare t)
+        → (if b then Some x else known typed n) ≡ Some k → bare_type (sized_in (y ∷ sized) n) ≡ bare t
     by true g later i =
         let j = ap (λ (m : List ℕ). bytes_eq m n) (sym h.0.name) ∙ g in
         let same : x ≡ k = cc in
-        rw j (h.0.shown t (ap (λ (z : Known). z.data_type) same ∙ f))
+        rw j (h.0.same t (ap (λ (z : Known). z.data_type) same ∙ f))
     by false g later i = let j = ap (λ (m : List ℕ). bytes_eq m n) (sym h.0.name) ∙ g in rw j (later i f)
 found_beside [] (y ∷ sized) h n k t e f = absurd h
 found_beside (x ∷ typed) [] h n k t e f = absurd h
 
 module _ (typed : TypedScope) (sized : SizedScope) (beside : Beside typed sized) where
-  root_shown : (n : List ℕ) (r : Reached) → (root typed n).has ≡ Some r → shown_type (sized_in sized n) ≡ bare r.data_type
-  root_shown n r h = by (known typed n) refl h
+  root_bare : (n : List ℕ) (r : Reached) → (root typed n).has ≡ Some r → bare_type (sized_in sized n) ≡ bare r.data_type
+  root_bare n r h = by (known typed n) refl h
     where
       typed_as : (k : Known) (o : Option DataType) → k.data_type ≡ o → known typed n ≡ Some k
           → option_map (λ t. record { data_type = t; flow = k.flow; path = Some (named k.name ∷ []) }) o ≡ Some r
-          → shown_type (sized_in sized n) ≡ bare r.data_type
+          → bare_type (sized_in sized n) ≡ bare r.data_type
       typed_as k None e f i = cc
       typed_as k (Some t) e f i = let same : t ≡ r.data_type = cc in found_beside typed sized beside n k t f e ∙ ap bare same
 
-      by : (o : Option Known) → known typed n ≡ o → known_reached o ≡ Some r → shown_type (sized_in sized n) ≡ bare r.data_type
+      by : (o : Option Known) → known typed n ≡ o → known_reached o ≡ Some r → bare_type (sized_in sized n) ≡ bare r.data_type
       by None e i = cc
       by (Some k) e i = typed_as k k.data_type refl e i
 
   -- along the parts of a reference
-  parts_shown : (p : Place) (c : Checked Reached) (s : Sized) (ps : Parts) (r : Reached)
-      → ((b : Reached) → c.has ≡ Some b → shown_type s ≡ bare b.data_type) → (along_parts typed p c ps).has ≡ Some r
-      → shown_type (sized_part s ps) ≡ bare r.data_type
-  parts_shown p c s no_parts r here h = here r h
-  parts_shown p c s (subfield first q x rest) r here h =
-      parts_shown p (field_form p x c) (sized_found (sized_named x (fields_in s))) rest r
+  parts_bare : (p : Place) (c : Checked Reached) (s : Sized) (ps : Parts) (r : Reached)
+      → ((b : Reached) → c.has ≡ Some b → bare_type s ≡ bare b.data_type) → (along_parts typed p c ps).has ≡ Some r
+      → bare_type (sized_part s ps) ≡ bare r.data_type
+  parts_bare p c s no_parts r here h = here r h
+  parts_bare p c s (subfield first q x rest) r here h =
+      parts_bare p (field_form p x c) (sized_found (sized_named x (fields_in s))) rest r
       (λ b e. let a = after_has c (to_field p x) b e in field_step p x s a.0 b (here a.0 a.1) a.2) h
-  parts_shown p c s (subindex first q i rest) r here h =
-      parts_shown p (index_form p i c) (element_in s) rest r
+  parts_bare p c s (subindex first q i rest) r here h =
+      parts_bare p (index_form p i c) (element_in s) rest r
       (λ b e. let a = after_has c (to_index p i) b e in index_step p i s a.0 b (here a.0 a.1) a.2) h
-  parts_shown p c s (subaccess first e rest) r here h =
+  parts_bare p c s (subaccess first e rest) r here h =
       let index = condition_form (place_of e) (expression_type typed e) in
-      parts_shown p (access_form p c index) (element_in s) rest r
+      parts_bare p (access_form p c index) (element_in s) rest r
       (λ b g.
       let a = after_has (together (λ (x : Reached) (t : DataType). x) c index) (to_any p) b g in
       let j = joined_has (λ (x : Reached) (t : DataType). x) c.has index.has a.0 a.1 in
       any_step p s a.0 b (here a.0 (j.2 ∙ ap Some j.4)) a.2) h
 
   mutual
-    type_shown : (e : Expression) (t : DataType) → (expression_type typed e).has ≡ Some t → shown_type (sized_type sized e) ≡ bare t
-    type_shown (reference p n ps) t h = by (along_parts typed p (root typed n) ps).has refl h
+    type_bare : (e : Expression) (t : DataType) → (expression_type typed e).has ≡ Some t → bare_type (sized_type sized e) ≡ bare t
+    type_bare (reference p n ps) t h = by (along_parts typed p (root typed n) ps).has refl h
       where
         by : (o : Option Reached) → (along_parts typed p (root typed n) ps).has ≡ o → option_map (λ (r : Reached). r.data_type) o ≡ Some t
-            → shown_type (sized_part (sized_in sized n) ps) ≡ bare t
+            → bare_type (sized_part (sized_in sized n) ps) ≡ bare t
         by None e k = cc
         by (Some r) e k =
             let same : r.data_type ≡ t = cc in
-            parts_shown p (root typed n) (sized_in sized n) ps r (root_shown n) e ∙ ap bare same
-    type_shown (literal l) t h =
+            parts_bare p (root typed n) (sized_in sized n) ps r (root_bare n) e ∙ ap bare same
+    type_bare (literal l) t h =
         let same : number_type l.signed l.width ≡ t = cc in
-        number_shows l.signed l.width (known_width (literal_width l)) ∙ ap bare same
-    type_shown (operation p op es ks) t h =
+        number_bare l.signed l.width (known_width (literal_width l)) ∙ ap bare same
+    type_bare (operation p op es ks) t h =
         let a = after_has (expression_types typed es) (type_of_operation p op ks) t h in
         let o = operation_gives p op ks a.0 t a.2 in
         let same = first_signed (is_conversion op) es a.0 o.0 a.1 o.1 in
-        result_shows op o.0 (is_signed (first_sized (sized_types sized es))) (operation_width op (sized_types sized es) ks) same ∙ ap bare (sym o.2)
-    type_shown (mux p c a b) t h =
+        result_bare op o.0 (is_signed (first_sized (sized_types sized es))) (operation_width op (sized_types sized es) ks) same ∙ ap bare (sym o.2)
+    type_bare (mux p c a b) t h =
         let form_c = condition_form (place_of c) (expression_type typed c) in
         let form_a = passive_form (place_of a) (expression_type typed a) in
         let form_b = passive_form (place_of b) (expression_type typed b) in
@@ -207,21 +217,17 @@ module _ (typed : TypedScope) (sized : SizedScope) (beside : Beside typed sized)
         let m = after_has (together (λ (u : DataType) (v : DataType × DataType). v) form_c arms) (type_of_mux p) t h in
         let j = joined_has (λ (u : DataType) (v : DataType × DataType). v) form_c.has arms.has m.0 m.1 in
         let i = joined_has (λ (u v : DataType). (u, v)) form_a.has form_b.has j.1 j.3 in
-        let arm = type_shown a i.0 (passive_has typed a i.0 i.2) in
-        let gives = mux_gives p m.0.0 m.0.1 t m.2 in
-        let first : i.0 ≡ m.0.0 = ap (λ (v : DataType × DataType). v.0) (i.4 ∙ j.4) in
+        let arm = type_bare a i.0 (passive_has typed a i.0 i.2) in
         let s = sized_type sized a in
-        guarded_shows (width_in (sized_type sized c)) (greater_of s (sized_type sized b))
-        ∙ (greater_shows s (sized_type sized b) ∙ (arm ∙ (sym (bare_again i.0) ∙ ap bare (ap bare first ∙ sym gives))))
-    type_shown (validif p c a) t h =
+        guarded_bare (width_in (sized_type sized c)) (greater_of s (sized_type sized b))
+        ∙ (greater_bare s (sized_type sized b) ∙ (arm ∙ mux_bare p i.0 i.1 j.1 m.0 t i.4 j.4 m.2))
+    type_bare (validif p c a) t h =
         let form_c = condition_form (place_of c) (expression_type typed c) in
         let form_a = passive_form (place_of a) (expression_type typed a) in
         let m = after_has (together (λ (u v : DataType). v) form_c form_a) (type_of_validif p) t h in
         let j = joined_has (λ (u v : DataType). v) form_c.has form_a.has m.0 m.1 in
-        let arm = type_shown a j.1 (passive_has typed a j.1 j.3) in
-        let gives = validif_gives p m.0 t m.2 in
-        let s = sized_type sized a in
-        guarded_shows (width_in (sized_type sized c)) s ∙ (arm ∙ (sym (bare_again j.1) ∙ ap bare (ap bare j.4 ∙ sym gives)))
+        let arm = type_bare a j.1 (passive_has typed a j.1 j.3) in
+        guarded_bare (width_in (sized_type sized c)) (sized_type sized a) ∙ (arm ∙ validif_bare p j.1 m.0 t j.4 m.2)
 
     first_signed : (resets : Bool) (es : Expressions) (ts : List DataType) (kinds : List NumTy) → (expression_types typed es).has ≡ Some ts
         → operand_kinds resets ts ≡ Some kinds → is_signed (first_sized (sized_types sized es)) ≡ (first_type kinds).signed
@@ -234,33 +240,33 @@ module _ (typed : TypedScope) (sized : SizedScope) (beside : Beside typed sized)
         let j = joined_has (λ (u : DataType) (us : List DataType). u ∷ us) (expression_type typed e).has (expression_types typed es).has ts h in
         let here : operand_kinds resets (j.0 ∷ j.1) ≡ Some kinds = subst (λ us. operand_kinds resets us ≡ Some kinds) (sym j.4) k in
         let i = joined_has (λ (s : NumTy) (ss : List NumTy). s ∷ ss) (operand_kind resets j.0) (operand_kinds resets j.1) kinds here in
-        operand_signed resets (sized_type sized e) j.0 i.0 (type_shown e j.0 j.2) i.2 ∙ ap (λ us. (first_type us).signed) i.4
+        operand_signed resets (sized_type sized e) j.0 i.0 (type_bare e j.0 j.2) i.2 ∙ ap (λ us. (first_type us).signed) i.4
 
--- an instance shows its module's ports
-instance_shown : (k : ℕ) (modules : List ModuleTree) (name : List ℕ) (t : DataType) → instance_type modules name ≡ Some t
-    → shown_type (instance_from k modules name) ≡ bare t
-instance_shown k [] name t h = cc
-instance_shown k (m ∷ ms) name t h = by (bytes_eq m.named.name name) refl (instance_shown (k + port_numbers m) ms name t) h
+-- an instance has its module's ports
+instance_bare : (k : ℕ) (modules : List ModuleTree) (name : List ℕ) (t : DataType) → instance_type modules name ≡ Some t
+    → bare_type (instance_from k modules name) ≡ bare t
+instance_bare k [] name t h = cc
+instance_bare k (m ∷ ms) name t h = by (bytes_eq m.named.name name) refl (instance_bare (k + port_numbers m) ms name t) h
   where
-    by : (b : Bool) → bytes_eq m.named.name name ≡ b → (instance_type ms name ≡ Some t → shown_type (instance_from (k + port_numbers m) ms name) ≡ bare t)
+    by : (b : Bool) → bytes_eq m.named.name name ≡ b → (instance_type ms name ≡ Some t → bare_type (instance_from (k + port_numbers m) ms name) ≡ bare t)
         → option_map instance_bundle (if b then Some m else find_module ms name) ≡ Some t
-        → shown_type (instance_from k (m ∷ ms) name) ≡ bare t
-    by true g later i = let same : instance_bundle m ≡ t = cc in rw g (numbered_shows (Some k) (instance_bundle m) ∙ ap bare same)
+        → bare_type (instance_from k (m ∷ ms) name) ≡ bare t
+    by true g later i = let same : instance_bundle m ≡ t = cc in rw g (numbered_bare (Some k) (instance_bundle m) ∙ ap bare same)
     by false g later i = rw g (later i)
 
-written_shown : (o : Option DataType) (t : DataType) → o ≡ Some t → shown_type (as_written o) ≡ bare t
-written_shown None t e = cc
-written_shown (Some u) t e = let same : u ≡ t = cc in numbered_shows None u ∙ ap bare same
+written_bare : (o : Option DataType) (t : DataType) → o ≡ Some t → bare_type (as_written o) ≡ bare t
+written_bare None t e = cc
+written_bare (Some u) t e = let same : u ≡ t = cc in numbered_bare None u ∙ ap bare same
 
-component_shown : (modules : List ModuleTree) (typed : TypedScope) (numbers : Numbering) → Beside typed numbers.scope → (p : Place) (c : Component) (t : DataType)
-    → component_type modules typed p c ≡ Some t → shown_type (sized_component modules numbers p c) ≡ bare t
-component_shown modules typed numbers beside p (port d u) t h = let same : u ≡ t = cc in numbered_shows (Some numbers.port) u ∙ ap bare same
-component_shown modules typed numbers beside p (wire u) t h = let same : u ≡ t = cc in numbered_shows (Some numbers.next) u ∙ ap bare same
-component_shown modules typed numbers beside p (register u) t h = let same : u ≡ t = cc in numbered_shows (Some numbers.next) u ∙ ap bare same
-component_shown modules typed numbers beside p (node e) t h =
-    renumbered_shows numbers.next (sized_type numbers.scope e) t (type_shown typed numbers.scope beside e t h)
-component_shown modules typed numbers beside p (instance name) t h = instance_shown 0 modules name t h
-component_shown modules typed numbers beside p (memory parts) t h = written_shown (memory_type p parts) t h
+component_bare : (modules : List ModuleTree) (typed : TypedScope) (numbers : Numbering) → Beside typed numbers.scope → (p : Place) (c : Component) (t : DataType)
+    → component_type modules typed p c ≡ Some t → bare_type (sized_component modules numbers p c) ≡ bare t
+component_bare modules typed numbers beside p (port d u) t h = let same : u ≡ t = cc in numbered_bare (Some numbers.port) u ∙ ap bare same
+component_bare modules typed numbers beside p (wire u) t h = let same : u ≡ t = cc in numbered_bare (Some numbers.next) u ∙ ap bare same
+component_bare modules typed numbers beside p (register u) t h = let same : u ≡ t = cc in numbered_bare (Some numbers.next) u ∙ ap bare same
+component_bare modules typed numbers beside p (node e) t h =
+    renumbered_bare numbers.next (sized_type numbers.scope e) t (type_bare typed numbers.scope beside e t h)
+component_bare modules typed numbers beside p (instance name) t h = instance_bare 0 modules name t h
+component_bare modules typed numbers beside p (memory parts) t h = written_bare (memory_type p parts) t h
 
 behind_beside : (modules : List ModuleTree) (typed : TypedScope) (numbers : Numbering) (ds : Declarations) → Beside typed numbers.scope
     → Beside (typed_behind modules typed ds) (numbered_behind modules numbers ds).scope
@@ -268,9 +274,9 @@ behind_beside modules typed numbers [] beside = beside
 behind_beside modules typed numbers (d ∷ ds) beside =
     behind_beside modules (typed ++ known_as modules typed d ∷ []) (numbered_with modules numbers d) ds
     (beside_more typed numbers.scope (known_as modules typed d) (record { name = d.named.name; sized = sized_component modules numbers d.named.place d.component }) beside
-    (record { name = refl; shown = component_shown modules typed numbers beside d.named.place d.component }))
+    (record { name = refl; same = component_bare modules typed numbers beside d.named.place d.component }))
 
 pub sized_as_typed : SizedAsTyped
 sized_as_typed modules numbers ds e t none h =
-    type_shown (typed_scope modules ds) (numbered_behind modules numbers ds).scope
+    type_bare (typed_scope modules ds) (numbered_behind modules numbers ds).scope
     (behind_beside modules [] numbers ds (subst (Beside []) (sym none) tt)) e t h

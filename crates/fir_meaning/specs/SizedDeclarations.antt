@@ -9,7 +9,7 @@ use Rattle.fir_ast.specs.Circuits.{ModuleTree, CircuitTree}
 use Rattle.fir_meaning.specs.Components.{Component, port, wire, register, node, instance, memory, Declaration, Declarations}
 use Rattle.fir_meaning.specs.Visibility.{Before, declarations}
 use Rattle.fir_meaning.specs.ComponentTypes.{instance_bundle}
-use Rattle.fir_meaning.specs.SizedTypes.{Sized, untyped, number_count, numbered, shown_type, renumbered}
+use Rattle.fir_meaning.specs.SizedTypes.{Sized, untyped, number_count, numbered, bare_type, renumbered}
 use Rattle.fir_meaning.specs.SizedScopes.{SizedScope, sized_type}
 use Rattle.fir_meaning.specs.SizedMemories.{sized_memory}
 
@@ -51,7 +51,7 @@ taken_of_ports _ = 0
 abbrev pub taken_of_bodies : SizedScope → Component → ℕ
 taken_of_bodies scope (wire t) = number_count t
 taken_of_bodies scope (register t) = number_count t
-taken_of_bodies scope (node e) = number_count (shown_type (sized_type scope e))
+taken_of_bodies scope (node e) = number_count (bare_type (sized_type scope e))
 taken_of_bodies scope _ = 0
 
 abbrev pub numbered_with : List ModuleTree → Numbering → Declaration → Numbering
@@ -66,8 +66,8 @@ abbrev pub numbered_behind : List ModuleTree → Numbering → Declarations → 
 numbered_behind modules numbers [] = numbers
 numbered_behind modules numbers (d ∷ ds) = numbered_behind modules (numbered_with modules numbers d) ds
 
--- a module of a circuit, with the numbers from which its leaves are counted
-pub record Placed : Type 0 where
+-- a module among those of its circuit, and the numbers from which its leaves are counted
+pub record NumberedModule : Type 0 where
   pub modules : List ModuleTree
   pub inside : ModuleTree
   pub start : Numbering
@@ -75,24 +75,24 @@ pub record Placed : Type 0 where
 abbrev pub behind_module : List ModuleTree → Numbering → ModuleTree → Numbering
 behind_module modules numbers m = record (numbered_behind modules numbers (declarations m)) { scope = [] }
 
-abbrev pub placed_from : List ModuleTree → Numbering → List ModuleTree → List Placed
-placed_from modules numbers [] = []
-placed_from modules numbers (m ∷ ms) =
-    record { modules = modules; inside = m; start = numbers } ∷ placed_from modules (behind_module modules numbers m) ms
+abbrev pub modules_from : List ModuleTree → Numbering → List ModuleTree → List NumberedModule
+modules_from modules numbers [] = []
+modules_from modules numbers (m ∷ ms) =
+    record { modules = modules; inside = m; start = numbers } ∷ modules_from modules (behind_module modules numbers m) ms
 
 abbrev pub first_numbers : List ModuleTree → Numbering
 first_numbers modules = record { port = 0; next = all_port_numbers modules; scope = [] }
 
-abbrev pub placed_modules : CircuitTree → List Placed
-placed_modules c = placed_from c.modules (first_numbers c.modules) c.modules
+abbrev pub numbered_modules : CircuitTree → List NumberedModule
+numbered_modules c = modules_from c.modules (first_numbers c.modules) c.modules
 
 -- the numbers before a place of a module, and what is declared there
-abbrev pub numbers_at : Placed → Before → Numbering
+abbrev pub numbers_at : NumberedModule → Before → Numbering
 numbers_at m before = numbered_behind m.modules m.start before.declared
 
-abbrev pub sized_at : Placed → Before → SizedScope
+abbrev pub sized_at : NumberedModule → Before → SizedScope
 sized_at m before = (numbers_at m before).scope
 
 -- the type of a component that is declared at the place
-abbrev pub sized_declared : Placed → Before → PlacedName → Component → Sized
+abbrev pub sized_declared : NumberedModule → Before → PlacedName → Component → Sized
 sized_declared m before n component = sized_component m.modules (numbers_at m before) n.place component

@@ -65,24 +65,24 @@ abbrev mutual
   numbered_fields at no_fields = no_sized_fields
   numbered_fields at (field p flip x begins t rest) = sized_field p flip x begins (numbered at t) (numbered_fields (past (number_count t) at) rest)
 
--- the type that is shown, without widths
+-- the type without its widths
 abbrev mutual
-  pub shown_type : Sized → DataType
-  shown_type (scalar unsigned w) = uint None
-  shown_type (scalar signed w) = sint None
-  shown_type (scalar clock_scalar w) = clock
-  shown_type (scalar reset_scalar w) = reset
-  shown_type (scalar async_scalar w) = async_reset
-  shown_type (sized_bundle fs) = bundle (shown_fields fs)
-  shown_type (sized_vector t n) = vector (shown_type t) n
+  pub bare_type : Sized → DataType
+  bare_type (scalar unsigned w) = uint None
+  bare_type (scalar signed w) = sint None
+  bare_type (scalar clock_scalar w) = clock
+  bare_type (scalar reset_scalar w) = reset
+  bare_type (scalar async_scalar w) = async_reset
+  bare_type (sized_bundle fs) = bundle (bare_type_fields fs)
+  bare_type (sized_vector t n) = vector (bare_type t) n
 
-  pub shown_fields : SizedFields → Fields
-  shown_fields no_sized_fields = no_fields
-  shown_fields (sized_field p flip x begins t rest) = field p flip x begins (shown_type t) (shown_fields rest)
+  pub bare_type_fields : SizedFields → Fields
+  bare_type_fields no_sized_fields = no_fields
+  bare_type_fields (sized_field p flip x begins t rest) = field p flip x begins (bare_type t) (bare_type_fields rest)
 
 -- the type of a node whose expression has this type: of the same shape, with unknowns of its own
 abbrev pub renumbered : ℕ → Sized → Sized
-renumbered k t = numbered (Some k) (shown_type t)
+renumbered k t = numbered (Some k) (bare_type t)
 
 -- the first field of that name
 abbrev pub sized_named : List ℕ → SizedFields → Option Sized

@@ -9,7 +9,7 @@ use Rattle.fir_meaning.specs.WidthExpressions.{Width, unknown, Widths, Rule, IsL
 use Rattle.fir_meaning.specs.SizedTypes.{Sized}
 use Rattle.fir_meaning.specs.SizedMatches.{matches}
 use Rattle.fir_meaning.specs.SizedScopes.{SizedScope, sized_type, sink_expression}
-use Rattle.fir_meaning.specs.SizedDeclarations.{Placed, placed_modules, sized_at, sized_declared}
+use Rattle.fir_meaning.specs.SizedDeclarations.{NumberedModule, numbered_modules, sized_at, sized_declared}
 
 -- a written width asks for nothing
 abbrev pub bound : Width → Width → List Rule
@@ -24,7 +24,7 @@ init_rules t scope None = []
 init_rules t scope (Some r) = connect_rules t (sized_type scope r.init)
 
 abbrev mutual
-  pub rules_in : Placed → Before → Statement → List Rule
+  pub rules_in : NumberedModule → Before → Statement → List Rule
   rules_in m before (register p n begins t c r) =
       init_rules
       (sized_declared m before n (component.register t))
@@ -36,12 +36,12 @@ abbrev mutual
   rules_in m before (partial_connect p sink e) = connect_rules (sized_type (sized_at m before) (sink_expression sink)) (sized_type (sized_at m before) e)
   rules_in m before _ = []
 
-  pub rules_in_block : Placed → Before → Block → List Rule
+  pub rules_in_block : NumberedModule → Before → Block → List Rule
   rules_in_block m before done = []
   rules_in_block m before ((then) s b) = rules_in m before s ++ rules_in_block m (behind before s) b
 
 abbrev pub rules : CircuitTree → List Rule
-rules c = flat_map (λ m. rules_in_block m (behind_ports at_head m.inside.ports) m.inside.body) (placed_modules c)
+rules c = flat_map (λ m. rules_in_block m (behind_ports at_head m.inside.ports) m.inside.body) (numbered_modules c)
 
 -- the widths of a circuit: the least assignment that meets all rules
 abbrev pub AreWidths : CircuitTree → Widths → Type 0

@@ -10,7 +10,7 @@ use Rattle.fir_meaning.specs.Components as component
 use Rattle.fir_meaning.specs.Visibility.{Before, with_declaration, opened, reopened, behind, behind_block, behind_ports, at_head}
 use Rattle.fir_meaning.specs.SizedTypes.{Sized}
 use Rattle.fir_meaning.specs.SizedScopes.{SizedScope, sink_expression}
-use Rattle.fir_meaning.specs.SizedDeclarations.{Placed, placed_modules, sized_at, sized_declared}
+use Rattle.fir_meaning.specs.SizedDeclarations.{NumberedModule, numbered_modules, sized_at, sized_declared}
 
 -- which faults a component of a module, an expression and a condition show
 pub record FaultRule : Type 0 where
@@ -45,12 +45,12 @@ shown_within_reset rule scope (Some r) =
     shown_within rule scope r.condition ++ rule.of_condition scope r.condition ++ shown_within rule scope r.init
 
 -- of a component that is declared at the place
-abbrev pub shown_at : FaultRule → Placed → Before → PlacedName → Component → List Fault
+abbrev pub shown_at : FaultRule → NumberedModule → Before → PlacedName → Component → List Fault
 shown_at rule m before n c = rule.of_component m.inside n c (sized_declared m before n c)
 
 -- a register is known in its reset, and not in its clock
 abbrev mutual
-  pub shown_in : FaultRule → Placed → Before → Statement → List Fault
+  pub shown_in : FaultRule → NumberedModule → Before → Statement → List Fault
   shown_in rule m before (wire p n begins t) = shown_at rule m before n (component.wire t)
   shown_in rule m before (register p n begins t c r) =
       shown_at rule m before n (component.register t) ++ shown_within rule (sized_at m before) c
@@ -66,19 +66,19 @@ abbrev mutual
   shown_in rule m before (invalid p sink) = shown_within rule (sized_at m before) (sink_expression sink)
   shown_in rule m before (skip p) = []
 
-  pub shown_in_block : FaultRule → Placed → Before → Block → List Fault
+  pub shown_in_block : FaultRule → NumberedModule → Before → Block → List Fault
   shown_in_block rule m before done = []
   shown_in_block rule m before ((then) s b) = shown_in rule m before s ++ shown_in_block rule m (behind before s) b
 
-abbrev pub shown_in_ports : FaultRule → Placed → Before → List PortTree → List Fault
+abbrev pub shown_in_ports : FaultRule → NumberedModule → Before → List PortTree → List Fault
 shown_in_ports rule m before [] = []
 shown_in_ports rule m before (p ∷ ps) =
     shown_at rule m before p.named (component.port p.direction p.data_type)
     ++ shown_in_ports rule m (with_declaration before p.named (component.port p.direction p.data_type)) ps
 
-abbrev pub shown_in_module : FaultRule → Placed → List Fault
+abbrev pub shown_in_module : FaultRule → NumberedModule → List Fault
 shown_in_module rule m =
     shown_in_ports rule m at_head m.inside.ports ++ shown_in_block rule m (behind_ports at_head m.inside.ports) m.inside.body
 
 abbrev pub shown_in_circuit : FaultRule → CircuitTree → List Fault
-shown_in_circuit rule c = flat_map (shown_in_module rule) (placed_modules c)
+shown_in_circuit rule c = flat_map (shown_in_module rule) (numbered_modules c)

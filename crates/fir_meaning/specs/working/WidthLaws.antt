@@ -9,7 +9,7 @@ use Rattle.fir_meaning.specs.TypeKinds.{bare}
 use Rattle.fir_meaning.specs.ExpressionTypes.{expression_type}
 use Rattle.fir_meaning.specs.ComponentTypes.{typed_scope}
 use Rattle.fir_meaning.specs.WidthExpressions.{Widths, Width, width_of, Rule, Meets, IsLeastOf}
-use Rattle.fir_meaning.specs.SizedTypes.{shown_type}
+use Rattle.fir_meaning.specs.SizedTypes.{bare_type}
 use Rattle.fir_meaning.specs.SizedScopes.{sized_type}
 use Rattle.fir_meaning.specs.SizedDeclarations.{Numbering, numbered_behind}
 use Rattle.fir_meaning.specs.WidthRules.{rules, AreWidths}
@@ -40,8 +40,8 @@ abbrev pub OverIsExact : Type 0
 OverIsExact =
     (c : CircuitTree) (w : Widths) → AreWidths c w → ((v : Widths) × Meets (rules c) v × (over_faults c v ≡ [])) ↔ (over_faults c w ≡ [])
 
--- where an expression has a type, its sized type shows the same type without widths, in the scopes of the same declarations
+-- where an expression has a type, its sized type is the same without widths, in the scopes of the same declarations
 abbrev pub SizedAsTyped : Type 0
 SizedAsTyped =
     (modules : List ModuleTree) (numbers : Numbering) (ds : Declarations) (e : Expression) (t : DataType) → numbers.scope ≡ []
-    → (expression_type (typed_scope modules ds) e).has ≡ Some t → shown_type (sized_type (numbered_behind modules numbers ds).scope e) ≡ bare t
+    → (expression_type (typed_scope modules ds) e).has ≡ Some t → bare_type (sized_type (numbered_behind modules numbers ds).scope e) ≡ bare t
