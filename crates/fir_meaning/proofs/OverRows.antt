@@ -5,14 +5,14 @@ use Rattle.fir_bits.specs.declared.operators.PrimOp.TheVariants as op
 use Rattle.fir_bits.specs.Literals.{least_width}
 use Rattle.fir_ast.specs.Types.{uint, bundle, vector, no_fields}
 use Rattle.fir_ast.specs.Expressions.{Expression, no_parts, subaccess, mux, validif}
-use Rattle.fir_ast.specs.Statements.{Statement, MemoryPart, instance, memory, data_type, depth, reader}
+use Rattle.fir_ast.specs.Statements.{Statement, MemoryPart, instance, memory, when, invalid, data_type, depth, reader}
 use Rattle.fir_ast.specs.Circuits.{PortTree, CircuitTree}
 use Rattle.fir_meaning.specs.LeafPaths.{named, element}
 use Rattle.fir_meaning.specs.WidthExpressions.{known, pair, guarded as guarded_width, width_of}
 use Rattle.fir_meaning.specs.WidthRules.{rules, AreWidths}
 use Rattle.fir_meaning.specs.SizeFaults.{word_over, leaf_over}
 use Rattle.fir_meaning.specs.OverFaults.{over_faults}
-use Rattle.fir_meaning.proofs.SmallTrees.{at, name_at, input, output, part_of, ref, picked_of, field_of, uint_literal, one, two, wire_at, node_at, assign_to, assign, module_at, circuit, main_only}
+use Rattle.fir_meaning.proofs.SmallTrees.{at, name_at, input, output, part_of, ref, picked_of, field_of, uint_literal, one, two, wire_at, node_at, assign_to, assign, block, module_at, circuit, main_only}
 use Rattle.fir_meaning.proofs.WidthRows.{growing}
 use Rattle.fir_meaning.proofs.LeastRows.{grown, only, one_rule}
 
@@ -189,3 +189,15 @@ empty_words = data_type (at 5 7) (at 5 20) (vector (uint (Some 200)) 0)
 
 pub empty_array_over : over_faults (with_memory (empty_words ∷ [])) (λ k. 0) ≡ []
 empty_array_over = refl
+
+-- in both blocks of a when, and as what is invalid
+abbrev inside : CircuitTree
+inside =
+    with_empty
+    (when (at 8 5) (ref 8 10 (codes "i"))
+    (block (invalid (at 9 7) (record { place = at 9 7; name = codes "v"; parts = subaccess (at 9 8) (ref 9 9 (codes "i")) no_parts }) ∷ []))
+    (block (wire_at 11 12 (codes "u") (uint (Some 300)) ∷ [])) ∷ [])
+
+pub inside_over : over_faults inside (λ k. 0)
+    ≡ leaf_over (at 9 7) (named (codes "v") ∷ element 0 ∷ []) ∷ leaf_over (at 11 12) (named (codes "u") ∷ []) ∷ []
+inside_over = refl

@@ -5,11 +5,11 @@ use Rattle.fir_bits.specs.declared.operators.PrimOp.TheVariants as op
 use Rattle.fir_bits.specs.Literals.{least_width}
 use Rattle.fir_ast.specs.Types.{uint, sint, clock, reset, bundle, vector, no_fields}
 use Rattle.fir_ast.specs.Expressions.{no_parts, subfield, subindex, subaccess, mux}
-use Rattle.fir_ast.specs.Statements.{register, instance, partial_connect}
+use Rattle.fir_ast.specs.Statements.{register, instance, partial_connect, when}
 use Rattle.fir_ast.specs.Circuits.{CircuitTree}
 use Rattle.fir_meaning.specs.WidthExpressions.{known, unknown, single, pair, greater, guarded, width_of}
 use Rattle.fir_meaning.specs.WidthRules.{rules}
-use Rattle.fir_meaning.proofs.SmallTrees.{at, name_at, input, output, part_of, ref, element_of, picked_of, field_of, uint_literal, one, two, wire_at, node_at, assign_to, assign, module_at, circuit, main_only}
+use Rattle.fir_meaning.proofs.SmallTrees.{at, name_at, input, output, part_of, ref, element_of, picked_of, field_of, uint_literal, one, two, wire_at, node_at, assign_to, assign, block, module_at, circuit, main_only}
 
 -- a register without a width that grows by one each tick
 abbrev pub growing : CircuitTree
@@ -125,3 +125,29 @@ literals =
 pub literals_rules : rules literals ≡ record { number = 0; at_least = known 4 } ∷ record { number = 0; at_least = known 1 } ∷ []
 unfolding least_width
 literals_rules = refl
+
+-- an instance has the numbers of its own module's ports, wherever that stands
+abbrev third : CircuitTree
+third =
+    circuit
+    (module_at 2 10 (codes "T") (output 3 12 (codes "o") (uint None) ∷ [])
+    (instance (at 4 5) (name_at 4 10 (codes "i")) (name_at 4 15 (codes "B")) ∷ assign 5 5 (codes "o") (field_of 5 10 (codes "i") (codes "y")) ∷ [])
+    ∷ module_at 6 10 (codes "A") (output 7 12 (codes "y") (uint None) ∷ output 8 12 (codes "z") (vector (uint None) 3) ∷ []) []
+    ∷ module_at 9 10 (codes "B") (output 10 12 (codes "y") (uint None) ∷ []) (assign 11 5 (codes "y") (uint_literal 11 10 (Some 6) 1) ∷ []) ∷ [])
+
+pub third_rules : rules third ≡ record { number = 0; at_least = unknown 3 } ∷ record { number = 3; at_least = known 6 } ∷ []
+third_rules = refl
+
+-- both blocks of a when make rules, and what they declare is numbered on
+abbrev inside : CircuitTree
+inside =
+    main_only (input 3 11 (codes "a") (uint (Some 1)) ∷ [])
+    (when (at 4 5) (ref 4 10 (codes "a"))
+    (block (wire_at 5 7 (codes "u") (uint None) ∷ assign 6 7 (codes "u") (ref 6 12 (codes "a")) ∷ []))
+    (block (wire_at 8 7 (codes "v") (uint None) ∷ assign 9 7 (codes "v") (two 9 12 op.Mul (ref 9 16 (codes "a")) (ref 9 19 (codes "a"))) ∷ []))
+    ∷ node_at 10 5 (codes "n") (ref 10 14 (codes "a")) ∷ [])
+
+pub inside_rules : rules inside
+    ≡ record { number = 1; at_least = known 1 } ∷ record { number = 2; at_least = pair op.Mul false (known 1) (known 1) }
+    ∷ record { number = 3; at_least = known 1 } ∷ []
+inside_rules = refl

@@ -1,4 +1,4 @@
--- The faults of widths, E19 to E22, each with its place and its evidence.
+-- The faults of widths, E19 to E22, each with its place and its evidence (FIRRTL spec, "Width Inference", "Primitive Operations", "Conditionals").
 use Rattle.std.specs.Prelude.{ℕ, List, ◌++◌, flat_map, codes, decimal, Bool}
 use Rattle.fir_bits.specs.declared.operators.PrimOp.{PrimOp}
 use Rattle.fir_bits.specs.OperatorWords.{operator_word}

@@ -1,5 +1,5 @@
--- Where faults of widths are looked for, in the order of the text. In one expression operands come before the operator, and an index is an operand of its
--- reference; a condition is tested behind the faults inside it, before what it chooses. A declaration comes before its expressions.
+-- Where faults of widths are looked for, in the order of the text (FIRRTL spec, "Statements", "Expressions"). In one expression operands come before the
+-- operator, and an index is an operand of its reference; a condition is tested behind the faults inside it, before what it chooses.
 use Rattle.std.specs.Prelude.{List, [], ◌∷◌, ◌++◌, flat_map, Option, Some, None}
 use Rattle.fir_ast.specs.Expressions.{Expression, reference, literal, operation, mux, validif, Parts, no_parts, subfield, subindex, subaccess, Expressions, no_expressions, expression}
 use Rattle.fir_ast.specs.Statements.{PlacedName, Reset, Statement, wire, register, node, instance, memory, when, connect, partial_connect, invalid, skip, Block, done, then}
