@@ -11,9 +11,10 @@ use Rattle.fir_meaning.specs.TypeKinds.{bare, bare_fields, FieldFound, field_nam
 use Rattle.fir_meaning.specs.OperationTypes.{operand_kind, ground_of, result_of}
 use Rattle.fir_meaning.specs.ExpressionTypes.{number_type}
 use Rattle.fir_meaning.specs.Reaching.{field_of_type, vector_of_type}
-use Rattle.fir_meaning.specs.WidthExpressions.{Width}
-use Rattle.fir_meaning.specs.SizedTypes.{Scalar, unsigned, signed, clock_scalar, reset_scalar, async_scalar, Sized, scalar, sized_bundle, sized_vector, SizedFields, no_sized_fields, sized_field, number_count, past, numbered, numbered_fields, bare_type, bare_type_fields, renumbered, sized_named, sized_found, fields_in, element_in}
-use Rattle.fir_meaning.specs.SizedOperations.{number_scalar, is_signed, result_scalar, greater_of, greater_fields, guarded_by, guarded_fields}
+use Rattle.fir_meaning.specs.working.SharedLeaves.{shared_count}
+use Rattle.fir_meaning.specs.working.WidthExpressions.{Width}
+use Rattle.fir_meaning.specs.working.SizedTypes.{Scalar, unsigned, signed, clock_scalar, reset_scalar, async_scalar, Sized, scalar, sized_bundle, sized_vector, SizedFields, no_sized_fields, sized_field, past, numbered, numbered_fields, bare_type, bare_type_fields, renumbered, sized_named, sized_found, fields_in, element_in}
+use Rattle.fir_meaning.specs.working.SizedOperations.{number_scalar, is_signed, result_scalar, greater_of, greater_fields, guarded_by, guarded_fields}
 
 -- the type that is written
 mutual
@@ -29,7 +30,7 @@ mutual
   numbered_fields_bare : (at : Option ℕ) (fs : Fields) → bare_type_fields (numbered_fields at fs) ≡ bare_fields fs
   numbered_fields_bare at no_fields = refl
   numbered_fields_bare at (field p flip x begins t rest) =
-      rw (numbered_bare at t, numbered_fields_bare (past (number_count t) at) rest) refl
+      rw (numbered_bare at t, numbered_fields_bare (past (shared_count t) at) rest) refl
 
 mutual
   pub bare_again : (t : DataType) → bare (bare t) ≡ bare t

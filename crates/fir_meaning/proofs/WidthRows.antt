@@ -4,11 +4,11 @@ use Rattle.std.specs.Prelude.{codes}
 use Rattle.fir_bits.specs.declared.operators.PrimOp.TheVariants as op
 use Rattle.fir_bits.specs.Literals.{least_width}
 use Rattle.fir_ast.specs.Types.{uint, sint, clock, reset, bundle, vector, no_fields}
-use Rattle.fir_ast.specs.Expressions.{no_parts, subfield, subindex, subaccess, mux}
-use Rattle.fir_ast.specs.Statements.{register, instance, partial_connect, when}
+use Rattle.fir_ast.specs.Expressions.{reference, no_parts, subfield, subindex, subaccess, mux}
+use Rattle.fir_ast.specs.Statements.{register, instance, memory, partial_connect, when, data_type, depth, reader}
 use Rattle.fir_ast.specs.Circuits.{CircuitTree}
-use Rattle.fir_meaning.specs.WidthExpressions.{known, unknown, single, pair, greater, guarded, width_of}
-use Rattle.fir_meaning.specs.WidthRules.{rules}
+use Rattle.fir_meaning.specs.working.WidthExpressions.{known, unknown, single, pair, greater, guarded, width_of}
+use Rattle.fir_meaning.specs.working.WidthRules.{rules}
 use Rattle.fir_meaning.proofs.SmallTrees.{at, name_at, input, output, part_of, ref, element_of, picked_of, field_of, uint_literal, one, two, wire_at, node_at, assign_to, assign, block, module_at, circuit, main_only}
 
 -- a register without a width that grows by one each tick
@@ -137,6 +137,25 @@ third =
 
 pub third_rules : rules third ≡ record { number = 0; at_least = unknown 3 } ∷ record { number = 3; at_least = known 6 } ∷ []
 third_rules = refl
+
+-- a vector of length 0 takes the numbers of its element, and a memory those of its type; an instance takes none
+abbrev behind : CircuitTree
+behind =
+    circuit
+    (module_at 2 10 (codes "T") (input 3 11 (codes "e") (vector (uint None) 0) ∷ output 4 12 (codes "o") (uint None) ∷ [])
+    (wire_at 5 5 (codes "v") (vector (bundle (part_of false (codes "x") (uint None) (part_of false (codes "y") (uint None) no_fields))) 0)
+    ∷ memory (at 6 5) (name_at 6 9 (codes "m"))
+    (data_type (at 7 7) (at 7 20) (uint (Some 8)) ∷ depth (at 8 7) 4 ∷ reader (at 9 7) (name_at 9 17 (codes "r") ∷ []) ∷ [])
+    ∷ instance (at 10 5) (name_at 10 10 (codes "i")) (name_at 10 15 (codes "M")) ∷ wire_at 11 5 (codes "u") (uint None)
+    ∷ assign 12 5 (codes "u") (field_of 12 10 (codes "i") (codes "y"))
+    ∷ assign 13 5 (codes "u") (reference (at 13 10) (codes "m") (subfield (at 13 11) (at 13 12) (codes "r") (subfield (at 13 13) (at 13 14) (codes "data") no_parts)))
+    ∷ assign 14 5 (codes "o") (ref 14 10 (codes "u")) ∷ [])
+    ∷ module_at 15 10 (codes "M") (output 16 12 (codes "y") (uint None) ∷ []) [] ∷ [])
+
+pub behind_rules : rules behind
+    ≡ record { number = 9; at_least = unknown 2 } ∷ record { number = 9; at_least = known 8 } ∷ record { number = 1; at_least = unknown 9 } ∷ []
+unfolding least_width
+behind_rules = refl
 
 -- both blocks of a when make rules, and what they declare is numbered on
 abbrev inside : CircuitTree

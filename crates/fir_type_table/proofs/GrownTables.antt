@@ -7,12 +7,12 @@ use Rattle.fir_base.proofs.Elements.{get_behind}
 use Rattle.fir_ast.specs.Types.{DataType}
 use Rattle.fir_meaning.specs.TypeLeaves.{leaf_count}
 use Rattle.fir_meaning.specs.TypeKinds.{is_passive, is_numeric, is_sized}
+use Rattle.fir_meaning.specs.working.SharedLeaves.{shared_count}
 use Rattle.fir_type_table.specs.declared.kind.Kind.{Kind}
 use Rattle.fir_type_table.specs.declared.kind.Kind.TheVariants as kind
 use Rattle.fir_type_table.specs.declared.entry.Member.{Member}
 use Rattle.fir_type_table.specs.declared.entry.Entry.{Entry}
 use Rattle.fir_type_table.specs.working.Saturated.{saturated}
-use Rattle.fir_type_table.specs.working.Sizes.{shared_count}
 use Rattle.fir_type_table.specs.working.Tables.{Adds, type_at, made_of, types_of}
 use Rattle.fir_type_table.specs.working.Fits.{FitsAt, HasOffsets, IsMadeBelow, IsScalar, IsTable, grounds}
 use Rattle.fir_type_table.proofs.TableTypes.{type_at_left, all_first, all_rest, made_grown, types_more, length_types}

@@ -7,11 +7,12 @@ ghost use Rattle.fir_meaning.specs.MemoryTypes.{bit};
 ghost use Rattle.fir_meaning.specs.TypeKinds.{is_numeric, is_passive, is_sized};
 ghost use Rattle.fir_meaning.specs.TypeLeaves.{leaf_count};
 ghost use Rattle.fir_meaning.specs.Reaching.{field_of_type};
+ghost use Rattle.fir_meaning.specs.working.SharedLeaves.{shared_count};
 ghost use Rattle.fir_type_table.specs.working.Fits.{IsMadeBelow};
 ghost use Rattle.fir_type_table.specs.working.Reads.{IsPast, IsReadAt};
 ghost use Rattle.fir_type_table.specs.working.Saturated.{saturated};
 ghost use Rattle.fir_type_table.specs.working.Found.{IsFieldFound, found_of};
-ghost use Rattle.fir_type_table.specs.working.Sizes.{leaves_before, shared_before, shared_count};
+ghost use Rattle.fir_type_table.specs.working.Sizes.{leaves_before, shared_before};
 ghost use Rattle.fir_type_table.specs.working.Tables.{made_of, members_at, type_at, types_of};
 
 use crate::entry::{Entry, Member};

@@ -8,12 +8,12 @@ use Rattle.fir_meaning.specs.Components.{Declarations}
 use Rattle.fir_meaning.specs.TypeKinds.{bare}
 use Rattle.fir_meaning.specs.ExpressionTypes.{expression_type}
 use Rattle.fir_meaning.specs.ComponentTypes.{typed_scope}
-use Rattle.fir_meaning.specs.WidthExpressions.{Widths, Width, width_of, Rule, Meets, IsLeastOf}
-use Rattle.fir_meaning.specs.SizedTypes.{bare_type}
-use Rattle.fir_meaning.specs.SizedScopes.{sized_type}
-use Rattle.fir_meaning.specs.SizedDeclarations.{Numbering, numbered_behind}
-use Rattle.fir_meaning.specs.WidthRules.{rules, AreWidths}
-use Rattle.fir_meaning.specs.OverFaults.{over_faults}
+use Rattle.fir_meaning.specs.working.WidthExpressions.{Widths, Width, width_of, Rule, Meets, IsLeastOf}
+use Rattle.fir_meaning.specs.working.SizedTypes.{bare_type}
+use Rattle.fir_meaning.specs.working.SizedScopes.{sized_type}
+use Rattle.fir_meaning.specs.working.SizedDeclarations.{Numbering, numbered_behind}
+use Rattle.fir_meaning.specs.working.WidthRules.{rules, AreWidths}
+use Rattle.fir_meaning.specs.working.OverFaults.{over_faults}
 
 -- wider unknowns never make an expression narrower
 abbrev pub WidthsGrow : Type 0

@@ -1,11 +1,12 @@
 -- Types whose ground parts have widths (FIRRTL spec, "Types", "Width Inference").
 -- Each leaf of a declaration has a number, in the order of the type, and where no width is written it is that of its unknown. All elements of a vector share
--- the leaves of the element type. A vector of length 0 has no leaf: what is not written there has width 0.
+-- the leaves of the element type. A vector of length 0 has no leaf: what is not written there has width 0, and its numbers stand for nothing.
 use Rattle.std.specs.Prelude.{ℕ, ◌+◌, ◌==◌, List, Bool, if◌then◌else◌, Option, Some, None, option_map}
 use Rattle.std.specs.Str.{bytes_eq}
 use Rattle.fir_ast.specs.declared.place.Place.{Place}
 use Rattle.fir_ast.specs.Types.{DataType, uint, sint, clock, reset, async_reset, bundle, vector, Fields, no_fields, field}
-use Rattle.fir_meaning.specs.WidthExpressions.{Width, known, unknown}
+use Rattle.fir_meaning.specs.working.SharedLeaves.{shared_count}
+use Rattle.fir_meaning.specs.working.WidthExpressions.{Width, known, unknown}
 
 pub data Scalar : Type 0 where
   unsigned : Scalar
@@ -28,17 +29,6 @@ mutual
 -- what has no type counts as a bundle without fields
 abbrev pub untyped : Sized
 untyped = sized_bundle no_sized_fields
-
--- how many numbers the leaves of a type take
-abbrev mutual
-  pub number_count : DataType → ℕ
-  number_count (bundle fs) = field_number_count fs
-  number_count (vector t n) = if n == 0 then 0 else number_count t
-  number_count t = 1
-
-  pub field_number_count : Fields → ℕ
-  field_number_count no_fields = 0
-  field_number_count (field p flip x begins t rest) = number_count t + field_number_count rest
 
 -- the width of a leaf with a number or with none, written or not
 abbrev pub leaf_width : Option ℕ → Option ℕ → Width
@@ -63,7 +53,7 @@ abbrev mutual
 
   pub numbered_fields : Option ℕ → Fields → SizedFields
   numbered_fields at no_fields = no_sized_fields
-  numbered_fields at (field p flip x begins t rest) = sized_field p flip x begins (numbered at t) (numbered_fields (past (number_count t) at) rest)
+  numbered_fields at (field p flip x begins t rest) = sized_field p flip x begins (numbered at t) (numbered_fields (past (shared_count t) at) rest)
 
 -- the type without its widths
 abbrev mutual

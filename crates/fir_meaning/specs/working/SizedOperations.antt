@@ -3,8 +3,8 @@ use Rattle.std.specs.Prelude.{ℕ, List, [], ◌∷◌, Bool, true, false, slice
 use Rattle.fir_bits.specs.declared.operators.PrimOp.{PrimOp}
 use Rattle.fir_bits.specs.declared.operators.PrimOp.TheVariants.{AsAsyncReset}
 use Rattle.fir_bits.specs.Types.{signed_of}
-use Rattle.fir_meaning.specs.WidthExpressions.{Width, known, single, pair, greater, guarded}
-use Rattle.fir_meaning.specs.SizedTypes.{Scalar, unsigned, signed, async_scalar, Sized, scalar, sized_bundle, sized_vector, SizedFields, no_sized_fields, sized_field, untyped}
+use Rattle.fir_meaning.specs.working.WidthExpressions.{Width, known, single, pair, greater, guarded}
+use Rattle.fir_meaning.specs.working.SizedTypes.{Scalar, unsigned, signed, async_scalar, Sized, scalar, sized_bundle, sized_vector, SizedFields, no_sized_fields, sized_field, untyped}
 
 abbrev pub number_scalar : Bool → Scalar
 number_scalar true = signed

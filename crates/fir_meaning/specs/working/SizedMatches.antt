@@ -2,8 +2,8 @@
 -- flipped field is driven the other way. For `<=`, whose types are equivalent, these are all leaves.
 use Rattle.std.specs.Prelude.{List, [], ◌∷◌, ◌++◌, min, ◌==◌, Bool, true, false, if◌then◌else◌, Option, Some, None}
 use Rattle.fir_meaning.specs.TypeLeaves.{turned}
-use Rattle.fir_meaning.specs.WidthExpressions.{Width}
-use Rattle.fir_meaning.specs.SizedTypes.{Sized, scalar, sized_bundle, sized_vector, SizedFields, no_sized_fields, sized_field, sized_named}
+use Rattle.fir_meaning.specs.working.WidthExpressions.{Width}
+use Rattle.fir_meaning.specs.working.SizedTypes.{Sized, scalar, sized_bundle, sized_vector, SizedFields, no_sized_fields, sized_field, sized_named}
 
 -- the widths of two leaves that meet: of the one that is driven, and of the one that drives it
 pub record Match : Type 0 where

@@ -16,13 +16,13 @@ use Rattle.fir_meaning.specs.TypeLeaves.{turned}
 use Rattle.fir_meaning.specs.Components.{Component, port}
 use Rattle.fir_meaning.specs.ComponentTypes.{is_input}
 use Rattle.fir_meaning.specs.FaultRules.{place_of}
-use Rattle.fir_meaning.specs.WidthExpressions.{Width, unknown, Widths, width_of}
-use Rattle.fir_meaning.specs.SizedTypes.{unsigned, Sized, scalar}
-use Rattle.fir_meaning.specs.SizedLeaves.{sized_leaves}
-use Rattle.fir_meaning.specs.SizedOperations.{width_in, first_sized}
-use Rattle.fir_meaning.specs.SizedScopes.{SizedScope, sized_type, sized_types}
-use Rattle.fir_meaning.specs.SizeFaults.{no_port_width, wrong_integers, wrong_literal, wrong_condition}
-use Rattle.fir_meaning.specs.WidthWalk.{FaultRule, shown_in_circuit}
+use Rattle.fir_meaning.specs.working.WidthExpressions.{Width, unknown, Widths, width_of}
+use Rattle.fir_meaning.specs.working.SizedTypes.{unsigned, Sized, scalar}
+use Rattle.fir_meaning.specs.working.SizedLeaves.{sized_leaves}
+use Rattle.fir_meaning.specs.working.SizedOperations.{width_in, first_sized}
+use Rattle.fir_meaning.specs.working.SizedScopes.{SizedScope, sized_type, sized_types}
+use Rattle.fir_meaning.specs.working.SizeFaults.{no_port_width, wrong_integers, wrong_literal, wrong_condition}
+use Rattle.fir_meaning.specs.working.WidthWalk.{FaultRule, shown_in_circuit}
 
 -- only a UInt or SInt leaf has an unknown width
 abbrev pub unwritten : Place → LeafPath → Width → List Fault

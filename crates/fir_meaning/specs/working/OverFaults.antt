@@ -9,13 +9,13 @@ use Rattle.fir_ast.specs.Circuits.{ModuleTree, CircuitTree}
 use Rattle.fir_pass.specs.Faults.{Fault}
 use Rattle.fir_meaning.specs.LeafPaths.{LeafPath, named, element}
 use Rattle.fir_meaning.specs.Components.{Component, memory}
-use Rattle.fir_meaning.specs.WidthExpressions.{Widths, width_of}
-use Rattle.fir_meaning.specs.SizedTypes.{Sized}
-use Rattle.fir_meaning.specs.SizedLeaves.{SizedLeaf, sized_leaves}
-use Rattle.fir_meaning.specs.SizedScopes.{SizedScope, sized_type}
-use Rattle.fir_meaning.specs.SizedMemories.{sized_array, ports_or_array}
-use Rattle.fir_meaning.specs.SizeFaults.{word_over, leaf_over}
-use Rattle.fir_meaning.specs.WidthWalk.{FaultRule, shown_in_circuit}
+use Rattle.fir_meaning.specs.working.WidthExpressions.{Widths, width_of}
+use Rattle.fir_meaning.specs.working.SizedTypes.{Sized}
+use Rattle.fir_meaning.specs.working.SizedLeaves.{SizedLeaf, sized_leaves}
+use Rattle.fir_meaning.specs.working.SizedScopes.{SizedScope, sized_type}
+use Rattle.fir_meaning.specs.working.SizedMemories.{sized_array, ports_or_array}
+use Rattle.fir_meaning.specs.working.SizeFaults.{word_over, leaf_over}
+use Rattle.fir_meaning.specs.working.WidthWalk.{FaultRule, shown_in_circuit}
 
 abbrev pub is_leaf_over : Widths → SizedLeaf → Bool
 is_leaf_over w l = nat_lt 128 (width_of l.width w)

@@ -5,11 +5,11 @@ use Rattle.fir_ast.specs.Statements.{Reset, Statement, register, node, when, con
 use Rattle.fir_ast.specs.Circuits.{CircuitTree}
 use Rattle.fir_meaning.specs.Components as component
 use Rattle.fir_meaning.specs.Visibility.{Before, with_declaration, opened, reopened, behind, behind_block, behind_ports, at_head}
-use Rattle.fir_meaning.specs.WidthExpressions.{Width, unknown, Widths, Rule, IsLeastOf}
-use Rattle.fir_meaning.specs.SizedTypes.{Sized}
-use Rattle.fir_meaning.specs.SizedMatches.{matches}
-use Rattle.fir_meaning.specs.SizedScopes.{SizedScope, sized_type, sink_expression}
-use Rattle.fir_meaning.specs.SizedDeclarations.{NumberedModule, numbered_modules, sized_at, sized_declared}
+use Rattle.fir_meaning.specs.working.WidthExpressions.{Width, unknown, Widths, Rule, IsLeastOf}
+use Rattle.fir_meaning.specs.working.SizedTypes.{Sized}
+use Rattle.fir_meaning.specs.working.SizedMatches.{matches}
+use Rattle.fir_meaning.specs.working.SizedScopes.{SizedScope, sized_type, sink_expression}
+use Rattle.fir_meaning.specs.working.SizedDeclarations.{NumberedModule, numbered_modules, sized_at, sized_declared}
 
 -- a written width asks for nothing
 abbrev pub bound : Width → Width → List Rule

@@ -5,9 +5,9 @@ use Rattle.fir_bits.specs.Literals.{least_width}
 use Rattle.fir_ast.specs.declared.expressions.Literal.{Literal}
 use Rattle.fir_ast.specs.Expressions.{Expression, reference, literal, operation, mux, validif, Parts, no_parts, subfield, subindex, subaccess, Expressions, no_expressions, expression}
 use Rattle.fir_ast.specs.Statements.{Sink}
-use Rattle.fir_meaning.specs.WidthExpressions.{known}
-use Rattle.fir_meaning.specs.SizedTypes.{Sized, scalar, untyped, sized_named, sized_found, fields_in, element_in}
-use Rattle.fir_meaning.specs.SizedOperations.{number_scalar, width_in, sized_operation, greater_of, guarded_by}
+use Rattle.fir_meaning.specs.working.WidthExpressions.{known}
+use Rattle.fir_meaning.specs.working.SizedTypes.{Sized, scalar, untyped, sized_named, sized_found, fields_in, element_in}
+use Rattle.fir_meaning.specs.working.SizedOperations.{number_scalar, width_in, sized_operation, greater_of, guarded_by}
 
 pub record SizedName : Type 0 where
   pub name : List ℕ

@@ -1,6 +1,6 @@
 -- The numbers of the leaves of a circuit, and the sized type of what is declared (FIRRTL spec, "Circuits", "Modules", "Instances").
--- The ports of all modules are numbered first, in text order, then the bodies. An instance has the numbers of its module's ports, so all instances of a module
--- share them; a memory takes none.
+-- The ports of all modules are numbered first, in text order, then the bodies: each declaration takes numbers that no other takes. An instance takes none and has
+-- those of its module's ports, so all instances of a module share them.
 use Rattle.std.specs.Prelude.{ℕ, ◌+◌, List, [], ◌∷◌, ◌++◌, if◌then◌else◌, Some}
 use Rattle.std.specs.Str.{bytes_eq}
 use Rattle.fir_ast.specs.declared.place.Place.{Place}
@@ -9,12 +9,13 @@ use Rattle.fir_ast.specs.Circuits.{ModuleTree, CircuitTree}
 use Rattle.fir_meaning.specs.Components.{Component, port, wire, register, node, instance, memory, Declaration, Declarations}
 use Rattle.fir_meaning.specs.Visibility.{Before, declarations}
 use Rattle.fir_meaning.specs.ComponentTypes.{instance_bundle}
-use Rattle.fir_meaning.specs.SizedTypes.{Sized, untyped, number_count, numbered, bare_type, renumbered}
-use Rattle.fir_meaning.specs.SizedScopes.{SizedScope, sized_type}
-use Rattle.fir_meaning.specs.SizedMemories.{sized_memory}
+use Rattle.fir_meaning.specs.working.SharedLeaves.{shared_count}
+use Rattle.fir_meaning.specs.working.SizedTypes.{Sized, untyped, numbered, bare_type, renumbered}
+use Rattle.fir_meaning.specs.working.SizedScopes.{SizedScope, sized_type}
+use Rattle.fir_meaning.specs.working.SizedMemories.{sized_memory, memory_numbers}
 
 abbrev pub port_numbers : ModuleTree → ℕ
-port_numbers m = number_count (instance_bundle m)
+port_numbers m = shared_count (instance_bundle m)
 
 abbrev pub all_port_numbers : List ModuleTree → ℕ
 all_port_numbers [] = 0
@@ -43,21 +44,23 @@ sized_component modules numbers p (node e) = renumbered numbers.next (sized_type
 sized_component modules numbers p (instance name) = sized_instance modules name
 sized_component modules numbers p (memory parts) = sized_memory p parts
 
--- how many numbers a component takes, of those of ports and of those of bodies
+-- how many numbers of ports a component takes
 abbrev pub taken_of_ports : Component → ℕ
-taken_of_ports (port d t) = number_count t
+taken_of_ports (port d t) = shared_count t
 taken_of_ports _ = 0
 
-abbrev pub taken_of_bodies : SizedScope → Component → ℕ
-taken_of_bodies scope (wire t) = number_count t
-taken_of_bodies scope (register t) = number_count t
-taken_of_bodies scope (node e) = number_count (bare_type (sized_type scope e))
-taken_of_bodies scope _ = 0
+-- and how many of bodies, where its name stands at the place
+abbrev pub taken_of_bodies : SizedScope → Place → Component → ℕ
+taken_of_bodies scope p (wire t) = shared_count t
+taken_of_bodies scope p (register t) = shared_count t
+taken_of_bodies scope p (node e) = shared_count (bare_type (sized_type scope e))
+taken_of_bodies scope p (memory parts) = memory_numbers p parts
+taken_of_bodies scope p _ = 0
 
 abbrev pub numbered_with : List ModuleTree → Numbering → Declaration → Numbering
 numbered_with modules numbers d = record {
   port = numbers.port + taken_of_ports d.component;
-  next = numbers.next + taken_of_bodies numbers.scope d.component;
+  next = numbers.next + taken_of_bodies numbers.scope d.named.place d.component;
   scope = numbers.scope ++ record { name = d.named.name; sized = sized_component modules numbers d.named.place d.component } ∷ [];
 }
 
