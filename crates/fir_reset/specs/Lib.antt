@@ -1,0 +1,2 @@
+pub mod ResetGraphs
+pub mod working
