@@ -5,7 +5,7 @@ use Rattle.std.proofs.lemmas.Option.{slice_get_within}
 use Rattle.fir_reset.specs.declared.graph.Kind.{Kind}
 use Rattle.fir_reset.specs.declared.roots.Entry.{Entry}
 use Rattle.fir_reset.specs.declared.roots.Reached.{Reached}
-use Rattle.fir_reset.specs.ResetGraphs.{IsJoined, IsAsynchronous, IsReached, begins, goes_on, IsFound}
+use Rattle.fir_reset.specs.working.ResetGraphs.{IsJoined, IsAsynchronous, IsReached, begins, goes_on, IsFound}
 use Rattle.fir_reset.specs.working.Reaching.{IsMarked, ComesFrom, IsSeen, Searching}
 
 module _ (graph : List (Vec ℕ Global)) (kinds : List Kind) (r : Reached) (place : ℕ) (s : Searching graph kinds r place) where

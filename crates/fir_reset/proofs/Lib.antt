@@ -1,5 +1,6 @@
 pub mod Elements
 pub mod Read
+pub mod GraphsRead
 pub mod Entering
 pub mod FoundResets
 pub mod Rooting

@@ -7,7 +7,7 @@ use Rattle.fir_reset.specs.declared.graph.Kind.{Kind}
 use Rattle.fir_reset.specs.declared.graph.Kind.TheVariants.{Unsigned, Reset}
 use Rattle.fir_reset.specs.declared.roots.Entry.{Entry}
 use Rattle.fir_reset.specs.declared.roots.Reached.{Reached}
-use Rattle.fir_reset.specs.ResetGraphs.{IsJoined, IsGraph, IsUnsigned, IsReset}
+use Rattle.fir_reset.specs.working.ResetGraphs.{IsJoined, IsGraph, IsUnsigned, IsReset}
 use Rattle.fir_reset.specs.working.Reaching.{IsMarked, ComesFrom, IsSeen, Enters, Knows, Searching}
 use Rattle.fir_reset.specs.working.Walking.{IsJoinedAt, IsAt, Looking}
 use Rattle.fir_reset.proofs.Elements.{PushedOr, push_left, push_cases, write_same}

@@ -6,7 +6,7 @@ use Rattle.std.proofs.lemmas.List.{length-replicate}
 use Rattle.std.proofs.lemmas.Option.{none-some, same_Some, slice_get_within}
 use Rattle.fir_reset.specs.declared.graph.Kind.{Kind}
 use Rattle.fir_reset.specs.declared.roots.Reached.{Reached}
-use Rattle.fir_reset.specs.ResetGraphs.{IsAsynchronous}
+use Rattle.fir_reset.specs.working.ResetGraphs.{IsAsynchronous}
 use Rattle.fir_reset.specs.working.Reaching.{IsMarked, unmarked, Enters, Roots, Searching}
 use Rattle.fir_reset.proofs.Elements.{write_same, write_other, get-replicate}
 use Rattle.fir_reset.proofs.Entering.{entered, marks_stay}

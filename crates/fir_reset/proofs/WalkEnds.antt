@@ -3,7 +3,7 @@ use Rattle.std.proofs.Common.{◌≡◌, ℕ, ◌<◌, List, [], ◌∷◌, ◌+
 use Rattle.std.proofs.lemmas.Option.{slice_get_within, get_or_from_slice_get}
 use Rattle.fir_reset.specs.declared.graph.Kind.{Kind}
 use Rattle.fir_reset.specs.declared.roots.Entry.{Entry}
-use Rattle.fir_reset.specs.ResetGraphs.{IsAsynchronous, IsResetWalk}
+use Rattle.fir_reset.specs.working.ResetGraphs.{IsAsynchronous, IsResetWalk}
 use Rattle.fir_reset.specs.working.Reaching.{IsRootOr, IsQueueOf}
 use Rattle.fir_reset.specs.working.Walking.{WalksTo}
 use Rattle.fir_reset.proofs.WalkSteps.{walk_goes_on, walk_ended}

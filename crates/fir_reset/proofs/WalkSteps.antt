@@ -5,7 +5,7 @@ use Rattle.std.proofs.lemmas.Option.{same_Some, slice_get_within}
 use Rattle.fir_reset.specs.declared.graph.Kind.{Kind}
 use Rattle.fir_reset.specs.declared.graph.Kind.TheVariants.{Unsigned, Asynchronous, Reset}
 use Rattle.fir_reset.specs.declared.roots.Entry.{Entry}
-use Rattle.fir_reset.specs.ResetGraphs.{IsJoined, IsUnsigned, IsAsynchronous, IsReset, IsResetWalk}
+use Rattle.fir_reset.specs.working.ResetGraphs.{IsJoined, IsUnsigned, IsAsynchronous, IsReset, IsResetWalk}
 use Rattle.fir_reset.specs.working.Reaching.{ComesFrom}
 use Rattle.fir_reset.specs.working.Walking.{IsJoinedAt, IsQueuedBehind, WalksTo}
 use Rattle.fir_reset.proofs.Elements.{PushedOr, push_cases}

@@ -1,2 +1,1 @@
-pub mod ResetGraphs
 pub mod working

@@ -1,7 +1,7 @@
 //! Leaves and expressions that are joined, as far as resets go.
 
-ghost use Rattle.std.specs.Prelude.{IsTrue};
-ghost use Rattle.fir_reset.specs.ResetGraphs.{AllBelow, IsGraph};
+ghost use Rattle.std.specs.Prelude.{◌↔◌, IsTrue};
+ghost use Rattle.fir_reset.specs.working.ResetGraphs.{AllBelow, IsGraph};
 
 /// What a leaf or an expression is, as far as resets go.
 #[derive(Clone, Copy, Debug, PartialEq, Eq)]
@@ -18,18 +18,21 @@ pub enum Kind {
 
 /// Whether each number has a list and a kind, and the lists have such numbers alone.
 pub fn is_graph(graph: &[Vec<usize>], kinds: &[Kind]) -> bool
-    ensures { IsTrue result → IsGraph graph.now kinds.now }
+    ensures { IsTrue result ↔ IsGraph graph.now kinds.now }
 {
+    if graph.len() != kinds.len() {
+        return false;
+    }
     for joined in graph {
         if !all_below(joined.as_slice(), kinds.len()) {
             return false;
         }
     }
-    graph.len() == kinds.len()
+    true
 }
 
 fn all_below(numbers: &[usize], count: usize) -> bool
-    ensures { IsTrue result → AllBelow count numbers.now }
+    ensures { IsTrue result ↔ AllBelow count numbers.now }
 {
     for number in numbers {
         if *number >= count {

@@ -1,7 +1,7 @@
 //! The walk from a UInt back to an AsyncReset.
 
 ghost use Rattle.std.specs.Prelude.{◌≡◌, IfOk, Some, slice_get};
-ghost use Rattle.fir_reset.specs.ResetGraphs.{IsGraph, IsResetWalk};
+ghost use Rattle.fir_reset.specs.working.ResetGraphs.{IsGraph, IsResetWalk};
 ghost use Rattle.fir_reset.specs.working.Reaching.{Knows};
 ghost use Rattle.fir_reset.specs.working.Walking.{IsJoinedAt};
 

@@ -7,7 +7,7 @@ use Rattle.std.proofs.lemmas.Option.{same_Some, slice_get_within, slice_get-get_
 use Rattle.fir_base.specs.Lists.{In}
 use Rattle.fir_bits.specs.working.Laws.{Monotone}
 use Rattle.fir_width.specs.declared.bound.Bound.{Bound}
-use Rattle.fir_width.specs.Bounds.{Holds, IsLeast, BoundsWithin, TermWithin, assigned, reads}
+use Rattle.fir_width.specs.working.Bounds.{Holds, IsLeast, BoundsWithin, TermWithin, assigned, reads}
 use Rattle.fir_width.specs.working.Raises.{Rises, Stays}
 use Rattle.fir_width.specs.working.Readers.{IsReader, AllRead, ReadersWithin}
 use Rattle.fir_width.specs.working.Waiting.{Waits, NoneWaits, Takes, PlacesWithin, AllWait, waiting_count}

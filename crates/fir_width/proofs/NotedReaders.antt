@@ -5,7 +5,7 @@ use Rattle.std.proofs.lemmas.Bool.{cases_eq}
 use Rattle.std.proofs.lemmas.Option.{none-some, same_Some, slice_get_within, slice_get-get_or}
 use Rattle.fir_base.specs.Lists.{In}
 use Rattle.fir_width.specs.declared.bound.Bound.{Bound}
-use Rattle.fir_width.specs.Bounds.{reads}
+use Rattle.fir_width.specs.working.Bounds.{reads}
 use Rattle.fir_width.specs.working.Readers.{IsReader, Notes, AllRead, ReadersWithin}
 use Rattle.fir_width.proofs.Elements.{PushedOr, WrittenOr, push_left, push_end, push_cases, write_same, write_other, write_cases}
 

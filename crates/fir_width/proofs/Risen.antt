@@ -6,7 +6,7 @@ use Rattle.std.proofs.lemmas.List.{get_or-set_same, get_or-set_other}
 use Rattle.fir_base.specs.Lists.{In}
 use Rattle.fir_bits.specs.working.Laws.{Monotone}
 use Rattle.fir_width.specs.declared.bound.Bound.{Bound}
-use Rattle.fir_width.specs.Bounds.{Holds, IsBelowAll, assigned, reads, term_width}
+use Rattle.fir_width.specs.working.Bounds.{Holds, IsBelowAll, assigned, reads, term_width}
 use Rattle.fir_width.specs.working.Raises.{Rises}
 use Rattle.fir_width.proofs.Terms.{term_grows, term_same}
 

@@ -8,7 +8,7 @@ use Rattle.fir_width.specs.working.Raises.{Rises}
 use Rattle.fir_width.specs.working.Solving.{rises_left}
 use Rattle.fir_width.specs.working.Rounds.{room}
 use Rattle.fir_width.proofs.Terms.{term_le}
-use Rattle.fir_width.specs.Bounds.{assigned, term_width}
+use Rattle.fir_width.specs.working.Bounds.{assigned, term_width}
 
 one_rise : (w y k : ℕ) → w < y → y ≤ 129 → (129 - y) * k + k ≤ (129 - w) * k
 one_rise w y k less le =

@@ -5,7 +5,7 @@ use Rattle.std.proofs.lemmas.Bool.{cases_eq}
 use Rattle.std.proofs.lemmas.Option.{same_Some, slice_get_within}
 use Rattle.fir_bits.specs.working.Laws.{Monotone}
 use Rattle.fir_width.specs.declared.bound.Bound.{Bound}
-use Rattle.fir_width.specs.Bounds.{Holds, IsBelowAll, IsLeast, assigned}
+use Rattle.fir_width.specs.working.Bounds.{Holds, IsBelowAll, IsLeast, assigned}
 use Rattle.fir_width.specs.working.Raises.{Rises, Stays}
 use Rattle.fir_width.specs.working.Rounds.{Result, Round, room}
 use Rattle.fir_width.proofs.Looks.{written_back}

@@ -1,4 +1,5 @@
--- What no clause of `run` reads: how far a search for the least widths has come.
+-- What no clause of `run` reads: bounds and the least widths that meet them, and how far a search for these has come.
+pub mod Bounds
 pub mod Raises
 pub mod Readers
 pub mod Waiting

@@ -1,7 +1,7 @@
 //! Bounds of unknown widths, each made of one operation on other unknowns.
 
-ghost use Rattle.std.specs.Prelude.{◌≡◌, ◌<◌, length, IsTrue};
-ghost use Rattle.fir_width.specs.Bounds.{BoundsWithin, TermWithin, assigned, term_width};
+ghost use Rattle.std.specs.Prelude.{◌≡◌, ◌<◌, ◌↔◌, length, IsTrue};
+ghost use Rattle.fir_width.specs.working.Bounds.{BoundsWithin, TermWithin, assigned, term_width};
 
 use fir_bits::{PrimOp, counted_width};
 
@@ -58,7 +58,7 @@ pub(crate) fn term_width(term: &Term, widths: &[u32]) -> u32
 
 /// Whether all unknowns that the bounds name are below that number.
 pub fn are_within(bounds: &[Bound], unknowns: usize) -> bool
-    ensures { IsTrue result → BoundsWithin bounds.now unknowns }
+    ensures { IsTrue result ↔ BoundsWithin bounds.now unknowns }
 {
     for bound in bounds {
         if bound.unknown >= unknowns || !is_term_within(&bound.term, unknowns) {
@@ -69,7 +69,7 @@ pub fn are_within(bounds: &[Bound], unknowns: usize) -> bool
 }
 
 fn is_term_within(term: &Term, unknowns: usize) -> bool
-    ensures { IsTrue result → TermWithin term.now unknowns }
+    ensures { IsTrue result ↔ TermWithin term.now unknowns }
 {
     match *term {
         Term::Known(_) => true,

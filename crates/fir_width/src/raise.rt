@@ -1,7 +1,7 @@
 //! One bound is looked at.
 
 ghost use Rattle.std.specs.Prelude.{◌<◌, length};
-ghost use Rattle.fir_width.specs.Bounds.{TermWithin};
+ghost use Rattle.fir_width.specs.working.Bounds.{TermWithin};
 ghost use Rattle.fir_width.specs.working.Raises.{Raises};
 
 use crate::bound::{Bound, term_width};

@@ -1,7 +1,7 @@
 //! For each unknown, the bounds that read it.
 
 ghost use Rattle.std.specs.Prelude.{◌≡◌, ◌<◌, [], ◌∷◌, length, IfOk, OnOk, vec_len};
-ghost use Rattle.fir_width.specs.Bounds.{BoundsWithin, TermWithin, reads};
+ghost use Rattle.fir_width.specs.working.Bounds.{BoundsWithin, TermWithin, reads};
 ghost use Rattle.fir_width.specs.working.Readers.{AllRead, Notes, ReadersWithin};
 
 use crate::bound::{Bound, Term};

@@ -1,7 +1,7 @@
 //! The least widths that meet bounds, by going over all of them until nothing rises.
 
 ghost use Rattle.std.specs.Prelude.{◌≡◌, length, IfOk};
-ghost use Rattle.fir_width.specs.Bounds.{BoundsWithin, IsLeast, assigned};
+ghost use Rattle.fir_width.specs.working.Bounds.{BoundsWithin, IsLeast, assigned};
 ghost use Rattle.fir_width.specs.working.Rounds.{Round};
 
 use crate::bound::Bound;

@@ -1,7 +1,7 @@
 //! The least widths that meet bounds, by a list of those that have to be looked at.
 
 ghost use Rattle.std.specs.Prelude.{◌≡◌, length, IfOk};
-ghost use Rattle.fir_width.specs.Bounds.{BoundsWithin, IsLeast, assigned};
+ghost use Rattle.fir_width.specs.working.Bounds.{BoundsWithin, IsLeast, assigned};
 
 use crate::bound::Bound;
 use crate::raise::raise;

@@ -5,7 +5,7 @@ use Rattle.std.specs.declared.alloc.Global.{Global}
 use Rattle.fir_reset.specs.declared.graph.Kind.{Kind}
 use Rattle.fir_reset.specs.declared.roots.Entry.{Entry}
 use Rattle.fir_reset.specs.declared.roots.Reached.{Reached}
-use Rattle.fir_reset.specs.ResetGraphs.{IsJoined, IsUnsigned, IsAsynchronous, IsReset}
+use Rattle.fir_reset.specs.working.ResetGraphs.{IsJoined, IsUnsigned, IsAsynchronous, IsReset}
 
 abbrev pub IsMarked : List Bool → ℕ → Type 0
 IsMarked marks v = slice_get marks v ≡ Some true

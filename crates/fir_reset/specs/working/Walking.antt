@@ -5,7 +5,7 @@ use Rattle.std.specs.declared.alloc.Global.{Global}
 use Rattle.fir_reset.specs.declared.graph.Kind.{Kind}
 use Rattle.fir_reset.specs.declared.roots.Entry.{Entry}
 use Rattle.fir_reset.specs.declared.roots.Reached.{Reached}
-use Rattle.fir_reset.specs.ResetGraphs.{IsJoined, IsUnsigned, IsReset}
+use Rattle.fir_reset.specs.working.ResetGraphs.{IsJoined, IsUnsigned, IsReset}
 use Rattle.fir_reset.specs.working.Reaching.{IsSeen, Searching}
 
 -- the entry at that place is joined to the number

@@ -1,7 +1,7 @@
 -- What a look at one bound does.
 use Rattle.std.specs.Prelude.{◌≡◌, ℕ, ◌<◌, List, Bool, true, false, slice_index, slice_set}
 use Rattle.fir_width.specs.declared.bound.Bound.{Bound}
-use Rattle.fir_width.specs.Bounds.{Holds, assigned, term_width}
+use Rattle.fir_width.specs.working.Bounds.{Holds, assigned, term_width}
 
 -- the unknown of a bound that was not met has risen
 pub record Rises (b : Bound) (old new : List ℕ) : Type 0 where

@@ -4,7 +4,7 @@ use Rattle.std.specs.declared.vec.Vec.{Vec}
 use Rattle.std.specs.declared.alloc.Global.{Global}
 use Rattle.fir_base.specs.Lists.{In}
 use Rattle.fir_width.specs.declared.bound.Bound.{Bound}
-use Rattle.fir_width.specs.Bounds.{reads}
+use Rattle.fir_width.specs.working.Bounds.{reads}
 
 -- the place stands in the unknown's list
 pub record IsReader (readers : List (Vec ℕ Global)) (unknown place : ℕ) : Type 0 where

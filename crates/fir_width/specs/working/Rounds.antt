@@ -1,7 +1,7 @@
 -- What a round over the first n bounds does.
 use Rattle.std.specs.Prelude.{◌≡◌, ℕ, ◌+◌, ◌-◌, ◌<◌, List, [], ◌∷◌, Bool, true, false, length, Some, slice_get}
 use Rattle.fir_width.specs.declared.bound.Bound.{Bound}
-use Rattle.fir_width.specs.Bounds.{Holds, IsBelowAll, assigned}
+use Rattle.fir_width.specs.working.Bounds.{Holds, IsBelowAll, assigned}
 
 -- how far the widths can still rise
 abbrev pub room : List ℕ → ℕ

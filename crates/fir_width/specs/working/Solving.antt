@@ -3,7 +3,7 @@ use Rattle.std.specs.Prelude.{◌≡◌, ℕ, ◌+◌, ◌-◌, ◌*◌, ◌⊎�
 use Rattle.std.specs.declared.vec.Vec.{Vec}
 use Rattle.std.specs.declared.alloc.Global.{Global}
 use Rattle.fir_width.specs.declared.bound.Bound.{Bound}
-use Rattle.fir_width.specs.Bounds.{Holds, IsBelowAll, assigned}
+use Rattle.fir_width.specs.working.Bounds.{Holds, IsBelowAll, assigned}
 use Rattle.fir_width.specs.working.Waiting.{Waits}
 
 pub record Solving (bounds : List Bound) (unknowns : ℕ) (widths : List ℕ) (waits : List Bool) : Type 0 where

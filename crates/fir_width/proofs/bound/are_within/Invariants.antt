@@ -1,7 +1,7 @@
 use Rattle.std.proofs.Common.{ℕ, ◌<◌, ◌≡◌, Some}
 use Rattle.std.specs.Prelude.{slice_get}
 use Rattle.fir_width.specs.declared.bound.Bound.{Bound}
-use Rattle.fir_width.specs.Bounds.{TermWithin}
+use Rattle.fir_width.specs.working.Bounds.{TermWithin}
 use Rattle.fir_width.proofs.bound.are_within.Given as goal
 
 abbrev pub invariant-loop-bound : goal.invariant-loop-bound

@@ -1,5 +1,5 @@
 use Rattle.std.proofs.Common.{◌≡◌, length}
-use Rattle.fir_width.specs.Bounds.{IsBelowAll, assigned}
+use Rattle.fir_width.specs.working.Bounds.{IsBelowAll, assigned}
 use Rattle.fir_width.specs.working.Rounds.{room}
 use Rattle.fir_width.proofs.rounds.least_widths_by_rounds.Given as goal
 
