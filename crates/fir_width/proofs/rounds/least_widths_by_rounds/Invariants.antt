@@ -1,0 +1,10 @@
+use Rattle.std.proofs.Common.{◌≡◌, length}
+use Rattle.fir_width.specs.working.Bounds.{IsBelowAll, assigned}
+use Rattle.fir_width.specs.working.Rounds.{room}
+use Rattle.fir_width.proofs.rounds.least_widths_by_rounds.Given as goal
+
+abbrev pub invariant-loop : goal.invariant-loop
+invariant-loop l = record { long : length l.widths.items ≡ l.unknowns; below : IsBelowAll l.bounds (assigned l.widths.items) }
+
+abbrev pub decreases-loop : goal.decreases-loop
+decreases-loop l = room l.widths.items

@@ -1,0 +1,23 @@
+//! The widths that a circuit leaves open. In come bounds: each says that an unknown width is at
+//! least that of one operation on other unknown widths. Out come the least widths that meet all of
+//! them (`least_widths`), in bits, where 129 stands for all that is over 128 (FIRRTL spec, "Width
+//! Inference"). What bounds mean, and which widths are the least, stands in specs/ (`IsLeast`).
+//!
+//! All widths begin at 0, and a bound that is not met raises its unknown (`raise`). Which bounds
+//! have to be looked at again is told by `readers`, and kept in `waiting`; `work_list` goes on
+//! until none waits. `rounds` has the plain program, which goes over all bounds again and again.
+#![tactic(auto)]
+
+mod bound;
+mod raise;
+mod readers;
+mod rounds;
+mod waiting;
+mod work_list;
+
+pub use bound::{Bound, OVER, Term, are_within};
+pub use rounds::least_widths_by_rounds;
+pub use work_list::least_widths;
+
+#[cfg(test)]
+mod tests;
