@@ -1,10 +1,12 @@
 -- A type without its widths: what it may be used for, and its parts, are those of the type.
-use Rattle.std.proofs.Common.{◌≡◌, ℕ, List, refl, ap, ◌∙◌, Bool, true, false, ◌&&◌, Option, Some, None}
+use Rattle.std.proofs.Common.{◌≡◌, ℕ, ◌+◌, ◌*◌, List, refl, ap, ◌∙◌, Bool, true, false, ◌&&◌, Option, Some, None}
 use Rattle.std.specs.Prelude.{not, ◌||◌, ◌==◌, option_map, if◌then◌else◌}
 use Rattle.std.specs.Str.{bytes_eq}
 use Rattle.fir_ast.specs.Types.{DataType, uint, sint, clock, reset, async_reset, bundle, vector, Fields, no_fields, field}
 use Rattle.fir_meaning.specs.TypeKinds.{is_passive, are_passive, is_numeric, are_numeric, bare, bare_fields, FieldFound, field_named}
 use Rattle.fir_meaning.specs.Reaching.{field_of_type}
+use Rattle.fir_meaning.specs.TypeLeaves.{field_count, leaf_count}
+use Rattle.fir_type_table.specs.working.Sizes.{leaves_before, leaves_before_field, shared_before, shared_before_field, shared_count, shared_field_count}
 use Rattle.fir_type_table.specs.working.Tables.{shown}
 
 mutual
@@ -93,3 +95,75 @@ same_field (Some f) = refl
 pub shown_field_of_type : (is_bare : Bool) (x : List ℕ) (t : DataType) → field_of_type x (shown is_bare t) ≡ option_map (shown_field is_bare) (field_of_type x t)
 shown_field_of_type true x t = bare_field_of_type x t
 shown_field_of_type false x t = same_field (field_of_type x t)
+
+mutual
+  bare_leaf_count : (t : DataType) → leaf_count (bare t) ≡ leaf_count t
+  bare_leaf_count (bundle fs) = bare_field_count fs
+  bare_leaf_count (vector t n) = ap (λ k. n * k) (bare_leaf_count t)
+  bare_leaf_count (uint w) = refl
+  bare_leaf_count (sint w) = refl
+  bare_leaf_count clock = refl
+  bare_leaf_count reset = refl
+  bare_leaf_count async_reset = refl
+
+  bare_field_count : (fs : Fields) → field_count (bare_fields fs) ≡ field_count fs
+  bare_field_count no_fields = refl
+  bare_field_count (field p flip x b t fs) =
+      ap (λ k. k + field_count (bare_fields fs)) (bare_leaf_count t) ∙ ap (λ k. leaf_count t + k) (bare_field_count fs)
+
+pub shown_leaf_count : (is_bare : Bool) (t : DataType) → leaf_count (shown is_bare t) ≡ leaf_count t
+shown_leaf_count true t = bare_leaf_count t
+shown_leaf_count false t = refl
+
+mutual
+  bare_shared_count : (t : DataType) → shared_count (bare t) ≡ shared_count t
+  bare_shared_count (bundle fs) = bare_shared_field_count fs
+  bare_shared_count (vector t n) = bare_shared_count t
+  bare_shared_count (uint w) = refl
+  bare_shared_count (sint w) = refl
+  bare_shared_count clock = refl
+  bare_shared_count reset = refl
+  bare_shared_count async_reset = refl
+
+  bare_shared_field_count : (fs : Fields) → shared_field_count (bare_fields fs) ≡ shared_field_count fs
+  bare_shared_field_count no_fields = refl
+  bare_shared_field_count (field p flip x b t fs) =
+      ap (λ k. k + shared_field_count (bare_fields fs)) (bare_shared_count t) ∙ ap (λ k. shared_count t + k) (bare_shared_field_count fs)
+
+bare_before_field : (name : List ℕ) (fs : Fields) → leaves_before_field name (bare_fields fs) ≡ leaves_before_field name fs
+bare_before_field name no_fields = refl
+bare_before_field name (field p flip x b t fs) =
+    ap (λ k. if bytes_eq x name then 0 else k + leaves_before_field name (bare_fields fs)) (bare_leaf_count t)
+    ∙ ap (λ k. if bytes_eq x name then 0 else leaf_count t + k) (bare_before_field name fs)
+
+bare_shared_before_field : (name : List ℕ) (fs : Fields) → shared_before_field name (bare_fields fs) ≡ shared_before_field name fs
+bare_shared_before_field name no_fields = refl
+bare_shared_before_field name (field p flip x b t fs) =
+    ap (λ k. if bytes_eq x name then 0 else k + shared_before_field name (bare_fields fs)) (bare_shared_count t)
+    ∙ ap (λ k. if bytes_eq x name then 0 else shared_count t + k) (bare_shared_before_field name fs)
+
+bare_before : (name : List ℕ) (t : DataType) → leaves_before name (bare t) ≡ leaves_before name t
+bare_before name (bundle fs) = bare_before_field name fs
+bare_before name (vector t n) = refl
+bare_before name (uint w) = refl
+bare_before name (sint w) = refl
+bare_before name clock = refl
+bare_before name reset = refl
+bare_before name async_reset = refl
+
+bare_shared_before : (name : List ℕ) (t : DataType) → shared_before name (bare t) ≡ shared_before name t
+bare_shared_before name (bundle fs) = bare_shared_before_field name fs
+bare_shared_before name (vector t n) = refl
+bare_shared_before name (uint w) = refl
+bare_shared_before name (sint w) = refl
+bare_shared_before name clock = refl
+bare_shared_before name reset = refl
+bare_shared_before name async_reset = refl
+
+pub shown_leaves_before : (is_bare : Bool) (name : List ℕ) (t : DataType) → leaves_before name (shown is_bare t) ≡ leaves_before name t
+shown_leaves_before true name t = bare_before name t
+shown_leaves_before false name t = refl
+
+pub shown_shared_before : (is_bare : Bool) (name : List ℕ) (t : DataType) → shared_before name (shown is_bare t) ≡ shared_before name t
+shown_shared_before true name t = bare_shared_before name t
+shown_shared_before false name t = refl

@@ -27,10 +27,15 @@ use Rattle.fir_type_table.specs.working.Tables.{types_of}
 use Rattle.fir_types.specs.declared.found.Found.{Found}
 use Rattle.fir_types.specs.declared.scope.Scope.{Scope}
 use Rattle.fir_types.specs.working.Judged.{IsFirstOf}
-use Rattle.fir_types.specs.working.TypedModules.{HasModule, HasModules, IsTyped, JudgesModule, found_types}
+use Rattle.fir_types.specs.declared.findings.Findings.{Findings}
+use Rattle.fir_types.specs.declared.note.Note.{Note}
+use Rattle.fir_types.specs.working.ModuleNotes.{module_notes}
+use Rattle.fir_types.specs.working.Noted.{Noted, note_seen, saturated_note}
+use Rattle.fir_types.specs.working.TypedModules.{HasModule, HasModules, HasNotes, IsTyped, JudgesModule, found_notes, found_types}
 use Rattle.fir_types.specs.working.Walked.{HoldsBundles, IsOfModule}
 use Rattle.fir_types.proofs.CheckedForms.{first_left, first_right}
 use Rattle.fir_types.proofs.GrownScopes.{all_held, all_seen}
+use Rattle.fir_types.proofs.NotedWalks.{noted_grown}
 use Rattle.fir_types.proofs.StatementFaults.{both_clear}
 
 -- a module by its number
@@ -92,15 +97,40 @@ types_all ts modules (m ∷ ms) (v ∷ vs) h =
 types_all ts modules [] (v ∷ vs) h = absurd h
 types_all ts modules (m ∷ ms) [] h = absurd h
 
+-- notes of modules
+notes_grown : (ts more : List DataType) (modules ms : List ModuleTree) (vs : List (Vec Note Global)) → HasNotes ts modules ms vs → HasNotes (ts ++ more) modules ms vs
+notes_grown ts more modules [] [] h = tt
+notes_grown ts more modules (m ∷ ms) (v ∷ vs) h = (noted_grown ts more [] v.items (module_notes modules m) h.0, notes_grown ts more modules ms vs h.1)
+notes_grown ts more modules [] (v ∷ vs) h = absurd h
+notes_grown ts more modules (m ∷ ms) [] h = absurd h
+
+notes_more : (ts : List DataType) (modules ms : List ModuleTree) (vs : List (Vec Note Global)) (m : ModuleTree) (v : Vec Note Global)
+    → HasNotes ts modules ms vs → Noted ts [] v.items (module_notes modules m) → HasNotes ts modules (ms ++ m ∷ []) (vs ++ v ∷ [])
+notes_more ts modules [] [] m v h k = (k, tt)
+notes_more ts modules (x ∷ ms) (w ∷ vs) m v h k = (h.0, notes_more ts modules ms vs m v h.1 k)
+notes_more ts modules [] (w ∷ vs) m v h k = absurd h
+notes_more ts modules (x ∷ ms) [] m v h k = absurd h
+
+notes_all : (ts : List DataType) (modules ms : List ModuleTree) (vs : List (Vec Note Global)) → HasNotes ts modules ms vs
+    → found_notes ts vs ≡ map (map saturated_note) (map (module_notes modules) ms)
+notes_all ts modules [] [] h = refl
+notes_all ts modules (m ∷ ms) (v ∷ vs) h =
+    ap (λ x. x ∷ found_notes ts vs) (ap (map (note_seen ts)) h.0.grown ∙ h.0.are)
+    ∙ ap (λ xs. map saturated_note (module_notes modules m) ∷ xs) (notes_all ts modules ms vs h.1)
+notes_all ts modules [] (v ∷ vs) h = absurd h
+notes_all ts modules (m ∷ ms) [] h = absurd h
+
 -- how far a walk has come
-pub record ModulesTyped (modules front : List ModuleTree) (bundles : List TypeId) (table : List Entry) (declared : List (Vec (Option Found) Global)) : Type 0 where
+pub record ModulesTyped (modules front : List ModuleTree) (bundles : List TypeId) (table : List Entry) (declared : List (Vec (Option Found) Global))
+    (notes : List (Vec Note Global)) : Type 0 where
   pub clear : flat_map (module_type_faults modules) front ≡ []
   pub has : HasModules (types_of table) modules front declared
+  pub noted : HasNotes (types_of table) modules front notes
   pub holds : HoldsBundles (types_of table) bundles modules
 
-pub modules_first : (modules : List ModuleTree) (bundles : List TypeId) (table : List Entry) (declared : List (Vec (Option Found) Global)) → declared ≡ []
-    → HoldsBundles (types_of table) bundles modules → ModulesTyped modules [] bundles table declared
-modules_first modules bundles table declared none holds = record { clear = refl; has = rw none tt; holds = holds }
+pub modules_first : (modules : List ModuleTree) (bundles : List TypeId) (table : List Entry) (declared : List (Vec (Option Found) Global)) (notes : List (Vec Note Global))
+    → declared ≡ [] → notes ≡ [] → HoldsBundles (types_of table) bundles modules → ModulesTyped modules [] bundles table declared notes
+modules_first modules bundles table declared notes none no_notes holds = record { clear = refl; has = rw none tt; noted = rw no_notes tt; holds = holds }
 
 module _ (c : Circuit) (items : List Module) (same : items ≡ c.modules.items) (i : ℕ) where
   abbrev modules : List ModuleTree
@@ -126,33 +156,38 @@ module _ (c : Circuit) (items : List Module) (same : items ≡ c.modules.items) 
         instance_number (circuit_of c) clear.names (module_of m) d name (get_in modules i (module_of m) (module_there m within at)) among is;
   }
 
-  pub modules_next : (bundles lent : List TypeId) → lent ≡ bundles → (table : List Entry) (declared after : List (Vec (Option Found) Global)) (m : Module) (scope : Scope)
-      → i < length items → m ≡ get_or items i m → ModulesTyped modules (front i) bundles table declared
-      → JudgesModule modules lent (types_of table) (module_of m) (Ok scope) → after ≡ declared ++ scope.declared ∷ []
-      → ModulesTyped modules (front (i + 1)) bundles scope.table after
-  modules_next bundles lent given table declared after m scope within at typed judged pushed =
+  pub modules_next : (bundles lent : List TypeId) → lent ≡ bundles → (table : List Entry) (declared after : List (Vec (Option Found) Global)) (notes later : List (Vec Note Global))
+      (m : Module) (scope : Scope) (own : Vec Note Global)
+      → i < length items → m ≡ get_or items i m → ModulesTyped modules (front i) bundles table declared notes
+      → JudgesModule modules lent (types_of table) (module_of m) (Ok (scope, own)) → after ≡ declared ++ scope.declared ∷ [] → later ≡ notes ++ own ∷ []
+      → ModulesTyped modules (front (i + 1)) bundles scope.table after later
+  modules_next bundles lent given table declared after notes later m scope own within at typed judged pushed noted =
       let grown : HasModules (types_of scope.table) modules (front i) declared =
       rw judged.3.grown (modules_grown (types_of table) judged.3.more modules (front i) declared typed.has) in
-      rw (front_more m within at, pushed) record {
+      let still : HasNotes (types_of scope.table) modules (front i) notes =
+      rw judged.3.grown (notes_grown (types_of table) judged.3.more modules (front i) notes typed.noted) in
+      rw (front_more m within at, pushed, noted) record {
         clear = clear_more (module_type_faults modules) (front i) (module_of m) typed.clear judged.0;
         has = modules_more (types_of scope.table) modules (front i) declared (module_of m) scope.declared grown judged.1;
+        noted = notes_more (types_of scope.table) modules (front i) notes (module_of m) own still judged.4;
         holds = subst (λ ids. HoldsBundles (types_of scope.table) ids modules) given judged.2;
       }
 
-  pub module_fails : (bundles : List TypeId) (table : List Entry) (declared : List (Vec (Option Found) Global)) (m : Module) (e : Refused FirFault)
-      → i < length items → m ≡ get_or items i m → ModulesTyped modules (front i) bundles table declared
+  pub module_fails : (bundles : List TypeId) (table : List Entry) (declared : List (Vec (Option Found) Global)) (notes : List (Vec Note Global)) (m : Module) (e : Refused FirFault)
+      → i < length items → m ≡ get_or items i m → ModulesTyped modules (front i) bundles table declared notes
       → IsFirstOf (module_type_faults modules (module_of m)) e → IsFirstOf (type_faults (circuit_of c)) e
-  module_fails bundles table declared m e within at typed h =
+  module_fails bundles table declared notes m e within at typed h =
       let whole : modules ≡ front i ++ module_of m ∷ map module_of (drop (i + 1) items) =
       sym (ap (map module_of) same) ∙ split items i m within at ∙ ap (λ xs. map module_of (take i xs) ++ module_of m ∷ map module_of (drop (i + 1) items)) same in
       subst (λ ms. IsFirstOf (flat_map (module_type_faults modules) ms) e) (sym whole)
       (first_within (module_type_faults modules) (front i) (map module_of (drop (i + 1) items)) (module_of m) e typed.clear h)
 
-  pub modules_all : (bundles : List TypeId) (table : List Entry) (declared : List (Vec (Option Found) Global)) → length items ≤ i
-      → ModulesTyped modules (front i) bundles table declared → IsTyped (circuit_of c) table declared
-  modules_all bundles table declared past typed =
+  pub modules_all : (bundles : List TypeId) (found : Findings) → length items ≤ i
+      → ModulesTyped modules (front i) bundles found.table found.declared.items found.notes.items → IsTyped (circuit_of c) found
+  modules_all bundles found past typed =
       let all : front i ≡ modules = ap (map module_of) (sym (ap (take i) same) ∙ take_all i items past ∙ same) in
       record {
         clear = sym (ap (flat_map (module_type_faults modules)) all) ∙ typed.clear;
-        types = types_all (types_of table) modules (front i) declared typed.has ∙ ap (map (λ m. map (λ k. k.data_type) (typed_scope modules (declarations m)))) all;
+        types = types_all (types_of found.table) modules (front i) found.declared.items typed.has ∙ ap (map (λ m. map (λ k. k.data_type) (typed_scope modules (declarations m)))) all;
+        notes = notes_all (types_of found.table) modules (front i) found.notes.items typed.noted ∙ ap (λ ms. map (map saturated_note) (map (module_notes modules) ms)) all;
       }

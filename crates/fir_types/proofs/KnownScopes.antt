@@ -1,9 +1,9 @@
 -- What the code's table of names and its list of types know of a name is what the typed scope knows.
-use Rattle.std.proofs.Common.{◌≡◌, ℕ, suc, ◌≤◌, List, [], ◌∷◌, ◌++◌, map, length, Bool, true, false, if◌then◌else◌, Option, Some, None, refl, sym, ap, ◌∙◌, append_assoc, arith}
+use Rattle.std.proofs.Common.{◌≡◌, ℕ, zero, suc, ◌+◌, ◌≤◌, List, [], ◌∷◌, ◌++◌, map, length, Bool, true, false, if◌then◌else◌, Option, Some, None, refl, sym, ap, ◌∙◌, append_assoc, add-zero, zero-add, arith}
 use Rattle.std.specs.Prelude.{slice_get}
 use Rattle.std.specs.Str.{bytes_eq}
 use Rattle.std.proofs.lemmas.List.{length_push}
-use Rattle.std.proofs.lemmas.Option.{slice_get_past}
+use Rattle.std.proofs.lemmas.Option.{none-some, same_Some, slice_get_past}
 use Rattle.fir_base.proofs.Elements.{get_behind}
 use Rattle.fir_base.proofs.SameNames.{name_is}
 use Rattle.fir_ast.specs.Types.{DataType}
@@ -24,8 +24,10 @@ use Rattle.fir_type_table.specs.working.Tables.{types_of}
 use Rattle.fir_types.specs.declared.found.Found.{Found}
 use Rattle.fir_types.specs.declared.scope.Scope.{Scope}
 use Rattle.fir_types.specs.working.Seen.{seen}
-use Rattle.fir_types.specs.working.Known.{component_flow, known_there, known_at, Knows}
+use Rattle.fir_types.specs.working.Known.{component_flow, known_there, known_at, Knows, position_at, position_there}
+use Rattle.fir_types.specs.working.Notes.{position_of}
 use Rattle.fir_types.specs.working.Walked.{Begins, IsOfModule, Walks}
+use Rattle.fir_types.proofs.GrownScopes.{append_none}
 
 -- names and flows of declarations
 abbrev pub Heads : Declarations → TypedScope → Type 0
@@ -117,9 +119,63 @@ found_known ns ts front [] i (d ∷ ds) rest (k ∷ ks) n at heads types = absur
 found_known ns ts front xs i [] rest (k ∷ ks) n at heads types = absurd heads
 found_known ns ts front xs i (d ∷ ds) rest [] n at heads types = absurd heads
 
+-- and where it stands
+abbrev position_by : List (Option Found) → Option Entry → Option ℕ
+position_by all None = None
+position_by all (Some e) = position_there e.position (slice_get all e.position)
+
+chosen : {A : Type 0} (f : A → Option ℕ) (b : Bool) (x y : A) (p z w : ℕ) → f (if b then x else y) ≡ Some p → (b ≡ true → f x ≡ Some p → p ≡ z)
+    → (b ≡ false → f y ≡ Some p → p ≡ w) → p ≡ (if b then z else w)
+chosen f true x y p z w e h k = h refl e
+chosen f false x y p z w e h k = k refl e
+
+past_position : (ns : List PlacedName) (all : List (Option Found)) (i : ℕ) (rest : Declarations) (n : List ℕ) → length all ≤ i
+    → position_by all (entry_named ns i rest n) ≡ None
+past_position ns all i [] n h = refl
+past_position ns all i (d ∷ ds) n h =
+    either (position_by all) (bytes_eq d.named.name n) (Some (entry_of ns i d)) (entry_named ns (suc i) ds n) None None
+    (λ e. ap (position_there i) (slice_get_past all i h))
+    (λ e. past_position ns all (suc i) ds n (omega (arith, h)))
+    ∙ same_both (bytes_eq d.named.name n) None
+
+found_position : (ns : List PlacedName) (ts : List DataType) (front xs : List (Option Found)) (i : ℕ) (ds rest : Declarations) (ks : TypedScope) (n : List ℕ) (p : ℕ)
+    → length front ≡ i → Heads ds ks → map (seen ts) xs ≡ map (λ k. k.data_type) ks → position_by (front ++ xs) (entry_named ns i (ds ++ rest) n) ≡ Some p
+    → p ≡ i + position_of ks n
+found_position ns ts front [] i [] rest [] n p at heads types is =
+    absurd (none-some p (sym (past_position ns (front ++ []) i rest n (rw (sym (append_none front)) (omega (arith, at)))) ∙ is))
+found_position ns ts front (x ∷ xs) i (d ∷ ds) rest (k ∷ ks) n p at heads types is =
+    chosen (position_by (front ++ x ∷ xs)) (bytes_eq d.named.name n) (Some (entry_of ns i d)) (entry_named ns (suc i) (ds ++ rest) n) p (i + 0) (i + suc (position_of ks n)) is
+    (λ e here.
+    let there : slice_get (front ++ x ∷ xs) i ≡ Some x = rw (sym at) (get_behind front xs x) in
+    sym (same_Some i p (sym (ap (position_there i) there) ∙ here)) ∙ sym (add-zero i))
+    (λ e behind.
+    found_position ns ts (front ++ x ∷ []) xs (suc i) ds rest ks n p (let pushed = length_push front x in omega (arith, pushed, at)) heads.2 (behind_is types)
+    (ap (λ all. position_by all (entry_named ns (suc i) (ds ++ rest) n)) (append_assoc front (x ∷ []) xs) ∙ behind)
+    ∙ one_more i (position_of ks n))
+    ∙ pulled (bytes_eq d.named.name n) (position_of ks n)
+    ∙ ap (λ name. i + (if bytes_eq name n then zero else suc (position_of ks n))) (sym heads.0)
+  where
+    behind_is : {y z : Option DataType} {ys zs : List (Option DataType)} → y ∷ ys ≡ z ∷ zs → ys ≡ zs
+    behind_is h = cc
+
+    one_more : (a b : ℕ) → suc a + b ≡ a + suc b
+    one_more a b = omega arith
+
+    pulled : (b : Bool) (q : ℕ) → (if b then i + 0 else i + suc q) ≡ i + (if b then zero else suc q)
+    pulled true q = refl
+    pulled false q = refl
+found_position ns ts front (x ∷ xs) i [] rest [] n p at heads types is = absurd cc
+found_position ns ts front [] i (d ∷ ds) rest (k ∷ ks) n p at heads types is = absurd cc
+found_position ns ts front xs i [] rest (k ∷ ks) n p at heads types is = absurd heads
+found_position ns ts front xs i (d ∷ ds) rest [] n p at heads types is = absurd heads
+
 as_known : (scope : Scope) (n : List ℕ) (e : Option Entry) → known_at scope n e ≡ known_by (types_of scope.table) scope.declared.items n e
 as_known scope n None = refl
 as_known scope n (Some e) = refl
+
+as_position : (scope : Scope) (e : Option Entry) → position_at scope e ≡ position_by scope.declared.items e
+as_position scope None = refl
+as_position scope (Some e) = refl
 
 pub knows_scope : (modules : List ModuleTree) (names : Names) (whole : Declarations) (bundles : List TypeId) (scope : Scope) (before : Before)
     → IsOfModule modules names whole → Begins before.declared whole → Walks modules bundles scope before → Knows names scope (scope_at modules before)
@@ -129,6 +185,12 @@ knows_scope modules names whole bundles scope before of begins walks = record {
       ∙ ap (known_by (types_of scope.table) scope.declared.items n) (of.tabulated.by_name n ∙ ap (λ ds. entry_named (names_of modules) 0 ds n) begins.1)
       ∙ found_known (names_of modules) (types_of scope.table) [] scope.declared.items 0 before.declared begins.0 (scope_at modules before) n refl
       (heads_of modules before.declared) walks.types;
+  position = λ n p is.
+      found_position (names_of modules) (types_of scope.table) [] scope.declared.items 0 before.declared begins.0 (scope_at modules before) n p refl
+      (heads_of modules before.declared) walks.types
+      (sym (ap (position_by scope.declared.items) (of.tabulated.by_name n ∙ ap (λ ds. entry_named (names_of modules) 0 ds n) begins.1))
+      ∙ sym (as_position scope (found names n)) ∙ is)
+      ∙ zero-add (position_of (scope_at modules before) n);
 }
 
 -- what is declared before a place is declared before what is behind it

@@ -13,6 +13,8 @@ pub mod HeldTypes
 pub mod MemoryPorts
 pub mod GrownScopes
 pub mod KnownScopes
+pub mod NotedWalks
+pub mod RangeWalks
 pub mod StatementFaults
 pub mod RegisterWalks
 pub mod InstanceWalks

@@ -1,5 +1,5 @@
 -- The walk over the ports and the body of a module, from an empty scope on.
-use Rattle.std.proofs.Common.{◌≡◌, ℕ, ◌+◌, ◌<◌, ◌≤◌, List, [], ◌∷◌, ◌++◌, map, length, Ok, refl, sym, ap, subst, ◌∙◌, take, get_or}
+use Rattle.std.proofs.Common.{◌≡◌, ℕ, ◌+◌, ◌<◌, ◌≤◌, List, [], ◌∷◌, ◌++◌, map, length, Vec, Global, Ok, refl, sym, ap, subst, ◌∙◌, take, get_or}
 use Rattle.std.proofs.lemmas.List.{map_more, take_all}
 use Rattle.fir_base.specs.declared.refused.Refused.{Refused}
 use Rattle.fir_ast.specs.declared.circuit.Port.{Port}
@@ -17,6 +17,9 @@ use Rattle.fir_type_table.specs.working.Tables.{types_of}
 use Rattle.fir_types.specs.declared.scope.Scope.{Scope}
 use Rattle.fir_types.specs.working.Judged.{IsFirstOf}
 use Rattle.fir_types.specs.working.TypedModules.{JudgesModule}
+use Rattle.fir_types.specs.declared.note.Note.{Note}
+use Rattle.fir_types.specs.working.ModuleNotes.{block_notes, module_notes}
+use Rattle.fir_types.specs.working.Noted.{Noted}
 use Rattle.fir_types.specs.working.Walked.{Begins, Declared, GoesOnWith, HoldsBundles, PassesPorts, Walks}
 use Rattle.fir_types.proofs.GrownScopes.{append_none, goes_still, goes_twice, walks_declared}
 
@@ -65,6 +68,9 @@ module _ (modules : List ModuleTree) (bundles : List TypeId) (m : ModuleTree) (p
   faults_are =
       ap (λ ps. type_faults_in_block modules (behind_ports at_head ps) body) first ∙ ap (λ b. type_faults_in_block modules (behind_ports at_head m.ports) b) second
 
+  notes_are : block_notes modules (behind_ports at_head ports) body ≡ module_notes modules m
+  notes_are = ap (λ ps. block_notes modules (behind_ports at_head ps) body) first ∙ ap (λ b. block_notes modules (behind_ports at_head m.ports) b) second
+
   pub walks_ports : (old new : Scope) → old.declared.items ≡ [] → HoldsBundles (types_of old.table) bundles modules → PassesPorts old new ports
       → Walks modules bundles new (behind_ports at_head ports)
   walks_ports old new none holds passes = passes.walked modules bundles at_head (walks_head modules bundles old none holds)
@@ -74,8 +80,9 @@ module _ (modules : List ModuleTree) (bundles : List TypeId) (m : ModuleTree) (p
 
   pub module_judged : (old next new : Scope) → PassesPorts old next ports
       → (type_faults_in_block modules (behind_ports at_head ports) body ≡ []) × Walks modules bundles new (behind_block (behind_ports at_head ports) body) × GoesOnWith (types_of next.table) new
-      → JudgesModule modules bundles (types_of old.table) m (Ok new)
-  module_judged old next new passes judged = (
+      → (notes : Vec Note Global) → Noted (types_of new.table) [] notes.items (block_notes modules (behind_ports at_head ports) body)
+      → JudgesModule modules bundles (types_of old.table) m (Ok (new, notes))
+  module_judged old next new passes judged notes noted = (
     sym faults_are ∙ judged.0,
     record {
       types = judged.1.types ∙ ap (λ ds. map (λ k. k.data_type) (typed_scope modules ds)) behind_is;
@@ -83,4 +90,5 @@ module _ (modules : List ModuleTree) (bundles : List TypeId) (m : ModuleTree) (p
     },
     judged.1.holds,
     goes_twice (types_of old.table) next new passes.goes_on judged.2,
+    subst (Noted (types_of new.table) [] notes.items) notes_are noted,
   )

@@ -2,16 +2,25 @@
 use Rattle.std.proofs.Common.{◌≡◌, ℕ, ◌+◌, ◌<◌, List, ◌++◌, map, drop, length, get_or, refl, sym, ap, ◌∙◌, subst, Box, Global}
 use Rattle.std.proofs.lemmas.List.{drop_more}
 use Rattle.fir_ast.specs.declared.place.Place.{Place}
-use Rattle.fir_ast.specs.declared.expressions.Expr.{Expr}
+use Rattle.fir_ast.specs.declared.expressions.Literal.{Literal}
+use Rattle.fir_ast.specs.declared.expressions.Expr.{Expr, fold-roll-Expr}
+use Rattle.fir_ast.specs.declared.expressions.Expr.TheVariants as expr
 use Rattle.fir_ast.specs.declared.expressions.Expr.TheOpen.{Part-F}
 use Rattle.fir_ast.specs.declared.expressions.Expr.TheOpen as layer
+use Rattle.fir_ast.specs.declared.expressions.Reference.{Reference, fold_out-Reference}
 use Rattle.fir_ast.specs.declared.expressions.Part.{Part, fold-roll-Part, fold_out-Part}
 use Rattle.fir_ast.specs.declared.expressions.Part.TheVariants as part
-use Rattle.fir_ast.specs.Expressions.{Expression, Parts, no_parts, subfield, subindex, subaccess}
+use Rattle.fir_ast.specs.Expressions.{Expression, literal, Parts, no_parts, subfield, subindex, subaccess}
 use Rattle.fir_ast.specs.Statements.{Sink}
-use Rattle.fir_ast.specs.View.{expr_of, parts_of, expr_step, part_step, reference_step}
+use Rattle.fir_ast.specs.View.{expr_of, parts_of, sink_of, expr_step, part_step, reference_step}
 use Rattle.fir_names.specs.working.Parts.{part_of}
 use Rattle.fir_types.specs.working.Seen.{steps_of}
+
+pub literal_view : (l : Literal) → expr_of (expr.Literal l) ≡ literal l
+literal_view l = ap expr_of (sym (expr.rolls-Literal l)) ∙ fold-roll-Expr Expression (Parts → Parts) Sink expr_step part_step reference_step (layer.Literal l)
+
+pub sink_view : (r : Reference) → sink_of r ≡ record { place = r.place; name = r.name; parts = parts_of (map part_of r.parts.items) }
+sink_view r = fold_out-Reference Expression (Parts → Parts) Sink expr_step part_step reference_step r
 
 pub field_view : (first q : Place) (x : List ℕ) → part_of (part.Field first q x) ≡ subfield first q x
 field_view first q x =

@@ -1,5 +1,5 @@
 -- Walks along the parts of a reference, part by part.
-use Rattle.std.proofs.Common.{◌≡◌, ℕ, ◌+◌, ◌<◌, List, [], ◌∷◌, ◌++◌, map, drop, length, get_or, Option, Ok, Err, Result, sym, ap, ◌∙◌, append_assoc}
+use Rattle.std.proofs.Common.{◌≡◌, ℕ, ◌+◌, ◌<◌, List, [], ◌∷◌, ◌++◌, map, drop, length, get_or, Option, Ok, Err, Result, refl, sym, ap, ◌∙◌, append_assoc}
 use Rattle.std.specs.Prelude.{option_map}
 use Rattle.fir_base.specs.declared.refused.Refused.{Refused}
 use Rattle.fir_ast.specs.declared.fault.FirFault.{FirFault}
@@ -10,8 +10,8 @@ use Rattle.fir_ast.specs.Types.{DataType}
 use Rattle.fir_ast.specs.Expressions.{Parts, no_parts}
 use Rattle.fir_ast.specs.View.{parts_of, sink_of}
 use Rattle.fir_meaning.specs.Checked.{Checked}
-use Rattle.fir_meaning.specs.LeafPaths.{Step, LeafPath}
-use Rattle.fir_meaning.specs.Reaching.{Reached}
+use Rattle.fir_meaning.specs.LeafPaths.{Step, LeafPath, named}
+use Rattle.fir_meaning.specs.Reaching.{Reached, root}
 use Rattle.fir_meaning.specs.TypedScopes.{TypedScope}
 use Rattle.fir_meaning.specs.ExpressionTypes.{along_parts, reaching}
 use Rattle.fir_names.specs.working.Parts.{part_of}
@@ -19,7 +19,8 @@ use Rattle.fir_types.specs.declared.reach.Reach.{Reach}
 use Rattle.fir_types.specs.working.Judged.{Is, IsFirstOf, Finds, GoesOn}
 use Rattle.fir_types.specs.working.Seen.{reached_as, sink_path, steps_of}
 use Rattle.fir_types.proofs.CheckedForms.{first_along}
-use Rattle.fir_types.proofs.PartViews.{parts_left, part_steps}
+use Rattle.fir_types.proofs.PartViews.{parts_left, part_steps, sink_view}
+use Rattle.fir_types.proofs.GrownScopes.{append_none}
 
 -- one part, from what its form is found to be
 pub part_goes_on : (ts : List DataType) (typed : TypedScope) (p : Place) (path : LeafPath) (c form : Checked Reached) (part : Parts → Parts) (rest : Parts) (step : Step) (result : Result (Option Reach) (Refused FirFault))
@@ -62,3 +63,20 @@ part_fault ts typed p whole all ps i x y e so_far h is fails =
 -- the walk of a reference
 abbrev pub Walked : List DataType → TypedScope → Reference → Parts → Option Reach → Type 0
 Walked ts typed r left y = ReachedSoFar ts typed r.place (reaching typed (sink_of r)) (sink_path (sink_of r)) left y
+
+pub reached_first : (ts : List DataType) (typed : TypedScope) (r : Reference) (parts : List Part) (y : Option Reach) → parts ≡ r.parts.items
+    → option_map (reached_as ts (named r.name ∷ [])) y ≡ (root typed r.name).has → Walked ts typed r (parts_of (map part_of parts)) y
+reached_first ts typed r parts y same reached = record {
+  path = named r.name ∷ [];
+  now = root typed r.name;
+  reached = record { has = sym reached; none = refl };
+  same = ap (reaching typed) (sink_view r) ∙ ap (λ ps. along_parts typed r.place (root typed r.name) (parts_of (map part_of ps))) (sym same);
+  steps = ap sink_path (sink_view r) ∙ ap (λ ps. named r.name ∷ steps_of (parts_of (map part_of ps))) (sym same);
+}
+
+pub reached_done : (ts : List DataType) (typed : TypedScope) (r : Reference) (left : Parts) (y : Option Reach) → Walked ts typed r left y → left ≡ no_parts
+    → Is (reaching typed (sink_of r)) (option_map (reached_as ts (sink_path (sink_of r))) y)
+reached_done ts typed r left y walked none =
+    let whole = walked.same ∙ ap (along_parts typed r.place walked.now) none in
+    let path : sink_path (sink_of r) ≡ walked.path = walked.steps ∙ ap (λ ps. walked.path ++ steps_of ps) none ∙ sym (append_none walked.path) in
+    rw (whole, path) walked.reached

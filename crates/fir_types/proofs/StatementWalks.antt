@@ -1,8 +1,10 @@
 -- The walk over statements and blocks.
 use Rattle.std.proofs.Common.{◌≡◌, List, [], ◌++◌, map, Result, Ok, Err, refl, sym, ap, subst, ◌∙◌}
+use Rattle.std.specs.Prelude.{OnOk}
 use Rattle.fir_base.specs.declared.refused.Refused.{Refused}
 use Rattle.fir_ast.specs.declared.fault.FirFault.{FirFault}
 use Rattle.fir_ast.specs.declared.place.Place.{Place}
+use Rattle.fir_ast.specs.Types.{DataType}
 use Rattle.fir_ast.specs.Expressions.{Expression}
 use Rattle.fir_ast.specs.Statements.{Statement, when, Block, done, then}
 use Rattle.fir_ast.specs.Circuits.{ModuleTree}
@@ -22,6 +24,11 @@ use Rattle.fir_types.specs.working.Walked.{Begins, GoesOnWith, Judges, Passes, W
 use Rattle.fir_types.proofs.CheckedForms.{first_left, first_right}
 use Rattle.fir_types.proofs.KnownScopes.{begins_before}
 use Rattle.fir_types.proofs.GrownScopes.{goes_still, goes_twice}
+use Rattle.fir_types.specs.declared.note.Note.{Note}
+use Rattle.fir_types.specs.working.ModuleNotes.{block_notes, statement_notes}
+use Rattle.fir_types.specs.working.Notes.{expression_notes}
+use Rattle.fir_types.specs.working.Noted.{Noted}
+use Rattle.fir_types.proofs.NotedWalks.{NotesSoFar, noted_later, noted_three, notes_done, notes_first, notes_later, notes_next}
 use Rattle.fir_types.proofs.StatementFaults.{both_clear}
 
 -- the same statement
@@ -83,6 +90,38 @@ module _ (modules : List ModuleTree) (bundles : List TypeId) (start old new : Sc
   pub next_begins : Begins (behind a.now s).declared all
   next_begins = statement_begins a.now before s left whole all a.reached begins
 
+-- with the notes so far
+pub record NotedBlock (modules : List ModuleTree) (bundles : List TypeId) (start scope : Scope) (first notes : List Note) (before : Before) (whole left : Block) : Type 0 where
+  pub at : AtBlock modules bundles start scope before whole left
+  pub so_far : NotesSoFar (types_of scope.table) first notes (block_notes modules before whole) (block_notes modules at.now left)
+
+pub noted_block_begun : (modules : List ModuleTree) (bundles : List TypeId) (scope : Scope) (notes : List Note) (before : Before) (whole : Block) → Walks modules bundles scope before
+    → NotedBlock modules bundles scope scope notes notes before whole whole
+unfolding block_begun
+noted_block_begun modules bundles scope notes before whole w =
+    record { at = block_begun modules bundles scope before whole w; so_far = notes_first (types_of scope.table) notes (block_notes modules before whole) }
+
+pub noted_block_next : (modules : List ModuleTree) (bundles : List TypeId) (start old new : Scope) (first notes after : List Note) (before : Before) (whole left : Block) (s : Statement)
+    (all : Declarations) → Begins (behind_block before whole).declared all → (a : NotedBlock modules bundles start old first notes before whole ((then) s left))
+    → (type_faults_in modules a.at.now s ≡ []) × Walks modules bundles new (behind a.at.now s) × GoesOnWith (types_of old.table) new
+    → Noted (types_of new.table) notes after (statement_notes modules a.at.now s) → NotedBlock modules bundles start new first after before whole left
+unfolding block_next
+noted_block_next modules bundles start old new first notes after before whole left s all begins a p noted = record {
+  at = block_next modules bundles start old new before whole left s all begins a.at p;
+  so_far =
+      notes_next (types_of new.table) first notes after (block_notes modules before whole) (block_notes modules a.at.now ((then) s left)) (statement_notes modules a.at.now s)
+      (block_notes modules (behind a.at.now s) left) (notes_later (types_of old.table) new first notes _ _ p.2 a.so_far) refl noted;
+}
+
+pub noted_block_done : (modules : List ModuleTree) (bundles : List TypeId) (start scope : Scope) (first notes : List Note) (before : Before) (whole : Block)
+    → NotedBlock modules bundles start scope first notes before whole done → Noted (types_of scope.table) first notes (block_notes modules before whole)
+noted_block_done modules bundles start scope first notes before whole a = notes_done (types_of scope.table) first notes (block_notes modules before whole) [] a.so_far refl
+
+-- the notes of the same statement
+pub notes_by : {A E : Type 0} (ts : List DataType) (modules : List ModuleTree) (old new : List Note) (before : Before) (s t : Statement) (r : Result A E) → s ≡ t
+    → OnOk r (Noted ts old new (statement_notes modules before t)) → OnOk r (Noted ts old new (statement_notes modules before s))
+notes_by ts modules old new before s t r is h = subst (λ u. OnOk r (Noted ts old new (statement_notes modules before u))) (sym is) h
+
 pub block_passed : (modules : List ModuleTree) (bundles : List TypeId) (start scope : Scope) (before : Before) (whole : Block)
     → AtBlock modules bundles start scope before whole done
     → (type_faults_in_block modules before whole ≡ []) × Walks modules bundles scope (behind_block before whole) × GoesOnWith (types_of start.table) scope
@@ -117,6 +156,23 @@ module _ (modules : List ModuleTree) (bundles : List TypeId) (before : Before) (
     goes_twice (types_of old.table) middle scope g h.2,
   )
   when_passes old middle scope (Err e) none clear g h = first_right (condition ++ one) two e (both_clear condition one none clear) h
+
+  -- and the notes of it
+  pub when_noted : {A E : Type 0} (old middle new : Scope) (first second third last : List Note) (r : Result A E)
+      → Noted (types_of old.table) first second (expression_notes (scope_at modules before) c) → GoesOnWith (types_of old.table) middle
+      → Noted (types_of middle.table) second third (block_notes modules (opened before) a) → OnOk r (GoesOnWith (types_of middle.table) new)
+      → OnOk r (Noted (types_of new.table) third last (block_notes modules between b))
+      → OnOk r (Noted (types_of new.table) first last (statement_notes modules before (when p c a b)))
+  when_noted old middle new first second third last (Ok x) h goes k then_goes l =
+      noted_three (types_of new.table) first second third last _ _ _
+      (noted_later (types_of middle.table) new first second _ then_goes (noted_later (types_of old.table) middle first second _ goes h))
+      (noted_later (types_of middle.table) new second third _ then_goes k) l
+  when_noted old middle new first second third last (Err e) h goes k then_goes l = tt
+
+  pub passed_goes : {A : Type 0} (middle scope : Scope) (r : Result A (Refused FirFault)) → Passes modules bundles middle scope two (behind_block between b) r
+      → OnOk r (GoesOnWith (types_of middle.table) scope)
+  passed_goes middle scope (Ok x) h = h.2
+  passed_goes middle scope (Err e) h = tt
 
   pub opens : (scope : Scope) → Walks modules bundles scope before → Walks modules bundles scope (opened before)
   opens scope w = walks_at modules bundles scope before (opened before) refl w

@@ -2,8 +2,11 @@
 pub mod Sorts
 pub mod Seen
 pub mod Judged
+pub mod Notes
 pub mod Known
 pub mod Walked
+pub mod Noted
+pub mod ModuleNotes
 pub mod MemoryFields
 pub mod Driven
 pub mod Connected

@@ -24,7 +24,7 @@ pub fn check(alloc: Global, named: Named) -> Result<Typed, Refused<(FirFault, Na
     ensures back { IfFault result (λ f. f.1 ≡ named) }
 {
     match in_modules(alloc, &named) {
-        Ok((table, declared)) => Ok(Typed::new(named, table, declared)),
+        Ok(findings) => Ok(Typed::new(named, findings)),
         Err(Refused::Fault(fault)) => Err(Refused::Fault((fault, named))),
         Err(Refused::Memory) => Err(Refused::Memory),
     }

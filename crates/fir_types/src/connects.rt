@@ -1,5 +1,6 @@
 //! The types and flows of connects and partial connects (FIRRTL spec, "Connects", "Partial Connects", "Flow").
 
+ghost use Rattle.std.specs.Prelude.{OnOk};
 ghost use Rattle.fir_ast.specs.View.{expr_of, sink_of};
 ghost use Rattle.fir_meaning.specs.Checked.{shown_after};
 ghost use Rattle.fir_meaning.specs.ConnectFaults.{connect_faults, partial_connect_faults};
@@ -9,6 +10,9 @@ ghost use Rattle.fir_meaning.specs.TypedScopes.{TypedScope};
 ghost use Rattle.fir_type_table.specs.working.Tables.{types_of};
 ghost use Rattle.fir_types.specs.working.Connected.{IsByReference, IsSource, right_of};
 ghost use Rattle.fir_types.specs.working.Known.{Knows};
+ghost use Rattle.fir_types.specs.working.ModuleNotes.{connect_notes};
+ghost use Rattle.fir_types.specs.working.Notes.{expression_notes};
+ghost use Rattle.fir_types.specs.working.Noted.{Noted};
 ghost use Rattle.fir_types.specs.working.Seen.{found_type, reached_as, sink_path};
 ghost use Rattle.fir_types.specs.working.Walked.{Judges};
 
@@ -17,6 +21,7 @@ use crate::expressions::{in_expression, in_reference};
 use crate::faults::wrong_types;
 use crate::found::Found;
 use crate::found_pairs::{fit, fit_partly};
+use crate::note::Note;
 use crate::reach::Reach;
 use crate::scope::Scope;
 use fir_ast::{Expr, FirFault, Place, Reference};
@@ -29,14 +34,16 @@ pub fn in_connect(
     alloc: Global,
     names: &Names,
     scope: &Scope,
+    notes: &mut Vec<Note>,
     place: Place,
     sink: &Reference,
     source: &Expr,
 ) -> Result<(), Refused<FirFault>>
-    ensures { (typed : TypedScope) → Knows names.now scope.now typed → Judges (shown_after (sides typed (sink_of sink.now) (expr_of source.now)) (λ found. connect_faults place found.0 (reached_by typed (expr_of source.now)) found.1)) result }
+    ensures found { (typed : TypedScope) → Knows names.now scope.now typed → Judges (shown_after (sides typed (sink_of sink.now) (expr_of source.now)) (λ found. connect_faults place found.0 (reached_by typed (expr_of source.now)) found.1)) result }
+    ensures notes { (typed : TypedScope) → Knows names.now scope.now typed → OnOk result (Noted (types_of scope.now.table) notes.old.items notes.new.items (connect_notes typed (sink_of sink.now) (expr_of source.now))) }
 {
-    let left = in_reference(sink, alloc, names, scope)?;
-    let right = in_source(alloc, names, scope, source)?;
+    let left = in_reference(sink, alloc, names, scope, notes)?;
+    let right = in_source(alloc, names, scope, notes, source)?;
     match (left, right) {
         (Some(left), Some(right)) => on_connect(alloc, scope, place, sink, left, source, right),
         _ => Ok(()),
@@ -48,14 +55,16 @@ pub fn in_partial_connect(
     alloc: Global,
     names: &Names,
     scope: &Scope,
+    notes: &mut Vec<Note>,
     place: Place,
     sink: &Reference,
     source: &Expr,
 ) -> Result<(), Refused<FirFault>>
-    ensures { (typed : TypedScope) → Knows names.now scope.now typed → Judges (shown_after (sides typed (sink_of sink.now) (expr_of source.now)) (λ found. partial_connect_faults place found.0 (reached_by typed (expr_of source.now)) found.1)) result }
+    ensures found { (typed : TypedScope) → Knows names.now scope.now typed → Judges (shown_after (sides typed (sink_of sink.now) (expr_of source.now)) (λ found. partial_connect_faults place found.0 (reached_by typed (expr_of source.now)) found.1)) result }
+    ensures notes { (typed : TypedScope) → Knows names.now scope.now typed → OnOk result (Noted (types_of scope.now.table) notes.old.items notes.new.items (connect_notes typed (sink_of sink.now) (expr_of source.now))) }
 {
-    let left = in_reference(sink, alloc, names, scope)?;
-    let right = in_source(alloc, names, scope, source)?;
+    let left = in_reference(sink, alloc, names, scope, notes)?;
+    let right = in_source(alloc, names, scope, notes, source)?;
     match (left, right) {
         (Some(left), Some(right)) => {
             on_partial_connect(alloc, scope, place, sink, left, source, right)
@@ -75,12 +84,14 @@ fn in_source(
     alloc: Global,
     names: &Names,
     scope: &Scope,
+    notes: &mut Vec<Note>,
     source: &Expr,
 ) -> Result<Option<Source>, Refused<FirFault>>
-    ensures { (typed : TypedScope) → Knows names.now scope.now typed → IsSource (types_of scope.now.table) typed (expr_of source.now) result }
+    ensures found { (typed : TypedScope) → Knows names.now scope.now typed → IsSource (types_of scope.now.table) typed (expr_of source.now) result }
+    ensures notes { (typed : TypedScope) → Knows names.now scope.now typed → OnOk result (Noted (types_of scope.now.table) notes.old.items notes.new.items (expression_notes typed (expr_of source.now))) }
 {
     if let Expr::Ref(reference) = source {
-        return match in_reference(reference, alloc, names, scope)? {
+        return match in_reference(reference, alloc, names, scope, notes)? {
             Some(reach) => Ok(Some(Source {
                 found: reach.found,
                 reach: Some(reach),
@@ -88,7 +99,7 @@ fn in_source(
             None => Ok(None),
         };
     }
-    match in_expression(source, alloc, names, scope)? {
+    match in_expression(source, alloc, names, scope, notes)? {
         Some(found) => Ok(Some(Source { found, reach: None })),
         None => Ok(None),
     }

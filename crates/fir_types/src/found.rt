@@ -1,11 +1,14 @@
 //! What an expression is found to be.
 
-ghost use Rattle.std.specs.Prelude.{◌≡◌, ℕ, List, Option, IfOk, option_map};
+ghost use Rattle.std.specs.Prelude.{◌≡◌, ℕ, List, Option, IfOk, IfSome, option_map};
 ghost use Rattle.fir_ast.specs.View.{type_of};
 ghost use Rattle.fir_meaning.specs.Reaching.{field_of_type, vector_of_type};
 ghost use Rattle.fir_ast.specs.Types.{DataType};
 ghost use Rattle.fir_meaning.specs.TypeKinds.{bare, is_numeric, is_passive};
 ghost use Rattle.fir_meaning.specs.ExpressionTypes.{number_type};
+ghost use Rattle.fir_meaning.specs.TypeLeaves.{leaf_count};
+ghost use Rattle.fir_type_table.specs.working.Saturated.{saturated};
+ghost use Rattle.fir_type_table.specs.working.Sizes.{leaves_before, shared_before};
 ghost use Rattle.fir_type_table.specs.declared.entry.Member.{Member};
 ghost use Rattle.fir_type_table.specs.working.Tables.{made_of, types_of};
 ghost use Rattle.fir_types.specs.working.Seen.{field_seen, found_type};
@@ -35,6 +38,10 @@ pub enum Found {
 pub struct FieldOf {
     pub flip: bool,
     pub found: Found,
+    /// How many leaves come before its first; at most 2^64 - 1.
+    pub offset: u64,
+    /// The same where all elements of a vector share their leaves.
+    pub shared_offset: u64,
 }
 
 /// The sort of a type.
@@ -92,9 +99,11 @@ pub fn is_numeric(table: &TypeTable, found: Found) -> bool
 }
 
 /// Its field of that name.
-#[tactic(auto, using(crate::proofs::BareTypes::shown_field_of_type))]
+#[tactic(auto, using(crate::proofs::BareTypes::shown_field_of_type, crate::proofs::BareTypes::shown_leaves_before, crate::proofs::BareTypes::shown_shared_before))]
 pub fn field(table: &TypeTable, found: Found, name: &Name) -> Option<FieldOf>
-    ensures { option_map (field_seen (types_of table.now)) result ≡ field_of_type name.now (found_type (types_of table.now) found) }
+    ensures found { option_map (field_seen (types_of table.now)) result ≡ field_of_type name.now (found_type (types_of table.now) found) }
+    ensures offset { IfSome result (λ f. f.offset ≡ saturated (leaves_before name.now (found_type (types_of table.now) found))) }
+    ensures shared_offset { IfSome result (λ f. f.shared_offset ≡ saturated (shared_before name.now (found_type (types_of table.now) found))) }
 {
     match found {
         Found::Number(_, _) | Found::AsyncReset => None,
@@ -103,6 +112,8 @@ pub fn field(table: &TypeTable, found: Found, name: &Name) -> Option<FieldOf>
             Some(FieldOf {
                 flip: field.flip,
                 found: Found::Type(field.ty, is_bare),
+                offset: field.offset,
+                shared_offset: field.shared_offset,
             })
         }
     }
@@ -118,6 +129,17 @@ pub fn elements(table: &TypeTable, found: Found) -> Option<(Found, u128)>
             Kind::Vector(element, length) => Some((Found::Type(element, is_bare), length)),
             _ => None,
         },
+    }
+}
+
+/// How many leaves it has; at most 2^64 - 1.
+#[tactic(auto, using(crate::proofs::BareTypes::shown_leaf_count))]
+pub fn leaves(table: &TypeTable, found: Found) -> u64
+    ensures { result ≡ saturated (leaf_count (found_type (types_of table.now) found)) }
+{
+    match found {
+        Found::Number(_, _) | Found::AsyncReset => 1,
+        Found::Type(id, _) => table.leaves(id),
     }
 }
 

@@ -8,6 +8,7 @@ ghost use Rattle.fir_type_table.specs.working.Tables.{types_of};
 ghost use Rattle.fir_types.specs.working.Walked.{HoldsBundles, IsOfModule, PassesPorts};
 ghost use Rattle.fir_types.specs.working.TypedModules.{JudgesModule};
 
+use crate::note::Note;
 use crate::scope::Scope;
 use crate::statements::in_block;
 use fir_ast::{FirFault, Module, Port};
@@ -16,14 +17,15 @@ use fir_names::Names;
 use fir_type_table::{TypeId, TypeTable};
 use std::alloc::Global;
 
-/// The types of what a module declares, with the table, or its first fault of types.
+/// The types of what a module declares, with the table, and what is found of its expressions; or its first
+/// fault of types.
 pub fn in_module(
     alloc: Global,
     names: &Names,
     bundles: &[TypeId],
     part: &Module,
     table: TypeTable,
-) -> Result<Scope, Refused<FirFault>>
+) -> Result<(Scope, Vec<Note>), Refused<FirFault>>
     ensures { (modules : List ModuleTree) → IsOfModule modules names.now (declarations (module_of part.now)) → HoldsBundles (types_of table) bundles.now modules → JudgesModule modules bundles.now (types_of table) (module_of part.now) result }
 {
     let mut scope = Scope {
@@ -31,8 +33,9 @@ pub fn in_module(
         declared: Vec::new(alloc),
     };
     declare_ports(alloc, &mut scope, &part.ports)?;
-    in_block(&part.body, alloc, names, bundles, &mut scope)?;
-    Ok(scope)
+    let mut notes = Vec::new(alloc);
+    in_block(&part.body, alloc, names, bundles, &mut scope, &mut notes)?;
+    Ok((scope, notes))
 }
 
 /// Declares ports.

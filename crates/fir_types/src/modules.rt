@@ -5,31 +5,34 @@ ghost use Rattle.fir_ast.specs.View.{circuit_of};
 ghost use Rattle.fir_types.specs.working.TypedModules.{JudgesTypes};
 
 use crate::bundles::add_bundles;
-use crate::found::Found;
+use crate::findings::Findings;
 use crate::module::in_module;
 use fir_ast::FirFault;
 use fir_base::Refused;
 use fir_names::Named;
-use fir_type_table::{TypeId, TypeTable};
+use fir_type_table::TypeTable;
 use std::alloc::Global;
 
-/// The types of what each module declares, with the table that they stand in; or the first fault of types.
-pub fn in_modules(
-    alloc: Global,
-    named: &Named,
-) -> Result<(TypeTable, Vec<Vec<Option<Found>>>), Refused<FirFault>>
+/// What is found of each module, with the table of the types; or the first fault of types.
+pub fn in_modules(alloc: Global, named: &Named) -> Result<Findings, Refused<FirFault>>
     ensures { JudgesTypes (circuit_of named.now) result }
 {
     let mut table = TypeTable::new(alloc)?;
     let bundles = add_bundles(alloc, &mut table, &named.circuit().modules)?;
     let mut declared = Vec::new(alloc);
+    let mut notes = Vec::new(alloc);
     for (number, part) in named.circuit().modules.iter().enumerate() {
         let Some(names) = named.names(number) else {
             unreachable!()
         };
-        let scope = in_module(alloc, names, &bundles, part, table)?;
+        let (scope, noted) = in_module(alloc, names, &bundles, part, table)?;
         table = scope.table;
         declared.push(scope.declared)?;
+        notes.push(noted)?;
     }
-    Ok((table, declared))
+    Ok(Findings {
+        table,
+        declared,
+        notes,
+    })
 }

@@ -7,6 +7,8 @@ ghost use Rattle.fir_meaning.specs.Reaching.{root};
 ghost use Rattle.fir_meaning.specs.TypedScopes.{TypedScope};
 ghost use Rattle.fir_type_table.specs.working.Tables.{types_of};
 ghost use Rattle.fir_types.specs.working.Known.{Knows};
+ghost use Rattle.fir_types.specs.working.Notes.{root_range};
+ghost use Rattle.fir_types.specs.working.Noted.{IsRootRange};
 ghost use Rattle.fir_types.specs.working.Seen.{found_type, reached_as, seen};
 ghost use Rattle.fir_types.specs.working.Walked.{Declared, DeclaredFound, IsHeld, Written};
 
@@ -29,14 +31,18 @@ pub struct Scope {
 impl Scope {
     /// What a name reaches.
     pub fn root(&self, names: &Names, name: &Name) -> Option<Reach>
-        ensures { (typed : TypedScope) → Knows names.now self.now typed → option_map (reached_as (types_of self.now.table) (named name.now ∷ [])) result ≡ (root typed name.now).has }
+        ensures reached { (typed : TypedScope) → Knows names.now self.now typed → option_map (reached_as (types_of self.now.table) (named name.now ∷ [])) result ≡ (root typed name.now).has }
+        ensures range { (typed : TypedScope) → Knows names.now self.now typed → IsRootRange (types_of self.now.table) result (root_range typed name.now) }
     {
         let declaration = names.find(name)?;
         let found = self.declared.get(declaration.position)?;
         Some(Reach {
+            declaration: declaration.position,
             found: (*found)?,
             flow: Flow::of(declaration.component),
             leads: true,
+            offset: 0,
+            shared_offset: 0,
         })
     }
 
@@ -61,16 +67,24 @@ impl Scope {
     pub fn declare_found(&mut self, found: Option<Found>) -> Result<(), MemoryOut>
         ensures { IfOk result (λ _. DeclaredFound self.old self.new (seen (types_of self.old.table) found)) }
     {
-        let found = match found {
-            Some(found) => Some(self.held(found)),
-            None => None,
-        };
+        let found = self.held(found);
         self.declared.push(found)?;
         Ok(())
     }
 
+    /// The same type, if there is one, under an id that the table has.
+    pub fn held(&self, found: Option<Found>) -> Option<Found>
+        ensures held { IsHeld (types_of self.now.table) result }
+        ensures same { seen (types_of self.now.table) result ≡ seen (types_of self.now.table) found }
+    {
+        match found {
+            Some(found) => Some(self.held_type(found)),
+            None => None,
+        }
+    }
+
     /// The same type, under an id that the table has: under another it counts as a UInt.
-    fn held(&self, found: Found) -> Found
+    pub fn held_type(&self, found: Found) -> Found
         ensures held { IsHeld (types_of self.now.table) (Some result) }
         ensures same { found_type (types_of self.now.table) result ≡ found_type (types_of self.now.table) found }
     {

@@ -1,6 +1,6 @@
 //! The types in statements, in the order of the text, blocks of whens entered.
 
-ghost use Rattle.std.specs.Prelude.{◌≡◌, ℕ, List, IfOk, flat_map, map, option_map, slice_get};
+ghost use Rattle.std.specs.Prelude.{◌≡◌, ℕ, List, IfOk, OnOk, flat_map, map, option_map, slice_get};
 ghost use Rattle.fir_ast.specs.declared.place.Place.{Place};
 ghost use Rattle.fir_ast.specs.Circuits.{ModuleTree};
 ghost use Rattle.fir_ast.specs.Statements.{PlacedName};
@@ -9,12 +9,15 @@ ghost use Rattle.fir_meaning.specs.Components as component;
 ghost use Rattle.fir_meaning.specs.Components.{Declarations};
 ghost use Rattle.fir_meaning.specs.MemoryFaults.{memory_faults};
 ghost use Rattle.fir_meaning.specs.MemoryTypes.{data_of_part, first_one, memory_type};
-ghost use Rattle.fir_meaning.specs.TypeGroup.{type_faults_in, type_faults_in_block};
+ghost use Rattle.fir_meaning.specs.TypeGroup.{scope_at, type_faults_in, type_faults_in_block};
 ghost use Rattle.fir_meaning.specs.Visibility.{Before, behind, behind_block, with_declaration};
 ghost use Rattle.fir_names.specs.working.Parts.{when_view};
 ghost use Rattle.fir_names.specs.working.Tabulated.{found_at};
 ghost use Rattle.fir_type_table.specs.working.Tables.{type_at, types_of};
 ghost use Rattle.fir_types.specs.working.MemoryParts.{HasWordType, IsFoundIn, IsHeldWordType};
+ghost use Rattle.fir_types.specs.working.ModuleNotes.{block_notes, register_notes, statement_notes};
+ghost use Rattle.fir_types.specs.working.Notes.{expression_notes};
+ghost use Rattle.fir_types.specs.working.Noted.{Noted};
 ghost use Rattle.fir_types.specs.working.Statements.{found_bundle, node_faults, register_faults};
 ghost use Rattle.fir_types.specs.working.Walked.{Begins, GoesOnWith, IsOfModule, Passes, Walks};
 
@@ -24,6 +27,7 @@ use crate::found::Found;
 use crate::memory_faults::in_memory_fields;
 use crate::memory_fields::{first_depth, first_word_type};
 use crate::memory_type::memory_type;
+use crate::note::Note;
 use crate::registers::{in_clock, in_reset, no_flips, register_type};
 use crate::scope::Scope;
 use fir_ast::{Expr, FirFault, Ident, Memory, Register, Stmt, When};
@@ -40,11 +44,13 @@ pub fn in_block(
     names: &Names,
     bundles: &[TypeId],
     scope: &mut Scope,
+    notes: &mut Vec<Note>,
 ) -> Result<(), Refused<FirFault>>
-    ensures { (modules : List ModuleTree) (before : Before) (whole : Declarations) → IsOfModule modules names.now whole → Begins (behind_block before (block_of (map stmt_of body.now))).declared whole → Walks modules bundles.now scope.old before → Passes modules bundles.now scope.old scope.new (type_faults_in_block modules before (block_of (map stmt_of body.now))) (behind_block before (block_of (map stmt_of body.now))) result }
+    ensures passes { (modules : List ModuleTree) (before : Before) (whole : Declarations) → IsOfModule modules names.now whole → Begins (behind_block before (block_of (map stmt_of body.now))).declared whole → Walks modules bundles.now scope.old before → Passes modules bundles.now scope.old scope.new (type_faults_in_block modules before (block_of (map stmt_of body.now))) (behind_block before (block_of (map stmt_of body.now))) result }
+    ensures notes { (modules : List ModuleTree) (before : Before) (whole : Declarations) → IsOfModule modules names.now whole → Begins (behind_block before (block_of (map stmt_of body.now))).declared whole → Walks modules bundles.now scope.old before → OnOk result (Noted (types_of scope.new.table) notes.old.items notes.new.items (block_notes modules before (block_of (map stmt_of body.now)))) }
 {
     for statement in body {
-        in_statement(statement, alloc, names, bundles, scope)?;
+        in_statement(statement, alloc, names, bundles, scope, notes)?;
     }
     Ok(())
 }
@@ -56,24 +62,26 @@ fn in_statement(
     names: &Names,
     bundles: &[TypeId],
     scope: &mut Scope,
+    notes: &mut Vec<Note>,
 ) -> Result<(), Refused<FirFault>>
-    ensures { (modules : List ModuleTree) (before : Before) (whole : Declarations) → IsOfModule modules names.now whole → Begins (behind before (stmt_of statement.now)).declared whole → Walks modules bundles.now scope.old before → Passes modules bundles.now scope.old scope.new (type_faults_in modules before (stmt_of statement.now)) (behind before (stmt_of statement.now)) result }
+    ensures passes { (modules : List ModuleTree) (before : Before) (whole : Declarations) → IsOfModule modules names.now whole → Begins (behind before (stmt_of statement.now)).declared whole → Walks modules bundles.now scope.old before → Passes modules bundles.now scope.old scope.new (type_faults_in modules before (stmt_of statement.now)) (behind before (stmt_of statement.now)) result }
+    ensures notes { (modules : List ModuleTree) (before : Before) (whole : Declarations) → IsOfModule modules names.now whole → Begins (behind before (stmt_of statement.now)).declared whole → Walks modules bundles.now scope.old before → OnOk result (Noted (types_of scope.new.table) notes.old.items notes.new.items (statement_notes modules before (stmt_of statement.now))) }
 {
     match statement {
         Stmt::Wire(_, _, _, ty) => Ok(scope.declare(alloc, ty)?),
-        Stmt::Reg(_, register) => in_register(alloc, names, scope, register),
-        Stmt::Node(_, ident, value) => in_node(alloc, names, scope, ident, value),
+        Stmt::Reg(_, register) => in_register(alloc, names, scope, notes, register),
+        Stmt::Node(_, ident, value) => in_node(alloc, names, scope, notes, ident, value),
         Stmt::Inst(_, _, _) => Ok(declare_instance(names, bundles, scope)?),
         Stmt::Mem(_, memory) => in_memory(alloc, scope, memory),
-        Stmt::When(_, when) => in_when(when, alloc, names, bundles, scope),
+        Stmt::When(_, when) => in_when(when, alloc, names, bundles, scope, notes),
         Stmt::Connect(place, sink, source) => {
-            in_connect(alloc, names, scope, *place, sink, source)
+            in_connect(alloc, names, scope, notes, *place, sink, source)
         }
         Stmt::PartialConnect(place, sink, source) => {
-            in_partial_connect(alloc, names, scope, *place, sink, source)
+            in_partial_connect(alloc, names, scope, notes, *place, sink, source)
         }
         Stmt::Invalid(_, sink) => {
-            in_reference(sink, alloc, names, scope)?;
+            in_reference(sink, alloc, names, scope, notes)?;
             Ok(())
         }
         Stmt::Skip(_) => Ok(()),
@@ -88,12 +96,14 @@ fn in_when(
     names: &Names,
     bundles: &[TypeId],
     scope: &mut Scope,
+    notes: &mut Vec<Note>,
 ) -> Result<(), Refused<FirFault>>
-    ensures { (modules : List ModuleTree) (before : Before) (whole : Declarations) (place : Place) → IsOfModule modules names.now whole → Begins (behind before (when_view when.now place)).declared whole → Walks modules bundles.now scope.old before → Passes modules bundles.now scope.old scope.new (type_faults_in modules before (when_view when.now place)) (behind before (when_view when.now place)) result }
+    ensures passes { (modules : List ModuleTree) (before : Before) (whole : Declarations) (place : Place) → IsOfModule modules names.now whole → Begins (behind before (when_view when.now place)).declared whole → Walks modules bundles.now scope.old before → Passes modules bundles.now scope.old scope.new (type_faults_in modules before (when_view when.now place)) (behind before (when_view when.now place)) result }
+    ensures notes { (modules : List ModuleTree) (before : Before) (whole : Declarations) (place : Place) → IsOfModule modules names.now whole → Begins (behind before (when_view when.now place)).declared whole → Walks modules bundles.now scope.old before → OnOk result (Noted (types_of scope.new.table) notes.old.items notes.new.items (statement_notes modules before (when_view when.now place))) }
 {
-    in_unsigned(&when.condition, alloc, names, scope)?;
-    in_block(&when.then_block, alloc, names, bundles, scope)?;
-    in_block(&when.else_block, alloc, names, bundles, scope)
+    in_unsigned(&when.condition, alloc, names, scope, notes)?;
+    in_block(&when.then_block, alloc, names, bundles, scope, notes)?;
+    in_block(&when.else_block, alloc, names, bundles, scope, notes)
 }
 
 /// A register: its own type, its clock, and then its reset, in which it is known.
@@ -101,15 +111,17 @@ fn in_register(
     alloc: Global,
     names: &Names,
     scope: &mut Scope,
+    notes: &mut Vec<Note>,
     register: &Register,
 ) -> Result<(), Refused<FirFault>>
-    ensures { (modules : List ModuleTree) (bundles : List TypeId) (before : Before) (whole : Declarations) → IsOfModule modules names.now whole → Begins (with_declaration before (named_of register.now.ident) (component.register (type_of register.now.ty))).declared whole → Walks modules bundles scope.old before → Passes modules bundles scope.old scope.new (register_faults modules before (named_of register.now.ident) (type_of register.now.ty) (expr_of register.now.clock) (option_map reset_of register.now.reset)) (with_declaration before (named_of register.now.ident) (component.register (type_of register.now.ty))) result }
+    ensures passes { (modules : List ModuleTree) (bundles : List TypeId) (before : Before) (whole : Declarations) → IsOfModule modules names.now whole → Begins (with_declaration before (named_of register.now.ident) (component.register (type_of register.now.ty))).declared whole → Walks modules bundles scope.old before → Passes modules bundles scope.old scope.new (register_faults modules before (named_of register.now.ident) (type_of register.now.ty) (expr_of register.now.clock) (option_map reset_of register.now.reset)) (with_declaration before (named_of register.now.ident) (component.register (type_of register.now.ty))) result }
+    ensures notes { (modules : List ModuleTree) (bundles : List TypeId) (before : Before) (whole : Declarations) → IsOfModule modules names.now whole → Begins (with_declaration before (named_of register.now.ident) (component.register (type_of register.now.ty))).declared whole → Walks modules bundles scope.old before → OnOk result (Noted (types_of scope.new.table) notes.old.items notes.new.items (register_notes modules before (named_of register.now.ident) (type_of register.now.ty) (expr_of register.now.clock) (option_map reset_of register.now.reset))) }
 {
     let found = scope.add(alloc, &register.ty)?;
     register_type(alloc, &scope.table, &register.ident, found)?;
-    in_clock(alloc, names, scope, &register.clock)?;
+    in_clock(alloc, names, scope, notes, &register.clock)?;
     scope.declared.push(Some(found))?;
-    in_reset(alloc, names, scope, found, &register.reset)
+    in_reset(alloc, names, scope, notes, found, &register.reset)
 }
 
 /// A node, which is not known in its own expression.
@@ -117,12 +129,14 @@ fn in_node(
     alloc: Global,
     names: &Names,
     scope: &mut Scope,
+    notes: &mut Vec<Note>,
     ident: &Ident,
     value: &Expr,
 ) -> Result<(), Refused<FirFault>>
-    ensures { (modules : List ModuleTree) (bundles : List TypeId) (before : Before) (whole : Declarations) → IsOfModule modules names.now whole → Begins (with_declaration before (named_of ident.now) (component.node (expr_of value.now))).declared whole → Walks modules bundles scope.old before → Passes modules bundles scope.old scope.new (node_faults modules before (named_of ident.now) (expr_of value.now)) (with_declaration before (named_of ident.now) (component.node (expr_of value.now))) result }
+    ensures passes { (modules : List ModuleTree) (bundles : List TypeId) (before : Before) (whole : Declarations) → IsOfModule modules names.now whole → Begins (with_declaration before (named_of ident.now) (component.node (expr_of value.now))).declared whole → Walks modules bundles scope.old before → Passes modules bundles scope.old scope.new (node_faults modules before (named_of ident.now) (expr_of value.now)) (with_declaration before (named_of ident.now) (component.node (expr_of value.now))) result }
+    ensures notes { (modules : List ModuleTree) (bundles : List TypeId) (before : Before) (whole : Declarations) → IsOfModule modules names.now whole → Begins (with_declaration before (named_of ident.now) (component.node (expr_of value.now))).declared whole → Walks modules bundles scope.old before → OnOk result (Noted (types_of scope.new.table) notes.old.items notes.new.items (expression_notes (scope_at modules before) (expr_of value.now))) }
 {
-    let found = in_expression(value, alloc, names, scope)?;
+    let found = in_expression(value, alloc, names, scope, notes)?;
     no_flips(alloc, &scope.table, ident, found)?;
     Ok(scope.declare_found(found)?)
 }

@@ -5,13 +5,12 @@ ghost use Rattle.fir_ast.specs.Circuits.{ModuleTree};
 ghost use Rattle.fir_ast.specs.View.{circuit_of, type_of};
 ghost use Rattle.fir_meaning.specs.TypeGroup.{type_faults};
 ghost use Rattle.fir_types.specs.working.TypedModules.{IsTyped, type_declared};
-ghost use Rattle.fir_type_table.specs.working.Tables.{types_of};
 
-use crate::found::{Found, ty};
+use crate::findings::Findings;
+use crate::found::ty;
 use fir_ast::Ty;
 use fir_base::MemoryOut;
 use fir_names::Named;
-use fir_type_table::TypeTable;
 use std::alloc::Global;
 use std::marker::Model;
 
@@ -20,8 +19,7 @@ use std::marker::Model;
 #[derive(Drop)]
 pub struct Typed {
     named: Named,
-    table: TypeTable,
-    declared: Vec<Vec<Option<Found>>>,
+    findings: Findings,
 }
 
 impl Model for Typed {
@@ -37,20 +35,16 @@ impl Model for Typed {
 
     ghost view = { λ t. t.named };
 
-    ghost invariant = { λ t. IsTyped (circuit_of t.named) t.table t.declared.items };
+    ghost invariant = { λ t. IsTyped (circuit_of t.named) t.findings };
 }
 
 impl Typed {
     /// The circuit with these types.
-    pub(crate) fn new(named: Named, table: TypeTable, declared: Vec<Vec<Option<Found>>>) -> Typed
-        requires { IsTyped (circuit_of named) table declared.items }
+    pub(crate) fn new(named: Named, findings: Findings) -> Typed
+        requires { IsTyped (circuit_of named) findings }
         ensures { result ≡ named }
     {
-        Typed {
-            named,
-            table,
-            declared,
-        }
+        Typed { named, findings }
     }
 
     /// The circuit with its names.
@@ -59,6 +53,15 @@ impl Typed {
         ensures clear { type_faults (circuit_of self.now) ≡ [] }
     {
         &self.named
+    }
+
+    /// What is found of the circuit: the types of what each module declares, and of each of its expressions;
+    /// and for each of its references what it names, where its leaves begin, and what its dynamic indices
+    /// pick.
+    pub fn findings(&self) -> &Findings
+        ensures { IsTyped (circuit_of self.now) result.now }
+    {
+        &self.findings
     }
 
     /// The circuit with its names alone.
@@ -78,11 +81,11 @@ impl Typed {
     ) -> Result<Option<Ty>, MemoryOut>
         ensures { IfOk result (λ t. option_map type_of t ≡ type_declared (circuit_of self.now) module_number position) }
     {
-        let Some(declared) = self.declared.get(module_number) else {
+        let Some(declared) = self.findings.declared.get(module_number) else {
             return Ok(None);
         };
         match declared.get(position) {
-            Some(Some(found)) => Ok(Some(ty(alloc, &self.table, *found)?)),
+            Some(Some(found)) => Ok(Some(ty(alloc, &self.findings.table, *found)?)),
             _ => Ok(None),
         }
     }

@@ -11,6 +11,7 @@ use Rattle.fir_names.specs.working.Tabulated.{found}
 use Rattle.fir_type_table.specs.working.Tables.{types_of}
 use Rattle.fir_types.specs.declared.found.Found.{Found}
 use Rattle.fir_types.specs.declared.scope.Scope.{Scope}
+use Rattle.fir_types.specs.working.Notes.{position_of}
 use Rattle.fir_types.specs.working.Seen.{seen}
 
 abbrev pub component_flow : Component → Flow
@@ -33,6 +34,19 @@ known_at scope name (Some d) = known_there (types_of scope.table) name d.compone
 abbrev pub known_in : Names → Scope → List ℕ → Option Known
 known_in names scope name = known_at scope name (found names name)
 
--- the code knows each name as it stands in the scope
+-- how many are declared before it
+abbrev pub position_there : ℕ → Option (Option Found) → Option ℕ
+position_there position None = None
+position_there position (Some x) = Some position
+
+abbrev pub position_at : Scope → Option Declaration → Option ℕ
+position_at scope None = None
+position_at scope (Some d) = position_there d.position (slice_get scope.declared.items d.position)
+
+abbrev pub position_in : Names → Scope → List ℕ → Option ℕ
+position_in names scope name = position_at scope (found names name)
+
+-- the code knows each name as it stands in the scope, and where
 pub record Knows (names : Names) (scope : Scope) (typed : TypedScope) : Type 0 where
   pub each : (n : List ℕ) → known_in names scope n ≡ known typed n
+  pub position : (n : List ℕ) (p : ℕ) → position_in names scope n ≡ Some p → p ≡ position_of typed n

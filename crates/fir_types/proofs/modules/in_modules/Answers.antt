@@ -18,7 +18,7 @@ returns-in_err-push c = let p = err_from_is_err_and c.from_residual-in_err-push.
 pub loop-number-init : goal.loop-number-init
 loop-number-init c =
     let same = c.deref.ensures.value ∙ ap (λ x. x.modules.items) c.circuit.ensures.tree in
-    modules_first (circuit_of c.args.named.now).modules c.in_ok-bundles.bundles.items c.add_bundles.new.table c.new-declared.result.items c.new-declared.ensures.items
+    modules_first (circuit_of c.args.named.now).modules c.in_ok-bundles.bundles.items c.add_bundles.new.table c.new-declared.result.items c.new-notes.result.items c.new-declared.ensures.items c.new-notes.ensures.items
     (subst (λ xs. HoldsBundles (types_of c.add_bundles.new.table) c.in_ok-bundles.bundles.items (map module_of xs)) same c.in_ok-bundles.ensures)
 
 pub loop-number-preserved : goal.loop-number-preserved
@@ -35,7 +35,8 @@ loop-number-preserved c =
     let of = of_module tree items same i c.in-Some.names.now m within at c.circuit.ensures.named (c.in-Some.ensures (module_of m) there) in
     let holds = subst (λ ids. HoldsBundles (types_of c.loop-number.table) ids (circuit_of tree).modules) (sym given) c.loop-number.invariant.holds in
     modules_next tree items same i c.in_ok-bundles.bundles.items c.deref-in-loop-number.result.now given c.loop-number.table c.loop-number.declared.items
-    c.push.new.self.items m c.in_ok-scope.scope within at c.loop-number.invariant (c.in_ok-scope.ensures (circuit_of tree).modules of holds) c.in_ok-push.ensures.items
+    c.push.new.self.items c.loop-number.notes.items c.push-in-loop-number.new.self.items m c.in_ok-scope.scope c.in_ok-scope.noted within at c.loop-number.invariant
+    (c.in_ok-scope.ensures (circuit_of tree).modules of holds) c.in_ok-push.ensures.items c.in_ok-push-2.ensures.items
 
 pub returns-in_err-scope : goal.returns-in_err-scope
 returns-in_err-scope c =
@@ -52,14 +53,14 @@ returns-in_err-scope c =
     let of = of_module tree items same i c.in-Some.names.now m within at c.circuit.ensures.named (c.in-Some.ensures (module_of m) there) in
     let holds = subst (λ ids. HoldsBundles (types_of c.loop-number.table) ids (circuit_of tree).modules) (sym given) c.loop-number.invariant.holds in
     rw (p.1, p.2)
-    (module_fails tree items same i c.in_ok-bundles.bundles.items c.loop-number.table c.loop-number.declared.items m c.in_err-scope.field-0.0 within at
+    (module_fails tree items same i c.in_ok-bundles.bundles.items c.loop-number.table c.loop-number.declared.items c.loop-number.notes.items m c.in_err-scope.field-0.0 within at
     c.loop-number.invariant (c.in_err-scope.ensures (circuit_of tree).modules of holds))
 
 pub returns : goal.returns
 returns c =
     let same = c.deref-part-items.ensures.value ∙ ap (λ x. x.modules.items) c.circuit-2.ensures.tree in
-    modules_all c.args.named.now c.deref-part-items.result.now same c.loop-number.number c.in_ok-bundles.bundles.items c.loop-number.table c.loop-number.declared.items
-    c.loop-number-test.false c.loop-number.invariant
+    modules_all c.args.named.now c.deref-part-items.result.now same c.loop-number.number c.in_ok-bundles.bundles.items
+    (record { table = c.loop-number.table; declared = c.loop-number.declared; notes = c.loop-number.notes }) c.loop-number-test.false c.loop-number.invariant
 
 pub unreachable-requires : goal.unreachable-requires
 unreachable-requires c =

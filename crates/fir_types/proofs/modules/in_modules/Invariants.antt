@@ -5,4 +5,4 @@ use Rattle.fir_types.proofs.modules.in_modules.Given as goal
 
 abbrev pub invariant-loop-number : goal.invariant-loop-number
 invariant-loop-number l =
-    ModulesTyped (circuit_of l.named).modules (map module_of (take l.number l.named.modules.items)) l.bundles.items l.table l.declared.items
+    ModulesTyped (circuit_of l.named).modules (map module_of (take l.number l.named.modules.items)) l.bundles.items l.table l.declared.items l.notes.items
