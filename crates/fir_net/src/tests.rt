@@ -9,10 +9,8 @@ ghost use Rattle.std.specs.List.{AllByRecursion};
 ghost use Rattle.ver_words.specs.Names.{is_word};
 ghost use Rattle.fir_net.specs.Paths.{base_name};
 
-use crate::{
-    FlatNet, Leaf, LeafId, Mux, Node, NodeId, Operation, Read, Reads, Register, Role, counts, names,
-};
-use fir_ast::Place;
+use crate::{FlatNet, Leaf, Mux, Node, Operation, Read, Reads, Register, Role, counts, names};
+use fir_ast::{LeafId, NodeId, Place};
 use fir_base::{MemoryOut, Name, Seq};
 use fir_bits::{Bits, Num, PrimOp};
 use std::alloc::Global;

@@ -1,6 +1,7 @@
 //! Equal nodes get one number, and others numbers of their own.
 
-use crate::{LeafId, Mux, Node, Operation, Read, Reads, share};
+use crate::{Mux, Node, Operation, Read, Reads, share};
+use fir_ast::LeafId;
 use fir_base::{MemoryOut, Seq};
 use fir_bits::{Bits, Num, PrimOp};
 use indexmap::IndexSet;
