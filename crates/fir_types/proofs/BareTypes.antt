@@ -131,6 +131,10 @@ mutual
   bare_shared_field_count (field p flip x b t fs) =
       ap (λ k. k + shared_field_count (bare_fields fs)) (bare_shared_count t) ∙ ap (λ k. shared_count t + k) (bare_shared_field_count fs)
 
+pub shown_shared_count : (is_bare : Bool) (t : DataType) → shared_count (shown is_bare t) ≡ shared_count t
+shown_shared_count true t = bare_shared_count t
+shown_shared_count false t = refl
+
 bare_before_field : (name : List ℕ) (fs : Fields) → leaves_before_field name (bare_fields fs) ≡ leaves_before_field name fs
 bare_before_field name no_fields = refl
 bare_before_field name (field p flip x b t fs) =

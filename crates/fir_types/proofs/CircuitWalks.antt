@@ -23,15 +23,17 @@ use Rattle.fir_names.proofs.FirstMentions.{views_left}
 use Rattle.fir_names.proofs.ModulesThere.{instance_number}
 use Rattle.fir_type_table.specs.declared.entry.Entry.{Entry}
 use Rattle.fir_type_table.specs.declared.kind.TypeId.{TypeId}
+use Rattle.fir_type_table.specs.working.Saturated.{saturated}
 use Rattle.fir_type_table.specs.working.Tables.{types_of}
 use Rattle.fir_types.specs.declared.found.Found.{Found}
 use Rattle.fir_types.specs.declared.scope.Scope.{Scope}
 use Rattle.fir_types.specs.working.Judged.{IsFirstOf}
 use Rattle.fir_types.specs.declared.findings.Findings.{Findings}
 use Rattle.fir_types.specs.declared.note.Note.{Note}
+use Rattle.fir_types.specs.working.LeafNumbers.{first_leaves}
 use Rattle.fir_types.specs.working.ModuleNotes.{module_notes}
 use Rattle.fir_types.specs.working.Noted.{Noted, note_seen, saturated_note}
-use Rattle.fir_types.specs.working.TypedModules.{HasModule, HasModules, HasNotes, IsTyped, JudgesModule, found_notes, found_types}
+use Rattle.fir_types.specs.working.TypedModules.{HasModule, HasModules, HasNotes, IsTyped, JudgesModule, declared_types, found_notes, found_types}
 use Rattle.fir_types.specs.working.Walked.{HoldsBundles, IsOfModule}
 use Rattle.fir_types.proofs.CheckedForms.{first_left, first_right}
 use Rattle.fir_types.proofs.GrownScopes.{all_held, all_seen}
@@ -182,12 +184,22 @@ module _ (c : Circuit) (items : List Module) (same : items ≡ c.modules.items) 
       subst (λ ms. IsFirstOf (flat_map (module_type_faults modules) ms) e) (sym whole)
       (first_within (module_type_faults modules) (front i) (map module_of (drop (i + 1) items)) (module_of m) e typed.clear h)
 
+  all_passed : length items ≤ i → front i ≡ modules
+  all_passed past = ap (map module_of) (sym (ap (take i) same) ∙ take_all i items past ∙ same)
+
+  pub types_found : (bundles : List TypeId) (table : List Entry) (declared : List (Vec (Option Found) Global)) (notes : List (Vec Note Global)) → length items ≤ i
+      → ModulesTyped modules (front i) bundles table declared notes → found_types (types_of table) declared ≡ declared_types (circuit_of c)
+  types_found bundles table declared notes past typed =
+      types_all (types_of table) modules (front i) declared typed.has ∙ ap (map (λ m. map (λ k. k.data_type) (typed_scope modules (declarations m)))) (all_passed past)
+
   pub modules_all : (bundles : List TypeId) (found : Findings) → length items ≤ i
-      → ModulesTyped modules (front i) bundles found.table found.declared.items found.notes.items → IsTyped (circuit_of c) found
-  modules_all bundles found past typed =
-      let all : front i ≡ modules = ap (map module_of) (sym (ap (take i) same) ∙ take_all i items past ∙ same) in
+      → ModulesTyped modules (front i) bundles found.table found.declared.items found.notes.items
+      → map (λ v. v.items) found.first_leaves.items ≡ map (map saturated) (first_leaves (circuit_of c)) → IsTyped (circuit_of c) found
+  modules_all bundles found past typed leaves =
+      let all = all_passed past in
       record {
         clear = sym (ap (flat_map (module_type_faults modules)) all) ∙ typed.clear;
-        types = types_all (types_of found.table) modules (front i) found.declared.items typed.has ∙ ap (map (λ m. map (λ k. k.data_type) (typed_scope modules (declarations m)))) all;
+        types = types_found bundles found.table found.declared.items found.notes.items past typed;
         notes = notes_all (types_of found.table) modules (front i) found.notes.items typed.noted ∙ ap (λ ms. map (map saturated_note) (map (module_notes modules) ms)) all;
+        leaves = leaves;
       }

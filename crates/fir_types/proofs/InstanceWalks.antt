@@ -28,7 +28,7 @@ use Rattle.fir_types.specs.working.Walked.{HoldsBundles, Begins, IsOfModule, Wal
 use Rattle.fir_types.proofs.KnownScopes.{Heads, heads_of}
 
 -- a list of which the map is that of another is as long
-length_of_map : {A B : Type 0} (f : A → B) (xs : List A) → length (map f xs) ≡ length xs
+pub length_of_map : {A B : Type 0} (f : A → B) (xs : List A) → length (map f xs) ≡ length xs
 length_of_map f [] = refl
 length_of_map f (x ∷ xs) = ap suc (length_of_map f xs)
 
@@ -54,7 +54,7 @@ entry_there ns i (e ∷ ds) rest d =
     later : (k : ℕ) → suc i + k ≡ i + suc k
     later k = omega arith
 
-found_there : (names : Names) (found : Option ℕ) (e : Entry) → option_map (λ id. found_at names (Some id)) found ≡ Some (Some e) → found_at names found ≡ Some e
+pub found_there : (names : Names) (found : Option ℕ) (e : Entry) → option_map (λ id. found_at names (Some id)) found ≡ Some (Some e) → found_at names found ≡ Some e
 found_there names None e h = absurd (none-some (Some e) h)
 found_there names (Some id) e h = same_Some (found_at names (Some id)) (Some e) h
 

@@ -22,6 +22,7 @@ pub mod TypeFaultGroups
 pub mod TypePass
 pub mod PortBundles
 pub mod ModuleWalks
+pub mod LeafWalks
 pub mod CircuitWalks
 pub mod StatementParts
 pub mod StatementWalks

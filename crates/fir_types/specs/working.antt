@@ -3,6 +3,7 @@ pub mod Sorts
 pub mod Seen
 pub mod Judged
 pub mod Notes
+pub mod LeafNumbers
 pub mod Known
 pub mod Walked
 pub mod Noted
@@ -13,4 +14,5 @@ pub mod Connected
 pub mod Registers
 pub mod Statements
 pub mod TypedModules
+pub mod FirstLeaves
 pub mod MemoryParts

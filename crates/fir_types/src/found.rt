@@ -7,6 +7,7 @@ ghost use Rattle.fir_ast.specs.Types.{DataType};
 ghost use Rattle.fir_meaning.specs.TypeKinds.{bare, is_numeric, is_passive};
 ghost use Rattle.fir_meaning.specs.ExpressionTypes.{number_type};
 ghost use Rattle.fir_meaning.specs.TypeLeaves.{leaf_count};
+ghost use Rattle.fir_meaning.specs.working.SharedLeaves.{shared_count};
 ghost use Rattle.fir_type_table.specs.working.Saturated.{saturated};
 ghost use Rattle.fir_type_table.specs.working.Sizes.{leaves_before, shared_before};
 ghost use Rattle.fir_type_table.specs.declared.entry.Member.{Member};
@@ -140,6 +141,17 @@ pub fn leaves(table: &TypeTable, found: Found) -> u64
     match found {
         Found::Number(_, _) | Found::AsyncReset => 1,
         Found::Type(id, _) => table.leaves(id),
+    }
+}
+
+/// How many where all elements of a vector share their leaves; at most 2^64 - 1.
+#[tactic(auto, using(crate::proofs::BareTypes::shown_shared_count))]
+pub fn shared_leaves(table: &TypeTable, found: Found) -> u64
+    ensures { result ≡ saturated (shared_count (found_type (types_of table.now) found)) }
+{
+    match found {
+        Found::Number(_, _) | Found::AsyncReset => 1,
+        Found::Type(id, _) => table.shared_leaves(id),
     }
 }
 

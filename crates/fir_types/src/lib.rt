@@ -4,7 +4,8 @@
 //!
 //! One walk goes over each module in the order of the text (`module`, `statements`). What an expression is
 //! found to be (`found`) is told from what its operands are (`expressions`, `references`, `forms`,
-//! `operations`); the types of what is declared stand in one table, and are told by their ids.
+//! `operations`); the types of what is declared stand in one table, and are told by their ids. With these
+//! types the leaves of what is declared are numbered (`leaf_numbers`).
 #![tactic(auto)]
 
 mod bundles;
@@ -18,6 +19,7 @@ mod flow;
 mod forms;
 mod found;
 mod found_pairs;
+mod leaf_numbers;
 mod memory_faults;
 mod memory_fields;
 mod memory_type;

@@ -6,6 +6,7 @@ ghost use Rattle.fir_types.specs.working.TypedModules.{JudgesTypes};
 
 use crate::bundles::add_bundles;
 use crate::findings::Findings;
+use crate::leaf_numbers::first_leaves;
 use crate::module::in_module;
 use fir_ast::FirFault;
 use fir_base::Refused;
@@ -30,9 +31,11 @@ pub fn in_modules(alloc: Global, named: &Named) -> Result<Findings, Refused<FirF
         declared.push(scope.declared)?;
         notes.push(noted)?;
     }
+    let first_leaves = first_leaves(alloc, named, &table, &bundles, &declared)?;
     Ok(Findings {
         table,
         declared,
         notes,
+        first_leaves,
     })
 }

@@ -1,14 +1,17 @@
 //! A circuit with its types.
 
-ghost use Rattle.std.specs.Prelude.{◌≡◌, [], IfOk, option_map, slice_get};
-ghost use Rattle.fir_ast.specs.Circuits.{ModuleTree};
+ghost use Rattle.std.specs.Prelude.{◌≡◌, [], IfOk, IfSome, is_some, option_map};
 ghost use Rattle.fir_ast.specs.View.{circuit_of, type_of};
 ghost use Rattle.fir_meaning.specs.TypeGroup.{type_faults};
-ghost use Rattle.fir_types.specs.working.TypedModules.{IsTyped, type_declared};
+ghost use Rattle.fir_type_table.specs.working.Saturated.{saturated};
+ghost use Rattle.fir_types.specs.working.LeafNumbers.{first_named};
+ghost use Rattle.fir_types.specs.working.Notes.{LeafRange as Range};
+ghost use Rattle.fir_types.specs.working.TypedModules.{IsTyped, leaf_declared, type_declared};
 
 use crate::findings::Findings;
 use crate::found::ty;
-use fir_ast::Ty;
+use crate::note::LeafRange;
+use fir_ast::{LeafId, Ty};
 use fir_base::MemoryOut;
 use fir_names::Named;
 use std::alloc::Global;
@@ -56,8 +59,8 @@ impl Typed {
     }
 
     /// What is found of the circuit: the types of what each module declares, and of each of its expressions;
-    /// and for each of its references what it names, where its leaves begin, and what its dynamic indices
-    /// pick.
+    /// for each of its references what it names, where its leaves begin, and what its dynamic indices pick;
+    /// and the number of the first leaf of each declaration.
     pub fn findings(&self) -> &Findings
         ensures { IsTyped (circuit_of self.now) result.now }
     {
@@ -88,5 +91,18 @@ impl Typed {
             Some(Some(found)) => Ok(Some(ty(alloc, &self.findings.table, *found)?)),
             _ => Ok(None),
         }
+    }
+
+    /// The first of the leaves that a reference in the module with that number names, where all elements of a
+    /// vector have the numbers of one; at most 2^64 - 1. Where the module or the declaration is not there it
+    /// is None.
+    pub fn first_named(&self, module_number: usize, range: &LeafRange) -> Option<LeafId>
+        ensures number { (meant : Range) → range.now.declaration ≡ meant.declaration → range.now.shared_offset ≡ saturated meant.shared_offset → IfSome result (λ l. l ≡ saturated (first_named (circuit_of self.now) module_number meant)) }
+        ensures there { is_some result ≡ is_some (leaf_declared (circuit_of self.now) module_number range.now.declaration) }
+    {
+        let first_leaves = self.findings.first_leaves.get(module_number)?;
+        let first = first_leaves.get(range.declaration)?;
+        let number = (first.number() as u64).saturating_add(range.shared_offset);
+        Some(LeafId::new(number as usize))
     }
 }

@@ -11,11 +11,13 @@ use Rattle.fir_meaning.specs.ComponentTypes.{typed_scope}
 use Rattle.fir_meaning.specs.TypeGroup.{module_type_faults, type_faults}
 use Rattle.fir_type_table.specs.declared.kind.TypeId.{TypeId}
 use Rattle.fir_type_table.specs.working.Tables.{types_of}
+use Rattle.fir_type_table.specs.working.Saturated.{saturated}
 use Rattle.fir_types.specs.declared.found.Found.{Found}
 use Rattle.fir_types.specs.declared.findings.Findings.{Findings}
 use Rattle.fir_types.specs.declared.note.Note.{Note}
 use Rattle.fir_types.specs.declared.scope.Scope.{Scope}
 use Rattle.fir_types.specs.working.Notes.{Note as Meant}
+use Rattle.fir_types.specs.working.LeafNumbers.{first_leaves}
 use Rattle.fir_types.specs.working.ModuleNotes.{circuit_notes, module_notes}
 use Rattle.fir_types.specs.working.Noted.{Noted, note_seen, saturated_note}
 use Rattle.fir_types.specs.working.Seen.{seen}
@@ -55,11 +57,12 @@ found_types ts = map (λ v. map (seen ts) v.items)
 abbrev pub found_notes : List DataType → List (Vec Note Global) → List (List Meant)
 found_notes ts = map (λ v. map (note_seen ts) v.items)
 
--- no fault of types stands in the circuit, and the code has the types of all that it declares and of all its expressions
+-- no fault of types stands in the circuit, and the code has the types of all that it declares and of all its expressions, and the numbers of leaves
 pub record IsTyped (c : CircuitTree) (found : Findings) : Type 0 where
   pub clear : type_faults c ≡ []
   pub types : found_types (types_of found.table) found.declared.items ≡ declared_types c
   pub notes : found_notes (types_of found.table) found.notes.items ≡ map (map saturated_note) (circuit_notes c)
+  pub leaves : map (λ v. v.items) found.first_leaves.items ≡ map (map saturated) (first_leaves c)
 
 abbrev pub JudgesTypes : CircuitTree → Result Findings (Refused FirFault) → Type 0
 JudgesTypes c (Ok found) = IsTyped c found
@@ -71,3 +74,7 @@ at_position ts position = unwrap_or (slice_get ts position) None
 -- the type of a declaration of a module, by their numbers
 abbrev pub type_declared : CircuitTree → ℕ → ℕ → Option DataType
 type_declared c number position = at_position (unwrap_or (slice_get (declared_types c) number) []) position
+
+-- and the number of its first leaf
+abbrev pub leaf_declared : CircuitTree → ℕ → ℕ → Option ℕ
+leaf_declared c number position = slice_get (unwrap_or (slice_get (first_leaves c) number) []) position

@@ -2,8 +2,9 @@ use Rattle.std.proofs.Common.{◌∙◌, ap, map, sym, subst}
 use Rattle.std.proofs.lemmas.Result.{err_from_is_err_and}
 use Rattle.fir_ast.specs.View.{circuit_of, module_of}
 use Rattle.fir_type_table.specs.working.Tables.{types_of}
+use Rattle.fir_types.specs.working.TypedModules.{found_types}
 use Rattle.fir_types.specs.working.Walked.{HoldsBundles}
-use Rattle.fir_types.proofs.CircuitWalks.{module_fails, module_there, modules_all, modules_first, modules_next, of_module}
+use Rattle.fir_types.proofs.CircuitWalks.{module_fails, module_there, modules_all, modules_first, modules_next, of_module, types_found}
 use Rattle.fir_types.proofs.modules.in_modules.Goals as goal
 
 pub returns-in_err-table : goal.returns-in_err-table
@@ -56,11 +57,22 @@ returns-in_err-scope c =
     (module_fails tree items same i c.in_ok-bundles.bundles.items c.loop-number.table c.loop-number.declared.items c.loop-number.notes.items m c.in_err-scope.field-0.0 within at
     c.loop-number.invariant (c.in_err-scope.ensures (circuit_of tree).modules of holds))
 
+pub returns-in_err-first_leaves : goal.returns-in_err-first_leaves
+returns-in_err-first_leaves c = let p = err_from_is_err_and c.from_residual-in_err-first_leaves.result c.from_residual-in_err-first_leaves.ensures.1 in rw (p.1, p.2) tt
+
+pub first_leaves-requires-clause-types : goal.first_leaves-requires-clause-types
+first_leaves-requires-clause-types c =
+    let same = c.deref-part-items.ensures.value ∙ ap (λ x. x.modules.items) c.circuit-2.ensures.tree in
+    ap (found_types (types_of c.loop-number.table)) c.deref-3.ensures.value
+    ∙ types_found c.args.named.now c.deref-part-items.result.now same c.loop-number.number c.in_ok-bundles.bundles.items c.loop-number.table
+    c.loop-number.declared.items c.loop-number.notes.items c.loop-number-test.false c.loop-number.invariant
+
 pub returns : goal.returns
 returns c =
     let same = c.deref-part-items.ensures.value ∙ ap (λ x. x.modules.items) c.circuit-2.ensures.tree in
     modules_all c.args.named.now c.deref-part-items.result.now same c.loop-number.number c.in_ok-bundles.bundles.items
-    (record { table = c.loop-number.table; declared = c.loop-number.declared; notes = c.loop-number.notes }) c.loop-number-test.false c.loop-number.invariant
+    (record { table = c.loop-number.table; declared = c.loop-number.declared; notes = c.loop-number.notes; first_leaves = c.in_ok-first_leaves.first_leaves })
+    c.loop-number-test.false c.loop-number.invariant c.in_ok-first_leaves.ensures
 
 pub unreachable-requires : goal.unreachable-requires
 unreachable-requires c =
