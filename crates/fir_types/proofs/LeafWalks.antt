@@ -21,7 +21,7 @@ use Rattle.fir_names.specs.declared.declaration.Component.{Component as Componen
 use Rattle.fir_names.specs.declared.declaration.Declaration.{Declaration as Entry}
 use Rattle.fir_names.specs.declared.names.Names.{Names}
 use Rattle.fir_names.specs.working.ModuleOrder.{find_number}
-use Rattle.fir_names.specs.working.Numbered.{component_of, names_of, number_of}
+use Rattle.fir_names.specs.working.Numbered.{component_of, names_of}
 use Rattle.fir_names.specs.working.Tabulated.{entries_from, entry_of, found_at, Tabulates}
 use Rattle.fir_names.proofs.ModulesThere.{instance_number}
 use Rattle.fir_type_table.specs.declared.kind.TypeId.{TypeId}

@@ -1,5 +1,5 @@
 -- Notes as they come, one list behind the other, and as the table of types grows.
-use Rattle.std.proofs.Common.{◌≡◌, List, [], ◌∷◌, ◌++◌, map, Option, Some, None, Result, Ok, Err, refl, sym, ap, ◌∙◌, append_assoc}
+use Rattle.std.proofs.Common.{◌≡◌, List, [], ◌∷◌, ◌++◌, map, Some, None, Result, Ok, Err, refl, sym, ap, ◌∙◌, append_assoc}
 use Rattle.std.specs.Prelude.{OnOk}
 use Rattle.std.specs.List.{AllByRecursion}
 use Rattle.std.proofs.lemmas.List.{map-append}
@@ -14,7 +14,7 @@ use Rattle.fir_types.specs.declared.note.Note.TheVariants as code
 use Rattle.fir_types.specs.declared.scope.Scope.{Scope}
 use Rattle.fir_types.specs.working.Notes.{Note, of_expression, of_reference}
 use Rattle.fir_types.specs.working.Noted.{IsNoteHeld, Noted, note_seen, pick_seen, range_seen, saturated_note}
-use Rattle.fir_types.specs.working.Seen.{found_type, seen}
+use Rattle.fir_types.specs.working.Seen.{found_type}
 use Rattle.fir_types.specs.working.Walked.{GoesOnWith, IsHeld}
 use Rattle.fir_types.proofs.GrownScopes.{append_none, held_grown, seen_grown}
 

@@ -12,7 +12,7 @@ use Rattle.fir_names.proofs.FirstMentions.{views_left}
 use Rattle.fir_names.proofs.StatementViews.{wire_view, partial_connect_view, invalid_view, when_is}
 use Rattle.fir_types.proofs.KnownScopes.{knows_scope}
 use Rattle.fir_types.proofs.GrownScopes.{goes_still, walks_declared}
-use Rattle.fir_meaning.specs.Visibility.{behind, behind_block, opened, reopened}
+use Rattle.fir_meaning.specs.Visibility.{behind_block, opened, reopened}
 use Rattle.fir_types.proofs.StatementParts.{instance_view, when_at}
 use Rattle.fir_types.proofs.StatementWalks.{NotedBlock, noted_block_begun, noted_block_done, noted_block_next, notes_by, when_noted, passed_goes, passes_by, begins_by, judged_passes, block_fails, next_begins, block_passed, condition_fails, first_fails, when_passes, opens, reopens, second_begins, first_begins, condition_begins}
 use Rattle.fir_types.proofs.statements.+statements.Goals as goal
