@@ -1,12 +1,12 @@
 //! The types of circuits of a text: of what is declared, and what comes back with a fault.
 
-use fir_ast::{FirFault, Place, Ty};
+use fir_ast::{FirFault, LeafId, Place, Ty};
 use fir_base::Refused;
 use fir_lex::lex;
 use fir_names::{Named, resolve};
 use fir_parse::parse;
 use fir_pass::Pass;
-use fir_types::{CheckTypes, check};
+use fir_types::{CheckTypes, Note, check};
 use std::alloc::Global;
 use std::test::Fail;
 
@@ -28,6 +28,18 @@ const PAST_THE_END: &[u8] = b"circuit T :
   module T :
     input v : UInt<8>[4]
     node n = v[4]
+";
+
+const PICKED: &[u8] = b"circuit T :
+  module T :
+    input i : UInt<2>
+    wire w : {x : UInt<1>, v : {p : UInt<1>, q : SInt<2>[3]}[4]}
+    inst c of C
+    node n = w.v[i].q[2]
+    node d = c.y
+  module C :
+    input x : UInt<1>
+    output y : UInt<2>
 ";
 
 /// The circuit of a text, with its names.
@@ -67,6 +79,52 @@ fn each_declaration_has_its_type(rt: HostRuntime) -> Result<(), Fail> {
     }
     assert_eq!(rt; typed.declared_type(alloc, 0, 5)?.is_none(), true);
     assert_eq!(rt; typed.named().circuit().modules.len(), 1);
+    Ok(())
+}
+
+#[test]
+fn a_reference_is_noted_behind_its_index(rt: HostRuntime) -> Result<(), Fail> {
+    let alloc = rt.alloc();
+    let Ok(typed) = check(alloc, named(alloc, PICKED)?) else {
+        return Err(Fail::from("the circuit shows no fault of types"));
+    };
+    let Some(notes) = typed.findings().notes.first() else {
+        return Err(Fail::from("the module has notes"));
+    };
+    match notes.first() {
+        Some(Note::Reference(Some(range))) => assert_eq!(rt; range.declaration, 0),
+        _ => return Err(Fail::from("the index is noted first")),
+    }
+    let Some(Note::Reference(Some(range))) = notes.get(1) else {
+        return Err(Fail::from("the reference is noted"));
+    };
+    assert_eq!(rt;
+        (range.declaration, range.offset, range.shared_offset),
+        (1, 4, 2)
+    );
+    match range.picks.first() {
+        Some(pick) => assert_eq!(rt; (pick.stride, pick.length), (4, 4)),
+        None => return Err(Fail::from("the index picks an element")),
+    }
+    // The ports of both modules have the numbers 0 to 2.
+    assert_eq!(rt; typed.first_named(0, range), Some(LeafId::new(5)));
+    Ok(())
+}
+
+#[test]
+fn an_instance_has_the_numbers_of_its_module(rt: HostRuntime) -> Result<(), Fail> {
+    let alloc = rt.alloc();
+    let Ok(typed) = check(alloc, named(alloc, PICKED)?) else {
+        return Err(Fail::from("the circuit shows no fault of types"));
+    };
+    let Some(notes) = typed.findings().notes.first() else {
+        return Err(Fail::from("the module has notes"));
+    };
+    let Some(Note::Reference(Some(range))) = notes.get(2) else {
+        return Err(Fail::from("the reference is noted"));
+    };
+    assert_eq!(rt; (range.declaration, range.offset), (2, 1));
+    assert_eq!(rt; typed.first_named(0, range), Some(LeafId::new(2)));
     Ok(())
 }
 
