@@ -6,7 +6,7 @@ use Rattle.std.proofs.lemmas.Option.{same_Some, slice_get_within}
 use Rattle.fir_graph.specs.declared.marks.Mark.{Mark}
 use Rattle.fir_graph.specs.declared.marks.Mark.TheVariants.{Open, Done}
 use Rattle.fir_graph.specs.working.Searched.{Searched}
-use Rattle.fir_graph.proofs.Writes.{write_same, write_other, SetOr, set_cases, kept}
+use Rattle.fir_base.proofs.Writes.{write_same, write_other, WrittenOr, write_cases, kept}
 use Rattle.fir_graph.proofs.Opening.{same_open}
 
 module _ (size : ℕ) (targets : ℕ → List ℕ) (marks : List Mark) (path order : List ℕ) (s : Searched size targets marks path order) where
@@ -14,14 +14,14 @@ module _ (size : ℕ) (targets : ℕ → List ℕ) (marks : List Mark) (path ord
   advanced top w place open_ is done_ = record {
     covers = length-set marks top (Open (place + 1)) ∙ s.covers;
     done = λ i v h. stays v (s.done i v h);
-    done_in = λ v h. done_in v (set_cases marks top (Open (place + 1)) v Done has h);
+    done_in = λ v h. done_in v (write_cases marks top (Open (place + 1)) v Done has h);
     done_once = s.done_once;
     after = s.after;
     open_at = λ i v h. open_at v (s.open_at i v h) (cases_eq v top);
-    open_in = λ v k h. open_in v k (set_cases marks top (Open (place + 1)) v (Open k) has h);
+    open_in = λ v k h. open_in v k (write_cases marks top (Open (place + 1)) v (Open k) has h);
     open_once = s.open_once;
     steps = s.steps;
-    seen = λ v u k j h jk r. seen v u k j jk r (set_cases marks top (Open (place + 1)) v (Open k) has h);
+    seen = λ v u k j h jk r. seen v u k j jk r (write_cases marks top (Open (place + 1)) v (Open k) has h);
   }
     where
       has : top < length marks
@@ -30,7 +30,7 @@ module _ (size : ℕ) (targets : ℕ → List ℕ) (marks : List Mark) (path ord
       stays : (v : ℕ) → slice_get marks v ≡ Some Done → slice_get (set marks top (Open (place + 1))) v ≡ Some Done
       stays v h = kept marks top (Open place) (Open (place + 1)) open_ v Done (λ e. cc) h
 
-      done_in : (v : ℕ) → SetOr marks top (Open (place + 1)) v Done → (i : ℕ) × (slice_get order i ≡ Some v)
+      done_in : (v : ℕ) → WrittenOr marks top (Open (place + 1)) v Done → (i : ℕ) × (slice_get order i ≡ Some v)
       done_in v (inl (e, f)) = cc
       done_in v (inr (n, h)) = s.done_in v h
 
@@ -38,11 +38,11 @@ module _ (size : ℕ) (targets : ℕ → List ℕ) (marks : List Mark) (path ord
       open_at v o (inl e) = (place + 1, ap (slice_get (set marks top (Open (place + 1)))) e ∙ write_same marks top (Open (place + 1)) has)
       open_at v o (inr n) = (o.0, write_other marks top (Open (place + 1)) v n ∙ o.1)
 
-      open_in : (v k : ℕ) → SetOr marks top (Open (place + 1)) v (Open k) → (i : ℕ) × (slice_get path i ≡ Some v)
+      open_in : (v k : ℕ) → WrittenOr marks top (Open (place + 1)) v (Open k) → (i : ℕ) × (slice_get path i ≡ Some v)
       open_in v k (inl (e, f)) = s.open_in v place (ap (slice_get marks) e ∙ open_)
       open_in v k (inr (n, h)) = s.open_in v k h
 
-      seen : (v u k j : ℕ) → j < k → slice_get (targets v) j ≡ Some u → SetOr marks top (Open (place + 1)) v (Open k) → slice_get (set marks top (Open (place + 1))) u ≡ Some Done
+      seen : (v u k j : ℕ) → j < k → slice_get (targets v) j ≡ Some u → WrittenOr marks top (Open (place + 1)) v (Open k) → slice_get (set marks top (Open (place + 1))) u ≡ Some Done
       seen v u k j jk r (inl (e, f)) = stays u (by (cases_lt j place))
         where
           by : (j < place) ⊎ (place ≤ j) → slice_get marks u ≡ Some Done

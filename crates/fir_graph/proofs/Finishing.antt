@@ -8,22 +8,21 @@ use Rattle.fir_graph.specs.working.HasTarget.{HasTarget}
 use Rattle.fir_graph.specs.declared.marks.Mark.{Mark}
 use Rattle.fir_graph.specs.declared.marks.Mark.TheVariants.{Open, Done}
 use Rattle.fir_graph.specs.working.Searched.{Searched}
-use Rattle.fir_graph.proofs.Positions.{PushedOr, push_left, push_end, push_cases}
-use Rattle.fir_graph.proofs.Writes.{write_same, write_other, SetOr, set_cases, two_items, kept}
+use Rattle.fir_base.proofs.Writes.{PushedOr, push_left, push_end, push_cases, write_same, write_other, WrittenOr, write_cases, two_items, kept}
 
 module _ (size : ℕ) (targets : ℕ → List ℕ) (marks : List Mark) (rest order : List ℕ) (top : ℕ) (s : Searched size targets marks (rest ++ top ∷ []) order) where
   pub finished : (place : ℕ) → slice_get marks top ≡ Some (Open place) → slice_get (targets top) place ≡ None → Searched size targets (set marks top Done) rest (order ++ top ∷ [])
   finished place open_ none = record {
     covers = length-set marks top Done ∙ s.covers;
     done = λ i v h. done i v (push_cases order top i v h);
-    done_in = λ v h. done_in v (set_cases marks top Done v Done has h);
+    done_in = λ v h. done_in v (write_cases marks top Done v Done has h);
     done_once = λ i j v h k. once i j v (push_cases order top i v h) (push_cases order top j v k);
     after = λ i v w h r. after i v w r (push_cases order top i v h);
     open_at = open_at;
-    open_in = λ v k h. open_in v k (set_cases marks top Done v (Open k) has h);
+    open_in = λ v k h. open_in v k (write_cases marks top Done v (Open k) has h);
     open_once = λ i j v h k. s.open_once i j v (push_left rest (top ∷ []) i v h) (push_left rest (top ∷ []) j v k);
     steps = λ i v w h k. s.steps i v w (push_left rest (top ∷ []) i v h) (push_left rest (top ∷ []) (i + 1) w k);
-    seen = λ v w k j h jk r. seen v w k j jk r (set_cases marks top Done v (Open k) has h);
+    seen = λ v w k j h jk r. seen v w k j jk r (write_cases marks top Done v (Open k) has h);
   }
     where
       has : top < length marks
@@ -39,7 +38,7 @@ module _ (size : ℕ) (targets : ℕ → List ℕ) (marks : List Mark) (rest ord
       done i v (inl h) = stays v (s.done i v h)
       done i v (inr (e, f)) = subst (λ (x : ℕ). slice_get (set marks top Done) x ≡ Some Done) f (write_same marks top Done has)
 
-      done_in : (v : ℕ) → SetOr marks top Done v Done → (i : ℕ) × (slice_get (order ++ top ∷ []) i ≡ Some v)
+      done_in : (v : ℕ) → WrittenOr marks top Done v Done → (i : ℕ) × (slice_get (order ++ top ∷ []) i ≡ Some v)
       done_in v (inl (e, f)) = (length order, push_end order top ∙ ap Some (sym e))
       done_in v (inr (n, h)) = let o = s.done_in v h in (o.0, push_left order (top ∷ []) o.0 v o.1)
 
@@ -71,7 +70,7 @@ module _ (size : ℕ) (targets : ℕ → List ℕ) (marks : List Mark) (rest ord
           let other : v ≡ top → ⊥ = λ e. omega (arith, slice_get_within rest i v h, s.open_once i (length rest) top (at_path ∙ ap Some e) (push_end rest top)) in
           (o.0, write_other marks top Done v other ∙ o.1)
 
-      open_in : (v k : ℕ) → SetOr marks top Done v (Open k) → (i : ℕ) × (slice_get rest i ≡ Some v)
+      open_in : (v k : ℕ) → WrittenOr marks top Done v (Open k) → (i : ℕ) × (slice_get rest i ≡ Some v)
       open_in v k (inl (e, f)) = cc
       open_in v k (inr (n, h)) = let o = s.open_in v k h in by o.0 (push_cases rest top o.0 v o.1)
         where
@@ -79,6 +78,6 @@ module _ (size : ℕ) (targets : ℕ → List ℕ) (marks : List Mark) (rest ord
           by i (inl g) = (i, g)
           by i (inr (e, f)) = absurd (n (sym f))
 
-      seen : (v w k j : ℕ) → j < k → slice_get (targets v) j ≡ Some w → SetOr marks top Done v (Open k) → slice_get (set marks top Done) w ≡ Some Done
+      seen : (v w k j : ℕ) → j < k → slice_get (targets v) j ≡ Some w → WrittenOr marks top Done v (Open k) → slice_get (set marks top Done) w ≡ Some Done
       seen v w k j jk r (inl (e, f)) = cc
       seen v w k j jk r (inr (n, h)) = stays w (s.seen v w k j h jk r)

@@ -5,26 +5,6 @@ use Rattle.std.proofs.lemmas.Option.{none-some, slice_get_within}
 use Rattle.fir_base.specs.Lists.{Distinct}
 use Rattle.fir_base.proofs.Elements.{get_left, get_behind, get_in, number_of}
 
-pub push_left : {A : Type 0} → (xs ys : List A) (i : ℕ) (z : A) → slice_get xs i ≡ Some z → slice_get (xs ++ ys) i ≡ Some z
-push_left xs ys i z h = get_left xs ys i (slice_get_within xs i z h) ∙ h
-
-pub push_end : {A : Type 0} → (xs : List A) (y : A) → slice_get (xs ++ y ∷ []) (length xs) ≡ Some y
-push_end xs y = get_behind xs [] y
-
--- an old one, or the new one
-abbrev pub PushedOr : {A : Type 0} → List A → A → ℕ → A → Type 0
-PushedOr xs y i z = (slice_get xs i ≡ Some z) ⊎ ((i ≡ length xs) × (y ≡ z))
-
-pub push_cases : {A : Type 0} → (xs : List A) (y : A) (i : ℕ) (z : A) → slice_get (xs ++ y ∷ []) i ≡ Some z → PushedOr xs y i z
-push_cases [] y zero z h = inr (refl, cc)
-push_cases [] y (suc i) z h = absurd (none-some z h)
-push_cases (x ∷ xs) y zero z h = inl h
-push_cases (x ∷ xs) y (suc i) z h = more (push_cases xs y i z h)
-  where
-    more : PushedOr xs y i z → PushedOr (x ∷ xs) y (suc i) z
-    more (inl e) = inl e
-    more (inr (e, f)) = inr (ap suc e, f)
-
 pub get-drop : {A : Type 0} → (s : ℕ) (xs : List A) (i : ℕ) → slice_get (drop s xs) i ≡ slice_get xs (s + i)
 get-drop zero xs i = rw zero-add refl
 get-drop (suc s) [] i = refl

@@ -8,7 +8,7 @@ use Rattle.fir_graph.specs.declared.marks.Mark.{Mark}
 use Rattle.fir_graph.specs.declared.marks.Mark.TheVariants.{New, Open, Done}
 use Rattle.fir_graph.specs.declared.search.Search.{Search}
 use Rattle.fir_graph.specs.working.Searched.{Searched, Knows, IsIdle, IsLast, IsMet, Stepped, Entered, Finished}
-use Rattle.fir_graph.proofs.Writes.{write_same, SetOr, set_cases, two_items}
+use Rattle.fir_base.proofs.Writes.{write_same, WrittenOr, write_cases, two_items}
 use Rattle.fir_graph.proofs.StepsLeft.{steps_change}
 use Rattle.fir_graph.proofs.Closing.{closes}
 use Rattle.fir_graph.proofs.Opening.{entered}
@@ -17,9 +17,9 @@ use Rattle.fir_graph.proofs.Finishing.{finished}
 
 -- what was met stays so
 met_set : (marks : List Mark) (v : ℕ) (m : Mark) (u : ℕ) → v < length marks → (m ≡ New → ⊥) → IsMet marks u → IsMet (set marks v m) u
-met_set marks v m u has old h new = by (set_cases marks v m u New has new)
+met_set marks v m u has old h new = by (write_cases marks v m u New has new)
   where
-    by : SetOr marks v m u New → ⊥
+    by : WrittenOr marks v m u New → ⊥
     by (inl (e, f)) = old f
     by (inr (n, k)) = h k
 

@@ -4,8 +4,8 @@ use Rattle.std.specs.Prelude.{slice_get}
 use Rattle.std.proofs.lemmas.Bool.{cases_lt}
 use Rattle.std.proofs.lemmas.Option.{same_Some, slice_get_within}
 use Rattle.fir_base.specs.Lists.{Distinct}
+use Rattle.fir_base.proofs.Writes.{write_same, two_items, kept}
 use Rattle.fir_graph.proofs.Positions.{distinct_from}
-use Rattle.fir_graph.proofs.Writes.{write_same, two_items, kept}
 
 -- the first n are marked, and none of them stands twice
 pub record Seen (circle : List ℕ) (n : ℕ) (met : List Bool) : Type 0 where

@@ -15,7 +15,8 @@ use Rattle.fir_net.specs.working.Dependence.{Reads}
 use Rattle.fir_net.specs.working.IsNet.{IsNet}
 use Rattle.fir_loop.specs.working.IsLoop.{HangsThrough, HangsOn, IsLoop, ShowsLoop, path_of}
 use Rattle.fir_loop.specs.working.IsCircle.{Chain, Turns, IsCircle, leaves_in, AreLeaves}
-use Rattle.fir_graph.proofs.Positions.{push_end, push_cases, distinct_at}
+use Rattle.fir_base.proofs.Writes.{push_end, push_cases}
+use Rattle.fir_graph.proofs.Positions.{distinct_at}
 use Rattle.fir_loop.proofs.NetReads.{goes_down, reads_from}
 
 -- the leaves of joined lists, and which they are

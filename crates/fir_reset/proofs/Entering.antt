@@ -6,7 +6,7 @@ use Rattle.std.proofs.lemmas.Option.{none-some, same_Some, slice_get_within}
 use Rattle.fir_reset.specs.declared.graph.Kind.{Kind}
 use Rattle.fir_reset.specs.declared.roots.Entry.{Entry}
 use Rattle.fir_reset.specs.working.Reaching.{IsMarked, IsQueued, IsRootOr, IsQueueOf, unmarked}
-use Rattle.fir_reset.proofs.Elements.{PushedOr, WrittenOr, push_left, push_end, push_cases, write_same, write_other, write_cases}
+use Rattle.fir_base.proofs.Writes.{PushedOr, WrittenOr, push_left, push_end, push_cases, write_same, write_other, write_cases}
 
 unmarked_set : (ms : List Bool) (v : ℕ) → slice_get ms v ≡ Some false → unmarked (set ms v true) + 1 ≡ unmarked ms
 unmarked_set [] v h = absurd (none-some false h)

@@ -10,7 +10,7 @@ use Rattle.fir_reset.specs.declared.roots.Reached.{Reached}
 use Rattle.fir_reset.specs.working.ResetGraphs.{IsJoined, IsGraph, IsUnsigned, IsReset}
 use Rattle.fir_reset.specs.working.Reaching.{IsMarked, ComesFrom, IsSeen, Enters, Knows, Searching}
 use Rattle.fir_reset.specs.working.Walking.{IsJoinedAt, IsAt, Looking}
-use Rattle.fir_reset.proofs.Elements.{PushedOr, push_left, push_cases, write_same}
+use Rattle.fir_base.proofs.Writes.{PushedOr, push_left, push_cases, write_same}
 use Rattle.fir_reset.proofs.Entering.{entered, marks_stay}
 
 pub look_begun : (graph : List (Vec ℕ Global)) (kinds : List Kind) (r : Reached) (place : ℕ) (e : Entry) (list : List ℕ) → Searching graph kinds r place → place < length r.queue.items → e ≡ get_or r.queue.items place e → Looking graph kinds r place e.node list 0

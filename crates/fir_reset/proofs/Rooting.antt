@@ -8,7 +8,7 @@ use Rattle.fir_reset.specs.declared.graph.Kind.{Kind}
 use Rattle.fir_reset.specs.declared.roots.Reached.{Reached}
 use Rattle.fir_reset.specs.working.ResetGraphs.{IsAsynchronous}
 use Rattle.fir_reset.specs.working.Reaching.{IsMarked, unmarked, Enters, Roots, Searching}
-use Rattle.fir_reset.proofs.Elements.{write_same, write_other, get-replicate}
+use Rattle.fir_base.proofs.Writes.{write_same, write_other, get-replicate}
 use Rattle.fir_reset.proofs.Entering.{entered, marks_stay}
 
 unmarked_all : (n : ℕ) → unmarked (replicate n false) ≡ n

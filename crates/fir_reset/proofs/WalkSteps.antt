@@ -8,7 +8,7 @@ use Rattle.fir_reset.specs.declared.roots.Entry.{Entry}
 use Rattle.fir_reset.specs.working.ResetGraphs.{IsJoined, IsUnsigned, IsAsynchronous, IsReset, IsResetWalk}
 use Rattle.fir_reset.specs.working.Reaching.{ComesFrom}
 use Rattle.fir_reset.specs.working.Walking.{IsJoinedAt, IsQueuedBehind, WalksTo}
-use Rattle.fir_reset.proofs.Elements.{PushedOr, push_cases}
+use Rattle.fir_base.proofs.Writes.{PushedOr, push_cases}
 
 abbrev pub OnceEach : List Entry → Type 0
 OnceEach queue = (i j : ℕ) (e f : Entry) → slice_get queue i ≡ Some e → slice_get queue j ≡ Some f → e.node ≡ f.node → i ≡ j

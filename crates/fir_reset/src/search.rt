@@ -1,7 +1,8 @@
 //! The search for asynchronous resets, by breadth.
 
 ghost use Rattle.std.specs.Prelude.{◌≡◌, ◌+◌, ◌<◌, IfOk, OnOk, vec_len};
-ghost use Rattle.fir_reset.specs.working.ResetGraphs.{IfFault, IsFound, IsGraph, IsResetWalk};
+ghost use Rattle.fir_pass.specs.Law.{IfFault};
+ghost use Rattle.fir_reset.specs.working.ResetGraphs.{IsFound, IsGraph, IsResetWalk};
 ghost use Rattle.fir_reset.specs.working.Reaching.{Searching};
 
 use crate::graph::Kind;

@@ -1,6 +1,6 @@
 //! The type of a memory: a bundle of its ports (FIRRTL spec, "Memories").
 
-ghost use Rattle.std.specs.Prelude.{◌≡◌, ◌<◌, ◌++◌, ℕ, List, [], ◌∷◌, Some, IfOk, OnOk, flat_map, length, map, slice_get};
+ghost use Rattle.std.specs.Prelude.{◌≡◌, ◌<◌, ◌++◌, ℕ, List, [], ◌∷◌, Some, IfOk, OnOk, length, map, slice_get};
 ghost use Rattle.fir_ast.specs.declared.place.Place.{Place};
 ghost use Rattle.fir_ast.specs.Types.{DataType, Fields};
 ghost use Rattle.fir_ast.specs.View.{memory_part_of, named_of};

@@ -1,15 +1,13 @@
 //! What the walk has found of each expression, for the passes behind.
 
-ghost use Rattle.std.specs.Prelude.{◌≡◌, [], ◌∷◌, IfOk, OnOk};
+ghost use Rattle.std.specs.Prelude.{◌≡◌, [], ◌∷◌, OnOk};
 ghost use Rattle.fir_ast.specs.Types.{DataType};
 ghost use Rattle.fir_meaning.specs.Checked.{Checked};
-ghost use Rattle.fir_meaning.specs.Reaching.{Reached};
-ghost use Rattle.fir_meaning.specs.LeafPaths.{LeafPath};
 ghost use Rattle.fir_type_table.specs.working.Tables.{types_of};
-ghost use Rattle.fir_types.specs.working.Judged.{Finds, Is};
-ghost use Rattle.fir_types.specs.working.Notes.{LeafRange as Range, of_expression, of_reference, range_where};
+ghost use Rattle.fir_types.specs.working.Judged.{Finds};
+ghost use Rattle.fir_types.specs.working.Notes.{of_expression};
 ghost use Rattle.fir_types.specs.working.Noted.{IsReferenceNote, Noted};
-ghost use Rattle.fir_types.specs.working.Seen.{found_type, reached_as};
+ghost use Rattle.fir_types.specs.working.Seen.{found_type};
 
 use crate::found::Found;
 use crate::reach::Reach;

@@ -12,7 +12,7 @@ use Rattle.fir_width.specs.working.Raises.{Rises, Stays}
 use Rattle.fir_width.specs.working.Readers.{IsReader, AllRead, ReadersWithin}
 use Rattle.fir_width.specs.working.Waiting.{Waits, NoneWaits, Takes, PlacesWithin, AllWait, waiting_count}
 use Rattle.fir_width.specs.working.Solving.{Solving, rises_left}
-use Rattle.fir_width.proofs.Elements.{write_other, get-replicate}
+use Rattle.fir_base.proofs.Writes.{write_other, get-replicate}
 use Rattle.fir_width.proofs.Risen.{same_length, still_below, holds_still, holds_now}
 use Rattle.fir_width.proofs.RisesLeft.{fewer_left}
 use Rattle.fir_width.proofs.Terms.{read_or_not}

@@ -7,7 +7,7 @@ use Rattle.fir_base.specs.Lists.{In}
 use Rattle.fir_width.specs.declared.bound.Bound.{Bound}
 use Rattle.fir_width.specs.working.Bounds.{reads}
 use Rattle.fir_width.specs.working.Readers.{IsReader, Notes, AllRead, ReadersWithin}
-use Rattle.fir_width.proofs.Elements.{PushedOr, WrittenOr, push_left, push_end, push_cases, write_same, write_other, write_cases}
+use Rattle.fir_base.proofs.Writes.{PushedOr, WrittenOr, push_left, push_end, push_cases, write_same, write_other, write_cases}
 
 -- one list has grown by the place
 module _ (old : List (Vec ℕ Global)) (unknown place : ℕ) (before after : Vec ℕ Global) (here : slice_get old unknown ≡ Some before) (pushed : after.items ≡ before.items ++ place ∷ []) where

@@ -5,7 +5,7 @@ use Rattle.std.proofs.lemmas.Bool.{cases_eq}
 use Rattle.std.proofs.lemmas.List.{length-replicate}
 use Rattle.std.proofs.lemmas.Option.{none-some, same_Some, slice_get_within, slice_get-get_or, get_or_from_slice_get}
 use Rattle.fir_width.specs.working.Waiting.{Waits, IsStackOf, NoneWaits, PlacesWithin, waiting_count, AllWait}
-use Rattle.fir_width.proofs.Elements.{PushedOr, WrittenOr, push_left, push_end, push_cases, write_same, write_other, write_cases, get-replicate}
+use Rattle.fir_base.proofs.Writes.{PushedOr, WrittenOr, push_left, push_end, push_cases, write_same, write_other, write_cases, get-replicate}
 
 -- the last is popped
 module _ (waits : List Bool) (stack rest : List ℕ) (place : ℕ) (s : IsStackOf waits stack) (popped : stack ≡ rest ++ place ∷ []) where

@@ -1,10 +1,8 @@
 -- Leaves and expressions that are joined, as far as resets go: which Resets are asynchronous, and walks that join a UInt and an AsyncReset (FIRRTL spec, "Reset Inference").
 -- Each has a number, a kind, and a list of the numbers that it is joined to.
-use Rattle.std.specs.Prelude.{◌≡◌, ℕ, ◌+◌, ◌-◌, ◌<◌, ◌≤◌, List, length, true, Bool, Some, Ok, Err, Result, slice_get}
+use Rattle.std.specs.Prelude.{◌≡◌, ℕ, ◌+◌, ◌-◌, ◌<◌, ◌≤◌, List, length, true, Bool, Some, slice_get}
 use Rattle.std.specs.declared.vec.Vec.{Vec}
 use Rattle.std.specs.declared.alloc.Global.{Global}
-use Rattle.fir_base.specs.declared.refused.Refused.{Refused}
-use Rattle.fir_base.specs.declared.refused.Refused.TheVariants.{Fault, Memory}
 use Rattle.fir_reset.specs.declared.graph.Kind.{Kind}
 use Rattle.fir_reset.specs.declared.graph.Kind.TheVariants.{Unsigned, Asynchronous, Reset}
 
@@ -52,12 +50,3 @@ pub record IsResetWalk (graph : List (Vec ℕ Global)) (kinds : List Kind) (walk
   pub last : (v : ℕ) → slice_get walk (length walk - 1) ≡ Some v → IsAsynchronous kinds v
   pub joined : (i x y : ℕ) → slice_get walk i ≡ Some x → slice_get walk (i + 1) ≡ Some y → IsJoined graph y x
   pub once : (i j x : ℕ) → slice_get walk i ≡ Some x → slice_get walk j ≡ Some x → i ≡ j
-
--- P of the fault, where there is one
-abbrev pub IfRefused : {F : Type 0} → Refused F → (F → Type 0) → Type 0
-IfRefused (Fault f) P = P f
-IfRefused Memory P = Unit {0}
-
-abbrev pub IfFault : {T F : Type 0} → Result T (Refused F) → (F → Type 0) → Type 0
-IfFault (Ok x) P = Unit {0}
-IfFault (Err e) P = IfRefused e P

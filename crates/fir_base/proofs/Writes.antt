@@ -1,4 +1,4 @@
--- Elements of a list after a push and after one was written.
+-- Elements of a list after a push, and after one was written.
 use Rattle.std.proofs.Common.{◌≡◌, ℕ, zero, suc, ◌<◌, List, [], ◌∷◌, ◌++◌, Some, length, set, replicate, refl, sym, ap, ◌∙◌, inl, inr, ◌⊎◌, arith}
 use Rattle.std.specs.Prelude.{slice_get}
 use Rattle.std.proofs.lemmas.Bool.{cases_eq}
@@ -52,3 +52,10 @@ pub get-replicate : {A : Type 0} → (n i : ℕ) (x : A) → i < n → slice_get
 get-replicate zero i x h = absurd (omega (arith, h))
 get-replicate (suc n) zero x h = refl
 get-replicate (suc n) (suc i) x h = get-replicate n i x (omega (arith, h))
+
+pub two_items : {A : Type 0} → (xs : List A) (i : ℕ) (y z : A) → slice_get xs i ≡ Some y → slice_get xs i ≡ Some z → y ≡ z
+two_items xs i y z p q = same_Some y z (sym p ∙ q)
+
+-- where one is written, others stay
+pub kept : {A : Type 0} → (xs : List A) (i : ℕ) (old new : A) → slice_get xs i ≡ Some old → (j : ℕ) (z : A) → (old ≡ z → ⊥) → slice_get xs j ≡ Some z → slice_get (set xs i new) j ≡ Some z
+kept xs i old new is j z n h = write_other xs i new j (λ e. n (two_items xs i old z is (ap (slice_get xs) (sym e) ∙ h))) ∙ h
