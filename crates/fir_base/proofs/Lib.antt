@@ -7,3 +7,4 @@ pub mod Each
 pub mod Tests
 pub mod Empty
 pub mod SameNames
+pub mod Writes

@@ -1,5 +1,4 @@
 pub mod Positions
-pub mod Writes
 pub mod StepsLeft
 pub mod Closing
 pub mod Opening

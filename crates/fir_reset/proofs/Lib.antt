@@ -1,4 +1,3 @@
-pub mod Elements
 pub mod Read
 pub mod GraphsRead
 pub mod Entering

@@ -22,7 +22,7 @@ mod sizes;
 mod table;
 mod wanted;
 
-pub use entry::Part;
+pub use entry::{Member, Part};
 pub use kind::{Kind, TypeId};
 pub use readers::FieldFound;
 pub use table::TypeTable;

@@ -76,7 +76,7 @@ impl TypeTable {
     }
 
     /// The fields of a bundle, in order; of another type none.
-    pub(crate) fn members(&self, id: TypeId) -> &[Member]
+    pub fn members(&self, id: TypeId) -> &[Member]
         ensures members { result.now ≡ members_at self.now id.number }
         ensures below { All (λ m. m.ty.number < id.number) result.now }
     {

@@ -1,4 +1,3 @@
-pub mod Elements
 pub mod Terms
 pub mod NotedReaders
 pub mod WaitingMarks
