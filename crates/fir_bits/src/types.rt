@@ -94,6 +94,19 @@ impl PrimOp {
     {
         operators!(kinds, self, signed, w, v, n, m, r, a, b)
     }
+
+    /// Whether the integers, 0 where there are fewer than two, may stand beside a first operand of the
+    /// width, in bits (FIRRTL spec, "Primitive Operations").
+    pub fn is_legal(self, width: u32, n: u128, m: u128) -> bool
+        ensures { result ≡ is_legal self width n m }
+    {
+        match self {
+            PrimOp::Bits => m <= n && n < u128::from(width),
+            PrimOp::Head | PrimOp::Tail => n <= u128::from(width),
+            PrimOp::AsAsyncReset => width == 1,
+            _ => true,
+        }
+    }
 }
 
 /// The integer, or 129 where it is greater.
@@ -136,18 +149,6 @@ pub fn counted_width(op: PrimOp, signed: bool, w: u32, v: u32, n: u128, m: u128)
     width(op, signed, w, v, n, m)
 }
 
-/// Whether the integers may stand beside an operand of the width `w`.
-fn legal(op: PrimOp, w: u32, n: u128, m: u128) -> bool
-    ensures { result ≡ is_legal op w n m }
-{
-    match op {
-        PrimOp::Bits => m <= n && n < u128::from(w),
-        PrimOp::Head | PrimOp::Tail => n <= u128::from(w),
-        PrimOp::AsAsyncReset => w == 1,
-        _ => true,
-    }
-}
-
 /// The entry at `i`, or `none`.
 pub(crate) fn entry<'a, T>(entries: &'a [T], i: usize, none: &'a T) -> &'a T
     ensures { result.now ≡ slice_index_or entries.now i none.now }
@@ -186,7 +187,7 @@ fn type_at(op: PrimOp, a: NumTy, b: NumTy, n: u128, m: u128) -> Result<NumTy, Op
     if width > WIDEST {
         return Err(OpFault::Over);
     }
-    if !legal(op, a.width, n, m) {
+    if !op.is_legal(a.width, n, m) {
         return Err(OpFault::Legality);
     }
     Ok(NumTy {
