@@ -1,21 +1,53 @@
-//! The widths that a circuit leaves open. In come bounds: each says that an unknown width is at
-//! least that of one operation on other unknown widths. Out come the least widths that meet all of
-//! them (`least_widths`), in bits, where 129 stands for all that is over 128 (FIRRTL spec, "Width
-//! Inference"). What bounds mean, and which widths are the least, stands in specs/ (`IsLeast`).
+//! The widths of a circuit. In comes a `Typed`, a circuit without a fault of types; out comes a `Fitted`,
+//! the same circuit with the least widths that meet all its rules, read by `Widths::of`; or the first fault
+//! of widths, E19, or else E20 to E22 (FIRRTL spec, "Width Inference", "Primitive Operations", "Literals",
+//! "Conditionals").
 //!
-//! All widths begin at 0, and a bound that is not met raises its unknown (`raise`). Which bounds
-//! have to be looked at again is told by `readers`, and kept in `waiting`; `work_list` goes on
+//! `solve` (in `fit`) goes three ways one after another. One walk over the text (`circuit`, `module`,
+//! `statements`, `drives`, `expressions`, `forms`) gives each leaf and each expression a number (`arena`,
+//! `declared`), and makes bounds: each says that the width of a number is at least that of one operation
+//! on other numbers (`bound`, `meet`). It notes the spots where faults may stand (`spot`). Then the least
+//! widths that meet all bounds are found (`least_widths`), in bits, where 129 stands for all that is over
+//! 128. Then the spots are looked at with these widths, for E19 (`over`) and for E20 to E22 (`legal`).
+//!
+//! In the solver all widths begin at 0, and a bound that is not met raises its number (`raise`). Which
+//! bounds have to be looked at again is told by `readers`, and kept in `waiting`; `work_list` goes on
 //! until none waits. `rounds` has the plain program, which goes over all bounds again and again.
 #![tactic(auto)]
 
+mod arena;
 mod bound;
+mod circuit;
+mod declared;
+mod drives;
+mod expressions;
+mod first_over;
+mod first_unwritten;
+mod first_written_over;
+mod fit;
+mod fitted;
+mod forms;
+mod ground;
+mod leaf_path;
+mod leaves;
+mod legal;
+mod meet;
+mod module;
+mod over;
 mod raise;
 mod readers;
 mod rounds;
+mod side;
+mod spot;
+mod statements;
 mod waiting;
+mod walk;
+mod width_at;
 mod work_list;
 
 pub use bound::{Bound, OVER, Term, are_within};
+pub use fit::solve;
+pub use fitted::{Fitted, Widths};
 pub use rounds::least_widths_by_rounds;
 pub use work_list::least_widths;
 

@@ -1,0 +1,157 @@
+-- Leaves that are pushed one after another: how far a walk has come, and the leaves of a type.
+use Rattle.std.proofs.Common.{◌≡◌, ℕ, ◌+◌, ◌<◌, ◌≤◌, List, [], ◌++◌, length, map, Bool, true, false, if◌then◌else◌, Option, None, refl, sym, ap, ◌∙◌, subst, append_assoc, append-nil, drop, get_or, arith}
+use Rattle.std.specs.Prelude.{◌==◌}
+use Rattle.std.proofs.lemmas.List.{length-append, drop_all, drop_more}
+use Rattle.fir_ast.specs.declared.place.Place.{Place}
+use Rattle.fir_ast.specs.Types.{DataType, uint, sint, clock, reset, async_reset, bundle, vector, Fields, no_fields, field}
+use Rattle.fir_meaning.specs.TypeKinds.{bare}
+use Rattle.fir_meaning.specs.working.SharedLeaves.{shared_count, shared_field_count}
+use Rattle.fir_meaning.specs.working.WidthExpressions.{Width, Rule}
+use Rattle.fir_meaning.specs.working.SizedTypes.{past, numbered, numbered_fields}
+use Rattle.fir_names.specs.declared.declaration.Component.{Component}
+use Rattle.fir_type_table.specs.declared.entry.Member.{Member}
+use Rattle.fir_type_table.specs.working.Tables.{member_fields, shown, shown_fields, type_at}
+use Rattle.fir_type_table.proofs.MemberLists.{members_from, members_next, members_end}
+use Rattle.fir_types.specs.declared.found.Found.{Found}
+use Rattle.fir_types.specs.working.Seen.{seen}
+use Rattle.fir_width.specs.declared.arena.Arena.{Arena}
+use Rattle.fir_width.specs.declared.declared.Stage.{Stage}
+use Rattle.fir_width.specs.working.FlatWidths.{flat, flat_fields}
+use Rattle.fir_width.specs.working.Numbered.{Keeps}
+use Rattle.fir_width.specs.working.PushedLeaves.{Pushes, field_widths, numbers_from, stage_widths, type_widths, walked_widths}
+
+-- a type has as many widths as it has leaves
+mutual
+  pub flat_long : (at : Option ℕ) (t : DataType) → length (flat (numbered at t)) ≡ shared_count t
+  flat_long at (uint w) = refl
+  flat_long at (sint w) = refl
+  flat_long at clock = refl
+  flat_long at reset = refl
+  flat_long at async_reset = refl
+  flat_long at (bundle fs) = flat_fields_long at fs
+  flat_long at (vector t n) = flat_long (if n == 0 then None else at) t
+
+  pub flat_fields_long : (at : Option ℕ) (fs : Fields) → length (flat_fields (numbered_fields at fs)) ≡ shared_field_count fs
+  flat_fields_long at no_fields = refl
+  flat_fields_long at (field p flip x begins t rest) =
+      length-append (flat (numbered at t)) (flat_fields (numbered_fields (past (shared_count t) at) rest))
+      ∙ ap (λ n. n + length (flat_fields (numbered_fields (past (shared_count t) at) rest))) (flat_long at t)
+      ∙ ap (λ n. shared_count t + n) (flat_fields_long (past (shared_count t) at) rest)
+
+numbers_past : (is_open : Bool) (k n : ℕ) → past n (numbers_from is_open k) ≡ numbers_from is_open (k + n)
+numbers_past true k n = refl
+numbers_past false k n = refl
+
+-- field by field
+pub fields_next : (is_open : Bool) (k : ℕ) (p : Place) (flip : Bool) (x : List ℕ) (begins : Place) (t : DataType) (rest : Fields)
+    → field_widths is_open (field p flip x begins t rest) k ≡ type_widths is_open t k ++ field_widths is_open rest (k + length (type_widths is_open t k))
+fields_next is_open k p flip x begins t rest =
+    ap (λ at. type_widths is_open t k ++ flat_fields (numbered_fields at rest)) (numbers_past is_open k (shared_count t))
+    ∙ ap (λ n. type_widths is_open t k ++ field_widths is_open rest (k + n)) (sym (flat_long (numbers_from is_open k) t))
+
+shown_next : (is_open is_bare : Bool) (k : ℕ) (p : Place) (flip : Bool) (x : List ℕ) (begins : Place) (t : DataType) (rest : Fields)
+    → field_widths is_open (shown_fields is_bare (field p flip x begins t rest)) k
+    ≡ type_widths is_open (shown is_bare t) k ++ field_widths is_open (shown_fields is_bare rest) (k + length (type_widths is_open (shown is_bare t) k))
+shown_next is_open true k p flip x begins t rest = fields_next is_open k p flip x begins (bare t) (shown_fields true rest)
+shown_next is_open false k p flip x begins t rest = fields_next is_open k p flip x begins t rest
+
+shown_none : (is_open is_bare : Bool) (k : ℕ) → field_widths is_open (shown_fields is_bare no_fields) k ≡ []
+shown_none is_open true k = refl
+shown_none is_open false k = refl
+
+-- how far a walk has come: what is left stands behind what is pushed
+pub record PushesSoFar (whole rest : ℕ → List Width) (old new : Arena) : Type 0 where
+  pub each : (meant : List Width) (rules : List Rule) → Keeps meant rules old
+      → (done : List Width) × Keeps (meant ++ done) rules new × (done ++ rest (length meant + length done) ≡ whole (length meant))
+
+pub pushes_begin : (whole : ℕ → List Width) (old : Arena) → PushesSoFar whole whole old old
+pushes_begin whole old = record {
+  each = λ meant rules keeps. (
+    [],
+    subst (λ ws. Keeps ws rules old) (sym (append-nil meant)) keeps,
+    ap whole (let e : length meant + 0 ≡ length meant = omega arith in e),
+  );
+}
+
+pub pushes_next : (whole rest own behind : ℕ → List Width) (old middle new : Arena) → PushesSoFar whole rest old middle → Pushes own middle new
+    → ((k : ℕ) → rest k ≡ own k ++ behind (k + length (own k))) → PushesSoFar whole behind old new
+pushes_next whole rest own behind old middle new so_far pushes split = record {
+  each = λ meant rules keeps.
+      let before = so_far.each meant rules keeps in
+      let done = before.0 in
+      let k = length meant + length done in
+      let pushed = pushes.each (meant ++ done) rules before.1 in
+      let counted : length (meant ++ done) ≡ k = length-append meant done in
+      let here : (meant ++ done) ++ own (length (meant ++ done)) ≡ meant ++ (done ++ own k) =
+      ap (λ n. (meant ++ done) ++ own n) counted ∙ append_assoc meant done (own k) in
+      let further : length meant + length (done ++ own k) ≡ k + length (own k) =
+      let both = length-append done (own k) in omega (arith, both) in (
+        done ++ own k,
+        subst (λ ws. Keeps ws rules new) here pushed,
+        append_assoc done (own k) (behind (length meant + length (done ++ own k)))
+            ∙ ap (λ n. done ++ (own k ++ behind n)) further ∙ ap (λ ws. done ++ ws) (sym (split k)) ∙ before.2,
+      );
+}
+
+pub pushes_end : (whole rest : ℕ → List Width) (old new : Arena) → PushesSoFar whole rest old new → ((k : ℕ) → rest k ≡ []) → Pushes whole old new
+pushes_end whole rest old new so_far none = record {
+  each = λ meant rules keeps.
+      let all = so_far.each meant rules keeps in
+      let same : all.0 ≡ whole (length meant) =
+      sym (append-nil all.0) ∙ ap (λ ws. all.0 ++ ws) (sym (none (length meant + length all.0))) ∙ all.2 in
+      subst (λ ws. Keeps (meant ++ ws) rules new) same all.1;
+}
+
+-- so far in the fields of a bundle
+abbrev pub all_fields : List DataType → Bool → Bool → List Member → ℕ → List Width
+all_fields ts is_bare is_open ms = field_widths is_open (shown_fields is_bare (member_fields ts ms))
+
+abbrev pub fields_left : List DataType → Bool → Bool → List Member → ℕ → ℕ → List Width
+fields_left ts is_bare is_open ms i = field_widths is_open (shown_fields is_bare (members_from ts ms i))
+
+module _ (ts : List DataType) (is_bare is_open : Bool) (ms : List Member) (old : Arena) where
+  pub fields_begin : PushesSoFar (all_fields ts is_bare is_open ms) (fields_left ts is_bare is_open ms 0) old old
+  fields_begin = pushes_begin (all_fields ts is_bare is_open ms) old
+
+  pub fields_more : (i : ℕ) (m : Member) (middle new : Arena) → i < length ms → m ≡ get_or ms i m
+      → PushesSoFar (all_fields ts is_bare is_open ms) (fields_left ts is_bare is_open ms i) old middle
+      → Pushes (type_widths is_open (shown is_bare (type_at ts m.ty.number))) middle new
+      → PushesSoFar (all_fields ts is_bare is_open ms) (fields_left ts is_bare is_open ms (i + 1)) old new
+  fields_more i m middle new within at so_far pushes =
+      pushes_next (all_fields ts is_bare is_open ms) (fields_left ts is_bare is_open ms i) (type_widths is_open (shown is_bare (type_at ts m.ty.number)))
+      (fields_left ts is_bare is_open ms (i + 1)) old middle new so_far pushes
+      (λ k.
+      ap (λ fs. field_widths is_open (shown_fields is_bare fs) k) (members_next ts ms i m within at)
+      ∙ shown_next is_open is_bare k m.place m.flip m.name m.type_place (type_at ts m.ty.number) (members_from ts ms (i + 1)))
+
+  pub fields_end : (i : ℕ) (new : Arena) → length ms ≤ i → PushesSoFar (all_fields ts is_bare is_open ms) (fields_left ts is_bare is_open ms i) old new
+      → Pushes (all_fields ts is_bare is_open ms) old new
+  fields_end i new past so_far =
+      pushes_end (all_fields ts is_bare is_open ms) (fields_left ts is_bare is_open ms i) old new so_far
+      (λ k. ap (λ fs. field_widths is_open (shown_fields is_bare fs) k) (members_end ts ms i past) ∙ shown_none is_open is_bare k)
+
+-- so far in the declarations of a module
+abbrev pub all_declared : List DataType → Stage → (ℕ → Option Component) → List (Option Found) → ℕ → List Width
+all_declared ts stage at declared = walked_widths stage at 0 (map (seen ts) declared)
+
+abbrev pub declared_left : List DataType → Stage → (ℕ → Option Component) → List (Option Found) → ℕ → ℕ → List Width
+declared_left ts stage at declared i = walked_widths stage at i (map (seen ts) (drop i declared))
+
+module _ (ts : List DataType) (stage : Stage) (at : ℕ → Option Component) (declared : List (Option Found)) (old : Arena) where
+  pub declared_begin : PushesSoFar (all_declared ts stage at declared) (declared_left ts stage at declared 0) old old
+  declared_begin = pushes_begin (all_declared ts stage at declared) old
+
+  pub declared_more : (i : ℕ) (default : Option Found) (middle new : Arena) → i < length declared
+      → PushesSoFar (all_declared ts stage at declared) (declared_left ts stage at declared i) old middle
+      → Pushes (stage_widths stage (at i) (seen ts (get_or declared i default))) middle new
+      → PushesSoFar (all_declared ts stage at declared) (declared_left ts stage at declared (i + 1)) old new
+  declared_more i default middle new within so_far pushes =
+      pushes_next (all_declared ts stage at declared) (declared_left ts stage at declared i) (stage_widths stage (at i) (seen ts (get_or declared i default)))
+      (declared_left ts stage at declared (i + 1)) old middle new so_far pushes
+      (λ k. ap (λ fs. walked_widths stage at i (map (seen ts) fs) k) (drop_more declared i default within))
+
+  pub declared_end : (i : ℕ) (new : Arena) → length declared ≤ i → PushesSoFar (all_declared ts stage at declared) (declared_left ts stage at declared i) old new
+      → Pushes (all_declared ts stage at declared) old new
+  declared_end i new past so_far =
+      pushes_end (all_declared ts stage at declared) (declared_left ts stage at declared i) old new so_far
+      (λ k. ap (λ fs. walked_widths stage at i (map (seen ts) fs) k) (drop_all i declared past))

@@ -1,0 +1,97 @@
+-- What stands under numbers, stands there whatever is put behind.
+use Rattle.std.proofs.Common.{◌≡◌, ℕ, zero, suc, ◌+◌, ◌<◌, List, [], ◌∷◌, ◌++◌, length, Some, refl, ap, ◌∙◌, arith}
+use Rattle.std.specs.Prelude.{slice_get}
+use Rattle.std.proofs.lemmas.Option.{none-some, slice_get_within}
+use Rattle.fir_base.proofs.Writes.{push_left}
+use Rattle.fir_base.proofs.Elements.{there}
+use Rattle.fir_ast.specs.Types.{DataType}
+use Rattle.fir_meaning.specs.TypedScopes.{TypedScope}
+use Rattle.fir_meaning.specs.TypeGroup.{scope_at}
+use Rattle.fir_meaning.specs.working.WidthExpressions.{Width}
+use Rattle.fir_meaning.specs.working.SizedTypes.{Sized}
+use Rattle.fir_meaning.specs.working.SizedScopes.{SizedScope}
+use Rattle.fir_meaning.specs.working.SizedDeclarations.{NumberedModule, sized_at}
+use Rattle.fir_width.specs.declared.side.Side.{Side}
+use Rattle.fir_width.specs.working.Numbered.{Agrees, Has, Stands}
+use Rattle.fir_width.specs.working.Scenes.{AllStand, StandsInModule}
+use Rattle.fir_width.specs.working.Sides.{IsSide}
+use Rattle.fir_width.specs.working.Walks.{AreSides}
+
+-- the second part of joined lists
+get_right : {A : Type 0} → (xs ys : List A) (k : ℕ) → slice_get (xs ++ ys) (length xs + k) ≡ slice_get ys k
+get_right [] ys k = let e : 0 + k ≡ k = omega arith in ap (slice_get ys) e
+get_right (x ∷ xs) ys k = let e : suc (length xs) + k ≡ suc (length xs + k) = omega arith in ap (slice_get (x ∷ xs ++ ys)) e ∙ get_right xs ys k
+
+-- a number keeps its expression
+pub has_more : (meant more : List Width) (number : ℕ) (e : Width) → Has meant number e → Has (meant ++ more) number e
+has_more meant more number e h = push_left meant more number e h
+
+pub stands_more : (meant more : List Width) (first : ℕ) (es : List Width) → Stands meant first es → Stands (meant ++ more) first es
+stands_more meant more first es h = record { each = λ i e is. has_more meant more (first + i) e (h.each i e is) }
+
+-- the parts of what stands
+pub stands_left : (meant : List Width) (first : ℕ) (es fs : List Width) → Stands meant first (es ++ fs) → Stands meant first es
+stands_left meant first es fs h = record { each = λ i e is. h.each i e (push_left es fs i e is) }
+
+pub stands_right : (meant : List Width) (first : ℕ) (es fs : List Width) → Stands meant first (es ++ fs) → Stands meant (first + length es) fs
+stands_right meant first es fs h = record {
+  each = λ i e is.
+      let same : first + length es + i ≡ first + (length es + i) = omega arith in
+      ap (slice_get meant) same ∙ h.each (length es + i) e (get_right es fs i ∙ is);
+}
+
+-- what is put behind all
+pub stands_pushed : (meant es : List Width) → Stands (meant ++ es) (length meant) es
+stands_pushed meant es = record { each = λ i e is. get_right meant es i ∙ is }
+
+-- a single one
+pub stands_one : (meant : List Width) (number : ℕ) (e : Width) → Has meant number e → Stands meant number (e ∷ [])
+stands_one meant number e h = record { each = at }
+  where
+    at : (i : ℕ) (f : Width) → slice_get (e ∷ []) i ≡ Some f → Has meant (number + i) f
+    at zero f is = let same : number + 0 ≡ number = omega arith in ap (slice_get meant) same ∙ (h ∙ is)
+    at (suc i) f is = absurd (none-some f is)
+
+pub stands_head : (meant : List Width) (number : ℕ) (e : Width) (es : List Width) → Stands meant number (e ∷ es) → Has meant number e
+stands_head meant number e es h = let same : number ≡ number + 0 = omega arith in ap (slice_get meant) same ∙ h.each 0 e refl
+
+-- and nothing stands from any number on
+pub stands_none : (meant : List Width) (number : ℕ) → Stands meant number []
+stands_none meant number = record { each = λ i e is. absurd (none-some e is) }
+
+-- all that stands has numbers of the list
+pub has_within : (meant : List Width) (number : ℕ) (e : Width) → Has meant number e → number < length meant
+has_within meant number e h = slice_get_within meant number e h
+
+pub stands_within : (meant : List Width) (first i : ℕ) (es : List Width) → Stands meant first es → i < length es → first + i < length meant
+stands_within meant first i es h within = let it = there es i within in has_within meant (first + i) it.0 (h.each i it.0 it.1)
+
+-- sides
+pub side_more : (ts : List DataType) (meant more : List Width) (side : Side) (s : Sized) → IsSide ts meant side s → IsSide ts (meant ++ more) side s
+side_more ts meant more side s h = record { shape = h.shape; stands = stands_more meant more side.first _ h.stands }
+
+pub sides_more : (ts : List DataType) (meant more : List Width) (sides : List Side) (ss : List Sized) → AreSides ts meant sides ss → AreSides ts (meant ++ more) sides ss
+sides_more ts meant more [] [] h = tt
+sides_more ts meant more (side ∷ sides) (s ∷ ss) h = (side_more ts meant more side s h.0, sides_more ts meant more sides ss h.1)
+sides_more ts meant more [] (s ∷ ss) h = absurd h
+sides_more ts meant more (side ∷ sides) [] h = absurd h
+
+-- all that is declared
+pub all_stand_more : (meant more : List Width) (firsts : List ℕ) (typed : TypedScope) (sized : SizedScope) → AllStand meant firsts typed sized
+    → AllStand (meant ++ more) firsts typed sized
+all_stand_more meant more [] [] [] h = tt
+all_stand_more meant more (first ∷ firsts) [] [] h = tt
+all_stand_more meant more (first ∷ firsts) (k ∷ ks) (s ∷ ss) h =
+    (record { name = h.0.name; shape = h.0.shape; stands = λ t is. stands_more meant more first _ (h.0.stands t is) }, all_stand_more meant more firsts ks ss h.1)
+all_stand_more meant more [] (k ∷ ks) [] h = absurd h
+all_stand_more meant more [] (k ∷ ks) (s ∷ ss) h = absurd h
+all_stand_more meant more [] [] (s ∷ ss) h = absurd h
+all_stand_more meant more (first ∷ firsts) [] (s ∷ ss) h = absurd h
+all_stand_more meant more (first ∷ firsts) (k ∷ ks) [] h = absurd h
+
+pub in_module_more : (meant more : List Width) (firsts : List ℕ) (m : NumberedModule) → StandsInModule meant firsts m → StandsInModule (meant ++ more) firsts m
+in_module_more meant more firsts m h = λ before begins. all_stand_more meant more firsts (scope_at m.modules before) (sized_at m before) (h before begins)
+
+-- widths that agree with more agree with what was there
+pub agrees_less : (meant more : List Width) (w u : ℕ → ℕ) → Agrees (meant ++ more) w u → Agrees meant w u
+agrees_less meant more w u h = λ number e is. h number e (has_more meant more number e is)

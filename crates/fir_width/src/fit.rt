@@ -1,0 +1,58 @@
+//! The widths of a circuit.
+
+ghost use Rattle.std.specs.Prelude.{◌≡◌, IfOk};
+ghost use Rattle.fir_ast.specs.View.{circuit_of};
+ghost use Rattle.fir_pass.specs.Faults.{fault_of};
+ghost use Rattle.fir_pass.specs.Law.{IfFault};
+ghost use Rattle.fir_width.specs.working.Fitting.{FitsAll, IsFirstWidthFault, JudgesWidths};
+
+use crate::circuit::in_circuit;
+use crate::fitted::Fitted;
+use crate::legal::all_legal;
+use crate::over::nothing_over;
+use crate::work_list::least_widths;
+use fir_ast::FirFault;
+use fir_base::Refused;
+use fir_bits::laws::monotone;
+use fir_types::Typed;
+use std::alloc::Global;
+
+/// The circuit with the widths of its leaves; or its first fault of widths, E19, or else E20 to E22 in the
+/// order of the text, and the circuit as it was given (FIRRTL spec, "Width Inference", "Primitive
+/// Operations", "Literals", "Conditionals").
+pub fn solve(alloc: Global, typed: Typed) -> Result<Fitted, Refused<(FirFault, Typed)>>
+    ensures tree { IfOk result (λ f. f ≡ typed) }
+    ensures fits { IfOk result (λ f. FitsAll (circuit_of typed)) }
+    ensures fault { IfFault result (λ f. IsFirstWidthFault (circuit_of typed) (fault_of f.0)) }
+    ensures back { IfFault result (λ f. f.1 ≡ typed) }
+{
+    match widths_of(alloc, &typed) {
+        Ok(widths) => Ok(Fitted::new(typed, widths)),
+        Err(Refused::Fault(fault)) => Err(Refused::Fault((fault, typed))),
+        Err(Refused::Memory) => Err(Refused::Memory),
+    }
+}
+
+/// The widths of all expressions by their numbers, those of the leaves first.
+fn widths_of(alloc: Global, typed: &Typed) -> Result<Vec<u32>, Refused<FirFault>>
+    ensures { JudgesWidths (circuit_of typed.now) result }
+{
+    monotone();
+    let findings = typed.findings();
+    let walked = in_circuit(alloc, typed.named(), findings)?;
+    let unknowns = walked.arena.len();
+    let widths = least_widths(alloc, walked.arena.bounds.as_slice(), unknowns)?;
+    nothing_over(
+        alloc,
+        &findings.table,
+        widths.as_slice(),
+        walked.spots.as_slice(),
+    )?;
+    all_legal(
+        alloc,
+        &findings.table,
+        widths.as_slice(),
+        walked.spots.as_slice(),
+    )?;
+    Ok(widths)
+}

@@ -1,0 +1,96 @@
+//! The leaves of a type take the next numbers, in its order: of a vector those of its element, which stand
+//! for all elements.
+
+ghost use Rattle.std.specs.Prelude.{[], ◌∷◌, OnOk};
+ghost use Rattle.fir_meaning.specs.working.SizedTypes.{leaf_width};
+ghost use Rattle.fir_meaning.specs.working.WidthExpressions.{known};
+ghost use Rattle.fir_type_table.specs.working.Tables.{member_fields, members_at, shown, shown_fields, type_at, types_of};
+ghost use Rattle.fir_types.specs.working.Seen.{found_type};
+ghost use Rattle.fir_width.specs.working.PushedLeaves.{Pushes, field_widths, numbers_from, type_widths};
+
+use crate::arena::Arena;
+use fir_base::MemoryOut;
+use fir_type_table::{Kind, TypeId, TypeTable};
+use fir_types::Found;
+
+/// The leaves of what is found. One whose width is not written is an unknown if the type is open, and else
+/// its width is known to be 0.
+pub fn push_found(
+    table: &TypeTable,
+    found: Found,
+    is_open: bool,
+    arena: &mut Arena,
+) -> Result<(), MemoryOut>
+    ensures { OnOk result (Pushes (type_widths is_open (found_type (types_of table.now) found)) arena.old arena.new) }
+{
+    match found {
+        Found::Number(_, width) => push_number(width, is_open, arena),
+        Found::AsyncReset => push_written(1, arena),
+        Found::Type(id, is_bare) => push_type(table, id, is_bare, is_open, arena),
+    }
+}
+
+/// The leaf of a UInt or an SInt.
+fn push_number(width: Option<u128>, is_open: bool, arena: &mut Arena) -> Result<(), MemoryOut>
+    ensures { OnOk result (Pushes (λ k. leaf_width (numbers_from is_open k) width ∷ []) arena.old arena.new) }
+{
+    match width {
+        Some(width) => push_written(width, arena),
+        None => {
+            if is_open {
+                arena.push_unknown()
+            } else {
+                push_written(0, arena)
+            }
+        }
+    }
+}
+
+/// A leaf whose width is written.
+fn push_written(width: u128, arena: &mut Arena) -> Result<(), MemoryOut>
+    ensures { OnOk result (Pushes (λ k. known width ∷ []) arena.old arena.new) }
+{
+    arena.push_known(width)?;
+    Ok(())
+}
+
+/// The leaves of a type of the table, or of that type without its widths.
+#[cycle(leaves)]
+fn push_type(
+    table: &TypeTable,
+    id: TypeId,
+    is_bare: bool,
+    is_open: bool,
+    arena: &mut Arena,
+) -> Result<(), MemoryOut>
+    ensures { OnOk result (Pushes (type_widths is_open (shown is_bare (type_at (types_of table.now) id.number))) arena.old arena.new) }
+{
+    match table.kind(id) {
+        Kind::UInt(width) | Kind::SInt(width) => {
+            push_number(if is_bare { None } else { width }, is_open, arena)
+        }
+        Kind::Clock => push_written(0, arena),
+        Kind::Reset | Kind::AsyncReset => push_written(1, arena),
+        Kind::Bundle => push_members(table, id, is_bare, is_open, arena),
+        Kind::Vector(element, length) => {
+            push_type(table, element, is_bare, is_open && length != 0, arena)
+        }
+    }
+}
+
+/// Those of the fields of a bundle.
+#[cycle(leaves)]
+fn push_members(
+    table: &TypeTable,
+    id: TypeId,
+    is_bare: bool,
+    is_open: bool,
+    arena: &mut Arena,
+) -> Result<(), MemoryOut>
+    ensures { OnOk result (Pushes (field_widths is_open (shown_fields is_bare (member_fields (types_of table.now) (members_at table.now id.number)))) arena.old arena.new) }
+{
+    for member in table.members(id) {
+        push_type(table, member.ty, is_bare, is_open, arena)?;
+    }
+    Ok(())
+}
