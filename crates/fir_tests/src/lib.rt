@@ -7,6 +7,8 @@
 #![tactic(auto)]
 
 #[cfg(test)]
+mod circuits;
+#[cfg(test)]
 mod faults;
 #[cfg(test)]
 mod trees;

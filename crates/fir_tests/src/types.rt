@@ -1,13 +1,10 @@
 //! The types of circuits of a text: of what is declared, and what comes back with a fault.
 
+use crate::circuits::named;
 use fir_ast::{FirFault, LeafId, Place, Ty};
 use fir_base::Refused;
-use fir_lex::lex;
-use fir_names::{Named, resolve};
-use fir_parse::parse;
 use fir_pass::Pass;
 use fir_types::{CheckTypes, Note, check};
-use std::alloc::Global;
 use std::test::Fail;
 
 const CLEAN: &[u8] = b"circuit T :
@@ -41,23 +38,6 @@ const PICKED: &[u8] = b"circuit T :
     input x : UInt<1>
     output y : UInt<2>
 ";
-
-/// The circuit of a text, with its names.
-fn named(alloc: Global, text: &[u8]) -> Result<Named, Fail> {
-    if text.len() > 16777216 {
-        return Err(Fail::from("the text is short"));
-    }
-    let Ok(tokens) = lex(alloc, text) else {
-        return Err(Fail::from("the text has tokens"));
-    };
-    let Ok(circuit) = parse(alloc, tokens) else {
-        return Err(Fail::from("the text spells a tree"));
-    };
-    match resolve(alloc, circuit) {
-        Ok(named) => Ok(named),
-        Err(_) => Err(Fail::from("the circuit has its names")),
-    }
-}
 
 #[test]
 fn each_declaration_has_its_type(rt: HostRuntime) -> Result<(), Fail> {

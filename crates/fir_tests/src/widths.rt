@@ -1,14 +1,10 @@
 //! The widths of circuits of a text: those of leaves by their numbers, ports of all modules first, and the
 //! lines of faults.
 
+use crate::circuits::typed;
 use fir_ast::LeafId;
 use fir_base::Refused;
-use fir_lex::lex;
-use fir_names::resolve;
-use fir_parse::parse;
-use fir_types::{Typed, check};
 use fir_width::{Widths, solve};
-use std::alloc::Global;
 use std::test::Fail;
 
 /// What is expected of a circuit: the widths of its first leaves, or its fault's line.
@@ -125,26 +121,6 @@ const ROWS: [(&[u8], Expected); 10] = [
     (OVER_BEHIND_LEGALITY, Expected::Line(b"E19 7:15 width over 128 add\n")),
     (PAST_THE_OPERAND, Expected::Line(b"E21 5:10 legality bits 4 5 5\n")),
 ];
-
-/// The circuit of a text, with its types.
-fn typed(alloc: Global, text: &[u8]) -> Result<Typed, Fail> {
-    if text.len() > 16777216 {
-        return Err(Fail::from("the text is short"));
-    }
-    let Ok(tokens) = lex(alloc, text) else {
-        return Err(Fail::from("the text has tokens"));
-    };
-    let Ok(circuit) = parse(alloc, tokens) else {
-        return Err(Fail::from("the text spells a tree"));
-    };
-    let Ok(named) = resolve(alloc, circuit) else {
-        return Err(Fail::from("the circuit has its names"));
-    };
-    match check(alloc, named) {
-        Ok(typed) => Ok(typed),
-        Err(_) => Err(Fail::from("the circuit has its types")),
-    }
-}
 
 #[test]
 fn widths_are_the_least_and_faults_the_first(rt: HostRuntime) -> Result<(), Fail> {
