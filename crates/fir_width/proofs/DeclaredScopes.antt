@@ -67,7 +67,7 @@ pub record Met (modules : List ModuleTree) (start : Numbering) (ks : TypedScope)
 pub met_none : (modules : List ModuleTree) (start : Numbering) → Met modules start [] start
 met_none modules start = record { front = []; typed = refl; sized = refl }
 
-numbered_more : (modules : List ModuleTree) (numbers : Numbering) (ds : Declarations) (d : Declaration)
+pub numbered_more : (modules : List ModuleTree) (numbers : Numbering) (ds : Declarations) (d : Declaration)
     → numbered_behind modules numbers (ds ++ d ∷ []) ≡ numbered_with modules (numbered_behind modules numbers ds) d
 numbered_more modules numbers [] d = refl
 numbered_more modules numbers (e ∷ ds) d = numbered_more modules (numbered_with modules numbers e) ds d

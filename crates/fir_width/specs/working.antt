@@ -22,3 +22,4 @@ pub mod PushedLeaves
 pub mod Operands
 pub mod Choices
 pub mod FirstLeaves
+pub mod SmallWidths

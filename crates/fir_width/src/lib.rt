@@ -28,6 +28,7 @@ mod fit;
 mod fitted;
 mod forms;
 mod ground;
+mod laws;
 mod leaf_path;
 mod leaves;
 mod legal;
@@ -48,6 +49,7 @@ mod work_list;
 pub use bound::{Bound, OVER, Term, are_within};
 pub use fit::solve;
 pub use fitted::{Fitted, Widths};
+pub use laws::widths_leave_none;
 pub use rounds::least_widths_by_rounds;
 pub use work_list::least_widths;
 
