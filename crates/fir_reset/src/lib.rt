@@ -1,22 +1,49 @@
-//! Which resets are asynchronous. In come leaves and expressions by number: what each is, and what
-//! it is joined to by connects and nodes. Out comes which of them are asynchronous, or a walk that
-//! joins a UInt and an AsyncReset through Resets (`find_resets`; FIRRTL spec, "Reset Inference").
-//! What is joined, what is reached and what a walk is stands in specs/ (`IsGraph`, `IsReached`,
-//! `IsResetWalk`).
+//! Which Resets of a circuit are asynchronous. In comes a `Typed`, a circuit without a fault of types; out
+//! comes a `ResetMap`, or E18, with a walk that joins a UInt and an AsyncReset through Resets (`infer_resets`;
+//! FIRRTL spec, "Reset Inference"). What is joined and what a walk is stands in specs/ (`joins`,
+//! `IsAsynchronous`, `ShowsResets`).
 //!
-//! The search (`search`) goes by breadth, from all AsyncResets at once (`roots`). Each entry of its
-//! queue has the place of the entry that it was reached from, so that a walk leads back from a UInt
-//! that is met (`walk`). `graph` has what comes in.
+//! What meets in the circuit, by connects, nodes and instances, is told in the order of the text (`circuit`):
+//! one walk goes over the statements of each module (`meets`), and passes what is found of their expressions
+//! (`notes`). All that meets is joined (`build`, `meetings`), leaf by leaf, where of vectors the first
+//! elements stand for all (`pairs`), in one graph (`joined`): of Resets, each with the numbers of its
+//! elements, and of the UInts and AsyncResets that they meet. All leaves of one class are joined there, too:
+//! the same leaf of the elements of a vector, and of a module's ports and its instances.
+//!
+//! The search (`search`) goes by breadth, from all AsyncResets at once (`roots`). Each entry of its queue has
+//! the place of the entry that it was reached from, so that a walk leads back from a UInt that is met
+//! (`walk`), and is told (`told`). Else what is reached is noted by the numbers of leaves (`marked`,
+//! `leaf_numbers`).
 #![tactic(auto)]
 
+mod build;
+mod circuit;
+mod edges;
 mod graph;
+mod infer;
+mod item;
+mod joined;
+mod key;
+mod leaf_numbers;
+mod leaf_offsets;
+mod leaf_place;
+mod marked;
+mod meet;
+mod meetings;
+mod meets;
+mod notes;
+mod pairs;
+mod path_text;
+mod reset_map;
+mod root;
 mod roots;
 mod search;
+mod shapes;
+mod told;
 mod walk;
 
 pub use graph::{Kind, is_graph};
+pub use infer::infer_resets;
+pub use reset_map::ResetMap;
 pub use search::find_resets;
 pub use walk::Walk;
-
-#[cfg(test)]
-mod tests;

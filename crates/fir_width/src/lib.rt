@@ -52,6 +52,3 @@ pub use fitted::{Fitted, Widths};
 pub use laws::widths_leave_none;
 pub use rounds::least_widths_by_rounds;
 pub use work_list::least_widths;
-
-#[cfg(test)]
-mod tests;

@@ -1,8 +1,8 @@
 //! Least widths of small sets of bounds, worked out by hand. With ample memory both programs find them.
 
-use crate::{Bound, OVER, Term, are_within, least_widths, least_widths_by_rounds};
 use fir_base::MemoryOut;
 use fir_bits::PrimOp;
+use fir_width::{Bound, OVER, Term, are_within, least_widths, least_widths_by_rounds};
 use std::alloc::Global;
 use std::test::Fail;
 

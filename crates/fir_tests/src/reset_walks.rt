@@ -1,7 +1,7 @@
 //! Asynchronous resets of small graphs, worked out by hand. With ample memory they are found.
 
-use crate::{Kind, Walk, find_resets, is_graph};
 use fir_base::{MemoryOut, Refused};
+use fir_reset::{Kind, Walk, find_resets, is_graph};
 use std::alloc::Global;
 use std::test::Fail;
 
