@@ -95,12 +95,24 @@ const A_REGISTER: &[u8] = b"circuit T :
 
 const ROWS: [(&[u8], Expected); 8] = [
     (BOTH_KINDS, Expected::Line(b"E18 5:10 resets u - w - a\n")),
-    (THROUGH_A_NODE, Expected::Resets(&[false, true, true, true, false])),
+    (
+        THROUGH_A_NODE,
+        Expected::Resets(&[false, true, true, true, false]),
+    ),
     (ONE_ELEMENT, Expected::Resets(&[false, true, true])),
-    (TWO_ELEMENTS, Expected::Line(b"E18 5:10 resets u - v[1].r - v[2].r - a\n")),
+    (
+        TWO_ELEMENTS,
+        Expected::Line(b"E18 5:10 resets u - v[1].r - v[2].r - a\n"),
+    ),
     (ANY_ELEMENT, Expected::Resets(&[false, false, true])),
-    (TWO_INSTANCES, Expected::Line(b"E18 7:10 resets u - i.r - r - j.r - a\n")),
-    (A_CONVERSION, Expected::Line(b"E18 4:10 resets u - w - 6:10\n")),
+    (
+        TWO_INSTANCES,
+        Expected::Line(b"E18 7:10 resets u - i.r - r - j.r - a\n"),
+    ),
+    (
+        A_CONVERSION,
+        Expected::Line(b"E18 4:10 resets u - w - 6:10\n"),
+    ),
     (A_REGISTER, Expected::Resets(&[false, false, false, false])),
 ];
 

@@ -110,16 +110,28 @@ const PAST_THE_OPERAND: &[u8] = b"circuit T :
 ";
 
 const ROWS: [(&[u8], Expected); 10] = [
-    (GROWS_FOR_EVER, Expected::Line(b"E19 5:9 width over 128 r\n")),
+    (
+        GROWS_FOR_EVER,
+        Expected::Line(b"E19 5:9 width over 128 r\n"),
+    ),
     (CUT_EACH_TURN, Expected::Widths(&[0, 1, 1])),
     (SHARED_PORTS, Expected::Widths(&[5, 5, 3, 5, 5, 5])),
     (SHIFTED, Expected::Widths(&[4, 2, 7])),
     (SHARED_ELEMENTS, Expected::Widths(&[4, 4, 4, 4, 4])),
     (NO_PORT_WIDTH, Expected::Line(b"E20 3:11 port width a\n")),
-    (WIDE_CONDITION, Expected::Line(b"E22 6:10 condition width 2\n")),
+    (
+        WIDE_CONDITION,
+        Expected::Line(b"E22 6:10 condition width 2\n"),
+    ),
     (INIT, Expected::Widths(&[0, 1, 6])),
-    (OVER_BEHIND_LEGALITY, Expected::Line(b"E19 7:15 width over 128 add\n")),
-    (PAST_THE_OPERAND, Expected::Line(b"E21 5:10 legality bits 4 5 5\n")),
+    (
+        OVER_BEHIND_LEGALITY,
+        Expected::Line(b"E19 7:15 width over 128 add\n"),
+    ),
+    (
+        PAST_THE_OPERAND,
+        Expected::Line(b"E21 5:10 legality bits 4 5 5\n"),
+    ),
 ];
 
 #[test]
