@@ -138,18 +138,25 @@ const ROWS: [(&[u8], Expected); 10] = [
 fn widths_are_the_least_and_faults_the_first(rt: HostRuntime) -> Result<(), Fail> {
     let alloc = rt.alloc();
     for (text, expected) in ROWS.iter() {
-        match (solve(alloc, typed(alloc, text)?), expected) {
-            (Ok(fitted), Expected::Widths(widths)) => {
+        let typed = typed(alloc, text)?;
+        match solve(alloc, typed) {
+            Ok(fitted) => {
+                let Expected::Widths(widths) = expected else {
+                    return Err(Fail::from("the circuit shows a fault"));
+                };
                 for (number, width) in widths.iter().enumerate() {
                     assert_eq!(rt; Widths::of(&fitted, LeafId::new(number)), *width);
                 }
             }
-            (Err(Refused::Fault((fault, _))), Expected::Line(line)) => {
+            Err(Refused::Fault((fault, _typed))) => {
+                let Expected::Line(line) = expected else {
+                    return Err(Fail::from("the circuit has widths"));
+                };
                 let mut told = Vec::new(alloc);
                 fault.put_line(alloc, &mut told)?;
                 assert_eq!(rt; told.as_slice(), *line);
             }
-            _ => return Err(Fail::from("a circuit has widths, or else a fault")),
+            Err(Refused::Memory) => return Err(Fail::from("memory is ample")),
         }
     }
     Ok(())
