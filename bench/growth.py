@@ -6,7 +6,9 @@ long ones are made: a port with a name of 4000 bytes that 8192 and 16384 connect
 name. The others are of forms that emit lacks. Many modules, nodes in nested whens, fields of one
 bundle, ports of one memory, instances, a chain and a ring of modules show how the check of names
 grows; parts of references, connects of a bundle with 1000 fields, nodes of such a bundle and
-elements of nested vectors show how the check of types does. Time goes with the bytes that are read and written. It fails where the time of the second
+elements of nested vectors show how the check of types does. Chains of nodes and registers without
+a width, a ring of them in which each turn adds a bit, and Resets in a row, 20000 and 200000 each,
+show how inference does. Time goes with the bytes that are read and written. It fails where the time of the second
 text grows by more than 1.25 times what these bytes grow by; times under 0.2 seconds are too short
 to compare. Seconds are those of a processor, the least of three runs.
 
@@ -31,6 +33,32 @@ def chain(count):
         lines.append(f"    node n{i} = not({last})\n")
         last = f"n{i}"
     return HEAD + "".join(lines) + f"    o <= {last}\n"
+
+
+def chain_without_widths(count):
+    """So many nodes and registers by turns, each of the one before, none with a width."""
+    lines, last = ["    input clock : Clock\n"], "a"
+    for i in range(count // 2):
+        lines.append(f"    node n{i} = not({last})\n    reg r{i} : UInt, clock\n    r{i} <= n{i}\n")
+        last = f"r{i}"
+    return HEAD + "".join(lines) + f"    o <= {last}\n"
+
+
+def ring_that_grows(count):
+    """Registers in a ring, in which a bit is added once a turn: each rises to over 128 bits."""
+    lines = ["    input clock : Clock\n"]
+    lines += [f"    reg r{i} : UInt, clock\n" for i in range(count)]
+    lines += [f"    r{i} <= r{i - 1}\n" for i in range(1, count)]
+    return HEAD + "".join(lines) + f"    r0 <= add(r{count - 1}, UInt<1>(1))\n" + TAIL
+
+
+def resets_in_a_row(count):
+    """Each takes the one before, and the first an AsyncReset."""
+    lines, last = ["    input r : AsyncReset\n"], "r"
+    for i in range(count):
+        lines.append(f"    wire w{i} : Reset\n    w{i} <= {last}\n")
+        last = f"w{i}"
+    return HEAD + "".join(lines) + TAIL
 
 
 def fill(size, line):
@@ -194,6 +222,7 @@ def run(firc, path, text):
     return size, min(times), f"{done.returncode} {says}".strip()
 
 
+COUNTED = (chain, chain_without_widths, ring_that_grows, resets_in_a_row)
 SHAPES = (blank_lines, one_comment, chain_of_nodes, one_information, one_long_name,
           one_long_name_used_many_times, skips, connects, many_ports, chain_of_registers, dots,
           modules, nodes_in_nested_whens, fields_of_one_bundle, ports_of_one_memory, instances,
@@ -201,11 +230,16 @@ SHAPES = (blank_lines, one_comment, chain_of_nodes, one_information, one_long_na
           nodes_of_1000_fields, elements_of_vectors)
 
 
+def name_of(make):
+    return make.__name__.replace("_", " ")
+
+
 def texts():
     """The names of the rows, each with its two texts."""
-    yield "chain of 20000 and of 200000 nodes", chain(20000), chain(200000)
+    for make in COUNTED:
+        yield f"{name_of(make)}, 20000 and 200000", make(20000), make(200000)
     for make in SHAPES:
-        yield make.__name__.replace("_", " "), make(8 * MIB), make(16 * MIB)
+        yield name_of(make), make(8 * MIB), make(16 * MIB)
 
 
 def main():

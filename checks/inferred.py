@@ -7,13 +7,12 @@ leaves, which show a fault unless each width is right.
 The line is that of a walk of E18, which is judged by reset_rules.py; else that of the first fault
 E19, or else E20 to E22, of width_rules.py; else there is none, or one of another code.
 
-usage: inferred.py [--program PATH] [--without CODE] [--shortest] [--nested] COUNT [SEED]
+usage: inferred.py [--program PATH] [--without CODE] [--shortest] COUNT [SEED]
        inferred.py --show COUNT [SEED]
 
 Without a program it runs ./firc. Circuits of which the rules say the code of --without are left
-out. With --shortest a walk of E18 has to be a shortest of those that begin as it does. With
---nested it may go from a leaf of a vector within a vector to one that differs in several indices.
-With --show it prints the circuits with their lines and runs nothing.
+out. With --shortest a walk of E18 has to be a shortest of those that begin as it does. With --show
+it prints the circuits with their lines and runs nothing.
 """
 import argparse
 import pathlib
@@ -36,12 +35,12 @@ ROOT = pathlib.Path(__file__).resolve().parent.parent
 
 
 class Reading:
-    """What the rules say of a text whose names and types are right. `shortest` and `nested` tell
-    which walks are right."""
+    """What the rules say of a text whose names and types are right. `shortest` tells which walks are
+    right."""
 
-    def __init__(self, text, shortest=False, nested=False):
+    def __init__(self, text, shortest=False):
         self.circuit, self.shortest = Circuit(text), shortest
-        self.resets = Resets(self.circuit, nested)
+        self.resets = Resets(self.circuit)
         self.line = None if self.resets.has_fault() else Widths(self.circuit).fault
 
     def code(self):
@@ -95,7 +94,6 @@ def main():
     words.add_argument("--program", type=pathlib.Path, default=ROOT / "firc")
     words.add_argument("--without", metavar="CODE")
     words.add_argument("--shortest", action="store_true")
-    words.add_argument("--nested", action="store_true")
     words.add_argument("--show", action="store_true")
     words.add_argument("count", type=int)
     words.add_argument("seed", type=int, nargs="?", default=1)
@@ -105,7 +103,7 @@ def main():
         for _ in range(words.count):
             maker = InferenceMaker(chance)
             text = written(chance, maker)
-            reading = Reading(text, words.shortest, words.nested)
+            reading = Reading(text, words.shortest)
             code = reading.code()
             if code == words.without:
                 continue

@@ -38,11 +38,10 @@ def vectors(given):
 
 class Resets:
     """What joins what in a circuit. `declared` has the place of each leaf's declaration. The same
-    leaves of two elements of a vector are joined; if `nested`, also those of vectors within vectors
-    that differ in several of their indices."""
+    leaves of two elements of a vector are joined."""
 
-    def __init__(self, circuit, nested=False):
-        self.nested, self.beside, self.declared = nested, defaultdict(set), {}
+    def __init__(self, circuit):
+        self.beside, self.declared = defaultdict(set), {}
         for module in circuit.modules.values():
             for step in module.steps:
                 if isinstance(step, Declared):
@@ -72,11 +71,6 @@ class Resets:
 
     def elements(self, step):
         """The lists of leaves of a declaration that elements of a vector have alike."""
-        if self.nested:
-            alike = defaultdict(list)
-            for path, ground, _ in leaves(step.type):
-                alike[re.sub(r"\[\d+\]", "[]", path)].append((step.name + path, ground.kind))
-            return alike.values()
         return [[(f"{step.name}{path}[{k}]{within}", ground.kind) for k in range(vector.length)]
                 for path, vector in vectors(step.type)
                 for within, ground, _ in leaves(vector.element)]

@@ -14,7 +14,7 @@ use Rattle.fir_ast.specs.Statements.{Statement, Block, done}
 use Rattle.fir_ast.specs.Circuits.{PortTree}
 use Rattle.fir_ast.specs.View.{block_of}
 use Rattle.fir_meaning.specs.DrivenFaults.{drives, is_connected, output_faults}
-use Rattle.fir_check.specs.working.Tabulated.{Connects}
+use Rattle.fir_check.specs.working.Connected.{Connects}
 
 abbrev pub undriven_among : Block → List PortTree → List FirFault
 undriven_among body = flat_map (λ p. output_faults p.direction body p.named)

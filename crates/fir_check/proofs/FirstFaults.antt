@@ -1,27 +1,17 @@
 -- First faults of lists that stand one behind the other.
 -- Where the front has none, the first is that of what is behind it.
 use Rattle.std.proofs.Common.{◌≡◌, ℕ, ◌+◌, ◌<◌, List, [], ◌∷◌, ◌++◌, map, drop, length, get_or, refl, sym, ap, ◌∙◌}
-use Rattle.std.specs.Prelude.{Option, Some, None, flat_map}
-use Rattle.std.specs.Option.{option_or}
+use Rattle.std.specs.Prelude.{Some, None, flat_map}
 use Rattle.std.proofs.lemmas.List.{drop_more}
 use Rattle.fir_check.specs.working.Firsts.{first_of}
 
-pub first_append : {A : Type 0} (a b : List A) → first_of (a ++ b) ≡ option_or (first_of a) (first_of b)
-first_append [] b = refl
-first_append (x ∷ a) b = refl
-
-pub first_behind : {A : Type 0} (a b : List A) → None ≡ first_of a → first_of (a ++ b) ≡ first_of b
+first_behind : {A : Type 0} (a b : List A) → None ≡ first_of a → first_of (a ++ b) ≡ first_of b
 first_behind [] b none = refl
 first_behind (x ∷ a) b none = absurd (cc)
 
-pub first_front : {A : Type 0} (a b : List A) (x : A) → Some x ≡ first_of a → Some x ≡ first_of (a ++ b)
+first_front : {A : Type 0} (a b : List A) (x : A) → Some x ≡ first_of a → Some x ≡ first_of (a ++ b)
 first_front [] b x some = absurd (cc)
 first_front (y ∷ a) b x some = some
-
--- the first of two lists, from the first of each
-pub first_either : {A : Type 0} (a b : List A) (front back r : Option A) → r ≡ option_or front back
-    → front ≡ first_of a → back ≡ first_of b → r ≡ first_of (a ++ b)
-first_either a b front back r both here there = rw (both, here, there) (sym (first_append a b))
 
 -- the views of what is left begin with the next one's
 pub views_left : {A B : Type 0} (view : A → B) (xs : List A) (i : ℕ) (x : A) → i < length xs → x ≡ get_or xs i x
@@ -38,13 +28,6 @@ pub flat_found : {A B : Type 0} (f : A → List B) (whole left : List A) (x : A)
 flat_found f whole left x y some same = first_front (f x) (flat_map f left) y some ∙ sym same
 
 -- what the first says of the list
-pub first_is : {A : Type 0} (xs : List A) (x : A) → Some x ≡ first_of xs → (later : List A) × (xs ≡ x ∷ later)
-first_is [] x some = absurd (cc)
-first_is (y ∷ ys) x some = (ys, cc)
-
 pub none_is : {A : Type 0} (xs : List A) → None ≡ first_of xs → xs ≡ []
 none_is [] none = refl
 none_is (y ∷ ys) none = absurd (cc)
-
-pub none_both : {A : Type 0} (a b : List A) → None ≡ first_of a → None ≡ first_of b → None ≡ first_of (a ++ b)
-none_both a b front back = back ∙ sym (first_behind a b front)

@@ -1,7 +1,3 @@
 pub mod FirstFaults
-pub mod DeclaredTables
-pub mod WalkedModules
 pub mod DrivenOutputs
-pub mod GroupRules
-pub mod WalkedExpressions
-pub mod CheckedGroups
+pub mod UndrivenFaults

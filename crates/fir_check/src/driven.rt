@@ -1,21 +1,35 @@
 //! The faults of outputs that no connect reaches: E24 (FIRRTL spec, "Initialization of Components").
 
-ghost use Rattle.std.specs.Prelude.{◌≡◌, ◌||◌, ℕ, List, IfOk, OnOk, flat_map, map};
+ghost use Rattle.std.specs.Prelude.{◌≡◌, ◌||◌, [], ℕ, List, IfOk, OnOk, flat_map, map};
 ghost use Rattle.std.specs.BTreeSet.{contains};
 ghost use Rattle.std.specs.Cmp.Lexicographic.{slice_cmp};
 ghost use Rattle.std.specs.Ordering.{nat_cmp};
 ghost use Rattle.fir_ast.specs.View.{block_of, circuit_of, module_of, stmt_of};
+ghost use Rattle.fir_pass.specs.Faults.{fault_of};
+ghost use Rattle.fir_pass.specs.Law.{IfFault, IsFirst};
 ghost use Rattle.fir_meaning.specs.DrivenFaults.{drives, undriven_faults};
+ghost use Rattle.fir_meaning.specs.SourceMeaning.{circuit_meaning};
+ghost use Rattle.fir_check.specs.working.Connected.{Connects};
 ghost use Rattle.fir_check.specs.working.Firsts.{first_of};
-ghost use Rattle.fir_check.specs.working.Tabulated.{Connects};
 
 use fir_ast::{Circuit, FirFault, Module, Stmt};
-use fir_base::{Direction, MemoryOut, Name, Seq};
+use fir_base::{Direction, MemoryOut, Name, Refused, Seq};
 use std::alloc::Global;
 use std::collections::BTreeSet;
 
+/// Ok where each output is driven, else the first that is not.
+pub fn check_driven(alloc: Global, c: &Circuit) -> Result<(), Refused<FirFault>>
+    ensures clear { IfOk result (λ u. flat_map undriven_faults (circuit_of c.now).modules ≡ []) }
+    ensures fault { IfFault result (λ f. IsFirst 9 9 (circuit_meaning (circuit_of c.now)) (fault_of f)) }
+{
+    match undriven_fault(alloc, c)? {
+        Some(fault) => Err(Refused::Fault(fault)),
+        None => Ok(()),
+    }
+}
+
 /// The first output that is not driven, in the modules of a circuit.
-pub fn undriven_fault(alloc: Global, c: &Circuit) -> Result<Option<FirFault>, MemoryOut>
+fn undriven_fault(alloc: Global, c: &Circuit) -> Result<Option<FirFault>, MemoryOut>
     ensures { IfOk result (λ f. f ≡ first_of (flat_map undriven_faults (circuit_of c.now).modules)) }
 {
     for m in &c.modules {

@@ -1,27 +1,7 @@
-//! Whether a circuit shows a fault. In comes a circuit of the small language; out comes nothing, or the first
-//! fault that it shows of names, types, widths, integers and drivers (E08 to E24), in the order of the groups
-//! (`check`; specs/ Checks, and `First` of fir_meaning). A pass over the text for each group (`group`,
-//! `module`), a table of what is declared (`scope`, `declared`), the types of expressions (`typing`,
-//! `expressions`), and one rule a file.
+//! Whether all outputs of a circuit are driven. In comes a circuit of the small language; out comes nothing,
+//! or the first output that no connect reaches, E24 (FIRRTL spec, "Initialization of Components").
 #![tactic(auto)]
 
-mod check;
-mod clocks;
-mod connects;
-mod declared;
 mod driven;
-mod expression_place;
-mod expressions;
-mod group;
-mod kinds;
-mod legality;
-mod main_module;
-mod module;
-mod names;
-mod printed;
-mod scope;
-mod typing;
-mod walked;
-mod widths;
 
-pub use check::check_small;
+pub use driven::check_driven;

@@ -6,7 +6,7 @@ use Rattle.ver_ast.specs.declared.tree.Verilog.{Verilog}
 use Rattle.ver_ast.specs.Allows.{VAllows}
 use Rattle.fir_ast.specs.Circuits.{CircuitTree}
 use Rattle.fir_meaning.specs.Allows.{Allows}
-use Rattle.fir_meaning.specs.Faults.{Faultless}
+use Rattle.fir_meaning.specs.working.Faults.{Faultless}
 use Rattle.fir_meaning.specs.Lacking.{is_in_language}
 use Rattle.fir_meaning.specs.working.Laws.{FaultlessHasOne}
 use Rattle.fir_net.specs.declared.net.FlatNet.{FlatNet}

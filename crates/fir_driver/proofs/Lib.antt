@@ -1,5 +1,8 @@
 pub mod LackingOperations
+pub mod ClearGroups
+pub mod CheckedTrees
 pub mod Taken
+pub mod TakenIsFaultless
 pub mod WordPieces
 pub mod TypesKeepWords
 pub mod ExpressionsKeepWords

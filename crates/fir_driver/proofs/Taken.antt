@@ -1,34 +1,40 @@
--- What is said of a text that spells a tree with its names and types: it is taken, or it has a fault by its tree.
-use Rattle.std.proofs.Common.{◌≡◌, ℕ, List, [], Some, None, Err, ap, inl, inr}
+-- What is said of a text that spells a tree without a fault of names, types, resets and widths: it is taken, or it has a fault by its tree.
+use Rattle.std.proofs.Common.{◌≡◌, ℕ, List, [], flat_map, Some, None, Err, ap, inl, inr, arith}
 use Rattle.std.specs.Prelude.{is_none}
 use Rattle.fir_base.specs.declared.refused.Refused.{Refused}
 use Rattle.fir_base.specs.declared.refused.Refused.TheVariants.{Fault, Memory}
 use Rattle.fir_ast.specs.declared.fault.FirFault.{FirFault}
 use Rattle.fir_ast.specs.Circuits.{CircuitTree}
 use Rattle.fir_parse.specs.Spells.{Spells}
-use Rattle.fir_meaning.specs.NameGroups.{HasNames}
-use Rattle.fir_meaning.specs.TypeGroup.{type_faults}
-use Rattle.fir_meaning.specs.Faults.{Faultless}
+use Rattle.fir_pass.specs.Faults.{fault_of}
+use Rattle.fir_pass.specs.Law.{IsFirst, IfFaulty}
+use Rattle.fir_meaning.specs.DrivenFaults.{undriven_faults}
+use Rattle.fir_meaning.specs.SourceMeaning.{circuit_meaning}
 use Rattle.fir_meaning.specs.Lack.{Lack}
 use Rattle.fir_meaning.specs.Lacking.{lacking}
-use Rattle.fir_check.specs.working.Checks.{Checks}
+use Rattle.fir_driver.specs.CircuitFaults.{IsClearUpTo}
 use Rattle.fir_driver.specs.Emits.{Takes}
 use Rattle.fir_driver.specs.working.Readings.{IsTaken, IsUnsupported}
+use Rattle.fir_driver.proofs.ClearGroups.{clear_driven, clear_8, first_behind}
 
--- a form that is lacking is a fault of the text
-pub lacks_form : (bytes : List ℕ) (t : CircuitTree) (l : Lack) (r : Refused FirFault) → Spells bytes t → HasNames t → type_faults t ≡ [] → lacking t ≡ Some l → IsUnsupported l r
-    → IsTaken bytes (Err r)
-lacks_form bytes t l (Fault f) spelled named typed first stands =
-    inr (inr (inr (inl (record { circuit = t; spelled = spelled; named = named; typed = typed; lack = l; first = first; stands = stands }))))
-lacks_form bytes t l Memory spelled named typed first stands = tt
+module _ (bytes : List ℕ) (t : CircuitTree) (spelled : Spells bytes t) (clear : IsClearUpTo 7 t) where
+  -- a form that is lacking is a fault of the text
+  pub lacks_form : (l : Lack) (r : Refused FirFault) → lacking t ≡ Some l → IsUnsupported l r → IsTaken bytes (Err r)
+  lacks_form l (Fault f) first stands =
+      inr (inr (inl (record { circuit = t; spelled = spelled; clear = clear; lack = l; first = first; stands = stands })))
+  lacks_form l Memory first stands = tt
 
--- the tree lacks nothing and shows no fault
-pub takes : (bytes : List ℕ) (t : CircuitTree) → Spells bytes t → HasNames t → type_faults t ≡ [] → lacking t ≡ None → Faultless t → Takes bytes t
-takes bytes t spelled named typed none faultless = record { spelled = spelled; named = named; typed = typed; in_language = ap is_none none; faultless = faultless }
+  -- the tree lacks nothing and shows no fault
+  pub takes : lacking t ≡ None → flat_map undriven_faults t.modules ≡ [] → Takes bytes t
+  takes none driven = record { spelled = spelled; in_language = ap is_none none; faultless = clear_driven t clear driven }
 
--- it shows one
-pub shows_fault : (A : Type 0) (bytes : List ℕ) (t : CircuitTree) (r : Refused FirFault) → Spells bytes t → HasNames t → type_faults t ≡ [] → lacking t ≡ None
-    → Checks t {A = A} (Err r) → IsTaken bytes (Err r)
-shows_fault A bytes t (Fault f) spelled named typed none first =
-    inr (inr (inr (inr (record { circuit = t; spelled = spelled; named = named; typed = typed; in_language = ap is_none none; first = first }))))
-shows_fault A bytes t Memory spelled named typed none first = tt
+  -- it shows one
+  pub shows_undriven : (r : Refused FirFault) → lacking t ≡ None → IfFaulty r (λ f. IsFirst 9 9 (circuit_meaning t) (fault_of f)) → IsTaken bytes (Err r)
+  shows_undriven (Fault f) none first =
+      inr (inr (inr (record {
+        circuit = t;
+        spelled = spelled;
+        in_language = ap is_none none;
+        first = first_behind t 8 9 9 13 f (clear_8 t clear) (omega arith) (omega arith) (omega arith) first;
+      })))
+  shows_undriven Memory none first = tt

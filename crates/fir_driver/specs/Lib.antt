@@ -1,6 +1,7 @@
 pub mod Compiles
 pub mod Command
 pub mod Messages
+pub mod CircuitFaults
 pub mod Emits
 pub mod Refusals
 pub mod Outside

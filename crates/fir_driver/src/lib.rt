@@ -2,7 +2,7 @@
 //! ask for: `emit` the Verilog of a circuit, or a `simulation` of it on a trace, or says why not. Both go the way of
 //! `passes`, which reads as their list. A simulation is then run by `runner`, tick by tick, and printed by `lines`.
 //! `run` carries the theorem from the bytes of the files to the bytes that are written (`specs/`: Command, Outside;
-//! Compiles, Emits, Refusals, EmitsFile and EmitAnswers for `emit`; Traces, Simulations, Simulates and
+//! Compiles, CircuitFaults, Emits, Refusals, EmitsFile and EmitAnswers for `emit`; Traces, Simulations, Simulates and
 //! SimulationAnswers for `sim`; and Program, which joins them).
 #![tactic(auto)]
 
@@ -20,7 +20,7 @@ mod simulation;
 mod status;
 
 pub use command::{Command, Simulation, command_of};
-pub use laws::spelled_names_are_words;
+pub use laws::{spelled_names_are_words, taken_is_faultless};
 pub use passes::{compile, read_circuit};
 pub use program::run;
 pub use status::Status;

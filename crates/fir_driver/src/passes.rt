@@ -1,10 +1,11 @@
 //! The passes on the way of a circuit, in the order in which it takes them: from bytes to tokens, to the tree, to the tree
-//! with its names, to the tree with its types, which has only forms that are taken so far and shows no fault, to the net
-//! and its order; and from there to the Verilog tree and its text, or to the simulator's net with the shape of its traces.
+//! with its names, with its types, and with its resets and widths, which has only forms that are taken so far and whose
+//! outputs are driven, to the net and its order; and from there to the Verilog tree and its text, or to the simulator's
+//! net with the shape of its traces.
 
 ghost use Rattle.std.specs.Prelude.{◌≤◌, IfOk, IsTrue, length};
 ghost use Rattle.fir_ast.specs.View.{circuit_of};
-ghost use Rattle.fir_meaning.specs.Faults.{Faultless};
+ghost use Rattle.fir_meaning.specs.working.Faults.{Faultless};
 ghost use Rattle.fir_meaning.specs.Lacking.{is_in_language};
 ghost use Rattle.fir_net.specs.working.IsNet.{IsNet};
 ghost use Rattle.fir_net.specs.working.HasHeights.{HasHeights};
@@ -13,15 +14,15 @@ ghost use Rattle.fir_lower.specs.working.HasWords.{HasWords};
 ghost use Rattle.fir_lower.specs.working.Lowers.{Lowers};
 ghost use Rattle.fir_driver.specs.Compiles.{Compiles};
 ghost use Rattle.fir_driver.specs.working.Lacked.{lack_of};
-ghost use Rattle.fir_driver.specs.working.Readings.{IsEmitted, IsNamedTree, IsTaken, IsTree, IsTypedTree, IsUnsupported};
+ghost use Rattle.fir_driver.specs.working.Readings.{IsCheckedTree, IsEmitted, IsTaken, IsTree, IsUnsupported};
 ghost use Rattle.fir_driver.specs.working.Made.{Makes};
 
 use crate::lacking::{Lack, lacking};
-use crate::laws::spelled_names_are_words;
+use crate::laws::{spelled_names_are_words, taken_is_faultless};
 use crate::ordered_net::OrderedNet;
 use fir_ast::{Circuit, FirFault};
 use fir_base::{MemoryOut, Name, Refused};
-use fir_check::check_small;
+use fir_check::check_driven;
 use fir_lex::lex;
 use fir_loop::laws::heights_have_no_loop;
 use fir_loop::{Order, order};
@@ -31,7 +32,8 @@ use fir_names::{Named, resolve};
 use fir_net::FlatNet;
 use fir_parse::parse;
 use fir_sim::shape;
-use fir_types::check;
+use fir_types::{Typed, check};
+use fir_width::{Fitted, infer};
 use std::alloc::Global;
 use trace_text::Shape;
 use ver_ast::Verilog;
@@ -53,7 +55,7 @@ fn read_tree(alloc: Global, bytes: &[u8]) -> Result<Circuit, Refused<FirFault>>
 /// The tree of the text with its names, or its first fault, of the text or of names.
 fn read_names(alloc: Global, bytes: &[u8]) -> Result<Named, Refused<FirFault>>
     requires { length bytes.now ≤ 16777216 }
-    ensures { IsNamedTree bytes.now result }
+    ensures { IsCheckedTree 3 bytes.now result }
 {
     let tree = read_tree(alloc, bytes)?;
     match resolve(alloc, tree) {
@@ -63,16 +65,29 @@ fn read_names(alloc: Global, bytes: &[u8]) -> Result<Named, Refused<FirFault>>
     }
 }
 
-/// The tree of the text with its names, in which no fault of types stands, or its first fault, of the text, of
-/// names or of types.
-fn read_types(alloc: Global, bytes: &[u8]) -> Result<Named, Refused<FirFault>>
+/// The tree of the text with its types, or its first fault, of the text, of names or of types.
+fn read_types(alloc: Global, bytes: &[u8]) -> Result<Typed, Refused<FirFault>>
     requires { length bytes.now ≤ 16777216 }
-    ensures { IsTypedTree bytes.now result }
+    ensures { IsCheckedTree 4 bytes.now result }
 {
     let named = read_names(alloc, bytes)?;
     match check(alloc, named) {
-        Ok(typed) => Ok(typed.into_named()),
+        Ok(typed) => Ok(typed),
         Err(Refused::Fault((fault, _named))) => Err(Refused::Fault(fault)),
+        Err(Refused::Memory) => Err(Refused::Memory),
+    }
+}
+
+/// The tree of the text with its resets and widths, or its first fault, of the text, of names, of types, of
+/// resets or of widths.
+fn read_widths(alloc: Global, bytes: &[u8]) -> Result<Fitted, Refused<FirFault>>
+    requires { length bytes.now ≤ 16777216 }
+    ensures { IsCheckedTree 7 bytes.now result }
+{
+    let typed = read_types(alloc, bytes)?;
+    match infer(alloc, typed) {
+        Ok(fitted) => Ok(fitted),
+        Err(Refused::Fault((fault, _typed))) => Err(Refused::Fault(fault)),
         Err(Refused::Memory) => Err(Refused::Memory),
     }
 }
@@ -88,17 +103,17 @@ fn unsupported(alloc: Global, lack: Lack) -> Refused<FirFault>
 }
 
 /// The circuit that the bytes spell, with its names, in the language and without fault, or the fault for
-/// which it is refused: of the text, else the first of names, else the first of types, else the first form
-/// that the language lacks, else the first of the circuit.
+/// which it is refused: of the text, else the first of names, types, resets and widths, else the first form
+/// that the language lacks, else the first output that is not driven.
 pub fn read_circuit(alloc: Global, bytes: &[u8]) -> Result<Named, Refused<FirFault>>
     requires { length bytes.now ≤ 16777216 }
     ensures { IsTaken bytes.now result }
 {
-    let named = read_types(alloc, bytes)?;
+    let named = read_widths(alloc, bytes)?.into_typed().into_named();
     if let Some(lack) = lacking(&named) {
         return Err(unsupported(alloc, lack));
     }
-    match check_small(alloc, named.circuit()) {
+    match check_driven(alloc, named.circuit()) {
         Ok(()) => Ok(named),
         Err(refused) => Err(refused),
     }
@@ -149,6 +164,7 @@ pub fn verilog_of(alloc: Global, bytes: &[u8]) -> Result<Vec<u8>, Refused<FirFau
     ensures { IsEmitted bytes.now (λ text. text.items) result }
 {
     spelled_names_are_words();
+    taken_is_faultless();
     fir_parse::laws::spells_one_tree();
     ver_ast::spells_one_tree();
     layout_is_spelled();
@@ -165,6 +181,7 @@ pub fn net_of(alloc: Global, bytes: &[u8]) -> Result<(OrderedNet, Shape), Refuse
     ensures in_order { IfOk result (λ made. IsOrder made.0.net made.0.order) }
 {
     spelled_names_are_words();
+    taken_is_faultless();
     fir_parse::laws::spells_one_tree();
     faultless_has_one();
     faultless_runs_once();

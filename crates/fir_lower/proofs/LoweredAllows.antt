@@ -7,7 +7,7 @@ use Rattle.fir_ast.specs.Circuits.{CircuitTree}
 use Rattle.fir_meaning.specs.Leaves.{main_module}
 use Rattle.fir_meaning.specs.Allows.{Allows}
 use Rattle.fir_meaning.specs.working.Clean.{IsCleanModule}
-use Rattle.fir_meaning.specs.Faults.{Faultless}
+use Rattle.fir_meaning.specs.working.Faults.{Faultless}
 use Rattle.fir_meaning.specs.Lacking.{is_in_language}
 use Rattle.fir_meaning.specs.working.Laws.{FaultlessIsClean, CleanHasValue}
 use Rattle.fir_net.specs.declared.net.FlatNet.{FlatNet}

@@ -3,7 +3,7 @@
 -- it allows what the circuit allows.
 use Rattle.std.specs.Prelude.{IsTrue}
 use Rattle.fir_ast.specs.Circuits.{CircuitTree}
-use Rattle.fir_meaning.specs.Faults.{Faultless}
+use Rattle.fir_meaning.specs.working.Faults.{Faultless}
 use Rattle.fir_meaning.specs.Lacking.{is_in_language}
 use Rattle.fir_meaning.specs.working.Laws.{FaultlessIsClean, CleanHasValue}
 use Rattle.fir_lower.specs.working.HasWords.{HasWords}

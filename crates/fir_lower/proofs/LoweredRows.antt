@@ -5,7 +5,7 @@ use Rattle.ver_words.specs.Names.{is_word}
 use Rattle.fir_ast.specs.Circuits.{ModuleTree, CircuitTree}
 use Rattle.fir_meaning.specs.Scopes.{Kind, input, clock_input, output, node_value, register_value}
 use Rattle.fir_meaning.specs.Leaves.{main_module}
-use Rattle.fir_meaning.specs.Faults.{Faultless}
+use Rattle.fir_meaning.specs.working.Faults.{Faultless}
 use Rattle.fir_meaning.specs.Lacking.{is_in_language}
 use Rattle.fir_meaning.specs.working.Clean.{IsCleanCircuit}
 use Rattle.fir_meaning.specs.working.Laws.{FaultlessIsClean}

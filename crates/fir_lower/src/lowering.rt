@@ -2,7 +2,7 @@
 
 ghost use Rattle.std.specs.Prelude.{◌≡◌, IfOk, IsTrue};
 ghost use Rattle.fir_ast.specs.View.{circuit_of, module_of};
-ghost use Rattle.fir_meaning.specs.Faults.{Faultless};
+ghost use Rattle.fir_meaning.specs.working.Faults.{Faultless};
 ghost use Rattle.fir_meaning.specs.Lacking.{is_in_language};
 ghost use Rattle.fir_lower.specs.working.HasWords.{HasWords};
 ghost use Rattle.fir_lower.specs.working.Lowered.{lowered, lowered_module};

@@ -3,8 +3,8 @@ use Rattle.std.proofs.Common.{◌≡◌, ℕ, List, [], ◌∷◌, ◌++◌, Boo
 use Rattle.std.specs.Str.{bytes_eq}
 use Rattle.fir_ast.specs.Types.{DataType}
 use Rattle.fir_meaning.specs.Scopes.{Declared, Scope, look_up, type_read}
-use Rattle.fir_meaning.specs.NameFaults.{may_be_read}
-use Rattle.fir_meaning.specs.TypeFaults.{is_source}
+use Rattle.fir_meaning.specs.working.NameFaults.{may_be_read}
+use Rattle.fir_meaning.specs.working.TypeFaults.{is_source}
 use Rattle.fir_meaning.specs.Flows as flows
 use Rattle.fir_meaning.specs.TypedScopes.{Known, TypedScope, known}
 use Rattle.fir_meaning.specs.Reaching.{Reached, known_reached}

@@ -7,10 +7,10 @@ use Rattle.fir_ast.specs.declared.types.Ty.{Ty}
 use Rattle.fir_ast.specs.Expressions.{Expression, reference}
 use Rattle.fir_meaning.specs.Scopes.{Kind, input, clock_input, output, node_value, register_value, Declared, Scope, look_up, type_of, printed_type}
 use Rattle.fir_meaning.specs.FaultRules.{place_of, within}
-use Rattle.fir_meaning.specs.NameFaults.{is_clock_or_readable, may_be_clock, clock_name_faults}
-use Rattle.fir_meaning.specs.TypeFaults.{clock_read, clock_found, clock_type, is_clock, clock_kind_faults, types_in_expression}
-use Rattle.fir_meaning.specs.WidthFaults.{widths_in_expression}
-use Rattle.fir_meaning.specs.LegalityFaults.{legality_in_expression}
+use Rattle.fir_meaning.specs.working.NameFaults.{is_clock_or_readable, may_be_clock, clock_name_faults}
+use Rattle.fir_meaning.specs.working.TypeFaults.{clock_read, clock_found, clock_type, is_clock, clock_kind_faults, types_in_expression}
+use Rattle.fir_meaning.specs.working.WidthFaults.{widths_in_expression}
+use Rattle.fir_meaning.specs.working.LegalityFaults.{legality_in_expression}
 use Rattle.fir_meaning.specs.Lacking.{lacking_expression}
 use Rattle.fir_meaning.specs.working.Clean.{IsClock}
 use Rattle.fir_meaning.proofs.PassedTests.{passes}

@@ -15,10 +15,10 @@ use Rattle.fir_ast.specs.Expressions.{Expression, reference, literal, operation,
 use Rattle.fir_meaning.specs.Scopes.{is_readable, Declared, Scope, look_up, literal_width, literal_type, types_of_each, type_of, have_kinds, printed_type, printed_types, is_condition, is_equivalent}
 use Rattle.fir_meaning.specs.Operations.{is_over}
 use Rattle.fir_meaning.specs.FaultRules.{place_of}
-use Rattle.fir_meaning.specs.NameFaults.{may_be_read, unreadable_name_faults}
-use Rattle.fir_meaning.specs.TypeFaults.{operand_faults, condition_kind_faults, arm_faults}
-use Rattle.fir_meaning.specs.WidthFaults.{over_width_faults}
-use Rattle.fir_meaning.specs.LegalityFaults.{condition_width_faults}
+use Rattle.fir_meaning.specs.working.NameFaults.{may_be_read, unreadable_name_faults}
+use Rattle.fir_meaning.specs.working.TypeFaults.{operand_faults, condition_kind_faults, arm_faults}
+use Rattle.fir_meaning.specs.working.WidthFaults.{over_width_faults}
+use Rattle.fir_meaning.specs.working.LegalityFaults.{condition_width_faults}
 use Rattle.fir_meaning.specs.working.Clean.{IsReadable, one_bit, IsClean, AreClean}
 use Rattle.fir_meaning.proofs.PassedTests.{passes, fails}
 use Rattle.fir_meaning.proofs.NothingLacking.{whole_operation}

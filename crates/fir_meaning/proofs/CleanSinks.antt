@@ -7,8 +7,8 @@ use Rattle.fir_ast.specs.declared.fault.FirFault.TheVariants.{Flow, Types}
 use Rattle.fir_ast.specs.declared.types.Ty.{Ty}
 use Rattle.fir_ast.specs.declared.types.Ty.TheVariants.{Clock}
 use Rattle.fir_meaning.specs.Scopes.{Kind, input, clock_input, output, node_value, register_value, Declared, Scope, look_up, is_equivalent}
-use Rattle.fir_meaning.specs.NameFaults.{undeclared_name_faults}
-use Rattle.fir_meaning.specs.TypeFaults.{is_source, flow_faults, equivalence_faults, connect_type_faults}
+use Rattle.fir_meaning.specs.working.NameFaults.{undeclared_name_faults}
+use Rattle.fir_meaning.specs.working.TypeFaults.{is_source, flow_faults, equivalence_faults, connect_type_faults}
 use Rattle.fir_meaning.specs.working.Clean.{IsSink}
 use Rattle.fir_base.proofs.Tests.{chosen}
 use Rattle.fir_meaning.proofs.PassedTests.{fails}

@@ -12,12 +12,12 @@ use Rattle.fir_ast.specs.Circuits.{PortTree, ModuleTree}
 use Rattle.fir_meaning.specs.Scopes.{Scope, look_up, port_declared, written_type, behind}
 use Rattle.fir_meaning.specs.Operations.{is_over}
 use Rattle.fir_meaning.specs.FaultRules.{Rule, along_ports, along, faults_by}
-use Rattle.fir_meaning.specs.NameFaults.{repeated_name_faults, name_rule}
-use Rattle.fir_meaning.specs.TypeFaults.{type_rule}
-use Rattle.fir_meaning.specs.WidthFaults.{over_width_faults, width_rule}
-use Rattle.fir_meaning.specs.LegalityFaults.{legality_rule}
+use Rattle.fir_meaning.specs.working.NameFaults.{repeated_name_faults, name_rule}
+use Rattle.fir_meaning.specs.working.TypeFaults.{type_rule}
+use Rattle.fir_meaning.specs.working.WidthFaults.{over_width_faults, width_rule}
+use Rattle.fir_meaning.specs.working.LegalityFaults.{legality_rule}
 use Rattle.fir_meaning.specs.DrivenFaults.{is_connected, output_faults, undriven_faults}
-use Rattle.fir_meaning.specs.Faults.{is_module, main_faults, Faultless}
+use Rattle.fir_meaning.specs.working.Faults.{is_module, main_faults, Faultless}
 use Rattle.fir_meaning.specs.Lack.{lack}
 use Rattle.fir_meaning.specs.Unread.{unread_module}
 use Rattle.fir_meaning.specs.Lacking.{lacking_forms, lacking_module, lacking_port_type, lacking_ports, lacking_statements, lacking}

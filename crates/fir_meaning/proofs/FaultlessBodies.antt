@@ -6,10 +6,10 @@ use Rattle.fir_ast.specs.declared.fault.FirFault.TheVariants.{Over}
 use Rattle.fir_ast.specs.Statements.{PlacedName, Statement, register, node, connect, skip, Block, done, then}
 use Rattle.fir_meaning.specs.Scopes.{Declared, Scope, look_up, type_of, printed_type, written_type, declares}
 use Rattle.fir_meaning.specs.FaultRules.{place_of, along, within}
-use Rattle.fir_meaning.specs.NameFaults.{undeclared_name_faults, second_declaration_faults, repeated_name_faults, names_in_expression, clock_name_faults, name_rule}
-use Rattle.fir_meaning.specs.TypeFaults.{clock_type, clock_kind_faults, connect_type_faults, types_in_expression, type_rule}
-use Rattle.fir_meaning.specs.WidthFaults.{over_width_faults, widths_in_expression, width_rule}
-use Rattle.fir_meaning.specs.LegalityFaults.{legality_rule}
+use Rattle.fir_meaning.specs.working.NameFaults.{undeclared_name_faults, second_declaration_faults, repeated_name_faults, names_in_expression, clock_name_faults, name_rule}
+use Rattle.fir_meaning.specs.working.TypeFaults.{clock_type, clock_kind_faults, connect_type_faults, types_in_expression, type_rule}
+use Rattle.fir_meaning.specs.working.WidthFaults.{over_width_faults, widths_in_expression, width_rule}
+use Rattle.fir_meaning.specs.working.LegalityFaults.{legality_rule}
 use Rattle.fir_meaning.specs.Operations.{is_over}
 use Rattle.fir_meaning.specs.Lacking.{lacking_type, lacking_part, lacking_expression, lacking_reset, lacking_statement, lacking_statements}
 use Rattle.fir_meaning.specs.working.Clean.{IsCleanStatement, AreCleanStatements}

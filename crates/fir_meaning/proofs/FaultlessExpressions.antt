@@ -8,10 +8,10 @@ use Rattle.fir_ast.specs.declared.fault.FirFault.{FirFault}
 use Rattle.fir_ast.specs.Expressions.{Expression, operation, mux, validif, Expressions, expression}
 use Rattle.fir_meaning.specs.Scopes.{Scope, types_of_each, printed_types}
 use Rattle.fir_meaning.specs.FaultRules.{typing, place_of, ExpressionRule, within, within_each}
-use Rattle.fir_meaning.specs.NameFaults.{names_in_expression}
-use Rattle.fir_meaning.specs.TypeFaults.{types_in_expression}
-use Rattle.fir_meaning.specs.WidthFaults.{widths_in_expression}
-use Rattle.fir_meaning.specs.LegalityFaults.{legality_in_expression}
+use Rattle.fir_meaning.specs.working.NameFaults.{names_in_expression}
+use Rattle.fir_meaning.specs.working.TypeFaults.{types_in_expression}
+use Rattle.fir_meaning.specs.working.WidthFaults.{widths_in_expression}
+use Rattle.fir_meaning.specs.working.LegalityFaults.{legality_in_expression}
 use Rattle.fir_meaning.specs.Lacking.{lacking_expression, lacking_operands}
 use Rattle.fir_base.proofs.Empty.{empty_left, empty_right}
 use Rattle.fir_meaning.proofs.NothingLacking.{neither}

@@ -3,8 +3,8 @@ use Rattle.std.proofs.Common.{◌≡◌, ℕ, ◌+◌, ◌≤◌, [], ◌∷◌,
 use Rattle.std.proofs.lemmas.Bool.Decides.{nat_tests}
 use Rattle.std.proofs.lemmas.Bool.{cases_eq}
 use Rattle.fir_base.specs.Lists.{In}
-use Rattle.fir_meaning.specs.working.WidthExpressions.{Widths, known, Rule, Meets, IsLeastOf, width_of}
-use Rattle.fir_meaning.specs.working.WidthRules.{rules, AreWidths}
+use Rattle.fir_meaning.specs.WidthExpressions.{Widths, known, Rule, Meets, IsLeastOf, width_of}
+use Rattle.fir_meaning.specs.WidthRules.{rules, AreWidths}
 use Rattle.fir_meaning.proofs.WidthRows.{growing, shared, empty}
 
 -- without rules every unknown has width 0

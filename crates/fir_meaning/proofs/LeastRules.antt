@@ -6,7 +6,7 @@ use Rattle.fir_base.specs.Lists.{In}
 use Rattle.fir_bits.specs.declared.operators.PrimOp.{PrimOp}
 use Rattle.fir_bits.specs.Widths.{width_of as operation_width_of, counted_width}
 use Rattle.fir_bits.specs.working.Laws.{Monotone}
-use Rattle.fir_meaning.specs.working.WidthExpressions.{Widths, Width, known, unknown, single, pair, greater, guarded, width_of, Rule, Meets, IsLeastOf}
+use Rattle.fir_meaning.specs.WidthExpressions.{Widths, Width, known, unknown, single, pair, greater, guarded, width_of, Rule, Meets, IsLeastOf}
 use Rattle.fir_meaning.specs.working.WidthLaws.{WidthsGrow, HasLeast, OneLeast, LeastIsWithin}
 
 narrow_le : (a b : Bool) (x : ℕ) → (if a && b && nat_le x 128 then x else 129) ≤ 129

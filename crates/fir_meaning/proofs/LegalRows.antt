@@ -7,9 +7,9 @@ use Rattle.fir_ast.specs.Expressions.{mux, validif}
 use Rattle.fir_ast.specs.Statements.{register, when, done}
 use Rattle.fir_ast.specs.Circuits.{PortTree, CircuitTree}
 use Rattle.fir_meaning.specs.LeafPaths.{named, element}
-use Rattle.fir_meaning.specs.working.WidthRules.{AreWidths}
-use Rattle.fir_meaning.specs.working.SizeFaults.{no_port_width, wrong_integers, wrong_literal, wrong_condition}
-use Rattle.fir_meaning.specs.working.LegalFaults.{legal_faults}
+use Rattle.fir_meaning.specs.WidthRules.{AreWidths}
+use Rattle.fir_meaning.specs.SizeFaults.{no_port_width, wrong_integers, wrong_literal, wrong_condition}
+use Rattle.fir_meaning.specs.LegalFaults.{legal_faults}
 use Rattle.fir_meaning.proofs.SmallTrees.{at, name_at, input, output, part_of, ref, uint_literal, one, wire_at, node_at, assign, block, module_at, circuit, main_only}
 use Rattle.fir_meaning.proofs.LeastRows.{no_rules}
 

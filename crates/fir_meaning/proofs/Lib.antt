@@ -56,6 +56,8 @@ pub mod ClearStatements
 pub mod WellTypedCircuits
 pub mod LeastRules
 pub mod OverLess
+pub mod InferredCircuits
+pub mod KeptTrees
 pub mod SmallTrees
 pub mod WidthRows
 pub mod LeastRows

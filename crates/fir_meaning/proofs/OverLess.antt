@@ -13,14 +13,14 @@ use Rattle.fir_meaning.specs.LeafPaths.{LeafPath, named}
 use Rattle.fir_meaning.specs.Components.{Component}
 use Rattle.fir_meaning.specs.Components as component
 use Rattle.fir_meaning.specs.Visibility.{Before, with_declaration, opened, reopened, behind, behind_block, behind_ports, at_head}
-use Rattle.fir_meaning.specs.working.WidthExpressions.{Widths, width_of}
-use Rattle.fir_meaning.specs.working.SizedTypes.{Sized}
-use Rattle.fir_meaning.specs.working.SizedLeaves.{SizedLeaf, sized_leaves}
-use Rattle.fir_meaning.specs.working.SizedScopes.{SizedScope, sized_type, sink_expression}
-use Rattle.fir_meaning.specs.working.SizedDeclarations.{NumberedModule, numbered_modules, sized_at, sized_declared}
-use Rattle.fir_meaning.specs.working.SizeFaults.{word_over, leaf_over}
-use Rattle.fir_meaning.specs.working.WidthWalk.{FaultRule, shown_within, shown_within_parts, shown_within_each, shown_within_reset, shown_at, shown_in, shown_in_block, shown_in_ports, shown_in_module, shown_in_circuit}
-use Rattle.fir_meaning.specs.working.OverFaults.{is_leaf_over, leaves_over, with_leaves, first_path, has_over, form_over, expression_over, over_rule, over_faults}
+use Rattle.fir_meaning.specs.WidthExpressions.{Widths, width_of}
+use Rattle.fir_meaning.specs.SizedTypes.{Sized}
+use Rattle.fir_meaning.specs.SizedLeaves.{SizedLeaf, sized_leaves}
+use Rattle.fir_meaning.specs.SizedScopes.{SizedScope, sized_type, sink_expression}
+use Rattle.fir_meaning.specs.SizedDeclarations.{NumberedModule, numbered_modules, sized_at, sized_declared}
+use Rattle.fir_meaning.specs.SizeFaults.{word_over, leaf_over}
+use Rattle.fir_meaning.specs.WidthWalk.{FaultRule, shown_within, shown_within_parts, shown_within_each, shown_within_reset, shown_at, shown_in, shown_in_block, shown_in_ports, shown_in_module, shown_in_circuit}
+use Rattle.fir_meaning.specs.OverFaults.{is_leaf_over, leaves_over, with_leaves, first_path, has_over, form_over, expression_over, over_rule, over_faults}
 use Rattle.fir_meaning.specs.working.WidthLaws.{OverIsExact}
 use Rattle.fir_meaning.proofs.LeastRules.{width_grows}
 

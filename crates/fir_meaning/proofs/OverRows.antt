@@ -8,10 +8,10 @@ use Rattle.fir_ast.specs.Expressions.{Expression, no_parts, subaccess, mux, vali
 use Rattle.fir_ast.specs.Statements.{Statement, MemoryPart, instance, memory, when, invalid, data_type, depth, reader}
 use Rattle.fir_ast.specs.Circuits.{PortTree, CircuitTree}
 use Rattle.fir_meaning.specs.LeafPaths.{named, element}
-use Rattle.fir_meaning.specs.working.WidthExpressions.{known, pair, guarded as guarded_width, width_of}
-use Rattle.fir_meaning.specs.working.WidthRules.{rules, AreWidths}
-use Rattle.fir_meaning.specs.working.SizeFaults.{word_over, leaf_over}
-use Rattle.fir_meaning.specs.working.OverFaults.{over_faults}
+use Rattle.fir_meaning.specs.WidthExpressions.{known, pair, guarded as guarded_width, width_of}
+use Rattle.fir_meaning.specs.WidthRules.{rules, AreWidths}
+use Rattle.fir_meaning.specs.SizeFaults.{word_over, leaf_over}
+use Rattle.fir_meaning.specs.OverFaults.{over_faults}
 use Rattle.fir_meaning.proofs.SmallTrees.{at, name_at, input, output, part_of, ref, picked_of, field_of, uint_literal, one, two, wire_at, node_at, assign_to, assign, block, module_at, circuit, main_only}
 use Rattle.fir_meaning.proofs.WidthRows.{growing}
 use Rattle.fir_meaning.proofs.LeastRows.{grown, only, one_rule}

@@ -10,7 +10,7 @@ use Rattle.fir_bits.specs.Types.{signed_of}
 use Rattle.fir_ast.specs.declared.types.Ty.{Ty}
 use Rattle.fir_ast.specs.declared.types.Ty.TheVariants.{UInt, SInt}
 use Rattle.fir_meaning.specs.Scopes.{is_signed, bare_type, kinds_of, operation_printed, is_condition, is_equivalent, mux_printed, validif_printed, with_printed}
-use Rattle.fir_meaning.specs.TypeFaults.{is_clock}
+use Rattle.fir_meaning.specs.working.TypeFaults.{is_clock}
 
 -- an SInt or a UInt, with a written width or without
 abbrev pub ground_ty : Bool → Option ℕ → Ty

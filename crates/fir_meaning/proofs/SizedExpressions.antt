@@ -22,12 +22,12 @@ use Rattle.fir_meaning.specs.TypedScopes.{Known, TypedScope, known}
 use Rattle.fir_meaning.specs.Reaching.{Reached, reached_field, to_field, element_at, to_index, any_element, to_any, at_field, at_element, at_any, field_of_type, vector_of_type, known_reached, root}
 use Rattle.fir_meaning.specs.ExpressionTypes.{number_type, passive_at, type_of_mux, type_of_validif, condition_form, passive_form, field_form, index_form, access_form, expression_type, expression_types, along_parts}
 use Rattle.fir_meaning.specs.ComponentTypes.{instance_type, instance_bundle, find_module, component_type, known_as, typed_behind, typed_scope}
-use Rattle.fir_meaning.specs.working.WidthExpressions.{known as known_width}
-use Rattle.fir_meaning.specs.working.SizedTypes.{Sized, bare_type, sized_named, sized_found, fields_in, element_in}
-use Rattle.fir_meaning.specs.working.SizedOperations.{is_signed, width_in, first_sized, operation_width, greater_of}
-use Rattle.fir_meaning.specs.working.SizedScopes.{SizedName, SizedScope, sized_in, sized_part, literal_width, sized_type, sized_types}
-use Rattle.fir_meaning.specs.working.SizedMemories.{as_written}
-use Rattle.fir_meaning.specs.working.SizedDeclarations.{Numbering, port_numbers, instance_from, sized_component, numbered_with, numbered_behind}
+use Rattle.fir_meaning.specs.WidthExpressions.{known as known_width}
+use Rattle.fir_meaning.specs.SizedTypes.{Sized, bare_type, sized_named, sized_found, fields_in, element_in}
+use Rattle.fir_meaning.specs.SizedOperations.{is_signed, width_in, first_sized, operation_width, greater_of}
+use Rattle.fir_meaning.specs.SizedScopes.{SizedName, SizedScope, sized_in, sized_part, literal_width, sized_type, sized_types}
+use Rattle.fir_meaning.specs.SizedMemories.{as_written}
+use Rattle.fir_meaning.specs.SizedDeclarations.{Numbering, port_numbers, instance_from, sized_component, numbered_with, numbered_behind}
 use Rattle.fir_meaning.specs.working.WidthLaws.{SizedAsTyped}
 use Rattle.fir_meaning.proofs.SizedShapes.{numbered_bare, bare_again, renumbered_bare, greater_bare, guarded_bare, number_bare, result_bare, operand_signed, field_bare, element_bare}
 

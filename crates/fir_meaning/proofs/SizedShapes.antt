@@ -11,10 +11,10 @@ use Rattle.fir_meaning.specs.TypeKinds.{bare, bare_fields, FieldFound, field_nam
 use Rattle.fir_meaning.specs.OperationTypes.{operand_kind, ground_of, result_of}
 use Rattle.fir_meaning.specs.ExpressionTypes.{number_type}
 use Rattle.fir_meaning.specs.Reaching.{field_of_type, vector_of_type}
-use Rattle.fir_meaning.specs.working.SharedLeaves.{shared_count}
-use Rattle.fir_meaning.specs.working.WidthExpressions.{Width}
-use Rattle.fir_meaning.specs.working.SizedTypes.{Scalar, unsigned, signed, clock_scalar, reset_scalar, async_scalar, Sized, scalar, sized_bundle, sized_vector, SizedFields, no_sized_fields, sized_field, past, numbered, numbered_fields, bare_type, bare_type_fields, renumbered, sized_named, sized_found, fields_in, element_in}
-use Rattle.fir_meaning.specs.working.SizedOperations.{number_scalar, is_signed, result_scalar, greater_of, greater_fields, guarded_by, guarded_fields}
+use Rattle.fir_meaning.specs.SharedLeaves.{shared_count}
+use Rattle.fir_meaning.specs.WidthExpressions.{Width}
+use Rattle.fir_meaning.specs.SizedTypes.{Scalar, unsigned, signed, clock_scalar, reset_scalar, async_scalar, Sized, scalar, sized_bundle, sized_vector, SizedFields, no_sized_fields, sized_field, past, numbered, numbered_fields, bare_type, bare_type_fields, renumbered, sized_named, sized_found, fields_in, element_in}
+use Rattle.fir_meaning.specs.SizedOperations.{number_scalar, is_signed, result_scalar, greater_of, greater_fields, guarded_by, guarded_fields}
 
 -- the type that is written
 mutual

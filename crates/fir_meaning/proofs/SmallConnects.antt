@@ -5,7 +5,7 @@ use Rattle.fir_ast.specs.declared.types.Ty.{Ty}
 use Rattle.fir_ast.specs.Types.{DataType, uint, sint, clock}
 use Rattle.fir_pass.specs.Faults.{Fault}
 use Rattle.fir_meaning.specs.Scopes.{Kind, Declared}
-use Rattle.fir_meaning.specs.TypeFaults.{is_source, flow_faults, equivalence_faults, connect_type_faults}
+use Rattle.fir_meaning.specs.working.TypeFaults.{is_source, flow_faults, equivalence_faults, connect_type_faults}
 use Rattle.fir_meaning.specs.LeafPaths.{LeafPath, named}
 use Rattle.fir_meaning.specs.Flows.{Flow, source, sink, both, flow_under}
 use Rattle.fir_meaning.specs.Flows as flows

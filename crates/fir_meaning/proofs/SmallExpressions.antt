@@ -8,8 +8,8 @@ use Rattle.fir_ast.specs.declared.expressions.Literal.{Literal}
 use Rattle.fir_ast.specs.Expressions.{Expression, reference, literal, operation, mux, validif, Parts, no_parts, subfield, subindex, subaccess, Expressions, no_expressions, expression}
 use Rattle.fir_meaning.specs.Scopes.{Scope, look_up, literal_printed, printed_type, printed_types, type_read}
 use Rattle.fir_meaning.specs.FaultRules.{place_of, within, within_each}
-use Rattle.fir_meaning.specs.NameFaults.{may_be_read, names_in_expression, unreadable_name_faults}
-use Rattle.fir_meaning.specs.TypeFaults.{types_in_expression, condition_kind_faults}
+use Rattle.fir_meaning.specs.working.NameFaults.{may_be_read, names_in_expression, unreadable_name_faults}
+use Rattle.fir_meaning.specs.working.TypeFaults.{types_in_expression, condition_kind_faults}
 use Rattle.fir_meaning.specs.Lacking.{lacking_part, lacking_expression, lacking_operands}
 use Rattle.fir_meaning.specs.Checked.{answer_on}
 use Rattle.fir_meaning.specs.TypedScopes.{TypedScope, known}

@@ -11,8 +11,8 @@ use Rattle.fir_ast.specs.Statements.{PlacedName, Statement, wire, register, node
 use Rattle.fir_ast.specs.Circuits.{PortTree, ModuleTree}
 use Rattle.fir_meaning.specs.Scopes.{clock_input, node_value, register_value, Declared, Scope, look_up, declares, port_declared, port_kind, type_of, printed_type, written_type, written_printed}
 use Rattle.fir_meaning.specs.FaultRules.{place_of, within, along, along_ports, faults_by}
-use Rattle.fir_meaning.specs.NameFaults.{names_in_expression, name_rule, repeated_name_faults, undeclared_name_faults, clock_name_faults, statement_name_faults}
-use Rattle.fir_meaning.specs.TypeFaults.{types_in_expression, is_source, clock_found, clock_type, clock_kind_faults, statement_type_faults, type_rule}
+use Rattle.fir_meaning.specs.working.NameFaults.{names_in_expression, name_rule, repeated_name_faults, undeclared_name_faults, clock_name_faults, statement_name_faults}
+use Rattle.fir_meaning.specs.working.TypeFaults.{types_in_expression, is_source, clock_found, clock_type, clock_kind_faults, statement_type_faults, type_rule}
 use Rattle.fir_meaning.specs.Lack.{lack}
 use Rattle.fir_meaning.specs.Lacking.{lacking, lacking_type, lacking_port_type, lacking_ports, lacking_part, lacking_expression, lacking_reset, lacking_statement, lacking_statements, lacking_forms, lacking_module}
 use Rattle.fir_meaning.specs.Unread.{unread_module}

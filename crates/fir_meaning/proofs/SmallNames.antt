@@ -15,8 +15,8 @@ use Rattle.fir_ast.specs.Statements.{PlacedName, Statement, wire, register, node
 use Rattle.fir_ast.specs.Circuits.{PortTree, ModuleTree, CircuitTree}
 use Rattle.fir_meaning.specs.Scopes.{Kind, input, clock_input, output, node_value, register_value, is_readable, Declared, Scope, look_up, declares, port_declared, port_kind, type_of, printed_type, written_type, written_printed}
 use Rattle.fir_meaning.specs.FaultRules.{within, within_each, along, along_ports, faults_by}
-use Rattle.fir_meaning.specs.NameFaults.{is_clock_or_readable, may_be_read, may_be_clock, names_in_expression, name_rule, repeated_name_faults, unreadable_name_faults, undeclared_name_faults, clock_name_faults, statement_name_faults}
-use Rattle.fir_meaning.specs.Faults.{main_faults}
+use Rattle.fir_meaning.specs.working.NameFaults.{is_clock_or_readable, may_be_read, may_be_clock, names_in_expression, name_rule, repeated_name_faults, unreadable_name_faults, undeclared_name_faults, clock_name_faults, statement_name_faults}
+use Rattle.fir_meaning.specs.working.Faults.{main_faults}
 use Rattle.fir_meaning.specs.Lack.{lack}
 use Rattle.fir_meaning.specs.Lacking.{lacking, lacking_module, lacking_forms, lacking_ports, lacking_statement, lacking_statements}
 use Rattle.fir_meaning.specs.Unread.{find_port, is_unread, is_no_clock, unread_where, unread_expression, unread_operands, unread_clock, unread_statement, unread_statements, unread_module}

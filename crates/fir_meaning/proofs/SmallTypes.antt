@@ -12,7 +12,7 @@ use Rattle.fir_ast.specs.declared.types.Ty.{Ty}
 use Rattle.fir_ast.specs.declared.types.Ty.TheVariants.{UInt, SInt, Clock}
 use Rattle.fir_ast.specs.Types.{DataType, uint, sint, clock}
 use Rattle.fir_meaning.specs.Scopes.{Kind, input, clock_input, output, node_value, register_value, is_signed, bare_type, kinds_of, operation_printed, mux_printed, validif_printed, with_printed, written_printed}
-use Rattle.fir_meaning.specs.TypeFaults.{clock_read, clock_kind_faults, operand_faults, condition_kind_faults, arm_faults}
+use Rattle.fir_meaning.specs.working.TypeFaults.{clock_read, clock_kind_faults, operand_faults, condition_kind_faults, arm_faults}
 use Rattle.fir_meaning.specs.KindFaults.{wrong_kinds}
 use Rattle.fir_meaning.specs.Checked.{Checked, answered, answer_on, joined}
 use Rattle.fir_meaning.specs.OperationTypes.{is_conversion, of_sign, operand_kinds, ground_of, result_of, operation_on, type_of_operation}

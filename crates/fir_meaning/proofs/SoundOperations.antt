@@ -13,8 +13,8 @@ use Rattle.fir_bits.specs.Types.{is_legal, signed_of, typed}
 use Rattle.fir_bits.specs.Widths.{width_of, is_narrow}
 use Rattle.fir_bits.specs.OperatorWords.{operator_word}
 use Rattle.fir_meaning.specs.Operations.{is_over, counted, type_or, operation_type}
-use Rattle.fir_meaning.specs.WidthFaults.{over_width_faults}
-use Rattle.fir_meaning.specs.LegalityFaults.{integer_faults}
+use Rattle.fir_meaning.specs.working.WidthFaults.{over_width_faults}
+use Rattle.fir_meaning.specs.working.LegalityFaults.{integer_faults}
 use Rattle.fir_meaning.specs.working.Clean.{HasType}
 use Rattle.fir_base.proofs.Tests.{both}
 

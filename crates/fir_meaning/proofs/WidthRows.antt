@@ -7,8 +7,8 @@ use Rattle.fir_ast.specs.Types.{uint, sint, clock, reset, bundle, vector, no_fie
 use Rattle.fir_ast.specs.Expressions.{reference, no_parts, subfield, subindex, subaccess, mux}
 use Rattle.fir_ast.specs.Statements.{register, instance, memory, partial_connect, when, data_type, depth, reader}
 use Rattle.fir_ast.specs.Circuits.{CircuitTree}
-use Rattle.fir_meaning.specs.working.WidthExpressions.{known, unknown, single, pair, greater, guarded, width_of}
-use Rattle.fir_meaning.specs.working.WidthRules.{rules}
+use Rattle.fir_meaning.specs.WidthExpressions.{known, unknown, single, pair, greater, guarded, width_of}
+use Rattle.fir_meaning.specs.WidthRules.{rules}
 use Rattle.fir_meaning.proofs.SmallTrees.{at, name_at, input, output, part_of, ref, element_of, picked_of, field_of, uint_literal, one, two, wire_at, node_at, assign_to, assign, block, module_at, circuit, main_only}
 
 -- a register without a width that grows by one each tick

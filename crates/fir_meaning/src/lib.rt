@@ -17,5 +17,6 @@ pub use type_laws::{
     paths_are_distinct, types_leave_none,
 };
 pub use width_laws::{
-    has_least, least_is_within, one_least, over_is_exact, sized_as_typed, widths_grow,
+    has_least, inferred_exactly, least_is_within, one_least, over_is_exact, sized_as_typed,
+    widths_grow,
 };

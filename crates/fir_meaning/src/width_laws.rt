@@ -1,6 +1,6 @@
 //! Laws about widths that are not written, each the contract of a function that does nothing.
 
-ghost use Rattle.fir_meaning.specs.working.WidthLaws.{HasLeast, LeastIsWithin, OneLeast, OverIsExact, SizedAsTyped, WidthsGrow};
+ghost use Rattle.fir_meaning.specs.working.WidthLaws.{HasLeast, InferredExactly, LeastIsWithin, OneLeast, OverIsExact, SizedAsTyped, WidthsGrow};
 
 use fir_bits::laws::monotone;
 
@@ -35,6 +35,15 @@ pub fn least_is_within()
 /// its rules leaves nothing over.
 pub fn over_is_exact()
     ensures { OverIsExact }
+{
+    monotone();
+}
+
+/// No fault of resets or widths stands in a circuit exactly where no walk joins a UInt and an AsyncReset
+/// through Resets, each width is within 128 bits, and all is legal (FIRRTL spec, "Reset Inference", "Width
+/// Inference").
+pub fn inferred_exactly()
+    ensures { InferredExactly }
 {
     monotone();
 }

@@ -1,6 +1,6 @@
 -- From what each group of names has to the first fault of the circuit, and to what the pass keeps.
 use Rattle.std.proofs.Common.{◌≡◌, ℕ, zero, suc, ◌<◌, ◌≤◌, List, [], ◌∷◌, Option, Some, None, Result, Ok, Err, IfOk, Vec, Global, refl, sym, ap, subst, inl, inr, arith}
-use Rattle.std.proofs.lemmas.Option.{none-some, same_Some}
+use Rattle.std.proofs.lemmas.Option.{none-some}
 use Rattle.fir_base.specs.declared.refused.Refused.{Refused}
 use Rattle.fir_base.specs.declared.refused.Refused.TheVariants.{Fault, Memory}
 use Rattle.fir_base.specs.Lists.{In}
@@ -12,28 +12,21 @@ use Rattle.fir_ast.specs.declared.circuit.Circuit.{Circuit}
 use Rattle.fir_ast.specs.Circuits.{CircuitTree}
 use Rattle.fir_ast.specs.View.{circuit_of}
 use Rattle.fir_pass.specs.Faults.{Fault as ToldFault, fault_of}
-use Rattle.fir_pass.specs.Groups.{group_of, first_of, in_order, IsClear}
-use Rattle.fir_pass.specs.Meaning.{Meaning}
+use Rattle.fir_pass.specs.Groups.{group_of, first_of, IsClear}
 use Rattle.fir_pass.specs.Law.{IsFirst, Keeps}
 use Rattle.fir_meaning.specs.Components.{Declaration, find, find_name}
 use Rattle.fir_meaning.specs.Mentions.{Mention, declares, uses, instantiates, circuit_mentions, module_names}
 use Rattle.fir_meaning.specs.NameGroups.{second_faults, hidden_faults, missing_faults, mention_faults, faults_in, absent_faults, no_main_faults, IsRecursive, HasNames, name_group}
 use Rattle.fir_meaning.specs.SourceMeaning.{circuit_meaning}
+use Rattle.fir_meaning.proofs.KeptTrees.{first_in, none_clear, first_at, keeps_tree}
 use Rattle.fir_names.specs.declared.names.Names.{Names}
 use Rattle.fir_names.specs.working.Judged.{JudgesModules}
 use Rattle.fir_names.specs.working.Ordered.{OrdersModules}
 use Rattle.fir_names.specs.working.IsNamed.{Judges}
 
-first_in : (fs : List ToldFault) (f : ToldFault) → first_of fs ≡ Some f → In fs f
-first_in [] f h = absurd (none-some f h)
-first_in (g ∷ fs) f h = inl (same_Some g f h)
-
 nothing_first : (fs : List ToldFault) → None ≡ first_of fs → fs ≡ []
 nothing_first [] h = refl
 nothing_first (f ∷ fs) h = absurd (none-some f h)
-
-none_clear : (fs : List ToldFault) → fs ≡ [] → IsClear (in_order fs)
-none_clear fs e = λ f m. subst (λ (l : List ToldFault). In l f) e m
 
 -- the groups of the faults
 second_group : (found : Option PlacedName) (n : PlacedName) (f : ToldFault) → In (second_faults found n) f → group_of f.code ≡ 1
@@ -60,17 +53,6 @@ absent_group : (found : Option PlacedName) (n : PlacedName) (f : ToldFault) → 
 absent_group None n f (inl e) = subst (λ (g : ToldFault). group_of g.code ≡ 2) e refl
 absent_group None n f (inr m) = absurd m
 absent_group (Some first) n f m = absurd m
-
--- a fault of a group is the first, where the groups before it are clear
-first_at : (from upto k : ℕ) (m : Meaning) (f : ToldFault) → group_of f.code ≡ k → from ≤ k → k ≤ upto → (m.group k).tells f → (m.group k).shows f
-    → ((j : ℕ) → from ≤ j → j < k → IsClear (m.group j)) → IsFirst from upto m f
-first_at from upto k m f e above below told stands clear = record {
-  low = omega arith;
-  high = omega arith;
-  told = subst (λ (j : ℕ). (m.group j).tells f) (sym e) told;
-  stands = subst (λ (j : ℕ). (m.group j).shows f) (sym e) stands;
-  clear = λ j low high. clear j low (omega arith);
-}
 
 module _ (c : CircuitTree) where
   names_first : (f : ToldFault) → first_of (faults_in (circuit_mentions c)) ≡ Some f → IsFirst 1 3 (circuit_meaning c) f
@@ -136,23 +118,11 @@ module _ (c : CircuitTree) where
   clear_at h (suc (suc (suc zero))) low high = h.hierarchy
   clear_at h (suc (suc (suc (suc k)))) low high = absurd (omega arith)
 
-  -- the tree stays as it is
-  pub keeps_tree : (n : CircuitTree) → n ≡ c → HasNames c → Keeps 1 3 (circuit_meaning c) (circuit_meaning n)
-  keeps_tree n e h = subst (λ (x : CircuitTree). Keeps 1 3 (circuit_meaning c) (circuit_meaning x)) (sym e) (record {
-    allows = λ state tick shown after. ((λ x. x), (λ x. x));
-    one = ((λ x. x), (λ x. x));
-    clear = clear_at h;
-    later = λ k past. record { shows = λ f. ((λ x. x), (λ x. x)); tells = λ f. ((λ x. x), (λ x. x)) };
-    shape = refl;
-    names = refl;
-    counts = refl;
-  })
-
   pub names_clear : (ok : faults_in (circuit_mentions c) ≡ []) → IsClear (name_group c)
   names_clear ok = none_clear (faults_in (circuit_mentions c)) ok
 
 -- what comes out with the same tree means the same
 pub keeps_resolved : {E : Type 0} → (c : Circuit) (r : Result Circuit E) → IfOk r (λ n. n ≡ c) → IfOk r (λ n. HasNames (circuit_of c))
     → IfOk r (λ n. Keeps 1 3 (circuit_meaning (circuit_of c)) (circuit_meaning (circuit_of n)))
-keeps_resolved c (Ok n) same named = keeps_tree (circuit_of c) (circuit_of n) (ap circuit_of same) named
+keeps_resolved c (Ok n) same named = keeps_tree 1 3 (circuit_of c) (circuit_of n) (ap circuit_of same) (clear_at (circuit_of c) named)
 keeps_resolved c (Err e) same named = tt

@@ -10,18 +10,18 @@ use Rattle.fir_reset.specs.declared.graph.Kind.{Kind}
 use Rattle.fir_reset.specs.declared.graph.Kind.TheVariants.{Reset}
 use Rattle.fir_reset.specs.declared.item.End.{End as EndOfCode}
 use Rattle.fir_reset.specs.declared.joined.Joined.{Joined}
-use Rattle.fir_reset.specs.working.ResetItems.{End, leaf_item}
-use Rattle.fir_reset.specs.working.ResetJoins.{Join}
-use Rattle.fir_reset.specs.working.ResetWalks.{IsReset, IsLeafOf, Joined as AreJoined}
+use Rattle.fir_meaning.specs.ResetItems.{End, leaf_item}
+use Rattle.fir_meaning.specs.ResetJoins.{Join}
+use Rattle.fir_meaning.specs.ResetWalks.{IsReset, IsLeafOf, Joined as AreJoined}
 use Rattle.fir_reset.specs.working.ResetGraphs.{IsJoined}
 use Rattle.fir_reset.specs.working.BuiltGraphs.{HasKind, Connects, here, along}
 use Rattle.fir_reset.specs.working.LeafClasses.{Class, class_of}
 use Rattle.fir_reset.specs.working.PathKeys.{path_key}
-use Rattle.fir_reset.specs.working.Holding.{IsEnd, AreEnds, reset_end, under_key, under_first, HasFirst, Holds, HasNumber}
+use Rattle.fir_reset.specs.working.Holding.{IsEnd, AreEnds, reset_end, under_key, HasFirst, Holds, HasNumber}
 use Rattle.fir_reset.specs.working.Adding.{AddsBoth, AddsReset}
 use Rattle.fir_reset.proofs.ConnectedEnds.{connects_through, connects_more}
 use Rattle.fir_reset.proofs.PartlyBuilt.{IsPartlyBuilt, ConnectsClasses, partly, built_whole, edge_kept, partly_pushed, partly_joined, reset_at, joined_one, joined_other}
-use Rattle.fir_reset.proofs.HeldGraphs.{as_many, ends_more, kinds_more, first_more, has_first_more}
+use Rattle.fir_reset.proofs.HeldGraphs.{as_many, ends_more, kinds_more, has_first_more}
 use Rattle.fir_reset.proofs.KeyTables.{table_here, table_cases, table_kept}
 use Rattle.fir_reset.proofs.Keys.{one_path}
 
@@ -137,14 +137,9 @@ module _ (c : CircuitTree) (js : List Join) (old : Joined) (before : Holds c js 
         by (inr (at, is)) (inl q) = subst (λ z. Connected z y) (is_new x at) (from_new y k q t (ap (λ (e : End). class_of c e.item) is ∙ same))
         by (inr (at, is)) (inr (at_too, is_too)) = subst (Connected x) (at ∙ sym at_too) (here x)
 
-    firsts_kept : (n x : ℕ) (p : LeafPath) → under_first old n p ≡ Some x → under_first middle n p ≡ Some x
-    firsts_kept n x p i = subst (λ t. under_first (record old { firsts = t }) n p ≡ Some x) (sym a.firsts) i
-
-    has_first_now : (x : ℕ) (g : End) (k : Class) → IsReset g → class_of c g.item ≡ Some k → PushedOr before.ends new_end x g → HasFirst c (before.ends ++ new_end ∷ []) (record middle { graph = graph }) k
-    has_first_now x g k s i (inl p) = has_first_more c before.ends new_end old (record middle { graph = graph }) k firsts_kept (before.classes x g k p s i)
-    has_first_now x g k s i (inr (at, is)) =
-        has_first_more c before.ends new_end old (record middle { graph = graph }) k firsts_kept
-        (before.classes other f k h r (sym class ∙ ap (λ (e : End). class_of c e.item) is ∙ i))
+    has_first_now : (x : ℕ) (g : End) (k : Class) → IsReset g → class_of c g.item ≡ Some k → PushedOr before.ends new_end x g → HasFirst c (before.ends ++ new_end ∷ []) k
+    has_first_now x g k s i (inl p) = has_first_more c before.ends new_end k (before.classes x g k p s i)
+    has_first_now x g k s i (inr (at, is)) = has_first_more c before.ends new_end k (before.classes other f k h r (sym class ∙ ap (λ (e : End). class_of c e.item) is ∙ i))
 
     pub beside : HasNumber before new_end (record middle { graph = graph }) new_number
     beside = record {
@@ -158,7 +153,6 @@ module _ (c : CircuitTree) (js : List Join) (old : Joined) (before : Holds c js 
             connected_now;
         known = known_now;
         all = all_now;
-        firsts = λ n x p i. first_more before.ends new_end n x p (before.firsts n x p (subst (λ t. under_first (record old { firsts = t }) n p ≡ Some x) a.firsts i));
         classes = λ x g k i s q. has_first_now x g k s q (push_cases before.ends new_end x g i);
       };
       extends = (new_end ∷ [], refl);

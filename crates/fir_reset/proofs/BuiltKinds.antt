@@ -2,8 +2,8 @@
 use Rattle.std.proofs.Common.{ℕ, List, Bool, Vec, Global}
 use Rattle.fir_ast.specs.Circuits.{CircuitTree}
 use Rattle.fir_reset.specs.declared.graph.Kind.{Kind}
-use Rattle.fir_reset.specs.working.ResetItems.{End}
-use Rattle.fir_reset.specs.working.ResetJoins.{Join}
+use Rattle.fir_meaning.specs.ResetItems.{End}
+use Rattle.fir_meaning.specs.ResetJoins.{Join}
 use Rattle.fir_reset.specs.working.ResetGraphs.{IsFound}
 use Rattle.fir_reset.specs.working.ResetLaws.{LeavesHaveClasses, OthersShareClasses}
 use Rattle.fir_reset.specs.working.BuiltGraphs.{IsBuilt}

@@ -10,12 +10,12 @@ use Rattle.fir_meaning.specs.Visibility.{declarations}
 use Rattle.fir_meaning.specs.TypedScopes.{Known, TypedScope}
 use Rattle.fir_meaning.specs.ComponentTypes.{instance_bundle, component_type, find_module, typed_scope}
 use Rattle.fir_meaning.specs.NameGroups.{HasNames}
-use Rattle.fir_meaning.specs.working.SharedLeaves.{shared_count}
-use Rattle.fir_meaning.specs.working.SizedDeclarations.{port_numbers, all_port_numbers}
+use Rattle.fir_meaning.specs.SharedLeaves.{shared_count}
+use Rattle.fir_meaning.specs.SizedDeclarations.{port_numbers, all_port_numbers}
 use Rattle.fir_types.specs.working.LeafNumbers.{numbers_taken, first_leaf}
-use Rattle.fir_reset.specs.working.ResetItems.{End}
-use Rattle.fir_reset.specs.working.ResetJoins.{numbered_module}
-use Rattle.fir_reset.specs.working.ResetWalks.{IsLeafOf}
+use Rattle.fir_meaning.specs.ResetItems.{End}
+use Rattle.fir_meaning.specs.ResetJoins.{numbered_module}
+use Rattle.fir_meaning.specs.ResetWalks.{IsLeafOf}
 use Rattle.fir_reset.specs.working.LeafClasses.{Part, of_ports, of_declaration, Class, port_count, class_there, class_of}
 use Rattle.fir_reset.specs.working.Inferred.{leaf_number}
 use Rattle.fir_reset.proofs.FirstNumbers.{body_count, body_counts, body_total, module_counts, next_at, instance_first}

@@ -11,16 +11,18 @@ use Rattle.fir_meaning.specs.TypedScopes.{Known}
 use Rattle.fir_meaning.specs.ComponentTypes.{instance_bundle, typed_scope}
 use Rattle.fir_meaning.specs.NameGroups.{HasNames}
 use Rattle.fir_meaning.specs.TypeGroup.{type_faults}
-use Rattle.fir_reset.specs.working.ResetItems.{End, leaf_item}
-use Rattle.fir_reset.specs.working.ResetJoins.{AreElements, any_element, joins}
-use Rattle.fir_reset.specs.working.ResetWalks.{IsLeafOf}
+use Rattle.fir_meaning.specs.ResetItems.{End, leaf_item}
+use Rattle.fir_reset.specs.working.ElementPaths.{any_element, DifferInElements}
+use Rattle.fir_meaning.specs.ResetJoins.{joins}
+use Rattle.fir_meaning.specs.ResetWalks.{IsLeafOf}
 use Rattle.fir_reset.specs.working.LeafClasses.{of_ports, of_declaration, Class, offset_in, class_of}
 use Rattle.fir_reset.specs.working.ResetLaws.{Linked, same, then_joined, LeavesHaveClasses}
 use Rattle.fir_reset.proofs.KnownDeclarations.{same_place}
 use Rattle.fir_reset.proofs.LeavesAtHome.{AtPorts, AtBody}
 use Rattle.fir_reset.proofs.LeafHomes.{Home, home_of}
 use Rattle.fir_reset.proofs.LeafOffsets.{offset_paths}
-use Rattle.fir_reset.proofs.LeafSpots.{Spot, spot, are_elements}
+use Rattle.fir_reset.proofs.LeafSpots.{Spot, spot, differ_in_elements}
+use Rattle.fir_reset.proofs.LinkedElements.{linked_through, linked_elements}
 use Rattle.fir_reset.proofs.PortLeaves.{ports_class}
 
 -- what a class of ports says
@@ -39,17 +41,17 @@ part_place : (i j : ℕ) → of_declaration i ≡ of_declaration j → i ≡ j
 part_place i j h = cc
 
 module _ (c : CircuitTree) (names : HasNames c) (e f : End) (l : IsLeafOf c e) (m : IsLeafOf c f) (k : Class) where
-  ports_elements : (s : AtPorts c e) (t : AtPorts c f) → class_of c e.item ≡ Some k → class_of c f.item ≡ Some k → AreElements e f
+  ports_elements : (s : AtPorts c e) (t : AtPorts c f) → class_of c e.item ≡ Some k → class_of c f.item ≡ Some k → DifferInElements e f
   ports_elements s t i j =
       let one = of_class s.number (offset_in (instance_bundle s.inside) s.path) k (sym s.class ∙ i) in
       let other = of_class t.number (offset_in (instance_bundle t.inside) t.path) k (sym t.class ∙ j) in
       let number : t.number ≡ s.number = other.number_is ∙ sym one.number_is in
       let inside : t.inside ≡ s.inside = same_Some t.inside s.inside (sym t.is_module ∙ ap (slice_get c.modules) number ∙ s.is_module) in
       let there : offset_in (instance_bundle s.inside) t.path ≡ Some k.offset = ap (λ (x : ModuleTree). offset_in (instance_bundle x) t.path) (sym inside) ∙ other.offset in
-      are_elements c names e f l m s.number s.path t.path s.item (t.item ∙ ap (λ n. leaf_item n t.path) number)
+      differ_in_elements c names e f l m s.number s.path t.path s.item (t.item ∙ ap (λ n. leaf_item n t.path) number)
       (offset_paths (instance_bundle s.inside) s.path t.path k.offset one.offset there)
 
-  body_elements : (s : AtBody c e) (t : AtBody c f) → class_of c e.item ≡ Some k → class_of c f.item ≡ Some k → AreElements e f
+  body_elements : (s : AtBody c e) (t : AtBody c f) → class_of c e.item ≡ Some k → class_of c f.item ≡ Some k → DifferInElements e f
   body_elements s t i j =
       let classes : record { number = s.number; part = of_declaration s.spot.stands.place; offset = s.spot.offset }
       ≡ record { number = t.number; part = of_declaration t.spot.stands.place; offset = t.spot.offset } =
@@ -62,20 +64,20 @@ module _ (c : CircuitTree) (names : HasNames c) (e f : End) (l : IsLeafOf c e) (
       let offset : s.spot.offset ≡ t.spot.offset = ap (λ (x : Class). x.offset) classes in
       matched s.number t.number s.inside t.inside (sym number) (sym inside) s.spot t.spot place offset
     where
-      in_one : (n : ℕ) (x : ModuleTree) (s : Spot c n x e) (t : Spot c n x f) → s.stands.place ≡ t.stands.place → s.offset ≡ t.offset → AreElements e f
+      in_one : (n : ℕ) (x : ModuleTree) (s : Spot c n x e) (t : Spot c n x f) → s.stands.place ≡ t.stands.place → s.offset ≡ t.offset → DifferInElements e f
       in_one n x s t place offset =
           let both = same_place c.modules (declarations x) (typed_scope c.modules (declarations x)) s.declared t.declared s.known t.known s.stands t.stands place in
           let types : t.data_type ≡ s.data_type = same_Some t.data_type s.data_type (sym t.has_type ∙ ap (λ (y : Known). y.data_type) (sym both.1) ∙ s.has_type) in
           let there : offset_in s.data_type t.leaf.path ≡ Some s.offset =
           ap (λ u. offset_in u t.leaf.path) (sym types) ∙ t.is_offset ∙ ap (λ (i : ℕ). Some i) (sym offset) in
           let paths = offset_paths s.data_type s.leaf.path t.leaf.path s.offset s.is_offset there in
-          are_elements c names e f l m n (named s.declared.named.name ∷ s.leaf.path) (named t.declared.named.name ∷ t.leaf.path) s.item t.item
+          differ_in_elements c names e f l m n (named s.declared.named.name ∷ s.leaf.path) (named t.declared.named.name ∷ t.leaf.path) s.item t.item
           (ap (λ p. named s.declared.named.name ∷ p) paths ∙ ap (λ (d : Declaration). named d.named.name ∷ map any_element t.leaf.path) both.0)
 
-      matched : (n o : ℕ) (x y : ModuleTree) → n ≡ o → x ≡ y → (s : Spot c n x e) (t : Spot c o y f) → s.stands.place ≡ t.stands.place → s.offset ≡ t.offset → AreElements e f
+      matched : (n o : ℕ) (x y : ModuleTree) → n ≡ o → x ≡ y → (s : Spot c n x e) (t : Spot c o y f) → s.stands.place ≡ t.stands.place → s.offset ≡ t.offset → DifferInElements e f
       matched n o x y number inside =
-          subst (λ i. (s : Spot c n x e) (t : Spot c i y f) → s.stands.place ≡ t.stands.place → s.offset ≡ t.offset → AreElements e f) number
-          (subst (λ z. (s : Spot c n x e) (t : Spot c n z f) → s.stands.place ≡ t.stands.place → s.offset ≡ t.offset → AreElements e f) inside (in_one n x))
+          subst (λ i. (s : Spot c n x e) (t : Spot c i y f) → s.stands.place ≡ t.stands.place → s.offset ≡ t.offset → DifferInElements e f) number
+          (subst (λ z. (s : Spot c n x e) (t : Spot c n z f) → s.stands.place ≡ t.stands.place → s.offset ≡ t.offset → DifferInElements e f) inside (in_one n x))
 
   unlike : (s : AtPorts c e) (t : AtBody c f) → class_of c e.item ≡ Some k → class_of c f.item ≡ Some k → ⊥
   unlike s t i j =
@@ -84,9 +86,9 @@ module _ (c : CircuitTree) (names : HasNames c) (e f : End) (l : IsLeafOf c e) (
       let parts : of_ports ≡ of_declaration t.spot.stands.place = sym one.part ∙ ap (λ (x : Class). x.part) (sym other) in
       cc
 
--- leaves of one class are one leaf of two elements, where both are at home
+-- leaves of one class differ in elements alone, where both are at home
 pub home_elements : (c : CircuitTree) → HasNames c → (e f : End) → IsLeafOf c e → IsLeafOf c f → (k : Class) → AtPorts c e ⊎ AtBody c e → AtPorts c f ⊎ AtBody c f
-    → class_of c e.item ≡ Some k → class_of c f.item ≡ Some k → AreElements e f
+    → class_of c e.item ≡ Some k → class_of c f.item ≡ Some k → DifferInElements e f
 home_elements c names e f l m k (inl s) (inl t) i j = ports_elements c names e f l m k s t i j
 home_elements c names e f l m k (inr s) (inr t) i j = body_elements c names e f l m k s t i j
 home_elements c names e f l m k (inl s) (inr t) i j = absurd (unlike c names e f l m k s t i j)
@@ -121,4 +123,4 @@ leaves_have_classes c names clear = record { has = λ e l. (home e l).has; linke
         let at_other : class_of c other.home.item ≡ Some k = sym other.class ∙ j in
         let both = home_elements c names one.home other.home one.is_leaf other.is_leaf k one.stands other.stands at_one at_other in
         to_home c e f one
-        (then_joined one.home other.home f (inr (inr (one.is_leaf, other.is_leaf, both))) (at_one ∙ sym at_other) both.ground_type (from_home c f other))
+        (linked_through c one.home other.home f (linked_elements c names clear one.home other.home one.is_leaf other.is_leaf both) (from_home c f other))

@@ -16,7 +16,7 @@ use Rattle.fir_reset.specs.declared.meet.Meet.{Meet}
 use Rattle.fir_reset.specs.declared.meet.Meet.TheVariants as code
 use Rattle.fir_reset.specs.declared.meet.Source.{Source}
 use Rattle.fir_reset.specs.declared.meets.Walk.{Walk}
-use Rattle.fir_reset.specs.working.ResetJoins.{ResetModule}
+use Rattle.fir_meaning.specs.ResetJoins.{ResetModule}
 use Rattle.fir_reset.specs.working.Meetings.{Sides, connected, meeting, meetings_in, partly_connected}
 use Rattle.fir_reset.specs.working.Meets.{Ahead, AreSides, IsRange, IsSource, Meets}
 use Rattle.fir_reset.specs.working.Passes.{PassesRange, PassesSource, connect_by}

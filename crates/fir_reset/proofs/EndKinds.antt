@@ -3,8 +3,8 @@ use Rattle.std.proofs.Common.{◌≡◌, refl, sym, ◌∙◌}
 use Rattle.fir_ast.specs.Types.{uint, reset, async_reset}
 use Rattle.fir_reset.specs.declared.graph.Kind.{Kind}
 use Rattle.fir_reset.specs.declared.graph.Kind.TheVariants.{Unsigned, Asynchronous, Reset, Other}
-use Rattle.fir_reset.specs.working.ResetItems.{End}
-use Rattle.fir_reset.specs.working.ResetWalks.{IsReset, IsAsyncReset, IsUInt}
+use Rattle.fir_meaning.specs.ResetItems.{End}
+use Rattle.fir_meaning.specs.ResetWalks.{IsReset, IsAsyncReset, IsUInt}
 use Rattle.fir_reset.specs.working.BuiltGraphs.{HasKind}
 
 pub no_async_reset : (e : End) → IsReset e → IsAsyncReset e → ⊥

@@ -6,7 +6,7 @@ use Rattle.fir_base.specs.Lists.{In, Distinct}
 use Rattle.fir_base.proofs.SameNames.{name_same}
 use Rattle.fir_base.proofs.Tests.{both}
 use Rattle.fir_meaning.specs.LeafPaths.{Step, LeafPath, named, element}
-use Rattle.fir_reset.specs.working.ResetItems.{Item, leaf_item, value_item, End}
+use Rattle.fir_meaning.specs.ResetItems.{Item, leaf_item, value_item, End}
 
 abbrev is_step : Step → Step → Bool
 is_step (named x) (named y) = bytes_eq x y

@@ -14,9 +14,9 @@ use Rattle.fir_reset.specs.declared.root.Access.{Access}
 use Rattle.fir_reset.specs.declared.root.Access.TheVariants as access
 use Rattle.fir_reset.specs.declared.root.Root.{Root}
 use Rattle.fir_reset.specs.declared.root.Root.TheVariants as root
-use Rattle.fir_reset.specs.working.ResetItems.{End, is_reset}
-use Rattle.fir_reset.specs.working.ResetJoins.{Join}
-use Rattle.fir_reset.specs.working.ResetWalks.{IsLeafOf}
+use Rattle.fir_meaning.specs.ResetItems.{End, is_reset}
+use Rattle.fir_meaning.specs.ResetJoins.{Join}
+use Rattle.fir_meaning.specs.ResetWalks.{IsLeafOf}
 use Rattle.fir_reset.specs.working.BuiltGraphs.{HasKind}
 use Rattle.fir_reset.specs.working.Holding.{path_of, reset_end, Holds, HasNumber}
 use Rattle.fir_reset.specs.working.FirstPairs.{kind_of_type}

@@ -10,12 +10,12 @@ use Rattle.fir_meaning.specs.Components.{Component, Declaration, Declarations, p
 use Rattle.fir_meaning.specs.Visibility.{declarations}
 use Rattle.fir_meaning.specs.TypedScopes.{Known, TypedScope}
 use Rattle.fir_meaning.specs.ComponentTypes.{component_type, typed_scope}
-use Rattle.fir_meaning.specs.working.SharedLeaves.{shared_count}
-use Rattle.fir_meaning.specs.working.SizedDeclarations.{port_numbers, all_port_numbers}
+use Rattle.fir_meaning.specs.SharedLeaves.{shared_count}
+use Rattle.fir_meaning.specs.SizedDeclarations.{port_numbers, all_port_numbers}
 use Rattle.fir_types.specs.working.LeafNumbers.{NextLeaf, numbers_taken, ports_from, first_leaf, leaf_behind, first_leaves_of, leaves_behind, first_leaves_from}
 use Rattle.fir_reset.specs.working.Inferred.{first_of_position}
 use Rattle.fir_reset.specs.working.LeafClasses.{port_count}
-use Rattle.fir_reset.specs.working.ResetJoins.{numbered_module}
+use Rattle.fir_meaning.specs.ResetJoins.{numbered_module}
 use Rattle.fir_reset.proofs.KnownDeclarations.{IsKnown, EachKnown, each_known}
 use Rattle.fir_reset.proofs.PortsCounted.{port_counts, ports_counted}
 use Rattle.fir_reset.proofs.Sums.{total, sum_before}

@@ -12,7 +12,7 @@ use Rattle.fir_meaning.specs.LeafPaths.{Step, LeafPath, named, element}
 use Rattle.fir_meaning.specs.TypeKinds.{FieldFound, field_named}
 use Rattle.fir_meaning.specs.Equivalence.{met, fitting_ground, fields_alike, is_connectable}
 use Rattle.fir_meaning.specs.ConnectPairs.{Pair, both_under, element_pairs, ground_pair, pairs, field_pairs, partial_pairs, partial_field_pairs}
-use Rattle.fir_reset.specs.working.ResetJoins.{any_element}
+use Rattle.fir_reset.specs.working.ElementPaths.{any_element}
 use Rattle.fir_reset.specs.working.FirstPairs.{Met, where_some, first_pairs, first_field_pairs, first_partial_pairs, first_partial_fields}
 
 -- the pair at the path, behind some steps

@@ -1,19 +1,18 @@
 -- The graph as the code has it, with an end more that is no Reset, and with two that are joined more.
 use Rattle.std.proofs.Common.{append_assoc, ◌≡◌, ℕ, suc, List, [], ◌∷◌, ◌++◌, map, Some, length, refl, sym, ap, ◌∙◌, subst, inl, inr, ◌⊎◌, Vec, Global}
 use Rattle.std.specs.Prelude.{slice_get}
-use Rattle.std.proofs.lemmas.List.{map-append}
+use Rattle.std.proofs.lemmas.List.{append-nil, map-append}
 use Rattle.fir_base.proofs.Writes.{PushedOr, push_left, push_end, push_cases}
 use Rattle.fir_ast.specs.Circuits.{CircuitTree}
-use Rattle.fir_meaning.specs.LeafPaths.{LeafPath}
 use Rattle.fir_reset.specs.declared.graph.Kind.{Kind}
 use Rattle.fir_reset.specs.declared.item.End.{End as EndOfCode}
 use Rattle.fir_reset.specs.declared.joined.Joined.{Joined}
-use Rattle.fir_reset.specs.working.ResetItems.{End}
-use Rattle.fir_reset.specs.working.ResetJoins.{Join, any_element}
-use Rattle.fir_reset.specs.working.ResetWalks.{IsReset, Joined as AreJoined}
+use Rattle.fir_meaning.specs.ResetItems.{End}
+use Rattle.fir_meaning.specs.ResetJoins.{Join}
+use Rattle.fir_meaning.specs.ResetWalks.{IsReset, Joined as AreJoined}
 use Rattle.fir_reset.specs.working.BuiltGraphs.{IsBuilt}
 use Rattle.fir_reset.specs.working.LeafClasses.{Class}
-use Rattle.fir_reset.specs.working.Holding.{IsEnd, AreEnds, reset_end, under_key, under_first, IsFirst, HasFirst, Holds, HasNumber, IsJoinedIn}
+use Rattle.fir_reset.specs.working.Holding.{IsEnd, AreEnds, reset_end, under_key, HasFirst, Holds, HasNumber, IsJoinedIn}
 use Rattle.fir_reset.specs.working.Adding.{AddsBoth, AddsEnd}
 use Rattle.fir_reset.proofs.ConnectedEnds.{connects_more}
 use Rattle.fir_reset.proofs.PartlyBuilt.{partly, built_whole, edge_kept, partly_pushed, partly_joined, joined_one}
@@ -33,26 +32,17 @@ ends_more (o ∷ owns) (f ∷ es) own e h i = (h.0, ends_more owns es own e h.1 
 pub kinds_more : (owns : List EndOfCode) (own : EndOfCode) (kinds : List Kind) → map (λ e. e.kind) owns ≡ kinds → map (λ e. e.kind) (owns ++ own ∷ []) ≡ kinds ++ own.kind ∷ []
 kinds_more owns own kinds h = map-append (λ (e : EndOfCode). e.kind) owns (own ∷ []) ∙ ap (λ ks. ks ++ own.kind ∷ []) h
 
--- a table's entries, where there are more ends
-pub first_more : (ends : List End) (e : End) (number x : ℕ) (leaf : LeafPath) → IsFirst ends number x leaf → IsFirst (ends ++ e ∷ []) number x leaf
-first_more ends e number x leaf h = record {
-  path = h.path;
-  place = h.place;
-  is = push_left ends (e ∷ []) x (reset_end number h.path h.place) h.is;
-  same = h.same;
-}
-
-pub has_first_more : (c : CircuitTree) (ends : List End) (e : End) (old new : Joined) (k : Class)
-    → ((number x : ℕ) (leaf : LeafPath) → under_first old number leaf ≡ Some x → under_first new number leaf ≡ Some x) → HasFirst c ends old k → HasFirst c (ends ++ e ∷ []) new k
-has_first_more c ends e old new k kept h = record {
+-- the first of a class, where there are more ends
+pub has_first_more : (c : CircuitTree) (ends : List End) (e : End) (k : Class) → HasFirst c ends k → HasFirst c (ends ++ e ∷ []) k
+has_first_more c ends e k h = record {
   first = h.first;
   number = h.number;
   path = h.path;
   place = h.place;
   is = push_left ends (e ∷ []) h.first (reset_end h.number h.path h.place) h.is;
+  firsts = h.firsts;
   no_instance = h.no_instance;
   class = h.class;
-  under = kept h.number h.first (map any_element h.path) h.under;
 }
 
 module _ (c : CircuitTree) (js : List Join) (old : Joined) (before : Holds c js old) where
@@ -94,11 +84,7 @@ module _ (c : CircuitTree) (js : List Join) (old : Joined) (before : Holds c js 
         all = λ number x leaf p h.
             subst (λ t. under_key (record old { numbers = t }) number leaf ≡ Some x) (sym a.numbers)
             (before.all number x leaf p (old_reset x (reset_end number leaf p) refl h));
-        firsts = λ number x leaf h.
-            first_more before.ends e number x leaf (before.firsts number x leaf (subst (λ t. under_first (record old { firsts = t }) number leaf ≡ Some x) a.firsts h));
-        classes = λ x f k h r class.
-            has_first_more c before.ends e old new k (λ number y leaf i. subst (λ t. under_first (record old { firsts = t }) number leaf ≡ Some y) (sym a.firsts) i)
-            (before.classes x f k (old_reset x f r h) r class);
+        classes = λ x f k h r class. has_first_more c before.ends e k (before.classes x f k (old_reset x f r h) r class);
       };
       extends = (e ∷ [], refl);
       is = ap (slice_get (before.ends ++ e ∷ [])) as_many ∙ push_end before.ends e;
@@ -122,15 +108,16 @@ module _ (c : CircuitTree) (js : List Join) (old : Joined) (before : Holds c js 
                 connects_more old.graph.items graph.items old.kinds.items old.kinds.items a.kept (λ z l n. n) x y (before.built.classes x y g k p q s t class));
             known = before.known;
             all = before.all;
-            firsts = before.firsts;
-            classes = λ x g k p q class.
-                let s = before.classes x g k p q class in
-                record { first = s.first; number = s.number; path = s.path; place = s.place; is = s.is; no_instance = s.no_instance; class = s.class; under = s.under };
+            classes = before.classes;
           };
           same = refl;
           kept = a.kept;
           joined = joined_one c js before.ends old.graph.items old.kinds.items old_built graph.items one other a e f h i;
         }
+
+-- a number that is there already
+pub still_there : (c : CircuitTree) (js : List Join) (old : Joined) (before : Holds c js old) (e : End) (x : ℕ) → slice_get before.ends x ≡ Some e → HasNumber before e old x
+still_there c js old before e x h = record { holds = before; extends = ([], sym (append-nil before.ends)); is = h }
 
 -- a number in a graph that has grown twice
 pub number_through : (c : CircuitTree) (js : List Join) (old middle new : Joined) (before : Holds c js old) (e f : End) (x y : ℕ) (h : HasNumber before e middle x) → HasNumber h.holds f new y → HasNumber before f new y

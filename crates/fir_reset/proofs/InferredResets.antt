@@ -14,8 +14,8 @@ use Rattle.fir_reset.specs.working.Inferred.{AreInferred, leaf_number}
 use Rattle.fir_reset.specs.working.LeafClasses.{class_of}
 use Rattle.fir_reset.specs.working.MarkedLeaves.{IsMarkedLeaf, AreMarkedLeaves}
 use Rattle.fir_reset.specs.working.ResetGraphs.{IsFound}
-use Rattle.fir_reset.specs.working.ResetItems.{End}
-use Rattle.fir_reset.specs.working.ResetWalks.{IsLeafOf, IsReset}
+use Rattle.fir_meaning.specs.ResetItems.{End}
+use Rattle.fir_meaning.specs.ResetWalks.{IsLeafOf, IsReset}
 use Rattle.fir_reset.specs.working.WholeGraphs.{IsWhole}
 use Rattle.fir_reset.proofs.BuiltKinds.{are_kinds}
 use Rattle.fir_reset.proofs.ClassesOfLeaves.{leaves_have_classes}

@@ -10,7 +10,7 @@ use Rattle.fir_ast.specs.Circuits.{PortTree, ModuleTree, CircuitTree}
 use Rattle.fir_meaning.specs.Components.{Component, Declaration}
 use Rattle.fir_meaning.specs.Components as component
 use Rattle.fir_meaning.specs.Visibility.{Before, declaration_at, with_declaration, opened, reopened, behind, behind_block, behind_ports, at_head, declarations}
-use Rattle.fir_reset.specs.working.ResetJoins.{Join, ResetModule, reset_modules, numbered_module, instance_joins, joins_in, joins_in_block, joins}
+use Rattle.fir_meaning.specs.ResetJoins.{Join, ResetModule, reset_modules, numbered_module, instance_joins, joins_in, joins_in_block, joins}
 use Rattle.fir_reset.proofs.ModuleNumbers.{in_reset_modules}
 use Rattle.fir_reset.proofs.PortsInFront.{port_declared, at_ports}
 

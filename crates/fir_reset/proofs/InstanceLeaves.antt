@@ -15,9 +15,9 @@ use Rattle.fir_meaning.specs.NameGroups.{HasNames}
 use Rattle.fir_meaning.specs.TypedScopes.{Known}
 use Rattle.fir_names.specs.working.ModuleOrder.{find_number}
 use Rattle.fir_names.specs.working.Numbered.{component_of, number_of, module_number}
-use Rattle.fir_reset.specs.working.ResetItems.{leaf_item}
-use Rattle.fir_reset.specs.working.ResetJoins.{numbered_module, port_place, joins}
-use Rattle.fir_reset.specs.working.ResetWalks.{IsLeafOf}
+use Rattle.fir_meaning.specs.ResetItems.{leaf_item}
+use Rattle.fir_meaning.specs.ResetJoins.{numbered_module, port_place, joins}
+use Rattle.fir_meaning.specs.ResetWalks.{IsLeafOf}
 use Rattle.fir_reset.specs.working.LeafClasses.{class_of}
 use Rattle.fir_reset.specs.working.DeclaredLeaves.{IsNoInstance}
 use Rattle.fir_reset.specs.working.Holding.{reset_end}

@@ -1,19 +1,20 @@
 -- What is joined is joined either way round.
 use Rattle.std.proofs.Common.{sym, inl, inr}
 use Rattle.fir_ast.specs.Circuits.{CircuitTree}
-use Rattle.fir_reset.specs.working.ResetItems.{End}
-use Rattle.fir_reset.specs.working.ResetJoins.{AreElements}
-use Rattle.fir_reset.specs.working.ResetWalks.{Joined}
+use Rattle.fir_meaning.specs.ResetItems.{End}
+use Rattle.fir_meaning.specs.ResetJoins.{AreElements}
+use Rattle.fir_meaning.specs.ResetWalks.{Joined}
 
 elements_back : (a b : End) → AreElements a b → AreElements b a
 elements_back a b e =
     record {
       number = e.number;
-      path = e.other;
-      other = e.path;
+      vector = e.vector;
+      one = e.other;
+      other = e.one;
+      rest = e.rest;
       one_is = e.other_is;
       other_is = e.one_is;
-      same = sym e.same;
       ground_type = sym e.ground_type;
       place = sym e.place;
     }

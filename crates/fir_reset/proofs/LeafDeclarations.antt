@@ -7,8 +7,8 @@ use Rattle.fir_meaning.specs.LeafPaths.{LeafPath, named}
 use Rattle.fir_meaning.specs.NameGroups.{HasNames}
 use Rattle.fir_meaning.specs.Visibility.{declarations}
 use Rattle.fir_meaning.proofs.FoundDeclarations.{once_found}
-use Rattle.fir_reset.specs.working.ResetItems.{End, leaf_item}
-use Rattle.fir_reset.specs.working.ResetWalks.{IsLeafOf}
+use Rattle.fir_meaning.specs.ResetItems.{End, leaf_item}
+use Rattle.fir_meaning.specs.ResetWalks.{IsLeafOf}
 use Rattle.fir_reset.specs.working.DeclaredLeaves.{Declares, IsNoInstance}
 use Rattle.fir_reset.proofs.LeafSpots.{Spot, spot_at, item_number, item_path}
 use Rattle.fir_reset.proofs.LeavesAtHome.{AtPorts, AtBody, at_home}

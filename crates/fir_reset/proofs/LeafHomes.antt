@@ -10,9 +10,9 @@ use Rattle.fir_meaning.specs.Components.{Component, port, wire, register, node, 
 use Rattle.fir_meaning.specs.TypedScopes.{Known}
 use Rattle.fir_meaning.specs.ComponentTypes.{find_module, instance_bundle, instance_type, component_type}
 use Rattle.fir_meaning.specs.NameGroups.{HasNames}
-use Rattle.fir_reset.specs.working.ResetItems.{End, leaf_end}
-use Rattle.fir_reset.specs.working.ResetJoins.{numbered_module, port_place, joins}
-use Rattle.fir_reset.specs.working.ResetWalks.{IsLeafOf}
+use Rattle.fir_meaning.specs.ResetItems.{End, leaf_end}
+use Rattle.fir_meaning.specs.ResetJoins.{numbered_module, port_place, joins}
+use Rattle.fir_meaning.specs.ResetWalks.{IsLeafOf}
 use Rattle.fir_reset.specs.working.LeafClasses.{of_ports, of_declaration, Class, offset_in, class_there, class_of}
 use Rattle.fir_reset.proofs.LeafSpots.{Spot, spot_class, instance_known}
 use Rattle.fir_reset.proofs.ModuleNumbers.{numbered_found}

@@ -12,9 +12,9 @@ use Rattle.fir_ast.specs.declared.place.Place.{Place}
 use Rattle.fir_ast.specs.Types.{DataType, bundle, vector, Fields, no_fields, field}
 use Rattle.fir_meaning.specs.LeafPaths.{LeafPath, named, element}
 use Rattle.fir_meaning.specs.TypeLeaves.{TypeLeaf, under, element_leaves, type_leaves, field_leaves}
-use Rattle.fir_meaning.specs.working.SharedLeaves.{shared_count, shared_field_count}
+use Rattle.fir_meaning.specs.SharedLeaves.{shared_count, shared_field_count}
 use Rattle.fir_meaning.proofs.FreshFields.{field_names, HasFreshFields, AreFresh}
-use Rattle.fir_reset.specs.working.ResetJoins.{any_element}
+use Rattle.fir_reset.specs.working.ElementPaths.{any_element}
 use Rattle.fir_reset.specs.working.LeafClasses.{behind_so_many, offset_in, offset_in_fields}
 
 -- where a leaf of elements comes from

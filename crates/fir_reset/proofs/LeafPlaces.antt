@@ -15,8 +15,8 @@ use Rattle.fir_meaning.specs.TypedScopes.{Known, TypedScope, known}
 use Rattle.fir_meaning.specs.ComponentTypes.{typed_scope}
 use Rattle.fir_types.specs.working.Notes.{position_of}
 use Rattle.fir_types.specs.working.LeafNumbers.{first_leaf}
-use Rattle.fir_reset.specs.working.ResetItems.{End}
-use Rattle.fir_reset.specs.working.ResetJoins.{type_of_known}
+use Rattle.fir_meaning.specs.ResetItems.{End}
+use Rattle.fir_meaning.specs.ResetJoins.{type_of_known}
 use Rattle.fir_reset.specs.working.LeafClasses.{port_count, offset_where, class_there, class_among, class_of}
 use Rattle.fir_reset.specs.working.Inferred.{number_behind, first_of_position, number_in, leaf_number}
 use Rattle.fir_reset.proofs.FirstNumbers.{next_at, first_at}

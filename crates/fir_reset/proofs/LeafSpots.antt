@@ -1,4 +1,4 @@
--- A leaf of a circuit: its declaration, what is known of that, and its offset. Leaves whose paths differ in indices alone are one leaf of two elements.
+-- A leaf of a circuit: its declaration, what is known of that, and its offset. Leaves whose paths differ in indices alone are of one declaration.
 use Rattle.std.proofs.Common.{◌≡◌, ℕ, List, [], ◌∷◌, map, Some, refl, inl, inr, ap, sym, ◌∙◌, subst}
 use Rattle.std.specs.Prelude.{option_map, slice_get}
 use Rattle.std.proofs.lemmas.Option.{same_Some}
@@ -15,9 +15,10 @@ use Rattle.fir_meaning.specs.ComponentTypes.{instance_bundle, component_type, ty
 use Rattle.fir_meaning.specs.NameGroups.{HasNames}
 use Rattle.fir_meaning.proofs.FoundDeclarations.{Once, once_found}
 use Rattle.fir_meaning.proofs.FreshFields.{HasFreshFields}
-use Rattle.fir_reset.specs.working.ResetItems.{End, leaf_item, declared_at}
-use Rattle.fir_reset.specs.working.ResetJoins.{AreElements, any_element, numbered_module}
-use Rattle.fir_reset.specs.working.ResetWalks.{IsLeafOf}
+use Rattle.fir_meaning.specs.ResetItems.{End, leaf_item, declared_at}
+use Rattle.fir_reset.specs.working.ElementPaths.{any_element, DifferInElements}
+use Rattle.fir_meaning.specs.ResetJoins.{numbered_module}
+use Rattle.fir_meaning.specs.ResetWalks.{IsLeafOf}
 use Rattle.fir_reset.specs.working.LeafClasses.{offset_in, offset_where, class_there, class_in, class_of}
 use Rattle.fir_reset.proofs.FreshTypes.{FreshWhere, AllFresh, fresh_at}
 use Rattle.fir_reset.proofs.FreshScopes.{Sound, sound}
@@ -136,7 +137,7 @@ module _ (c : CircuitTree) (at : ℕ) (m : ModuleTree) (e f : End) (s : Spot c a
       let r = same_name c.modules (declarations m) (typed_scope c.modules (declarations m)) s.declared t.declared s.known t.known s.stands t.stands s.sound.once name in
       (r.0, r.1, same_Some s.data_type t.data_type (sym s.has_type ∙ ap (λ (k : Known). k.data_type) r.1 ∙ t.has_type), rest)
 
-  elements_here : map any_element (named s.declared.named.name ∷ s.leaf.path) ≡ map any_element (named t.declared.named.name ∷ t.leaf.path) → AreElements e f
+  elements_here : map any_element (named s.declared.named.name ∷ s.leaf.path) ≡ map any_element (named t.declared.named.name ∷ t.leaf.path) → DifferInElements e f
   elements_here h =
       let same = same_declared h in
       record {
@@ -167,9 +168,9 @@ pub item_path : (c : CircuitTree) (at : ℕ) (m : ModuleTree) (e : End) (s : Spo
     → p ≡ named s.declared.named.name ∷ s.leaf.path
 item_path c at m e s n p h = let same : leaf_item at (named s.declared.named.name ∷ s.leaf.path) ≡ leaf_item n p = sym s.item ∙ h in cc
 
-pub are_elements : (c : CircuitTree) → HasNames c → (e f : End) → IsLeafOf c e → IsLeafOf c f → (n : ℕ) (p q : LeafPath) → e.item ≡ leaf_item n p → f.item ≡ leaf_item n q
-    → map any_element p ≡ map any_element q → AreElements e f
-are_elements c h e f l k n p q i j same =
+pub differ_in_elements : (c : CircuitTree) → HasNames c → (e f : End) → IsLeafOf c e → IsLeafOf c f → (n : ℕ) (p q : LeafPath) → e.item ≡ leaf_item n p → f.item ≡ leaf_item n q
+    → map any_element p ≡ map any_element q → DifferInElements e f
+differ_in_elements c h e f l k n p q i j same =
     let number : k.number ≡ l.number = item_number c f k n q j ∙ sym (item_number c e l n p i) in
     let s = spot c h e l in
     let t = spot_at c h f k l.number l.inside number l.is_module in

@@ -16,9 +16,9 @@ use Rattle.fir_meaning.specs.Visibility.{declarations}
 use Rattle.fir_meaning.specs.ComponentTypes.{port_fields, instance_bundle}
 use Rattle.fir_meaning.specs.NameGroups.{HasNames}
 use Rattle.fir_meaning.proofs.FreshFields.{field_names}
-use Rattle.fir_reset.specs.working.ResetItems.{End, leaf_item, leaf_end}
-use Rattle.fir_reset.specs.working.ResetJoins.{Join, ResetModule, numbered_module, port_place, instance_joins, joins}
-use Rattle.fir_reset.specs.working.ResetWalks.{IsLeafOf}
+use Rattle.fir_meaning.specs.ResetItems.{End, leaf_item, leaf_end}
+use Rattle.fir_meaning.specs.ResetJoins.{Join, ResetModule, numbered_module, port_place, instance_joins, joins}
+use Rattle.fir_meaning.specs.ResetWalks.{IsLeafOf}
 use Rattle.fir_reset.specs.working.DeclaredLeaves.{IsNoInstance}
 use Rattle.fir_reset.specs.working.LeafClasses.{of_declaration, offset_in, class_there, class_in, class_of}
 use Rattle.fir_reset.proofs.FreshScopes.{sound}

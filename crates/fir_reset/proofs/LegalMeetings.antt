@@ -20,7 +20,7 @@ use Rattle.fir_names.proofs.BehindStatements.{adds_block}
 use Rattle.fir_types.specs.working.Walked.{Begins}
 use Rattle.fir_types.proofs.KnownScopes.{begins_before}
 use Rattle.fir_types.proofs.StatementWalks.{first_begins}
-use Rattle.fir_reset.specs.working.ResetJoins.{ResetModule, reset_modules}
+use Rattle.fir_meaning.specs.ResetJoins.{ResetModule, reset_modules}
 use Rattle.fir_reset.specs.working.Meetings.{Meeting, Sides, connected, partly_connected, named_by, instanced, meeting, meetings_in, meetings_in_block, meetings}
 use Rattle.fir_reset.proofs.ModuleNumbers.{is_among}
 

@@ -30,6 +30,9 @@ pub mod PortLeaves
 pub mod InstanceJoins
 pub mod LeafSpots
 pub mod LeavesAtHome
+pub mod LoweredPaths
+pub mod FirstsBehind
+pub mod LinkedElements
 pub mod Sums
 pub mod PortsCounted
 pub mod FirstNumbers
@@ -82,6 +85,8 @@ pub mod AddedResets
 pub mod FoundNumbers
 pub mod LeafDeclarations
 pub mod OwnResets
-pub mod FoundFirsts
 pub mod InstanceLeaves
 pub mod PortNumbers
+pub mod SharedSteps
+pub mod Detours
+pub mod DroppedDetours

@@ -1,12 +1,5 @@
--- Lists in which no two places have one element, and lists of three or more.
-use Rattle.std.proofs.Common.{◌≡◌, ℕ, suc, ◌≤◌, List, [], ◌∷◌, ◌++◌, Some, length, refl, ap, arith}
-use Rattle.std.specs.Prelude.{slice_get}
-use Rattle.fir_base.specs.Lists.{Distinct}
-use Rattle.fir_base.proofs.Elements.{number_of}
-
-pub distinct_from : {A : Type 0} → (xs : List A) → ((i j : ℕ) (x : A) → slice_get xs i ≡ Some x → slice_get xs j ≡ Some x → i ≡ j) → Distinct xs
-distinct_from [] h = tt
-distinct_from (x ∷ xs) h = ((λ m. let at = number_of xs x m in omega (arith, h 0 (suc at.0) x refl at.1)), distinct_from xs (λ i j y p q. omega (arith, h (suc i) (suc j) y p q)))
+-- Lists of three or more.
+use Rattle.std.proofs.Common.{◌≡◌, ◌≤◌, List, [], ◌∷◌, ◌++◌, length, refl, ap, arith}
 
 last_apart : {A : Type 0} → (x : A) (xs : List A) → (ys : List A) × (y : A) × (x ∷ xs ≡ ys ++ y ∷ [])
 last_apart x [] = ([], x, refl)

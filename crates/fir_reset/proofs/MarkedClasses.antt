@@ -6,9 +6,9 @@ use Rattle.fir_pass.specs.Faults.{Fault}
 use Rattle.std.specs.List.{AllByRecursion}
 use Rattle.fir_reset.specs.declared.graph.Kind.{Kind}
 use Rattle.fir_reset.specs.declared.graph.Kind.TheVariants.{Reset}
-use Rattle.fir_reset.specs.working.ResetItems.{End}
-use Rattle.fir_reset.specs.working.ResetJoins.{Join}
-use Rattle.fir_reset.specs.working.ResetWalks.{IsReset, IsAsyncReset, IsUInt, IsAsynchronous, meets, goes_on, Joined, IsChain, ShowsResets}
+use Rattle.fir_meaning.specs.ResetItems.{End}
+use Rattle.fir_meaning.specs.ResetJoins.{Join}
+use Rattle.fir_meaning.specs.ResetWalks.{IsReset, IsAsyncReset, IsUInt, IsAsynchronous, meets, goes_on, Joined, IsChain, ShowsResets}
 use Rattle.fir_reset.specs.working.LeafClasses.{Class, class_of}
 use Rattle.fir_reset.specs.working.ResetGraphs.{IsReached, begins, goes_on as reached_on, IsFound}
 use Rattle.fir_reset.specs.working.ResetLaws.{LeavesHaveClasses, OthersShareClasses}

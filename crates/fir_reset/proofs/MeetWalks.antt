@@ -22,7 +22,7 @@ use Rattle.fir_types.specs.declared.note.LeafRange.{LeafRange as RangeOfCode}
 use Rattle.fir_types.specs.working.ModuleNotes.{block_notes, statement_notes}
 use Rattle.fir_types.specs.working.Notes.{Note, expression_notes, reference_note}
 use Rattle.fir_reset.specs.declared.meets.Walk.{Walk}
-use Rattle.fir_reset.specs.working.ResetJoins.{ResetModule}
+use Rattle.fir_meaning.specs.ResetJoins.{ResetModule}
 use Rattle.fir_reset.specs.working.Meetings.{Meeting, meetings_in, meetings_in_block}
 use Rattle.fir_reset.specs.working.Meets.{Ahead, Meets}
 use Rattle.fir_reset.specs.working.Passes.{Passes, PassesRange, PassesStatement}

@@ -5,7 +5,7 @@ use Rattle.std.proofs.lemmas.List.{append-nil}
 use Rattle.fir_ast.specs.Statements.{Statement, wire, register, node, instance, memory, when, connect, partial_connect, invalid, skip, Block, done, then}
 use Rattle.fir_ast.specs.Circuits.{CircuitTree}
 use Rattle.fir_meaning.specs.Visibility.{Before, opened, reopened, behind, behind_block, behind_ports, at_head}
-use Rattle.fir_reset.specs.working.ResetJoins.{ResetModule, reset_modules, joins_in, joins_in_block, joins}
+use Rattle.fir_meaning.specs.ResetJoins.{ResetModule, reset_modules, joins_in, joins_in_block, joins}
 use Rattle.fir_reset.specs.working.Meetings.{Meeting, joins_of, meetings_in, meetings_in_block, meetings}
 
 -- those of two parts, one behind the other

@@ -19,12 +19,12 @@ use Rattle.fir_meaning.specs.Components.{Declaration, Declarations, find}
 use Rattle.fir_meaning.specs.Components as component
 use Rattle.fir_meaning.specs.Visibility.{declaration_at, declarations}
 use Rattle.fir_meaning.specs.NameGroups.{HasNames}
-use Rattle.fir_meaning.specs.TypeGroup.{scope_at, type_faults}
+use Rattle.fir_meaning.specs.TypeGroup.{scope_at}
 use Rattle.fir_meaning.specs.TypedScopes.{Known, TypedScope, known}
 use Rattle.fir_meaning.specs.Reaching.{Reached}
 use Rattle.fir_meaning.specs.ComponentTypes.{known_as, typed_behind, typed_scope}
 use Rattle.fir_meaning.specs.working.WellTyped.{HasType, Reaches}
-use Rattle.fir_meaning.specs.working.SizedScopes.{sink_expression}
+use Rattle.fir_meaning.specs.SizedScopes.{sink_expression}
 use Rattle.fir_meaning.proofs.FoundDeclarations.{once_found}
 use Rattle.fir_meaning.proofs.FoundTypes.{found_type}
 use Rattle.fir_meaning.proofs.KnownNames.{typed_more}
@@ -36,9 +36,10 @@ use Rattle.fir_reset.specs.declared.root.Access.{Access}
 use Rattle.fir_reset.specs.declared.root.Access.TheVariants as access
 use Rattle.fir_reset.specs.declared.root.Root.{Root}
 use Rattle.fir_reset.specs.declared.root.Root.TheVariants as root
-use Rattle.fir_reset.specs.working.ResetItems.{End, leaf_item, paths_along, has_access, is_reset, declared_at, value_end, leaf_end}
-use Rattle.fir_reset.specs.working.ResetJoins.{type_of_known, types_where, ends_of, any_element}
-use Rattle.fir_reset.specs.working.ResetWalks.{IsLeafOf}
+use Rattle.fir_meaning.specs.ResetItems.{End, leaf_item, paths_along, has_access, is_reset, declared_at, value_end, leaf_end}
+use Rattle.fir_reset.specs.working.ElementPaths.{any_element}
+use Rattle.fir_meaning.specs.ResetJoins.{type_of_known, types_where, ends_of}
+use Rattle.fir_meaning.specs.ResetWalks.{IsLeafOf}
 use Rattle.fir_reset.specs.working.Meetings.{Meeting}
 use Rattle.fir_reset.specs.working.Resolved.{StandsIn}
 use Rattle.fir_reset.specs.working.FirstEnds.{access_behind, IsReferenceRoot, IsNodeRoot}
@@ -93,7 +94,7 @@ in_whole modules ds whole k b h =
     subst (λ l. In (typed_scope modules l) k) (sym b.1)
     (subst (λ l. In l k) (sym (behind_more modules [] ds b.0)) (in_behind modules (typed_scope modules ds) b.0 k h))
 
-module _ (c : CircuitTree) (names : HasNames c) (clear : type_faults c ≡ []) (findings : Findings) (number : ℕ) (x : Meeting) (stands : StandsIn c findings number x) where
+module _ (c : CircuitTree) (names : HasNames c) (findings : Findings) (number : ℕ) (x : Meeting) (stands : StandsIn c findings number x) where
   abbrev pub scope : TypedScope
   scope = scope_at x.inside.modules x.before
 
@@ -121,7 +122,7 @@ module _ (c : CircuitTree) (names : HasNames c) (clear : type_faults c ≡ []) (
     found_whole =
         ap (λ ds. find ds sink.name) stands.begins.1 ∙ find_front x.before.declared stands.begins.0 sink.name declared_here.0 declared_here.1
 
-    of_circuit : AreOfCircuit c names clear number s.data_type place_here paths first
+    of_circuit : AreOfCircuit c names number s.data_type place_here paths first
     of_circuit =
         record {
           each = λ q i l m.
@@ -162,7 +163,7 @@ module _ (c : CircuitTree) (names : HasNames c) (clear : type_faults c ≡ []) (
         ∙ ap (λ o. leaves number (declared_at sink.place o) begun ++ values) declared_here.1
 
     abbrev FitsHere : Access → Type 0
-    FitsHere = Fits c names clear number s.data_type place_here paths first of_circuit ends_here (has_access sink.parts) sink.place ends_are
+    FitsHere = Fits c names number s.data_type place_here paths first of_circuit ends_here (has_access sink.parts) sink.place ends_are
 
     fits_here : (a : Access) → Picked lengths sink.place a → FitsHere a
     fits_here a (fixed e is_fixed) =
@@ -178,7 +179,7 @@ module _ (c : CircuitTree) (names : HasNames c) (clear : type_faults c ≡ []) (
     reference_side =
         let a = access_behind sink.place access.Fixed lengths in
         let place : is.place ≡ place_here = is.declared x.inside.inside stands.inside ∙ ap (declared_at sink.place) found_whole in
-        leaf_side c names clear number s.data_type place_here paths first of_circuit ends_here (has_access sink.parts) sink.place ends_are own is.path a
+        leaf_side c names number s.data_type place_here paths first of_circuit ends_here (has_access sink.parts) sink.place ends_are own is.path a
         (is.is ∙ ap (λ p. root.Leaf is.path p a) place) is.steps (fits_here a (picked sink.place lengths))
 
   module _ (n : PlacedName) (e : Expression) (t : DataType) (has : HasType scope e t) (b : Begins (x.before.declared ++ declaration_at x.before n (component.node e) ∷ []) (declarations x.inside.inside))
@@ -209,7 +210,7 @@ module _ (c : CircuitTree) (names : HasNames c) (clear : type_faults c ≡ []) (
     abbrev node_ends : TypeLeaf → List End
     node_ends l = leaf_end number n.place (named n.name ∷ l.path) l.ground_type ∷ []
 
-    node_circuit : AreOfCircuit c names clear number t n.place (node_path ∷ []) node_path
+    node_circuit : AreOfCircuit c names number t n.place (node_path ∷ []) node_path
     node_circuit =
         record {
           each = λ q i l m.
@@ -238,5 +239,5 @@ module _ (c : CircuitTree) (names : HasNames c) (clear : type_faults c ≡ []) (
 
     pub node_side : IsSide c number t node_ends own
     node_side =
-        leaf_side c names clear number t n.place (node_path ∷ []) node_path node_circuit node_ends false n.place (λ l. refl) own is.path access.Fixed is.is is.steps
+        leaf_side c names number t n.place (node_path ∷ []) node_path node_circuit node_ends false n.place (λ l. refl) own is.path access.Fixed is.is is.steps
         (fits_fixed refl (inl refl) refl)

@@ -24,7 +24,7 @@ use Rattle.fir_meaning.specs.Visibility.{Before, declaration_at, declarations}
 use Rattle.fir_meaning.specs.Components as component
 use Rattle.fir_meaning.specs.Reaching.{Reached}
 use Rattle.fir_types.specs.working.Walked.{Begins}
-use Rattle.fir_meaning.specs.working.SizedScopes.{sink_expression}
+use Rattle.fir_meaning.specs.SizedScopes.{sink_expression}
 use Rattle.fir_meaning.specs.working.WellTyped.{HasType, Reaches, ConnectIsLegal}
 use Rattle.fir_meaning.proofs.FoundTypes.{found_type}
 use Rattle.fir_meaning.proofs.PairedLeaves.{pairs_leaves}
@@ -40,8 +40,8 @@ use Rattle.fir_reset.specs.declared.meet.Source.{Source}
 use Rattle.fir_reset.specs.declared.meet.Source.TheVariants as source
 use Rattle.fir_reset.specs.declared.root.Root.{Root}
 use Rattle.fir_reset.specs.declared.root.Root.TheVariants as root
-use Rattle.fir_reset.specs.working.ResetItems.{End, value_end, leaf_end}
-use Rattle.fir_reset.specs.working.ResetJoins.{Join, ResetModule, ends_of, each_with_each, connect_joins, node_joins, joins}
+use Rattle.fir_meaning.specs.ResetItems.{End, value_end, leaf_end}
+use Rattle.fir_meaning.specs.ResetJoins.{Join, ResetModule, ends_of, each_with_each, connect_joins, node_joins, joins}
 use Rattle.fir_reset.specs.working.Meetings.{Meeting, Sides, connected, partly_connected, named_by, instanced, joins_of, meeting, meetings, met_joins}
 use Rattle.fir_reset.specs.working.Meets.{IsNoReference, IsRange, IsSource, AreSides, IsMeet}
 use Rattle.fir_reset.specs.working.Resolved.{StandsIn}
@@ -92,7 +92,7 @@ module _ (c : CircuitTree) (names : HasNames c) (clear : type_faults c ≡ []) (
       let range = range_of ts scope sink (Some given.now) h.1 reaches is.1 in
       let same : given.now ≡ range.own = same_Some given.now range.own range.is in
       let lengths = ap pick_lengths same ∙ range.lengths in
-      let side = reference_side c names clear findings number x stands sink h.1 reaches (pick_lengths given.now) lengths right.0 own.0 in
+      let side = reference_side c names findings number x stands sink h.1 reaches (pick_lengths given.now) lengths right.0 own.0 in
       record {
         own = right;
         is = refl;
@@ -168,7 +168,7 @@ module _ (c : CircuitTree) (names : HasNames c) (clear : type_faults c ≡ []) (
         let met = subst (λ o. SidesJoined c number ts partly of.left own.own.found o old new) right.is of.joined in
         let types = subst (λ u. JoinsMet c number of.left right.own.0 (met_pairs partly [] left.data_type u) old new) right.data_type
         (subst (λ t. JoinsMet c number of.left right.own.0 (met_pairs partly [] t (seen.found_type ts right.own.1)) old new) own.data_type met) in
-        let side = reference_side c names clear findings number x stands sink left legal.2 (pick_lengths own.own) own.lengths of.left of.left_is in
+        let side = reference_side c names findings number x stands sink left legal.2 (pick_lengths own.own) own.lengths of.left of.left_is in
         let ps = paired left.data_type legal.1 legal.4 in
         all_stand c number of.left right.own.0 left.data_type legal.1 (ends_of x.inside x.before (sink_expression sink)) (ends_of x.inside x.before e) side right.side
         (pairs_of left.data_type legal.1) (met_pairs partly [] left.data_type legal.1) ps.leaves ps.of ps.all circuit old new types js before
@@ -202,7 +202,7 @@ module _ (c : CircuitTree) (names : HasNames c) (clear : type_faults c ≡ []) (
         let right = source_side given e t joined.right is has joined.right_is in
         let met = subst (λ o. NodeSidesJoined c number ts joined.left o old new) right.is joined.joined in
         let types = subst (λ u. JoinsMet c number joined.left right.own.0 (first_pairs [] u u) old new) right.data_type met in
-        let side = node_side c names clear findings number x stands n e t has begins joined.left joined.left_is in
+        let side = node_side c names findings number x stands n e t has begins joined.left joined.left_is in
         let ps = whole_pairs t t (fits_itself t) in
         all_stand c number joined.left right.own.0 t t (node_ends number) (ends_of x.inside x.before e) side right.side (pairs t t) (first_pairs [] t t) ps.leaves ps.of ps.all circuit
         old new types js before

@@ -18,7 +18,7 @@ use Rattle.fir_reset.specs.working.Holding.{Holds, HoldsMore}
 use Rattle.fir_reset.specs.working.Meetings.{Meeting, meetings, met_joins}
 use Rattle.fir_reset.specs.working.Meets.{AreMeets, IsMeet}
 use Rattle.fir_reset.specs.working.ModuleMeets.{AreMeetsByModule, module_meetings}
-use Rattle.fir_reset.specs.working.ResetJoins.{Join, ResetModule, reset_modules}
+use Rattle.fir_meaning.specs.ResetJoins.{Join, ResetModule, reset_modules}
 use Rattle.fir_reset.specs.working.Resolved.{AllStandIn, StandsIn}
 use Rattle.fir_reset.specs.working.WholeGraphs.{IsWhole}
 use Rattle.fir_reset.proofs.SharedJoins.{all_but_shared}

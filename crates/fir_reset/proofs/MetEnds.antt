@@ -4,9 +4,9 @@ use Rattle.std.specs.Prelude.{slice_get}
 use Rattle.fir_base.specs.Lists.{In}
 use Rattle.fir_ast.specs.Circuits.{CircuitTree}
 use Rattle.fir_reset.specs.declared.graph.Kind.{Kind}
-use Rattle.fir_reset.specs.working.ResetItems.{End}
-use Rattle.fir_reset.specs.working.ResetJoins.{Join, joins}
-use Rattle.fir_reset.specs.working.ResetWalks.{IsReset, Joined}
+use Rattle.fir_meaning.specs.ResetItems.{End}
+use Rattle.fir_meaning.specs.ResetJoins.{Join, joins}
+use Rattle.fir_meaning.specs.ResetWalks.{IsReset, Joined}
 use Rattle.fir_reset.specs.working.ResetGraphs.{IsJoined}
 use Rattle.fir_reset.specs.working.ResetLaws.{OthersShareClasses}
 use Rattle.fir_reset.specs.working.BuiltGraphs.{StandsFor, Stands, IsBuilt}

@@ -7,8 +7,8 @@ use Rattle.fir_base.proofs.Members.{in_left, in_right, in_either}
 use Rattle.fir_ast.specs.Circuits.{CircuitTree}
 use Rattle.fir_reset.specs.declared.joined.Joined.{Joined as JoinedOfCode}
 use Rattle.fir_reset.specs.declared.root.Root.{Root}
-use Rattle.fir_reset.specs.working.ResetItems.{End}
-use Rattle.fir_reset.specs.working.ResetJoins.{Join}
+use Rattle.fir_meaning.specs.ResetItems.{End}
+use Rattle.fir_meaning.specs.ResetJoins.{Join}
 use Rattle.fir_reset.specs.working.BuiltGraphs.{Stands, HasReset}
 use Rattle.fir_reset.specs.working.Holding.{Extends, Holds, HoldsMore}
 use Rattle.fir_reset.specs.working.FirstPairs.{Met}
@@ -50,7 +50,6 @@ module _ (c : CircuitTree) (js : List Join) (old : JoinedOfCode) (h : Holds c js
         };
     known = h.known;
     all = h.all;
-    firsts = h.firsts;
     classes = h.classes;
   }
 

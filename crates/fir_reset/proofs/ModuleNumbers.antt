@@ -6,7 +6,7 @@ use Rattle.std.proofs.lemmas.Option.{same_Some, none-some}
 use Rattle.fir_base.specs.Lists.{In}
 use Rattle.fir_ast.specs.Circuits.{ModuleTree}
 use Rattle.fir_meaning.specs.ComponentTypes.{find_module}
-use Rattle.fir_reset.specs.working.ResetJoins.{ResetModule, reset_modules, numbered_module}
+use Rattle.fir_meaning.specs.ResetJoins.{ResetModule, reset_modules, numbered_module}
 
 -- a module that is found by its name stands at its number
 pub record IsNumbered (modules : List ModuleTree) (name : List ℕ) (from : ℕ) (child : ℕ × ModuleTree) : Type 0 where

@@ -17,7 +17,7 @@ use Rattle.fir_types.specs.working.Noted.{note_seen, saturated_note}
 use Rattle.fir_types.specs.working.TypedModules.{IsTyped}
 use Rattle.fir_reset.specs.declared.meet.Meet.{Meet}
 use Rattle.fir_reset.specs.declared.meets.Walk.{Walk}
-use Rattle.fir_reset.specs.working.ResetJoins.{ResetModule, reset_modules}
+use Rattle.fir_meaning.specs.ResetJoins.{ResetModule, reset_modules}
 use Rattle.fir_reset.specs.working.Meetings.{meetings_in_block}
 use Rattle.fir_reset.specs.working.Meets.{Ahead, AreMeets, Meets}
 use Rattle.fir_reset.specs.working.ModuleMeets.{AreMeetsByModule, module_meetings}

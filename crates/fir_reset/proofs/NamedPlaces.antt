@@ -7,7 +7,7 @@ use Rattle.fir_meaning.specs.Components.{Declarations, find}
 use Rattle.fir_names.specs.declared.declaration.Declaration.{Declaration as Entry}
 use Rattle.fir_names.specs.declared.names.Names.{Names}
 use Rattle.fir_names.specs.working.Tabulated.{Tabulates, entry_of, entry_named, found}
-use Rattle.fir_reset.specs.working.ResetItems.{declared_at}
+use Rattle.fir_meaning.specs.ResetItems.{declared_at}
 
 -- the place of an entry, if there is one
 abbrev pub place_in : Place → Option Entry → Place

@@ -20,7 +20,7 @@ use Rattle.fir_meaning.specs.ExpressionTypes.{number_type}
 use Rattle.fir_meaning.specs.TypedScopes.{TypedScope}
 use Rattle.fir_meaning.specs.working.WellTyped.{HasType}
 use Rattle.fir_types.proofs.BareTypes.{shown_numeric}
-use Rattle.fir_reset.specs.working.ResetItems.{is_reset}
+use Rattle.fir_meaning.specs.ResetItems.{is_reset}
 use Rattle.fir_reset.specs.working.Meets.{IsNoReference}
 use Rattle.fir_reset.proofs.ReferenceSides.{HasNoReset}
 

@@ -28,14 +28,13 @@ nothing_built c = record {
   stand = λ j i r. absurd i;
 }
 
-pub nothing_held : (c : CircuitTree) (joined : Joined) → joined.ends.items ≡ [] → joined.kinds.items ≡ [] → joined.graph.items ≡ [] → IsEmpty joined.numbers → IsEmpty joined.firsts → Holds c [] joined
-nothing_held c joined ends kinds graph numbers firsts = record {
+pub nothing_held : (c : CircuitTree) (joined : Joined) → joined.ends.items ≡ [] → joined.kinds.items ≡ [] → joined.graph.items ≡ [] → IsEmpty joined.numbers → Holds c [] joined
+nothing_held c joined ends kinds graph numbers = record {
   ends = [];
   are = subst (λ owns. AreEnds owns []) (sym ends) tt;
   same_kinds = ap (map (λ (o : EndOfCode). o.kind)) ends ∙ sym kinds;
   built = subst (λ g. IsBuilt c [] [] g joined.kinds.items) (sym graph) (subst (IsBuilt c [] [] []) (sym kinds) (nothing_built c));
   known = λ number x leaf h. absurd (none-some x (sym (under_none joined.numbers numbers (path_key number leaf)) ∙ h));
   all = λ number x leaf p h. absurd (none-some _ h);
-  firsts = λ number x leaf h. absurd (none-some x (sym (under_none joined.firsts firsts (path_key number leaf)) ∙ h));
   classes = λ x e k h r class. absurd (none-some e h);
 }

@@ -5,9 +5,9 @@ use Rattle.std.proofs.lemmas.Option.{same_Some, slice_get-map}
 use Rattle.fir_ast.specs.Circuits.{ModuleTree, CircuitTree}
 use Rattle.fir_meaning.specs.NameGroups.{HasNames}
 use Rattle.fir_meaning.specs.TypeGroup.{type_faults}
-use Rattle.fir_meaning.specs.working.SizedDeclarations.{port_numbers, all_port_numbers}
-use Rattle.fir_reset.specs.working.ResetItems.{End}
-use Rattle.fir_reset.specs.working.ResetWalks.{IsLeafOf}
+use Rattle.fir_meaning.specs.SizedDeclarations.{port_numbers, all_port_numbers}
+use Rattle.fir_meaning.specs.ResetItems.{End}
+use Rattle.fir_meaning.specs.ResetWalks.{IsLeafOf}
 use Rattle.fir_reset.specs.working.LeafClasses.{Part, of_ports, of_declaration, Class, class_of}
 use Rattle.fir_reset.specs.working.Inferred.{leaf_number}
 use Rattle.fir_reset.proofs.ClassRanges.{counts_of, part_begins, InPart, has_class}

@@ -3,7 +3,7 @@ use Rattle.std.proofs.Common.{◌≡◌, ℕ, zero, suc, ◌<◌, List, [], ◌�
 use Rattle.std.specs.Prelude.{slice_get}
 use Rattle.std.proofs.lemmas.Option.{none-some}
 use Rattle.fir_base.proofs.Elements.{there}
-use Rattle.fir_reset.specs.working.ResetItems.{End}
+use Rattle.fir_meaning.specs.ResetItems.{End}
 use Rattle.fir_reset.specs.working.FoundKinds.{HasEnds}
 
 pub ends_long : (ends : List End) (walk : List ℕ) (es : List End) → HasEnds ends walk es → length walk ≡ length es

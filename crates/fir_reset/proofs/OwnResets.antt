@@ -1,9 +1,6 @@
 -- The graph as the code has it, with a Reset more that is the first of its class.
-use Rattle.std.proofs.Common.{◌≡◌, ℕ, List, [], ◌∷◌, ◌++◌, map, Option, Some, None, length, refl, sym, ap, ◌∙◌, subst, inl, inr, ◌⊎◌}
+use Rattle.std.proofs.Common.{◌≡◌, ℕ, List, [], ◌∷◌, ◌++◌, map, Some, None, length, refl, sym, ap, ◌∙◌, subst, inl, inr}
 use Rattle.std.specs.Prelude.{slice_get}
-use Rattle.std.specs.BTreeMap.{BTreeMap, Updates}
-use Rattle.std.specs.Cmp.Lexicographic.{slice_cmp}
-use Rattle.std.specs.Ordering.{nat_cmp}
 use Rattle.std.proofs.lemmas.Option.{none-some}
 use Rattle.fir_base.proofs.Writes.{PushedOr, push_cases}
 use Rattle.fir_ast.specs.declared.place.Place.{Place}
@@ -12,23 +9,21 @@ use Rattle.fir_meaning.specs.LeafPaths.{LeafPath}
 use Rattle.fir_meaning.specs.NameGroups.{HasNames}
 use Rattle.fir_meaning.specs.TypeGroup.{type_faults}
 use Rattle.fir_reset.specs.declared.joined.Joined.{Joined}
-use Rattle.fir_reset.specs.working.ResetItems.{End}
-use Rattle.fir_reset.specs.working.ResetJoins.{Join, any_element}
-use Rattle.fir_reset.specs.working.ResetWalks.{IsReset, IsLeafOf}
+use Rattle.fir_meaning.specs.ResetItems.{End}
+use Rattle.fir_reset.specs.working.ElementPaths.{any_element}
+use Rattle.fir_meaning.specs.ResetJoins.{Join}
+use Rattle.fir_meaning.specs.ResetWalks.{IsReset, IsLeafOf}
 use Rattle.fir_reset.specs.working.BuiltGraphs.{Connects, here}
 use Rattle.fir_reset.specs.working.LeafClasses.{Class, class_of}
-use Rattle.fir_reset.specs.working.PathKeys.{path_key}
 use Rattle.fir_reset.specs.working.DeclaredLeaves.{IsNoInstance}
-use Rattle.fir_reset.specs.working.Holding.{reset_end, under_key, under_first, IsFirst, HasFirst, Holds, HasNumber}
+use Rattle.fir_reset.specs.working.Holding.{reset_end, under_key, HasFirst, Holds, HasNumber}
 use Rattle.fir_reset.specs.working.Adding.{AddsReset}
 use Rattle.fir_reset.proofs.ConnectedEnds.{connects_more}
 use Rattle.fir_reset.proofs.PartlyBuilt.{ConnectsClasses, built_whole}
-use Rattle.fir_reset.proofs.HeldGraphs.{first_more, has_first_more}
-use Rattle.fir_reset.proofs.KeyTables.{under, table_here, table_cases, table_kept}
-use Rattle.fir_reset.proofs.Keys.{one_path}
+use Rattle.fir_reset.proofs.HeldGraphs.{has_first_more}
 use Rattle.fir_reset.proofs.ClassesOfLeaves.{home_elements, leaves_have_classes}
 use Rattle.fir_reset.proofs.LeafDeclarations.{leaf_at_home}
-use Rattle.fir_reset.proofs.AddedResets.{same_leaf, same_reset, ends_now, kinds_now, partly_now, edges_kept, kinds_kept, at_end, known_now, all_now}
+use Rattle.fir_reset.proofs.AddedResets.{same_leaf, ends_now, kinds_now, partly_now, edges_kept, kinds_kept, at_end, known_now, all_now}
 
 -- two leaves that are one but for elements
 module _ (number other : ℕ) (p q : LeafPath) (s t : Place) where
@@ -40,37 +35,28 @@ module _ (number other : ℕ) (p q : LeafPath) (s t : Place) where
       (one.0 ∙ sym two.0, ap (map any_element) one.1 ∙ same ∙ ap (map any_element) (sym two.1))
 
 module _ (c : CircuitTree) (js : List Join) (old : Joined) (before : Holds c js old) (names : HasNames c) (clear : type_faults c ≡ []) (number : ℕ) (leaf : LeafPath) (place : Place)
-    (l : IsLeafOf c (reset_end number leaf place)) (own : IsNoInstance c number leaf) (none : under_first old number (map any_element leaf) ≡ None) where
+    (l : IsLeafOf c (reset_end number leaf place)) (own : IsNoInstance c number leaf) (first : map any_element leaf ≡ leaf) (fresh : under_key old number leaf ≡ None) where
   abbrev new_end : End
   new_end = reset_end number leaf place
 
   new_class : (k : Class) × (class_of c new_end.item ≡ Some k)
   new_class = (leaves_have_classes c names clear).has new_end l
 
-  no_first : (k : Class) → class_of c new_end.item ≡ Some k → HasFirst c before.ends old k → ⊥
+  no_first : (k : Class) → class_of c new_end.item ≡ Some k → HasFirst c before.ends k → ⊥
   no_first k class h =
-      let first = reset_end h.number h.path h.place in
-      let is_leaf = before.built.leaves h.first first h.is refl in
+      let there = reset_end h.number h.path h.place in
+      let is_leaf = before.built.leaves h.first there h.is refl in
       let elements =
-      home_elements c names first new_end is_leaf l k (leaf_at_home c names h.number h.path first refl is_leaf h.no_instance) (leaf_at_home c names number leaf new_end refl l own) h.class class in
+      home_elements c names there new_end is_leaf l k (leaf_at_home c names h.number h.path there refl is_leaf h.no_instance) (leaf_at_home c names number leaf new_end refl l own) h.class class in
       let same = elements_same h.number number h.path leaf h.place place elements.number elements.path elements.other elements.one_is elements.other_is elements.same in
-      let there : under_first old number (map any_element leaf) ≡ Some h.first =
-      ap (λ p. under_first old number p) (sym same.1) ∙ ap (λ n. under_first old n (map any_element h.path)) (sym same.0) ∙ h.under in
-      none-some h.first (sym none ∙ there)
+      let path : leaf ≡ h.path = sym first ∙ sym same.1 ∙ h.firsts in
+      none-some h.first (sym fresh ∙ ap (λ p. under_key old number p) path ∙ ap (λ n. under_key old n h.path) (sym same.0) ∙ before.all h.number h.first h.path h.place h.is)
 
   -- no Reset of the class was met
   alone : (x : ℕ) (g : End) → slice_get before.ends x ≡ Some g → IsReset g → class_of c g.item ≡ class_of c new_end.item → ⊥
   alone x g i r same = no_first new_class.0 new_class.1 (before.classes x g new_class.0 i r (same ∙ new_class.1))
 
-  fresh_by : (o : Option ℕ) → under_key old number leaf ≡ o → under_key old number leaf ≡ None
-  fresh_by None h = h
-  fresh_by (Some x) h = let r = before.known number x leaf h in absurd (alone x (reset_end number leaf r.0) r.1 refl refl)
-
-  pub fresh : under_key old number leaf ≡ None
-  fresh = fresh_by (under_key old number leaf) refl
-
-  module _ (middle : Joined) (a : AddsReset old middle number leaf place) (firsts : BTreeMap (List ℕ) ℕ)
-      (u : Updates (slice_cmp nat_cmp) middle.firsts firsts (path_key number (map any_element leaf)) (Some (length old.ends.items))) where
+  module _ (middle : Joined) (a : AddsReset old middle number leaf place) where
     abbrev new_number : ℕ
     new_number = length old.ends.items
 
@@ -88,43 +74,20 @@ module _ (c : CircuitTree) (js : List Join) (old : Joined) (before : Holds c js 
         by (inr (at, is)) (inl q) = absurd (alone y k q t (sym same ∙ ap (λ (e : End). class_of c e.item) (sym is)))
         by (inr (at, is)) (inr (at_too, is_too)) = subst (Connects middle.graph.items middle.kinds.items x) (at ∙ sym at_too) (here x)
 
-    none_now : under middle.firsts (path_key number (map any_element leaf)) ≡ None
-    none_now = ap (λ t. under t (path_key number (map any_element leaf))) a.firsts ∙ none
-
-    firsts_kept : (n x : ℕ) (p : LeafPath) → under_first old n p ≡ Some x → under_first (record middle { firsts = firsts }) n p ≡ Some x
-    firsts_kept n x p h =
-        table_kept middle.firsts firsts (path_key number (map any_element leaf)) new_number u none_now (path_key n p) x (ap (λ t. under t (path_key n p)) a.firsts ∙ h)
-
-    first_now : (n x : ℕ) (p : LeafPath) → under_first (record middle { firsts = firsts }) n p ≡ Some x → IsFirst ends n x p
-    first_now n x p h = by (table_cases middle.firsts firsts (path_key number (map any_element leaf)) new_number u (path_key n p) x h)
-      where
-        by : ((path_key number (map any_element leaf) ≡ path_key n p) × (new_number ≡ x)) ⊎ (under middle.firsts (path_key n p) ≡ Some x) → IsFirst ends n x p
-        by (inl (key, same)) =
-            let one = one_path number n (map any_element leaf) p key in
-            record {
-              path = leaf;
-              place = place;
-              is =
-                  ap (slice_get ends) (sym same) ∙ at_end c js old before middle number leaf place a l fresh
-                  ∙ ap (λ (e : End). Some e) (same_reset number n leaf leaf place one.0 refl);
-              same = one.1;
-            }
-        by (inr h) = first_more before.ends new_end n x p (before.firsts n x p (ap (λ t. under t (path_key n p)) (sym a.firsts) ∙ h))
-
-    has_first_now : (x : ℕ) (g : End) (k : Class) → IsReset g → class_of c g.item ≡ Some k → PushedOr before.ends new_end x g → HasFirst c ends (record middle { firsts = firsts }) k
-    has_first_now x g k s i (inl p) = has_first_more c before.ends new_end old (record middle { firsts = firsts }) k firsts_kept (before.classes x g k p s i)
+    has_first_now : (x : ℕ) (g : End) (k : Class) → IsReset g → class_of c g.item ≡ Some k → PushedOr before.ends new_end x g → HasFirst c ends k
+    has_first_now x g k s i (inl p) = has_first_more c before.ends new_end k (before.classes x g k p s i)
     has_first_now x g k s i (inr (at, is)) = record {
       first = new_number;
       number = number;
       path = leaf;
       place = place;
       is = at_end c js old before middle number leaf place a l fresh;
+      firsts = first;
       no_instance = own;
       class = ap (λ (e : End). class_of c e.item) is ∙ i;
-      under = table_here middle.firsts firsts (path_key number (map any_element leaf)) new_number u;
     }
 
-    pub own_new : HasNumber before new_end (record middle { firsts = firsts }) new_number
+    pub own_new : HasNumber before new_end middle new_number
     own_new = record {
       holds = record {
         ends = ends;
@@ -133,7 +96,6 @@ module _ (c : CircuitTree) (js : List Join) (old : Joined) (before : Holds c js 
         built = built_whole c js ends middle.graph.items middle.kinds.items (partly_now c js old before middle number leaf place a l fresh) connected_now;
         known = known_now c js old before middle number leaf place a l fresh;
         all = all_now c js old before middle number leaf place a l fresh;
-        firsts = first_now;
         classes = λ x g k i s q. has_first_now x g k s q (push_cases before.ends new_end x g i);
       };
       extends = (new_end ∷ [], refl);

@@ -8,9 +8,9 @@ use Rattle.fir_base.proofs.Writes.{PushedOr, push_left, push_cases}
 use Rattle.fir_ast.specs.Circuits.{CircuitTree}
 use Rattle.fir_reset.specs.declared.graph.Kind.{Kind}
 use Rattle.fir_reset.specs.declared.graph.Kind.TheVariants.{Reset}
-use Rattle.fir_reset.specs.working.ResetItems.{End}
-use Rattle.fir_reset.specs.working.ResetJoins.{Join}
-use Rattle.fir_reset.specs.working.ResetWalks.{IsReset, Joined, IsLeafOf}
+use Rattle.fir_meaning.specs.ResetItems.{End}
+use Rattle.fir_meaning.specs.ResetJoins.{Join}
+use Rattle.fir_meaning.specs.ResetWalks.{IsReset, Joined, IsLeafOf}
 use Rattle.fir_reset.specs.working.ResetGraphs.{IsGraph, IsJoined}
 use Rattle.fir_reset.specs.working.BuiltGraphs.{HasKind, Stands, HasReset, IsBuilt, Connects}
 use Rattle.fir_reset.specs.working.LeafClasses.{class_of}

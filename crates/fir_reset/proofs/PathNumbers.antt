@@ -20,8 +20,8 @@ use Rattle.fir_types.proofs.KnownScopes.{Heads, heads_of}
 use Rattle.fir_reset.specs.working.Inferred.{leaf_number, number_behind, number_in}
 use Rattle.fir_reset.specs.working.LeafClasses.{offset_in, offset_where}
 use Rattle.fir_reset.specs.working.NumberedPaths.{position_known}
-use Rattle.fir_reset.specs.working.ResetItems.{leaf_item}
-use Rattle.fir_reset.specs.working.ResetJoins.{type_of_known}
+use Rattle.fir_meaning.specs.ResetItems.{leaf_item}
+use Rattle.fir_meaning.specs.ResetJoins.{type_of_known}
 
 -- the place of what has a name, among declarations behind so many
 entry_position : (ns : List PlacedName) (i : ℕ) (ds : Declarations) (ks : TypedScope) (x : List ℕ) → Heads ds ks

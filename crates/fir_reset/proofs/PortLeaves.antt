@@ -13,12 +13,12 @@ use Rattle.fir_meaning.specs.Components.{Declaration, Declarations, find, port, 
 use Rattle.fir_meaning.specs.Visibility.{declarations}
 use Rattle.fir_meaning.specs.TypedScopes.{TypedScope}
 use Rattle.fir_meaning.specs.ComponentTypes.{is_input, port_fields, instance_bundle, typed_scope}
-use Rattle.fir_meaning.specs.working.SharedLeaves.{shared_count}
+use Rattle.fir_meaning.specs.SharedLeaves.{shared_count}
 use Rattle.fir_meaning.proofs.FreshFields.{field_names, AreFresh}
 use Rattle.fir_meaning.proofs.FoundDeclarations.{once_found}
-use Rattle.fir_reset.specs.working.ResetItems.{leaf_end, declared_at}
-use Rattle.fir_reset.specs.working.ResetJoins.{port_place}
-use Rattle.fir_reset.specs.working.ResetWalks.{IsLeafOf}
+use Rattle.fir_meaning.specs.ResetItems.{leaf_end, declared_at}
+use Rattle.fir_meaning.specs.ResetJoins.{port_place}
+use Rattle.fir_meaning.specs.ResetWalks.{IsLeafOf}
 use Rattle.fir_reset.specs.working.DeclaredLeaves.{Declares, IsNoInstance}
 use Rattle.fir_reset.specs.working.LeafClasses.{Class, of_ports, behind_so_many, offset_in, offset_in_fields, class_among, class_in}
 use Rattle.fir_reset.proofs.DeclaredOnce.{one_declaration}

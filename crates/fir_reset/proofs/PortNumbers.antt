@@ -6,8 +6,8 @@ use Rattle.fir_meaning.specs.LeafPaths.{LeafPath, named}
 use Rattle.fir_meaning.specs.Components.{Declaration}
 use Rattle.fir_meaning.specs.NameGroups.{HasNames}
 use Rattle.fir_reset.specs.declared.item.Step.{Step}
-use Rattle.fir_reset.specs.working.ResetItems.{leaf_item}
-use Rattle.fir_reset.specs.working.ResetWalks.{IsLeafOf, Joined as AreJoined}
+use Rattle.fir_meaning.specs.ResetItems.{leaf_item}
+use Rattle.fir_meaning.specs.ResetWalks.{IsLeafOf, Joined as AreJoined}
 use Rattle.fir_reset.specs.working.LeafClasses.{class_of}
 use Rattle.fir_reset.specs.working.DeclaredLeaves.{Declares, IsNoInstance}
 use Rattle.fir_reset.specs.working.Holding.{path_of, reset_end}

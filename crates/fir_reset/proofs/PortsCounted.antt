@@ -6,8 +6,8 @@ use Rattle.fir_meaning.specs.Components.{Declaration, Declarations}
 use Rattle.fir_meaning.specs.Components as component
 use Rattle.fir_meaning.specs.ComponentTypes.{port_fields}
 use Rattle.fir_meaning.specs.Visibility.{Before, at_head, behind, behind_block, behind_ports, declaration_at, declarations, opened, reopened, with_declaration}
-use Rattle.fir_meaning.specs.working.SharedLeaves.{shared_count, shared_field_count}
-use Rattle.fir_meaning.specs.working.SizedDeclarations.{port_numbers}
+use Rattle.fir_meaning.specs.SharedLeaves.{shared_count, shared_field_count}
+use Rattle.fir_meaning.specs.SizedDeclarations.{port_numbers}
 use Rattle.fir_reset.specs.working.LeafClasses.{port_count}
 use Rattle.fir_reset.proofs.Sums.{total}
 

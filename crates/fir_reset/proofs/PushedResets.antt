@@ -8,7 +8,7 @@ use Rattle.fir_meaning.specs.LeafPaths.{LeafPath}
 use Rattle.fir_reset.specs.declared.graph.Kind.TheVariants.{Reset}
 use Rattle.fir_reset.specs.declared.item.End.{End}
 use Rattle.fir_reset.specs.declared.joined.Joined.{Joined}
-use Rattle.fir_reset.specs.working.ResetItems.{leaf_item}
+use Rattle.fir_meaning.specs.ResetItems.{leaf_item}
 use Rattle.fir_reset.specs.working.PathKeys.{path_key}
 use Rattle.fir_reset.specs.working.Holding.{item_of}
 use Rattle.fir_reset.specs.working.Adding.{AddsEnd, AddsReset}
@@ -31,5 +31,4 @@ adds_reset old middle numbers own number leaf place key n a item kind at is coun
       subst (λ t. Updates (slice_cmp nat_cmp) t numbers (path_key number leaf) (Some (length old.ends.items))) a.numbers
       (subst (λ k. Updates (slice_cmp nat_cmp) middle.numbers numbers k (Some (length old.ends.items))) is
       (subst (λ m. Updates (slice_cmp nat_cmp) middle.numbers numbers key (Some m)) count u));
-  firsts = a.firsts;
 }

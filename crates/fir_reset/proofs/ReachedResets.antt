@@ -6,9 +6,9 @@ use Rattle.fir_base.proofs.Elements.{there}
 use Rattle.fir_ast.specs.Circuits.{CircuitTree}
 use Rattle.fir_reset.specs.declared.graph.Kind.{Kind}
 use Rattle.fir_reset.specs.declared.graph.Kind.TheVariants.{Asynchronous, Reset}
-use Rattle.fir_reset.specs.working.ResetItems.{End}
-use Rattle.fir_reset.specs.working.ResetJoins.{Join}
-use Rattle.fir_reset.specs.working.ResetWalks.{IsReset, IsAsyncReset, IsLeafOf, IsAsynchronous, meets, goes_on, Joined}
+use Rattle.fir_meaning.specs.ResetItems.{End}
+use Rattle.fir_meaning.specs.ResetJoins.{Join}
+use Rattle.fir_meaning.specs.ResetWalks.{IsReset, IsAsyncReset, IsLeafOf, IsAsynchronous, meets, goes_on, Joined}
 use Rattle.fir_reset.specs.working.LeafClasses.{Class, class_of}
 use Rattle.fir_reset.specs.working.ResetGraphs.{IsJoined, IsReached, begins, goes_on as reached_on, IsFound}
 use Rattle.fir_reset.specs.working.ResetLaws.{Linked, same, then_joined, LeavesHaveClasses}

@@ -17,8 +17,8 @@ use Rattle.fir_meaning.specs.Reaching.{Reached, at_field, at_element, at_any, fi
 use Rattle.fir_meaning.specs.working.WellTyped.{Leads}
 use Rattle.fir_types.specs.working.Notes.{Pick, LeafRange, field_range, element_range, picked_range, range_behind}
 use Rattle.fir_types.specs.working.Seen.{steps_of}
-use Rattle.fir_reset.specs.working.ResetItems.{type_of_field, type_of_element, length_of_vector, of_elements, paths_along, has_access}
-use Rattle.fir_reset.specs.working.ResetJoins.{any_element}
+use Rattle.fir_meaning.specs.ResetItems.{type_of_field, type_of_element, length_of_vector, of_elements, paths_along, has_access}
+use Rattle.fir_reset.specs.working.ElementPaths.{any_element}
 
 -- the leaves of a field that is found, and of an element, behind their step
 in_named : (x : List ℕ) (fs : Fields) (f : FieldFound) (k : TypeLeaf) → field_named x fs ≡ Some f → In (type_leaves f.data_type) k
@@ -53,7 +53,7 @@ in_elements j (suc n) (suc i) ls k h m =
     in_right (map (under false (element j)) ls) (element_leaves (j + 1) n ls) (under false (element (j + suc i)) k)
     (subst (λ z. In (element_leaves (j + 1) n ls) (under false (element z) k)) same (in_elements (j + 1) n i ls k (omega (arith, h)) m))
 
-in_vector : (t : DataType) (u : DataType) (n i : ℕ) (k : TypeLeaf) → vector_of_type t ≡ Some (u, n) → i < n → In (type_leaves u) k → In (type_leaves t) (under false (element i) k)
+pub in_vector : (t : DataType) (u : DataType) (n i : ℕ) (k : TypeLeaf) → vector_of_type t ≡ Some (u, n) → i < n → In (type_leaves u) k → In (type_leaves t) (under false (element i) k)
 in_vector (vector v m) u n i k e h j =
     let one : DataType × ℕ = (v, m) in
     let other : DataType × ℕ = (u, n) in

@@ -10,18 +10,17 @@ use Rattle.fir_ast.specs.Circuits.{CircuitTree}
 use Rattle.fir_meaning.specs.LeafPaths.{LeafPath}
 use Rattle.fir_meaning.specs.TypeLeaves.{TypeLeaf, type_leaves}
 use Rattle.fir_meaning.specs.NameGroups.{HasNames}
-use Rattle.fir_meaning.specs.TypeGroup.{type_faults}
 use Rattle.fir_reset.specs.declared.item.Step.{Step}
 use Rattle.fir_reset.specs.declared.root.Access.{Access}
 use Rattle.fir_reset.specs.declared.root.Access.TheVariants as access
 use Rattle.fir_reset.specs.declared.root.Root.{Root}
 use Rattle.fir_reset.specs.declared.root.Root.TheVariants as root
-use Rattle.fir_reset.specs.working.ResetItems.{End, is_reset, value_end, leaf_end}
-use Rattle.fir_reset.specs.working.ResetJoins.{any_element}
-use Rattle.fir_reset.specs.working.ResetWalks.{IsReset, IsLeafOf}
+use Rattle.fir_meaning.specs.ResetItems.{End, is_reset, value_end, leaf_end}
+use Rattle.fir_reset.specs.working.ElementPaths.{any_element}
+use Rattle.fir_meaning.specs.ResetWalks.{IsReset, IsLeafOf}
 use Rattle.fir_reset.specs.working.Holding.{path_of}
 use Rattle.fir_reset.specs.working.FirstEnds.{access_behind, end_of_leaf, end_of_value, first_ends}
-use Rattle.fir_reset.proofs.SharedClasses.{others_share}
+use Rattle.fir_reset.proofs.SharedClasses.{differ_share}
 use Rattle.fir_reset.proofs.FirstEndNumbers.{unlike_reset}
 use Rattle.fir_reset.proofs.SidesMeet.{IsLike, LikeLeaf, StandsAmong, IsSide}
 use Rattle.fir_reset.proofs.ReferencePaths.{AllSome}
@@ -78,7 +77,7 @@ module _ (c : CircuitTree) (number : ℕ) (t : DataType) (p : Place) (no : HasNo
       ground l a (inr f) = absurd f
 
 -- of a reference to what is declared, of which all paths lead to leaves of the circuit
-module _ (c : CircuitTree) (names : HasNames c) (clear : type_faults c ≡ []) (number : ℕ) (t : DataType) (place : Place) (paths : List LeafPath) (first : LeafPath) where
+module _ (c : CircuitTree) (names : HasNames c) (number : ℕ) (t : DataType) (place : Place) (paths : List LeafPath) (first : LeafPath) where
   -- it is a leaf of the circuit, with each leaf behind it
   pub record AreOfCircuit : Type 0 where
     pub each : (q : LeafPath) → In paths q → (l : TypeLeaf) → In (type_leaves t) l → IsLeafOf c (leaf_end number place (q ++ l.path) l.ground_type)
@@ -130,7 +129,7 @@ module _ (c : CircuitTree) (names : HasNames c) (clear : type_faults c ≡ []) (
         subst (IsLike c (leaf_here first l)) e
         (record {
           ground_type = like.ground_type;
-          class = λ r. others_share c names clear (leaf_here q k) (leaf_here first l) (of.each q m k j) (of.each first f l i)
+          class = λ r. differ_share c names (leaf_here q k) (leaf_here first l) (of.each q m k j) (of.each first f l i)
               (record {
                 number = number;
                 path = q ++ k.path;

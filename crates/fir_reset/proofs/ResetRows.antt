@@ -1,20 +1,22 @@
 -- Worked circuits, computed: what is joined in them, and the faults of resets that they show.
-use Rattle.std.proofs.Common.{◌≡◌, ℕ, [], ◌∷◌, false, true, Some, refl, inl, inr}
+use Rattle.std.proofs.Common.{◌≡◌, ℕ, [], ◌∷◌, ◌++◌, false, true, Some, refl, inl, inr}
 use Rattle.std.specs.Prelude.{codes}
 use Rattle.std.specs.Fmt.{digits}
 use Rattle.fir_bits.specs.declared.operators.PrimOp.TheVariants as op
+use Rattle.fir_base.specs.Lists.{In}
 use Rattle.fir_ast.specs.Types.{DataType, uint, clock, reset, async_reset, bundle, vector, no_fields}
 use Rattle.fir_ast.specs.Expressions.{no_parts, subfield, subindex, subaccess}
 use Rattle.fir_ast.specs.Statements.{register, instance}
 use Rattle.fir_ast.specs.Circuits.{CircuitTree}
 use Rattle.fir_pass.specs.Faults.{E18}
 use Rattle.fir_meaning.specs.LeafPaths.{LeafPath, named, element}
+use Rattle.fir_meaning.specs.TypeLeaves.{type_leaves}
 use Rattle.fir_meaning.specs.Flows as flow
 use Rattle.fir_meaning.specs.TypedScopes.{Known}
 use Rattle.fir_meaning.proofs.SmallTrees.{at, name_at, input, part_of, ref, picked_of, one, wire_at, node_at, assign_to, assign, module_at, circuit, main_only}
-use Rattle.fir_reset.specs.working.ResetItems.{End, leaf_end, value_end}
-use Rattle.fir_reset.specs.working.ResetJoins.{Join, joins, AreElements}
-use Rattle.fir_reset.specs.working.ResetWalks.{IsLeafOf, ShowsResets}
+use Rattle.fir_meaning.specs.ResetItems.{End, leaf_item, leaf_end, value_end}
+use Rattle.fir_meaning.specs.ResetJoins.{Join, joins, AreElements}
+use Rattle.fir_meaning.specs.ResetWalks.{IsLeafOf, ShowsResets}
 use Rattle.fir_reset.proofs.EndTests.{ends_distinct}
 
 abbrev leaf : ℕ → ℕ → ℕ → LeafPath → DataType → End
@@ -108,11 +110,12 @@ second_element = record {
 one_leaf : AreElements (element_leaf 0) (element_leaf 1)
 one_leaf = record {
   number = 0;
-  path = named (codes "v") ∷ element 0 ∷ [];
-  other = named (codes "v") ∷ element 1 ∷ [];
+  vector = named (codes "v") ∷ [];
+  one = 0;
+  other = 1;
+  rest = [];
   one_is = refl;
   other_is = refl;
-  same = refl;
   ground_type = refl;
   place = refl;
 }
@@ -133,6 +136,107 @@ elements_shown = record {
   };
   is = refl;
 }
+
+-- of a vector of vectors, leaves in which two numbers differ are joined through a third leaf
+abbrev pub within : CircuitTree
+within =
+    main_only (input 3 11 (codes "u") (uint (Some 1)) ∷ input 4 11 (codes "a") async_reset ∷ [])
+    (wire_at 5 10 (codes "r") (vector (vector reset 2) 2)
+    ∷ assign_to 6 5 (codes "r") (subindex (at 6 6) (at 6 7) 0 (subindex (at 6 9) (at 6 10) 0 no_parts)) (ref 6 16 (codes "u"))
+    ∷ assign_to 7 5 (codes "r") (subindex (at 7 6) (at 7 7) 1 (subindex (at 7 9) (at 7 10) 1 no_parts)) (ref 7 16 (codes "a")) ∷ [])
+
+abbrev inner_path : ℕ → ℕ → LeafPath
+inner_path i j = named (codes "r") ∷ element i ∷ element j ∷ []
+
+abbrev inner_leaf : ℕ → ℕ → End
+inner_leaf i j = leaf 0 5 10 (inner_path i j) reset
+
+pub within_joins : joins within ≡ join (inner_leaf 0 0) u_leaf ∷ join (inner_leaf 1 1) a_leaf ∷ []
+within_joins = refl
+
+abbrev inner_known : Known
+inner_known = record { name = codes "r"; flow = flow.both; data_type = Some (vector (vector reset 2) 2) }
+
+inner_is_leaf : (i j : ℕ) → In (type_leaves (vector (vector reset 2) 2)) (record { path = element i ∷ element j ∷ []; flip = false; ground_type = reset })
+    → IsLeafOf within (inner_leaf i j)
+inner_is_leaf i j m = record {
+  number = 0;
+  inside = _;
+  is_module = refl;
+  declared = inner_known;
+  is_declared = inr (inr (inl refl));
+  data_type = vector (vector reset 2) 2;
+  has_type = refl;
+  leaf = record { path = element i ∷ element j ∷ []; flip = false; ground_type = reset };
+  is_leaf = m;
+  item = refl;
+  ground_type = refl;
+  place = refl;
+}
+
+in_first_row : AreElements (inner_leaf 0 0) (inner_leaf 0 1)
+in_first_row = record {
+  number = 0;
+  vector = named (codes "r") ∷ element 0 ∷ [];
+  one = 0;
+  other = 1;
+  rest = [];
+  one_is = refl;
+  other_is = refl;
+  ground_type = refl;
+  place = refl;
+}
+
+in_second_column : AreElements (inner_leaf 0 1) (inner_leaf 1 1)
+in_second_column = record {
+  number = 0;
+  vector = named (codes "r") ∷ [];
+  one = 0;
+  other = 1;
+  rest = element 1 ∷ [];
+  one_is = refl;
+  other_is = refl;
+  ground_type = refl;
+  place = refl;
+}
+
+pub within_shown : ShowsResets within (record { code = E18; place = at 5 10; evidence = codes "resets u - r[0][0] - r[0][1] - r[1][1] - a" })
+unfolding digits
+within_shown = record {
+  begins = u_leaf;
+  first = inner_leaf 0 0;
+  others = inner_leaf 0 1 ∷ inner_leaf 1 1 ∷ [];
+  ends = a_leaf;
+  walk = record {
+    uint_end = (Some 1, refl);
+    resets = (refl, (refl, (refl, tt)));
+    async_end = refl;
+    chain = (
+      inr (inl (inl refl)),
+      (
+        inr (inr (inner_is_leaf 0 0 (inl refl), inner_is_leaf 0 1 (inr (inl refl)), in_first_row)),
+        (
+          inr (inr (inner_is_leaf 0 1 (inr (inl refl)), inner_is_leaf 1 1 (inr (inr (inr (inl refl)))), in_second_column)),
+          (inl (inr (inl refl)), tt),
+        ),
+      ),
+    );
+    once = ends_distinct (u_leaf ∷ inner_leaf 0 0 ∷ inner_leaf 0 1 ∷ inner_leaf 1 1 ∷ a_leaf ∷ []) refl;
+  };
+  is = refl;
+}
+
+-- alone they are no elements of one vector
+pub far_apart : AreElements (inner_leaf 0 0) (inner_leaf 1 1) → ⊥
+far_apart e = by e.number e.vector e.one_is e.other_is
+  where
+    by : (number : ℕ) (front : LeafPath) → leaf_item 0 (inner_path 0 0) ≡ leaf_item number (front ++ element e.one ∷ e.rest)
+        → leaf_item 0 (inner_path 1 1) ≡ leaf_item number (front ++ element e.other ∷ e.rest) → ⊥
+    by number [] h i = absurd (cc)
+    by number (s ∷ []) h i = absurd (cc)
+    by number (s ∷ t ∷ []) h i = absurd (cc)
+    by number (s ∷ t ∷ u ∷ []) h i = absurd (cc)
+    by number (s ∷ t ∷ u ∷ v ∷ front) h i = absurd (cc)
 
 -- what an index picks is each element; where it is no Reset, also the expression
 abbrev pub picked : CircuitTree

@@ -18,9 +18,9 @@ use Rattle.fir_reset.specs.declared.root.Access.{Access}
 use Rattle.fir_reset.specs.declared.root.Access.TheVariants as access
 use Rattle.fir_reset.specs.declared.root.Root.{Root}
 use Rattle.fir_reset.specs.declared.root.Root.TheVariants as root
-use Rattle.fir_reset.specs.working.ResetItems.{End, is_reset}
-use Rattle.fir_reset.specs.working.ResetJoins.{Join, each_with_each}
-use Rattle.fir_reset.specs.working.ResetWalks.{IsReset, Joined}
+use Rattle.fir_meaning.specs.ResetItems.{End, is_reset}
+use Rattle.fir_meaning.specs.ResetJoins.{Join, each_with_each}
+use Rattle.fir_meaning.specs.ResetWalks.{IsReset, Joined}
 use Rattle.fir_reset.specs.working.BuiltGraphs.{Stands}
 use Rattle.fir_reset.specs.working.ResetGraphs.{IsJoined}
 use Rattle.fir_reset.specs.working.Holding.{path_of, Extends, Holds, HasNumber, IsJoinedIn, HoldsMore}

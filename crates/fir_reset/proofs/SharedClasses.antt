@@ -1,12 +1,13 @@
 -- One leaf of two elements has one class, and so have a leaf of an instance and that of its module's port.
-use Rattle.std.proofs.Common.{◌≡◌, ℕ, List, [], ◌∷◌, map, Option, Some, None, refl, inl, inr, ⊎_elim, ap, sym, ◌∙◌, subst, arith}
+use Rattle.std.proofs.Common.{◌≡◌, ℕ, List, [], ◌∷◌, ◌++◌, map, Option, Some, None, refl, inl, inr, ⊎_elim, ap, sym, ◌∙◌, subst, arith}
 use Rattle.std.specs.Prelude.{slice_get}
+use Rattle.std.proofs.lemmas.List.{map-append}
 use Rattle.fir_base.specs.Lists.{In}
 use Rattle.fir_base.proofs.Elements.{get_in}
 use Rattle.fir_base.proofs.Members.{in_right, in_either, in_map_from, in_flat_map_from}
 use Rattle.fir_ast.specs.Statements.{PlacedName, Statement, wire, register, node, instance, memory, when, connect, partial_connect, invalid, skip, Block, done, then}
 use Rattle.fir_ast.specs.Circuits.{ModuleTree, CircuitTree}
-use Rattle.fir_meaning.specs.LeafPaths.{named}
+use Rattle.fir_meaning.specs.LeafPaths.{named, element}
 use Rattle.fir_meaning.specs.TypeLeaves.{TypeLeaf, type_leaves}
 use Rattle.fir_meaning.specs.Components.{Declaration, Declarations}
 use Rattle.fir_meaning.specs.Components as component
@@ -15,9 +16,11 @@ use Rattle.fir_meaning.specs.ComponentTypes.{instance_bundle}
 use Rattle.fir_meaning.specs.NameGroups.{HasNames}
 use Rattle.fir_meaning.specs.TypeGroup.{type_faults}
 use Rattle.fir_meaning.proofs.GrownDeclarations.{grows_block}
-use Rattle.fir_reset.specs.working.ResetItems.{End, leaf_item, leaf_end}
-use Rattle.fir_reset.specs.working.ResetJoins.{Join, ResetModule, any_element, numbered_module, port_place, instance_joins, reset_modules}
+use Rattle.fir_meaning.specs.ResetItems.{End, leaf_item, leaf_end}
+use Rattle.fir_reset.specs.working.ElementPaths.{any_element, DifferInElements}
+use Rattle.fir_meaning.specs.ResetJoins.{Join, ResetModule, AreElements, numbered_module, port_place, instance_joins, reset_modules}
 use Rattle.fir_reset.specs.working.Meetings.{Meeting, Sides, connected, partly_connected, named_by, instanced, joins_of, meeting, meetings_in, meetings_in_block, meetings}
+use Rattle.fir_meaning.specs.ResetWalks.{IsLeafOf}
 use Rattle.fir_reset.specs.working.LeafClasses.{offset_in, offset_where, class_there, class_in, class_of}
 use Rattle.fir_reset.specs.working.ResetLaws.{OthersShareClasses}
 use Rattle.fir_reset.proofs.FreshScopes.{sound}
@@ -41,14 +44,29 @@ module _ (c : CircuitTree) (at : ℕ) (m : ModuleTree) (e f : End) (s : Spot c a
       ∙ ap (class_there at c.modules s.stands.place there.0 s.declared.component) (one ∙ ap (λ (k : ℕ). Some k) offset ∙ sym where_other)
       ∙ sym (there.1 t.leaf.path) ∙ ap (λ (d : Declaration). class_in at c.modules (Some m) (named d.named.name ∷ t.leaf.path)) same.0 ∙ sym (class_here c at m f t)
 
-pub others_share : (c : CircuitTree) → HasNames c → type_faults c ≡ [] → OthersShareClasses c
-others_share c names clear e f l m h =
+pub differ_share : (c : CircuitTree) → HasNames c → (e f : End) → IsLeafOf c e → IsLeafOf c f → DifferInElements e f → class_of c e.item ≡ class_of c f.item
+differ_share c names e f l m h =
     let number : m.number ≡ l.number = item_number c f m h.number h.other h.other_is ∙ sym (item_number c e l h.number h.path h.one_is) in
     let s = spot c names e l in
     let t = spot_at c names f m l.number l.inside number l.is_module in
     class_shared c l.number l.inside e f s t
     (ap (map any_element) (sym (item_path c l.number l.inside e s h.number h.path h.one_is)) ∙ h.same
     ∙ ap (map any_element) (item_path c l.number l.inside f t h.number h.other h.other_is))
+
+one_but_for_elements : (e f : End) → AreElements e f → DifferInElements e f
+one_but_for_elements e f h = record {
+  number = h.number;
+  path = h.vector ++ element h.one ∷ h.rest;
+  other = h.vector ++ element h.other ∷ h.rest;
+  one_is = h.one_is;
+  other_is = h.other_is;
+  same = map-append any_element h.vector (element h.one ∷ h.rest) ∙ sym (map-append any_element h.vector (element h.other ∷ h.rest));
+  ground_type = h.ground_type;
+  place = h.place;
+}
+
+pub others_share : (c : CircuitTree) → HasNames c → type_faults c ≡ [] → OthersShareClasses c
+others_share c names clear e f l m h = differ_share c names e f l m (one_but_for_elements e f h)
 
 -- the declaration of an instance that is met in a module
 record Meets (m : ResetModule) (ds : Declarations) (x : Meeting) (n : PlacedName) (name : List ℕ) : Type 0 where

@@ -11,8 +11,8 @@ use Rattle.fir_meaning.specs.TypeGroup.{type_faults}
 use Rattle.fir_meaning.specs.TypeLeaves.{TypeLeaf, type_leaves}
 use Rattle.fir_reset.specs.working.FoundKinds.{AllButShared, IsShared}
 use Rattle.fir_reset.specs.working.Meetings.{Meeting, Sides, connected, partly_connected, named_by, instanced, joins_of, meeting, meetings, met_joins}
-use Rattle.fir_reset.specs.working.ResetItems.{leaf_end}
-use Rattle.fir_reset.specs.working.ResetJoins.{Join, ResetModule, instance_joins, numbered_module, port_place}
+use Rattle.fir_meaning.specs.ResetItems.{leaf_end}
+use Rattle.fir_meaning.specs.ResetJoins.{Join, ResetModule, instance_joins, numbered_module, port_place}
 use Rattle.fir_reset.proofs.MeetingJoins.{meetings_join}
 use Rattle.fir_reset.proofs.SharedClasses.{instances_share}
 

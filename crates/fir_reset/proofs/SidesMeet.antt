@@ -10,9 +10,10 @@ use Rattle.fir_reset.specs.declared.graph.Kind.{Kind}
 use Rattle.fir_reset.specs.declared.graph.Kind.TheVariants as kind
 use Rattle.fir_reset.specs.declared.joined.Joined.{Joined as JoinedOfCode}
 use Rattle.fir_reset.specs.declared.root.Root.{Root}
-use Rattle.fir_reset.specs.working.ResetItems.{End}
-use Rattle.fir_reset.specs.working.ResetJoins.{Join, each_with_each, joins, any_element}
-use Rattle.fir_reset.specs.working.ResetWalks.{IsReset, IsLeafOf}
+use Rattle.fir_meaning.specs.ResetItems.{End}
+use Rattle.fir_reset.specs.working.ElementPaths.{any_element}
+use Rattle.fir_meaning.specs.ResetJoins.{Join, each_with_each, joins}
+use Rattle.fir_meaning.specs.ResetWalks.{IsReset, IsLeafOf}
 use Rattle.fir_reset.specs.working.LeafClasses.{class_of}
 use Rattle.fir_reset.specs.working.BuiltGraphs.{HasKind, HasReset, StandsFor}
 use Rattle.fir_reset.specs.working.Holding.{Holds, HoldsMore}

@@ -12,7 +12,7 @@ use Rattle.fir_types.specs.declared.findings.Findings.{Findings}
 use Rattle.fir_types.specs.working.TypedModules.{IsTyped}
 use Rattle.fir_reset.specs.working.Meetings.{Meeting, Sides, connected, partly_connected, named_by, instanced, meeting, meetings_in, meetings_in_block}
 use Rattle.fir_reset.specs.working.ModuleMeets.{module_meetings}
-use Rattle.fir_reset.specs.working.ResetJoins.{ResetModule, reset_modules}
+use Rattle.fir_meaning.specs.ResetJoins.{ResetModule, reset_modules}
 use Rattle.fir_reset.specs.working.Resolved.{StandsIn}
 use Rattle.fir_reset.proofs.ModuleNumbers.{is_among}
 use Rattle.fir_reset.proofs.PortsInFront.{Begins, begins_behind, begins_block, begins_through}

@@ -9,8 +9,8 @@ use Rattle.fir_ast.specs.declared.fault.ResetStep.{ResetStep}
 use Rattle.fir_ast.specs.Texts.{reset_step_text, separated}
 use Rattle.fir_pass.specs.Faults.{Fault, fault_of, E18}
 use Rattle.fir_reset.specs.declared.item.End.{End as EndOfCode}
-use Rattle.fir_reset.specs.working.ResetItems.{End}
-use Rattle.fir_reset.specs.working.ResetWalks.{item_text, items_text, items_of}
+use Rattle.fir_meaning.specs.ResetItems.{End}
+use Rattle.fir_meaning.specs.ResetWalks.{item_text, items_text, items_of}
 use Rattle.fir_reset.specs.working.FoundKinds.{HasEnds, TellsWalk}
 use Rattle.fir_reset.specs.working.Holding.{AreEnds, IsEnd, item_of}
 use Rattle.fir_reset.specs.working.StepTexts.{text_at, text_where}

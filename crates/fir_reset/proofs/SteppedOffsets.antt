@@ -6,7 +6,7 @@ use Rattle.fir_ast.specs.Types.{DataType, uint, sint, clock, reset, async_reset,
 use Rattle.fir_meaning.specs.LeafPaths.{LeafPath, Step, named}
 use Rattle.fir_meaning.specs.Reaching.{field_of_type}
 use Rattle.fir_meaning.specs.TypeKinds.{FieldFound, field_named}
-use Rattle.fir_meaning.specs.working.SharedLeaves.{shared_count}
+use Rattle.fir_meaning.specs.SharedLeaves.{shared_count}
 use Rattle.fir_type_table.specs.working.Saturated.{saturated}
 use Rattle.fir_type_table.specs.working.Sizes.{shared_before, shared_before_field}
 use Rattle.fir_types.specs.declared.found.Found.{Found}

@@ -1,4 +1,4 @@
--- A walk of the graph is one of the circuit, and tells its fault.
+-- A walk of the graph is one of the circuit, and one of the circuit tells its fault.
 use Rattle.std.proofs.Common.{◌≡◌, ℕ, zero, suc, ◌+◌, ◌-◌, ◌<◌, ◌≤◌, List, [], ◌∷◌, ◌++◌, Some, length, refl, sym, ap, ◌∙◌, subst, inl, inr, ◌⊎◌, ⊎_elim, arith, length-append, Vec, Global}
 use Rattle.std.specs.Prelude.{slice_get}
 use Rattle.std.proofs.lemmas.Bool.{cases_lt}
@@ -6,19 +6,21 @@ use Rattle.std.proofs.lemmas.Option.{same_Some, slice_get_within}
 use Rattle.fir_base.specs.Lists.{In}
 use Rattle.fir_base.proofs.Elements.{get_left, get_behind, there, number_of}
 use Rattle.fir_base.proofs.Each.{all_from}
+use Rattle.fir_graph.proofs.Positions.{distinct_from}
 use Rattle.fir_ast.specs.Circuits.{CircuitTree}
 use Rattle.fir_pass.specs.Faults.{Fault}
 use Rattle.fir_reset.specs.declared.graph.Kind.{Kind}
 use Rattle.fir_reset.specs.declared.graph.Kind.TheVariants.{Unsigned, Asynchronous, Reset}
-use Rattle.fir_reset.specs.working.ResetItems.{End}
-use Rattle.fir_reset.specs.working.ResetJoins.{Join}
-use Rattle.fir_reset.specs.working.ResetWalks.{IsReset, IsAsyncReset, IsUInt, Joined, IsChain, IsResetWalk, ShowsResets, reset_fault}
+use Rattle.fir_meaning.specs.ResetItems.{End}
+use Rattle.fir_meaning.specs.ResetJoins.{Join}
+use Rattle.fir_meaning.specs.ResetWalks.{IsReset, IsAsyncReset, IsUInt, Joined, IsChain, IsResetWalk, ShowsResets, reset_fault}
 use Rattle.fir_reset.specs.working.ResetGraphs.{IsResetWalk as IsNumberWalk}
 use Rattle.fir_reset.specs.working.BuiltGraphs.{IsBuilt}
+use Rattle.fir_reset.specs.working.DirectWalks.{IsWalkOfEnds}
 use Rattle.fir_reset.specs.working.FoundKinds.{HasEnds, TellsWalk}
 use Rattle.fir_reset.proofs.EndKinds.{no_uint_async}
 use Rattle.fir_reset.proofs.JoinedEnds.{joined_back}
-use Rattle.fir_reset.proofs.ListParts.{distinct_from, Parts, parts}
+use Rattle.fir_reset.proofs.ListParts.{Parts, parts}
 use Rattle.fir_reset.proofs.NumberedEnds.{ends_long, NumberAt, number_at, all_ends}
 
 -- a chain where each is joined to the one at the next place
@@ -67,17 +69,6 @@ module _ (c : CircuitTree) (js : List Join) (ends : List End) (graph : List (Vec
           (λ (k : slice_get kinds v.0 ≡ Some Reset). let same : Reset ≡ Asynchronous = same_Some Reset Asynchronous (sym k ∙ root) in cc)
           (λ (k : slice_get kinds u.0 ≡ Some Reset). let same : Reset ≡ Unsigned = same_Some Reset Unsigned (sym k ∙ unsigned) in cc)
           (built.meets v.0 u.0 (w.joined 0 u.0 v.0 u.1 v.1))
-
-  told_by : (es : List End) → HasEnds ends walk es → Parts es → (f : Fault) × TellsWalk ends walk f
-  told_by es has p = (
-    reset_fault p.first p.second p.others p.last,
-    record { begins = p.first; first = p.second; others = p.others; last = p.last; has = subst (HasEnds ends walk) p.is has; is = refl },
-  )
-
-  told : (f : Fault) × TellsWalk ends walk f
-  told =
-      let es = all_ends ends walk (λ i x h. omega (arith, kind_within i x h, built.long)) in
-      told_by es.0 es.1 (parts es.0 (omega (arith, three_or_more, ends_long ends walk es.0 es.1)))
 
   module _ (begins first : End) (others : List End) (last : End) (has : HasEnds ends walk (begins ∷ first ∷ others ++ last ∷ [])) where
     long : length walk ≡ length others + 3
@@ -137,10 +128,25 @@ module _ (c : CircuitTree) (js : List Join) (ends : List End) (graph : List (Vec
           once = distinct_from (begins ∷ first ∷ others ++ last ∷ []) once;
         }
 
--- each of its numbers has an end
-pub walk_has_ends : (c : CircuitTree) (js : List Join) (ends : List End) (graph : List (Vec ℕ Global)) (kinds : List Kind) (walk : List ℕ) → IsBuilt c js ends graph kinds → IsNumberWalk graph kinds walk → (f : Fault) × TellsWalk ends walk f
-walk_has_ends = told
+-- each of its numbers has an end, and they are a walk
+pub walks_ends : (c : CircuitTree) (js : List Join) (ends : List End) (graph : List (Vec ℕ Global)) (kinds : List Kind) (walk : List ℕ) → IsBuilt c js ends graph kinds → IsNumberWalk graph kinds walk → IsWalkOfEnds c ends walk
+walks_ends c js ends graph kinds walk built w =
+    let es = all_ends ends walk (λ i x h. omega (arith, kind_within c js ends graph kinds walk built w i x h, built.long)) in
+    by es.0 es.1 (parts es.0 (omega (arith, three_or_more c js ends graph kinds walk built w, ends_long ends walk es.0 es.1)))
+  where
+    by : (es : List End) → HasEnds ends walk es → Parts es → IsWalkOfEnds c ends walk
+    by es has p =
+        let all = subst (HasEnds ends walk) p.is has in
+        record { begins = p.first; first = p.second; others = p.others; last = p.last; has = all; is = walks c js ends graph kinds walk built w p.first p.second p.others p.last all }
 
-pub shows_walk : (c : CircuitTree) (js : List Join) (ends : List End) (graph : List (Vec ℕ Global)) (kinds : List Kind) (walk : List ℕ) (f : Fault) → IsBuilt c js ends graph kinds → IsNumberWalk graph kinds walk → TellsWalk ends walk f → ShowsResets c f
-shows_walk c js ends graph kinds walk f built w t =
-    record { begins = t.begins; first = t.first; others = t.others; ends = t.last; walk = walks c js ends graph kinds walk built w t.begins t.first t.others t.last t.has; is = t.is }
+-- the fault that such a walk tells, and shows
+pub told_walk : (c : CircuitTree) (ends : List End) (walk : List ℕ) → IsWalkOfEnds c ends walk → (f : Fault) × TellsWalk ends walk f × ShowsResets c f
+told_walk c ends walk w =
+    let f = reset_fault w.begins w.first w.others w.last in (
+      f,
+      record { begins = w.begins; first = w.first; others = w.others; last = w.last; has = w.has; is = refl },
+      record { begins = w.begins; first = w.first; others = w.others; ends = w.last; walk = w.is; is = refl },
+    )
+
+pub long_walk : (c : CircuitTree) (ends : List End) (walk : List ℕ) → IsWalkOfEnds c ends walk → 2 ≤ length walk
+long_walk c ends walk w = omega (arith, ends_long ends walk (w.begins ∷ w.first ∷ w.others ++ w.last ∷ []) w.has)

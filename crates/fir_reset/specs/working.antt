@@ -2,9 +2,7 @@
 pub mod ResetGraphs
 pub mod Reaching
 pub mod Walking
-pub mod ResetItems
-pub mod ResetJoins
-pub mod ResetWalks
+pub mod ElementPaths
 pub mod Meetings
 pub mod LeafClasses
 pub mod ResetLaws
@@ -13,6 +11,7 @@ pub mod FoundKinds
 pub mod PathKeys
 pub mod DeclaredLeaves
 pub mod Holding
+pub mod DirectWalks
 pub mod Adding
 pub mod Meets
 pub mod Resolved

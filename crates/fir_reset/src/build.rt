@@ -9,7 +9,7 @@ ghost use Rattle.fir_types.specs.working.TypedModules.{IsTyped};
 ghost use Rattle.fir_reset.specs.working.Holding.{Holds};
 ghost use Rattle.fir_reset.specs.working.Meetings.{Meeting, met_joins};
 ghost use Rattle.fir_reset.specs.working.Meets.{AreMeets};
-ghost use Rattle.fir_reset.specs.working.ResetJoins.{Join};
+ghost use Rattle.fir_meaning.specs.ResetJoins.{Join};
 ghost use Rattle.fir_reset.specs.working.Resolved.{AllStandIn};
 ghost use Rattle.fir_reset.specs.working.WholeGraphs.{IsWhole};
 

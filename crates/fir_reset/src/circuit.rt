@@ -8,7 +8,7 @@ ghost use Rattle.fir_types.specs.working.ModuleNotes.{module_notes};
 ghost use Rattle.fir_types.specs.working.TypedModules.{IsTyped};
 ghost use Rattle.fir_reset.specs.working.Meets.{Ahead, AreMeets};
 ghost use Rattle.fir_reset.specs.working.ModuleMeets.{AreMeetsByModule, module_meetings};
-ghost use Rattle.fir_reset.specs.working.ResetJoins.{ResetModule, reset_modules};
+ghost use Rattle.fir_meaning.specs.ResetJoins.{ResetModule, reset_modules};
 
 use crate::meet::Meet;
 use crate::meets::{Walk, in_block};

@@ -5,9 +5,10 @@ ghost use Rattle.fir_ast.specs.View.{circuit_of};
 ghost use Rattle.fir_pass.specs.Faults.{fault_of};
 ghost use Rattle.fir_pass.specs.Law.{IfFault};
 ghost use Rattle.fir_reset.specs.working.Inferred.{AreInferred};
-ghost use Rattle.fir_reset.specs.working.ResetWalks.{ShowsResets};
+ghost use Rattle.fir_meaning.specs.ResetWalks.{ShowsResets};
 
 use crate::build::joined_of;
+use crate::direct::without_detours;
 use crate::marked::map_of;
 use crate::reset_map::ResetMap;
 use crate::search::find_resets;
@@ -30,7 +31,10 @@ pub fn infer_resets(alloc: Global, typed: &Typed) -> Result<ResetMap, Refused<Fi
     let joined = joined_of(alloc, named, findings)?;
     match find_resets(alloc, &joined.graph, &joined.kinds) {
         Ok(marks) => Ok(map_of(alloc, named, findings, &joined.ends, &marks)?),
-        Err(Refused::Fault(walk)) => Err(Refused::Fault(told(alloc, &joined.ends, &walk.nodes)?)),
+        Err(Refused::Fault(walk)) => {
+            let nodes = without_detours(alloc, &joined.ends, &walk.nodes)?;
+            Err(Refused::Fault(told(alloc, &joined.ends, &nodes)?))
+        }
         Err(Refused::Memory) => Err(Refused::Memory),
     }
 }

@@ -1,6 +1,6 @@
 //! The graph of a circuit's resets, as it is built.
 
-ghost use Rattle.std.specs.Prelude.{◌≡◌, ◌⊎◌, Some, IfOk, OnOk, List, [], length, slice_get};
+ghost use Rattle.std.specs.Prelude.{◌≡◌, ◌<◌, ◌+◌, ◌⊎◌, Some, IfOk, OnOk, List, [], length, slice_get};
 ghost use Rattle.fir_ast.specs.declared.place.Place.{Place as MeantPlace};
 ghost use Rattle.fir_ast.specs.Circuits.{CircuitTree};
 ghost use Rattle.fir_ast.specs.View.{circuit_of};
@@ -8,17 +8,18 @@ ghost use Rattle.fir_meaning.specs.NameGroups.{HasNames};
 ghost use Rattle.fir_meaning.specs.TypeGroup.{type_faults};
 ghost use Rattle.fir_reset.specs.working.Adding.{AddsEnd, AddsReset};
 ghost use Rattle.fir_reset.specs.working.DeclaredLeaves.{IsNoInstance};
+ghost use Rattle.fir_reset.specs.working.ElementPaths.{firsts_behind};
 ghost use Rattle.fir_reset.specs.working.Holding.{HasNumber, Holds, IsEnd, IsJoinedIn, path_of, reset_end};
 ghost use Rattle.fir_reset.specs.working.LeafClasses.{class_of};
 ghost use Rattle.fir_reset.specs.working.PathKeys.{path_key};
-ghost use Rattle.fir_reset.specs.working.ResetItems.{End as Meant, leaf_item};
-ghost use Rattle.fir_reset.specs.working.ResetJoins.{Join};
-ghost use Rattle.fir_reset.specs.working.ResetWalks.{IsLeafOf, IsReset, Joined as AreJoined};
+ghost use Rattle.fir_meaning.specs.ResetItems.{End as Meant, leaf_item};
+ghost use Rattle.fir_meaning.specs.ResetJoins.{Join};
+ghost use Rattle.fir_meaning.specs.ResetWalks.{IsLeafOf, IsReset, Joined as AreJoined};
 
 use crate::edges::put_both;
 use crate::graph::Kind;
 use crate::item::{End, Item, Step};
-use crate::key::{key_of, with_first_elements};
+use crate::key::{key_of, with_firsts_behind};
 use crate::leaf_place::{behind_first, instance_of, place_of};
 use fir_ast::Place;
 use fir_base::{MemoryOut, Name};
@@ -35,9 +36,6 @@ pub struct Joined<'a> {
     pub graph: Vec<Vec<usize>>,
     /// The number of each Reset, by the key of its path.
     pub numbers: BTreeMap<Name, usize>,
-    /// The first Reset of each class that is no instance's, by the key of its path with the first element for
-    /// each.
-    pub firsts: BTreeMap<Name, usize>,
 }
 
 impl<'a> Joined<'a> {
@@ -50,12 +48,11 @@ impl<'a> Joined<'a> {
             kinds: Vec::new(alloc),
             graph: Vec::new(alloc),
             numbers: BTreeMap::new(alloc),
-            firsts: BTreeMap::new(alloc),
         }
     }
 
     /// The number of a leaf of a module that is a Reset. Where it is new it is joined to one of its class: one
-    /// of an instance to that of its module's port, another to the first that differs in its elements alone.
+    /// of an instance to that of its module's port, another to the same leaf of a vector's first element.
     pub fn reset(
         &mut self,
         alloc: Global,
@@ -92,7 +89,8 @@ impl<'a> Joined<'a> {
         Ok(())
     }
 
-    /// The number of a Reset that is no instance's.
+    /// The number of a Reset that is no instance's. The one with the first element for each is always met, and
+    /// from there one element is set after the other.
     fn own_reset(
         &mut self,
         alloc: Global,
@@ -102,15 +100,54 @@ impl<'a> Joined<'a> {
     ) -> Result<usize, MemoryOut>
         ensures { (c : CircuitTree) (js : List Join) (before : Holds c js self.old) → HasNames c → type_faults c ≡ [] → IsLeafOf c (reset_end module_number (path_of path.now) place) → IsNoInstance c module_number (path_of path.now) → IfOk result (HasNumber before (reset_end module_number (path_of path.now) place) self.new) }
     {
-        let first_path = with_first_elements(alloc, path)?;
-        let first_key = key_of(alloc, module_number, first_path.as_slice())?;
-        if let Some(first) = self.firsts.get(&first_key) {
-            let first = *first;
-            return self.reset_beside(alloc, module_number, path, place, first);
+        let mut number = self.first_reset(alloc, module_number, path, place)?;
+        for position in 0..path.len() {
+            number = self.next_reset(alloc, module_number, path, position, place, number)?;
         }
-        let number = self.push_reset(alloc, module_number, path, place)?;
-        self.firsts.insert(first_key, number)?;
         Ok(number)
+    }
+
+    /// The number of the Reset that has the first element for each in the path of one that is no instance's.
+    /// Where it is new it is joined to nothing.
+    fn first_reset(
+        &mut self,
+        alloc: Global,
+        module_number: usize,
+        path: &[Step<'a>],
+        place: Place,
+    ) -> Result<usize, MemoryOut>
+        ensures { (c : CircuitTree) (js : List Join) (before : Holds c js self.old) → HasNames c → type_faults c ≡ [] → IsLeafOf c (reset_end module_number (path_of path.now) place) → IsNoInstance c module_number (path_of path.now) → IfOk result (HasNumber before (reset_end module_number (firsts_behind 0 (path_of path.now)) place) self.new) }
+    {
+        let first = with_firsts_behind(alloc, 0, path)?;
+        let key = key_of(alloc, module_number, first.as_slice())?;
+        if let Some(number) = self.numbers.get(&key) {
+            return Ok(*number);
+        }
+        self.push_reset(alloc, module_number, first.as_slice(), place)
+    }
+
+    /// The number of the Reset that has the first element for each behind a position of a path, where that
+    /// which has it at the position too has this number.
+    fn next_reset(
+        &mut self,
+        alloc: Global,
+        module_number: usize,
+        path: &[Step<'a>],
+        position: usize,
+        place: Place,
+        number: usize,
+    ) -> Result<usize, MemoryOut>
+        requires { position < length path.now }
+        ensures { (c : CircuitTree) (js : List Join) (before : Holds c js self.old) → HasNames c → type_faults c ≡ [] → IsLeafOf c (reset_end module_number (path_of path.now) place) → slice_get before.ends number ≡ Some (reset_end module_number (firsts_behind position (path_of path.now)) place) → IfOk result (HasNumber before (reset_end module_number (firsts_behind (position + 1) (path_of path.now)) place) self.new) }
+    {
+        let Step::Element(index) = path[position] else {
+            return Ok(number);
+        };
+        if index == 0 {
+            return Ok(number);
+        }
+        let steps = with_firsts_behind(alloc, position + 1, path)?;
+        self.reset_beside(alloc, module_number, steps.as_slice(), place, number)
     }
 
     /// The number of a Reset; where it is new it is joined to another of its class.

@@ -1,10 +1,10 @@
 //! Paths as the keys of tables.
 
-ghost use Rattle.std.specs.Prelude.{◌≡◌, ◌++◌, IfOk, OnOk, map};
+ghost use Rattle.std.specs.Prelude.{◌≡◌, ◌≤◌, ◌++◌, IfOk, OnOk, length};
 ghost use Rattle.fir_meaning.specs.LeafPaths.{element, named};
 ghost use Rattle.fir_reset.specs.working.Holding.{path_of, step_of};
 ghost use Rattle.fir_reset.specs.working.PathKeys.{key_byte, number_key, path_key, step_key};
-ghost use Rattle.fir_reset.specs.working.ResetJoins.{any_element};
+ghost use Rattle.fir_reset.specs.working.ElementPaths.{any_element, firsts_behind};
 
 use crate::item::Step;
 use fir_base::{MemoryOut, Name};
@@ -22,15 +22,20 @@ pub fn key_of(alloc: Global, module_number: usize, path: &[Step]) -> Result<Name
     Ok(Name::from_vec(key))
 }
 
-/// The path with the first element for each.
-pub fn with_first_elements<'a>(alloc: Global, path: &[Step<'a>]) -> Result<Vec<Step<'a>>, MemoryOut>
-    ensures { IfOk result (λ p. path_of p.items ≡ map any_element (path_of path.now)) }
+/// The path with the first element for each behind so many steps.
+pub fn with_firsts_behind<'a>(
+    alloc: Global,
+    kept: usize,
+    path: &[Step<'a>],
+) -> Result<Vec<Step<'a>>, MemoryOut>
+    requires { kept ≤ length path.now }
+    ensures { IfOk result (λ steps. path_of steps.items ≡ firsts_behind kept (path_of path.now)) }
 {
-    let mut firsts = Vec::new(alloc);
-    for step in path {
-        firsts.push(first_element(step))?;
+    let mut steps = Vec::from_slice(alloc, &path[..kept])?;
+    for step in &path[kept..] {
+        steps.push(first_element(step))?;
     }
-    Ok(firsts)
+    Ok(steps)
 }
 
 fn first_element<'a>(step: &Step<'a>) -> Step<'a>

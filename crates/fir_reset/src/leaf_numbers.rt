@@ -13,7 +13,7 @@ ghost use Rattle.fir_types.specs.working.TypedModules.{IsTyped, leaf_declared, t
 ghost use Rattle.fir_reset.specs.working.Holding.{path_of};
 ghost use Rattle.fir_reset.specs.working.Inferred.{leaf_number};
 ghost use Rattle.fir_reset.specs.working.NumberedPaths.{position_known};
-ghost use Rattle.fir_reset.specs.working.ResetItems.{leaf_item};
+ghost use Rattle.fir_meaning.specs.ResetItems.{leaf_item};
 
 use crate::item::Step;
 use crate::leaf_offsets::leaves_before;

@@ -1,6 +1,6 @@
 //! Which Resets of a circuit are asynchronous. In comes a `Typed`, a circuit without a fault of types; out
 //! comes a `ResetMap`, or E18, with a walk that joins a UInt and an AsyncReset through Resets (`infer_resets`;
-//! FIRRTL spec, "Reset Inference"). What is joined and what a walk is stands in specs/ (`joins`,
+//! FIRRTL spec, "Reset Inference"). What is joined and what a walk is stands in fir_meaning (`joins`,
 //! `IsAsynchronous`, `ShowsResets`).
 //!
 //! What meets in the circuit, by connects, nodes and instances, is told in the order of the text (`circuit`):
@@ -12,13 +12,16 @@
 //!
 //! The search (`search`) goes by breadth, from all AsyncResets at once (`roots`). Each entry of its queue has
 //! the place of the entry that it was reached from, so that a walk leads back from a UInt that is met
-//! (`walk`), and is told (`told`). Else what is reached is noted by the numbers of leaves (`marked`,
+//! (`walk`). It is told (`told`) without the detours that it makes from one element of a vector to another
+//! (`direct`, `element_paths`). Else what is reached is noted by the numbers of leaves (`marked`,
 //! `leaf_numbers`).
 #![tactic(auto)]
 
 mod build;
 mod circuit;
+mod direct;
 mod edges;
+mod element_paths;
 mod graph;
 mod infer;
 mod item;

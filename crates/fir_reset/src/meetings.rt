@@ -10,7 +10,7 @@ ghost use Rattle.fir_reset.specs.working.Holding.{Holds, HoldsMore};
 ghost use Rattle.fir_reset.specs.working.JoinedSides.{ConnectJoined, IsSourceRoot, NodeJoined};
 ghost use Rattle.fir_reset.specs.working.Meetings.{Meeting, met_joins};
 ghost use Rattle.fir_reset.specs.working.Meets.{IsMeet};
-ghost use Rattle.fir_reset.specs.working.ResetJoins.{Join};
+ghost use Rattle.fir_meaning.specs.ResetJoins.{Join};
 ghost use Rattle.fir_reset.specs.working.Resolved.{StandsIn};
 ghost use Rattle.fir_type_table.specs.working.Tables.{types_of};
 ghost use Rattle.fir_types.specs.working.Seen.{found_type};

@@ -13,7 +13,7 @@ ghost use Rattle.fir_types.specs.working.Notes.{Note as Meant};
 ghost use Rattle.fir_reset.specs.working.Meetings.{meetings_in, meetings_in_block};
 ghost use Rattle.fir_reset.specs.working.Meets.{Ahead, Meets};
 ghost use Rattle.fir_reset.specs.working.Passes.{PassesStatement, connect_by};
-ghost use Rattle.fir_reset.specs.working.ResetJoins.{ResetModule};
+ghost use Rattle.fir_meaning.specs.ResetJoins.{ResetModule};
 
 use crate::meet::Meet;
 use fir_ast::{Expr, Ident, Reference, Register, Stmt, When};

@@ -13,8 +13,8 @@ ghost use Rattle.fir_types.specs.working.Seen.{sink_path, steps_of};
 ghost use Rattle.fir_reset.specs.working.FirstEnds.{AreLeaves, HasEnd, IsFirstEnd, IsNodeRoot, IsReferenceRoot, access_behind, first_ends};
 ghost use Rattle.fir_reset.specs.working.FirstPairs.{kind_of_type};
 ghost use Rattle.fir_reset.specs.working.Holding.{Holds, IsEnd, path_of, step_of};
-ghost use Rattle.fir_reset.specs.working.ResetItems.{declared_at, is_reset, value_end};
-ghost use Rattle.fir_reset.specs.working.ResetJoins.{Join};
+ghost use Rattle.fir_meaning.specs.ResetItems.{declared_at, is_reset, value_end};
+ghost use Rattle.fir_meaning.specs.ResetJoins.{Join};
 
 use crate::graph::Kind;
 use crate::item::{End, Item, Step};

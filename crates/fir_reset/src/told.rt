@@ -6,8 +6,8 @@ ghost use Rattle.fir_pass.specs.Faults.{Fault, fault_of};
 ghost use Rattle.fir_reset.specs.working.FoundKinds.{TellsWalk};
 ghost use Rattle.fir_reset.specs.working.Holding.{AreEnds, item_of};
 ghost use Rattle.fir_reset.specs.working.ResetGraphs.{AllBelow};
-ghost use Rattle.fir_reset.specs.working.ResetItems.{End as Meant};
-ghost use Rattle.fir_reset.specs.working.ResetWalks.{item_text};
+ghost use Rattle.fir_meaning.specs.ResetItems.{End as Meant};
+ghost use Rattle.fir_meaning.specs.ResetWalks.{item_text};
 ghost use Rattle.fir_reset.specs.working.StepTexts.{text_at};
 
 use crate::item::{End, Item};

@@ -1,25 +1,22 @@
 //! Tests of the public calls of crates that are long to prove: a crate with tests of its own is proved twice.
 //! `trees` calls `parse` over the tokens of a text: each form of the grammar with its tree, the greatest nesting,
-//! and the tokens that come back with a fault. `faults` calls `check_small` over circuits made by hand. `types`,
-//! `resets` and `widths` call `check`, `infer_resets` and `solve` over circuits of a text (`circuits`): what is
-//! found there, and the first fault. `reset_walks` and `least_widths` call the searches under these over graphs
-//! and bounds made by hand. What each call gives on every input, its contract says; here stand the values that no
-//! clause of it names.
+//! and the tokens that come back with a fault. `types`, `inferred` and `driven` call `check`, `infer` and
+//! `check_driven` over circuits of a text (`circuits`). `reset_walks` and `least_widths` call the searches under
+//! `infer` over graphs and bounds made by hand. What each call gives on every input, its contract says; here stand
+//! the values that no clause of it names.
 #![tactic(auto)]
 
 #[cfg(test)]
 mod circuits;
 #[cfg(test)]
-mod faults;
+mod driven;
+#[cfg(test)]
+mod inferred;
 #[cfg(test)]
 mod least_widths;
 #[cfg(test)]
 mod reset_walks;
 #[cfg(test)]
-mod resets;
-#[cfg(test)]
 mod trees;
 #[cfg(test)]
 mod types;
-#[cfg(test)]
-mod widths;

@@ -7,7 +7,7 @@ use Rattle.fir_base.proofs.Elements.{get_behind}
 use Rattle.fir_ast.specs.Types.{DataType}
 use Rattle.fir_meaning.specs.TypeLeaves.{leaf_count}
 use Rattle.fir_meaning.specs.TypeKinds.{is_passive, is_numeric, is_sized}
-use Rattle.fir_meaning.specs.working.SharedLeaves.{shared_count}
+use Rattle.fir_meaning.specs.SharedLeaves.{shared_count}
 use Rattle.fir_type_table.specs.declared.kind.Kind.{Kind}
 use Rattle.fir_type_table.specs.declared.kind.Kind.TheVariants as kind
 use Rattle.fir_type_table.specs.declared.entry.Member.{Member}

@@ -11,7 +11,7 @@ use Rattle.fir_ast.specs.Types.{DataType, bundle}
 use Rattle.fir_meaning.specs.TypeLeaves.{leaf_count}
 use Rattle.fir_meaning.specs.TypeKinds.{FieldFound, field_named}
 use Rattle.fir_meaning.specs.Reaching.{field_of_type}
-use Rattle.fir_meaning.specs.working.SharedLeaves.{shared_count}
+use Rattle.fir_meaning.specs.SharedLeaves.{shared_count}
 use Rattle.fir_type_table.specs.declared.kind.Kind.TheVariants as kind
 use Rattle.fir_type_table.specs.declared.entry.Member.{Member}
 use Rattle.fir_type_table.specs.declared.entry.Entry.{Entry}

@@ -4,7 +4,7 @@ use Rattle.std.specs.List.{All}
 use Rattle.std.proofs.lemmas.List.{map-append}
 use Rattle.fir_ast.specs.Types.{DataType}
 use Rattle.fir_meaning.specs.TypeLeaves.{leaf_count, field_count}
-use Rattle.fir_meaning.specs.working.SharedLeaves.{shared_count, shared_field_count}
+use Rattle.fir_meaning.specs.SharedLeaves.{shared_count, shared_field_count}
 use Rattle.fir_type_table.specs.declared.entry.Part.{Part}
 use Rattle.fir_type_table.specs.declared.entry.Member.{Member}
 use Rattle.fir_type_table.specs.working.Saturated.{saturated}

@@ -7,7 +7,7 @@ ghost use Rattle.fir_meaning.specs.MemoryTypes.{bit};
 ghost use Rattle.fir_meaning.specs.TypeKinds.{is_numeric, is_passive, is_sized};
 ghost use Rattle.fir_meaning.specs.TypeLeaves.{leaf_count};
 ghost use Rattle.fir_meaning.specs.Reaching.{field_of_type};
-ghost use Rattle.fir_meaning.specs.working.SharedLeaves.{shared_count};
+ghost use Rattle.fir_meaning.specs.SharedLeaves.{shared_count};
 ghost use Rattle.fir_type_table.specs.working.Fits.{IsMadeBelow};
 ghost use Rattle.fir_type_table.specs.working.Reads.{IsPast, IsReadAt};
 ghost use Rattle.fir_type_table.specs.working.Saturated.{saturated};

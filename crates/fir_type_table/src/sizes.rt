@@ -9,7 +9,7 @@ ghost use Rattle.fir_ast.specs.Types.{DataType};
 ghost use Rattle.fir_ast.specs.View.{fields_of};
 ghost use Rattle.fir_meaning.specs.TypeKinds.{are_numeric, are_passive, are_sized};
 ghost use Rattle.fir_meaning.specs.TypeLeaves.{field_count};
-ghost use Rattle.fir_meaning.specs.working.SharedLeaves.{shared_field_count};
+ghost use Rattle.fir_meaning.specs.SharedLeaves.{shared_field_count};
 ghost use Rattle.fir_type_table.specs.working.Fits.{FitsAt, HasOffsets, IsScalar, first_member};
 ghost use Rattle.fir_type_table.specs.working.Saturated.{saturated};
 ghost use Rattle.fir_type_table.specs.working.Tables.{member_fields, part_fields, types_of};

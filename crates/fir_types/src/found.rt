@@ -7,7 +7,7 @@ ghost use Rattle.fir_ast.specs.Types.{DataType};
 ghost use Rattle.fir_meaning.specs.TypeKinds.{bare, is_numeric, is_passive};
 ghost use Rattle.fir_meaning.specs.ExpressionTypes.{number_type};
 ghost use Rattle.fir_meaning.specs.TypeLeaves.{leaf_count};
-ghost use Rattle.fir_meaning.specs.working.SharedLeaves.{shared_count};
+ghost use Rattle.fir_meaning.specs.SharedLeaves.{shared_count};
 ghost use Rattle.fir_type_table.specs.working.Saturated.{saturated};
 ghost use Rattle.fir_type_table.specs.working.Sizes.{leaves_before, shared_before};
 ghost use Rattle.fir_type_table.specs.declared.entry.Member.{Member};

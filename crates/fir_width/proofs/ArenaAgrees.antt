@@ -7,7 +7,7 @@ use Rattle.std.proofs.lemmas.Option.{slice_get_within}
 use Rattle.fir_base.specs.Lists.{In}
 use Rattle.fir_base.proofs.Elements.{get_in, number_of}
 use Rattle.fir_bits.specs.working.Laws.{Monotone}
-use Rattle.fir_meaning.specs.working.WidthExpressions.{Widths, Width, known, unknown, single, pair, greater, guarded, width_of, Rule, Meets, IsLeastOf}
+use Rattle.fir_meaning.specs.WidthExpressions.{Widths, Width, known, unknown, single, pair, greater, guarded, width_of, Rule, Meets, IsLeastOf}
 use Rattle.fir_meaning.proofs.LeastRules.{width_le, width_grows}
 use Rattle.fir_width.specs.declared.bound.Term.{Term}
 use Rattle.fir_width.specs.declared.bound.Term.TheVariants.{Known, Same, Single, Pair, Greater, Guarded}

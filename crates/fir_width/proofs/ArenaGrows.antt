@@ -4,7 +4,7 @@ use Rattle.std.proofs.lemmas.List.{map-append, length-map, append-nil}
 use Rattle.fir_base.specs.Lists.{In}
 use Rattle.fir_base.proofs.Members.{in_left, in_right, in_either}
 use Rattle.fir_base.proofs.Writes.{PushedOr, push_cases, push_end}
-use Rattle.fir_meaning.specs.working.WidthExpressions.{Width, known, unknown, single, pair, greater, guarded, Rule}
+use Rattle.fir_meaning.specs.WidthExpressions.{Width, known, unknown, single, pair, greater, guarded, Rule}
 use Rattle.fir_width.specs.declared.bound.Term.{Term}
 use Rattle.fir_width.specs.declared.bound.Term.TheVariants.{Same}
 use Rattle.fir_width.specs.declared.bound.Bound.{Bound}

@@ -7,13 +7,13 @@ use Rattle.fir_meaning.specs.Components.{Component}
 use Rattle.fir_meaning.specs.Components as component
 use Rattle.fir_meaning.specs.Visibility.{Before, with_declaration, behind}
 use Rattle.fir_meaning.specs.Scopes.{Scope, declares, type_of}
-use Rattle.fir_meaning.specs.working.SharedLeaves.{shared_count}
-use Rattle.fir_meaning.specs.working.WidthExpressions.{Width, known, Rule}
-use Rattle.fir_meaning.specs.working.SizedTypes.{Sized, scalar, bare_type, renumbered}
-use Rattle.fir_meaning.specs.working.SizedOperations.{number_scalar}
-use Rattle.fir_meaning.specs.working.SizedScopes.{sized_in, sized_part, sized_type, sink_expression}
-use Rattle.fir_meaning.specs.working.SizedDeclarations.{Numbering, NumberedModule, numbers_at, sized_at, taken_of_bodies}
-use Rattle.fir_meaning.specs.working.WidthRules.{connect_rules, rules_in, rules_in_block}
+use Rattle.fir_meaning.specs.SharedLeaves.{shared_count}
+use Rattle.fir_meaning.specs.WidthExpressions.{Width, known, Rule}
+use Rattle.fir_meaning.specs.SizedTypes.{Sized, scalar, bare_type, renumbered}
+use Rattle.fir_meaning.specs.SizedOperations.{number_scalar}
+use Rattle.fir_meaning.specs.SizedScopes.{sized_in, sized_part, sized_type, sink_expression}
+use Rattle.fir_meaning.specs.SizedDeclarations.{Numbering, NumberedModule, numbers_at, sized_at, taken_of_bodies}
+use Rattle.fir_meaning.specs.WidthRules.{connect_rules, rules_in, rules_in_block}
 use Rattle.fir_width.proofs.SmallForms.{StatementStands, BodyStands}
 use Rattle.fir_width.proofs.SizedBeside.{Beside, found_beside, IsNumber, IsFormed}
 use Rattle.fir_width.proofs.SizedForms.{is_number}

@@ -3,7 +3,7 @@ use Rattle.std.proofs.Common.{◌≡◌, ℕ, ◌+◌, ◌≤◌, List, [], ◌�
 use Rattle.std.proofs.lemmas.Bool.Decides.{nat_tests}
 use Rattle.fir_base.specs.Lists.{In}
 use Rattle.fir_bits.specs.working.Laws.{Monotone}
-use Rattle.fir_meaning.specs.working.WidthExpressions.{Widths, width_of, Rule, Meets, IsLeastOf}
+use Rattle.fir_meaning.specs.WidthExpressions.{Widths, width_of, Rule, Meets, IsLeastOf}
 use Rattle.fir_meaning.proofs.LeastRules.{width_grows}
 
 -- from a number on, no number twice

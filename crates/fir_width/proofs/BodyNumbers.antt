@@ -8,11 +8,11 @@ use Rattle.fir_meaning.specs.MemoryTypes.{memory_type}
 use Rattle.fir_meaning.specs.TypeKinds.{bare}
 use Rattle.fir_meaning.specs.TypedScopes.{TypedScope}
 use Rattle.fir_meaning.specs.ComponentTypes.{component_type, instance_bundle, known_as}
-use Rattle.fir_meaning.specs.working.SharedLeaves.{shared_count}
-use Rattle.fir_meaning.specs.working.SizedTypes.{bare_type, numbered}
-use Rattle.fir_meaning.specs.working.SizedScopes.{sized_type}
-use Rattle.fir_meaning.specs.working.SizedMemories.{as_written, count_of_any}
-use Rattle.fir_meaning.specs.working.SizedDeclarations.{Numbering, all_port_numbers, numbered_behind, numbered_with, port_numbers, taken_of_bodies}
+use Rattle.fir_meaning.specs.SharedLeaves.{shared_count}
+use Rattle.fir_meaning.specs.SizedTypes.{bare_type, numbered}
+use Rattle.fir_meaning.specs.SizedScopes.{sized_type}
+use Rattle.fir_meaning.specs.SizedMemories.{as_written, count_of_any}
+use Rattle.fir_meaning.specs.SizedDeclarations.{Numbering, all_port_numbers, numbered_behind, numbered_with, port_numbers, taken_of_bodies}
 use Rattle.fir_types.specs.working.LeafNumbers.{NextLeaf, leaf_behind, leaves_behind, numbers_taken}
 use Rattle.fir_types.proofs.BareTypes.{shown_shared_count}
 use Rattle.fir_width.specs.working.FlatWidths.{flat}

@@ -2,8 +2,8 @@
 use Rattle.std.proofs.Common.{◌≡◌, ℕ, List, [], ◌∷◌, ◌++◌, Bool, sym, ap, ◌∙◌, subst}
 use Rattle.fir_ast.specs.declared.place.Place.{Place}
 use Rattle.fir_ast.specs.Circuits.{CircuitTree}
-use Rattle.fir_meaning.specs.working.SizedTypes.{Sized}
-use Rattle.fir_meaning.specs.working.WidthExpressions.{Rule, Width}
+use Rattle.fir_meaning.specs.SizedTypes.{Sized}
+use Rattle.fir_meaning.specs.WidthExpressions.{Rule, Width}
 use Rattle.fir_types.specs.declared.found.Found.{Found}
 use Rattle.fir_types.specs.working.Notes.{Note}
 use Rattle.fir_width.specs.declared.ground.Ground.{Ground}

@@ -12,7 +12,7 @@ use Rattle.fir_ast.specs.Types.{DataType}
 use Rattle.fir_meaning.specs.ComponentTypes.{find_module, typed_scope}
 use Rattle.fir_meaning.specs.NameGroups.{HasNames}
 use Rattle.fir_meaning.specs.Visibility.{at_head, behind_ports, declarations}
-use Rattle.fir_meaning.specs.working.SizedDeclarations.{NumberedModule, Numbering, all_port_numbers, behind_module, first_numbers, modules_from, numbered_modules}
+use Rattle.fir_meaning.specs.SizedDeclarations.{NumberedModule, Numbering, all_port_numbers, behind_module, first_numbers, modules_from, numbered_modules}
 use Rattle.fir_meaning.specs.working.WellTyped.{AreLegal, IsWellTyped}
 use Rattle.fir_names.specs.working.ModuleOrder.{find_number}
 use Rattle.fir_names.specs.working.Numbered.{names_of}

@@ -4,9 +4,9 @@ use Rattle.std.proofs.lemmas.List.{append-nil}
 use Rattle.fir_ast.specs.Circuits.{CircuitTree}
 use Rattle.fir_ast.specs.Types.{DataType}
 use Rattle.fir_meaning.specs.TypedScopes.{TypedScope}
-use Rattle.fir_meaning.specs.working.WidthExpressions.{Width, Rule}
-use Rattle.fir_meaning.specs.working.SizedTypes.{Sized}
-use Rattle.fir_meaning.specs.working.SizedScopes.{SizedScope}
+use Rattle.fir_meaning.specs.WidthExpressions.{Width, Rule}
+use Rattle.fir_meaning.specs.SizedTypes.{Sized}
+use Rattle.fir_meaning.specs.SizedScopes.{SizedScope}
 use Rattle.fir_types.specs.working.Notes.{Note}
 use Rattle.fir_width.specs.declared.ground.Ground.{Ground}
 use Rattle.fir_width.specs.declared.side.Side.{Side}

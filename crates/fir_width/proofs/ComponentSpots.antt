@@ -14,13 +14,13 @@ use Rattle.fir_meaning.specs.ComponentTypes.{is_input}
 use Rattle.fir_meaning.specs.LeafPaths.{LeafPath, named}
 use Rattle.fir_meaning.specs.MemoryTypes.{data_of_part, first_one}
 use Rattle.fir_meaning.specs.TypeLeaves.{turned}
-use Rattle.fir_meaning.specs.working.WidthExpressions.{Width, Widths, width_of}
-use Rattle.fir_meaning.specs.working.SizedTypes.{Sized, sized_bundle, no_sized_fields, leaf_width, past, numbered}
-use Rattle.fir_meaning.specs.working.SizedLeaves.{SizedLeaf, sized_leaves}
-use Rattle.fir_meaning.specs.working.SizedMemories.{as_written}
-use Rattle.fir_meaning.specs.working.SizeFaults.{leaf_over}
-use Rattle.fir_meaning.specs.working.OverFaults.{is_leaf_over, leaves_over, with_leaves}
-use Rattle.fir_meaning.specs.working.LegalFaults.{unwritten, port_faults}
+use Rattle.fir_meaning.specs.WidthExpressions.{Width, Widths, width_of}
+use Rattle.fir_meaning.specs.SizedTypes.{Sized, sized_bundle, no_sized_fields, leaf_width, past, numbered}
+use Rattle.fir_meaning.specs.SizedLeaves.{SizedLeaf, sized_leaves}
+use Rattle.fir_meaning.specs.SizedMemories.{as_written}
+use Rattle.fir_meaning.specs.SizeFaults.{leaf_over}
+use Rattle.fir_meaning.specs.OverFaults.{is_leaf_over, leaves_over, with_leaves}
+use Rattle.fir_meaning.specs.LegalFaults.{unwritten, port_faults}
 use Rattle.fir_types.specs.working.Seen.{found_type}
 use Rattle.fir_width.specs.declared.side.Side.{Side}
 use Rattle.fir_width.specs.declared.spot.Spot.TheVariants as code

@@ -12,12 +12,12 @@ use Rattle.fir_meaning.specs.Components as component
 use Rattle.fir_meaning.specs.Visibility.{Before, behind, behind_ports}
 use Rattle.fir_meaning.specs.Scopes.{node_value, register_value, Declared, Scope, declares, port_declared, type_of, printed_type, written_type, written_printed}
 use Rattle.fir_meaning.specs.working.Clean.{ground_type}
-use Rattle.fir_meaning.specs.working.WidthExpressions.{Widths, width_of, Rule}
-use Rattle.fir_meaning.specs.working.SizedTypes.{Sized, numbered, renumbered}
-use Rattle.fir_meaning.specs.working.SizedOperations.{width_in}
-use Rattle.fir_meaning.specs.working.SizedScopes.{sized_type}
-use Rattle.fir_meaning.specs.working.SizedDeclarations.{NumberedModule, numbers_at, sized_at}
-use Rattle.fir_meaning.specs.working.WidthRules.{rules_in}
+use Rattle.fir_meaning.specs.WidthExpressions.{Widths, width_of, Rule}
+use Rattle.fir_meaning.specs.SizedTypes.{Sized, numbered, renumbered}
+use Rattle.fir_meaning.specs.SizedOperations.{width_in}
+use Rattle.fir_meaning.specs.SizedScopes.{sized_type}
+use Rattle.fir_meaning.specs.SizedDeclarations.{NumberedModule, numbers_at, sized_at}
+use Rattle.fir_meaning.specs.WidthRules.{rules_in}
 use Rattle.fir_meaning.proofs.LeastRules.{width_le}
 use Rattle.fir_width.proofs.SmallForms.{IsWritten, StatementStands, PortStands, PortsStand}
 use Rattle.fir_width.proofs.SizedBeside.{Beside, IsNumber, IsFormed}

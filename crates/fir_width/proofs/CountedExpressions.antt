@@ -7,11 +7,11 @@ use Rattle.fir_bits.proofs.LiteralWidths.{least_width-is_least}
 use Rattle.fir_ast.specs.declared.expressions.Literal.{Literal}
 use Rattle.fir_ast.specs.Expressions.{Expression, reference, literal, operation, mux, validif, Expressions, no_expressions, expression}
 use Rattle.fir_meaning.specs.Scopes.{Declared, Scope, literal_type, type_of, types_of_each}
-use Rattle.fir_meaning.specs.working.WidthExpressions.{Widths, width_of}
-use Rattle.fir_meaning.specs.working.SizedTypes.{Sized}
-use Rattle.fir_meaning.specs.working.SizedOperations.{width_in}
-use Rattle.fir_meaning.specs.working.SizedScopes.{SizedScope, sized_in, sized_part, sized_type, sized_types}
-use Rattle.fir_meaning.specs.working.SizedScopes as sized_scopes
+use Rattle.fir_meaning.specs.WidthExpressions.{Widths, width_of}
+use Rattle.fir_meaning.specs.SizedTypes.{Sized}
+use Rattle.fir_meaning.specs.SizedOperations.{width_in}
+use Rattle.fir_meaning.specs.SizedScopes.{SizedScope, sized_in, sized_part, sized_type, sized_types}
+use Rattle.fir_meaning.specs.SizedScopes as sized_scopes
 use Rattle.fir_base.proofs.Tests.{both}
 use Rattle.fir_meaning.proofs.LookUps.{found_type}
 use Rattle.fir_meaning.proofs.TypedExpressions.{one_type}

@@ -9,9 +9,9 @@ use Rattle.fir_bits.specs.declared.operators.Form.TheVariants.{Pair, Shift, Sing
 use Rattle.fir_bits.specs.declared.types.NumTy.{NumTy}
 use Rattle.fir_bits.specs.Forms.{form_of, operands, integers, has_counts, first_type, second_type}
 use Rattle.fir_bits.specs.Widths.{counted_width}
-use Rattle.fir_meaning.specs.working.WidthExpressions.{Widths, width_of}
-use Rattle.fir_meaning.specs.working.SizedTypes.{Sized}
-use Rattle.fir_meaning.specs.working.SizedOperations.{is_signed, width_in, first_sized, operation_width}
+use Rattle.fir_meaning.specs.WidthExpressions.{Widths, width_of}
+use Rattle.fir_meaning.specs.SizedTypes.{Sized}
+use Rattle.fir_meaning.specs.SizedOperations.{is_signed, width_in, first_sized, operation_width}
 
 -- operand by operand
 abbrev pub AreCounted : Widths → List Sized → List NumTy → Type 0

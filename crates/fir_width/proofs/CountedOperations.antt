@@ -9,7 +9,7 @@ use Rattle.fir_bits.specs.Types.{is_legal, signed_of, typed}
 use Rattle.fir_bits.specs.Widths.{width_of, is_narrow, counted_width}
 use Rattle.fir_ast.specs.declared.place.Place.{Place}
 use Rattle.fir_meaning.specs.Operations.{type_or, operation_type}
-use Rattle.fir_meaning.specs.LegalityFaults.{integer_faults}
+use Rattle.fir_meaning.specs.working.LegalityFaults.{integer_faults}
 
 -- the outcome of the two tests of widths
 abbrev tested : Bool → Bool → NumTy → Result NumTy OpFault

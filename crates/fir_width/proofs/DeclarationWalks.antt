@@ -11,7 +11,7 @@ use Rattle.fir_ast.specs.Expressions.{Expression}
 use Rattle.fir_ast.specs.Statements.{PlacedName, MemoryPart}
 use Rattle.fir_ast.specs.View.{named_of}
 use Rattle.fir_ast.specs.Circuits.{ModuleTree, CircuitTree}
-use Rattle.fir_meaning.specs.Components.{Component, Declaration, Declarations}
+use Rattle.fir_meaning.specs.Components.{Component, Declarations}
 use Rattle.fir_meaning.specs.Components as component
 use Rattle.fir_meaning.specs.ComponentTypes.{component_type, instance_bundle}
 use Rattle.fir_meaning.specs.MemoryTypes.{depth_of_part, first_one, memory_bundle}
@@ -19,9 +19,9 @@ use Rattle.fir_meaning.specs.Checked.{joined}
 use Rattle.fir_meaning.specs.TypedScopes.{TypedScope}
 use Rattle.fir_meaning.specs.TypeGroup.{scope_at}
 use Rattle.fir_meaning.specs.Visibility.{Before, declaration_at, declarations, with_declaration}
-use Rattle.fir_meaning.specs.working.SizedDeclarations.{NumberedModule, numbers_at, sized_at, sized_declared}
+use Rattle.fir_meaning.specs.SizedDeclarations.{NumberedModule, numbers_at, sized_at, sized_declared}
 use Rattle.fir_meaning.specs.working.WellTyped.{HasType, MemoryIsLegal}
-use Rattle.fir_meaning.specs.working.WidthExpressions.{Rule, Width}
+use Rattle.fir_meaning.specs.WidthExpressions.{Rule, Width}
 use Rattle.fir_meaning.proofs.FoundTypes.{found_type}
 use Rattle.fir_types.specs.working.Notes.{Note}
 use Rattle.fir_types.specs.working.Walked.{Begins}

@@ -18,10 +18,10 @@ use Rattle.fir_meaning.specs.TypedScopes.{TypedScope}
 use Rattle.fir_meaning.specs.ExpressionTypes.{expression_type}
 use Rattle.fir_meaning.specs.ComponentTypes.{component_type, find_module, instance_bundle, instance_type, known_as, typed_behind, typed_scope}
 use Rattle.fir_meaning.specs.Visibility.{Before, at_head, behind, behind_block, behind_ports, declaration_at, declarations, opened, reopened, with_declaration}
-use Rattle.fir_meaning.specs.working.SizedTypes.{bare_type, numbered}
-use Rattle.fir_meaning.specs.working.SizedScopes.{SizedName, SizedScope, sized_type}
-use Rattle.fir_meaning.specs.working.SizedMemories.{as_written}
-use Rattle.fir_meaning.specs.working.SizedDeclarations.{Numbering, instance_from, numbered_behind, numbered_with, port_numbers, sized_component}
+use Rattle.fir_meaning.specs.SizedTypes.{bare_type, numbered}
+use Rattle.fir_meaning.specs.SizedScopes.{SizedName, SizedScope, sized_type}
+use Rattle.fir_meaning.specs.SizedMemories.{as_written}
+use Rattle.fir_meaning.specs.SizedDeclarations.{Numbering, instance_from, numbered_behind, numbered_with, port_numbers, sized_component}
 use Rattle.fir_meaning.specs.working.WellTyped.{AreLegal, IsLegal}
 use Rattle.fir_meaning.proofs.FoundTypes.{found_type}
 use Rattle.fir_meaning.proofs.SizedExpressions.{sized_as_typed}

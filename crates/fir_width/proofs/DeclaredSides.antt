@@ -14,9 +14,9 @@ use Rattle.fir_meaning.specs.TypeGroup.{scope_at}
 use Rattle.fir_meaning.specs.TypeKinds.{bare}
 use Rattle.fir_meaning.specs.TypedScopes.{Known, TypedScope}
 use Rattle.fir_meaning.specs.Visibility.{Before, declaration_at, declarations, with_declaration}
-use Rattle.fir_meaning.specs.working.SizedDeclarations.{NumberedModule, Numbering, numbered_behind, numbered_with, numbers_at, sized_declared}
-use Rattle.fir_meaning.specs.working.SizedScopes.{SizedName, SizedScope}
-use Rattle.fir_meaning.specs.working.WidthExpressions.{Rule, Width}
+use Rattle.fir_meaning.specs.SizedDeclarations.{NumberedModule, Numbering, numbers_at, sized_declared}
+use Rattle.fir_meaning.specs.SizedScopes.{SizedName, SizedScope}
+use Rattle.fir_meaning.specs.WidthExpressions.{Rule, Width}
 use Rattle.fir_types.specs.declared.found.Found.{Found}
 use Rattle.fir_types.specs.working.Notes.{Note}
 use Rattle.fir_types.specs.working.Seen.{found_type, seen}
@@ -26,6 +26,7 @@ use Rattle.fir_width.specs.declared.walk.Walk.{Walk}
 use Rattle.fir_width.specs.working.Scenes.{AllStand, StandsFor}
 use Rattle.fir_width.specs.working.Sides.{IsSide}
 use Rattle.fir_width.specs.working.Walks.{Declares, types_in}
+use Rattle.fir_width.proofs.DeclaredScopes.{numbered_more}
 
 -- as many names are known as stand before
 known_long : (modules : List ModuleTree) (ks : TypedScope) (ds : Declarations) → length (typed_behind modules ks ds) ≡ length ks + length ds
@@ -53,12 +54,6 @@ known_at modules before d rest =
     ap (λ l. slice_get l (length before.declared)) (known_joined modules [] before.declared (d ∷ rest))
     ∙ known_stays modules (ks ++ known_as modules ks d ∷ []) rest (length before.declared) (known_as modules ks d)
     (ap (slice_get (ks ++ known_as modules ks d ∷ [])) (sym (scope_long modules before)) ∙ get_behind ks [] (known_as modules ks d))
-
--- one more declaration has its numbers behind those before it
-pub numbered_more : (modules : List ModuleTree) (numbers : Numbering) (ds : Declarations) (d : Declaration)
-    → numbered_behind modules numbers (ds ++ d ∷ []) ≡ numbered_with modules (numbered_behind modules numbers ds) d
-numbered_more modules numbers [] d = refl
-numbered_more modules numbers (e ∷ ds) d = numbered_more modules (numbered_with modules numbers e) ds d
 
 -- the last of what stands
 pub record LastStands (meant : List Width) (firsts : List ℕ) (position : ℕ) (k : Known) (s : SizedName) : Type 0 where

@@ -15,10 +15,10 @@ use Rattle.fir_meaning.specs.TypeGroup.{type_faults}
 use Rattle.fir_meaning.specs.TypedScopes.{TypedScope}
 use Rattle.fir_meaning.specs.ComponentTypes.{component_type, instance_bundle, known_as, typed_scope}
 use Rattle.fir_meaning.specs.Visibility.{declarations}
-use Rattle.fir_meaning.specs.working.WidthExpressions.{Width}
-use Rattle.fir_meaning.specs.working.SizedTypes.{numbered}
-use Rattle.fir_meaning.specs.working.SizedMemories.{as_written}
-use Rattle.fir_meaning.specs.working.SizedDeclarations.{Numbering, behind_module, first_numbers, modules_from, numbered_with, port_numbers}
+use Rattle.fir_meaning.specs.WidthExpressions.{Width}
+use Rattle.fir_meaning.specs.SizedTypes.{numbered}
+use Rattle.fir_meaning.specs.SizedMemories.{as_written}
+use Rattle.fir_meaning.specs.SizedDeclarations.{Numbering, behind_module, first_numbers, modules_from, numbered_with, port_numbers}
 use Rattle.fir_names.specs.declared.declaration.Component.{Component as ComponentOfCode}
 use Rattle.fir_names.specs.declared.declaration.Declaration.{Declaration as Entry}
 use Rattle.fir_names.specs.declared.names.Names.{Names}

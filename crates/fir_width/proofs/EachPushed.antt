@@ -4,7 +4,7 @@ use Rattle.std.specs.Prelude.{slice_get}
 use Rattle.std.proofs.lemmas.List.{take_more, take_all, append-nil}
 use Rattle.std.proofs.lemmas.Option.{slice_get_within, get_or_from_slice_get}
 use Rattle.fir_base.proofs.Elements.{there}
-use Rattle.fir_meaning.specs.working.WidthExpressions.{Width, greater, guarded, Rule}
+use Rattle.fir_meaning.specs.WidthExpressions.{Width, greater, guarded, Rule}
 use Rattle.fir_width.specs.declared.bound.Term.{Term}
 use Rattle.fir_width.specs.declared.bound.Term.TheVariants.{Greater, Guarded}
 use Rattle.fir_width.specs.declared.arena.Arena.{Arena}

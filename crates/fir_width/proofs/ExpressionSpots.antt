@@ -13,13 +13,13 @@ use Rattle.fir_ast.specs.Circuits.{CircuitTree}
 use Rattle.fir_meaning.specs.FaultRules.{place_of}
 use Rattle.fir_meaning.specs.LeafPaths.{named}
 use Rattle.fir_meaning.specs.TypeKinds.{bare}
-use Rattle.fir_meaning.specs.working.WidthExpressions.{Width, Widths, known, width_of}
-use Rattle.fir_meaning.specs.working.SizedTypes.{unsigned, signed, clock_scalar, reset_scalar, async_scalar, Sized, scalar, sized_bundle, sized_vector, bare_type}
-use Rattle.fir_meaning.specs.working.SizedOperations.{width_in, first_sized, operation_width}
-use Rattle.fir_meaning.specs.working.SizedScopes.{SizedScope, literal_width, sized_type, sized_types, sink_expression}
-use Rattle.fir_meaning.specs.working.SizeFaults.{word_over}
-use Rattle.fir_meaning.specs.working.OverFaults.{first_path}
-use Rattle.fir_meaning.specs.working.LegalFaults.{operation_faults, condition_faults}
+use Rattle.fir_meaning.specs.WidthExpressions.{Width, Widths, known, width_of}
+use Rattle.fir_meaning.specs.SizedTypes.{unsigned, signed, clock_scalar, reset_scalar, async_scalar, Sized, scalar, sized_bundle, sized_vector, bare_type}
+use Rattle.fir_meaning.specs.SizedOperations.{width_in, first_sized, operation_width}
+use Rattle.fir_meaning.specs.SizedScopes.{SizedScope, literal_width, sized_type, sized_types, sink_expression}
+use Rattle.fir_meaning.specs.SizeFaults.{word_over}
+use Rattle.fir_meaning.specs.OverFaults.{first_path}
+use Rattle.fir_meaning.specs.LegalFaults.{operation_faults, condition_faults}
 use Rattle.fir_types.specs.working.Seen.{found_type}
 use Rattle.fir_width.specs.declared.side.Side.{Side}
 use Rattle.fir_width.specs.declared.spot.Spot.TheVariants as code
@@ -28,7 +28,7 @@ use Rattle.fir_width.specs.working.Numbered.{Has, Stands, Agrees}
 use Rattle.fir_width.specs.working.Sides.{IsSide}
 use Rattle.fir_width.specs.working.Spots.{of_expression, of_condition}
 use Rattle.fir_width.specs.working.SpotFaults.{IsSpot, is_over, word_where, condition_at}
-use Rattle.fir_width.proofs.StandingParts.{stands_at_first}
+use Rattle.fir_width.proofs.Standing.{stands_head}
 use Rattle.fir_width.proofs.SideFaults.{side_over, side_any_over}
 
 -- one word, told where something is over
@@ -98,7 +98,7 @@ not_uint w p (sized_vector t n) h = refl
 
 module _ (meant : List Width) (w u : Widths) (agrees : Agrees meant w u) (p : Place) (first : ℕ) where
   same_condition : (t : DataType) (s : Sized) → bare_type s ≡ bare t → Stands meant first (flat s) → condition_at p t (u first) ≡ condition_faults w p s
-  same_condition (uint k) (scalar unsigned v) e h = rw (agrees first v (stands_at_first meant first v [] h)) refl
+  same_condition (uint k) (scalar unsigned v) e h = rw (agrees first v (stands_head meant first v [] h)) refl
   same_condition (uint k) (scalar signed v) e h = cc
   same_condition (uint k) (scalar clock_scalar v) e h = cc
   same_condition (uint k) (scalar reset_scalar v) e h = cc

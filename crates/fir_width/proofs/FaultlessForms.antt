@@ -17,8 +17,8 @@ use Rattle.fir_ast.specs.Statements.{Statement, wire, register, node, instance, 
 use Rattle.fir_ast.specs.Circuits.{PortTree}
 use Rattle.fir_meaning.specs.Scopes.{Kind, input, clock_input, output, node_value, register_value, is_readable, Declared, Scope, look_up, declares, types_of_each, type_of, have_kinds, printed_type, printed_types, is_condition, is_equivalent}
 use Rattle.fir_meaning.specs.FaultRules.{place_of, within, within_each, along}
-use Rattle.fir_meaning.specs.NameFaults.{may_be_read, names_in_expression, unreadable_name_faults, undeclared_name_faults, repeated_name_faults, clock_name_faults, statement_name_faults, name_rule}
-use Rattle.fir_meaning.specs.TypeFaults.{is_source, types_in_expression, operand_faults, condition_kind_faults, arm_faults, flow_faults, equivalence_faults, connect_type_faults, clock_kind_faults, clock_type, statement_type_faults, type_rule}
+use Rattle.fir_meaning.specs.working.NameFaults.{may_be_read, names_in_expression, unreadable_name_faults, undeclared_name_faults, repeated_name_faults, clock_name_faults, statement_name_faults, name_rule}
+use Rattle.fir_meaning.specs.working.TypeFaults.{is_source, types_in_expression, operand_faults, condition_kind_faults, arm_faults, flow_faults, equivalence_faults, connect_type_faults, clock_kind_faults, clock_type, statement_type_faults, type_rule}
 use Rattle.fir_meaning.specs.Lacking.{lacking_type, lacking_port_type, lacking_ports, lacking_part, lacking_expression, lacking_operands, lacking_reset, lacking_statement, lacking_statements}
 use Rattle.fir_meaning.specs.working.Clean.{IsReadable}
 use Rattle.fir_base.proofs.Empty.{empty_left, empty_right}

@@ -12,7 +12,7 @@ use Rattle.fir_ast.specs.View.{type_step, field_step, fields_of, type_of}
 use Rattle.fir_ast.specs.working.BundleText.{field_of}
 use Rattle.fir_ast.proofs.Fields.{field_of-is}
 use Rattle.fir_meaning.specs.LeafPaths.{LeafPath, named}
-use Rattle.fir_meaning.specs.working.SharedLeaves.{shared_count}
+use Rattle.fir_meaning.specs.SharedLeaves.{shared_count}
 use Rattle.fir_width.specs.working.FirstLeaves.{first_where}
 use Rattle.fir_width.specs.working.NumberedLeaves.{numbered_under, numbered_leaves, numbered_field_leaves}
 use Rattle.fir_width.proofs.FirstLeaves.{Test, where_joined}

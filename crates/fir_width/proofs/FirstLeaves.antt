@@ -6,7 +6,7 @@ use Rattle.fir_ast.specs.Types.{DataType, uint, sint, clock, reset, async_reset,
 use Rattle.fir_meaning.specs.LeafPaths.{Step, LeafPath, named, element}
 use Rattle.fir_meaning.specs.TypeKinds.{bare, bare_fields}
 use Rattle.fir_meaning.specs.TypeLeaves.{turned}
-use Rattle.fir_meaning.specs.working.SharedLeaves.{shared_count}
+use Rattle.fir_meaning.specs.SharedLeaves.{shared_count}
 use Rattle.fir_type_table.specs.working.Tables.{shown}
 use Rattle.fir_type_table.proofs.WantedPaths.{behind}
 use Rattle.fir_types.proofs.BareTypes.{shown_shared_count}

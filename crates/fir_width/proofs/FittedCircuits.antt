@@ -10,10 +10,10 @@ use Rattle.fir_ast.specs.Circuits.{CircuitTree}
 use Rattle.fir_pass.specs.Faults.{Fault, fault_of}
 use Rattle.fir_pass.specs.Groups.{first_of}
 use Rattle.fir_pass.specs.Law.{IfFaulty}
-use Rattle.fir_meaning.specs.working.WidthExpressions.{Width, Widths}
-use Rattle.fir_meaning.specs.working.WidthRules.{rules, AreWidths}
-use Rattle.fir_meaning.specs.working.OverFaults.{over_faults}
-use Rattle.fir_meaning.specs.working.LegalFaults.{legal_faults}
+use Rattle.fir_meaning.specs.WidthExpressions.{Width, Widths}
+use Rattle.fir_meaning.specs.WidthRules.{rules, AreWidths}
+use Rattle.fir_meaning.specs.OverFaults.{over_faults}
+use Rattle.fir_meaning.specs.LegalFaults.{legal_faults}
 use Rattle.fir_meaning.proofs.LeastRules.{has_least}
 use Rattle.fir_types.specs.working.Judged.{IsFirstOf}
 use Rattle.fir_width.specs.declared.circuit.Walked.{Walked}

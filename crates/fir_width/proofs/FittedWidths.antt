@@ -3,8 +3,8 @@ use Rattle.std.proofs.Common.{◌≡◌, ℕ, ◌≤◌, List, Some, ◌∙◌, 
 use Rattle.std.specs.Prelude.{slice_get}
 use Rattle.fir_bits.specs.working.Laws.{Monotone}
 use Rattle.fir_ast.specs.Circuits.{CircuitTree}
-use Rattle.fir_meaning.specs.working.WidthExpressions.{Width, Widths, width_of, Rule, IsLeastOf}
-use Rattle.fir_meaning.specs.working.WidthRules.{rules, AreWidths}
+use Rattle.fir_meaning.specs.WidthExpressions.{Width, Widths, width_of, Rule, IsLeastOf}
+use Rattle.fir_meaning.specs.WidthRules.{rules, AreWidths}
 use Rattle.fir_meaning.proofs.LeastRules.{width_grows, one_least}
 use Rattle.fir_width.specs.working.Bounds.{assigned}
 use Rattle.fir_width.specs.working.DeclaredWidths.{leaf_widths}

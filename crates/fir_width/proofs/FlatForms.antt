@@ -7,9 +7,9 @@ use Rattle.fir_base.proofs.Tests.{both}
 use Rattle.fir_ast.specs.Types.{DataType, Fields, bundle, vector}
 use Rattle.fir_meaning.specs.Equivalence.{fields_alike, is_equivalent, same_ground}
 use Rattle.fir_meaning.specs.TypeKinds.{bare}
-use Rattle.fir_meaning.specs.working.WidthExpressions.{Width, guarded}
-use Rattle.fir_meaning.specs.working.SizedTypes.{Scalar, unsigned, signed, clock_scalar, reset_scalar, async_scalar, Sized, scalar, sized_bundle, sized_vector, SizedFields, no_sized_fields, sized_field, bare_type, bare_type_fields}
-use Rattle.fir_meaning.specs.working.SizedOperations.{greater_of, greater_fields, guarded_by, guarded_fields}
+use Rattle.fir_meaning.specs.WidthExpressions.{Width, guarded}
+use Rattle.fir_meaning.specs.SizedTypes.{Scalar, unsigned, signed, clock_scalar, reset_scalar, async_scalar, Sized, scalar, sized_bundle, sized_vector, SizedFields, no_sized_fields, sized_field, bare_type, bare_type_fields}
+use Rattle.fir_meaning.specs.SizedOperations.{greater_of, greater_fields, guarded_by, guarded_fields}
 use Rattle.fir_types.proofs.BarePairs.{equivalent_shown}
 use Rattle.fir_width.specs.working.FlatWidths.{flat, flat_fields, greater_each, guarded_each}
 

@@ -5,10 +5,10 @@ use Rattle.fir_ast.specs.declared.expressions.Literal.{Literal}
 use Rattle.fir_ast.specs.Expressions.{literal}
 use Rattle.fir_ast.specs.Types.{DataType}
 use Rattle.fir_meaning.specs.TypeKinds.{bare}
-use Rattle.fir_meaning.specs.working.SizedOperations.{guarded_by}
-use Rattle.fir_meaning.specs.working.SizedScopes.{SizedScope, literal_width, sized_type}
-use Rattle.fir_meaning.specs.working.SizedTypes.{Scalar, Sized, bare_type, scalar}
-use Rattle.fir_meaning.specs.working.WidthExpressions.{Width, known}
+use Rattle.fir_meaning.specs.SizedOperations.{guarded_by}
+use Rattle.fir_meaning.specs.SizedScopes.{SizedScope, literal_width, sized_type}
+use Rattle.fir_meaning.specs.SizedTypes.{Scalar, Sized, bare_type, scalar}
+use Rattle.fir_meaning.specs.WidthExpressions.{Width, known}
 use Rattle.fir_meaning.proofs.SizedShapes.{bare_again, guarded_bare, number_bare}
 use Rattle.fir_types.specs.declared.found.Found.{Found}
 use Rattle.fir_types.specs.declared.found.Found.TheVariants as found

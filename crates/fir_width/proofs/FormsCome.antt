@@ -8,9 +8,9 @@ use Rattle.fir_bits.specs.declared.operators.PrimOp.{PrimOp}
 use Rattle.fir_ast.specs.declared.place.Place.{Place}
 use Rattle.fir_meaning.specs.Reaching.{Reached}
 use Rattle.fir_meaning.specs.TypedScopes.{TypedScope}
-use Rattle.fir_meaning.specs.working.SizedScopes.{SizedScope, sized_type, sized_types}
+use Rattle.fir_meaning.specs.SizedScopes.{SizedScope, sized_type, sized_types}
 use Rattle.fir_meaning.specs.working.WellTyped.{HasType, HaveTypes, Leads}
-use Rattle.fir_meaning.specs.working.WidthExpressions.{Rule, Width}
+use Rattle.fir_meaning.specs.WidthExpressions.{Rule, Width}
 use Rattle.fir_types.specs.working.Notes.{Note, expression_note, expression_notes, notes_of_each, part_notes}
 use Rattle.fir_width.specs.declared.ground.Ground.{Ground}
 use Rattle.fir_width.specs.declared.side.Side.{Side}

@@ -7,9 +7,9 @@ use Rattle.fir_meaning.specs.LeafPaths.{named}
 use Rattle.fir_meaning.specs.Reaching.{Reached, known_reached}
 use Rattle.fir_meaning.specs.TypeKinds.{bare}
 use Rattle.fir_meaning.specs.TypedScopes.{Known, TypedScope, known}
-use Rattle.fir_meaning.specs.working.WidthExpressions.{Width}
-use Rattle.fir_meaning.specs.working.SizedTypes.{bare_type}
-use Rattle.fir_meaning.specs.working.SizedScopes.{SizedName, SizedScope, sized_in}
+use Rattle.fir_meaning.specs.WidthExpressions.{Width}
+use Rattle.fir_meaning.specs.SizedTypes.{bare_type}
+use Rattle.fir_meaning.specs.SizedScopes.{SizedName, SizedScope, sized_in}
 use Rattle.fir_types.specs.working.Notes.{known_range, position_of, root_range, whole_range}
 use Rattle.fir_width.specs.working.FlatWidths.{flat}
 use Rattle.fir_width.specs.working.Numbered.{Stands}

@@ -12,10 +12,10 @@ use Rattle.fir_meaning.specs.TypeGroup.{type_faults}
 use Rattle.fir_meaning.specs.TypedScopes.{TypedScope}
 use Rattle.fir_meaning.specs.ComponentTypes.{component_type, find_module, instance_bundle, instance_type, known_as, typed_scope}
 use Rattle.fir_meaning.specs.Visibility.{declarations}
-use Rattle.fir_meaning.specs.working.WidthExpressions.{Width}
-use Rattle.fir_meaning.specs.working.SizedTypes.{numbered}
-use Rattle.fir_meaning.specs.working.SizedScopes.{SizedScope}
-use Rattle.fir_meaning.specs.working.SizedDeclarations.{Numbering, NumberedModule, all_port_numbers, behind_module, first_numbers, instance_from, modules_from, numbered_behind, numbered_modules, numbered_with, port_numbers, sized_component}
+use Rattle.fir_meaning.specs.WidthExpressions.{Width}
+use Rattle.fir_meaning.specs.SizedTypes.{numbered}
+use Rattle.fir_meaning.specs.SizedScopes.{SizedScope}
+use Rattle.fir_meaning.specs.SizedDeclarations.{Numbering, NumberedModule, all_port_numbers, behind_module, first_numbers, instance_from, modules_from, numbered_behind, numbered_modules, numbered_with, port_numbers, sized_component}
 use Rattle.fir_type_table.specs.working.Saturated.{saturated}
 use Rattle.fir_types.specs.working.LeafNumbers.{NextLeaf, first_leaf, first_leaves, first_leaves_from, first_leaves_of, leaf_behind, leaves_behind, ports_from}
 use Rattle.fir_width.specs.working.FlatWidths.{flat}
@@ -26,7 +26,7 @@ use Rattle.fir_width.proofs.BodyNumbers.{Same, next_behind, next_number, ports_b
 use Rattle.fir_width.proofs.DeclaredScopes.{Met, NodesTyped, behind_sized, component_bare, known_behind, met_more, met_none, nodes_typed, scope_known, sized_as, sized_behind}
 use Rattle.fir_width.proofs.PortsFirst.{declared_ports, own_ports, ports_are, ports_long, ports_taken}
 use Rattle.fir_width.proofs.PushedWalks.{flat_long}
-use Rattle.fir_width.proofs.StandingLeaves.{stands_exact, stands_left, stands_right, stands_whole}
+use Rattle.fir_width.proofs.Standing.{stands_exact, stands_left, stands_right, stands_whole}
 
 -- an instance has the ports of its module
 instance_stands : (meant : List Width) (k : ℕ) (ms : List ModuleTree) (name : List ℕ) (t : DataType) → instance_type ms name ≡ Some t

@@ -6,12 +6,12 @@ use Rattle.fir_meaning.specs.Components as component
 use Rattle.fir_meaning.specs.Visibility.{Before, with_declaration}
 use Rattle.fir_meaning.specs.Scopes.{Scope, port_declared}
 use Rattle.fir_meaning.specs.FaultRules.{within, along_ports}
-use Rattle.fir_meaning.specs.LegalityFaults.{legality_in_expression, statement_legality_faults, legality_rule}
-use Rattle.fir_meaning.specs.working.WidthExpressions.{Widths}
-use Rattle.fir_meaning.specs.working.SizedScopes.{SizedScope, sink_expression}
-use Rattle.fir_meaning.specs.working.SizedDeclarations.{NumberedModule, sized_at}
-use Rattle.fir_meaning.specs.working.WidthWalk.{shown_within, shown_within_reset, shown_at, shown_in}
-use Rattle.fir_meaning.specs.working.LegalFaults.{legal_rule}
+use Rattle.fir_meaning.specs.working.LegalityFaults.{legality_in_expression, statement_legality_faults, legality_rule}
+use Rattle.fir_meaning.specs.WidthExpressions.{Widths}
+use Rattle.fir_meaning.specs.SizedScopes.{SizedScope, sink_expression}
+use Rattle.fir_meaning.specs.SizedDeclarations.{NumberedModule, sized_at}
+use Rattle.fir_meaning.specs.WidthWalk.{shown_within, shown_within_reset, shown_at, shown_in}
+use Rattle.fir_meaning.specs.LegalFaults.{legal_rule}
 use Rattle.fir_base.proofs.Empty.{empty_left, empty_right}
 use Rattle.fir_width.proofs.SmallForms.{at_clock, StatementStands}
 use Rattle.fir_width.proofs.SizedBeside.{Beside, IsFormed}

@@ -12,15 +12,15 @@ use Rattle.fir_ast.specs.Expressions.{Expression, reference, literal, operation,
 use Rattle.fir_ast.specs.Circuits.{CircuitTree}
 use Rattle.fir_meaning.specs.Scopes.{Scope, type_of, types_of_each}
 use Rattle.fir_meaning.specs.FaultRules.{place_of, within, within_each}
-use Rattle.fir_meaning.specs.LegalityFaults.{written_literal_faults, condition_width_faults, integer_faults, legality_in_expression}
-use Rattle.fir_meaning.specs.working.WidthExpressions.{Widths, width_of}
-use Rattle.fir_meaning.specs.working.SizedTypes.{Sized, scalar}
-use Rattle.fir_meaning.specs.working.SizedOperations.{number_scalar, width_in, first_sized}
-use Rattle.fir_meaning.specs.working.SizedScopes.{SizedScope, sized_type, sized_types}
-use Rattle.fir_meaning.specs.working.SizeFaults.{wrong_integers, wrong_literal, wrong_condition}
-use Rattle.fir_meaning.specs.working.WidthWalk.{shown_within, shown_within_each}
-use Rattle.fir_meaning.specs.working.LegalFaults.{operation_faults, condition_faults, legal_rule}
-use Rattle.fir_meaning.specs.working.LegalFaults as legal
+use Rattle.fir_meaning.specs.working.LegalityFaults.{written_literal_faults, condition_width_faults, integer_faults, legality_in_expression}
+use Rattle.fir_meaning.specs.WidthExpressions.{Widths, width_of}
+use Rattle.fir_meaning.specs.SizedTypes.{Sized, scalar}
+use Rattle.fir_meaning.specs.SizedOperations.{number_scalar, width_in, first_sized}
+use Rattle.fir_meaning.specs.SizedScopes.{SizedScope, sized_type, sized_types}
+use Rattle.fir_meaning.specs.SizeFaults.{wrong_integers, wrong_literal, wrong_condition}
+use Rattle.fir_meaning.specs.WidthWalk.{shown_within, shown_within_each}
+use Rattle.fir_meaning.specs.LegalFaults.{operation_faults, condition_faults, legal_rule}
+use Rattle.fir_meaning.specs.LegalFaults as legal
 use Rattle.fir_meaning.proofs.PassedTests.{passes}
 use Rattle.fir_width.proofs.CountedOperations.{legal_integers}
 use Rattle.fir_width.proofs.CountedOperands.{first_counted}

@@ -37,14 +37,12 @@ pub mod TypedShapes
 pub mod FlatForms
 pub mod OperandSides
 pub mod ReferenceSides
-pub mod StandingParts
 pub mod SideLeaves
 pub mod SideFaults
 pub mod ExpressionSpots
 pub mod WrittenLeaves
 pub mod ComponentSpots
 pub mod SpotsOfCircuit
-pub mod StandingLeaves
 pub mod MemoryWalks
 pub mod ModuleWalks
 pub mod FormSides
@@ -75,3 +73,5 @@ pub mod CountedBodies
 pub mod NarrowBodies
 pub mod LegalBodies
 pub mod SmallWidths
+pub mod WidthFaultGroups
+pub mod InferencePass

@@ -5,11 +5,11 @@ use Rattle.std.proofs.lemmas.List.Concat.{flat_map-append}
 use Rattle.fir_ast.specs.Types.{DataType}
 use Rattle.fir_meaning.specs.TypeKinds.{bare, bare_fields}
 use Rattle.fir_meaning.specs.TypeLeaves.{turned}
-use Rattle.fir_meaning.specs.working.SharedLeaves.{shared_count}
-use Rattle.fir_meaning.specs.working.WidthExpressions.{Width, Rule}
-use Rattle.fir_meaning.specs.working.WidthRules.{bound}
-use Rattle.fir_meaning.specs.working.SizedTypes.{Sized, SizedFields, no_sized_fields, sized_field, bare_type, bare_type_fields, fields_in, sized_named}
-use Rattle.fir_meaning.specs.working.SizedMatches.{Match, matches, field_matches, where_met}
+use Rattle.fir_meaning.specs.SharedLeaves.{shared_count}
+use Rattle.fir_meaning.specs.WidthExpressions.{Width, Rule}
+use Rattle.fir_meaning.specs.WidthRules.{bound}
+use Rattle.fir_meaning.specs.SizedTypes.{Sized, SizedFields, no_sized_fields, sized_field, bare_type, bare_type_fields, fields_in, sized_named}
+use Rattle.fir_meaning.specs.SizedMatches.{Match, matches, field_matches, where_met}
 use Rattle.fir_type_table.specs.declared.entry.Member.{Member}
 use Rattle.fir_type_table.specs.working.Saturated.{saturated}
 use Rattle.fir_type_table.specs.working.Tables.{type_at, member_fields}
@@ -22,7 +22,8 @@ use Rattle.fir_width.specs.working.Meetings.{AreFields, asked_by}
 use Rattle.fir_width.specs.working.Numbered.{Stands, Keeps}
 use Rattle.fir_width.specs.working.Sides.{IsSide}
 use Rattle.fir_width.proofs.ArenaGrows.{marks_long}
-use Rattle.fir_width.proofs.RangeSides.{flat_counted, stands_saturated}
+use Rattle.fir_width.proofs.FlatShapes.{flat_counted}
+use Rattle.fir_width.proofs.RangeSides.{stands_saturated}
 use Rattle.fir_width.proofs.Standing.{stands_left, stands_right}
 
 -- what is asked for so far, and the fields that are left, of these members

@@ -3,10 +3,10 @@ use Rattle.std.proofs.Common.{◌≡◌, ℕ, List, [], ◌++◌, Bool, true, fa
 use Rattle.std.proofs.lemmas.List.{append-nil}
 use Rattle.fir_ast.specs.Types.{DataType, uint, sint, clock, reset, async_reset, bundle, vector}
 use Rattle.fir_meaning.specs.TypeKinds.{bare}
-use Rattle.fir_meaning.specs.working.WidthExpressions.{Width, Rule}
-use Rattle.fir_meaning.specs.working.WidthRules.{bound}
-use Rattle.fir_meaning.specs.working.SizedTypes.{Scalar, Sized, scalar, sized_bundle, sized_vector}
-use Rattle.fir_meaning.specs.working.SizedMatches.{matches}
+use Rattle.fir_meaning.specs.WidthExpressions.{Width, Rule}
+use Rattle.fir_meaning.specs.WidthRules.{bound}
+use Rattle.fir_meaning.specs.SizedTypes.{Scalar, Sized, scalar, sized_bundle, sized_vector}
+use Rattle.fir_meaning.specs.SizedMatches.{matches}
 use Rattle.fir_type_table.specs.declared.kind.TypeId.{TypeId}
 use Rattle.fir_type_table.specs.declared.kind.Kind.{Kind}
 use Rattle.fir_type_table.specs.declared.kind.Kind.TheVariants as kind

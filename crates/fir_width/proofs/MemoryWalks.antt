@@ -12,9 +12,9 @@ use Rattle.fir_ast.specs.Circuits.{CircuitTree, ModuleTree}
 use Rattle.fir_meaning.specs.Checked.{joined}
 use Rattle.fir_meaning.specs.Components.{memory}
 use Rattle.fir_meaning.specs.MemoryTypes.{data_of_part, depth_of_part, first_one, memory_bundle, memory_type}
-use Rattle.fir_meaning.specs.working.OverFaults.{with_leaves}
-use Rattle.fir_meaning.specs.working.SizedTypes.{numbered}
-use Rattle.fir_meaning.specs.working.WidthExpressions.{Width}
+use Rattle.fir_meaning.specs.OverFaults.{with_leaves}
+use Rattle.fir_meaning.specs.SizedTypes.{numbered}
+use Rattle.fir_meaning.specs.WidthExpressions.{Width}
 use Rattle.fir_type_table.specs.declared.entry.Member.{Member}
 use Rattle.fir_type_table.specs.working.Tables.{member_fields, shown}
 use Rattle.fir_width.specs.declared.side.Side.{Side}

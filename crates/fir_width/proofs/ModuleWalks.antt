@@ -6,10 +6,10 @@ use Rattle.std.proofs.lemmas.Result.{on_ok_weaker}
 use Rattle.fir_ast.specs.Circuits.{CircuitTree, PortTree}
 use Rattle.fir_ast.specs.Statements.{Block}
 use Rattle.fir_meaning.specs.Visibility.{Before, at_head, behind_block, behind_ports, declarations}
-use Rattle.fir_meaning.specs.working.SizedDeclarations.{NumberedModule}
+use Rattle.fir_meaning.specs.SizedDeclarations.{NumberedModule}
 use Rattle.fir_meaning.specs.working.WellTyped.{AreLegal}
-use Rattle.fir_meaning.specs.working.WidthExpressions.{Width, Rule}
-use Rattle.fir_meaning.specs.working.WidthRules.{rules_in_block}
+use Rattle.fir_meaning.specs.WidthExpressions.{Width, Rule}
+use Rattle.fir_meaning.specs.WidthRules.{rules_in_block}
 use Rattle.fir_names.proofs.BehindStatements.{adds_block}
 use Rattle.fir_types.specs.working.ModuleNotes.{block_notes, module_notes}
 use Rattle.fir_types.specs.working.Notes.{Note}

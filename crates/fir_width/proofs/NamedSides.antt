@@ -6,9 +6,9 @@ use Rattle.fir_ast.specs.Statements.{Sink}
 use Rattle.fir_meaning.specs.Reaching.{Reached}
 use Rattle.fir_meaning.specs.TypeKinds.{bare}
 use Rattle.fir_meaning.specs.TypedScopes.{TypedScope}
-use Rattle.fir_meaning.specs.working.SizedScopes.{SizedScope, sink_expression, sized_in, sized_part, sized_type}
+use Rattle.fir_meaning.specs.SizedScopes.{SizedScope, sink_expression, sized_in, sized_part, sized_type}
 use Rattle.fir_meaning.specs.working.WellTyped.{Reaches}
-use Rattle.fir_meaning.specs.working.WidthExpressions.{Rule, Width}
+use Rattle.fir_meaning.specs.WidthExpressions.{Rule, Width}
 use Rattle.fir_meaning.proofs.FoundTypes.{found_sink}
 use Rattle.fir_type_table.specs.working.Saturated.{saturated}
 use Rattle.fir_types.specs.declared.note.LeafRange.{LeafRange as RangeOfCode}

@@ -11,15 +11,15 @@ use Rattle.fir_meaning.specs.Components as component
 use Rattle.fir_meaning.specs.Visibility.{Before, with_declaration}
 use Rattle.fir_meaning.specs.Scopes.{Scope, port_declared, type_of, written_type}
 use Rattle.fir_meaning.specs.FaultRules.{within, along_ports}
-use Rattle.fir_meaning.specs.WidthFaults.{over_width_faults, widths_in_expression, statement_width_faults, width_rule}
+use Rattle.fir_meaning.specs.working.WidthFaults.{over_width_faults, widths_in_expression, statement_width_faults, width_rule}
 use Rattle.fir_meaning.specs.LeafPaths.{LeafPath, named}
-use Rattle.fir_meaning.specs.working.WidthExpressions.{Widths, known, unknown}
-use Rattle.fir_meaning.specs.working.SizedTypes.{numbered, renumbered}
-use Rattle.fir_meaning.specs.working.SizedScopes.{SizedScope, sized_type, sink_expression}
-use Rattle.fir_meaning.specs.working.SizedDeclarations.{NumberedModule, numbers_at, sized_at}
-use Rattle.fir_meaning.specs.working.WidthRules.{rules_in}
-use Rattle.fir_meaning.specs.working.WidthWalk.{shown_within, shown_within_reset, shown_at, shown_in, shown_in_ports}
-use Rattle.fir_meaning.specs.working.OverFaults.{leaves_over, over_rule}
+use Rattle.fir_meaning.specs.WidthExpressions.{Widths, known, unknown}
+use Rattle.fir_meaning.specs.SizedTypes.{numbered, renumbered}
+use Rattle.fir_meaning.specs.SizedScopes.{SizedScope, sized_type, sink_expression}
+use Rattle.fir_meaning.specs.SizedDeclarations.{NumberedModule, numbers_at, sized_at}
+use Rattle.fir_meaning.specs.WidthRules.{rules_in}
+use Rattle.fir_meaning.specs.WidthWalk.{shown_within, shown_within_reset, shown_at, shown_in, shown_in_ports}
+use Rattle.fir_meaning.specs.OverFaults.{leaves_over, over_rule}
 use Rattle.fir_base.proofs.Empty.{empty_left, empty_right}
 use Rattle.fir_width.proofs.SmallForms.{at_clock, IsWritten, StatementStands, PortStands, PortsStand}
 use Rattle.fir_width.proofs.SizedBeside.{Beside, IsFormed}

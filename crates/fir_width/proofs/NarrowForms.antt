@@ -7,15 +7,15 @@ use Rattle.fir_ast.specs.Expressions.{Expression, reference, literal, operation,
 use Rattle.fir_meaning.specs.Scopes.{Scope, type_of}
 use Rattle.fir_meaning.specs.Operations.{is_over}
 use Rattle.fir_meaning.specs.FaultRules.{within, within_each}
-use Rattle.fir_meaning.specs.WidthFaults.{over_width_faults, widths_in_expression}
+use Rattle.fir_meaning.specs.working.WidthFaults.{over_width_faults, widths_in_expression}
 use Rattle.fir_meaning.specs.LeafPaths.{LeafPath}
-use Rattle.fir_meaning.specs.working.WidthExpressions.{Widths, width_of}
-use Rattle.fir_meaning.specs.working.SizedTypes.{Sized, scalar}
-use Rattle.fir_meaning.specs.working.SizedOperations.{number_scalar, width_in}
-use Rattle.fir_meaning.specs.working.SizedScopes.{SizedScope, sized_type}
-use Rattle.fir_meaning.specs.working.SizeFaults.{word_over, leaf_over}
-use Rattle.fir_meaning.specs.working.WidthWalk.{shown_within, shown_within_each}
-use Rattle.fir_meaning.specs.working.OverFaults.{leaves_over, form_over, over_rule}
+use Rattle.fir_meaning.specs.WidthExpressions.{Widths, width_of}
+use Rattle.fir_meaning.specs.SizedTypes.{Sized, scalar}
+use Rattle.fir_meaning.specs.SizedOperations.{number_scalar, width_in}
+use Rattle.fir_meaning.specs.SizedScopes.{SizedScope, sized_type}
+use Rattle.fir_meaning.specs.SizeFaults.{word_over, leaf_over}
+use Rattle.fir_meaning.specs.WidthWalk.{shown_within, shown_within_each}
+use Rattle.fir_meaning.specs.OverFaults.{leaves_over, form_over, over_rule}
 use Rattle.fir_base.proofs.Empty.{empty_left, empty_right}
 use Rattle.fir_meaning.proofs.PassedTests.{fails}
 use Rattle.fir_width.proofs.SmallForms.{Stands, StandEach}

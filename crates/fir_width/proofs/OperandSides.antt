@@ -5,10 +5,10 @@ use Rattle.fir_ast.specs.Circuits.{CircuitTree}
 use Rattle.fir_ast.specs.Types.{DataType}
 use Rattle.fir_ast.specs.Expressions.{Expression, Expressions, no_expressions, expression}
 use Rattle.fir_meaning.specs.TypedScopes.{TypedScope}
-use Rattle.fir_meaning.specs.working.SizedScopes.{SizedScope, sized_type, sized_types}
-use Rattle.fir_meaning.specs.working.SizedTypes.{Sized}
+use Rattle.fir_meaning.specs.SizedScopes.{SizedScope, sized_type, sized_types}
+use Rattle.fir_meaning.specs.SizedTypes.{Sized}
 use Rattle.fir_meaning.specs.working.WellTyped.{HasType, HaveTypes}
-use Rattle.fir_meaning.specs.working.WidthExpressions.{Rule, Width}
+use Rattle.fir_meaning.specs.WidthExpressions.{Rule, Width}
 use Rattle.fir_types.specs.working.Notes.{Note, expression_notes, notes_of_each}
 use Rattle.fir_width.specs.declared.ground.Ground.{Ground}
 use Rattle.fir_width.specs.declared.side.Side.{Side}

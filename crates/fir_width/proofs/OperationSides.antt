@@ -12,11 +12,11 @@ use Rattle.fir_ast.specs.Types.{DataType, uint, sint, clock, reset, async_reset,
 use Rattle.fir_meaning.specs.OperationTypes.{is_conversion, operand_kinds}
 use Rattle.fir_meaning.specs.TypeKinds.{bare}
 use Rattle.fir_meaning.specs.TypedScopes.{TypedScope}
-use Rattle.fir_meaning.specs.working.SizedOperations.{first_sized, is_signed, width_in}
-use Rattle.fir_meaning.specs.working.SizedScopes.{SizedScope, sized_type, sized_types}
-use Rattle.fir_meaning.specs.working.SizedTypes.{unsigned, signed, clock_scalar, reset_scalar, async_scalar, Sized, scalar, sized_bundle, sized_vector, bare_type}
+use Rattle.fir_meaning.specs.SizedOperations.{first_sized, is_signed, width_in}
+use Rattle.fir_meaning.specs.SizedScopes.{SizedScope, sized_type, sized_types}
+use Rattle.fir_meaning.specs.SizedTypes.{unsigned, signed, clock_scalar, reset_scalar, async_scalar, Sized, scalar, sized_bundle, sized_vector, bare_type}
 use Rattle.fir_meaning.specs.working.WellTyped.{HasType, HaveTypes}
-use Rattle.fir_meaning.specs.working.WidthExpressions.{Width}
+use Rattle.fir_meaning.specs.WidthExpressions.{Width}
 use Rattle.fir_types.specs.declared.sort.Sort.TheVariants as sort
 use Rattle.fir_types.specs.working.Seen.{found_type}
 use Rattle.fir_types.specs.working.Sorts.{same_sort, sort_of}

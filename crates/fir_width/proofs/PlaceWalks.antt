@@ -5,10 +5,10 @@ use Rattle.fir_ast.specs.Circuits.{CircuitTree}
 use Rattle.fir_meaning.specs.Visibility.{Before, declarations}
 use Rattle.fir_meaning.specs.TypedScopes.{TypedScope}
 use Rattle.fir_meaning.specs.TypeGroup.{scope_at}
-use Rattle.fir_meaning.specs.working.SizedDeclarations.{NumberedModule, sized_at}
-use Rattle.fir_meaning.specs.working.SizedScopes.{SizedScope}
-use Rattle.fir_meaning.specs.working.SizedTypes.{Sized}
-use Rattle.fir_meaning.specs.working.WidthExpressions.{Width, Rule}
+use Rattle.fir_meaning.specs.SizedDeclarations.{NumberedModule, sized_at}
+use Rattle.fir_meaning.specs.SizedScopes.{SizedScope}
+use Rattle.fir_meaning.specs.SizedTypes.{Sized}
+use Rattle.fir_meaning.specs.WidthExpressions.{Width, Rule}
 use Rattle.fir_types.specs.working.Notes.{Note}
 use Rattle.fir_types.specs.working.Walked.{Begins}
 use Rattle.fir_width.specs.declared.arena.Arena.{Arena}

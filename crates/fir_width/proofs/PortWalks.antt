@@ -5,8 +5,8 @@ use Rattle.fir_ast.specs.Circuits.{CircuitTree, PortTree}
 use Rattle.fir_meaning.specs.Components.{Declarations}
 use Rattle.fir_meaning.specs.Components as component
 use Rattle.fir_meaning.specs.Visibility.{Before, behind_ports, declaration_at, declarations, with_declaration}
-use Rattle.fir_meaning.specs.working.SizedDeclarations.{NumberedModule}
-use Rattle.fir_meaning.specs.working.WidthExpressions.{Width, Rule}
+use Rattle.fir_meaning.specs.SizedDeclarations.{NumberedModule}
+use Rattle.fir_meaning.specs.WidthExpressions.{Width, Rule}
 use Rattle.fir_types.specs.working.Notes.{Note}
 use Rattle.fir_types.specs.working.Walked.{Begins}
 use Rattle.fir_types.proofs.KnownScopes.{begins_before}

@@ -7,10 +7,10 @@ use Rattle.fir_meaning.specs.Components.{Component, Declaration, Declarations}
 use Rattle.fir_meaning.specs.Components as component
 use Rattle.fir_meaning.specs.ComponentTypes.{instance_bundle, port_fields}
 use Rattle.fir_meaning.specs.Visibility.{Before, at_head, behind, behind_block, behind_ports, declaration_at, declarations, opened, reopened, with_declaration}
-use Rattle.fir_meaning.specs.working.SharedLeaves.{shared_count}
-use Rattle.fir_meaning.specs.working.WidthExpressions.{Width}
-use Rattle.fir_meaning.specs.working.SizedTypes.{numbered, numbered_fields}
-use Rattle.fir_meaning.specs.working.SizedDeclarations.{Numbering, numbered_behind, numbered_with, port_numbers, taken_of_ports}
+use Rattle.fir_meaning.specs.SharedLeaves.{shared_count}
+use Rattle.fir_meaning.specs.WidthExpressions.{Width}
+use Rattle.fir_meaning.specs.SizedTypes.{numbered, numbered_fields}
+use Rattle.fir_meaning.specs.SizedDeclarations.{Numbering, numbered_behind, numbered_with, port_numbers, taken_of_ports}
 use Rattle.fir_width.specs.working.FlatWidths.{flat, flat_fields}
 use Rattle.fir_width.proofs.PushedWalks.{flat_long}
 

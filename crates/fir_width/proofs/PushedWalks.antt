@@ -5,9 +5,9 @@ use Rattle.std.proofs.lemmas.List.{length-append, drop_all, drop_more}
 use Rattle.fir_ast.specs.declared.place.Place.{Place}
 use Rattle.fir_ast.specs.Types.{DataType, uint, sint, clock, reset, async_reset, bundle, vector, Fields, no_fields, field}
 use Rattle.fir_meaning.specs.TypeKinds.{bare}
-use Rattle.fir_meaning.specs.working.SharedLeaves.{shared_count, shared_field_count}
-use Rattle.fir_meaning.specs.working.WidthExpressions.{Width, Rule}
-use Rattle.fir_meaning.specs.working.SizedTypes.{past, numbered, numbered_fields}
+use Rattle.fir_meaning.specs.SharedLeaves.{shared_count, shared_field_count}
+use Rattle.fir_meaning.specs.WidthExpressions.{Width, Rule}
+use Rattle.fir_meaning.specs.SizedTypes.{past, numbered, numbered_fields}
 use Rattle.fir_names.specs.declared.declaration.Component.{Component}
 use Rattle.fir_type_table.specs.declared.entry.Member.{Member}
 use Rattle.fir_type_table.specs.working.Tables.{member_fields, shown, shown_fields, type_at}

@@ -8,27 +8,22 @@ use Rattle.fir_ast.specs.Expressions.{Parts, no_parts, subfield, subindex, subac
 use Rattle.fir_meaning.specs.Reaching.{Reached, at_any, at_element, at_field, field_of_type, vector_of_type}
 use Rattle.fir_meaning.specs.TypeKinds.{FieldFound, bare, bare_fields, field_named}
 use Rattle.fir_meaning.specs.TypedScopes.{TypedScope}
-use Rattle.fir_meaning.specs.working.SharedLeaves.{shared_count}
+use Rattle.fir_meaning.specs.SharedLeaves.{shared_count}
 use Rattle.fir_meaning.specs.working.WellTyped.{Leads}
-use Rattle.fir_meaning.specs.working.WidthExpressions.{Width}
-use Rattle.fir_meaning.specs.working.SizedTypes.{Sized, unsigned, signed, clock_scalar, reset_scalar, async_scalar, scalar, sized_bundle, sized_vector, SizedFields, no_sized_fields, sized_field, bare_type, bare_type_fields, element_in, fields_in, sized_found, sized_named}
-use Rattle.fir_meaning.specs.working.SizedScopes.{sized_part}
+use Rattle.fir_meaning.specs.WidthExpressions.{Width}
+use Rattle.fir_meaning.specs.SizedTypes.{Sized, unsigned, signed, clock_scalar, reset_scalar, async_scalar, scalar, sized_bundle, sized_vector, SizedFields, no_sized_fields, sized_field, bare_type, bare_type_fields, element_in, fields_in, sized_found, sized_named}
+use Rattle.fir_meaning.specs.SizedScopes.{sized_part}
 use Rattle.fir_meaning.proofs.SizedShapes.{element_bare, field_bare}
 use Rattle.fir_type_table.specs.working.Saturated.{saturated}
 use Rattle.fir_type_table.specs.working.Sizes.{shared_before, shared_before_field}
 use Rattle.fir_types.specs.working.Notes.{LeafRange, element_range, field_range, picked_range, range_behind}
-use Rattle.fir_types.proofs.BareTypes.{shown_shared_count}
 use Rattle.fir_types.specs.working.Seen.{found_type}
 use Rattle.fir_width.specs.declared.side.Side.{Side}
 use Rattle.fir_width.specs.working.FlatWidths.{flat, flat_fields}
 use Rattle.fir_width.specs.working.Numbered.{Stands}
 use Rattle.fir_width.specs.working.Sides.{IsSide}
-use Rattle.fir_width.proofs.FlatShapes.{flat_length}
+use Rattle.fir_width.proofs.FlatShapes.{flat_counted}
 use Rattle.fir_width.proofs.Standing.{stands_left, stands_right, stands_within}
-
--- a sized type has as many leaves as its type, where all elements of a vector share theirs
-pub flat_counted : (s : Sized) (t : DataType) → bare_type s ≡ bare t → length (flat s) ≡ shared_count t
-flat_counted s t e = flat_length s ∙ (ap shared_count e ∙ shown_shared_count true t)
 
 -- of the shape of a type, with leaves from a number on
 pub record StandsAs (meant : List Width) (from : ℕ) (s : Sized) (t : DataType) : Type 0 where

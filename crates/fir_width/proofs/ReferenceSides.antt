@@ -13,9 +13,9 @@ use Rattle.fir_ast.specs.Statements.{Sink}
 use Rattle.fir_ast.specs.View.{expr_of, sink_of, expr_step, part_step, reference_step}
 use Rattle.fir_meaning.specs.Reaching.{Reached, at_any, at_element, at_field}
 use Rattle.fir_meaning.specs.TypedScopes.{TypedScope}
-use Rattle.fir_meaning.specs.working.SizedScopes.{SizedScope, sink_expression}
+use Rattle.fir_meaning.specs.SizedScopes.{SizedScope, sink_expression}
 use Rattle.fir_meaning.specs.working.WellTyped.{Leads}
-use Rattle.fir_meaning.specs.working.WidthExpressions.{Rule, Width}
+use Rattle.fir_meaning.specs.WidthExpressions.{Rule, Width}
 use Rattle.fir_names.specs.working.Parts.{part_of}
 use Rattle.fir_types.specs.working.Notes.{Note, part_notes}
 use Rattle.fir_width.specs.declared.ground.Ground.{Ground}

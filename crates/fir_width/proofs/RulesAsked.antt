@@ -5,8 +5,8 @@ use Rattle.std.proofs.lemmas.List.{append-nil}
 use Rattle.std.proofs.lemmas.Option.{slice_get-map}
 use Rattle.fir_base.specs.Lists.{In}
 use Rattle.fir_base.proofs.Members.{in_left, in_right, in_either}
-use Rattle.fir_meaning.specs.working.WidthExpressions.{Width, known, unknown, single, pair, greater, guarded, Rule}
-use Rattle.fir_meaning.specs.working.WidthRules.{bound}
+use Rattle.fir_meaning.specs.WidthExpressions.{Width, known, unknown, single, pair, greater, guarded, Rule}
+use Rattle.fir_meaning.specs.WidthRules.{bound}
 use Rattle.fir_width.specs.declared.bound.Term.TheVariants.{Same}
 use Rattle.fir_width.specs.declared.bound.Bound.{Bound}
 use Rattle.fir_width.specs.declared.arena.Arena.{Arena}

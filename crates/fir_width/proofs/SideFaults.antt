@@ -3,11 +3,11 @@ use Rattle.std.proofs.Common.{◌≡◌, List, [], ◌∷◌, ◌++◌, if◌the
 use Rattle.fir_ast.specs.declared.place.Place.{Place}
 use Rattle.fir_ast.specs.Types.{DataType}
 use Rattle.fir_meaning.specs.LeafPaths.{LeafPath}
-use Rattle.fir_meaning.specs.working.WidthExpressions.{Width, Widths}
-use Rattle.fir_meaning.specs.working.SizedTypes.{Sized}
-use Rattle.fir_meaning.specs.working.SizedLeaves.{SizedLeaf, sized_leaves}
-use Rattle.fir_meaning.specs.working.SizeFaults.{leaf_over}
-use Rattle.fir_meaning.specs.working.OverFaults.{is_leaf_over, leaves_over, has_over}
+use Rattle.fir_meaning.specs.WidthExpressions.{Width, Widths}
+use Rattle.fir_meaning.specs.SizedTypes.{Sized}
+use Rattle.fir_meaning.specs.SizedLeaves.{SizedLeaf, sized_leaves}
+use Rattle.fir_meaning.specs.SizeFaults.{leaf_over}
+use Rattle.fir_meaning.specs.OverFaults.{is_leaf_over, leaves_over, has_over}
 use Rattle.fir_width.specs.declared.side.Side.{Side}
 use Rattle.fir_width.specs.working.Numbered.{Agrees}
 use Rattle.fir_width.specs.working.NumberedLeaves.{NumberedLeaf}

@@ -1,14 +1,13 @@
 -- The leaves of a side are those of the sized type that it stands for: the same paths and orientations, and the numbers have the widths.
-use Rattle.std.proofs.Common.{◌≡◌, ℕ, ◌+◌, ◌==◌, List, [], ◌∷◌, ◌++◌, map, length, Bool, true, false, if◌then◌else◌, refl, ap, ◌∙◌, subst, length-append}
+use Rattle.std.proofs.Common.{◌≡◌, ℕ, ◌+◌, ◌==◌, List, [], ◌∷◌, ◌++◌, map, Bool, true, false, if◌then◌else◌, refl, ap, subst}
 use Rattle.fir_ast.specs.Types.{DataType, uint, sint, clock, reset, async_reset, bundle, vector, Fields, no_fields, field}
 use Rattle.fir_meaning.specs.LeafPaths.{Step, named, element}
 use Rattle.fir_meaning.specs.TypeKinds.{bare, bare_fields}
 use Rattle.fir_meaning.specs.TypeLeaves.{turned}
-use Rattle.fir_meaning.specs.working.SharedLeaves.{shared_count, shared_field_count}
-use Rattle.fir_meaning.specs.working.WidthExpressions.{Width}
-use Rattle.fir_meaning.specs.working.SizedTypes.{Scalar, unsigned, signed, clock_scalar, reset_scalar, async_scalar, Sized, scalar, sized_bundle, sized_vector, SizedFields, no_sized_fields, sized_field, bare_type, bare_type_fields}
-use Rattle.fir_meaning.specs.working.SizedLeaves.{SizedLeaf, sized_leaves, sized_field_leaves, sized_under}
-use Rattle.fir_types.proofs.BareTypes.{shown_shared_count}
+use Rattle.fir_meaning.specs.SharedLeaves.{shared_count}
+use Rattle.fir_meaning.specs.WidthExpressions.{Width}
+use Rattle.fir_meaning.specs.SizedTypes.{Scalar, unsigned, signed, clock_scalar, reset_scalar, async_scalar, Sized, scalar, sized_bundle, sized_vector, SizedFields, no_sized_fields, sized_field, bare_type, bare_type_fields}
+use Rattle.fir_meaning.specs.SizedLeaves.{SizedLeaf, sized_leaves, sized_field_leaves, sized_under}
 use Rattle.fir_types.specs.working.Seen.{found_type}
 use Rattle.fir_width.specs.declared.side.Side.{Side}
 use Rattle.fir_width.specs.working.FlatWidths.{flat, flat_fields}
@@ -16,7 +15,8 @@ use Rattle.fir_width.specs.working.Numbered.{Has, Stands}
 use Rattle.fir_width.specs.working.NumberedLeaves.{NumberedLeaf, numbered_leaves, numbered_field_leaves, numbered_under}
 use Rattle.fir_width.specs.working.Sides.{IsSide}
 use Rattle.fir_width.specs.working.SpotFaults.{leaves_of_side}
-use Rattle.fir_width.proofs.StandingParts.{stand_first, stand_second, stands_at_first}
+use Rattle.fir_width.proofs.FlatShapes.{flat_counted}
+use Rattle.fir_width.proofs.Standing.{stands_left, stands_right, stands_head}
 
 -- which number and ground type may stand beside a width
 abbrev pub Fitting : Type 1
@@ -56,24 +56,6 @@ module _ (Fits : Fitting) where
     by true e = tt
     by false e = under_alike false (element 0) ls ss (h e)
 
--- a sized type has as many widths as its type has numbers
-mutual
-  flat_count : (s : Sized) → length (flat s) ≡ shared_count (bare_type s)
-  flat_count (scalar unsigned w) = refl
-  flat_count (scalar signed w) = refl
-  flat_count (scalar clock_scalar w) = refl
-  flat_count (scalar reset_scalar w) = refl
-  flat_count (scalar async_scalar w) = refl
-  flat_count (sized_bundle fs) = flat_field_count fs
-  flat_count (sized_vector t n) = flat_count t
-
-  flat_field_count : (fs : SizedFields) → length (flat_fields fs) ≡ shared_field_count (bare_type_fields fs)
-  flat_field_count no_sized_fields = refl
-  flat_field_count (sized_field p flip x begins t rest) = length-append (flat t) (flat_fields rest) ∙ rw (flat_count t, flat_field_count rest) refl
-
-pub flat_length : (s : Sized) (t : DataType) → bare_type s ≡ bare t → length (flat s) ≡ shared_count t
-flat_length s t e = flat_count s ∙ ap shared_count e ∙ shown_shared_count true t
-
 -- a ground type is not the shape of a bundle or a vector
 not_bundle : (k : Scalar) (w : Width) (gs : Fields) → bare_type (scalar k w) ≡ bundle gs → ⊥
 not_bundle unsigned w gs e = cc
@@ -96,7 +78,7 @@ module _ (meant : List Width) where
 
   one_alike : (first : ℕ) (t : DataType) (w : Width) → Stands meant first (w ∷ [])
       → AreAlike HasWidth (record { path = []; flip = false; number = first; ground_type = t } ∷ []) (record { path = []; flip = false; width = w } ∷ [])
-  one_alike first t w h = (record { path = refl; flip = refl; fits = stands_at_first meant first w [] h }, tt)
+  one_alike first t w h = (record { path = refl; flip = refl; fits = stands_head meant first w [] h }, tt)
 
   mutual
     alike : (first : ℕ) (t : DataType) (s : Sized) → bare_type s ≡ bare t → Stands meant first (flat s) → AreAlike HasWidth (numbered_leaves first t) (sized_leaves s)
@@ -135,8 +117,8 @@ module _ (meant : List Width) where
         let behind : bare_type_fields more ≡ bare_fields rest = cc in
         let turned : turn ≡ flip = cc in
         let name : y ≡ x = cc in
-        let here = alike first t s same (stand_first meant first (flat s) (flat_fields more) h) in
-        let there = subst (λ k. Stands meant (first + k) (flat_fields more)) (flat_length s t same) (stand_second meant first (flat s) (flat_fields more) h) in
+        let here = alike first t s same (stands_left meant first (flat s) (flat_fields more) h) in
+        let there = subst (λ k. Stands meant (first + k) (flat_fields more)) (flat_counted s t same) (stands_right meant first (flat s) (flat_fields more) h) in
         rw (turned, name) (joined_alike HasWidth (map (numbered_under flip (named x)) (numbered_leaves first t)) (numbered_field_leaves (first + shared_count t) rest)
         (map (sized_under flip (named x)) (sized_leaves s)) (sized_field_leaves more) (under_alike HasWidth flip (named x) (numbered_leaves first t) (sized_leaves s) here)
         (fields_alike (first + shared_count t) rest more behind there))

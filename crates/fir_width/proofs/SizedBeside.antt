@@ -2,11 +2,11 @@
 use Rattle.std.proofs.Common.{◌≡◌, ℕ, List, [], ◌∷◌, ◌++◌, Bool, true, false, if◌then◌else◌, Some, refl, sym, ap, ◌∙◌}
 use Rattle.std.specs.Str.{bytes_eq}
 use Rattle.fir_meaning.specs.Scopes.{is_readable, Declared, Scope, look_up}
-use Rattle.fir_meaning.specs.TypeFaults.{is_source}
-use Rattle.fir_meaning.specs.working.WidthExpressions.{Width, known}
-use Rattle.fir_meaning.specs.working.SizedTypes.{Sized, scalar}
-use Rattle.fir_meaning.specs.working.SizedOperations.{number_scalar}
-use Rattle.fir_meaning.specs.working.SizedScopes.{SizedName, SizedScope, sized_in}
+use Rattle.fir_meaning.specs.working.TypeFaults.{is_source}
+use Rattle.fir_meaning.specs.WidthExpressions.{Width, known}
+use Rattle.fir_meaning.specs.SizedTypes.{Sized, scalar}
+use Rattle.fir_meaning.specs.SizedOperations.{number_scalar}
+use Rattle.fir_meaning.specs.SizedScopes.{SizedName, SizedScope, sized_in}
 
 -- declaration by declaration
 abbrev pub Beside : (Declared → Sized → Type 0) → Scope → SizedScope → Type 0

@@ -10,10 +10,10 @@ use Rattle.fir_meaning.specs.Components as component
 use Rattle.fir_meaning.specs.Visibility.{Before, declaration_at, with_declaration, behind, behind_ports}
 use Rattle.fir_meaning.specs.Scopes.{node_value, register_value, Declared, Scope, declares, port_declared, port_kind, type_of, printed_type, written_type, written_printed}
 use Rattle.fir_meaning.specs.working.Clean.{ground_type}
-use Rattle.fir_meaning.specs.working.WidthExpressions.{Width, known, unknown}
-use Rattle.fir_meaning.specs.working.SizedTypes.{Sized, scalar, numbered, renumbered}
-use Rattle.fir_meaning.specs.working.SizedOperations.{number_scalar}
-use Rattle.fir_meaning.specs.working.SizedDeclarations.{Numbering, NumberedModule, numbers_at, sized_at, sized_declared, numbered_with}
+use Rattle.fir_meaning.specs.WidthExpressions.{Width, known, unknown}
+use Rattle.fir_meaning.specs.SizedTypes.{Sized, scalar, numbered, renumbered}
+use Rattle.fir_meaning.specs.SizedOperations.{number_scalar}
+use Rattle.fir_meaning.specs.SizedDeclarations.{Numbering, NumberedModule, numbers_at, sized_at, sized_declared, numbered_with}
 use Rattle.fir_width.proofs.DeclaredScopes.{numbered_more}
 use Rattle.fir_width.proofs.SmallForms.{IsWritten, StatementStands, PortStands, PortsStand}
 use Rattle.fir_width.proofs.SizedBeside.{Beside, beside_more, IsNumber, IsFormed}

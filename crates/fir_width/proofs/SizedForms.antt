@@ -8,10 +8,10 @@ use Rattle.fir_bits.specs.Taken.{is_taken}
 use Rattle.fir_bits.specs.Types.{signed_of}
 use Rattle.fir_ast.specs.Expressions.{Expression, reference, literal, operation, mux, validif, Expressions, no_expressions, expression}
 use Rattle.fir_meaning.specs.Scopes.{Scope, type_of, types_of_each}
-use Rattle.fir_meaning.specs.working.WidthExpressions.{Width, known, greater, guarded}
-use Rattle.fir_meaning.specs.working.SizedTypes.{Sized, scalar}
-use Rattle.fir_meaning.specs.working.SizedOperations.{number_scalar, is_signed, width_in, first_sized, result_scalar, operation_width, greater_of, guarded_by}
-use Rattle.fir_meaning.specs.working.SizedScopes.{SizedScope, sized_in, sized_part, literal_width, sized_type, sized_types}
+use Rattle.fir_meaning.specs.WidthExpressions.{Width, known, greater, guarded}
+use Rattle.fir_meaning.specs.SizedTypes.{Sized, scalar}
+use Rattle.fir_meaning.specs.SizedOperations.{number_scalar, is_signed, width_in, first_sized, result_scalar, operation_width, greater_of, guarded_by}
+use Rattle.fir_meaning.specs.SizedScopes.{SizedScope, sized_in, sized_part, literal_width, sized_type, sized_types}
 use Rattle.fir_meaning.proofs.LookUps.{found_type}
 use Rattle.fir_meaning.proofs.TypedExpressions.{one_type}
 use Rattle.fir_width.proofs.CountedOperations.{operation_is}

@@ -10,7 +10,7 @@ use Rattle.fir_ast.specs.Expressions.{Expression, reference, literal, operation,
 use Rattle.fir_ast.specs.Statements.{Statement, register, node, connect, skip, Block, done, then}
 use Rattle.fir_ast.specs.Circuits.{PortTree}
 use Rattle.fir_meaning.specs.Scopes.{Declared, Scope, look_up, declares, type_of, types_of_each}
-use Rattle.fir_meaning.specs.TypeFaults.{is_source}
+use Rattle.fir_meaning.specs.working.TypeFaults.{is_source}
 use Rattle.fir_meaning.specs.working.Clean.{IsReadable, ground_type}
 
 -- a name that may be read, operands of the operation's number and kinds, a condition that is a UInt, and arms of one kind

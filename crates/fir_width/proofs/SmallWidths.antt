@@ -7,19 +7,19 @@ use Rattle.fir_ast.specs.Circuits.{ModuleTree, CircuitTree}
 use Rattle.fir_meaning.specs.Visibility.{Before, behind, behind_ports, at_head}
 use Rattle.fir_meaning.specs.Scopes.{Scope, declares, port_declared}
 use Rattle.fir_meaning.specs.FaultRules.{along, along_ports, faults_by}
-use Rattle.fir_meaning.specs.NameFaults.{name_rule}
-use Rattle.fir_meaning.specs.TypeFaults.{type_rule}
-use Rattle.fir_meaning.specs.WidthFaults.{width_rule}
-use Rattle.fir_meaning.specs.LegalityFaults.{legality_rule}
+use Rattle.fir_meaning.specs.working.NameFaults.{name_rule}
+use Rattle.fir_meaning.specs.working.TypeFaults.{type_rule}
+use Rattle.fir_meaning.specs.working.WidthFaults.{width_rule}
+use Rattle.fir_meaning.specs.working.LegalityFaults.{legality_rule}
 use Rattle.fir_meaning.specs.Lack.{lack}
 use Rattle.fir_meaning.specs.Lacking.{lacking, lacking_ports, lacking_statements, lacking_forms, lacking_module}
 use Rattle.fir_meaning.specs.Unread.{unread_module}
-use Rattle.fir_meaning.specs.working.WidthExpressions.{Widths, Rule, IsLeastOf}
-use Rattle.fir_meaning.specs.working.SizedDeclarations.{NumberedModule, first_numbers, numbers_at, sized_at}
-use Rattle.fir_meaning.specs.working.WidthRules.{AreWidths, rules_in, rules_in_block}
-use Rattle.fir_meaning.specs.working.WidthWalk.{shown_in, shown_in_block, shown_in_ports, shown_in_module}
-use Rattle.fir_meaning.specs.working.OverFaults.{over_rule, over_faults}
-use Rattle.fir_meaning.specs.working.LegalFaults.{legal_rule, legal_faults}
+use Rattle.fir_meaning.specs.WidthExpressions.{Widths, Rule, IsLeastOf}
+use Rattle.fir_meaning.specs.SizedDeclarations.{NumberedModule, first_numbers, numbers_at, sized_at}
+use Rattle.fir_meaning.specs.WidthRules.{AreWidths, rules_in, rules_in_block}
+use Rattle.fir_meaning.specs.WidthWalk.{shown_in, shown_in_block, shown_in_ports, shown_in_module}
+use Rattle.fir_meaning.specs.OverFaults.{over_rule, over_faults}
+use Rattle.fir_meaning.specs.LegalFaults.{legal_rule, legal_faults}
 use Rattle.fir_base.proofs.Empty.{empty_left, empty_right}
 use Rattle.fir_base.proofs.Members.{in_left, in_right}
 use Rattle.fir_meaning.proofs.NothingLacking.{nothing, neither, none_first}

@@ -9,12 +9,12 @@ use Rattle.fir_ast.specs.Circuits.{PortTree, CircuitTree}
 use Rattle.fir_pass.specs.Faults.{Fault}
 use Rattle.fir_meaning.specs.Components as component
 use Rattle.fir_meaning.specs.Visibility.{Before, with_declaration, opened, reopened, behind, behind_block, behind_ports, at_head}
-use Rattle.fir_meaning.specs.working.WidthExpressions.{Width, Widths}
-use Rattle.fir_meaning.specs.working.SizedScopes.{SizedScope, sink_expression}
-use Rattle.fir_meaning.specs.working.SizedDeclarations.{NumberedModule, numbered_modules, sized_at}
-use Rattle.fir_meaning.specs.working.WidthWalk.{FaultRule, shown_within, shown_within_parts, shown_within_each, shown_within_reset, shown_in, shown_in_block, shown_in_ports, shown_in_module, shown_in_circuit}
-use Rattle.fir_meaning.specs.working.OverFaults.{over_rule, over_faults}
-use Rattle.fir_meaning.specs.working.LegalFaults.{legal_rule, legal_faults}
+use Rattle.fir_meaning.specs.WidthExpressions.{Width, Widths}
+use Rattle.fir_meaning.specs.SizedScopes.{SizedScope, sink_expression}
+use Rattle.fir_meaning.specs.SizedDeclarations.{NumberedModule, numbered_modules, sized_at}
+use Rattle.fir_meaning.specs.WidthWalk.{FaultRule, shown_within, shown_within_parts, shown_within_each, shown_within_reset, shown_in, shown_in_block, shown_in_ports, shown_in_module, shown_in_circuit}
+use Rattle.fir_meaning.specs.OverFaults.{over_rule, over_faults}
+use Rattle.fir_meaning.specs.LegalFaults.{legal_rule, legal_faults}
 use Rattle.fir_width.specs.declared.spot.Spot.{Spot as SpotOfCode}
 use Rattle.fir_width.specs.working.Numbered.{Agrees}
 use Rattle.fir_width.specs.working.Spots.{Spot, of_expression, of_condition, shown_by, spots_within, spots_within_parts, spots_within_each, spots_of_condition, spots_of_sink, spots_of_reset, spot_at, spots_in, spots_in_block, spots_in_ports, spots_in_module, spots}

@@ -1,5 +1,5 @@
 -- What stands under numbers, stands there whatever is put behind.
-use Rattle.std.proofs.Common.{◌≡◌, ℕ, zero, suc, ◌+◌, ◌<◌, List, [], ◌∷◌, ◌++◌, length, Some, refl, ap, ◌∙◌, arith}
+use Rattle.std.proofs.Common.{◌≡◌, ℕ, zero, suc, ◌+◌, ◌<◌, ◌≤◌, List, [], ◌∷◌, ◌++◌, length, Some, refl, ap, ◌∙◌, arith}
 use Rattle.std.specs.Prelude.{slice_get}
 use Rattle.std.proofs.lemmas.Option.{none-some, slice_get_within}
 use Rattle.fir_base.proofs.Writes.{push_left}
@@ -7,10 +7,11 @@ use Rattle.fir_base.proofs.Elements.{there}
 use Rattle.fir_ast.specs.Types.{DataType}
 use Rattle.fir_meaning.specs.TypedScopes.{TypedScope}
 use Rattle.fir_meaning.specs.TypeGroup.{scope_at}
-use Rattle.fir_meaning.specs.working.WidthExpressions.{Width}
-use Rattle.fir_meaning.specs.working.SizedTypes.{Sized}
-use Rattle.fir_meaning.specs.working.SizedScopes.{SizedScope}
-use Rattle.fir_meaning.specs.working.SizedDeclarations.{NumberedModule, sized_at}
+use Rattle.fir_meaning.specs.WidthExpressions.{Width}
+use Rattle.fir_meaning.specs.SizedTypes.{Sized}
+use Rattle.fir_meaning.specs.SizedScopes.{SizedScope}
+use Rattle.fir_meaning.specs.SizedDeclarations.{NumberedModule, sized_at}
+use Rattle.fir_type_table.specs.working.Saturated.{saturated}
 use Rattle.fir_width.specs.declared.side.Side.{Side}
 use Rattle.fir_width.specs.working.Numbered.{Agrees, Has, Stands}
 use Rattle.fir_width.specs.working.Scenes.{AllStand, StandsInModule}
@@ -40,6 +41,12 @@ stands_right meant first es fs h = record {
       ap (slice_get meant) same ∙ h.each (length es + i) e (get_right es fs i ∙ is);
 }
 
+-- all that there is, but what is put behind it
+pub stands_whole : (meant ws more : List Width) → meant ≡ ws ++ more → Stands meant 0 ws
+stands_whole meant ws more same = record {
+  each = λ i e is. let begins : 0 + i ≡ i = omega arith in ap (slice_get meant) begins ∙ ap (λ vs. slice_get vs i) same ∙ push_left ws more i e is;
+}
+
 -- what is put behind all
 pub stands_pushed : (meant es : List Width) → Stands (meant ++ es) (length meant) es
 stands_pushed meant es = record { each = λ i e is. get_right meant es i ∙ is }
@@ -65,6 +72,17 @@ has_within meant number e h = slice_get_within meant number e h
 
 pub stands_within : (meant : List Width) (first i : ℕ) (es : List Width) → Stands meant first es → i < length es → first + i < length meant
 stands_within meant first i es h within = let it = there es i within in has_within meant (first + i) it.0 (h.each i it.0 it.1)
+
+-- a number that stands for a leaf does not stand still
+pub stands_exact : (meant : List Width) (first : ℕ) (es : List Width) → length meant ≤ 18446744073709551615 → Stands meant first es
+    → Stands meant (saturated first) es
+stands_exact meant first es small stands = record {
+  each = λ i e is.
+      let at = stands.each i e is in
+      let within = has_within meant (first + i) e at in
+      let exact : saturated first ≡ first = omega (arith, within, small) in
+      ap (λ n. slice_get meant (n + i)) exact ∙ at;
+}
 
 -- sides
 pub side_more : (ts : List DataType) (meant more : List Width) (side : Side) (s : Sized) → IsSide ts meant side s → IsSide ts (meant ++ more) side s

@@ -15,11 +15,11 @@ use Rattle.fir_ast.specs.Circuits.{CircuitTree}
 use Rattle.fir_meaning.specs.Components.{Declarations}
 use Rattle.fir_meaning.specs.Visibility.{Before, behind, behind_block, declarations}
 use Rattle.fir_meaning.specs.TypeGroup.{scope_at}
-use Rattle.fir_meaning.specs.working.SizedDeclarations.{NumberedModule, sized_at}
-use Rattle.fir_meaning.specs.working.SizedScopes.{sink_expression, sized_type}
+use Rattle.fir_meaning.specs.SizedDeclarations.{NumberedModule, sized_at}
+use Rattle.fir_meaning.specs.SizedScopes.{sink_expression, sized_type}
 use Rattle.fir_meaning.specs.working.WellTyped.{AreLegal}
-use Rattle.fir_meaning.specs.working.WidthExpressions.{Width, Rule}
-use Rattle.fir_meaning.specs.working.WidthRules.{connect_rules, rules_in, rules_in_block}
+use Rattle.fir_meaning.specs.WidthExpressions.{Width, Rule}
+use Rattle.fir_meaning.specs.WidthRules.{connect_rules, rules_in, rules_in_block}
 use Rattle.fir_names.proofs.BehindStatements.{adds_block, adds_statement}
 use Rattle.fir_types.specs.working.ModuleNotes.{block_notes, connect_notes, statement_notes}
 use Rattle.fir_types.specs.working.Notes.{Note}

@@ -8,7 +8,7 @@ use Rattle.fir_bits.specs.working.Laws.{Monotone}
 use Rattle.fir_bits.specs.declared.operators.PrimOp.{PrimOp}
 use Rattle.fir_width.specs.declared.bound.Term.{Term}
 use Rattle.fir_width.specs.declared.bound.Term.TheVariants.{Known, Same, Single, Pair, Greater, Guarded}
-use Rattle.fir_meaning.specs.working.WidthExpressions.{Widths}
+use Rattle.fir_meaning.specs.WidthExpressions.{Widths}
 use Rattle.fir_width.specs.working.Bounds.{term_width, reads}
 
 narrow_le : (a b : Bool) (x : ℕ) → (if a && b && nat_le x 128 then x else 129) ≤ 129

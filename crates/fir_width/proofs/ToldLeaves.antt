@@ -14,11 +14,11 @@ use Rattle.fir_pass.specs.Faults.{Fault, fault_of}
 use Rattle.fir_pass.specs.Groups.{first_of}
 use Rattle.fir_meaning.specs.LeafPaths.{LeafPath, named, element, step_text, path_text}
 use Rattle.fir_meaning.specs.TypeLeaves.{turned}
-use Rattle.fir_meaning.specs.working.WidthExpressions.{Widths, width_of}
-use Rattle.fir_meaning.specs.working.SizedTypes.{leaf_width, past, numbered}
-use Rattle.fir_meaning.specs.working.SizedLeaves.{SizedLeaf, sized_leaves}
-use Rattle.fir_meaning.specs.working.SizeFaults.{leaf_over, word_over, no_port_width}
-use Rattle.fir_meaning.specs.working.OverFaults.{first_path, is_leaf_over, leaves_over}
+use Rattle.fir_meaning.specs.WidthExpressions.{Widths, width_of}
+use Rattle.fir_meaning.specs.SizedTypes.{leaf_width, past, numbered}
+use Rattle.fir_meaning.specs.SizedLeaves.{SizedLeaf, sized_leaves}
+use Rattle.fir_meaning.specs.SizeFaults.{leaf_over, word_over, no_port_width}
+use Rattle.fir_meaning.specs.OverFaults.{first_path, is_leaf_over, leaves_over}
 use Rattle.fir_types.specs.working.Seen.{sink_path, steps_of}
 use Rattle.fir_width.specs.working.FirstLeaves.{first_where, leaf_is_over, says_over, leaf_says_over, lacks_width, is_unwritten_input}
 use Rattle.fir_width.specs.working.NumberedLeaves.{NumberedLeaf, numbered_leaves}

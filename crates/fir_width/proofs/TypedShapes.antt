@@ -9,11 +9,11 @@ use Rattle.fir_meaning.specs.OperationTypes.{is_conversion, operand_kind, operan
 use Rattle.fir_meaning.specs.Reaching.{Reached, at_any, at_element, at_field}
 use Rattle.fir_meaning.specs.TypeKinds.{bare}
 use Rattle.fir_meaning.specs.TypedScopes.{TypedScope}
-use Rattle.fir_meaning.specs.working.SizedOperations.{first_sized, greater_of, is_signed, operation_width, width_in}
-use Rattle.fir_meaning.specs.working.SizedScopes.{SizedScope, literal_width, sized_in, sized_part, sized_type, sized_types}
-use Rattle.fir_meaning.specs.working.SizedTypes.{Scalar, Sized, scalar, sized_bundle, sized_vector, bare_type, element_in, fields_in, sized_found, sized_named}
+use Rattle.fir_meaning.specs.SizedOperations.{first_sized, greater_of, is_signed, operation_width, width_in}
+use Rattle.fir_meaning.specs.SizedScopes.{SizedScope, literal_width, sized_in, sized_part, sized_type, sized_types}
+use Rattle.fir_meaning.specs.SizedTypes.{Scalar, Sized, scalar, sized_bundle, sized_vector, bare_type, element_in, fields_in, sized_found, sized_named}
 use Rattle.fir_meaning.specs.working.WellTyped.{HasType, HaveTypes, Leads}
-use Rattle.fir_meaning.specs.working.WidthExpressions.{Width, known}
+use Rattle.fir_meaning.specs.WidthExpressions.{Width, known}
 use Rattle.fir_meaning.proofs.SizedShapes.{bare_again, element_bare, field_bare, greater_bare, guarded_bare, number_bare, operand_signed, result_bare}
 use Rattle.fir_width.specs.working.Scenes.{AllStand}
 use Rattle.fir_width.proofs.KnownSides.{root_stands}

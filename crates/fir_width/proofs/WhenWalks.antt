@@ -7,10 +7,10 @@ use Rattle.fir_ast.specs.Circuits.{CircuitTree}
 use Rattle.fir_meaning.specs.Components.{Declarations}
 use Rattle.fir_meaning.specs.Visibility.{Before, opened, reopened, behind, behind_block, declarations}
 use Rattle.fir_meaning.specs.TypeGroup.{scope_at}
-use Rattle.fir_meaning.specs.working.SizedDeclarations.{NumberedModule, sized_at}
-use Rattle.fir_meaning.specs.working.SizedTypes.{Sized}
-use Rattle.fir_meaning.specs.working.WidthExpressions.{Width, Rule}
-use Rattle.fir_meaning.specs.working.WidthRules.{rules_in, rules_in_block}
+use Rattle.fir_meaning.specs.SizedDeclarations.{NumberedModule, sized_at}
+use Rattle.fir_meaning.specs.SizedTypes.{Sized}
+use Rattle.fir_meaning.specs.WidthExpressions.{Width, Rule}
+use Rattle.fir_meaning.specs.WidthRules.{rules_in, rules_in_block}
 use Rattle.fir_names.proofs.BehindStatements.{adds_block}
 use Rattle.fir_types.specs.working.ModuleNotes.{block_notes, statement_notes}
 use Rattle.fir_types.specs.working.Notes.{Note, expression_notes}

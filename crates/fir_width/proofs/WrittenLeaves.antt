@@ -2,10 +2,10 @@
 use Rattle.std.proofs.Common.{ℕ, ◌+◌, ◌==◌, map, if◌then◌else◌, Option, None, refl}
 use Rattle.fir_ast.specs.Types.{DataType, uint, sint, clock, reset, async_reset, bundle, vector, Fields, no_fields, field}
 use Rattle.fir_meaning.specs.LeafPaths.{named}
-use Rattle.fir_meaning.specs.working.SharedLeaves.{shared_count}
-use Rattle.fir_meaning.specs.working.WidthExpressions.{known}
-use Rattle.fir_meaning.specs.working.SizedTypes.{leaf_width, past, numbered, numbered_fields}
-use Rattle.fir_meaning.specs.working.SizedLeaves.{sized_leaves, sized_field_leaves, sized_under}
+use Rattle.fir_meaning.specs.SharedLeaves.{shared_count}
+use Rattle.fir_meaning.specs.WidthExpressions.{known}
+use Rattle.fir_meaning.specs.SizedTypes.{leaf_width, past, numbered, numbered_fields}
+use Rattle.fir_meaning.specs.SizedLeaves.{sized_leaves, sized_field_leaves, sized_under}
 use Rattle.fir_width.specs.working.NumberedLeaves.{numbered_leaves, numbered_field_leaves, numbered_under}
 use Rattle.fir_width.proofs.SideLeaves.{Fitting, AreAlike, joined_alike, under_alike, elements_alike}
 

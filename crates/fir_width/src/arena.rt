@@ -1,8 +1,8 @@
 //! Width expressions under numbers, and the bounds that they and the rules of a circuit make.
 
 ghost use Rattle.std.specs.Prelude.{◌≡◌, ◌++◌, List, [], ◌∷◌, length, true, slice_get, unwrap_or, IfOk, OnOk};
-ghost use Rattle.fir_meaning.specs.working.WidthExpressions.{Rule, Width, known, unknown};
-ghost use Rattle.fir_meaning.specs.working.WidthRules.{bound};
+ghost use Rattle.fir_meaning.specs.WidthExpressions.{Rule, Width, known, unknown};
+ghost use Rattle.fir_meaning.specs.WidthRules.{bound};
 ghost use Rattle.fir_width.specs.working.FlatWidths.{greater_each, guarded_each};
 ghost use Rattle.fir_width.specs.working.Numbered.{Has, IsTermOf, Keeps, Stands};
 
@@ -109,6 +109,7 @@ impl Arena {
         }
         Ok(())
     }
+
     /// Whether a number has no unknown of its own.
     fn is_written(&self, number: usize) -> bool
         ensures { result ≡ unwrap_or (slice_get self.now.written.items number) true }

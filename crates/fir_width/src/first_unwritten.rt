@@ -3,13 +3,13 @@
 ghost use Rattle.std.specs.Prelude.{◌≡◌, List, IfOk, flat_map, map, option_map};
 ghost use Rattle.fir_ast.specs.Types.{DataType};
 ghost use Rattle.fir_meaning.specs.LeafPaths.{named, step_text};
-ghost use Rattle.fir_meaning.specs.TypeLeaves.{turned};
 ghost use Rattle.fir_type_table.specs.working.Tables.{made_of, member_fields, members_at, shown, type_at, types_of};
 ghost use Rattle.fir_type_table.specs.working.Wanted.{IsPathFound};
 ghost use Rattle.fir_width.specs.working.FirstLeaves.{first_where, is_unwritten_input, is_unwritten_shown, lacks_width};
 ghost use Rattle.fir_width.specs.working.NumberedLeaves.{numbered_field_leaves, numbered_leaves, numbered_under};
 ghost use Rattle.fir_width.specs.working.SpotFaults.{leaves_of_side};
 
+use crate::direction::direction;
 use crate::leaf_path::{kept, put_element, put_field};
 use crate::side::Side;
 use fir_base::MemoryOut;
@@ -107,15 +107,14 @@ fn find_in_member(
 {
     let before = path.len();
     put_field(path, &member.name)?;
-    let found = find_leaf(table, member.ty, is_bare, turned(inward, member.flip), path)?;
+    let found = find_leaf(
+        table,
+        member.ty,
+        is_bare,
+        direction(inward, member.flip),
+        path,
+    )?;
     Ok(kept(path, before, found))
-}
-
-/// Below a flipped field straight leaves are inputs where flipped ones are.
-fn turned(inward: bool, flip: bool) -> bool
-    ensures { result ≡ turned inward flip }
-{
-    if inward { !flip } else { flip }
 }
 
 /// Whether a ground type is a UInt or an SInt without a width, where it is shown without its width or as it

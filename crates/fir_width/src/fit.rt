@@ -3,8 +3,11 @@
 ghost use Rattle.std.specs.Prelude.{◌≡◌, IfOk};
 ghost use Rattle.fir_ast.specs.View.{circuit_of};
 ghost use Rattle.fir_pass.specs.Faults.{fault_of};
-ghost use Rattle.fir_pass.specs.Law.{IfFault};
-ghost use Rattle.fir_width.specs.working.Fitting.{FitsAll, IsFirstWidthFault, JudgesWidths};
+ghost use Rattle.fir_pass.specs.Law.{IfFault, IsFirst};
+ghost use Rattle.fir_meaning.specs.SourceMeaning.{circuit_meaning};
+ghost use Rattle.fir_meaning.specs.working.WidthLaws.{FitsAll};
+ghost use Rattle.fir_reset.specs.working.Inferred.{AreInferred};
+ghost use Rattle.fir_width.specs.working.Fitting.{JudgesWidths};
 
 use crate::circuit::in_circuit;
 use crate::fitted::Fitted;
@@ -14,21 +17,27 @@ use crate::work_list::least_widths;
 use fir_ast::FirFault;
 use fir_base::Refused;
 use fir_bits::laws::monotone;
+use fir_reset::ResetMap;
 use fir_types::Typed;
 use std::alloc::Global;
 
-/// The circuit with the widths of its leaves; or its first fault of widths, E19, or else E20 to E22 in the
-/// order of the text, and the circuit as it was given (FIRRTL spec, "Width Inference", "Primitive
-/// Operations", "Literals", "Conditionals").
-pub fn solve(alloc: Global, typed: Typed) -> Result<Fitted, Refused<(FirFault, Typed)>>
+/// The circuit with the widths of its leaves, and with its resets; or its first fault of widths, E19, or else
+/// E20 to E22 in the order of the text, and what was given (FIRRTL spec, "Width Inference", "Primitive
+/// Operations", "Literals", "Conditionals"). The map of resets is that of the circuit.
+pub fn solve(
+    alloc: Global,
+    typed: Typed,
+    resets: ResetMap,
+) -> Result<Fitted, Refused<(FirFault, Typed, ResetMap)>>
+    requires { AreInferred (circuit_of typed) resets }
     ensures tree { IfOk result (λ f. f ≡ typed) }
     ensures fits { IfOk result (λ f. FitsAll (circuit_of typed)) }
-    ensures fault { IfFault result (λ f. IsFirstWidthFault (circuit_of typed) (fault_of f.0)) }
-    ensures back { IfFault result (λ f. f.1 ≡ typed) }
+    ensures fault { IfFault result (λ f. IsFirst 6 7 (circuit_meaning (circuit_of typed)) (fault_of f.0)) }
+    ensures back { IfFault result (λ f. (f.1 ≡ typed) × (f.2 ≡ resets)) }
 {
     match widths_of(alloc, &typed) {
-        Ok(widths) => Ok(Fitted::new(typed, widths)),
-        Err(Refused::Fault(fault)) => Err(Refused::Fault((fault, typed))),
+        Ok(widths) => Ok(Fitted::new(typed, resets, widths)),
+        Err(Refused::Fault(fault)) => Err(Refused::Fault((fault, typed, resets))),
         Err(Refused::Memory) => Err(Refused::Memory),
     }
 }

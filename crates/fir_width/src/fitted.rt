@@ -2,22 +2,26 @@
 
 ghost use Rattle.std.specs.Prelude.{◌≡◌, Some, IfOk, slice_get};
 ghost use Rattle.fir_ast.specs.View.{circuit_of};
-ghost use Rattle.fir_meaning.specs.working.WidthExpressions.{Width, Widths as Assignment, width_of};
-ghost use Rattle.fir_meaning.specs.working.WidthRules.{AreWidths};
+ghost use Rattle.fir_meaning.specs.WidthExpressions.{Width, Widths as Assignment, width_of};
+ghost use Rattle.fir_meaning.specs.WidthRules.{AreWidths};
 ghost use Rattle.fir_width.specs.working.DeclaredWidths.{leaf_widths};
-ghost use Rattle.fir_width.specs.working.Fitting.{FitsAll, HasWidths};
+ghost use Rattle.fir_meaning.specs.working.WidthLaws.{FitsAll};
+ghost use Rattle.fir_reset.specs.working.Inferred.{AreInferred};
+ghost use Rattle.fir_width.specs.working.Fitting.{HasWidths};
 
 use crate::width_at::width_at;
 use fir_ast::LeafId;
 use fir_bits::laws::monotone;
+use fir_reset::ResetMap;
 use fir_types::Typed;
 use std::marker::Model;
 
-/// A circuit in which no width is over 128 bits and none illegal, with the widths of its leaves. Contracts
-/// see the tree that was given.
+/// A circuit in which no width is over 128 bits and none illegal, with the widths of its leaves and with
+/// which of its Resets are asynchronous. Contracts see the tree that was given.
 #[derive(Drop)]
 pub struct Fitted {
     typed: Typed,
+    resets: ResetMap,
     widths: Vec<u32>,
 }
 
@@ -30,20 +34,26 @@ impl Model for Fitted {
     ghost coded = { contract.the_row.coded };
 
     ghost use Rattle.fir_ast.specs.View.{circuit_of};
+    ghost use Rattle.fir_reset.specs.working.Inferred.{AreInferred};
     ghost use Rattle.fir_width.specs.working.Fitting.{HasWidths};
 
     ghost view = { λ f. f.typed };
 
-    ghost invariant = { λ f. HasWidths (circuit_of f.typed) f.widths.items };
+    ghost invariant = { λ f. HasWidths (circuit_of f.typed) f.widths.items × AreInferred (circuit_of f.typed) f.resets };
 }
 
 impl Fitted {
-    /// The circuit with these widths, by the numbers of the leaves.
-    pub(crate) fn new(typed: Typed, widths: Vec<u32>) -> Fitted
-        requires { HasWidths (circuit_of typed) widths.items }
+    /// The circuit with these resets and widths, by the numbers of the leaves.
+    pub(crate) fn new(typed: Typed, resets: ResetMap, widths: Vec<u32>) -> Fitted
+        requires widths { HasWidths (circuit_of typed) widths.items }
+        requires resets { AreInferred (circuit_of typed) resets }
         ensures { result ≡ typed }
     {
-        Fitted { typed, widths }
+        Fitted {
+            typed,
+            resets,
+            widths,
+        }
     }
 
     /// The circuit with its types.
@@ -52,6 +62,13 @@ impl Fitted {
         ensures fits { FitsAll (circuit_of self.now) }
     {
         &self.typed
+    }
+
+    /// Which Resets are asynchronous (FIRRTL spec, "Reset Inference").
+    pub fn resets(&self) -> &ResetMap
+        ensures { AreInferred (circuit_of self.now) result.now }
+    {
+        &self.resets
     }
 
     /// The circuit with its types alone.

@@ -1,16 +1,16 @@
 //! The numbers of a form, behind those of its operands.
 
-ghost use Rattle.std.specs.Prelude.{◌≡◌, ◌++◌, ℕ, List, [], ◌∷◌, IfOk, length, slice_index};
+ghost use Rattle.std.specs.Prelude.{◌≡◌, ◌++◌, ℕ, List, [], ◌∷◌, IfOk, length};
 ghost use Rattle.fir_ast.specs.Circuits.{CircuitTree};
 ghost use Rattle.fir_ast.specs.Expressions.{Expression, Expressions, literal as written, mux, operation, validif};
 ghost use Rattle.fir_ast.specs.Types.{DataType};
 ghost use Rattle.fir_meaning.specs.TypeKinds.{bare};
 ghost use Rattle.fir_meaning.specs.TypedScopes.{TypedScope};
-ghost use Rattle.fir_meaning.specs.working.SizedOperations.{first_sized, is_signed, operation_width, result_scalar};
-ghost use Rattle.fir_meaning.specs.working.SizedScopes.{SizedScope, literal_width as width_of, sized_type, sized_types};
-ghost use Rattle.fir_meaning.specs.working.SizedTypes.{Sized, bare_type, scalar};
+ghost use Rattle.fir_meaning.specs.SizedOperations.{first_sized, is_signed, operation_width, result_scalar};
+ghost use Rattle.fir_meaning.specs.SizedScopes.{SizedScope, literal_width as width_of, sized_type, sized_types};
+ghost use Rattle.fir_meaning.specs.SizedTypes.{Sized, bare_type, scalar};
 ghost use Rattle.fir_meaning.specs.working.WellTyped.{HasType};
-ghost use Rattle.fir_meaning.specs.working.WidthExpressions.{Rule, Width};
+ghost use Rattle.fir_meaning.specs.WidthExpressions.{Rule, Width};
 ghost use Rattle.fir_type_table.specs.working.Tables.{types_of};
 ghost use Rattle.fir_types.specs.working.Notes.{Note as Meant, expression_note};
 ghost use Rattle.fir_types.specs.working.Seen.{found_type};
@@ -26,6 +26,7 @@ ghost use Rattle.fir_width.specs.working.Walks.{AreSides, ComesTo, Enters, types
 
 use crate::bound::Term;
 use crate::ground::Ground;
+use crate::integers::integer;
 use crate::side::Side;
 use crate::spot::Spot;
 use crate::walk::Walk;
@@ -113,16 +114,6 @@ fn operation_term(op: PrimOp, signed: bool, operands: &[Side], integers: &[u128]
         ),
         [one, other] => Term::Pair(op, signed, one.first, other.first),
         _ => Term::Known(0),
-    }
-}
-
-/// An integer of an operation, or 0 where it has fewer.
-fn integer(integers: &[u128], index: usize) -> u128
-    ensures { result ≡ slice_index integers.now index }
-{
-    match integers.get(index) {
-        Some(integer) => *integer,
-        None => 0,
     }
 }
 

@@ -2,8 +2,8 @@
 //! for all elements.
 
 ghost use Rattle.std.specs.Prelude.{[], ◌∷◌, OnOk};
-ghost use Rattle.fir_meaning.specs.working.SizedTypes.{leaf_width};
-ghost use Rattle.fir_meaning.specs.working.WidthExpressions.{known};
+ghost use Rattle.fir_meaning.specs.SizedTypes.{leaf_width};
+ghost use Rattle.fir_meaning.specs.WidthExpressions.{known};
 ghost use Rattle.fir_type_table.specs.working.Tables.{member_fields, members_at, shown, shown_fields, type_at, types_of};
 ghost use Rattle.fir_types.specs.working.Seen.{found_type};
 ghost use Rattle.fir_width.specs.working.PushedLeaves.{Pushes, field_widths, numbers_from, type_widths};

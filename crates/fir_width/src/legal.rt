@@ -2,9 +2,9 @@
 //! a condition of another width than 1 (FIRRTL spec, "Width Inference", "Primitive Operations", "Literals",
 //! "Conditionals").
 
-ghost use Rattle.std.specs.Prelude.{◌≡◌, ◌∷◌, IfOk, flat_map, slice_index};
+ghost use Rattle.std.specs.Prelude.{◌≡◌, ◌∷◌, IfOk, flat_map};
 ghost use Rattle.fir_ast.specs.View.{named_of};
-ghost use Rattle.fir_meaning.specs.working.LegalFaults.{operation_faults, written_literal_faults};
+ghost use Rattle.fir_meaning.specs.LegalFaults.{operation_faults, written_literal_faults};
 ghost use Rattle.fir_type_table.specs.working.Tables.{types_of};
 ghost use Rattle.fir_types.specs.working.Seen.{found_type};
 ghost use Rattle.fir_types.specs.working.Walked.{Judges};
@@ -12,6 +12,7 @@ ghost use Rattle.fir_width.specs.working.Bounds.{assigned};
 ghost use Rattle.fir_width.specs.working.SpotFaults.{condition_at, leaves_of_side, legal_at, unwritten_in};
 
 use crate::first_unwritten::first_unwritten;
+use crate::integers::integer;
 use crate::leaf_path::leaf_of_name;
 use crate::side::Side;
 use crate::spot::Spot;
@@ -108,16 +109,6 @@ fn operation(
     let word = Name::new(alloc, op.word())?;
     let numbers = behind_width(alloc, width, integers)?;
     Err(Refused::Fault(FirFault::Legality(place, word, numbers)))
-}
-
-/// The integer at a place, 0 where there are fewer.
-fn integer(integers: &[u128], index: usize) -> u128
-    ensures { result ≡ slice_index integers.now index }
-{
-    match integers.get(index) {
-        Some(integer) => *integer,
-        None => 0,
-    }
 }
 
 /// The integers behind the width.

@@ -1,7 +1,7 @@
-//! The widths of a circuit. In comes a `Typed`, a circuit without a fault of types; out comes a `Fitted`,
-//! the same circuit with the least widths that meet all its rules, read by `Widths::of`; or the first fault
-//! of widths, E19, or else E20 to E22 (FIRRTL spec, "Width Inference", "Primitive Operations", "Literals",
-//! "Conditionals").
+//! The widths of a circuit. In comes a `Typed`, a circuit without a fault of types, with its resets; out comes
+//! a `Fitted`, the same circuit with the least widths that meet all its rules, read by `Widths::of`; or the
+//! first fault of widths, E19, or else E20 to E22 (FIRRTL spec, "Width Inference", "Primitive Operations",
+//! "Literals", "Conditionals"). `infer` finds resets and widths in one pass (`pass`).
 //!
 //! `solve` (in `fit`) goes three ways one after another. One walk over the text (`circuit`, `module`,
 //! `statements`, `drives`, `expressions`, `forms`) gives each leaf and each expression a number (`arena`,
@@ -19,6 +19,7 @@ mod arena;
 mod bound;
 mod circuit;
 mod declared;
+mod direction;
 mod drives;
 mod expressions;
 mod first_over;
@@ -28,6 +29,8 @@ mod fit;
 mod fitted;
 mod forms;
 mod ground;
+mod inference;
+mod integers;
 mod laws;
 mod leaf_path;
 mod leaves;
@@ -35,6 +38,7 @@ mod legal;
 mod meet;
 mod module;
 mod over;
+mod pass;
 mod raise;
 mod readers;
 mod rounds;
@@ -49,6 +53,8 @@ mod work_list;
 pub use bound::{Bound, OVER, Term, are_within};
 pub use fit::solve;
 pub use fitted::{Fitted, Widths};
+pub use inference::infer;
 pub use laws::widths_leave_none;
+pub use pass::Infer;
 pub use rounds::least_widths_by_rounds;
 pub use work_list::least_widths;

@@ -2,17 +2,17 @@
 //! "Partial Connects").
 
 ghost use Rattle.std.specs.Prelude.{◌≡◌, ◌++◌, List, flat_map, OnOk};
-ghost use Rattle.fir_meaning.specs.TypeLeaves.{turned};
-ghost use Rattle.fir_meaning.specs.working.WidthExpressions.{Rule, Width};
-ghost use Rattle.fir_meaning.specs.working.WidthRules.{bound, connect_rules};
-ghost use Rattle.fir_meaning.specs.working.SizedMatches.{field_matches, matches, where_met};
-ghost use Rattle.fir_meaning.specs.working.SizedTypes.{Scalar, Sized, SizedFields, fields_in, scalar, sized_named, sized_vector};
+ghost use Rattle.fir_meaning.specs.WidthExpressions.{Rule, Width};
+ghost use Rattle.fir_meaning.specs.WidthRules.{bound, connect_rules};
+ghost use Rattle.fir_meaning.specs.SizedMatches.{field_matches, matches, where_met};
+ghost use Rattle.fir_meaning.specs.SizedTypes.{Scalar, Sized, SizedFields, fields_in, scalar, sized_named, sized_vector};
 ghost use Rattle.fir_type_table.specs.working.Tables.{members_at, types_of};
 ghost use Rattle.fir_width.specs.working.Meetings.{AreFields, asked_by};
 ghost use Rattle.fir_width.specs.working.Numbered.{Has, Keeps};
 ghost use Rattle.fir_width.specs.working.Sides.{IsSide};
 
 use crate::arena::Arena;
+use crate::direction::direction;
 use crate::side::Side;
 use fir_base::{MemoryOut, Name};
 use fir_type_table::{Kind, TypeId, TypeTable};
@@ -146,11 +146,4 @@ fn meet_field(
         first: right.first.saturating_add(found.shared_offset as usize),
     };
     meet(arena, table, turned, left, other)
-}
-
-/// The direction within a field that is flipped or not.
-fn direction(outer: bool, flip: bool) -> bool
-    ensures { result ≡ turned outer flip }
-{
-    outer != flip
 }

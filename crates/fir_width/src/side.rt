@@ -1,7 +1,7 @@
 //! What the walk has of an expression.
 
 ghost use Rattle.std.specs.Prelude.{◌≡◌};
-ghost use Rattle.fir_meaning.specs.working.SharedLeaves.{shared_count};
+ghost use Rattle.fir_meaning.specs.SharedLeaves.{shared_count};
 ghost use Rattle.fir_type_table.specs.working.Saturated.{saturated};
 ghost use Rattle.fir_type_table.specs.working.Tables.{types_of};
 ghost use Rattle.fir_types.specs.working.Seen.{found_type};

@@ -1,5 +1,5 @@
 -- What comes of a text.
-use Rattle.std.specs.Prelude.{◌≡◌, ℕ, List, [], ◌⊎◌, Result, Ok, Err}
+use Rattle.std.specs.Prelude.{◌≡◌, ℕ, List, ◌⊎◌, Result, Ok, Err}
 use Rattle.fir_base.specs.declared.refused.Refused.{Refused}
 use Rattle.fir_base.specs.declared.refused.Refused.TheVariants as refused
 use Rattle.fir_ast.specs.declared.fault.FirFault.{FirFault}
@@ -8,11 +8,10 @@ use Rattle.fir_ast.specs.declared.circuit.Circuit.{Circuit}
 use Rattle.fir_ast.specs.View.{circuit_of}
 use Rattle.fir_parse.specs.Spells.{Spells}
 use Rattle.fir_parse.specs.TextFaults.{TextFault}
-use Rattle.fir_driver.specs.Emits.{Emits, Takes}
-use Rattle.fir_meaning.specs.NameGroups.{HasNames}
-use Rattle.fir_meaning.specs.TypeGroup.{type_faults}
 use Rattle.fir_meaning.specs.Lack.{Lack}
-use Rattle.fir_driver.specs.Refusals.{RefusedFor, ShowsName, ShowsType}
+use Rattle.fir_driver.specs.CircuitFaults.{IsClearUpTo}
+use Rattle.fir_driver.specs.Emits.{Emits, Takes}
+use Rattle.fir_driver.specs.Refusals.{RefusedFor, ShowsEarly}
 
 -- the tree that the text spells, or its fault, unless memory ran out
 abbrev pub IsTree : List ℕ → Result Circuit (Refused FirFault) → Type 0
@@ -25,17 +24,11 @@ abbrev pub IsUnsupported : Lack → Refused FirFault → Type 0
 IsUnsupported l (refused.Fault f) = f ≡ Unsupported l.place l.word
 IsUnsupported l refused.Memory = Unit {0}
 
--- the tree that the text spells, in which no fault of names stands, or the fault for which it is refused
-abbrev pub IsNamedTree : List ℕ → Result Circuit (Refused FirFault) → Type 0
-IsNamedTree bytes (Ok t) = Spells bytes (circuit_of t) × HasNames (circuit_of t)
-IsNamedTree bytes (Err (refused.Fault f)) = TextFault bytes f ⊎ ShowsName bytes f
-IsNamedTree bytes (Err refused.Memory) = Unit {0}
-
--- in which no fault of types stands either
-abbrev pub IsTypedTree : List ℕ → Result Circuit (Refused FirFault) → Type 0
-IsTypedTree bytes (Ok t) = Spells bytes (circuit_of t) × HasNames (circuit_of t) × (type_faults (circuit_of t) ≡ [])
-IsTypedTree bytes (Err (refused.Fault f)) = TextFault bytes f ⊎ ShowsName bytes f ⊎ ShowsType bytes f
-IsTypedTree bytes (Err refused.Memory) = Unit {0}
+-- the tree that the text spells, in which no fault stands of the groups up to the last that was looked for; or the fault for which it is refused
+abbrev pub IsCheckedTree : ℕ → List ℕ → Result Circuit (Refused FirFault) → Type 0
+IsCheckedTree last bytes (Ok t) = Spells bytes (circuit_of t) × IsClearUpTo last (circuit_of t)
+IsCheckedTree last bytes (Err (refused.Fault f)) = TextFault bytes f ⊎ ShowsEarly bytes f
+IsCheckedTree last bytes (Err refused.Memory) = Unit {0}
 
 -- the circuit that the text spells, which is taken, or the fault for which it is refused
 abbrev pub IsTaken : List ℕ → Result Circuit (Refused FirFault) → Type 0

@@ -15,7 +15,7 @@ use Rattle.fir_meaning.specs.working.Clean.{IsClean, IsCleanCircuit}
 use Rattle.fir_meaning.specs.Eval.{eval}
 use Rattle.fir_meaning.specs.Exec.{fit, exec}
 use Rattle.fir_meaning.specs.Allows.{One, Run}
-use Rattle.fir_meaning.specs.Faults.{First, Faultless}
+use Rattle.fir_meaning.specs.working.Faults.{First, Faultless}
 use Rattle.fir_meaning.specs.Lacking.{is_in_language}
 
 -- a circuit without a fault has, at every state and tick of its shape, exactly one choice of values

@@ -10,8 +10,8 @@ use Rattle.fir_meaning.specs.Mentions.{uses, module_mentions, module_names}
 use Rattle.fir_meaning.specs.NameGroups.{HasNames, name_group}
 use Rattle.fir_meaning.specs.Lacking.{is_in_language}
 use Rattle.fir_meaning.specs.FaultRules.{faults_by}
-use Rattle.fir_meaning.specs.NameFaults.{name_rule}
-use Rattle.fir_meaning.specs.Faults.{main_faults}
+use Rattle.fir_meaning.specs.working.NameFaults.{name_rule}
+use Rattle.fir_meaning.specs.working.Faults.{main_faults}
 
 -- what is visible under a name, and what the module declares under it, are one
 pub record IsOneLookUp (visible : Declarations) (m : ModuleTree) (name : List ℕ) : Type 0 where

@@ -11,7 +11,7 @@ use Rattle.fir_meaning.specs.Mentions.{type_mentions}
 use Rattle.fir_meaning.specs.NameGroups.{HasNames, faults_in}
 use Rattle.fir_meaning.specs.TypeGroup.{type_faults}
 use Rattle.fir_meaning.specs.FaultRules.{faults_by}
-use Rattle.fir_meaning.specs.TypeFaults.{type_rule}
+use Rattle.fir_meaning.specs.working.TypeFaults.{type_rule}
 use Rattle.fir_meaning.specs.Lacking.{is_in_language}
 use Rattle.fir_meaning.specs.working.WellTyped.{IsWellTyped}
 

@@ -4,16 +4,20 @@ use Rattle.fir_base.specs.Lists.{In}
 use Rattle.fir_ast.specs.Types.{DataType}
 use Rattle.fir_ast.specs.Expressions.{Expression}
 use Rattle.fir_ast.specs.Circuits.{ModuleTree, CircuitTree}
+use Rattle.fir_pass.specs.Faults.{Fault}
 use Rattle.fir_meaning.specs.Components.{Declarations}
 use Rattle.fir_meaning.specs.TypeKinds.{bare}
 use Rattle.fir_meaning.specs.ExpressionTypes.{expression_type}
 use Rattle.fir_meaning.specs.ComponentTypes.{typed_scope}
-use Rattle.fir_meaning.specs.working.WidthExpressions.{Widths, Width, width_of, Rule, Meets, IsLeastOf}
-use Rattle.fir_meaning.specs.working.SizedTypes.{bare_type}
-use Rattle.fir_meaning.specs.working.SizedScopes.{sized_type}
-use Rattle.fir_meaning.specs.working.SizedDeclarations.{Numbering, numbered_behind}
-use Rattle.fir_meaning.specs.working.WidthRules.{rules, AreWidths}
-use Rattle.fir_meaning.specs.working.OverFaults.{over_faults}
+use Rattle.fir_meaning.specs.WidthExpressions.{Widths, Width, width_of, Rule, Meets, IsLeastOf}
+use Rattle.fir_meaning.specs.SizedTypes.{bare_type}
+use Rattle.fir_meaning.specs.SizedScopes.{sized_type}
+use Rattle.fir_meaning.specs.SizedDeclarations.{Numbering, numbered_behind}
+use Rattle.fir_meaning.specs.WidthRules.{rules, AreWidths}
+use Rattle.fir_meaning.specs.OverFaults.{over_faults}
+use Rattle.fir_meaning.specs.LegalFaults.{legal_faults}
+use Rattle.fir_meaning.specs.ResetWalks.{ShowsResets}
+use Rattle.fir_meaning.specs.WidthGroups.{IsInferred}
 
 -- wider unknowns never make an expression narrower
 abbrev pub WidthsGrow : Type 0
@@ -45,3 +49,15 @@ abbrev pub SizedAsTyped : Type 0
 SizedAsTyped =
     (modules : List ModuleTree) (numbers : Numbering) (ds : Declarations) (e : Expression) (t : DataType) → numbers.scope ≡ []
     → (expression_type (typed_scope modules ds) e).has ≡ Some t → bare_type (sized_type (numbered_behind modules numbers ds).scope e) ≡ bare t
+
+-- under the widths of a circuit nothing is over 128 bits, and all that stands there is legal
+pub record FitsAll (c : CircuitTree) : Type 0 where
+  pub widths : Widths
+  pub are : AreWidths c widths
+  pub over : over_faults c widths ≡ []
+  pub legal : legal_faults c widths ≡ []
+
+-- no fault of resets or widths stands in a circuit exactly where no walk joins a UInt and an AsyncReset through Resets, each width is within 128 bits, and
+-- all is legal
+abbrev pub InferredExactly : Type 0
+InferredExactly = (c : CircuitTree) → IsInferred c ↔ (((f : Fault) → ShowsResets c f → ⊥) × FitsAll c)

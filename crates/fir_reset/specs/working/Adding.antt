@@ -11,7 +11,7 @@ use Rattle.fir_reset.specs.declared.graph.Kind.TheVariants.{Reset}
 use Rattle.fir_reset.specs.declared.item.End.{End}
 use Rattle.fir_reset.specs.declared.joined.Joined.{Joined}
 use Rattle.fir_reset.specs.working.ResetGraphs.{IsJoined}
-use Rattle.fir_reset.specs.working.ResetItems.{leaf_item}
+use Rattle.fir_meaning.specs.ResetItems.{leaf_item}
 use Rattle.fir_reset.specs.working.PathKeys.{path_key}
 use Rattle.fir_reset.specs.working.Holding.{item_of}
 
@@ -38,7 +38,6 @@ pub record AddsEnd (old new : Joined) (own : End) : Type 0 where
   pub empty : list.items ≡ []
   pub graph : new.graph.items ≡ old.graph.items ++ list ∷ []
   pub numbers : new.numbers ≡ old.numbers
-  pub firsts : new.firsts ≡ old.firsts
 
 -- an end more that is a Reset of that path, which the table of numbers knows
 pub record AddsReset (old new : Joined) (number : ℕ) (leaf : LeafPath) (place : Place) : Type 0 where
@@ -52,7 +51,6 @@ pub record AddsReset (old new : Joined) (number : ℕ) (leaf : LeafPath) (place 
   pub empty : list.items ≡ []
   pub graph : new.graph.items ≡ old.graph.items ++ list ∷ []
   pub numbers : Updates (slice_cmp nat_cmp) old.numbers new.numbers (path_key number leaf) (Some (length old.ends.items))
-  pub firsts : new.firsts ≡ old.firsts
 
 -- the two are joined, and nothing else is changed
 pub record AddsJoin (old new : Joined) (one other : ℕ) : Type 0 where
@@ -60,4 +58,3 @@ pub record AddsJoin (old new : Joined) (one other : ℕ) : Type 0 where
   pub kinds : new.kinds ≡ old.kinds
   pub graph : AddsBoth old.graph.items new.graph.items one other
   pub numbers : new.numbers ≡ old.numbers
-  pub firsts : new.firsts ≡ old.firsts

@@ -7,9 +7,9 @@ use Rattle.fir_base.specs.Lists.{In}
 use Rattle.fir_ast.specs.Circuits.{CircuitTree}
 use Rattle.fir_reset.specs.declared.graph.Kind.{Kind}
 use Rattle.fir_reset.specs.declared.graph.Kind.TheVariants.{Unsigned, Asynchronous, Reset, Other}
-use Rattle.fir_reset.specs.working.ResetItems.{End}
-use Rattle.fir_reset.specs.working.ResetJoins.{Join}
-use Rattle.fir_reset.specs.working.ResetWalks.{IsReset, IsAsyncReset, IsUInt, Joined, IsLeafOf}
+use Rattle.fir_meaning.specs.ResetItems.{End}
+use Rattle.fir_meaning.specs.ResetJoins.{Join}
+use Rattle.fir_meaning.specs.ResetWalks.{IsReset, IsAsyncReset, IsUInt, Joined, IsLeafOf}
 use Rattle.fir_reset.specs.working.LeafClasses.{class_of}
 use Rattle.fir_reset.specs.working.ResetGraphs.{IsGraph, IsJoined}
 

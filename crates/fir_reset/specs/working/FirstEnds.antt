@@ -18,9 +18,9 @@ use Rattle.fir_reset.specs.declared.root.Access.TheVariants as access
 use Rattle.fir_reset.specs.declared.root.Root.{Root}
 use Rattle.fir_reset.specs.declared.root.Root.TheVariants as root
 use Rattle.fir_reset.specs.declared.joined.Joined.{Joined as JoinedOfCode}
-use Rattle.fir_reset.specs.working.ResetItems.{End, is_reset, declared_at, value_end, leaf_end}
-use Rattle.fir_reset.specs.working.ResetJoins.{Join, each_with_each}
-use Rattle.fir_reset.specs.working.ResetWalks.{IsReset, IsLeafOf, Joined}
+use Rattle.fir_meaning.specs.ResetItems.{End, is_reset, declared_at, value_end, leaf_end}
+use Rattle.fir_meaning.specs.ResetJoins.{Join, each_with_each}
+use Rattle.fir_meaning.specs.ResetWalks.{IsReset, IsLeafOf, Joined}
 use Rattle.fir_reset.specs.working.FirstPairs.{Met}
 use Rattle.fir_reset.specs.working.Holding.{path_of, IsEnd, Holds, HasNumber, HoldsMore}
 

@@ -15,13 +15,14 @@ use Rattle.fir_reset.specs.declared.item.Item.TheVariants as code
 use Rattle.fir_reset.specs.declared.item.End.{End as EndOfCode}
 use Rattle.fir_reset.specs.declared.joined.Joined.{Joined}
 use Rattle.fir_reset.specs.working.BuiltGraphs.{HasKind, IsBuilt}
+use Rattle.fir_reset.specs.working.ElementPaths.{any_element}
 use Rattle.fir_reset.specs.working.DeclaredLeaves.{IsNoInstance}
 use Rattle.fir_reset.specs.working.LeafClasses.{Class, class_of}
 use Rattle.fir_reset.specs.working.PathKeys.{path_key}
 use Rattle.fir_reset.specs.working.ResetGraphs.{IsJoined}
-use Rattle.fir_reset.specs.working.ResetItems.{Item, leaf_item, value_item, End}
-use Rattle.fir_reset.specs.working.ResetJoins.{Join, any_element}
-use Rattle.fir_reset.specs.working.ResetWalks.{IsReset}
+use Rattle.fir_meaning.specs.ResetItems.{Item, leaf_item, value_item, End}
+use Rattle.fir_meaning.specs.ResetJoins.{Join}
+use Rattle.fir_meaning.specs.ResetWalks.{IsReset}
 
 abbrev pub step_of : Step → path.Step
 step_of (step.Named x) = path.named x.now
@@ -52,29 +53,18 @@ reset_end number leaf p = record { item = leaf_item number leaf; ground_type = r
 abbrev pub under_key : Joined → ℕ → LeafPath → Option ℕ
 under_key joined number leaf = get (slice_cmp nat_cmp) joined.numbers (path_key number leaf)
 
--- the number under a key of which all elements are the first
-abbrev pub under_first : Joined → ℕ → LeafPath → Option ℕ
-under_first joined number leaf = get (slice_cmp nat_cmp) joined.firsts (path_key number leaf)
-
--- a Reset whose path is that one but for elements
-pub record IsFirst (ends : List End) (number x : ℕ) (leaf : LeafPath) : Type 0 where
-  pub path : LeafPath
-  pub place : Place
-  pub is : slice_get ends x ≡ Some (reset_end number path place)
-  pub same : map any_element path ≡ leaf
-
--- the first Reset of the class that is no instance's
-pub record HasFirst (c : CircuitTree) (ends : List End) (joined : Joined) (k : Class) : Type 0 where
+-- the Reset of the class that is no instance's, and whose elements are all the first
+pub record HasFirst (c : CircuitTree) (ends : List End) (k : Class) : Type 0 where
   pub first : ℕ
   pub number : ℕ
   pub path : LeafPath
   pub place : Place
   pub is : slice_get ends first ≡ Some (reset_end number path place)
+  pub firsts : map any_element path ≡ path
   pub no_instance : IsNoInstance c number path
   pub class : class_of c (leaf_item number path) ≡ Some k
-  pub under : under_first joined number (map any_element path) ≡ Some first
 
--- the graph is built of these joins, and the tables know its Resets
+-- the graph is built of these joins, and the table knows its Resets
 pub record Holds (c : CircuitTree) (js : List Join) (joined : Joined) : Type 0 where
   pub ends : List End
   pub are : AreEnds joined.ends.items ends
@@ -82,8 +72,7 @@ pub record Holds (c : CircuitTree) (js : List Join) (joined : Joined) : Type 0 w
   pub built : IsBuilt c js ends joined.graph.items joined.kinds.items
   pub known : (number x : ℕ) (leaf : LeafPath) → under_key joined number leaf ≡ Some x → (p : Place) × (slice_get ends x ≡ Some (reset_end number leaf p))
   pub all : (number x : ℕ) (leaf : LeafPath) (p : Place) → slice_get ends x ≡ Some (reset_end number leaf p) → under_key joined number leaf ≡ Some x
-  pub firsts : (number x : ℕ) (leaf : LeafPath) → under_first joined number leaf ≡ Some x → IsFirst ends number x leaf
-  pub classes : (x : ℕ) (e : End) (k : Class) → slice_get ends x ≡ Some e → IsReset e → class_of c e.item ≡ Some k → HasFirst c ends joined k
+  pub classes : (x : ℕ) (e : End) (k : Class) → slice_get ends x ≡ Some e → IsReset e → class_of c e.item ≡ Some k → HasFirst c ends k
 
 -- the old ends keep their numbers
 abbrev pub Extends : List End → List End → Type 0

@@ -8,9 +8,9 @@ use Rattle.fir_meaning.specs.TypedScopes.{known}
 use Rattle.fir_meaning.specs.ComponentTypes.{typed_scope}
 use Rattle.fir_types.specs.working.Notes.{position_of}
 use Rattle.fir_types.specs.working.LeafNumbers.{first_leaves}
-use Rattle.fir_reset.specs.working.ResetItems.{Item, leaf_item, value_item, End}
-use Rattle.fir_reset.specs.working.ResetJoins.{type_of_known}
-use Rattle.fir_reset.specs.working.ResetWalks.{IsReset, IsLeafOf, IsAsynchronous, ShowsResets}
+use Rattle.fir_meaning.specs.ResetItems.{Item, leaf_item, value_item, End}
+use Rattle.fir_meaning.specs.ResetJoins.{type_of_known}
+use Rattle.fir_meaning.specs.ResetWalks.{IsReset, IsLeafOf, IsAsynchronous, ShowsResets}
 use Rattle.fir_reset.specs.working.LeafClasses.{offset_where}
 
 -- the number of a leaf behind the first of its declaration

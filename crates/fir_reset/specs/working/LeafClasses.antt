@@ -8,9 +8,9 @@ use Rattle.fir_meaning.specs.Components.{Component, Declarations, port, instance
 use Rattle.fir_meaning.specs.Visibility.{declarations}
 use Rattle.fir_meaning.specs.TypedScopes.{TypedScope}
 use Rattle.fir_meaning.specs.ComponentTypes.{typed_scope}
-use Rattle.fir_meaning.specs.working.SharedLeaves.{shared_count}
-use Rattle.fir_reset.specs.working.ResetItems.{Item, leaf_item, value_item}
-use Rattle.fir_reset.specs.working.ResetJoins.{numbered_module}
+use Rattle.fir_meaning.specs.SharedLeaves.{shared_count}
+use Rattle.fir_meaning.specs.ResetItems.{Item, leaf_item, value_item}
+use Rattle.fir_meaning.specs.ResetJoins.{numbered_module}
 
 -- the ports of a module, or what is declared behind so many declarations; with how many leaves stand before the leaf, those of a vector's elements counted once
 pub data Part : Type 0 where

@@ -6,8 +6,8 @@ use Rattle.fir_ast.specs.Statements.{PlacedName, Sink, Statement, node, instance
 use Rattle.fir_ast.specs.Circuits.{CircuitTree}
 use Rattle.fir_meaning.specs.ConnectPairs.{pairs, partial_pairs}
 use Rattle.fir_meaning.specs.Visibility.{Before, opened, reopened, behind, behind_block, behind_ports, at_head}
-use Rattle.fir_meaning.specs.working.SizedScopes.{sink_expression}
-use Rattle.fir_reset.specs.working.ResetJoins.{Join, ResetModule, reset_modules, connect_joins, node_joins, instance_joins, type_at_place, numbered_module}
+use Rattle.fir_meaning.specs.SizedScopes.{sink_expression}
+use Rattle.fir_meaning.specs.ResetJoins.{Join, ResetModule, reset_modules, connect_joins, node_joins, instance_joins, type_at_place, numbered_module}
 
 pub data Sides : Type 0 where
   connected : Sink → Expression → Sides

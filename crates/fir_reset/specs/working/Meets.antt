@@ -8,7 +8,7 @@ use Rattle.fir_meaning.specs.FaultRules.{place_of}
 use Rattle.fir_meaning.specs.TypedScopes.{TypedScope}
 use Rattle.fir_meaning.specs.ExpressionTypes.{expression_type}
 use Rattle.fir_meaning.specs.TypeGroup.{scope_at}
-use Rattle.fir_meaning.specs.working.SizedScopes.{sink_expression}
+use Rattle.fir_meaning.specs.SizedScopes.{sink_expression}
 use Rattle.fir_types.specs.declared.note.Note.{Note as NoteOfCode}
 use Rattle.fir_types.specs.declared.note.LeafRange.{LeafRange as RangeOfCode}
 use Rattle.fir_types.specs.working.Notes.{Note, of_reference, reference_note}

@@ -4,7 +4,7 @@ use Rattle.std.specs.declared.alloc.Global.{Global}
 use Rattle.fir_ast.specs.Types.{DataType}
 use Rattle.fir_meaning.specs.Visibility.{at_head, behind_ports}
 use Rattle.fir_reset.specs.declared.meet.Meet.{Meet}
-use Rattle.fir_reset.specs.working.ResetJoins.{ResetModule}
+use Rattle.fir_meaning.specs.ResetJoins.{ResetModule}
 use Rattle.fir_reset.specs.working.Meetings.{Meeting, meetings_in_block}
 use Rattle.fir_reset.specs.working.Meets.{AreMeets}
 

@@ -18,7 +18,7 @@ use Rattle.fir_reset.specs.declared.meet.Source.{Source}
 use Rattle.fir_reset.specs.declared.meets.Walk.{Walk}
 use Rattle.fir_reset.specs.working.Meetings.{meetings_in}
 use Rattle.fir_reset.specs.working.Meets.{Ahead, IsNoReference, IsSource, Meets}
-use Rattle.fir_reset.specs.working.ResetJoins.{ResetModule}
+use Rattle.fir_meaning.specs.ResetJoins.{ResetModule}
 
 -- these notes are left, and nothing else has changed
 pub record Passes (ts : List DataType) (rest : List Note) (old new : Walk) : Type 0 where

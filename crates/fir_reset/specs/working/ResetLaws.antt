@@ -1,9 +1,9 @@
 -- Laws about what is joined.
 use Rattle.std.specs.Prelude.{◌≡◌, Some}
 use Rattle.fir_ast.specs.Circuits.{CircuitTree}
-use Rattle.fir_reset.specs.working.ResetItems.{End}
-use Rattle.fir_reset.specs.working.ResetJoins.{AreElements}
-use Rattle.fir_reset.specs.working.ResetWalks.{IsLeafOf, Joined}
+use Rattle.fir_meaning.specs.ResetItems.{End}
+use Rattle.fir_meaning.specs.ResetJoins.{AreElements}
+use Rattle.fir_meaning.specs.ResetWalks.{IsLeafOf, Joined}
 use Rattle.fir_reset.specs.working.LeafClasses.{Class, class_of}
 
 -- one leaf, or two that a walk of joins links through leaves of their class and ground type alone

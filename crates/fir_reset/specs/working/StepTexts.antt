@@ -2,7 +2,7 @@
 use Rattle.std.specs.Prelude.{ℕ, List, [], Option, Some, None, slice_get}
 use Rattle.fir_reset.specs.declared.item.End.{End as EndOfCode}
 use Rattle.fir_reset.specs.working.Holding.{item_of}
-use Rattle.fir_reset.specs.working.ResetWalks.{item_text}
+use Rattle.fir_meaning.specs.ResetWalks.{item_text}
 
 abbrev pub text_where : Option EndOfCode → List ℕ
 text_where None = []

@@ -4,7 +4,7 @@ use Rattle.fir_ast.specs.Circuits.{CircuitTree}
 use Rattle.fir_reset.specs.declared.joined.Joined.{Joined}
 use Rattle.fir_reset.specs.working.FoundKinds.{AllButShared}
 use Rattle.fir_reset.specs.working.Holding.{Holds}
-use Rattle.fir_reset.specs.working.ResetJoins.{Join}
+use Rattle.fir_meaning.specs.ResetJoins.{Join}
 
 -- all joins stand in it, but those of leaves of one class
 pub record IsWhole (c : CircuitTree) (joined : Joined) : Type 0 where

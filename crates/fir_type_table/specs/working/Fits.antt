@@ -8,7 +8,7 @@ use Rattle.std.specs.Ordering.{nat_cmp}
 use Rattle.fir_ast.specs.Types.{DataType, uint, sint, clock, reset, async_reset}
 use Rattle.fir_meaning.specs.TypeLeaves.{leaf_count}
 use Rattle.fir_meaning.specs.TypeKinds.{is_passive, is_numeric, is_sized}
-use Rattle.fir_meaning.specs.working.SharedLeaves.{shared_count}
+use Rattle.fir_meaning.specs.SharedLeaves.{shared_count}
 use Rattle.fir_type_table.specs.declared.kind.Kind.{Kind}
 use Rattle.fir_type_table.specs.declared.kind.Kind.TheVariants as kind
 use Rattle.fir_type_table.specs.declared.entry.Member.{Member}

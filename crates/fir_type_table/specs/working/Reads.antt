@@ -3,7 +3,7 @@ use Rattle.std.specs.Prelude.{◌≡◌, ℕ, List, Some, None, slice_get}
 use Rattle.fir_ast.specs.Types.{uint}
 use Rattle.fir_meaning.specs.TypeLeaves.{leaf_count}
 use Rattle.fir_meaning.specs.TypeKinds.{is_passive, is_numeric, is_sized}
-use Rattle.fir_meaning.specs.working.SharedLeaves.{shared_count}
+use Rattle.fir_meaning.specs.SharedLeaves.{shared_count}
 use Rattle.fir_type_table.specs.declared.entry.Entry.{Entry}
 use Rattle.fir_type_table.specs.working.Tables.{type_at, made_of, types_of}
 use Rattle.fir_type_table.specs.working.Fits.{FitsAt}

@@ -3,7 +3,7 @@ use Rattle.std.specs.Prelude.{ℕ, ◌+◌, List, if◌then◌else◌}
 use Rattle.std.specs.Str.{bytes_eq}
 use Rattle.fir_ast.specs.Types.{DataType, bundle, Fields, no_fields, field}
 use Rattle.fir_meaning.specs.TypeLeaves.{leaf_count}
-use Rattle.fir_meaning.specs.working.SharedLeaves.{shared_count}
+use Rattle.fir_meaning.specs.SharedLeaves.{shared_count}
 
 -- how many stand before the first field of that name; where no field has it, all
 abbrev pub leaves_before_field : List ℕ → Fields → ℕ

@@ -1,7 +1,7 @@
 -- The code's walk over what is declared, with numbers that stand still at 2^64 - 1.
 use Rattle.std.specs.Prelude.{◌≡◌, ℕ, ◌+◌, List, [], ◌∷◌, map, slice_get, Option, Some, option_map, unwrap_or}
 use Rattle.fir_ast.specs.Types.{DataType}
-use Rattle.fir_meaning.specs.working.SharedLeaves.{shared_count}
+use Rattle.fir_meaning.specs.SharedLeaves.{shared_count}
 use Rattle.fir_names.specs.declared.declaration.Component.{Component}
 use Rattle.fir_names.specs.declared.declaration.Component.TheVariants as code
 use Rattle.fir_names.specs.declared.names.Names.{Names}

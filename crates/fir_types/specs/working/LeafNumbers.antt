@@ -8,8 +8,8 @@ use Rattle.fir_meaning.specs.Components.{Component, port, instance, Declarations
 use Rattle.fir_meaning.specs.Visibility.{declarations}
 use Rattle.fir_meaning.specs.TypedScopes.{TypedScope}
 use Rattle.fir_meaning.specs.ComponentTypes.{typed_scope}
-use Rattle.fir_meaning.specs.working.SharedLeaves.{shared_count}
-use Rattle.fir_meaning.specs.working.SizedDeclarations.{port_numbers, all_port_numbers}
+use Rattle.fir_meaning.specs.SharedLeaves.{shared_count}
+use Rattle.fir_meaning.specs.SizedDeclarations.{port_numbers, all_port_numbers}
 use Rattle.fir_types.specs.working.Notes.{LeafRange}
 
 -- how many numbers a declaration takes: where it has no type, none

@@ -2,7 +2,7 @@
 -- A width is one of 0 to 128 bits, or 129, which stands for all that is over. An assignment gives each unknown, by its number, such a width.
 use Rattle.std.specs.Prelude.{◌≡◌, ℕ, ◌≤◌, ◌<◌, min, max, nat_lt, if◌then◌else◌, List, [], ◌∷◌, Some, slice_get, slice_index}
 use Rattle.fir_bits.specs.Widths.{counted_width}
-use Rattle.fir_meaning.specs.working.WidthExpressions.{Widths}
+use Rattle.fir_meaning.specs.WidthExpressions.{Widths}
 use Rattle.fir_width.specs.declared.bound.Term.{Term}
 use Rattle.fir_width.specs.declared.bound.Term.TheVariants.{Known, Same, Single, Pair, Greater, Guarded}
 use Rattle.fir_width.specs.declared.bound.Bound.{Bound}

@@ -3,9 +3,9 @@ use Rattle.std.specs.Prelude.{ℕ, List, ◌++◌, flat_map, take}
 use Rattle.fir_ast.specs.Circuits.{CircuitTree}
 use Rattle.fir_ast.specs.Types.{DataType}
 use Rattle.fir_meaning.specs.Visibility.{at_head, behind_ports}
-use Rattle.fir_meaning.specs.working.SizedDeclarations.{NumberedModule, numbered_modules}
-use Rattle.fir_meaning.specs.working.WidthExpressions.{Rule, Width}
-use Rattle.fir_meaning.specs.working.WidthRules.{rules, rules_in_block}
+use Rattle.fir_meaning.specs.SizedDeclarations.{NumberedModule, numbered_modules}
+use Rattle.fir_meaning.specs.WidthExpressions.{Rule, Width}
+use Rattle.fir_meaning.specs.WidthRules.{rules, rules_in_block}
 use Rattle.fir_width.specs.declared.circuit.Walked.{Walked}
 use Rattle.fir_width.specs.declared.walk.Walk.{Walk}
 use Rattle.fir_width.specs.working.DeclaredWidths.{leaf_widths}

@@ -4,9 +4,9 @@ use Rattle.fir_ast.specs.Circuits.{ModuleTree, CircuitTree}
 use Rattle.fir_meaning.specs.Components.{Component, port, instance, Declaration, Declarations}
 use Rattle.fir_meaning.specs.Visibility.{declarations}
 use Rattle.fir_meaning.specs.ComponentTypes.{instance_bundle}
-use Rattle.fir_meaning.specs.working.WidthExpressions.{Width}
-use Rattle.fir_meaning.specs.working.SizedTypes.{numbered}
-use Rattle.fir_meaning.specs.working.SizedDeclarations.{Numbering, port_numbers, sized_component, numbered_with, NumberedModule, numbered_modules}
+use Rattle.fir_meaning.specs.WidthExpressions.{Width}
+use Rattle.fir_meaning.specs.SizedTypes.{numbered}
+use Rattle.fir_meaning.specs.SizedDeclarations.{Numbering, port_numbers, sized_component, numbered_with, NumberedModule, numbered_modules}
 use Rattle.fir_width.specs.working.FlatWidths.{flat}
 
 -- of the ports of these modules, where those of the first have numbers from a number on

@@ -3,7 +3,7 @@ use Rattle.std.specs.Prelude.{List, [], ◌∷◌, Bool, true, false, ◌&&◌, 
 use Rattle.fir_ast.specs.Types.{DataType, uint, sint}
 use Rattle.fir_meaning.specs.LeafPaths.{LeafPath}
 use Rattle.fir_meaning.specs.TypeLeaves.{turned}
-use Rattle.fir_meaning.specs.working.WidthExpressions.{Widths}
+use Rattle.fir_meaning.specs.WidthExpressions.{Widths}
 use Rattle.fir_type_table.specs.working.Tables.{shown}
 use Rattle.fir_width.specs.working.NumberedLeaves.{NumberedLeaf}
 use Rattle.fir_width.specs.working.SpotFaults.{is_over}

@@ -1,5 +1,5 @@
 -- The widths that the code finds of a circuit, and the fault that it tells.
-use Rattle.std.specs.Prelude.{◌≡◌, ℕ, List, [], ◌++◌, Some, Result, Ok, Err, slice_get}
+use Rattle.std.specs.Prelude.{◌≡◌, ℕ, List, ◌++◌, Some, Result, Ok, Err, slice_get}
 use Rattle.std.specs.declared.vec.Vec.{Vec}
 use Rattle.std.specs.declared.alloc.Global.{Global}
 use Rattle.fir_base.specs.declared.refused.Refused.{Refused}
@@ -8,21 +8,15 @@ use Rattle.fir_ast.specs.Circuits.{CircuitTree}
 use Rattle.fir_pass.specs.Faults.{Fault, fault_of}
 use Rattle.fir_pass.specs.Groups.{first_of}
 use Rattle.fir_pass.specs.Law.{IfFaulty}
-use Rattle.fir_meaning.specs.working.WidthExpressions.{Width, Widths, width_of}
-use Rattle.fir_meaning.specs.working.WidthRules.{AreWidths}
-use Rattle.fir_meaning.specs.working.OverFaults.{over_faults}
-use Rattle.fir_meaning.specs.working.LegalFaults.{legal_faults}
+use Rattle.fir_meaning.specs.WidthExpressions.{Width, Widths, width_of}
+use Rattle.fir_meaning.specs.WidthRules.{AreWidths}
+use Rattle.fir_meaning.specs.OverFaults.{over_faults}
+use Rattle.fir_meaning.specs.LegalFaults.{legal_faults}
+use Rattle.fir_meaning.specs.working.WidthLaws.{FitsAll}
 use Rattle.fir_width.specs.working.Bounds.{assigned}
 use Rattle.fir_width.specs.working.DeclaredWidths.{leaf_widths}
 
--- its widths are within 128 bits, and all that stands there is legal under them
-pub record FitsAll (c : CircuitTree) : Type 0 where
-  pub widths : Widths
-  pub are : AreWidths c widths
-  pub over : over_faults c widths ≡ []
-  pub legal : legal_faults c widths ≡ []
-
--- and the code has that of each leaf that is declared
+-- the widths of a circuit fit, and the code has that of each leaf that is declared
 pub record HasWidths (c : CircuitTree) (found : List ℕ) : Type 0 where
   pub fits : FitsAll c
   pub each : (number : ℕ) (e : Width) → slice_get (leaf_widths c) number ≡ Some e → assigned found number ≡ width_of e fits.widths

@@ -1,7 +1,7 @@
 -- The widths of the leaves of a sized type one after another: all elements of a vector share theirs, whatever its length, also 0.
 use Rattle.std.specs.Prelude.{List, [], ◌∷◌, ◌++◌}
-use Rattle.fir_meaning.specs.working.WidthExpressions.{Width, greater, guarded}
-use Rattle.fir_meaning.specs.working.SizedTypes.{Sized, scalar, sized_bundle, sized_vector, SizedFields, no_sized_fields, sized_field}
+use Rattle.fir_meaning.specs.WidthExpressions.{Width, greater, guarded}
+use Rattle.fir_meaning.specs.SizedTypes.{Sized, scalar, sized_bundle, sized_vector, SizedFields, no_sized_fields, sized_field}
 
 abbrev mutual
   pub flat : Sized → List Width

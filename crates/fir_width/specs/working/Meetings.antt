@@ -2,10 +2,10 @@
 use Rattle.std.specs.Prelude.{◌≡◌, ℕ, List, flat_map}
 use Rattle.fir_ast.specs.Types.{DataType}
 use Rattle.fir_meaning.specs.TypeKinds.{bare_fields}
-use Rattle.fir_meaning.specs.working.WidthExpressions.{Width, Rule}
-use Rattle.fir_meaning.specs.working.WidthRules.{bound}
-use Rattle.fir_meaning.specs.working.SizedMatches.{Match}
-use Rattle.fir_meaning.specs.working.SizedTypes.{SizedFields, bare_type_fields}
+use Rattle.fir_meaning.specs.WidthExpressions.{Width, Rule}
+use Rattle.fir_meaning.specs.WidthRules.{bound}
+use Rattle.fir_meaning.specs.SizedMatches.{Match}
+use Rattle.fir_meaning.specs.SizedTypes.{SizedFields, bare_type_fields}
 use Rattle.fir_type_table.specs.declared.entry.Member.{Member}
 use Rattle.fir_type_table.specs.working.Tables.{member_fields}
 use Rattle.fir_width.specs.working.FlatWidths.{flat_fields}

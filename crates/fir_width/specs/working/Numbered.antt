@@ -3,7 +3,7 @@
 -- that number. An expression that is made of others has a bound of one operation on their numbers, and each rule for an unknown is a bound that says `Same`.
 use Rattle.std.specs.Prelude.{◌≡◌, ℕ, ◌+◌, ◌⊎◌, min, map, List, Bool, true, false, Some, slice_get}
 use Rattle.fir_base.specs.Lists.{In}
-use Rattle.fir_meaning.specs.working.WidthExpressions.{Width, known, unknown, single, pair, greater, guarded, Widths, width_of, Rule}
+use Rattle.fir_meaning.specs.WidthExpressions.{Width, known, unknown, single, pair, greater, guarded, Widths, width_of, Rule}
 use Rattle.fir_width.specs.declared.bound.Term.{Term}
 use Rattle.fir_width.specs.declared.bound.Term.TheVariants.{Known, Same, Single, Pair, Greater, Guarded}
 use Rattle.fir_width.specs.declared.bound.Bound.{Bound}

@@ -1,8 +1,8 @@
 -- The numbers of the operands of an operation.
 use Rattle.std.specs.Prelude.{List, [], ◌∷◌}
-use Rattle.fir_meaning.specs.working.WidthExpressions.{Width}
-use Rattle.fir_meaning.specs.working.SizedTypes.{Sized}
-use Rattle.fir_meaning.specs.working.SizedOperations.{width_in}
+use Rattle.fir_meaning.specs.WidthExpressions.{Width}
+use Rattle.fir_meaning.specs.SizedTypes.{Sized}
+use Rattle.fir_meaning.specs.SizedOperations.{width_in}
 use Rattle.fir_width.specs.declared.side.Side.{Side}
 use Rattle.fir_width.specs.working.Numbered.{Has}
 

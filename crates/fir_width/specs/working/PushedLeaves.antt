@@ -2,8 +2,8 @@
 use Rattle.std.specs.Prelude.{ℕ, ◌+◌, List, [], ◌∷◌, ◌++◌, length, Bool, true, false, Option, Some, None}
 use Rattle.fir_ast.specs.Types.{DataType, Fields}
 use Rattle.fir_meaning.specs.TypeKinds.{bare}
-use Rattle.fir_meaning.specs.working.WidthExpressions.{Width, Rule}
-use Rattle.fir_meaning.specs.working.SizedTypes.{numbered, numbered_fields}
+use Rattle.fir_meaning.specs.WidthExpressions.{Width, Rule}
+use Rattle.fir_meaning.specs.SizedTypes.{numbered, numbered_fields}
 use Rattle.fir_names.specs.declared.declaration.Component.{Component}
 use Rattle.fir_names.specs.declared.declaration.Component.TheVariants as code
 use Rattle.fir_width.specs.declared.arena.Arena.{Arena}

@@ -5,10 +5,10 @@ use Rattle.fir_meaning.specs.TypeKinds.{bare}
 use Rattle.fir_meaning.specs.TypedScopes.{Known, TypedScope}
 use Rattle.fir_meaning.specs.Visibility.{Before, declarations}
 use Rattle.fir_meaning.specs.TypeGroup.{scope_at}
-use Rattle.fir_meaning.specs.working.WidthExpressions.{Width}
-use Rattle.fir_meaning.specs.working.SizedTypes.{bare_type}
-use Rattle.fir_meaning.specs.working.SizedScopes.{SizedName, SizedScope}
-use Rattle.fir_meaning.specs.working.SizedDeclarations.{NumberedModule, sized_at}
+use Rattle.fir_meaning.specs.WidthExpressions.{Width}
+use Rattle.fir_meaning.specs.SizedTypes.{bare_type}
+use Rattle.fir_meaning.specs.SizedScopes.{SizedName, SizedScope}
+use Rattle.fir_meaning.specs.SizedDeclarations.{NumberedModule, sized_at}
 use Rattle.fir_types.specs.working.Walked.{Begins}
 use Rattle.fir_width.specs.working.FlatWidths.{flat}
 use Rattle.fir_width.specs.working.Numbered.{Stands}

@@ -3,14 +3,14 @@ use Rattle.std.specs.Prelude.{◌≡◌, [], flat_map, IsTrue}
 use Rattle.fir_ast.specs.Circuits.{CircuitTree}
 use Rattle.fir_meaning.specs.FaultRules.{faults_by}
 use Rattle.fir_meaning.specs.Lacking.{is_in_language}
-use Rattle.fir_meaning.specs.LegalityFaults.{legality_rule}
+use Rattle.fir_meaning.specs.working.LegalityFaults.{legality_rule}
 use Rattle.fir_meaning.specs.NameGroups.{HasNames}
 use Rattle.fir_meaning.specs.TypeGroup.{type_faults}
-use Rattle.fir_meaning.specs.WidthFaults.{width_rule}
-use Rattle.fir_meaning.specs.working.WidthExpressions.{Widths}
-use Rattle.fir_meaning.specs.working.WidthRules.{AreWidths}
-use Rattle.fir_meaning.specs.working.OverFaults.{over_faults}
-use Rattle.fir_meaning.specs.working.LegalFaults.{legal_faults}
+use Rattle.fir_meaning.specs.working.WidthFaults.{width_rule}
+use Rattle.fir_meaning.specs.WidthExpressions.{Widths}
+use Rattle.fir_meaning.specs.WidthRules.{AreWidths}
+use Rattle.fir_meaning.specs.OverFaults.{over_faults}
+use Rattle.fir_meaning.specs.LegalFaults.{legal_faults}
 
 -- neither list of the small language has a fault
 pub record HasNoSmallFaults (c : CircuitTree) : Type 0 where

@@ -10,11 +10,11 @@ use Rattle.fir_pass.specs.Faults.{Fault}
 use Rattle.fir_meaning.specs.LeafPaths.{LeafPath, named}
 use Rattle.fir_meaning.specs.TypeLeaves.{turned}
 use Rattle.fir_meaning.specs.ComponentTypes.{is_input}
-use Rattle.fir_meaning.specs.working.WidthExpressions.{Width, Widths}
-use Rattle.fir_meaning.specs.working.SizedTypes.{numbered}
-use Rattle.fir_meaning.specs.working.SizeFaults.{word_over, leaf_over, no_port_width, wrong_condition}
-use Rattle.fir_meaning.specs.working.OverFaults.{first_path, leaves_over, over_rule}
-use Rattle.fir_meaning.specs.working.LegalFaults.{written_literal_faults, operation_faults, legal_rule}
+use Rattle.fir_meaning.specs.WidthExpressions.{Width, Widths}
+use Rattle.fir_meaning.specs.SizedTypes.{numbered}
+use Rattle.fir_meaning.specs.SizeFaults.{word_over, leaf_over, no_port_width, wrong_condition}
+use Rattle.fir_meaning.specs.OverFaults.{first_path, leaves_over, over_rule}
+use Rattle.fir_meaning.specs.LegalFaults.{written_literal_faults, operation_faults, legal_rule}
 use Rattle.fir_types.specs.working.Seen.{found_type}
 use Rattle.fir_width.specs.declared.side.Side.{Side}
 use Rattle.fir_width.specs.declared.spot.Spot.{Spot as SpotOfCode}

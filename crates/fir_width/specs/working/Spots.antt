@@ -8,10 +8,10 @@ use Rattle.fir_pass.specs.Faults.{Fault}
 use Rattle.fir_meaning.specs.Components.{Component}
 use Rattle.fir_meaning.specs.Components as component
 use Rattle.fir_meaning.specs.Visibility.{Before, with_declaration, opened, reopened, behind, behind_block, behind_ports, at_head}
-use Rattle.fir_meaning.specs.working.SizedTypes.{Sized}
-use Rattle.fir_meaning.specs.working.SizedScopes.{SizedScope, sink_expression}
-use Rattle.fir_meaning.specs.working.SizedDeclarations.{NumberedModule, numbered_modules, sized_at, sized_declared}
-use Rattle.fir_meaning.specs.working.WidthWalk.{FaultRule}
+use Rattle.fir_meaning.specs.SizedTypes.{Sized}
+use Rattle.fir_meaning.specs.SizedScopes.{SizedScope, sink_expression}
+use Rattle.fir_meaning.specs.SizedDeclarations.{NumberedModule, numbered_modules, sized_at, sized_declared}
+use Rattle.fir_meaning.specs.WidthWalk.{FaultRule}
 
 pub data Spot : Type 0 where
   of_component : ModuleTree → PlacedName → Component → Sized → Spot

@@ -12,13 +12,13 @@ use Rattle.fir_meaning.specs.Visibility.{Before, behind, declarations, with_decl
 use Rattle.fir_meaning.specs.ComponentTypes.{component_type, find_module, typed_scope}
 use Rattle.fir_meaning.specs.TypeGroup.{scope_at}
 use Rattle.fir_meaning.specs.working.WellTyped.{IsLegal}
-use Rattle.fir_meaning.specs.working.WidthRules.{rules_in}
-use Rattle.fir_meaning.specs.working.OverFaults.{with_leaves}
-use Rattle.fir_meaning.specs.working.LegalFaults.{port_faults}
-use Rattle.fir_meaning.specs.working.WidthExpressions.{Width, Rule}
-use Rattle.fir_meaning.specs.working.SizedTypes.{Sized}
-use Rattle.fir_meaning.specs.working.SizedScopes.{SizedScope}
-use Rattle.fir_meaning.specs.working.SizedDeclarations.{NumberedModule, sized_declared}
+use Rattle.fir_meaning.specs.WidthRules.{rules_in}
+use Rattle.fir_meaning.specs.OverFaults.{with_leaves}
+use Rattle.fir_meaning.specs.LegalFaults.{port_faults}
+use Rattle.fir_meaning.specs.WidthExpressions.{Width, Rule}
+use Rattle.fir_meaning.specs.SizedTypes.{Sized}
+use Rattle.fir_meaning.specs.SizedScopes.{SizedScope}
+use Rattle.fir_meaning.specs.SizedDeclarations.{NumberedModule, sized_declared}
 use Rattle.fir_type_table.specs.working.Tables.{types_of}
 use Rattle.fir_types.specs.declared.note.Note.{Note as NoteOfCode}
 use Rattle.fir_types.specs.working.Notes.{Note, part_notes}

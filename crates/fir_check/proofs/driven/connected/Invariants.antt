@@ -1,6 +1,6 @@
 use Rattle.std.proofs.Common.{map, take}
 use Rattle.fir_ast.specs.View.{block_of, stmt_of}
-use Rattle.fir_check.specs.working.Tabulated.{Connects}
+use Rattle.fir_check.specs.working.Connected.{Connects}
 use Rattle.fir_check.proofs.driven.connected.Given as goal
 
 abbrev pub invariant-loop-statement : goal.invariant-loop-statement

@@ -1,7 +1,7 @@
 use Rattle.std.proofs.Common.{◌≡◌, List, ◌∷◌, sym, ◌∙◌}
 use Rattle.fir_ast.specs.declared.fault.FirFault.{FirFault}
 use Rattle.fir_ast.specs.Circuits.{CircuitTree}
-use Rattle.fir_meaning.specs.Faults.{First}
+use Rattle.fir_meaning.specs.working.Faults.{First}
 use Rattle.fir_meaning.proofs.laws.shows_one_first.Goals as goal
 
 same_head : (f g : FirFault) (fs gs : List FirFault) → f ∷ fs ≡ g ∷ gs → f ≡ g

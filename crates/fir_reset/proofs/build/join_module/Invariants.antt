@@ -4,7 +4,7 @@ use Rattle.fir_type_table.specs.working.Tables.{types_of}
 use Rattle.fir_reset.specs.working.Holding.{Holds}
 use Rattle.fir_reset.specs.working.Meetings.{Meeting}
 use Rattle.fir_reset.specs.working.Meets.{AreMeets}
-use Rattle.fir_reset.specs.working.ResetJoins.{Join}
+use Rattle.fir_meaning.specs.ResetJoins.{Join}
 use Rattle.fir_reset.specs.working.Resolved.{AllStandIn}
 use Rattle.fir_reset.proofs.MeetsHeld.{MeetsSoFar}
 use Rattle.fir_reset.proofs.build.join_module.Given as goal

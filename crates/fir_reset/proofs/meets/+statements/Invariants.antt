@@ -5,7 +5,7 @@ use Rattle.fir_meaning.specs.Visibility.{Before}
 use Rattle.fir_types.specs.working.ModuleNotes.{block_notes}
 use Rattle.fir_types.specs.working.Notes.{Note}
 use Rattle.fir_reset.specs.working.Meets.{Ahead}
-use Rattle.fir_reset.specs.working.ResetJoins.{ResetModule}
+use Rattle.fir_meaning.specs.ResetJoins.{ResetModule}
 use Rattle.fir_reset.proofs.MeetWalks.{AtBlock}
 use Rattle.fir_reset.proofs.meets.+statements.Given as goal
 

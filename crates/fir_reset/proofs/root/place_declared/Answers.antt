@@ -5,7 +5,7 @@ use Rattle.fir_meaning.specs.Components.{find}
 use Rattle.fir_meaning.specs.Mentions.{module_names}
 use Rattle.fir_meaning.specs.Visibility.{declarations}
 use Rattle.fir_types.proofs.PartViews.{sink_view}
-use Rattle.fir_reset.specs.working.ResetItems.{declared_at}
+use Rattle.fir_meaning.specs.ResetItems.{declared_at}
 use Rattle.fir_reset.proofs.NamedPlaces.{place_found}
 use Rattle.fir_reset.proofs.root.place_declared.Goals as goal
 

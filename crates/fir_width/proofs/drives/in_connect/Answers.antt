@@ -1,8 +1,8 @@
 use Rattle.std.proofs.Common.{[], ◌++◌, append_assoc}
 use Rattle.std.proofs.lemmas.Result.{on_ok_weaker}
 use Rattle.fir_ast.specs.View.{expr_of, sink_of}
-use Rattle.fir_meaning.specs.working.SizedScopes.{sink_expression, sized_type}
-use Rattle.fir_meaning.specs.working.WidthRules.{connect_rules}
+use Rattle.fir_meaning.specs.SizedScopes.{sink_expression, sized_type}
+use Rattle.fir_meaning.specs.WidthRules.{connect_rules}
 use Rattle.fir_types.specs.working.ModuleNotes.{connect_notes}
 use Rattle.fir_types.specs.working.Notes.{expression_notes, reference_notes}
 use Rattle.fir_width.specs.working.Spots.{spots_of_sink, spots_within}

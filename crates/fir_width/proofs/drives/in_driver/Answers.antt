@@ -1,8 +1,8 @@
 use Rattle.std.proofs.Common.{[], ◌++◌}
 use Rattle.std.proofs.lemmas.Result.{on_ok_weaker}
 use Rattle.fir_ast.specs.View.{expr_of}
-use Rattle.fir_meaning.specs.working.SizedScopes.{sized_type}
-use Rattle.fir_meaning.specs.working.WidthRules.{connect_rules}
+use Rattle.fir_meaning.specs.SizedScopes.{sized_type}
+use Rattle.fir_meaning.specs.WidthRules.{connect_rules}
 use Rattle.fir_width.specs.working.Spots.{spots_within}
 use Rattle.fir_width.specs.working.Walks.{types_in}
 use Rattle.fir_width.proofs.PlaceWalks.{driven_comes}

@@ -2,8 +2,8 @@ use Rattle.std.proofs.Common.{[], ◌++◌, append_assoc}
 use Rattle.std.specs.Prelude.{Some}
 use Rattle.std.proofs.lemmas.Result.{on_ok_weaker}
 use Rattle.fir_ast.specs.View.{reset_of}
-use Rattle.fir_meaning.specs.working.SizedScopes.{sized_type}
-use Rattle.fir_meaning.specs.working.WidthRules.{init_rules}
+use Rattle.fir_meaning.specs.SizedScopes.{sized_type}
+use Rattle.fir_meaning.specs.WidthRules.{init_rules}
 use Rattle.fir_types.specs.working.ModuleNotes.{reset_notes}
 use Rattle.fir_types.specs.working.Notes.{expression_notes}
 use Rattle.fir_width.specs.working.Spots.{spots_of_condition, spots_within}

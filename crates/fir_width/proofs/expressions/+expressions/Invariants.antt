@@ -4,9 +4,9 @@ use Rattle.fir_ast.specs.Types.{DataType}
 use Rattle.fir_ast.specs.View.{expr_of, expressions_of, parts_of, sink_of}
 use Rattle.fir_meaning.specs.Reaching.{Reached}
 use Rattle.fir_meaning.specs.TypedScopes.{TypedScope}
-use Rattle.fir_meaning.specs.working.SizedScopes.{SizedScope}
+use Rattle.fir_meaning.specs.SizedScopes.{SizedScope}
 use Rattle.fir_meaning.specs.working.WellTyped.{HaveTypes, Reaches}
-use Rattle.fir_meaning.specs.working.WidthExpressions.{Rule, Width}
+use Rattle.fir_meaning.specs.WidthExpressions.{Rule, Width}
 use Rattle.fir_names.specs.working.Parts.{part_of}
 use Rattle.fir_types.specs.working.Notes.{Note as Meant, notes_of_each, part_notes}
 use Rattle.fir_width.specs.working.Walks.{Enters}

@@ -1,6 +1,6 @@
 use Rattle.std.proofs.Common.{◌≡◌, ◌+◌, length, ap, ◌∙◌, arith}
 use Rattle.fir_meaning.specs.LeafPaths.{element, named}
-use Rattle.fir_meaning.specs.working.SharedLeaves.{shared_count}
+use Rattle.fir_meaning.specs.SharedLeaves.{shared_count}
 use Rattle.fir_type_table.specs.working.Tables.{type_at, types_of}
 use Rattle.fir_type_table.proofs.MemberLists.{members_from}
 use Rattle.fir_type_table.proofs.WantedPaths.{found_here, passed_over, kept_behind}

@@ -1,7 +1,7 @@
 use Rattle.std.proofs.Common.{◌≡◌, ◌+◌, length, refl, ap, ◌∙◌, arith}
 use Rattle.fir_meaning.specs.LeafPaths.{element, named}
 use Rattle.fir_meaning.specs.TypeLeaves.{turned}
-use Rattle.fir_meaning.specs.working.SharedLeaves.{shared_count}
+use Rattle.fir_meaning.specs.SharedLeaves.{shared_count}
 use Rattle.fir_type_table.specs.working.Tables.{type_at, types_of}
 use Rattle.fir_type_table.proofs.MemberLists.{members_from}
 use Rattle.fir_type_table.proofs.WantedPaths.{found_here, passed_over, kept_behind}
@@ -40,7 +40,7 @@ find_in_member-returns t c =
     let counted : c.len-before.result ≡ length c.args.path.now.items = omega (arith, c.args.path.now.ok.0, c.len-before.ensures) in
     kept_behind c.args.path.now.items c.put_field.new.path.items c.find_leaf.new.path.items c.kept.new.path.items c.len-before.result c.in_ok-found.found
     c.kept.result (named m.name) (first_where (is_unwritten_shown c.args.is_bare (turned c.args.inward m.flip)) leaves) _ counted c.in_ok-put_field.ensures
-    (rw c.turned.ensures at c.in_ok-found.ensures) c.kept.ensures.same c.kept.ensures.path
+    (rw c.direction.ensures at c.in_ok-found.ensures) c.kept.ensures.same c.kept.ensures.path
     (unwritten_under c.args.is_bare c.args.inward m.flip m.name leaves)
 
 pub find_leaf-returns-in_ok-found-in-Vector : goal.find_leaf-returns-in_ok-found-in-Vector

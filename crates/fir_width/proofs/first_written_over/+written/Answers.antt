@@ -1,7 +1,7 @@
 use Rattle.std.proofs.Common.{◌≡◌, ◌+◌, length, refl, ap, ◌∙◌, arith}
 use Rattle.fir_ast.specs.View.{type_of}
 use Rattle.fir_meaning.specs.LeafPaths.{element, named}
-use Rattle.fir_meaning.specs.working.SharedLeaves.{shared_count}
+use Rattle.fir_meaning.specs.SharedLeaves.{shared_count}
 use Rattle.fir_type_table.proofs.WantedPaths.{found_here, passed_over, kept_behind}
 use Rattle.fir_width.specs.working.FirstLeaves.{first_where, leaf_says_over}
 use Rattle.fir_width.specs.working.NumberedLeaves.{numbered_leaves}

@@ -1,7 +1,7 @@
 use Rattle.std.proofs.Common.{[], ◌∷◌, ◌++◌, ◌∙◌, sym, ap, subst}
 use Rattle.fir_ast.specs.Expressions.{literal}
-use Rattle.fir_meaning.specs.working.SizedScopes.{literal_width, sized_type}
-use Rattle.fir_meaning.specs.working.WidthExpressions.{known}
+use Rattle.fir_meaning.specs.SizedScopes.{literal_width, sized_type}
+use Rattle.fir_meaning.specs.WidthExpressions.{known}
 use Rattle.fir_types.specs.working.Notes.{expression_note}
 use Rattle.fir_width.specs.declared.spot.Spot.TheVariants as code
 use Rattle.fir_width.specs.declared.walk.Walk.{Walk}

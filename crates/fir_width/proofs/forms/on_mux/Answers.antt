@@ -2,9 +2,9 @@ use Rattle.std.proofs.Common.{◌≡◌, ◌++◌, ◌∙◌, append_assoc, true
 use Rattle.std.proofs.lemmas.Result.{IfOk-weaker}
 use Rattle.fir_ast.specs.Expressions.{mux}
 use Rattle.fir_meaning.specs.TypeKinds.{bare}
-use Rattle.fir_meaning.specs.working.SizedOperations.{greater_of, width_in}
-use Rattle.fir_meaning.specs.working.SizedScopes.{sized_type}
-use Rattle.fir_meaning.specs.working.SizedTypes.{bare_type}
+use Rattle.fir_meaning.specs.SizedOperations.{greater_of, width_in}
+use Rattle.fir_meaning.specs.SizedScopes.{sized_type}
+use Rattle.fir_meaning.specs.SizedTypes.{bare_type}
 use Rattle.fir_meaning.proofs.SizedShapes.{greater_bare}
 use Rattle.fir_types.specs.working.Notes.{expression_note}
 use Rattle.fir_types.specs.working.Seen.{found_type}

@@ -1,7 +1,7 @@
 use Rattle.std.proofs.Common.{[], ◌∷◌, ◌++◌, ◌∙◌, sym, ap, subst}
 use Rattle.fir_ast.specs.Expressions.{operation}
-use Rattle.fir_meaning.specs.working.SizedOperations.{first_sized, operation_width}
-use Rattle.fir_meaning.specs.working.SizedScopes.{sized_type, sized_types}
+use Rattle.fir_meaning.specs.SizedOperations.{first_sized, operation_width}
+use Rattle.fir_meaning.specs.SizedScopes.{sized_type, sized_types}
 use Rattle.fir_types.specs.working.Notes.{expression_note}
 use Rattle.fir_width.specs.declared.spot.Spot.TheVariants as code
 use Rattle.fir_width.specs.declared.walk.Walk.{Walk}

@@ -1,10 +1,10 @@
 use Rattle.std.proofs.Common.{◌≡◌, ◌++◌, ◌∙◌, false, sym, ap, subst}
 use Rattle.std.proofs.lemmas.Result.{IfOk-weaker}
 use Rattle.fir_ast.specs.Expressions.{validif}
-use Rattle.fir_meaning.specs.working.SizedOperations.{width_in}
-use Rattle.fir_meaning.specs.working.SizedScopes.{sized_type}
+use Rattle.fir_meaning.specs.SizedOperations.{width_in}
+use Rattle.fir_meaning.specs.SizedScopes.{sized_type}
 use Rattle.fir_meaning.specs.TypeKinds.{bare}
-use Rattle.fir_meaning.specs.working.SizedTypes.{bare_type}
+use Rattle.fir_meaning.specs.SizedTypes.{bare_type}
 use Rattle.fir_types.specs.working.Seen.{found_type}
 use Rattle.fir_types.specs.working.Notes.{expression_note}
 use Rattle.fir_width.specs.declared.walk.Walk.{Walk}

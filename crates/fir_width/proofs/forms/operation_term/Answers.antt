@@ -1,8 +1,8 @@
 use Rattle.std.proofs.Common.{◌≡◌, ◌≤◌, ℕ, List, [], ◌∷◌, length, refl, arith}
 use Rattle.fir_bits.specs.declared.operators.PrimOp.{PrimOp}
-use Rattle.fir_meaning.specs.working.SizedOperations.{operation_width}
-use Rattle.fir_meaning.specs.working.SizedTypes.{Sized}
-use Rattle.fir_meaning.specs.working.WidthExpressions.{Width}
+use Rattle.fir_meaning.specs.SizedOperations.{operation_width}
+use Rattle.fir_meaning.specs.SizedTypes.{Sized}
+use Rattle.fir_meaning.specs.WidthExpressions.{Width}
 use Rattle.fir_width.specs.declared.bound.Term.TheVariants.{Known}
 use Rattle.fir_width.specs.declared.side.Side.{Side}
 use Rattle.fir_width.specs.working.Numbered.{IsTermOf}

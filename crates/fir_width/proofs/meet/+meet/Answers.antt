@@ -1,8 +1,8 @@
 use Rattle.std.proofs.Common.{◌+◌, ◌<◌, ◌^◌, ◌++◌, length, refl, sym, ap, ◌∙◌, subst, arith}
 use Rattle.std.proofs.lemmas.List.{append-nil}
 use Rattle.std.specs.Prelude.{option_map}
-use Rattle.fir_meaning.specs.working.SizedTypes.{fields_in, scalar, sized_named, sized_vector}
-use Rattle.fir_meaning.specs.working.SizedMatches.{field_matches, matches, where_met}
+use Rattle.fir_meaning.specs.SizedTypes.{fields_in, scalar, sized_named, sized_vector}
+use Rattle.fir_meaning.specs.SizedMatches.{field_matches, matches, where_met}
 use Rattle.fir_type_table.specs.working.Saturated.{saturated}
 use Rattle.fir_type_table.specs.working.Tables.{made_of, members_at, type_at, types_of}
 use Rattle.fir_types.specs.working.Seen.{field_seen, found_type}

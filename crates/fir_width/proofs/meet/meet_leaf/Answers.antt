@@ -1,6 +1,6 @@
-use Rattle.fir_meaning.specs.working.WidthRules.{bound}
-use Rattle.fir_meaning.specs.working.SizedMatches.{matches}
-use Rattle.fir_meaning.specs.working.SizedTypes.{scalar}
+use Rattle.fir_meaning.specs.WidthRules.{bound}
+use Rattle.fir_meaning.specs.SizedMatches.{matches}
+use Rattle.fir_meaning.specs.SizedTypes.{scalar}
 use Rattle.fir_type_table.specs.working.Tables.{types_of}
 use Rattle.fir_width.specs.working.Meetings.{asked_by}
 use Rattle.fir_width.proofs.MeetLeaves.{sorted_leaf, straight_leaves, turned_leaves, asked_same}

@@ -2,8 +2,8 @@ use Rattle.std.proofs.Common.{List, map, drop}
 use Rattle.fir_ast.specs.Circuits.{CircuitTree}
 use Rattle.fir_ast.specs.View.{port_of}
 use Rattle.fir_meaning.specs.Visibility.{Before, behind_ports, declarations}
-use Rattle.fir_meaning.specs.working.SizedDeclarations.{NumberedModule}
-use Rattle.fir_meaning.specs.working.WidthExpressions.{Rule, Width}
+use Rattle.fir_meaning.specs.SizedDeclarations.{NumberedModule}
+use Rattle.fir_meaning.specs.WidthExpressions.{Rule, Width}
 use Rattle.fir_types.specs.working.Notes.{Note}
 use Rattle.fir_types.specs.working.Walked.{Begins}
 use Rattle.fir_width.specs.working.Walks.{EntersAt}

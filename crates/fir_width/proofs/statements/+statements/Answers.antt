@@ -11,10 +11,10 @@ use Rattle.fir_ast.specs.Statements.{connect, done, memory, node, partial_connec
 use Rattle.fir_ast.proofs.TreeViews.{connect_view, node_view, register_view, tree_of_register}
 use Rattle.fir_ast.specs.Types.{uint}
 use Rattle.fir_meaning.specs.Visibility.{declarations, opened}
-use Rattle.fir_meaning.specs.working.SizedScopes.{sized_type}
-use Rattle.fir_meaning.specs.working.WidthRules.{rules_in_block}
+use Rattle.fir_meaning.specs.SizedScopes.{sized_type}
+use Rattle.fir_meaning.specs.WidthRules.{rules_in_block}
 use Rattle.fir_meaning.specs.TypeGroup.{scope_at}
-use Rattle.fir_meaning.specs.working.SizedDeclarations.{sized_at}
+use Rattle.fir_meaning.specs.SizedDeclarations.{sized_at}
 use Rattle.fir_names.specs.working.Parts.{when_view}
 use Rattle.fir_names.proofs.FirstMentions.{views_left}
 use Rattle.fir_names.proofs.StatementViews.{wire_view, partial_connect_view, invalid_view, when_is}

@@ -2,9 +2,9 @@ use Rattle.std.proofs.Common.{List, ◌++◌, map, drop}
 use Rattle.fir_ast.specs.Circuits.{CircuitTree}
 use Rattle.fir_ast.specs.View.{block_of, stmt_of}
 use Rattle.fir_meaning.specs.Visibility.{Before, behind_block, declarations}
-use Rattle.fir_meaning.specs.working.SizedDeclarations.{NumberedModule}
+use Rattle.fir_meaning.specs.SizedDeclarations.{NumberedModule}
 use Rattle.fir_meaning.specs.working.WellTyped.{AreLegal}
-use Rattle.fir_meaning.specs.working.WidthExpressions.{Rule, Width}
+use Rattle.fir_meaning.specs.WidthExpressions.{Rule, Width}
 use Rattle.fir_types.specs.working.ModuleNotes.{block_notes}
 use Rattle.fir_types.specs.working.Notes.{Note}
 use Rattle.fir_types.specs.working.Walked.{Begins}

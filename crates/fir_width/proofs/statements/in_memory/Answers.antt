@@ -3,7 +3,7 @@ use Rattle.fir_ast.specs.View.{memory_part_of, named_of}
 use Rattle.fir_meaning.specs.Components.{memory}
 use Rattle.fir_meaning.specs.MemoryTypes.{memory_bundle}
 use Rattle.fir_meaning.specs.TypeGroup.{scope_at}
-use Rattle.fir_meaning.specs.working.SizedMemories.{as_written}
+use Rattle.fir_meaning.specs.SizedMemories.{as_written}
 use Rattle.fir_width.specs.working.Sides.{IsSide}
 use Rattle.fir_width.specs.working.SpotFaults.{IsSpot}
 use Rattle.fir_width.specs.working.Spots.{of_component}

@@ -4,9 +4,9 @@ use Rattle.fir_ast.specs.View.{expr_of, named_of}
 use Rattle.fir_meaning.specs.Components.{node}
 use Rattle.fir_meaning.specs.TypeGroup.{scope_at}
 use Rattle.fir_meaning.specs.Visibility.{declarations}
-use Rattle.fir_meaning.specs.working.SizedDeclarations.{sized_at, sized_declared}
-use Rattle.fir_meaning.specs.working.SizedScopes.{sized_type}
-use Rattle.fir_meaning.specs.working.WidthRules.{connect_rules}
+use Rattle.fir_meaning.specs.SizedDeclarations.{sized_at, sized_declared}
+use Rattle.fir_meaning.specs.SizedScopes.{sized_type}
+use Rattle.fir_meaning.specs.WidthRules.{connect_rules}
 use Rattle.fir_types.specs.working.Notes.{expression_notes}
 use Rattle.fir_width.specs.working.Spots.{spots_within}
 use Rattle.fir_width.proofs.DeclarationWalks.{begins_declared, declared_enters, declared_then, node_type}

@@ -6,9 +6,9 @@ use Rattle.fir_ast.specs.View.{expr_of, named_of, reset_of, type_of}
 use Rattle.fir_meaning.specs.Components.{register}
 use Rattle.fir_meaning.specs.TypeGroup.{scope_at}
 use Rattle.fir_meaning.specs.Visibility.{declarations, with_declaration}
-use Rattle.fir_meaning.specs.working.SizedDeclarations.{sized_at, sized_declared}
-use Rattle.fir_meaning.specs.working.SizedScopes.{sized_type}
-use Rattle.fir_meaning.specs.working.WidthRules.{init_rules}
+use Rattle.fir_meaning.specs.SizedDeclarations.{sized_at, sized_declared}
+use Rattle.fir_meaning.specs.SizedScopes.{sized_type}
+use Rattle.fir_meaning.specs.WidthRules.{init_rules}
 use Rattle.fir_types.specs.working.ModuleNotes.{register_notes, reset_notes}
 use Rattle.fir_types.specs.working.Notes.{expression_notes}
 use Rattle.fir_width.specs.working.Spots.{spots_of_reset, spots_within}

@@ -3,5 +3,5 @@ use Rattle.fir_reset.proofs.joined.Joined.new.Goals as goal
 
 pub returns : goal.returns
 returns c circuit =
-    nothing_held circuit (record { ends = c.new.result; kinds = c.new-2.result; graph = c.new-3.result; numbers = c.new-4.result; firsts = c.new-5.result })
-    c.new.ensures.items c.new-2.ensures.items c.new-3.ensures.items c.new-4.ensures.empty c.new-5.ensures.empty
+    nothing_held circuit (record { ends = c.new.result; kinds = c.new-2.result; graph = c.new-3.result; numbers = c.new-4.result })
+    c.new.ensures.items c.new-2.ensures.items c.new-3.ensures.items c.new-4.ensures.empty

@@ -11,6 +11,5 @@ returns c = (
     empty = c.new.ensures.items;
     graph = c.in_ok-push-3.ensures.items;
     numbers = refl;
-    firsts = refl;
   },
 )

@@ -2,7 +2,7 @@ use Rattle.std.proofs.Common.{refl, ap}
 use Rattle.fir_reset.specs.declared.graph.Kind.TheVariants.{Reset}
 use Rattle.fir_reset.specs.declared.item.Item.TheVariants.{Leaf}
 use Rattle.fir_reset.specs.working.Holding.{path_of}
-use Rattle.fir_reset.specs.working.ResetItems.{leaf_item}
+use Rattle.fir_meaning.specs.ResetItems.{leaf_item}
 use Rattle.fir_reset.proofs.PushedResets.{adds_reset}
 use Rattle.fir_reset.proofs.joined.Joined.push_reset.Goals as goal
 

@@ -3,7 +3,7 @@ use Rattle.std.specs.Prelude.{IfOk}
 use Rattle.std.proofs.lemmas.Result.{IfOk-weaker}
 use Rattle.fir_ast.specs.View.{circuit_of}
 use Rattle.fir_reset.specs.working.Holding.{path_of, reset_end, HasNumber}
-use Rattle.fir_reset.specs.working.ResetWalks.{IsLeafOf}
+use Rattle.fir_meaning.specs.ResetWalks.{IsLeafOf}
 use Rattle.fir_reset.proofs.HeldGraphs.{number_through}
 use Rattle.fir_reset.proofs.LeafDeclarations.{declared_leaf}
 use Rattle.fir_reset.proofs.InstanceLeaves.{has_port, no_port}

@@ -2,7 +2,7 @@ use Rattle.std.proofs.Common.{refl, ap, ◌∙◌}
 use Rattle.fir_ast.specs.View.{fields_of}
 use Rattle.fir_meaning.specs.TypeLeaves.{field_count}
 use Rattle.fir_meaning.specs.TypeKinds.{are_passive, are_numeric, are_sized}
-use Rattle.fir_meaning.specs.working.SharedLeaves.{shared_field_count}
+use Rattle.fir_meaning.specs.SharedLeaves.{shared_field_count}
 use Rattle.fir_type_table.specs.working.Saturated.{saturated}
 use Rattle.fir_type_table.specs.working.Tables.{member_fields, types_of}
 use Rattle.fir_type_table.specs.working.Fits.{first_member}

@@ -1,5 +1,5 @@
 use Rattle.std.proofs.Common.{◌≡◌, ◌+◌, ◌<◌, ◌^◌}
-use Rattle.fir_meaning.specs.working.SharedLeaves.{shared_field_count}
+use Rattle.fir_meaning.specs.SharedLeaves.{shared_field_count}
 use Rattle.fir_type_table.specs.working.Saturated.{saturated}
 use Rattle.fir_type_table.specs.working.Tables.{member_fields, types_of}
 use Rattle.fir_type_table.proofs.MemberLists.{members_from}

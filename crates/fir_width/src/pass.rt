@@ -1,0 +1,43 @@
+//! The pass of resets and widths.
+
+ghost use Rattle.std.specs.Prelude.{◌≡◌};
+ghost use Rattle.fir_pass.specs.Faults.{fault_of};
+
+use crate::fitted::Fitted;
+use crate::inference::infer;
+use fir_ast::FirFault;
+use fir_base::Refused;
+use fir_pass::{Meant, Pass};
+use fir_types::Typed;
+use std::alloc::Global;
+
+impl Meant for Fitted {
+    ghost use Rattle.fir_ast.specs.View.{circuit_of};
+    ghost use Rattle.fir_meaning.specs.SourceMeaning.{circuit_meaning};
+
+    ghost meaning = { λ f. circuit_meaning (circuit_of f) };
+}
+
+/// Finds resets and widths: the faults of the fifth to the seventh group, E18 to E22.
+#[derive(Drop)]
+pub struct Infer;
+
+impl Pass for Infer {
+    type In = Typed;
+
+    type Out = Fitted;
+
+    type Fault = (FirFault, Typed);
+
+    ghost from = { 5 };
+
+    ghost upto = { 7 };
+
+    ghost told = { λ f. fault_of f.0 };
+
+    ghost hands_back = { λ x f. f.1 ≡ x };
+
+    fn run(&self, alloc: Global, x: Typed) -> Result<Fitted, Refused<(FirFault, Typed)>> {
+        infer(alloc, x)
+    }
+}
