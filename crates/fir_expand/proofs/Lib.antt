@@ -1,0 +1,11 @@
+pub mod RangeLeaves
+pub mod OwnCostSums
+pub mod SaturatedSums
+pub mod OwnCostsFound
+pub mod CostSums
+pub mod FoundModules
+pub mod InstanceCosts
+pub mod WalkedInstances
+pub mod FullCosts
+pub mod CostsInOrder
+pub mod OneCost

@@ -1,0 +1,7 @@
+-- What no clause of `run` reads yet: the cost of a circuit.
+pub mod Costs
+pub mod CostLaws
+pub mod OwnCosts
+pub mod OwnSums
+pub mod Costing
+pub mod CostsByNumber

@@ -1,0 +1,9 @@
+-- Laws about costs.
+use Rattle.std.specs.Prelude.{◌≡◌, ℕ}
+use Rattle.fir_ast.specs.Circuits.{CircuitTree}
+use Rattle.fir_meaning.specs.NameGroups.{HasNames}
+use Rattle.fir_expand.specs.working.Costs.{HasCost}
+
+-- a circuit whose names stand has one cost at most
+abbrev pub HasOneCost : Type 0
+HasOneCost = (c : CircuitTree) (m n : ℕ) → HasNames c → HasCost c m → HasCost c n → m ≡ n

@@ -1,0 +1,11 @@
+-- The cost that the code finds of a circuit.
+use Rattle.std.specs.Prelude.{◌≡◌, ℕ}
+use Rattle.fir_ast.specs.Circuits.{CircuitTree}
+use Rattle.fir_type_table.specs.working.Saturated.{saturated}
+use Rattle.fir_expand.specs.working.Costs.{HasCost}
+
+-- it stands still at 2^64 - 1
+pub record IsCostOf (c : CircuitTree) (found : ℕ) : Type 0 where
+  pub cost : ℕ
+  pub has : HasCost c cost
+  pub is : found ≡ saturated cost
