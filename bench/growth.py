@@ -5,12 +5,13 @@ Chains of 20000 and 200000 nodes, texts of 8 and 16 MiB of several shapes, and s
 long ones are made: a port with a name of 4000 bytes that 8192 and 16384 connects read under another
 name. The others are of forms that emit lacks. Many modules, nodes in nested whens, fields of one
 bundle, ports of one memory, instances, a chain and a ring of modules show how the check of names
-grows; parts of references, connects of a bundle with 1000 fields, nodes of such a bundle and
-elements of nested vectors show how the check of types does. Chains of nodes and registers without
-a width, a ring of them in which each turn adds a bit, and Resets in a row, 20000 and 200000 each,
-show how inference does. Time goes with the bytes that are read and written. It fails where the time of the second
-text grows by more than 1.25 times what these bytes grow by; times under 0.2 seconds are too short
-to compare. Seconds are those of a processor, the least of three runs.
+grows; parts of references and elements of nested vectors show how the check of types does. Chains
+of nodes and registers without a width, a ring of registers in which each turn adds a bit, and
+Resets in a row, 20000 and 200000 each, show how inference does, and so do connects and nodes of a
+bundle with 100 fields, 20000 and 40000 each, which come to four million leaves. Time goes with the
+bytes that are read and written. It fails where the time of the second text grows by more than 1.25
+times what these bytes grow by; times under 0.2 seconds are too short to compare. Seconds are those
+of a processor, the least of three runs.
 
 usage: growth.py [FIRC]
 """
@@ -175,22 +176,22 @@ def parts_of_references(size):
     return head + line * ((size - len(head)) // len(line))
 
 
-def with_1000_fields(name):
-    return f"    wire {name} : {{" + ",".join(f"f{i}:UInt" for i in range(1000)) + "}\n"
+def with_100_fields(name):
+    return f"    wire {name} : {{" + ",".join(f"f{i}:UInt" for i in range(100)) + "}\n"
 
 
-def connects_of_1000_fields(size):
-    head = "circuit T :\n  module T :\n" + with_1000_fields("p") + with_1000_fields("q")
-    return head + "    p <= q\n" * (size // 11 // 16)
+def connects_of_100_fields(count):
+    head = "circuit T :\n  module T :\n" + with_100_fields("p") + with_100_fields("q")
+    return head + "    p <= q\n" * count
 
 
-def nodes_of_1000_fields(size):
+def nodes_of_100_fields(count):
     """Each node has the type of the one before."""
     lines, last = [], "p"
-    for i in range(size // 28):
+    for i in range(count):
         lines.append(f"    node n{i} = {last}\n")
         last = f"n{i}"
-    return "circuit T :\n  module T :\n" + with_1000_fields("p") + "".join(lines)
+    return "circuit T :\n  module T :\n" + with_100_fields("p") + "".join(lines)
 
 
 def elements_of_vectors(size):
@@ -222,12 +223,15 @@ def run(firc, path, text):
     return size, min(times), f"{done.returncode} {says}".strip()
 
 
-COUNTED = (chain, chain_without_widths, ring_that_grows, resets_in_a_row)
+COUNTED = {
+    (20000, 200000): (chain, chain_without_widths, ring_that_grows, resets_in_a_row),
+    # two and four million leaves
+    (20000, 40000): (connects_of_100_fields, nodes_of_100_fields),
+}
 SHAPES = (blank_lines, one_comment, chain_of_nodes, one_information, one_long_name,
           one_long_name_used_many_times, skips, connects, many_ports, chain_of_registers, dots,
           modules, nodes_in_nested_whens, fields_of_one_bundle, ports_of_one_memory, instances,
-          chain_of_modules, ring_of_modules, parts_of_references, connects_of_1000_fields,
-          nodes_of_1000_fields, elements_of_vectors)
+          chain_of_modules, ring_of_modules, parts_of_references, elements_of_vectors)
 
 
 def name_of(make):
@@ -236,8 +240,9 @@ def name_of(make):
 
 def texts():
     """The names of the rows, each with its two texts."""
-    for make in COUNTED:
-        yield f"{name_of(make)}, 20000 and 200000", make(20000), make(200000)
+    for (half, whole), makes in COUNTED.items():
+        for make in makes:
+            yield f"{name_of(make)}, {half} and {whole}", make(half), make(whole)
     for make in SHAPES:
         yield name_of(make), make(8 * MIB), make(16 * MIB)
 

@@ -5,13 +5,15 @@ import typing
 
 import operators
 from expected import number as number_of
+from inference_rules import Inferred
 from operators import Type
 from type_rules import Types
 
 OVER = 129
 NO_TYPE = Type(False, 0)
 NAMES = ["names", "main"]
-OTHERS = ["lacking", "widths", "integers", "drivers"]
+WIDTHS = ["widths", "integers"]
+OTHERS = ["lacking", "drivers"]
 
 
 class Found(typing.NamedTuple):
@@ -24,10 +26,11 @@ class Found(typing.NamedTuple):
 
 class Faults:
     """The faults of a text, group by group in the order of the text. Behind the names and the main
-    module stand the types, then what `emit` lacks."""
+    module stand the types, then the widths and what is not legal, then what `emit` lacks. The
+    widths are those of width_rules.py; where nothing is lacking they are found here once more."""
 
     def __init__(self, text):
-        self.text, self.groups = text, {group: [] for group in NAMES + OTHERS}
+        self.text, self.groups = text, {group: [] for group in NAMES + WIDTHS + OTHERS}
         lines = text.splitlines()
         name, module = lines[0].split()[1], lines[1].split()[1]
         if name != module:
@@ -41,8 +44,14 @@ class Faults:
                 self.groups["drivers"].append(f"E24 {place} undriven {name}")
 
     def first(self):
-        of_names = self.first_of(NAMES)
-        return of_names or Types(self.text).fault or self.first_of(OTHERS)
+        early = self.first_of(NAMES) or Types(self.text).fault
+        return early or self.of_widths() or self.first_of(OTHERS)
+
+    def of_widths(self):
+        line, own = Inferred(self.text).line, self.first_of(WIDTHS)
+        if not self.groups["lacking"] and line != own:
+            raise AssertionError(f"of\n{self.text}\none reading says {line}, the other {own}")
+        return line
 
     def first_of(self, groups):
         return next((self.groups[group][0] for group in groups if self.groups[group]), None)

@@ -22,44 +22,24 @@ import subprocess
 import sys
 import tempfile
 
-from inference_forms import Circuit
 from inference_maker import InferenceMaker
+from inference_rules import Inferred
 from name_rules import Names
 from name_texts import Writer
-from reset_rules import Resets
 from type_rules import Types
 from width_questions import questions
-from width_rules import Widths
 
 ROOT = pathlib.Path(__file__).resolve().parent.parent
 
 
-class Reading:
-    """What the rules say of a text whose names and types are right. `shortest` tells which walks are
-    right."""
-
-    def __init__(self, text, shortest=False):
-        self.circuit, self.shortest = Circuit(text), shortest
-        self.resets = Resets(self.circuit)
-        self.line = None if self.resets.has_fault() else Widths(self.circuit).fault
-
-    def code(self):
-        if self.resets.has_fault():
-            return "E18"
-        return self.line[:3] if self.line else "clean"
+class Reading(Inferred):
+    """What the rules say of a text whose names and types are right."""
 
     def takes(self, says):
-        """Whether this may be told."""
-        if self.resets.has_fault():
-            return self.resets.is_shown(says, self.shortest)
-        if self.line:
-            return says == self.line
+        """Whether this may be told; without a fault of these any other."""
+        if self.code():
+            return super().takes(says)
         return not re.match("E1[89]|E2[0-2]", says)
-
-    def __str__(self):
-        if self.resets.has_fault():
-            return "E18 of a shortest walk" if self.shortest else "E18 of a walk"
-        return self.line or "no fault, or one of another code"
 
 
 def written(chance, maker):
@@ -104,7 +84,7 @@ def main():
             maker = InferenceMaker(chance)
             text = written(chance, maker)
             reading = Reading(text, words.shortest)
-            code = reading.code()
+            code = reading.code() or "clean"
             if code == words.without:
                 continue
             said[code] = said.get(code, 0) + 1
@@ -116,7 +96,7 @@ def main():
                 ask(maker, reading.circuit)
                 text = written(chance, maker)
                 reading = Reading(text)
-                if reading.code() != "clean":
+                if reading.code():
                     sys.exit(f"of\n{text}\nwhose questions are right, the rules say '{reading}'")
                 compare(program, pathlib.Path(work) / "t.fir", text, reading)
     did = "showed" if words.show else "the same on"

@@ -1,39 +1,69 @@
 """What the second readings say of a text of the grammar, in the order in which firc tells faults:
-those of names, of modules that instantiate each other, of types and flows, then the first form that
-`emit` lacks. Of what comes behind that no reading here speaks."""
+those of names, of modules that instantiate each other, of types and flows, of resets and widths,
+then the first form that `emit` lacks. Of what comes behind that no reading here speaks."""
+import math
 import re
 
 from grammar_trees import first_lacking
+from inference_rules import Inferred
 from name_rules import Names
 from type_rules import Types
 
-LATER = "|E19 .*|E2[0-9] .*"
+LATER = "|E24 .*"
+OF_WIDTHS = "|E1[89] .*|E2[0-2] .*"
+# The reading of resets and widths lists each element of each vector.
+MOST_ELEMENTS = 10000
+
+
+def is_large(text):
+    """Whether the vectors of a text may have more elements together than can be listed."""
+    lengths = (int(digits) for digits in re.findall(r"\[\s*(\d+)\s*\]", text))
+    return math.prod(max(1, length) for length in lengths) > MOST_ELEMENTS
 
 
 class Reading:
     """The line that firc has to tell of a text. `line` is None where it is one of several: a walk
-    of E11, or what comes behind the forms that `emit` lacks."""
+    of E11 or of E18, or what comes behind the forms that `emit` lacks. Of a text with large vectors
+    faults of resets and widths are not known: `or_widths` tells that one may come first."""
 
     def __init__(self, text):
         self.names = Names(text)
-        self.line, self.is_recursive = self.names.first(), False
+        self.line, self.is_recursive, self.inferred = self.names.first(), False, None
+        self.or_widths = ""
         if self.line is None:
             self.is_recursive = self.names.is_recursive()
         if self.line is None and not self.is_recursive:
-            self.line = Types(text).fault or first_lacking(text)
+            self.line = Types(text).fault or self.behind_types(text)
+
+    def behind_types(self, text):
+        if is_large(text):
+            self.or_widths = OF_WIDTHS
+            return first_lacking(text)
+        inferred = Inferred(text)
+        if inferred.code() == "E18":
+            self.inferred = inferred
+            return None
+        return inferred.line or first_lacking(text)
 
     def pattern(self):
         """The line as a pattern, which takes an empty one where firc may tell nothing."""
         if self.is_recursive:
             return "E11 .*"
-        return re.escape(self.line) if self.line else LATER
+        if self.inferred:
+            return "E18 .*"
+        return (re.escape(self.line) if self.line else LATER) + self.or_widths
 
     def takes(self, says):
-        """Whether this may be told; a walk of E11 is judged."""
-        is_right = bool(re.fullmatch(self.pattern(), says))
-        return is_right and (not self.is_recursive or self.names.is_walk(says))
+        """Whether this may be told; a walk is judged."""
+        if not re.fullmatch(self.pattern(), says):
+            return False
+        if self.is_recursive:
+            return self.names.is_walk(says)
+        return not self.inferred or self.inferred.takes(says)
 
     def __str__(self):
         if self.is_recursive:
             return "E11 of a walk"
+        if self.inferred:
+            return str(self.inferred)
         return self.line or "no fault, or one of a later group"
