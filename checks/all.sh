@@ -31,7 +31,7 @@ count() {
   fi
 }
 
-rows=0 circuits=0 names=0 types=0 inferred=0 skipped=
+rows=0 circuits=0 names=0 types=0 inferred=0 costs=0 skipped=
 if command -v python3 >/dev/null 2>&1; then
   part rows python3 checks/rows.py
   count rows 'rows: \([0-9]*\) passed.*'
@@ -51,6 +51,9 @@ if command -v python3 >/dev/null 2>&1; then
   part inferred python3 checks/inferred.py 200
   count inferred 'inferred: the same on \([0-9]*\) circuits.*'
   inferred=$counted
+  part costs python3 checks/costs.py 100
+  count costs 'costs: the same on \([0-9]*\) circuits.*'
+  costs=$counted
   part definitions python3 checks/definitions.py --check
 else
   skipped=" (python3 is not installed)"
@@ -62,5 +65,5 @@ count interop 'interop: \([0-9]*\) examples passed'
 outcome="passed$skipped"
 [ "${#failed[@]}" -eq 0 ] || outcome="FAILED: ${failed[*]}$skipped"
 echo "checks: $rows rows, $circuits circuits, $names circuits of names, $types circuits of types," \
-  "$inferred circuits of resets and widths, $counted examples: $outcome"
+  "$inferred circuits of resets and widths, $costs circuits of costs, $counted examples: $outcome"
 [ "${#failed[@]}" -eq 0 ]

@@ -7,7 +7,7 @@ from typing import NamedTuple
 
 import type_rules
 from grammar_rules import spelled_number, tokens
-from name_rules import begins_with_reference, is_sign, lines_of
+from name_rules import begins_with_reference, is_sign, lines_of, place
 from type_forms import NUMBERS, Bundle, Field, Ground, Vector, common, memory_port, without_widths
 from type_rules import RESULTS, is_port, nested
 
@@ -26,6 +26,22 @@ class Literal(NamedTuple):
     kind: str
     width: object
     number: int
+
+
+class Elements:
+    """The elements of a vector that a dynamic index may pick, as texts, of which none is made before
+    it is asked for."""
+
+    def __init__(self, length):
+        self.length = length
+
+    def __bool__(self):
+        return self.length > 0
+
+    def __getitem__(self, k):
+        if k >= self.length:
+            raise IndexError(k)
+        return f"[{k}]"
 
 
 class Reference(NamedTuple):
@@ -78,6 +94,16 @@ class Stands(NamedTuple):
 class Asked(NamedTuple):
     """A condition: of a when, or of a register's reset."""
     expression: object
+
+
+class Entered(NamedTuple):
+    """A when."""
+
+
+class Words(NamedTuple):
+    """The words of a memory: how many, and their type."""
+    depth: int
+    data: object
 
 
 class Joined(NamedTuple):
@@ -150,7 +176,7 @@ class Line(type_rules.Line):
                 steps.append([f"[{self.number()}]"])
             else:
                 indices.append(self.expression())
-                steps.append([f"[{k}]" for k in range(given.length)])
+                steps.append(Elements(given.length))
             given = given.element
             self.skip(1)
         return Reference(at, tuple(steps), tuple(indices), given)
@@ -208,6 +234,7 @@ class Module:
                 self.connect(line)
             elif word in ("when", "else"):
                 if "when" in (word, ts[1].spelling):
+                    self.steps.append(Entered())
                     self.steps.append(Asked(line.skip(1 if word == "when" else 2).expression()))
                 self.block(inner, visible)
             elif word != "skip":
@@ -258,6 +285,7 @@ class Module:
         ports = [Field(port.spelling, True, memory_port(word, data, depth))
                  for word, field in fields if word in ("reader", "writer", "readwriter")
                  for port in field.ts]
+        self.steps.append(Words(depth, data))
         self.declare(line, "mem", at, name, Bundle(tuple(ports)), None if ports else data)
 
 
@@ -266,7 +294,7 @@ class Circuit:
 
     def __init__(self, text):
         ts, modules = nested(lines_of(tokens(text)[0]))[-1]
-        self.main = ts[1].spelling
+        self.main, self.at = ts[1].spelling, place(ts[1])
         self.modules = {line[1].spelling: Module(line[1].spelling, block)
                         for line, block in modules}
         for line, block in modules:

@@ -1,9 +1,10 @@
 """What the second readings say of a text of the grammar, in the order in which firc tells faults:
 those of names, of modules that instantiate each other, of types and flows, of resets and widths,
-then the first form that `emit` lacks. Of what comes behind that no reading here speaks."""
+of costs, then the first form that `emit` lacks. Of what comes behind that no reading here speaks."""
 import math
 import re
 
+from cost_rules import cost_fault
 from grammar_trees import first_lacking
 from inference_rules import Inferred
 from name_rules import Names
@@ -38,12 +39,12 @@ class Reading:
     def behind_types(self, text):
         if is_large(text):
             self.or_widths = OF_WIDTHS
-            return first_lacking(text)
+            return cost_fault(text) or first_lacking(text)
         inferred = Inferred(text)
         if inferred.code() == "E18":
             self.inferred = inferred
             return None
-        return inferred.line or first_lacking(text)
+        return inferred.line or cost_fault(text) or first_lacking(text)
 
     def pattern(self):
         """The line as a pattern, which takes an empty one where firc may tell nothing."""

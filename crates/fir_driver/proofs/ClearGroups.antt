@@ -9,6 +9,7 @@ use Rattle.fir_pass.specs.Law.{IsFirst}
 use Rattle.fir_meaning.specs.NameGroups.{HasNames}
 use Rattle.fir_meaning.specs.TypeGroup.{type_faults}
 use Rattle.fir_meaning.specs.WidthGroups.{IsInferred}
+use Rattle.fir_meaning.specs.CostGroup.{cost_group}
 use Rattle.fir_meaning.specs.DrivenFaults.{undriven_faults}
 use Rattle.fir_meaning.specs.SourceMeaning.{circuit_meaning}
 use Rattle.fir_meaning.proofs.KeptTrees.{none_clear}
@@ -69,12 +70,11 @@ module _ (c : CircuitTree) where
   unfolding circuit_meaning
   clear_widths before h = next_clear 6 (next_clear 5 (next_clear 4 before h.resets) h.over) h.legal
 
-  -- no fault of E23 is looked for yet
-  pub clear_8 : IsClearUpTo 7 c → IsClearUpTo 8 c
+  pub clear_costs : IsClearUpTo 7 c → IsClear (cost_group c) → IsClearUpTo 8 c
   unfolding circuit_meaning
-  clear_8 before = next_clear 7 before nothing
+  clear_costs before h = next_clear 7 before h
 
-  pub clear_driven : IsClearUpTo 7 c → flat_map undriven_faults c.modules ≡ [] → ShowsNone c
+  pub clear_driven : IsClearUpTo 8 c → flat_map undriven_faults c.modules ≡ [] → ShowsNone c
   unfolding circuit_meaning
   clear_driven before none k = by (cases_lt 9 k)
     where
@@ -82,7 +82,7 @@ module _ (c : CircuitTree) where
       driven = subst (λ (fs : List FirFault). IsClear (in_order (map fault_of fs))) (sym none) nothing
 
       up_to_9 : IsClearUpTo 9 c
-      up_to_9 = next_clear 8 (clear_8 before) driven
+      up_to_9 = next_clear 8 before driven
 
       by : (9 < k) ⊎ (k ≤ 9) → IsClear ((circuit_meaning c).group k)
       by (inl past) = past_all c k past

@@ -1,4 +1,4 @@
--- What is said of a text that spells a tree without a fault of names, types, resets and widths: it is taken, or it has a fault by its tree.
+-- What is said of a text that spells a tree without a fault of names, types, resets, widths and cost: it is taken, or it has a fault by its tree.
 use Rattle.std.proofs.Common.{◌≡◌, ℕ, List, [], flat_map, Some, None, Err, ap, inl, inr, arith}
 use Rattle.std.specs.Prelude.{is_none}
 use Rattle.fir_base.specs.declared.refused.Refused.{Refused}
@@ -15,9 +15,9 @@ use Rattle.fir_meaning.specs.Lacking.{lacking}
 use Rattle.fir_driver.specs.CircuitFaults.{IsClearUpTo}
 use Rattle.fir_driver.specs.Emits.{Takes}
 use Rattle.fir_driver.specs.working.Readings.{IsTaken, IsUnsupported}
-use Rattle.fir_driver.proofs.ClearGroups.{clear_driven, clear_8, first_behind}
+use Rattle.fir_driver.proofs.ClearGroups.{clear_driven, first_behind}
 
-module _ (bytes : List ℕ) (t : CircuitTree) (spelled : Spells bytes t) (clear : IsClearUpTo 7 t) where
+module _ (bytes : List ℕ) (t : CircuitTree) (spelled : Spells bytes t) (clear : IsClearUpTo 8 t) where
   -- a form that is lacking is a fault of the text
   pub lacks_form : (l : Lack) (r : Refused FirFault) → lacking t ≡ Some l → IsUnsupported l r → IsTaken bytes (Err r)
   lacks_form l (Fault f) first stands =
@@ -35,6 +35,6 @@ module _ (bytes : List ℕ) (t : CircuitTree) (spelled : Spells bytes t) (clear 
         circuit = t;
         spelled = spelled;
         in_language = ap is_none none;
-        first = first_behind t 8 9 9 13 f (clear_8 t clear) (omega arith) (omega arith) (omega arith) first;
+        first = first_behind t 8 9 9 13 f clear (omega arith) (omega arith) (omega arith) first;
       })))
   shows_undriven Memory none first = tt

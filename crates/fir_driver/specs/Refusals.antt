@@ -1,5 +1,5 @@
--- Why a text is refused: a fault of the text; else the first fault of names, types, resets and widths in its circuit; else the first form that the language
--- lacks; else the first fault of the circuit.
+-- Why a text is refused: a fault of the text; else the first fault of names, types, resets, widths and cost in its circuit; else the first form that the
+-- language lacks; else the first fault of the circuit.
 use Rattle.std.specs.Prelude.{◌≡◌, ℕ, List, ◌⊎◌, IsTrue, Some}
 use Rattle.fir_ast.specs.declared.fault.FirFault.{FirFault}
 use Rattle.fir_ast.specs.declared.fault.FirFault.TheVariants.{Unsupported}
@@ -11,17 +11,17 @@ use Rattle.fir_meaning.specs.Lack.{Lack}
 use Rattle.fir_meaning.specs.Lacking.{lacking, is_in_language}
 use Rattle.fir_driver.specs.CircuitFaults.{IsClearUpTo, IsFirstUpTo}
 
--- of the faults of names, types, resets and widths in the circuit of the text (E08 to E22), this one is told
+-- of the faults of names, types, resets, widths and cost in the circuit of the text (E08 to E23), this one is told
 pub record ShowsEarly (bytes : List ℕ) (f : FirFault) : Type 0 where
   pub circuit : CircuitTree
   pub spelled : Spells bytes circuit
-  pub first : IsFirstUpTo 7 circuit f
+  pub first : IsFirstUpTo 8 circuit f
 
 -- none of these stands in the circuit of the text, and this is the first form that the language lacks
 pub record Lacks (bytes : List ℕ) (f : FirFault) : Type 0 where
   pub circuit : CircuitTree
   pub spelled : Spells bytes circuit
-  pub clear : IsClearUpTo 7 circuit
+  pub clear : IsClearUpTo 8 circuit
   pub lack : Lack
   pub first : lacking circuit ≡ Some lack
   pub stands : f ≡ Unsupported lack.place lack.word

@@ -1,6 +1,6 @@
 //! The passes on the way of a circuit, in the order in which it takes them: from bytes to tokens, to the tree, to the tree
-//! with its names, with its types, and with its resets and widths, which has only forms that are taken so far and whose
-//! outputs are driven, to the net and its order; and from there to the Verilog tree and its text, or to the simulator's
+//! with its names, with its types, and with its resets and widths, which is not too large, has only forms that are taken
+//! so far and whose outputs are driven, to the net and its order; and from there to the Verilog tree and its text, or to the simulator's
 //! net with the shape of its traces.
 
 ghost use Rattle.std.specs.Prelude.{◌≤◌, IfOk, IsTrue, length};
@@ -23,6 +23,7 @@ use crate::ordered_net::OrderedNet;
 use fir_ast::{Circuit, FirFault};
 use fir_base::{MemoryOut, Name, Refused};
 use fir_check::check_driven;
+use fir_expand::check_cost;
 use fir_lex::lex;
 use fir_loop::laws::heights_have_no_loop;
 use fir_loop::{Order, order};
@@ -92,6 +93,19 @@ fn read_widths(alloc: Global, bytes: &[u8]) -> Result<Fitted, Refused<FirFault>>
     }
 }
 
+/// The tree of the text, which costs no more than the limit, with its resets and widths; or its first fault, of
+/// the text or up to that of its cost.
+fn read_costs(alloc: Global, bytes: &[u8]) -> Result<Fitted, Refused<FirFault>>
+    requires { length bytes.now ≤ 16777216 }
+    ensures { IsCheckedTree 8 bytes.now result }
+{
+    let fitted = read_widths(alloc, bytes)?;
+    match check_cost(alloc, &fitted) {
+        Ok(()) => Ok(fitted),
+        Err(refused) => Err(refused),
+    }
+}
+
 /// Why a text is refused whose tree has a form that the language lacks.
 fn unsupported(alloc: Global, lack: Lack) -> Refused<FirFault>
     ensures { IsUnsupported (lack_of lack.entry) result }
@@ -103,13 +117,13 @@ fn unsupported(alloc: Global, lack: Lack) -> Refused<FirFault>
 }
 
 /// The circuit that the bytes spell, with its names, in the language and without fault, or the fault for
-/// which it is refused: of the text, else the first of names, types, resets and widths, else the first form
-/// that the language lacks, else the first output that is not driven.
+/// which it is refused: of the text, else the first of names, types, resets and widths, else that of its
+/// cost, else the first form that the language lacks, else the first output that is not driven.
 pub fn read_circuit(alloc: Global, bytes: &[u8]) -> Result<Named, Refused<FirFault>>
     requires { length bytes.now ≤ 16777216 }
     ensures { IsTaken bytes.now result }
 {
-    let named = read_widths(alloc, bytes)?.into_typed().into_named();
+    let named = read_costs(alloc, bytes)?.into_typed().into_named();
     if let Some(lack) = lacking(&named) {
         return Err(unsupported(alloc, lack));
     }

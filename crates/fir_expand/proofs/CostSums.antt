@@ -4,7 +4,7 @@ use Rattle.std.proofs.lemmas.List.{take_more}
 use Rattle.std.proofs.lemmas.Simd.{map-map}
 use Rattle.fir_ast.specs.Circuits.{ModuleTree, CircuitTree}
 use Rattle.fir_type_table.specs.working.Saturated.{saturated}
-use Rattle.fir_expand.specs.working.Costs.{sum_of}
+use Rattle.fir_meaning.specs.Costs.{sum_of}
 use Rattle.fir_expand.specs.working.Costing.{IsCostOf}
 use Rattle.fir_expand.specs.working.OwnCosts.{AreCostsByNumber}
 

@@ -20,7 +20,7 @@ use Rattle.fir_names.specs.working.ModuleOrder.{IsModuleOrder}
 use Rattle.fir_names.specs.working.Numbered.{instance_numbers, number_of}
 use Rattle.fir_names.specs.working.Tabulated.{Tabulates}
 use Rattle.fir_type_table.specs.working.Saturated.{saturated}
-use Rattle.fir_expand.specs.working.Costs.{sum_of}
+use Rattle.fir_meaning.specs.Costs.{sum_of}
 use Rattle.fir_expand.specs.working.CostsByNumber.{cost_at}
 use Rattle.fir_expand.specs.working.OwnCosts.{AreCostsByNumber, instances_in_block, own_cost, own_costs}
 use Rattle.fir_expand.proofs.CostSums.{saturated_both, sum_saturated}

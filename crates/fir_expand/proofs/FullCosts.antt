@@ -8,7 +8,7 @@ use Rattle.fir_meaning.specs.Mentions.{module_names}
 use Rattle.fir_meaning.specs.NameGroups.{HasNames}
 use Rattle.fir_names.specs.working.ModuleOrder.{find_number, IsModuleOrder}
 use Rattle.fir_names.proofs.ModulesThere.{own_number}
-use Rattle.fir_expand.specs.working.Costs.{ModuleCosts, cost_of_module, AreCosts}
+use Rattle.fir_meaning.specs.Costs.{ModuleCosts, cost_of_module, AreCosts}
 use Rattle.fir_expand.specs.working.OwnCosts.{instances_in_block}
 use Rattle.fir_expand.proofs.FoundModules.{module_numbered}
 use Rattle.fir_expand.proofs.InstanceCosts.{costs_agree, instance_declared}

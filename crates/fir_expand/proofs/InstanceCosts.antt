@@ -9,7 +9,7 @@ use Rattle.fir_meaning.specs.Components.{Component, Declaration, Declarations}
 use Rattle.fir_meaning.specs.Components as component
 use Rattle.fir_meaning.specs.Visibility.{Before, with_declaration, opened, reopened, behind, behind_block, behind_ports, at_head, declarations}
 use Rattle.fir_names.specs.working.Numbered.{instance_number, instance_numbers, number_of}
-use Rattle.fir_expand.specs.working.Costs.{ModuleCosts, cost_of, cost_of_block, cost_of_module, sum_of}
+use Rattle.fir_meaning.specs.Costs.{ModuleCosts, cost_of, cost_of_block, cost_of_module, sum_of}
 use Rattle.fir_expand.specs.working.OwnCosts.{instances_in, instances_in_block, own_cost}
 use Rattle.fir_expand.proofs.CostSums.{sum_joined}
 

@@ -9,3 +9,4 @@ pub mod WalkedInstances
 pub mod FullCosts
 pub mod CostsInOrder
 pub mod OneCost
+pub mod CostLimit

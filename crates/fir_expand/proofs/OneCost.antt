@@ -7,7 +7,7 @@ use Rattle.fir_ast.specs.Circuits.{ModuleTree, CircuitTree}
 use Rattle.fir_meaning.specs.Hierarchy.{Enters, IsWalk}
 use Rattle.fir_meaning.specs.NameGroups.{HasNames, recursive}
 use Rattle.fir_names.proofs.ModulesThere.{instance_number}
-use Rattle.fir_expand.specs.working.Costs.{ModuleCosts, sum_of, AreCosts}
+use Rattle.fir_meaning.specs.Costs.{ModuleCosts, sum_of, AreCosts}
 use Rattle.fir_expand.specs.working.CostLaws.{HasOneCost}
 use Rattle.fir_expand.specs.working.OwnCosts.{instances_in_block}
 use Rattle.fir_expand.proofs.FoundModules.{module_numbered}

@@ -14,7 +14,7 @@ use Rattle.fir_meaning.specs.TypeGroup.{scope_at}
 use Rattle.fir_types.specs.working.Notes.{Note, expression_note, expression_notes, notes_of_each, part_notes, reference_note, reference_notes}
 use Rattle.fir_types.specs.working.ModuleNotes.{block_notes, reset_notes, statement_notes}
 use Rattle.fir_types.proofs.GrownScopes.{scope_more}
-use Rattle.fir_expand.specs.working.Costs.{cost_of, cost_of_block, cost_of_ports, leaves_where, size, size_of_each, size_of_parts, size_of_reset, size_of_sink, sum_of}
+use Rattle.fir_meaning.specs.Costs.{cost_of, cost_of_block, cost_of_ports, leaves_where, size, size_of_each, size_of_parts, size_of_reset, size_of_sink, sum_of}
 use Rattle.fir_expand.specs.working.OwnCosts.{own_cost}
 use Rattle.fir_expand.specs.working.OwnSums.{leaves_known, leaves_noted, plain_cost, plain_cost_of_block, sum_of_module}
 use Rattle.fir_expand.proofs.RangeLeaves.{reference_leaves}

@@ -14,7 +14,7 @@ use Rattle.fir_type_table.specs.working.Saturated.{saturated}
 use Rattle.fir_types.specs.working.Notes.{Note, of_expression, of_reference, Pick}
 use Rattle.fir_types.specs.working.ModuleNotes.{module_notes}
 use Rattle.fir_types.specs.working.Noted.{saturated_note, saturated_pick}
-use Rattle.fir_expand.specs.working.Costs.{leaves_where, sum_of}
+use Rattle.fir_meaning.specs.Costs.{leaves_where, sum_of}
 use Rattle.fir_expand.specs.working.OwnCosts.{own_cost}
 use Rattle.fir_expand.specs.working.OwnSums.{leaves_known, leaves_noted, picked, plain_cost_of_block}
 use Rattle.fir_expand.proofs.OwnCostSums.{module_summed}

@@ -17,8 +17,9 @@ use Rattle.fir_meaning.specs.TypedScopes.{Known, TypedScope, known}
 use Rattle.fir_meaning.specs.Reaching.{Reached, any_element, at_any, at_element, at_field, element_at, field_of_type, known_reached, reached_field, root, to_any, to_field, to_index, vector_of_type}
 use Rattle.fir_meaning.specs.ExpressionTypes.{access_form, along_parts, condition_form, expression_type, field_form, index_form, reaching}
 use Rattle.fir_meaning.specs.ResetItems.{type_of_field, type_of_element, length_of_vector}
+use Rattle.fir_meaning.specs.ResetJoins.{type_of_known}
 use Rattle.fir_types.specs.working.Notes.{LeafRange, Pick, known_range, element_range, field_range, of_reference, picked_range, position_of, range_behind, range_where, reference_note, whole_range}
-use Rattle.fir_expand.specs.working.Costs.{leaves_where, named_leaves, picks_from, picks_where}
+use Rattle.fir_meaning.specs.Costs.{leaves_where, named_leaves, picks_from, picks_where}
 use Rattle.fir_expand.specs.working.OwnSums.{leaves_noted, leaves_of_range, picked}
 
 -- a part that leads from something to a type
@@ -134,7 +135,7 @@ known_typed k t b typed is =
 module _ (scope : TypedScope) (s : Sink) where
   of_known : (r : Reached) (k : Known) (t : Option DataType) → k.data_type ≡ t → known scope s.name ≡ Some k → (reaching scope s).has ≡ Some r
       → leaves_noted (of_reference (option_map (λ x. range_behind x s.parts) (option_map (whole_range (position_of scope s.name)) t)))
-      ≡ leaf_count r.data_type * picks_where (Some k) s.parts
+      ≡ leaf_count r.data_type * picks_where k.data_type s.parts
   of_known r k None none is reaches =
       let from = came scope s.place (root scope s.name) s.parts r reaches in
       let gone : (root scope s.name).has ≡ None = ap known_reached is ∙ known_untyped k none in
@@ -148,15 +149,15 @@ module _ (scope : TypedScope) (s : Sink) where
 
   of_named : (r : Reached) (o : Option Known) → known scope s.name ≡ o → (reaching scope s).has ≡ Some r
       → leaves_noted (of_reference (option_map (λ x. range_behind x s.parts) (known_range (position_of scope s.name) o)))
-      ≡ leaf_count r.data_type * picks_where o s.parts
+      ≡ leaf_count r.data_type * picks_where (type_of_known o) s.parts
   of_named r None is reaches =
       let from = came scope s.place (root scope s.name) s.parts r reaches in absurd (none-some from.begins (sym (ap known_reached is) ∙ from.has))
   of_named r (Some k) is reaches = of_known r k k.data_type refl is reaches
 
   of_reached : (o : Option Reached) → (reaching scope s).has ≡ o
       → leaves_noted (of_reference (range_where o (option_map (λ x. range_behind x s.parts) (known_range (position_of scope s.name) (known scope s.name)))))
-      ≡ leaves_where (option_map (λ r. r.data_type) o) * picks_where (known scope s.name) s.parts
-  of_reached None reaches = let none : 0 * picks_where (known scope s.name) s.parts ≡ 0 = omega arith in sym none
+      ≡ leaves_where (option_map (λ r. r.data_type) o) * picks_where (type_of_known (known scope s.name)) s.parts
+  of_reached None reaches = let none : 0 * picks_where (type_of_known (known scope s.name)) s.parts ≡ 0 = omega arith in sym none
   of_reached (Some r) reaches = of_named r (known scope s.name) refl reaches
 
   pub reference_leaves : leaves_noted (reference_note scope s) ≡ named_leaves scope s

@@ -8,7 +8,7 @@ use Rattle.fir_names.specs.working.Numbered.{instance_numbers, number_read}
 use Rattle.fir_names.specs.working.Tabulated.{Tabulates, found_at}
 use Rattle.fir_names.proofs.InstanceNumbers.{Numbers, numbers_all, numbers_more, numbers_same}
 use Rattle.fir_type_table.specs.working.Saturated.{saturated}
-use Rattle.fir_expand.specs.working.Costs.{sum_of}
+use Rattle.fir_meaning.specs.Costs.{sum_of}
 use Rattle.fir_expand.specs.working.CostsByNumber.{cost_at, cost_where}
 use Rattle.fir_expand.proofs.CostSums.{saturated_last}
 

@@ -1,5 +1,4 @@
 -- What no clause of `run` reads yet: the cost of a circuit.
-pub mod Costs
 pub mod CostLaws
 pub mod OwnCosts
 pub mod OwnSums

@@ -4,7 +4,7 @@ ghost use Rattle.std.specs.Prelude.{◌≡◌, IfOk};
 ghost use Rattle.fir_ast.specs.View.{circuit_of};
 ghost use Rattle.fir_type_table.specs.working.Saturated.{saturated};
 ghost use Rattle.fir_expand.specs.working.Costing.{IsCostOf};
-ghost use Rattle.fir_expand.specs.working.Costs.{sum_of};
+ghost use Rattle.fir_meaning.specs.Costs.{sum_of};
 
 use crate::module_costs::module_costs;
 use crate::own_costs::own_costs;

@@ -5,11 +5,10 @@ ghost use Rattle.fir_type_table.specs.working.Saturated.{saturated};
 ghost use Rattle.fir_type_table.specs.working.Tables.{types_of};
 ghost use Rattle.fir_types.specs.working.Noted.{note_seen, pick_seen, range_seen};
 ghost use Rattle.fir_types.specs.working.Seen.{seen};
-ghost use Rattle.fir_expand.specs.working.Costs.{leaves_where, sum_of};
+ghost use Rattle.fir_meaning.specs.Costs.{leaves_where, sum_of};
 ghost use Rattle.fir_expand.specs.working.OwnSums.{leaves_noted, leaves_of_range, picked};
 
-use crate::saturated::times;
-use fir_type_table::TypeTable;
+use fir_type_table::{TypeTable, times};
 use fir_types::found::leaves;
 use fir_types::{Found, LeafRange, Note, Pick};
 

@@ -1,18 +1,19 @@
 //! What a circuit comes to as ground leaves. In comes a `Fitted`, a circuit with its widths. `cost` tells how many
-//! leaves it has, and how many come together in its expressions and connects, by which the size of a circuit is
-//! limited: what each module costs alone (`own_costs`: by what was found of it, `found_leaves`, and by its
-//! statements, `plain_costs`), then with the modules of its instances (`module_costs`), and all of them
-//! (`circuit_cost`; specs/ `HasCost`).
+//! leaves it has, and how many come together in its expressions and connects: what each module costs alone
+//! (`own_costs`: by what was found of it, `found_leaves`, and by its statements, `plain_costs`), then with the
+//! modules of its instances (`module_costs`), and all of them (`circuit_cost`; fir_meaning `HasCost`). By it the
+//! size of a circuit is limited (`limit`: E23).
 #![tactic(auto)]
 
 mod circuit_cost;
 mod found_leaves;
 mod laws;
+mod limit;
 mod module_costs;
 mod own_costs;
 mod plain_costs;
-mod saturated;
 mod written_leaves;
 
 pub use circuit_cost::cost;
 pub use laws::has_one_cost;
+pub use limit::check_cost;

@@ -7,7 +7,7 @@ ghost use Rattle.fir_meaning.specs.Components.{Declarations};
 ghost use Rattle.fir_names.specs.working.Numbered.{instance_numbers, number_read};
 ghost use Rattle.fir_names.specs.working.Tabulated.{Tabulates, found_at};
 ghost use Rattle.fir_type_table.specs.working.Saturated.{saturated};
-ghost use Rattle.fir_expand.specs.working.Costs.{sum_of};
+ghost use Rattle.fir_meaning.specs.Costs.{sum_of};
 ghost use Rattle.fir_expand.specs.working.CostsByNumber.{cost_at, cost_where};
 ghost use Rattle.fir_expand.specs.working.OwnCosts.{AreCostsByNumber, own_costs};
 

@@ -6,8 +6,8 @@ ghost use Rattle.fir_ast.specs.working.BundleText.{field_of};
 ghost use Rattle.fir_meaning.specs.TypeLeaves.{field_count, leaf_count};
 ghost use Rattle.fir_type_table.specs.working.Saturated.{saturated};
 
-use crate::saturated::times;
 use fir_ast::{Field, Ty};
+use fir_type_table::times;
 
 /// How many leaves a type has; at most 2^64 - 1.
 #[cycle(leaves)]

@@ -52,5 +52,7 @@ pub mod ResetItems
 pub mod ResetJoins
 pub mod ResetWalks
 pub mod WidthGroups
+pub mod Costs
+pub mod CostGroup
 pub mod SourceMeaning
 pub mod working

@@ -15,6 +15,7 @@ use Rattle.fir_meaning.specs.NameGroups.{name_group, main_group, hierarchy_group
 use Rattle.fir_meaning.specs.TypeGroup.{type_group}
 use Rattle.fir_meaning.specs.ResetWalks.{reset_group}
 use Rattle.fir_meaning.specs.WidthGroups.{over_group, legal_group}
+use Rattle.fir_meaning.specs.CostGroup.{cost_group}
 
 -- what the rule finds in each module
 abbrev pub found_by : CircuitTree → (ModuleTree → List FirFault) → Group
@@ -25,7 +26,7 @@ abbrev pub circuit_groups : CircuitTree → Groups
 circuit_groups c =
     then_group (in_order []) (then_group (name_group c) (then_group (main_group c) (then_group (hierarchy_group c)
     (then_group (type_group c) (then_group (reset_group c) (then_group (over_group c) (then_group (legal_group c)
-    (then_group (in_order []) (then_group (found_by c undriven_faults) no_groups)))))))))
+    (then_group (cost_group c) (then_group (found_by c undriven_faults) no_groups)))))))))
 
 abbrev pub circuit_names : CircuitTree → ShapeNames
 circuit_names c = record {

@@ -1,6 +1,6 @@
 //! Laws about the definitions, each the contract of a function that does nothing.
 
-ghost use Rattle.fir_meaning.specs.working.Laws.{FaultlessHasOne, FaultlessRunsOnce, ShowsOneFirst, LastConnect, FaultlessIsClean, CleanHasValue};
+ghost use Rattle.fir_meaning.specs.working.Laws.{FaultlessHasOne, FaultlessRunsOnce, LastConnect, FaultlessIsClean, CleanHasValue};
 ghost use Rattle.fir_meaning.specs.working.NameLaws.{NamesLeaveNone, OneLookUp};
 
 /// A circuit of the language that shows no fault has, at every state and tick of its shape, exactly one
@@ -18,11 +18,6 @@ pub fn faultless_runs_once()
     faultless_has_one();
     faultless_is_clean()
 }
-
-/// A circuit has one first fault at most.
-pub fn shows_one_first()
-    ensures { ShowsOneFirst }
-{}
 
 /// Outside whens, a connect of a declared name stores the value of its source at the name's leaf,
 /// fitted to the leaf's width, whatever stood there. It leaves every other path as it was.

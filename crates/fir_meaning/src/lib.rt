@@ -10,7 +10,7 @@ mod width_laws;
 
 pub use laws::{
     clean_has_value, faultless_has_one, faultless_is_clean, faultless_runs_once, last_connect,
-    names_leave_none, one_look_up, shows_one_first,
+    names_leave_none, one_look_up,
 };
 pub use type_laws::{
     connects_leaf_by_leaf, faultless_is_well_typed, leaves_have_numbers, partial_connects_fit,

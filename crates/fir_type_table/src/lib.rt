@@ -4,7 +4,7 @@
 //! for, which types are equivalent. A type is told by its id, and never copied but into a fault
 //! (FIRRTL spec, "Types", "Type Equivalence", "Passive Types").
 //!
-//! Entries stand in `table`; `add` puts them in, with the sizes that `sizes` finds. What is found
+//! Entries stand in `table`; `add` puts them in, with the sizes that `sizes` finds (`saturated`). What is found
 //! in one step is in `readers`, what walks down two types in `equivalent` and `partly`; `wanted`
 //! finds the leaf that a fault of flow names, `first` the orientation of the first leaf, and `copy`
 //! gives the type back as the text writes it.
@@ -18,6 +18,7 @@ mod first;
 mod kind;
 mod partly;
 mod readers;
+mod saturated;
 mod sizes;
 mod table;
 mod wanted;
@@ -25,6 +26,7 @@ mod wanted;
 pub use entry::{Member, Part};
 pub use kind::{Kind, TypeId};
 pub use readers::FieldFound;
+pub use saturated::times;
 pub use table::TypeTable;
 
 #[cfg(test)]

@@ -17,6 +17,7 @@ ghost use Rattle.fir_type_table.specs.working.Made.{MakesEntry, MakesMembers};
 
 use crate::entry::{Entry, Member, Part};
 use crate::kind::{Kind, TypeId};
+use crate::saturated::times;
 use crate::table::TypeTable;
 use fir_base::{MemoryOut, Name};
 use std::alloc::Global;
@@ -38,14 +39,6 @@ pub(crate) fn scalar_entry(alloc: Global, kind: Kind) -> Entry
         is_numeric: matches!(kind, Kind::UInt(_) | Kind::SInt(_)),
         is_sized: matches!(kind, Kind::UInt(Some(_)) | Kind::SInt(Some(_))),
     }
-}
-
-/// So many times a size, where that is at most 2^64 - 1.
-fn times(count: u128, size: u64) -> u64
-    ensures { (n : ℕ) → size ≡ saturated n → result ≡ saturated (count * n) }
-{
-    let product = count.saturating_mul(u128::from(size));
-    u64::try_from(product).unwrap_or(u64::MAX)
 }
 
 impl TypeTable {

@@ -43,6 +43,7 @@ pub use findings::Findings;
 pub use flow::Flow;
 pub use forms::place_of;
 pub use found::Found;
+pub use memory_fields::{first_depth, first_word_type};
 pub use note::{LeafRange, Note, Pick};
 pub use pass::CheckTypes;
 pub use sort::Sort;

@@ -1,6 +1,6 @@
 //! The numbers of the expressions in statements, and what the statements ask for, in the order of the text.
 
-ghost use Rattle.std.specs.Prelude.{◌≡◌, ◌++◌, List, None, Some, flat_map, map, option_map, IfOk, OnOk};
+ghost use Rattle.std.specs.Prelude.{◌≡◌, ◌++◌, List, None, Some, map, option_map, IfOk, OnOk};
 ghost use Rattle.fir_ast.specs.declared.place.Place.{Place};
 ghost use Rattle.fir_ast.specs.Circuits.{CircuitTree, ModuleTree};
 ghost use Rattle.fir_ast.specs.Statements as tree;
@@ -8,7 +8,7 @@ ghost use Rattle.fir_ast.specs.Types.{DataType};
 ghost use Rattle.fir_ast.specs.View.{block_of, expr_of, memory_part_of, named_of, reset_of, stmt_of, type_of};
 ghost use Rattle.fir_meaning.specs.Components as component;
 ghost use Rattle.fir_meaning.specs.Components.{Component};
-ghost use Rattle.fir_meaning.specs.MemoryTypes.{data_of_part, first_one, memory_type};
+ghost use Rattle.fir_meaning.specs.MemoryTypes.{memory_type};
 ghost use Rattle.fir_meaning.specs.Visibility.{Before, behind, behind_block, declarations};
 ghost use Rattle.fir_meaning.specs.SizedDeclarations.{NumberedModule, sized_declared};
 ghost use Rattle.fir_meaning.specs.SizedTypes.{numbered};
@@ -33,10 +33,10 @@ use crate::ground::Ground;
 use crate::side::Side;
 use crate::spot::Spot;
 use crate::walk::Walk;
-use fir_ast::{Expr, Ident, Memory, MemoryField, Register, Stmt, Ty, When};
+use fir_ast::{Expr, Ident, Memory, Register, Stmt, When};
 use fir_base::MemoryOut;
 use fir_type_table::{Kind, TypeTable};
-use fir_types::Found;
+use fir_types::{Found, first_word_type};
 use std::alloc::Global;
 
 /// Statements, blocks of whens entered.
@@ -157,22 +157,10 @@ fn in_memory<'a>(
 fn memory_spot<'a>(table: &TypeTable, memory: &'a Memory, own: Side) -> Spot<'a>
     ensures { (c : CircuitTree) (m : ModuleTree) (t : DataType) (meant : List Width) → memory_type memory.now.ident.place (map memory_part_of memory.now.fields.items) ≡ Some t → found_type (types_of table.now) own.found ≡ t → IsSide (types_of table.now) meant own (numbered None t) → IsSpot c (types_of table.now) meant result (of_component m (named_of memory.now.ident) (component.memory (map memory_part_of memory.now.fields.items)) (numbered None t)) }
 {
-    match word_type(&memory.fields) {
+    match first_word_type(&memory.fields) {
         Some(ty) if !has_ports(table, own.found) => Spot::Array(&memory.ident, ty),
         _ => Spot::Declared(&memory.ident, own),
     }
-}
-
-/// The type of a memory's words.
-fn word_type(fields: &[MemoryField]) -> Option<&Ty>
-    ensures { option_map (λ t. type_of t.now) result ≡ first_one (flat_map data_of_part (map memory_part_of fields.now)) }
-{
-    for field in fields {
-        if let MemoryField::DataType(_, _, ty) = field {
-            return Some(ty);
-        }
-    }
-    None
 }
 
 /// Whether a bundle of ports has one.

@@ -84,6 +84,15 @@ const RUNS: &[Run] = &[
     ),
     (
         EMIT,
+        b"circuit T :\n  module T :\n    wire v : UInt<1>[4194305]\n    v is invalid\n",
+        b"",
+        Failing::Nothing,
+        1,
+        b"",
+        b"E23 1:9 cost 8388610\n",
+    ),
+    (
+        EMIT,
         b"circuit T :\n  module T :\n    input a UInt<4>\n    input b : UInt<4>\n    output o : UInt<4>\n    o <= xor(a, b)\n",
         b"",
         Failing::Nothing,

@@ -2,7 +2,7 @@
 use Rattle.std.specs.Prelude.{◌≡◌, ℕ}
 use Rattle.fir_ast.specs.Circuits.{CircuitTree}
 use Rattle.fir_meaning.specs.NameGroups.{HasNames}
-use Rattle.fir_expand.specs.working.Costs.{HasCost}
+use Rattle.fir_meaning.specs.Costs.{HasCost}
 
 -- a circuit whose names stand has one cost at most
 abbrev pub HasOneCost : Type 0

@@ -2,7 +2,7 @@
 use Rattle.std.specs.Prelude.{◌≡◌, ℕ}
 use Rattle.fir_ast.specs.Circuits.{CircuitTree}
 use Rattle.fir_type_table.specs.working.Saturated.{saturated}
-use Rattle.fir_expand.specs.working.Costs.{HasCost}
+use Rattle.fir_meaning.specs.Costs.{HasCost}
 
 -- it stands still at 2^64 - 1
 pub record IsCostOf (c : CircuitTree) (found : ℕ) : Type 0 where

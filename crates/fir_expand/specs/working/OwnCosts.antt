@@ -3,7 +3,7 @@ use Rattle.std.specs.Prelude.{◌≡◌, ℕ, List, [], ◌∷◌, ◌++◌, map
 use Rattle.fir_ast.specs.Statements.{Statement, instance, when, Block, done, then}
 use Rattle.fir_ast.specs.Circuits.{ModuleTree, CircuitTree}
 use Rattle.fir_type_table.specs.working.Saturated.{saturated}
-use Rattle.fir_expand.specs.working.Costs.{ModuleCosts, cost_of_module, AreCosts}
+use Rattle.fir_meaning.specs.Costs.{ModuleCosts, cost_of_module, AreCosts}
 
 abbrev pub own_cost : List ModuleTree → ModuleTree → ℕ
 own_cost modules m = cost_of_module modules (λ name. 0) m

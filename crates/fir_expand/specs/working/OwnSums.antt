@@ -9,7 +9,7 @@ use Rattle.fir_meaning.specs.ComponentTypes.{typed_scope}
 use Rattle.fir_meaning.specs.TypedScopes.{TypedScope}
 use Rattle.fir_types.specs.working.Notes.{LeafRange, Note, of_expression, of_reference, Pick}
 use Rattle.fir_types.specs.working.ModuleNotes.{module_notes}
-use Rattle.fir_expand.specs.working.Costs.{leaves_where, sum_of, words_of}
+use Rattle.fir_meaning.specs.Costs.{leaves_where, sum_of, words_of}
 
 -- how many elements dynamic indices may pick
 abbrev pub picked : List Pick → ℕ

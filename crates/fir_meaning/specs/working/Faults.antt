@@ -1,8 +1,7 @@
--- The faults that a circuit shows, behind those of its text, and the first of them.
+-- The faults that a circuit of the small language shows, behind those of its text.
 -- They go in groups: E08 and E09; E10; E12 to E14; E19; E21 and E22; E24. Within a group they go in the order of the text.
 use Rattle.std.specs.Prelude.{◌≡◌, ℕ, List, [], ◌∷◌, ◌++◌, flat_map, Bool, false, ◌||◌, if◌then◌else◌}
 use Rattle.std.specs.Str.{bytes_eq}
-use Rattle.fir_base.specs.Lists.{In}
 use Rattle.fir_ast.specs.declared.fault.FirFault.{FirFault}
 use Rattle.fir_ast.specs.declared.fault.FirFault.TheVariants.{NoModule}
 use Rattle.fir_ast.specs.Circuits.{ModuleTree, CircuitTree}
@@ -25,12 +24,6 @@ abbrev pub faults : CircuitTree → List FirFault
 faults c =
     flat_map (faults_by name_rule) c.modules ++ main_faults c ++ flat_map (faults_by type_rule) c.modules ++ flat_map (faults_by width_rule) c.modules
     ++ flat_map (faults_by legality_rule) c.modules ++ flat_map undriven_faults c.modules
-
-abbrev pub Shown : CircuitTree → FirFault → Type 0
-Shown c f = In (faults c) f
-
-abbrev pub First : CircuitTree → FirFault → Type 0
-First c f = (later : List FirFault) × (faults c ≡ f ∷ later)
 
 abbrev pub Faultless : CircuitTree → Type 0
 Faultless c = faults c ≡ []

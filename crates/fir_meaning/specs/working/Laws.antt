@@ -5,7 +5,6 @@ use Rattle.fir_bits.specs.Values.{IsBitVector}
 use Rattle.fir_bits.specs.Operators.{type_of}
 use Rattle.fir_bits.specs.declared.values.Num.{Num}
 use Rattle.fir_ast.specs.declared.place.Place.{Place}
-use Rattle.fir_ast.specs.declared.fault.FirFault.{FirFault}
 use Rattle.fir_ast.specs.Expressions.{Expression}
 use Rattle.fir_ast.specs.Statements.{Sink, connect}
 use Rattle.fir_ast.specs.Circuits.{CircuitTree}
@@ -15,7 +14,7 @@ use Rattle.fir_meaning.specs.working.Clean.{IsClean, IsCleanCircuit}
 use Rattle.fir_meaning.specs.Eval.{eval}
 use Rattle.fir_meaning.specs.Exec.{fit, exec}
 use Rattle.fir_meaning.specs.Allows.{One, Run}
-use Rattle.fir_meaning.specs.working.Faults.{First, Faultless}
+use Rattle.fir_meaning.specs.working.Faults.{Faultless}
 use Rattle.fir_meaning.specs.Lacking.{is_in_language}
 
 -- a circuit without a fault has, at every state and tick of its shape, exactly one choice of values
@@ -27,10 +26,6 @@ abbrev pub FaultlessRunsOnce : Type 0
 FaultlessRunsOnce =
     (c : CircuitTree) → IsTrue (is_in_language c) → Faultless c
     → (state : List ℕ) (ticks : List Tick) (shown others : List TickResult) → Run c state ticks shown → Run c state ticks others → others ≡ shown
-
--- a circuit has one first fault at most
-abbrev pub ShowsOneFirst : Type 0
-ShowsOneFirst = (c : CircuitTree) (f g : FirFault) → First c f → First c g → f ≡ g
 
 -- outside whens, a connect of a declared name stores the value at its leaf whatever stood there, and leaves every other path as it was
 abbrev pub LastConnect : Type 0

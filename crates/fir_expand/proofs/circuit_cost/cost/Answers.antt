@@ -1,7 +1,7 @@
 use Rattle.std.proofs.Common.{ap, subst, ◌∙◌}
 use Rattle.fir_ast.specs.View.{circuit_of}
 use Rattle.fir_type_table.specs.working.Saturated.{saturated}
-use Rattle.fir_expand.specs.working.Costs.{sum_of}
+use Rattle.fir_meaning.specs.Costs.{sum_of}
 use Rattle.fir_expand.specs.working.OwnCosts.{AreCostsByNumber}
 use Rattle.fir_expand.proofs.CostSums.{cost_found}
 use Rattle.fir_expand.proofs.circuit_cost.cost.Goals as goal

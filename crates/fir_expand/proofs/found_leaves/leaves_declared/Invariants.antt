@@ -1,7 +1,7 @@
 use Rattle.std.proofs.Common.{map}
 use Rattle.fir_type_table.specs.working.Tables.{types_of}
 use Rattle.fir_types.specs.working.Seen.{seen}
-use Rattle.fir_expand.specs.working.Costs.{leaves_where, sum_of}
+use Rattle.fir_meaning.specs.Costs.{leaves_where, sum_of}
 use Rattle.fir_expand.proofs.SaturatedSums.{SumSoFar}
 use Rattle.fir_expand.proofs.found_leaves.leaves_declared.Given as goal
 

@@ -12,7 +12,7 @@ pub returns-in-Some : goal.returns-in-Some
 returns-in-Some c = λ k m t meant typed found is.
     let fields = c.args.memory.now.fields.items in
     words_spot k (types_of c.args.table.now) meant m _ (map memory_part_of fields) t typed c.in-Some.ty (sym (ap has_fields found) ∙ sym c.has_ports.ensures ∙ c.if-not-has_ports.true)
-    (ap (λ xs. first_one (flat_map data_of_part (map memory_part_of xs))) (sym c.deref.ensures.value) ∙ sym c.word_type.ensures ∙ ap (option_map (λ t. type_of t.now)) c.in-Some.is)
+    (ap (λ xs. first_one (flat_map data_of_part (map memory_part_of xs))) (sym c.deref.ensures.value) ∙ sym c.first_word_type.ensures ∙ ap (option_map (λ t. type_of t.now)) c.in-Some.is)
 
 pub returns-in_default : goal.returns-in_default
 returns-in_default c = λ k m t meant typed found is.
@@ -23,5 +23,5 @@ returns-in_default c = λ k m t meant typed found is.
       | in_default-via-in_default w ↦
           absurd
           (words_written c.args.memory.now.ident.place parts t typed
-          (ap (λ xs. first_one (flat_map data_of_part (map memory_part_of xs))) (sym c.deref.ensures.value) ∙ sym c.word_type.ensures ∙ ap (option_map (λ t. type_of t.now)) w.in_default.is))
+          (ap (λ xs. first_one (flat_map data_of_part (map memory_part_of xs))) (sym c.deref.ensures.value) ∙ sym c.first_word_type.ensures ∙ ap (option_map (λ t. type_of t.now)) w.in_default.is))
     ]

@@ -10,7 +10,7 @@ use Rattle.fir_ast.specs.Circuits.{PortTree, ModuleTree, CircuitTree}
 use Rattle.fir_meaning.specs.TypeLeaves.{leaf_count}
 use Rattle.fir_meaning.specs.Components as component
 use Rattle.fir_meaning.specs.Visibility.{Before, with_declaration, opened, reopened, behind, behind_block, behind_ports, at_head}
-use Rattle.fir_meaning.specs.TypedScopes.{Known, TypedScope, known}
+use Rattle.fir_meaning.specs.TypedScopes.{TypedScope, known}
 use Rattle.fir_meaning.specs.Reaching.{field_of_type, vector_of_type}
 use Rattle.fir_meaning.specs.ExpressionTypes.{expression_type}
 use Rattle.fir_meaning.specs.MemoryTypes.{memory_type, data_of_part, depth_of_part, first_one}
@@ -18,6 +18,7 @@ use Rattle.fir_meaning.specs.ComponentTypes.{instance_type}
 use Rattle.fir_meaning.specs.TypeGroup.{scope_at}
 use Rattle.fir_meaning.specs.SizedScopes.{sink_expression}
 use Rattle.fir_meaning.specs.ResetItems.{type_of_field, type_of_element, length_of_vector}
+use Rattle.fir_meaning.specs.ResetJoins.{type_of_known}
 
 abbrev pub sum_of : List ℕ → ℕ
 sum_of [] = 0
@@ -35,20 +36,16 @@ picks_from t (subfield first p x rest) = picks_from (type_of_field (field_of_typ
 picks_from t (subindex first p i rest) = picks_from (type_of_element (vector_of_type t)) rest
 picks_from t (subaccess first e rest) = max 1 (length_of_vector (vector_of_type t)) * picks_from (type_of_element (vector_of_type t)) rest
 
-abbrev pub picks_where : Option Known → Parts → ℕ
+abbrev pub picks_where : Option DataType → Parts → ℕ
 picks_where None ps = 1
-picks_where (Some k) ps = picks_by k.data_type ps
-  where
-    picks_by : Option DataType → Parts → ℕ
-    picks_by None ps = 1
-    picks_by (Some t) ps = picks_from t ps
+picks_where (Some t) ps = picks_from t ps
 
 abbrev pub typed_leaves : TypedScope → Expression → ℕ
 typed_leaves scope e = leaves_where (expression_type scope e).has
 
 -- the leaves that a reference may name
 abbrev pub named_leaves : TypedScope → Sink → ℕ
-named_leaves scope s = typed_leaves scope (sink_expression s) * picks_where (known scope s.name) s.parts
+named_leaves scope s = typed_leaves scope (sink_expression s) * picks_where (type_of_known (known scope s.name)) s.parts
 
 -- an expression, with its operands
 abbrev mutual
