@@ -1,0 +1,5 @@
+use Rattle.fir_leaf.proofs.CircuitPaths.{same_circuit_clocks}
+use Rattle.fir_leaf.proofs.design_laws.circuits_clock_as_their_designs.Goals as goal
+
+pub returns : goal.returns
+returns c = same_circuit_clocks

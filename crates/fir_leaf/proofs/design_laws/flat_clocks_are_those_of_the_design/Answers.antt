@@ -1,0 +1,5 @@
+use Rattle.fir_leaf.proofs.FlatMeaning.{same_clocks}
+use Rattle.fir_leaf.proofs.design_laws.flat_clocks_are_those_of_the_design.Goals as goal
+
+pub returns : goal.returns
+returns c = same_clocks
