@@ -2,9 +2,7 @@
 //! of each driven side, times what dynamic indices may pick; and one for each when and each instance.
 
 use crate::circuits::typed;
-use fir_ast::{FirFault, Place};
-use fir_base::Refused;
-use fir_expand::{check_cost, cost};
+use fir_expand::cost;
 use fir_width::infer;
 use std::test::Fail;
 
@@ -133,24 +131,4 @@ fn a_circuit_costs_its_leaves_and_those_that_come_together(rt: HostRuntime) -> R
         assert_eq!(rt; cost(alloc, &fitted)?, *expected);
     }
     Ok(())
-}
-
-#[test]
-fn a_circuit_may_cost_the_limit_and_no_more(rt: HostRuntime) -> Result<(), Fail> {
-    let alloc = rt.alloc();
-    let Ok(fitted) = infer(alloc, typed(alloc, AT_THE_LIMIT)?) else {
-        return Err(Fail::from("the circuit shows no fault"));
-    };
-    assert!(rt; check_cost(alloc, &fitted).is_ok());
-    let Ok(fitted) = infer(alloc, typed(alloc, WIDE_WIRE)?) else {
-        return Err(Fail::from("the circuit shows no fault"));
-    };
-    match check_cost(alloc, &fitted) {
-        Err(Refused::Fault(FirFault::Cost(place, cost))) => {
-            assert_eq!(rt; place, Place { line: 1, col: 9 });
-            assert_eq!(rt; cost, 8388610);
-            Ok(())
-        }
-        _ => Err(Fail::from("it costs too much")),
-    }
 }

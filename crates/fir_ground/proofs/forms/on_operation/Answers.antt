@@ -1,0 +1,27 @@
+use Rattle.std.proofs.Common.{map, ap, Vec, Global}
+use Rattle.fir_leaf.specs.declared.node.Node.{Node}
+use Rattle.fir_leaf.specs.declared.node.Node.TheVariants as node
+use Rattle.fir_leaf.specs.working.Nodes.{node_term}
+use Rattle.fir_leaf.specs.working.Terms.{operation, terms_of}
+use Rattle.fir_ground.specs.working.Grounds.{types_in}
+use Rattle.fir_ground.proofs.Coming.{form_expands}
+use Rattle.fir_ground.proofs.Giving.{gives_one, shows_new}
+use Rattle.fir_ground.proofs.forms.on_operation.Goals as goal
+
+pub returns : goal.returns
+returns c =
+    let same = ap (λ (v : Vec Node Global). v.items) c.pass_note.ensures.nodes in
+    let place = rw same at c.in_ok-id.ensures.place in
+    let added = rw same at c.in_ok-id.ensures.added in
+    let old = c.args.walk.now.nodes.items in
+    let new = c.add.new.nodes.items in
+    let ids = c.args.operands.items in
+    let ks = c.args.integers.now in
+    let op = c.args.op in
+    let t = operation op (terms_of (map (node_term old) ids)) ks in
+    let n = node.Operation op c.args.operands c.in_ok-integers.integers in
+    λ scene note rest ahead.
+    form_expands scene rest c.args.walk.now (record c.pass_note.new.self { nodes = c.add.new.nodes }) c.in_ok-one.field-0.items _
+    (c.pass_note.ensures.ahead (types_in scene) note rest ahead) c.pass_note.ensures.drivers
+    (gives_one old new c.in_ok-id.id t c.in_ok-one.field-0.items
+    (shows_new old new n c.in_ok-id.id t place added (ap (operation op (terms_of (map (node_term old) ids))) c.in_ok-integers.ensures.items)) c.in_ok-one.ensures)

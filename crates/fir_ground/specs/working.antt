@@ -1,0 +1,12 @@
+-- What no clause of `run` reads yet: the walk over expressions and statements, and what it makes of them.
+pub mod Grounds
+pub mod Absent
+pub mod Expressions
+pub mod Indices
+pub mod Reads
+pub mod Pairing
+pub mod PairNumbers
+pub mod Drives
+pub mod Connects
+pub mod DeclarationDrivers
+pub mod Statements
