@@ -25,6 +25,7 @@ pub mod TermCounts
 pub mod ConnectCosts
 pub mod NamesStay
 pub mod NotesLast
+pub mod ResetKinds
 pub mod Connecting
 pub mod FramedScopes
 pub mod DriversCome

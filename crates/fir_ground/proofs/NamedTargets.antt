@@ -63,18 +63,18 @@ is_known (Some k) b is = by k.data_type refl is
         record { component = k; is = refl; data_type = e ∙ ap (λ (z : Reached). Some z.data_type) same }
 
 -- what a reference reaches, as a target and as a range
-record Ranged (typed : TypedScope) (s : Sink) (r : Reached) : Type 0 where
-  first : ℕ
-  total : ℕ
-  component : Known
-  is : known typed s.name ≡ Some component
-  begins : first ≡ leaves_ahead typed s.name
-  room : first + total ≤ leaves_so_far typed
-  range : LeafRange
-  note : reference_note typed s ≡ of_reference (Some range)
-  along : Along first total true no_picks (position_of typed s.name) [] (indices_in typed s.parts) (target_of typed s) range r.data_type
+pub record Ranged (typed : TypedScope) (s : Sink) (r : Reached) : Type 0 where
+  pub first : ℕ
+  pub total : ℕ
+  pub component : Known
+  pub is : known typed s.name ≡ Some component
+  pub begins : first ≡ leaves_ahead typed s.name
+  pub room : first + total ≤ leaves_so_far typed
+  pub range : LeafRange
+  pub note : reference_note typed s ≡ of_reference (Some range)
+  pub along : Along first total true no_picks (position_of typed s.name) [] (indices_in typed s.parts) (target_of typed s) range r.data_type
 
-ranged : (typed : TypedScope) (s : Sink) (r : Reached) → leaves_so_far typed ≤ cost_limit → ReachesThere typed s r → Ranged typed s r
+pub ranged : (typed : TypedScope) (s : Sink) (r : Reached) → leaves_so_far typed ≤ cost_limit → ReachesThere typed s r → Ranged typed s r
 ranged typed s r small reaches =
     let start = reaches.0 in
     let of = is_known (known typed s.name) start reaches.1 in

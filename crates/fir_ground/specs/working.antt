@@ -8,5 +8,6 @@ pub mod Pairing
 pub mod PairNumbers
 pub mod Drives
 pub mod Connects
+pub mod ResetKinds
 pub mod DeclarationDrivers
 pub mod Statements

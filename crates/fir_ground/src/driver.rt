@@ -1,6 +1,8 @@
 //! What the walk over statements keeps of declarations, besides the statements over leaves (FIRRTL spec,
 //! "Nodes", "Registers").
 
+use crate::reset_kind::ResetKind;
+
 /// What gives the leaves of a declaration their values, by nodes.
 #[derive(Drop)]
 pub enum Driver {
@@ -22,6 +24,7 @@ pub struct RegisterDriver {
 pub struct ResetDriver {
     /// The node of the condition.
     pub condition: usize,
+    pub kind: ResetKind,
     /// The nodes of the init's leaves.
     pub init: Vec<usize>,
 }

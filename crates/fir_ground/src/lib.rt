@@ -1,7 +1,7 @@
-//! Expressions and statements of a module over its ground leaves, as nodes. In come the tree and what the check
-//! of types has noted of each of its expressions, so that no name is looked up and nothing is typed again; out
-//! come nodes, one for each leaf of an expression (fir_leaf `Node`, `terms`), and statements that drive one leaf
-//! each (FIRRTL spec, "Expressions", "References", "Connects", "Conditionals").
+//! Expressions and statements of a module over its ground leaves, as nodes. In come the tree and what the
+//! check of types has noted of each of its expressions, so that no name is looked up and nothing is typed
+//! again; out come nodes, one for each leaf of an expression (fir_leaf `Node`, `terms`), and statements that
+//! drive one leaf each (FIRRTL spec, "Expressions", "References", "Connects", "Conditionals").
 #![tactic(auto)]
 
 mod absent;
@@ -18,6 +18,7 @@ mod notes;
 mod pairs;
 mod reads;
 mod references;
+mod reset_kind;
 mod sides;
 mod source;
 mod statements;
@@ -33,6 +34,7 @@ pub use frame::Frame;
 pub use ground::Ground;
 pub use pairs::{LeafPair, leaf_pairs, partial_leaf_pairs};
 pub use reads::read_all;
+pub use reset_kind::ResetKind;
 pub use source::{Source, in_source};
 pub use statements::in_block;
 pub use target::Target;

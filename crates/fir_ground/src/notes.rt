@@ -1,11 +1,13 @@
 //! The notes that the walk passes.
 
-ghost use Rattle.std.specs.Prelude.{◌≡◌, List, ◌∷◌};
+ghost use Rattle.std.specs.Prelude.{◌≡◌, ◌∷◌, ◌++◌, List, option_copied, option_map};
 ghost use Rattle.fir_ast.specs.Types.{DataType};
+ghost use Rattle.fir_types.specs.working.Noted.{note_seen, saturated_note};
 ghost use Rattle.fir_types.specs.working.Notes.{Note as Meant};
 ghost use Rattle.fir_ground.specs.working.Grounds.{Ahead};
 
 use crate::walk::Walk;
+use fir_types::Note;
 
 impl<'a> Walk<'a> {
     /// Passes the note of a form.
@@ -18,4 +20,12 @@ impl<'a> Walk<'a> {
             self.notes = rest;
         }
     }
+}
+
+/// The last note that is passed, of those that are ahead, up to those that are left.
+pub fn last_passed<'a>(ahead: &'a [Note], left: &[Note]) -> Option<&'a Note>
+    ensures { (ts : List DataType) (before : List Meant) (note : Meant) (rest : List Meant) → Ahead ts ahead.now (before ++ note ∷ rest) → Ahead ts left.now rest → option_map (note_seen ts) (option_copied result) ≡ Some (saturated_note note) }
+{
+    let passed = ahead.len().saturating_sub(left.len());
+    ahead.get(passed.saturating_sub(1))
 }

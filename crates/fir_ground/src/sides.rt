@@ -17,6 +17,7 @@ ghost use Rattle.fir_ground.specs.working.Grounds.{Ahead, Enters};
 
 use crate::expressions::in_reference;
 use crate::ground::Ground;
+use crate::notes::last_passed;
 use crate::source::{Source, in_source};
 use crate::target::Target;
 use crate::walk::Walk;
@@ -62,8 +63,7 @@ pub fn in_sides<'a>(
 fn noted_last(notes: &[Note], left: &[Note]) -> Found
     ensures { (ts : List DataType) (typed : TypedScope) (e : Expression) (t : DataType) (rest : List Meant) → Ahead ts notes.now (expression_notes typed e ++ rest) → Ahead ts left.now rest → target_read typed e ≡ None → HasType typed e t → found_type ts result ≡ t }
 {
-    let read = notes.len().saturating_sub(left.len());
-    match notes.get(read.saturating_sub(1)) {
+    match last_passed(notes, left) {
         Some(note) => noted(note),
         None => Found::AsyncReset,
     }

@@ -31,6 +31,8 @@ use crate::driver::{Driver, RegisterDriver, ResetDriver};
 use crate::expressions::{in_expression, in_first};
 use crate::frame::Frame;
 use crate::ground::Ground;
+use crate::notes::last_passed;
+use crate::reset_kind::reset_kind;
 use crate::walk::Walk;
 use fir_ast::{Expr, Place, Register, RegisterReset, Stmt, When};
 use fir_base::MemoryOut;
@@ -154,7 +156,7 @@ fn in_register<'a>(
     )
 }
 
-/// The condition and the init of a reset.
+/// The condition and the init of a reset, with what tells whether it is asynchronous.
 fn in_reset<'a>(
     alloc: Global,
     ground: &Ground<'a>,
@@ -166,9 +168,15 @@ fn in_reset<'a>(
     let Some(reset) = reset else {
         return Ok(None);
     };
+    let notes = walk.notes;
     let condition = in_first(&reset.condition, alloc, ground, walk)?;
+    let kind = reset_kind(ground.table, last_passed(notes, walk.notes));
     let init = in_expression(&reset.init, alloc, ground, walk)?;
-    Ok(Some(ResetDriver { condition, init }))
+    Ok(Some(ResetDriver {
+        condition,
+        kind,
+        init,
+    }))
 }
 
 /// A node, with those of its expression.

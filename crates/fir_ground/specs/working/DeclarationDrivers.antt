@@ -16,16 +16,27 @@ use Rattle.fir_ground.specs.declared.driver.ResetDriver.{ResetDriver}
 use Rattle.fir_ground.specs.declared.ground.Ground.{Ground}
 use Rattle.fir_ground.specs.declared.walk.Walk.{Walk}
 use Rattle.fir_ground.specs.working.Grounds.{Comes}
+use Rattle.fir_ground.specs.working.ResetKinds.{KindMeant, kind_of_reset, kind_seen}
 use Rattle.fir_types.specs.working.Notes.{Note}
 
--- by terms: statements, an instance or a memory; a node; a register, with its clock and the condition and the init of its reset
+-- of a reset: its condition, what tells whether it is asynchronous, and its init
+pub record ResetMeant : Type 0 where
+  pub condition : Term
+  pub kind : KindMeant
+  pub init : List Term
+
+-- by terms: statements, an instance or a memory; a node; a register, with its clock and its reset
 pub data DriverMeant : Type 0 where
   others : DriverMeant
   node_terms : List Term → DriverMeant
-  register_terms : Term → Option (Term × List Term) → DriverMeant
+  register_terms : Term → Option ResetMeant → DriverMeant
 
-abbrev pub reset_terms : TypedScope → Reset → Term × List Term
-reset_terms scope r = (first_term (terms scope r.condition), terms scope r.init)
+abbrev pub reset_terms : TypedScope → Reset → ResetMeant
+reset_terms scope r = record {
+  condition = first_term (terms scope r.condition);
+  kind = kind_of_reset scope r.condition;
+  init = terms scope r.init;
+}
 
 module _ (modules : List ModuleTree) where
   -- a register is known in its reset, and not in its clock
@@ -47,8 +58,8 @@ module _ (modules : List ModuleTree) where
     drivers_in_block before ((then) s b) = drivers_in before s ++ drivers_in_block (behind before s) b
 
 -- what the code's drivers stand for
-abbrev pub reset_seen : List NodeOfCode → ResetDriver → Term × List Term
-reset_seen nodes r = (node_term nodes r.condition, map (node_term nodes) r.init.items)
+abbrev pub reset_seen : List NodeOfCode → ResetDriver → ResetMeant
+reset_seen nodes r = record { condition = node_term nodes r.condition; kind = kind_seen r.kind; init = map (node_term nodes) r.init.items }
 
 abbrev pub driver_seen : List NodeOfCode → Driver → DriverMeant
 driver_seen nodes Others = others
@@ -72,6 +83,6 @@ pub record Declares (old new : Walk) (was is : ℕ) (driver : Driver) : Type 0 w
   pub drivers : new.drivers.items ≡ old.drivers.items ++ driver ∷ []
 
 -- behind the condition and the init of a reset, if there is one
-pub record ExpandsReset (ground : Ground) (rest : List Note) (old new : Walk) (reset : Option ResetDriver) (meant : Option (Term × List Term)) : Type 0 where
+pub record ExpandsReset (ground : Ground) (rest : List Note) (old new : Walk) (reset : Option ResetDriver) (meant : Option ResetMeant) : Type 0 where
   pub comes : Comes ground rest old new
   pub seen : (later : List NodeOfCode) → Grows new.nodes.items later → option_map (reset_seen later) reset ≡ meant

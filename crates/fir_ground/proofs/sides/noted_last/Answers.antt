@@ -1,19 +1,16 @@
-use Rattle.std.proofs.Common.{◌≡◌, ◌-◌, length, true, false, ap, ◌∙◌, arith}
-use Rattle.fir_types.specs.working.Noted.{note_seen}
-use Rattle.fir_ground.proofs.NotesLast.{own_note}
+use Rattle.std.proofs.Common.{ap, ◌∙◌}
+use Rattle.std.proofs.lemmas.Option.{none-some, same_Some}
+use Rattle.fir_types.specs.working.Noted.{saturated_note}
+use Rattle.fir_ground.proofs.NotesLast.{own_last, own_note, own_type}
 use Rattle.fir_ground.proofs.sides.noted_last.Goals as goal
 
 pub returns-in-Some : goal.returns-in-Some
 returns-in-Some c = λ ts typed e t rest ahead behind none has.
-    let k : c.saturating_sub.result ≡ (length c.args.notes.now - length c.args.left.now) - 1 = omega
-    (arith, c.saturating_sub.ensures, c.saturating_sub-read.ensures) in
-    let own = own_note ts c.args.notes.now c.args.left.now typed e t rest c.saturating_sub.result ahead behind none has k in
-    c.noted.ensures ts t (ap (note_seen ts) c.in-Some.ensures.lookup.1 ∙ own.is c.in-Some.note.now)
+    let own = own_last ts c.args.notes.now typed e rest ahead in
+    let seen = c.in-Some.ensures ts own.before (own_note typed e) rest own.ahead behind in
+    c.noted.ensures ts t (same_Some _ _ seen ∙ ap saturated_note (own_type typed e t none has))
 
 pub returns-in-None : goal.returns-in-None
 returns-in-None c = λ ts typed e t rest ahead behind none has.
-    let k : c.saturating_sub.result ≡ (length c.args.notes.now - length c.args.left.now) - 1 = omega
-    (arith, c.saturating_sub.ensures, c.saturating_sub-read.ensures) in
-    let own = own_note ts c.args.notes.now c.args.left.now typed e t rest c.saturating_sub.result ahead behind none has k in
-    let there : false ≡ true = c.in-None.ensures.lookup.2 own.within in
-    absurd (cc)
+    let own = own_last ts c.args.notes.now typed e rest ahead in
+    absurd (none-some _ (c.in-None.ensures ts own.before (own_note typed e) rest own.ahead behind))
