@@ -1,0 +1,33 @@
+-- The designs of a circuit's modules over their ground leaves (FIRRTL spec, "Instances").
+use Rattle.std.specs.Prelude.{◌≡◌, ℕ, List, [], map}
+use Rattle.fir_base.specs.Lists.{In}
+use Rattle.fir_ast.specs.Circuits.{CircuitTree}
+use Rattle.fir_meaning.specs.NameGroups.{HasNames}
+use Rattle.fir_meaning.specs.SizedDeclarations.{numbered_modules}
+use Rattle.fir_meaning.specs.TypeGroup.{type_faults}
+use Rattle.fir_names.specs.working.ModuleOrder.{IsModuleOrder}
+use Rattle.fir_leaf.specs.working.Designs.{Design, IsDesignOf}
+use Rattle.fir_leaf.specs.working.LeafModules.{LeafModule}
+use Rattle.fir_leaf.specs.working.LeafedModules.{Scene, leafed_module}
+use Rattle.fir_leaf.specs.working.NamedDesigns.{IsNamed}
+use Rattle.fir_leaf.specs.working.SoundDesigns.{IsMain, IsSound}
+
+-- a scene for each module of a circuit, in their order
+abbrev pub AreScenes : CircuitTree → List Scene → Type 0
+AreScenes c scenes = map (λ (s : Scene). s.own) scenes ≡ numbered_modules c
+
+abbrev pub views : List Scene → List LeafModule
+views scenes = map leafed_module scenes
+
+-- a design of the scene's module, of which there is no other, that is sound
+pub record IsSoundDesign (scenes : List Scene) (s : Scene) (d : Design) : Type 0 where
+  pub is : IsDesignOf (views scenes) (leafed_module s) d
+  pub main : IsMain d
+  pub named : IsNamed d
+  pub sound : IsSound d
+
+-- where no fault of names or types stands, and some order of the modules has each behind those that it has instances of
+abbrev pub HasSoundDesigns : Type 0
+HasSoundDesigns =
+    (c : CircuitTree) (scenes : List Scene) (order : List ℕ) (s : Scene) → HasNames c → type_faults c ≡ [] → IsModuleOrder c order → AreScenes c scenes
+    → In scenes s → (d : Design) × IsSoundDesign scenes s d

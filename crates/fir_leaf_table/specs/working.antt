@@ -1,0 +1,15 @@
+-- What no clause of `run` reads yet: the leaves of modules as the code has them, and what they stand for.
+pub mod Seen
+pub mod Scenes
+pub mod Frames
+pub mod TypedLeaves
+pub mod PushedTypeLeaves
+pub mod DrivenLeaves
+pub mod Memories
+pub mod Givers
+pub mod Walks
+pub mod ModuleWalks
+pub mod PushedLeaves
+pub mod TakenDrivers
+pub mod PortPlaces
+pub mod Leafed
