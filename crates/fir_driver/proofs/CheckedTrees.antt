@@ -42,12 +42,10 @@ module _ (bytes : List ℕ) (c : CircuitTree) where
   not_inferred read f first =
       inr (record { circuit = c; spelled = read.0; first = first_behind c 4 5 7 8 f read.1 (omega arith) (omega arith) (omega arith) first })
 
-  -- of its cost
+  -- over its ground leaves
   pub within_cost : Spells bytes c × IsClearUpTo 7 c → IsClear (cost_group c) → Spells bytes c × IsClearUpTo 8 c
   within_cost read h = (read.0, clear_costs c read.1 h)
 
-  pub costly : Spells bytes c × IsClearUpTo 7 c → (r : Refused FirFault) → IfFaulty r (λ f. IsFirst 8 8 (circuit_meaning c) (fault_of f))
-      → IsCheckedTree 8 bytes (Err r)
-  costly read (Fault f) first =
+  pub costly : Spells bytes c × IsClearUpTo 7 c → (f : FirFault) → IsFirst 8 8 (circuit_meaning c) (fault_of f) → IsCheckedTree 8 bytes (Err (Fault f))
+  costly read f first =
       inr (record { circuit = c; spelled = read.0; first = first_behind c 7 8 8 8 f read.1 (omega arith) (omega arith) (omega arith) first })
-  costly read Memory first = tt

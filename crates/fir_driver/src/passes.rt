@@ -1,7 +1,7 @@
-//! The passes on the way of a circuit, in the order in which it takes them: from bytes to tokens, to the tree, to the tree
-//! with its names, with its types, and with its resets and widths, which is not too large, has only forms that are taken
-//! so far and whose outputs are driven, to the net and its order; and from there to the Verilog tree and its text, or to the simulator's
-//! net with the shape of its traces.
+//! The passes on the way of a circuit, in the order in which it takes them: from bytes to tokens, to the tree, to
+//! the tree with its names, with its types, with its resets and widths, and over its ground leaves, which are not
+//! too many; which has only forms that are taken so far and whose outputs are driven, to the net and its order;
+//! and from there to the Verilog tree and its text, or to the simulator's net with the shape of its traces.
 
 ghost use Rattle.std.specs.Prelude.{◌≤◌, IfOk, IsTrue, length};
 ghost use Rattle.fir_ast.specs.View.{circuit_of};
@@ -23,7 +23,7 @@ use crate::ordered_net::OrderedNet;
 use fir_ast::{Circuit, FirFault};
 use fir_base::{MemoryOut, Name, Refused};
 use fir_check::check_driven;
-use fir_expand::check_cost;
+use fir_expand::{LeafCircuit, expand};
 use fir_lex::lex;
 use fir_loop::laws::heights_have_no_loop;
 use fir_loop::{Order, order};
@@ -93,16 +93,17 @@ fn read_widths(alloc: Global, bytes: &[u8]) -> Result<Fitted, Refused<FirFault>>
     }
 }
 
-/// The tree of the text, which costs no more than the limit, with its resets and widths; or its first fault, of
-/// the text or up to that of its cost.
-fn read_costs(alloc: Global, bytes: &[u8]) -> Result<Fitted, Refused<FirFault>>
+/// The tree of the text, which costs no more than the limit, over its ground leaves; or its first fault, of the
+/// text or up to that of its cost.
+fn read_leaves(alloc: Global, bytes: &[u8]) -> Result<LeafCircuit, Refused<FirFault>>
     requires { length bytes.now ≤ 16777216 }
     ensures { IsCheckedTree 8 bytes.now result }
 {
     let fitted = read_widths(alloc, bytes)?;
-    match check_cost(alloc, &fitted) {
-        Ok(()) => Ok(fitted),
-        Err(refused) => Err(refused),
+    match expand(alloc, fitted) {
+        Ok(expanded) => Ok(expanded),
+        Err(Refused::Fault((fault, _fitted))) => Err(Refused::Fault(fault)),
+        Err(Refused::Memory) => Err(Refused::Memory),
     }
 }
 
@@ -123,7 +124,10 @@ pub fn read_circuit(alloc: Global, bytes: &[u8]) -> Result<Named, Refused<FirFau
     requires { length bytes.now ≤ 16777216 }
     ensures { IsTaken bytes.now result }
 {
-    let named = read_costs(alloc, bytes)?.into_typed().into_named();
+    let named = read_leaves(alloc, bytes)?
+        .into_fitted()
+        .into_typed()
+        .into_named();
     if let Some(lack) = lacking(&named) {
         return Err(unsupported(alloc, lack));
     }

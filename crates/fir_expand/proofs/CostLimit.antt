@@ -10,7 +10,7 @@ use Rattle.fir_meaning.specs.NameGroups.{HasNames}
 use Rattle.fir_meaning.specs.CostGroup.{cost_group, cost_limit, ShowsCost}
 use Rattle.fir_meaning.specs.SourceMeaning.{circuit_meaning}
 use Rattle.fir_meaning.proofs.KeptTrees.{first_at}
-use Rattle.fir_expand.specs.working.Costing.{IsCostOf}
+use Rattle.fir_expand.specs.working.Costing.{IsCostOf, HasCostWithin}
 use Rattle.fir_expand.specs.working.CostLaws.{HasOneCost}
 
 -- a number that is within the limit is what it counts
@@ -26,6 +26,9 @@ module _ (c : CircuitTree) (found : ℕ) (costs : IsCostOf c found) where
       let same : shows.cost ≡ costs.cost = one c shows.cost costs.cost names shows.has costs.has in
       let small : costs.cost ≤ cost_limit = unsaturated costs.cost found costs.is h in
       absurd (omega (arith, same, small, shows.over))
+
+  pub is_within : found ≤ cost_limit → HasCostWithin c
+  is_within h = record { cost = costs.cost; has = costs.has; small = unsaturated costs.cost found costs.is h }
 
   shows_cost : cost_limit < found → ShowsCost c (fault_of (fault.Cost c.named.place found))
   shows_cost h = record {

@@ -10,3 +10,5 @@ pub mod FullCosts
 pub mod CostsInOrder
 pub mod OneCost
 pub mod CostLimit
+pub mod ExpandedCircuits
+pub mod CodeStores

@@ -7,6 +7,7 @@ ghost use Rattle.fir_pass.specs.Groups.{IsClear};
 ghost use Rattle.fir_pass.specs.Law.{IfFault, IsFirst};
 ghost use Rattle.fir_meaning.specs.CostGroup.{cost_group};
 ghost use Rattle.fir_meaning.specs.SourceMeaning.{circuit_meaning};
+ghost use Rattle.fir_expand.specs.working.Costing.{HasCostWithin};
 
 use crate::circuit_cost::cost;
 use fir_ast::FirFault;
@@ -19,6 +20,7 @@ const LIMIT: u64 = 4_194_304;
 
 /// Whether a circuit costs no more than the limit, 4194304; else its fault, E23, at the circuit's name.
 pub fn check_cost(alloc: Global, fitted: &Fitted) -> Result<(), Refused<FirFault>>
+    ensures within { IfOk result (λ u. HasCostWithin (circuit_of fitted.now)) }
     ensures clear { IfOk result (λ u. IsClear (cost_group (circuit_of fitted.now))) }
     ensures fault { IfFault result (λ f. IsFirst 8 8 (circuit_meaning (circuit_of fitted.now)) (fault_of f)) }
 {

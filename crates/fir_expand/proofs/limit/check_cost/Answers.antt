@@ -5,7 +5,7 @@ use Rattle.fir_pass.specs.Faults.{fault_of}
 use Rattle.fir_pass.specs.Law.{IsFirst}
 use Rattle.fir_meaning.specs.NameGroups.{HasNames}
 use Rattle.fir_meaning.specs.SourceMeaning.{circuit_meaning}
-use Rattle.fir_expand.proofs.CostLimit.{past_limit, within_limit}
+use Rattle.fir_expand.proofs.CostLimit.{is_within, past_limit, within_limit}
 use Rattle.fir_expand.proofs.OneCost.{one_cost}
 use Rattle.fir_expand.proofs.limit.check_cost.Goals as goal
 
@@ -15,6 +15,11 @@ returns-then-cost-gt-LIMIT-clause-fault c =
     let same : c.circuit-circuit.result.now ≡ tree = c.circuit-circuit.ensures.tree ∙ c.named.ensures.tree ∙ c.typed.ensures.tree in
     subst (λ t. IsFirst 8 8 (circuit_meaning (circuit_of tree)) (fault_of (fault.Cost t.ident.place c.in_ok-cost.cost))) (sym same)
     (past_limit (circuit_of tree) c.in_ok-cost.cost c.in_ok-cost.ensures c.if-cost-gt-LIMIT.true)
+
+pub returns-clause-within : goal.returns-clause-within
+returns-clause-within c =
+    let tree = c.args.fitted.now in
+    is_within (circuit_of tree) c.in_ok-cost.cost c.in_ok-cost.ensures c.if-cost-gt-LIMIT.false
 
 pub returns-clause-clear : goal.returns-clause-clear
 returns-clause-clear c =

@@ -1,0 +1,43 @@
+//! The pass to ground leaves.
+
+ghost use Rattle.std.specs.Prelude.{◌≡◌};
+ghost use Rattle.fir_pass.specs.Faults.{fault_of};
+
+use crate::expanded::expand;
+use crate::leaf_circuit::LeafCircuit;
+use fir_ast::FirFault;
+use fir_base::Refused;
+use fir_pass::{Meant, Pass};
+use fir_width::Fitted;
+use std::alloc::Global;
+
+impl Meant for LeafCircuit {
+    ghost use Rattle.fir_ast.specs.View.{circuit_of};
+    ghost use Rattle.fir_meaning.specs.SourceMeaning.{circuit_meaning};
+
+    ghost meaning = { λ l. circuit_meaning (circuit_of l) };
+}
+
+/// Finds the ground leaves: the fault of the eighth group, E23.
+#[derive(Drop)]
+pub struct Expand;
+
+impl Pass for Expand {
+    type In = Fitted;
+
+    type Out = LeafCircuit;
+
+    type Fault = (FirFault, Fitted);
+
+    ghost from = { 8 };
+
+    ghost upto = { 8 };
+
+    ghost told = { λ f. fault_of f.0 };
+
+    ghost hands_back = { λ x f. f.1 ≡ x };
+
+    fn run(&self, alloc: Global, x: Fitted) -> Result<LeafCircuit, Refused<(FirFault, Fitted)>> {
+        expand(alloc, x)
+    }
+}
