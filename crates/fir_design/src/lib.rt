@@ -1,11 +1,16 @@
-//! Laws of the designs of circuits, each the contract of a function that does nothing: that each module of a
-//! circuit without a fault of names or types has a design, and that it is sound, so that the leaf circuit of the
-//! design means what its modules mean (`design_laws`; fir_leaf); and that this is what the statements of their
-//! trees mean, instance by instance, by paths (`source_laws`; FIRRTL spec, "Instances").
+//! What the modules of a circuit mean together, by paths (FIRRTL spec, "Instances"), and laws, each the
+//! contract of a function that does nothing: each module of a circuit without a fault of names or types has a
+//! design over its ground leaves, and that is sound (`design_laws`; fir_leaf); the statements of its source
+//! store the same by paths, instance by instance, and its declarations give the same roles (`source_laws`); so
+//! both allow the same at every tick (`meaning_laws`).
 #![tactic(auto)]
 
 mod design_laws;
+mod meaning_laws;
 mod source_laws;
 
 pub use design_laws::has_sound_designs;
+pub use meaning_laws::{
+    leaf_circuits_allow_what_their_sources_allow, leaf_circuits_have_the_shape_of_their_sources,
+};
 pub use source_laws::{has_one_tree, views_clock_as_trees, views_have_roles, views_store_as_trees};

@@ -1,0 +1,15 @@
+//! What the leaf circuits of designs mean is what their sources mean.
+
+ghost use Rattle.fir_design.specs.working.MeaningLaws.{SameAllows, SameShape};
+
+/// The leaf circuit of a sound design has the shape of the tree of its source modules: inputs, clocks and
+/// state, in the same order (FIRRTL spec, "Ports", "Registers", "Memories").
+pub fn leaf_circuits_have_the_shape_of_their_sources()
+    ensures { SameShape }
+{}
+
+/// And it allows at each tick what the source allows: the same outputs, and the same state behind them (FIRRTL
+/// spec, "Circuits", "Instances").
+pub fn leaf_circuits_allow_what_their_sources_allow()
+    ensures { SameAllows }
+{}
