@@ -112,3 +112,5 @@ pub mod OwnArrays
 pub mod ArrayWalks
 pub mod ArrayNumbers
 pub mod SourceMeanings
+pub mod TreeRuns
+pub mod OneSettled

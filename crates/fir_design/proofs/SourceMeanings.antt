@@ -12,7 +12,7 @@ use Rattle.fir_design.proofs.StateNumbers.{arrays_are, words_are}
 use Rattle.fir_design.proofs.StoredInStep.{clocks_in_step, numbers_in_step}
 use Rattle.fir_design.proofs.ViewRoles.{views_same}
 
-in_step : (c : CircuitTree) (d : Design) (t : SourceDesign) → AreDesigns c d t → InStep (flattened d) t
+pub in_step : (c : CircuitTree) (d : Design) (t : SourceDesign) → AreDesigns c d t → InStep (flattened d) t
 in_step c d t are =
     let ports = ports_agree views_same c d t are in
     record {

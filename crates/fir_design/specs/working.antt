@@ -14,3 +14,4 @@ pub mod SourceCircuits
 pub mod SourceValues
 pub mod SourceAllows
 pub mod MeaningLaws
+pub mod SourceRuns

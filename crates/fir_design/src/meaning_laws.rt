@@ -1,6 +1,7 @@
 //! What the leaf circuits of designs mean is what their sources mean.
 
 ghost use Rattle.fir_design.specs.working.MeaningLaws.{SameAllows, SameShape};
+ghost use Rattle.fir_design.specs.working.SourceRuns.{OneHasRun, SameOne};
 
 /// The leaf circuit of a sound design has the shape of the tree of its source modules: inputs, clocks and
 /// state, in the same order (FIRRTL spec, "Ports", "Registers", "Memories").
@@ -12,4 +13,16 @@ pub fn leaf_circuits_have_the_shape_of_their_sources()
 /// spec, "Circuits", "Instances").
 pub fn leaf_circuits_allow_what_their_sources_allow()
     ensures { SameAllows }
+{}
+
+/// At every state and tick exactly one choice of values is settled in the source where it is in its leaf
+/// circuit.
+pub fn sources_have_one_where_their_leaf_circuits_have()
+    ensures { SameOne }
+{}
+
+/// Where it is, and the states behind ticks keep the shape, the source has exactly one run of every length from
+/// each state of the shape.
+pub fn one_source_has_run()
+    ensures { OneHasRun }
 {}

@@ -1,0 +1,59 @@
+-- What a tree of designs allows over a run, and when it has exactly one (FIRRTL spec, "Circuits", "Clock Type").
+use Rattle.std.specs.Prelude.{◌≡◌, ◌↔◌, ℕ, List, [], ◌∷◌}
+use Rattle.fir_base.specs.Ticks.{AreClocks, FitEach, HasShape, Tick}
+use Rattle.fir_ast.specs.Circuits.{CircuitTree}
+use Rattle.fir_meaning.specs.LeafPaths.{LeafPath}
+use Rattle.fir_leaf.specs.working.Designs.{Design}
+use Rattle.fir_leaf.specs.working.Flattened.{flattened}
+use Rattle.fir_leaf.specs.working.LeafAllows as over
+use Rattle.fir_leaf.specs.working.LeafAllows.{IsLeafRun, LeafResult}
+use Rattle.fir_design.specs.working.MeaningLaws.{AreDesigns}
+use Rattle.fir_design.specs.working.SourceAllows.{Allows, Settled, next}
+use Rattle.fir_design.specs.working.SourceCircuits.{source_shape}
+use Rattle.fir_design.specs.working.SourceDesigns.{SourceDesign}
+use Rattle.fir_design.specs.working.SourceValues.{PathEnv}
+
+module _ (t : SourceDesign) where
+  -- tick for tick what is allowed, from an initial state on
+  abbrev pub Run : List ℕ → List Tick → List LeafResult → Type 0
+  Run = IsLeafRun (Allows t)
+
+  -- some values are settled, and any two are the same at every path
+  pub record HasOne (state : List ℕ) (tick : Tick) : Type 0 where
+    pub env : PathEnv
+    pub settled : Settled t state tick env
+    pub same : (e f : PathEnv) → Settled t state tick e → Settled t state tick f → (x : LeafPath) → e.numbers x ≡ f.numbers x
+    pub same_clocks : (e f : PathEnv) → Settled t state tick e → Settled t state tick f → (x : LeafPath) → e.clocks x ≡ f.clocks x
+
+  -- at every state and tick of the shape exactly one choice of values is settled
+  abbrev pub One : Type 0
+  One = (state : List ℕ) (tick : Tick) → HasShape (source_shape t) state tick → HasOne state tick
+
+  -- the state after a tick has the shape
+  abbrev pub KeepsShape : Type 0
+  KeepsShape = (state : List ℕ) (tick : Tick) (env : PathEnv) → Settled t state tick env → FitEach (source_shape t).state (next t state tick.clocks env)
+
+  -- inputs and clocks of the shape
+  pub record IsTick (tick : Tick) : Type 0 where
+    pub inputs_fit : FitEach (source_shape t).inputs tick.inputs
+    pub clocks_rise : AreClocks 0 (source_shape t).clocks tick.clocks
+
+  abbrev pub AreTicks : List Tick → Type 0
+  AreTicks [] = Unit {0}
+  AreTicks (k ∷ ks) = IsTick k × AreTicks ks
+
+  -- there is exactly one run from a state through the ticks
+  pub record HasRun (state : List ℕ) (ticks : List Tick) : Type 0 where
+    pub shown : List LeafResult
+    pub run : Run state ticks shown
+    pub same : (others : List LeafResult) → Run state ticks others → others ≡ shown
+
+-- exactly one choice of values is settled in the source where it is in its leaf circuit
+abbrev pub SameOne : Type 0
+SameOne = (c : CircuitTree) (d : Design) (t : SourceDesign) → AreDesigns c d t → One t ↔ over.One (flattened d)
+
+-- and then, where the shape is kept, there is exactly one run of every length from each state of the shape
+abbrev pub OneHasRun : Type 0
+OneHasRun =
+    (c : CircuitTree) (d : Design) (t : SourceDesign) (state : List ℕ) (ticks : List Tick) → AreDesigns c d t → One t → KeepsShape t
+    → FitEach (source_shape t).state state → AreTicks t ticks → HasRun t state ticks
