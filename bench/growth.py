@@ -8,7 +8,9 @@ bundle, ports of one memory, instances, a chain and a ring of modules show how t
 grows; parts of references and elements of nested vectors show how the check of types does. Chains
 of nodes and registers without a width, a ring of registers in which each turn adds a bit, and
 Resets in a row, 20000 and 200000 each, show how inference does, and so do connects and nodes of a
-bundle with 100 fields, 20000 and 40000 each, which come to four million leaves. Time goes with the
+bundle with 100 fields, 20000 and 40000 each, which come to four million leaves. Leaves under 255
+whens in each other, whens in a row, chains of 255 `else when`, and vectors of 1000 elements of
+which indices pick one again and again show how the check of what is driven does. Time goes with the
 bytes that are read and written. It fails where the time of the second text grows by more than 1.25
 times what these bytes grow by; times under 0.2 seconds are too short to compare. Seconds are those
 of a processor, the least of three runs.
@@ -194,6 +196,33 @@ def nodes_of_100_fields(count):
     return "circuit T :\n  module T :\n" + with_100_fields("p") + "".join(lines)
 
 
+HEAD_OF_ONE_BIT = "circuit T :\n  module T :\n    input a : UInt<1>\n"
+
+
+def leaves_under_whens(count):
+    """So many leaves, each connected under 255 whens in each other."""
+    whens = "".join(" " * (4 + depth) + "when a :\n" for depth in range(255))
+    connects = "".join(" " * 259 + f"o[{k}] <= a\n" for k in range(count))
+    return HEAD_OF_ONE_BIT + f"    output o : UInt<1>[{count}]\n" + whens + connects
+
+
+def whens_in_a_row(count):
+    """So many whens that hold a connect to one leaf, which all are told."""
+    return HEAD_OF_ONE_BIT + "    output o : UInt<1>\n" + "    when a :\n     o <= a\n" * count
+
+
+def chains_of_255_else_whens(count):
+    """Without an else, over one leaf."""
+    chain = "    when a :\n     o <= a\n" + "    else when a :\n     o <= a\n" * 255
+    return HEAD_OF_ONE_BIT + "    output o : UInt<1>\n" + chain * count
+
+
+def picks_of_1000_elements(count):
+    """So many connects, each to an element that an index picks, and one to all before."""
+    head = HEAD_OF_ONE_BIT + "    output v : UInt<1>[1000]\n    v is invalid\n"
+    return head + "    v[a] <= a\n" * count
+
+
 def elements_of_vectors(size):
     """Reads of an element of 250 vectors in each other, each of 4294967296 elements."""
     depth = 250
@@ -227,6 +256,11 @@ COUNTED = {
     (20000, 200000): (chain, chain_without_widths, ring_that_grows, resets_in_a_row),
     # two and four million leaves
     (20000, 40000): (connects_of_100_fields, nodes_of_100_fields),
+    (10000, 20000): (leaves_under_whens,),
+    (50000, 100000): (whens_in_a_row,),
+    (200, 400): (chains_of_255_else_whens,),
+    # two and four million drivings
+    (2000, 4000): (picks_of_1000_elements,),
 }
 SHAPES = (blank_lines, one_comment, chain_of_nodes, one_information, one_long_name,
           one_long_name_used_many_times, skips, connects, many_ports, chain_of_registers, dots,

@@ -31,7 +31,7 @@ count() {
   fi
 }
 
-rows=0 circuits=0 names=0 types=0 inferred=0 costs=0 skipped=
+rows=0 circuits=0 names=0 types=0 inferred=0 costs=0 driven=0 skipped=
 if command -v python3 >/dev/null 2>&1; then
   part rows python3 checks/rows.py
   count rows 'rows: \([0-9]*\) passed.*'
@@ -54,7 +54,11 @@ if command -v python3 >/dev/null 2>&1; then
   part costs python3 checks/costs.py 100
   count costs 'costs: the same on \([0-9]*\) circuits.*'
   costs=$counted
+  part driven python3 checks/driven.py check 200
+  count driven 'driven: the same on \([0-9]*\) circuits.*'
+  driven=$counted
   part definitions python3 checks/definitions.py --check
+  part row_trees python3 checks/row_trees.py --check
 else
   skipped=" (python3 is not installed)"
   echo "checks: python3 is not installed; of the checks all but interop are skipped"
@@ -65,5 +69,6 @@ count interop 'interop: \([0-9]*\) examples passed'
 outcome="passed$skipped"
 [ "${#failed[@]}" -eq 0 ] || outcome="FAILED: ${failed[*]}$skipped"
 echo "checks: $rows rows, $circuits circuits, $names circuits of names, $types circuits of types," \
-  "$inferred circuits of resets and widths, $costs circuits of costs, $counted examples: $outcome"
+  "$inferred circuits of resets and widths, $costs circuits of costs," \
+  "$driven circuits of leaves that are driven, $counted examples: $outcome"
 [ "${#failed[@]}" -eq 0 ]

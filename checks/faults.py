@@ -13,7 +13,7 @@ OVER = 129
 NO_TYPE = Type(False, 0)
 NAMES = ["names", "main"]
 WIDTHS = ["widths", "integers"]
-OTHERS = ["lacking", "drivers"]
+OTHERS = ["drivers", "lacking"]
 
 
 class Found(typing.NamedTuple):
@@ -26,8 +26,9 @@ class Found(typing.NamedTuple):
 
 class Faults:
     """The faults of a text, group by group in the order of the text. Behind the names and the main
-    module stand the types, then the widths and what is not legal, then what `emit` lacks. The
-    widths are those of width_rules.py; where nothing is lacking they are found here once more."""
+    module stand the types, then the widths and what is not legal, then outputs that nothing drives,
+    then what `emit` lacks. The widths are those of width_rules.py; where nothing is lacking they
+    are found here once more."""
 
     def __init__(self, text):
         self.text, self.groups = text, {group: [] for group in NAMES + WIDTHS + OTHERS}
@@ -36,11 +37,11 @@ class Faults:
         if name != module:
             self.groups["main"].append(f"E10 1:9 no module {name}")
         # what is declared: its kind, its place and its type
-        self.known, self.driven = {}, set()
+        self.known, self.outputs, self.driven = {}, {}, set()
         for number, line in enumerate(lines[2:], 3):
             self.statement(number, line, line.split())
-        for name, (kind, place, _) in self.known.items():
-            if kind == "output" and name not in self.driven:
+        for name, place in self.outputs.items():
+            if name not in self.driven:
                 self.groups["drivers"].append(f"E24 {place} undriven {name}")
 
     def first(self):
@@ -93,6 +94,8 @@ class Faults:
         self.over(place, written.width, name)
         kind = "clock" if spelled == "Clock" else direction
         self.known.setdefault(name, (kind, place, written))
+        if direction == "output":
+            self.outputs.setdefault(name, place)
 
     def register(self, number, line, name):
         place = f"{number}:9"

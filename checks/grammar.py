@@ -79,7 +79,7 @@ def check_rows():
     does not speak of E06, of carriage returns and of annotations over lines."""
     count, differ = 0, 0
     for row in [row for path in sorted(ROWS.rglob("*.rows")) for row in row_files.read(path)]:
-        if row.words != [b"emit", b"f.fir"] or row.text is None or len(row.text) > 100000:
+        if row.words != [b"emit", b"f.fir"] or row.text is None or len(row.text) > 20000:
             continue
         line, err = line_of(row.text.decode("latin-1")), row.err.decode("latin-1")
         is_other = b"\r" in row.text or b"%[" in row.text and line == OF_TOKENS

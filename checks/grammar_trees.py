@@ -1,10 +1,10 @@
-"""The tree of a text in a short form, and the first of its forms that `emit` does not have.
+"""The tree of a text, its short form, and the first of its forms that `emit` does not have.
 
-The form has all that has a place with it, as `a@3:5`. The rules of what `emit` has are those of
-docs/LANGUAGE.md, restated here.
+The short form has all that has a place with it, as `a@3:5`. The rules of what `emit` has are those
+of docs/LANGUAGE.md, restated here.
 """
-import re
 import sys
+from typing import NamedTuple
 
 from grammar_rules import OPS, spelled_number, tokens
 
@@ -12,12 +12,128 @@ from grammar_rules import OPS, spelled_number, tokens
 sys.setrecursionlimit(10000)
 
 
-class Tree:
-    """A text of the grammar. `lacking` has the first token of each form that `emit` lacks, and
-    `ports` the outputs and clocks of the module, which `emit` does not read in expressions."""
+class Place(NamedTuple):
+    line: int
+    column: int
 
-    def __init__(self, text):
+    def __str__(self):
+        return f"{self.line}:{self.column}"
+
+
+class Name(NamedTuple):
+    """A word with its place."""
+    spelling: str
+    place: Place
+
+    def __str__(self):
+        return f"{self.spelling}@{self.place}"
+
+
+class Typed(NamedTuple):
+    """A type with the place where it begins."""
+    type: object
+    place: Place
+
+    def __str__(self):
+        return f":{self.type}@{self.place}"
+
+
+class ShortForms:
+    """What the parts of a text are in the short form. A block is the list of its statements, and a
+    reference the parts behind a name."""
+
+    def circuit(self, name, modules):
+        return f"{name}{{{' '.join(modules)}}}"
+
+    def module(self, place, name, ports, block):
+        return f"{place} {name}({','.join(ports)})[{';'.join(block)}]"
+
+    def port(self, direction, name, typed):
+        return f"{direction} {name}{typed}"
+
+    def wire(self, place, name, typed):
+        return f"{place} wire {name}{typed}"
+
+    def register(self, place, name, typed, clock, reset):
+        return f"{place} reg {name}{typed},{clock}{reset or ''}"
+
+    def reset(self, place, condition, init):
+        return f",reset@{place}({condition},{init})"
+
+    def node(self, place, name, expression):
+        return f"{place} node {name}={expression}"
+
+    def instance(self, place, name, module):
+        return f"{place} inst {name} of {module}"
+
+    def memory(self, place, name, fields):
+        return f"{place} mem {name}{{{';'.join(fields)}}}"
+
+    def data_type(self, place, typed):
+        return f"{place} data-type{typed}"
+
+    def memory_number(self, place, word, number):
+        return f"{place} {word} {number}"
+
+    def memory_ports(self, place, word, names):
+        return f"{place} {word} {' '.join(map(str, names))}"
+
+    def read_under_write(self, place, which):
+        return f"{place} read-under-write {which}"
+
+    def when(self, place, condition, block, otherwise):
+        return f"{place} when {condition}[{';'.join(block)}][{';'.join(otherwise)}]"
+
+    def connect(self, place, sign, sink, expression):
+        return f"{place} {sink}{sign}{expression}"
+
+    def invalid(self, place, sink):
+        return f"{place} {sink} is invalid"
+
+    def skip(self, place):
+        return f"{place} skip"
+
+    def ground(self, kind, width):
+        return kind if width is None else f"{kind}<{width}>"
+
+    def vector(self, element, length):
+        return f"{element}[{length}]"
+
+    def bundle(self, fields):
+        return f"{{{','.join(fields)}}}"
+
+    def field(self, is_flipped, name, typed):
+        return f"{'~' if is_flipped else ''}{name}{typed}"
+
+    def reference(self, name, parts):
+        return f"{name}{''.join(parts)}"
+
+    sink = reference
+
+    def subfield(self, place, name):
+        return f".@{place} {name}"
+
+    def subindex(self, place, number_place, number):
+        return f"[@{place} {number}@{number_place}]"
+
+    def subaccess(self, place, expression):
+        return f"[@{place} {expression}]"
+
+    def literal(self, kind, width, number):
+        return f"{kind}{'' if width is None else f'<{width}>'}({number})"
+
+    def operation(self, word, operands, integers):
+        return f"{word}({','.join(operands + [str(k) for k in integers])})"
+
+
+class Tree:
+    """A text of the grammar. `form` is what the forms make of it; `lacking` has the first token of
+    each form that `emit` lacks, and `ports` the outputs and clocks of the module, which `emit` does
+    not read in expressions."""
+
+    def __init__(self, text, forms=ShortForms()):
         self.ts, self.i, self.lacking, self.ports = tokens(text)[0], 0, [], {}
+        self.forms = forms
         self.form = self.text()
 
     def peek(self, ahead=0):
@@ -30,25 +146,25 @@ class Tree:
         self.i += 1
         return token.spelling
 
-    def at(self):
-        return "%d:%d" % self.ts[self.i][2:]
+    def place(self):
+        return Place(*self.ts[self.i][2:])
 
     def lack(self):
         self.lacking.append(self.i)
 
     def named(self):
-        place = self.at()
-        return f"{self.take()}@{place}"
+        place = self.place()
+        return Name(self.take(), place)
 
     def number(self):
-        return "%d" % int(self.take("integer"))
+        return int(self.take("integer"))
 
     def text(self):
         if self.peek()[1] == "FIRRTL":
             while self.take() != "":
                 pass
         self.take("circuit")
-        out = self.named()
+        name = self.named()
         self.take(":")
         if self.peek()[0] == "annotations":
             self.take()
@@ -59,29 +175,28 @@ class Tree:
             if modules:
                 self.lack()
             modules.append(self.module())
-        return out + "{" + " ".join(modules) + "}"
+        return self.forms.circuit(name, modules)
 
     def module(self):
-        out = self.at() + " "
+        place = self.place()
         self.take("module")
-        out += self.named()
+        name = self.named()
         self.take(":")
         self.take("nl")
-        self.ports, ports, body = {}, [], []
+        self.ports, ports, block = {}, [], []
         if self.peek()[0] == "in":
             self.take()
             while self.peek()[1] in ("input", "output") and self.peek(2) == ("sign", ":"):
                 ports.append(self.port())
-            body = self.statements()
-        return out + "(" + ",".join(ports) + ")[" + ";".join(body) + "]"
+            block = self.statements()
+        return self.forms.module(place, name, ports, block)
 
     def port(self):
-        direction = self.take()
-        name, out = self.peek()[1], direction + " " + self.named()
-        self.ports[name] = "clock" if self.peek(1)[1] == "Clock" else direction
-        out += self.typed(["Clock"] if direction == "input" else [])
+        direction, name = self.take(), self.named()
+        self.ports[name.spelling] = "clock" if self.peek(1)[1] == "Clock" else direction
+        typed = self.typed(["Clock"] if direction == "input" else [])
         self.take("nl")
-        return out
+        return self.forms.port(direction, name, typed)
 
     def statements(self):
         out = []
@@ -93,75 +208,81 @@ class Tree:
     def block(self):
         self.take("nl")
         if self.peek()[0] != "in":
-            return ""
+            return []
         self.take()
-        return ";".join(self.statements())
+        return self.statements()
 
     def statement(self):
-        place, first, (kind, second) = self.at(), self.peek()[1], self.peek(1)
+        place, first, (kind, second) = self.place(), self.peek()[1], self.peek(1)
         is_invalidated = (second, self.peek(2)[1]) == ("is", "invalid")
         if is_invalidated or kind == "sign" and second in ("<=", "<-", ".", "["):
-            return f"{place} {self.driven()}"
+            return self.driven(place)
         if first not in ("node", "reg", "skip"):
             self.lack()
         if first == "skip":
             self.take()
             self.take("nl")
-            return f"{place} skip"
-        return f"{place} {getattr(self, first)()}"
+            return self.forms.skip(place)
+        return getattr(self, first)(place)
 
-    def driven(self):
+    def driven(self, place):
         """A statement that begins with a reference."""
         first = self.i
-        out = self.ref()
-        how = self.take("<=", "<-", "is")
-        if how != "<=":
+        sink = self.forms.sink(*self.ref())
+        sign = self.take("<=", "<-", "is")
+        if sign != "<=":
             self.lacking.append(first)
-        out += " is " + self.take("invalid") if how == "is" else how + self.expr()
+        if sign == "is":
+            self.take("invalid")
+            out = self.forms.invalid(place, sink)
+        else:
+            out = self.forms.connect(place, sign, sink, self.expr())
         self.take("nl")
         return out
 
-    def wire(self):
+    def wire(self, place):
         self.take("wire")
-        out = "wire " + self.named() + self.typed()
+        name, typed = self.named(), self.typed()
         self.take("nl")
-        return out
+        return self.forms.wire(place, name, typed)
 
-    def node(self):
+    def node(self, place):
         self.take("node")
-        out = "node " + self.named()
+        name = self.named()
         self.take("=")
-        out += "=" + self.expr()
+        expression = self.expr()
         self.take("nl")
-        return out
+        return self.forms.node(place, name, expression)
 
-    def inst(self):
+    def inst(self, place):
         self.take("inst")
-        out = "inst " + self.named()
+        name = self.named()
         self.take("of")
-        out += " of " + self.named()
+        module = self.named()
         self.take("nl")
-        return out
+        return self.forms.instance(place, name, module)
 
-    def reg(self):
+    def reg(self, place):
         self.take("reg")
-        out = "reg " + self.named() + self.typed()
+        name, typed = self.named(), self.typed()
         self.take(",")
-        return out + "," + self.clock() + self.reset()
+        clock = self.clock()
+        return self.forms.register(place, name, typed, clock, self.reset())
 
     def clock(self):
         """What stands behind a register's comma: `emit` has there the name of a clock, of which it
         lacks the parts as of each other name."""
         is_ref = self.peek(1) not in (("sign", "("), ("sign", "<"))
         is_clock = is_ref and self.ports.get(self.peek()[1]) == "clock"
-        return self.ref() if is_clock else self.expr()
+        return self.forms.reference(*self.ref()) if is_clock else self.expr()
 
     def reset(self):
+        """What resets a register, or None."""
         if self.peek()[0] == "nl":
             self.take()
-            return ""
+            return None
         self.lack()
-        place = self.at()
+        place = self.place()
         self.take("with")
         self.take(":")
         is_level = self.peek()[0] == "nl"
@@ -173,26 +294,25 @@ class Tree:
         init = self.expr()
         for spelling in [")", "nl", "out"] if is_level else [")", ")", "nl"]:
             self.take(spelling)
-        return f",reset@{place}({condition},{init})"
+        return self.forms.reset(place, condition, init)
 
-    def when(self):
+    def when(self, place):
         self.take("when")
-        out = "when " + self.expr()
+        condition = self.expr()
         self.take(":")
-        out += "[" + self.block() + "]["
+        block, otherwise = self.block(), []
         if self.peek()[1] == "else" and self.peek(1)[1] in (":", "when"):
             self.take()
             if self.peek()[1] == ":":
                 self.take()
-                out += self.block()
+                otherwise = self.block()
             else:
-                place = self.at()
-                out += place + " " + self.when()
-        return out + "]"
+                otherwise = [self.when(self.place())]
+        return self.forms.when(place, condition, block, otherwise)
 
-    def mem(self):
+    def mem(self, place):
         self.take("mem")
-        out = "mem " + self.named()
+        name = self.named()
         self.take(":")
         self.take("nl")
         fields = []
@@ -201,83 +321,83 @@ class Tree:
             while self.peek()[0] != "out":
                 fields.append(self.field())
             self.take()
-        return out + "{" + ";".join(fields) + "}"
+        return self.forms.memory(place, name, fields)
 
     def field(self):
-        place, word = self.at(), self.take()
+        place, word = self.place(), self.take()
         if word == "data-type":
-            out = f"{place} {word}" + self.typed(sign="=>")
+            out = self.forms.data_type(place, self.typed(sign="=>"))
             self.take("nl")
             return out
         self.take("=>")
-        out = f"{place} {word} "
         if word in ("reader", "writer", "readwriter"):
             names = []
             while self.peek()[0] != "nl":
                 names.append(self.named())
-            out += " ".join(names)
+            out = self.forms.memory_ports(place, word, names)
         elif word == "read-under-write":
-            out += self.take()
+            out = self.forms.read_under_write(place, self.take())
         else:
-            out += self.number()
+            out = self.forms.memory_number(place, word, self.number())
         self.take("nl")
         return out
 
     def typed(self, lasts=(), sign=":"):
         """A type behind a sign, with its place."""
         self.take(sign)
-        place = self.at()
-        return f":{self.type(lasts)}@{place}"
+        place = self.place()
+        return Typed(self.type(lasts), place)
 
     def type(self, lasts):
         """A type; of the types without a width `emit` has these here."""
-        first = self.i
+        first, is_had = self.i, False
         if self.peek()[1] == "{":
             out = self.bundle()
         else:
-            out = self.take()
+            kind, width = self.take(), None
             if self.peek()[1] == "<":
                 self.take()
-                out += "<%s>" % self.number()
+                width = self.number()
                 self.take(">")
+            out, is_had = self.forms.ground(kind, width), width is not None or kind in lasts
         while self.peek()[1] == "[":
             self.take()
-            out += "[%s]" % self.number()
+            out, is_had = self.forms.vector(out, self.number()), False
             self.take("]")
-        if out not in lasts and not re.fullmatch("[US]Int<[0-9]+>", out):
+        if not is_had:
             self.lacking.append(first)
         return out
 
     def bundle(self):
         self.take("{")
-        parts = []
+        fields = []
         while self.peek()[1] != "}":
-            if parts:
+            if fields:
                 self.take(",")
-            flip = self.peek()[1] == "flip" and self.peek(1)[1] != ":"
-            if flip:
+            is_flipped = self.peek()[1] == "flip" and self.peek(1)[1] != ":"
+            if is_flipped:
                 self.take()
-            parts.append("~" * flip + self.named() + self.typed())
+            name = self.named()
+            fields.append(self.forms.field(is_flipped, name, self.typed()))
         self.take()
-        return "{" + ",".join(parts) + "}"
+        return self.forms.bundle(fields)
 
     def ref(self):
-        out = self.named()
+        """A name, and the parts behind it."""
+        name, parts = self.named(), []
         while self.peek() in (("sign", "."), ("sign", "[")):
             self.lack()
-            place = self.at()
-            sign = self.take()
-            out += f"{sign}@{place} "
-            if sign == ".":
-                out += self.named()
+            place = self.place()
+            if self.take() == ".":
+                parts.append(self.forms.subfield(place, self.named()))
                 continue
             if self.peek()[0] == "integer":
-                place = self.at()
-                out += f"{self.number()}@{place}"
+                number_place = self.place()
+                parts.append(self.forms.subindex(place, number_place, self.number()))
             else:
-                out += self.expr()
-            out += self.take("]")
-        return out
+                parts.append(self.forms.subaccess(place, self.expr()))
+            self.take("]")
+        return name, parts
 
     def expr(self):
         word, behind = self.peek()[1], self.peek(1)
@@ -287,30 +407,33 @@ class Tree:
             return self.operation()
         if self.ports.get(word) in ("output", "clock"):
             self.lack()
-        return self.ref()
+        return self.forms.reference(*self.ref())
 
     def literal(self):
-        out = self.named()
+        kind, width = self.named(), None
         if self.take("<", "(") == "<":
-            out += "<%s>" % self.number()
+            width = self.number()
             self.take(">")
             self.take("(")
         number = spelled_number(self.ts[self.i])
         self.take("integer", "string")
         self.take(")")
-        return f"{out}({number})"
+        return self.forms.literal(kind, width, number)
 
     def operation(self):
         if self.peek()[1] == "asAsyncReset":
             self.lack()
-        out = self.named()
+        word = self.named()
         self.take("(")
-        parts = [self.expr()]
+        operands, integers = [self.expr()], []
         while self.peek()[1] == ",":
             self.take()
-            parts.append(self.number() if self.peek()[0] == "integer" else self.expr())
+            if self.peek()[0] == "integer":
+                integers.append(self.number())
+            else:
+                operands.append(self.expr())
         self.take(")")
-        return out + "(" + ",".join(parts) + ")"
+        return self.forms.operation(word, operands, integers)
 
 
 def first_lacking(text):

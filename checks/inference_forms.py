@@ -233,12 +233,16 @@ class Module:
             if begins_with_reference(ts):
                 self.connect(line)
             elif word in ("when", "else"):
-                if "when" in (word, ts[1].spelling):
-                    self.steps.append(Entered())
-                    self.steps.append(Asked(line.skip(1 if word == "when" else 2).expression()))
-                self.block(inner, visible)
+                self.branch(line, inner, visible)
             elif word != "skip":
                 getattr(self, word)(line.skip(1), line.at(), line.take(), inner)
+
+    def branch(self, line, inner, visible):
+        """A block of a when, behind a condition or an `else` alone."""
+        line.skip(line.peek().spelling == "else")
+        if line.peek().spelling == "when":
+            self.steps += [Entered(), Asked(line.skip(1).expression())]
+        self.block(inner, visible)
 
     def connect(self, line):
         left, how = line.reference(), line.take()
@@ -290,12 +294,13 @@ class Module:
 
 
 class Circuit:
-    """The modules of a text, by their names and in its order, and the name of the main one."""
+    """The modules of a text, by their names and in its order, and the name of the main one. Each is
+    read as that class says."""
 
-    def __init__(self, text):
+    def __init__(self, text, read=Module):
         ts, modules = nested(lines_of(tokens(text)[0]))[-1]
         self.main, self.at = ts[1].spelling, place(ts[1])
-        self.modules = {line[1].spelling: Module(line[1].spelling, block)
+        self.modules = {line[1].spelling: read(line[1].spelling, block)
                         for line, block in modules}
         for line, block in modules:
             self.modules[line[1].spelling].take_body(block, self.modules)

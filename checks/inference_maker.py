@@ -30,16 +30,17 @@ def with_widths(given, is_flipped, width):
 
 
 class InferenceMaker(Maker):
-    """Makes a circuit. `shown` has for each module the names that are visible at its end."""
+    """Makes a circuit, which slips as often as one of the rates says. `shown` has for each module
+    the names that are visible at its end."""
 
-    def __init__(self, chance):
+    def __init__(self, chance, rates=RATES):
         self.main, self.shown = None, {}
         # how often a width is written; and how often an operator may grow what it is given without
         # an end, have integers that do not fit, a condition be of any width, a port of the main
         # module be open, a width be over, and a width be asked for, which a fault then tells
         self.written = chance.choice([0.1, 0.3, 0.3, 0.6])
         self.grows, self.strays, self.loose, self.open, self.over, self.asks = (
-            chance.choice(RATES) for _ in range(6))
+            chance.choice(rates) for _ in range(6))
         self.over /= 10
         if chance.random() < 0.4:
             self.strays = self.loose = self.open = self.over = 0

@@ -1,18 +1,19 @@
 """What the second readings say of a text of the grammar, in the order in which firc tells faults:
 those of names, of modules that instantiate each other, of types and flows, of resets and widths,
-of costs, then the first form that `emit` lacks. Of what comes behind that no reading here speaks."""
+of costs, of leaves that a choice leaves undriven, then the first form that `emit` lacks."""
 import math
 import re
 
 from cost_rules import cost_fault
+from driven_rules import driven_fault
 from grammar_trees import first_lacking
 from inference_rules import Inferred
 from name_rules import Names
 from type_rules import Types
 
-LATER = "|E24 .*"
 OF_WIDTHS = "|E1[89] .*|E2[0-2] .*"
-# The reading of resets and widths lists each element of each vector.
+OF_LEAVES = "|E24 .*"
+# The readings of resets, widths and leaves list each element of each vector.
 MOST_ELEMENTS = 10000
 
 
@@ -23,14 +24,14 @@ def is_large(text):
 
 
 class Reading:
-    """The line that firc has to tell of a text. `line` is None where it is one of several: a walk
-    of E11 or of E18, or what comes behind the forms that `emit` lacks. Of a text with large vectors
-    faults of resets and widths are not known: `or_widths` tells that one may come first."""
+    """The line that firc has to tell of a text. `line` is None where it is one of several, a walk
+    of E11 or of E18, and where there is no fault. Of a text with large vectors faults of resets,
+    widths and leaves are not known: `others` tells that one may come first."""
 
     def __init__(self, text):
         self.names = Names(text)
         self.line, self.is_recursive, self.inferred = self.names.first(), False, None
-        self.or_widths = ""
+        self.others = ""
         if self.line is None:
             self.is_recursive = self.names.is_recursive()
         if self.line is None and not self.is_recursive:
@@ -38,21 +39,23 @@ class Reading:
 
     def behind_types(self, text):
         if is_large(text):
-            self.or_widths = OF_WIDTHS
-            return cost_fault(text) or first_lacking(text)
+            cost = cost_fault(text)
+            self.others = OF_WIDTHS if cost else OF_WIDTHS + OF_LEAVES
+            return cost or first_lacking(text)
         inferred = Inferred(text)
         if inferred.code() == "E18":
             self.inferred = inferred
             return None
-        return inferred.line or cost_fault(text) or first_lacking(text)
+        return (inferred.line or cost_fault(text) or driven_fault(text)
+                or first_lacking(text))
 
     def pattern(self):
-        """The line as a pattern, which takes an empty one where firc may tell nothing."""
+        """The line as a pattern, which is empty where there is no fault."""
         if self.is_recursive:
             return "E11 .*"
         if self.inferred:
             return "E18 .*"
-        return (re.escape(self.line) if self.line else LATER) + self.or_widths
+        return re.escape(self.line or "") + self.others
 
     def takes(self, says):
         """Whether this may be told; a walk is judged."""
@@ -67,4 +70,4 @@ class Reading:
             return "E11 of a walk"
         if self.inferred:
             return str(self.inferred)
-        return self.line or "no fault, or one of a later group"
+        return self.line or "no fault"

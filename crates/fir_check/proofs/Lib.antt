@@ -1,3 +1,7 @@
-pub mod FirstFaults
-pub mod DrivenOutputs
-pub mod UndrivenFaults
+pub mod StraightPairs
+pub mod PassiveScopes
+pub mod UnnamedStores
+pub mod PlainBlocks
+pub mod OutputLeaves
+pub mod UndrivenOutputs
+pub mod ConnectedOutputs

@@ -13,8 +13,8 @@ use Rattle.fir_meaning.specs.TypeGroup.{type_faults}
 use Rattle.fir_meaning.specs.Visibility.{declarations}
 use Rattle.fir_leaf.specs.working.Designs.{Design, IsDesignOf, Items, made_of}
 use Rattle.fir_leaf.specs.working.FlatDesigns.{array_count_below}
-use Rattle.fir_leaf.specs.working.LeafModules.{LeafModule}
-use Rattle.fir_leaf.specs.working.LeafedModules.{Scene, behind_all_ports, leafed_module}
+use Rattle.fir_meaning.specs.LeafModules.{LeafModule}
+use Rattle.fir_meaning.specs.LeafedModules.{Scene, behind_all_ports, leafed_module}
 use Rattle.fir_leaf.specs.working.StateWalks.{all_array_order_in, array_order_below, own_arrays}
 use Rattle.fir_leaf.proofs.FlatOrders.{walk_same}
 use Rattle.fir_leaf.proofs.FlatPlaces.{At, at_left, at_right}

@@ -12,7 +12,7 @@ use Rattle.fir_meaning.specs.LeafPaths.{LeafPath, named}
 use Rattle.fir_meaning.specs.NameGroups.{HasNames}
 use Rattle.fir_meaning.specs.ResetJoins.{numbered_module}
 use Rattle.fir_meaning.specs.TypeGroup.{type_faults}
-use Rattle.fir_leaf.specs.working.LeafedModules.{Scene}
+use Rattle.fir_meaning.specs.LeafedModules.{Scene}
 use Rattle.fir_design.specs.working.CircuitDesigns.{AreScenes}
 use Rattle.fir_design.specs.working.SourceCircuits.{array_path, arrays_of_design, arrays_of_instances, placed_arrays}
 use Rattle.fir_design.specs.working.SourceDesigns.{AreInstances, InstanceOf, Instances, IsSourceDesignOf, SourceDesign, held, instances_of_block, made_of, no_instances, scene_where}

@@ -12,14 +12,14 @@ use Rattle.fir_meaning.specs.working.WellTyped.{HasType, Reaches}
 use Rattle.fir_leaf.specs.working.DesignPaths.{seen}
 use Rattle.fir_leaf.specs.working.DesignStores.{clock_given}
 use Rattle.fir_leaf.specs.working.LeafLaws.{Begins, path_at}
-use Rattle.fir_leaf.specs.working.Leafed.{first_term, leaf_term, leaf_terms, muxes, target_of, target_terms, terms}
-use Rattle.fir_leaf.specs.working.LeafedBlocks.{term_at}
-use Rattle.fir_leaf.specs.working.LeafedModules.{Scene, leafed_module}
+use Rattle.fir_meaning.specs.Leafed.{first_term, leaf_term, leaf_terms, muxes, target_of, target_terms, terms}
+use Rattle.fir_meaning.specs.LeafedBlocks.{term_at}
+use Rattle.fir_meaning.specs.LeafedModules.{Scene, leafed_module}
 use Rattle.fir_leaf.specs.working.Standing.{leaf_from}
-use Rattle.fir_leaf.specs.working.Targets.{Target}
-use Rattle.fir_leaf.specs.working.Terms.{Picks, Term}
-use Rattle.fir_leaf.specs.working.Terms as over
-use Rattle.fir_leaf.specs.working.TermValues.{clock_at, leaf_of}
+use Rattle.fir_meaning.specs.Targets.{Target}
+use Rattle.fir_meaning.specs.Terms.{Picks, Term}
+use Rattle.fir_meaning.specs.Terms as over
+use Rattle.fir_meaning.specs.TermValues.{clock_at, leaf_of}
 use Rattle.fir_leaf.specs.working.TreeValues.{TypesByPath, ValuesByPath, aim_of, leaf_where}
 use Rattle.fir_leaf.proofs.LeafValues.{reaches_stands}
 use Rattle.fir_design.specs.working.SourceStores.{below, clock_gifts, clock_where}

@@ -8,9 +8,9 @@ use Rattle.fir_meaning.specs.NameGroups.{HasNames}
 use Rattle.fir_meaning.specs.Visibility.{declarations}
 use Rattle.fir_leaf.specs.working.DesignPaths.{instance_name}
 use Rattle.fir_leaf.specs.working.Designs.{Design, IsDesignOf, Items, made_of, module_of}
-use Rattle.fir_leaf.specs.working.LeafBlocks.{HeldInstance}
-use Rattle.fir_leaf.specs.working.LeafModules.{LeafModule}
-use Rattle.fir_leaf.specs.working.LeafedModules.{Scene, behind_all_ports, driven_leaves, leafed_module}
+use Rattle.fir_meaning.specs.LeafBlocks.{HeldInstance}
+use Rattle.fir_meaning.specs.LeafModules.{LeafModule}
+use Rattle.fir_meaning.specs.LeafedModules.{Scene, behind_all_ports, driven_leaves, leafed_module}
 use Rattle.fir_design.specs.working.CircuitDesigns.{AreScenes, views}
 use Rattle.fir_design.specs.working.SourceDesigns.{AreInstances, InstanceOf, Instances, IsSourceDesignOf, SourceDesign, held, no_instances, scene_where}
 use Rattle.fir_design.specs.working.SourceDesigns as source

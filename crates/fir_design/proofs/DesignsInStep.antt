@@ -12,7 +12,7 @@ use Rattle.fir_leaf.specs.working.Designs.{AreItemsIn, Design, IsDesignOf, IsIte
 use Rattle.fir_leaf.specs.working.FlatDesigns.{array_count, array_count_all, count, count_all, inner_leaves}
 use Rattle.fir_leaf.specs.working.FlatLeaves.{all_arrays_in, all_leaves_in, arrays_below, arrays_in, leaves_below, leaves_in, placed_array}
 use Rattle.fir_leaf.specs.working.LeafCircuits.{LeafCircuit}
-use Rattle.fir_leaf.specs.working.LeafedModules.{Scene, leafed_module}
+use Rattle.fir_meaning.specs.LeafedModules.{Scene, leafed_module}
 use Rattle.fir_leaf.specs.working.Numberings.{Numbering, number, numbering}
 use Rattle.fir_leaf.specs.working.SoundDesigns.{AreWired, IsWired}
 use Rattle.fir_leaf.proofs.FlatArrays.{array_count_is, array_counts_are}

@@ -4,8 +4,8 @@ use Rattle.std.proofs.lemmas.Bool.{eqb-true}
 use Rattle.std.proofs.lemmas.List.{get_or-append-add}
 use Rattle.fir_base.specs.Lists.{In}
 use Rattle.fir_meaning.specs.Visibility.{at_head}
-use Rattle.fir_leaf.specs.working.LeafModules.{LeafArray, LeafDeclared, leaf_at, no_leaf}
-use Rattle.fir_leaf.specs.working.LeafedModules.{Scene, behind_all_ports, leafed_module, leaves_in_block, leaves_of_ports, module_leaves}
+use Rattle.fir_meaning.specs.LeafModules.{LeafArray, LeafDeclared, leaf_at, no_leaf}
+use Rattle.fir_meaning.specs.LeafedModules.{Scene, behind_all_ports, leafed_module, leaves_in_block, leaves_of_ports, module_leaves}
 use Rattle.fir_leaf.specs.working.StateLaws.{PortsShowNone}
 use Rattle.fir_leaf.specs.working.StateWalks.{has_bits, own_arrays, own_words}
 use Rattle.fir_leaf.proofs.OncePaths.{at_in}

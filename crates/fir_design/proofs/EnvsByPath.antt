@@ -7,9 +7,9 @@ use Rattle.fir_base.proofs.Elements.{get_in}
 use Rattle.fir_base.proofs.Members.{in_map, in_map_from}
 use Rattle.fir_meaning.specs.LeafPaths.{LeafPath}
 use Rattle.fir_leaf.specs.working.LeafCircuits.{LeafCircuit}
-use Rattle.fir_leaf.specs.working.LeafModules.{LeafDeclared}
+use Rattle.fir_meaning.specs.LeafModules.{LeafDeclared}
 use Rattle.fir_leaf.specs.working.SoundDesigns.{circuit_path}
-use Rattle.fir_leaf.specs.working.TermValues.{Env}
+use Rattle.fir_meaning.specs.TermValues.{Env}
 use Rattle.fir_design.specs.working.SourceCircuits.{all_leaves, leaf_path, paths_of}
 use Rattle.fir_design.specs.working.SourceDesigns.{SourceDesign}
 use Rattle.fir_design.specs.working.SourceValues.{PathEnv}

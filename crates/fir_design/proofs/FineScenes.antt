@@ -15,8 +15,8 @@ use Rattle.fir_meaning.specs.Visibility.{declarations}
 use Rattle.fir_meaning.specs.working.WellTyped.{AreLegal}
 use Rattle.fir_meaning.proofs.WellTypedCircuits.{well_typed}
 use Rattle.fir_leaf.specs.working.LeafLaws.{IsFine, path_at, scope_paths}
-use Rattle.fir_leaf.specs.working.LeafModules.{LeafDeclared, leaf_at, no_leaf}
-use Rattle.fir_leaf.specs.working.LeafedModules.{Scene, behind_all_ports, module_leaves}
+use Rattle.fir_meaning.specs.LeafModules.{LeafDeclared, leaf_at, no_leaf}
+use Rattle.fir_meaning.specs.LeafedModules.{Scene, behind_all_ports, module_leaves}
 use Rattle.fir_leaf.specs.working.TableLaws.{IsLeafOf}
 use Rattle.fir_leaf.proofs.ClearScopes.{fine_module}
 use Rattle.fir_leaf.proofs.DeclaredLeaves.{leaves_declared, own_module}

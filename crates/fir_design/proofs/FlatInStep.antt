@@ -10,8 +10,8 @@ use Rattle.fir_leaf.specs.working.FlatLeaves.{arrays_below, leaves_below}
 use Rattle.fir_leaf.specs.working.Flattened.{flattened}
 use Rattle.fir_leaf.specs.working.Flattened as flat
 use Rattle.fir_leaf.specs.working.LeafCircuits.{LeafCircuit}
-use Rattle.fir_leaf.specs.working.LeafModules.{LeafArray, LeafModule, leaf_at, no_leaf}
-use Rattle.fir_leaf.specs.working.LeafedModules.{Scene, leafed_module}
+use Rattle.fir_meaning.specs.LeafModules.{LeafArray, LeafModule, leaf_at, no_leaf}
+use Rattle.fir_meaning.specs.LeafedModules.{Scene, leafed_module}
 use Rattle.fir_leaf.specs.working.SoundDesigns.{circuit_path}
 use Rattle.fir_leaf.proofs.FlatMeaning.{main_at, main_stands}
 use Rattle.fir_leaf.proofs.FlatPlaces.{At}

@@ -2,7 +2,7 @@
 use Rattle.std.proofs.Common.{◌≡◌, ℕ, ◌+◌, List, [], ◌∷◌, ◌++◌, refl, ap, ◌∙◌, append_assoc, sym, inl}
 use Rattle.fir_base.specs.Lists.{In}
 use Rattle.fir_base.proofs.Members.{in_left, in_right}
-use Rattle.fir_leaf.specs.working.LeafBlocks.{HeldInstance, LeafBlock, LeafStatement, drive, when, instance, done, then, joined}
+use Rattle.fir_meaning.specs.LeafBlocks.{HeldInstance, LeafBlock, LeafStatement, drive, when, instance, done, then, joined}
 use Rattle.fir_leaf.specs.working.Designs.{EachInstance, AllInstances}
 
 pub record Held : Type 0 where

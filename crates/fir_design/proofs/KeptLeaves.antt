@@ -7,12 +7,12 @@ use Rattle.fir_meaning.specs.TypeLeaves.{TypeLeaf, type_leaves}
 use Rattle.fir_leaf.specs.working.DesignPaths.{seen}
 use Rattle.fir_leaf.specs.working.DesignStores.{DesignStore, kept}
 use Rattle.fir_leaf.specs.working.LeafLaws.{path_at}
-use Rattle.fir_leaf.specs.working.LeafModules.{LeafModule}
-use Rattle.fir_leaf.specs.working.LeafedBlocks.{driven_from, driven_where}
-use Rattle.fir_leaf.specs.working.LeafedModules.{Scene, leafed_module, module_leaves}
+use Rattle.fir_meaning.specs.LeafModules.{LeafModule}
+use Rattle.fir_meaning.specs.LeafedBlocks.{driven_from, driven_where}
+use Rattle.fir_meaning.specs.LeafedModules.{Scene, leafed_module, module_leaves}
 use Rattle.fir_leaf.specs.working.Standing.{leaf_from, Stands, target_leaf}
-use Rattle.fir_leaf.specs.working.Targets.{Target}
-use Rattle.fir_leaf.specs.working.Terms.{Term}
+use Rattle.fir_meaning.specs.Targets.{Target}
+use Rattle.fir_meaning.specs.Terms.{Term}
 use Rattle.fir_leaf.specs.working.TreeAims.{Aim}
 use Rattle.fir_leaf.specs.working.TreeValues.{TypesByPath, ValuesByPath, leaf_where}
 use Rattle.fir_leaf.proofs.LeafPlaces.{leaves_counted}

@@ -7,9 +7,9 @@ use Rattle.fir_meaning.specs.Components as component
 use Rattle.fir_meaning.specs.Components.{Component}
 use Rattle.fir_meaning.specs.TypeLeaves.{TypeLeaf}
 use Rattle.fir_meaning.specs.Visibility.{Before, behind, behind_block, opened, reopened, with_declaration}
-use Rattle.fir_leaf.specs.working.LeafMemories.{leaves_of_data}
-use Rattle.fir_leaf.specs.working.LeafModules.{LeafArray, LeafDeclared, LeafType, Role}
-use Rattle.fir_leaf.specs.working.LeafedModules.{Declared, Scene, declared_leaves, held_by_declared, leaves_from, leaves_in, leaves_in_block, leaves_of_ports, type_of_declared}
+use Rattle.fir_meaning.specs.LeafMemories.{leaves_of_data}
+use Rattle.fir_meaning.specs.LeafModules.{LeafArray, LeafDeclared, LeafType, Role}
+use Rattle.fir_meaning.specs.LeafedModules.{Declared, Scene, declared_leaves, held_by_declared, leaves_from, leaves_in, leaves_in_block, leaves_of_ports, type_of_declared}
 use Rattle.fir_design.specs.working.SameRoles.{SameLeaves}
 use Rattle.fir_design.specs.working.SourceRoles.{SourceLeaf, SourceRole, declared_sources, source_leaves_of, sources_in, sources_in_block, sources_of_ports}
 

@@ -9,7 +9,7 @@ use Rattle.fir_base.proofs.Elements.{get_in, number_of, there}
 use Rattle.fir_base.proofs.Members.{in_map_from}
 use Rattle.fir_leaf.specs.working.DesignLaws.{numbered}
 use Rattle.fir_leaf.specs.working.LeafCircuits.{LeafCircuit, type_of_leaf}
-use Rattle.fir_leaf.specs.working.LeafModules.{LeafDeclared, leaf_at, no_bits, no_leaf, number, number_type}
+use Rattle.fir_meaning.specs.LeafModules.{LeafDeclared, leaf_at, no_bits, no_leaf, number, number_type}
 use Rattle.fir_leaf.specs.working.SoundDesigns.{circuit_path}
 use Rattle.fir_design.specs.working.SourceCircuits.{PlacedLeaf, all_leaves, leaf_path, paths_of, state_words}
 use Rattle.fir_design.specs.working.SourceDesigns.{SourceDesign}

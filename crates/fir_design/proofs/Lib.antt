@@ -114,3 +114,5 @@ pub mod ArrayNumbers
 pub mod SourceMeanings
 pub mod TreeRuns
 pub mod OneSettled
+pub mod AllScenes
+pub mod MeantSources

@@ -18,9 +18,9 @@ use Rattle.fir_meaning.specs.Visibility.{Before, at_head, behind, behind_block, 
 use Rattle.fir_meaning.proofs.DistinctLeaves.{paths_distinct}
 use Rattle.fir_meaning.proofs.OnceDeclared.{clear_left, clear_right}
 use Rattle.fir_meaning.proofs.OneLookUp.{clear_module, emptied}
-use Rattle.fir_leaf.specs.working.LeafMemories.{leaves_of_data}
-use Rattle.fir_leaf.specs.working.LeafModules.{LeafType}
-use Rattle.fir_leaf.specs.working.LeafedModules.{Scene, behind_all_ports, held_types}
+use Rattle.fir_meaning.specs.LeafMemories.{leaves_of_data}
+use Rattle.fir_meaning.specs.LeafModules.{LeafType}
+use Rattle.fir_meaning.specs.LeafedModules.{Scene, behind_all_ports, held_types}
 use Rattle.fir_leaf.proofs.DeclaredLeaves.{IsOwn}
 use Rattle.fir_design.specs.working.SourceDesigns.{InstanceOf, instances_of, instances_of_block}
 use Rattle.fir_design.specs.working.SourceRoles.{SourceArray, arrays_of_data, source_arrays, source_arrays_in, source_arrays_in_block}

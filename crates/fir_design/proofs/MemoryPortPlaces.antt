@@ -4,8 +4,8 @@ use Rattle.std.specs.Prelude.{codes}
 use Rattle.std.proofs.lemmas.List.{length-map}
 use Rattle.fir_meaning.specs.LeafPaths.{LeafPath, named}
 use Rattle.fir_meaning.proofs.LeafSteps.{behind_step}
-use Rattle.fir_leaf.specs.working.LeafMemories.{PortKind, mode, reads_and_writes}
-use Rattle.fir_leaf.specs.working.LeafModules.{LeafDeclared}
+use Rattle.fir_meaning.specs.LeafMemories.{PortKind, mode, reads_and_writes}
+use Rattle.fir_meaning.specs.LeafModules.{LeafDeclared}
 use Rattle.fir_leaf.proofs.LeafPlaces.{get_mapped}
 use Rattle.fir_design.specs.working.SameRoles.{path_at}
 use Rattle.fir_design.specs.working.SourceRoles.{port_field}

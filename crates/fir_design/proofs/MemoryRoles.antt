@@ -21,10 +21,10 @@ use Rattle.fir_meaning.specs.working.WellTyped.{IsLegal}
 use Rattle.fir_meaning.proofs.LeafSteps.{behind_step, path_of}
 use Rattle.fir_leaf.specs.working.DesignStates.{array_at, no_array}
 use Rattle.fir_leaf.specs.working.LeafLaws.{Begins}
-use Rattle.fir_leaf.specs.working.LeafMemories.{LeafMemory, arrays_from, arrays_of, leaves_of_data, memory_roles}
-use Rattle.fir_leaf.specs.working.LeafModules.{LeafArray, LeafDeclared, LeafType}
-use Rattle.fir_leaf.specs.working.LeafedModules.{Declared, Scene, arrays_in, held_by_declared, held_types, leafed_module, leaves_in, memory_before, module_leaves, role_in, scope_before, type_of_declared}
-use Rattle.fir_leaf.specs.working.Targets.{leaves_so_far}
+use Rattle.fir_meaning.specs.LeafMemories.{LeafMemory, arrays_from, arrays_of, leaves_of_data, memory_roles}
+use Rattle.fir_meaning.specs.LeafModules.{LeafArray, LeafDeclared, LeafType}
+use Rattle.fir_meaning.specs.LeafedModules.{Declared, Scene, arrays_in, held_by_declared, held_types, leafed_module, leaves_in, memory_before, module_leaves, role_in, scope_before, type_of_declared}
+use Rattle.fir_meaning.specs.Targets.{leaves_so_far}
 use Rattle.fir_leaf.proofs.DeclaredLeaves.{own_module}
 use Rattle.fir_leaf.proofs.LeafPlaces.{get_mapped, leaves_counted}
 use Rattle.fir_design.specs.working.SameRoles.{SameLeaves, array_on, path_at}

@@ -4,8 +4,8 @@ use Rattle.std.specs.Prelude.{codes}
 use Rattle.std.proofs.lemmas.List.{map-append}
 use Rattle.fir_meaning.specs.LeafPaths.{LeafPath, named}
 use Rattle.fir_meaning.proofs.LeafSteps.{behind_step}
-use Rattle.fir_leaf.specs.working.LeafMemories.{PortKind, port_size, port_writings, reads, reads_and_writes, writes, writings_from}
-use Rattle.fir_leaf.specs.working.LeafModules.{LeafDeclared}
+use Rattle.fir_meaning.specs.LeafMemories.{PortKind, port_size, port_writings, reads, reads_and_writes, writes, writings_from}
+use Rattle.fir_meaning.specs.LeafModules.{LeafDeclared}
 use Rattle.fir_design.specs.working.SameRoles.{path_at, writing_on}
 use Rattle.fir_design.specs.working.SourceRoles.{NamedPort, PathWriting, port_writing, writings_at}
 use Rattle.fir_design.proofs.MemoryPortPaths.{behind_field, kind_paths, port_long, port_paths}

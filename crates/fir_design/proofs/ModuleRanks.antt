@@ -13,7 +13,7 @@ use Rattle.fir_meaning.specs.Visibility.{Before, at_head, behind_ports, declarat
 use Rattle.fir_meaning.specs.ResetJoins.{numbered_module}
 use Rattle.fir_names.specs.working.ModuleOrder.{IsModuleOrder}
 use Rattle.fir_leaf.specs.working.Designs.{IsDesignOf, AllInstances, IsRanked, Design, elaborated}
-use Rattle.fir_leaf.specs.working.LeafedModules.{Scene, behind_all_ports, driven_leaves, leafed_module}
+use Rattle.fir_meaning.specs.LeafedModules.{Scene, behind_all_ports, driven_leaves, leafed_module}
 use Rattle.fir_leaf.proofs.Elaborating.{has_design}
 use Rattle.fir_leaf.proofs.ScopesBegin.{begins_all}
 use Rattle.fir_design.specs.working.CircuitDesigns.{AreScenes, views}

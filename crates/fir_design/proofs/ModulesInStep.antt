@@ -7,8 +7,8 @@ use Rattle.fir_meaning.specs.Visibility.{at_head}
 use Rattle.fir_leaf.specs.working.FlatDesigns as flat
 use Rattle.fir_leaf.specs.working.FlatLeaves.{placed_array, placed_leaf}
 use Rattle.fir_leaf.specs.working.LeafCircuits.{LeafCircuit}
-use Rattle.fir_leaf.specs.working.LeafModules.{LeafArray, LeafDeclared, LeafModule, Writing}
-use Rattle.fir_leaf.specs.working.LeafedModules.{Scene, behind_all_ports, leafed_module, leaves_in_block, leaves_of_ports}
+use Rattle.fir_meaning.specs.LeafModules.{LeafArray, LeafDeclared, LeafModule, Writing}
+use Rattle.fir_meaning.specs.LeafedModules.{Scene, behind_all_ports, leafed_module, leaves_in_block, leaves_of_ports}
 use Rattle.fir_leaf.specs.working.Numberings.{Numbering, moved_writing}
 use Rattle.fir_leaf.proofs.MovedTerms.{Stands}
 use Rattle.fir_design.specs.working.SameRoles.{SameLeaves, array_on, writing_on}

@@ -6,7 +6,7 @@ use Rattle.fir_ast.specs.declared.statements.ReadUnderWrite.TheVariants.{New, Ol
 use Rattle.fir_meaning.specs.LeafPaths.{LeafPath}
 use Rattle.fir_leaf.specs.working.DesignStates.{array_at}
 use Rattle.fir_leaf.specs.working.LeafCircuits.{LeafCircuit}
-use Rattle.fir_leaf.specs.working.LeafModules.{Reading, Writing}
+use Rattle.fir_meaning.specs.LeafModules.{Reading, Writing}
 use Rattle.fir_leaf.specs.working.Memories as over_memories
 use Rattle.fir_leaf.specs.working.Memories.{addresses, has_edge}
 use Rattle.fir_leaf.specs.working.TreeStores.{same_path}

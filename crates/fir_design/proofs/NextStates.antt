@@ -4,8 +4,8 @@ use Rattle.fir_base.specs.Ticks.{Tick}
 use Rattle.fir_ast.specs.declared.statements.ReadUnderWrite.{ReadUnderWrite}
 use Rattle.fir_meaning.specs.LeafPaths.{LeafPath}
 use Rattle.fir_leaf.specs.working.LeafCircuits.{LeafCircuit, role_of}
-use Rattle.fir_leaf.specs.working.LeafModules as role
-use Rattle.fir_leaf.specs.working.LeafModules.{LeafReset, Role}
+use Rattle.fir_meaning.specs.LeafModules as role
+use Rattle.fir_meaning.specs.LeafModules.{LeafReset, Role}
 use Rattle.fir_leaf.specs.working.LeafNext as over
 use Rattle.fir_leaf.specs.working.Memories as over_memories
 use Rattle.fir_leaf.specs.working.Memories.{has_edge}

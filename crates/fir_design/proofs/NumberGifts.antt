@@ -11,10 +11,10 @@ use Rattle.fir_meaning.specs.working.WellTyped.{HasType}
 use Rattle.fir_leaf.specs.working.DesignPaths.{seen}
 use Rattle.fir_leaf.specs.working.DesignStores.{number_given}
 use Rattle.fir_leaf.specs.working.LeafLaws.{Begins, path_at}
-use Rattle.fir_leaf.specs.working.Leafed.{terms}
-use Rattle.fir_leaf.specs.working.LeafedBlocks.{term_at}
-use Rattle.fir_leaf.specs.working.LeafedModules.{Scene, leafed_module}
-use Rattle.fir_leaf.specs.working.TermValues.{eval}
+use Rattle.fir_meaning.specs.Leafed.{terms}
+use Rattle.fir_meaning.specs.LeafedBlocks.{term_at}
+use Rattle.fir_meaning.specs.LeafedModules.{Scene, leafed_module}
+use Rattle.fir_meaning.specs.TermValues.{eval}
 use Rattle.fir_leaf.specs.working.TreeValues.{TypesByPath, ValuesByPath, value}
 use Rattle.fir_leaf.proofs.LeafValues.{fine_values_same}
 use Rattle.fir_leaf.proofs.PairStores.{term_value}

@@ -10,7 +10,7 @@ use Rattle.fir_leaf.specs.working.LeafAllows as over
 use Rattle.fir_leaf.specs.working.LeafCircuits.{LeafCircuit}
 use Rattle.fir_leaf.specs.working.LeafSettled as over_settled
 use Rattle.fir_leaf.specs.working.SoundDesigns.{circuit_path}
-use Rattle.fir_leaf.specs.working.TermValues.{Env}
+use Rattle.fir_meaning.specs.TermValues.{Env}
 use Rattle.fir_leaf.specs.working.TreeStores.{same_path}
 use Rattle.fir_leaf.proofs.FlatStores.{same_path_is, same_path_refl}
 use Rattle.fir_design.specs.working.SourceAllows.{Settled}

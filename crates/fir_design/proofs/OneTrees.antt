@@ -10,7 +10,7 @@ use Rattle.fir_meaning.specs.NameGroups.{HasNames}
 use Rattle.fir_meaning.specs.ResetJoins.{numbered_module}
 use Rattle.fir_meaning.specs.Visibility.{declarations}
 use Rattle.fir_leaf.specs.working.Designs.{Item, drive, when, instance, Items, done, then, Design, made_of, statement_of, block_of, IsItemIn, AreItemsIn, IsDesignOf}
-use Rattle.fir_leaf.specs.working.LeafedModules.{Scene, behind_all_ports, driven_leaves, leafed_module}
+use Rattle.fir_meaning.specs.LeafedModules.{Scene, behind_all_ports, driven_leaves, leafed_module}
 use Rattle.fir_design.specs.working.CircuitDesigns.{AreScenes, views}
 use Rattle.fir_design.specs.working.SourceDesigns.{AreInstances, InstanceOf, Instances, IsSourceDesignOf, SourceDesign, held, no_instances, scene_of, scene_where}
 use Rattle.fir_design.specs.working.SourceDesigns as source

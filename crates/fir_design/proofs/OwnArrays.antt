@@ -5,7 +5,7 @@ use Rattle.std.proofs.lemmas.List.{length-map, map-append}
 use Rattle.std.proofs.lemmas.Simd.{map-map}
 use Rattle.fir_base.specs.Lists.{In}
 use Rattle.fir_meaning.specs.LeafPaths.{LeafPath}
-use Rattle.fir_leaf.specs.working.LeafModules.{LeafArray, LeafModule}
+use Rattle.fir_meaning.specs.LeafModules.{LeafArray, LeafModule}
 use Rattle.fir_leaf.specs.working.StateWalks.{has_bits, own_arrays}
 use Rattle.fir_leaf.proofs.FlatPlaces.{At, at_left, at_right}
 use Rattle.fir_design.specs.working.SameRoles.{array_on}

@@ -5,7 +5,7 @@ use Rattle.std.proofs.lemmas.Simd.{map-map}
 use Rattle.fir_base.specs.Lists.{In}
 use Rattle.fir_base.proofs.Elements.{get_behind}
 use Rattle.fir_meaning.specs.LeafPaths.{LeafPath}
-use Rattle.fir_leaf.specs.working.LeafModules.{LeafArray, LeafDeclared, LeafModule}
+use Rattle.fir_meaning.specs.LeafModules.{LeafArray, LeafDeclared, LeafModule}
 use Rattle.fir_leaf.specs.working.Numberings.{Numbering, number}
 use Rattle.fir_leaf.specs.working.StateWalks.{has_bits, own_words}
 use Rattle.fir_leaf.specs.working.StateWalks as over

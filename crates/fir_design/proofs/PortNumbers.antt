@@ -8,8 +8,8 @@ use Rattle.fir_leaf.specs.working.Designs.{Design, IsDesignOf, Items, made_of}
 use Rattle.fir_leaf.specs.working.FlatLeaves.{leaves_below}
 use Rattle.fir_leaf.specs.working.Flattened.{flattened, is_clock, is_input, ports_where}
 use Rattle.fir_leaf.specs.working.Flattened as over
-use Rattle.fir_leaf.specs.working.LeafModules.{LeafArray, LeafDeclared, LeafModule, LeafType, Role, is_sink, leaf_at, no_leaf}
-use Rattle.fir_leaf.specs.working.LeafedModules.{Scene, behind_all_ports, leafed_module, leaves_in_block, leaves_of_ports}
+use Rattle.fir_meaning.specs.LeafModules.{LeafArray, LeafDeclared, LeafModule, LeafType, Role, is_sink, leaf_at, no_leaf}
+use Rattle.fir_meaning.specs.LeafedModules.{Scene, behind_all_ports, leafed_module, leaves_in_block, leaves_of_ports}
 use Rattle.fir_leaf.specs.working.SoundDesigns.{circuit_path}
 use Rattle.fir_leaf.specs.working.StateWalks.{has_bits, numbers_where}
 use Rattle.fir_leaf.proofs.FlatMeaning.{main_table}

@@ -1,8 +1,8 @@
 -- Roles over numbers and over paths that say the same are of one kind: both sources, both sinks, or both such that they show state.
 use Rattle.std.proofs.Common.{◌≡◌, List, refl}
 use Rattle.fir_leaf.specs.working.Flattened.{is_input}
-use Rattle.fir_leaf.specs.working.LeafModules as over
-use Rattle.fir_leaf.specs.working.LeafModules.{LeafArray, LeafDeclared, Role}
+use Rattle.fir_meaning.specs.LeafModules as over
+use Rattle.fir_meaning.specs.LeafModules.{LeafArray, LeafDeclared, Role}
 use Rattle.fir_leaf.specs.working.StateWalks as over_state
 use Rattle.fir_design.specs.working.SameRoles.{SameRole}
 use Rattle.fir_design.specs.working.SourceCircuits.{is_sink, is_source, is_state}

@@ -3,11 +3,11 @@ use Rattle.std.proofs.Common.{◌≡◌, ℕ, List, [], ◌∷◌, ◌++◌, Boo
 use Rattle.fir_meaning.specs.LeafPaths.{LeafPath}
 use Rattle.fir_leaf.specs.working.DesignPaths.{instance_name, seen}
 use Rattle.fir_leaf.specs.working.DesignStores.{DesignStore, kept}
-use Rattle.fir_leaf.specs.working.LeafBlocks.{LeafBlock, LeafStatement, joined}
-use Rattle.fir_leaf.specs.working.LeafBlocks as over
-use Rattle.fir_leaf.specs.working.LeafModules.{LeafModule}
-use Rattle.fir_leaf.specs.working.Terms.{Term}
-use Rattle.fir_leaf.specs.working.TermValues.{is_true, leaf_of}
+use Rattle.fir_meaning.specs.LeafBlocks.{LeafBlock, LeafStatement, joined}
+use Rattle.fir_meaning.specs.LeafBlocks as over
+use Rattle.fir_meaning.specs.LeafModules.{LeafModule}
+use Rattle.fir_meaning.specs.Terms.{Term}
+use Rattle.fir_meaning.specs.TermValues.{is_true, leaf_of}
 use Rattle.fir_leaf.specs.working.TreeValues.{TypesByPath, ValuesByPath}
 
 module _ {V : Type 0} (holds : TypesByPath) (env : ValuesByPath) (given : LeafPath → LeafModule → ℕ → Term → V)

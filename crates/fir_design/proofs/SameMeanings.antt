@@ -7,7 +7,7 @@ use Rattle.fir_leaf.specs.working.LeafCircuits.{LeafCircuit}
 use Rattle.fir_leaf.specs.working.LeafNext.{next}
 use Rattle.fir_leaf.specs.working.LeafSettled as over_settled
 use Rattle.fir_leaf.specs.working.SoundDesigns.{circuit_path}
-use Rattle.fir_leaf.specs.working.TermValues.{Env}
+use Rattle.fir_meaning.specs.TermValues.{Env}
 use Rattle.fir_design.specs.working.SourceAllows.{Allows}
 use Rattle.fir_design.specs.working.SourceCircuits.{clock_outputs, outputs}
 use Rattle.fir_design.specs.working.SourceDesigns.{SourceDesign}

@@ -5,7 +5,7 @@ use Rattle.fir_base.specs.Ticks.{HasShape, Shape, Tick}
 use Rattle.fir_base.proofs.Elements.{get_in, number_of}
 use Rattle.fir_meaning.specs.LeafPaths.{LeafPath}
 use Rattle.fir_leaf.specs.working.LeafCircuits.{LeafCircuit, role_of}
-use Rattle.fir_leaf.specs.working.LeafModules.{LeafDeclared, LeafType, a_clock, leaf_at, number}
+use Rattle.fir_meaning.specs.LeafModules.{LeafDeclared, LeafType, a_clock, leaf_at, number}
 use Rattle.fir_leaf.specs.working.LeafSettled as over
 use Rattle.fir_design.specs.working.SourceAllows as tree
 use Rattle.fir_design.specs.working.SourceCircuits.{PlacedLeaf, all_leaves, leaf_path, paths_of}

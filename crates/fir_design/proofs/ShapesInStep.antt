@@ -7,7 +7,7 @@ use Rattle.fir_base.proofs.Members.{in_left, map_same}
 use Rattle.fir_bits.specs.declared.types.NumTy.{NumTy}
 use Rattle.fir_meaning.specs.LeafPaths.{LeafPath}
 use Rattle.fir_leaf.specs.working.LeafCircuits.{LeafCircuit, type_of_leaf}
-use Rattle.fir_leaf.specs.working.LeafModules.{LeafType, number_type}
+use Rattle.fir_meaning.specs.LeafModules.{LeafType, number_type}
 use Rattle.fir_leaf.specs.working.LeafStates as over
 use Rattle.fir_leaf.specs.working.LeafStates.{shape}
 use Rattle.fir_leaf.specs.working.SoundDesigns.{circuit_path}

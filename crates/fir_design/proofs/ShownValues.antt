@@ -3,8 +3,8 @@ use Rattle.std.proofs.Common.{◌≡◌, ℕ, ◌<◌, List, length, Some, refl,
 use Rattle.fir_bits.specs.declared.values.Num.{Num}
 use Rattle.fir_meaning.specs.LeafPaths.{LeafPath}
 use Rattle.fir_leaf.specs.working.LeafCircuits.{LeafCircuit}
-use Rattle.fir_leaf.specs.working.LeafModules as role
-use Rattle.fir_leaf.specs.working.LeafModules.{Role, number}
+use Rattle.fir_meaning.specs.LeafModules as role
+use Rattle.fir_meaning.specs.LeafModules.{Role, number}
 use Rattle.fir_leaf.specs.working.LeafSettled as over
 use Rattle.fir_leaf.specs.working.LeafStates.{look}
 use Rattle.fir_leaf.specs.working.SoundDesigns.{circuit_path}

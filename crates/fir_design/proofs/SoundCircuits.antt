@@ -9,7 +9,7 @@ use Rattle.fir_meaning.specs.ResetJoins.{numbered_module}
 use Rattle.fir_meaning.specs.TypeGroup.{type_faults}
 use Rattle.fir_meaning.specs.Visibility.{declarations}
 use Rattle.fir_leaf.specs.working.Designs.{module_of}
-use Rattle.fir_leaf.specs.working.LeafedModules.{Scene, leafed_module}
+use Rattle.fir_meaning.specs.LeafedModules.{Scene, leafed_module}
 use Rattle.fir_leaf.specs.working.NamedDesigns.{IsOwnInstance}
 use Rattle.fir_leaf.specs.working.SoundDesigns.{IsHeld}
 use Rattle.fir_leaf.proofs.OncePaths.{names_make_sound}

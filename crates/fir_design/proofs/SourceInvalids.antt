@@ -5,15 +5,15 @@ use Rattle.fir_ast.specs.declared.place.Place.{Place}
 use Rattle.fir_meaning.specs.LeafPaths.{LeafPath}
 use Rattle.fir_meaning.specs.TypeLeaves.{TypeLeaf, type_leaves}
 use Rattle.fir_leaf.specs.working.DesignStores.{DesignStore}
-use Rattle.fir_leaf.specs.working.LeafBlocks.{LeafBlock}
-use Rattle.fir_leaf.specs.working.LeafBlocks as over
+use Rattle.fir_meaning.specs.LeafBlocks.{LeafBlock}
+use Rattle.fir_meaning.specs.LeafBlocks as over
 use Rattle.fir_leaf.specs.working.LeafLaws.{path_at}
-use Rattle.fir_leaf.specs.working.LeafModules.{LeafModule}
-use Rattle.fir_leaf.specs.working.LeafedBlocks.{driven_from, invalid_block, invalid_leaf, invalid_leaves}
-use Rattle.fir_leaf.specs.working.LeafedModules.{Scene, driven_leaves, leafed_module}
+use Rattle.fir_meaning.specs.LeafModules.{LeafModule}
+use Rattle.fir_meaning.specs.LeafedBlocks.{driven_from, invalid_block, invalid_leaf, invalid_leaves}
+use Rattle.fir_meaning.specs.LeafedModules.{Scene, driven_leaves, leafed_module}
 use Rattle.fir_leaf.specs.working.Standing.{Stands}
-use Rattle.fir_leaf.specs.working.Targets.{Target}
-use Rattle.fir_leaf.specs.working.Terms.{Term, zeros}
+use Rattle.fir_meaning.specs.Targets.{Target}
+use Rattle.fir_meaning.specs.Terms.{Term, zeros}
 use Rattle.fir_leaf.specs.working.TreeAims.{Aim}
 use Rattle.fir_leaf.specs.working.TreeStores.{may_be_driven}
 use Rattle.fir_leaf.specs.working.TreeValues.{TypesByPath, ValuesByPath, leaf_where}

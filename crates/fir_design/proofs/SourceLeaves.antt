@@ -16,9 +16,9 @@ use Rattle.fir_meaning.specs.Visibility.{declarations}
 use Rattle.fir_meaning.proofs.DistinctLeaves.{paths_distinct}
 use Rattle.fir_meaning.proofs.FoundDeclarations.{Once, once_found}
 use Rattle.fir_leaf.specs.working.LeafLaws.{path_at}
-use Rattle.fir_leaf.specs.working.LeafMemories.{leaves_of_data}
-use Rattle.fir_leaf.specs.working.LeafModules.{leaf_at, may_drive}
-use Rattle.fir_leaf.specs.working.LeafedModules.{Scene, module_leaves}
+use Rattle.fir_meaning.specs.LeafMemories.{leaves_of_data}
+use Rattle.fir_meaning.specs.LeafModules.{leaf_at, may_drive}
+use Rattle.fir_meaning.specs.LeafedModules.{Scene, module_leaves}
 use Rattle.fir_leaf.specs.working.TableLaws.{IsLeafOf}
 use Rattle.fir_leaf.specs.working.TreeStores.{same_path}
 use Rattle.fir_leaf.proofs.OneStore.{path_is, path_same}

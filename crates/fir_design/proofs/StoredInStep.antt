@@ -7,10 +7,10 @@ use Rattle.fir_leaf.specs.working.DesignLaws.{numbered}
 use Rattle.fir_leaf.specs.working.Designs.{Design}
 use Rattle.fir_leaf.specs.working.DesignStores.{nothing_kept}
 use Rattle.fir_leaf.specs.working.Flattened.{flattened}
-use Rattle.fir_leaf.specs.working.LeafBlocks.{exec_all, nothing_stored}
+use Rattle.fir_meaning.specs.LeafBlocks.{exec_all, nothing_stored}
 use Rattle.fir_leaf.specs.working.LeafCircuits.{depth_of}
 use Rattle.fir_leaf.specs.working.SoundDesigns.{circuit_path}
-use Rattle.fir_leaf.specs.working.TermValues.{clock_of}
+use Rattle.fir_meaning.specs.TermValues.{clock_of}
 use Rattle.fir_leaf.specs.working.TreeValues.{TypesByPath, ValuesByPath}
 use Rattle.fir_leaf.proofs.FlatMeaning.{same_clocks, same_stores}
 use Rattle.fir_design.specs.working.MeaningLaws.{AreDesigns}

@@ -12,7 +12,7 @@ use Rattle.fir_meaning.specs.ResetJoins.{numbered_module}
 use Rattle.fir_meaning.specs.Visibility.{declarations}
 use Rattle.fir_leaf.specs.working.DesignPaths.{instance_name}
 use Rattle.fir_leaf.specs.working.DesignStores.{DesignStore}
-use Rattle.fir_leaf.specs.working.LeafedModules.{Scene, behind_all_ports, driven_leaves, leafed_module}
+use Rattle.fir_meaning.specs.LeafedModules.{Scene, behind_all_ports, driven_leaves, leafed_module}
 use Rattle.fir_leaf.specs.working.TreeValues.{TypesByPath, ValuesByPath}
 use Rattle.fir_leaf.proofs.DeclaredLeaves.{IsOwn}
 use Rattle.fir_design.specs.working.SourceDesigns.{AreInstances, InstanceOf, Instances, IsSourceDesignOf, SourceDesign, held, no_instances, scene_of, scene_where}

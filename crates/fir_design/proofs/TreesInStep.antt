@@ -12,8 +12,8 @@ use Rattle.fir_leaf.specs.working.DesignStates.{no_array}
 use Rattle.fir_leaf.specs.working.FlatDesigns.{inner_leaves}
 use Rattle.fir_leaf.specs.working.FlatLeaves.{all_arrays_in, all_leaves_in, arrays_below, leaves_below, placed_array, placed_leaf}
 use Rattle.fir_leaf.specs.working.LeafCircuits.{LeafCircuit}
-use Rattle.fir_leaf.specs.working.LeafModules.{LeafArray, LeafDeclared, LeafModule}
-use Rattle.fir_leaf.specs.working.LeafedModules.{Scene, leafed_module}
+use Rattle.fir_meaning.specs.LeafModules.{LeafArray, LeafDeclared, LeafModule}
+use Rattle.fir_meaning.specs.LeafedModules.{Scene, leafed_module}
 use Rattle.fir_leaf.specs.working.Numberings.{Numbering, numbering}
 use Rattle.fir_leaf.proofs.FlatPlaces.{At, at_get, at_left, at_room}
 use Rattle.fir_leaf.proofs.MovedTerms.{Stands}

@@ -9,9 +9,9 @@ use Rattle.fir_meaning.specs.Components.{Component, Declaration}
 use Rattle.fir_meaning.specs.LeafPaths.{LeafPath, named}
 use Rattle.fir_meaning.specs.TypeLeaves.{TypeLeaf}
 use Rattle.fir_meaning.specs.Visibility.{Before, behind, behind_block, declaration_at, declarations, opened, reopened, with_declaration}
-use Rattle.fir_leaf.specs.working.LeafMemories.{leaves_of_data}
-use Rattle.fir_leaf.specs.working.LeafModules.{LeafDeclared, LeafType}
-use Rattle.fir_leaf.specs.working.LeafedModules.{Scene, held_by_declared, leafed_module, leaves_in, leaves_in_block, type_of_declared}
+use Rattle.fir_meaning.specs.LeafMemories.{leaves_of_data}
+use Rattle.fir_meaning.specs.LeafModules.{LeafDeclared, LeafType}
+use Rattle.fir_meaning.specs.LeafedModules.{Scene, held_by_declared, leafed_module, leaves_in, leaves_in_block, type_of_declared}
 use Rattle.fir_leaf.specs.working.Numberings.{number, numbering}
 use Rattle.fir_leaf.specs.working.StateWalks.{own_words}
 use Rattle.fir_design.specs.working.SourceCircuits.{PlacedLeaf, is_word, placed, words_in, words_in_block}

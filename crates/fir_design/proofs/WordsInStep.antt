@@ -13,8 +13,8 @@ use Rattle.fir_meaning.specs.TypeGroup.{type_faults}
 use Rattle.fir_meaning.specs.Visibility.{declarations}
 use Rattle.fir_leaf.specs.working.Designs.{Design, IsDesignOf, Items, made_of}
 use Rattle.fir_leaf.specs.working.FlatDesigns.{count_below, inner_leaves}
-use Rattle.fir_leaf.specs.working.LeafModules.{LeafModule}
-use Rattle.fir_leaf.specs.working.LeafedModules.{Scene, behind_all_ports, leafed_module}
+use Rattle.fir_meaning.specs.LeafModules.{LeafModule}
+use Rattle.fir_meaning.specs.LeafedModules.{Scene, behind_all_ports, leafed_module}
 use Rattle.fir_leaf.specs.working.Numberings.{number, numbering}
 use Rattle.fir_leaf.specs.working.StateWalks.{all_words_in, own_words, words_below}
 use Rattle.fir_leaf.proofs.FlatOrders.{walk_same}

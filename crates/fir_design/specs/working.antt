@@ -15,3 +15,4 @@ pub mod SourceValues
 pub mod SourceAllows
 pub mod MeaningLaws
 pub mod SourceRuns
+pub mod CircuitMeanings

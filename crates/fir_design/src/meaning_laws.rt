@@ -1,7 +1,11 @@
 //! What the leaf circuits of designs mean is what their sources mean.
 
+ghost use Rattle.fir_design.specs.working.CircuitMeanings.{CircuitsMeanTheirSources};
 ghost use Rattle.fir_design.specs.working.MeaningLaws.{SameAllows, SameShape};
 ghost use Rattle.fir_design.specs.working.SourceRuns.{OneHasRun, SameOne};
+
+use crate::design_laws::has_sound_designs;
+use crate::source_laws::has_one_tree;
 
 /// The leaf circuit of a sound design has the shape of the tree of its source modules: inputs, clocks and
 /// state, in the same order (FIRRTL spec, "Ports", "Registers", "Memories").
@@ -26,3 +30,14 @@ pub fn sources_have_one_where_their_leaf_circuits_have()
 pub fn one_source_has_run()
     ensures { OneHasRun }
 {}
+
+/// So each module of a circuit has one design of leaf views and one tree of source modules below it, and both allow
+/// the same (FIRRTL spec, "Circuits", "Instances").
+pub fn circuits_mean_their_sources()
+    ensures { CircuitsMeanTheirSources }
+{
+    has_sound_designs();
+    has_one_tree();
+    leaf_circuits_have_the_shape_of_their_sources();
+    leaf_circuits_allow_what_their_sources_allow();
+}

@@ -1,5 +1,5 @@
 -- The groups of faults one behind the other: which are clear behind each pass, and that a later fault is the first where those before it are.
-use Rattle.std.proofs.Common.{◌≡◌, ℕ, zero, suc, ◌+◌, ◌<◌, ◌≤◌, List, [], ◌∷◌, map, flat_map, refl, subst, sym, inl, inr, ◌⊎◌, arith, ⊎_elim}
+use Rattle.std.proofs.Common.{◌≡◌, ℕ, zero, suc, ◌+◌, ◌<◌, ◌≤◌, List, [], ◌∷◌, refl, subst, inl, inr, ◌⊎◌, arith, ⊎_elim}
 use Rattle.std.proofs.lemmas.Bool.{cases_lt}
 use Rattle.fir_ast.specs.declared.fault.FirFault.{FirFault}
 use Rattle.fir_ast.specs.Circuits.{CircuitTree}
@@ -10,7 +10,7 @@ use Rattle.fir_meaning.specs.NameGroups.{HasNames}
 use Rattle.fir_meaning.specs.TypeGroup.{type_faults}
 use Rattle.fir_meaning.specs.WidthGroups.{IsInferred}
 use Rattle.fir_meaning.specs.CostGroup.{cost_group}
-use Rattle.fir_meaning.specs.DrivenFaults.{undriven_faults}
+use Rattle.fir_meaning.specs.UndrivenGroup.{undriven_group}
 use Rattle.fir_meaning.specs.SourceMeaning.{circuit_meaning}
 use Rattle.fir_meaning.proofs.KeptTrees.{none_clear}
 use Rattle.fir_driver.specs.CircuitFaults.{IsClearUpTo, ShowsNone, IsFirstUpTo}
@@ -21,10 +21,6 @@ nothing f there = absurd there
 clear_empty : (fs : List Fault) → IsClear (in_order fs) → fs ≡ []
 clear_empty [] clear = refl
 clear_empty (f ∷ fs) clear = absurd (clear f (inl refl))
-
-unmapped : (fs : List FirFault) → map fault_of fs ≡ [] → fs ≡ []
-unmapped [] e = refl
-unmapped (f ∷ fs) e = absurd cc
 
 past_all : (c : CircuitTree) (k : ℕ) → 9 < k → IsClear ((circuit_meaning c).group k)
 unfolding circuit_meaning
@@ -74,19 +70,17 @@ module _ (c : CircuitTree) where
   unfolding circuit_meaning
   clear_costs before h = next_clear 7 before h
 
-  pub clear_driven : IsClearUpTo 8 c → flat_map undriven_faults c.modules ≡ [] → ShowsNone c
+  pub clear_drivers : IsClearUpTo 8 c → IsClear (undriven_group c) → IsClearUpTo 9 c
   unfolding circuit_meaning
-  clear_driven before none k = by (cases_lt 9 k)
+  clear_drivers before h = next_clear 8 before h
+
+  -- no group is behind these
+  pub clear_all : IsClearUpTo 9 c → ShowsNone c
+  clear_all clear k = by (cases_lt 9 k)
     where
-      driven : IsClear (in_order (map fault_of (flat_map undriven_faults c.modules)))
-      driven = subst (λ (fs : List FirFault). IsClear (in_order (map fault_of fs))) (sym none) nothing
-
-      up_to_9 : IsClearUpTo 9 c
-      up_to_9 = next_clear 8 before driven
-
       by : (9 < k) ⊎ (k ≤ 9) → IsClear ((circuit_meaning c).group k)
       by (inl past) = past_all c k past
-      by (inr within) = up_to_9 k within
+      by (inr within) = clear k within
 
   -- what is clear, read group by group
   pub has_names : IsClearUpTo 3 c → HasNames c
@@ -101,9 +95,9 @@ module _ (c : CircuitTree) where
   unfolding circuit_meaning
   has_widths clear = record { resets = clear 5; over = clear 6; legal = clear 7 }
 
-  pub has_drivers : ShowsNone c → flat_map undriven_faults c.modules ≡ []
+  pub has_drivers : ShowsNone c → IsClear (undriven_group c)
   unfolding circuit_meaning
-  has_drivers clear = unmapped (flat_map undriven_faults c.modules) (clear_empty (map fault_of (flat_map undriven_faults c.modules)) (clear 9))
+  has_drivers clear = clear 9
 
   -- the first of later groups is the first of all
   pub first_behind : (before from upto last : ℕ) (f : FirFault) → IsClearUpTo before c → from ≤ before + 1 → 1 ≤ from → upto ≤ last

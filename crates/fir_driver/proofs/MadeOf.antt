@@ -13,7 +13,7 @@ use Rattle.trace_text.specs.Shapes.{TraceShape}
 use Rattle.fir_sim.specs.working.Shapes.{IsShapeOf}
 use Rattle.fir_driver.specs.Emits.{Takes}
 use Rattle.fir_driver.specs.Traces.{IsTraceShape}
-use Rattle.fir_driver.specs.working.Laws.{TakenIsFaultless}
+use Rattle.fir_meaning.specs.working.Faults.{Faultless}
 use Rattle.fir_driver.specs.working.Made.{IsMadeOf}
 
 module _ (c : CircuitTree) (net : FlatNet) (s : TraceShape) (lowered : Lowers c net) (of_net : IsShapeOf net s) where
@@ -28,13 +28,13 @@ module _ (c : CircuitTree) (net : FlatNet) (s : TraceShape) (lowered : Lowers c 
         named = subst (λ (words : List Word). AreNamed [] (row_names (circuit_rows c) ++ word_names words) (of_net.ports ++ map (λ w. w.name) s.state)) lowered.words of_rows;
       }
 
-  pub made_of : SpellsOneTree → FaultlessHasOne → FaultlessRunsOnce → NamesAreForRows → TakenIsFaultless → (text : List ℕ) → Takes text c → IsMadeOf text net s
+  pub made_of : SpellsOneTree → FaultlessHasOne → FaultlessRunsOnce → NamesAreForRows → Faultless c → (text : List ℕ) → Takes text c → IsMadeOf text net s
   made_of one has_one runs_once names faultless text taken = record {
     circuit = c;
     taken = taken;
     only_circuit = λ other spelled. one text other c spelled taken.spelled;
-    one = has_one c taken.in_language (faultless text c taken);
-    runs_once = runs_once c taken.in_language (faultless text c taken);
+    one = has_one c taken.in_language faultless;
+    runs_once = runs_once c taken.in_language faultless;
     lowered = lowered;
     shaped = trace_shape names;
     of_net = of_net.values;

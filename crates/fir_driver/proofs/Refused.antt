@@ -16,14 +16,11 @@ module _ (one : SpellsOneTree) (tree_or_fault : HasTreeOrFault) (bytes : List �
   taken_has_no_fault f (inl bad) = (tree_or_fault bytes).1 (c, taken.spelled) (f, bad)
   taken_has_no_fault f (inr (inl shows)) =
       let same : shows.circuit ≡ c = one bytes shows.circuit c shows.spelled taken.spelled in
-      none_first c 8 f taken.faultless (subst (λ t. IsFirstUpTo 8 t f) same shows.first)
-  taken_has_no_fault f (inr (inr (inl lack))) =
+      none_first c 9 f taken.faultless (subst (λ t. IsFirstUpTo 9 t f) same shows.first)
+  taken_has_no_fault f (inr (inr lack)) =
       let same : lack.circuit ≡ c = one bytes lack.circuit c lack.spelled taken.spelled in
       let e : is_none (Some lack.lack) ≡ true = ap is_none (sym lack.first ∙ ap lacking same) ∙ taken.in_language in
       absurd cc
-  taken_has_no_fault f (inr (inr (inr shows))) =
-      let same : shows.circuit ≡ c = one bytes shows.circuit c shows.spelled taken.spelled in
-      none_first c 13 f taken.faultless (subst (λ t. IsFirstUpTo 13 t f) same shows.first)
 
   pub refused_is_not_taken : (line : List ℕ) → Refuses bytes line → ⊥
   refused_is_not_taken line why = taken_has_no_fault why.0 why.1

@@ -2,6 +2,7 @@
 
 ghost use Rattle.fir_driver.specs.working.Laws.{SpelledNamesAreWords, TakenIsFaultless};
 
+use fir_check::driven_outputs_are_connected;
 use fir_meaning::{inferred_exactly, names_leave_none, types_leave_none};
 use fir_width::widths_leave_none;
 
@@ -20,4 +21,5 @@ pub fn taken_is_faultless()
     types_leave_none();
     inferred_exactly();
     widths_leave_none();
+    driven_outputs_are_connected();
 }

@@ -1,6 +1,6 @@
 //! The passes on the way of a circuit, in the order in which it takes them: from bytes to tokens, to the tree, to
 //! the tree with its names, with its types, with its resets and widths, and over its ground leaves, which are not
-//! too many; which has only forms that are taken so far and whose outputs are driven, to the net and its order;
+//! too many and of which each is driven; which has only forms that are taken so far, to the net and its order;
 //! and from there to the Verilog tree and its text, or to the simulator's net with the shape of its traces.
 
 ghost use Rattle.std.specs.Prelude.{◌≤◌, IfOk, IsTrue, length};
@@ -22,7 +22,6 @@ use crate::laws::{spelled_names_are_words, taken_is_faultless};
 use crate::ordered_net::OrderedNet;
 use fir_ast::{Circuit, FirFault};
 use fir_base::{MemoryOut, Name, Refused};
-use fir_check::check_driven;
 use fir_expand::{LeafCircuit, expand};
 use fir_lex::lex;
 use fir_loop::laws::heights_have_no_loop;
@@ -34,6 +33,7 @@ use fir_net::FlatNet;
 use fir_parse::parse;
 use fir_sim::shape;
 use fir_types::{Typed, check};
+use fir_whens::check_driven;
 use fir_width::{Fitted, infer};
 use std::alloc::Global;
 use trace_text::Shape;
@@ -107,6 +107,20 @@ fn read_leaves(alloc: Global, bytes: &[u8]) -> Result<LeafCircuit, Refused<FirFa
     }
 }
 
+/// The tree of the text, over its ground leaves, of which each is driven under every choice; or its first fault,
+/// of the text or of its circuit.
+fn read_driven(alloc: Global, bytes: &[u8]) -> Result<LeafCircuit, Refused<FirFault>>
+    requires { length bytes.now ≤ 16777216 }
+    ensures { IsCheckedTree 9 bytes.now result }
+{
+    let leaves = read_leaves(alloc, bytes)?;
+    match check_driven(alloc, &leaves) {
+        Ok(()) => Ok(leaves),
+        Err(Refused::Fault(fault)) => Err(Refused::Fault(fault)),
+        Err(Refused::Memory) => Err(Refused::Memory),
+    }
+}
+
 /// Why a text is refused whose tree has a form that the language lacks.
 fn unsupported(alloc: Global, lack: Lack) -> Refused<FirFault>
     ensures { IsUnsupported (lack_of lack.entry) result }
@@ -118,23 +132,21 @@ fn unsupported(alloc: Global, lack: Lack) -> Refused<FirFault>
 }
 
 /// The circuit that the bytes spell, with its names, in the language and without fault, or the fault for
-/// which it is refused: of the text, else the first of names, types, resets and widths, else that of its
-/// cost, else the first form that the language lacks, else the first output that is not driven.
+/// which it is refused: of the text, else the first of its circuit, else the first form that the language lacks.
 pub fn read_circuit(alloc: Global, bytes: &[u8]) -> Result<Named, Refused<FirFault>>
     requires { length bytes.now ≤ 16777216 }
-    ensures { IsTaken bytes.now result }
+    ensures taken { IsTaken bytes.now result }
+    ensures faultless { IfOk result (λ n. Faultless (circuit_of n)) }
 {
-    let named = read_leaves(alloc, bytes)?
-        .into_fitted()
-        .into_typed()
-        .into_named();
+    taken_is_faultless();
+    let leaves = read_driven(alloc, bytes)?;
+    // Its modules have scenes, over which the law speaks.
+    let _modules = leaves.modules();
+    let named = leaves.into_fitted().into_typed().into_named();
     if let Some(lack) = lacking(&named) {
         return Err(unsupported(alloc, lack));
     }
-    match check_driven(alloc, named.circuit()) {
-        Ok(()) => Ok(named),
-        Err(refused) => Err(refused),
-    }
+    Ok(named)
 }
 
 /// The order of a net whose leaves do not hang on themselves.
@@ -182,7 +194,6 @@ pub fn verilog_of(alloc: Global, bytes: &[u8]) -> Result<Vec<u8>, Refused<FirFau
     ensures { IsEmitted bytes.now (λ text. text.items) result }
 {
     spelled_names_are_words();
-    taken_is_faultless();
     fir_parse::laws::spells_one_tree();
     ver_ast::spells_one_tree();
     layout_is_spelled();
@@ -199,7 +210,6 @@ pub fn net_of(alloc: Global, bytes: &[u8]) -> Result<(OrderedNet, Shape), Refuse
     ensures in_order { IfOk result (λ made. IsOrder made.0.net made.0.order) }
 {
     spelled_names_are_words();
-    taken_is_faultless();
     fir_parse::laws::spells_one_tree();
     faultless_has_one();
     faultless_runs_once();

@@ -8,12 +8,12 @@ use Rattle.fir_meaning.specs.NameGroups.{HasNames}
 use Rattle.fir_meaning.specs.SizedDeclarations.{numbered_modules}
 use Rattle.fir_meaning.specs.TypeGroup.{type_faults}
 use Rattle.fir_leaf.specs.working.ChoiceLaws.{fitted_at}
-use Rattle.fir_leaf.specs.working.LeafBlocks.{exec_all, nothing_stored}
-use Rattle.fir_leaf.specs.working.LeafModules.{LeafDeclared, LeafModule as View, depth_at, leaf_at, no_leaf, number_type}
+use Rattle.fir_meaning.specs.LeafBlocks.{exec_all, nothing_stored}
+use Rattle.fir_meaning.specs.LeafModules.{LeafDeclared, LeafModule as View, depth_at, leaf_at, no_leaf, number_type}
 use Rattle.fir_leaf.specs.working.LeafNumbers.{TermWithin}
-use Rattle.fir_leaf.specs.working.LeafedModules.{leafed_module, module_leaves}
+use Rattle.fir_meaning.specs.LeafedModules.{leafed_module, module_leaves}
 use Rattle.fir_leaf.specs.working.TableLaws.{NumbersAreLeaves, TableHasFacts, TableStores, table_facts, table_holds}
-use Rattle.fir_leaf.specs.working.Terms.{Term}
+use Rattle.fir_meaning.specs.Terms.{Term}
 use Rattle.fir_leaf.proofs.SameTables.{block_alike, value_alike}
 use Rattle.fir_leaf_table.specs.declared.leaf_module.LeafModule.{LeafModule}
 use Rattle.fir_leaf_table.specs.working.Leafed.{AreLeafed}

@@ -5,7 +5,7 @@ ghost use Rattle.fir_ast.specs.View.{circuit_of};
 ghost use Rattle.fir_pass.specs.Groups.{IsClear};
 ghost use Rattle.fir_meaning.specs.CostGroup.{cost_group};
 ghost use Rattle.fir_leaf_table.specs.working.Leafed.{AreLeafed};
-ghost use Rattle.fir_leaf_table.specs.working.Scenes.{HasScenes};
+ghost use Rattle.fir_meaning.specs.Scenes.{HasScenes};
 ghost use Rattle.fir_expand.specs.working.LeafStores.{StoreAsTheirTrees};
 
 use fir_leaf::{numbers_are_leaves, table_has_facts, table_stores};

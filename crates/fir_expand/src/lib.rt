@@ -17,6 +17,7 @@ mod module_costs;
 mod own_costs;
 mod pass;
 mod plain_costs;
+mod source_meaning;
 mod written_leaves;
 
 pub use circuit_cost::cost;
@@ -25,3 +26,4 @@ pub use laws::has_one_cost;
 pub use leaf_circuit::LeafCircuit;
 pub use limit::check_cost;
 pub use pass::Expand;
+pub use source_meaning::means_its_source;

@@ -6,9 +6,9 @@ use Rattle.fir_bits.specs.declared.types.NumTy.{NumTy}
 use Rattle.fir_base.specs.Lists.{In}
 use Rattle.fir_base.proofs.Members.{in_either, in_map_from}
 use Rattle.fir_meaning.specs.LeafPaths.{LeafPath, named}
-use Rattle.fir_leaf.specs.working.TermValues.{Env, clock_at, clock_of, value_at}
-use Rattle.fir_leaf.specs.working.LeafBlocks.{exec_all, nothing_stored}
-use Rattle.fir_leaf.specs.working.LeafModules.{LeafDeclared, leaf_at, no_leaf, number_type}
+use Rattle.fir_meaning.specs.TermValues.{Env, clock_at, clock_of, value_at}
+use Rattle.fir_meaning.specs.LeafBlocks.{exec_all, nothing_stored}
+use Rattle.fir_meaning.specs.LeafModules.{LeafDeclared, leaf_at, no_leaf, number_type}
 use Rattle.fir_leaf.specs.working.LeafCircuits.{depth_of, type_of_leaf}
 use Rattle.fir_leaf.specs.working.ChoiceLaws.{fitted_at}
 use Rattle.fir_leaf.specs.working.TreeStores.{same_path}

@@ -3,10 +3,10 @@ use Rattle.std.proofs.Common.{◌≡◌, ℕ, ◌+◌, ◌<◌, ◌≤◌, List,
 use Rattle.std.proofs.lemmas.List.{length-take, get_or-take, get_or_append_left}
 use Rattle.fir_meaning.specs.LeafPaths.{LeafPath}
 use Rattle.fir_meaning.specs.Exec.{fit}
-use Rattle.fir_leaf.specs.working.Terms.{Term}
-use Rattle.fir_leaf.specs.working.TermValues.{clock_of, eval}
-use Rattle.fir_leaf.specs.working.LeafBlocks.{nothing_stored}
-use Rattle.fir_leaf.specs.working.LeafModules.{LeafDeclared, LeafModule, leaf_at, no_leaf}
+use Rattle.fir_meaning.specs.Terms.{Term}
+use Rattle.fir_meaning.specs.TermValues.{clock_of, eval}
+use Rattle.fir_meaning.specs.LeafBlocks.{nothing_stored}
+use Rattle.fir_meaning.specs.LeafModules.{LeafDeclared, LeafModule, leaf_at, no_leaf}
 use Rattle.fir_leaf.specs.working.ChoiceLaws.{fitted_at}
 use Rattle.fir_leaf.specs.working.TreeValues.{TypesByPath, ValuesByPath}
 use Rattle.fir_leaf.specs.working.Designs.{Items, made_of}

@@ -4,8 +4,8 @@ use Rattle.std.specs.Prelude.{nat_lt}
 use Rattle.std.proofs.lemmas.Bool.{ltb-true, ltb-false}
 use Rattle.std.proofs.lemmas.List.{length-map, length-drop, get_or-map, get_or-drop, get_or_append_left, get_or-append-add}
 use Rattle.fir_meaning.specs.LeafPaths.{LeafPath, named}
-use Rattle.fir_leaf.specs.working.LeafModules.{LeafDeclared, LeafModule, leaf_at, no_leaf}
-use Rattle.fir_leaf.specs.working.LeafBlocks.{HeldInstance}
+use Rattle.fir_meaning.specs.LeafModules.{LeafDeclared, LeafModule, leaf_at, no_leaf}
+use Rattle.fir_meaning.specs.LeafBlocks.{HeldInstance}
 use Rattle.fir_leaf.specs.working.Designs.{Item, drive, when, instance, Items, done, then, Design, made_of}
 use Rattle.fir_leaf.specs.working.DesignPaths.{instance_path, instance_name}
 use Rattle.fir_leaf.specs.working.Numberings.{Numbering, number, numbering}

@@ -5,11 +5,11 @@ use Rattle.std.proofs.lemmas.Bool.{cases_eq, eq-eqb, ne_eqb, false_from_ne_true,
 use Rattle.std.proofs.lemmas.Slice.Eq.{bytes_eq-Decides}
 use Rattle.fir_meaning.specs.LeafPaths.{LeafPath, Step, named, element}
 use Rattle.fir_meaning.specs.Exec.{all_true}
-use Rattle.fir_leaf.specs.working.Terms.{Term}
-use Rattle.fir_leaf.specs.working.TermValues.{Holds, is_true}
-use Rattle.fir_leaf.specs.working.LeafBlocks.{HeldInstance, LeafBlock, LeafStore, counts, joined, stored_at}
-use Rattle.fir_leaf.specs.working.LeafBlocks as over
-use Rattle.fir_leaf.specs.working.LeafModules.{LeafDeclared, LeafModule, leaf_at}
+use Rattle.fir_meaning.specs.Terms.{Term}
+use Rattle.fir_meaning.specs.TermValues.{Holds, is_true}
+use Rattle.fir_meaning.specs.LeafBlocks.{HeldInstance, LeafBlock, LeafStore, counts, joined, stored_at}
+use Rattle.fir_meaning.specs.LeafBlocks as over
+use Rattle.fir_meaning.specs.LeafModules.{LeafDeclared, LeafModule, leaf_at}
 use Rattle.fir_leaf.specs.working.TreeValues.{TypesByPath, ValuesByPath}
 use Rattle.fir_leaf.specs.working.TreeStores.{same_step, same_path}
 use Rattle.fir_leaf.specs.working.Designs.{Item, drive, when, instance, Items, done, then, Design, made_of}

@@ -1,7 +1,7 @@
 -- Where one choice of values is settled at each tick, there is exactly one run.
 use Rattle.std.proofs.Common.{◌≡◌, ℕ, List, [], ◌∷◌, map, refl, sym, ap, ◌∙◌, subst}
 use Rattle.fir_base.specs.Ticks.{Tick, FitEach}
-use Rattle.fir_leaf.specs.working.TermValues.{Env}
+use Rattle.fir_meaning.specs.TermValues.{Env}
 use Rattle.fir_leaf.specs.working.LeafCircuits.{LeafCircuit}
 use Rattle.fir_leaf.specs.working.LeafStates.{shape}
 use Rattle.fir_leaf.specs.working.LeafNext.{next}

@@ -2,9 +2,12 @@ pub mod PickedLeaves
 pub mod LiveStores
 pub mod LiveStatements
 pub mod ReadStores
+pub mod TreeForms
+pub mod TextTrees
 pub mod RowTrees
 pub mod Rows
 pub mod FurtherRows
+pub mod UndrivenRows
 pub mod LeafPlaces
 pub mod NamedPlaces
 pub mod StandingTargets
@@ -31,6 +34,7 @@ pub mod RootClocks
 pub mod ClockRings
 pub mod SettledTests
 pub mod SmallCircuits
+pub mod TraceRows
 pub mod TickRows
 pub mod MemoryRows
 pub mod ClockRows

@@ -6,8 +6,8 @@ use Rattle.std.proofs.lemmas.Slice.Eq.{bytes_eq-Decides}
 use Rattle.fir_base.specs.Lists.{In, Distinct}
 use Rattle.fir_ast.specs.Statements.{PlacedName}
 use Rattle.fir_meaning.specs.LeafPaths.{LeafPath, named, element}
-use Rattle.fir_leaf.specs.working.LeafBlocks.{HeldInstance}
-use Rattle.fir_leaf.specs.working.LeafModules.{LeafArray, LeafDeclared, LeafModule, leaf_at}
+use Rattle.fir_meaning.specs.LeafBlocks.{HeldInstance}
+use Rattle.fir_meaning.specs.LeafModules.{LeafArray, LeafDeclared, LeafModule, leaf_at}
 use Rattle.fir_leaf.specs.working.TreeStores.{same_path}
 use Rattle.fir_leaf.specs.working.Designs.{Item, drive, when, instance, Items, done, then, Design, made_of}
 use Rattle.fir_leaf.specs.working.DesignStates.{array_at}

@@ -8,8 +8,8 @@ use Rattle.fir_base.proofs.Members.{in_either, in_map, in_map_from, in_left, in_
 use Rattle.fir_base.proofs.Twins.{apart, distinct_joined, distinct_left, distinct_right}
 use Rattle.fir_ast.specs.Statements.{PlacedName}
 use Rattle.fir_meaning.specs.LeafPaths.{LeafPath, Step, named}
-use Rattle.fir_leaf.specs.working.LeafBlocks.{HeldInstance}
-use Rattle.fir_leaf.specs.working.LeafModules.{LeafDeclared, LeafModule, leaf_at, no_leaf}
+use Rattle.fir_meaning.specs.LeafBlocks.{HeldInstance}
+use Rattle.fir_meaning.specs.LeafModules.{LeafDeclared, LeafModule, leaf_at, no_leaf}
 use Rattle.fir_leaf.specs.working.Designs.{Item, drive, when, instance, Items, done, then, Design, made_of}
 use Rattle.fir_leaf.specs.working.DesignPaths.{instance_name, instance_path, no_name}
 use Rattle.fir_leaf.specs.working.Numberings.{Numbering, number, numbering}

@@ -7,7 +7,7 @@ use Rattle.std.proofs.lemmas.List.{length-drop}
 use Rattle.fir_base.specs.Lists.{In, Distinct}
 use Rattle.fir_base.proofs.Members.{in_either, in_flat_map_from, in_map_from}
 use Rattle.fir_base.proofs.Twins.{distinct_joined}
-use Rattle.fir_leaf.specs.working.LeafModules.{LeafArray, LeafDeclared, LeafModule, leaf_at, no_leaf}
+use Rattle.fir_meaning.specs.LeafModules.{LeafArray, LeafDeclared, LeafModule, leaf_at, no_leaf}
 use Rattle.fir_leaf.specs.working.Designs.{Item, drive, when, instance, Items, done, then, Design, made_of}
 use Rattle.fir_leaf.specs.working.DesignStates.{no_array}
 use Rattle.fir_leaf.specs.working.Numberings.{Numbering, number, numbering}

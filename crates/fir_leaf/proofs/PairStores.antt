@@ -8,13 +8,13 @@ use Rattle.fir_meaning.specs.LeafPaths.{LeafPath}
 use Rattle.fir_meaning.specs.TypeLeaves.{TypeLeaf, type_leaves}
 use Rattle.fir_meaning.specs.ConnectPairs.{Pair}
 use Rattle.fir_meaning.specs.TypedScopes.{TypedScope}
-use Rattle.fir_leaf.specs.working.Terms.{Term, zeros}
-use Rattle.fir_leaf.specs.working.TermValues.{Holds, eval}
-use Rattle.fir_leaf.specs.working.LeafBlocks.{LeafStore, LeafBlock, joined, exec, exec_all, stored}
-use Rattle.fir_leaf.specs.working.LeafBlocks as over
-use Rattle.fir_leaf.specs.working.Targets.{Target}
-use Rattle.fir_leaf.specs.working.LeafPairs.{LeafPair}
-use Rattle.fir_leaf.specs.working.LeafedBlocks.{driven_from, driven_where, term_at, Sides, pair_block, pairs_block}
+use Rattle.fir_meaning.specs.Terms.{Term, zeros}
+use Rattle.fir_meaning.specs.TermValues.{Holds, eval}
+use Rattle.fir_meaning.specs.LeafBlocks.{LeafStore, LeafBlock, joined, exec, exec_all, stored}
+use Rattle.fir_meaning.specs.LeafBlocks as over
+use Rattle.fir_meaning.specs.Targets.{Target}
+use Rattle.fir_meaning.specs.LeafPairs.{LeafPair}
+use Rattle.fir_meaning.specs.LeafedBlocks.{driven_from, driven_where, term_at, Sides, pair_block, pairs_block}
 use Rattle.fir_leaf.specs.working.TreeAims.{Aim}
 use Rattle.fir_leaf.specs.working.TreeValues.{ValuesByPath, leaf_where}
 use Rattle.fir_leaf.specs.working.TreeStores.{PathStore, LeafFacts, path_stored}

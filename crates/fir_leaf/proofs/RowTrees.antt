@@ -1,49 +1,51 @@
--- Short names for small bodies, for their statements over leaves, and for what these store.
-use Rattle.std.proofs.Common.{ℕ, List, [], ◌∷◌, true, false, Option, Some}
-use Rattle.std.specs.Prelude.{codes, slice_index_or}
-use Rattle.fir_base.specs.declared.direction.Direction.TheVariants as direction
-use Rattle.fir_bits.specs.declared.types.NumTy.{NumTy}
-use Rattle.fir_ast.specs.Types.{DataType, uint}
-use Rattle.fir_ast.specs.Statements.{Statement}
-use Rattle.fir_ast.specs.Circuits.{PortTree, ModuleTree}
-use Rattle.fir_meaning.specs.Visibility.{at_head, behind_ports}
-use Rattle.fir_meaning.proofs.SmallTrees.{at, name_at, module_at}
-use Rattle.fir_leaf.specs.working.Terms.{Term, Picks, literal, no_picks, pick, read}
-use Rattle.fir_leaf.specs.working.LeafBlocks.{LeafBlock, exec_all, nothing_stored}
-use Rattle.fir_leaf.specs.working.LeafBlocks as over
+-- What the circuits of texts are over their leaves, what their statements store, and short names for what comes out.
+-- In the texts all widths are written, and no reset is a Reset.
+use Rattle.std.proofs.Common.{ℕ, List, [], ◌∷◌, length, map, Bool, false, Option, Some, None}
+use Rattle.std.specs.Prelude.{slice_index}
+use Rattle.fir_ast.specs.Circuits.{ModuleTree, CircuitTree}
+use Rattle.fir_meaning.specs.LeafPaths.{LeafPath, path_text}
+use Rattle.fir_meaning.specs.ResetJoins.{numbered_module}
+use Rattle.fir_meaning.specs.SizedDeclarations.{NumberedModule, numbered_modules}
+use Rattle.fir_meaning.specs.Terms.{Term, Picks, literal, no_picks, pick, read}
+use Rattle.fir_meaning.specs.LeafBlocks.{LeafBlock, exec_all, nothing_stored}
+use Rattle.fir_meaning.specs.LeafBlocks as over
+use Rattle.fir_meaning.specs.LeafModules.{LeafDeclared, LeafModule}
+use Rattle.fir_meaning.specs.LeafedModules.{leafed_module}
+use Rattle.fir_meaning.proofs.SmallTrees.{at}
+use Rattle.fir_leaf.specs.working.LeafCircuits.{LeafCircuit, depth_of, type_of_leaf}
 use Rattle.fir_leaf.specs.working.ChoiceLaws.{fitted_at}
-use Rattle.fir_leaf.specs.working.LeafedBlocks.{leafed_all}
+use Rattle.fir_leaf.specs.working.Designs.{Design, elaborated, module_of}
+use Rattle.fir_leaf.specs.working.Flattened.{flattened}
 
--- a port of one letter, and its type, in the text
-abbrev pub input : ℕ → List ℕ → DataType → PortTree
-input line name t = record { direction = direction.Input; named = name_at line 11 name; type_place = at line 15; data_type = t }
+-- the modules of a circuit over their leaves, with widths of the numbers, and with which Resets are asynchronous
+abbrev pub modules_with : (ℕ → ℕ) → (LeafPath → Bool) → CircuitTree → List LeafModule
+modules_with widths is_async c =
+    map (λ (m : NumberedModule). leafed_module (record { own = m; widths = widths; is_async = is_async })) (numbered_modules c)
 
-abbrev pub output : ℕ → List ℕ → DataType → PortTree
-output line name t = record { direction = direction.Output; named = name_at line 12 name; type_place = at line 16; data_type = t }
+abbrev pub modules_of : CircuitTree → List LeafModule
+modules_of c = modules_with (λ k. 0) (λ path. false) c
 
-abbrev pub of_bits : ℕ → DataType
-of_bits n = uint (Some n)
+abbrev number_of : Option (ℕ × ModuleTree) → ℕ
+number_of None = 0
+number_of (Some m) = m.0
 
-abbrev pub row : List PortTree → List Statement → ModuleTree
-row ports body = module_at 2 10 (codes "T") ports body
+abbrev pub main_module : CircuitTree → LeafModule
+main_module c = module_of (modules_of c) (number_of (numbered_module 0 c.modules c.named.name))
 
--- the body over the leaves, of which each may be driven
-abbrev pub over_leaves : ModuleTree → LeafBlock
-over_leaves m = leafed_all (m ∷ []) (λ x. true) (behind_ports at_head m.ports) m.body
+-- the design below the main module, and that as one list of leaves
+abbrev pub design_of : CircuitTree → Design
+design_of c = elaborated (length c.modules) (modules_of c) (main_module c)
 
--- unsigned leaves of these widths
-abbrev pub unsigned : List ℕ → ℕ → NumTy
-unsigned widths x = record { signed = false; width = slice_index_or widths x 0 }
+abbrev pub over_leaves : CircuitTree → LeafCircuit
+over_leaves c = flattened (design_of c)
 
--- what the body stores at a leaf, where the leaves have these values, and so many whens stand round their declarations
-abbrev pub stores_within : List ℕ → List ℕ → ModuleTree → List ℕ → ℕ → Option ℕ
-stores_within depths widths m values x =
-    let numbers = λ (y : ℕ). slice_index_or values y 0 in
-    exec_all (unsigned widths) (λ y. slice_index_or depths y 0) numbers (fitted_at (unsigned widths) numbers) (over_leaves m) [] nothing_stored x
+abbrev pub paths_of : LeafCircuit → List (List ℕ)
+paths_of c = map (λ (l : LeafDeclared). path_text l.path) c.leaves
 
--- where no declaration stands in a when
-abbrev pub stores : List ℕ → ModuleTree → List ℕ → ℕ → Option ℕ
-stores widths m values x = stores_within [] widths m values x
+-- what the statements store at the leaves of these numbers, where all leaves have these values
+abbrev pub stores : LeafCircuit → List ℕ → List ℕ → List (Option ℕ)
+stores c values =
+    map (exec_all (type_of_leaf c) (depth_of c) (slice_index values) (fitted_at (type_of_leaf c) (slice_index values)) c.body [] nothing_stored)
 
 -- the leaf of that number takes another one
 abbrev pub takes : ℕ → ℕ → ℕ → ℕ → over.LeafStatement

@@ -2,8 +2,8 @@
 use Rattle.std.proofs.Common.{◌≡◌, ℕ, zero, suc, ◌+◌, ◌^◌, ◌<◌, ◌≤◌, List, [], ◌∷◌, length, map, Bool, true, false, ◌&&◌, Option, Some, None, nat_eq, nat_lt, nat_le, is_none, refl, ap, arith, ⊎_elim}
 use Rattle.std.proofs.lemmas.Bool.{cases_lt}
 use Rattle.fir_base.specs.Ticks.{Tick, FitEach, AreClocks}
-use Rattle.fir_leaf.specs.working.TermValues.{Env}
-use Rattle.fir_leaf.specs.working.LeafModules.{LeafType, a_clock, leaf_at, number}
+use Rattle.fir_meaning.specs.TermValues.{Env}
+use Rattle.fir_meaning.specs.LeafModules.{LeafType, a_clock, leaf_at, number}
 use Rattle.fir_leaf.specs.working.LeafCircuits.{LeafCircuit, role_of}
 use Rattle.fir_leaf.specs.working.LeafStates.{shape}
 use Rattle.fir_leaf.specs.working.LeafSettled.{Settled, Shows, clock_shown, number_shown}

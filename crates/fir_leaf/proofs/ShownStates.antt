@@ -6,7 +6,7 @@ use Rattle.std.proofs.lemmas.List.{length-map, get_or-map}
 use Rattle.fir_base.specs.Lists.{In}
 use Rattle.fir_base.proofs.Members.{in_either, in_flat_map_from, in_map_from}
 use Rattle.fir_meaning.specs.LeafPaths.{LeafPath}
-use Rattle.fir_leaf.specs.working.LeafModules.{LeafArray, LeafDeclared, LeafModule, leaf_at}
+use Rattle.fir_meaning.specs.LeafModules.{LeafArray, LeafDeclared, LeafModule, leaf_at}
 use Rattle.fir_leaf.specs.working.Designs.{Item, drive, when, instance, Items, done, then, Design, made_of}
 use Rattle.fir_leaf.specs.working.DesignPaths.{instance_path}
 use Rattle.fir_leaf.specs.working.DesignStates.{array_at, no_array}

@@ -8,9 +8,9 @@ use Rattle.fir_base.specs.Ticks.{Tick, FitEach}
 use Rattle.fir_ast.specs.declared.statements.ReadUnderWrite.{ReadUnderWrite}
 use Rattle.fir_ast.specs.declared.statements.ReadUnderWrite.TheVariants.{Old, New, Undefined}
 use Rattle.fir_meaning.proofs.FittedValues.{at_width_below}
-use Rattle.fir_leaf.specs.working.Terms.{Term}
-use Rattle.fir_leaf.specs.working.TermValues.{Env, clock_of, eval, is_true}
-use Rattle.fir_leaf.specs.working.LeafModules.{LeafReset, LeafType, Reading, Role, Writing, a_clock, computed, leaf_at, number, number_type, pipe, reading, register, sink, source}
+use Rattle.fir_meaning.specs.Terms.{Term}
+use Rattle.fir_meaning.specs.TermValues.{Env, clock_of, eval, is_true}
+use Rattle.fir_meaning.specs.LeafModules.{LeafReset, LeafType, Reading, Role, Writing, a_clock, computed, leaf_at, number, number_type, pipe, reading, register, sink, source}
 use Rattle.fir_leaf.specs.working.LeafCircuits.{LeafCircuit, depth_of, role_of, type_of_leaf}
 use Rattle.fir_leaf.specs.working.LeafStates.{array_of, array_width, look, shape, widths_in, widths_of}
 use Rattle.fir_leaf.specs.working.Memories.{addresses, are_met, array_next, arrays_next, begins_at, begins_from, has_edge, piped, read_word, word_after, word_before, word_behind, word_written, writes_at}

@@ -7,8 +7,8 @@ use Rattle.fir_meaning.specs.LeafPaths.{LeafPath}
 use Rattle.fir_meaning.specs.ComponentTypes.{typed_scope}
 use Rattle.fir_meaning.specs.Visibility.{declarations}
 use Rattle.fir_meaning.proofs.WellTypedCircuits.{well_typed}
-use Rattle.fir_leaf.specs.working.LeafModules.{LeafDeclared, leaf_at, may_drive, number_type}
-use Rattle.fir_leaf.specs.working.LeafedModules.{module_leaves}
+use Rattle.fir_meaning.specs.LeafModules.{LeafDeclared, leaf_at, may_drive, number_type}
+use Rattle.fir_meaning.specs.LeafedModules.{module_leaves}
 use Rattle.fir_leaf.specs.working.TreeStores.{same_path}
 use Rattle.fir_leaf.specs.working.TableLaws.{SayTheTable, TableHasFacts, leaf_on, table_facts}
 use Rattle.fir_leaf.proofs.ClearScopes.{fine_module}

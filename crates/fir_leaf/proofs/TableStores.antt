@@ -12,13 +12,13 @@ use Rattle.fir_meaning.specs.ComponentTypes.{typed_scope}
 use Rattle.fir_meaning.specs.Visibility.{declarations}
 use Rattle.fir_meaning.specs.SizedDeclarations.{numbered_modules}
 use Rattle.fir_meaning.proofs.WellTypedCircuits.{well_typed}
-use Rattle.fir_leaf.specs.working.Terms.{Term}
-use Rattle.fir_leaf.specs.working.TermValues.{Holds}
-use Rattle.fir_leaf.specs.working.LeafBlocks.{LeafBlock, exec_all, nothing_stored}
+use Rattle.fir_meaning.specs.Terms.{Term}
+use Rattle.fir_meaning.specs.TermValues.{Holds}
+use Rattle.fir_meaning.specs.LeafBlocks.{LeafBlock, exec_all, nothing_stored}
 use Rattle.fir_leaf.specs.working.ChoiceLaws.{fitted_at}
-use Rattle.fir_leaf.specs.working.LeafModules.{LeafDeclared, depth_at, leaf_at, no_leaf}
-use Rattle.fir_leaf.specs.working.LeafedBlocks.{leafed_all}
-use Rattle.fir_leaf.specs.working.LeafedModules.{Scene, behind_all_ports, driven_leaves, leafed_module, module_leaves}
+use Rattle.fir_meaning.specs.LeafModules.{LeafDeclared, depth_at, leaf_at, no_leaf}
+use Rattle.fir_meaning.specs.LeafedBlocks.{leafed_all}
+use Rattle.fir_meaning.specs.LeafedModules.{Scene, behind_all_ports, driven_leaves, leafed_module, module_leaves}
 use Rattle.fir_leaf.specs.working.LeafNumbers.{TermWithin, BlockWithin}
 use Rattle.fir_leaf.specs.working.TreeValues.{ValuesByPath}
 use Rattle.fir_leaf.specs.working.TreeStores.{LeafFacts, exec_tree_all}

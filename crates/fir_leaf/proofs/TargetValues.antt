@@ -9,12 +9,12 @@ use Rattle.fir_meaning.specs.TypedScopes.{TypedScope}
 use Rattle.fir_meaning.proofs.FreshFields.{HasFreshFields}
 use Rattle.fir_meaning.proofs.LeafSteps.{path_of}
 use Rattle.fir_leaf.specs.working.LeafLaws.{numbered, path_at}
-use Rattle.fir_leaf.specs.working.Leafed.{absent_type, leaf_term, leaf_terms, target_terms, first_term, muxes}
+use Rattle.fir_meaning.specs.Leafed.{absent_type, leaf_term, leaf_terms, target_terms, first_term, muxes}
 use Rattle.fir_leaf.specs.working.Standing.{Stands, leaf_from}
-use Rattle.fir_leaf.specs.working.Targets.{Target}
-use Rattle.fir_leaf.specs.working.Terms as over
-use Rattle.fir_leaf.specs.working.Terms.{Term, Picks}
-use Rattle.fir_leaf.specs.working.TermValues.{eval, leaf_of, value_at}
+use Rattle.fir_meaning.specs.Targets.{Target}
+use Rattle.fir_meaning.specs.Terms as over
+use Rattle.fir_meaning.specs.Terms.{Term, Picks}
+use Rattle.fir_meaning.specs.TermValues.{eval, leaf_of, value_at}
 use Rattle.fir_leaf.specs.working.TreeAims.{Aim}
 use Rattle.fir_leaf.specs.working.TreeValues.{TypesByPath, ValuesByPath, value_where, type_where, leaf_where, aim_value}
 use Rattle.fir_leaf.specs.working.TypeParts.{ground_at}

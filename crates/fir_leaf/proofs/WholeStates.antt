@@ -8,8 +8,8 @@ use Rattle.std.proofs.lemmas.List.FromFn.{get_or-range_with_len, length-range_wi
 use Rattle.fir_base.specs.Lists.{In}
 use Rattle.fir_base.proofs.Members.{in_flat_map, in_left, in_map, in_right}
 use Rattle.fir_meaning.specs.LeafPaths.{LeafPath}
-use Rattle.fir_leaf.specs.working.LeafBlocks.{HeldInstance}
-use Rattle.fir_leaf.specs.working.LeafModules.{LeafArray, LeafDeclared, LeafModule, Role, computed, leaf_at, no_leaf, pipe, reading, register, sink, source}
+use Rattle.fir_meaning.specs.LeafBlocks.{HeldInstance}
+use Rattle.fir_meaning.specs.LeafModules.{LeafArray, LeafDeclared, LeafModule, Role, computed, leaf_at, no_leaf, pipe, reading, register, sink, source}
 use Rattle.fir_leaf.specs.working.Designs.{Item, drive, when, instance, Items, done, then, Design, made_of}
 use Rattle.fir_leaf.specs.working.DesignPaths.{instance_path}
 use Rattle.fir_leaf.specs.working.DesignStates.{array_at, no_array}

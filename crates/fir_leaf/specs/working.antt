@@ -1,23 +1,7 @@
--- What no clause of `run` reads yet: circuits over ground leaves, and what they mean.
--- Expressions and statements over numbered leaves.
-pub mod Terms
-pub mod TermValues
-pub mod TermReads
-pub mod LeafBlocks
--- Which statement is live for a leaf, and which choices leave it undriven.
-pub mod Choices
-pub mod UndrivenChoices
+-- What no clause of `run` reads yet: what circuits over ground leaves mean.
+-- The choice that values make, and what leaves depend on.
 pub mod ValueChoices
 pub mod ChoiceLaws
--- The leaf view of a module, made from its tree.
-pub mod LeafModules
-pub mod Targets
-pub mod LeafPairs
-pub mod Leafed
-pub mod LeafedBlocks
-pub mod LeafMemories
-pub mod LeafedModules
-pub mod LeafFaults
 pub mod Dependence
 -- What the tree of a module means by paths, and that the numbers mean the same.
 pub mod TypeParts

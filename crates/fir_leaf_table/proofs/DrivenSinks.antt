@@ -17,10 +17,10 @@ use Rattle.fir_meaning.specs.SizedDeclarations.{numbered_modules}
 use Rattle.fir_meaning.specs.TypeGroup.{type_faults}
 use Rattle.fir_meaning.specs.Visibility.{declarations}
 use Rattle.fir_meaning.proofs.WellTypedCircuits.{well_typed}
-use Rattle.fir_leaf.specs.working.LeafedModules.{Scene, module_leaves}
+use Rattle.fir_meaning.specs.LeafedModules.{Scene, module_leaves}
 use Rattle.fir_leaf.specs.working.LeafLaws.{scope_paths}
-use Rattle.fir_leaf.specs.working.LeafMemories.{leaves_of_data}
-use Rattle.fir_leaf.specs.working.LeafModules.{LeafDeclared, may_drive}
+use Rattle.fir_meaning.specs.LeafMemories.{leaves_of_data}
+use Rattle.fir_meaning.specs.LeafModules.{LeafDeclared, may_drive}
 use Rattle.fir_leaf.specs.working.TableLaws.{IsLeafOf}
 use Rattle.fir_leaf.proofs.ClearScopes.{fine_module}
 use Rattle.fir_leaf.proofs.DeclaredLeaves.{leaves_declared, own_module}

@@ -1,5 +1,5 @@
 -- Leaves that are pushed field by field.
-use Rattle.std.proofs.Common.{◌≡◌, ℕ, ◌+◌, ◌<◌, ◌≤◌, List, [], ◌++◌, length, get_or, map, Bool, refl, sym, ap, ◌∙◌, subst, append_assoc}
+use Rattle.std.proofs.Common.{◌≡◌, ℕ, ◌+◌, List, [], ◌++◌, length, map, Bool, refl, sym, ap, ◌∙◌, subst, append_assoc}
 use Rattle.std.proofs.lemmas.List.{append-nil, map-append}
 use Rattle.fir_ast.specs.declared.place.Place.{Place}
 use Rattle.fir_ast.specs.Circuits.{CircuitTree}
@@ -10,16 +10,13 @@ use Rattle.fir_meaning.specs.TypeKinds.{bare, bare_fields}
 use Rattle.fir_meaning.specs.TypeLeaves.{field_leaves, turned}
 use Rattle.fir_meaning.specs.WidthExpressions.{Widths}
 use Rattle.fir_meaning.specs.WidthRules.{AreWidths}
-use Rattle.fir_type_table.specs.declared.entry.Member.{Member}
-use Rattle.fir_type_table.specs.working.Tables.{member_fields, type_at}
-use Rattle.fir_type_table.proofs.MemberLists.{members_end, members_from, members_next}
 use Rattle.fir_width.specs.working.DeclaredWidths.{leaf_widths}
 use Rattle.fir_width.specs.working.FlatWidths.{flat, flat_fields}
 use Rattle.fir_width.specs.working.Numbered.{Stands}
 use Rattle.fir_width.proofs.FlatShapes.{flat_counted}
 use Rattle.fir_width.proofs.Standing.{stands_left, stands_right}
-use Rattle.fir_leaf.specs.working.LeafModules.{LeafType}
-use Rattle.fir_leaf.specs.working.LeafedModules.{held_field_types, held_types}
+use Rattle.fir_meaning.specs.LeafModules.{LeafType}
+use Rattle.fir_meaning.specs.LeafedModules.{held_field_types, held_types}
 use Rattle.fir_leaf_table.specs.declared.type_leaves.TypeLeaf.{TypeLeaf as LeafOfCode}
 use Rattle.fir_leaf_table.specs.working.PushedTypeLeaves.{Pushes}
 use Rattle.fir_leaf_table.specs.working.Seen.{type_seen}
@@ -75,7 +72,7 @@ sized_next c w p f x begins t rest number next done own whole moved held left =
           ∙ ap (λ ss. done ++ held_field_types w ss) (sym of.2) ∙ left.same;
     }
 
-fields_next : (c : CircuitTree) (flip : Bool) (whole : Fields) (p : Place) (f : Bool) (x : List ℕ) (begins : Place) (t : DataType) (rest : Fields)
+pub fields_next : (c : CircuitTree) (flip : Bool) (whole : Fields) (p : Place) (f : Bool) (x : List ℕ) (begins : Place) (t : DataType) (rest : Fields)
     (first number next : ℕ) (old now new : List LeafOfCode) → next ≡ number + shared_count t
     → PushesSoFar c flip whole (field p f x begins t rest) first number old now → Pushes c (turned flip f) t number now new
     → PushesSoFar c flip whole rest first next old new
@@ -95,7 +92,7 @@ fields_next c flip whole p f x begins t rest first number next old now new moved
       (λ s same stood. one.are.holds s w same stood are) (so_far.holds ss w shape stands are));
 }
 
-fields_end : (c : CircuitTree) (flip : Bool) (whole : Fields) (first number : ℕ) (old now : List LeafOfCode)
+pub fields_end : (c : CircuitTree) (flip : Bool) (whole : Fields) (first number : ℕ) (old now : List LeafOfCode)
     → PushesSoFar c flip whole no_fields first number old now → Pushes c flip (bundle whole) first old now
 fields_end c flip whole first number old now so_far = record {
   more = so_far.more;
@@ -110,22 +107,3 @@ fields_end c flip whole first number old now so_far = record {
         ∙ ap (held_types w) (sym of.1);
   };
 }
-
--- the members of a bundle
-module _ (c : CircuitTree) (flip : Bool) (ts : List DataType) (ms : List Member) (first : ℕ) (old : List LeafOfCode) where
-  pub members_pushed : (i number next : ℕ) (m : Member) (now new : List LeafOfCode) → i < length ms → m ≡ get_or ms i m
-      → next ≡ number + shared_count (type_at ts m.ty.number)
-      → PushesSoFar c flip (member_fields ts ms) (members_from ts ms i) first number old now
-      → Pushes c (turned flip m.flip) (type_at ts m.ty.number) number now new
-      → PushesSoFar c flip (member_fields ts ms) (members_from ts ms (i + 1)) first next old new
-  members_pushed i number next m now new within at moved so_far one =
-      fields_next c flip (member_fields ts ms) m.place m.flip m.name m.type_place (type_at ts m.ty.number) (members_from ts ms (i + 1)) first number
-      next old now
-      new moved (subst (λ fs. PushesSoFar c flip (member_fields ts ms) fs first number old now) (members_next ts ms i m within at) so_far) one
-
-  pub all_members : (i number : ℕ) (now : List LeafOfCode) → length ms ≤ i
-      → PushesSoFar c flip (member_fields ts ms) (members_from ts ms i) first number old now
-      → Pushes c flip (bundle (member_fields ts ms)) first old now
-  all_members i number now past so_far =
-      fields_end c flip (member_fields ts ms) first number old now
-      (subst (λ fs. PushesSoFar c flip (member_fields ts ms) fs first number old now) (members_end ts ms i past) so_far)

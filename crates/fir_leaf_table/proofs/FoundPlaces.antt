@@ -1,57 +1,81 @@
--- What the code finds of an instance's module: it is there, and so its ports stand where the code says.
-use Rattle.std.proofs.Common.{◌≡◌, ℕ, ◌<◌, List, length, map, Option, Some, None, refl, sym, ap, ◌∙◌, subst, Vec, Global}
-use Rattle.std.specs.Prelude.{option_map, slice_get}
-use Rattle.std.proofs.lemmas.Option.{none-some, same_Some, slice_get_within}
-use Rattle.fir_ast.specs.declared.circuit.Module.{Module}
+-- The places of the ports of all modules, and those that are found of an instance's module.
+use Rattle.std.proofs.Common.{◌≡◌, ℕ, ◌+◌, ◌<◌, ◌≤◌, List, [], ◌∷◌, ◌++◌, length, map, take, Option, Some, None, refl, sym, ap, ◌∙◌, subst, Vec, Global}
+use Rattle.std.specs.Prelude.{slice_get}
+use Rattle.std.proofs.lemmas.List.{map-append, take_all, take_more}
+use Rattle.std.proofs.lemmas.Option.{same_Some, slice_get_within, get_or_from_slice_get}
+use Rattle.fir_base.proofs.Elements.{beside}
 use Rattle.fir_ast.specs.declared.place.Place.{Place}
-use Rattle.fir_ast.specs.Circuits.{CircuitTree, ModuleTree}
-use Rattle.fir_ast.specs.View.{module_of, port_of}
+use Rattle.fir_ast.specs.Circuits.{CircuitTree, ModuleTree, PortTree}
+use Rattle.fir_ast.specs.Types.{DataType}
 use Rattle.fir_meaning.specs.ResetJoins.{numbered_module}
+use Rattle.fir_meaning.specs.TypedScopes.{Known}
+use Rattle.fir_reset.proofs.PortsInFront.{port_known, ports_first}
 use Rattle.fir_type_table.specs.working.Tables.{types_of}
-use Rattle.fir_types.specs.declared.found.Found.{Found}
-use Rattle.fir_leaf.specs.working.LeafedModules.{Scene}
-use Rattle.fir_leaf_table.specs.declared.frame.Frame.{Frame}
-use Rattle.fir_leaf_table.specs.working.Frames.{Frames}
-use Rattle.fir_leaf_table.specs.working.PortPlaces.{AreThose, HaveTypes, IsNumberOf, places_of}
-use Rattle.fir_leaf_table.proofs.InstanceModules.{HasModuleAt, module_there}
+use Rattle.fir_types.specs.declared.findings.Findings.{Findings}
+use Rattle.fir_width.proofs.CircuitWalks.{FoundOf}
+use Rattle.fir_leaf_table.specs.working.ModulePlaces.{ArePlacesOf, places_of}
+use Rattle.fir_leaf_table.specs.working.PortPlaces.{AreThose, HaveTypes, IsNumberOf}
+use Rattle.fir_leaf_table.proofs.InstanceModules.{module_at}
 
-module _ (frame : Frame) (c : CircuitTree) (s : Scene) (name : List ℕ) (number : ℕ) (frames : Frames frame c s) where
-  -- the module of that number is the one of the name
-  record Is (child : ℕ × ModuleTree) : Type 0 where
-    named : numbered_module 0 c.modules name ≡ Some child
-    has : HasModuleAt frame number child.1
+-- the types of a module's ports stand in front of all that it declares
+module _ (c : CircuitTree) (found : Findings) (k : ℕ) (m : ModuleTree) (of : FoundOf c found k m) where
+  abbrev type_known : Known → Option DataType
+  type_known k = k.data_type
 
-  there : (o : Option (ℕ × ModuleTree)) → numbered_module 0 c.modules name ≡ o → IsNumberOf (Some number) o → (child : ℕ × ModuleTree) × Is child
-  there None e is = absurd is
-  there (Some child) e is =
-      let at : numbered_module 0 c.modules name ≡ Some (number, child.1) = e ∙ ap (λ (k : ℕ). Some (k, child.1)) (sym is) in
-      (child, record { named = e; has = module_there frame c s name number child.1 frames at })
+  ports_typed : (ps : List PortTree) → map type_known (map port_known ps) ≡ map (λ (p : PortTree). Some p.data_type) ps
+  ports_typed [] = refl
+  ports_typed (p ∷ ps) = ap (λ l. Some p.data_type ∷ l) (ports_typed ps)
 
-  module _ (is : IsNumberOf (Some number) (numbered_module 0 c.modules name)) where
-    found : (child : ℕ × ModuleTree) × Is child
-    found = there (numbered_module 0 c.modules name) refl is
+  pub ports_in_front : HaveTypes (types_of found.table) m.ports of.declared.items
+  ports_in_front =
+      let known = (ports_first c.modules m).known in (
+        map type_known known.rest,
+        of.types ∙ ap (map type_known) known.is ∙ map-append type_known (map port_known m.ports) known.rest
+            ∙ ap (λ l. l ++ map type_known known.rest) (ports_typed m.ports),
+      )
 
-    pub tree_within : number < length frame.fitted.now.modules.items
-    tree_within = by (slice_get frame.fitted.now.modules.items number) refl found.1.has.tree
-      where
-        by : (o : Option Module) → slice_get frame.fitted.now.modules.items number ≡ o → option_map module_of o ≡ Some found.0.1
-            → number < length frame.fitted.now.modules.items
-        by None e h = absurd (none-some found.0.1 h)
-        by (Some m) e h = slice_get_within frame.fitted.now.modules.items number m e
+abbrev items_of : Vec Place Global → List Place
+items_of v = v.items
 
-    pub types_within : number < length frame.findings.now.declared.items
-    types_within = slice_get_within frame.findings.now.declared.items number found.1.has.declared found.1.has.there
+abbrev port_places : ModuleTree → List Place
+port_places m = places_of m.ports
 
-    pub places_found : (child : Module) (declared : Vec (Option Found) Global) (places : List Place)
-        → slice_get frame.fitted.now.modules.items number ≡ Some child → slice_get frame.findings.now.declared.items number ≡ Some declared
-        → (HaveTypes (types_of frame.findings.now.table) (map port_of child.ports.items) declared.items → places ≡ places_of (map port_of child.ports.items))
-        → AreThose places (numbered_module 0 c.modules name)
-    places_found child declared places at types those =
-        let h = found.1.has in
-        let same : module_of child ≡ found.0.1 = same_Some (module_of child) found.0.1 (sym (ap (option_map module_of) at) ∙ h.tree) in
-        let own : h.declared ≡ declared = same_Some h.declared declared (sym h.there ∙ types) in
-        let ports : map port_of child.ports.items ≡ found.0.1.ports = ap (λ (m : ModuleTree). m.ports) same in
-        let typed : HaveTypes (types_of frame.findings.now.table) (map port_of child.ports.items) declared.items =
-        subst (λ (v : Vec (Option Found) Global). HaveTypes (types_of frame.findings.now.table) (map port_of child.ports.items) v.items) own
-        (subst (λ ps. HaveTypes (types_of frame.findings.now.table) ps h.declared.items) (sym ports) h.types) in
-        subst (AreThose places) (sym found.1.named) (those typed ∙ ap places_of ports)
+-- the places of one module more, and of all
+pub all_places_more : (modules : List ModuleTree) (k : ℕ) (m : ModuleTree) (old : List (Vec Place Global)) (new : Vec Place Global)
+    → slice_get modules k ≡ Some m → new.items ≡ places_of m.ports → ArePlacesOf (take k modules) old → ArePlacesOf (take (k + 1) modules) (old ++ new ∷ [])
+all_places_more modules k m old new at those so_far =
+    let within = slice_get_within modules k m at in
+    let more : take (k + 1) modules ≡ take k modules ++ m ∷ [] =
+    take_more modules k m within ∙ ap (λ x. take k modules ++ x ∷ []) (get_or_from_slice_get modules k m m at) in
+    map-append items_of old (new ∷ []) ∙ ap (λ l. l ++ new.items ∷ []) so_far
+    ∙ ap (λ l. map port_places (take k modules) ++ l ∷ []) those
+    ∙ sym (map-append port_places (take k modules) (m ∷ [])) ∙ ap (map port_places) (sym more)
+
+pub all_places_end : (modules : List ModuleTree) (k : ℕ) (all : List (Vec Place Global)) → length modules ≤ k → ArePlacesOf (take k modules) all
+    → ArePlacesOf modules all
+all_places_end modules k all past so_far = subst (λ ms. ArePlacesOf ms all) (take_all k modules past) so_far
+
+module _ (modules : List ModuleTree) (all : List (Vec Place Global)) (are : ArePlacesOf modules all) (name : List ℕ) (number : ℕ) where
+  -- the module of that number has places, which are those of its ports
+  record HasPlaces (o : Option (ℕ × ModuleTree)) : Type 0 where
+    places : Vec Place Global
+    at : slice_get all number ≡ Some places
+    those : AreThose places.items o
+
+  has_places : (o : Option (ℕ × ModuleTree)) → numbered_module 0 modules name ≡ o → IsNumberOf (Some number) o → HasPlaces o
+  has_places None e is = absurd is
+  has_places (Some child) e is =
+      let at = module_at modules name number child.1 (e ∙ ap (λ (k : ℕ). Some (k, child.1)) (sym is)) in
+      let own = beside items_of port_places all modules are number child.1 at in
+      record { places = own.0; at = own.1; those = own.2 }
+
+  module _ (is : IsNumberOf (Some number) (numbered_module 0 modules name)) where
+    has : HasPlaces (numbered_module 0 modules name)
+    has = has_places (numbered_module 0 modules name) refl is
+
+    pub places_within : number < length all
+    places_within = slice_get_within all number has.places has.at
+
+    pub places_there : (places : Vec Place Global) → slice_get all number ≡ Some places → AreThose places.items (numbered_module 0 modules name)
+    places_there places at =
+        subst (λ (v : Vec Place Global). AreThose v.items (numbered_module 0 modules name)) (same_Some has.places places (sym has.at ∙ at)) has.those

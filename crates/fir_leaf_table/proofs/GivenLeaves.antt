@@ -7,8 +7,8 @@ use Rattle.fir_ast.specs.Types.{DataType}
 use Rattle.fir_meaning.specs.Costs.{leaves_where}
 use Rattle.fir_meaning.specs.TypeLeaves.{TypeLeaf, type_leaves}
 use Rattle.fir_leaf.specs.declared.node.Node.{Node}
-use Rattle.fir_leaf.specs.working.LeafedModules.{Declared, leaves_from}
-use Rattle.fir_leaf.specs.working.LeafModules.{LeafDeclared, LeafType, Role}
+use Rattle.fir_meaning.specs.LeafedModules.{Declared, leaves_from}
+use Rattle.fir_meaning.specs.LeafModules.{LeafDeclared, LeafType, Role}
 use Rattle.fir_leaf.proofs.LeafPlaces.{leaves_counted}
 use Rattle.fir_leaf_table.specs.declared.giver.Giver.{Giver}
 use Rattle.fir_leaf_table.specs.declared.leaf.Leaf.{Leaf}

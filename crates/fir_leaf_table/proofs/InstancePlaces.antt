@@ -12,12 +12,13 @@ use Rattle.fir_meaning.specs.TypeLeaves.{TypeLeaf, field_leaves}
 use Rattle.fir_reset.proofs.FreshScopes.{sound}
 use Rattle.fir_reset.proofs.ModuleNumbers.{is_numbered}
 use Rattle.fir_leaf.specs.declared.node.Node.{Node}
-use Rattle.fir_leaf.specs.working.LeafedModules.{instance_place, instance_role}
-use Rattle.fir_leaf.specs.working.LeafMemories.{leaves_of_data}
+use Rattle.fir_meaning.specs.LeafedModules.{instance_place, instance_role}
+use Rattle.fir_meaning.specs.LeafMemories.{leaves_of_data}
 use Rattle.fir_leaf_table.specs.declared.giver.Giver.TheVariants as giver
 use Rattle.fir_leaf_table.specs.declared.places.Places.{Places}
 use Rattle.fir_leaf_table.specs.working.Givers.{place_of}
-use Rattle.fir_leaf_table.specs.working.PortPlaces.{AreThose, places_of}
+use Rattle.fir_leaf_table.specs.working.ModulePlaces.{places_of}
+use Rattle.fir_leaf_table.specs.working.PortPlaces.{AreThose}
 use Rattle.fir_leaf_table.proofs.GivenLeaves.{Agrees}
 use Rattle.fir_leaf_table.proofs.PortLists.{all_places, mapped_at}
 

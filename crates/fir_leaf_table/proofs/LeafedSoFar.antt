@@ -8,11 +8,11 @@ use Rattle.fir_base.specs.Lists.{In}
 use Rattle.fir_base.proofs.Elements.{get_behind, get_left}
 use Rattle.fir_ast.specs.Circuits.{CircuitTree, ModuleTree}
 use Rattle.fir_meaning.specs.SizedDeclarations.{NumberedModule, Numbering, behind_module, first_numbers, modules_from}
-use Rattle.fir_leaf.specs.working.LeafedModules.{Scene, leafed_module}
+use Rattle.fir_meaning.specs.LeafedModules.{Scene, leafed_module}
 use Rattle.fir_leaf_table.specs.declared.leaf_module.LeafModule.{LeafModule}
 use Rattle.fir_leaf_table.specs.working.Leafed.{AreLeafed}
 use Rattle.fir_leaf_table.specs.working.ModuleWalks.{AreWithinLimit, IsWithinLimit}
-use Rattle.fir_leaf_table.specs.working.Scenes.{IsSceneOf}
+use Rattle.fir_meaning.specs.Scenes.{IsSceneOf}
 use Rattle.fir_leaf_table.specs.working.Seen.{HasView}
 
 abbrev pub Views : CircuitTree → ℕ → LeafModule → Type 0

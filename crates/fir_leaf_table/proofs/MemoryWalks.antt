@@ -11,9 +11,9 @@ use Rattle.fir_meaning.specs.TypeLeaves.{TypeLeaf}
 use Rattle.fir_meaning.specs.Visibility.{Before}
 use Rattle.fir_ground.specs.working.DeclarationDrivers.{DriverMeant, drivers_seen}
 use Rattle.fir_leaf.specs.declared.node.Node.{Node}
-use Rattle.fir_leaf.specs.working.LeafedModules.{Scene, held_types, memory_arrays, memory_before}
-use Rattle.fir_leaf.specs.working.LeafMemories.{LeafMemory, arrays_from, clocks_from, count_of_data, leaves_of_data, memory_behind, memory_declared}
-use Rattle.fir_leaf.specs.working.LeafModules.{LeafType}
+use Rattle.fir_meaning.specs.LeafedModules.{Scene, held_types, memory_arrays, memory_before}
+use Rattle.fir_meaning.specs.LeafMemories.{LeafMemory, arrays_from, clocks_from, count_of_data, leaves_of_data, memory_behind, memory_declared}
+use Rattle.fir_meaning.specs.LeafModules.{LeafType}
 use Rattle.fir_leaf.proofs.LeafPlaces.{leaves_counted}
 use Rattle.fir_leaf_table.specs.declared.leaf_module.MemoryClocks.{MemoryClocks}
 use Rattle.fir_leaf_table.specs.declared.memory.Memory.{Memory}

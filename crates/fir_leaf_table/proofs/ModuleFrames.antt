@@ -15,11 +15,12 @@ use Rattle.fir_names.proofs.ModulesThere.{instance_number}
 use Rattle.fir_types.specs.declared.findings.Findings.{Findings}
 use Rattle.fir_types.specs.working.TypedModules.{IsTyped}
 use Rattle.fir_types.specs.working.Walked.{IsOfModule}
-use Rattle.fir_leaf.specs.working.LeafedModules.{Scene}
+use Rattle.fir_meaning.specs.LeafedModules.{Scene}
 use Rattle.fir_width.proofs.CircuitWalks.{found_of, own}
 use Rattle.fir_leaf_table.specs.declared.frame.Frame.{Frame}
 use Rattle.fir_leaf_table.specs.working.Frames.{Frames}
-use Rattle.fir_leaf_table.specs.working.Scenes.{IsSceneOf}
+use Rattle.fir_leaf_table.specs.working.ModulePlaces.{ArePlacesOf}
+use Rattle.fir_meaning.specs.Scenes.{IsSceneOf}
 
 module _ (c : CircuitTree) (found : Findings) (names : HasNames c) (typed : IsTyped c found) (k : ℕ) (m : ModuleTree)
     (at : slice_get c.modules k ≡ Some m) where
@@ -30,8 +31,9 @@ module _ (c : CircuitTree) (found : Findings) (names : HasNames c) (typed : IsTy
 
   pub framed : (frame : Frame) → circuit_of frame.fitted.now ≡ c → frame.findings.now ≡ found → frame.number ≡ k
       → Tabulates (module_names c) frame.names.now (declarations m) → frame.declared.now ≡ (found_of c found typed k m at).declared.items
-      → frame.first_leaves.now ≡ (found_of c found typed k m at).leaves.items → (s : Scene) → IsSceneOf c k s → Frames frame c s
-  framed frame circuit findings number tabulated declared leaves s scene =
+      → frame.first_leaves.now ≡ (found_of c found typed k m at).leaves.items → ArePlacesOf c.modules frame.port_places.now → (s : Scene)
+      → IsSceneOf c k s → Frames frame c s
+  framed frame circuit findings number tabulated declared leaves places s scene =
       let f = found_of c found typed k m at in
       let here = own c found names typed k m at in
       let same : s.own ≡ here.0 = same_Some s.own here.0 (sym scene.own ∙ here.1) in
@@ -45,5 +47,6 @@ module _ (c : CircuitTree) (found : Findings) (names : HasNames c) (typed : IsTy
         modules = ap (λ (n : NumberedModule). n.modules) same ∙ here.2;
         names = rw inside (of_module frame.names.now tabulated);
         types = rw (findings, declared, inside) f.types;
+        port_places = places;
         first_leaves = rw (number, leaves) f.first;
       }

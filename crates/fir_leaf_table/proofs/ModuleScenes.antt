@@ -9,7 +9,7 @@ use Rattle.fir_meaning.specs.SizedDeclarations.{NumberedModule, Numbering, behin
 use Rattle.fir_meaning.specs.TypeGroup.{type_faults}
 use Rattle.fir_meaning.specs.working.WidthLaws.{FitsAll}
 use Rattle.fir_reset.specs.working.Inferred.{AreInferred}
-use Rattle.fir_leaf_table.specs.working.Scenes.{HasScenes}
+use Rattle.fir_meaning.specs.Scenes.{HasScenes}
 use Rattle.fir_leaf_table.proofs.ResetPaths.{are_resets, is_async_in}
 
 -- the module of a number with the numbers of its leaves

@@ -12,7 +12,8 @@ use Rattle.fir_meaning.specs.TypeLeaves.{leaf_count}
 use Rattle.fir_type_table.specs.working.Saturated.{saturated}
 use Rattle.fir_types.specs.declared.found.Found.{Found}
 use Rattle.fir_types.specs.working.Seen.{seen}
-use Rattle.fir_leaf_table.specs.working.PortPlaces.{HaveTypes, places_of}
+use Rattle.fir_leaf_table.specs.working.ModulePlaces.{places_of}
+use Rattle.fir_leaf_table.specs.working.PortPlaces.{HaveTypes}
 
 module _ (ts : List DataType) (ports : List Port) (found : List (Option Found)) (types : HaveTypes ts (map port_of ports) found) where
   abbrev typed : PortTree → Option DataType

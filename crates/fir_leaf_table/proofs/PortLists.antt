@@ -14,7 +14,7 @@ use Rattle.fir_meaning.specs.TypeLeaves.{TypeLeaf, field_leaves, type_leaves, un
 use Rattle.fir_meaning.proofs.FreshFields.{field_names, AreFresh}
 use Rattle.fir_reset.proofs.PortLeaves.{port_among}
 use Rattle.fir_leaf.proofs.LeafPlaces.{leaves_counted}
-use Rattle.fir_leaf_table.specs.working.PortPlaces.{places_of}
+use Rattle.fir_leaf_table.specs.working.ModulePlaces.{places_of}
 
 -- the port of a name, where no other has it
 port_found : (ps : List PortTree) (p : PortTree) (q : Place) (path : LeafPath) → AreFresh (port_fields ps) → In ps p

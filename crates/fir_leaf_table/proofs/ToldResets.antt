@@ -21,10 +21,10 @@ use Rattle.fir_types.specs.working.Walked.{Begins}
 use Rattle.fir_reset.specs.working.Inferred.{leaf_number}
 use Rattle.fir_ground.specs.working.ResetKinds.{KindMeant, all_there, asynchronous_kind, inferred_by, inferred_kind, kind_by, kind_of_reset, range_named, synchronous_kind}
 use Rattle.fir_ground.proofs.FramedScopes.{scope_joined}
-use Rattle.fir_leaf.specs.working.LeafedModules.{Scene, async_by, async_reached, async_where, is_async_reset, scope_before}
+use Rattle.fir_meaning.specs.LeafedModules.{Scene, async_by, async_reached, async_where, is_async_reset, scope_before}
 use Rattle.fir_leaf_table.specs.declared.frame.Frame.{Frame}
 use Rattle.fir_leaf_table.specs.working.Frames.{Frames}
-use Rattle.fir_leaf_table.specs.working.Scenes.{AreResets, IsAsynchronousAt}
+use Rattle.fir_meaning.specs.Scenes.{AreResets, IsAsynchronousAt}
 use Rattle.fir_leaf_table.proofs.NamedRanges.{Names, names}
 use Rattle.fir_leaf_table.proofs.ReachedResets.{ResetAt, reached_reset}
 use Rattle.fir_leaf_table.proofs.ResetEnds.{only_resets}

@@ -1,8 +1,9 @@
 -- What no clause of `run` reads yet: the leaves of modules as the code has them, and what they stand for.
 pub mod Seen
-pub mod Scenes
+pub mod ModulePlaces
 pub mod Frames
 pub mod TypedLeaves
+pub mod FieldsAt
 pub mod PushedTypeLeaves
 pub mod DrivenLeaves
 pub mod Memories

@@ -1,6 +1,6 @@
 //! What stands round the declarations of a module.
 
-use fir_ast::LeafId;
+use fir_ast::{LeafId, Place};
 use fir_names::Names;
 use fir_types::{Findings, Found};
 use fir_width::Fitted;
@@ -16,4 +16,6 @@ pub struct Frame<'a> {
     pub declared: &'a [Option<Found>],
     /// The number of the first leaf of each, where all elements of a vector have the numbers of one.
     pub first_leaves: &'a [LeafId],
+    /// Of each module of the circuit, where the leaves of its ports stand.
+    pub port_places: &'a [Vec<Place>],
 }

@@ -26,13 +26,13 @@ pub fn in_instance(
 ) -> Result<(), MemoryOut>
     ensures { (place : Place) (other : PlacedName) → PassesStatement frame.now (tree.instance place (named_of ident.now) other) depth walk.old walk.new result }
 {
-    let ports = port_places(alloc, frame, walk.declared)?;
+    let ports = port_places(frame, walk.declared);
     walk.next_driver();
     push_leaves(
         alloc,
         frame,
         depth,
-        &Places::Ports(ident.place, &ports),
+        &Places::Ports(ident.place, ports),
         &Giver::Instance,
         walk,
     )

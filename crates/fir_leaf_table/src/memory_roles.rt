@@ -2,8 +2,8 @@
 
 ghost use Rattle.std.specs.Prelude.{◌≡◌, IfOk, List, map};
 ghost use Rattle.fir_leaf.specs.declared.node.Node.{Node};
-ghost use Rattle.fir_leaf.specs.working.LeafMemories.{LeafMemory, clocks_from, memory_roles};
-ghost use Rattle.fir_leaf.specs.working.LeafModules.{LeafType};
+ghost use Rattle.fir_meaning.specs.LeafMemories.{LeafMemory, clocks_from, memory_roles};
+ghost use Rattle.fir_meaning.specs.LeafModules.{LeafType};
 ghost use Rattle.fir_leaf_table.specs.working.Memories.{IsMemory};
 ghost use Rattle.fir_leaf_table.specs.working.Seen.{role_seen};
 

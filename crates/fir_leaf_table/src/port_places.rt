@@ -1,12 +1,13 @@
-//! Where the ports of an instance's module stand.
+//! Where the leaves of modules' ports stand, and so those of instances.
 
 ghost use Rattle.std.specs.Prelude.{◌≡◌, ◌++◌, Some, IfOk, OnOk, map, replicate};
-ghost use Rattle.fir_ast.specs.View.{port_of};
+ghost use Rattle.fir_ast.specs.View.{circuit_of, port_of};
 ghost use Rattle.fir_meaning.specs.Costs.{leaves_where};
 ghost use Rattle.fir_type_table.specs.working.Saturated.{saturated};
 ghost use Rattle.fir_type_table.specs.working.Tables.{types_of};
 ghost use Rattle.fir_types.specs.working.Seen.{seen};
-ghost use Rattle.fir_leaf_table.specs.working.PortPlaces.{ArePortPlaces, HaveTypes, IsModuleNumber, places_of};
+ghost use Rattle.fir_leaf_table.specs.working.ModulePlaces.{ArePlacesOf, places_of};
+ghost use Rattle.fir_leaf_table.specs.working.PortPlaces.{ArePortPlaces, HaveTypes, IsModuleNumber};
 
 use crate::frame::Frame;
 use fir_ast::{Place, Port};
@@ -15,22 +16,34 @@ use fir_names::Component;
 use fir_type_table::TypeTable;
 use fir_types::Found;
 use fir_types::found::leaves;
+use fir_width::Fitted;
 use std::alloc::Global;
 
+/// Of each module, by its number, where each leaf of its ports stands.
+pub fn all_port_places(alloc: Global, fitted: &Fitted) -> Result<Vec<Vec<Place>>, MemoryOut>
+    ensures { IfOk result (λ all. ArePlacesOf (circuit_of fitted.now).modules all.items) }
+{
+    let typed = fitted.typed();
+    let findings = typed.findings();
+    let mut all = Vec::new(alloc);
+    for (number, part) in typed.named().circuit().modules.iter().enumerate() {
+        let declared = findings.declared[number].as_slice();
+        all.push(places(alloc, &findings.table, &part.ports, declared)?)?;
+    }
+    Ok(all)
+}
+
 /// Of each leaf of the instance before which so many are declared, where the port that it is one of stands.
-pub fn port_places(alloc: Global, frame: &Frame, position: usize) -> Result<Vec<Place>, MemoryOut>
-    ensures { IfOk result (λ places. ArePortPlaces frame.now position places.items) }
+pub fn port_places<'a>(frame: &Frame<'a>, position: usize) -> &'a [Place]
+    ensures { ArePortPlaces frame.now position result.now }
 {
     let Some(number) = module_number(frame, position) else {
-        return Ok(Vec::new(alloc));
+        return &[];
     };
-    let Some(child) = frame.fitted.typed().named().circuit().modules.get(number) else {
-        return Ok(Vec::new(alloc));
-    };
-    let Some(declared) = frame.findings.declared.get(number) else {
-        return Ok(Vec::new(alloc));
-    };
-    places(alloc, &frame.findings.table, &child.ports, declared)
+    match frame.port_places.get(number) {
+        Some(places) => places,
+        None => &[],
+    }
 }
 
 /// The number of the module of the instance before which so many are declared.

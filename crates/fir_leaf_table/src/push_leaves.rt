@@ -9,9 +9,11 @@ ghost use Rattle.fir_meaning.specs.TypeLeaves.{turned};
 ghost use Rattle.fir_type_table.specs.working.Saturated.{saturated};
 ghost use Rattle.fir_type_table.specs.working.Tables.{member_fields, members_at, type_at, types_of};
 ghost use Rattle.fir_types.specs.working.Seen.{found_type};
-ghost use Rattle.fir_leaf.specs.working.LeafedModules.{repeated};
+ghost use Rattle.fir_meaning.specs.LeafedModules.{repeated};
+ghost use Rattle.fir_leaf_table.specs.working.FieldsAt.{IsBundleAt};
 ghost use Rattle.fir_leaf_table.specs.working.PushedTypeLeaves.{Pushes};
 
+use crate::field_at::field_at;
 use crate::leaf::LeafType;
 use crate::type_leaves::TypeLeaf;
 use fir_ast::LeafId;
@@ -95,7 +97,7 @@ fn push_type(
     }
 }
 
-/// Those of the fields of a bundle.
+/// Those of the fields of a bundle. Fields without leaves are stepped over, however many there are.
 #[cycle(leaves)]
 fn push_members(
     fitted: &Fitted,
@@ -105,19 +107,26 @@ fn push_members(
     first: usize,
     leaves: &mut Vec<TypeLeaf>,
 ) -> Result<(), MemoryOut>
+    requires { IsBundleAt table.now id.number }
     ensures { OnOk result (Pushes (circuit_of fitted.now) flip (bundle (member_fields (types_of table.now) (members_at table.now id.number))) first leaves.old.items leaves.new.items) }
 {
-    let mut number = first;
-    for member in table.members(id) {
+    let count = table.leaves(id);
+    // At 2^64 - 1 the number of leaves stands still.
+    if count == u64::MAX {
+        return Err(MemoryOut);
+    }
+    let mut leaf = 0u64;
+    while leaf < count {
+        let field = field_at(table, id, leaf);
         push_type(
             fitted,
             table,
-            member.ty,
-            turned(flip, member.flip),
-            number,
+            field.ty,
+            turned(flip, field.flip),
+            behind(first, field.shared_offset)?,
             leaves,
         )?;
-        number = behind(number, table.shared_leaves(member.ty))?;
+        leaf += table.leaves(field.ty);
     }
     Ok(())
 }

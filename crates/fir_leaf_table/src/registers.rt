@@ -12,7 +12,7 @@ ghost use Rattle.fir_meaning.specs.Visibility.{Before, declarations};
 ghost use Rattle.fir_types.specs.working.Walked.{Begins};
 ghost use Rattle.fir_ground.specs.working.DeclarationDrivers.{reset_seen, reset_terms};
 ghost use Rattle.fir_leaf.specs.declared.node.Node.{Node};
-ghost use Rattle.fir_leaf.specs.working.LeafedModules.{Scene, leaf_reset, scope_before};
+ghost use Rattle.fir_meaning.specs.LeafedModules.{Scene, leaf_reset, scope_before};
 ghost use Rattle.fir_leaf_table.specs.working.Frames.{Frames};
 ghost use Rattle.fir_leaf_table.specs.working.Givers.{reset_given};
 ghost use Rattle.fir_leaf_table.specs.working.Walks.{PassesStatement};

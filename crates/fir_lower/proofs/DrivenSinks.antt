@@ -3,7 +3,7 @@ use Rattle.std.proofs.Common.{◌≡◌, ℕ, List, ◌∷◌, Bool, true, false
 use Rattle.std.specs.Str.{bytes_eq}
 use Rattle.fir_ast.specs.Statements.{Statement, connect, Block, done, then}
 use Rattle.fir_net.specs.declared.reads.Read.{Read}
-use Rattle.fir_meaning.specs.DrivenFaults.{drives, is_connected}
+use Rattle.fir_meaning.specs.working.DrivenFaults.{drives, is_connected}
 use Rattle.fir_lower.specs.working.ExpressionNodes.{bound_with}
 use Rattle.fir_lower.specs.working.Lowering.{Driver, driver_of, Lowering, with_statement, with_body}
 

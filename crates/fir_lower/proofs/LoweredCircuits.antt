@@ -4,7 +4,7 @@ use Rattle.fir_base.specs.Lists.{In}
 use Rattle.fir_ast.specs.Circuits.{CircuitTree}
 use Rattle.fir_meaning.specs.Scopes.{output, Declared}
 use Rattle.fir_meaning.specs.Leaves.{main_module, main_scope}
-use Rattle.fir_meaning.specs.DrivenFaults.{is_connected}
+use Rattle.fir_meaning.specs.working.DrivenFaults.{is_connected}
 use Rattle.fir_meaning.specs.working.Clean.{IsCleanModule, IsCleanCircuit}
 use Rattle.fir_meaning.proofs.Ports.{port_driven}
 use Rattle.fir_meaning.proofs.CleanCircuits.{main_is, output_port}

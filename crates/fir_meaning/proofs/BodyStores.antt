@@ -13,7 +13,7 @@ use Rattle.fir_meaning.specs.Paths.{Values, Store}
 use Rattle.fir_meaning.specs.Scopes.{Declared, Scope, look_up, declares, behind}
 use Rattle.fir_meaning.specs.Leaves.{leaves_named}
 use Rattle.fir_meaning.specs.Exec.{fit, pairs, drive_all, exec, exec_all}
-use Rattle.fir_meaning.specs.DrivenFaults.{is_connected}
+use Rattle.fir_meaning.specs.working.DrivenFaults.{is_connected}
 use Rattle.fir_meaning.specs.working.Clean.{AreCleanStatements}
 use Rattle.fir_meaning.specs.working.Laws.{HasValue}
 use Rattle.fir_base.proofs.SameNames.{name_is}

@@ -16,7 +16,7 @@ use Rattle.fir_meaning.specs.working.NameFaults.{repeated_name_faults, name_rule
 use Rattle.fir_meaning.specs.working.TypeFaults.{type_rule}
 use Rattle.fir_meaning.specs.working.WidthFaults.{over_width_faults, width_rule}
 use Rattle.fir_meaning.specs.working.LegalityFaults.{legality_rule}
-use Rattle.fir_meaning.specs.DrivenFaults.{is_connected, output_faults, undriven_faults}
+use Rattle.fir_meaning.specs.working.DrivenFaults.{is_connected, output_faults, undriven_faults}
 use Rattle.fir_meaning.specs.working.Faults.{is_module, main_faults, Faultless}
 use Rattle.fir_meaning.specs.Lack.{lack}
 use Rattle.fir_meaning.specs.Unread.{unread_module}

@@ -1,32 +1,26 @@
 -- What a circuit means, as the law of passes sees it.
--- What it allows is said where nothing is lacking so far, and so are its faults behind those of widths; a circuit in which something is lacking allows
--- nothing.
-use Rattle.std.specs.Prelude.{List, [], map, flat_map, length, IsTrue}
-use Rattle.fir_ast.specs.declared.fault.FirFault.{FirFault}
-use Rattle.fir_ast.specs.Circuits.{ModuleTree, CircuitTree}
-use Rattle.fir_pass.specs.Faults.{fault_of}
-use Rattle.fir_pass.specs.Groups.{Group, Groups, no_groups, then_group, in_order, group_at}
+-- What it allows is said where nothing is lacking so far; a circuit in which something is lacking allows nothing. Its faults are said of the whole language,
+-- up to E24.
+use Rattle.std.specs.Prelude.{[], flat_map, length, IsTrue}
+use Rattle.fir_ast.specs.Circuits.{CircuitTree}
+use Rattle.fir_pass.specs.Groups.{Groups, no_groups, then_group, in_order, group_at}
 use Rattle.fir_pass.specs.Meaning.{Meaning, ShapeNames, Counts}
 use Rattle.fir_meaning.specs.Leaves.{clocks, inputs, outputs, register_leaves, leaves_of, state_leaves, paths, shape, main_scope}
 use Rattle.fir_meaning.specs.Allows.{Allows, One}
-use Rattle.fir_meaning.specs.DrivenFaults.{undriven_faults}
 use Rattle.fir_meaning.specs.Lacking.{is_in_language}
 use Rattle.fir_meaning.specs.NameGroups.{name_group, main_group, hierarchy_group}
 use Rattle.fir_meaning.specs.TypeGroup.{type_group}
 use Rattle.fir_meaning.specs.ResetWalks.{reset_group}
 use Rattle.fir_meaning.specs.WidthGroups.{over_group, legal_group}
 use Rattle.fir_meaning.specs.CostGroup.{cost_group}
-
--- what the rule finds in each module
-abbrev pub found_by : CircuitTree → (ModuleTree → List FirFault) → Group
-found_by c rule = in_order (map fault_of (flat_map rule c.modules))
+use Rattle.fir_meaning.specs.UndrivenGroup.{undriven_group}
 
 -- in the order of the table of faults: none of the text; E08, E09; E10; E11; E12 to E17; E18; E19; E20 to E22; E23; E24; and none from E25 on
 abbrev pub circuit_groups : CircuitTree → Groups
 circuit_groups c =
     then_group (in_order []) (then_group (name_group c) (then_group (main_group c) (then_group (hierarchy_group c)
     (then_group (type_group c) (then_group (reset_group c) (then_group (over_group c) (then_group (legal_group c)
-    (then_group (cost_group c) (then_group (found_by c undriven_faults) no_groups)))))))))
+    (then_group (cost_group c) (then_group (undriven_group c) no_groups)))))))))
 
 abbrev pub circuit_names : CircuitTree → ShapeNames
 circuit_names c = record {

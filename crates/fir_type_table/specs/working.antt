@@ -1,7 +1,6 @@
 -- What no clause of `run` reads: views of the code's table of types.
 pub mod Saturated
 pub mod Tables
-pub mod Sizes
 pub mod Reads
 pub mod Fits
 pub mod Adding

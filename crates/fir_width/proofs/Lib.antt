@@ -5,7 +5,11 @@ pub mod Risen
 pub mod RisesLeft
 pub mod Looks
 pub mod RoundLooks
+pub mod MemberCounts
+pub mod FieldsFound
+pub mod FieldsCounted
 pub mod PushedWalks
+pub mod PushedMembers
 pub mod DeclaredScopes
 pub mod PortsFirst
 pub mod BodyNumbers

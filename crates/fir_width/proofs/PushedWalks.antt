@@ -9,9 +9,7 @@ use Rattle.fir_meaning.specs.SharedLeaves.{shared_count, shared_field_count}
 use Rattle.fir_meaning.specs.WidthExpressions.{Width, Rule}
 use Rattle.fir_meaning.specs.SizedTypes.{past, numbered, numbered_fields}
 use Rattle.fir_names.specs.declared.declaration.Component.{Component}
-use Rattle.fir_type_table.specs.declared.entry.Member.{Member}
-use Rattle.fir_type_table.specs.working.Tables.{member_fields, shown, shown_fields, type_at}
-use Rattle.fir_type_table.proofs.MemberLists.{members_from, members_next, members_end}
+use Rattle.fir_type_table.specs.working.Tables.{shown, shown_fields}
 use Rattle.fir_types.specs.declared.found.Found.{Found}
 use Rattle.fir_types.specs.working.Seen.{seen}
 use Rattle.fir_width.specs.declared.arena.Arena.{Arena}
@@ -49,13 +47,13 @@ fields_next is_open k p flip x begins t rest =
     ap (λ at. type_widths is_open t k ++ flat_fields (numbered_fields at rest)) (numbers_past is_open k (shared_count t))
     ∙ ap (λ n. type_widths is_open t k ++ field_widths is_open rest (k + n)) (sym (flat_long (numbers_from is_open k) t))
 
-shown_next : (is_open is_bare : Bool) (k : ℕ) (p : Place) (flip : Bool) (x : List ℕ) (begins : Place) (t : DataType) (rest : Fields)
+pub shown_next : (is_open is_bare : Bool) (k : ℕ) (p : Place) (flip : Bool) (x : List ℕ) (begins : Place) (t : DataType) (rest : Fields)
     → field_widths is_open (shown_fields is_bare (field p flip x begins t rest)) k
     ≡ type_widths is_open (shown is_bare t) k ++ field_widths is_open (shown_fields is_bare rest) (k + length (type_widths is_open (shown is_bare t) k))
 shown_next is_open true k p flip x begins t rest = fields_next is_open k p flip x begins (bare t) (shown_fields true rest)
 shown_next is_open false k p flip x begins t rest = fields_next is_open k p flip x begins t rest
 
-shown_none : (is_open is_bare : Bool) (k : ℕ) → field_widths is_open (shown_fields is_bare no_fields) k ≡ []
+pub shown_none : (is_open is_bare : Bool) (k : ℕ) → field_widths is_open (shown_fields is_bare no_fields) k ≡ []
 shown_none is_open true k = refl
 shown_none is_open false k = refl
 
@@ -101,34 +99,6 @@ pushes_end whole rest old new so_far none = record {
       sym (append-nil all.0) ∙ ap (λ ws. all.0 ++ ws) (sym (none (length meant + length all.0))) ∙ all.2 in
       subst (λ ws. Keeps (meant ++ ws) rules new) same all.1;
 }
-
--- so far in the fields of a bundle
-abbrev pub all_fields : List DataType → Bool → Bool → List Member → ℕ → List Width
-all_fields ts is_bare is_open ms = field_widths is_open (shown_fields is_bare (member_fields ts ms))
-
-abbrev pub fields_left : List DataType → Bool → Bool → List Member → ℕ → ℕ → List Width
-fields_left ts is_bare is_open ms i = field_widths is_open (shown_fields is_bare (members_from ts ms i))
-
-module _ (ts : List DataType) (is_bare is_open : Bool) (ms : List Member) (old : Arena) where
-  pub fields_begin : PushesSoFar (all_fields ts is_bare is_open ms) (fields_left ts is_bare is_open ms 0) old old
-  fields_begin = pushes_begin (all_fields ts is_bare is_open ms) old
-
-  pub fields_more : (i : ℕ) (m : Member) (middle new : Arena) → i < length ms → m ≡ get_or ms i m
-      → PushesSoFar (all_fields ts is_bare is_open ms) (fields_left ts is_bare is_open ms i) old middle
-      → Pushes (type_widths is_open (shown is_bare (type_at ts m.ty.number))) middle new
-      → PushesSoFar (all_fields ts is_bare is_open ms) (fields_left ts is_bare is_open ms (i + 1)) old new
-  fields_more i m middle new within at so_far pushes =
-      pushes_next (all_fields ts is_bare is_open ms) (fields_left ts is_bare is_open ms i) (type_widths is_open (shown is_bare (type_at ts m.ty.number)))
-      (fields_left ts is_bare is_open ms (i + 1)) old middle new so_far pushes
-      (λ k.
-      ap (λ fs. field_widths is_open (shown_fields is_bare fs) k) (members_next ts ms i m within at)
-      ∙ shown_next is_open is_bare k m.place m.flip m.name m.type_place (type_at ts m.ty.number) (members_from ts ms (i + 1)))
-
-  pub fields_end : (i : ℕ) (new : Arena) → length ms ≤ i → PushesSoFar (all_fields ts is_bare is_open ms) (fields_left ts is_bare is_open ms i) old new
-      → Pushes (all_fields ts is_bare is_open ms) old new
-  fields_end i new past so_far =
-      pushes_end (all_fields ts is_bare is_open ms) (fields_left ts is_bare is_open ms i) old new so_far
-      (λ k. ap (λ fs. field_widths is_open (shown_fields is_bare fs) k) (members_end ts ms i past) ∙ shown_none is_open is_bare k)
 
 -- so far in the declarations of a module
 abbrev pub all_declared : List DataType → Stage → (ℕ → Option Component) → List (Option Found) → ℕ → List Width

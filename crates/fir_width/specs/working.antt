@@ -19,6 +19,8 @@ pub mod Walks
 pub mod Circuits
 pub mod Fitting
 pub mod PushedLeaves
+pub mod CountedLeaves
+pub mod FieldsAt
 pub mod Operands
 pub mod Choices
 pub mod FirstLeaves

@@ -6,9 +6,12 @@ ghost use Rattle.fir_meaning.specs.SizedTypes.{leaf_width};
 ghost use Rattle.fir_meaning.specs.WidthExpressions.{known};
 ghost use Rattle.fir_type_table.specs.working.Tables.{member_fields, members_at, shown, shown_fields, type_at, types_of};
 ghost use Rattle.fir_types.specs.working.Seen.{found_type};
+ghost use Rattle.fir_width.specs.working.FieldsAt.{IsBundleAt};
 ghost use Rattle.fir_width.specs.working.PushedLeaves.{Pushes, field_widths, numbers_from, type_widths};
 
 use crate::arena::Arena;
+use crate::bundle_fields::field_at;
+use crate::counted::Counted;
 use fir_base::MemoryOut;
 use fir_type_table::{Kind, TypeId, TypeTable};
 use fir_types::Found;
@@ -78,7 +81,7 @@ fn push_type(
     }
 }
 
-/// Those of the fields of a bundle.
+/// Those of the fields of a bundle. Fields without leaves are stepped over.
 #[cycle(leaves)]
 fn push_members(
     table: &TypeTable,
@@ -87,10 +90,19 @@ fn push_members(
     is_open: bool,
     arena: &mut Arena,
 ) -> Result<(), MemoryOut>
+    requires { IsBundleAt table.now id.number }
     ensures { OnOk result (Pushes (field_widths is_open (shown_fields is_bare (member_fields (types_of table.now) (members_at table.now id.number)))) arena.old arena.new) }
 {
-    for member in table.members(id) {
-        push_type(table, member.ty, is_bare, is_open, arena)?;
+    let count = table.shared_leaves(id);
+    // At 2^64 - 1 the number of leaves stands still.
+    if count == u64::MAX {
+        return Err(MemoryOut);
+    }
+    let mut leaf = 0u64;
+    while leaf < count {
+        let field = field_at(table, id, Counted::Shared, leaf);
+        push_type(table, field.ty, is_bare, is_open, arena)?;
+        leaf += table.shared_leaves(field.ty);
     }
     Ok(())
 }

@@ -13,11 +13,16 @@
 //! In the solver all widths begin at 0, and a bound that is not met raises its number (`raise`). Which
 //! bounds have to be looked at again is told by `readers`, and kept in `waiting`; `work_list` goes on
 //! until none waits. `rounds` has the plain program, which goes over all bounds again and again.
+//!
+//! A walk down a type (`leaves`) goes over the fields that have leaves and over no others: `field_at` finds each
+//! by the number of its first leaf (`bundle_fields`, `member_at`), counted in one of two ways (`counted`).
 #![tactic(auto)]
 
 mod arena;
 mod bound;
+mod bundle_fields;
 mod circuit;
+mod counted;
 mod declared;
 mod direction;
 mod drives;
@@ -36,6 +41,7 @@ mod leaf_path;
 mod leaves;
 mod legal;
 mod meet;
+mod member_at;
 mod module;
 mod over;
 mod pass;
@@ -51,6 +57,8 @@ mod width_at;
 mod work_list;
 
 pub use bound::{Bound, OVER, Term, are_within};
+pub use bundle_fields::field_at;
+pub use counted::Counted;
 pub use fit::solve;
 pub use fitted::{Fitted, Widths};
 pub use inference::infer;

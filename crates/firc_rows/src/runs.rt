@@ -80,7 +80,16 @@ const RUNS: &[Run] = &[
         Failing::Nothing,
         1,
         b"",
-        b"E05 6:5 unsupported when\n",
+        b"E24 5:12 undriven o\n",
+    ),
+    (
+        EMIT,
+        b"circuit T :\n  module T :\n    input a : UInt<1>\n    input b : UInt<4>\n    output o : UInt<4>\n    o <= b\n    when a :\n",
+        b"",
+        Failing::Nothing,
+        1,
+        b"",
+        b"E05 7:5 unsupported when\n",
     ),
     (
         EMIT,

@@ -9,7 +9,7 @@ use Rattle.fir_leaf.specs.working.Designs.{Design}
 use Rattle.fir_leaf.specs.working.Flattened.{flattened}
 use Rattle.fir_leaf.specs.working.LeafAllows as over
 use Rattle.fir_leaf.specs.working.LeafStates.{shape}
-use Rattle.fir_leaf.specs.working.LeafedModules.{Scene}
+use Rattle.fir_meaning.specs.LeafedModules.{Scene}
 use Rattle.fir_design.specs.working.CircuitDesigns.{AreScenes, IsSoundDesign}
 use Rattle.fir_design.specs.working.SourceAllows.{Allows}
 use Rattle.fir_design.specs.working.SourceCircuits.{source_shape}

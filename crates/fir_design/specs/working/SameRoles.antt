@@ -9,11 +9,11 @@ use Rattle.fir_meaning.specs.SizedDeclarations.{numbered_modules}
 use Rattle.fir_meaning.specs.TypeGroup.{type_faults}
 use Rattle.fir_meaning.specs.TypedScopes.{TypedScope}
 use Rattle.fir_leaf.specs.working.DesignStates.{array_at}
-use Rattle.fir_leaf.specs.working.LeafModules as over
-use Rattle.fir_leaf.specs.working.LeafModules.{LeafArray, LeafDeclared, LeafReset, LeafType, Need, Reading, Role, Writing, leaf_at}
-use Rattle.fir_leaf.specs.working.LeafedModules.{Scene, leafed_module}
-use Rattle.fir_leaf.specs.working.TermValues.{clock_of, eval}
-use Rattle.fir_leaf.specs.working.Terms.{Term}
+use Rattle.fir_meaning.specs.LeafModules as over
+use Rattle.fir_meaning.specs.LeafModules.{LeafArray, LeafDeclared, LeafReset, LeafType, Need, Reading, Role, Writing, leaf_at}
+use Rattle.fir_meaning.specs.LeafedModules.{Scene, leafed_module}
+use Rattle.fir_meaning.specs.TermValues.{clock_of, eval}
+use Rattle.fir_meaning.specs.Terms.{Term}
 use Rattle.fir_leaf.specs.working.TreeValues.{TypesByPath, ValuesByPath, aim_read, leaf_where, value}
 use Rattle.fir_design.specs.working.SourceRoles as tree
 use Rattle.fir_design.specs.working.SourceRoles.{PathNeed, PathReading, PathWriting, SourceArray, SourceLeaf, SourceReset, SourceRole, source_arrays, source_leaves}

@@ -9,7 +9,7 @@ use Rattle.fir_ast.specs.declared.statements.ReadUnderWrite.{ReadUnderWrite}
 use Rattle.fir_ast.specs.declared.statements.ReadUnderWrite.TheVariants.{New, Old, Undefined}
 use Rattle.fir_meaning.specs.LeafPaths.{LeafPath}
 use Rattle.fir_leaf.specs.working.LeafAllows.{LeafAllowance}
-use Rattle.fir_leaf.specs.working.LeafModules.{LeafType, a_clock, number}
+use Rattle.fir_meaning.specs.LeafModules.{LeafType, a_clock, number}
 use Rattle.fir_leaf.specs.working.Memories.{addresses, has_edge}
 use Rattle.fir_leaf.specs.working.TreeStores.{same_path}
 use Rattle.fir_design.specs.working.SourceCircuits.{PlacedArray, PlacedLeaf, all_arrays, all_leaves, array_path, clock_outputs, leaf_path, outputs, paths_of, source_shape, state_arrays, state_words}

@@ -8,8 +8,8 @@ use Rattle.fir_ast.specs.Statements.{Block, Statement, done, instance, then, whe
 use Rattle.fir_meaning.specs.LeafPaths.{LeafPath, named}
 use Rattle.fir_meaning.specs.Visibility.{Before, at_head, behind, behind_block, opened, reopened}
 use Rattle.fir_leaf.specs.working.Flattened.{is_clock}
-use Rattle.fir_leaf.specs.working.LeafModules.{LeafType, number_type}
-use Rattle.fir_leaf.specs.working.LeafedModules.{Scene, behind_all_ports}
+use Rattle.fir_meaning.specs.LeafModules.{LeafType, number_type}
+use Rattle.fir_meaning.specs.LeafedModules.{Scene, behind_all_ports}
 use Rattle.fir_leaf.specs.working.StateWalks.{has_bits}
 use Rattle.fir_design.specs.working.SourceDesigns.{Instances, SourceDesign, held, made_of, no_instances}
 use Rattle.fir_design.specs.working.SourceRoles.{SourceArray, SourceLeaf, SourceRole, pipe, register, sink, source, source_arrays, source_arrays_in, sources_in, sources_in_block, sources_of_ports}

@@ -8,8 +8,8 @@ use Rattle.fir_meaning.specs.Flows.{Flow, flow_under, is_source}
 use Rattle.fir_meaning.specs.TypeLeaves.{TypeLeaf}
 use Rattle.fir_meaning.specs.TypedScopes.{Known, known}
 use Rattle.fir_meaning.specs.Visibility.{declarations}
-use Rattle.fir_leaf.specs.working.LeafMemories.{leaves_of_data}
-use Rattle.fir_leaf.specs.working.LeafedModules.{Scene}
+use Rattle.fir_meaning.specs.LeafMemories.{leaves_of_data}
+use Rattle.fir_meaning.specs.LeafedModules.{Scene}
 use Rattle.fir_leaf.specs.working.TreeStores.{same_path}
 
 abbrev pub depth_of : Option Declaration → ℕ

@@ -7,7 +7,7 @@ use Rattle.fir_meaning.specs.NameGroups.{HasNames}
 use Rattle.fir_meaning.specs.TypeGroup.{type_faults}
 use Rattle.fir_leaf.specs.working.DesignStores.{clock_given, exec_below, nothing_kept, number_given}
 use Rattle.fir_leaf.specs.working.Designs.{Design, IsDesignOf}
-use Rattle.fir_leaf.specs.working.LeafedModules.{Scene, leafed_module}
+use Rattle.fir_meaning.specs.LeafedModules.{Scene, leafed_module}
 use Rattle.fir_leaf.specs.working.TreeValues.{TypesByPath, ValuesByPath}
 use Rattle.fir_design.specs.working.CircuitDesigns.{AreScenes, views}
 use Rattle.fir_design.specs.working.SourceDesigns.{IsSourceDesignOf, SourceDesign}

@@ -19,9 +19,9 @@ use Rattle.fir_meaning.specs.TypeLeaves.{TypeLeaf, type_leaves}
 use Rattle.fir_meaning.specs.TypedScopes.{TypedScope}
 use Rattle.fir_meaning.specs.Visibility.{Before, opened, reopened, behind, behind_block}
 use Rattle.fir_leaf.specs.working.DesignStores.{DesignStore, kept_at}
-use Rattle.fir_leaf.specs.working.LeafBlocks.{counts}
-use Rattle.fir_leaf.specs.working.LeafedBlocks.{type_where}
-use Rattle.fir_leaf.specs.working.LeafedModules.{Scene, behind_all_ports}
+use Rattle.fir_meaning.specs.LeafBlocks.{counts}
+use Rattle.fir_meaning.specs.LeafedBlocks.{type_where}
+use Rattle.fir_meaning.specs.LeafedModules.{Scene, behind_all_ports}
 use Rattle.fir_leaf.specs.working.TreeAims.{Aim}
 use Rattle.fir_leaf.specs.working.TreeStores.{may_be_driven}
 use Rattle.fir_leaf.specs.working.TreeValues.{TypesByPath, ValuesByPath, aim_of, aim_read, aim_value, leaf_where, value}

@@ -9,7 +9,7 @@ use Rattle.fir_meaning.specs.Exec.{fit}
 use Rattle.fir_meaning.specs.LeafPaths.{LeafPath}
 use Rattle.fir_meaning.specs.TypedScopes.{TypedScope}
 use Rattle.fir_leaf.specs.working.DesignStores.{nothing_kept}
-use Rattle.fir_leaf.specs.working.LeafModules.{LeafType, no_bits, number, number_type}
+use Rattle.fir_meaning.specs.LeafModules.{LeafType, no_bits, number, number_type}
 use Rattle.fir_leaf.specs.working.Memories.{word_behind}
 use Rattle.fir_leaf.specs.working.TreeStores.{same_path}
 use Rattle.fir_leaf.specs.working.TreeValues.{TypesByPath, aim_read, leaf_where, value}

@@ -2,6 +2,7 @@
 use Rattle.std.specs.Prelude.{ℕ, List}
 use Rattle.fir_ast.specs.Circuits.{CircuitTree}
 use Rattle.fir_parse.specs.Spells.{Spells}
+use Rattle.fir_meaning.specs.Scenes.{HasScenes}
 use Rattle.fir_meaning.specs.working.Faults.{Faultless}
 use Rattle.fir_lower.specs.working.HasWords.{HasWords}
 use Rattle.fir_driver.specs.Emits.{Takes}
@@ -10,6 +11,6 @@ use Rattle.fir_driver.specs.Emits.{Takes}
 abbrev pub SpelledNamesAreWords : Type 0
 SpelledNamesAreWords = (bytes : List ℕ) (c : CircuitTree) → Spells bytes c → HasWords c
 
--- a circuit that is taken shows none of the faults of the small language
+-- a circuit that is taken, each of whose modules has a scene, shows none of the faults of the small language
 abbrev pub TakenIsFaultless : Type 0
-TakenIsFaultless = (bytes : List ℕ) (c : CircuitTree) → Takes bytes c → Faultless c
+TakenIsFaultless = (bytes : List ℕ) (c : CircuitTree) → HasScenes c → Takes bytes c → Faultless c

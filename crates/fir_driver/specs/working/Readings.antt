@@ -11,7 +11,7 @@ use Rattle.fir_parse.specs.TextFaults.{TextFault}
 use Rattle.fir_meaning.specs.Lack.{Lack}
 use Rattle.fir_driver.specs.CircuitFaults.{IsClearUpTo}
 use Rattle.fir_driver.specs.Emits.{Emits, Takes}
-use Rattle.fir_driver.specs.Refusals.{RefusedFor, ShowsEarly}
+use Rattle.fir_driver.specs.Refusals.{RefusedFor, ShowsFault}
 
 -- the tree that the text spells, or its fault, unless memory ran out
 abbrev pub IsTree : List ℕ → Result Circuit (Refused FirFault) → Type 0
@@ -27,7 +27,7 @@ IsUnsupported l refused.Memory = Unit {0}
 -- the tree that the text spells, in which no fault stands of the groups up to the last that was looked for; or the fault for which it is refused
 abbrev pub IsCheckedTree : ℕ → List ℕ → Result Circuit (Refused FirFault) → Type 0
 IsCheckedTree last bytes (Ok t) = Spells bytes (circuit_of t) × IsClearUpTo last (circuit_of t)
-IsCheckedTree last bytes (Err (refused.Fault f)) = TextFault bytes f ⊎ ShowsEarly bytes f
+IsCheckedTree last bytes (Err (refused.Fault f)) = TextFault bytes f ⊎ ShowsFault bytes f
 IsCheckedTree last bytes (Err refused.Memory) = Unit {0}
 
 -- the circuit that the text spells, which is taken, or the fault for which it is refused

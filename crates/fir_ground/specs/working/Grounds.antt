@@ -9,9 +9,9 @@ use Rattle.fir_types.specs.working.Notes.{Note, position_of}
 use Rattle.fir_types.specs.working.Noted.{note_seen, saturated_note}
 use Rattle.fir_types.specs.working.Seen.{found_type}
 use Rattle.fir_leaf.specs.declared.node.Node.{Node}
-use Rattle.fir_leaf.specs.working.Terms.{Term}
-use Rattle.fir_leaf.specs.working.Targets as over
-use Rattle.fir_leaf.specs.working.Targets.{leaves_ahead, leaves_so_far}
+use Rattle.fir_meaning.specs.Terms.{Term}
+use Rattle.fir_meaning.specs.Targets as over
+use Rattle.fir_meaning.specs.Targets.{leaves_ahead, leaves_so_far}
 use Rattle.fir_leaf.specs.working.Nodes.{Gives, Grows, entries, picks_at}
 use Rattle.fir_ground.specs.declared.ground.Ground.{Ground}
 use Rattle.fir_ground.specs.declared.target.Target.{Target}

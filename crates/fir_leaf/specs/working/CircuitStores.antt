@@ -3,9 +3,9 @@
 use Rattle.std.specs.Prelude.{◌≡◌, ℕ, suc, ◌<◌, ◌≤◌, List, [], ◌∷◌, length, if◌then◌else◌, Option, Some, None}
 use Rattle.fir_bits.specs.declared.types.NumTy.{NumTy}
 use Rattle.fir_meaning.specs.LeafPaths.{LeafPath}
-use Rattle.fir_leaf.specs.working.TermValues.{Env, clock_at, clock_of, value_at}
-use Rattle.fir_leaf.specs.working.LeafBlocks.{exec_all, nothing_stored}
-use Rattle.fir_leaf.specs.working.LeafModules.{LeafDeclared, no_bits}
+use Rattle.fir_meaning.specs.TermValues.{Env, clock_at, clock_of, value_at}
+use Rattle.fir_meaning.specs.LeafBlocks.{exec_all, nothing_stored}
+use Rattle.fir_meaning.specs.LeafModules.{LeafDeclared, no_bits}
 use Rattle.fir_leaf.specs.working.LeafCircuits.{LeafCircuit, depth_of, type_of_leaf}
 use Rattle.fir_leaf.specs.working.ChoiceLaws.{fitted_at}
 use Rattle.fir_leaf.specs.working.TreeValues.{TypesByPath, ValuesByPath}

@@ -2,9 +2,9 @@
 -- A clock leaf with one live statement, or a node, takes what that names. The chain ends at a clock input, or at an invalid, or never ends.
 -- No value stands in these definitions.
 use Rattle.std.specs.Prelude.{◌≡◌, ℕ, ◌<◌, List, [], ◌∷◌, length, Option, Some, None, ◌⊎◌}
-use Rattle.fir_leaf.specs.working.Terms.{Term, no_picks, read, zeros}
-use Rattle.fir_leaf.specs.working.Choices.{Live, lives_all}
-use Rattle.fir_leaf.specs.working.LeafModules.{Role, a_clock, computed, leaf_at, sink, source}
+use Rattle.fir_meaning.specs.Terms.{Term, no_picks, read, zeros}
+use Rattle.fir_meaning.specs.Choices.{Live, lives_all}
+use Rattle.fir_meaning.specs.LeafModules.{Role, a_clock, computed, leaf_at, sink, source}
 use Rattle.fir_leaf.specs.working.LeafCircuits.{LeafCircuit, depth_of, role_of}
 use Rattle.fir_leaf.specs.working.LeafStates.{place_in}
 

@@ -4,10 +4,10 @@ use Rattle.fir_meaning.specs.LeafPaths.{LeafPath}
 use Rattle.fir_meaning.specs.TypeLeaves.{type_leaves}
 use Rattle.fir_meaning.specs.ComponentTypes.{instance_bundle}
 use Rattle.fir_meaning.specs.Visibility.{at_head}
-use Rattle.fir_leaf.specs.working.TermValues.{clock_of}
-use Rattle.fir_leaf.specs.working.LeafBlocks.{exec_all, nothing_stored}
-use Rattle.fir_leaf.specs.working.LeafModules.{LeafModule}
-use Rattle.fir_leaf.specs.working.LeafedModules.{Scene, leaves_of_ports}
+use Rattle.fir_meaning.specs.TermValues.{clock_of}
+use Rattle.fir_meaning.specs.LeafBlocks.{exec_all, nothing_stored}
+use Rattle.fir_meaning.specs.LeafModules.{LeafModule}
+use Rattle.fir_meaning.specs.LeafedModules.{Scene, leaves_of_ports}
 use Rattle.fir_leaf.specs.working.LeafCircuits.{LeafCircuit, depth_of}
 use Rattle.fir_leaf.specs.working.ChoiceLaws.{fitted_at}
 use Rattle.fir_leaf.specs.working.TreeValues.{TypesByPath, ValuesByPath}

@@ -4,8 +4,8 @@
 use Rattle.std.specs.Prelude.{ℕ, List, [], ◌∷◌, ◌++◌, slice_index_or}
 use Rattle.fir_ast.specs.Statements.{PlacedName}
 use Rattle.fir_meaning.specs.LeafPaths.{LeafPath, named}
-use Rattle.fir_leaf.specs.working.LeafBlocks.{HeldInstance}
-use Rattle.fir_leaf.specs.working.LeafModules.{LeafModule, leaf_at}
+use Rattle.fir_meaning.specs.LeafBlocks.{HeldInstance}
+use Rattle.fir_meaning.specs.LeafModules.{LeafModule, leaf_at}
 
 abbrev pub no_name : PlacedName
 no_name = record { place = record { line = 0; col = 0 }; name = [] }

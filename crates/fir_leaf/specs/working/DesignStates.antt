@@ -2,7 +2,7 @@
 -- A walk through the declarations of the module, in the order of the text, with the state of an instance in the place of its declaration.
 use Rattle.std.specs.Prelude.{ℕ, List, [], ◌++◌, map, nat_eq, if◌then◌else◌, slice_index_or}
 use Rattle.fir_meaning.specs.LeafPaths.{LeafPath}
-use Rattle.fir_leaf.specs.working.LeafModules.{LeafArray, LeafModule, no_bits, number}
+use Rattle.fir_meaning.specs.LeafModules.{LeafArray, LeafModule, no_bits, number}
 use Rattle.fir_leaf.specs.working.Designs.{Item, drive, when, instance, Items, done, then, Design, made_of}
 use Rattle.fir_leaf.specs.working.DesignPaths.{instance_path, leaf_path}
 use Rattle.fir_leaf.specs.working.StateWalks.{own_arrays, own_words, walk}

@@ -3,10 +3,10 @@
 use Rattle.std.specs.Prelude.{ℕ, List, [], ◌∷◌, ◌++◌, Bool, not, Option, Some, None, if◌then◌else◌}
 use Rattle.fir_meaning.specs.LeafPaths.{LeafPath}
 use Rattle.fir_meaning.specs.Exec.{fit}
-use Rattle.fir_leaf.specs.working.Terms.{Term}
-use Rattle.fir_leaf.specs.working.TermValues.{clock_of, eval, is_true, leaf_of}
-use Rattle.fir_leaf.specs.working.LeafBlocks.{counts}
-use Rattle.fir_leaf.specs.working.LeafModules.{LeafModule, leaf_at}
+use Rattle.fir_meaning.specs.Terms.{Term}
+use Rattle.fir_meaning.specs.TermValues.{clock_of, eval, is_true, leaf_of}
+use Rattle.fir_meaning.specs.LeafBlocks.{counts}
+use Rattle.fir_meaning.specs.LeafModules.{LeafModule, leaf_at}
 use Rattle.fir_leaf.specs.working.TreeValues.{TypesByPath, ValuesByPath}
 use Rattle.fir_leaf.specs.working.TreeStores.{same_path}
 use Rattle.fir_leaf.specs.working.Designs.{Item, drive, when, instance, Items, done, then, Design, made_of}

@@ -3,10 +3,10 @@
 -- one that does, has no design.
 use Rattle.std.specs.Prelude.{◌≡◌, ℕ, zero, suc, ◌<◌, List, [], slice_index_or}
 use Rattle.fir_ast.specs.declared.place.Place.{Place}
-use Rattle.fir_leaf.specs.working.Terms.{Term, Picks}
-use Rattle.fir_leaf.specs.working.LeafBlocks.{HeldInstance, LeafBlock, LeafStatement}
-use Rattle.fir_leaf.specs.working.LeafBlocks as over
-use Rattle.fir_leaf.specs.working.LeafModules.{LeafModule}
+use Rattle.fir_meaning.specs.Terms.{Term, Picks}
+use Rattle.fir_meaning.specs.LeafBlocks.{HeldInstance, LeafBlock, LeafStatement}
+use Rattle.fir_meaning.specs.LeafBlocks as over
+use Rattle.fir_meaning.specs.LeafModules.{LeafModule}
 
 mutual
   pub data Item : Type 0 where

@@ -2,9 +2,9 @@
 -- A module's own leaves come first, then those of its instances in the order of their statements; arrays likewise. An instance's body stands in the place of
 -- its statement, within the whens round it; its leaves count these in their depths, so none of them conditions what it stores.
 use Rattle.std.specs.Prelude.{ℕ, ◌+◌, List, drop, length}
-use Rattle.fir_leaf.specs.working.LeafBlocks.{LeafBlock, joined}
-use Rattle.fir_leaf.specs.working.LeafBlocks as over
-use Rattle.fir_leaf.specs.working.LeafModules.{LeafDeclared, LeafModule}
+use Rattle.fir_meaning.specs.LeafBlocks.{LeafBlock, joined}
+use Rattle.fir_meaning.specs.LeafBlocks as over
+use Rattle.fir_meaning.specs.LeafModules.{LeafDeclared, LeafModule}
 use Rattle.fir_leaf.specs.working.Designs.{Item, drive, when, instance, Items, done, then, Design, made_of}
 use Rattle.fir_leaf.specs.working.Numberings.{Numbering, moved, moved_picks, number, numbering}
 

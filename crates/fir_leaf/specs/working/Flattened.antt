@@ -1,7 +1,7 @@
 -- The leaf circuit of a design (FIRRTL spec, "Instances", "Circuits").
 -- The leaves of the main module's ports have the first numbers. A source among them is an input, a sink an output; clocks are told apart from numbers.
 use Rattle.std.specs.Prelude.{ℕ, List, [], ◌++◌, take, Bool, true, false, ◌&&◌}
-use Rattle.fir_leaf.specs.working.LeafModules.{LeafDeclared, LeafModule, LeafType, Role, a_clock, is_sink, number, source}
+use Rattle.fir_meaning.specs.LeafModules.{LeafDeclared, LeafModule, LeafType, Role, a_clock, is_sink, number, source}
 use Rattle.fir_leaf.specs.working.LeafCircuits.{LeafCircuit}
 use Rattle.fir_leaf.specs.working.Designs.{Design, made_of}
 use Rattle.fir_leaf.specs.working.FlatDesigns.{flat_below}

@@ -2,7 +2,7 @@
 -- A tick shows the numbers of the outputs, and beside them the clock of each output that is one: the number of a clock input, or none.
 use Rattle.std.specs.Prelude.{◌≡◌, ℕ, List, [], ◌∷◌, map, Option}
 use Rattle.fir_base.specs.Ticks.{Tick, HasShape, FitEach, AreClocks}
-use Rattle.fir_leaf.specs.working.TermValues.{Env}
+use Rattle.fir_meaning.specs.TermValues.{Env}
 use Rattle.fir_leaf.specs.working.LeafCircuits.{LeafCircuit}
 use Rattle.fir_leaf.specs.working.LeafStates.{shape}
 use Rattle.fir_leaf.specs.working.LeafSettled.{Settled}

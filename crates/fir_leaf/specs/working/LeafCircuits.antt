@@ -2,8 +2,8 @@
 -- The leaves of the main module's ports stand in front. A leaf's path begins with the names of the instances in which it is declared.
 use Rattle.std.specs.Prelude.{ℕ, List}
 use Rattle.fir_bits.specs.declared.types.NumTy.{NumTy}
-use Rattle.fir_leaf.specs.working.LeafBlocks.{LeafBlock}
-use Rattle.fir_leaf.specs.working.LeafModules.{LeafArray, LeafDeclared, Role, leaf_at, number_type}
+use Rattle.fir_meaning.specs.LeafBlocks.{LeafBlock}
+use Rattle.fir_meaning.specs.LeafModules.{LeafArray, LeafDeclared, Role, leaf_at, number_type}
 
 -- the leaves of inputs and outputs in the order of the ports, those that are clocks apart; the words of the state, which are the leaves of registers and
 -- pipes, and the arrays, by their numbers in the order of the state. Leaves of no bits are in no list.

@@ -16,12 +16,12 @@ use Rattle.fir_meaning.specs.NameGroups.{HasNames}
 use Rattle.fir_meaning.specs.Exec.{fit}
 use Rattle.fir_meaning.specs.working.WellTyped.{HasType, AreLegal}
 use Rattle.fir_base.specs.Lists.{In}
-use Rattle.fir_leaf.specs.working.TermValues.{eval}
-use Rattle.fir_leaf.specs.working.Terms.{Term}
-use Rattle.fir_leaf.specs.working.LeafBlocks.{LeafStore, exec_all, nothing_stored}
-use Rattle.fir_leaf.specs.working.Leafed.{terms}
-use Rattle.fir_leaf.specs.working.LeafedBlocks.{leafed_all}
-use Rattle.fir_leaf.specs.working.LeafMemories.{leaves_of_data}
+use Rattle.fir_meaning.specs.TermValues.{eval}
+use Rattle.fir_meaning.specs.Terms.{Term}
+use Rattle.fir_meaning.specs.LeafBlocks.{LeafStore, exec_all, nothing_stored}
+use Rattle.fir_meaning.specs.Leafed.{terms}
+use Rattle.fir_meaning.specs.LeafedBlocks.{leafed_all}
+use Rattle.fir_meaning.specs.LeafMemories.{leaves_of_data}
 use Rattle.fir_leaf.specs.working.TreeValues.{TypesByPath, ValuesByPath, values}
 use Rattle.fir_leaf.specs.working.TreeStores.{LeafFacts, PathStore, exec_tree_all}
 

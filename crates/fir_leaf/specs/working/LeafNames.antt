@@ -3,7 +3,7 @@
 use Rattle.std.specs.Prelude.{ℕ, ◌+◌, List, take}
 use Rattle.fir_ast.specs.declared.place.Place.{Place}
 use Rattle.fir_meaning.specs.LeafPaths.{path_text}
-use Rattle.fir_leaf.specs.working.LeafModules.{leaf_at}
+use Rattle.fir_meaning.specs.LeafModules.{leaf_at}
 use Rattle.fir_leaf.specs.working.LeafCircuits.{LeafCircuit}
 
 abbrev pub place_of_leaf : LeafCircuit → ℕ → Place

@@ -3,8 +3,8 @@
 -- statements store, else what it shows. Else it keeps its state. A pipe and the arrays follow their clocks, and all of one tick follow from what was before.
 use Rattle.std.specs.Prelude.{ℕ, List, ◌++◌, map, Bool, not, ◌&&◌, if◌then◌else◌, Option, Some, None, unwrap_or}
 use Rattle.fir_base.specs.Ticks.{Tick}
-use Rattle.fir_leaf.specs.working.TermValues.{Env, clock_of, is_true}
-use Rattle.fir_leaf.specs.working.LeafModules.{LeafReset, Role, pipe, register}
+use Rattle.fir_meaning.specs.TermValues.{Env, clock_of, is_true}
+use Rattle.fir_meaning.specs.LeafModules.{LeafReset, Role, pipe, register}
 use Rattle.fir_leaf.specs.working.LeafCircuits.{LeafCircuit, role_of, type_of_leaf}
 use Rattle.fir_leaf.specs.working.LeafStates.{look}
 use Rattle.fir_leaf.specs.working.Memories.{arrays_next, has_edge, piped}

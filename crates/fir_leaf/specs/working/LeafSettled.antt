@@ -4,10 +4,10 @@
 use Rattle.std.specs.Prelude.{◌≡◌, ℕ, ◌^◌, ◌<◌, ◌≤◌, List, [], length, ◌&&◌, if◌then◌else◌, Option, Some, None}
 use Rattle.fir_base.specs.Ticks.{Tick, HasShape}
 use Rattle.fir_meaning.specs.Exec.{fit}
-use Rattle.fir_leaf.specs.working.Terms.{Term}
-use Rattle.fir_leaf.specs.working.TermValues.{Env, clock_of, eval, is_true}
-use Rattle.fir_leaf.specs.working.LeafBlocks.{exec_all, nothing_stored}
-use Rattle.fir_leaf.specs.working.LeafModules.{LeafReset, LeafType, Role, a_clock, computed, leaf_at, number, pipe, reading, register, sink, source}
+use Rattle.fir_meaning.specs.Terms.{Term}
+use Rattle.fir_meaning.specs.TermValues.{Env, clock_of, eval, is_true}
+use Rattle.fir_meaning.specs.LeafBlocks.{exec_all, nothing_stored}
+use Rattle.fir_meaning.specs.LeafModules.{LeafReset, LeafType, Role, a_clock, computed, leaf_at, number, pipe, reading, register, sink, source}
 use Rattle.fir_leaf.specs.working.LeafCircuits.{LeafCircuit, depth_of, role_of, type_of_leaf}
 use Rattle.fir_leaf.specs.working.LeafStates.{look, place_in, shape}
 use Rattle.fir_leaf.specs.working.Memories.{read_before}

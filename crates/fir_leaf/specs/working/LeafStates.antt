@@ -3,7 +3,7 @@
 -- bits, and its value is zero.
 use Rattle.std.specs.Prelude.{ℕ, ◌+◌, List, [], ◌∷◌, ◌++◌, map, flat_map, length, replicate, nat_eq, if◌then◌else◌, Option, Some, None, slice_index_or}
 use Rattle.fir_base.specs.Ticks.{Shape}
-use Rattle.fir_leaf.specs.working.LeafModules.{LeafArray, no_bits, number, number_type}
+use Rattle.fir_meaning.specs.LeafModules.{LeafArray, no_bits, number, number_type}
 use Rattle.fir_leaf.specs.working.LeafCircuits.{LeafCircuit, type_of_leaf}
 
 abbrev pub no_array : LeafArray

@@ -5,8 +5,8 @@ use Rattle.std.specs.Prelude.{ℕ, zero, suc, ◌+◌, List, [], ◌∷◌, map,
 use Rattle.fir_base.specs.Ticks.{rises}
 use Rattle.fir_ast.specs.declared.statements.ReadUnderWrite.{ReadUnderWrite}
 use Rattle.fir_ast.specs.declared.statements.ReadUnderWrite.TheVariants.{Old, New, Undefined}
-use Rattle.fir_leaf.specs.working.TermValues.{Env}
-use Rattle.fir_leaf.specs.working.LeafModules.{Need, Reading, Writing}
+use Rattle.fir_meaning.specs.TermValues.{Env}
+use Rattle.fir_meaning.specs.LeafModules.{Need, Reading, Writing}
 use Rattle.fir_leaf.specs.working.LeafCircuits.{LeafCircuit}
 use Rattle.fir_leaf.specs.working.LeafStates.{array_of}
 

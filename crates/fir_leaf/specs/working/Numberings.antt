@@ -3,8 +3,8 @@
 -- The leaves of an instance's ports are leaves of the module that holds it; so a port and its instance's port are one leaf. Terms, roles and what writes an
 -- array are moved with the leaves that they speak of.
 use Rattle.std.specs.Prelude.{ℕ, ◌+◌, ◌-◌, map, nat_lt, if◌then◌else◌, option_map}
-use Rattle.fir_leaf.specs.working.Terms.{Term, zeros, absent, literal, read, operation, mux, validif, Picks, no_picks, pick, Terms, no_terms, term}
-use Rattle.fir_leaf.specs.working.LeafModules.{LeafModule, LeafReset, Need, Reading, Role, Writing, computed, pipe, reading, register, sink, source}
+use Rattle.fir_meaning.specs.Terms.{Term, zeros, absent, literal, read, operation, mux, validif, Picks, no_picks, pick, Terms, no_terms, term}
+use Rattle.fir_meaning.specs.LeafModules.{LeafModule, LeafReset, Need, Reading, Role, Writing, computed, pipe, reading, register, sink, source}
 
 -- how many leaves the ports have, the number of the first of them, and that of the first of the others
 pub record Numbering : Type 0 where

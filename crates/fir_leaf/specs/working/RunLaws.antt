@@ -4,10 +4,10 @@ use Rattle.fir_base.specs.Lists.{In}
 use Rattle.fir_base.specs.Ticks.{Tick, FitEach}
 use Rattle.fir_bits.specs.Values.{IsBitVector}
 use Rattle.fir_ast.specs.declared.statements.ReadUnderWrite.{ReadUnderWrite}
-use Rattle.fir_leaf.specs.working.Terms.{Term, no_picks, read}
-use Rattle.fir_leaf.specs.working.TermValues.{Env, eval}
-use Rattle.fir_leaf.specs.working.Choices.{Live}
-use Rattle.fir_leaf.specs.working.LeafModules.{LeafReset, LeafType, Reading, Writing, a_clock, leaf_at, number, pipe, register}
+use Rattle.fir_meaning.specs.Terms.{Term, no_picks, read}
+use Rattle.fir_meaning.specs.TermValues.{Env, eval}
+use Rattle.fir_meaning.specs.Choices.{Live}
+use Rattle.fir_meaning.specs.LeafModules.{LeafReset, LeafType, Reading, Writing, a_clock, leaf_at, number, pipe, register}
 use Rattle.fir_leaf.specs.working.LeafCircuits.{LeafCircuit, role_of, type_of_leaf}
 use Rattle.fir_leaf.specs.working.LeafStates.{array_of, array_width, shape}
 use Rattle.fir_leaf.specs.working.LeafSettled.{Settled}

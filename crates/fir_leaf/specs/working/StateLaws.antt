@@ -1,8 +1,8 @@
 -- Laws of the order of a design's state: nothing that shows state is left out of it, and nothing stands in it twice (FIRRTL spec, "Registers", "Memories").
 use Rattle.std.specs.Prelude.{◌≡◌, ℕ, ◌<◌, ◌≤◌, List, map, length, true, false}
 use Rattle.fir_base.specs.Lists.{In, Distinct}
-use Rattle.fir_leaf.specs.working.LeafModules.{LeafModule, leaf_at}
-use Rattle.fir_leaf.specs.working.LeafedModules.{Scene, leafed_module}
+use Rattle.fir_meaning.specs.LeafModules.{LeafModule, leaf_at}
+use Rattle.fir_meaning.specs.LeafedModules.{Scene, leafed_module}
 use Rattle.fir_leaf.specs.working.LeafCircuits.{LeafCircuit, role_of}
 use Rattle.fir_leaf.specs.working.Designs.{IsDesignOf, Item, drive, when, instance, Items, done, then, Design, made_of}
 use Rattle.fir_leaf.specs.working.DesignStates.{array_at}

@@ -3,7 +3,7 @@
 -- and the state of an instance stands in the place of its declaration. Arrays have a walk of their own. What has no bits is in no list.
 use Rattle.std.specs.Prelude.{ℕ, suc, ◌+◌, List, [], ◌∷◌, ◌++◌, map, flat_map, length, Bool, true, false, ◌&&◌, nat_eq, nat_lt, if◌then◌else◌}
 use Rattle.std.specs.List.{range_with_len}
-use Rattle.fir_leaf.specs.working.LeafModules.{LeafArray, LeafDeclared, LeafModule, LeafType, Role, number_type, pipe, register}
+use Rattle.fir_meaning.specs.LeafModules.{LeafArray, LeafDeclared, LeafModule, LeafType, Role, number_type, pipe, register}
 use Rattle.fir_leaf.specs.working.Designs.{Item, drive, when, instance, Items, done, then, Design, made_of}
 use Rattle.fir_leaf.specs.working.Numberings.{Numbering, number, numbering}
 use Rattle.fir_leaf.specs.working.FlatDesigns.{inner_leaves, count, count_all, array_count, array_count_all}

@@ -13,12 +13,12 @@ use Rattle.fir_meaning.specs.TypeGroup.{type_faults}
 use Rattle.fir_meaning.specs.ComponentTypes.{typed_scope}
 use Rattle.fir_meaning.specs.Visibility.{declarations}
 use Rattle.fir_meaning.specs.SizedDeclarations.{numbered_modules}
-use Rattle.fir_leaf.specs.working.TermValues.{Holds}
-use Rattle.fir_leaf.specs.working.LeafBlocks.{exec_all, nothing_stored}
+use Rattle.fir_meaning.specs.TermValues.{Holds}
+use Rattle.fir_meaning.specs.LeafBlocks.{exec_all, nothing_stored}
 use Rattle.fir_leaf.specs.working.ChoiceLaws.{fitted_at}
-use Rattle.fir_leaf.specs.working.LeafModules.{LeafDeclared, LeafModule, depth_at, is_sink, leaf_at, may_drive, no_leaf, number_type}
-use Rattle.fir_leaf.specs.working.LeafedModules.{Scene, behind_all_ports, leafed_module, module_leaves}
-use Rattle.fir_leaf.specs.working.LeafMemories.{leaves_of_data}
+use Rattle.fir_meaning.specs.LeafModules.{LeafDeclared, LeafModule, depth_at, is_sink, leaf_at, may_drive, no_leaf, number_type}
+use Rattle.fir_meaning.specs.LeafedModules.{Scene, behind_all_ports, leafed_module, module_leaves}
+use Rattle.fir_meaning.specs.LeafMemories.{leaves_of_data}
 use Rattle.fir_leaf.specs.working.LeafNumbers.{BlockWithin}
 use Rattle.fir_leaf.specs.working.TreeValues.{ValuesByPath}
 use Rattle.fir_leaf.specs.working.TreeStores.{LeafFacts, exec_tree_all, same_path}

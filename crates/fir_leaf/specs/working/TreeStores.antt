@@ -18,8 +18,8 @@ use Rattle.fir_meaning.specs.TypeGroup.{scope_at}
 use Rattle.fir_meaning.specs.ExpressionTypes.{expression_type}
 use Rattle.fir_meaning.specs.Eval.{is_high}
 use Rattle.fir_meaning.specs.Exec.{fit}
-use Rattle.fir_leaf.specs.working.LeafBlocks.{counts}
-use Rattle.fir_leaf.specs.working.LeafedBlocks.{type_where}
+use Rattle.fir_meaning.specs.LeafBlocks.{counts}
+use Rattle.fir_meaning.specs.LeafedBlocks.{type_where}
 use Rattle.fir_leaf.specs.working.TreeAims.{Aim}
 use Rattle.fir_leaf.specs.working.TreeValues.{TypesByPath, ValuesByPath, leaf_where, value, aim_of, aim_read, aim_value}
 

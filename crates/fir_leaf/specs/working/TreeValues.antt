@@ -11,7 +11,7 @@ use Rattle.fir_meaning.specs.LeafPaths.{LeafPath}
 use Rattle.fir_meaning.specs.TypeLeaves.{type_leaves}
 use Rattle.fir_meaning.specs.TypedScopes.{TypedScope}
 use Rattle.fir_meaning.specs.Eval.{number_of, literal_value, is_high, choice, value_or_zero}
-use Rattle.fir_leaf.specs.working.Leafed.{absent_type}
+use Rattle.fir_meaning.specs.Leafed.{absent_type}
 use Rattle.fir_leaf.specs.working.TreeAims.{Aim, named_aim, field_aim, element_aim, picked_aim}
 use Rattle.fir_leaf.specs.working.TypeParts.{ground_at}
 

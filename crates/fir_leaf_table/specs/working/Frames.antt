@@ -13,9 +13,10 @@ use Rattle.fir_types.specs.working.LeafNumbers.{first_leaves}
 use Rattle.fir_types.specs.working.Seen.{seen}
 use Rattle.fir_types.specs.working.TypedModules.{IsTyped}
 use Rattle.fir_types.specs.working.Walked.{Begins, IsOfModule}
-use Rattle.fir_leaf.specs.working.LeafedModules.{Scene}
+use Rattle.fir_meaning.specs.LeafedModules.{Scene}
 use Rattle.fir_leaf_table.specs.declared.frame.Frame.{Frame}
-use Rattle.fir_leaf_table.specs.working.Scenes.{IsSceneOf}
+use Rattle.fir_leaf_table.specs.working.ModulePlaces.{ArePlacesOf}
+use Rattle.fir_meaning.specs.Scenes.{IsSceneOf}
 
 -- the frame is that of the scene's module
 pub record Frames (frame : Frame) (c : CircuitTree) (s : Scene) : Type 0 where
@@ -27,6 +28,7 @@ pub record Frames (frame : Frame) (c : CircuitTree) (s : Scene) : Type 0 where
   pub modules : s.own.modules ≡ c.modules
   pub names : IsOfModule c.modules frame.names.now (declarations s.own.inside)
   pub types : map (seen (types_of frame.findings.now.table)) frame.declared.now ≡ map (λ k. k.data_type) (typed_scope c.modules (declarations s.own.inside))
+  pub port_places : ArePlacesOf c.modules frame.port_places.now
   pub first_leaves : slice_get (map (map saturated) (first_leaves c)) frame.number ≡ Some frame.first_leaves.now
 
 -- a component is declared at the place, behind so many declarations of the module

@@ -1,9 +1,9 @@
 -- The modules of a circuit over their ground leaves.
 use Rattle.std.specs.Prelude.{◌≡◌, ℕ, List, length, Some, slice_get}
 use Rattle.fir_ast.specs.Circuits.{CircuitTree}
-use Rattle.fir_leaf.specs.working.LeafedModules.{Scene, leafed_module}
+use Rattle.fir_meaning.specs.LeafedModules.{Scene, leafed_module}
 use Rattle.fir_leaf_table.specs.declared.leaf_module.LeafModule.{LeafModule}
-use Rattle.fir_leaf_table.specs.working.Scenes.{IsSceneOf}
+use Rattle.fir_meaning.specs.Scenes.{IsSceneOf}
 use Rattle.fir_leaf_table.specs.working.Seen.{HasView}
 
 -- each is the leaf view of the module of its number

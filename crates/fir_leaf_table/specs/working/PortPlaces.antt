@@ -1,22 +1,18 @@
 -- Where the leaves of a module's ports stand, as those of an instance.
-use Rattle.std.specs.Prelude.{◌≡◌, ℕ, List, ◌++◌, map, flat_map, replicate, Option, Some, None}
+use Rattle.std.specs.Prelude.{◌≡◌, ℕ, List, ◌++◌, map, Option, Some, None}
 use Rattle.fir_ast.specs.declared.place.Place.{Place}
 use Rattle.fir_ast.specs.Circuits.{CircuitTree, ModuleTree, PortTree}
 use Rattle.fir_ast.specs.Statements.{PlacedName}
 use Rattle.fir_ast.specs.Types.{DataType}
 use Rattle.fir_meaning.specs.Components.{instance}
 use Rattle.fir_meaning.specs.ResetJoins.{numbered_module}
-use Rattle.fir_meaning.specs.TypeLeaves.{leaf_count}
 use Rattle.fir_meaning.specs.Visibility.{Before}
 use Rattle.fir_types.specs.declared.found.Found.{Found}
 use Rattle.fir_types.specs.working.Seen.{seen}
-use Rattle.fir_leaf.specs.working.LeafedModules.{Scene}
+use Rattle.fir_meaning.specs.LeafedModules.{Scene}
 use Rattle.fir_leaf_table.specs.declared.frame.Frame.{Frame}
 use Rattle.fir_leaf_table.specs.working.Frames.{Frames, IsDeclaredAt}
-
--- of each leaf of these ports, where its port stands
-abbrev pub places_of : List PortTree → List Place
-places_of ps = flat_map (λ p. replicate (leaf_count p.data_type) p.named.place) ps
+use Rattle.fir_leaf_table.specs.working.ModulePlaces.{places_of}
 
 -- the types that are found begin with those of the ports
 abbrev pub HaveTypes : List DataType → List PortTree → List (Option Found) → Type 0

@@ -14,7 +14,7 @@ use Rattle.fir_ast.specs.Expressions.{Expression, reference, literal, operation,
 use Rattle.fir_ast.specs.Statements.{Statement, register, node, connect, skip, Block, done, then}
 use Rattle.fir_ast.specs.Circuits.{PortTree, ModuleTree, CircuitTree}
 use Rattle.fir_meaning.specs.Scopes.{clock_input, output, register_value, is_readable, Declared, Scope, look_up, literal_type, types_of_each, type_of, declares, port_declared, scope_of}
-use Rattle.fir_meaning.specs.DrivenFaults.{is_connected}
+use Rattle.fir_meaning.specs.working.DrivenFaults.{is_connected}
 
 -- a name that may be read
 pub record IsReadable (scope : Scope) (name : List ℕ) : Type 0 where

@@ -10,7 +10,7 @@ use Rattle.fir_meaning.specs.working.NameFaults.{name_rule}
 use Rattle.fir_meaning.specs.working.TypeFaults.{type_rule}
 use Rattle.fir_meaning.specs.working.WidthFaults.{width_rule}
 use Rattle.fir_meaning.specs.working.LegalityFaults.{legality_rule}
-use Rattle.fir_meaning.specs.DrivenFaults.{undriven_faults}
+use Rattle.fir_meaning.specs.working.DrivenFaults.{undriven_faults}
 
 abbrev pub is_module : List ModuleTree → List ℕ → Bool
 is_module [] name = false

@@ -7,9 +7,9 @@ use Rattle.fir_driver.proofs.passes.verilog_of.Goals as goal
 pub compile-requires-clause-words : goal.compile-requires-clause-words
 compile-requires-clause-words c =
     subst (λ t. HasWords (circuit_of t)) (sym c.circuit.ensures.tree)
-    (c.spelled_names_are_words.ensures c.args.bytes.now (circuit_of c.in_ok-named.named) c.in_ok-named.ensures.spelled)
+    (c.spelled_names_are_words.ensures c.args.bytes.now (circuit_of c.in_ok-named.named) c.in_ok-named.ensures.taken.spelled)
 
 pub compile-requires-clause-faultless : goal.compile-requires-clause-faultless
 compile-requires-clause-faultless c =
     subst (λ t. Faultless (circuit_of t)) (sym c.circuit.ensures.tree)
-    (c.taken_is_faultless.ensures c.args.bytes.now (circuit_of c.in_ok-named.named) c.in_ok-named.ensures)
+    c.in_ok-named.ensures.faultless

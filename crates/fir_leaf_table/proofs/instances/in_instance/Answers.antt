@@ -1,5 +1,5 @@
-use Rattle.std.proofs.Common.{◌≡◌, ℕ, [], ◌∷◌, Some, refl, sym, ap, subst}
-use Rattle.std.specs.Prelude.{slice_get, slice_index_or}
+use Rattle.std.proofs.Common.{◌≡◌, ℕ, [], ◌∷◌, Some, refl, sym, subst}
+use Rattle.std.specs.Prelude.{slice_get}
 use Rattle.std.proofs.lemmas.Result.{on_ok_weaker}
 use Rattle.fir_ast.specs.View.{named_of}
 use Rattle.fir_meaning.specs.Components.{instance}
@@ -7,13 +7,13 @@ use Rattle.fir_meaning.specs.ComponentTypes.{instance_type}
 use Rattle.fir_meaning.specs.ResetJoins.{numbered_module}
 use Rattle.fir_meaning.specs.TypeLeaves.{TypeLeaf}
 use Rattle.fir_ground.specs.working.DeclarationDrivers.{others}
-use Rattle.fir_leaf.specs.working.LeafedModules.{instance_place, instance_role}
-use Rattle.fir_leaf.specs.working.LeafMemories.{leaves_of_data}
+use Rattle.fir_meaning.specs.LeafedModules.{instance_place, instance_role}
+use Rattle.fir_meaning.specs.LeafMemories.{leaves_of_data}
 use Rattle.fir_leaf_table.specs.declared.giver.Giver.TheVariants as giver
 use Rattle.fir_leaf_table.specs.declared.places.Places.TheVariants as places
 use Rattle.fir_leaf_table.proofs.DeclarationWalks.{leaves_come, ready_by}
 use Rattle.fir_leaf_table.proofs.GivenLeaves.{Agrees}
-use Rattle.fir_leaf_table.proofs.InstancePlaces.{chosen, instance_agrees}
+use Rattle.fir_leaf_table.proofs.InstancePlaces.{instance_agrees}
 use Rattle.fir_leaf_table.proofs.NextDrivers.{takes_rest}
 use Rattle.fir_leaf_table.proofs.instances.in_instance.Goals as goal
 
@@ -24,10 +24,10 @@ returns c = λ place other circuit s before nodes rest enters declared.
     let old = c.args.walk.now in
     let mid = c.next_driver.new.self in
     let frames = enters.frames in
-    let stands = places.Ports n.place c.deref.result in
-    let those = c.in_ok-ports.ensures circuit s before n name frames (record { begins = declared; counted = enters.counts.declared }) in
-    let agree = instance_agrees circuit frames.named n name c.in_ok-ports.ports.items nodes stands
-    (λ k flip. ap (λ ps. chosen circuit frames.named n name c.in_ok-ports.ports.items flip (slice_index_or ps k n.place)) c.deref.ensures.value) those in
+    let ports = c.port_places-ports.result in
+    let stands = places.Ports n.place ports in
+    let those = c.port_places-ports.ensures circuit s before n name frames (record { begins = declared; counted = enters.counts.declared }) in
+    let agree = instance_agrees circuit frames.named n name ports.now nodes stands (λ k flip. refl) those in
     on_ok_weaker c.push_leaves.result
     (λ pushes.
     leaves_come c.args.frame.now circuit s before n (instance name) nodes (others ∷ rest) rest c.args.depth stands giver.Instance

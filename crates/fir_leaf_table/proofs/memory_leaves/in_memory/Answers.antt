@@ -8,9 +8,9 @@ use Rattle.fir_meaning.specs.Costs.{sum_of}
 use Rattle.fir_meaning.specs.MemoryTypes.{data_of_part, first_one}
 use Rattle.fir_meaning.specs.SizedMemories.{sized_array}
 use Rattle.fir_ground.specs.working.DeclarationDrivers.{others}
-use Rattle.fir_leaf.specs.working.LeafedModules.{held_types, memory_arrays, memory_before, role_in}
-use Rattle.fir_leaf.specs.working.LeafMemories.{arrays_of, leaves_of_data, memory_behind, memory_declared, memory_roles}
-use Rattle.fir_leaf.specs.working.LeafModules.{source}
+use Rattle.fir_meaning.specs.LeafedModules.{held_types, memory_arrays, memory_before, role_in}
+use Rattle.fir_meaning.specs.LeafMemories.{arrays_of, leaves_of_data, memory_behind, memory_declared, memory_roles}
+use Rattle.fir_meaning.specs.LeafModules.{source}
 use Rattle.fir_leaf_table.specs.declared.giver.Giver.TheVariants as giver
 use Rattle.fir_leaf_table.specs.declared.places.Places.TheVariants as places
 use Rattle.fir_leaf_table.specs.declared.leaf_module.MemoryClocks.{MemoryClocks}

@@ -45,4 +45,4 @@ returns-clause-frames c = λ s scene.
     (read_is found.declared.items k c.index.result.now f.declared c.index.ensures f.declared_at) in
     let leaves = c.as_slice-2.ensures.value
     ∙ ap (λ (v : Vec ℕ Global). v.items) (read_is found.first_leaves.items k c.index-2.result.now f.leaves c.index-2.ensures f.leaves_at) in
-    framed tree found c.requires.names typed k m.0 m.1 _ refl refl refl tabulated declared leaves s scene
+    framed tree found c.requires.names typed k m.0 m.1 _ refl refl refl tabulated declared leaves c.requires.places s scene

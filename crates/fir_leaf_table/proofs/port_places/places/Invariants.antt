@@ -1,7 +1,8 @@
 use Rattle.std.proofs.Common.{◌≡◌, ◌++◌, drop, length, map}
 use Rattle.fir_ast.specs.View.{port_of}
 use Rattle.fir_type_table.specs.working.Tables.{types_of}
-use Rattle.fir_leaf_table.specs.working.PortPlaces.{HaveTypes, places_of}
+use Rattle.fir_leaf_table.specs.working.ModulePlaces.{places_of}
+use Rattle.fir_leaf_table.specs.working.PortPlaces.{HaveTypes}
 use Rattle.fir_leaf_table.proofs.port_places.places.Given as goal
 
 abbrev pub invariant-loop-port : goal.invariant-loop-port

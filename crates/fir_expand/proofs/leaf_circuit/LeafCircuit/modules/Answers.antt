@@ -3,7 +3,7 @@ use Rattle.fir_ast.specs.View.{circuit_of}
 use Rattle.fir_meaning.specs.NameGroups.{HasNames}
 use Rattle.fir_meaning.specs.TypeGroup.{type_faults}
 use Rattle.fir_leaf_table.specs.working.Leafed.{AreLeafed}
-use Rattle.fir_leaf_table.specs.working.Scenes.{HasScenes}
+use Rattle.fir_meaning.specs.Scenes.{HasScenes}
 use Rattle.fir_expand.proofs.CodeStores.{stores_of_code}
 use Rattle.fir_expand.proofs.leaf_circuit.LeafCircuit.modules.Goals as goal
 

@@ -1,0 +1,7 @@
+circuit T :
+  module T :
+    input a : UInt<1>
+    input b : UInt<1>
+    output o : UInt<1>
+    o <= a
+    o <= b

@@ -1,0 +1,7 @@
+circuit T :
+  module T :
+    input c : Clock
+    input s : UInt<1>
+    wire w : Clock
+    w is invalid
+    w <= c

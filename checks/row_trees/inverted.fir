@@ -1,0 +1,7 @@
+circuit T :
+  module T :
+    input a : UInt<1>
+    output o : UInt<1>
+    wire w : UInt<1>
+    w <= not(w)
+    o <= w

@@ -1,0 +1,9 @@
+circuit T :
+  module T :
+    input a : UInt<1>
+    input b : UInt<1>
+    input c : UInt<1>
+    output o : UInt<1>
+    when a :
+      when c :
+        o <= b

@@ -1,0 +1,8 @@
+-- What no clause of `run` reads yet: terms of a net, and what drives each leaf.
+pub mod NetTerms
+pub mod NetValues
+pub mod NetReads
+pub mod Lowered
+pub mod Drivers
+pub mod LoweredLaws
+pub mod DriverLaws

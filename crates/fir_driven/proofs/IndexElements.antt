@@ -1,0 +1,25 @@
+-- The leaves behind indices, one index and one element after another.
+use Rattle.std.proofs.Common.{◌≡◌, ℕ, ◌+◌, suc, List, [], ◌∷◌, ◌++◌, Option, refl, sym, ap, ◌∙◌, append_assoc, append-nil}
+use Rattle.fir_leaf.specs.declared.node.Node.{Node}
+use Rattle.fir_leaf.specs.declared.node.Pick.{Pick}
+use Rattle.fir_leaf.specs.working.Nodes.{entries, picks_at}
+use Rattle.fir_meaning.specs.TermReads.{multiples, reached}
+use Rattle.fir_driven.specs.working.Indices.{IsIndex, elements_behind, leaves_behind}
+
+-- the next element
+pub next_element : (out : List ℕ) (b n each : ℕ) → out ++ multiples b (suc n) each ≡ (out ++ b ∷ []) ++ multiples (b + each) n each
+unfolding multiples
+next_element out b n each = sym (append_assoc out (b ∷ []) (multiples (b + each) n each))
+
+pub no_element : (out : List ℕ) (b each : ℕ) → out ++ multiples b 0 each ≡ out
+unfolding multiples
+no_element out b each = append-nil out
+
+-- one more index
+pub behind_index : (ps : List Pick) (p : Pick) (xs : List ℕ) → leaves_behind (ps ++ p ∷ []) xs ≡ leaves_behind ps (elements_behind p xs)
+behind_index [] p xs = refl
+behind_index (q ∷ ps) p xs = ap (elements_behind q) (behind_index ps p xs)
+
+pub reached_behind : (nodes : List Node) (first : ℕ) (picks : Option ℕ) (p : Pick) → IsIndex nodes picks p
+    → reached first (picks_at (entries nodes) picks) ≡ elements_behind p (reached first (picks_at (entries nodes) p.before))
+reached_behind nodes first picks p is = ap (reached first) is.is

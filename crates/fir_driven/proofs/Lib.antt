@@ -1,0 +1,15 @@
+pub mod FirstChoices
+pub mod DrivenMisses
+pub mod AmongLeaves
+pub mod FlagSteps
+pub mod MarkedLeaves
+pub mod JoinedLists
+pub mod CoveredStatements
+pub mod CoveredBlocks
+pub mod CoveredWhens
+pub mod IndexEntries
+pub mod IndexElements
+pub mod LeafViews
+pub mod MissesInBlocks
+pub mod MissesInWhens
+pub mod MissesOfDrives

@@ -1,0 +1,826 @@
+-- Made by checks/row_trees.py: the trees of the texts in checks/row_trees.
+use Rattle.std.proofs.Common.{[], ◌∷◌, true, false, Some, None}
+use Rattle.std.specs.Prelude.{codes}
+use Rattle.fir_base.specs.declared.direction.Direction.TheVariants.{Input, Output}
+use Rattle.fir_bits.specs.declared.operators.PrimOp.TheVariants as op
+use Rattle.fir_ast.specs.declared.statements.ReadUnderWrite.TheVariants.{Old, New}
+use Rattle.fir_ast.specs.Types.{uint, sint, clock, async_reset, bundle, vector, no_fields, field}
+use Rattle.fir_ast.specs.Expressions.{reference, operation, no_parts, subfield, subindex, subaccess, no_expressions, expression}
+use Rattle.fir_ast.specs.Statements.{data_type, depth, read_latency, write_latency, reader, writer, readwriter, read_under_write, wire, register, node, instance, memory, when, connect, partial_connect, invalid}
+use Rattle.fir_ast.specs.Circuits.{CircuitTree}
+use Rattle.fir_meaning.proofs.SmallTrees.{at, name_at, block}
+use Rattle.fir_leaf.proofs.TreeForms.{circuit_tree, module_tree, port_tree, sink, with_reset, unsigned}
+
+abbrev pub async_counter : CircuitTree
+async_counter = circuit_tree (name_at 1 9 (codes "T"))
+    (module_tree (at 2 3) (name_at 2 10 (codes "T"))
+    (port_tree Input (name_at 3 11 (codes "clock")) (at 3 19) clock
+    ∷ port_tree Input (name_at 4 11 (codes "rst")) (at 4 17) async_reset
+    ∷ port_tree Output (name_at 5 12 (codes "o")) (at 5 16) (uint (Some 4))
+    ∷ [])
+    (register (at 6 5) (name_at 6 9 (codes "r")) (at 6 13) (uint (Some 4)) (reference (at 6 22) (codes "clock") no_parts)
+    (with_reset (at 6 28) (reference (at 6 46) (codes "rst") no_parts) (unsigned (at 6 51) (Some 4) 9))
+    ∷ connect (at 7 5) (sink (at 7 5) (codes "r") no_parts)
+    (operation (at 7 10) op.Tail
+    (expression
+    (operation (at 7 15) op.Add
+    (expression (reference (at 7 19) (codes "r") no_parts) (expression (unsigned (at 7 22) (Some 1) 1) no_expressions)) []) no_expressions) (1 ∷ []))
+    ∷ connect (at 8 5) (sink (at 8 5) (codes "o") no_parts) (reference (at 8 10) (codes "r") no_parts)
+    ∷ [])
+    ∷ [])
+
+abbrev pub behind_vector : CircuitTree
+behind_vector = circuit_tree (name_at 1 9 (codes "T"))
+    (module_tree (at 2 3) (name_at 2 10 (codes "T"))
+    (port_tree Input (name_at 3 11 (codes "i")) (at 3 15) (uint (Some 2))
+    ∷ port_tree Output (name_at 4 12 (codes "o")) (at 4 16) (vector (uint (Some 4)) 3)
+    ∷ port_tree Input (name_at 5 11 (codes "x")) (at 5 15) (uint (Some 4))
+    ∷ port_tree Output (name_at 6 12 (codes "p")) (at 6 16) (uint (Some 4))
+    ∷ [])
+    (connect (at 7 5) (sink (at 7 5) (codes "o") (subaccess (at 7 6) (reference (at 7 7) (codes "i") no_parts) no_parts))
+    (reference (at 7 13) (codes "x") no_parts)
+    ∷ connect (at 8 5) (sink (at 8 5) (codes "p") no_parts)
+    (reference (at 8 10) (codes "o") (subaccess (at 8 11) (reference (at 8 12) (codes "i") no_parts) no_parts))
+    ∷ [])
+    ∷ [])
+
+abbrev pub by_index : CircuitTree
+by_index = circuit_tree (name_at 1 9 (codes "T"))
+    (module_tree (at 2 3) (name_at 2 10 (codes "T"))
+    (port_tree Input (name_at 3 11 (codes "i")) (at 3 15) (uint (Some 1))
+    ∷ port_tree Input (name_at 4 11 (codes "x")) (at 4 15) (uint (Some 4))
+    ∷ port_tree Output (name_at 5 12 (codes "o")) (at 5 16) (vector (uint (Some 4)) 2)
+    ∷ [])
+    (connect (at 6 5) (sink (at 6 5) (codes "o") (subaccess (at 6 6) (reference (at 6 7) (codes "i") no_parts) no_parts))
+    (reference (at 6 13) (codes "x") no_parts)
+    ∷ [])
+    ∷ [])
+
+abbrev pub chain : CircuitTree
+chain = circuit_tree (name_at 1 9 (codes "T"))
+    (module_tree (at 2 3) (name_at 2 10 (codes "T"))
+    (port_tree Input (name_at 3 11 (codes "x")) (at 3 15) (uint (Some 4))
+    ∷ port_tree Output (name_at 4 12 (codes "y")) (at 4 16) (uint (Some 4))
+    ∷ port_tree Output (name_at 5 12 (codes "seen")) (at 5 19) (uint (Some 1))
+    ∷ [])
+    (instance (at 6 5) (name_at 6 10 (codes "p")) (name_at 6 15 (codes "M"))
+    ∷ instance (at 7 5) (name_at 7 10 (codes "q")) (name_at 7 15 (codes "M"))
+    ∷ connect (at 8 5) (sink (at 8 5) (codes "p") (subfield (at 8 6) (at 8 7) (codes "up") (subfield (at 8 9) (at 8 10) (codes "d") no_parts)))
+    (reference (at 8 15) (codes "x") no_parts)
+    ∷ connect (at 9 5) (sink (at 9 5) (codes "seen") no_parts)
+    (reference (at 9 13) (codes "p") (subfield (at 9 14) (at 9 15) (codes "up") (subfield (at 9 17) (at 9 18) (codes "r") no_parts)))
+    ∷ connect (at 10 5) (sink (at 10 5) (codes "q") (subfield (at 10 6) (at 10 7) (codes "up") no_parts))
+    (reference (at 10 13) (codes "p") (subfield (at 10 14) (at 10 15) (codes "down") no_parts))
+    ∷ connect (at 11 5) (sink (at 11 5) (codes "y") no_parts)
+    (reference (at 11 10) (codes "q") (subfield (at 11 11) (at 11 12) (codes "down") (subfield (at 11 16) (at 11 17) (codes "d") no_parts)))
+    ∷ connect (at 12 5) (sink (at 12 5) (codes "q") (subfield (at 12 6) (at 12 7) (codes "down") (subfield (at 12 11) (at 12 12) (codes "r") no_parts)))
+    (operation (at 12 17) op.Eq
+    (expression (reference (at 12 20) (codes "q") (subfield (at 12 21) (at 12 22) (codes "down") (subfield (at 12 26) (at 12 27) (codes "d") no_parts)))
+    (expression (unsigned (at 12 30) (Some 4) 5) no_expressions)) [])
+    ∷ [])
+    ∷ module_tree (at 13 3) (name_at 13 10 (codes "M"))
+    (port_tree Input (name_at 14 11 (codes "up")) (at 14 16)
+    (bundle (field (at 14 17) false (codes "d") (at 14 21) (uint (Some 4)) (field (at 14 35) true (codes "r") (at 14 39) (uint (Some 1)) no_fields)))
+    ∷ port_tree Output (name_at 15 12 (codes "down")) (at 15 19)
+    (bundle (field (at 15 20) false (codes "d") (at 15 24) (uint (Some 4)) (field (at 15 38) true (codes "r") (at 15 42) (uint (Some 1)) no_fields)))
+    ∷ [])
+    (connect (at 16 5) (sink (at 16 5) (codes "down") no_parts) (reference (at 16 13) (codes "up") no_parts)
+    ∷ [])
+    ∷ [])
+
+abbrev pub clock_ring : CircuitTree
+clock_ring = circuit_tree (name_at 1 9 (codes "T"))
+    (module_tree (at 2 3) (name_at 2 10 (codes "T"))
+    ([])
+    (wire (at 3 5) (name_at 3 10 (codes "w")) (at 3 14) clock
+    ∷ wire (at 4 5) (name_at 4 10 (codes "x")) (at 4 14) clock
+    ∷ connect (at 5 5) (sink (at 5 5) (codes "w") no_parts) (reference (at 5 10) (codes "x") no_parts)
+    ∷ connect (at 6 5) (sink (at 6 5) (codes "x") no_parts) (reference (at 6 10) (codes "w") no_parts)
+    ∷ [])
+    ∷ [])
+
+abbrev pub counter : CircuitTree
+counter = circuit_tree (name_at 1 9 (codes "T"))
+    (module_tree (at 2 3) (name_at 2 10 (codes "T"))
+    (port_tree Input (name_at 3 11 (codes "clock")) (at 3 19) clock
+    ∷ port_tree Input (name_at 4 11 (codes "reset")) (at 4 19) (uint (Some 1))
+    ∷ port_tree Output (name_at 5 12 (codes "o")) (at 5 16) (uint (Some 4))
+    ∷ [])
+    (register (at 6 5) (name_at 6 9 (codes "r")) (at 6 13) (uint (Some 4)) (reference (at 6 22) (codes "clock") no_parts)
+    (with_reset (at 6 28) (reference (at 6 46) (codes "reset") no_parts) (unsigned (at 6 53) (Some 4) 0))
+    ∷ connect (at 7 5) (sink (at 7 5) (codes "o") no_parts) (reference (at 7 10) (codes "r") no_parts)
+    ∷ connect (at 8 5) (sink (at 8 5) (codes "r") no_parts)
+    (operation (at 8 10) op.Tail
+    (expression
+    (operation (at 8 15) op.Add
+    (expression (reference (at 8 19) (codes "r") no_parts) (expression (unsigned (at 8 22) (Some 1) 1) no_expressions)) []) no_expressions) (1 ∷ []))
+    ∷ [])
+    ∷ [])
+
+abbrev pub covered : CircuitTree
+covered = circuit_tree (name_at 1 9 (codes "T"))
+    (module_tree (at 2 3) (name_at 2 10 (codes "T"))
+    (port_tree Input (name_at 3 11 (codes "a")) (at 3 15) (uint (Some 1))
+    ∷ port_tree Input (name_at 4 11 (codes "b")) (at 4 15) (uint (Some 1))
+    ∷ port_tree Output (name_at 5 12 (codes "o")) (at 5 16) (uint (Some 1))
+    ∷ [])
+    (connect (at 6 5) (sink (at 6 5) (codes "o") no_parts) (reference (at 6 10) (codes "a") no_parts)
+    ∷ connect (at 7 5) (sink (at 7 5) (codes "o") no_parts) (reference (at 7 10) (codes "b") no_parts)
+    ∷ [])
+    ∷ [])
+
+abbrev pub exchange : CircuitTree
+exchange = circuit_tree (name_at 1 9 (codes "T"))
+    (module_tree (at 2 3) (name_at 2 10 (codes "T"))
+    (port_tree Input (name_at 3 11 (codes "c")) (at 3 15) clock
+    ∷ port_tree Input (name_at 4 11 (codes "d")) (at 4 15) clock
+    ∷ port_tree Output (name_at 5 12 (codes "e")) (at 5 16) clock
+    ∷ port_tree Output (name_at 6 12 (codes "f")) (at 6 16) clock
+    ∷ [])
+    (wire (at 7 5) (name_at 7 10 (codes "w")) (at 7 14) clock
+    ∷ register (at 8 5) (name_at 8 9 (codes "r")) (at 8 13) (uint (Some 4)) (reference (at 8 22) (codes "c") no_parts) None
+    ∷ register (at 9 5) (name_at 9 9 (codes "s")) (at 9 13) (uint (Some 4)) (reference (at 9 22) (codes "w") no_parts) None
+    ∷ register (at 10 5) (name_at 10 9 (codes "t")) (at 10 13) (uint (Some 4)) (reference (at 10 22) (codes "f") no_parts) None
+    ∷ connect (at 11 5) (sink (at 11 5) (codes "e") no_parts) (reference (at 11 10) (codes "w") no_parts)
+    ∷ invalid (at 12 5) (sink (at 12 5) (codes "f") no_parts)
+    ∷ connect (at 13 5) (sink (at 13 5) (codes "w") no_parts) (reference (at 13 10) (codes "d") no_parts)
+    ∷ connect (at 14 5) (sink (at 14 5) (codes "r") no_parts) (reference (at 14 10) (codes "s") no_parts)
+    ∷ connect (at 15 5) (sink (at 15 5) (codes "s") no_parts) (reference (at 15 10) (codes "r") no_parts)
+    ∷ connect (at 16 5) (sink (at 16 5) (codes "t") no_parts) (reference (at 16 10) (codes "r") no_parts)
+    ∷ [])
+    ∷ [])
+
+abbrev pub flipped : CircuitTree
+flipped = circuit_tree (name_at 1 9 (codes "T"))
+    (module_tree (at 2 3) (name_at 2 10 (codes "T"))
+    (port_tree Input (name_at 3 11 (codes "x")) (at 3 15)
+    (bundle (field (at 3 16) false (codes "d") (at 3 20) (uint (Some 4)) (field (at 3 34) true (codes "r") (at 3 38) (uint (Some 1)) no_fields)))
+    ∷ port_tree Output (name_at 4 12 (codes "y")) (at 4 16)
+    (bundle (field (at 4 17) false (codes "d") (at 4 21) (uint (Some 4)) (field (at 4 35) true (codes "r") (at 4 39) (uint (Some 1)) no_fields)))
+    ∷ [])
+    (connect (at 5 5) (sink (at 5 5) (codes "y") no_parts) (reference (at 5 10) (codes "x") no_parts)
+    ∷ [])
+    ∷ [])
+
+abbrev pub flipped_clocks : CircuitTree
+flipped_clocks = circuit_tree (name_at 1 9 (codes "T"))
+    (module_tree (at 2 3) (name_at 2 10 (codes "T"))
+    (port_tree Input (name_at 3 11 (codes "i")) (at 3 15) (uint (Some 1))
+    ∷ port_tree Input (name_at 4 11 (codes "j")) (at 4 15) (uint (Some 1))
+    ∷ port_tree Output (name_at 5 12 (codes "z")) (at 5 16) (vector (bundle (field (at 5 22) true (codes "c") (at 5 26) clock no_fields)) 2)
+    ∷ [])
+    (wire (at 6 5) (name_at 6 10 (codes "v")) (at 6 14) (vector (bundle (field (at 6 20) true (codes "c") (at 6 24) clock no_fields)) 2)
+    ∷ connect (at 7 5) (sink (at 7 5) (codes "z") (subaccess (at 7 6) (reference (at 7 7) (codes "j") no_parts) no_parts))
+    (reference (at 7 13) (codes "v") (subaccess (at 7 14) (reference (at 7 15) (codes "i") no_parts) no_parts))
+    ∷ [])
+    ∷ [])
+
+abbrev pub in_a_when : CircuitTree
+in_a_when = circuit_tree (name_at 1 9 (codes "T"))
+    (module_tree (at 2 3) (name_at 2 10 (codes "T"))
+    (port_tree Input (name_at 3 11 (codes "a")) (at 3 15) (uint (Some 1))
+    ∷ port_tree Input (name_at 4 11 (codes "c")) (at 4 15) (uint (Some 1))
+    ∷ port_tree Output (name_at 5 12 (codes "o")) (at 5 16) (uint (Some 1))
+    ∷ [])
+    (when (at 6 5) (reference (at 6 10) (codes "c") no_parts)
+    (block (connect (at 7 7) (sink (at 7 7) (codes "o") no_parts) (reference (at 7 12) (codes "a") no_parts)
+    ∷ []))
+    (block [])
+    ∷ [])
+    ∷ [])
+
+abbrev pub in_both_blocks : CircuitTree
+in_both_blocks = circuit_tree (name_at 1 9 (codes "T"))
+    (module_tree (at 2 3) (name_at 2 10 (codes "T"))
+    (port_tree Input (name_at 3 11 (codes "c")) (at 3 15) clock
+    ∷ port_tree Input (name_at 4 11 (codes "d")) (at 4 15) clock
+    ∷ port_tree Input (name_at 5 11 (codes "s")) (at 5 15) (uint (Some 1))
+    ∷ [])
+    (wire (at 6 5) (name_at 6 10 (codes "w")) (at 6 14) clock
+    ∷ when (at 7 5) (reference (at 7 10) (codes "s") no_parts)
+    (block (connect (at 8 7) (sink (at 8 7) (codes "w") no_parts) (reference (at 8 12) (codes "c") no_parts)
+    ∷ []))
+    (block (connect (at 10 7) (sink (at 10 7) (codes "w") no_parts) (reference (at 10 12) (codes "d") no_parts)
+    ∷ []))
+    ∷ [])
+    ∷ [])
+
+abbrev pub indices : CircuitTree
+indices = circuit_tree (name_at 1 9 (codes "T"))
+    (module_tree (at 2 3) (name_at 2 10 (codes "T"))
+    (port_tree Input (name_at 3 11 (codes "i")) (at 3 15) (uint (Some 2))
+    ∷ port_tree Input (name_at 4 11 (codes "x")) (at 4 15) (uint (Some 4))
+    ∷ port_tree Output (name_at 5 12 (codes "o")) (at 5 16) (vector (uint (Some 4)) 3)
+    ∷ port_tree Output (name_at 6 12 (codes "p")) (at 6 16) (uint (Some 4))
+    ∷ [])
+    (connect (at 7 5) (sink (at 7 5) (codes "o") (subindex (at 7 6) (at 7 7) 0 no_parts)) (unsigned (at 7 13) (Some 4) 1)
+    ∷ connect (at 8 5) (sink (at 8 5) (codes "o") (subindex (at 8 6) (at 8 7) 1 no_parts)) (unsigned (at 8 13) (Some 4) 2)
+    ∷ connect (at 9 5) (sink (at 9 5) (codes "o") (subindex (at 9 6) (at 9 7) 2 no_parts)) (unsigned (at 9 13) (Some 4) 3)
+    ∷ connect (at 10 5) (sink (at 10 5) (codes "o") (subaccess (at 10 6) (reference (at 10 7) (codes "i") no_parts) no_parts))
+    (reference (at 10 13) (codes "x") no_parts)
+    ∷ connect (at 11 5) (sink (at 11 5) (codes "p") no_parts)
+    (reference (at 11 10) (codes "o") (subaccess (at 11 11) (reference (at 11 12) (codes "i") no_parts) no_parts))
+    ∷ [])
+    ∷ [])
+
+abbrev pub init_by_input : CircuitTree
+init_by_input = circuit_tree (name_at 1 9 (codes "T"))
+    (module_tree (at 2 3) (name_at 2 10 (codes "T"))
+    (port_tree Input (name_at 3 11 (codes "clock")) (at 3 19) clock
+    ∷ port_tree Input (name_at 4 11 (codes "a")) (at 4 15) (uint (Some 4))
+    ∷ port_tree Input (name_at 5 11 (codes "rst")) (at 5 17) async_reset
+    ∷ [])
+    (wire (at 6 5) (name_at 6 10 (codes "w")) (at 6 14) (uint (Some 4))
+    ∷ register (at 7 5) (name_at 7 9 (codes "r")) (at 7 13) (uint (Some 4)) (reference (at 7 22) (codes "clock") no_parts)
+    (with_reset (at 7 28) (reference (at 7 46) (codes "rst") no_parts) (reference (at 7 51) (codes "w") no_parts))
+    ∷ connect (at 8 5) (sink (at 8 5) (codes "w") no_parts) (reference (at 8 10) (codes "a") no_parts)
+    ∷ connect (at 9 5) (sink (at 9 5) (codes "r") no_parts) (reference (at 9 10) (codes "r") no_parts)
+    ∷ [])
+    ∷ [])
+
+abbrev pub instance_in_a_when : CircuitTree
+instance_in_a_when = circuit_tree (name_at 1 9 (codes "T"))
+    (module_tree (at 2 3) (name_at 2 10 (codes "T"))
+    (port_tree Input (name_at 3 11 (codes "a")) (at 3 15) (uint (Some 1))
+    ∷ port_tree Output (name_at 4 12 (codes "o")) (at 4 16) (uint (Some 1))
+    ∷ [])
+    (connect (at 5 5) (sink (at 5 5) (codes "o") no_parts) (reference (at 5 10) (codes "a") no_parts)
+    ∷ when (at 6 5) (reference (at 6 10) (codes "a") no_parts)
+    (block (instance (at 7 7) (name_at 7 12 (codes "b")) (name_at 7 17 (codes "B"))
+    ∷ connect (at 8 7) (sink (at 8 7) (codes "b") (subfield (at 8 8) (at 8 9) (codes "i") no_parts)) (reference (at 8 14) (codes "a") no_parts)
+    ∷ connect (at 9 7) (sink (at 9 7) (codes "o") no_parts) (reference (at 9 12) (codes "b") (subfield (at 9 13) (at 9 14) (codes "o") no_parts))
+    ∷ []))
+    (block [])
+    ∷ [])
+    ∷ module_tree (at 10 3) (name_at 10 10 (codes "B"))
+    (port_tree Input (name_at 11 11 (codes "i")) (at 11 15) (uint (Some 1))
+    ∷ port_tree Output (name_at 12 12 (codes "o")) (at 12 16) (uint (Some 1))
+    ∷ [])
+    (connect (at 13 5) (sink (at 13 5) (codes "o") no_parts)
+    (operation (at 13 10) op.Not (expression (reference (at 13 14) (codes "i") no_parts) no_expressions) [])
+    ∷ [])
+    ∷ [])
+
+abbrev pub invalid_covered : CircuitTree
+invalid_covered = circuit_tree (name_at 1 9 (codes "T"))
+    (module_tree (at 2 3) (name_at 2 10 (codes "T"))
+    (port_tree Input (name_at 3 11 (codes "c")) (at 3 15) clock
+    ∷ port_tree Input (name_at 4 11 (codes "s")) (at 4 15) (uint (Some 1))
+    ∷ [])
+    (wire (at 5 5) (name_at 5 10 (codes "w")) (at 5 14) clock
+    ∷ invalid (at 6 5) (sink (at 6 5) (codes "w") no_parts)
+    ∷ connect (at 7 5) (sink (at 7 5) (codes "w") no_parts) (reference (at 7 10) (codes "c") no_parts)
+    ∷ [])
+    ∷ [])
+
+abbrev pub invalid_first : CircuitTree
+invalid_first = circuit_tree (name_at 1 9 (codes "T"))
+    (module_tree (at 2 3) (name_at 2 10 (codes "T"))
+    (port_tree Input (name_at 3 11 (codes "c")) (at 3 15) clock
+    ∷ port_tree Input (name_at 4 11 (codes "s")) (at 4 15) (uint (Some 1))
+    ∷ [])
+    (wire (at 5 5) (name_at 5 10 (codes "w")) (at 5 14) clock
+    ∷ invalid (at 6 5) (sink (at 6 5) (codes "w") no_parts)
+    ∷ when (at 7 5) (reference (at 7 10) (codes "s") no_parts)
+    (block (connect (at 8 7) (sink (at 8 7) (codes "w") no_parts) (reference (at 8 12) (codes "c") no_parts)
+    ∷ []))
+    (block [])
+    ∷ [])
+    ∷ [])
+
+abbrev pub inverted : CircuitTree
+inverted = circuit_tree (name_at 1 9 (codes "T"))
+    (module_tree (at 2 3) (name_at 2 10 (codes "T"))
+    (port_tree Input (name_at 3 11 (codes "a")) (at 3 15) (uint (Some 1))
+    ∷ port_tree Output (name_at 4 12 (codes "o")) (at 4 16) (uint (Some 1))
+    ∷ [])
+    (wire (at 5 5) (name_at 5 10 (codes "w")) (at 5 14) (uint (Some 1))
+    ∷ connect (at 6 5) (sink (at 6 5) (codes "w") no_parts)
+    (operation (at 6 10) op.Not (expression (reference (at 6 14) (codes "w") no_parts) no_expressions) [])
+    ∷ connect (at 7 5) (sink (at 7 5) (codes "o") no_parts) (reference (at 7 10) (codes "w") no_parts)
+    ∷ [])
+    ∷ [])
+
+abbrev pub last_wins : CircuitTree
+last_wins = circuit_tree (name_at 1 9 (codes "T"))
+    (module_tree (at 2 3) (name_at 2 10 (codes "T"))
+    (port_tree Input (name_at 3 11 (codes "a")) (at 3 15) (uint (Some 1))
+    ∷ port_tree Input (name_at 4 11 (codes "b")) (at 4 15) (uint (Some 1))
+    ∷ port_tree Input (name_at 5 11 (codes "c")) (at 5 15) (uint (Some 1))
+    ∷ port_tree Output (name_at 6 12 (codes "o")) (at 6 16) (uint (Some 1))
+    ∷ [])
+    (connect (at 7 5) (sink (at 7 5) (codes "o") no_parts) (reference (at 7 10) (codes "a") no_parts)
+    ∷ when (at 8 5) (reference (at 8 10) (codes "c") no_parts)
+    (block (connect (at 9 7) (sink (at 9 7) (codes "o") no_parts) (reference (at 9 12) (codes "b") no_parts)
+    ∷ []))
+    (block [])
+    ∷ [])
+    ∷ [])
+
+abbrev pub memory_clocks : CircuitTree
+memory_clocks = circuit_tree (name_at 1 9 (codes "T"))
+    (module_tree (at 2 3) (name_at 2 10 (codes "T"))
+    (port_tree Input (name_at 3 11 (codes "c")) (at 3 15) clock
+    ∷ [])
+    (instance (at 4 5) (name_at 4 10 (codes "i")) (name_at 4 15 (codes "A"))
+    ∷ connect (at 5 5) (sink (at 5 5) (codes "i") (subfield (at 5 6) (at 5 7) (codes "c") no_parts)) (reference (at 5 12) (codes "c") no_parts)
+    ∷ [])
+    ∷ module_tree (at 6 3) (name_at 6 10 (codes "A"))
+    (port_tree Input (name_at 7 11 (codes "c")) (at 7 15) clock
+    ∷ [])
+    (instance (at 8 5) (name_at 8 10 (codes "u")) (name_at 8 15 (codes "B"))
+    ∷ wire (at 9 5) (name_at 9 10 (codes "x")) (at 9 14) clock
+    ∷ memory (at 10 5) (name_at 10 9 (codes "m"))
+    (data_type (at 11 7) (at 11 20) (uint (Some 4))
+    ∷ depth (at 12 7) 2
+    ∷ read_latency (at 13 7) 0
+    ∷ write_latency (at 14 7) 1
+    ∷ reader (at 15 7) (name_at 15 17 (codes "p") ∷ name_at 15 19 (codes "q") ∷ name_at 15 21 (codes "r") ∷ name_at 15 23 (codes "s") ∷ [])
+    ∷ [])
+    ∷ connect (at 16 5) (sink (at 16 5) (codes "u") (subfield (at 16 6) (at 16 7) (codes "c") no_parts)) (reference (at 16 12) (codes "c") no_parts)
+    ∷ connect (at 17 5) (sink (at 17 5) (codes "x") no_parts) (reference (at 17 10) (codes "c") no_parts)
+    ∷ invalid (at 18 5) (sink (at 18 5) (codes "m") no_parts)
+    ∷ connect (at 19 5) (sink (at 19 5) (codes "m") (subfield (at 19 6) (at 19 7) (codes "q") (subfield (at 19 8) (at 19 9) (codes "clk") no_parts)))
+    (reference (at 19 16) (codes "x") no_parts)
+    ∷ connect (at 20 5) (sink (at 20 5) (codes "m") (subfield (at 20 6) (at 20 7) (codes "r") (subfield (at 20 8) (at 20 9) (codes "clk") no_parts)))
+    (reference (at 20 16) (codes "c") no_parts)
+    ∷ connect (at 21 5) (sink (at 21 5) (codes "m") (subfield (at 21 6) (at 21 7) (codes "s") (subfield (at 21 8) (at 21 9) (codes "clk") no_parts)))
+    (reference (at 21 16) (codes "u") (subfield (at 21 17) (at 21 18) (codes "k") no_parts))
+    ∷ [])
+    ∷ module_tree (at 22 3) (name_at 22 10 (codes "B"))
+    (port_tree Input (name_at 23 11 (codes "c")) (at 23 15) clock
+    ∷ port_tree Output (name_at 24 12 (codes "k")) (at 24 16) clock
+    ∷ [])
+    (connect (at 25 5) (sink (at 25 5) (codes "k") no_parts) (reference (at 25 10) (codes "c") no_parts)
+    ∷ [])
+    ∷ [])
+
+abbrev pub memory_loop : CircuitTree
+memory_loop = circuit_tree (name_at 1 9 (codes "T"))
+    (module_tree (at 2 3) (name_at 2 10 (codes "B"))
+    (port_tree Input (name_at 3 11 (codes "i")) (at 3 15) (uint (Some 1))
+    ∷ port_tree Output (name_at 4 12 (codes "o")) (at 4 16) (uint (Some 1))
+    ∷ [])
+    (connect (at 5 5) (sink (at 5 5) (codes "o") no_parts)
+    (operation (at 5 10) op.Not (expression (reference (at 5 14) (codes "i") no_parts) no_expressions) [])
+    ∷ [])
+    ∷ module_tree (at 6 3) (name_at 6 10 (codes "M"))
+    (port_tree Input (name_at 7 11 (codes "clock")) (at 7 19) clock
+    ∷ port_tree Input (name_at 8 11 (codes "a")) (at 8 15) (uint (Some 1))
+    ∷ port_tree Output (name_at 9 12 (codes "d")) (at 9 16) (uint (Some 1))
+    ∷ [])
+    (memory (at 10 5) (name_at 10 9 (codes "m"))
+    (data_type (at 11 7) (at 11 20) (uint (Some 1))
+    ∷ depth (at 12 7) 2
+    ∷ read_latency (at 13 7) 0
+    ∷ write_latency (at 14 7) 1
+    ∷ reader (at 15 7) (name_at 15 17 (codes "r") ∷ [])
+    ∷ [])
+    ∷ connect (at 16 5) (sink (at 16 5) (codes "m") (subfield (at 16 6) (at 16 7) (codes "r") (subfield (at 16 8) (at 16 9) (codes "addr") no_parts)))
+    (reference (at 16 17) (codes "a") no_parts)
+    ∷ connect (at 17 5) (sink (at 17 5) (codes "m") (subfield (at 17 6) (at 17 7) (codes "r") (subfield (at 17 8) (at 17 9) (codes "en") no_parts)))
+    (unsigned (at 17 15) (Some 1) 1)
+    ∷ connect (at 18 5) (sink (at 18 5) (codes "m") (subfield (at 18 6) (at 18 7) (codes "r") (subfield (at 18 8) (at 18 9) (codes "clk") no_parts)))
+    (reference (at 18 16) (codes "clock") no_parts)
+    ∷ connect (at 19 5) (sink (at 19 5) (codes "d") no_parts)
+    (reference (at 19 10) (codes "m") (subfield (at 19 11) (at 19 12) (codes "r") (subfield (at 19 13) (at 19 14) (codes "data") no_parts)))
+    ∷ [])
+    ∷ module_tree (at 20 3) (name_at 20 10 (codes "T"))
+    (port_tree Input (name_at 21 11 (codes "clock")) (at 21 19) clock
+    ∷ port_tree Output (name_at 22 12 (codes "o")) (at 22 16) (uint (Some 1))
+    ∷ [])
+    (instance (at 23 5) (name_at 23 10 (codes "b")) (name_at 23 15 (codes "B"))
+    ∷ instance (at 24 5) (name_at 24 10 (codes "x")) (name_at 24 15 (codes "M"))
+    ∷ connect (at 25 5) (sink (at 25 5) (codes "x") (subfield (at 25 6) (at 25 7) (codes "clock") no_parts)) (reference (at 25 16) (codes "clock") no_parts)
+    ∷ connect (at 26 5) (sink (at 26 5) (codes "x") (subfield (at 26 6) (at 26 7) (codes "a") no_parts))
+    (reference (at 26 12) (codes "b") (subfield (at 26 13) (at 26 14) (codes "o") no_parts))
+    ∷ connect (at 27 5) (sink (at 27 5) (codes "b") (subfield (at 27 6) (at 27 7) (codes "i") no_parts))
+    (reference (at 27 12) (codes "x") (subfield (at 27 13) (at 27 14) (codes "d") no_parts))
+    ∷ connect (at 28 5) (sink (at 28 5) (codes "o") no_parts) (reference (at 28 10) (codes "x") (subfield (at 28 11) (at 28 12) (codes "d") no_parts))
+    ∷ [])
+    ∷ [])
+
+abbrev pub overwritten : CircuitTree
+overwritten = circuit_tree (name_at 1 9 (codes "T"))
+    (module_tree (at 2 3) (name_at 2 10 (codes "T"))
+    (port_tree Input (name_at 3 11 (codes "a")) (at 3 15) (uint (Some 1))
+    ∷ port_tree Output (name_at 4 12 (codes "o")) (at 4 16) (uint (Some 1))
+    ∷ [])
+    (wire (at 5 5) (name_at 5 10 (codes "w")) (at 5 14) (uint (Some 1))
+    ∷ connect (at 6 5) (sink (at 6 5) (codes "w") no_parts) (reference (at 6 10) (codes "w") no_parts)
+    ∷ connect (at 7 5) (sink (at 7 5) (codes "w") no_parts) (reference (at 7 10) (codes "a") no_parts)
+    ∷ connect (at 8 5) (sink (at 8 5) (codes "o") no_parts) (reference (at 8 10) (codes "w") no_parts)
+    ∷ [])
+    ∷ [])
+
+abbrev pub passed_back : CircuitTree
+passed_back = circuit_tree (name_at 1 9 (codes "T"))
+    (module_tree (at 2 3) (name_at 2 10 (codes "P"))
+    (port_tree Input (name_at 3 11 (codes "x")) (at 3 15) (uint (Some 4))
+    ∷ port_tree Output (name_at 4 12 (codes "io")) (at 4 17)
+    (bundle (field (at 4 18) false (codes "d") (at 4 22) (uint (Some 4)) (field (at 4 36) true (codes "r") (at 4 40) (uint (Some 1)) no_fields)))
+    ∷ port_tree Output (name_at 5 12 (codes "seen")) (at 5 19) (uint (Some 1))
+    ∷ [])
+    (connect (at 6 5) (sink (at 6 5) (codes "io") (subfield (at 6 7) (at 6 8) (codes "d") no_parts)) (reference (at 6 13) (codes "x") no_parts)
+    ∷ connect (at 7 5) (sink (at 7 5) (codes "seen") no_parts) (reference (at 7 13) (codes "io") (subfield (at 7 15) (at 7 16) (codes "r") no_parts))
+    ∷ [])
+    ∷ module_tree (at 8 3) (name_at 8 10 (codes "Q"))
+    (port_tree Input (name_at 9 11 (codes "io")) (at 9 16)
+    (bundle (field (at 9 17) false (codes "d") (at 9 21) (uint (Some 4)) (field (at 9 35) true (codes "r") (at 9 39) (uint (Some 1)) no_fields)))
+    ∷ port_tree Output (name_at 10 12 (codes "y")) (at 10 16) (uint (Some 4))
+    ∷ [])
+    (connect (at 11 5) (sink (at 11 5) (codes "y") no_parts) (reference (at 11 10) (codes "io") (subfield (at 11 12) (at 11 13) (codes "d") no_parts))
+    ∷ connect (at 12 5) (sink (at 12 5) (codes "io") (subfield (at 12 7) (at 12 8) (codes "r") no_parts))
+    (operation (at 12 13) op.Eq
+    (expression (reference (at 12 16) (codes "io") (subfield (at 12 18) (at 12 19) (codes "d") no_parts))
+    (expression (unsigned (at 12 22) (Some 4) 5) no_expressions)) [])
+    ∷ [])
+    ∷ module_tree (at 13 3) (name_at 13 10 (codes "T"))
+    (port_tree Input (name_at 14 11 (codes "x")) (at 14 15) (uint (Some 4))
+    ∷ port_tree Output (name_at 15 12 (codes "y")) (at 15 16) (uint (Some 4))
+    ∷ port_tree Output (name_at 16 12 (codes "seen")) (at 16 19) (uint (Some 1))
+    ∷ [])
+    (instance (at 17 5) (name_at 17 10 (codes "p")) (name_at 17 15 (codes "P"))
+    ∷ instance (at 18 5) (name_at 18 10 (codes "q")) (name_at 18 15 (codes "Q"))
+    ∷ connect (at 19 5) (sink (at 19 5) (codes "p") (subfield (at 19 6) (at 19 7) (codes "x") no_parts)) (reference (at 19 12) (codes "x") no_parts)
+    ∷ connect (at 20 5) (sink (at 20 5) (codes "q") (subfield (at 20 6) (at 20 7) (codes "io") no_parts))
+    (reference (at 20 13) (codes "p") (subfield (at 20 14) (at 20 15) (codes "io") no_parts))
+    ∷ connect (at 21 5) (sink (at 21 5) (codes "y") no_parts) (reference (at 21 10) (codes "q") (subfield (at 21 11) (at 21 12) (codes "y") no_parts))
+    ∷ connect (at 22 5) (sink (at 22 5) (codes "seen") no_parts) (reference (at 22 13) (codes "p") (subfield (at 22 14) (at 22 15) (codes "seen") no_parts))
+    ∷ [])
+    ∷ [])
+
+abbrev pub picked_node : CircuitTree
+picked_node = circuit_tree (name_at 1 9 (codes "T"))
+    (module_tree (at 2 3) (name_at 2 10 (codes "T"))
+    (port_tree Input (name_at 3 11 (codes "v")) (at 3 15) (vector clock 2)
+    ∷ port_tree Input (name_at 4 11 (codes "i")) (at 4 15) (uint (Some 1))
+    ∷ [])
+    (node (at 5 5) (name_at 5 10 (codes "n")) (reference (at 5 14) (codes "v") (subaccess (at 5 15) (reference (at 5 16) (codes "i") no_parts) no_parts))
+    ∷ [])
+    ∷ [])
+
+abbrev pub picked_register : CircuitTree
+picked_register = circuit_tree (name_at 1 9 (codes "T"))
+    (module_tree (at 2 3) (name_at 2 10 (codes "T"))
+    (port_tree Input (name_at 3 11 (codes "v")) (at 3 15) (vector clock 2)
+    ∷ port_tree Input (name_at 4 11 (codes "i")) (at 4 15) (uint (Some 1))
+    ∷ [])
+    (instance (at 5 5) (name_at 5 10 (codes "u")) (name_at 5 15 (codes "A"))
+    ∷ connect (at 6 5) (sink (at 6 5) (codes "u") (subfield (at 6 6) (at 6 7) (codes "v") no_parts)) (reference (at 6 12) (codes "v") no_parts)
+    ∷ connect (at 7 5) (sink (at 7 5) (codes "u") (subfield (at 7 6) (at 7 7) (codes "i") no_parts)) (reference (at 7 12) (codes "i") no_parts)
+    ∷ [])
+    ∷ module_tree (at 8 3) (name_at 8 10 (codes "A"))
+    (port_tree Input (name_at 9 11 (codes "v")) (at 9 15) (vector clock 2)
+    ∷ port_tree Input (name_at 10 11 (codes "i")) (at 10 15) (uint (Some 1))
+    ∷ [])
+    (register (at 11 5) (name_at 11 9 (codes "r")) (at 11 13) (bundle (field (at 11 14) false (codes "x") (at 11 18) (uint (Some 4)) no_fields))
+    (reference (at 11 28) (codes "v") (subaccess (at 11 29) (reference (at 11 30) (codes "i") no_parts) no_parts)) None
+    ∷ connect (at 12 5) (sink (at 12 5) (codes "r") no_parts) (reference (at 12 10) (codes "r") no_parts)
+    ∷ [])
+    ∷ [])
+
+abbrev pub read_at_once : CircuitTree
+read_at_once = circuit_tree (name_at 1 9 (codes "T"))
+    (module_tree (at 2 3) (name_at 2 10 (codes "T"))
+    (port_tree Input (name_at 3 11 (codes "clock")) (at 3 19) clock
+    ∷ port_tree Input (name_at 4 11 (codes "a")) (at 4 15) (uint (Some 2))
+    ∷ port_tree Input (name_at 5 11 (codes "e")) (at 5 15) (uint (Some 1))
+    ∷ port_tree Input (name_at 6 11 (codes "k")) (at 6 15) (uint (Some 1))
+    ∷ port_tree Input (name_at 7 11 (codes "u")) (at 7 15) (uint (Some 4))
+    ∷ port_tree Output (name_at 8 12 (codes "o")) (at 8 16) (uint (Some 4))
+    ∷ [])
+    (memory (at 9 5) (name_at 9 9 (codes "m"))
+    (data_type (at 10 7) (at 10 20) (uint (Some 4))
+    ∷ depth (at 11 7) 3
+    ∷ read_latency (at 12 7) 0
+    ∷ write_latency (at 13 7) 1
+    ∷ reader (at 14 7) (name_at 14 17 (codes "r") ∷ [])
+    ∷ writer (at 15 7) (name_at 15 17 (codes "w") ∷ [])
+    ∷ [])
+    ∷ connect (at 16 5) (sink (at 16 5) (codes "m") (subfield (at 16 6) (at 16 7) (codes "r") (subfield (at 16 8) (at 16 9) (codes "addr") no_parts)))
+    (reference (at 16 17) (codes "a") no_parts)
+    ∷ connect (at 17 5) (sink (at 17 5) (codes "m") (subfield (at 17 6) (at 17 7) (codes "r") (subfield (at 17 8) (at 17 9) (codes "en") no_parts)))
+    (reference (at 17 15) (codes "e") no_parts)
+    ∷ connect (at 18 5) (sink (at 18 5) (codes "m") (subfield (at 18 6) (at 18 7) (codes "r") (subfield (at 18 8) (at 18 9) (codes "clk") no_parts)))
+    (reference (at 18 16) (codes "clock") no_parts)
+    ∷ connect (at 19 5) (sink (at 19 5) (codes "m") (subfield (at 19 6) (at 19 7) (codes "w") (subfield (at 19 8) (at 19 9) (codes "addr") no_parts)))
+    (reference (at 19 17) (codes "a") no_parts)
+    ∷ connect (at 20 5) (sink (at 20 5) (codes "m") (subfield (at 20 6) (at 20 7) (codes "w") (subfield (at 20 8) (at 20 9) (codes "en") no_parts)))
+    (reference (at 20 15) (codes "e") no_parts)
+    ∷ connect (at 21 5) (sink (at 21 5) (codes "m") (subfield (at 21 6) (at 21 7) (codes "w") (subfield (at 21 8) (at 21 9) (codes "clk") no_parts)))
+    (reference (at 21 16) (codes "clock") no_parts)
+    ∷ connect (at 22 5) (sink (at 22 5) (codes "m") (subfield (at 22 6) (at 22 7) (codes "w") (subfield (at 22 8) (at 22 9) (codes "data") no_parts)))
+    (reference (at 22 17) (codes "u") no_parts)
+    ∷ connect (at 23 5) (sink (at 23 5) (codes "m") (subfield (at 23 6) (at 23 7) (codes "w") (subfield (at 23 8) (at 23 9) (codes "mask") no_parts)))
+    (reference (at 23 17) (codes "k") no_parts)
+    ∷ connect (at 24 5) (sink (at 24 5) (codes "o") no_parts)
+    (reference (at 24 10) (codes "m") (subfield (at 24 11) (at 24 12) (codes "r") (subfield (at 24 13) (at 24 14) (codes "data") no_parts)))
+    ∷ [])
+    ∷ [])
+
+abbrev pub shared_field : CircuitTree
+shared_field = circuit_tree (name_at 1 9 (codes "T"))
+    (module_tree (at 2 3) (name_at 2 10 (codes "T"))
+    (port_tree Input (name_at 3 11 (codes "a")) (at 3 15)
+    (bundle (field (at 3 16) false (codes "a") (at 3 20) (uint (Some 4)) (field (at 3 29) false (codes "b") (at 3 33) (uint (Some 4)) no_fields)))
+    ∷ port_tree Output (name_at 4 12 (codes "o")) (at 4 16)
+    (bundle (field (at 4 17) false (codes "b") (at 4 21) (uint (Some 4)) (field (at 4 30) false (codes "c") (at 4 34) (uint (Some 4)) no_fields)))
+    ∷ [])
+    (partial_connect (at 5 5) (sink (at 5 5) (codes "o") no_parts) (reference (at 5 10) (codes "a") no_parts)
+    ∷ invalid (at 6 5) (sink (at 6 5) (codes "o") (subfield (at 6 6) (at 6 7) (codes "c") no_parts))
+    ∷ [])
+    ∷ [])
+
+abbrev pub shared_field_alone : CircuitTree
+shared_field_alone = circuit_tree (name_at 1 9 (codes "T"))
+    (module_tree (at 2 3) (name_at 2 10 (codes "T"))
+    (port_tree Input (name_at 3 11 (codes "a")) (at 3 15)
+    (bundle (field (at 3 16) false (codes "a") (at 3 20) (uint (Some 4)) (field (at 3 29) false (codes "b") (at 3 33) (uint (Some 4)) no_fields)))
+    ∷ port_tree Output (name_at 4 12 (codes "o")) (at 4 16)
+    (bundle (field (at 4 17) false (codes "b") (at 4 21) (uint (Some 4)) (field (at 4 30) false (codes "c") (at 4 34) (uint (Some 4)) no_fields)))
+    ∷ [])
+    (partial_connect (at 5 5) (sink (at 5 5) (codes "o") no_parts) (reference (at 5 10) (codes "a") no_parts)
+    ∷ [])
+    ∷ [])
+
+abbrev pub state_order : CircuitTree
+state_order = circuit_tree (name_at 1 9 (codes "T"))
+    (module_tree (at 2 3) (name_at 2 10 (codes "T"))
+    (port_tree Input (name_at 3 11 (codes "clk")) (at 3 17) clock
+    ∷ port_tree Input (name_at 4 11 (codes "a")) (at 4 15) (uint (Some 1))
+    ∷ port_tree Input (name_at 5 11 (codes "none")) (at 5 18) (uint (Some 0))
+    ∷ port_tree Output (name_at 6 12 (codes "z")) (at 6 16) (uint (Some 4))
+    ∷ port_tree Output (name_at 7 12 (codes "k")) (at 7 16) clock
+    ∷ [])
+    (register (at 8 5) (name_at 8 9 (codes "u")) (at 8 13) (uint (Some 2)) (reference (at 8 22) (codes "clk") no_parts) None
+    ∷ when (at 9 5) (reference (at 9 10) (codes "a") no_parts)
+    (block (instance (at 10 7) (name_at 10 12 (codes "b")) (name_at 10 17 (codes "C"))
+    ∷ connect (at 11 7) (sink (at 11 7) (codes "b") (subfield (at 11 8) (at 11 9) (codes "clk") no_parts)) (reference (at 11 16) (codes "clk") no_parts)
+    ∷ []))
+    (block [])
+    ∷ register (at 12 5) (name_at 12 9 (codes "v")) (at 12 13) (uint (Some 2)) (reference (at 12 22) (codes "clk") no_parts) None
+    ∷ memory (at 13 5) (name_at 13 9 (codes "n"))
+    (data_type (at 14 7) (at 14 20) (uint (Some 5))
+    ∷ depth (at 15 7) 4
+    ∷ read_latency (at 16 7) 1
+    ∷ write_latency (at 17 7) 1
+    ∷ reader (at 18 7) (name_at 18 17 (codes "r") ∷ [])
+    ∷ writer (at 19 7) (name_at 19 17 (codes "w") ∷ [])
+    ∷ [])
+    ∷ memory (at 20 5) (name_at 20 9 (codes "nothing"))
+    (data_type (at 21 7) (at 21 20) (uint (Some 0))
+    ∷ depth (at 22 7) 4
+    ∷ read_latency (at 23 7) 1
+    ∷ write_latency (at 24 7) 1
+    ∷ reader (at 25 7) (name_at 25 17 (codes "r") ∷ [])
+    ∷ writer (at 26 7) (name_at 26 17 (codes "w") ∷ [])
+    ∷ [])
+    ∷ invalid (at 27 5) (sink (at 27 5) (codes "n") no_parts)
+    ∷ invalid (at 28 5) (sink (at 28 5) (codes "nothing") no_parts)
+    ∷ invalid (at 29 5) (sink (at 29 5) (codes "z") no_parts)
+    ∷ invalid (at 30 5) (sink (at 30 5) (codes "k") no_parts)
+    ∷ [])
+    ∷ module_tree (at 31 3) (name_at 31 10 (codes "C"))
+    (port_tree Input (name_at 32 11 (codes "clk")) (at 32 17) clock
+    ∷ [])
+    (memory (at 33 5) (name_at 33 9 (codes "m"))
+    (data_type (at 34 7) (at 34 20) (uint (Some 3))
+    ∷ depth (at 35 7) 4
+    ∷ read_latency (at 36 7) 1
+    ∷ write_latency (at 37 7) 1
+    ∷ reader (at 38 7) (name_at 38 17 (codes "r") ∷ [])
+    ∷ writer (at 39 7) (name_at 39 17 (codes "w") ∷ [])
+    ∷ [])
+    ∷ register (at 40 5) (name_at 40 9 (codes "s")) (at 40 13) (uint (Some 2)) (reference (at 40 22) (codes "clk") no_parts) None
+    ∷ register (at 41 5) (name_at 41 9 (codes "none")) (at 41 16) (uint (Some 0)) (reference (at 41 25) (codes "clk") no_parts) None
+    ∷ invalid (at 42 5) (sink (at 42 5) (codes "m") no_parts)
+    ∷ [])
+    ∷ [])
+
+abbrev pub two_memories : CircuitTree
+two_memories = circuit_tree (name_at 1 9 (codes "T"))
+    (module_tree (at 2 3) (name_at 2 10 (codes "T"))
+    (port_tree Input (name_at 3 11 (codes "clock")) (at 3 19) clock
+    ∷ port_tree Input (name_at 4 11 (codes "a")) (at 4 15) (uint (Some 2))
+    ∷ port_tree Input (name_at 5 11 (codes "k")) (at 5 15) (uint (Some 1))
+    ∷ port_tree Input (name_at 6 11 (codes "u")) (at 6 15) (uint (Some 4))
+    ∷ port_tree Output (name_at 7 12 (codes "o")) (at 7 16) (uint (Some 4))
+    ∷ port_tree Output (name_at 8 12 (codes "p")) (at 8 16) (uint (Some 4))
+    ∷ [])
+    (instance (at 9 5) (name_at 9 10 (codes "i")) (name_at 9 15 (codes "A"))
+    ∷ memory (at 10 5) (name_at 10 9 (codes "m"))
+    (data_type (at 11 7) (at 11 20) (uint (Some 4))
+    ∷ depth (at 12 7) 3
+    ∷ read_latency (at 13 7) 0
+    ∷ write_latency (at 14 7) 1
+    ∷ readwriter (at 15 7) (name_at 15 21 (codes "x") ∷ [])
+    ∷ [])
+    ∷ connect (at 16 5) (sink (at 16 5) (codes "i") (subfield (at 16 6) (at 16 7) (codes "clock") no_parts)) (reference (at 16 16) (codes "clock") no_parts)
+    ∷ connect (at 17 5) (sink (at 17 5) (codes "i") (subfield (at 17 6) (at 17 7) (codes "a") no_parts)) (reference (at 17 12) (codes "a") no_parts)
+    ∷ connect (at 18 5) (sink (at 18 5) (codes "i") (subfield (at 18 6) (at 18 7) (codes "k") no_parts)) (reference (at 18 12) (codes "k") no_parts)
+    ∷ connect (at 19 5) (sink (at 19 5) (codes "i") (subfield (at 19 6) (at 19 7) (codes "u") no_parts)) (reference (at 19 12) (codes "u") no_parts)
+    ∷ connect (at 20 5) (sink (at 20 5) (codes "m") (subfield (at 20 6) (at 20 7) (codes "x") (subfield (at 20 8) (at 20 9) (codes "addr") no_parts)))
+    (reference (at 20 17) (codes "a") no_parts)
+    ∷ connect (at 21 5) (sink (at 21 5) (codes "m") (subfield (at 21 6) (at 21 7) (codes "x") (subfield (at 21 8) (at 21 9) (codes "en") no_parts)))
+    (unsigned (at 21 15) (Some 1) 1)
+    ∷ connect (at 22 5) (sink (at 22 5) (codes "m") (subfield (at 22 6) (at 22 7) (codes "x") (subfield (at 22 8) (at 22 9) (codes "clk") no_parts)))
+    (reference (at 22 16) (codes "clock") no_parts)
+    ∷ connect (at 23 5) (sink (at 23 5) (codes "m") (subfield (at 23 6) (at 23 7) (codes "x") (subfield (at 23 8) (at 23 9) (codes "wmode") no_parts)))
+    (reference (at 23 18) (codes "k") no_parts)
+    ∷ connect (at 24 5) (sink (at 24 5) (codes "m") (subfield (at 24 6) (at 24 7) (codes "x") (subfield (at 24 8) (at 24 9) (codes "wdata") no_parts)))
+    (reference (at 24 18) (codes "u") no_parts)
+    ∷ connect (at 25 5) (sink (at 25 5) (codes "m") (subfield (at 25 6) (at 25 7) (codes "x") (subfield (at 25 8) (at 25 9) (codes "wmask") no_parts)))
+    (unsigned (at 25 18) (Some 1) 1)
+    ∷ connect (at 26 5) (sink (at 26 5) (codes "o") no_parts)
+    (reference (at 26 10) (codes "m") (subfield (at 26 11) (at 26 12) (codes "x") (subfield (at 26 13) (at 26 14) (codes "rdata") no_parts)))
+    ∷ connect (at 27 5) (sink (at 27 5) (codes "p") no_parts) (reference (at 27 10) (codes "i") (subfield (at 27 11) (at 27 12) (codes "d") no_parts))
+    ∷ [])
+    ∷ module_tree (at 28 3) (name_at 28 10 (codes "A"))
+    (port_tree Input (name_at 29 11 (codes "clock")) (at 29 19) clock
+    ∷ port_tree Input (name_at 30 11 (codes "a")) (at 30 15) (uint (Some 2))
+    ∷ port_tree Input (name_at 31 11 (codes "k")) (at 31 15) (uint (Some 1))
+    ∷ port_tree Input (name_at 32 11 (codes "u")) (at 32 15) (uint (Some 4))
+    ∷ port_tree Output (name_at 33 12 (codes "d")) (at 33 16) (uint (Some 4))
+    ∷ [])
+    (memory (at 34 5) (name_at 34 9 (codes "n"))
+    (data_type (at 35 7) (at 35 20) (uint (Some 4))
+    ∷ depth (at 36 7) 4
+    ∷ read_latency (at 37 7) 0
+    ∷ write_latency (at 38 7) 1
+    ∷ reader (at 39 7) (name_at 39 17 (codes "r") ∷ [])
+    ∷ writer (at 40 7) (name_at 40 17 (codes "w") ∷ [])
+    ∷ [])
+    ∷ connect (at 41 5) (sink (at 41 5) (codes "n") (subfield (at 41 6) (at 41 7) (codes "r") (subfield (at 41 8) (at 41 9) (codes "addr") no_parts)))
+    (reference (at 41 17) (codes "a") no_parts)
+    ∷ connect (at 42 5) (sink (at 42 5) (codes "n") (subfield (at 42 6) (at 42 7) (codes "r") (subfield (at 42 8) (at 42 9) (codes "en") no_parts)))
+    (unsigned (at 42 15) (Some 1) 1)
+    ∷ connect (at 43 5) (sink (at 43 5) (codes "n") (subfield (at 43 6) (at 43 7) (codes "r") (subfield (at 43 8) (at 43 9) (codes "clk") no_parts)))
+    (reference (at 43 16) (codes "clock") no_parts)
+    ∷ connect (at 44 5) (sink (at 44 5) (codes "n") (subfield (at 44 6) (at 44 7) (codes "w") (subfield (at 44 8) (at 44 9) (codes "addr") no_parts)))
+    (reference (at 44 17) (codes "a") no_parts)
+    ∷ connect (at 45 5) (sink (at 45 5) (codes "n") (subfield (at 45 6) (at 45 7) (codes "w") (subfield (at 45 8) (at 45 9) (codes "en") no_parts)))
+    (reference (at 45 15) (codes "k") no_parts)
+    ∷ connect (at 46 5) (sink (at 46 5) (codes "n") (subfield (at 46 6) (at 46 7) (codes "w") (subfield (at 46 8) (at 46 9) (codes "clk") no_parts)))
+    (reference (at 46 16) (codes "clock") no_parts)
+    ∷ connect (at 47 5) (sink (at 47 5) (codes "n") (subfield (at 47 6) (at 47 7) (codes "w") (subfield (at 47 8) (at 47 9) (codes "data") no_parts)))
+    (reference (at 47 17) (codes "u") no_parts)
+    ∷ connect (at 48 5) (sink (at 48 5) (codes "n") (subfield (at 48 6) (at 48 7) (codes "w") (subfield (at 48 8) (at 48 9) (codes "mask") no_parts)))
+    (unsigned (at 48 17) (Some 1) 1)
+    ∷ connect (at 49 5) (sink (at 49 5) (codes "d") no_parts)
+    (reference (at 49 10) (codes "n") (subfield (at 49 11) (at 49 12) (codes "r") (subfield (at 49 13) (at 49 14) (codes "data") no_parts)))
+    ∷ [])
+    ∷ [])
+
+abbrev pub two_whens : CircuitTree
+two_whens = circuit_tree (name_at 1 9 (codes "T"))
+    (module_tree (at 2 3) (name_at 2 10 (codes "T"))
+    (port_tree Input (name_at 3 11 (codes "a")) (at 3 15) (uint (Some 1))
+    ∷ port_tree Input (name_at 4 11 (codes "b")) (at 4 15) (uint (Some 1))
+    ∷ port_tree Input (name_at 5 11 (codes "c")) (at 5 15) (uint (Some 1))
+    ∷ port_tree Output (name_at 6 12 (codes "o")) (at 6 16) (uint (Some 1))
+    ∷ [])
+    (when (at 7 5) (reference (at 7 10) (codes "a") no_parts)
+    (block (when (at 8 7) (reference (at 8 12) (codes "c") no_parts)
+    (block (connect (at 9 9) (sink (at 9 9) (codes "o") no_parts) (reference (at 9 14) (codes "b") no_parts)
+    ∷ []))
+    (block [])
+    ∷ []))
+    (block [])
+    ∷ [])
+    ∷ [])
+
+abbrev pub two_writers_new : CircuitTree
+two_writers_new = circuit_tree (name_at 1 9 (codes "T"))
+    (module_tree (at 2 3) (name_at 2 10 (codes "T"))
+    (port_tree Input (name_at 3 11 (codes "clock")) (at 3 19) clock
+    ∷ port_tree Input (name_at 4 11 (codes "a")) (at 4 15) (uint (Some 2))
+    ∷ port_tree Input (name_at 5 11 (codes "b")) (at 5 15) (uint (Some 2))
+    ∷ port_tree Input (name_at 6 11 (codes "u")) (at 6 15) (uint (Some 4))
+    ∷ port_tree Input (name_at 7 11 (codes "v")) (at 7 15) (uint (Some 4))
+    ∷ port_tree Input (name_at 8 11 (codes "w")) (at 8 15) (uint (Some 1))
+    ∷ port_tree Output (name_at 9 12 (codes "o")) (at 9 16) (uint (Some 4))
+    ∷ [])
+    (memory (at 10 5) (name_at 10 9 (codes "m"))
+    (data_type (at 11 7) (at 11 20) (uint (Some 4))
+    ∷ depth (at 12 7) 3
+    ∷ read_latency (at 13 7) 1
+    ∷ write_latency (at 14 7) 1
+    ∷ reader (at 15 7) (name_at 15 17 (codes "r") ∷ [])
+    ∷ writer (at 16 7) (name_at 16 17 (codes "p") ∷ [])
+    ∷ writer (at 17 7) (name_at 17 17 (codes "q") ∷ [])
+    ∷ read_under_write (at 18 7) New
+    ∷ [])
+    ∷ connect (at 19 5) (sink (at 19 5) (codes "m") (subfield (at 19 6) (at 19 7) (codes "r") (subfield (at 19 8) (at 19 9) (codes "addr") no_parts)))
+    (reference (at 19 17) (codes "a") no_parts)
+    ∷ connect (at 20 5) (sink (at 20 5) (codes "m") (subfield (at 20 6) (at 20 7) (codes "r") (subfield (at 20 8) (at 20 9) (codes "en") no_parts)))
+    (unsigned (at 20 15) (Some 1) 1)
+    ∷ connect (at 21 5) (sink (at 21 5) (codes "m") (subfield (at 21 6) (at 21 7) (codes "r") (subfield (at 21 8) (at 21 9) (codes "clk") no_parts)))
+    (reference (at 21 16) (codes "clock") no_parts)
+    ∷ connect (at 22 5) (sink (at 22 5) (codes "m") (subfield (at 22 6) (at 22 7) (codes "p") (subfield (at 22 8) (at 22 9) (codes "addr") no_parts)))
+    (reference (at 22 17) (codes "a") no_parts)
+    ∷ connect (at 23 5) (sink (at 23 5) (codes "m") (subfield (at 23 6) (at 23 7) (codes "p") (subfield (at 23 8) (at 23 9) (codes "en") no_parts)))
+    (reference (at 23 15) (codes "w") no_parts)
+    ∷ connect (at 24 5) (sink (at 24 5) (codes "m") (subfield (at 24 6) (at 24 7) (codes "p") (subfield (at 24 8) (at 24 9) (codes "clk") no_parts)))
+    (reference (at 24 16) (codes "clock") no_parts)
+    ∷ connect (at 25 5) (sink (at 25 5) (codes "m") (subfield (at 25 6) (at 25 7) (codes "p") (subfield (at 25 8) (at 25 9) (codes "data") no_parts)))
+    (reference (at 25 17) (codes "u") no_parts)
+    ∷ connect (at 26 5) (sink (at 26 5) (codes "m") (subfield (at 26 6) (at 26 7) (codes "p") (subfield (at 26 8) (at 26 9) (codes "mask") no_parts)))
+    (unsigned (at 26 17) (Some 1) 1)
+    ∷ connect (at 27 5) (sink (at 27 5) (codes "m") (subfield (at 27 6) (at 27 7) (codes "q") (subfield (at 27 8) (at 27 9) (codes "addr") no_parts)))
+    (reference (at 27 17) (codes "b") no_parts)
+    ∷ connect (at 28 5) (sink (at 28 5) (codes "m") (subfield (at 28 6) (at 28 7) (codes "q") (subfield (at 28 8) (at 28 9) (codes "en") no_parts)))
+    (reference (at 28 15) (codes "w") no_parts)
+    ∷ connect (at 29 5) (sink (at 29 5) (codes "m") (subfield (at 29 6) (at 29 7) (codes "q") (subfield (at 29 8) (at 29 9) (codes "clk") no_parts)))
+    (reference (at 29 16) (codes "clock") no_parts)
+    ∷ connect (at 30 5) (sink (at 30 5) (codes "m") (subfield (at 30 6) (at 30 7) (codes "q") (subfield (at 30 8) (at 30 9) (codes "data") no_parts)))
+    (reference (at 30 17) (codes "v") no_parts)
+    ∷ connect (at 31 5) (sink (at 31 5) (codes "m") (subfield (at 31 6) (at 31 7) (codes "q") (subfield (at 31 8) (at 31 9) (codes "mask") no_parts)))
+    (unsigned (at 31 17) (Some 1) 1)
+    ∷ connect (at 32 5) (sink (at 32 5) (codes "o") no_parts)
+    (reference (at 32 10) (codes "m") (subfield (at 32 11) (at 32 12) (codes "r") (subfield (at 32 13) (at 32 14) (codes "data") no_parts)))
+    ∷ [])
+    ∷ [])
+
+abbrev pub two_writers_old : CircuitTree
+two_writers_old = circuit_tree (name_at 1 9 (codes "T"))
+    (module_tree (at 2 3) (name_at 2 10 (codes "T"))
+    (port_tree Input (name_at 3 11 (codes "clock")) (at 3 19) clock
+    ∷ port_tree Input (name_at 4 11 (codes "a")) (at 4 15) (uint (Some 2))
+    ∷ port_tree Input (name_at 5 11 (codes "b")) (at 5 15) (uint (Some 2))
+    ∷ port_tree Input (name_at 6 11 (codes "u")) (at 6 15) (uint (Some 4))
+    ∷ port_tree Input (name_at 7 11 (codes "v")) (at 7 15) (uint (Some 4))
+    ∷ port_tree Input (name_at 8 11 (codes "w")) (at 8 15) (uint (Some 1))
+    ∷ port_tree Output (name_at 9 12 (codes "o")) (at 9 16) (uint (Some 4))
+    ∷ [])
+    (memory (at 10 5) (name_at 10 9 (codes "m"))
+    (data_type (at 11 7) (at 11 20) (uint (Some 4))
+    ∷ depth (at 12 7) 3
+    ∷ read_latency (at 13 7) 1
+    ∷ write_latency (at 14 7) 1
+    ∷ reader (at 15 7) (name_at 15 17 (codes "r") ∷ [])
+    ∷ writer (at 16 7) (name_at 16 17 (codes "p") ∷ [])
+    ∷ writer (at 17 7) (name_at 17 17 (codes "q") ∷ [])
+    ∷ read_under_write (at 18 7) Old
+    ∷ [])
+    ∷ connect (at 19 5) (sink (at 19 5) (codes "m") (subfield (at 19 6) (at 19 7) (codes "r") (subfield (at 19 8) (at 19 9) (codes "addr") no_parts)))
+    (reference (at 19 17) (codes "a") no_parts)
+    ∷ connect (at 20 5) (sink (at 20 5) (codes "m") (subfield (at 20 6) (at 20 7) (codes "r") (subfield (at 20 8) (at 20 9) (codes "en") no_parts)))
+    (unsigned (at 20 15) (Some 1) 1)
+    ∷ connect (at 21 5) (sink (at 21 5) (codes "m") (subfield (at 21 6) (at 21 7) (codes "r") (subfield (at 21 8) (at 21 9) (codes "clk") no_parts)))
+    (reference (at 21 16) (codes "clock") no_parts)
+    ∷ connect (at 22 5) (sink (at 22 5) (codes "m") (subfield (at 22 6) (at 22 7) (codes "p") (subfield (at 22 8) (at 22 9) (codes "addr") no_parts)))
+    (reference (at 22 17) (codes "a") no_parts)
+    ∷ connect (at 23 5) (sink (at 23 5) (codes "m") (subfield (at 23 6) (at 23 7) (codes "p") (subfield (at 23 8) (at 23 9) (codes "en") no_parts)))
+    (reference (at 23 15) (codes "w") no_parts)
+    ∷ connect (at 24 5) (sink (at 24 5) (codes "m") (subfield (at 24 6) (at 24 7) (codes "p") (subfield (at 24 8) (at 24 9) (codes "clk") no_parts)))
+    (reference (at 24 16) (codes "clock") no_parts)
+    ∷ connect (at 25 5) (sink (at 25 5) (codes "m") (subfield (at 25 6) (at 25 7) (codes "p") (subfield (at 25 8) (at 25 9) (codes "data") no_parts)))
+    (reference (at 25 17) (codes "u") no_parts)
+    ∷ connect (at 26 5) (sink (at 26 5) (codes "m") (subfield (at 26 6) (at 26 7) (codes "p") (subfield (at 26 8) (at 26 9) (codes "mask") no_parts)))
+    (unsigned (at 26 17) (Some 1) 1)
+    ∷ connect (at 27 5) (sink (at 27 5) (codes "m") (subfield (at 27 6) (at 27 7) (codes "q") (subfield (at 27 8) (at 27 9) (codes "addr") no_parts)))
+    (reference (at 27 17) (codes "b") no_parts)
+    ∷ connect (at 28 5) (sink (at 28 5) (codes "m") (subfield (at 28 6) (at 28 7) (codes "q") (subfield (at 28 8) (at 28 9) (codes "en") no_parts)))
+    (reference (at 28 15) (codes "w") no_parts)
+    ∷ connect (at 29 5) (sink (at 29 5) (codes "m") (subfield (at 29 6) (at 29 7) (codes "q") (subfield (at 29 8) (at 29 9) (codes "clk") no_parts)))
+    (reference (at 29 16) (codes "clock") no_parts)
+    ∷ connect (at 30 5) (sink (at 30 5) (codes "m") (subfield (at 30 6) (at 30 7) (codes "q") (subfield (at 30 8) (at 30 9) (codes "data") no_parts)))
+    (reference (at 30 17) (codes "v") no_parts)
+    ∷ connect (at 31 5) (sink (at 31 5) (codes "m") (subfield (at 31 6) (at 31 7) (codes "q") (subfield (at 31 8) (at 31 9) (codes "mask") no_parts)))
+    (unsigned (at 31 17) (Some 1) 1)
+    ∷ connect (at 32 5) (sink (at 32 5) (codes "o") no_parts)
+    (reference (at 32 10) (codes "m") (subfield (at 32 11) (at 32 12) (codes "r") (subfield (at 32 13) (at 32 14) (codes "data") no_parts)))
+    ∷ [])
+    ∷ [])
+
+abbrev pub widened_and_cut : CircuitTree
+widened_and_cut = circuit_tree (name_at 1 9 (codes "T"))
+    (module_tree (at 2 3) (name_at 2 10 (codes "T"))
+    (port_tree Input (name_at 3 11 (codes "a")) (at 3 15) (sint (Some 2))
+    ∷ port_tree Output (name_at 4 12 (codes "o")) (at 4 16) (sint (Some 4))
+    ∷ port_tree Output (name_at 5 12 (codes "p")) (at 5 16) (sint (Some 2))
+    ∷ [])
+    (connect (at 6 5) (sink (at 6 5) (codes "o") no_parts) (reference (at 6 10) (codes "a") no_parts)
+    ∷ connect (at 7 5) (sink (at 7 5) (codes "p") no_parts) (reference (at 7 10) (codes "o") no_parts)
+    ∷ [])
+    ∷ [])
+
+abbrev pub wire_in_a_when : CircuitTree
+wire_in_a_when = circuit_tree (name_at 1 9 (codes "T"))
+    (module_tree (at 2 3) (name_at 2 10 (codes "T"))
+    (port_tree Input (name_at 3 11 (codes "a")) (at 3 15) (uint (Some 1))
+    ∷ port_tree Input (name_at 4 11 (codes "c")) (at 4 15) (uint (Some 1))
+    ∷ port_tree Output (name_at 5 12 (codes "o")) (at 5 16) (uint (Some 1))
+    ∷ [])
+    (connect (at 6 5) (sink (at 6 5) (codes "o") no_parts) (reference (at 6 10) (codes "a") no_parts)
+    ∷ when (at 7 5) (reference (at 7 10) (codes "c") no_parts)
+    (block (wire (at 8 7) (name_at 8 12 (codes "w")) (at 8 16) (uint (Some 1))
+    ∷ connect (at 9 7) (sink (at 9 7) (codes "w") no_parts)
+    (operation (at 9 12) op.Not (expression (reference (at 9 16) (codes "a") no_parts) no_expressions) [])
+    ∷ node (at 10 7) (name_at 10 12 (codes "n")) (reference (at 10 16) (codes "w") no_parts)
+    ∷ connect (at 11 7) (sink (at 11 7) (codes "o") no_parts) (reference (at 11 12) (codes "n") no_parts)
+    ∷ []))
+    (block [])
+    ∷ [])
+    ∷ [])

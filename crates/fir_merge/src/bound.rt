@@ -1,0 +1,11 @@
+//! Where a value is in a net, and its type.
+
+use fir_bits::NumTy;
+use fir_net::Read;
+
+/// A leaf or a node, with its type.
+#[derive(Clone, Copy, Debug, PartialEq, Eq)]
+pub struct Bound {
+    pub read: Read,
+    pub ty: NumTy,
+}

@@ -1,0 +1,6 @@
+-- What no clause of `run` reads: what is found of a module, and the texts of its leaves.
+pub mod ModuleFaults
+pub mod CoveredModules
+pub mod DeclaredNames
+pub mod TypePaths
+pub mod DeclaredLeaves

@@ -1,0 +1,25 @@
+-- What is found of one module: its first leaf that some choice leaves undriven, or that it has none (FIRRTL spec, "Initialization of Components").
+use Rattle.std.specs.Prelude.{◌≡◌, ℕ, ◌<◌, List, length, Option, Some, None}
+use Rattle.fir_ast.specs.declared.fault.FirFault.{FirFault}
+use Rattle.fir_ast.specs.Circuits.{CircuitTree}
+use Rattle.fir_pass.specs.Faults.{fault_of}
+use Rattle.fir_meaning.specs.LeafedModules.{Scene, leafed_module, module_leaves}
+use Rattle.fir_meaning.specs.LeafModules.{leaf_at}
+use Rattle.fir_meaning.specs.LeafPaths.{path_text}
+use Rattle.fir_meaning.specs.Scenes.{IsSceneOf}
+use Rattle.fir_meaning.specs.UndrivenGroup.{IsFaultOf}
+use Rattle.fir_meaning.specs.UndrivenLeaves.{AreDriven, AreDrivenBefore}
+
+pub record IsFirstOf (c : CircuitTree) (module_number : ℕ) (f : FirFault) : Type 0 where
+  pub leaf : ℕ
+  pub stands : IsFaultOf c module_number leaf (fault_of f)
+  pub before : (s : Scene) → IsSceneOf c module_number s → AreDrivenBefore (leafed_module s) leaf
+
+abbrev pub IsFoundOf : CircuitTree → ℕ → Option FirFault → Type 0
+IsFoundOf c module_number None = (s : Scene) → IsSceneOf c module_number s → AreDriven (leafed_module s)
+IsFoundOf c module_number (Some f) = IsFirstOf c module_number f
+
+-- the text is that of the path of the leaf of a number
+abbrev pub IsTextOf : CircuitTree → ℕ → ℕ → List ℕ → Type 0
+IsTextOf c module_number leaf text =
+    (s : Scene) → IsSceneOf c module_number s → leaf < length (module_leaves s) → text ≡ path_text (leaf_at (module_leaves s) leaf).path
