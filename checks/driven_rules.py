@@ -24,7 +24,8 @@ OUTCOMES = {"when": ("0", "1"), "index": ("miss", "hit")}
 
 
 class Fork(NamedTuple):
-    """A when or a dynamic write. The order is that of the text."""
+    """A when or a dynamic write. The order is that of the text. A statement that drives a leaf from
+    both its sides through indices is one, so that it is told once."""
     line: int
     column: int
     word: str

@@ -126,6 +126,18 @@ def opened(given, has_leaf=True):
     return given._replace(width=Unknown() if has_leaf else 0)
 
 
+def without_found_widths(given):
+    """The type of a node without the widths that are found anew: all but those below vectors of
+    length 0, where no leaf stands."""
+    if isinstance(given, Vector):
+        return given if given.length == 0 else given._replace(
+            element=without_found_widths(given.element))
+    if isinstance(given, Bundle):
+        return Bundle(tuple(field._replace(type=without_found_widths(field.type))
+                            for field in given.fields))
+    return Ground(given.kind)
+
+
 def type_of(expression):
     """The type of an expression; widths of operators, muxes and validifs are left out."""
     if isinstance(expression, Reference):
@@ -262,7 +274,7 @@ class Module:
 
     def node(self, line, at, name, _):
         value = line.skip(1).expression()
-        given = opened(without_widths(type_of(value)))
+        given = opened(without_found_widths(type_of(value)))
         driven = self.declare(line, "node", at, name, given)
         self.steps += [Stands(value), Joined("node", driven, value)]
 

@@ -21,7 +21,7 @@ use Rattle.fir_meaning.specs.Scenes.{IsSceneOf}
 use Rattle.fir_meaning.specs.SizedDeclarations.{numbered_modules}
 use Rattle.fir_meaning.specs.Terms.{Term}
 use Rattle.fir_meaning.specs.TypeGroup.{module_type_faults, type_faults}
-use Rattle.fir_meaning.specs.UndrivenChoices.{ComesFirst, IsFirstUndriven, IsUndriven}
+use Rattle.fir_meaning.specs.UndrivenChoices.{IsFirstUndriven, IsUndriven, told_once}
 use Rattle.fir_meaning.specs.UndrivenGroup.{IsShown}
 use Rattle.fir_meaning.specs.Visibility.{at_head}
 use Rattle.fir_meaning.specs.working.DrivenFaults.{is_connected}
@@ -41,8 +41,8 @@ plain_first : (depth x : ℕ) (b : LeafBlock) (f : Choice) → IsPlain b → IsU
 plain_first depth x b f plain undriven = record {
   choice = f;
   undriven = undriven;
-  are = tells_nothing depth x b 0 f plain;
-  first = λ other u. subst (ComesFirst []) (sym (tells_nothing depth x b 0 other plain)) tt;
+  are = ap told_once (tells_nothing depth x b 0 f plain);
+  first = λ other u. rw (tells_nothing depth x b 0 f plain, tells_nothing depth x b 0 other plain) tt;
 }
 
 -- the laws of the leaf view, and a module of the small language in a circuit without faults of names and types

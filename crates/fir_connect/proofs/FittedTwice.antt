@@ -1,4 +1,4 @@
--- A number at a greater width, and then at another, is the number at that one.
+-- A number at a greater width, and then at another, is the number at that one. At its own width it is itself.
 use Rattle.std.proofs.Common.{◌≡◌, ℕ, ◌+◌, ◌-◌, ◌*◌, ◌^◌, ◌%◌, ◌<◌, ◌≤◌, Bool, true, false, ◌&&◌, if◌then◌else◌, nat_le, inl, inr, refl, sym, ap, ◌∙◌, arith}
 use Rattle.std.proofs.Math.Nat.{mod-eq_of_lt}
 use Rattle.std.proofs.Math.Pow.{mod-mod-pow}
@@ -35,6 +35,13 @@ extended_again true w n v to wider wide =
 
 fitted_wider : (signed : Bool) (w n to : ℕ) → w ≤ to → fitted signed w n to ≡ extended signed w n to
 fitted_wider signed w n to h = let test = le-leb w to h in rw test refl
+
+pub fitted_own : (signed : Bool) (w n : ℕ) → fitted signed w n w ≡ n
+fitted_own signed w n = fitted_wider signed w n w (omega arith) ∙ own (signed && is_negative w n)
+  where
+    own : (b : Bool) → (if b then n + (2 ^ w - 2 ^ w) else n) ≡ n
+    own true = omega arith
+    own false = refl
 
 fitted_narrower : (signed : Bool) (w n to : ℕ) → to < w → fitted signed w n to ≡ n % 2 ^ to
 fitted_narrower signed w n to h = let test = lt-leb w to h in rw test refl

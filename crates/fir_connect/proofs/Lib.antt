@@ -18,3 +18,5 @@ pub mod GivenTerms
 pub mod DriverChoices
 pub mod DriverValues
 pub mod DriverClocking
+pub mod RoleValues
+pub mod RoleReading

@@ -6,3 +6,5 @@ pub mod Lowered
 pub mod Drivers
 pub mod LoweredLaws
 pub mod DriverLaws
+pub mod NetRoles
+pub mod RoleLaws

@@ -172,4 +172,6 @@ pub covered_is_driven : CoveredIsDriven
 covered_is_driven depth x b f c u = covered_all depth x b 0 c f u
 
 pub missed_is_first : MissedIsFirst
-missed_is_first depth x b c = let r = first_all depth x b 0 c in record { choice = r.choice; undriven = r.undriven; are = r.are; first = r.first }
+missed_is_first depth x b c =
+    let r = first_all depth x b 0 c in
+    record { choice = r.choice; undriven = r.undriven; are = rw r.are refl; first = λ other u. rw r.are (r.first other u) }

@@ -4,7 +4,7 @@
 
 ghost use Rattle.std.specs.Prelude.{◌≡◌, ◌||◌, IfOk, ℕ, false};
 ghost use Rattle.fir_meaning.specs.Choices.{covers_all};
-ghost use Rattle.fir_meaning.specs.UndrivenChoices.{drives, drives_any};
+ghost use Rattle.fir_meaning.specs.UndrivenChoices.{drives, drives_any, is_same_miss, told_once};
 ghost use Rattle.fir_leaf.specs.declared.statement.LeafStmt.TheVariants as code;
 ghost use Rattle.fir_leaf.specs.working.NodeBlocks.{block_in, statement_in};
 ghost use Rattle.fir_driven.specs.working.Missed.{missed_all};
@@ -44,11 +44,41 @@ pub fn first_choice(
     nodes: &[Node],
     body: &[LeafStmt],
 ) -> Result<Vec<Outcome>, MemoryOut>
-    ensures { IfOk result (λ os. covers_all depth leaf (block_in nodes.now body.now) 0 ≡ false → os.items ≡ missed_all depth leaf (block_in nodes.now body.now) 0) }
+    ensures { IfOk result (λ os. covers_all depth leaf (block_in nodes.now body.now) 0 ≡ false → os.items ≡ told_once (missed_all depth leaf (block_in nodes.now body.now) 0)) }
 {
     let mut outcomes = Vec::new(alloc);
     miss_block(body, alloc, nodes, Asked { leaf, depth }, 0, &mut outcomes)?;
-    Ok(outcomes)
+    told_once(alloc, &outcomes)
+}
+
+/// The outcomes without each miss that equals the one before it: a statement through indices that
+/// drives the leaf from both its sides is told once.
+fn told_once(alloc: Global, outcomes: &[Outcome]) -> Result<Vec<Outcome>, MemoryOut>
+    ensures { IfOk result (λ os. os.items ≡ told_once outcomes.now) }
+{
+    let mut told = Vec::new(alloc);
+    let Some((first, rest)) = outcomes.split_first() else {
+        return Ok(told);
+    };
+    told.push(*first)?;
+    let mut before = *first;
+    for outcome in rest {
+        if !is_same_miss(before, *outcome) {
+            told.push(*outcome)?;
+        }
+        before = *outcome;
+    }
+    Ok(told)
+}
+
+/// Whether both are the miss of one statement through indices.
+fn is_same_miss(one: Outcome, other: Outcome) -> bool
+    ensures { result ≡ is_same_miss one other }
+{
+    match (one, other) {
+        (Outcome::Index(place, false), Outcome::Index(later, false)) => place == later,
+        _ => false,
+    }
 }
 
 /// Puts the outcomes of a block within so many whens behind others.

@@ -153,7 +153,7 @@ fn join(
 }
 
 /// Lists those of the leaves that are marked, and takes their marks away.
-fn move_marked(
+pub fn move_marked(
     leaves: &[usize],
     marks: &mut Vec<bool>,
     found: &mut Vec<usize>,

@@ -10,7 +10,8 @@ mod laws;
 mod reached;
 
 pub use choice::first_choice;
-pub use covered::covered_leaves;
+pub use covered::{covered_leaves, move_marked};
+pub use flags::{depth_of, set_flag};
 pub use laws::{covered_is_driven, missed_is_first};
 pub use reached::{is_picked, reached_leaves};
 

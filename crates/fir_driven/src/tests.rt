@@ -109,3 +109,19 @@ fn a_write_through_an_index(rt: HostRuntime) -> Result<(), Fail> {
     assert!(rt; untold.is_empty());
     Ok(())
 }
+
+/// The first statement drives leaf 2 from both its sides and is told once, then the second is told.
+#[test]
+fn a_write_from_both_sides(rt: HostRuntime) -> Result<(), Fail> {
+    let alloc = rt.alloc();
+    let nodes = nodes(alloc)?;
+    let body = vec![in alloc;
+        drive_through_index(1, 2),
+        drive_through_index(1, 0),
+        drive_through_index(2, 0),
+    ]?;
+    let missed = first_choice(alloc, 2, 0, &nodes, &body)?;
+    let wanted = [Outcome::Index(at(1), false), Outcome::Index(at(2), false)];
+    assert_eq!(rt; missed.as_slice(), wanted.as_slice());
+    Ok(())
+}

@@ -11,7 +11,7 @@ use Rattle.fir_meaning.specs.LeafPaths.{LeafPath, element, named, path_text}
 use Rattle.fir_meaning.specs.SizedDeclarations.{NumberedModule, numbered_modules}
 use Rattle.fir_meaning.specs.TermReads.{multiples}
 use Rattle.fir_meaning.specs.Choices.{Choice}
-use Rattle.fir_meaning.specs.UndrivenChoices.{ComesFirst, IsFirstUndriven, IsUndriven, told_all}
+use Rattle.fir_meaning.specs.UndrivenChoices.{ComesFirst, IsFirstUndriven, IsUndriven, told_all, told_once}
 use Rattle.fir_meaning.specs.UndrivenLeaves.{AreDrivenBefore, ShowsUndriven}
 use Rattle.fir_meaning.specs.LeafModules.{LeafModule}
 use Rattle.fir_meaning.specs.LeafedModules.{Scene, leafed_module}
@@ -112,7 +112,14 @@ two_whens_told widths is_async = (
 
 second_is_not_first : (widths : ℕ → ℕ) (is_async : LeafPath → Bool)
     → IsFirstUndriven 0 3 (first_module widths is_async text.two_whens).body (outcome.When (at 7 5) true ∷ outcome.When (at 8 7) false ∷ []) → ⊥
-second_is_not_first widths is_async h = h.first (λ way. false) refl
+second_is_not_first widths is_async h = go (h.choice (false ∷ [])) refl h.are (h.first (λ way. false) refl)
+  where
+    go : (v : Bool) → h.choice (false ∷ []) ≡ v
+        → told_once (told_all 0 3 (first_module widths is_async text.two_whens).body 0 h.choice)
+        ≡ outcome.When (at 7 5) true ∷ outcome.When (at 8 7) false ∷ []
+        → ComesFirst (told_all 0 3 (first_module widths is_async text.two_whens).body 0 h.choice) (outcome.When (at 7 5) false ∷ []) → ⊥
+    go false q are first = absurd (cc (rw q at are))
+    go true q are first = rw q at first
 
 -- o[i] <= x alone, where o has two elements; the leaves are i, x, o[0] and o[1]
 by_index_told : IsTold text.by_index 2 (Undriven (at 5 12) (path_text (named (codes "o") ∷ element 0 ∷ [])) (outcome.Index (at 6 5) false ∷ []))

@@ -1,5 +1,5 @@
 -- The statements of a module have types over its leaves, where no fault of types or widths stands in them.
-use Rattle.std.proofs.Common.{◌≡◌, ℕ, List, [], ◌++◌, Bool, true, Option, Some, None, slice_get, sym, ap, ◌∙◌, subst}
+use Rattle.std.proofs.Common.{◌≡◌, ℕ, List, [], ◌++◌, Bool, true, Option, Some, None, slice_get, ap, ◌∙◌, subst}
 use Rattle.std.specs.List.{AllByRecursion}
 use Rattle.fir_base.proofs.Each.{all_from}
 use Rattle.fir_base.proofs.Empty.{empty_left, empty_right}
@@ -36,12 +36,11 @@ use Rattle.fir_meaning.specs.LeafModules.{LeafType}
 use Rattle.fir_meaning.specs.LeafedModules.{Scene, leafed_module, module_leaves}
 use Rattle.fir_meaning.proofs.PartialPairs.{partial_fit}
 use Rattle.fir_leaf.proofs.PairsByNumber.{IsPair, ArePairs, pairs_numbered, partial_numbered}
-use Rattle.fir_leaf_types.specs.working.AbsentWidths.{NodesAreClear}
 use Rattle.fir_leaf_types.specs.working.TypedBlocks.{AreTyped}
 use Rattle.fir_leaf_types.specs.working.TypedModules.{held_in}
 use Rattle.fir_leaf_types.proofs.StandingTypedTargets.{StandsTyped}
 use Rattle.fir_leaf_types.proofs.ScopesStandTyped.{held_along}
-use Rattle.fir_leaf_types.proofs.DeclarationsStandTyped.{clear_front, held_longer, stands_behind}
+use Rattle.fir_leaf_types.proofs.DeclarationsStandTyped.{held_longer, stands_behind}
 use Rattle.fir_leaf_types.proofs.ExpressionsTyped.{KnowsLeaves, condition_termed, expression_typed, sink_termed, sink_typed, unsigned_termed}
 use Rattle.fir_leaf_types.proofs.DeclarationsGrow.{Grows, grows_block, grows_through}
 use Rattle.fir_leaf_types.proofs.LeavesHold.{holds_at, module_holds}
@@ -95,16 +94,14 @@ module _ (c : CircuitTree) (held : ℕ → LeafType) (w : Widths) (scope : Typed
 partly_fit : (t u : DataType) → is_partly_connectable t u ≡ true → AllByRecursion Fits (partial_pairs t u)
 partly_fit t u h = all_from Fits (partial_pairs t u) (λ p m. (partial_fit t u h p m).fit)
 
-module _ (c : CircuitTree) (s : Scene) (none : s.own.start.scope ≡ []) (clear : NodesAreClear s.own.modules [] (declarations s.own.inside)) where
+module _ (c : CircuitTree) (s : Scene) (none : s.own.start.scope ≡ []) where
   abbrev pub held : ℕ → LeafType
   held = held_in (leafed_module s)
 
   pub knows_before : (before : Before) → Grows before.declared (declarations s.own.inside)
       → KnowsLeaves (held_in (leafed_module s)) s.widths (scope_at s.own.modules before) (sized_at s.own before)
   knows_before before g = record {
-    stands =
-        stands_behind s.widths s.own.modules s.own.start none before.declared
-        (clear_front s.own.modules [] before.declared g.0 (subst (NodesAreClear s.own.modules []) (sym g.1) clear));
+    stands = stands_behind s.widths s.own.modules s.own.start none before.declared;
     holds = λ x h e.
         let there = held_longer s.widths s.own.modules s.own.start none before.declared g.0 x h e in
         let all =

@@ -1,4 +1,4 @@
--- The scopes behind declarations: where nodes are clear, all names stand with their sized types; and what their leaves hold goes on in order.
+-- The scopes behind declarations: all names stand with their sized types, and what their leaves hold goes on in order.
 use Rattle.std.proofs.Common.{◌≡◌, ℕ, ◌+◌, List, [], ◌∷◌, ◌++◌, length, slice_get, Some, refl, sym, ap, ◌∙◌, subst, arith, append_assoc, length-append}
 use Rattle.std.proofs.lemmas.List.{append-nil}
 use Rattle.fir_ast.specs.Circuits.{ModuleTree}
@@ -11,18 +11,12 @@ use Rattle.fir_meaning.specs.SizedDeclarations.{Numbering, sized_component, numb
 use Rattle.fir_meaning.proofs.KnownNames.{typed_more}
 use Rattle.fir_meaning.specs.LeafModules.{LeafType}
 use Rattle.fir_leaf.proofs.LeafPlaces.{get_left}
-use Rattle.fir_leaf_types.specs.working.AbsentWidths.{IsClearOf, NodesAreClear}
 use Rattle.fir_leaf_types.proofs.ScopesStandTyped.{ScopeStands, held_where, held_along, scope_more, held_more, declaration_stands}
 
 pub numbered_more : (modules : List ModuleTree) (start : Numbering) (ds : Declarations) (d : Declaration)
     → numbered_behind modules start (ds ++ d ∷ []) ≡ numbered_with modules (numbered_behind modules start ds) d
 numbered_more modules start [] d = refl
 numbered_more modules start (x ∷ ds) d = numbered_more modules (numbered_with modules start x) ds d
-
-pub clear_front : (modules : List ModuleTree) (scope : TypedScope) (ds more : Declarations) → NodesAreClear modules scope (ds ++ more)
-    → NodesAreClear modules scope ds
-clear_front modules scope [] more h = tt
-clear_front modules scope (d ∷ ds) more h = (h.0, clear_front modules (scope ++ known_as modules scope d ∷ []) ds more h.1)
 
 -- as many names as declarations
 typed_counted : (modules : List ModuleTree) (scope : TypedScope) (ds : Declarations) → length (typed_behind modules scope ds) ≡ length scope + length ds
@@ -63,28 +57,21 @@ module _ (w : Widths) (modules : List ModuleTree) (start : Numbering) (none : st
       ∙ held_more w (typed_scope modules ds) (numbered_behind modules start ds).scope k s
       (typed_counted modules [] ds ∙ ap (λ l. length l + length ds) (sym none) ∙ sym (sized_counted modules start ds))
 
-  stands_more : (ds : Declarations) (d : Declaration) → StandsAt ds
-      → IsClearOf d.component (component_type modules (typed_scope modules ds) d.named.place d.component) → StandsAt (ds ++ d ∷ [])
-  stands_more ds d h clear =
+  stands_more : (ds : Declarations) (d : Declaration) → StandsAt ds → StandsAt (ds ++ d ∷ [])
+  stands_more ds d h =
       let k = known_as modules (typed_scope modules ds) d in
       let s : SizedName =
       record { name = d.named.name; sized = sized_component modules (numbered_behind modules start ds) d.named.place d.component } in
       subst (λ ks. ScopeStands w ks (numbered_behind modules start (ds ++ d ∷ [])).scope) (sym (typed_more modules [] ds d))
       (subst (λ (n : Numbering). ScopeStands w (typed_scope modules ds ++ k ∷ []) n.scope) (sym (numbered_more modules start ds d))
-      (scope_more w (typed_scope modules ds) (numbered_behind modules start ds).scope k s h (declaration_stands w modules start none ds d clear)))
+      (scope_more w (typed_scope modules ds) (numbered_behind modules start ds).scope k s h (declaration_stands w modules start none ds d)))
 
-  next_clear : (ds : Declarations) (d : Declaration) (more : Declarations) → NodesAreClear modules (typed_scope modules ds) (d ∷ more)
-      → NodesAreClear modules (typed_scope modules (ds ++ d ∷ [])) more
-  next_clear ds d more h = subst (λ ks. NodesAreClear modules ks more) (sym (typed_more modules [] ds d)) h.1
+  stands_from : (ds more : Declarations) → StandsAt ds → StandsAt (ds ++ more)
+  stands_from ds [] h = subst StandsAt (sym (append-nil ds)) h
+  stands_from ds (d ∷ more) h = subst StandsAt (append_assoc ds (d ∷ []) more) (stands_from (ds ++ d ∷ []) more (stands_more ds d h))
 
-  stands_from : (ds more : Declarations) → StandsAt ds → NodesAreClear modules (typed_scope modules ds) more → StandsAt (ds ++ more)
-  stands_from ds [] h clear = subst StandsAt (sym (append-nil ds)) h
-  stands_from ds (d ∷ more) h clear =
-      subst StandsAt (append_assoc ds (d ∷ []) more)
-      (stands_from (ds ++ d ∷ []) more (stands_more ds d h clear.0) (next_clear ds d more clear))
-
-  pub stands_behind : (ds : Declarations) → NodesAreClear modules [] ds → ScopeStands w (typed_scope modules ds) (numbered_behind modules start ds).scope
-  stands_behind ds clear = stands_from [] ds (subst (ScopeStands w []) (sym none) tt) clear
+  pub stands_behind : (ds : Declarations) → ScopeStands w (typed_scope modules ds) (numbered_behind modules start ds).scope
+  stands_behind ds = stands_from [] ds (subst (ScopeStands w []) (sym none) tt)
 
   pub held_longer : (ds more : Declarations) (x : ℕ) (h : LeafType)
       → slice_get (held_along w (typed_scope modules ds) (numbered_behind modules start ds).scope) x ≡ Some h

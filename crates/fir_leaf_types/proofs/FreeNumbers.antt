@@ -11,7 +11,7 @@ use Rattle.fir_meaning.specs.MemoryTypes.{memory_type}
 use Rattle.fir_meaning.specs.SharedLeaves.{shared_count, shared_field_count}
 use Rattle.fir_meaning.specs.TypeGroup.{scope_at}
 use Rattle.fir_meaning.specs.TypeKinds.{is_passive}
-use Rattle.fir_meaning.specs.SizedTypes.{numbered, bare_type}
+use Rattle.fir_meaning.specs.SizedTypes.{numbered, node_type}
 use Rattle.fir_meaning.specs.SizedMemories.{as_written}
 use Rattle.fir_meaning.specs.SizedScopes.{SizedName, sized_type}
 use Rattle.fir_meaning.specs.SizedDeclarations.{Numbering, NumberedModule, all_port_numbers, numbered_modules, numbered_with, numbers_at, sized_at, sized_component, sized_declared}
@@ -144,7 +144,7 @@ module _ (c : CircuitTree) where
                       let is : legal.0 ≡ t = cc in
                       ap is_passive (sym is) ∙ legal.2;
                   shape = λ t has. renumbered_bare k s t (sized_as_typed m.modules m.start before.declared e t none has);
-                  ends = ends_written (Some k) (bare_type s);
+                  ends = ends_written (Some k) (node_type s);
                 });
           })
       owned_behind (instance p n other) before g legal h =

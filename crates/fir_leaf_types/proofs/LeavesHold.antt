@@ -6,7 +6,7 @@ use Rattle.fir_ast.specs.Types.{DataType}
 use Rattle.fir_ast.specs.Statements.{PlacedName, Statement, wire, register, node, instance, memory, when, connect, partial_connect, invalid, skip, Block, done, then}
 use Rattle.fir_ast.specs.Circuits.{PortTree}
 use Rattle.fir_meaning.specs.TypeLeaves.{TypeLeaf, type_leaves, leaf_count}
-use Rattle.fir_meaning.specs.Components.{Component, Declarations}
+use Rattle.fir_meaning.specs.Components.{Component}
 use Rattle.fir_meaning.specs.Components as component
 use Rattle.fir_meaning.specs.Visibility.{Before, declaration_at, with_declaration, opened, reopened, behind, behind_block, behind_ports, at_head, declarations}
 use Rattle.fir_meaning.specs.ComponentTypes.{typed_scope}

@@ -17,7 +17,6 @@ use Rattle.fir_meaning.proofs.WellTypedCircuits.{well_typed}
 use Rattle.fir_meaning.specs.LeafModules.{LeafDeclared, leaf_at}
 use Rattle.fir_meaning.specs.LeafedModules.{behind_all_ports, driven_leaves, leaves_in_block, leaves_of_ports, leafed_module, module_leaves}
 use Rattle.fir_leaf.proofs.DeclaredLeaves.{own_module}
-use Rattle.fir_leaf_types.specs.working.AbsentWidths.{NodesAreClear}
 use Rattle.fir_leaf_types.specs.working.TypedModules.{LeafedModulesAreTyped, held_in}
 use Rattle.fir_leaf_types.proofs.DeclarationsGrow.{grows_all}
 use Rattle.fir_leaf_types.proofs.BlocksTyped.{block_typed}
@@ -30,7 +29,7 @@ leaf_in (l ∷ ls) zero lt = inl refl
 leaf_in (l ∷ ls) (suc x) lt = inr (leaf_in ls x (omega arith))
 
 pub modules_typed : WidthsGrow → LeafedModulesAreTyped
-modules_typed grow c module_number s names types scene over legal clear =
+modules_typed grow c module_number s names types scene over legal =
     let i = get_in (numbered_modules c) module_number s.own scene.own in
     let own = own_module c s.own i in
     let head = behind_all_ports s.own.inside in
@@ -38,8 +37,6 @@ modules_typed grow c module_number s names types scene over legal clear =
     let body = s.own.inside.body in
     let is_legal : AreLegal s.own.modules (behind_all_ports s.own.inside) s.own.inside.body =
     subst (λ ms. AreLegal ms (behind_all_ports s.own.inside) s.own.inside.body) (sym own.modules) ((well_typed c names).0 types s.own.inside own.inside) in
-    let is_clear : NodesAreClear s.own.modules [] (declarations s.own.inside) =
-    subst (λ ms. NodesAreClear ms [] (declarations s.own.inside)) (sym own.modules) clear in
     let within = empty_at (shown_in_module (over_rule s.widths)) (numbered_modules c) over s.own i in
     let fine = empty_at (shown_in_module (legal_rule c s.widths)) (numbered_modules c) legal s.own i in
     let over_ports = shown_in_ports (over_rule s.widths) s.own at_head s.own.inside.ports in
@@ -49,8 +46,8 @@ modules_typed grow c module_number s names types scene over legal clear =
     let nodes = nodes_hold grow c names types s i scene.widths in
     let leaves =
     all_joined (LeafIsTyped (held_in (leafed_module s))) (leaves_of_ports s at_head s.own.inside.ports) (leaves_in_block s head body)
-    (ports_typed c s own.start is_clear nodes s.own.inside.ports at_head (empty_left over_ports over_body within))
-    (block_leaves c s own.start is_clear nodes body head (grows_all all) is_legal (empty_right over_ports over_body within)
+    (ports_typed c s own.start nodes s.own.inside.ports at_head (empty_left over_ports over_body within))
+    (block_leaves c s own.start nodes body head (grows_all all) is_legal (empty_right over_ports over_body within)
     (empty_right legal_ports legal_body fine)
     (λ r j.
     scene.widths.meets.each r
@@ -59,7 +56,7 @@ modules_typed grow c module_number s names types scene over legal clear =
     λ x lt. all_at (LeafIsTyped (held_in (leafed_module s))) (module_leaves s) leaves (leaf_at (module_leaves s) x) (leaf_in (module_leaves s) x lt) in
     record {
       body =
-          block_typed c s own.start is_clear (driven_leaves s) body head (grows_all all) is_legal (empty_right over_ports over_body within)
+          block_typed c s own.start (driven_leaves s) body head (grows_all all) is_legal (empty_right over_ports over_body within)
           (empty_right legal_ports legal_body fine);
       narrow = λ x lt. (each x lt).narrow;
       roles = λ x lt. (each x lt).gives;

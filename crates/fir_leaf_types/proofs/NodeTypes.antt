@@ -5,14 +5,14 @@ use Rattle.fir_base.proofs.Members.{in_left, in_right, in_either}
 use Rattle.fir_base.proofs.SameNames.{name_other, name_same}
 use Rattle.fir_base.proofs.Tests.{both}
 use Rattle.fir_ast.specs.declared.place.Place.{Place}
-use Rattle.fir_ast.specs.Types.{DataType, bundle}
+use Rattle.fir_ast.specs.Types.{DataType}
 use Rattle.fir_meaning.proofs.FreshFields.{field_names, HasFreshFields, AreFresh}
 use Rattle.fir_meaning.proofs.LeastRules.{width_le}
-use Rattle.fir_meaning.proofs.SizedShapes.{numbered_bare}
+use Rattle.fir_meaning.proofs.SizedShapes.{numbered_bare, node_bare}
 use Rattle.fir_meaning.specs.SharedLeaves.{shared_count, shared_field_count}
 use Rattle.fir_meaning.specs.TypeKinds.{is_passive, are_passive}
 use Rattle.fir_meaning.specs.WidthExpressions.{Width, Widths, unknown, width_of}
-use Rattle.fir_meaning.specs.SizedTypes.{Sized, SizedFields, unsigned, signed, clock_scalar, reset_scalar, async_scalar, scalar, sized_bundle, sized_vector, no_sized_fields, sized_field, numbered, numbered_fields, bare_type, bare_type_fields, sized_named}
+use Rattle.fir_meaning.specs.SizedTypes.{Sized, SizedFields, unsigned, signed, clock_scalar, reset_scalar, async_scalar, scalar, sized_bundle, sized_vector, no_sized_fields, sized_field, numbered, numbered_fields, bare_type, bare_type_fields, written_type, node_type, node_fields, renumbered, sized_named}
 use Rattle.fir_meaning.specs.SizedMatches.{Match, where_met, matches, field_matches}
 use Rattle.fir_meaning.specs.LeafModules.{number}
 use Rattle.fir_meaning.specs.LeafedModules.{repeated, held_types, held_field_types}
@@ -39,6 +39,9 @@ found_all (sized_field p f x b t rest) h = (rw (name_same x) refl, found_more re
 
 pub passive_numbers : (at : Option ℕ) (t : DataType) → is_passive t ≡ true → is_passive (bare_type (numbered at t)) ≡ true
 passive_numbers at t h = ap is_passive (numbered_bare at t) ∙ passive_bare t ∙ h
+
+pub passive_node : (k : ℕ) (s : Sized) → is_passive (bare_type s) ≡ true → is_passive (bare_type (renumbered k s)) ≡ true
+passive_node k s h = ap is_passive (numbered_bare (Some k) (node_type s) ∙ node_bare s) ∙ h
 
 module _ (w : Widths) where
   -- unknowns that are the least that these matches ask for
@@ -87,24 +90,23 @@ module _ (w : Widths) where
   }
 
   node_vector : (k : ℕ) (t : Sized) (b d : Bool) → b ≡ false → d ≡ false
-      → (Solved (matches false (numbered (Some k) (bare_type t)) t) k (shared_count (bare_type t))
-      → held_types w (numbered (Some k) (bare_type t)) ≡ held_types w t)
-      → Solved (if d then [] else matches false (numbered (if b then None else Some k) (bare_type t)) t) k (shared_count (bare_type t))
-      → held_types w (numbered (if b then None else Some k) (bare_type t)) ≡ held_types w t
+      → (Solved (matches false (renumbered k t) t) k (shared_count (node_type t)) → held_types w (renumbered k t) ≡ held_types w t)
+      → Solved (if d then [] else matches false (numbered (if b then None else Some k) (if b then written_type t else node_type t)) t) k
+      (shared_count (if b then written_type t else node_type t))
+      → held_types w (numbered (if b then None else Some k) (if b then written_type t else node_type t)) ≡ held_types w t
   node_vector k t true d e f inside h = absurd (cc)
   node_vector k t false true e f inside h = absurd (cc)
   node_vector k t false false e f inside h = inside h
 
   mutual
     pub node_types : (k : ℕ) (s : Sized) → HasFreshFields (bare_type s) → is_passive (bare_type s) ≡ true
-        → Solved (matches false (numbered (Some k) (bare_type s)) s) k (shared_count (bare_type s))
-        → held_types w (numbered (Some k) (bare_type s)) ≡ held_types w s
+        → Solved (matches false (renumbered k s) s) k (shared_count (node_type s)) → held_types w (renumbered k s) ≡ held_types w s
     node_types k (scalar unsigned e) fresh passive h = ap (λ n. number (record { signed = false; width = n }) ∷ []) (scalar_width k e h)
     node_types k (scalar signed e) fresh passive h = ap (λ n. number (record { signed = true; width = n }) ∷ []) (scalar_width k e h)
     node_types k (scalar clock_scalar e) fresh passive h = refl
     node_types k (scalar reset_scalar e) fresh passive h = refl
     node_types k (scalar async_scalar e) fresh passive h = refl
-    node_types k (sized_bundle fs) fresh passive h = node_fields k fs fs (found_all fs fresh) fresh passive h
+    node_types k (sized_bundle fs) fresh passive h = field_types k fs fs (found_all fs fresh) fresh passive h
     node_types k (sized_vector t zero) fresh passive h = refl
     node_types k (sized_vector t (suc n)) fresh passive h =
         let long : min (suc n) (suc n) ≡ suc n = omega arith in
@@ -112,27 +114,26 @@ module _ (w : Widths) where
         ap (repeated (suc n))
         (node_vector k t (suc n == 0) (min (suc n) (suc n) == 0) (not_zero n) some (node_types k t fresh passive) h)
 
-    node_fields : (k : ℕ) (fs gs : SizedFields) → Found fs gs → AreFresh (bare_type_fields fs) → are_passive (bare_type_fields fs) ≡ true
-        → Solved (field_matches false (numbered_fields (Some k) (bare_type_fields fs)) gs) k (shared_field_count (bare_type_fields fs))
-        → held_field_types w (numbered_fields (Some k) (bare_type_fields fs)) ≡ held_field_types w fs
-    node_fields k no_sized_fields gs found fresh passive h = refl
-    node_fields k (sized_field p true x b t rest) gs found fresh passive h = absurd (cc)
-    node_fields k (sized_field p false x b t rest) gs found fresh passive h =
+    field_types : (k : ℕ) (fs gs : SizedFields) → Found fs gs → AreFresh (bare_type_fields fs) → are_passive (bare_type_fields fs) ≡ true
+        → Solved (field_matches false (numbered_fields (Some k) (node_fields fs)) gs) k (shared_field_count (node_fields fs))
+        → held_field_types w (numbered_fields (Some k) (node_fields fs)) ≡ held_field_types w fs
+    field_types k no_sized_fields gs found fresh passive h = refl
+    field_types k (sized_field p true x b t rest) gs found fresh passive h = absurd (cc)
+    field_types k (sized_field p false x b t rest) gs found fresh passive h =
         let tests = both (is_passive (bare_type t)) (are_passive (bare_type_fields rest)) passive in
-        let c = shared_count (bare_type t) in
-        let n = shared_field_count (bare_type_fields rest) in
-        let first = numbered (Some k) (bare_type t) in
-        let second = numbered_fields (Some (k + c)) (bare_type_fields rest) in
+        let c = shared_count (node_type t) in
+        let n = shared_field_count (node_fields rest) in
+        let first = renumbered k t in
+        let second = numbered_fields (Some (k + c)) (node_fields rest) in
         let ms = matches false first t in
         let ns = field_matches false second gs in
         let apart : Solved (ms ++ ns) k (c + n) = subst (λ o. Solved (where_met (λ u. matches false first u) o ++ ns) k (c + n)) found.0 h in
-        let of_first : (y : Match) → In (matches false (numbered (Some k) (bare_type t)) t) y → IsOwned (Within k (shared_count (bare_type t))) y.driven =
-        straight_owned (Within k c) first t (numbered_owned k (bare_type t))
-        (passive_straight first t (passive_numbers (Some k) (bare_type t) tests.0)) in
-        let of_second : (y : Match) → In (field_matches false (numbered_fields (Some (k + shared_count (bare_type t))) (bare_type_fields rest)) gs) y
-        → IsOwned (Within (k + shared_count (bare_type t)) (shared_field_count (bare_type_fields rest))) y.driven =
-        straight_owned (Within (k + c) n) (sized_bundle second) (sized_bundle gs) (numbered_fields_owned (k + c) (bare_type_fields rest))
-        (passive_straight (sized_bundle second) (sized_bundle gs) (passive_numbers (Some (k + c)) (bundle (bare_type_fields rest)) tests.1)) in
+        let of_first : (y : Match) → In (matches false (renumbered k t) t) y → IsOwned (Within k (shared_count (node_type t))) y.driven =
+        straight_owned (Within k c) first t (numbered_owned k (node_type t)) (passive_straight first t (passive_node k t tests.0)) in
+        let of_second : (y : Match) → In (field_matches false (numbered_fields (Some (k + shared_count (node_type t))) (node_fields rest)) gs) y
+        → IsOwned (Within (k + shared_count (node_type t)) (shared_field_count (node_fields rest))) y.driven =
+        straight_owned (Within (k + c) n) (sized_bundle second) (sized_bundle gs) (numbered_fields_owned (k + c) (node_fields rest))
+        (passive_straight (sized_bundle second) (sized_bundle gs) (passive_node (k + c) (sized_bundle rest) tests.1)) in
         let one = node_types k t fresh.1 tests.0 (solved_left ms ns k c n of_second apart) in
-        let more = node_fields (k + c) rest gs found.1 fresh.2 tests.1 (solved_right ms ns k c n of_first apart) in
+        let more = field_types (k + c) rest gs found.1 fresh.2 tests.1 (solved_right ms ns k c n of_first apart) in
         rw (one, more) refl

@@ -8,7 +8,7 @@ use Rattle.fir_ast.specs.declared.place.Place.{Place}
 use Rattle.fir_ast.specs.Expressions.{Expression}
 use Rattle.fir_ast.specs.Statements.{PlacedName}
 use Rattle.fir_ast.specs.Circuits.{ModuleTree, CircuitTree}
-use Rattle.fir_meaning.specs.Components.{Component, Declaration, Declarations}
+use Rattle.fir_meaning.specs.Components.{Declaration, Declarations}
 use Rattle.fir_meaning.specs.Components as component
 use Rattle.fir_meaning.specs.ComponentTypes.{known_as, typed_behind, typed_scope}
 use Rattle.fir_meaning.specs.NameGroups.{HasNames}
@@ -39,7 +39,7 @@ use Rattle.fir_leaf_types.proofs.DeclarationsGrow.{Grows, grows_all, grows_throu
 use Rattle.fir_leaf_types.proofs.FreeNumbers.{Free, OfOther, IsOther, owned_head}
 use Rattle.fir_leaf_types.proofs.NodeTypes.{Solved, node_types}
 use Rattle.fir_leaf_types.proofs.NumberPlaces.{Taken, no_port, one_place}
-use Rattle.fir_leaf_types.proofs.OwnedNumbers.{Within}
+use Rattle.fir_leaf_types.proofs.OwnedNumbers.{Within, node_shared}
 use Rattle.fir_leaf_types.proofs.RolesTyped.{NodesHold}
 use Rattle.fir_leaf_types.proofs.RulesOwned.{OfNode, RuleOwned, block_rules, node_declared, node_rules, node_taken, rule_from, rule_to}
 use Rattle.fir_leaf_types.proofs.StraightMatches.{passive_bare}
@@ -181,4 +181,5 @@ module _ (grow : WidthsGrow) (c : CircuitTree) (names : HasNames c) (types : typ
         let fresh_typed : HasFreshFields legal.0 = fine_type scope (typed_scope s.own.modules all) fine begins e legal.0 legal.1 in
         let fresh : HasFreshFields (bare_type t) = subst HasFreshFields (sym shape) (fresh_bare legal.0 fresh_typed) in
         let passive : is_passive (bare_type t) ≡ true = ap is_passive shape ∙ passive_bare legal.0 ∙ legal.2 in
-        node_types s.widths k t fresh passive (node_solved before p n e g met)
+        let solved = subst (Solved s.widths (matches false (renumbered k t) t) k) (sym (node_shared t)) (node_solved before p n e g met) in
+        node_types s.widths k t fresh passive solved

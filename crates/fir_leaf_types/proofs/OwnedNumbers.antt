@@ -1,13 +1,15 @@
 -- The numbers of the unknowns in a sized type: those of a declaration are its own, and so are those of what a reference leads to.
-use Rattle.std.proofs.Common.{◌≡◌, ℕ, ◌+◌, ◌<◌, ◌≤◌, List, Bool, true, false, ◌==◌, if◌then◌else◌, Option, Some, None, refl, subst, arith}
+use Rattle.std.proofs.Common.{◌≡◌, ℕ, ◌+◌, ◌<◌, ◌≤◌, List, Bool, true, false, ◌==◌, if◌then◌else◌, Option, Some, None, refl, sym, ap, ◌∙◌, subst, arith}
 use Rattle.std.specs.Str.{bytes_eq}
 use Rattle.fir_ast.specs.Types.{DataType, uint, sint, clock, reset, async_reset, bundle, vector, Fields, no_fields, field}
 use Rattle.fir_ast.specs.Expressions.{Parts, no_parts, subfield, subindex, subaccess}
 use Rattle.fir_meaning.specs.SharedLeaves.{shared_count, shared_field_count}
+use Rattle.fir_meaning.specs.TypeKinds.{bare, bare_fields}
 use Rattle.fir_meaning.specs.WidthExpressions.{Width, known, unknown, single, pair, greater, guarded}
-use Rattle.fir_meaning.specs.SizedTypes.{Sized, SizedFields, scalar, sized_bundle, sized_vector, no_sized_fields, sized_field, leaf_width, numbered, numbered_fields, sized_named, sized_found, fields_in, element_in}
+use Rattle.fir_meaning.specs.SizedTypes.{Sized, SizedFields, scalar, sized_bundle, sized_vector, no_sized_fields, sized_field, leaf_width, numbered, numbered_fields, bare_type, node_type, renumbered, sized_named, sized_found, fields_in, element_in}
 use Rattle.fir_meaning.specs.SizedOperations.{guarded_by, guarded_fields}
 use Rattle.fir_meaning.specs.SizedScopes.{sized_part}
+use Rattle.fir_meaning.proofs.SizedShapes.{node_bare}
 
 module _ (Q : ℕ → Type 0) where
   abbrev pub IsOwned : Width → Type 0
@@ -144,3 +146,24 @@ mutual
     owned_fields_else (Within (k + shared_count t) (shared_field_count rest)) (Within k (shared_count t + shared_field_count rest))
         (numbered_fields (Some (k + shared_count t)) rest) (λ j h. (omega (arith, h.0), omega (arith, h.1))) (numbered_fields_owned (k + shared_count t) rest),
   )
+
+-- the type of a node takes as many as that of its expression
+mutual
+  shared_bare : (t : DataType) → shared_count (bare t) ≡ shared_count t
+  shared_bare (uint w) = refl
+  shared_bare (sint w) = refl
+  shared_bare clock = refl
+  shared_bare reset = refl
+  shared_bare async_reset = refl
+  shared_bare (bundle fs) = shared_bare_fields fs
+  shared_bare (vector t n) = shared_bare t
+
+  shared_bare_fields : (fs : Fields) → shared_field_count (bare_fields fs) ≡ shared_field_count fs
+  shared_bare_fields no_fields = refl
+  shared_bare_fields (field p f x b t rest) = rw (shared_bare t, shared_bare_fields rest) refl
+
+pub node_shared : (s : Sized) → shared_count (node_type s) ≡ shared_count (bare_type s)
+node_shared s = sym (shared_bare (node_type s)) ∙ ap shared_count (node_bare s)
+
+pub renumbered_owned : (k : ℕ) (s : Sized) → Owned (Within k (shared_count (bare_type s))) (renumbered k s)
+renumbered_owned k s = subst (λ n. Owned (Within k n) (renumbered k s)) (node_shared s) (numbered_owned k (node_type s))

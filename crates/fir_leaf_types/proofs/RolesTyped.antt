@@ -21,7 +21,6 @@ use Rattle.fir_meaning.specs.Flows.{flow_under, is_source, port_flow}
 use Rattle.fir_meaning.specs.TypeKinds.{bare}
 use Rattle.fir_meaning.specs.TypeLeaves.{TypeLeaf}
 use Rattle.fir_meaning.specs.Equivalence.{is_equivalent, same_ground}
-use Rattle.fir_meaning.specs.Components.{Component, Declarations}
 use Rattle.fir_meaning.specs.Components as component
 use Rattle.fir_meaning.specs.Visibility.{Before, with_declaration, opened, reopened, behind, behind_block, declarations}
 use Rattle.fir_meaning.specs.TypedScopes.{TypedScope}
@@ -41,10 +40,9 @@ use Rattle.fir_meaning.proofs.SizedShapes.{numbered_bare}
 use Rattle.fir_meaning.specs.Leafed.{first_term, terms}
 use Rattle.fir_meaning.specs.LeafedBlocks.{term_at}
 use Rattle.fir_meaning.specs.LeafMemories.{LeafMemory, PortKind, reads, writes, reads_and_writes, enable, leaves_of_data, memory_roles, mode, port_roles, port_size, read_role, read_roles, roles_from, sinks}
-use Rattle.fir_meaning.specs.LeafModules.{LeafDeclared, LeafReset, LeafType, Need, Role, a_clock, computed, number, pipe, reading, sink, source}
+use Rattle.fir_meaning.specs.LeafModules.{LeafDeclared, LeafType, Need, Role, a_clock, computed, number, pipe, reading, sink, source}
 use Rattle.fir_meaning.specs.LeafModules as role
 use Rattle.fir_meaning.specs.LeafedModules.{Scene, Declared, leaves_from, type_of_declared, held_by_declared, held_types, declared_leaves, leaf_reset, port_role, register_role, instance_place, instance_role, role_in, memory_before, leaves_in, leaves_in_block, leaves_of_ports, leafed_module}
-use Rattle.fir_leaf_types.specs.working.AbsentWidths.{NodesAreClear}
 use Rattle.fir_leaf_types.specs.working.TypedTerms.{IsNarrow, one_bit}
 use Rattle.fir_leaf_types.specs.working.TypedTerms as typed
 use Rattle.fir_leaf_types.specs.working.TypedBlocks.{MayGive}
@@ -238,8 +236,7 @@ pub record LeafIsTyped (held : ℕ → LeafType) (l : LeafDeclared) : Type 0 whe
   pub narrow : IsNarrow l.holds
   pub gives : IsRoleTyped held l.holds l.role
 
-module _ (c : CircuitTree) (s : Scene) (none : s.own.start.scope ≡ []) (clear : NodesAreClear s.own.modules [] (declarations s.own.inside))
-    (nodes : NodesHold s) where
+module _ (c : CircuitTree) (s : Scene) (none : s.own.start.scope ≡ []) (nodes : NodesHold s) where
   abbrev held : ℕ → LeafType
   held = held_in (leafed_module s)
 
@@ -302,9 +299,9 @@ module _ (c : CircuitTree) (s : Scene) (none : s.own.start.scope ≡ []) (clear 
         let legal_front = empty_left ([] ++ legal_clock) legal_reset legal in
         let shape = numbered_bare (Some (numbers_at s.own before).next) t in
         let before_it =
-        knows_before c s none clear before
+        knows_before c s none before
         (grows_through before.declared next.declared (declarations s.own.inside) (_, refl) g) in
-        let behind_it = knows_before c s none clear next g in
+        let behind_it = knows_before c s none next g in
         declared_typed (record { named = n; component = component.register t; before = before }) (λ l. n.place) (register_role s before n t x r)
         (narrow_by_faults s.widths n.place (named n.name ∷ []) sized (empty_left over_own over_clock within_front))
         (λ j l y e. (
@@ -320,7 +317,7 @@ module _ (c : CircuitTree) (s : Scene) (none : s.own.start.scope ≡ []) (clear 
         let over_value = shown_within (over_rule s.widths) (sized_at s.own before) e in
         let next = with_declaration before n (component.node e) in
         let knows =
-        knows_before c s none clear before (grows_through before.declared next.declared (declarations s.own.inside) (_, refl) g) in
+        knows_before c s none before (grows_through before.declared next.declared (declarations s.own.inside) (_, refl) g) in
         let termed =
         expression_typed c held s.widths scope (sized_at s.own before) knows e h.0 h.1 (empty_right over_own over_value within) legal in
         let same = nodes before p n e g h met in

@@ -13,7 +13,7 @@ use Rattle.fir_ast.specs.Statements.{PlacedName, Sink, Reset, Statement, wire, r
 use Rattle.fir_ast.specs.Circuits.{CircuitTree}
 use Rattle.fir_meaning.specs.LeafPaths.{LeafPath}
 use Rattle.fir_meaning.specs.Flows.{flow_under, is_source, source}
-use Rattle.fir_meaning.specs.Components.{Component, Declaration, Declarations}
+use Rattle.fir_meaning.specs.Components.{Declaration, Declarations}
 use Rattle.fir_meaning.specs.Components as component
 use Rattle.fir_meaning.specs.ConnectPairs.{Pair, pairs, partial_pairs}
 use Rattle.fir_meaning.specs.Equivalence.{fitting_ground, is_connectable, is_partly_connectable}
@@ -44,9 +44,9 @@ use Rattle.fir_leaf_types.proofs.DeclarationsGrow.{Grows, grows_block, grows_thr
 use Rattle.fir_leaf_types.proofs.EmptyMatches.{leafless_matches, partial_empty, partial_matches}
 use Rattle.fir_leaf_types.proofs.FreeNumbers.{Free, next_of, owned_behind, owned_block, register_owned, taken_at}
 use Rattle.fir_leaf_types.proofs.HeldPlaces.{bare_counted}
-use Rattle.fir_leaf_types.proofs.NodeTypes.{passive_numbers}
+use Rattle.fir_leaf_types.proofs.NodeTypes.{passive_node, passive_numbers}
 use Rattle.fir_leaf_types.proofs.NumberPlaces.{Taken}
-use Rattle.fir_leaf_types.proofs.OwnedNumbers.{IsOwned, Owned, Within, guarded_owned, numbered_owned}
+use Rattle.fir_leaf_types.proofs.OwnedNumbers.{IsOwned, Owned, Within, guarded_owned, renumbered_owned}
 use Rattle.fir_leaf_types.proofs.ReferencesOwned.{InNode, RefOwned, ScopeOwned, leads_owned, name_owned}
 use Rattle.fir_leaf_types.proofs.StraightMatches.{Straight, alike_passive, matches_owned, partly_bare, partly_straight, passive_bare, passive_straight, straight_owned}
 
@@ -230,8 +230,7 @@ module _ (c : CircuitTree) where
         let passive : is_passive (bare_type s) ≡ true = ap is_passive (shape_at before e legal.0 legal.1) ∙ passive_bare legal.0 ∙ legal.2 in
         let within =
         rule_owned q (renumbered k s) s
-        (straight_owned q (renumbered k s) s (numbered_owned k (bare_type s))
-        (passive_straight (renumbered k s) s (passive_numbers (Some k) (bare_type s) passive))) r i in
+        (straight_owned q (renumbered k s) s (renumbered_owned k s) (passive_straight (renumbered k s) s (passive_node k s passive))) r i in
         record {
           inside = m;
           is_in = is_in;

@@ -20,12 +20,12 @@ use Rattle.fir_meaning.specs.SizedDeclarations.{Numbering, port_numbers, instanc
 use Rattle.fir_meaning.specs.Targets.{leaves_ahead}
 use Rattle.fir_meaning.proofs.SizedShapes.{numbered_bare, renumbered_bare}
 use Rattle.fir_meaning.proofs.SizedExpressions.{sized_as_typed}
+use Rattle.fir_meaning.proofs.InferredNodes.{nodes_as_inferred}
 use Rattle.fir_meaning.specs.LeafModules.{LeafType}
 use Rattle.fir_meaning.specs.LeafedModules.{held_types}
 use Rattle.fir_leaf.proofs.LeafPlaces.{get_left, get_right}
-use Rattle.fir_leaf_types.specs.working.AbsentWidths.{IsClearOf}
 use Rattle.fir_leaf_types.proofs.HeldPlaces.{counted_by_type}
-use Rattle.fir_leaf_types.proofs.StandingWidths.{Present, written_present, node_present}
+use Rattle.fir_leaf_types.proofs.StandingWidths.{Present, written_present, inferred_present}
 
 module _ (w : Widths) where
   -- a type and its sized type
@@ -141,25 +141,21 @@ module _ (w : Widths) where
   -- declarations of a module, whose numbers begin with nothing declared
   module _ (modules : List ModuleTree) (start : Numbering) (none : start.scope ≡ []) where
     component_stands : (ds : Declarations) (p : Place) (c : Component) (t : DataType) → component_type modules (typed_scope modules ds) p c ≡ Some t
-        → IsClearOf c (component_type modules (typed_scope modules ds) p c)
         → TypeStands t (sized_component modules (numbered_behind modules start ds) p c)
-    component_stands ds p (port d u) t e clear = numbered_stands (numbered_behind modules start ds).port u t e
-    component_stands ds p (wire u) t e clear = numbered_stands (numbered_behind modules start ds).next u t e
-    component_stands ds p (register u) t e clear = numbered_stands (numbered_behind modules start ds).next u t e
-    component_stands ds p (node x) t e clear =
+    component_stands ds p (port d u) t e = numbered_stands (numbered_behind modules start ds).port u t e
+    component_stands ds p (wire u) t e = numbered_stands (numbered_behind modules start ds).next u t e
+    component_stands ds p (register u) t e = numbered_stands (numbered_behind modules start ds).next u t e
+    component_stands ds p (node x) t e =
         let k = (numbered_behind modules start ds).next in
         let s = sized_type (numbered_behind modules start ds).scope x in
-        let shape : bare_type s ≡ bare t = sized_as_typed modules start ds x t none e in
         record {
-          shape = renumbered_bare k s t shape;
-          present =
-              subst (λ u. Present w t (numbered (Some k) u)) (sym shape) (node_present w (Some k) t (rw e at clear));
+          shape = renumbered_bare k s t (sized_as_typed modules start ds x t none e);
+          present = subst (Present w t) (sym (nodes_as_inferred modules start ds x t none e k)) (inferred_present w (Some k) t);
         }
-    component_stands ds p (instance name) t e clear = instance_stands 0 modules name t e
-    component_stands ds p (memory parts) t e clear = written_stands (memory_type p parts) t e
+    component_stands ds p (instance name) t e = instance_stands 0 modules name t e
+    component_stands ds p (memory parts) t e = written_stands (memory_type p parts) t e
 
     pub declaration_stands : (ds : Declarations) (d : Declaration)
-        → IsClearOf d.component (component_type modules (typed_scope modules ds) d.named.place d.component)
         → NameStands (known_as modules (typed_scope modules ds) d)
         (record { name = d.named.name; sized = sized_component modules (numbered_behind modules start ds) d.named.place d.component })
-    declaration_stands ds d clear = record { name = refl; stands = λ t e. component_stands ds d.named.place d.component t e clear }
+    declaration_stands ds d = record { name = refl; stands = component_stands ds d.named.place d.component }

@@ -2,13 +2,12 @@
 use Rattle.std.proofs.Common.{◌≡◌, ℕ, zero, suc, ◌≤◌, List, Bool, true, false, ◌==◌, if◌then◌else◌, Option, Some, None, refl, subst, arith}
 use Rattle.std.specs.Prelude.{unwrap_or}
 use Rattle.std.specs.Str.{bytes_eq}
-use Rattle.fir_base.proofs.Tests.{both}
 use Rattle.fir_ast.specs.Types.{DataType, uint, sint, clock, reset, async_reset, bundle, vector, Fields, no_fields, field}
 use Rattle.fir_meaning.specs.SharedLeaves.{shared_count}
-use Rattle.fir_meaning.specs.TypeKinds.{bare, bare_fields, FieldFound, field_named}
+use Rattle.fir_meaning.specs.TypeKinds.{FieldFound, field_named}
 use Rattle.fir_meaning.specs.WidthExpressions.{Widths, width_of}
 use Rattle.fir_meaning.specs.SizedTypes.{Sized, SizedFields, unsigned, signed, clock_scalar, reset_scalar, async_scalar, scalar, sized_bundle, sized_vector, no_sized_fields, sized_field, past, numbered, numbered_fields, sized_named}
-use Rattle.fir_leaf_types.specs.working.AbsentWidths.{is_unwritten, are_unwritten, has_all_widths, have_all_widths}
+use Rattle.fir_meaning.specs.working.InferredTypes.{inferred, inferred_fields}
 use Rattle.fir_leaf_types.proofs.HeldKinds.{not_zero}
 
 module _ (w : Widths) where
@@ -47,9 +46,9 @@ module _ (w : Widths) where
 
 -- a type as it is written, with numbers or without
 module _ (w : Widths) where
-  either_way : (b : Bool) (t u : DataType) → Absent w t (numbered None u) → Absent w t (numbered (if b then None else None) u)
-  either_way true t u h = h
-  either_way false t u h = h
+  either_way : (b : Bool) (t : DataType) → Absent w t (numbered None t) → Absent w t (numbered (if b then None else None) t)
+  either_way true t h = h
+  either_way false t h = h
 
   mutual
     written_absent : (t : DataType) → Absent w t (numbered None t)
@@ -61,18 +60,17 @@ module _ (w : Widths) where
     written_absent reset = refl
     written_absent async_reset = refl
     written_absent (bundle fs) = written_fields_absent fs
-    written_absent (vector t n) = (refl, either_way (n == 0) t t (written_absent t))
+    written_absent (vector t n) = (refl, either_way (n == 0) t (written_absent t))
 
     written_fields_absent : (fs : Fields) → FieldsAbsent w fs (numbered_fields None fs)
     written_fields_absent no_fields = tt
     written_fields_absent (field p f x b t fs) = (refl, written_absent t, written_fields_absent fs)
 
   -- below a vector, of length 0 or not
-  elements_present : (at : Option ℕ) (t u : DataType) (n : ℕ) → (n ≡ 0 → Absent w t (numbered None u)) → (n ≡ 0 → Present w t (numbered None u))
-      → ((n ≡ 0 → ⊥) → Present w t (numbered at u)) → Present w (vector t n) (numbered at (vector u n))
-  elements_present at t u zero none here more = (refl, λ e. none refl, here refl)
-  elements_present at t u (suc n) none here more =
-      rw (not_zero n) (refl, λ e. absurd (omega (arith, e)), more (λ e. omega (arith, e)))
+  elements_present : (at : Option ℕ) (t : DataType) (n : ℕ) → Present w t (numbered None t) → Present w t (numbered at t)
+      → Present w (vector t n) (numbered at (vector t n))
+  elements_present at t zero none some = (refl, λ e. written_absent t, none)
+  elements_present at t (suc n) none some = rw (not_zero n) (refl, λ e. absurd (omega (arith, e)), some)
 
   mutual
     pub written_present : (at : Option ℕ) (t : DataType) → Present w t (numbered at t)
@@ -82,75 +80,32 @@ module _ (w : Widths) where
     written_present at reset = refl
     written_present at async_reset = refl
     written_present at (bundle fs) = written_fields_present at fs
-    written_present at (vector t n) =
-        elements_present at t t n (λ none. written_absent t) (λ none. written_present None t) (λ some. written_present at t)
+    written_present at (vector t n) = elements_present at t n (written_present None t) (written_present at t)
 
     written_fields_present : (at : Option ℕ) (fs : Fields) → FieldsPresent w fs (numbered_fields at fs)
     written_fields_present at no_fields = tt
     written_fields_present at (field p f x b t fs) = (refl, written_present at t, written_fields_present (past (shared_count t) at) fs)
 
   -- the type of a node, whose own unknowns have no widths written
-  mutual
-    unwritten_absent : (t : DataType) → is_unwritten t ≡ true → Absent w t (numbered None (bare t))
-    unwritten_absent (uint None) h = λ k. refl
-    unwritten_absent (uint (Some n)) h = absurd (cc)
-    unwritten_absent (sint None) h = λ k. refl
-    unwritten_absent (sint (Some n)) h = absurd (cc)
-    unwritten_absent clock h = tt
-    unwritten_absent reset h = refl
-    unwritten_absent async_reset h = refl
-    unwritten_absent (bundle fs) h = unwritten_fields_absent fs h
-    unwritten_absent (vector t n) h = (refl, either_way (n == 0) t (bare t) (unwritten_absent t h))
-
-    unwritten_fields_absent : (fs : Fields) → are_unwritten fs ≡ true → FieldsAbsent w fs (numbered_fields None (bare_fields fs))
-    unwritten_fields_absent no_fields h = tt
-    unwritten_fields_absent (field p f x b t fs) h =
-        let tests = both (is_unwritten t) (are_unwritten fs) h in
-        (refl, unwritten_absent t tests.0, unwritten_fields_absent fs tests.1)
+  inferred_elements : (at : Option ℕ) (t : DataType) (n : ℕ) → Present w t (numbered at (inferred t))
+      → Present w (vector t n) (numbered at (inferred (vector t n)))
+  inferred_elements at t zero some = (refl, λ e. written_absent t, written_present None t)
+  inferred_elements at t (suc n) some = rw (not_zero n) (refl, λ e. absurd (omega (arith, e)), some)
 
   mutual
-    absent_present : (t : DataType) (s : Sized) → Absent w t s → Present w t s
-    absent_present (uint a) (scalar unsigned e) h = tt
-    absent_present (sint a) (scalar signed e) h = tt
-    absent_present clock (scalar clock_scalar e) h = tt
-    absent_present reset (scalar reset_scalar e) h = h
-    absent_present async_reset (scalar async_scalar e) h = h
-    absent_present (bundle fs) (sized_bundle gs) h = absent_fields_present fs gs h
-    absent_present (vector t n) (sized_vector s m) h = (h.0, λ none. h.1, absent_present t s h.1)
-    absent_present t s h = absurd h
+    pub inferred_present : (at : Option ℕ) (t : DataType) → Present w t (numbered at (inferred t))
+    inferred_present at (uint a) = tt
+    inferred_present at (sint a) = tt
+    inferred_present at clock = tt
+    inferred_present at reset = refl
+    inferred_present at async_reset = refl
+    inferred_present at (bundle fs) = inferred_fields_present at fs
+    inferred_present at (vector t n) = inferred_elements at t n (inferred_present at t)
 
-    absent_fields_present : (fs : Fields) (gs : SizedFields) → FieldsAbsent w fs gs → FieldsPresent w fs gs
-    absent_fields_present no_fields no_sized_fields h = tt
-    absent_fields_present (field p f x b t fs) (sized_field q g y c s gs) h = (h.0, absent_present t s h.1, absent_fields_present fs gs h.2)
-    absent_fields_present no_fields (sized_field q g y c s gs) h = absurd h
-    absent_fields_present (field p f x b t fs) no_sized_fields h = absurd h
-
-  unwritten_below : (t : DataType) (n : ℕ) → n ≡ 0 → has_all_widths (vector t n) ≡ true → is_unwritten t ≡ true
-  unwritten_below t zero e h = h
-  unwritten_below t (suc n) e h = absurd (omega (arith, e))
-
-  written_below : (t : DataType) (n : ℕ) → (n ≡ 0 → ⊥) → has_all_widths (vector t n) ≡ true → has_all_widths t ≡ true
-  written_below t zero e h = absurd (e refl)
-  written_below t (suc n) e h = rw (not_zero n) at h
-
-  mutual
-    pub node_present : (at : Option ℕ) (t : DataType) → has_all_widths t ≡ true → Present w t (numbered at (bare t))
-    node_present at (uint a) h = tt
-    node_present at (sint a) h = tt
-    node_present at clock h = tt
-    node_present at reset h = refl
-    node_present at async_reset h = refl
-    node_present at (bundle fs) h = node_fields_present at fs h
-    node_present at (vector t n) h =
-        elements_present at t (bare t) n (λ none. unwritten_absent t (unwritten_below t n none h))
-        (λ none. absent_present t (numbered None (bare t)) (unwritten_absent t (unwritten_below t n none h)))
-        (λ some. node_present at t (written_below t n some h))
-
-    node_fields_present : (at : Option ℕ) (fs : Fields) → have_all_widths fs ≡ true → FieldsPresent w fs (numbered_fields at (bare_fields fs))
-    node_fields_present at no_fields h = tt
-    node_fields_present at (field p f x b t fs) h =
-        let tests = both (has_all_widths t) (have_all_widths fs) h in
-        (refl, node_present at t tests.0, node_fields_present (past (shared_count (bare t)) at) fs tests.1)
+    inferred_fields_present : (at : Option ℕ) (fs : Fields) → FieldsPresent w fs (numbered_fields at (inferred_fields fs))
+    inferred_fields_present at no_fields = tt
+    inferred_fields_present at (field p f x b t fs) =
+        (refl, inferred_present at t, inferred_fields_present (past (shared_count (inferred t)) at) fs)
 
   -- the type of a field
   pub field_present : (fs : Fields) (gs : SizedFields) (x : List ℕ) (f : FieldFound) → FieldsPresent w fs gs → field_named x fs ≡ Some f

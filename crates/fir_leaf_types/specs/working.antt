@@ -1,5 +1,4 @@
 -- What no clause of `run` reads: the types of terms, statements and modules over leaves.
 pub mod TypedTerms
 pub mod TypedBlocks
-pub mod AbsentWidths
 pub mod TypedModules

@@ -4,8 +4,7 @@ ghost use Rattle.fir_leaf_types.specs.working.TypedModules.{LeafedModulesAreType
 
 use fir_meaning::widths_grow;
 
-/// The leaf views of the modules of a circuit without faults of names, types or widths have types, where no
-/// node has a type in which a width is written below a vector of length 0 (FIRRTL spec, "Vector Types").
+/// The leaf views of the modules of a circuit without faults of names, types or widths have types.
 pub fn leafed_modules_are_typed()
     ensures { LeafedModulesAreTyped }
 {

@@ -64,4 +64,8 @@ pub mod LeastRows
 pub mod OverRows
 pub mod LegalRows
 pub mod SizedShapes
+pub mod FoundForms
+pub mod SizedReferences
 pub mod SizedExpressions
+pub mod NodeShapes
+pub mod InferredNodes

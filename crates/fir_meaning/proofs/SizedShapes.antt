@@ -13,7 +13,7 @@ use Rattle.fir_meaning.specs.ExpressionTypes.{number_type}
 use Rattle.fir_meaning.specs.Reaching.{field_of_type, vector_of_type}
 use Rattle.fir_meaning.specs.SharedLeaves.{shared_count}
 use Rattle.fir_meaning.specs.WidthExpressions.{Width}
-use Rattle.fir_meaning.specs.SizedTypes.{Scalar, unsigned, signed, clock_scalar, reset_scalar, async_scalar, Sized, scalar, sized_bundle, sized_vector, SizedFields, no_sized_fields, sized_field, past, numbered, numbered_fields, bare_type, bare_type_fields, renumbered, sized_named, sized_found, fields_in, element_in}
+use Rattle.fir_meaning.specs.SizedTypes.{Scalar, unsigned, signed, clock_scalar, reset_scalar, async_scalar, Sized, scalar, sized_bundle, sized_vector, SizedFields, no_sized_fields, sized_field, past, numbered, numbered_fields, bare_type, bare_type_fields, written_type, written_fields, node_type, node_fields, renumbered, sized_named, sized_found, fields_in, element_in}
 use Rattle.fir_meaning.specs.SizedOperations.{number_scalar, is_signed, result_scalar, greater_of, greater_fields, guarded_by, guarded_fields}
 
 -- the type that is written
@@ -46,8 +46,41 @@ mutual
   bare_fields_again no_fields = refl
   bare_fields_again (field p flip x begins t rest) = rw (bare_again t, bare_fields_again rest) refl
 
+-- nor does the shape of a node's type
+mutual
+  pub written_bare : (s : Sized) → bare (written_type s) ≡ bare_type s
+  written_bare (scalar unsigned w) = refl
+  written_bare (scalar signed w) = refl
+  written_bare (scalar clock_scalar w) = refl
+  written_bare (scalar reset_scalar w) = refl
+  written_bare (scalar async_scalar w) = refl
+  written_bare (sized_bundle fs) = ap bundle (written_fields_bare fs)
+  written_bare (sized_vector t n) = ap (λ u. vector u n) (written_bare t)
+
+  written_fields_bare : (fs : SizedFields) → bare_fields (written_fields fs) ≡ bare_type_fields fs
+  written_fields_bare no_sized_fields = refl
+  written_fields_bare (sized_field p flip x begins t rest) = rw (written_bare t, written_fields_bare rest) refl
+
+mutual
+  pub node_bare : (s : Sized) → bare (node_type s) ≡ bare_type s
+  node_bare (scalar unsigned w) = refl
+  node_bare (scalar signed w) = refl
+  node_bare (scalar clock_scalar w) = refl
+  node_bare (scalar reset_scalar w) = refl
+  node_bare (scalar async_scalar w) = refl
+  node_bare (sized_bundle fs) = ap bundle (node_fields_bare fs)
+  node_bare (sized_vector t n) = ap (λ u. vector u n) (by (n == 0) (node_bare t))
+    where
+      by : (b : Bool) → bare (node_type t) ≡ bare_type t → bare (if b then written_type t else node_type t) ≡ bare_type t
+      by true inside = written_bare t
+      by false inside = inside
+
+  node_fields_bare : (fs : SizedFields) → bare_fields (node_fields fs) ≡ bare_type_fields fs
+  node_fields_bare no_sized_fields = refl
+  node_fields_bare (sized_field p flip x begins t rest) = rw (node_bare t, node_fields_bare rest) refl
+
 pub renumbered_bare : (k : ℕ) (s : Sized) (t : DataType) → bare_type s ≡ bare t → bare_type (renumbered k s) ≡ bare t
-renumbered_bare k s t e = numbered_bare (Some k) (bare_type s) ∙ (ap bare e ∙ bare_again t)
+renumbered_bare k s t e = numbered_bare (Some k) (node_type s) ∙ (node_bare s ∙ e)
 
 -- the shape does not hang on widths
 any_width : (s : Scalar) (v w : Width) → bare_type (scalar s v) ≡ bare_type (scalar s w)

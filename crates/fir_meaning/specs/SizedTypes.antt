@@ -70,9 +70,40 @@ abbrev mutual
   bare_type_fields no_sized_fields = no_fields
   bare_type_fields (sized_field p flip x begins t rest) = field p flip x begins (bare_type t) (bare_type_fields rest)
 
--- the type of a node whose expression has this type: of the same shape, with unknowns of its own
+-- the width that is written
+abbrev pub written_width : Width → Option ℕ
+written_width (known w) = Some w
+written_width _ = None
+
+-- the type with the widths that are written
+abbrev mutual
+  pub written_type : Sized → DataType
+  written_type (scalar unsigned w) = uint (written_width w)
+  written_type (scalar signed w) = sint (written_width w)
+  written_type (scalar clock_scalar w) = clock
+  written_type (scalar reset_scalar w) = reset
+  written_type (scalar async_scalar w) = async_reset
+  written_type (sized_bundle fs) = bundle (written_fields fs)
+  written_type (sized_vector t n) = vector (written_type t) n
+
+  pub written_fields : SizedFields → Fields
+  written_fields no_sized_fields = no_fields
+  written_fields (sized_field p flip x begins t rest) = field p flip x begins (written_type t) (written_fields rest)
+
+-- the type of a node whose expression has this type: of the same shape, with unknowns of its own; below a vector of length 0, where it has no leaf, what is
+-- written stays written
+abbrev mutual
+  pub node_type : Sized → DataType
+  node_type (scalar s w) = bare_type (scalar s w)
+  node_type (sized_bundle fs) = bundle (node_fields fs)
+  node_type (sized_vector t n) = vector (if n == 0 then written_type t else node_type t) n
+
+  pub node_fields : SizedFields → Fields
+  node_fields no_sized_fields = no_fields
+  node_fields (sized_field p flip x begins t rest) = field p flip x begins (node_type t) (node_fields rest)
+
 abbrev pub renumbered : ℕ → Sized → Sized
-renumbered k t = numbered (Some k) (bare_type t)
+renumbered k t = numbered (Some k) (node_type t)
 
 -- the first field of that name
 abbrev pub sized_named : List ℕ → SizedFields → Option Sized

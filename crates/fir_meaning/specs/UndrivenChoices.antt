@@ -1,7 +1,7 @@
 -- Which choices leave a leaf undriven, and which of them is told (FIRRTL spec, "Initialization of Components").
 -- A choice is told by the outcomes of the whens and of the statements through indices that are reached and that hold a statement that drives the leaf. The
 -- one is told whose outcomes come first, compared in the order of the text: 0 before 1, and a miss before a hit.
-use Rattle.std.specs.Prelude.{◌≡◌, ℕ, ◌+◌, List, [], ◌∷◌, ◌++◌, Bool, true, false, ◌&&◌, ◌||◌, nat_lt, if◌then◌else◌, None}
+use Rattle.std.specs.Prelude.{◌≡◌, ℕ, ◌+◌, List, [], ◌∷◌, ◌++◌, Bool, true, false, ◌&&◌, ◌||◌, ◌==◌, nat_lt, if◌then◌else◌, None}
 use Rattle.fir_ast.specs.declared.fault.Outcome.{Outcome}
 use Rattle.fir_ast.specs.declared.fault.Outcome.TheVariants as outcome
 use Rattle.fir_ast.specs.declared.place.Place.{Place}
@@ -55,9 +55,22 @@ ComesFirst (outcome.Index p false ∷ l) (outcome.Index q false ∷ m) = (p ≡ 
 ComesFirst (outcome.Index p true ∷ l) (outcome.Index q true ∷ m) = (p ≡ q) × ComesFirst l m
 ComesFirst _ _ = ⊥
 
--- a choice with these outcomes leaves the leaf undriven, and of each that does the outcomes come no earlier
+-- a statement that drives the leaf from both its sides is told once
+abbrev pub is_same_miss : Outcome → Outcome → Bool
+is_same_miss (outcome.Index p false) (outcome.Index q false) = p.line == q.line && p.col == q.col
+is_same_miss _ _ = false
+
+abbrev pub told_behind : Outcome → List Outcome → List Outcome
+told_behind o [] = []
+told_behind o (p ∷ ps) = if is_same_miss o p then told_behind p ps else p ∷ told_behind p ps
+
+abbrev pub told_once : List Outcome → List Outcome
+told_once [] = []
+told_once (o ∷ os) = o ∷ told_behind o os
+
+-- a choice of which these outcomes are told leaves the leaf undriven, and of each that does the outcomes come no earlier
 pub record IsFirstUndriven (depth x : ℕ) (b : LeafBlock) (outcomes : List Outcome) : Type 0 where
   pub choice : Choice
   pub undriven : IsUndriven depth x b choice
-  pub are : told_all depth x b 0 choice ≡ outcomes
-  pub first : (other : Choice) → IsUndriven depth x b other → ComesFirst outcomes (told_all depth x b 0 other)
+  pub are : told_once (told_all depth x b 0 choice) ≡ outcomes
+  pub first : (other : Choice) → IsUndriven depth x b other → ComesFirst (told_all depth x b 0 choice) (told_all depth x b 0 other)

@@ -12,4 +12,5 @@ pub mod NameLaws
 pub mod TypeNumbers
 pub mod WellTyped
 pub mod TypeLaws
+pub mod InferredTypes
 pub mod WidthLaws

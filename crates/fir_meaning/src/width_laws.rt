@@ -1,6 +1,6 @@
 //! Laws about widths that are not written, each the contract of a function that does nothing.
 
-ghost use Rattle.fir_meaning.specs.working.WidthLaws.{HasLeast, InferredExactly, LeastIsWithin, OneLeast, OverIsExact, SizedAsTyped, WidthsGrow};
+ghost use Rattle.fir_meaning.specs.working.WidthLaws.{HasLeast, InferredExactly, LeastIsWithin, NodesAsInferred, OneLeast, OverIsExact, SizedAsTyped, WidthsGrow};
 
 use fir_bits::laws::monotone;
 
@@ -51,4 +51,10 @@ pub fn inferred_exactly()
 /// Where an expression has a type, its sized type is of the same shape: without widths both are one type.
 pub fn sized_as_typed()
     ensures { SizedAsTyped }
+{}
+
+/// The node of such an expression has the leaves of the expression's type with numbers of its own;
+/// what is written stays only below vectors of length 0 (FIRRTL spec, "Nodes", "Width Inference").
+pub fn nodes_as_inferred()
+    ensures { NodesAsInferred }
 {}

@@ -3,3 +3,10 @@ pub mod StandingValues
 pub mod StandingConditions
 pub mod NarrowChoices
 pub mod MadeTerms
+pub mod GrownEntries
+pub mod NodeEntries
+pub mod StandingEntries
+pub mod StandingIndices
+pub mod StandingElements
+pub mod StandingReads
+pub mod LoweredEntries

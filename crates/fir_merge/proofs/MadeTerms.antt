@@ -45,13 +45,13 @@ result_narrow op us ks u e =
     (record { signed = signed_of op a.signed; width = width_of op a.signed a.width b.width n m }) u (typed_at-width op a b n m) e
 
 -- one more index
-chosen_more : (holds : Holds) (is : List NetTerm) (i s z : NetTerm)
+pub chosen_more : (holds : Holds) (is : List NetTerm) (i s z : NetTerm)
     → chosen_by holds (is ++ i ∷ []) s z ≡ net.choice holds (result holds Orr (net.term i net.no_terms) []) (chosen_by holds is s z) z
 chosen_more holds [] i s z = refl
 chosen_more holds (j ∷ is) i s z = chosen_more holds is i (net.choice holds (result holds Orr (net.term j net.no_terms) []) s z) z
 
 -- the leaves of elements that are counted from one
-abbrev counted : ℕ → List Candidate → List Candidate
+abbrev pub counted : ℕ → List Candidate → List Candidate
 counted b [] = []
 counted b (c ∷ cs) = record { number = b + c.number; condition = c.condition } ∷ counted b cs
 
@@ -119,7 +119,8 @@ one_list : {A : Type 0} (xs : List A) → xs ≡ xs ++ []
 one_list [] = refl
 one_list (x ∷ xs) = ap (λ rest. x ∷ rest) (one_list xs)
 
-abbrev IsPicked : Picks → Type 0
+-- there is an index
+abbrev pub IsPicked : Picks → Type 0
 IsPicked no_picks = ⊥
 IsPicked (pick ps p i n each) = Unit {0}
 
@@ -129,6 +130,13 @@ module _ (held : ℕ → LeafType) where
     indices : (z : NetTerm) → chosen_by (types_of held) (index_terms (types_of held) ps) z z ≡ unpicked (types_of held) ps z
     leaves : (b : ℕ) → IsPicked ps → leaves_of b (elements (types_of held) ps) ≡ reached b ps
     all : IsPicked ps → conditions_of (elements (types_of held) ps) ≡ conditions (types_of held) ps
+
+  counted_are : (b : ℕ) (ps : Picks) → ArePicksMade ps → IsPicked ps
+      → candidates (reached b ps) (conditions (types_of held) ps) ≡ counted b (elements (types_of held) ps)
+  counted_are b ps made_so picked =
+      let each_leaf = made_so.leaves b picked in
+      let each_condition = made_so.all picked in
+      (λ j. candidates (sym each_leaf j) (sym each_condition j)) ∙ joined b (elements (types_of held) ps)
 
   -- no type is wider than 128 bits
   typed_narrow : (t : Term) (u : LeafType) → HasType held t u → IsNarrow u
@@ -187,10 +195,7 @@ module _ (held : ℕ → LeafType) where
           let t = types_of held b in
           let found = elements (types_of held) whole in
           let chosen = chosen_by (types_of held) (index_terms (types_of held) whole) z z in
-          let each_leaf : leaves_of b found ≡ reached b whole = made_so.leaves b tt in
-          let each_condition : conditions_of found ≡ conditions (types_of held) whole = made_so.all tt in
-          let is : counted b found ≡ candidates (reached b whole) (conditions (types_of held) whole) =
-          sym (joined b found) ∙ (λ j. candidates (each_leaf j) (each_condition j)) in
+          let is : counted b found ≡ candidates (reached b whole) (conditions (types_of held) whole) = sym (counted_are b whole made_so tt) in
           let other : chosen ≡ unpicked (types_of held) whole z = made_so.indices z in
           narrow_is t _ (subst IsNarrow (sym h.0) h.1) ∙ met_counted (types_of held) b t (without (types_of held) found chosen z) found
           ∙ ap (λ o. first_met (types_of held) t o (counted b found)) (without_counted (types_of held) b found chosen z)
@@ -224,3 +229,8 @@ module _ (held : ℕ → LeafType) where
       picks_made no_picks h = record { indices = λ z. refl; leaves = λ b picked. absurd picked; all = λ picked. absurd picked }
       picks_made (pick ps p i n each) h =
           pick_made ps p i n each (made_is i (number (record { signed = false; width = h.1 })) h.2) (picks_made ps h.0)
+
+    -- the leaves that indices may pick, with their conditions, are the elements, counted from the first leaf
+    pub candidates_are : (b : ℕ) (ps : Picks) → AreIndices held ps → IsPicked ps
+        → candidates (reached b ps) (conditions (types_of held) ps) ≡ counted b (elements (types_of held) ps)
+    candidates_are b ps h picked = counted_are b ps (picks_made ps h) picked

@@ -4,3 +4,7 @@ pub mod Bounds
 pub mod Made
 pub mod Conditions
 pub mod NarrowTerms
+pub mod Entries
+pub mod Steps
+pub mod Elements
+pub mod Reads

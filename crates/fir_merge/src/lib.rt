@@ -6,13 +6,20 @@
 #![tactic(auto)]
 
 mod bound;
+mod elements;
+mod index;
 mod indices;
+mod lower;
 mod narrow;
 mod net_nodes;
+mod reads;
 mod values;
 
 pub use bound::Bound;
+pub use elements::{Element, add_elements};
+pub use index::{Index, indices_at};
 pub use indices::add_condition;
+pub use lower::{lower_nodes, value_at};
 pub use narrow::{add_literal, add_validif};
 pub use net_nodes::NetNodes;
 pub use values::{add_choice, add_mux, add_operation, add_test, add_value, add_zero};

@@ -39,6 +39,13 @@ impl NetNodes {
         }
     }
 
+    /// The nodes, by their numbers.
+    pub fn as_slice(&self) -> &[Node]
+        ensures { result.now ≡ self.now }
+    {
+        self.nodes.as_slice()
+    }
+
     /// The number of the node, which is put behind the nodes where no equal one is among them.
     pub fn add(&mut self, node: Node) -> Result<NodeId, MemoryOut>
         requires { AreBelow (length self.old) (support_of node) }

@@ -7,7 +7,7 @@ use Rattle.fir_ast.specs.Circuits.{CircuitTree}
 use Rattle.fir_meaning.specs.LeafModules.{depth_at}
 use Rattle.fir_meaning.specs.LeafedModules.{leafed_module}
 use Rattle.fir_meaning.specs.Scenes.{HasScenes}
-use Rattle.fir_meaning.specs.UndrivenChoices.{IsFirstUndriven}
+use Rattle.fir_meaning.specs.UndrivenChoices.{IsFirstUndriven, told_once}
 use Rattle.fir_meaning.specs.UndrivenLeaves.{AreDrivenBefore}
 use Rattle.fir_leaf.specs.working.NodeBlocks.{block_in}
 use Rattle.fir_leaf_table.specs.declared.leaf_module.LeafModule.{LeafModule}
@@ -29,7 +29,8 @@ module _ (c : CircuitTree) (ms : List LeafModule) (leafed : AreLeafed c ms) (k :
 
   -- the fault of the first leaf that is found
   pub first_undriven : CoveredIsDriven → MissedIsFirst → HasScenes c → k < length c.modules → (x : ℕ) → IsNotCovered m x
-      → (text : List ℕ) (outcomes : List Outcome) → IsTextOf c k x text → outcomes ≡ missed_all (depth_in m x) x (block_in m.nodes.items m.body.items) 0
+      → (text : List ℕ) (outcomes : List Outcome) → IsTextOf c k x text
+      → outcomes ≡ told_once (missed_all (depth_in m x) x (block_in m.nodes.items m.body.items) 0)
       → IsFoundOf c k (Some (Undriven (leaf_of_code m x).place text outcomes))
   first_undriven covered_driven missed_first scenes within x found text outcomes is_text are =
       let s = (scenes k within).0 in
@@ -38,7 +39,7 @@ module _ (c : CircuitTree) (ms : List LeafModule) (leafed : AreLeafed c ms) (k :
       let view = leafed_module s in
       let inside : x < length view.leaves = subst (λ n. x < n) (as_many m view has) found.within in
       let first = missed_first (depth_at view x) x view.body (sym (same_covered m view has x) ∙ found.uncovered) in
-      let same_outcomes : missed_all (depth_at view x) x view.body 0 ≡ outcomes =
+      let same_outcomes : told_once (missed_all (depth_at view x) x view.body 0) ≡ outcomes =
       rw (sym (same_depth m view has x), sym has.body) (sym are) in
       record {
         leaf = x;

@@ -9,10 +9,11 @@ use Rattle.fir_meaning.specs.TypeKinds.{bare}
 use Rattle.fir_meaning.specs.TypedScopes.{TypedScope}
 use Rattle.fir_meaning.specs.ComponentTypes.{component_type, instance_bundle, known_as}
 use Rattle.fir_meaning.specs.SharedLeaves.{shared_count}
-use Rattle.fir_meaning.specs.SizedTypes.{bare_type, numbered}
+use Rattle.fir_meaning.specs.SizedTypes.{bare_type, node_type, numbered}
 use Rattle.fir_meaning.specs.SizedScopes.{sized_type}
 use Rattle.fir_meaning.specs.SizedMemories.{as_written, count_of_any}
 use Rattle.fir_meaning.specs.SizedDeclarations.{Numbering, all_port_numbers, numbered_behind, numbered_with, port_numbers, taken_of_bodies}
+use Rattle.fir_meaning.proofs.SizedShapes.{node_bare}
 use Rattle.fir_types.specs.working.LeafNumbers.{NextLeaf, leaf_behind, leaves_behind, numbers_taken}
 use Rattle.fir_types.proofs.BareTypes.{shown_shared_count}
 use Rattle.fir_width.specs.working.FlatWidths.{flat}
@@ -29,7 +30,9 @@ own_long : (modules : List ModuleTree) (numbers : Numbering) (d : Declaration) (
 own_long modules numbers d (port direction t) = refl
 own_long modules numbers d (wire t) = flat_long (Some numbers.next) t
 own_long modules numbers d (register t) = flat_long (Some numbers.next) t
-own_long modules numbers d (node e) = flat_long (Some numbers.next) (bare_type (sized_type numbers.scope e))
+own_long modules numbers d (node e) =
+    let s = sized_type numbers.scope e in
+    flat_long (Some numbers.next) (node_type s) ∙ (sym (shown_shared_count true (node_type s)) ∙ ap shared_count (node_bare s))
 own_long modules numbers d (instance name) = refl
 own_long modules numbers d (memory parts) = written_long (memory_type d.named.place parts)
 

@@ -18,12 +18,14 @@ use Rattle.fir_meaning.specs.TypedScopes.{TypedScope}
 use Rattle.fir_meaning.specs.ExpressionTypes.{expression_type}
 use Rattle.fir_meaning.specs.ComponentTypes.{component_type, find_module, instance_bundle, instance_type, known_as, typed_behind, typed_scope}
 use Rattle.fir_meaning.specs.Visibility.{Before, at_head, behind, behind_block, behind_ports, declaration_at, declarations, opened, reopened, with_declaration}
-use Rattle.fir_meaning.specs.SizedTypes.{bare_type, numbered}
+use Rattle.fir_meaning.specs.SizedTypes.{bare_type, numbered, renumbered}
 use Rattle.fir_meaning.specs.SizedScopes.{SizedName, SizedScope, sized_type}
 use Rattle.fir_meaning.specs.SizedMemories.{as_written}
 use Rattle.fir_meaning.specs.SizedDeclarations.{Numbering, instance_from, numbered_behind, numbered_with, port_numbers, sized_component}
+use Rattle.fir_meaning.specs.working.InferredTypes.{inferred}
 use Rattle.fir_meaning.specs.working.WellTyped.{AreLegal, IsLegal}
 use Rattle.fir_meaning.proofs.FoundTypes.{found_type}
+use Rattle.fir_meaning.proofs.InferredNodes.{nodes_as_inferred}
 use Rattle.fir_meaning.proofs.SizedExpressions.{sized_as_typed}
 use Rattle.fir_meaning.proofs.SizedShapes.{numbered_bare, renumbered_bare}
 use Rattle.fir_meaning.proofs.WellTypedCircuits.{well_typed}
@@ -102,6 +104,13 @@ module _ (modules : List ModuleTree) (start : Numbering) (empty : start.scope �
   expression_bare ks numbers e t met has =
       ap (λ (n : Numbering). bare_type (sized_type n.scope e)) met.sized
       ∙ sized_as_typed modules start met.front e t empty (subst (λ s. (expression_type s e).has ≡ Some t) met.typed has)
+
+  -- and a node of it has the leaves of that type, without the widths that are found anew
+  pub expression_inferred : (ks : TypedScope) (numbers : Numbering) (e : Expression) (t : DataType) → Met modules start ks numbers
+      → (expression_type ks e).has ≡ Some t → (k : ℕ) → renumbered k (sized_type numbers.scope e) ≡ numbered (Some k) (inferred t)
+  expression_inferred ks numbers e t met has k =
+      ap (λ (n : Numbering). renumbered k (sized_type n.scope e)) met.sized
+      ∙ nodes_as_inferred modules start met.front e t empty (subst (λ s. (expression_type s e).has ≡ Some t) met.typed has) k
 
   pub component_bare : (ks : TypedScope) (numbers : Numbering) (p : Place) (c : Component) (t : DataType) → Met modules start ks numbers
       → component_type modules ks p c ≡ Some t → bare_type (sized_component modules numbers p c) ≡ bare t

@@ -36,7 +36,7 @@ use Rattle.fir_width.specs.working.DeclaredWidths.{body_widths, leaf_widths, mod
 use Rattle.fir_width.specs.working.Numbered.{Keeps}
 use Rattle.fir_width.specs.working.PushedLeaves.{Pushes, stage_widths, walked_widths}
 use Rattle.fir_width.proofs.BodyNumbers.{next_behind, next_number, ports_before}
-use Rattle.fir_width.proofs.DeclaredScopes.{IsTypedNode, Met, NodesTyped, expression_bare, known_behind, met_more, met_none, nodes_typed, scope_known}
+use Rattle.fir_width.proofs.DeclaredScopes.{IsTypedNode, Met, NodesTyped, expression_inferred, known_behind, met_more, met_none, nodes_typed, scope_known}
 use Rattle.fir_width.proofs.PortsFirst.{declared_ports, own_ports, ports_are}
 use Rattle.fir_width.proofs.PushedWalks.{flat_long}
 
@@ -107,7 +107,7 @@ module _ (modules : List ModuleTree) (ns : List PlacedName) (at : ℕ → Option
     body_own ks numbers d (register t) met typed = refl
     body_own ks numbers d (node e) met typed =
         ap (λ o. stage_widths stage.Bodies (Some (component_of ns (node e))) o numbers.next) typed.1
-        ∙ ap (λ t. flat (numbered (Some numbers.next) t)) (sym (expression_bare modules start empty ks numbers e typed.0 met typed.1))
+        ∙ ap flat (sym (expression_inferred modules start empty ks numbers e typed.0 met typed.1 numbers.next))
     body_own ks numbers d (instance name) met typed = refl
     body_own ks numbers d (memory parts) met typed = memory_own (memory_type d.named.place parts) numbers.next
 

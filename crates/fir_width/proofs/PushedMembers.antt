@@ -10,23 +10,24 @@ use Rattle.fir_type_table.specs.working.Tables.{member_fields, shown, shown_fiel
 use Rattle.fir_types.proofs.BareTypes.{shown_shared_count}
 use Rattle.fir_width.specs.declared.arena.Arena.{Arena}
 use Rattle.fir_width.specs.declared.counted.Counted.TheVariants.{Shared}
+use Rattle.fir_width.specs.declared.leaves.Unknowns.{Unknowns}
 use Rattle.fir_width.specs.working.CountedLeaves.{count_all}
 use Rattle.fir_width.specs.working.FieldsAt.{HasFieldAt, IsFieldAt}
-use Rattle.fir_width.specs.working.PushedLeaves.{Pushes, field_widths, numbers_from, type_widths}
+use Rattle.fir_width.specs.working.PushedLeaves.{Pushes, field_widths, type_widths}
 use Rattle.fir_width.proofs.MemberCounts.{count_append, first_with_leaves, stands_behind, within_all}
-use Rattle.fir_width.proofs.PushedWalks.{PushesSoFar, flat_long, pushes_begin, pushes_end, pushes_next, shown_next, shown_none}
+use Rattle.fir_width.proofs.PushedWalks.{PushesSoFar, pushes_begin, pushes_end, pushes_next, shown_next, shown_none, widths_long}
 
 -- a list of no length
 none_long : (ws : List Width) → length ws ≡ 0 → ws ≡ []
 none_long [] e = refl
 none_long (w ∷ ws) e = absurd (omega arith)
 
-module _ (ts : List DataType) (is_bare is_open : Bool) (ms : List Member) (old : Arena) where
+module _ (ts : List DataType) (is_bare : Bool) (u : Unknowns) (ms : List Member) (old : Arena) where
   abbrev widths : List Member → ℕ → List Width
-  widths ns = field_widths is_open (shown_fields is_bare (member_fields ts ns))
+  widths ns = field_widths u (shown_fields is_bare (member_fields ts ns))
 
   abbrev own : Member → ℕ → List Width
-  own m = type_widths is_open (shown is_bare (type_at ts m.ty.number))
+  own m = type_widths u (shown is_bare (type_at ts m.ty.number))
 
   -- the members before that leaf are pushed
   pub record PushesTo (leaf : ℕ) (now : Arena) : Type 0 where
@@ -40,13 +41,13 @@ module _ (ts : List DataType) (is_bare is_open : Bool) (ms : List Member) (old :
   members_begin = record { done = []; left = ms; split = refl; counted = refl; so_far = pushes_begin (widths ms) old }
 
   next : (m : Member) (rest : List Member) (k : ℕ) → widths (m ∷ rest) k ≡ own m k ++ widths rest (k + length (own m k))
-  next m rest k = shown_next is_open is_bare k m.place m.flip m.name m.type_place (type_at ts m.ty.number) (member_fields ts rest)
+  next m rest k = shown_next u is_bare k m.place m.flip m.name m.type_place (type_at ts m.ty.number) (member_fields ts rest)
 
   -- a member without leaves has no widths
   none_own : (m : Member) (k : ℕ) → shared_count (type_at ts m.ty.number) ≡ 0 → own m k ≡ []
   none_own m k none =
       let t = type_at ts m.ty.number in
-      none_long (own m k) (flat_long (numbers_from is_open k) (shown is_bare t) ∙ shown_shared_count is_bare t ∙ none)
+      none_long (own m k) (widths_long u (shown is_bare t) k ∙ shown_shared_count is_bare t ∙ none)
 
   stepped_over : (between rest : List Member) (k : ℕ) → count_all Shared ts between ≡ 0 → widths (between ++ rest) k ≡ widths rest k
   stepped_over [] rest k none = refl
@@ -72,7 +73,7 @@ module _ (ts : List DataType) (is_bare is_open : Bool) (ms : List Member) (old :
   -- the field whose first leaf is the next one
   pub members_next : (leaf behind : ℕ) (f : FieldFound) (now new : Arena) → IsFieldAt Shared ts ms leaf f
       → behind ≡ leaf + shared_count (type_at ts f.ty.number) → PushesTo leaf now
-      → Pushes (type_widths is_open (shown is_bare (type_at ts f.ty.number))) now new → PushesTo behind new
+      → Pushes (type_widths u (shown is_bare (type_at ts f.ty.number))) now new → PushesTo behind new
   members_next leaf behind f now new at moved so_far one =
       let here = at.at in
       let m = here.member in
@@ -89,7 +90,7 @@ module _ (ts : List DataType) (is_bare is_open : Bool) (ms : List Member) (old :
         counted = omega (arith, moved, here.counted, count_append ts Shared here.before (m ∷ []), ap shared_count at.data_type);
         so_far =
             pushes_next (widths ms) (widths (m ∷ here.rest)) (own m) (widths here.rest) old now new reached
-            (subst (λ u. Pushes (type_widths is_open (shown is_bare u)) now new) at.data_type one) (next m here.rest);
+            (subst (λ t. Pushes (type_widths u (shown is_bare t)) now new) at.data_type one) (next m here.rest);
       }
 
   pub members_end : (leaf : ℕ) (now : Arena) → count_all Shared ts ms ≤ leaf → PushesTo leaf now → Pushes (widths ms) old now
@@ -97,7 +98,7 @@ module _ (ts : List DataType) (is_bare is_open : Bool) (ms : List Member) (old :
       let none : count_all Shared ts so_far.left ≡ 0 =
       omega (arith, all, so_far.counted, ap (count_all Shared ts) so_far.split, count_append ts Shared so_far.done so_far.left) in
       pushes_end (widths ms) (widths so_far.left) old now so_far.so_far
-      (λ k. ap (λ l. widths l k) (sym (append-nil so_far.left)) ∙ stepped_over so_far.left [] k none ∙ shown_none is_open is_bare k)
+      (λ k. ap (λ l. widths l k) (sym (append-nil so_far.left)) ∙ stepped_over so_far.left [] k none ∙ shown_none u is_bare k)
 
   -- there is such a field until all are pushed
   pub next_there : (leaf : ℕ) (now : Arena) → leaf < count_all Shared ts ms → PushesTo leaf now → HasFieldAt Shared ts ms leaf

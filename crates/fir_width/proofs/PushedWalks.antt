@@ -8,15 +8,18 @@ use Rattle.fir_meaning.specs.TypeKinds.{bare}
 use Rattle.fir_meaning.specs.SharedLeaves.{shared_count, shared_field_count}
 use Rattle.fir_meaning.specs.WidthExpressions.{Width, Rule}
 use Rattle.fir_meaning.specs.SizedTypes.{past, numbered, numbered_fields}
+use Rattle.fir_meaning.specs.working.InferredTypes.{inferred, inferred_fields}
 use Rattle.fir_names.specs.declared.declaration.Component.{Component}
 use Rattle.fir_type_table.specs.working.Tables.{shown, shown_fields}
 use Rattle.fir_types.specs.declared.found.Found.{Found}
 use Rattle.fir_types.specs.working.Seen.{seen}
 use Rattle.fir_width.specs.declared.arena.Arena.{Arena}
 use Rattle.fir_width.specs.declared.declared.Stage.{Stage}
+use Rattle.fir_width.specs.declared.leaves.Unknowns.{Unknowns}
+use Rattle.fir_width.specs.declared.leaves.Unknowns.TheVariants as unknowns
 use Rattle.fir_width.specs.working.FlatWidths.{flat, flat_fields}
 use Rattle.fir_width.specs.working.Numbered.{Keeps}
-use Rattle.fir_width.specs.working.PushedLeaves.{Pushes, field_widths, numbers_from, stage_widths, type_widths, walked_widths}
+use Rattle.fir_width.specs.working.PushedLeaves.{Pushes, field_widths, numbers_from, open_fields, open_type, stage_widths, type_widths, walked_widths}
 
 -- a type has as many widths as it has leaves
 mutual
@@ -36,26 +39,67 @@ mutual
       ∙ ap (λ n. n + length (flat_fields (numbered_fields (past (shared_count t) at) rest))) (flat_long at t)
       ∙ ap (λ n. shared_count t + n) (flat_fields_long (past (shared_count t) at) rest)
 
-numbers_past : (is_open : Bool) (k n : ℕ) → past n (numbers_from is_open k) ≡ numbers_from is_open (k + n)
-numbers_past true k n = refl
-numbers_past false k n = refl
+-- and so has the type whose widths are found anew
+mutual
+  inferred_shared_count : (t : DataType) → shared_count (inferred t) ≡ shared_count t
+  inferred_shared_count (uint w) = refl
+  inferred_shared_count (sint w) = refl
+  inferred_shared_count clock = refl
+  inferred_shared_count reset = refl
+  inferred_shared_count async_reset = refl
+  inferred_shared_count (bundle fs) = inferred_shared_field_count fs
+  inferred_shared_count (vector t n) = by (n == 0) (inferred_shared_count t)
+    where
+      by : (b : Bool) → shared_count (inferred t) ≡ shared_count t → shared_count (if b then t else inferred t) ≡ shared_count t
+      by true inside = refl
+      by false inside = inside
+
+  inferred_shared_field_count : (fs : Fields) → shared_field_count (inferred_fields fs) ≡ shared_field_count fs
+  inferred_shared_field_count no_fields = refl
+  inferred_shared_field_count (field p flip x begins t rest) = rw (inferred_shared_count t, inferred_shared_field_count rest) refl
+
+open_shared_count : (u : Unknowns) (t : DataType) → shared_count (open_type u t) ≡ shared_count t
+open_shared_count unknowns.Nowhere t = refl
+open_shared_count unknowns.Unwritten t = refl
+open_shared_count unknowns.Everywhere t = inferred_shared_count t
+
+pub widths_long : (u : Unknowns) (t : DataType) (k : ℕ) → length (type_widths u t k) ≡ shared_count t
+widths_long u t k = flat_long (numbers_from u k) (open_type u t) ∙ open_shared_count u t
+
+numbers_past : (u : Unknowns) (k n : ℕ) → past n (numbers_from u k) ≡ numbers_from u (k + n)
+numbers_past unknowns.Nowhere k n = refl
+numbers_past unknowns.Unwritten k n = refl
+numbers_past unknowns.Everywhere k n = refl
 
 -- field by field
-pub fields_next : (is_open : Bool) (k : ℕ) (p : Place) (flip : Bool) (x : List ℕ) (begins : Place) (t : DataType) (rest : Fields)
-    → field_widths is_open (field p flip x begins t rest) k ≡ type_widths is_open t k ++ field_widths is_open rest (k + length (type_widths is_open t k))
-fields_next is_open k p flip x begins t rest =
-    ap (λ at. type_widths is_open t k ++ flat_fields (numbered_fields at rest)) (numbers_past is_open k (shared_count t))
-    ∙ ap (λ n. type_widths is_open t k ++ field_widths is_open rest (k + n)) (sym (flat_long (numbers_from is_open k) t))
+open_next : (u : Unknowns) (p : Place) (flip : Bool) (x : List ℕ) (begins : Place) (t : DataType) (rest : Fields)
+    → open_fields u (field p flip x begins t rest) ≡ field p flip x begins (open_type u t) (open_fields u rest)
+open_next unknowns.Nowhere p flip x begins t rest = refl
+open_next unknowns.Unwritten p flip x begins t rest = refl
+open_next unknowns.Everywhere p flip x begins t rest = refl
 
-pub shown_next : (is_open is_bare : Bool) (k : ℕ) (p : Place) (flip : Bool) (x : List ℕ) (begins : Place) (t : DataType) (rest : Fields)
-    → field_widths is_open (shown_fields is_bare (field p flip x begins t rest)) k
-    ≡ type_widths is_open (shown is_bare t) k ++ field_widths is_open (shown_fields is_bare rest) (k + length (type_widths is_open (shown is_bare t) k))
-shown_next is_open true k p flip x begins t rest = fields_next is_open k p flip x begins (bare t) (shown_fields true rest)
-shown_next is_open false k p flip x begins t rest = fields_next is_open k p flip x begins t rest
+pub fields_next : (u : Unknowns) (k : ℕ) (p : Place) (flip : Bool) (x : List ℕ) (begins : Place) (t : DataType) (rest : Fields)
+    → field_widths u (field p flip x begins t rest) k ≡ type_widths u t k ++ field_widths u rest (k + length (type_widths u t k))
+fields_next u k p flip x begins t rest =
+    let opened = open_type u t in
+    let others = open_fields u rest in
+    ap (λ fs. flat_fields (numbered_fields (numbers_from u k) fs)) (open_next u p flip x begins t rest)
+    ∙ ap (λ at. type_widths u t k ++ flat_fields (numbered_fields at others)) (numbers_past u k (shared_count opened))
+    ∙ ap (λ n. type_widths u t k ++ field_widths u rest (k + n)) (sym (flat_long (numbers_from u k) opened))
 
-pub shown_none : (is_open is_bare : Bool) (k : ℕ) → field_widths is_open (shown_fields is_bare no_fields) k ≡ []
-shown_none is_open true k = refl
-shown_none is_open false k = refl
+pub shown_next : (u : Unknowns) (is_bare : Bool) (k : ℕ) (p : Place) (flip : Bool) (x : List ℕ) (begins : Place) (t : DataType) (rest : Fields)
+    → field_widths u (shown_fields is_bare (field p flip x begins t rest)) k
+    ≡ type_widths u (shown is_bare t) k ++ field_widths u (shown_fields is_bare rest) (k + length (type_widths u (shown is_bare t) k))
+shown_next u true k p flip x begins t rest = fields_next u k p flip x begins (bare t) (shown_fields true rest)
+shown_next u false k p flip x begins t rest = fields_next u k p flip x begins t rest
+
+pub shown_none : (u : Unknowns) (is_bare : Bool) (k : ℕ) → field_widths u (shown_fields is_bare no_fields) k ≡ []
+shown_none unknowns.Nowhere true k = refl
+shown_none unknowns.Nowhere false k = refl
+shown_none unknowns.Unwritten true k = refl
+shown_none unknowns.Unwritten false k = refl
+shown_none unknowns.Everywhere true k = refl
+shown_none unknowns.Everywhere false k = refl
 
 -- how far a walk has come: what is left stands behind what is pushed
 pub record PushesSoFar (whole rest : ℕ → List Width) (old new : Arena) : Type 0 where

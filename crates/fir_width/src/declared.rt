@@ -13,11 +13,10 @@ ghost use Rattle.fir_width.specs.working.Numbered.{Keeps};
 ghost use Rattle.fir_width.specs.working.PushedLeaves.{Pushes, stage_widths, walked_widths};
 
 use crate::arena::Arena;
-use crate::leaves::push_found;
+use crate::leaves::{Unknowns, push_found};
 use fir_base::MemoryOut;
 use fir_names::{Component, Named, Names};
 use fir_type_table::TypeTable;
-use fir_types::found::bare;
 use fir_types::{Findings, Found};
 use std::alloc::Global;
 
@@ -101,7 +100,7 @@ fn component_at(names: &Names, position: usize) -> Option<Component>
 }
 
 /// A declaration, where its leaves take numbers in the stage. Those of an instance are the ports of its
-/// module. A node has an unknown for each width; a memory has none, since all its widths are written.
+/// module.
 fn push_declared(
     table: &TypeTable,
     component: Option<Component>,
@@ -115,12 +114,16 @@ fn push_declared(
         return Ok(());
     };
     match (stage, component) {
-        (Stage::Ports, Component::Port(_)) => push_found(table, found, true, arena),
-        (Stage::Bodies, Component::Wire | Component::Register) => {
-            push_found(table, found, true, arena)
+        (Stage::Ports, Component::Port(_)) => {
+            push_found(table, found, Unknowns::Unwritten, arena)
         }
-        (Stage::Bodies, Component::Node) => push_found(table, bare(found), true, arena),
-        (Stage::Bodies, Component::Memory) => push_found(table, found, false, arena),
+        (Stage::Bodies, Component::Wire | Component::Register) => {
+            push_found(table, found, Unknowns::Unwritten, arena)
+        }
+        (Stage::Bodies, Component::Node) => {
+            push_found(table, found, Unknowns::Everywhere, arena)
+        }
+        (Stage::Bodies, Component::Memory) => push_found(table, found, Unknowns::Nowhere, arena),
         _ => Ok(()),
     }
 }

@@ -2,12 +2,11 @@
 //! for all elements.
 
 ghost use Rattle.std.specs.Prelude.{[], ◌∷◌, OnOk};
-ghost use Rattle.fir_meaning.specs.SizedTypes.{leaf_width};
 ghost use Rattle.fir_meaning.specs.WidthExpressions.{known};
 ghost use Rattle.fir_type_table.specs.working.Tables.{member_fields, members_at, shown, shown_fields, type_at, types_of};
 ghost use Rattle.fir_types.specs.working.Seen.{found_type};
 ghost use Rattle.fir_width.specs.working.FieldsAt.{IsBundleAt};
-ghost use Rattle.fir_width.specs.working.PushedLeaves.{Pushes, field_widths, numbers_from, type_widths};
+ghost use Rattle.fir_width.specs.working.PushedLeaves.{Pushes, field_widths, number_width, type_widths};
 
 use crate::arena::Arena;
 use crate::bundle_fields::field_at;
@@ -16,36 +15,45 @@ use fir_base::MemoryOut;
 use fir_type_table::{Kind, TypeId, TypeTable};
 use fir_types::Found;
 
-/// The leaves of what is found. One whose width is not written is an unknown if the type is open, and else
-/// its width is known to be 0.
+/// Which widths of the leaves of a type are unknowns. Below a vector of length 0, where no leaf stands,
+/// none is.
+#[derive(Clone, Copy, Debug, PartialEq, Eq)]
+pub enum Unknowns {
+    /// None: a width that is not written is 0. So it is for memories, of which all are written.
+    Nowhere,
+    /// Those that are not written: of ports, wires and registers.
+    Unwritten,
+    /// All: of nodes, since a node's type is that of its expression.
+    Everywhere,
+}
+
+/// The leaves of what is found, with the widths that are unknowns.
 pub fn push_found(
     table: &TypeTable,
     found: Found,
-    is_open: bool,
+    unknowns: Unknowns,
     arena: &mut Arena,
 ) -> Result<(), MemoryOut>
-    ensures { OnOk result (Pushes (type_widths is_open (found_type (types_of table.now) found)) arena.old arena.new) }
+    ensures { OnOk result (Pushes (type_widths unknowns (found_type (types_of table.now) found)) arena.old arena.new) }
 {
     match found {
-        Found::Number(_, width) => push_number(width, is_open, arena),
+        Found::Number(_, width) => push_number(width, unknowns, arena),
         Found::AsyncReset => push_written(1, arena),
-        Found::Type(id, is_bare) => push_type(table, id, is_bare, is_open, arena),
+        Found::Type(id, is_bare) => push_type(table, id, is_bare, unknowns, arena),
     }
 }
 
 /// The leaf of a UInt or an SInt.
-fn push_number(width: Option<u128>, is_open: bool, arena: &mut Arena) -> Result<(), MemoryOut>
-    ensures { OnOk result (Pushes (λ k. leaf_width (numbers_from is_open k) width ∷ []) arena.old arena.new) }
+fn push_number(width: Option<u128>, unknowns: Unknowns, arena: &mut Arena) -> Result<(), MemoryOut>
+    ensures { OnOk result (Pushes (λ k. number_width unknowns k width ∷ []) arena.old arena.new) }
 {
-    match width {
-        Some(width) => push_written(width, arena),
-        None => {
-            if is_open {
-                arena.push_unknown()
-            } else {
-                push_written(0, arena)
-            }
-        }
+    match unknowns {
+        Unknowns::Nowhere => push_written(width.unwrap_or(0), arena),
+        Unknowns::Unwritten => match width {
+            Some(width) => push_written(width, arena),
+            None => arena.push_unknown(),
+        },
+        Unknowns::Everywhere => arena.push_unknown(),
     }
 }
 
@@ -63,20 +71,25 @@ fn push_type(
     table: &TypeTable,
     id: TypeId,
     is_bare: bool,
-    is_open: bool,
+    unknowns: Unknowns,
     arena: &mut Arena,
 ) -> Result<(), MemoryOut>
-    ensures { OnOk result (Pushes (type_widths is_open (shown is_bare (type_at (types_of table.now) id.number))) arena.old arena.new) }
+    ensures { OnOk result (Pushes (type_widths unknowns (shown is_bare (type_at (types_of table.now) id.number))) arena.old arena.new) }
 {
     match table.kind(id) {
         Kind::UInt(width) | Kind::SInt(width) => {
-            push_number(if is_bare { None } else { width }, is_open, arena)
+            push_number(if is_bare { None } else { width }, unknowns, arena)
         }
         Kind::Clock => push_written(0, arena),
         Kind::Reset | Kind::AsyncReset => push_written(1, arena),
-        Kind::Bundle => push_members(table, id, is_bare, is_open, arena),
+        Kind::Bundle => push_members(table, id, is_bare, unknowns, arena),
         Kind::Vector(element, length) => {
-            push_type(table, element, is_bare, is_open && length != 0, arena)
+            let inside = if length == 0 {
+                Unknowns::Nowhere
+            } else {
+                unknowns
+            };
+            push_type(table, element, is_bare, inside, arena)
         }
     }
 }
@@ -87,11 +100,11 @@ fn push_members(
     table: &TypeTable,
     id: TypeId,
     is_bare: bool,
-    is_open: bool,
+    unknowns: Unknowns,
     arena: &mut Arena,
 ) -> Result<(), MemoryOut>
     requires { IsBundleAt table.now id.number }
-    ensures { OnOk result (Pushes (field_widths is_open (shown_fields is_bare (member_fields (types_of table.now) (members_at table.now id.number)))) arena.old arena.new) }
+    ensures { OnOk result (Pushes (field_widths unknowns (shown_fields is_bare (member_fields (types_of table.now) (members_at table.now id.number)))) arena.old arena.new) }
 {
     let count = table.shared_leaves(id);
     // At 2^64 - 1 the number of leaves stands still.
@@ -101,7 +114,7 @@ fn push_members(
     let mut leaf = 0u64;
     while leaf < count {
         let field = field_at(table, id, Counted::Shared, leaf);
-        push_type(table, field.ty, is_bare, is_open, arena)?;
+        push_type(table, field.ty, is_bare, unknowns, arena)?;
         leaf += table.shared_leaves(field.ty);
     }
     Ok(())

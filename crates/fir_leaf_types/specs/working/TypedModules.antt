@@ -3,14 +3,12 @@ use Rattle.std.specs.Prelude.{◌≡◌, ℕ, ◌<◌, [], length, Option, Some,
 use Rattle.fir_bits.specs.declared.types.NumTy.{NumTy}
 use Rattle.fir_ast.specs.Circuits.{CircuitTree}
 use Rattle.fir_meaning.specs.NameGroups.{HasNames}
-use Rattle.fir_meaning.specs.Visibility.{declarations}
 use Rattle.fir_meaning.specs.TypeGroup.{type_faults}
 use Rattle.fir_meaning.specs.OverFaults.{over_faults}
 use Rattle.fir_meaning.specs.LegalFaults.{legal_faults}
 use Rattle.fir_meaning.specs.LeafModules.{LeafModule, LeafReset, LeafType, Role, a_clock, computed, leaf_at, number, pipe, reading, register, role_at, sink, source}
 use Rattle.fir_meaning.specs.LeafedModules.{Scene, leafed_module}
 use Rattle.fir_meaning.specs.Scenes.{IsSceneOf}
-use Rattle.fir_leaf_types.specs.working.AbsentWidths.{NodesAreClear}
 use Rattle.fir_leaf_types.specs.working.TypedTerms.{HasType, IsNarrow, one_bit}
 use Rattle.fir_leaf_types.specs.working.TypedBlocks.{AreTyped, MayGive}
 
@@ -35,10 +33,8 @@ pub record IsModuleTyped (m : LeafModule) : Type 0 where
   pub narrow : (x : ℕ) → x < length m.leaves → IsNarrow (held_in m x)
   pub roles : (x : ℕ) → x < length m.leaves → IsRoleTyped (held_in m) (held_in m x) (role_at m x)
 
--- where no fault of names, types or widths stands in a circuit, each of its modules has types, if none of its nodes has a type in which a width is written
--- below a vector of length 0
+-- where no fault of names, types or widths stands in a circuit, each of its modules has types
 abbrev pub LeafedModulesAreTyped : Type 0
 LeafedModulesAreTyped =
     (c : CircuitTree) (module_number : ℕ) (s : Scene) → HasNames c → type_faults c ≡ [] → IsSceneOf c module_number s
-    → over_faults c s.widths ≡ [] → legal_faults c s.widths ≡ [] → NodesAreClear c.modules [] (declarations s.own.inside)
-    → IsModuleTyped (leafed_module s)
+    → over_faults c s.widths ≡ [] → legal_faults c s.widths ≡ [] → IsModuleTyped (leafed_module s)

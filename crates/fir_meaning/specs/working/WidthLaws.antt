@@ -10,7 +10,7 @@ use Rattle.fir_meaning.specs.TypeKinds.{bare}
 use Rattle.fir_meaning.specs.ExpressionTypes.{expression_type}
 use Rattle.fir_meaning.specs.ComponentTypes.{typed_scope}
 use Rattle.fir_meaning.specs.WidthExpressions.{Widths, Width, width_of, Rule, Meets, IsLeastOf}
-use Rattle.fir_meaning.specs.SizedTypes.{bare_type}
+use Rattle.fir_meaning.specs.SizedTypes.{bare_type, numbered, renumbered}
 use Rattle.fir_meaning.specs.SizedScopes.{sized_type}
 use Rattle.fir_meaning.specs.SizedDeclarations.{Numbering, numbered_behind}
 use Rattle.fir_meaning.specs.WidthRules.{rules, AreWidths}
@@ -18,6 +18,7 @@ use Rattle.fir_meaning.specs.OverFaults.{over_faults}
 use Rattle.fir_meaning.specs.LegalFaults.{legal_faults}
 use Rattle.fir_meaning.specs.ResetWalks.{ShowsResets}
 use Rattle.fir_meaning.specs.WidthGroups.{IsInferred}
+use Rattle.fir_meaning.specs.working.InferredTypes.{inferred}
 
 -- wider unknowns never make an expression narrower
 abbrev pub WidthsGrow : Type 0
@@ -49,6 +50,13 @@ abbrev pub SizedAsTyped : Type 0
 SizedAsTyped =
     (modules : List ModuleTree) (numbers : Numbering) (ds : Declarations) (e : Expression) (t : DataType) → numbers.scope ≡ []
     → (expression_type (typed_scope modules ds) e).has ≡ Some t → bare_type (sized_type (numbered_behind modules numbers ds).scope e) ≡ bare t
+
+-- and a node of it has the leaves of that type, without the widths that are found anew
+abbrev pub NodesAsInferred : Type 0
+NodesAsInferred =
+    (modules : List ModuleTree) (numbers : Numbering) (ds : Declarations) (e : Expression) (t : DataType) → numbers.scope ≡ []
+    → (expression_type (typed_scope modules ds) e).has ≡ Some t
+    → (k : ℕ) → renumbered k (sized_type (numbered_behind modules numbers ds).scope e) ≡ numbered (Some k) (inferred t)
 
 -- under the widths of a circuit nothing is over 128 bits, and all that stands there is legal
 pub record FitsAll (c : CircuitTree) : Type 0 where

@@ -6,6 +6,7 @@ use Rattle.fir_ast.specs.declared.fault.FirFault.TheVariants.{Undriven}
 use Rattle.fir_ast.specs.View.{circuit_of}
 use Rattle.fir_meaning.specs.Choices.{covers_all}
 use Rattle.fir_meaning.specs.LeafModules.{LeafDeclared}
+use Rattle.fir_meaning.specs.UndrivenChoices.{told_once}
 use Rattle.fir_leaf.specs.working.NodeBlocks.{block_in}
 use Rattle.fir_expand.specs.working.LeafStores.{depth_in}
 use Rattle.fir_driven.specs.working.Missed.{missed_all}
@@ -56,10 +57,12 @@ returns c =
     rw (c.deref.ensures.value, c.deref-2.ensures.value) refl in
     let outcomes = c.in_ok-choice.choice.items in
     let told : covers_all (depth_in m leaf) leaf (block_in m.nodes.items m.body.items) 0 ≡ false
-    → outcomes ≡ missed_all (depth_in m leaf) leaf (block_in m.nodes.items m.body.items) 0 =
-    subst (λ d. covers_all d leaf (block_in m.nodes.items m.body.items) 0 ≡ false → outcomes ≡ missed_all d leaf (block_in m.nodes.items m.body.items) 0)
+    → outcomes ≡ told_once (missed_all (depth_in m leaf) leaf (block_in m.nodes.items m.body.items) 0) =
+    subst
+    (λ d. covers_all d leaf (block_in m.nodes.items m.body.items) 0 ≡ false
+    → outcomes ≡ told_once (missed_all d leaf (block_in m.nodes.items m.body.items) 0))
     (sym depth)
-    (subst (λ b. covers_all c.index-2.result.now.depth leaf b 0 ≡ false → outcomes ≡ missed_all c.index-2.result.now.depth leaf b 0) body
+    (subst (λ b. covers_all c.index-2.result.now.depth leaf b 0 ≡ false → outcomes ≡ told_once (missed_all c.index-2.result.now.depth leaf b 0)) body
     c.in_ok-choice.ensures) in
     subst (λ p. IsFoundOf tree number (Some (Undriven p c.in_ok-text.text c.from_vec.result))) place
     (first_undriven tree modules leafed number m at c.covered_is_driven.ensures c.missed_is_first.ensures c.modules.ensures.scenes within leaf found

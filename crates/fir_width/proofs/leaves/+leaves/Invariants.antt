@@ -5,7 +5,7 @@ use Rattle.fir_width.proofs.leaves.+leaves.Given as goal
 
 abbrev pub invariant-push_members-loop-leaf : goal.invariant-push_members-loop-leaf
 invariant-push_members-loop-leaf l =
-    PushesTo (types_of l.table) l.is_bare l.is_open (members_at l.table l.id.number) l.initial.arena l.leaf l.arena
+    PushesTo (types_of l.table) l.is_bare l.unknowns (members_at l.table l.id.number) l.initial.arena l.leaf l.arena
 
 abbrev pub decreases-push_members-loop-leaf : goal.decreases-push_members-loop-leaf
 decreases-push_members-loop-leaf l = l.count - l.leaf

@@ -1,0 +1,17 @@
+pub mod DrivenLeaves
+pub mod OuterLeaves
+pub mod CollectedBlocks
+pub mod CollectedWhens
+pub mod BelowBounds
+pub mod SlotSteps
+pub mod StandingNodes
+pub mod LaterSettings
+pub mod ThroughCandidates
+pub mod WrittenElements
+pub mod LeafDrives
+pub mod QuietStatements
+pub mod StatementSizes
+pub mod WalkedWhens
+pub mod WalkedBlocks
+pub mod StartedLeaves
+pub mod DrivenModules
