@@ -1,5 +1,5 @@
 -- The leaves behind indices, one index and one element after another.
-use Rattle.std.proofs.Common.{◌≡◌, ℕ, ◌+◌, suc, List, [], ◌∷◌, ◌++◌, Option, refl, sym, ap, ◌∙◌, append_assoc, append-nil}
+use Rattle.std.proofs.Common.{◌≡◌, ℕ, ◌+◌, suc, List, [], ◌∷◌, ◌++◌, Option, refl, sym, ap, append_assoc, append-nil}
 use Rattle.fir_leaf.specs.declared.node.Node.{Node}
 use Rattle.fir_leaf.specs.declared.node.Pick.{Pick}
 use Rattle.fir_leaf.specs.working.Nodes.{entries, picks_at}

@@ -1,5 +1,5 @@
 -- What the node at a place stands for is told by the nodes before it.
-use Rattle.std.proofs.Common.{◌≡◌, ℕ, ◌+◌, ◌<◌, ◌≤◌, List, [], ◌∷◌, ◌++◌, length, take, drop, get_or, nat_lt, Bool, true, false, Option, Some, None, refl, sym, ap, ◌∙◌, arith, append_assoc, append-nil, ⊎_elim}
+use Rattle.std.proofs.Common.{◌≡◌, ℕ, ◌+◌, ◌<◌, ◌≤◌, List, [], ◌∷◌, ◌++◌, length, take, drop, get_or, nat_lt, true, false, Option, Some, None, refl, sym, ap, ◌∙◌, arith, append_assoc, append-nil, ⊎_elim}
 use Rattle.std.proofs.lemmas.List.{drop_more, get_or_append_left, get_or_at, get_or_past, length-take-le, take-append-drop}
 use Rattle.std.proofs.lemmas.Bool.{cases_Bool}
 use Rattle.std.proofs.lemmas.Bool.Decides.{nat_tests}
@@ -11,7 +11,7 @@ use Rattle.fir_meaning.specs.Terms.{no_picks, pick}
 use Rattle.fir_leaf.specs.working.Nodes.{Entry, a_term, entries, entries_from, entry_at, entry_of, picks_at, picks_in, term_in}
 use Rattle.fir_driven.specs.working.Indices.{IsIndex, earlier, nodes_up_to}
 
-from_append : (known : List Entry) (xs zs : List Node) → entries_from known (xs ++ zs) ≡ entries_from (entries_from known xs) zs
+pub from_append : (known : List Entry) (xs zs : List Node) → entries_from known (xs ++ zs) ≡ entries_from (entries_from known xs) zs
 unfolding entries_from
 from_append known [] zs = refl
 from_append known (x ∷ xs) zs = from_append (known ++ entry_of known x ∷ []) xs zs
@@ -23,7 +23,7 @@ from_known known (n ∷ ns) =
     let r = from_known (known ++ entry_of known n ∷ []) ns in
     (entry_of known n ∷ r.0, r.1 ∙ append_assoc known (entry_of known n ∷ []) r.0, omega (arith, r.2))
 
-length-entries : (ns : List Node) → length (entries ns) ≡ length ns
+pub length-entries : (ns : List Node) → length (entries ns) ≡ length ns
 length-entries ns = let r = from_known [] ns in ap length r.1 ∙ r.2
 
 -- one node, between those before and those behind

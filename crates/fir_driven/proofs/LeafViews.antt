@@ -4,7 +4,7 @@ use Rattle.fir_leaf.specs.declared.node.Node.{Node}
 use Rattle.fir_leaf.specs.declared.statement.Drive.{Drive}
 use Rattle.fir_leaf.specs.declared.statement.LeafInstance.{LeafInstance}
 use Rattle.fir_leaf.specs.declared.statement.LeafWhen.{LeafWhen, fold_out-LeafWhen}
-use Rattle.fir_leaf.specs.declared.statement.LeafStmt.{LeafStmt, fold-roll-LeafStmt}
+use Rattle.fir_leaf.specs.declared.statement.LeafStmt.{fold-roll-LeafStmt}
 use Rattle.fir_leaf.specs.declared.statement.LeafStmt.TheOpen.{LeafStmt-F}
 use Rattle.fir_leaf.specs.declared.statement.LeafStmt.TheVariants as code
 use Rattle.fir_meaning.specs.LeafBlocks.{LeafStatement, drive, when, instance}

@@ -17,8 +17,8 @@ pub fn is_picked(nodes: &[Node], picks: Option<usize>) -> bool
     index_at(nodes, picks).is_some()
 }
 
-/// The index at a node, where there is one.
-fn index_at(nodes: &[Node], picks: Option<usize>) -> Option<Pick>
+/// The index at a node, where there is one. It counts on an earlier node, or on none.
+pub fn index_at(nodes: &[Node], picks: Option<usize>) -> Option<Pick>
     ensures index { IfSome result (IsIndex nodes.now picks) }
     ensures none { IfNone result (picks_at (entries nodes.now) picks ≡ no_picks) }
 {

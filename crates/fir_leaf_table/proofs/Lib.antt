@@ -1,9 +1,6 @@
 pub mod TypeShapes
 pub mod TurnedLeaves
 pub mod HeldLeaves
-pub mod MemberCounts
-pub mod FieldsFound
-pub mod FieldsCounted
 pub mod FieldLeaves
 pub mod PushedMembers
 pub mod RepeatedLeaves

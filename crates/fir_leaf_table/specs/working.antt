@@ -3,7 +3,6 @@ pub mod Seen
 pub mod ModulePlaces
 pub mod Frames
 pub mod TypedLeaves
-pub mod FieldsAt
 pub mod PushedTypeLeaves
 pub mod DrivenLeaves
 pub mod Memories

@@ -5,15 +5,14 @@
 //! Each module is walked twice (`leafed`), with what was found of it (`module_frame`): its expressions and
 //! statements become nodes and statements over leaves (`ground_body`, by fir_ground), and then each declaration
 //! gives its leaves (`ports`, `statements`). What they hold is told by the type that is found and the widths of
-//! its leaves (`declared`, `push_leaves`, for a bundle field by field that has leaves: `field_at`); what gives
-//! them their values by the declaration (`giver`), the kind of a register's reset (`resets`), and the ports of a
-//! memory (`memory_leaves`).
+//! its leaves (`declared`, `push_leaves`, for a bundle field by field that has leaves: fir_width's `field_at`);
+//! what gives them their values by the declaration (`giver`), the kind of a register's reset (`resets`), and the
+//! ports of a memory (`memory_leaves`).
 #![tactic(auto)]
 
 mod array;
 mod declared;
 mod drivers;
-mod field_at;
 mod frame;
 mod giver;
 mod ground_body;
@@ -22,7 +21,6 @@ mod leaf;
 mod leaf_module;
 mod leaf_number;
 mod leafed;
-mod member_at;
 mod memory;
 mod memory_arrays;
 mod memory_fields;

@@ -10,10 +10,9 @@ ghost use Rattle.fir_type_table.specs.working.Saturated.{saturated};
 ghost use Rattle.fir_type_table.specs.working.Tables.{member_fields, members_at, type_at, types_of};
 ghost use Rattle.fir_types.specs.working.Seen.{found_type};
 ghost use Rattle.fir_meaning.specs.LeafedModules.{repeated};
-ghost use Rattle.fir_leaf_table.specs.working.FieldsAt.{IsBundleAt};
+ghost use Rattle.fir_width.specs.working.FieldsAt.{IsBundleAt};
 ghost use Rattle.fir_leaf_table.specs.working.PushedTypeLeaves.{Pushes};
 
-use crate::field_at::field_at;
 use crate::leaf::LeafType;
 use crate::type_leaves::TypeLeaf;
 use fir_ast::LeafId;
@@ -21,7 +20,7 @@ use fir_base::MemoryOut;
 use fir_bits::NumTy;
 use fir_type_table::{Kind, TypeId, TypeTable};
 use fir_types::Found;
-use fir_width::{Fitted, Widths};
+use fir_width::{Counted, Fitted, Widths, field_at};
 
 /// What a Reset or an AsyncReset holds.
 const BIT: LeafType = LeafType::Number(NumTy {
@@ -117,7 +116,7 @@ fn push_members(
     }
     let mut leaf = 0u64;
     while leaf < count {
-        let field = field_at(table, id, leaf);
+        let field = field_at(table, id, Counted::Each, leaf);
         push_type(
             fitted,
             table,

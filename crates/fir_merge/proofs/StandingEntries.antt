@@ -7,6 +7,7 @@ use Rattle.fir_leaf.specs.declared.node.Node.TheVariants as node
 use Rattle.fir_leaf.specs.working.Nodes.{Entry, entries, entries_from, entry_at, entry_of, node_term, term_in}
 use Rattle.fir_meaning.specs.TermValues.{Holds}
 use Rattle.fir_meaning.specs.Terms.{zeros, terms_of}
+use Rattle.fir_driven.proofs.IndexEntries.{length-entries}
 use Rattle.fir_net.specs.declared.node.Node.{Node}
 use Rattle.fir_connect.specs.working.Lowered.{zero_of}
 use Rattle.fir_merge.specs.declared.bound.Bound.{Bound}
@@ -14,7 +15,6 @@ use Rattle.fir_merge.specs.working.Bounds.{EachBelow, EachStands, StandsFor}
 use Rattle.fir_merge.specs.working.Entries.{BoundsBelow, EntriesStand, EntryStands, value_in, value_of}
 use Rattle.fir_merge.specs.working.Made.{made, made_each}
 use Rattle.fir_merge.specs.working.NodeTerms.{IsBelow}
-use Rattle.fir_merge.proofs.NodeEntries.{length-entries}
 
 -- entries of nodes of their kinds
 abbrev AreOf : List LeafNode → List Entry → Type 0

@@ -1,14 +1,15 @@
 //! The dynamic indices that lead to a leaf (FIRRTL spec, "Sub-accesses").
 
-ghost use Rattle.std.specs.Prelude.{◌≡◌, ℕ, IfNone, IfOk, IfSome, List};
+ghost use Rattle.std.specs.Prelude.{ℕ, IfNone, IfOk, IfSome, List};
 ghost use Rattle.fir_leaf.specs.working.Nodes.{entries, picks_at};
 ghost use Rattle.fir_meaning.specs.TermValues.{Holds};
 ghost use Rattle.fir_net.specs.declared.node.Node.{Node as NetNode};
 ghost use Rattle.fir_merge.specs.working.Entries.{BoundsBelow, EntriesStand, IndicesBelow, IndicesStand};
-ghost use Rattle.fir_merge.specs.working.Steps.{IsNoStep, IsStep, earlier};
+ghost use Rattle.fir_merge.specs.working.Steps.{IsNoStep, IsStep};
 
 use crate::bound::Bound;
 use fir_base::MemoryOut;
+use fir_driven::index_at;
 use fir_leaf::Node;
 use std::alloc::Global;
 
@@ -51,24 +52,14 @@ fn step_at(nodes: &[Node], bounds: &[Bound], picks: Option<usize>) -> Option<Ste
     ensures step { IfSome result (IsStep nodes.now bounds.now picks) }
     ensures none { IfNone result (IsNoStep nodes.now bounds.now picks) }
 {
-    let place = picks?;
-    let bound = bounds.get(place)?;
-    match nodes.get(place)? {
-        Node::Pick(pick) => Some(Step {
-            index: Index {
-                bound: *bound,
-                length: pick.length,
-                stride: pick.stride,
-            },
-            before: earlier(place, pick.before),
-        }),
-        _ => None,
-    }
-}
-
-/// A node counts on earlier ones alone.
-fn earlier(place: usize, before: Option<usize>) -> Option<usize>
-    ensures { result ≡ earlier place before }
-{
-    before.filter(|before| *before < place)
+    let bound = bounds.get(picks?)?;
+    let pick = index_at(nodes, picks)?;
+    Some(Step {
+        index: Index {
+            bound: *bound,
+            length: pick.length,
+            stride: pick.stride,
+        },
+        before: pick.before,
+    })
 }

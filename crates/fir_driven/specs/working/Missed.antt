@@ -1,6 +1,6 @@
 -- The outcomes of the choice that is told of a leaf: the first, in the order of the text, of those that leave it undriven.
 -- Each when and each statement through indices in turn takes the first outcome that can leave the leaf undriven: 0 before 1, and a miss before a hit.
-use Rattle.std.specs.Prelude.{ℕ, ◌+◌, List, [], ◌∷◌, ◌++◌, Bool, true, false, not, ◌&&◌, ◌||◌, nat_lt, if◌then◌else◌}
+use Rattle.std.specs.Prelude.{ℕ, ◌+◌, List, [], ◌∷◌, ◌++◌, true, false, not, ◌&&◌, ◌||◌, nat_lt, if◌then◌else◌}
 use Rattle.fir_ast.specs.declared.fault.Outcome.{Outcome}
 use Rattle.fir_ast.specs.declared.fault.Outcome.TheVariants as outcome
 use Rattle.fir_meaning.specs.TermReads.{reached, is_picked, is_among}

@@ -3,9 +3,10 @@ use Rattle.std.proofs.lemmas.Result.{on_ok_weaker}
 use Rattle.fir_ast.specs.View.{circuit_of}
 use Rattle.fir_meaning.specs.TypeLeaves.{leaf_count}
 use Rattle.fir_type_table.specs.working.Tables.{members_at, type_at, types_of}
+use Rattle.fir_width.specs.declared.counted.Counted.TheVariants.{Shared}
+use Rattle.fir_width.specs.working.CountedLeaves.{count_all}
 use Rattle.fir_leaf_table.specs.working.PushedTypeLeaves.{Pushes}
 use Rattle.fir_leaf_table.proofs.HeldLeaves.{pushes_async, pushes_clock, pushes_elements, pushes_none, pushes_reset}
-use Rattle.fir_leaf_table.proofs.MemberCounts.{shared_of}
 use Rattle.fir_leaf_table.proofs.PushedMembers.{leaves_within, members_begin, members_end, members_next, next_there}
 use Rattle.fir_leaf_table.proofs.push_leaves.+leaves.Goals as goal
 
@@ -68,7 +69,7 @@ push_members-loop-leaf-preserved t c =
     let own : c.leaves.result ≡ leaf_count (type_at ts f.ty.number) =
     omega (arith, c.leaves.ensures, within, ap leaf_count c.requires, c.leaves-count.ensures, c.if-count.false) in
     members_next circuit c.args.flip ts ms c.args.first c.args.leaves.now.items c.loop-leaf.leaf c.in_ok-behind.field-0
-    (c.loop-leaf.leaf + c.leaves.result) f now new at (c.in_ok-behind.ensures (shared_of ts at.at.before) at.shared_offset)
+    (c.loop-leaf.leaf + c.leaves.result) f now new at (c.in_ok-behind.ensures (count_all Shared ts at.at.before) at.shared_offset)
     (ap (λ n. c.loop-leaf.leaf + n) own) c.loop-leaf.invariant
     (subst (λ b. Pushes circuit b (type_at ts f.ty.number) c.in_ok-behind.field-0 now new) c.turned.ensures c.in_ok-push_type.ensures)
 
