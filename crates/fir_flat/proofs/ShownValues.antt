@@ -1,0 +1,155 @@
+-- What each leaf of a circuit shows is what its leaf in the flat net is worth, by their roles.
+use Rattle.std.proofs.Common.{◌≡◌, ℕ, ◌^◌, ◌<◌, List, [], ◌∷◌, Bool, true, false, ◌&&◌, if◌then◌else◌, Option, Some, None, slice_get, slice_index, inl, inr, refl, sym, ap, ◌∙◌, subst}
+use Rattle.fir_base.specs.Ticks.{HasShape, Tick}
+use Rattle.fir_bits.specs.Operators.{type_of}
+use Rattle.fir_bits.specs.declared.types.NumTy.{NumTy}
+use Rattle.fir_bits.specs.declared.values.Num.{Num}
+use Rattle.fir_meaning.specs.Eval as over
+use Rattle.fir_meaning.specs.LeafModules.{LeafReset, LeafType, a_clock, leaf_at, number, number_type}
+use Rattle.fir_meaning.specs.LeafModules as leafed
+use Rattle.fir_meaning.specs.TermValues.{Env, eval}
+use Rattle.fir_leaf.specs.working.LeafCircuits.{LeafCircuit, depth_of, role_of, type_of_leaf}
+use Rattle.fir_leaf.specs.working.LeafSettled.{number_shown, register_shown}
+use Rattle.fir_leaf.specs.working.LeafStates.{look}
+use Rattle.fir_leaf_types.specs.working.TypedModules.{IsRoleTyped, held_in}
+use Rattle.fir_net.specs.declared.leaf.Leaf.{Leaf}
+use Rattle.fir_net.specs.declared.leaf.Reset.{Reset}
+use Rattle.fir_net.specs.declared.leaf.Role.{Role}
+use Rattle.fir_net.specs.declared.net.FlatNet.{FlatNet}
+use Rattle.fir_net.specs.declared.node.Node.{Node}
+use Rattle.fir_net.specs.declared.reads.Read.{Read}
+use Rattle.fir_net.specs.working.IsNet.{CanBeReset, CanRead, IsRole}
+use Rattle.fir_net.specs.working.Settled.{inputs, is_clock, is_high, registers, shape, shown, shown_by, value_at}
+use Rattle.fir_net.specs.working.Values.{at_width, leaf_width}
+use Rattle.fir_net.proofs.LeafEquations.{driven_at, equation_at, role_value, value_equation}
+use Rattle.fir_net.proofs.Places.{place_of}
+use Rattle.fir_connect.specs.working.NetRoles.{NetReset, net_role, net_role_at, net_types}
+use Rattle.fir_connect.specs.working.NetTerms.{NetTerm}
+use Rattle.fir_connect.specs.working.NetValues.{term_value}
+use Rattle.fir_connect.specs.working.RoleLaws.{Gives, ResetGives, net_fitted}
+use Rattle.fir_connect.proofs.FittedTwice.{fitted_own}
+use Rattle.fir_connect.proofs.RoleValues.{roles_are_worth}
+use Rattle.fir_connect.proofs.TypedValues.{value_type}
+use Rattle.fir_flat.specs.working.FlatCircuits.{HasType, IsDrivenBy, IsResetOf, IsRoleOf, as_module, kind_of, stands_for}
+use Rattle.fir_flat.specs.working.FlatLaws.{IsFaithful}
+use Rattle.fir_flat.proofs.FlatLeaves.{holds_clock, kind_at, leaf_inside, type_at}
+use Rattle.fir_flat.proofs.LeafPlaces.{look_is}
+use Rattle.fir_flat.proofs.NodeValues.{AgreesWith, read_is_worth}
+
+-- values of a circuit's leaves within their widths, and values of a net's leaves that are the same where there is no clock
+pub record IsBeside (c : LeafCircuit) (net : FlatNet) (env : Env) (e : ℕ → ℕ) : Type 0 where
+  pub within : (x : ℕ) → env.numbers x < 2 ^ (type_of_leaf c x).width
+  pub values : (x : ℕ) (l : Leaf) → slice_get net.leaves x ≡ Some l → is_clock l.role ≡ false → e x ≡ env.numbers x
+
+driven_value : (net : FlatNet) (state : List ℕ) (tick : Tick) (e : ℕ → ℕ) (x w : ℕ) (y : Role) (r : Read) → IsDrivenBy y r
+    → role_value net state tick e x w y ≡ at_width (value_at net e r) w
+driven_value net state tick e x w y r (inl is) = ap (role_value net state tick e x w) is
+driven_value net state tick e x w y r (inr is) = ap (role_value net state tick e x w) is
+
+driven_can : (leaves : List Leaf) (nodes : List Node) (signed : Bool) (width : ℕ) (y : Role) (r : Read) → IsDrivenBy y r
+    → IsRole leaves nodes signed width y → CanRead leaves nodes r
+driven_can leaves nodes signed width y r (inl is) can = (subst (IsRole leaves nodes signed width) is can).can
+driven_can leaves nodes signed width y r (inr is) can = (subst (IsRole leaves nodes signed width) is can).can
+
+-- at its own width a value is its number
+own_number : (v : Num) (t : NumTy) (w : ℕ) → type_of v ≡ t → w ≡ t.width → at_width v w ≡ v.value.number
+own_number v t w of wide =
+    let same : w ≡ v.value.width = wide ∙ ap (λ (u : NumTy). u.width) (sym of) in
+    ap (at_width v) same ∙ fitted_own v.signed v.value.width v.value.number
+
+module _ (c : LeafCircuit) (net : FlatNet) (faithful : IsFaithful c net) (env : Env) (e : ℕ → ℕ) (beside : IsBeside c net env e) where
+  agrees : AgreesWith net.leaves e (type_of_leaf c) env.numbers
+  agrees = record { types = type_at c net faithful.flat; values = beside.values }
+
+  abbrev worth : NetTerm → Num
+  worth t = term_value (type_of_leaf c) env.numbers t
+
+  read_worth : (r : Read) (d : NetTerm) → CanRead net.leaves net.nodes r → stands_for net r ≡ d → value_at net e r ≡ worth d
+  read_worth r d can is = read_is_worth net e (type_of_leaf c) env.numbers faithful.whole agrees r can ∙ ap worth is
+
+  pub high_worth : (r : Read) (d : NetTerm) → CanRead net.leaves net.nodes r → stands_for net r ≡ d → is_high net e r ≡ over.is_high (worth d ∷ [])
+  high_worth r d can is = ap (λ (v : Num). over.is_high (v ∷ [])) (read_worth r d can is)
+
+  module _ (x : ℕ) (l : Leaf) (at : slice_get net.leaves x ≡ Some l) where
+    pub gives : Gives (as_module c) env.numbers env.clocks x (leaf_at c.leaves x).holds (role_of c x) (net_role_at (as_module c) x)
+    gives = roles_are_worth (as_module c) env.numbers env.clocks faithful.typed faithful.driven beside.within x (leaf_inside c net faithful.flat x l at)
+
+    module _ (wide : l.width ≡ (type_of_leaf c x).width) where
+      -- what a read gives to the leaf
+      pub given_worth : (r : Read) (d : NetTerm) → CanRead net.leaves net.nodes r → stands_for net r ≡ d
+          → net_fitted (as_module c) env.numbers env.clocks d x ≡ at_width (value_at net e r) l.width
+      given_worth r d can is = rw (read_worth r d can is, wide) refl
+
+      reset_shown : (word : ℕ) (r : LeafReset) (m : NetReset) (own : Reset) → ResetGives (as_module c) env.numbers env.clocks x (Some r) (Some m)
+          → IsResetOf net (Some own) (Some m) → CanBeReset net.leaves net.nodes l.signed (Some own)
+          → register_shown c env x (Some r) word ≡ shown_by net e l.width own.kind own.condition own.init word
+      reset_shown word r m own worths is can =
+          rw (
+            worths.0,
+            worths.1,
+            worths.2,
+            ← high_worth own.condition m.condition can.condition is.1,
+            given_worth own.init m.init can.init.can is.2,
+            is.0,
+          )
+          (either m.is_async)
+        where
+          either : (b : Bool) → (if b && is_high net e own.condition then at_width (value_at net e own.init) l.width else word)
+              ≡ shown_by net e l.width (kind_of b) own.condition own.init word
+          either true = refl
+          either false = refl
+
+      -- a register shows the same of the same word
+      pub word_shown : (word : ℕ) (reset : Option LeafReset) (m : Option NetReset) (own : Option Reset)
+          → ResetGives (as_module c) env.numbers env.clocks x reset m → IsResetOf net own m → CanBeReset net.leaves net.nodes l.signed own
+          → register_shown c env x reset word ≡ shown net e l.width own word
+      word_shown word None None None worths is can = refl
+      word_shown word (Some r) (Some m) (Some own) worths is can = reset_shown word r m own worths is can
+      word_shown word None (Some m) own worths is can = absurd worths
+      word_shown word (Some r) None own worths is can = absurd worths
+      word_shown word None None (Some own) worths is can = absurd is
+      word_shown word (Some r) (Some m) None worths is can = absurd is
+
+    module _ (state : List ℕ) (tick : Tick) (shaped : HasShape (shape net) state tick) where
+      input_looked : look c.inputs tick.inputs x ≡ slice_index tick.inputs (place_of x (inputs net))
+      input_looked =
+          ap (λ (ks : List ℕ). look ks tick.inputs x) (sym faithful.flat.inputs)
+          ∙ look_is (leaf_width net.leaves) (inputs net) tick.inputs shaped.inputs_fit x
+
+      pub word_looked : look c.words state x ≡ slice_index state (place_of x (registers net))
+      word_looked =
+          ap (λ (ks : List ℕ). look ks state x) (sym faithful.flat.words)
+          ∙ look_is (leaf_width net.leaves) (registers net) state shaped.state_fits x
+
+      module _ (y : Role) (can : IsRole net.leaves net.nodes l.signed l.width y) where
+        -- by what it holds and its role
+        shown_by_role : (h : LeafType) → (leaf_at c.leaves x).holds ≡ h → (r : leafed.Role)
+            → Gives (as_module c) env.numbers env.clocks x h r (net_role (net_types (as_module c)) (depth_of c x) c.body x r)
+            → IsRoleOf net y h (net_role (net_types (as_module c)) (depth_of c x) c.body x r) → HasType l h → IsRoleTyped (held_in (as_module c)) h r
+            → holds_clock h ≡ false → number_shown c state tick.inputs env x r ≡ Some (role_value net state tick e x l.width y)
+        shown_by_role a_clock held r worths is has typed plain = cc
+        shown_by_role (number t) held leafed.source worths is has typed plain = rw is (ap Some input_looked)
+        shown_by_role (number t) held leafed.sink worths is has typed plain =
+            let wide : l.width ≡ (type_of_leaf c x).width = has.1 ∙ ap (λ (h : LeafType). (number_type h).width) (sym held) in
+            worths
+            ∙ ap Some (given_worth wide is.0 _ (driven_can net.leaves net.nodes l.signed l.width y is.0 is.1 can) is.2
+            ∙ sym (driven_value net state tick e x l.width y is.0 is.1))
+        shown_by_role (number t) held (leafed.computed d) worths is has typed plain =
+            let value : value_at net e is.0 ≡ eval (type_of_leaf c) env.numbers d =
+            read_worth is.0 _ (driven_can net.leaves net.nodes l.signed l.width y is.0 (inr is.1) can) is.2 ∙ sym worths in
+            ap Some (sym (driven_value net state tick e x l.width y is.0 (inr is.1) ∙ ap (λ (v : Num). at_width v l.width) value
+            ∙ own_number (eval (type_of_leaf c) env.numbers d) t l.width (value_type (held_in (as_module c)) env.numbers d t typed) has.1))
+        shown_by_role (number t) held (leafed.register clock reset) worths is has typed plain =
+            let wide : l.width ≡ (type_of_leaf c x).width = has.1 ∙ ap (λ (h : LeafType). (number_type h).width) (sym held) in
+            let role_can = subst (IsRole net.leaves net.nodes l.signed l.width) is.3 can in
+            ap Some (word_shown wide (look c.words state x) reset _ is.1 worths.1 is.5 role_can.1 ∙ ap (shown net e l.width is.1) word_looked
+            ∙ sym (ap (role_value net state tick e x l.width) is.3))
+        shown_by_role (number t) held (leafed.reading r) worths is has typed plain = absurd is
+        shown_by_role (number t) held (leafed.pipe r clock under) worths is has typed plain = absurd is
+
+      pub number_shown_is : is_clock l.role ≡ false → number_shown c state tick.inputs env x (role_of c x) ≡ Some (value_equation net state tick e x)
+      number_shown_is plain =
+          shown_by_role l.role (driven_at net faithful.whole x l l.role at refl) (leaf_at c.leaves x).holds refl (role_of c x) gives
+          (faithful.flat.roles x l at) (faithful.flat.types x l at)
+          (faithful.typed.roles x (leaf_inside c net faithful.flat x l at)) (sym (kind_at c net faithful.flat x l at) ∙ plain)
+          ∙ ap Some (sym (equation_at net state tick e x l l.role at refl))

@@ -1,0 +1,3 @@
+-- What no clause of `run` reads yet: flat nets of circuits over their leaves.
+pub mod FlatCircuits
+pub mod FlatLaws

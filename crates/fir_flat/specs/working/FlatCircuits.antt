@@ -1,0 +1,72 @@
+-- A flat net of a circuit over its leaves (FIRRTL spec, "Ports", "Nodes", "Registers", "Connects"). Each leaf has its number and its type, and what gives it its
+-- value is a read that stands for the term of its role in a net. So far there are no memories, and the clocks are inputs.
+use Rattle.std.specs.Prelude.{◌≡◌, ◌⊎◌, ℕ, [], length, Bool, if◌then◌else◌, Option, Some, None, slice_get}
+use Rattle.fir_meaning.specs.LeafModules.{LeafModule, LeafType, a_clock, leaf_at, no_leaf, number}
+use Rattle.fir_leaf.specs.working.LeafCircuits.{LeafCircuit}
+use Rattle.fir_net.specs.declared.leaf.Leaf.{Leaf}
+use Rattle.fir_net.specs.declared.leaf.Reset.{Reset}
+use Rattle.fir_net.specs.declared.leaf.ResetKind.{ResetKind}
+use Rattle.fir_net.specs.declared.leaf.ResetKind.TheVariants.{Asynchronous, Synchronous}
+use Rattle.fir_net.specs.declared.leaf.Role.{Role}
+use Rattle.fir_net.specs.declared.leaf.Role.TheVariants as role
+use Rattle.fir_net.specs.declared.net.FlatNet.{FlatNet}
+use Rattle.fir_net.specs.declared.reads.Read.{Read}
+use Rattle.fir_net.specs.working.Settled.{clocks, inputs, outputs, registers}
+use Rattle.fir_connect.specs.working.NetRoles.{NetReset, NetRole, computed, driven, net_role_at, register, source}
+use Rattle.fir_connect.specs.working.NetTerms.{NetTerm, leaf}
+use Rattle.fir_merge.specs.working.NodeTerms.{read_term, terms}
+
+-- its leaves and statements as those of one module
+abbrev pub as_module : LeafCircuit → LeafModule
+as_module c = record {
+  named = record { place = no_leaf.place; name = [] };
+  declared = [];
+  port_leaves = 0;
+  leaves = c.leaves;
+  arrays = [];
+  memories = [];
+  body = c.body;
+}
+
+-- what a read of the net stands for
+abbrev pub stands_for : FlatNet → Read → NetTerm
+stands_for net r = read_term (terms net.nodes) r
+
+-- what drives an output or another leaf
+abbrev pub IsDrivenBy : Role → Read → Type 0
+IsDrivenBy x r = (x ≡ role.Output r) ⊎ (x ≡ role.Wire r)
+
+abbrev pub kind_of : Bool → ResetKind
+kind_of is_async = if is_async then Asynchronous else Synchronous
+
+abbrev pub IsResetOf : FlatNet → Option Reset → Option NetReset → Type 0
+IsResetOf net None None = Unit {0}
+IsResetOf net (Some r) (Some m) = (r.kind ≡ kind_of m.is_async) × (stands_for net r.condition ≡ m.condition) × (stands_for net r.init ≡ m.init)
+IsResetOf net _ _ = ⊥
+
+-- by what the leaf holds and by its role in a net
+abbrev pub IsRoleOf : FlatNet → Role → LeafType → NetRole → Type 0
+IsRoleOf net x (number t) source = x ≡ role.Input
+IsRoleOf net x a_clock source = x ≡ role.Clock
+IsRoleOf net x (number t) (driven d) = (r : Read) × IsDrivenBy x r × (stands_for net r ≡ d)
+IsRoleOf net x (number t) (computed d) = (r : Read) × (x ≡ role.Wire r) × (stands_for net r ≡ d)
+IsRoleOf net x (number t) (register c reset d) =
+    (clock : ℕ) × (own : Option Reset) × (next : Read) × (x ≡ role.Register (record { clock = clock; reset = own; next = Some next }))
+    × (c ≡ leaf clock) × IsResetOf net own reset × (stands_for net next ≡ d)
+IsRoleOf net x _ _ = ⊥
+
+abbrev pub HasType : Leaf → LeafType → Type 0
+HasType l (number t) = (l.signed ≡ t.signed) × (l.width ≡ t.width)
+HasType l a_clock = Unit {0}
+
+pub record IsFlatOf (c : LeafCircuit) (net : FlatNet) : Type 0 where
+  pub count : length net.leaves ≡ length c.leaves
+  pub types : (x : ℕ) (l : Leaf) → slice_get net.leaves x ≡ Some l → HasType l (leaf_at c.leaves x).holds
+  pub roles : (x : ℕ) (l : Leaf) → slice_get net.leaves x ≡ Some l → IsRoleOf net l.role (leaf_at c.leaves x).holds (net_role_at (as_module c) x)
+  -- the same ports and state
+  pub inputs : inputs net ≡ c.inputs
+  pub clock_inputs : clocks net ≡ c.clock_inputs
+  pub outputs : outputs net ≡ c.outputs
+  pub no_clock_outputs : c.clock_outputs ≡ []
+  pub words : registers net ≡ c.words
+  pub no_arrays : c.array_order ≡ []

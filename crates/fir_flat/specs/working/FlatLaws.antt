@@ -1,0 +1,27 @@
+-- A flat net means what its circuit means.
+use Rattle.std.specs.Prelude.{◌↔◌, ℕ, List, []}
+use Rattle.fir_base.specs.Ticks.{Tick}
+use Rattle.fir_meaning.specs.UndrivenLeaves.{AreDriven}
+use Rattle.fir_leaf.specs.working.LeafAllows as leafed
+use Rattle.fir_leaf.specs.working.LeafCircuits.{LeafCircuit}
+use Rattle.fir_leaf_types.specs.working.TypedModules.{IsModuleTyped}
+use Rattle.fir_net.specs.declared.net.FlatNet.{FlatNet}
+use Rattle.fir_net.specs.working.Allows.{Allows}
+use Rattle.fir_net.specs.working.IsNet.{IsNet}
+use Rattle.fir_net.specs.working.One.{One}
+use Rattle.fir_flat.specs.working.FlatCircuits.{IsFlatOf, as_module}
+
+-- a whole net of a circuit that has types and in which each leaf is driven that statements must drive
+pub record IsFaithful (c : LeafCircuit) (net : FlatNet) : Type 0 where
+  pub whole : IsNet net
+  pub flat : IsFlatOf c net
+  pub typed : IsModuleTyped (as_module c)
+  pub driven : AreDriven (as_module c)
+
+abbrev pub AllowsTheSame : Type 0
+AllowsTheSame =
+    (c : LeafCircuit) (net : FlatNet) → IsFaithful c net → (state : List ℕ) (tick : Tick) (shown after : List ℕ)
+    → leafed.Allows c state tick shown [] after ↔ Allows net state tick shown after
+
+abbrev pub HasOneWhere : Type 0
+HasOneWhere = (c : LeafCircuit) (net : FlatNet) → IsFaithful c net → leafed.One c ↔ One net

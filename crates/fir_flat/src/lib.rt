@@ -1,0 +1,9 @@
+//! The flat net of a circuit over its ground leaves: in the place of statements and expressions stand nodes, and each
+//! leaf keeps its number (FIRRTL spec, "Circuits", "Last Connect Semantics"). Here are what such a net is, and laws
+//! about it, each the contract of a function that does nothing: it allows what the circuit allows, at every state and
+//! tick.
+#![tactic(auto)]
+
+mod laws;
+
+pub use laws::{flat_nets_allow_the_same, flat_nets_have_one};
