@@ -217,6 +217,24 @@ def chains_of_255_else_whens(count):
     return HEAD_OF_ONE_BIT + "    output o : UInt<1>\n" + chain * count
 
 
+def driven_leaves_under_whens(count):
+    """The same leaves, driven before, so that each when chooses for each of them."""
+    head, whens = leaves_under_whens(count).split("    when", 1)
+    return head + "    o is invalid\n    when" + whens
+
+
+def whens_behind_a_connect(count):
+    """The same whens, behind a connect of the leaf."""
+    head, whens = whens_in_a_row(count).split("    when", 1)
+    return head + "    o <= a\n    when" + whens
+
+
+def chains_of_255_else_whens_behind_a_connect(count):
+    """The same chains, behind a connect of the leaf."""
+    head, whens = chains_of_255_else_whens(count).split("    when", 1)
+    return head + "    o <= a\n    when" + whens
+
+
 def picks_of_1000_elements(count):
     """So many connects, each to an element that an index picks, and one to all before."""
     head = HEAD_OF_ONE_BIT + "    output v : UInt<1>[1000]\n    v is invalid\n"
@@ -257,10 +275,12 @@ COUNTED = {
     # two and four million leaves
     (20000, 40000): (connects_of_100_fields, nodes_of_100_fields),
     (10000, 20000): (leaves_under_whens,),
-    (50000, 100000): (whens_in_a_row,),
-    (200, 400): (chains_of_255_else_whens,),
-    # two and four million drivings
-    (2000, 4000): (picks_of_1000_elements,),
+    # half a million muxes, and twice as many
+    (2000, 4000): (driven_leaves_under_whens,),
+    (50000, 100000): (whens_in_a_row, whens_behind_a_connect),
+    (200, 400): (chains_of_255_else_whens, chains_of_255_else_whens_behind_a_connect),
+    # one and two million drivings
+    (1000, 2000): (picks_of_1000_elements,),
 }
 SHAPES = (blank_lines, one_comment, chain_of_nodes, one_information, one_long_name,
           one_long_name_used_many_times, skips, connects, many_ports, chain_of_registers, dots,

@@ -33,7 +33,7 @@ use fir_net::FlatNet;
 use fir_parse::parse;
 use fir_sim::shape;
 use fir_types::{Typed, check};
-use fir_whens::check_driven;
+use fir_whens::{NetCircuit, lower_whens};
 use fir_width::{Fitted, infer};
 use std::alloc::Global;
 use trace_text::Shape;
@@ -107,16 +107,16 @@ fn read_leaves(alloc: Global, bytes: &[u8]) -> Result<LeafCircuit, Refused<FirFa
     }
 }
 
-/// The tree of the text, over its ground leaves, of which each is driven under every choice; or its first fault,
-/// of the text or of its circuit.
-fn read_driven(alloc: Global, bytes: &[u8]) -> Result<LeafCircuit, Refused<FirFault>>
+/// The tree of the text with the nets of its modules, in which each leaf is driven under every choice; or its first
+/// fault, of the text or of its circuit.
+fn read_nets(alloc: Global, bytes: &[u8]) -> Result<NetCircuit, Refused<FirFault>>
     requires { length bytes.now ≤ 16777216 }
     ensures { IsCheckedTree 9 bytes.now result }
 {
     let leaves = read_leaves(alloc, bytes)?;
-    match check_driven(alloc, &leaves) {
-        Ok(()) => Ok(leaves),
-        Err(Refused::Fault(fault)) => Err(Refused::Fault(fault)),
+    match lower_whens(alloc, leaves) {
+        Ok(nets) => Ok(nets),
+        Err(Refused::Fault((fault, _leaves))) => Err(Refused::Fault(fault)),
         Err(Refused::Memory) => Err(Refused::Memory),
     }
 }
@@ -139,7 +139,8 @@ pub fn read_circuit(alloc: Global, bytes: &[u8]) -> Result<Named, Refused<FirFau
     ensures faultless { IfOk result (λ n. Faultless (circuit_of n)) }
 {
     taken_is_faultless();
-    let leaves = read_driven(alloc, bytes)?;
+    let nets = read_nets(alloc, bytes)?;
+    let leaves = nets.into_leafed();
     // Its modules have scenes, over which the law speaks.
     let _modules = leaves.modules();
     let named = leaves.into_fitted().into_typed().into_named();

@@ -6,3 +6,6 @@ pub mod KeptValues
 pub mod SettledValues
 pub mod NextStates
 pub mod FlatMeaning
+pub mod SameNumbers
+pub mod WalkedWords
+pub mod LoneModules

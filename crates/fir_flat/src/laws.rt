@@ -1,6 +1,7 @@
 //! Laws about flat nets, each the contract of a function that does nothing.
 
 ghost use Rattle.fir_flat.specs.working.FlatLaws.{AllowsTheSame, HasOneWhere};
+ghost use Rattle.fir_flat.specs.working.LoneModules.{LoneIsItself};
 
 use fir_bits::laws::has_its_type;
 
@@ -18,3 +19,9 @@ pub fn flat_nets_have_one()
 {
     has_its_type()
 }
+
+/// The circuit of a design without instances and memories has the leaves and the statements of its module, in their
+/// order (FIRRTL spec, "Modules").
+pub fn lone_modules_are_themselves()
+    ensures { LoneIsItself }
+{}

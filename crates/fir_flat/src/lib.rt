@@ -6,4 +6,4 @@
 
 mod laws;
 
-pub use laws::{flat_nets_allow_the_same, flat_nets_have_one};
+pub use laws::{flat_nets_allow_the_same, flat_nets_have_one, lone_modules_are_themselves};

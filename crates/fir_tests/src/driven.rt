@@ -27,7 +27,7 @@ const UNDRIVEN: &[u8] = b"circuit T :
       o.y <= c
 ";
 
-fn leaves(alloc: Global, text: &[u8]) -> Result<LeafCircuit, Fail> {
+pub fn leaves(alloc: Global, text: &[u8]) -> Result<LeafCircuit, Fail> {
     let Ok(fitted) = infer(alloc, typed(alloc, text)?) else {
         return Err(Fail::from("the circuit has its widths"));
     };

@@ -13,3 +13,8 @@ pub mod DeclaredTexts
 pub mod SeenNumbers
 pub mod LeafTexts
 pub mod SinksOfCode
+pub mod ReadRoles
+pub mod TypedScenes
+pub mod ModuleRoles
+pub mod NetsOfCircuits
+pub mod LoweredCircuits

@@ -58,7 +58,7 @@ sink_seen nodes (role.Register clock reset) = refl
 sink_seen nodes (role.Reading r) = refl
 sink_seen nodes (role.Pipe r clock under) = refl
 
-depth_seen : (nodes : List Node) (ls : List Leaf) (x : ℕ) → slice_index_or (map (λ (l : Leaf). l.depth) ls) x 0 ≡ (leaf_at (leaves_seen nodes ls) x).depth
+pub depth_seen : (nodes : List Node) (ls : List Leaf) (x : ℕ) → slice_index_or (map (λ (l : Leaf). l.depth) ls) x 0 ≡ (leaf_at (leaves_seen nodes ls) x).depth
 depth_seen nodes [] x = refl
 depth_seen nodes (l ∷ ls) zero = refl
 depth_seen nodes (l ∷ ls) (suc x) = depth_seen nodes ls x

@@ -15,7 +15,7 @@ use Rattle.fir_meaning.specs.SourceMeaning.{circuit_meaning}
 use Rattle.fir_meaning.specs.UndrivenGroup.{IsShown, IsTold, undriven_group}
 use Rattle.fir_meaning.specs.UndrivenLeaves.{AreDriven}
 use Rattle.fir_meaning.proofs.KeptTrees.{first_at}
-use Rattle.fir_whens.specs.working.ModuleFaults.{IsFirstOf}
+use Rattle.fir_whens.specs.working.ModuleFaults.{AreAllDriven, IsFirstOf}
 
 -- a number of a numbered module is that of a module
 numbered_within : (modules : List ModuleTree) (numbers : Numbering) (ms : List ModuleTree) (k : ℕ) (m : NumberedModule)
@@ -43,6 +43,9 @@ module _ (c : CircuitTree) where
   all_clear driven f shown =
       driven shown.module_number shown.stands.scene (scene_within shown.module_number shown.stands.scene shown.stands.is_scene) shown.stands.is_scene
       shown.leaf shown.stands.shows.within shown.stands.shows.is_sink shown.stands.shows.first.choice shown.stands.shows.first.undriven
+
+  pub all_driven : ModulesDriven (length c.modules) → AreAllDriven c
+  all_driven driven k s scene = driven k s (scene_within k s scene) scene
 
   pub first_fault : (k : ℕ) (f : FirFault) → ModulesDriven k → IsFirstOf c k f → IsFirst 9 9 (circuit_meaning c) (fault_of f)
   unfolding circuit_meaning

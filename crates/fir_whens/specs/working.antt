@@ -4,3 +4,7 @@ pub mod CoveredModules
 pub mod DeclaredNames
 pub mod TypePaths
 pub mod DeclaredLeaves
+-- The nets of modules.
+pub mod StandingRoles
+pub mod ModuleNets
+pub mod NetCircuits

@@ -7,6 +7,7 @@ ghost use Rattle.fir_pass.specs.Groups.{IsClear};
 ghost use Rattle.fir_pass.specs.Law.{IfFault, IsFirst};
 ghost use Rattle.fir_meaning.specs.SourceMeaning.{circuit_meaning};
 ghost use Rattle.fir_meaning.specs.UndrivenGroup.{undriven_group};
+ghost use Rattle.fir_whens.specs.working.ModuleFaults.{AreAllDriven};
 
 use crate::module::undriven_leaf;
 use fir_ast::FirFault;
@@ -18,6 +19,7 @@ use std::alloc::Global;
 /// the modules and of their leaves, with the first such choice.
 pub fn check_driven(alloc: Global, circuit: &LeafCircuit) -> Result<(), Refused<FirFault>>
     ensures clear { IfOk result (λ u. IsClear (undriven_group (circuit_of circuit.now))) }
+    ensures driven { IfOk result (λ u. AreAllDriven (circuit_of circuit.now)) }
     ensures fault { IfFault result (λ f. IsFirst 9 9 (circuit_meaning (circuit_of circuit.now)) (fault_of f)) }
 {
     for module_number in 0..circuit.modules().len() {

@@ -1,6 +1,7 @@
-//! Whens and the last connect. In comes a circuit over its ground leaves; out comes, so far, whether every leaf that
-//! statements must drive is driven under every choice, or the first that is not: E24 (FIRRTL spec, "Initialization
-//! of Components", "Conditional Last Connect Semantics").
+//! Whens and the last connect. In comes a circuit over its ground leaves; out comes one with a net for each module, in
+//! which every leaf that statements drive has one driver (`lower_whens`; fir_merge, fir_drivers), or the first leaf
+//! that some choice leaves undriven: E24 (FIRRTL spec, "Initialization of Components", "Conditional Last Connect
+//! Semantics").
 #![tactic(auto)]
 
 mod declared_leaf;
@@ -8,7 +9,18 @@ mod declared_name;
 mod driven;
 mod leaf_step;
 mod leaf_text;
+mod lowered;
 mod module;
+mod module_net;
+mod net_circuit;
+mod net_role;
+mod pass;
 mod type_path;
+mod typed_modules;
 
 pub use driven::check_driven;
+pub use lowered::lower_whens;
+pub use module_net::ModuleNet;
+pub use net_circuit::NetCircuit;
+pub use net_role::{NetReset, NetRole};
+pub use pass::LowerWhens;

@@ -51,7 +51,7 @@ fn first_not_covered(alloc: Global, part: &LeafModule) -> Result<Option<usize>, 
 }
 
 /// How many whens stand round the declaration of each leaf.
-fn depths_of(alloc: Global, part: &LeafModule) -> Result<Vec<usize>, MemoryOut>
+pub fn depths_of(alloc: Global, part: &LeafModule) -> Result<Vec<usize>, MemoryOut>
     ensures { IfOk result (λ depths. depths.items ≡ depths_of part.now) }
 {
     let mut depths = Vec::new(alloc);

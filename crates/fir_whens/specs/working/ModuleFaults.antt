@@ -19,6 +19,10 @@ abbrev pub IsFoundOf : CircuitTree → ℕ → Option FirFault → Type 0
 IsFoundOf c module_number None = (s : Scene) → IsSceneOf c module_number s → AreDriven (leafed_module s)
 IsFoundOf c module_number (Some f) = IsFirstOf c module_number f
 
+-- in no module is a leaf left undriven that statements must drive
+abbrev pub AreAllDriven : CircuitTree → Type 0
+AreAllDriven c = (module_number : ℕ) (s : Scene) → IsSceneOf c module_number s → AreDriven (leafed_module s)
+
 -- the text is that of the path of the leaf of a number
 abbrev pub IsTextOf : CircuitTree → ℕ → ℕ → List ℕ → Type 0
 IsTextOf c module_number leaf text =

@@ -1,7 +1,7 @@
 use Rattle.std.proofs.Common.{◌≡◌, ◌≤◌, length, arith, subst, ◌∙◌}
 use Rattle.fir_ast.specs.View.{circuit_of}
 use Rattle.fir_whens.specs.working.ModuleFaults.{IsFoundOf}
-use Rattle.fir_whens.proofs.UndrivenCircuits.{ModulesDriven, all_clear, first_fault, one_more}
+use Rattle.fir_whens.proofs.UndrivenCircuits.{ModulesDriven, all_clear, all_driven, first_fault, one_more}
 use Rattle.fir_whens.proofs.driven.check_driven.Goals as goal
 
 pub returns-in-Some-clause-fault : goal.returns-in-Some-clause-fault
@@ -24,3 +24,12 @@ returns-clause-clear c =
     let high : length modules ≤ c.loop-module_number.module_number = c.loop-module_number-test.false in
     let all : c.loop-module_number.module_number ≡ length modules = omega (arith, low, high) in
     all_clear tree (subst (λ n. ModulesDriven tree n) (all ∙ c.modules-module_number-end.ensures.leafed.count) c.loop-module_number.invariant)
+
+pub returns-clause-driven : goal.returns-clause-driven
+returns-clause-driven c =
+    let tree = circuit_of c.args.circuit.now in
+    let modules = c.modules-module_number-end.result.now in
+    let low : c.loop-module_number.module_number ≤ length modules = c.loop-module_number.auto.module_number-end in
+    let high : length modules ≤ c.loop-module_number.module_number = c.loop-module_number-test.false in
+    let all : c.loop-module_number.module_number ≡ length modules = omega (arith, low, high) in
+    all_driven tree (subst (λ n. ModulesDriven tree n) (all ∙ c.modules-module_number-end.ensures.leafed.count) c.loop-module_number.invariant)

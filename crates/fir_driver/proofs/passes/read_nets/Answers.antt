@@ -1,9 +1,10 @@
 use Rattle.fir_ast.specs.View.{circuit_of}
 use Rattle.fir_driver.proofs.CheckedTrees.{all_driven, not_driven}
-use Rattle.fir_driver.proofs.passes.read_driven.Goals as goal
+use Rattle.fir_driver.proofs.passes.read_nets.Goals as goal
 
 pub returns-in-Ok : goal.returns-in-Ok
-returns-in-Ok c = all_driven c.args.bytes.now (circuit_of c.in_ok-leaves.leaves) c.in_ok-leaves.ensures c.in-Ok.ensures.clear
+returns-in-Ok c =
+    rw c.in-Ok.ensures.tree (all_driven c.args.bytes.now (circuit_of c.in_ok-leaves.leaves) c.in_ok-leaves.ensures c.in-Ok.ensures.clear)
 
 pub returns-in-Err-Fault : goal.returns-in-Err-Fault
 returns-in-Err-Fault c =

@@ -1,0 +1,8 @@
+use Rattle.std.proofs.Common.{subst}
+use Rattle.fir_ast.specs.View.{circuit_of}
+use Rattle.fir_pass.specs.Groups.{IsClear}
+use Rattle.fir_meaning.specs.UndrivenGroup.{undriven_group}
+use Rattle.fir_whens.proofs.net_circuit.NetCircuit.leafed.Goals as goal
+
+pub returns-clause-clear : goal.returns-clause-clear
+returns-clause-clear c = subst (λ t. IsClear (undriven_group (circuit_of t))) c.self.view_is c.self.invariant.0

@@ -1,0 +1,47 @@
+//! The pass to nets.
+
+ghost use Rattle.std.specs.Prelude.{◌≡◌};
+ghost use Rattle.fir_pass.specs.Faults.{fault_of};
+
+use crate::lowered::lower_whens;
+use crate::net_circuit::NetCircuit;
+use fir_ast::FirFault;
+use fir_base::Refused;
+use fir_expand::LeafCircuit;
+use fir_pass::{Meant, Pass};
+use std::alloc::Global;
+
+impl Meant for NetCircuit {
+    ghost use Rattle.fir_ast.specs.View.{circuit_of};
+    ghost use Rattle.fir_meaning.specs.SourceMeaning.{circuit_meaning};
+
+    ghost meaning = { λ n. circuit_meaning (circuit_of n) };
+}
+
+/// Puts nets in the place of statements: the fault of the ninth group, E24.
+#[derive(Drop)]
+pub struct LowerWhens;
+
+impl Pass for LowerWhens {
+    type In = LeafCircuit;
+
+    type Out = NetCircuit;
+
+    type Fault = (FirFault, LeafCircuit);
+
+    ghost from = { 9 };
+
+    ghost upto = { 9 };
+
+    ghost told = { λ f. fault_of f.0 };
+
+    ghost hands_back = { λ x f. f.1 ≡ x };
+
+    fn run(
+        &self,
+        alloc: Global,
+        x: LeafCircuit,
+    ) -> Result<NetCircuit, Refused<(FirFault, LeafCircuit)>> {
+        lower_whens(alloc, x)
+    }
+}
