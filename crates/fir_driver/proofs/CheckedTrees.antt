@@ -1,13 +1,12 @@
 -- What is said of a text that spells a tree behind each check of the tree: its groups are clear, or a fault of theirs is the first.
 use Rattle.std.proofs.Common.{◌≡◌, ℕ, List, [], Err, inr, arith}
-use Rattle.fir_base.specs.declared.refused.Refused.{Refused}
-use Rattle.fir_base.specs.declared.refused.Refused.TheVariants.{Fault, Memory}
+use Rattle.fir_base.specs.declared.refused.Refused.TheVariants.{Fault}
 use Rattle.fir_ast.specs.declared.fault.FirFault.{FirFault}
 use Rattle.fir_ast.specs.Circuits.{CircuitTree}
 use Rattle.fir_parse.specs.Spells.{Spells}
 use Rattle.fir_pass.specs.Faults.{fault_of}
 use Rattle.fir_pass.specs.Groups.{IsClear}
-use Rattle.fir_pass.specs.Law.{IsFirst, IfFaulty}
+use Rattle.fir_pass.specs.Law.{IsFirst}
 use Rattle.fir_meaning.specs.NameGroups.{HasNames}
 use Rattle.fir_meaning.specs.TypeGroup.{type_faults}
 use Rattle.fir_meaning.specs.WidthGroups.{IsInferred}

@@ -10,6 +10,8 @@ pub mod StatementsKeepWords
 pub mod CircuitWords
 pub mod FrontWords
 pub mod LexedWords
+pub mod KeptShapes
+pub mod AllRuns
 pub mod Compiles
 pub mod Emitted
 pub mod Refused

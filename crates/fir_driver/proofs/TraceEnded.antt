@@ -54,8 +54,8 @@ module _ (trace : List ℕ) (net : FlatNet) (s : TraceShape) (with_state : Bool)
 
   -- the output failed
   unwritten_said : (ending : Status) → Lined trace net s with_state out out' finish.Unwritten → Said unwritten_line status.Unwritten err err' ending → Ends ending
-  unwritten_said ending h (inl p) = subst Ends (sym p.0) (inl ((h.0, h.1, h.3), h.2, whole_front err err' unwritten_line p.1))
-  unwritten_said ending h (inr (inl p)) = subst Ends (sym p.0) (inl ((h.0, h.1, h.3), h.2, p.2))
+  unwritten_said ending h (inl p) = subst Ends (sym p.0) (inl ((h.0, h.1, h.3), h.2, inl p.1))
+  unwritten_said ending h (inr (inl p)) = subst Ends (sym p.0) (inl ((h.0, h.1, h.3), h.2, inr (p.1, p.2)))
   unwritten_said ending h (inr (inr p)) = subst Ends (sym p.0) (inr (h.0, h.1, h.3), inr p.1)
 
   -- a bad line ended the ticks

@@ -1,3 +1,4 @@
+pub mod Runs
 pub mod Compiles
 pub mod Command
 pub mod Messages

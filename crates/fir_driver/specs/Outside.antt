@@ -52,15 +52,19 @@ Kept old new = Grew old new []
 abbrev pub GrewByFront : SinkSeen → SinkSeen → List ℕ → Type 0
 GrewByFront old new piece = (front : List ℕ) × (back : List ℕ) × (piece ≡ front ++ back) × Grew old new front
 
+-- a piece was put to a sink: it grew by all of it, or it failed in the call and grew by a front
+abbrev pub Tried : SinkSeen → SinkSeen → List ℕ → Type 0
+Tried old new piece = Grew old new piece ⊎ (Rose old.faults new.faults × GrewByFront old new piece)
+
 -- no count of faults rose in the call
 pub record NoneFailed (before after : Outside) : Type 0 where
   pub files : Rose before.files.faults after.files.faults → ⊥
   pub out : Rose before.out.faults after.out.faults → ⊥
   pub err : Rose before.err.faults after.err.faults → ⊥
 
--- the output failed where the command had come so far, and the line on it was tried once on the error output
+-- the output failed where the command had come so far, and the line on it was tried on the error output
 abbrev pub OutFailed : Type 0 → Outside → Outside → Type 0
-OutFailed Came before after = Came × Rose before.out.faults after.out.faults × GrewByFront before.err after.err unwritten_line
+OutFailed Came before after = Came × Rose before.out.faults after.out.faults × Tried before.err after.err unwritten_line
 
 -- the error output failed while a line was put that was due
 abbrev pub ErrFailed : (List ℕ → Type 0) → Outside → Outside → Type 0

@@ -2,8 +2,8 @@
 //! ask for: `emit` the Verilog of a circuit, or a `simulation` of it on a trace, or says why not. Both go the way of
 //! `passes`, which reads as their list. A simulation is then run by `runner`, tick by tick, and printed by `lines`.
 //! `run` carries the theorem from the bytes of the files to the bytes that are written (`specs/`: Command, Outside;
-//! Compiles, CircuitFaults, Emits, Refusals, EmitsFile and EmitAnswers for `emit`; Traces, Simulations, Simulates and
-//! SimulationAnswers for `sim`; and Program, which joins them).
+//! Runs, Compiles, CircuitFaults, Emits, Refusals, EmitsFile and EmitAnswers for `emit`; Traces, Simulations,
+//! Simulates and SimulationAnswers for `sim`; and Program, which joins them).
 #![tactic(auto)]
 
 mod command;

@@ -30,6 +30,7 @@ use fir_lower::lower;
 use fir_meaning::{faultless_has_one, faultless_runs_once};
 use fir_names::{Named, resolve};
 use fir_net::FlatNet;
+use fir_net::laws::nodes_have_their_types;
 use fir_parse::parse;
 use fir_sim::shape;
 use fir_types::{Typed, check};
@@ -185,6 +186,8 @@ pub fn compile(alloc: Global, c: &Circuit) -> Result<Verilog, MemoryOut>
     ensures { IfOk result (λ v. Compiles (circuit_of c.now) v) }
 {
     faultless_has_one();
+    faultless_runs_once();
+    nodes_have_their_types();
     let ordered = ordered_net(alloc, c)?;
     build(alloc, &ordered.net, &ordered.order)
 }

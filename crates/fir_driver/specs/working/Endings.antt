@@ -6,7 +6,7 @@ use Rattle.fir_io.specs.declared.ports.FileFault.TheVariants as file
 use Rattle.fir_io.specs.Ports.{SinkSeen, Rose, Grew}
 use Rattle.fir_driver.specs.declared.status.Status.{Status}
 use Rattle.fir_driver.specs.declared.status.Status.TheVariants as status
-use Rattle.fir_driver.specs.Outside.{Kept, GrewByFront}
+use Rattle.fir_driver.specs.Outside.{Kept, GrewByFront, Tried}
 use Rattle.fir_driver.specs.Messages.{unread_line, too_long_line, unwritten_line, memory_line}
 use Rattle.fir_driver.specs.Emits.{Emits}
 use Rattle.fir_driver.specs.Refusals.{Refuses}
@@ -32,7 +32,7 @@ Untaken name file.Memory old new ending = Said memory_line status.NoMemory old n
 abbrev pub Written : List ℕ → SinkSeen → SinkSeen → SinkSeen → SinkSeen → Status → Type 0
 Written text out out' err err' status.Done = Grew out out' text × (err' ≡ err)
 Written text out out' err err' status.Unwritten =
-    (Rose out.faults out'.faults × GrewByFront out out' text × GrewByFront err err' unwritten_line)
+    (Rose out.faults out'.faults × GrewByFront out out' text × Tried err err' unwritten_line)
     ⊎ (Kept out out' × Rose err.faults err'.faults × GrewByFront err err' memory_line)
 Written text out out' err err' status.NoMemory = (Kept out out' ⊎ GrewByFront out out' text) × (Grew err err' memory_line ⊎ Kept err err')
 Written text out out' err err' other = ⊥
@@ -42,7 +42,7 @@ abbrev pub Emitted : List ℕ → SinkSeen → SinkSeen → SinkSeen → SinkSee
 Emitted bytes out out' err err' status.Done = (text : List ℕ) × Emits bytes text × Grew out out' text × (err' ≡ err)
 Emitted bytes out out' err err' status.Refused = (line : List ℕ) × Refuses bytes line × (out' ≡ out) × Grew err err' line
 Emitted bytes out out' err err' status.Unwritten =
-    ((text : List ℕ) × Emits bytes text × Rose out.faults out'.faults × GrewByFront out out' text × GrewByFront err err' unwritten_line)
+    ((text : List ℕ) × Emits bytes text × Rose out.faults out'.faults × GrewByFront out out' text × Tried err err' unwritten_line)
     ⊎ (Kept out out' × Rose err.faults err'.faults × (GrewByFront err err' memory_line ⊎ ((line : List ℕ) × Refuses bytes line × GrewByFront err err' line)))
 Emitted bytes out out' err err' status.NoMemory =
     (Kept out out' ⊎ ((text : List ℕ) × Emits bytes text × GrewByFront out out' text)) × (Grew err err' memory_line ⊎ Kept err err')

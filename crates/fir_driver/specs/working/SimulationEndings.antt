@@ -13,7 +13,7 @@ use Rattle.fir_driver.specs.declared.lines.Finish.{Finish}
 use Rattle.fir_driver.specs.declared.lines.Finish.TheVariants as finish
 use Rattle.fir_driver.specs.Messages.{unread_line, too_long_line, unwritten_line, memory_line}
 use Rattle.fir_driver.specs.Refusals.{Refuses}
-use Rattle.fir_driver.specs.Outside.{IsRead, Outside, limit, Kept, GrewByFront}
+use Rattle.fir_driver.specs.Outside.{IsRead, Outside, limit, Kept, GrewByFront, Tried}
 use Rattle.fir_driver.specs.working.Endings.{Said, Complained}
 use Rattle.fir_driver.specs.Simulations.{SaysBadly, SaysFront}
 use Rattle.fir_driver.specs.working.Running.{Ran}
@@ -41,7 +41,7 @@ OfTrace trace net s with_state out out' err err' status.Done =
     (printed : List ℕ) × Ran net s with_state (TraceSpells trace) printed × Grew out out' printed × (err' ≡ err)
 OfTrace trace net s with_state out out' err err' status.BadTrace = (line : List ℕ) × MetBadly trace net s with_state out out' line × Grew err err' line
 OfTrace trace net s with_state out out' err err' status.Unwritten =
-    (BeganLines trace net s with_state out out' × Rose out.faults out'.faults × GrewByFront err err' unwritten_line)
+    (BeganLines trace net s with_state out out' × Rose out.faults out'.faults × Tried err err' unwritten_line)
     ⊎ ((line : List ℕ) × Rose err.faults err'.faults × GrewByFront err err' line
     × (MetBadly trace net s with_state out out' line ⊎ ((line ≡ memory_line) × (Kept out out' ⊎ BeganLines trace net s with_state out out'))))
 OfTrace trace net s with_state out out' err err' status.NoMemory =

@@ -1,0 +1,86 @@
+-- The state after a tick has the net's shape.
+use Rattle.std.proofs.Common.{◌≡◌, ℕ, ◌^◌, ◌<◌, List, [], ◌∷◌, map, Bool, true, false, Option, Some, None, if◌then◌else◌, refl, sym, subst, inl, inr}
+use Rattle.std.specs.Prelude.{unwrap_or, option_map}
+use Rattle.fir_base.specs.Lists.{In}
+use Rattle.fir_base.specs.Ticks.{Tick, FitEach}
+use Rattle.fir_base.proofs.Elements.{number_of, all_there}
+use Rattle.fir_net.specs.declared.reads.Read.{Read}
+use Rattle.fir_net.specs.declared.leaf.ResetKind.{ResetKind}
+use Rattle.fir_net.specs.declared.leaf.ResetKind.TheVariants.{Synchronous, Asynchronous}
+use Rattle.fir_net.specs.declared.leaf.Reset.{Reset}
+use Rattle.fir_net.specs.declared.leaf.Role.{Role}
+use Rattle.fir_net.specs.declared.leaf.Role.TheVariants as role
+use Rattle.fir_net.specs.declared.leaf.Leaf.{Leaf}
+use Rattle.fir_net.specs.declared.net.FlatNet.{FlatNet}
+use Rattle.fir_net.specs.working.IsNet.{CanRead, CanBeDriven, CanBeReset, IsRole, IsLeaf, IsNet}
+use Rattle.fir_net.specs.working.Laws.{LeavesFit, NodesHaveTheirTypes}
+use Rattle.fir_net.specs.working.Next.{taken, taken_under, taken_with, ticks, next_by, next_of, next_word, next}
+use Rattle.fir_net.specs.working.Settled.{Settled, shape, registers, register_number, value_at, is_high, is_clock}
+use Rattle.fir_net.specs.working.Values.{at_width, leaf_width}
+use Rattle.fir_net.proofs.NumberedLeaves.{registers_own, leaf_at}
+use Rattle.fir_net.proofs.WholeValues.{fit_below}
+
+-- where each value fits, all do
+fit_map : (w v : ℕ → ℕ) (ks : List ℕ) → ((k : ℕ) → In ks k → v k < 2 ^ w k) → FitEach (map w ks) (map v ks)
+fit_map w v [] h = tt
+fit_map w v (k ∷ ks) h = (h k (inl refl), fit_map w v ks (λ j m. h j (inr m)))
+
+either : (b : Bool) (x y n : ℕ) → x < n → y < n → (if b then x else y) < n
+either true x y n h k = h
+either false x y n h k = k
+
+-- a leaf that gives its number as a register is no clock
+no_clock : (r : Role) (w k : ℕ) → register_number r w k ≡ k ∷ [] → is_clock r ≡ false
+no_clock role.Input w k e = refl
+no_clock role.Clock w k e = cc
+no_clock (role.Output r) w k e = refl
+no_clock (role.Wire r) w k e = refl
+no_clock (role.Register r) w k e = refl
+no_clock (role.ClockOutput c) w k e = cc
+no_clock (role.ClockWire c) w k e = cc
+
+module _ (types : NodesHaveTheirTypes) (net : FlatNet) (whole : IsNet net) (state : List ℕ) (tick : Tick) (env : ℕ → ℕ) (clock : ℕ → Option ℕ)
+    (settled : Settled net state tick env clock) where
+  leaves_fit : LeavesFit net.leaves env
+  leaves_fit = record { each = settled.fits }
+
+  read_fits : (r : Read) (w : ℕ) → CanRead net.leaves net.nodes r → at_width (value_at net env r) w < 2 ^ w
+  read_fits r w can = fit_below (value_at net env r) w (types net env r whole leaves_fit can).bits
+
+  -- what a register takes is below two to its width, where what it shows is
+  module _ (w now : ℕ) (shows : now < 2 ^ w) (signed : Bool) where
+    taken_fits : (o : Option Read) → CanBeDriven net.leaves net.nodes signed o → taken net env w now o < 2 ^ w
+    taken_fits None can = shows
+    taken_fits (Some r) can = read_fits r w can.can
+
+    under_fits : (kind : ResetKind) (c i : Read) (n : ℕ) → CanRead net.leaves net.nodes i → n < 2 ^ w → taken_under net env w now kind c i n < 2 ^ w
+    under_fits Synchronous c i n can fits = either (is_high net env c) (at_width (value_at net env i) w) n (2 ^ w) (read_fits i w can) fits
+    under_fits Asynchronous c i n can fits = either (is_high net env c) now n (2 ^ w) shows fits
+
+    reset_fits : (o : Option Reset) (n : ℕ) → CanBeReset net.leaves net.nodes signed o → n < 2 ^ w → taken_with net env w now o n < 2 ^ w
+    reset_fits None n can fits = fits
+    reset_fits (Some r) n can fits = under_fits r.kind r.condition r.init n can.init.can fits
+
+    role_fits : (r : Role) → IsRole net.leaves net.nodes signed w r → next_by net env clock tick.clocks w now r < 2 ^ w
+    role_fits (role.Register r) is =
+        let n = taken net env w now r.next in
+        either (ticks tick.clocks (clock r.clock)) (taken_with net env w now r.reset n) now (2 ^ w) (reset_fits r.reset n is.1 (taken_fits r.next is.2)) shows
+    role_fits role.Input is = shows
+    role_fits role.Clock is = shows
+    role_fits (role.Output r) is = shows
+    role_fits (role.Wire r) is = shows
+    role_fits (role.ClockOutput c) is = shows
+    role_fits (role.ClockWire c) is = shows
+
+  word_fits : (k : ℕ) → In (registers net) k → next_word net env clock tick.clocks k < 2 ^ leaf_width net.leaves k
+  word_fits k m =
+      let place = number_of (registers net) k m in
+      let there = leaf_at register_number registers_own net.leaves place.0 k place.1 in
+      let l : Leaf = there.0 in
+      let is : IsLeaf net.leaves net.nodes l = all_there (IsLeaf net.leaves net.nodes) net.leaves whole.leaves k l there.1 in
+      let shows : env k < 2 ^ l.width = settled.fits k l there.1 (no_clock l.role l.width k there.2) in
+      subst (λ (o : Option Leaf). next_of net env clock tick.clocks (env k) o < 2 ^ unwrap_or (option_map (λ (x : Leaf). x.width) o) 0) (sym there.1)
+      (role_fits l.width (env k) shows l.signed l.role is.driven)
+
+  pub next_fits : FitEach (shape net).state (next net env clock tick)
+  next_fits = fit_map (leaf_width net.leaves) (next_word net env clock tick.clocks) (registers net) word_fits
