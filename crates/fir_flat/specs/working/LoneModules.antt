@@ -20,7 +20,6 @@ pub record StandsAlone (m : LeafModule) (is : Items) : Type 0 where
   pub body : block_of is ≡ m.body
   pub no_instances : HaveNoInstances is
   pub no_arrays : m.arrays ≡ []
-  pub ports : m.port_leaves ≤ length m.leaves
   pub inner : (x : ℕ) → m.port_leaves ≤ x → x < length m.leaves → role_at m x ≡ source → ⊥
   pub declared : (x : ℕ) → x < length m.leaves → (leaf_at m.leaves x).declaration < length m.declared
   pub rise : (x y : ℕ) → x ≤ y → y < length m.leaves → (leaf_at m.leaves x).declaration ≤ (leaf_at m.leaves y).declaration
