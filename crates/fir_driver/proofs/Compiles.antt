@@ -75,6 +75,7 @@ module _ (laws : CompileLaws) (c : CircuitTree) (net : FlatNet) (language : IsTr
           subst (λ words. IsNamedFor c.named.name (circuit_rows c) words v) low.words
           (subst (λ rows. IsNamedFor c.named.name rows (net_words net) v) low.ports
           (subst (λ name. IsNamedFor name (net_rows net) (net_words net) v) low.named made.named));
+      arranged = made.arranged;
       shapes = made.shapes ∙ low.shapes;
       valid = made.valid;
       one = one;

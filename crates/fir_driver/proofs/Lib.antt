@@ -27,3 +27,5 @@ pub mod Stepped
 pub mod Begun
 pub mod Lining
 pub mod UnreadClocks
+pub mod FirstLines
+pub mod ReadTrees

@@ -17,9 +17,10 @@ use Rattle.fir_driver.specs.Messages.{unread_line, too_long_line, memory_line}
 use Rattle.fir_driver.specs.Refusals.{Refuses}
 use Rattle.fir_driver.specs.Outside.{IsRead, Outside, outside, limit, Kept}
 use Rattle.fir_driver.specs.working.Endings.{Said, Complained}
-use Rattle.fir_driver.specs.Simulations.{Prints}
+use Rattle.fir_driver.specs.Simulations.{Prints, PrintsFront}
 use Rattle.fir_driver.specs.Simulates.{IsAsked, DueAtOnce, BeganTicks, MetBadLine, Simulates}
 use Rattle.fir_driver.specs.working.Running.{Ran}
+use Rattle.fir_driver.specs.working.Laws.{FrontsBegin}
 use Rattle.fir_driver.specs.working.Made.{IsMadeOf}
 use Rattle.fir_driver.specs.working.SimulationEndings.{BeganLines, MetBadly, OfTrace, NotRead, OfText}
 use Rattle.fir_driver.proofs.Told.{kept_same}
@@ -58,7 +59,7 @@ prints text net s with_state Says printed made ran =
           ∙ ap (λ x. run_text (widths (outputs c)) x.state with_state ran.shown) made.lowered.shapes;
     }
 
-module _ (s : Simulated) (files files' : FilesSeen) (out out' err err' : SinkSeen) where
+module _ (fronts_begin : FrontsBegin) (s : Simulated) (files files' : FilesSeen) (out out' err err' : SinkSeen) where
   abbrev before : Outside
   before = outside files out err
 
@@ -102,15 +103,18 @@ module _ (s : Simulated) (files files' : FilesSeen) (out out' err err' : SinkSee
 
     module _ (net : FlatNet) (shape_of : TraceShape) (made : IsMadeOf text net shape_of) (trace : List ℕ) (read_trace : IsRead s.trace before trace) where
       began : BeganLines trace net shape_of s.with_state out out' → BeganTicks s before after
-      began h = record {
-        text = text;
-        trace = trace;
-        printed = h.0;
-        read_text = read_text;
-        read_trace = read_trace;
-        prints = prints text net shape_of s.with_state _ h.0 made h.1;
-        front = h.2;
-      }
+      began h =
+          let of_front : PrintsFront text trace s.with_state h.0 = prints text net shape_of s.with_state _ h.0 made h.1 in
+          record {
+            text = text;
+            trace = trace;
+            printed = h.0;
+            read_text = read_text;
+            read_trace = read_trace;
+            prints = of_front;
+            begins = fronts_begin text trace s.with_state h.0 of_front;
+            front = h.2;
+          }
 
       met : (line : List ℕ) → MetBadly trace net shape_of s.with_state out out' line → MetBadLine s before after line
       met line h = record {
@@ -145,7 +149,7 @@ pub record AsBefore (files between : FilesSeen) : Type 0 where
   pub told : between.told ≡ files.told
   pub faults : between.faults ≡ files.faults
 
-module _ (s : Simulated) (files between files' : FilesSeen) (out out' err err' : SinkSeen) (as_before : AsBefore files between) where
+module _ (fronts_begin : FrontsBegin) (s : Simulated) (files between files' : FilesSeen) (out out' err err' : SinkSeen) (as_before : AsBefore files between) where
   read_before : (name bytes : List ℕ) → IsRead name (outside between out err) bytes → IsRead name (outside files out err) bytes
   read_before name bytes h =
       record { told = subst (λ (t : List ℕ → Option (List ℕ)). IfSome (t name) (λ content. bytes ≡ content)) as_before.told h.told; short = h.short }
@@ -160,8 +164,8 @@ module _ (s : Simulated) (files between files' : FilesSeen) (out out' err err' :
   pub text_ended : (text : List ℕ) (ending : Status) → IsRead s.circuit (outside files out err) text
       → OfText text s.trace s.with_state (outside between out err) (outside files' out' err') ending → Simulates s (outside files out err) (outside files' out' err') ending
   text_ended text ending read (inl (net, shape_of, made, inl (trace, read_trace, h))) =
-      traced s files files' out out' err err' text read net shape_of made trace (read_before s.trace trace read_trace) ending h
+      traced fronts_begin s files files' out out' err err' text read net shape_of made trace (read_before s.trace trace read_trace) ending h
   text_ended text ending read (inl (net, shape_of, made, inr h)) =
-      not_read s files files' out out' err err' s.trace ending (inr (refl, text, read, made.circuit, made.taken)) (not_read_before s.trace ending h)
-  text_ended text ending read (inr (inl (line, why, same, h))) = refused s files files' out out' err err' text read line ending why same h
-  text_ended text ending read (inr (inr (same, h))) = memory_said s files files' out out' err err' ending (inl (kept s files files' out out' err err' same)) h
+      not_read fronts_begin s files files' out out' err err' s.trace ending (inr (refl, text, read, made.circuit, made.taken)) (not_read_before s.trace ending h)
+  text_ended text ending read (inr (inl (line, why, same, h))) = refused fronts_begin s files files' out out' err err' text read line ending why same h
+  text_ended text ending read (inr (inr (same, h))) = memory_said fronts_begin s files files' out out' err err' ending (inl (kept fronts_begin s files files' out out' err err' same)) h

@@ -3,20 +3,24 @@ use Rattle.std.proofs.Common.{ℕ, ◌+◌, Bool, true, false, Option, Some, Non
 use Rattle.fir_ast.specs.declared.place.Place.{Place}
 use Rattle.fir_ast.specs.Statements.{PlacedName}
 use Rattle.fir_ast.specs.Types.{DataType, uint, sint, clock, reset, async_reset, bundle, vector, Fields, no_fields, field}
-use Rattle.fir_parse.specs.working.Pieces.{FieldName, Int, IntAt}
-use Rattle.fir_parse.specs.working.TypeForms.{IsWidth, IsFlip, IsType, AreFields, AreMoreFields}
+use Rattle.fir_parse.specs.Limits.{everywhere}
+use Rattle.fir_parse.specs.Pieces.{Digits, FieldName, Int, IntAt}
+use Rattle.fir_parse.specs.TypeForms.{IsWidth, IsFlip, IsType, AreFields, AreMoreFields}
 use Rattle.fir_driver.proofs.WordPieces.{KeepsWords, token, somewhere, nothing, given, at, next, either}
 
-pub int_at : {n : ℕ} {p : Place} → KeepsWords (IntAt n p)
-int_at = record { behind = λ a b x h. (token).behind a b x.4 h }
+digits : {n : ℕ} {p : Place} → KeepsWords (Digits n p)
+digits = record { behind = λ a b x h. (token).behind a b x.3 h }
 
-pub int : {n : ℕ} → KeepsWords (Int n)
+pub int_at : {n : ℕ} {p : Place} → KeepsWords (IntAt everywhere n p)
+int_at = next digits given
+
+pub int : {n : ℕ} → KeepsWords (Int everywhere n)
 int = record { behind = λ a b x h. (int_at).behind a b x.1 h }
 
 pub field_name : {n : PlacedName} → KeepsWords (FieldName n)
 field_name = either token (next given token)
 
-pub width : (w : Option ℕ) → KeepsWords (IsWidth w)
+pub width : (w : Option ℕ) → KeepsWords (IsWidth everywhere w)
 width None = nothing
 width (Some n) = next somewhere (next int somewhere)
 
@@ -25,7 +29,7 @@ flipped false = nothing
 flipped true = somewhere
 
 mutual
-  pub type_keeps : (d : ℕ) (t : DataType) → KeepsWords (IsType d t)
+  pub type_keeps : (d : ℕ) (t : DataType) → KeepsWords (IsType everywhere d t)
   type_keeps d (uint w) = next somewhere (width w)
   type_keeps d (sint w) = next somewhere (width w)
   type_keeps d clock = somewhere
@@ -34,11 +38,11 @@ mutual
   type_keeps d (bundle fs) = next somewhere (next given (next (fields_keep (d + 1) fs) (next somewhere given)))
   type_keeps d (vector t n) = next (type_keeps d t) (next somewhere (next given (next int (next somewhere given))))
 
-  fields_keep : (d : ℕ) (fs : Fields) → KeepsWords (AreFields d fs)
+  fields_keep : (d : ℕ) (fs : Fields) → KeepsWords (AreFields everywhere d fs)
   fields_keep d no_fields = nothing
   fields_keep d (field p flip n q t rest) = next (flipped flip) (next field_name (next somewhere (next (next at (type_keeps d t)) (more_fields_keep d rest))))
 
-  more_fields_keep : (d : ℕ) (fs : Fields) → KeepsWords (AreMoreFields d fs)
+  more_fields_keep : (d : ℕ) (fs : Fields) → KeepsWords (AreMoreFields everywhere d fs)
   more_fields_keep d no_fields = nothing
   more_fields_keep d (field p flip n q t rest) =
       next somewhere (next (flipped flip) (next field_name (next somewhere (next (next at (type_keeps d t)) (more_fields_keep d rest)))))

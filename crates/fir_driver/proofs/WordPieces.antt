@@ -6,7 +6,7 @@ use Rattle.ver_words.specs.Names.{is_word}
 use Rattle.fir_ast.specs.declared.place.Place.{Place}
 use Rattle.fir_ast.specs.Statements.{PlacedName}
 use Rattle.fir_parse.specs.Lexemes.{Terminal, Lexeme, word}
-use Rattle.fir_parse.specs.working.Pieces.{◌▸◌, At, Either, Given, Nothing, Token, Somewhere, Name}
+use Rattle.fir_parse.specs.Pieces.{◌▸◌, At, Either, Given, Nothing, Token, Somewhere, Name}
 
 abbrev pub IsSpelledWell : Lexeme → Type 0
 IsSpelledWell (word w) = IsTrue (is_word w)

@@ -11,11 +11,13 @@ use Rattle.fir_ast.specs.Circuits.{CircuitTree}
 use Rattle.fir_meaning.specs.Leaves.{shape}
 use Rattle.fir_meaning.specs.Allows.{One, Allows, Run}
 use Rattle.ver_build.specs.NamedFor.{IsNamedFor}
+use Rattle.ver_build.specs.Arranged.{IsArranged}
 use Rattle.fir_lower.specs.CircuitRows.{circuit_rows, circuit_words}
 use Rattle.fir_driver.specs.Runs.{RunsOnce}
 
 pub record Compiles (c : CircuitTree) (v : Verilog) : Type 0 where
   pub named : IsNamedFor c.named.name (circuit_rows c) (circuit_words c) v
+  pub arranged : IsArranged v
   pub shapes : v_shape v ≡ shape c
   pub valid : Valid v
   pub one : One c

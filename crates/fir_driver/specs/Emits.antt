@@ -5,6 +5,7 @@ use Rattle.std.specs.Prelude.{◌≡◌, ℕ, List, IsTrue}
 use Rattle.ver_ast.specs.declared.tree.Verilog.{Verilog}
 use Rattle.ver_ast.specs.Spells.{VSpells}
 use Rattle.ver_emit.specs.Layout.{layout}
+use Rattle.ver_emit.specs.Comments.{HasNoComment}
 use Rattle.fir_ast.specs.Circuits.{CircuitTree}
 use Rattle.fir_parse.specs.Spells.{Spells}
 use Rattle.fir_meaning.specs.Lacking.{is_in_language}
@@ -25,4 +26,5 @@ pub record Emits (read written : List ℕ) : Type 0 where
   pub v_spelled : VSpells written verilog
   pub only_verilog : (other : Verilog) → VSpells written other → other ≡ verilog
   pub laid_out : written ≡ layout verilog
+  pub uncommented : HasNoComment written
   pub compiles : Compiles circuit verilog

@@ -10,7 +10,7 @@ use Rattle.fir_driver.specs.Messages.{unread_line, too_long_line, memory_line}
 use Rattle.fir_driver.specs.Emits.{Takes}
 use Rattle.fir_driver.specs.Refusals.{Refuses}
 use Rattle.fir_driver.specs.Outside.{limit, Outside, IsRead, Kept, GrewByFront, OutFailed, ErrFailed, MemoryFailed}
-use Rattle.fir_driver.specs.Simulations.{PrintsWhole, PrintsBadly, PrintsFront}
+use Rattle.fir_driver.specs.Simulations.{BeginsAll, PrintsWhole, PrintsBadly, PrintsFront}
 
 -- the file that is asked: the circuit's, and where its text is taken the trace's
 abbrev pub IsAsked : Simulated → Outside → List ℕ → Type 0
@@ -27,7 +27,7 @@ DueAtOnce s before after status.TooLong line =
     × IfSome (before.files.told name) (λ content. limit < length content) × (line ≡ too_long_line name)
 DueAtOnce s before after _ line = ⊥
 
--- both files were read, and the lines of some first ticks were made
+-- both files were read, and the lines of some first ticks were made, which begin those of the whole trace
 pub record BeganTicks (s : Simulated) (before after : Outside) : Type 0 where
   pub text : List ℕ
   pub trace : List ℕ
@@ -35,6 +35,7 @@ pub record BeganTicks (s : Simulated) (before after : Outside) : Type 0 where
   pub read_text : IsRead s.circuit before text
   pub read_trace : IsRead s.trace before trace
   pub prints : PrintsFront text trace s.with_state printed
+  pub begins : BeginsAll text trace s.with_state printed
   pub front : GrewByFront before.out after.out printed
 
 -- the trace has a bad line: the lines of the ticks before it, and the line that is due

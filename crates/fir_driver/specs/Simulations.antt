@@ -1,6 +1,6 @@
 -- What a simulation prints.
 -- The circuit of a text runs from the initial state of a trace through its ticks, and each tick gives a line.
-use Rattle.std.specs.Prelude.{◌≡◌, ℕ, List, Bool}
+use Rattle.std.specs.Prelude.{◌≡◌, ℕ, List, ◌++◌, Bool, ◌⊎◌}
 use Rattle.fir_base.specs.Ticks.{Tick, TickResult}
 use Rattle.fir_ast.specs.Circuits.{CircuitTree}
 use Rattle.fir_parse.specs.Spells.{Spells}
@@ -49,3 +49,11 @@ SaysFront trace s init ticks = (lines : List (List ℕ)) × AreLines trace lines
 
 abbrev pub PrintsFront : List ℕ → List ℕ → Bool → List ℕ → Type 0
 PrintsFront text trace with_state printed = Prints text with_state (SaysFront trace) printed
+
+-- what the whole trace prints, up to its end or to its first bad line
+abbrev pub PrintsAll : List ℕ → List ℕ → Bool → List ℕ → Type 0
+PrintsAll text trace with_state printed = PrintsWhole text trace with_state printed ⊎ ((line : List ℕ) × PrintsBadly text trace with_state line printed)
+
+-- these lines begin them
+abbrev pub BeginsAll : List ℕ → List ℕ → Bool → List ℕ → Type 0
+BeginsAll text trace with_state printed = (all : List ℕ) → PrintsAll text trace with_state all → (later : List ℕ) × (all ≡ printed ++ later)

@@ -3,6 +3,7 @@
 ghost use Rattle.fir_driver.specs.working.Laws.{SpelledNamesAreWords, TakenIsFaultless};
 
 use fir_check::driven_outputs_are_connected;
+use fir_lex::laws::lexed_form_by_form;
 use fir_meaning::{inferred_exactly, names_leave_none, types_leave_none};
 use fir_width::widths_leave_none;
 
@@ -10,7 +11,7 @@ use fir_width::widths_leave_none;
 pub fn spelled_names_are_words()
     ensures { SpelledNamesAreWords }
 {
-    fir_parse::laws::spelled_form_by_form();
+    lexed_form_by_form();
 }
 
 /// A circuit that is taken shows none of the faults of the small language, over which its lowering is proved.

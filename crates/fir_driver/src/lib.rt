@@ -8,6 +8,7 @@
 
 mod command;
 mod emit;
+mod fronts;
 mod lacking;
 mod laws;
 mod lines;
@@ -20,6 +21,7 @@ mod simulation;
 mod status;
 
 pub use command::{Command, Simulation, command_of};
+pub use fronts::{SourceCircuits, fronts_begin};
 pub use laws::{spelled_names_are_words, taken_is_faultless};
 pub use passes::{compile, read_circuit};
 pub use program::run;

@@ -23,6 +23,7 @@ use crate::ordered_net::OrderedNet;
 use fir_ast::{Circuit, FirFault};
 use fir_base::{MemoryOut, Name, Refused};
 use fir_expand::{LeafCircuit, expand};
+use fir_lex::laws::lexed_form_by_form;
 use fir_lex::lex;
 use fir_loop::laws::heights_have_no_loop;
 use fir_loop::{Order, order};
@@ -40,12 +41,13 @@ use std::alloc::Global;
 use trace_text::Shape;
 use ver_ast::Verilog;
 use ver_build::{build, names_are_for_rows};
-use ver_emit::{layout_is_spelled, write_verilog};
+use ver_emit::{layout_has_no_comment, layout_is_spelled, write_verilog};
 
 fn read_tree(alloc: Global, bytes: &[u8]) -> Result<Circuit, Refused<FirFault>>
     requires { length bytes.now ≤ 16777216 }
     ensures { IsTree bytes.now result }
 {
+    lexed_form_by_form();
     let tokens = lex(alloc, bytes)?;
     match parse(alloc, tokens) {
         Ok(tree) => Ok(tree),
@@ -201,6 +203,7 @@ pub fn verilog_of(alloc: Global, bytes: &[u8]) -> Result<Vec<u8>, Refused<FirFau
     fir_parse::laws::spells_one_tree();
     ver_ast::spells_one_tree();
     layout_is_spelled();
+    layout_has_no_comment();
     let named = read_circuit(alloc, bytes)?;
     let verilog = compile(alloc, named.circuit())?;
     Ok(write_verilog(alloc, &verilog)?)

@@ -11,6 +11,7 @@ ghost use Rattle.fir_driver.specs.working.Commanded.{simulated};
 ghost use Rattle.fir_driver.specs.working.SimulationEndings.{FinishSaid, OfText, OfNet, OfTrace};
 
 use crate::command::Simulation;
+use crate::fronts::fronts_begin;
 use crate::lines::{Finish, put_lines};
 use crate::messages::{MEMORY_LINE, UNWRITTEN_LINE, say, say_bad_line, say_fault, say_unread};
 use crate::ordered_net::OrderedNet;
@@ -35,6 +36,7 @@ pub fn simulate<F: Files, S: Sink, T: Sink>(
     requires trace { IsTrue ((F.seen files.old).may words.now.trace.now) }
     ensures { Simulates (simulated words.now) (outside (F.seen files.old) (S.seen out.old) (T.seen err.old)) (outside (F.seen files.new) (S.seen out.new) (T.seen err.new)) result }
 {
+    fronts_begin();
     match files.read(alloc, words.circuit, LIMIT) {
         Ok(text) => simulate_text(alloc, text.as_slice(), words, files, out, err),
         Err(fault) => say_unread(alloc, err, words.circuit, fault),

@@ -14,7 +14,7 @@ ahead i (Some n) = Some (i + n)
 abbrev some : ℕ → Option ℕ
 some n = Some n
 
-ahead_more : (i : ℕ) (o : Option ℕ) → ahead (i + 1) o ≡ ahead i (option_map suc o)
+pub ahead_more : (i : ℕ) (o : Option ℕ) → ahead (i + 1) o ≡ ahead i (option_map suc o)
 ahead_more i None = refl
 ahead_more i (Some n) = let e : i + 1 + n ≡ i + suc n = omega arith in ap some e
 
@@ -27,14 +27,14 @@ ahead_here i = let e : i + 0 ≡ i = omega arith in ap some e
 
 -- ---- strings
 
-string_ends : (escaped : Bool) (s : List ℕ) → ends_line s ≡ true → string_length escaped s ≡ None
+pub string_ends : (escaped : Bool) (s : List ℕ) → ends_line s ≡ true → string_length escaped s ≡ None
 string_ends escaped [] h = refl
 string_ends escaped (b ∷ bs) h = rw h refl
 
-string_closes : (escaped : Bool) (b : ℕ) (bs : List ℕ) → ends_line (b ∷ bs) ≡ false → (not escaped && nat_eq b 34) ≡ true → string_length escaped (b ∷ bs) ≡ Some 0
+pub string_closes : (escaped : Bool) (b : ℕ) (bs : List ℕ) → ends_line (b ∷ bs) ≡ false → (not escaped && nat_eq b 34) ≡ true → string_length escaped (b ∷ bs) ≡ Some 0
 string_closes escaped b bs h e = rw (h, e) refl
 
-string_goes_on : (escaped : Bool) (b : ℕ) (bs : List ℕ) → ends_line (b ∷ bs) ≡ false → (not escaped && nat_eq b 34) ≡ false → string_length escaped (b ∷ bs) ≡ option_map suc (string_length (not escaped && nat_eq b 92) bs)
+pub string_goes_on : (escaped : Bool) (b : ℕ) (bs : List ℕ) → ends_line (b ∷ bs) ≡ false → (not escaped && nat_eq b 34) ≡ false → string_length escaped (b ∷ bs) ≡ option_map suc (string_length (not escaped && nat_eq b 92) bs)
 string_goes_on escaped b bs h e = rw (h, e) refl
 
 abbrev pub string_at : Bool → List ℕ → ℕ → Option ℕ
@@ -63,14 +63,14 @@ string_at_more escaped s i lt h e =
 
 -- ---- file information
 
-information_ends : (backslash : Bool) (s : List ℕ) → ends_line s ≡ true → information_length backslash s ≡ None
+pub information_ends : (backslash : Bool) (s : List ℕ) → ends_line s ≡ true → information_length backslash s ≡ None
 information_ends backslash [] h = refl
 information_ends backslash (b ∷ bs) h = rw h refl
 
-information_closes : (backslash : Bool) (b : ℕ) (bs : List ℕ) → ends_line (b ∷ bs) ≡ false → (not backslash && nat_eq b 93) ≡ true → information_length backslash (b ∷ bs) ≡ Some 0
+pub information_closes : (backslash : Bool) (b : ℕ) (bs : List ℕ) → ends_line (b ∷ bs) ≡ false → (not backslash && nat_eq b 93) ≡ true → information_length backslash (b ∷ bs) ≡ Some 0
 information_closes backslash b bs h e = rw (h, e) refl
 
-information_goes_on : (backslash : Bool) (b : ℕ) (bs : List ℕ) → ends_line (b ∷ bs) ≡ false → (not backslash && nat_eq b 93) ≡ false → information_length backslash (b ∷ bs) ≡ option_map suc (information_length (nat_eq b 92) bs)
+pub information_goes_on : (backslash : Bool) (b : ℕ) (bs : List ℕ) → ends_line (b ∷ bs) ≡ false → (not backslash && nat_eq b 93) ≡ false → information_length backslash (b ∷ bs) ≡ option_map suc (information_length (nat_eq b 92) bs)
 information_goes_on backslash b bs h e = rw (h, e) refl
 
 abbrev pub information_at : Bool → List ℕ → ℕ → Option ℕ
@@ -93,11 +93,11 @@ information_at_more backslash s i lt h e =
 
 -- ---- comments
 
-comment_ends : (s : List ℕ) → ends_line s ≡ true → comment_length s ≡ 0
+pub comment_ends : (s : List ℕ) → ends_line s ≡ true → comment_length s ≡ 0
 comment_ends [] h = refl
 comment_ends (b ∷ bs) h = rw h refl
 
-comment_goes_on : (b : ℕ) (bs : List ℕ) → ends_line (b ∷ bs) ≡ false → comment_length (b ∷ bs) ≡ suc (comment_length bs)
+pub comment_goes_on : (b : ℕ) (bs : List ℕ) → ends_line (b ∷ bs) ≡ false → comment_length (b ∷ bs) ≡ suc (comment_length bs)
 comment_goes_on b bs h = rw h refl
 
 pub comment_at_line_end : (s : List ℕ) (i : ℕ) → ends_line (drop i s) ≡ true → i + comment_length (drop i s) ≡ i
@@ -115,7 +115,7 @@ comment_at_more s i lt h =
 abbrev pub block_at : Within → List ℕ → ℕ → Option ℕ
 block_at within s i = ahead i (block_length within (drop i s))
 
-block_step : (within : Within) (b : ℕ) (bs : List ℕ) (t : Bool) → is_closed (within_step within b) ≡ t → block_length within (b ∷ bs) ≡ cond t (Some 1) (option_map suc (block_length (within_step within b) bs))
+pub block_step : (within : Within) (b : ℕ) (bs : List ℕ) (t : Bool) → is_closed (within_step within b) ≡ t → block_length within (b ∷ bs) ≡ cond t (Some 1) (option_map suc (block_length (within_step within b) bs))
 block_step within b bs t e = rw e refl
 
 pub block_at_end : (within : Within) (s : List ℕ) (i : ℕ) → length s ≤ i → block_at within s i ≡ None

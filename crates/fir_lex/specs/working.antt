@@ -5,3 +5,4 @@ pub mod View
 pub mod Blocks
 pub mod Steps
 pub mod Ways
+pub mod Laws

@@ -11,6 +11,7 @@ mod draft;
 mod front;
 mod indentation;
 mod information;
+pub mod laws;
 mod levels;
 mod lexer;
 mod number;

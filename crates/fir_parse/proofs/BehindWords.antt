@@ -15,19 +15,21 @@ use Rattle.fir_parse.specs.declared.stop.Stop.{Stop}
 use Rattle.fir_parse.specs.declared.stop.Stop.TheVariants as stop
 use Rattle.fir_parse.specs.declared.words.Applied.{Applied}
 use Rattle.fir_parse.specs.declared.words.Applied.TheVariants as applied
-use Rattle.fir_parse.specs.ExpressionRules.{literal_rest, sized_rest, sized_by, applied_rest}
-use Rattle.fir_parse.specs.Lexemes.{Terminal, mark, seen}
+use Rattle.fir_parse.specs.working.ExpressionRules.{literal_rest, sized_rest, sized_by, applied_rest}
+use Rattle.fir_parse.specs.Lexemes.{Terminal, mark}
+use Rattle.fir_parse.specs.working.Seen.{seen}
 use Rattle.fir_parse.specs.working.Plans.{sized_plan}
-use Rattle.fir_parse.specs.Reading.{read_on, step}
+use Rattle.fir_parse.specs.working.Reading.{read_on, step}
 use Rattle.fir_parse.specs.working.Reads.{Plan, Gives, Reads}
-use Rattle.fir_parse.specs.States.{State, wants, takes, refuses, without, opens}
-use Rattle.fir_parse.specs.Symbols.{a_mark, a_natural, an_expression, behind_word, parts}
+use Rattle.fir_parse.specs.working.States.{State, wants, takes, refuses, without, opens}
+use Rattle.fir_parse.specs.working.Symbols.{a_mark, a_natural, an_expression, behind_word, parts}
 use Rattle.fir_parse.specs.working.Trees.{tall_expression}
-use Rattle.fir_parse.specs.Words.{applied_of}
+use Rattle.fir_parse.specs.working.Words.{applied_of}
 use Rattle.fir_parse.proofs.Plans.{takes_first, exits_behind, reads_behind, opened, opened_too_many}
+use Rattle.fir_parse.specs.Limits.{everywhere}
 
 -- a literal with a width, from its `<` on
-pub sized_first : (signed : Bool) (d : ℕ) (p : Place) (w : List ℕ) (q : Place) (a : List Terminal) → a ≡ record { lexeme = mark Less; place = q } ∷ drop 1 a → step (behind_word d p w) (mark Less) q ≡ sized_rest signed d p → (end : Place) (k : Expression → State) → read_on true end (wants (behind_word d p w) k) a ≡ read_on true end (sized_plan signed d p k) a
+pub sized_first : (signed : Bool) (d : ℕ) (p : Place) (w : List ℕ) (q : Place) (a : List Terminal) → a ≡ record { lexeme = mark Less; place = q } ∷ drop 1 a → step (behind_word d p w) (mark Less) q ≡ sized_rest signed d p → (end : Place) (k : Expression → State) → read_on everywhere end (wants (behind_word d p w) k) a ≡ read_on everywhere end (sized_plan signed d p k) a
 sized_first signed d p w q a e h end k =
     let behind : (Expression → State) → State = λ k. wants a_natural (λ n. wants (a_mark Greater) (λ r. wants (a_mark OpenRound) (λ o. opens d o (literal_rest p signed (Some n.number) k)))) in
     takes_first (behind_word d p w) behind (mark Less) q a (drop 1 a) e refl h end k
@@ -41,11 +43,11 @@ not_sized _ d p w h g = refl
 
 -- a name alone
 pub name_reads : (d : ℕ) (p : Place) (w : List ℕ) (a : List Terminal) (r : Result (Tall Expr) Stop) → Gives (wants (behind_word d p w)) (reference p w no_parts) a a → IfOk r (λ t. expr_of t.tree ≡ reference p w no_parts) → IfErr r (λ s. s ≡ stop.Memory) → Reads (wants (behind_word d p w)) tall_expression a a r
-name_reads d p w a (Ok t) g named why = λ end k. g end k ∙ ap (λ e. read_on true end (k e) a) (sym named)
+name_reads d p w a (Ok t) g named why = λ end k. g end k ∙ ap (λ e. read_on everywhere end (k e) a) (sym named)
 name_reads d p w a (Err s) g named why = rw why tt
 
 -- a form whose parenthesis is at hand, behind it
-pub opens_form : (d : ℕ) (p : Place) (w : List ℕ) (q : Place) (x : Applied) (P : Plan Expression) (a b : List Terminal) → a ≡ record { lexeme = mark OpenRound; place = q } ∷ drop 1 a → b ≡ drop 1 a → x ≡ applied_of w → applied_rest x d p w q ≡ takes (λ k. opens d q (P k)) → (end : Place) (k : Expression → State) → read_on true end (wants (behind_word d p w) k) a ≡ read_on true end (opens d q (P k)) b
+pub opens_form : (d : ℕ) (p : Place) (w : List ℕ) (q : Place) (x : Applied) (P : Plan Expression) (a b : List Terminal) → a ≡ record { lexeme = mark OpenRound; place = q } ∷ drop 1 a → b ≡ drop 1 a → x ≡ applied_of w → applied_rest x d p w q ≡ takes (λ k. opens d q (P k)) → (end : Place) (k : Expression → State) → read_on everywhere end (wants (behind_word d p w) k) a ≡ read_on everywhere end (opens d q (P k)) b
 opens_form d p w q x P a b e f is h = takes_first (behind_word d p w) (λ k. opens d q (P k)) (mark OpenRound) q a b e f (ap (λ y. applied_rest y d p w q) (sym is) ∙ h)
 
 -- one bracket too many
@@ -59,7 +61,7 @@ form_opened d p w q x P view a b c r e f is h lt reads =
     reads_behind (wants (behind_word d p w)) P view a b c r (λ end k. opens_form d p w q x P a b e f is h end k ∙ opened d q (P k) end b lt) reads
 
 -- before any other token the word is the name of a reference
-pub begins_reference : (d : ℕ) (p : Place) (w : List ℕ) (l : LexemeRef) (q : Place) (a : List Terminal) → StandsFirst a l q → (l ≡ code.Mark OpenRound → ⊥) → (l ≡ code.Mark Less → ⊥) → (end : Place) (k : Expression → State) → read_on true end (wants (behind_word d p w) k) a ≡ read_on true end (wants (parts d 1) (λ ps. k (reference p w ps))) a
+pub begins_reference : (d : ℕ) (p : Place) (w : List ℕ) (l : LexemeRef) (q : Place) (a : List Terminal) → StandsFirst a l q → (l ≡ code.Mark OpenRound → ⊥) → (l ≡ code.Mark Less → ⊥) → (end : Place) (k : Expression → State) → read_on everywhere end (wants (behind_word d p w) k) a ≡ read_on everywhere end (wants (parts d 1) (λ ps. k (reference p w ps))) a
 unfolding read_on
 begins_reference d p w code.End q a e h g end k = rw e refl
 begins_reference d p w (code.Mark OpenRound) q a e h g end k = absurd (h refl)

@@ -11,11 +11,12 @@ use Rattle.fir_ast.proofs.Fields.{field_of-is}
 use Rattle.fir_parse.specs.working.BundlePlans.{some_fields, before}
 use Rattle.fir_parse.specs.Heights.{type_height, fields_height}
 use Rattle.fir_parse.specs.Lexemes.{Terminal}
-use Rattle.fir_parse.specs.Reading.{read_on}
-use Rattle.fir_parse.specs.States.{State}
-use Rattle.fir_parse.specs.Symbols.{FieldsTree}
-use Rattle.fir_parse.specs.TypeRules.{with_field}
+use Rattle.fir_parse.specs.working.Reading.{read_on}
+use Rattle.fir_parse.specs.working.States.{State}
+use Rattle.fir_parse.specs.working.Symbols.{FieldsTree}
+use Rattle.fir_parse.specs.working.TypeRules.{with_field}
 use Rattle.fir_parse.specs.working.Trees.{onto, field_tree}
+use Rattle.fir_parse.specs.Limits.{everywhere}
 
 onto-append : (fs gs : List (Fields → Fields)) (rest : Fields) → onto (fs ++ gs) rest ≡ onto fs (onto gs rest)
 onto-append [] gs rest = refl
@@ -56,7 +57,7 @@ pub high_with_last : (xs ys : List Field) (f : Field) (h g m : ℕ) → ys ≡ x
 high_with_last xs ys f h g m e n a b = (n ∙ height_with_last xs ys f h g e a.0 b.0, omega arith)
 
 -- before a first field there is none
-pub none_before : (xs : List Field) → xs ≡ [] → (d : ℕ) (end : Place) (k : FieldsTree → State) (ts : List Terminal) → read_on true end (some_fields d k) ts ≡ read_on true end (some_fields d (λ fs. k (before (map field_of xs) fs))) ts
+pub none_before : (xs : List Field) → xs ≡ [] → (d : ℕ) (end : Place) (k : FieldsTree → State) (ts : List Terminal) → read_on everywhere end (some_fields d k) ts ≡ read_on everywhere end (some_fields d (λ fs. k (before (map field_of xs) fs))) ts
 none_before xs e d end k ts = rw e refl
 
 pub none_high : (xs : List Field) → xs ≡ [] → 0 ≡ fields_height (fields_of (map field_of xs))

@@ -1,15 +1,15 @@
 -- Where the guards hold, a text can be completed.
 use Rattle.std.proofs.Common.{refl, []}
-use Rattle.fir_parse.specs.Symbols.{Sym, Tree, a_mark, a_word, a_name, a_field_name, a_natural, a_line_end, an_opening, a_closing, a_type, a_width, dimensions, fields, more_fields, a_field, behind_flip, an_expression, behind_word, parts, an_index, a_literal, statements, behind_first, behind_is, behind_else, behind_sink, an_indented_block, a_reset, behind_with, a_memory_body, a_memory_field, more_memory_fields, more_names, an_under_write, a_text, some_annotations, first_module, more_modules, a_body, ports_and_statements, behind_direction, behind_port_is}
-use Rattle.fir_parse.specs.States.{State, done, limit, wants}
-use Rattle.fir_parse.specs.Reading.{read_on}
+use Rattle.fir_parse.specs.working.Symbols.{Sym, Tree, a_mark, a_word, a_name, a_field_name, a_natural, a_line_end, an_opening, a_closing, a_type, a_width, dimensions, fields, more_fields, a_field, behind_flip, an_expression, behind_word, parts, an_index, a_literal, statements, behind_first, behind_is, behind_else, behind_sink, an_indented_block, a_reset, behind_with, a_memory_body, a_memory_field, more_memory_fields, more_names, an_under_write, a_text, some_annotations, first_module, more_modules, a_body, ports_and_statements, behind_direction, behind_port_is}
+use Rattle.fir_parse.specs.working.States.{State, done, limit, wants}
+use Rattle.fir_parse.specs.working.Reading.{read_on}
 use Rattle.fir_parse.proofs.Guards.{guard_of, Meets, Guarded}
 use Rattle.fir_parse.proofs.Completions.{Completion, below_limit}
 use Rattle.fir_parse.proofs.CompleteParts.{complete_mark, complete_word, complete_name, complete_field_name, complete_natural, complete_line_end, complete_opening, complete_closing, complete_type, complete_width, complete_dimensions, complete_fields, complete_more_fields, complete_field, complete_flip, complete_expression, complete_behind_word, complete_parts, complete_index, complete_literal}
 use Rattle.fir_parse.proofs.CompleteStatements.{complete_statements, complete_first, complete_is, complete_else, complete_sink, complete_block, complete_reset, complete_with, complete_memory_body, complete_memory_field, complete_more_memory_fields, complete_more_names, complete_under_write, complete_text, complete_annotations, complete_first_module, complete_more_modules, complete_body, complete_ports, complete_direction, complete_port_is}
 
 -- whatever is expected, the text is completed if it is behind that
-complete_symbol : (s : Sym) (k : Tree s → State) → ((x : Tree s) → Completion (k x) × Meets (guard_of s) (k x)) → Completion (wants s k)
+complete_symbol : (s : Sym) (k : Tree s → State) → ((x : Tree s) → Completion (k x) × Meets (guard_of s x) (k x)) → Completion (wants s k)
 complete_symbol (a_mark m) k h = complete_mark m k (λ x. (h x).0)
 complete_symbol (a_word w) k h = complete_word w k (λ x. (h x).0)
 complete_symbol a_name k h = complete_name k (λ x. (h x).0)

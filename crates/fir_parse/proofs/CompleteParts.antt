@@ -7,12 +7,12 @@ use Rattle.fir_ast.specs.Expressions.{Expression, reference, Parts, no_parts}
 use Rattle.fir_parse.specs.declared.lexeme.Mark.{Mark}
 use Rattle.fir_parse.specs.declared.lexeme.Mark.TheVariants.{Connect, PartialConnect, Arrow, Equals, Less, Greater, OpenRound, CloseRound, OpenSquare, CloseSquare, OpenCurly, CloseCurly, Comma, Colon, Dot}
 use Rattle.fir_parse.specs.Lexemes.{Lexeme, word, integer, mark, line_end, level_opens, level_closes, Terminal}
-use Rattle.fir_parse.specs.Marks.{same_mark}
-use Rattle.fir_parse.specs.Symbols.{Tree, a_mark, a_word, a_name, a_field_name, a_natural, a_line_end, an_opening, a_closing, a_type, a_width, dimensions, fields, more_fields, a_field, behind_flip, an_expression, behind_word, parts, an_index, a_literal, TypeTree}
-use Rattle.fir_parse.specs.States.{State, wants, without}
-use Rattle.fir_parse.specs.Reading.{one}
-use Rattle.fir_parse.specs.TypeRules.{dimensions_step}
-use Rattle.fir_parse.specs.ExpressionRules.{parts_step, behind_word_step}
+use Rattle.fir_parse.specs.working.Marks.{same_mark}
+use Rattle.fir_parse.specs.working.Symbols.{Tree, a_mark, a_word, a_name, a_field_name, a_natural, a_line_end, an_opening, a_closing, a_type, a_width, dimensions, fields, more_fields, a_field, behind_flip, an_expression, behind_word, parts, an_index, a_literal, TypeTree}
+use Rattle.fir_parse.specs.working.States.{State, wants, without}
+use Rattle.fir_parse.specs.working.Reading.{one}
+use Rattle.fir_parse.specs.working.TypeRules.{dimensions_step}
+use Rattle.fir_parse.specs.working.ExpressionRules.{parts_step, behind_word_step}
 use Rattle.fir_parse.proofs.Guards.{firm, Meets}
 use Rattle.fir_parse.proofs.Completions.{Completion, origin, taken, below_limit, skipped, Skips, goes_on_tail, TailEnds, tail_ends}
 

@@ -5,9 +5,9 @@ use Rattle.fir_ast.specs.declared.place.Place.{Place}
 use Rattle.fir_ast.specs.Statements.{Sink, Reset}
 use Rattle.fir_parse.specs.declared.lexeme.Mark.TheVariants.{Connect, Arrow, OpenRound, CloseRound, Comma, Colon}
 use Rattle.fir_parse.specs.Lexemes.{word, mark, annotations, line_end, level_opens, level_closes}
-use Rattle.fir_parse.specs.Symbols.{OpenWhen, Tree, statements, behind_first, behind_is, behind_else, behind_sink, an_indented_block, a_reset, behind_with, a_memory_body, a_memory_field, more_memory_fields, more_names, an_under_write, a_text, some_annotations, first_module, more_modules, a_body, ports_and_statements, behind_direction, behind_port_is}
-use Rattle.fir_parse.specs.States.{State, wants}
-use Rattle.fir_parse.specs.StatementRules.{reset_rest}
+use Rattle.fir_parse.specs.working.Symbols.{OpenWhen, Tree, statements, behind_first, behind_is, behind_else, behind_sink, an_indented_block, a_reset, behind_with, a_memory_body, a_memory_field, more_memory_fields, more_names, an_under_write, a_text, some_annotations, first_module, more_modules, a_body, ports_and_statements, behind_direction, behind_port_is}
+use Rattle.fir_parse.specs.working.States.{State, wants}
+use Rattle.fir_parse.specs.working.StatementRules.{reset_rest}
 use Rattle.fir_parse.proofs.Completions.{Completion, taken, below_limit}
 use Rattle.fir_parse.proofs.CompleteParts.{complete_mark, complete_word, complete_name, complete_natural, complete_line_end, complete_opening, complete_closing, complete_type, complete_expression}
 

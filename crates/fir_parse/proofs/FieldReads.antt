@@ -9,14 +9,16 @@ use Rattle.fir_parse.specs.declared.stop.Stop.{Stop}
 use Rattle.fir_parse.specs.declared.words.FieldWord.{FieldWord}
 use Rattle.fir_parse.specs.declared.words.FieldWord.TheVariants.{Name}
 use Rattle.fir_parse.specs.working.AtHand.{IsAtHand, stop_at}
-use Rattle.fir_parse.specs.Lexemes.{Terminal, seen}
-use Rattle.fir_parse.specs.MemoryRules.{by_field_word}
-use Rattle.fir_parse.specs.Reading.{read_on}
+use Rattle.fir_parse.specs.Lexemes.{Terminal}
+use Rattle.fir_parse.specs.working.Seen.{seen}
+use Rattle.fir_parse.specs.working.MemoryRules.{by_field_word}
+use Rattle.fir_parse.specs.working.Reading.{read_on}
 use Rattle.fir_parse.specs.working.Reads.{Plan, Stops}
-use Rattle.fir_parse.specs.States.{State, wants, takes}
-use Rattle.fir_parse.specs.Symbols.{a_memory_field}
-use Rattle.fir_parse.specs.Words.{field_word_of}
+use Rattle.fir_parse.specs.working.States.{State, wants, takes}
+use Rattle.fir_parse.specs.working.Symbols.{a_memory_field}
+use Rattle.fir_parse.specs.working.Words.{field_word_of}
 use Rattle.fir_parse.proofs.Plans.{refused, stands_there, takes_first}
+use Rattle.fir_parse.specs.Limits.{everywhere}
 
 end_is_name : (l : Lexeme) → l ≡ End → field_word_of (seen l) ≡ Name
 end_is_name l e = ap (λ x. field_word_of (seen x)) e
@@ -28,7 +30,7 @@ no_end d w g l p e f h =
     cc
 
 -- the word of a field is taken
-pub field_taken : (d : ℕ) (w : FieldWord) (g : Plan MemoryPart) (a b : List Terminal) (n : Next) → IsAtHand a n → w ≡ field_word_of (seen n.lexeme) → by_field_word w d n.place ≡ takes g → b ≡ drop 1 a → (end : Place) (k : MemoryPart → State) → read_on true end (wants (a_memory_field d) k) a ≡ read_on true end (g k) b
+pub field_taken : (d : ℕ) (w : FieldWord) (g : Plan MemoryPart) (a b : List Terminal) (n : Next) → IsAtHand a n → w ≡ field_word_of (seen n.lexeme) → by_field_word w d n.place ≡ takes g → b ≡ drop 1 a → (end : Place) (k : MemoryPart → State) → read_on everywhere end (wants (a_memory_field d) k) a ≡ read_on everywhere end (g k) b
 field_taken d w g a b n h e f r =
     takes_first (a_memory_field d) g (seen n.lexeme) n.place a b (stands_there a n.lexeme n.place h (no_end d w g n.lexeme n.place e f)) r
     (ap (λ v. by_field_word v d n.place) (sym e) ∙ f)

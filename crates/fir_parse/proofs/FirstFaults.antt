@@ -1,88 +1,93 @@
--- Reading ends with a fault exactly where that is the first fault of the tokens.
-use Rattle.std.proofs.Common.{◌≡◌, ℕ, false, List, [], ◌∷◌, ◌++◌, Some, Ok, Err, refl, sym, ap, ◌∙◌, inl, inr, subst, append_assoc, append-nil}
+-- Where reading ends with a fault, that is the first of the tokens.
+use Rattle.std.proofs.Common.{◌≡◌, ℕ, Bool, true, false, List, [], ◌∷◌, ◌++◌, Some, None, Ok, Err, refl, sym, ap, ◌∙◌, ◌⊎◌, inl, inr, subst, append_assoc, append-nil}
 use Rattle.fir_ast.specs.declared.place.Place.{Place}
 use Rattle.fir_ast.specs.declared.fault.FirFault.{FirFault}
 use Rattle.fir_ast.specs.declared.fault.FirFault.TheVariants as fault
 use Rattle.fir_ast.specs.Circuits.{CircuitTree}
 use Rattle.fir_parse.specs.Lexemes.{Terminal}
-use Rattle.fir_parse.specs.States.{State, Limit, in_range, nesting, version, fault_of}
-use Rattle.fir_parse.specs.Reading.{at_end, read_on, read, whole}
-use Rattle.fir_parse.specs.TextFaults.{IsFront, StopsAt, Verdict, continues, unexpected, missing, judge, passed_limit, Reaches, place_at, next_verdict, Shows, IsFirst}
-use Rattle.fir_parse.proofs.AtTokens.{outcome_of, without_limits}
+use Rattle.fir_parse.specs.Limits.{Limit, nowhere}
+use Rattle.fir_parse.specs.Fronts.{IsText, IsFront, StopsAt, IsFrontWithin, all_limits, no_limit, only_numbers, only_nesting, only_versions}
+use Rattle.fir_parse.specs.TextFaults.{place_at, NoneIsMissing, Passes, Shows, IsFirst}
+use Rattle.fir_parse.specs.working.States.{State, Bound, number_at, nesting_at, version_at, fault_of, limit_of}
+use Rattle.fir_parse.specs.working.Reading.{at_end, read_on, read, whole}
+use Rattle.fir_parse.specs.working.Reaching.{Verdict, continues, unexpected, missing, judge, passed_limit, Reaches, next_verdict}
+use Rattle.fir_parse.proofs.AtTokens.{Kept, none_is_kept}
 use Rattle.fir_parse.proofs.StepKeeps.{whole_guarded}
-use Rattle.fir_parse.proofs.Along.{guarded_along, along_without_limits}
+use Rattle.fir_parse.proofs.Along.{guarded_along}
 use Rattle.fir_parse.proofs.Completions.{origin}
-use Rattle.fir_parse.proofs.Completable.{completable}
-use Rattle.fir_parse.proofs.Halting.{IsOpen, OpenAtEnd, Halts, halts_in}
+use Rattle.fir_parse.proofs.Reached.{goes_on_without, reached_within, front_within, text_reads, reaches_same, by_last, Last, kept_not_passed}
+use Rattle.fir_parse.proofs.PassedLimits.{token_follows, nothing_kept, IsPassedAt, passed_at}
+use Rattle.fir_parse.proofs.MissingTells.{stands, missing_told}
+use Rattle.fir_parse.proofs.MissingFound.{missing_found}
+use Rattle.fir_parse.proofs.MissingStatements.{Ends}
+use Rattle.fir_parse.proofs.Halting.{IsOpen, OpenAtEnd, PassesLimit, IsUnexpected, IsMissing, Halts, HaltsIn, halts_in}
 
--- some text of the grammar begins with tokens that are expected
-pub is_front : (front : List Terminal) (last : State) → Reaches whole front last → IsFront front
-is_front front last r =
-    let c = completable last (guarded_along front whole last whole_guarded r) in
-    (c.more, (c.circuit, λ end. along_without_limits front whole last end c.more r ∙ c.completes end))
-
--- with this token no text goes on
-abbrev DoesNotContinue : Verdict → Type 0
-DoesNotContinue (continues next) = ⊥
-DoesNotContinue unexpected = Unit {0}
-DoesNotContinue (missing p w) = Unit {0}
-
-fails_at : (u : Verdict) (t : Terminal) (ts : List Terminal) (c : CircuitTree) → DoesNotContinue u → outcome_of u t.place (λ n. read_on false origin n ts) ≡ Ok c → ⊥
-fails_at (continues next) t ts c m h = absurd m
-fails_at unexpected t ts c m h = absurd (cc)
-fails_at (missing p w) t ts c m h = absurd (cc)
-
-fails_without : (st : State) (t : Terminal) (ts : List Terminal) (c : CircuitTree) → DoesNotContinue (judge st t) → read_on false origin st (t ∷ ts) ≡ Ok c → ⊥
-unfolding read_on
-fails_without st t ts c m h = fails_at (judge st t) t ts c m (sym (without_limits st t (λ n. read_on false origin n ts)) ∙ h)
-
-stops_without : (front back : List Terminal) (t : Terminal) (last : State) → Reaches whole front last → DoesNotContinue (judge last t) → StopsAt front (t ∷ back)
-stops_without front back t last r m h =
-    let grouped : (front ++ t ∷ []) ++ h.0 ≡ front ++ t ∷ h.0 = append_assoc front (t ∷ []) h.0 in
-    fails_without last t h.0 h.1.0 m (sym (along_without_limits front whole last origin (t ∷ h.0) r) ∙ sym (ap (read_on false origin whole) grouped) ∙ h.1.1 origin)
+-- ---- no text goes on
 
 stops_at_open : (front : List Terminal) (last : State) → Reaches whole front last → IsOpen last → StopsAt front []
 unfolding read_on
-stops_at_open front last r o h =
-    let along : read_on false origin whole (front ++ []) ≡ at_end false origin last = along_without_limits front whole last origin [] r in
-    let same : read_on false origin whole (front ++ []) ≡ read_on false origin whole front = ap (read_on false origin whole) (append-nil front) in
-    let fails : at_end false origin last ≡ Err (fault.Syntax origin) = o origin in
-    let ends : read_on false origin whole front ≡ Ok h.0 = h.1 origin in
+stops_at_open front last r ends_open x =
+    let text : IsText (front ++ []) = subst IsText (sym (append-nil front)) x in
+    let ends : at_end (λ l. false) origin last ≡ Ok text.0 = text_reads front [] last r text in
+    let fails : at_end (λ l. false) origin last ≡ Err (fault.Syntax origin) = ends_open origin in
     absurd (cc)
 
-unexpected_stops : (u : Verdict) → u ≡ unexpected → DoesNotContinue u
-unexpected_stops (continues next) e = absurd (cc)
-unexpected_stops unexpected e = tt
-unexpected_stops (missing p w) e = tt
+stops_at_token : (front back : List Terminal) (t : Terminal) (last : State) → Reaches whole front last → Ends (judge last t) → StopsAt front (t ∷ back)
+stops_at_token front back t last r ends x = let goes = goes_on_without last t x.0 x.1.0 (stands front (t ∷ []) last r x) in ends goes.0 goes.1
 
-missing_stops : (u : Verdict) (p : Place) (w : List ℕ) → u ≡ missing p w → DoesNotContinue u
-missing_stops (continues next) p w e = absurd (cc)
-missing_stops unexpected p w e = tt
-missing_stops (missing q x) p w e = tt
+unexpected_ends : (u : Verdict) → u ≡ unexpected → Ends u
+unexpected_ends u e next h = absurd (cc)
 
-stops_unexpected : (front back : List Terminal) (last : State) → Reaches whole front last → next_verdict last back ≡ unexpected → OpenAtEnd last back → StopsAt front back
-stops_unexpected front [] last r e o = stops_at_open front last r o
-stops_unexpected front (t ∷ back) last r e o = stops_without front back t last r (unexpected_stops (judge last t) e)
+missing_ends : (u : Verdict) (p : Place) (w : List ℕ) → u ≡ missing p w → Ends u
+missing_ends u p w e next h = absurd (cc)
 
-stops_missing : (front back : List Terminal) (last : State) (p : Place) (w : List ℕ) → Reaches whole front last → next_verdict last back ≡ missing p w → StopsAt front back
-stops_missing front [] last p w r e = absurd (cc)
-stops_missing front (t ∷ back) last p w r e = stops_without front back t last r (missing_stops (judge last t) p w e)
+-- ---- a limit that is passed
 
-shows_limit : (l : Limit) (end : Place) (last : State) (front back : List Terminal) → passed_limit last ≡ Some l → Shows end last front back (fault_of l)
-shows_limit (in_range p) end last front back e = e
-shows_limit (nesting p) end last front back e = e
-shows_limit (version p n) end last front back e = e
+abbrev ShownAt : Place → List Terminal → List Terminal → Terminal → Bound → Type 0
+ShownAt end before back t l = Shows end before (t ∷ back) (fault_of l)
 
-shows_by : (end : Place) (last : State) (front back : List Terminal) (f g : FirFault) → g ≡ f → Shows end last front back g → Shows end last front back f
-shows_by end last front back f g e h = subst (Shows end last front back) e h
+not_within : (asked : Limit → Bool) (front : List Terminal) (last : State) (l : Bound) → Reaches whole front last → passed_limit last ≡ Some l → asked (limit_of l) ≡ true → IsFrontWithin asked front → ⊥
+not_within asked front last l r e h x =
+    let other = reached_within asked front x in
+    kept_not_passed asked last l (subst (Kept asked) (reaches_same front whole other.0 last other.1 r) other.2) e h
 
-shown : (end : Place) (last : State) (front back : List Terminal) (f : FirFault) → Reaches whole front last → Halts end last back f → Shows end last front back f
-shown end last front back f r (inl h) = shows_by end last front back f (fault_of h.0) (sym h.2) (shows_limit h.0 end last front back h.1)
-shown end last front back f r (inr (inl h)) = shows_by end last front back f (fault.Syntax (place_at end back)) (sym h.3) (refl, h.0, is_front front last r, stops_unexpected front back last r h.1 h.2, h.1)
-shown end last front back f r (inr (inr h)) = shows_by end last front back f (fault.Unsupported h.0 h.1) (sym h.4) (h.2, is_front front last r, stops_missing front back last h.0 h.1 r h.3, h.3)
+shown_limit : (end : Place) (before back : List Terminal) (t : Terminal) (last : State) (l : Bound) → Reaches whole (before ++ t ∷ []) last → passed_limit last ≡ Some l → IsPassedAt t last l → ShownAt end before back t l
+shown_limit end before back t last (number_at p) r e h =
+    (h, (front_within no_limit (before ++ t ∷ []) last r (nothing_kept last), not_within only_numbers (before ++ t ∷ []) last (number_at p) r e refl))
+shown_limit end before back t last (nesting_at p) r e h =
+    (h, (front_within no_limit (before ++ t ∷ []) last r (nothing_kept last), not_within only_nesting (before ++ t ∷ []) last (nesting_at p) r e refl))
+shown_limit end before back t last (version_at p n) r e h =
+    (h.0, h.1, (front_within only_numbers (before ++ t ∷ []) last r h.2, not_within only_versions (before ++ t ∷ []) last (version_at p n) r e refl))
 
--- where reading ends with a fault, that is the first
+first_limit : (end : Place) (front back : List Terminal) (last : State) (f : FirFault) → Reaches whole front last → PassesLimit last f → ((front ≡ []) × (whole ≡ last)) ⊎ Last whole front last → IsFirst end (front ++ back) f
+first_limit end front back last f r (l, e, same) (inl h) = let none : passed_limit whole ≡ Some l = ap passed_limit h.1 ∙ e in absurd (cc)
+first_limit end front back last f r (l, e, same) (inr h) =
+    let g = guarded_along h.before whole h.state whole_guarded h.reaches in
+    let follows = token_follows h.state last h.token g h.takes in
+    let reaches : Reaches whole (h.before ++ h.token ∷ []) last = subst (λ ts. Reaches whole ts last) h.parts r in
+    let parts : front ++ back ≡ h.before ++ h.token ∷ back = ap (λ ts. ts ++ back) h.parts ∙ append_assoc h.before (h.token ∷ []) back in
+    let shown = shown_limit end h.before back h.token last l reaches e (passed_at follows.0 h.token last l follows.1 e) in
+    (h.before, h.token ∷ back, parts, subst (Shows end h.before (h.token ∷ back)) (sym same) shown)
+
+-- ---- a token that is not expected, and a form that is not in the language
+
+first_unexpected : (end : Place) (front back : List Terminal) (last : State) (f : FirFault) → Reaches whole front last → IsUnexpected end last back f → Shows end front back (fault.Syntax (place_at end back))
+first_unexpected end front [] last f r (none, e, ends_open, same) = (refl, front_within all_limits front last r (none_is_kept all_limits last none), stops_at_open front last r ends_open, tt)
+first_unexpected end front (t ∷ back) last f r (none, e, ends_open, same) =
+    let ends : Ends (judge last t) = unexpected_ends (judge last t) e in
+    (refl, front_within all_limits front last r (none_is_kept all_limits last none), stops_at_token front back t last r ends, λ p w m. let told = missing_told front last t p w r m ends in absurd (cc))
+
+first_missing : (end : Place) (front back : List Terminal) (last : State) (f : FirFault) (p : Place) (w : List ℕ) → Reaches whole front last → passed_limit last ≡ None → next_verdict last back ≡ missing p w → Shows end front back (fault.Unsupported p w)
+first_missing end front [] last f p w r none e = absurd (cc)
+first_missing end front (t ∷ back) last f p w r none e =
+    (front_within all_limits front last r (none_is_kept all_limits last none), stops_at_token front back t last r (missing_ends (judge last t) p w e), missing_found front last t p w r e)
+
+first : (end : Place) (front back : List Terminal) (last : State) (f : FirFault) → Reaches whole front last → Halts end last back f → IsFirst end (front ++ back) f
+first end front back last f r (inl h) = first_limit end front back last f r h (by_last front whole last r)
+first end front back last f r (inr (inl h)) = (front, back, refl, subst (Shows end front back) (sym h.3) (first_unexpected end front back last f r h))
+first end front back last f r (inr (inr h)) = (front, back, refl, subst (Shows end front back) (sym h.4) (first_missing end front back last f h.0 h.1 r h.2 h.3))
+
 pub first_fault : (end : Place) (ts : List Terminal) (f : FirFault) → read end ts ≡ Err f → IsFirst end ts f
 first_fault end ts f e =
     let h = halts_in ts end whole f whole_guarded e in
-    record { front = h.front; back = h.back; parts = h.parts; state = h.last; reaches = h.reaches; shows = shown end h.last h.front h.back f h.reaches h.halts }
+    subst (λ us. IsFirst end us f) (sym h.parts) (first end h.front h.back h.last f h.reaches h.halts)

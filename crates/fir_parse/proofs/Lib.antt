@@ -1,5 +1,6 @@
 pub mod Remaining
 pub mod Plans
+pub mod Limiting
 pub mod Guards
 pub mod AtTokens
 pub mod Keeping
@@ -11,6 +12,7 @@ pub mod ResetKeeps
 pub mod CircuitKeeps
 pub mod StepKeeps
 pub mod Along
+pub mod UpTo
 pub mod Halting
 pub mod Completions
 pub mod CompleteParts
@@ -19,16 +21,9 @@ pub mod Completable
 pub mod FirstFaults
 pub mod FaultsRead
 pub mod TextLaws
-pub mod Naming
-pub mod TellingParts
-pub mod TellingStatements
-pub mod TellingCircuits
-pub mod StepTells
-pub mod MissingForms
 pub mod Others
 pub mod SameMarks
 pub mod Digits
-pub mod HaltsRead
 pub mod LiteralNumbers
 pub mod Signs
 pub mod TypeViews
@@ -47,6 +42,7 @@ pub mod WholeReads
 pub mod StatementViews
 pub mod Sequences
 pub mod StatementReads
+pub mod SpelledWords
 pub mod FormsReadPieces
 pub mod FormsReadTypes
 pub mod FormsReadLiterals
@@ -73,3 +69,13 @@ pub mod FormsFoundStatements
 pub mod FormsFoundCircuits
 pub mod FormsFoundSteps
 pub mod FormsSpelled
+pub mod Reached
+pub mod PassedLimits
+pub mod Peeled
+pub mod MissingTold
+pub mod MissingStatements
+pub mod MissingOperators
+pub mod MissingTells
+pub mod FirstTokens
+pub mod MayStand
+pub mod MissingFound

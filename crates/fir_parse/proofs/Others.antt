@@ -7,13 +7,14 @@ use Rattle.fir_parse.specs.declared.lexeme.Mark.{Mark}
 use Rattle.fir_parse.specs.declared.lexeme.Lexeme.{Lexeme}
 use Rattle.fir_parse.specs.declared.lexeme.Lexeme.TheVariants as code
 use Rattle.fir_lex.specs.working.Numbers.{digits_of}
-use Rattle.fir_parse.specs.Lexemes.{seen, word, integer, mark}
-use Rattle.fir_parse.specs.Marks.{same_mark}
+use Rattle.fir_parse.specs.Lexemes.{word, integer, mark}
+use Rattle.fir_parse.specs.working.Seen.{seen}
+use Rattle.fir_parse.specs.working.Marks.{same_mark}
 use Rattle.fir_base.specs.Digits.{decimal_value}
 use Rattle.fir_parse.specs.Numbers.{has_sign, is_in_range}
-use Rattle.fir_parse.specs.Symbols.{a_mark, a_word, a_name, a_field_name, a_natural, a_line_end, an_opening, a_closing}
-use Rattle.fir_parse.specs.States.{limit, in_range, takes, refuses}
-use Rattle.fir_parse.specs.Reading.{step}
+use Rattle.fir_parse.specs.working.Symbols.{a_mark, a_word, a_name, a_field_name, a_natural, a_line_end, an_opening, a_closing}
+use Rattle.fir_parse.specs.working.States.{limit, number_at, takes, refuses}
+use Rattle.fir_parse.specs.working.Reading.{step}
 
 pub other_line_end : (l : Lexeme) (p : Place) → (l ≡ code.LineEnd → ⊥) → step a_line_end (seen l) p ≡ refuses
 other_line_end code.LineEnd p h = absurd (h refl)
@@ -69,7 +70,7 @@ other_natural _ p g = refl
 pub signed_natural : (x : Integer) (l : Lexeme) (p : Place) → l ≡ code.Integer x → has_sign x.spelling.now ≡ true → step a_natural (seen l) p ≡ refuses
 signed_natural x l p e h = rw e (rw h refl)
 
-pub digits_natural : (s : List ℕ) (p : Place) → has_sign s ≡ false → step a_natural (integer s) p ≡ takes (λ k. limit (not (is_in_range (decimal_value s))) (in_range p) (k (record { place = p; number = decimal_value s })))
+pub digits_natural : (s : List ℕ) (p : Place) → has_sign s ≡ false → step a_natural (integer s) p ≡ takes (λ k. limit (not (is_in_range (decimal_value s))) (number_at p) (k (record { place = p; number = decimal_value s })))
 digits_natural s p h = rw h refl
 
 -- an integer without a sign is its digits
@@ -77,7 +78,7 @@ unsigned : (s : List ℕ) → has_sign s ≡ false → digits_of s ≡ s
 unsigned [] h = refl
 unsigned (b ∷ bs) h = rw h refl
 
-pub integer_natural : (i : Integer) (p : Place) → has_sign i.spelling.now ≡ false → step a_natural (integer i.spelling.now) p ≡ takes (λ k. limit (not (is_in_range i.number)) (in_range p) (k (record { place = p; number = i.number })))
+pub integer_natural : (i : Integer) (p : Place) → has_sign i.spelling.now ≡ false → step a_natural (integer i.spelling.now) p ≡ takes (λ k. limit (not (is_in_range i.number)) (number_at p) (k (record { place = p; number = i.number })))
 integer_natural i p h =
     digits_natural i.spelling.now p h
-    ∙ ap (λ n. takes (λ k. limit (not (is_in_range n)) (in_range p) (k (record { place = p; number = n })))) (sym (i.value ∙ ap decimal_value (unsigned i.spelling.now h)))
+    ∙ ap (λ n. takes (λ k. limit (not (is_in_range n)) (number_at p) (k (record { place = p; number = n })))) (sym (i.value ∙ ap decimal_value (unsigned i.spelling.now h)))

@@ -10,20 +10,22 @@ use Rattle.fir_ast.specs.Statements.{Block, done}
 use Rattle.fir_ast.specs.View.{block_of, port_of, stmt_of}
 use Rattle.fir_parse.specs.declared.lexeme.Lexeme.{Lexeme}
 use Rattle.fir_parse.specs.declared.lexeme.Lexeme.TheVariants.{LevelCloses, Word}
-use Rattle.fir_parse.specs.CircuitRules.{with_port}
-use Rattle.fir_parse.specs.Lexemes.{Terminal, seen}
-use Rattle.fir_parse.specs.Reading.{read_on, step}
-use Rattle.fir_parse.specs.States.{State, wants, refuses}
-use Rattle.fir_parse.specs.Symbols.{BodyTree, ports_and_statements}
+use Rattle.fir_parse.specs.working.CircuitRules.{with_port}
+use Rattle.fir_parse.specs.Lexemes.{Terminal}
+use Rattle.fir_parse.specs.working.Seen.{seen}
+use Rattle.fir_parse.specs.working.Reading.{read_on, step}
+use Rattle.fir_parse.specs.working.States.{State, wants, refuses}
+use Rattle.fir_parse.specs.working.Symbols.{BodyTree, ports_and_statements}
 use Rattle.fir_parse.proofs.LoopReads.{one_more}
+use Rattle.fir_parse.specs.Limits.{everywhere}
 
 abbrev pub after_ports : List PortTree → BodyTree → BodyTree
 after_ports ps b = record { ports = ps ++ b.ports; block = b.block }
 
 -- one port more is put behind those that were read
-pub one_port_more : (xs ys : List Port) (p : Port) → ys ≡ xs ++ p ∷ [] → (end : Place) (k : BodyTree → State) (ts : List Terminal) → read_on true end (wants ports_and_statements (λ b. k (after_ports (map port_of xs) (with_port (port_of p) b)))) ts ≡ read_on true end (wants ports_and_statements (λ b. k (after_ports (map port_of ys) b))) ts
+pub one_port_more : (xs ys : List Port) (p : Port) → ys ≡ xs ++ p ∷ [] → (end : Place) (k : BodyTree → State) (ts : List Terminal) → read_on everywhere end (wants ports_and_statements (λ b. k (after_ports (map port_of xs) (with_port (port_of p) b)))) ts ≡ read_on everywhere end (wants ports_and_statements (λ b. k (after_ports (map port_of ys) b))) ts
 one_port_more xs ys p e end k ts =
-    rw e (ap (λ h. read_on true end (wants ports_and_statements h) ts) (fun_ext (λ b. ap (λ l. k (record { ports = l; block = b.block })) (sym (one_more port_of xs p b.ports)))))
+    rw e (ap (λ h. read_on everywhere end (wants ports_and_statements h) ts) (fun_ext (λ b. ap (λ l. k (record { ports = l; block = b.block })) (sym (one_more port_of xs p b.ports)))))
 
 -- no port is read behind them
 pub no_port_behind : (ps : List PortTree) (block : Block) → after_ports ps (record { ports = []; block = block }) ≡ record { ports = ps; block = block }

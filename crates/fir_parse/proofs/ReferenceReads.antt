@@ -8,12 +8,14 @@ use Rattle.fir_parse.specs.declared.lexeme.Lexeme.{Lexeme as LexemeRef}
 use Rattle.fir_parse.specs.declared.lexeme.Lexeme.TheVariants as code
 use Rattle.fir_parse.specs.declared.lexeme.Mark.TheVariants.{Dot, OpenSquare}
 use Rattle.fir_parse.specs.Heights.{height_with}
-use Rattle.fir_parse.specs.Lexemes.{Terminal, seen}
-use Rattle.fir_parse.specs.Reading.{read_on, step}
-use Rattle.fir_parse.specs.States.{State, wants, without}
-use Rattle.fir_parse.specs.Symbols.{parts}
+use Rattle.fir_parse.specs.Lexemes.{Terminal}
+use Rattle.fir_parse.specs.working.Seen.{seen}
+use Rattle.fir_parse.specs.working.Reading.{read_on, step}
+use Rattle.fir_parse.specs.working.States.{State, wants, without}
+use Rattle.fir_parse.specs.working.Symbols.{parts}
 use Rattle.fir_parse.specs.working.Trees.{onto, part_of}
 use Rattle.fir_parse.proofs.ExpressionViews.{sink_view}
+use Rattle.fir_parse.specs.Limits.{everywhere}
 
 -- the parts of a reference are all its parts with nothing behind them
 pub onto_none : (fs : List (Parts → Parts)) → onto fs no_parts ≡ parts_of fs
@@ -29,10 +31,10 @@ pub onto_pushed : (vs : List Part) (x : Part) (new : List Part) → new ≡ vs +
 onto_pushed vs x new e = ap (λ (l : List Part). onto (map part_of l)) e ∙ onto_one vs x
 
 -- what follows the parts so far is read on behind one more
-pub part_behind : (d h g : ℕ) (vs : List Part) (x : Part) (new : List Part) (start a b : List Terminal) → ((end : Place) (k : Parts → State) → read_on true end (wants (parts d 1) k) start ≡ read_on true end (wants (parts d h) (λ ps. k (onto (map part_of vs) ps))) a) → ((end : Place) (k : Parts → State) → read_on true end (wants (parts d h) k) a ≡ read_on true end (wants (parts d g) (λ ps. k (part_of x ps))) b) → new ≡ vs ++ x ∷ [] → (end : Place) (k : Parts → State) → read_on true end (wants (parts d 1) k) start ≡ read_on true end (wants (parts d g) (λ ps. k (onto (map part_of new) ps))) b
+pub part_behind : (d h g : ℕ) (vs : List Part) (x : Part) (new : List Part) (start a b : List Terminal) → ((end : Place) (k : Parts → State) → read_on everywhere end (wants (parts d 1) k) start ≡ read_on everywhere end (wants (parts d h) (λ ps. k (onto (map part_of vs) ps))) a) → ((end : Place) (k : Parts → State) → read_on everywhere end (wants (parts d h) k) a ≡ read_on everywhere end (wants (parts d g) (λ ps. k (part_of x ps))) b) → new ≡ vs ++ x ∷ [] → (end : Place) (k : Parts → State) → read_on everywhere end (wants (parts d 1) k) start ≡ read_on everywhere end (wants (parts d g) (λ ps. k (onto (map part_of new) ps))) b
 part_behind d h g vs x new start a b leads reads e end k =
     leads end k ∙ reads end (λ ps. k (onto (map part_of vs) ps))
-    ∙ ap (λ (f : Parts → Parts). read_on true end (wants (parts d g) (λ ps. k (f ps))) b) (sym (onto_pushed vs x new e))
+    ∙ ap (λ (f : Parts → Parts). read_on everywhere end (wants (parts d g) (λ ps. k (f ps))) b) (sym (onto_pushed vs x new e))
 
 pub height_behind : (h g : ℕ) (vs : List Part) (x : Part) (new : List Part) → ((ps : Parts) → height_with (onto (map part_of vs) ps) 1 ≡ height_with ps h) → ((ps : Parts) → height_with (part_of x ps) h ≡ height_with ps g) → new ≡ vs ++ x ∷ [] → (ps : Parts) → height_with (onto (map part_of new) ps) 1 ≡ height_with ps g
 height_behind h g vs x new high more e ps = ap (λ (f : Parts → Parts). height_with (f ps) 1) (onto_pushed vs x new e) ∙ high (part_of x ps) ∙ more ps

@@ -4,7 +4,7 @@ use denote.Enum.Bare.{sameb}
 use Rattle.fir_parse.specs.contracts.lexeme.Mark.{the_type}
 use Rattle.fir_parse.specs.declared.lexeme.Mark.{Mark}
 use Rattle.fir_parse.specs.declared.lexeme.Mark.TheVariants.{Connect, PartialConnect, Arrow, Equals, Less, Greater, OpenRound, CloseRound, OpenSquare, CloseSquare, OpenCurly, CloseCurly, Comma, Colon, Dot}
-use Rattle.fir_parse.specs.Marks.{same_mark}
+use Rattle.fir_parse.specs.working.Marks.{same_mark}
 
 pub same_by_code : (m n : Mark) → sameb the_type n m ≡ same_mark m n
 same_by_code Connect Connect = refl

@@ -9,9 +9,9 @@ use Rattle.fir_ast.specs.Statements.{Statement, when, Block, done, then}
 use Rattle.fir_ast.specs.View.{stmt_of, block_of}
 use Rattle.fir_parse.proofs.StatementViews.{when_view}
 use Rattle.fir_parse.specs.declared.whens.OpenWhen.{OpenWhen as OpenWhenRef}
-use Rattle.fir_parse.specs.Symbols.{OpenWhen, statements}
-use Rattle.fir_parse.specs.States.{State, wants}
-use Rattle.fir_parse.specs.StatementRules.{chain, closed_before, may_be_else}
+use Rattle.fir_parse.specs.working.Symbols.{OpenWhen, statements}
+use Rattle.fir_parse.specs.working.States.{State, wants}
+use Rattle.fir_parse.specs.working.StatementRules.{chain, closed_before, may_be_else}
 use Rattle.fir_parse.specs.working.StatementTrees.{open_when_of, statements_before}
 
 abbrev closed : OpenWhen → Block → Statement

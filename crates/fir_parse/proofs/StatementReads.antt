@@ -11,21 +11,23 @@ use Rattle.fir_parse.specs.declared.words.Declaration.{Declaration}
 use Rattle.fir_parse.specs.declared.words.Declaration.TheVariants as declares
 use Rattle.fir_parse.specs.declared.words.Lead.{Lead}
 use Rattle.fir_parse.specs.declared.words.Lead.TheVariants as lead
-use Rattle.fir_parse.specs.Lexemes.{Lexeme, Terminal, seen, word, line_end}
-use Rattle.fir_parse.specs.Words.{lead_of}
-use Rattle.fir_parse.specs.Symbols.{OpenWhen, Begun, statement, Otherwise, no_else, else_when, a_line_end, a_word, an_expression, an_indented_block, behind_first, behind_is, behind_else, behind_sink, statements}
-use Rattle.fir_parse.specs.States.{State, wants, Step, takes, without, refuses, unsupported}
-use Rattle.fir_parse.specs.StatementRules.{bare, begun, declared, declaration_of_is, declaration_step, behind_otherwise, behind_statement, closed_before, ends_line, instance_rest, invalid_or, is_named, may_be_else, ref_rest, end_behind, stuck_behind, when_rest}
+use Rattle.fir_parse.specs.Lexemes.{Lexeme, Terminal, word, line_end}
+use Rattle.fir_parse.specs.working.Seen.{seen}
+use Rattle.fir_parse.specs.working.Words.{lead_of}
+use Rattle.fir_parse.specs.working.Symbols.{OpenWhen, Begun, statement, Otherwise, no_else, else_when, a_line_end, a_word, an_expression, an_indented_block, behind_first, behind_is, behind_else, behind_sink, statements}
+use Rattle.fir_parse.specs.working.States.{State, wants, Step, takes, without, refuses, unsupported}
+use Rattle.fir_parse.specs.working.StatementRules.{bare, begun, declared, declaration_of_is, declaration_step, behind_otherwise, behind_statement, closed_before, ends_line, instance_rest, invalid_or, is_named, may_be_else, ref_rest, end_behind, stuck_behind, when_rest}
 use Rattle.fir_parse.specs.working.AtHand.{StandsFirst}
-use Rattle.fir_parse.specs.Reading.{Outcome, read_on, at_token, at_end, goes_on, one, step}
+use Rattle.fir_parse.specs.working.Reading.{Outcome, read_on, at_token, at_end, goes_on, one, step}
 use Rattle.fir_parse.specs.working.Reads.{Plan}
 use Rattle.fir_parse.specs.working.StatementTrees.{IsNeither}
+use Rattle.fir_parse.specs.Limits.{everywhere}
 
 -- states that do alike at the token at hand, and at the end
-pub alike : (A B : State) (l : LexemeRef) (p : Place) (a : List Terminal) (end : Place) → StandsFirst a l p → at_end true end A ≡ at_end true end B → ((behind : State → Outcome) → at_token true A (record { lexeme = seen l; place = p }) behind ≡ at_token true B (record { lexeme = seen l; place = p }) behind) → read_on true end A a ≡ read_on true end B a
+pub alike : (A B : State) (l : LexemeRef) (p : Place) (a : List Terminal) (end : Place) → StandsFirst a l p → at_end (λ l. true) end A ≡ at_end (λ l. true) end B → ((behind : State → Outcome) → at_token (λ l. true) A (record { lexeme = seen l; place = p }) behind ≡ at_token (λ l. true) B (record { lexeme = seen l; place = p }) behind) → read_on everywhere end A a ≡ read_on everywhere end B a
 unfolding read_on
 alike A B code.End p a end h e f = rw h e
-alike A B l p a end h e f = rw h (f (λ next. read_on true end next (drop 1 a)))
+alike A B l p a end h e f = rw h (f (λ next. read_on everywhere end next (drop 1 a)))
 
 -- a word that is taken by a test, or where one word is expected
 by_test : {T U : Type 0} (b : Bool) (p : Place) (g : Plan T) (k : T → State) (x : U) (m : U → State) (behind : State → Outcome) (u : T → Outcome) (v : U → Outcome) → g k ≡ m x → goes_on (if b then takes g else refuses) p k behind u ≡ goes_on (one b x) p m behind v
@@ -37,7 +39,7 @@ both_by_test true p g k h m behind u v e = ap behind e
 both_by_test false p g k h m behind u v e = refl
 
 -- behind a sink
-pub is_behind_sink : (d : ℕ) (s : Sink) (k : Statement → State) (l : LexemeRef) (p : Place) → (l ≡ code.Mark Connect → ⊥) → (l ≡ code.Mark PartialConnect → ⊥) → (behind : State → Outcome) → at_token true (wants (behind_sink d s) k) (record { lexeme = seen l; place = p }) behind ≡ at_token true (wants (a_word (codes "is")) (λ q. wants (a_word (codes "invalid")) (λ r. ends_line (invalid s.place s) k))) (record { lexeme = seen l; place = p }) behind
+pub is_behind_sink : (d : ℕ) (s : Sink) (k : Statement → State) (l : LexemeRef) (p : Place) → (l ≡ code.Mark Connect → ⊥) → (l ≡ code.Mark PartialConnect → ⊥) → (behind : State → Outcome) → at_token (λ l. true) (wants (behind_sink d s) k) (record { lexeme = seen l; place = p }) behind ≡ at_token (λ l. true) (wants (a_word (codes "is")) (λ q. wants (a_word (codes "invalid")) (λ r. ends_line (invalid s.place s) k))) (record { lexeme = seen l; place = p }) behind
 is_behind_sink d s k (code.Mark Connect) p h g behind = absurd (h refl)
 is_behind_sink d s k (code.Mark PartialConnect) p h g behind = absurd (g refl)
 is_behind_sink d s k (code.Word x) p h g behind = by_test (bytes_eq x.now (codes "is")) p (λ j. wants (a_word (codes "invalid")) (λ r. ends_line (invalid s.place s) j)) k p (λ q. wants (a_word (codes "invalid")) (λ r. ends_line (invalid s.place s) k)) behind _ _ refl
@@ -52,7 +54,7 @@ GoesOn (code.Mark OpenSquare) = Unit {0}
 GoesOn _ = ⊥
 
 -- a statement that begins with a reference, behind its name
-pub begins_reference : (d : ℕ) (p : Place) (w : List ℕ) (k : Begun → State) (l : LexemeRef) (q : Place) → GoesOn l → (behind : State → Outcome) → at_token true (wants (behind_first d p w) k) (record { lexeme = seen l; place = q }) behind ≡ at_token true (ref_rest d p w (begun k)) (record { lexeme = seen l; place = q }) behind
+pub begins_reference : (d : ℕ) (p : Place) (w : List ℕ) (k : Begun → State) (l : LexemeRef) (q : Place) → GoesOn l → (behind : State → Outcome) → at_token (λ l. true) (wants (behind_first d p w) k) (record { lexeme = seen l; place = q }) behind ≡ at_token (λ l. true) (ref_rest d p w (begun k)) (record { lexeme = seen l; place = q }) behind
 begins_reference d p w k (code.Mark Connect) q h behind = refl
 begins_reference d p w k (code.Mark PartialConnect) q h behind = refl
 begins_reference d p w k (code.Mark Dot) q h behind = refl
@@ -89,14 +91,14 @@ missing_alone d p w code.LineEnd q i h = ap (λ y. end_behind y p w) (sym h)
 missing_alone d p w _ q i h = ap (λ y. stuck_behind y p w) (sym h)
 
 -- behind the word `skip` the line ends
-pub skip_alone : (d : ℕ) (p : Place) (w : List ℕ) (k : Begun → State) (l : LexemeRef) (q : Place) → IsNeither l → lead.Skip ≡ lead_of w → (behind : State → Outcome) → at_token true (wants (behind_first d p w) k) (record { lexeme = seen l; place = q }) behind ≡ at_token true (wants a_line_end (λ r. k (statement (skip p)))) (record { lexeme = seen l; place = q }) behind
+pub skip_alone : (d : ℕ) (p : Place) (w : List ℕ) (k : Begun → State) (l : LexemeRef) (q : Place) → IsNeither l → lead.Skip ≡ lead_of w → (behind : State → Outcome) → at_token (λ l. true) (wants (behind_first d p w) k) (record { lexeme = seen l; place = q }) behind ≡ at_token (λ l. true) (wants a_line_end (λ r. k (statement (skip p)))) (record { lexeme = seen l; place = q }) behind
 skip_alone d p w k (code.Word x) q i h behind = absurd i
 skip_alone d p w k (code.Mark Connect) q i h behind = absurd i
 skip_alone d p w k (code.Mark PartialConnect) q i h behind = absurd i
 skip_alone d p w k (code.Mark Dot) q i h behind = absurd i
 skip_alone d p w k (code.Mark OpenSquare) q i h behind = absurd i
-skip_alone d p w k code.LineEnd q i h behind = ap (λ y. goes_on (end_behind y p w) q k behind (λ x. at_token true (k x) (record { lexeme = line_end; place = q }) behind)) (sym h)
-skip_alone d p w k l q i h behind = ap (λ y. goes_on (stuck_behind y p w) q k behind (λ x. at_token true (k x) (record { lexeme = seen l; place = q }) behind)) (sym h)
+skip_alone d p w k code.LineEnd q i h behind = ap (λ y. goes_on (end_behind y p w) q k behind (λ x. at_token (λ l. true) (k x) (record { lexeme = line_end; place = q }) behind)) (sym h)
+skip_alone d p w k l q i h behind = ap (λ y. goes_on (stuck_behind y p w) q k behind (λ x. at_token (λ l. true) (k x) (record { lexeme = seen l; place = q }) behind)) (sym h)
 
 -- a second word that is not `is`
 pub by_second_word : (d : ℕ) (p : Place) (w x : List ℕ) (q : Place) (l : Lead) → bytes_eq x (codes "is") ≡ false → l ≡ lead_of w → step (behind_first d p w) (word x) q ≡ declaration_step l d p w x q
@@ -110,7 +112,7 @@ not_invalid : (s : Sink) (otherwise : Step Begun) (l : LexemeRef) → ((x : Bor 
 not_invalid s o (code.Word x) h = rw (h x refl) refl
 not_invalid s o _ h = refl
 
-declares_is : (what : Declaration) (d : ℕ) (p q : Place) (k : Begun → State) (l : LexemeRef) (r : Place) (behind : State → Outcome) → goes_on (declaration_of_is (lead.Declares what) d p q (seen l) r) r k behind (λ x. at_token true (k x) (record { lexeme = seen l; place = r }) behind) ≡ at_token true (declared what d p (is_named q) k) (record { lexeme = seen l; place = r }) behind
+declares_is : (what : Declaration) (d : ℕ) (p q : Place) (k : Begun → State) (l : LexemeRef) (r : Place) (behind : State → Outcome) → goes_on (declaration_of_is (lead.Declares what) d p q (seen l) r) r k behind (λ x. at_token (λ l. true) (k x) (record { lexeme = seen l; place = r }) behind) ≡ at_token (λ l. true) (declared what d p (is_named q) k) (record { lexeme = seen l; place = r }) behind
 declares_is declares.Wire d p q k (code.Mark Colon) r behind = refl
 declares_is declares.Wire d p q k _ r behind = refl
 declares_is declares.Reg d p q k (code.Mark Colon) r behind = refl
@@ -126,12 +128,12 @@ declares_is declares.When d p q k (code.Mark _) r behind = refl
 declares_is declares.When d p q k _ r behind = refl
 
 -- behind the word `is`, a declaration of that name, or a when whose condition begins with it
-pub behind_is_declares : (what : Declaration) (d : ℕ) (p : Place) (w : List ℕ) (q : Place) (k : Begun → State) (l : LexemeRef) (r : Place) → lead.Declares what ≡ lead_of w → ((x : Bor (List ℕ)) → l ≡ code.Word x → bytes_eq x.now (codes "invalid") ≡ false) → (behind : State → Outcome) → at_token true (wants (behind_is d p w q) k) (record { lexeme = seen l; place = r }) behind ≡ at_token true (declared what d p (is_named q) k) (record { lexeme = seen l; place = r }) behind
+pub behind_is_declares : (what : Declaration) (d : ℕ) (p : Place) (w : List ℕ) (q : Place) (k : Begun → State) (l : LexemeRef) (r : Place) → lead.Declares what ≡ lead_of w → ((x : Bor (List ℕ)) → l ≡ code.Word x → bytes_eq x.now (codes "invalid") ≡ false) → (behind : State → Outcome) → at_token (λ l. true) (wants (behind_is d p w q) k) (record { lexeme = seen l; place = r }) behind ≡ at_token (λ l. true) (declared what d p (is_named q) k) (record { lexeme = seen l; place = r }) behind
 behind_is_declares what d p w q k l r e h behind =
-    ap (λ u. goes_on u r k behind (λ x. at_token true (k x) (record { lexeme = seen l; place = r }) behind)) (not_invalid (bare p w) (declaration_of_is (lead_of w) d p q (seen l) r) l h ∙ ap (λ y. declaration_of_is y d p q (seen l) r) (sym e))
+    ap (λ u. goes_on u r k behind (λ x. at_token (λ l. true) (k x) (record { lexeme = seen l; place = r }) behind)) (not_invalid (bare p w) (declaration_of_is (lead_of w) d p q (seen l) r) l h ∙ ap (λ y. declaration_of_is y d p q (seen l) r) (sym e))
     ∙ declares_is what d p q k l r behind
 
-pub declared_at_end : (what : Declaration) (d : ℕ) (p : Place) (n : PlacedName) (k : Begun → State) (end : Place) → at_end true end (declared what d p n k) ≡ Err (Syntax end)
+pub declared_at_end : (what : Declaration) (d : ℕ) (p : Place) (n : PlacedName) (k : Begun → State) (end : Place) → at_end (λ l. true) end (declared what d p n k) ≡ Err (Syntax end)
 declared_at_end declares.Wire d p n k end = refl
 declared_at_end declares.Reg d p n k end = refl
 declared_at_end declares.Node d p n k end = refl
@@ -151,14 +153,14 @@ pub invalid_behind_is : (d : ℕ) (p : Place) (w x : List ℕ) (q r : Place) →
 invalid_behind_is d p w x q r e = rw e refl
 
 -- behind the word `else`, where neither a colon nor a when stands
-pub no_else_behind : (d n : ℕ) (p : Place) (k : Otherwise → State) (l : LexemeRef) (q : Place) → (l ≡ code.Mark Colon → ⊥) → ((x : Bor (List ℕ)) → l ≡ code.Word x → bytes_eq x.now (codes "when") ≡ false) → (behind : State → Outcome) → at_token true (wants (behind_else d n p) k) (record { lexeme = seen l; place = q }) behind ≡ at_token true (ref_rest d p (codes "else") (λ s. k (no_else s))) (record { lexeme = seen l; place = q }) behind
+pub no_else_behind : (d n : ℕ) (p : Place) (k : Otherwise → State) (l : LexemeRef) (q : Place) → (l ≡ code.Mark Colon → ⊥) → ((x : Bor (List ℕ)) → l ≡ code.Word x → bytes_eq x.now (codes "when") ≡ false) → (behind : State → Outcome) → at_token (λ l. true) (wants (behind_else d n p) k) (record { lexeme = seen l; place = q }) behind ≡ at_token (λ l. true) (ref_rest d p (codes "else") (λ s. k (no_else s))) (record { lexeme = seen l; place = q }) behind
 no_else_behind d n p k (code.Mark Colon) q h g behind = absurd (h refl)
 no_else_behind d n p k (code.Mark Connect) q h g behind = refl
 no_else_behind d n p k (code.Mark PartialConnect) q h g behind = refl
 no_else_behind d n p k (code.Mark Dot) q h g behind = refl
 no_else_behind d n p k (code.Mark OpenSquare) q h g behind = refl
 no_else_behind d n p k (code.Word x) q h g behind =
-    ap (λ b. goes_on (if b then takes (λ j. wants (an_expression (d + n)) (λ e. when_rest (d + n) q e (λ s. j (else_when s)))) else if bytes_eq x.now (codes "is") then takes (λ j. wants (a_word (codes "invalid")) (λ r. ends_line (invalid p (bare p (codes "else"))) (λ s. j (no_else s)))) else refuses) q k behind (λ y. at_token true (k y) (record { lexeme = word x.now; place = q }) behind)) (g x refl)
+    ap (λ b. goes_on (if b then takes (λ j. wants (an_expression (d + n)) (λ e. when_rest (d + n) q e (λ s. j (else_when s)))) else if bytes_eq x.now (codes "is") then takes (λ j. wants (a_word (codes "invalid")) (λ r. ends_line (invalid p (bare p (codes "else"))) (λ s. j (no_else s)))) else refuses) q k behind (λ y. at_token (λ l. true) (k y) (record { lexeme = word x.now; place = q }) behind)) (g x refl)
     ∙ both_by_test (bytes_eq x.now (codes "is")) q (λ j. wants (a_word (codes "invalid")) (λ r. ends_line (invalid p (bare p (codes "else"))) (λ s. j (no_else s)))) k (λ j. wants (a_word (codes "invalid")) (λ r. ends_line (invalid p (bare p (codes "else"))) j)) (λ s. k (no_else s)) behind _ _ refl
 no_else_behind d n p k _ q h g behind = refl
 

@@ -9,18 +9,19 @@ use Rattle.fir_parse.specs.declared.lexeme.Lexeme.TheVariants.{End}
 use Rattle.fir_parse.specs.working.AtHand.{StandsFirst, stop_at}
 use Rattle.fir_parse.specs.Lexemes.{Lexeme, Terminal}
 use Rattle.fir_parse.specs.working.Parsed.{ReadWhole}
-use Rattle.fir_parse.specs.Reading.{read_on}
+use Rattle.fir_parse.specs.working.Reading.{read_on}
 use Rattle.fir_parse.specs.working.Reads.{Gives}
 use Rattle.fir_parse.specs.Spells.{terminals}
-use Rattle.fir_parse.specs.States.{done, wants}
-use Rattle.fir_parse.specs.Symbols.{a_text}
+use Rattle.fir_parse.specs.working.States.{done, wants}
+use Rattle.fir_parse.specs.working.Symbols.{a_text}
+use Rattle.fir_parse.specs.Limits.{everywhere}
 
 -- the text ends there
-pub whole_ends : (c : CircuitTree) (end : Place) (a : List Terminal) → a ≡ [] → read_on true end (done c) a ≡ Ok c
+pub whole_ends : (c : CircuitTree) (end : Place) (a : List Terminal) → a ≡ [] → read_on everywhere end (done c) a ≡ Ok c
 unfolding read_on
 whole_ends c end a e = rw e refl
 
-more_stands : (c : CircuitTree) (end : Place) (l : Lexeme) (p : Place) (a : List Terminal) → a ≡ record { lexeme = l; place = p } ∷ drop 1 a → read_on true end (done c) a ≡ Err (Syntax p)
+more_stands : (c : CircuitTree) (end : Place) (l : Lexeme) (p : Place) (a : List Terminal) → a ≡ record { lexeme = l; place = p } ∷ drop 1 a → read_on everywhere end (done c) a ≡ Err (Syntax p)
 unfolding read_on
 more_stands c end l p a e = rw e refl
 

@@ -1,13 +1,11 @@
 -- Tokens as the grammar sees them.
-use Rattle.std.specs.Prelude.{ℕ, List, Option, Some, None, codes, if◌then◌else◌}
+use Rattle.std.specs.Prelude.{ℕ, List, codes, if◌then◌else◌}
 use Rattle.std.specs.Str.{bytes_eq}
 use Rattle.fir_ast.specs.declared.place.Place.{Place}
 use Rattle.fir_lex.specs.Tokens.{Token, Placed}
 use Rattle.fir_lex.specs.Tokens as token
 use Rattle.fir_parse.specs.declared.lexeme.Mark.{Mark}
 use Rattle.fir_parse.specs.declared.lexeme.Mark.TheVariants.{Connect, PartialConnect, Arrow, Equals, Less, Greater, OpenRound, CloseRound, OpenSquare, CloseSquare, OpenCurly, CloseCurly, Comma, Colon, Dot}
-use Rattle.fir_parse.specs.declared.lexeme.Lexeme.{Lexeme as LexemeRef}
-use Rattle.fir_parse.specs.declared.lexeme.Lexeme.TheVariants as code
 
 pub data Lexeme : Type 0 where
   word : List ℕ → Lexeme
@@ -58,21 +56,3 @@ pub record Terminal : Type 0 where
 
 abbrev pub terminal_of : Placed → Terminal
 terminal_of t = record { lexeme = lexeme_of t.token; place = t.place }
-
-abbrev pub option_mark : Option Mark → Lexeme
-option_mark (Some m) = mark m
-option_mark None = other
-
--- what a lexeme of the code is
-abbrev pub seen : LexemeRef → Lexeme
-seen (code.Word s) = word s.now
-seen (code.DashWord s) = dash_word s.now
-seen (code.Integer i) = integer i.spelling.now
-seen (code.Text s) = text s.now
-seen (code.Mark m) = mark m
-seen code.Annotations = annotations
-seen code.LineEnd = line_end
-seen code.LevelOpens = level_opens
-seen code.LevelCloses = level_closes
-seen code.Other = other
-seen code.End = other

@@ -1,4 +1,16 @@
--- What no clause of `run` reads: contracts between layers, laws, views of the code and its states.
+-- What no clause of `run` reads: reading from the left, contracts between layers, laws, views of the code and its states.
+pub mod Seen
+pub mod Words
+pub mod Marks
+pub mod Symbols
+pub mod States
+pub mod TypeRules
+pub mod ExpressionRules
+pub mod StatementRules
+pub mod MemoryRules
+pub mod CircuitRules
+pub mod Reading
+pub mod Reaching
 pub mod Reads
 pub mod Trees
 pub mod BundlePlans
@@ -9,9 +21,4 @@ pub mod Plans
 pub mod StatementTrees
 pub mod ModuleTrees
 pub mod Ranges
-pub mod Pieces
-pub mod TypeForms
-pub mod ExpressionForms
-pub mod StatementForms
-pub mod CircuitForms
 pub mod PartPlans

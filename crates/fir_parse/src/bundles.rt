@@ -21,10 +21,10 @@ impl<'t> Parser<'t> {
     ghost use Rattle.fir_parse.specs.Heights.{type_height, fields_height};
     ghost use Rattle.fir_parse.specs.Lexemes.{mark, word};
     ghost use Rattle.fir_parse.specs.working.Reads.{left, rest, HasHeight, Leads, Reads};
-    ghost use Rattle.fir_parse.specs.States.{wants};
-    ghost use Rattle.fir_parse.specs.Symbols.{a_type, fields, more_fields, a_field};
+    ghost use Rattle.fir_parse.specs.working.States.{wants};
+    ghost use Rattle.fir_parse.specs.working.Symbols.{a_type, fields, more_fields, a_field};
     ghost use Rattle.fir_parse.specs.working.Trees.{tall_type_at, tall_field, field_tree, field_height, bundle_fields};
-    ghost use Rattle.fir_parse.specs.TypeRules.{field_rest};
+    ghost use Rattle.fir_parse.specs.working.TypeRules.{field_rest};
 
     /// A bundle, whose brace is at hand at the place, and the lengths behind it.
     #[cycle(types)]

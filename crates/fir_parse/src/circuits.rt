@@ -9,11 +9,11 @@ use fir_ast::{Circuit, FirFault, Place};
 
 impl<'t> Parser<'t> {
     ghost use Rattle.fir_ast.specs.View.{circuit_of};
-    ghost use Rattle.fir_parse.specs.CircuitRules.{circuit_rest, version_plan, version_rest};
+    ghost use Rattle.fir_parse.specs.working.CircuitRules.{circuit_rest, version_plan, version_rest};
     ghost use Rattle.fir_parse.specs.working.PartPlans.{circuit_plan};
     ghost use Rattle.fir_parse.specs.working.Reads.{rest, Reads};
-    ghost use Rattle.fir_parse.specs.States.{wants};
-    ghost use Rattle.fir_parse.specs.Symbols.{a_text, some_annotations};
+    ghost use Rattle.fir_parse.specs.working.States.{wants};
+    ghost use Rattle.fir_parse.specs.working.Symbols.{a_text, some_annotations};
 
     /// The version, where one is written, and the circuit.
     pub fn text(&mut self) -> Result<Circuit, Stop>

@@ -14,9 +14,9 @@ impl<'t> Parser<'t> {
     ghost use Rattle.fir_ast.specs.View.{sink_of, stmt_of};
     ghost use Rattle.fir_parse.specs.Lexemes.{word};
     ghost use Rattle.fir_parse.specs.working.Reads.{left, rest, Reads};
-    ghost use Rattle.fir_parse.specs.StatementRules.{begun, connect_rest, declared, ends_line, partial_connect_rest, ref_rest};
-    ghost use Rattle.fir_parse.specs.States.{wants};
-    ghost use Rattle.fir_parse.specs.Symbols.{a_line_end, a_word, behind_first, behind_is, behind_sink, statement};
+    ghost use Rattle.fir_parse.specs.working.StatementRules.{begun, connect_rest, declared, ends_line, partial_connect_rest, ref_rest};
+    ghost use Rattle.fir_parse.specs.working.States.{wants};
+    ghost use Rattle.fir_parse.specs.working.Symbols.{a_line_end, a_word, behind_first, behind_is, behind_sink, statement};
     ghost use Rattle.fir_parse.specs.working.StatementTrees.{begun_of, Deepens, IsBare, IsNeither};
     ghost use Rattle.fir_parse.specs.working.AtHand.{IsAtHand};
 

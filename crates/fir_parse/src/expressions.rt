@@ -12,12 +12,12 @@ impl<'t> Parser<'t> {
     ghost use Rattle.std.specs.Prelude.{◌≡◌, ◌<◌, ◌≤◌, ◌∷◌, IfErr, IfOk, OnOk, drop};
     ghost use Rattle.fir_ast.specs.View.{expr_of};
     ghost use Rattle.fir_ast.specs.Expressions.{reference, no_parts};
-    ghost use Rattle.fir_parse.specs.ExpressionRules.{literal_rest, reference_rest};
+    ghost use Rattle.fir_parse.specs.working.ExpressionRules.{literal_rest, reference_rest};
     ghost use Rattle.fir_parse.specs.Heights.{height};
     ghost use Rattle.fir_parse.specs.Lexemes.{mark};
     ghost use Rattle.fir_parse.specs.working.Reads.{left, rest, HasHeight, Reads};
-    ghost use Rattle.fir_parse.specs.States.{wants};
-    ghost use Rattle.fir_parse.specs.Symbols.{an_expression, behind_word};
+    ghost use Rattle.fir_parse.specs.working.States.{wants};
+    ghost use Rattle.fir_parse.specs.working.Symbols.{an_expression, behind_word};
     ghost use Rattle.fir_parse.specs.working.Trees.{tall_expression};
 
     /// An expression, where so many blocks and brackets are open.

@@ -2,20 +2,28 @@
 
 ghost use Rattle.fir_parse.specs.working.Laws.{SpellsOneTree, HasTreeOrFault, ShowsOneFault, UnsupportedNamesItsWord, SpelledFormByForm};
 
+use fir_lex::laws::lexed_form_by_form;
+
 /// A text spells one tree at most.
 pub fn spells_one_tree()
     ensures { SpellsOneTree }
-{}
+{
+    lexed_form_by_form();
+}
 
 /// A text spells a tree, or it has a fault, and not both.
 pub fn has_tree_or_fault()
     ensures { HasTreeOrFault }
-{}
+{
+    lexed_form_by_form();
+}
 
 /// A text shows one fault at most.
 pub fn shows_one_fault()
     ensures { ShowsOneFault }
-{}
+{
+    lexed_form_by_form();
+}
 
 /// A form that is not in the language is shown at its word: the token with which no text goes on, or the
 /// last before it.

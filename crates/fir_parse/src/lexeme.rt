@@ -1,7 +1,8 @@
 //! Tokens as the grammar sees them.
 
 ghost use Rattle.std.specs.Prelude.{◌≡◌};
-ghost use Rattle.fir_parse.specs.Lexemes.{sign_lexeme, option_mark};
+ghost use Rattle.fir_parse.specs.Lexemes.{sign_lexeme};
+ghost use Rattle.fir_parse.specs.working.Seen.{option_mark};
 
 use crate::integer::Integer;
 use fir_lex::{Kind, TokenRef};
@@ -55,7 +56,8 @@ pub enum Lexeme<'a> {
 impl<'a> Lexeme<'a> {
     ghost use Rattle.std.specs.Prelude.{◌≡◌, ◌≢◌};
     ghost use Rattle.fir_lex.specs.working.View.{token_of};
-    ghost use Rattle.fir_parse.specs.Lexemes.{lexeme_of, seen, sign_lexeme};
+    ghost use Rattle.fir_parse.specs.Lexemes.{lexeme_of, sign_lexeme};
+    ghost use Rattle.fir_parse.specs.working.Seen.{seen};
 
     /// The token as the grammar sees it.
     pub fn of(token: TokenRef<'a>) -> Lexeme<'a>

@@ -12,11 +12,11 @@ use fir_ast::{FirFault, Literal, Place};
 impl<'t> Parser<'t> {
     ghost use Rattle.std.specs.Prelude.{◌<◌, OnOk};
     ghost use Rattle.fir_ast.specs.Expressions.{literal};
-    ghost use Rattle.fir_parse.specs.ExpressionRules.{literal_rest};
+    ghost use Rattle.fir_parse.specs.working.ExpressionRules.{literal_rest};
     ghost use Rattle.fir_parse.specs.working.Plans.{sized_plan};
     ghost use Rattle.fir_parse.specs.working.Reads.{left, rest, Reads};
-    ghost use Rattle.fir_parse.specs.States.{wants};
-    ghost use Rattle.fir_parse.specs.Symbols.{a_literal};
+    ghost use Rattle.fir_parse.specs.working.States.{wants};
+    ghost use Rattle.fir_parse.specs.working.Symbols.{a_literal};
 
     /// The number of a literal: an integer or a string.
     pub fn literal(

@@ -9,12 +9,12 @@ use fir_ast::{Ident, Memory, MemoryField, Place, ReadUnderWrite, Stmt};
 impl<'t> Parser<'t> {
     ghost use Rattle.std.specs.Prelude.{◌<◌, ◌≤◌, ◌∷◌, ◌++◌, OnOk, map};
     ghost use Rattle.fir_ast.specs.View.{memory_part_of, named_of, stmt_of};
-    ghost use Rattle.fir_parse.specs.MemoryRules.{names_plan, number_plan};
+    ghost use Rattle.fir_parse.specs.working.MemoryRules.{names_plan, number_plan};
     ghost use Rattle.fir_parse.specs.working.PartPlans.{data_type_plan, under_write_plan};
     ghost use Rattle.fir_parse.specs.working.Reads.{left, rest, Reads};
-    ghost use Rattle.fir_parse.specs.StatementRules.{memory_rest};
-    ghost use Rattle.fir_parse.specs.States.{wants};
-    ghost use Rattle.fir_parse.specs.Symbols.{a_mark, a_memory_body, a_memory_field, an_under_write, more_memory_fields, more_names};
+    ghost use Rattle.fir_parse.specs.working.StatementRules.{memory_rest};
+    ghost use Rattle.fir_parse.specs.working.States.{wants};
+    ghost use Rattle.fir_parse.specs.working.Symbols.{a_mark, a_memory_body, a_memory_field, an_under_write, more_memory_fields, more_names};
 
     /// A memory, behind its name.
     pub fn memory(&mut self, depth: u32, place: Place, ident: Ident) -> Result<Stmt, Stop>

@@ -26,14 +26,14 @@ pub enum PortOr {
 impl<'t> Parser<'t> {
     ghost use Rattle.std.specs.Prelude.{◌≡◌, ◌<◌, ◌≤◌, ◌∷◌, ◌++◌, IfOk, OnOk, drop, map};
     ghost use Rattle.fir_ast.specs.View.{module_of, named_of};
-    ghost use Rattle.fir_parse.specs.CircuitRules.{behind_port, one_module, port_rest};
+    ghost use Rattle.fir_parse.specs.working.CircuitRules.{behind_port, one_module, port_rest};
     ghost use Rattle.fir_parse.specs.Lexemes.{word};
     ghost use Rattle.fir_parse.specs.working.ModuleTrees.{body_of, port_or_of, HasRoom};
     ghost use Rattle.fir_parse.specs.working.PartPlans.{invalid_plan, no_port_plan, port_plan};
     ghost use Rattle.fir_parse.specs.working.Reads.{left, rest, Leads, Reads};
-    ghost use Rattle.fir_parse.specs.StatementRules.{is_named};
-    ghost use Rattle.fir_parse.specs.States.{wants};
-    ghost use Rattle.fir_parse.specs.Symbols.{a_body, behind_direction, behind_port_is, first_module, more_modules, ports_and_statements};
+    ghost use Rattle.fir_parse.specs.working.StatementRules.{is_named};
+    ghost use Rattle.fir_parse.specs.working.States.{wants};
+    ghost use Rattle.fir_parse.specs.working.Symbols.{a_body, behind_direction, behind_port_is, first_module, more_modules, ports_and_statements};
 
     /// The modules of a circuit, one at least, up to the end of their level.
     pub fn modules(&mut self) -> Result<Vec<Module>, Stop>

@@ -22,9 +22,9 @@ impl<'t> Parser<'t> {
     ghost use Rattle.fir_parse.specs.Heights.{height, height_with};
     ghost use Rattle.fir_parse.specs.Lexemes.{mark};
     ghost use Rattle.fir_parse.specs.working.Reads.{left, rest, HasHeight, Leads, Reads};
-    ghost use Rattle.fir_parse.specs.States.{wants};
-    ghost use Rattle.fir_parse.specs.Symbols.{parts, an_index};
-    ghost use Rattle.fir_parse.specs.ExpressionRules.{indexed, reference_rest};
+    ghost use Rattle.fir_parse.specs.working.States.{wants};
+    ghost use Rattle.fir_parse.specs.working.Symbols.{parts, an_index};
+    ghost use Rattle.fir_parse.specs.working.ExpressionRules.{indexed, reference_rest};
     ghost use Rattle.fir_parse.specs.working.Trees.{tall_sink, sink_height, part_of, index_tree, index_height};
 
     /// What stands behind a name, where so many blocks and brackets are open.

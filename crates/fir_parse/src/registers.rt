@@ -11,9 +11,9 @@ impl<'t> Parser<'t> {
     ghost use Rattle.fir_ast.specs.View.{named_of, reset_of, stmt_of};
     ghost use Rattle.fir_parse.specs.working.PartPlans.{level_reset_plan, reset_part_plan, round_reset_plan};
     ghost use Rattle.fir_parse.specs.working.Reads.{left, rest, Reads};
-    ghost use Rattle.fir_parse.specs.StatementRules.{register_rest, reset_rest};
-    ghost use Rattle.fir_parse.specs.States.{wants};
-    ghost use Rattle.fir_parse.specs.Symbols.{a_mark, a_reset, behind_with};
+    ghost use Rattle.fir_parse.specs.working.StatementRules.{register_rest, reset_rest};
+    ghost use Rattle.fir_parse.specs.working.States.{wants};
+    ghost use Rattle.fir_parse.specs.working.Symbols.{a_mark, a_reset, behind_with};
 
     /// `: type , clock` and what resets it, behind a register's name.
     pub fn register(&mut self, depth: u32, place: Place, ident: Ident) -> Result<Stmt, Stop>

@@ -20,8 +20,8 @@ impl Sequence {
     ghost use Rattle.std.specs.Prelude.{◌≡◌, ◌+◌, ◌≤◌, [], ℕ, OnOk, length, map};
     ghost use Rattle.fir_ast.specs.Statements.{Block};
     ghost use Rattle.fir_ast.specs.View.{block_of, stmt_of};
-    ghost use Rattle.fir_parse.specs.States.{State};
-    ghost use Rattle.fir_parse.specs.StatementRules.{behind_otherwise, behind_statement, closed_before};
+    ghost use Rattle.fir_parse.specs.working.States.{State};
+    ghost use Rattle.fir_parse.specs.working.StatementRules.{behind_otherwise, behind_statement, closed_before};
     ghost use Rattle.fir_parse.specs.working.StatementTrees.{begun_of, done_of, more_statements, opens_of, otherwise_of, statements_before, Deepens, DeepensElse, IsWithin};
 
     fn new(alloc: Global) -> Sequence
@@ -95,10 +95,10 @@ impl<'t> Parser<'t> {
     ghost use Rattle.fir_ast.specs.View.{block_of, stmt_of};
     ghost use Rattle.fir_parse.specs.Lexemes.{word};
     ghost use Rattle.fir_parse.specs.working.Reads.{left, rest, Leads, Reads};
-    ghost use Rattle.fir_parse.specs.States.{wants};
-    ghost use Rattle.fir_parse.specs.StatementRules.{behind_statement};
+    ghost use Rattle.fir_parse.specs.working.States.{wants};
+    ghost use Rattle.fir_parse.specs.working.StatementRules.{behind_statement};
     ghost use Rattle.fir_parse.specs.working.StatementTrees.{begun_of, more_statements, Deepens, IsWithin};
-    ghost use Rattle.fir_parse.specs.Symbols.{statements};
+    ghost use Rattle.fir_parse.specs.working.Symbols.{statements};
 
     /// The statements of a level up to its end.
     #[cycle(statements)]

@@ -21,8 +21,8 @@ impl<'t> Parser<'t> {
     ghost use Rattle.fir_parse.specs.Lexemes.{mark, word};
     ghost use Rattle.fir_parse.specs.working.Reads.{left, rest, HasHeight, Leads, Reads};
     ghost use Rattle.fir_parse.specs.working.AtHand.{IsAtHand};
-    ghost use Rattle.fir_parse.specs.States.{wants};
-    ghost use Rattle.fir_parse.specs.Symbols.{a_type, a_width, dimensions};
+    ghost use Rattle.fir_parse.specs.working.States.{wants};
+    ghost use Rattle.fir_parse.specs.working.Symbols.{a_type, a_width, dimensions};
     ghost use Rattle.fir_parse.specs.working.Trees.{placed_type, placed_type_height, tall_placed_type, tall_type, tall_type_at};
 
     /// A type, where so many blocks and brackets are open.

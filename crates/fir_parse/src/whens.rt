@@ -34,10 +34,10 @@ impl<'t> Parser<'t> {
     ghost use Rattle.std.specs.Prelude.{◌+◌, ◌<◌, ◌≤◌, IfOk, OnOk, codes, map};
     ghost use Rattle.fir_ast.specs.View.{block_of, expr_of, stmt_of};
     ghost use Rattle.fir_parse.specs.working.Reads.{left, rest, Reads};
-    ghost use Rattle.fir_parse.specs.StatementRules.{ref_rest, when_rest};
+    ghost use Rattle.fir_parse.specs.working.StatementRules.{ref_rest, when_rest};
     ghost use Rattle.fir_parse.specs.working.StatementTrees.{open_when_of, otherwise_of, DeepensElse};
-    ghost use Rattle.fir_parse.specs.States.{wants};
-    ghost use Rattle.fir_parse.specs.Symbols.{an_indented_block, behind_else, no_else};
+    ghost use Rattle.fir_parse.specs.working.States.{wants};
+    ghost use Rattle.fir_parse.specs.working.Symbols.{an_indented_block, behind_else, no_else};
 
     /// The colon and the block of a when, behind its condition.
     #[cycle(statements)]

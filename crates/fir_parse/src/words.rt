@@ -1,7 +1,7 @@
 //! Words that have a meaning in their place. Everywhere else each of them is a name.
 
 ghost use Rattle.std.specs.Prelude.{◌≡◌};
-ghost use Rattle.fir_parse.specs.Words.{under_write_of, direction_of};
+ghost use Rattle.fir_parse.specs.working.Words.{under_write_of, direction_of};
 
 use crate::lexeme::Lexeme;
 use fir_ast::ReadUnderWrite;
@@ -82,7 +82,7 @@ pub enum ModuleWord {
 
 impl Lead {
     ghost use Rattle.std.specs.Prelude.{◌≡◌};
-    ghost use Rattle.fir_parse.specs.Words.{lead_of};
+    ghost use Rattle.fir_parse.specs.working.Words.{lead_of};
 
     /// What a statement begins with.
     pub fn of(word: &[u8]) -> Lead
@@ -112,7 +112,7 @@ impl Lead {
 
 impl TypeWord {
     ghost use Rattle.std.specs.Prelude.{◌≡◌};
-    ghost use Rattle.fir_parse.specs.Words.{type_word_of};
+    ghost use Rattle.fir_parse.specs.working.Words.{type_word_of};
 
     /// What stands where a type is expected.
     pub fn of(word: &[u8]) -> TypeWord
@@ -132,7 +132,7 @@ impl TypeWord {
 
 impl Applied {
     ghost use Rattle.std.specs.Prelude.{◌≡◌};
-    ghost use Rattle.fir_parse.specs.Words.{applied_of};
+    ghost use Rattle.fir_parse.specs.working.Words.{applied_of};
 
     /// What the word is before an opening parenthesis.
     pub fn of(word: &[u8]) -> Applied
@@ -162,8 +162,8 @@ impl Applied {
 
 impl FieldWord {
     ghost use Rattle.std.specs.Prelude.{◌≡◌};
-    ghost use Rattle.fir_parse.specs.Lexemes.{seen};
-    ghost use Rattle.fir_parse.specs.Words.{field_word_of, plain_field_word, dash_field_word};
+    ghost use Rattle.fir_parse.specs.working.Seen.{seen};
+    ghost use Rattle.fir_parse.specs.working.Words.{field_word_of, plain_field_word, dash_field_word};
 
     /// What a memory's field begins with.
     pub fn of(lexeme: Lexeme) -> FieldWord
@@ -203,7 +203,7 @@ impl FieldWord {
 
 impl ModuleWord {
     ghost use Rattle.std.specs.Prelude.{◌≡◌};
-    ghost use Rattle.fir_parse.specs.Words.{module_word_of};
+    ghost use Rattle.fir_parse.specs.working.Words.{module_word_of};
 
     /// What stands where a module is expected.
     pub fn of(word: &[u8]) -> ModuleWord

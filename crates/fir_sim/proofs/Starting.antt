@@ -1,5 +1,5 @@
 -- What the simulator begins with: each leaf and output at 0, and the registers at the words of the state.
-use Rattle.std.proofs.Common.{◌≡◌, ℕ, ◌≤◌, List, [], ◌∷◌, length, map, sym, ap, ◌∙◌, subst}
+use Rattle.std.proofs.Common.{◌≡◌, ℕ, ◌≤◌, List, [], ◌∷◌, length, map, replicate, refl, sym, ap, ◌∙◌, subst}
 use Rattle.std.specs.List.{AllByRecursion}
 use Rattle.std.proofs.Math.Pow.{pow_pos}
 use Rattle.fir_base.specs.Ticks.{FitEach}
@@ -12,12 +12,13 @@ use Rattle.fir_net.specs.working.Settled.{shape}
 use Rattle.fir_net.specs.working.IsOrder.{IsOrder}
 use Rattle.fir_net.specs.declared.reads.Read.{Read}
 use Rattle.fir_sim.specs.declared.plan.Plan.{Plan}
+use Rattle.fir_sim.specs.declared.plan.OutputPlan.{OutputPlan}
 use Rattle.fir_sim.specs.declared.plan.RegisterPlan.{RegisterPlan}
 use Rattle.fir_sim.specs.declared.values.Values.{Values}
 use Rattle.fir_sim.specs.working.Held.{IsNum, IsHeld}
-use Rattle.fir_sim.specs.working.Views.{numbers, widths}
+use Rattle.fir_sim.specs.working.Views.{numbers, widths, output_widths}
 use Rattle.fir_sim.specs.working.Plans.{IsPlan}
-use Rattle.fir_sim.specs.working.Passes.{zero_of, leaf_zero, output_zero, register_width, values_of, IsNarrowOutput, IsNarrowRegister}
+use Rattle.fir_sim.specs.working.Passes.{zero_of, leaf_zero, output_zero, output_width, register_width, values_of, IsNarrowOutput, IsNarrowRegister}
 use Rattle.fir_sim.specs.working.Running.{IsRunning}
 use Rattle.fir_sim.proofs.Lists.{all_map, map_both}
 use Rattle.fir_sim.proofs.Placings.{values_numbers, values_widths, values_whole}
@@ -31,6 +32,10 @@ narrow_words : (ps : List RegisterPlan) → AllByRecursion IsNarrowRegister ps �
 narrow_words [] h = tt
 narrow_words (q ∷ ps) h = (h.0, narrow_words ps h.1)
 
+zero_numbers : (ps : List OutputPlan) → numbers (map output_zero ps) ≡ replicate (length (map output_width ps)) 0
+zero_numbers [] = refl
+zero_numbers (q ∷ ps) = ap (λ ns. 0 ∷ ns) (zero_numbers ps)
+
 module _ (net : FlatNet) (whole : IsNet net) where
   zeros_held : IsHeld net (map leaf_zero net.leaves)
   zeros_held = record {
@@ -42,6 +47,11 @@ module _ (net : FlatNet) (whole : IsNet net) where
   zeros_whole p plan =
       all_mapped IsBitVector output_zero p.outputs.items
       (all_map IsNarrowOutput (λ q. IsBitVector (output_zero q)) (λ q narrow. zero_whole q.width narrow) p.outputs.items (outputs_narrow net whole p plan))
+
+  pub outputs_are_zeros : (p : Plan) → IsPlan net p → (vs : List BitVector) → vs ≡ map output_zero p.outputs.items
+      → numbers vs ≡ replicate (length (output_widths net)) 0
+  outputs_are_zeros p plan vs shown =
+      ap numbers shown ∙ zero_numbers p.outputs.items ∙ ap (λ (ws : List ℕ). replicate (length ws) 0) (shown_widths net whole p plan)
 
   module _ (p : Plan) (plan : IsPlan net p) (ns : List ℕ) (fit : FitEach (shape net).state ns) where
     pub fit_registers : FitEach (map register_width p.registers.items) ns

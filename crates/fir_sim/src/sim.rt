@@ -1,6 +1,6 @@
 //! The simulator of a net.
 
-ghost use Rattle.std.specs.Prelude.{◌≡◌, IfOk};
+ghost use Rattle.std.specs.Prelude.{◌≡◌, IfOk, length, replicate};
 ghost use Rattle.fir_base.specs.Ticks.{FitEach};
 ghost use Rattle.fir_net.specs.working.IsNet.{IsNet};
 ghost use Rattle.fir_net.specs.working.IsOrder.{IsOrder};
@@ -41,13 +41,14 @@ impl Model for Sim {
 }
 
 impl Sim {
-    /// A simulator of the net in that state, which walks this order of the net at each tick. The outputs are 0 before the first tick. Only memory can be
-    /// wanting.
+    /// A simulator of the net in that state, which walks this order of the net at each tick. The outputs are 0
+    /// before the first tick. Only memory can be wanting.
     pub fn new(alloc: Global, net: FlatNet, order: Order, init: &Init) -> Result<Sim, MemoryOut>
         requires whole { IsNet net }
         requires ordered { IsOrder net order }
         requires fits { FitEach (shape net).state init.now }
         ensures net { IfOk result (λ s. s.net ≡ net) }
+        ensures outputs { IfOk result (λ s. numbers s.outputs ≡ replicate (length (output_widths net)) 0) }
         ensures state { IfOk result (λ s. numbers s.state ≡ init.now) }
     {
         let plan = Plan::new(alloc, &net, order.as_slice())?;

@@ -15,7 +15,7 @@ use Rattle.trace_text.proofs.LineFronts.{front_of_all, one_whole, SameEnd, compa
 
 module _ (shape : TraceShape) where
   -- a line that is read behind spelled lines is not bad
-  read_not_bad : (lines front : List (List ℕ)) (line : List ℕ) (back : List (List ℕ)) (init other : List ℕ) (ticks others : List Tick) (cause : Cause) (later : List Cause)
+  pub read_not_bad : (lines front : List (List ℕ)) (line : List ℕ) (back : List (List ℕ)) (init other : List ℕ) (ticks others : List Tick) (cause : Cause) (later : List Cause)
       → LinesSpell shape lines init ticks → lines ≡ (front ++ line ∷ []) ++ back → LinesSpell shape front other others → line_faults shape (are_some others) line ≡ cause ∷ later → ⊥
   read_not_bad lines front line back init other ticks others cause later s e t f =
       let r = subst (λ ls. AreRead shape false ls (zeros shape) init ticks) e (spelled_read shape lines init ticks s) in

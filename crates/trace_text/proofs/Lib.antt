@@ -37,3 +37,7 @@ pub mod ReadValues
 pub mod JudgedWords
 pub mod ReadNumbers
 pub mod ReadTickLines
+pub mod WrittenWords
+pub mod TraceFronts
+pub mod RunFronts
+pub mod CutLines

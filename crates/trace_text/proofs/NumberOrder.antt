@@ -11,6 +11,7 @@ use Rattle.std.proofs.lemmas.Bool.{and_parts, leb-true, lt-ltb, le-ltb, cases_or
 use Rattle.std.proofs.lemmas.Bool.Decides.{nat_tests}
 use Rattle.fir_base.specs.Bytes.{is_digit}
 use Rattle.trace_text.specs.Spelling.{digit_number, number_from, decimal_of}
+use Rattle.trace_text.proofs.Numbers.{all_ten, number_below}
 
 -- what a digit is worth
 worth : (b : ℕ) → is_digit b ≡ true → (48 ≤ b) × (b ≤ 57) × (digit_number b ≡ b - 48)
@@ -18,18 +19,11 @@ worth b h =
     let p = and_parts _ _ h in
     (leb-true 48 b p.0, leb-true b 57 p.1, ap (λ d. unwrap_or d 0) (cond-true (is_digit b) (Some (b - 48)) _ h))
 
-below_step : (n v p x : ℕ) → v ≤ 9 → x < (10 * n + v + 1) * p → x < (n + 1) * (p * 10)
-below_step n v p x h l = let m : (10 * n + v + 1) * p ≤ (10 * n + 10) * p = mul-le-mul_right p (omega arith) in omega arith
-
 above_step : (n v p x : ℕ) → (10 * n + v) * p ≤ x → n * (p * 10) ≤ x
 above_step n v p x l = omega arith
 
 below : (n : ℕ) (ds : List ℕ) → list_all is_digit ds ≡ true → number_from 10 n ds < (n + 1) * 10 ^ length ds
-below n [] h = omega arith
-below n (d ∷ ds) h =
-    let p = and_parts (is_digit d) (list_all is_digit ds) h in
-    let w = worth d p.0 in
-    rw pow-suc (below_step n (digit_number d) (10 ^ length ds) _ (omega (arith, w.0, w.1, w.2)) (below (10 * n + digit_number d) ds p.1))
+below n ds h = number_below 10 n ds (all_ten ds ∙ h)
 
 above : (n : ℕ) (ds : List ℕ) → n * 10 ^ length ds ≤ number_from 10 n ds
 above n [] = omega arith

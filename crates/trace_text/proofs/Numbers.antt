@@ -1,9 +1,11 @@
 -- The numbers of digits.
 -- A number grows with each digit, so one that is too great stays so.
-use Rattle.std.proofs.Common.{◌≡◌, ℕ, ◌+◌, ◌*◌, ◌^◌, ◌<◌, ◌≤◌, List, [], ◌∷◌, length, get_or, drop, Bool, ◌&&◌, refl, sym, ap, ◌∙◌, arith}
+use Rattle.std.proofs.Common.{◌≡◌, ℕ, ◌+◌, ◌*◌, ◌^◌, ◌<◌, ◌≤◌, List, [], ◌∷◌, length, get_or, drop, Bool, true, ◌&&◌, nat_lt, refl, sym, ap, ◌∙◌, arith}
 use Rattle.std.specs.List.{list_all}
 use Rattle.std.proofs.lemmas.List.{at_drop_more}
+use Rattle.std.proofs.lemmas.Bool.{and_parts, ltb-true}
 use Rattle.std.proofs.lemmas.Bool.Decides.{nat_tests}
+use Rattle.std.proofs.Math.Nat.{pow-suc, pow-zero, mul-le-mul_right}
 use Rattle.std.proofs.Math.Pow.{pow_mono}
 use Rattle.fir_base.specs.Bytes.{is_digit}
 use Rattle.trace_text.specs.Spelling.{is_hexadecimal, digit_number, number_from, is_filled, is_value, is_decimal}
@@ -36,11 +38,29 @@ all_alike : (p q : ℕ → Bool) → ((b : ℕ) → p b ≡ q b) → (bs : List 
 all_alike p q h [] = refl
 all_alike p q h (b ∷ bs) = rw (h b, all_alike p q h bs) refl
 
+pub all_sixteen : (bs : List ℕ) → list_all (is_digit_in 16) bs ≡ list_all is_hexadecimal bs
+all_sixteen = all_alike (is_digit_in 16) is_hexadecimal sixteen
+
+pub all_ten : (bs : List ℕ) → list_all (is_digit_in 10) bs ≡ list_all is_digit bs
+all_ten = all_alike (is_digit_in 10) is_digit ten
+
 pub in_sixteen : (word : List ℕ) → is_number 16 word ≡ is_value word
-in_sixteen word = ap (λ b. is_filled word && b) (all_alike (is_digit_in 16) is_hexadecimal sixteen word)
+in_sixteen word = ap (λ b. is_filled word && b) (all_sixteen word)
 
 pub in_ten : (word : List ℕ) → is_number 10 word ≡ is_decimal word
-in_ten word = ap (λ b. is_filled word && b) (all_alike (is_digit_in 10) is_digit ten word)
+in_ten word = ap (λ b. is_filled word && b) (all_ten word)
+
+-- digits behind a number make less than zeros behind the next number
+below_step : (base n v p x : ℕ) → v < base → x < (base * n + v + 1) * p → x < (n + 1) * (p * base)
+below_step base n v p x h l = let m : (base * n + v + 1) * p ≤ (base * n + base) * p = mul-le-mul_right p (omega arith) in omega arith
+
+pub number_below : (base n : ℕ) (ds : List ℕ) → list_all (is_digit_in base) ds ≡ true → number_from base n ds < (n + 1) * base ^ length ds
+number_below base n [] h = rw pow-zero (omega arith)
+number_below base n (d ∷ ds) h =
+    let p = and_parts (is_digit_in base d) (list_all (is_digit_in base) ds) h in
+    let q = and_parts (is_hexadecimal d) (nat_lt (digit_number d) base) p.0 in
+    rw pow-suc
+    (below_step base n (digit_number d) (base ^ length ds) _ (ltb-true (digit_number d) base q.1) (number_below base (base * n + digit_number d) ds p.1))
 
 -- a number with more than 128 bits fits no width of up to so many
 pub beyond : (n width : ℕ) → 2 ^ 128 ≤ n → width ≤ 128 → 2 ^ width ≤ n

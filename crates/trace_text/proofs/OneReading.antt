@@ -11,28 +11,28 @@ use Rattle.trace_text.proofs.LineKinds.{skipped_no_init, skipped_no_tick, init_n
 use Rattle.trace_text.proofs.ReadLines.{AreRead}
 
 -- what is known of the lines behind a line that two readings share
-record BothSkip (shape : TraceShape) (after : Bool) (xs ys : List (List ℕ)) (b c init other : List ℕ) (ticks others : List Tick) : Type 0 where
-  first : AreRead shape after xs b init ticks
-  second : AreRead shape after ys c other others
+pub record BothSkip (shape : TraceShape) (after : Bool) (xs ys : List (List ℕ)) (b c init other : List ℕ) (ticks others : List Tick) : Type 0 where
+  pub first : AreRead shape after xs b init ticks
+  pub second : AreRead shape after ys c other others
 
-record BothInit (shape : TraceShape) (after : Bool) (xs ys : List (List ℕ)) (b c init other : List ℕ) (ticks others : List Tick) : Type 0 where
-  place : ℕ
-  value : ℕ
-  before : after ≡ false
-  first : AreRead shape false xs (slice_set b place value) init ticks
-  second : AreRead shape false ys (slice_set c place value) other others
+pub record BothInit (shape : TraceShape) (after : Bool) (xs ys : List (List ℕ)) (b c init other : List ℕ) (ticks others : List Tick) : Type 0 where
+  pub place : ℕ
+  pub value : ℕ
+  pub before : after ≡ false
+  pub first : AreRead shape false xs (slice_set b place value) init ticks
+  pub second : AreRead shape false ys (slice_set c place value) other others
 
-record BothTick (shape : TraceShape) (xs ys : List (List ℕ)) (b c init other : List ℕ) (ticks others : List Tick) : Type 0 where
-  tick : Tick
-  rest : List Tick
-  more : List Tick
-  ticks_are : ticks ≡ tick ∷ rest
-  others_are : others ≡ tick ∷ more
-  first : AreRead shape true xs b init rest
-  second : AreRead shape true ys c other more
+pub record BothTick (shape : TraceShape) (xs ys : List (List ℕ)) (b c init other : List ℕ) (ticks others : List Tick) : Type 0 where
+  pub tick : Tick
+  pub rest : List Tick
+  pub more : List Tick
+  pub ticks_are : ticks ≡ tick ∷ rest
+  pub others_are : others ≡ tick ∷ more
+  pub first : AreRead shape true xs b init rest
+  pub second : AreRead shape true ys c other more
 
 module _ (shape : TraceShape) where
-  alike : (after : Bool) (line : List ℕ) (xs ys : List (List ℕ)) (b c init other : List ℕ) (ticks others : List Tick)
+  pub alike : (after : Bool) (line : List ℕ) (xs ys : List (List ℕ)) (b c init other : List ℕ) (ticks others : List Tick)
       → AreRead shape after (line ∷ xs) b init ticks → AreRead shape after (line ∷ ys) c other others
       → BothSkip shape after xs ys b c init other ticks others ⊎ (BothInit shape after xs ys b c init other ticks others ⊎ BothTick shape xs ys b c init other ticks others)
   alike after line xs ys b c init other ticks others (inl s) (inl r) = inl (record { first = s.1; second = r.1 })

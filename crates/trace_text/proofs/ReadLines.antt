@@ -32,7 +32,7 @@ module _ (shape : TraceShape) where
       subst (λ ls. AreRead shape false ls (zeros shape) init ticks) (sym s.lines_are) (parts_read s.front s.back (zeros shape) init ticks s.inits s.ticks_are)
 
   -- after a tick stand ticks alone
-  only_ticks : (lines : List (List ℕ)) (before init : List ℕ) (ticks : List Tick) → AreRead shape true lines before init ticks → (before ≡ init) × AreTicks shape lines ticks
+  pub only_ticks : (lines : List (List ℕ)) (before init : List ℕ) (ticks : List Tick) → AreRead shape true lines before init ticks → (before ≡ init) × AreTicks shape lines ticks
   only_ticks [] before init ticks r = r
   only_ticks (line ∷ lines) before init ticks (inl s) = let t = only_ticks lines before init ticks s.1 in (t.0, inl (s.0, t.1))
   only_ticks (line ∷ lines) before init ticks (inr (inl i)) = let e : true ≡ false = i.0 in absurd (cc)

@@ -11,3 +11,6 @@ pub mod InitWords
 pub mod LineStarts
 pub mod TickWords
 pub mod Walks
+pub mod WrittenWords
+pub mod Fronts
+pub mod CutLines

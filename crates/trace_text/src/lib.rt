@@ -3,9 +3,11 @@
 //! tick, a line of outputs and state. `specs/` says what a trace spells (Lines, Spelling, Shapes,
 //! SpelledLines, TraceSpells), what is wrong with a line (LineFaults, BadLine), and what an output line is
 //! (OutputLines, RunLines). `read_init` and then `next_tick`, call by call, read a trace (Readings); that
-//! their steps make the whole is a law (Steps).
+//! their steps make the whole is a law (Steps). So is that a value's word reads back to it (WrittenWords), and that
+//! the lines of the first ticks begin those of the whole run (Fronts).
 #![tactic(auto)]
 
+mod circuits;
 mod clock_list;
 mod fault;
 mod fault_line;
@@ -32,6 +34,7 @@ mod tick_reader;
 mod tick_words;
 mod words;
 
+pub use circuits::Circuits;
 pub use fault::{Cause, TraceFault};
 pub use init::Init;
 pub use init_reader::read_init;

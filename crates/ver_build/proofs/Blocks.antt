@@ -1,5 +1,5 @@
 -- Each block of the tree is on a clock and drives a register of its width.
--- Where the drivers of a clock leaf end at a clock input, this has one bit, so it has a name and is a port.
+-- Where a clock leaf has a clock, its drivers end at that clock input. This has one bit, so it has a name and is a port.
 use Rattle.std.proofs.Common.{◌≡◌, ℕ, List, [], Bool, true, refl, sym, ap, ◌∙◌, inl, subst, arith}
 use Rattle.std.specs.Prelude.{slice_get, Option, Some, None, unwrap_or}
 use Rattle.std.specs.List.{AllByRecursion}
@@ -16,6 +16,7 @@ use Rattle.fir_net.specs.declared.name_table.NameTable.{NameTable}
 use Rattle.fir_net.specs.working.Dependence.{IsOf, Reads}
 use Rattle.fir_net.specs.working.IsNet.{CanBeDriven, IsRole}
 use Rattle.fir_net.specs.working.LeafNamed.{is_wire}
+use Rattle.fir_net.specs.working.Settled.{clock_driver}
 use Rattle.ver_ast.specs.Nets.{Sized, clocks}
 use Rattle.ver_ast.specs.SoundSides.{HasWidth}
 use Rattle.ver_ast.specs.Valid.{IsBlock}
@@ -23,6 +24,7 @@ use Rattle.ver_build.specs.declared.places.Places.{Places}
 use Rattle.ver_build.specs.working.Operands.{atom_at}
 use Rattle.ver_build.specs.working.Places.{name_at, held_of, clock_in, place_clock, placed, driven_clock_in}
 use Rattle.ver_build.specs.working.Built.{leaf_block, role_block, block_on}
+use Rattle.ver_build.specs.working.DrivenRegisters.{EndsAtInput, input, handed_on}
 use Rattle.ver_build.proofs.Names.{all_zipped, each_and, each_part, each_at}
 use Rattle.ver_build.proofs.AlongOrder.{along_order}
 use Rattle.ver_build.proofs.Premises.{Premises, LeafNamed, leaves_named}
@@ -42,6 +44,11 @@ pub record IsClockInput (net : FlatNet) (t : NameTable) (k : ℕ) : Type 0 where
   pub name : List ℕ
   pub named : name_at t.leaves k ≡ Some name
 
+-- a clock leaf whose drivers end at that clock input
+pub record IsClockedBy (net : FlatNet) (t : NameTable) (j k : ℕ) : Type 0 where
+  pub clock : IsClockInput net t k
+  pub ends : EndsAtInput net j
+
 module _ (net : FlatNet) (t : NameTable) (p : Places) (order : List Read) (is : Premises net t p order) where
   -- what the places say of a clock leaf
   pub clock_at : (k : ℕ) (l : Leaf) → slice_get net.leaves k ≡ Some l
@@ -60,33 +67,52 @@ module _ (net : FlatNet) (t : NameTable) (p : Places) (order : List Read) (is : 
 
   -- where the drivers of a leaf end
   abbrev Ends : Read → Type 0
-  Ends r = (j k : ℕ) → r ≡ read.Leaf j → clock_in p.leaves j ≡ Some k → IsClockInput net t k
+  Ends r = (j k : ℕ) → r ≡ read.Leaf j → clock_in p.leaves j ≡ Some k → IsClockedBy net t j k
 
-  driven_ends : (j : ℕ) (l : Leaf) (r : Role) (c : Option ℕ) (k : ℕ) → slice_get net.leaves j ≡ Some l → l.role ≡ r
+  driven_ends : (j : ℕ) (l : Leaf) (r : Role) (c : Option ℕ) (k : ℕ) → slice_get net.leaves j ≡ Some l → l.role ≡ r → clock_driver r ≡ Some c
       → ((i : ℕ) → c ≡ Some i → Reads net (read.Leaf j) (read.Leaf i)) → ((w : Read) → Reads net (read.Leaf j) w → Ends w)
-      → driven_clock_in p.leaves c ≡ Some k → IsClockInput net t k
-  driven_ends j l r None k at e reads below ends = absurd (cc)
-  driven_ends j l r (Some i) k at e reads below ends = below (read.Leaf i) (reads i refl) i k refl ends
+      → driven_clock_in p.leaves c ≡ Some k → IsClockedBy net t j k
+  driven_ends j l r None k at e d reads below ends = absurd (cc)
+  driven_ends j l r (Some i) k at e d reads below ends =
+      let first = below (read.Leaf i) (reads i refl) i k refl ends in
+      record { clock = first.clock; ends = handed_on j i l at (ap clock_driver e ∙ d) first.ends }
 
   role_ends : (j : ℕ) (l : Leaf) (r : Role) (k : ℕ) → slice_get net.leaves j ≡ Some l → l.role ≡ r
       → ((w : Read) → Reads net (read.Leaf j) w → Ends w) → place_clock (placed p.leaves p.nodes (name_at t.leaves j) j l.signed l.width r) ≡ Some k
-      → IsClockInput net t k
-  role_ends j l role.Clock k at e below ends = let same : j ≡ k = cc in subst (IsClockInput net t) same (clock_input j l at e)
+      → IsClockedBy net t j k
+  role_ends j l role.Clock k at e below ends =
+      let same : j ≡ k = cc in
+      record { clock = subst (IsClockInput net t) same (clock_input j l at e); ends = input j l at e }
   role_ends j l (role.ClockOutput c) k at e below ends =
-      driven_ends j l (role.ClockOutput c) c k at e (λ i same. leaf_read net j l (role.ClockOutput c) 0 (read.Leaf i) at e (rw same refl)) below ends
+      driven_ends j l (role.ClockOutput c) c k at e refl (λ i same. leaf_read net j l (role.ClockOutput c) 0 (read.Leaf i) at e (rw same refl)) below ends
   role_ends j l (role.ClockWire c) k at e below ends =
-      driven_ends j l (role.ClockWire c) c k at e (λ i same. leaf_read net j l (role.ClockWire c) 0 (read.Leaf i) at e (rw same refl)) below ends
+      driven_ends j l (role.ClockWire c) c k at e refl (λ i same. leaf_read net j l (role.ClockWire c) 0 (read.Leaf i) at e (rw same refl)) below ends
   role_ends j l _ k at e below ends = absurd (cc)
 
   ends_step : (v : Read) → IsOf net v → ((w : Read) → Reads net v w → Ends w) → Ends v
   ends_step (read.Leaf i) of below j k e ends =
       let same : i ≡ j = cc in
       let l = there net.leaves i of in
-      role_ends i l.0 l.0.role k l.1 refl below (sym (clock_at i l.0 l.1) ∙ ap (clock_in p.leaves) same ∙ ends)
+      subst (λ (x : ℕ). IsClockedBy net t x k) same
+      (role_ends i l.0 l.0.role k l.1 refl below (sym (clock_at i l.0 l.1) ∙ ap (clock_in p.leaves) same ∙ ends))
   ends_step (read.Node i) of below j k e ends = absurd (cc)
 
-  pub ends_at : (j : ℕ) (l : Leaf) (k : ℕ) → slice_get net.leaves j ≡ Some l → clock_in p.leaves j ≡ Some k → IsClockInput net t k
+  pub ends_at : (j : ℕ) (l : Leaf) (k : ℕ) → slice_get net.leaves j ≡ Some l → clock_in p.leaves j ≡ Some k → IsClockedBy net t j k
   ends_at j l k at ends = along_order net order is.ordered Ends ends_step (read.Leaf j) (slice_get_within net.leaves j l at) j k refl ends
+
+  -- a clock leaf whose drivers end at a clock input has a clock
+  handed_to : (j : ℕ) (r : Role) (s : Bool) (w k : ℕ) → clock_driver r ≡ Some (Some j)
+      → place_clock (placed p.leaves p.nodes (name_at t.leaves k) k s w r) ≡ clock_in p.leaves j
+  handed_to j (role.ClockOutput c) s w k d = let c_is : c ≡ Some j = cc in ap (driven_clock_in p.leaves) c_is
+  handed_to j (role.ClockWire c) s w k d = let c_is : c ≡ Some j = cc in ap (driven_clock_in p.leaves) c_is
+  handed_to j _ s w k d = absurd (cc)
+
+  pub has_clock : (k : ℕ) → EndsAtInput net k → (c : ℕ) × (clock_in p.leaves k ≡ Some c)
+  has_clock k (input i l at e) =
+      (i, clock_at i l at ∙ ap (λ (r : Role). place_clock (placed p.leaves p.nodes (name_at t.leaves i) i l.signed l.width r)) e)
+  has_clock k (handed_on i j l at d ends) =
+      let first = has_clock j ends in
+      (first.0, clock_at i l at ∙ handed_to j l.role l.signed l.width i d ∙ first.1)
 
   clock_is_port : (k : ℕ) → IsClockInput net t k → In (clocks (in_parts net t p order)) (unwrap_or (name_at t.leaves k) [])
   clock_is_port k c =
@@ -120,7 +146,7 @@ module _ (net : FlatNet) (t : NameTable) (p : Places) (order : List Read) (is : 
   role_sound s (role.Register r) w None h m k = tt
   role_sound s (role.Register r) w (Some name) h m k =
       given_sound (clock_in p.leaves r.clock) s w r.next name (h refl name refl) (m (name, w) (inl refl))
-      (λ c e. let clock = k.0 in ends_at r.clock clock.0 c clock.1 e) k.2
+      (λ c e. let clock = k.0 in (ends_at r.clock clock.0 c clock.1 e).clock) k.2
   role_sound s _ w n h m k = tt
 
   pub blocks_sound : AllByRecursion (IsBlock (in_parts net t p order)) (blocks_of net t p order)

@@ -46,6 +46,8 @@ pub mod NodeValues
 pub mod NetSettled
 pub mod TextOrder
 pub mod Valid
+pub mod BlockMarks
+pub mod Arranged
 pub mod Named
 pub mod Tree
 pub mod Allows

@@ -1,5 +1,5 @@
 -- The tree of a whole net is what the net is built as.
--- It is valid, named after the net and of its shape, it has one choice of values, and it allows what the net allows.
+-- It is valid, named after the net, arranged and of its shape, it has one choice of values, and it allows what the net allows.
 use Rattle.std.proofs.Common.{List, sym, subst}
 use Rattle.std.specs.List.{AllByRecursion}
 use Rattle.fir_base.specs.Lists.{Distinct}
@@ -22,6 +22,7 @@ use Rattle.ver_build.proofs.Premises.{Premises}
 use Rattle.ver_build.proofs.Parts.{built_in_parts}
 use Rattle.ver_build.proofs.Named.{parts_named}
 use Rattle.ver_build.proofs.Valid.{parts_valid}
+use Rattle.ver_build.proofs.Arranged.{parts_arranged, parts_driven}
 use Rattle.ver_build.proofs.Shapes.{built_shape}
 use Rattle.ver_build.proofs.Allows.{parts_one, parts_allow}
 
@@ -37,6 +38,8 @@ builds values types one_choice one_rest net t p order whole writable ordered tab
     subst (Builds net) (sym (built_in_parts net t p order table))
     (record {
       named = parts_named net t p order is;
+      arranged = parts_arranged net t p order is;
+      driven = parts_driven net t p order is;
       valid = valid;
       shapes = shapes;
       one = parts_one net t p order is valid shapes;

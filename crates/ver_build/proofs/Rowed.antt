@@ -21,24 +21,19 @@ use Rattle.fir_net.specs.declared.net.FlatNet.{FlatNet}
 use Rattle.fir_net.specs.working.IsWritable.{IsWritableRole}
 use Rattle.ver_build.proofs.Premises.{LeafNamed, RoleNamed, role_named, bits_named, Whole, Known}
 use Rattle.ver_build.proofs.LeafKinds.{is_register, sized_if, picked_sized, ports_then_inside}
-use Rattle.ver_build.proofs.Choices.{if_equal}
+use Rattle.ver_build.proofs.Choices.{no_bits_none, some_bits_one}
 
 no_row : (base : List ℕ) (d : Direction) (w : ℕ) → w ≡ 0 → row base d w ≡ []
-no_row base d w e =
-    if_equal (λ (rs : List Row). rs ≡ []) w 0 [] (record { name = base; direction = d; signal = Bits w } ∷ []) (λ _. refl) (λ f. absurd (f e))
+no_row base d w e = no_bits_none (record { name = base; direction = d; signal = Bits w }) w e
 
 one_row : (base : List ℕ) (d : Direction) (w : ℕ) → 1 ≤ w → row base d w ≡ record { name = base; direction = d; signal = Bits w } ∷ []
-one_row base d w h =
-    if_equal (λ (rs : List Row). rs ≡ record { name = base; direction = d; signal = Bits w } ∷ []) w 0 []
-    (record { name = base; direction = d; signal = Bits w } ∷ []) (λ e. absurd (omega arith)) (λ _. refl)
+one_row base d w h = some_bits_one (record { name = base; direction = d; signal = Bits w }) w h
 
 no_word : (base : List ℕ) (w : ℕ) → w ≡ 0 → word base w ≡ []
-no_word base w e = if_equal (λ (ws : List Word). ws ≡ []) w 0 [] (record { name = base; width = w } ∷ []) (λ _. refl) (λ f. absurd (f e))
+no_word base w e = no_bits_none (record { name = base; width = w }) w e
 
 one_word : (base : List ℕ) (w : ℕ) → 1 ≤ w → word base w ≡ record { name = base; width = w } ∷ []
-one_word base w h =
-    if_equal (λ (ws : List Word). ws ≡ record { name = base; width = w } ∷ []) w 0 [] (record { name = base; width = w } ∷ [])
-    (λ e. absurd (omega arith)) (λ _. refl)
+one_word base w h = some_bits_one (record { name = base; width = w }) w h
 
 abbrev kind : Port → PortKind
 kind p = (p.direction, p.signal)

@@ -131,7 +131,7 @@ module _ (net : FlatNet) (t : NameTable) (p : Places) (order : List Read) (is : 
       (picked_once is_output t.leaves net.leaves is.once)
       (λ x m n. no_inner is_output x n m))
 
-  all_driven : names_of (wires (in_parts net t p order) ++ outputs (in_parts net t p order)) ≡ targets (assigns (in_parts net t p order))
+  pub all_driven : names_of (wires (in_parts net t p order) ++ outputs (in_parts net t p order)) ≡ targets (assigns (in_parts net t p order))
   all_driven =
       map-append (λ (s : Sized). s.0) (wires (in_parts net t p order)) (outputs (in_parts net t p order))
       ∙ rw (
@@ -177,7 +177,7 @@ module _ (net : FlatNet) (t : NameTable) (p : Places) (order : List Read) (is : 
       subst Distinct (sym (ap block_targets (blocks_are net t p order) ∙ block_targets_are net t p order))
       (picked_once (is_written (clock_in p.leaves)) t.leaves net.leaves is.once)
 
-  ordered : ReadsBefore (names_of (inputs (in_parts net t p order) ++ regs (in_parts net t p order))) (assigns (in_parts net t p order))
+  pub ordered : ReadsBefore (names_of (inputs (in_parts net t p order) ++ regs (in_parts net t p order))) (assigns (in_parts net t p order))
   ordered =
       subst (λ (xs : List Assign). ReadsBefore (names_of (inputs (in_parts net t p order) ++ regs (in_parts net t p order))) xs)
       (sym (assigns_are net t p order))

@@ -1,3 +1,4 @@
 pub mod Ports
 pub mod NamedFor
+pub mod Arranged
 pub mod working

@@ -5,5 +5,6 @@ pub mod Texts
 pub mod Places
 pub mod Walks
 pub mod Built
+pub mod DrivenRegisters
 pub mod Builds
 pub mod Laws

@@ -44,8 +44,9 @@ pub fn built_tree(
     })
 }
 
-/// The Verilog tree of a whole net: valid, named by the table of names, and allowing at every tick what the
-/// net allows (IEEE 1364-2005, 6.1, 9.2.2, 12.1). Only memory can be wanting.
+/// The Verilog tree of a whole net: valid, named by the table of names, arranged by kind with a block for each
+/// register that is driven on a clock, and allowing at every tick what the net allows (IEEE 1364-2005, 6.1,
+/// 9.2.2, 12.1). Only memory can be wanting.
 #[tactic(auto, using(crate::proofs::Means::builds))]
 pub fn build(alloc: Global, net: &FlatNet, order: &Order) -> Result<Verilog, MemoryOut>
     requires whole { IsNet net.now }

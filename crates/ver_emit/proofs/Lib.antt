@@ -10,3 +10,5 @@ pub mod Sides
 pub mod Ports
 pub mod Items
 pub mod Spelled
+pub mod Slashes
+pub mod Spaces

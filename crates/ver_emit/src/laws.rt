@@ -1,8 +1,13 @@
-//! The law about the layout.
+//! The laws about the layout.
 
-ghost use Rattle.ver_emit.specs.working.Laws.{LayoutIsSpelled};
+ghost use Rattle.ver_emit.specs.working.Laws.{LayoutIsSpelled, LayoutHasNoComment};
 
 /// The layout of a valid tree, whose names are spelled as names, spells that tree.
 pub fn layout_is_spelled()
     ensures { LayoutIsSpelled }
+{}
+
+/// In the layout of a tree whose names are spelled as names no comment stands.
+pub fn layout_has_no_comment()
+    ensures { LayoutHasNoComment }
 {}

@@ -1,5 +1,5 @@
-//! Writes a tree of the Verilog subset as text. The text is the layout, a function of the tree in which no
-//! comment stands; that it spells the tree is a law about the layout (IEEE 1364-2005, 3 and Annex A).
+//! Writes a tree of the Verilog subset as text. The text is the layout, a function of the tree; that it spells
+//! the tree, and that no comment stands in it, are laws about the layout (IEEE 1364-2005, 3 and Annex A).
 #![tactic(auto)]
 
 mod atom;
@@ -10,7 +10,7 @@ mod range;
 mod rhs;
 mod writer;
 
-pub use laws::layout_is_spelled;
+pub use laws::{layout_has_no_comment, layout_is_spelled};
 pub use writer::write_verilog;
 
 #[cfg(test)]

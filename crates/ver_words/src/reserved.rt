@@ -1,11 +1,11 @@
 //! The reserved words (IEEE 1364-2005, Annex B).
 
-ghost use Rattle.std.specs.Prelude.{◌≡◌};
-ghost use Rattle.ver_words.specs.Reserved.{is_reserved};
+ghost use Rattle.std.specs.Prelude.{◌≡◌, map};
+ghost use Rattle.ver_words.specs.Reserved.{is_reserved, reserved_words};
 
 use fir_base::is_among;
 
-/// The reserved words, in the order of the standard.
+/// The reserved words, in the order of the alphabet.
 pub const RESERVED_WORDS: &[&[u8]] = &[
     b"always",
     b"and",
@@ -132,6 +132,11 @@ pub const RESERVED_WORDS: &[&[u8]] = &[
     b"xnor",
     b"xor",
 ];
+
+/// The table has the reserved words of the standard, all of them and no other.
+pub fn table_is_whole()
+    ensures { map (λ entry. entry.now) RESERVED_WORDS.now ≡ reserved_words }
+{}
 
 /// Whether no net, port or module may have this name.
 #[tactic(auto, unfolding(crate::specs::Reserved::is_reserved))]

@@ -7,7 +7,8 @@ use Rattle.fir_parse.specs.declared.lexeme.Lexeme.TheVariants.{End}
 use Rattle.fir_parse.specs.declared.parser.Next.{Next}
 use Rattle.fir_parse.specs.declared.stop.Stop.{Stop}
 use Rattle.fir_parse.specs.declared.stop.Stop.TheVariants as stop
-use Rattle.fir_parse.specs.Lexemes.{Terminal, seen}
+use Rattle.fir_parse.specs.Lexemes.{Terminal}
+use Rattle.fir_parse.specs.working.Seen.{seen}
 
 abbrev pub StandsFirst : List Terminal → Lexeme → Place → Type 0
 StandsFirst ts End p = ts ≡ []

@@ -2,9 +2,9 @@
 use Rattle.std.specs.Prelude.{ℕ, List, Option, Some, None}
 use Rattle.fir_ast.specs.declared.place.Place.{Place}
 use Rattle.fir_ast.specs.Types.{Fields, no_fields}
-use Rattle.fir_parse.specs.Symbols.{FieldsTree, a_field, more_fields}
-use Rattle.fir_parse.specs.States.{wants}
-use Rattle.fir_parse.specs.TypeRules.{with_field}
+use Rattle.fir_parse.specs.working.Symbols.{FieldsTree, a_field, more_fields}
+use Rattle.fir_parse.specs.working.States.{wants}
+use Rattle.fir_parse.specs.working.TypeRules.{with_field}
 use Rattle.fir_parse.specs.working.Reads.{Plan}
 use Rattle.fir_parse.specs.working.Trees.{onto}
 

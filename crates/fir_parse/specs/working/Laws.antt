@@ -4,12 +4,13 @@ use Rattle.fir_ast.specs.declared.place.Place.{Place}
 use Rattle.fir_ast.specs.declared.fault.FirFault.{FirFault}
 use Rattle.fir_ast.specs.declared.fault.FirFault.TheVariants.{Unsupported}
 use Rattle.fir_ast.specs.Circuits.{CircuitTree}
+use Rattle.fir_parse.specs.Lexemes.{Terminal}
+use Rattle.fir_parse.specs.Limits.{Limits}
+use Rattle.fir_parse.specs.CircuitForms.{IsSpelled}
 use Rattle.fir_parse.specs.Spells.{Spells}
-use Rattle.fir_parse.specs.Lexemes.{word, Terminal}
-use Rattle.fir_parse.specs.States.{State}
-use Rattle.fir_parse.specs.Reading.{whole, read}
-use Rattle.fir_parse.specs.TextFaults.{Reaches, Shows, TextFault}
-use Rattle.fir_parse.specs.working.CircuitForms.{IsSpelled}
+use Rattle.fir_parse.specs.MissingForms.{word_at}
+use Rattle.fir_parse.specs.TextFaults.{Shows, TextFault}
+use Rattle.fir_parse.specs.working.Reading.{whole, read_on}
 
 -- a text spells one tree at most
 abbrev pub SpellsOneTree : Type 0
@@ -29,18 +30,15 @@ HasTreeOrFault = (bytes : List ℕ) → (HasTree bytes ⊎ HasFault bytes) × (H
 abbrev pub ShowsOneFault : Type 0
 ShowsOneFault = (bytes : List ℕ) (f g : FirFault) → TextFault bytes f → TextFault bytes g → f ≡ g
 
-abbrev pub word_at : List ℕ → Place → Terminal
-word_at w p = record { lexeme = word w; place = p }
-
 abbrev pub EndsIn : List Terminal → Terminal → Type 0
 EndsIn ts t = (before : List Terminal) × (ts ≡ before ++ t ∷ [])
 
 -- a form that is not in the language is shown at its word: that is the token with which no text goes on, or the last before it
 abbrev pub UnsupportedNamesItsWord : Type 0
 UnsupportedNamesItsWord =
-    (end : Place) (st : State) (front back : List Terminal) (t : Terminal) (p : Place) (w : List ℕ) →
-    Reaches whole front st → Shows end st front (t ∷ back) (Unsupported p w) → (t ≡ word_at w p) ⊎ EndsIn front (word_at w p)
+    (end : Place) (front back : List Terminal) (t : Terminal) (p : Place) (w : List ℕ) →
+    Shows end front (t ∷ back) (Unsupported p w) → (t ≡ word_at w p) ⊎ EndsIn front (word_at w p)
 
--- the tree that is read, token by token, is the tree that the tokens spell, form by form
+-- the tree that the tokens spell, form by form, is the tree that is read from the left, wherever limits count
 abbrev pub SpelledFormByForm : Type 0
-SpelledFormByForm = (end : Place) (ts : List Terminal) (c : CircuitTree) → (read end ts ≡ Ok c) ↔ IsSpelled c ts
+SpelledFormByForm = (limits : Limits) (end : Place) (ts : List Terminal) (c : CircuitTree) → (read_on limits end whole ts ≡ Ok c) ↔ IsSpelled limits c ts

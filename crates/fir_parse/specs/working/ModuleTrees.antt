@@ -4,7 +4,7 @@ use Rattle.fir_ast.specs.View.{port_of, stmt_of, block_of}
 use Rattle.fir_parse.specs.declared.modules.Body.{Body}
 use Rattle.fir_parse.specs.declared.modules.PortOr.{PortOr}
 use Rattle.fir_parse.specs.declared.modules.PortOr.TheVariants as port_or
-use Rattle.fir_parse.specs.Symbols.{BodyTree, PortOr as PortOrTree, port, no_port}
+use Rattle.fir_parse.specs.working.Symbols.{BodyTree, PortOr as PortOrTree, port, no_port}
 use Rattle.fir_parse.specs.working.StatementTrees.{begun_of, Deepens}
 
 abbrev pub body_of : Body → BodyTree

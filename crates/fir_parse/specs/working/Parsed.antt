@@ -10,13 +10,15 @@ use Rattle.fir_ast.specs.declared.fault.FirFault.TheVariants.{Syntax}
 use Rattle.fir_ast.specs.declared.place.Place.{Place}
 use Rattle.fir_parse.specs.declared.stop.Stop.{Stop}
 use Rattle.fir_parse.specs.declared.stop.Stop.TheVariants as stop
-use Rattle.fir_parse.specs.Reading.{read}
-use Rattle.fir_parse.specs.Spells.{end_of, terminals}
-use Rattle.fir_parse.specs.TextFaults.{IsFirst}
+use Rattle.fir_parse.specs.working.Reading.{read}
+use Rattle.fir_parse.specs.Limits.{everywhere}
+use Rattle.fir_parse.specs.CircuitForms.{IsSpelled}
+use Rattle.fir_parse.specs.Spells.{terminals}
+use Rattle.fir_parse.specs.TextFaults.{end_of, IsFirst}
 
--- the tree of the tokens; or their first fault, and the tokens are handed back
+-- the tree that the tokens spell; or their first fault, and the tokens are handed back
 abbrev pub Parsed : TokenText → Result Circuit (Refused (FirFault × TokenText)) → Type 0
-Parsed t (Ok c) = read (end_of t.text) (terminals t.tokens) ≡ Ok (circuit_of c)
+Parsed t (Ok c) = IsSpelled everywhere (circuit_of c) (terminals t.tokens)
 Parsed t (Err (Fault f)) = IsFirst (end_of t.text) (terminals t.tokens) f.0 × (f.1 ≡ t)
 Parsed t (Err Memory) = Unit {0}
 

@@ -8,10 +8,10 @@ use Rattle.fir_ast.specs.Circuits.{CircuitTree}
 use Rattle.fir_parse.specs.declared.lexeme.Mark.TheVariants.{Arrow, CloseRound, Colon}
 use Rattle.fir_parse.specs.declared.stop.Stop.{Stop}
 use Rattle.fir_parse.specs.declared.stop.Stop.TheVariants as stop
-use Rattle.fir_parse.specs.Symbols.{PortOr, no_port, statement, a_mark, a_word, a_name, a_line_end, an_opening, a_closing, a_type, behind_with, an_under_write, behind_first}
-use Rattle.fir_parse.specs.States.{wants, opens}
-use Rattle.fir_parse.specs.StatementRules.{bare, ends_line, reset_rest}
-use Rattle.fir_parse.specs.CircuitRules.{circuit_rest, is_known_version, port_rest}
+use Rattle.fir_parse.specs.working.Symbols.{PortOr, no_port, statement, a_mark, a_word, a_name, a_line_end, an_opening, a_closing, a_type, behind_with, an_under_write, behind_first}
+use Rattle.fir_parse.specs.working.States.{wants, opens}
+use Rattle.fir_parse.specs.working.StatementRules.{bare, ends_line, reset_rest}
+use Rattle.fir_parse.specs.working.CircuitRules.{circuit_rest, is_known_version, port_rest}
 use Rattle.fir_parse.specs.working.Reads.{Plan}
 
 -- "with" ":" and what resets the register

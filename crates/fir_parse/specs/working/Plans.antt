@@ -3,9 +3,9 @@ use Rattle.std.specs.Prelude.{ℕ, Bool, Some}
 use Rattle.fir_ast.specs.declared.place.Place.{Place}
 use Rattle.fir_ast.specs.Expressions.{Expression}
 use Rattle.fir_parse.specs.declared.lexeme.Mark.TheVariants.{Less, Greater, OpenRound}
-use Rattle.fir_parse.specs.Symbols.{a_mark, a_natural}
-use Rattle.fir_parse.specs.States.{wants, opens}
-use Rattle.fir_parse.specs.ExpressionRules.{literal_rest}
+use Rattle.fir_parse.specs.working.Symbols.{a_mark, a_natural}
+use Rattle.fir_parse.specs.working.States.{wants, opens}
+use Rattle.fir_parse.specs.working.ExpressionRules.{literal_rest}
 use Rattle.fir_parse.specs.working.Reads.{Plan}
 
 -- "<" int ">" "(" and the number of a literal, within so many open blocks and brackets

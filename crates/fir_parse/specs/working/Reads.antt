@@ -1,5 +1,5 @@
 -- What a part of the parser does: it reads what is expected, or stops at the first fault, whatever follows.
-use Rattle.std.specs.Prelude.{◌≡◌, ℕ, ◌≤◌, List, ◌++◌, length, drop, map, true, Result, Ok, Err}
+use Rattle.std.specs.Prelude.{◌≡◌, ℕ, ◌≤◌, List, ◌++◌, length, drop, map, Result, Ok, Err}
 use Rattle.fir_ast.specs.declared.place.Place.{Place}
 use Rattle.fir_ast.specs.declared.fault.FirFault.TheVariants.{Syntax}
 use Rattle.fir_parse.specs.declared.parser.Parser.{Parser}
@@ -7,9 +7,10 @@ use Rattle.fir_parse.specs.declared.parser.Tall.{Tall}
 use Rattle.fir_parse.specs.declared.stop.Stop.{Stop}
 use Rattle.fir_parse.specs.declared.stop.Stop.TheVariants as stop
 use Rattle.fir_parse.specs.Lexemes.{Terminal, terminal_of}
-use Rattle.fir_parse.specs.States.{State}
+use Rattle.fir_parse.specs.Limits.{everywhere}
+use Rattle.fir_parse.specs.working.States.{State}
 use Rattle.fir_parse.specs.working.AtHand.{first_of}
-use Rattle.fir_parse.specs.Reading.{read_on}
+use Rattle.fir_parse.specs.working.Reading.{read_on}
 
 -- the tokens that are left: the one at hand and those behind it
 abbrev pub rest : Parser → List Terminal
@@ -24,17 +25,17 @@ Plan T = (T → State) → State
 
 -- the text stops there, unless memory ran out
 abbrev pub Stops : {T : Type 0} → Plan T → List Terminal → Stop → Type 0
-Stops {T = T} plan ts stop.AtEnd = (end : Place) (k : T → State) → read_on true end (plan k) ts ≡ Err (Syntax end)
-Stops {T = T} plan ts (stop.Fault f) = (end : Place) (k : T → State) → read_on true end (plan k) ts ≡ Err f
+Stops {T = T} plan ts stop.AtEnd = (end : Place) (k : T → State) → read_on everywhere end (plan k) ts ≡ Err (Syntax end)
+Stops {T = T} plan ts (stop.Fault f) = (end : Place) (k : T → State) → read_on everywhere end (plan k) ts ≡ Err f
 Stops plan ts stop.Memory = Unit {0}
 
 -- the tree is read from the first tokens, and these are left
 abbrev pub Gives : {T : Type 0} → Plan T → T → List Terminal → List Terminal → Type 0
-Gives {T = T} plan x old new = (end : Place) (k : T → State) → read_on true end (plan k) old ≡ read_on true end (k x) new
+Gives {T = T} plan x old new = (end : Place) (k : T → State) → read_on everywhere end (plan k) old ≡ read_on everywhere end (k x) new
 
 -- reading on as planned is reading on so behind what was read; or the text stops
 abbrev pub Leads : {A T : Type 0} → Plan T → (A → Plan T) → List Terminal → List Terminal → Result A Stop → Type 0
-Leads {T = T} plan next old new (Ok x) = (end : Place) (k : T → State) → read_on true end (plan k) old ≡ read_on true end (next x k) new
+Leads {T = T} plan next old new (Ok x) = (end : Place) (k : T → State) → read_on everywhere end (plan k) old ≡ read_on everywhere end (next x k) new
 Leads plan next old new (Err s) = Stops plan old s
 
 -- what is expected is read from the tokens, or the text stops

@@ -15,9 +15,9 @@ use Rattle.fir_parse.specs.declared.whens.Begun.TheVariants as begins
 use Rattle.fir_parse.specs.declared.whens.OpenWhen.{OpenWhen}
 use Rattle.fir_parse.specs.declared.whens.Otherwise.{Otherwise}
 use Rattle.fir_parse.specs.declared.whens.Otherwise.TheVariants as otherwise
-use Rattle.fir_parse.specs.Symbols.{OpenWhen as OpenWhenTree, Begun as BegunTree, statement, open_when, Otherwise as OtherwiseTree, else_block, else_when, no_else, statements}
-use Rattle.fir_parse.specs.States.{State, wants}
-use Rattle.fir_parse.specs.StatementRules.{bare}
+use Rattle.fir_parse.specs.working.Symbols.{OpenWhen as OpenWhenTree, Begun as BegunTree, statement, open_when, Otherwise as OtherwiseTree, else_block, else_when, no_else, statements}
+use Rattle.fir_parse.specs.working.States.{State, wants}
+use Rattle.fir_parse.specs.working.StatementRules.{bare}
 
 abbrev pub open_when_of : OpenWhen → OpenWhenTree
 open_when_of w = record { place = w.place; condition = expr_of w.condition; block = block_of (map stmt_of w.block.items) }

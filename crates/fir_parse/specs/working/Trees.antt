@@ -21,8 +21,8 @@ use Rattle.fir_parse.specs.declared.stop.Stop.TheVariants as stop
 use Rattle.fir_parse.specs.declared.terminals.Natural.{Natural}
 use Rattle.fir_parse.specs.declared.bundles.BundleFields.{BundleFields}
 use Rattle.fir_parse.specs.Heights.{type_height, height, height_with}
-use Rattle.fir_parse.specs.TypeRules.{type_at}
-use Rattle.fir_parse.specs.Symbols.{Natural as NaturalTree, TypeTree, FieldTree, FieldsTree, IndexTree, plain_index, computed_index}
+use Rattle.fir_parse.specs.working.TypeRules.{type_at}
+use Rattle.fir_parse.specs.working.Symbols.{Natural as NaturalTree, TypeTree, FieldTree, FieldsTree, IndexTree, plain_index, computed_index}
 
 abbrev pub natural_of : Natural → NaturalTree
 natural_of n = record { place = n.place; number = n.number }

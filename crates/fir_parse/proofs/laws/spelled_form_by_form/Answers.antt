@@ -3,4 +3,4 @@ use Rattle.fir_parse.proofs.FormsSpelled.{forms_found}
 use Rattle.fir_parse.proofs.laws.spelled_form_by_form.Goals as goal
 
 pub returns : goal.returns
-returns c end ts t = (forms_found end ts t, forms_read end ts t)
+returns c limits end ts t = (forms_found limits end ts t, forms_read limits end ts t)

@@ -1,11 +1,18 @@
 use Rattle.std.proofs.Common.{◌≡◌, Err, refl, subst, rules}
+use Rattle.fir_ast.specs.View.{circuit_of}
 use Rattle.fir_ast.specs.declared.fault.FirFault.TheVariants.{Syntax}
 use Rattle.fir_parse.specs.declared.stop.Stop.{Stop}
 use Rattle.fir_parse.specs.declared.stop.Stop.TheVariants.{AtEnd, Fault}
+use Rattle.fir_parse.specs.Limits.{everywhere}
+use Rattle.fir_parse.specs.Spells.{terminals}
+use Rattle.fir_parse.specs.TextFaults.{end_of}
 use Rattle.fir_parse.specs.working.Parsed.{ReadWhole}
-use Rattle.fir_parse.specs.Spells.{end_of, terminals}
 use Rattle.fir_parse.proofs.FirstFaults.{first_fault}
+use Rattle.fir_parse.proofs.FormsSpelled.{forms_found}
 use Rattle.fir_parse.proofs.text.parse.Goals as goal
+
+pub returns-in-Ok : goal.returns-in-Ok
+returns-in-Ok c = forms_found everywhere (end_of c.args.tokens.text) (terminals c.args.tokens.tokens) (circuit_of c.in-Ok.circuit) (c.in-Ok.ensures (end_of c.args.tokens.text))
 
 pub returns-in-Err-AtEnd : goal.returns-in-Err-AtEnd
 returns-in-Err-AtEnd c =

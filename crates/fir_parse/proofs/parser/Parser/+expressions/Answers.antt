@@ -8,12 +8,12 @@ use Rattle.fir_parse.specs.Heights.{height_with}
 use Rattle.fir_parse.specs.declared.lexeme.Mark.TheVariants.{OpenRound, OpenSquare}
 use Rattle.fir_parse.specs.declared.words.Applied.{Applied}
 use Rattle.fir_parse.specs.declared.words.Applied.TheVariants as applied
-use Rattle.fir_parse.specs.ExpressionRules.{applied_rest, operator_rest, mux_rest, validif_rest, literal_rest, index_rest, reference_rest}
+use Rattle.fir_parse.specs.working.ExpressionRules.{applied_rest, operator_rest, mux_rest, validif_rest, literal_rest, index_rest, reference_rest}
 use Rattle.fir_parse.specs.Lexemes.{mark, word}
-use Rattle.fir_parse.specs.Reading.{read_on}
+use Rattle.fir_parse.specs.working.Reading.{read_on}
 use Rattle.fir_parse.specs.working.Reads.{rest}
-use Rattle.fir_parse.specs.States.{State, wants}
-use Rattle.fir_parse.specs.Symbols.{behind_word, an_expression, parts}
+use Rattle.fir_parse.specs.working.States.{State, wants}
+use Rattle.fir_parse.specs.working.Symbols.{behind_word, an_expression, parts}
 use Rattle.fir_parse.specs.working.Trees.{tall_expression, sink_height, index_tree, part_of}
 use Rattle.fir_parse.proofs.BehindWords.{form_not_opened, form_opened, name_reads, begins_reference, other_expression}
 use Rattle.fir_parse.proofs.IndexReads.{computed_first, plain_first, height_added, height_behind_index, index_ends, index_too_tall}
@@ -21,6 +21,7 @@ use Rattle.fir_parse.proofs.Plans.{takes_first, stays_before, unsupported_there,
 use Rattle.fir_parse.proofs.ReferenceReads.{part_behind, height_behind, sink_of_parts, not_part}
 use Rattle.fir_parse.proofs.parser.Parser.+expressions.Goals as goal
 use Rattle.fir_parse.proofs.parser.Parser.+expressions.Goals.{behind_word-in_default-via-in-Mark+in_default, behind_word-in_default-via-in_default, reference-in_default-via-in-Mark+in_default, reference-in_default-via-in_default}
+use Rattle.fir_parse.specs.Limits.{everywhere}
 
 pub applied-returns-in_err-open_one-in-Operator-clause-reads : goal.applied-returns-in_err-open_one-in-Operator-clause-reads
 applied-returns-in_err-open_one-in-Operator-clause-reads t c =
@@ -158,7 +159,7 @@ reference-returns-in_default-clause-reads t c = λ end k.
     (elim c.in_default.branch [ reference-in_default-via-in-Mark+in_default w ↦ λ h. search rules | reference-in_default-via-in_default w ↦ λ h. search rules ])
     (elim c.in_default.branch [ reference-in_default-via-in-Mark+in_default w ↦ λ h. search rules | reference-in_default-via-in_default w ↦ λ h. search rules ]))
     end _
-    ∙ ap (λ (s : Sink). read_on true end (k s) (rest c.loop-parts.self)) (sym (sink_of_parts c.args.place c.loop-parts.name c.args.name.now c.loop-parts.parts (c.loop-parts.invariant.same_name ∙ c.in_ok-name.ensures)))
+    ∙ ap (λ (s : Sink). read_on everywhere end (k s) (rest c.loop-parts.self)) (sym (sink_of_parts c.args.place c.loop-parts.name c.args.name.now c.loop-parts.parts (c.loop-parts.invariant.same_name ∙ c.in_ok-name.ensures)))
 
 pub reference-returns-in_default-clause-high : goal.reference-returns-in_default-clause-high
 reference-returns-in_default-clause-high t c =

@@ -4,11 +4,12 @@ use Rattle.fir_ast.specs.declared.place.Place.{Place}
 use Rattle.fir_ast.specs.Expressions.{Parts}
 use Rattle.fir_parse.specs.Heights.{height_with}
 use Rattle.fir_parse.specs.working.Reads.{left, rest}
-use Rattle.fir_parse.specs.Reading.{read_on}
-use Rattle.fir_parse.specs.States.{State, wants}
-use Rattle.fir_parse.specs.Symbols.{parts}
+use Rattle.fir_parse.specs.working.Reading.{read_on}
+use Rattle.fir_parse.specs.working.States.{State, wants}
+use Rattle.fir_parse.specs.working.Symbols.{parts}
 use Rattle.fir_parse.specs.working.Trees.{part_of, onto}
 use Rattle.fir_parse.proofs.parser.Parser.+expressions.Given as goal
+use Rattle.fir_parse.specs.Limits.{everywhere}
 
 -- how many brackets may still be opened, and then the kind of the call
 abbrev rank : ℕ → ℕ → ℕ
@@ -62,7 +63,7 @@ decreases-operation l = rank l.depth 7
 -- what is expected from the first tokens is expected of what follows the parts so far
 abbrev pub invariant-reference-loop-parts : goal.invariant-reference-loop-parts
 invariant-reference-loop-parts l = record {
-  leads : (end : Place) (k : Parts → State) → read_on true end (wants (parts l.depth 1) k) (rest l.initial.self) ≡ read_on true end (wants (parts l.depth l.height) (λ ps. k (onto (map part_of l.parts.items) ps))) (rest l.self);
+  leads : (end : Place) (k : Parts → State) → read_on everywhere end (wants (parts l.depth 1) k) (rest l.initial.self) ≡ read_on everywhere end (wants (parts l.depth l.height) (λ ps. k (onto (map part_of l.parts.items) ps))) (rest l.self);
   high : (ps : Parts) → height_with (onto (map part_of l.parts.items) ps) 1 ≡ height_with ps l.height;
   low : l.height ≤ 256;
   same_name : l.name ≡ l.initial.name;

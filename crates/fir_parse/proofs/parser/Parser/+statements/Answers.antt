@@ -8,19 +8,21 @@ use Rattle.fir_parse.specs.declared.lexeme.Lexeme.{Lexeme}
 use Rattle.fir_parse.specs.declared.lexeme.Lexeme.TheVariants.{Word, Mark, LevelOpens, LevelCloses, End}
 use Rattle.fir_parse.specs.declared.lexeme.Mark.TheVariants.{Colon}
 use Rattle.fir_parse.specs.declared.words.Lead.TheVariants as lead
-use Rattle.fir_parse.specs.Lexemes.{seen, word, mark, level_opens, level_closes}
-use Rattle.fir_parse.specs.Reading.{read_on}
+use Rattle.fir_parse.specs.Lexemes.{word, mark, level_opens, level_closes}
+use Rattle.fir_parse.specs.working.Seen.{seen}
+use Rattle.fir_parse.specs.working.Reading.{read_on}
 use Rattle.fir_parse.specs.working.Reads.{rest}
-use Rattle.fir_parse.specs.States.{wants}
-use Rattle.fir_parse.specs.StatementRules.{begun, behind_otherwise, behind_statement, closed_before, declared, is_named, may_be_else, ref_rest}
+use Rattle.fir_parse.specs.working.States.{wants}
+use Rattle.fir_parse.specs.working.StatementRules.{begun, behind_otherwise, behind_statement, closed_before, declared, is_named, may_be_else, ref_rest}
 use Rattle.fir_parse.specs.working.StatementTrees.{begun_of, done_of, more_statements, open_when_of, opens_of, otherwise_of, statements_before, DeepensElse}
-use Rattle.fir_parse.specs.Symbols.{an_indented_block, behind_else, behind_first, behind_is, else_when, no_else, statement, statements}
+use Rattle.fir_parse.specs.working.Symbols.{an_indented_block, behind_else, behind_first, behind_is, else_when, no_else, statement, statements}
 use Rattle.fir_parse.proofs.Plans.{ends_here, exits_behind, found, reads_behind, refused, refuses_one, stands_there, stays_before, stops_behind, takes_first, unsupported_there, exits_before}
 use Rattle.fir_parse.proofs.Sequences.{before_done, behind_alike, closed_all, no_else_word, no_whens, none_left, some_open, starts}
 use Rattle.fir_parse.proofs.StatementViews.{invalid_view}
 use Rattle.fir_parse.proofs.StatementReads.{alike, begins_reference, behind_is_declares, behind_is_refuses, by_second_word, declared_at_end, declares_nothing, else_word, first_word, invalid_behind_is, no_block, no_else_behind, no_port_of_memory, other_statement, port_of_memory, second_is_is, when_behind_else, GoesOn}
 use Rattle.fir_parse.proofs.parser.Parser.+statements.Goals as goal
 use Rattle.fir_parse.proofs.parser.Parser.+statements.Goals.{behind_is-in_default-via-in-Word+else-eq, behind_is-in_default-via-in_default, behind_else-in_default-via-in-Mark+in_default, behind_else-in_default-via-in-Word+else-eq, behind_else-in_default-via-in_default, next_statement-else-eq-via-then-eq+else-not-is_empty, next_statement-else-eq-via-else-eq}
+use Rattle.fir_parse.specs.Limits.{everywhere}
 
 -- a word at hand is one word
 same_word : (x y : Bor (List ℕ)) (l : Lexeme) (w : List ℕ) → l ≡ Word x → l ≡ Word y → bytes_eq x.now w ≡ false → bytes_eq y.now w ≡ false
@@ -90,7 +92,7 @@ behind_is-returns-in_ok-sink-in-Word-clause-reads t c =
     λ end k.
     takes_first (behind_is c.args.depth c.args.place c.args.name.now c.args.is_place) _ (word c.in-Word.third.now) c.peek-next.result.place _ _ (found _ c.peek-next.result (Word c.in-Word.third) c.peek-next.ensures c.in-Word.is) c.pass.ensures.rest (invalid_behind_is c.args.depth c.args.place c.args.name.now c.in-Word.third.now c.args.is_place c.peek-next.result.place same) end k
     ∙ c.in_ok-line_end-in-Word.ensures.reads end _
-    ∙ ap (λ s. read_on true end (k (statement s)) (rest c.line_end.new.self)) (ap (invalid c.args.place) (sym c.in_ok-sink-in-Word.ensures) ∙ sym (invalid_view c.args.place c.in_ok-sink-in-Word.sink))
+    ∙ ap (λ s. read_on everywhere end (k (statement s)) (rest c.line_end.new.self)) (ap (invalid c.args.place) (sym c.in_ok-sink-in-Word.ensures) ∙ sym (invalid_view c.args.place c.in_ok-sink-in-Word.sink))
 
 pub behind_is-returns-in-Declares-clause-reads : goal.behind_is-returns-in-Declares-clause-reads
 behind_is-returns-in-Declares-clause-reads t c =
@@ -126,7 +128,7 @@ indented_block-returns-in-End-clause-reads t c = rw (c.refused.ensures, c.in-End
 pub indented_block-returns-in_default-clause-reads : goal.indented_block-returns-in_default-clause-reads
 indented_block-returns-in_default-clause-reads t c = λ end k.
     stays_before (an_indented_block c.args.depth) done (seen c.peek-next.result.lexeme) c.peek-next.result.place _ (stands_there _ c.peek-next.result.lexeme c.peek-next.result.place c.peek-next.ensures c.in_default.not-End) (no_block c.args.depth c.peek-next.result.lexeme c.peek-next.result.place c.in_default.not-LevelOpens) end k
-    ∙ ap (λ l. read_on true end (k (block_of (map stmt_of l))) (rest c.args.self.now)) (sym c.new.ensures.items)
+    ∙ ap (λ l. read_on everywhere end (k (block_of (map stmt_of l))) (rest c.args.self.now)) (sym c.new.ensures.items)
 
 pub behind_else-returns-in_err-line_end-in-Mark-Colon-clause-reads : goal.behind_else-returns-in_err-line_end-in-Mark-Colon-clause-reads
 behind_else-returns-in_err-line_end-in-Mark-Colon-clause-reads t c =
@@ -194,14 +196,14 @@ behind_else-returns-in_default-clause-deep t c = c.no_else.ensures.deep (c.args.
 pub statements-returns-clause-reads : goal.statements-returns-clause-reads
 statements-returns-clause-reads t c =
     reads_behind (wants (statements c.args.depth [])) (λ k. more_statements c.args.depth c.new-sequence.result k) (λ b. block_of (map stmt_of b.items)) _ _ _ c.more_statements.result
-    (λ end k. ap (λ s. read_on true end s (rest c.args.self.now)) (starts c.args.depth c.new-sequence.result.done.items c.new-sequence.result.pending.items k c.new-sequence.ensures.done c.new-sequence.ensures.none))
+    (λ end k. ap (λ s. read_on everywhere end s (rest c.args.self.now)) (starts c.args.depth c.new-sequence.result.done.items c.new-sequence.result.pending.items k c.new-sequence.ensures.done c.new-sequence.ensures.none))
     c.more_statements.ensures.reads
 
 pub more_statements-returns-in-LevelCloses-clause-reads : goal.more_statements-returns-in-LevelCloses-clause-reads
 more_statements-returns-in-LevelCloses-clause-reads t c = λ end k.
     c.loop-self.invariant.0 end k
     ∙ takes_first (statements c.args.depth (opens_of c.loop-self.sequence)) _ level_closes c.peek-next.result.place _ _ (found _ c.peek-next.result LevelCloses c.peek-next.ensures c.in-LevelCloses.is) c.pass.ensures.rest refl end (λ behind. k (statements_before (done_of c.loop-self.sequence) behind))
-    ∙ ap (λ b. read_on true end (k b) (rest c.pass.new.self)) (closed_all (done_of c.loop-self.sequence) (done_of c.close.new.self) (opens_of c.loop-self.sequence) c.new.result.items done c.new.ensures.items (c.in_ok-close-in-LevelCloses.ensures.closed done) ∙ before_done (done_of c.close.new.self))
+    ∙ ap (λ b. read_on everywhere end (k b) (rest c.pass.new.self)) (closed_all (done_of c.loop-self.sequence) (done_of c.close.new.self) (opens_of c.loop-self.sequence) c.new.result.items done c.new.ensures.items (c.in_ok-close-in-LevelCloses.ensures.closed done) ∙ before_done (done_of c.close.new.self))
 
 pub more_statements-returns-in_default-clause-reads : goal.more_statements-returns-in_default-clause-reads
 more_statements-returns-in_default-clause-reads t c =
@@ -213,15 +215,15 @@ pub next_else-returns-in_err-otherwise-clause-reads : goal.next_else-returns-in_
 next_else-returns-in_err-otherwise-clause-reads t c =
     exits_before (λ k. more_statements c.args.depth c.args.sequence k) (wants (behind_else c.args.depth c.len-whens.result c.args.place)) (λ s k. more_statements c.args.depth s k) _ _ _ c.from_residual.result _ (λ k x. behind_otherwise c.args.depth (opens_of c.args.sequence) x (λ behind. k (statements_before (done_of c.args.sequence) behind))) c.from_residual.ensures.1
     (λ end k. takes_first (statements c.args.depth (opens_of c.args.sequence)) _ (word (codes "else")) c.args.place _ _ c.requires.at_hand c.pass.ensures.rest (else_word c.args.depth (opens_of c.args.sequence) c.args.place (some_open c.args.sequence.pending.items c.requires.some)) end (λ behind. k (statements_before (done_of c.args.sequence) behind))
-    ∙ ap (λ n. read_on true end (wants (behind_else c.args.depth n c.args.place) (λ x. behind_otherwise c.args.depth (opens_of c.args.sequence) x (λ behind. k (statements_before (done_of c.args.sequence) behind)))) (rest c.pass.new.self)) (length-map c.args.sequence.pending.items open_when_of ∙ sym (c.len-whens.ensures ∙ c.args.sequence.pending.ok.0)))
+    ∙ ap (λ n. read_on everywhere end (wants (behind_else c.args.depth n c.args.place) (λ x. behind_otherwise c.args.depth (opens_of c.args.sequence) x (λ behind. k (statements_before (done_of c.args.sequence) behind)))) (rest c.pass.new.self)) (length-map c.args.sequence.pending.items open_when_of ∙ sym (c.len-whens.ensures ∙ c.args.sequence.pending.ok.0)))
     c.in_err-otherwise.ensures.reads
 
 pub next_else-returns-clause-reads : goal.next_else-returns-clause-reads
 next_else-returns-clause-reads t c = λ end k.
     takes_first (statements c.args.depth (opens_of c.args.sequence)) _ (word (codes "else")) c.args.place _ _ c.requires.at_hand c.pass.ensures.rest (else_word c.args.depth (opens_of c.args.sequence) c.args.place (some_open c.args.sequence.pending.items c.requires.some)) end (λ behind. k (statements_before (done_of c.args.sequence) behind))
-    ∙ ap (λ n. read_on true end (wants (behind_else c.args.depth n c.args.place) (λ x. behind_otherwise c.args.depth (opens_of c.args.sequence) x (λ behind. k (statements_before (done_of c.args.sequence) behind)))) (rest c.pass.new.self)) (length-map c.args.sequence.pending.items open_when_of ∙ sym (c.len-whens.ensures ∙ c.args.sequence.pending.ok.0))
+    ∙ ap (λ n. read_on everywhere end (wants (behind_else c.args.depth n c.args.place) (λ x. behind_otherwise c.args.depth (opens_of c.args.sequence) x (λ behind. k (statements_before (done_of c.args.sequence) behind)))) (rest c.pass.new.self)) (length-map c.args.sequence.pending.items open_when_of ∙ sym (c.len-whens.ensures ∙ c.args.sequence.pending.ok.0))
     ∙ c.in_ok-otherwise.ensures.reads end (λ x. behind_otherwise c.args.depth (opens_of c.args.sequence) x (λ behind. k (statements_before (done_of c.args.sequence) behind)))
-    ∙ ap (λ s. read_on true end s (rest c.behind_else.new.self)) (c.in_ok-add_else.ensures.goes_on c.args.depth k)
+    ∙ ap (λ s. read_on everywhere end s (rest c.behind_else.new.self)) (c.in_ok-add_else.ensures.goes_on c.args.depth k)
 
 pub next_else-returns-clause-within : goal.next_else-returns-clause-within
 next_else-returns-clause-within t c =
@@ -249,10 +251,10 @@ next_statement-returns-clause-reads t c =
     λ end k.
     takes_first (statements c.args.depth (opens_of c.args.sequence)) _ (word c.args.name.now) c.args.place _ _ c.requires.at_hand c.pass.ensures.rest (first_word c.args.depth (opens_of c.args.sequence) c.args.name.now c.args.place no_else_here) end (λ behind. k (statements_before (done_of c.args.sequence) behind))
     ∙ c.in_ok-begun.ensures.reads end (λ s. behind_statement c.args.depth s (λ behind. k (statements_before (done_of c.args.sequence) (closed_before (opens_of c.args.sequence) done behind))))
-    ∙ ap (λ m. read_on true end (behind_statement c.args.depth (begun_of c.in_ok-begun.begun) m) (rest c.begun.new.self))
+    ∙ ap (λ m. read_on everywhere end (behind_statement c.args.depth (begun_of c.in_ok-begun.begun) m) (rest c.begun.new.self))
     (behind_alike (λ behind. statements_before (done_of c.args.sequence) (closed_before (opens_of c.args.sequence) done behind)) (statements_before (done_of c.close.new.self)) k
     (λ behind. closed_all (done_of c.args.sequence) (done_of c.close.new.self) (opens_of c.args.sequence) c.new.result.items behind c.new.ensures.items (c.in_ok-close.ensures.closed behind)))
-    ∙ ap (λ s. read_on true end s (rest c.begun.new.self)) (c.in_ok-add.ensures.goes_on c.args.depth k)
+    ∙ ap (λ s. read_on everywhere end s (rest c.begun.new.self)) (c.in_ok-add.ensures.goes_on c.args.depth k)
 
 pub next_statement-returns-clause-within : goal.next_statement-returns-clause-within
 next_statement-returns-clause-within t c = c.in_ok-add.ensures.within c.args.depth c.requires.depth c.in_ok-begun.ensures.deep

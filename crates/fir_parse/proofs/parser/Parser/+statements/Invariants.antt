@@ -2,11 +2,12 @@
 use Rattle.std.proofs.Common.{◌≡◌, ◌+◌, ◌*◌, ◌≤◌, true}
 use Rattle.fir_ast.specs.declared.place.Place.{Place}
 use Rattle.fir_ast.specs.Statements.{Block}
-use Rattle.fir_parse.specs.Reading.{read_on}
+use Rattle.fir_parse.specs.working.Reading.{read_on}
 use Rattle.fir_parse.specs.working.Reads.{left, rest}
-use Rattle.fir_parse.specs.States.{State}
+use Rattle.fir_parse.specs.working.States.{State}
 use Rattle.fir_parse.specs.working.StatementTrees.{more_statements, IsWithin}
 use Rattle.fir_parse.proofs.parser.Parser.+statements.Given as goal
+use Rattle.fir_parse.specs.Limits.{everywhere}
 
 abbrev pub decreases-begun : goal.decreases-begun
 decreases-begun l = 4 * left l.self.now + 3
@@ -44,7 +45,7 @@ decreases-statements l = 4 * left l.self.now + 3
 -- reading on behind those that are read is reading on from the start
 abbrev pub invariant-more_statements-loop-self : goal.invariant-more_statements-loop-self
 invariant-more_statements-loop-self l =
-    ((end : Place) (k : Block → State) → read_on true end (more_statements l.depth l.initial.sequence k) (rest l.initial.self) ≡ read_on true end (more_statements l.depth l.sequence k) (rest l.self))
+    ((end : Place) (k : Block → State) → read_on everywhere end (more_statements l.depth l.initial.sequence k) (rest l.initial.self) ≡ read_on everywhere end (more_statements l.depth l.sequence k) (rest l.self))
     × IsWithin l.depth l.sequence
     × (left l.self ≤ left l.initial.self)
 

@@ -9,18 +9,19 @@ use Rattle.fir_parse.specs.declared.lexeme.Lexeme.TheVariants.{Word, Mark}
 use Rattle.fir_parse.specs.declared.lexeme.Mark.TheVariants.{OpenCurly, CloseCurly, Colon}
 use Rattle.fir_parse.specs.working.BundlePlans.{some_fields, behind_field, before}
 use Rattle.fir_parse.specs.Lexemes.{mark, word}
-use Rattle.fir_parse.specs.Reading.{read_on}
+use Rattle.fir_parse.specs.working.Reading.{read_on}
 use Rattle.fir_parse.specs.working.Reads.{rest}
-use Rattle.fir_parse.specs.States.{wants, opens}
-use Rattle.fir_parse.specs.Symbols.{a_type, a_field, behind_flip, fields, more_fields, dimensions}
+use Rattle.fir_parse.specs.working.States.{wants, opens}
+use Rattle.fir_parse.specs.working.Symbols.{a_type, a_field, behind_flip, fields, more_fields, dimensions}
 use Rattle.fir_parse.specs.working.Trees.{tall_type, tall_field, bundle_fields}
-use Rattle.fir_parse.specs.TypeRules.{type_at, field_rest, with_field}
+use Rattle.fir_parse.specs.working.TypeRules.{type_at, field_rest, with_field}
 use Rattle.fir_parse.proofs.Plans.{found, takes_first, refused, exits_behind, reads_behind, reads_mapped, opened, opened_too_many}
 use Rattle.fir_parse.proofs.TypeReads.{begins_bundle, open_bundle, closed_bundle, ended_at, too_tall_at, same_dimensions, begins_with_name, begins_with_field, flips_name, names_flip, is_flip, is_no_flip, not_type}
 use Rattle.fir_parse.proofs.TypeViews.{bundle_view}
 use Rattle.fir_parse.proofs.BundleTrees.{none_before, none_high, last_field, taller, high_with_last, behind_one_more}
 use Rattle.fir_parse.proofs.parser.Parser.+types.Goals as goal
 use Rattle.fir_parse.proofs.parser.Parser.+types.Goals.{field-in_default-via-in-Word+else-eq, field-in_default-via-in_default, flipped_field-in_default-via-in-Mark+in_default, flipped_field-in_default-via-in_default, type_at_hand-in_default-via-in-Mark+in_default, type_at_hand-in_default-via-in_default, fields-in_default-via-in-Mark+in_default, fields-in_default-via-in_default}
+use Rattle.fir_parse.specs.Limits.{everywhere}
 
 -- a type
 
@@ -84,7 +85,7 @@ fields-some_fields-requires t c = (omega arith, c.requires)
 pub fields-returns-in-Mark-CloseCurly-clause-reads : goal.fields-returns-in-Mark-CloseCurly-clause-reads
 fields-returns-in-Mark-CloseCurly-clause-reads t c = λ end k.
     takes_first (fields c.args.depth) _ (mark CloseCurly) _ _ _ (found _ c.peek-next.result (Mark CloseCurly) c.peek-next.ensures (search rules)) c.pass.ensures.rest refl end k
-    ∙ ap (λ xs. read_on true end (k (record { fields = fields_of (map field_of xs); close = c.peek-next.result.place })) (rest c.pass.new.self)) (sym c.new.ensures.items)
+    ∙ ap (λ xs. read_on everywhere end (k (record { fields = fields_of (map field_of xs); close = c.peek-next.result.place })) (rest c.pass.new.self)) (sym c.new.ensures.items)
 
 pub fields-returns-in_default-clause-reads : goal.fields-returns-in_default-clause-reads
 fields-returns-in_default-clause-reads t c =
@@ -123,8 +124,8 @@ some_fields-returns-in-Some-clause-reads t c = λ end k.
     c.loop-fields.invariant.reads end k
     ∙ c.in_ok-field.ensures.reads end _
     ∙ c.in_ok-close.ensures.reads c.args.depth end _
-    ∙ ap (λ o. read_on true end (behind_field c.args.depth o (λ fs. k (before (map field_of c.loop-fields.fields.items) (with_field (tall_field c.in_ok-field.field) fs)))) (rest c.behind_field.new.self)) c.in-Some.is
-    ∙ ap (λ fs. read_on true end (k fs) (rest c.behind_field.new.self)) (last_field c.loop-fields.fields.items c.push.new.self.items c.in_ok-field.field.tree c.in_ok-push.ensures.items c.in-Some.close)
+    ∙ ap (λ o. read_on everywhere end (behind_field c.args.depth o (λ fs. k (before (map field_of c.loop-fields.fields.items) (with_field (tall_field c.in_ok-field.field) fs)))) (rest c.behind_field.new.self)) c.in-Some.is
+    ∙ ap (λ fs. read_on everywhere end (k fs) (rest c.behind_field.new.self)) (last_field c.loop-fields.fields.items c.push.new.self.items c.in_ok-field.field.tree c.in_ok-push.ensures.items c.in-Some.close)
 
 pub some_fields-returns-in-Some-clause-high : goal.some_fields-returns-in-Some-clause-high
 some_fields-returns-in-Some-clause-high t c =
@@ -142,8 +143,8 @@ some_fields-loop-fields-preserved t c = record {
       c.loop-fields.invariant.reads end k
       ∙ c.in_ok-field.ensures.reads end _
       ∙ c.in_ok-close.ensures.reads c.args.depth end _
-      ∙ ap (λ o. read_on true end (behind_field c.args.depth o (λ fs. k (before (map field_of c.loop-fields.fields.items) (with_field (tall_field c.in_ok-field.field) fs)))) (rest c.behind_field.new.self)) c.in_default.is
-      ∙ ap (λ m. read_on true end (some_fields c.args.depth m) (rest c.behind_field.new.self)) (behind_one_more c.loop-fields.fields.items c.push.new.self.items c.in_ok-field.field.tree c.in_ok-push.ensures.items k);
+      ∙ ap (λ o. read_on everywhere end (behind_field c.args.depth o (λ fs. k (before (map field_of c.loop-fields.fields.items) (with_field (tall_field c.in_ok-field.field) fs)))) (rest c.behind_field.new.self)) c.in_default.is
+      ∙ ap (λ m. read_on everywhere end (some_fields c.args.depth m) (rest c.behind_field.new.self)) (behind_one_more c.loop-fields.fields.items c.push.new.self.items c.in_ok-field.field.tree c.in_ok-push.ensures.items k);
   high = high_with_last c.loop-fields.fields.items c.push.new.self.items c.in_ok-field.field.tree _ _ _ c.in_ok-push.ensures.items (c.max-height.ensures ∙ taller _ _) c.loop-fields.invariant.high c.in_ok-field.ensures.high;
   nearer = omega (arith, c.loop-fields.invariant.nearer, c.in_ok-field.ensures.nearer, c.in_ok-close.ensures.nearer);
 }
@@ -196,7 +197,7 @@ flipped_field-returns-in_ok-name-in-Mark-Colon-clause-reads t c =
     (λ end k.
     takes_first (a_field c.args.depth) (wants (behind_flip c.args.depth c.args.place)) (word (codes "flip")) c.args.place _ _ c.requires.at_hand c.pass.ensures.rest refl end k
     ∙ names_flip c.args.depth c.args.place _ _ (found _ c.peek-next.result (Mark Colon) c.peek-next.ensures (search rules)) end k
-    ∙ ap (λ (n : PlacedName). read_on true end (field_rest c.args.depth n.place false n.name k) (rest c.pass.new.self)) (sym c.in_ok-name-in-Mark-Colon.ensures))
+    ∙ ap (λ (n : PlacedName). read_on everywhere end (field_rest c.args.depth n.place false n.name k) (rest c.pass.new.self)) (sym c.in_ok-name-in-Mark-Colon.ensures))
     c.field_behind.ensures.reads
 
 pub flipped_field-returns-in_err-name-in_default-clause-reads : goal.flipped_field-returns-in_err-name-in_default-clause-reads

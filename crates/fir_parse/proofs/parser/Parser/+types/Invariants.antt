@@ -5,11 +5,12 @@ use Rattle.fir_ast.specs.View.{fields_of}
 use Rattle.fir_ast.specs.declared.place.Place.{Place}
 use Rattle.fir_parse.specs.working.BundlePlans.{some_fields, before}
 use Rattle.fir_parse.specs.Heights.{fields_height}
-use Rattle.fir_parse.specs.Reading.{read_on}
+use Rattle.fir_parse.specs.working.Reading.{read_on}
 use Rattle.fir_parse.specs.working.Reads.{left, rest}
-use Rattle.fir_parse.specs.States.{State}
-use Rattle.fir_parse.specs.Symbols.{FieldsTree}
+use Rattle.fir_parse.specs.working.States.{State}
+use Rattle.fir_parse.specs.working.Symbols.{FieldsTree}
 use Rattle.fir_parse.proofs.parser.Parser.+types.Given as goal
+use Rattle.fir_parse.specs.Limits.{everywhere}
 
 abbrev pub decreases-ty : goal.decreases-ty
 decreases-ty l = 4 * left l.self.now + 2
@@ -38,7 +39,7 @@ decreases-field_behind l = 4 * left l.self.now
 -- reading on behind the fields so far is reading on as at the start
 abbrev pub invariant-some_fields-loop-fields : goal.invariant-some_fields-loop-fields
 invariant-some_fields-loop-fields l = record {
-  reads : (end : Place) (k : FieldsTree → State) → read_on true end (some_fields l.depth k) (rest l.fn.self) ≡ read_on true end (some_fields l.depth (λ fs. k (before (map field_of l.fields.items) fs))) (rest l.self);
+  reads : (end : Place) (k : FieldsTree → State) → read_on everywhere end (some_fields l.depth k) (rest l.fn.self) ≡ read_on everywhere end (some_fields l.depth (λ fs. k (before (map field_of l.fields.items) fs))) (rest l.self);
   high : (l.height ≡ fields_height (fields_of (map field_of l.fields.items))) × (l.height ≤ 256);
   nearer : left l.self ≤ left l.fn.self;
 }

@@ -2,10 +2,11 @@ use Rattle.std.proofs.Common.{◌≡◌, refl}
 use Rattle.fir_ast.specs.declared.place.Place.{Place}
 use Rattle.fir_parse.specs.declared.lexeme.Lexeme.{Lexeme}
 use Rattle.fir_parse.specs.declared.lexeme.Lexeme.TheVariants.{Annotations}
-use Rattle.fir_parse.specs.Lexemes.{annotations, seen}
-use Rattle.fir_parse.specs.Reading.{step}
-use Rattle.fir_parse.specs.States.{without}
-use Rattle.fir_parse.specs.Symbols.{some_annotations}
+use Rattle.fir_parse.specs.Lexemes.{annotations}
+use Rattle.fir_parse.specs.working.Seen.{seen}
+use Rattle.fir_parse.specs.working.Reading.{step}
+use Rattle.fir_parse.specs.working.States.{without}
+use Rattle.fir_parse.specs.working.Symbols.{some_annotations}
 use Rattle.fir_parse.proofs.Plans.{found, stands_there, stays_before, takes_one}
 use Rattle.fir_parse.proofs.LoopReads.{text_ended}
 use Rattle.fir_parse.proofs.parser.Parser.annotations.Goals as goal

@@ -4,8 +4,8 @@ use Rattle.fir_parse.specs.declared.lexeme.Lexeme.TheVariants.{Word}
 use Rattle.fir_parse.specs.Lexemes.{word}
 use Rattle.fir_parse.specs.working.ModuleTrees.{port_or_of}
 use Rattle.fir_parse.specs.working.PartPlans.{no_port_plan, port_plan}
-use Rattle.fir_parse.specs.States.{wants}
-use Rattle.fir_parse.specs.Symbols.{behind_direction, behind_port_is}
+use Rattle.fir_parse.specs.working.States.{wants}
+use Rattle.fir_parse.specs.working.Symbols.{behind_direction, behind_port_is}
 use Rattle.fir_parse.proofs.Plans.{found, reads_behind, takes_first}
 use Rattle.fir_parse.proofs.ReadAlike.{direction_is_name, direction_is_port}
 use Rattle.fir_parse.proofs.parser.Parser.behind_direction.Goals as goal

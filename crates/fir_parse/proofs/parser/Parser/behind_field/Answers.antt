@@ -3,7 +3,7 @@ use Rattle.std.proofs.Common.{refl, rules}
 use Rattle.fir_parse.specs.declared.lexeme.Lexeme.TheVariants.{Mark}
 use Rattle.fir_parse.specs.declared.lexeme.Mark.TheVariants.{Comma, CloseCurly}
 use Rattle.fir_parse.specs.Lexemes.{mark}
-use Rattle.fir_parse.specs.Symbols.{more_fields}
+use Rattle.fir_parse.specs.working.Symbols.{more_fields}
 use Rattle.fir_parse.proofs.Plans.{found, takes_first, refused}
 use Rattle.fir_parse.proofs.TypeReads.{not_behind_field}
 use Rattle.fir_parse.proofs.parser.Parser.behind_field.Goals as goal

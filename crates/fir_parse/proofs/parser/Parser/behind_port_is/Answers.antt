@@ -1,13 +1,13 @@
 use Rattle.std.proofs.Common.{refl, rules}
 use Rattle.fir_parse.specs.declared.lexeme.Lexeme.TheVariants.{Mark}
 use Rattle.fir_parse.specs.declared.lexeme.Mark.TheVariants.{Colon}
-use Rattle.fir_parse.specs.CircuitRules.{port_rest}
+use Rattle.fir_parse.specs.working.CircuitRules.{port_rest}
 use Rattle.fir_parse.specs.Lexemes.{mark}
 use Rattle.fir_parse.specs.working.ModuleTrees.{port_or_of}
 use Rattle.fir_parse.specs.working.PartPlans.{invalid_plan}
-use Rattle.fir_parse.specs.StatementRules.{is_named}
-use Rattle.fir_parse.specs.States.{wants}
-use Rattle.fir_parse.specs.Symbols.{behind_port_is}
+use Rattle.fir_parse.specs.working.StatementRules.{is_named}
+use Rattle.fir_parse.specs.working.States.{wants}
+use Rattle.fir_parse.specs.working.Symbols.{behind_port_is}
 use Rattle.fir_parse.proofs.Plans.{found, reads_behind, takes_first}
 use Rattle.fir_parse.proofs.ReadAlike.{is_not_port}
 use Rattle.fir_parse.proofs.parser.Parser.behind_port_is.Goals as goal

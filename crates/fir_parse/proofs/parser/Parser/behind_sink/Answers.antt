@@ -4,9 +4,9 @@ use Rattle.fir_ast.specs.Statements.{invalid}
 use Rattle.fir_parse.specs.declared.lexeme.Lexeme.TheVariants.{Mark}
 use Rattle.fir_parse.specs.declared.lexeme.Mark.TheVariants.{Connect, PartialConnect}
 use Rattle.fir_parse.specs.Lexemes.{mark}
-use Rattle.fir_parse.specs.StatementRules.{connect_rest, partial_connect_rest, ends_line}
-use Rattle.fir_parse.specs.States.{wants}
-use Rattle.fir_parse.specs.Symbols.{a_word, behind_sink}
+use Rattle.fir_parse.specs.working.StatementRules.{connect_rest, partial_connect_rest, ends_line}
+use Rattle.fir_parse.specs.working.States.{wants}
+use Rattle.fir_parse.specs.working.Symbols.{a_word, behind_sink}
 use Rattle.fir_parse.proofs.Plans.{found, takes_first, reads_behind}
 use Rattle.fir_parse.proofs.StatementReads.{alike, is_behind_sink}
 use Rattle.fir_parse.proofs.parser.Parser.behind_sink.Goals as goal

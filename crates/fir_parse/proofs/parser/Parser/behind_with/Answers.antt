@@ -4,8 +4,8 @@ use Rattle.fir_parse.specs.declared.lexeme.Lexeme.TheVariants.{Mark}
 use Rattle.fir_parse.specs.declared.lexeme.Mark.TheVariants.{OpenRound}
 use Rattle.fir_parse.specs.Lexemes.{mark}
 use Rattle.fir_parse.specs.working.PartPlans.{level_reset_plan, round_reset_plan}
-use Rattle.fir_parse.specs.States.{wants}
-use Rattle.fir_parse.specs.Symbols.{behind_with}
+use Rattle.fir_parse.specs.working.States.{wants}
+use Rattle.fir_parse.specs.working.Symbols.{behind_with}
 use Rattle.fir_parse.proofs.Plans.{found, takes_first, reads_behind}
 use Rattle.fir_parse.proofs.ReadAlike.{resets_in_level}
 use Rattle.fir_parse.proofs.parser.Parser.behind_with.Goals as goal

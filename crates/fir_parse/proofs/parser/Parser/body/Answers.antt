@@ -4,11 +4,12 @@ use Rattle.fir_ast.specs.Statements.{done}
 use Rattle.fir_ast.specs.View.{port_of}
 use Rattle.fir_parse.specs.declared.lexeme.Lexeme.{Lexeme}
 use Rattle.fir_parse.specs.declared.lexeme.Lexeme.TheVariants.{LevelOpens}
-use Rattle.fir_parse.specs.Lexemes.{level_opens, seen}
+use Rattle.fir_parse.specs.Lexemes.{level_opens}
+use Rattle.fir_parse.specs.working.Seen.{seen}
 use Rattle.fir_parse.specs.working.ModuleTrees.{body_of}
-use Rattle.fir_parse.specs.Reading.{step}
-use Rattle.fir_parse.specs.States.{wants, without}
-use Rattle.fir_parse.specs.Symbols.{a_body, ports_and_statements}
+use Rattle.fir_parse.specs.working.Reading.{step}
+use Rattle.fir_parse.specs.working.States.{wants, without}
+use Rattle.fir_parse.specs.working.Symbols.{a_body, ports_and_statements}
 use Rattle.fir_parse.proofs.LoopReads.{text_ended}
 use Rattle.fir_parse.proofs.PortReads.{no_ports, no_statements}
 use Rattle.fir_parse.proofs.Plans.{found, reads_behind, stands_there, stays_before, takes_first}

@@ -1,7 +1,7 @@
 use Rattle.std.proofs.Common.{refl}
 use Rattle.fir_parse.specs.declared.lexeme.Lexeme.TheVariants.{LevelCloses}
 use Rattle.fir_parse.specs.Lexemes.{level_closes}
-use Rattle.fir_parse.specs.Symbols.{a_closing}
+use Rattle.fir_parse.specs.working.Symbols.{a_closing}
 use Rattle.fir_parse.proofs.Plans.{found, takes_one, refused}
 use Rattle.fir_parse.proofs.Others.{other_closing}
 use Rattle.fir_parse.proofs.parser.Parser.closing.Goals as goal

@@ -2,8 +2,8 @@
 use Rattle.std.proofs.Common.{ap, sym, ◌∙◌, ◌+◌}
 use Rattle.fir_ast.specs.Types.{vector}
 use Rattle.fir_ast.specs.View.{type_of}
-use Rattle.fir_parse.specs.Symbols.{dimensions}
-use Rattle.fir_parse.specs.States.{wants, opens}
+use Rattle.fir_parse.specs.working.Symbols.{dimensions}
+use Rattle.fir_parse.specs.working.States.{wants, opens}
 use Rattle.fir_parse.specs.working.Reads.{rest}
 use Rattle.fir_parse.proofs.Plans.{opened, opened_too_many, exits_before}
 use Rattle.fir_parse.proofs.TypeReads.{begins_dimension, open_dimension, closed_dimension, ended_at, too_tall_at, same_dimensions}

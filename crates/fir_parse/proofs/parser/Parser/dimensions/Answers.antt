@@ -1,7 +1,7 @@
 -- The lengths behind a type.
 use Rattle.std.proofs.Common.{refl, ◌∙◌, rules, arith}
 use Rattle.fir_ast.specs.View.{type_of}
-use Rattle.fir_parse.specs.Symbols.{dimensions}
+use Rattle.fir_parse.specs.working.Symbols.{dimensions}
 use Rattle.fir_parse.proofs.Plans.{stays_before, exits_behind, stops_behind, stands_there}
 use Rattle.fir_parse.proofs.TypeReads.{ends_there, not_dimension}
 use Rattle.fir_parse.proofs.parser.Parser.dimensions.Goals as goal

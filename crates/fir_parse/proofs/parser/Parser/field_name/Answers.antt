@@ -1,8 +1,8 @@
 use Rattle.std.proofs.Common.{sym, ap, ◌∙◌}
 use Rattle.fir_parse.specs.declared.lexeme.Lexeme.TheVariants.{Word, Integer}
 use Rattle.fir_parse.specs.Lexemes.{word, integer}
-use Rattle.fir_parse.specs.Symbols.{a_field_name}
-use Rattle.fir_parse.specs.States.{takes}
+use Rattle.fir_parse.specs.working.Symbols.{a_field_name}
+use Rattle.fir_parse.specs.working.States.{takes}
 use Rattle.fir_parse.proofs.Plans.{found, takes_one, refused}
 use Rattle.fir_parse.proofs.Others.{other_field_name, signed_field_name, digits_field_name}
 use Rattle.fir_parse.proofs.parser.Parser.field_name.Goals as goal

@@ -1,8 +1,8 @@
 use Rattle.std.proofs.Common.{◌≡◌, [], ◌∷◌, ◌++◌, map, ◌∙◌}
 use Rattle.fir_ast.specs.View.{named_of}
-use Rattle.fir_parse.specs.MemoryRules.{names_plan}
-use Rattle.fir_parse.specs.States.{wants}
-use Rattle.fir_parse.specs.Symbols.{more_names}
+use Rattle.fir_parse.specs.working.MemoryRules.{names_plan}
+use Rattle.fir_parse.specs.working.States.{wants}
+use Rattle.fir_parse.specs.working.Symbols.{more_names}
 use Rattle.fir_parse.proofs.LoopReads.{pushed}
 use Rattle.fir_parse.proofs.Plans.{reads_behind}
 use Rattle.fir_parse.proofs.parser.Parser.field_names.Goals as goal

@@ -1,7 +1,7 @@
 use Rattle.std.proofs.Common.{refl}
 use Rattle.fir_parse.specs.declared.lexeme.Lexeme.TheVariants.{LineEnd}
 use Rattle.fir_parse.specs.Lexemes.{line_end}
-use Rattle.fir_parse.specs.Symbols.{a_line_end}
+use Rattle.fir_parse.specs.working.Symbols.{a_line_end}
 use Rattle.fir_parse.proofs.Plans.{found, takes_one, refused}
 use Rattle.fir_parse.proofs.Others.{other_line_end}
 use Rattle.fir_parse.proofs.parser.Parser.line_end.Goals as goal

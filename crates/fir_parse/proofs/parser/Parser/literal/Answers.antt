@@ -2,7 +2,7 @@ use Rattle.std.proofs.Common.{refl, Some}
 use Rattle.fir_parse.specs.declared.lexeme.Lexeme.TheVariants.{Integer, Text}
 use Rattle.fir_parse.specs.Lexemes.{integer, text}
 use Rattle.fir_parse.specs.Numbers.{integer_value, text_value}
-use Rattle.fir_parse.specs.Symbols.{a_literal}
+use Rattle.fir_parse.specs.working.Symbols.{a_literal}
 use Rattle.fir_parse.proofs.Plans.{found, refused}
 use Rattle.fir_parse.proofs.LiteralNumbers.{other_literal, numbered_as_spelled, reads_numeral}
 use Rattle.fir_parse.proofs.parser.Parser.literal.Goals as goal

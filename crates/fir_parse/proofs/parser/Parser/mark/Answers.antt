@@ -3,7 +3,7 @@ use denote.Enum.Bare.{sameb}
 use Rattle.fir_parse.specs.contracts.lexeme.Mark.{the_type}
 use Rattle.fir_parse.specs.declared.lexeme.Lexeme.TheVariants.{Mark}
 use Rattle.fir_parse.specs.Lexemes.{mark}
-use Rattle.fir_parse.specs.Symbols.{a_mark}
+use Rattle.fir_parse.specs.working.Symbols.{a_mark}
 use Rattle.fir_parse.proofs.Plans.{found, takes_one, refused}
 use Rattle.fir_parse.proofs.Others.{other_mark, unequal_mark, equal_mark}
 use Rattle.fir_parse.proofs.SameMarks.{same_by_code}

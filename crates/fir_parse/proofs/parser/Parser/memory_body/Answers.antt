@@ -3,10 +3,11 @@ use Rattle.fir_ast.specs.declared.place.Place.{Place}
 use Rattle.fir_ast.specs.View.{memory_part_of}
 use Rattle.fir_parse.specs.declared.lexeme.Lexeme.{Lexeme}
 use Rattle.fir_parse.specs.declared.lexeme.Lexeme.TheVariants.{LevelOpens}
-use Rattle.fir_parse.specs.Lexemes.{level_opens, seen}
-use Rattle.fir_parse.specs.Reading.{step}
-use Rattle.fir_parse.specs.States.{wants, without}
-use Rattle.fir_parse.specs.Symbols.{a_memory_body, a_memory_field, more_memory_fields}
+use Rattle.fir_parse.specs.Lexemes.{level_opens}
+use Rattle.fir_parse.specs.working.Seen.{seen}
+use Rattle.fir_parse.specs.working.Reading.{step}
+use Rattle.fir_parse.specs.working.States.{wants, without}
+use Rattle.fir_parse.specs.working.Symbols.{a_memory_body, a_memory_field, more_memory_fields}
 use Rattle.fir_parse.proofs.LoopReads.{text_ended}
 use Rattle.fir_parse.proofs.Plans.{found, reads_behind, stands_there, stays_before, takes_first}
 use Rattle.fir_parse.proofs.parser.Parser.memory_body.Goals as goal

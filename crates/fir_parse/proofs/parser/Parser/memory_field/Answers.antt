@@ -2,10 +2,10 @@ use Rattle.std.proofs.Common.{◌∙◌, refl}
 use Rattle.fir_ast.specs.Statements.{depth, read_latency, write_latency, reader, writer, readwriter}
 use Rattle.fir_ast.specs.View.{memory_part_of}
 use Rattle.fir_parse.specs.declared.words.FieldWord.TheVariants.{DataType, Depth, ReadLatency, WriteLatency, Reader, Writer, Readwriter, ReadUnderWrite}
-use Rattle.fir_parse.specs.MemoryRules.{names_field, number_field}
+use Rattle.fir_parse.specs.working.MemoryRules.{names_field, number_field}
 use Rattle.fir_parse.specs.working.PartPlans.{data_type_plan, under_write_plan}
-use Rattle.fir_parse.specs.States.{wants}
-use Rattle.fir_parse.specs.Symbols.{a_memory_field}
+use Rattle.fir_parse.specs.working.States.{wants}
+use Rattle.fir_parse.specs.working.Symbols.{a_memory_field}
 use Rattle.fir_parse.proofs.FieldReads.{field_taken, no_field}
 use Rattle.fir_parse.proofs.Plans.{exits_behind, reads_behind}
 use Rattle.fir_parse.proofs.parser.Parser.memory_field.Goals as goal

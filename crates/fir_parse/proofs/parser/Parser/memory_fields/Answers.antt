@@ -1,7 +1,7 @@
 use Rattle.std.proofs.Common.{◌≡◌, [], ◌∷◌, ◌++◌, map, ◌∙◌}
 use Rattle.fir_ast.specs.View.{memory_part_of}
-use Rattle.fir_parse.specs.States.{wants}
-use Rattle.fir_parse.specs.Symbols.{a_memory_field, more_memory_fields}
+use Rattle.fir_parse.specs.working.States.{wants}
+use Rattle.fir_parse.specs.working.Symbols.{a_memory_field, more_memory_fields}
 use Rattle.fir_parse.proofs.LoopReads.{pushed}
 use Rattle.fir_parse.proofs.Plans.{reads_behind}
 use Rattle.fir_parse.proofs.parser.Parser.memory_fields.Goals as goal

@@ -4,12 +4,13 @@ use Rattle.fir_ast.specs.View.{module_of}
 use Rattle.fir_parse.specs.declared.lexeme.Lexeme.{Lexeme}
 use Rattle.fir_parse.specs.declared.lexeme.Lexeme.TheVariants.{Word}
 use Rattle.fir_parse.specs.declared.words.ModuleWord.TheVariants.{Name}
-use Rattle.fir_parse.specs.CircuitRules.{by_module_word, one_module}
-use Rattle.fir_parse.specs.Lexemes.{seen, word}
-use Rattle.fir_parse.specs.Reading.{step}
-use Rattle.fir_parse.specs.States.{refuses, wants}
-use Rattle.fir_parse.specs.Symbols.{first_module, more_modules}
-use Rattle.fir_parse.specs.Words.{module_word_of}
+use Rattle.fir_parse.specs.working.CircuitRules.{by_module_word, one_module}
+use Rattle.fir_parse.specs.Lexemes.{word}
+use Rattle.fir_parse.specs.working.Seen.{seen}
+use Rattle.fir_parse.specs.working.Reading.{step}
+use Rattle.fir_parse.specs.working.States.{refuses, wants}
+use Rattle.fir_parse.specs.working.Symbols.{first_module, more_modules}
+use Rattle.fir_parse.specs.working.Words.{module_word_of}
 use Rattle.fir_parse.proofs.LoopReads.{leads_behind}
 use Rattle.fir_parse.proofs.Plans.{found, refused, takes_first, unsupported_there}
 use Rattle.fir_parse.proofs.parser.Parser.module.Goals as goal

@@ -1,7 +1,7 @@
 use Rattle.std.proofs.Common.{◌≡◌, [], ◌∷◌, ◌++◌, map, ◌∙◌}
 use Rattle.fir_ast.specs.View.{module_of}
-use Rattle.fir_parse.specs.States.{wants}
-use Rattle.fir_parse.specs.Symbols.{first_module, more_modules}
+use Rattle.fir_parse.specs.working.States.{wants}
+use Rattle.fir_parse.specs.working.Symbols.{first_module, more_modules}
 use Rattle.fir_parse.proofs.LoopReads.{pushed}
 use Rattle.fir_parse.proofs.Plans.{reads_behind}
 use Rattle.fir_parse.proofs.parser.Parser.modules.Goals as goal

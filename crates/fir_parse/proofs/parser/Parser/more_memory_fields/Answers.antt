@@ -3,20 +3,21 @@ use Rattle.std.proofs.lemmas.List.{append-nil}
 use Rattle.fir_ast.specs.View.{memory_part_of}
 use Rattle.fir_parse.specs.declared.lexeme.Lexeme.TheVariants.{LevelCloses}
 use Rattle.fir_parse.specs.Lexemes.{level_closes}
-use Rattle.fir_parse.specs.Reading.{read_on}
+use Rattle.fir_parse.specs.working.Reading.{read_on}
 use Rattle.fir_parse.specs.working.Reads.{rest}
-use Rattle.fir_parse.specs.States.{wants}
-use Rattle.fir_parse.specs.Symbols.{a_memory_field, more_memory_fields}
+use Rattle.fir_parse.specs.working.States.{wants}
+use Rattle.fir_parse.specs.working.Symbols.{a_memory_field, more_memory_fields}
 use Rattle.fir_parse.proofs.LoopReads.{pushed}
 use Rattle.fir_parse.proofs.Plans.{exits_behind, found, takes_one}
 use Rattle.fir_parse.proofs.ReadAlike.{one_field_more}
 use Rattle.fir_parse.proofs.parser.Parser.more_memory_fields.Goals as goal
+use Rattle.fir_parse.specs.Limits.{everywhere}
 
 pub returns-in-LevelCloses-clause-reads : goal.returns-in-LevelCloses-clause-reads
 returns-in-LevelCloses-clause-reads c = λ end k.
     c.loop-self.invariant.alike end k
     ∙ takes_one (more_memory_fields c.args.depth) [] level_closes _ _ _ (found _ c.peek-next.result LevelCloses c.peek-next.ensures c.in-LevelCloses.is) c.pass.ensures.rest refl end (λ fs. k (map memory_part_of c.loop-self.fields.items ++ fs))
-    ∙ ap (λ fs. read_on true end (k fs) (rest c.pass.new.self)) (append-nil (map memory_part_of c.loop-self.fields.items))
+    ∙ ap (λ fs. read_on everywhere end (k fs) (rest c.pass.new.self)) (append-nil (map memory_part_of c.loop-self.fields.items))
 
 pub returns-in_err-field-in_default-clause-reads : goal.returns-in_err-field-in_default-clause-reads
 returns-in_err-field-in_default-clause-reads c =

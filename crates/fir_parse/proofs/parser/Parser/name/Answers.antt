@@ -1,8 +1,8 @@
 use Rattle.std.proofs.Common.{sym, ap}
 use Rattle.fir_parse.specs.declared.lexeme.Lexeme.TheVariants.{Word}
 use Rattle.fir_parse.specs.Lexemes.{word}
-use Rattle.fir_parse.specs.Symbols.{a_name}
-use Rattle.fir_parse.specs.States.{takes}
+use Rattle.fir_parse.specs.working.Symbols.{a_name}
+use Rattle.fir_parse.specs.working.States.{takes}
 use Rattle.fir_parse.proofs.Plans.{found, takes_one, refused}
 use Rattle.fir_parse.proofs.Others.{other_name}
 use Rattle.fir_parse.proofs.parser.Parser.name.Goals as goal

@@ -1,9 +1,9 @@
 use Rattle.std.proofs.Common.{refl, sym, ◌∙◌}
 use Rattle.fir_ast.specs.Statements.{skip}
 use Rattle.fir_parse.specs.declared.lexeme.Lexeme.TheVariants.{End}
-use Rattle.fir_parse.specs.States.{wants}
+use Rattle.fir_parse.specs.working.States.{wants}
 use Rattle.fir_parse.specs.working.StatementTrees.{begun_of}
-use Rattle.fir_parse.specs.Symbols.{a_line_end, behind_first, statement}
+use Rattle.fir_parse.specs.working.Symbols.{a_line_end, behind_first, statement}
 use Rattle.fir_parse.proofs.Plans.{found, refused, reads_behind, ends_here, unsupported_there, stands_there}
 use Rattle.fir_parse.proofs.StatementReads.{alike, goes_on_no_further, missing_alone, skip_alone}
 use Rattle.fir_parse.proofs.parser.Parser.one_word.Goals as goal

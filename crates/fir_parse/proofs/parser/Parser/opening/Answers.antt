@@ -1,7 +1,7 @@
 use Rattle.std.proofs.Common.{refl}
 use Rattle.fir_parse.specs.declared.lexeme.Lexeme.TheVariants.{LevelOpens}
 use Rattle.fir_parse.specs.Lexemes.{level_opens}
-use Rattle.fir_parse.specs.Symbols.{an_opening}
+use Rattle.fir_parse.specs.working.Symbols.{an_opening}
 use Rattle.fir_parse.proofs.Plans.{found, takes_one, refused}
 use Rattle.fir_parse.proofs.Others.{other_opening}
 use Rattle.fir_parse.proofs.parser.Parser.opening.Goals as goal

@@ -1,10 +1,10 @@
 use Rattle.std.proofs.Common.{refl, sym, ap}
-use Rattle.fir_parse.specs.CircuitRules.{behind_port, body_by_word}
+use Rattle.fir_parse.specs.working.CircuitRules.{behind_port, body_by_word}
 use Rattle.fir_parse.specs.Lexemes.{word}
 use Rattle.fir_parse.specs.working.ModuleTrees.{port_or_of}
 use Rattle.fir_parse.specs.working.PartPlans.{no_port_plan}
-use Rattle.fir_parse.specs.States.{wants}
-use Rattle.fir_parse.specs.Symbols.{behind_direction, ports_and_statements}
+use Rattle.fir_parse.specs.working.States.{wants}
+use Rattle.fir_parse.specs.working.Symbols.{behind_direction, ports_and_statements}
 use Rattle.fir_parse.proofs.LoopReads.{leads_behind}
 use Rattle.fir_parse.proofs.Plans.{takes_first}
 use Rattle.fir_parse.proofs.parser.Parser.port_or_statement.Goals as goal

@@ -1,21 +1,22 @@
 use Rattle.std.proofs.Common.{true, sym, ap, ◌∙◌}
 use Rattle.fir_ast.specs.View.{named_of}
 use Rattle.fir_parse.specs.declared.lexeme.Mark.TheVariants.{Colon}
-use Rattle.fir_parse.specs.Reading.{read_on}
+use Rattle.fir_parse.specs.working.Reading.{read_on}
 use Rattle.fir_parse.specs.working.Reads.{rest}
-use Rattle.fir_parse.specs.States.{wants}
-use Rattle.fir_parse.specs.StatementRules.{begun, register_rest}
-use Rattle.fir_parse.specs.Symbols.{a_mark}
+use Rattle.fir_parse.specs.working.States.{wants}
+use Rattle.fir_parse.specs.working.StatementRules.{begun, register_rest}
+use Rattle.fir_parse.specs.working.Symbols.{a_mark}
 use Rattle.fir_parse.proofs.Plans.{exits_behind}
 use Rattle.fir_parse.proofs.parser.Parser.register_named.Goals as goal
+use Rattle.fir_parse.specs.Limits.{everywhere}
 
 pub returns-in_err-register-clause-reads : goal.returns-in_err-register-clause-reads
 returns-in_err-register-clause-reads c =
     exits_behind _ (λ k. wants (a_mark Colon) (λ r. register_rest c.args.depth c.args.place (named_of c.in_ok-ident.ident) k)) _ _ _ _ c.from_residual-in_err-register.result _ begun c.from_residual-in_err-register.ensures.1
-    (λ end k. ap (λ n. read_on true end (wants (a_mark Colon) (λ r. register_rest c.args.depth c.args.place n (begun k))) (rest c.args.self.now)) (sym c.in_ok-ident.ensures))
+    (λ end k. ap (λ n. read_on everywhere end (wants (a_mark Colon) (λ r. register_rest c.args.depth c.args.place n (begun k))) (rest c.args.self.now)) (sym c.in_ok-ident.ensures))
     c.in_err-register.ensures.reads
 
 pub returns-clause-reads : goal.returns-clause-reads
 returns-clause-reads c = λ end k.
-    ap (λ n. read_on true end (wants (a_mark Colon) (λ r. register_rest c.args.depth c.args.place n (begun k))) (rest c.args.self.now)) (sym c.in_ok-ident.ensures)
+    ap (λ n. read_on everywhere end (wants (a_mark Colon) (λ r. register_rest c.args.depth c.args.place n (begun k))) (rest c.args.self.now)) (sym c.in_ok-ident.ensures)
     ∙ c.in_ok-register.ensures.reads end (begun k)

@@ -3,8 +3,8 @@ use Rattle.fir_ast.specs.View.{reset_of}
 use Rattle.fir_parse.specs.declared.lexeme.Lexeme.TheVariants.{LineEnd}
 use Rattle.fir_parse.specs.Lexemes.{line_end}
 use Rattle.fir_parse.specs.working.PartPlans.{reset_part_plan}
-use Rattle.fir_parse.specs.States.{wants}
-use Rattle.fir_parse.specs.Symbols.{a_reset}
+use Rattle.fir_parse.specs.working.States.{wants}
+use Rattle.fir_parse.specs.working.Symbols.{a_reset}
 use Rattle.fir_parse.proofs.Plans.{found, takes_one, reads_behind}
 use Rattle.fir_parse.proofs.ReadAlike.{resets_by_word}
 use Rattle.fir_parse.proofs.parser.Parser.reset.Goals as goal

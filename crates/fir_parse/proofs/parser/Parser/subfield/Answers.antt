@@ -1,15 +1,16 @@
 use Rattle.std.proofs.Common.{◌+◌, true, refl, sym, ap, ◌∙◌}
 use Rattle.fir_ast.specs.Expressions.{Parts}
 use Rattle.fir_parse.specs.declared.lexeme.Mark.TheVariants.{Dot}
-use Rattle.fir_parse.specs.ExpressionRules.{dot_rest}
+use Rattle.fir_parse.specs.working.ExpressionRules.{dot_rest}
 use Rattle.fir_parse.specs.Lexemes.{mark}
-use Rattle.fir_parse.specs.Reading.{read_on}
+use Rattle.fir_parse.specs.working.Reading.{read_on}
 use Rattle.fir_parse.specs.working.Reads.{rest}
-use Rattle.fir_parse.specs.States.{State, wants}
-use Rattle.fir_parse.specs.Symbols.{parts}
+use Rattle.fir_parse.specs.working.States.{State, wants}
+use Rattle.fir_parse.specs.working.Symbols.{parts}
 use Rattle.fir_parse.proofs.ExpressionViews.{field_view}
 use Rattle.fir_parse.proofs.Plans.{takes_first, ended, ended_too_tall, exits_before}
 use Rattle.fir_parse.proofs.parser.Parser.subfield.Goals as goal
+use Rattle.fir_parse.specs.Limits.{everywhere}
 
 pub returns-in_err-name-clause-reads : goal.returns-in_err-name-clause-reads
 returns-in_err-name-clause-reads c =
@@ -28,4 +29,4 @@ returns-clause-reads c = λ end k.
     takes_first (parts c.args.depth c.args.height) (dot_rest c.args.depth c.args.height c.args.dot) (mark Dot) _ _ _ c.requires.at_hand c.pass.ensures.rest refl end k
     ∙ c.in_ok-name.ensures.reads end _
     ∙ ended (c.args.height + 1) c.in_ok-name.name.place _ end _ c.in_ok-end_form.ensures.ends
-    ∙ ap (λ (f : Parts → Parts). read_on true end (wants (parts c.args.depth (c.args.height + 1)) (λ ps. k (f ps))) (rest c.field_name.new.self)) (sym (field_view c.args.dot c.in_ok-name.name.place c.in_ok-name.name.name))
+    ∙ ap (λ (f : Parts → Parts). read_on everywhere end (wants (parts c.args.depth (c.args.height + 1)) (λ ps. k (f ps))) (rest c.field_name.new.self)) (sym (field_view c.args.dot c.in_ok-name.name.place c.in_ok-name.name.name))

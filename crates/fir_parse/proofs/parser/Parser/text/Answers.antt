@@ -3,11 +3,11 @@ use Rattle.std.specs.Str.{bytes_eq}
 use Rattle.fir_ast.specs.View.{circuit_of}
 use Rattle.fir_parse.specs.declared.lexeme.Lexeme.{Lexeme}
 use Rattle.fir_parse.specs.declared.lexeme.Lexeme.TheVariants.{Word}
-use Rattle.fir_parse.specs.CircuitRules.{version_rest}
+use Rattle.fir_parse.specs.working.CircuitRules.{version_rest}
 use Rattle.fir_parse.specs.Lexemes.{word}
 use Rattle.fir_parse.specs.working.PartPlans.{circuit_plan}
-use Rattle.fir_parse.specs.States.{wants}
-use Rattle.fir_parse.specs.Symbols.{a_text}
+use Rattle.fir_parse.specs.working.States.{wants}
+use Rattle.fir_parse.specs.working.Symbols.{a_text}
 use Rattle.fir_parse.proofs.Plans.{found, reads_behind, takes_first}
 use Rattle.fir_parse.proofs.ReadAlike.{text_by_word}
 use Rattle.fir_parse.proofs.parser.Parser.text.Goals as goal

@@ -2,12 +2,13 @@ use Rattle.std.proofs.Common.{◌≡◌, ℕ, List, None, refl, sym, ap, Bor}
 use Rattle.fir_ast.specs.declared.place.Place.{Place}
 use Rattle.fir_parse.specs.declared.lexeme.Lexeme.{Lexeme}
 use Rattle.fir_parse.specs.declared.lexeme.Lexeme.TheVariants.{Word}
-use Rattle.fir_parse.specs.Lexemes.{seen, word}
-use Rattle.fir_parse.specs.MemoryRules.{under_write}
-use Rattle.fir_parse.specs.Reading.{step}
-use Rattle.fir_parse.specs.States.{refuses}
-use Rattle.fir_parse.specs.Symbols.{an_under_write}
-use Rattle.fir_parse.specs.Words.{under_write_of}
+use Rattle.fir_parse.specs.Lexemes.{word}
+use Rattle.fir_parse.specs.working.Seen.{seen}
+use Rattle.fir_parse.specs.working.MemoryRules.{under_write}
+use Rattle.fir_parse.specs.working.Reading.{step}
+use Rattle.fir_parse.specs.working.States.{refuses}
+use Rattle.fir_parse.specs.working.Symbols.{an_under_write}
+use Rattle.fir_parse.specs.working.Words.{under_write_of}
 use Rattle.fir_parse.proofs.Plans.{found, refused, takes_one}
 use Rattle.fir_parse.proofs.parser.Parser.under_write.Goals as goal
 

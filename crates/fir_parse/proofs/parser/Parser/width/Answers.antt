@@ -3,7 +3,7 @@ use Rattle.std.proofs.Common.{refl, ◌∙◌, None, rules}
 use Rattle.fir_parse.specs.declared.lexeme.Lexeme.TheVariants.{Mark}
 use Rattle.fir_parse.specs.declared.lexeme.Mark.TheVariants.{Less}
 use Rattle.fir_parse.specs.Lexemes.{mark}
-use Rattle.fir_parse.specs.Symbols.{a_width}
+use Rattle.fir_parse.specs.working.Symbols.{a_width}
 use Rattle.fir_parse.proofs.Plans.{found, takes_first, stays_before, exits_behind, stands_there}
 use Rattle.fir_parse.proofs.TypeReads.{ends_there, not_width}
 use Rattle.fir_parse.proofs.parser.Parser.width.Goals as goal

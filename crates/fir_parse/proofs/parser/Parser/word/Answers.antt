@@ -2,7 +2,7 @@ use Rattle.std.proofs.Common.{sym, ap, ◌∙◌}
 use Rattle.std.specs.Str.{bytes_eq}
 use Rattle.fir_parse.specs.declared.lexeme.Lexeme.TheVariants.{Word}
 use Rattle.fir_parse.specs.Lexemes.{word}
-use Rattle.fir_parse.specs.Symbols.{a_word}
+use Rattle.fir_parse.specs.working.Symbols.{a_word}
 use Rattle.fir_parse.proofs.Plans.{found, takes_one, refused}
 use Rattle.fir_parse.proofs.Others.{other_word, unequal_word, equal_word}
 use Rattle.fir_parse.proofs.parser.Parser.word.Goals as goal

@@ -1,11 +1,11 @@
 -- A type by its first word.
 use Rattle.std.proofs.Common.{sym, ap, ◌∙◌}
 use Rattle.fir_parse.specs.Lexemes.{word}
-use Rattle.fir_parse.specs.States.{mapped}
+use Rattle.fir_parse.specs.working.States.{mapped}
 use Rattle.fir_parse.specs.working.Reads.{rest}
-use Rattle.fir_parse.specs.Symbols.{a_type}
+use Rattle.fir_parse.specs.working.Symbols.{a_type}
 use Rattle.fir_parse.specs.working.Trees.{tall_type}
-use Rattle.fir_parse.specs.TypeRules.{type_at, by_type_word}
+use Rattle.fir_parse.specs.working.TypeRules.{type_at, by_type_word}
 use Rattle.fir_parse.proofs.Plans.{takes_first, reads_mapped, exits_behind, unsupported_there, refuses_one}
 use Rattle.fir_parse.proofs.TypeReads.{same_dimensions}
 use Rattle.fir_parse.proofs.TypeViews.{uint_view, sint_view, clock_view, reset_view, async_reset_view}

@@ -2,7 +2,7 @@ use Rattle.std.proofs.Common.{◌≡◌, length, map, sym, ap, ◌∙◌, subst}
 use Rattle.std.specs.List.{AllByRecursion}
 use Rattle.fir_sim.specs.working.Passes.{leaf_zero, register_width, values_of, IsNarrowOutput, IsNarrowRegister}
 use Rattle.fir_sim.proofs.PlanFacts.{outputs_narrow, registers_narrow}
-use Rattle.fir_sim.proofs.Starting.{fit_registers, state_is, starts}
+use Rattle.fir_sim.proofs.Starting.{fit_registers, outputs_are_zeros, state_is, starts}
 use Rattle.fir_sim.proofs.sim.Sim.new.Goals as goal
 
 pub output_zeros-requires : goal.output_zeros-requires
@@ -24,6 +24,11 @@ invariant_of-result c =
     starts net c.requires.whole p c.in_ok-plan.ensures c.args.init.now c.requires.fits
     (record { leaves = c.in_ok-leaf_zeros.field-0; nodes = c.in_ok-node_room.field-0; outputs = c.in_ok-output_zeros.field-0; state = c.in_ok-state_of.field-0 })
     words c.args.order c.requires.ordered zeros (rw (← c.as_slice-4.ensures.value) c.in_ok-output_zeros.ensures) (c.in_ok-node_room.ensures ∙ ap length c.as_slice-3.ensures)
+
+pub returns-clause-outputs : goal.returns-clause-outputs
+returns-clause-outputs c =
+    outputs_are_zeros c.args.net c.requires.whole c.in_ok-plan.plan c.in_ok-plan.ensures c.in_ok-output_zeros.field-0.items
+    (rw (← c.as_slice-4.ensures.value) c.in_ok-output_zeros.ensures)
 
 pub returns-clause-state : goal.returns-clause-state
 returns-clause-state c =

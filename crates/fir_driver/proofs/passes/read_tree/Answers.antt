@@ -1,0 +1,14 @@
+use Rattle.fir_ast.specs.View.{circuit_of}
+use Rattle.fir_driver.proofs.ReadTrees.{fault_read, tree_read}
+use Rattle.fir_driver.proofs.passes.read_tree.Goals as goal
+
+pub returns-in-Ok : goal.returns-in-Ok
+returns-in-Ok c =
+    tree_read c.lexed_form_by_form.ensures c.args.bytes.now c.in_ok-tokens.tokens.tokens c.in_ok-tokens.ensures.tokens (circuit_of c.in-Ok.tree)
+    c.in-Ok.ensures
+
+pub returns-in-Err-Fault : goal.returns-in-Err-Fault
+returns-in-Err-Fault c =
+    let first = rw c.in-Err-Fault.field-0-is at c.in-Err-Fault.ensures in
+    fault_read c.lexed_form_by_form.ensures c.args.bytes.now c.in_ok-tokens.tokens.tokens c.in_ok-tokens.ensures.tokens c.in_ok-tokens.tokens.text
+    c.in_ok-tokens.ensures.text c.in-Err-Fault.fault first.0

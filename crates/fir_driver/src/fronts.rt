@@ -1,0 +1,25 @@
+//! What is printed of the first ticks of a trace.
+
+ghost use Rattle.fir_driver.specs.working.Laws.{FrontsBegin};
+
+use trace_text::Circuits;
+use trace_text::laws::front_lines_begin;
+
+/// The circuits of texts, which allow what they mean.
+pub struct SourceCircuits {}
+
+impl Circuits for SourceCircuits {
+    ghost use Rattle.fir_ast.specs.Circuits.{CircuitTree};
+    ghost use Rattle.fir_meaning.specs.Allows.{Allows};
+
+    ghost circuit = { CircuitTree };
+
+    ghost allows = { Allows };
+}
+
+/// The lines of the first ticks of a trace begin those of all its ticks, up to its end or to its first bad line.
+pub fn fronts_begin()
+    ensures { FrontsBegin }
+{
+    front_lines_begin::<SourceCircuits>();
+}

@@ -1,0 +1,17 @@
+-- Laws about the definitions.
+use Rattle.std.specs.Prelude.{◌≡◌, ◌↔◌, ℕ, ◌≤◌, List, ◌++◌, length, Ok}
+use Rattle.fir_lex.specs.Tokens.{Token, Placed}
+use Rattle.fir_lex.specs.Lexed.{lexed}
+use Rattle.fir_lex.specs.Spelled.{IsSpelled}
+use Rattle.fir_lex.specs.Longest.{IsLongest}
+use Rattle.fir_lex.specs.TokensOf.{AreTokensOf}
+
+-- a text is lexed as the tokens that it is spelled with, form by form
+abbrev pub LexedFormByForm : Type 0
+LexedFormByForm = (bytes : List ℕ) (ts : List Placed) → (lexed bytes ≡ Ok ts) ↔ AreTokensOf bytes ts
+
+-- a token that nothing behind it makes longer is the longest: whatever else is spelled where it begins has no more bytes
+abbrev pub NoLongerBegins : Type 0
+NoLongerBegins =
+    (t : Token) (s behind : List ℕ) (other : Token) (r more : List ℕ)
+    → IsSpelled t s → IsLongest t behind → IsSpelled other r → s ++ behind ≡ r ++ more → length r ≤ length s

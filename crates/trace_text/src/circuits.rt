@@ -1,0 +1,10 @@
+//! Circuits that are run.
+
+ghost use Rattle.fir_base.specs.Ticks.{Allowance};
+
+/// Circuits of some kind, and which outputs and which next state each allows at a state and a tick.
+pub trait Circuits {
+    ghost circuit: { Type 0 };
+
+    ghost allows: { circuit → Allowance };
+}

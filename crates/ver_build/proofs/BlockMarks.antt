@@ -1,0 +1,107 @@
+-- For each register of the tree whether it has a block: where something drives it on a clock.
+-- The targets of the blocks are the registers that are so marked, in their order.
+use Rattle.std.proofs.Common.{◌≡◌, ◌↔◌, ℕ, List, [], ◌∷◌, ◌++◌, Bool, true, false, refl, sym, ap, ◌∙◌, Option, Some, None}
+use Rattle.std.specs.Prelude.{flat_map, IsTrue, IsSome}
+use Rattle.fir_net.specs.declared.reads.Read.{Read}
+use Rattle.fir_net.specs.declared.leaf.Register.{Register}
+use Rattle.fir_net.specs.declared.leaf.Role.{Role}
+use Rattle.fir_net.specs.declared.leaf.Role.TheVariants as role
+use Rattle.fir_net.specs.declared.leaf.Leaf.{Leaf}
+use Rattle.fir_net.specs.declared.net.FlatNet.{FlatNet}
+use Rattle.fir_net.specs.declared.name_table.NameTable.{NameTable}
+use Rattle.fir_net.specs.working.IsNet.{IsRole}
+use Rattle.ver_ast.specs.Nets.{regs, blocks, block_targets, names_of}
+use Rattle.ver_build.specs.declared.places.Places.{Places}
+use Rattle.ver_build.specs.Arranged.{marked}
+use Rattle.ver_build.specs.working.Places.{clock_in}
+use Rattle.ver_build.specs.working.DrivenRegisters.{role_register, net_registers, IsDriven, AreMarked}
+use Rattle.ver_build.proofs.Choices.{no_bits_none, some_bits_one}
+use Rattle.ver_build.proofs.Names.{NameList, Each, zipped}
+use Rattle.ver_build.proofs.Premises.{Premises, RoleNamed, role_named, bits_named, Whole, leaves_whole}
+use Rattle.ver_build.proofs.Parts.{in_parts}
+use Rattle.ver_build.proofs.LeafKinds.{is_register, is_clocked, is_written, name_if, no_name, picked, picked_names}
+use Rattle.ver_build.proofs.Nets.{registers_sized, blocks_are}
+use Rattle.ver_build.proofs.Driven.{block_targets_are}
+use Rattle.ver_build.proofs.Blocks.{ends_at, has_clock}
+
+-- whether something drives a register that has a name on a clock
+abbrev role_mark : (ℕ → Option ℕ) → Role → Option (List ℕ) → List Bool
+role_mark clock (role.Register r) (Some name) = is_clocked (clock r.clock) r.next ∷ []
+role_mark clock _ n = []
+
+abbrev marks_along : (ℕ → Option ℕ) → NameList → List Leaf → List Bool
+marks_along clock names ls = zipped (λ l n. role_mark clock l.role n) names ls
+
+name_marked : (b : Bool) (name : List ℕ) (ms : List Bool) (xs ys : List (List ℕ)) → marked ms xs ≡ ys
+    → marked (b ∷ ms) (name ∷ xs) ≡ name_if b (Some name) ++ ys
+name_marked true name ms xs ys e = ap (λ zs. name ∷ zs) e
+name_marked false name ms xs ys e = e
+
+role_marked : (clock : ℕ → Option ℕ) (r : Role) (n : Option (List ℕ)) (ms : List Bool) (xs ys : List (List ℕ)) → marked ms xs ≡ ys
+    → marked (role_mark clock r n ++ ms) (name_if (is_register r) n ++ xs) ≡ name_if (is_written clock r) n ++ ys
+role_marked clock (role.Register r) None ms xs ys e = rw (no_name (is_clocked (clock r.clock) r.next)) e
+role_marked clock (role.Register r) (Some name) ms xs ys e = name_marked (is_clocked (clock r.clock) r.next) name ms xs ys e
+role_marked clock _ n ms xs ys e = e
+
+names_marked : (clock : ℕ → Option ℕ) (names : NameList) (ls : List Leaf)
+    → marked (marks_along clock names ls) (picked is_register names ls) ≡ picked (is_written clock) names ls
+unfolding zipped
+names_marked clock [] ls = refl
+names_marked clock (n ∷ names) [] = refl
+names_marked clock (n ∷ names) (l ∷ ls) = role_marked clock l.role n _ _ _ (names_marked clock names ls)
+
+-- what is driven on a clock has both
+next_given : (c : Option ℕ) (next : Option Read) → is_clocked c next ≡ true → IsSome next
+next_given (Some k) (Some r) e = refl
+next_given _ _ e = absurd (cc)
+
+clock_given : (c : Option ℕ) (next : Option Read) → is_clocked c next ≡ true → (k : ℕ) × (c ≡ Some k)
+clock_given (Some k) (Some r) e = (k, refl)
+clock_given _ _ e = absurd (cc)
+
+both_given : (c : Option ℕ) (next : Option Read) (k : ℕ) → c ≡ Some k → IsSome next → is_clocked c next ≡ true
+both_given (Some k) (Some r) j e some = refl
+both_given None next j e some = absurd (cc)
+both_given (Some k) None j e some = absurd (cc)
+
+module _ (net : FlatNet) (t : NameTable) (p : Places) (order : List Read) (is : Premises net t p order) where
+  abbrev clock : ℕ → Option ℕ
+  clock = clock_in p.leaves
+
+  is_driven : (s : Bool) (w : ℕ) (r : Register) → IsRole net.leaves net.nodes s w (role.Register r)
+      → IsTrue (is_clocked (clock r.clock) r.next) ↔ IsDriven net r
+  is_driven s w r whole =
+      let leaf = whole.0 in (
+        λ e.
+            let k = clock_given (clock r.clock) r.next e in
+            record { next = next_given (clock r.clock) r.next e; clock = (ends_at net t p order is r.clock leaf.0 k.0 leaf.1 k.1).ends },
+        λ d. let k = has_clock net t p order is r.clock d.clock in both_given (clock r.clock) r.next k.0 k.1 d.next,
+      )
+
+  role_driven : (s : Bool) (r : Role) (w : ℕ) (n : Option (List ℕ)) (rs : List Register) (ms : List Bool) → RoleNamed r w n
+      → IsRole net.leaves net.nodes s w r → AreMarked net rs ms → AreMarked net (role_register r w ++ rs) (role_mark clock r n ++ ms)
+  role_driven s (role.Register r) w None rs ms named whole rest =
+      let none = no_bits_none r w (bits_named (role.Register r) w None refl named) in rw none rest
+  role_driven s (role.Register r) w (Some name) rs ms named whole rest =
+      let one = some_bits_one r w (bits_named (role.Register r) w (Some name) refl named) in rw one (is_driven s w r whole, rest)
+  role_driven s _ w n rs ms named whole rest = rest
+
+  driven_along : (names : NameList) (ls : List Leaf) → Each (Whole net) names ls
+      → AreMarked net (flat_map (λ l. role_register l.role l.width) ls) (marks_along clock names ls)
+  unfolding zipped
+  driven_along [] [] h = tt
+  driven_along [] (l ∷ ls) h = absurd h
+  driven_along (n ∷ names) [] h = absurd h
+  driven_along (n ∷ names) (l ∷ ls) h =
+      role_driven l.signed l.role l.width n _ _ (role_named l n h.0.0) h.0.1.driven (driven_along names ls h.1)
+
+  abbrev pub marks : List Bool
+  marks = marks_along clock t.leaves net.leaves
+
+  pub marks_driven : AreMarked net (net_registers net) marks
+  marks_driven = driven_along t.leaves net.leaves (leaves_whole net t is.whole is.table)
+
+  pub blocks_marked : block_targets (blocks (in_parts net t p order)) ≡ marked marks (names_of (regs (in_parts net t p order)))
+  blocks_marked =
+      ap block_targets (blocks_are net t p order) ∙ block_targets_are net t p order ∙ sym (names_marked clock t.leaves net.leaves)
+      ∙ ap (marked marks) (sym (ap names_of (registers_sized net t p order) ∙ picked_names is_register t.leaves net.leaves))

@@ -1,0 +1,32 @@
+-- Which registers of a net are driven on a clock.
+-- Something drives the register, and the drivers of its clock end at a clock input.
+use Rattle.std.specs.Prelude.{◌≡◌, ◌↔◌, ℕ, List, [], ◌∷◌, flat_map, nat_eq, if◌then◌else◌, Bool, IsTrue, slice_get, Some, IsSome}
+use Rattle.fir_net.specs.declared.leaf.Register.{Register}
+use Rattle.fir_net.specs.declared.leaf.Role.{Role}
+use Rattle.fir_net.specs.declared.leaf.Role.TheVariants as role
+use Rattle.fir_net.specs.declared.leaf.Leaf.{Leaf}
+use Rattle.fir_net.specs.declared.net.FlatNet.{FlatNet}
+use Rattle.fir_net.specs.working.Settled.{clock_driver}
+
+abbrev pub role_register : Role → ℕ → List Register
+role_register (role.Register r) width = if nat_eq width 0 then [] else (r ∷ [])
+role_register _ width = []
+
+-- the registers that have bits, which are the words of the state in order
+abbrev pub net_registers : FlatNet → List Register
+net_registers net = flat_map (λ l. role_register l.role l.width) net.leaves
+
+-- the leaf of that number is a clock input, or is driven by a clock leaf whose drivers end at one
+pub data EndsAtInput (net : FlatNet) : ℕ → Type 0 where
+  input : (k : ℕ) (l : Leaf) → slice_get net.leaves k ≡ Some l → l.role ≡ role.Clock → EndsAtInput net k
+  handed_on : (k j : ℕ) (l : Leaf) → slice_get net.leaves k ≡ Some l → clock_driver l.role ≡ Some (Some j) → EndsAtInput net j → EndsAtInput net k
+
+pub record IsDriven (net : FlatNet) (r : Register) : Type 0 where
+  pub next : IsSome r.next
+  pub clock : EndsAtInput net r.clock
+
+-- for each register whether it is driven
+abbrev pub AreMarked : FlatNet → List Register → List Bool → Type 0
+AreMarked net [] [] = Unit {0}
+AreMarked net (r ∷ rs) (b ∷ bs) = (IsTrue b ↔ IsDriven net r) × AreMarked net rs bs
+AreMarked net _ _ = ⊥

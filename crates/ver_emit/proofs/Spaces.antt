@@ -1,0 +1,146 @@
+-- In the layout of a tree whose names are names a space stands behind each slash.
+-- A slash stands there as an operator between its operands alone.
+use Rattle.std.proofs.Common.{ℕ, ◌-◌, List, [], ◌∷◌, ◌++◌, if◌then◌else◌, true, false, refl}
+use Rattle.std.specs.Prelude.{codes, decimal, flat_map, nat_eq}
+use Rattle.std.specs.List.{AllByRecursion}
+use Rattle.fir_base.specs.Digits.{hexadecimal}
+use Rattle.fir_base.specs.declared.direction.Direction.{Direction}
+use Rattle.fir_base.specs.declared.direction.Direction.TheVariants.{Input, Output}
+use Rattle.fir_base.proofs.Each.{all_left, all_right}
+use Rattle.ver_words.specs.Names.{IsName}
+use Rattle.ver_words.specs.declared.signal.Signal.{Signal}
+use Rattle.ver_words.specs.declared.signal.Signal.TheVariants.{Bits, Clock}
+use Rattle.ver_ast.specs.declared.tree.Verilog.{Verilog}
+use Rattle.ver_ast.specs.declared.tree.Port.{Port}
+use Rattle.ver_ast.specs.declared.tree.Item.{Item}
+use Rattle.ver_ast.specs.declared.tree.Item.TheVariants as item
+use Rattle.ver_ast.specs.declared.tree.Rhs.{Rhs}
+use Rattle.ver_ast.specs.declared.tree.Rhs.TheVariants as rhs
+use Rattle.ver_ast.specs.declared.tree.UnaryOp.{UnaryOp}
+use Rattle.ver_ast.specs.declared.tree.UnaryOp.TheVariants as unary
+use Rattle.ver_ast.specs.declared.tree.BinaryOp.{BinaryOp}
+use Rattle.ver_ast.specs.declared.tree.BinaryOp.TheVariants as binary
+use Rattle.ver_ast.specs.Atoms.{AtomTree, net, constant, bit_select, part_select, concat, repeat, AtomTrees, no_atoms, atom_before}
+use Rattle.ver_ast.specs.Grammar.{direction_word, unary_sign, unsigned_op}
+use Rattle.ver_ast.specs.Spells.{atom_names, joined_names, rhs_atoms, HasItemNames, HasNames}
+use Rattle.ver_emit.specs.Layout.{range_text, signal_text, port_text, next_port_text, ports_text, atom_text, next_atom_text, between_text, signed_text, rhs_text, item_text, layout}
+use Rattle.ver_emit.proofs.Slashes.{IsSpaced, spaced, spaced_joined, three_spaced, spaced_parts, name_spaced, decimal_spaced, hexadecimal_spaced}
+
+range_spaced : (width : ℕ) → IsSpaced (range_text width)
+range_spaced width =
+    elim (nat_eq width 1) as (λ one. IsSpaced (if one then [] else codes "[" ++ decimal (width - 1) ++ codes ":0] ")) [
+      | true ↦ spaced [] refl
+      | false ↦ three_spaced (codes "[") (decimal (width - 1)) (codes ":0] ") (spaced _ refl) (decimal_spaced (width - 1)) (spaced _ refl)
+    ]
+
+direction_spaced : (d : Direction) → IsSpaced (direction_word d)
+direction_spaced Input = spaced _ refl
+direction_spaced Output = spaced _ refl
+
+signal_spaced : (s : Signal) (d : Direction) → IsSpaced (signal_text s d)
+signal_spaced (Bits width) d =
+    three_spaced (direction_word d) (codes " ") (range_text width) (direction_spaced d) (spaced _ refl) (range_spaced width)
+signal_spaced Clock d =
+    three_spaced (codes "(* clock *) ") (direction_word d) (codes " ") (spaced _ refl) (direction_spaced d) (spaced _ refl)
+
+port_spaced : (p : Port) → IsName p.name → IsSpaced (port_text p)
+port_spaced p named =
+    three_spaced (codes "\n  ") (signal_text p.signal p.direction) p.name (spaced _ refl) (signal_spaced p.signal p.direction) (name_spaced p.name named)
+
+next_ports_spaced : (ps : List Port) → AllByRecursion (λ p. IsName p.name) ps → AllByRecursion (λ p. IsSpaced (next_port_text p)) ps
+next_ports_spaced [] named = tt
+next_ports_spaced (p ∷ ps) named =
+    (spaced_joined (codes ",") (port_text p) (spaced _ refl) (port_spaced p named.0), next_ports_spaced ps named.1)
+
+ports_spaced : (ps : List Port) → AllByRecursion (λ p. IsName p.name) ps → IsSpaced (ports_text ps)
+ports_spaced [] named = spaced [] refl
+ports_spaced (p ∷ ps) named =
+    three_spaced (port_text p) (flat_map next_port_text ps) (codes "\n") (port_spaced p named.0)
+    (spaced_parts next_port_text ps (next_ports_spaced ps named.1)) (spaced _ refl)
+
+mutual
+  atom_spaced : (a : AtomTree) → AllByRecursion IsName (atom_names a) → IsSpaced (atom_text a)
+  atom_spaced (net n) named = name_spaced n named.0
+  atom_spaced (constant width value) named =
+      three_spaced (decimal width) (codes "'h") (hexadecimal value) (decimal_spaced width) (spaced _ refl) (hexadecimal_spaced value)
+  atom_spaced (bit_select n i) named =
+      three_spaced (n ++ codes "[") (decimal i) (codes "]") (spaced_joined n (codes "[") (name_spaced n named.0) (spaced _ refl)) (decimal_spaced i)
+      (spaced _ refl)
+  atom_spaced (part_select n hi lo) named =
+      three_spaced (n ++ codes "[" ++ decimal hi ++ codes ":") (decimal lo) (codes "]")
+      (spaced_joined (n ++ codes "[" ++ decimal hi) (codes ":")
+      (three_spaced n (codes "[") (decimal hi) (name_spaced n named.0) (spaced _ refl) (decimal_spaced hi)) (spaced _ refl)) (decimal_spaced lo)
+      (spaced _ refl)
+  atom_spaced (concat a more) named =
+      three_spaced (codes "{" ++ atom_text a) (next_atom_text more) (codes "}")
+      (spaced_joined (codes "{") (atom_text a) (spaced _ refl) (atom_spaced a (all_left _ (atom_names a) _ named)))
+      (next_atoms_spaced more (all_right _ (atom_names a) _ named)) (spaced _ refl)
+  atom_spaced (repeat count a) named =
+      three_spaced (codes "{" ++ decimal count ++ codes "{") (atom_text a) (codes "}}")
+      (three_spaced (codes "{") (decimal count) (codes "{") (spaced _ refl) (decimal_spaced count) (spaced _ refl)) (atom_spaced a named)
+      (spaced _ refl)
+
+  next_atoms_spaced : (more : AtomTrees) → AllByRecursion IsName (joined_names more) → IsSpaced (next_atom_text more)
+  next_atoms_spaced no_atoms named = spaced [] refl
+  next_atoms_spaced (atom_before a more) named =
+      three_spaced (codes ", ") (atom_text a) (next_atom_text more) (spaced _ refl) (atom_spaced a (all_left _ (atom_names a) _ named))
+      (next_atoms_spaced more (all_right _ (atom_names a) _ named))
+
+atoms_spaced : (atoms : List AtomTree) → AllByRecursion IsName (flat_map atom_names atoms) → AllByRecursion (λ a. IsSpaced (atom_text a)) atoms
+atoms_spaced [] named = tt
+atoms_spaced (a ∷ more) named =
+    (atom_spaced a (all_left _ (atom_names a) _ named), atoms_spaced more (all_right _ (atom_names a) _ named))
+
+unary_spaced : (op : UnaryOp) → IsSpaced (unary_sign op ∷ [])
+unary_spaced unary.Not = spaced _ refl
+unary_spaced _ = spaced _ refl
+
+binary_spaced : (op : BinaryOp) → IsSpaced (between_text op)
+binary_spaced binary.Div = spaced _ refl
+binary_spaced _ = spaced _ refl
+
+signed_spaced : (a : AtomTree) → IsSpaced (atom_text a) → IsSpaced (signed_text a)
+signed_spaced a h = three_spaced (codes "$signed(") (atom_text a) (codes ")") (spaced _ refl) h (spaced _ refl)
+
+side_spaced : (r : Rhs) → AllByRecursion (λ a. IsSpaced (atom_text a)) (rhs_atoms r) → IsSpaced (rhs_text r)
+side_spaced (rhs.Atom a) h = h.0
+side_spaced (rhs.Unary op a) h = spaced_joined (unary_sign op ∷ []) (atom_text a) (unary_spaced op) h.0
+side_spaced (rhs.Binary a op b) h = three_spaced (atom_text a) (between_text op) (atom_text b) h.0 (binary_spaced op) h.1.0
+side_spaced (rhs.Signed a op b) h =
+    three_spaced (signed_text a) (between_text (unsigned_op op)) (signed_text b) (signed_spaced a h.0) (binary_spaced (unsigned_op op))
+    (signed_spaced b h.1.0)
+side_spaced (rhs.SignedShift a b) h = three_spaced (signed_text a) (codes " >>> ") (atom_text b) (signed_spaced a h.0) (spaced _ refl) h.1.0
+side_spaced (rhs.Conditional c a b) h =
+    three_spaced (atom_text c ++ codes " ? " ++ atom_text a) (codes " : ") (atom_text b)
+    (three_spaced (atom_text c) (codes " ? ") (atom_text a) h.0 (spaced _ refl) h.1.0) (spaced _ refl) h.1.1.0
+
+-- a net behind the word that declares it
+net_spaced : (word n : List ℕ) (width : ℕ) → IsSpaced word → IsName n → IsSpaced (word ++ range_text width ++ n ++ codes ";\n")
+net_spaced word n width h named =
+    spaced_joined (word ++ range_text width ++ n) (codes ";\n") (three_spaced word (range_text width) n h (range_spaced width) (name_spaced n named))
+    (spaced _ refl)
+
+item_spaced : (i : Item) → HasItemNames i → IsSpaced (item_text i)
+item_spaced (item.Wire n) named = net_spaced (codes "  wire ") n.name n.width (spaced _ refl) named
+item_spaced (item.Reg n) named = net_spaced (codes "  reg ") n.name n.width (spaced _ refl) named
+item_spaced (item.Assign a) named =
+    three_spaced (codes "  assign " ++ a.target ++ codes " = ") (rhs_text a.rhs) (codes ";\n")
+    (three_spaced (codes "  assign ") a.target (codes " = ") (spaced _ refl) (name_spaced a.target named.0) (spaced _ refl))
+    (side_spaced a.rhs (atoms_spaced (rhs_atoms a.rhs) named.1)) (spaced _ refl)
+item_spaced (item.Always b) named =
+    three_spaced (codes "  always @(posedge " ++ b.clock ++ codes ") " ++ b.target ++ codes " <= ") (atom_text b.source) (codes ";\n")
+    (three_spaced (codes "  always @(posedge " ++ b.clock ++ codes ") ") b.target (codes " <= ")
+    (three_spaced (codes "  always @(posedge ") b.clock (codes ") ") (spaced _ refl) (name_spaced b.clock named.0) (spaced _ refl))
+    (name_spaced b.target named.1) (spaced _ refl)) (atom_spaced b.source named.2) (spaced _ refl)
+
+items_spaced : (is : List Item) → AllByRecursion HasItemNames is → AllByRecursion (λ i. IsSpaced (item_text i)) is
+items_spaced [] named = tt
+items_spaced (i ∷ is) named = (item_spaced i named.0, items_spaced is named.1)
+
+pub layout_spaced : (v : Verilog) → HasNames v → IsSpaced (layout v)
+unfolding layout
+layout_spaced v named =
+    three_spaced (codes "module " ++ v.name ++ codes "(" ++ ports_text v.ports ++ codes ");\n") (flat_map item_text v.items) (codes "endmodule\n")
+    (three_spaced (codes "module " ++ v.name ++ codes "(") (ports_text v.ports) (codes ");\n")
+    (three_spaced (codes "module ") v.name (codes "(") (spaced _ refl) (name_spaced v.name named.of_module) (spaced _ refl))
+    (ports_spaced v.ports named.of_ports) (spaced _ refl)) (spaced_parts item_text v.items (items_spaced v.items named.of_items)) (spaced _ refl)
