@@ -31,7 +31,7 @@ count() {
   fi
 }
 
-rows=0 circuits=0 names=0 types=0 inferred=0 costs=0 driven=0 skipped=
+rows=0 circuits=0 faults=0 names=0 types=0 inferred=0 costs=0 driven=0 skipped=
 if command -v python3 >/dev/null 2>&1; then
   part rows python3 checks/rows.py
   count rows 'rows: \([0-9]*\) passed.*'
@@ -42,6 +42,9 @@ if command -v python3 >/dev/null 2>&1; then
   part circuits python3 checks/circuits.py 200
   count circuits 'circuits: the same on \([0-9]*\) circuits.*'
   circuits=$counted
+  part faults python3 checks/circuits.py faults 200
+  count faults 'faults: the same on \([0-9]*\) circuits.*'
+  faults=$counted
   part names python3 checks/names.py 200
   count names 'names: the same on \([0-9]*\) circuits.*'
   names=$counted
@@ -68,7 +71,8 @@ count interop 'interop: \([0-9]*\) examples passed'
 
 outcome="passed$skipped"
 [ "${#failed[@]}" -eq 0 ] || outcome="FAILED: ${failed[*]}$skipped"
-echo "checks: $rows rows, $circuits circuits, $names circuits of names, $types circuits of types," \
+echo "checks: $rows rows, $circuits circuits, $faults with faults," \
+  "$names circuits of names, $types circuits of types," \
   "$inferred circuits of resets and widths, $costs circuits of costs," \
   "$driven circuits of leaves that are driven, $counted examples: $outcome"
 [ "${#failed[@]}" -eq 0 ]

@@ -1,235 +1,184 @@
-"""Makes the texts of circuits at random, over the whole language that is taken."""
-import operators
-from operators import Type, result_type
+"""Makes circuits of one module at random, of which firc takes most. Outputs and registers hang on
+inputs and on the state. Some circuits have a flaw: a leaf that hangs on itself, a form that firc
+lacks, a leaf that is not driven, or widths that do not fit."""
+from cost_rules import leaf_count
+from driven_maker import DEPTH, FORGETS
+from inference_maker import RATES
+from name_maker import FIELDS
+from name_texts import Line
+from ranked_maker import LAST, RankedMaker
+from type_forms import NUMBERS, Ground, alike, fits, is_passive, same_kind, without_widths
+from type_maker import called
 
-NAMES = """a b c d o p q r clock clock_0 wire assign assign_0 reg reg_0 always posedge _n0 _n1 x_0
-x""".split()
-WIDTHS = [0, 1, 1, 2, 3, 4, 4, 5, 8, 16, 33, 63, 64, 65, 127, 128]
-WAYS = """form name port again module clock sink width integer driver kind arm connect condition
-literal""".split()
-KEEP_THE_KIND = operators.KEEP_THE_KIND + ["mux", "mux", "validif"]
-GIVE_UINT = [op for op in operators.OPERATORS
-             if op not in operators.KEEP_THE_KIND + operators.GIVE_SINT]
+FLAWS = ["none"] * 30 + ["loop"] * 4 + """module memory clock reset forgotten forgotten widths
+widths""".split()
+WORDS = """wire wire node node node reg reg reg reg reg reg connect connect connect connect partial
+invalid""".split()
+# what is made more often where one of these is wanted
+LACKING = {"memory": ["mem"] * 5, "module": ["inst"] * 5}
+KINDS = ["UInt"] * 5 + ["SInt"] * 3
+MIXING = {"UInt": "add sub mul xor cat not or and".split(),
+          "SInt": "add sub mul neg cvt asSInt dshl".split()}
+STEPS = ["add", "add", "sub", "xor"]
+ENDINGS = FIELDS[-6:] + ["x", "reg"]
+# how many leaves are driven by each block of a when, or in whens and by wires one by one, at most
+FEW = 4
 
 
-def counted(given):
-    """The type, where 129 stands for all widths above 128."""
-    return Type(given.is_signed, min(given.width, 129))
+class CircuitMaker(RankedMaker):
+    """Makes a circuit, whose `flaw` is one of FLAWS."""
 
-
-class Maker:
-    """Makes the text of a circuit. Half of them are wild: they may be wrong in a way or some."""
+    sizes = [1, 2, 3, 5, 8, 14]
+    pays, holds, clears = 0.15, 0.15, 0.1
 
     def __init__(self, chance):
-        self.chance = chance
-        is_wild = chance.random() < 0.5
-        self.wrong = chance.sample(WAYS, chance.choice([1, 1, 2, 3])) if is_wild else []
+        self.flaw = chance.choice(FLAWS)
+        self.words = WORDS + LACKING.get(self.flaw, [])
+        self.slips_of_rank = chance.choice([0.05, 0.3]) if self.flaw == "loop" else 0
+        # whether all widths of what has been read lately are written
+        self.is_known = True
+        super().__init__(chance, FORGETS[2:] if self.flaw == "forgotten" else [0],
+                         RATES[2:] if self.flaw == "widths" else [0])
 
-    def slip(self, way, rate):
-        """Whether this is to be wrong here."""
-        return way in self.wrong and self.chance.random() < rate
+    def settle(self, chance, rates):
+        super().settle(chance, rates)
+        self.widest = chance.choice([3, 5, 9, 9, 9, 17, 33, 110])
+        self.written = chance.choice([0.3, 0.6, 0.9])
+        count = chance.choice([0, 0, 0, 1, 2])
+        self.kinds = KINDS + ["Reset", "AsyncReset"] * count
+        self.kinds += ["Clock"] * (4 * (self.flaw == "clock"))
+        self.meets = count / 8
+        if self.flaw != "widths":
+            self.partners = chance.choice([("UInt",), ("UInt",), ("AsyncReset",)])
+        self.reset_kinds = ["UInt", "UInt"] + ["Reset"] * (self.partners == ("UInt",))
+        if self.flaw == "reset":
+            self.reset_kinds = ["UInt", "AsyncReset", "AsyncReset", "Reset"]
 
-    def type(self):
-        width = self.chance.choice([129, 200] if self.slip("width", 0.1) else WIDTHS)
-        return Type(self.chance.random() < 0.5, width)
+    def new_type(self, depth):
+        return super().new_type(min(depth, 2))
 
-    def number(self, held):
-        """A number that the type holds: a corner, or any."""
-        width = min(held.width, 128)
-        drawn = Type(held.is_signed, width).value(self.chance.getrandbits(128)).number
-        return self.chance.choice(Type(held.is_signed, width).corners() + [drawn])
+    def some_width(self):
+        if self.chance.random() < self.over:
+            return super().some_width()
+        drawn = [self.chance.randint(1, self.widest) for _ in range(4)]
+        return self.chance.choice([1, 1, *drawn, self.chance.choice([0, 1, self.widest])])
 
-    def literal(self, is_signed):
-        """A literal with or without a width, in any spelling."""
-        held = Type(is_signed, self.type().width)
-        number = self.number(held)
-        if self.slip("literal", 0.3):
-            number = self.chance.choice([held.corners()[-1] + 1, held.corners()[0] - is_signed])
-            number = min(max(number, 1 - 2**128), 2**128 - 1)
-        elif self.chance.random() < 0.3:
-            held = operators.least_type(is_signed, number)
-            if held.width <= 128 or self.slip("width", 0.5):
-                return f"{held.kind()}({self.spelled(number)})", held
-            return self.literal(is_signed)
-        return f"{held}({self.spelled(number)})", held
+    # Modules, ports and names.
 
-    def spelled(self, number):
-        sign = "-" if number < 0 else self.chance.choice(["", "", "", "+"])
-        base = self.chance.choice(["", "", "h", "o", "b"])
-        digits = format(abs(number), {"": "d", "h": "x", "o": "o", "b": "b"}[base])
-        if not base:
-            return sign + digits
-        return '"' + self.chance.choice([sign + base, base + sign]) + digits + '"'
+    def module_count(self):
+        return 2 if self.flaw == "module" else 1
 
-    def leaf(self, is_signed):
-        """A name or a literal of the kind, and its type."""
-        if self.slip("name", 0.1):
-            name = self.chance.choice(NAMES)
-            return name, self.readable.get(name, Type(is_signed, 0))
-        if self.slip("port", 0.1):
-            return self.chance.choice(self.clocks + list(self.outputs)), Type(is_signed, 0)
-        found = [leaf for leaf in self.readable.items() if leaf[1].is_signed == is_signed]
-        if found and self.chance.random() < 0.8:
-            return self.chance.choice(found)
-        return self.literal(is_signed)
+    def ports(self, head):
+        chance, clocks = self.chance, self.chance.choice([0, 1, 1, 1, 1, 2, 3])
+        ports = [self.port(head, "input", Ground("Clock")) for _ in range(clocks)]
+        ports += [self.port(head, "input", self.ground(NUMBERS)) for _ in range(3)]
+        ports.append(self.port(head, "input", Ground("UInt", 1)))
+        ports += [self.port(head, "input") for _ in range(chance.randint(0, 2))]
+        ports += [self.port(head, "output") for _ in range(chance.randint(1, 3))]
+        chance.shuffle(ports)
+        return ports
 
-    def narrowed(self, text, given, width):
-        """The low bits of an expression, as an expression of its kind."""
-        if given.width <= width:
-            return text, given
-        cut = f"tail({text}, {given.width - width})"
-        return f"asSInt({cut})" if given.is_signed else cut, Type(given.is_signed, width)
+    def declare(self, head):
+        """Now and then a name that the emitted text may give to a leaf."""
+        name = super().declare(head)
+        if self.chance.random() < 0.1:
+            self.fresh[head].append(f"{name}_{self.chance.choice(ENDINGS)}")
+        return name
 
-    def expression(self, depth, is_signed=None):
-        """The text of an expression of the kind, or of any, and its type."""
-        if is_signed is None:
-            is_signed = self.chance.random() < 0.5
-        if depth == 0 or self.chance.random() < 0.25:
-            return self.leaf(is_signed)
-        if self.slip("form", 0.1):
-            return f"asAsyncReset({self.leaf(False)[0]})", Type(False, 1)
-        others = operators.GIVE_SINT * 2 if is_signed else GIVE_UINT
-        op = self.chance.choice(KEEP_THE_KIND + others)
-        if op in ("mux", "validif"):
-            return self.choice(op, depth, is_signed)
-        of_kind = is_signed if op in KEEP_THE_KIND else None
-        operands = [self.expression(depth - 1, of_kind)]
-        if operators.counts(op)[0] == 2:
-            operands.append(self.second(op, depth, operands[0][1]))
-        types = [given for text, given in operands]
-        integers = self.integers(op, types[0].width)
-        result = counted(result_type(op, types, integers))
-        if result.width > 128 and not self.slip("width", 0.5):
-            return self.leaf(is_signed)
-        parts = [text for text, given in operands] + list(map(str, integers))
-        return f"{op}({', '.join(parts)})", result
+    def show(self, name, given, flow, depth=DEPTH):
+        """Of a node no width is known, whatever its expression was made for."""
+        super().show(name, without_widths(given) if flow == "source" else given, flow, depth)
 
-    def second(self, op, depth, first):
-        """The second operand of an operator, narrow enough for a result of 128 bits."""
-        is_signed = (op not in operators.SHIFTS and first.is_signed) != self.slip("kind", 0.2)
-        text, given = self.expression(depth - 1, is_signed)
-        if first.width > 128 or given.width > 128 or self.slip("width", 0.3):
-            return text, given
-        if op in ("mul", "cat"):
-            return self.narrowed(text, given, 128 - first.width)
-        if op == "dshl":
-            return self.narrowed(text, given, (129 - first.width).bit_length() - 1)
-        return text, given
+    # Expressions.
 
-    def integers(self, op, width):
-        """Integers for an operand of the width."""
-        chance, width = self.chance, min(width, 128)
-        if op == "bits":
-            if self.slip("integer", 0.5) or not width:
-                return [chance.randrange(6), chance.randrange(6)]
-            low = chance.randrange(width)
-            return [chance.randrange(low, width), low]
-        if op in ("head", "tail"):
-            return [width + 1 if self.slip("integer", 0.5) else chance.randint(0, width)]
-        greatest = {"pad": 128, "shl": 128 - width, "shr": width + 2}
-        return [chance.randint(0, greatest[op])] if op in greatest else []
+    def reference(self, spot, depth):
+        if isinstance(spot.type, Ground) and spot.type.kind in NUMBERS:
+            self.is_known &= spot.type.width is not None
+        return super().reference(spot, depth)
 
-    def condition(self, depth):
-        """An expression for a condition, of one bit unless it slips."""
-        if self.slip("condition", 0.8):
-            return self.expression(depth - 1, self.chance.random() < 0.3)
-        text, given = self.expression(depth - 1, False)
-        if given.width == 0:
-            return f"pad({text}, 1)", Type(False, 1)
-        return self.narrowed(text, given, 1)
+    def expression(self, given, depth, meets=same_kind):
+        """More often an operator than a name, and now and then a literal."""
+        if isinstance(given, Ground) and given.kind in NUMBERS:
+            if depth > 1 and self.chance.random() < 0.5:
+                return self.operation(given.kind, depth)
+            if depth < 2 and self.chance.random() < 0.1:
+                return self.literal(given.kind)
+        return super().expression(given, depth, meets)
 
-    def choice(self, word, depth, is_signed):
-        """A mux or a validif."""
-        arms = [self.expression(depth - 1, is_signed)]
-        if word == "mux":
-            arms.append(self.expression(depth - 1, is_signed != self.slip("arm", 0.5)))
-        parts = [self.condition(depth)[0]] + [text for text, given in arms]
-        width = max(given.width for text, given in arms)
-        return f"{word}({', '.join(parts)})", Type(is_signed, width)
+    def operator(self, kind):
+        """More often one whose result has much of its operands."""
+        mixes = kind in NUMBERS and self.chance.random() < 0.4
+        return self.chance.choice(MIXING[kind]) if mixes else super().operator(kind)
 
-    def ports(self):
-        """The lines of the ports, in any order."""
-        lines = [f"input {n} : Clock" for n in self.clocks]
-        lines += [f"input {n} : {given}" for n, given in self.readable.items()]
-        for n, given in self.outputs.items():
-            kind = "Clock" if self.slip("form", 0.1) else given
-            lines.append(f"output {n} : {kind}")
-        self.chance.shuffle(lines)
-        return lines
+    def operation(self, kind, depth):
+        around, self.is_known = self.is_known, True
+        made = super().operation(kind, depth)
+        self.is_known &= around
+        return made
 
-    def register(self, name):
-        """The line of a register, which is connected once, often or never."""
-        clock = self.chance.choice(self.clocks or [name])
-        if self.slip("clock", 0.3):
-            others = [name, self.chance.choice(NAMES), self.chance.choice(list(self.outputs))]
-            others += [self.expression(depth)[0] for depth in (0, 0, 2, 2)]
-            clock = self.chance.choice(others)
-        given, reset = self.type(), ""
-        kind = given
-        if self.slip("form", 0.2):
-            kind = self.chance.choice(["UInt", "SInt", "Clock", "AsyncReset"])
-        if self.slip("form", 0.2):
-            reset = f" with : (reset => ({self.chance.choice(NAMES)}, UInt<1>(0)))"
-        self.targets += [(name, given)] * self.chance.choice([0, 1, 1, 1, 2])
-        self.readable[name] = given
-        return f"reg {name} : {kind}, {clock}{reset}"
+    def operand(self, op, kind, depth):
+        """What may grow to twice its width is cut where it may be wide."""
+        part = super().operand(op, kind, depth)
+        is_cut = op in ("mul", "cat", "dshl") and (self.widest > 40 or not self.is_known)
+        return self.low_bits(kind, part, min(self.widest, 60)) if is_cut else part
 
-    def whole_expression(self, is_signed=None):
-        """The text of an expression, and its type. Some stand twice, so that they have one net."""
-        made = [found for found in self.made if is_signed in (None, found[1].is_signed)]
-        if made and self.chance.random() < 0.2:
-            return self.chance.choice(made)
-        self.made.append(self.expression(self.chance.randrange(4), is_signed))
-        return self.made[-1]
+    def may_grow(self, op):
+        return op != "dshl" and self.is_known and self.widest < 10 or super().may_grow(op)
 
-    def node(self, name):
-        text, given = self.whole_expression()
-        self.readable[name] = given
-        return f"node {name} = {text}"
+    def cut(self, kind, grown):
+        counts = [self.chance.randint(1, self.widest) for _ in range(2)]
+        return self.low_bits(kind, grown, max(counts))
 
-    def declaration(self):
-        name = self.fresh.pop()
-        clocked = self.clocks or self.slip("clock", 0.5)
-        return self.register(name) if clocked and self.chance.random() < 0.6 else self.node(name)
+    def integer(self):
+        return self.chance.choice([0, 1, 1, 2, self.chance.randrange(min(self.widest, 9))])
 
-    def connect(self):
-        name, given = self.targets.pop(self.chance.randrange(len(self.targets)))
-        if self.slip("name", 0.1):
-            name = self.chance.choice(NAMES)
-        elif self.slip("sink", 0.2):
-            name = self.chance.choice(self.clocks + list(self.readable))
-        is_signed = given.is_signed != self.slip("connect", 0.3)
-        return f"{name} <= {self.whole_expression(is_signed)[0]}"
+    def bit(self, depth):
+        bits = [spot for spot in self.spots() if spot.type == Ground("UInt", 1)]
+        if bits and self.chance.random() < 0.4:
+            return self.reference(self.chance.choice(bits), depth)
+        return super().bit(depth)
 
-    def body(self):
-        """The lines behind the ports."""
-        lines = []
-        while self.targets or (self.fresh and self.chance.random() < 0.6):
-            if self.fresh and self.chance.random() < 0.5:
-                lines.append(self.declaration())
-            elif self.slip("driver", 0.3):
-                del self.targets[:1]
-            elif self.targets:
-                lines.append(self.connect())
-            if self.chance.random() < 0.05:
-                lines.append("skip")
-        return lines
+    def node_type(self):
+        given = super().node_type()
+        is_clock = given == Ground("Clock") and self.flaw != "clock"
+        return self.ground(KINDS) if is_clock else given
 
-    def text(self):
-        chance = self.chance
-        names = chance.sample(NAMES, 13)
-        self.clocks = [names.pop() for _ in range(chance.randrange(4))]
-        self.readable = {names.pop(): self.type() for _ in range(chance.randrange(1, 4))}
-        self.outputs = {names.pop(): self.type() for _ in range(chance.randrange(1, 4))}
-        self.fresh, self.made = names, []
-        targets = list(self.outputs.items())
-        self.targets = targets + [chance.choice(targets) for _ in range(chance.randrange(2))]
-        lines, body = self.ports(), self.body()
-        if self.slip("again", 0.8):
-            name = chance.choice(NAMES)
-            again = [f"node {name} = UInt<1>(0)", f"reg {name} : UInt<1>, {name}"]
-            body.insert(chance.randrange(len(body) + 1), chance.choice(again))
-        name = chance.choice(["T", "top", "table", "bench"])
-        module = "S" if self.slip("module", 0.8) else name
-        head = [f"circuit {name} :", f"  module {module} :"]
-        return "\n".join(head + [f"    {line}" for line in lines + body]) + "\n"
+    # Statements.
+
+    def statements(self, most, depth):
+        """In the block of a module more often a register."""
+        first = self.reg() if len(self.visible) == 2 and self.chance.random() < 0.7 else []
+        return first + super().statements(most, depth)
+
+    def ways(self, spot, depth):
+        """Seldom an invalid, where there is another way."""
+        ways, no_ways = super().ways(spot, depth), [self.drive_by_invalid]
+        if is_passive(spot.type):
+            ways += [self.drive_by_value] * 4
+            is_register = self.low(spot) == LAST and isinstance(spot.type, Ground)
+            ways += [self.drive_by_step] * (4 * is_register)
+        else:
+            no_ways.append(self.drive_by_value)
+        if leaf_count(spot.type) > FEW:
+            no_ways.append(self.drive_in_when)
+        ways = [way for way in ways if way not in no_ways]
+        return ways if ways and self.chance.random() < 0.97 else [self.drive_by_invalid]
+
+    def value(self, given):
+        return self.expression(given, 3, fits) if is_passive(given) else None
+
+    def drive_by_value(self, spot, depth):
+        is_ground = isinstance(spot.type, Ground)
+        if is_ground or any(alike(spot.type, other.type, fits) for other in self.spots()):
+            return super().drive_by_value(spot, depth)
+        return self.drive_parts(spot, depth)
+
+    def drive_parts(self, spot, depth):
+        return super().drive_parts(spot, depth if leaf_count(spot.type) <= FEW else 0)
+
+    def drive_by_step(self, spot, _):
+        """A register by what it holds and something else."""
+        op, kind = self.chance.choice(STEPS), spot.type.kind
+        step = called(op, [self.reference(spot, 1), self.operand(op, kind, 2)])
+        step = called("asSInt", [step]) if op == "xor" and kind == "SInt" else step
+        return [Line([*self.reference(spot, 1), "<=", *self.cut(kind, step)])]

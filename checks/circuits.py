@@ -1,13 +1,18 @@
 #!/usr/bin/env python3
-"""Compares firc with a second reading of the language's rules, on circuits made at random.
+"""Compares firc with second readings of the language's rules, on circuits made at random.
 
-Each circuit is either refused with the line of its first fault, which is worked out here once more
-from the table of faults, or emitted; what is emitted is run by the simulator, and by Icarus Verilog
-where that is installed, from a random state over random ticks, and shows the values that Python's
-integers give.
+A circuit of circuit_maker.py is either refused with the line of its first fault (readings.py), or
+emitted; what is emitted is run by the simulator, and by Icarus Verilog where that is installed,
+from a random state over random ticks, and shows the values that Python's integers give
+(tick_rules.py). With `faults` texts with faults of every code from E04 to E24 are refused with
+their line (fault_texts.py).
 
-usage: circuits.py COUNT [SEED]
+usage: circuits.py [--program PATH] COUNT [SEED]
+       circuits.py [--program PATH] faults COUNT [SEED]
+
+Without a program it runs ./firc.
 """
+import argparse
 import pathlib
 import random
 import shutil
@@ -15,18 +20,23 @@ import subprocess
 import sys
 import tempfile
 
-import expected
 import operators
-from circuit_maker import Maker
-from faults import Faults
+from circuit_maker import CircuitMaker
+from expected import shown_lines, trace_lines
+from fault_texts import made_with_fault
+from name_texts import Writer
+from readings import Reading
 from test_bench import test_bench
 
 ROOT = pathlib.Path(__file__).resolve().parent.parent
 TICKS = 32
 
 
-def random_run(circuit, chance):
+def random_run(source, chance):
     """An initial state, and ticks as the numbers of the clocks that rise and the inputs."""
+    def values(paths):
+        return [value(width) for width in source.widths(paths)]
+
     def value(width):
         drawn = [chance.randrange(1 << width) for _ in range(3)]
         corners = operators.Type(True, width).corners()
@@ -34,9 +44,9 @@ def random_run(circuit, chance):
 
     ticks = []
     for _ in range(TICKS):
-        rising = [k for k in range(len(circuit.clocks)) if chance.random() < 0.5]
-        ticks.append((rising, [value(width) for name, width in circuit.inputs]))
-    return [value(width) for name, width, clock in circuit.words], ticks
+        rising = [k for k in range(len(source.clocks)) if chance.random() < 0.5]
+        ticks.append((rising, values(source.inputs)))
+    return values(source.words), ticks
 
 
 def shown_by_icarus(work, verilog, lines):
@@ -51,56 +61,74 @@ def shown_by_icarus(work, verilog, lines):
     return subprocess.run(words, cwd=work, capture_output=True, text=True, check=True).stdout
 
 
-def firc(*words):
-    return subprocess.run(["./firc", *map(str, words)], cwd=ROOT, capture_output=True, text=True)
+class Comparison:
+    """Compares a program with the readings, in a folder. It ends where the two differ."""
 
+    def __init__(self, program, work):
+        self.program, self.work = program, work
+        self.with_icarus = bool(shutil.which("iverilog") and shutil.which("vvp"))
 
-def shown_by_sim(work, source, trace):
-    """What the simulator shows of the circuit, or what it says where it refuses it."""
-    (work / "t.trace").write_text(trace)
-    done = firc("sim", source, work / "t.trace", "--state")
-    return done.stdout + done.stderr
+    def said(self, *words):
+        return subprocess.run([self.program, *words], cwd=self.work, capture_output=True, text=True)
 
+    def emitted(self, text, reading):
+        """What the program says of a text on both outputs."""
+        (self.work / "t.fir").write_text(text)
+        done = self.said("emit", "t.fir")
+        says = done.stderr.removesuffix("\n")
+        if not reading.takes(says) or done.returncode != (1 if says else 0):
+            says = f"{says!r} with status {done.returncode}"
+            sys.exit(f"of\n{text}\nfirc says {says}, the rules '{reading}'")
+        return done.stdout, says
 
-def compare(work, text, chance, with_icarus):
-    """What firc says of the text, or None where it is emitted. Ends where the two differ."""
-    source = work / "t.fir"
-    source.write_text(text)
-    done, fault = firc("emit", source), Faults(text).first()
-    says = done.stderr.strip() or None
-    if says != fault or done.returncode != (1 if fault else 0):
-        sys.exit(f"of\n{text}firc says {says!r} with status {done.returncode}, the rules {fault!r}")
-    if fault:
-        return fault
-    circuit = expected.Circuit(text)
-    run = random_run(circuit, chance)
-    trace = "\n".join(expected.trace_lines(circuit, *run))
-    wanted = "".join(line + "\n" for line in expected.shown_lines(circuit, *run))
-    shows = {"firc sim": shown_by_sim(work, source, trace)}
-    if with_icarus:
-        shows["Icarus"] = shown_by_icarus(work, done.stdout, test_bench(circuit, *run))
-    for by, shown in shows.items():
-        if shown != wanted:
-            shown = f"{by} shows\n{shown}where the source has\n{wanted}"
-            sys.exit(f"of\n{text}with the trace\n{trace}\n{shown}")
-    return None
+    def shown_by_sim(self, trace):
+        """What the simulator shows of the circuit, or what it says where it refuses it."""
+        (self.work / "t.trace").write_text(trace)
+        done = self.said("sim", "t.fir", "t.trace", "--state")
+        return done.stdout + done.stderr
+
+    def compare(self, text, chance):
+        """Compares all that is said of a circuit. Gives the code of its fault, or 'emitted'."""
+        reading = Reading(text)
+        verilog, says = self.emitted(text, reading)
+        if says:
+            return says[:3]
+        run = random_run(reading.source, chance)
+        trace = "".join(line + "\n" for line in trace_lines(reading.source, *run))
+        wanted = "".join(line + "\n" for line in shown_lines(reading.source, *run))
+        shows = {"firc sim": self.shown_by_sim(trace)}
+        if self.with_icarus:
+            bench = test_bench(reading.source, *run)
+            shows["Icarus"] = shown_by_icarus(self.work, verilog, bench)
+        for by, shown in shows.items():
+            if shown != wanted:
+                shown = f"{by} shows\n{shown}where the source has\n{wanted}"
+                sys.exit(f"of\n{text}\nwith the trace\n{trace}\n{shown}")
+        return "emitted"
 
 
 def main():
-    if len(sys.argv) not in (2, 3):
-        sys.exit(__doc__)
-    chance = random.Random(int(sys.argv[2]) if len(sys.argv) == 3 else 1)
-    with_icarus = bool(shutil.which("iverilog") and shutil.which("vvp"))
+    words = argparse.ArgumentParser(usage=__doc__)
+    words.add_argument("--program", type=pathlib.Path, default=ROOT / "firc")
+    words.add_argument("words", nargs="+")
+    words = words.parse_args()
+    of_faults = words.words[0] == "faults"
+    count, *seed = map(int, words.words[of_faults:])
+    chance, said = random.Random(*seed or [1]), {}
     operators.hold_laws(chance)
-    said = {}
     with tempfile.TemporaryDirectory() as work:
-        for _ in range(int(sys.argv[1])):
-            fault = compare(pathlib.Path(work), Maker(chance).text(), chance, with_icarus)
-            came_to = fault[:3] if fault else "emitted"
-            said[came_to] = said.get(came_to, 0) + 1
-    if not with_icarus:
+        comparison = Comparison(words.program.resolve(), pathlib.Path(work))
+        for _ in range(count):
+            if of_faults:
+                code = comparison.emitted(*made_with_fault(chance))[1][:3]
+            else:
+                text = Writer(chance).text(CircuitMaker(chance).line())
+                code = comparison.compare(text, chance)
+            said[code] = said.get(code, 0) + 1
+    if not of_faults and not comparison.with_icarus:
         print("circuits: Icarus is not installed, so only the simulator was compared")
-    print("circuits: the same on", sum(said.values()), "circuits:", dict(sorted(said.items())))
+    what = "faults" if of_faults else "circuits"
+    print(f"{what}: the same on", sum(said.values()), "circuits:", dict(sorted(said.items())))
 
 
 if __name__ == "__main__":

@@ -41,6 +41,13 @@ def faultless(chance):
             return maker
 
 
+def made(chance):
+    """The text of a circuit that costs too much, and has no other fault that comes before."""
+    maker = faultless(chance)
+    costly(maker)
+    return Writer(chance).text(maker.line())
+
+
 def main():
     words = argparse.ArgumentParser(usage=__doc__)
     words.add_argument("--program", type=pathlib.Path, default=ROOT / "firc")
@@ -51,9 +58,7 @@ def main():
     with tempfile.TemporaryDirectory() as work:
         source = pathlib.Path(work) / "t.fir"
         for _ in range(words.count):
-            maker = faultless(chance)
-            costly(maker)
-            text = Writer(chance).text(maker.line())
+            text = made(chance)
             source.write_text(text)
             done = subprocess.run([program, "emit", source], cwd=ROOT, capture_output=True,
                                   text=True)

@@ -9,6 +9,8 @@ from type_maker import Spot, tokens_of, within
 
 STATEMENTS = """wire node reg inst mem connect connect connect connect partial partial partial
 invalid invalid skip""".split()
+# how often something is forgotten
+FORGETS = [0, 0, 0.02, 0.05, 0.2]
 # how many leaves are driven one by one at most
 MOST_PARTED = 16
 # how deep whens and wires stand in each other that drive what is declared
@@ -38,13 +40,17 @@ def has_sinks(spot):
 
 class DrivenMaker(InferenceMaker):
     """Makes a circuit. `forgets` tells how often something is not driven that has to be; where that
-    is 0 all is."""
+    is 0 all is. `words` are the statements that it makes. `pays` tells how often one that drives
+    what is owed stands between them, `holds` how often no such stands for a register, and `clears`
+    how often what is touched is invalid."""
 
-    def __init__(self, chance):
-        self.forgets = chance.choice([0, 0, 0.02, 0.05, 0.2])
+    words, pays, holds, clears = STATEMENTS, 0.4, 0.7, 0.3
+
+    def __init__(self, chance, forgets=FORGETS, rates=(0,)):
+        self.forgets = chance.choice(forgets)
         # of each open block what is to be driven there, and how deep; and of the one that is opened
         self.owed, self.due = [], []
-        super().__init__(chance, [0])
+        super().__init__(chance, rates)
 
     def declare(self, head):
         fresh = self.fresh[head]
@@ -86,8 +92,8 @@ class DrivenMaker(InferenceMaker):
             if depth > 0 and self.chance.random() < 0.2:
                 lines += self.when(depth - 1)
             else:
-                lines += getattr(self, self.chance.choice(STATEMENTS))()
-            if self.owed[-1] and self.chance.random() < 0.4:
+                lines += getattr(self, self.chance.choice(self.words))()
+            if self.owed[-1] and self.chance.random() < self.pays:
                 lines += self.pay()
         return lines
 
@@ -99,15 +105,15 @@ class DrivenMaker(InferenceMaker):
         owed = self.owed[-1]
         return self.drive(*owed.pop(self.chance.randrange(len(owed))))
 
-    def show(self, name, given, flow):
+    def show(self, name, given, flow, depth=DEPTH):
         super().show(name, given, flow)
-        self.owe(Spot((name,), given, flow), DEPTH)
+        self.owe(Spot((name,), given, flow), depth)
 
     def reg(self):
         """A register holds where nothing drives it."""
         owed = list(self.owed[-1])
         lines = super().reg()
-        if self.chance.random() < 0.7:
+        if self.chance.random() < self.holds:
             self.owed[-1] = owed
         return lines
 
@@ -125,16 +131,19 @@ class DrivenMaker(InferenceMaker):
             first = self.chance.random() < 0.5
             lines = self.drive(parts(spot)[0], 0) if first else []
             return lines + self.drive_by_index(spot, depth)
-        ways = [self.drive_by_invalid, self.drive_by_value]
-        is_small = leaf_count(spot.type) <= MOST_PARTED
-        ways += [self.drive_parts] * (4 * is_small * (not isinstance(spot.type, Ground)))
-        ways += [self.drive_by_wire] * (2 * (depth > 0))
-        ways += [self.drive_in_when] * (4 * (depth > 0 and is_small))
         before = []
         if self.chance.random() < 0.1:
             before = self.drive_by_index(spot, 0) if is_vector else self.touch(spot)
-        lines = before + self.chance.choice(ways)(spot, depth)
+        lines = before + self.chance.choice(self.ways(spot, depth))(spot, depth)
         return lines + self.touch(spot) if self.chance.random() < 0.1 else lines
+
+    def ways(self, spot, depth):
+        """The ways in which a spot may be driven, some more than once."""
+        is_small = leaf_count(spot.type) <= MOST_PARTED
+        ways = [self.drive_by_invalid, self.drive_by_value]
+        ways += [self.drive_parts] * (4 * is_small * (not isinstance(spot.type, Ground)))
+        ways += [self.drive_by_wire] * (2 * (depth > 0))
+        return ways + [self.drive_in_when] * (4 * (depth > 0 and is_small))
 
     def drive_by_invalid(self, spot, _):
         return [Line([*self.reference(spot, 1), "is", "invalid"])]
@@ -179,9 +188,8 @@ class DrivenMaker(InferenceMaker):
         elif self.chance.random() < 0.4:
             sign, given = "<-", self.greater(given)
         name = self.declare(self.head)
-        super().show(name, given, "both")
+        self.show(name, given, "both", depth - 1)
         wire = Spot((name,), given, "both")
-        self.owe(wire, depth - 1)
         lines = [Line(["wire", name, ":", *tokens_of(given)])]
         if spot.flow != "source":
             lines.append(Line([*self.reference(spot, 1), sign, *self.reference(wire, 1)]))
@@ -218,8 +226,8 @@ class DrivenMaker(InferenceMaker):
         part = self.pick(picked if picked and self.chance.random() < 0.7 else some)
         if part is None:
             return []
-        line = self.drive_by_value(part, 0) if self.chance.random() < 0.7 else \
-            self.drive_by_invalid(part, 0)
+        is_cleared = self.chance.random() < self.clears
+        line = (self.drive_by_invalid if is_cleared else self.drive_by_value)(part, 0)
         if self.chance.random() < 0.5:
             return line
         heads = [["when", *self.condition(), ":"]]

@@ -1,9 +1,11 @@
 """The names of the emitted text, worked out once more from the rule.
 
-The ports take their names, and then the registers: a name that is reserved in Verilog or taken
-before gets the first free of `_0`, `_1` and so on behind it. What has no bits takes no name. A
-module whose name is reserved gets `_0` behind it.
+The leaves of the ports take the names of their paths, joined by `_`, and then those of the
+registers: a name that is reserved in Verilog or taken before gets the first free of `_0`, `_1` and
+so on behind it. What has no bits takes no name, and neither do wires and nodes. A module whose name
+is reserved gets `_0` behind it.
 """
+from tick_rules import spelled
 
 RESERVED = """always and assign automatic begin buf bufif0 bufif1 case casex casez cell cmos config
 deassign default defparam design disable edge else end endcase endconfig endfunction endgenerate
@@ -24,16 +26,17 @@ def free(name, taken):
     return next(f"{name}_{k}" for k in range(len(taken) + 1) if f"{name}_{k}" not in taken)
 
 
-def emitted_names(circuit):
-    """The emitted name of each port and register, by its name in the source; in port order, then in
-    that of the registers."""
-    names = {}
-    leaves = [port[1:] for port in circuit.ports] + [word[:2] for word in circuit.registers]
-    for name, width in leaves:
-        if width:
-            names[name] = free(name, names.values())
+def emitted_names(source):
+    """The emitted name of each leaf of a port and of a register, by its path in the source; in port
+    order, then in that of the registers."""
+    ports = [path for path, leaf in source.leaves.items() if leaf.word in ("input", "output")]
+    names, taken = {}, set()
+    for path in ports + source.words:
+        if source.leaves[path].is_clock() or source.leaves[path].type().width:
+            names[path] = free(spelled(path), taken)
+            taken.add(names[path])
     return names
 
 
-def emitted_module(circuit):
-    return circuit.name + "_0" if circuit.name in RESERVED else circuit.name
+def emitted_module(source):
+    return source.name + "_0" if source.name in RESERVED else source.name

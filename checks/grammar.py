@@ -2,18 +2,21 @@
 """Compares firc with a second grammar of FIRRTL texts.
 
 It is restated as productions, and finds by Earley's method whether a text is one of the grammar,
-and else the first token with which no text of the grammar goes on (grammar_rules.py). Of a text of
-the grammar it tells the first fault of its names or types, or else the first form that `emit` lacks
-(readings.py).
+and else the first token with which no text of the grammar goes on (grammar_rules.py). It knows how
+deep forms are nested (nesting_rules.py). Of a text of the grammar it tells the first fault of its
+circuit, or else the first form that firc lacks (readings.py).
 
     grammar.py table     writes the tables of small texts that tests of fir_tests read
     grammar.py check     sees that those tables say of each text what this grammar says, that they
                          use each production, and that the rows of `emit` say so too; those that
                          do not are listed
-    grammar.py cuts      compares `./firc emit` with this grammar on each form with each of its
-                         tokens out of form, and on each beginning of a text
+    grammar.py cuts      compares `emit` with this grammar on each form with each of its tokens out
+                         of form, and on each beginning of a text
     grammar.py random N  compares them on N texts with a few tokens changed
+
+With `--program PATH` before these words it runs that program, and else ./firc.
 """
+import argparse
 import pathlib
 import random
 import re
@@ -25,15 +28,19 @@ import row_files
 from grammar_rules import RULES, Bad, derived, fault, tokens
 from grammar_texts import FORMS_OF_EXPRESSIONS, FORMS_OF_STATEMENTS, HEAD, SPELLED, SPELLINGS
 from grammar_trees import Tree
+from nesting_rules import nesting_fault
 from readings import Reading
 
 ROOT = pathlib.Path(__file__).resolve().parent.parent
 TESTS = ROOT / "crates/fir_tests/src/trees"
 ROWS = ROOT / "checks/rows"
 
+FORMS = FORMS_OF_STATEMENTS + FORMS_OF_EXPRESSIONS
+
 # Each table by its name, with its texts and what they show.
 TABLES = {
-    "forms_of_statements": (FORMS_OF_STATEMENTS, "Each form of a text, a module, a type and a statement"),
+    "forms_of_statements":
+        (FORMS_OF_STATEMENTS, "Each form of a text, a module, a type and a statement"),
     "forms_of_expressions": (FORMS_OF_EXPRESSIONS, "Each form of an expression"),
     "spellings": (SPELLINGS, "Numbers, blanks, remarks and versions in less usual spellings"),
 }
@@ -76,14 +83,13 @@ def check_tables():
 
 def check_rows():
     """Sees that each row of `emit` with a text of no great length has the line of this grammar. It
-    does not speak of E06, of carriage returns and of annotations over lines."""
+    does not speak of carriage returns and of annotations over lines."""
     count, differ = 0, 0
     for row in [row for path in sorted(ROWS.rglob("*.rows")) for row in row_files.read(path)]:
         if row.words != [b"emit", b"f.fir"] or row.text is None or len(row.text) > 20000:
             continue
         line, err = line_of(row.text.decode("latin-1")), row.err.decode("latin-1")
-        is_other = b"\r" in row.text or b"%[" in row.text and line == OF_TOKENS
-        if is_other or err.startswith("E06"):
+        if b"\r" in row.text or b"%[" in row.text and line == OF_TOKENS:
             continue
         count += 1
         if not re.fullmatch(line, err.removesuffix("\n")):
@@ -109,7 +115,7 @@ def cuts(text):
 
 def cut_texts():
     """Each form with each of its tokens out of form, and each beginning of a text."""
-    out = [cut for text in FORMS_OF_STATEMENTS + FORMS_OF_EXPRESSIONS for cut in cuts(text)]
+    out = [cut for text in FORMS for cut in cuts(text)]
     out += [SPELLED[:length] for length in range(len(SPELLED))]
     return list(dict.fromkeys(out))
 
@@ -120,8 +126,8 @@ bits 0 3 -1 "h1" "h-1" <= <- => = < > ( ) [ ] { } , : . data-type read-latency d
 FIRRTL version""".split()
 
 
-def changed(text, chance):
-    """The text with one to three of its tokens left out, doubled, or put in place of others."""
+def changed(text, chance, pool=POOL):
+    """The text with one to three of its tokens left out, doubled, or with one of the pool."""
     for _ in range(chance.randint(1, 3)):
         try:
             ts = [token for token in tokens(text)[0] if token.spelling]
@@ -133,7 +139,7 @@ def changed(text, chance):
         lines, at = text.split("\n"), token.column - 1
         line = lines[token.line - 1]
         end = at + len(token.spelling) + (2 if token.kind == "string" else 0)
-        was, other = line[at:end], chance.choice(POOL)
+        was, other = line[at:end], chance.choice(pool)
         now = chance.choice(["", was + " " + was, other, other + " " + was])
         lines[token.line - 1] = line[:at] + now + line[end:]
         text = "\n".join(lines)
@@ -142,31 +148,40 @@ def changed(text, chance):
 
 def random_texts(count):
     chance = random.Random(1)
-    forms = FORMS_OF_STATEMENTS + FORMS_OF_EXPRESSIONS
-    return [changed(chance.choice(forms), chance) for _ in range(count)]
+    return [changed(chance.choice(FORMS), chance) for _ in range(count)]
 
 
 OF_TOKENS = "E0[123] .*"
 
 
+def place_of(line):
+    code, place = line.split()[:2]
+    return [*map(int, place.split(":")), code]
+
+
+def text_fault(text):
+    """The line of the first fault E03 to E07, or None."""
+    faults = filter(None, (fault(text), nesting_fault(text)))
+    return min(faults, key=place_of, default=None)
+
+
 def line_of(text):
     """The line that firc is to say as a pattern."""
     try:
-        line = fault(text)
+        line = text_fault(text)
         return re.escape(line) if line else Reading(text).pattern()
     except Bad:
         return OF_TOKENS
 
 
-def compare(texts):
+def compare(program, texts):
     """Compares the program with this grammar on each text."""
     said = {}
     with tempfile.TemporaryDirectory() as work:
         path = pathlib.Path(work) / "t.fir"
         for text in texts:
             path.write_text(text)
-            command = ["./firc", "emit", str(path)]
-            done = subprocess.run(command, cwd=ROOT, capture_output=True, text=True)
+            done = subprocess.run([program, "emit", path], capture_output=True, text=True)
             says, line = done.stderr.removesuffix("\n"), line_of(text)
             if not re.fullmatch(line, says) or done.returncode != (1 if says else 0):
                 sys.exit(f"of {text!r} firc says {says!r}, the grammar {line!r}")
@@ -174,15 +189,23 @@ def compare(texts):
     print("grammar: the same on", sum(said.values()), "texts:", dict(sorted(said.items())))
 
 
-if __name__ == "__main__":
-    if sys.argv[1:] == ["table"]:
+def main():
+    words = argparse.ArgumentParser(usage=__doc__)
+    words.add_argument("--program", type=pathlib.Path, default=ROOT / "firc")
+    words.add_argument("what", choices=["table", "check", "cuts", "random"])
+    words.add_argument("count", type=int, nargs="?")
+    words = words.parse_args()
+    if (words.what == "random") != (words.count is not None):
+        sys.exit(__doc__)
+    if words.what == "table":
         table()
-    elif sys.argv[1:] == ["check"]:
+    elif words.what == "check":
         check_tables()
         check_rows()
-    elif sys.argv[1:] == ["cuts"]:
-        compare(cut_texts())
-    elif len(sys.argv) == 3 and sys.argv[1] == "random":
-        compare(random_texts(int(sys.argv[2])))
     else:
-        sys.exit(__doc__)
+        texts = cut_texts() if words.what == "cuts" else random_texts(words.count)
+        compare(words.program.resolve(), texts)
+
+
+if __name__ == "__main__":
+    main()

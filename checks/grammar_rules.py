@@ -4,6 +4,7 @@ It shares nothing with the parser of firc but the definition of the tokens, whic
 """
 import re
 from collections import namedtuple
+from functools import lru_cache
 
 Token = namedtuple("Token", "kind spelling line column")
 
@@ -22,6 +23,7 @@ class Bad(Exception):
     """A fault that shows in the tokens alone, of which this grammar does not speak."""
 
 
+@lru_cache(4)
 def tokens(text):
     """The tokens of a text, and the place of its end."""
     out, levels = [], [0]

@@ -1,8 +1,4 @@
-"""The tree of a text, its short form, and the first of its forms that `emit` does not have.
-
-The short form has all that has a place with it, as `a@3:5`. The rules of what `emit` has are those
-of docs/LANGUAGE.md, restated here.
-"""
+"""The tree of a text, and its short form, which has all that has a place with it, as `a@3:5`."""
 import sys
 from typing import NamedTuple
 
@@ -127,13 +123,10 @@ class ShortForms:
 
 
 class Tree:
-    """A text of the grammar. `form` is what the forms make of it; `lacking` has the first token of
-    each form that `emit` lacks, and `ports` the outputs and clocks of the module, which `emit` does
-    not read in expressions."""
+    """A text of the grammar. `form` is what the forms make of it."""
 
     def __init__(self, text, forms=ShortForms()):
-        self.ts, self.i, self.lacking, self.ports = tokens(text)[0], 0, [], {}
-        self.forms = forms
+        self.ts, self.i, self.forms = tokens(text)[0], 0, forms
         self.form = self.text()
 
     def peek(self, ahead=0):
@@ -148,9 +141,6 @@ class Tree:
 
     def place(self):
         return Place(*self.ts[self.i][2:])
-
-    def lack(self):
-        self.lacking.append(self.i)
 
     def named(self):
         place = self.place()
@@ -172,8 +162,6 @@ class Tree:
         self.take("in")
         modules = []
         while self.peek()[0] != "out":
-            if modules:
-                self.lack()
             modules.append(self.module())
         return self.forms.circuit(name, modules)
 
@@ -183,7 +171,7 @@ class Tree:
         name = self.named()
         self.take(":")
         self.take("nl")
-        self.ports, ports, block = {}, [], []
+        ports, block = [], []
         if self.peek()[0] == "in":
             self.take()
             while self.peek()[1] in ("input", "output") and self.peek(2) == ("sign", ":"):
@@ -193,8 +181,7 @@ class Tree:
 
     def port(self):
         direction, name = self.take(), self.named()
-        self.ports[name.spelling] = "clock" if self.peek(1)[1] == "Clock" else direction
-        typed = self.typed(["Clock"] if direction == "input" else [])
+        typed = self.typed()
         self.take("nl")
         return self.forms.port(direction, name, typed)
 
@@ -217,8 +204,6 @@ class Tree:
         is_invalidated = (second, self.peek(2)[1]) == ("is", "invalid")
         if is_invalidated or kind == "sign" and second in ("<=", "<-", ".", "["):
             return self.driven(place)
-        if first not in ("node", "reg", "skip"):
-            self.lack()
         if first == "skip":
             self.take()
             self.take("nl")
@@ -227,11 +212,8 @@ class Tree:
 
     def driven(self, place):
         """A statement that begins with a reference."""
-        first = self.i
         sink = self.forms.sink(*self.ref())
         sign = self.take("<=", "<-", "is")
-        if sign != "<=":
-            self.lacking.append(first)
         if sign == "is":
             self.take("invalid")
             out = self.forms.invalid(place, sink)
@@ -266,22 +248,14 @@ class Tree:
         self.take("reg")
         name, typed = self.named(), self.typed()
         self.take(",")
-        clock = self.clock()
+        clock = self.expr()
         return self.forms.register(place, name, typed, clock, self.reset())
-
-    def clock(self):
-        """What stands behind a register's comma: `emit` has there the name of a clock, of which it
-        lacks the parts as of each other name."""
-        is_ref = self.peek(1) not in (("sign", "("), ("sign", "<"))
-        is_clock = is_ref and self.ports.get(self.peek()[1]) == "clock"
-        return self.forms.reference(*self.ref()) if is_clock else self.expr()
 
     def reset(self):
         """What resets a register, or None."""
         if self.peek()[0] == "nl":
             self.take()
             return None
-        self.lack()
         place = self.place()
         self.take("with")
         self.take(":")
@@ -342,31 +316,27 @@ class Tree:
         self.take("nl")
         return out
 
-    def typed(self, lasts=(), sign=":"):
+    def typed(self, sign=":"):
         """A type behind a sign, with its place."""
         self.take(sign)
         place = self.place()
-        return Typed(self.type(lasts), place)
+        return Typed(self.type(), place)
 
-    def type(self, lasts):
-        """A type; of the types without a width `emit` has these here."""
-        first, is_had = self.i, False
-        if self.peek()[1] == "{":
-            out = self.bundle()
-        else:
-            kind, width = self.take(), None
-            if self.peek()[1] == "<":
-                self.take()
-                width = self.number()
-                self.take(">")
-            out, is_had = self.forms.ground(kind, width), width is not None or kind in lasts
+    def type(self):
+        out = self.bundle() if self.peek()[1] == "{" else self.ground()
         while self.peek()[1] == "[":
             self.take()
-            out, is_had = self.forms.vector(out, self.number()), False
+            out = self.forms.vector(out, self.number())
             self.take("]")
-        if not is_had:
-            self.lacking.append(first)
         return out
+
+    def ground(self):
+        kind, width = self.take(), None
+        if self.peek()[1] == "<":
+            self.take()
+            width = self.number()
+            self.take(">")
+        return self.forms.ground(kind, width)
 
     def bundle(self):
         self.take("{")
@@ -386,7 +356,6 @@ class Tree:
         """A name, and the parts behind it."""
         name, parts = self.named(), []
         while self.peek() in (("sign", "."), ("sign", "[")):
-            self.lack()
             place = self.place()
             if self.take() == ".":
                 parts.append(self.forms.subfield(place, self.named()))
@@ -405,8 +374,6 @@ class Tree:
             return self.literal()
         if behind == ("sign", "(") and (word in OPS or word in ("mux", "validif")):
             return self.operation()
-        if self.ports.get(word) in ("output", "clock"):
-            self.lack()
         return self.forms.reference(*self.ref())
 
     def literal(self):
@@ -421,8 +388,6 @@ class Tree:
         return self.forms.literal(kind, width, number)
 
     def operation(self):
-        if self.peek()[1] == "asAsyncReset":
-            self.lack()
         word = self.named()
         self.take("(")
         operands, integers = [self.expr()], []
@@ -434,12 +399,3 @@ class Tree:
                 operands.append(self.expr())
         self.take(")")
         return self.forms.operation(word, operands, integers)
-
-
-def first_lacking(text):
-    """The line of the first form of a text that `emit` does not have, or None."""
-    tree = Tree(text)
-    if not tree.lacking:
-        return None
-    token = tree.ts[min(tree.lacking)]
-    return f"E05 {token.line}:{token.column} unsupported {token.spelling}"

@@ -31,10 +31,17 @@ def with_widths(given, is_flipped, width):
 
 class InferenceMaker(Maker):
     """Makes a circuit, which slips as often as one of the rates says. `shown` has for each module
-    the names that are visible at its end."""
+    the names that are visible at its end, and `sizes` how many statements one may have."""
+
+    sizes = [4, 8, 12, 20]
 
     def __init__(self, chance, rates=RATES):
         self.main, self.shown = None, {}
+        self.settle(chance, rates)
+        super().__init__(chance, Slips())
+
+    def settle(self, chance, rates):
+        """Settles what is often made in this circuit, and what is not."""
         # how often a width is written; and how often an operator may grow what it is given without
         # an end, have integers that do not fit, a condition be of any width, a port of the main
         # module be open, a width be over, and a width be asked for, which a fault then tells
@@ -50,7 +57,8 @@ class InferenceMaker(Maker):
         count = chance.choice([0, 1, 3, 6, 6])
         self.kinds = OTHERS + ["Reset", "AsyncReset"] * count
         self.meets = count / 8
-        super().__init__(chance, Slips())
+        # of which kinds the conditions of resets are
+        self.reset_kinds = ["UInt", "AsyncReset", "Reset"]
 
     def line(self):
         return Line(["circuit", self.main, ":"], self.modules)
@@ -82,9 +90,9 @@ class InferenceMaker(Maker):
             return self.ground(self.partners)
         return Ground("Reset") if ground.kind in self.partners else ground
 
-    def port(self, head):
+    def port(self, head, direction=None, given=None):
         self.main = self.main or self.chance.choice(self.heads)
-        line, spot = super().port(head)
+        line, spot = super().port(head, direction, given)
         if head == self.main and self.chance.random() >= self.open:
             given = with_widths(spot.type, line.tokens[0] == "output", self.some_width)
             spot = spot._replace(type=given)
@@ -107,10 +115,18 @@ class InferenceMaker(Maker):
         if self.chance.random() < self.strays / 4:
             fits_in = self.chance.choice([fits_in + 1, 3, 9, 127])
         number = self.chance.randrange(2 ** max(0, min(fits_in, 127)))
-        if word == "SInt" and self.chance.random() < 0.5:
-            number = -number
-        spelled = self.chance.choice([number, f'"h{number:x}"'])
-        return [word, *([] if width is None else ["<", width, ">"]), "(", spelled, ")"]
+        if word == "SInt" and fits_in >= 0 and self.chance.random() < 0.5:
+            number = ~number
+        width = [] if width is None else ["<", width, ">"]
+        return [word, *width, "(", self.spelled(number), ")"]
+
+    def spelled(self, number):
+        sign = "-" if number < 0 else self.chance.choice(["", "", "", "+"])
+        base = self.chance.choice(["", "", "h", "h", "o", "b"])
+        digits = format(abs(number), {"": "d", "h": "x", "o": "o", "b": "b"}[base])
+        if not base:
+            return sign + digits
+        return '"' + self.chance.choice([sign + base, base + sign]) + digits + '"'
 
     def bit(self, depth):
         """A UInt of width 1."""
@@ -123,20 +139,34 @@ class InferenceMaker(Maker):
             return self.bit(depth)
         return super().wanted(way, kind, depth)
 
+    def operator(self, kind):
+        """An operator that gives the kind."""
+        return self.chance.choice(GIVE[kind] + KEEP_THE_KIND * (kind in NUMBERS))
+
     def operation(self, kind, depth):
-        op = self.chance.choice(GIVE[kind] + KEEP_THE_KIND * (kind in NUMBERS))
+        op = self.operator(kind)
         kinds = [kind if op in KEEP_THE_KIND else self.chance.choice(NUMBERS)] * OPS[op][0]
         if op in CONVERSIONS:
             kinds = self.chance.choice([["UInt"], ["SInt"], ["AsyncReset"], ["Reset"]])
         elif op in ("dshl", "dshr"):
             kinds[1] = "UInt"
         parts = [self.operand(op, kind, depth - 1) for kind in kinds]
-        if op in GROW and self.chance.random() >= self.grows:
+        if op in GROW and not self.may_grow(op):
             integers = [[self.chance.randrange(4)] for _ in range(OPS[op][1])]
             return self.cut(kind, called(op, self.narrow(op, parts) + integers))
         if op in ("bits", "head", "tail", "asAsyncReset") and self.chance.random() >= self.strays:
             return self.legal(op, parts[0], kinds[0])
         return called(op, parts + [[self.integer()] for _ in range(OPS[op][1])])
+
+    def may_grow(self, op):
+        """Whether an operator on what has just been made may stay as wide as it is."""
+        return self.chance.random() < self.grows
+
+    def operand(self, op, kind, depth):
+        """Where there is no reset it is a bit."""
+        if kind in NUMBERS:
+            return super().operand(op, kind, depth)
+        return self.expression(Ground(kind), depth) or self.bit(depth)
 
     def integer(self):
         return self.chance.choice([0, 1, 1, 2, self.chance.randrange(self.widest), 70])
@@ -149,7 +179,9 @@ class InferenceMaker(Maker):
 
     def cut(self, kind, grown):
         """Some low bits of what has grown."""
-        count = self.chance.randrange(1, self.widest)
+        return self.low_bits(kind, grown, self.chance.randrange(1, self.widest))
+
+    def low_bits(self, kind, grown, count):
         low = called("bits", [called("pad", [grown, [count]]), [count - 1], [0]])
         return called("asSInt", [low]) if kind == "SInt" else low
 
@@ -170,7 +202,7 @@ class InferenceMaker(Maker):
         ports = self.faces[head]
         self.head, self.visible = head, [[spot for _, spot in ports]]
         self.shown[head] = {spot.steps[0] for _, spot in ports}
-        body = self.block(self.chance.choice([4, 8, 12, 20]), 2)
+        body = self.block(self.chance.choice(self.sizes), 2)
         return Line(["module", head, ":"], [line for line, _ in ports] + body)
 
     def connect(self, sign="<="):
@@ -248,7 +280,7 @@ class InferenceMaker(Maker):
         return super().pair(is_wanted)
 
     def reset(self, given):
-        kind = self.chance.choice(["UInt", "AsyncReset", "Reset"])
+        kind = self.chance.choice(self.reset_kinds)
         is_bit = kind == "UInt" and self.chance.random() >= self.loose
         condition = self.bit(1) if is_bit else self.expression(Ground(kind), 2)
         init = self.expression(given, 2)

@@ -3,7 +3,18 @@
 # its emitted text with Icarus Verilog, Verilator and Yosys, and runs it with Icarus on the same
 # ticks. A tool that is not installed is skipped; one that is there and refuses the text, or shows
 # other values, fails the check. What Verilator warns of is listed, and fails nothing.
+#
+# usage: interop.sh [--program PATH]
+#
+# Without a program it runs the one that ./firc builds.
 set -u
+program=./firc
+if [ "$#" -eq 2 ] && [ "$1" = --program ]; then
+  program=$(realpath "$2") || exit 1
+elif [ "$#" -ne 0 ]; then
+  echo "usage: interop.sh [--program PATH]" >&2
+  exit 2
+fi
 cd "$(dirname "$0")/.." || exit 1
 work=$(mktemp -d) || exit 1
 trap 'rm -rf "$work"' EXIT
@@ -46,9 +57,9 @@ for source in examples/*.fir; do
   trace="examples/$name.trace"
   expected="examples/$name.expected"
   text="$work/$name.v"
-  ./firc sim "$source" "$trace" --state >"$work/$name.printed" &&
+  "$program" sim "$source" "$trace" --state >"$work/$name.printed" &&
     diff "$expected" "$work/$name.printed" || fail "$name shows other values under firc sim"
-  if ! ./firc emit "$source" >"$text"; then
+  if ! "$program" emit "$source" >"$text"; then
     fail "firc refuses $source"
     continue
   fi

@@ -3,8 +3,8 @@
 language made at random, about half of them with faults of names put in.
 
 The line is that of the first fault E08 to E10 of name_rules.py. Where modules instantiate each
-other in a ring it is E11, whose walk is judged there; else that of the first fault of types, of the
-first form that `emit` lacks, or of a fault of a later group.
+other in a ring it is E11, whose walk is judged there; else it is what the rules behind those say
+(readings.py).
 
 usage: names.py [--program PATH] COUNT [SEED]
 

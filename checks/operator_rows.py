@@ -3,8 +3,8 @@
 
 Each file has a row for each kind and for each of some widths, over the corners of the operands (the
 least number, -1, 0, 1 and the greatest), and circuits that are refused. The lines that are wanted
-are those of Python's integers (operators.py, expected.py) and of the second reading of the faults
-(faults.py), without firc.
+are those of Python's integers (operators.py, tick_rules.py) and of the second reading of the faults
+(readings.py), without firc.
 
 usage: operator_rows.py [--check]
 
@@ -16,8 +16,9 @@ import sys
 
 import expected
 import operators
-from faults import Faults
 from operators import Type
+from readings import Reading
+from tick_rules import Source
 
 FOLDER = pathlib.Path(__file__).resolve().parent / "rows" / "operators"
 HEAD = "circuit T :\n  module T :\n"
@@ -62,17 +63,17 @@ def text_of(lines):
 
 def taken(name, lines, choices):
     """The row of a circuit that is run on these choices of values for its inputs."""
-    circuit = expected.Circuit(text_of(lines))
+    source = Source(text_of(lines))
     ticks = [([], [value.bits() for value in values if value.type.width]) for values in choices]
     rest = [" ".join(["trace -", *(f"{bits:x}" for bits in inputs)]) for _, inputs in ticks]
-    shown = (line.split("|")[0] for line in expected.shown_lines(circuit, [], ticks))
+    shown = (line.split("|")[0] for line in expected.shown_lines(source, [], ticks))
     rest += ["status 0", *(f"out {line}".rstrip() for line in shown)]
     return row(name, "sim", lines, rest)
 
 
 def refused(name, code, lines):
     """The row of a circuit that has a fault of that code."""
-    fault = Faults(text_of(lines)).first()
+    fault = Reading(text_of(lines)).line
     if not fault or not fault.startswith(code):
         sys.exit(f"of\n{text_of(lines)}the fault is {fault!r}, and {code} was wanted")
     return row(name, "emit", lines, ["status 1", f"err {fault}"])

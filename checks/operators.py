@@ -1,5 +1,5 @@
 """The operators of the language, worked out once more with Python's integers: the types of their
-results, which integers they may have, and their values.
+results, and their values.
 
 A value is the integer that it stands for, with its type. A UInt stands for its number, and an SInt
 for its two's complement.
@@ -55,12 +55,6 @@ class Value(typing.NamedTuple):
         return self.number % (1 << self.type.width)
 
 
-def least_type(is_signed, number):
-    """The type of the least width from 1 on that holds the number."""
-    width = (number if number >= 0 else ~number).bit_length() + is_signed
-    return Type(is_signed, max(width, 1))
-
-
 def counts(op):
     """How many operands and how many integers an operator has."""
     operands = 2 if op in OPERANDS_OF_ONE_KIND or op in SHIFTS else 1
@@ -93,13 +87,6 @@ def result_type(op, types, integers):
     n, m = (list(integers) + [0, 0])[:2]
     width = result_width(op, first.is_signed, first.width, second.width, n, m)
     return Type(gives_sint(op, first.is_signed), width)
-
-
-def is_legal(op, width, integers):
-    """Whether an operand of that width may have these integers."""
-    if op == "bits":
-        return integers[1] <= integers[0] < width
-    return op not in ("head", "tail") or integers[0] <= width
 
 
 def quotient(x, y):

@@ -1,36 +1,42 @@
 """What the second readings say of a text of the grammar, in the order in which firc tells faults:
 those of names, of modules that instantiate each other, of types and flows, of resets and widths,
-of costs, of leaves that a choice leaves undriven, then the first form that `emit` lacks."""
+of costs, of leaves that a choice leaves undriven, then the first form that firc lacks, then a walk
+on which a leaf hangs on itself."""
 import math
 import re
 
 from cost_rules import cost_fault
 from driven_rules import driven_fault
-from grammar_trees import first_lacking
 from inference_rules import Inferred
+from lacking_rules import first_lacking
 from name_rules import Names
+from tick_rules import Source, Walks
 from type_rules import Types
 
 OF_WIDTHS = "|E1[89] .*|E2[0-2] .*"
-OF_LEAVES = "|E24 .*"
+OF_LEAVES = "|E24 .*|E05 .*|E28 .*"
 # The readings of resets, widths and leaves list each element of each vector.
 MOST_ELEMENTS = 10000
 
 
 def is_large(text):
-    """Whether the vectors of a text may have more elements together than can be listed."""
-    lengths = (int(digits) for digits in re.findall(r"\[\s*(\d+)\s*\]", text))
-    return math.prod(max(1, length) for length in lengths) > MOST_ELEMENTS
+    """Whether the vectors of a text may have more elements together than can be listed: those of a
+    line at most the product of the numbers in square brackets there."""
+    lines = ([int(digits) for digits in re.findall(r"\[\s*(\d+)\s*\]", line)]
+             for line in text.splitlines())
+    return sum(math.prod(max(1, length) for length in line) for line in lines) > MOST_ELEMENTS
 
 
 class Reading:
     """The line that firc has to tell of a text. `line` is None where it is one of several, a walk
-    of E11 or of E18, and where there is no fault. Of a text with large vectors faults of resets,
-    widths and leaves are not known: `others` tells that one may come first."""
+    of E11, of E18 or of E28, and where there is no fault. Of a text with large vectors faults of
+    resets, widths and leaves are not known: `others` tells that one may come first. Where there is
+    no fault, `source` is what the text means."""
 
     def __init__(self, text):
         self.names = Names(text)
         self.line, self.is_recursive, self.inferred = self.names.first(), False, None
+        self.walks = self.source = None
         self.others = ""
         if self.line is None:
             self.is_recursive = self.names.is_recursive()
@@ -41,13 +47,21 @@ class Reading:
         if is_large(text):
             cost = cost_fault(text)
             self.others = OF_WIDTHS if cost else OF_WIDTHS + OF_LEAVES
-            return cost or first_lacking(text)
+            return cost
         inferred = Inferred(text)
         if inferred.code() == "E18":
             self.inferred = inferred
             return None
-        return (inferred.line or cost_fault(text) or driven_fault(text)
+        line = (inferred.line or cost_fault(text) or driven_fault(text)
                 or first_lacking(text))
+        if line is None:
+            source = Source(text)
+            walks = Walks(source)
+            if walks.has_walk():
+                self.walks = walks
+            else:
+                self.source = source
+        return line
 
     def pattern(self):
         """The line as a pattern, which is empty where there is no fault."""
@@ -55,6 +69,8 @@ class Reading:
             return "E11 .*"
         if self.inferred:
             return "E18 .*"
+        if self.walks:
+            return "E28 .*"
         return re.escape(self.line or "") + self.others
 
     def takes(self, says):
@@ -63,6 +79,8 @@ class Reading:
             return False
         if self.is_recursive:
             return self.names.is_walk(says)
+        if self.walks:
+            return self.walks.is_told(says)
         return not self.inferred or self.inferred.takes(says)
 
     def __str__(self):
@@ -70,4 +88,6 @@ class Reading:
             return "E11 of a walk"
         if self.inferred:
             return str(self.inferred)
+        if self.walks:
+            return "E28 of a walk"
         return self.line or "no fault"

@@ -2,9 +2,9 @@
 """Prints a Verilog test bench that runs a trace and prints the lines of NAME.expected.
 
 It sets the words of the state at time 0. At each tick it puts the inputs and shows the outputs,
-raises the clocks of the tick at one time, shows the state, and lowers the clocks later. The state
-is shown while the clocks are high, so that what the falling edge changes is seen at this tick or
-the next.
+raises the clocks of the tick at one time, at which registers sample their resets, shows the state,
+and lowers the clocks later. The state is shown while the clocks are high, so that what the falling
+edge changes is seen at this tick or the next.
 
 usage: test_bench.py SOURCE.fir SOURCE.trace
 """
@@ -12,7 +12,8 @@ import pathlib
 import sys
 
 from emitted_names import emitted_module, emitted_names
-from expected import Circuit, read_trace
+from expected import read_trace
+from tick_rules import Source
 
 
 def variables(kind, letter, widths):
@@ -21,26 +22,25 @@ def variables(kind, letter, widths):
         yield f"  {kind} {f'[{width - 1}:0] ' if width > 1 else ''}{letter}{k};"
 
 
-def connections(circuit, names):
-    """The ports of the module, each at the variable of the bench that stands for it."""
-    clocks = [(name, 1) for name in circuit.clocks]
-    for letter, ports in (("i", circuit.inputs), ("o", circuit.outputs), ("c", clocks)):
-        for k, (name, width) in enumerate(ports):
-            yield f".{names[name]}({letter}{k})"
+def connections(source, names):
+    """The leaves of the ports, each at the variable of the bench that stands for it."""
+    for letter, paths in (("i", source.inputs), ("o", source.outputs), ("c", source.clocks)):
+        for k, path in enumerate(paths):
+            yield f".{names[path]}({letter}{k})"
 
 
 def shows(task, shape, values):
     return f"{task}({', '.join([chr(34) + shape + chr(34)] + values)});"
 
 
-def tick(circuit, words, rising, inputs):
+def tick(source, words, rising, inputs):
     """The statements of a tick; all clocks are set by one assignment."""
-    outputs = [f"o{k}" for k in range(len(circuit.outputs))]
-    for k, ((name, width), value) in enumerate(zip(circuit.inputs, inputs)):
+    outputs = [f"o{k}" for k in range(len(source.outputs))]
+    for k, (width, value) in enumerate(zip(source.widths(source.inputs), inputs)):
         yield f"i{k} = {width}'h{value:x};"
     yield "#1 " + shows("$write", "%h " * len(outputs) + "|", outputs)
-    clocks = "{" + ", ".join(f"c{k}" for k in range(len(circuit.clocks))) + "}"
-    levels = "".join("1" if k in rising else "0" for k in range(len(circuit.clocks)))
+    clocks = "{" + ", ".join(f"c{k}" for k in range(len(source.clocks))) + "}"
+    levels = "".join("1" if k in rising else "0" for k in range(len(source.clocks)))
     if rising:
         yield f"#1 {clocks} = {len(levels)}'b{levels};"
     yield "#1 " + shows("$display", " %h" * len(words), words)
@@ -48,21 +48,21 @@ def tick(circuit, words, rising, inputs):
         yield f"#1 {clocks} = 0;"
 
 
-def test_bench(circuit, init, ticks):
+def test_bench(source, init, ticks):
     """The lines of the bench, for an initial state and ticks as `read_trace` gives them."""
-    names, module = emitted_names(circuit), emitted_module(circuit)
-    words = [names[name] for name, width, clock in circuit.words]
+    names, module = emitted_names(source), emitted_module(source)
+    words = [names[path] for path in source.words]
     yield f"module {'bench_0' if module == 'bench' else 'bench'};"
-    yield from variables("reg", "i", [width for name, width in circuit.inputs])
-    yield from variables("reg", "c", [1] * len(circuit.clocks))
-    yield from variables("wire", "o", [width for name, width in circuit.outputs])
-    yield f"  {module} dut({', '.join(connections(circuit, names))});"
+    yield from variables("reg", "i", source.widths(source.inputs))
+    yield from variables("reg", "c", [1] * len(source.clocks))
+    yield from variables("wire", "o", source.widths(source.outputs))
+    yield f"  {module} dut({', '.join(connections(source, names))});"
     yield "  initial begin"
-    yield from (f"    c{k} = 0;" for k in range(len(circuit.clocks)))
-    for word, (name, width, clock), value in zip(words, circuit.words, init):
+    yield from (f"    c{k} = 0;" for k in range(len(source.clocks)))
+    for word, width, value in zip(words, source.widths(source.words), init):
         yield f"    dut.{word} = {width}'h{value:x};"
     for rising, inputs in ticks:
-        yield "    " + " ".join(tick(circuit, [f"dut.{word}" for word in words], rising, inputs))
+        yield "    " + " ".join(tick(source, [f"dut.{word}" for word in words], rising, inputs))
     yield "  end"
     yield "endmodule"
 
@@ -70,9 +70,9 @@ def test_bench(circuit, init, ticks):
 def main():
     if len(sys.argv) != 3:
         sys.exit(__doc__)
-    source, trace = (pathlib.Path(word).read_text() for word in sys.argv[1:])
-    circuit = Circuit(source)
-    print("\n".join(test_bench(circuit, *read_trace(circuit, trace))))
+    text, trace = (pathlib.Path(word).read_text() for word in sys.argv[1:])
+    source = Source(text)
+    print("\n".join(test_bench(source, *read_trace(source, trace))))
 
 
 if __name__ == "__main__":

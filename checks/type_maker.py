@@ -74,17 +74,19 @@ class Maker:
     def __init__(self, chance, slips):
         self.chance, self.slips = chance, slips
         self.types = [self.new_type(3) for _ in range(chance.randrange(2, 6))]
-        self.heads = chance.sample(MODULES, chance.choice([1, 1, 2, 3]))
+        self.heads = chance.sample(MODULES, self.module_count())
         # a module instantiates those alone that come later in this order
         self.order = chance.sample(self.heads, len(self.heads))
         spare = [f"n{k}" for k in range(99)]
         self.fresh = {head: spare + chance.sample(NAMES, len(NAMES)) for head in self.heads}
-        self.faces = {head: [self.port(head) for _ in range(chance.randrange(2, 6))]
-                      for head in self.heads}
+        self.faces = {head: self.ports(head) for head in self.heads}
         self.modules = [self.module(head) for head in self.heads]
 
     def line(self):
         return Line(["circuit", self.chance.choice(self.heads), ":"], self.modules)
+
+    def module_count(self):
+        return self.chance.choice([1, 1, 2, 3])
 
     def declare(self, head):
         return self.fresh[head].pop()
@@ -256,10 +258,13 @@ class Maker:
 
     # Statements.
 
-    def port(self, head):
-        """The line of a port, and what it is in its module."""
-        name, given = self.declare(head), self.type()
-        direction = self.chance.choice(["input", "output"])
+    def ports(self, head):
+        """The lines of the ports, and what they are in their module."""
+        return [self.port(head) for _ in range(self.chance.randrange(2, 6))]
+
+    def port(self, head, direction=None, given=None):
+        name, given = self.declare(head), given or self.type()
+        direction = direction or self.chance.choice(["input", "output"])
         flow = "source" if direction == "input" else "sink"
         return Line([direction, name, ":", *tokens_of(given)]), Spot((name,), given, flow)
 
@@ -300,10 +305,14 @@ class Maker:
         self.show(name, given, "both")
         return [Line(["wire", name, ":", *tokens_of(given)])]
 
-    def node(self):
+    def node_type(self):
         given = self.pick(spot.type for spot in self.spots() if is_passive(spot.type))
         if given is None or self.chance.random() < 0.4:
             given = self.ground([*NUMBERS, "AsyncReset"])
+        return given
+
+    def node(self):
+        given = self.node_type()
         value = self.expression(given, 3)
         if self.slips.here("E15", "node"):
             value = self.other(is_passive)

@@ -2,8 +2,8 @@
 """Compares what firc says of types and flows with a second reading of their rules, on circuits of
 the whole language made at random, most of them with slips put in.
 
-The line is that of the first fault E12 to E17 of type_rules.py; without one it is that of the first
-form that `emit` lacks, or of a fault of a later group.
+The line is that of the first fault E12 to E17 of type_rules.py; without one it is what the rules
+behind those say (readings.py).
 
 usage: typed.py [--program PATH] COUNT [SEED]
        typed.py --show COUNT [SEED]

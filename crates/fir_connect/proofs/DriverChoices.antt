@@ -4,7 +4,7 @@ use Rattle.std.proofs.Common.{◌≡◌, ℕ, ◌+◌, [], ◌∷◌, List, Bool
 use Rattle.std.proofs.lemmas.Bool.{eqb-true, or_parts}
 use Rattle.fir_base.specs.Lists.{In}
 use Rattle.fir_ast.specs.declared.place.Place.{Place}
-use Rattle.fir_meaning.specs.Eval.{is_high}
+use Rattle.fir_meaning.specs.Values.{is_high}
 use Rattle.fir_meaning.specs.LeafModules.{LeafType}
 use Rattle.fir_meaning.specs.Terms.{Term, Picks, no_picks, pick}
 use Rattle.fir_meaning.specs.TermReads.{is_among, reached}

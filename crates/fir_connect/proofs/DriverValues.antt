@@ -8,8 +8,7 @@ use Rattle.fir_bits.specs.Values.{fitted}
 use Rattle.fir_bits.specs.declared.types.NumTy.{NumTy}
 use Rattle.fir_bits.specs.declared.values.Num.{Num}
 use Rattle.fir_meaning.specs.Choices.{Live, last_all}
-use Rattle.fir_meaning.specs.Eval.{at_width, is_high}
-use Rattle.fir_meaning.specs.Exec.{fit}
+use Rattle.fir_meaning.specs.Values.{at_width, is_high, fit}
 use Rattle.fir_meaning.specs.LeafModules.{LeafType, number, number_type}
 use Rattle.fir_meaning.specs.TermValues.{Holds, eval}
 use Rattle.fir_meaning.specs.Terms.{Term, zeros}

@@ -2,7 +2,7 @@
 use Rattle.std.proofs.Common.{◌≡◌, ℕ, List, [], ◌∷◌, Bool, true, false, if◌then◌else◌, Option, Some, None, refl, ap, ◌∙◌, inl, inr}
 use Rattle.fir_base.specs.Lists.{In}
 use Rattle.fir_bits.specs.declared.types.NumTy.{NumTy}
-use Rattle.fir_meaning.specs.Eval.{is_high}
+use Rattle.fir_meaning.specs.Values.{is_high}
 use Rattle.fir_meaning.specs.TermReads.{reached}
 use Rattle.fir_meaning.specs.TermValues.{Holds, clock_at}
 use Rattle.fir_meaning.specs.Terms.{Picks, zeros, absent, literal, read, operation, mux, validif, no_picks, pick}

@@ -7,7 +7,7 @@ use Rattle.fir_base.specs.Lists.{In}
 use Rattle.fir_bits.specs.Operators.{flag, integer_of, outcome}
 use Rattle.fir_bits.specs.declared.operators.PrimOp.TheVariants.{And}
 use Rattle.fir_bits.specs.declared.values.Num.{Num}
-use Rattle.fir_meaning.specs.Eval.{is_high, number_of}
+use Rattle.fir_meaning.specs.Values.{is_high, number_of}
 use Rattle.fir_meaning.specs.TermValues.{Holds}
 use Rattle.fir_meaning.specs.Terms.{Picks, no_picks, pick}
 use Rattle.fir_connect.specs.working.NetTerms.{NetTerm}

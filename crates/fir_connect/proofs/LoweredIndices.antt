@@ -2,7 +2,7 @@
 use Rattle.std.proofs.Common.{◌≡◌, ℕ, zero, suc, ◌+◌, ◌*◌, ◌<◌, ◌≤◌, List, [], ◌∷◌, ◌++◌, map, flat_map, Bool, true, false, nat_lt, if◌then◌else◌, Option, Some, None, option_map, refl, ap, ◌∙◌, inl, inr, arith}
 use Rattle.std.proofs.lemmas.Bool.{ltb-true, ltb-false}
 use Rattle.fir_base.specs.Lists.{In}
-use Rattle.fir_meaning.specs.Eval.{is_high}
+use Rattle.fir_meaning.specs.Values.{is_high}
 use Rattle.fir_meaning.specs.TermReads.{multiples}
 use Rattle.fir_meaning.specs.TermValues.{Holds, picked}
 use Rattle.fir_connect.specs.working.NetTerms.{NetTerm}

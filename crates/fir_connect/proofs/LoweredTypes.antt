@@ -4,7 +4,7 @@ use Rattle.fir_bits.specs.declared.types.NumTy.{NumTy}
 use Rattle.fir_meaning.specs.LeafModules.{LeafType, number, number_type}
 use Rattle.fir_meaning.specs.TermReads.{reached}
 use Rattle.fir_meaning.specs.TermValues.{Holds}
-use Rattle.fir_meaning.specs.Scopes.{literal_type}
+use Rattle.fir_meaning.specs.Values.{literal_type}
 use Rattle.fir_meaning.specs.Terms.{Term, Picks, Terms, zeros, absent, literal, read, operation, mux, validif, no_picks, pick, no_terms, term}
 use Rattle.fir_leaf_types.specs.working.TypedTerms.{HasType, HaveTypes}
 use Rattle.fir_connect.specs.working.NetTerms.{NetTerm, joined_type, term_type, term_types}

@@ -7,8 +7,8 @@ use Rattle.fir_bits.specs.Operators.{integer_of, outcome, type_of}
 use Rattle.fir_bits.specs.Values.{fitted, is_negative}
 use Rattle.fir_bits.specs.declared.types.NumTy.{NumTy}
 use Rattle.fir_bits.specs.declared.values.Num.{Num}
-use Rattle.fir_meaning.specs.Eval.{at_width, is_high, number_of, value_or_zero}
-use Rattle.fir_meaning.specs.Eval as over_values
+use Rattle.fir_meaning.specs.Values.{at_width, is_high, number_of, value_or_zero}
+use Rattle.fir_meaning.specs.Values as over_values
 use Rattle.fir_meaning.specs.LeafModules.{LeafType, number, number_type}
 use Rattle.fir_meaning.specs.TermReads.{reached}
 use Rattle.fir_meaning.specs.TermValues.{Holds, eval, eval_each, leaf_of, picked, value_at}

@@ -3,8 +3,7 @@
 use Rattle.std.proofs.Common.{◌≡◌, ◌⊎◌, ℕ, ◌^◌, ◌<◌, [], ◌∷◌, length, Bool, true, false, Option, Some, None, option_map, unwrap_or, inl, inr, refl, sym, ap, ◌∙◌}
 use Rattle.fir_bits.specs.declared.types.NumTy.{NumTy}
 use Rattle.fir_bits.specs.declared.values.Num.{Num}
-use Rattle.fir_meaning.specs.Eval.{is_high, number_of}
-use Rattle.fir_meaning.specs.Exec.{fit}
+use Rattle.fir_meaning.specs.Values.{is_high, number_of, fit}
 use Rattle.fir_meaning.specs.LeafBlocks.{exec_all, nothing_stored}
 use Rattle.fir_meaning.specs.LeafModules.{LeafModule, LeafReset, LeafType, Role, a_clock, computed, depth_at, is_sink, number, number_type, pipe, reading, register, role_at, sink, source}
 use Rattle.fir_meaning.specs.TermValues.{clock_of}

@@ -8,7 +8,7 @@ use Rattle.fir_bits.specs.declared.types.NumTy.{NumTy}
 use Rattle.fir_bits.specs.declared.types.OpFault.TheVariants.{Kinds, Over, Legality}
 use Rattle.fir_bits.specs.declared.values.Num.{Num}
 use Rattle.fir_meaning.specs.LeafModules.{LeafType, number, number_type}
-use Rattle.fir_meaning.specs.Scopes.{literal_type}
+use Rattle.fir_meaning.specs.Values.{literal_type}
 use Rattle.fir_meaning.specs.TermValues.{eval, eval_each}
 use Rattle.fir_meaning.specs.Terms.{Term, Terms, zeros, absent, literal, read, operation, mux, validif, no_terms, term}
 use Rattle.fir_leaf_types.specs.working.TypedTerms.{HasType, HaveTypes}

@@ -12,9 +12,8 @@ use Rattle.fir_bits.specs.Values.{IsBitVector}
 use Rattle.fir_bits.specs.declared.types.NumTy.{NumTy}
 use Rattle.fir_bits.specs.declared.types.OpFault.{OpFault}
 use Rattle.fir_bits.specs.declared.values.Num.{Num}
-use Rattle.fir_meaning.specs.Eval.{at_width, choice, is_high, value_or_zero}
+use Rattle.fir_meaning.specs.Values.{at_width, choice, is_high, value_or_zero, literal_type}
 use Rattle.fir_meaning.specs.LeafModules.{LeafType, number, number_type}
-use Rattle.fir_meaning.specs.Scopes.{literal_type}
 use Rattle.fir_meaning.specs.TermReads.{reached}
 use Rattle.fir_meaning.specs.TermValues.{eval, eval_each, leaf_of, value_at}
 use Rattle.fir_meaning.specs.Terms.{Picks, Term, Terms, zeros, absent, literal, read, operation, mux, validif, no_terms, term}

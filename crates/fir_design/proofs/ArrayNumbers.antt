@@ -11,19 +11,19 @@ use Rattle.fir_meaning.specs.LeafPaths.{LeafPath, named}
 use Rattle.fir_meaning.specs.NameGroups.{HasNames}
 use Rattle.fir_meaning.specs.TypeGroup.{type_faults}
 use Rattle.fir_meaning.specs.Visibility.{declarations}
-use Rattle.fir_leaf.specs.working.Designs.{Design, IsDesignOf, Items, made_of}
-use Rattle.fir_leaf.specs.working.FlatDesigns.{array_count_below}
+use Rattle.fir_meaning.specs.Designs.{Design, IsDesignOf, Items, made_of}
+use Rattle.fir_meaning.specs.FlatDesigns.{array_count_below}
 use Rattle.fir_meaning.specs.LeafModules.{LeafModule}
 use Rattle.fir_meaning.specs.LeafedModules.{Scene, behind_all_ports, leafed_module}
-use Rattle.fir_leaf.specs.working.StateWalks.{all_array_order_in, array_order_below, own_arrays}
+use Rattle.fir_meaning.specs.StateWalks.{all_array_order_in, array_order_below, own_arrays}
 use Rattle.fir_leaf.proofs.FlatOrders.{walk_same}
 use Rattle.fir_leaf.proofs.FlatPlaces.{At, at_left, at_right}
-use Rattle.fir_design.specs.working.CircuitDesigns.{AreScenes, views}
+use Rattle.fir_meaning.specs.Elaborated.{AreScenes, views}
 use Rattle.fir_design.specs.working.SameRoles.{ViewsHaveRoles}
-use Rattle.fir_design.specs.working.SourceCircuits.{PlacedArray, array_order_of_design, array_order_of_instance, arrays_of_design, arrays_of_instances, placed_arrays}
-use Rattle.fir_design.specs.working.SourceDesigns.{Instances, IsSourceDesignOf, SourceDesign, held, no_instances}
-use Rattle.fir_design.specs.working.SourceDesigns as source
-use Rattle.fir_design.specs.working.SourceRoles.{source_arrays}
+use Rattle.fir_meaning.specs.SourceCircuits.{PlacedArray, array_order_of_design, array_order_of_instance, arrays_of_design, arrays_of_instances, placed_arrays}
+use Rattle.fir_meaning.specs.SourceDesigns.{Instances, IsSourceDesignOf, SourceDesign, held, no_instances}
+use Rattle.fir_meaning.specs.SourceDesigns as source
+use Rattle.fir_meaning.specs.SourceRoles.{source_arrays}
 use Rattle.fir_design.proofs.ArrayRuns.{block_beside}
 use Rattle.fir_design.proofs.ArrayWalks.{block_arrays}
 use Rattle.fir_design.proofs.DesignInstances.{block_held, given, held_of, instances_in, own_of}

@@ -13,10 +13,10 @@ use Rattle.fir_meaning.specs.NameGroups.{HasNames}
 use Rattle.fir_meaning.specs.ResetJoins.{numbered_module}
 use Rattle.fir_meaning.specs.TypeGroup.{type_faults}
 use Rattle.fir_meaning.specs.LeafedModules.{Scene}
-use Rattle.fir_design.specs.working.CircuitDesigns.{AreScenes}
-use Rattle.fir_design.specs.working.SourceCircuits.{array_path, arrays_of_design, arrays_of_instances, placed_arrays}
-use Rattle.fir_design.specs.working.SourceDesigns.{AreInstances, InstanceOf, Instances, IsSourceDesignOf, SourceDesign, held, instances_of_block, made_of, no_instances, scene_where}
-use Rattle.fir_design.specs.working.SourceRoles.{SourceArray, source_arrays}
+use Rattle.fir_meaning.specs.Elaborated.{AreScenes}
+use Rattle.fir_meaning.specs.SourceCircuits.{array_path, arrays_of_design, arrays_of_instances, placed_arrays}
+use Rattle.fir_meaning.specs.SourceDesigns.{AreInstances, InstanceOf, Instances, IsSourceDesignOf, SourceDesign, held, instances_of_block, made_of, no_instances, scene_where}
+use Rattle.fir_meaning.specs.SourceRoles.{SourceArray, source_arrays}
 use Rattle.fir_design.proofs.ApartNames.{BeginsAmong}
 use Rattle.fir_design.proofs.DistinctElements.{distinct_mapped}
 use Rattle.fir_design.proofs.FineScenes.{fine_scene}

@@ -10,7 +10,7 @@ use Rattle.fir_meaning.specs.Visibility.{Before, behind, behind_block, declarati
 use Rattle.fir_meaning.specs.LeafMemories.{LeafMemory, arrays_from, leaves_of_data}
 use Rattle.fir_meaning.specs.LeafModules.{LeafArray, LeafType}
 use Rattle.fir_meaning.specs.LeafedModules.{Scene, arrays_in, arrays_in_block, held_types, memory_before}
-use Rattle.fir_design.specs.working.SourceRoles.{arrays_of_data, source_arrays_in, source_arrays_in_block}
+use Rattle.fir_meaning.specs.SourceRoles.{arrays_of_data, source_arrays_in, source_arrays_in_block}
 use Rattle.fir_design.proofs.DeclaredRuns.{IsRun, both_runs, no_run, one_run}
 use Rattle.fir_design.proofs.InstanceStatements.{longer_block, longer_statement}
 use Rattle.fir_design.proofs.LeavesBeside.{joined_long}

@@ -6,14 +6,14 @@ use Rattle.fir_base.specs.Lists.{In}
 use Rattle.fir_base.proofs.Elements.{get_in, number_of, there}
 use Rattle.fir_meaning.specs.LeafPaths.{LeafPath}
 use Rattle.fir_leaf.specs.working.DesignStates.{array_at}
-use Rattle.fir_leaf.specs.working.LeafCircuits.{LeafCircuit}
-use Rattle.fir_leaf.specs.working.LeafStates.{array_of}
-use Rattle.fir_leaf.specs.working.Memories.{begins_from, word_behind, word_before}
-use Rattle.fir_leaf.specs.working.TreeStores.{same_path}
-use Rattle.fir_design.specs.working.SourceCircuits.{PlacedArray, all_arrays, all_leaves, array_path, state_arrays, state_words}
-use Rattle.fir_design.specs.working.SourceDesigns.{SourceDesign}
-use Rattle.fir_design.specs.working.SourceValues as tree
-use Rattle.fir_design.specs.working.SourceValues.{begins_on, words_on}
+use Rattle.fir_meaning.specs.LeafCircuits.{LeafCircuit}
+use Rattle.fir_meaning.specs.LeafStates.{array_of}
+use Rattle.fir_meaning.specs.Memories.{begins_from, word_behind, word_before}
+use Rattle.fir_meaning.specs.TreeStores.{same_path}
+use Rattle.fir_meaning.specs.SourceCircuits.{PlacedArray, all_arrays, all_leaves, array_path, state_arrays, state_words}
+use Rattle.fir_meaning.specs.SourceDesigns.{SourceDesign}
+use Rattle.fir_meaning.specs.SourceValues as tree
+use Rattle.fir_meaning.specs.SourceValues.{begins_on, words_on}
 use Rattle.fir_design.proofs.InStep.{InStep}
 use Rattle.fir_design.proofs.PathLookups.{found, found_at, same_test}
 

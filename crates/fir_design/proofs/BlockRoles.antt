@@ -22,8 +22,8 @@ use Rattle.fir_meaning.specs.LeafedModules.{Declared, Scene, arrays_in, arrays_i
 use Rattle.fir_leaf.proofs.DeclaredLeaves.{own_module}
 use Rattle.fir_leaf.proofs.ScopesBegin.{begins_behind, begins_block, begins_through}
 use Rattle.fir_design.specs.working.SameRoles.{SameRole}
-use Rattle.fir_design.specs.working.SourceRoles as tree
-use Rattle.fir_design.specs.working.SourceRoles.{source_arrays_in, source_arrays_in_block, source_port_role, source_reset, sources_in, sources_in_block, sources_of_ports}
+use Rattle.fir_meaning.specs.SourceRoles as tree
+use Rattle.fir_meaning.specs.SourceRoles.{source_arrays_in, source_arrays_in_block, source_port_role, source_reset, sources_in, sources_in_block, sources_of_ports}
 use Rattle.fir_design.proofs.CountedBlocks.{block_counted, statement_counted}
 use Rattle.fir_design.proofs.FineScenes.{IsFineScene, fine_scene, whole_scope}
 use Rattle.fir_design.proofs.MemoryRoles.{memory_arrays_same, memory_leaves_same}

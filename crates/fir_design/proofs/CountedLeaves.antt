@@ -10,7 +10,7 @@ use Rattle.fir_meaning.specs.SizedMemories.{as_written}
 use Rattle.fir_meaning.specs.SizedTypes.{numbered}
 use Rattle.fir_meaning.specs.TypeLeaves.{TypeLeaf, leaf_count, type_leaves}
 use Rattle.fir_meaning.specs.Visibility.{at_head}
-use Rattle.fir_leaf.specs.working.DesignPaths.{no_name}
+use Rattle.fir_meaning.specs.DesignPaths.{no_name}
 use Rattle.fir_meaning.specs.LeafMemories.{LeafMemory, array_count, arrays_from, count_of_data, leaves_of_data}
 use Rattle.fir_meaning.specs.LeafModules.{LeafType, Role}
 use Rattle.fir_meaning.specs.LeafedModules.{Declared, Scene, declared_leaves, held_by_declared, held_types, leaves_from, memory_arrays, type_of_declared}

@@ -20,7 +20,7 @@ use Rattle.fir_leaf.specs.working.LeafLaws as law
 use Rattle.fir_meaning.specs.LeafedModules.{Scene, module_leaves, scope_before}
 use Rattle.fir_meaning.specs.Targets.{leaves_so_far}
 use Rattle.fir_design.specs.working.SameRoles.{path_at}
-use Rattle.fir_design.specs.working.SourceRoles.{NamedPort, kind_of, ports_of_part}
+use Rattle.fir_meaning.specs.SourceRoles.{NamedPort, kind_of, ports_of_part}
 use Rattle.fir_design.proofs.DeclaredInstances.{Grows}
 use Rattle.fir_design.proofs.FineScenes.{IsFineScene, leaf_path, whole_scope}
 use Rattle.fir_design.proofs.KnownDeclarations.{known_behind}

@@ -6,14 +6,14 @@ use Rattle.fir_base.proofs.Elements.{get_in}
 use Rattle.fir_ast.specs.Circuits.{CircuitTree}
 use Rattle.fir_meaning.specs.NameGroups.{HasNames}
 use Rattle.fir_meaning.specs.Visibility.{declarations}
-use Rattle.fir_leaf.specs.working.DesignPaths.{instance_name}
-use Rattle.fir_leaf.specs.working.Designs.{Design, IsDesignOf, Items, made_of, module_of}
+use Rattle.fir_meaning.specs.DesignPaths.{instance_name}
+use Rattle.fir_meaning.specs.Designs.{Design, IsDesignOf, Items, made_of, module_of}
 use Rattle.fir_meaning.specs.LeafBlocks.{HeldInstance}
 use Rattle.fir_meaning.specs.LeafModules.{LeafModule}
 use Rattle.fir_meaning.specs.LeafedModules.{Scene, behind_all_ports, driven_leaves, leafed_module}
-use Rattle.fir_design.specs.working.CircuitDesigns.{AreScenes, views}
-use Rattle.fir_design.specs.working.SourceDesigns.{AreInstances, InstanceOf, Instances, IsSourceDesignOf, SourceDesign, held, no_instances, scene_where}
-use Rattle.fir_design.specs.working.SourceDesigns as source
+use Rattle.fir_meaning.specs.Elaborated.{AreScenes, views}
+use Rattle.fir_meaning.specs.SourceDesigns.{AreInstances, InstanceOf, Instances, IsSourceDesignOf, SourceDesign, held, no_instances, scene_where}
+use Rattle.fir_meaning.specs.SourceDesigns as source
 use Rattle.fir_design.proofs.DesignInstances.{Instance, all_designed, block_held, each_design, held_of, instances_in, own_of}
 use Rattle.fir_design.proofs.FoundInstances.{instances_found}
 use Rattle.fir_design.proofs.FoundInstances as text

@@ -7,7 +7,7 @@ use Rattle.fir_meaning.specs.Visibility.{at_head}
 use Rattle.fir_meaning.specs.LeafModules.{LeafArray, LeafDeclared, leaf_at, no_leaf}
 use Rattle.fir_meaning.specs.LeafedModules.{Scene, behind_all_ports, leafed_module, leaves_in_block, leaves_of_ports, module_leaves}
 use Rattle.fir_leaf.specs.working.StateLaws.{PortsShowNone}
-use Rattle.fir_leaf.specs.working.StateWalks.{has_bits, own_arrays, own_words}
+use Rattle.fir_meaning.specs.StateWalks.{has_bits, own_arrays, own_words}
 use Rattle.fir_leaf.proofs.OncePaths.{at_in}
 use Rattle.fir_leaf.proofs.OnceStates.{own_word}
 use Rattle.fir_design.proofs.ArrayRuns.{block_run as arrays_run}

@@ -4,12 +4,12 @@ use Rattle.std.proofs.lemmas.List.{append-nil}
 use Rattle.std.proofs.lemmas.Option.{get_or_from_slice_get}
 use Rattle.fir_base.proofs.Elements.{there}
 use Rattle.fir_ast.specs.Circuits.{CircuitTree}
-use Rattle.fir_leaf.specs.working.Designs.{Design, made_of}
+use Rattle.fir_meaning.specs.Designs.{Design, made_of}
 use Rattle.fir_leaf.specs.working.DesignStates.{array_at, no_array}
-use Rattle.fir_leaf.specs.working.FlatLeaves.{arrays_below, leaves_below}
-use Rattle.fir_leaf.specs.working.Flattened.{flattened}
-use Rattle.fir_leaf.specs.working.Flattened as flat
-use Rattle.fir_leaf.specs.working.LeafCircuits.{LeafCircuit}
+use Rattle.fir_meaning.specs.FlatLeaves.{arrays_below, leaves_below}
+use Rattle.fir_meaning.specs.Flattened.{flattened}
+use Rattle.fir_meaning.specs.Flattened as flat
+use Rattle.fir_meaning.specs.LeafCircuits.{LeafCircuit}
 use Rattle.fir_meaning.specs.LeafModules.{LeafArray, LeafModule, leaf_at, no_leaf}
 use Rattle.fir_meaning.specs.LeafedModules.{Scene, leafed_module}
 use Rattle.fir_leaf.specs.working.SoundDesigns.{circuit_path}
@@ -17,9 +17,9 @@ use Rattle.fir_leaf.proofs.FlatMeaning.{main_at, main_stands}
 use Rattle.fir_leaf.proofs.FlatPlaces.{At}
 use Rattle.fir_design.specs.working.MeaningLaws.{AreDesigns}
 use Rattle.fir_design.specs.working.SameRoles.{ViewsHaveRoles}
-use Rattle.fir_design.specs.working.SourceCircuits.{PlacedArray, PlacedLeaf, all_arrays, all_leaves, array_path, leaves_of_design, placed, port_leaves}
-use Rattle.fir_design.specs.working.SourceDesigns.{SourceDesign}
-use Rattle.fir_design.specs.working.SourceDesigns as source
+use Rattle.fir_meaning.specs.SourceCircuits.{PlacedArray, PlacedLeaf, all_arrays, all_leaves, array_path, leaves_of_design, placed, port_leaves}
+use Rattle.fir_meaning.specs.SourceDesigns.{SourceDesign}
+use Rattle.fir_meaning.specs.SourceDesigns as source
 use Rattle.fir_base.specs.Lists.{Distinct}
 use Rattle.fir_design.proofs.ArrayPaths.{tree_paths_distinct}
 use Rattle.fir_design.proofs.DistinctElements.{once_numbered}

@@ -17,7 +17,7 @@ use Rattle.fir_names.proofs.BehindStatements.{adds_block}
 use Rattle.fir_names.proofs.ModulesThere.{instance_number}
 use Rattle.fir_meaning.specs.LeafedModules.{Scene, behind_all_ports}
 use Rattle.fir_leaf.proofs.DeclaredLeaves.{IsOwn}
-use Rattle.fir_design.specs.working.SourceDesigns.{InstanceOf, instances_of, instances_of_block}
+use Rattle.fir_meaning.specs.SourceDesigns.{InstanceOf, instances_of, instances_of_block}
 use Rattle.fir_design.proofs.DeclaredInstances.{instance_within}
 use Rattle.fir_design.proofs.FineScenes.{IsFineScene}
 use Rattle.fir_design.proofs.KnownDeclarations.{known_names}

@@ -3,7 +3,7 @@ use Rattle.std.proofs.Common.{◌≡◌, ℕ, ◌+◌, List, [], ◌∷◌, ◌+
 use Rattle.fir_base.specs.Lists.{In}
 use Rattle.fir_base.proofs.Members.{in_left, in_right}
 use Rattle.fir_meaning.specs.LeafBlocks.{HeldInstance, LeafBlock, LeafStatement, drive, when, instance, done, then, joined}
-use Rattle.fir_leaf.specs.working.Designs.{EachInstance, AllInstances}
+use Rattle.fir_meaning.specs.Designs.{EachInstance, AllInstances}
 
 pub record Held : Type 0 where
   pub depth : ℕ

@@ -8,20 +8,20 @@ use Rattle.fir_meaning.specs.TypedScopes.{TypedScope}
 use Rattle.fir_leaf.specs.working.ChoiceLaws.{fitted_at}
 use Rattle.fir_leaf.specs.working.DesignLaws.{numbered}
 use Rattle.fir_leaf.specs.working.DesignStates.{array_at}
-use Rattle.fir_leaf.specs.working.DesignStores.{nothing_kept}
+use Rattle.fir_meaning.specs.DesignStores.{nothing_kept}
 use Rattle.fir_meaning.specs.LeafBlocks.{exec_all, nothing_stored}
-use Rattle.fir_leaf.specs.working.LeafCircuits.{LeafCircuit, depth_of}
+use Rattle.fir_meaning.specs.LeafCircuits.{LeafCircuit, depth_of}
 use Rattle.fir_meaning.specs.LeafModules as over
 use Rattle.fir_meaning.specs.LeafModules.{LeafArray, LeafReset, LeafType, Need, Reading, Role, Writing, leaf_at}
 use Rattle.fir_leaf.specs.working.SoundDesigns.{circuit_path}
 use Rattle.fir_meaning.specs.TermValues.{clock_of, eval}
 use Rattle.fir_meaning.specs.Terms.{Term}
-use Rattle.fir_leaf.specs.working.TreeValues.{TypesByPath, ValuesByPath, aim_read, leaf_where, value}
-use Rattle.fir_design.specs.working.SourceCircuits.{PlacedArray, PlacedLeaf, all_arrays, all_leaves, array_path, clock_inputs, clock_outputs, inputs, leaf_path, outputs, state_arrays, state_words}
-use Rattle.fir_design.specs.working.SourceDesigns.{SourceDesign}
-use Rattle.fir_design.specs.working.SourceRoles as tree
-use Rattle.fir_design.specs.working.SourceRoles.{PathNeed, PathReading, PathWriting, SourceReset, SourceRole}
-use Rattle.fir_design.specs.working.SourceStores.{below, clock_gifts, clock_where, exec_design, number_gifts}
+use Rattle.fir_meaning.specs.TreeValues.{TypesByPath, ValuesByPath, aim_read, leaf_where, value}
+use Rattle.fir_meaning.specs.SourceCircuits.{PlacedArray, PlacedLeaf, all_arrays, all_leaves, array_path, clock_inputs, clock_outputs, inputs, leaf_path, outputs, state_arrays, state_words}
+use Rattle.fir_meaning.specs.SourceDesigns.{SourceDesign}
+use Rattle.fir_meaning.specs.SourceRoles as tree
+use Rattle.fir_meaning.specs.SourceRoles.{PathNeed, PathReading, PathWriting, SourceReset, SourceRole}
+use Rattle.fir_meaning.specs.SourceStores.{below, clock_gifts, clock_where, exec_design, number_gifts}
 
 module _ (c : LeafCircuit) where
   -- a term has the value of the leaf at a path of an expression in the module of the instance at a path, and gives its clock

@@ -5,11 +5,11 @@ use Rattle.fir_meaning.specs.Components as component
 use Rattle.fir_meaning.specs.Components.{Component, Declaration}
 use Rattle.fir_meaning.specs.LeafPaths.{LeafPath}
 use Rattle.fir_meaning.specs.Visibility.{declarations}
-use Rattle.fir_leaf.specs.working.Designs.{Design}
+use Rattle.fir_meaning.specs.Designs.{Design}
 use Rattle.fir_meaning.specs.LeafBlocks.{HeldInstance}
 use Rattle.fir_meaning.specs.LeafedModules.{Scene, behind_all_ports, leafed_module}
 use Rattle.fir_leaf.proofs.FlatPlaces.{At}
-use Rattle.fir_design.specs.working.SourceDesigns.{Instances, SourceDesign}
+use Rattle.fir_meaning.specs.SourceDesigns.{Instances, SourceDesign}
 use Rattle.fir_design.proofs.DesignInstances.{Instance, given, given_none, held_of, own_of}
 use Rattle.fir_design.proofs.DesignsBeside.{AreBeside}
 use Rattle.fir_design.proofs.FineScenes.{IsFineScene}

@@ -13,7 +13,7 @@ use Rattle.fir_meaning.specs.LeafPaths.{LeafPath, named}
 use Rattle.fir_meaning.specs.TypedScopes.{Known, TypedScope}
 use Rattle.fir_meaning.specs.TypeLeaves.{TypeLeaf, leaf_count, type_leaves}
 use Rattle.fir_meaning.specs.Visibility.{declarations}
-use Rattle.fir_leaf.specs.working.DesignPaths.{instance_name}
+use Rattle.fir_meaning.specs.DesignPaths.{instance_name}
 use Rattle.fir_leaf.specs.working.LeafLaws.{known_paths, path_at, scope_paths}
 use Rattle.fir_meaning.specs.LeafMemories.{leaves_of_data}
 use Rattle.fir_meaning.specs.LeafModules.{leaf_at}

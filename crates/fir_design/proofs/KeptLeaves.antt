@@ -4,8 +4,8 @@ use Rattle.std.proofs.lemmas.Option.{slice_get_within}
 use Rattle.fir_ast.specs.declared.place.Place.{Place}
 use Rattle.fir_meaning.specs.LeafPaths.{LeafPath}
 use Rattle.fir_meaning.specs.TypeLeaves.{TypeLeaf, type_leaves}
-use Rattle.fir_leaf.specs.working.DesignPaths.{seen}
-use Rattle.fir_leaf.specs.working.DesignStores.{DesignStore, kept}
+use Rattle.fir_meaning.specs.DesignPaths.{seen}
+use Rattle.fir_meaning.specs.DesignStores.{DesignStore, kept}
 use Rattle.fir_leaf.specs.working.LeafLaws.{path_at}
 use Rattle.fir_meaning.specs.LeafModules.{LeafModule}
 use Rattle.fir_meaning.specs.LeafedBlocks.{driven_from, driven_where}
@@ -13,11 +13,11 @@ use Rattle.fir_meaning.specs.LeafedModules.{Scene, leafed_module, module_leaves}
 use Rattle.fir_leaf.specs.working.Standing.{leaf_from, Stands, target_leaf}
 use Rattle.fir_meaning.specs.Targets.{Target}
 use Rattle.fir_meaning.specs.Terms.{Term}
-use Rattle.fir_leaf.specs.working.TreeAims.{Aim}
-use Rattle.fir_leaf.specs.working.TreeValues.{TypesByPath, ValuesByPath, leaf_where}
+use Rattle.fir_meaning.specs.TreeAims.{Aim}
+use Rattle.fir_meaning.specs.TreeValues.{TypesByPath, ValuesByPath, leaf_where}
 use Rattle.fir_leaf.proofs.LeafPlaces.{leaves_counted}
 use Rattle.fir_leaf.proofs.PairStores.{leaf_in}
-use Rattle.fir_design.specs.working.SourceStores.{Gifts, below, source_kept}
+use Rattle.fir_meaning.specs.SourceStores.{Gifts, below, source_kept}
 use Rattle.fir_design.proofs.FineScenes.{IsFineScene, leaves_long, whole_scope}
 use Rattle.fir_design.proofs.RunBlocks.{run}
 use Rattle.fir_design.proofs.SeenPaths.{path_is, seen_is}

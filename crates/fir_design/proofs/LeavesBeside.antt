@@ -11,7 +11,7 @@ use Rattle.fir_meaning.specs.LeafMemories.{leaves_of_data}
 use Rattle.fir_meaning.specs.LeafModules.{LeafArray, LeafDeclared, LeafType, Role}
 use Rattle.fir_meaning.specs.LeafedModules.{Declared, Scene, declared_leaves, held_by_declared, leaves_from, leaves_in, leaves_in_block, leaves_of_ports, type_of_declared}
 use Rattle.fir_design.specs.working.SameRoles.{SameLeaves}
-use Rattle.fir_design.specs.working.SourceRoles.{SourceLeaf, SourceRole, declared_sources, source_leaves_of, sources_in, sources_in_block, sources_of_ports}
+use Rattle.fir_meaning.specs.SourceRoles.{SourceLeaf, SourceRole, declared_sources, source_leaves_of, sources_in, sources_in_block, sources_of_ports}
 
 -- those of one declaration
 from_long : (d : Declared) (place : TypeLeaf → Place) (role_of : ℕ → TypeLeaf → Role) (k : ℕ) (name : List ℕ)

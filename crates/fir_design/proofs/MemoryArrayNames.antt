@@ -22,8 +22,8 @@ use Rattle.fir_meaning.specs.LeafMemories.{leaves_of_data}
 use Rattle.fir_meaning.specs.LeafModules.{LeafType}
 use Rattle.fir_meaning.specs.LeafedModules.{Scene, behind_all_ports, held_types}
 use Rattle.fir_leaf.proofs.DeclaredLeaves.{IsOwn}
-use Rattle.fir_design.specs.working.SourceDesigns.{InstanceOf, instances_of, instances_of_block}
-use Rattle.fir_design.specs.working.SourceRoles.{SourceArray, arrays_of_data, source_arrays, source_arrays_in, source_arrays_in_block}
+use Rattle.fir_meaning.specs.SourceDesigns.{InstanceOf, instances_of, instances_of_block}
+use Rattle.fir_meaning.specs.SourceRoles.{SourceArray, arrays_of_data, source_arrays, source_arrays_in, source_arrays_in_block}
 use Rattle.fir_design.proofs.ApartNames.{AreApart, BeginsAmong, apart_joined, none_apart, one_instance}
 use Rattle.fir_design.proofs.InnerNames.{inner_names, inner_names_of}
 

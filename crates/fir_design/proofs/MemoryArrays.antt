@@ -8,7 +8,7 @@ use Rattle.fir_meaning.specs.TypeLeaves.{TypeLeaf}
 use Rattle.fir_meaning.specs.LeafMemories.{LeafMemory, arrays_from, writings_from}
 use Rattle.fir_meaning.specs.LeafModules.{LeafArray, LeafDeclared, LeafType}
 use Rattle.fir_design.specs.working.SameRoles.{array_on, writing_on}
-use Rattle.fir_design.specs.working.SourceRoles.{arrays_of_data, ports_of_part, writings_at}
+use Rattle.fir_meaning.specs.SourceRoles.{arrays_of_data, ports_of_part, writings_at}
 
 -- that of a leaf
 pub array_there : (m : LeafMemory) (i : ℕ) (ls : List TypeLeaf) (hs : List LeafType) → length ls ≤ length hs → (k : ℕ) (l : TypeLeaf)

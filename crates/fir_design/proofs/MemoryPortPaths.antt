@@ -6,7 +6,7 @@ use Rattle.fir_ast.specs.Statements.{PlacedName, MemoryPart, reader, writer, rea
 use Rattle.fir_meaning.specs.LeafPaths.{LeafPath, named}
 use Rattle.fir_meaning.proofs.LeafSteps.{behind_step}
 use Rattle.fir_meaning.specs.LeafMemories.{PortKind, port_kinds_of, port_size, reads, reads_and_writes, writes}
-use Rattle.fir_design.specs.working.SourceRoles.{NamedPort, ports_of_part}
+use Rattle.fir_meaning.specs.SourceRoles.{NamedPort, ports_of_part}
 
 -- where the leaves of the data have these paths: of a field of data
 abbrev pub behind_field : List ℕ → List LeafPath → List LeafPath

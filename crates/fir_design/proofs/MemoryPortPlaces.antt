@@ -8,7 +8,7 @@ use Rattle.fir_meaning.specs.LeafMemories.{PortKind, mode, reads_and_writes}
 use Rattle.fir_meaning.specs.LeafModules.{LeafDeclared}
 use Rattle.fir_leaf.proofs.LeafPlaces.{get_mapped}
 use Rattle.fir_design.specs.working.SameRoles.{path_at}
-use Rattle.fir_design.specs.working.SourceRoles.{port_field}
+use Rattle.fir_meaning.specs.SourceRoles.{port_field}
 use Rattle.fir_design.proofs.MemoryPortPaths.{behind_field, control_paths, data_paths, kind_paths}
 use Rattle.fir_design.proofs.StandingLists.{Stands, stands_first, stands_left, stands_right}
 

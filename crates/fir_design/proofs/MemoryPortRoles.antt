@@ -9,8 +9,8 @@ use Rattle.fir_meaning.proofs.LeafSteps.{behind_step}
 use Rattle.fir_meaning.specs.LeafMemories.{LeafMemory, PortKind, enable, mode, port_roles, port_size, read_roles, reads, reads_and_writes, roles_from, sinks, writes}
 use Rattle.fir_meaning.specs.LeafModules.{LeafArray, LeafDeclared, Need, Role, sink}
 use Rattle.fir_design.specs.working.SameRoles.{path_at}
-use Rattle.fir_design.specs.working.SourceRoles as tree
-use Rattle.fir_design.specs.working.SourceRoles.{NamedPort, PathNeed, SourceRole, kind_of, memory_role, port_field, ports_of_part}
+use Rattle.fir_meaning.specs.SourceRoles as tree
+use Rattle.fir_meaning.specs.SourceRoles.{NamedPort, PathNeed, SourceRole, kind_of, memory_role, port_field, ports_of_part}
 use Rattle.fir_design.proofs.MemoryPortPaths.{behind_field, kind_paths, port_long, port_paths}
 use Rattle.fir_design.proofs.MemoryPortPlaces.{AtPort, address_there, clock_there, enable_there, mode_there}
 use Rattle.fir_design.proofs.RolesInOrder.{SameInOrder, roles_joined}

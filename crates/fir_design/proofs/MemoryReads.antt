@@ -9,8 +9,8 @@ use Rattle.fir_leaf.specs.working.DesignStates.{array_at}
 use Rattle.fir_meaning.specs.LeafMemories.{LeafMemory, read_role, read_roles}
 use Rattle.fir_meaning.specs.LeafModules.{LeafArray, LeafDeclared, Need}
 use Rattle.fir_design.specs.working.SameRoles.{SameRole, need_on, path_at}
-use Rattle.fir_design.specs.working.SourceRoles as tree
-use Rattle.fir_design.specs.working.SourceRoles.{NamedPort, PathNeed, SourceRole, kind_of, latency_of, needed, port_field, ports_of_part, under_write_of}
+use Rattle.fir_meaning.specs.SourceRoles as tree
+use Rattle.fir_meaning.specs.SourceRoles.{NamedPort, PathNeed, SourceRole, kind_of, latency_of, needed, port_field, ports_of_part, under_write_of}
 use Rattle.fir_design.proofs.MemoryPortPaths.{behind_field}
 use Rattle.fir_design.proofs.RolesInOrder.{SameInOrder}
 use Rattle.fir_design.proofs.StandingLists.{Stands, stands_first, stands_right}

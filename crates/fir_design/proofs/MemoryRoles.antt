@@ -28,7 +28,7 @@ use Rattle.fir_meaning.specs.Targets.{leaves_so_far}
 use Rattle.fir_leaf.proofs.DeclaredLeaves.{own_module}
 use Rattle.fir_leaf.proofs.LeafPlaces.{get_mapped, leaves_counted}
 use Rattle.fir_design.specs.working.SameRoles.{SameLeaves, array_on, path_at}
-use Rattle.fir_design.specs.working.SourceRoles.{NamedPort, memory_role, ports_of_part, source_arrays_in, sources_in}
+use Rattle.fir_meaning.specs.SourceRoles.{NamedPort, memory_role, ports_of_part, source_arrays_in, sources_in}
 use Rattle.fir_design.proofs.DataHeld.{data_held}
 use Rattle.fir_design.proofs.DeclaredInstances.{Grows}
 use Rattle.fir_design.proofs.DeclaredMemories.{ports_found, ports_stand, type_is, word_bundle}

@@ -4,8 +4,8 @@ use Rattle.std.proofs.lemmas.List.{map-append}
 use Rattle.fir_meaning.specs.LeafPaths.{LeafPath, named}
 use Rattle.fir_meaning.specs.LeafMemories.{sinks}
 use Rattle.fir_meaning.specs.LeafModules.{LeafArray, LeafDeclared, Role, sink}
-use Rattle.fir_design.specs.working.SourceRoles as tree
-use Rattle.fir_design.specs.working.SourceRoles.{SourceRole}
+use Rattle.fir_meaning.specs.SourceRoles as tree
+use Rattle.fir_meaning.specs.SourceRoles.{SourceRole}
 use Rattle.fir_design.proofs.MemoryPortPaths.{behind_field}
 use Rattle.fir_design.proofs.RolesInOrder.{SameInOrder, roles_joined}
 

@@ -7,7 +7,7 @@ use Rattle.fir_meaning.proofs.LeafSteps.{behind_step}
 use Rattle.fir_meaning.specs.LeafMemories.{PortKind, port_size, port_writings, reads, reads_and_writes, writes, writings_from}
 use Rattle.fir_meaning.specs.LeafModules.{LeafDeclared}
 use Rattle.fir_design.specs.working.SameRoles.{path_at, writing_on}
-use Rattle.fir_design.specs.working.SourceRoles.{NamedPort, PathWriting, port_writing, writings_at}
+use Rattle.fir_meaning.specs.SourceRoles.{NamedPort, PathWriting, port_writing, writings_at}
 use Rattle.fir_design.proofs.MemoryPortPaths.{behind_field, kind_paths, port_long, port_paths}
 use Rattle.fir_design.proofs.MemoryPortPlaces.{AtPort, address_there, clock_there, enable_there, field_behind, field_first, field_there, fields_there, given_there, mode_there}
 use Rattle.fir_design.proofs.StandingLists.{Stands, stands_left, stands_right, stands_unmapped}

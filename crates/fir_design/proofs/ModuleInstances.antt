@@ -14,7 +14,7 @@ use Rattle.fir_meaning.specs.Components.{Declaration, Declarations}
 use Rattle.fir_meaning.specs.TypeGroup.{scope_at}
 use Rattle.fir_meaning.specs.TypedScopes.{Known, TypedScope}
 use Rattle.fir_meaning.specs.Visibility.{declarations}
-use Rattle.fir_leaf.specs.working.DesignPaths.{instance_name}
+use Rattle.fir_meaning.specs.DesignPaths.{instance_name}
 use Rattle.fir_meaning.specs.LeafBlocks.{HeldInstance}
 use Rattle.fir_meaning.specs.LeafedModules.{Scene, behind_all_ports, leafed_module}
 use Rattle.fir_design.proofs.DeclaredInstances.{IsDeclared, instance_within}

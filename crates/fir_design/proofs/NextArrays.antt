@@ -5,17 +5,17 @@ use Rattle.fir_ast.specs.declared.statements.ReadUnderWrite.{ReadUnderWrite}
 use Rattle.fir_ast.specs.declared.statements.ReadUnderWrite.TheVariants.{New, Old, Undefined}
 use Rattle.fir_meaning.specs.LeafPaths.{LeafPath}
 use Rattle.fir_leaf.specs.working.DesignStates.{array_at}
-use Rattle.fir_leaf.specs.working.LeafCircuits.{LeafCircuit}
+use Rattle.fir_meaning.specs.LeafCircuits.{LeafCircuit}
 use Rattle.fir_meaning.specs.LeafModules.{Reading, Writing}
-use Rattle.fir_leaf.specs.working.Memories as over_memories
-use Rattle.fir_leaf.specs.working.Memories.{addresses, has_edge}
-use Rattle.fir_leaf.specs.working.TreeStores.{same_path}
-use Rattle.fir_design.specs.working.SourceAllows as tree
-use Rattle.fir_design.specs.working.SourceCircuits.{PlacedArray, all_arrays, array_path, state_arrays}
-use Rattle.fir_design.specs.working.SourceDesigns.{SourceDesign}
-use Rattle.fir_design.specs.working.SourceRoles.{PathReading, PathWriting}
-use Rattle.fir_design.specs.working.SourceStores.{below}
-use Rattle.fir_design.specs.working.SourceValues.{PathEnv, word_before}
+use Rattle.fir_meaning.specs.Memories as over_memories
+use Rattle.fir_meaning.specs.Memories.{addresses, has_edge}
+use Rattle.fir_meaning.specs.TreeStores.{same_path}
+use Rattle.fir_meaning.specs.SourceAllows as tree
+use Rattle.fir_meaning.specs.SourceCircuits.{PlacedArray, all_arrays, array_path, state_arrays}
+use Rattle.fir_meaning.specs.SourceDesigns.{SourceDesign}
+use Rattle.fir_meaning.specs.SourceRoles.{PathReading, PathWriting}
+use Rattle.fir_meaning.specs.SourceStores.{below}
+use Rattle.fir_meaning.specs.SourceValues.{PathEnv, word_before}
 use Rattle.fir_design.proofs.ArraysInStep.{array_found, array_there, array_within, path_of_array, word_before_same}
 use Rattle.fir_design.proofs.InStep.{InStep, SameReading, SameWriting, SameWritings}
 use Rattle.fir_design.proofs.PathLookups.{found, flat_mapped_same}

@@ -3,21 +3,21 @@ use Rattle.std.proofs.Common.{◌≡◌, ℕ, ◌<◌, List, [], ◌++◌, Bool,
 use Rattle.fir_base.specs.Ticks.{Tick}
 use Rattle.fir_ast.specs.declared.statements.ReadUnderWrite.{ReadUnderWrite}
 use Rattle.fir_meaning.specs.LeafPaths.{LeafPath}
-use Rattle.fir_leaf.specs.working.LeafCircuits.{LeafCircuit, role_of}
+use Rattle.fir_meaning.specs.LeafCircuits.{LeafCircuit, role_of}
 use Rattle.fir_meaning.specs.LeafModules as role
 use Rattle.fir_meaning.specs.LeafModules.{LeafReset, Role}
-use Rattle.fir_leaf.specs.working.LeafNext as over
-use Rattle.fir_leaf.specs.working.Memories as over_memories
-use Rattle.fir_leaf.specs.working.Memories.{has_edge}
-use Rattle.fir_leaf.specs.working.LeafStates.{look}
+use Rattle.fir_meaning.specs.LeafNext as over
+use Rattle.fir_meaning.specs.Memories as over_memories
+use Rattle.fir_meaning.specs.Memories.{has_edge}
+use Rattle.fir_meaning.specs.LeafStates.{look}
 use Rattle.fir_leaf.specs.working.SoundDesigns.{circuit_path}
-use Rattle.fir_design.specs.working.SourceAllows as tree
-use Rattle.fir_design.specs.working.SourceCircuits.{PlacedLeaf, all_leaves, leaf_path, state_words}
-use Rattle.fir_design.specs.working.SourceDesigns.{SourceDesign}
-use Rattle.fir_design.specs.working.SourceRoles as source
-use Rattle.fir_design.specs.working.SourceRoles.{SourceReset, SourceRole}
-use Rattle.fir_design.specs.working.SourceStores.{below}
-use Rattle.fir_design.specs.working.SourceValues.{PathEnv, init_of, is_true_at}
+use Rattle.fir_meaning.specs.SourceAllows as tree
+use Rattle.fir_meaning.specs.SourceCircuits.{PlacedLeaf, all_leaves, leaf_path, state_words}
+use Rattle.fir_meaning.specs.SourceDesigns.{SourceDesign}
+use Rattle.fir_meaning.specs.SourceRoles as source
+use Rattle.fir_meaning.specs.SourceRoles.{SourceReset, SourceRole}
+use Rattle.fir_meaning.specs.SourceStores.{below}
+use Rattle.fir_meaning.specs.SourceValues.{PathEnv, init_of, is_true_at}
 use Rattle.fir_design.proofs.InStep.{InStep, MaySameResetBelow, SameRoleBelow}
 use Rattle.fir_design.proofs.LeavesInStep.{leaf_within}
 use Rattle.fir_design.proofs.NextArrays.{arrays_next_same, piped_same}

@@ -3,22 +3,22 @@ use Rattle.std.proofs.Common.{◌≡◌, ℕ, map, slice_get, Some, refl, ap, ap
 use Rattle.fir_bits.specs.Operators.{no_operand}
 use Rattle.fir_ast.specs.Types.{DataType}
 use Rattle.fir_ast.specs.Expressions.{Expression, reference}
-use Rattle.fir_meaning.specs.Exec.{fit}
+use Rattle.fir_meaning.specs.Values.{fit}
 use Rattle.fir_meaning.specs.LeafPaths.{LeafPath}
 use Rattle.fir_meaning.specs.TypeLeaves.{TypeLeaf, type_leaves}
 use Rattle.fir_meaning.specs.TypedScopes.{TypedScope}
 use Rattle.fir_meaning.specs.working.WellTyped.{HasType}
-use Rattle.fir_leaf.specs.working.DesignPaths.{seen}
-use Rattle.fir_leaf.specs.working.DesignStores.{number_given}
+use Rattle.fir_meaning.specs.DesignPaths.{seen}
+use Rattle.fir_meaning.specs.DesignStores.{number_given}
 use Rattle.fir_leaf.specs.working.LeafLaws.{Begins, path_at}
 use Rattle.fir_meaning.specs.Leafed.{terms}
 use Rattle.fir_meaning.specs.LeafedBlocks.{term_at}
 use Rattle.fir_meaning.specs.LeafedModules.{Scene, leafed_module}
 use Rattle.fir_meaning.specs.TermValues.{eval}
-use Rattle.fir_leaf.specs.working.TreeValues.{TypesByPath, ValuesByPath, value}
+use Rattle.fir_meaning.specs.TreeValues.{TypesByPath, ValuesByPath, value}
 use Rattle.fir_leaf.proofs.LeafValues.{fine_values_same}
 use Rattle.fir_leaf.proofs.PairStores.{term_value}
-use Rattle.fir_design.specs.working.SourceStores.{below, number_gifts}
+use Rattle.fir_meaning.specs.SourceStores.{below, number_gifts}
 use Rattle.fir_design.proofs.FineScenes.{IsFineScene, whole_scope}
 use Rattle.fir_design.proofs.SeenPaths.{path_is, seen_is}
 use Rattle.fir_design.proofs.SourceConnects.{Gives}

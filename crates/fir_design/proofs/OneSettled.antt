@@ -5,19 +5,20 @@ use Rattle.fir_base.specs.Ticks.{HasShape, Shape, Tick}
 use Rattle.fir_base.proofs.Elements.{number_of}
 use Rattle.fir_base.proofs.Members.{in_map_from}
 use Rattle.fir_meaning.specs.LeafPaths.{LeafPath}
-use Rattle.fir_leaf.specs.working.Flattened.{flattened}
-use Rattle.fir_leaf.specs.working.LeafAllows as over
-use Rattle.fir_leaf.specs.working.LeafCircuits.{LeafCircuit}
-use Rattle.fir_leaf.specs.working.LeafSettled as over_settled
+use Rattle.fir_meaning.specs.Flattened.{flattened}
+use Rattle.fir_meaning.specs.LeafAllows as over
+use Rattle.fir_meaning.specs.LeafCircuits.{LeafCircuit}
+use Rattle.fir_meaning.specs.LeafSettled as over_settled
 use Rattle.fir_leaf.specs.working.SoundDesigns.{circuit_path}
 use Rattle.fir_meaning.specs.TermValues.{Env}
-use Rattle.fir_leaf.specs.working.TreeStores.{same_path}
+use Rattle.fir_meaning.specs.TreeStores.{same_path}
 use Rattle.fir_leaf.proofs.FlatStores.{same_path_is, same_path_refl}
-use Rattle.fir_design.specs.working.SourceAllows.{Settled}
-use Rattle.fir_design.specs.working.SourceCircuits.{all_leaves, leaf_path, paths_of}
-use Rattle.fir_design.specs.working.SourceDesigns.{SourceDesign}
-use Rattle.fir_design.specs.working.SourceRuns.{HasOne, One, SameOne}
-use Rattle.fir_design.specs.working.SourceValues.{PathEnv}
+use Rattle.fir_meaning.specs.SourceAllows.{Settled}
+use Rattle.fir_meaning.specs.SourceCircuits.{all_leaves, leaf_path, paths_of}
+use Rattle.fir_meaning.specs.SourceDesigns.{SourceDesign}
+use Rattle.fir_meaning.specs.SourceOne.{HasOne, One}
+use Rattle.fir_design.specs.working.SourceRuns.{SameOne}
+use Rattle.fir_meaning.specs.SourceValues.{PathEnv}
 use Rattle.fir_design.proofs.EnvsByPath.{by_path, nothing_elsewhere, there_and_back}
 use Rattle.fir_design.proofs.InStep.{InStep}
 use Rattle.fir_design.proofs.SettledInStep.{settled_by_number, settled_by_path}

@@ -9,11 +9,11 @@ use Rattle.fir_ast.specs.Circuits.{CircuitTree}
 use Rattle.fir_meaning.specs.NameGroups.{HasNames}
 use Rattle.fir_meaning.specs.ResetJoins.{numbered_module}
 use Rattle.fir_meaning.specs.Visibility.{declarations}
-use Rattle.fir_leaf.specs.working.Designs.{Item, drive, when, instance, Items, done, then, Design, made_of, statement_of, block_of, IsItemIn, AreItemsIn, IsDesignOf}
+use Rattle.fir_meaning.specs.Designs.{Item, drive, when, instance, Items, done, then, Design, made_of, statement_of, block_of, IsItemIn, AreItemsIn, IsDesignOf}
 use Rattle.fir_meaning.specs.LeafedModules.{Scene, behind_all_ports, driven_leaves, leafed_module}
-use Rattle.fir_design.specs.working.CircuitDesigns.{AreScenes, views}
-use Rattle.fir_design.specs.working.SourceDesigns.{AreInstances, InstanceOf, Instances, IsSourceDesignOf, SourceDesign, held, no_instances, scene_of, scene_where}
-use Rattle.fir_design.specs.working.SourceDesigns as source
+use Rattle.fir_meaning.specs.Elaborated.{AreScenes, views}
+use Rattle.fir_meaning.specs.SourceDesigns.{AreInstances, InstanceOf, Instances, IsSourceDesignOf, SourceDesign, held, no_instances, scene_of, scene_where}
+use Rattle.fir_meaning.specs.SourceDesigns as source
 use Rattle.fir_design.specs.working.SourceLaws.{HasOneTree}
 use Rattle.fir_design.proofs.FoundInstances.{instances_found, instances_in}
 use Rattle.fir_design.proofs.HeldInstances.{Held, all_held_in, held_in}

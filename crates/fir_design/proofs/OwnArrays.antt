@@ -6,11 +6,11 @@ use Rattle.std.proofs.lemmas.Simd.{map-map}
 use Rattle.fir_base.specs.Lists.{In}
 use Rattle.fir_meaning.specs.LeafPaths.{LeafPath}
 use Rattle.fir_meaning.specs.LeafModules.{LeafArray, LeafModule}
-use Rattle.fir_leaf.specs.working.StateWalks.{has_bits, own_arrays}
+use Rattle.fir_meaning.specs.StateWalks.{has_bits, own_arrays}
 use Rattle.fir_leaf.proofs.FlatPlaces.{At, at_left, at_right}
 use Rattle.fir_design.specs.working.SameRoles.{array_on}
-use Rattle.fir_design.specs.working.SourceCircuits.{PlacedArray, is_stored_array, placed_arrays}
-use Rattle.fir_design.specs.working.SourceRoles.{SourceArray}
+use Rattle.fir_meaning.specs.SourceCircuits.{PlacedArray, is_stored_array, placed_arrays}
+use Rattle.fir_meaning.specs.SourceRoles.{SourceArray}
 use Rattle.fir_design.proofs.ArrayRuns.{array_declaration}
 use Rattle.fir_design.proofs.ChosenNumbers.{AreChosen, chosen_same}
 use Rattle.fir_design.proofs.DeclaredRuns.{IsRun, StandsAlone, alone_first, alone_second, own_numbers}

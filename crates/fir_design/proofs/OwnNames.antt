@@ -15,7 +15,7 @@ use Rattle.fir_meaning.specs.MemoryTypes.{data_of_part, first_one}
 use Rattle.fir_meaning.specs.SizedMemories.{sized_array}
 use Rattle.fir_meaning.specs.TypeLeaves.{TypeLeaf}
 use Rattle.fir_meaning.specs.Visibility.{Before, behind, behind_block, declaration_at, declarations, opened, reopened}
-use Rattle.fir_leaf.specs.working.DesignPaths.{no_name}
+use Rattle.fir_meaning.specs.DesignPaths.{no_name}
 use Rattle.fir_leaf.specs.working.DesignStates.{array_at, no_array}
 use Rattle.fir_meaning.specs.LeafMemories.{LeafMemory, arrays_from, leaves_of_data}
 use Rattle.fir_meaning.specs.LeafModules.{LeafArray, LeafType, leaf_at}

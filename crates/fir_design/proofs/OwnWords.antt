@@ -6,14 +6,14 @@ use Rattle.fir_base.specs.Lists.{In}
 use Rattle.fir_base.proofs.Elements.{get_behind}
 use Rattle.fir_meaning.specs.LeafPaths.{LeafPath}
 use Rattle.fir_meaning.specs.LeafModules.{LeafArray, LeafDeclared, LeafModule}
-use Rattle.fir_leaf.specs.working.Numberings.{Numbering, number}
-use Rattle.fir_leaf.specs.working.StateWalks.{has_bits, own_words}
-use Rattle.fir_leaf.specs.working.StateWalks as over
+use Rattle.fir_meaning.specs.Numberings.{Numbering, number}
+use Rattle.fir_meaning.specs.StateWalks.{has_bits, own_words}
+use Rattle.fir_meaning.specs.StateWalks as over
 use Rattle.fir_leaf.proofs.FlatPlaces.{At, at_right}
 use Rattle.fir_leaf.proofs.MovedTerms.{number_own}
 use Rattle.fir_design.specs.working.SameRoles.{SameLeaves}
-use Rattle.fir_design.specs.working.SourceCircuits.{PlacedLeaf, is_state, is_word, placed, role_within, within}
-use Rattle.fir_design.specs.working.SourceRoles.{SourceLeaf, SourceRole, computed, pipe, reading, register, sink, source}
+use Rattle.fir_meaning.specs.SourceCircuits.{PlacedLeaf, is_state, is_word, placed, role_within, within}
+use Rattle.fir_meaning.specs.SourceRoles.{SourceLeaf, SourceRole, computed, pipe, reading, register, sink, source}
 use Rattle.fir_design.proofs.ChosenNumbers.{AreChosen, chosen_same}
 use Rattle.fir_design.proofs.DeclaredRuns.{StandsAlone, own_numbers}
 use Rattle.fir_design.proofs.LeafRuns.{declaration_of}

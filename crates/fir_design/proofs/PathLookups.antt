@@ -4,10 +4,10 @@ use Rattle.std.proofs.lemmas.Bool.{cases_eq, eq-eqb, ne_eqb, false_from_ne_true}
 use Rattle.std.proofs.lemmas.List.Folds.{flat_map-map}
 use Rattle.fir_base.specs.Lists.{In}
 use Rattle.fir_meaning.specs.LeafPaths.{LeafPath}
-use Rattle.fir_leaf.specs.working.LeafStates.{look, place_in}
-use Rattle.fir_leaf.specs.working.TreeStores.{same_path}
+use Rattle.fir_meaning.specs.LeafStates.{look, place_in}
+use Rattle.fir_meaning.specs.TreeStores.{same_path}
 use Rattle.fir_leaf.proofs.FlatStores.{same_path_is, same_path_refl}
-use Rattle.fir_design.specs.working.SourceValues.{look_on, place_on}
+use Rattle.fir_meaning.specs.SourceValues.{look_on, place_on}
 
 -- what the first element with a path gives
 module _ {A B : Type 0} (path_of : A → LeafPath) (give : A → B) (none : B) where

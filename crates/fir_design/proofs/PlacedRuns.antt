@@ -9,8 +9,8 @@ use Rattle.fir_meaning.specs.Visibility.{Before, declaration_at, with_declaratio
 use Rattle.fir_meaning.specs.LeafModules.{LeafDeclared, LeafModule}
 use Rattle.fir_leaf.proofs.FlatPlaces.{At, at_left, at_right}
 use Rattle.fir_design.specs.working.SameRoles.{SameLeaves}
-use Rattle.fir_design.specs.working.SourceCircuits.{PlacedLeaf, placed, within}
-use Rattle.fir_design.specs.working.SourceRoles.{SourceLeaf}
+use Rattle.fir_meaning.specs.SourceCircuits.{PlacedLeaf, placed, within}
+use Rattle.fir_meaning.specs.SourceRoles.{SourceLeaf}
 use Rattle.fir_design.proofs.DeclaredInstances.{Grows}
 use Rattle.fir_design.proofs.DeclaredRuns.{IsRun, StandsAlone, alone_first, alone_second}
 use Rattle.fir_design.proofs.LeafRuns.{declaration_of}

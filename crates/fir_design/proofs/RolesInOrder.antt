@@ -6,7 +6,7 @@ use Rattle.fir_meaning.specs.TypeLeaves.{TypeLeaf}
 use Rattle.fir_meaning.specs.LeafModules.{LeafArray, LeafDeclared, LeafType, Role, source}
 use Rattle.fir_meaning.specs.LeafedModules.{Declared, leaves_from}
 use Rattle.fir_design.specs.working.SameRoles.{SameLeaves, SameRole}
-use Rattle.fir_design.specs.working.SourceRoles.{SourceRole, source_leaves_of}
+use Rattle.fir_meaning.specs.SourceRoles.{SourceRole, source_leaves_of}
 
 module _ (leaves : List LeafDeclared) (arrays : List LeafArray) where
   abbrev pub SameInOrder : List Role → List SourceRole → Type 0

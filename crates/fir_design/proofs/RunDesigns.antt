@@ -9,19 +9,19 @@ use Rattle.fir_meaning.specs.LeafPaths.{LeafPath}
 use Rattle.fir_meaning.specs.NameGroups.{HasNames}
 use Rattle.fir_meaning.specs.TypeGroup.{type_faults}
 use Rattle.fir_meaning.specs.Visibility.{declarations}
-use Rattle.fir_leaf.specs.working.DesignPaths.{instance_name, instance_path, seen}
-use Rattle.fir_leaf.specs.working.DesignStores.{DesignStore, exec_below, exec_item, exec_items}
-use Rattle.fir_leaf.specs.working.Designs.{AreItemsIn, Design, IsDesignOf, IsItemIn, Item, Items, block_of, done, drive, instance, made_of, statement_of, then, when}
+use Rattle.fir_meaning.specs.DesignPaths.{instance_name, instance_path, seen}
+use Rattle.fir_meaning.specs.DesignStores.{DesignStore, exec_below, exec_item, exec_items}
+use Rattle.fir_meaning.specs.Designs.{AreItemsIn, Design, IsDesignOf, IsItemIn, Item, Items, block_of, done, drive, instance, made_of, statement_of, then, when}
 use Rattle.fir_meaning.specs.LeafModules.{LeafModule}
 use Rattle.fir_meaning.specs.LeafedModules.{Scene, behind_all_ports, leafed_module}
 use Rattle.fir_meaning.specs.Terms.{Term}
 use Rattle.fir_meaning.specs.TermValues.{is_true}
-use Rattle.fir_leaf.specs.working.TreeValues.{TypesByPath, ValuesByPath}
+use Rattle.fir_meaning.specs.TreeValues.{TypesByPath, ValuesByPath}
 use Rattle.fir_leaf.proofs.ScopesBegin.{begins_all}
-use Rattle.fir_design.specs.working.CircuitDesigns.{AreScenes, views}
-use Rattle.fir_design.specs.working.SourceDesigns.{Instances, IsSourceDesignOf, SourceDesign}
-use Rattle.fir_design.specs.working.SourceDesigns as source
-use Rattle.fir_design.specs.working.SourceStores.{Gifts, exec_design, exec_instances}
+use Rattle.fir_meaning.specs.Elaborated.{AreScenes, views}
+use Rattle.fir_meaning.specs.SourceDesigns.{Instances, IsSourceDesignOf, SourceDesign}
+use Rattle.fir_meaning.specs.SourceDesigns as source
+use Rattle.fir_meaning.specs.SourceStores.{Gifts, exec_design, exec_instances}
 use Rattle.fir_design.proofs.FineScenes.{IsFineScene, fine_scene, whole_scope}
 use Rattle.fir_design.proofs.FoundInstances.{instances_found}
 use Rattle.fir_design.proofs.HeldInstances.{Held, all_held_in, held_in}

@@ -7,7 +7,7 @@ use Rattle.fir_meaning.specs.LeafMemories.{leaves_of_data}
 use Rattle.fir_meaning.specs.LeafModules.{LeafArray, LeafDeclared, Role}
 use Rattle.fir_meaning.specs.LeafedModules.{Declared, Scene, declared_leaves, held_by_declared, leafed_module, module_leaves, type_of_declared}
 use Rattle.fir_design.specs.working.SameRoles.{SameLeaves, SameRole, array_on}
-use Rattle.fir_design.specs.working.SourceRoles.{SourceArray, SourceLeaf, SourceRole, declared_sources}
+use Rattle.fir_meaning.specs.SourceRoles.{SourceArray, SourceLeaf, SourceRole, declared_sources}
 use Rattle.fir_design.proofs.RolesInOrder as one
 
 module _ (leaves : List LeafDeclared) (arrays : List LeafArray) where

@@ -17,12 +17,12 @@ use Rattle.fir_meaning.specs.LeafedBlocks.{term_at}
 use Rattle.fir_meaning.specs.LeafedModules.{Scene, leaf_reset, module_leaves}
 use Rattle.fir_meaning.specs.Terms.{Term}
 use Rattle.fir_meaning.specs.TermValues.{eval}
-use Rattle.fir_leaf.specs.working.TreeValues.{value}
+use Rattle.fir_meaning.specs.TreeValues.{value}
 use Rattle.fir_leaf.proofs.AlikeTypes.{alike_types}
 use Rattle.fir_leaf.proofs.LeafValues.{fine_values_same}
 use Rattle.fir_leaf.proofs.PairStores.{term_value}
 use Rattle.fir_design.specs.working.SameRoles.{MaySameReset, SameTerm, by_number}
-use Rattle.fir_design.specs.working.SourceRoles.{source_reset}
+use Rattle.fir_meaning.specs.SourceRoles.{source_reset}
 use Rattle.fir_design.proofs.ClockGifts.{clock_gives}
 use Rattle.fir_design.proofs.FineScenes.{IsFineScene, leaf_path, whole_scope}
 

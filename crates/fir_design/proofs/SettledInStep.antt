@@ -4,13 +4,13 @@ use Rattle.fir_base.specs.Lists.{In}
 use Rattle.fir_base.specs.Ticks.{HasShape, Shape, Tick}
 use Rattle.fir_base.proofs.Elements.{get_in, number_of}
 use Rattle.fir_meaning.specs.LeafPaths.{LeafPath}
-use Rattle.fir_leaf.specs.working.LeafCircuits.{LeafCircuit, role_of}
+use Rattle.fir_meaning.specs.LeafCircuits.{LeafCircuit, role_of}
 use Rattle.fir_meaning.specs.LeafModules.{LeafDeclared, LeafType, a_clock, leaf_at, number}
-use Rattle.fir_leaf.specs.working.LeafSettled as over
-use Rattle.fir_design.specs.working.SourceAllows as tree
-use Rattle.fir_design.specs.working.SourceCircuits.{PlacedLeaf, all_leaves, leaf_path, paths_of}
-use Rattle.fir_design.specs.working.SourceDesigns.{SourceDesign}
-use Rattle.fir_design.specs.working.SourceValues.{PathEnv, clock_shown, number_shown}
+use Rattle.fir_meaning.specs.LeafSettled as over
+use Rattle.fir_meaning.specs.SourceAllows as tree
+use Rattle.fir_meaning.specs.SourceCircuits.{PlacedLeaf, all_leaves, leaf_path, paths_of}
+use Rattle.fir_meaning.specs.SourceDesigns.{SourceDesign}
+use Rattle.fir_meaning.specs.SourceValues.{PathEnv, clock_shown, number_shown}
 use Rattle.fir_design.proofs.InStep.{InStep}
 use Rattle.fir_design.proofs.LeavesInStep.{beyond, leaf_there, leaf_within, never_empty}
 use Rattle.fir_design.proofs.ShapesInStep.{shape_is_same}

@@ -2,17 +2,17 @@
 use Rattle.std.proofs.Common.{◌≡◌, ℕ, ◌<◌, List, length, Some, refl, ap, ◌∙◌}
 use Rattle.fir_bits.specs.declared.values.Num.{Num}
 use Rattle.fir_meaning.specs.LeafPaths.{LeafPath}
-use Rattle.fir_leaf.specs.working.LeafCircuits.{LeafCircuit}
+use Rattle.fir_meaning.specs.LeafCircuits.{LeafCircuit}
 use Rattle.fir_meaning.specs.LeafModules as role
 use Rattle.fir_meaning.specs.LeafModules.{Role, number}
-use Rattle.fir_leaf.specs.working.LeafSettled as over
-use Rattle.fir_leaf.specs.working.LeafStates.{look}
+use Rattle.fir_meaning.specs.LeafSettled as over
+use Rattle.fir_meaning.specs.LeafStates.{look}
 use Rattle.fir_leaf.specs.working.SoundDesigns.{circuit_path}
-use Rattle.fir_design.specs.working.SourceCircuits.{inputs, paths_of, state_words}
-use Rattle.fir_design.specs.working.SourceDesigns.{SourceDesign}
-use Rattle.fir_design.specs.working.SourceRoles as source
-use Rattle.fir_design.specs.working.SourceRoles.{SourceRole}
-use Rattle.fir_design.specs.working.SourceValues.{PathEnv, clock_shown, look_on, number_shown, place_on, register_shown}
+use Rattle.fir_meaning.specs.SourceCircuits.{inputs, paths_of, state_words}
+use Rattle.fir_meaning.specs.SourceDesigns.{SourceDesign}
+use Rattle.fir_meaning.specs.SourceRoles as source
+use Rattle.fir_meaning.specs.SourceRoles.{SourceRole}
+use Rattle.fir_meaning.specs.SourceValues.{PathEnv, clock_shown, look_on, number_shown, place_on, register_shown}
 use Rattle.fir_design.proofs.InStep.{InStep, SameRoleBelow}
 use Rattle.fir_design.proofs.LeavesInStep.{word_paths, word_within}
 use Rattle.fir_design.proofs.PathLookups.{look_same, place_same}

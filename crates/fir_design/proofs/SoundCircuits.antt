@@ -8,12 +8,13 @@ use Rattle.fir_meaning.specs.NameGroups.{HasNames}
 use Rattle.fir_meaning.specs.ResetJoins.{numbered_module}
 use Rattle.fir_meaning.specs.TypeGroup.{type_faults}
 use Rattle.fir_meaning.specs.Visibility.{declarations}
-use Rattle.fir_leaf.specs.working.Designs.{module_of}
+use Rattle.fir_meaning.specs.Designs.{module_of}
 use Rattle.fir_meaning.specs.LeafedModules.{Scene, leafed_module}
 use Rattle.fir_leaf.specs.working.NamedDesigns.{IsOwnInstance}
 use Rattle.fir_leaf.specs.working.SoundDesigns.{IsHeld}
 use Rattle.fir_leaf.proofs.OncePaths.{names_make_sound}
-use Rattle.fir_design.specs.working.CircuitDesigns.{AreScenes, HasSoundDesigns, views}
+use Rattle.fir_meaning.specs.Elaborated.{AreScenes, views}
+use Rattle.fir_design.specs.working.CircuitDesigns.{HasSoundDesigns}
 use Rattle.fir_design.proofs.DeclaredInstances.{AreDeclared, IsDeclared}
 use Rattle.fir_design.proofs.DesignsOfModules.{IsRight, IsRightInstance, main_design, named_design, nothing_right}
 use Rattle.fir_design.proofs.FineScenes.{IsFineScene, fine_scene}

@@ -7,15 +7,15 @@ use Rattle.fir_ast.specs.Statements.{PlacedName, Statement, wire, register, node
 use Rattle.fir_ast.specs.Circuits.{ModuleTree}
 use Rattle.fir_meaning.specs.ConnectPairs.{pairs, partial_pairs}
 use Rattle.fir_meaning.specs.Equivalence.{is_connectable, is_partly_connectable}
-use Rattle.fir_meaning.specs.Eval.{is_high}
+use Rattle.fir_meaning.specs.Values.{is_high}
 use Rattle.fir_meaning.specs.LeafPaths.{LeafPath}
 use Rattle.fir_meaning.specs.ResetJoins.{numbered_module}
 use Rattle.fir_meaning.specs.TypeGroup.{scope_at}
 use Rattle.fir_meaning.specs.TypedScopes.{TypedScope}
 use Rattle.fir_meaning.specs.Visibility.{Before, opened, reopened, behind, behind_block, declarations}
 use Rattle.fir_meaning.specs.working.WellTyped.{AreLegal, HasType, IsLegal}
-use Rattle.fir_leaf.specs.working.DesignPaths.{seen}
-use Rattle.fir_leaf.specs.working.DesignStores.{DesignStore}
+use Rattle.fir_meaning.specs.DesignPaths.{seen}
+use Rattle.fir_meaning.specs.DesignStores.{DesignStore}
 use Rattle.fir_leaf.specs.working.LeafLaws.{Begins}
 use Rattle.fir_meaning.specs.LeafModules.{LeafModule}
 use Rattle.fir_meaning.specs.LeafPairs.{leaf_pairs, partial_leaf_pairs}
@@ -24,13 +24,13 @@ use Rattle.fir_meaning.specs.LeafedBlocks.{instance_block, leafed, leafed_all}
 use Rattle.fir_meaning.specs.LeafedModules.{Scene, driven_leaves, leafed_module}
 use Rattle.fir_meaning.specs.Terms.{Term}
 use Rattle.fir_meaning.specs.TermValues.{eval, is_true}
-use Rattle.fir_leaf.specs.working.TreeValues.{TypesByPath, ValuesByPath, aim_of, value}
+use Rattle.fir_meaning.specs.TreeValues.{TypesByPath, ValuesByPath, aim_of, value}
 use Rattle.fir_leaf.proofs.LeafValues.{fine_values_same, reaches_stands}
 use Rattle.fir_leaf.proofs.PairsByNumber.{pairs_numbered, partial_numbered}
 use Rattle.fir_leaf.proofs.ScopesBegin.{begins_block, begins_through}
 use Rattle.fir_leaf.proofs.TargetValues.{first_same}
-use Rattle.fir_design.specs.working.SourceDesigns.{instances_of, instances_of_block}
-use Rattle.fir_design.specs.working.SourceStores.{Gifts, below, exec_source, exec_source_all, source_is_taken}
+use Rattle.fir_meaning.specs.SourceDesigns.{instances_of, instances_of_block}
+use Rattle.fir_meaning.specs.SourceStores.{Gifts, below, exec_source, exec_source_all, source_is_taken}
 use Rattle.fir_design.proofs.DeclaredInstances.{Grows}
 use Rattle.fir_design.proofs.FineScenes.{IsFineScene, whole_scope}
 use Rattle.fir_design.proofs.RunBlocks.{run, run_joined}

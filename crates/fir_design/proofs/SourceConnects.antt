@@ -12,7 +12,7 @@ use Rattle.fir_meaning.specs.TypeLeaves.{TypeLeaf, type_leaves}
 use Rattle.fir_meaning.specs.TypedScopes.{TypedScope}
 use Rattle.fir_meaning.specs.working.WellTyped.{ConnectIsLegal, HasType, Reaches}
 use Rattle.fir_meaning.proofs.FoundTypes.{found_type}
-use Rattle.fir_leaf.specs.working.DesignStores.{DesignStore}
+use Rattle.fir_meaning.specs.DesignStores.{DesignStore}
 use Rattle.fir_leaf.specs.working.LeafLaws.{Begins, path_at}
 use Rattle.fir_meaning.specs.LeafModules.{LeafModule}
 use Rattle.fir_meaning.specs.LeafPairs.{LeafPair}
@@ -20,10 +20,10 @@ use Rattle.fir_meaning.specs.Leafed.{target_of, target_read, target_terms, terms
 use Rattle.fir_meaning.specs.LeafedBlocks.{connect_block, term_at, type_where}
 use Rattle.fir_meaning.specs.LeafedModules.{Scene, leafed_module}
 use Rattle.fir_meaning.specs.Terms.{Term, zeros}
-use Rattle.fir_leaf.specs.working.TreeValues.{TypesByPath, ValuesByPath, aim_of, aim_read}
+use Rattle.fir_meaning.specs.TreeValues.{TypesByPath, ValuesByPath, aim_of, aim_read}
 use Rattle.fir_leaf.proofs.LeafValues.{reaches_stands}
 use Rattle.fir_leaf.proofs.PairsByNumber.{IsPair, ArePairs}
-use Rattle.fir_design.specs.working.SourceStores.{Gifts, below, source_connect}
+use Rattle.fir_meaning.specs.SourceStores.{Gifts, below, source_connect}
 use Rattle.fir_design.proofs.FineScenes.{IsFineScene, whole_scope}
 use Rattle.fir_design.proofs.KeptLeaves.{NameSame, nothing_named, standing_named}
 use Rattle.fir_design.proofs.RunBlocks.{run}

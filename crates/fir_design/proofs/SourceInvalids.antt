@@ -4,7 +4,7 @@ use Rattle.std.proofs.lemmas.Option.{slice_get_within}
 use Rattle.fir_ast.specs.declared.place.Place.{Place}
 use Rattle.fir_meaning.specs.LeafPaths.{LeafPath}
 use Rattle.fir_meaning.specs.TypeLeaves.{TypeLeaf, type_leaves}
-use Rattle.fir_leaf.specs.working.DesignStores.{DesignStore}
+use Rattle.fir_meaning.specs.DesignStores.{DesignStore}
 use Rattle.fir_meaning.specs.LeafBlocks.{LeafBlock}
 use Rattle.fir_meaning.specs.LeafBlocks as over
 use Rattle.fir_leaf.specs.working.LeafLaws.{path_at}
@@ -14,12 +14,12 @@ use Rattle.fir_meaning.specs.LeafedModules.{Scene, driven_leaves, leafed_module}
 use Rattle.fir_leaf.specs.working.Standing.{Stands}
 use Rattle.fir_meaning.specs.Targets.{Target}
 use Rattle.fir_meaning.specs.Terms.{Term, zeros}
-use Rattle.fir_leaf.specs.working.TreeAims.{Aim}
-use Rattle.fir_leaf.specs.working.TreeStores.{may_be_driven}
-use Rattle.fir_leaf.specs.working.TreeValues.{TypesByPath, ValuesByPath, leaf_where}
+use Rattle.fir_meaning.specs.TreeAims.{Aim}
+use Rattle.fir_meaning.specs.TreeStores.{may_be_driven}
+use Rattle.fir_meaning.specs.TreeValues.{TypesByPath, ValuesByPath, leaf_where}
 use Rattle.fir_leaf.proofs.LeafPlaces.{leaves_counted}
-use Rattle.fir_design.specs.working.SourceFacts.{source_may_drive}
-use Rattle.fir_design.specs.working.SourceStores.{Gifts, below, source_invalid, source_invalidated, source_kept}
+use Rattle.fir_meaning.specs.SourceFacts.{source_may_drive}
+use Rattle.fir_meaning.specs.SourceStores.{Gifts, below, source_invalid, source_invalidated, source_kept}
 use Rattle.fir_design.proofs.FineScenes.{IsFineScene, leaves_long, whole_scope}
 use Rattle.fir_design.proofs.KeptLeaves.{driven_kept, standing_named}
 use Rattle.fir_design.proofs.RunBlocks.{run, run_joined}

@@ -20,9 +20,9 @@ use Rattle.fir_meaning.specs.LeafMemories.{leaves_of_data}
 use Rattle.fir_meaning.specs.LeafModules.{leaf_at, may_drive}
 use Rattle.fir_meaning.specs.LeafedModules.{Scene, module_leaves}
 use Rattle.fir_leaf.specs.working.TableLaws.{IsLeafOf}
-use Rattle.fir_leaf.specs.working.TreeStores.{same_path}
+use Rattle.fir_meaning.specs.TreeStores.{same_path}
 use Rattle.fir_leaf.proofs.OneStore.{path_is, path_same}
-use Rattle.fir_design.specs.working.SourceFacts.{depth_of, driven_of, driven_under, flip_on, source_depth, source_may_drive}
+use Rattle.fir_meaning.specs.SourceFacts.{depth_of, driven_of, driven_under, flip_on, source_depth, source_may_drive}
 use Rattle.fir_design.proofs.FineScenes.{IsFineScene, leaf_is, leaf_path, whole_scope}
 use Rattle.fir_design.proofs.KnownDeclarations.{known_names, same_name}
 

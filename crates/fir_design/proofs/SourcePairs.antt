@@ -7,7 +7,7 @@ use Rattle.fir_meaning.specs.ConnectPairs.{Pair}
 use Rattle.fir_meaning.specs.LeafPaths.{LeafPath}
 use Rattle.fir_meaning.specs.TypeLeaves.{TypeLeaf}
 use Rattle.fir_meaning.specs.TypedScopes.{TypedScope}
-use Rattle.fir_leaf.specs.working.DesignStores.{DesignStore}
+use Rattle.fir_meaning.specs.DesignStores.{DesignStore}
 use Rattle.fir_leaf.specs.working.LeafLaws.{path_at}
 use Rattle.fir_meaning.specs.LeafModules.{LeafModule}
 use Rattle.fir_meaning.specs.LeafPairs.{LeafPair}
@@ -15,9 +15,9 @@ use Rattle.fir_meaning.specs.Leafed.{target_of, target_read, target_terms, terms
 use Rattle.fir_meaning.specs.LeafedBlocks.{Sides, driven_where, pair_block, pairs_block, sides, term_at}
 use Rattle.fir_meaning.specs.LeafedModules.{Scene, leafed_module}
 use Rattle.fir_meaning.specs.Terms.{Term}
-use Rattle.fir_leaf.specs.working.TreeValues.{TypesByPath, ValuesByPath, aim_of, aim_read, leaf_where}
+use Rattle.fir_meaning.specs.TreeValues.{TypesByPath, ValuesByPath, aim_of, aim_read, leaf_where}
 use Rattle.fir_leaf.proofs.PairsByNumber.{IsPair, ArePairs}
-use Rattle.fir_design.specs.working.SourceStores.{Gifts, below, source_kept, source_pair, source_pairs}
+use Rattle.fir_meaning.specs.SourceStores.{Gifts, below, source_kept, source_pair, source_pairs}
 use Rattle.fir_design.proofs.FineScenes.{IsFineScene, whole_scope}
 use Rattle.fir_design.proofs.KeptLeaves.{NameSame, driven_kept}
 use Rattle.fir_design.proofs.RunBlocks.{run, run_joined}

@@ -3,16 +3,16 @@ use Rattle.std.proofs.Common.{◌≡◌, List, [], ◌++◌, map, length, slice_
 use Rattle.std.proofs.lemmas.List.{length-map}
 use Rattle.fir_ast.specs.Circuits.{CircuitTree}
 use Rattle.fir_meaning.specs.Visibility.{at_head}
-use Rattle.fir_leaf.specs.working.Designs.{Design, made_of}
-use Rattle.fir_leaf.specs.working.Flattened.{flattened}
+use Rattle.fir_meaning.specs.Designs.{Design, made_of}
+use Rattle.fir_meaning.specs.Flattened.{flattened}
 use Rattle.fir_meaning.specs.LeafedModules.{Scene, leafed_module}
 use Rattle.fir_leaf.proofs.FlatPlaces.{At}
 use Rattle.fir_design.specs.working.MeaningLaws.{AreDesigns}
 use Rattle.fir_design.specs.working.SameRoles.{ViewsHaveRoles}
-use Rattle.fir_design.specs.working.SourceCircuits.{PlacedLeaf, all_arrays, all_leaves, leaves_of_design, main_ports, port_leaves, state_arrays, state_words}
-use Rattle.fir_design.specs.working.SourceDesigns.{IsSourceDesignOf, SourceDesign}
-use Rattle.fir_design.specs.working.SourceDesigns as source
-use Rattle.fir_design.specs.working.SourceRoles.{SourceLeaf}
+use Rattle.fir_meaning.specs.SourceCircuits.{PlacedLeaf, all_arrays, all_leaves, leaves_of_design, main_ports, port_leaves, state_arrays, state_words}
+use Rattle.fir_meaning.specs.SourceDesigns.{IsSourceDesignOf, SourceDesign}
+use Rattle.fir_meaning.specs.SourceDesigns as source
+use Rattle.fir_meaning.specs.SourceRoles.{SourceLeaf}
 use Rattle.fir_design.proofs.ArrayNumbers.{arrays_agree}
 use Rattle.fir_design.proofs.LeavesBeside.{ports_beside}
 use Rattle.fir_design.proofs.WordsInStep.{words_agree}

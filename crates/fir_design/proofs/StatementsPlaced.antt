@@ -6,10 +6,10 @@ use Rattle.fir_meaning.specs.LeafModules.{LeafDeclared}
 use Rattle.fir_meaning.specs.LeafedModules.{Scene, behind_all_ports, leafed_module, leaves_in_block, leaves_of_ports}
 use Rattle.fir_leaf.proofs.FlatPlaces.{At, at_left}
 use Rattle.fir_design.specs.working.SameRoles.{SameLeaves}
-use Rattle.fir_design.specs.working.SourceCircuits.{PlacedLeaf, leaves_of_design, leaves_of_instances, placed, port_leaves, within}
-use Rattle.fir_design.specs.working.SourceDesigns.{Instances}
-use Rattle.fir_design.specs.working.SourceDesigns as source
-use Rattle.fir_design.specs.working.SourceRoles.{SourceLeaf, source_leaves, sources_in_block}
+use Rattle.fir_meaning.specs.SourceCircuits.{PlacedLeaf, leaves_of_design, leaves_of_instances, placed, port_leaves, within}
+use Rattle.fir_meaning.specs.SourceDesigns.{Instances}
+use Rattle.fir_meaning.specs.SourceDesigns as source
+use Rattle.fir_meaning.specs.SourceRoles.{SourceLeaf, source_leaves, sources_in_block}
 use Rattle.fir_design.proofs.LeafRuns.{ports_run}
 use Rattle.fir_design.proofs.LeavesBeside.{ports_beside, same_parts}
 use Rattle.fir_design.proofs.PlacedRuns.{IsPlaced}

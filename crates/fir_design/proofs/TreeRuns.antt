@@ -2,12 +2,13 @@
 use Rattle.std.proofs.Common.{◌≡◌, ℕ, List, [], ◌∷◌, map, refl, sym, ap, ◌∙◌, subst}
 use Rattle.fir_base.specs.Ticks.{Tick, FitEach}
 use Rattle.fir_meaning.specs.LeafPaths.{LeafPath}
-use Rattle.fir_leaf.specs.working.LeafAllows.{LeafResult}
-use Rattle.fir_design.specs.working.SourceAllows.{next}
-use Rattle.fir_design.specs.working.SourceCircuits.{clock_outputs, outputs, source_shape}
-use Rattle.fir_design.specs.working.SourceDesigns.{SourceDesign}
-use Rattle.fir_design.specs.working.SourceRuns.{AreTicks, HasOne, HasRun, KeepsShape, One, OneHasRun, Run}
-use Rattle.fir_design.specs.working.SourceValues.{PathEnv}
+use Rattle.fir_meaning.specs.LeafAllows.{LeafResult}
+use Rattle.fir_meaning.specs.SourceAllows.{next}
+use Rattle.fir_meaning.specs.SourceCircuits.{clock_outputs, outputs, source_shape}
+use Rattle.fir_meaning.specs.SourceDesigns.{SourceDesign}
+use Rattle.fir_meaning.specs.SourceOne.{HasOne, One}
+use Rattle.fir_design.specs.working.SourceRuns.{AreTicks, HasRun, KeepsShape, OneHasRun, Run}
+use Rattle.fir_meaning.specs.SourceValues.{PathEnv}
 
 pub same_env : (e f : PathEnv) → ((x : LeafPath) → e.numbers x ≡ f.numbers x) → ((x : LeafPath) → e.clocks x ≡ f.clocks x) → e ≡ f
 same_env e f p q = λ i. record { numbers = λ x. p x i; clocks = λ x. q x i }

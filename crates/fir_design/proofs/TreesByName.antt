@@ -10,13 +10,13 @@ use Rattle.fir_meaning.specs.LeafPaths.{LeafPath, named}
 use Rattle.fir_meaning.specs.NameGroups.{HasNames}
 use Rattle.fir_meaning.specs.ResetJoins.{numbered_module}
 use Rattle.fir_meaning.specs.Visibility.{declarations}
-use Rattle.fir_leaf.specs.working.DesignPaths.{instance_name}
-use Rattle.fir_leaf.specs.working.DesignStores.{DesignStore}
+use Rattle.fir_meaning.specs.DesignPaths.{instance_name}
+use Rattle.fir_meaning.specs.DesignStores.{DesignStore}
 use Rattle.fir_meaning.specs.LeafedModules.{Scene, behind_all_ports, driven_leaves, leafed_module}
-use Rattle.fir_leaf.specs.working.TreeValues.{TypesByPath, ValuesByPath}
+use Rattle.fir_meaning.specs.TreeValues.{TypesByPath, ValuesByPath}
 use Rattle.fir_leaf.proofs.DeclaredLeaves.{IsOwn}
-use Rattle.fir_design.specs.working.SourceDesigns.{AreInstances, InstanceOf, Instances, IsSourceDesignOf, SourceDesign, held, no_instances, scene_of, scene_where}
-use Rattle.fir_design.specs.working.SourceStores.{Gifts, exec_design, exec_instances}
+use Rattle.fir_meaning.specs.SourceDesigns.{AreInstances, InstanceOf, Instances, IsSourceDesignOf, SourceDesign, held, no_instances, scene_of, scene_where}
+use Rattle.fir_meaning.specs.SourceStores.{Gifts, exec_design, exec_instances}
 use Rattle.fir_design.proofs.FineScenes.{IsFineScene}
 use Rattle.fir_design.proofs.FoundInstances.{instances_found, instances_in, one_module}
 use Rattle.fir_design.proofs.HeldInstances.{Held, all_held_in}

@@ -7,23 +7,23 @@ use Rattle.fir_ast.specs.Circuits.{CircuitTree}
 use Rattle.fir_meaning.specs.LeafPaths.{LeafPath, named}
 use Rattle.fir_meaning.specs.NameGroups.{HasNames}
 use Rattle.fir_meaning.specs.TypeGroup.{type_faults}
-use Rattle.fir_leaf.specs.working.Designs.{Items, made_of}
+use Rattle.fir_meaning.specs.Designs.{Items, made_of}
 use Rattle.fir_leaf.specs.working.DesignStates.{no_array}
-use Rattle.fir_leaf.specs.working.FlatDesigns.{inner_leaves}
-use Rattle.fir_leaf.specs.working.FlatLeaves.{all_arrays_in, all_leaves_in, arrays_below, leaves_below, placed_array, placed_leaf}
-use Rattle.fir_leaf.specs.working.LeafCircuits.{LeafCircuit}
+use Rattle.fir_meaning.specs.FlatDesigns.{inner_leaves}
+use Rattle.fir_meaning.specs.FlatLeaves.{all_arrays_in, all_leaves_in, arrays_below, leaves_below, placed_array, placed_leaf}
+use Rattle.fir_meaning.specs.LeafCircuits.{LeafCircuit}
 use Rattle.fir_meaning.specs.LeafModules.{LeafArray, LeafDeclared, LeafModule}
 use Rattle.fir_meaning.specs.LeafedModules.{Scene, leafed_module}
-use Rattle.fir_leaf.specs.working.Numberings.{Numbering, numbering}
+use Rattle.fir_meaning.specs.Numberings.{Numbering, numbering}
 use Rattle.fir_leaf.proofs.FlatPlaces.{At, at_get, at_left, at_room}
 use Rattle.fir_leaf.proofs.MovedTerms.{Stands}
-use Rattle.fir_design.specs.working.CircuitDesigns.{AreScenes}
+use Rattle.fir_meaning.specs.Elaborated.{AreScenes}
 use Rattle.fir_design.specs.working.SameRoles.{ViewsHaveRoles}
-use Rattle.fir_design.specs.working.SourceCircuits.{PlacedArray, PlacedLeaf, arrays_of_design, leaves_of_design, placed, placed_arrays}
-use Rattle.fir_design.specs.working.SourceCircuits as sources
-use Rattle.fir_design.specs.working.SourceDesigns.{Instances, IsSourceDesignOf, SourceDesign}
-use Rattle.fir_design.specs.working.SourceDesigns as source
-use Rattle.fir_design.specs.working.SourceRoles.{source_arrays}
+use Rattle.fir_meaning.specs.SourceCircuits.{PlacedArray, PlacedLeaf, arrays_of_design, leaves_of_design, placed, placed_arrays}
+use Rattle.fir_meaning.specs.SourceCircuits as sources
+use Rattle.fir_meaning.specs.SourceDesigns.{Instances, IsSourceDesignOf, SourceDesign}
+use Rattle.fir_meaning.specs.SourceDesigns as source
+use Rattle.fir_meaning.specs.SourceRoles.{source_arrays}
 use Rattle.fir_design.proofs.FineScenes.{fine_scene}
 use Rattle.fir_design.proofs.InStep.{SameArray}
 use Rattle.fir_design.proofs.InstanceTrees.{NamedTree, arrays_by_trees, arrays_of_trees, leaves_by_trees, leaves_of_trees, trees_in}

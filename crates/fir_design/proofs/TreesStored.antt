@@ -1,8 +1,8 @@
 -- The designs of modules' views store at every path what the trees of their statements store there: numbers and clocks.
 use Rattle.std.proofs.Common.{ℕ, [], Option, ap}
-use Rattle.fir_leaf.specs.working.DesignStores.{DesignStore, clock_given, nothing_kept, number_given}
+use Rattle.fir_meaning.specs.DesignStores.{DesignStore, clock_given, nothing_kept, number_given}
 use Rattle.fir_design.specs.working.SourceLaws.{ViewsClockAsTrees, ViewsStoreAsTrees}
-use Rattle.fir_design.specs.working.SourceStores.{clock_gifts, number_gifts}
+use Rattle.fir_meaning.specs.SourceStores.{clock_gifts, number_gifts}
 use Rattle.fir_design.proofs.ClockGifts.{clock_gives}
 use Rattle.fir_design.proofs.NumberGifts.{number_gives}
 use Rattle.fir_design.proofs.RunDesigns.{design_run}

@@ -3,25 +3,24 @@ use Rattle.std.proofs.Common.{◌≡◌, ℕ, ◌<◌, List, [], ◌∷◌, Bool
 use Rattle.fir_bits.specs.declared.types.NumTy.{NumTy}
 use Rattle.fir_bits.specs.declared.values.Num.{Num}
 use Rattle.fir_ast.specs.Expressions.{Expression}
-use Rattle.fir_meaning.specs.Eval.{is_high}
-use Rattle.fir_meaning.specs.Exec.{fit}
+use Rattle.fir_meaning.specs.Values.{is_high, fit}
 use Rattle.fir_meaning.specs.LeafPaths.{LeafPath}
 use Rattle.fir_meaning.specs.TypedScopes.{TypedScope}
 use Rattle.fir_leaf.specs.working.ChoiceLaws.{fitted_at}
 use Rattle.fir_leaf.specs.working.DesignLaws.{numbered}
 use Rattle.fir_meaning.specs.LeafBlocks.{exec_all, nothing_stored}
-use Rattle.fir_leaf.specs.working.LeafCircuits.{LeafCircuit, depth_of, type_of_leaf}
+use Rattle.fir_meaning.specs.LeafCircuits.{LeafCircuit, depth_of, type_of_leaf}
 use Rattle.fir_meaning.specs.LeafModules.{LeafReset, Need, Reading}
-use Rattle.fir_leaf.specs.working.LeafSettled as over
-use Rattle.fir_leaf.specs.working.Memories as over_memories
+use Rattle.fir_meaning.specs.LeafSettled as over
+use Rattle.fir_meaning.specs.Memories as over_memories
 use Rattle.fir_leaf.specs.working.SoundDesigns.{circuit_path}
 use Rattle.fir_meaning.specs.TermValues.{Env, clock_of, eval, is_true}
 use Rattle.fir_meaning.specs.Terms.{Term}
-use Rattle.fir_design.specs.working.SourceCircuits.{all_arrays}
-use Rattle.fir_design.specs.working.SourceDesigns.{SourceDesign}
-use Rattle.fir_design.specs.working.SourceRoles.{PathNeed, PathReading, SourceReset}
-use Rattle.fir_design.specs.working.SourceStores.{below}
-use Rattle.fir_design.specs.working.SourceValues.{PathEnv, are_met, clock_at, clock_stored, init_of, is_true_at, number_stored, read_before, read_word, register_shown, source_holds, value_at, word_before, words_on}
+use Rattle.fir_meaning.specs.SourceCircuits.{all_arrays}
+use Rattle.fir_meaning.specs.SourceDesigns.{SourceDesign}
+use Rattle.fir_meaning.specs.SourceRoles.{PathNeed, PathReading, SourceReset}
+use Rattle.fir_meaning.specs.SourceStores.{below}
+use Rattle.fir_meaning.specs.SourceValues.{PathEnv, are_met, clock_at, clock_stored, init_of, is_true_at, number_stored, read_before, read_word, register_shown, source_holds, value_at, word_before, words_on}
 use Rattle.fir_design.proofs.InStep.{InStep, MaySameResetBelow, SameNeed, SameNeeds, SameReading, SameResetBelow, SameTermBelow}
 use Rattle.fir_design.proofs.ArraysInStep.{word_before_same, words_same}
 use Rattle.fir_design.proofs.LeavesInStep.{types_are}

@@ -4,7 +4,7 @@ use Rattle.fir_meaning.specs.Visibility.{at_head}
 use Rattle.fir_meaning.specs.LeafedModules.{arrays_in_block, behind_all_ports, leaves_in_block, leaves_of_ports}
 use Rattle.fir_leaf.proofs.DeclaredLeaves.{own_module}
 use Rattle.fir_design.specs.working.SameRoles.{ViewsHaveRoles}
-use Rattle.fir_design.specs.working.SourceRoles.{source_arrays_in_block, sources_in_block, sources_of_ports}
+use Rattle.fir_meaning.specs.SourceRoles.{source_arrays_in_block, sources_in_block, sources_of_ports}
 use Rattle.fir_design.proofs.BlockRoles.{block_same, ports_same}
 use Rattle.fir_design.proofs.FineScenes.{fine_scene}
 use Rattle.fir_design.proofs.PlacedBlocks.{body_placed}

@@ -12,10 +12,10 @@ use Rattle.fir_meaning.specs.Visibility.{Before, behind, behind_block, declarati
 use Rattle.fir_meaning.specs.LeafMemories.{leaves_of_data}
 use Rattle.fir_meaning.specs.LeafModules.{LeafDeclared, LeafType}
 use Rattle.fir_meaning.specs.LeafedModules.{Scene, held_by_declared, leafed_module, leaves_in, leaves_in_block, type_of_declared}
-use Rattle.fir_leaf.specs.working.Numberings.{number, numbering}
-use Rattle.fir_leaf.specs.working.StateWalks.{own_words}
-use Rattle.fir_design.specs.working.SourceCircuits.{PlacedLeaf, is_word, placed, words_in, words_in_block}
-use Rattle.fir_design.specs.working.SourceRoles.{SourceLeaf, sink, source, source_leaves_of, sources_in, sources_in_block}
+use Rattle.fir_meaning.specs.Numberings.{number, numbering}
+use Rattle.fir_meaning.specs.StateWalks.{own_words}
+use Rattle.fir_meaning.specs.SourceCircuits.{PlacedLeaf, is_word, placed, words_in, words_in_block}
+use Rattle.fir_meaning.specs.SourceRoles.{SourceLeaf, sink, source, source_leaves_of, sources_in, sources_in_block}
 use Rattle.fir_design.proofs.DeclaredInstances.{Grows}
 use Rattle.fir_design.proofs.DeclaredRuns.{StandsAlone}
 use Rattle.fir_design.proofs.InstanceStatements.{longer_block, longer_statement}

@@ -11,20 +11,20 @@ use Rattle.fir_meaning.specs.LeafPaths.{LeafPath, named}
 use Rattle.fir_meaning.specs.NameGroups.{HasNames}
 use Rattle.fir_meaning.specs.TypeGroup.{type_faults}
 use Rattle.fir_meaning.specs.Visibility.{declarations}
-use Rattle.fir_leaf.specs.working.Designs.{Design, IsDesignOf, Items, made_of}
-use Rattle.fir_leaf.specs.working.FlatDesigns.{count_below, inner_leaves}
+use Rattle.fir_meaning.specs.Designs.{Design, IsDesignOf, Items, made_of}
+use Rattle.fir_meaning.specs.FlatDesigns.{count_below, inner_leaves}
 use Rattle.fir_meaning.specs.LeafModules.{LeafModule}
 use Rattle.fir_meaning.specs.LeafedModules.{Scene, behind_all_ports, leafed_module}
-use Rattle.fir_leaf.specs.working.Numberings.{number, numbering}
-use Rattle.fir_leaf.specs.working.StateWalks.{all_words_in, own_words, words_below}
+use Rattle.fir_meaning.specs.Numberings.{number, numbering}
+use Rattle.fir_meaning.specs.StateWalks.{all_words_in, own_words, words_below}
 use Rattle.fir_leaf.proofs.FlatOrders.{walk_same}
 use Rattle.fir_leaf.proofs.FlatPlaces.{At, at_right}
 use Rattle.fir_leaf.proofs.PortRoles.{leafed_ports}
-use Rattle.fir_design.specs.working.CircuitDesigns.{AreScenes, views}
+use Rattle.fir_meaning.specs.Elaborated.{AreScenes, views}
 use Rattle.fir_design.specs.working.SameRoles.{ViewsHaveRoles}
-use Rattle.fir_design.specs.working.SourceCircuits.{PlacedLeaf, leaves_of_design, leaves_of_instances, placed, within, words_of_design, words_of_instance}
-use Rattle.fir_design.specs.working.SourceDesigns.{Instances, IsSourceDesignOf, SourceDesign, held, no_instances}
-use Rattle.fir_design.specs.working.SourceDesigns as source
+use Rattle.fir_meaning.specs.SourceCircuits.{PlacedLeaf, leaves_of_design, leaves_of_instances, placed, within, words_of_design, words_of_instance}
+use Rattle.fir_meaning.specs.SourceDesigns.{Instances, IsSourceDesignOf, SourceDesign, held, no_instances}
+use Rattle.fir_meaning.specs.SourceDesigns as source
 use Rattle.fir_design.proofs.DesignInstances.{block_held, counted, given, held_of, instances_in, own_of, words_given, words_of}
 use Rattle.fir_design.proofs.DesignsBeside.{AreBeside, IsKept, all_kept}
 use Rattle.fir_design.proofs.EmptyPorts.{no_port_words}

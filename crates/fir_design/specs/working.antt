@@ -2,17 +2,10 @@
 -- The designs of modules over their ground leaves.
 pub mod CircuitDesigns
 -- What the tree of a source's modules stores, by paths.
-pub mod SourceDesigns
-pub mod SourceFacts
-pub mod SourceStores
 pub mod SourceLaws
 -- What gives its leaves their values.
-pub mod SourceRoles
 pub mod SameRoles
 -- Its settled values, and what it allows.
-pub mod SourceCircuits
-pub mod SourceValues
-pub mod SourceAllows
 pub mod MeaningLaws
 pub mod SourceRuns
 pub mod CircuitMeanings

@@ -1,40 +1,50 @@
 -- The groups of faults one behind the other: which are clear behind each pass, and that a later fault is the first where those before it are.
-use Rattle.std.proofs.Common.{◌≡◌, ℕ, zero, suc, ◌+◌, ◌<◌, ◌≤◌, List, [], ◌∷◌, refl, subst, inl, inr, ◌⊎◌, arith, ⊎_elim}
+use Rattle.std.proofs.Common.{◌≡◌, ℕ, zero, suc, ◌+◌, ◌<◌, ◌≤◌, List, [], ◌∷◌, length, map, refl, subst, inl, arith, ⊎_elim}
 use Rattle.std.proofs.lemmas.Bool.{cases_lt}
 use Rattle.fir_ast.specs.declared.fault.FirFault.{FirFault}
-use Rattle.fir_ast.specs.Circuits.{CircuitTree}
-use Rattle.fir_pass.specs.Faults.{Fault, fault_of}
-use Rattle.fir_pass.specs.Groups.{in_order, IsClear}
+use Rattle.fir_ast.specs.Statements.{PlacedName}
+use Rattle.fir_ast.specs.Circuits.{CircuitTree, ModuleTree}
+use Rattle.fir_pass.specs.Faults.{fault_of}
+use Rattle.fir_pass.specs.Groups.{Group, group_of, in_order, IsClear}
 use Rattle.fir_pass.specs.Law.{IsFirst}
-use Rattle.fir_meaning.specs.NameGroups.{HasNames}
+use Rattle.fir_meaning.specs.Components.{find_name}
+use Rattle.fir_meaning.specs.LoopGroup.{loop_group}
+use Rattle.fir_meaning.specs.NameGroups.{HasNames, absent_faults}
 use Rattle.fir_meaning.specs.TypeGroup.{type_faults}
 use Rattle.fir_meaning.specs.WidthGroups.{IsInferred}
 use Rattle.fir_meaning.specs.CostGroup.{cost_group}
 use Rattle.fir_meaning.specs.UndrivenGroup.{undriven_group}
 use Rattle.fir_meaning.specs.SourceMeaning.{circuit_meaning}
-use Rattle.fir_meaning.proofs.KeptTrees.{none_clear}
+use Rattle.fir_meaning.proofs.KeptTrees.{first_at, none_clear}
 use Rattle.fir_driver.specs.CircuitFaults.{IsClearUpTo, ShowsNone, IsFirstUpTo}
 
 nothing : IsClear (in_order [])
 nothing f there = absurd there
 
-clear_empty : (fs : List Fault) → IsClear (in_order fs) → fs ≡ []
-clear_empty [] clear = refl
-clear_empty (f ∷ fs) clear = absurd (clear f (inl refl))
-
-past_all : (c : CircuitTree) (k : ℕ) → 9 < k → IsClear ((circuit_meaning c).group k)
+-- the groups behind that of E24: that of E28, and empty ones
+behind_undriven : (c : CircuitTree) (P : ℕ → Group → Type 0) → ((k : ℕ) → P k (in_order [])) → P 13 (loop_group c) → (k : ℕ) → 9 < k
+    → P k ((circuit_meaning c).group k)
 unfolding circuit_meaning
-past_all c zero past = absurd (omega arith)
-past_all c (suc zero) past = absurd (omega arith)
-past_all c (suc (suc zero)) past = absurd (omega arith)
-past_all c (suc (suc (suc zero))) past = absurd (omega arith)
-past_all c (suc (suc (suc (suc zero)))) past = absurd (omega arith)
-past_all c (suc (suc (suc (suc (suc zero))))) past = absurd (omega arith)
-past_all c (suc (suc (suc (suc (suc (suc zero)))))) past = absurd (omega arith)
-past_all c (suc (suc (suc (suc (suc (suc (suc zero))))))) past = absurd (omega arith)
-past_all c (suc (suc (suc (suc (suc (suc (suc (suc zero)))))))) past = absurd (omega arith)
-past_all c (suc (suc (suc (suc (suc (suc (suc (suc (suc zero))))))))) past = absurd (omega arith)
-past_all c (suc (suc (suc (suc (suc (suc (suc (suc (suc (suc k)))))))))) past = nothing
+behind_undriven c P none loops zero past = absurd (omega arith)
+behind_undriven c P none loops (suc zero) past = absurd (omega arith)
+behind_undriven c P none loops (suc (suc zero)) past = absurd (omega arith)
+behind_undriven c P none loops (suc (suc (suc zero))) past = absurd (omega arith)
+behind_undriven c P none loops (suc (suc (suc (suc zero)))) past = absurd (omega arith)
+behind_undriven c P none loops (suc (suc (suc (suc (suc zero))))) past = absurd (omega arith)
+behind_undriven c P none loops (suc (suc (suc (suc (suc (suc zero)))))) past = absurd (omega arith)
+behind_undriven c P none loops (suc (suc (suc (suc (suc (suc (suc zero))))))) past = absurd (omega arith)
+behind_undriven c P none loops (suc (suc (suc (suc (suc (suc (suc (suc zero)))))))) past = absurd (omega arith)
+behind_undriven c P none loops (suc (suc (suc (suc (suc (suc (suc (suc (suc zero))))))))) past = absurd (omega arith)
+behind_undriven c P none loops (suc (suc (suc (suc (suc (suc (suc (suc (suc (suc zero)))))))))) past = none 10
+behind_undriven c P none loops (suc (suc (suc (suc (suc (suc (suc (suc (suc (suc (suc zero))))))))))) past = none 11
+behind_undriven c P none loops (suc (suc (suc (suc (suc (suc (suc (suc (suc (suc (suc (suc zero)))))))))))) past = none 12
+behind_undriven c P none loops (suc (suc (suc (suc (suc (suc (suc (suc (suc (suc (suc (suc (suc zero))))))))))))) past = loops
+behind_undriven c P none loops (suc (suc (suc (suc (suc (suc (suc (suc (suc (suc (suc (suc (suc (suc k)))))))))))))) past = none (suc (suc (suc (suc (suc (suc (suc (suc (suc (suc (suc (suc (suc (suc k))))))))))))))
+
+-- a circuit that has its main module has a module
+some_module : (ms : List ModuleTree) (n : PlacedName) → IsClear (in_order (absent_faults (find_name (map (λ m. m.named) ms) n.name) n)) → 0 < length ms
+some_module [] n clear = absurd (clear _ (inl refl))
+some_module (m ∷ ms) n clear = omega arith
 
 module _ (c : CircuitTree) where
   pub clear_text : IsClearUpTo 0 c
@@ -74,30 +84,33 @@ module _ (c : CircuitTree) where
   unfolding circuit_meaning
   clear_drivers before h = next_clear 8 before h
 
-  -- no group is behind these
-  pub clear_all : IsClearUpTo 9 c → ShowsNone c
-  clear_all clear k = by (cases_lt 9 k)
-    where
-      by : (9 < k) ⊎ (k ≤ 9) → IsClear ((circuit_meaning c).group k)
-      by (inl past) = past_all c k past
-      by (inr within) = clear k within
-
-  -- what is clear, read group by group
-  pub has_names : IsClearUpTo 3 c → HasNames c
+  pub has_module : IsClearUpTo 9 c → 0 < length c.modules
   unfolding circuit_meaning
-  has_names clear = record { names = clear 1 (omega arith); main = clear 2 (omega arith); hierarchy = clear 3 (omega arith) }
+  has_module clear = some_module c.modules c.named (clear 2 (omega arith))
 
-  pub has_types : ShowsNone c → type_faults c ≡ []
-  unfolding circuit_meaning
-  has_types clear = clear_empty (type_faults c) (clear 4)
+  -- behind these only that of E28 can show a fault
+  pub clear_all : IsClearUpTo 9 c → IsClear (loop_group c) → ShowsNone c
+  clear_all clear loops k =
+      ⊎_elim
+      (λ (past : 9 < k). behind_undriven c (λ j group. IsClear group) (λ j. nothing) loops k past)
+      (λ (within : k ≤ 9). clear k within)
+      (cases_lt 9 k)
 
-  pub has_widths : ShowsNone c → IsInferred c
+  pub first_loop : (f : FirFault) → group_of (fault_of f).code ≡ 13 → (loop_group c).shows (fault_of f) → IsFirst 10 13 (circuit_meaning c) (fault_of f)
   unfolding circuit_meaning
-  has_widths clear = record { resets = clear 5; over = clear 6; legal = clear 7 }
+  first_loop f e shows =
+      first_at 10 13 13 (circuit_meaning c) (fault_of f) e (omega arith) (omega arith) shows shows
+      (λ k low high. behind_undriven c (λ j group. j < 13 → IsClear group) (λ j below. nothing) (λ below. absurd (omega (arith, below))) k (omega (arith, low)) high)
 
-  pub has_drivers : ShowsNone c → IsClear (undriven_group c)
-  unfolding circuit_meaning
-  has_drivers clear = clear 9
+  -- the first of some groups behind E24 is the first of all that are behind it
+  pub later_first : (f : FirFault) → IsFirst 10 12 (circuit_meaning c) (fault_of f) → IsFirst 10 13 (circuit_meaning c) (fault_of f)
+  later_first f first = record {
+    low = first.low;
+    high = omega (arith, first.high);
+    told = first.told;
+    stands = first.stands;
+    clear = first.clear;
+  }
 
   -- the first of later groups is the first of all
   pub first_behind : (before from upto last : ℕ) (f : FirFault) → IsClearUpTo before c → from ≤ before + 1 → 1 ≤ from → upto ≤ last
@@ -111,5 +124,5 @@ module _ (c : CircuitTree) where
         ⊎_elim (λ (lt : before < k). first.clear k (omega (arith, lt, meets)) below) (λ (le : k ≤ before). clear k le) (cases_lt before k);
   }
 
-  pub none_first : (last : ℕ) (f : FirFault) → ShowsNone c → IsFirstUpTo last c f → ⊥
-  none_first last f clear first = clear _ (fault_of f) first.stands
+  pub none_first : (from upto : ℕ) (f : FirFault) → ShowsNone c → IsFirst from upto (circuit_meaning c) (fault_of f) → ⊥
+  none_first from upto f clear first = clear _ (fault_of f) first.stands

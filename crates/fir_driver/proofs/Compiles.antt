@@ -1,93 +1,68 @@
 -- What a circuit compiles to, by way of its net.
-use Rattle.std.proofs.Common.{ℕ, List, [], ◌∷◌, ◌∙◌, refl, subst, map, IsTrue, Result, Ok, Err, IfOk}
-use Rattle.fir_base.specs.Ticks.{Tick, TickResult, Shape, FitEach, Allowance, IsRun}
-use Rattle.fir_base.specs.declared.refused.MemoryOut.{MemoryOut}
-use Rattle.ver_ast.specs.declared.tree.Verilog.{Verilog}
-use Rattle.ver_ast.specs.Allows.{VAllows}
+use Rattle.std.proofs.Common.{◌≡◌, ℕ, List, ◌∙◌, subst}
 use Rattle.fir_ast.specs.Circuits.{CircuitTree}
-use Rattle.fir_meaning.specs.Leaves.{outputs, paths, shape}
-use Rattle.fir_meaning.specs.Next.{next}
-use Rattle.fir_meaning.specs.Allows.{One, Allows}
-use Rattle.fir_meaning.specs.working.Faults.{Faultless}
-use Rattle.fir_meaning.specs.Lacking.{is_in_language}
-use Rattle.fir_meaning.specs.working.Laws.{FaultlessHasOne, FaultlessRunsOnce}
+use Rattle.fir_meaning.specs.Elaborated.{IsSourceOf}
+use Rattle.fir_meaning.specs.SourceCircuits.{source_shape}
+use Rattle.fir_meaning.specs.SourceDesigns.{SourceDesign}
 use Rattle.fir_net.specs.declared.net.FlatNet.{FlatNet}
 use Rattle.fir_net.specs.Rows.{net_rows, net_words}
 use Rattle.fir_net.specs.working.Laws.{NodesHaveTheirTypes}
-use Rattle.fir_net.specs.working.Settled.{shape as net_shape}
-use Rattle.fir_net.specs.working.Allows.{Allows as NetAllows}
+use Rattle.fir_net.specs.working.One.{One as NetOne}
+use Rattle.fir_inst.specs.SourceRows.{source_rows}
+use Rattle.fir_inst.specs.working.FlattensTo.{FlattensTo, MeansSource}
+use Rattle.ver_ast.specs.declared.tree.Verilog.{Verilog}
+use Rattle.ver_ast.specs.Allows.{VAllows}
+use Rattle.ver_ast.specs.Nets.{shape as v_shape}
 use Rattle.ver_build.specs.NamedFor.{IsNamedFor}
 use Rattle.ver_build.specs.working.Builds.{Builds}
-use Rattle.fir_lower.specs.CircuitRows.{circuit_rows}
-use Rattle.fir_lower.specs.working.Lowers.{Lowers}
+use Rattle.fir_driver.specs.Compiles.{Compiles, CompilesTo}
 use Rattle.fir_driver.specs.Runs.{RunsOnce}
-use Rattle.fir_driver.specs.Compiles.{Compiles}
-use Rattle.fir_driver.proofs.KeptShapes.{next_fits}
-use Rattle.fir_driver.proofs.AllRuns.{AllowsSome, KeepsShape, HasRun, has_run, same_once}
+use Rattle.fir_driver.specs.Sources.{SourceAllows}
+use Rattle.fir_driver.proofs.AllRuns.{Includes, same_once, same_runs}
+use Rattle.fir_driver.proofs.SourceRuns.{from_net, source_one, source_runs_once, to_net}
 
--- what one allows the other allows too
-abbrev Includes : Allowance → Allowance → Type 0
-Includes p q = (state : List ℕ) (tick : Tick) (shown after : List ℕ) → p state tick shown after → q state tick shown after
+module _ (types : NodesHaveTheirTypes) (c : CircuitTree) (net : FlatNet) (flat : FlattensTo c net) (one : NetOne net) (v : Verilog) (made : Builds net v) where
+  module _ (t : SourceDesign) (is : IsSourceOf c t) where
+    means : MeansSource t net
+    means = flat.each t is
 
-same_runs : (p q : Allowance) → Includes p q → (state : List ℕ) (ticks : List Tick) (shown : List TickResult) → IsRun p state ticks shown
-    → IsRun q state ticks shown
-same_runs p q h state [] [] r = tt
-same_runs p q h state [] (s ∷ shown) r = absurd r
-same_runs p q h state (t ∷ ticks) [] r = absurd r
-same_runs p q h state (t ∷ ticks) (s ∷ shown) r = (h state t s.outputs s.state r.0, same_runs p q h s.state ticks shown r.1)
+    shapes : v_shape v ≡ source_shape t
+    shapes = made.shapes ∙ means.shapes
 
--- the laws about faultless circuits and whole nets
-pub record CompileLaws : Type 0 where
-  pub has_one : FaultlessHasOne
-  pub once : FaultlessRunsOnce
-  pub types : NodesHaveTheirTypes
+    forth : Includes (VAllows v) (SourceAllows t)
+    forth s k o n x = from_net c net flat one t is s k o n ((made.allows s k o n).0 x)
 
-module _ (laws : CompileLaws) (c : CircuitTree) (net : FlatNet) (language : IsTrue (is_in_language c)) (faultless : Faultless c) (low : Lowers c net) where
-  one : One c
-  one = laws.has_one c language faultless
+    back : Includes (SourceAllows t) (VAllows v)
+    back s k o n x = (made.allows s k o n).1 (to_net c net flat one t is s k o n x)
 
-  allows_some : AllowsSome (shape c) (Allows c)
-  allows_some state tick shaped =
-      let h = one state tick shaped in
-      (map h.env (paths (outputs c)), next c h.env tick, (h.env, h.settled, refl, refl))
+    runs_once : RunsOnce (source_shape t) (SourceAllows t)
+    runs_once = source_runs_once c net flat one t is types
 
-  keeps_shape : KeepsShape (shape c) (Allows c)
-  keeps_shape state tick shown after allowed =
-      let h : NetAllows net state tick shown after = (low.allows state tick shown after).1 allowed in
-      let fits = next_fits laws.types net low.whole state tick h.0 h.1 h.2 in
-      subst (λ (s : Shape). FitEach s.state after) low.shapes (subst (λ (words : List ℕ). FitEach (net_shape net).state words) h.4 fits)
+    v_runs_once : RunsOnce (v_shape v) (VAllows v)
+    v_runs_once =
+        same_once (SourceAllows t) (VAllows v) (source_shape t) (v_shape v) shapes (same_runs (SourceAllows t) (VAllows v) back)
+        (same_runs (VAllows v) (SourceAllows t) forth) runs_once
 
-  runs_once : RunsOnce (shape c) (Allows c)
-  runs_once state ticks fits are =
-      let r : HasRun (Allows c) state ticks = has_run (shape c) (Allows c) allows_some keeps_shape state ticks fits are in
-      record { shown = r.0; run = r.1; only = λ others run. laws.once c language faultless state ticks r.0 others r.1 run }
-
-  module _ (v : Verilog) (made : Builds net v) where
-    forth : Includes (VAllows v) (Allows c)
-    forth s t o n x = (low.allows s t o n).0 ((made.allows s t o n).0 x)
-
-    back : Includes (Allows c) (VAllows v)
-    back s t o n x = (made.allows s t o n).1 ((low.allows s t o n).1 x)
-
-    compiles : Compiles c v
-    compiles = record {
+    compiles_to : CompilesTo c.named.name t v
+    compiles_to = record {
       named =
-          subst (λ words. IsNamedFor c.named.name (circuit_rows c) words v) low.words
-          (subst (λ rows. IsNamedFor c.named.name rows (net_words net) v) low.ports
-          (subst (λ name. IsNamedFor name (net_rows net) (net_words net) v) low.named made.named));
-      arranged = made.arranged;
-      shapes = made.shapes ∙ low.shapes;
-      valid = made.valid;
-      one = one;
-      v_one = made.one;
-      allows = λ s t o n. (forth s t o n, back s t o n);
-      runs = λ s ts os. (same_runs (VAllows v) (Allows c) forth s ts os, same_runs (Allows c) (VAllows v) back s ts os);
+          subst (λ words. IsNamedFor c.named.name (source_rows t) words v) means.words
+          (subst (λ rows. IsNamedFor c.named.name rows (net_words net) v) means.ports
+          (subst (λ name. IsNamedFor name (net_rows net) (net_words net) v) flat.named made.named));
+      shapes = shapes;
+      one = source_one c net flat one t is;
+      allows = λ s k o n. (forth s k o n, back s k o n);
+      runs = λ s ks os. (same_runs (VAllows v) (SourceAllows t) forth s ks os, same_runs (SourceAllows t) (VAllows v) back s ks os);
       runs_once = runs_once;
-      v_runs_once =
-          same_once (Allows c) (VAllows v) (shape c) _ (made.shapes ∙ low.shapes) (same_runs (Allows c) (VAllows v) back)
-          (same_runs (VAllows v) (Allows c) forth) runs_once;
     }
 
-  pub compiled : (r : Result Verilog MemoryOut) → IfOk r (λ v. Builds net v) → IfOk r (λ v. Compiles c v)
-  compiled (Ok v) made = compiles v made
-  compiled (Err e) made = tt
+  pub compiles : Compiles c v
+  compiles = record {
+    arranged = made.arranged;
+    valid = made.valid;
+    v_one = made.one;
+    v_runs_once = v_runs_once flat.source flat.is_source;
+    source = flat.source;
+    is_source = flat.is_source;
+    each = compiles_to;
+  }

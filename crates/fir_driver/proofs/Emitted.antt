@@ -13,7 +13,7 @@ use Rattle.fir_driver.specs.Emits.{Takes, Emits}
 
 pub emits : SpellsOneTree → VSpellsOneTree → LayoutIsSpelled → LayoutHasNoComment → (read written : List ℕ) (c : CircuitTree) (v : Verilog) → Takes read c → Compiles c v → written ≡ layout v → Emits read written
 emits one v_one spelled clean read written c v taken made laid =
-    let tree : VSpells written v = subst (λ bytes. VSpells bytes v) (sym laid) (spelled v made.valid made.named.spelled) in
+    let tree : VSpells written v = subst (λ bytes. VSpells bytes v) (sym laid) (spelled v made.valid (made.each made.source made.is_source).named.spelled) in
     record {
       circuit = c;
       taken = taken;
@@ -22,6 +22,6 @@ emits one v_one spelled clean read written c v taken made laid =
       v_spelled = tree;
       only_verilog = λ other s. v_one written other v s tree;
       laid_out = laid;
-      uncommented = subst HasNoComment (sym laid) (clean v made.named.spelled);
+      uncommented = subst HasNoComment (sym laid) (clean v (made.each made.source made.is_source).named.spelled);
       compiles = made;
     }

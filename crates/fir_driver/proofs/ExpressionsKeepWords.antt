@@ -7,14 +7,14 @@ use Rattle.fir_parse.specs.Limits.{everywhere}
 use Rattle.fir_parse.specs.Numbers.{Numeral}
 use Rattle.fir_parse.specs.Heights.{height}
 use Rattle.fir_parse.specs.ExpressionForms.{IsNumeral, IsNumber, IsLiteral, AreIntegers, IsExpression, AreParts, AreOperands, AreMoreOperands, IsSink}
-use Rattle.fir_driver.proofs.WordPieces.{KeepsWords, token, somewhere, nothing, given, next}
+use Rattle.fir_driver.proofs.WordPieces.{KeepsWords, keeps, token, somewhere, nothing, given, next}
 use Rattle.fir_driver.proofs.TypesKeepWords.{int_at, int, field_name, width}
 
 numeral : (n : Option Numeral) → KeepsWords (IsNumeral n)
-numeral n = record { behind = λ a b x h. elim x [ inl y ↦ (token).behind a b y.3 h | inr y ↦ (token).behind a b y.3 h ] }
+numeral n = keeps (λ a b x. elim x [ inl y ↦ (token).front a b y.3 | inr y ↦ (token).front a b y.3 ])
 
 number : (l : Literal) → KeepsWords (IsNumber everywhere l)
-number l = record { behind = λ a b x h. (next (numeral x.0) given).behind a b x.2 h }
+number l = keeps (λ a b x. (next (numeral x.0) given).front a b x.2)
 
 literal_keeps : (d : ℕ) (l : Literal) → KeepsWords (IsLiteral everywhere d l)
 literal_keeps d l = next token (next (width l.width) (next somewhere (next given (next (number l) somewhere))))

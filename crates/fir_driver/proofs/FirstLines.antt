@@ -1,43 +1,43 @@
--- What is printed of the first ticks of a trace begins what the whole trace prints: both are lines of runs of the one circuit of the text.
+-- What is printed of the first ticks of a trace begins what the whole trace prints: both are lines of runs of a source of the one circuit of the text.
 use Rattle.std.proofs.Common.{◌≡◌, ℕ, List, ◌++◌, Bool, ◌⊎◌, inl, inr, sym, ap, ◌∙◌, subst}
-use Rattle.fir_base.specs.Ticks.{Tick, IsRun}
-use Rattle.fir_ast.specs.Circuits.{CircuitTree}
-use Rattle.fir_meaning.specs.Leaves.{outputs, widths, shape}
-use Rattle.fir_meaning.specs.Allows.{Allows, Run}
+use Rattle.fir_base.specs.Ticks.{Tick}
+use Rattle.fir_meaning.specs.Elaborated.{IsSourceOf}
+use Rattle.fir_meaning.specs.SourceCircuits.{source_shape}
+use Rattle.fir_meaning.specs.SourceDesigns.{SourceDesign}
 use Rattle.trace_text.specs.Shapes.{TraceShape}
 use Rattle.trace_text.specs.TraceSpells.{TraceSpells}
-use Rattle.trace_text.specs.RunLines.{run_text}
-use Rattle.trace_text.specs.working.Fronts.{FrontLinesBegin, IsFrontOf, IsOnlyRun, Says}
-use Rattle.fir_driver.specs.Simulations.{BeginsAll, Prints, PrintsAll, PrintsFront, SaysBadly}
+use Rattle.trace_text.specs.working.Fronts.{FrontLinesBegin, Says}
+use Rattle.fir_driver.specs.Simulations.{BeginsAll, Prints, PrintsAll, PrintsFront, PrintsRun, SaysBadly}
+use Rattle.fir_driver.specs.Sources.{SourceAllows, output_widths}
 use Rattle.fir_driver.specs.Traces.{IsTraceShape}
 use Rattle.fir_driver.specs.working.Laws.{FrontsBegin}
 use Rattle.fir_driver.proofs.TraceShapes.{one_shape}
 
 -- what is said may be said otherwise
 said_so : (text : List ℕ) (with_state : Bool) (A B : TraceShape → List ℕ → List Tick → Type 0) (printed : List ℕ)
-    → ((s : TraceShape) (init : List ℕ) (ticks : List Tick) → A s init ticks → B s init ticks) → Prints text with_state A printed → Prints text with_state B printed
+    → ((s : TraceShape) (init : List ℕ) (ticks : List Tick) → A s init ticks → B s init ticks) → Prints text with_state A printed
+    → Prints text with_state B printed
 said_so text with_state A B printed h p = record {
   circuit = p.circuit;
   taken = p.taken;
   only_circuit = p.only_circuit;
-  one = p.one;
   of_trace = p.of_trace;
   shaped = p.shaped;
   init = p.init;
   ticks = p.ticks;
   said = h p.of_trace p.init p.ticks p.said;
   shown = p.shown;
-  run = p.run;
-  only_run = p.only_run;
-  lines = p.lines;
+  source = p.source;
+  is_source = p.is_source;
+  prints = p.prints;
 }
 
 all_said : (text trace : List ℕ) (with_state : Bool) (all : List ℕ) → PrintsAll text trace with_state all → Prints text with_state (Says trace) all
 all_said text trace with_state all (inl p) = said_so text with_state (TraceSpells trace) (Says trace) all (λ s init ticks t. inl t) p
 all_said text trace with_state all (inr (line, p)) = said_so text with_state (SaysBadly trace line) (Says trace) all (λ s init ticks b. inr (b.0, b.1)) p
 
-module _ (law : (c : CircuitTree) → FrontLinesBegin (Allows c)) (text trace : List ℕ) (with_state : Bool) (printed all : List ℕ) (p : PrintsFront text trace with_state printed)
-    (q : Prints text with_state (Says trace) all) where
+module _ (law : (t : SourceDesign) → FrontLinesBegin (SourceAllows t)) (text trace : List ℕ) (with_state : Bool) (printed all : List ℕ)
+    (p : PrintsFront text trace with_state printed) (q : Prints text with_state (Says trace) all) where
   same_circuit : q.circuit ≡ p.circuit
   same_circuit = p.only_circuit q.circuit q.taken.spelled
 
@@ -47,22 +47,19 @@ module _ (law : (c : CircuitTree) → FrontLinesBegin (Allows c)) (text trace : 
   says : Says trace p.of_trace q.init q.ticks
   says = subst (λ s. Says trace s q.init q.ticks) same_shape q.said
 
-  run : IsRun (Allows p.circuit) q.init q.ticks q.shown
-  run = subst (λ c. Run c q.init q.ticks q.shown) same_circuit q.run
+  first : PrintsRun p.source with_state p.init p.ticks p.shown printed
+  first = p.prints p.source p.is_source
 
-  lines : all ≡ run_text (widths (outputs p.circuit)) (shape p.circuit).state with_state q.shown
-  lines = q.lines ∙ ap (λ c. run_text (widths (outputs c)) (shape c).state with_state q.shown) same_circuit
-
-  only : IsOnlyRun (Allows p.circuit) p.init p.ticks p.shown
-  only = record { run = p.run; only = p.only_run }
+  whole : PrintsRun p.source with_state q.init q.ticks q.shown all
+  whole = q.prints p.source (subst (λ c. IsSourceOf c p.source) (sym same_circuit) p.is_source)
 
   begins : (later : List ℕ) × (all ≡ printed ++ later)
   begins =
       let front =
-      law p.circuit (widths (outputs p.circuit)) (shape p.circuit).state with_state trace p.of_trace p.said.0 p.init q.init p.ticks q.ticks p.shown q.shown p.said.1 p.said.2 only
-      says run
+      law p.source (output_widths p.source) (source_shape p.source).state with_state trace p.of_trace p.said.0 p.init q.init p.ticks q.ticks p.shown q.shown
+      p.said.1 p.said.2 (record { run = first.run; only = first.only_run }) says whole.run
       in
-      (front.back, lines ∙ front.parts ∙ ap (λ l. l ++ front.back) (sym p.lines))
+      (front.back, whole.lines ∙ front.parts ∙ ap (λ l. l ++ front.back) (sym first.lines))
 
-pub fronts_begin : ((c : CircuitTree) → FrontLinesBegin (Allows c)) → FrontsBegin
+pub fronts_begin : ((t : SourceDesign) → FrontLinesBegin (SourceAllows t)) → FrontsBegin
 fronts_begin law text trace with_state printed p all q = begins law text trace with_state printed all p (all_said text trace with_state all q)

@@ -4,10 +4,10 @@ use Rattle.std.specs.Prelude.{take_while, position, nat_eq, nat_lt, if◌then◌
 use Rattle.std.specs.List.{AllByRecursion}
 use Rattle.fir_ast.specs.declared.place.Place.{Place}
 use Rattle.fir_lex.specs.Tokens.{Token, Placed, line_end}
-use Rattle.fir_lex.specs.Bytes.{next_place, place_behind, ends_line, line_end_length, is_blank}
-use Rattle.fir_lex.specs.Front.{Front, found, passed, bad_byte, bad_literal, front}
-use Rattle.fir_lex.specs.Levels.{Move, closing, move_out, innermost, move_to}
-use Rattle.fir_lex.specs.Lexed.{Lexed, placed_at, with_tokens, Rest, go_on, in_line, is_idle, idle_length, behind_spaces, begin_counted, begin_line, closed_at, lexed_from, lexed}
+use Rattle.fir_lex.specs.working.Bytes.{next_place, place_behind, ends_line, line_end_length, is_blank}
+use Rattle.fir_lex.specs.working.Front.{Front, found, passed, bad_byte, bad_literal, front}
+use Rattle.fir_lex.specs.working.Levels.{Move, closing, move_out, innermost, move_to}
+use Rattle.fir_lex.specs.working.Lexed.{Lexed, placed_at, with_tokens, Rest, go_on, in_line, is_idle, idle_length, behind_spaces, begin_counted, begin_line, closed_at, lexed_from, lexed}
 use Rattle.fir_parse.specs.Lexemes.{lexeme_of}
 use Rattle.fir_parse.specs.Spells.{terminals}
 use Rattle.fir_driver.proofs.WordPieces.{IsSpelledWell, AreSpelledWell}

@@ -2,40 +2,44 @@
 use Rattle.std.proofs.Common.{ℕ, List, [], ◌++◌, ◌∙◌, subst, map}
 use Rattle.fir_ast.specs.Circuits.{CircuitTree}
 use Rattle.fir_parse.specs.working.Laws.{SpellsOneTree}
-use Rattle.fir_meaning.specs.working.Laws.{FaultlessHasOne, FaultlessRunsOnce}
+use Rattle.fir_meaning.specs.Elaborated.{IsSourceOf}
+use Rattle.fir_meaning.specs.SourceDesigns.{SourceDesign}
 use Rattle.fir_net.specs.declared.net.FlatNet.{FlatNet}
 use Rattle.fir_net.specs.Names.{AreNamed}
 use Rattle.fir_net.specs.Rows.{Row, Word, net_rows, net_words, row_names, word_names}
-use Rattle.fir_lower.specs.CircuitRows.{circuit_rows}
-use Rattle.fir_lower.specs.working.Lowers.{Lowers}
+use Rattle.fir_inst.specs.SourceRows.{source_rows}
+use Rattle.fir_inst.specs.working.FlattensTo.{FlattensTo, MeansSource}
 use Rattle.ver_build.specs.working.Laws.{NamesAreForRows}
 use Rattle.trace_text.specs.Shapes.{TraceShape}
 use Rattle.fir_sim.specs.working.Shapes.{IsShapeOf}
-use Rattle.fir_driver.specs.Emits.{Takes}
-use Rattle.fir_driver.specs.Traces.{IsTraceShape}
-use Rattle.fir_meaning.specs.working.Faults.{Faultless}
+use Rattle.fir_driver.specs.Traces.{IsShapeFor, IsTraceShape}
 use Rattle.fir_driver.specs.working.Made.{IsMadeOf}
+use Rattle.fir_driver.specs.working.Readings.{CompilesText}
 
-module _ (c : CircuitTree) (net : FlatNet) (s : TraceShape) (lowered : Lowers c net) (of_net : IsShapeOf net s) where
-  trace_shape : NamesAreForRows → IsTraceShape c s
-  trace_shape names =
-      let in_table = subst (λ (ns : List (List ℕ)). AreNamed [] (row_names (net_rows net) ++ word_names (net_words net)) ns) of_net.names (names net of_net.table lowered.whole of_net.named) in
-      let of_rows = subst (λ (rows : List Row). AreNamed [] (row_names rows ++ word_names (net_words net)) (of_net.ports ++ map (λ w. w.name) s.state)) lowered.ports in_table in
+module _ (names : NamesAreForRows) (c : CircuitTree) (net : FlatNet) (s : TraceShape) (flat : FlattensTo c net) (of_net : IsShapeOf net s) where
+  shape_for : (t : SourceDesign) → IsSourceOf c t → IsShapeFor t s
+  shape_for t is =
+      let means : MeansSource t net = flat.each t is in
+      let in_table = subst (λ (ns : List (List ℕ)). AreNamed [] (row_names (net_rows net) ++ word_names (net_words net)) ns) of_net.names (names net of_net.table flat.whole of_net.named) in
+      let of_rows = subst (λ (rows : List Row). AreNamed [] (row_names rows ++ word_names (net_words net)) (of_net.ports ++ map (λ w. w.name) s.state)) means.ports in_table in
       record {
-        values = of_net.values ∙ lowered.shapes;
+        values = of_net.values ∙ means.shapes;
         registers = of_net.registers;
         ports = of_net.ports;
-        named = subst (λ (words : List Word). AreNamed [] (row_names (circuit_rows c) ++ word_names words) (of_net.ports ++ map (λ w. w.name) s.state)) lowered.words of_rows;
+        named = subst (λ (words : List Word). AreNamed [] (row_names (source_rows t) ++ word_names words) (of_net.ports ++ map (λ w. w.name) s.state)) means.words of_rows;
       }
 
-  pub made_of : SpellsOneTree → FaultlessHasOne → FaultlessRunsOnce → NamesAreForRows → Faultless c → (text : List ℕ) → Takes text c → IsMadeOf text net s
-  made_of one has_one runs_once names faultless text taken = record {
-    circuit = c;
-    taken = taken;
-    only_circuit = λ other spelled. one text other c spelled taken.spelled;
-    one = has_one c taken.in_language faultless;
-    runs_once = runs_once c taken.in_language faultless;
-    lowered = lowered;
-    shaped = trace_shape names;
-    of_net = of_net.values;
-  }
+  trace_shape : IsTraceShape c s
+  trace_shape = record { source = flat.source; is_source = flat.is_source; each = shape_for }
+
+pub made_of : SpellsOneTree → NamesAreForRows → (text : List ℕ) (net : FlatNet) (s : TraceShape) → CompilesText text net → IsShapeOf net s
+    → IsMadeOf text net s
+made_of one names text net s h of_net = record {
+  circuit = h.circuit;
+  taken = h.taken;
+  only_circuit = λ other spelled. one text other h.circuit spelled h.taken.spelled;
+  flattened = h.flattened;
+  one = h.one;
+  shaped = trace_shape names h.circuit net s h.flattened of_net;
+  of_net = of_net.values;
+}

@@ -1,13 +1,17 @@
 -- From how the parts of a simulation end to what the whole does.
-use Rattle.std.proofs.Common.{◌≡◌, ℕ, ◌<◌, List, [], ◌∷◌, length, Option, Bool, IfSome, ◌⊎◌, inl, inr, refl, sym, ap, ◌∙◌, subst}
-use Rattle.fir_base.specs.Ticks.{Tick, TickResult, Allowance, IsRun}
+use Rattle.std.proofs.Common.{◌≡◌, ℕ, ◌<◌, List, length, Option, Bool, IfSome, ◌⊎◌, inl, inr, refl, sym, ap, ◌∙◌, subst}
+use Rattle.fir_base.specs.Ticks.{Tick, TickResult, IsRun}
 use Rattle.fir_io.specs.Ports.{FilesSeen, SinkSeen, Rose, Grew}
 use Rattle.fir_ast.specs.Circuits.{CircuitTree}
-use Rattle.fir_meaning.specs.Leaves.{outputs, widths}
-use Rattle.fir_meaning.specs.Allows.{Allows}
+use Rattle.fir_meaning.specs.Elaborated.{IsSourceOf}
+use Rattle.fir_meaning.specs.SourceDesigns.{SourceDesign}
+use Rattle.fir_meaning.specs.SourceOne.{One}
 use Rattle.fir_net.specs.declared.net.FlatNet.{FlatNet}
 use Rattle.fir_net.specs.working.Settled.{shape as net_shape}
 use Rattle.fir_net.specs.working.Allows.{Allows as NetAllows}
+use Rattle.fir_net.specs.working.One.{One as NetOne}
+use Rattle.fir_inst.specs.working.FlattensTo.{FlattensTo, MeansSource}
+use Rattle.fir_sim.specs.working.Views.{output_widths as net_widths}
 use Rattle.trace_text.specs.Shapes.{TraceShape}
 use Rattle.trace_text.specs.RunLines.{run_text}
 use Rattle.fir_driver.specs.declared.status.Status.{Status}
@@ -17,47 +21,53 @@ use Rattle.fir_driver.specs.Messages.{unread_line, too_long_line, memory_line}
 use Rattle.fir_driver.specs.Refusals.{Refuses}
 use Rattle.fir_driver.specs.Outside.{IsRead, Outside, outside, limit, Kept}
 use Rattle.fir_driver.specs.working.Endings.{Said, Complained}
-use Rattle.fir_driver.specs.Simulations.{Prints, PrintsFront}
+use Rattle.fir_driver.specs.Simulations.{Prints, PrintsFront, PrintsRun}
+use Rattle.fir_driver.specs.Sources.{SourceAllows, output_widths}
 use Rattle.fir_driver.specs.Simulates.{IsAsked, DueAtOnce, BeganTicks, MetBadLine, Simulates}
 use Rattle.fir_driver.specs.working.Running.{Ran}
 use Rattle.fir_driver.specs.working.Laws.{FrontsBegin}
 use Rattle.fir_driver.specs.working.Made.{IsMadeOf}
 use Rattle.fir_driver.specs.working.SimulationEndings.{BeganLines, MetBadly, OfTrace, NotRead, OfText}
+use Rattle.fir_driver.proofs.AllRuns.{one_run, same_runs}
+use Rattle.fir_driver.proofs.SourceRuns.{from_net, source_allows_one, source_one}
 use Rattle.fir_driver.proofs.Told.{kept_same}
 
--- what one allows the other allows too
-run_of : (p q : Allowance) → ((state : List ℕ) (tick : Tick) (shown after : List ℕ) → p state tick shown after → q state tick shown after)
-    → (state : List ℕ) (ticks : List Tick) (shown : List TickResult) → IsRun p state ticks shown → IsRun q state ticks shown
-run_of p q h state [] [] r = tt
-run_of p q h state [] (s ∷ shown) r = absurd r
-run_of p q h state (t ∷ ticks) [] r = absurd r
-run_of p q h state (t ∷ ticks) (s ∷ shown) r = (h state t s.outputs s.state r.0, run_of p q h s.state ticks shown r.1)
+-- a run of the net is the one run of the source of the circuit that it was made of
+prints_run : (c : CircuitTree) (net : FlatNet) (flat : FlattensTo c net) (one : NetOne net) (with_state : Bool) (init : List ℕ) (ticks : List Tick)
+    (shown : List TickResult) (printed : List ℕ) → IsRun (NetAllows net) init ticks shown
+    → printed ≡ run_text (net_widths net) (net_shape net).state with_state shown → (t : SourceDesign) → IsSourceOf c t
+    → PrintsRun t with_state init ticks shown printed
+prints_run c net flat one with_state init ticks shown printed ran lines t is =
+    let means : MeansSource t net = flat.each t is in
+    let run : IsRun (SourceAllows t) init ticks shown =
+    same_runs (NetAllows net) (SourceAllows t) (from_net c net flat one t is) init ticks shown ran in
+    let one_source : One t = source_one c net flat one t is in
+    record {
+      one = one_source;
+      run = run;
+      only_run = λ others other. one_run (SourceAllows t) (source_allows_one t one_source) init ticks shown others run other;
+      lines =
+          lines
+          ∙ ap (λ (ws : List ℕ). run_text ws (net_shape net).state with_state shown) means.output_widths
+          ∙ ap (λ x. run_text (output_widths t) x.state with_state shown) means.shapes;
+    }
 
--- a run of the net is one of the circuit that it was made of
 pub prints : (text : List ℕ) (net : FlatNet) (s : TraceShape) (with_state : Bool) (Says : TraceShape → List ℕ → List Tick → Type 0) (printed : List ℕ) → IsMadeOf text net s
     → Ran net s with_state Says printed → Prints text with_state Says printed
-prints text net s with_state Says printed made ran =
-    let c : CircuitTree = made.circuit in
-    let run : IsRun (Allows c) ran.init ran.ticks ran.shown =
-    run_of (NetAllows net) (Allows c) (λ state tick shown after. (made.lowered.allows state tick shown after).0) ran.init ran.ticks ran.shown ran.run in
-    record {
-      circuit = c;
-      taken = made.taken;
-      only_circuit = made.only_circuit;
-      one = made.one;
-      of_trace = s;
-      shaped = made.shaped;
-      init = ran.init;
-      ticks = ran.ticks;
-      said = ran.said;
-      shown = ran.shown;
-      run = run;
-      only_run = λ others other. made.runs_once ran.init ran.ticks ran.shown others run other;
-      lines =
-          ran.lines
-          ∙ ap (λ (ws : List ℕ). run_text ws (net_shape net).state with_state ran.shown) made.lowered.output_widths
-          ∙ ap (λ x. run_text (widths (outputs c)) x.state with_state ran.shown) made.lowered.shapes;
-    }
+prints text net s with_state Says printed made ran = record {
+  circuit = made.circuit;
+  taken = made.taken;
+  only_circuit = made.only_circuit;
+  of_trace = s;
+  shaped = made.shaped;
+  init = ran.init;
+  ticks = ran.ticks;
+  said = ran.said;
+  shown = ran.shown;
+  source = made.flattened.source;
+  is_source = made.flattened.is_source;
+  prints = prints_run made.circuit net made.flattened made.one with_state ran.init ran.ticks ran.shown printed ran.run ran.lines;
+}
 
 module _ (fronts_begin : FrontsBegin) (s : Simulated) (files files' : FilesSeen) (out out' err err' : SinkSeen) where
   abbrev before : Outside

@@ -3,7 +3,7 @@ use Rattle.std.proofs.Common.{ℕ, ◌+◌, List, [], ◌∷◌, Option, Some, N
 use Rattle.fir_ast.specs.Statements.{PlacedName, Reset, MemoryPart, data_type, depth, read_latency, write_latency, reader, writer, readwriter, read_under_write, Statement, wire, register, node, instance, memory, when, connect, partial_connect, invalid, skip, Block, done, then}
 use Rattle.fir_parse.specs.Limits.{everywhere}
 use Rattle.fir_parse.specs.StatementForms.{IsResetPair, IsReset, AreNames, IsNames, IsMemoryPart, AreMemoryParts, IsMemoryBody, IsStatement, AreStatements, IsBlock, IsElse}
-use Rattle.fir_driver.proofs.WordPieces.{KeepsWords, token, somewhere, nothing, given, at, next, either}
+use Rattle.fir_driver.proofs.WordPieces.{KeepsWords, keeps, token, somewhere, nothing, given, at, next, either}
 use Rattle.fir_driver.proofs.TypesKeepWords.{int, type_keeps}
 use Rattle.fir_driver.proofs.ExpressionsKeepWords.{expression_keeps, sink_keeps}
 
@@ -21,10 +21,10 @@ names_keep [] = nothing
 names_keep (n ∷ ns) = next token (names_keep ns)
 
 some_names_keep : (ns : List PlacedName) → KeepsWords (IsNames ns)
-some_names_keep [] = record { behind = λ a b x h. absurd x }
+some_names_keep [] = keeps (λ a b x. absurd x)
 some_names_keep (n ∷ ns) = next somewhere (next token (next (names_keep ns) somewhere))
 
-memory_part : (d : ℕ) (f : MemoryPart) → KeepsWords (IsMemoryPart everywhere d f)
+pub memory_part : (d : ℕ) (f : MemoryPart) → KeepsWords (IsMemoryPart everywhere d f)
 memory_part d (data_type p q t) = next token (next somewhere (next (next at (type_keeps d t)) somewhere))
 memory_part d (depth p n) = next token (next somewhere (next int somewhere))
 memory_part d (read_latency p n) = next token (next somewhere (next int somewhere))
@@ -57,11 +57,11 @@ mutual
   statement_keeps d (invalid p s) = next (sink_keeps d s) (next somewhere (next somewhere (next somewhere given)))
   statement_keeps d (skip p) = next token somewhere
 
-  statements_keep : (d : ℕ) (b : Block) → KeepsWords (AreStatements everywhere d b)
+  pub statements_keep : (d : ℕ) (b : Block) → KeepsWords (AreStatements everywhere d b)
   statements_keep d done = nothing
   statements_keep d ((then) s rest) = next (statement_keeps d s) (statements_keep d rest)
 
-  block_keeps : (d : ℕ) (b : Block) → KeepsWords (IsBlock everywhere d b)
+  pub block_keeps : (d : ℕ) (b : Block) → KeepsWords (IsBlock everywhere d b)
   block_keeps d done = either nothing (next somewhere somewhere)
   block_keeps d ((then) s rest) = next somewhere (next (statement_keeps d s) (next (statements_keep d rest) somewhere))
 

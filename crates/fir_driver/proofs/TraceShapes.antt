@@ -9,7 +9,8 @@ use Rattle.fir_ast.specs.Circuits.{CircuitTree}
 use Rattle.fir_net.specs.Names.{is_free, suffixed, IsFirstFree, AreNamed}
 use Rattle.trace_text.specs.declared.shape.StateWord.{StateWord}
 use Rattle.trace_text.specs.Shapes.{TraceShape, shape_of, state_widths, plain}
-use Rattle.fir_driver.specs.Traces.{IsTraceShape}
+use Rattle.fir_meaning.specs.SourceDesigns.{SourceDesign}
+use Rattle.fir_driver.specs.Traces.{IsShapeFor, IsTraceShape}
 
 module _ (taken : List (List ℕ)) (base a b : List ℕ) where
   not_below : (p : IsFirstFree taken base a) (q : IsFirstFree taken base b) → p.number < q.number → ⊥
@@ -92,8 +93,8 @@ same_shape : (s t : TraceShape) → s.inputs ≡ t.inputs → s.clocks ≡ t.clo
 same_shape s t inputs clocks state =
     ap (λ i. shape_of i s.clocks s.state) inputs ∙ ap (λ n. shape_of t.inputs n s.state) clocks ∙ ap (λ ws. shape_of t.inputs t.clocks ws) state
 
-pub one_shape : (c : CircuitTree) (s t : TraceShape) → IsTraceShape c s → IsTraceShape c t → s ≡ t
-one_shape c s t p q =
+one_shape_for : (x : SourceDesign) (s t : TraceShape) → IsShapeFor x s → IsShapeFor x t → s ≡ t
+one_shape_for x s t p q =
     let values : plain s ≡ plain t = p.values ∙ sym q.values in
     let widths : word_widths s.state ≡ word_widths t.state =
     sym (register_widths s.state p.registers) ∙ ap (λ x. x.state) values ∙ register_widths t.state q.registers in
@@ -101,3 +102,6 @@ one_shape c s t p q =
     let names : word_names s.state ≡ word_names t.state =
     same_ends p.ports q.ports (word_names s.state) (word_names t.state) (one_naming [] _ _ _ p.named q.named) long in
     same_shape s t (ap (λ x. x.inputs) values) (ap (λ x. x.clocks) values) (same_registers s.state t.state p.registers q.registers names widths)
+
+pub one_shape : (c : CircuitTree) (s t : TraceShape) → IsTraceShape c s → IsTraceShape c t → s ≡ t
+one_shape c s t p q = one_shape_for p.source s t (p.each p.source p.is_source) (q.each p.source p.is_source)

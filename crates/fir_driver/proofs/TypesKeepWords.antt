@@ -6,16 +6,16 @@ use Rattle.fir_ast.specs.Types.{DataType, uint, sint, clock, reset, async_reset,
 use Rattle.fir_parse.specs.Limits.{everywhere}
 use Rattle.fir_parse.specs.Pieces.{Digits, FieldName, Int, IntAt}
 use Rattle.fir_parse.specs.TypeForms.{IsWidth, IsFlip, IsType, AreFields, AreMoreFields}
-use Rattle.fir_driver.proofs.WordPieces.{KeepsWords, token, somewhere, nothing, given, at, next, either}
+use Rattle.fir_driver.proofs.WordPieces.{KeepsWords, keeps, token, somewhere, nothing, given, at, next, either}
 
 digits : {n : ℕ} {p : Place} → KeepsWords (Digits n p)
-digits = record { behind = λ a b x h. (token).behind a b x.3 h }
+digits = keeps (λ a b x. (token).front a b x.3)
 
 pub int_at : {n : ℕ} {p : Place} → KeepsWords (IntAt everywhere n p)
 int_at = next digits given
 
 pub int : {n : ℕ} → KeepsWords (Int everywhere n)
-int = record { behind = λ a b x h. (int_at).behind a b x.1 h }
+int = keeps (λ a b x. (int_at).front a b x.1)
 
 pub field_name : {n : PlacedName} → KeepsWords (FieldName n)
 field_name = either token (next given token)
@@ -24,7 +24,7 @@ pub width : (w : Option ℕ) → KeepsWords (IsWidth everywhere w)
 width None = nothing
 width (Some n) = next somewhere (next int somewhere)
 
-flipped : (f : Bool) → KeepsWords (IsFlip f)
+pub flipped : (f : Bool) → KeepsWords (IsFlip f)
 flipped false = nothing
 flipped true = somewhere
 

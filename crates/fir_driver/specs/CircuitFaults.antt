@@ -1,11 +1,16 @@
--- The faults of a circuit, in the groups in which they are looked for: none of the first groups stands in it, none at all, or which fault is the first.
-use Rattle.std.specs.Prelude.{ℕ, ◌≤◌}
+-- The faults of a circuit, in the groups in which they are looked for: none of the first groups stands in it, none at all, or which fault is the first; and the
+-- forms that `emit` and `sim` lack.
+use Rattle.std.specs.Prelude.{◌≡◌, ℕ, ◌≤◌, Some, None}
 use Rattle.fir_ast.specs.declared.fault.FirFault.{FirFault}
 use Rattle.fir_ast.specs.Circuits.{CircuitTree}
 use Rattle.fir_pass.specs.Faults.{fault_of}
 use Rattle.fir_pass.specs.Groups.{IsClear}
 use Rattle.fir_pass.specs.Law.{IsFirst}
+use Rattle.fir_meaning.specs.Lack.{Lack}
+use Rattle.fir_meaning.specs.LeafedModules.{Scene}
+use Rattle.fir_meaning.specs.Scenes.{IsSceneOf}
 use Rattle.fir_meaning.specs.SourceMeaning.{circuit_meaning}
+use Rattle.fir_lack.specs.Lacking.{lacking}
 
 -- none of the groups up to the last that is looked for
 abbrev pub IsClearUpTo : ℕ → CircuitTree → Type 0
@@ -17,3 +22,10 @@ ShowsNone c = (k : ℕ) → IsClear ((circuit_meaning c).group k)
 -- the first of the groups up to the last that is looked for
 abbrev pub IsFirstUpTo : ℕ → CircuitTree → FirFault → Type 0
 IsFirstUpTo last c f = IsFirst 1 last (circuit_meaning c) (fault_of f)
+
+-- no form is lacking, or which is the first
+abbrev pub LacksNone : CircuitTree → Type 0
+LacksNone c = (s : Scene) × IsSceneOf c 0 s × (lacking c s ≡ None)
+
+abbrev pub LacksFirst : CircuitTree → Lack → Type 0
+LacksFirst c l = (s : Scene) × IsSceneOf c 0 s × (lacking c s ≡ Some l)

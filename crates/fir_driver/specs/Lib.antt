@@ -1,4 +1,5 @@
 pub mod Runs
+pub mod Sources
 pub mod Compiles
 pub mod Command
 pub mod Messages

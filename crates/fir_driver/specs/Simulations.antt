@@ -4,8 +4,10 @@ use Rattle.std.specs.Prelude.{◌≡◌, ℕ, List, ◌++◌, Bool, ◌⊎◌}
 use Rattle.fir_base.specs.Ticks.{Tick, TickResult}
 use Rattle.fir_ast.specs.Circuits.{CircuitTree}
 use Rattle.fir_parse.specs.Spells.{Spells}
-use Rattle.fir_meaning.specs.Leaves.{outputs, widths, shape}
-use Rattle.fir_meaning.specs.Allows.{One, Run}
+use Rattle.fir_meaning.specs.Elaborated.{IsSourceOf}
+use Rattle.fir_meaning.specs.SourceCircuits.{source_shape}
+use Rattle.fir_meaning.specs.SourceDesigns.{SourceDesign}
+use Rattle.fir_meaning.specs.SourceOne.{One}
 use Rattle.trace_text.specs.declared.fault.TraceFault.{TraceFault}
 use Rattle.trace_text.specs.Lines.{AreLines}
 use Rattle.trace_text.specs.Shapes.{TraceShape}
@@ -14,23 +16,31 @@ use Rattle.trace_text.specs.BadLine.{BadLine}
 use Rattle.trace_text.specs.FaultTexts.{fault_text}
 use Rattle.trace_text.specs.RunLines.{run_text}
 use Rattle.fir_driver.specs.Emits.{Takes}
+use Rattle.fir_driver.specs.Sources.{SourceRun, output_widths}
 use Rattle.fir_driver.specs.Traces.{IsTraceShape}
+
+-- in a source these are the results of its one run from an initial state through ticks, and the lines that they give
+pub record PrintsRun (t : SourceDesign) (with_state : Bool) (init : List ℕ) (ticks : List Tick) (shown : List TickResult) (printed : List ℕ) : Type 0 where
+  pub one : One t
+  pub run : SourceRun t init ticks shown
+  pub only_run : (others : List TickResult) → SourceRun t init ticks others → others ≡ shown
+  pub lines : printed ≡ run_text (output_widths t) (source_shape t).state with_state shown
 
 -- the lines of the one run of the circuit over what a trace says
 pub record Prints (text : List ℕ) (with_state : Bool) (Says : TraceShape → List ℕ → List Tick → Type 0) (printed : List ℕ) : Type 0 where
   pub circuit : CircuitTree
   pub taken : Takes text circuit
   pub only_circuit : (other : CircuitTree) → Spells text other → other ≡ circuit
-  pub one : One circuit
   pub of_trace : TraceShape
   pub shaped : IsTraceShape circuit of_trace
   pub init : List ℕ
   pub ticks : List Tick
   pub said : Says of_trace init ticks
   pub shown : List TickResult
-  pub run : Run circuit init ticks shown
-  pub only_run : (others : List TickResult) → Run circuit init ticks others → others ≡ shown
-  pub lines : printed ≡ run_text (widths (outputs circuit)) (shape circuit).state with_state shown
+  -- the circuit has a source, and whichever it is, these are its results
+  pub source : SourceDesign
+  pub is_source : IsSourceOf circuit source
+  pub prints : (t : SourceDesign) → IsSourceOf circuit t → PrintsRun t with_state init ticks shown printed
 
 -- the whole trace is spelled
 abbrev pub PrintsWhole : List ℕ → List ℕ → Bool → List ℕ → Type 0

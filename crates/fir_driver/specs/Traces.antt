@@ -1,18 +1,25 @@
 -- The traces of a circuit.
--- A tick gives a value for each input of the circuit and names clocks, both in port order; the words of the state are the registers, under the names that
--- they have in the emitted text.
+-- A tick gives a value for each input leaf of the circuit's source and names clocks, both in the order of the ports; the words of the state are the registers'
+-- leaves, under the names that they have in the emitted text.
 use Rattle.std.specs.Prelude.{◌≡◌, ℕ, List, [], ◌++◌, None, map}
 use Rattle.std.specs.List.{AllByRecursion}
 use Rattle.fir_ast.specs.Circuits.{CircuitTree}
-use Rattle.fir_meaning.specs.Leaves.{shape}
+use Rattle.fir_meaning.specs.Elaborated.{IsSourceOf}
+use Rattle.fir_meaning.specs.SourceCircuits.{source_shape}
+use Rattle.fir_meaning.specs.SourceDesigns.{SourceDesign}
 use Rattle.fir_net.specs.Names.{AreNamed}
 use Rattle.fir_net.specs.Rows.{row_names, word_names}
-use Rattle.fir_lower.specs.CircuitRows.{circuit_rows, circuit_words}
+use Rattle.fir_inst.specs.SourceRows.{source_rows, source_words}
 use Rattle.trace_text.specs.Shapes.{TraceShape, plain}
 
-pub record IsTraceShape (c : CircuitTree) (s : TraceShape) : Type 0 where
-  pub values : plain s ≡ shape c
+pub record IsShapeFor (t : SourceDesign) (s : TraceShape) : Type 0 where
+  pub values : plain s ≡ source_shape t
   pub registers : AllByRecursion (λ w. w.depth ≡ None) s.state
   -- the names of the ports, which come first, and of the words
   pub ports : List (List ℕ)
-  pub named : AreNamed [] (row_names (circuit_rows c) ++ word_names (circuit_words c)) (ports ++ map (λ w. w.name) s.state)
+  pub named : AreNamed [] (row_names (source_rows t) ++ word_names (source_words t)) (ports ++ map (λ w. w.name) s.state)
+
+pub record IsTraceShape (c : CircuitTree) (s : TraceShape) : Type 0 where
+  pub source : SourceDesign
+  pub is_source : IsSourceOf c source
+  pub each : (t : SourceDesign) → IsSourceOf c t → IsShapeFor t s

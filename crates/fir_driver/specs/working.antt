@@ -1,5 +1,4 @@
 -- What no clause of `run` reads: contracts between layers, laws, views of the code and its states.
-pub mod Lacked
 pub mod Commanded
 pub mod Laws
 pub mod Readings

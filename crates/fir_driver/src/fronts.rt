@@ -5,16 +5,16 @@ ghost use Rattle.fir_driver.specs.working.Laws.{FrontsBegin};
 use trace_text::Circuits;
 use trace_text::laws::front_lines_begin;
 
-/// The circuits of texts, which allow what they mean.
+/// The sources of circuits, which allow what they mean.
 pub struct SourceCircuits {}
 
 impl Circuits for SourceCircuits {
-    ghost use Rattle.fir_ast.specs.Circuits.{CircuitTree};
-    ghost use Rattle.fir_meaning.specs.Allows.{Allows};
+    ghost use Rattle.fir_meaning.specs.SourceDesigns.{SourceDesign};
+    ghost use Rattle.fir_driver.specs.Sources.{SourceAllows};
 
-    ghost circuit = { CircuitTree };
+    ghost circuit = { SourceDesign };
 
-    ghost allows = { Allows };
+    ghost allows = { SourceAllows };
 }
 
 /// The lines of the first ticks of a trace begin those of all its ticks, up to its end or to its first bad line.

@@ -1,34 +1,27 @@
 //! The passes on the way of a circuit, in the order in which it takes them: from bytes to tokens, to the tree, to
 //! the tree with its names, with its types, with its resets and widths, and over its ground leaves, which are not
-//! too many and of which each is driven; which has only forms that are taken so far, to the net and its order;
-//! and from there to the Verilog tree and its text, or to the simulator's net with the shape of its traces.
+//! too many; to the nets of its modules, in which each leaf is driven; which has only forms that are taken so far, to
+//! one flat net and its order (`compile`); and from there to the Verilog tree and its text, or to the shape of its
+//! traces.
 
-ghost use Rattle.std.specs.Prelude.{◌≤◌, IfOk, IsTrue, length};
-ghost use Rattle.fir_ast.specs.View.{circuit_of};
-ghost use Rattle.fir_meaning.specs.working.Faults.{Faultless};
-ghost use Rattle.fir_meaning.specs.Lacking.{is_in_language};
+ghost use Rattle.std.specs.Prelude.{◌≤◌, IfOk, length};
 ghost use Rattle.fir_net.specs.working.IsNet.{IsNet};
-ghost use Rattle.fir_net.specs.working.HasHeights.{HasHeights};
 ghost use Rattle.fir_net.specs.working.IsOrder.{IsOrder};
-ghost use Rattle.fir_lower.specs.working.HasWords.{HasWords};
-ghost use Rattle.fir_lower.specs.working.Lowers.{Lowers};
-ghost use Rattle.fir_driver.specs.Compiles.{Compiles};
-ghost use Rattle.fir_driver.specs.working.Lacked.{lack_of};
-ghost use Rattle.fir_driver.specs.working.Readings.{IsCheckedTree, IsEmitted, IsTaken, IsTree, IsUnsupported};
+ghost use Rattle.fir_loop.specs.working.Orders.{IsOrdered};
+ghost use Rattle.fir_lack.specs.working.Lacks.{lack_of};
 ghost use Rattle.fir_driver.specs.working.Made.{Makes};
+ghost use Rattle.fir_driver.specs.working.Readings.{IsCheckedTree, IsCompiled, IsEmitted, IsTree, IsUnsupported, OrdersNet};
 
-use crate::lacking::{Lack, lacking};
-use crate::laws::{spelled_names_are_words, taken_is_faultless};
-use crate::ordered_net::OrderedNet;
+use crate::compiled::Compiled;
+use crate::laws::spelled_names_are_words;
 use fir_ast::{Circuit, FirFault};
 use fir_base::{MemoryOut, Name, Refused};
 use fir_expand::{LeafCircuit, expand};
-use fir_lex::laws::lexed_form_by_form;
+use fir_inst::flatten;
+use fir_lack::{Lack, lacking};
+use fir_lex::laws::{faults_form_by_form, lexed_form_by_form};
 use fir_lex::lex;
-use fir_loop::laws::heights_have_no_loop;
-use fir_loop::{Order, order};
-use fir_lower::lower;
-use fir_meaning::{faultless_has_one, faultless_runs_once};
+use fir_loop::order;
 use fir_names::{Named, resolve};
 use fir_net::FlatNet;
 use fir_net::laws::nodes_have_their_types;
@@ -39,7 +32,6 @@ use fir_whens::{NetCircuit, lower_whens};
 use fir_width::{Fitted, infer};
 use std::alloc::Global;
 use trace_text::Shape;
-use ver_ast::Verilog;
 use ver_build::{build, names_are_for_rows};
 use ver_emit::{layout_has_no_comment, layout_is_spelled, write_verilog};
 
@@ -48,6 +40,7 @@ fn read_tree(alloc: Global, bytes: &[u8]) -> Result<Circuit, Refused<FirFault>>
     ensures { IsTree bytes.now result }
 {
     lexed_form_by_form();
+    faults_form_by_form();
     let tokens = lex(alloc, bytes)?;
     match parse(alloc, tokens) {
         Ok(tree) => Ok(tree),
@@ -124,7 +117,7 @@ fn read_nets(alloc: Global, bytes: &[u8]) -> Result<NetCircuit, Refused<FirFault
     }
 }
 
-/// Why a text is refused whose tree has a form that the language lacks.
+/// Why a text is refused whose tree has a form that is lacking so far.
 fn unsupported(alloc: Global, lack: Lack) -> Refused<FirFault>
     ensures { IsUnsupported (lack_of lack.entry) result }
 {
@@ -134,64 +127,35 @@ fn unsupported(alloc: Global, lack: Lack) -> Refused<FirFault>
     }
 }
 
-/// The circuit that the bytes spell, with its names, in the language and without fault, or the fault for
-/// which it is refused: of the text, else the first of its circuit, else the first form that the language lacks.
-pub fn read_circuit(alloc: Global, bytes: &[u8]) -> Result<Named, Refused<FirFault>>
-    requires { length bytes.now ≤ 16777216 }
-    ensures taken { IsTaken bytes.now result }
-    ensures faultless { IfOk result (λ n. Faultless (circuit_of n)) }
+/// The net with its order, or a closed walk of dependence in it.
+fn in_order(alloc: Global, net: FlatNet) -> Result<Compiled, Refused<FirFault>>
+    requires { IsNet net }
+    ensures { OrdersNet net result }
 {
-    taken_is_faultless();
+    let order = order(alloc, &net)?;
+    Ok(Compiled { net, order })
+}
+
+/// The flat net of the circuit that the bytes spell, with its order. It allows at every tick what the circuit's source
+/// allows, with its names, and has exactly one choice of values; or else the fault for which the text is refused: of the
+/// text, else the first of its circuit up to E24, else the first form that is lacking so far, else the first behind it.
+pub fn compile(alloc: Global, bytes: &[u8]) -> Result<Compiled, Refused<FirFault>>
+    requires { length bytes.now ≤ 16777216 }
+    ensures compiled { IsCompiled bytes.now result }
+    ensures in_order { IfOk result (λ compiled. IsOrder compiled.net compiled.order) }
+{
+    spelled_names_are_words();
     let nets = read_nets(alloc, bytes)?;
-    let leaves = nets.into_leafed();
-    // Its modules have scenes, over which the law speaks.
-    let _modules = leaves.modules();
-    let named = leaves.into_fitted().into_typed().into_named();
-    if let Some(lack) = lacking(&named) {
+    // Its modules have scenes, of which the lack is told.
+    let _modules = nets.leafed().modules();
+    if let Some(lack) = lacking(alloc, nets.leafed())? {
         return Err(unsupported(alloc, lack));
     }
-    Ok(named)
-}
-
-/// The order of a net whose leaves do not hang on themselves.
-fn order_without_loop(alloc: Global, net: &FlatNet) -> Result<Order, MemoryOut>
-    requires whole { IsNet net.now }
-    requires heights { HasHeights net.now }
-    ensures { IfOk result (λ o. IsOrder net.now o) }
-{
-    heights_have_no_loop();
-    match order(alloc, net) {
-        Ok(order) => Ok(order),
-        Err(Refused::Memory) => Err(MemoryOut),
-        Err(Refused::Fault(_)) => unreachable!(),
+    match flatten(alloc, nets) {
+        Ok(net) => in_order(alloc, net),
+        Err(Refused::Fault((fault, _nets))) => Err(Refused::Fault(fault)),
+        Err(Refused::Memory) => Err(Refused::Memory),
     }
-}
-
-/// The net that a circuit without faults is lowered to, with its order.
-fn ordered_net(alloc: Global, c: &Circuit) -> Result<OrderedNet, MemoryOut>
-    requires in_language { IsTrue (is_in_language (circuit_of c.now)) }
-    requires words { HasWords (circuit_of c.now) }
-    requires faultless { Faultless (circuit_of c.now) }
-    ensures lowered { IfOk result (λ o. Lowers (circuit_of c.now) o.net) }
-    ensures in_order { IfOk result (λ o. IsOrder o.net o.order) }
-{
-    let net = lower(alloc, c)?;
-    let order = order_without_loop(alloc, &net)?;
-    Ok(OrderedNet { net, order })
-}
-
-/// What a circuit without faults compiles to.
-pub fn compile(alloc: Global, c: &Circuit) -> Result<Verilog, MemoryOut>
-    requires in_language { IsTrue (is_in_language (circuit_of c.now)) }
-    requires words { HasWords (circuit_of c.now) }
-    requires faultless { Faultless (circuit_of c.now) }
-    ensures { IfOk result (λ v. Compiles (circuit_of c.now) v) }
-{
-    faultless_has_one();
-    faultless_runs_once();
-    nodes_have_their_types();
-    let ordered = ordered_net(alloc, c)?;
-    build(alloc, &ordered.net, &ordered.order)
 }
 
 /// The text of the Verilog of the circuit that the bytes spell, or the fault for which it is refused.
@@ -199,30 +163,26 @@ pub fn verilog_of(alloc: Global, bytes: &[u8]) -> Result<Vec<u8>, Refused<FirFau
     requires { length bytes.now ≤ 16777216 }
     ensures { IsEmitted bytes.now (λ text. text.items) result }
 {
-    spelled_names_are_words();
     fir_parse::laws::spells_one_tree();
     ver_ast::spells_one_tree();
     layout_is_spelled();
     layout_has_no_comment();
-    let named = read_circuit(alloc, bytes)?;
-    let verilog = compile(alloc, named.circuit())?;
+    nodes_have_their_types();
+    let compiled = compile(alloc, bytes)?;
+    let verilog = build(alloc, &compiled.net, &compiled.order)?;
     Ok(write_verilog(alloc, &verilog)?)
 }
 
 /// The net of the circuit that the bytes spell, with its order, and the shape of its traces; or the fault for
 /// which it is refused.
-pub fn net_of(alloc: Global, bytes: &[u8]) -> Result<(OrderedNet, Shape), Refused<FirFault>>
+pub fn net_of(alloc: Global, bytes: &[u8]) -> Result<(Compiled, Shape), Refused<FirFault>>
     requires { length bytes.now ≤ 16777216 }
     ensures made { Makes bytes.now result }
     ensures in_order { IfOk result (λ made. IsOrder made.0.net made.0.order) }
 {
-    spelled_names_are_words();
     fir_parse::laws::spells_one_tree();
-    faultless_has_one();
-    faultless_runs_once();
     names_are_for_rows();
-    let named = read_circuit(alloc, bytes)?;
-    let ordered = ordered_net(alloc, named.circuit())?;
-    let shape = shape(alloc, &ordered.net)?;
-    Ok((ordered, shape))
+    let compiled = compile(alloc, bytes)?;
+    let shape = shape(alloc, &compiled.net)?;
+    Ok((compiled, shape))
 }

@@ -9,7 +9,7 @@ ghost use Rattle.trace_text.specs.Shapes.{plain};
 ghost use Rattle.fir_sim.specs.working.Views.{numbers};
 ghost use Rattle.fir_driver.specs.working.Running.{IsReady, IsRunning, Stays, Steps, Begins};
 
-use crate::ordered_net::OrderedNet;
+use crate::compiled::Compiled;
 use fir_base::Refused;
 use fir_bits::Bits;
 use fir_sim::Sim;
@@ -30,21 +30,21 @@ impl Runner {
     /// A runner of the net in the initial state that the trace gives, or the init line that is bad.
     pub fn new(
         alloc: Global,
-        ordered: OrderedNet,
+        compiled: Compiled,
         shape: Shape,
         trace: &[u8],
     ) -> Result<Runner, Refused<TraceFault>>
-        requires whole { IsNet ordered.net }
-        requires in_order { IsOrder ordered.net ordered.order }
-        requires of_net { plain shape ≡ shape_of_net ordered.net }
-        ensures { (with_state : Bool) → Begins trace.now ordered.net shape with_state result }
+        requires whole { IsNet compiled.net }
+        requires in_order { IsOrder compiled.net compiled.order }
+        requires of_net { plain shape ≡ shape_of_net compiled.net }
+        ensures { (with_state : Bool) → Begins trace.now compiled.net shape with_state result }
     {
         trace_reads_in_steps();
         let (init, at) = match read_init(alloc, trace, &shape) {
             Ok(read) => read,
             Err(refused) => return Err(refused),
         };
-        let OrderedNet { net, order } = ordered;
+        let Compiled { net, order } = compiled;
         let sim = Sim::new(alloc, net, order, &init)?;
         let tick = Tick::new(alloc, &shape)?;
         Ok(Runner {

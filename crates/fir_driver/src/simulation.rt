@@ -11,10 +11,10 @@ ghost use Rattle.fir_driver.specs.working.Commanded.{simulated};
 ghost use Rattle.fir_driver.specs.working.SimulationEndings.{FinishSaid, OfText, OfNet, OfTrace};
 
 use crate::command::Simulation;
+use crate::compiled::Compiled;
 use crate::fronts::fronts_begin;
 use crate::lines::{Finish, put_lines};
 use crate::messages::{MEMORY_LINE, UNWRITTEN_LINE, say, say_bad_line, say_fault, say_unread};
-use crate::ordered_net::OrderedNet;
 use crate::passes::net_of;
 use crate::program::LIMIT;
 use crate::runner::Runner;
@@ -57,7 +57,7 @@ fn simulate_text<F: Files, S: Sink, T: Sink>(
     ensures { OfText text.now words.now.trace.now words.now.with_state (outside (F.seen files.old) (S.seen out.old) (T.seen err.old)) (outside (F.seen files.new) (S.seen out.new) (T.seen err.new)) result }
 {
     match net_of(alloc, text) {
-        Ok((ordered, shape)) => simulate_net(alloc, ordered, shape, words, files, out, err),
+        Ok((compiled, shape)) => simulate_net(alloc, compiled, shape, words, files, out, err),
         Err(Refused::Fault(fault)) => say_fault(alloc, err, &fault),
         Err(Refused::Memory) => say(err, MEMORY_LINE, Status::NoMemory),
     }
@@ -66,7 +66,7 @@ fn simulate_text<F: Files, S: Sink, T: Sink>(
 /// Goes on with the circuit's net.
 fn simulate_net<F: Files, S: Sink, T: Sink>(
     alloc: Global,
-    ordered: OrderedNet,
+    compiled: Compiled,
     shape: Shape,
     words: &Simulation,
     files: &mut F,
@@ -74,15 +74,15 @@ fn simulate_net<F: Files, S: Sink, T: Sink>(
     err: &mut T,
 ) -> Status
     requires trace { IsTrue ((F.seen files.old).may words.now.trace.now) }
-    requires whole { IsNet ordered.net }
-    requires in_order { IsOrder ordered.net ordered.order }
-    requires of_net { plain shape ≡ shape_of_net ordered.net }
-    ensures { OfNet ordered.net shape words.now.trace.now words.now.with_state (outside (F.seen files.old) (S.seen out.old) (T.seen err.old)) (outside (F.seen files.new) (S.seen out.new) (T.seen err.new)) result }
+    requires whole { IsNet compiled.net }
+    requires in_order { IsOrder compiled.net compiled.order }
+    requires of_net { plain shape ≡ shape_of_net compiled.net }
+    ensures { OfNet compiled.net shape words.now.trace.now words.now.with_state (outside (F.seen files.old) (S.seen out.old) (T.seen err.old)) (outside (F.seen files.new) (S.seen out.new) (T.seen err.new)) result }
 {
     match files.read(alloc, words.trace, LIMIT) {
         Ok(trace) => simulate_trace(
             alloc,
-            ordered,
+            compiled,
             shape,
             trace.as_slice(),
             words.with_state,
@@ -96,19 +96,19 @@ fn simulate_net<F: Files, S: Sink, T: Sink>(
 /// Goes on with the trace, tick by tick.
 fn simulate_trace<S: Sink, T: Sink>(
     alloc: Global,
-    ordered: OrderedNet,
+    compiled: Compiled,
     shape: Shape,
     trace: &[u8],
     with_state: bool,
     out: &mut S,
     err: &mut T,
 ) -> Status
-    requires whole { IsNet ordered.net }
-    requires in_order { IsOrder ordered.net ordered.order }
-    requires of_net { plain shape ≡ shape_of_net ordered.net }
-    ensures { OfTrace trace.now ordered.net shape with_state (S.seen out.old) (S.seen out.new) (T.seen err.old) (T.seen err.new) result }
+    requires whole { IsNet compiled.net }
+    requires in_order { IsOrder compiled.net compiled.order }
+    requires of_net { plain shape ≡ shape_of_net compiled.net }
+    ensures { OfTrace trace.now compiled.net shape with_state (S.seen out.old) (S.seen out.new) (T.seen err.old) (T.seen err.new) result }
 {
-    match Runner::new(alloc, ordered, shape, trace) {
+    match Runner::new(alloc, compiled, shape, trace) {
         Ok(mut runner) => {
             let finish = put_lines(alloc, &mut runner, trace, with_state, out);
             say_finish(alloc, trace, finish, err)

@@ -5,9 +5,9 @@ use Rattle.fir_base.specs.Ticks.{HasShape, Shape, Tick}
 use Rattle.fir_bits.specs.working.Laws.{HasItsType}
 use Rattle.fir_meaning.specs.LeafModules.{LeafType, a_clock, leaf_at, number}
 use Rattle.fir_meaning.specs.TermValues.{Env}
-use Rattle.fir_leaf.specs.working.LeafAllows as leafed
-use Rattle.fir_leaf.specs.working.LeafCircuits.{LeafCircuit}
-use Rattle.fir_leaf.specs.working.LeafSettled.{Settled, Shows}
+use Rattle.fir_meaning.specs.LeafAllows as leafed
+use Rattle.fir_meaning.specs.LeafCircuits.{LeafCircuit}
+use Rattle.fir_meaning.specs.LeafSettled.{Settled, Shows}
 use Rattle.fir_net.specs.declared.net.FlatNet.{FlatNet}
 use Rattle.fir_net.specs.working.Allows.{Allows}
 use Rattle.fir_net.specs.working.One.{HasOne}
@@ -25,7 +25,7 @@ module _ (law : HasItsType) (c : LeafCircuit) (net : FlatNet) (faithful : IsFait
     h.0.clocks,
     settled_in_net c net faithful law state tick h.0 h.1,
     ap (map h.0.numbers) faithful.flat.outputs ∙ h.2,
-    sym (next_same c net faithful h.0 h.0.numbers h.0.clocks (own_beside c net faithful law state tick h.0 h.1) state tick h.1) ∙ h.4,
+    sym (next_same law c net faithful h.0 h.0.numbers h.0.clocks (own_beside c net faithful law state tick h.0 h.1) state tick h.1) ∙ h.4,
   )
 
   allowed_in_circuit : (shown after : List ℕ) → Allows net state tick shown after → leafed.Allows c state tick shown [] after
@@ -38,7 +38,7 @@ module _ (law : HasItsType) (c : LeafCircuit) (net : FlatNet) (faithful : IsFait
         ap (map env.numbers) (sym faithful.flat.outputs)
             ∙ same_list c net faithful.flat output_number outputs_plain env.numbers h.0 (λ x l at plain. sym (near.numbers.values x l at plain)) ∙ h.3,
         ap (map env.clocks) faithful.flat.no_clock_outputs,
-        next_same c net faithful env h.0 h.1 near state tick settled ∙ h.4,
+        next_same law c net faithful env h.0 h.1 near state tick settled ∙ h.4,
       )
 
   -- any two choices that are settled in the circuit are the same at a leaf, where the net has one

@@ -4,19 +4,17 @@ use Rattle.std.proofs.lemmas.Bool.{cases_lt}
 use Rattle.std.proofs.lemmas.Nat.{pow_pos}
 use Rattle.std.proofs.lemmas.Option.{same_Some}
 use Rattle.fir_base.specs.Ticks.{HasShape, Shape, Tick}
-use Rattle.fir_bits.specs.declared.types.NumTy.{NumTy}
 use Rattle.fir_bits.specs.working.Laws.{HasItsType}
 use Rattle.fir_meaning.specs.LeafModules.{LeafType, a_clock, leaf_at, number, number_type}
 use Rattle.fir_meaning.specs.LeafModules as leafed
 use Rattle.fir_meaning.specs.TermValues.{Env}
-use Rattle.fir_leaf.specs.working.LeafCircuits.{LeafCircuit, depth_of, role_of, type_of_leaf}
-use Rattle.fir_leaf.specs.working.LeafSettled.{Settled, Shows, clock_shown}
-use Rattle.fir_leaf.specs.working.LeafStates.{place_in}
+use Rattle.fir_meaning.specs.LeafCircuits.{LeafCircuit, depth_of, role_of, type_of_leaf}
+use Rattle.fir_meaning.specs.LeafSettled.{Settled, Shows, clock_shown}
+use Rattle.fir_meaning.specs.LeafStates.{place_in}
 use Rattle.fir_net.specs.declared.leaf.Leaf.{Leaf}
 use Rattle.fir_net.specs.declared.leaf.Role.{Role}
 use Rattle.fir_net.specs.declared.leaf.Role.TheVariants as role
 use Rattle.fir_net.specs.declared.net.FlatNet.{FlatNet}
-use Rattle.fir_net.specs.working.Laws.{LeavesFit}
 use Rattle.fir_net.specs.working.Settled.{clock_number, clocks, is_clock, shape}
 use Rattle.fir_net.specs.working.Settled as net_settled
 use Rattle.fir_net.proofs.ClockEquations.{IsTicking, clock_equation}
@@ -29,14 +27,14 @@ use Rattle.fir_net.proofs.ValuesAlong.{IsPlain}
 use Rattle.fir_connect.specs.working.NetRoles.{net_role, net_types}
 use Rattle.fir_flat.specs.working.FlatCircuits.{IsRoleOf, as_module}
 use Rattle.fir_flat.specs.working.FlatLaws.{IsFaithful}
-use Rattle.fir_flat.proofs.FlatLeaves.{clock_at, clock_input_at, holds_clock, kind_at, leaf_inside, leaf_there, number_at, shape_is, type_at}
+use Rattle.fir_flat.proofs.FlatLeaves.{clock_at, clock_input_at, holds_clock, kind_at, leaf_inside, leaf_there, number_at, shape_is}
 use Rattle.fir_flat.proofs.KeptValues.{AreBeside, clock_behind, clock_has_no_number, kept, kept_beside, number_behind, number_has_no_clock}
 use Rattle.fir_flat.proofs.LeafPlaces.{place_is_in}
-use Rattle.fir_flat.proofs.ShownValues.{number_shown_is}
+use Rattle.fir_flat.proofs.ShownValues.{leaves_fit, number_shown_is}
 
 -- a leaf that holds a clock is a source
 clock_source : (c : LeafCircuit) (net : FlatNet) (x : ℕ) (y : Role) (r : leafed.Role)
-    → IsRoleOf net y a_clock (net_role (net_types (as_module c)) (depth_of c x) c.body x r) → r ≡ leafed.source
+    → IsRoleOf net (net_types (as_module c)) y a_clock (net_role (net_types (as_module c)) (depth_of c x) c.body x r) → r ≡ leafed.source
 clock_source c net x y leafed.source is = refl
 clock_source c net x y leafed.sink is = absurd is
 clock_source c net x y (leafed.computed t) is = absurd is
@@ -48,8 +46,8 @@ module _ (c : LeafCircuit) (net : FlatNet) (faithful : IsFaithful c net) where
   source_at : (x : ℕ) (l : Leaf) → slice_get net.leaves x ≡ Some l → (h : LeafType) → (leaf_at c.leaves x).holds ≡ h → h ≡ a_clock → role_of c x ≡ leafed.source
   source_at x l at h is clock =
       clock_source c net x l.role (role_of c x)
-      (subst (λ (k : LeafType). IsRoleOf net l.role k (net_role (net_types (as_module c)) (depth_of c x) c.body x (role_of c x))) (is ∙ clock)
-      (faithful.flat.roles x l at))
+      (subst (λ (k : LeafType). IsRoleOf net (net_types (as_module c)) l.role k (net_role (net_types (as_module c)) (depth_of c x) c.body x (role_of c x)))
+      (is ∙ clock) (faithful.flat.roles x l at))
 
   -- a clock input shows its number
   clock_shown_is : (env : Env) (f : ℕ → Option ℕ) (x : ℕ) (l : Leaf) → slice_get net.leaves x ≡ Some l → (leaf_at c.leaves x).holds ≡ a_clock
@@ -90,13 +88,6 @@ module _ (c : LeafCircuit) (net : FlatNet) (faithful : IsFaithful c net) where
       shows_at : (x : ℕ) (l : Leaf) → slice_get net.leaves x ≡ Some l → (h : LeafType) → (leaf_at c.leaves x).holds ≡ h → Shows c state tick.inputs env x h
       shows_at x l at h is = subst (Shows c state tick.inputs env x) is (s.each x (leaf_inside c net faithful.flat x l at))
 
-      fits : LeavesFit net.leaves env.numbers
-      fits = record {
-        each = λ x l at plain.
-            let width = ap (λ (t : NumTy). t.width) (type_at c net faithful.flat x l at plain) in
-            subst (λ (w : ℕ). env.numbers x < 2 ^ w) (sym width) (own_beside.numbers.within x);
-      }
-
       value_met : (x : ℕ) → IsPlain net x → env.numbers x ≡ value_equation net state tick env.numbers x
       value_met x p =
           let t = number_at c net faithful.flat x p.leaf p.at p.plain in
@@ -109,7 +100,8 @@ module _ (c : LeafCircuit) (net : FlatNet) (faithful : IsFaithful c net) where
           same_Some _ _ (sym (shows_at x p.leaf p.at a_clock is).0 ∙ clock_shown_is env env.clocks x p.leaf p.at is)
 
       pub settled_in_net : net_settled.Settled net state tick env.numbers env.clocks
-      settled_in_net = equations.settled law net faithful.whole state tick shaped_net env.numbers env.clocks fits value_met clock_met
+      settled_in_net = equations.settled law net faithful.whole state tick shaped_net env.numbers env.clocks
+          (leaves_fit c net faithful env env.numbers own_beside.numbers) value_met clock_met
 
     -- from the net
     module _ (e : ℕ → ℕ) (f : ℕ → Option ℕ) (s : net_settled.Settled net state tick e f) where

@@ -1,16 +1,16 @@
 -- What each leaf of a circuit shows is what its leaf in the flat net is worth, by their roles.
-use Rattle.std.proofs.Common.{◌≡◌, ℕ, ◌^◌, ◌<◌, List, [], ◌∷◌, Bool, true, false, ◌&&◌, if◌then◌else◌, Option, Some, None, slice_get, slice_index, inl, inr, refl, sym, ap, ◌∙◌, subst}
+use Rattle.std.proofs.Common.{◌≡◌, ℕ, ◌^◌, ◌<◌, List, [], ◌∷◌, Bool, true, false, if◌then◌else◌, Option, Some, None, slice_get, slice_index, inl, inr, refl, sym, ap, ◌∙◌, subst}
 use Rattle.fir_base.specs.Ticks.{HasShape, Tick}
 use Rattle.fir_bits.specs.Operators.{type_of}
 use Rattle.fir_bits.specs.declared.types.NumTy.{NumTy}
 use Rattle.fir_bits.specs.declared.values.Num.{Num}
-use Rattle.fir_meaning.specs.Eval as over
+use Rattle.fir_meaning.specs.Values as over
 use Rattle.fir_meaning.specs.LeafModules.{LeafReset, LeafType, a_clock, leaf_at, number, number_type}
 use Rattle.fir_meaning.specs.LeafModules as leafed
 use Rattle.fir_meaning.specs.TermValues.{Env, eval}
-use Rattle.fir_leaf.specs.working.LeafCircuits.{LeafCircuit, depth_of, role_of, type_of_leaf}
-use Rattle.fir_leaf.specs.working.LeafSettled.{number_shown, register_shown}
-use Rattle.fir_leaf.specs.working.LeafStates.{look}
+use Rattle.fir_meaning.specs.LeafCircuits.{LeafCircuit, depth_of, role_of, type_of_leaf}
+use Rattle.fir_meaning.specs.LeafSettled.{number_shown, register_shown}
+use Rattle.fir_meaning.specs.LeafStates.{look}
 use Rattle.fir_leaf_types.specs.working.TypedModules.{IsRoleTyped, held_in}
 use Rattle.fir_net.specs.declared.leaf.Leaf.{Leaf}
 use Rattle.fir_net.specs.declared.leaf.Reset.{Reset}
@@ -19,7 +19,8 @@ use Rattle.fir_net.specs.declared.net.FlatNet.{FlatNet}
 use Rattle.fir_net.specs.declared.node.Node.{Node}
 use Rattle.fir_net.specs.declared.reads.Read.{Read}
 use Rattle.fir_net.specs.working.IsNet.{CanBeReset, CanRead, IsRole}
-use Rattle.fir_net.specs.working.Settled.{inputs, is_clock, is_high, registers, shape, shown, shown_by, value_at}
+use Rattle.fir_net.specs.working.Laws.{LeavesFit}
+use Rattle.fir_net.specs.working.Settled.{inputs, is_clock, is_high, registers, shape, shown, value_at}
 use Rattle.fir_net.specs.working.Values.{at_width, leaf_width}
 use Rattle.fir_net.proofs.LeafEquations.{driven_at, equation_at, role_value, value_equation}
 use Rattle.fir_net.proofs.Places.{place_of}
@@ -30,7 +31,7 @@ use Rattle.fir_connect.specs.working.RoleLaws.{Gives, ResetGives, net_fitted}
 use Rattle.fir_connect.proofs.FittedTwice.{fitted_own}
 use Rattle.fir_connect.proofs.RoleValues.{roles_are_worth}
 use Rattle.fir_connect.proofs.TypedValues.{value_type}
-use Rattle.fir_flat.specs.working.FlatCircuits.{HasType, IsDrivenBy, IsResetOf, IsRoleOf, as_module, kind_of, stands_for}
+use Rattle.fir_flat.specs.working.FlatCircuits.{HasType, IsDrivenBy, IsResetOf, IsRoleOf, as_module, reset_kept, stands_for}
 use Rattle.fir_flat.specs.working.FlatLaws.{IsFaithful}
 use Rattle.fir_flat.proofs.FlatLeaves.{holds_clock, kind_at, leaf_inside, type_at}
 use Rattle.fir_flat.proofs.LeafPlaces.{look_is}
@@ -58,8 +59,15 @@ own_number v t w of wide =
     ap (at_width v) same ∙ fitted_own v.signed v.value.width v.value.number
 
 module _ (c : LeafCircuit) (net : FlatNet) (faithful : IsFaithful c net) (env : Env) (e : ℕ → ℕ) (beside : IsBeside c net env e) where
-  agrees : AgreesWith net.leaves e (type_of_leaf c) env.numbers
+  pub agrees : AgreesWith net.leaves e (type_of_leaf c) env.numbers
   agrees = record { types = type_at c net faithful.flat; values = beside.values }
+
+  pub leaves_fit : LeavesFit net.leaves e
+  leaves_fit = record {
+    each = λ x l at plain.
+        let width = ap (λ (t : NumTy). t.width) (type_at c net faithful.flat x l at plain) in
+        rw (beside.values x l at plain, width) (beside.within x);
+  }
 
   abbrev worth : NetTerm → Num
   worth t = term_value (type_of_leaf c) env.numbers t
@@ -80,35 +88,37 @@ module _ (c : LeafCircuit) (net : FlatNet) (faithful : IsFaithful c net) (env : 
           → net_fitted (as_module c) env.numbers env.clocks d x ≡ at_width (value_at net e r) l.width
       given_worth r d can is = rw (read_worth r d can is, wide) refl
 
-      reset_shown : (word : ℕ) (r : LeafReset) (m : NetReset) (own : Reset) → ResetGives (as_module c) env.numbers env.clocks x (Some r) (Some m)
-          → IsResetOf net (Some own) (Some m) → CanBeReset net.leaves net.nodes l.signed (Some own)
-          → register_shown c env x (Some r) word ≡ shown_by net e l.width own.kind own.condition own.init word
-      reset_shown word r m own worths is can =
+      reset_shown : (word : ℕ) (r : LeafReset) (m : NetReset) (own : Reset) → m.is_async ≡ true
+          → ResetGives (as_module c) env.numbers env.clocks x (Some r) (Some m) → IsResetOf net (Some own) (Some m)
+          → CanBeReset net.leaves net.nodes l.signed (Some own) → register_shown c env x (Some r) word ≡ shown net e l.width (Some own) word
+      reset_shown word r m own stays worths is can =
           rw (
             worths.0,
+            stays,
             worths.1,
             worths.2,
             ← high_worth own.condition m.condition can.condition is.1,
             given_worth own.init m.init can.init.can is.2,
             is.0,
           )
-          (either m.is_async)
-        where
-          either : (b : Bool) → (if b && is_high net e own.condition then at_width (value_at net e own.init) l.width else word)
-              ≡ shown_by net e l.width (kind_of b) own.condition own.init word
-          either true = refl
-          either false = refl
+          refl
 
-      -- a register shows the same of the same word
+      -- a register shows the same of the same word, and its word where its reset is merged
       pub word_shown : (word : ℕ) (reset : Option LeafReset) (m : Option NetReset) (own : Option Reset)
-          → ResetGives (as_module c) env.numbers env.clocks x reset m → IsResetOf net own m → CanBeReset net.leaves net.nodes l.signed own
+          → ResetGives (as_module c) env.numbers env.clocks x reset m → IsResetOf net own (reset_kept m) → CanBeReset net.leaves net.nodes l.signed own
           → register_shown c env x reset word ≡ shown net e l.width own word
       word_shown word None None None worths is can = refl
-      word_shown word (Some r) (Some m) (Some own) worths is can = reset_shown word r m own worths is can
+      word_shown word (Some r) (Some m) own worths is can = by own m.is_async refl is can
+        where
+          by : (own : Option Reset) (b : Bool) → m.is_async ≡ b → IsResetOf net own (if b then Some m else None) → CanBeReset net.leaves net.nodes l.signed own
+              → register_shown c env x (Some r) word ≡ shown net e l.width own word
+          by (Some o) true stays kept can = reset_shown word r m o stays worths kept can
+          by None false merged kept can = rw (worths.0, merged) refl
+          by None true stays kept can = absurd kept
+          by (Some o) false merged kept can = absurd kept
       word_shown word None (Some m) own worths is can = absurd worths
       word_shown word (Some r) None own worths is can = absurd worths
       word_shown word None None (Some own) worths is can = absurd is
-      word_shown word (Some r) (Some m) None worths is can = absurd is
 
     module _ (state : List ℕ) (tick : Tick) (shaped : HasShape (shape net) state tick) where
       input_looked : look c.inputs tick.inputs x ≡ slice_index tick.inputs (place_of x (inputs net))
@@ -125,8 +135,9 @@ module _ (c : LeafCircuit) (net : FlatNet) (faithful : IsFaithful c net) (env : 
         -- by what it holds and its role
         shown_by_role : (h : LeafType) → (leaf_at c.leaves x).holds ≡ h → (r : leafed.Role)
             → Gives (as_module c) env.numbers env.clocks x h r (net_role (net_types (as_module c)) (depth_of c x) c.body x r)
-            → IsRoleOf net y h (net_role (net_types (as_module c)) (depth_of c x) c.body x r) → HasType l h → IsRoleTyped (held_in (as_module c)) h r
-            → holds_clock h ≡ false → number_shown c state tick.inputs env x r ≡ Some (role_value net state tick e x l.width y)
+            → IsRoleOf net (net_types (as_module c)) y h (net_role (net_types (as_module c)) (depth_of c x) c.body x r) → HasType l h
+            → IsRoleTyped (held_in (as_module c)) h r → holds_clock h ≡ false
+            → number_shown c state tick.inputs env x r ≡ Some (role_value net state tick e x l.width y)
         shown_by_role a_clock held r worths is has typed plain = cc
         shown_by_role (number t) held leafed.source worths is has typed plain = rw is (ap Some input_looked)
         shown_by_role (number t) held leafed.sink worths is has typed plain =

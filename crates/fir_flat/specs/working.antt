@@ -2,3 +2,9 @@
 pub mod FlatCircuits
 pub mod FlatLaws
 pub mod LoneModules
+-- The parts of the terms that drive leaves have their types.
+pub mod WholeTerms
+pub mod WholeRoles
+pub mod ModulesWithin
+-- Closed walks of dependence.
+pub mod FlatLoops

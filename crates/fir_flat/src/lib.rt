@@ -1,9 +1,14 @@
 //! The flat net of a circuit over its ground leaves: in the place of statements and expressions stand nodes, and each
 //! leaf keeps its number (FIRRTL spec, "Circuits", "Last Connect Semantics"). Here are what such a net is, and laws
 //! about it, each the contract of a function that does nothing: it allows what the circuit allows, at every state and
-//! tick.
+//! tick; a closed walk of dependence stands in it exactly where it stands in the circuit; and the parts of the terms that
+//! give leaves their values have their types.
 #![tactic(auto)]
 
 mod laws;
 
-pub use laws::{flat_nets_allow_the_same, flat_nets_have_one, lone_modules_are_themselves};
+pub use laws::{
+    flat_nets_allow_the_same, flat_nets_have_one, flat_nets_hide_no_loop,
+    flat_nets_show_the_same_loops, lone_modules_are_themselves, modules_are_within,
+    roles_are_whole,
+};

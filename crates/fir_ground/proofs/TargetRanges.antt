@@ -8,7 +8,7 @@ use Rattle.fir_ast.specs.declared.place.Place.{Place}
 use Rattle.fir_ast.specs.Types.{DataType, uint, sint, clock, reset, async_reset, bundle, vector, Fields, no_fields, field}
 use Rattle.fir_ast.specs.Expressions.{Parts, no_parts, subfield, subindex, subaccess}
 use Rattle.fir_meaning.specs.CostGroup.{cost_limit}
-use Rattle.fir_meaning.specs.FaultRules.{place_of}
+use Rattle.fir_meaning.specs.ExpressionPlaces.{place_of}
 use Rattle.fir_meaning.specs.Reaching.{Reached, at_any, at_element, at_field, field_of_type, vector_of_type}
 use Rattle.fir_meaning.specs.TypedScopes.{TypedScope}
 use Rattle.fir_meaning.specs.TypeKinds.{FieldFound, field_named}

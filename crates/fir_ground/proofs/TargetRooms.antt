@@ -8,7 +8,7 @@ use Rattle.fir_ast.specs.Expressions.{Expression, reference, literal, operation,
 use Rattle.fir_ast.specs.Statements.{Sink}
 use Rattle.fir_meaning.specs.CostGroup.{cost_limit}
 use Rattle.fir_meaning.specs.Costs.{leaves_where}
-use Rattle.fir_meaning.specs.FaultRules.{place_of}
+use Rattle.fir_meaning.specs.ExpressionPlaces.{place_of}
 use Rattle.fir_meaning.specs.LeafPaths.{named}
 use Rattle.fir_meaning.specs.Reaching.{Reached, at_field, at_element, at_any, field_of_type, vector_of_type, known_reached}
 use Rattle.fir_meaning.specs.ResetJoins.{type_of_known}

@@ -9,7 +9,7 @@ use Rattle.fir_meaning.specs.TypeLeaves.{type_leaves}
 use Rattle.fir_meaning.specs.Visibility.{Before, opened, reopened, behind, behind_block}
 use Rattle.fir_meaning.specs.Equivalence.{is_connectable, is_partly_connectable}
 use Rattle.fir_meaning.specs.ConnectPairs.{Pair, pairs, partial_pairs}
-use Rattle.fir_meaning.specs.Eval.{is_high}
+use Rattle.fir_meaning.specs.Values.{is_high}
 use Rattle.fir_meaning.specs.TypedScopes.{TypedScope}
 use Rattle.fir_meaning.specs.ExpressionTypes.{expression_type}
 use Rattle.fir_meaning.specs.TypeGroup.{scope_at}
@@ -21,8 +21,8 @@ use Rattle.fir_meaning.specs.LeafBlocks.{LeafStore}
 use Rattle.fir_meaning.specs.LeafPairs.{LeafPair, leaf_pairs, partial_leaf_pairs}
 use Rattle.fir_meaning.specs.Leafed.{first_term, terms, target_of, target_read}
 use Rattle.fir_meaning.specs.LeafedBlocks.{type_where, sides, instance_block, connect_block, leafed, leafed_all}
-use Rattle.fir_leaf.specs.working.TreeValues.{ValuesByPath, value, aim_of, aim_read, aim_value}
-use Rattle.fir_leaf.specs.working.TreeStores.{PathStore, LeafFacts, exec_connect, is_taken, exec_tree, exec_tree_all}
+use Rattle.fir_meaning.specs.TreeValues.{ValuesByPath, value, aim_of, aim_read, aim_value}
+use Rattle.fir_meaning.specs.TreeStores.{PathStore, LeafFacts, exec_connect, is_taken, exec_tree, exec_tree_all}
 use Rattle.fir_leaf.specs.working.LeafLaws.{Begins, numbered, IsFine, IsSameStore, SameStores}
 use Rattle.fir_leaf.proofs.PairsByNumber.{IsPair, ArePairs, pairs_numbered, partial_numbered}
 use Rattle.fir_leaf.proofs.PairStores.{run, run_joined, NameSame, nothing_named, standing_named, pairs_same}

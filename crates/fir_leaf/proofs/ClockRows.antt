@@ -3,10 +3,10 @@ use Rattle.std.proofs.Common.{◌≡◌, ℕ, List, [], ◌∷◌, Some, None, a
 use Rattle.fir_base.specs.Ticks.{Tick}
 use Rattle.fir_meaning.specs.TermValues.{Env}
 use Rattle.fir_meaning.specs.TermReads.{multiples}
-use Rattle.fir_leaf.specs.working.Designs.{elaborated}
-use Rattle.fir_leaf.specs.working.Memories.{addresses}
-use Rattle.fir_leaf.specs.working.LeafSettled.{Settled}
-use Rattle.fir_leaf.specs.working.LeafAllows.{LeafResult, Run}
+use Rattle.fir_meaning.specs.Designs.{elaborated}
+use Rattle.fir_meaning.specs.Memories.{addresses}
+use Rattle.fir_meaning.specs.LeafSettled.{Settled}
+use Rattle.fir_meaning.specs.LeafAllows.{LeafResult, Run}
 use Rattle.fir_leaf.specs.working.ClockRoots.{HasRoot}
 use Rattle.fir_leaf.proofs.TextTrees as text
 use Rattle.fir_leaf.proofs.RowTrees.{over_leaves}

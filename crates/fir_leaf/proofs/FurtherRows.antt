@@ -7,7 +7,7 @@ use Rattle.fir_meaning.specs.TermReads.{multiples}
 use Rattle.fir_meaning.specs.LeafBlocks as over
 use Rattle.fir_meaning.specs.Choices.{below, driving, lives_all}
 use Rattle.fir_meaning.proofs.SmallTrees.{at}
-use Rattle.fir_leaf.specs.working.Designs.{elaborated}
+use Rattle.fir_meaning.specs.Designs.{elaborated}
 use Rattle.fir_leaf.proofs.TextTrees as text
 use Rattle.fir_leaf.proofs.RowTrees.{over_leaves, stores, takes, statements, four, by_i}
 

@@ -7,7 +7,7 @@ use Rattle.fir_meaning.specs.LeafPaths.{LeafPath, Step, named, element}
 use Rattle.fir_meaning.specs.TypeLeaves.{TypeLeaf, under, element_leaves, type_leaves, field_leaves}
 use Rattle.fir_base.proofs.SameNames.{name_same, name_other}
 use Rattle.fir_meaning.proofs.FreshFields.{field_names, HasFreshFields, AreFresh}
-use Rattle.fir_leaf.specs.working.TypeParts.{ground_at}
+use Rattle.fir_meaning.specs.TypeParts.{ground_at}
 
 -- what holds of each leaf of a list
 abbrev Each : (TypeLeaf → Type 0) → List TypeLeaf → Type 0

@@ -10,9 +10,9 @@ use Rattle.fir_meaning.specs.LeafBlocks.{LeafStore, LeafBlock}
 use Rattle.fir_meaning.specs.LeafBlocks as over
 use Rattle.fir_meaning.specs.Targets.{Target}
 use Rattle.fir_meaning.specs.LeafedBlocks.{driven, driven_from, invalid_leaf, invalid_leaves, invalid_block}
-use Rattle.fir_leaf.specs.working.TreeAims.{Aim}
-use Rattle.fir_leaf.specs.working.TreeValues.{ValuesByPath, leaf_where}
-use Rattle.fir_leaf.specs.working.TreeStores.{PathStore, LeafFacts, may_be_driven, path_stored, invalidated, exec_invalid}
+use Rattle.fir_meaning.specs.TreeAims.{Aim}
+use Rattle.fir_meaning.specs.TreeValues.{ValuesByPath, leaf_where}
+use Rattle.fir_meaning.specs.TreeStores.{PathStore, LeafFacts, may_be_driven, path_stored, invalidated, exec_invalid}
 use Rattle.fir_leaf.specs.working.LeafLaws.{numbered, path_at, IsFine, IsSameStore}
 use Rattle.fir_leaf.specs.working.Standing.{Stands}
 use Rattle.fir_leaf.proofs.LeafPlaces.{leaves_counted}

@@ -8,8 +8,8 @@ use Rattle.fir_ast.specs.Types.{DataType, uint}
 use Rattle.fir_ast.specs.Expressions.{Expression, reference, literal, operation, mux, validif, Parts, no_parts, subfield, subindex, subaccess, Expressions, no_expressions, expression}
 use Rattle.fir_ast.specs.Statements.{Sink}
 use Rattle.fir_meaning.specs.Equivalence.{same_ground}
-use Rattle.fir_meaning.specs.Eval.{is_high}
-use Rattle.fir_meaning.specs.FaultRules.{place_of}
+use Rattle.fir_meaning.specs.Values.{is_high}
+use Rattle.fir_meaning.specs.ExpressionPlaces.{place_of}
 use Rattle.fir_meaning.specs.OperationTypes.{operand_kinds, is_conversion}
 use Rattle.fir_meaning.specs.Reaching.{Reached, known_reached, at_field, at_element, at_any, field_of_type, vector_of_type}
 use Rattle.fir_meaning.specs.TypeLeaves.{type_leaves}
@@ -22,8 +22,8 @@ use Rattle.fir_leaf.specs.working.Standing.{Stands}
 use Rattle.fir_meaning.specs.Targets.{Target, named_target, field_target, field_target_at, element_target, element_target_at, picked_target, picked_target_at}
 use Rattle.fir_meaning.specs.Terms.{terms_of}
 use Rattle.fir_meaning.specs.TermValues.{eval, eval_each}
-use Rattle.fir_leaf.specs.working.TreeAims.{Aim, named_aim, field_aim, element_aim, picked_aim}
-use Rattle.fir_leaf.specs.working.TreeValues.{TypesByPath, ValuesByPath, aim_value, value, aim_along, operand_values, aim_of}
+use Rattle.fir_meaning.specs.TreeAims.{Aim, named_aim, field_aim, element_aim, picked_aim}
+use Rattle.fir_meaning.specs.TreeValues.{TypesByPath, ValuesByPath, aim_value, value, aim_along, operand_values, aim_of}
 use Rattle.fir_leaf.proofs.AlikeTypes.{leaf_paths, bare_paths, fresh_from_bare, alike_types}
 use Rattle.fir_leaf.proofs.FineTypes.{fine_type}
 use Rattle.fir_leaf.proofs.NamedPlaces.{reached_type}

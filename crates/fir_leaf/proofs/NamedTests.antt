@@ -8,8 +8,8 @@ use Rattle.fir_ast.specs.Statements.{PlacedName}
 use Rattle.fir_meaning.specs.LeafPaths.{LeafPath, named, element}
 use Rattle.fir_meaning.specs.LeafBlocks.{HeldInstance}
 use Rattle.fir_meaning.specs.LeafModules.{LeafArray, LeafDeclared, LeafModule, leaf_at}
-use Rattle.fir_leaf.specs.working.TreeStores.{same_path}
-use Rattle.fir_leaf.specs.working.Designs.{Item, drive, when, instance, Items, done, then, Design, made_of}
+use Rattle.fir_meaning.specs.TreeStores.{same_path}
+use Rattle.fir_meaning.specs.Designs.{Item, drive, when, instance, Items, done, then, Design, made_of}
 use Rattle.fir_leaf.specs.working.DesignStates.{array_at}
 use Rattle.fir_leaf.specs.working.NamedDesigns.{declared_name, paths_of, IsBehind, IsPortOf, HasOwnNames, IsOwnInstance, all_instances_in, IsNamedItem, AreNamedItems, IsNamedInstance, IsNamed}
 use Rattle.fir_leaf.proofs.FlatStores.{same_path_refl}

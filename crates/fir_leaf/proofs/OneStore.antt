@@ -6,12 +6,12 @@ use Rattle.fir_base.proofs.Tests.{both}
 use Rattle.fir_bits.specs.declared.values.Num.{Num}
 use Rattle.fir_meaning.specs.LeafPaths.{LeafPath, Step, named, element}
 use Rattle.fir_meaning.specs.TypedScopes.{TypedScope}
-use Rattle.fir_meaning.specs.Exec.{fit}
+use Rattle.fir_meaning.specs.Values.{fit}
 use Rattle.fir_meaning.specs.Terms.{Term}
 use Rattle.fir_meaning.specs.TermValues.{eval}
 use Rattle.fir_meaning.specs.LeafBlocks.{LeafStore, stored_at, counts, stored}
-use Rattle.fir_leaf.specs.working.TreeValues.{ValuesByPath}
-use Rattle.fir_leaf.specs.working.TreeStores.{same_step, same_path, PathStore, path_stored_at, LeafFacts, path_stored}
+use Rattle.fir_meaning.specs.TreeValues.{ValuesByPath}
+use Rattle.fir_meaning.specs.TreeStores.{same_step, same_path, PathStore, path_stored_at, LeafFacts, path_stored}
 use Rattle.fir_leaf.specs.working.LeafLaws.{numbered, path_at, scope_paths, IsFine, IsSameStore, number_given}
 use Rattle.fir_leaf.proofs.OwnPaths.{path_once}
 

@@ -4,7 +4,7 @@ use Rattle.std.proofs.lemmas.List.{append_assoc}
 use Rattle.fir_base.specs.Lists.{In}
 use Rattle.fir_base.proofs.Members.{in_left, in_right, in_map}
 use Rattle.fir_ast.specs.declared.place.Place.{Place}
-use Rattle.fir_meaning.specs.Eval.{number_of}
+use Rattle.fir_meaning.specs.Values.{number_of}
 use Rattle.fir_meaning.specs.Terms.{Term, Picks, Terms, zeros, absent, literal, read, operation, mux, validif, no_picks, pick, no_terms, term}
 use Rattle.fir_meaning.specs.TermValues.{Holds, eval, eval_each, is_true, leaf_of, value_at}
 use Rattle.fir_meaning.specs.TermReads.{each_read, is_among, is_picked, picks_read, reached, reads}

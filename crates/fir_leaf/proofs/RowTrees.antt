@@ -12,10 +12,10 @@ use Rattle.fir_meaning.specs.LeafBlocks as over
 use Rattle.fir_meaning.specs.LeafModules.{LeafDeclared, LeafModule}
 use Rattle.fir_meaning.specs.LeafedModules.{leafed_module}
 use Rattle.fir_meaning.proofs.SmallTrees.{at}
-use Rattle.fir_leaf.specs.working.LeafCircuits.{LeafCircuit, depth_of, type_of_leaf}
+use Rattle.fir_meaning.specs.LeafCircuits.{LeafCircuit, depth_of, type_of_leaf}
 use Rattle.fir_leaf.specs.working.ChoiceLaws.{fitted_at}
-use Rattle.fir_leaf.specs.working.Designs.{Design, elaborated, module_of}
-use Rattle.fir_leaf.specs.working.Flattened.{flattened}
+use Rattle.fir_meaning.specs.Designs.{Design, elaborated, module_of}
+use Rattle.fir_meaning.specs.Flattened.{flattened}
 
 -- the modules of a circuit over their leaves, with widths of the numbers, and with which Resets are asynchronous
 abbrev pub modules_with : (ℕ → ℕ) → (LeafPath → Bool) → CircuitTree → List LeafModule

@@ -4,7 +4,7 @@ use Rattle.std.proofs.Common.{◌≡◌, [], ◌∷◌, map, Some, None, refl}
 use Rattle.fir_meaning.specs.Terms.{no_picks, read, zeros}
 use Rattle.fir_meaning.specs.LeafBlocks as over
 use Rattle.fir_meaning.proofs.SmallTrees.{at}
-use Rattle.fir_leaf.specs.working.Designs.{elaborated}
+use Rattle.fir_meaning.specs.Designs.{elaborated}
 use Rattle.fir_leaf.proofs.TextTrees as text
 use Rattle.fir_leaf.proofs.RowTrees.{over_leaves, stores, takes, statements, four, by_i}
 

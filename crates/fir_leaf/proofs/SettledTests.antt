@@ -4,11 +4,11 @@ use Rattle.std.proofs.lemmas.Bool.{cases_lt}
 use Rattle.fir_base.specs.Ticks.{Tick, FitEach, AreClocks}
 use Rattle.fir_meaning.specs.TermValues.{Env}
 use Rattle.fir_meaning.specs.LeafModules.{LeafType, a_clock, leaf_at, number}
-use Rattle.fir_leaf.specs.working.LeafCircuits.{LeafCircuit, role_of}
-use Rattle.fir_leaf.specs.working.LeafStates.{shape}
-use Rattle.fir_leaf.specs.working.LeafSettled.{Settled, Shows, clock_shown, number_shown}
-use Rattle.fir_leaf.specs.working.LeafNext.{next}
-use Rattle.fir_leaf.specs.working.LeafAllows.{LeafResult, Run}
+use Rattle.fir_meaning.specs.LeafCircuits.{LeafCircuit, role_of}
+use Rattle.fir_meaning.specs.LeafStates.{shape}
+use Rattle.fir_meaning.specs.LeafSettled.{Settled, Shows, clock_shown, number_shown}
+use Rattle.fir_meaning.specs.LeafNext.{next}
+use Rattle.fir_meaning.specs.LeafAllows.{LeafResult, Run}
 
 -- the values of leaves that are listed
 abbrev pub number_in : List ℕ → ℕ → ℕ

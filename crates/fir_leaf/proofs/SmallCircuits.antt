@@ -1,7 +1,7 @@
 -- Short names for ticks, and for what circuits over leaves show.
 use Rattle.std.proofs.Common.{ℕ, List, []}
 use Rattle.fir_base.specs.Ticks.{Tick}
-use Rattle.fir_leaf.specs.working.LeafAllows.{LeafResult}
+use Rattle.fir_meaning.specs.LeafAllows.{LeafResult}
 
 abbrev pub tick : List ℕ → List ℕ → Tick
 tick clocks inputs = record { inputs = inputs; clocks = clocks }

@@ -20,8 +20,8 @@ use Rattle.fir_meaning.specs.LeafModules.{LeafDeclared, depth_at, leaf_at, no_le
 use Rattle.fir_meaning.specs.LeafedBlocks.{leafed_all}
 use Rattle.fir_meaning.specs.LeafedModules.{Scene, behind_all_ports, driven_leaves, leafed_module, module_leaves}
 use Rattle.fir_leaf.specs.working.LeafNumbers.{TermWithin, BlockWithin}
-use Rattle.fir_leaf.specs.working.TreeValues.{ValuesByPath}
-use Rattle.fir_leaf.specs.working.TreeStores.{LeafFacts, exec_tree_all}
+use Rattle.fir_meaning.specs.TreeValues.{ValuesByPath}
+use Rattle.fir_meaning.specs.TreeStores.{LeafFacts, exec_tree_all}
 use Rattle.fir_leaf.specs.working.LeafLaws.{scope_paths, path_at, numbered, number_given}
 use Rattle.fir_leaf.specs.working.TableLaws.{NumbersAreLeaves, SayTheTable, TableStores, table_holds, table_values}
 use Rattle.fir_leaf.proofs.ScopesBegin.{begins_all}

@@ -2,7 +2,7 @@
 use Rattle.std.proofs.Common.{◌≡◌, ℕ, suc, ◌+◌, List, [], ◌∷◌, Bool, map, slice_get, refl, sym, ap, ◌∙◌, arith, Option, Some, None, option_map}
 use Rattle.fir_bits.specs.declared.values.Num.{Num}
 use Rattle.fir_ast.specs.Types.{DataType}
-use Rattle.fir_meaning.specs.Eval.{number_of, is_high, choice, choices, value_or_zero}
+use Rattle.fir_meaning.specs.Values.{number_of, is_high, choice, choices, value_or_zero}
 use Rattle.fir_meaning.specs.LeafPaths.{LeafPath}
 use Rattle.fir_meaning.specs.TypeLeaves.{TypeLeaf, type_leaves}
 use Rattle.fir_meaning.specs.TypedScopes.{TypedScope}
@@ -15,9 +15,9 @@ use Rattle.fir_meaning.specs.Targets.{Target}
 use Rattle.fir_meaning.specs.Terms as over
 use Rattle.fir_meaning.specs.Terms.{Term, Picks}
 use Rattle.fir_meaning.specs.TermValues.{eval, leaf_of, value_at}
-use Rattle.fir_leaf.specs.working.TreeAims.{Aim}
-use Rattle.fir_leaf.specs.working.TreeValues.{TypesByPath, ValuesByPath, value_where, type_where, leaf_where, aim_value}
-use Rattle.fir_leaf.specs.working.TypeParts.{ground_at}
+use Rattle.fir_meaning.specs.TreeAims.{Aim}
+use Rattle.fir_meaning.specs.TreeValues.{TypesByPath, ValuesByPath, value_where, type_where, leaf_where, aim_value}
+use Rattle.fir_meaning.specs.TypeParts.{ground_at}
 use Rattle.fir_leaf.proofs.AlikeTypes.{leaf_paths}
 use Rattle.fir_leaf.proofs.GroundParts.{ground_of_leaf}
 

@@ -17,7 +17,7 @@ use Rattle.fir_meaning.specs.LeafModules.{LeafModule}
 use Rattle.fir_meaning.specs.LeafedModules.{Scene, leafed_module}
 use Rattle.fir_meaning.specs.Scenes.{IsSceneOf}
 use Rattle.fir_meaning.proofs.SmallTrees.{at}
-use Rattle.fir_leaf.specs.working.Designs.{module_of}
+use Rattle.fir_meaning.specs.Designs.{module_of}
 use Rattle.fir_leaf.proofs.TextTrees as text
 use Rattle.fir_leaf.proofs.RowTrees.{modules_with}
 

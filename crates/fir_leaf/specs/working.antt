@@ -2,48 +2,26 @@
 -- The choice that values make, and what leaves depend on.
 pub mod ValueChoices
 pub mod ChoiceLaws
-pub mod Dependence
 -- What the tree of a module means by paths, and that the numbers mean the same.
-pub mod TypeParts
-pub mod TreeAims
-pub mod TreeValues
-pub mod TreeStores
 pub mod LeafLaws
 pub mod Standing
 pub mod LeafNumbers
 pub mod TableLaws
 -- The design below a main module, and its one list of leaves.
-pub mod LeafCircuits
-pub mod LeafStates
-pub mod Designs
-pub mod DesignPaths
-pub mod DesignStores
-pub mod Numberings
-pub mod FlatDesigns
-pub mod FlatLeaves
-pub mod StateWalks
-pub mod Flattened
 pub mod DesignStates
 pub mod SoundDesigns
 pub mod NamedDesigns
 pub mod DesignLaws
 pub mod StateLaws
 -- Its values, ticks and runs.
-pub mod Memories
-pub mod LeafSettled
-pub mod LeafNext
-pub mod LeafAllows
 pub mod CircuitStores
 pub mod ClockRoots
 pub mod RunLaws
 -- Its faults.
-pub mod CircuitDependence
-pub mod LeafNames
 pub mod ClockFaults
 pub mod ModuleCircuits
 pub mod MemoryClockFaults
 pub mod InitFaults
-pub mod LoopFaults
 pub mod FaultLaws
 -- What the nodes and statements of the code stand for.
 pub mod Nodes

@@ -10,7 +10,7 @@ use Rattle.fir_ast.specs.Expressions.{Parts, no_parts, subfield, subindex, subac
 use Rattle.fir_ast.specs.Statements.{Sink}
 use Rattle.fir_meaning.specs.Checked.{Checked}
 use Rattle.fir_meaning.specs.ExpressionTypes.{access_form, along_parts, condition_form, expression_type, field_form, index_form, reaching}
-use Rattle.fir_meaning.specs.FaultRules.{place_of}
+use Rattle.fir_meaning.specs.ExpressionPlaces.{place_of}
 use Rattle.fir_meaning.specs.LeafPaths.{LeafPath, element, named}
 use Rattle.fir_meaning.specs.Reaching.{Reached, at_any, at_element, at_field, field_of_type, further, root, vector_of_type}
 use Rattle.fir_meaning.specs.TypeKinds.{FieldFound}

@@ -8,7 +8,7 @@ use Rattle.fir_ast.specs.Expressions.{Parts, no_parts, subfield, subindex, subac
 use Rattle.fir_pass.specs.Faults.{Fault}
 use Rattle.fir_meaning.specs.Checked.{Checked, answered, answer_on, after, joined, together}
 use Rattle.fir_meaning.specs.ExpressionTypes.{access_form, along_parts, condition_form, expression_type, field_form, index_form}
-use Rattle.fir_meaning.specs.FaultRules.{place_of}
+use Rattle.fir_meaning.specs.ExpressionPlaces.{place_of}
 use Rattle.fir_meaning.specs.KindFaults.{out_of_range}
 use Rattle.fir_meaning.specs.LeafPaths.{named}
 use Rattle.fir_meaning.specs.Reaching.{Reached, any_element, at_any, at_element, at_field, element_at, field_of_type, known_reached, reached_field, root, to_any, to_field, to_index, vector_of_type}

@@ -16,7 +16,7 @@ use Rattle.fir_meaning.specs.TypeLeaves.{TypeLeaf, type_leaves}
 use Rattle.fir_meaning.specs.TypedScopes.{Known, TypedScope}
 use Rattle.fir_meaning.specs.Visibility.{declarations}
 use Rattle.fir_meaning.specs.LeafMemories.{leaves_of_data}
-use Rattle.fir_leaf.specs.working.TreeStores.{same_path}
+use Rattle.fir_meaning.specs.TreeStores.{same_path}
 use Rattle.fir_leaf.proofs.OneStore.{path_is, path_same}
 use Rattle.fir_reset.specs.working.Inferred.{AreInferred, leaf_number}
 use Rattle.fir_reset.proofs.NumberedClasses.{has_number}

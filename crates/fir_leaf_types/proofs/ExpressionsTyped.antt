@@ -16,10 +16,10 @@ use Rattle.fir_ast.specs.Expressions.{Expression, reference, literal, operation,
 use Rattle.fir_ast.specs.Statements.{Sink}
 use Rattle.fir_ast.specs.Circuits.{CircuitTree}
 use Rattle.fir_meaning.specs.LeafPaths.{named}
-use Rattle.fir_meaning.specs.FaultRules.{place_of}
+use Rattle.fir_meaning.specs.ExpressionPlaces.{place_of}
 use Rattle.fir_meaning.specs.OperationTypes.{is_conversion, operand_kinds}
 use Rattle.fir_meaning.specs.Reaching.{Reached, known_reached, at_field, at_element, at_any, field_of_type, vector_of_type}
-use Rattle.fir_meaning.specs.Scopes.{literal_type}
+use Rattle.fir_meaning.specs.Values.{literal_type}
 use Rattle.fir_meaning.specs.SizeFaults.{wrong_condition, wrong_integers}
 use Rattle.fir_meaning.specs.TypeKinds.{bare, is_numeric}
 use Rattle.fir_meaning.specs.TypedScopes.{TypedScope, known}

@@ -16,7 +16,7 @@ use Rattle.fir_ast.specs.Expressions.{Expression}
 use Rattle.fir_ast.specs.Statements.{PlacedName, Reset, Statement, wire, register, node, instance, memory, when, connect, partial_connect, invalid, skip, Block, done, then}
 use Rattle.fir_ast.specs.Circuits.{PortTree, CircuitTree}
 use Rattle.fir_meaning.specs.LeafPaths.{LeafPath, named}
-use Rattle.fir_meaning.specs.FaultRules.{place_of}
+use Rattle.fir_meaning.specs.ExpressionPlaces.{place_of}
 use Rattle.fir_meaning.specs.Flows.{flow_under, is_source, port_flow}
 use Rattle.fir_meaning.specs.TypeKinds.{bare}
 use Rattle.fir_meaning.specs.TypeLeaves.{TypeLeaf}
@@ -43,6 +43,7 @@ use Rattle.fir_meaning.specs.LeafMemories.{LeafMemory, PortKind, reads, writes, 
 use Rattle.fir_meaning.specs.LeafModules.{LeafDeclared, LeafType, Need, Role, a_clock, computed, number, pipe, reading, sink, source}
 use Rattle.fir_meaning.specs.LeafModules as role
 use Rattle.fir_meaning.specs.LeafedModules.{Scene, Declared, leaves_from, type_of_declared, held_by_declared, held_types, declared_leaves, leaf_reset, port_role, register_role, instance_place, instance_role, role_in, memory_before, leaves_in, leaves_in_block, leaves_of_ports, leafed_module}
+use Rattle.fir_meaning.specs.Terms.{Term, zeros}
 use Rattle.fir_leaf_types.specs.working.TypedTerms.{IsNarrow, one_bit}
 use Rattle.fir_leaf_types.specs.working.TypedTerms as typed
 use Rattle.fir_leaf_types.specs.working.TypedBlocks.{MayGive}
@@ -201,6 +202,18 @@ module _ (c : CircuitTree) (held : ℕ → LeafType) (w : Widths) (scope : Typed
         kind = same_kind r.0 h r.2;
       }
 
+  init_there : (e : Expression) (s : Sized) (t v : DataType) (k : ℕ) (h : LeafType) → HasType scope e v → bare_type s ≡ bare t → is_equivalent t v ≡ true
+      → shown_within (over_rule w) sized e ≡ [] → shown_within (legal_rule c w) sized e ≡ [] → slice_get (held_types w s) k ≡ Some h
+      → term_at (terms scope e) k ≡ zeros → ⊥
+  init_there e s t v k h has shape same within legal there is =
+      let kinds =
+      kinds_of_type w (sized_type sized e) v (knows.shape e v has)
+      ∙ sym (kinds_of_type w s t shape ∙ alike_kinds same_ground same_ground_kinds t v same) in
+      let r = beside without_width without_width (held_types w (sized_type sized e)) (held_types w s) kinds k h there in
+      subst (λ (x : Term). typed.HasType held x r.0) is
+      (term_typed held (terms scope e) (held_types w (sized_type sized e)) k r.0
+      (expression_typed c held w scope sized knows e v has within legal).terms r.1)
+
   resets_typed : (is_async : LeafPath → Bool) (o : Option Reset) (s : Sized) (t : DataType) (k : ℕ) (h : LeafType) → ResetIsLegal scope t o
       → bare_type s ≡ bare t
       → shown_within_reset (over_rule w) sized o ≡ [] → shown_within_reset (legal_rule c w) sized o ≡ [] → slice_get (held_types w s) k ≡ Some h
@@ -217,6 +230,8 @@ module _ (c : CircuitTree) (held : ℕ → LeafType) (w : Widths) (scope : Typed
         reset_typed r.condition legal.0 legal.2 legal.3 (empty_left over_condition [] within_condition) (empty_left fine_condition fine_width fine_both)
             (empty_right fine_condition fine_width fine_both),
         init_typed r.init s t legal.1 k h legal.4 shape legal.5 (empty_right (over_condition ++ []) over_init within)
+            (empty_right (fine_condition ++ fine_width) fine_init fine) there,
+        init_there r.init s t legal.1 k h legal.4 shape legal.5 (empty_right (over_condition ++ []) over_init within)
             (empty_right (fine_condition ++ fine_width) fine_init fine) there,
       )
 

@@ -3,7 +3,7 @@ use Rattle.std.proofs.Common.{◌≡◌, ◌≢◌, ℕ, suc, ◌+◌, ◌-◌, 
 use Rattle.std.specs.Prelude.{option_map}
 use Rattle.std.proofs.lemmas.Bool.{ne_eqb}
 use Rattle.std.proofs.lemmas.List.Elements.{recursion_from_All}
-use Rattle.fir_lex.specs.Front.{Within, in_brackets, in_string, bracket_step, within_step, is_closed, block_length}
+use Rattle.fir_lex.specs.working.Front.{Within, in_brackets, in_string, bracket_step, within_step, is_closed, block_length}
 use Rattle.fir_lex.specs.Enclosed.{Character, plain, escaped, IsCharacter, Nested, nothing, byte_then, string_then, brackets_then, nested_bytes, IsNested}
 use Rattle.fir_lex.proofs.Lengths.{block_step, ahead, ahead_zero}
 use Rattle.fir_lex.proofs.Quoted.{bytes_of_characters, EachCharacter}

@@ -4,7 +4,7 @@ use Rattle.std.specs.Prelude.{Decides}
 use Rattle.std.proofs.lemmas.Bool.{leb-true, le-leb}
 use Rattle.std.proofs.lemmas.Bool.Decides.{Decides-and, Decides-or, Decides-eqb, Decides-like}
 use Rattle.fir_base.specs.Bytes.{is_letter, is_digit, is_word_start, is_word_byte}
-use Rattle.fir_lex.specs.Bytes.{is_blank}
+use Rattle.fir_lex.specs.working.Bytes.{is_blank}
 use Rattle.fir_lex.specs.Spelled.{IsDigit, BeginsWord, ContinuesWord}
 use Rattle.fir_lex.specs.Pieces.{IsBlank}
 

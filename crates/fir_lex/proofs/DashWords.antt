@@ -6,7 +6,7 @@ use Rattle.std.proofs.lemmas.Bool.{cond_both, both_ways}
 use Rattle.std.proofs.lemmas.Bool.Decides.{Decides-eqb}
 use Rattle.std.proofs.lemmas.Slice.Eq.{starts_is}
 use Rattle.fir_base.specs.Lists.{In}
-use Rattle.fir_lex.specs.Front.{dash_word_at}
+use Rattle.fir_lex.specs.working.Front.{dash_word_at}
 use Rattle.fir_lex.specs.Spelled.{dash_words}
 use Rattle.fir_lex.specs.Longest.{BeginsWithNoDashWord}
 

@@ -8,8 +8,8 @@ use Rattle.fir_base.specs.Lists.{In}
 use Rattle.fir_base.specs.Bytes.{is_digit, starts_with_digit, is_word_start, is_word_byte}
 use Rattle.fir_base.specs.Digits.{decimal_value}
 use Rattle.fir_lex.specs.Tokens.{integer, sign}
-use Rattle.fir_lex.specs.Bytes.{starts_with_byte, is_blank}
-use Rattle.fir_lex.specs.Front.{Front, found, passed, bad_byte, bad_literal, dash_word_at, dash_or_word, integer_front, closed_string, string_front, string_length, information_length, in_brackets, block_length, information_front, annotations_front, is_single, sign_at, marked_at, front}
+use Rattle.fir_lex.specs.working.Bytes.{starts_with_byte, is_blank}
+use Rattle.fir_lex.specs.working.Front.{Front, found, passed, bad_byte, bad_literal, dash_word_at, dash_or_word, integer_front, closed_string, string_front, string_length, information_length, in_brackets, block_length, information_front, annotations_front, is_single, sign_at, marked_at, front}
 use Rattle.fir_lex.specs.Enclosed.{nested_bytes, IsCharacter, AreCharacters}
 use Rattle.fir_lex.specs.Spelled.{IsDigit, ContinuesWord, IsWord, IsOnOneLine, signs}
 use Rattle.fir_lex.specs.Longest.{BeginsWithNo, BeginsWithNoDashWord, IsLongest}
@@ -46,7 +46,7 @@ taken_word b bs e =
     rw (take_while-cons is_word_byte b bs, or_left (is_word_start b) (is_digit b || eqb b 36) e)
     ((begins_word_decides b).0 e, All-from_recursion ContinuesWord (take_while is_word_byte bs) (run word_kind bs).all)
 
-some_digits : (bs : List ℕ) → starts_with_digit bs ≡ true → take_while is_digit bs ≢ []
+pub some_digits : (bs : List ℕ) → starts_with_digit bs ≡ true → take_while is_digit bs ≢ []
 some_digits [] e = absurd (cc)
 some_digits (b ∷ bs) e = λ none. let some : b ∷ take_while is_digit bs ≡ [] = sym (take_while-cons is_digit b bs ∙ rw e refl) ∙ none in absurd (cc)
 
@@ -198,11 +198,11 @@ two_has first second b (c ∷ cs) f e has =
     subst (λ (x : ℕ). FrontHas (x ∷ c ∷ cs) f) (sym (eqb-true b first parts.0))
     (subst (λ (x : ℕ). FrontHas (first ∷ x ∷ cs) f) (sym (eqb-true c second parts.1)) (has cs))
 
-not_behind : (x y : Bool) → x ≡ true → (x && y) ≡ false → y ≡ false
+pub not_behind : (x y : Bool) → x ≡ true → (x && y) ≡ false → y ≡ false
 not_behind true y e h = h
 not_behind false y e h = absurd (cc)
 
-begins_with_no : (c : ℕ) (bs : List ℕ) → starts_with_byte c bs ≡ false → BeginsWithNo (λ b. b ≡ c) bs
+pub begins_with_no : (c : ℕ) (bs : List ℕ) → starts_with_byte c bs ≡ false → BeginsWithNo (λ b. b ≡ c) bs
 begins_with_no c [] e = tt
 begins_with_no c (b ∷ bs) e = eqb-false b c e
 
@@ -270,13 +270,15 @@ marked_has b bs =
     cond_both (eqb b 64 && starts_with_byte 91 bs) _ _ (FrontHas (b ∷ bs)) (information_at b bs) (λ no_information.
     cond_both (eqb b 37 && starts_with_byte 91 bs) _ _ (FrontHas (b ∷ bs)) (annotations_at b bs) (λ no_annotations. sign_at_has b bs)))
 
-signed_has : (b : ℕ) (bs : List ℕ) → ((eqb b 43 || eqb b 45) && starts_with_digit bs) ≡ true → FrontHas (b ∷ bs) (integer_front (b ∷ []) bs)
-signed_has b bs e =
-    integer_has (b ∷ []) bs (inr (by_sign (or_cases (eqb b 43) (eqb b 45) (and_parts (eqb b 43 || eqb b 45) _ e).0))) (and_parts (eqb b 43 || eqb b 45) _ e).1
+pub is_sign : (b : ℕ) → (eqb b 43 || eqb b 45) ≡ true → (b ∷ [] ≡ codes "+") ⊎ (b ∷ [] ≡ codes "-")
+is_sign b e = by_sign (or_cases (eqb b 43) (eqb b 45) e)
   where
     by_sign : (eqb b 43 ≡ true) ⊎ (eqb b 45 ≡ true) → (b ∷ [] ≡ codes "+") ⊎ (b ∷ [] ≡ codes "-")
     by_sign (inl p) = inl (ap {B = List ℕ} (λ (x : ℕ). x ∷ []) (eqb-true b 43 p))
     by_sign (inr p) = inr (ap {B = List ℕ} (λ (x : ℕ). x ∷ []) (eqb-true b 45 p))
+
+signed_has : (b : ℕ) (bs : List ℕ) → ((eqb b 43 || eqb b 45) && starts_with_digit bs) ≡ true → FrontHas (b ∷ bs) (integer_front (b ∷ []) bs)
+signed_has b bs e = let both = and_parts (eqb b 43 || eqb b 45) _ e in integer_has (b ∷ []) bs (inr (is_sign b both.0)) both.1
 
 pub front_has : (b : ℕ) (bs : List ℕ) → eqb b 59 ≡ false → FrontHas (b ∷ bs) (front b bs)
 front_has b bs semicolon =

@@ -8,17 +8,17 @@ use Rattle.fir_base.proofs.Each.{all_at}
 use Rattle.fir_base.specs.Bytes.{starts_with_digit, is_word_start}
 use Rattle.fir_base.specs.Digits.{decimal_value}
 use Rattle.fir_lex.specs.Tokens.{Token, word, dash_word, integer, text, sign, annotations, line_end, level_opens, level_closes}
-use Rattle.fir_lex.specs.Bytes.{starts_with_byte, ends_line, is_blank}
-use Rattle.fir_lex.specs.Front.{Front, found, passed, dash_or_word, word_front, integer_front, closed_string, string_front, string_length, information_length, in_brackets, block_length, information_front, annotations_front}
-use Rattle.fir_lex.specs.Enclosed.{IsCharacter, nested_bytes, IsBlock}
-use Rattle.fir_lex.specs.Spelled.{IsDigit, BeginsWord, ContinuesWord, IsInteger, IsString, IsSpelled, dash_words, signs}
+use Rattle.fir_lex.specs.working.Bytes.{starts_with_byte, ends_line, is_blank}
+use Rattle.fir_lex.specs.working.Front.{Front, found, passed, dash_or_word, word_front, integer_front, closed_string, string_front, string_length, information_length, in_brackets, block_length, information_front, annotations_front}
+use Rattle.fir_lex.specs.Enclosed.{IsCharacter, AreCharacters, nested_bytes, IsBlock}
+use Rattle.fir_lex.specs.Spelled.{IsDigit, BeginsWord, ContinuesWord, IsInteger, IsOnOneLine, IsString, IsSpelled, dash_words, signs}
 use Rattle.fir_lex.specs.Longest.{BeginsWithNo, BeginsWithNoDashWord, IsLongest}
 use Rattle.fir_lex.specs.Pieces.{IsBlank, IsInformation}
 use Rattle.fir_lex.proofs.Way.{front_at}
 use Rattle.fir_lex.proofs.ByteKinds.{digit_decides, begins_word_decides}
 use Rattle.fir_lex.proofs.Runs.{word_kind, digit_kind, run_taken}
 use Rattle.fir_lex.proofs.Positions.{none_found}
-use Rattle.fir_lex.proofs.Quoted.{bytes_of_characters, characters_taken}
+use Rattle.fir_lex.proofs.Quoted.{characters_taken}
 use Rattle.fir_lex.proofs.Informed.{information_taken, inside_of}
 use Rattle.fir_lex.proofs.Bracketed.{block_taken}
 use Rattle.fir_lex.proofs.DashWords.{no_dash_found}
@@ -115,17 +115,20 @@ ascii content all =
     none_found (λ b. leb 128 b) content
     (recursion_from_All (λ b. leb 128 b ≡ false) content (All-weaker (λ b. b < 128) (λ b. leb 128 b ≡ false) (λ b lt. lt-leb 128 b lt) content all))
 
+-- a string's content stands before the quote that closes it
+pub string_long : (content behind : List ℕ) → AreCharacters content → IsOnOneLine content → string_length false (content ++ 34 ∷ behind) ≡ Some (length content)
+string_long content behind characters one =
+    let cs = characters.0 in
+    subst (λ (s : List ℕ). string_length false (s ++ 34 ∷ behind) ≡ Some (length s)) (sym characters.2)
+    (characters_taken cs behind (recursion_from_All IsCharacter cs characters.1)
+    (subst (AllByRecursion (λ b. b ≢ 10)) characters.2 (recursion_from_All (λ b. b ≢ 10) content one)))
+
 pub string_read : (content behind : List ℕ) → IsString content
     → Reads (((34 ∷ content) ++ 34 ∷ []) ++ behind) (found (text content) (length ((34 ∷ content) ++ 34 ∷ [])))
 string_read content behind h =
     let bs = (content ++ 34 ∷ []) ++ behind in
     let whole : bs ≡ content ++ 34 ∷ behind = append_assoc content (34 ∷ []) behind in
-    let cs = h.0.0 in
-    let is : content ≡ bytes_of_characters cs = h.0.2 in
-    let long : string_length false (content ++ 34 ∷ behind) ≡ Some (length content) =
-    subst (λ (s : List ℕ). string_length false (s ++ 34 ∷ behind) ≡ Some (length s)) (sym is)
-    (characters_taken cs behind (recursion_from_All IsCharacter cs h.0.1)
-    (subst (AllByRecursion (λ b. b ≢ 10)) is (recursion_from_All (λ b. b ≢ 10) content h.1))) in
+    let long = string_long content behind h.0 h.1 in
     let taken : take (length content) bs ≡ content = ap (take (length content)) whole ∙ take_at content (34 ∷ behind) (length content) refl in
     let size : length content + 2 ≡ length ((34 ∷ content) ++ 34 ∷ []) = omega (arith, length-append content (34 ∷ [])) in (
       refl,
@@ -149,7 +152,7 @@ annotations_read s behind h =
 abbrev SignRead : List ℕ → List ℕ → Type 0
 SignRead behind w = IsLongest (sign w) behind → Reads (w ++ behind) (found (sign w) (length w))
 
-starts_with_no : (P : ℕ → Type 0) (c : ℕ) (behind : List ℕ) → P c → BeginsWithNo P behind → starts_with_byte c behind ≡ false
+pub starts_with_no : (P : ℕ → Type 0) (c : ℕ) (behind : List ℕ) → P c → BeginsWithNo P behind → starts_with_byte c behind ≡ false
 starts_with_no P c [] is h = refl
 starts_with_no P c (b ∷ bs) is h = ne_eqb b c (λ e. h (subst P (sym e) is))
 

@@ -4,8 +4,8 @@ use Rattle.std.specs.Prelude.{option_map, Decides}
 use Rattle.std.proofs.lemmas.Bool.{eqb-true, eqb-false, eq-eqb, ne_eqb, false_from_ne_true}
 use Rattle.std.proofs.lemmas.List.{same_from_push}
 use Rattle.std.proofs.lemmas.List.Elements.{All-from_recursion, recursion_from_All}
-use Rattle.fir_lex.specs.Bytes.{ends_line}
-use Rattle.fir_lex.specs.Front.{information_length}
+use Rattle.fir_lex.specs.working.Bytes.{ends_line}
+use Rattle.fir_lex.specs.working.Front.{information_length}
 use Rattle.fir_lex.specs.Pieces.{EndsIn, IsInformation}
 use Rattle.fir_lex.proofs.Lengths.{information_ends, information_closes, information_goes_on}
 use Rattle.fir_lex.proofs.OneLine.{NoNewline, goes_on, no_newline, nothing_ends, before}

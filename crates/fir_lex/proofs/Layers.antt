@@ -3,7 +3,7 @@ use Rattle.std.proofs.Common.{◌≡◌, ◌≢◌, ℕ, zero, suc, ◌+◌, ◌
 use Rattle.std.specs.List.{AllByRecursion}
 use Rattle.std.proofs.lemmas.Bool.{eqb-true, eqb-false, ne_eqb}
 use Rattle.std.proofs.lemmas.List.Elements.{All-from_recursion}
-use Rattle.fir_lex.specs.Front.{Within, in_brackets, in_string, bracket_step, within_step, is_closed, block_length}
+use Rattle.fir_lex.specs.working.Front.{Within, in_brackets, in_string, bracket_step, within_step, is_closed, block_length}
 use Rattle.fir_lex.specs.Enclosed.{IsCharacter, Nested, nothing, byte_then, string_then, brackets_then, nested_bytes, IsNested}
 use Rattle.fir_lex.proofs.Lengths.{block_step}
 use Rattle.fir_lex.proofs.OneLine.{before}

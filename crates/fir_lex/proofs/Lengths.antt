@@ -2,8 +2,8 @@
 use Rattle.std.proofs.Common.{◌≡◌, ℕ, suc, ◌+◌, ◌<◌, ◌≤◌, Bool, true, false, cond, ◌&&◌, not, List, [], ◌∷◌, length, get_or, drop, Option, Some, None, refl, sym, ap, ◌∙◌, zero-add, arith}
 use Rattle.std.specs.Prelude.{option_map, nat_eq}
 use Rattle.std.proofs.lemmas.List.{drop_more, drop_all}
-use Rattle.fir_lex.specs.Bytes.{ends_line}
-use Rattle.fir_lex.specs.Front.{string_length, information_length, Within, within_step, is_closed, block_length, comment_length}
+use Rattle.fir_lex.specs.working.Bytes.{ends_line}
+use Rattle.fir_lex.specs.working.Front.{string_length, information_length, Within, within_step, is_closed, block_length, comment_length}
 
 -- ---- a length, seen from an index
 

@@ -6,7 +6,7 @@ use Rattle.std.proofs.lemmas.Bool.{eqb-true, eq-eqb, ne_eqb, ltb-true, lt-ltb, l
 use Rattle.std.proofs.lemmas.List.Elements.{All-nil, All-cons, recursion_from_All}
 use Rattle.fir_base.proofs.Empty.{empty_right}
 use Rattle.fir_lex.specs.Tokens.{Token, level_opens, level_closes}
-use Rattle.fir_lex.specs.Levels.{Move, closing, move_out, innermost, move_to}
+use Rattle.fir_lex.specs.working.Levels.{Move, closing, move_out, innermost, move_to}
 use Rattle.fir_lex.specs.TokensOf.{Opens, Closes}
 
 -- the open levels, and the base

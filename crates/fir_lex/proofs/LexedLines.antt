@@ -4,9 +4,9 @@ use Rattle.std.proofs.lemmas.Bool.{eqb-true}
 use Rattle.std.proofs.lemmas.List.{nil_from_length}
 use Rattle.fir_ast.specs.declared.place.Place.{Place}
 use Rattle.fir_lex.specs.Tokens.{Token, Placed, line_end}
-use Rattle.fir_lex.specs.Bytes.{ends_line}
-use Rattle.fir_lex.specs.Front.{Front, found, passed, bad_byte, bad_literal, front}
-use Rattle.fir_lex.specs.Lexed.{Lexed, placed_at, with_tokens, closed_at}
+use Rattle.fir_lex.specs.working.Bytes.{ends_line}
+use Rattle.fir_lex.specs.working.Front.{Front, found, passed, bad_byte, bad_literal, front}
+use Rattle.fir_lex.specs.working.Lexed.{Lexed, placed_at, with_tokens, closed_at}
 use Rattle.fir_lex.specs.Pieces.{Piece, blank, information, spelled, piece_bytes, bytes_of_pieces, IsPiece, ArePieces}
 use Rattle.fir_lex.specs.Lines.{Line, text_of, IsComment, EndsLine, AreLines}
 use Rattle.fir_lex.specs.TokensOf.{place_after, stands_after, tokens_of_pieces, HaveTokens}

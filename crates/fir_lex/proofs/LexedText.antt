@@ -4,8 +4,8 @@ use Rattle.std.specs.List.{AllByRecursion}
 use Rattle.std.proofs.lemmas.Bool.{both_ways, eqb-false}
 use Rattle.std.proofs.lemmas.List.Elements.{All-from_recursion}
 use Rattle.fir_lex.specs.Tokens.{Placed, line_end}
-use Rattle.fir_lex.specs.Levels.{Move, move_to}
-use Rattle.fir_lex.specs.Lexed.{placed_at, is_idle, lexed}
+use Rattle.fir_lex.specs.working.Levels.{Move, move_to}
+use Rattle.fir_lex.specs.working.Lexed.{placed_at, is_idle, lexed}
 use Rattle.fir_lex.specs.Pieces.{Piece, blank, information, spelled, IsBlank, bytes_of_pieces, ArePieces}
 use Rattle.fir_lex.specs.Lines.{idle, full, line_bytes, text_of, IsComment, EndsLine, BeginsLine}
 use Rattle.fir_lex.specs.TokensOf.{place_after, stands_after, tokens_of_pieces, HaveTokens, AreTokensOf}
@@ -45,12 +45,12 @@ idle_more blanks behind bytes all parts some t shorter levels before ts h =
 
 -- ---- other lines
 
-spaces_of : (s : List ℕ) → AllByRecursion IsBlank s → AllByRecursion (λ c. eqb c 9 ≡ false) s → s ≡ replicate (length s) 32
+pub spaces_of : (s : List ℕ) → AllByRecursion IsBlank s → AllByRecursion (λ c. eqb c 9 ≡ false) s → s ≡ replicate (length s) 32
 spaces_of [] all none = refl
 spaces_of (b ∷ bs) (inl e, all) none = rw e (ap {B = List ℕ} (λ (x : List ℕ). 32 ∷ x) (spaces_of bs all none.1))
 spaces_of (b ∷ bs) (inr e, all) none = absurd (eqb-false b 9 none.0 e)
 
-begins : (ps : List Piece) (comment end behind : List ℕ) → Met (bytes_of_pieces ps ++ ((comment ++ end) ++ behind))
+pub begins : (ps : List Piece) (comment end behind : List ℕ) → Met (bytes_of_pieces ps ++ ((comment ++ end) ++ behind))
     → ArePieces ps ((comment ++ end) ++ behind) → IsComment comment → EndsLine comment end behind → BeginsLine ps
 begins [] comment end behind met are c e =
     both_ways (is_idle ((comment ++ end) ++ behind)) met.busy (ap is_idle (append_assoc comment end behind) ∙ (tail comment end behind c e).idle)
@@ -83,14 +83,14 @@ full_more n behind bytes levels before m rest ts parts met moves tokens l =
 -- ---- a line
 
 -- behind the blanks at the front of some bytes
-record Blanks (bytes : List ℕ) : Type 0 where
+pub record Blanks (bytes : List ℕ) : Type 0 where
   pub behind : List ℕ
   pub parts : bytes ≡ blanks_of bytes ++ behind
   pub all : AllByRecursion IsBlank (blanks_of bytes)
   pub left : drop (length (blanks_of bytes)) bytes ≡ behind
   pub met : is_idle behind ≡ false → Met behind
 
-blanks : (bytes : List ℕ) → Blanks bytes
+pub blanks : (bytes : List ℕ) → Blanks bytes
 blanks bytes =
     let r : Run blank_kind bytes = run blank_kind bytes in record {
       behind = r.behind;

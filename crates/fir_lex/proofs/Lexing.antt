@@ -7,10 +7,10 @@ use Rattle.fir_ast.specs.declared.fault.FirFault.{FirFault}
 use Rattle.fir_ast.specs.declared.fault.FirFault.TheVariants as fault
 use Rattle.fir_lex.specs.declared.lexer.Lexer.{Lexer}
 use Rattle.fir_lex.specs.Tokens.{Token, Placed, line_end}
-use Rattle.fir_lex.specs.Bytes.{place_behind, ends_line, line_end_length, is_blank}
-use Rattle.fir_lex.specs.Front.{Front, found, passed, bad_byte, bad_literal, front}
-use Rattle.fir_lex.specs.Levels.{Move, move_to}
-use Rattle.fir_lex.specs.Lexed.{Lexed, placed_at, with_tokens, is_idle, idle_length, unmet, closed_at, lexed_from, lexed}
+use Rattle.fir_lex.specs.working.Bytes.{place_behind, ends_line, line_end_length, is_blank}
+use Rattle.fir_lex.specs.working.Front.{Front, found, passed, bad_byte, bad_literal, front}
+use Rattle.fir_lex.specs.working.Levels.{Move, move_to}
+use Rattle.fir_lex.specs.working.Lexed.{Lexed, placed_at, with_tokens, is_idle, idle_length, unmet, closed_at, lexed_from, lexed}
 use Rattle.fir_lex.specs.working.Steps.{tokens_in, in_front, moved, MovesTo}
 use Rattle.fir_lex.specs.working.Ways.{rest_of, left, Passes}
 use Rattle.fir_lex.proofs.Moves.{closed_reversed}

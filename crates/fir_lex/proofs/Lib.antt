@@ -25,3 +25,12 @@ pub mod LineEndsFound
 pub mod LexedLines
 pub mod LexedText
 pub mod LongestTaken
+pub mod FirstPlaces
+pub mod BusyBytes
+pub mod FrontsWrong
+pub mod FrontsRefused
+pub mod FrontFaults
+pub mod IndentFaults
+pub mod LineFaultsFound
+pub mod FaultsFound
+pub mod FaultsTold

@@ -3,9 +3,9 @@ use Rattle.std.proofs.Common.{◌≡◌, ◌≢◌, ℕ, suc, ◌+◌, Bool, tru
 use Rattle.std.proofs.lemmas.Bool.{eqb-true, ne_eqb, or_from}
 use Rattle.std.proofs.lemmas.List.{drop_at}
 use Rattle.std.proofs.lemmas.List.Elements.{recursion_from_All}
-use Rattle.fir_lex.specs.Bytes.{starts_with_byte, ends_line, line_end_length}
-use Rattle.fir_lex.specs.Front.{comment_length}
-use Rattle.fir_lex.specs.Lexed.{is_idle, idle_length}
+use Rattle.fir_lex.specs.working.Bytes.{starts_with_byte, ends_line, line_end_length}
+use Rattle.fir_lex.specs.working.Front.{comment_length}
+use Rattle.fir_lex.specs.working.Lexed.{is_idle, idle_length}
 use Rattle.fir_lex.specs.Longest.{BeginsWithNo}
 use Rattle.fir_lex.specs.Pieces.{IsBlank, EndsIn}
 use Rattle.fir_lex.specs.Lines.{IsComment, EndsLine}

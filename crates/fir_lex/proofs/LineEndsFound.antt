@@ -2,9 +2,9 @@
 use Rattle.std.proofs.Common.{◌≡◌, ◌≢◌, ℕ, suc, ◌<◌, Bool, true, false, ◌&&◌, eqb, List, [], ◌∷◌, ◌++◌, length, refl, sym, ap, ◌∙◌, inl, inr, ◌⊎◌, subst, length-append, arith}
 use Rattle.std.proofs.lemmas.Bool.{eqb-true, both_ways, or_cases, or_parts, and_parts}
 use Rattle.std.proofs.lemmas.List.Elements.{All-from_recursion}
-use Rattle.fir_lex.specs.Bytes.{starts_with_byte, ends_line}
-use Rattle.fir_lex.specs.Front.{comment_length}
-use Rattle.fir_lex.specs.Lexed.{is_idle}
+use Rattle.fir_lex.specs.working.Bytes.{starts_with_byte, ends_line}
+use Rattle.fir_lex.specs.working.Front.{comment_length}
+use Rattle.fir_lex.specs.working.Lexed.{is_idle}
 use Rattle.fir_lex.specs.Lines.{IsComment, EndsLine}
 use Rattle.fir_lex.proofs.Lengths.{comment_ends, comment_goes_on}
 use Rattle.fir_lex.proofs.OneLine.{NoNewline, no_newline, nothing_ends}

@@ -1,5 +1,5 @@
 -- What is lexed of a piece, of the end of a line, of an idle line, and of the spaces of a line, before what stands behind them.
-use Rattle.std.proofs.Common.{◌≡◌, ℕ, zero, suc, ◌+◌, ◌<◌, ◌≤◌, Bool, true, false, eqb, List, [], ◌∷◌, ◌++◌, length, take, drop, replicate, All, Some, position, refl, sym, ap, ◌∙◌, inl, inr, subst, append_assoc, append-nil, length-append, take_at, drop_at, Ok, arith}
+use Rattle.std.proofs.Common.{◌≡◌, ℕ, zero, suc, ◌+◌, ◌<◌, ◌≤◌, Bool, true, false, eqb, List, [], ◌∷◌, ◌++◌, length, take, drop, replicate, All, Some, position, refl, sym, ap, ◌∙◌, inl, inr, subst, append_assoc, append-nil, length-append, take_at, drop_at, Ok, None, arith}
 use Rattle.std.specs.Prelude.{take_while}
 use Rattle.std.specs.List.{AllByRecursion}
 use Rattle.std.proofs.lemmas.Bool.{or_from, ne_eqb}
@@ -8,10 +8,10 @@ use Rattle.std.proofs.lemmas.List.Elements.{recursion_from_All}
 use Rattle.fir_base.proofs.Empty.{empty_left}
 use Rattle.fir_ast.specs.declared.place.Place.{Place}
 use Rattle.fir_lex.specs.Tokens.{Token, line_end}
-use Rattle.fir_lex.specs.Bytes.{place_behind, ends_line, is_blank}
-use Rattle.fir_lex.specs.Front.{found, passed, bad_literal, comment_length}
-use Rattle.fir_lex.specs.Levels.{Move, move_to}
-use Rattle.fir_lex.specs.Lexed.{Lexed, with_tokens, is_idle, idle_length, closed_at, lexed_from}
+use Rattle.fir_lex.specs.working.Bytes.{place_behind, ends_line, is_blank}
+use Rattle.fir_lex.specs.working.Front.{Front, found, passed, comment_length}
+use Rattle.fir_lex.specs.working.Levels.{Move, move_to}
+use Rattle.fir_lex.specs.working.Lexed.{Lexed, with_tokens, is_idle, idle_length, closed_at, lexed_from}
 use Rattle.fir_lex.specs.Spelled.{IsSpelled}
 use Rattle.fir_lex.specs.Longest.{BeginsWithNo, IsLongest}
 use Rattle.fir_lex.specs.Pieces.{Piece, blank, information, spelled, IsBlank, IsInformation, bytes_of_pieces, ArePieces}
@@ -152,15 +152,16 @@ pub record Met (bytes : List ℕ) : Type 0 where
   pub no_blank : BeginsWithNo IsBlank bytes
   pub busy : is_idle bytes ≡ false
 
-token_met : (bytes : List ℕ) (t : Token) (n : ℕ) → Reads bytes (found t n) → Met bytes
-token_met [] t n r = let none : bad_literal ≡ found t n = r.1 in absurd (cc)
-token_met (b ∷ bs) t n r = record {
-  no_blank = λ h. let other : passed 1 ≡ found t n = sym (blank_read b bs h).1 ∙ r.1 in absurd (cc);
+-- blanks and comments are passed over
+pub read_met : (bytes : List ℕ) (f : Front) → 0 < length bytes → Reads bytes f → ((n : ℕ) → f ≡ passed n → ⊥) → Met bytes
+read_met [] f some r stays = absurd (omega arith)
+read_met (b ∷ bs) f some r stays = record {
+  no_blank = λ h. stays 1 (sym r.1 ∙ (blank_read b bs h).1);
   busy = or_from (ends_line (b ∷ bs)) (eqb b 59) r.0 (ne_eqb b 59 semicolon);
 }
   where
     semicolon : b ≡ 59 → ⊥
-    semicolon e = let other : passed (comment_length (59 ∷ bs)) ≡ found t n = subst (λ (x : ℕ). front_at (x ∷ bs) ≡ found t n) e r.1 in absurd (cc)
+    semicolon e = stays (comment_length (59 ∷ bs)) (sym (subst (λ (x : ℕ). front_at (x ∷ bs) ≡ f) e r.1))
 
 pub pieces_met : (ps : List Piece) (behind : List ℕ) → BeginsLine ps → ArePieces ps behind → Met (bytes_of_pieces ps ++ behind)
 pieces_met [] behind first are = absurd first
@@ -175,13 +176,14 @@ pieces_met (information content ∷ ps) behind first are = record {
     no_blank_at (inr e) = absurd (omega arith)
 pieces_met (spelled t s ∷ ps) behind first are =
     subst Met (sym (append_assoc s (bytes_of_pieces ps) behind))
-    (token_met (s ++ (bytes_of_pieces ps ++ behind)) t (length s) (token_read t s (bytes_of_pieces ps ++ behind) are.0.0 are.0.1))
+    (read_met (s ++ (bytes_of_pieces ps ++ behind)) (found t (length s)) (some_bytes s (bytes_of_pieces ps ++ behind) (token_some t s are.0.0)).0
+    (token_read t s (bytes_of_pieces ps ++ behind) are.0.0 are.0.1) (λ n e. absurd (cc)))
 
-spaces_are : (n : ℕ) → AllByRecursion IsBlank (replicate n 32)
+pub spaces_are : (n : ℕ) → AllByRecursion IsBlank (replicate n 32)
 spaces_are zero = tt
 spaces_are (suc n) = (inl refl, spaces_are n)
 
-no_tabs : (n : ℕ) → AllByRecursion (λ c. eqb c 9 ≡ false) (replicate n 32)
+pub no_tabs : (n : ℕ) → AllByRecursion (λ c. eqb c 9 ≡ false) (replicate n 32)
 no_tabs zero = tt
 no_tabs (suc n) = (refl, no_tabs n)
 
@@ -189,20 +191,47 @@ busy_some : (bytes : List ℕ) → is_idle bytes ≡ false → 0 < length bytes
 busy_some [] e = absurd (cc)
 busy_some (b ∷ bs) e = omega arith
 
+-- blanks, and what stands behind them
+pub record BlanksRead (blanks bytes : List ℕ) : Type 0 where
+  pub all : blanks_of (blanks ++ bytes) ≡ blanks
+  pub left : drop (length (blanks_of (blanks ++ bytes))) (blanks ++ bytes) ≡ bytes
+  pub some : 0 < length (blanks ++ bytes)
+  pub busy : is_idle (drop (length (blanks_of (blanks ++ bytes))) (blanks ++ bytes)) ≡ false
+
+pub blanks_read : (blanks bytes : List ℕ) → AllByRecursion IsBlank blanks → Met bytes → BlanksRead blanks bytes
+blanks_read blanks bytes are met =
+    let all : blanks_of (blanks ++ bytes) ≡ blanks = run_taken blank_kind blanks bytes are met.no_blank in
+    let left : drop (length (blanks_of (blanks ++ bytes))) (blanks ++ bytes) ≡ bytes =
+    ap (λ (x : List ℕ). drop (length x) (blanks ++ bytes)) all ∙ drop_at blanks bytes (length blanks) refl in record {
+      all = all;
+      left = left;
+      some = omega (arith, length-append blanks bytes, busy_some bytes met.busy);
+      busy = ap is_idle left ∙ met.busy;
+    }
+
+-- so many spaces
+pub record SpacesRead (n : ℕ) (bytes : List ℕ) : Type 0 where
+  pub read : BlanksRead (replicate n 32) bytes
+  pub no_tab : position (λ c. eqb c 9) (blanks_of (replicate n 32 ++ bytes)) ≡ None
+  pub deep : length (blanks_of (replicate n 32 ++ bytes)) ≡ n
+
+pub spaces_read : (n : ℕ) (bytes : List ℕ) → Met bytes → SpacesRead n bytes
+spaces_read n bytes met =
+    let r = blanks_read (replicate n 32) bytes (spaces_are n) met in record {
+      read = r;
+      no_tab = ap (position (λ c. eqb c 9)) r.all ∙ none_found (λ c. eqb c 9) (replicate n 32) (no_tabs n);
+      deep = ap length r.all ∙ length-replicate n 32;
+    }
+
 pub spaces_over : (n : ℕ) (levels before bytes : List ℕ) (m : Move) → Met bytes → move_to n levels ≡ Some m
     → at_line_after levels before (replicate n 32 ++ bytes)
     ≡ with_tokens (place_after (before ++ replicate n 32)) m.tokens (in_line_after m.levels (before ++ replicate n 32) bytes)
 spaces_over n levels before bytes m met moves =
     let spaces : List ℕ = replicate n 32 in
-    let all : blanks_of (spaces ++ bytes) ≡ spaces = run_taken blank_kind spaces bytes (spaces_are n) met.no_blank in
-    let left : drop (length (blanks_of (spaces ++ bytes))) (spaces ++ bytes) ≡ bytes =
-    ap (λ (x : List ℕ). drop (length x) (spaces ++ bytes)) all ∙ drop_at spaces bytes (length spaces) refl in
-    let deep : length (blanks_of (spaces ++ bytes)) ≡ n = ap length all ∙ length-replicate n 32 in
-    way_met levels (place_after before) (spaces ++ bytes) m (omega (arith, length-append spaces bytes, busy_some bytes met.busy))
-    (ap is_idle left ∙ met.busy) (ap (position (λ c. eqb c 9)) all ∙ none_found (λ c. eqb c 9) spaces (no_tabs n))
-    (ap (λ (k : ℕ). move_to k levels) deep ∙ moves)
+    let s = spaces_read n bytes met in
+    way_met levels (place_after before) (spaces ++ bytes) m s.read.some s.read.busy s.no_tab (ap (λ (k : ℕ). move_to k levels) s.deep ∙ moves)
     ∙ ap (λ (x : List ℕ). with_tokens (place_behind (place_after before) (blanks_of (spaces ++ bytes))) m.tokens
-    (lexed_from m.levels false 0 (place_behind (place_after before) (blanks_of (spaces ++ bytes))) x)) left
+    (lexed_from m.levels false 0 (place_behind (place_after before) (blanks_of (spaces ++ bytes))) x)) s.read.left
     ∙ ap (λ (x : List ℕ). with_tokens (place_behind (place_after before) x) m.tokens
-    (lexed_from m.levels false 0 (place_behind (place_after before) x) bytes)) all
+    (lexed_from m.levels false 0 (place_behind (place_after before) x) bytes)) s.read.all
     ∙ ap (λ (p : Place). with_tokens p m.tokens (lexed_from m.levels false 0 p bytes)) (sym (place_on before spaces))

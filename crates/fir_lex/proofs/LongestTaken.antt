@@ -10,8 +10,8 @@ use Rattle.fir_base.specs.Lists.{In}
 use Rattle.fir_base.specs.Bytes.{is_digit}
 use Rattle.fir_base.specs.Digits.{decimal_value}
 use Rattle.fir_lex.specs.Tokens.{Token, word, dash_word, integer, text, sign, annotations, line_end, level_opens, level_closes}
-use Rattle.fir_lex.specs.Bytes.{starts_with_byte}
-use Rattle.fir_lex.specs.Front.{Front, found, passed, bad_byte, bad_literal, dash_word_at, dash_or_word, integer_front}
+use Rattle.fir_lex.specs.working.Bytes.{starts_with_byte}
+use Rattle.fir_lex.specs.working.Front.{Front, found, passed, bad_byte, bad_literal, dash_word_at, dash_or_word, integer_front}
 use Rattle.fir_lex.specs.Spelled.{IsDigit, BeginsWord, ContinuesWord, IsSpelled, dash_words, signs}
 use Rattle.fir_lex.specs.Longest.{IsLongest}
 use Rattle.fir_lex.proofs.Way.{front_at}

@@ -5,8 +5,8 @@ use Rattle.std.proofs.lemmas.Bool.{eq-eqb, ne_eqb, lt-ltb, le-ltb}
 use Rattle.std.proofs.lemmas.List.{reverse-append, take_more, take_all, append-nil, map-append, length-reverse}
 use Rattle.fir_ast.specs.declared.place.Place.{Place}
 use Rattle.fir_lex.specs.Tokens.{Placed, level_opens, level_closes}
-use Rattle.fir_lex.specs.Levels.{Move, closing, move_out, innermost, move_to}
-use Rattle.fir_lex.specs.Lexed.{placed_at, closed_at}
+use Rattle.fir_lex.specs.working.Levels.{Move, closing, move_out, innermost, move_to}
+use Rattle.fir_lex.specs.working.Lexed.{placed_at, closed_at}
 use Rattle.fir_lex.specs.working.Steps.{moved}
 
 -- ---- the innermost level stands last

@@ -4,7 +4,7 @@ use Rattle.std.specs.Prelude.{option_map}
 use Rattle.std.specs.List.{AllByRecursion}
 use Rattle.std.proofs.lemmas.Bool.{eqb-false, ne_eqb, or_from, and_right, or_parts}
 use Rattle.fir_base.proofs.Empty.{empty_right}
-use Rattle.fir_lex.specs.Bytes.{starts_with_byte, ends_line}
+use Rattle.fir_lex.specs.working.Bytes.{starts_with_byte, ends_line}
 use Rattle.fir_lex.specs.Pieces.{EndsIn}
 
 abbrev pub NoNewline : List ℕ → Type 0

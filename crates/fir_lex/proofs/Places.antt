@@ -3,7 +3,7 @@ use Rattle.std.proofs.Common.{◌≡◌, ℕ, ◌+◌, Bool, true, false, cond, 
 use Rattle.std.specs.List.{prefix_len, suffix_len}
 use Rattle.std.proofs.lemmas.List.Sums.{sum_by_push}
 use Rattle.fir_ast.specs.declared.place.Place.{Place}
-use Rattle.fir_lex.specs.Bytes.{next_place, place_behind}
+use Rattle.fir_lex.specs.working.Bytes.{next_place, place_behind}
 use Rattle.fir_lex.specs.TokensOf.{place_after}
 use Rattle.fir_lex.proofs.Moves.{reverse_push}
 

@@ -3,8 +3,8 @@ use Rattle.std.proofs.Common.{◌≡◌, ℕ, suc, Bool, true, false, ◌&&◌, 
 use Rattle.std.specs.Prelude.{option_map}
 use Rattle.std.specs.List.{AllByRecursion}
 use Rattle.std.proofs.lemmas.Bool.{eqb-true, eqb-false, ne_eqb}
-use Rattle.fir_lex.specs.Bytes.{ends_line}
-use Rattle.fir_lex.specs.Front.{string_length}
+use Rattle.fir_lex.specs.working.Bytes.{ends_line}
+use Rattle.fir_lex.specs.working.Front.{string_length}
 use Rattle.fir_lex.specs.Enclosed.{Character, plain, escaped, character_bytes, IsCharacter}
 use Rattle.fir_lex.proofs.Lengths.{string_ends, string_closes, string_goes_on}
 use Rattle.fir_lex.proofs.OneLine.{NoNewline, goes_on, no_newline, before}

@@ -6,7 +6,7 @@ use Rattle.std.proofs.lemmas.Bool.{false_from_ne_true}
 use Rattle.std.proofs.lemmas.Bool.Decides.{not_from_Decides}
 use Rattle.std.proofs.lemmas.List.Sums.{take_while-cons}
 use Rattle.fir_base.specs.Bytes.{is_digit, is_word_byte}
-use Rattle.fir_lex.specs.Bytes.{is_blank}
+use Rattle.fir_lex.specs.working.Bytes.{is_blank}
 use Rattle.fir_lex.specs.Spelled.{IsDigit, ContinuesWord}
 use Rattle.fir_lex.specs.Longest.{BeginsWithNo}
 use Rattle.fir_lex.specs.Pieces.{IsBlank}

@@ -2,7 +2,7 @@
 use Rattle.std.proofs.Common.{◌≡◌, ℕ, List, [], ◌∷◌, ◌++◌, map, replicate, Ok, sym, ap, ◌∙◌, subst, append_assoc, append-nil}
 use Rattle.std.proofs.lemmas.List.{append_cancel_right}
 use Rattle.fir_lex.specs.Tokens.{Token, Placed, line_end}
-use Rattle.fir_lex.specs.Lexed.{Lexed, with_tokens, closed_at, lexed}
+use Rattle.fir_lex.specs.working.Lexed.{Lexed, with_tokens, closed_at, lexed}
 use Rattle.fir_lex.specs.Pieces.{Piece, blank, information, spelled, piece_bytes, bytes_of_pieces, IsPiece, ArePieces}
 use Rattle.fir_lex.specs.Lines.{Line, idle, full, line_bytes, text_of, IsLine, AreLines}
 use Rattle.fir_lex.specs.TokensOf.{place_after, stands_after, tokens_of_pieces, HaveTokens, AreTokensOf}

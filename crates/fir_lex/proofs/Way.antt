@@ -7,10 +7,10 @@ use Rattle.std.proofs.lemmas.List.Sums.{prefix_len-le-length}
 use Rattle.fir_ast.specs.declared.place.Place.{Place}
 use Rattle.fir_ast.specs.declared.fault.FirFault.TheVariants as fault
 use Rattle.fir_lex.specs.Tokens.{Token, Placed, line_end}
-use Rattle.fir_lex.specs.Bytes.{next_place, place_behind, starts_with_byte, ends_line, line_end_length, is_blank}
-use Rattle.fir_lex.specs.Front.{Front, found, passed, bad_byte, bad_literal, comment_length, front}
-use Rattle.fir_lex.specs.Levels.{Move, move_to}
-use Rattle.fir_lex.specs.Lexed.{Lexed, Rest, placed_at, with_tokens, go_on, is_idle, idle_length, unmet, behind_spaces, begin_counted, begin_line, lexed_from}
+use Rattle.fir_lex.specs.working.Bytes.{next_place, place_behind, starts_with_byte, ends_line, line_end_length, is_blank}
+use Rattle.fir_lex.specs.working.Front.{Front, found, passed, bad_byte, bad_literal, comment_length, front}
+use Rattle.fir_lex.specs.working.Levels.{Move, move_to}
+use Rattle.fir_lex.specs.working.Lexed.{Lexed, Rest, placed_at, with_tokens, go_on, is_idle, idle_length, unmet, behind_spaces, begin_counted, begin_line, lexed_from}
 use Rattle.fir_lex.specs.working.Steps.{in_front}
 
 -- ---- taken bytes lead to the place behind them

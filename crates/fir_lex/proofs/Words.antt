@@ -7,7 +7,7 @@ use Rattle.std.proofs.lemmas.Bool.{or_left}
 use Rattle.std.proofs.lemmas.List.Folds.{length-prefix_len}
 use Rattle.std.proofs.lemmas.List.Sums.{prefix_len-le-length}
 use Rattle.fir_base.specs.Bytes.{is_word_start, is_word_byte, is_digit, starts_with_digit}
-use Rattle.fir_lex.specs.Front.{dash_word_at}
+use Rattle.fir_lex.specs.working.Front.{dash_word_at}
 use Rattle.fir_lex.specs.working.View.{AtWord}
 
 abbrev some : List ℕ → Option (List ℕ)

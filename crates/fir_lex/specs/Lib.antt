@@ -1,13 +1,10 @@
 pub mod Tokens
-pub mod Bytes
-pub mod Front
-pub mod Levels
-pub mod Lexed
 pub mod Enclosed
 pub mod Spelled
 pub mod Longest
 pub mod Pieces
 pub mod Lines
 pub mod TokensOf
+pub mod TokenFaults
 pub mod working
 pub use Rattle.fir_ast.specs.FaultLines

@@ -1,7 +1,7 @@
 //! Annotation blocks (FIRRTL spec, "Annotations").
 
 ghost use Rattle.std.specs.Prelude.{◌≡◌, ◌+◌, ◌<◌, ◌≤◌, ◌^◌, IfSome, length, drop};
-ghost use Rattle.fir_lex.specs.Front.{in_brackets, within_step, is_closed, block_length, annotations_front};
+ghost use Rattle.fir_lex.specs.working.Front.{in_brackets, within_step, is_closed, block_length, annotations_front};
 ghost use Rattle.fir_lex.specs.working.View.{front_of, IsWithinBytes};
 ghost use Rattle.fir_lex.specs.working.Blocks.{within_of, depth_of};
 

@@ -1,7 +1,7 @@
 //! Kinds of bytes.
 
 ghost use Rattle.std.specs.Prelude.{◌≡◌};
-ghost use Rattle.fir_lex.specs.Bytes.{starts_with_byte, ends_line, line_end_length, is_blank};
+ghost use Rattle.fir_lex.specs.working.Bytes.{starts_with_byte, ends_line, line_end_length, is_blank};
 
 /// Whether the byte is a space or a tab.
 pub fn is_blank(byte: u8) -> bool

@@ -1,7 +1,7 @@
 //! Places in a text.
 
 ghost use Rattle.std.specs.Prelude.{◌≡◌, ◌+◌, ◌<◌, ◌≤◌, length};
-ghost use Rattle.fir_lex.specs.Bytes.{next_place, place_behind};
+ghost use Rattle.fir_lex.specs.working.Bytes.{next_place, place_behind};
 
 use fir_ast::Place;
 

@@ -2,7 +2,7 @@
 
 ghost use Rattle.std.specs.Prelude.{◌≡◌, ◌≤◌, length, slice_index, drop};
 ghost use Rattle.fir_base.specs.Bytes.{starts_with_digit};
-ghost use Rattle.fir_lex.specs.Front.{marked_at, front};
+ghost use Rattle.fir_lex.specs.working.Front.{marked_at, front};
 ghost use Rattle.fir_lex.specs.working.View.{front_of, IsWithinBytes};
 
 use crate::annotation::read_annotations;

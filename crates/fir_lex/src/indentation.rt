@@ -1,8 +1,8 @@
 //! Indentation, and lines that count for nothing.
 
 ghost use Rattle.std.specs.Prelude.{◌≡◌, ◌+◌, ◌<◌, ◌≤◌, IfSome, length, take_while, position, nat_eq};
-ghost use Rattle.fir_lex.specs.Bytes.{is_blank};
-ghost use Rattle.fir_lex.specs.Lexed.{is_idle, idle_length, unmet};
+ghost use Rattle.fir_lex.specs.working.Bytes.{is_blank};
+ghost use Rattle.fir_lex.specs.working.Lexed.{is_idle, idle_length, unmet};
 
 use crate::byte::{ends_line, is_blank, line_end_length};
 use crate::front::read_front;

@@ -1,7 +1,7 @@
 //! Comments and file information (FIRRTL spec, "Details about Syntax").
 
 ghost use Rattle.std.specs.Prelude.{◌≡◌, ◌<◌, ◌≤◌, IfSome, false, length, drop};
-ghost use Rattle.fir_lex.specs.Front.{comment_length, information_length, information_front};
+ghost use Rattle.fir_lex.specs.working.Front.{comment_length, information_length, information_front};
 ghost use Rattle.fir_lex.specs.working.View.{front_of, IsWithinBytes};
 
 use crate::byte::ends_line;

@@ -1,8 +1,8 @@
 //! Levels of indentation, the innermost last.
 
 ghost use Rattle.std.specs.Prelude.{◌≡◌, ◌++◌, IfOk, OnOk, reverse};
-ghost use Rattle.fir_lex.specs.Levels.{innermost, move_to};
-ghost use Rattle.fir_lex.specs.Lexed.{closed_at};
+ghost use Rattle.fir_lex.specs.working.Levels.{innermost, move_to};
+ghost use Rattle.fir_lex.specs.working.Lexed.{closed_at};
 ghost use Rattle.fir_lex.specs.working.Steps.{tokens_in, moved, MovesTo};
 
 use crate::draft::Draft;

@@ -1,7 +1,7 @@
 //! The way through a text, token by token.
 
 ghost use Rattle.std.specs.Prelude.{◌≡◌, ◌≤◌, IfOk, length};
-ghost use Rattle.fir_lex.specs.Lexed.{lexed};
+ghost use Rattle.fir_lex.specs.working.Lexed.{lexed};
 ghost use Rattle.fir_lex.specs.working.Steps.{Gives};
 
 use crate::byte::{ends_line, line_end_length};
@@ -32,8 +32,8 @@ pub struct Lexer {
 impl Lexer {
     ghost use Rattle.std.specs.Prelude.{◌≡◌, ◌+◌, ◌<◌, ◌≤◌, ◌∷◌, [], ◌++◌, true, false, Ok, IfOk, OnOk, nat_le, length, take, drop, slice_range};
     ghost use Rattle.fir_lex.specs.Tokens.{line_end};
-    ghost use Rattle.fir_lex.specs.Bytes.{place_behind};
-    ghost use Rattle.fir_lex.specs.Lexed.{lexed};
+    ghost use Rattle.fir_lex.specs.working.Bytes.{place_behind};
+    ghost use Rattle.fir_lex.specs.working.Lexed.{lexed};
     ghost use Rattle.fir_lex.specs.working.Numbers.{HasNumber};
     ghost use Rattle.fir_lex.specs.working.View.{token_of};
     ghost use Rattle.fir_lex.specs.working.Steps.{tokens_in, Leaves};

@@ -1,7 +1,7 @@
 //! Signs.
 
 ghost use Rattle.std.specs.Prelude.{◌≡◌, ◌≤◌, length, drop, slice_index};
-ghost use Rattle.fir_lex.specs.Front.{is_single, sign_at};
+ghost use Rattle.fir_lex.specs.working.Front.{is_single, sign_at};
 ghost use Rattle.fir_lex.specs.working.View.{front_of, IsWithinBytes};
 
 use crate::byte::starts_with_byte;

@@ -1,7 +1,7 @@
 //! Strings on one line (FIRRTL spec, "Details about Syntax").
 
 ghost use Rattle.std.specs.Prelude.{◌≡◌, ◌+◌, ◌<◌, ◌≤◌, IfSome, Some, false, length, drop, position, nat_le};
-ghost use Rattle.fir_lex.specs.Front.{string_length, string_front};
+ghost use Rattle.fir_lex.specs.working.Front.{string_length, string_front};
 ghost use Rattle.fir_lex.specs.working.View.{front_of, IsWithinBytes};
 
 use crate::byte::ends_line;

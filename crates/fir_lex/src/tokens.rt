@@ -1,7 +1,7 @@
 //! The tokens of a text.
 
 ghost use Rattle.std.specs.Prelude.{◌≡◌, ◌≤◌, All, length, map, nat_eq, option_map, slice_get};
-ghost use Rattle.fir_lex.specs.Bytes.{place_behind};
+ghost use Rattle.fir_lex.specs.working.Bytes.{place_behind};
 ghost use Rattle.fir_lex.specs.working.View.{IsWithin, spelled, placed};
 
 use crate::cursor::Cursor;

@@ -2,7 +2,7 @@
 
 ghost use Rattle.std.specs.Prelude.{◌≡◌, ◌≤◌, IfSome, length, take, take_while, option_map};
 ghost use Rattle.fir_base.specs.Bytes.{is_word_byte};
-ghost use Rattle.fir_lex.specs.Front.{dash_word_at, word_front};
+ghost use Rattle.fir_lex.specs.working.Front.{dash_word_at, word_front};
 ghost use Rattle.fir_lex.specs.working.View.{front_of, IsWithinBytes, AtWord};
 
 use crate::piece::{Found, Piece};

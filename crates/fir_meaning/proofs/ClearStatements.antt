@@ -15,7 +15,7 @@ use Rattle.fir_meaning.specs.LeafPaths.{named}
 use Rattle.fir_meaning.specs.TypeKinds.{is_passive, is_numeric}
 use Rattle.fir_meaning.specs.Equivalence.{is_equivalent, is_connectable, is_partly_connectable}
 use Rattle.fir_meaning.specs.ConnectPairs.{Pair, pairs, partial_pairs}
-use Rattle.fir_meaning.specs.FaultRules.{place_of}
+use Rattle.fir_meaning.specs.ExpressionPlaces.{place_of}
 use Rattle.fir_meaning.specs.KindFaults.{wrong_kinds, wrong_types, not_passive}
 use Rattle.fir_meaning.specs.Checked.{Checked, is_found, after, shown_on, shown_after}
 use Rattle.fir_meaning.specs.TypedScopes.{Known, TypedScope, known}

@@ -15,7 +15,7 @@ use Rattle.fir_meaning.specs.Mentions.{expression_mentions, part_mentions, opera
 use Rattle.fir_meaning.specs.NameGroups.{faults_in, hidden_faults}
 use Rattle.fir_meaning.specs.TypeKinds.{FieldFound, is_passive, is_numeric, bare}
 use Rattle.fir_meaning.specs.Equivalence.{is_equivalent}
-use Rattle.fir_meaning.specs.FaultRules.{place_of}
+use Rattle.fir_meaning.specs.ExpressionPlaces.{place_of}
 use Rattle.fir_meaning.specs.KindFaults.{wrong_kinds, wrong_types, not_passive, out_of_range}
 use Rattle.fir_meaning.specs.Checked.{Checked, is_found, answered, answer_on, after, together}
 use Rattle.fir_meaning.specs.OperationTypes.{is_conversion, operand_kinds, result_of, operation_on, type_of_operation}

@@ -6,7 +6,7 @@ use Rattle.std.proofs.Math.Nat.{mod-lt}
 use Rattle.fir_bits.specs.declared.values.Num.{Num}
 use Rattle.fir_bits.specs.Values.{IsBitVector}
 use Rattle.fir_bits.proofs.Below.{widened_below}
-use Rattle.fir_meaning.specs.Eval.{at_width}
+use Rattle.fir_meaning.specs.Values.{at_width}
 
 pub at_width_below : (v : Num) (to : ℕ) → IsBitVector v.value → at_width v to < 2 ^ to
 at_width_below v to b =

@@ -9,7 +9,7 @@ use Rattle.fir_ast.specs.Expressions.{Expression}
 use Rattle.fir_pass.specs.Faults.{Fault}
 use Rattle.fir_meaning.specs.TypeKinds.{bare, is_passive, is_numeric}
 use Rattle.fir_meaning.specs.Equivalence.{is_equivalent}
-use Rattle.fir_meaning.specs.FaultRules.{place_of}
+use Rattle.fir_meaning.specs.ExpressionPlaces.{place_of}
 use Rattle.fir_meaning.specs.KindFaults.{wrong_kinds, wrong_types, not_passive}
 use Rattle.fir_meaning.specs.Checked.{Checked, answered, answer_on, after, joined}
 use Rattle.fir_meaning.specs.OperationTypes.{is_conversion, operand_kinds, result_of, operation_on, type_of_operation}

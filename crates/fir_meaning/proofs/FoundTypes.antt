@@ -11,7 +11,7 @@ use Rattle.fir_ast.specs.Statements.{Sink}
 use Rattle.fir_pass.specs.Faults.{Fault}
 use Rattle.fir_meaning.specs.TypeKinds.{FieldFound, is_passive, is_numeric, bare}
 use Rattle.fir_meaning.specs.Equivalence.{is_equivalent}
-use Rattle.fir_meaning.specs.FaultRules.{place_of}
+use Rattle.fir_meaning.specs.ExpressionPlaces.{place_of}
 use Rattle.fir_meaning.specs.Checked.{Checked, is_found, after, together}
 use Rattle.fir_meaning.specs.OperationTypes.{is_conversion, operand_kinds, result_of, type_of_operation}
 use Rattle.fir_meaning.specs.TypedScopes.{TypedScope, known}

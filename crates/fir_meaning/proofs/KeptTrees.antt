@@ -1,5 +1,5 @@
 -- A pass that leaves the tree as it is: which fault of its groups is the first, and that it keeps what the tree means.
-use Rattle.std.proofs.Common.{◌≡◌, ℕ, ◌<◌, ◌≤◌, List, [], ◌∷◌, Some, refl, sym, subst, inl, arith}
+use Rattle.std.proofs.Common.{◌≡◌, ℕ, ◌<◌, ◌≤◌, List, [], ◌∷◌, Some, sym, subst, inl, arith}
 use Rattle.std.proofs.lemmas.Option.{none-some, same_Some}
 use Rattle.fir_base.specs.Lists.{In}
 use Rattle.fir_ast.specs.Circuits.{CircuitTree}
@@ -38,7 +38,7 @@ keeps_tree from upto c n e clear = subst (λ (x : CircuitTree). Keeps from upto 
   one = ((λ x. x), (λ x. x));
   clear = clear;
   later = λ k past. record { shows = λ f. ((λ x. x), (λ x. x)); tells = λ f. ((λ x. x), (λ x. x)) };
-  shape = refl;
-  names = refl;
-  counts = refl;
+  shape = λ s. ((λ x. x), (λ x. x));
+  names = λ ns. ((λ x. x), (λ x. x));
+  counts = λ k. ((λ x. x), (λ x. x));
 })

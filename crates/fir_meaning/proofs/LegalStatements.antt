@@ -9,7 +9,7 @@ use Rattle.fir_meaning.specs.Components as component
 use Rattle.fir_meaning.specs.Visibility.{Before, with_declaration, opened, reopened, behind, behind_block}
 use Rattle.fir_meaning.specs.Equivalence.{is_connectable, is_partly_connectable}
 use Rattle.fir_meaning.specs.ConnectPairs.{Pair, pairs, partial_pairs}
-use Rattle.fir_meaning.specs.FaultRules.{place_of}
+use Rattle.fir_meaning.specs.ExpressionPlaces.{place_of}
 use Rattle.fir_meaning.specs.Checked.{is_found, shown_after}
 use Rattle.fir_meaning.specs.TypedScopes.{TypedScope}
 use Rattle.fir_meaning.specs.Reaching.{Reached}

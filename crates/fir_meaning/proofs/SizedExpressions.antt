@@ -6,7 +6,7 @@ use Rattle.fir_ast.specs.declared.place.Place.{Place}
 use Rattle.fir_ast.specs.Types.{DataType}
 use Rattle.fir_ast.specs.Expressions.{Expression, reference, literal, operation, mux, validif, Expressions, no_expressions, expression}
 use Rattle.fir_meaning.specs.TypeKinds.{bare}
-use Rattle.fir_meaning.specs.FaultRules.{place_of}
+use Rattle.fir_meaning.specs.ExpressionPlaces.{place_of}
 use Rattle.fir_meaning.specs.Checked.{together}
 use Rattle.fir_meaning.specs.OperationTypes.{is_conversion, operand_kind, operand_kinds, type_of_operation}
 use Rattle.fir_meaning.specs.TypedScopes.{TypedScope}

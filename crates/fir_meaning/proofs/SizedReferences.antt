@@ -8,7 +8,7 @@ use Rattle.fir_ast.specs.Circuits.{ModuleTree}
 use Rattle.fir_meaning.specs.LeafPaths.{named}
 use Rattle.fir_meaning.specs.Components.{Component, port, wire, register, node, instance, memory, Declarations}
 use Rattle.fir_meaning.specs.TypeKinds.{FieldFound}
-use Rattle.fir_meaning.specs.FaultRules.{place_of}
+use Rattle.fir_meaning.specs.ExpressionPlaces.{place_of}
 use Rattle.fir_meaning.specs.KindFaults.{out_of_range}
 use Rattle.fir_meaning.specs.Checked.{Checked, together}
 use Rattle.fir_meaning.specs.MemoryTypes.{memory_type}

@@ -10,7 +10,7 @@ use Rattle.fir_ast.specs.Statements.{Sink}
 use Rattle.fir_pass.specs.Faults.{Fault}
 use Rattle.fir_meaning.specs.TypeKinds.{is_passive, is_numeric, bare}
 use Rattle.fir_meaning.specs.Equivalence.{is_equivalent}
-use Rattle.fir_meaning.specs.FaultRules.{place_of}
+use Rattle.fir_meaning.specs.ExpressionPlaces.{place_of}
 use Rattle.fir_meaning.specs.KindFaults.{wrong_kinds, wrong_types, not_passive}
 use Rattle.fir_meaning.specs.Checked.{Checked, is_found, after, together}
 use Rattle.fir_meaning.specs.OperationTypes.{type_of_operation}

@@ -1,11 +1,14 @@
 -- Statements over the leaves of a module, and what they store (FIRRTL spec, "Conditional Last Connect Semantics").
 -- A connect, a partial connect and an invalid become statements that drive one leaf each, or the one that their indices pick. `taken` has the truth of each
 -- when round the statement, outermost first; a leaf counts those from its own declaration inward. All values are read from the settled ones.
-use Rattle.std.specs.Prelude.{ℕ, List, [], ◌∷◌, ◌++◌, drop, Bool, not, nat_eq, if◌then◌else◌, Option, Some, None}
+use Rattle.std.specs.Prelude.{ℕ, List, [], ◌∷◌, ◌++◌, drop, Bool, true, ◌&&◌, not, nat_eq, if◌then◌else◌, Option, Some, None}
 use Rattle.fir_ast.specs.declared.place.Place.{Place}
-use Rattle.fir_meaning.specs.Exec.{all_true}
 use Rattle.fir_meaning.specs.Terms.{Term, Picks}
 use Rattle.fir_meaning.specs.TermValues.{Holds, is_true, leaf_of}
+
+abbrev pub all_true : List Bool → Bool
+all_true [] = true
+all_true (b ∷ bs) = b && all_true bs
 
 -- an instance: how many are declared before it, the number of its module, and that of its first leaf
 pub record HeldInstance : Type 0 where

@@ -15,7 +15,7 @@ use Rattle.fir_meaning.specs.LeafPaths.{LeafPath, named}
 use Rattle.fir_meaning.specs.TypeLeaves.{turned}
 use Rattle.fir_meaning.specs.Components.{Component, port}
 use Rattle.fir_meaning.specs.ComponentTypes.{is_input}
-use Rattle.fir_meaning.specs.FaultRules.{place_of}
+use Rattle.fir_meaning.specs.ExpressionPlaces.{place_of}
 use Rattle.fir_meaning.specs.WidthExpressions.{Width, unknown, Widths, width_of}
 use Rattle.fir_meaning.specs.SizedTypes.{unsigned, Sized, scalar}
 use Rattle.fir_meaning.specs.SizedLeaves.{sized_leaves}

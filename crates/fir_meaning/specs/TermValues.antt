@@ -4,7 +4,7 @@ use Rattle.std.specs.Prelude.{ℕ, ◌+◌, ◌*◌, List, [], ◌∷◌, Bool, 
 use Rattle.fir_bits.specs.declared.types.NumTy.{NumTy}
 use Rattle.fir_bits.specs.declared.values.Num.{Num}
 use Rattle.fir_bits.specs.Operators.{no_operand, outcome}
-use Rattle.fir_meaning.specs.Eval.{number_of, literal_value, is_high, choice, value_or_zero}
+use Rattle.fir_meaning.specs.Values.{number_of, literal_value, is_high, choice, value_or_zero}
 use Rattle.fir_meaning.specs.Terms.{Term, Picks, Terms, zeros, absent, literal, read, operation, mux, validif, no_picks, pick, no_terms, term}
 
 -- the type of each leaf; a clock counts as of no bits

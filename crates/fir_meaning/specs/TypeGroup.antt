@@ -14,7 +14,7 @@ use Rattle.fir_meaning.specs.Components as component
 use Rattle.fir_meaning.specs.Visibility.{Before, with_declaration, opened, reopened, behind, behind_block, behind_ports, at_head}
 use Rattle.fir_meaning.specs.TypeKinds.{is_passive, is_numeric}
 use Rattle.fir_meaning.specs.Equivalence.{is_equivalent}
-use Rattle.fir_meaning.specs.FaultRules.{place_of}
+use Rattle.fir_meaning.specs.ExpressionPlaces.{place_of}
 use Rattle.fir_meaning.specs.KindFaults.{wrong_kinds, wrong_types, not_passive}
 use Rattle.fir_meaning.specs.Checked.{Checked, after, together, shown_after}
 use Rattle.fir_meaning.specs.TypedScopes.{TypedScope}

@@ -8,13 +8,10 @@ mod laws;
 mod type_laws;
 mod width_laws;
 
-pub use laws::{
-    clean_has_value, faultless_has_one, faultless_is_clean, faultless_runs_once, last_connect,
-    names_leave_none, one_look_up,
-};
+pub use laws::one_look_up;
 pub use type_laws::{
     connects_leaf_by_leaf, faultless_is_well_typed, leaves_have_numbers, partial_connects_fit,
-    paths_are_distinct, types_leave_none,
+    paths_are_distinct,
 };
 pub use width_laws::{
     has_least, inferred_exactly, least_is_within, one_least, over_is_exact, sized_as_typed,

@@ -1,6 +1,6 @@
 //! Laws about types, leaves and connects, each the contract of a function that does nothing.
 
-ghost use Rattle.fir_meaning.specs.working.TypeLaws.{ConnectsLeafByLeaf, FaultlessIsWellTyped, LeavesHaveNumbers, PartialConnectsFit, PathsAreDistinct, TypesLeaveNone};
+ghost use Rattle.fir_meaning.specs.working.TypeLaws.{ConnectsLeafByLeaf, FaultlessIsWellTyped, LeavesHaveNumbers, PartialConnectsFit, PathsAreDistinct};
 
 /// A connect of types that fit pairs all leaves of the one with all leaves of the other, in order and path
 /// by path (FIRRTL spec, "Connects").
@@ -28,10 +28,4 @@ pub fn leaves_have_numbers()
 /// has a type and each connect a legal flow.
 pub fn faultless_is_well_typed()
     ensures { FaultlessIsWellTyped }
-{}
-
-/// Where no fault of names or types stands in a circuit and nothing is lacking, the list of types of the
-/// small language is empty.
-pub fn types_leave_none()
-    ensures { TypesLeaveNone }
 {}

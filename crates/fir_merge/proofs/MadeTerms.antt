@@ -11,7 +11,7 @@ use Rattle.fir_bits.specs.declared.types.OpFault.{OpFault}
 use Rattle.fir_bits.specs.declared.types.OpFault.TheVariants.{Kinds, Over, Legality}
 use Rattle.fir_bits.proofs.Typing.{typed_at-width}
 use Rattle.fir_ast.specs.declared.place.Place.{Place}
-use Rattle.fir_meaning.specs.Scopes.{literal_type}
+use Rattle.fir_meaning.specs.Values.{literal_type}
 use Rattle.fir_meaning.specs.LeafModules.{LeafType, number}
 use Rattle.fir_meaning.specs.TermReads.{multiples, reached}
 use Rattle.fir_meaning.specs.TermValues.{Holds}

@@ -1,8 +1,8 @@
 //! Nodes of literals and validifs. What is wider than 128 bits has no value, and counts as zero of no bits.
 
 ghost use Rattle.std.specs.Prelude.{◌≡◌, ◌≤◌, IfOk, length};
-ghost use Rattle.fir_meaning.specs.Eval.{literal_value};
-ghost use Rattle.fir_meaning.specs.Scopes.{literal_type};
+ghost use Rattle.fir_meaning.specs.Values.{literal_value};
+ghost use Rattle.fir_meaning.specs.Values.{literal_type};
 ghost use Rattle.fir_merge.specs.working.NodeTerms.{IsBelow};
 ghost use Rattle.fir_merge.specs.working.Bounds.{ChoiceStands, Grown, ValueStands};
 ghost use Rattle.fir_merge.specs.working.NarrowTerms.{LiteralStands, ValidifStands};

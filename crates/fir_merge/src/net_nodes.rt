@@ -1,7 +1,7 @@
 //! Nodes of a net, each of which reads nodes before it, and no two of which are equal.
 
 ghost use Rattle.std.specs.Prelude.{◌≡◌, [], IfOk, length};
-ghost use Rattle.fir_merge.specs.working.NodeTerms.{AreBelow, Stands};
+ghost use Rattle.fir_merge.specs.working.NodeTerms.{AreBelow, ReadBefore, Stands};
 ghost use Rattle.fir_net.specs.working.Dependence.{support_of};
 
 use fir_ast::NodeId;
@@ -39,9 +39,10 @@ impl NetNodes {
         }
     }
 
-    /// The nodes, by their numbers.
+    /// The nodes, by their numbers. Each reads nodes before it.
     pub fn as_slice(&self) -> &[Node]
-        ensures { result.now ≡ self.now }
+        ensures nodes { result.now ≡ self.now }
+        ensures before { ReadBefore 0 self.now }
     {
         self.nodes.as_slice()
     }

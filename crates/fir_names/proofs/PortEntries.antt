@@ -15,7 +15,7 @@ use Rattle.fir_ast.specs.Circuits.{PortTree, ModuleTree}
 use Rattle.fir_meaning.specs.Components.{Component, Declaration, Declarations}
 use Rattle.fir_meaning.specs.Components as component
 use Rattle.fir_meaning.specs.Mentions.{module_names}
-use Rattle.fir_meaning.specs.Unread.{find_port}
+use Rattle.fir_meaning.specs.PortNames.{find_port}
 use Rattle.fir_meaning.specs.Visibility.{Before, declaration_at, with_declaration, opened, reopened, behind, behind_block, behind_ports, at_head, declarations}
 use Rattle.fir_names.specs.declared.declaration.Declaration.{Declaration as Entry}
 use Rattle.fir_names.specs.declared.declaration.Component.{Component as ComponentOfCode}

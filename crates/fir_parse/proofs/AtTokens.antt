@@ -1,5 +1,5 @@
 -- What reading does at one token, by whether a limit that counts is passed and by what the token does there.
-use Rattle.std.proofs.Common.{◌≡◌, Bool, true, false, Option, Some, None, Ok, Err, refl, ap, ◌⊎◌, inl, inr}
+use Rattle.std.proofs.Common.{◌≡◌, Bool, true, false, Some, None, Ok, Err, refl, ◌⊎◌, inl, inr}
 use Rattle.fir_ast.specs.declared.place.Place.{Place}
 use Rattle.fir_ast.specs.declared.fault.FirFault.TheVariants.{Syntax, Unsupported}
 use Rattle.fir_ast.specs.Circuits.{CircuitTree}

@@ -1,5 +1,5 @@
 -- What stands behind a word of an expression, by the token at hand.
-use Rattle.std.proofs.Common.{◌≡◌, ℕ, Bool, true, List, ◌∷◌, drop, refl, sym, ap, ◌∙◌, Result, Ok, Err, Some, IfOk, IfErr, Bor, ◌<◌, ◌≤◌}
+use Rattle.std.proofs.Common.{◌≡◌, ℕ, Bool, List, ◌∷◌, drop, refl, sym, ap, ◌∙◌, Result, Ok, Err, Some, IfOk, IfErr, Bor, ◌<◌, ◌≤◌}
 use Rattle.std.specs.Result.{IsErrAnd}
 use Rattle.fir_ast.specs.declared.place.Place.{Place}
 use Rattle.fir_ast.specs.declared.expressions.Expr.{Expr}

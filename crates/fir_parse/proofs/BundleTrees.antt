@@ -1,5 +1,5 @@
 -- The fields of a bundle, one after another.
-use Rattle.std.proofs.Common.{◌≡◌, ℕ, ◌≤◌, max, true, arith, rules, List, [], ◌∷◌, ◌++◌, map, refl, sym, ap, ◌∙◌}
+use Rattle.std.proofs.Common.{◌≡◌, ℕ, ◌≤◌, max, arith, rules, List, [], ◌∷◌, ◌++◌, map, refl, sym, ap, ◌∙◌}
 use Rattle.std.specs.Ordering.{ord_max, nat_cmp}
 use Rattle.std.proofs.lemmas.List.{map-append}
 use Rattle.fir_ast.specs.declared.place.Place.{Place}

@@ -4,17 +4,16 @@ use Rattle.fir_ast.specs.declared.place.Place.{Place}
 use Rattle.fir_ast.specs.declared.fault.FirFault.{FirFault}
 use Rattle.fir_ast.specs.declared.fault.FirFault.TheVariants as fault
 use Rattle.fir_ast.specs.Circuits.{CircuitTree}
-use Rattle.fir_base.specs.Digits.{decimal_value}
-use Rattle.fir_parse.specs.Lexemes.{Terminal, integer}
-use Rattle.fir_parse.specs.Limits.{nowhere, everywhere}
+use Rattle.fir_parse.specs.Lexemes.{Terminal}
+use Rattle.fir_parse.specs.Limits.{everywhere}
 use Rattle.fir_parse.specs.CircuitForms.{IsSpelled}
-use Rattle.fir_parse.specs.Fronts.{IsText, IsFront, StopsAt, IsFrontWithin, all_limits, no_limit, only_numbers, only_nesting, only_versions}
+use Rattle.fir_parse.specs.Fronts.{IsText, IsFront, StopsAt, all_limits, no_limit, only_numbers, only_nesting, only_versions}
 use Rattle.fir_parse.specs.TextFaults.{place_at, NoneIsMissing, IsInteger, Shows, IsFirst}
 use Rattle.fir_parse.specs.working.States.{State, Bound, number_at, nesting_at, version_at, fault_of}
 use Rattle.fir_parse.specs.working.Reading.{at_end, read_on, read, whole}
 use Rattle.fir_parse.specs.working.Reaching.{Verdict, continues, unexpected, missing, judge, passed_limit, Reaches}
 use Rattle.fir_parse.proofs.Guards.{Guarded}
-use Rattle.fir_parse.proofs.AtTokens.{outcome_of, Kept, within_limits, past_limit, end_past_limit, end_within_limits, none_is_kept, kept_is_none, ends_so}
+use Rattle.fir_parse.proofs.AtTokens.{outcome_of, within_limits, past_limit, end_past_limit, end_within_limits, none_is_kept, kept_is_none, ends_so}
 use Rattle.fir_parse.proofs.StepKeeps.{whole_guarded}
 use Rattle.fir_parse.proofs.Along.{guarded_along, along_within_limits}
 use Rattle.fir_parse.proofs.Completions.{origin}

@@ -1,5 +1,5 @@
 -- What a memory's field reads, by its word.
-use Rattle.std.proofs.Common.{◌≡◌, ℕ, List, drop, true, sym, ap, ◌∙◌}
+use Rattle.std.proofs.Common.{◌≡◌, ℕ, List, drop, sym, ap, ◌∙◌}
 use Rattle.fir_ast.specs.declared.place.Place.{Place}
 use Rattle.fir_ast.specs.Statements.{MemoryPart}
 use Rattle.fir_parse.specs.declared.lexeme.Lexeme.{Lexeme}

@@ -3,14 +3,13 @@ use Rattle.std.proofs.Common.{◌≡◌, ℕ, Bool, true, false, List, [], ◌�
 use Rattle.fir_ast.specs.declared.place.Place.{Place}
 use Rattle.fir_ast.specs.declared.fault.FirFault.{FirFault}
 use Rattle.fir_ast.specs.declared.fault.FirFault.TheVariants as fault
-use Rattle.fir_ast.specs.Circuits.{CircuitTree}
 use Rattle.fir_parse.specs.Lexemes.{Terminal}
-use Rattle.fir_parse.specs.Limits.{Limit, nowhere}
-use Rattle.fir_parse.specs.Fronts.{IsText, IsFront, StopsAt, IsFrontWithin, all_limits, no_limit, only_numbers, only_nesting, only_versions}
-use Rattle.fir_parse.specs.TextFaults.{place_at, NoneIsMissing, Passes, Shows, IsFirst}
+use Rattle.fir_parse.specs.Limits.{Limit}
+use Rattle.fir_parse.specs.Fronts.{IsText, StopsAt, IsFrontWithin, all_limits, no_limit, only_numbers, only_nesting, only_versions}
+use Rattle.fir_parse.specs.TextFaults.{place_at, Shows, IsFirst}
 use Rattle.fir_parse.specs.working.States.{State, Bound, number_at, nesting_at, version_at, fault_of, limit_of}
 use Rattle.fir_parse.specs.working.Reading.{at_end, read_on, read, whole}
-use Rattle.fir_parse.specs.working.Reaching.{Verdict, continues, unexpected, missing, judge, passed_limit, Reaches, next_verdict}
+use Rattle.fir_parse.specs.working.Reaching.{Verdict, unexpected, missing, judge, passed_limit, Reaches, next_verdict}
 use Rattle.fir_parse.proofs.AtTokens.{Kept, none_is_kept}
 use Rattle.fir_parse.proofs.StepKeeps.{whole_guarded}
 use Rattle.fir_parse.proofs.Along.{guarded_along}
@@ -20,7 +19,7 @@ use Rattle.fir_parse.proofs.PassedLimits.{token_follows, nothing_kept, IsPassedA
 use Rattle.fir_parse.proofs.MissingTells.{stands, missing_told}
 use Rattle.fir_parse.proofs.MissingFound.{missing_found}
 use Rattle.fir_parse.proofs.MissingStatements.{Ends}
-use Rattle.fir_parse.proofs.Halting.{IsOpen, OpenAtEnd, PassesLimit, IsUnexpected, IsMissing, Halts, HaltsIn, halts_in}
+use Rattle.fir_parse.proofs.Halting.{IsOpen, PassesLimit, IsUnexpected, Halts, halts_in}
 
 -- ---- no text goes on
 

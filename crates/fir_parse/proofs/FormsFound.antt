@@ -1,5 +1,5 @@
 -- What each symbol of a text stands for, form by form, and what a state then derives.
-use Rattle.std.proofs.Common.{◌≡◌, ℕ, ◌+◌, ◌<◌, ◌≤◌, true, false, List, [], ◌∷◌, length, Option, Some, codes, if◌then◌else◌}
+use Rattle.std.proofs.Common.{◌≡◌, ℕ, ◌+◌, ◌<◌, ◌≤◌, true, false, List, [], ◌∷◌, length, Option, codes, if◌then◌else◌}
 use Rattle.std.specs.Prelude.{nat_le, nat_lt}
 use Rattle.std.specs.Str.{bytes_eq}
 use Rattle.std.proofs.lemmas.Bool.{ltb-false, leb-false, cond_both}
@@ -10,7 +10,6 @@ use Rattle.fir_ast.specs.Circuits.{CircuitTree}
 use Rattle.fir_base.specs.declared.direction.Direction.{Direction}
 use Rattle.fir_parse.specs.declared.lexeme.Mark.TheVariants.{OpenRound, CloseRound, CloseCurly, Colon}
 use Rattle.fir_parse.specs.Lexemes.{Lexeme, Terminal, word, mark, line_end, level_opens, level_closes}
-use Rattle.fir_parse.specs.working.Words.{direction_of}
 use Rattle.fir_parse.specs.Numbers.{Numeral, is_allowed, literal_of}
 use Rattle.fir_parse.specs.Pieces.{◌▸◌, At, Either, Given, Nothing, Token, Sign, Word, LineEnd, Opens, Closes, Annotations, Name, FieldName, IntAt}
 use Rattle.fir_parse.specs.TypeForms.{IsWidth, IsFlip, IsType, AreFields, AreMoreFields}

@@ -26,7 +26,7 @@ use Rattle.fir_parse.proofs.FormsFoundReferences.{holds}
 use Rattle.fir_parse.proofs.FormsFoundRefs.{extends_mapped, invalid_spelled}
 use Rattle.fir_parse.proofs.FormsFoundDeclarations.{extends_first}
 use Rattle.fir_parse.proofs.FormsFoundStatements.{found_begun}
-use Rattle.fir_parse.specs.Limits.{Limits, nesting, Within}
+use Rattle.fir_parse.specs.Limits.{Limits}
 
 first_or : (a b : Bool) → (a || b) ≡ true → (a ≡ true) ⊎ (b ≡ true)
 first_or true b h = inl refl

@@ -23,7 +23,7 @@ use Rattle.fir_parse.proofs.FormsFoundTypes.{token_of}
 use Rattle.fir_parse.proofs.FormsFoundReferences.{found_dot, found_index}
 use Rattle.fir_parse.proofs.FormsFoundRefs.{BehindName, ExtendsRef, extends_mapped, extends_ref, invalid_spelled}
 use Rattle.std.proofs.lemmas.Bool.{cond_both}
-use Rattle.fir_parse.specs.Limits.{Limits, nesting, Within}
+use Rattle.fir_parse.specs.Limits.{Limits}
 
 module _ (limits : Limits) where
   -- behind the name and the sign of a declaration

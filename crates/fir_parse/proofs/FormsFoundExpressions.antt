@@ -3,7 +3,7 @@ use Rattle.std.proofs.Common.{◌≡◌, ℕ, ◌+◌, ◌<◌, ◌≤◌, true,
 use Rattle.fir_bits.specs.declared.operators.PrimOp.{PrimOp}
 use Rattle.fir_bits.specs.declared.operators.Form.{Form}
 use Rattle.fir_bits.specs.declared.operators.Form.TheVariants.{Pair, Shift, Single, WithInteger, WithRange}
-use Rattle.fir_bits.specs.Forms.{form_of}
+use Rattle.fir_bits.specs.Forms.{form_of, operands, integers}
 use Rattle.fir_bits.specs.OperatorWords.{operator_word}
 use Rattle.fir_ast.specs.declared.place.Place.{Place}
 use Rattle.fir_ast.specs.Expressions.{Expression, reference, operation, mux, validif, Expressions, no_expressions, expression}
@@ -17,7 +17,6 @@ use Rattle.fir_base.specs.Digits.{decimal_value}
 use Rattle.fir_parse.specs.Numbers.{has_sign, is_in_range}
 use Rattle.fir_parse.specs.Heights.{height}
 use Rattle.fir_parse.specs.Pieces.{Sign}
-use Rattle.fir_bits.specs.Forms.{operands, integers}
 use Rattle.fir_parse.specs.ExpressionForms.{count, IsExpression, AreOperands, AreIntegers}
 use Rattle.fir_parse.specs.working.Symbols.{IndexTree, plain_index, computed_index, behind_word}
 use Rattle.fir_parse.specs.working.States.{State, wants, limit, number_at, opens}
@@ -27,7 +26,7 @@ use Rattle.fir_parse.proofs.FormsFoundWords.{IsApplied, applied_word}
 use Rattle.fir_parse.proofs.FormsFoundTypes.{token_of}
 use Rattle.fir_parse.proofs.FormsFoundReferences.{in_bounds, found_dot, found_index, found_reference, found_plain_literal, found_sized_literal}
 use Rattle.std.proofs.lemmas.Bool.{cond_both}
-use Rattle.fir_parse.specs.Limits.{Limits, nesting, Within}
+use Rattle.fir_parse.specs.Limits.{Limits, nesting}
 
 module _ (limits : Limits) where
   -- behind a word and its parenthesis

@@ -9,7 +9,7 @@ use Rattle.fir_parse.specs.declared.words.FieldWord.{FieldWord}
 use Rattle.fir_parse.specs.declared.words.FieldWord.TheVariants as memory
 use Rattle.fir_parse.specs.Lexemes.{Lexeme, Terminal, word, dash_word, mark, line_end, level_opens, level_closes}
 use Rattle.fir_parse.specs.working.Words.{plain_field_word, dash_field_word, under_write_of}
-use Rattle.fir_parse.specs.Pieces.{◌▸◌, Sign, Word, Int, LineEnd, Token, Either, Given, Opens, Closes}
+use Rattle.fir_parse.specs.Pieces.{◌▸◌, Sign, Word, Int, LineEnd, Token, Either, Opens, Closes}
 use Rattle.fir_parse.specs.StatementForms.{IsResetPair, IsReset, IsNames, under_write_word, IsMemoryPart, IsMemoryBody}
 use Rattle.fir_parse.specs.working.Symbols.{a_mark, an_opening, a_closing, a_type, an_under_write, behind_with, a_memory_field, more_memory_fields, more_names}
 use Rattle.fir_parse.specs.working.States.{State, wants, Step, takes, without, refuses, unsupported, opens}

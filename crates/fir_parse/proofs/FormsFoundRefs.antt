@@ -14,7 +14,7 @@ use Rattle.fir_parse.specs.working.StatementRules.{ends_line, bare, connect_rest
 use Rattle.fir_parse.proofs.FormsFound.{token_at, Is, Derives, Found, Extends, by_word}
 use Rattle.fir_parse.proofs.FormsFoundTypes.{token_of}
 use Rattle.fir_parse.proofs.FormsFoundReferences.{found_dot, found_index}
-use Rattle.fir_parse.specs.Limits.{Limits, nesting, Within}
+use Rattle.fir_parse.specs.Limits.{Limits}
 
 module _ (limits : Limits) where
   pub extends_mapped : {A B : Type 0} (P : A → List Terminal → List Terminal → Type 0) (Q : B → List Terminal → List Terminal → Type 0) (f : A → B) (t : Terminal) (ts : List Terminal) (u : Step A) → ((x : A) (a z : List Terminal) → P x a z → Q (f x) a z) → Extends limits P t ts u → Extends limits Q t ts (mapped f u)

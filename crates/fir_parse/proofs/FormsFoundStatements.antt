@@ -18,7 +18,7 @@ use Rattle.fir_parse.proofs.FormsFoundTypes.{token_of}
 use Rattle.fir_parse.proofs.FormsFoundRefs.{BehindName, ExtendsRef, extends_mapped, extends_ref, invalid_spelled}
 use Rattle.fir_parse.proofs.FormsFoundDeclarations.{found_when_rest}
 use Rattle.std.proofs.lemmas.Bool.{cond_both}
-use Rattle.fir_parse.specs.Limits.{Limits, nesting, Within}
+use Rattle.fir_parse.specs.Limits.{Limits}
 
 module _ (limits : Limits) where
   when_spelled : (d : ℕ) (o : OpenWhen) (f : Block) (a m z : List Terminal) → IsOpenWhen limits d o a m → IsElse limits d f m z → IsStatement limits d (when o.place o.condition o.block f) a z

@@ -25,7 +25,7 @@ use Rattle.fir_parse.proofs.FormsFoundStatements.{extends_statements, extends_el
 use Rattle.fir_parse.proofs.FormsFoundCircuits.{extends_text, extends_annotations, extends_first_module, extends_more_modules, extends_body, extends_ports, extends_direction, extends_port_is}
 use Rattle.fir_parse.specs.working.TypeRules.{type_step}
 use Rattle.std.proofs.lemmas.Bool.{cond_both}
-use Rattle.fir_parse.specs.Limits.{Limits, nesting, Within}
+use Rattle.fir_parse.specs.Limits.{Limits}
 
 module _ (limits : Limits) where
   same_marks : (m n : Mark) → same_mark m n ≡ true → n ≡ m

@@ -17,7 +17,7 @@ use Rattle.fir_parse.specs.working.TypeRules.{by_type_word, type_step, width_ste
 use Rattle.fir_parse.proofs.FormsFound.{token_at, IsField, Is, Derives, Found, Extends, by_word, within, no_taller}
 use Rattle.fir_parse.proofs.FormsFoundWords.{IsTypeWord, type_word}
 use Rattle.std.proofs.lemmas.Bool.{cond_both}
-use Rattle.fir_parse.specs.Limits.{Limits, nesting, Within}
+use Rattle.fir_parse.specs.Limits.{Limits}
 
 pub token_of : (v w : List ℕ) (p : Place) (ts : List Terminal) → w ≡ v → token_at (word w) p ∷ ts ≡ token_at (word v) p ∷ ts
 token_of v w p ts e = ap (λ x. token_at (word x) p ∷ ts) e

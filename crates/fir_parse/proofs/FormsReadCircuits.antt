@@ -9,12 +9,12 @@ use Rattle.fir_parse.specs.CircuitForms.{IsModule, AreModules, AreSomeModules, I
 use Rattle.fir_parse.specs.working.Symbols.{a_text, some_annotations, first_module, more_modules, a_word}
 use Rattle.fir_parse.specs.working.States.{State, done, wants}
 use Rattle.fir_parse.specs.working.CircuitRules.{is_known_version, one_module, module_rest, circuit_rest, version_rest}
-use Rattle.fir_parse.specs.working.Reading.{read_on, read, whole}
+use Rattle.fir_parse.specs.working.Reading.{read_on, whole}
 use Rattle.fir_parse.proofs.Limiting.{limit_kept}
 use Rattle.fir_parse.proofs.FormsReadPieces.{takes_token, leaves_token, skips_at, reads_same, read_sign, read_word, read_name, read_natural, read_line_end, read_opening}
 use Rattle.fir_parse.proofs.FormsReadDeclarations.{NoLevel, no_level_at}
 use Rattle.fir_parse.proofs.FormsReadPorts.{read_body}
-use Rattle.fir_parse.specs.Limits.{Limits, nesting, Within}
+use Rattle.fir_parse.specs.Limits.{Limits}
 
 known_of : (n : ℕ) → (n ≡ 1) ⊎ (n ≡ 2) → is_known_version n ≡ true
 known_of n (inl e) = rw e refl

@@ -26,7 +26,7 @@ use Rattle.fir_parse.proofs.FormsReadExpressions.{read_whole_expression, parts_r
 use Rattle.fir_parse.proofs.FormsReadMemories.{line_ends, read_memory_body}
 use Rattle.fir_parse.proofs.FormsReadResets.{read_reset, reset_ends}
 use Rattle.fir_parse.proofs.FormsReadRefs.{RefRead, read_connect, read_partial_connect, read_invalid}
-use Rattle.fir_parse.specs.Limits.{Limits, nesting, Within}
+use Rattle.fir_parse.specs.Limits.{Limits}
 
 module _ (limits : Limits) where
   abbrev pub opens_level : Lexeme → Bool

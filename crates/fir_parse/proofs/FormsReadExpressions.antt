@@ -1,7 +1,7 @@
 -- Tokens that spell an expression are read as that expression.
-use Rattle.std.proofs.Common.{◌≡◌, ℕ, ◌+◌, ◌<◌, ◌≤◌, max, true, List, length, codes, Option, Some, None, refl, ap, ◌∙◌, inl, inr}
+use Rattle.std.proofs.Common.{◌≡◌, ℕ, ◌+◌, ◌<◌, ◌≤◌, max, List, length, codes, Option, Some, None, refl, ap, ◌∙◌, inl, inr}
 use Rattle.fir_bits.specs.declared.operators.PrimOp.{PrimOp}
-use Rattle.fir_bits.specs.Forms.{form_of}
+use Rattle.fir_bits.specs.Forms.{form_of, operands, integers}
 use Rattle.fir_bits.specs.OperatorWords.{operator_word}
 use Rattle.fir_ast.specs.declared.place.Place.{Place}
 use Rattle.fir_ast.specs.Expressions.{Expression, reference, literal, operation, mux, validif, Parts, no_parts, subfield, subindex, subaccess, Expressions, no_expressions, expression}
@@ -10,7 +10,6 @@ use Rattle.fir_parse.specs.Lexemes.{Terminal, mark}
 use Rattle.fir_parse.specs.Heights.{height}
 use Rattle.fir_parse.specs.Pieces.{Given, Sign}
 use Rattle.fir_parse.specs.TypeForms.{IsWidth}
-use Rattle.fir_bits.specs.Forms.{operands, integers}
 use Rattle.fir_parse.specs.ExpressionForms.{count, literal_word, IsExpression, AreParts, AreOperands, AreMoreOperands, AreIntegers}
 use Rattle.fir_parse.specs.working.Symbols.{behind_word}
 use Rattle.fir_parse.specs.working.States.{State, wants, opens}

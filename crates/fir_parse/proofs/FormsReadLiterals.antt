@@ -6,7 +6,7 @@ use Rattle.fir_ast.specs.Expressions.{Expression, literal}
 use Rattle.fir_parse.specs.declared.lexeme.Mark.TheVariants.{Less, Greater, OpenRound, CloseRound}
 use Rattle.fir_parse.specs.Lexemes.{Terminal, Lexeme, integer, text, mark}
 use Rattle.fir_parse.specs.Numbers.{Numeral, integer_value, text_value, is_allowed, literal_of}
-use Rattle.fir_parse.specs.Pieces.{Sign, Given, Token}
+use Rattle.fir_parse.specs.Pieces.{Sign, Token}
 use Rattle.fir_parse.specs.TypeForms.{IsWidth}
 use Rattle.fir_parse.specs.ExpressionForms.{literal_word, IsNumeral, IsNumber}
 use Rattle.fir_parse.specs.working.Symbols.{behind_word, a_literal}

@@ -1,5 +1,5 @@
 -- Tokens that spell a memory's fields are read as those.
-use Rattle.std.proofs.Common.{◌≡◌, ℕ, true, List, [], ◌∷◌, codes, refl, ap, ◌∙◌}
+use Rattle.std.proofs.Common.{◌≡◌, ℕ, List, [], ◌∷◌, codes, refl, ap, ◌∙◌}
 use Rattle.fir_ast.specs.declared.place.Place.{Place}
 use Rattle.fir_ast.specs.declared.statements.ReadUnderWrite.{ReadUnderWrite}
 use Rattle.fir_ast.specs.Statements.{PlacedName, MemoryPart, data_type, depth, read_latency, write_latency, reader, writer, readwriter, read_under_write}
@@ -18,7 +18,7 @@ use Rattle.fir_parse.proofs.Completions.{Skips, TailEnds}
 use Rattle.fir_parse.proofs.SpelledWords.{under_write_read}
 use Rattle.fir_parse.proofs.FormsReadPieces.{takes_token, leaves_token, tail_ends_at, reads_same, read_sign, read_natural, read_name, read_line_end}
 use Rattle.fir_parse.proofs.FormsReadTypes.{read_whole_type}
-use Rattle.fir_parse.specs.Limits.{Limits, nesting, Within}
+use Rattle.fir_parse.specs.Limits.{Limits}
 
 module _ (limits : Limits) where
   pub line_ends : (a b : List Terminal) → LineEnd a b → TailEnds a

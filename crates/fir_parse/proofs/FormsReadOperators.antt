@@ -1,5 +1,5 @@
 -- Tokens that spell the operands and integers of an operator are read as those of its form.
-use Rattle.std.proofs.Common.{◌≡◌, ℕ, ◌≤◌, true, List, [], ◌∷◌, length, refl, ◌∙◌, arith}
+use Rattle.std.proofs.Common.{◌≡◌, ℕ, ◌≤◌, List, [], ◌∷◌, length, refl, ◌∙◌, arith}
 use Rattle.fir_bits.specs.declared.operators.PrimOp.{PrimOp}
 use Rattle.fir_bits.specs.declared.operators.Form.{Form}
 use Rattle.fir_bits.specs.declared.operators.Form.TheVariants.{Pair, Shift, Single, WithInteger, WithRange}
@@ -8,7 +8,7 @@ use Rattle.fir_ast.specs.Expressions.{Expression, operation, Expressions, no_exp
 use Rattle.fir_parse.specs.declared.lexeme.Mark.TheVariants.{CloseRound, Comma}
 use Rattle.fir_parse.specs.Lexemes.{Terminal, mark}
 use Rattle.fir_parse.specs.Heights.{height}
-use Rattle.fir_parse.specs.Pieces.{Given, Sign}
+use Rattle.fir_parse.specs.Pieces.{Sign}
 use Rattle.fir_bits.specs.Forms.{operands, integers}
 use Rattle.fir_parse.specs.ExpressionForms.{count, AreIntegers, AreMoreOperands}
 use Rattle.fir_parse.specs.working.States.{State}

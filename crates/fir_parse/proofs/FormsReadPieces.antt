@@ -1,5 +1,5 @@
 -- Reading over the pieces of a text, each where it is expected.
-use Rattle.std.proofs.Common.{◌≡◌, ℕ, ◌^◌, ◌<◌, ◌≤◌, true, false, not, List, [], ◌∷◌, refl, ap, ◌∙◌, subst, inl, inr}
+use Rattle.std.proofs.Common.{◌≡◌, ℕ, ◌^◌, ◌<◌, ◌≤◌, false, not, List, [], ◌∷◌, refl, ap, ◌∙◌, subst, inl, inr}
 use Rattle.std.proofs.lemmas.Bool.{lt-ltb}
 use Rattle.std.proofs.lemmas.Slice.Eq.{bytes_eq-Decides}
 use Rattle.fir_ast.specs.declared.place.Place.{Place}
@@ -7,7 +7,7 @@ use Rattle.fir_ast.specs.Statements.{PlacedName}
 use Rattle.fir_parse.specs.declared.lexeme.Mark.{Mark}
 use Rattle.fir_parse.specs.Lexemes.{Terminal, Lexeme, word, integer, mark, line_end, level_opens, level_closes}
 use Rattle.fir_parse.specs.Numbers.{is_in_range}
-use Rattle.fir_parse.specs.Pieces.{IsNextAt, Given, Token, Sign, Word, LineEnd, Opens, Closes, Name, FieldName, IntAt}
+use Rattle.fir_parse.specs.Pieces.{IsNextAt, Token, Sign, Word, LineEnd, Opens, Closes, Name, FieldName, IntAt}
 use Rattle.fir_parse.specs.working.States.{State, wants, takes, without, opens, ends_form}
 use Rattle.fir_parse.specs.working.Symbols.{Sym, Tree, Natural, a_mark, a_word, a_name, a_field_name, a_natural, a_line_end, an_opening, a_closing}
 use Rattle.fir_parse.specs.working.Reading.{one, step, goes_on, at_token, read_on}

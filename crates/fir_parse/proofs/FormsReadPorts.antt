@@ -25,7 +25,7 @@ use Rattle.fir_parse.proofs.FormsReadRefs.{RefRead, read_ref_port}
 use Rattle.fir_parse.proofs.FormsReadDeclarations.{opens_level, NoLevel, DeclarationRead, StatementRead, statement_read, named_is}
 use Rattle.fir_parse.proofs.FormsReadWhens.{StatementsRead, another}
 use Rattle.fir_parse.proofs.FormsReadStatements.{statements_read, first_read}
-use Rattle.fir_parse.specs.Limits.{Limits, nesting, Within}
+use Rattle.fir_parse.specs.Limits.{Limits}
 
 module _ (limits : Limits) where
   -- these tokens are read as what a module has in its level, up to its end

@@ -16,7 +16,7 @@ use Rattle.fir_parse.proofs.Completions.{TailEnds}
 use Rattle.fir_parse.proofs.CompleteParts.{word_skip, parts_skip}
 use Rattle.fir_parse.proofs.Limiting.{limit_kept}
 use Rattle.fir_parse.proofs.FormsReadPieces.{takes_token, leaves_token, reads_same, number_kept}
-use Rattle.fir_parse.specs.Limits.{Limits, nesting, Within}
+use Rattle.fir_parse.specs.Limits.{Limits}
 
 module _ (limits : Limits) where
   abbrev pub is_mark : Lexeme → Bool

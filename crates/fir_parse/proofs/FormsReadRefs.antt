@@ -1,5 +1,5 @@
 -- Statements that begin with a reference: how they go on behind its name.
-use Rattle.std.proofs.Common.{◌≡◌, ℕ, true, List, Option, Some, codes, refl, sym, ap, ◌∙◌, ◌⊎◌, inl, inr, subst}
+use Rattle.std.proofs.Common.{◌≡◌, ℕ, List, Option, Some, codes, refl, sym, ap, ◌∙◌, ◌⊎◌, inl, inr, subst}
 use Rattle.fir_base.specs.declared.direction.Direction.{Direction}
 use Rattle.fir_ast.specs.declared.place.Place.{Place}
 use Rattle.fir_ast.specs.Expressions.{Expression, no_parts}
@@ -19,7 +19,7 @@ use Rattle.fir_parse.proofs.FormsReadPieces.{takes_token, read_word, read_line_e
 use Rattle.fir_parse.proofs.FormsReadReferences.{PartsRead}
 use Rattle.fir_parse.proofs.FormsReadMemories.{line_ends}
 use Rattle.fir_parse.proofs.FormsReadExpressions.{read_whole_expression}
-use Rattle.fir_parse.specs.Limits.{Limits, nesting, Within}
+use Rattle.fir_parse.specs.Limits.{Limits}
 
 module _ (limits : Limits) where
   -- a sign behind the name, with which the statement goes on

@@ -1,5 +1,5 @@
 -- Tokens that spell the reset of a register are read as that.
-use Rattle.std.proofs.Common.{◌≡◌, ℕ, ◌+◌, true, List, Option, Some, None, codes, refl, ◌∙◌, inl, inr}
+use Rattle.std.proofs.Common.{◌≡◌, ℕ, ◌+◌, List, Option, Some, None, codes, refl, ◌∙◌, inl, inr}
 use Rattle.fir_ast.specs.declared.place.Place.{Place}
 use Rattle.fir_ast.specs.Statements.{Reset}
 use Rattle.fir_parse.specs.declared.lexeme.Mark.TheVariants.{Arrow, OpenRound, CloseRound, Comma, Colon}
@@ -13,7 +13,7 @@ use Rattle.fir_parse.proofs.Completions.{TailEnds}
 use Rattle.fir_parse.proofs.FormsReadPieces.{takes_token, tail_ends_at, read_sign, read_word, read_line_end, read_opening, read_closing, read_opens}
 use Rattle.fir_parse.proofs.FormsReadOperators.{sign_ends, comma_ends}
 use Rattle.fir_parse.proofs.FormsReadExpressions.{read_whole_expression}
-use Rattle.fir_parse.specs.Limits.{Limits, nesting, Within}
+use Rattle.fir_parse.specs.Limits.{Limits}
 
 module _ (limits : Limits) where
   read_pair : (d : ℕ) (r : Reset) (a b : List Terminal) → IsResetPair limits d r a b → (end : Place) (k : Reset → State) → read_on limits end (reset_rest d r.place k) a ≡ read_on limits end (k r) b

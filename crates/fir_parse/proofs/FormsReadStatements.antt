@@ -12,7 +12,7 @@ use Rattle.fir_parse.proofs.FormsReadReferences.{whole_expression}
 use Rattle.fir_parse.proofs.FormsReadExpressions.{expression_read}
 use Rattle.fir_parse.proofs.FormsReadDeclarations.{NoLevel, no_level_at, statement_read}
 use Rattle.fir_parse.proofs.FormsReadWhens.{BlockRead, StatementsRead, ElseRead, WhenRead, read_when, whole_when, another, level_ends, statements_along, no_block, level_block, read_else_block, read_else_when}
-use Rattle.fir_parse.specs.Limits.{Limits, nesting, Within}
+use Rattle.fir_parse.specs.Limits.{Limits}
 
 module _ (limits : Limits) where
   colon_ends : (a b : List Terminal) → Sign Colon a b → TailEnds a

@@ -16,7 +16,7 @@ use Rattle.fir_parse.specs.working.Reading.{Outcome, read_on, goes_on}
 use Rattle.fir_parse.proofs.Completions.{Skips, TailEnds, goes_on_tail}
 use Rattle.fir_parse.proofs.CompleteParts.{dimensions_skip}
 use Rattle.fir_parse.proofs.FormsReadPieces.{token_next, takes_token, leaves_token, skips_at, tail_ends_at, reads_same, read_sign, read_natural, read_opens, read_ends}
-use Rattle.fir_parse.specs.Limits.{Limits, nesting, Within}
+use Rattle.fir_parse.specs.Limits.{Limits}
 
 module _ (limits : Limits) where
   width_end : (l : Lexeme) → goes_on_tail l ≡ false → width_step l ≡ without None

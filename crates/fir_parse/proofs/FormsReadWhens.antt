@@ -8,7 +8,7 @@ use Rattle.fir_ast.specs.Statements.{Statement, when, Block, done, then}
 use Rattle.fir_parse.specs.declared.lexeme.Mark.TheVariants.{Colon, Dot, OpenSquare}
 use Rattle.fir_parse.specs.declared.words.Declaration.TheVariants as declares
 use Rattle.fir_parse.specs.Lexemes.{Lexeme, Terminal, word, mark, level_opens, level_closes}
-use Rattle.fir_parse.specs.Pieces.{Given, Token, Sign, Word, LineEnd, Opens, Closes}
+use Rattle.fir_parse.specs.Pieces.{Token, Sign, Word, LineEnd, Opens, Closes}
 use Rattle.fir_parse.specs.working.Symbols.{OpenWhen, Begun, statement, open_when, else_block, else_when, a_line_end, an_expression, behind_word, statements, behind_first, behind_is, behind_else, an_indented_block}
 use Rattle.fir_parse.specs.working.States.{State, wants, takes, without}
 use Rattle.fir_parse.specs.working.StatementRules.{declared, when_block, when_rest, behind_statement, behind_otherwise, closed_before, chain, may_be_else, statements_step, block_step}

@@ -1,16 +1,15 @@
 -- A text that is read as a circuit spells it.
-use Rattle.std.proofs.Common.{◌≡◌, Bool, true, false, ◌&&◌, if◌then◌else◌, List, [], ◌∷◌, Ok, Err, refl, subst}
+use Rattle.std.proofs.Common.{◌≡◌, List, [], ◌∷◌, Ok, refl, subst}
 use Rattle.fir_ast.specs.declared.place.Place.{Place}
-use Rattle.fir_ast.specs.declared.fault.FirFault.{FirFault}
 use Rattle.fir_ast.specs.Circuits.{CircuitTree}
 use Rattle.fir_parse.specs.Lexemes.{Terminal}
 use Rattle.fir_parse.specs.CircuitForms.{IsSpelled}
 use Rattle.fir_parse.specs.working.States.{State, done, fault_of, limit_of, limit, wants, Step, takes, without, refuses, unsupported}
-use Rattle.fir_parse.specs.working.Reading.{Outcome, step, goes_on, at_token, at_end, read_on, read, whole}
+use Rattle.fir_parse.specs.working.Reading.{Outcome, step, goes_on, at_token, at_end, read_on, whole}
 use Rattle.fir_parse.proofs.Limiting.{not_passed}
 use Rattle.fir_parse.proofs.FormsFound.{IsWholeText, Is, Derives, Found, Extends}
 use Rattle.fir_parse.proofs.FormsFoundSteps.{extends}
-use Rattle.fir_parse.specs.Limits.{Limits, nesting, Within}
+use Rattle.fir_parse.specs.Limits.{Limits}
 
 module _ (limits : Limits) where
   by_step : {T : Type 0} (P : T → List Terminal → List Terminal → Type 0) (t : Terminal) (ts : List Terminal) (u : Step T) (k : T → State) (c : CircuitTree) (behind : State → Outcome) (with_it : T → Outcome) → Extends limits P t ts u → ((next : State) → behind next ≡ Ok c → Derives limits next c ts) → ((x : T) → with_it x ≡ Ok c → Derives limits (k x) c (t ∷ ts)) → goes_on u t.place k behind with_it ≡ Ok c → Found limits P k c (t ∷ ts)

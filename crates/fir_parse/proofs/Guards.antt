@@ -7,7 +7,7 @@ use Rattle.fir_ast.specs.declared.place.Place.{Place}
 use Rattle.fir_parse.specs.declared.lexeme.Mark.{Mark}
 use Rattle.fir_parse.specs.declared.lexeme.Mark.TheVariants.{Equals, Less, OpenRound, CloseRound, OpenSquare, CloseSquare, OpenCurly, Comma, Colon, Dot}
 use Rattle.fir_parse.specs.working.Symbols.{Sym, Tree, a_mark, a_word, a_name, a_field_name, a_natural, a_line_end, a_type, dimensions, fields, more_fields, a_field, behind_flip, an_expression, behind_word, parts, an_index, more_names, behind_first, behind_sink, a_reset, behind_direction}
-use Rattle.fir_parse.specs.working.States.{Bound, nesting_at, version_at, State, done, limit, wants}
+use Rattle.fir_parse.specs.working.States.{nesting_at, version_at, State, done, limit, wants}
 
 pub data Guard : Type 0 where
   -- no limit

@@ -1,7 +1,7 @@
 -- Steps that keep the guards, and what a token is to what is expected behind it.
-use Rattle.std.proofs.Common.{◌≡◌, ℕ, List, Bool, true, false, refl, if◌then◌else◌, ◌⊎◌, inl, inr}
+use Rattle.std.proofs.Common.{◌≡◌, ℕ, List, Bool, true, false, if◌then◌else◌, ◌⊎◌, inl}
 use Rattle.fir_ast.specs.declared.place.Place.{Place}
-use Rattle.fir_parse.specs.Lexemes.{Lexeme, word, Terminal}
+use Rattle.fir_parse.specs.Lexemes.{Lexeme, Terminal}
 use Rattle.fir_parse.specs.MissingForms.{word_at}
 use Rattle.fir_parse.specs.TextFaults.{IsInteger}
 use Rattle.fir_parse.specs.working.Symbols.{Sym, behind_word, behind_first, behind_direction}

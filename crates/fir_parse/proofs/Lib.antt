@@ -79,3 +79,7 @@ pub mod MissingTells
 pub mod FirstTokens
 pub mod MayStand
 pub mod MissingFound
+pub mod RisingTokens
+pub mod PlacePieces
+pub mod ExpressionPlaces
+pub mod StatementPlaces

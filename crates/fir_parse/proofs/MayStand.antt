@@ -1,37 +1,33 @@
 -- Where a type is expected, an expression, statements or modules, any may stand.
-use Rattle.std.proofs.Common.{◌≡◌, ℕ, ◌+◌, List, [], ◌∷◌, ◌++◌, Bool, true, false, Option, Some, None, Ok, codes, refl, sym, ap, ◌∙◌, subst, inl, inr, append_assoc, append-nil}
+use Rattle.std.proofs.Common.{◌≡◌, ℕ, ◌+◌, List, [], ◌∷◌, ◌++◌, Ok, codes, refl, sym, ap, ◌∙◌, subst, append_assoc}
 use Rattle.fir_ast.specs.declared.place.Place.{Place}
 use Rattle.fir_ast.specs.Types.{DataType}
-use Rattle.fir_ast.specs.Expressions.{Expression}
-use Rattle.fir_ast.specs.Statements.{Block, done as no_statements}
-use Rattle.fir_ast.specs.Circuits.{CircuitTree, ModuleTree}
+use Rattle.fir_ast.specs.Statements.{done as no_statements}
+use Rattle.fir_ast.specs.Circuits.{CircuitTree}
 use Rattle.fir_parse.specs.declared.lexeme.Mark.TheVariants.{Colon}
-use Rattle.fir_parse.specs.Lexemes.{Lexeme, word, mark, line_end, level_opens, level_closes, Terminal}
+use Rattle.fir_parse.specs.Lexemes.{mark, line_end, level_opens, level_closes, Terminal}
 use Rattle.fir_parse.specs.Limits.{nowhere}
-use Rattle.fir_parse.specs.Pieces.{◌▸◌, Closes}
 use Rattle.fir_parse.specs.TypeForms.{IsType}
-use Rattle.fir_parse.specs.ExpressionForms.{IsExpression}
-use Rattle.fir_parse.specs.StatementForms.{AreStatements}
-use Rattle.fir_parse.specs.CircuitForms.{AreSomeModules, IsSpelled}
-use Rattle.fir_parse.specs.Fronts.{IsText, IsFront}
+use Rattle.fir_parse.specs.CircuitForms.{IsSpelled}
+use Rattle.fir_parse.specs.Fronts.{IsFront}
 use Rattle.fir_parse.specs.MissingForms.{Are, TypeMayStand, ExpressionMayStand, StatementsMayStand, ModulesMayStand}
-use Rattle.fir_parse.specs.working.Symbols.{Sym, Tree, computed_index, open_when, OpenWhen, a_type, an_expression, an_index, statements, behind_first, first_module, more_modules, ports_and_statements}
-use Rattle.fir_parse.specs.working.States.{State, done, limit, wants}
+use Rattle.fir_parse.specs.working.Symbols.{Tree, computed_index, open_when, OpenWhen, a_type, an_expression, an_index, statements, behind_first, first_module, more_modules, ports_and_statements}
+use Rattle.fir_parse.specs.working.States.{State, wants}
 use Rattle.fir_parse.specs.working.TypeRules.{type_at}
 use Rattle.fir_parse.specs.working.StatementRules.{closed_before}
 use Rattle.fir_parse.specs.working.Reading.{read_on, whole}
 use Rattle.fir_parse.specs.working.Reaching.{Reaches}
-use Rattle.fir_parse.proofs.Guards.{firm, Meets, Guarded, After}
-use Rattle.fir_parse.proofs.Completions.{Completion, origin, token, tail_ends, TailEnds}
+use Rattle.fir_parse.proofs.Guards.{Guarded}
+use Rattle.fir_parse.proofs.Completions.{Completion, origin, token, tail_ends}
 use Rattle.fir_parse.proofs.Completable.{completable}
 use Rattle.fir_parse.proofs.Reached.{is_front_by}
-use Rattle.fir_parse.proofs.Peeled.{peel, passes, read_peeled, guarded_peeled}
+use Rattle.fir_parse.proofs.Peeled.{peel, read_peeled, guarded_peeled}
 use Rattle.fir_parse.proofs.FirstTokens.{Begun, type_begun, expression_begun, level_begun, modules_begun}
 use Rattle.fir_parse.proofs.FormsReadPieces.{tail_ends_at}
 use Rattle.fir_parse.proofs.FormsReadTypes.{read_whole_type}
 use Rattle.fir_parse.proofs.FormsReadReferences.{read_computed_index}
 use Rattle.fir_parse.proofs.FormsReadExpressions.{expression_read, read_whole_expression}
-use Rattle.fir_parse.proofs.FormsReadWhens.{StatementsRead, level_block, level_ends, read_first_when}
+use Rattle.fir_parse.proofs.FormsReadWhens.{level_block, level_ends, read_first_when}
 use Rattle.fir_parse.proofs.FormsReadStatements.{statements_read}
 use Rattle.fir_parse.proofs.FormsReadPorts.{statements_level}
 use Rattle.fir_parse.proofs.FormsReadCircuits.{read_modules, read_more_modules}

@@ -1,5 +1,5 @@
 -- What is told as a form that is not in the language is one, in its place.
-use Rattle.std.proofs.Common.{◌≡◌, ℕ, List, [], ◌∷◌, ◌++◌, Bool, true, false, Option, Some, None, codes, refl, sym, ap, ◌∙◌, subst, ◌⊎◌, inl, inr, if◌then◌else◌}
+use Rattle.std.proofs.Common.{◌≡◌, ℕ, List, [], ◌∷◌, ◌++◌, Bool, true, false, codes, refl, sym, ap, ◌∙◌, subst, ◌⊎◌, inl, inr, if◌then◌else◌}
 use Rattle.std.specs.Str.{bytes_eq}
 use Rattle.fir_base.specs.Lists.{In}
 use Rattle.fir_base.specs.declared.direction.Direction.{Direction}
@@ -8,7 +8,7 @@ use Rattle.fir_parse.specs.declared.words.Declaration.TheVariants as declares
 use Rattle.fir_parse.specs.declared.words.Lead.{Lead}
 use Rattle.fir_parse.specs.declared.words.Lead.TheVariants as lead
 use Rattle.fir_parse.specs.declared.lexeme.Mark.TheVariants.{Colon}
-use Rattle.fir_parse.specs.Lexemes.{Lexeme, word, Terminal}
+use Rattle.fir_parse.specs.Lexemes.{word, Terminal}
 use Rattle.fir_parse.specs.MissingForms.{missing_types, missing_modules, missing_statements, missing_ports, ExpressionMayStand, StatementsMayStand, word_at, IsMissing}
 use Rattle.fir_parse.specs.working.Words.{lead_of}
 use Rattle.fir_parse.specs.working.Symbols.{Sym, Tree, Begun, a_mark, a_type, an_expression, an_index, behind_word, statements, behind_first, behind_is, behind_direction, behind_port_is, first_module, more_modules, ports_and_statements}
@@ -16,9 +16,9 @@ use Rattle.fir_parse.specs.working.States.{State, done, limit, wants, Step, take
 use Rattle.fir_parse.specs.working.StatementRules.{declaration_step}
 use Rattle.fir_parse.specs.working.CircuitRules.{port_rest}
 use Rattle.fir_parse.specs.working.Reading.{step, whole}
-use Rattle.fir_parse.specs.working.Reaching.{Verdict, continues, unexpected, missing, judge, verdict_by, Reaches}
+use Rattle.fir_parse.specs.working.Reaching.{continues, missing, judge, verdict_by, Reaches}
 use Rattle.fir_parse.proofs.Guards.{Guard, unlimited, firm, shut, nested, nested_shut, numbered, guard_of, IsPlainSymbol, IsUnlimited, Meets, Guarded, firm_is_unlimited, shut_is_unlimited}
-use Rattle.fir_parse.proofs.Keeping.{Kind, an_expression_begins, a_statement_begins, neither, Spot, AfterNumber, SymbolFollows, Follows, Keeps}
+use Rattle.fir_parse.proofs.Keeping.{Kind, an_expression_begins, a_statement_begins, AfterNumber, SymbolFollows, Follows, Keeps}
 use Rattle.fir_parse.proofs.StepKeeps.{spot_of, keeps, whole_guarded}
 use Rattle.fir_parse.proofs.Along.{guarded_along}
 use Rattle.fir_parse.proofs.PassedLimits.{token_follows}
@@ -247,6 +247,18 @@ began_port pre u last r q v j same (s, k, e, t, f) =
 ends_in : (front before : List Terminal) (u : Terminal) (v w : List ℕ) (q p : Place) → front ≡ before ++ u ∷ [] → u ≡ word_at v q → word_at v q ≡ word_at w p → front ≡ before ++ word_at w p ∷ []
 ends_in front before u v w q p e f g = e ∙ ap (λ x. before ++ x ∷ []) (f ∙ g)
 
+-- a statement that is not in the language, behind its word
+abbrev StatementMisses : Terminal → List ℕ → Type 0
+StatementMisses t w = In missing_statements w ⊎ (In missing_ports w × (t.lexeme ≡ word (codes "mport")))
+
+told_before : (before : List Terminal) (t : Terminal) (w : List ℕ) → StatementMisses t w → StatementsMayStand before → (In missing_statements w × StatementsMayStand before) ⊎ (In missing_ports w × (t.lexeme ≡ word (codes "mport")) × StatementsMayStand before)
+told_before before t w (inl m) x = inl (m, x)
+told_before before t w (inr m) x = inr (m.0, m.1, x)
+
+behind_statement_word : (front before : List Terminal) (pre last : State) (u t : Terminal) (p q : Place) (w v : List ℕ) → front ≡ before ++ u ∷ [] → Reaches whole before pre → Guarded pre → BeganSo pre u last a_statement_begins × (u ≡ word_at v q) → word_at v q ≡ word_at w p → StatementMisses t w → IsMissing front t p w
+behind_statement_word front before pre last u t p q w v parts r g ((s, k, e, taken, kind), f) same m =
+    inr (before, ends_in front before u v w q p parts f same, inr (told_before before t w m (statements_before before pre u r g (s, k, e, kind))))
+
 behind_its_word : (front before : List Terminal) (pre last : State) (u t : Terminal) (p : Place) (w : List ℕ) → front ≡ before ++ u ∷ [] → Reaches whole before pre → Guarded pre → judge pre u ≡ continues last → Head last u t p w → IsMissing front t p w
 behind_its_word front before pre last u t p w parts r g goes (behind_word d q v, j, same, i, (e, l, m), (x, z, f)) =
     let b = began_expression pre u last d q v j same (word_before pre u last g (passes_word u z x f) goes) in
@@ -254,21 +266,9 @@ behind_its_word front before pre last u t p w parts r g goes (behind_word d q v,
     let stands = expression_before before pre last v q r g (subst IsBehindWord same tt) (subst P b.1 b.0) in
     inr (before, ends_in front before u v w q p parts b.1 e, inl (m, l, stands))
 behind_its_word front before pre last u t p w parts r g goes (behind_first d q v, j, same, i, (e, m), (x, z, f)) =
-    let b = began_statement pre u last d q v j same (word_before pre u last g (passes_word u z x f) goes) in
-    let stands = statements_before before pre u r g (b.0.0, b.0.1, b.0.2, b.0.4) in
-    inr (before, ends_in front before u v w q p parts b.1 e, inr (by m stands))
-  where
-    by : In missing_statements w ⊎ (In missing_ports w × (t.lexeme ≡ word (codes "mport"))) → StatementsMayStand before → (In missing_statements w × StatementsMayStand before) ⊎ (In missing_ports w × (t.lexeme ≡ word (codes "mport")) × StatementsMayStand before)
-    by (inl n) s = inl (n, s)
-    by (inr n) s = inr (n.0, n.1, s)
+    behind_statement_word front before pre last u t p q w v parts r g (began_statement pre u last d q v j same (word_before pre u last g (passes_word u z x f) goes)) e m
 behind_its_word front before pre last u t p w parts r g goes (behind_direction y q v, j, same, i, (e, m), (x, z, f)) =
-    let b = began_port pre u last y q v j same (word_before pre u last g (passes_word u z x f) goes) in
-    let stands = statements_before before pre u r g (b.0.0, b.0.1, b.0.2, b.0.4) in
-    inr (before, ends_in front before u v w q p parts b.1 e, inr (by m stands))
-  where
-    by : In missing_statements w ⊎ (In missing_ports w × (t.lexeme ≡ word (codes "mport"))) → StatementsMayStand before → (In missing_statements w × StatementsMayStand before) ⊎ (In missing_ports w × (t.lexeme ≡ word (codes "mport")) × StatementsMayStand before)
-    by (inl n) s = inl (n, s)
-    by (inr n) s = inr (n.0, n.1, s)
+    behind_statement_word front before pre last u t p q w v parts r g (began_port pre u last y q v j same (word_before pre u last g (passes_word u z x f) goes)) e m
 behind_its_word front before pre last u t p w parts r g goes (s, j, same, i, m, x) = absurd i
 
 behind_last : (front : List Terminal) (last : State) (t : Terminal) (p : Place) (w : List ℕ) → Reaches whole front last → HeadMisses last t p w → ((front ≡ []) × (whole ≡ last)) ⊎ Last whole front last → IsMissing front t p w

@@ -1,30 +1,27 @@
 -- Where an operator may stand with its parenthesis and a word of a missing one is taken, an expression begins with it.
-use Rattle.std.proofs.Common.{◌≡◌, ℕ, List, [], ◌∷◌, Bool, true, false, Option, Some, None, IsTrue, codes, refl, sym, ap, ◌∙◌, subst, ◌⊎◌, inl, inr, if◌then◌else◌}
+use Rattle.std.proofs.Common.{◌≡◌, ℕ, List, [], ◌∷◌, Bool, true, false, None, codes, refl, sym, ap, ◌∙◌, subst, if◌then◌else◌}
 use Rattle.std.specs.Str.{bytes_eq}
 use Rattle.fir_base.specs.Lists.{In}
 use Rattle.fir_base.proofs.Each.{all_at}
 use Rattle.fir_ast.specs.declared.place.Place.{Place}
-use Rattle.fir_ast.specs.Expressions.{Expression}
-use Rattle.fir_parse.specs.declared.lexeme.Mark.{Mark}
+use Rattle.fir_ast.specs.Expressions.{Expression, no_parts}
 use Rattle.fir_parse.specs.declared.lexeme.Mark.TheVariants.{Equals, OpenRound, Colon}
 use Rattle.fir_parse.specs.declared.words.Applied.TheVariants as applied
 use Rattle.fir_parse.specs.declared.words.Declaration.TheVariants as declares
 use Rattle.fir_parse.specs.declared.words.Lead.{Lead}
 use Rattle.fir_parse.specs.declared.words.Lead.TheVariants as lead
-use Rattle.fir_parse.specs.Lexemes.{Lexeme, word, mark, Terminal}
+use Rattle.fir_parse.specs.Lexemes.{word, mark, Terminal}
 use Rattle.fir_parse.specs.MissingForms.{missing_operators, word_at}
 use Rattle.fir_parse.specs.working.Words.{lead_of, applied_of}
 use Rattle.fir_ast.specs.Statements.{done as no_statements}
 use Rattle.fir_parse.specs.working.Symbols.{Sym, Tree, Begun, computed_index, open_when, a_mark, a_word, a_name, a_field_name, a_line_end, an_expression, an_index, behind_word, parts, more_names, fields, more_fields, a_field, behind_flip, statements, behind_first, behind_is, behind_direction, ports_and_statements}
-use Rattle.fir_parse.specs.working.States.{State, done, limit, wants, Step, takes, without, refuses, unsupported}
+use Rattle.fir_parse.specs.working.States.{State, done, limit, wants, takes, unsupported}
 use Rattle.fir_parse.specs.working.TypeRules.{field_rest, with_field}
 use Rattle.fir_parse.specs.working.StatementRules.{declared, declaration_step, declaration_of_is, when_rest, behind_statement, closed_before}
 use Rattle.fir_parse.specs.working.ExpressionRules.{behind_word_step, applied_rest}
 use Rattle.fir_parse.specs.working.CircuitRules.{statements_only, port_rest}
-use Rattle.fir_parse.specs.working.Reading.{step}
-use Rattle.fir_parse.specs.working.Reaching.{Verdict, continues, unexpected, missing, judge, verdict_by}
-use Rattle.fir_ast.specs.Expressions.{no_parts}
-use Rattle.fir_parse.proofs.Guards.{firm, shut, nested_shut, IsShut, is_shut, Meets, Guarded}
+use Rattle.fir_parse.specs.working.Reaching.{continues, unexpected, missing, judge, verdict_by}
+use Rattle.fir_parse.proofs.Guards.{firm, nested_shut, IsShut, Meets, Guarded}
 use Rattle.fir_parse.proofs.Completions.{refuses_tail}
 use Rattle.fir_parse.proofs.Peeled.{empty_tree, IsSteadySymbol}
 use Rattle.fir_parse.proofs.MissingTold.{IsTaken, TakenBy, is_taken, no_keyword}

@@ -1,7 +1,6 @@
 -- Where a level may end and a word of a missing statement is taken, a statement begins with it, which no other token takes on.
-use Rattle.std.proofs.Common.{◌≡◌, ℕ, List, [], ◌∷◌, length, Bool, true, false, Option, Some, None, codes, refl, sym, ap, ◌∙◌, subst, ◌⊎◌, inl, inr, if◌then◌else◌}
+use Rattle.std.proofs.Common.{◌≡◌, ℕ, List, [], ◌∷◌, length, Bool, true, false, None, codes, refl, sym, ap, ◌∙◌, subst, ◌⊎◌, inl, inr, if◌then◌else◌}
 use Rattle.std.specs.Str.{bytes_eq}
-use Rattle.fir_base.specs.declared.direction.Direction.{Direction}
 use Rattle.fir_base.specs.Lists.{In}
 use Rattle.fir_base.proofs.Each.{all_at}
 use Rattle.fir_ast.specs.declared.place.Place.{Place}
@@ -24,7 +23,7 @@ use Rattle.fir_parse.specs.working.StatementRules.{stuck_behind, declaration_of_
 use Rattle.fir_parse.specs.working.MemoryRules.{by_field_word, then_fields}
 use Rattle.fir_parse.specs.working.CircuitRules.{body_by_word, by_module_word, statements_only}
 use Rattle.fir_parse.specs.working.Reading.{step}
-use Rattle.fir_parse.specs.working.Reaching.{Verdict, continues, unexpected, missing, judge, verdict_by}
+use Rattle.fir_parse.specs.working.Reaching.{Verdict, continues, missing, judge, verdict_by}
 use Rattle.fir_parse.proofs.Peeled.{empty_tree}
 use Rattle.fir_parse.proofs.MissingTold.{IsTaken, TakenBy, stuck_not_taken, mapped_taken}
 

@@ -1,32 +1,32 @@
 -- A form that is not in the language is told where it is missing.
-use Rattle.std.proofs.Common.{◌≡◌, ℕ, List, [], ◌∷◌, ◌++◌, Bool, true, false, Option, Some, None, Ok, codes, refl, sym, ap, ◌∙◌, subst, ◌⊎◌, inl, inr, append_assoc}
+use Rattle.std.proofs.Common.{◌≡◌, ℕ, List, [], ◌∷◌, ◌++◌, false, Ok, codes, refl, sym, ◌∙◌, subst, ◌⊎◌, inl, inr, append_assoc}
 use Rattle.std.specs.Str.{bytes_eq}
 use Rattle.fir_base.specs.Lists.{In}
 use Rattle.fir_base.proofs.Each.{all_at}
 use Rattle.fir_ast.specs.declared.place.Place.{Place}
-use Rattle.fir_ast.specs.Types.{DataType, bundle, no_fields}
+use Rattle.fir_ast.specs.Types.{bundle, no_fields}
 use Rattle.fir_ast.specs.Expressions.{Expression, reference, mux as mux_of, no_parts}
 use Rattle.fir_ast.specs.Statements.{done as no_statements}
-use Rattle.fir_ast.specs.Circuits.{CircuitTree, ModuleTree}
+use Rattle.fir_ast.specs.Circuits.{ModuleTree}
 use Rattle.fir_parse.specs.declared.lexeme.Mark.TheVariants.{OpenRound, CloseRound, OpenCurly, CloseCurly, Comma, Colon}
 use Rattle.fir_parse.specs.declared.words.TypeWord.TheVariants as types
 use Rattle.fir_parse.specs.declared.words.ModuleWord.TheVariants as modules
 use Rattle.fir_parse.specs.declared.words.Lead.TheVariants as lead
 use Rattle.fir_parse.specs.declared.words.Applied.TheVariants as applied
-use Rattle.fir_parse.specs.Lexemes.{Lexeme, word, mark, line_end, level_closes, Terminal}
+use Rattle.fir_parse.specs.Lexemes.{word, mark, line_end, level_closes, Terminal}
 use Rattle.fir_parse.specs.Limits.{nowhere}
 use Rattle.fir_parse.specs.Pieces.{◌▸◌, Closes}
 use Rattle.fir_parse.specs.TypeForms.{IsType}
 use Rattle.fir_parse.specs.ExpressionForms.{IsExpression}
 use Rattle.fir_parse.specs.StatementForms.{AreStatements}
 use Rattle.fir_parse.specs.CircuitForms.{AreSomeModules, IsSpelled}
-use Rattle.fir_parse.specs.Fronts.{IsText, IsFront}
-use Rattle.fir_parse.specs.MissingForms.{missing_types, missing_modules, missing_operators, missing_statements, missing_ports, Are, TypeMayStand, ExpressionMayStand, StatementsMayStand, ModulesMayStand, word_at, IsMissing}
+use Rattle.fir_parse.specs.Fronts.{IsFront}
+use Rattle.fir_parse.specs.MissingForms.{missing_types, missing_modules, Are, TypeMayStand, ExpressionMayStand, StatementsMayStand, ModulesMayStand, word_at, IsMissing}
 use Rattle.fir_parse.specs.working.Words.{type_word_of, module_word_of, applied_of, lead_of}
 use Rattle.fir_parse.specs.working.Symbols.{Sym, Tree}
 use Rattle.fir_parse.specs.working.States.{State, done, limit, wants, Step, takes, without, refuses, unsupported}
 use Rattle.fir_parse.specs.working.Reading.{step, read_on, whole}
-use Rattle.fir_parse.specs.working.Reaching.{Verdict, continues, unexpected, missing, judge, verdict_by, Reaches}
+use Rattle.fir_parse.specs.working.Reaching.{Verdict, continues, missing, judge, verdict_by, Reaches}
 use Rattle.fir_parse.proofs.Guards.{Guarded}
 use Rattle.fir_parse.proofs.StepKeeps.{whole_guarded}
 use Rattle.fir_parse.proofs.Along.{guarded_along}
@@ -34,9 +34,9 @@ use Rattle.fir_parse.proofs.PassedLimits.{token_follows}
 use Rattle.fir_parse.proofs.Completions.{origin, token}
 use Rattle.fir_parse.proofs.Reached.{goes_on_without, text_reads, by_last, Last, reaches_split}
 use Rattle.fir_parse.proofs.Peeled.{peel, IsPeeled, is_peeled, IsSteady, follows_is_steady, steady_peeled, guarded_peeled, judge_peeled}
-use Rattle.fir_parse.proofs.MissingTold.{IsTaken, TakenBy, taken, is_taken, NotTaken, type_told, module_told}
+use Rattle.fir_parse.proofs.MissingTold.{IsTaken, taken, is_taken, NotTaken, type_told, module_told}
 use Rattle.fir_parse.proofs.MissingStatements.{Ends, BeginsNothingElse, missing_statement, missing_port, Begins, statement_begins, statement_told, port_told}
-use Rattle.fir_parse.proofs.MissingOperators.{mux, round, RefusesRound, BeginsOne, operator_begins, missing_operator, operator_told}
+use Rattle.fir_parse.proofs.MissingOperators.{mux, RefusesRound, BeginsOne, operator_begins, missing_operator, operator_told}
 
 -- every state that is reached is steady
 pub reached_steady : (front : List Terminal) (last : State) → Reaches whole front last → IsSteady last

@@ -1,27 +1,23 @@
 -- Where any type may stand, any expression, any statements or any modules, the word of a form that is not in the language is told.
-use Rattle.std.proofs.Common.{◌≡◌, ◌≢◌, ℕ, List, [], ◌∷◌, Bool, true, false, IsTrue, Option, Some, None, codes, refl, sym, ap, ◌∙◌, subst, if◌then◌else◌}
+use Rattle.std.proofs.Common.{◌≡◌, ℕ, List, Bool, true, false, IsTrue, Option, Some, None, codes, refl, sym, ap, subst, if◌then◌else◌}
 use Rattle.std.specs.Str.{bytes_eq}
-use Rattle.fir_base.specs.Lists.{In}
-use Rattle.fir_base.proofs.Each.{all_at}
 use Rattle.fir_ast.specs.declared.place.Place.{Place}
-use Rattle.fir_parse.specs.declared.lexeme.Mark.{Mark}
-use Rattle.fir_parse.specs.declared.lexeme.Mark.TheVariants.{OpenRound, OpenCurly}
+use Rattle.fir_parse.specs.declared.lexeme.Mark.TheVariants.{OpenCurly}
 use Rattle.fir_parse.specs.declared.words.Declaration.TheVariants as declares
 use Rattle.fir_parse.specs.declared.words.Lead.{Lead}
 use Rattle.fir_parse.specs.declared.words.Lead.TheVariants as lead
 use Rattle.fir_parse.specs.declared.words.TypeWord.TheVariants as types
 use Rattle.fir_parse.specs.declared.words.ModuleWord.TheVariants as modules
-use Rattle.fir_parse.specs.declared.words.Applied.TheVariants as applied
-use Rattle.fir_parse.specs.Lexemes.{Lexeme, word, mark, Terminal}
-use Rattle.fir_parse.specs.MissingForms.{missing_types, missing_modules, missing_operators, missing_statements, missing_ports, word_at}
-use Rattle.fir_parse.specs.working.Words.{type_word_of, module_word_of, applied_of, lead_of, direction_of}
+use Rattle.fir_parse.specs.Lexemes.{word, mark, Terminal}
+use Rattle.fir_parse.specs.MissingForms.{word_at}
+use Rattle.fir_parse.specs.working.Words.{type_word_of, module_word_of, lead_of, direction_of}
 use Rattle.fir_parse.specs.working.Symbols.{Sym, Tree, Begun, no_port, FieldTree, a_mark, a_word, a_name, a_field_name, a_type, fields, a_field, behind_flip, an_expression, an_index, more_names, statements, behind_first, behind_is, behind_direction, first_module, more_modules, ports_and_statements}
-use Rattle.fir_parse.specs.working.States.{State, done, limit, wants, Step, takes, without, refuses, unsupported, mapped}
+use Rattle.fir_parse.specs.working.States.{State, wants, Step, takes, without, refuses, unsupported, mapped}
 use Rattle.fir_parse.specs.working.TypeRules.{then_more, field_step}
 use Rattle.fir_parse.specs.working.StatementRules.{stuck_behind, declaration_step, declaration_of_is, may_be_else}
 use Rattle.fir_parse.specs.working.CircuitRules.{body_by_word}
 use Rattle.fir_parse.specs.working.Reading.{one, step}
-use Rattle.fir_parse.specs.working.Reaching.{Verdict, continues, unexpected, missing, judge, verdict_by}
+use Rattle.fir_parse.specs.working.Reaching.{continues, missing, judge, verdict_by}
 use Rattle.std.proofs.lemmas.Slice.Eq.{bytes_eq-Decides}
 use Rattle.fir_base.specs.declared.direction.Direction.{Direction}
 use Rattle.fir_parse.proofs.Guards.{is_keyword}

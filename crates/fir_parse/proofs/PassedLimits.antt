@@ -1,5 +1,5 @@
 -- Which limit is passed at a token, by the limits that are kept there.
-use Rattle.std.proofs.Common.{◌≡◌, ℕ, Bool, true, false, Option, Some, None, refl, sym, ap, ◌∙◌, subst, ◌⊎◌, inl, inr}
+use Rattle.std.proofs.Common.{◌≡◌, ℕ, Bool, true, false, Some, None, refl, sym, ap, ◌∙◌, subst, inl, inr}
 use Rattle.fir_parse.specs.Lexemes.{Terminal}
 use Rattle.fir_parse.specs.Limits.{Limit}
 use Rattle.fir_parse.specs.Fronts.{no_limit, only_numbers, only_nesting, only_versions}
@@ -8,7 +8,7 @@ use Rattle.fir_parse.specs.working.States.{State, Bound, number_at, nesting_at, 
 use Rattle.fir_parse.specs.working.Reading.{step}
 use Rattle.fir_parse.specs.working.Reaching.{Verdict, continues, unexpected, missing, judge, verdict_by, passed_limit}
 use Rattle.fir_parse.proofs.Guards.{Guard, guard_of, IsUnlimited, Guarded, After}
-use Rattle.fir_parse.proofs.Keeping.{Kind, Spot, AfterNumber, LimitFollows, Follows, Keeps}
+use Rattle.fir_parse.proofs.Keeping.{Kind, Spot, AfterNumber, Follows, Keeps}
 use Rattle.fir_parse.proofs.StepKeeps.{spot_of, keeps}
 use Rattle.fir_parse.proofs.AtTokens.{Kept}
 

@@ -1,22 +1,19 @@
 -- What is expected first where nothing stands in the place of what may be empty.
-use Rattle.std.proofs.Common.{◌≡◌, ℕ, List, [], ◌∷◌, Bool, true, false, IsTrue, Option, Some, None, refl, sym, ap, ◌∙◌, subst}
+use Rattle.std.proofs.Common.{◌≡◌, List, [], ◌∷◌, Bool, true, false, IsTrue, Option, Some, None, refl, sym, ap, ◌∙◌, subst, inl, inr}
 use Rattle.fir_ast.specs.declared.place.Place.{Place}
 use Rattle.fir_ast.specs.Expressions.{reference, no_parts}
 use Rattle.fir_ast.specs.Statements.{done as no_statements}
 use Rattle.fir_parse.specs.declared.lexeme.Mark.TheVariants.{OpenCurly}
 use Rattle.fir_parse.specs.Lexemes.{Lexeme, word, mark, level_closes, Terminal}
 use Rattle.fir_parse.specs.Limits.{nowhere}
-use Rattle.fir_parse.specs.working.Symbols.{Sym, Tree, a_mark, a_word, a_width, dimensions, behind_word, parts, an_indented_block, a_memory_body, some_annotations, a_body}
-use Rattle.fir_parse.specs.working.States.{State, done, limit, wants, Step, takes, without, refuses, unsupported}
+use Rattle.fir_parse.specs.working.Symbols.{Sym, Tree, a_mark, a_word, a_width, dimensions, behind_word, parts, an_indented_block, a_memory_body, some_annotations, a_body, behind_first, behind_direction}
+use Rattle.fir_parse.specs.working.States.{State, done, limit, wants, without}
 use Rattle.fir_parse.specs.working.Reading.{read_on, step}
 use Rattle.fir_parse.specs.working.Reaching.{judge, verdict_by}
 use Rattle.fir_parse.proofs.Guards.{is_keyword, IsPlainSymbol, IsUnlimited, Meets, guard_of, Guarded, Guard, unlimited, firm, shut, nested, nested_shut, numbered, firm_is_unlimited, shut_is_unlimited}
-use Rattle.fir_parse.proofs.Keeping.{Kind, SymbolFollows, AfterNumber, Follows, Keeps, Spot}
+use Rattle.fir_parse.proofs.Keeping.{Kind, SymbolFollows, AfterNumber, Follows, Keeps}
 use Rattle.fir_parse.proofs.StepKeeps.{spot_of, keeps}
 use Rattle.fir_parse.proofs.AtTokens.{outcome_of, without_limits}
-use Rattle.std.proofs.Common.{inl, inr}
-use Rattle.fir_parse.specs.declared.lexeme.Mark.{Mark}
-use Rattle.fir_parse.specs.working.Symbols.{behind_first, behind_direction}
 
 -- what an empty symbol makes
 abbrev pub empty_tree : (s : Sym) → Option (Tree s)

@@ -1,10 +1,9 @@
 -- Tokens that begin a text and keep their limits lead from the first state to one, and those that lead to one begin such a text.
-use Rattle.std.proofs.Common.{◌≡◌, suc, ◌<◌, Bool, true, false, List, [], ◌∷◌, ◌++◌, length, Option, Some, None, Ok, Err, refl, sym, ap, ◌∙◌, subst, ◌⊎◌, inl, inr, arith, length-append}
+use Rattle.std.proofs.Common.{◌≡◌, ◌<◌, Bool, true, false, List, [], ◌∷◌, ◌++◌, length, Some, None, Ok, refl, sym, ap, ◌∙◌, subst, ◌⊎◌, inl, inr, arith, length-append}
 use Rattle.fir_ast.specs.Circuits.{CircuitTree}
 use Rattle.fir_parse.specs.Lexemes.{Terminal}
 use Rattle.fir_parse.specs.Limits.{Limit, Limits, nowhere}
-use Rattle.fir_parse.specs.CircuitForms.{IsSpelled}
-use Rattle.fir_parse.specs.Fronts.{IsText, IsFront, up_to, IsFrontWithin}
+use Rattle.fir_parse.specs.Fronts.{IsText, up_to, IsFrontWithin}
 use Rattle.fir_parse.specs.working.States.{State, Bound, done, limit, wants, limit_of, fault_of}
 use Rattle.fir_parse.specs.working.Reading.{Outcome, at_token, at_end, read_on, whole}
 use Rattle.fir_parse.specs.working.Reaching.{Verdict, continues, unexpected, missing, judge, passed_limit, Reaches}

@@ -8,7 +8,7 @@ use Rattle.fir_parse.specs.Lexemes.{Lexeme, word, mark, line_end}
 use Rattle.fir_parse.specs.working.Symbols.{a_mark, a_closing, behind_with}
 use Rattle.fir_parse.specs.working.States.{State, wants, takes, refuses}
 use Rattle.fir_parse.specs.working.StatementRules.{ends_line, reset_rest, reset_step, with_step}
-use Rattle.fir_parse.proofs.Guards.{unlimited, nested, Guarded, After, loosened}
+use Rattle.fir_parse.proofs.Guards.{unlimited, Guarded, After, loosened}
 use Rattle.fir_parse.proofs.Keeping.{at, elsewhere, Keeps, always, keeps_if, keeps_taken}
 
 guarded_reset : (d : ℕ) (w : Place) (k : Reset → State) → ((r : Reset) → After unlimited (k r)) → Guarded (reset_rest d w k)

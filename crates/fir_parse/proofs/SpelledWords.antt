@@ -10,11 +10,10 @@ use Rattle.fir_bits.specs.declared.operators.PrimOp.TheVariants.{Add}
 use Rattle.fir_bits.specs.OperatorWords.{operator_word, operators, operator_of}
 use Rattle.fir_ast.specs.declared.statements.ReadUnderWrite.{ReadUnderWrite}
 use Rattle.fir_ast.specs.declared.statements.ReadUnderWrite.TheVariants.{Old, New, Undefined}
-use Rattle.fir_parse.specs.declared.words.Applied.{Applied}
 use Rattle.fir_parse.specs.declared.words.Applied.TheVariants as applied
 use Rattle.fir_parse.specs.StatementForms.{under_write_word}
 use Rattle.fir_parse.specs.CircuitForms.{direction_word}
-use Rattle.fir_parse.specs.working.Words.{operator_or, applied_of, direction_of, under_write_of}
+use Rattle.fir_parse.specs.working.Words.{applied_of, direction_of, under_write_of}
 use Rattle.fir_parse.proofs.FormsFound.{by_word}
 
 pub operator_read : (op : PrimOp) → applied_of (operator_word op) ≡ applied.Operator op

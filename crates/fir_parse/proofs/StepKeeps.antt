@@ -1,5 +1,5 @@
 -- Every step keeps the guards, and so does every token that is expected.
-use Rattle.std.proofs.Common.{◌≡◌, ℕ, List, not, refl, inl, inr}
+use Rattle.std.proofs.Common.{ℕ, List, not, refl, inl, inr}
 use Rattle.std.specs.Str.{bytes_eq}
 use Rattle.fir_ast.specs.declared.place.Place.{Place}
 use Rattle.fir_parse.specs.declared.lexeme.Mark.{Mark}
@@ -11,8 +11,8 @@ use Rattle.fir_parse.specs.working.Symbols.{Sym, Natural, a_mark, a_word, a_name
 use Rattle.fir_parse.specs.working.States.{State, number_at, done, limit, wants, Step, takes, without, refuses, unsupported}
 use Rattle.fir_parse.specs.working.Reading.{mark_step, word_step, name_step, field_name_step, natural_step, line_end_step, opening_step, closing_step, step, whole}
 use Rattle.fir_parse.specs.working.Reaching.{Verdict, continues, unexpected, missing, judge, verdict_by}
-use Rattle.fir_parse.proofs.Guards.{Guard, unlimited, firm, shut, nested, nested_shut, numbered, guard_of, Meets, Guarded, After, IsShut, shut_is_unlimited}
-use Rattle.fir_parse.proofs.Keeping.{at, Kind, neither, Spot, elsewhere, optional, Follows, AfterNumber, Keeps, always, keeps_if, keeps_mapped, keeps_one, keeps_place, keeps_taken, unlimited_follows, nested_follows, unlimited_after_number}
+use Rattle.fir_parse.proofs.Guards.{Guard, unlimited, firm, shut, nested, nested_shut, numbered, guard_of, Meets, Guarded, After, shut_is_unlimited}
+use Rattle.fir_parse.proofs.Keeping.{at, neither, Spot, elsewhere, optional, Follows, AfterNumber, Keeps, always, keeps_if, keeps_mapped, keeps_one, keeps_place, keeps_taken, unlimited_follows, nested_follows}
 use Rattle.fir_parse.proofs.TypeKeeps.{type_spot, keeps_type, keeps_width, keeps_dimensions, keeps_fields, keeps_more_fields, keeps_field, keeps_flip}
 use Rattle.fir_parse.proofs.ExpressionKeeps.{expression_spot, word_spot, keeps_expression, keeps_behind_word, keeps_parts, keeps_index, keeps_literal}
 use Rattle.fir_parse.proofs.StatementKeeps.{statement_spot, first_spot, keeps_statements, keeps_first, keeps_is, keeps_else, keeps_sink, keeps_block}

@@ -1,13 +1,11 @@
 -- Reading where limits count up to some tokens, and no further.
-use Rattle.std.proofs.Common.{◌≡◌, ℕ, suc, ◌<◌, ◌≤◌, Bool, true, false, ◌&&◌, ◌||◌, List, [], ◌∷◌, ◌++◌, length, Ok, Err, refl, sym, ap, ◌∙◌, arith, length-append}
-use Rattle.std.specs.Prelude.{nat_eq, nat_lt}
+use Rattle.std.proofs.Common.{◌≡◌, ◌<◌, ◌≤◌, Bool, true, false, ◌&&◌, ◌||◌, List, [], ◌∷◌, length, refl, sym, ◌∙◌, arith}
 use Rattle.std.proofs.lemmas.Bool.{lt-ltb, le-ltb, eq-eqb, ne_eqb}
 use Rattle.fir_ast.specs.declared.place.Place.{Place}
-use Rattle.fir_ast.specs.Circuits.{CircuitTree}
 use Rattle.fir_parse.specs.Lexemes.{Terminal}
 use Rattle.fir_parse.specs.Limits.{Limit, Limits, nowhere}
 use Rattle.fir_parse.specs.Fronts.{up_to}
-use Rattle.fir_parse.specs.working.States.{State, Step, done, limit, wants, takes, without, refuses, unsupported, limit_of, fault_of}
+use Rattle.fir_parse.specs.working.States.{State, Step, done, limit, wants, takes, without, refuses, unsupported, limit_of}
 use Rattle.fir_parse.specs.working.Reading.{Outcome, step, goes_on, at_token, at_end, read_on}
 use Rattle.fir_parse.specs.working.Reaching.{Verdict, continues, unexpected, missing, judge}
 use Rattle.fir_parse.proofs.Guards.{Guarded}

@@ -1,5 +1,5 @@
 -- What stands behind the circuit of a text.
-use Rattle.std.proofs.Common.{◌≡◌, List, [], ◌∷◌, drop, true, Ok, Err, refl, ◌∙◌}
+use Rattle.std.proofs.Common.{◌≡◌, List, [], ◌∷◌, drop, Ok, Err, refl, ◌∙◌}
 use Rattle.fir_ast.specs.declared.place.Place.{Place}
 use Rattle.fir_ast.specs.declared.fault.FirFault.TheVariants.{Syntax}
 use Rattle.fir_ast.specs.Circuits.{CircuitTree}

@@ -18,7 +18,7 @@ abbrev pub StopsAt : List Terminal → List Terminal → Type 0
 StopsAt front [] = IsText front → ⊥
 StopsAt front (t ∷ back) = IsFront (front ++ t ∷ []) → ⊥
 
--- limits count behind each token but the last that these follow, and there those that are asked for
+-- where `more` follows some tokens: limits count at each of those, and at the last of them only the limits that are asked for
 abbrev pub up_to : (Limit → Bool) → List Terminal → Limits
 up_to asked more limit left = nat_lt (length more) (length left) || (asked limit && nat_eq (length left) (length more))
 

@@ -53,10 +53,10 @@ StatementsMayStand before = (b : Block) (ts : List Terminal) → Are (λ d. AreS
 abbrev pub ModulesMayStand : List Terminal → Type 0
 ModulesMayStand before = (ms : List ModuleTree) (ts : List Terminal) → Are (λ d. AreSomeModules nowhere ms ▸ Closes) ts → IsFront (before ++ ts)
 
--- the word begins such a form, where the token `t` stands behind the tokens `front`
 abbrev pub word_at : List ℕ → Place → Terminal
 word_at w p = record { lexeme = word w; place = p }
 
+-- with the token `t` behind the tokens `front` a form is told that is not in the language, by its word `w` at the place `p`
 abbrev pub IsMissing : List Terminal → Terminal → Place → List ℕ → Type 0
 IsMissing front t p w = AtItsWord ⊎ BehindItsWord
   where

@@ -1,25 +1,21 @@
 -- The first fault of a text.
 -- E04 and E05 are shown by the first token with which no text of the grammar goes on: E05 where it or the word before it begins a form that is not
--- in the language, at that word, and else E04. E03, E06 and E07 are shown by the first token at which a limit is not kept: of numbers, of nesting,
--- of the version.
-use Rattle.std.specs.Prelude.{◌≡◌, ℕ, List, [], ◌∷◌, ◌++◌, Bool, ◌⊎◌, Err}
+-- in the language, at that word, and else E04. E03, E06 and E07 are shown by the first token at which a limit is not kept: E03 where it is a number
+-- that is out of range or out of form, E06 where a block or a bracket opens with 256 open or a form higher than 256 ends, E07 where it is the
+-- version's number and neither 1 nor 2.
+use Rattle.std.specs.Prelude.{◌≡◌, ℕ, List, [], ◌∷◌, ◌++◌, Bool, ◌⊎◌}
 use Rattle.fir_ast.specs.declared.place.Place.{Place}
 use Rattle.fir_ast.specs.declared.fault.FirFault.{FirFault}
 use Rattle.fir_ast.specs.declared.fault.FirFault.TheVariants as fault
-use Rattle.fir_lex.specs.Bytes.{place_behind}
 use Rattle.fir_lex.specs.Tokens.{Placed}
-use Rattle.fir_lex.specs.Lexed.{lexed}
-use Rattle.fir_lex.specs.TokensOf.{AreTokensOf}
+use Rattle.fir_lex.specs.TokensOf.{place_after, AreTokensOf}
+use Rattle.fir_lex.specs.TokenFaults.{TokenFault}
 use Rattle.fir_base.specs.Digits.{decimal_value}
 use Rattle.fir_parse.specs.Lexemes.{Terminal, integer}
 use Rattle.fir_parse.specs.Limits.{Limit}
 use Rattle.fir_parse.specs.Fronts.{StopsAt, IsFrontWithin, all_limits, no_limit, only_numbers, only_nesting, only_versions}
 use Rattle.fir_parse.specs.MissingForms.{IsMissing}
 use Rattle.fir_parse.specs.Spells.{terminals}
-
--- the place behind the last byte
-abbrev pub end_of : List ℕ → Place
-end_of bytes = place_behind (record { line = 1; col = 1 }) bytes
 
 abbrev pub place_at : Place → List Terminal → Place
 place_at end [] = end
@@ -50,6 +46,6 @@ Shows end front back _ = ⊥
 abbrev pub IsFirst : Place → List Terminal → FirFault → Type 0
 IsFirst end ts f = (front : List Terminal) × (back : List Terminal) × (ts ≡ front ++ back) × Shows end front back f
 
--- the first fault of a text: that of its tokens' form, or else that of its grammar
+-- the first fault of a text: that of its tokens, or else that of its grammar
 abbrev pub TextFault : List ℕ → FirFault → Type 0
-TextFault bytes f = (lexed bytes ≡ Err f) ⊎ ((ts : List Placed) × AreTokensOf bytes ts × IsFirst (end_of bytes) (terminals ts) f)
+TextFault bytes f = TokenFault bytes f ⊎ ((ts : List Placed) × AreTokensOf bytes ts × IsFirst (place_after bytes) (terminals ts) f)

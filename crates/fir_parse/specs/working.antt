@@ -16,6 +16,8 @@ pub mod Trees
 pub mod BundlePlans
 pub mod AtHand
 pub mod Parsed
+pub mod TreePlaces
+pub mod TokenPlaces
 pub mod Laws
 pub mod Plans
 pub mod StatementTrees

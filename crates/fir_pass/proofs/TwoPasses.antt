@@ -1,5 +1,5 @@
 -- Two passes in a row keep what each keeps, and tell the first fault of both.
-use Rattle.std.proofs.Common.{ℕ, ◌<◌, ◌≤◌, arith, ◌∙◌, ⊎_elim}
+use Rattle.std.proofs.Common.{ℕ, ◌<◌, ◌≤◌, arith, ⊎_elim}
 use Rattle.std.proofs.lemmas.Bool.{cases_lt}
 use Rattle.fir_pass.specs.Faults.{Fault}
 use Rattle.fir_pass.specs.Groups.{group_of, IsClear}
@@ -32,9 +32,9 @@ keeps_both from upto next last m n o e h1 h2 = record {
         shows = λ f. ((λ x. (other.shows f).0 ((one.shows f).0 x)), (λ y. (one.shows f).1 ((other.shows f).1 y)));
         tells = λ f. ((λ x. (other.tells f).0 ((one.tells f).0 x)), (λ y. (one.tells f).1 ((other.tells f).1 y)));
       };
-  shape = h1.shape ∙ h2.shape;
-  names = h1.names ∙ h2.names;
-  counts = h1.counts ∙ h2.counts;
+  shape = λ s. ((λ x. (h2.shape s).0 ((h1.shape s).0 x)), (λ y. (h1.shape s).1 ((h2.shape s).1 y)));
+  names = λ ns. ((λ x. (h2.names ns).0 ((h1.names ns).0 x)), (λ y. (h1.names ns).1 ((h2.names ns).1 y)));
+  counts = λ k. ((λ x. (h2.counts k).0 ((h1.counts k).0 x)), (λ y. (h1.counts k).1 ((h2.counts k).1 y)));
 }
 
 -- the first fault of what the first pass made is the first of what that was given

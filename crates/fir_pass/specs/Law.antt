@@ -1,12 +1,12 @@
 -- What a pass keeps, and what its fault shows.
 -- A pass looks for the faults of the groups from one number up to another.
 use Rattle.std.specs.Prelude.{◌≡◌, ◌↔◌, ℕ, ◌+◌, ◌<◌, ◌≤◌, List, Result, Ok, Err}
-use Rattle.fir_base.specs.Ticks.{Tick}
+use Rattle.fir_base.specs.Ticks.{Shape, Tick}
 use Rattle.fir_base.specs.declared.refused.Refused.{Refused}
 use Rattle.fir_base.specs.declared.refused.Refused.TheVariants.{Fault, Memory}
 use Rattle.fir_pass.specs.Faults.{Fault as ToldFault}
 use Rattle.fir_pass.specs.Groups.{group_of, IsClear, SameGroup}
-use Rattle.fir_pass.specs.Meaning.{Meaning}
+use Rattle.fir_pass.specs.Meaning.{Counts, Meaning, ShapeNames}
 
 -- the fault is told of its group, and the groups before it, from the first that is looked for, are clear
 pub record IsFirst (from upto : ℕ) (m : Meaning) (f : ToldFault) : Type 0 where
@@ -22,9 +22,9 @@ pub record Keeps (from upto : ℕ) (m n : Meaning) : Type 0 where
   pub one : m.one ↔ n.one
   pub clear : (k : ℕ) → from ≤ k → k ≤ upto → IsClear (m.group k)
   pub later : (k : ℕ) → upto < k → SameGroup (m.group k) (n.group k)
-  pub shape : m.shape ≡ n.shape
-  pub names : m.names ≡ n.names
-  pub counts : m.counts ≡ n.counts
+  pub shape : (shape : Shape) → m.has_shape shape ↔ n.has_shape shape
+  pub names : (names : ShapeNames) → m.has_names names ↔ n.has_names names
+  pub counts : (counts : Counts) → m.has_counts counts ↔ n.has_counts counts
 
 -- the second range of groups begins where the first ends; that of a pass that looks for no fault is empty
 pub record Follows (from upto next last : ℕ) : Type 0 where

@@ -4,13 +4,13 @@ use Rattle.fir_base.specs.Ticks.{Allowance, Shape}
 use Rattle.fir_pass.specs.Faults.{Fault}
 use Rattle.fir_pass.specs.Groups.{Group, group_of}
 
--- the names of the inputs, the clocks, the outputs and the words of the state, each a path of a leaf, in the order of the shape
+-- the names of the inputs, the clocks, the outputs and the words of the state, each the path of a leaf as it is printed, in the order of the shape
 pub record ShapeNames : Type 0 where
   pub circuit : List ℕ
-  pub inputs : List (List (List ℕ))
-  pub clocks : List (List (List ℕ))
-  pub outputs : List (List (List ℕ))
-  pub state : List (List (List ℕ))
+  pub inputs : List (List ℕ)
+  pub clocks : List (List ℕ)
+  pub outputs : List (List ℕ)
+  pub state : List (List ℕ)
 
 pub record Counts : Type 0 where
   pub leaves : ℕ
@@ -24,9 +24,10 @@ pub record Meaning : Type 1 where
   pub one : Type 0
   -- the groups of faults by their numbers
   pub group : ℕ → Group
-  pub shape : Shape
-  pub names : ShapeNames
-  pub counts : Counts
+  -- the shape of its states and ticks is this one; so are the names in it, and what is counted
+  pub has_shape : Shape → Type 0
+  pub has_names : ShapeNames → Type 0
+  pub has_counts : Counts → Type 0
 
 -- the fault stands in the tree
 abbrev pub Shown : Meaning → Fault → Type 0

@@ -18,7 +18,7 @@ use Rattle.fir_meaning.specs.TypeKinds.{FieldFound, field_named, bare, bare_fiel
 use Rattle.fir_meaning.specs.Equivalence.{is_equivalent}
 use Rattle.fir_meaning.specs.KindFaults.{wrong_kinds, wrong_types, not_passive, out_of_range}
 use Rattle.fir_meaning.specs.LeafPaths.{named}
-use Rattle.fir_meaning.specs.FaultRules.{place_of}
+use Rattle.fir_meaning.specs.ExpressionPlaces.{place_of}
 use Rattle.fir_meaning.specs.Checked.{Checked, answered, answer_on, joined}
 use Rattle.fir_meaning.specs.OperationTypes.{is_conversion, operand_kinds, result_of, ground_of, operation_on, type_of_operation}
 use Rattle.fir_meaning.specs.TypedScopes.{Known, TypedScope, known}

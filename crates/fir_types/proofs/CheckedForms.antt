@@ -8,7 +8,7 @@ use Rattle.fir_ast.specs.Types.{DataType}
 use Rattle.fir_ast.specs.Expressions.{Expression, Parts, no_parts, subfield, subindex, subaccess}
 use Rattle.fir_pass.specs.Faults.{Fault}
 use Rattle.fir_meaning.specs.Checked.{Checked, after, answer_on, answered, together}
-use Rattle.fir_meaning.specs.FaultRules.{place_of}
+use Rattle.fir_meaning.specs.ExpressionPlaces.{place_of}
 use Rattle.fir_meaning.specs.Reaching.{Reached}
 use Rattle.fir_meaning.specs.TypedScopes.{TypedScope}
 use Rattle.fir_meaning.specs.ExpressionTypes.{along_parts, expression_type, condition_form, passive_form, mux_form, validif_form, field_form, index_form, access_form}

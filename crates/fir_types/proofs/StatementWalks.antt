@@ -11,7 +11,7 @@ use Rattle.fir_ast.specs.Circuits.{ModuleTree}
 use Rattle.fir_pass.specs.Faults.{Fault}
 use Rattle.fir_meaning.specs.Components.{Declarations}
 use Rattle.fir_meaning.specs.Visibility.{Before, opened, reopened, behind, behind_block}
-use Rattle.fir_meaning.specs.FaultRules.{place_of}
+use Rattle.fir_meaning.specs.ExpressionPlaces.{place_of}
 use Rattle.fir_meaning.specs.ExpressionTypes.{condition_form, expression_type}
 use Rattle.fir_meaning.specs.ComponentTypes.{typed_scope}
 use Rattle.fir_meaning.specs.TypeGroup.{scope_at, type_faults_in, type_faults_in_block}

@@ -18,7 +18,7 @@ use Rattle.fir_meaning.specs.Visibility.{Before, with_declaration, opened, reope
 use Rattle.fir_meaning.specs.Checked.{Checked, after, answer_on, answered, shown_after, shown_on, together}
 use Rattle.fir_meaning.specs.TypeKinds.{FieldFound, is_numeric, is_passive, is_sized, bare}
 use Rattle.fir_meaning.specs.Equivalence.{is_connectable, is_equivalent, is_partly_connectable}
-use Rattle.fir_meaning.specs.FaultRules.{place_of}
+use Rattle.fir_meaning.specs.ExpressionPlaces.{place_of}
 use Rattle.fir_meaning.specs.KindFaults.{wrong_kinds, wrong_types, not_passive, out_of_range, memory_field}
 use Rattle.fir_meaning.specs.TypedScopes.{TypedScope}
 use Rattle.fir_meaning.specs.LeafPaths.{LeafPath}

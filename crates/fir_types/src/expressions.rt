@@ -6,7 +6,7 @@ ghost use Rattle.fir_ast.specs.Expressions.{Parts};
 ghost use Rattle.fir_ast.specs.View.{expr_of, expressions_of, sink_of};
 ghost use Rattle.fir_meaning.specs.Checked.{Checked};
 ghost use Rattle.fir_meaning.specs.LeafPaths.{LeafPath};
-ghost use Rattle.fir_meaning.specs.FaultRules.{place_of};
+ghost use Rattle.fir_meaning.specs.ExpressionPlaces.{place_of};
 ghost use Rattle.fir_meaning.specs.Reaching.{Reached};
 ghost use Rattle.fir_meaning.specs.TypedScopes.{TypedScope};
 ghost use Rattle.fir_meaning.specs.ExpressionTypes.{condition_form, expression_type, expression_types, passive_form, reaching};

@@ -3,7 +3,7 @@
 ghost use Rattle.std.specs.Prelude.{◌≡◌};
 ghost use Rattle.fir_ast.specs.View.{expr_of};
 ghost use Rattle.fir_meaning.specs.ExpressionTypes.{passive_at, type_of_mux, type_of_validif, unsigned_at};
-ghost use Rattle.fir_meaning.specs.FaultRules.{place_of};
+ghost use Rattle.fir_meaning.specs.ExpressionPlaces.{place_of};
 ghost use Rattle.fir_type_table.specs.working.Tables.{types_of};
 ghost use Rattle.fir_types.specs.working.Judged.{Says};
 ghost use Rattle.fir_types.specs.working.Seen.{found_type};

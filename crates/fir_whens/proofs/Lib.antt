@@ -1,17 +1,6 @@
 pub mod CoveredViews
 pub mod UndrivenModules
 pub mod UndrivenCircuits
-pub mod SearchedNames
-pub mod ModuleNames
-pub mod MembersOfLeaves
-pub mod PathSteps
-pub mod NumberedLeaves
-pub mod NamedDeclarations
-pub mod PlacedLeaves
-pub mod SceneLeaves
-pub mod DeclaredTexts
-pub mod SeenNumbers
-pub mod LeafTexts
 pub mod SinksOfCode
 pub mod ReadRoles
 pub mod TypedScenes

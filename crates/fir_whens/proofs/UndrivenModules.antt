@@ -16,7 +16,8 @@ use Rattle.fir_expand.specs.working.LeafStores.{depth_in, leaf_of_code}
 use Rattle.fir_driven.specs.working.ChoiceLaws.{CoveredIsDriven, MissedIsFirst}
 use Rattle.fir_driven.specs.working.Missed.{missed_all}
 use Rattle.fir_whens.specs.working.CoveredModules.{AreCoveredBefore, IsNotCovered}
-use Rattle.fir_whens.specs.working.ModuleFaults.{IsFoundOf, IsTextOf}
+use Rattle.fir_leaf_text.specs.working.TextsOfLeaves.{IsTextOf}
+use Rattle.fir_whens.specs.working.ModuleFaults.{IsFoundOf}
 use Rattle.fir_whens.proofs.CoveredViews.{as_many, driven_before, same_covered, same_depth, same_leaf, same_sink}
 
 module _ (c : CircuitTree) (ms : List LeafModule) (leafed : AreLeafed c ms) (k : ℕ) (m : LeafModule) (at : slice_get ms k ≡ Some m) where

@@ -4,18 +4,13 @@
 //! Semantics").
 #![tactic(auto)]
 
-mod declared_leaf;
-mod declared_name;
 mod driven;
-mod leaf_step;
-mod leaf_text;
 mod lowered;
 mod module;
 mod module_net;
 mod net_circuit;
 mod net_role;
 mod pass;
-mod type_path;
 mod typed_modules;
 
 pub use driven::check_driven;
@@ -24,3 +19,4 @@ pub use module_net::ModuleNet;
 pub use net_circuit::NetCircuit;
 pub use net_role::{NetReset, NetRole};
 pub use pass::LowerWhens;
+pub use typed_modules::modules_are_typed;

@@ -5,12 +5,12 @@ ghost use Rattle.fir_ast.specs.View.{circuit_of};
 ghost use Rattle.fir_whens.specs.working.CoveredModules.{IsFirstNotCovered, depths_of, is_sink_role};
 ghost use Rattle.fir_whens.specs.working.ModuleFaults.{IsFoundOf};
 
-use crate::leaf_text::leaf_text;
 use fir_ast::FirFault;
 use fir_base::{MemoryOut, Seq};
 use fir_driven::{covered_is_driven, covered_leaves, first_choice, missed_is_first};
 use fir_expand::LeafCircuit;
 use fir_leaf_table::{LeafModule, LeafRole};
+use fir_leaf_text::leaf_text;
 use std::alloc::Global;
 
 /// The fault of the first leaf of the module of that number that some choice leaves undriven, if one does.

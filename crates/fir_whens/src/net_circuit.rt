@@ -55,6 +55,7 @@ impl NetCircuit {
     pub fn leafed(&self) -> &LeafCircuit
         ensures tree { result.now ≡ self.now }
         ensures clear { IsClear (undriven_group (circuit_of self.now)) }
+        ensures driven { AreAllDriven (circuit_of self.now) }
     {
         &self.leafed
     }

@@ -24,4 +24,3 @@ pub mod FieldsAt
 pub mod Operands
 pub mod Choices
 pub mod FirstLeaves
-pub mod SmallWidths

@@ -1,7 +1,7 @@
 -- What the driver of a leaf is worth: what the statements store, and it reads just what the live statements read.
 use Rattle.std.specs.Prelude.{◌≡◌, ◌↔◌, ℕ, ◌^◌, ◌<◌, [], Bool, false, Option, unwrap_or}
 use Rattle.fir_base.specs.Lists.{In}
-use Rattle.fir_meaning.specs.Exec.{fit}
+use Rattle.fir_meaning.specs.Values.{fit}
 use Rattle.fir_meaning.specs.Choices.{LiveReads}
 use Rattle.fir_meaning.specs.LeafBlocks.{LeafBlock, exec_all, nothing_stored}
 use Rattle.fir_meaning.specs.LeafModules.{LeafType, a_clock, number}

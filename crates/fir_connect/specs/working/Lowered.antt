@@ -8,7 +8,7 @@ use Rattle.fir_bits.specs.declared.operators.PrimOp.{PrimOp}
 use Rattle.fir_bits.specs.declared.operators.PrimOp.TheVariants.{And, Eq, Orr}
 use Rattle.fir_bits.specs.declared.types.NumTy.{NumTy}
 use Rattle.fir_bits.specs.declared.types.OpFault.{OpFault}
-use Rattle.fir_meaning.specs.Eval.{literal_value, number_of}
+use Rattle.fir_meaning.specs.Values.{literal_value, number_of}
 use Rattle.fir_meaning.specs.TermReads.{reached}
 use Rattle.fir_meaning.specs.TermValues.{Holds}
 use Rattle.fir_meaning.specs.Terms.{Term, Picks, Terms, zeros, absent, literal, read, no_picks, pick, validif}

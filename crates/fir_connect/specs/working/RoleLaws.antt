@@ -2,11 +2,10 @@
 use Rattle.std.specs.Prelude.{◌≡◌, ◌↔◌, ℕ, ◌^◌, ◌<◌, [], ◌∷◌, length, Option, Some, None, unwrap_or}
 use Rattle.fir_base.specs.Lists.{In}
 use Rattle.fir_meaning.specs.Choices.{LiveReads}
-use Rattle.fir_meaning.specs.Exec.{fit}
+use Rattle.fir_meaning.specs.Values.{fit, is_high}
 use Rattle.fir_meaning.specs.LeafBlocks.{exec_all, nothing_stored}
 use Rattle.fir_meaning.specs.LeafModules.{LeafModule, LeafReset, LeafType, Role, a_clock, depth_at, number, role_at}
 use Rattle.fir_meaning.specs.LeafModules as leafed
-use Rattle.fir_meaning.specs.Eval.{is_high}
 use Rattle.fir_meaning.specs.TermReads.{reads}
 use Rattle.fir_meaning.specs.Terms.{Term}
 use Rattle.fir_meaning.specs.TermValues.{clock_of, eval, is_true}

@@ -1,23 +1,15 @@
 -- The designs of a circuit's modules over their ground leaves (FIRRTL spec, "Instances").
-use Rattle.std.specs.Prelude.{◌≡◌, ℕ, List, [], map}
+use Rattle.std.specs.Prelude.{◌≡◌, ℕ, List, []}
 use Rattle.fir_base.specs.Lists.{In}
 use Rattle.fir_ast.specs.Circuits.{CircuitTree}
+use Rattle.fir_meaning.specs.Elaborated.{AreScenes, views}
 use Rattle.fir_meaning.specs.NameGroups.{HasNames}
-use Rattle.fir_meaning.specs.SizedDeclarations.{numbered_modules}
 use Rattle.fir_meaning.specs.TypeGroup.{type_faults}
 use Rattle.fir_names.specs.working.ModuleOrder.{IsModuleOrder}
-use Rattle.fir_leaf.specs.working.Designs.{Design, IsDesignOf}
-use Rattle.fir_meaning.specs.LeafModules.{LeafModule}
+use Rattle.fir_meaning.specs.Designs.{Design, IsDesignOf}
 use Rattle.fir_meaning.specs.LeafedModules.{Scene, leafed_module}
 use Rattle.fir_leaf.specs.working.NamedDesigns.{IsNamed}
 use Rattle.fir_leaf.specs.working.SoundDesigns.{IsMain, IsSound}
-
--- a scene for each module of a circuit, in their order
-abbrev pub AreScenes : CircuitTree → List Scene → Type 0
-AreScenes c scenes = map (λ (s : Scene). s.own) scenes ≡ numbered_modules c
-
-abbrev pub views : List Scene → List LeafModule
-views scenes = map leafed_module scenes
 
 -- a design of the scene's module, of which there is no other, that is sound
 pub record IsSoundDesign (scenes : List Scene) (s : Scene) (d : Design) : Type 0 where

@@ -8,14 +8,15 @@ use Rattle.fir_meaning.specs.NameGroups.{HasNames}
 use Rattle.fir_meaning.specs.Scenes.{HasScenes, IsSceneOf}
 use Rattle.fir_meaning.specs.TypeGroup.{type_faults}
 use Rattle.fir_names.specs.working.ModuleOrder.{IsModuleOrder}
-use Rattle.fir_leaf.specs.working.Designs.{Design}
-use Rattle.fir_leaf.specs.working.Flattened.{flattened}
-use Rattle.fir_leaf.specs.working.LeafAllows as over
-use Rattle.fir_leaf.specs.working.LeafStates.{shape}
-use Rattle.fir_design.specs.working.CircuitDesigns.{AreScenes, IsSoundDesign}
-use Rattle.fir_design.specs.working.SourceAllows.{Allows}
-use Rattle.fir_design.specs.working.SourceCircuits.{source_shape}
-use Rattle.fir_design.specs.working.SourceDesigns.{IsSourceDesignOf, SourceDesign}
+use Rattle.fir_meaning.specs.Designs.{Design}
+use Rattle.fir_meaning.specs.Flattened.{flattened}
+use Rattle.fir_meaning.specs.LeafAllows as over
+use Rattle.fir_meaning.specs.LeafStates.{shape}
+use Rattle.fir_meaning.specs.Elaborated.{AreScenes}
+use Rattle.fir_design.specs.working.CircuitDesigns.{IsSoundDesign}
+use Rattle.fir_meaning.specs.SourceAllows.{Allows}
+use Rattle.fir_meaning.specs.SourceCircuits.{source_shape}
+use Rattle.fir_meaning.specs.SourceDesigns.{IsSourceDesignOf, SourceDesign}
 
 -- the scenes of all modules, in their order
 pub record HasAllScenes (c : CircuitTree) : Type 0 where

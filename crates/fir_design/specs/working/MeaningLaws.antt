@@ -5,15 +5,16 @@ use Rattle.fir_base.specs.Ticks.{Tick}
 use Rattle.fir_ast.specs.Circuits.{CircuitTree}
 use Rattle.fir_meaning.specs.NameGroups.{HasNames}
 use Rattle.fir_meaning.specs.TypeGroup.{type_faults}
-use Rattle.fir_leaf.specs.working.Designs.{Design}
-use Rattle.fir_leaf.specs.working.Flattened.{flattened}
-use Rattle.fir_leaf.specs.working.LeafAllows as over
-use Rattle.fir_leaf.specs.working.LeafStates.{shape}
+use Rattle.fir_meaning.specs.Designs.{Design}
+use Rattle.fir_meaning.specs.Flattened.{flattened}
+use Rattle.fir_meaning.specs.LeafAllows as over
+use Rattle.fir_meaning.specs.LeafStates.{shape}
 use Rattle.fir_meaning.specs.LeafedModules.{Scene}
-use Rattle.fir_design.specs.working.CircuitDesigns.{AreScenes, IsSoundDesign}
-use Rattle.fir_design.specs.working.SourceAllows.{Allows}
-use Rattle.fir_design.specs.working.SourceCircuits.{source_shape}
-use Rattle.fir_design.specs.working.SourceDesigns.{IsSourceDesignOf, SourceDesign}
+use Rattle.fir_meaning.specs.Elaborated.{AreScenes}
+use Rattle.fir_design.specs.working.CircuitDesigns.{IsSoundDesign}
+use Rattle.fir_meaning.specs.SourceAllows.{Allows}
+use Rattle.fir_meaning.specs.SourceCircuits.{source_shape}
+use Rattle.fir_meaning.specs.SourceDesigns.{IsSourceDesignOf, SourceDesign}
 
 -- a sound design of a module of a circuit without a fault of names or types, and the tree below that module
 pub record AreDesigns (c : CircuitTree) (d : Design) (t : SourceDesign) : Type 0 where

@@ -14,10 +14,10 @@ use Rattle.fir_meaning.specs.LeafModules.{LeafArray, LeafDeclared, LeafReset, Le
 use Rattle.fir_meaning.specs.LeafedModules.{Scene, leafed_module}
 use Rattle.fir_meaning.specs.TermValues.{clock_of, eval}
 use Rattle.fir_meaning.specs.Terms.{Term}
-use Rattle.fir_leaf.specs.working.TreeValues.{TypesByPath, ValuesByPath, aim_read, leaf_where, value}
-use Rattle.fir_design.specs.working.SourceRoles as tree
-use Rattle.fir_design.specs.working.SourceRoles.{PathNeed, PathReading, PathWriting, SourceArray, SourceLeaf, SourceReset, SourceRole, source_arrays, source_leaves}
-use Rattle.fir_design.specs.working.SourceStores.{clock_where}
+use Rattle.fir_meaning.specs.TreeValues.{TypesByPath, ValuesByPath, aim_read, leaf_where, value}
+use Rattle.fir_meaning.specs.SourceRoles as tree
+use Rattle.fir_meaning.specs.SourceRoles.{PathNeed, PathReading, PathWriting, SourceArray, SourceLeaf, SourceReset, SourceRole, source_arrays, source_leaves}
+use Rattle.fir_meaning.specs.SourceStores.{clock_where}
 
 module _ (leaves : List LeafDeclared) where
   abbrev pub path_at : ℕ → LeafPath

@@ -5,13 +5,13 @@ use Rattle.fir_ast.specs.Circuits.{CircuitTree}
 use Rattle.fir_meaning.specs.LeafPaths.{LeafPath}
 use Rattle.fir_meaning.specs.NameGroups.{HasNames}
 use Rattle.fir_meaning.specs.TypeGroup.{type_faults}
-use Rattle.fir_leaf.specs.working.DesignStores.{clock_given, exec_below, nothing_kept, number_given}
-use Rattle.fir_leaf.specs.working.Designs.{Design, IsDesignOf}
+use Rattle.fir_meaning.specs.DesignStores.{clock_given, exec_below, nothing_kept, number_given}
+use Rattle.fir_meaning.specs.Designs.{Design, IsDesignOf}
 use Rattle.fir_meaning.specs.LeafedModules.{Scene, leafed_module}
-use Rattle.fir_leaf.specs.working.TreeValues.{TypesByPath, ValuesByPath}
-use Rattle.fir_design.specs.working.CircuitDesigns.{AreScenes, views}
-use Rattle.fir_design.specs.working.SourceDesigns.{IsSourceDesignOf, SourceDesign}
-use Rattle.fir_design.specs.working.SourceStores.{clock_gifts, exec_design, number_gifts}
+use Rattle.fir_meaning.specs.TreeValues.{TypesByPath, ValuesByPath}
+use Rattle.fir_meaning.specs.Elaborated.{AreScenes, views}
+use Rattle.fir_meaning.specs.SourceDesigns.{IsSourceDesignOf, SourceDesign}
+use Rattle.fir_meaning.specs.SourceStores.{clock_gifts, exec_design, number_gifts}
 
 -- where no fault of names or types stands, a design of a module's view stores what the tree of its statements stores: numbers
 abbrev pub ViewsStoreAsTrees : Type 0

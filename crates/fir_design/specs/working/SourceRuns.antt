@@ -3,31 +3,21 @@ use Rattle.std.specs.Prelude.{◌≡◌, ◌↔◌, ℕ, List, [], ◌∷◌}
 use Rattle.fir_base.specs.Ticks.{AreClocks, FitEach, HasShape, Tick}
 use Rattle.fir_ast.specs.Circuits.{CircuitTree}
 use Rattle.fir_meaning.specs.LeafPaths.{LeafPath}
-use Rattle.fir_leaf.specs.working.Designs.{Design}
-use Rattle.fir_leaf.specs.working.Flattened.{flattened}
-use Rattle.fir_leaf.specs.working.LeafAllows as over
-use Rattle.fir_leaf.specs.working.LeafAllows.{IsLeafRun, LeafResult}
+use Rattle.fir_meaning.specs.Designs.{Design}
+use Rattle.fir_meaning.specs.Flattened.{flattened}
+use Rattle.fir_meaning.specs.LeafAllows as over
+use Rattle.fir_meaning.specs.LeafAllows.{IsLeafRun, LeafResult}
 use Rattle.fir_design.specs.working.MeaningLaws.{AreDesigns}
-use Rattle.fir_design.specs.working.SourceAllows.{Allows, Settled, next}
-use Rattle.fir_design.specs.working.SourceCircuits.{source_shape}
-use Rattle.fir_design.specs.working.SourceDesigns.{SourceDesign}
-use Rattle.fir_design.specs.working.SourceValues.{PathEnv}
+use Rattle.fir_meaning.specs.SourceAllows.{Allows, Settled, next}
+use Rattle.fir_meaning.specs.SourceCircuits.{source_shape}
+use Rattle.fir_meaning.specs.SourceOne.{One}
+use Rattle.fir_meaning.specs.SourceDesigns.{SourceDesign}
+use Rattle.fir_meaning.specs.SourceValues.{PathEnv}
 
 module _ (t : SourceDesign) where
   -- tick for tick what is allowed, from an initial state on
   abbrev pub Run : List ℕ → List Tick → List LeafResult → Type 0
   Run = IsLeafRun (Allows t)
-
-  -- some values are settled, and any two are the same at every path
-  pub record HasOne (state : List ℕ) (tick : Tick) : Type 0 where
-    pub env : PathEnv
-    pub settled : Settled t state tick env
-    pub same : (e f : PathEnv) → Settled t state tick e → Settled t state tick f → (x : LeafPath) → e.numbers x ≡ f.numbers x
-    pub same_clocks : (e f : PathEnv) → Settled t state tick e → Settled t state tick f → (x : LeafPath) → e.clocks x ≡ f.clocks x
-
-  -- at every state and tick of the shape exactly one choice of values is settled
-  abbrev pub One : Type 0
-  One = (state : List ℕ) (tick : Tick) → HasShape (source_shape t) state tick → HasOne state tick
 
   -- the state after a tick has the shape
   abbrev pub KeepsShape : Type 0

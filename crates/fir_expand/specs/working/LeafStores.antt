@@ -8,8 +8,8 @@ use Rattle.fir_meaning.specs.LeafedModules.{Scene, behind_all_ports, module_leav
 use Rattle.fir_leaf.specs.working.NodeBlocks.{block_in}
 use Rattle.fir_leaf.specs.working.TableLaws.{table_facts}
 use Rattle.fir_meaning.specs.TermValues.{Holds}
-use Rattle.fir_leaf.specs.working.TreeStores.{exec_tree_all}
-use Rattle.fir_leaf.specs.working.TreeValues.{ValuesByPath}
+use Rattle.fir_meaning.specs.TreeStores.{exec_tree_all}
+use Rattle.fir_meaning.specs.TreeValues.{ValuesByPath}
 use Rattle.fir_leaf_table.specs.declared.leaf_module.LeafModule.{LeafModule}
 use Rattle.fir_meaning.specs.Scenes.{IsSceneOf}
 use Rattle.fir_leaf_table.specs.working.Seen.{leaves_seen}

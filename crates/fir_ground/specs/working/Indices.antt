@@ -2,7 +2,7 @@
 use Rattle.std.specs.Prelude.{◌≡◌, ℕ, ◌+◌, nat_lt, List, [], ◌∷◌, ◌++◌, map, length, Bool, true, if◌then◌else◌, ◌&&◌, Option, None, option_map, slice_get}
 use Rattle.fir_ast.specs.declared.place.Place.{Place}
 use Rattle.fir_ast.specs.Expressions.{Parts, no_parts, subfield, subindex, subaccess}
-use Rattle.fir_meaning.specs.FaultRules.{place_of}
+use Rattle.fir_meaning.specs.ExpressionPlaces.{place_of}
 use Rattle.fir_meaning.specs.TypedScopes.{TypedScope}
 use Rattle.fir_type_table.specs.working.Saturated.{saturated}
 use Rattle.fir_types.specs.declared.note.LeafRange.{LeafRange as RangeOfCode}

@@ -7,7 +7,7 @@ use Rattle.fir_meaning.specs.LeafBlocks.{LeafBlock, exec_all, nothing_stored}
 use Rattle.fir_meaning.specs.Choices.{Live, IsLive, LiveReads, last_all, lives_all}
 use Rattle.fir_meaning.specs.UndrivenChoices.{IsUndriven}
 use Rattle.fir_leaf.specs.working.ValueChoices.{choice_of_all}
-use Rattle.fir_meaning.specs.Exec.{fit}
+use Rattle.fir_meaning.specs.Values.{fit}
 
 -- what is stored at a leaf is what the statement gives that is live under the choice of the values
 abbrev pub StoredIsLive : Type 0 → Type 0

@@ -6,13 +6,13 @@ use Rattle.fir_meaning.specs.LeafPaths.{LeafPath}
 use Rattle.fir_meaning.specs.TermValues.{Env, clock_at, clock_of, value_at}
 use Rattle.fir_meaning.specs.LeafBlocks.{exec_all, nothing_stored}
 use Rattle.fir_meaning.specs.LeafModules.{LeafDeclared, no_bits}
-use Rattle.fir_leaf.specs.working.LeafCircuits.{LeafCircuit, depth_of, type_of_leaf}
+use Rattle.fir_meaning.specs.LeafCircuits.{LeafCircuit, depth_of, type_of_leaf}
 use Rattle.fir_leaf.specs.working.ChoiceLaws.{fitted_at}
-use Rattle.fir_leaf.specs.working.TreeValues.{TypesByPath, ValuesByPath}
-use Rattle.fir_leaf.specs.working.TreeStores.{same_path}
-use Rattle.fir_leaf.specs.working.Designs.{Design}
-use Rattle.fir_leaf.specs.working.DesignStores.{clock_given, exec_below, nothing_kept, number_given}
-use Rattle.fir_leaf.specs.working.Flattened.{flattened}
+use Rattle.fir_meaning.specs.TreeValues.{TypesByPath, ValuesByPath}
+use Rattle.fir_meaning.specs.TreeStores.{same_path}
+use Rattle.fir_meaning.specs.Designs.{Design}
+use Rattle.fir_meaning.specs.DesignStores.{clock_given, exec_below, nothing_kept, number_given}
+use Rattle.fir_meaning.specs.Flattened.{flattened}
 use Rattle.fir_leaf.specs.working.SoundDesigns.{IsMain, circuit_path}
 use Rattle.fir_leaf.specs.working.NamedDesigns.{IsNamed}
 

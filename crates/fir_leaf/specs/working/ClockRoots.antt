@@ -5,8 +5,8 @@ use Rattle.std.specs.Prelude.{◌≡◌, ℕ, ◌<◌, List, [], ◌∷◌, leng
 use Rattle.fir_meaning.specs.Terms.{Term, no_picks, read, zeros}
 use Rattle.fir_meaning.specs.Choices.{Live, lives_all}
 use Rattle.fir_meaning.specs.LeafModules.{Role, a_clock, computed, leaf_at, sink, source}
-use Rattle.fir_leaf.specs.working.LeafCircuits.{LeafCircuit, depth_of, role_of}
-use Rattle.fir_leaf.specs.working.LeafStates.{place_in}
+use Rattle.fir_meaning.specs.LeafCircuits.{LeafCircuit, depth_of, role_of}
+use Rattle.fir_meaning.specs.LeafStates.{place_in}
 
 pub record IsClockLeaf (c : LeafCircuit) (x : ℕ) : Type 0 where
   pub within : x < length c.leaves

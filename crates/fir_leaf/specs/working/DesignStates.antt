@@ -3,9 +3,9 @@
 use Rattle.std.specs.Prelude.{ℕ, List, [], ◌++◌, map, nat_eq, if◌then◌else◌, slice_index_or}
 use Rattle.fir_meaning.specs.LeafPaths.{LeafPath}
 use Rattle.fir_meaning.specs.LeafModules.{LeafArray, LeafModule, no_bits, number}
-use Rattle.fir_leaf.specs.working.Designs.{Item, drive, when, instance, Items, done, then, Design, made_of}
-use Rattle.fir_leaf.specs.working.DesignPaths.{instance_path, leaf_path}
-use Rattle.fir_leaf.specs.working.StateWalks.{own_arrays, own_words, walk}
+use Rattle.fir_meaning.specs.Designs.{Item, drive, when, instance, Items, done, then, Design, made_of}
+use Rattle.fir_meaning.specs.DesignPaths.{instance_path, leaf_path}
+use Rattle.fir_meaning.specs.StateWalks.{own_arrays, own_words, walk}
 
 -- the words of the instance that is declaration k, if one is
 abbrev mutual

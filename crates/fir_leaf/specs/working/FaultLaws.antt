@@ -7,11 +7,11 @@ use Rattle.fir_meaning.specs.TermReads.{is_picked}
 use Rattle.fir_meaning.specs.Choices.{Choice, Live}
 use Rattle.fir_meaning.specs.UndrivenChoices.{IsUndriven}
 use Rattle.fir_meaning.specs.LeafModules.{Role, computed, sink}
-use Rattle.fir_leaf.specs.working.LeafCircuits.{LeafCircuit, depth_of, role_of}
+use Rattle.fir_meaning.specs.LeafCircuits.{LeafCircuit, depth_of, role_of}
 use Rattle.fir_leaf.specs.working.ClockRoots.{GivesClock, IsChain, IsClockLeaf, lives_of}
-use Rattle.fir_leaf.specs.working.CircuitDependence.{IsWalk}
+use Rattle.fir_meaning.specs.CircuitDependence.{IsWalk}
 use Rattle.fir_leaf.specs.working.ClockFaults.{ShowsClockFault}
-use Rattle.fir_leaf.specs.working.LoopFaults.{ShowsLoop}
+use Rattle.fir_meaning.specs.LoopFaults.{ShowsLoop}
 
 -- a chain of clocks is a walk of dependence
 abbrev pub ChainIsWalk : Type 0

@@ -2,7 +2,7 @@
 -- What its instances give is a source in it, as its inputs are. Of its ports and its state nothing is told.
 use Rattle.std.specs.Prelude.{[]}
 use Rattle.fir_meaning.specs.LeafModules.{LeafModule}
-use Rattle.fir_leaf.specs.working.LeafCircuits.{LeafCircuit}
+use Rattle.fir_meaning.specs.LeafCircuits.{LeafCircuit}
 
 abbrev pub module_circuit : LeafModule → LeafCircuit
 module_circuit m = record {

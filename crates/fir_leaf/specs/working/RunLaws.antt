@@ -8,11 +8,11 @@ use Rattle.fir_meaning.specs.Terms.{Term, no_picks, read}
 use Rattle.fir_meaning.specs.TermValues.{Env, eval}
 use Rattle.fir_meaning.specs.Choices.{Live}
 use Rattle.fir_meaning.specs.LeafModules.{LeafReset, LeafType, Reading, Writing, a_clock, leaf_at, number, pipe, register}
-use Rattle.fir_leaf.specs.working.LeafCircuits.{LeafCircuit, role_of, type_of_leaf}
-use Rattle.fir_leaf.specs.working.LeafStates.{array_of, array_width, shape}
-use Rattle.fir_leaf.specs.working.LeafSettled.{Settled}
-use Rattle.fir_leaf.specs.working.LeafNext.{next}
-use Rattle.fir_leaf.specs.working.LeafAllows.{AreTicks, HasRun, One}
+use Rattle.fir_meaning.specs.LeafCircuits.{LeafCircuit, role_of, type_of_leaf}
+use Rattle.fir_meaning.specs.LeafStates.{array_of, array_width, shape}
+use Rattle.fir_meaning.specs.LeafSettled.{Settled}
+use Rattle.fir_meaning.specs.LeafNext.{next}
+use Rattle.fir_meaning.specs.LeafAllows.{AreTicks, HasRun, One}
 use Rattle.fir_leaf.specs.working.ClockRoots.{GivesClock, HasRoot, IsChain, IsClockLeaf, IsRootOf, NeverEnds, lives_of, root_clock}
 
 -- the state after a tick has the circuit's shape

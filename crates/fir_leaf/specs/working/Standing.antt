@@ -5,8 +5,8 @@ use Rattle.fir_meaning.specs.TypedScopes.{TypedScope}
 use Rattle.fir_meaning.specs.Terms.{Picks}
 use Rattle.fir_meaning.specs.TermValues.{Holds, leaf_of}
 use Rattle.fir_meaning.specs.Targets.{Target}
-use Rattle.fir_leaf.specs.working.TreeAims.{Aim}
-use Rattle.fir_leaf.specs.working.TreeValues.{TypesByPath, ValuesByPath, leaf_where}
+use Rattle.fir_meaning.specs.TreeAims.{Aim}
+use Rattle.fir_meaning.specs.TreeValues.{TypesByPath, ValuesByPath, leaf_where}
 use Rattle.fir_leaf.specs.working.LeafLaws.{numbered, path_at, scope_paths}
 
 abbrev pub leaf_from : Holds → (ℕ → ℕ) → Option ℕ → Picks → ℕ → Option ℕ

@@ -3,11 +3,11 @@ use Rattle.std.specs.Prelude.{◌≡◌, ℕ, ◌<◌, ◌≤◌, List, map, len
 use Rattle.fir_base.specs.Lists.{In, Distinct}
 use Rattle.fir_meaning.specs.LeafModules.{LeafModule, leaf_at}
 use Rattle.fir_meaning.specs.LeafedModules.{Scene, leafed_module}
-use Rattle.fir_leaf.specs.working.LeafCircuits.{LeafCircuit, role_of}
-use Rattle.fir_leaf.specs.working.Designs.{IsDesignOf, Item, drive, when, instance, Items, done, then, Design, made_of}
+use Rattle.fir_meaning.specs.LeafCircuits.{LeafCircuit, role_of}
+use Rattle.fir_meaning.specs.Designs.{IsDesignOf, Item, drive, when, instance, Items, done, then, Design, made_of}
 use Rattle.fir_leaf.specs.working.DesignStates.{array_at}
-use Rattle.fir_leaf.specs.working.StateWalks.{has_bits, is_state}
-use Rattle.fir_leaf.specs.working.Flattened.{flattened}
+use Rattle.fir_meaning.specs.StateWalks.{has_bits, is_state}
+use Rattle.fir_meaning.specs.Flattened.{flattened}
 use Rattle.fir_leaf.specs.working.NamedDesigns.{IsNamed}
 
 -- the main module has the leaves of its ports

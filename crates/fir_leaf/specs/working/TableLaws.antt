@@ -20,8 +20,8 @@ use Rattle.fir_meaning.specs.LeafModules.{LeafDeclared, LeafModule, depth_at, is
 use Rattle.fir_meaning.specs.LeafedModules.{Scene, behind_all_ports, leafed_module, module_leaves}
 use Rattle.fir_meaning.specs.LeafMemories.{leaves_of_data}
 use Rattle.fir_leaf.specs.working.LeafNumbers.{BlockWithin}
-use Rattle.fir_leaf.specs.working.TreeValues.{ValuesByPath}
-use Rattle.fir_leaf.specs.working.TreeStores.{LeafFacts, exec_tree_all, same_path}
+use Rattle.fir_meaning.specs.TreeValues.{ValuesByPath}
+use Rattle.fir_meaning.specs.TreeStores.{LeafFacts, exec_tree_all, same_path}
 use Rattle.fir_leaf.specs.working.LeafLaws.{scope_paths}
 
 -- the leaves of a module have the paths of all leaves that it declares, in order

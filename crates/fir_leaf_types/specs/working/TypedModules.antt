@@ -9,15 +9,17 @@ use Rattle.fir_meaning.specs.LegalFaults.{legal_faults}
 use Rattle.fir_meaning.specs.LeafModules.{LeafModule, LeafReset, LeafType, Role, a_clock, computed, leaf_at, number, pipe, reading, register, role_at, sink, source}
 use Rattle.fir_meaning.specs.LeafedModules.{Scene, leafed_module}
 use Rattle.fir_meaning.specs.Scenes.{IsSceneOf}
+use Rattle.fir_meaning.specs.Terms.{zeros}
 use Rattle.fir_leaf_types.specs.working.TypedTerms.{HasType, IsNarrow, one_bit}
 use Rattle.fir_leaf_types.specs.working.TypedBlocks.{AreTyped, MayGive}
 
 abbrev pub held_in : LeafModule → ℕ → LeafType
 held_in m x = (leaf_at m.leaves x).holds
 
+-- an init is not what `is invalid` drives
 abbrev pub IsResetTyped : (ℕ → LeafType) → LeafType → Option LeafReset → Type 0
 IsResetTyped held t None = Unit {0}
-IsResetTyped held t (Some r) = HasType held r.condition one_bit × MayGive held r.init t
+IsResetTyped held t (Some r) = HasType held r.condition one_bit × MayGive held r.init t × (r.init ≡ zeros → ⊥)
 
 -- a node holds just what its expression gives, and a register a number
 abbrev pub IsRoleTyped : (ℕ → LeafType) → LeafType → Role → Type 0

@@ -2,7 +2,7 @@
 use Rattle.std.specs.Prelude.{ℕ}
 use Rattle.fir_lex.specs.declared.annotation.Within.{Within as State}
 use Rattle.fir_lex.specs.declared.annotation.Within.TheVariants as state
-use Rattle.fir_lex.specs.Front.{Within, in_brackets, in_string}
+use Rattle.fir_lex.specs.working.Front.{Within, in_brackets, in_string}
 
 abbrev pub within_of : State → Within
 within_of (state.Brackets depth) = in_brackets depth

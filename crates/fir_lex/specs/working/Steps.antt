@@ -8,8 +8,8 @@ use Rattle.fir_base.specs.declared.refused.Refused.TheVariants.{Fault, Memory}
 use Rattle.fir_lex.specs.declared.draft.Draft.{Draft}
 use Rattle.fir_lex.specs.Tokens.{Placed}
 use Rattle.fir_lex.specs.working.TokenText.{TokenText}
-use Rattle.fir_lex.specs.Levels.{Move}
-use Rattle.fir_lex.specs.Lexed.{Lexed, placed_at}
+use Rattle.fir_lex.specs.working.Levels.{Move}
+use Rattle.fir_lex.specs.working.Lexed.{Lexed, placed_at}
 use Rattle.fir_lex.specs.working.View.{spelled}
 
 abbrev pub tokens_in : Draft → List Placed

@@ -10,7 +10,7 @@ use Rattle.fir_lex.specs.declared.piece.Piece.TheVariants as piece
 use Rattle.fir_lex.specs.Tokens.{Token, Placed, word, dash_word, integer, text, sign, annotations, line_end, level_opens, level_closes}
 use Rattle.fir_base.specs.Bytes.{is_word_start}
 use Rattle.fir_lex.specs.working.Numbers.{HasNumber}
-use Rattle.fir_lex.specs.Front.{Front, found, passed, bad_byte, bad_literal}
+use Rattle.fir_lex.specs.working.Front.{Front, found, passed, bad_byte, bad_literal}
 
 abbrev pub token_of : Kind → List ℕ → Token
 token_of kind.Word s = word s

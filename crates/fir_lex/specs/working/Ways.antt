@@ -1,8 +1,8 @@
 -- The way of the lexer through a text.
 use Rattle.std.specs.Prelude.{◌≡◌, ℕ, zero, ◌+◌, ◌-◌, ◌*◌, List, length, reverse, take, drop, if◌then◌else◌}
 use Rattle.fir_lex.specs.declared.lexer.Lexer.{Lexer}
-use Rattle.fir_lex.specs.Bytes.{place_behind}
-use Rattle.fir_lex.specs.Lexed.{Lexed, lexed_from}
+use Rattle.fir_lex.specs.working.Bytes.{place_behind}
+use Rattle.fir_lex.specs.working.Lexed.{Lexed, lexed_from}
 use Rattle.fir_lex.specs.working.Steps.{tokens_in, in_front}
 
 abbrev pub rest_of : Lexer → List ℕ

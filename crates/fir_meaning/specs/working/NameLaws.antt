@@ -1,5 +1,5 @@
 -- Laws about names.
-use Rattle.std.specs.Prelude.{◌≡◌, ℕ, List, [], flat_map, IsTrue, Some}
+use Rattle.std.specs.Prelude.{◌≡◌, ℕ, List, Some}
 use Rattle.fir_base.specs.Lists.{In}
 use Rattle.fir_ast.specs.declared.place.Place.{Place}
 use Rattle.fir_ast.specs.Circuits.{ModuleTree, CircuitTree}
@@ -7,11 +7,7 @@ use Rattle.fir_pass.specs.Groups.{IsClear}
 use Rattle.fir_meaning.specs.Components.{Declaration, Declarations, find}
 use Rattle.fir_meaning.specs.Visibility.{declarations}
 use Rattle.fir_meaning.specs.Mentions.{uses, module_mentions, module_names}
-use Rattle.fir_meaning.specs.NameGroups.{HasNames, name_group}
-use Rattle.fir_meaning.specs.Lacking.{is_in_language}
-use Rattle.fir_meaning.specs.FaultRules.{faults_by}
-use Rattle.fir_meaning.specs.working.NameFaults.{name_rule}
-use Rattle.fir_meaning.specs.working.Faults.{main_faults}
+use Rattle.fir_meaning.specs.NameGroups.{name_group}
 
 -- what is visible under a name, and what the module declares under it, are one
 pub record IsOneLookUp (visible : Declarations) (m : ModuleTree) (name : List ℕ) : Type 0 where
@@ -24,7 +20,3 @@ abbrev pub OneLookUp : Type 0
 OneLookUp =
     (c : CircuitTree) (m : ModuleTree) (visible : Declarations) (p : Place) (name : List ℕ)
     → IsClear (name_group c) → In c.modules m → In (module_mentions (module_names c) m) (uses visible p name) → IsOneLookUp visible m name
-
--- where no fault of names stands and nothing is lacking, the lists of names of the small language are empty
-abbrev pub NamesLeaveNone : Type 0
-NamesLeaveNone = (c : CircuitTree) → HasNames c → IsTrue (is_in_language c) → (flat_map (faults_by name_rule) c.modules ≡ []) × (main_faults c ≡ [])

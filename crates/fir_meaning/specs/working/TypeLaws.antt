@@ -1,5 +1,5 @@
 -- Laws about types, their leaves, and their faults.
-use Rattle.std.specs.Prelude.{◌≡◌, ◌↔◌, ℕ, List, [], map, flat_map, slice_get, length, true, IsTrue, Some}
+use Rattle.std.specs.Prelude.{◌≡◌, ◌↔◌, ℕ, List, [], map, slice_get, length, true, Some}
 use Rattle.fir_base.specs.Lists.{In, Distinct}
 use Rattle.fir_ast.specs.Types.{DataType}
 use Rattle.fir_ast.specs.Circuits.{CircuitTree}
@@ -10,9 +10,6 @@ use Rattle.fir_meaning.specs.ConnectPairs.{Pair, pairs, partial_pairs}
 use Rattle.fir_meaning.specs.Mentions.{type_mentions}
 use Rattle.fir_meaning.specs.NameGroups.{HasNames, faults_in}
 use Rattle.fir_meaning.specs.TypeGroup.{type_faults}
-use Rattle.fir_meaning.specs.FaultRules.{faults_by}
-use Rattle.fir_meaning.specs.working.TypeFaults.{type_rule}
-use Rattle.fir_meaning.specs.Lacking.{is_in_language}
 use Rattle.fir_meaning.specs.working.WellTyped.{IsWellTyped}
 
 -- a connect of types that fit pairs all leaves of one with all leaves of the other, in order, each with that of its own path
@@ -50,7 +47,3 @@ LeavesHaveNumbers = (t : DataType) → faults_in (type_mentions t) ≡ [] → Nu
 -- where names stand, no fault of types is shown exactly where each form has a type and each connect a legal flow
 abbrev pub FaultlessIsWellTyped : Type 0
 FaultlessIsWellTyped = (c : CircuitTree) → HasNames c → (type_faults c ≡ []) ↔ IsWellTyped c
-
--- where names and types stand and nothing is lacking, the list of types of the small language is empty
-abbrev pub TypesLeaveNone : Type 0
-TypesLeaveNone = (c : CircuitTree) → HasNames c → type_faults c ≡ [] → IsTrue (is_in_language c) → flat_map (faults_by type_rule) c.modules ≡ []

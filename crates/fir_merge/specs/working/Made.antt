@@ -4,8 +4,7 @@ use Rattle.std.specs.Prelude.{ℕ, zero, suc, ◌+◌, List, [], ◌∷◌, ◌+
 use Rattle.fir_bits.specs.Forms.{no_type}
 use Rattle.fir_bits.specs.declared.operators.PrimOp.TheVariants.{Orr}
 use Rattle.fir_bits.specs.declared.types.NumTy.{NumTy}
-use Rattle.fir_meaning.specs.Eval.{literal_value}
-use Rattle.fir_meaning.specs.Scopes.{literal_type}
+use Rattle.fir_meaning.specs.Values.{literal_value, literal_type}
 use Rattle.fir_meaning.specs.TermValues.{Holds}
 use Rattle.fir_meaning.specs.Terms.{Term, Picks, Terms, zeros, absent, literal, read, no_picks, pick, validif}
 use Rattle.fir_meaning.specs.Terms as over

@@ -4,13 +4,17 @@ use Rattle.fir_ast.specs.declared.place.Place.{Place}
 use Rattle.fir_ast.specs.declared.fault.FirFault.{FirFault}
 use Rattle.fir_ast.specs.declared.fault.FirFault.TheVariants.{Unsupported}
 use Rattle.fir_ast.specs.Circuits.{CircuitTree}
+use Rattle.fir_lex.specs.Tokens.{Placed}
+use Rattle.fir_lex.specs.working.Lexed.{lexed}
 use Rattle.fir_parse.specs.Lexemes.{Terminal}
 use Rattle.fir_parse.specs.Limits.{Limits}
 use Rattle.fir_parse.specs.CircuitForms.{IsSpelled}
-use Rattle.fir_parse.specs.Spells.{Spells}
+use Rattle.fir_parse.specs.Spells.{terminals, Spells}
 use Rattle.fir_parse.specs.MissingForms.{word_at}
 use Rattle.fir_parse.specs.TextFaults.{Shows, TextFault}
 use Rattle.fir_parse.specs.working.Reading.{whole, read_on}
+use Rattle.fir_parse.specs.working.TreePlaces.{Rise, circuit_places}
+use Rattle.fir_parse.specs.working.TokenPlaces.{token_places}
 
 -- a text spells one tree at most
 abbrev pub SpellsOneTree : Type 0
@@ -42,3 +46,11 @@ UnsupportedNamesItsWord =
 -- the tree that the tokens spell, form by form, is the tree that is read from the left, wherever limits count
 abbrev pub SpelledFormByForm : Type 0
 SpelledFormByForm = (limits : Limits) (end : Place) (ts : List Terminal) (c : CircuitTree) → (read_on limits end whole ts ≡ Ok c) ↔ IsSpelled limits c ts
+
+-- the tokens of a text stand one behind the other
+abbrev pub TokensRise : Type 0
+TokensRise = (bytes : List ℕ) (ts : List Placed) → lexed bytes ≡ Ok ts → Rise (token_places (terminals ts))
+
+-- each place in the tree of a text stands behind all that stand before it: of a declaration, a statement, a type, an expression and its parts
+abbrev pub PlacesRise : Type 0
+PlacesRise = (bytes : List ℕ) (c : CircuitTree) → Spells bytes c → Rise (circuit_places c)

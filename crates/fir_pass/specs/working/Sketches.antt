@@ -25,7 +25,7 @@ sketch_meaning unnamed looped = record {
   allows = λ state tick shown after. Unit {0};
   one = Unit {0};
   group = group_at (sketch_groups unnamed looped);
-  shape = record { inputs = []; clocks = 0; state = [] };
-  names = record { circuit = []; inputs = []; clocks = []; outputs = []; state = [] };
-  counts = record { leaves = 0; registers = 0; memories = 0 };
+  has_shape = λ shape. Unit {0};
+  has_names = λ names. Unit {0};
+  has_counts = λ counts. Unit {0};
 }

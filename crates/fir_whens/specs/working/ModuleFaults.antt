@@ -1,11 +1,9 @@
 -- What is found of one module: its first leaf that some choice leaves undriven, or that it has none (FIRRTL spec, "Initialization of Components").
-use Rattle.std.specs.Prelude.{◌≡◌, ℕ, ◌<◌, List, length, Option, Some, None}
+use Rattle.std.specs.Prelude.{ℕ, Option, Some, None}
 use Rattle.fir_ast.specs.declared.fault.FirFault.{FirFault}
 use Rattle.fir_ast.specs.Circuits.{CircuitTree}
 use Rattle.fir_pass.specs.Faults.{fault_of}
-use Rattle.fir_meaning.specs.LeafedModules.{Scene, leafed_module, module_leaves}
-use Rattle.fir_meaning.specs.LeafModules.{leaf_at}
-use Rattle.fir_meaning.specs.LeafPaths.{path_text}
+use Rattle.fir_meaning.specs.LeafedModules.{Scene, leafed_module}
 use Rattle.fir_meaning.specs.Scenes.{IsSceneOf}
 use Rattle.fir_meaning.specs.UndrivenGroup.{IsFaultOf}
 use Rattle.fir_meaning.specs.UndrivenLeaves.{AreDriven, AreDrivenBefore}
@@ -22,8 +20,3 @@ IsFoundOf c module_number (Some f) = IsFirstOf c module_number f
 -- in no module is a leaf left undriven that statements must drive
 abbrev pub AreAllDriven : CircuitTree → Type 0
 AreAllDriven c = (module_number : ℕ) (s : Scene) → IsSceneOf c module_number s → AreDriven (leafed_module s)
-
--- the text is that of the path of the leaf of a number
-abbrev pub IsTextOf : CircuitTree → ℕ → ℕ → List ℕ → Type 0
-IsTextOf c module_number leaf text =
-    (s : Scene) → IsSceneOf c module_number s → leaf < length (module_leaves s) → text ≡ path_text (leaf_at (module_leaves s) leaf).path

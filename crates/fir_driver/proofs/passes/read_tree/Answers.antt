@@ -1,6 +1,12 @@
+use Rattle.std.proofs.lemmas.Result.{err_from_is_err_and}
 use Rattle.fir_ast.specs.View.{circuit_of}
-use Rattle.fir_driver.proofs.ReadTrees.{fault_read, tree_read}
+use Rattle.fir_driver.proofs.ReadTrees.{fault_read, tree_read, without_tokens}
 use Rattle.fir_driver.proofs.passes.read_tree.Goals as goal
+
+pub returns-in_err-tokens : goal.returns-in_err-tokens
+returns-in_err-tokens c =
+    let p = err_from_is_err_and c.from_residual.result c.from_residual.ensures.1 in
+    rw (p.1, p.2) (without_tokens c.faults_form_by_form.ensures c.args.bytes.now c.in_err-tokens.field-0.0 c.in_err-tokens.ensures.tokens)
 
 pub returns-in-Ok : goal.returns-in-Ok
 returns-in-Ok c =

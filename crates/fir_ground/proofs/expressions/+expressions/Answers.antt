@@ -4,7 +4,7 @@ use Rattle.fir_ast.specs.Expressions.{literal, mux, operation, reference, subacc
 use Rattle.fir_ast.specs.Statements.{Sink}
 use Rattle.fir_ast.specs.View.{expr_of, expressions_of, parts_of, sink_of}
 use Rattle.fir_ast.proofs.TreeViews.{mux_view, operation_view, validif_view}
-use Rattle.fir_meaning.specs.FaultRules.{place_of}
+use Rattle.fir_meaning.specs.ExpressionPlaces.{place_of}
 use Rattle.fir_meaning.specs.working.WellTyped.{HasType, Leads, Reaches as ReachesThere}
 use Rattle.fir_names.specs.working.Parts.{part_of}
 use Rattle.fir_names.proofs.FirstMentions.{views_left}

@@ -1,5 +1,5 @@
 use Rattle.std.proofs.Common.{◌≡◌, ◌+◌, ◌≤◌}
-use Rattle.fir_lex.specs.Front.{in_brackets, block_length}
+use Rattle.fir_lex.specs.working.Front.{in_brackets, block_length}
 use Rattle.fir_lex.specs.working.Blocks.{within_of, depth_of}
 use Rattle.fir_lex.proofs.Lengths.{block_at}
 use Rattle.fir_lex.proofs.annotation.block_length.Given as goal

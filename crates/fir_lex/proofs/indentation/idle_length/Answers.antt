@@ -1,6 +1,6 @@
 use Rattle.std.proofs.Common.{◌≡◌, drop, arith}
-use Rattle.fir_lex.specs.Bytes.{line_end_length}
-use Rattle.fir_lex.specs.Front.{comment_length}
+use Rattle.fir_lex.specs.working.Bytes.{line_end_length}
+use Rattle.fir_lex.specs.working.Front.{comment_length}
 use Rattle.fir_lex.proofs.Way.{idle_within}
 use Rattle.fir_lex.proofs.indentation.idle_length.Goals as goal
 

@@ -1,5 +1,5 @@
 use Rattle.std.proofs.Common.{◌≡◌, true, false, drop, sym, ◌∙◌, arith}
-use Rattle.fir_lex.specs.Bytes.{ends_line}
+use Rattle.fir_lex.specs.working.Bytes.{ends_line}
 use Rattle.fir_lex.proofs.Lengths.{comment_at_line_end, comment_at_more}
 use Rattle.fir_lex.proofs.information.comment_length.Goals as goal
 

@@ -1,7 +1,7 @@
 use Rattle.std.proofs.Common.{◌≡◌, true, false, ◌&&◌, not, get_or, drop, sym, ◌∙◌, arith}
 use Rattle.std.specs.Prelude.{nat_eq}
 use Rattle.std.proofs.lemmas.Bool.{ne_eqb}
-use Rattle.fir_lex.specs.Bytes.{ends_line}
+use Rattle.fir_lex.specs.working.Bytes.{ends_line}
 use Rattle.fir_lex.proofs.Lengths.{first_fails, second_fails, information_at_line_end, information_at_more}
 use Rattle.fir_lex.proofs.information.information_length.Goals as goal
 use Rattle.fir_lex.proofs.information.information_length.Goals.{else-not-backslash-via-then-not-backslash+else-byte-eq93, else-not-backslash-via-else-not-backslash}

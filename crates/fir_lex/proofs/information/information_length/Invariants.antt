@@ -1,5 +1,5 @@
 use Rattle.std.proofs.Common.{◌≡◌, false}
-use Rattle.fir_lex.specs.Front.{information_length}
+use Rattle.fir_lex.specs.working.Front.{information_length}
 use Rattle.fir_lex.proofs.Lengths.{information_at}
 use Rattle.fir_lex.proofs.information.information_length.Given as goal
 

@@ -1,5 +1,5 @@
 use Rattle.std.proofs.Common.{◌≡◌, ◌++◌, take}
-use Rattle.fir_lex.specs.Lexed.{closed_at}
+use Rattle.fir_lex.specs.working.Lexed.{closed_at}
 use Rattle.fir_lex.specs.working.Steps.{tokens_in}
 use Rattle.fir_lex.proofs.levels.close.Given as goal
 

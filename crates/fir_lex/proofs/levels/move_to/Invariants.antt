@@ -1,5 +1,5 @@
 use Rattle.std.proofs.Common.{◌≡◌, reverse, length}
-use Rattle.fir_lex.specs.Levels.{move_out}
+use Rattle.fir_lex.specs.working.Levels.{move_out}
 use Rattle.fir_lex.specs.working.Steps.{tokens_in, moved}
 use Rattle.fir_lex.proofs.levels.move_to.Given as goal
 

@@ -1,5 +1,5 @@
 use Rattle.std.proofs.Common.{◌≡◌}
-use Rattle.fir_lex.specs.Lexed.{lexed}
+use Rattle.fir_lex.specs.working.Lexed.{lexed}
 use Rattle.fir_lex.specs.working.Ways.{left, turns}
 use Rattle.fir_lex.proofs.lexer.lex.Given as goal
 

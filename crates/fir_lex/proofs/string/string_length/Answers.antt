@@ -1,7 +1,7 @@
 use Rattle.std.proofs.Common.{◌≡◌, ◌+◌, Bool, true, false, ◌&&◌, not, get_or, drop, sym, ap, ◌∙◌, arith}
 use Rattle.std.specs.Prelude.{nat_eq}
 use Rattle.std.proofs.lemmas.Bool.{ne_eqb}
-use Rattle.fir_lex.specs.Bytes.{ends_line}
+use Rattle.fir_lex.specs.working.Bytes.{ends_line}
 use Rattle.fir_lex.proofs.Lengths.{first_fails, first_passes, first_stays, second_fails, string_at, string_at_line_end, string_at_more}
 use Rattle.fir_lex.proofs.string.string_length.Goals as goal
 use Rattle.fir_lex.proofs.string.string_length.Goals.{else-not-escaped-via-then-not-escaped+else-byte-eq34, else-not-escaped-via-else-not-escaped, then-not-escaped-2, else-not-escaped-2}

@@ -1,5 +1,5 @@
 use Rattle.std.proofs.Common.{◌≡◌, false}
-use Rattle.fir_lex.specs.Front.{string_length}
+use Rattle.fir_lex.specs.working.Front.{string_length}
 use Rattle.fir_lex.proofs.Lengths.{string_at}
 use Rattle.fir_lex.proofs.string.string_length.Given as goal
 

@@ -1,7 +1,6 @@
 use Rattle.std.proofs.Common.{◌≤◌, rules, subst}
 use Rattle.fir_bits.specs.declared.types.NumTy.{NumTy}
-use Rattle.fir_meaning.specs.Eval.{literal_value}
-use Rattle.fir_meaning.specs.Scopes.{literal_type}
+use Rattle.fir_meaning.specs.Values.{literal_value, literal_type}
 use Rattle.fir_connect.specs.working.NetTerms.{value}
 use Rattle.fir_merge.proofs.NarrowChoices.{narrow_stands}
 use Rattle.fir_merge.proofs.StandingValues.{same_value}

@@ -1,4 +1,4 @@
-use Rattle.fir_meaning.specs.Eval.{number_of}
+use Rattle.fir_meaning.specs.Values.{number_of}
 use Rattle.fir_merge.proofs.StandingValues.{same_value}
 use Rattle.fir_merge.proofs.values.add_zero.Goals as goal
 

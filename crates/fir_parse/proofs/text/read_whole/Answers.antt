@@ -1,4 +1,4 @@
-use Rattle.std.proofs.Common.{true, sym, ap, ◌∙◌}
+use Rattle.std.proofs.Common.{sym, ap, ◌∙◌}
 use Rattle.fir_ast.specs.View.{circuit_of}
 use Rattle.fir_parse.specs.declared.lexeme.Lexeme.TheVariants.{End}
 use Rattle.fir_parse.specs.working.Reading.{read, read_on}

@@ -6,7 +6,7 @@ use Rattle.fir_driver.proofs.runner.Runner.new.Goals as goal
 
 pub returns-in-Err : goal.returns-in-Err
 returns-in-Err c with_state =
-    not_begun c.args.trace.now c.args.ordered.net c.args.shape (c.trace_reads_in_steps.ensures c.args.trace.now c.args.shape) c.in-Err.refused c.in-Err.ensures with_state
+    not_begun c.args.trace.now c.args.compiled.net c.args.shape (c.trace_reads_in_steps.ensures c.args.trace.now c.args.shape) c.in-Err.refused c.in-Err.ensures with_state
 
 pub returns : goal.returns
 returns c with_state =

@@ -1,5 +1,5 @@
 use Rattle.std.proofs.Common.{◌≡◌, ◌+◌, drop}
-use Rattle.fir_lex.specs.Bytes.{place_behind}
+use Rattle.fir_lex.specs.working.Bytes.{place_behind}
 use Rattle.fir_lex.proofs.cursor.Cursor.behind.Given as goal
 
 abbrev pub invariant-loop-byte : goal.invariant-loop-byte

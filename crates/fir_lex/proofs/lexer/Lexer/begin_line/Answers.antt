@@ -3,8 +3,8 @@ use Rattle.std.specs.Prelude.{Err}
 use Rattle.fir_ast.specs.declared.place.Place.{Place}
 use Rattle.fir_ast.specs.declared.fault.FirFault.{FirFault}
 use Rattle.fir_ast.specs.declared.fault.FirFault.TheVariants as fault
-use Rattle.fir_lex.specs.Bytes.{place_behind}
-use Rattle.fir_lex.specs.Lexed.{Lexed, is_idle, idle_length}
+use Rattle.fir_lex.specs.working.Bytes.{place_behind}
+use Rattle.fir_lex.specs.working.Lexed.{Lexed, is_idle, idle_length}
 use Rattle.fir_lex.specs.working.Ways.{Passes}
 use Rattle.fir_lex.proofs.Lexing.{tab_in, idle_left, tab_left, unmoved, has_moved, moves_same, rest_behind, unmet_left, fault_is, met_left}
 use Rattle.fir_lex.proofs.lexer.Lexer.begin_line.Goals as goal

@@ -1,5 +1,5 @@
 use Rattle.std.proofs.Common.{ℕ, ◌++◌, List, ap, ◌∙◌}
-use Rattle.fir_lex.specs.Lexed.{closed_at}
+use Rattle.fir_lex.specs.working.Lexed.{closed_at}
 use Rattle.fir_lex.specs.working.Steps.{tokens_in}
 use Rattle.fir_lex.proofs.Lexing.{end_left_at_line, end_left_in_line}
 use Rattle.fir_lex.proofs.lexer.Lexer.end.Goals as goal

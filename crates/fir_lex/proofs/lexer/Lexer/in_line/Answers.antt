@@ -4,8 +4,8 @@ use Rattle.fir_lex.specs.working.View.{token_of}
 use Rattle.fir_lex.specs.working.Steps.{tokens_in}
 use Rattle.fir_ast.specs.declared.place.Place.{Place}
 use Rattle.fir_ast.specs.declared.fault.FirFault.TheVariants as fault
-use Rattle.fir_lex.specs.Bytes.{place_behind, ends_line, line_end_length}
-use Rattle.fir_lex.specs.Lexed.{Lexed}
+use Rattle.fir_lex.specs.working.Bytes.{place_behind, ends_line, line_end_length}
+use Rattle.fir_lex.specs.working.Lexed.{Lexed}
 use Rattle.fir_lex.specs.working.Ways.{rest_of, left, Passes}
 use Rattle.fir_lex.proofs.Lexing.{line_end_left, found_left, passed_left, bad_byte_left, bad_literal_left}
 use Rattle.fir_lex.proofs.lexer.Lexer.in_line.Goals as goal

@@ -1,5 +1,5 @@
 -- Each call takes a token, or stands before those that it makes with none taken.
-use Rattle.std.proofs.Common.{◌≡◌, ◌+◌, ◌*◌, ◌≤◌, true}
+use Rattle.std.proofs.Common.{◌≡◌, ◌+◌, ◌*◌, ◌≤◌}
 use Rattle.fir_ast.specs.declared.place.Place.{Place}
 use Rattle.fir_ast.specs.Statements.{Block}
 use Rattle.fir_parse.specs.working.Reading.{read_on}

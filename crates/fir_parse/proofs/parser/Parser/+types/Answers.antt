@@ -1,5 +1,5 @@
 -- Types, bundles and their fields.
-use Rattle.std.proofs.Common.{true, false, refl, sym, ap, ◌∙◌, ◌+◌, codes, map, rules, arith}
+use Rattle.std.proofs.Common.{false, refl, sym, ap, ◌∙◌, ◌+◌, codes, map, rules, arith}
 use Rattle.std.specs.Str.{bytes_eq}
 use Rattle.fir_ast.specs.Types.{bundle}
 use Rattle.fir_ast.specs.Statements.{PlacedName}

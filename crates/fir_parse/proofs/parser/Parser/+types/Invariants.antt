@@ -1,5 +1,5 @@
 -- Each call has fewer tokens left, or passes the same ones to a later method of the cycle.
-use Rattle.std.proofs.Common.{◌≡◌, ◌+◌, ◌*◌, ◌≤◌, map, true}
+use Rattle.std.proofs.Common.{◌≡◌, ◌+◌, ◌*◌, ◌≤◌, map}
 use Rattle.fir_ast.specs.working.BundleText.{field_of}
 use Rattle.fir_ast.specs.View.{fields_of}
 use Rattle.fir_ast.specs.declared.place.Place.{Place}

@@ -1,4 +1,4 @@
-use Rattle.std.proofs.Common.{◌≡◌, ◌≤◌, ◌++◌, List, map, true}
+use Rattle.std.proofs.Common.{◌≡◌, ◌≤◌, ◌++◌, List, map}
 use Rattle.fir_ast.specs.declared.place.Place.{Place}
 use Rattle.fir_ast.specs.Statements.{MemoryPart}
 use Rattle.fir_ast.specs.View.{memory_part_of}

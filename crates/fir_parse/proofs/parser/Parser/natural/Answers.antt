@@ -1,4 +1,4 @@
-use Rattle.std.proofs.Common.{sym, ap, ◌∙◌, not, true}
+use Rattle.std.proofs.Common.{sym, ap, ◌∙◌, not}
 use Rattle.std.proofs.lemmas.Bool.{lt-ltb}
 use Rattle.fir_parse.specs.declared.lexeme.Lexeme.TheVariants.{Integer}
 use Rattle.fir_parse.specs.Lexemes.{integer}

@@ -1,4 +1,4 @@
-use Rattle.std.proofs.Common.{◌≡◌, ◌≤◌, map, true}
+use Rattle.std.proofs.Common.{◌≡◌, ◌≤◌, map}
 use Rattle.fir_ast.specs.declared.place.Place.{Place}
 use Rattle.fir_ast.specs.View.{port_of}
 use Rattle.fir_parse.specs.working.Reading.{read_on}

@@ -1,4 +1,4 @@
-use Rattle.std.proofs.Common.{true, map, sym, ap, ◌∙◌}
+use Rattle.std.proofs.Common.{map, sym, ap, ◌∙◌}
 use Rattle.fir_ast.specs.View.{block_of, stmt_of}
 use Rattle.fir_parse.specs.working.Reading.{read_on}
 use Rattle.fir_parse.specs.working.Reads.{rest}

@@ -1,4 +1,4 @@
-use Rattle.std.proofs.Common.{◌+◌, true, refl, sym, ap, ◌∙◌}
+use Rattle.std.proofs.Common.{◌+◌, refl, sym, ap, ◌∙◌}
 use Rattle.fir_ast.specs.Expressions.{Parts}
 use Rattle.fir_parse.specs.declared.lexeme.Mark.TheVariants.{Dot}
 use Rattle.fir_parse.specs.working.ExpressionRules.{dot_rest}

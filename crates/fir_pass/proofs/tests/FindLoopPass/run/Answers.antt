@@ -1,4 +1,4 @@
-use Rattle.std.proofs.Common.{◌≡◌, ℕ, zero, suc, ◌≤◌, Bool, true, false, refl, arith}
+use Rattle.std.proofs.Common.{◌≡◌, ℕ, zero, suc, ◌≤◌, Bool, true, false, arith}
 use Rattle.fir_pass.specs.Groups.{IsClear, group_at}
 use Rattle.fir_pass.specs.Law.{Keeps}
 use Rattle.fir_pass.specs.working.Sketches.{sketch_groups, sketch_meaning}
@@ -18,9 +18,9 @@ keeps unnamed false e = record {
   one = ((λ x. x), (λ x. x));
   clear = clear_unlooped unnamed;
   later = λ k past. record { shows = λ f. ((λ x. x), (λ x. x)); tells = λ f. ((λ x. x), (λ x. x)) };
-  shape = refl;
-  names = refl;
-  counts = refl;
+  shape = λ s. ((λ x. x), (λ x. x));
+  names = λ ns. ((λ x. x), (λ x. x));
+  counts = λ k. ((λ x. x), (λ x. x));
 }
 
 pub returns-clause-ok : goal.returns-clause-ok

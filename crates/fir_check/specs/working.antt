@@ -1,2 +1,0 @@
--- What no clause of `run` reads: laws.
-pub mod DrivenOutputs

@@ -1,0 +1,41 @@
+-- The name of each leaf is a word: its path begins with the name of what it is a leaf of, and goes on with steps of the type of that.
+use Rattle.std.proofs.Common.{Option, Some, None}
+use Rattle.std.specs.Prelude.{IfSome}
+use Rattle.std.specs.List.{AllByRecursion}
+use Rattle.fir_base.proofs.Each.{all_at, all_from}
+use Rattle.fir_base.proofs.Elements.{all_there, get_in}
+use Rattle.fir_ast.specs.Types.{DataType}
+use Rattle.fir_meaning.specs.Components.{Declarations}
+use Rattle.fir_meaning.specs.LeafMemories.{leaves_of_data}
+use Rattle.fir_meaning.specs.LeafModules.{LeafDeclared}
+use Rattle.fir_meaning.specs.LeafedModules.{module_leaves}
+use Rattle.fir_meaning.specs.SizedDeclarations.{numbered_modules}
+use Rattle.fir_meaning.specs.TypedScopes.{TypedScope}
+use Rattle.fir_meaning.specs.ComponentTypes.{typed_scope}
+use Rattle.fir_meaning.specs.Visibility.{declarations}
+use Rattle.fir_leaf.specs.working.TableLaws.{IsLeafOf, LeavesFollowTypes}
+use Rattle.fir_leaf.proofs.DeclaredLeaves.{own_module}
+use Rattle.fir_inst.specs.working.Words.{TypeHasWords, ModuleHasWords, IsWordLeaf, LeavesHaveWords}
+use Rattle.fir_inst.proofs.WordTexts.{word_path}
+use Rattle.fir_inst.proofs.TypeWords.{LeafHasWords, leaf_words}
+use Rattle.fir_inst.proofs.ExpressionWords.{KnownHasWords}
+use Rattle.fir_inst.proofs.ScopeWords.{scope_words}
+
+words_of_data : (o : Option DataType) → IfSome o TypeHasWords → AllByRecursion LeafHasWords (leaves_of_data o)
+words_of_data None h = tt
+words_of_data (Some t) h = leaf_words t h
+
+leaf_is_word : (scope : TypedScope) (ds : Declarations) (l : LeafDeclared) → AllByRecursion KnownHasWords scope → IsLeafOf scope ds l → IsWordLeaf l
+leaf_is_word scope ds l all h =
+    let k = all_there KnownHasWords scope all l.declaration h.known h.is_known in
+    let steps = all_at LeafHasWords (leaves_of_data h.known.data_type) (words_of_data h.known.data_type k.data_type) h.leaf h.among in
+    rw h.path (word_path h.known.name h.leaf.path k.name steps)
+
+pub leaves_are_words : LeavesFollowTypes → LeavesHaveWords
+leaves_are_words follow c module_number s words names types scene =
+    let own = get_in (numbered_modules c) module_number s.own scene.own in
+    let m = s.own.inside in
+    let module_has_words = all_at ModuleHasWords c.modules words.modules m (own_module c s.own own).inside in
+    let all = scope_words c.modules words.modules m module_has_words in
+    all_from IsWordLeaf (module_leaves s)
+    (λ l i. leaf_is_word (typed_scope c.modules (declarations m)) (declarations m) l all (follow c s names types own l i))

@@ -1,0 +1,83 @@
+-- What is known of a leaf of a flat net by what it holds and by its role alone: its width, whether it is a clock, and whether it is a port.
+use Rattle.std.proofs.Common.{◌≡◌, ℕ, ◌≤◌, Bool, true, false, List, refl, ap, ◌∙◌, subst, sym, lit≤}
+use Rattle.fir_bits.specs.declared.types.NumTy.{NumTy}
+use Rattle.fir_leaf_table.specs.declared.leaf.LeafType.{LeafType as TypeOfCode}
+use Rattle.fir_leaf_table.specs.declared.leaf.LeafType.TheVariants.{Clock, Number}
+use Rattle.fir_leaf_table.specs.working.Seen.{type_seen}
+use Rattle.fir_meaning.specs.LeafBlocks.{LeafBlock}
+use Rattle.fir_meaning.specs.LeafModules.{LeafModule, Role as LeafRole, a_clock, computed, number_type, register, sink, source}
+use Rattle.fir_connect.specs.working.NetRoles.{NetRole as RoleMeant, net_role, net_types}
+use Rattle.fir_connect.specs.working.NetRoles as meant
+use Rattle.fir_connect.specs.working.NetTerms.{NetTerm}
+use Rattle.fir_net.specs.declared.leaf.Leaf.{Leaf}
+use Rattle.fir_net.specs.declared.reads.Read.{Read}
+use Rattle.fir_net.specs.working.IsNet.{is_port}
+use Rattle.fir_net.specs.working.Settled.{is_clock}
+use Rattle.fir_merge.specs.declared.bound.Bound.{Bound}
+use Rattle.fir_leaf_types.specs.working.TypedTerms.{IsNarrow}
+use Rattle.fir_whens.specs.declared.net_role.NetRole.{NetRole}
+use Rattle.fir_whens.specs.declared.net_role.NetRole.TheVariants as code
+use Rattle.fir_inst.specs.working.FlatModules.{HasWidth}
+use Rattle.fir_inst.specs.working.FlatRoles.{driven_role, flat_role_of, width_of}
+use Rattle.fir_inst.specs.working.KeptNodes.{IsHeld}
+use Rattle.fir_inst.specs.working.LoneCircuits.{IsPortRole}
+use Rattle.fir_inst.proofs.GivenRoles.{IsGiven}
+
+driven_plain : (outer : Bool) (r : Read) → is_clock (driven_role outer r) ≡ false
+driven_plain true r = refl
+driven_plain false r = refl
+
+module _ (places : List ℕ) (outer : Bool) (count : ℕ) where
+  number_plain : (u : NumTy) (r : NetRole) → is_clock (flat_role_of places outer (Number u) r count) ≡ false
+  number_plain u code.Source = refl
+  number_plain u (code.Driven b) = driven_plain outer _
+  number_plain u (code.Computed b) = refl
+  number_plain u (code.Register clock reset next) = refl
+  number_plain u (code.Reading e) = refl
+  number_plain u (code.Pipe e clock under) = refl
+
+  module _ (l : Leaf) (r : NetRole) where
+    pub has_width : (holds : TypeOfCode) → l.signed ≡ (width_of holds).signed → l.width ≡ (width_of holds).width → HasWidth l (type_seen holds)
+    has_width (Number u) signed width = (signed, width)
+    has_width Clock signed width = (signed, width)
+
+    pub is_narrow : (holds : TypeOfCode) → l.width ≡ (width_of holds).width → IsNarrow (type_seen holds) → l.width ≤ 128
+    is_narrow (Number u) width narrow = subst (λ w. w ≤ 128) (sym width) narrow
+    is_narrow Clock width narrow = subst (λ w. w ≤ 128) (sym width) (lit≤ tt)
+
+    pub is_held : (holds : TypeOfCode) → l.signed ≡ (width_of holds).signed → l.width ≡ (width_of holds).width
+        → l.role ≡ flat_role_of places outer holds r count → IsNarrow (type_seen holds) → IsHeld l (type_seen holds)
+    is_held (Number u) signed width role narrow =
+        (signed, width, subst (λ w. w ≤ 128) (sym width) narrow, ap is_clock role ∙ number_plain u r)
+    is_held Clock signed width role narrow = tt
+
+  module _ (m : LeafModule) (Stands : Bound → NetTerm → Type 0) where
+    pub clock_ticks : (holds : TypeOfCode) (r : NetRole) (q : RoleMeant) → type_seen holds ≡ a_clock → IsGiven m Stands holds r q
+        → is_clock (flat_role_of places outer holds r count) ≡ true
+    clock_ticks (Number u) r q e is = cc
+    clock_ticks Clock code.Source meant.source e is = refl
+    clock_ticks Clock r q e is = absurd is
+
+    module _ (depth : ℕ) (b : LeafBlock) (x : ℕ) where
+      abbrev GivenBy : TypeOfCode → NetRole → LeafRole → Type 0
+      GivenBy holds r q = IsGiven m Stands holds r (net_role (net_types m) depth b x q)
+
+      -- leaves of ports
+      pub outer_port : (holds : TypeOfCode) (r : NetRole) (q : LeafRole) → IsPortRole q → GivenBy holds r q
+          → is_port (flat_role_of places true holds r count) ≡ true
+      outer_port Clock code.Source source port is = refl
+      outer_port (Number u) code.Source source port is = refl
+      outer_port (Number u) (code.Driven d) sink port is = refl
+      outer_port holds r source port is = absurd is
+      outer_port holds r sink port is = absurd is
+      outer_port holds r q port is = absurd port
+
+      -- the others
+      pub inner_port : (holds : TypeOfCode) (r : NetRole) (q : LeafRole) → (q ≡ source → ⊥) → GivenBy holds r q
+          → is_port (flat_role_of places false holds r count) ≡ false
+      inner_port Clock code.Source source none is = absurd (none refl)
+      inner_port (Number u) code.Source source none is = absurd (none refl)
+      inner_port (Number u) (code.Driven d) sink none is = refl
+      inner_port (Number u) (code.Computed d) (computed t) none is = refl
+      inner_port (Number u) (code.Register clock reset next) (register c p) none is = refl
+      inner_port holds r q none is = absurd is

@@ -1,0 +1,2 @@
+pub mod SourceRows
+pub mod working

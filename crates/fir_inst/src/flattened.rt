@@ -1,0 +1,57 @@
+//! From a circuit with the nets of its modules to its flat net.
+
+ghost use Rattle.std.specs.Prelude.{◌≡◌, IfOk};
+ghost use Rattle.fir_ast.specs.View.{circuit_of};
+ghost use Rattle.fir_pass.specs.Faults.{fault_of};
+ghost use Rattle.fir_pass.specs.Law.{IfFault, IsFirst};
+ghost use Rattle.fir_meaning.specs.SourceMeaning.{circuit_meaning};
+ghost use Rattle.fir_inst.specs.working.FlattensTo.{FlattensTo};
+ghost use Rattle.fir_inst.specs.working.LoneCircuits.{IsLone};
+ghost use Rattle.fir_inst.specs.working.Words.{HasWords};
+
+use crate::flat_module::flat_module;
+use crate::laws::{leaves_have_words, lone_modules_flatten};
+use fir_ast::FirFault;
+use fir_base::{MemoryOut, Refused};
+use fir_flat::modules_are_within;
+use fir_leaf_text::leaf_texts;
+use fir_net::FlatNet;
+use fir_whens::{NetCircuit, modules_are_typed};
+use std::alloc::Global;
+
+/// The flat net of a circuit of one module. It allows at every tick what the circuit's source allows, with its names
+/// (FIRRTL spec, "Circuits"); or else the first fault of E25 to E27, of which none can be shown yet.
+pub fn flatten(
+    alloc: Global,
+    circuit: NetCircuit,
+) -> Result<FlatNet, Refused<(FirFault, NetCircuit)>>
+    requires lone { IsLone (circuit_of circuit) }
+    requires words { HasWords (circuit_of circuit) }
+    ensures flat { IfOk result (FlattensTo (circuit_of circuit)) }
+    ensures fault { IfFault result (λ f. IsFirst 10 12 (circuit_meaning (circuit_of circuit)) (fault_of f.0)) }
+    ensures back { IfFault result (λ f. f.1 ≡ circuit) }
+{
+    Ok(flat_net(alloc, &circuit)?)
+}
+
+/// The flat net of the first module.
+fn flat_net(alloc: Global, circuit: &NetCircuit) -> Result<FlatNet, MemoryOut>
+    requires lone { IsLone (circuit_of circuit.now) }
+    requires words { HasWords (circuit_of circuit.now) }
+    ensures { IfOk result (FlattensTo (circuit_of circuit.now)) }
+{
+    lone_modules_flatten();
+    leaves_have_words();
+    modules_are_within();
+    let leafed = circuit.leafed();
+    modules_are_typed(leafed);
+    let modules = leafed.modules();
+    let nets = circuit.nets();
+    let typed = leafed.fitted().typed();
+    let named = typed.named();
+    let tree = named.circuit();
+    let _order = named.module_order();
+    let name = tree.ident.name.copy(alloc)?;
+    let names = leaf_texts(alloc, leafed, 0)?;
+    flat_module(alloc, name, names, &modules[0], &nets[0])
+}

@@ -1,0 +1,12 @@
+pub mod MarkSteps
+pub mod Searches
+pub mod NamedParts
+pub mod LackParts
+pub mod QuietBlocks
+pub mod NoArrays
+pub mod UnmarkedLeaves
+pub mod PlainRoles
+pub mod PlainLeaves
+pub mod LoneCircuits
+pub mod FoundLacks
+pub mod PlainClocks

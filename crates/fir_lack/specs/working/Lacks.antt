@@ -1,0 +1,22 @@
+-- A lacking form in the code, as the definitions see it: what is told is the first one, whatever scene the first module has; and where none is told, the
+-- circuit is one that is flattened so far.
+use Rattle.std.specs.Prelude.{◌≡◌, Option, Some, None, option_map}
+use Rattle.fir_ast.specs.Circuits.{CircuitTree}
+use Rattle.fir_meaning.specs.Lack.{Lack}
+use Rattle.fir_meaning.specs.LeafedModules.{Scene}
+use Rattle.fir_meaning.specs.Scenes.{IsSceneOf}
+use Rattle.fir_inst.specs.working.LoneCircuits.{IsLone}
+use Rattle.fir_lack.specs.declared.lack.Lack.{Lack as LackOfCode}
+use Rattle.fir_lack.specs.Lacking.{lacking}
+
+abbrev pub lack_of : LackOfCode → Lack
+lack_of l = record { place = l.place; word = l.word.now }
+
+-- the first form that a circuit lacks
+abbrev pub IsLack : CircuitTree → Option LackOfCode → Type 0
+IsLack c l = (s : Scene) → IsSceneOf c 0 s → option_map lack_of l ≡ lacking c s
+
+-- a circuit that lacks none is flattened so far
+abbrev pub IsLoneWithout : CircuitTree → Option LackOfCode → Type 0
+IsLoneWithout c None = IsLone c
+IsLoneWithout c (Some l) = Unit {0}

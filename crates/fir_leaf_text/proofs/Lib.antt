@@ -1,0 +1,14 @@
+pub mod SearchedNames
+pub mod ModuleNames
+pub mod FieldsSought
+pub mod FieldsOfLeaves
+pub mod PathSteps
+pub mod TypeTexts
+pub mod NumberedLeaves
+pub mod NamedDeclarations
+pub mod PlacedLeaves
+pub mod SceneLeaves
+pub mod DeclaredTexts
+pub mod SeenNumbers
+pub mod LeafTexts
+pub mod AllTexts

@@ -1,2 +1,0 @@
-pub mod CircuitRows
-pub mod working

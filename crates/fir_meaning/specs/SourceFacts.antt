@@ -1,0 +1,38 @@
+-- What the declarations of a module say of a leaf, by its path in the module: how many whens stand round its declaration, and whether statements may drive it
+-- (FIRRTL spec, "Conditional Scopes", "Flow").
+use Rattle.std.specs.Prelude.{ℕ, zero, List, [], ◌∷◌, not, Bool, false, if◌then◌else◌, Option, Some, None}
+use Rattle.fir_meaning.specs.LeafPaths.{LeafPath, named}
+use Rattle.fir_meaning.specs.Components.{Declaration, find}
+use Rattle.fir_meaning.specs.ComponentTypes.{typed_scope}
+use Rattle.fir_meaning.specs.Flows.{Flow, flow_under, is_source}
+use Rattle.fir_meaning.specs.TypeLeaves.{TypeLeaf}
+use Rattle.fir_meaning.specs.TypedScopes.{Known, known}
+use Rattle.fir_meaning.specs.Visibility.{declarations}
+use Rattle.fir_meaning.specs.LeafMemories.{leaves_of_data}
+use Rattle.fir_meaning.specs.LeafedModules.{Scene}
+use Rattle.fir_meaning.specs.TreeStores.{same_path}
+
+abbrev pub depth_of : Option Declaration → ℕ
+depth_of None = zero
+depth_of (Some d) = d.depth
+
+abbrev pub source_depth : Scene → LeafPath → ℕ
+source_depth s (named x ∷ path) = depth_of (find (declarations s.own.inside) x)
+source_depth s _ = zero
+
+-- whether a leaf of a type is flipped, by its path
+abbrev pub flip_on : List TypeLeaf → LeafPath → Option Bool
+flip_on [] path = None
+flip_on (l ∷ ls) path = if same_path l.path path then Some l.flip else flip_on ls path
+
+abbrev pub driven_under : Flow → Option Bool → Bool
+driven_under flow None = false
+driven_under flow (Some flip) = not (is_source (flow_under flip flow))
+
+abbrev pub driven_of : Option Known → LeafPath → Bool
+driven_of None path = false
+driven_of (Some k) path = driven_under k.flow (flip_on (leaves_of_data k.data_type) path)
+
+abbrev pub source_may_drive : Scene → LeafPath → Bool
+source_may_drive s (named x ∷ path) = driven_of (known (typed_scope s.own.modules (declarations s.own.inside)) x) path
+source_may_drive s _ = false
