@@ -6,7 +6,7 @@ and else the first token with which no text of the grammar goes on (grammar_rule
 deep forms are nested (nesting_rules.py). Of a text of the grammar it tells the first fault of its
 circuit, or else the first form that firc lacks (readings.py).
 
-    grammar.py table     writes the tables of small texts that tests of fir_tests read
+    grammar.py table     writes the tables of small texts that tests of fir_parse_tests read
     grammar.py check     sees that those tables say of each text what this grammar says, that they
                          use each production, and that the rows of `emit` say so too; those that
                          do not are listed
@@ -32,7 +32,7 @@ from nesting_rules import nesting_fault
 from readings import Reading
 
 ROOT = pathlib.Path(__file__).resolve().parent.parent
-TESTS = ROOT / "crates/fir_tests/src/trees"
+TESTS = ROOT / "crates/fir_parse_tests/src/trees"
 ROWS = ROOT / "checks/rows"
 
 FORMS = FORMS_OF_STATEMENTS + FORMS_OF_EXPRESSIONS
@@ -56,7 +56,7 @@ def table():
         lines += ["pub const ROWS: &[(&[u8], &[u8])] = &["]
         lines += [f"    ({quoted(text)}, {quoted(Tree(text).form)})," for text in texts]
         (TESTS / f"{name}.rt").write_text("\n".join(lines + ["];", ""]))
-    print("written; rt fmt in crates/fir_tests sets their lines")
+    print("written; rt fmt in crates/fir_parse_tests sets their lines")
 
 
 def strings(path):

@@ -1,4 +1,4 @@
-"""The small texts that tests of fir_tests read: each form of the grammar once."""
+"""The small texts that tests of fir_parse_tests read: each form of the grammar once."""
 
 HEAD = "circuit T :\n  module M :\n"
 

@@ -1,6 +1,7 @@
 pub mod FirstChoices
 pub mod DrivenMisses
 pub mod AmongLeaves
+pub mod DrivenLeaves
 pub mod FlagSteps
 pub mod MarkedLeaves
 pub mod JoinedLists

@@ -20,6 +20,7 @@ use Rattle.fir_driver.specs.Runs.{RunsOnce}
 use Rattle.fir_driver.specs.Sources.{SourceAllows}
 use Rattle.fir_driver.proofs.AllRuns.{Includes, same_once, same_runs}
 use Rattle.fir_driver.proofs.SourceRuns.{from_net, source_one, source_runs_once, to_net}
+use Rattle.fir_driver.proofs.TakenBlocks.{blocks_are}
 
 module _ (types : NodesHaveTheirTypes) (c : CircuitTree) (net : FlatNet) (flat : FlattensTo c net) (one : NetOne net) (v : Verilog) (made : Builds net v) where
   module _ (t : SourceDesign) (is : IsSourceOf c t) where
@@ -59,6 +60,7 @@ module _ (types : NodesHaveTheirTypes) (c : CircuitTree) (net : FlatNet) (flat :
   pub compiles : Compiles c v
   compiles = record {
     arranged = made.arranged;
+    driven = λ s scene. blocks_are net flat.clocked made.arranged.driven made.driven ∙ flat.taken s scene;
     valid = made.valid;
     v_one = made.one;
     v_runs_once = v_runs_once flat.source flat.is_source;

@@ -2,6 +2,7 @@ pub mod ClearGroups
 pub mod OneScene
 pub mod CheckedTrees
 pub mod Taken
+pub mod TakenBlocks
 pub mod WordPieces
 pub mod TypesKeepWords
 pub mod ExpressionsKeepWords

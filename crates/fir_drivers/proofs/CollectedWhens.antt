@@ -8,7 +8,7 @@ use Rattle.fir_meaning.specs.LeafBlocks.{LeafBlock, when}
 use Rattle.fir_meaning.specs.UndrivenChoices.{drives, drives_any}
 use Rattle.fir_driven.specs.working.Covering.{depth_in}
 use Rattle.fir_drivers.specs.working.TargetLists.{Collects, ListsTargets, StacksBlock, StacksStatement, TakesOuter}
-use Rattle.fir_drivers.proofs.DrivenLeaves.{among_both}
+use Rattle.fir_driven.proofs.AmongLeaves.{among_both}
 
 either_listed : (second both one two : Bool) → second ≡ (false || two) → both ≡ (second || one) → both ≡ (one || two)
 either_listed second both one two h k = grind arith

@@ -9,8 +9,8 @@ ghost use Rattle.fir_meaning.specs.TermReads.{is_among};
 ghost use Rattle.fir_meaning.specs.UndrivenChoices.{drives, drives_any};
 
 use fir_base::MemoryOut;
-use fir_driven::{depth_of, move_marked, reached_leaves, set_flag};
-use fir_leaf::{Drive, LeafStmt, LeafWhen, Node};
+use fir_driven::{depth_of, list_drive, move_marked, set_flag};
+use fir_leaf::{LeafStmt, LeafWhen, Node};
 use std::alloc::Global;
 
 /// The lists of all whens of a block, where those of the last statement come first, and in a when those of its second
@@ -77,26 +77,12 @@ fn collect(
     ensures { OnOk result (AreUnmarked depths.now marks.old.items → Collects depths.now depth (λ x. drives x (statement_in nodes.now statement.now)) (StacksStatement depths.now (statement_in nodes.now statement.now) depth) marks.new.items (map (λ v. v.items) lists.old.items) (map (λ v. v.items) lists.new.items) driven.old.items driven.new.items) }
 {
     match statement {
-        LeafStmt::Drive(drive) => collect_drive(alloc, nodes, drive, driven),
+        LeafStmt::Drive(drive) => list_drive(alloc, nodes, drive, driven),
         LeafStmt::When(when) => {
             collect_when(when, alloc, depths, nodes, depth, marks, lists, driven)
         }
         LeafStmt::Instance(_) => Ok(()),
     }
-}
-
-/// The leaves that the statement may drive.
-fn collect_drive(
-    alloc: Global,
-    nodes: &[Node],
-    drive: &Drive,
-    driven: &mut Vec<usize>,
-) -> Result<(), MemoryOut>
-    ensures { OnOk result ((x : ℕ) → is_among driven.new.items x ≡ (is_among driven.old.items x || drives x (statement_in nodes.now (code.Drive drive.now)))) }
-{
-    let leaves = reached_leaves(alloc, nodes, drive.leaf, drive.picks)?;
-    driven.extend_from_slice(&leaves)?;
-    Ok(())
 }
 
 /// The lists of a when, and the leaves that it chooses for.

@@ -35,28 +35,28 @@ driven_plain x r (inl e) = ap is_clock e
 driven_plain x r (inr e) = ap is_clock e
 
 -- a leaf of the net is a clock where that of the circuit holds one
-clock_kind : (net : FlatNet) (holds : Holds) (x : Role) (h : LeafType) (n : NetRole) → IsRoleOf net holds x h n → is_clock x ≡ holds_clock h
-clock_kind net holds x (number t) source is = ap is_clock is
-clock_kind net holds x (number t) (driven d) is = driven_plain x is.0 is.1
-clock_kind net holds x (number t) (computed d) is = ap is_clock is.1
-clock_kind net holds x (number t) (register c reset d) is = ap is_clock is.3
-clock_kind net holds x (number t) (reading e) is = absurd is
-clock_kind net holds x (number t) (pipe e c u) is = absurd is
-clock_kind net holds x a_clock source is = ap is_clock is
-clock_kind net holds x a_clock (driven d) is = absurd is
-clock_kind net holds x a_clock (computed d) is = absurd is
-clock_kind net holds x a_clock (register c reset d) is = absurd is
-clock_kind net holds x a_clock (reading e) is = absurd is
-clock_kind net holds x a_clock (pipe e c u) is = absurd is
+clock_kind : (net : FlatNet) (holds : Holds) (k : ℕ) (x : Role) (h : LeafType) (n : NetRole) → IsRoleOf net holds k x h n → is_clock x ≡ holds_clock h
+clock_kind net holds k x (number t) source is = ap is_clock is
+clock_kind net holds k x (number t) (driven d) is = driven_plain x is.0 is.1
+clock_kind net holds k x (number t) (computed d) is = ap is_clock is.1
+clock_kind net holds k x (number t) (register c reset d) is = ap is_clock is.3
+clock_kind net holds k x (number t) (reading e) is = absurd is
+clock_kind net holds k x (number t) (pipe e c u) is = absurd is
+clock_kind net holds k x a_clock source is = ap is_clock is
+clock_kind net holds k x a_clock (driven d) is = absurd is
+clock_kind net holds k x a_clock (computed d) is = absurd is
+clock_kind net holds k x a_clock (register c reset d) is = absurd is
+clock_kind net holds k x a_clock (reading e) is = absurd is
+clock_kind net holds k x a_clock (pipe e c u) is = absurd is
 
 -- what holds a clock is an input
-clock_role : (net : FlatNet) (holds : Holds) (x : Role) (n : NetRole) → IsRoleOf net holds x a_clock n → x ≡ role.Clock
-clock_role net holds x source is = is
-clock_role net holds x (driven d) is = absurd is
-clock_role net holds x (computed d) is = absurd is
-clock_role net holds x (register c reset d) is = absurd is
-clock_role net holds x (reading e) is = absurd is
-clock_role net holds x (pipe e c u) is = absurd is
+clock_role : (net : FlatNet) (holds : Holds) (k : ℕ) (x : Role) (n : NetRole) → IsRoleOf net holds k x a_clock n → x ≡ role.Clock
+clock_role net holds k x source is = is
+clock_role net holds k x (driven d) is = absurd is
+clock_role net holds k x (computed d) is = absurd is
+clock_role net holds k x (register c reset d) is = absurd is
+clock_role net holds k x (reading e) is = absurd is
+clock_role net holds k x (pipe e c u) is = absurd is
 
 type_is : (l : Leaf) (h : LeafType) → holds_clock h ≡ false → HasType l h → net_values.type_of_leaf l ≡ number_type h
 type_is l (number t) plain has = ap (λ (s : Bool). record { signed = s; width = l.width }) has.0 ∙ ap (λ (w : ℕ). record { signed = t.signed; width = w }) has.1
@@ -125,7 +125,7 @@ module _ (c : LeafCircuit) (net : FlatNet) (flat : IsFlatOf c net) where
   leaf_inside x l at = let count = flat.count in let inside = slice_get_within net.leaves x l at in omega (arith, inside, count)
 
   pub kind_at : (x : ℕ) (l : Leaf) → slice_get net.leaves x ≡ Some l → is_clock l.role ≡ holds_clock (leaf_at c.leaves x).holds
-  kind_at x l at = clock_kind net (net_types (as_module c)) l.role (leaf_at c.leaves x).holds (net_role_at (as_module c) x) (flat.roles x l at)
+  kind_at x l at = clock_kind net (net_types (as_module c)) x l.role (leaf_at c.leaves x).holds (net_role_at (as_module c) x) (flat.roles x l at)
 
   pub number_at : (x : ℕ) (l : Leaf) → slice_get net.leaves x ≡ Some l → is_clock l.role ≡ false → (t : NumTy) × ((leaf_at c.leaves x).holds ≡ number t)
   number_at x l at plain = number_is (leaf_at c.leaves x).holds (sym (kind_at x l at) ∙ plain)
@@ -139,9 +139,9 @@ module _ (c : LeafCircuit) (net : FlatNet) (flat : IsFlatOf c net) where
   pub clock_input_at : (x : ℕ) (l : Leaf) → slice_get net.leaves x ≡ Some l → (leaf_at c.leaves x).holds ≡ a_clock → l.role ≡ role.Clock
   clock_input_at x l at is = by (leaf_at c.leaves x).holds is (flat.roles x l at)
     where
-      by : (h : LeafType) → h ≡ a_clock → IsRoleOf net (net_types (as_module c)) l.role h (net_role_at (as_module c) x) → l.role ≡ role.Clock
+      by : (h : LeafType) → h ≡ a_clock → IsRoleOf net (net_types (as_module c)) x l.role h (net_role_at (as_module c) x) → l.role ≡ role.Clock
       by (number t) e has = cc
-      by a_clock e has = clock_role net (net_types (as_module c)) l.role (net_role_at (as_module c) x) has
+      by a_clock e has = clock_role net (net_types (as_module c)) x l.role (net_role_at (as_module c) x) has
 
   -- a leaf in such a list
   pub plain_at : (listed : Role → ℕ → ℕ → List ℕ) → ArePlain listed → (n x : ℕ) → slice_get (numbers_by listed 0 net.leaves) n ≡ Some x

@@ -97,19 +97,19 @@ module _ (net : FlatNet) where
   driven_stands x r (inl e) = ap (λ (y : Role). stand_for (role_reads y)) e
   driven_stands x r (inr e) = ap (λ (y : Role). stand_for (role_reads y)) e
 
-  role_stands : (holds : Holds) (x : Role) (h : LeafType) (n : NetRole) → IsRoleOf net holds x h n → stand_for (role_reads x) ≡ hanging n
-  role_stands holds x (number t) source is = ap (λ (y : Role). stand_for (role_reads y)) is
-  role_stands holds x (number t) (driven d) is = driven_stands x is.0 is.1 ∙ ap (λ e. term e no_terms) is.2
-  role_stands holds x (number t) (computed d) is = driven_stands x is.0 (inr is.1) ∙ ap (λ e. term e no_terms) is.2
-  role_stands holds x (number t) (register c reset d) is = ap (λ (y : Role). stand_for (role_reads y)) is.3 ∙ reset_stands is.1 reset (is_kept is.1 reset is.5)
-  role_stands holds x (number t) (reading e) is = absurd is
-  role_stands holds x (number t) (pipe e c u) is = absurd is
-  role_stands holds x a_clock source is = ap (λ (y : Role). stand_for (role_reads y)) is
-  role_stands holds x a_clock (driven d) is = absurd is
-  role_stands holds x a_clock (computed d) is = absurd is
-  role_stands holds x a_clock (register c reset d) is = absurd is
-  role_stands holds x a_clock (reading e) is = absurd is
-  role_stands holds x a_clock (pipe e c u) is = absurd is
+  role_stands : (holds : Holds) (k : ℕ) (x : Role) (h : LeafType) (n : NetRole) → IsRoleOf net holds k x h n → stand_for (role_reads x) ≡ hanging n
+  role_stands holds k x (number t) source is = ap (λ (y : Role). stand_for (role_reads y)) is
+  role_stands holds k x (number t) (driven d) is = driven_stands x is.0 is.1 ∙ ap (λ e. term e no_terms) is.2
+  role_stands holds k x (number t) (computed d) is = driven_stands x is.0 (inr is.1) ∙ ap (λ e. term e no_terms) is.2
+  role_stands holds k x (number t) (register c reset d) is = ap (λ (y : Role). stand_for (role_reads y)) is.3 ∙ reset_stands is.1 reset (is_kept is.1 reset is.5)
+  role_stands holds k x (number t) (reading e) is = absurd is
+  role_stands holds k x (number t) (pipe e c u) is = absurd is
+  role_stands holds k x a_clock source is = ap (λ (y : Role). stand_for (role_reads y)) is
+  role_stands holds k x a_clock (driven d) is = absurd is
+  role_stands holds k x a_clock (computed d) is = absurd is
+  role_stands holds k x a_clock (register c reset d) is = absurd is
+  role_stands holds k x a_clock (reading e) is = absurd is
+  role_stands holds k x a_clock (pipe e c u) is = absurd is
 
 -- and these read what the leaf of the circuit depends on
 joined : (xs ys zs ws : List ℕ) (y : ℕ) → In xs y ↔ In zs y → In ys y ↔ In ws y → In (xs ++ ys) y ↔ In (zs ++ ws) y
@@ -166,7 +166,7 @@ module _ (c : LeafCircuit) (net : FlatNet) (whole : IsNet net) (flat : IsFlatOf 
   hangs_there l at =
       let stands : stand_for net (reads_of net (read.Leaf x)) ≡ hanging (net_role_at (as_module c) x) =
       ap (λ (o : Option Leaf). stand_for net (leaf_reads o)) at
-      ∙ role_stands net (net_types (as_module c)) l.role (leaf_at c.leaves x).holds (net_role_at (as_module c) x) (flat.roles x l at)
+      ∙ role_stands net (net_types (as_module c)) x l.role (leaf_at c.leaves x).holds (net_role_at (as_module c) x) (flat.roles x l at)
       in
       subst (λ (ts : NetTerms). In (each_read ts) y ↔ CircuitDepends c x y) (sym stands)
       (role_depends (as_module c) x y (role_of c x) (roles_read_the_same (as_module c) x))

@@ -20,7 +20,7 @@ use Rattle.fir_net.specs.declared.leaf.Role.TheVariants as role
 use Rattle.fir_net.specs.declared.net.FlatNet.{FlatNet}
 use Rattle.fir_net.specs.declared.reads.Read.{Read}
 use Rattle.fir_net.specs.working.IsNet.{IsRole}
-use Rattle.fir_net.specs.working.Next.{next, next_by, next_of, next_word, ticks}
+use Rattle.fir_net.specs.working.Next.{next, next_by, next_of, next_word, taken, ticks}
 use Rattle.fir_net.specs.working.Settled.{is_clock, register_number, registers}
 use Rattle.fir_net.proofs.LeafEquations.{driven_at}
 use Rattle.fir_net.proofs.NumberedLeaves as numbered
@@ -55,7 +55,7 @@ module _ (law : HasItsType) (c : LeafCircuit) (net : FlatNet) (faithful : IsFait
     module _ (y : Role) (can : IsRole net.leaves net.nodes l.signed l.width y) (d : Register) (is_register : y ≡ role.Register d) where
       follows_by_role : (h : LeafType) → (leaf_at c.leaves x).holds ≡ h → (r : leafed.Role)
           → Gives (as_module c) env.numbers env.clocks x h r (net_role (net_types (as_module c)) (depth_of c x) c.body x r)
-          → IsRoleOf net (net_types (as_module c)) y h (net_role (net_types (as_module c)) (depth_of c x) c.body x r) → HasType l h → role_of c x ≡ r
+          → IsRoleOf net (net_types (as_module c)) x y h (net_role (net_types (as_module c)) (depth_of c x) c.body x r) → HasType l h → role_of c x ≡ r
           → word_next c state tick.clocks env x r ≡ next_by net e f tick.clocks l.width (e x) y
       follows_by_role a_clock held leafed.source worths is has named = cc
       follows_by_role a_clock held leafed.sink worths is has named = absurd is
@@ -80,10 +80,11 @@ module _ (law : HasItsType) (c : LeafCircuit) (net : FlatNet) (faithful : IsFait
           let now : e x ≡ register_shown c env x reset word = beside.numbers.values x l at plain ∙ sym (same_Some _ _ shown) in
           let clock_is : clock_of (type_of_leaf c) env clock ≡ f is.0 =
           worths.0 ∙ ap (term_clock (type_of_leaf c) env.numbers env.clocks) is.4 ∙ sym (beside.clocks is.0 role_can.0.0 role_can.0.1 role_can.0.2) in
-          word_follows law c net faithful env e beside.numbers x l at wide is.2 role_can.2.can d worths.2
-          (has_edge tick.clocks (clock_of (type_of_leaf c) env clock)) word reset _ is.1 worths.1 is.5 is.6 role_can.1 now
-          ∙ ap (λ (o : Option ℕ). follows net e l.width (e x) is.1 is.2 (has_edge tick.clocks o)) clock_is
-          ∙ ap (follows net e l.width (e x) is.1 is.2) (edge_is tick.clocks (f is.0))
+          let given = taken net e l.width (e x) is.2 in
+          word_follows law c net faithful env e beside.numbers x l at plain wide d worths.2 (has_edge tick.clocks (clock_of (type_of_leaf c) env clock)) word
+          is.2 role_can.2 reset _ is.1 worths.1 is.5 is.6 role_can.1 now
+          ∙ ap (λ (o : Option ℕ). follows net e l.width (e x) is.1 given (has_edge tick.clocks o)) clock_is
+          ∙ ap (follows net e l.width (e x) is.1 given) (edge_is tick.clocks (f is.0))
           ∙ ap (next_by net e f tick.clocks l.width (e x)) (sym is.3)
       follows_by_role (number t) held (leafed.reading r) worths is has named = absurd is
       follows_by_role (number t) held (leafed.pipe r clock under) worths is has named = absurd is

@@ -34,7 +34,7 @@ use Rattle.fir_flat.proofs.ShownValues.{leaves_fit, number_shown_is}
 
 -- a leaf that holds a clock is a source
 clock_source : (c : LeafCircuit) (net : FlatNet) (x : ℕ) (y : Role) (r : leafed.Role)
-    → IsRoleOf net (net_types (as_module c)) y a_clock (net_role (net_types (as_module c)) (depth_of c x) c.body x r) → r ≡ leafed.source
+    → IsRoleOf net (net_types (as_module c)) x y a_clock (net_role (net_types (as_module c)) (depth_of c x) c.body x r) → r ≡ leafed.source
 clock_source c net x y leafed.source is = refl
 clock_source c net x y leafed.sink is = absurd is
 clock_source c net x y (leafed.computed t) is = absurd is
@@ -46,7 +46,7 @@ module _ (c : LeafCircuit) (net : FlatNet) (faithful : IsFaithful c net) where
   source_at : (x : ℕ) (l : Leaf) → slice_get net.leaves x ≡ Some l → (h : LeafType) → (leaf_at c.leaves x).holds ≡ h → h ≡ a_clock → role_of c x ≡ leafed.source
   source_at x l at h is clock =
       clock_source c net x l.role (role_of c x)
-      (subst (λ (k : LeafType). IsRoleOf net (net_types (as_module c)) l.role k (net_role (net_types (as_module c)) (depth_of c x) c.body x (role_of c x)))
+      (subst (λ (k : LeafType). IsRoleOf net (net_types (as_module c)) x l.role k (net_role (net_types (as_module c)) (depth_of c x) c.body x (role_of c x)))
       (is ∙ clock) (faithful.flat.roles x l at))
 
   -- a clock input shows its number

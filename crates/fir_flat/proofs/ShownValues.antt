@@ -135,7 +135,7 @@ module _ (c : LeafCircuit) (net : FlatNet) (faithful : IsFaithful c net) (env : 
         -- by what it holds and its role
         shown_by_role : (h : LeafType) → (leaf_at c.leaves x).holds ≡ h → (r : leafed.Role)
             → Gives (as_module c) env.numbers env.clocks x h r (net_role (net_types (as_module c)) (depth_of c x) c.body x r)
-            → IsRoleOf net (net_types (as_module c)) y h (net_role (net_types (as_module c)) (depth_of c x) c.body x r) → HasType l h
+            → IsRoleOf net (net_types (as_module c)) x y h (net_role (net_types (as_module c)) (depth_of c x) c.body x r) → HasType l h
             → IsRoleTyped (held_in (as_module c)) h r → holds_clock h ≡ false
             → number_shown c state tick.inputs env x r ≡ Some (role_value net state tick e x l.width y)
         shown_by_role a_clock held r worths is has typed plain = cc

@@ -6,7 +6,7 @@ use Rattle.fir_meaning.specs.LeafBlocks.{LeafBlock}
 use Rattle.fir_meaning.specs.LeafCircuits.{LeafCircuit}
 use Rattle.fir_meaning.specs.LeafModules.{LeafDeclared, LeafModule, LeafType, a_clock, depth_at, is_sink, leaf_at, number, role_at}
 use Rattle.fir_meaning.specs.LeafPaths.{path_text}
-use Rattle.fir_meaning.specs.StateWalks.{has_bits, is_state}
+use Rattle.fir_meaning.specs.StateWalks.{has_bits, is_state, numbers_where}
 use Rattle.fir_meaning.specs.UndrivenLeaves.{AreDriven}
 use Rattle.fir_leaf_types.specs.working.TypedModules.{IsModuleTyped, held_in}
 use Rattle.fir_connect.specs.working.NetRoles.{net_role_at, net_types}
@@ -59,8 +59,8 @@ pub record IsLoneNet (c : LeafCircuit) (ports : ℕ) (net : FlatNet) : Type 0 wh
   pub outer : (x : ℕ) (l : Leaf) → slice_get net.leaves x ≡ Some l → x < ports → is_port l.role ≡ true
   pub inner : (x : ℕ) (l : Leaf) → slice_get net.leaves x ≡ Some l → ports ≤ x → is_port l.role ≡ false
 
-module _ (m : LeafModule) (c : LeafCircuit) (net : FlatNet) (lone : IsLoneModule m) (is : IsCircuitOf m c) (flat : IsFlatModule m net) where
-  leaf_lone : (x : ℕ) (l : Leaf) → slice_get net.leaves x ≡ Some l → IsLoneLeaf (leaf_at m.leaves x) l
+module _ (m : LeafModule) (net : FlatNet) (lone : IsLoneModule m) (flat : IsFlatModule m net) where
+  pub leaf_lone : (x : ℕ) (l : Leaf) → slice_get net.leaves x ≡ Some l → IsLoneLeaf (leaf_at m.leaves x) l
   leaf_lone x l at =
       let count = flat.count in
       let inside = slice_get_within net.leaves x l at in
@@ -71,17 +71,23 @@ module _ (m : LeafModule) (c : LeafCircuit) (net : FlatNet) (lone : IsLoneModule
         width = width_is l (held_in m x) (flat.each x l at).has_width;
       }
 
+  pub registers_are : registers net ≡ numbers_where (λ (l : LeafDeclared). is_state l.role && has_bits l.holds) 0 m.leaves
+  registers_are =
+      numbers_all register_number (λ (l : LeafDeclared). is_state l.role && has_bits l.holds) net.leaves m.leaves flat.count
+      (λ x k l at. let own = leaf_lone x l at in word_given l.role l.width k (held_in m x) (role_at m x) own.shaped own.width)
+
+module _ (m : LeafModule) (c : LeafCircuit) (net : FlatNet) (lone : IsLoneModule m) (is : IsCircuitOf m c) (flat : IsFlatModule m net) where
   inputs_are : inputs net ≡ c.inputs
   inputs_are =
       numbers_taken input_number (λ (l : LeafDeclared). is_input l.role && has_bits l.holds) m.port_leaves 0 net.leaves m.leaves flat.count
-      (λ x k l at lt. let own = leaf_lone x l at in input_given l.role l.width k (held_in m x) (role_at m x) own.shaped own.width)
+      (λ x k l at lt. let own = leaf_lone m net lone flat x l at in input_given l.role l.width k (held_in m x) (role_at m x) own.shaped own.width)
       (λ x k l at le. no_input l.role l.width k ((flat.each x l at).inner le))
       ∙ sym is.inputs
 
   clocks_are : clocks net ≡ c.clock_inputs
   clocks_are =
       numbers_taken clock_number (λ (l : LeafDeclared). is_input l.role && is_clock l.holds) m.port_leaves 0 net.leaves m.leaves flat.count
-      (λ x k l at lt. clock_given l.role l.width k (held_in m x) (role_at m x) (leaf_lone x l at).shaped)
+      (λ x k l at lt. clock_given l.role l.width k (held_in m x) (role_at m x) (leaf_lone m net lone flat x l at).shaped)
       (λ x k l at le. no_clock l.role l.width k ((flat.each x l at).inner le))
       ∙ sym is.clock_inputs
 
@@ -89,7 +95,7 @@ module _ (m : LeafModule) (c : LeafCircuit) (net : FlatNet) (lone : IsLoneModule
   outputs_are =
       numbers_taken output_number (λ (l : LeafDeclared). is_sink l.role && has_bits l.holds) m.port_leaves 0 net.leaves m.leaves flat.count
       (λ x k l at lt.
-      let own = leaf_lone x l at in
+      let own = leaf_lone m net lone flat x l at in
       output_given l.role l.width k (held_in m x) (role_at m x) own.shaped own.width ((flat.each x l at).port lt))
       (λ x k l at le. no_output l.role l.width k ((flat.each x l at).inner le))
       ∙ sym is.outputs
@@ -98,14 +104,11 @@ module _ (m : LeafModule) (c : LeafCircuit) (net : FlatNet) (lone : IsLoneModule
   no_clock_outputs =
       is.clock_outputs
       ∙ sym (numbers_taken (λ r w k. []) (λ (l : LeafDeclared). is_sink l.role && is_clock l.holds) m.port_leaves 0 net.leaves m.leaves flat.count
-      (λ x k l at lt. ap (λ b. given b k) (sym (clock_source l.role (held_in m x) (role_at m x) (leaf_lone x l at).shaped))) (λ x k l at le. refl))
+      (λ x k l at lt. ap (λ b. given b k) (sym (clock_source l.role (held_in m x) (role_at m x) (leaf_lone m net lone flat x l at).shaped))) (λ x k l at le. refl))
       ∙ numbers_none (λ r w k. []) 0 net.leaves (λ x k l at. refl)
 
   words_are : registers net ≡ c.words
-  words_are =
-      numbers_all register_number (λ (l : LeafDeclared). is_state l.role && has_bits l.holds) net.leaves m.leaves flat.count
-      (λ x k l at. let own = leaf_lone x l at in word_given l.role l.width k (held_in m x) (role_at m x) own.shaped own.width)
-      ∙ sym is.words
+  words_are = registers_are m net lone flat ∙ sym is.words
 
   -- what holds of the leaves and statements of the module holds of those of the circuit
   moved : (P : List LeafDeclared → LeafBlock → Type 0) → P m.leaves m.body → P c.leaves c.body
@@ -116,7 +119,7 @@ module _ (m : LeafModule) (c : LeafCircuit) (net : FlatNet) (lone : IsLoneModule
     count = flat.count ∙ ap length (sym is.leaves);
     types = λ x l at. moved (λ ls b. HasType l (leaf_at ls x).holds) (type_is l (held_in m x) (flat.each x l at).has_width);
     roles = λ x l at.
-        moved (λ ls b. IsRoleOf net (net_types (over ls b)) l.role (leaf_at ls x).holds (net_role_at (over ls b) x)) (flat.each x l at).role;
+        moved (λ ls b. IsRoleOf net (net_types (over ls b)) x l.role (leaf_at ls x).holds (net_role_at (over ls b) x)) (flat.each x l at).role;
     inputs = inputs_are;
     clock_inputs = clocks_are;
     outputs = outputs_are;
@@ -132,7 +135,7 @@ module _ (m : LeafModule) (c : LeafCircuit) (net : FlatNet) (lone : IsLoneModule
       paths = λ x l at. moved (λ ls b. l.path ≡ path_text (leaf_at ls x).path) (flat.each x l at).path;
       places = λ x l at. moved (λ ls b. l.place ≡ (leaf_at ls x).place) (flat.each x l at).place;
     };
-    each = λ x l at. moved (λ ls b. IsLoneLeaf (leaf_at ls x) l) (leaf_lone x l at);
+    each = λ x l at. moved (λ ls b. IsLoneLeaf (leaf_at ls x) l) (leaf_lone m net lone flat x l at);
     outer = λ x l at. (flat.each x l at).port;
     inner = λ x l at. (flat.each x l at).inner;
   }

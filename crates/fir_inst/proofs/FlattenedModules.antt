@@ -1,5 +1,5 @@
 -- A module alone is flattened: each leaf of the net is that of the module, and the net is whole.
-use Rattle.std.proofs.Common.{◌≡◌, ℕ, ◌<◌, ◌≤◌, List, [], ◌++◌, length, map, Bool, true, false, slice_get, Some, refl, sym, ap, ◌∙◌, subst, arith}
+use Rattle.std.proofs.Common.{◌≡◌, ℕ, ◌<◌, ◌≤◌, List, [], ◌++◌, length, map, Bool, true, false, slice_get, Some, sym, ap, ◌∙◌, subst, arith}
 use Rattle.std.specs.Prelude.{IsTrue, nat_lt}
 use Rattle.std.proofs.lemmas.Bool.{le-ltb, lt-ltb}
 use Rattle.std.proofs.lemmas.List.{length-map}
@@ -7,8 +7,10 @@ use Rattle.std.proofs.lemmas.Option.{get_or_from_slice_get, slice_get_within}
 use Rattle.ver_words.specs.Names.{is_word}
 use Rattle.fir_base.proofs.Each.{all_from}
 use Rattle.fir_base.proofs.Elements.{all_there, number_of, there}
-use Rattle.fir_bits.specs.declared.types.NumTy.{NumTy}
 use Rattle.fir_leaf.proofs.LeafPlaces.{get_mapped}
+use Rattle.fir_leaf.specs.working.NodeBlocks.{block_in}
+use Rattle.fir_driven.specs.working.Covering.{flag_at}
+use Rattle.fir_driven.specs.working.DrivenFlags.{AreDriven}
 use Rattle.fir_leaf_table.specs.declared.leaf.Leaf.{Leaf as ModuleLeaf}
 use Rattle.fir_leaf_table.specs.declared.leaf.LeafType.{LeafType as TypeOfCode}
 use Rattle.fir_leaf_table.specs.declared.leaf.LeafType.TheVariants.{Clock, Number}
@@ -16,16 +18,18 @@ use Rattle.fir_leaf_table.specs.declared.leaf_module.LeafModule.{LeafModule as M
 use Rattle.fir_leaf_table.specs.working.Seen.{leaf_seen, type_seen, unnamed}
 use Rattle.fir_leaf_types.specs.working.TypedModules.{held_in}
 use Rattle.fir_leaf_types.specs.working.TypedTerms.{IsNarrow}
-use Rattle.fir_meaning.specs.LeafModules.{LeafDeclared, LeafModule, LeafType, a_clock, depth_at, leaf_at, no_leaf, number, role_at}
+use Rattle.fir_meaning.specs.LeafModules.{LeafDeclared, LeafModule, LeafType, Role as LeafRole, a_clock, depth_at, leaf_at, no_leaf, register, role_at}
+use Rattle.fir_meaning.specs.UndrivenChoices.{drives_any}
 use Rattle.fir_meaning.specs.LeafPaths.{path_text}
-use Rattle.fir_connect.specs.working.NetRoles.{NetRole as RoleMeant, net_role_at, net_types}
+use Rattle.fir_connect.specs.working.NetRoles.{net_role, net_role_at, net_types}
+use Rattle.fir_connect.specs.working.NetTerms.{leaf}
+use Rattle.fir_drivers.proofs.QuietStatements.{quiet_all}
 use Rattle.fir_expand.specs.working.LeafStores.{leaf_of_code}
 use Rattle.fir_net.specs.Paths.{base_name}
 use Rattle.fir_net.specs.declared.leaf.Leaf.{Leaf}
-use Rattle.fir_net.specs.declared.leaf.Role.{Role}
 use Rattle.fir_net.specs.declared.net.FlatNet.{FlatNet}
 use Rattle.fir_net.specs.declared.node.Node.{Node}
-use Rattle.fir_net.specs.working.IsNet.{AreNodes, IsClock, IsLeaf, IsNet, IsRole, is_port}
+use Rattle.fir_net.specs.working.IsNet.{AreNodes, IsClock, IsLeaf, IsRole, is_port}
 use Rattle.fir_net.specs.working.Settled.{is_clock}
 use Rattle.fir_merge.specs.working.NodeTerms.{Grows, ReadBefore}
 use Rattle.fir_flat.specs.working.FlatCircuits.{IsRoleOf}
@@ -34,8 +38,9 @@ use Rattle.fir_whens.specs.declared.module_net.ModuleNet.{ModuleNet}
 use Rattle.fir_whens.specs.declared.net_role.NetRole.{NetRole}
 use Rattle.fir_whens.proofs.CoveredViews.{as_many, same_leaf}
 use Rattle.fir_inst.specs.declared.kept_nodes.KeptNodes.{KeptNodes}
-use Rattle.fir_inst.specs.working.FlatModules.{HasWidth, IsFlatLeaf, IsFlatModule, IsFlattened}
-use Rattle.fir_inst.specs.working.FlatRoles.{choices_behind, choices_of, flat_leaf_of, flat_leaves_of, flat_role_of, width_of}
+use Rattle.fir_inst.specs.TakingRegisters.{takes_by}
+use Rattle.fir_inst.specs.working.FlatModules.{HasWidth, IsFlatLeaf, IsFlatModule, IsFlattened, has_next}
+use Rattle.fir_inst.specs.working.FlatRoles.{choices_behind, flat_leaves_of, flat_role_of}
 use Rattle.fir_inst.specs.working.KeptNodes.{IsHeld, Keeps, LeavesHold, ReadWhole}
 use Rattle.fir_inst.specs.working.LoneCircuits.{IsPlainRole}
 use Rattle.fir_inst.proofs.BuiltNodes.{AreBuilt, built_first}
@@ -44,8 +49,8 @@ use Rattle.fir_inst.proofs.GivenRoles.{IsGiven, IsWholeWhere, role_given}
 use Rattle.fir_inst.proofs.MovedRoles.{StandsIn, StandsMoved, reads_whole, role_moved}
 use Rattle.fir_inst.proofs.PlacedLeaves.{IsPlaced, leaf_placed, length-leaves}
 use Rattle.fir_inst.proofs.PortsFirst.{ports_first}
-use Rattle.fir_inst.proofs.PortsOfLeaves.{clock_ticks, has_width, inner_port, is_held, is_narrow, outer_port}
-use Rattle.fir_inst.proofs.RolesOfLeaves.{role_can, role_stands}
+use Rattle.fir_inst.proofs.PortsOfLeaves.{clock_ticks, has_width, inner_port, is_held, is_narrow, outer_port, takes_value}
+use Rattle.fir_inst.proofs.RolesOfLeaves.{KeepsOwn, role_can, role_stands}
 
 module _
     (law : RolesAreWhole) (names : List (List ℕ)) (part : ModuleOfCode) (own : ModuleNet) (before : ReadBefore 0 own.nodes) (m : LeafModule)
@@ -106,9 +111,10 @@ module _
   narrow_at x holds inside held = subst IsNarrow (sym held) (so.typed.narrow x inside)
 
   module _
-      (kept : KeptNodes) (keeps : Keeps own.nodes own.roles.items kept) (net : FlatNet)
+      (kept : KeptNodes) (keeps : Keeps own.nodes own.roles.items kept) (driven : List Bool)
+      (are_driven : AreDriven (length part.leaves.items) (block_in part.nodes.items part.body.items) driven) (net : FlatNet)
       (leaves_are : net.leaves
-      ≡ flat_leaves_of kept.places.items part.port_leaves 0 names part.leaves.items own.roles.items (length kept.nodes.items))
+      ≡ flat_leaves_of kept.places.items part.port_leaves driven 0 names part.leaves.items own.roles.items (length kept.nodes.items))
       (nodes_are : net.nodes ≡ kept.nodes.items ++ choices_behind kept.places.items names part.leaves.items own.roles.items) where
     abbrev places : List ℕ
     places = kept.places.items
@@ -116,14 +122,14 @@ module _
     count : length net.leaves ≡ length m.leaves
     count =
         ap length leaves_are
-        ∙ length-leaves places part.port_leaves (length m.leaves) 0 names part.leaves.items own.roles.items (length kept.nodes.items) names_count
+        ∙ length-leaves places part.port_leaves driven (length m.leaves) 0 names part.leaves.items own.roles.items (length kept.nodes.items) names_count
         (as_many part m so.view) so.is_net.count
 
     -- a leaf of the net
     placed : (x : ℕ) (l : Leaf) → slice_get net.leaves x ≡ Some l
-        → IsPlaced places part.port_leaves names part.leaves.items own.roles.items net.nodes x l
+        → IsPlaced places part.port_leaves driven names part.leaves.items own.roles.items net.nodes x l
     placed x l at =
-        leaf_placed places part.port_leaves names part.leaves.items own.roles.items kept.nodes.items net.nodes nodes_are x l
+        leaf_placed places part.port_leaves driven names part.leaves.items own.roles.items kept.nodes.items net.nodes nodes_are x l
         (subst (λ (ls : List Leaf). slice_get ls x ≡ Some l) leaves_are at)
 
     inside_at : (x : ℕ) (l : Leaf) → slice_get net.leaves x ≡ Some l → x < length m.leaves
@@ -131,6 +137,21 @@ module _
 
     abbrev Outer : ℕ → Bool
     Outer x = nat_lt x part.port_leaves
+
+    abbrev Flag : ℕ → Bool
+    Flag x = flag_at driven x
+
+    flag_is : (x : ℕ) → x < length m.leaves → Flag x ≡ drives_any x m.body
+    flag_is x inside =
+        are_driven.each x (omega (arith, inside, as_many part m so.view)) ∙ ap (drives_any x) so.view.body
+
+    -- what no statement drives keeps what it shows
+    own_at : (x : ℕ) → x < length m.leaves → Flag x ≡ false → KeepsOwn x (net_role_at m x)
+    own_at x inside none = by (role_at m x)
+      where
+        by : (r : LeafRole) → KeepsOwn x (net_role (net_types m) (depth_at m x) m.body x r)
+        by (register clock reset) = quiet_all (net_types m) (depth_at m x) x m.body 0 (leaf x) (sym (flag_is x inside) ∙ none)
+        by r = tt
 
     hold : LeavesHold net.leaves (held_in m) (length m.leaves)
     hold = record { long = count; each = each }
@@ -140,7 +161,7 @@ module _
             let p = placed x l at in
             let held = (leaf_is_seen x p.declared p.declared_at).held in
             subst (IsHeld l) held
-            (is_held places (Outer x) p.count l p.role p.declared.holds (ap (λ (k : Leaf). k.signed) p.is) (ap (λ (k : Leaf). k.width) p.is)
+            (is_held places (Outer x) (Flag x) p.count l p.role p.declared.holds (ap (λ (k : Leaf). k.signed) p.is) (ap (λ (k : Leaf). k.width) p.is)
             (ap (λ (k : Leaf). k.role) p.is) (narrow_at x p.declared.holds (inside_at x l at) held))
 
     moved_at : (x : ℕ) (r : NetRole) (d : ModuleLeaf) → slice_get part.leaves.items x ≡ Some d → slice_get own.roles.items x ≡ Some r → (ns : List Node)
@@ -172,7 +193,7 @@ module _
           found.0,
           found.1,
           ap (λ (k : Leaf). is_clock k.role) p.is
-              ∙ clock_ticks places (Outer y) p.count m (StandsMoved m places net.nodes) p.declared.holds p.role (net_role_at m y) (held ∙ ticks)
+              ∙ clock_ticks places (Outer y) (Flag y) p.count m (StandsMoved m places net.nodes) p.declared.holds p.role (net_role_at m y) (held ∙ ticks)
               (given_at y found.0 found.1),
         )
 
@@ -181,8 +202,8 @@ module _
         let p = placed x l at in
         let ports = so.view.port_leaves in
         let test : Outer x ≡ true = lt-ltb x part.port_leaves (omega (arith, lt, ports)) in
-        ap (λ (k : Leaf). is_port k.role) p.is ∙ ap (λ (b : Bool). is_port (flat_role_of places b p.declared.holds p.role p.count)) test
-        ∙ outer_port places true p.count m (StandsMoved m places net.nodes) (depth_at m x) m.body x p.declared.holds p.role (role_at m x)
+        ap (λ (k : Leaf). is_port k.role) p.is ∙ ap (λ (b : Bool). is_port (flat_role_of places b (Flag x) p.declared.holds p.role p.count)) test
+        ∙ outer_port places true (Flag x) p.count m (StandsMoved m places net.nodes) (depth_at m x) m.body x p.declared.holds p.role (role_at m x)
         (so.lone.ports x lt) (given_at x l at)
 
     inner_at : (x : ℕ) (l : Leaf) → slice_get net.leaves x ≡ Some l → m.port_leaves ≤ x → is_port l.role ≡ false
@@ -190,8 +211,8 @@ module _
         let p = placed x l at in
         let ports = so.view.port_leaves in
         let test : Outer x ≡ false = le-ltb x part.port_leaves (omega (arith, le, ports)) in
-        ap (λ (k : Leaf). is_port k.role) p.is ∙ ap (λ (b : Bool). is_port (flat_role_of places b p.declared.holds p.role p.count)) test
-        ∙ inner_port places true p.count m (StandsMoved m places net.nodes) (depth_at m x) m.body x p.declared.holds p.role (role_at m x)
+        ap (λ (k : Leaf). is_port k.role) p.is ∙ ap (λ (b : Bool). is_port (flat_role_of places b (Flag x) p.declared.holds p.role p.count)) test
+        ∙ inner_port places true (Flag x) p.count m (StandsMoved m places net.nodes) (depth_at m x) m.body x p.declared.holds p.role (role_at m x)
         (so.lone.inner x le (inside_at x l at)) (given_at x l at)
 
     each : (x : ℕ) (l : Leaf) → slice_get net.leaves x ≡ Some l → IsFlatLeaf m net x l
@@ -203,11 +224,17 @@ module _
         record {
           path = ap (λ (k : Leaf). k.path) p.is ∙ name_is x p.path p.path_at;
           place = ap (λ (k : Leaf). k.place) p.is ∙ seen.place;
-          has_width = subst (HasWidth l) seen.held (has_width places (Outer x) p.count l p.role p.declared.holds signed width);
+          has_width = subst (HasWidth l) seen.held (has_width places (Outer x) (Flag x) p.count l p.role p.declared.holds signed width);
           role =
-              subst (λ (h : LeafType). IsRoleOf net (net_types m) l.role h (net_role_at m x)) seen.held
-              (subst (λ (k : Leaf). IsRoleOf net (net_types m) k.role (type_seen p.declared.holds) (net_role_at m x)) (sym p.is)
-              (role_stands m net hold places kept.nodes.items built (Outer x) p.count p.declared.holds p.role (net_role_at m x) (given_at x l at) p.choice));
+              subst (λ (h : LeafType). IsRoleOf net (net_types m) x l.role h (net_role_at m x)) seen.held
+              (subst (λ (k : Leaf). IsRoleOf net (net_types m) x k.role (type_seen p.declared.holds) (net_role_at m x)) (sym p.is)
+              (role_stands m net hold places kept.nodes.items built (Outer x) (Flag x) x p.count p.declared.holds p.role (net_role_at m x) (given_at x l at) p.choice
+              (own_at x (inside_at x l at))));
+          takes =
+              ap (λ (k : Leaf). has_next k.role) p.is
+              ∙ takes_value places (Outer x) (Flag x) p.count m (StandsMoved m places net.nodes) (depth_at m x) m.body x p.declared.holds p.role (role_at m x)
+              (given_at x l at)
+              ∙ ap (λ (d : Bool). takes_by d (role_at m x)) (flag_is x (inside_at x l at));
           port = outer_at x l at;
           inner = inner_at x l at;
         }
@@ -220,10 +247,11 @@ module _
           word =
               subst (λ (k : Leaf). IsTrue (is_word (base_name k.path))) (sym p.is)
               (all_there (λ name. IsTrue (is_word (base_name name))) names so.words x p.path p.path_at);
-          narrow = is_narrow places (Outer x) p.count l p.role p.declared.holds (ap (λ (k : Leaf). k.width) p.is) (narrow_at x p.declared.holds (inside_at x l at) held);
+          narrow = is_narrow places (Outer x) (Flag x) p.count l p.role p.declared.holds (ap (λ (k : Leaf). k.width) p.is) (narrow_at x p.declared.holds (inside_at x l at) held);
           driven =
               subst (λ (k : Leaf). IsRole net.leaves net.nodes k.signed k.width k.role) (sym p.is)
-              (role_can m net hold places kept.nodes.items built (Outer x) p.count p.declared.holds p.role (net_role_at m x) (given_at x l at) p.choice clocks);
+              (role_can m net hold places kept.nodes.items built (Outer x) (Flag x) x p.count p.declared.holds p.role (net_role_at m x) (given_at x l at) p.choice
+              (own_at x (inside_at x l at)) clocks);
         }
 
     pub module_flat : IsTrue (is_word net.name) → IsFlatModule m net

@@ -1,5 +1,5 @@
 -- What gives the leaves of a lone module their values in its net: inputs, and reads that stand for whole terms, which may drive the leaf. A clock is read as a leaf.
-use Rattle.std.proofs.Common.{◌≡◌, ℕ, ◌<◌, List, [], ◌∷◌, length, Bool, false, Option, Some, None, option_map, refl, sym, ap, ◌∙◌, subst}
+use Rattle.std.proofs.Common.{◌≡◌, ℕ, ◌<◌, List, [], ◌∷◌, length, Bool, false, Option, Some, None, option_map, sym, ap, ◌∙◌}
 use Rattle.fir_base.proofs.Elements.{there}
 use Rattle.fir_bits.specs.declared.types.NumTy.{NumTy}
 use Rattle.fir_leaf_table.specs.declared.leaf.LeafType.{LeafType as TypeOfCode}

@@ -12,6 +12,7 @@ pub mod LoneRoles
 pub mod GivenNumbers
 pub mod FlatNumbers
 pub mod FlatLones
+pub mod TakenRegisters
 pub mod SourceRowsOfNets
 pub mod LoneMeanings
 pub mod LoneModules

@@ -20,6 +20,7 @@ use Rattle.fir_inst.proofs.FlatLones.{IsLoneNet}
 use Rattle.fir_inst.proofs.LoneMeanings.{IsGiven, LawsBelow, has_design, means, net_of}
 use Rattle.fir_inst.proofs.LoneRoles.{shaped_writable}
 use Rattle.fir_inst.proofs.LoneSources.{has_scene, is_first}
+use Rattle.fir_inst.proofs.TakenRegisters.{clocked, taken_are}
 
 module _ (laws : LawsBelow) (trees : HasOneTree) (same_loops : ShowsTheSameLoops) (hidden : HidesNoLoop) (c : CircuitTree) (order : List ℕ) (net : FlatNet)
     (given : IsGiven c order net) where
@@ -56,6 +57,8 @@ module _ (laws : LawsBelow) (trees : HasOneTree) (same_loops : ShowsTheSameLoops
         source = tree.0;
         is_source = source;
         each = means laws c order net given;
+        taken = λ s scene. taken_are (leafed_module s) net (given.lone.each s scene) (given.of.flat s scene);
+        clocked = clocked (leafed_module s.main) net (given.lone.each s.main h.first.scene) (given.of.flat s.main h.first.scene);
         loops = λ f shown. record {
           design = h.design;
           is_design = design;

@@ -33,12 +33,12 @@ none_kept net holds (Some r) None edges is = absurd is
 none_kept net holds (Some r) (Some q) edges is = absurd (rw edges at is)
 
 pub role_shaped : (m : LeafModule) (net : FlatNet) (holds : Holds) (depth : ℕ) (b : LeafBlock) (k : ℕ) (x : net_leaf.Role) (h : LeafType) (r : Role)
-    → IsRoleOf net holds x h (net_role holds depth b k r) → IsPlainRole m h r → IsShaped x h r
+    → IsRoleOf net holds k x h (net_role holds depth b k r) → IsPlainRole m h r → IsShaped x h r
 role_shaped m net holds depth b k x (number t) source is plain = is
 role_shaped m net holds depth b k x (number t) sink is plain = (is.0, is.1)
 role_shaped m net holds depth b k x (number t) (computed e) is plain = (is.0, is.1)
 role_shaped m net holds depth b k x (number t) (register clock reset) is plain =
-    (record { clock = is.0; reset = is.1; next = Some is.2 }, is.3, none_kept net holds is.1 reset plain.1 is.5)
+    (record { clock = is.0; reset = is.1; next = is.2 }, is.3, none_kept net holds is.1 reset plain.1 is.5)
 role_shaped m net holds depth b k x (number t) (reading r) is plain = absurd plain
 role_shaped m net holds depth b k x (number t) (pipe r clock under) is plain = absurd plain
 role_shaped m net holds depth b k x a_clock source is plain = is

@@ -1,5 +1,5 @@
 -- What the roles of a lone module read is whole, and is found among kept nodes, also where others are put behind these.
-use Rattle.std.proofs.Common.{◌≡◌, ℕ, List, length, Option, Some, None, sym, ◌∙◌, subst}
+use Rattle.std.proofs.Common.{ℕ, List, length, Some, None, sym, ◌∙◌, subst}
 use Rattle.fir_bits.specs.declared.types.NumTy.{NumTy}
 use Rattle.fir_leaf_table.specs.declared.leaf.LeafType.{LeafType as TypeOfCode}
 use Rattle.fir_leaf_table.specs.declared.leaf.LeafType.TheVariants.{Clock, Number}
@@ -20,7 +20,7 @@ use Rattle.fir_whens.specs.declared.net_role.NetRole.{NetRole}
 use Rattle.fir_whens.specs.declared.net_role.NetRole.TheVariants as code
 use Rattle.fir_inst.specs.declared.kept_nodes.KeptNodes.{KeptNodes}
 use Rattle.fir_inst.specs.working.KeptNodes.{EachRead, StandsWhole, StaysThere, moved, role_reads}
-use Rattle.fir_inst.proofs.GivenRoles.{Drives, IsGiven, MayReset, Resets}
+use Rattle.fir_inst.proofs.GivenRoles.{Drives, IsGiven, Resets}
 
 -- a bound by the places of nodes among the kept ones
 abbrev pub moved_bound : List ℕ → Bound → Bound

@@ -1,16 +1,17 @@
 -- Which leaf of a flat net has a number, and where the choice of its reset stands among the nodes.
-use Rattle.std.proofs.Common.{◌≡◌, ℕ, zero, suc, ◌+◌, List, [], ◌∷◌, ◌++◌, length, Some, refl, sym, ap, ◌∙◌, subst, arith, append_assoc, length-append}
+use Rattle.std.proofs.Common.{◌≡◌, ℕ, zero, suc, ◌+◌, List, [], ◌∷◌, ◌++◌, length, Bool, Some, refl, sym, ap, ◌∙◌, arith, append_assoc, length-append}
 use Rattle.std.specs.Prelude.{nat_lt, slice_get}
 use Rattle.fir_base.proofs.Elements.{get_behind}
+use Rattle.fir_driven.specs.working.Covering.{flag_at}
 use Rattle.fir_leaf_table.specs.declared.leaf.Leaf.{Leaf as ModuleLeaf}
 use Rattle.fir_net.specs.declared.leaf.Leaf.{Leaf}
 use Rattle.fir_net.specs.declared.node.Node.{Node}
 use Rattle.fir_whens.specs.declared.net_role.NetRole.{NetRole}
 use Rattle.fir_inst.specs.working.FlatRoles.{choices_behind, choices_of, flat_leaf_of, flat_leaves_of}
 
-module _ (places : List ℕ) (ports : ℕ) where
+module _ (places : List ℕ) (ports : ℕ) (driven : List Bool) where
   pub length-leaves : (n x : ℕ) (paths : List (List ℕ)) (ls : List ModuleLeaf) (rs : List NetRole) (count : ℕ) → length paths ≡ n → length ls ≡ n
-      → length rs ≡ n → length (flat_leaves_of places ports x paths ls rs count) ≡ n
+      → length rs ≡ n → length (flat_leaves_of places ports driven x paths ls rs count) ≡ n
   length-leaves n x [] ls rs count e f g = e
   length-leaves n x (path ∷ paths) [] rs count e f g = f
   length-leaves n x (path ∷ paths) (l ∷ ls) [] count e f g = g
@@ -29,15 +30,15 @@ module _ (places : List ℕ) (ports : ℕ) where
     before : List Node
     after : List Node
     choices : choices_behind places paths ls rs ≡ before ++ choices_of places role ++ after
-    is : l ≡ flat_leaf_of places path declared (nat_lt (x + k) ports) role (count + length before)
+    is : l ≡ flat_leaf_of places path declared (nat_lt (x + k) ports) (flag_at driven (x + k)) role (count + length before)
 
   leaf_from : (x : ℕ) (paths : List (List ℕ)) (ls : List ModuleLeaf) (rs : List NetRole) (count k : ℕ) (l : Leaf)
-      → slice_get (flat_leaves_of places ports x paths ls rs count) k ≡ Some l → IsFrom x paths ls rs count k l
+      → slice_get (flat_leaves_of places ports driven x paths ls rs count) k ≡ Some l → IsFrom x paths ls rs count k l
   leaf_from x [] ls rs count k l e = cc
   leaf_from x (path ∷ paths) [] rs count k l e = cc
   leaf_from x (path ∷ paths) (d ∷ ls) [] count k l e = cc
   leaf_from x (path ∷ paths) (d ∷ ls) (r ∷ rs) count zero l e =
-      let here : l ≡ flat_leaf_of places path d (nat_lt x ports) r count = cc in
+      let here : l ≡ flat_leaf_of places path d (nat_lt x ports) (flag_at driven x) r count = cc in
       let at : x + 0 ≡ x = omega arith in
       let behind : count + 0 ≡ count = omega arith in
       record {
@@ -72,8 +73,8 @@ module _ (places : List ℕ) (ports : ℕ) where
             ∙ ap (λ (ns : List Node). ns ++ rest.after) (sym (append_assoc own rest.before (choices_of places rest.role)));
         is =
             rest.is
-            ∙ ap (λ (y : ℕ). flat_leaf_of places rest.path rest.declared (nat_lt y ports) rest.role (count + length own + length rest.before)) at
-            ∙ ap (flat_leaf_of places rest.path rest.declared (nat_lt (x + suc k) ports) rest.role) behind;
+            ∙ ap (λ (y : ℕ). flat_leaf_of places rest.path rest.declared (nat_lt y ports) (flag_at driven y) rest.role (count + length own + length rest.before)) at
+            ∙ ap (flat_leaf_of places rest.path rest.declared (nat_lt (x + suc k) ports) (flag_at driven (x + suc k)) rest.role) behind;
       }
 
   -- the one of a number, with the nodes of the net
@@ -85,12 +86,12 @@ module _ (places : List ℕ) (ports : ℕ) where
     pub path_at : slice_get paths k ≡ Some path
     pub declared_at : slice_get ls k ≡ Some declared
     pub role_at : slice_get rs k ≡ Some role
-    pub is : l ≡ flat_leaf_of places path declared (nat_lt k ports) role count
+    pub is : l ≡ flat_leaf_of places path declared (nat_lt k ports) (flag_at driven k) role count
     pub choice : (n : Node) → choices_of places role ≡ n ∷ [] → slice_get nodes count ≡ Some n
 
   pub leaf_placed : (paths : List (List ℕ)) (ls : List ModuleLeaf) (rs : List NetRole) (old nodes : List Node)
       → nodes ≡ old ++ choices_behind places paths ls rs → (k : ℕ) (l : Leaf)
-      → slice_get (flat_leaves_of places ports 0 paths ls rs (length old)) k ≡ Some l → IsPlaced paths ls rs nodes k l
+      → slice_get (flat_leaves_of places ports driven 0 paths ls rs (length old)) k ≡ Some l → IsPlaced paths ls rs nodes k l
   leaf_placed paths ls rs old nodes all k l e =
       let own = leaf_from 0 paths ls rs (length old) k l e in
       let at : 0 + k ≡ k = omega arith in
@@ -102,7 +103,7 @@ module _ (places : List ℕ) (ports : ℕ) where
         path_at = own.path_at;
         declared_at = own.declared_at;
         role_at = own.role_at;
-        is = own.is ∙ ap (λ (y : ℕ). flat_leaf_of places own.path own.declared (nat_lt y ports) own.role (length old + length own.before)) at;
+        is = own.is ∙ ap (λ (y : ℕ). flat_leaf_of places own.path own.declared (nat_lt y ports) (flag_at driven y) own.role (length old + length own.before)) at;
         choice = λ n one.
             let here : nodes ≡ (old ++ own.before) ++ n ∷ own.after =
             all ∙ ap (λ (ns : List Node). old ++ ns) (own.choices ∙ ap (λ (ns : List Node). own.before ++ ns ++ own.after) one ∙ append_assoc own.before (n ∷ []) own.after)

@@ -1,5 +1,5 @@
 -- The leaves of the ports of a module are sources, or what its statements drive (FIRRTL spec, "Ports").
-use Rattle.std.proofs.Common.{◌≡◌, ℕ, suc, ◌<◌, List, [], ◌∷◌, ◌++◌, length, Bool, true, false, if◌then◌else◌, sym, ap, ◌∙◌, subst, arith}
+use Rattle.std.proofs.Common.{◌≡◌, ℕ, suc, ◌<◌, List, [], ◌∷◌, Bool, true, false, if◌then◌else◌, sym, ◌∙◌, subst}
 use Rattle.std.specs.List.{AllByRecursion}
 use Rattle.std.proofs.lemmas.List.{get_or_append_left}
 use Rattle.std.proofs.lemmas.Option.{get_or_from_slice_get}
@@ -10,9 +10,8 @@ use Rattle.fir_ast.specs.Circuits.{PortTree}
 use Rattle.fir_ast.specs.declared.place.Place.{Place}
 use Rattle.fir_meaning.specs.Components as component
 use Rattle.fir_meaning.specs.Flows.{flow_under, is_source, port_flow}
-use Rattle.fir_meaning.specs.LeafModules.{LeafDeclared, LeafType, Role, leaf_at, no_leaf, role_at, sink, source}
+use Rattle.fir_meaning.specs.LeafModules.{LeafDeclared, LeafType, leaf_at, no_leaf, role_at, sink, source}
 use Rattle.fir_meaning.specs.LeafedModules.{Declared, Scene, held_by_declared, leafed_module, leaves_from, leaves_in_block, behind_all_ports, leaves_of_ports, port_role, type_of_declared}
-use Rattle.fir_meaning.specs.Leafed.{first_term}
 use Rattle.fir_meaning.specs.LeafMemories.{leaves_of_data}
 use Rattle.fir_meaning.specs.TypeLeaves.{TypeLeaf}
 use Rattle.fir_meaning.specs.Visibility.{Before, at_head, with_declaration}

@@ -1,5 +1,5 @@
 -- What is read of nodes and stands for a whole term can be read, and has the type of the term.
-use Rattle.std.proofs.Common.{◌≡◌, ℕ, ◌<◌, List, [], ◌∷◌, length, map, Bool, false, slice_get, Some, unwrap_or, option_map, refl, sym, ap, ◌∙◌, subst, arith}
+use Rattle.std.proofs.Common.{◌≡◌, ℕ, List, [], ◌∷◌, length, map, Bool, false, unwrap_or, option_map, refl, sym, ap, ◌∙◌, subst, arith}
 use Rattle.std.specs.Prelude.{Option}
 use Rattle.fir_base.proofs.Elements.{all_there, there}
 use Rattle.fir_bits.specs.Forms.{no_type}

@@ -1,5 +1,5 @@
 -- The role of a leaf in a flat net: it gives what the role of the leaf in its module's net gives, and can be driven by what it reads.
-use Rattle.std.proofs.Common.{◌≡◌, ℕ, ◌<◌, ◌≤◌, max, List, [], ◌∷◌, length, Bool, true, false, if◌then◌else◌, Option, Some, None, slice_get, unwrap_or, option_map, refl, sym, ap, ◌∙◌, subst, inl, inr, true≢false}
+use Rattle.std.proofs.Common.{◌≡◌, ℕ, ◌<◌, max, List, [], ◌∷◌, length, Bool, true, false, if◌then◌else◌, Option, Some, None, slice_get, unwrap_or, option_map, refl, sym, ap, ◌∙◌, subst, inl, inr}
 use Rattle.std.proofs.lemmas.Option.{slice_get_within}
 use Rattle.fir_bits.specs.Forms.{no_type}
 use Rattle.fir_bits.specs.declared.types.NumTy.{NumTy}
@@ -7,34 +7,37 @@ use Rattle.fir_leaf_table.specs.declared.leaf.LeafType.{LeafType as TypeOfCode}
 use Rattle.fir_leaf_table.specs.declared.leaf.LeafType.TheVariants.{Clock, Number}
 use Rattle.fir_leaf_table.specs.working.Seen.{type_seen}
 use Rattle.fir_leaf_types.specs.working.TypedModules.{held_in}
-use Rattle.fir_meaning.specs.LeafModules.{LeafModule, LeafType, Role as LeafRole, a_clock, sink, source}
+use Rattle.fir_meaning.specs.LeafModules.{LeafModule, a_clock}
 use Rattle.fir_connect.specs.working.NetRoles.{NetReset as ResetMeant, NetRole as RoleMeant, net_types}
 use Rattle.fir_connect.specs.working.NetRoles as meant
 use Rattle.fir_connect.specs.working.NetTerms.{NetTerm, choice, leaf, mux}
 use Rattle.fir_net.specs.declared.leaf.Reset.{Reset}
-use Rattle.fir_net.specs.declared.leaf.Role.TheVariants as role
 use Rattle.fir_net.specs.declared.net.FlatNet.{FlatNet}
 use Rattle.fir_net.specs.declared.node.Node.{Node}
 use Rattle.fir_net.specs.declared.reads.Read.{Read}
 use Rattle.fir_net.specs.declared.reads.Read.TheVariants as read
-use Rattle.fir_net.specs.working.IsNet.{CanBeReset, CanDrive, IsClock, IsRole, is_port, node_type}
-use Rattle.fir_net.specs.working.Settled.{is_clock}
+use Rattle.fir_net.specs.working.IsNet.{CanBeDriven, CanBeReset, CanDrive, IsClock, IsRole, node_type}
 use Rattle.fir_merge.specs.declared.bound.Bound.{Bound}
 use Rattle.fir_merge.proofs.GrownTerms.{node_there}
-use Rattle.fir_flat.specs.working.FlatCircuits.{IsDrivenBy, IsResetOf, IsRoleOf, next_of, reset_kept, stands_for}
+use Rattle.fir_flat.specs.working.FlatCircuits.{IsDrivenBy, IsNextOf, IsResetOf, IsRoleOf, next_of, reset_kept}
 use Rattle.fir_whens.specs.declared.net_role.NetReset.{NetReset}
 use Rattle.fir_whens.specs.declared.net_role.NetRole.{NetRole}
 use Rattle.fir_whens.specs.declared.net_role.NetRole.TheVariants as code
-use Rattle.fir_inst.specs.working.FlatRoles.{choice_node, choices_of, choices_of_reset, clock_of, driven_role, flat_role_of, next_read, reset_of, width_of}
+use Rattle.fir_inst.specs.working.FlatRoles.{choice_node, choices_of, choices_of_reset, clock_of, driven_next, driven_role, flat_role_of, next_read, reset_of, width_of}
 use Rattle.fir_inst.specs.working.KeptNodes.{LeavesHold, moved}
 use Rattle.fir_inst.proofs.BuiltNodes.{AreBuilt}
-use Rattle.fir_inst.proofs.ChoiceNodes.{drive_of, one_choice, read_of}
-use Rattle.fir_inst.proofs.GivenRoles.{Drives, IsClockOf, IsGiven, MayReset, Resets}
+use Rattle.fir_inst.proofs.ChoiceNodes.{drive_of, one_choice}
+use Rattle.fir_inst.proofs.GivenRoles.{Drives, IsGiven, MayReset, Resets}
 use Rattle.fir_inst.proofs.MovedRoles.{StandsMoved}
 
 driven_by : (outer : Bool) (r : Read) → IsDrivenBy (driven_role outer r) r
 driven_by true r = inl refl
 driven_by false r = inr refl
+
+-- what drives a register of that number is what it shows
+abbrev pub KeepsOwn : ℕ → RoleMeant → Type 0
+KeepsOwn k (meant.register c p t) = t ≡ leaf k
+KeepsOwn k _ = Unit {0}
 
 module _
     (m : LeafModule) (net : FlatNet) (hold : LeavesHold net.leaves (held_in m) (length m.leaves)) (places : List ℕ) (old : List Node)
@@ -43,16 +46,18 @@ module _
   Stands = StandsMoved m places net.nodes
 
   -- what a register takes
-  record IsNext (u : NumTy) (r : Read) (t : NetTerm) : Type 0 where
-    term : stands_for net r ≡ t
-    can : CanDrive net.leaves net.nodes u.signed r
+  record IsNext (k : ℕ) (u : NumTy) (r : Option Read) (t : NetTerm) : Type 0 where
+    term : IsNextOf net k r t
+    can : CanBeDriven net.leaves net.nodes u.signed r
 
-  next_plain : (u : NumTy) (b : Bound) (t : NetTerm) → Drives m Stands u b t → IsNext u (moved places b.read) t
-  next_plain u b t d = record { term = d.stands.term; can = drive_of m net.leaves hold places old net.nodes built u b t d }
+  next_plain : (k : ℕ) (driven : Bool) (u : NumTy) (b : Bound) (t : NetTerm) → Drives m Stands u b t → (driven ≡ false → t ≡ leaf k)
+      → IsNext k u (driven_next places driven b) t
+  next_plain k true u b t d own = record { term = d.stands.term; can = drive_of m net.leaves hold places old net.nodes built u b t d }
+  next_plain k false u b t d own = record { term = own refl; can = tt }
 
-  next_chosen : (u : NumTy) (s : NetReset) (p : ResetMeant) (next : Bound) (t : NetTerm) (count : ℕ) → Resets m Stands u s p → Drives m Stands u next t
-      → slice_get net.nodes count ≡ Some (choice_node places s next) → IsNext u (read.Node count) (choice (net_types m) p.condition p.init t)
-  next_chosen u s p next t count h d at =
+  next_chosen : (k : ℕ) (u : NumTy) (s : NetReset) (p : ResetMeant) (next : Bound) (t : NetTerm) (count : ℕ) → Resets m Stands u s p → Drives m Stands u next t
+      → slice_get net.nodes count ≡ Some (choice_node places s next) → IsNext k u (Some (read.Node count)) (choice (net_types m) p.condition p.init t)
+  next_chosen k u s p next t count h d at =
       let n = choice_node places s next in
       let condition = h.condition.term in
       let first = h.init.stands.term in
@@ -71,19 +76,21 @@ module _
         };
       }
 
-  next_is : (u : NumTy) (s : Option NetReset) (p : Option ResetMeant) (next : Bound) (t : NetTerm) (count : ℕ) → MayReset m Stands u s p
-      → Drives m Stands u next t → ((n : Node) → choices_of_reset places s next ≡ n ∷ [] → slice_get net.nodes count ≡ Some n)
-      → IsNext u (next_read places count s next) (next_of (net_types m) p t)
-  next_is u None None next t count h d at = next_plain u next t d
-  next_is u None (Some p) next t count h d at = absurd h
-  next_is u (Some s) None next t count h d at = absurd h
-  next_is u (Some s) (Some p) next t count h d at = by s.is_async p.is_async h.at_edge h.meant_at_edge
+  next_is : (k : ℕ) (driven : Bool) (u : NumTy) (s : Option NetReset) (p : Option ResetMeant) (next : Bound) (t : NetTerm) (count : ℕ)
+      → MayReset m Stands u s p → Drives m Stands u next t → (driven ≡ false → t ≡ leaf k)
+      → ((n : Node) → choices_of_reset places s next ≡ n ∷ [] → slice_get net.nodes count ≡ Some n)
+      → IsNext k u (next_read places driven count s next) (next_of (net_types m) p t)
+  next_is k driven u None None next t count h d own at = next_plain k driven u next t d own
+  next_is k driven u None (Some p) next t count h d own at = absurd h
+  next_is k driven u (Some s) None next t count h d own at = absurd h
+  next_is k driven u (Some s) (Some p) next t count h d own at = by s.is_async p.is_async h.at_edge h.meant_at_edge
     where
       by : (a b : Bool) → a ≡ false → b ≡ false
-          → IsNext u (if a then moved places next.read else read.Node count) (if b then t else choice (net_types m) p.condition p.init t)
+          → IsNext k u (if a then driven_next places driven next else Some (read.Node count))
+          (if b then t else choice (net_types m) p.condition p.init t)
       by true b e f = cc
       by false true e f = cc
-      by false false e f = next_chosen u s p next t count h d (at (choice_node places s next) (one_choice places s next h.at_edge))
+      by false false e f = next_chosen k u s p next t count h d (at (choice_node places s next) (one_choice places s next h.at_edge))
 
   -- no reset stays
   record IsGone (own : Option Reset) (signed : Bool) (p : Option ResetMeant) : Type 0 where
@@ -101,43 +108,43 @@ module _
       by false true e f = cc
       by false false e f = record { kept = tt; can = tt }
 
-  module _ (outer : Bool) (count : ℕ) where
+  module _ (outer driven : Bool) (k count : ℕ) where
     abbrev PutAt : NetRole → Type 0
     PutAt r = (n : Node) → choices_of places r ≡ n ∷ [] → slice_get net.nodes count ≡ Some n
 
-    pub role_stands : (holds : TypeOfCode) (r : NetRole) (q : RoleMeant) → IsGiven m Stands holds r q → PutAt r
-        → IsRoleOf net (net_types m) (flat_role_of places outer holds r count) (type_seen holds) q
-    role_stands Clock code.Source meant.source is at = refl
-    role_stands (Number u) code.Source meant.source is at = refl
-    role_stands (Number u) (code.Driven b) (meant.driven t) is at = (moved places b.read, driven_by outer (moved places b.read), is.stands.term)
-    role_stands (Number u) (code.Computed b) (meant.computed t) is at = (moved places b.read, refl, is.stands.term)
-    role_stands (Number u) (code.Register clock s next) (meant.register c p t) is at = (
+    pub role_stands : (holds : TypeOfCode) (r : NetRole) (q : RoleMeant) → IsGiven m Stands holds r q → PutAt r → (driven ≡ false → KeepsOwn k q)
+        → IsRoleOf net (net_types m) k (flat_role_of places outer driven holds r count) (type_seen holds) q
+    role_stands Clock code.Source meant.source is at own = refl
+    role_stands (Number u) code.Source meant.source is at own = refl
+    role_stands (Number u) (code.Driven b) (meant.driven t) is at own = (moved places b.read, driven_by outer (moved places b.read), is.stands.term)
+    role_stands (Number u) (code.Computed b) (meant.computed t) is at own = (moved places b.read, refl, is.stands.term)
+    role_stands (Number u) (code.Register clock s next) (meant.register c p t) is at own = (
       clock_of clock.read,
       reset_of places s,
-      next_read places count s next,
+      next_read places driven count s next,
       refl,
       is.0.is ∙ ap leaf (ap clock_of (sym is.0.reads)),
       (reset_gone u s p is.1).kept,
-      (next_is u s p next t count is.1 is.2 at).term,
+      (next_is k driven u s p next t count is.1 is.2 own at).term,
     )
-    role_stands holds r q is at = absurd is
+    role_stands holds r q is at own = absurd is
 
     driven_can : (b : Bool) (signed : Bool) (width : ℕ) (r : Read) → CanDrive net.leaves net.nodes signed r
         → IsRole net.leaves net.nodes signed width (driven_role b r)
     driven_can true signed width r can = can
     driven_can false signed width r can = can
 
-    pub role_can : (holds : TypeOfCode) (r : NetRole) (q : RoleMeant) → IsGiven m Stands holds r q → PutAt r
+    pub role_can : (holds : TypeOfCode) (r : NetRole) (q : RoleMeant) → IsGiven m Stands holds r q → PutAt r → (driven ≡ false → KeepsOwn k q)
         → ((y : ℕ) → y < length m.leaves → held_in m y ≡ a_clock → IsClock net.leaves y)
-        → IsRole net.leaves net.nodes (width_of holds).signed (width_of holds).width (flat_role_of places outer holds r count)
-    role_can Clock code.Source meant.source is at clocks = refl
-    role_can (Number u) code.Source meant.source is at clocks = tt
-    role_can (Number u) (code.Driven b) (meant.driven t) is at clocks =
+        → IsRole net.leaves net.nodes (width_of holds).signed (width_of holds).width (flat_role_of places outer driven holds r count)
+    role_can Clock code.Source meant.source is at own clocks = refl
+    role_can (Number u) code.Source meant.source is at own clocks = tt
+    role_can (Number u) (code.Driven b) (meant.driven t) is at own clocks =
         driven_can outer u.signed u.width (moved places b.read) (drive_of m net.leaves hold places old net.nodes built u b t is)
-    role_can (Number u) (code.Computed b) (meant.computed t) is at clocks = drive_of m net.leaves hold places old net.nodes built u b t is
-    role_can (Number u) (code.Register clock s next) (meant.register c p t) is at clocks = (
+    role_can (Number u) (code.Computed b) (meant.computed t) is at own clocks = drive_of m net.leaves hold places old net.nodes built u b t is
+    role_can (Number u) (code.Register clock s next) (meant.register c p t) is at own clocks = (
       subst (IsClock net.leaves) (ap clock_of (sym is.0.reads)) (clocks is.0.clock is.0.within is.0.held),
       (reset_gone u s p is.1).can,
-      (next_is u s p next t count is.1 is.2 at).can,
+      (next_is k driven u s p next t count is.1 is.2 own at).can,
     )
-    role_can holds r q is at clocks = absurd is
+    role_can holds r q is at own clocks = absurd is

@@ -1,2 +1,3 @@
 pub mod SourceRows
+pub mod TakingRegisters
 pub mod working

@@ -1,6 +1,6 @@
 -- The ports and the words of the state of a source, as rows that can be compared (FIRRTL spec, "Ports", "Registers"). Each leaf is named by its path, and the
 -- leaves of a port stand in the order of its type; a flipped leaf of an output is an input. Leaves of no bits have no row.
-use Rattle.std.specs.Prelude.{ℕ, List, [], flat_map, map}
+use Rattle.std.specs.Prelude.{ℕ, List, [], flat_map}
 use Rattle.fir_base.specs.declared.direction.Direction.TheVariants as direction
 use Rattle.fir_meaning.specs.LeafModules.{LeafType, a_clock, number, number_type}
 use Rattle.fir_meaning.specs.LeafPaths.{path_text}

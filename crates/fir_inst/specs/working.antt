@@ -8,5 +8,6 @@ pub mod KeptNodes
 pub mod FlatRoles
 -- A module alone as a flat net, and what it means.
 pub mod FlatModules
+pub mod TakenRegisters
 pub mod FlattensTo
 pub mod Laws

@@ -7,6 +7,7 @@ ghost use Rattle.fir_inst.specs.working.FlatModules.{FlattensModule};
 use crate::flat_leaves::flat_leaves;
 use crate::kept_nodes::keep_nodes;
 use fir_base::{MemoryOut, Name, Seq};
+use fir_driven::driven_leaves;
 use fir_flat::roles_are_whole;
 use fir_leaf_table::LeafModule;
 use fir_net::FlatNet;
@@ -27,7 +28,8 @@ pub fn flat_module(
 {
     roles_are_whole();
     let mut kept = keep_nodes(alloc, net.nodes.as_slice(), &net.roles)?;
-    let leaves = flat_leaves(alloc, part, names, &net.roles, &mut kept)?;
+    let driven = driven_leaves(alloc, part.leaves.len(), &part.nodes, &part.body)?;
+    let leaves = flat_leaves(alloc, part, names, &net.roles, &driven, &mut kept)?;
     Ok(FlatNet {
         name,
         leaves: Seq::from_vec(leaves),

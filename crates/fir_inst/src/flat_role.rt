@@ -2,7 +2,7 @@
 
 ghost use Rattle.std.specs.Prelude.{◌≡◌, [], ◌∷◌, ◌++◌, IfOk, OnOk, length};
 ghost use Rattle.fir_net.specs.declared.reads.Read.TheVariants as read;
-ghost use Rattle.fir_inst.specs.working.FlatRoles.{choice_node, choices_of, choices_of_reset, clock_of, flat_role_of, next_read, reset_of, source_role};
+ghost use Rattle.fir_inst.specs.working.FlatRoles.{choice_node, choices_of, choices_of_reset, clock_of, driven_next, flat_role_of, next_read, reset_of, source_role};
 
 use crate::kept_nodes::{KeptNodes, moved};
 use fir_ast::{LeafId, NodeId};
@@ -12,15 +12,17 @@ use fir_merge::Bound;
 use fir_net::{Mux, Node, Read, Register, Reset, ResetKind, Role};
 use fir_whens::{NetReset, NetRole};
 
-/// The role of a leaf that is one of a port or not, over the kept nodes, behind which the choices of synchronous resets
-/// are put. A memory has no leaves here yet.
+/// The role of a leaf that is one of a port or not, and that a statement drives or none, over the kept nodes, behind
+/// which the choices of synchronous resets are put. A register that nothing drives and no reset changes takes nothing.
+/// A memory has no leaves here yet.
 pub fn flat_role(
     is_port: bool,
+    is_driven: bool,
     holds: LeafType,
     role: NetRole,
     kept: &mut KeptNodes,
 ) -> Result<Role, MemoryOut>
-    ensures role { IfOk result (λ r. r ≡ flat_role_of kept.old.places.items is_port holds role (length kept.old.nodes.items)) }
+    ensures role { IfOk result (λ r. r ≡ flat_role_of kept.old.places.items is_port is_driven holds role (length kept.old.nodes.items)) }
     ensures nodes { OnOk result (kept.new.nodes.items ≡ kept.old.nodes.items ++ choices_of kept.old.places.items role) }
     ensures places { OnOk result (kept.new.places.items ≡ kept.old.places.items) }
 {
@@ -35,11 +37,11 @@ pub fn flat_role(
         }
         NetRole::Computed(bound) => Ok(Role::Wire(moved(&kept.places, bound.read))),
         NetRole::Register(clock, reset, next) => {
-            let next = next_of(kept, &reset, &next)?;
+            let next = next_of(is_driven, kept, &reset, &next)?;
             Ok(Role::Register(Register {
                 clock: clock_of(clock.read),
                 reset: reset_kept(&kept.places, &reset),
-                next: Some(next),
+                next,
             }))
         }
         NetRole::Reading(_) | NetRole::Pipe(_, _, _) => Ok(Role::Input),
@@ -80,16 +82,32 @@ fn reset_kept(places: &[usize], reset: &Option<NetReset>) -> Option<Reset>
     }
 }
 
-/// What a register takes at an edge of its clock: its init while a synchronous reset is 1, else what drives it (FIRRTL
-/// spec, "Registers").
-fn next_of(kept: &mut KeptNodes, reset: &Option<NetReset>, next: &Bound) -> Result<Read, MemoryOut>
-    ensures read { IfOk result (λ r. r ≡ next_read kept.old.places.items (length kept.old.nodes.items) reset.now next.now) }
+/// What a register takes at an edge of its clock: its init while a synchronous reset is 1, else what drives it, if a
+/// statement does (FIRRTL spec, "Registers").
+fn next_of(
+    is_driven: bool,
+    kept: &mut KeptNodes,
+    reset: &Option<NetReset>,
+    next: &Bound,
+) -> Result<Option<Read>, MemoryOut>
+    ensures read { IfOk result (λ r. r ≡ next_read kept.old.places.items is_driven (length kept.old.nodes.items) reset.now next.now) }
     ensures nodes { OnOk result (kept.new.nodes.items ≡ kept.old.nodes.items ++ choices_of_reset kept.old.places.items reset.now next.now) }
     ensures places { OnOk result (kept.new.places.items ≡ kept.old.places.items) }
 {
     match reset {
-        Some(reset) if !reset.is_async => add_choice(kept, reset, next),
-        _ => Ok(moved(&kept.places, next.read)),
+        Some(reset) if !reset.is_async => Ok(Some(add_choice(kept, reset, next)?)),
+        _ => Ok(driven_next(is_driven, &kept.places, next)),
+    }
+}
+
+/// What a register takes that no reset holds.
+fn driven_next(is_driven: bool, places: &[usize], next: &Bound) -> Option<Read>
+    ensures { result ≡ driven_next places.now is_driven next.now }
+{
+    if is_driven {
+        Some(moved(places, next.read))
+    } else {
+        None
     }
 }
 

@@ -20,16 +20,15 @@ pub base_for : (set : BTreeSet (List ℕ)) (names : List (List ℕ)) (base name 
 base_for set names base name free is h = let e : is_free names base ≡ true = free_by_set set names base h ∙ free in rw e is
 
 -- else the first that the set lacks
-pub suffix_for : (set : BTreeSet (List ℕ)) (names : List (List ℕ)) (base front : List ℕ) (found : Numbered) → (not (is_reserved base) && not (has set base)) ≡ false → front ≡ base ++ codes "_" → IsFirstUntaken set front 0 found → Holds set names → IsNameFor names base found.name
-suffix_for set names base front found taken begins first h =
+pub suffix_for : (set : BTreeSet (List ℕ)) (names : List (List ℕ)) (base : List ℕ) (found : Numbered) → (not (is_reserved base) && not (has set base)) ≡ false → IsFirstUntaken set (base ++ codes "_") 0 found → Holds set names → IsNameFor names base found.name
+suffix_for set names base found taken first h =
     let e : is_free names base ≡ false = free_by_set set names base h ∙ taken in
-    let same : (k : ℕ) → front ++ decimal k ≡ suffixed base k = λ k. ap (λ f. f ++ decimal k) begins in
-    let is : found.name ≡ suffixed base found.number = first.is ∙ same found.number in
+    let is : found.name ≡ suffixed base found.number = first.is in
     let one : IsFirstFree names base found.name = record {
       number = found.number;
       is = is;
       free = unreserved_free set names found.name false h (ap is_reserved is ∙ suffixed_unreserved base found.number) first.free;
-      before = λ k low. unreserved_free set names (suffixed base k) true h (suffixed_unreserved base k) (ap (has set) (sym (same k)) ∙ first.before k (omega arith) low);
+      before = λ k low. unreserved_free set names (suffixed base k) true h (suffixed_unreserved base k) (first.before k (omega arith) low);
     } in
     rw e one
 

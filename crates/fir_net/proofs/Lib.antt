@@ -1,6 +1,7 @@
 pub mod Pigeons
 pub mod Untaken
 pub mod Unreserved
+pub mod PassedNames
 pub mod FreeNames
 pub mod HeldNames
 pub mod Somes

@@ -7,6 +7,7 @@ ghost use Rattle.fir_net.specs.working.NameSets.{Holds, TakesName};
 use crate::base_name::base_name;
 use crate::free_name::free_name;
 use crate::leaf::{Leaf, Role};
+use crate::taken::Taken;
 use fir_base::{MemoryOut, Name, Seq};
 use std::alloc::Global;
 use std::collections::BTreeSet;
@@ -23,24 +24,20 @@ pub fn leaf_names(alloc: Global, leaves: &[Leaf]) -> Result<LeafNames, MemoryOut
     ensures table { IfOk result (λ r. AreLeafNames [] leaves.now r.names) }
     ensures held { IfOk result (λ r. Holds r.taken (somes r.names)) }
 {
-    let mut taken = BTreeSet::new(alloc);
+    let mut taken = Taken::new(alloc);
     let mut names = Vec::new(alloc);
     for leaf in leaves {
         names.push(leaf_name(alloc, &mut taken, leaf)?)?;
     }
     Ok(LeafNames {
         names: Seq::from_vec(names),
-        taken,
+        taken: taken.names,
     })
 }
 
 /// The name of a leaf behind those whose names are taken; it is taken then.
-fn leaf_name(
-    alloc: Global,
-    taken: &mut BTreeSet<Name>,
-    leaf: &Leaf,
-) -> Result<Option<Name>, MemoryOut>
-    ensures { IfOk result (λ n. TakesName taken.old taken.new leaf.now n) }
+fn leaf_name(alloc: Global, taken: &mut Taken, leaf: &Leaf) -> Result<Option<Name>, MemoryOut>
+    ensures { IfOk result (λ n. TakesName taken.old.names taken.new.names leaf.now n) }
 {
     if !has_name(leaf) {
         return Ok(None);

@@ -17,6 +17,7 @@ mod node;
 mod numbered;
 mod reads;
 mod sharing;
+mod taken;
 mod totals;
 
 pub use counting::counts;

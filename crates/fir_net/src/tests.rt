@@ -43,6 +43,9 @@ const LEAVES: &[(&[u8], u32, Kind, &[u8])] = &[
     (b"a", 1, Kind::ClockWire, b""),
     (b"a", 1, Kind::Register, b"a"),
     (b"a", 4, Kind::Register, b"a_0"),
+    (b"a_2", 4, Kind::Input, b"a_2"),
+    (b"a", 4, Kind::Register, b"a_1"),
+    (b"a", 4, Kind::Register, b"a_3"),
     (b"io.v_2_x", 4, Kind::Register, b"io_v_2_x_0"),
     (b"_n1", 1, Kind::Register, b"_n1"),
     (b"gone", 0, Kind::Register, b""),
@@ -75,8 +78,8 @@ fn each_port_and_register_has_its_name(rt: HostRuntime) -> Result<(), Fail> {
 #[test]
 fn a_net_has_its_counts(rt: HostRuntime) -> Result<(), Fail> {
     let counted = counts(&net_of(rt.alloc())?);
-    assert_eq!(rt; counted.leaves, 14);
-    assert_eq!(rt; counted.registers, 5);
+    assert_eq!(rt; counted.leaves, 17);
+    assert_eq!(rt; counted.registers, 7);
     assert_eq!(rt; counted.memories, 0);
     Ok(())
 }

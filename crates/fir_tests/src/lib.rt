@@ -1,9 +1,8 @@
 //! Tests of the public calls of crates that are long to prove: a crate with tests of its own is proved twice.
-//! `trees` calls `parse` over the tokens of a text: each form of the grammar with its tree, the greatest nesting,
-//! and the tokens that come back with a fault. `types`, `inferred`, `costs` and `driven` call `check`, `infer`,
-//! `cost` and `check_driven` over circuits of a text (`circuits`), and `net_values` evaluates the nets that
-//! `lower_whens` gives. `reset_walks` and `least_widths` call the searches under `infer` over graphs and bounds made
-//! by hand. What each call gives on every input, its contract says; here stand the values that no clause of it names.
+//! `types`, `inferred`, `costs` and `driven` call `check`, `infer`, `cost` and `check_driven` over circuits of a text
+//! (`circuits`), and `net_values` evaluates the nets that `lower_whens` gives. `reset_walks` and `least_widths` call
+//! the searches under `infer` over graphs and bounds made by hand. What each call gives on every input, its contract
+//! says; here stand the values that no clause of it names.
 #![tactic(auto)]
 
 #[cfg(test)]
@@ -20,7 +19,5 @@ mod least_widths;
 mod net_values;
 #[cfg(test)]
 mod reset_walks;
-#[cfg(test)]
-mod trees;
 #[cfg(test)]
 mod types;

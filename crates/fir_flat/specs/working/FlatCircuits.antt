@@ -52,16 +52,21 @@ IsResetOf net None None = Unit {0}
 IsResetOf net (Some r) (Some m) = (r.kind ≡ Asynchronous) × (stands_for net r.condition ≡ m.condition) × (stands_for net r.init ≡ m.init)
 IsResetOf net _ _ = ⊥
 
--- by the types of all leaves, what the leaf holds and its role in a net
-abbrev pub IsRoleOf : FlatNet → Holds → Role → LeafType → NetRole → Type 0
-IsRoleOf net holds x (number t) source = x ≡ role.Input
-IsRoleOf net holds x a_clock source = x ≡ role.Clock
-IsRoleOf net holds x (number t) (driven d) = (r : Read) × IsDrivenBy x r × (stands_for net r ≡ d)
-IsRoleOf net holds x (number t) (computed d) = (r : Read) × (x ≡ role.Wire r) × (stands_for net r ≡ d)
-IsRoleOf net holds x (number t) (register c reset d) =
-    (clock : ℕ) × (own : Option Reset) × (next : Read) × (x ≡ role.Register (record { clock = clock; reset = own; next = Some next }))
-    × (c ≡ leaf clock) × IsResetOf net own (reset_kept reset) × (stands_for net next ≡ next_of holds reset d)
-IsRoleOf net holds x _ _ = ⊥
+-- what a register of that number takes: what is read stands for the term; or nothing is read, and the term is what the register shows
+abbrev pub IsNextOf : FlatNet → ℕ → Option Read → NetTerm → Type 0
+IsNextOf net k None t = t ≡ leaf k
+IsNextOf net k (Some r) t = stands_for net r ≡ t
+
+-- by the types of all leaves, the number of the leaf, what it holds and its role in a net
+abbrev pub IsRoleOf : FlatNet → Holds → ℕ → Role → LeafType → NetRole → Type 0
+IsRoleOf net holds k x (number t) source = x ≡ role.Input
+IsRoleOf net holds k x a_clock source = x ≡ role.Clock
+IsRoleOf net holds k x (number t) (driven d) = (r : Read) × IsDrivenBy x r × (stands_for net r ≡ d)
+IsRoleOf net holds k x (number t) (computed d) = (r : Read) × (x ≡ role.Wire r) × (stands_for net r ≡ d)
+IsRoleOf net holds k x (number t) (register c reset d) =
+    (clock : ℕ) × (own : Option Reset) × (next : Option Read) × (x ≡ role.Register (record { clock = clock; reset = own; next = next }))
+    × (c ≡ leaf clock) × IsResetOf net own (reset_kept reset) × IsNextOf net k next (next_of holds reset d)
+IsRoleOf net holds k x _ _ = ⊥
 
 abbrev pub HasType : Leaf → LeafType → Type 0
 HasType l (number t) = (l.signed ≡ t.signed) × (l.width ≡ t.width)
@@ -71,7 +76,7 @@ pub record IsFlatOf (c : LeafCircuit) (net : FlatNet) : Type 0 where
   pub count : length net.leaves ≡ length c.leaves
   pub types : (x : ℕ) (l : Leaf) → slice_get net.leaves x ≡ Some l → HasType l (leaf_at c.leaves x).holds
   pub roles : (x : ℕ) (l : Leaf) → slice_get net.leaves x ≡ Some l
-      → IsRoleOf net (net_types (as_module c)) l.role (leaf_at c.leaves x).holds (net_role_at (as_module c) x)
+      → IsRoleOf net (net_types (as_module c)) x l.role (leaf_at c.leaves x).holds (net_role_at (as_module c) x)
   -- the same ports and state
   pub inputs : inputs net ≡ c.inputs
   pub clock_inputs : clocks net ≡ c.clock_inputs

@@ -2,6 +2,7 @@
 -- spec, "Registers").
 use Rattle.std.specs.Prelude.{ℕ, suc, ◌+◌, List, [], ◌∷◌, ◌++◌, length, max, Bool, false, nat_lt, if◌then◌else◌, Option, Some, None}
 use Rattle.fir_bits.specs.declared.types.NumTy.{NumTy}
+use Rattle.fir_driven.specs.working.Covering.{flag_at}
 use Rattle.fir_leaf_table.specs.declared.leaf.Leaf.{Leaf as ModuleLeaf}
 use Rattle.fir_leaf_table.specs.declared.leaf.LeafType.{LeafType}
 use Rattle.fir_leaf_table.specs.declared.leaf.LeafType.TheVariants.{Clock, Number}
@@ -63,33 +64,38 @@ module _ (places : List ℕ) where
   choices_of (role.Register clock reset next) = choices_of_reset reset next
   choices_of _ = []
 
+  -- what a register takes that no reset holds, if a statement drives it
+  abbrev pub driven_next : Bool → Bound → Option Read
+  driven_next is_driven next = if is_driven then Some (moved places next.read) else None
+
   -- what a register takes, where so many nodes stand before its choice
-  abbrev pub next_read : ℕ → Option NetReset → Bound → Read
-  next_read count None next = moved places next.read
-  next_read count (Some r) next = if r.is_async then moved places next.read else read.Node count
+  abbrev pub next_read : Bool → ℕ → Option NetReset → Bound → Option Read
+  next_read is_driven count None next = driven_next is_driven next
+  next_read is_driven count (Some r) next = if r.is_async then driven_next is_driven next else Some (read.Node count)
 
-  abbrev pub flat_role_of : Bool → LeafType → NetRole → ℕ → Role
-  flat_role_of is_port holds role.Source count = source_role holds
-  flat_role_of is_port holds (role.Driven b) count = driven_role is_port (moved places b.read)
-  flat_role_of is_port holds (role.Computed b) count = flat.Wire (moved places b.read)
-  flat_role_of is_port holds (role.Register clock reset next) count =
-      flat.Register (record { clock = clock_of clock.read; reset = reset_of reset; next = Some (next_read count reset next) })
-  flat_role_of is_port holds _ count = flat.Input
+  abbrev pub flat_role_of : Bool → Bool → LeafType → NetRole → ℕ → Role
+  flat_role_of is_port is_driven holds role.Source count = source_role holds
+  flat_role_of is_port is_driven holds (role.Driven b) count = driven_role is_port (moved places b.read)
+  flat_role_of is_port is_driven holds (role.Computed b) count = flat.Wire (moved places b.read)
+  flat_role_of is_port is_driven holds (role.Register clock reset next) count =
+      flat.Register (record { clock = clock_of clock.read; reset = reset_of reset; next = next_read is_driven count reset next })
+  flat_role_of is_port is_driven holds _ count = flat.Input
 
-  abbrev pub flat_leaf_of : List ℕ → ModuleLeaf → Bool → NetRole → ℕ → Leaf
-  flat_leaf_of path l is_port r count = record {
+  abbrev pub flat_leaf_of : List ℕ → ModuleLeaf → Bool → Bool → NetRole → ℕ → Leaf
+  flat_leaf_of path l is_port is_driven r count = record {
     path = path;
     place = l.place;
     signed = (width_of l.holds).signed;
     width = (width_of l.holds).width;
-    role = flat_role_of is_port l.holds r count;
+    role = flat_role_of is_port is_driven l.holds r count;
   }
 
-  -- one by one, from the one of a number on, where the leaves below another number are those of ports
-  abbrev pub flat_leaves_of : ℕ → ℕ → List (List ℕ) → List ModuleLeaf → List NetRole → ℕ → List Leaf
-  flat_leaves_of ports x (path ∷ paths) (l ∷ ls) (r ∷ rs) count =
-      flat_leaf_of path l (nat_lt x ports) r count ∷ flat_leaves_of ports (suc x) paths ls rs (count + length (choices_of r))
-  flat_leaves_of ports x _ _ _ count = []
+  -- one by one, from the one of a number on, where the leaves below another number are those of ports, and statements drive the flagged ones
+  abbrev pub flat_leaves_of : ℕ → List Bool → ℕ → List (List ℕ) → List ModuleLeaf → List NetRole → ℕ → List Leaf
+  flat_leaves_of ports driven x (path ∷ paths) (l ∷ ls) (r ∷ rs) count =
+      flat_leaf_of path l (nat_lt x ports) (flag_at driven x) r count
+      ∷ flat_leaves_of ports driven (suc x) paths ls rs (count + length (choices_of r))
+  flat_leaves_of ports driven x _ _ _ count = []
 
   abbrev pub choices_behind : List (List ℕ) → List ModuleLeaf → List NetRole → List Node
   choices_behind (path ∷ paths) (l ∷ ls) (r ∷ rs) = choices_of r ++ choices_behind paths ls rs

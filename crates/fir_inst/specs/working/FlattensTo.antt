@@ -1,14 +1,16 @@
 -- When a net is the flat net of a circuit: it is whole and has a Verilog text, it has the circuit's name, and whichever source tree stands below the circuit's main
--- module, the net has its ports, its state and its shape, and allows at every tick what the tree allows; and a closed walk of dependence stands in the circuit where
--- one stands in the net.
+-- module, the net has its ports, its state and its shape, and allows at every tick what the tree allows; its registers take values where those of the circuit do, at
+-- the edges of clock inputs; and a closed walk of dependence stands in the circuit where one stands in the net.
 use Rattle.std.specs.Prelude.{◌≡◌, ◌↔◌, ℕ, List, [], map}
 use Rattle.fir_base.specs.Ticks.{Tick}
 use Rattle.fir_ast.specs.declared.fault.FirFault.{FirFault}
 use Rattle.fir_ast.specs.Circuits.{CircuitTree}
-use Rattle.fir_pass.specs.Faults.{Fault, fault_of}
+use Rattle.fir_pass.specs.Faults.{fault_of}
 use Rattle.fir_pass.specs.Groups.{IsClear}
 use Rattle.fir_meaning.specs.Elaborated.{IsSourceOf}
+use Rattle.fir_meaning.specs.LeafedModules.{Scene, leafed_module}
 use Rattle.fir_meaning.specs.LoopGroup.{loop_group}
+use Rattle.fir_meaning.specs.Scenes.{IsSceneOf}
 use Rattle.fir_meaning.specs.SourceAllows.{Allows}
 use Rattle.fir_meaning.specs.SourceCircuits.{is_sink, ports_where, source_shape, widths_of}
 use Rattle.fir_meaning.specs.SourceDesigns.{SourceDesign}
@@ -24,6 +26,8 @@ use Rattle.fir_net.specs.working.Settled.{outputs as net_outputs, shape as net_s
 use Rattle.fir_net.specs.working.Values.{leaf_width}
 use Rattle.fir_loop.specs.working.IsLoop.{IsLoop, ShowsLoop}
 use Rattle.fir_inst.specs.SourceRows.{source_rows, source_words}
+use Rattle.fir_inst.specs.TakingRegisters.{taking_words}
+use Rattle.fir_inst.specs.working.TakenRegisters.{IsClocked, taken_words}
 
 -- the widths of the outputs, in their order
 abbrev pub output_widths : SourceDesign → List ℕ
@@ -44,5 +48,7 @@ pub record FlattensTo (c : CircuitTree) (net : FlatNet) : Type 0 where
   pub source : SourceDesign
   pub is_source : IsSourceOf c source
   pub each : (t : SourceDesign) → IsSourceOf c t → MeansSource t net
+  pub taken : (s : Scene) → IsSceneOf c 0 s → taken_words net ≡ taking_words (leafed_module s)
+  pub clocked : IsClocked net
   pub loops : (f : FirFault) → ShowsLoop net f → (loop_group c).shows (fault_of f)
   pub no_loop : ((walk : List ℕ) → IsLoop net walk → ⊥) → IsClear (loop_group c)

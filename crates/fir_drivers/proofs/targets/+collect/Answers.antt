@@ -28,7 +28,7 @@ collect_block-returns t c =
 pub collect-returns-in-Drive : goal.collect-returns-in-Drive
 collect-returns-in-Drive t c =
     rw c.in-Drive.is
-    (on_ok_weaker c.collect_drive.result (λ listed unmarked. drive_collects _ _ _ _ _ _ _ _ unmarked listed) c.collect_drive.ensures)
+    (on_ok_weaker c.list_drive.result (λ listed unmarked. drive_collects _ _ _ _ _ _ _ _ unmarked listed) c.list_drive.ensures)
 
 pub collect_when-returns : goal.collect_when-returns
 collect_when-returns t c = λ unmarked.

@@ -1,8 +1,7 @@
-use Rattle.std.proofs.Common.{◌≡◌, ℕ, ◌<◌, List, [], length, refl, sym, ap, subst, ◌∙◌, arith}
+use Rattle.std.proofs.Common.{◌≡◌, ◌<◌, [], length, refl, sym, ap, subst, ◌∙◌, arith}
 use Rattle.std.proofs.lemmas.Option.{slice_get_read}
 use Rattle.std.proofs.lemmas.Result.{IfOk-weaker}
 use Rattle.fir_ast.specs.declared.circuit.Circuit.{Circuit}
-use Rattle.std.specs.Prelude.{IfOk}
 use Rattle.fir_ast.specs.View.{circuit_of}
 use Rattle.fir_ast.specs.Circuits.{CircuitTree}
 use Rattle.fir_meaning.specs.NameGroups.{HasNames}
@@ -11,11 +10,8 @@ use Rattle.fir_meaning.specs.TypeGroup.{type_faults}
 use Rattle.fir_names.specs.working.ModuleOrder.{IsModuleOrder}
 use Rattle.fir_leaf_table.specs.working.Leafed.{AreLeafed}
 use Rattle.fir_leaf_text.specs.working.TextsOfLeaves.{AreTextsOf}
-use Rattle.fir_net.specs.declared.net.FlatNet.{FlatNet}
 use Rattle.fir_whens.specs.working.ModuleNets.{AreAllTyped}
-use Rattle.fir_inst.specs.working.FlatModules.{FlattensModule}
-use Rattle.fir_inst.specs.working.FlattensTo.{FlattensTo}
-use Rattle.fir_inst.proofs.FlatCircuits.{IsHeld, flat_circuit, flat_of}
+use Rattle.fir_inst.proofs.FlatCircuits.{IsHeld, flat_of}
 use Rattle.fir_inst.proofs.flattened.flat_net.Goals as goal
 
 pub returns : goal.returns

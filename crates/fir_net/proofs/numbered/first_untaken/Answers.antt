@@ -20,6 +20,7 @@ returns c =
     record {
       low = omega arith;
       high = omega arith;
+      few = omega arith;
       is = c.in_ok-with_number.ensures;
       free = subst (λ n. has set n ≡ false) (sym c.in_ok-with_number.ensures) free;
       before = taken;

@@ -1,5 +1,5 @@
-use Rattle.fir_drivers.proofs.DrivenLeaves.{lists_driven}
-use Rattle.fir_drivers.proofs.targets.collect_drive.Goals as goal
+use Rattle.fir_driven.proofs.DrivenLeaves.{lists_driven}
+use Rattle.fir_driven.proofs.driven.list_drive.Goals as goal
 
 pub returns : goal.returns
 returns c = λ x.
