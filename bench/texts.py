@@ -65,7 +65,7 @@ def ring_of_modules(size):
 
 
 def ports_of_one_memory(size):
-    ports = " ".join(f"reader_of_the_memory_with_number_{i:07}" for i in range(size // 41))
+    ports = " ".join(f"reader_of_the_memory_with_number_{i:07}" for i in range((size - 300) // 41))
     fields = ("data-type => UInt<1>", "depth => 2", "read-latency => 0", "write-latency => 1")
     lines = "".join(f"      {field}\n" for field in fields)
     return HEAD_OF_NONE + f"    mem m :\n{lines}      reader => {ports}\n    m is invalid\n"
@@ -434,7 +434,7 @@ def pipeline(size):
     bits = "{op : UInt<2>, data : UInt<16>[4]}"
     io = f"{{flip ready : UInt<1>, valid : UInt<1>, bits : {bits}}}"
     lines, last, length = [], "io.in", 0
-    while length < size - 1500:
+    while length < size - 4000:
         k = len(lines)
         lines.append(STAGE.format(k=k, bits=bits, io=io, last=last))
         length += len(lines[-1])

@@ -26,6 +26,3 @@ pub use laws::spelled_names_are_words;
 pub use passes::compile;
 pub use program::run;
 pub use status::Status;
-
-#[cfg(test)]
-mod tests;

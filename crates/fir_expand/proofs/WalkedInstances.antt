@@ -5,7 +5,7 @@ use Rattle.fir_ast.specs.Statements.{PlacedName}
 use Rattle.fir_meaning.specs.Components.{Declarations}
 use Rattle.fir_names.specs.declared.names.Names.{Names}
 use Rattle.fir_names.specs.working.Numbered.{instance_numbers, number_read}
-use Rattle.fir_names.specs.working.Tabulated.{Tabulates, found_at}
+use Rattle.fir_names.specs.working.Tabulated.{Tabulates, entry_at, entry_count}
 use Rattle.fir_names.proofs.InstanceNumbers.{Numbers, numbers_all, numbers_more, numbers_same}
 use Rattle.fir_type_table.specs.working.Saturated.{saturated}
 use Rattle.fir_meaning.specs.Costs.{sum_of}
@@ -19,7 +19,7 @@ pub record InstancesSoFar (t : Names) (costs : List ℕ) (k sum : ℕ) : Type 0 
   pub is : sum ≡ saturated (sum_of (map (cost_at costs) numbers))
 
 module _ (t : Names) (costs : List ℕ) (k sum : ℕ) (h : InstancesSoFar t costs k sum) where
-  pub instances_next : k < length t.in_order.items → (o : Option ℕ) → o ≡ number_read (found_at t (slice_get t.in_order.items k))
+  pub instances_next : k < entry_count t → (o : Option ℕ) → o ≡ number_read (entry_at t k)
       → InstancesSoFar t costs (k + 1) (saturated (sum + cost_where costs o))
   instances_next within None is = record {
     numbers = h.numbers;
@@ -37,7 +37,7 @@ module _ (t : Names) (costs : List ℕ) (k sum : ℕ) (h : InstancesSoFar t cost
         ∙ ap (λ l. saturated (sum_of l)) (sym (map-append (cost_at costs) h.numbers (number ∷ [])));
   }
 
-  pub instances_all : length t.in_order.items ≤ k → (modules : List PlacedName) (ds : Declarations) → Tabulates modules t ds
+  pub instances_all : entry_count t ≤ k → (modules : List PlacedName) (ds : Declarations) → Tabulates modules t ds
       → sum ≡ saturated (sum_of (map (cost_at costs) (instance_numbers modules ds)))
   instances_all past modules ds tab =
       h.is ∙ ap (λ l. saturated (sum_of (map (cost_at costs) l))) (numbers_all modules t k h.numbers (h.are modules) past ds tab)

@@ -5,7 +5,7 @@ ghost use Rattle.fir_ast.specs.Statements.{PlacedName};
 ghost use Rattle.fir_ast.specs.View.{circuit_of};
 ghost use Rattle.fir_meaning.specs.Components.{Declarations};
 ghost use Rattle.fir_names.specs.working.Numbered.{instance_numbers, number_read};
-ghost use Rattle.fir_names.specs.working.Tabulated.{Tabulates, found_at};
+ghost use Rattle.fir_names.specs.working.Tabulated.{Tabulates, entry_at};
 ghost use Rattle.fir_type_table.specs.working.Saturated.{saturated};
 ghost use Rattle.fir_meaning.specs.Costs.{sum_of};
 ghost use Rattle.fir_expand.specs.working.CostsByNumber.{cost_at, cost_where};
@@ -48,7 +48,7 @@ fn instance_costs(names: &Names, costs: &[u64]) -> u64
 
 /// What the module of an instance costs that is declared there; another declaration costs nothing.
 fn instance_cost(names: &Names, position: usize, costs: &[u64]) -> u64
-    ensures { result ≡ cost_where costs.now (number_read (found_at names.now (slice_get names.now.in_order.items position))) }
+    ensures { result ≡ cost_where costs.now (number_read (entry_at names.now position)) }
 {
     let Some(declaration) = names.at(position) else {
         return 0;

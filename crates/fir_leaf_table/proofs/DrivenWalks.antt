@@ -17,7 +17,7 @@ use Rattle.fir_meaning.specs.Visibility.{declarations}
 use Rattle.fir_names.specs.declared.names.Names.{Names}
 use Rattle.fir_names.specs.declared.declaration.Declaration.{Declaration as Entry}
 use Rattle.fir_names.specs.working.Numbered.{component_of, names_of}
-use Rattle.fir_names.specs.working.Tabulated.{entry_of, found_at}
+use Rattle.fir_names.specs.working.Tabulated.{entry_at, entry_of}
 use Rattle.fir_names.proofs.TablesByNumber.{entry_read}
 use Rattle.fir_type_table.specs.working.Tables.{types_of}
 use Rattle.fir_types.specs.declared.found.Found.{Found}
@@ -94,16 +94,16 @@ module _ (frame : Frame) where
 -- what is read of the table
 module _ (names : Names) (modules : List ModuleTree) (whole : Declarations) (of : IsOfModule modules names whole) (i : ℕ) (d : Declaration)
     (at : slice_get whole i ≡ Some d) where
-  entry_is : found_at names (slice_get names.in_order.items i) ≡ Some (entry_of (names_of modules) i d)
+  entry_is : entry_at names i ≡ Some (entry_of (names_of modules) i d)
   entry_is = entry_read (names_of modules) names whole of.tabulated i d at
 
-  pub flow_read : (entry : Entry) → Some entry ≡ found_at names (slice_get names.in_order.items i)
+  pub flow_read : (entry : Entry) → Some entry ≡ entry_at names i
       → component_flow entry.component ≡ flow_of d.component
   flow_read entry found =
       let same : entry ≡ entry_of (names_of modules) i d = same_Some entry (entry_of (names_of modules) i d) (found ∙ entry_is) in
       ap (λ (e : Entry). component_flow e.component) same ∙ flow_same (names_of modules) d.component
 
-  pub none_read : None ≡ found_at names (slice_get names.in_order.items i) → ⊥
+  pub none_read : None ≡ entry_at names i → ⊥
   none_read found = none-some (entry_of (names_of modules) i d) (found ∙ entry_is)
 
 -- the walk over the leaves of a type, which are as the code has them

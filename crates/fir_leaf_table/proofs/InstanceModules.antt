@@ -15,7 +15,7 @@ use Rattle.fir_names.specs.declared.declaration.Component.TheVariants as code
 use Rattle.fir_names.specs.declared.declaration.Declaration.{Declaration as Entry}
 use Rattle.fir_names.specs.working.ModuleOrder.{find_number}
 use Rattle.fir_names.specs.working.Numbered.{names_of}
-use Rattle.fir_names.specs.working.Tabulated.{entry_of, found_at}
+use Rattle.fir_names.specs.working.Tabulated.{entry_at, entry_of}
 use Rattle.fir_names.proofs.TablesByNumber.{entry_read}
 use Rattle.fir_reset.proofs.ModuleNumbers.{is_numbered}
 use Rattle.fir_meaning.specs.LeafedModules.{Scene}
@@ -48,7 +48,7 @@ pub record InstanceFacts (frame : Frame) (c : CircuitTree) (name : List ℕ) (po
   pub number : ℕ
   pub child : ModuleTree
   pub entry : Entry
-  pub found : found_at frame.names.now (slice_get frame.names.now.in_order.items position) ≡ Some entry
+  pub found : entry_at frame.names.now position ≡ Some entry
   pub component : entry.component ≡ code.Instance number
   pub numbered : numbered_module 0 c.modules name ≡ Some (number, child)
 

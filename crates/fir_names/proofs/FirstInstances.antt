@@ -1,17 +1,19 @@
 -- How far a table has no instance of a module, and the first one.
 use Rattle.std.proofs.Common.{◌≡◌, ℕ, zero, suc, ◌+◌, ◌<◌, ◌≤◌, List, [], ◌∷◌, length, slice_get, Some, subst, ⊎_elim, arith}
 use Rattle.std.proofs.lemmas.Bool.{cases_lt}
+use Rattle.std.proofs.lemmas.List.{length-map}
 use Rattle.std.proofs.lemmas.Option.{none-some}
+use Rattle.indexmap.specs.IndexMap.{values}
 use Rattle.fir_ast.specs.declared.place.Place.{Place}
 use Rattle.fir_names.specs.declared.declaration.Declaration.{Declaration as Entry}
 use Rattle.fir_names.specs.declared.declaration.Component.TheVariants.{Instance}
 use Rattle.fir_names.specs.declared.names.Names.{Names}
 use Rattle.fir_names.specs.working.Ordered.{HasInstance, IsFirstInstance}
-use Rattle.fir_names.specs.working.Tabulated.{found_at}
+use Rattle.fir_names.specs.working.Tabulated.{entry_at, entry_count}
 
 -- what stands there is no instance of the module
 pub record Other (names : Names) (other k : ℕ) : Type 0 where
-  pub than : (e : Entry) → found_at names (slice_get names.in_order.items k) ≡ Some e → e.component ≡ Instance other → ⊥
+  pub than : (e : Entry) → entry_at names k ≡ Some e → e.component ≡ Instance other → ⊥
 
 pub record NoneBefore (names : Names) (other n : ℕ) : Type 0 where
   pub each : (k : ℕ) → k < n → Other names other k
@@ -22,17 +24,19 @@ none_more names other n h last = record {
       ⊎_elim (λ (l : k < n). h.each k l) (λ (l : n ≤ k). let same : n ≡ k = omega (arith, low, l) in subst (Other names other) same last) (cases_lt k n);
 }
 
-found_within : (names : Names) (ids : List ℕ) (k : ℕ) (e : Entry) → found_at names (slice_get ids k) ≡ Some e → k < length ids
-found_within names [] k e h = absurd (none-some e h)
-found_within names (i ∷ ids) zero e h = omega arith
-found_within names (i ∷ ids) (suc k) e h = let more = found_within names ids k e h in omega arith
+entry_within : (es : List Entry) (k : ℕ) (e : Entry) → slice_get es k ≡ Some e → k < length es
+entry_within [] k e h = absurd (none-some e h)
+entry_within (x ∷ es) zero e h = omega arith
+entry_within (x ∷ es) (suc k) e h = let more = entry_within es k e h in omega arith
 
-pub none_left : (names : Names) (other n : ℕ) → HasInstance names other → NoneBefore names other n → length names.in_order.items ≤ n → ⊥
+pub none_left : (names : Names) (other n : ℕ) → HasInstance names other → NoneBefore names other n → entry_count names ≤ n → ⊥
 none_left names other n has h end =
-    let within = found_within names names.in_order.items has.at has.entry has.is in
-    (h.each has.at (omega (arith, within, end))).than has.entry has.is has.instance_of
+    let es = values names.declarations in
+    let within = entry_within es has.at has.entry has.is in
+    let count : length es ≡ entry_count names = length-map names.declarations.entries (λ e. e.1) in
+    (h.each has.at (omega (arith, within, count, end))).than has.entry has.is has.instance_of
 
-pub first_here : (names : Names) (other n : ℕ) (e : Entry) (place : Place) → NoneBefore names other n → found_at names (slice_get names.in_order.items n) ≡ Some e
+pub first_here : (names : Names) (other n : ℕ) (e : Entry) (place : Place) → NoneBefore names other n → entry_at names n ≡ Some e
     → e.component ≡ Instance other → place ≡ e.place → IsFirstInstance names other place
 first_here names other n e place h is instance_of at = record {
   has = record { at = n; entry = e; is = is; instance_of = instance_of };

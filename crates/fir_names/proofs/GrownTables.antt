@@ -1,17 +1,15 @@
 -- A table of declarations with one declaration more.
-use Rattle.std.proofs.Common.{◌≡◌, ℕ, List, [], ◌∷◌, ◌++◌, map, length, Bool, true, false, cond, Option, Some, None, refl, sym, ap, ◌∙◌, subst, arith}
-use Rattle.std.specs.BTreeMap.{get}
-use Rattle.std.specs.BTreeMap as tree
-use Rattle.std.specs.Cmp.Lexicographic.{slice_cmp}
-use Rattle.std.specs.Ordering.{nat_cmp}
+use Rattle.std.proofs.Common.{◌≡◌, ℕ, List, [], ◌∷◌, ◌++◌, map, length, Bool, cond, Option, Some, None, refl, sym, ap, ◌∙◌, subst, arith}
+use Rattle.std.specs.Prelude.{Vec}
+use Rattle.std.specs.declared.alloc.Global.{Global}
+use Rattle.std.specs.Cmp.Lexicographic.{nat_list_eq_equiv}
+use Rattle.std.specs.Map.{lookup}
+use Rattle.std.specs.Option.{option_or}
 use Rattle.std.specs.Str.{bytes_eq}
 use Rattle.std.proofs.lemmas.List.{length-map, map-append}
-use Rattle.std.proofs.lemmas.Map.Text.{is_eq-slice_cmp}
-use Rattle.fir_arena.specs.working.Held.{held, Updates}
+use Rattle.indexmap.specs.IndexMap.{get, insert_entry}
+use Rattle.indexmap.proofs.CallerLemmas.{insert_entry-new}
 use Rattle.fir_base.specs.Lists.{Distinct}
-use Rattle.fir_base.proofs.Elements.{number_of, beside}
-use Rattle.fir_base.proofs.Members.{map_same}
-use Rattle.fir_base.proofs.SameNames.{name_is}
 use Rattle.fir_base.proofs.Twins.{distinct_more}
 use Rattle.fir_ast.specs.Statements.{PlacedName}
 use Rattle.fir_meaning.specs.Components.{Declaration, Declarations, find}
@@ -19,14 +17,19 @@ use Rattle.fir_names.specs.declared.declaration.Component.{Component as Componen
 use Rattle.fir_names.specs.declared.declaration.Declaration.{Declaration as Entry}
 use Rattle.fir_names.specs.declared.names.Names.{Names}
 use Rattle.fir_names.specs.working.Numbered.{component_of}
-use Rattle.fir_names.specs.working.Tabulated.{entry_of, entries_from, entry_named, found_at, found, Tabulates}
-use Rattle.fir_names.proofs.TableEntries.{length_entries, entries_more, other_entry, new_entry, found_name}
+use Rattle.fir_names.specs.working.Tabulated.{entry_count, entry_of, entries_from, entry_named, Tabulates}
+use Rattle.fir_names.proofs.LookUps.{or_cond}
+use Rattle.fir_names.proofs.TableEntries.{length_entries, entries_more, entry_last, found_name, not_entered}
 
--- the table has as many ids as there are declarations
-pub table_length : (modules : List PlacedName) (names : Names) (ds : Declarations) → Tabulates modules names ds → length names.in_order.items ≡ length ds
+-- the table has as many entries as there are declarations
+pub table_length : (modules : List PlacedName) (names : Names) (ds : Declarations) → Tabulates modules names ds → entry_count names ≡ length ds
 table_length modules names ds t =
-    sym (length-map names.in_order.items (held names.declarations)) ∙ ap length t.in_order
-    ∙ length-map (entries_from modules 0 ds) Some ∙ length_entries modules 0 ds
+    sym (length-map names.declarations.entries (λ e. e.1)) ∙ ap length t.in_order ∙ length_entries modules 0 ds
+
+-- what is noted of expressions is no matter
+pub tabulates_noted : (modules : List PlacedName) (names : Names) (ds : Declarations) (noted : Vec ℕ Global) → Tabulates modules names ds
+    → Tabulates modules (record names { noted = noted }) ds
+tabulates_noted modules names ds noted t = record { in_order = t.in_order; by_name = t.by_name; once = t.once }
 
 -- the entry that the code makes
 pub entry_by : (modules : List PlacedName) (d : Declaration) (n : PlacedName) (c : ComponentOfCode) (position count depth : ℕ) → d.named ≡ n
@@ -34,62 +37,45 @@ pub entry_by : (modules : List PlacedName) (d : Declaration) (n : PlacedName) (c
     → ◌≡◌ {A = Entry} (record { place = n.place; component = c; position = position; depth = depth }) (entry_of modules count d)
 entry_by modules d n c position count depth named component at within = cc
 
--- what was held is held still
-held_still : (old new : List (Option Entry)) (id : ℕ) (slot : Option Entry) (ids : List ℕ) (es : List Entry) → Updates old new id slot
-    → held old id ≡ None → map (held old) ids ≡ map Some es → map (held new) ids ≡ map Some es
-held_still old new id slot ids es u free same =
-    map_same (held new) (held old) ids
-    (λ x m. u.others x (λ is.
-    let at = number_of ids x m in
-    let b = beside Some (held old) es ids (sym same) at.0 x at.1 in
-    let none : held old x ≡ None = ap (held old) is ∙ free in
-    let apart : Some b.0 ≡ None = b.2 ∙ none in cc))
-    ∙ same
+-- whether two keys spell one name
+abbrev pub same_key : Vec ℕ Global → Vec ℕ Global → Bool
+same_key a b = bytes_eq a.items b.items
 
-found_still : (old new : Names) (id : ℕ) (e : Entry) (o : Option ℕ) → Updates old.declarations new.declarations id (Some e)
-    → held old.declarations id ≡ None → (found_at old o ≡ None → o ≡ None) → found_at new o ≡ found_at old o
-found_still old new id e None u free filled = refl
-found_still old new id e (Some x) u free filled =
-    u.others x (λ is. let none : Some x ≡ None = filled (ap (held old.declarations) is ∙ free) in cc)
+abbrev found_in : List (Vec ℕ Global × Entry) → List ℕ → Option Entry
+found_in entries n = lookup (λ known. bytes_eq n known.items) entries
 
--- what the table has under a name now, where the name is the new one and where it is another
-named_step : (old new : Names) (id : ℕ) (e : Entry) (same : Bool) (o p : Option ℕ) (before after : Option Entry)
-    → Updates old.declarations new.declarations id (Some e) → held old.declarations id ≡ None → (found_at old o ≡ None → o ≡ None)
-    → p ≡ cond same (Some id) o → found_at old o ≡ before → (same ≡ true → after ≡ Some e) → (same ≡ false → after ≡ before)
-    → (found_at new p ≡ after) × (found_at new p ≡ None → p ≡ None)
-named_step old new id e true o p before after u free filled is was here other =
-    let held_here : found_at new p ≡ Some e = ap (found_at new) is ∙ u.changed in
-    (held_here ∙ sym (here refl), λ none. let apart : Some e ≡ None = sym held_here ∙ none in absurd (cc))
-named_step old new id e false o p before after u free filled is was here other =
-    let still : found_at new p ≡ found_at old o = ap (found_at new) is ∙ found_still old new id e o u free filled in
-    (still ∙ was ∙ sym (other refl), λ none. is ∙ filled (sym still ∙ none))
+-- what is found under a name with one entry more
+found_last : (entries : List (Vec ℕ Global × Entry)) (key : Vec ℕ Global) (e : Entry) (n : List ℕ)
+    → found_in (entries ++ (key, e) ∷ []) n ≡ option_or (found_in entries n) (cond (bytes_eq n key.items) (Some e) None)
+found_last [] key e n = refl
+found_last (x ∷ entries) key e n =
+    ap (cond (bytes_eq n x.0.items) (Some x.1)) (found_last entries key e n)
+    ∙ or_cond (bytes_eq n x.0.items) x.1 (found_in entries n) (cond (bytes_eq n key.items) (Some e) None)
 
-pub tabulates_more : (modules : List PlacedName) (old new : Names) (ds : Declarations) (d : Declaration) (id : ℕ) (name : List ℕ) (e : Entry)
-    → Updates old.declarations new.declarations id (Some e) → held old.declarations id ≡ None
-    → new.in_order.items ≡ old.in_order.items ++ id ∷ [] → tree.Updates (slice_cmp nat_cmp) old.ids new.ids name (Some id)
-    → d.named.name ≡ name → e ≡ entry_of modules (length old.in_order.items) d → find ds name ≡ None → Tabulates modules old ds
-    → Tabulates modules new (ds ++ d ∷ [])
-tabulates_more modules old new ds d id name e u free ordered by_id named entry none t =
-    let count = table_length modules old ds t in
-    let is : e ≡ entry_of modules (length ds) d = entry ∙ ap (λ k. entry_of modules k d) count in
-    let step : (n : List ℕ) → (found new n ≡ entry_named modules 0 (ds ++ d ∷ []) n) × (found new n ≡ None → get (slice_cmp nat_cmp) new.ids n ≡ None) =
-    λ n. named_step old new id e (bytes_eq name n) (get (slice_cmp nat_cmp) old.ids n) (get (slice_cmp nat_cmp) new.ids n) (entry_named modules 0 ds n)
-    (entry_named modules 0 (ds ++ d ∷ []) n) u free (t.filled n)
-    (by_id.0 n ∙ ap (λ b. cond b (Some id) (get (slice_cmp nat_cmp) old.ids n)) (is_eq-slice_cmp name n)) (t.by_name n)
-    (λ same. new_entry modules 0 (length ds) ds d n (omega arith) (ap (find ds) (sym (name_is name n same)) ∙ none)
-    (ap (λ m. bytes_eq m n) named ∙ same) ∙ ap Some (sym is))
-    (λ other. other_entry modules 0 ds d n (ap (λ m. bytes_eq m n) named ∙ other)) in
+pub tabulates_more : (modules : List PlacedName) (old new : Names) (ds : Declarations) (d : Declaration) (key : Vec ℕ Global) (e : Entry)
+    → new.declarations.entries ≡ insert_entry same_key old.declarations.entries key e → key.items ≡ d.named.name
+    → e ≡ entry_of modules (entry_count old) d → find ds d.named.name ≡ None → Tabulates modules old ds → Tabulates modules new (ds ++ d ∷ [])
+tabulates_more modules old new ds d key e inserted named entry none t =
+    let is : e ≡ entry_of modules (length ds) d = entry ∙ ap (λ k. entry_of modules k d) (table_length modules old ds t) in
+    let absent : get same_key old.declarations key ≡ None =
+    t.by_name key.items ∙ not_entered modules 0 ds key.items (ap (find ds) named ∙ none) in
+    let grown : new.declarations.entries ≡ old.declarations.entries ++ (key, e) ∷ [] =
+    inserted ∙ insert_entry-new same_key old.declarations key e absent in
+    let values : List (Vec ℕ Global × Entry) → List Entry = map (λ x. x.1) in
     record {
       in_order =
-          ap (map (held new.declarations)) ordered ∙ map-append (held new.declarations) old.in_order.items (id ∷ [])
-          ∙ ap (λ front. front ++ held new.declarations id ∷ [])
-          (held_still old.declarations new.declarations id (Some e) old.in_order.items (entries_from modules 0 ds) u free t.in_order)
-          ∙ ap (λ last. map Some (entries_from modules 0 ds) ++ last ∷ []) (u.changed ∙ ap Some is)
-          ∙ sym (map-append Some (entries_from modules 0 ds) (entry_of modules (length ds) d ∷ []))
-          ∙ ap (map Some) (sym (entries_more modules 0 (length ds) ds d (omega arith)));
-      by_name = λ n. (step n).0;
-      filled = λ n. (step n).1;
+          ap values grown ∙ map-append (λ x. x.1) old.declarations.entries ((key, e) ∷ [])
+          ∙ ap (λ front. front ++ e ∷ []) t.in_order ∙ ap (λ last. entries_from modules 0 ds ++ last ∷ []) is
+          ∙ sym (entries_more modules 0 (length ds) ds d (omega arith));
+      by_name = λ n.
+          let here : bytes_eq n key.items ≡ bytes_eq d.named.name n =
+          nat_list_eq_equiv.symm n key.items ∙ ap (λ m. bytes_eq m n) named in
+          ap (λ entries. found_in entries n) grown ∙ found_last old.declarations.entries key e n
+          ∙ ap (λ o. option_or o (cond (bytes_eq n key.items) (Some e) None)) (t.by_name n)
+          ∙ ap (λ b. option_or (entry_named modules 0 ds n) (cond b (Some e) None)) here
+          ∙ ap (λ x. option_or (entry_named modules 0 ds n) (cond (bytes_eq d.named.name n) (Some x) None)) is
+          ∙ sym (entry_last modules 0 (length ds) ds d n (omega arith));
       once =
           subst Distinct (sym (map-append (λ (x : Declaration). x.named.name) ds (d ∷ [])))
-          (distinct_more (map (λ (x : Declaration). x.named.name) ds) d.named.name t.once (λ m. found_name ds d.named.name m (ap (find ds) named ∙ none)));
+          (distinct_more (map (λ (x : Declaration). x.named.name) ds) d.named.name t.once (λ m. found_name ds d.named.name m none));
     }

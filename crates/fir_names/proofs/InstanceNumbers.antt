@@ -12,7 +12,7 @@ use Rattle.fir_names.specs.declared.names.Names.{Names}
 use Rattle.fir_names.specs.working.Judged.{TabulatesEach}
 use Rattle.fir_names.specs.working.Numbered.{component_of, instance_number, instance_numbers, module_number, number_read}
 use Rattle.fir_names.specs.working.Ordered.{instances_each}
-use Rattle.fir_names.specs.working.Tabulated.{Tabulates, found_at}
+use Rattle.fir_names.specs.working.Tabulated.{Tabulates, entry_at, entry_count}
 use Rattle.fir_names.proofs.TablesByNumber.{entry_read, in_order_long, module_there, tables_long}
 
 one_number : (modules : List PlacedName) (c : Component) → instance_number modules c ≡ option_to_list (module_number (component_of modules c))
@@ -32,8 +32,8 @@ pub record Numbers (modules : List PlacedName) (t : Names) (k : ℕ) (numbers : 
   pub with : (ds : Declarations) → Tabulates modules t ds → numbers ++ instance_numbers modules (drop k ds) ≡ instance_numbers modules ds
 
 module _ (modules : List PlacedName) (t : Names) (k : ℕ) (numbers : List ℕ) where
-  next_number : (ds : Declarations) → Tabulates modules t ds → k < length t.in_order.items → (o : Option ℕ)
-      → o ≡ number_read (found_at t (slice_get t.in_order.items k)) → instance_numbers modules (drop k ds) ≡ option_to_list o ++ instance_numbers modules (drop (k + 1) ds)
+  next_number : (ds : Declarations) → Tabulates modules t ds → k < entry_count t → (o : Option ℕ)
+      → o ≡ number_read (entry_at t k) → instance_numbers modules (drop k ds) ≡ option_to_list o ++ instance_numbers modules (drop (k + 1) ds)
   next_number ds h within o is =
       let low : k < length ds = omega (arith, within, in_order_long modules t ds h) in
       let d = there ds k low in
@@ -41,7 +41,7 @@ module _ (modules : List PlacedName) (t : Names) (k : ℕ) (numbers : List ℕ) 
       ap (instance_numbers modules) (left_is ds k d.0 low d.1)
       ∙ ap (λ l. l ++ instance_numbers modules (drop (k + 1) ds)) (one_number modules d.0.component ∙ ap option_to_list (sym number))
 
-  pub numbers_more : Numbers modules t k numbers → k < length t.in_order.items → (n : ℕ) → Some n ≡ number_read (found_at t (slice_get t.in_order.items k))
+  pub numbers_more : Numbers modules t k numbers → k < entry_count t → (n : ℕ) → Some n ≡ number_read (entry_at t k)
       → Numbers modules t (k + 1) (numbers ++ n ∷ [])
   numbers_more h within n is = record {
     with = λ ds tab.
@@ -49,13 +49,13 @@ module _ (modules : List PlacedName) (t : Names) (k : ℕ) (numbers : List ℕ) 
         ∙ ap (λ l. numbers ++ l) (sym (next_number ds tab within (Some n) is)) ∙ h.with ds tab;
   }
 
-  pub numbers_same : Numbers modules t k numbers → k < length t.in_order.items → None ≡ number_read (found_at t (slice_get t.in_order.items k))
+  pub numbers_same : Numbers modules t k numbers → k < entry_count t → None ≡ number_read (entry_at t k)
       → Numbers modules t (k + 1) numbers
   numbers_same h within is = record {
     with = λ ds tab. ap (λ l. numbers ++ l) (sym (next_number ds tab within None is)) ∙ h.with ds tab;
   }
 
-  pub numbers_all : Numbers modules t k numbers → length t.in_order.items ≤ k → (ds : Declarations) → Tabulates modules t ds → numbers ≡ instance_numbers modules ds
+  pub numbers_all : Numbers modules t k numbers → entry_count t ≤ k → (ds : Declarations) → Tabulates modules t ds → numbers ≡ instance_numbers modules ds
   numbers_all h end ds tab =
       let past : length ds ≤ k = omega (arith, end, in_order_long modules t ds tab) in
       sym (append-nil numbers) ∙ ap (λ l. numbers ++ instance_numbers modules l) (sym (drop_all k ds past)) ∙ h.with ds tab

@@ -1,5 +1,6 @@
 -- The entries of declarations: how many they are, with one declaration more, and under a name.
 use Rattle.std.proofs.Common.{◌≡◌, ℕ, suc, ◌+◌, List, [], ◌∷◌, ◌++◌, map, length, Bool, true, false, cond, Option, Some, None, refl, sym, ap, ◌∙◌, inl, inr, arith}
+use Rattle.std.specs.Option.{option_or}
 use Rattle.std.specs.Str.{bytes_eq}
 use Rattle.fir_base.specs.Lists.{In}
 use Rattle.fir_base.proofs.SameNames.{name_same}
@@ -10,6 +11,7 @@ use Rattle.fir_meaning.specs.Components.{Declaration, Declarations, find, find_n
 use Rattle.fir_meaning.specs.NameGroups.{twice, second_faults}
 use Rattle.fir_names.specs.declared.declaration.Declaration.{Declaration as Entry}
 use Rattle.fir_names.specs.working.Tabulated.{entry_of, entries_from, entry_named}
+use Rattle.fir_names.proofs.LookUps.{or_cond}
 
 pub length_entries : (modules : List PlacedName) (i : ℕ) (ds : Declarations) → length (entries_from modules i ds) ≡ length ds
 length_entries modules i [] = refl
@@ -25,22 +27,22 @@ passed_over : {A : Type 0} (b : Bool) (x : A) (o : Option A) → cond b (Some x)
 passed_over true x o h = absurd (cc)
 passed_over false x o h = (refl, h)
 
--- another name under a name, and the name itself where it is new
-pub other_entry : (modules : List PlacedName) (i : ℕ) (ds : Declarations) (d : Declaration) (n : List ℕ) → bytes_eq d.named.name n ≡ false
-    → entry_named modules i (ds ++ d ∷ []) n ≡ entry_named modules i ds n
-other_entry modules i [] d n other = ap (λ b. cond b (Some (entry_of modules i d)) None) other
-other_entry modules i (x ∷ ds) d n other =
-    ap (cond (bytes_eq x.named.name n) (Some (entry_of modules i x))) (other_entry modules (suc i) ds d n other)
+-- what stands under a name with one declaration more
+pub entry_last : (modules : List PlacedName) (i j : ℕ) (ds : Declarations) (d : Declaration) (n : List ℕ) → i + length ds ≡ j
+    → entry_named modules i (ds ++ d ∷ []) n ≡ option_or (entry_named modules i ds n) (cond (bytes_eq d.named.name n) (Some (entry_of modules j d)) None)
+entry_last modules i j [] d n e =
+    let at : i ≡ j = omega arith in ap (λ k. cond (bytes_eq d.named.name n) (Some (entry_of modules k d)) None) at
+entry_last modules i j (x ∷ ds) d n e =
+    ap (cond (bytes_eq x.named.name n) (Some (entry_of modules i x))) (entry_last modules (suc i) j ds d n (omega arith))
+    ∙ or_cond (bytes_eq x.named.name n) (entry_of modules i x) (entry_named modules (suc i) ds n)
+    (cond (bytes_eq d.named.name n) (Some (entry_of modules j d)) None)
 
-pub new_entry : (modules : List PlacedName) (i j : ℕ) (ds : Declarations) (d : Declaration) (n : List ℕ) → i + length ds ≡ j → find ds n ≡ None
-    → bytes_eq d.named.name n ≡ true → entry_named modules i (ds ++ d ∷ []) n ≡ Some (entry_of modules j d)
-new_entry modules i j [] d n e none same =
-    let at : i ≡ j = omega arith in
-    ap (λ b. cond b (Some (entry_of modules i d)) None) same ∙ ap (λ k. Some (entry_of modules k d)) at
-new_entry modules i j (x ∷ ds) d n e none same =
-    let h = passed_over (bytes_eq x.named.name n) x (find ds n) none in
-    ap (λ b. cond b (Some (entry_of modules i x)) (entry_named modules (suc i) (ds ++ d ∷ []) n)) h.0
-    ∙ new_entry modules (suc i) j ds d n (omega arith) h.1 same
+-- a name that is not declared has no entry
+pub not_entered : (modules : List PlacedName) (i : ℕ) (ds : Declarations) (n : List ℕ) → find ds n ≡ None → entry_named modules i ds n ≡ None
+not_entered modules i [] n none = refl
+not_entered modules i (d ∷ ds) n none =
+    let h = passed_over (bytes_eq d.named.name n) d (find ds n) none in
+    ap (λ b. cond b (Some (entry_of modules i d)) (entry_named modules (suc i) ds n)) h.0 ∙ not_entered modules (suc i) ds n h.1
 
 -- a name that is found is one of the names, and a name of no entry is declared nowhere
 pub found_name : (ds : Declarations) (n : List ℕ) → In (map (λ d. d.named.name) ds) n → find ds n ≡ None → ⊥

@@ -1,9 +1,8 @@
 -- The table of a module by its number, and what a table has by the declaration's number.
-use Rattle.std.proofs.Common.{◌≡◌, ℕ, zero, suc, ◌+◌, List, [], ◌∷◌, map, length, slice_get, Some, None, Option, option_copied, IsSomeAnd, Bor, refl, sym, ap, subst, ◌∙◌, add-zero, zero-add, arith}
+use Rattle.std.proofs.Common.{◌≡◌, ℕ, zero, suc, ◌+◌, List, [], ◌∷◌, length, slice_get, Some, None, Option, option_copied, IsSomeAnd, Bor, refl, sym, ap, subst, ◌∙◌, add-zero, zero-add, arith}
 use Rattle.std.proofs.lemmas.List.{length-map}
 use Rattle.std.proofs.lemmas.Option.{none-some, same_Some, slice_get_past, slice_get_read}
 use Rattle.std.specs.Slice.{IsItemAt}
-use Rattle.fir_arena.specs.working.Held.{held}
 use Rattle.fir_ast.specs.Statements.{PlacedName}
 use Rattle.fir_ast.specs.Circuits.{ModuleTree}
 use Rattle.fir_meaning.specs.Components.{Declaration, Declarations}
@@ -11,7 +10,7 @@ use Rattle.fir_meaning.specs.Visibility.{declarations}
 use Rattle.fir_names.specs.declared.declaration.Declaration.{Declaration as Entry}
 use Rattle.fir_names.specs.declared.names.Names.{Names}
 use Rattle.fir_names.specs.working.Judged.{TabulatesEach}
-use Rattle.fir_names.specs.working.Tabulated.{Tabulates, entry_of, entries_from, found_at}
+use Rattle.fir_names.specs.working.Tabulated.{Tabulates, entries_from, entry_at, entry_count, entry_of}
 
 -- each module has a table, and each table a module
 pub table_there : (names : List PlacedName) (ts : List Names) (ms : List ModuleTree) → TabulatesEach names ts ms → (k : ℕ) (m : ModuleTree)
@@ -61,30 +60,23 @@ module _ (modules : List PlacedName) where
   entries_long position [] = refl
   entries_long position (d ∷ ds) = ap suc (entries_long (suc position) ds)
 
--- what is held in order is what is read by number
-read_same : (t : Names) (ids : List ℕ) (es : List Entry) (k : ℕ) → map (held t.declarations) ids ≡ map Some es
-    → found_at t (slice_get ids k) ≡ slice_get es k
-read_same t [] [] k h = refl
-read_same t [] (e ∷ es) k h = cc
-read_same t (i ∷ ids) [] k h = cc
-read_same t (i ∷ ids) (e ∷ es) zero h = cc
-read_same t (i ∷ ids) (e ∷ es) (suc k) h = let rest : map (held t.declarations) ids ≡ map Some es = cc in read_same t ids es k rest
-
 module _ (modules : List PlacedName) (t : Names) (ds : Declarations) (h : Tabulates modules t ds) where
-  pub entry_read : (k : ℕ) (d : Declaration) → slice_get ds k ≡ Some d → found_at t (slice_get t.in_order.items k) ≡ Some (entry_of modules k d)
-  entry_read k d e =
-      read_same t t.in_order.items (entries_from modules 0 ds) k h.in_order ∙ entry_there modules 0 ds k d e
-      ∙ ap (λ (p : ℕ). Some (entry_of modules p d)) (zero-add k)
+  -- the entries stand by their numbers
+  by_number : (k : ℕ) → entry_at t k ≡ slice_get (entries_from modules 0 ds) k
+  by_number k = ap (λ es. slice_get es k) h.in_order
 
-  pub declaration_read : (k : ℕ) (entry : Entry) → found_at t (slice_get t.in_order.items k) ≡ Some entry
+  pub entry_read : (k : ℕ) (d : Declaration) → slice_get ds k ≡ Some d → entry_at t k ≡ Some (entry_of modules k d)
+  entry_read k d e = by_number k ∙ entry_there modules 0 ds k d e ∙ ap (λ (p : ℕ). Some (entry_of modules p d)) (zero-add k)
+
+  pub declaration_read : (k : ℕ) (entry : Entry) → entry_at t k ≡ Some entry
       → (d : Declaration) × (slice_get ds k ≡ Some d) × (entry ≡ entry_of modules k d)
   declaration_read k entry e =
-      let r = declaration_there modules 0 ds k entry (sym (read_same t t.in_order.items (entries_from modules 0 ds) k h.in_order) ∙ e) in
+      let r = declaration_there modules 0 ds k entry (sym (by_number k) ∙ e) in
       (r.0, r.1, r.2 ∙ ap (λ (p : ℕ). entry_of modules p r.0) (zero-add k))
 
-  pub in_order_long : length t.in_order.items ≡ length ds
+  pub in_order_long : entry_count t ≡ length ds
   in_order_long =
-      sym (length-map t.in_order.items (held t.declarations)) ∙ ap length h.in_order ∙ length-map (entries_from modules 0 ds) Some ∙ entries_long modules 0 ds
+      sym (length-map t.declarations.entries (λ e. e.1)) ∙ ap length h.in_order ∙ entries_long modules 0 ds
 
 -- what `get` answers
 pub item_is : {X : Type 0} → (xs : List X) (i : ℕ) (r : Option (Bor X)) → IsItemAt xs i r → option_copied r ≡ slice_get xs i

@@ -4,7 +4,7 @@ use Rattle.fir_ast.specs.Statements.{PlacedName, Block}
 use Rattle.fir_meaning.specs.Components.{Component, Declaration, find}
 use Rattle.fir_meaning.specs.Visibility.{Before, declaration_at, with_declaration, opened, closed, behind_block, at_head}
 use Rattle.fir_names.specs.declared.scope.Scope.{Scope}
-use Rattle.fir_names.specs.working.Tabulated.{Tabulates}
+use Rattle.fir_names.specs.working.Tabulated.{Tabulates, entry_count}
 use Rattle.fir_names.specs.working.Opened.{is_open, open_from, Opens, Closes}
 use Rattle.fir_names.specs.working.Scoped.{is_open_entry, Sees, Walks}
 use Rattle.fir_names.proofs.GrownTables.{table_length}
@@ -63,7 +63,7 @@ begun_more (x ∷ xs) last count begun within (suc k) start is = begun_more xs l
 pub walks_opened : (modules : List PlacedName) (old new : Scope) (before : Before) → Opens old new → Walks modules old before → Walks modules new (opened before)
 walks_opened modules old new before o w =
     let count = table_length modules old.names before.declared w.declared in
-    let start = length old.names.in_order.items in
+    let start = entry_count old.names in
     record {
       declared = subst (λ names. Tabulates modules names before.declared) (sym o.names) w.declared;
       visible =
@@ -79,7 +79,7 @@ pub walks_closed : (modules : List PlacedName) (old inside late new : Scope) (be
     → late.opened.items ≡ inside.opened.items → Closes late new → Walks modules late (behind_block (opened before) b)
     → Walks modules new (closed before (behind_block (opened before) b)) × (new.opened.items ≡ old.opened.items)
 walks_closed modules old inside late new before b w o same c l =
-    let start = length old.names.in_order.items in
+    let start = entry_count old.names in
     let back : new.opened.items ≡ old.opened.items = c.closed old.opened.items start (same ∙ o.opened) in
     let a = adds_block (opened before) b in
     let within : AreWithin (suc (length old.opened.items)) a.added =

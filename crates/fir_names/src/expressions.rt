@@ -1,4 +1,5 @@
-//! The names in an expression: each is visible (E08).
+//! The names in an expression: each is visible (E08). What each reference names is noted by how many are
+//! declared before it: that of a reference where it begins, and a 0 behind the operands of each other form.
 
 ghost use Rattle.std.specs.Prelude.{◌≡◌, IfOk, map, option_map};
 ghost use Rattle.fir_ast.specs.View.{expr_of, expressions_of, sink_of};
@@ -22,27 +23,39 @@ pub fn in_expression(
     expr: &Expr,
     alloc: Global,
     scope: &Scope,
+    noted: &mut Vec<usize>,
 ) -> Result<Option<FirFault>, MemoryOut>
     ensures { IfOk result (λ f. (visible : Declarations) → Sees scope.now visible → option_map fault_of f ≡ first_of (faults_in (expression_mentions visible (expr_of expr.now)))) }
 {
     match expr {
-        Expr::Ref(reference) => in_reference(reference, alloc, scope),
-        Expr::Literal(_) => Ok(None),
-        Expr::Op(_, _, operands, _) => in_operands(operands, alloc, scope),
+        Expr::Ref(reference) => in_reference(reference, alloc, scope, noted),
+        Expr::Literal(_) => {
+            noted.push(0)?;
+            Ok(None)
+        }
+        Expr::Op(_, _, operands, _) => {
+            let fault = in_operands(operands, alloc, scope, noted)?;
+            noted.push(0)?;
+            Ok(fault)
+        }
         Expr::Mux(_, condition, high, low) => {
-            if let Some(fault) = in_expression(condition, alloc, scope)? {
+            if let Some(fault) = in_expression(condition, alloc, scope, noted)? {
                 return Ok(Some(fault));
             }
-            if let Some(fault) = in_expression(high, alloc, scope)? {
+            if let Some(fault) = in_expression(high, alloc, scope, noted)? {
                 return Ok(Some(fault));
             }
-            in_expression(low, alloc, scope)
+            let fault = in_expression(low, alloc, scope, noted)?;
+            noted.push(0)?;
+            Ok(fault)
         }
         Expr::Validif(_, condition, value) => {
-            if let Some(fault) = in_expression(condition, alloc, scope)? {
+            if let Some(fault) = in_expression(condition, alloc, scope, noted)? {
                 return Ok(Some(fault));
             }
-            in_expression(value, alloc, scope)
+            let fault = in_expression(value, alloc, scope, noted)?;
+            noted.push(0)?;
+            Ok(fault)
         }
     }
 }
@@ -52,11 +65,12 @@ fn in_operands(
     operands: &[Expr],
     alloc: Global,
     scope: &Scope,
+    noted: &mut Vec<usize>,
 ) -> Result<Option<FirFault>, MemoryOut>
     ensures { IfOk result (λ f. (visible : Declarations) → Sees scope.now visible → option_map fault_of f ≡ first_of (faults_in (operand_mentions visible (expressions_of (map expr_of operands.now))))) }
 {
     for operand in operands {
-        if let Some(fault) = in_expression(operand, alloc, scope)? {
+        if let Some(fault) = in_expression(operand, alloc, scope, noted)? {
             return Ok(Some(fault));
         }
     }
@@ -69,14 +83,15 @@ pub fn in_reference(
     reference: &Reference,
     alloc: Global,
     scope: &Scope,
+    noted: &mut Vec<usize>,
 ) -> Result<Option<FirFault>, MemoryOut>
     ensures { IfOk result (λ f. (visible : Declarations) → Sees scope.now visible → option_map fault_of f ≡ first_of (faults_in (sink_mentions visible (sink_of reference.now)))) }
 {
-    if let Some(fault) = in_name(alloc, scope, reference.place, &reference.name)? {
+    if let Some(fault) = in_name(alloc, scope, noted, reference.place, &reference.name)? {
         return Ok(Some(fault));
     }
     for part in &reference.parts {
-        if let Some(fault) = in_part(part, alloc, scope)? {
+        if let Some(fault) = in_part(part, alloc, scope, noted)? {
             return Ok(Some(fault));
         }
     }
@@ -84,11 +99,16 @@ pub fn in_reference(
 }
 
 #[cycle(expressions)]
-fn in_part(part: &Part, alloc: Global, scope: &Scope) -> Result<Option<FirFault>, MemoryOut>
+fn in_part(
+    part: &Part,
+    alloc: Global,
+    scope: &Scope,
+    noted: &mut Vec<usize>,
+) -> Result<Option<FirFault>, MemoryOut>
     ensures { IfOk result (λ f. (visible : Declarations) → Sees scope.now visible → option_map fault_of f ≡ first_of (faults_in (part_mentions visible (part_view part.now)))) }
 {
     match part {
-        Part::Access(_, index) => in_expression(index, alloc, scope),
+        Part::Access(_, index) => in_expression(index, alloc, scope, noted),
         Part::Field(_, _, _) | Part::Index(_, _, _) => Ok(None),
     }
 }
@@ -97,13 +117,15 @@ fn in_part(part: &Part, alloc: Global, scope: &Scope) -> Result<Option<FirFault>
 fn in_name(
     alloc: Global,
     scope: &Scope,
+    noted: &mut Vec<usize>,
     place: Place,
     name: &Name,
 ) -> Result<Option<FirFault>, MemoryOut>
     ensures { IfOk result (λ f. (visible : Declarations) → Sees scope.now visible → option_map fault_of f ≡ first_of (mention_faults (uses visible place name.now))) }
 {
-    if scope.sees(name) {
-        return Ok(None);
-    }
-    Ok(Some(unknown(alloc, place, name)?))
+    let Some(position) = scope.position_of(name) else {
+        return Ok(Some(unknown(alloc, place, name)?));
+    };
+    noted.push(position)?;
+    Ok(None)
 }

@@ -4,7 +4,7 @@ ghost use Rattle.std.specs.Prelude.{◌≡◌, List, IfOk, map, slice_get};
 ghost use Rattle.fir_ast.specs.Statements.{PlacedName};
 ghost use Rattle.fir_ast.specs.Circuits.{ModuleTree};
 ghost use Rattle.fir_meaning.specs.Components.{Declarations};
-ghost use Rattle.fir_names.specs.working.Tabulated.{Tabulates, found_at};
+ghost use Rattle.fir_names.specs.working.Tabulated.{Tabulates, entry_at};
 ghost use Rattle.fir_names.specs.working.Judged.{TabulatesEach};
 ghost use Rattle.fir_names.specs.working.Numbered.{instance_numbers, number_read};
 ghost use Rattle.fir_names.specs.working.Ordered.{instances_each};
@@ -74,7 +74,7 @@ fn instances_in(alloc: Global, table: &Names) -> Result<Vec<usize>, MemoryOut>
 
 /// The number of the module of an instance that is declared there.
 fn instance_at(table: &Names, position: usize) -> Option<usize>
-    ensures { result ≡ number_read (found_at table.now (slice_get table.now.in_order.items position)) }
+    ensures { result ≡ number_read (entry_at table.now position) }
 {
     match table.at(position)?.component {
         Component::Instance(number) => Some(number),

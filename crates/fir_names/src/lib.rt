@@ -33,6 +33,3 @@ pub use declaration::{Component, Declaration};
 pub use named::Named;
 pub use names::Names;
 pub use pass::{Parsed, Resolve};
-
-#[cfg(test)]
-mod tests;

@@ -30,10 +30,11 @@ pub fn in_module(
     if let Some(fault) = in_ports(alloc, &mut scope, &part.ports)? {
         return Err(Refused::Fault(fault));
     }
-    if let Some(fault) = in_block(&part.body, alloc, numbers, &mut scope)? {
+    let mut noted = Vec::new(alloc);
+    if let Some(fault) = in_block(&part.body, alloc, numbers, &mut scope, &mut noted)? {
         return Err(Refused::Fault(fault));
     }
-    Ok(scope.into_names())
+    Ok(scope.into_names(noted))
 }
 
 /// The first fault of names in ports, which are declared as they are passed.

@@ -1,26 +1,26 @@
 //! The table of what a module declares.
 
-ghost use Rattle.std.specs.Prelude.{◌≡◌, List, None, OnOk, [], ◌∷◌, ◌++◌, length, option_copied, slice_get};
+ghost use Rattle.std.specs.Prelude.{◌≡◌, List, None, OnOk, [], ◌∷◌, ◌++◌, option_copied};
 ghost use Rattle.fir_ast.specs.Statements.{PlacedName};
 ghost use Rattle.fir_ast.specs.View.{named_of};
 ghost use Rattle.fir_meaning.specs.Components as meant;
 ghost use Rattle.fir_meaning.specs.Components.{Declarations};
 ghost use Rattle.fir_names.specs.working.Numbered.{component_of};
-ghost use Rattle.fir_names.specs.working.Tabulated.{Tabulates, found, found_at};
+ghost use Rattle.fir_names.specs.working.Tabulated.{Tabulates, entry_at, entry_count, found};
 
 use crate::declaration::{Component, Declaration};
-use fir_arena::{Arena, Id};
 use fir_ast::Ident;
 use fir_base::{MemoryOut, Name};
+use indexmap::IndexMap;
 use std::alloc::Global;
-use std::collections::BTreeMap;
 
-/// The declarations of a module, each under an id, with their ids in the order of the text and by name.
+/// The declarations of a module, in the order of the text, each under the bytes that spell its name.
 #[derive(Drop)]
 pub struct Names {
-    pub(crate) declarations: Arena<Declaration>,
-    pub(crate) in_order: Vec<Id<Declaration>>,
-    pub(crate) ids: BTreeMap<Name, Id<Declaration>>,
+    pub(crate) declarations: IndexMap<Vec<u8>, Declaration>,
+    /// For each expression of the module, in the order in which their ends come, how many are declared
+    /// before what a reference names; of any other form, and of a reference in an index, it is a guess.
+    pub(crate) noted: Vec<usize>,
 }
 
 impl Names {
@@ -29,35 +29,50 @@ impl Names {
         ensures { (modules : List PlacedName) → Tabulates modules result [] }
     {
         Names {
-            declarations: Arena::new(alloc),
-            in_order: Vec::new(alloc),
-            ids: BTreeMap::new(alloc),
+            declarations: IndexMap::new(alloc),
+            noted: Vec::new(alloc),
         }
     }
 
     /// How many declarations there are.
     pub fn len(&self) -> usize
-        ensures { result ≡ length self.now.in_order.items }
+        ensures { result ≡ entry_count self.now }
     {
-        self.in_order.len()
+        self.declarations.len()
     }
 
     /// The declaration before which so many stand.
     pub fn at(&self, position: usize) -> Option<&Declaration>
-        ensures { option_copied result ≡ found_at self.now (slice_get self.now.in_order.items position) }
+        ensures { option_copied result ≡ entry_at self.now position }
     {
-        let id = self.in_order.get(position)?;
-        self.declarations.get(*id)
+        let (_, declaration) = self.declarations.get_index(position)?;
+        Some(declaration)
     }
 
     /// The declaration of a name.
     pub fn find(&self, name: &Name) -> Option<&Declaration>
         ensures { option_copied result ≡ found self.now name.now }
     {
-        match self.ids.get(name) {
-            Some(id) => self.declarations.get(*id),
-            None => None,
+        self.declarations.get(name.as_bytes())
+    }
+
+    /// The declaration of a name, which is not searched where it is the one before which so many stand.
+    pub fn find_near(&self, position: usize, name: &Name) -> Option<&Declaration>
+        ensures { option_copied result ≡ found self.now name.now }
+    {
+        match self.declarations.get_index(position) {
+            Some((known, declaration)) if known.as_slice() == name.as_bytes() => Some(declaration),
+            _ => self.find(name),
         }
+    }
+
+    /// The declaration of the name of a reference before which so many expressions have ended: it is not
+    /// searched where it is what was noted of that reference.
+    pub fn find_noted(&self, ended: usize, name: &Name) -> Option<&Declaration>
+        ensures { option_copied result ≡ found self.now name.now }
+    {
+        let position = self.noted.get(ended).copied().unwrap_or(0);
+        self.find_near(position, name)
     }
 
     /// Declares a name that is not declared yet, within so many whens.
@@ -73,14 +88,11 @@ impl Names {
         let declaration = Declaration {
             place: ident.place,
             component,
-            position: self.in_order.len(),
+            position: self.declarations.len(),
             depth,
         };
-        let Ok(id) = self.declarations.add(declaration) else {
-            return Err(MemoryOut);
-        };
-        self.in_order.push(id)?;
-        self.ids.insert(ident.name.copy(alloc)?, id)?;
+        let name = Vec::from_slice(alloc, ident.name.as_bytes())?;
+        self.declarations.insert(name, declaration)?;
         Ok(())
     }
 }

@@ -40,13 +40,15 @@ impl Scope {
         }
     }
 
-    /// Whether a name is visible.
-    pub fn sees(&self, name: &Name) -> bool
-        ensures { result ≡ is_seen self.now name.now }
+    /// How many are declared before a name that is visible; None where it is not.
+    pub fn position_of(&self, name: &Name) -> Option<usize>
+        ensures { is_some result ≡ is_seen self.now name.now }
     {
-        match self.names.find(name) {
-            Some(declaration) => self.is_open(declaration),
-            None => false,
+        let declaration = self.names.find(name)?;
+        if self.is_open(declaration) {
+            Some(declaration.position)
+        } else {
+            None
         }
     }
 
@@ -103,11 +105,18 @@ impl Scope {
         let _ = self.opened.pop();
     }
 
-    /// The table of what was declared.
-    pub fn into_names(self) -> Names
-        ensures { result ≡ self.names }
+    /// The table of what was declared, and what was noted of the expressions.
+    pub fn into_names(self, noted: Vec<usize>) -> Names
+        ensures { result ≡ record self.names { noted = noted } }
     {
         let Scope { names, opened: _ } = self;
-        names
+        let Names {
+            declarations,
+            noted: _,
+        } = names;
+        Names {
+            declarations,
+            noted,
+        }
     }
 }

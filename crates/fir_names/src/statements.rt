@@ -33,11 +33,12 @@ pub fn in_block(
     alloc: Global,
     numbers: &Numbers,
     scope: &mut Scope,
+    noted: &mut Vec<usize>,
 ) -> Result<Option<FirFault>, MemoryOut>
     ensures { IfOk result (λ f. (modules : List PlacedName) (before : Before) → HasNumbers numbers.now modules → Walks modules scope.old before → Passes modules scope.old scope.new (block_mentions modules before (block_of (map stmt_of body.now))) (behind_block before (block_of (map stmt_of body.now))) f) }
 {
     for statement in body {
-        if let Some(fault) = in_statement(statement, alloc, numbers, scope)? {
+        if let Some(fault) = in_statement(statement, alloc, numbers, scope, noted)? {
             return Ok(Some(fault));
         }
     }
@@ -50,19 +51,20 @@ fn in_statement(
     alloc: Global,
     numbers: &Numbers,
     scope: &mut Scope,
+    noted: &mut Vec<usize>,
 ) -> Result<Option<FirFault>, MemoryOut>
     ensures { IfOk result (λ f. (modules : List PlacedName) (before : Before) → HasNumbers numbers.now modules → Walks modules scope.old before → Passes modules scope.old scope.new (mentions modules before (stmt_of statement.now)) (behind before (stmt_of statement.now)) f) }
 {
     match statement {
         Stmt::Wire(_, ident, _, ty) => in_typed(alloc, scope, ident, Component::Wire, ty),
-        Stmt::Reg(_, register) => in_register(alloc, scope, register),
-        Stmt::Node(_, ident, value) => in_node(alloc, scope, ident, value),
+        Stmt::Reg(_, register) => in_register(alloc, scope, noted, register),
+        Stmt::Node(_, ident, value) => in_node(alloc, scope, noted, ident, value),
         Stmt::Inst(_, ident, of) => in_instance(alloc, numbers, scope, ident, of),
         Stmt::Mem(_, memory) => in_memory_statement(alloc, scope, memory),
-        Stmt::When(_, when) => in_when(when, alloc, numbers, scope),
-        Stmt::Connect(_, sink, source) => in_connect(alloc, scope, sink, source),
-        Stmt::PartialConnect(_, sink, source) => in_connect(alloc, scope, sink, source),
-        Stmt::Invalid(_, sink) => in_reference(sink, alloc, scope),
+        Stmt::When(_, when) => in_when(when, alloc, numbers, scope, noted),
+        Stmt::Connect(_, sink, source) => in_connect(alloc, scope, noted, sink, source),
+        Stmt::PartialConnect(_, sink, source) => in_connect(alloc, scope, noted, sink, source),
+        Stmt::Invalid(_, sink) => in_reference(sink, alloc, scope, noted),
         Stmt::Skip(_) => Ok(None),
     }
 }
@@ -74,19 +76,20 @@ fn in_when(
     alloc: Global,
     numbers: &Numbers,
     scope: &mut Scope,
+    noted: &mut Vec<usize>,
 ) -> Result<Option<FirFault>, MemoryOut>
     ensures { IfOk result (λ f. (modules : List PlacedName) (before : Before) (place : Place) → HasNumbers numbers.now modules → Walks modules scope.old before → Passes modules scope.old scope.new (mentions modules before (when_view when.now place)) (behind before (when_view when.now place)) f) }
 {
-    if let Some(fault) = in_expression(&when.condition, alloc, scope)? {
+    if let Some(fault) = in_expression(&when.condition, alloc, scope, noted)? {
         return Ok(Some(fault));
     }
     scope.open()?;
-    if let Some(fault) = in_block(&when.then_block, alloc, numbers, scope)? {
+    if let Some(fault) = in_block(&when.then_block, alloc, numbers, scope, noted)? {
         return Ok(Some(fault));
     }
     scope.close();
     scope.open()?;
-    if let Some(fault) = in_block(&when.else_block, alloc, numbers, scope)? {
+    if let Some(fault) = in_block(&when.else_block, alloc, numbers, scope, noted)? {
         return Ok(Some(fault));
     }
     scope.close();
@@ -129,6 +132,7 @@ pub fn in_typed(
 fn in_register(
     alloc: Global,
     scope: &mut Scope,
+    noted: &mut Vec<usize>,
     register: &Register,
 ) -> Result<Option<FirFault>, MemoryOut>
     ensures { IfOk result (λ f. (modules : List PlacedName) (before : Before) → Walks modules scope.old before → Passes modules scope.old scope.new (register_mentions before (named_of register.now.ident) (type_of register.now.ty) (expr_of register.now.clock) (option_map reset_of register.now.reset)) (with_declaration before (named_of register.now.ident) (meant.register (type_of register.now.ty))) f) }
@@ -139,16 +143,17 @@ fn in_register(
     if let Some(fault) = in_type(&register.ty, alloc)? {
         return Ok(Some(fault));
     }
-    if let Some(fault) = in_expression(&register.clock, alloc, scope)? {
+    if let Some(fault) = in_expression(&register.clock, alloc, scope, noted)? {
         return Ok(Some(fault));
     }
     scope.declare(alloc, &register.ident, Component::Register)?;
-    in_reset(alloc, scope, &register.reset)
+    in_reset(alloc, scope, noted, &register.reset)
 }
 
 fn in_reset(
     alloc: Global,
     scope: &Scope,
+    noted: &mut Vec<usize>,
     reset: &Option<RegisterReset>,
 ) -> Result<Option<FirFault>, MemoryOut>
     ensures { IfOk result (λ f. (visible : Declarations) → Sees scope.now visible → option_map fault_of f ≡ first_of (faults_in (reset_mentions visible (option_map reset_of reset.now)))) }
@@ -156,16 +161,17 @@ fn in_reset(
     let Some(reset) = reset else {
         return Ok(None);
     };
-    if let Some(fault) = in_expression(&reset.condition, alloc, scope)? {
+    if let Some(fault) = in_expression(&reset.condition, alloc, scope, noted)? {
         return Ok(Some(fault));
     }
-    in_expression(&reset.init, alloc, scope)
+    in_expression(&reset.init, alloc, scope, noted)
 }
 
 /// A node, which is not visible in its own expression.
 fn in_node(
     alloc: Global,
     scope: &mut Scope,
+    noted: &mut Vec<usize>,
     ident: &Ident,
     value: &Expr,
 ) -> Result<Option<FirFault>, MemoryOut>
@@ -174,7 +180,7 @@ fn in_node(
     if let Some(fault) = scope.repeated(alloc, ident)? {
         return Ok(Some(fault));
     }
-    if let Some(fault) = in_expression(value, alloc, scope)? {
+    if let Some(fault) = in_expression(value, alloc, scope, noted)? {
         return Ok(Some(fault));
     }
     scope.declare(alloc, ident, Component::Node)?;
@@ -221,13 +227,14 @@ fn in_memory_statement(
 fn in_connect(
     alloc: Global,
     scope: &Scope,
+    noted: &mut Vec<usize>,
     sink: &Reference,
     source: &Expr,
 ) -> Result<Option<FirFault>, MemoryOut>
     ensures { IfOk result (λ f. (visible : Declarations) → Sees scope.now visible → option_map fault_of f ≡ first_of (faults_in (sink_mentions visible (sink_of sink.now) ++ expression_mentions visible (expr_of source.now)))) }
 {
-    if let Some(fault) = in_reference(sink, alloc, scope)? {
+    if let Some(fault) = in_reference(sink, alloc, scope, noted)? {
         return Ok(Some(fault));
     }
-    in_expression(source, alloc, scope)
+    in_expression(source, alloc, scope, noted)
 }

@@ -58,7 +58,7 @@ impl<'a> Root<'a> {
         ensures { IfOk result (IsReferenceRoot (circuit_of named.now) module_number (sink_of reference.now) (map (λ p. p.length) range.now.picks.items)) }
     {
         let path = reference_path(alloc, reference)?;
-        let place = place_declared(named, module_number, reference);
+        let place = place_declared(named, module_number, range.declaration, reference);
         let access = picked(reference.place, range.picks.as_slice());
         Ok(Root::Leaf(path, place, access))
     }
@@ -212,14 +212,19 @@ fn first_step<'a>(part: &'a Part) -> Step<'a>
     }
 }
 
-/// Where the name of a reference is declared.
-fn place_declared(named: &Named, module_number: usize, reference: &Reference) -> Place
+/// Where the name of a reference is declared, which so many declarations stand before.
+fn place_declared(
+    named: &Named,
+    module_number: usize,
+    position: usize,
+    reference: &Reference,
+) -> Place
     ensures { (m : ModuleTree) → slice_get (circuit_of named.now).modules module_number ≡ Some m → result ≡ declared_at (sink_of reference.now).place (find (declarations m) (sink_of reference.now).name) }
 {
     let Some(names) = named.names(module_number) else {
         return reference.place;
     };
-    match names.find(&reference.name) {
+    match names.find_near(position, &reference.name) {
         Some(declaration) => declaration.place,
         None => reference.place,
     }

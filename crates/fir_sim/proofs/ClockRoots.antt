@@ -77,7 +77,7 @@ module _ (net : FlatNet) (order : List Read) (is : IsOrder net order) where
           one_more order (root_equation net) is.once roots_hang n (read.Leaf k) (root_of roots) (root_of (set roots k x)) rooted.met at
           (ap (λ (o : Option (Option ℕ)). unwrap_or o None) (get_set_same roots k x (let within = slice_get_within net.leaves k l here in let long = rooted.room in omega (arith, within, long)))
           ∙ is_x ∙ sym (ap (leaf_root (root_at roots) (slice_index (clocks_before 0 net.leaves) k)) here))
-          others;
+          (λ j w here apart. others w apart);
     }
       where
         others : (w : Read) → (w ≡ read.Leaf k → ⊥) → root_of (set roots k x) w ≡ root_of roots w
@@ -85,7 +85,7 @@ module _ (net : FlatNet) (order : List Read) (is : IsOrder net order) where
         others (read.Node j) apart = refl
 
     pub node_rooted : (k : ℕ) → slice_get order n ≡ Some (read.Node k) → Rooted net order roots (n + 1)
-    node_rooted k at = record { room = rooted.room; met = one_more order (root_equation net) is.once roots_hang n (read.Node k) (root_of roots) (root_of roots) rooted.met at refl (λ w apart. refl) }
+    node_rooted k at = record { room = rooted.room; met = one_more order (root_equation net) is.once roots_hang n (read.Node k) (root_of roots) (root_of roots) rooted.met at refl (λ j w here apart. refl) }
 
   pub all_rooted : (roots : List (Option ℕ)) (n : ℕ) → length order ≤ n → Rooted net order roots n → AreRoots net roots
   all_rooted roots n le rooted = record { inputs = inputs; driven = λ k l c at e. by l.role k l c refl at e }

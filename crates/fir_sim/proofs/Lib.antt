@@ -3,10 +3,12 @@ pub mod ShapeNumbers
 pub mod ShapeWords
 pub mod WholeShapes
 pub mod Walks
+pub mod HeldNumbers
 pub mod HeldValues
 pub mod HeldReads
 pub mod HeldTypes
 pub mod Settling
+pub mod StepTasks
 pub mod ClockRoots
 pub mod SettledValues
 pub mod Words
@@ -21,4 +23,3 @@ pub mod Placings
 pub mod PlanFacts
 pub mod PlanLists
 pub mod PlanPairs
-pub mod TestLeaves

@@ -1,22 +1,20 @@
 -- The plans of a whole net beside the numbers of their leaves.
 -- What each plan says of its leaf gives what the passes ask of it, and the lists that specs of the net speak of.
-use Rattle.std.proofs.Common.{◌≡◌, ℕ, zero, suc, ◌+◌, ◌≤◌, List, [], ◌∷◌, Bool, true, false, refl, subst, ⊎_elim, arith, Option, Some}
+use Rattle.std.proofs.Common.{◌≡◌, ℕ, zero, suc, ◌+◌, ◌≤◌, List, [], ◌∷◌, Bool, true, false, refl, ⊎_elim, arith, Some}
 use Rattle.std.specs.Prelude.{slice_get, nat_eq, if◌then◌else◌}
 use Rattle.std.specs.List.{AllZip}
-use Rattle.fir_net.specs.declared.leaf.Register.{Register}
 use Rattle.fir_net.specs.declared.leaf.Role.{Role}
 use Rattle.fir_net.specs.declared.leaf.Role.TheVariants as role
 use Rattle.fir_net.specs.declared.leaf.Leaf.{Leaf}
 use Rattle.fir_net.specs.declared.net.FlatNet.{FlatNet}
-use Rattle.fir_net.specs.working.IsNet.{IsLeaf, IsNet, IsRole}
+use Rattle.fir_net.specs.working.IsNet.{IsLeaf, IsNet}
 use Rattle.fir_net.proofs.NumberedLeaves.{GivesOwn, inputs_own, registers_own}
 use Rattle.fir_base.proofs.Elements.{all_there}
 use Rattle.fir_net.specs.declared.reads.Read.{Read}
 use Rattle.fir_net.specs.working.Settled.{with_bits, input_number, output_number, register_number, numbers_by}
 use Rattle.fir_sim.specs.declared.plan.InputPlan.{InputPlan}
 use Rattle.fir_sim.specs.declared.plan.OutputPlan.{OutputPlan}
-use Rattle.fir_sim.specs.declared.plan.RegisterPlan.{RegisterPlan}
-use Rattle.fir_sim.specs.working.Plans.{planned, input_plan, output_plan, register_plan, plans_by, root_at}
+use Rattle.fir_sim.specs.working.Plans.{planned, input_plan, output_plan, plans_by}
 use Rattle.fir_sim.proofs.Lists.{pairs_joined}
 use Rattle.fir_sim.proofs.Placings.{AreRising, rising_from}
 
@@ -55,26 +53,10 @@ pub record IsOutput (net : FlatNet) (p : OutputPlan) (k : ℕ) : Type 0 where
   pub width : leaf.width ≡ p.width
   pub narrow : p.width ≤ 128
 
-pub record IsRegister (net : FlatNet) (roots : List (Option ℕ)) (p : RegisterPlan) (k : ℕ) : Type 0 where
-  pub leaf : Leaf
-  pub register : Register
-  pub at : slice_get net.leaves k ≡ Some leaf
-  pub kind : leaf.role ≡ role.Register register
-  pub place : p.leaf ≡ k
-  pub width : leaf.width ≡ p.width
-  pub narrow : p.width ≤ 128
-  pub clock : p.clock ≡ root_at roots register.clock
-  pub reset : p.reset ≡ register.reset
-  pub next : p.next ≡ register.next
-  pub driven : IsRole net.leaves net.nodes leaf.signed leaf.width (role.Register register)
-
 module _ (net : FlatNet) (whole : IsNet net) where
   module _ (k : ℕ) (l : Leaf) (at : slice_get net.leaves k ≡ Some l) where
     is_leaf : IsLeaf net.leaves net.nodes l
     is_leaf = all_there (IsLeaf net.leaves net.nodes) net.leaves whole.leaves k l at
-
-    pub driven_by : (r : Role) → l.role ≡ r → IsRole net.leaves net.nodes l.signed l.width r
-    driven_by r e = subst (IsRole net.leaves net.nodes l.signed l.width) e is_leaf.driven
 
     one_input : (r : Role) → l.role ≡ r → AllZip (IsInput net) (input_plan r l.width k) (input_number r l.width k)
     one_input role.Input e = pair_planned (IsInput net) l.width (record { leaf = k; width = l.width }) k (record { leaf = l; at = at; kind = e; place = refl; width = refl; narrow = is_leaf.narrow })
@@ -83,12 +65,6 @@ module _ (net : FlatNet) (whole : IsNet net) where
     one_output : (r : Role) → l.role ≡ r → AllZip (IsOutput net) (output_plan r l.width k) (output_number r l.width k)
     one_output (role.Output d) e = pair_planned (IsOutput net) l.width (record { leaf = k; width = l.width }) k (record { leaf = l; at = at; driver = d; kind = e; place = refl; width = refl; narrow = is_leaf.narrow })
     one_output _ e = tt
-
-    one_register : (roots : List (Option ℕ)) (r : Role) → l.role ≡ r → AllZip (IsRegister net roots) (register_plan roots r l.width k) (register_number r l.width k)
-    one_register roots (role.Register d) e =
-        pair_planned (IsRegister net roots) l.width (record { leaf = k; width = l.width; clock = root_at roots d.clock; reset = d.reset; next = d.next }) k
-        (record { leaf = l; register = d; at = at; kind = e; place = refl; width = refl; narrow = is_leaf.narrow; clock = refl; reset = refl; next = refl; driven = driven_by (role.Register d) e })
-    one_register roots _ e = tt
 
   pub inputs_paired : AllZip (IsInput net) (plans_by input_plan 0 net.leaves) (numbers_by input_number 0 net.leaves)
   inputs_paired =
@@ -99,11 +75,6 @@ module _ (net : FlatNet) (whole : IsNet net) where
   outputs_paired =
       paired (IsOutput net) output_plan output_number net.leaves 0
       (λ k l e. let here : 0 + k ≡ k = omega arith in rw here (one_output k l e l.role refl))
-
-  pub registers_paired : (roots : List (Option ℕ)) → AllZip (IsRegister net roots) (plans_by (register_plan roots) 0 net.leaves) (numbers_by register_number 0 net.leaves)
-  registers_paired roots =
-      paired (IsRegister net roots) (register_plan roots) register_number net.leaves 0
-      (λ k l e. let here : 0 + k ≡ k = omega arith in rw here (one_register k l e roots l.role refl))
 
 -- the numbers of leaves of one kind rise
 rising : (number : Role → ℕ → ℕ → List ℕ) → GivesOwn number → (from : ℕ) (ls : List Leaf) → AreRising from (numbers_by number from ls)

@@ -1,10 +1,12 @@
--- Held values that are settled are settled values of the net.
-use Rattle.std.proofs.Common.{◌≡◌, ℕ, List, [], ◌∷◌, map, refl, ap, ◌∙◌, Bool, true, false, if◌then◌else◌}
+-- Held numbers that are settled are settled values of the net.
+use Rattle.std.proofs.Common.{◌≡◌, ℕ, List, [], ◌∷◌, map, refl, sym, ap, ◌∙◌, Bool, if◌then◌else◌, option_map, unwrap_or}
 use Rattle.std.specs.Prelude.{slice_get, Option, Some, None}
 use Rattle.std.specs.List.{AllByRecursion}
 use Rattle.std.proofs.lemmas.Option.{slice_get_within}
 use Rattle.fir_base.specs.Ticks.{Tick, FitEach}
-use Rattle.fir_bits.specs.Values.{BitVector}
+use Rattle.fir_bits.specs.working.Laws.{HasItsType}
+use Rattle.fir_bits.specs.Operators.{type_of}
+use Rattle.fir_bits.specs.declared.types.NumTy.{NumTy}
 use Rattle.fir_bits.specs.declared.values.Num.{Num}
 use Rattle.fir_net.specs.declared.reads.Read.{Read}
 use Rattle.fir_net.specs.declared.reads.Read.TheVariants as read
@@ -14,45 +16,51 @@ use Rattle.fir_net.specs.declared.leaf.Reset.{Reset}
 use Rattle.fir_net.specs.declared.leaf.Role.{Role}
 use Rattle.fir_net.specs.declared.leaf.Role.TheVariants as role
 use Rattle.fir_net.specs.declared.leaf.Leaf.{Leaf}
+use Rattle.fir_net.specs.declared.node.Node.{Node}
 use Rattle.fir_net.specs.declared.net.FlatNet.{FlatNet}
-use Rattle.fir_net.specs.working.Values.{at_width}
-use Rattle.fir_net.specs.working.IsNet.{CanRead, CanBeReset, IsNet}
-use Rattle.fir_net.specs.working.Laws.{NodesHaveTheirValues}
+use Rattle.fir_net.specs.working.Values.{at_width, number_of}
+use Rattle.fir_net.specs.working.IsNet.{node_type, CanRead, CanBeReset, IsNet}
+use Rattle.fir_bits.specs.Forms.{no_type}
+use Rattle.fir_net.specs.working.Laws.{NodesHaveTheirTypes, NodesHaveTheirValues}
 use Rattle.fir_net.specs.working.Settled.{value_at, driver, shown_by, shown, is_high, inputs, registers, shape, Settled}
 use Rattle.fir_net.proofs.Places.{value_at_place}
 use Rattle.fir_net.proofs.LeafEquations.{driven_at}
-use Rattle.fir_sim.specs.working.Held.{entry, env_of, held_value, with_value}
+use Rattle.fir_work.specs.working.Numbers.{number_at, type_read, value_in}
+use Rattle.fir_work.specs.working.NodeValues.{held_node, held_node_at}
 use Rattle.fir_sim.specs.working.Views.{IsTickOf}
-use Rattle.fir_sim.specs.working.Operands.{held_node_at}
 use Rattle.fir_sim.specs.working.Plans.{root_at, AreRoots}
-use Rattle.fir_sim.specs.working.Settling.{fitted_to, is_one, held_under, held_register, held_role, held_leaf_at, IsSettled}
+use Rattle.fir_sim.specs.working.Settling.{is_one, held_under, held_register, held_role, held_leaf_at, IsSettled}
 use Rattle.fir_sim.specs.declared.plan.InputPlan.{InputPlan}
 use Rattle.fir_sim.proofs.Lists.{pairs_right}
 use Rattle.fir_sim.proofs.PlanPairs.{IsInput, inputs_paired}
-use Rattle.fir_sim.proofs.HeldReads.{leaves_fit, leaf_read, node_read}
+use Rattle.fir_sim.proofs.HeldNumbers.{leaves_fit}
+use Rattle.fir_sim.proofs.HeldReads.{what_is_read}
+use Rattle.fir_sim.proofs.HeldTypes.{node_is}
 
 map_same : {A B : Type 0} → (f g : A → B) (xs : List A) → AllByRecursion (λ x. f x ≡ g x) xs → map f xs ≡ map g xs
 map_same f g [] h = refl
 map_same f g (x ∷ xs) h = let first = h.0 in let rest = map_same f g xs h.1 in rw (first, rest) refl
 
--- the number of the one of two values that is chosen
-pub number_of_choice : (b : Bool) (x y : BitVector) → (if b then x else y).number ≡ (if b then x.number else y.number)
-number_of_choice true x y = refl
-number_of_choice false x y = refl
+-- a value of a type is that type's value of its number
+of_its_type : (t : NumTy) (v : Num) → type_of v ≡ t → number_of t v.value.number ≡ v
+of_its_type t v e = sym (ap (λ (u : NumTy). number_of u v.value.number) e)
 
-module _ (law : NodesHaveTheirValues) (net : FlatNet) (whole : IsNet net) (start leaves nodes : List Num) (s : IsSettled net start leaves nodes) where
+module _ (has : HasItsType) (types : NodesHaveTheirTypes) (law : NodesHaveTheirValues) (net : FlatNet) (whole : IsNet net) (start ns : List ℕ) (s : IsSettled net start ns) where
   abbrev pub value : Read → Num
-  value = held_value leaves nodes
+  value = value_in net ns
 
   abbrev pub env : ℕ → ℕ
-  env = env_of leaves
+  env = number_at ns
+
+  node_meets : (k : ℕ) (n : Node) → slice_get net.nodes k ≡ Some n → value (read.Node k) ≡ held_node value n
+  node_meets k n at =
+      let own : type_read net (read.Node k) ≡ node_type n = ap (λ (o : Option Node). unwrap_or (option_map node_type o) no_type) at in
+      ap (number_of (type_read net (read.Node k))) (s.meets (read.Node k) (slice_get_within net.nodes k n at) ∙ ap (λ (o : Option Node). (held_node_at value o).value.number) at)
+      ∙ of_its_type (type_read net (read.Node k)) (held_node value n) ((node_is has types net whole ns s.held k n at).is ∙ sym own)
 
   -- what is held is what is read
   pub same_read : (r : Read) → CanRead net.leaves net.nodes r → value r ≡ value_at net env r
-  same_read (read.Leaf k) can = leaf_read net leaves s.held law whole nodes k
-  same_read (read.Node k) can =
-      node_read net leaves s.held law whole nodes (λ i. Unit {0}) (λ i j has reads. tt)
-      (λ i n has at. s.meets (read.Node i) (slice_get_within net.nodes i n at) ∙ ap (held_node_at value) at) k can tt
+  same_read r can = what_is_read law net whole ns node_meets r can
 
   pub same_fitted : (w : ℕ) (r : Read) → CanRead net.leaves net.nodes r → at_width (value r) w ≡ at_width (value_at net env r) w
   same_fitted w r can = ap (λ (v : Num). at_width v w) (same_read r can)
@@ -60,25 +68,21 @@ module _ (law : NodesHaveTheirValues) (net : FlatNet) (whole : IsNet net) (start
   pub same_high : (r : Read) → CanRead net.leaves net.nodes r → is_one (value r) ≡ is_high net env r
   same_high r can = ap is_one (same_read r can)
 
-  under_shown : (w : ℕ) (kind : ResetKind) (c i : Read) (now : BitVector) → CanRead net.leaves net.nodes c → CanRead net.leaves net.nodes i → (held_under value w kind c i now).number ≡ shown_by net env w kind c i now.number
+  under_shown : (w : ℕ) (kind : ResetKind) (c i : Read) (now : ℕ) → CanRead net.leaves net.nodes c → CanRead net.leaves net.nodes i → held_under value w kind c i now ≡ shown_by net env w kind c i now
   under_shown w Synchronous c i now can_c can_i = refl
   under_shown w Asynchronous c i now can_c can_i =
-      number_of_choice (is_one (value c)) (fitted_to (value i) w) now
-      ∙ ap (λ (b : Bool). if b then at_width (value i) w else now.number) (same_high c can_c)
-      ∙ ap (λ (n : ℕ). if is_high net env c then n else now.number) (same_fitted w i can_i)
+      ap (λ (b : Bool). if b then at_width (value i) w else now) (same_high c can_c)
+      ∙ ap (λ (n : ℕ). if is_high net env c then n else now) (same_fitted w i can_i)
 
-  register_shown : (w : ℕ) (signed : Bool) (o : Option Reset) (now : BitVector) → CanBeReset net.leaves net.nodes signed o → (held_register value w o now).number ≡ shown net env w o now.number
+  register_shown : (w : ℕ) (signed : Bool) (o : Option Reset) (now : ℕ) → CanBeReset net.leaves net.nodes signed o → held_register value w o now ≡ shown net env w o now
   register_shown w signed None now can = refl
   register_shown w signed (Some r) now can = under_shown w r.kind r.condition r.init now can.condition can.init.can
 
   -- each leaf has what its role gives it
-  leaf_is : (k : ℕ) (l : Leaf) (r : Role) → slice_get net.leaves k ≡ Some l → l.role ≡ r → env k ≡ (held_role value l.width (entry start k).value r).number
-  leaf_is k l r at is =
-      ap (λ (v : Num). v.value.number)
-      (s.meets (read.Leaf k) (slice_get_within net.leaves k l at) ∙ ap (λ (o : Option Leaf). with_value (entry start k) (held_leaf_at value (entry start k).value o)) at
-      ∙ ap (λ (x : Role). with_value (entry start k) (held_role value l.width (entry start k).value x)) is)
+  leaf_is : (k : ℕ) (l : Leaf) (r : Role) → slice_get net.leaves k ≡ Some l → l.role ≡ r → env k ≡ held_role value l.width (number_at start k) r
+  leaf_is k l r at is = s.meets (read.Leaf k) (slice_get_within net.leaves k l at) ∙ ap (held_leaf_at value (number_at start k)) at ∙ ap (held_role value l.width (number_at start k)) is
 
-  input_kept : (p : InputPlan) (k : ℕ) → IsInput net p k → env k ≡ env_of start k
+  input_kept : (p : InputPlan) (k : ℕ) → IsInput net p k → env k ≡ number_at start k
   input_kept p k i = leaf_is k i.leaf role.Input i.at i.kind
 
   role_driven : (k : ℕ) (l : Leaf) (x : Role) (r : Read) → slice_get net.leaves k ≡ Some l → l.role ≡ x → driver x ≡ Some r → env k ≡ at_width (value_at net env r) l.width
@@ -90,15 +94,15 @@ module _ (law : NodesHaveTheirValues) (net : FlatNet) (whole : IsNet net) (start
   role_driven k l (role.ClockOutput c) r at is e = cc
   role_driven k l (role.ClockWire c) r at is e = cc
 
-  pub settles : (roots : List (Option ℕ)) → AreRoots net roots → (state : List ℕ) (tick : Tick) → IsTickOf net tick → FitEach (shape net).state state → map (env_of start) (inputs net) ≡ tick.inputs → map (env_of start) (registers net) ≡ state
+  pub settles : (roots : List (Option ℕ)) → AreRoots net roots → (state : List ℕ) (tick : Tick) → IsTickOf net tick → FitEach (shape net).state state → map (number_at start) (inputs net) ≡ tick.inputs → map (number_at start) (registers net) ≡ state
       → Settled net state tick env (root_at roots)
   settles roots are state tick is state_fits given kept = record {
     shaped = record { inputs_fit = is.inputs; clocks_rise = is.clocks; state_fits = state_fits };
-    fits = (leaves_fit net leaves s.held).each;
-    input_values = map_same env (env_of start) (inputs net) (pairs_right (IsInput net) (λ k. env k ≡ env_of start k) input_kept _ (inputs net) (inputs_paired net whole)) ∙ given;
+    fits = (leaves_fit net ns s.held).each;
+    input_values = map_same env (number_at start) (inputs net) (pairs_right (IsInput net) (λ k. env k ≡ number_at start k) input_kept _ (inputs net) (inputs_paired net whole)) ∙ given;
     registers_show = λ n k l d e at is_d.
-        leaf_is k l (role.Register d) at is_d ∙ register_shown l.width l.signed d.reset (entry start k).value (driven_at net whole k l (role.Register d) at is_d).1
-        ∙ ap (shown net env l.width d.reset) (value_at_place (env_of start) (registers net) state kept n k e);
+        leaf_is k l (role.Register d) at is_d ∙ register_shown l.width l.signed d.reset (number_at start k) (driven_at net whole k l (role.Register d) at is_d).1
+        ∙ ap (shown net env l.width d.reset) (value_at_place (number_at start) (registers net) state kept n k e);
     driven = λ k l r at e. role_driven k l l.role r at refl e;
     clock_inputs = are.inputs;
     clocks_driven = are.driven;

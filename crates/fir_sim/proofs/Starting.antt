@@ -1,26 +1,26 @@
--- What the simulator begins with: each leaf and output at 0, and the registers at the words of the state.
-use Rattle.std.proofs.Common.{◌≡◌, ℕ, ◌≤◌, List, [], ◌∷◌, length, map, replicate, refl, sym, ap, ◌∙◌, subst}
+-- What the simulator begins with: each leaf, node and output at 0, and the registers at the words of the state.
+use Rattle.std.proofs.Common.{◌≡◌, ℕ, ◌+◌, ◌≤◌, List, [], ◌∷◌, length, map, replicate, refl, sym, ap, ◌∙◌, subst}
 use Rattle.std.specs.List.{AllByRecursion}
 use Rattle.std.proofs.Math.Pow.{pow_pos}
 use Rattle.fir_base.specs.Ticks.{FitEach}
 use Rattle.fir_base.proofs.Each.{all_mapped}
 use Rattle.fir_bits.specs.Values.{BitVector, IsBitVector}
-use Rattle.fir_bits.specs.Operators.{type_of}
 use Rattle.fir_net.specs.declared.net.FlatNet.{FlatNet}
-use Rattle.fir_net.specs.working.IsNet.{IsLeaf, IsNet}
+use Rattle.fir_net.specs.working.IsNet.{IsNet}
 use Rattle.fir_net.specs.working.Settled.{shape}
-use Rattle.fir_net.specs.working.IsOrder.{IsOrder}
-use Rattle.fir_net.specs.declared.reads.Read.{Read}
 use Rattle.fir_sim.specs.declared.plan.Plan.{Plan}
 use Rattle.fir_sim.specs.declared.plan.OutputPlan.{OutputPlan}
 use Rattle.fir_sim.specs.declared.plan.RegisterPlan.{RegisterPlan}
+use Rattle.fir_sim.specs.declared.steps.Step.{Step}
 use Rattle.fir_sim.specs.declared.values.Values.{Values}
-use Rattle.fir_sim.specs.working.Held.{IsNum, IsHeld}
+use Rattle.fir_sim.specs.working.Held.{IsHeld}
 use Rattle.fir_sim.specs.working.Views.{numbers, widths, output_widths}
 use Rattle.fir_sim.specs.working.Plans.{IsPlan}
-use Rattle.fir_sim.specs.working.Passes.{zero_of, leaf_zero, output_zero, output_width, register_width, values_of, IsNarrowOutput, IsNarrowRegister}
+use Rattle.fir_sim.specs.working.Steps.{IsStepped}
+use Rattle.fir_sim.specs.working.Passes.{zero_of, output_zero, output_width, register_width, values_of, IsNarrowOutput, IsNarrowRegister}
 use Rattle.fir_sim.specs.working.Running.{IsRunning}
-use Rattle.fir_sim.proofs.Lists.{all_map, map_both}
+use Rattle.fir_sim.proofs.HeldNumbers.{zeros_held}
+use Rattle.fir_sim.proofs.Lists.{all_map}
 use Rattle.fir_sim.proofs.Placings.{values_numbers, values_widths, values_whole}
 use Rattle.fir_sim.proofs.PlanFacts.{shown_widths, state_widths, outputs_narrow, registers_narrow}
 use Rattle.fir_sim.proofs.Ticking.{widths_of}
@@ -37,12 +37,6 @@ zero_numbers [] = refl
 zero_numbers (q ∷ ps) = ap (λ ns. 0 ∷ ns) (zero_numbers ps)
 
 module _ (net : FlatNet) (whole : IsNet net) where
-  zeros_held : IsHeld net (map leaf_zero net.leaves)
-  zeros_held = record {
-    types = map_both leaf_zero type_of net.leaves;
-    whole = all_mapped IsNum leaf_zero net.leaves (all_map (IsLeaf net.leaves net.nodes) (λ l. IsNum (leaf_zero l)) (λ l is. zero_whole l.width is.narrow) net.leaves whole.leaves);
-  }
-
   zeros_whole : (p : Plan) → IsPlan net p → AllByRecursion IsBitVector (map output_zero p.outputs.items)
   zeros_whole p plan =
       all_mapped IsBitVector output_zero p.outputs.items
@@ -70,10 +64,10 @@ module _ (net : FlatNet) (whole : IsNet net) where
       pub state_is : numbers v.state.items ≡ ns
       state_is = ap numbers state ∙ values_numbers (map register_width p.registers.items) ns fit_registers
 
-      pub starts : (order : List Read) → IsOrder net order → v.leaves.items ≡ map leaf_zero net.leaves → v.outputs.items ≡ map output_zero p.outputs.items → length v.nodes.items ≡ length net.nodes → IsRunning net order p v
-      starts order ordered leaves outputs nodes = record {
+      pub starts : (steps : List Step) → IsStepped net steps → v.numbers.items ≡ replicate (length net.leaves + length net.nodes) 0 → v.outputs.items ≡ map output_zero p.outputs.items → IsRunning net steps p v
+      starts steps stepped zeros outputs = record {
         whole = whole;
-        ordered = ordered;
+        stepped = stepped;
         view = record {
           outputs = ap widths outputs ∙ widths_of output_zero p.outputs.items ∙ shown_widths net whole p plan;
           outputs_are = subst (AllByRecursion IsBitVector) (sym outputs) (zeros_whole p plan);
@@ -81,6 +75,5 @@ module _ (net : FlatNet) (whole : IsNet net) where
           state_is = subst (AllByRecursion IsBitVector) (sym state) words_whole;
         };
         plan = plan;
-        leaves = subst (IsHeld net) (sym leaves) zeros_held;
-        nodes = nodes;
+        held = subst (IsHeld net) (sym zeros) (zeros_held net);
       }

@@ -18,11 +18,11 @@ module _ {X : Type 0} (order : List Read) (equation : (Read → X) → Read → 
   none_met e = record { each = λ i v l at. absurd (omega (arith, l)) }
 
   module _ (once : (i j : ℕ) (v : Read) → slice_get order i ≡ Some v → slice_get order j ≡ Some v → i ≡ j) (hangs : Hangs) where
-    pub one_more : (n : ℕ) (v : Read) (e f : Read → X) → Met n e → slice_get order n ≡ Some v → f v ≡ equation e v → ((w : Read) → (w ≡ v → ⊥) → f w ≡ e w) → Met (n + 1) f
+    pub one_more : (n : ℕ) (v : Read) (e f : Read → X) → Met n e → slice_get order n ≡ Some v → f v ≡ equation e v → ((j : ℕ) (w : Read) → slice_get order j ≡ Some w → (w ≡ v → ⊥) → f w ≡ e w) → Met (n + 1) f
     one_more n v e f met at is others = record { each = each }
       where
         before : (i : ℕ) → i ≤ n → (j : ℕ) (w : Read) → j < i → slice_get order j ≡ Some w → e w ≡ f w
-        before i le j w l here = sym (others w (λ same. omega (arith, l, le, once j n v (here ∙ ap (λ (u : Read). Some u) same) at)))
+        before i le j w l here = sym (others j w here (λ same. omega (arith, l, le, once j n v (here ∙ ap (λ (u : Read). Some u) same) at)))
 
         each : (i : ℕ) (w : Read) → i < n + 1 → slice_get order i ≡ Some w → f w ≡ equation f w
         each i w l here =

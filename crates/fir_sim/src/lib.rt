@@ -3,17 +3,15 @@
 //! (specs/Views; `Allows` of fir_net). `shape` tells what the traces of the net are made of (specs/Shapes).
 #![tactic(auto)]
 
-mod evaluate;
 mod passes;
 mod plan;
 mod roots;
+mod settle;
 mod sim;
 mod start;
+mod steps;
 mod trace_shape;
 mod values;
 
 pub use sim::Sim;
 pub use trace_shape::shape;
-
-#[cfg(test)]
-mod tests;

@@ -1,133 +1,138 @@
 //! The passes of a tick. None takes memory.
 
-ghost use Rattle.std.specs.Prelude.{◌≡◌, ℕ, ◌<◌, ◌≤◌, length, map, slice_index, slice_set};
+ghost use Rattle.std.specs.Prelude.{◌≡◌, ℕ, ◌<◌, ◌≤◌, ◌^◌, length, map, slice_index, slice_set};
 ghost use Rattle.std.specs.List.{AllByRecursion};
-ghost use Rattle.fir_base.specs.Ticks.{FitEach, rises};
+ghost use Rattle.fir_base.specs.Ticks.{rises};
 ghost use Rattle.fir_bits.specs.Values.{IsBitVector};
 ghost use Rattle.fir_net.specs.working.Next.{ticks};
-ghost use Rattle.fir_sim.specs.working.Held.{entry, held_value, with_value, IsNum};
-ghost use Rattle.fir_sim.specs.working.Passes.{input_width, with_inputs, with_state, IsWithin, IsPlaced, IsShown, output_value, held_next, held_init, held_taken, register_value};
+ghost use Rattle.fir_sim.specs.working.Passes.{with_inputs, with_state, CanTake, IsPlaced, IsShown, IsWithin, output_value, next_number, taken_number, edge_number, register_value};
 
-use crate::evaluate::{fitted, held_value, is_high};
 use crate::plan::{InputPlan, OutputPlan, RegisterPlan};
-use fir_bits::{Bits, Num};
-use fir_net::ResetKind;
+use fir_bits::Bits;
+use fir_net::{FlatNet, ResetKind};
 
-/// Puts the inputs' values into their places among the leaves.
-pub fn put_inputs(plans: &[InputPlan], values: &[u128], leaves: &mut [Num])
-    requires within { AllByRecursion (IsWithin (length leaves.old)) plans.now }
-    requires fits { FitEach (map input_width plans.now) values.now }
-    ensures { leaves.new ≡ with_inputs plans.now values.now leaves.old }
+/// Puts the inputs' numbers into their places.
+pub fn put_inputs(plans: &[InputPlan], values: &[u128], numbers: &mut [u128])
+    requires within { AllByRecursion (IsWithin (length numbers.old)) plans.now }
+    requires long { length values.now ≡ length plans.now }
+    ensures { numbers.new ≡ with_inputs plans.now values.now numbers.old }
 {
     for (j, plan) in plans.iter().enumerate() {
-        put(leaves, plan.leaf, Bits::of(plan.width, values[j]));
+        put(numbers, plan.leaf, values[j]);
     }
 }
 
-/// Puts the words of the state into the registers' places among the leaves.
-pub fn put_state(plans: &[RegisterPlan], state: &[Bits], leaves: &mut [Num])
-    requires within { AllByRecursion (IsPlaced (length leaves.old)) plans.now }
+/// Puts the words of the state into the registers' places.
+pub fn put_state(plans: &[RegisterPlan], state: &[Bits], numbers: &mut [u128])
+    requires within { AllByRecursion (IsPlaced (length numbers.old)) plans.now }
     requires long { length state.now ≡ length plans.now }
-    ensures { leaves.new ≡ with_state plans.now state.now leaves.old }
+    ensures { numbers.new ≡ with_state plans.now state.now numbers.old }
 {
     for (j, plan) in plans.iter().enumerate() {
-        put(leaves, plan.leaf, state[j]);
+        put(numbers, plan.leaf, state[j].bits());
     }
 }
 
-/// Puts bits into a place among the leaves.
-fn put(leaves: &mut [Num], leaf: usize, value: Bits)
-    requires { leaf < length leaves.old }
-    ensures { leaves.new ≡ slice_set leaves.old leaf (with_value (entry leaves.old leaf) value) }
+/// Puts a number into a place.
+fn put(numbers: &mut [u128], place: usize, number: u128)
+    requires { place < length numbers.old }
+    ensures { numbers.new ≡ slice_set numbers.old place number }
 {
-    leaves[leaf].value = value;
+    numbers[place] = number;
 }
 
 /// Shows the outputs, which are leaves.
-pub fn show_outputs(plans: &[OutputPlan], leaves: &[Num], outputs: &mut [Bits])
-    requires within { AllByRecursion (IsShown (length leaves.now)) plans.now }
-    requires held_whole { AllByRecursion IsNum leaves.now }
+pub fn show_outputs(plans: &[OutputPlan], numbers: &[u128], outputs: &mut [Bits])
+    requires shown { AllByRecursion (IsShown numbers.now) plans.now }
     requires room { length outputs.old ≡ length plans.now }
-    ensures values { outputs.new ≡ map (output_value leaves.now) plans.now }
+    ensures values { outputs.new ≡ map (output_value numbers.now) plans.now }
     ensures whole { AllByRecursion IsBitVector outputs.new }
 {
     for (j, plan) in plans.iter().enumerate() {
-        outputs[j] = held_at(leaves, plan.leaf);
+        outputs[j] = shown(plan, numbers);
     }
 }
 
-/// The bits of a leaf.
-fn held_at(leaves: &[Num], leaf: usize) -> Bits
-    requires within { leaf < length leaves.now }
-    requires held_whole { AllByRecursion IsNum leaves.now }
-    ensures value { result ≡ (entry leaves.now leaf).value }
+/// The value of an output.
+fn shown(plan: &OutputPlan, numbers: &[u128]) -> Bits
+    requires { IsShown numbers.now plan.now }
+    ensures value { result ≡ output_value numbers.now plan.now }
     ensures whole { IsBitVector result }
 {
-    leaves[leaf].value
+    Bits::of(plan.width, numbers[plan.leaf])
 }
 
-/// Gives each register its word after the edges of the named clocks, from the values of leaves and nodes
-/// before them.
+/// Gives each register its word after the edges of the named clocks, from the numbers before them.
 pub fn take_edges(
+    net: &FlatNet,
     plans: &[RegisterPlan],
     named: &[usize],
-    leaves: &[Num],
-    nodes: &[Num],
+    numbers: &[u128],
     state: &mut [Bits],
 )
-    requires within { AllByRecursion (IsPlaced (length leaves.now)) plans.now }
+    requires can { AllByRecursion (CanTake net.now numbers.now) plans.now }
     requires rising { (i j : ℕ) → i ≤ j → j < length named.now → slice_index named.now i ≤ slice_index named.now j }
-    requires held_whole { AllByRecursion IsNum leaves.now }
     requires room { length state.old ≡ length plans.now }
-    ensures values { state.new ≡ map (register_value leaves.now nodes.now named.now) plans.now }
+    ensures values { state.new ≡ map (register_value net.now numbers.now named.now) plans.now }
     ensures whole { AllByRecursion IsBitVector state.new }
 {
     for (j, plan) in plans.iter().enumerate() {
-        state[j] = next_word(plan, named, leaves, nodes);
+        state[j] = next_word(net, plan, named, numbers);
     }
 }
 
 /// The word of a register after the edges of the named clocks.
-fn next_word(plan: &RegisterPlan, named: &[usize], leaves: &[Num], nodes: &[Num]) -> Bits
-    requires within { IsPlaced (length leaves.now) plan.now }
+fn next_word(net: &FlatNet, plan: &RegisterPlan, named: &[usize], numbers: &[u128]) -> Bits
+    requires can { CanTake net.now numbers.now plan.now }
     requires rising { (i j : ℕ) → i ≤ j → j < length named.now → slice_index named.now i ≤ slice_index named.now j }
-    requires held_whole { AllByRecursion IsNum leaves.now }
-    ensures value { result ≡ register_value leaves.now nodes.now named.now plan.now }
+    ensures value { result ≡ register_value net.now numbers.now named.now plan.now }
     ensures whole { IsBitVector result }
 {
-    let now = held_at(leaves, plan.leaf);
-    if ticks(named, plan.clock) {
-        taken(plan, now, leaves, nodes)
+    Bits::of(
+        plan.width,
+        after_edges(net, plan, ticks(named, plan.clock), numbers),
+    )
+}
+
+/// The number of a register after an edge of its clock, or without one.
+fn after_edges(net: &FlatNet, plan: &RegisterPlan, edge: bool, numbers: &[u128]) -> u128
+    requires { CanTake net.now numbers.now plan.now }
+    ensures value { result ≡ edge_number net.now numbers.now edge plan.now }
+    ensures fits { result < 2 ^ plan.now.width }
+{
+    let now = numbers[plan.leaf];
+    if edge {
+        taken(net, plan, now, numbers)
     } else {
         now
     }
 }
 
-/// What a register takes at an edge.
-fn taken(plan: &RegisterPlan, now: Bits, leaves: &[Num], nodes: &[Num]) -> Bits
-    requires narrow { plan.now.width ≤ 128 }
-    requires whole { IsBitVector now }
-    ensures value { result ≡ held_taken (held_value leaves.now nodes.now) plan.now.width now plan.now.reset plan.now.next }
-    ensures whole { IsBitVector result }
+/// What a register takes at an edge, whose number is this.
+fn taken(net: &FlatNet, plan: &RegisterPlan, now: u128, numbers: &[u128]) -> u128
+    requires can { CanTake net.now numbers.now plan.now }
+    requires holds { now < 2 ^ plan.now.width }
+    ensures value { result ≡ taken_number net.now numbers.now now plan.now.reset plan.now.next }
+    ensures fits { result < 2 ^ plan.now.width }
 {
-    match plan.reset {
-        Some(reset) if is_high(leaves, nodes, reset.condition) => match reset.kind {
-            ResetKind::Synchronous => fitted(held_value(leaves, nodes, reset.init), plan.width),
+    match &plan.reset {
+        Some(reset) if numbers[reset.condition] == 1 => match reset.kind {
+            ResetKind::Synchronous => reset.init.run(net, numbers),
             ResetKind::Asynchronous => now,
         },
-        _ => driven(plan, now, leaves, nodes),
+        _ => driven(net, plan, now, numbers),
     }
 }
 
-/// What drives a register, or what it shows.
-fn driven(plan: &RegisterPlan, now: Bits, leaves: &[Num], nodes: &[Num]) -> Bits
-    requires narrow { plan.now.width ≤ 128 }
-    requires whole { IsBitVector now }
-    ensures value { result ≡ held_next (held_value leaves.now nodes.now) plan.now.width now plan.now.next }
-    ensures whole { IsBitVector result }
+/// What drives a register, or the number that it holds.
+fn driven(net: &FlatNet, plan: &RegisterPlan, now: u128, numbers: &[u128]) -> u128
+    requires can { CanTake net.now numbers.now plan.now }
+    requires holds { now < 2 ^ plan.now.width }
+    ensures value { result ≡ next_number net.now numbers.now now plan.now.next }
+    ensures fits { result < 2 ^ plan.now.width }
 {
-    match plan.next {
-        Some(read) => fitted(held_value(leaves, nodes, read), plan.width),
+    match &plan.next {
+        Some(task) => task.run(net, numbers),
         None => now,
     }
 }

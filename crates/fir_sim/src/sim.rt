@@ -6,25 +6,27 @@ ghost use Rattle.fir_net.specs.working.IsNet.{IsNet};
 ghost use Rattle.fir_net.specs.working.IsOrder.{IsOrder};
 ghost use Rattle.fir_net.specs.working.Settled.{shape};
 ghost use Rattle.fir_net.specs.working.Allows.{Allows};
-ghost use Rattle.fir_sim.specs.working.Views.{numbers, widths, output_widths, HasWidths, IsTickOf};
+ghost use Rattle.fir_sim.specs.working.Views.{numbers, widths, output_widths, IsTickOf};
 
 use crate::plan::Plan;
-use crate::start::{leaf_zeros, node_room, output_zeros, state_of};
+use crate::start::{output_zeros, state_of, zeros};
+use crate::steps::{Step, steps_of};
 use crate::values::Values;
 use fir_base::MemoryOut;
 use fir_bits::Bits;
+use fir_bits::laws::has_its_type;
 use fir_loop::Order;
 use fir_net::FlatNet;
-use fir_net::laws::nodes_have_their_values;
+use fir_net::laws::{nodes_have_their_types, nodes_have_their_values};
 use std::alloc::Global;
 use std::marker::Model;
 use trace_text::{Init, Tick};
 
-/// A net and an order of it, with the values of its last tick, and its state.
+/// A net and the steps of a tick of it, with the values of its last tick, and its state.
 #[derive(Drop)]
 pub struct Sim {
     net: FlatNet,
-    order: Order,
+    steps: Vec<Step>,
     plan: Plan,
     values: Values,
 }
@@ -37,7 +39,7 @@ impl Model for Sim {
 
     ghost view = { λ s. view_of s.net s.values.outputs.items s.values.state.items };
 
-    ghost invariant = { λ s. IsRunning s.net s.order s.plan s.values };
+    ghost invariant = { λ s. IsRunning s.net s.steps.items s.plan s.values };
 }
 
 impl Sim {
@@ -51,16 +53,16 @@ impl Sim {
         ensures outputs { IfOk result (λ s. numbers s.outputs ≡ replicate (length (output_widths net)) 0) }
         ensures state { IfOk result (λ s. numbers s.state ≡ init.now) }
     {
+        let steps = steps_of(alloc, &net, order.as_slice())?;
         let plan = Plan::new(alloc, &net, order.as_slice())?;
         let values = Values {
-            leaves: leaf_zeros(alloc, net.leaves.as_slice())?,
-            nodes: node_room(alloc, net.nodes.as_slice().len())?,
+            numbers: zeros(alloc, &net)?,
             outputs: output_zeros(alloc, plan.outputs.as_slice())?,
             state: state_of(alloc, plan.registers.as_slice(), init.words())?,
         };
         Ok(Sim {
             net,
-            order,
+            steps,
             plan,
             values,
         })
@@ -77,17 +79,19 @@ impl Sim {
     }
 
     /// Takes a tick of these inputs and named clocks.
-    pub(crate) fn step(&mut self, inputs: &[u128], clocks: &[usize])
+    pub fn step(&mut self, inputs: &[u128], clocks: &[usize])
         requires { IsTickOf self.old.net (record { inputs = inputs.now; clocks = clocks.now }) }
         ensures net { self.new.net ≡ self.old.net }
         ensures allows { Allows self.old.net (numbers self.old.state) (record { inputs = inputs.now; clocks = clocks.now }) (numbers self.new.outputs) (numbers self.new.state) }
     {
+        has_its_type();
+        nodes_have_their_types();
         nodes_have_their_values();
         self.values.put_state(&self.plan);
         self.values.put_inputs(&self.plan, inputs);
-        self.values.settle(&self.net, &self.order);
+        self.values.settle(&self.net, self.steps.as_slice());
         self.values.show_outputs(&self.plan);
-        self.values.take_edges(&self.plan, clocks);
+        self.values.take_edges(&self.net, &self.plan, clocks);
     }
 
     /// The outputs of the last tick in port order.

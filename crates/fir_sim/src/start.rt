@@ -1,15 +1,14 @@
 //! The values before the first tick.
 
-ghost use Rattle.std.specs.Prelude.{◌≡◌, ◌≤◌, IfOk, length, map};
+ghost use Rattle.std.specs.Prelude.{◌≡◌, ◌+◌, IfOk, length, map, replicate};
 ghost use Rattle.std.specs.List.{AllByRecursion};
 ghost use Rattle.fir_base.specs.Ticks.{FitEach};
-ghost use Rattle.fir_sim.specs.working.Passes.{values_of, leaf_zero, output_zero, register_width, IsNarrowLeaf, IsNarrowOutput, IsNarrowRegister};
+ghost use Rattle.fir_sim.specs.working.Passes.{values_of, output_zero, register_width, IsNarrowOutput, IsNarrowRegister};
 
-use crate::evaluate::NO_VALUE;
 use crate::plan::{OutputPlan, RegisterPlan};
 use fir_base::MemoryOut;
-use fir_bits::{Bits, Num};
-use fir_net::Leaf;
+use fir_bits::Bits;
+use fir_net::FlatNet;
 use std::alloc::Global;
 
 /// The words of the state, at the widths of the registers.
@@ -29,19 +28,12 @@ pub fn state_of(
     Ok(state)
 }
 
-/// A 0 for each leaf, of its type.
-pub fn leaf_zeros(alloc: Global, leaves: &[Leaf]) -> Result<Vec<Num>, MemoryOut>
-    requires { AllByRecursion IsNarrowLeaf leaves.now }
-    ensures { IfOk result (λ v. v.items ≡ map leaf_zero leaves.now) }
+/// A 0 for each leaf and each node.
+pub fn zeros(alloc: Global, net: &FlatNet) -> Result<Vec<u128>, MemoryOut>
+    ensures { IfOk result (λ v. v.items ≡ replicate (length net.now.leaves + length net.now.nodes) 0) }
 {
-    let mut zeros = Vec::new(alloc);
-    for leaf in leaves {
-        zeros.push(Num {
-            signed: leaf.signed,
-            value: Bits::of(leaf.width, 0),
-        })?;
-    }
-    Ok(zeros)
+    let count = net.leaves.as_slice().len() + net.nodes.as_slice().len();
+    Ok(vec![in alloc; 0; count]?)
 }
 
 /// A 0 for each output, at its width.
@@ -54,11 +46,4 @@ pub fn output_zeros(alloc: Global, plans: &[OutputPlan]) -> Result<Vec<Bits>, Me
         zeros.push(Bits::of(plan.width, 0))?;
     }
     Ok(zeros)
-}
-
-/// Room for the values of so many nodes.
-pub fn node_room(alloc: Global, count: usize) -> Result<Vec<Num>, MemoryOut>
-    ensures { IfOk result (λ v. length v.items ≡ count) }
-{
-    Ok(vec![in alloc; NO_VALUE; count]?)
 }

@@ -16,7 +16,7 @@ use Rattle.fir_names.specs.declared.declaration.Declaration.{Declaration as Entr
 use Rattle.fir_names.specs.declared.names.Names.{Names}
 use Rattle.fir_names.specs.working.ModuleOrder.{find_number}
 use Rattle.fir_names.specs.working.Numbered.{names_of}
-use Rattle.fir_names.specs.working.Tabulated.{entries_from, entry_of, found_at, Tabulates}
+use Rattle.fir_names.specs.working.Tabulated.{Tabulates, entries_from, entry_at, entry_of}
 use Rattle.fir_type_table.specs.declared.kind.TypeId.{TypeId}
 use Rattle.fir_type_table.specs.working.Tables.{types_of}
 use Rattle.fir_types.specs.declared.found.Found.{Found}
@@ -54,17 +54,10 @@ entry_there ns i (e ∷ ds) rest d =
     later : (k : ℕ) → suc i + k ≡ i + suc k
     later k = omega arith
 
-pub found_there : (names : Names) (found : Option ℕ) (e : Entry) → option_map (λ id. found_at names (Some id)) found ≡ Some (Some e) → found_at names found ≡ Some e
-found_there names None e h = absurd (none-some (Some e) h)
-found_there names (Some id) e h = same_Some (found_at names (Some id)) (Some e) h
-
 at_position : (ns : List PlacedName) (names : Names) (ds rest : Declarations) (d : Declaration) → Tabulates ns names (ds ++ d ∷ rest)
-    → found_at names (slice_get names.in_order.items (length ds)) ≡ Some (entry_of ns (length ds) d)
+    → entry_at names (length ds) ≡ Some (entry_of ns (length ds) d)
 at_position ns names ds rest d t =
-    found_there names (slice_get names.in_order.items (length ds)) (entry_of ns (length ds) d)
-    (sym (slice_get-map (λ id. found_at names (Some id)) names.in_order.items (length ds)) ∙ ap (λ xs. slice_get xs (length ds)) t.in_order
-    ∙ slice_get-map Some (entries_from ns 0 (ds ++ d ∷ rest)) (length ds) ∙ ap (option_map Some) (entry_there ns 0 ds rest d)
-    ∙ ap (λ k. Some (Some (entry_of ns k d))) (zero_more (length ds)))
+    ap (λ es. slice_get es (length ds)) t.in_order ∙ entry_there ns 0 ds rest d ∙ ap (λ k. Some (entry_of ns k d)) (zero_more (length ds))
   where
     zero_more : (k : ℕ) → 0 + k ≡ k
     zero_more k = omega arith
@@ -99,14 +92,14 @@ in_middle (e ∷ ds) rest d = inr (in_middle ds rest d)
 
 pub instance_seen : (modules : List ModuleTree) (names : Names) (whole : Declarations) (bundles : List TypeId) (scope : Scope) (before : Before) (n : PlacedName) (name : List ℕ)
     → IsOfModule modules names whole → Begins (with_declaration before n (instance name)).declared whole → Walks modules bundles scope before
-    → seen (types_of scope.table) (found_bundle bundles (found_at names (slice_get names.in_order.items (length scope.declared.items)))) ≡ instance_type modules name
+    → seen (types_of scope.table) (found_bundle bundles (entry_at names (length scope.declared.items))) ≡ instance_type modules name
 instance_seen modules names whole bundles scope before n name of begins walks =
     let ds = before.declared in
     let d = declaration_at before n (instance name) in
     let split : whole ≡ ds ++ d ∷ begins.0 = begins.1 ∙ append_assoc ds (d ∷ []) begins.0 in
     let there = of.there d name (rw split (in_middle ds begins.0 d)) refl in
     let entry = at_position (names_of modules) names ds begins.0 d (rw split at of.tabulated) in
-    ap (λ k. seen (types_of scope.table) (found_bundle bundles (found_at names (slice_get names.in_order.items k)))) (declared_long modules bundles scope before walks)
+    ap (λ k. seen (types_of scope.table) (found_bundle bundles (entry_at names k))) (declared_long modules bundles scope before walks)
     ∙ ap (λ o. seen (types_of scope.table) (found_bundle bundles o)) entry
     ∙ ap (λ k. seen (types_of scope.table) (numbered bundles (unwrap_or k 0))) there.1
     ∙ bundle_there (types_of scope.table) bundles modules name there.0 walks.holds there.1

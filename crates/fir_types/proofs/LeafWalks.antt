@@ -22,7 +22,7 @@ use Rattle.fir_names.specs.declared.declaration.Declaration.{Declaration as Entr
 use Rattle.fir_names.specs.declared.names.Names.{Names}
 use Rattle.fir_names.specs.working.ModuleOrder.{find_number}
 use Rattle.fir_names.specs.working.Numbered.{component_of, names_of}
-use Rattle.fir_names.specs.working.Tabulated.{entries_from, entry_of, found_at, Tabulates}
+use Rattle.fir_names.specs.working.Tabulated.{entries_from, entry_at, entry_of, Tabulates}
 use Rattle.fir_names.proofs.ModulesThere.{instance_number}
 use Rattle.fir_type_table.specs.declared.kind.TypeId.{TypeId}
 use Rattle.fir_type_table.specs.working.Saturated.{saturated}
@@ -35,7 +35,7 @@ use Rattle.fir_types.specs.working.Notes.{LeafRange}
 use Rattle.fir_types.specs.working.Seen.{seen}
 use Rattle.fir_types.specs.working.TypedModules.{declared_types, found_types, leaf_declared}
 use Rattle.fir_types.specs.working.Walked.{HoldsBundles, IsOfModule}
-use Rattle.fir_types.proofs.InstanceWalks.{found_there, length_of_map}
+use Rattle.fir_types.proofs.InstanceWalks.{length_of_map}
 use Rattle.fir_types.proofs.KnownScopes.{Heads, heads_of}
 
 -- sums that stand still
@@ -146,21 +146,17 @@ record Reads (at : ℕ → Option ComponentOfCode) (modules : List ModuleTree) (
   each : (j : ℕ) (d : Declaration) → slice_get ds j ≡ Some d → at (p + j) ≡ Some (component_of (names_of modules) d.component)
   there : (d : Declaration) (name : List ℕ) → In ds d → d.component ≡ instance name → (k : ℕ) × (find_number (names_of modules) name ≡ Some k)
 
-entry_at : (ns : List PlacedName) (ds : Declarations) (i j : ℕ) (d : Declaration) → slice_get ds j ≡ Some d
+entry_behind : (ns : List PlacedName) (ds : Declarations) (i j : ℕ) (d : Declaration) → slice_get ds j ≡ Some d
     → slice_get (entries_from ns i ds) j ≡ Some (entry_of ns (i + j) d)
-entry_at ns [] i j d e = absurd (none-some d e)
-entry_at ns (x ∷ ds) i zero d e = ap (λ y. Some (entry_of ns i y)) (same_Some x d e) ∙ ap (λ k. Some (entry_of ns k d)) (let z : i ≡ i + 0 = omega arith in z)
-entry_at ns (x ∷ ds) i (suc j) d e = entry_at ns ds (suc i) j d e ∙ ap (λ k. Some (entry_of ns k d)) (let z : suc i + j ≡ i + suc j = omega arith in z)
+entry_behind ns [] i j d e = absurd (none-some d e)
+entry_behind ns (x ∷ ds) i zero d e = ap (λ y. Some (entry_of ns i y)) (same_Some x d e) ∙ ap (λ k. Some (entry_of ns k d)) (let z : i ≡ i + 0 = omega arith in z)
+entry_behind ns (x ∷ ds) i (suc j) d e = entry_behind ns ds (suc i) j d e ∙ ap (λ k. Some (entry_of ns k d)) (let z : suc i + j ≡ i + suc j = omega arith in z)
 
 reads_module : (modules : List ModuleTree) (names : Names) (whole : Declarations) → IsOfModule modules names whole → Reads (component_at names) modules 0 whole
 reads_module modules names whole of = record {
   each = λ j d e.
-      let entry = entry_at (names_of modules) whole 0 j d e in
-      let ids = names.in_order.items in
-      let found : found_at names (slice_get ids j) ≡ Some (entry_of (names_of modules) (0 + j) d) =
-      found_there names (slice_get ids j) (entry_of (names_of modules) (0 + j) d)
-      (sym (slice_get-map (λ id. found_at names (Some id)) ids j) ∙ ap (λ xs. slice_get xs j) of.tabulated.in_order
-      ∙ slice_get-map Some (entries_from (names_of modules) 0 whole) j ∙ ap (option_map Some) entry) in
+      let entry = entry_behind (names_of modules) whole 0 j d e in
+      let found : entry_at names j ≡ Some (entry_of (names_of modules) (0 + j) d) = ap (λ es. slice_get es j) of.tabulated.in_order ∙ entry in
       ap (λ k. component_at names k) (let z : 0 + j ≡ j = omega arith in z) ∙ ap (λ (o : Option Entry). option_map (λ e. e.component) o) found;
   there = of.there;
 }

@@ -136,7 +136,7 @@ pub fn in_reference(
     ensures found { (typed : TypedScope) → Knows names.now scope.now typed → Finds (reached_as (types_of scope.now.table) (sink_path (sink_of reference.now))) (reaching typed (sink_of reference.now)) result }
     ensures notes { (typed : TypedScope) → Knows names.now scope.now typed → OnOk result (Noted (types_of scope.now.table) notes.old.items notes.new.items (reference_notes typed (sink_of reference.now))) }
 {
-    let mut reached = scope.root(names, &reference.name);
+    let mut reached = scope.root(names, notes.len(), &reference.name);
     let mut picks = Vec::new(alloc);
     for part in &reference.parts {
         let place = reference.place;

@@ -29,12 +29,12 @@ pub struct Scope {
 }
 
 impl Scope {
-    /// What a name reaches.
-    pub fn root(&self, names: &Names, name: &Name) -> Option<Reach>
+    /// What the name of a reference reaches, before which so many expressions have ended.
+    pub fn root(&self, names: &Names, ended: usize, name: &Name) -> Option<Reach>
         ensures reached { (typed : TypedScope) → Knows names.now self.now typed → option_map (reached_as (types_of self.now.table) (named name.now ∷ [])) result ≡ (root typed name.now).has }
         ensures range { (typed : TypedScope) → Knows names.now self.now typed → IsRootRange (types_of self.now.table) result (root_range typed name.now) }
     {
-        let declaration = names.find(name)?;
+        let declaration = names.find_noted(ended, name)?;
         let found = self.declared.get(declaration.position)?;
         Some(Reach {
             declaration: declaration.position,

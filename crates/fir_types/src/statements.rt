@@ -12,7 +12,7 @@ ghost use Rattle.fir_meaning.specs.MemoryTypes.{data_of_part, first_one, memory_
 ghost use Rattle.fir_meaning.specs.TypeGroup.{scope_at, type_faults_in, type_faults_in_block};
 ghost use Rattle.fir_meaning.specs.Visibility.{Before, behind, behind_block, with_declaration};
 ghost use Rattle.fir_names.specs.working.Parts.{when_view};
-ghost use Rattle.fir_names.specs.working.Tabulated.{found_at};
+ghost use Rattle.fir_names.specs.working.Tabulated.{entry_at};
 ghost use Rattle.fir_type_table.specs.working.Tables.{type_at, types_of};
 ghost use Rattle.fir_types.specs.working.MemoryParts.{HasWordType, IsFoundIn, IsHeldWordType};
 ghost use Rattle.fir_types.specs.working.ModuleNotes.{block_notes, register_notes, statement_notes};
@@ -151,7 +151,7 @@ fn declare_instance(names: &Names, bundles: &[TypeId], scope: &mut Scope) -> Res
 
 /// The bundle of the instance before whose declaration so many stand.
 fn bundle_of(names: &Names, bundles: &[TypeId], position: usize) -> Option<Found>
-    ensures { result ≡ found_bundle bundles.now (found_at names.now (slice_get names.now.in_order.items position)) }
+    ensures { result ≡ found_bundle bundles.now (entry_at names.now position) }
 {
     let declaration = names.at(position)?;
     let Component::Instance(number) = declaration.component else {

@@ -23,12 +23,12 @@ use Rattle.fir_names.specs.declared.declaration.Component.{Component as Componen
 use Rattle.fir_names.specs.declared.declaration.Declaration.{Declaration as Entry}
 use Rattle.fir_names.specs.declared.names.Names.{Names}
 use Rattle.fir_names.specs.working.Numbered.{component_of}
-use Rattle.fir_names.specs.working.Tabulated.{Tabulates, entries_from, entry_of, found_at}
+use Rattle.fir_names.specs.working.Tabulated.{Tabulates, entries_from, entry_at, entry_of}
 use Rattle.fir_types.specs.declared.found.Found.{Found}
 use Rattle.fir_types.specs.working.FirstLeaves.{component_at}
 use Rattle.fir_types.specs.working.Seen.{seen}
 use Rattle.fir_types.specs.working.TypedModules.{declared_types, found_types}
-use Rattle.fir_types.proofs.InstanceWalks.{found_there, length_of_map}
+use Rattle.fir_types.proofs.InstanceWalks.{length_of_map}
 use Rattle.fir_width.specs.declared.arena.Arena.{Arena}
 use Rattle.fir_width.specs.declared.declared.Stage.TheVariants as stage
 use Rattle.fir_width.specs.working.FlatWidths.{flat}
@@ -44,20 +44,16 @@ use Rattle.fir_width.proofs.PushedWalks.{flat_long}
 record Reads (at : ℕ → Option ComponentOfCode) (ns : List PlacedName) (p : ℕ) (ds : Declarations) : Type 0 where
   each : (j : ℕ) (d : Declaration) → slice_get ds j ≡ Some d → at (p + j) ≡ Some (component_of ns d.component)
 
-entry_at : (ns : List PlacedName) (ds : Declarations) (i j : ℕ) (d : Declaration) → slice_get ds j ≡ Some d
+entry_behind : (ns : List PlacedName) (ds : Declarations) (i j : ℕ) (d : Declaration) → slice_get ds j ≡ Some d
     → slice_get (entries_from ns i ds) j ≡ Some (entry_of ns (i + j) d)
-entry_at ns [] i j d e = absurd (none-some d e)
-entry_at ns (x ∷ ds) i zero d e = ap (λ y. Some (entry_of ns i y)) (same_Some x d e) ∙ ap (λ k. Some (entry_of ns k d)) (let z : i ≡ i + 0 = omega arith in z)
-entry_at ns (x ∷ ds) i (suc j) d e = entry_at ns ds (suc i) j d e ∙ ap (λ k. Some (entry_of ns k d)) (let z : suc i + j ≡ i + suc j = omega arith in z)
+entry_behind ns [] i j d e = absurd (none-some d e)
+entry_behind ns (x ∷ ds) i zero d e = ap (λ y. Some (entry_of ns i y)) (same_Some x d e) ∙ ap (λ k. Some (entry_of ns k d)) (let z : i ≡ i + 0 = omega arith in z)
+entry_behind ns (x ∷ ds) i (suc j) d e = entry_behind ns ds (suc i) j d e ∙ ap (λ k. Some (entry_of ns k d)) (let z : suc i + j ≡ i + suc j = omega arith in z)
 
 reads_module : (ns : List PlacedName) (names : Names) (ds : Declarations) → Tabulates ns names ds → Reads (component_at names) ns 0 ds
 reads_module ns names ds tabulates = record {
   each = λ j d e.
-      let ids = names.in_order.items in
-      let found : found_at names (slice_get ids j) ≡ Some (entry_of ns (0 + j) d) =
-      found_there names (slice_get ids j) (entry_of ns (0 + j) d)
-      (sym (slice_get-map (λ id. found_at names (Some id)) ids j) ∙ ap (λ xs. slice_get xs j) tabulates.in_order
-      ∙ slice_get-map Some (entries_from ns 0 ds) j ∙ ap (option_map Some) (entry_at ns ds 0 j d e)) in
+      let found : entry_at names j ≡ Some (entry_of ns (0 + j) d) = ap (λ es. slice_get es j) tabulates.in_order ∙ entry_behind ns ds 0 j d e in
       ap (component_at names) (let z : 0 + j ≡ j = omega arith in z) ∙ ap (λ (o : Option Entry). option_map (λ e. e.component) o) found;
 }
 

@@ -8,4 +8,6 @@ mod sure;
 pub use sure::sure_status;
 
 #[cfg(test)]
+mod compiles;
+#[cfg(test)]
 mod runs;

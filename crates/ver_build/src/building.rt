@@ -31,7 +31,8 @@ pub fn built_tree(
     ensures { IfOk result (λ v. v ≡ built net.now table.now places.now order.now) }
 {
     let inners = inners_of(alloc, net, places, order)?;
-    let mut items = Vec::new(alloc);
+    // A wire and an assign for each of them.
+    let mut items = Vec::with_capacity(alloc, inners.len().saturating_mul(2))?;
     put_regs(alloc, &mut items, net, table)?;
     put_wires(alloc, &mut items, inners.as_slice())?;
     put_inner_assigns(&mut items, inners)?;

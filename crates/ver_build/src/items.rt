@@ -97,7 +97,7 @@ pub fn inners_of(
 ) -> Result<Vec<Inner>, MemoryOut>
     ensures { IfOk result (λ v. v.items ≡ inners net.now places.now order.now) }
 {
-    let mut inners = Vec::new(alloc);
+    let mut inners = Vec::with_capacity(alloc, order.len())?;
     for read in order {
         let mut more = read_inners(alloc, net, places, *read)?;
         inners.append(&mut more)?;

@@ -18,6 +18,3 @@ mod right_sides;
 
 pub use building::build;
 pub use laws::names_are_for_rows;
-
-#[cfg(test)]
-mod tests;

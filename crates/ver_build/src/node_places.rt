@@ -67,7 +67,7 @@ fn pass(
 fn no_places(alloc: Global, nodes: &[Node]) -> Result<Vec<NodePlace>, MemoryOut>
     ensures { IfOk result (λ v. length v.items ≡ length nodes.now) }
 {
-    let mut places = Vec::new(alloc);
+    let mut places = Vec::with_capacity(alloc, nodes.len())?;
     for node in nodes {
         let _ = node;
         places.push(without_helpers(alloc, Held::no_bits()))?;

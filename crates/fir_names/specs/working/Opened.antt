@@ -1,8 +1,9 @@
 -- Which declarations are visible, by where the blocks that are open begin.
 -- For each when round a place stands how many declarations came before its open block.
-use Rattle.std.specs.Prelude.{◌≡◌, ℕ, zero, suc, List, [], ◌∷◌, ◌++◌, length, slice_get, Bool, true, false, nat_le, if◌then◌else◌, Option, Some, None}
+use Rattle.std.specs.Prelude.{◌≡◌, ℕ, zero, suc, List, [], ◌∷◌, ◌++◌, slice_get, Bool, true, false, nat_le, if◌then◌else◌, Option, Some, None}
 use Rattle.fir_meaning.specs.Components.{Declarations}
 use Rattle.fir_names.specs.declared.scope.Scope.{Scope}
+use Rattle.fir_names.specs.working.Tabulated.{entry_count}
 
 abbrev pub begins_by : Option ℕ → ℕ → Bool
 begins_by None position = false
@@ -22,7 +23,7 @@ open_from opened position (d ∷ ds) =
 -- a block is opened, or the last one closed
 pub record Opens (old new : Scope) : Type 0 where
   pub names : new.names ≡ old.names
-  pub opened : new.opened.items ≡ old.opened.items ++ length old.names.in_order.items ∷ []
+  pub opened : new.opened.items ≡ old.opened.items ++ entry_count old.names ∷ []
 
 pub record Closes (old new : Scope) : Type 0 where
   pub names : new.names ≡ old.names

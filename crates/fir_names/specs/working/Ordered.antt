@@ -17,7 +17,7 @@ use Rattle.fir_names.specs.declared.declaration.Component.TheVariants.{Instance}
 use Rattle.fir_names.specs.declared.names.Names.{Names}
 use Rattle.fir_names.specs.working.ModuleOrder.{IsModuleOrder}
 use Rattle.fir_names.specs.working.Numbered.{instance_numbers}
-use Rattle.fir_names.specs.working.Tabulated.{found_at}
+use Rattle.fir_names.specs.working.Tabulated.{entry_at}
 
 -- for each module the numbers of those that it has instances of
 abbrev pub instances_each : List PlacedName → List ModuleTree → List (List ℕ)
@@ -38,14 +38,14 @@ name_at modules number = unwrap_or (option_map (λ m. m.named.name) (slice_get m
 pub record HasInstance (names : Names) (other : ℕ) : Type 0 where
   pub at : ℕ
   pub entry : Entry
-  pub is : found_at names (slice_get names.in_order.items at) ≡ Some entry
+  pub is : entry_at names at ≡ Some entry
   pub instance_of : entry.component ≡ Instance other
 
 -- the place of the first one
 pub record IsFirstInstance (names : Names) (other : ℕ) (place : Place) : Type 0 where
   pub has : HasInstance names other
   pub is : place ≡ has.entry.place
-  pub first : (k : ℕ) (e : Entry) → k < has.at → found_at names (slice_get names.in_order.items k) ≡ Some e → e.component ≡ Instance other → ⊥
+  pub first : (k : ℕ) (e : Entry) → k < has.at → entry_at names k ≡ Some e → e.component ≡ Instance other → ⊥
 
 abbrev pub OrdersModules : CircuitTree → Result (Vec ℕ Global) (Refused FirFault) → Type 0
 OrdersModules c (Ok order) = IsModuleOrder c order.items × IsClear (hierarchy_group c)

@@ -1,10 +1,7 @@
 -- The code's table of what a module declares.
-use Rattle.std.specs.Prelude.{◌≡◌, ℕ, suc, List, [], ◌∷◌, map, if◌then◌else◌, Option, Some, None}
+use Rattle.std.specs.Prelude.{◌≡◌, ℕ, suc, List, [], ◌∷◌, map, if◌then◌else◌, slice_get, Option, Some, None}
 use Rattle.std.specs.Str.{bytes_eq}
-use Rattle.std.specs.BTreeMap.{get}
-use Rattle.std.specs.Cmp.Lexicographic.{slice_cmp}
-use Rattle.std.specs.Ordering.{nat_cmp}
-use Rattle.fir_arena.specs.working.Held.{held}
+use Rattle.indexmap.specs.IndexMap.{get_by, index_map_len, values}
 use Rattle.fir_base.specs.Lists.{Distinct}
 use Rattle.fir_ast.specs.Statements.{PlacedName}
 use Rattle.fir_meaning.specs.Components.{Declaration, Declarations}
@@ -26,17 +23,19 @@ abbrev pub entry_named : List PlacedName → ℕ → Declarations → List ℕ �
 entry_named modules position [] name = None
 entry_named modules position (d ∷ ds) name = if bytes_eq d.named.name name then Some (entry_of modules position d) else entry_named modules (suc position) ds name
 
-abbrev pub found_at : Names → Option ℕ → Option Entry
-found_at names None = None
-found_at names (Some id) = held names.declarations id
+-- how many entries the table has, and the one before which so many stand
+abbrev pub entry_count : Names → ℕ
+entry_count names = index_map_len names.declarations
+
+abbrev pub entry_at : Names → ℕ → Option Entry
+entry_at names position = slice_get (values names.declarations) position
 
 -- what the table has under a name
 abbrev pub found : Names → List ℕ → Option Entry
-found names name = found_at names (get (slice_cmp nat_cmp) names.ids name)
+found names name = get_by (λ known. bytes_eq name known.items) names.declarations
 
--- the table has each declaration, in order and by name, the id of each name is held, and no name stands twice
+-- the table has each declaration, in order and by name, and no name stands twice
 pub record Tabulates (modules : List PlacedName) (names : Names) (ds : Declarations) : Type 0 where
-  pub in_order : map (held names.declarations) names.in_order.items ≡ map Some (entries_from modules 0 ds)
+  pub in_order : values names.declarations ≡ entries_from modules 0 ds
   pub by_name : (n : List ℕ) → found names n ≡ entry_named modules 0 ds n
-  pub filled : (n : List ℕ) → found names n ≡ None → get (slice_cmp nat_cmp) names.ids n ≡ None
   pub once : Distinct (map (λ d. d.named.name) ds)

@@ -1,13 +1,21 @@
 -- What a tick does with each leaf that has bits: the place of each among the leaves, and what a register takes at which clock.
-use Rattle.std.specs.Prelude.{◌≡◌, ℕ, ◌+◌, List, [], ◌∷◌, ◌++◌, nat_eq, if◌then◌else◌, slice_get, Option, Some, None, unwrap_or}
+use Rattle.std.specs.Prelude.{◌≡◌, ℕ, ◌+◌, ◌≤◌, List, [], ◌∷◌, ◌++◌, nat_eq, if◌then◌else◌, slice_get, Option, Some, None, unwrap_or}
+use Rattle.std.specs.List.{AllZip}
+use Rattle.fir_net.specs.declared.reads.Read.{Read}
+use Rattle.fir_net.specs.declared.leaf.Reset.{Reset}
+use Rattle.fir_net.specs.declared.leaf.Register.{Register}
 use Rattle.fir_net.specs.declared.leaf.Role.{Role}
 use Rattle.fir_net.specs.declared.leaf.Role.TheVariants as role
 use Rattle.fir_net.specs.declared.leaf.Leaf.{Leaf}
 use Rattle.fir_net.specs.declared.net.FlatNet.{FlatNet}
-use Rattle.fir_net.specs.working.Settled.{clocks, clock_driver, driven_clock}
+use Rattle.fir_net.specs.working.Settled.{clocks, clock_driver, driven_clock, registers}
+use Rattle.fir_work.specs.declared.task.Task.{Task}
+use Rattle.fir_work.specs.working.Numbers.{place}
+use Rattle.fir_work.specs.working.Tasks.{IsFitTask}
 use Rattle.fir_sim.specs.declared.plan.InputPlan.{InputPlan}
 use Rattle.fir_sim.specs.declared.plan.OutputPlan.{OutputPlan}
 use Rattle.fir_sim.specs.declared.plan.RegisterPlan.{RegisterPlan}
+use Rattle.fir_sim.specs.declared.plan.ResetPlan.{ResetPlan}
 use Rattle.fir_sim.specs.declared.plan.Plan.{Plan}
 
 abbrev pub clock_count : Role → ℕ
@@ -47,18 +55,45 @@ abbrev pub output_plan : Role → ℕ → ℕ → List OutputPlan
 output_plan (role.Output r) width k = planned width (record { leaf = k; width = width })
 output_plan _ width k = []
 
-abbrev pub register_plan : List (Option ℕ) → Role → ℕ → ℕ → List RegisterPlan
-register_plan roots (role.Register r) width k = planned width (record { leaf = k; width = width; clock = root_at roots r.clock; reset = r.reset; next = r.next })
-register_plan roots _ width k = []
-
 -- the plans of the leaves, which are numbered from k on
 abbrev pub plans_by : {P : Type 0} → (Role → ℕ → ℕ → List P) → ℕ → List Leaf → List P
 plans_by plan k [] = []
 plans_by plan k (l ∷ ls) = plan l.role l.width k ++ plans_by plan (k + 1) ls
+
+-- what gives that which drives a register of that width
+abbrev pub IsNextPlan : FlatNet → ℕ → Option Read → Option Task → Type 0
+IsNextPlan net width None None = Unit {0}
+IsNextPlan net width None (Some t) = ⊥
+IsNextPlan net width (Some r) None = ⊥
+IsNextPlan net width (Some r) (Some t) = IsFitTask net r width t
+
+pub record IsResetOf (net : FlatNet) (width : ℕ) (r : Reset) (p : ResetPlan) : Type 0 where
+  pub kind : p.kind ≡ r.kind
+  pub condition : p.condition ≡ place net r.condition
+  pub init : IsFitTask net r.init width p.init
+
+abbrev pub IsResetPlan : FlatNet → ℕ → Option Reset → Option ResetPlan → Type 0
+IsResetPlan net width None None = Unit {0}
+IsResetPlan net width None (Some p) = ⊥
+IsResetPlan net width (Some r) None = ⊥
+IsResetPlan net width (Some r) (Some p) = IsResetOf net width r p
+
+-- the plan of the register whose leaf has that number
+pub record IsRegisterPlan (net : FlatNet) (roots : List (Option ℕ)) (p : RegisterPlan) (k : ℕ) : Type 0 where
+  pub leaf : Leaf
+  pub register : Register
+  pub at : slice_get net.leaves k ≡ Some leaf
+  pub kind : leaf.role ≡ role.Register register
+  pub place : p.leaf ≡ k
+  pub width : leaf.width ≡ p.width
+  pub narrow : p.width ≤ 128
+  pub clock : p.clock ≡ root_at roots register.clock
+  pub reset : IsResetPlan net p.width register.reset p.reset
+  pub next : IsNextPlan net p.width register.next p.next
 
 pub record IsPlan (net : FlatNet) (p : Plan) : Type 0 where
   pub inputs : p.inputs.items ≡ plans_by input_plan 0 net.leaves
   pub outputs : p.outputs.items ≡ plans_by output_plan 0 net.leaves
   pub roots : List (Option ℕ)
   pub are_roots : AreRoots net roots
-  pub registers : p.registers.items ≡ plans_by (register_plan roots) 0 net.leaves
+  pub registers : AllZip (IsRegisterPlan net roots) p.registers.items (registers net)

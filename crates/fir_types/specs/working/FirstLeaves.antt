@@ -5,7 +5,7 @@ use Rattle.fir_meaning.specs.SharedLeaves.{shared_count}
 use Rattle.fir_names.specs.declared.declaration.Component.{Component}
 use Rattle.fir_names.specs.declared.declaration.Component.TheVariants as code
 use Rattle.fir_names.specs.declared.names.Names.{Names}
-use Rattle.fir_names.specs.working.Tabulated.{found_at}
+use Rattle.fir_names.specs.working.Tabulated.{entry_at}
 use Rattle.fir_type_table.specs.declared.kind.TypeId.{TypeId}
 use Rattle.fir_type_table.specs.working.Saturated.{saturated}
 use Rattle.fir_type_table.specs.working.Tables.{type_at}
@@ -40,7 +40,7 @@ saturated_next next = next_of (saturated next.port) (saturated next.body)
 
 -- what the declaration is before which so many stand
 abbrev pub component_at : Names → ℕ → Option Component
-component_at names position = option_map (λ d. d.component) (found_at names (slice_get names.in_order.items position))
+component_at names position = option_map (λ d. d.component) (entry_at names position)
 
 -- the first leaf of a declaration, and the next numbers behind it
 abbrev pub first_by : List ℕ → NextOfCode → Option Component → ℕ

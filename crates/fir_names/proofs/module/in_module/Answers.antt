@@ -1,6 +1,7 @@
 use Rattle.std.proofs.Common.{map, refl, ap}
 use Rattle.fir_ast.specs.View.{block_of, module_of, port_of, stmt_of}
-use Rattle.fir_meaning.specs.Visibility.{at_head, behind_ports}
+use Rattle.fir_meaning.specs.Visibility.{at_head, behind_ports, declarations}
+use Rattle.fir_names.proofs.GrownTables.{tabulates_noted}
 use Rattle.fir_names.proofs.WalkedModules.{ports_told, body_told, module_passed}
 use Rattle.fir_names.proofs.module.in_module.Goals as goal
 
@@ -32,7 +33,8 @@ returns c = λ modules numbered.
     let first = ap (map port_of) c.deref.ensures.value in
     let second = ap (λ b. block_of (map stmt_of b)) c.deref-2.ensures.value in
     let p = c.in_ok-fault.ensures modules at_head (c.new-scope.ensures modules) in
-    rw c.into_names.ensures
-    (module_passed modules m ports body first second c.new-scope.result c.in_ports.new.scope c.in_block.new.scope c.in_ok-fault.field-0
+    let passed =
+    module_passed modules m ports body first second c.new-scope.result c.in_ports.new.scope c.in_block.new.scope c.in_ok-fault.field-0
     c.in_ok-fault-2.field-0 c.in_default.is p c.in_default-2.is
-    (c.in_ok-fault-2.ensures modules (behind_ports at_head ports) numbered (p.walked c.in_default.is)))
+    (c.in_ok-fault-2.ensures modules (behind_ports at_head ports) numbered (p.walked c.in_default.is)) in
+    rw c.into_names.ensures (passed.0, tabulates_noted modules c.in_block.new.scope.names (declarations m) c.in_block.new.noted passed.1)

@@ -9,11 +9,11 @@ use Rattle.fir_meaning.specs.ResetItems.{declared_at}
 use Rattle.fir_reset.proofs.NamedPlaces.{place_found}
 use Rattle.fir_reset.proofs.root.place_declared.Goals as goal
 
-pub returns-in-Some-find : goal.returns-in-Some-find
-returns-in-Some-find c = λ m there.
+pub returns-in-Some-find_near : goal.returns-in-Some-find_near
+returns-in-Some-find_near c = λ m there.
     let r = c.args.reference.now in
-    place_found (module_names (circuit_of c.args.named.now)) c.in-Some.names.now (declarations m) r.name r.place (Some c.in-Some-find.declaration.now)
-    (c.in-Some.ensures m there) c.in-Some-find.ensures
+    place_found (module_names (circuit_of c.args.named.now)) c.in-Some.names.now (declarations m) r.name r.place (Some c.in-Some-find_near.declaration.now)
+    (c.in-Some.ensures m there) c.in-Some-find_near.ensures
     ∙ ap (λ (s : Sink). declared_at s.place (find (declarations m) s.name)) (sym (sink_view r))
 
 pub returns-in-None : goal.returns-in-None

@@ -3,4 +3,4 @@ use Rattle.fir_sim.specs.working.Passes.{with_inputs}
 use Rattle.fir_sim.proofs.passes.put_inputs.Given as goal
 
 abbrev pub invariant-loop-j : goal.invariant-loop-j
-invariant-loop-j l = with_inputs (drop l.j l.plans) (drop l.j l.values) l.leaves ≡ with_inputs l.plans l.values l.initial.leaves
+invariant-loop-j l = with_inputs (drop l.j l.plans) (drop l.j l.values) l.numbers ≡ with_inputs l.plans l.values l.initial.numbers

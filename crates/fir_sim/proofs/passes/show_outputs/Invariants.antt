@@ -6,6 +6,6 @@ use Rattle.fir_sim.proofs.passes.show_outputs.Given as goal
 
 abbrev pub invariant-loop-j : goal.invariant-loop-j
 invariant-loop-j l = record {
-  values : take l.j l.outputs ≡ map (output_value l.leaves) (take l.j l.plans);
+  values : take l.j l.outputs ≡ map (output_value l.numbers) (take l.j l.plans);
   whole : AllByRecursion IsBitVector (take l.j l.outputs);
 }

@@ -6,6 +6,6 @@ use Rattle.fir_sim.proofs.passes.take_edges.Given as goal
 
 abbrev pub invariant-loop-j : goal.invariant-loop-j
 invariant-loop-j l = record {
-  values : take l.j l.state ≡ map (register_value l.leaves l.nodes l.named) (take l.j l.plans);
+  values : take l.j l.state ≡ map (register_value l.net l.numbers l.named) (take l.j l.plans);
   whole : AllByRecursion IsBitVector (take l.j l.state);
 }

@@ -1,6 +1,8 @@
-use Rattle.std.proofs.Common.{◌≡◌, take}
-use Rattle.fir_sim.specs.working.Plans.{register_plan, plans_by}
+use Rattle.std.proofs.Common.{take}
+use Rattle.std.specs.List.{AllZip}
+use Rattle.fir_net.specs.working.Settled.{register_number, numbers_by}
+use Rattle.fir_sim.specs.working.Plans.{IsRegisterPlan}
 use Rattle.fir_sim.proofs.plan.register_plans.Given as goal
 
 abbrev pub invariant-loop-k : goal.invariant-loop-k
-invariant-loop-k l = l.plans.items ≡ plans_by (register_plan l.roots) 0 (take l.k l.leaves)
+invariant-loop-k l = AllZip (IsRegisterPlan l.net l.roots) l.plans.items (numbers_by register_number 0 (take l.k l.net.leaves))

@@ -2,7 +2,7 @@ use Rattle.std.proofs.Common.{◌≡◌, length, sym, ap, ◌∙◌, arith}
 use Rattle.std.specs.Prelude.{slice_get}
 use Rattle.std.proofs.lemmas.Result.{IfOk-weaker}
 use Rattle.fir_meaning.specs.Components.{instance}
-use Rattle.fir_names.specs.working.Tabulated.{found_at}
+use Rattle.fir_names.specs.working.Tabulated.{entry_at}
 use Rattle.fir_type_table.specs.working.Tables.{types_of}
 use Rattle.fir_types.specs.working.Seen.{seen}
 use Rattle.fir_types.specs.working.Statements.{found_bundle}
@@ -17,7 +17,7 @@ returns c =
     let scope = c.args.scope.now in
     let ts = types_of scope.table in
     let counted : c.len.result ≡ length scope.declared.items = omega (arith, scope.declared.ok.0, c.len.ensures) in
-    let at = ap (λ k. found_bundle bundles (found_at names (slice_get names.in_order.items k))) counted in
+    let at = ap (λ k. found_bundle bundles (entry_at names k)) counted in
     IfOk-weaker c.declare_found.result _ _
     (λ u d. λ modules before whole n name of begins walks. (
       walks_found modules bundles scope c.declare_found.new.self before n (instance name) _ walks d

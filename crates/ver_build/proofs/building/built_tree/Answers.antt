@@ -11,12 +11,12 @@ returns c =
     (record { name = c.in_ok-copy.field-0; ports = c.from_vec.result; items = c.from_vec-2.result })
     (c.in_ok-copy.ensures ∙ c.module_name.ensures) (c.from_vec.ensures ∙ c.in_ok-ports_of.ensures)
     (record {
-      none = c.new-items.result.items;
+      none = c.in_ok-items.items.items;
       regs = c.put_regs.new.items.items;
       wires = c.put_wires.new.items.items;
       inner_assigns = c.put_inner_assigns.new.items.items;
       assigns = c.put_output_assigns.new.items.items;
-      nothing = c.new-items.ensures.items;
+      nothing = c.in_ok-items.ensures.items;
       put_regs = c.in_ok-put_regs.ensures;
       put_wires =
           c.in_ok-put_wires.ensures ∙ ap (λ xs. c.put_regs.new.items.items ++ map (λ (i : Inner). item.Wire (inner_wire i)) xs)

@@ -1,39 +1,41 @@
-use Rattle.std.proofs.Common.{◌≡◌, length, map, sym, ap, ◌∙◌, subst}
+use Rattle.std.proofs.Common.{◌≡◌, map, sym, subst}
 use Rattle.std.specs.List.{AllByRecursion}
-use Rattle.fir_sim.specs.working.Passes.{leaf_zero, register_width, values_of, IsNarrowOutput, IsNarrowRegister}
+use Rattle.fir_sim.specs.working.Passes.{register_width, values_of, IsNarrowOutput, IsNarrowRegister}
+use Rattle.fir_sim.specs.working.Steps.{IsStepped}
 use Rattle.fir_sim.proofs.PlanFacts.{outputs_narrow, registers_narrow}
 use Rattle.fir_sim.proofs.Starting.{fit_registers, outputs_are_zeros, state_is, starts}
 use Rattle.fir_sim.proofs.sim.Sim.new.Goals as goal
 
 pub output_zeros-requires : goal.output_zeros-requires
-output_zeros-requires c = subst (AllByRecursion IsNarrowOutput) (sym c.as_slice-4.ensures.value) (outputs_narrow c.args.net c.requires.whole c.in_ok-plan.plan c.in_ok-plan.ensures)
+output_zeros-requires c = subst (AllByRecursion IsNarrowOutput) (sym c.as_slice-3.ensures.value) (outputs_narrow c.args.net c.requires.whole c.in_ok-plan.plan c.in_ok-plan.ensures)
 
 pub state_of-requires-clause-narrow : goal.state_of-requires-clause-narrow
-state_of-requires-clause-narrow c = subst (AllByRecursion IsNarrowRegister) (sym c.as_slice-5.ensures.value) (registers_narrow c.args.net c.requires.whole c.in_ok-plan.plan c.in_ok-plan.ensures)
+state_of-requires-clause-narrow c = subst (AllByRecursion IsNarrowRegister) (sym c.as_slice-4.ensures.value) (registers_narrow c.args.net c.requires.whole c.in_ok-plan.plan c.in_ok-plan.ensures)
 
 pub state_of-requires-clause-fits : goal.state_of-requires-clause-fits
 state_of-requires-clause-fits c =
-    rw (c.as_slice-5.ensures.value, c.words.ensures) (fit_registers c.args.net c.requires.whole c.in_ok-plan.plan c.in_ok-plan.ensures c.args.init.now c.requires.fits)
+    rw (c.as_slice-4.ensures.value, c.words.ensures) (fit_registers c.args.net c.requires.whole c.in_ok-plan.plan c.in_ok-plan.ensures c.args.init.now c.requires.fits)
 
 pub invariant_of-result : goal.invariant_of-result
 invariant_of-result c =
     let net = c.args.net in
     let p = c.in_ok-plan.plan in
-    let words : c.in_ok-state_of.field-0.items ≡ values_of (map register_width p.registers.items) c.args.init.now = rw (← c.as_slice-5.ensures.value, ← c.words.ensures) c.in_ok-state_of.ensures in
-    let zeros : c.in_ok-leaf_zeros.field-0.items ≡ map leaf_zero net.leaves = c.in_ok-leaf_zeros.ensures ∙ ap (map leaf_zero) c.as_slice-2.ensures in
+    let steps = c.in_ok-steps.steps.items in
+    let words : c.in_ok-state_of.field-0.items ≡ values_of (map register_width p.registers.items) c.args.init.now = rw (← c.as_slice-4.ensures.value, ← c.words.ensures) c.in_ok-state_of.ensures in
+    let stepped : IsStepped net steps = record { order = c.args.order; ordered = c.requires.ordered; are = rw (← c.as_slice.ensures) c.in_ok-steps.ensures } in
     starts net c.requires.whole p c.in_ok-plan.ensures c.args.init.now c.requires.fits
-    (record { leaves = c.in_ok-leaf_zeros.field-0; nodes = c.in_ok-node_room.field-0; outputs = c.in_ok-output_zeros.field-0; state = c.in_ok-state_of.field-0 })
-    words c.args.order c.requires.ordered zeros (rw (← c.as_slice-4.ensures.value) c.in_ok-output_zeros.ensures) (c.in_ok-node_room.ensures ∙ ap length c.as_slice-3.ensures)
+    (record { numbers = c.in_ok-zeros.field-0; outputs = c.in_ok-output_zeros.field-0; state = c.in_ok-state_of.field-0 })
+    words steps stepped c.in_ok-zeros.ensures (rw (← c.as_slice-3.ensures.value) c.in_ok-output_zeros.ensures)
 
 pub returns-clause-outputs : goal.returns-clause-outputs
 returns-clause-outputs c =
     outputs_are_zeros c.args.net c.requires.whole c.in_ok-plan.plan c.in_ok-plan.ensures c.in_ok-output_zeros.field-0.items
-    (rw (← c.as_slice-4.ensures.value) c.in_ok-output_zeros.ensures)
+    (rw (← c.as_slice-3.ensures.value) c.in_ok-output_zeros.ensures)
 
 pub returns-clause-state : goal.returns-clause-state
 returns-clause-state c =
     let net = c.args.net in
     let p = c.in_ok-plan.plan in
-    let words : c.in_ok-state_of.field-0.items ≡ values_of (map register_width p.registers.items) c.args.init.now = rw (← c.as_slice-5.ensures.value, ← c.words.ensures) c.in_ok-state_of.ensures in
+    let words : c.in_ok-state_of.field-0.items ≡ values_of (map register_width p.registers.items) c.args.init.now = rw (← c.as_slice-4.ensures.value, ← c.words.ensures) c.in_ok-state_of.ensures in
     state_is net c.requires.whole p c.in_ok-plan.ensures c.args.init.now c.requires.fits
-    (record { leaves = c.in_ok-leaf_zeros.field-0; nodes = c.in_ok-node_room.field-0; outputs = c.in_ok-output_zeros.field-0; state = c.in_ok-state_of.field-0 }) words
+    (record { numbers = c.in_ok-zeros.field-0; outputs = c.in_ok-output_zeros.field-0; state = c.in_ok-state_of.field-0 }) words

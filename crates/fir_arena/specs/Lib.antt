@@ -1,2 +1,0 @@
-pub mod formers
-pub mod working

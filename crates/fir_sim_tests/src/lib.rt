@@ -1,0 +1,8 @@
+//! A test of the simulator over registers that reset at once and registers without a clock, which no text reaches
+//! yet. What texts reach stands in checks/rows.
+#![tactic(auto)]
+
+#[cfg(test)]
+mod nets;
+#[cfg(test)]
+mod resets;

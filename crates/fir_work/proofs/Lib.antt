@@ -1,0 +1,14 @@
+pub mod Numbers
+pub mod Fields
+pub mod Sums
+pub mod Shifts
+pub mod SignedNumbers
+pub mod FitForms
+pub mod SignedArithmetic
+pub mod SingleForms
+pub mod PairForms
+pub mod SignedForms
+pub mod WholeReads
+pub mod Operations
+pub mod GeneralWay
+pub mod Showing
