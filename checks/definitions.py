@@ -21,9 +21,6 @@ CRATES = ROOT / "crates"
 PAGE = ROOT / "docs/PROOFS.md"
 BEGIN = "<!-- definitions: made by checks/definitions.py -->\n"
 END = "<!-- end of definitions -->\n"
-# Files that no clause of `run` reads any more. All crates above theirs are proved anew when one is
-# moved, so each stays in its place until its crate changes for another reason.
-TO_BE_MOVED = {"fir_bits/specs/Taken.antt", "fir_meaning/specs/PortNames.antt"}
 HEADING = """\
 Paths are below `crates/`. What a file reads comes before it. Of a file of the code only the types
 and tables that are named are to be read.
@@ -292,11 +289,8 @@ def out_of_place(files):
     """What is wrong with where definitions stand."""
     for file in sorted(CRATES.glob("*/specs/*.antt")):
         is_index = file.name == "Lib.antt" or file.with_suffix("").is_dir()
-        if file not in files and not is_index and shown(file) not in TO_BE_MOVED:
+        if file not in files and not is_index:
             yield f"{shown(file)} is reached by no clause of run: it belongs in specs/working"
-    for name in sorted(TO_BE_MOVED):
-        if not (CRATES / name).is_file() or CRATES / name in files:
-            yield f"{name} is not to be moved any more: take it off the list"
     for file in files:
         if "working" in file.relative_to(CRATES).parts:
             yield f"{shown(file)} is reached by a clause of run: it belongs right in specs"

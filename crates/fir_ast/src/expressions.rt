@@ -41,7 +41,7 @@ pub enum Part {
 }
 
 /// A literal.
-#[derive(Clone, Copy, Debug, PartialEq, Eq)]
+#[derive(Clone, Copy, PartialEq, Eq)]
 pub struct Literal {
     /// Where its word `UInt` or `SInt` stands.
     pub place: Place,

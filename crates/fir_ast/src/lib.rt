@@ -26,6 +26,3 @@ pub use statements::{
     Ident, Memory, MemoryField, ReadUnderWrite, Register, RegisterReset, Stmt, When,
 };
 pub use types::{Field, Ty};
-
-#[cfg(test)]
-mod tests;

@@ -2,7 +2,6 @@ pub mod Values
 pub mod Integers
 pub mod Literals
 pub mod OperatorWords
-pub mod Taken
 pub mod Forms
 pub mod Widths
 pub mod Types

@@ -8,7 +8,7 @@ use crate::whole::Whole;
 use std::marker::Model;
 
 /// A value of a width from 0 to 128 bits.
-#[derive(Clone, Copy, Debug, PartialEq, Eq)]
+#[derive(Clone, Copy, PartialEq, Eq)]
 pub struct Bits {
     width: u32,
     bits: u128,

@@ -22,6 +22,3 @@ pub use literals::{holds_number, least_width};
 pub use operators::{Form, PrimOp};
 pub use types::{NO_TYPE, NumTy, OpFault, counted_width, has_kinds, result_type};
 pub use values::{Num, apply};
-
-#[cfg(test)]
-mod tests;

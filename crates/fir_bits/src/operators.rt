@@ -1,7 +1,7 @@
 //! The primitive operations, and the one list of how each is spelled and what it takes and gives.
 
 /// A primitive operation (FIRRTL spec, "Primitive Operations").
-#[derive(Clone, Copy, Debug, PartialEq, Eq)]
+#[derive(Clone, Copy, PartialEq, Eq)]
 pub enum PrimOp {
     /// `add`: the sum.
     Add,
@@ -70,7 +70,7 @@ pub enum PrimOp {
 }
 
 /// What operands and integers an operation takes.
-#[derive(Clone, Copy, Debug, PartialEq, Eq)]
+#[derive(Clone, Copy, PartialEq, Eq)]
 pub enum Form {
     /// Two operands of one signedness.
     Pair,

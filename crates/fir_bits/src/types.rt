@@ -1,7 +1,6 @@
 //! The type of an operation's result.
 
 ghost use Rattle.std.specs.Prelude.{◌≡◌, ◌+◌, ◌-◌, ◌^◌, ◌<◌, ◌≤◌, min, slice_index, slice_index_or};
-ghost use Rattle.fir_bits.specs.Taken.{is_taken};
 ghost use Rattle.fir_bits.specs.Forms.{form_of, has_counts, has_kinds, takes, first_type, second_type};
 ghost use Rattle.fir_bits.specs.Widths.{counted_width, width_of};
 ghost use Rattle.fir_bits.specs.Types.{signed_of, is_legal, typed_at, typed};
@@ -11,7 +10,7 @@ use crate::operators::{Form, PrimOp, operators};
 use thiserror::Error;
 
 /// The type of an operand or of a result: its kind, SInt or UInt, and its width in bits.
-#[derive(Clone, Copy, Debug, PartialEq, Eq)]
+#[derive(Clone, Copy, PartialEq, Eq)]
 pub struct NumTy {
     pub signed: bool,
     pub width: u32,
@@ -74,13 +73,6 @@ impl Form {
 }
 
 impl PrimOp {
-    /// Whether `emit` and `sim` have the operation.
-    pub fn is_taken(self) -> bool
-        ensures { result ≡ is_taken self }
-    {
-        !matches!(self, PrimOp::AsAsyncReset)
-    }
-
     /// What the operation takes.
     pub fn form(self) -> Form
         ensures { result ≡ form_of self }

@@ -12,7 +12,7 @@ use crate::types::{NumTy, entry, width};
 use crate::whole::{Whole, shifted_right};
 
 /// An operand: a value and its kind, SInt or UInt.
-#[derive(Clone, Copy, Debug, PartialEq, Eq)]
+#[derive(Clone, Copy, PartialEq, Eq)]
 pub struct Num {
     pub signed: bool,
     pub value: Bits,

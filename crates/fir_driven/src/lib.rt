@@ -17,6 +17,3 @@ pub use driven::{driven_leaves, list_drive};
 pub use flags::{depth_of, is_flagged, set_flag};
 pub use laws::{covered_is_driven, missed_is_first};
 pub use reached::{index_at, is_picked, reached_leaves};
-
-#[cfg(test)]
-mod tests;

@@ -5,17 +5,17 @@ use Rattle.fir_parse.specs.working.Laws.{SpellsOneTree, HasTreeOrFault}
 use Rattle.fir_io.specs.declared.ports.FileFault.{FileFault}
 use Rattle.fir_io.specs.declared.ports.FileFault.TheVariants as file
 use Rattle.fir_io.specs.Ports.{FilesSeen, SinkSeen, Rose, AtLeast, Grew, ReadShows}
-use Rattle.fir_driver.specs.declared.status.Status.{Status}
-use Rattle.fir_driver.specs.declared.status.Status.TheVariants.{Done, Refused, Usage, Unread, Unwritten, NoMemory, BadTrace, TooLong}
-use Rattle.fir_driver.specs.Messages.{unread_line, too_long_line, memory_line}
-use Rattle.fir_driver.specs.Emits.{Takes, Emits}
-use Rattle.fir_driver.specs.Outside.{Outside, outside, IsRead, code, limit}
+use Rattle.fir_compile.specs.declared.status.Status.{Status}
+use Rattle.fir_compile.specs.declared.status.Status.TheVariants.{Done, Refused, Usage, Unread, Unwritten, NoMemory, BadTrace, TooLong}
+use Rattle.fir_compile.specs.Messages.{unread_line, too_long_line, memory_line}
+use Rattle.fir_compile.specs.Emits.{Takes, Emits}
+use Rattle.fir_compile.specs.Outside.{Outside, outside, IsRead, code, limit}
 use Rattle.fir_driver.specs.EmitsFile.{Due, EmitsFile}
 use Rattle.fir_driver.specs.EmitAnswers.{EmitAnswers, EmitComplete}
 use Rattle.fir_driver.specs.working.Endings.{Said, Complained, Untaken, Emitted}
-use Rattle.fir_driver.specs.Refusals.{Refuses}
+use Rattle.fir_compile.specs.Refusals.{Refuses}
 use Rattle.fir_driver.proofs.Refused.{refused_is_not_taken}
-use Rattle.fir_driver.proofs.Told.{kept_same, IsTooLong, not_short, read_is, not_too_much}
+use Rattle.fir_compile.proofs.Told.{kept_same, IsTooLong, not_short, read_is, not_too_much}
 
 pub refused_said : (bytes line : List ℕ) (out err err' : SinkSeen) (s : Status) → Refuses bytes line → Said line Refused err err' s → Emitted bytes out out err err' s
 refused_said bytes line out err err' s why (inl p) = subst (Emitted bytes out out err err') (sym p.0) (line, why, refl, p.1)

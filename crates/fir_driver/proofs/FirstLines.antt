@@ -7,10 +7,10 @@ use Rattle.fir_meaning.specs.SourceDesigns.{SourceDesign}
 use Rattle.trace_text.specs.Shapes.{TraceShape}
 use Rattle.trace_text.specs.TraceSpells.{TraceSpells}
 use Rattle.trace_text.specs.working.Fronts.{FrontLinesBegin, Says}
-use Rattle.fir_driver.specs.Simulations.{BeginsAll, Prints, PrintsAll, PrintsFront, PrintsRun, SaysBadly}
-use Rattle.fir_driver.specs.Sources.{SourceAllows, output_widths}
-use Rattle.fir_driver.specs.Traces.{IsTraceShape}
-use Rattle.fir_driver.specs.working.Laws.{FrontsBegin}
+use Rattle.fir_compile.specs.Simulations.{BeginsAll, Prints, PrintsAll, PrintsFront, PrintsRun, SaysBadly}
+use Rattle.fir_compile.specs.Sources.{SourceAllows, output_widths}
+use Rattle.fir_compile.specs.Traces.{IsTraceShape}
+use Rattle.fir_compile.specs.working.Laws.{FrontsBegin}
 use Rattle.fir_driver.proofs.TraceShapes.{one_shape}
 
 -- what is said may be said otherwise

@@ -9,10 +9,10 @@ use Rattle.fir_meaning.specs.Lack.{Lack}
 use Rattle.fir_meaning.specs.LeafedModules.{Scene}
 use Rattle.fir_meaning.specs.SourceMeaning.{circuit_meaning}
 use Rattle.fir_lack.specs.Lacking.{lacking}
-use Rattle.fir_driver.specs.CircuitFaults.{IsFirstUpTo, LacksFirst, LacksNone}
-use Rattle.fir_driver.specs.Emits.{Takes}
-use Rattle.fir_driver.specs.Refusals.{RefusedFor, Refuses}
-use Rattle.fir_driver.proofs.ClearGroups.{none_first}
+use Rattle.fir_compile.specs.CircuitFaults.{IsFirstUpTo, LacksFirst, LacksNone}
+use Rattle.fir_compile.specs.Emits.{Takes}
+use Rattle.fir_compile.specs.Refusals.{RefusedFor, Refuses}
+use Rattle.fir_compile.proofs.ClearGroups.{none_first}
 use Rattle.fir_driver.proofs.OneScene.{one_scene}
 
 -- a circuit lacks a form or none

@@ -10,7 +10,7 @@ use Rattle.fir_net.specs.Names.{is_free, suffixed, IsFirstFree, AreNamed}
 use Rattle.trace_text.specs.declared.shape.StateWord.{StateWord}
 use Rattle.trace_text.specs.Shapes.{TraceShape, shape_of, state_widths, plain}
 use Rattle.fir_meaning.specs.SourceDesigns.{SourceDesign}
-use Rattle.fir_driver.specs.Traces.{IsShapeFor, IsTraceShape}
+use Rattle.fir_compile.specs.Traces.{IsShapeFor, IsTraceShape}
 
 module _ (taken : List (List ℕ)) (base a b : List ℕ) where
   not_below : (p : IsFirstFree taken base a) (q : IsFirstFree taken base b) → p.number < q.number → ⊥

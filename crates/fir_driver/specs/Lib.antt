@@ -1,16 +1,6 @@
-pub mod Runs
-pub mod Sources
-pub mod Compiles
 pub mod Command
-pub mod Messages
-pub mod CircuitFaults
-pub mod Emits
-pub mod Refusals
-pub mod Outside
 pub mod EmitsFile
 pub mod EmitAnswers
-pub mod Traces
-pub mod Simulations
 pub mod Simulates
 pub mod SimulationAnswers
 pub mod Program

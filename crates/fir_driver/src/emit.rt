@@ -1,15 +1,14 @@
 //! The command `emit`: the Verilog of the circuit in a file.
 
 ghost use Rattle.std.specs.Prelude.{◌≤◌, IsTrue, length};
-ghost use Rattle.fir_driver.specs.Outside.{outside};
+ghost use Rattle.fir_compile.specs.Outside.{outside};
 ghost use Rattle.fir_driver.specs.EmitsFile.{EmitsFile};
 ghost use Rattle.fir_driver.specs.working.Endings.{Written, Emitted};
 
 use crate::messages::{MEMORY_LINE, UNWRITTEN_LINE, say, say_fault, say_unread};
-use crate::passes::verilog_of;
 use crate::program::LIMIT;
-use crate::status::Status;
 use fir_base::Refused;
+use fir_compile::{Status, verilog_of};
 use fir_io::{Files, PutFault, Sink};
 use std::alloc::Global;
 

@@ -1,6 +1,6 @@
 //! What is printed of the first ticks of a trace.
 
-ghost use Rattle.fir_driver.specs.working.Laws.{FrontsBegin};
+ghost use Rattle.fir_compile.specs.working.Laws.{FrontsBegin};
 
 use trace_text::Circuits;
 use trace_text::laws::front_lines_begin;
@@ -10,7 +10,7 @@ pub struct SourceCircuits {}
 
 impl Circuits for SourceCircuits {
     ghost use Rattle.fir_meaning.specs.SourceDesigns.{SourceDesign};
-    ghost use Rattle.fir_driver.specs.Sources.{SourceAllows};
+    ghost use Rattle.fir_compile.specs.Sources.{SourceAllows};
 
     ghost circuit = { SourceDesign };
 

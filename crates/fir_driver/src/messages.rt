@@ -4,15 +4,15 @@ ghost use Rattle.std.specs.Prelude.{◌≡◌, ◌++◌, IfOk, List, ℕ, codes}
 ghost use Rattle.fir_base.specs.Ticks.{Tick};
 ghost use Rattle.fir_ast.specs.FaultLines.{fault_line};
 ghost use Rattle.fir_io.specs.Ports.{SinkSeen};
-ghost use Rattle.fir_driver.specs.declared.status.Status.TheVariants as status;
+ghost use Rattle.fir_compile.specs.declared.status.Status.TheVariants as status;
 ghost use Rattle.trace_text.specs.Shapes.{TraceShape};
 ghost use Rattle.trace_text.specs.BadLine.{BadLine};
 ghost use Rattle.trace_text.specs.FaultTexts.{fault_text};
 ghost use Rattle.fir_driver.specs.working.Endings.{Said, Complained, Untaken};
 
-use crate::status::Status;
 use fir_ast::FirFault;
 use fir_base::MemoryOut;
+use fir_compile::Status;
 use fir_io::{FileFault, PutFault, Sink};
 use std::alloc::Global;
 use trace_text::{TraceFault, bad_line};

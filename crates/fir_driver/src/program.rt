@@ -1,14 +1,14 @@
 //! The one call that the program makes.
 
 ghost use Rattle.std.specs.Prelude.{◌≡◌};
-ghost use Rattle.fir_driver.specs.Outside.{outside, code};
+ghost use Rattle.fir_compile.specs.Outside.{outside, code};
 ghost use Rattle.fir_driver.specs.Program.{MayAsk, Does, Answers};
 
 use crate::command::{Command, command_of};
 use crate::emit::emit_file;
 use crate::messages::{USAGE_LINE, say};
 use crate::simulation::simulate;
-use crate::status::Status;
+use fir_compile::Status;
 use fir_io::{Files, Sink};
 use fir_parse::laws::{has_tree_or_fault, spells_one_tree};
 use std::alloc::Global;

@@ -11,4 +11,3 @@ pub mod CostsInOrder
 pub mod OneCost
 pub mod CostLimit
 pub mod ExpandedCircuits
-pub mod CodeStores

@@ -8,10 +8,10 @@ ghost use Rattle.fir_pass.specs.Law.{IfFault, IsFirst};
 ghost use Rattle.fir_meaning.specs.CostGroup.{cost_group};
 ghost use Rattle.fir_meaning.specs.SourceMeaning.{circuit_meaning};
 
-use crate::leaf_circuit::LeafCircuit;
 use crate::limit::check_cost;
 use fir_ast::FirFault;
 use fir_base::Refused;
+use fir_leaf_circuit::LeafCircuit;
 use fir_leaf_table::leafed_modules;
 use fir_width::Fitted;
 use std::alloc::Global;

@@ -4,19 +4,12 @@ ghost use Rattle.std.specs.Prelude.{◌≡◌};
 ghost use Rattle.fir_pass.specs.Faults.{fault_of};
 
 use crate::expanded::expand;
-use crate::leaf_circuit::LeafCircuit;
 use fir_ast::FirFault;
 use fir_base::Refused;
-use fir_pass::{Meant, Pass};
+use fir_leaf_circuit::LeafCircuit;
+use fir_pass::Pass;
 use fir_width::Fitted;
 use std::alloc::Global;
-
-impl Meant for LeafCircuit {
-    ghost use Rattle.fir_ast.specs.View.{circuit_of};
-    ghost use Rattle.fir_meaning.specs.SourceMeaning.{circuit_meaning};
-
-    ghost meaning = { λ l. circuit_meaning (circuit_of l) };
-}
 
 /// Finds the ground leaves: the fault of the eighth group, E23.
 #[derive(Drop)]

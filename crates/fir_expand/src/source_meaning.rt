@@ -3,8 +3,8 @@
 ghost use Rattle.fir_ast.specs.View.{circuit_of};
 ghost use Rattle.fir_design.specs.working.CircuitMeanings.{MeansTheSame};
 
-use crate::leaf_circuit::LeafCircuit;
 use fir_design::circuits_mean_their_sources;
+use fir_leaf_circuit::LeafCircuit;
 
 /// Below each module of the circuit stand one design of the leaf views that `LeafCircuit::modules` gives and one
 /// tree of source modules; and at every state and tick the leaf circuit of that design allows what the source

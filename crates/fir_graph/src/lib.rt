@@ -16,6 +16,3 @@ mod search;
 
 pub use graph::Graph;
 pub use ordering::order;
-
-#[cfg(test)]
-mod tests;

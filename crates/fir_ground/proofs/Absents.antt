@@ -17,9 +17,9 @@ use Rattle.fir_leaf.specs.declared.node.Node.TheVariants as node
 use Rattle.fir_leaf.specs.working.Nodes.{Gives, entries, picks_at}
 use Rattle.fir_meaning.specs.Terms.{Picks, Term, absent}
 use Rattle.fir_ground.specs.working.Absent.{Adds, absent_element_terms, absent_field_terms, absent_leaf, absent_terms}
-use Rattle.fir_ground.specs.working.Grounds.{PicksWithin}
-use Rattle.fir_ground.proofs.Entries.{grows_length, picks_keep, picks_stay}
-use Rattle.fir_ground.proofs.Giving.{gives_joined, gives_none, gives_one, shows_new}
+use Rattle.fir_leaf_pairs.specs.working.TargetNames.{PicksWithin}
+use Rattle.fir_leaf_pairs.proofs.Entries.{grows_length, picks_keep, picks_stay}
+use Rattle.fir_leaf_pairs.proofs.Giving.{gives_joined, gives_none, gives_one, shows_new}
 use Rattle.fir_ground.proofs.ReadTargets.{count_leaves}
 
 -- one leaf

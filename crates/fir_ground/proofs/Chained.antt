@@ -12,10 +12,10 @@ use Rattle.fir_leaf.specs.working.Nodes.{AllBelow, Grows, entries, picks_at, pic
 use Rattle.fir_meaning.specs.Terms.{Picks, no_picks}
 use Rattle.fir_ground.specs.declared.references.Chain.{Chain}
 use Rattle.fir_ground.specs.declared.references.Index.{Index as IndexOfCode}
-use Rattle.fir_ground.specs.working.Grounds.{PicksWithin}
+use Rattle.fir_leaf_pairs.specs.working.TargetNames.{PicksWithin}
 use Rattle.fir_ground.specs.working.Indices.{AreIndices, Index, IsChained, index_seen, pick_behind, picks_behind, stride_where, there_behind}
-use Rattle.fir_ground.proofs.Entries.{grows_none, grows_on, stands_new}
-use Rattle.fir_ground.proofs.Giving.{term_keeps}
+use Rattle.fir_leaf_pairs.proofs.Entries.{grows_none, grows_on, stands_new}
+use Rattle.fir_leaf_pairs.proofs.Giving.{term_keeps}
 
 -- one index more
 pub chained_one : (old new : List Node) (chain next : Chain) (i : IndexOfCode) (p : ElementsOfCode) (own : PickOfCode) (id : ℕ) (ps : Picks) → picks_at (entries old) chain.picks ≡ ps

@@ -9,13 +9,14 @@ use Rattle.fir_leaf.specs.working.Nodes.{AllBelow, Gives, Grows, Shows, node_ter
 use Rattle.fir_meaning.specs.Targets as over
 use Rattle.fir_meaning.specs.Terms.{Term}
 use Rattle.fir_ground.specs.declared.ground.Ground.{Ground}
-use Rattle.fir_ground.specs.declared.target.Target.{Target}
+use Rattle.fir_leaf_pairs.specs.declared.target.Target.{Target}
 use Rattle.fir_ground.specs.declared.walk.Walk.{Walk}
 use Rattle.fir_ground.specs.working.Expressions.{ExpandsFirst}
-use Rattle.fir_ground.specs.working.Grounds.{Ahead, Comes, Enters, Expands, Names, Reaches, types_in}
-use Rattle.fir_ground.specs.working.Reads.{IsWithinCost}
-use Rattle.fir_ground.proofs.Entries.{grows_length, grows_none, grows_on, picks_keep, picks_stay}
-use Rattle.fir_ground.proofs.Giving.{gives_on, shows_on}
+use Rattle.fir_ground.specs.working.Grounds.{Ahead, Comes, Enters, Expands, Reaches, types_in}
+use Rattle.fir_leaf_pairs.specs.working.TargetNames.{Names}
+use Rattle.fir_leaf_pairs.specs.working.Reads.{IsWithinCost}
+use Rattle.fir_leaf_pairs.proofs.Entries.{grows_length, grows_none, grows_on, picks_keep, picks_stay}
+use Rattle.fir_leaf_pairs.proofs.Giving.{gives_on, shows_on}
 
 module _ (g : Ground) where
   pub come_none : (rest : List Note) (a : Walk) → Ahead (types_in g) a.notes.now rest → Comes g rest a a

@@ -27,20 +27,20 @@ use Rattle.fir_meaning.specs.Targets as over
 use Rattle.fir_meaning.specs.Targets.{leaves_so_far}
 use Rattle.fir_meaning.specs.Terms as term
 use Rattle.fir_ground.specs.declared.ground.Ground.{Ground}
-use Rattle.fir_ground.specs.declared.pairs.LeafPair.{LeafPair as PairOfCode}
+use Rattle.fir_leaf_pairs.specs.declared.pairs.LeafPair.{LeafPair as PairOfCode}
 use Rattle.fir_ground.specs.declared.sides.Sides.{Sides as SidesOfCode}
 use Rattle.fir_ground.specs.declared.source.Source.{Source}
-use Rattle.fir_ground.specs.declared.target.Target.{Target}
+use Rattle.fir_leaf_pairs.specs.declared.target.Target.{Target}
 use Rattle.fir_ground.specs.declared.walk.Walk.{Walk}
 use Rattle.fir_ground.specs.working.Connects.{ComesStill, GivesBackWhere, MayDriveSides, ShowsSides}
-use Rattle.fir_ground.specs.working.Drives.{DrivesPairs, HasSides, HasTarget, Stand, StandsFor}
+use Rattle.fir_leaf_pairs.specs.working.Drives.{DrivesPairs, HasSides, HasTarget, Stand, StandsFor}
 use Rattle.fir_ground.specs.working.Expressions.{ExpandsSource, MayName}
 use Rattle.fir_ground.specs.working.Grounds.{Comes, Reaches, types_in}
-use Rattle.fir_ground.specs.working.PairNumbers.{AreWithin}
-use Rattle.fir_ground.specs.working.Pairing.{pair_seen}
-use Rattle.fir_ground.proofs.Emitting.{emitted_as}
-use Rattle.fir_ground.proofs.Entries.{grows_on}
-use Rattle.fir_ground.proofs.Giving.{shows_new}
+use Rattle.fir_leaf_pairs.specs.working.PairNumbers.{AreWithin}
+use Rattle.fir_leaf_pairs.specs.working.Pairing.{pair_seen}
+use Rattle.fir_leaf_pairs.proofs.Emitting.{emitted_as}
+use Rattle.fir_leaf_pairs.proofs.Entries.{grows_on}
+use Rattle.fir_leaf_pairs.proofs.Giving.{shows_new}
 use Rattle.fir_ground.proofs.NamesStay.{gives_stand, has_stays, may_have, may_stay, names_stay, stand_stays}
 use Rattle.fir_ground.proofs.TargetRooms.{Aims, aims_read, aims_sink, within_cost}
 use Rattle.fir_ground.proofs.TermCounts.{target_long, terms_long}

@@ -5,7 +5,7 @@ use Rattle.fir_leaf.specs.declared.node.Node.{Node}
 use Rattle.fir_leaf.specs.working.Nodes.{Grows}
 use Rattle.fir_ground.specs.declared.driver.Driver.{Driver}
 use Rattle.fir_ground.specs.working.DeclarationDrivers.{DriverMeant, Driven, driver_seen, drivers_seen}
-use Rattle.fir_ground.proofs.Entries.{grows_on}
+use Rattle.fir_leaf_pairs.proofs.Entries.{grows_on}
 
 pub driven_none : (nodes : List Node) (before after : List Driver) → after ≡ before → Driven nodes before after []
 driven_none nodes before after same = record { added = []; is = same ∙ sym (append-nil before); seen = λ later g. refl }

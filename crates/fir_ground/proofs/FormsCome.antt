@@ -16,8 +16,8 @@ use Rattle.fir_ground.specs.declared.walk.Walk.{Walk}
 use Rattle.fir_ground.specs.working.Expressions.{ExpandsFirst}
 use Rattle.fir_ground.specs.working.Grounds.{Ahead, Enters, Expands, types_in}
 use Rattle.fir_ground.proofs.Coming.{come_then, enters_then, expands_then}
-use Rattle.fir_ground.proofs.Entries.{grows_length, grows_on}
-use Rattle.fir_ground.proofs.Giving.{all_keep, below_stays, term_keeps}
+use Rattle.fir_leaf_pairs.proofs.Entries.{grows_length, grows_on}
+use Rattle.fir_leaf_pairs.proofs.Giving.{all_keep, below_stays, term_keeps}
 
 module _ (g : Ground) (typed : TypedScope) where
   -- what the walk does for an expression, for its first leaf, and for operands

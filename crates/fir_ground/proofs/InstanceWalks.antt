@@ -11,7 +11,7 @@ use Rattle.fir_meaning.specs.LeafedBlocks.{instance_block}
 use Rattle.fir_leaf.specs.working.NodeBlocks.{Emitted}
 use Rattle.fir_meaning.specs.Targets.{leaves_so_far}
 use Rattle.fir_ground.specs.working.Statements.{IsInstance}
-use Rattle.fir_ground.proofs.Emitting.{emitted_one, instance_is}
+use Rattle.fir_leaf_pairs.proofs.Emitting.{emitted_one, instance_is}
 
 pub instance_none : (scope : TypedScope) (o : Option (ℕ × ModuleTree)) → IsInstance scope o None → ⊥
 instance_none scope None h = h

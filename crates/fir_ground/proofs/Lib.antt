@@ -1,5 +1,3 @@
-pub mod Entries
-pub mod Giving
 pub mod ReadTargets
 pub mod Absents
 pub mod Chained
@@ -11,15 +9,6 @@ pub mod OperandsCome
 pub mod PartsCome
 pub mod Sources
 pub mod FirstLeaves
-pub mod PairNumbers
-pub mod PairPlaces
-pub mod PairShapes
-pub mod PairCopies
-pub mod PairWalks
-pub mod PairNames
-pub mod PairFound
-pub mod Emitting
-pub mod Driving
 pub mod TargetRooms
 pub mod TermCounts
 pub mod ConnectCosts

@@ -25,11 +25,12 @@ use Rattle.fir_meaning.specs.Leafed.{target_along, target_of}
 use Rattle.fir_meaning.specs.Targets.{leaves_ahead, leaves_so_far, named_target, whole_target}
 use Rattle.fir_meaning.specs.Terms.{no_picks}
 use Rattle.fir_ground.specs.declared.ground.Ground.{Ground}
-use Rattle.fir_ground.specs.declared.target.Target.{Target}
+use Rattle.fir_leaf_pairs.specs.declared.target.Target.{Target}
 use Rattle.fir_ground.specs.declared.walk.Walk.{Walk}
-use Rattle.fir_ground.specs.working.Grounds.{Ahead, Enters, Names, Reaches, Stands, types_in}
+use Rattle.fir_ground.specs.working.Grounds.{Ahead, Enters, Reaches, Stands, types_in}
+use Rattle.fir_leaf_pairs.specs.working.TargetNames.{Names}
 use Rattle.fir_ground.specs.working.Indices.{IsPicked, base_of, indices_in, picks_behind, there_behind}
-use Rattle.fir_ground.specs.working.Reads.{IsWithin, IsWithinCost}
+use Rattle.fir_leaf_pairs.specs.working.Reads.{IsWithin, IsWithinCost}
 use Rattle.fir_ground.proofs.TargetRanges.{Along, along, based}
 
 -- the leaves of a name are among those that are declared

@@ -5,13 +5,13 @@ use Rattle.fir_leaf.specs.declared.node.Node.{Node}
 use Rattle.fir_leaf.specs.working.Nodes.{Gives, Grows}
 use Rattle.fir_meaning.specs.Targets as over
 use Rattle.fir_meaning.specs.Terms.{Term}
-use Rattle.fir_ground.specs.declared.target.Target.{Target}
-use Rattle.fir_ground.specs.working.Drives.{HasTarget, MayHaveTarget, Stand}
+use Rattle.fir_leaf_pairs.specs.declared.target.Target.{Target}
+use Rattle.fir_leaf_pairs.specs.working.Drives.{HasTarget, MayHaveTarget, Stand}
 use Rattle.fir_ground.specs.working.Expressions.{MayName}
-use Rattle.fir_ground.specs.working.Grounds.{Names}
-use Rattle.fir_ground.specs.working.Reads.{IsWithin}
-use Rattle.fir_ground.proofs.Entries.{grows_length, picks_keep, picks_stay}
-use Rattle.fir_ground.proofs.Giving.{all_keep, below_stays}
+use Rattle.fir_leaf_pairs.specs.working.TargetNames.{Names}
+use Rattle.fir_leaf_pairs.specs.working.Reads.{IsWithin}
+use Rattle.fir_leaf_pairs.proofs.Entries.{grows_length, picks_keep, picks_stay}
+use Rattle.fir_leaf_pairs.proofs.Giving.{all_keep, below_stays}
 
 pub names_stay : (ts : List DataType) (old new : List Node) (t : Target) (r : over.Target) → Grows old new → Names ts old t r → Names ts new t r
 names_stay ts old new t r g n = record {

@@ -14,7 +14,7 @@ use Rattle.fir_ground.specs.declared.walk.Walk.{Walk}
 use Rattle.fir_ground.specs.working.Grounds.{Comes, Enters, Expands}
 use Rattle.fir_ground.proofs.Coming.{come_none, come_then, enters_then}
 use Rattle.fir_ground.proofs.FormsCome.{GivesFirst}
-use Rattle.fir_ground.proofs.Giving.{gives_none, gives_push}
+use Rattle.fir_leaf_pairs.proofs.Giving.{gives_none, gives_push}
 
 -- those that are passed so far
 pub record OperandsSoFar (g : Ground) (typed : TypedScope) (rest : List Note) (whole left : Expressions) (old now : Walk) (ids : List ℕ) : Type 0 where

@@ -27,9 +27,9 @@ use Rattle.fir_ground.specs.working.Grounds.{Comes, Enters}
 use Rattle.fir_ground.specs.working.Indices.{AreIndices, ComesPast, Index, index_seen, indices_in}
 use Rattle.fir_ground.proofs.Chained.{index_keeps}
 use Rattle.fir_ground.proofs.Coming.{come_none, come_then, enters_then}
-use Rattle.fir_ground.proofs.Entries.{grows_length}
+use Rattle.fir_leaf_pairs.proofs.Entries.{grows_length}
 use Rattle.fir_ground.proofs.FormsCome.{GivesFirst}
-use Rattle.fir_ground.proofs.Giving.{below_joined, below_stays}
+use Rattle.fir_leaf_pairs.proofs.Giving.{below_joined, below_stays}
 
 pub reference_view : (r : Reference) → expr_of (code_expr.Ref r) ≡ reference (sink_of r).place (sink_of r).name (sink_of r).parts
 reference_view r = ap expr_of (sym (code_expr.rolls-Ref r)) ∙ fold-roll-Expr Expression (Parts → Parts) Sink expr_step part_step reference_step (layer.Ref r)

@@ -32,12 +32,12 @@ use Rattle.fir_ground.specs.declared.frame.Frame.{Frame}
 use Rattle.fir_ground.specs.declared.walk.Walk.{Walk}
 use Rattle.fir_ground.specs.working.Connects.{ComesStill}
 use Rattle.fir_ground.specs.working.DeclarationDrivers.{Declares, DriverMeant, driver_seen, drivers_in, drivers_in_block}
-use Rattle.fir_ground.specs.working.Drives.{sinks_in}
+use Rattle.fir_leaf_pairs.specs.working.Drives.{sinks_in}
 use Rattle.fir_ground.specs.working.Grounds.{Ahead, Comes, Enters, types_in}
 use Rattle.fir_ground.specs.working.Statements.{ComesBehind, EntersAt, PassesStatement, Walks}
 use Rattle.fir_ground.proofs.DriversCome.{driven_as, driven_later, driven_none, driven_one, driven_then}
-use Rattle.fir_ground.proofs.Emitting.{emitted_as, emitted_later, emitted_none, emitted_then, joined_assoc, joined_done}
-use Rattle.fir_ground.proofs.Entries.{grows_none, grows_on}
+use Rattle.fir_leaf_pairs.proofs.Emitting.{emitted_as, emitted_later, emitted_none, emitted_then, joined_assoc, joined_done}
+use Rattle.fir_leaf_pairs.proofs.Entries.{grows_none, grows_on}
 use Rattle.fir_ground.proofs.FramedScopes.{frames_stand}
 
 -- what is declared behind a statement is declared behind its block, and before it too

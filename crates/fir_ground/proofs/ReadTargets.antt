@@ -13,12 +13,12 @@ use Rattle.fir_meaning.specs.Targets as over
 use Rattle.fir_meaning.specs.Terms.{Picks, read}
 use Rattle.fir_types.specs.working.Seen.{found_type}
 use Rattle.fir_type_table.specs.working.Saturated.{saturated}
-use Rattle.fir_ground.specs.declared.target.Target.{Target}
+use Rattle.fir_leaf_pairs.specs.declared.target.Target.{Target}
 use Rattle.fir_ground.specs.working.Absent.{absent_leaf, absent_terms}
-use Rattle.fir_ground.specs.working.Grounds.{Names, PicksWithin}
-use Rattle.fir_ground.specs.working.Reads.{IsWithinCost, reads_from}
-use Rattle.fir_ground.proofs.Entries.{picks_keep}
-use Rattle.fir_ground.proofs.Giving.{gives_none, gives_push, shows_new}
+use Rattle.fir_leaf_pairs.specs.working.TargetNames.{Names, PicksWithin}
+use Rattle.fir_leaf_pairs.specs.working.Reads.{IsWithinCost, reads_from}
+use Rattle.fir_leaf_pairs.proofs.Entries.{picks_keep}
+use Rattle.fir_leaf_pairs.proofs.Giving.{gives_none, gives_push, shows_new}
 
 -- a type has as many leaves as are counted
 element_count : (i n : ℕ) (ls : List TypeLeaf) → length (element_leaves i n ls) ≡ n * length ls

@@ -20,8 +20,8 @@ use Rattle.fir_meaning.specs.FieldSizes.{leaves_before}
 use Rattle.fir_meaning.specs.Leafed.{first_term, target_along, target_of, target_read, terms}
 use Rattle.fir_meaning.specs.Targets.{Target, element_target, element_target_at, field_target, field_target_at, further, leaves_ahead, leaves_so_far, picked_target, picked_target_at, whole_target, named_target}
 use Rattle.fir_meaning.specs.Terms.{Term}
-use Rattle.fir_ground.specs.working.Reads.{IsWithin, IsWithinCost}
-use Rattle.fir_ground.proofs.PairNumbers.{field_before}
+use Rattle.fir_leaf_pairs.specs.working.Reads.{IsWithin, IsWithinCost}
+use Rattle.fir_leaf_pairs.proofs.PairNumbers.{field_before}
 
 -- the target has that type, and its leaves are among so many
 pub record Aims (x : Target) (t : DataType) : Type 0 where

@@ -23,7 +23,7 @@ use Rattle.fir_meaning.specs.Leafed.{first_term, leaf_terms, muxes, target_of, t
 use Rattle.fir_meaning.specs.Targets.{Target, leaves_so_far}
 use Rattle.fir_meaning.specs.Terms.{Term}
 use Rattle.fir_meaning.specs.Terms as over
-use Rattle.fir_ground.proofs.PairNumbers.{both_true, same_number}
+use Rattle.fir_leaf_pairs.proofs.PairNumbers.{both_true, same_number}
 use Rattle.fir_ground.proofs.TargetRooms.{aims_sink}
 
 elements_long : (i n k : ℕ) (ls : List TypeLeaf) → length ls ≡ k → length (element_leaves i n ls) ≡ n * k

@@ -28,14 +28,14 @@ use Rattle.fir_ground.specs.declared.driver.Driver.{Driver}
 use Rattle.fir_ground.specs.declared.frame.Frame.{Frame}
 use Rattle.fir_ground.specs.declared.walk.Walk.{Walk}
 use Rattle.fir_ground.specs.working.DeclarationDrivers.{DriverMeant, Driven, drivers_in, drivers_in_block}
-use Rattle.fir_ground.specs.working.Drives.{sinks_in}
+use Rattle.fir_leaf_pairs.specs.working.Drives.{sinks_in}
 use Rattle.fir_ground.specs.working.Expressions.{ExpandsFirst}
 use Rattle.fir_ground.specs.working.Grounds.{Enters}
 use Rattle.fir_ground.specs.working.Statements.{ComesBehind, EntersAt}
 use Rattle.fir_ground.proofs.DriversCome.{driven_later, driven_then}
-use Rattle.fir_ground.proofs.Emitting.{emitted_one, emitted_whole, when_is}
-use Rattle.fir_ground.proofs.Entries.{grows_on}
-use Rattle.fir_ground.proofs.Giving.{term_keeps}
+use Rattle.fir_leaf_pairs.proofs.Emitting.{emitted_one, emitted_whole, when_is}
+use Rattle.fir_leaf_pairs.proofs.Entries.{grows_on}
+use Rattle.fir_leaf_pairs.proofs.Giving.{term_keeps}
 use Rattle.fir_ground.proofs.PlaceWalks.{enters_behind, enters_notes, enters_place}
 
 module _ (frame : Frame) (modules : List ModuleTree) (costs : ModuleCosts) (whole : Declarations) (before : Before) (p : Place) (e : Expression) (a b : Block)

@@ -3,10 +3,6 @@ pub mod Grounds
 pub mod Absent
 pub mod Expressions
 pub mod Indices
-pub mod Reads
-pub mod Pairing
-pub mod PairNumbers
-pub mod Drives
 pub mod Connects
 pub mod ResetKinds
 pub mod DeclarationDrivers

@@ -7,22 +7,20 @@ ghost use Rattle.fir_meaning.specs.ConnectPairs.{pairs, partial_pairs};
 ghost use Rattle.fir_meaning.specs.Equivalence.{is_connectable, is_partly_connectable};
 ghost use Rattle.fir_meaning.specs.working.WellTyped.{ConnectIsLegal};
 ghost use Rattle.fir_type_table.specs.working.Tables.{types_of};
-ghost use Rattle.fir_ground.specs.working.Drives.{is_any_flipped};
-ghost use Rattle.fir_ground.specs.working.Pairing.{pair_seen};
+ghost use Rattle.fir_leaf_pairs.specs.working.Drives.{is_any_flipped};
+ghost use Rattle.fir_leaf_pairs.specs.working.Pairing.{pair_seen};
 ghost use Rattle.fir_ground.specs.working.Connects.{Connects, GivesBackWhere, Invalidates, MayDriveSides};
 
-use crate::drive::{drive_pairs, drive_zeros};
 use crate::expressions::in_reference;
 use crate::frame::Frame;
 use crate::ground::Ground;
-use crate::pairs::{LeafPair, leaf_pairs, partial_leaf_pairs};
 use crate::reads::read_all;
 use crate::sides::{Sides, in_sides};
-use crate::target::Target;
 use crate::walk::Walk;
 use fir_ast::{Expr, Place, Reference};
 use fir_base::MemoryOut;
 use fir_leaf::{LeafStmt, Node, add};
+use fir_leaf_pairs::{LeafPair, Target, drive_pairs, drive_zeros, leaf_pairs, partial_leaf_pairs};
 use fir_type_table::TypeTable;
 use std::alloc::Global;
 

@@ -20,10 +20,10 @@ use crate::ground::Ground;
 use crate::leafwise::first;
 use crate::reads::read_all;
 use crate::references::{Index, named};
-use crate::target::Target;
 use crate::walk::Walk;
 use fir_ast::{Expr, Part, Reference};
 use fir_base::MemoryOut;
+use fir_leaf_pairs::Target;
 use fir_types::place_of;
 use std::alloc::Global;
 

@@ -6,13 +6,13 @@ ghost use Rattle.fir_leaf.specs.working.Nodes.{Gives, entries, picks_at};
 ghost use Rattle.fir_meaning.specs.Targets.{Target as Meant};
 ghost use Rattle.fir_meaning.specs.Terms.{Picks};
 ghost use Rattle.fir_type_table.specs.working.Tables.{types_of};
-ghost use Rattle.fir_ground.specs.working.Grounds.{Names, PicksWithin};
-ghost use Rattle.fir_ground.specs.working.Reads.{IsWithinCost, reads_from};
+ghost use Rattle.fir_leaf_pairs.specs.working.TargetNames.{Names, PicksWithin};
+ghost use Rattle.fir_leaf_pairs.specs.working.Reads.{IsWithinCost, reads_from};
 
 use crate::absent::read_absent;
-use crate::target::Target;
 use fir_base::MemoryOut;
 use fir_leaf::{Node, add};
+use fir_leaf_pairs::Target;
 use fir_type_table::TypeTable;
 use fir_types::found::leaves;
 use std::alloc::Global;

@@ -10,27 +10,28 @@ ghost use Rattle.fir_meaning.specs.working.WellTyped.{Reaches as ReachesThere};
 ghost use Rattle.fir_types.specs.declared.note.LeafRange.{LeafRange as RangeOfCode};
 ghost use Rattle.fir_types.specs.working.Noted.{pick_seen};
 ghost use Rattle.fir_types.specs.working.Notes.{Note as Meant, reference_note};
-ghost use Rattle.fir_ground.specs.working.Grounds.{Enters, PicksWithin, Reaches};
+ghost use Rattle.fir_ground.specs.working.Grounds.{Enters, Reaches};
+ghost use Rattle.fir_leaf_pairs.specs.working.TargetNames.{PicksWithin};
 ghost use Rattle.fir_meaning.specs.Leafed.{target_of};
 ghost use Rattle.fir_ground.specs.working.Indices.{AreIndices, Index as IndexMeant, IsChained, IsPicked, base_of, index_seen, indices_in, pick_behind, picks_behind, there_behind};
 
 use crate::ground::Ground;
-use crate::target::Target;
 use crate::walk::Walk;
 use fir_ast::Place;
 use fir_base::MemoryOut;
 use fir_leaf::{Node, Pick, add};
+use fir_leaf_pairs::Target;
 use fir_types::{Found, LeafRange, Note, Pick as Elements};
 
 /// A dynamic index: where its expression stands, and the node of that.
-#[derive(Clone, Copy, Debug, PartialEq, Eq)]
+#[derive(Clone, Copy, PartialEq, Eq)]
 pub struct Index {
     pub place: Place,
     pub node: usize,
 }
 
 /// How far the indices of a reference have come.
-#[derive(Clone, Copy, Debug, PartialEq, Eq)]
+#[derive(Clone, Copy, PartialEq, Eq)]
 pub struct Chain {
     /// Whether each vector so far has elements.
     pub is_there: bool,
@@ -38,26 +39,24 @@ pub struct Chain {
     pub picks: Option<usize>,
 }
 
-impl Target {
-    /// For a reference that reaches nothing, which none does in a circuit that has types.
-    const NOWHERE: Target = Target {
-        base: None,
-        picks: None,
-        found: Found::AsyncReset,
-    };
-}
+/// For a reference that reaches nothing, which none does in a circuit that has types.
+const NOWHERE: Target = Target {
+    base: None,
+    picks: None,
+    found: Found::AsyncReset,
+};
 
 /// What a reference names, by its note, which is passed, and its dynamic indices, in the order of the text.
 pub fn named(ground: &Ground, walk: &mut Walk, indices: &[Index]) -> Result<Target, MemoryOut>
     ensures { (typed : TypedScope) (s : Sink) (r : Reached) (rest : List Meant) → Enters ground.now typed (reference_note typed s ∷ rest) walk.old → ReachesThere typed s r → AreIndices walk.old.nodes.items indices.now (indices_in typed s.parts) → IfOk result (λ t. Reaches ground.now rest walk.old walk.new t (target_of typed s)) }
 {
     let [note, ..] = walk.notes else {
-        return Ok(Target::NOWHERE);
+        return Ok(NOWHERE);
     };
     walk.pass_note();
     match note {
         Note::Reference(range) => Ok(picked(ground, &mut walk.nodes, range, indices)?),
-        Note::Expression(_) => Ok(Target::NOWHERE),
+        Note::Expression(_) => Ok(NOWHERE),
     }
 }
 
@@ -71,7 +70,7 @@ fn picked(
     ensures { (own : RangeOfCode) (meant : List IndexMeant) → range.now ≡ Some own → AreIndices nodes.old.items indices.now meant → IfOk result (IsPicked ground.now.firsts.now own meant nodes.old.items nodes.new.items) }
 {
     let Some(range) = range else {
-        return Ok(Target::NOWHERE);
+        return Ok(NOWHERE);
     };
     let chain = chained(nodes, indices, &range.picks)?;
     Ok(Target {

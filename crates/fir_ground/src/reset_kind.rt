@@ -14,7 +14,7 @@ use fir_types::found::sort;
 use fir_types::{Note, Pick, Sort};
 
 /// What the type of a reset's condition tells.
-#[derive(Clone, Copy, Debug, PartialEq, Eq)]
+#[derive(Clone, Copy, PartialEq, Eq)]
 pub enum ResetKind {
     /// A UInt of one bit; or a Reset below a vector without elements, where zeros are read.
     Synchronous,

@@ -19,10 +19,10 @@ use crate::expressions::in_reference;
 use crate::ground::Ground;
 use crate::notes::last_passed;
 use crate::source::{Source, in_source};
-use crate::target::Target;
 use crate::walk::Walk;
 use fir_ast::{Expr, Reference};
 use fir_base::MemoryOut;
+use fir_leaf_pairs::Target;
 use fir_types::{Found, Note};
 use std::alloc::Global;
 

@@ -13,10 +13,10 @@ ghost use Rattle.fir_ground.specs.working.Grounds.{Enters};
 use crate::expressions::{in_expression, in_reference};
 use crate::ground::Ground;
 use crate::reads::read_all;
-use crate::target::Target;
 use crate::walk::Walk;
 use fir_ast::Expr;
 use fir_base::MemoryOut;
+use fir_leaf_pairs::Target;
 use std::alloc::Global;
 
 /// What a connect reads, and, where that is a reference, drives against the flow.

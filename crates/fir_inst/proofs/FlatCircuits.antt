@@ -14,8 +14,8 @@ use Rattle.fir_meaning.specs.SizedDeclarations.{numbered_modules}
 use Rattle.fir_meaning.specs.TypeGroup.{type_faults}
 use Rattle.ver_words.specs.Names.{is_word}
 use Rattle.fir_names.specs.working.ModuleOrder.{IsModuleOrder}
-use Rattle.fir_leaf_table.specs.declared.leaf_module.LeafModule.{LeafModule as ModuleOfCode}
-use Rattle.fir_leaf_table.specs.working.Leafed.{AreLeafed}
+use Rattle.fir_leaf_circuit.specs.declared.leaf_module.LeafModule.{LeafModule as ModuleOfCode}
+use Rattle.fir_leaf_circuit.specs.working.Leafed.{AreLeafed}
 use Rattle.fir_leaf_text.specs.working.TextsOfLeaves.{AreTextsOf}
 use Rattle.fir_net.specs.declared.net.FlatNet.{FlatNet}
 use Rattle.fir_net.specs.Paths.{base_name}

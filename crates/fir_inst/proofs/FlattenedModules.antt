@@ -11,11 +11,11 @@ use Rattle.fir_leaf.proofs.LeafPlaces.{get_mapped}
 use Rattle.fir_leaf.specs.working.NodeBlocks.{block_in}
 use Rattle.fir_driven.specs.working.Covering.{flag_at}
 use Rattle.fir_driven.specs.working.DrivenFlags.{AreDriven}
-use Rattle.fir_leaf_table.specs.declared.leaf.Leaf.{Leaf as ModuleLeaf}
-use Rattle.fir_leaf_table.specs.declared.leaf.LeafType.{LeafType as TypeOfCode}
-use Rattle.fir_leaf_table.specs.declared.leaf.LeafType.TheVariants.{Clock, Number}
-use Rattle.fir_leaf_table.specs.declared.leaf_module.LeafModule.{LeafModule as ModuleOfCode}
-use Rattle.fir_leaf_table.specs.working.Seen.{leaf_seen, type_seen, unnamed}
+use Rattle.fir_leaf_circuit.specs.declared.leaf.Leaf.{Leaf as ModuleLeaf}
+use Rattle.fir_leaf_circuit.specs.declared.leaf.LeafType.{LeafType as TypeOfCode}
+use Rattle.fir_leaf_circuit.specs.declared.leaf.LeafType.TheVariants.{Clock, Number}
+use Rattle.fir_leaf_circuit.specs.declared.leaf_module.LeafModule.{LeafModule as ModuleOfCode}
+use Rattle.fir_leaf_circuit.specs.working.Seen.{leaf_seen, type_seen, unnamed}
 use Rattle.fir_leaf_types.specs.working.TypedModules.{held_in}
 use Rattle.fir_leaf_types.specs.working.TypedTerms.{IsNarrow}
 use Rattle.fir_meaning.specs.LeafModules.{LeafDeclared, LeafModule, LeafType, Role as LeafRole, a_clock, depth_at, leaf_at, no_leaf, register, role_at}
@@ -24,7 +24,7 @@ use Rattle.fir_meaning.specs.LeafPaths.{path_text}
 use Rattle.fir_connect.specs.working.NetRoles.{net_role, net_role_at, net_types}
 use Rattle.fir_connect.specs.working.NetTerms.{leaf}
 use Rattle.fir_drivers.proofs.QuietStatements.{quiet_all}
-use Rattle.fir_expand.specs.working.LeafStores.{leaf_of_code}
+use Rattle.fir_leaf_circuit.specs.working.LeafStores.{leaf_of_code}
 use Rattle.fir_net.specs.Paths.{base_name}
 use Rattle.fir_net.specs.declared.leaf.Leaf.{Leaf}
 use Rattle.fir_net.specs.declared.net.FlatNet.{FlatNet}

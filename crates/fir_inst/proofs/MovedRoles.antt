@@ -1,8 +1,8 @@
 -- What the roles of a lone module read is whole, and is found among kept nodes, also where others are put behind these.
 use Rattle.std.proofs.Common.{ℕ, List, length, Some, None, sym, ◌∙◌, subst}
 use Rattle.fir_bits.specs.declared.types.NumTy.{NumTy}
-use Rattle.fir_leaf_table.specs.declared.leaf.LeafType.{LeafType as TypeOfCode}
-use Rattle.fir_leaf_table.specs.declared.leaf.LeafType.TheVariants.{Clock, Number}
+use Rattle.fir_leaf_circuit.specs.declared.leaf.LeafType.{LeafType as TypeOfCode}
+use Rattle.fir_leaf_circuit.specs.declared.leaf.LeafType.TheVariants.{Clock, Number}
 use Rattle.fir_leaf_types.specs.working.TypedModules.{held_in}
 use Rattle.fir_meaning.specs.LeafModules.{LeafModule}
 use Rattle.fir_connect.specs.working.NetRoles.{NetReset as ResetMeant, NetRole as RoleMeant, net_types}

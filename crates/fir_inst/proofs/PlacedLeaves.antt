@@ -3,7 +3,7 @@ use Rattle.std.proofs.Common.{◌≡◌, ℕ, zero, suc, ◌+◌, List, [], ◌�
 use Rattle.std.specs.Prelude.{nat_lt, slice_get}
 use Rattle.fir_base.proofs.Elements.{get_behind}
 use Rattle.fir_driven.specs.working.Covering.{flag_at}
-use Rattle.fir_leaf_table.specs.declared.leaf.Leaf.{Leaf as ModuleLeaf}
+use Rattle.fir_leaf_circuit.specs.declared.leaf.Leaf.{Leaf as ModuleLeaf}
 use Rattle.fir_net.specs.declared.leaf.Leaf.{Leaf}
 use Rattle.fir_net.specs.declared.node.Node.{Node}
 use Rattle.fir_whens.specs.declared.net_role.NetRole.{NetRole}

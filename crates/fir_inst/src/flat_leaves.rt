@@ -8,7 +8,7 @@ use crate::kept_nodes::KeptNodes;
 use fir_base::{MemoryOut, Name};
 use fir_bits::NumTy;
 use fir_driven::is_flagged;
-use fir_leaf_table::{Leaf as ModuleLeaf, LeafModule, LeafType};
+use fir_leaf_circuit::{Leaf as ModuleLeaf, LeafModule, LeafType};
 use fir_net::Leaf;
 use fir_whens::NetRole;
 use std::alloc::Global;

@@ -9,7 +9,7 @@ use crate::kept_nodes::keep_nodes;
 use fir_base::{MemoryOut, Name, Seq};
 use fir_driven::driven_leaves;
 use fir_flat::roles_are_whole;
-use fir_leaf_table::LeafModule;
+use fir_leaf_circuit::LeafModule;
 use fir_net::FlatNet;
 use fir_whens::ModuleNet;
 use std::alloc::Global;

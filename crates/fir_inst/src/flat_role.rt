@@ -7,7 +7,7 @@ ghost use Rattle.fir_inst.specs.working.FlatRoles.{choice_node, choices_of, choi
 use crate::kept_nodes::{KeptNodes, moved};
 use fir_ast::{LeafId, NodeId};
 use fir_base::MemoryOut;
-use fir_leaf_table::LeafType;
+use fir_leaf_circuit::LeafType;
 use fir_merge::Bound;
 use fir_net::{Mux, Node, Read, Register, Reset, ResetKind, Role};
 use fir_whens::{NetReset, NetRole};

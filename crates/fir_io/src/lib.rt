@@ -29,6 +29,3 @@ pub use planned::{CallFault, FailingCall};
 pub use ports::{FileFault, Files, PutFault, Sink};
 pub use sure_files::SureFiles;
 pub use sure_sink::SureSink;
-
-#[cfg(test)]
-mod tests;

@@ -3,9 +3,9 @@ use Rattle.std.proofs.Common.{◌≡◌, ℕ, ◌+◌, List, [], ◌∷◌, map,
 use Rattle.std.specs.Prelude.{nat_eq, option_map, slice_get}
 use Rattle.std.proofs.lemmas.Option.{none-some}
 use Rattle.fir_ast.specs.Circuits.{CircuitTree, ModuleTree}
-use Rattle.fir_leaf_table.specs.declared.leaf_module.LeafModule.{LeafModule}
-use Rattle.fir_leaf_table.specs.working.Leafed.{AreLeafed}
-use Rattle.fir_leaf_table.specs.working.Seen.{HasView, unnamed}
+use Rattle.fir_leaf_circuit.specs.declared.leaf_module.LeafModule.{LeafModule}
+use Rattle.fir_leaf_circuit.specs.working.Leafed.{AreLeafed}
+use Rattle.fir_leaf_circuit.specs.working.Seen.{HasView, unnamed}
 use Rattle.fir_meaning.specs.Flattened.{is_clock}
 use Rattle.fir_meaning.specs.LeafedModules.{Scene, leafed_module, module_leaves}
 use Rattle.fir_meaning.specs.LeafModules.{LeafDeclared}

@@ -3,8 +3,8 @@ use Rattle.std.proofs.Common.{◌≡◌, ℕ, suc, ◌+◌, ◌-◌, ◌<◌, �
 use Rattle.std.proofs.lemmas.List.{drop_all, drop_more}
 use Rattle.std.proofs.Math.Bool.{or-false}
 use Rattle.fir_leaf.specs.declared.node.Node.{Node}
-use Rattle.fir_leaf_table.specs.declared.leaf.Leaf.{Leaf}
-use Rattle.fir_leaf_table.specs.working.Seen.{leaf_seen, leaves_seen}
+use Rattle.fir_leaf_circuit.specs.declared.leaf.Leaf.{Leaf}
+use Rattle.fir_leaf_circuit.specs.working.Seen.{leaf_seen, leaves_seen}
 use Rattle.fir_meaning.specs.LeafModules.{LeafDeclared}
 use Rattle.fir_meaning.specs.LeafedModules.{Scene, module_leaves}
 use Rattle.fir_lack.specs.declared.marks.Mark.{Mark}

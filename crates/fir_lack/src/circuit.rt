@@ -13,7 +13,7 @@ use crate::statements::lacking_block;
 use crate::walk::Walk;
 use fir_ast::Module;
 use fir_base::MemoryOut;
-use fir_expand::LeafCircuit;
+use fir_leaf_circuit::LeafCircuit;
 use std::alloc::Global;
 
 /// The first form that it lacks, if it lacks one: in its first module, or a second module (FIRRTL spec, "Circuits",

@@ -27,7 +27,7 @@ pub enum Node {
 }
 
 /// A dynamic index.
-#[derive(Clone, Copy, Debug, PartialEq, Eq)]
+#[derive(Clone, Copy, PartialEq, Eq)]
 pub struct Pick {
     /// The index before it.
     pub before: Option<usize>,

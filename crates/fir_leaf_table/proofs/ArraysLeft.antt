@@ -6,12 +6,12 @@ use Rattle.fir_meaning.specs.TypeLeaves.{TypeLeaf}
 use Rattle.fir_meaning.specs.LeafMemories.{LeafMemory, arrays_from, writings_from}
 use Rattle.fir_meaning.specs.LeafModules as view
 use Rattle.fir_meaning.specs.LeafModules.{LeafType}
-use Rattle.fir_leaf_table.specs.declared.array.LeafArray.{LeafArray}
-use Rattle.fir_leaf_table.specs.declared.array.Writing.{Writing}
-use Rattle.fir_leaf_table.specs.declared.leaf.LeafType.{LeafType as TypeOfCode}
+use Rattle.fir_leaf_circuit.specs.declared.array.LeafArray.{LeafArray}
+use Rattle.fir_leaf_circuit.specs.declared.array.Writing.{Writing}
+use Rattle.fir_leaf_circuit.specs.declared.leaf.LeafType.{LeafType as TypeOfCode}
 use Rattle.fir_leaf_table.specs.declared.memory.Memory.{Memory}
 use Rattle.fir_leaf_table.specs.working.Memories.{IsMemory}
-use Rattle.fir_leaf_table.specs.working.Seen.{array_seen, type_seen, unnamed_array, writing_seen}
+use Rattle.fir_leaf_circuit.specs.working.Seen.{array_seen, type_seen, unnamed_array, writing_seen}
 
 -- the array of a data leaf, without its path
 abbrev pub array_of : LeafMemory → ℕ → LeafType → view.LeafArray

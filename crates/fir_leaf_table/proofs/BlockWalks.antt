@@ -13,7 +13,7 @@ use Rattle.fir_meaning.specs.LeafedModules.{Scene, arrays_in, arrays_in_block, l
 use Rattle.fir_meaning.specs.LeafModules.{LeafArray, LeafDeclared, MemoryDeclared}
 use Rattle.fir_leaf_table.specs.declared.frame.Frame.{Frame}
 use Rattle.fir_leaf_table.specs.declared.walk.Walk.{Walk}
-use Rattle.fir_leaf_table.specs.working.Seen.{array_seen, leaves_seen, memory_seen, unnamed, unnamed_array}
+use Rattle.fir_leaf_circuit.specs.working.Seen.{array_seen, leaves_seen, memory_seen, unnamed, unnamed_array}
 use Rattle.fir_leaf_table.specs.working.Walks.{ComesBehind, Counts, EntersAt, PassesStatement}
 
 -- where nothing comes

@@ -15,12 +15,12 @@ use Rattle.fir_meaning.specs.WidthExpressions.{Width}
 use Rattle.fir_types.specs.working.LeafNumbers.{NextLeaf, first_leaf, first_leaves_of, leaf_behind, ports_from}
 use Rattle.fir_width.specs.working.DeclaredWidths.{body_widths, own_widths, port_widths}
 use Rattle.fir_width.specs.working.FlatWidths.{flat}
-use Rattle.fir_width.specs.working.Numbered.{Stands}
+use Rattle.fir_width.specs.working.StandingWidths.{Stands}
 use Rattle.fir_width.proofs.BodyNumbers.{Same, next_number, same_more}
 use Rattle.fir_width.proofs.DeclaredScopes.{Met, NodesTyped, component_bare, known_behind, met_more}
 use Rattle.fir_width.proofs.PortsFirst.{declared_ports, own_ports, ports_long}
-use Rattle.fir_width.proofs.PushedWalks.{flat_long}
-use Rattle.fir_width.proofs.Standing.{stands_left, stands_right}
+use Rattle.fir_width.proofs.FlatShapes.{flat_long}
+use Rattle.fir_width.proofs.StandingWidths.{stands_left, stands_right}
 
 -- an instance has the ports of its module
 instance_stands : (meant : List Width) (k : ℕ) (ms : List ModuleTree) (name : List ℕ) (t : DataType) → instance_type ms name ≡ Some t

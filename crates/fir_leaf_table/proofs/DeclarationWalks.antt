@@ -16,16 +16,16 @@ use Rattle.fir_leaf.specs.declared.node.Node.{Node}
 use Rattle.fir_meaning.specs.LeafedModules.{Declared, Scene, declared_leaves, held_by_declared, leaves_from, type_of_declared}
 use Rattle.fir_meaning.specs.LeafMemories.{arrays_of, leaves_of_data}
 use Rattle.fir_meaning.specs.LeafModules.{LeafArray, LeafType, MemoryDeclared, Role}
-use Rattle.fir_leaf_table.specs.declared.array.LeafArray.{LeafArray as ArrayOfCode}
+use Rattle.fir_leaf_circuit.specs.declared.array.LeafArray.{LeafArray as ArrayOfCode}
 use Rattle.fir_leaf_table.specs.declared.frame.Frame.{Frame}
 use Rattle.fir_leaf_table.specs.declared.giver.Giver.{Giver}
-use Rattle.fir_leaf_table.specs.declared.leaf.Leaf.{Leaf}
-use Rattle.fir_leaf_table.specs.declared.leaf_module.MemoryClocks.{MemoryClocks}
+use Rattle.fir_leaf_circuit.specs.declared.leaf.Leaf.{Leaf}
+use Rattle.fir_leaf_circuit.specs.declared.leaf_module.MemoryClocks.{MemoryClocks}
 use Rattle.fir_leaf_table.specs.declared.places.Places.{Places}
 use Rattle.fir_leaf_table.specs.declared.walk.Walk.{Walk}
 use Rattle.fir_leaf_table.specs.working.Givers.{given_from}
 use Rattle.fir_leaf_table.specs.working.PushedLeaves.{PushesLeaves}
-use Rattle.fir_leaf_table.specs.working.Seen.{array_seen, leaf_seen, leaves_seen, memory_seen, unnamed, unnamed_array}
+use Rattle.fir_leaf_circuit.specs.working.Seen.{array_seen, leaf_seen, leaves_seen, memory_seen, unnamed, unnamed_array}
 use Rattle.fir_leaf_table.specs.working.TypedLeaves.{AreLeavesOf}
 use Rattle.fir_leaf_table.specs.working.Walks.{ComesBehind, EntersAt}
 use Rattle.fir_leaf_table.proofs.CountedDeclarations.{arrays_more, leaves_more}

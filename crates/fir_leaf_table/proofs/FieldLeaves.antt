@@ -12,14 +12,14 @@ use Rattle.fir_meaning.specs.WidthExpressions.{Widths}
 use Rattle.fir_meaning.specs.WidthRules.{AreWidths}
 use Rattle.fir_width.specs.working.DeclaredWidths.{leaf_widths}
 use Rattle.fir_width.specs.working.FlatWidths.{flat, flat_fields}
-use Rattle.fir_width.specs.working.Numbered.{Stands}
+use Rattle.fir_width.specs.working.StandingWidths.{Stands}
 use Rattle.fir_width.proofs.FlatShapes.{flat_counted}
-use Rattle.fir_width.proofs.Standing.{stands_left, stands_right}
+use Rattle.fir_width.proofs.StandingWidths.{stands_left, stands_right}
 use Rattle.fir_meaning.specs.LeafModules.{LeafType}
 use Rattle.fir_meaning.specs.LeafedModules.{held_field_types, held_types}
 use Rattle.fir_leaf_table.specs.declared.type_leaves.TypeLeaf.{TypeLeaf as LeafOfCode}
 use Rattle.fir_leaf_table.specs.working.PushedTypeLeaves.{Pushes}
-use Rattle.fir_leaf_table.specs.working.Seen.{type_seen}
+use Rattle.fir_leaf_circuit.specs.working.Seen.{type_seen}
 use Rattle.fir_leaf_table.specs.working.TypedLeaves.{flips_of, flips_seen, holds_seen}
 use Rattle.fir_leaf_table.proofs.TurnedLeaves.{turned_field}
 use Rattle.fir_leaf_table.proofs.TypeShapes.{has_shape, have_shape}

@@ -24,11 +24,11 @@ use Rattle.fir_types.specs.working.LeafNumbers.{first_leaves}
 use Rattle.fir_types.specs.working.Seen.{found_type, seen}
 use Rattle.fir_width.specs.working.DeclaredWidths.{leaf_widths, module_widths, port_widths}
 use Rattle.fir_width.specs.working.FlatWidths.{flat}
-use Rattle.fir_width.specs.working.Numbered.{Stands}
+use Rattle.fir_width.specs.working.StandingWidths.{Stands}
 use Rattle.fir_width.specs.working.Sides.{IsSide}
 use Rattle.fir_width.proofs.BodyNumbers.{ports_before}
 use Rattle.fir_width.proofs.DeclaredScopes.{known_behind, nodes_typed, scope_known}
-use Rattle.fir_width.proofs.Standing.{stands_left, stands_right, stands_whole}
+use Rattle.fir_width.proofs.StandingWidths.{stands_left, stands_right, stands_whole}
 use Rattle.fir_meaning.specs.LeafModules.{LeafType}
 use Rattle.fir_meaning.specs.LeafedModules.{Scene, held_by_declared, held_types, type_of_declared}
 use Rattle.fir_leaf.proofs.LeafPlaces.{get_mapped}

@@ -12,7 +12,7 @@ use Rattle.fir_meaning.specs.TypedScopes.{Known}
 use Rattle.fir_reset.proofs.PortsInFront.{port_known, ports_first}
 use Rattle.fir_type_table.specs.working.Tables.{types_of}
 use Rattle.fir_types.specs.declared.findings.Findings.{Findings}
-use Rattle.fir_width.proofs.CircuitWalks.{FoundOf}
+use Rattle.fir_width.proofs.FoundModules.{FoundOf}
 use Rattle.fir_leaf_table.specs.working.ModulePlaces.{ArePlacesOf, places_of}
 use Rattle.fir_leaf_table.specs.working.PortPlaces.{AreThose, HaveTypes, IsNumberOf}
 use Rattle.fir_leaf_table.proofs.InstanceModules.{module_at}

@@ -11,11 +11,11 @@ use Rattle.fir_meaning.specs.LeafedModules.{Declared, leaves_from}
 use Rattle.fir_meaning.specs.LeafModules.{LeafDeclared, LeafType, Role}
 use Rattle.fir_leaf.proofs.LeafPlaces.{leaves_counted}
 use Rattle.fir_leaf_table.specs.declared.giver.Giver.{Giver}
-use Rattle.fir_leaf_table.specs.declared.leaf.Leaf.{Leaf}
+use Rattle.fir_leaf_circuit.specs.declared.leaf.Leaf.{Leaf}
 use Rattle.fir_leaf_table.specs.declared.places.Places.{Places}
 use Rattle.fir_leaf_table.specs.declared.type_leaves.TypeLeaf.{TypeLeaf as LeafOfCode}
 use Rattle.fir_leaf_table.specs.working.Givers.{given_from, given_leaf, giver_role, place_of}
-use Rattle.fir_leaf_table.specs.working.Seen.{leaf_seen, leaves_seen, type_seen, unnamed}
+use Rattle.fir_leaf_circuit.specs.working.Seen.{leaf_seen, leaves_seen, type_seen, unnamed}
 use Rattle.fir_leaf_table.specs.working.TypedLeaves.{AreLeavesOf, flips_of, flips_seen, holds_seen}
 
 -- what one of a type stands for

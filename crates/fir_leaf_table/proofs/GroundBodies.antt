@@ -12,17 +12,17 @@ use Rattle.fir_meaning.specs.CostGroup.{cost_limit}
 use Rattle.fir_meaning.specs.Costs.{cost_of_block}
 use Rattle.fir_types.specs.working.ModuleNotes.{block_notes}
 use Rattle.std.proofs.lemmas.List.{length_push}
-use Rattle.fir_width.proofs.CircuitWalks.{FoundOf, found_of}
+use Rattle.fir_width.proofs.FoundModules.{FoundOf, found_of}
 use Rattle.fir_leaf.specs.declared.statement.LeafStmt.{LeafStmt}
 use Rattle.fir_meaning.specs.LeafedBlocks.{leafed_all}
 use Rattle.fir_meaning.specs.LeafedModules.{Scene, behind_all_ports, driven_leaves}
 use Rattle.fir_ground.specs.declared.frame.Frame.{Frame as GroundFrame}
 use Rattle.fir_ground.specs.declared.walk.Walk.{Walk as GroundWalk}
 use Rattle.fir_ground.specs.working.DeclarationDrivers.{drivers_in_block, drivers_seen}
-use Rattle.fir_ground.specs.working.Drives.{sinks_in}
+use Rattle.fir_leaf_pairs.specs.working.Drives.{sinks_in}
 use Rattle.fir_ground.specs.working.Statements.{ComesBehind, EntersAt, firsts_from}
-use Rattle.fir_ground.proofs.Emitting.{emitted_whole}
-use Rattle.fir_ground.proofs.Entries.{grows_none}
+use Rattle.fir_leaf_pairs.proofs.Emitting.{emitted_whole}
+use Rattle.fir_leaf_pairs.proofs.Entries.{grows_none}
 use Rattle.fir_leaf_table.specs.declared.frame.Frame.{Frame}
 use Rattle.fir_leaf_table.specs.working.DrivenLeaves.{driven_in}
 use Rattle.fir_leaf_table.specs.working.Frames.{Frames}

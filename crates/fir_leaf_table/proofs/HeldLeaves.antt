@@ -15,16 +15,16 @@ use Rattle.fir_type_table.specs.working.Tables.{shown}
 use Rattle.fir_types.proofs.BareTypes.{shown_bare}
 use Rattle.fir_width.specs.working.DeclaredWidths.{leaf_widths}
 use Rattle.fir_width.specs.working.FlatWidths.{flat}
-use Rattle.fir_width.specs.working.Numbered.{Stands}
-use Rattle.fir_width.proofs.Standing.{stands_head}
+use Rattle.fir_width.specs.working.StandingWidths.{Stands}
+use Rattle.fir_width.proofs.StandingWidths.{stands_head}
 use Rattle.fir_meaning.specs.LeafedModules.{held_types, repeated}
 use Rattle.fir_meaning.specs.LeafModules.{number}
 use Rattle.fir_leaf.proofs.LeafPlaces.{leaves_counted}
-use Rattle.fir_leaf_table.specs.declared.leaf.LeafType.{LeafType as TypeOfCode}
-use Rattle.fir_leaf_table.specs.declared.leaf.LeafType.TheVariants.{Number, Clock}
+use Rattle.fir_leaf_circuit.specs.declared.leaf.LeafType.{LeafType as TypeOfCode}
+use Rattle.fir_leaf_circuit.specs.declared.leaf.LeafType.TheVariants.{Number, Clock}
 use Rattle.fir_leaf_table.specs.declared.type_leaves.TypeLeaf.{TypeLeaf as LeafOfCode}
 use Rattle.fir_leaf_table.specs.working.PushedTypeLeaves.{AreLeavesBelow, Pushes}
-use Rattle.fir_leaf_table.specs.working.Seen.{type_seen}
+use Rattle.fir_leaf_circuit.specs.working.Seen.{type_seen}
 use Rattle.fir_leaf_table.specs.working.TypedLeaves.{flips_of}
 use Rattle.fir_leaf_table.proofs.TurnedLeaves.{flips_repeated, shown_flips, turned_once}
 use Rattle.fir_leaf_table.proofs.TypeShapes.{empty_list, has_shape, held_none, map_repeated}

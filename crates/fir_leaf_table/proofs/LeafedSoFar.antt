@@ -9,11 +9,11 @@ use Rattle.fir_base.proofs.Elements.{get_behind, get_left}
 use Rattle.fir_ast.specs.Circuits.{CircuitTree, ModuleTree}
 use Rattle.fir_meaning.specs.SizedDeclarations.{NumberedModule, Numbering, behind_module, first_numbers, modules_from}
 use Rattle.fir_meaning.specs.LeafedModules.{Scene, leafed_module}
-use Rattle.fir_leaf_table.specs.declared.leaf_module.LeafModule.{LeafModule}
-use Rattle.fir_leaf_table.specs.working.Leafed.{AreLeafed}
+use Rattle.fir_leaf_circuit.specs.declared.leaf_module.LeafModule.{LeafModule}
+use Rattle.fir_leaf_circuit.specs.working.Leafed.{AreLeafed}
 use Rattle.fir_leaf_table.specs.working.ModuleWalks.{AreWithinLimit, IsWithinLimit}
 use Rattle.fir_meaning.specs.Scenes.{IsSceneOf}
-use Rattle.fir_leaf_table.specs.working.Seen.{HasView}
+use Rattle.fir_leaf_circuit.specs.working.Seen.{HasView}
 
 abbrev pub Views : CircuitTree → ℕ → LeafModule → Type 0
 Views c number m = (s : Scene) → IsSceneOf c number s → IsWithinLimit c.modules s.own.inside → HasView m (leafed_module s)

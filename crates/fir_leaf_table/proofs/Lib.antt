@@ -15,12 +15,9 @@ pub mod ReachedParts
 pub mod FieldOffsets
 pub mod ReachedLeaves
 pub mod NamedRanges
-pub mod ResetEnds
 pub mod ReachedResets
 pub mod ToldResets
 pub mod MarkedResets
-pub mod ResetPaths
-pub mod ModuleScenes
 pub mod ArraysLeft
 pub mod PortsLeft
 pub mod ReadLeaves

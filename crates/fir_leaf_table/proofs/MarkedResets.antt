@@ -1,5 +1,5 @@
--- What is found under the number of a Reset, also where numbers stand still.
-use Rattle.std.proofs.Common.{◌≡◌, ℕ, ◌+◌, ◌^◌, ◌<◌, ◌≤◌, List, [], Bool, true, false, Option, Some, None, length, map, refl, sym, ap, ◌∙◌, subst, ⊎_elim, arith}
+-- What is found under the number of a Reset, where numbers stand still.
+use Rattle.std.proofs.Common.{◌≡◌, ℕ, ◌+◌, ◌^◌, ◌<◌, ◌≤◌, List, [], Bool, false, Option, Some, None, length, map, refl, sym, ap, ◌∙◌, subst, ⊎_elim, arith}
 use Rattle.std.specs.Prelude.{◌↔◌, IsTrue, option_map, slice_get, unwrap_or}
 use Rattle.std.proofs.lemmas.Bool.{cases_lt}
 use Rattle.std.proofs.lemmas.Option.{none-some, same_Some, slice_get-map, slice_get_past}
@@ -14,18 +14,7 @@ use Rattle.fir_meaning.specs.LeafedModules.{Scene}
 use Rattle.fir_reset.specs.working.Inferred.{AreInferred, leaf_number}
 use Rattle.fir_leaf_table.specs.declared.frame.Frame.{Frame}
 use Rattle.fir_leaf_table.specs.working.Frames.{Frames}
-
-read_true : (o : Option Bool) → unwrap_or o false ≡ true → o ≡ Some true
-read_true None h = cc
-read_true (Some b) h = ap Some h
-
--- of a Reset under its number
-pub answers_number : (c : CircuitTree) (found : List Bool) → AreInferred c found → (e : End) (n : ℕ) → IsLeafOf c e → IsReset e
-    → leaf_number c e.item ≡ Some n
-    → IsTrue (unwrap_or (slice_get found n) false) ↔ IsAsynchronous c e
-answers_number c found inferred e n leaf resets is =
-    let told = inferred.each e n leaf resets is in
-    ((λ h. told.1 (read_true (slice_get found n) h)), (λ a. ap (λ o. unwrap_or o false) (told.0 a)))
+use Rattle.fir_leaf_circuit.proofs.InferredResets.{answers_number}
 
 no_mark : (found : List Bool) (n : ℕ) → length found < 2 ^ 63 → 2 ^ 63 ≤ n → unwrap_or (slice_get found n) false ≡ false
 no_mark found n short past = ap (λ o. unwrap_or o false) (slice_get_past found n (omega arith))

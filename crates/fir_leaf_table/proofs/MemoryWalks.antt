@@ -15,11 +15,11 @@ use Rattle.fir_meaning.specs.LeafedModules.{Scene, held_types, memory_arrays, me
 use Rattle.fir_meaning.specs.LeafMemories.{LeafMemory, arrays_from, clocks_from, count_of_data, leaves_of_data, memory_behind, memory_declared}
 use Rattle.fir_meaning.specs.LeafModules.{LeafType}
 use Rattle.fir_leaf.proofs.LeafPlaces.{leaves_counted}
-use Rattle.fir_leaf_table.specs.declared.leaf_module.MemoryClocks.{MemoryClocks}
+use Rattle.fir_leaf_circuit.specs.declared.leaf_module.MemoryClocks.{MemoryClocks}
 use Rattle.fir_leaf_table.specs.declared.memory.Memory.{Memory}
 use Rattle.fir_leaf_table.specs.declared.walk.Walk.{Walk}
 use Rattle.fir_leaf_table.specs.working.Memories.{IsMemory}
-use Rattle.fir_leaf_table.specs.working.Seen.{array_seen, memory_seen, type_seen, unnamed_array}
+use Rattle.fir_leaf_circuit.specs.working.Seen.{array_seen, memory_seen, type_seen, unnamed_array}
 use Rattle.fir_leaf_table.specs.working.Walks.{Counts}
 use Rattle.fir_leaf_table.proofs.DeclarationWalks.{IsReady}
 

@@ -16,7 +16,7 @@ use Rattle.fir_types.specs.declared.findings.Findings.{Findings}
 use Rattle.fir_types.specs.working.TypedModules.{IsTyped}
 use Rattle.fir_types.specs.working.Walked.{IsOfModule}
 use Rattle.fir_meaning.specs.LeafedModules.{Scene}
-use Rattle.fir_width.proofs.CircuitWalks.{found_of, own}
+use Rattle.fir_width.proofs.FoundModules.{numbered_module, found_of}
 use Rattle.fir_leaf_table.specs.declared.frame.Frame.{Frame}
 use Rattle.fir_leaf_table.specs.working.Frames.{Frames}
 use Rattle.fir_leaf_table.specs.working.ModulePlaces.{ArePlacesOf}
@@ -35,7 +35,7 @@ module _ (c : CircuitTree) (found : Findings) (names : HasNames c) (typed : IsTy
       → IsSceneOf c k s → Frames frame c s
   framed frame circuit findings number tabulated declared leaves places s scene =
       let f = found_of c found typed k m at in
-      let here = own c found names typed k m at in
+      let here = numbered_module c k m at in
       let same : s.own ≡ here.0 = same_Some s.own here.0 (sym scene.own ∙ here.1) in
       let inside : s.own.inside ≡ m = ap (λ (n : NumberedModule). n.inside) same ∙ here.3 in
       record {

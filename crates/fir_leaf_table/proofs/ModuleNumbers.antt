@@ -13,12 +13,12 @@ use Rattle.fir_meaning.specs.WidthExpressions.{Width}
 use Rattle.fir_types.specs.working.LeafNumbers.{NextLeaf, first_leaves_from, first_leaves_of, leaves_behind}
 use Rattle.fir_width.specs.working.DeclaredWidths.{body_widths, module_widths, port_widths}
 use Rattle.fir_width.specs.working.FlatWidths.{flat}
-use Rattle.fir_width.specs.working.Numbered.{Stands}
+use Rattle.fir_width.specs.working.StandingWidths.{Stands}
 use Rattle.fir_width.proofs.BodyNumbers.{Same, next_behind, same_behind}
 use Rattle.fir_width.proofs.DeclaredScopes.{NodesTyped, known_behind, met_none, scope_known}
 use Rattle.fir_width.proofs.PortsFirst.{ports_are, ports_taken}
-use Rattle.fir_width.proofs.PushedWalks.{flat_long}
-use Rattle.fir_width.proofs.Standing.{stands_left, stands_right}
+use Rattle.fir_width.proofs.FlatShapes.{flat_long}
+use Rattle.fir_width.proofs.StandingWidths.{stands_left, stands_right}
 use Rattle.fir_leaf_table.proofs.DeclarationNumbers.{Left, StandsAt, one_stands}
 
 module _ (meant : List Width) (modules : List ModuleTree) (all_ports : Stands meant 0 (port_widths 0 modules)) where

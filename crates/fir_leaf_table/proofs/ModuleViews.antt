@@ -17,7 +17,7 @@ use Rattle.fir_leaf_table.specs.declared.ground_body.GroundBody.{GroundBody}
 use Rattle.fir_leaf_table.specs.declared.walk.Walk.{Walk}
 use Rattle.fir_leaf_table.specs.working.Frames.{Frames}
 use Rattle.fir_leaf_table.specs.working.ModuleWalks.{IsGroundOf}
-use Rattle.fir_leaf_table.specs.working.Seen.{HasView, array_seen, leaf_seen, leaves_seen, memory_seen, unnamed, unnamed_array}
+use Rattle.fir_leaf_circuit.specs.working.Seen.{HasView, array_seen, leaf_seen, leaves_seen, memory_seen, unnamed, unnamed_array}
 use Rattle.fir_leaf_table.specs.working.Walks.{ComesBehind, EntersAt}
 
 ports_depth : (before : Before) (ps : List PortTree) → (behind_ports before ps).depth ≡ before.depth

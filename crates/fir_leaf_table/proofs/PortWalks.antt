@@ -12,7 +12,7 @@ use Rattle.fir_meaning.specs.LeafedModules.{Scene, leaves_of_ports, own_leaves, 
 use Rattle.fir_meaning.specs.LeafModules.{LeafDeclared}
 use Rattle.fir_leaf_table.specs.declared.frame.Frame.{Frame}
 use Rattle.fir_leaf_table.specs.declared.walk.Walk.{Walk}
-use Rattle.fir_leaf_table.specs.working.Seen.{leaves_seen, unnamed}
+use Rattle.fir_leaf_circuit.specs.working.Seen.{leaves_seen, unnamed}
 use Rattle.fir_leaf_table.specs.working.Walks.{ComesBehind, EntersAt}
 use Rattle.fir_leaf_table.proofs.BlockWalks.{comes_none, comes_then, counts_as, enters_behind}
 

@@ -27,7 +27,7 @@ use Rattle.fir_reset.specs.working.Inferred.{leaf_number, number_behind, number_
 use Rattle.fir_reset.specs.working.LeafClasses.{behind_so_many, offset_in, offset_where}
 use Rattle.fir_reset.proofs.NumberedClasses.{has_number}
 use Rattle.fir_leaf_table.proofs.ReachedLeaves.{IsBelow}
-use Rattle.fir_leaf_table.proofs.ResetEnds.{ResetEnd, reset_end}
+use Rattle.fir_leaf_circuit.proofs.ResetEnds.{ResetEnd, reset_end}
 
 -- a Reset at a path of a module, so many leaves behind the first of what is declared behind so many declarations
 pub record ResetAt (c : CircuitTree) (number declaration before : ℕ) (path : LeafPath) : Type 0 where

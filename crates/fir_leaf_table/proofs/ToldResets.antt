@@ -27,7 +27,7 @@ use Rattle.fir_leaf_table.specs.working.Frames.{Frames}
 use Rattle.fir_meaning.specs.Scenes.{AreResets, IsAsynchronousAt}
 use Rattle.fir_leaf_table.proofs.NamedRanges.{Names, names}
 use Rattle.fir_leaf_table.proofs.ReachedResets.{ResetAt, reached_reset}
-use Rattle.fir_leaf_table.proofs.ResetEnds.{only_resets}
+use Rattle.fir_leaf_circuit.proofs.ResetEnds.{only_resets}
 
 -- the answer is that of the Reset of a number
 abbrev pub AnswersReset : CircuitTree → ℕ → ℕ → ℕ → Bool → Type 0

@@ -16,8 +16,8 @@ use Rattle.fir_meaning.specs.TypeLeaves.{field_count, leaf_count}
 use Rattle.fir_meaning.specs.WidthExpressions.{Widths}
 use Rattle.fir_meaning.specs.LeafModules.{LeafType, number}
 use Rattle.fir_meaning.specs.LeafedModules.{held_field_types, held_types, repeated}
-use Rattle.fir_leaf_table.specs.declared.leaf.LeafType.{LeafType as TypeOfCode}
-use Rattle.fir_leaf_table.specs.working.Seen.{type_seen}
+use Rattle.fir_leaf_circuit.specs.declared.leaf.LeafType.{LeafType as TypeOfCode}
+use Rattle.fir_leaf_circuit.specs.working.Seen.{type_seen}
 use Rattle.fir_leaf_table.specs.working.TypedLeaves.{types_seen}
 use Rattle.fir_leaf_table.proofs.RepeatedLists.{length_repeated, map_repeated}
 

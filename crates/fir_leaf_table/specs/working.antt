@@ -1,5 +1,4 @@
 -- What no clause of `run` reads yet: the leaves of modules as the code has them, and what they stand for.
-pub mod Seen
 pub mod ModulePlaces
 pub mod Frames
 pub mod TypedLeaves
@@ -12,4 +11,3 @@ pub mod ModuleWalks
 pub mod PushedLeaves
 pub mod TakenDrivers
 pub mod PortPlaces
-pub mod Leafed

@@ -7,10 +7,10 @@ ghost use Rattle.fir_meaning.specs.LeafedBlocks.{term_at};
 ghost use Rattle.fir_meaning.specs.LeafModules.{source};
 ghost use Rattle.fir_leaf.specs.working.Nodes.{node_term};
 ghost use Rattle.fir_leaf_table.specs.working.Givers.{direction_role, flipped_role, giver_role, reset_given};
-ghost use Rattle.fir_leaf_table.specs.working.Seen.{reset_seen, role_seen};
+ghost use Rattle.fir_leaf_circuit.specs.working.Seen.{reset_seen, role_seen};
 
-use crate::leaf::{LeafRole, ResetRole};
 use fir_base::Direction;
+use fir_leaf_circuit::{LeafRole, ResetRole};
 
 /// What gives the leaves of a declaration their values, each by its number among them.
 #[derive(Clone, Copy)]

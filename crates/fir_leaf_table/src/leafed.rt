@@ -6,14 +6,13 @@ ghost use Rattle.fir_meaning.specs.CostGroup.{cost_limit};
 ghost use Rattle.fir_meaning.specs.Costs.{HasCost};
 ghost use Rattle.fir_meaning.specs.NameGroups.{HasNames};
 ghost use Rattle.fir_meaning.specs.LeafedModules.{Scene, leafed_module};
-ghost use Rattle.fir_leaf_table.specs.working.Leafed.{AreLeafed};
+ghost use Rattle.fir_leaf_circuit.specs.working.Leafed.{AreLeafed};
 ghost use Rattle.fir_leaf_table.specs.working.ModulePlaces.{ArePlacesOf};
 ghost use Rattle.fir_leaf_table.specs.working.ModuleWalks.{IsWithinLimit};
 ghost use Rattle.fir_meaning.specs.Scenes.{IsSceneOf};
-ghost use Rattle.fir_leaf_table.specs.working.Seen.{HasView};
+ghost use Rattle.fir_leaf_circuit.specs.working.Seen.{HasView};
 
 use crate::ground_body::ground_body;
-use crate::leaf_module::LeafModule;
 use crate::module_frame::frame_of;
 use crate::port_places::all_port_places;
 use crate::ports::in_ports;
@@ -21,6 +20,7 @@ use crate::statements::in_block;
 use crate::walk::Walk;
 use fir_ast::{Module, Place};
 use fir_base::MemoryOut;
+use fir_leaf_circuit::LeafModule;
 use fir_width::Fitted;
 use std::alloc::Global;
 

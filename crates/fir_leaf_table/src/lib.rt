@@ -1,6 +1,7 @@
 //! What the leaves of a module are, and what gives them their values (FIRRTL spec, "Modules"). In comes a
-//! `Fitted`; out comes a `LeafModule` for each module: its leaves in the order of their declarations and of
-//! their types, each with what it holds and its role, its memories' arrays, and its statements over leaves.
+//! `Fitted`; out comes a `LeafModule` (fir_leaf_circuit) for each module: its leaves in the order of their
+//! declarations and of their types, each with what it holds and its role, its memories' arrays, and its statements
+//! over leaves.
 //!
 //! Each module is walked twice (`leafed`), with what was found of it (`module_frame`): its expressions and
 //! statements become nodes and statements over leaves (`ground_body`, by fir_ground), and then each declaration
@@ -10,15 +11,12 @@
 //! ports of a memory (`memory_leaves`).
 #![tactic(auto)]
 
-mod array;
 mod declared;
 mod drivers;
 mod frame;
 mod giver;
 mod ground_body;
 mod instances;
-mod leaf;
-mod leaf_module;
 mod leaf_number;
 mod leafed;
 mod memory;
@@ -36,15 +34,10 @@ mod push;
 mod push_leaves;
 mod registers;
 mod resets;
-mod scenes;
 mod sinks;
 mod statements;
 mod type_leaves;
 mod walk;
 mod word_types;
 
-pub use array::{LeafArray, Writing};
-pub use leaf::{Leaf, LeafRole, LeafType, ReadingRole, ResetRole};
-pub use leaf_module::{LeafModule, MemoryClocks};
 pub use leafed::leafed_modules;
-pub use scenes::has_scenes;

@@ -12,12 +12,12 @@ ghost use Rattle.fir_meaning.specs.LeafedModules.{held_types};
 ghost use Rattle.fir_leaf_table.specs.working.Memories.{IsMemory, port_seen};
 ghost use Rattle.fir_leaf_table.specs.working.TypedLeaves.{types_seen};
 
-use crate::leaf::LeafType;
 use crate::leaf_number::behind;
 use crate::memory_fields::{first_read_latency, first_rule, memory_ports};
 use crate::word_types::word_types;
 use fir_ast::{MemoryField, ReadUnderWrite};
 use fir_base::MemoryOut;
+use fir_leaf_circuit::LeafType;
 use fir_types::{first_depth, first_word_type};
 use std::alloc::Global;
 

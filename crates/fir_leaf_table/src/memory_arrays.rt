@@ -5,12 +5,12 @@ ghost use Rattle.fir_meaning.specs.TypeLeaves.{TypeLeaf};
 ghost use Rattle.fir_meaning.specs.LeafMemories.{LeafMemory, arrays_from, writings_from};
 ghost use Rattle.fir_meaning.specs.LeafModules.{LeafType};
 ghost use Rattle.fir_leaf_table.specs.working.Memories.{IsMemory};
-ghost use Rattle.fir_leaf_table.specs.working.Seen.{array_seen, unnamed_array, writing_seen};
+ghost use Rattle.fir_leaf_circuit.specs.working.Seen.{array_seen, unnamed_array, writing_seen};
 
-use crate::array::{LeafArray, Writing};
 use crate::memory::Memory;
 use crate::port_writings::port_writing;
 use fir_base::MemoryOut;
+use fir_leaf_circuit::{LeafArray, Writing};
 use std::alloc::Global;
 
 /// Puts the arrays of a memory behind the others, one for each leaf of its data.

@@ -8,7 +8,6 @@ ghost use Rattle.fir_leaf_table.specs.working.Walks.{PassesStatement};
 
 use crate::frame::Frame;
 use crate::giver::Giver;
-use crate::leaf_module::MemoryClocks;
 use crate::memory::memory_of;
 use crate::memory_arrays::push_arrays;
 use crate::memory_roles::{memory_clocks, memory_roles};
@@ -17,6 +16,7 @@ use crate::push::push_leaves;
 use crate::walk::Walk;
 use fir_ast::Memory;
 use fir_base::MemoryOut;
+use fir_leaf_circuit::MemoryClocks;
 use std::alloc::Global;
 
 /// A memory.

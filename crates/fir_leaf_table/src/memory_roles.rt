@@ -5,13 +5,13 @@ ghost use Rattle.fir_leaf.specs.declared.node.Node.{Node};
 ghost use Rattle.fir_meaning.specs.LeafMemories.{LeafMemory, clocks_from, memory_roles};
 ghost use Rattle.fir_meaning.specs.LeafModules.{LeafType};
 ghost use Rattle.fir_leaf_table.specs.working.Memories.{IsMemory};
-ghost use Rattle.fir_leaf_table.specs.working.Seen.{role_seen};
+ghost use Rattle.fir_leaf_circuit.specs.working.Seen.{role_seen};
 
-use crate::leaf::LeafRole;
 use crate::leaf_number::behind;
 use crate::memory::Memory;
 use crate::port_roles::put_roles;
 use fir_base::MemoryOut;
+use fir_leaf_circuit::LeafRole;
 use std::alloc::Global;
 
 /// What gives each leaf of the ports its value, in the order of the ports and of their fields.

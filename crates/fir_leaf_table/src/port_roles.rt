@@ -5,12 +5,12 @@ ghost use Rattle.fir_leaf.specs.declared.node.Node.{Node};
 ghost use Rattle.fir_meaning.specs.LeafMemories.{LeafMemory, enable, port_roles, read_role, read_roles, sinks};
 ghost use Rattle.fir_meaning.specs.LeafModules.{LeafType};
 ghost use Rattle.fir_leaf_table.specs.working.Memories.{IsMemory, port_seen};
-ghost use Rattle.fir_leaf_table.specs.working.Seen.{mode_need, role_seen};
+ghost use Rattle.fir_leaf_circuit.specs.working.Seen.{mode_need, role_seen};
 
-use crate::leaf::{LeafRole, ReadingRole};
 use crate::leaf_number::behind;
 use crate::memory::{Memory, MemoryPort};
 use fir_base::MemoryOut;
+use fir_leaf_circuit::{LeafRole, ReadingRole};
 
 /// Puts what gives each leaf of a port that begins at a leaf its value behind the others.
 pub fn put_roles(

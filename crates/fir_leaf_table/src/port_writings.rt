@@ -3,12 +3,12 @@
 ghost use Rattle.std.specs.Prelude.{◌≡◌, ◌+◌, IfOk, option_map, option_to_list};
 ghost use Rattle.fir_meaning.specs.LeafMemories.{port_writings};
 ghost use Rattle.fir_leaf_table.specs.working.Memories.{port_seen};
-ghost use Rattle.fir_leaf_table.specs.working.Seen.{writing_seen};
+ghost use Rattle.fir_leaf_circuit.specs.working.Seen.{writing_seen};
 
-use crate::array::Writing;
 use crate::leaf_number::behind;
 use crate::memory::MemoryPort;
 use fir_base::MemoryOut;
+use fir_leaf_circuit::Writing;
 
 /// What a port that begins at a leaf writes into the array of a data leaf, if it writes. What it is given stands
 /// in front of its mask.

@@ -6,10 +6,10 @@ ghost use Rattle.fir_leaf_table.specs.working.PushedLeaves.{PushesLeaves};
 use crate::declared::declared_leaves;
 use crate::frame::Frame;
 use crate::giver::{Giver, role_given};
-use crate::leaf::Leaf;
 use crate::places::{Places, place_given};
 use crate::walk::Walk;
 use fir_base::MemoryOut;
+use fir_leaf_circuit::Leaf;
 use std::alloc::Global;
 
 /// The leaves of the declaration that comes, inside so many whens, are put behind those that are there, and it

@@ -13,11 +13,11 @@ ghost use Rattle.fir_meaning.specs.LeafedModules.{repeated};
 ghost use Rattle.fir_width.specs.working.FieldsAt.{IsBundleAt};
 ghost use Rattle.fir_leaf_table.specs.working.PushedTypeLeaves.{Pushes};
 
-use crate::leaf::LeafType;
 use crate::type_leaves::TypeLeaf;
 use fir_ast::LeafId;
 use fir_base::MemoryOut;
 use fir_bits::NumTy;
+use fir_leaf_circuit::LeafType;
 use fir_type_table::{Kind, TypeId, TypeTable};
 use fir_types::Found;
 use fir_width::{Counted, Fitted, Widths, field_at};

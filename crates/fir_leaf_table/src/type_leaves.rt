@@ -14,9 +14,9 @@ ghost use Rattle.fir_width.specs.working.DeclaredWidths.{leaf_widths};
 ghost use Rattle.fir_width.specs.working.Sides.{IsSide};
 ghost use Rattle.fir_leaf_table.specs.working.TypedLeaves.{flips_of, flips_seen, holds_seen};
 
-use crate::leaf::LeafType;
 use crate::push_leaves::push_found;
 use fir_base::MemoryOut;
+use fir_leaf_circuit::LeafType;
 use fir_type_table::TypeTable;
 use fir_types::Found;
 use fir_width::Fitted;

@@ -1,9 +1,7 @@
 //! How far the walk over the declarations of a module has come.
 
-use crate::array::LeafArray;
-use crate::leaf::Leaf;
-use crate::leaf_module::MemoryClocks;
 use fir_ground::Driver;
+use fir_leaf_circuit::{Leaf, LeafArray, MemoryClocks};
 
 /// What the walk has still to read, and what it has made.
 #[derive(Drop)]

@@ -7,13 +7,13 @@ ghost use Rattle.fir_meaning.specs.SizedTypes.{leaf_width, numbered, numbered_fi
 ghost use Rattle.fir_meaning.specs.WidthExpressions.{Widths as Assignment, width_of};
 ghost use Rattle.fir_meaning.specs.LeafModules.{number};
 ghost use Rattle.fir_meaning.specs.LeafedModules.{held_field_types, held_types, repeated};
-ghost use Rattle.fir_leaf_table.specs.working.Seen.{type_seen};
+ghost use Rattle.fir_leaf_circuit.specs.working.Seen.{type_seen};
 ghost use Rattle.fir_leaf_table.specs.working.TypedLeaves.{types_seen};
 
-use crate::leaf::LeafType;
 use fir_ast::{Field, Ty};
 use fir_base::MemoryOut;
 use fir_bits::NumTy;
+use fir_leaf_circuit::LeafType;
 use std::alloc::Global;
 
 /// What each leaf of a type holds, where no width is left to be inferred.

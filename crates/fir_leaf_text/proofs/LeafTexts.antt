@@ -8,9 +8,9 @@ use Rattle.fir_ast.specs.View.{circuit_of}
 use Rattle.fir_meaning.specs.LeafModules.{leaf_at}
 use Rattle.fir_meaning.specs.LeafedModules.{module_leaves}
 use Rattle.fir_leaf.specs.working.TableLaws.{LeavesAreDeclared}
-use Rattle.fir_leaf_table.specs.declared.leaf.Leaf.{Leaf}
-use Rattle.fir_leaf_table.specs.declared.leaf_module.LeafModule.{LeafModule}
-use Rattle.fir_leaf_table.specs.working.Leafed.{AreLeafed}
+use Rattle.fir_leaf_circuit.specs.declared.leaf.Leaf.{Leaf}
+use Rattle.fir_leaf_circuit.specs.declared.leaf_module.LeafModule.{LeafModule}
+use Rattle.fir_leaf_circuit.specs.working.Leafed.{AreLeafed}
 use Rattle.fir_leaf_text.specs.working.DeclaredLeaves.{WritesDeclaredLeaf}
 use Rattle.fir_leaf_text.specs.working.TextsOfLeaves.{IsTextOf}
 use Rattle.fir_leaf_text.proofs.SceneLeaves.{module_there}

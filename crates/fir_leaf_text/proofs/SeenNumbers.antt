@@ -12,9 +12,9 @@ use Rattle.fir_meaning.specs.Scenes.{IsSceneOf}
 use Rattle.fir_leaf.specs.declared.node.Node.{Node}
 use Rattle.fir_leaf.specs.working.TableLaws.{LeavesAreDeclared}
 use Rattle.fir_leaf.proofs.LeafPlaces.{get_mapped}
-use Rattle.fir_leaf_table.specs.declared.leaf.Leaf.{Leaf}
-use Rattle.fir_leaf_table.specs.declared.leaf_module.LeafModule.{LeafModule}
-use Rattle.fir_leaf_table.specs.working.Seen.{HasView, leaves_seen, unnamed}
+use Rattle.fir_leaf_circuit.specs.declared.leaf.Leaf.{Leaf}
+use Rattle.fir_leaf_circuit.specs.declared.leaf_module.LeafModule.{LeafModule}
+use Rattle.fir_leaf_circuit.specs.working.Seen.{HasView, leaves_seen, unnamed}
 use Rattle.fir_leaf_text.specs.working.DeclaredLeaves.{IsDeclaredLeaf}
 use Rattle.fir_leaf_text.proofs.NumberedLeaves.{number_of}
 use Rattle.fir_leaf_text.proofs.PlacedLeaves.{same_before}

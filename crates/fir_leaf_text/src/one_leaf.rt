@@ -7,9 +7,8 @@ ghost use Rattle.fir_leaf_text.specs.working.TextsOfLeaves.{IsTextOf};
 
 use crate::declared_leaf::put_declared_leaf;
 use fir_base::{MemoryOut, Name};
-use fir_expand::LeafCircuit;
 use fir_leaf::leaves_are_declared;
-use fir_leaf_table::Leaf;
+use fir_leaf_circuit::{Leaf, LeafCircuit};
 use std::alloc::Global;
 
 /// The path of the leaf of that number of the module of that number; of what is not there it says nothing.

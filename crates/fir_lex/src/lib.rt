@@ -27,6 +27,3 @@ pub use fir_base::{MemoryOut, Refused};
 pub use lexer::lex;
 pub use token::{Kind, TokenRef};
 pub use tokens::Tokens;
-
-#[cfg(test)]
-mod tests;

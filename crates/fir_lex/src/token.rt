@@ -5,7 +5,7 @@ ghost use Rattle.fir_lex.specs.working.Numbers.{HasNumber};
 use fir_ast::Place;
 
 /// What a token is.
-#[derive(Clone, Copy, Debug, PartialEq, Eq)]
+#[derive(Clone, Copy, PartialEq, Eq)]
 pub enum Kind {
     /// A letter or an underscore, then letters, digits, underscores and dollar signs.
     Word,
@@ -25,7 +25,7 @@ pub enum Kind {
 }
 
 /// A token of a text that is at hand.
-#[derive(Clone, Copy, Debug)]
+#[derive(Clone, Copy)]
 pub struct TokenRef<'a> {
     pub kind: Kind,
     /// The bytes that spell a word, an integer or a sign, or that stand between the quotes of a string.

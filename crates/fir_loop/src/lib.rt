@@ -15,6 +15,3 @@ mod vertex;
 
 pub use entries::Order;
 pub use ordering::order;
-
-#[cfg(test)]
-mod tests;

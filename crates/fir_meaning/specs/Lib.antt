@@ -1,6 +1,5 @@
 pub mod Values
 pub mod ExpressionPlaces
-pub mod PortNames
 pub mod Lack
 pub mod Components
 pub mod Visibility

@@ -5,3 +5,4 @@ pub mod WellTyped
 pub mod TypeLaws
 pub mod InferredTypes
 pub mod WidthLaws
+pub mod AssignedWidths

@@ -4,7 +4,7 @@ use fir_bits::NumTy;
 use fir_net::Read;
 
 /// A leaf or a node, with its type.
-#[derive(Clone, Copy, Debug, PartialEq, Eq)]
+#[derive(Clone, Copy, PartialEq, Eq)]
 pub struct Bound {
     pub read: Read,
     pub ty: NumTy,

@@ -15,12 +15,12 @@ use Rattle.fir_ast.specs.Circuits.{PortTree, ModuleTree}
 use Rattle.fir_meaning.specs.Components.{Component, Declaration, Declarations}
 use Rattle.fir_meaning.specs.Components as component
 use Rattle.fir_meaning.specs.Mentions.{module_names}
-use Rattle.fir_meaning.specs.PortNames.{find_port}
 use Rattle.fir_meaning.specs.Visibility.{Before, declaration_at, with_declaration, opened, reopened, behind, behind_block, behind_ports, at_head, declarations}
 use Rattle.fir_names.specs.declared.declaration.Declaration.{Declaration as Entry}
 use Rattle.fir_names.specs.declared.declaration.Component.{Component as ComponentOfCode}
 use Rattle.fir_names.specs.declared.declaration.Component.TheVariants as code
 use Rattle.fir_names.specs.declared.names.Names.{Names}
+use Rattle.fir_names.specs.working.PortNames.{find_port}
 use Rattle.fir_names.specs.working.IsNamed.{IsNamed}
 use Rattle.fir_names.specs.working.Numbered.{component_of}
 use Rattle.fir_names.specs.working.Tabulated.{Tabulates, entry_of, entry_named, found}

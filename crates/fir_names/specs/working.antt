@@ -10,3 +10,4 @@ pub mod Judged
 pub mod Entered
 pub mod Ordered
 pub mod IsNamed
+pub mod PortNames

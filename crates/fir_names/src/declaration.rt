@@ -4,7 +4,7 @@ use fir_ast::Place;
 use fir_base::Direction;
 
 /// The kind of a component (FIRRTL spec, "Ports", "Wires", "Registers", "Nodes", "Instances", "Memories").
-#[derive(Clone, Copy, Debug, PartialEq, Eq)]
+#[derive(Clone, Copy, PartialEq, Eq)]
 pub enum Component {
     Port(Direction),
     Wire,
@@ -16,7 +16,7 @@ pub enum Component {
 }
 
 /// A declaration in a module.
-#[derive(Clone, Copy, Debug, PartialEq, Eq)]
+#[derive(Clone, Copy, PartialEq, Eq)]
 pub struct Declaration {
     /// Where its name stands.
     pub place: Place,

@@ -5,9 +5,9 @@ ghost use Rattle.fir_ast.specs.Circuits.{ModuleTree};
 ghost use Rattle.fir_ast.specs.View.{circuit_of, port_of};
 ghost use Rattle.fir_meaning.specs.Mentions.{module_names};
 ghost use Rattle.fir_meaning.specs.NameGroups.{HasNames};
-ghost use Rattle.fir_meaning.specs.PortNames.{find_port};
 ghost use Rattle.fir_meaning.specs.Visibility.{declarations};
 ghost use Rattle.fir_names.specs.working.ModuleOrder.{IsModuleOrder};
+ghost use Rattle.fir_names.specs.working.PortNames.{find_port};
 ghost use Rattle.fir_names.specs.working.Tabulated.{Tabulates};
 ghost use Rattle.fir_names.specs.working.IsNamed.{IsNamed};
 

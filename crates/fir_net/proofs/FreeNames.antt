@@ -1,6 +1,6 @@
 -- What the set of taken names says of the names that are free of a list.
 use Rattle.std.proofs.Common.{◌≡◌, ℕ, List, ◌++◌, Bool, true, false, ◌&&◌, sym, ap, ◌∙◌, arith}
-use Rattle.std.specs.Prelude.{not, decimal, codes}
+use Rattle.std.specs.Prelude.{not, codes}
 use Rattle.std.specs.BTreeSet.{BTreeSet}
 use Rattle.ver_words.specs.Reserved.{is_reserved}
 use Rattle.fir_net.specs.declared.numbered.Numbered.{Numbered}

@@ -5,7 +5,7 @@ use fir_ast::{LeafId, Place};
 use fir_base::Name;
 
 /// When a register's reset takes effect.
-#[derive(Clone, Copy, Debug, PartialEq, Eq)]
+#[derive(Clone, Copy, PartialEq, Eq)]
 pub enum ResetKind {
     /// At an edge of the register's clock.
     Synchronous,
@@ -14,7 +14,7 @@ pub enum ResetKind {
 }
 
 /// The reset of a register.
-#[derive(Clone, Copy, Debug, PartialEq, Eq)]
+#[derive(Clone, Copy, PartialEq, Eq)]
 pub struct Reset {
     pub kind: ResetKind,
     /// One bit, which is 1 while the register is reset.
@@ -24,7 +24,7 @@ pub struct Reset {
 }
 
 /// A register.
-#[derive(Clone, Copy, Debug, PartialEq, Eq)]
+#[derive(Clone, Copy, PartialEq, Eq)]
 pub struct Register {
     /// A clock's leaf.
     pub clock: LeafId,
@@ -34,7 +34,7 @@ pub struct Register {
 }
 
 /// What gives a leaf its value.
-#[derive(Clone, Copy, Debug, PartialEq, Eq)]
+#[derive(Clone, Copy, PartialEq, Eq)]
 pub enum Role {
     /// An input port: the tick.
     Input,

@@ -29,6 +29,3 @@ pub use numbered::Numbered;
 pub use reads::{Read, Reads};
 pub use sharing::share;
 pub use totals::Counts;
-
-#[cfg(test)]
-mod tests;

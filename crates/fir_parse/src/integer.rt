@@ -5,7 +5,7 @@ ghost use Rattle.fir_base.specs.Digits.{decimal_value};
 ghost use Rattle.fir_lex.specs.working.Numbers.{digits_of};
 
 /// Digits, behind a sign or none, and the number that the digits spell.
-#[derive(Clone, Copy, Debug)]
+#[derive(Clone, Copy)]
 pub struct Integer<'a> {
     pub spelling: &'a [u8],
     pub number: u128,

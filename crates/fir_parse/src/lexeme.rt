@@ -8,7 +8,7 @@ use crate::integer::Integer;
 use fir_lex::{Kind, TokenRef};
 
 /// A sign of the grammar.
-#[derive(Clone, Copy, Debug, PartialEq, Eq)]
+#[derive(Clone, Copy, PartialEq, Eq)]
 pub enum Mark {
     /// `<=`
     Connect,
@@ -34,7 +34,7 @@ pub enum Mark {
 }
 
 /// A token, with the bytes that spell it where it has a choice of them.
-#[derive(Clone, Copy, Debug)]
+#[derive(Clone, Copy)]
 pub enum Lexeme<'a> {
     Word(&'a [u8]),
     /// One of the four words with a dash.

@@ -8,7 +8,7 @@ use crate::integer::Integer;
 use crate::radix::{digits_value, radix_of};
 
 /// Whether a number is below zero, and how far from zero.
-#[derive(Clone, Copy, Debug)]
+#[derive(Clone, Copy)]
 pub struct Numeral {
     pub negative: bool,
     pub magnitude: u128,

@@ -12,7 +12,7 @@ use fir_lex::Tokens;
 use std::alloc::Global;
 
 /// A token that is at hand.
-#[derive(Clone, Copy, Debug)]
+#[derive(Clone, Copy)]
 pub struct Next<'t> {
     pub lexeme: Lexeme<'t>,
     pub place: Place,

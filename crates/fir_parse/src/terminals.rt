@@ -9,7 +9,7 @@ use fir_ast::{FirFault, Ident, Place};
 use fir_base::{MemoryOut, Name};
 
 /// An integer without a sign.
-#[derive(Clone, Copy, Debug)]
+#[derive(Clone, Copy)]
 pub struct Natural {
     pub place: Place,
     pub number: u128,

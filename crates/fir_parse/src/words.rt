@@ -1,6 +1,7 @@
 //! Words that have a meaning in their place. Everywhere else each of them is a name.
 
 ghost use Rattle.std.specs.Prelude.{◌≡◌};
+ghost use Rattle.std.specs.Str.{bytes_eq};
 ghost use Rattle.fir_parse.specs.working.Words.{under_write_of, direction_of};
 
 use crate::lexeme::Lexeme;
@@ -9,7 +10,7 @@ use fir_base::Direction;
 use fir_bits::PrimOp;
 
 /// What a first word declares, where a name follows, or `when`.
-#[derive(Clone, Copy, Debug, PartialEq, Eq)]
+#[derive(Clone, Copy, PartialEq, Eq)]
 pub enum Declaration {
     Wire,
     Reg,
@@ -20,7 +21,7 @@ pub enum Declaration {
 }
 
 /// The first word of a statement.
-#[derive(Clone, Copy, Debug, PartialEq, Eq)]
+#[derive(Clone, Copy, PartialEq, Eq)]
 pub enum Lead {
     Declares(Declaration),
     Skip,
@@ -32,7 +33,7 @@ pub enum Lead {
 }
 
 /// The word of a type.
-#[derive(Clone, Copy, Debug, PartialEq, Eq)]
+#[derive(Clone, Copy, PartialEq, Eq)]
 pub enum TypeWord {
     UInt,
     SInt,
@@ -45,7 +46,7 @@ pub enum TypeWord {
 }
 
 /// A word before an opening parenthesis in an expression.
-#[derive(Clone, Copy, Debug, PartialEq, Eq)]
+#[derive(Clone, Copy, PartialEq, Eq)]
 pub enum Applied {
     Operator(PrimOp),
     Mux,
@@ -58,7 +59,7 @@ pub enum Applied {
 }
 
 /// The word of a memory's field.
-#[derive(Clone, Copy, Debug, PartialEq, Eq)]
+#[derive(Clone, Copy, PartialEq, Eq)]
 pub enum FieldWord {
     DataType,
     Depth,
@@ -72,7 +73,7 @@ pub enum FieldWord {
 }
 
 /// The word in a module's place.
-#[derive(Clone, Copy, Debug, PartialEq, Eq)]
+#[derive(Clone, Copy, PartialEq, Eq)]
 pub enum ModuleWord {
     Module,
     /// A module that is not in the language.
@@ -88,24 +89,38 @@ impl Lead {
     pub fn of(word: &[u8]) -> Lead
         ensures { result ≡ lead_of word.now }
     {
-        match word {
-            b"wire" => Lead::Declares(Declaration::Wire),
-            b"reg" => Lead::Declares(Declaration::Reg),
-            b"node" => Lead::Declares(Declaration::Node),
-            b"inst" => Lead::Declares(Declaration::Inst),
-            b"mem" => Lead::Declares(Declaration::Mem),
-            b"when" => Lead::Declares(Declaration::When),
-            b"skip" => Lead::Skip,
-            b"attach"
-            | b"stop"
-            | b"printf"
-            | b"assert"
-            | b"assume"
-            | b"cover"
-            | b"cmem"
-            | b"smem" => Lead::Missing,
-            b"infer" | b"read" | b"write" | b"rdwr" => Lead::MissingPort,
-            _ => Lead::Name,
+        if is(word, b"wire") {
+            Lead::Declares(Declaration::Wire)
+        } else if is(word, b"reg") {
+            Lead::Declares(Declaration::Reg)
+        } else if is(word, b"node") {
+            Lead::Declares(Declaration::Node)
+        } else if is(word, b"inst") {
+            Lead::Declares(Declaration::Inst)
+        } else if is(word, b"mem") {
+            Lead::Declares(Declaration::Mem)
+        } else if is(word, b"when") {
+            Lead::Declares(Declaration::When)
+        } else if is(word, b"skip") {
+            Lead::Skip
+        } else if is(word, b"attach")
+            || is(word, b"stop")
+            || is(word, b"printf")
+            || is(word, b"assert")
+            || is(word, b"assume")
+            || is(word, b"cover")
+            || is(word, b"cmem")
+            || is(word, b"smem")
+        {
+            Lead::Missing
+        } else if is(word, b"infer")
+            || is(word, b"read")
+            || is(word, b"write")
+            || is(word, b"rdwr")
+        {
+            Lead::MissingPort
+        } else {
+            Lead::Name
         }
     }
 }
@@ -118,44 +133,62 @@ impl TypeWord {
     pub fn of(word: &[u8]) -> TypeWord
         ensures { result ≡ type_word_of word.now }
     {
-        match word {
-            b"UInt" => TypeWord::UInt,
-            b"SInt" => TypeWord::SInt,
-            b"Clock" => TypeWord::Clock,
-            b"Reset" => TypeWord::Reset,
-            b"AsyncReset" => TypeWord::AsyncReset,
-            b"Analog" | b"Fixed" | b"Interval" => TypeWord::Missing,
-            _ => TypeWord::Name,
+        if is(word, b"UInt") {
+            TypeWord::UInt
+        } else if is(word, b"SInt") {
+            TypeWord::SInt
+        } else if is(word, b"Clock") {
+            TypeWord::Clock
+        } else if is(word, b"Reset") {
+            TypeWord::Reset
+        } else if is(word, b"AsyncReset") {
+            TypeWord::AsyncReset
+        } else if is(word, b"Analog") || is(word, b"Fixed") || is(word, b"Interval") {
+            TypeWord::Missing
+        } else {
+            TypeWord::Name
         }
     }
 }
 
 impl Applied {
     ghost use Rattle.std.specs.Prelude.{◌≡◌};
-    ghost use Rattle.fir_parse.specs.working.Words.{applied_of};
+    ghost use Rattle.fir_parse.specs.working.Words.{applied_of, other_applied_of};
 
     /// What the word is before an opening parenthesis.
     pub fn of(word: &[u8]) -> Applied
         ensures { result ≡ applied_of word.now }
     {
-        if let Some(op) = PrimOp::of_word(word) {
-            return Applied::Operator(op);
+        match PrimOp::of_word(word) {
+            Some(op) => Applied::Operator(op),
+            None => Applied::of_other(word),
         }
-        match word {
-            b"mux" => Applied::Mux,
-            b"validif" => Applied::Validif,
-            b"UInt" => Applied::UInt,
-            b"SInt" => Applied::SInt,
-            b"asClock"
-            | b"asFixedPoint"
-            | b"asInterval"
-            | b"incp"
-            | b"decp"
-            | b"setp"
-            | b"wrap"
-            | b"clip"
-            | b"squz" => Applied::Missing,
-            _ => Applied::Name,
+    }
+
+    fn of_other(word: &[u8]) -> Applied
+        ensures { result ≡ other_applied_of word.now }
+    {
+        if is(word, b"mux") {
+            Applied::Mux
+        } else if is(word, b"validif") {
+            Applied::Validif
+        } else if is(word, b"UInt") {
+            Applied::UInt
+        } else if is(word, b"SInt") {
+            Applied::SInt
+        } else if is(word, b"asClock")
+            || is(word, b"asFixedPoint")
+            || is(word, b"asInterval")
+            || is(word, b"incp")
+            || is(word, b"decp")
+            || is(word, b"setp")
+            || is(word, b"wrap")
+            || is(word, b"clip")
+            || is(word, b"squz")
+        {
+            Applied::Missing
+        } else {
+            Applied::Name
         }
     }
 }
@@ -179,24 +212,32 @@ impl FieldWord {
     fn plain(word: &[u8]) -> FieldWord
         ensures { result ≡ plain_field_word word.now }
     {
-        match word {
-            b"depth" => FieldWord::Depth,
-            b"reader" => FieldWord::Reader,
-            b"writer" => FieldWord::Writer,
-            b"readwriter" => FieldWord::Readwriter,
-            _ => FieldWord::Name,
+        if is(word, b"depth") {
+            FieldWord::Depth
+        } else if is(word, b"reader") {
+            FieldWord::Reader
+        } else if is(word, b"writer") {
+            FieldWord::Writer
+        } else if is(word, b"readwriter") {
+            FieldWord::Readwriter
+        } else {
+            FieldWord::Name
         }
     }
 
     fn dashed(word: &[u8]) -> FieldWord
         ensures { result ≡ dash_field_word word.now }
     {
-        match word {
-            b"data-type" => FieldWord::DataType,
-            b"read-latency" => FieldWord::ReadLatency,
-            b"write-latency" => FieldWord::WriteLatency,
-            b"read-under-write" => FieldWord::ReadUnderWrite,
-            _ => FieldWord::Name,
+        if is(word, b"data-type") {
+            FieldWord::DataType
+        } else if is(word, b"read-latency") {
+            FieldWord::ReadLatency
+        } else if is(word, b"write-latency") {
+            FieldWord::WriteLatency
+        } else if is(word, b"read-under-write") {
+            FieldWord::ReadUnderWrite
+        } else {
+            FieldWord::Name
         }
     }
 }
@@ -209,10 +250,12 @@ impl ModuleWord {
     pub fn of(word: &[u8]) -> ModuleWord
         ensures { result ≡ module_word_of word.now }
     {
-        match word {
-            b"module" => ModuleWord::Module,
-            b"extmodule" | b"intmodule" => ModuleWord::Missing,
-            _ => ModuleWord::Name,
+        if is(word, b"module") {
+            ModuleWord::Module
+        } else if is(word, b"extmodule") || is(word, b"intmodule") {
+            ModuleWord::Missing
+        } else {
+            ModuleWord::Name
         }
     }
 }
@@ -221,11 +264,14 @@ impl ModuleWord {
 pub fn under_write_of(word: &[u8]) -> Option<ReadUnderWrite>
     ensures { result ≡ under_write_of word.now }
 {
-    match word {
-        b"old" => Some(ReadUnderWrite::Old),
-        b"new" => Some(ReadUnderWrite::New),
-        b"undefined" => Some(ReadUnderWrite::Undefined),
-        _ => None,
+    if is(word, b"old") {
+        Some(ReadUnderWrite::Old)
+    } else if is(word, b"new") {
+        Some(ReadUnderWrite::New)
+    } else if is(word, b"undefined") {
+        Some(ReadUnderWrite::Undefined)
+    } else {
+        None
     }
 }
 
@@ -233,9 +279,17 @@ pub fn under_write_of(word: &[u8]) -> Option<ReadUnderWrite>
 pub fn direction_of(word: &[u8]) -> Option<Direction>
     ensures { result ≡ direction_of word.now }
 {
-    match word {
-        b"input" => Some(Direction::Input),
-        b"output" => Some(Direction::Output),
-        _ => None,
+    if is(word, b"input") {
+        Some(Direction::Input)
+    } else if is(word, b"output") {
+        Some(Direction::Output)
+    } else {
+        None
     }
+}
+
+fn is(word: &[u8], text: &[u8]) -> bool
+    ensures { result ≡ bytes_eq word.now text.now }
+{
+    word == text
 }

@@ -11,6 +11,3 @@ mod law;
 pub use alternative::Either;
 pub use compose::{Chain, then};
 pub use law::{Meant, Pass};
-
-#[cfg(test)]
-mod tests;

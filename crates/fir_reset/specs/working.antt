@@ -1,28 +1,5 @@
--- What no clause of `run` reads: which Resets are asynchronous, and how far a search for them has come.
-pub mod ResetGraphs
-pub mod Reaching
-pub mod Walking
+-- What no clause of `run` reads: which leaves share a reset, and what a map of Resets says of them.
 pub mod ElementPaths
-pub mod Meetings
 pub mod LeafClasses
-pub mod ResetLaws
-pub mod BuiltGraphs
-pub mod FoundKinds
-pub mod PathKeys
 pub mod DeclaredLeaves
-pub mod Holding
-pub mod DirectWalks
-pub mod Adding
-pub mod Meets
-pub mod Resolved
 pub mod Inferred
-pub mod Passes
-pub mod ModuleMeets
-pub mod StepTexts
-pub mod WholeGraphs
-pub mod MarkedLeaves
-pub mod NumberedPaths
-pub mod FirstPairs
-pub mod FirstEnds
-pub mod Shapes
-pub mod JoinedSides

@@ -22,7 +22,7 @@ impl Model for ResetMap {
 
 impl ResetMap {
     /// The map of these.
-    pub(crate) fn new(asynchronous: Vec<bool>) -> ResetMap
+    pub fn new(asynchronous: Vec<bool>) -> ResetMap
         ensures { result ≡ asynchronous.items }
     {
         ResetMap { asynchronous }

@@ -28,6 +28,3 @@ pub use kind::{Kind, TypeId};
 pub use readers::FieldFound;
 pub use saturated::times;
 pub use table::TypeTable;
-
-#[cfg(test)]
-mod tests;

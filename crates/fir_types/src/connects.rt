@@ -74,7 +74,7 @@ pub fn in_partial_connect(
 }
 
 /// The right side of a connect: its type, and what it reaches if it is a reference.
-#[derive(Clone, Copy, Debug, PartialEq, Eq)]
+#[derive(Clone, Copy, PartialEq, Eq)]
 pub struct Source {
     pub found: Found,
     pub reach: Option<Reach>,

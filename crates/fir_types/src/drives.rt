@@ -25,7 +25,7 @@ use fir_type_table::TypeTable;
 use std::alloc::Global;
 
 /// Which driven leaves of a connect are sources.
-#[derive(Clone, Copy, Debug, PartialEq, Eq)]
+#[derive(Clone, Copy, PartialEq, Eq)]
 pub struct Sides {
     /// Those that are not flipped, on the left.
     pub straight: bool,

@@ -12,9 +12,9 @@ use Rattle.fir_leaf.specs.declared.statement.LeafStmt.{LeafStmt}
 use Rattle.fir_leaf.specs.working.NodeBlocks.{block_in}
 use Rattle.fir_leaf.specs.working.Nodes.{entries}
 use Rattle.fir_leaf.proofs.LeafPlaces.{get_mapped}
-use Rattle.fir_leaf_table.specs.declared.leaf.Leaf.{Leaf}
-use Rattle.fir_leaf_table.specs.declared.leaf_module.LeafModule.{LeafModule}
-use Rattle.fir_leaf_table.specs.working.Seen.{HasView, leaf_seen, leaves_seen, role_seen, type_seen}
+use Rattle.fir_leaf_circuit.specs.declared.leaf.Leaf.{Leaf}
+use Rattle.fir_leaf_circuit.specs.declared.leaf_module.LeafModule.{LeafModule}
+use Rattle.fir_leaf_circuit.specs.working.Seen.{HasView, leaf_seen, leaves_seen, role_seen, type_seen}
 use Rattle.fir_leaf_types.specs.working.TypedBlocks.{AreTyped}
 use Rattle.fir_leaf_types.specs.working.TypedModules.{IsModuleTyped, IsRoleTyped, held_in}
 use Rattle.fir_meaning.specs.LeafBlocks.{LeafBlock}
@@ -27,7 +27,7 @@ use Rattle.fir_connect.specs.working.LoweredLaws.{types_of}
 use Rattle.fir_connect.specs.working.NetRoles.{net_role, net_role_at}
 use Rattle.fir_driven.specs.working.Covering.{depth_in, flag_at}
 use Rattle.fir_drivers.specs.working.Drivers.{AreDrivers}
-use Rattle.fir_expand.specs.working.LeafStores.{leaf_of_code}
+use Rattle.fir_leaf_circuit.specs.working.LeafStores.{leaf_of_code}
 use Rattle.fir_merge.specs.declared.bound.Bound.{Bound}
 use Rattle.fir_merge.specs.working.Bounds.{StandsFor, ZeroStands, types_in}
 use Rattle.fir_merge.specs.working.Entries.{EntriesStand}

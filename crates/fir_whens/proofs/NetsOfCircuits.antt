@@ -9,9 +9,9 @@ use Rattle.fir_ast.specs.Circuits.{CircuitTree}
 use Rattle.fir_meaning.specs.LeafedModules.{Scene, leafed_module}
 use Rattle.fir_meaning.specs.LeafModules.{LeafModule as View}
 use Rattle.fir_meaning.specs.Scenes.{IsSceneOf}
-use Rattle.fir_leaf_table.specs.declared.leaf_module.LeafModule.{LeafModule}
-use Rattle.fir_leaf_table.specs.working.Leafed.{AreLeafed}
-use Rattle.fir_leaf_table.specs.working.Seen.{HasView}
+use Rattle.fir_leaf_circuit.specs.declared.leaf_module.LeafModule.{LeafModule}
+use Rattle.fir_leaf_circuit.specs.working.Leafed.{AreLeafed}
+use Rattle.fir_leaf_circuit.specs.working.Seen.{HasView}
 use Rattle.fir_leaf_types.specs.working.TypedModules.{IsModuleTyped}
 use Rattle.fir_connect.specs.working.RoleLaws.{RolesAreWorth, RolesReadTheSame}
 use Rattle.fir_whens.specs.declared.module_net.ModuleNet.{ModuleNet}

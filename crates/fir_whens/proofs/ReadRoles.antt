@@ -8,10 +8,10 @@ use Rattle.fir_base.proofs.Elements.{get_behind, get_left}
 use Rattle.fir_bits.specs.Forms.{no_type}
 use Rattle.fir_leaf.specs.declared.node.Node.{Node as LeafNode}
 use Rattle.fir_leaf.specs.working.Nodes.{entries, node_term}
-use Rattle.fir_leaf_table.specs.declared.leaf.Leaf.{Leaf}
-use Rattle.fir_leaf_table.specs.declared.leaf.LeafRole.TheVariants as leafed
-use Rattle.fir_leaf_table.specs.declared.leaf.ResetRole.{ResetRole}
-use Rattle.fir_leaf_table.specs.working.Seen.{reset_seen}
+use Rattle.fir_leaf_circuit.specs.declared.leaf.Leaf.{Leaf}
+use Rattle.fir_leaf_circuit.specs.declared.leaf.LeafRole.TheVariants as leafed
+use Rattle.fir_leaf_circuit.specs.declared.leaf.ResetRole.{ResetRole}
+use Rattle.fir_leaf_circuit.specs.working.Seen.{reset_seen}
 use Rattle.fir_leaf_types.specs.working.TypedBlocks.{MayGive}
 use Rattle.fir_leaf_types.specs.working.TypedModules.{IsResetTyped}
 use Rattle.fir_leaf_types.specs.working.TypedTerms.{HasType, one_bit}

@@ -36,12 +36,12 @@ use Rattle.fir_meaning.specs.LeafBlocks.{LeafBlock}
 use Rattle.fir_meaning.specs.LeafModules.{LeafDeclared, is_sink, leaf_at, no_leaf}
 use Rattle.fir_leaf.specs.declared.node.Node.{Node}
 use Rattle.fir_leaf.specs.working.NodeBlocks.{block_in}
-use Rattle.fir_leaf_table.specs.declared.leaf.Leaf.{Leaf}
-use Rattle.fir_leaf_table.specs.declared.leaf.LeafRole.{LeafRole}
-use Rattle.fir_leaf_table.specs.declared.leaf.LeafRole.TheVariants as role
-use Rattle.fir_leaf_table.specs.declared.leaf_module.LeafModule.{LeafModule}
-use Rattle.fir_leaf_table.specs.working.Seen.{leaf_seen, leaves_seen, role_seen}
-use Rattle.fir_expand.specs.working.LeafStores.{depth_in, leaf_of_code}
+use Rattle.fir_leaf_circuit.specs.declared.leaf.Leaf.{Leaf}
+use Rattle.fir_leaf_circuit.specs.declared.leaf.LeafRole.{LeafRole}
+use Rattle.fir_leaf_circuit.specs.declared.leaf.LeafRole.TheVariants as role
+use Rattle.fir_leaf_circuit.specs.declared.leaf_module.LeafModule.{LeafModule}
+use Rattle.fir_leaf_circuit.specs.working.Seen.{leaf_seen, leaves_seen, role_seen}
+use Rattle.fir_leaf_circuit.specs.working.LeafStores.{depth_in, leaf_of_code}
 use Rattle.fir_driven.specs.working.Covering.{AreCovered}
 use Rattle.fir_whens.specs.working.CoveredModules.{AreCoveredBefore, depths_of, is_covered_at, is_sink_at, is_sink_role}
 

@@ -10,9 +10,9 @@ use Rattle.fir_meaning.specs.Scenes.{HasScenes}
 use Rattle.fir_meaning.specs.UndrivenChoices.{IsFirstUndriven, told_once}
 use Rattle.fir_meaning.specs.UndrivenLeaves.{AreDrivenBefore}
 use Rattle.fir_leaf.specs.working.NodeBlocks.{block_in}
-use Rattle.fir_leaf_table.specs.declared.leaf_module.LeafModule.{LeafModule}
-use Rattle.fir_leaf_table.specs.working.Leafed.{AreLeafed}
-use Rattle.fir_expand.specs.working.LeafStores.{depth_in, leaf_of_code}
+use Rattle.fir_leaf_circuit.specs.declared.leaf_module.LeafModule.{LeafModule}
+use Rattle.fir_leaf_circuit.specs.working.Leafed.{AreLeafed}
+use Rattle.fir_leaf_circuit.specs.working.LeafStores.{depth_in, leaf_of_code}
 use Rattle.fir_driven.specs.working.ChoiceLaws.{CoveredIsDriven, MissedIsFirst}
 use Rattle.fir_driven.specs.working.Missed.{missed_all}
 use Rattle.fir_whens.specs.working.CoveredModules.{AreCoveredBefore, IsNotCovered}

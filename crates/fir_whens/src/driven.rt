@@ -12,7 +12,7 @@ ghost use Rattle.fir_whens.specs.working.ModuleFaults.{AreAllDriven};
 use crate::module::undriven_leaf;
 use fir_ast::FirFault;
 use fir_base::Refused;
-use fir_expand::LeafCircuit;
+use fir_leaf_circuit::LeafCircuit;
 use std::alloc::Global;
 
 /// Ok where no choice leaves a leaf undriven that statements must drive; else the first such leaf, in the order of

@@ -15,7 +15,7 @@ use crate::net_circuit::NetCircuit;
 use crate::typed_modules::modules_are_typed;
 use fir_ast::FirFault;
 use fir_base::{MemoryOut, Refused};
-use fir_expand::LeafCircuit;
+use fir_leaf_circuit::LeafCircuit;
 use std::alloc::Global;
 
 /// The circuit with the nets of its modules; or E24, the first leaf that some choice leaves undriven, and the circuit

@@ -8,8 +8,7 @@ ghost use Rattle.fir_whens.specs.working.ModuleFaults.{IsFoundOf};
 use fir_ast::FirFault;
 use fir_base::{MemoryOut, Seq};
 use fir_driven::{covered_is_driven, covered_leaves, first_choice, missed_is_first};
-use fir_expand::LeafCircuit;
-use fir_leaf_table::{LeafModule, LeafRole};
+use fir_leaf_circuit::{LeafCircuit, LeafModule, LeafRole};
 use fir_leaf_text::leaf_text;
 use std::alloc::Global;
 

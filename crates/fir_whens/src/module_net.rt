@@ -1,7 +1,7 @@
 //! A module as a net.
 
 ghost use Rattle.std.specs.Prelude.{◌≡◌, IfOk, map};
-ghost use Rattle.fir_leaf_table.specs.working.Seen.{HasView};
+ghost use Rattle.fir_leaf_circuit.specs.working.Seen.{HasView};
 ghost use Rattle.fir_leaf_types.specs.working.TypedModules.{IsModuleTyped};
 ghost use Rattle.fir_meaning.specs.LeafModules.{LeafModule as Viewed};
 ghost use Rattle.fir_whens.specs.working.ModuleNets.{IsNetOf, registers_of, types_of_leaves};
@@ -11,7 +11,7 @@ use crate::net_role::{NetRole, net_roles};
 use fir_base::MemoryOut;
 use fir_bits::{NO_TYPE, NumTy};
 use fir_drivers::drivers_of;
-use fir_leaf_table::{LeafModule, LeafRole, LeafType};
+use fir_leaf_circuit::{LeafModule, LeafRole, LeafType};
 use fir_merge::{NetNodes, add_zero, lower_nodes};
 use std::alloc::Global;
 

@@ -10,7 +10,7 @@ ghost use Rattle.fir_whens.specs.working.NetCircuits.{AreNets, NetsGive};
 use crate::module_net::ModuleNet;
 use crate::typed_modules::modules_are_typed;
 use fir_connect::{roles_are_worth, roles_read_the_same};
-use fir_expand::LeafCircuit;
+use fir_leaf_circuit::LeafCircuit;
 use std::marker::Model;
 
 /// A circuit in which every leaf is driven that statements must drive, with the nets of its modules. Contracts see the

@@ -6,7 +6,7 @@ ghost use Rattle.fir_whens.specs.working.StandingRoles.{AreRolesOf, IsRoleOf, re
 use fir_ast::ReadUnderWrite;
 use fir_base::MemoryOut;
 use fir_leaf::Node;
-use fir_leaf_table::{Leaf, LeafRole, ReadingRole, ResetRole};
+use fir_leaf_circuit::{Leaf, LeafRole, ReadingRole, ResetRole};
 use fir_merge::{Bound, value_at};
 use std::alloc::Global;
 

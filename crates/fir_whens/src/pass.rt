@@ -7,7 +7,7 @@ use crate::lowered::lower_whens;
 use crate::net_circuit::NetCircuit;
 use fir_ast::FirFault;
 use fir_base::Refused;
-use fir_expand::LeafCircuit;
+use fir_leaf_circuit::LeafCircuit;
 use fir_pass::{Meant, Pass};
 use std::alloc::Global;
 

@@ -3,7 +3,7 @@
 ghost use Rattle.fir_ast.specs.View.{circuit_of};
 ghost use Rattle.fir_whens.specs.working.ModuleNets.{AreAllTyped};
 
-use fir_expand::LeafCircuit;
+use fir_leaf_circuit::LeafCircuit;
 use fir_leaf_types::leafed_modules_are_typed;
 use fir_meaning::one_least;
 

@@ -19,7 +19,7 @@ use Rattle.fir_types.proofs.BareTypes.{shown_shared_count}
 use Rattle.fir_width.specs.working.FlatWidths.{flat}
 use Rattle.fir_width.specs.working.DeclaredWidths.{body_widths, own_widths, port_widths}
 use Rattle.fir_width.proofs.DeclaredScopes.{IsTypedNode, Met, NodesTyped, expression_bare, known_behind, met_more}
-use Rattle.fir_width.proofs.PushedWalks.{flat_long}
+use Rattle.fir_width.proofs.FlatShapes.{flat_long}
 
 written_long : (o : Option DataType) → length (flat (as_written o)) ≡ count_of_any o
 written_long None = refl

@@ -6,7 +6,7 @@ use Rattle.fir_ast.specs.Circuits.{CircuitTree}
 use Rattle.fir_meaning.specs.WidthExpressions.{Width, Widths, width_of, Rule, IsLeastOf}
 use Rattle.fir_meaning.specs.WidthRules.{rules, AreWidths}
 use Rattle.fir_meaning.proofs.LeastRules.{width_grows, one_least}
-use Rattle.fir_width.specs.working.Bounds.{assigned}
+use Rattle.fir_meaning.specs.working.AssignedWidths.{assigned}
 use Rattle.fir_width.specs.working.DeclaredWidths.{leaf_widths}
 use Rattle.fir_width.specs.working.Fitting.{HasWidths}
 

@@ -12,7 +12,7 @@ use Rattle.fir_meaning.specs.WidthExpressions.{Width}
 use Rattle.fir_meaning.specs.SizedTypes.{numbered, numbered_fields}
 use Rattle.fir_meaning.specs.SizedDeclarations.{Numbering, numbered_behind, numbered_with, port_numbers, taken_of_ports}
 use Rattle.fir_width.specs.working.FlatWidths.{flat, flat_fields}
-use Rattle.fir_width.proofs.PushedWalks.{flat_long}
+use Rattle.fir_width.proofs.FlatShapes.{flat_long}
 
 -- the leaves of the ports among declarations, from a number on
 abbrev pub own_ports : Component → ℕ → List Width

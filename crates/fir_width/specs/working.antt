@@ -1,26 +1,8 @@
--- What no clause of `run` reads: bounds and the least widths that meet them, and how far a search for these has come.
-pub mod Bounds
-pub mod Raises
-pub mod Readers
-pub mod Waiting
-pub mod Solving
-pub mod Rounds
+-- What no clause of `run` reads: the widths of leaves by their numbers, and the leaves of an expression.
 pub mod FlatWidths
-pub mod Numbered
+pub mod StandingWidths
 pub mod Sides
-pub mod Meetings
-pub mod Spots
-pub mod NumberedLeaves
-pub mod SpotFaults
 pub mod DeclaredWidths
-pub mod Scenes
-pub mod Ports
-pub mod Walks
-pub mod Circuits
 pub mod Fitting
-pub mod PushedLeaves
 pub mod CountedLeaves
 pub mod FieldsAt
-pub mod Operands
-pub mod Choices
-pub mod FirstLeaves

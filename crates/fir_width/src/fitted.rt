@@ -9,9 +9,10 @@ ghost use Rattle.fir_meaning.specs.working.WidthLaws.{FitsAll};
 ghost use Rattle.fir_reset.specs.working.Inferred.{AreInferred};
 ghost use Rattle.fir_width.specs.working.Fitting.{HasWidths};
 
-use crate::width_at::width_at;
+use crate::by_number::width_at;
 use fir_ast::LeafId;
 use fir_bits::laws::monotone;
+use fir_pass::Meant;
 use fir_reset::ResetMap;
 use fir_types::Typed;
 use std::marker::Model;
@@ -42,9 +43,16 @@ impl Model for Fitted {
     ghost invariant = { λ f. HasWidths (circuit_of f.typed) f.widths.items × AreInferred (circuit_of f.typed) f.resets };
 }
 
+impl Meant for Fitted {
+    ghost use Rattle.fir_ast.specs.View.{circuit_of};
+    ghost use Rattle.fir_meaning.specs.SourceMeaning.{circuit_meaning};
+
+    ghost meaning = { λ f. circuit_meaning (circuit_of f) };
+}
+
 impl Fitted {
     /// The circuit with these resets and widths, by the numbers of the leaves.
-    pub(crate) fn new(typed: Typed, resets: ResetMap, widths: Vec<u32>) -> Fitted
+    pub fn new(typed: Typed, resets: ResetMap, widths: Vec<u32>) -> Fitted
         requires widths { HasWidths (circuit_of typed) widths.items }
         requires resets { AreInferred (circuit_of typed) resets }
         ensures { result ≡ typed }

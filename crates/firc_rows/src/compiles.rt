@@ -2,7 +2,7 @@
 
 use fir_ast::{FirFault, Place};
 use fir_base::Refused;
-use fir_driver::compile;
+use fir_compile::compile;
 use std::test::Fail;
 
 const TEXT: &[u8] =

@@ -5,6 +5,7 @@ use fir_base::MemoryOut;
 use fir_driver::run;
 use fir_io::{CallFault, FailingCall, FileEntry, MemFiles, MemSink, SureFiles};
 use std::alloc::Global;
+use std::process::Abort;
 use std::test::Fail;
 
 /// Which call is to fail, counted from 0, and how.
@@ -53,7 +54,8 @@ const TICKS: &[u8] = b"- 1\n- 2\n";
 const USAGE: &[u8] =
     b"usage: firc check FILE | lower FILE | emit FILE | sim FILE TRACE [--state] | vsim VFILE TRACE [--state] [--order N] | gen N\n";
 
-const RUNS: &[Run] = &[
+/// Texts that are compiled or refused, and words that ask for nothing.
+const EMITS: &[Run] = &[
     (EMIT, XOR, b"", Failing::Nothing, 0, XOR_TEXT, b""),
     (
         EMIT,
@@ -99,15 +101,6 @@ const RUNS: &[Run] = &[
         1,
         b"",
         b"E28 4:12 loop o <- w <- o\n",
-    ),
-    (
-        SIM_STATE,
-        b"circuit T :\n  module T :\n    input clock : Clock\n    input reset : UInt<1>\n    input io : {a : UInt<4>, en : UInt<1>}\n    output o : UInt\n    reg r : UInt, clock with : (reset => (reset, UInt<4>(9)))\n    when io.en :\n      r <= xor(r, io.a)\n    o <= r\n",
-        b"- 1 5 1\n0 1 5 1\n0 0 3 1\n0 0 6 0\n",
-        Failing::Nothing,
-        0,
-        b"0 | 0\n0 | 9\n9 | a\na | a\n",
-        b"",
     ),
     (
         EMIT,
@@ -200,6 +193,28 @@ const RUNS: &[Run] = &[
         b"E07 1:16 version 3\n",
     ),
     (
+        EMIT,
+        b"circuit T :\n  module T :\n    input a : UInt<128>\n    input b : UInt<128>\n    output o : UInt<128>\n    o <= tail(add(a, b), 1)\n",
+        b"",
+        Failing::Nothing,
+        1,
+        b"",
+        b"E19 6:15 width over 128 add\n",
+    ),
+    (&[], XOR, b"", Failing::Nothing, 2, b"", USAGE),
+];
+
+const SIMULATIONS: &[Run] = &[
+    (
+        SIM_STATE,
+        b"circuit T :\n  module T :\n    input clock : Clock\n    input reset : UInt<1>\n    input io : {a : UInt<4>, en : UInt<1>}\n    output o : UInt\n    reg r : UInt, clock with : (reset => (reset, UInt<4>(9)))\n    when io.en :\n      r <= xor(r, io.a)\n    o <= r\n",
+        b"- 1 5 1\n0 1 5 1\n0 0 3 1\n0 0 6 0\n",
+        Failing::Nothing,
+        0,
+        b"0 | 0\n0 | 9\n9 | a\na | a\n",
+        b"",
+    ),
+    (
         SIM_STATE,
         ACCUMULATOR,
         b"init r c\n0 5\n0 3\n- f\n",
@@ -273,15 +288,6 @@ const RUNS: &[Run] = &[
         b"",
     ),
     (
-        EMIT,
-        b"circuit T :\n  module T :\n    input a : UInt<128>\n    input b : UInt<128>\n    output o : UInt<128>\n    o <= tail(add(a, b), 1)\n",
-        b"",
-        Failing::Nothing,
-        1,
-        b"",
-        b"E19 6:15 width over 128 add\n",
-    ),
-    (
         SIM,
         b"circuit T :\n  module T :\n    output o : SInt<4>\n    o <= SInt(\"h-8\")\n",
         b"-\n",
@@ -299,7 +305,10 @@ const RUNS: &[Run] = &[
         b"48\n",
         b"",
     ),
-    (&[], XOR, b"", Failing::Nothing, 2, b"", USAGE),
+];
+
+/// A call of the outside that fails.
+const FAILING_CALLS: &[Run] = &[
     (
         EMIT,
         XOR,
@@ -461,15 +470,29 @@ fn owned(alloc: Global, words: &[&str]) -> Result<Vec<String>, MemoryOut> {
     Ok(owned)
 }
 
-#[test]
-fn runs_end_as_they_are_to(rt: HostRuntime) -> Result<(), Fail> {
-    for (words, text, trace, failing, status, out, err) in RUNS {
-        let shown = outcome_of(rt.alloc(), words, text, trace, *failing)?;
+fn end_as_they_are_to(rt: &impl Abort, alloc: Global, runs: &[Run]) -> Result<(), Fail> {
+    for (words, text, trace, failing, status, out, err) in runs {
+        let shown = outcome_of(alloc, words, text, trace, *failing)?;
         assert_eq!(rt; shown.status, *status);
         assert_eq!(rt; shown.out.as_slice(), *out);
         assert_eq!(rt; shown.err.as_slice(), *err);
     }
     Ok(())
+}
+
+#[test]
+fn emits_end_as_they_are_to(rt: HostRuntime) -> Result<(), Fail> {
+    end_as_they_are_to(&rt, rt.alloc(), EMITS)
+}
+
+#[test]
+fn simulations_end_as_they_are_to(rt: HostRuntime) -> Result<(), Fail> {
+    end_as_they_are_to(&rt, rt.alloc(), SIMULATIONS)
+}
+
+#[test]
+fn calls_that_fail_are_told(rt: HostRuntime) -> Result<(), Fail> {
+    end_as_they_are_to(&rt, rt.alloc(), FAILING_CALLS)
 }
 
 /// A node of so many operations within each other.

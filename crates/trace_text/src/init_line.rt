@@ -18,7 +18,7 @@ use fir_bits::mask;
 use std::alloc::Global;
 
 /// A word of the state, by its place from 0, and its value.
-#[derive(Clone, Copy, Debug, PartialEq, Eq)]
+#[derive(Clone, Copy, PartialEq, Eq)]
 pub struct InitWord {
     pub place: usize,
     pub value: u128,

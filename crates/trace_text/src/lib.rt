@@ -25,8 +25,6 @@ mod places;
 mod shape;
 mod shape_rules;
 mod spelling;
-#[cfg(test)]
-mod tests;
 mod tick;
 mod tick_faults;
 mod tick_line;

@@ -12,6 +12,3 @@ mod writer;
 
 pub use laws::{layout_has_no_comment, layout_is_spelled};
 pub use writer::write_verilog;
-
-#[cfg(test)]
-mod tests;

@@ -4,12 +4,12 @@ use Rattle.std.specs.Prelude.{◌≡◌, ℕ, List, ◌⊎◌}
 use Rattle.fir_io.specs.declared.ports.FileFault.{FileFault}
 use Rattle.fir_io.specs.declared.ports.FileFault.TheVariants as file
 use Rattle.fir_io.specs.Ports.{SinkSeen, Rose, Grew}
-use Rattle.fir_driver.specs.declared.status.Status.{Status}
-use Rattle.fir_driver.specs.declared.status.Status.TheVariants as status
-use Rattle.fir_driver.specs.Outside.{Kept, GrewByFront, Tried}
-use Rattle.fir_driver.specs.Messages.{unread_line, too_long_line, unwritten_line, memory_line}
-use Rattle.fir_driver.specs.Emits.{Emits}
-use Rattle.fir_driver.specs.Refusals.{Refuses}
+use Rattle.fir_compile.specs.declared.status.Status.{Status}
+use Rattle.fir_compile.specs.declared.status.Status.TheVariants as status
+use Rattle.fir_compile.specs.Outside.{Kept, GrewByFront, Tried}
+use Rattle.fir_compile.specs.Messages.{unread_line, too_long_line, unwritten_line, memory_line}
+use Rattle.fir_compile.specs.Emits.{Emits}
+use Rattle.fir_compile.specs.Refusals.{Refuses}
 
 -- a line was put, which ends with the due status
 abbrev pub Said : List ℕ → Status → SinkSeen → SinkSeen → Status → Type 0

@@ -7,17 +7,17 @@ use Rattle.trace_text.specs.Shapes.{TraceShape}
 use Rattle.trace_text.specs.TraceSpells.{TraceSpells}
 use Rattle.trace_text.specs.BadLine.{BadLine}
 use Rattle.trace_text.specs.FaultTexts.{fault_text}
-use Rattle.fir_driver.specs.declared.status.Status.{Status}
-use Rattle.fir_driver.specs.declared.status.Status.TheVariants as status
-use Rattle.fir_driver.specs.declared.lines.Finish.{Finish}
-use Rattle.fir_driver.specs.declared.lines.Finish.TheVariants as finish
-use Rattle.fir_driver.specs.Messages.{unread_line, too_long_line, unwritten_line, memory_line}
-use Rattle.fir_driver.specs.Refusals.{Refuses}
-use Rattle.fir_driver.specs.Outside.{IsRead, Outside, limit, Kept, GrewByFront, Tried}
+use Rattle.fir_compile.specs.declared.status.Status.{Status}
+use Rattle.fir_compile.specs.declared.status.Status.TheVariants as status
+use Rattle.fir_compile.specs.declared.lines.Finish.{Finish}
+use Rattle.fir_compile.specs.declared.lines.Finish.TheVariants as finish
+use Rattle.fir_compile.specs.Messages.{unread_line, too_long_line, unwritten_line, memory_line}
+use Rattle.fir_compile.specs.Refusals.{Refuses}
+use Rattle.fir_compile.specs.Outside.{IsRead, Outside, limit, Kept, GrewByFront, Tried}
 use Rattle.fir_driver.specs.working.Endings.{Said, Complained}
-use Rattle.fir_driver.specs.Simulations.{SaysBadly, SaysFront}
-use Rattle.fir_driver.specs.working.Running.{Ran}
-use Rattle.fir_driver.specs.working.Made.{IsMadeOf}
+use Rattle.fir_compile.specs.Simulations.{SaysBadly, SaysFront}
+use Rattle.fir_compile.specs.working.Running.{Ran}
+use Rattle.fir_compile.specs.working.Made.{IsMadeOf}
 
 -- what is said of how the ticks ended
 abbrev pub FinishSaid : List ℕ → Finish → SinkSeen → SinkSeen → Status → Type 0

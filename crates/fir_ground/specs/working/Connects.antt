@@ -23,16 +23,17 @@ use Rattle.fir_leaf.specs.working.NodeBlocks.{Emitted}
 use Rattle.fir_leaf.specs.working.Nodes.{Grows}
 use Rattle.fir_meaning.specs.Targets as over
 use Rattle.fir_ground.specs.declared.ground.Ground.{Ground}
-use Rattle.fir_ground.specs.declared.pairs.LeafPair.{LeafPair as PairOfCode}
+use Rattle.fir_leaf_pairs.specs.declared.pairs.LeafPair.{LeafPair as PairOfCode}
 use Rattle.fir_ground.specs.declared.sides.Sides.{Sides as SidesOfCode}
-use Rattle.fir_ground.specs.declared.target.Target.{Target}
+use Rattle.fir_leaf_pairs.specs.declared.target.Target.{Target}
 use Rattle.fir_ground.specs.declared.walk.Walk.{Walk}
-use Rattle.fir_ground.specs.working.Drives.{HasSides, Stand, is_any_flipped, sinks_in}
+use Rattle.fir_leaf_pairs.specs.working.Drives.{HasSides, Stand, is_any_flipped, sinks_in}
 use Rattle.fir_ground.specs.working.Expressions.{MayName}
-use Rattle.fir_ground.specs.working.Grounds.{Comes, Enters, Names, types_in}
-use Rattle.fir_ground.specs.working.PairNumbers.{AreWithin}
-use Rattle.fir_ground.specs.working.Pairing.{pair_seen}
-use Rattle.fir_ground.specs.working.Reads.{IsWithinCost}
+use Rattle.fir_ground.specs.working.Grounds.{Comes, Enters, types_in}
+use Rattle.fir_leaf_pairs.specs.working.TargetNames.{Names}
+use Rattle.fir_leaf_pairs.specs.working.PairNumbers.{AreWithin}
+use Rattle.fir_leaf_pairs.specs.working.Pairing.{pair_seen}
+use Rattle.fir_leaf_pairs.specs.working.Reads.{IsWithinCost}
 
 -- both sides of a connect have come, the right one of that type
 pub record ShowsSides (ground : Ground) (typed : TypedScope) (rest : List Note) (old new : Walk) (sink : Sink) (e : Expression) (t : DataType)

@@ -8,9 +8,10 @@ use Rattle.fir_meaning.specs.Targets as over
 use Rattle.fir_meaning.specs.Terms.{Term}
 use Rattle.fir_ground.specs.declared.ground.Ground.{Ground}
 use Rattle.fir_ground.specs.declared.source.Source.{Source}
-use Rattle.fir_ground.specs.declared.target.Target.{Target}
+use Rattle.fir_leaf_pairs.specs.declared.target.Target.{Target}
 use Rattle.fir_ground.specs.declared.walk.Walk.{Walk}
-use Rattle.fir_ground.specs.working.Grounds.{Comes, Expands, Names, types_in}
+use Rattle.fir_ground.specs.working.Grounds.{Comes, Expands, types_in}
+use Rattle.fir_leaf_pairs.specs.working.TargetNames.{Names}
 
 -- behind a form, and this node stands for the term of its first leaf
 pub record ExpandsFirst (ground : Ground) (rest : List Note) (old new : Walk) (id : ℕ) (t : Term) : Type 0 where

@@ -1,5 +1,5 @@
 -- The walk over the expressions of a module: what it enters with, and what it comes to.
-use Rattle.std.specs.Prelude.{◌≡◌, ℕ, ◌<◌, ◌≤◌, List, map, Option, Some, None, slice_get, length}
+use Rattle.std.specs.Prelude.{◌≡◌, ℕ, ◌≤◌, List, map, Some, slice_get}
 use Rattle.fir_ast.specs.Types.{DataType}
 use Rattle.fir_meaning.specs.TypedScopes.{Known, TypedScope, known}
 use Rattle.fir_meaning.specs.CostGroup.{cost_limit}
@@ -7,15 +7,14 @@ use Rattle.fir_type_table.specs.working.Tables.{types_of}
 use Rattle.fir_types.specs.declared.note.Note.{Note as NoteOfCode}
 use Rattle.fir_types.specs.working.Notes.{Note, position_of}
 use Rattle.fir_types.specs.working.Noted.{note_seen, saturated_note}
-use Rattle.fir_types.specs.working.Seen.{found_type}
-use Rattle.fir_leaf.specs.declared.node.Node.{Node}
 use Rattle.fir_meaning.specs.Terms.{Term}
 use Rattle.fir_meaning.specs.Targets as over
 use Rattle.fir_meaning.specs.Targets.{leaves_ahead, leaves_so_far}
-use Rattle.fir_leaf.specs.working.Nodes.{Gives, Grows, entries, picks_at}
+use Rattle.fir_leaf.specs.working.Nodes.{Gives, Grows}
 use Rattle.fir_ground.specs.declared.ground.Ground.{Ground}
-use Rattle.fir_ground.specs.declared.target.Target.{Target}
+use Rattle.fir_leaf_pairs.specs.declared.target.Target.{Target}
 use Rattle.fir_ground.specs.declared.walk.Walk.{Walk}
+use Rattle.fir_leaf_pairs.specs.working.TargetNames.{Names}
 
 abbrev pub types_in : Ground → List DataType
 types_in ground = types_of ground.table.now
@@ -44,17 +43,6 @@ pub record Comes (ground : Ground) (rest : List Note) (old new : Walk) : Type 0 
 pub record Expands (ground : Ground) (rest : List Note) (old new : Walk) (ids : List ℕ) (ts : List Term) : Type 0 where
   pub comes : Comes ground rest old new
   pub gives : Gives old.nodes.items new.nodes.items ids ts
-
-abbrev pub PicksWithin : ℕ → Option ℕ → Type 0
-PicksWithin n None = Unit {0}
-PicksWithin n (Some i) = i < n
-
--- the code's target is this one of the definitions
-pub record Names (ts : List DataType) (nodes : List Node) (t : Target) (r : over.Target) : Type 0 where
-  pub base : t.base ≡ r.base
-  pub within : PicksWithin (length nodes) t.picks
-  pub picks : picks_at (entries nodes) t.picks ≡ r.picks
-  pub data_type : found_type ts t.found ≡ r.data_type
 
 -- behind a reference
 pub record Reaches (ground : Ground) (rest : List Note) (old new : Walk) (t : Target) (r : over.Target) : Type 0 where

@@ -15,9 +15,10 @@ use Rattle.fir_meaning.specs.Terms.{Picks, Term, no_picks, pick}
 use Rattle.fir_ground.specs.declared.ground.Ground.{Ground}
 use Rattle.fir_ground.specs.declared.references.Chain.{Chain}
 use Rattle.fir_ground.specs.declared.references.Index.{Index as IndexOfCode}
-use Rattle.fir_ground.specs.declared.target.Target.{Target}
+use Rattle.fir_leaf_pairs.specs.declared.target.Target.{Target}
 use Rattle.fir_ground.specs.declared.walk.Walk.{Walk}
-use Rattle.fir_ground.specs.working.Grounds.{Comes, PicksWithin}
+use Rattle.fir_ground.specs.working.Grounds.{Comes}
+use Rattle.fir_leaf_pairs.specs.working.TargetNames.{PicksWithin}
 
 -- where its expression stands, and the term of it
 pub record Index : Type 0 where

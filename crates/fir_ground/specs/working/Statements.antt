@@ -22,7 +22,7 @@ use Rattle.fir_meaning.specs.Targets.{leaves_so_far}
 use Rattle.fir_ground.specs.declared.frame.Frame.{Frame}
 use Rattle.fir_ground.specs.declared.walk.Walk.{Walk}
 use Rattle.fir_ground.specs.working.DeclarationDrivers.{DriverMeant, Driven, drivers_in, drivers_in_block}
-use Rattle.fir_ground.specs.working.Drives.{sinks_in}
+use Rattle.fir_leaf_pairs.specs.working.Drives.{sinks_in}
 use Rattle.fir_ground.specs.working.Grounds.{Ahead, types_in}
 
 -- the number of the first leaf of each that is declared, behind so many leaves

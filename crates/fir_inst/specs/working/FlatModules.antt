@@ -4,8 +4,8 @@ use Rattle.std.specs.List.{AllByRecursion}
 use Rattle.fir_meaning.specs.LeafModules.{LeafDeclared, LeafModule, LeafType, a_clock, leaf_at, number}
 use Rattle.fir_meaning.specs.LeafPaths.{path_text}
 use Rattle.ver_words.specs.Names.{is_word}
-use Rattle.fir_leaf_table.specs.declared.leaf_module.LeafModule.{LeafModule as ModuleOfCode}
-use Rattle.fir_leaf_table.specs.working.Seen.{HasView}
+use Rattle.fir_leaf_circuit.specs.declared.leaf_module.LeafModule.{LeafModule as ModuleOfCode}
+use Rattle.fir_leaf_circuit.specs.working.Seen.{HasView}
 use Rattle.fir_leaf_types.specs.working.TypedModules.{IsModuleTyped, held_in}
 use Rattle.fir_connect.specs.working.NetRoles.{net_role_at, net_types}
 use Rattle.fir_net.specs.declared.leaf.Leaf.{Leaf}

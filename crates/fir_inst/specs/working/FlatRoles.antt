@@ -3,9 +3,9 @@
 use Rattle.std.specs.Prelude.{ℕ, suc, ◌+◌, List, [], ◌∷◌, ◌++◌, length, max, Bool, false, nat_lt, if◌then◌else◌, Option, Some, None}
 use Rattle.fir_bits.specs.declared.types.NumTy.{NumTy}
 use Rattle.fir_driven.specs.working.Covering.{flag_at}
-use Rattle.fir_leaf_table.specs.declared.leaf.Leaf.{Leaf as ModuleLeaf}
-use Rattle.fir_leaf_table.specs.declared.leaf.LeafType.{LeafType}
-use Rattle.fir_leaf_table.specs.declared.leaf.LeafType.TheVariants.{Clock, Number}
+use Rattle.fir_leaf_circuit.specs.declared.leaf.Leaf.{Leaf as ModuleLeaf}
+use Rattle.fir_leaf_circuit.specs.declared.leaf.LeafType.{LeafType}
+use Rattle.fir_leaf_circuit.specs.declared.leaf.LeafType.TheVariants.{Clock, Number}
 use Rattle.fir_merge.specs.declared.bound.Bound.{Bound}
 use Rattle.fir_net.specs.declared.leaf.Leaf.{Leaf}
 use Rattle.fir_net.specs.declared.leaf.Reset.{Reset}

@@ -2,8 +2,8 @@
 -- They stand in the order of the declarations; behind the last mark nothing is marked.
 use Rattle.std.specs.Prelude.{◌≡◌, ℕ, ◌+◌, false, ◌||◌, List, [], ◌∷◌, slice_index_or}
 use Rattle.fir_leaf.specs.declared.node.Node.{Node}
-use Rattle.fir_leaf_table.specs.declared.leaf.Leaf.{Leaf}
-use Rattle.fir_leaf_table.specs.working.Seen.{leaf_seen, leaves_seen}
+use Rattle.fir_leaf_circuit.specs.declared.leaf.Leaf.{Leaf}
+use Rattle.fir_leaf_circuit.specs.working.Seen.{leaf_seen, leaves_seen}
 use Rattle.fir_meaning.specs.Flattened.{is_clock}
 use Rattle.fir_meaning.specs.LeafModules.{LeafDeclared}
 use Rattle.fir_meaning.specs.LeafedModules.{Scene, module_leaves}

@@ -13,7 +13,7 @@ use Rattle.fir_leaf_table.specs.declared.giver.ResetGiver.{ResetGiver}
 use Rattle.fir_leaf_table.specs.declared.places.Places.{Places}
 use Rattle.fir_leaf_table.specs.declared.places.Places.TheVariants as place
 use Rattle.fir_leaf_table.specs.declared.type_leaves.TypeLeaf.{TypeLeaf}
-use Rattle.fir_leaf_table.specs.working.Seen.{role_seen, type_seen}
+use Rattle.fir_leaf_circuit.specs.working.Seen.{role_seen, type_seen}
 
 abbrev pub direction_role : Direction → Bool → Role
 direction_role d flip = if is_source (flow_under flip (port_flow d)) then source else sink

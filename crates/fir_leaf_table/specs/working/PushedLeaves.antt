@@ -13,7 +13,7 @@ use Rattle.fir_leaf_table.specs.declared.type_leaves.TypeLeaf.{TypeLeaf}
 use Rattle.fir_leaf_table.specs.declared.walk.Walk.{Walk}
 use Rattle.fir_leaf_table.specs.working.Frames.{Frames, IsDeclaredAt}
 use Rattle.fir_leaf_table.specs.working.Givers.{given_from}
-use Rattle.fir_leaf_table.specs.working.Seen.{leaves_seen}
+use Rattle.fir_leaf_circuit.specs.working.Seen.{leaves_seen}
 use Rattle.fir_leaf_table.specs.working.TypedLeaves.{AreLeavesOf}
 
 -- the leaves are those of the declaration behind so many

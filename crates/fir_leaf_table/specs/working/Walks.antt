@@ -15,7 +15,7 @@ use Rattle.fir_meaning.specs.Targets.{leaves_so_far}
 use Rattle.fir_leaf_table.specs.declared.frame.Frame.{Frame}
 use Rattle.fir_leaf_table.specs.declared.walk.Walk.{Walk}
 use Rattle.fir_leaf_table.specs.working.Frames.{Frames}
-use Rattle.fir_leaf_table.specs.working.Seen.{array_seen, leaves_seen, memory_seen, unnamed, unnamed_array}
+use Rattle.fir_leaf_circuit.specs.working.Seen.{array_seen, leaves_seen, memory_seen, unnamed, unnamed_array}
 
 -- as many declarations, leaves and arrays are passed as stand before the place
 pub record Counts (s : Scene) (before : Before) (walk : Walk) : Type 0 where

@@ -60,10 +60,9 @@ abbrev pub operator_or : Option PrimOp → Applied → Applied
 operator_or (Some o) otherwise = applied.Operator o
 operator_or None otherwise = otherwise
 
--- a word before an opening parenthesis in an expression
-abbrev pub applied_of : List ℕ → Applied
-applied_of w =
-    operator_or (operator_of w) (
+-- a word before an opening parenthesis in an expression, where it is no operator
+abbrev pub other_applied_of : List ℕ → Applied
+other_applied_of w =
     if bytes_eq w (codes "mux") then applied.Mux
     else if bytes_eq w (codes "validif") then applied.Validif
     else if bytes_eq w (codes "UInt") then applied.UInt
@@ -77,7 +76,11 @@ applied_of w =
     else if bytes_eq w (codes "wrap") then applied.Missing
     else if bytes_eq w (codes "clip") then applied.Missing
     else if bytes_eq w (codes "squz") then applied.Missing
-    else applied.Name)
+    else applied.Name
+
+-- and any word there
+abbrev pub applied_of : List ℕ → Applied
+applied_of w = operator_or (operator_of w) (other_applied_of w)
 
 abbrev pub plain_field_word : List ℕ → FieldWord
 plain_field_word w =

@@ -3,11 +3,11 @@ use Rattle.std.specs.Prelude.{◌≡◌, ℕ, ◌<◌, List, map, length, Bool, 
 use Rattle.fir_meaning.specs.Choices.{covers_all}
 use Rattle.fir_meaning.specs.LeafModules.{is_sink}
 use Rattle.fir_leaf.specs.working.NodeBlocks.{block_in}
-use Rattle.fir_leaf_table.specs.declared.leaf.Leaf.{Leaf}
-use Rattle.fir_leaf_table.specs.declared.leaf.LeafRole.{LeafRole}
-use Rattle.fir_leaf_table.specs.declared.leaf.LeafRole.TheVariants as role
-use Rattle.fir_leaf_table.specs.declared.leaf_module.LeafModule.{LeafModule}
-use Rattle.fir_expand.specs.working.LeafStores.{depth_in, leaf_of_code}
+use Rattle.fir_leaf_circuit.specs.declared.leaf.Leaf.{Leaf}
+use Rattle.fir_leaf_circuit.specs.declared.leaf.LeafRole.{LeafRole}
+use Rattle.fir_leaf_circuit.specs.declared.leaf.LeafRole.TheVariants as role
+use Rattle.fir_leaf_circuit.specs.declared.leaf_module.LeafModule.{LeafModule}
+use Rattle.fir_leaf_circuit.specs.working.LeafStores.{depth_in, leaf_of_code}
 
 abbrev pub is_sink_role : LeafRole → Bool
 is_sink_role role.Sink = true

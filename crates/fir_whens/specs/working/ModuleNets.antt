@@ -6,9 +6,9 @@ use Rattle.fir_meaning.specs.LeafModules.{LeafModule, number_type}
 use Rattle.fir_meaning.specs.LeafedModules.{Scene, leafed_module}
 use Rattle.fir_meaning.specs.Scenes.{IsSceneOf}
 use Rattle.fir_leaf_types.specs.working.TypedModules.{IsModuleTyped}
-use Rattle.fir_leaf_table.specs.declared.leaf.Leaf.{Leaf}
-use Rattle.fir_leaf_table.specs.declared.leaf_module.LeafModule.{LeafModule as ModuleOfCode}
-use Rattle.fir_leaf_table.specs.working.Seen.{type_seen}
+use Rattle.fir_leaf_circuit.specs.declared.leaf.Leaf.{Leaf}
+use Rattle.fir_leaf_circuit.specs.declared.leaf_module.LeafModule.{LeafModule as ModuleOfCode}
+use Rattle.fir_leaf_circuit.specs.working.Seen.{type_seen}
 use Rattle.fir_connect.specs.working.NetRoles.{net_role_at, net_types}
 use Rattle.fir_whens.specs.declared.module_net.ModuleNet.{ModuleNet}
 use Rattle.fir_whens.specs.declared.net_role.NetRole.{NetRole}

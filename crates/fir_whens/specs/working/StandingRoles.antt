@@ -3,11 +3,11 @@ use Rattle.std.specs.Prelude.{◌≡◌, ℕ, List, length, Bool, true, false, O
 use Rattle.fir_bits.specs.Forms.{no_type}
 use Rattle.fir_leaf.specs.declared.node.Node.{Node as LeafNode}
 use Rattle.fir_leaf.specs.working.Nodes.{entries}
-use Rattle.fir_leaf_table.specs.declared.leaf.Leaf.{Leaf}
-use Rattle.fir_leaf_table.specs.declared.leaf.LeafRole.{LeafRole}
-use Rattle.fir_leaf_table.specs.declared.leaf.LeafRole.TheVariants as leafed
-use Rattle.fir_leaf_table.specs.declared.leaf.ResetRole.{ResetRole}
-use Rattle.fir_leaf_table.specs.working.Seen.{reading_seen, role_seen}
+use Rattle.fir_leaf_circuit.specs.declared.leaf.Leaf.{Leaf}
+use Rattle.fir_leaf_circuit.specs.declared.leaf.LeafRole.{LeafRole}
+use Rattle.fir_leaf_circuit.specs.declared.leaf.LeafRole.TheVariants as leafed
+use Rattle.fir_leaf_circuit.specs.declared.leaf.ResetRole.{ResetRole}
+use Rattle.fir_leaf_circuit.specs.working.Seen.{reading_seen, role_seen}
 use Rattle.fir_leaf_types.specs.working.TypedModules.{IsRoleTyped}
 use Rattle.fir_meaning.specs.LeafBlocks.{LeafBlock}
 use Rattle.fir_meaning.specs.LeafModules.{LeafType}

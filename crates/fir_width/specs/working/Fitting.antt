@@ -13,7 +13,7 @@ use Rattle.fir_meaning.specs.WidthRules.{AreWidths}
 use Rattle.fir_meaning.specs.OverFaults.{over_faults}
 use Rattle.fir_meaning.specs.LegalFaults.{legal_faults}
 use Rattle.fir_meaning.specs.working.WidthLaws.{FitsAll}
-use Rattle.fir_width.specs.working.Bounds.{assigned}
+use Rattle.fir_meaning.specs.working.AssignedWidths.{assigned}
 use Rattle.fir_width.specs.working.DeclaredWidths.{leaf_widths}
 
 -- the widths of a circuit fit, and the code has that of each leaf that is declared

@@ -7,7 +7,7 @@ use Rattle.fir_meaning.specs.SizedTypes.{Sized, bare_type}
 use Rattle.fir_types.specs.working.Seen.{found_type}
 use Rattle.fir_width.specs.declared.side.Side.{Side}
 use Rattle.fir_width.specs.working.FlatWidths.{flat}
-use Rattle.fir_width.specs.working.Numbered.{Stands}
+use Rattle.fir_width.specs.working.StandingWidths.{Stands}
 
 -- the type is that of the sized type, whose leaves stand from the number on
 pub record IsSide (ts : List DataType) (meant : List Width) (side : Side) (s : Sized) : Type 0 where

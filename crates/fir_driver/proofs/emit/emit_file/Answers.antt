@@ -1,4 +1,4 @@
-use Rattle.fir_driver.specs.Outside.{IsRead, outside}
+use Rattle.fir_compile.specs.Outside.{IsRead, outside}
 use Rattle.fir_driver.proofs.EmitEnded.{untaken_ended, emitted_ended}
 use Rattle.fir_driver.proofs.emit.emit_file.Goals as goal
 

@@ -1,5 +1,5 @@
 use Rattle.std.proofs.Common.{inl, inr}
-use Rattle.fir_driver.specs.Outside.{IsRead, outside}
+use Rattle.fir_compile.specs.Outside.{IsRead, outside}
 use Rattle.fir_driver.proofs.TraceEnded.{untaken_ended}
 use Rattle.fir_driver.proofs.simulation.simulate_net.Goals as goal
 

@@ -7,7 +7,7 @@ use Rattle.fir_types.specs.declared.found.Found.{Found}
 use Rattle.fir_types.specs.declared.note.Note.{Note}
 use Rattle.fir_types.specs.working.Noted.{note_seen}
 use Rattle.fir_types.specs.working.Seen.{seen}
-use Rattle.fir_width.proofs.CircuitWalks.{found_of, read_is}
+use Rattle.fir_width.proofs.FoundModules.{found_of, read_is}
 use Rattle.fir_expand.specs.working.OwnSums.{plain_cost_of_block}
 use Rattle.fir_expand.proofs.OwnCostsFound.{cost_found, tree_read}
 use Rattle.fir_expand.proofs.own_costs.own_cost.Goals as goal

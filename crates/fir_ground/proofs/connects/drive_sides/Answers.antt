@@ -1,6 +1,6 @@
 use Rattle.std.proofs.Common.{subst}
 use Rattle.fir_type_table.specs.working.Tables.{types_of}
-use Rattle.fir_ground.specs.working.Drives.{DrivesPairs}
+use Rattle.fir_leaf_pairs.specs.working.Drives.{DrivesPairs}
 use Rattle.fir_ground.proofs.Connecting.{sides_driven}
 use Rattle.fir_ground.proofs.connects.drive_sides.Goals as goal
 

@@ -1,5 +1,5 @@
 use Rattle.fir_ast.specs.View.{sink_of}
-use Rattle.fir_ground.specs.working.Drives.{sinks_in}
+use Rattle.fir_leaf_pairs.specs.working.Drives.{sinks_in}
 use Rattle.fir_ground.proofs.Connecting.{invalid_comes}
 use Rattle.fir_ground.proofs.connects.in_invalid.Goals as goal
 

@@ -6,10 +6,10 @@ use Rattle.fir_meaning.specs.LeafPairs.{partial_leaf_pairs}
 use Rattle.fir_types.specs.working.Seen.{found_type}
 use Rattle.fir_ground.specs.working.Connects.{MayDriveSides}
 use Rattle.fir_ground.specs.working.Grounds.{types_in}
-use Rattle.fir_ground.specs.working.Pairing.{pair_seen}
+use Rattle.fir_leaf_pairs.specs.working.Pairing.{pair_seen}
 use Rattle.fir_ground.proofs.ConnectCosts.{sink_count, size_count}
 use Rattle.fir_ground.proofs.Connecting.{connect_comes, left_is, pairs_are}
-use Rattle.fir_ground.proofs.PairNumbers.{partial_within}
+use Rattle.fir_leaf_pairs.proofs.PairNumbers.{partial_within}
 use Rattle.fir_ground.proofs.connects.in_partial_connect.Goals as goal
 
 pub returns : goal.returns

@@ -4,7 +4,7 @@ use Rattle.fir_leaf.specs.declared.node.Node.TheVariants as node
 use Rattle.fir_meaning.specs.Terms.{literal}
 use Rattle.fir_ground.specs.working.Grounds.{types_in}
 use Rattle.fir_ground.proofs.Coming.{form_expands}
-use Rattle.fir_ground.proofs.Giving.{gives_one, shows_new}
+use Rattle.fir_leaf_pairs.proofs.Giving.{gives_one, shows_new}
 use Rattle.fir_ground.proofs.forms.on_literal.Goals as goal
 
 pub returns : goal.returns

@@ -5,7 +5,7 @@ use Rattle.fir_leaf.specs.working.Nodes.{node_term}
 use Rattle.fir_meaning.specs.Terms.{operation, terms_of}
 use Rattle.fir_ground.specs.working.Grounds.{types_in}
 use Rattle.fir_ground.proofs.Coming.{form_expands}
-use Rattle.fir_ground.proofs.Giving.{gives_one, shows_new}
+use Rattle.fir_leaf_pairs.proofs.Giving.{gives_one, shows_new}
 use Rattle.fir_ground.proofs.forms.on_operation.Goals as goal
 
 pub returns : goal.returns

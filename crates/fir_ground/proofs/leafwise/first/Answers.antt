@@ -1,4 +1,4 @@
-use Rattle.fir_ground.proofs.Giving.{first_none}
+use Rattle.fir_leaf_pairs.proofs.Giving.{first_none}
 use Rattle.fir_ground.proofs.leafwise.first.Goals as goal
 
 pub returns-in_ok-add-in-None : goal.returns-in_ok-add-in-None

@@ -1,7 +1,7 @@
 use Rattle.std.proofs.Common.{length}
 use Rattle.std.proofs.lemmas.List.{length_push}
 use Rattle.std.proofs.lemmas.Slice.Zip.{zip_end, zip_turn}
-use Rattle.fir_ground.proofs.Giving.{gives_none, mux_end, mux_more}
+use Rattle.fir_leaf_pairs.proofs.Giving.{gives_none, mux_end, mux_more}
 use Rattle.fir_ground.proofs.leafwise.mux_all.Goals as goal
 
 pub loop-one-init : goal.loop-one-init

@@ -1,5 +1,5 @@
 use Rattle.std.proofs.Common.{refl}
-use Rattle.fir_ground.proofs.Giving.{validif_more}
+use Rattle.fir_leaf_pairs.proofs.Giving.{validif_more}
 use Rattle.fir_ground.proofs.leafwise.validif_all.Goals as goal
 
 pub loop-value-preserved : goal.loop-value-preserved

@@ -1,6 +1,6 @@
 use Rattle.std.proofs.Common.{◌≡◌, ◌+◌, subst, arith}
 use Rattle.fir_leaf.specs.working.Nodes.{Gives}
-use Rattle.fir_ground.specs.working.Reads.{reads_from}
+use Rattle.fir_leaf_pairs.specs.working.Reads.{reads_from}
 use Rattle.fir_ground.proofs.ReadTargets.{read_more, read_none}
 use Rattle.fir_ground.proofs.reads.read_from.Goals as goal
 

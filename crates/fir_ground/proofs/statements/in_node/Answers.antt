@@ -1,4 +1,4 @@
-use Rattle.std.proofs.Common.{◌++◌, ap, ◌∙◌}
+use Rattle.std.proofs.Common.{◌++◌, ap, ◌∙◌, [], ◌∷◌}
 use Rattle.std.proofs.lemmas.Result.{on_ok_weaker}
 use Rattle.fir_ast.specs.View.{expr_of}
 use Rattle.fir_meaning.specs.Components.{node}
@@ -6,11 +6,10 @@ use Rattle.fir_meaning.specs.TypeGroup.{scope_at}
 use Rattle.fir_meaning.specs.Visibility.{declaration_at}
 use Rattle.fir_types.specs.working.Notes.{expression_notes}
 use Rattle.fir_types.proofs.KnownScopes.{begins_before}
-use Rattle.std.proofs.Common.{[], ◌∷◌}
 use Rattle.fir_meaning.specs.Leafed.{terms}
 use Rattle.fir_ground.specs.declared.driver.Driver.TheVariants.{Node}
 use Rattle.fir_ground.specs.working.DeclarationDrivers.{node_terms}
-use Rattle.fir_ground.proofs.Giving.{all_keep}
+use Rattle.fir_leaf_pairs.proofs.Giving.{all_keep}
 use Rattle.fir_ground.proofs.PlaceWalks.{declared_behind, enters_place}
 use Rattle.fir_ground.proofs.statements.in_node.Goals as goal
 

@@ -14,8 +14,8 @@ use Rattle.fir_ground.specs.declared.driver.Driver.TheVariants.{Register}
 use Rattle.fir_ground.specs.working.DeclarationDrivers.{register_terms, reset_seen, reset_terms}
 use Rattle.fir_ground.specs.working.Grounds.{Enters}
 use Rattle.fir_ground.proofs.Connecting.{comes_on}
-use Rattle.fir_ground.proofs.Entries.{grows_on}
-use Rattle.fir_ground.proofs.Giving.{term_keeps}
+use Rattle.fir_leaf_pairs.proofs.Entries.{grows_on}
+use Rattle.fir_leaf_pairs.proofs.Giving.{term_keeps}
 use Rattle.fir_ground.proofs.FramedScopes.{frames_stand}
 use Rattle.fir_ground.proofs.PlaceWalks.{declared_behind, enters_place}
 use Rattle.fir_ground.proofs.statements.in_register.Goals as goal

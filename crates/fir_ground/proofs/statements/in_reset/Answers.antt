@@ -9,8 +9,8 @@ use Rattle.fir_ground.specs.working.DeclarationDrivers.{ResetMeant}
 use Rattle.fir_ground.specs.working.Grounds.{Enters, types_in}
 use Rattle.fir_ground.specs.working.ResetKinds.{KindMeant, kind_of_reset, kind_seen}
 use Rattle.fir_ground.proofs.Connecting.{comes_on}
-use Rattle.fir_ground.proofs.Entries.{grows_on}
-use Rattle.fir_ground.proofs.Giving.{all_keep, term_keeps}
+use Rattle.fir_leaf_pairs.proofs.Entries.{grows_on}
+use Rattle.fir_leaf_pairs.proofs.Giving.{all_keep, term_keeps}
 use Rattle.fir_ground.proofs.NotesLast.{own_last, own_note}
 use Rattle.fir_ground.proofs.ResetKinds.{told}
 use Rattle.fir_ground.proofs.statements.in_reset.Goals as goal

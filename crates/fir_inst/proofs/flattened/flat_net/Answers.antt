@@ -8,7 +8,7 @@ use Rattle.fir_meaning.specs.NameGroups.{HasNames}
 use Rattle.fir_meaning.specs.Scenes.{HasScenes}
 use Rattle.fir_meaning.specs.TypeGroup.{type_faults}
 use Rattle.fir_names.specs.working.ModuleOrder.{IsModuleOrder}
-use Rattle.fir_leaf_table.specs.working.Leafed.{AreLeafed}
+use Rattle.fir_leaf_circuit.specs.working.Leafed.{AreLeafed}
 use Rattle.fir_leaf_text.specs.working.TextsOfLeaves.{AreTextsOf}
 use Rattle.fir_whens.specs.working.ModuleNets.{AreAllTyped}
 use Rattle.fir_inst.proofs.FlatCircuits.{IsHeld, flat_of}

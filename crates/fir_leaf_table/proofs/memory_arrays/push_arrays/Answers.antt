@@ -1,9 +1,9 @@
 use Rattle.std.proofs.Common.{◌≡◌, ◌<◌, ◌≤◌, false, get_or, length, ap, sym, ◌∙◌}
 use Rattle.std.proofs.lemmas.List.{length-map}
-use Rattle.fir_leaf_table.specs.declared.array.LeafArray.{LeafArray}
-use Rattle.fir_leaf_table.specs.declared.leaf.LeafType.{LeafType}
-use Rattle.fir_leaf_table.specs.declared.leaf.LeafType.TheVariants.{Number}
-use Rattle.fir_leaf_table.specs.working.Seen.{type_seen}
+use Rattle.fir_leaf_circuit.specs.declared.array.LeafArray.{LeafArray}
+use Rattle.fir_leaf_circuit.specs.declared.leaf.LeafType.{LeafType}
+use Rattle.fir_leaf_circuit.specs.declared.leaf.LeafType.TheVariants.{Number}
+use Rattle.fir_leaf_circuit.specs.working.Seen.{type_seen}
 use Rattle.fir_leaf_table.proofs.ArraysLeft.{array_same, arrays_done, arrays_next}
 use Rattle.fir_leaf_table.proofs.memory_arrays.push_arrays.Goals as goal
 

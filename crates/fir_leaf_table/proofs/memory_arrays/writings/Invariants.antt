@@ -1,6 +1,6 @@
 use Rattle.std.proofs.Common.{length, map}
 use Rattle.fir_meaning.specs.LeafMemories.{writings_from}
-use Rattle.fir_leaf_table.specs.working.Seen.{writing_seen}
+use Rattle.fir_leaf_circuit.specs.working.Seen.{writing_seen}
 use Rattle.fir_leaf_table.proofs.PortsLeft.{PortsLeft}
 use Rattle.fir_leaf_table.proofs.memory_arrays.writings.Given as goal
 

@@ -13,10 +13,10 @@ use Rattle.fir_meaning.specs.LeafMemories.{arrays_of, leaves_of_data, memory_beh
 use Rattle.fir_meaning.specs.LeafModules.{source}
 use Rattle.fir_leaf_table.specs.declared.giver.Giver.TheVariants as giver
 use Rattle.fir_leaf_table.specs.declared.places.Places.TheVariants as places
-use Rattle.fir_leaf_table.specs.declared.leaf_module.MemoryClocks.{MemoryClocks}
+use Rattle.fir_leaf_circuit.specs.declared.leaf_module.MemoryClocks.{MemoryClocks}
 use Rattle.fir_leaf_table.specs.declared.walk.Walk.{Walk}
 use Rattle.fir_leaf_table.specs.working.Memories.{IsMemory}
-use Rattle.fir_leaf_table.specs.working.Seen.{role_seen}
+use Rattle.fir_leaf_circuit.specs.working.Seen.{role_seen}
 use Rattle.fir_leaf_table.proofs.DeclarationWalks.{leaves_come}
 use Rattle.fir_leaf_table.proofs.MemoryWalks.{data_held, memory_here, memory_ready}
 use Rattle.fir_leaf_table.proofs.NextDrivers.{takes_rest}

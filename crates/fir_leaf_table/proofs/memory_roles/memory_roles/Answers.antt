@@ -2,7 +2,7 @@ use Rattle.std.proofs.Common.{◌+◌, ◌<◌, ◌≤◌, map, get_or, length, 
 use Rattle.fir_meaning.specs.LeafMemories.{port_roles, port_size, roles_from}
 use Rattle.fir_leaf_table.specs.declared.memory.MemoryPort.TheVariants.{Reads}
 use Rattle.fir_leaf_table.specs.working.Memories.{port_seen}
-use Rattle.fir_leaf_table.specs.working.Seen.{role_seen}
+use Rattle.fir_leaf_circuit.specs.working.Seen.{role_seen}
 use Rattle.fir_leaf_table.proofs.PortsLeft.{ports_done, ports_next, same_ports}
 use Rattle.fir_leaf_table.proofs.memory_roles.memory_roles.Goals as goal
 

@@ -3,7 +3,7 @@ use Rattle.fir_leaf.specs.declared.node.Node.{Node}
 use Rattle.fir_meaning.specs.LeafMemories.{LeafMemory, roles_from}
 use Rattle.fir_meaning.specs.LeafModules.{LeafType}
 use Rattle.fir_leaf_table.specs.working.Memories.{IsMemory}
-use Rattle.fir_leaf_table.specs.working.Seen.{role_seen}
+use Rattle.fir_leaf_circuit.specs.working.Seen.{role_seen}
 use Rattle.fir_leaf_table.proofs.PortsLeft.{PortsLeft}
 use Rattle.fir_leaf_table.proofs.memory_roles.memory_roles.Given as goal
 

@@ -9,7 +9,7 @@ use Rattle.fir_meaning.specs.Visibility.{declarations}
 use Rattle.fir_names.specs.working.Tabulated.{Tabulates}
 use Rattle.fir_types.specs.declared.found.Found.{Found}
 use Rattle.fir_types.specs.working.TypedModules.{IsTyped}
-use Rattle.fir_width.proofs.CircuitWalks.{found_of, read_is}
+use Rattle.fir_width.proofs.FoundModules.{found_of, read_is}
 use Rattle.fir_leaf_table.proofs.ModuleFrames.{framed}
 use Rattle.fir_leaf_table.proofs.module_frame.frame_of.Goals as goal
 

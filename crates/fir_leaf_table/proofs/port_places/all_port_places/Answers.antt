@@ -6,7 +6,7 @@ use Rattle.fir_ast.specs.View.{circuit_of, module_of, port_of}
 use Rattle.fir_type_table.specs.working.Tables.{types_of}
 use Rattle.fir_types.specs.declared.found.Found.{Found}
 use Rattle.fir_types.specs.working.TypedModules.{IsTyped}
-use Rattle.fir_width.proofs.CircuitWalks.{found_of, read_is}
+use Rattle.fir_width.proofs.FoundModules.{found_of, read_is}
 use Rattle.fir_leaf_table.specs.working.ModulePlaces.{ArePlacesOf, places_of}
 use Rattle.fir_leaf_table.specs.working.PortPlaces.{HaveTypes}
 use Rattle.fir_leaf_table.proofs.FoundPlaces.{all_places_more, ports_in_front}

@@ -1,7 +1,7 @@
 use Rattle.std.proofs.Common.{◌≡◌, ◌+◌, ◌++◌, map, ap, ◌∙◌, arith}
 use Rattle.fir_meaning.specs.LeafMemories.{sinks}
-use Rattle.fir_leaf_table.specs.declared.leaf.LeafRole.TheVariants.{Sink}
-use Rattle.fir_leaf_table.specs.working.Seen.{role_seen}
+use Rattle.fir_leaf_circuit.specs.declared.leaf.LeafRole.TheVariants.{Sink}
+use Rattle.fir_leaf_circuit.specs.working.Seen.{role_seen}
 use Rattle.fir_leaf_table.proofs.ReadLeaves.{put_more, sinks_more}
 use Rattle.fir_leaf_table.proofs.port_roles.put_sinks.Goals as goal
 

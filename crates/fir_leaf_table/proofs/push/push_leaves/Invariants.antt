@@ -1,7 +1,7 @@
 use Rattle.std.proofs.Common.{◌≡◌, List, ◌++◌, drop, length}
 use Rattle.fir_leaf.specs.declared.node.Node.{Node}
 use Rattle.fir_leaf_table.specs.working.Givers.{given_from}
-use Rattle.fir_leaf_table.specs.working.Seen.{leaves_seen}
+use Rattle.fir_leaf_circuit.specs.working.Seen.{leaves_seen}
 use Rattle.fir_leaf_table.proofs.push.push_leaves.Given as goal
 
 abbrev pub invariant-loop-k : goal.invariant-loop-k

@@ -1,5 +1,5 @@
 use Rattle.std.proofs.Common.{◌≡◌, map, take}
-use Rattle.fir_leaf_table.specs.declared.leaf.Leaf.{Leaf}
+use Rattle.fir_leaf_circuit.specs.declared.leaf.Leaf.{Leaf}
 use Rattle.fir_whens.proofs.module.depths_of.Given as goal
 
 abbrev pub invariant-loop-leaf : goal.invariant-loop-leaf

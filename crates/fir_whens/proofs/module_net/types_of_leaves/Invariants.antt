@@ -1,6 +1,6 @@
 use Rattle.std.proofs.Common.{◌≡◌, map, take}
-use Rattle.fir_leaf_table.specs.declared.leaf.Leaf.{Leaf}
-use Rattle.fir_leaf_table.specs.working.Seen.{type_seen}
+use Rattle.fir_leaf_circuit.specs.declared.leaf.Leaf.{Leaf}
+use Rattle.fir_leaf_circuit.specs.working.Seen.{type_seen}
 use Rattle.fir_meaning.specs.LeafModules.{number_type}
 use Rattle.fir_whens.proofs.module_net.types_of_leaves.Given as goal
 

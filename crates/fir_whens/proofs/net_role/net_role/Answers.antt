@@ -1,5 +1,5 @@
 use Rattle.std.proofs.Common.{sym, subst}
-use Rattle.fir_leaf_table.specs.declared.leaf.LeafRole.{LeafRole}
+use Rattle.fir_leaf_circuit.specs.declared.leaf.LeafRole.{LeafRole}
 use Rattle.fir_whens.specs.declared.net_role.NetRole.TheVariants as code
 use Rattle.fir_whens.specs.working.StandingRoles.{IsRoleOf}
 use Rattle.fir_whens.proofs.ReadRoles.{computed_role, register_role}

@@ -1,7 +1,7 @@
 use Rattle.std.proofs.Common.{rules, ◌≡◌, subst}
 use Rattle.fir_ast.specs.View.{circuit_of}
 use Rattle.fir_meaning.specs.WidthExpressions.{width_of}
-use Rattle.fir_width.specs.working.Bounds.{assigned}
+use Rattle.fir_meaning.specs.working.AssignedWidths.{assigned}
 use Rattle.fir_width.specs.working.Fitting.{HasWidths}
 use Rattle.fir_width.proofs.FittedWidths.{found_width}
 use Rattle.fir_width.proofs.fitted.Widths.of.Goals as goal

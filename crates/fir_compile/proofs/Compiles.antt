@@ -1,0 +1,70 @@
+-- What a circuit compiles to, by way of its net.
+use Rattle.std.proofs.Common.{◌≡◌, ℕ, List, ◌∙◌, subst}
+use Rattle.fir_ast.specs.Circuits.{CircuitTree}
+use Rattle.fir_meaning.specs.Elaborated.{IsSourceOf}
+use Rattle.fir_meaning.specs.SourceCircuits.{source_shape}
+use Rattle.fir_meaning.specs.SourceDesigns.{SourceDesign}
+use Rattle.fir_net.specs.declared.net.FlatNet.{FlatNet}
+use Rattle.fir_net.specs.Rows.{net_rows, net_words}
+use Rattle.fir_net.specs.working.Laws.{NodesHaveTheirTypes}
+use Rattle.fir_net.specs.working.One.{One as NetOne}
+use Rattle.fir_inst.specs.SourceRows.{source_rows}
+use Rattle.fir_inst.specs.working.FlattensTo.{FlattensTo, MeansSource}
+use Rattle.ver_ast.specs.declared.tree.Verilog.{Verilog}
+use Rattle.ver_ast.specs.Allows.{VAllows}
+use Rattle.ver_ast.specs.Nets.{shape as v_shape}
+use Rattle.ver_build.specs.NamedFor.{IsNamedFor}
+use Rattle.ver_build.specs.working.Builds.{Builds}
+use Rattle.fir_compile.specs.Compiles.{Compiles, CompilesTo}
+use Rattle.fir_compile.specs.Runs.{RunsOnce}
+use Rattle.fir_compile.specs.Sources.{SourceAllows}
+use Rattle.fir_compile.proofs.AllRuns.{Includes, same_once, same_runs}
+use Rattle.fir_compile.proofs.SourceRuns.{from_net, source_one, source_runs_once, to_net}
+use Rattle.fir_compile.proofs.TakenBlocks.{blocks_are}
+
+module _ (types : NodesHaveTheirTypes) (c : CircuitTree) (net : FlatNet) (flat : FlattensTo c net) (one : NetOne net) (v : Verilog) (made : Builds net v) where
+  module _ (t : SourceDesign) (is : IsSourceOf c t) where
+    means : MeansSource t net
+    means = flat.each t is
+
+    shapes : v_shape v ≡ source_shape t
+    shapes = made.shapes ∙ means.shapes
+
+    forth : Includes (VAllows v) (SourceAllows t)
+    forth s k o n x = from_net c net flat one t is s k o n ((made.allows s k o n).0 x)
+
+    back : Includes (SourceAllows t) (VAllows v)
+    back s k o n x = (made.allows s k o n).1 (to_net c net flat one t is s k o n x)
+
+    runs_once : RunsOnce (source_shape t) (SourceAllows t)
+    runs_once = source_runs_once c net flat one t is types
+
+    v_runs_once : RunsOnce (v_shape v) (VAllows v)
+    v_runs_once =
+        same_once (SourceAllows t) (VAllows v) (source_shape t) (v_shape v) shapes (same_runs (SourceAllows t) (VAllows v) back)
+        (same_runs (VAllows v) (SourceAllows t) forth) runs_once
+
+    compiles_to : CompilesTo c.named.name t v
+    compiles_to = record {
+      named =
+          subst (λ words. IsNamedFor c.named.name (source_rows t) words v) means.words
+          (subst (λ rows. IsNamedFor c.named.name rows (net_words net) v) means.ports
+          (subst (λ name. IsNamedFor name (net_rows net) (net_words net) v) flat.named made.named));
+      shapes = shapes;
+      one = source_one c net flat one t is;
+      allows = λ s k o n. (forth s k o n, back s k o n);
+      runs = λ s ks os. (same_runs (VAllows v) (SourceAllows t) forth s ks os, same_runs (SourceAllows t) (VAllows v) back s ks os);
+      runs_once = runs_once;
+    }
+
+  pub compiles : Compiles c v
+  compiles = record {
+    arranged = made.arranged;
+    driven = λ s scene. blocks_are net flat.clocked made.arranged.driven made.driven ∙ flat.taken s scene;
+    valid = made.valid;
+    v_one = made.one;
+    v_runs_once = v_runs_once flat.source flat.is_source;
+    source = flat.source;
+    is_source = flat.is_source;
+    each = compiles_to;
+  }

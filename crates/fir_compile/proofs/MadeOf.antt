@@ -1,0 +1,45 @@
+-- What a simulation of a text is made of, by way of the circuit's net.
+use Rattle.std.proofs.Common.{ℕ, List, [], ◌++◌, ◌∙◌, subst, map}
+use Rattle.fir_ast.specs.Circuits.{CircuitTree}
+use Rattle.fir_parse.specs.working.Laws.{SpellsOneTree}
+use Rattle.fir_meaning.specs.Elaborated.{IsSourceOf}
+use Rattle.fir_meaning.specs.SourceDesigns.{SourceDesign}
+use Rattle.fir_net.specs.declared.net.FlatNet.{FlatNet}
+use Rattle.fir_net.specs.Names.{AreNamed}
+use Rattle.fir_net.specs.Rows.{Row, Word, net_rows, net_words, row_names, word_names}
+use Rattle.fir_inst.specs.SourceRows.{source_rows}
+use Rattle.fir_inst.specs.working.FlattensTo.{FlattensTo, MeansSource}
+use Rattle.ver_build.specs.working.Laws.{NamesAreForRows}
+use Rattle.trace_text.specs.Shapes.{TraceShape}
+use Rattle.fir_sim.specs.working.Shapes.{IsShapeOf}
+use Rattle.fir_compile.specs.Traces.{IsShapeFor, IsTraceShape}
+use Rattle.fir_compile.specs.working.Made.{IsMadeOf}
+use Rattle.fir_compile.specs.working.Readings.{CompilesText}
+
+module _ (names : NamesAreForRows) (c : CircuitTree) (net : FlatNet) (s : TraceShape) (flat : FlattensTo c net) (of_net : IsShapeOf net s) where
+  shape_for : (t : SourceDesign) → IsSourceOf c t → IsShapeFor t s
+  shape_for t is =
+      let means : MeansSource t net = flat.each t is in
+      let in_table = subst (λ (ns : List (List ℕ)). AreNamed [] (row_names (net_rows net) ++ word_names (net_words net)) ns) of_net.names (names net of_net.table flat.whole of_net.named) in
+      let of_rows = subst (λ (rows : List Row). AreNamed [] (row_names rows ++ word_names (net_words net)) (of_net.ports ++ map (λ w. w.name) s.state)) means.ports in_table in
+      record {
+        values = of_net.values ∙ means.shapes;
+        registers = of_net.registers;
+        ports = of_net.ports;
+        named = subst (λ (words : List Word). AreNamed [] (row_names (source_rows t) ++ word_names words) (of_net.ports ++ map (λ w. w.name) s.state)) means.words of_rows;
+      }
+
+  trace_shape : IsTraceShape c s
+  trace_shape = record { source = flat.source; is_source = flat.is_source; each = shape_for }
+
+pub made_of : SpellsOneTree → NamesAreForRows → (text : List ℕ) (net : FlatNet) (s : TraceShape) → CompilesText text net → IsShapeOf net s
+    → IsMadeOf text net s
+made_of one names text net s h of_net = record {
+  circuit = h.circuit;
+  taken = h.taken;
+  only_circuit = λ other spelled. one text other h.circuit spelled h.taken.spelled;
+  flattened = h.flattened;
+  one = h.one;
+  shaped = trace_shape names h.circuit net s h.flattened of_net;
+  of_net = of_net.values;
+}

@@ -1,0 +1,7 @@
+use Rattle.fir_compile.proofs.MadeOf.{made_of}
+use Rattle.fir_compile.proofs.passes.net_of.Goals as goal
+
+pub returns-clause-made : goal.returns-clause-made
+returns-clause-made c =
+    made_of c.spells_one_tree.ensures c.names_are_for_rows.ensures c.args.bytes.now c.in_ok-compiled.compiled.net c.in_ok-shape.shape
+    c.in_ok-compiled.ensures.compiled c.in_ok-shape.ensures

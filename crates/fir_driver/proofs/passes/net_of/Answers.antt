@@ -1,7 +1,0 @@
-use Rattle.fir_driver.proofs.MadeOf.{made_of}
-use Rattle.fir_driver.proofs.passes.net_of.Goals as goal
-
-pub returns-clause-made : goal.returns-clause-made
-returns-clause-made c =
-    made_of c.spells_one_tree.ensures c.names_are_for_rows.ensures c.args.bytes.now c.in_ok-compiled.compiled.net c.in_ok-shape.shape
-    c.in_ok-compiled.ensures.compiled c.in_ok-shape.ensures

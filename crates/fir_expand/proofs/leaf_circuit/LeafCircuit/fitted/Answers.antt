@@ -1,8 +1,0 @@
-use Rattle.std.proofs.Common.{subst}
-use Rattle.fir_ast.specs.View.{circuit_of}
-use Rattle.fir_pass.specs.Groups.{IsClear}
-use Rattle.fir_meaning.specs.CostGroup.{cost_group}
-use Rattle.fir_expand.proofs.leaf_circuit.LeafCircuit.fitted.Goals as goal
-
-pub returns-clause-clear : goal.returns-clause-clear
-returns-clause-clear c = subst (λ t. IsClear (cost_group (circuit_of t))) c.self.view_is c.self.invariant.0

@@ -1,0 +1,8 @@
+use Rattle.std.proofs.Common.{drop}
+use Rattle.fir_ast.specs.View.{circuit_of}
+use Rattle.fir_type_table.specs.working.Tables.{types_of}
+use Rattle.fir_infer_resets.proofs.MeetsHeld.{ModulesSoFar}
+use Rattle.fir_infer_resets.proofs.build.joined_of.Given as goal
+
+abbrev pub invariant-loop-number : goal.invariant-loop-number
+invariant-loop-number l = ModulesSoFar (circuit_of l.named) (types_of l.findings.table) l.number (drop l.number l.meets-items) l.joined

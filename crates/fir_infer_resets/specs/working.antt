@@ -1,0 +1,24 @@
+-- What no clause of `run` reads: which Resets are asynchronous, and how far a search for them has come.
+pub mod ResetGraphs
+pub mod Reaching
+pub mod Walking
+pub mod Meetings
+pub mod ResetLaws
+pub mod BuiltGraphs
+pub mod FoundKinds
+pub mod PathKeys
+pub mod Holding
+pub mod DirectWalks
+pub mod Adding
+pub mod Meets
+pub mod Resolved
+pub mod Passes
+pub mod ModuleMeets
+pub mod StepTexts
+pub mod WholeGraphs
+pub mod MarkedLeaves
+pub mod NumberedPaths
+pub mod FirstPairs
+pub mod FirstEnds
+pub mod Shapes
+pub mod JoinedSides

@@ -1,0 +1,40 @@
+//! The resets of a circuit.
+
+ghost use Rattle.std.specs.Prelude.{◌≡◌, IfOk};
+ghost use Rattle.fir_ast.specs.View.{circuit_of};
+ghost use Rattle.fir_pass.specs.Faults.{fault_of};
+ghost use Rattle.fir_pass.specs.Law.{IfFault};
+ghost use Rattle.fir_reset.specs.working.Inferred.{AreInferred};
+ghost use Rattle.fir_meaning.specs.ResetWalks.{ShowsResets};
+
+use crate::build::joined_of;
+use crate::direct::without_detours;
+use crate::marked::map_of;
+use crate::search::find_resets;
+use crate::told::told;
+use fir_ast::FirFault;
+use fir_base::Refused;
+use fir_reset::ResetMap;
+use fir_types::Typed;
+use std::alloc::Global;
+
+/// Which Resets of a circuit are asynchronous; or E18, with a walk that joins a UInt and an AsyncReset (FIRRTL
+/// spec, "Reset Inference").
+pub fn infer_resets(alloc: Global, typed: &Typed) -> Result<ResetMap, Refused<FirFault>>
+    ensures resets { IfOk result (AreInferred (circuit_of typed.now)) }
+    ensures fault { IfFault result (λ f. ShowsResets (circuit_of typed.now) (fault_of f)) }
+{
+    let named = typed.named();
+    let findings = typed.findings();
+    // Its names are known to be resolved.
+    let _circuit = named.circuit();
+    let joined = joined_of(alloc, named, findings)?;
+    match find_resets(alloc, &joined.graph, &joined.kinds) {
+        Ok(marks) => Ok(map_of(alloc, named, findings, &joined.ends, &marks)?),
+        Err(Refused::Fault(walk)) => {
+            let nodes = without_detours(alloc, &joined.ends, &walk.nodes)?;
+            Err(Refused::Fault(told(alloc, &joined.ends, &nodes)?))
+        }
+        Err(Refused::Memory) => Err(Refused::Memory),
+    }
+}

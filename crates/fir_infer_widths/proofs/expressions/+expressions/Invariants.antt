@@ -1,0 +1,29 @@
+use Rattle.std.proofs.Common.{List, ◌++◌, map, drop}
+use Rattle.fir_ast.specs.Circuits.{CircuitTree}
+use Rattle.fir_ast.specs.Types.{DataType}
+use Rattle.fir_ast.specs.View.{expr_of, expressions_of, parts_of, sink_of}
+use Rattle.fir_meaning.specs.Reaching.{Reached}
+use Rattle.fir_meaning.specs.TypedScopes.{TypedScope}
+use Rattle.fir_meaning.specs.SizedScopes.{SizedScope}
+use Rattle.fir_meaning.specs.working.WellTyped.{HaveTypes, Reaches}
+use Rattle.fir_meaning.specs.WidthExpressions.{Rule, Width}
+use Rattle.fir_names.specs.working.Parts.{part_of}
+use Rattle.fir_types.specs.working.Notes.{Note as Meant, notes_of_each, part_notes}
+use Rattle.fir_infer_widths.specs.working.Walks.{Enters}
+use Rattle.fir_infer_widths.proofs.OperandSides.{SidesSoFar}
+use Rattle.fir_infer_widths.proofs.ReferenceSides.{PartsSoFar}
+use Rattle.fir_infer_widths.proofs.expressions.+expressions.Given as goal
+
+abbrev pub invariant-in_operands-loop-operand : goal.invariant-in_operands-loop-operand
+invariant-in_operands-loop-operand l =
+    (c : CircuitTree) (typed : TypedScope) (sized : SizedScope) (ts : List DataType) (meant : List Width) (rules : List Rule) (rest : List Meant)
+    → Enters l.ground typed sized meant rules (notes_of_each typed (expressions_of (map expr_of l.operands)) ++ rest) l.initial.walk
+    → HaveTypes typed (expressions_of (map expr_of l.operands)) ts
+    → SidesSoFar c l.ground typed sized meant rules rest (expressions_of (map expr_of l.operands)) (expressions_of (map expr_of (drop l.operand-index l.operands)))
+    l.initial.walk l.walk l.sides.items
+
+abbrev pub invariant-in_reference-loop-part : goal.invariant-in_reference-loop-part
+invariant-in_reference-loop-part l =
+    (c : CircuitTree) (typed : TypedScope) (sized : SizedScope) (r : Reached) (meant : List Width) (rules : List Rule) (rest : List Meant)
+    → Enters l.ground typed sized meant rules (part_notes typed (sink_of l.reference).parts ++ rest) l.initial.walk → Reaches typed (sink_of l.reference) r
+    → PartsSoFar c l.ground typed sized meant rules rest r (sink_of l.reference).parts (parts_of (map part_of (drop l.part-index l.part-items))) l.initial.walk l.walk

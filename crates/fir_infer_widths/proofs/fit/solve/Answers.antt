@@ -1,0 +1,8 @@
+use Rattle.fir_ast.specs.View.{circuit_of}
+use Rattle.fir_pass.specs.Faults.{fault_of}
+use Rattle.fir_infer_widths.proofs.InferencePass.{widths_first}
+use Rattle.fir_infer_widths.proofs.fit.solve.Goals as goal
+
+pub returns-in-Err-Fault-clause-fault : goal.returns-in-Err-Fault-clause-fault
+returns-in-Err-Fault-clause-fault c =
+    widths_first (circuit_of c.args.typed) (fault_of c.in-Err-Fault.fault) (rw c.in-Err-Fault.field-0-is at c.in-Err-Fault.ensures)

@@ -1,0 +1,8 @@
+use Rattle.std.proofs.Common.{◌≡◌, drop, flat_map}
+use Rattle.fir_type_table.specs.working.Tables.{types_of}
+use Rattle.fir_meaning.specs.working.AssignedWidths.{assigned}
+use Rattle.fir_infer_widths.specs.working.SpotFaults.{legal_at}
+use Rattle.fir_infer_widths.proofs.legal.all_legal.Given as goal
+
+abbrev pub invariant-loop-spot : goal.invariant-loop-spot
+invariant-loop-spot l = flat_map (legal_at (types_of l.table) (assigned l.widths)) l.spots ≡ flat_map (legal_at (types_of l.table) (assigned l.widths)) (drop l.spot-index l.spots)

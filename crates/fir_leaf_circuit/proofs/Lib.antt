@@ -1,0 +1,5 @@
+pub mod ResetEnds
+pub mod InferredResets
+pub mod ResetPaths
+pub mod ModuleScenes
+pub mod CodeStores

@@ -1,0 +1,11 @@
+pub mod Entries
+pub mod Giving
+pub mod PairNumbers
+pub mod PairPlaces
+pub mod PairShapes
+pub mod PairCopies
+pub mod PairWalks
+pub mod PairNames
+pub mod PairFound
+pub mod Emitting
+pub mod Driving

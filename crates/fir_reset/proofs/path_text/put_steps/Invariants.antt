@@ -1,7 +1,0 @@
-use Rattle.std.proofs.Common.{◌≡◌, ◌++◌, drop, flat_map}
-use Rattle.fir_meaning.specs.LeafPaths.{step_text}
-use Rattle.fir_reset.specs.working.Holding.{path_of}
-use Rattle.fir_reset.proofs.path_text.put_steps.Given as goal
-
-abbrev pub invariant-loop-step : goal.invariant-loop-step
-invariant-loop-step l = l.out.items ++ flat_map step_text (path_of (drop l.step-index l.steps)) ≡ l.fn.out.items ++ flat_map step_text (path_of l.fn.steps)

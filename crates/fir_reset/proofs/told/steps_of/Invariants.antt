@@ -1,7 +1,0 @@
-use Rattle.std.proofs.Common.{◌≡◌, ◌++◌, drop, map}
-use Rattle.fir_ast.specs.Texts.{reset_step_text}
-use Rattle.fir_reset.specs.working.StepTexts.{text_at}
-use Rattle.fir_reset.proofs.told.steps_of.Given as goal
-
-abbrev pub invariant-loop-number : goal.invariant-loop-number
-invariant-loop-number l = map reset_step_text l.steps.items ++ map (text_at l.ends) (drop l.number-index l.walk) ≡ map (text_at l.ends) l.walk

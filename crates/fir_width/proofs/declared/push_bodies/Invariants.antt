@@ -1,6 +1,0 @@
-use Rattle.fir_ast.specs.View.{circuit_of}
-use Rattle.fir_width.proofs.DeclaredWalks.{BodiesSoFar}
-use Rattle.fir_width.proofs.declared.push_bodies.Given as goal
-
-abbrev pub invariant-loop-number : goal.invariant-loop-number
-invariant-loop-number l = BodiesSoFar (circuit_of l.named) l.number l.arena

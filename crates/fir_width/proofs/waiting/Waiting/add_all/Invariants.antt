@@ -1,5 +1,0 @@
-use Rattle.fir_width.specs.working.Waiting.{AllWait}
-use Rattle.fir_width.proofs.waiting.Waiting.add_all.Given as goal
-
-abbrev pub invariant-loop-place : goal.invariant-loop-place
-invariant-loop-place l = AllWait l.initial.self l.self l.places l.place-index
