@@ -5,7 +5,7 @@ use crate::types::Ty;
 use fir_base::{Name, Seq};
 
 /// The outcome of a when or of a dynamic write under a choice.
-#[derive(Clone, Copy, PartialEq, Eq)]
+#[derive(Clone, Copy)]
 pub enum Outcome {
     /// A when at that place, and whether its condition is 1.
     When(Place, bool),

@@ -75,7 +75,7 @@ pub enum MemoryField {
 }
 
 /// What a read gives of a word that is written at the same edge.
-#[derive(Clone, Copy, PartialEq, Eq)]
+#[derive(Clone, Copy)]
 pub enum ReadUnderWrite {
     Old,
     New,

@@ -3,7 +3,7 @@
 use std::alloc::{AllocError, AllocFailed};
 
 /// Memory was wanted and not there. Nothing else is refused.
-#[derive(Clone, Copy, Debug, PartialEq, Eq)]
+#[derive(Clone, Copy, Debug)]
 pub struct MemoryOut;
 
 impl From<AllocError> for MemoryOut {
@@ -19,7 +19,7 @@ impl<T: Drop> From<AllocFailed<T>> for MemoryOut {
 }
 
 /// A fault of what was given, or want of memory.
-#[derive(Clone, Copy, Debug, PartialEq, Eq, Drop)]
+#[derive(Clone, Copy, Debug, Drop)]
 pub enum Refused<F> {
     Fault(F),
     Memory,

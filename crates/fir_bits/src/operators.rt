@@ -70,7 +70,7 @@ pub enum PrimOp {
 }
 
 /// What operands and integers an operation takes.
-#[derive(Clone, Copy, PartialEq, Eq)]
+#[derive(Clone, Copy)]
 pub enum Form {
     /// Two operands of one signedness.
     Pair,

@@ -17,7 +17,7 @@ pub struct NumTy {
 }
 
 /// Why an operation has no result, in the order in which the causes count.
-#[derive(Clone, Copy, Debug, PartialEq, Eq, Error)]
+#[derive(Clone, Copy, Debug, Error)]
 pub enum OpFault {
     /// The kinds of the operands, or the number of operands or integers, are not the operation's.
     #[error("the operands or integers are not those of the operation")]

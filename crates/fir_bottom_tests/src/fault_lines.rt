@@ -8,36 +8,41 @@ use std::test::Fail;
 #[test]
 fn lines_of_faults_that_no_text_shows_yet(rt: HostRuntime) -> Result<(), Fail> {
     let alloc = rt.alloc();
-    let faults = faults(alloc)?;
-    let lines: [&[u8]; 5] = [
-        b"E01 4294967295:4294967295 byte ff\n",
-        b"E25 25:5 clock u.clk 25:5 26:5\n",
-        b"E26 27:9 memory clocks u.ram clock c2\n",
-        b"E27 28:9 async init r <- n.a <- in\n",
-        b"E27 28:9 async init r\n",
-    ];
-    assert_eq!(rt; faults.len(), lines.len());
-    for (fault, wanted) in faults.iter().zip(lines) {
-        let mut line = Vec::new(alloc);
-        fault.put_line(alloc, &mut line)?;
-        assert_eq!(rt; line.as_slice(), wanted);
-    }
+    let byte = FirFault::Byte(at(4294967295, 4294967295), 255);
+    assert!(rt; has_line(alloc, &byte, b"E01 4294967295:4294967295 byte ff\n")?);
+    let clock = FirFault::Clock(at(25, 5), name(alloc, b"u.clk")?, at(25, 5), at(26, 5));
+    assert!(rt; has_line(alloc, &clock, b"E25 25:5 clock u.clk 25:5 26:5\n")?);
+    let memory = memory_clocks(alloc)?;
+    assert!(rt; has_line(alloc, &memory, b"E26 27:9 memory clocks u.ram clock c2\n")?);
+    let walk = async_init(alloc, &[b"r", b"n.a", b"in"])?;
+    assert!(rt; has_line(alloc, &walk, b"E27 28:9 async init r <- n.a <- in\n")?);
+    let alone = async_init(alloc, &[b"r"])?;
+    assert!(rt; has_line(alloc, &alone, b"E27 28:9 async init r\n")?);
     Ok(())
 }
 
-fn faults(alloc: Global) -> Result<Vec<FirFault>, MemoryOut> {
-    let clock = name(alloc, b"u.clk")?;
+fn has_line(alloc: Global, fault: &FirFault, wanted: &[u8]) -> Result<bool, MemoryOut> {
+    let mut line = Vec::new(alloc);
+    fault.put_line(alloc, &mut line)?;
+    Ok(line.as_slice() == wanted)
+}
+
+fn memory_clocks(alloc: Global) -> Result<FirFault, MemoryOut> {
     let memory = name(alloc, b"u.ram")?;
-    let (one, other) = (name(alloc, b"clock")?, name(alloc, b"c2")?);
-    let walk = names(alloc, &[b"r", b"n.a", b"in"])?;
-    let alone = names(alloc, &[b"r"])?;
-    Ok(vec![in alloc;
-        FirFault::Byte(at(4294967295, 4294967295), 255),
-        FirFault::Clock(at(25, 5), clock, at(25, 5), at(26, 5)),
-        FirFault::MemoryClocks(at(27, 9), memory, one, other),
-        FirFault::AsyncInit(at(28, 9), walk),
-        FirFault::AsyncInit(at(28, 9), alone),
-    ]?)
+    Ok(FirFault::MemoryClocks(
+        at(27, 9),
+        memory,
+        name(alloc, b"clock")?,
+        name(alloc, b"c2")?,
+    ))
+}
+
+fn async_init(alloc: Global, walk: &[&[u8]]) -> Result<FirFault, MemoryOut> {
+    let mut names = Vec::new(alloc);
+    for text in walk {
+        names.push(name(alloc, text)?)?;
+    }
+    Ok(FirFault::AsyncInit(at(28, 9), Seq::from_vec(names)))
 }
 
 fn at(line: u32, col: u32) -> Place {
@@ -46,12 +51,4 @@ fn at(line: u32, col: u32) -> Place {
 
 fn name(alloc: Global, text: &[u8]) -> Result<Name, MemoryOut> {
     Name::new(alloc, text)
-}
-
-fn names(alloc: Global, texts: &[&[u8]]) -> Result<Seq<Name>, MemoryOut> {
-    let mut names = Vec::new(alloc);
-    for text in texts {
-        names.push(name(alloc, text)?)?;
-    }
-    Ok(Seq::from_vec(names))
 }

@@ -6,7 +6,7 @@ use fir_io::{
     CallFault, FailingCall, FileEntry, FileFault, Files, MemFiles, MemSink, OsFiles, OsSink,
     PutFault, Sink, SureFiles, SureSink,
 };
-use std::alloc::{AllocError, Global};
+use std::alloc::Global;
 use std::test::Fail;
 use std::{env, fs, process};
 
@@ -20,10 +20,11 @@ fn tell<S: Sink>(sink: &mut S, piece: &[u8]) -> Result<(), PutFault> {
     sink.put(piece)
 }
 
-fn text_of(alloc: Global, answer: Result<Vec<u8>, FileFault>) -> Result<String, AllocError> {
-    match answer {
-        Ok(content) => String::from_utf8_lossy(alloc, content.as_slice()),
-        Err(fault) => format!(in alloc; "{fault:?}"),
+fn is_as_wanted(answer: Result<Vec<u8>, FileFault>, wanted: Result<&[u8], FileFault>) -> bool {
+    match (answer, wanted) {
+        (Ok(content), Ok(wanted)) => content.as_slice() == wanted,
+        (Err(fault), Err(wanted)) => fault == wanted,
+        _ => false,
     }
 }
 
@@ -43,18 +44,17 @@ fn files_in_memory_answer_as_planned(rt: HostRuntime) -> Result<(), Fail> {
         failing.push(FailingCall { call, fault })?;
     }
     let mut files = MemFiles::new(entries(alloc)?, failing);
-    for (call, name, limit, want, taken, faults) in [
-        (0, "a", 4, "abcd", 4, 0),
-        (1, "a", 3, "TooLong", 4, 0),
-        (2, "missing", 9, "Failed", 0, 1),
-        (3, "a", 9, "Failed", 2, 2),
-        (4, "a", 9, "Memory", 0, 2),
-        (5, "empty", 0, "", 0, 2),
-    ] {
-        let got = text_of(alloc, ask(&mut files, alloc, name, limit))?;
-        assert_eq!(rt; got.as_str(), want, "in call {call}");
-        assert_eq!(rt; files.taken(), taken, "in call {call}");
-        assert_eq!(rt; files.faults(), faults, "in call {call}");
+    let calls: [(&str, u64, Result<&[u8], FileFault>, u64, u64); 6] = [
+        ("a", 4, Ok(b"abcd"), 4, 0),
+        ("a", 3, Err(FileFault::TooLong), 4, 0),
+        ("missing", 9, Err(FileFault::Failed), 0, 1),
+        ("a", 9, Err(FileFault::Failed), 2, 2),
+        ("a", 9, Err(FileFault::Memory), 0, 2),
+        ("empty", 0, Ok(b""), 0, 2),
+    ];
+    for (name, limit, wanted, taken, faults) in calls {
+        assert!(rt; is_as_wanted(ask(&mut files, alloc, name, limit), wanted));
+        assert_eq!(rt; (files.taken(), files.faults()), (taken, faults));
     }
     Ok(())
 }
@@ -71,7 +71,7 @@ fn a_sink_in_memory_answers_as_planned(rt: HostRuntime) -> Result<(), Fail> {
         failing.push(FailingCall { call, fault })?;
     }
     let mut sink = MemSink::new(alloc, failing);
-    for (piece, want, held, faults) in [
+    for (piece, wanted, held, faults) in [
         ("ab", Ok(()), "ab", 0),
         ("", Ok(()), "ab", 0),
         ("cde", Err(PutFault::Failed), "abcd", 1),
@@ -79,9 +79,9 @@ fn a_sink_in_memory_answers_as_planned(rt: HostRuntime) -> Result<(), Fail> {
         ("i", Err(PutFault::Memory), "abcdfgh", 2),
         ("j", Ok(()), "abcdfghj", 2),
     ] {
-        assert_eq!(rt; tell(&mut sink, piece.as_bytes()), want, "at {piece}");
-        assert!(rt; sink.held() == held.as_bytes(), "at {piece}");
-        assert_eq!(rt; sink.faults(), faults, "at {piece}");
+        assert!(rt; tell(&mut sink, piece.as_bytes()) == wanted);
+        assert!(rt; sink.held() == held.as_bytes());
+        assert_eq!(rt; sink.faults(), faults);
     }
     assert_eq!(rt; sink.into_bytes().len(), 8);
     Ok(())
@@ -91,19 +91,14 @@ fn a_sink_in_memory_answers_as_planned(rt: HostRuntime) -> Result<(), Fail> {
 fn sure_files_and_sinks_never_fail(rt: HostRuntime) -> Result<(), Fail> {
     let alloc = rt.alloc();
     let mut files = SureFiles::new(entries(alloc)?);
-    for (name, limit, want, taken) in [
-        ("a", 4, "abcd", 4),
-        ("a", 3, "TooLong", 4),
-        ("missing", 0, "", 0),
-    ] {
-        let got = text_of(alloc, ask(&mut files, alloc, name, limit))?;
-        assert_eq!(rt; got.as_str(), want, "at {name} and {limit}");
-        assert_eq!(rt; files.taken(), taken, "at {name} and {limit}");
-    }
+    assert!(rt; is_as_wanted(ask(&mut files, alloc, "a", 4), Ok(b"abcd")));
+    assert!(rt; is_as_wanted(ask(&mut files, alloc, "a", 3), Err(FileFault::TooLong)));
+    assert_eq!(rt; files.taken(), 4);
+    assert!(rt; is_as_wanted(ask(&mut files, alloc, "missing", 0), Ok(b"")));
+    assert_eq!(rt; files.taken(), 0);
     let mut sink = SureSink::new(alloc);
-    for piece in ["ab", "", "c"] {
-        assert_eq!(rt; tell(&mut sink, piece.as_bytes()), Ok(()));
-    }
+    assert!(rt; tell(&mut sink, b"ab").is_ok());
+    assert!(rt; tell(&mut sink, b"c").is_ok());
     assert!(rt; sink.held() == b"abc".as_slice());
     assert_eq!(rt; sink.into_bytes().len(), 3);
     Ok(())
@@ -119,17 +114,16 @@ fn the_system_gives_back_what_it_took(rt: HostRuntime) -> Result<(), Fail> {
     let text = path.as_str();
 
     let mut sink = OsSink::new(fs::create(&rt, text)?);
-    for piece in ["ab", "", "cde"] {
-        assert_eq!(rt; tell(&mut sink, piece.as_bytes()), Ok(()));
-    }
+    assert!(rt; tell(&mut sink, b"ab").is_ok());
+    assert!(rt; tell(&mut sink, b"cde").is_ok());
     let mut files = OsFiles::new(&rt);
-    let whole = text_of(alloc, ask(&mut files, alloc, text, 5))?;
-    let longer = text_of(alloc, ask(&mut files, alloc, text, 4))?;
+    let is_whole = is_as_wanted(ask(&mut files, alloc, text, 5), Ok(b"abcde"));
+    let is_longer = is_as_wanted(ask(&mut files, alloc, text, 4), Err(FileFault::TooLong));
     fs::remove_file(&rt, text)?;
-    let missing = text_of(alloc, ask(&mut files, alloc, text, 5))?;
-    assert_eq!(rt; whole.as_str(), "abcde");
-    assert_eq!(rt; longer.as_str(), "TooLong");
-    assert_eq!(rt; missing.as_str(), "Failed");
+    let is_missing = is_as_wanted(ask(&mut files, alloc, text, 5), Err(FileFault::Failed));
+    assert!(rt; is_whole);
+    assert!(rt; is_longer);
+    assert!(rt; is_missing);
     Ok(())
 }
 
@@ -137,7 +131,7 @@ fn the_system_gives_back_what_it_took(rt: HostRuntime) -> Result<(), Fail> {
 fn a_write_that_takes_nothing_is_a_fault(rt: HostRuntime) {
     let mut room = [0u8; 3];
     let mut sink = OsSink::new(room.as_mut_slice());
-    assert_eq!(rt; tell(&mut sink, b"abc"), Ok(()));
-    assert_eq!(rt; tell(&mut sink, b""), Ok(()));
-    assert_eq!(rt; tell(&mut sink, b"d"), Err(PutFault::Failed));
+    assert!(rt; tell(&mut sink, b"abc").is_ok());
+    assert!(rt; tell(&mut sink, b"").is_ok());
+    assert!(rt; tell(&mut sink, b"d") == Err(PutFault::Failed));
 }

@@ -8,9 +8,8 @@ use fir_ast::{FirFault, Place};
 use fir_base::{Name, Refused, Seq};
 use fir_pass::{Either, Meant, Pass, then};
 use std::alloc::Global;
-use std::test::Fail;
 
-#[derive(Clone, Copy, Debug, PartialEq, Eq)]
+#[derive(Clone, Copy, PartialEq, Eq)]
 struct Sketch {
     unnamed: bool,
     looped: bool,
@@ -77,7 +76,7 @@ impl Pass for FindLoop {
 }
 
 /// Which pass told a fault, and the tree that came back.
-fn told_by(fault: Either<(FirFault, Sketch), (FirFault, Sketch)>) -> (u8, Sketch) {
+fn told_by(fault: &Either<(FirFault, Sketch), (FirFault, Sketch)>) -> (u8, Sketch) {
     match fault {
         Either::One(first) => (1, first.1),
         Either::Two(second) => (2, second.1),
@@ -88,23 +87,24 @@ fn told_by(fault: Either<(FirFault, Sketch), (FirFault, Sketch)>) -> (u8, Sketch
 fn told(alloc: Global, x: Sketch) -> Option<(u8, Sketch)> {
     match then(alloc, &FindMain, &FindLoop, x) {
         Ok(_) => None,
-        Err(Refused::Fault(fault)) => Some(told_by(fault)),
+        Err(Refused::Fault(fault)) => Some(told_by(&fault)),
         Err(Refused::Memory) => Some((0, x)),
     }
 }
 
 #[test]
-fn the_first_fault_of_two_passes_is_told(rt: HostRuntime) -> Result<(), Fail> {
-    let table = [
-        (false, false, 0),
-        (true, false, 1),
-        (false, true, 2),
-        (true, true, 1),
-    ];
-    for (unnamed, looped, pass) in table {
-        let x = Sketch { unnamed, looped };
-        let wanted = if pass == 0 { None } else { Some((pass, x)) };
-        assert_eq!(rt; told(rt.alloc(), x), wanted);
-    }
-    Ok(())
+fn the_first_fault_of_two_passes_is_told(rt: HostRuntime) {
+    let alloc = rt.alloc();
+    let sound = sketched(false, false);
+    assert!(rt; told(alloc, sound).is_none());
+    let unnamed = sketched(true, false);
+    assert!(rt; told(alloc, unnamed) == Some((1, unnamed)));
+    let looped = sketched(false, true);
+    assert!(rt; told(alloc, looped) == Some((2, looped)));
+    let both = sketched(true, true);
+    assert!(rt; told(alloc, both) == Some((1, both)));
+}
+
+fn sketched(unnamed: bool, looped: bool) -> Sketch {
+    Sketch { unnamed, looped }
 }

@@ -8,7 +8,7 @@ use Rattle.trace_text.specs.Shapes.{TraceShape}
 use Rattle.trace_text.specs.working.Readings.{InitsRead, ReadsInit}
 use Rattle.trace_text.specs.working.Steps.{ReadsInSteps}
 use Rattle.trace_text.specs.RunLines.{run_text}
-use Rattle.fir_sim.specs.working.Views.{numbers}
+use Rattle.fir_tick.specs.working.Views.{numbers}
 use Rattle.fir_compile.specs.declared.runner.Runner.{Runner}
 use Rattle.fir_compile.specs.working.Running.{IsRunning, Begins, last_state}
 

@@ -24,3 +24,4 @@ pub mod Stepped
 pub mod Begun
 pub mod Lining
 pub mod ReadTrees
+pub mod InferencePass

@@ -5,13 +5,13 @@ use Rattle.fir_parse.specs.working.Laws.{SpellsOneTree}
 use Rattle.fir_meaning.specs.Elaborated.{IsSourceOf}
 use Rattle.fir_meaning.specs.SourceDesigns.{SourceDesign}
 use Rattle.fir_net.specs.declared.net.FlatNet.{FlatNet}
-use Rattle.fir_net.specs.Names.{AreNamed}
+use Rattle.fir_net_names.specs.Names.{AreNamed}
 use Rattle.fir_net.specs.Rows.{Row, Word, net_rows, net_words, row_names, word_names}
 use Rattle.fir_inst.specs.SourceRows.{source_rows}
 use Rattle.fir_inst.specs.working.FlattensTo.{FlattensTo, MeansSource}
 use Rattle.ver_build.specs.working.Laws.{NamesAreForRows}
 use Rattle.trace_text.specs.Shapes.{TraceShape}
-use Rattle.fir_sim.specs.working.Shapes.{IsShapeOf}
+use Rattle.fir_tick.specs.working.Shapes.{IsShapeOf}
 use Rattle.fir_compile.specs.Traces.{IsShapeFor, IsTraceShape}
 use Rattle.fir_compile.specs.working.Made.{IsMadeOf}
 use Rattle.fir_compile.specs.working.Readings.{CompilesText}

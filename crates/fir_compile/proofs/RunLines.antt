@@ -4,7 +4,7 @@ use Rattle.std.proofs.lemmas.List.{append-nil, append_assoc}
 use Rattle.fir_base.specs.Ticks.{Tick, TickResult, Allowance, IsRun}
 use Rattle.fir_bits.specs.Values.{BitVector}
 use Rattle.trace_text.specs.RunLines.{with_widths, shown_text, run_text}
-use Rattle.fir_sim.specs.working.Views.{numbers, widths}
+use Rattle.fir_tick.specs.working.Views.{numbers, widths}
 use Rattle.fir_compile.specs.working.Running.{last_state}
 
 abbrev pub shows : List ℕ → List ℕ → TickResult

@@ -12,7 +12,7 @@ use Rattle.trace_text.specs.OutputLines.{line_text}
 use Rattle.trace_text.specs.RunLines.{with_widths, shown_text, run_text}
 use Rattle.trace_text.specs.working.Readings.{TickRead, NoTick, TickIsBad}
 use Rattle.trace_text.specs.working.Steps.{IsReadTo, ReadsInSteps}
-use Rattle.fir_sim.specs.working.Views.{numbers, widths, output_widths}
+use Rattle.fir_tick.specs.working.Views.{numbers, widths, output_widths}
 use Rattle.fir_compile.specs.declared.runner.Runner.{Runner}
 use Rattle.fir_compile.specs.Simulations.{SaysFront}
 use Rattle.fir_compile.specs.working.Running.{Ran, IsRunning, Stays}

@@ -7,7 +7,7 @@ use Rattle.fir_ast.specs.Circuits.{CircuitTree}
 use Rattle.fir_meaning.specs.Elaborated.{IsSourceOf}
 use Rattle.fir_meaning.specs.SourceCircuits.{source_shape}
 use Rattle.fir_meaning.specs.SourceDesigns.{SourceDesign}
-use Rattle.fir_net.specs.Names.{AreNamed}
+use Rattle.fir_net_names.specs.Names.{AreNamed}
 use Rattle.fir_net.specs.Rows.{row_names, word_names}
 use Rattle.fir_inst.specs.SourceRows.{source_rows, source_words}
 use Rattle.trace_text.specs.Shapes.{TraceShape, plain}

@@ -6,6 +6,8 @@
 #![tactic(auto)]
 
 mod compiled;
+mod inference;
+mod inference_pass;
 mod laws;
 mod lines;
 mod passes;
@@ -13,6 +15,8 @@ mod runner;
 mod status;
 
 pub use compiled::Compiled;
+pub use inference::infer;
+pub use inference_pass::Infer;
 pub use laws::spelled_names_are_words;
 pub use lines::{Finish, put_lines};
 pub use passes::{compile, net_of, verilog_of};

@@ -14,7 +14,7 @@ use trace_text::TraceFault;
 const GATHERED: usize = 32768;
 
 /// How the ticks of a simulation end.
-#[derive(Clone, Copy, PartialEq, Eq)]
+#[derive(Clone, Copy)]
 pub enum Finish {
     /// The trace has no more ticks.
     AllRun,

@@ -6,7 +6,7 @@ ghost use Rattle.fir_net.specs.working.IsOrder.{IsOrder};
 ghost use Rattle.fir_net.specs.working.Settled.{shape as shape_of_net};
 ghost use Rattle.trace_text.specs.RunLines.{with_widths};
 ghost use Rattle.trace_text.specs.Shapes.{plain};
-ghost use Rattle.fir_sim.specs.working.Views.{numbers};
+ghost use Rattle.fir_tick.specs.working.Views.{numbers};
 ghost use Rattle.fir_compile.specs.working.Running.{IsReady, IsRunning, Stays, Steps, Begins};
 
 use crate::compiled::Compiled;

@@ -1,8 +1,1 @@
-pub mod OneScene
-pub mod Refused
-pub mod EmitEnded
-pub mod SimulationEnded
-pub mod TraceEnded
-pub mod TraceShapes
 pub mod SimulationComplete
-pub mod FirstLines

@@ -1,7 +1,2 @@
-pub mod Command
-pub mod EmitsFile
-pub mod EmitAnswers
-pub mod Simulates
 pub mod SimulationAnswers
 pub mod Program
-pub mod working

@@ -4,12 +4,12 @@ use Rattle.std.specs.declared.alloc.Global.{Global}
 use Rattle.fir_io.specs.Ports.{Rose, Grew}
 use Rattle.fir_compile.specs.declared.status.Status.{Status}
 use Rattle.fir_compile.specs.declared.status.Status.TheVariants as status
-use Rattle.fir_driver.specs.Command.{Command, emit, sim, command_of}
+use Rattle.fir_commands.specs.Command.{Command, emit, sim, command_of}
 use Rattle.fir_compile.specs.Messages.{usage_line}
 use Rattle.fir_compile.specs.Outside.{Outside, Kept, GrewByFront, NoneFailed}
-use Rattle.fir_driver.specs.EmitsFile.{EmitsFile}
-use Rattle.fir_driver.specs.EmitAnswers.{EmitComplete}
-use Rattle.fir_driver.specs.Simulates.{Simulates}
+use Rattle.fir_commands.specs.EmitsFile.{EmitsFile}
+use Rattle.fir_commands.specs.EmitAnswers.{EmitComplete}
+use Rattle.fir_commands.specs.Simulates.{Simulates}
 use Rattle.fir_driver.specs.SimulationAnswers.{SimulationComplete}
 
 -- the files that a command names may be asked

@@ -4,18 +4,12 @@ ghost use Rattle.std.specs.Prelude.{◌≡◌};
 ghost use Rattle.fir_compile.specs.Outside.{outside, code};
 ghost use Rattle.fir_driver.specs.Program.{MayAsk, Does, Answers};
 
-use crate::command::{Command, command_of};
-use crate::emit::emit_file;
-use crate::messages::{USAGE_LINE, say};
-use crate::simulation::simulate;
+use fir_commands::{Command, USAGE_LINE, command_of, emit_file, say, simulate};
 use fir_compile::Status;
 use fir_io::{Files, Sink};
 use fir_parse::laws::{has_tree_or_fault, spells_one_tree};
 use std::alloc::Global;
 use trace_text::laws::spelled_is_not_bad;
-
-/// The most bytes of a file that are taken.
-pub const LIMIT: u64 = 16777216;
 
 /// Does what the words say, and gives the exit status. `words[0]` is the program's name.
 pub fn run<F: Files, S: Sink, T: Sink>(

@@ -7,8 +7,7 @@ use Rattle.fir_ast.specs.Statements.{PlacedName}
 use Rattle.fir_ast.specs.Circuits.{ModuleTree, CircuitTree}
 use Rattle.fir_meaning.specs.Mentions.{module_names}
 use Rattle.fir_names.specs.working.ModuleOrder.{find_number}
-use Rattle.fir_names.proofs.HierarchyTargets.{number_below}
-use Rattle.fir_names.proofs.ModulesThere.{number_named}
+use Rattle.fir_names.proofs.ModulesThere.{number_below, number_named}
 
 -- the module of a name's number has that name
 pub module_numbered : (c : CircuitTree) (name : List ℕ) (number : ℕ) → find_number (module_names c) name ≡ Some number

@@ -24,14 +24,14 @@ use fir_leaf_pairs::Target;
 use fir_types::{Found, LeafRange, Note, Pick as Elements};
 
 /// A dynamic index: where its expression stands, and the node of that.
-#[derive(Clone, Copy, PartialEq, Eq)]
+#[derive(Clone, Copy)]
 pub struct Index {
     pub place: Place,
     pub node: usize,
 }
 
 /// How far the indices of a reference have come.
-#[derive(Clone, Copy, PartialEq, Eq)]
+#[derive(Clone, Copy)]
 pub struct Chain {
     /// Whether each vector so far has elements.
     pub is_there: bool,

@@ -19,7 +19,7 @@ use Rattle.fir_meaning.proofs.WellTypedCircuits.{well_typed}
 use Rattle.fir_names.proofs.BehindStatements.{adds_block}
 use Rattle.fir_types.specs.working.Walked.{Begins}
 use Rattle.fir_types.proofs.KnownScopes.{begins_before}
-use Rattle.fir_types.proofs.StatementWalks.{first_begins}
+use Rattle.fir_types.proofs.BlockBegins.{first_begins}
 use Rattle.fir_meaning.specs.ResetJoins.{ResetModule, reset_modules}
 use Rattle.fir_infer_resets.specs.working.Meetings.{Meeting, Sides, connected, partly_connected, named_by, instanced, meeting, meetings_in, meetings_in_block, meetings}
 use Rattle.fir_reset.proofs.ModuleNumbers.{is_among}
@@ -52,7 +52,7 @@ module _ (m : ResetModule) (x : Meeting) where
     met (when p c a b) before l g i =
         let inside = behind_block (opened before) a in
         ⊎_elim
-        (λ (j : In (meetings_in_block m (opened before) a) x). met_block a (opened before) l.2 (first_begins m.modules [] before p c a b whole g) j)
+        (λ (j : In (meetings_in_block m (opened before) a) x). met_block a (opened before) l.2 (first_begins before p c a b whole g) j)
         (λ (j : In (meetings_in_block m (reopened before inside) b) x). met_block b (reopened before inside) l.3 g j)
         (in_either (meetings_in_block m (opened before) a) (meetings_in_block m (reopened before inside) b) x i)
     met (connect p sink e) before l g i = here before (connected sink e) l i

@@ -4,7 +4,7 @@ ghost use Rattle.std.specs.Prelude.{◌↔◌, IsTrue};
 ghost use Rattle.fir_infer_resets.specs.working.ResetGraphs.{AllBelow, IsGraph};
 
 /// What a leaf or an expression is, as far as resets go.
-#[derive(Clone, Copy, PartialEq, Eq)]
+#[derive(Clone, Copy)]
 pub enum Kind {
     /// None of the others.
     Other,

@@ -26,7 +26,7 @@ use fir_types::{LeafRange, Pick};
 use std::alloc::Global;
 
 /// What the dynamic indices of a reference pick.
-#[derive(Clone, Copy, PartialEq, Eq)]
+#[derive(Clone, Copy)]
 pub enum Access {
     /// No index is dynamic.
     Fixed,

@@ -8,7 +8,7 @@ use fir_base::MemoryOut;
 use std::alloc::Global;
 
 /// What is reached, and the place in the queue of the entry that it was reached from.
-#[derive(Clone, Copy, PartialEq, Eq)]
+#[derive(Clone, Copy)]
 pub struct Entry {
     pub node: usize,
     pub from: usize,

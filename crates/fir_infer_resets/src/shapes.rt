@@ -7,7 +7,7 @@ use fir_type_table::{Kind as TypeKind, TypeId, TypeTable};
 use fir_types::Found;
 
 /// What two types have for each other.
-#[derive(Clone, Copy, PartialEq, Eq)]
+#[derive(Clone, Copy)]
 pub enum Shapes {
     /// Two bundles, by their ids, and whether each is without its widths.
     Bundles(TypeId, bool, TypeId, bool),
@@ -20,7 +20,7 @@ pub enum Shapes {
 }
 
 /// What a type is, as far as what meets goes.
-#[derive(Clone, Copy, PartialEq, Eq)]
+#[derive(Clone, Copy)]
 pub enum Form {
     Bundle(TypeId, bool),
     /// The elements, and how many there are.

@@ -46,4 +46,4 @@ pub mod FittedCircuits
 pub mod OperandsCome
 pub mod FormsCome
 pub mod WidthFaultGroups
-pub mod InferencePass
+pub mod FirstWidthFaults

@@ -21,7 +21,7 @@ use fir_types::{Findings, Found};
 use std::alloc::Global;
 
 /// What takes numbers: the ports of modules, or what their bodies declare.
-#[derive(Clone, Copy, PartialEq, Eq)]
+#[derive(Clone, Copy)]
 enum Stage {
     Ports,
     Bodies,

@@ -16,7 +16,7 @@ use fir_width::{Counted, field_at};
 
 /// Which widths of the leaves of a type are unknowns. Below a vector of length 0, where no leaf stands,
 /// none is.
-#[derive(Clone, Copy, PartialEq, Eq)]
+#[derive(Clone, Copy)]
 pub enum Unknowns {
     /// None: a width that is not written is 0. So it is for memories, of which all are written.
     Nowhere,

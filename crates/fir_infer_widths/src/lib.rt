@@ -1,7 +1,7 @@
-//! The resets and widths of a circuit. In comes a `Typed`, a circuit without a fault of types; out comes a `Fitted`
-//! (`fir_width`), the same circuit with its resets and with the least widths that meet all its rules; or the first
-//! fault of resets, E18, or of widths: E19, or else E20 to E22 (FIRRTL spec, "Width Inference", "Primitive
-//! Operations", "Literals", "Conditionals"). `infer` finds resets and widths in one pass (`pass`).
+//! The widths of a circuit. In comes a `Typed`, a circuit without a fault of types, with its resets; out comes a
+//! `Fitted` (`fir_width`), the same circuit with the least widths that meet all its rules; or the first fault of
+//! widths: E19, or else E20 to E22 (FIRRTL spec, "Width Inference", "Primitive Operations", "Literals",
+//! "Conditionals").
 //!
 //! `solve` (in `fit`) goes three ways one after another. One walk over the text (`circuit`, `module`,
 //! `statements`, `drives`, `expressions`, `forms`) gives each leaf and each expression a number (`arena`,
@@ -26,7 +26,6 @@ mod first_written_over;
 mod fit;
 mod forms;
 mod ground;
-mod inference;
 mod integers;
 mod leaf_path;
 mod leaves;
@@ -34,11 +33,8 @@ mod legal;
 mod meet;
 mod module;
 mod over;
-mod pass;
 mod spot;
 mod statements;
 mod walk;
 
 pub use fit::solve;
-pub use inference::infer;
-pub use pass::Infer;

@@ -10,7 +10,7 @@ use Rattle.fir_base.specs.Bytes.{is_word_start, is_word_byte}
 use Rattle.ver_words.specs.Names.{is_word}
 use Rattle.fir_meaning.specs.LeafPaths.{Step, LeafPath, named, element, step_text, path_text}
 use Rattle.fir_net.specs.Paths.{named_byte, base_name}
-use Rattle.fir_net.proofs.Unreserved.{inner_is_name}
+use Rattle.fir_net_names.proofs.Unreserved.{inner_is_name}
 
 -- a step that is a number, or a name with the bytes of words
 abbrev pub StepHasWords : Step → Type 0

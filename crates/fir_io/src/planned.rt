@@ -4,7 +4,7 @@ ghost use Rattle.std.specs.Prelude.{◌≡◌};
 ghost use Rattle.fir_io.specs.working.Planned.{planned};
 
 /// How a call is to fail.
-#[derive(Clone, Copy, Debug, PartialEq, Eq)]
+#[derive(Clone, Copy, Debug)]
 pub enum CallFault {
     /// `Failed`, after this many bytes were taken or appended.
     Failed(u64),
@@ -13,7 +13,7 @@ pub enum CallFault {
 }
 
 /// A call that is to fail.
-#[derive(Clone, Copy, Debug, PartialEq, Eq)]
+#[derive(Clone, Copy, Debug)]
 pub struct FailingCall {
     /// Which call, counted from 0.
     pub call: u64,

@@ -7,7 +7,7 @@ ghost use Rattle.fir_lack.specs.working.Lacks.{lack_of};
 use fir_ast::Place;
 
 /// Where it begins, and its first token.
-#[derive(Clone, Copy, PartialEq, Eq)]
+#[derive(Clone, Copy)]
 pub struct Lack<'a> {
     pub place: Place,
     pub word: &'a [u8],

@@ -27,7 +27,7 @@ pub enum Node {
 }
 
 /// A dynamic index.
-#[derive(Clone, Copy, PartialEq, Eq)]
+#[derive(Clone, Copy)]
 pub struct Pick {
     /// The index before it.
     pub before: Option<usize>,

@@ -12,7 +12,7 @@ pub enum LeafStmt {
 }
 
 /// A leaf is driven.
-#[derive(Clone, Copy, PartialEq, Eq)]
+#[derive(Clone, Copy)]
 pub struct Drive {
     /// Where the connect or the invalid stands.
     pub place: Place,
@@ -35,7 +35,7 @@ pub struct LeafWhen {
 }
 
 /// An instance of the module with that number, whose ports have the leaves from that number on.
-#[derive(Clone, Copy, PartialEq, Eq)]
+#[derive(Clone, Copy)]
 pub struct LeafInstance {
     /// How many are declared before it.
     pub declaration: usize,

@@ -18,7 +18,7 @@ use fir_types::{Found, Sort};
 use std::alloc::Global;
 
 /// A leaf of the left type, one of the right, and whether the right one is driven.
-#[derive(Clone, Copy, PartialEq, Eq)]
+#[derive(Clone, Copy)]
 pub struct LeafPair {
     pub left: u64,
     pub right: u64,

@@ -3,7 +3,7 @@
 use fir_types::Found;
 
 /// The leaves of a type from that of a number on, or, behind dynamic indices, those that these pick.
-#[derive(Clone, Copy, PartialEq, Eq)]
+#[derive(Clone, Copy)]
 pub struct Target {
     /// The number of the first leaf, where each index picks the first element; none behind an index into a
     /// vector without elements.

@@ -6,7 +6,7 @@ use Rattle.fir_ast.specs.Types.{DataType, Fields, field}
 use Rattle.fir_meaning.specs.LeafPaths.{Step, named, element}
 use Rattle.fir_meaning.specs.TypeLeaves.{TypeLeaf, element_leaves, field_leaves, turned, type_leaves, under}
 use Rattle.fir_type_table.specs.working.Tables.{shown}
-use Rattle.fir_types.specs.working.Driven.{Spot, spot_of}
+use Rattle.fir_types.specs.working.Spots.{Spot, spot_of}
 use Rattle.fir_types.proofs.LeafSpots.{shown_leaves}
 use Rattle.fir_meaning.specs.LeafedModules.{repeated}
 use Rattle.fir_leaf_table.specs.working.TypedLeaves.{flips_of}

@@ -12,7 +12,7 @@ pub const OVER: u32 = 129;
 /// A width in bits, made of the widths of unknowns, which are told by their numbers from 0 on. An
 /// operation is one of the operator table (FIRRTL spec, "Primitive Operations"), and its width is
 /// over where an operand is.
-#[derive(Clone, Copy, PartialEq, Eq)]
+#[derive(Clone, Copy)]
 pub enum Term {
     /// So many bits.
     Known(u32),
@@ -30,7 +30,7 @@ pub enum Term {
 }
 
 /// An unknown is at least as wide as a term.
-#[derive(Clone, Copy, PartialEq, Eq)]
+#[derive(Clone, Copy)]
 pub struct Bound {
     pub unknown: usize,
     pub term: Term,

@@ -5,7 +5,7 @@ ghost use Rattle.fir_lex.specs.working.Numbers.{HasNumber};
 use fir_ast::Place;
 
 /// What a token is.
-#[derive(Clone, Copy, PartialEq, Eq)]
+#[derive(Clone, Copy)]
 pub enum Kind {
     /// A letter or an underscore, then letters, digits, underscores and dollar signs.
     Word,

@@ -4,7 +4,7 @@ use fir_bits::NumTy;
 use fir_net::Read;
 
 /// A leaf or a node, with its type.
-#[derive(Clone, Copy, PartialEq, Eq)]
+#[derive(Clone, Copy)]
 pub struct Bound {
     pub read: Read,
     pub ty: NumTy,

@@ -16,7 +16,7 @@ use fir_base::MemoryOut;
 use std::alloc::Global;
 
 /// An element that indices may pick: how many leaves it is from the first one, and the condition that it is picked.
-#[derive(Clone, Copy, PartialEq, Eq)]
+#[derive(Clone, Copy)]
 pub struct Element {
     pub offset: usize,
     pub condition: Bound,

@@ -14,7 +14,7 @@ use fir_leaf::Node;
 use std::alloc::Global;
 
 /// A dynamic index: where its value is, how many elements there are, and how many leaves apart.
-#[derive(Clone, Copy, PartialEq, Eq)]
+#[derive(Clone, Copy)]
 pub struct Index {
     pub bound: Bound,
     pub length: u128,

@@ -1,5 +1,5 @@
 -- A table of declarations with one declaration more.
-use Rattle.std.proofs.Common.{◌≡◌, ℕ, List, [], ◌∷◌, ◌++◌, map, length, Bool, cond, Option, Some, None, refl, sym, ap, ◌∙◌, subst, arith}
+use Rattle.std.proofs.Common.{◌≡◌, ℕ, zero, suc, ◌+◌, ◌<◌, List, [], ◌∷◌, ◌++◌, map, length, slice_get, Bool, cond, Option, Some, None, refl, sym, ap, ◌∙◌, subst, arith}
 use Rattle.std.specs.Prelude.{Vec}
 use Rattle.std.specs.declared.alloc.Global.{Global}
 use Rattle.std.specs.Cmp.Lexicographic.{nat_list_eq_equiv}
@@ -7,7 +7,8 @@ use Rattle.std.specs.Map.{lookup}
 use Rattle.std.specs.Option.{option_or}
 use Rattle.std.specs.Str.{bytes_eq}
 use Rattle.std.proofs.lemmas.List.{length-map, map-append}
-use Rattle.indexmap.specs.IndexMap.{get, insert_entry}
+use Rattle.std.proofs.lemmas.Option.{none-some}
+use Rattle.indexmap.specs.IndexMap.{get, insert_entry, values}
 use Rattle.indexmap.proofs.CallerLemmas.{insert_entry-new}
 use Rattle.fir_base.specs.Lists.{Distinct}
 use Rattle.fir_base.proofs.Twins.{distinct_more}
@@ -17,7 +18,7 @@ use Rattle.fir_names.specs.declared.declaration.Component.{Component as Componen
 use Rattle.fir_names.specs.declared.declaration.Declaration.{Declaration as Entry}
 use Rattle.fir_names.specs.declared.names.Names.{Names}
 use Rattle.fir_names.specs.working.Numbered.{component_of}
-use Rattle.fir_names.specs.working.Tabulated.{entry_count, entry_of, entries_from, entry_named, Tabulates}
+use Rattle.fir_names.specs.working.Tabulated.{entry_at, entry_count, entry_of, entries_from, entry_named, Tabulates}
 use Rattle.fir_names.proofs.LookUps.{or_cond}
 use Rattle.fir_names.proofs.TableEntries.{length_entries, entries_more, entry_last, found_name, not_entered}
 
@@ -25,6 +26,17 @@ use Rattle.fir_names.proofs.TableEntries.{length_entries, entries_more, entry_la
 pub table_length : (modules : List PlacedName) (names : Names) (ds : Declarations) → Tabulates modules names ds → entry_count names ≡ length ds
 table_length modules names ds t =
     sym (length-map names.declarations.entries (λ e. e.1)) ∙ ap length t.in_order ∙ length_entries modules 0 ds
+
+within_items : (es : List Entry) (k : ℕ) (e : Entry) → slice_get es k ≡ Some e → k < length es
+within_items [] k e h = absurd (none-some e h)
+within_items (x ∷ es) zero e h = omega arith
+within_items (x ∷ es) (suc k) e h = let more = within_items es k e h in omega arith
+
+-- where an entry stands, so many stand before it
+pub entry_within : (names : Names) (k : ℕ) (e : Entry) → entry_at names k ≡ Some e → k < entry_count names
+entry_within names k e h =
+    let within = within_items (values names.declarations) k e h in
+    omega (arith, within, length-map names.declarations.entries (λ e. e.1))
 
 -- what is noted of expressions is no matter
 pub tabulates_noted : (modules : List PlacedName) (names : Names) (ds : Declarations) (noted : Vec ℕ Global) → Tabulates modules names ds

@@ -1,9 +1,9 @@
 -- Where no fault of the first group stands, each module has a name of its own and each instance a module.
-use Rattle.std.proofs.Common.{◌≡◌, ℕ, zero, suc, ◌+◌, List, [], ◌∷◌, ◌++◌, true, false, length, slice_get, Some, None, Option, option_map, refl, sym, ap, subst, ⊎_elim, ◌∙◌, append_assoc, add-one, add-zero, arith}
+use Rattle.std.proofs.Common.{◌≡◌, ℕ, zero, suc, ◌+◌, ◌<◌, List, [], ◌∷◌, ◌++◌, true, false, length, slice_get, Some, None, Option, option_map, refl, sym, ap, subst, ⊎_elim, ◌∙◌, append_assoc, add-one, add-zero, arith}
 use Rattle.std.specs.Str.{bytes_eq}
 use Rattle.std.specs.List.{AllByRecursion}
-use Rattle.std.proofs.lemmas.List.{length_push}
-use Rattle.std.proofs.lemmas.Option.{none-some, same_Some}
+use Rattle.std.proofs.lemmas.List.{length_push, length-map}
+use Rattle.std.proofs.lemmas.Option.{none-some, same_Some, slice_get_within}
 use Rattle.fir_base.specs.Lists.{In}
 use Rattle.fir_base.proofs.Each.{all_at, all_joined}
 use Rattle.fir_base.proofs.Empty.{empty_left, empty_right}
@@ -39,6 +39,12 @@ number_named (n ∷ ns) name k h =
     let r = number_named ns name less.0 less.1 in
     (r.0, ap (slice_get (n ∷ ns)) less.2 ∙ r.1, r.2))
     (chosen (bytes_eq n.name name) (Some 0) (option_map (λ j. j + 1) (find_number ns name)) (Some k) h)
+
+pub number_below : (c : CircuitTree) (name : List ℕ) (w : ℕ) → find_number (module_names c) name ≡ Some w → w < length c.modules
+number_below c name w h =
+    let n = number_named (module_names c) name w h in
+    let inside = slice_get_within (module_names c) w n.0 n.1 in
+    omega (arith, inside, length-map c.modules (λ (m : ModuleTree). m.named))
 
 -- a name that is found has a number
 number_found : (ns : List PlacedName) (name : List ℕ) (n : PlacedName) → find_name ns name ≡ Some n → (k : ℕ) × (find_number ns name ≡ Some k)

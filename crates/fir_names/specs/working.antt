@@ -1,13 +1,9 @@
 -- What no clause of `run` reads: views of the code, its tables and its walks.
 pub mod ModuleOrder
-pub mod Namespaces
 pub mod Numbered
 pub mod Tabulated
-pub mod Opened
-pub mod Scoped
 pub mod Parts
 pub mod Judged
-pub mod Entered
 pub mod Ordered
 pub mod IsNamed
 pub mod PortNames

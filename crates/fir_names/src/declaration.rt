@@ -16,7 +16,7 @@ pub enum Component {
 }
 
 /// A declaration in a module.
-#[derive(Clone, Copy, PartialEq, Eq)]
+#[derive(Clone, Copy)]
 pub struct Declaration {
     /// Where its name stands.
     pub place: Place,

@@ -15,6 +15,7 @@ use crate::declaration::Component;
 use crate::names::Names;
 use fir_ast::{Circuit, Port};
 use fir_base::Name;
+use fir_pass::Meant;
 use std::marker::Model;
 
 /// A circuit in which no fault of names stands, with a table of what each module declares and an order of
@@ -42,9 +43,16 @@ impl Model for Named {
     ghost invariant = { λ n. IsNamed (circuit_of n.circuit) n.tables.items n.order.items };
 }
 
+impl Meant for Named {
+    ghost use Rattle.fir_ast.specs.View.{circuit_of};
+    ghost use Rattle.fir_meaning.specs.SourceMeaning.{circuit_meaning};
+
+    ghost meaning = { λ n. circuit_meaning (circuit_of n) };
+}
+
 impl Named {
     /// The circuit with these tables and this order.
-    pub(crate) fn new(circuit: Circuit, tables: Vec<Names>, order: Vec<usize>) -> Named
+    pub fn new(circuit: Circuit, tables: Vec<Names>, order: Vec<usize>) -> Named
         requires { IsNamed (circuit_of circuit) tables.items order.items }
         ensures { result ≡ circuit }
     {

@@ -17,15 +17,15 @@ use std::alloc::Global;
 /// The declarations of a module, in the order of the text, each under the bytes that spell its name.
 #[derive(Drop)]
 pub struct Names {
-    pub(crate) declarations: IndexMap<Vec<u8>, Declaration>,
+    declarations: IndexMap<Vec<u8>, Declaration>,
     /// For each expression of the module, in the order in which their ends come, how many are declared
     /// before what a reference names; of any other form, and of a reference in an index, it is a guess.
-    pub(crate) noted: Vec<usize>,
+    noted: Vec<usize>,
 }
 
 impl Names {
     /// Nothing is declared.
-    pub(crate) fn new(alloc: Global) -> Names
+    pub fn new(alloc: Global) -> Names
         ensures { (modules : List PlacedName) → Tabulates modules result [] }
     {
         Names {
@@ -76,7 +76,7 @@ impl Names {
     }
 
     /// Declares a name that is not declared yet, within so many whens.
-    pub(crate) fn declare(
+    pub fn declare(
         &mut self,
         alloc: Global,
         ident: &Ident,
@@ -94,5 +94,19 @@ impl Names {
         let name = Vec::from_slice(alloc, ident.name.as_bytes())?;
         self.declarations.insert(name, declaration)?;
         Ok(())
+    }
+
+    /// The same table with this noted of the expressions.
+    pub fn with_noted(self, noted: Vec<usize>) -> Names
+        ensures { (modules : List PlacedName) (ds : Declarations) → Tabulates modules self ds → Tabulates modules result ds }
+    {
+        let Names {
+            declarations,
+            noted: _,
+        } = self;
+        Names {
+            declarations,
+            noted,
+        }
     }
 }

@@ -1,4 +1,3 @@
 pub mod Paths
-pub mod Names
 pub mod Rows
 pub mod working

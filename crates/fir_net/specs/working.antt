@@ -11,9 +11,6 @@ pub mod IsNet
 pub mod IsWritable
 pub mod Counted
 pub mod Laws
-pub mod LeafNamed
-pub mod NameSets
-pub mod IsTable
 pub mod EqualNodes
 pub mod NodeHash
 pub mod Shares

@@ -10,7 +10,7 @@ use fir_base::Direction;
 use fir_bits::PrimOp;
 
 /// What a first word declares, where a name follows, or `when`.
-#[derive(Clone, Copy, PartialEq, Eq)]
+#[derive(Clone, Copy)]
 pub enum Declaration {
     Wire,
     Reg,
@@ -21,7 +21,7 @@ pub enum Declaration {
 }
 
 /// The first word of a statement.
-#[derive(Clone, Copy, PartialEq, Eq)]
+#[derive(Clone, Copy)]
 pub enum Lead {
     Declares(Declaration),
     Skip,
@@ -33,7 +33,7 @@ pub enum Lead {
 }
 
 /// The word of a type.
-#[derive(Clone, Copy, PartialEq, Eq)]
+#[derive(Clone, Copy)]
 pub enum TypeWord {
     UInt,
     SInt,
@@ -46,7 +46,7 @@ pub enum TypeWord {
 }
 
 /// A word before an opening parenthesis in an expression.
-#[derive(Clone, Copy, PartialEq, Eq)]
+#[derive(Clone, Copy)]
 pub enum Applied {
     Operator(PrimOp),
     Mux,
@@ -59,7 +59,7 @@ pub enum Applied {
 }
 
 /// The word of a memory's field.
-#[derive(Clone, Copy, PartialEq, Eq)]
+#[derive(Clone, Copy)]
 pub enum FieldWord {
     DataType,
     Depth,
@@ -73,7 +73,7 @@ pub enum FieldWord {
 }
 
 /// The word in a module's place.
-#[derive(Clone, Copy, PartialEq, Eq)]
+#[derive(Clone, Copy)]
 pub enum ModuleWord {
     Module,
     /// A module that is not in the language.

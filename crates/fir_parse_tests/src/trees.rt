@@ -10,27 +10,27 @@ use fir_ast::Place;
 use fir_base::{MemoryOut, Refused};
 use fir_lex::lex;
 use fir_parse::parse;
-use short_form::put_circuit;
+use short_form::{Form, put_circuit};
 use std::alloc::Global;
 use std::test::Fail;
 
 /// The tree of a text in a short form; nothing where the text has a fault.
 pub fn tree_of(alloc: Global, text: &[u8]) -> Result<Vec<u8>, MemoryOut> {
-    let mut out = Vec::new(alloc);
+    let mut out = Form::new(alloc);
     if text.len() > 16777216 {
-        return Ok(out);
+        return out.into_bytes();
     }
     let tokens = match lex(alloc, text) {
         Ok(tokens) => tokens,
-        Err(Refused::Fault(_fault)) => return Ok(out),
+        Err(Refused::Fault(_fault)) => return out.into_bytes(),
         Err(Refused::Memory) => return Err(MemoryOut),
     };
     match parse(alloc, tokens) {
-        Ok(circuit) => put_circuit(&mut out, &circuit)?,
+        Ok(circuit) => put_circuit(&mut out, &circuit),
         Err(Refused::Fault(_fault)) => {}
         Err(Refused::Memory) => return Err(MemoryOut),
     }
-    Ok(out)
+    out.into_bytes()
 }
 
 #[test]

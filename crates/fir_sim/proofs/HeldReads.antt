@@ -16,7 +16,7 @@ use Rattle.fir_net.specs.working.Settled.{value_at}
 use Rattle.fir_net.proofs.NodeReads.{node_at, reads_can, can_more}
 use Rattle.fir_work.specs.working.Numbers.{number_at, value_in}
 use Rattle.fir_work.specs.working.NodeValues.{held_node}
-use Rattle.fir_sim.proofs.HeldValues.{node_same}
+use Rattle.fir_tick.proofs.HeldValues.{node_same}
 
 module _ (law : NodesHaveTheirValues) (net : FlatNet) (whole : IsNet net) (ns : List ℕ) where
   abbrev value : Read → Num

@@ -6,13 +6,13 @@ use Rattle.fir_bits.specs.Values.{IsBitVector}
 use Rattle.fir_bits.specs.working.Laws.{HasItsType}
 use Rattle.fir_net.specs.declared.net.FlatNet.{FlatNet}
 use Rattle.fir_net.specs.working.Laws.{NodesHaveTheirTypes}
-use Rattle.fir_sim.specs.declared.plan.Plan.{Plan}
-use Rattle.fir_sim.specs.declared.steps.Step.{Step}
-use Rattle.fir_sim.specs.declared.values.Values.{Values}
-use Rattle.fir_sim.specs.working.Held.{IsHeld}
-use Rattle.fir_sim.specs.working.Views.{IsTickOf}
-use Rattle.fir_sim.specs.working.Settling.{IsSettled}
-use Rattle.fir_sim.specs.working.Passes.{with_inputs, with_state, CanTake, IsPlaced, IsShown, IsWithin, output_value, register_value}
+use Rattle.fir_tick.specs.declared.plan.Plan.{Plan}
+use Rattle.fir_tick.specs.declared.steps.Step.{Step}
+use Rattle.fir_tick.specs.declared.values.Values.{Values}
+use Rattle.fir_tick.specs.working.Held.{IsHeld}
+use Rattle.fir_tick.specs.working.Views.{IsTickOf}
+use Rattle.fir_tick.specs.working.Settling.{IsSettled}
+use Rattle.fir_tick.specs.working.Passes.{with_inputs, with_state, CanTake, IsPlaced, IsShown, IsWithin, output_value, register_value}
 use Rattle.fir_sim.specs.working.Running.{IsRunning}
 use Rattle.fir_sim.proofs.PlanFacts.{registers_placed, inputs_within, outputs_can_be_shown}
 use Rattle.fir_sim.proofs.Ticking.{state_put, inputs_put, outputs_room, state_room, IsTicked}

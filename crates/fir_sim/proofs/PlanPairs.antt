@@ -12,10 +12,10 @@ use Rattle.fir_net.proofs.NumberedLeaves.{GivesOwn, inputs_own, registers_own}
 use Rattle.fir_base.proofs.Elements.{all_there}
 use Rattle.fir_net.specs.declared.reads.Read.{Read}
 use Rattle.fir_net.specs.working.Settled.{with_bits, input_number, output_number, register_number, numbers_by}
-use Rattle.fir_sim.specs.declared.plan.InputPlan.{InputPlan}
-use Rattle.fir_sim.specs.declared.plan.OutputPlan.{OutputPlan}
-use Rattle.fir_sim.specs.working.Plans.{planned, input_plan, output_plan, plans_by}
-use Rattle.fir_sim.proofs.Lists.{pairs_joined}
+use Rattle.fir_tick.specs.declared.plan.InputPlan.{InputPlan}
+use Rattle.fir_tick.specs.declared.plan.OutputPlan.{OutputPlan}
+use Rattle.fir_tick.specs.working.Plans.{planned, input_plan, output_plan, plans_by}
+use Rattle.fir_tick.proofs.Lists.{pairs_joined}
 use Rattle.fir_sim.proofs.Placings.{AreRising, rising_from}
 
 -- a plan for each number

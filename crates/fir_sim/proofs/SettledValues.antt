@@ -27,15 +27,15 @@ use Rattle.fir_net.proofs.Places.{value_at_place}
 use Rattle.fir_net.proofs.LeafEquations.{driven_at}
 use Rattle.fir_work.specs.working.Numbers.{number_at, type_read, value_in}
 use Rattle.fir_work.specs.working.NodeValues.{held_node, held_node_at}
-use Rattle.fir_sim.specs.working.Views.{IsTickOf}
-use Rattle.fir_sim.specs.working.Plans.{root_at, AreRoots}
-use Rattle.fir_sim.specs.working.Settling.{is_one, held_under, held_register, held_role, held_leaf_at, IsSettled}
-use Rattle.fir_sim.specs.declared.plan.InputPlan.{InputPlan}
-use Rattle.fir_sim.proofs.Lists.{pairs_right}
+use Rattle.fir_tick.specs.working.Views.{IsTickOf}
+use Rattle.fir_tick.specs.working.Plans.{root_at, AreRoots}
+use Rattle.fir_tick.specs.working.Settling.{is_one, held_under, held_register, held_role, held_leaf_at, IsSettled}
+use Rattle.fir_tick.specs.declared.plan.InputPlan.{InputPlan}
+use Rattle.fir_tick.proofs.Lists.{pairs_right}
 use Rattle.fir_sim.proofs.PlanPairs.{IsInput, inputs_paired}
-use Rattle.fir_sim.proofs.HeldNumbers.{leaves_fit}
+use Rattle.fir_tick.proofs.HeldNumbers.{leaves_fit}
 use Rattle.fir_sim.proofs.HeldReads.{what_is_read}
-use Rattle.fir_sim.proofs.HeldTypes.{node_is}
+use Rattle.fir_tick.proofs.HeldTypes.{node_is}
 
 map_same : {A B : Type 0} → (f g : A → B) (xs : List A) → AllByRecursion (λ x. f x ≡ g x) xs → map f xs ≡ map g xs
 map_same f g [] h = refl

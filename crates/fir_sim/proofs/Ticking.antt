@@ -12,17 +12,17 @@ use Rattle.fir_net.specs.working.Laws.{NodesHaveTheirTypes, NodesHaveTheirValues
 use Rattle.fir_net.specs.working.Settled.{inputs, registers, shape}
 use Rattle.fir_net.specs.working.Allows.{Allows}
 use Rattle.fir_work.specs.working.Numbers.{number_at}
-use Rattle.fir_sim.specs.declared.plan.Plan.{Plan}
-use Rattle.fir_sim.specs.declared.steps.Step.{Step}
-use Rattle.fir_sim.specs.declared.values.Values.{Values}
-use Rattle.fir_sim.specs.working.Held.{IsHeld}
-use Rattle.fir_sim.specs.working.Views.{numbers, widths, output_widths, IsTickOf}
-use Rattle.fir_sim.specs.working.Plans.{IsPlan, root_at}
-use Rattle.fir_sim.specs.working.Passes.{placed, with_inputs, with_state, output_width, register_width, output_value, register_value}
-use Rattle.fir_sim.specs.working.Settling.{IsSettled}
+use Rattle.fir_tick.specs.declared.plan.Plan.{Plan}
+use Rattle.fir_tick.specs.declared.steps.Step.{Step}
+use Rattle.fir_tick.specs.declared.values.Values.{Values}
+use Rattle.fir_tick.specs.working.Held.{IsHeld}
+use Rattle.fir_tick.specs.working.Views.{numbers, widths, output_widths, IsTickOf}
+use Rattle.fir_tick.specs.working.Plans.{IsPlan, root_at}
+use Rattle.fir_tick.specs.working.Passes.{placed, with_inputs, with_state, output_width, register_width, output_value, register_value}
+use Rattle.fir_tick.specs.working.Settling.{IsSettled}
 use Rattle.fir_sim.specs.working.Running.{IsRunning}
-use Rattle.fir_sim.proofs.Fits.{fit_count}
-use Rattle.fir_sim.proofs.Lists.{map_both}
+use Rattle.fir_tick.proofs.Fits.{fit_count}
+use Rattle.fir_tick.proofs.Lists.{map_both}
 use Rattle.fir_sim.proofs.Placings.{AreRising, placed_held, placed_here, placed_elsewhere, inputs_placed, state_placed, whole_fit}
 use Rattle.fir_sim.proofs.PlanPairs.{inputs_rise, registers_rise}
 use Rattle.fir_sim.proofs.PlanFacts.{input_leaves, input_leaves_there, register_leaves, register_leaves_there, shown_widths, state_widths, registers_apart}

@@ -24,16 +24,16 @@ use Rattle.fir_net.proofs.WholeValues.{type_at}
 use Rattle.fir_work.specs.declared.task.Task.{Task}
 use Rattle.fir_work.specs.working.Numbers.{number_at, place, value_in}
 use Rattle.fir_work.specs.working.Tasks.{IsFitTask, worked}
-use Rattle.fir_sim.specs.declared.plan.RegisterPlan.{RegisterPlan}
-use Rattle.fir_sim.specs.declared.plan.ResetPlan.{ResetPlan}
-use Rattle.fir_sim.specs.working.Held.{IsHeld}
-use Rattle.fir_sim.specs.working.Plans.{root_at, output_plan, plans_by, IsNextPlan, IsRegisterPlan, IsResetPlan}
-use Rattle.fir_sim.specs.working.Passes.{output_value, next_number, init_number, taken_number, register_value, CanBeTaken, CanReset, CanTake, Gives}
-use Rattle.fir_sim.specs.working.Settling.{IsSettled}
-use Rattle.fir_sim.proofs.Lists.{pairs_left, pairs_same}
+use Rattle.fir_tick.specs.declared.plan.RegisterPlan.{RegisterPlan}
+use Rattle.fir_tick.specs.declared.plan.ResetPlan.{ResetPlan}
+use Rattle.fir_tick.specs.working.Held.{IsHeld}
+use Rattle.fir_tick.specs.working.Plans.{root_at, output_plan, plans_by, IsNextPlan, IsRegisterPlan, IsResetPlan}
+use Rattle.fir_tick.specs.working.Passes.{output_value, next_number, init_number, taken_number, register_value, CanBeTaken, CanReset, CanTake, Gives}
+use Rattle.fir_tick.specs.working.Settling.{IsSettled}
+use Rattle.fir_tick.proofs.Lists.{pairs_left, pairs_same}
 use Rattle.fir_sim.proofs.PlanPairs.{IsOutput, outputs_paired}
-use Rattle.fir_sim.proofs.HeldNumbers.{can_of, place_within}
-use Rattle.fir_sim.proofs.HeldTypes.{read_below}
+use Rattle.fir_tick.proofs.HeldNumbers.{can_of, place_within}
+use Rattle.fir_tick.proofs.HeldTypes.{read_below}
 use Rattle.fir_sim.proofs.SettledValues.{same_fitted, same_high}
 
 -- the outputs that are shown

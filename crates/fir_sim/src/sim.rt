@@ -6,18 +6,15 @@ ghost use Rattle.fir_net.specs.working.IsNet.{IsNet};
 ghost use Rattle.fir_net.specs.working.IsOrder.{IsOrder};
 ghost use Rattle.fir_net.specs.working.Settled.{shape};
 ghost use Rattle.fir_net.specs.working.Allows.{Allows};
-ghost use Rattle.fir_sim.specs.working.Views.{numbers, widths, output_widths, IsTickOf};
+ghost use Rattle.fir_tick.specs.working.Views.{numbers, widths, output_widths, IsTickOf};
 
-use crate::plan::Plan;
-use crate::start::{output_zeros, state_of, zeros};
-use crate::steps::{Step, steps_of};
-use crate::values::Values;
 use fir_base::MemoryOut;
 use fir_bits::Bits;
 use fir_bits::laws::has_its_type;
 use fir_loop::Order;
 use fir_net::FlatNet;
 use fir_net::laws::{nodes_have_their_types, nodes_have_their_values};
+use fir_tick::{Plan, Step, Values, output_zeros, state_of, steps_of, zeros};
 use std::alloc::Global;
 use std::marker::Model;
 use trace_text::{Init, Tick};
@@ -32,7 +29,7 @@ pub struct Sim {
 }
 
 impl Model for Sim {
-    ghost use Rattle.fir_sim.specs.working.Views.{SimView, view_of};
+    ghost use Rattle.fir_tick.specs.working.Views.{SimView, view_of};
     ghost use Rattle.fir_sim.specs.working.Running.{IsRunning};
 
     ghost Value = { SimView };

@@ -1,7 +1,7 @@
 //! What a type is made of.
 
 /// The number of a type in its table.
-#[derive(Clone, Copy, PartialEq, Eq)]
+#[derive(Clone, Copy)]
 pub struct TypeId {
     pub(crate) number: usize,
 }
@@ -25,7 +25,7 @@ impl TypeId {
 
 /// A type, without the fields of a bundle (FIRRTL spec, "Types"). A width that is not written is
 /// None.
-#[derive(Clone, Copy, PartialEq, Eq)]
+#[derive(Clone, Copy)]
 pub enum Kind {
     UInt(Option<u128>),
     SInt(Option<u128>),

@@ -21,7 +21,7 @@ use crate::table::TypeTable;
 use fir_base::Name;
 
 /// A field of a bundle: its orientation, its type, and the leaves of the bundle before it.
-#[derive(Clone, Copy, PartialEq, Eq)]
+#[derive(Clone, Copy)]
 pub struct FieldFound {
     pub flip: bool,
     pub ty: TypeId,

@@ -10,7 +10,7 @@ use Rattle.fir_ast.specs.declared.expressions.Expr.TheOpen as layer
 use Rattle.fir_ast.specs.declared.expressions.Reference.{Reference, fold_out-Reference}
 use Rattle.fir_ast.specs.declared.expressions.Part.{Part, fold-roll-Part, fold_out-Part}
 use Rattle.fir_ast.specs.declared.expressions.Part.TheVariants as part
-use Rattle.fir_ast.specs.Expressions.{Expression, literal, Parts, no_parts, subfield, subindex, subaccess}
+use Rattle.fir_ast.specs.Expressions.{Expression, literal, reference, Parts, no_parts, subfield, subindex, subaccess}
 use Rattle.fir_ast.specs.Statements.{Sink}
 use Rattle.fir_ast.specs.View.{expr_of, parts_of, sink_of, expr_step, part_step, reference_step}
 use Rattle.fir_names.specs.working.Parts.{part_of}
@@ -18,6 +18,9 @@ use Rattle.fir_types.specs.working.Seen.{steps_of}
 
 pub literal_view : (l : Literal) → expr_of (expr.Literal l) ≡ literal l
 literal_view l = ap expr_of (sym (expr.rolls-Literal l)) ∙ fold-roll-Expr Expression (Parts → Parts) Sink expr_step part_step reference_step (layer.Literal l)
+
+pub reference_view : (r : Reference) → expr_of (expr.Ref r) ≡ reference (sink_of r).place (sink_of r).name (sink_of r).parts
+reference_view r = ap expr_of (sym (expr.rolls-Ref r)) ∙ fold-roll-Expr Expression (Parts → Parts) Sink expr_step part_step reference_step (layer.Ref r)
 
 pub sink_view : (r : Reference) → sink_of r ≡ record { place = r.place; name = r.name; parts = parts_of (map part_of r.parts.items) }
 sink_view r = fold_out-Reference Expression (Parts → Parts) Sink expr_step part_step reference_step r

@@ -9,10 +9,7 @@ pub mod Walked
 pub mod Noted
 pub mod ModuleNotes
 pub mod MemoryFields
-pub mod Driven
-pub mod Connected
-pub mod Registers
 pub mod Statements
 pub mod TypedModules
 pub mod FirstLeaves
-pub mod MemoryParts
+pub mod Spots

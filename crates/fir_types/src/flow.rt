@@ -9,7 +9,7 @@ use fir_base::Direction;
 use fir_names::Component;
 
 /// What may drive a part of a component, and what it may drive.
-#[derive(Clone, Copy, PartialEq, Eq)]
+#[derive(Clone, Copy)]
 pub enum Flow {
     /// It may drive, and not be driven.
     Source,

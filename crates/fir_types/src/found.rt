@@ -22,7 +22,7 @@ use fir_type_table::{Kind, TypeId, TypeTable};
 use std::alloc::Global;
 
 /// The type of an expression.
-#[derive(Clone, Copy, PartialEq, Eq)]
+#[derive(Clone, Copy)]
 pub enum Found {
     /// A UInt or an SInt that stands in no table, with its width if one is written: that of a literal, or of
     /// the result of an operation.
@@ -35,7 +35,7 @@ pub enum Found {
 }
 
 /// A field of what is found.
-#[derive(Clone, Copy, PartialEq, Eq)]
+#[derive(Clone, Copy)]
 pub struct FieldOf {
     pub flip: bool,
     pub found: Found,

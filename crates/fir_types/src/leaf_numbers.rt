@@ -21,7 +21,7 @@ use fir_type_table::{TypeId, TypeTable};
 use std::alloc::Global;
 
 /// The next number of a port, and the next of what a body declares; each at most 2^64 - 1.
-#[derive(Clone, Copy, PartialEq, Eq)]
+#[derive(Clone, Copy)]
 struct NextLeaf {
     port: u64,
     body: u64,

@@ -1,50 +1,29 @@
-//! The types and flows of a circuit. In comes a `Named`, a circuit without a fault of names; out comes a
-//! `Typed`, the same circuit with the types of what it declares; or the first fault of types and flows, E12
-//! to E17 (FIRRTL spec, "Types", "Flow", "Expressions", "Connects", "Registers", "Memories").
-//!
-//! One walk goes over each module in the order of the text (`module`, `statements`). What an expression is
-//! found to be (`found`) is told from what its operands are (`expressions`, `references`, `forms`,
-//! `operations`); the types of what is declared stand in one table, and are told by their ids. With these
-//! types the leaves of what is declared are numbered (`leaf_numbers`).
+//! A circuit with its types: a `Typed` is a `Named` with the types of what each module declares, and a note of what
+//! each expression is found to be (`found`, `note`). No fault of types stands in it. The types of what is declared
+//! stand in one table, and are told by their ids; with them the leaves of what is declared are numbered
+//! (`leaf_numbers`). fir_check finds the types. FIRRTL spec, "Types", "Flow".
 #![tactic(auto)]
 
-mod bundles;
-mod circuit_types;
-mod connects;
-mod drives;
-mod expressions;
-mod faults;
 mod findings;
 mod flow;
-mod forms;
 pub mod found;
-mod found_pairs;
 mod leaf_numbers;
-mod memory_faults;
-mod memory_fields;
-mod memory_type;
-mod module;
-mod modules;
+pub mod memory_fields;
 mod note;
-mod on_found;
-mod on_reached;
-mod operations;
-mod pass;
+mod place;
 mod reach;
-mod registers;
 mod scope;
 mod sort;
-mod statements;
-mod steps;
 mod typed;
 
-pub use circuit_types::check;
 pub use findings::Findings;
 pub use flow::Flow;
-pub use forms::place_of;
 pub use found::Found;
+pub use leaf_numbers::first_leaves;
 pub use memory_fields::{first_depth, first_word_type};
-pub use note::{LeafRange, Note, Pick};
-pub use pass::CheckTypes;
+pub use note::{LeafRange, Note, Pick, note_expression, note_reference};
+pub use place::place_of;
+pub use reach::Reach;
+pub use scope::Scope;
 pub use sort::Sort;
 pub use typed::Typed;

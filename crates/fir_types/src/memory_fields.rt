@@ -9,7 +9,7 @@ ghost use Rattle.fir_types.specs.working.MemoryFields.{number_of_part, only};
 use fir_ast::{MemoryField, ReadUnderWrite, Ty};
 
 /// A field that has a number.
-#[derive(Clone, Copy, PartialEq, Eq)]
+#[derive(Clone, Copy)]
 pub enum NumberField {
     Depth,
     ReadLatency,

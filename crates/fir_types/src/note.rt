@@ -16,7 +16,7 @@ use fir_ast::FirFault;
 use fir_base::{MemoryOut, Refused};
 
 /// The elements of a vector, of which a dynamic index picks one.
-#[derive(Clone, Copy, PartialEq, Eq)]
+#[derive(Clone, Copy)]
 pub struct Pick {
     /// How many leaves each has; at most 2^64 - 1.
     pub stride: u64,

@@ -4,7 +4,7 @@ use crate::flow::Flow;
 use crate::found::Found;
 
 /// What a name and the parts behind it reach (FIRRTL spec, "References", "Flow").
-#[derive(Clone, Copy, PartialEq, Eq)]
+#[derive(Clone, Copy)]
 pub struct Reach {
     /// How many are declared in the module before what the name stands for.
     pub declaration: usize,

@@ -1,7 +1,7 @@
 //! The sort of a type.
 
 /// A ground type without its width, or that a type is a bundle or a vector (FIRRTL spec, "Types").
-#[derive(Clone, Copy, PartialEq, Eq)]
+#[derive(Clone, Copy)]
 pub enum Sort {
     UInt,
     SInt,

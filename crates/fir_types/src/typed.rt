@@ -14,6 +14,7 @@ use crate::note::LeafRange;
 use fir_ast::{LeafId, Ty};
 use fir_base::MemoryOut;
 use fir_names::Named;
+use fir_pass::Meant;
 use std::alloc::Global;
 use std::marker::Model;
 
@@ -41,9 +42,16 @@ impl Model for Typed {
     ghost invariant = { λ t. IsTyped (circuit_of t.named) t.findings };
 }
 
+impl Meant for Typed {
+    ghost use Rattle.fir_ast.specs.View.{circuit_of};
+    ghost use Rattle.fir_meaning.specs.SourceMeaning.{circuit_meaning};
+
+    ghost meaning = { λ t. circuit_meaning (circuit_of t) };
+}
+
 impl Typed {
     /// The circuit with these types.
-    pub(crate) fn new(named: Named, findings: Findings) -> Typed
+    pub fn new(named: Named, findings: Findings) -> Typed
         requires { IsTyped (circuit_of named) findings }
         ensures { result ≡ named }
     {

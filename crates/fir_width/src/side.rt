@@ -12,7 +12,7 @@ use fir_types::found::shared_leaves;
 
 /// The type of an expression, and the number of its first leaf; its other leaves have the numbers behind
 /// it, in the order of the type, where all elements of a vector have the numbers of one.
-#[derive(Clone, Copy, PartialEq, Eq)]
+#[derive(Clone, Copy)]
 pub struct Side {
     pub found: Found,
     pub first: usize,

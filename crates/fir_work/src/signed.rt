@@ -7,7 +7,7 @@ use crate::work::Work;
 
 /// What is made of two signed numbers. A sum, a difference, a product and a negative are cut by a mask; a truth
 /// is 1 or 0.
-#[derive(Clone, Copy, PartialEq, Eq)]
+#[derive(Clone, Copy)]
 pub(crate) enum SignedWork {
     /// Their sum.
     Sum,

@@ -11,7 +11,7 @@ use crate::work::Work;
 use fir_net::FlatNet;
 
 /// The places of up to three operands, and what is done with their numbers.
-#[derive(Clone, Copy, PartialEq, Eq)]
+#[derive(Clone, Copy)]
 pub struct Task {
     pub(crate) first: usize,
     pub(crate) second: usize,

@@ -4,7 +4,7 @@ use crate::signed::SignedWork;
 
 /// What a task makes of the numbers of its operands: the first, the second and the third. What is computed
 /// wraps at 128 bits, and a truth is 1 or 0.
-#[derive(Clone, Copy, PartialEq, Eq)]
+#[derive(Clone, Copy)]
 pub(crate) enum Work {
     /// This number.
     Literal(u128),

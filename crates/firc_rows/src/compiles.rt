@@ -1,37 +1,37 @@
 //! `compile` with ample memory: a text that is taken, one that is refused, and one in a form that is still to come.
 
-use fir_ast::{FirFault, Place};
-use fir_base::Refused;
+use fir_base::{MemoryOut, Refused};
 use fir_compile::compile;
+use std::alloc::Global;
 use std::test::Fail;
 
-const TEXT: &[u8] =
-    b"circuit T :\n  module T :\n    input a : UInt<2>\n    output o : UInt<2>\n    o <= not(a)\n";
-
-#[test]
-fn a_text_is_compiled_or_refused(rt: HostRuntime) -> Result<(), Fail> {
-    assert!(rt; compile(rt.alloc(), TEXT).is_ok());
-    match compile(rt.alloc(), b"circuit T :\n  module S :\n") {
-        Err(Refused::Fault(FirFault::NoModule(place, name))) => {
-            assert_eq!(rt; place, Place { line: 1, col: 9 });
-            assert_eq!(rt; name.as_bytes(), b"T".as_slice());
-            Ok(())
-        }
-        _ => Err(Fail::from("the module is missed")),
+/// The line of the fault of a text; nothing where it is compiled.
+fn told(alloc: Global, text: &[u8]) -> Result<Vec<u8>, MemoryOut> {
+    let mut line = Vec::new(alloc);
+    if text.len() > 16777216 {
+        return Ok(line);
     }
+    match compile(alloc, text) {
+        Ok(_compiled) => {}
+        Err(Refused::Fault(fault)) => fault.put_line(alloc, &mut line)?,
+        Err(Refused::Memory) => return Err(MemoryOut),
+    }
+    Ok(line)
 }
 
 #[test]
-fn a_lacking_form_is_told(rt: HostRuntime) -> Result<(), Fail> {
-    match compile(
+fn a_text_is_compiled_or_its_fault_is_told(rt: HostRuntime) -> Result<(), Fail> {
+    let taken = told(
+        rt.alloc(),
+        b"circuit T :\n  module T :\n    input a : UInt<2>\n    output o : UInt<2>\n    o <= not(a)\n",
+    )?;
+    assert_eq!(rt; taken.len(), 0);
+    let refused = told(rt.alloc(), b"circuit T :\n  module S :\n")?;
+    assert!(rt; refused.as_slice() == b"E10 1:9 no module T\n".as_slice());
+    let lacking = told(
         rt.alloc(),
         b"circuit T :\n  module T :\n    output o : Clock\n    o is invalid\n",
-    ) {
-        Err(Refused::Fault(FirFault::Unsupported(place, word))) => {
-            assert_eq!(rt; place, Place { line: 3, col: 16 });
-            assert_eq!(rt; word.as_bytes(), b"Clock".as_slice());
-            Ok(())
-        }
-        _ => Err(Fail::from("the output is a clock")),
-    }
+    )?;
+    assert!(rt; lacking.as_slice() == b"E05 3:16 unsupported Clock\n".as_slice());
+    Ok(())
 }

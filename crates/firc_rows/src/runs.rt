@@ -495,45 +495,6 @@ fn calls_that_fail_are_told(rt: HostRuntime) -> Result<(), Fail> {
     end_as_they_are_to(&rt, rt.alloc(), FAILING_CALLS)
 }
 
-/// A node of so many operations within each other.
-fn nested(alloc: Global, count: u32) -> Result<Vec<u8>, MemoryOut> {
-    let mut text = Vec::new(alloc);
-    text.extend_from_slice(b"circuit T :\n  module T :\n    input a : UInt<1>\n    node n = ")?;
-    for _ in 0..count {
-        text.extend_from_slice(b"not(")?;
-    }
-    text.extend_from_slice(b"a")?;
-    for _ in 0..count {
-        text.extend_from_slice(b")")?;
-    }
-    text.extend_from_slice(b"\n")?;
-    Ok(text)
-}
-
-#[test]
-fn a_nesting_of_256_is_taken_and_of_257_is_told(rt: HostRuntime) -> Result<(), Fail> {
-    let text = nested(rt.alloc(), 255)?;
-    let shown = outcome_of(rt.alloc(), EMIT, text.as_slice(), b"", Failing::Nothing)?;
-    assert_eq!(rt; shown.status, 0);
-    assert_eq!(rt; shown.err.len(), 0);
-    let text = nested(rt.alloc(), 256)?;
-    let shown = outcome_of(rt.alloc(), EMIT, text.as_slice(), b"", Failing::Nothing)?;
-    assert_eq!(rt; shown.status, 1);
-    assert_eq!(rt; shown.out.len(), 0);
-    assert_eq!(rt; shown.err.as_slice(), b"E06 4:1294 depth 257\n".as_slice());
-    Ok(())
-}
-
-#[test]
-fn a_file_of_a_byte_more_than_the_limit_is_too_long(rt: HostRuntime) -> Result<(), Fail> {
-    let text = vec![in rt.alloc(); b'\n'; 16777217]?;
-    let shown = outcome_of(rt.alloc(), EMIT, text.as_slice(), b"", Failing::Nothing)?;
-    assert_eq!(rt; shown.status, 8);
-    assert_eq!(rt; shown.out.len(), 0);
-    assert_eq!(rt; shown.err.as_slice(), b"too long f.fir\n".as_slice());
-    Ok(())
-}
-
 /// Lines are put some tens of kilobytes at a time, so that the second put is in the midst of them.
 #[test]
 fn a_put_that_fails_in_the_midst_of_a_simulation_is_told(rt: HostRuntime) -> Result<(), Fail> {
@@ -546,18 +507,17 @@ fn a_put_that_fails_in_the_midst_of_a_simulation_is_told(rt: HostRuntime) -> Res
     assert_eq!(rt; shown.status, 4);
     assert!(rt; shown.out.len() < 90000);
     assert!(rt; shown.out.as_slice().ends_with(b"\nab\nab"));
-    assert_eq!(rt; shown.err.as_slice(), b"write\n".as_slice());
+    assert!(rt; shown.err.as_slice() == b"write\n".as_slice());
     Ok(())
 }
 
 #[test]
 fn where_nothing_fails_few_statuses_are_left(rt: HostRuntime) -> Result<(), Fail> {
-    for words in [EMIT, SIM] {
-        let files = SureFiles::new(entries(rt.alloc(), XOR, b"- 5 3\n")?);
-        assert_eq!(rt;
-            sure_status(rt.alloc(), &owned(rt.alloc(), words)?, files),
-            0
-        );
-    }
+    let emit = owned(rt.alloc(), EMIT)?;
+    let files = SureFiles::new(entries(rt.alloc(), XOR, b"")?);
+    assert_eq!(rt; sure_status(rt.alloc(), &emit, files), 0);
+    let sim = owned(rt.alloc(), SIM)?;
+    let files = SureFiles::new(entries(rt.alloc(), XOR, b"- 5 3\n")?);
+    assert_eq!(rt; sure_status(rt.alloc(), &sim, files), 0);
     Ok(())
 }

@@ -1,7 +1,7 @@
 //! The fault of a line.
 
 /// What is wrong with a line. Words are numbered from 1.
-#[derive(Clone, Copy, PartialEq, Eq)]
+#[derive(Clone, Copy)]
 pub enum Cause {
     /// X01: the word of that number is not spelled as its place needs, or an init line stands after a tick.
     Misspelled(u64),
@@ -17,7 +17,7 @@ pub enum Cause {
 }
 
 /// A bad line: its number from 1, the place of its first byte in the trace from 0, and what is wrong.
-#[derive(Clone, Copy, PartialEq, Eq)]
+#[derive(Clone, Copy)]
 pub struct TraceFault {
     pub line: u64,
     pub start: u64,

@@ -18,7 +18,7 @@ use fir_bits::mask;
 use std::alloc::Global;
 
 /// A word of the state, by its place from 0, and its value.
-#[derive(Clone, Copy, PartialEq, Eq)]
+#[derive(Clone, Copy)]
 pub struct InitWord {
     pub place: usize,
     pub value: u128,

@@ -22,7 +22,7 @@ pub struct StateWord {
 
 /// What a name stands for: the place of its first word in the state, from 0, its width in bits, and for an
 /// array how many words it has.
-#[derive(Clone, Copy, PartialEq, Eq)]
+#[derive(Clone, Copy)]
 pub struct FoundWord {
     pub place: usize,
     pub width: u32,

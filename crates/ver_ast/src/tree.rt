@@ -67,7 +67,7 @@ impl Model for Atom {
 }
 
 /// An operator before its operand (IEEE 1364-2005, 5.1.10, 5.1.11).
-#[derive(Clone, Copy, PartialEq, Eq)]
+#[derive(Clone, Copy)]
 pub enum UnaryOp {
     /// `~`, each bit turned.
     Not,
@@ -80,7 +80,7 @@ pub enum UnaryOp {
 }
 
 /// An operator between its operands (IEEE 1364-2005, 5.1.5 to 5.1.12).
-#[derive(Clone, Copy, PartialEq, Eq)]
+#[derive(Clone, Copy)]
 pub enum BinaryOp {
     /// `+`
     Add,
@@ -117,7 +117,7 @@ pub enum BinaryOp {
 }
 
 /// An operator between operands that are read as signed numbers (IEEE 1364-2005, 5.5).
-#[derive(Clone, Copy, PartialEq, Eq)]
+#[derive(Clone, Copy)]
 pub enum SignedOp {
     /// `/`, towards zero.
     Div,

@@ -8,7 +8,7 @@ use Rattle.fir_base.specs.Ticks.{Env, Tick, Shape, HasShape}
 use Rattle.fir_net.specs.declared.reads.Read.{Read}
 use Rattle.fir_net.specs.declared.leaf.Leaf.{Leaf}
 use Rattle.fir_net.specs.declared.net.FlatNet.{FlatNet}
-use Rattle.fir_net.specs.declared.name_table.NameTable.{NameTable}
+use Rattle.fir_net_names.specs.declared.name_table.NameTable.{NameTable}
 use Rattle.fir_net.specs.working.IsNet.{CanRead}
 use Rattle.fir_net.specs.working.Values.{at_width}
 use Rattle.fir_net.specs.working.Settled.{value_at, is_clock, Settled, registers, shape as net_shape}

@@ -12,10 +12,10 @@ use Rattle.fir_net.specs.declared.leaf.Role.{Role}
 use Rattle.fir_net.specs.declared.leaf.Role.TheVariants as role
 use Rattle.fir_net.specs.declared.leaf.Leaf.{Leaf}
 use Rattle.fir_net.specs.declared.net.FlatNet.{FlatNet}
-use Rattle.fir_net.specs.declared.name_table.NameTable.{NameTable}
+use Rattle.fir_net_names.specs.declared.name_table.NameTable.{NameTable}
 use Rattle.fir_net.specs.working.Dependence.{IsOf, Reads}
 use Rattle.fir_net.specs.working.IsNet.{CanBeDriven, IsRole}
-use Rattle.fir_net.specs.working.LeafNamed.{is_wire}
+use Rattle.fir_net_names.specs.working.LeafNamed.{is_wire}
 use Rattle.fir_net.specs.working.Settled.{clock_driver}
 use Rattle.ver_ast.specs.Nets.{Sized, clocks}
 use Rattle.ver_ast.specs.SoundSides.{HasWidth}

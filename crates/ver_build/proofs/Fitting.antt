@@ -14,7 +14,7 @@ use Rattle.fir_net.specs.declared.leaf.Role.TheVariants as role
 use Rattle.fir_net.specs.declared.node.Node.{Node}
 use Rattle.fir_net.specs.declared.node.Node.TheVariants as node
 use Rattle.fir_net.specs.declared.net.FlatNet.{FlatNet}
-use Rattle.fir_net.specs.declared.name_table.NameTable.{NameTable}
+use Rattle.fir_net_names.specs.declared.name_table.NameTable.{NameTable}
 use Rattle.fir_net.specs.working.Dependence.{support_of}
 use Rattle.fir_net.specs.working.IsNet.{CanRead, CanBeDriven, IsRole, IsNode}
 use Rattle.ver_ast.specs.declared.tree.Assign.{Assign}

@@ -8,8 +8,8 @@ use Rattle.fir_base.proofs.SameNames.{name_same}
 use Rattle.fir_base.proofs.Tests.{both}
 use Rattle.fir_base.proofs.Twins.{distinct_joined}
 use Rattle.ver_words.specs.Reserved.{is_reserved}
-use Rattle.fir_net.specs.Names.{is_free, inner_name, AreInner}
-use Rattle.fir_net.proofs.Untaken.{numbered_apart}
+use Rattle.fir_net_names.specs.Names.{is_free, inner_name, AreInner}
+use Rattle.fir_net_names.proofs.Untaken.{numbered_apart}
 use Rattle.ver_build.specs.working.Places.{AreInnerTo}
 
 among : (names : List (List ℕ)) (x : List ℕ) → In names x → is_among names x ≡ true

@@ -7,7 +7,7 @@ use Rattle.fir_net.specs.declared.leaf.Role.{Role}
 use Rattle.fir_net.specs.declared.leaf.Role.TheVariants as role
 use Rattle.fir_net.specs.declared.leaf.Leaf.{Leaf}
 use Rattle.fir_net.specs.working.IsNet.{is_port, AreInside, ArePortsFirst}
-use Rattle.fir_net.specs.working.LeafNamed.{with_some}
+use Rattle.fir_net_names.specs.working.LeafNamed.{with_some}
 use Rattle.ver_ast.specs.Nets.{Sized, names_of}
 use Rattle.ver_build.proofs.Names.{NameList, Each, zipped, map_zipped}
 

@@ -9,9 +9,9 @@ use Rattle.fir_net.specs.declared.leaf.Role.{Role}
 use Rattle.fir_net.specs.declared.leaf.Role.TheVariants as role
 use Rattle.fir_net.specs.declared.leaf.Leaf.{Leaf}
 use Rattle.fir_net.specs.declared.net.FlatNet.{FlatNet}
-use Rattle.fir_net.specs.declared.name_table.NameTable.{NameTable}
+use Rattle.fir_net_names.specs.declared.name_table.NameTable.{NameTable}
 use Rattle.fir_net.specs.working.IsNet.{IsRole}
-use Rattle.fir_net.specs.working.LeafNamed.{is_wire}
+use Rattle.fir_net_names.specs.working.LeafNamed.{is_wire}
 use Rattle.fir_net.specs.working.Settled.{is_clock, input_number, clock_number, output_number, register_number, numbers_by, inputs, clocks, outputs, registers}
 use Rattle.ver_ast.specs.Nets.{Sized, names_of, inputs as v_inputs, outputs as v_outputs, clocks as v_clocks, regs}
 use Rattle.ver_build.specs.declared.places.Places.{Places}

@@ -6,12 +6,12 @@ use Rattle.fir_base.specs.Lists.{Distinct}
 use Rattle.ver_words.specs.Names.{IsName}
 use Rattle.fir_net.specs.declared.reads.Read.{Read}
 use Rattle.fir_net.specs.declared.net.FlatNet.{FlatNet}
-use Rattle.fir_net.specs.declared.name_table.NameTable.{NameTable}
+use Rattle.fir_net_names.specs.declared.name_table.NameTable.{NameTable}
 use Rattle.fir_net.specs.working.IsNet.{IsNet}
 use Rattle.fir_net.specs.working.IsOrder.{IsOrder}
 use Rattle.fir_net.specs.working.IsWritable.{IsWritable}
-use Rattle.fir_net.specs.working.IsTable.{IsTable}
-use Rattle.fir_net.specs.working.LeafNamed.{somes}
+use Rattle.fir_net_names.specs.working.IsTable.{IsTable}
+use Rattle.fir_net_names.specs.working.LeafNamed.{somes}
 use Rattle.fir_net.specs.working.Laws.{NodesHaveTheirValues, NodesHaveTheirTypes, OrderedHasOne}
 use Rattle.ver_ast.specs.working.Laws.{ValidHasOneRest}
 use Rattle.ver_build.specs.declared.places.Places.{Places}

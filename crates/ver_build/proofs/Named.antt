@@ -9,9 +9,9 @@ use Rattle.fir_base.proofs.Each.{all_at, all_from, all_among, all_joined, all_ma
 use Rattle.fir_base.proofs.Members.{in_map, in_left, in_right, in_either}
 use Rattle.fir_net.specs.declared.reads.Read.{Read}
 use Rattle.fir_net.specs.declared.net.FlatNet.{FlatNet}
-use Rattle.fir_net.specs.declared.name_table.NameTable.{NameTable}
-use Rattle.fir_net.specs.working.LeafNamed.{somes}
-use Rattle.fir_net.specs.Names.{AreNamed, AreInner}
+use Rattle.fir_net_names.specs.declared.name_table.NameTable.{NameTable}
+use Rattle.fir_net_names.specs.working.LeafNamed.{somes}
+use Rattle.fir_net_names.specs.Names.{AreNamed, AreInner}
 use Rattle.ver_words.specs.Names.{IsName}
 use Rattle.ver_ast.specs.declared.tree.Port.{Port}
 use Rattle.ver_ast.specs.declared.tree.Net.{Net}

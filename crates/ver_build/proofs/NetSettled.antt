@@ -12,11 +12,11 @@ use Rattle.fir_net.specs.declared.leaf.Role.{Role}
 use Rattle.fir_net.specs.declared.leaf.Role.TheVariants as role
 use Rattle.fir_net.specs.declared.leaf.Leaf.{Leaf}
 use Rattle.fir_net.specs.declared.net.FlatNet.{FlatNet}
-use Rattle.fir_net.specs.declared.name_table.NameTable.{NameTable}
+use Rattle.fir_net_names.specs.declared.name_table.NameTable.{NameTable}
 use Rattle.fir_net.specs.working.Values.{at_width}
 use Rattle.fir_net.specs.working.IsNet.{CanRead, IsRole}
 use Rattle.fir_net.specs.working.IsWritable.{IsWritableRole}
-use Rattle.fir_net.specs.working.LeafNamed.{has_name, is_wire}
+use Rattle.fir_net_names.specs.working.LeafNamed.{has_name, is_wire}
 use Rattle.fir_net.specs.working.Settled.{value_at, is_clock, driver, clock_driver, driven_clock, shown, Settled, clocks, registers, shape as net_shape}
 use Rattle.fir_net.specs.working.Next.{next_word}
 use Rattle.fir_net.proofs.Places.{value_at_place}

@@ -13,7 +13,7 @@ use Rattle.fir_net.specs.declared.leaf.Role.{Role}
 use Rattle.fir_net.specs.declared.leaf.Role.TheVariants as role
 use Rattle.fir_net.specs.declared.leaf.Leaf.{Leaf}
 use Rattle.fir_net.specs.declared.net.FlatNet.{FlatNet}
-use Rattle.fir_net.specs.declared.name_table.NameTable.{NameTable}
+use Rattle.fir_net_names.specs.declared.name_table.NameTable.{NameTable}
 use Rattle.fir_net.specs.working.IsNet.{CanRead, CanBeDriven, IsRole}
 use Rattle.fir_net.specs.working.IsWritable.{IsWritableRole}
 use Rattle.fir_net.specs.working.Next.{taken, taken_with, ticks, next_by, next_word}

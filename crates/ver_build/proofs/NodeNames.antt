@@ -3,9 +3,9 @@ use Rattle.std.proofs.Common.{◌≡◌, ℕ, ◌+◌, ◌^◌, ◌≤◌, List,
 use Rattle.std.proofs.lemmas.Bool.{eqb-true, cond_both}
 use Rattle.fir_base.proofs.Each.{all_joined}
 use Rattle.ver_words.specs.Names.{IsName}
-use Rattle.fir_net.specs.declared.name_table.NameTable.{NameTable}
-use Rattle.fir_net.specs.Names.{IsInner, inner_name}
-use Rattle.fir_net.specs.working.LeafNamed.{somes}
+use Rattle.fir_net_names.specs.declared.name_table.NameTable.{NameTable}
+use Rattle.fir_net_names.specs.Names.{IsInner, inner_name}
+use Rattle.fir_net_names.specs.working.LeafNamed.{somes}
 use Rattle.ver_build.specs.declared.held.Held.{Held}
 use Rattle.ver_build.specs.working.Held.{whole_net}
 use Rattle.ver_build.specs.working.Walks.{AreHelpers, IsOwnPlace}

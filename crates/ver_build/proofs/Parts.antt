@@ -2,8 +2,8 @@
 use Rattle.std.proofs.Common.{◌≡◌, List, ◌++◌, map, refl}
 use Rattle.fir_net.specs.declared.reads.Read.{Read}
 use Rattle.fir_net.specs.declared.net.FlatNet.{FlatNet}
-use Rattle.fir_net.specs.declared.name_table.NameTable.{NameTable}
-use Rattle.fir_net.specs.working.IsTable.{IsTable}
+use Rattle.fir_net_names.specs.declared.name_table.NameTable.{NameTable}
+use Rattle.fir_net_names.specs.working.IsTable.{IsTable}
 use Rattle.ver_ast.specs.declared.tree.Verilog.{Verilog}
 use Rattle.ver_ast.specs.declared.tree.Port.{Port}
 use Rattle.ver_ast.specs.declared.tree.Net.{Net}

@@ -11,13 +11,13 @@ use Rattle.fir_net.specs.declared.reads.Read.{Read}
 use Rattle.fir_net.specs.declared.leaf.Role.{Role}
 use Rattle.fir_net.specs.declared.leaf.Leaf.{Leaf}
 use Rattle.fir_net.specs.declared.net.FlatNet.{FlatNet}
-use Rattle.fir_net.specs.declared.name_table.NameTable.{NameTable}
+use Rattle.fir_net_names.specs.declared.name_table.NameTable.{NameTable}
 use Rattle.fir_net.specs.working.IsNet.{IsLeaf, IsNet}
 use Rattle.fir_net.specs.working.IsOrder.{IsOrder}
 use Rattle.fir_net.specs.working.IsWritable.{IsWritable, IsWritableRole}
-use Rattle.fir_net.specs.working.IsTable.{IsTable}
+use Rattle.fir_net_names.specs.working.IsTable.{IsTable}
 use Rattle.fir_net.specs.working.Laws.{NodesHaveTheirValues, NodesHaveTheirTypes, OrderedHasOne}
-use Rattle.fir_net.specs.working.LeafNamed.{AreLeafNames, has_name, is_wire, somes}
+use Rattle.fir_net_names.specs.working.LeafNamed.{AreLeafNames, has_name, is_wire, somes}
 use Rattle.ver_words.specs.Names.{IsName}
 use Rattle.ver_ast.specs.working.Laws.{ValidHasOneRest}
 use Rattle.ver_build.specs.declared.places.Places.{Places}

@@ -15,11 +15,11 @@ use Rattle.fir_net.specs.declared.leaf.Role.TheVariants as role
 use Rattle.fir_net.specs.declared.leaf.Leaf.{Leaf}
 use Rattle.fir_net.specs.declared.node.Node.{Node}
 use Rattle.fir_net.specs.declared.net.FlatNet.{FlatNet}
-use Rattle.fir_net.specs.declared.name_table.NameTable.{NameTable}
+use Rattle.fir_net_names.specs.declared.name_table.NameTable.{NameTable}
 use Rattle.fir_net.specs.working.Values.{type_of_leaf}
 use Rattle.fir_net.specs.working.Dependence.{IsOf, Reads, role_reads}
 use Rattle.fir_net.specs.working.IsNet.{node_type, read_type, CanRead, IsNode, IsLeaf, IsRole, CanDrive}
-use Rattle.fir_net.specs.working.LeafNamed.{is_wire}
+use Rattle.fir_net_names.specs.working.LeafNamed.{is_wire}
 use Rattle.fir_net.specs.working.Settled.{is_clock}
 use Rattle.ver_ast.specs.Nets.{Sized, width_in}
 use Rattle.ver_build.specs.declared.places.Places.{Places}

@@ -8,9 +8,9 @@ use Rattle.fir_net.specs.declared.leaf.Role.{Role}
 use Rattle.fir_net.specs.declared.leaf.Role.TheVariants as role
 use Rattle.fir_net.specs.declared.leaf.Leaf.{Leaf}
 use Rattle.fir_net.specs.working.IsNet.{is_port, IsRole, ArePortsFirst}
-use Rattle.fir_net.specs.working.LeafNamed.{AreLeafNames, somes}
+use Rattle.fir_net_names.specs.working.LeafNamed.{AreLeafNames, somes}
 use Rattle.fir_net.specs.Paths.{base_name}
-use Rattle.fir_net.specs.Names.{AreNamed}
+use Rattle.fir_net_names.specs.Names.{AreNamed}
 use Rattle.ver_words.specs.declared.signal.Signal.TheVariants.{Bits}
 use Rattle.ver_ast.specs.declared.tree.Port.{Port}
 use Rattle.ver_ast.specs.Nets.{Sized, widths_of}

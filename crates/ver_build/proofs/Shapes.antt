@@ -9,11 +9,11 @@ use Rattle.fir_net.specs.declared.leaf.Role.{Role}
 use Rattle.fir_net.specs.declared.leaf.Role.TheVariants as role
 use Rattle.fir_net.specs.declared.leaf.Leaf.{Leaf}
 use Rattle.fir_net.specs.declared.net.FlatNet.{FlatNet}
-use Rattle.fir_net.specs.declared.name_table.NameTable.{NameTable}
+use Rattle.fir_net_names.specs.declared.name_table.NameTable.{NameTable}
 use Rattle.fir_net.specs.working.Values.{leaf_width}
 use Rattle.fir_net.specs.working.Settled.{with_bits, input_number, clock_number, output_number, register_number, numbers_by, shape as net_shape}
 use Rattle.fir_net.specs.working.IsNet.{IsRole}
-use Rattle.fir_net.specs.working.LeafNamed.{is_wire}
+use Rattle.fir_net_names.specs.working.LeafNamed.{is_wire}
 use Rattle.ver_ast.specs.Nets.{Sized, inputs, clocks, regs, widths_of, shape as v_shape}
 use Rattle.ver_build.specs.declared.places.Places.{Places}
 use Rattle.ver_build.proofs.Names.{NameList, Each, zipped}

@@ -14,10 +14,10 @@ use Rattle.fir_net.specs.declared.reads.Read.TheVariants as read
 use Rattle.fir_net.specs.declared.leaf.Leaf.{Leaf}
 use Rattle.fir_net.specs.declared.node.Node.{Node}
 use Rattle.fir_net.specs.declared.net.FlatNet.{FlatNet}
-use Rattle.fir_net.specs.declared.name_table.NameTable.{NameTable}
+use Rattle.fir_net_names.specs.declared.name_table.NameTable.{NameTable}
 use Rattle.fir_net.specs.working.IsNet.{node_type, IsLeaf}
 use Rattle.fir_net.specs.working.IsWritable.{IsWritableRole}
-use Rattle.fir_net.specs.working.LeafNamed.{somes, has_name, is_wire}
+use Rattle.fir_net_names.specs.working.LeafNamed.{somes, has_name, is_wire}
 use Rattle.ver_ast.specs.Nets.{Sized, width_in, names_of}
 use Rattle.ver_ast.proofs.Widths.{declared_width}
 use Rattle.ver_build.specs.declared.places.Places.{Places}

@@ -14,8 +14,8 @@ use Rattle.fir_net.specs.declared.reads.Read.{Read}
 use Rattle.fir_net.specs.declared.reads.Read.TheVariants as read
 use Rattle.fir_net.specs.declared.node.Node.{Node}
 use Rattle.fir_net.specs.declared.net.FlatNet.{FlatNet}
-use Rattle.fir_net.specs.declared.name_table.NameTable.{NameTable}
-use Rattle.fir_net.specs.working.LeafNamed.{somes}
+use Rattle.fir_net_names.specs.declared.name_table.NameTable.{NameTable}
+use Rattle.fir_net_names.specs.working.LeafNamed.{somes}
 use Rattle.fir_net.specs.working.Dependence.{IsOf}
 use Rattle.fir_net.specs.working.IsOrder.{IsOrder}
 use Rattle.ver_build.specs.declared.places.NodePlace.{NodePlace}

@@ -7,7 +7,7 @@ use Rattle.ver_ast.specs.declared.tree.Verilog.{Verilog}
 use Rattle.ver_ast.specs.Spells.{HasNames}
 use Rattle.ver_ast.specs.Nets.{names_of, widths_of, regs, wires}
 use Rattle.ver_words.specs.Names.{module_name}
-use Rattle.fir_net.specs.Names.{AreNamed, AreInner}
+use Rattle.fir_net_names.specs.Names.{AreNamed, AreInner}
 use Rattle.fir_net.specs.Rows.{Row, Word, row_names, row_kinds, word_names, word_widths}
 use Rattle.ver_build.specs.Ports.{port_kinds, port_names}
 

@@ -15,7 +15,8 @@ use fir_base::{MemoryOut, Seq};
 use fir_bits::laws::has_its_type;
 use fir_loop::Order;
 use fir_net::laws::{nodes_have_their_types, nodes_have_their_values, ordered_has_one};
-use fir_net::{FlatNet, NameTable, Read, names};
+use fir_net::{FlatNet, Read};
+use fir_net_names::{NameTable, names};
 use std::alloc::Global;
 use ver_ast::{Verilog, valid_has_one_rest};
 

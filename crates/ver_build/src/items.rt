@@ -11,7 +11,8 @@ use crate::places::Places;
 use crate::right_sides::{Inner, node_inners};
 use fir_ast::LeafId;
 use fir_base::{Direction, MemoryOut, Name};
-use fir_net::{FlatNet, Leaf, NameTable, Read, Role};
+use fir_net::{FlatNet, Leaf, Read, Role};
+use fir_net_names::NameTable;
 use std::alloc::Global;
 use ver_ast::{Always, Assign, Item, Net, Port, Rhs};
 use ver_words::Signal;
@@ -230,10 +231,12 @@ fn put_block(
         return Ok(());
     };
     if let (Some(clock), Some(read)) = (places.clock(register.clock), register.next) {
+        let clock = clock_name(alloc, table, clock)?;
+        let target = name.copy(alloc)?;
         let source = atom_at(alloc, leaf.width, places.held(alloc, read)?)?;
         items.push(Item::Always(Always {
-            clock: clock_name(alloc, table, clock)?,
-            target: name.copy(alloc)?,
+            clock,
+            target,
             source,
         }))?;
     }

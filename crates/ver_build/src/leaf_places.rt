@@ -10,7 +10,8 @@ use crate::held::{Held, own_held};
 use crate::places::{NodePlace, Place, driven_clock_in, held_in};
 use fir_ast::LeafId;
 use fir_base::{MemoryOut, Name};
-use fir_net::{FlatNet, Leaf, NameTable, Read, Role};
+use fir_net::{FlatNet, Leaf, Read, Role};
+use fir_net_names::NameTable;
 use std::alloc::Global;
 
 /// Where the values of the leaves are, from where those of the nodes are. It goes along the order, in which

@@ -11,7 +11,8 @@ use crate::held::{Held, held_literal, own_held};
 use crate::places::NodePlace;
 use fir_base::{MemoryOut, Name, Seq};
 use fir_bits::PrimOp;
-use fir_net::{FlatNet, NameTable, Node, Numbered, Read};
+use fir_net::{FlatNet, Node, Read};
+use fir_net_names::{NameTable, Numbered};
 use std::alloc::Global;
 
 /// Inner nets have numbers below this, as memory holds no more names.

@@ -9,7 +9,8 @@ use crate::leaf_places::leaf_places;
 use crate::node_places::node_places;
 use fir_ast::{LeafId, NodeId};
 use fir_base::{MemoryOut, Name, Seq};
-use fir_net::{FlatNet, NameTable, Read};
+use fir_net::{FlatNet, Read};
+use fir_net_names::NameTable;
 use std::alloc::Global;
 
 /// Where the value of a leaf is, or which clock input a leaf of a clock is.

@@ -1,7 +1,12 @@
 //! The right sides that mean operations (IEEE 1364-2005, 5.1).
 
-ghost use Rattle.std.specs.Prelude.{◌≡◌, [], ◌∷◌, IfOk, map, slice_index, slice_index_or};
-ghost use Rattle.ver_build.specs.working.Held.{no_bits};
+ghost use Rattle.std.specs.Prelude.{◌≡◌, [], ◌∷◌, ◌++◌, IfOk, OnOk, map, slice_index, slice_index_or};
+ghost use Rattle.ver_ast.specs.declared.tree.Rhs.TheVariants as right;
+ghost use Rattle.ver_ast.specs.declared.tree.BinaryOp.TheVariants as binary;
+ghost use Rattle.ver_ast.specs.declared.tree.UnaryOp.TheVariants as unary;
+ghost use Rattle.ver_ast.specs.Atoms.{constant, net as named_net};
+ghost use Rattle.ver_build.specs.working.Held.{no_bits, whole_net};
+ghost use Rattle.ver_build.specs.working.Operands.{amount, atom_at, field, parts, shifted};
 ghost use Rattle.ver_build.specs.working.Places.{held_of};
 ghost use Rattle.ver_build.specs.working.Texts as text;
 ghost use Rattle.ver_build.specs.working.Texts.{mux_rhs, helper};
@@ -43,8 +48,10 @@ pub fn node_inners(
             operation_inners(alloc, o, a, b, helpers, name)
         }
         Node::Mux(m) => {
+            let name = name.copy(alloc)?;
             let rhs = choice(alloc, places, m)?;
-            alone(alloc, name, m.width, rhs)
+            let width = m.width;
+            one_inner(alloc, Inner { name, width, rhs })
         }
     }
 }
@@ -63,10 +70,23 @@ fn choice(alloc: Global, places: &Places, m: &Mux) -> Result<Rhs, MemoryOut>
     ensures { IfOk result (λ r. r ≡ mux_rhs m.now.width (map (held_of places.now) m.now.reads)) }
 {
     let reads = m.reads.as_slice();
-    let condition = atom_at(alloc, 1, operand(alloc, places, reads, 0)?)?;
-    let high = atom_at(alloc, m.width, operand(alloc, places, reads, 1)?)?;
-    let low = atom_at(alloc, m.width, operand(alloc, places, reads, 2)?)?;
+    let condition = operand_at(alloc, places, reads, 0, 1)?;
+    let high = operand_at(alloc, places, reads, 1, m.width)?;
+    let low = operand_at(alloc, places, reads, 2, m.width)?;
     Ok(Rhs::Conditional(condition, high, low))
+}
+
+/// The operand of that number at a width.
+fn operand_at(
+    alloc: Global,
+    places: &Places,
+    reads: &[Read],
+    k: usize,
+    width: u32,
+) -> Result<Atom, MemoryOut>
+    ensures { IfOk result (λ atom. atom ≡ atom_at width (slice_index_or (map (held_of places.now) reads.now) k no_bits)) }
+{
+    atom_at(alloc, width, operand(alloc, places, reads, k)?)
 }
 
 fn operation_inners(
@@ -101,9 +121,17 @@ fn operation_inners(
             name,
         ),
         _ => {
+            let name = name.copy(alloc)?;
             let integers = o.integers.as_slice();
             let rhs = one_rhs(alloc, o.op, r, a, b, at(integers, 0), at(integers, 1))?;
-            alone(alloc, name, r, rhs)
+            one_inner(
+                alloc,
+                Inner {
+                    name,
+                    width: r,
+                    rhs,
+                },
+            )
         }
     }
 }
@@ -115,12 +143,11 @@ fn at(integers: &[u128], k: usize) -> u128
     integers.get(k).copied().unwrap_or(0)
 }
 
-fn alone(alloc: Global, name: &Name, width: u32, rhs: Rhs) -> Result<Vec<Inner>, MemoryOut>
-    ensures { IfOk result (λ v. v.items ≡ record { name = name.now; width = width; rhs = rhs } ∷ []) }
+fn one_inner(alloc: Global, inner: Inner) -> Result<Vec<Inner>, MemoryOut>
+    ensures { IfOk result (λ v. v.items ≡ inner ∷ []) }
 {
     let mut inners = Vec::new(alloc);
-    let name = name.copy(alloc)?;
-    inners.push(Inner { name, width, rhs })?;
+    inners.push(inner)?;
     Ok(inners)
 }
 
@@ -147,22 +174,70 @@ fn one_rhs(
         PrimOp::Eq => computed(alloc, BinaryOp::Eq, compared_width(&a, &b), a, b),
         PrimOp::Neq => computed(alloc, BinaryOp::Neq, compared_width(&a, &b), a, b),
         PrimOp::Shl => shifted_up(alloc, r, a),
-        PrimOp::Shr => Ok(Rhs::Atom(shifted(alloc, r, n, a)?)),
-        PrimOp::Dshl => Ok(Rhs::Binary(atom_at(alloc, r, a)?, BinaryOp::Shl, amount(alloc, b)?)),
+        PrimOp::Shr => cut_below(alloc, r, n, a),
+        PrimOp::Dshl => shifted_up_by(alloc, r, a, b),
         PrimOp::Dshr => shifted_down(alloc, r, a, b),
-        PrimOp::Neg => Ok(Rhs::Binary(constant(r, 0), BinaryOp::Sub, atom_at(alloc, r, a)?)),
-        PrimOp::Not => Ok(Rhs::Unary(UnaryOp::Not, atom_at(alloc, r, a)?)),
+        PrimOp::Neg => negated(alloc, r, a),
+        PrimOp::Not => complemented(alloc, r, a),
         PrimOp::And => computed(alloc, BinaryOp::And, r, a, b),
         PrimOp::Or => computed(alloc, BinaryOp::Or, r, a, b),
         PrimOp::Xor => computed(alloc, BinaryOp::Xor, r, a, b),
         PrimOp::Andr => reduced(alloc, UnaryOp::And, 1, a),
         PrimOp::Orr => reduced(alloc, UnaryOp::Or, 0, a),
         PrimOp::Xorr => reduced(alloc, UnaryOp::Xor, 0, a),
-        PrimOp::Cat => Ok(Rhs::Atom(joined(alloc, a, b)?)),
-        PrimOp::Bits => Ok(Rhs::Atom(field(alloc, r, n, m, a)?)),
+        PrimOp::Cat => side_by_side(alloc, a, b),
+        PrimOp::Bits => selected(alloc, r, n, m, a),
         PrimOp::Head => head(alloc, r, n, a),
-        _ => Ok(Rhs::Atom(atom_at(alloc, r, a)?)),
+        _ => copied(alloc, r, a),
     }
+}
+
+/// The value as it is, at that width.
+fn copied(alloc: Global, r: u32, a: Held) -> Result<Rhs, MemoryOut>
+    ensures { IfOk result (λ rhs. rhs ≡ text.copied r a) }
+{
+    Ok(Rhs::Atom(atom_at(alloc, r, a)?))
+}
+
+/// The value without its low `n` bits.
+fn cut_below(alloc: Global, r: u32, n: u128, a: Held) -> Result<Rhs, MemoryOut>
+    ensures { IfOk result (λ rhs. rhs ≡ text.joined (shifted r n a)) }
+{
+    Ok(Rhs::Atom(shifted(alloc, r, n, a)?))
+}
+
+fn shifted_up_by(alloc: Global, r: u32, a: Held, b: Held) -> Result<Rhs, MemoryOut>
+    ensures { IfOk result (λ rhs. rhs ≡ right.Binary (atom_at r a) binary.Shl (amount b)) }
+{
+    let value = atom_at(alloc, r, a)?;
+    Ok(Rhs::Binary(value, BinaryOp::Shl, amount(alloc, b)?))
+}
+
+fn negated(alloc: Global, r: u32, a: Held) -> Result<Rhs, MemoryOut>
+    ensures { IfOk result (λ rhs. rhs ≡ right.Binary (constant r 0) binary.Sub (atom_at r a)) }
+{
+    let value = atom_at(alloc, r, a)?;
+    Ok(Rhs::Binary(constant(r, 0), BinaryOp::Sub, value))
+}
+
+fn complemented(alloc: Global, r: u32, a: Held) -> Result<Rhs, MemoryOut>
+    ensures { IfOk result (λ rhs. rhs ≡ right.Unary unary.Not (atom_at r a)) }
+{
+    Ok(Rhs::Unary(UnaryOp::Not, atom_at(alloc, r, a)?))
+}
+
+/// The bits of both, those of the first above.
+fn side_by_side(alloc: Global, a: Held, b: Held) -> Result<Rhs, MemoryOut>
+    ensures { IfOk result (λ rhs. rhs ≡ text.joined (parts a ++ parts b)) }
+{
+    Ok(Rhs::Atom(joined(alloc, a, b)?))
+}
+
+/// The bits from `n` down to `m`.
+fn selected(alloc: Global, r: u32, n: u128, m: u128, a: Held) -> Result<Rhs, MemoryOut>
+    ensures { IfOk result (λ rhs. rhs ≡ text.joined (field r n m a)) }
+{
+    Ok(Rhs::Atom(field(alloc, r, n, m, a)?))
 }
 
 fn computed(alloc: Global, o: BinaryOp, r: u32, a: Held, b: Held) -> Result<Rhs, MemoryOut>
@@ -267,35 +342,84 @@ fn division(
     let w = r.max(a.width.max(b.width));
     let signed = a.signed;
     let mut inners = Vec::new(alloc);
-    inners.push(Inner {
-        name: helper(alloc, helpers, 0)?,
-        width: 1,
-        rhs: zero_test(alloc, w, b.copy(alloc)?)?,
-    })?;
-    inners.push(Inner {
-        name: helper(alloc, helpers, 1)?,
-        width: w,
-        rhs: divisor(alloc, w, helper(alloc, helpers, 0)?, b)?,
-    })?;
-    inners.push(Inner {
-        name: helper(alloc, helpers, 2)?,
-        width: w,
-        rhs: between(
-            alloc,
-            operators.0,
-            operators.1,
-            w,
-            a,
-            net(helper(alloc, helpers, 1)?),
-        )?,
-    })?;
-    let value = Held::whole(helper(alloc, helpers, 2)?, signed, w);
-    inners.push(Inner {
-        name: name.copy(alloc)?,
-        width: r,
-        rhs: guarded(alloc, r, helper(alloc, helpers, 0)?, value)?,
-    })?;
+    push_zero_test(alloc, &mut inners, w, b.copy(alloc)?, helpers)?;
+    push_divisor(alloc, &mut inners, w, b, helpers)?;
+    push_quotient(alloc, &mut inners, operators, w, a, helpers)?;
+    push_guarded(alloc, &mut inners, (r, w), signed, helpers, name)?;
     Ok(inners)
+}
+
+/// Appends the net that tells whether the divisor is zero.
+fn push_zero_test(
+    alloc: Global,
+    inners: &mut Vec<Inner>,
+    w: u32,
+    b: Held,
+    helpers: &[Name],
+) -> Result<(), MemoryOut>
+    ensures { OnOk result (inners.new.items ≡ inners.old.items ++ record { name = helper helpers.now 0; width = 1; rhs = text.zero_test w b } ∷ []) }
+{
+    let name = helper(alloc, helpers, 0)?;
+    let rhs = zero_test(alloc, w, b)?;
+    push_inner(inners, name, 1, rhs)
+}
+
+/// Appends the net of the divisor, or else 1.
+fn push_divisor(
+    alloc: Global,
+    inners: &mut Vec<Inner>,
+    w: u32,
+    b: Held,
+    helpers: &[Name],
+) -> Result<(), MemoryOut>
+    ensures { OnOk result (inners.new.items ≡ inners.old.items ++ record { name = helper helpers.now 1; width = w; rhs = text.divisor w (helper helpers.now 0) b } ∷ []) }
+{
+    let name = helper(alloc, helpers, 1)?;
+    let rhs = divisor(alloc, w, helper(alloc, helpers, 0)?, b)?;
+    push_inner(inners, name, w, rhs)
+}
+
+/// Appends the net of the quotient or remainder.
+fn push_quotient(
+    alloc: Global,
+    inners: &mut Vec<Inner>,
+    operators: (SignedOp, BinaryOp),
+    w: u32,
+    a: Held,
+    helpers: &[Name],
+) -> Result<(), MemoryOut>
+    ensures { OnOk result (inners.new.items ≡ inners.old.items ++ record { name = helper helpers.now 2; width = w; rhs = text.between operators.0 operators.1 w a (named_net (helper helpers.now 1)) } ∷ []) }
+{
+    let name = helper(alloc, helpers, 2)?;
+    let divisor = helper(alloc, helpers, 1)?;
+    let rhs = between(alloc, operators.0, operators.1, w, a, net(divisor))?;
+    push_inner(inners, name, w, rhs)
+}
+
+/// Appends the net of the division, which has the first of the widths: the quotient or remainder, which has the
+/// second, or else 0.
+fn push_guarded(
+    alloc: Global,
+    inners: &mut Vec<Inner>,
+    widths: (u32, u32),
+    signed: bool,
+    helpers: &[Name],
+    name: &Name,
+) -> Result<(), MemoryOut>
+    ensures { OnOk result (inners.new.items ≡ inners.old.items ++ record { name = name.now; width = widths.0; rhs = text.guarded widths.0 (helper helpers.now 0) (whole_net (helper helpers.now 2) signed widths.1) } ∷ []) }
+{
+    let own = name.copy(alloc)?;
+    let is_zero = helper(alloc, helpers, 0)?;
+    let value = Held::whole(helper(alloc, helpers, 2)?, signed, widths.1);
+    let rhs = guarded(alloc, widths.0, is_zero, value)?;
+    push_inner(inners, own, widths.0, rhs)
+}
+
+fn push_inner(inners: &mut Vec<Inner>, name: Name, width: u32, rhs: Rhs) -> Result<(), MemoryOut>
+    ensures { OnOk result (inners.new.items ≡ inners.old.items ++ record { name = name; width = width; rhs = rhs } ∷ []) }
+{
+    inners.push(Inner { name, width, rhs })?;
+    Ok(())
 }
 
 /// The name of that number, or one of no letters.

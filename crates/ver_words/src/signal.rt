@@ -1,7 +1,7 @@
 //! What a port carries (IEEE 1364-2005, 12.3.3).
 
 /// What a port carries.
-#[derive(Clone, Copy, PartialEq, Eq)]
+#[derive(Clone, Copy)]
 pub enum Signal {
     /// A value of so many bits.
     Bits(u32),

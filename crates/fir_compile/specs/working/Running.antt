@@ -14,7 +14,7 @@ use Rattle.trace_text.specs.TraceSpells.{TraceSpells}
 use Rattle.trace_text.specs.BadLine.{BadLine}
 use Rattle.trace_text.specs.RunLines.{run_text}
 use Rattle.trace_text.specs.working.Steps.{IsReadTo}
-use Rattle.fir_sim.specs.working.Views.{numbers, output_widths}
+use Rattle.fir_tick.specs.working.Views.{numbers, output_widths}
 use Rattle.fir_compile.specs.declared.runner.Runner.{Runner}
 
 -- the net ran over what a trace says, and these are the lines

@@ -1,11 +1,11 @@
 -- Laws about the definitions.
 use Rattle.std.specs.Prelude.{[], ◌++◌}
 use Rattle.fir_net.specs.declared.net.FlatNet.{FlatNet}
-use Rattle.fir_net.specs.declared.name_table.NameTable.{NameTable}
+use Rattle.fir_net_names.specs.declared.name_table.NameTable.{NameTable}
 use Rattle.fir_net.specs.working.IsNet.{IsNet}
-use Rattle.fir_net.specs.working.IsTable.{IsTable}
-use Rattle.fir_net.specs.working.LeafNamed.{somes}
-use Rattle.fir_net.specs.Names.{AreNamed}
+use Rattle.fir_net_names.specs.working.IsTable.{IsTable}
+use Rattle.fir_net_names.specs.working.LeafNamed.{somes}
+use Rattle.fir_net_names.specs.Names.{AreNamed}
 use Rattle.fir_net.specs.Rows.{net_rows, net_words, row_names, word_names}
 
 -- in the table of a whole net the names of leaves are those for its ports and then for the words of its state

@@ -11,10 +11,10 @@ use Rattle.fir_net.specs.declared.leaf.Leaf.{Leaf}
 use Rattle.fir_net.specs.declared.node.Node.{Node}
 use Rattle.fir_net.specs.declared.node.Node.TheVariants as node
 use Rattle.fir_net.specs.declared.net.FlatNet.{FlatNet}
-use Rattle.fir_net.specs.declared.name_table.NameTable.{NameTable}
+use Rattle.fir_net_names.specs.declared.name_table.NameTable.{NameTable}
 use Rattle.ver_words.specs.Names.{IsName}
-use Rattle.fir_net.specs.Names.{IsInner, inner_name}
-use Rattle.fir_net.specs.working.LeafNamed.{somes}
+use Rattle.fir_net_names.specs.Names.{IsInner, inner_name}
+use Rattle.fir_net_names.specs.working.LeafNamed.{somes}
 use Rattle.ver_build.specs.declared.held.Source.{Source}
 use Rattle.ver_build.specs.declared.held.Source.TheVariants as source
 use Rattle.ver_build.specs.declared.held.Held.{Held}

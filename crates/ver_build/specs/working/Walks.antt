@@ -7,8 +7,8 @@ use Rattle.fir_net.specs.declared.reads.Read.TheVariants as read
 use Rattle.fir_net.specs.declared.leaf.Leaf.{Leaf}
 use Rattle.fir_net.specs.declared.node.Node.{Node}
 use Rattle.fir_net.specs.declared.net.FlatNet.{FlatNet}
-use Rattle.fir_net.specs.declared.name_table.NameTable.{NameTable}
-use Rattle.fir_net.specs.working.LeafNamed.{somes}
+use Rattle.fir_net_names.specs.declared.name_table.NameTable.{NameTable}
+use Rattle.fir_net_names.specs.working.LeafNamed.{somes}
 use Rattle.ver_build.specs.declared.places.Place.{Place}
 use Rattle.ver_build.specs.declared.places.NodePlace.{NodePlace}
 use Rattle.ver_build.specs.working.Places.{name_at, placed, IsOwn, source_name, IsNodePlace, AreInnerTo, node_names}

@@ -1,7 +1,7 @@
 use Rattle.std.proofs.Common.{List, ℕ, sym, ap, ◌∙◌, Some}
 use Rattle.trace_text.specs.RunLines.{with_widths}
 use Rattle.fir_net.specs.working.Settled.{shape}
-use Rattle.fir_sim.specs.working.Views.{numbers}
+use Rattle.fir_tick.specs.working.Views.{numbers}
 use Rattle.fir_compile.proofs.RunLines.{at_widths}
 use Rattle.fir_compile.proofs.runner.shown_state.Goals as goal
 

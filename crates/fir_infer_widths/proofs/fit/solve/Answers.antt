@@ -1,6 +1,6 @@
 use Rattle.fir_ast.specs.View.{circuit_of}
 use Rattle.fir_pass.specs.Faults.{fault_of}
-use Rattle.fir_infer_widths.proofs.InferencePass.{widths_first}
+use Rattle.fir_infer_widths.proofs.FirstWidthFaults.{widths_first}
 use Rattle.fir_infer_widths.proofs.fit.solve.Goals as goal
 
 pub returns-in-Err-Fault-clause-fault : goal.returns-in-Err-Fault-clause-fault

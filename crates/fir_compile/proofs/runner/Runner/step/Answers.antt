@@ -1,5 +1,5 @@
 use Rattle.std.proofs.Common.{refl, sym, ap, ◌∙◌}
-use Rattle.fir_sim.specs.working.Views.{widths, output_widths}
+use Rattle.fir_tick.specs.working.Views.{widths, output_widths}
 use Rattle.fir_compile.specs.declared.runner.Runner.{Runner}
 use Rattle.fir_compile.proofs.Stepped.{whole_ran, bad_ran, tick_ran}
 use Rattle.fir_compile.proofs.runner.Runner.step.Goals as goal

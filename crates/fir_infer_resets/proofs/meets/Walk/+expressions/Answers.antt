@@ -7,9 +7,8 @@ use Rattle.fir_ast.proofs.TreeViews.{mux_view, operation_view, validif_view}
 use Rattle.fir_meaning.specs.ExpressionTypes.{expression_type}
 use Rattle.fir_names.specs.working.Parts.{part_of}
 use Rattle.fir_types.specs.working.Notes.{expression_note, expression_notes, notes_of_each, part_notes, reference_note}
-use Rattle.fir_types.proofs.PartViews.{access_view, literal_view, parts_left, sink_view}
+use Rattle.fir_types.proofs.PartViews.{access_view, literal_view, parts_left, sink_view, reference_view}
 use Rattle.fir_infer_resets.specs.working.Passes.{Passes}
-use Rattle.fir_types.proofs.FlowFaults.{reference_view}
 use Rattle.fir_infer_resets.proofs.NotesPassed.{ahead_behind, ahead_three, ahead_two, operand_passed, operands_left, part_passed, passes_form, passes_none, passes_then, range_of_reference}
 use Rattle.fir_infer_resets.proofs.meets.Walk.+expressions.Goals as goal
 

@@ -1,7 +1,7 @@
 use Rattle.std.proofs.Common.{◌≡◌, map, sym, subst}
 use Rattle.std.specs.List.{AllByRecursion}
-use Rattle.fir_sim.specs.working.Passes.{register_width, values_of, IsNarrowOutput, IsNarrowRegister}
-use Rattle.fir_sim.specs.working.Steps.{IsStepped}
+use Rattle.fir_tick.specs.working.Passes.{register_width, values_of, IsNarrowOutput, IsNarrowRegister}
+use Rattle.fir_tick.specs.working.Steps.{IsStepped}
 use Rattle.fir_sim.proofs.PlanFacts.{outputs_narrow, registers_narrow}
 use Rattle.fir_sim.proofs.Starting.{fit_registers, outputs_are_zeros, state_is, starts}
 use Rattle.fir_sim.proofs.sim.Sim.new.Goals as goal

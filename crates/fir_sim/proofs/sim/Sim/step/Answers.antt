@@ -2,10 +2,10 @@ use Rattle.std.proofs.Common.{sym, subst}
 use Rattle.fir_base.specs.Ticks.{Tick, FitEach}
 use Rattle.fir_net.specs.working.Allows.{Allows}
 use Rattle.fir_net.specs.working.Settled.{shape}
-use Rattle.fir_sim.specs.working.Views.{SimView, IsTickOf, numbers}
-use Rattle.fir_sim.specs.working.Passes.{input_width}
-use Rattle.fir_sim.specs.working.Steps.{IsStepped}
-use Rattle.fir_sim.proofs.Fits.{clocks_rise, fit_count}
+use Rattle.fir_tick.specs.working.Views.{SimView, IsTickOf, numbers}
+use Rattle.fir_tick.specs.working.Passes.{input_width}
+use Rattle.fir_tick.specs.working.Steps.{IsStepped}
+use Rattle.fir_tick.proofs.Fits.{clocks_rise, fit_count}
 use Rattle.fir_sim.proofs.PlanFacts.{input_widths}
 use Rattle.fir_sim.proofs.Ticking.{state_room, still_running, allows}
 use Rattle.fir_sim.proofs.InTurn.{placed0, within1, held2, shown3, room3, can4, room4, ticked}

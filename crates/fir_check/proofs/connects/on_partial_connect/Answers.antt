@@ -1,0 +1,21 @@
+use Rattle.std.proofs.Common.{sym, ◌∙◌, map}
+use Rattle.fir_ast.specs.View.{expr_of, sink_of}
+use Rattle.fir_meaning.specs.ConnectPairs.{partial_pairs}
+use Rattle.fir_type_table.specs.working.Tables.{types_of}
+use Rattle.fir_check.specs.working.Driven.{first_driven, spot_of_pair}
+use Rattle.fir_types.specs.working.Seen.{found_type}
+use Rattle.fir_check.proofs.FirstDriven.{partial_flows}
+use Rattle.fir_check.proofs.connects.on_partial_connect.Goals as goal
+
+pub returns : goal.returns
+returns c =
+    let ts = types_of c.args.scope.now.table in
+    let sink = sink_of c.args.sink.now in
+    let source = expr_of c.args.source.now in
+    let sides = c.of-sides.result in
+    let pairs = map spot_of_pair (partial_pairs (found_type ts c.args.left.found) (found_type ts c.args.right.found)) in
+    λ by.
+    rw
+    (partial_flows ts c.args.place sink source c.args.left c.args.right.reach by sides c.of-sides.ensures.straight c.of-sides.ensures.flipped
+    (found_type ts c.args.right.found) (sym c.fit_partly.ensures ∙ c.if-not-fit_partly.false))
+    (c.drives_a_source.ensures (first_driven sides pairs) c.in_ok-leaf.ensures)

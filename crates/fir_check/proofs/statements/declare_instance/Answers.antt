@@ -1,0 +1,27 @@
+use Rattle.std.proofs.Common.{◌≡◌, length, sym, ap, ◌∙◌, arith}
+use Rattle.std.specs.Prelude.{slice_get}
+use Rattle.std.proofs.lemmas.Result.{IfOk-weaker}
+use Rattle.fir_meaning.specs.Components.{instance}
+use Rattle.fir_names.specs.working.Tabulated.{entry_at}
+use Rattle.fir_type_table.specs.working.Tables.{types_of}
+use Rattle.fir_types.specs.working.Seen.{seen}
+use Rattle.fir_types.specs.working.Statements.{found_bundle}
+use Rattle.fir_types.proofs.GrownScopes.{goes_still, walks_found}
+use Rattle.fir_types.proofs.InstanceWalks.{instance_seen}
+use Rattle.fir_check.proofs.statements.declare_instance.Goals as goal
+
+pub returns : goal.returns
+returns c =
+    let names = c.args.names.now in
+    let bundles = c.args.bundles.now in
+    let scope = c.args.scope.now in
+    let ts = types_of scope.table in
+    let counted : c.len.result ≡ length scope.declared.items = omega (arith, scope.declared.ok.0, c.len.ensures) in
+    let at = ap (λ k. found_bundle bundles (entry_at names k)) counted in
+    IfOk-weaker c.declare_found.result _ _
+    (λ u d. λ modules before whole n name of begins walks. (
+      walks_found modules bundles scope c.declare_found.new.self before n (instance name) _ walks d
+          (sym (ap (seen ts) (c.bundle_of-found.ensures ∙ at) ∙ instance_seen modules names whole bundles scope before n name of begins walks)),
+      goes_still scope c.declare_found.new.self d.table,
+    ))
+    c.declare_found.ensures

@@ -1,0 +1,7 @@
+pub mod OneScene
+pub mod Refused
+pub mod EmitEnded
+pub mod SimulationEnded
+pub mod TraceEnded
+pub mod TraceShapes
+pub mod FirstLines

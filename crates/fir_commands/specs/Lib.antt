@@ -1,0 +1,5 @@
+pub mod Command
+pub mod EmitsFile
+pub mod EmitAnswers
+pub mod Simulates
+pub mod working

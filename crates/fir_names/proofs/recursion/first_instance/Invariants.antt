@@ -1,5 +1,0 @@
-use Rattle.fir_names.proofs.FirstInstances.{NoneBefore}
-use Rattle.fir_names.proofs.recursion.first_instance.Given as goal
-
-abbrev pub invariant-loop-position : goal.invariant-loop-position
-invariant-loop-position l = NoneBefore l.table l.other l.position

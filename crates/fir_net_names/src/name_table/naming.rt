@@ -1,0 +1,36 @@
+//! From a net to the table of its names.
+
+ghost use Rattle.std.specs.Prelude.{IsTrue, IfOk};
+ghost use Rattle.std.specs.List.{AllByRecursion};
+ghost use Rattle.fir_base.specs.Lists.{Distinct};
+ghost use Rattle.ver_words.specs.Names.{is_word, IsName};
+ghost use Rattle.fir_net.specs.Paths.{base_name};
+ghost use Rattle.fir_net_names.specs.working.IsTable.{IsTable};
+ghost use Rattle.fir_net_names.specs.working.LeafNamed.{somes};
+
+use crate::leaf_names::{LeafNames, leaf_names};
+use crate::name_table::NameTable;
+use fir_base::MemoryOut;
+use fir_net::FlatNet;
+use std::alloc::Global;
+use ver_words::module_name;
+
+/// The names of the net: in the order of the leaves each port and each register takes its base name, or the
+/// first free of that with `_0`, `_1` and so on behind it. No two are the same, and none is reserved (IEEE
+/// 1364-2005, 3.7). Only memory can be wanting.
+pub fn names(alloc: Global, net: &FlatNet) -> Result<NameTable, MemoryOut>
+    requires word { IsTrue (is_word net.now.name) }
+    requires words { AllByRecursion (λ l. IsTrue (is_word (base_name l.path))) net.now.leaves }
+    ensures table { IfOk result (λ t. IsTable net.now t) }
+    ensures distinct { IfOk result (λ t. Distinct (somes t.leaves)) }
+    ensures spelled { IfOk result (λ t. AllByRecursion IsName (somes t.leaves)) }
+    ensures module_spelled { IfOk result (λ t. IsName t.circuit) }
+{
+    let circuit = module_name(alloc, &net.name)?;
+    let LeafNames { names, taken } = leaf_names(alloc, net.leaves.as_slice())?;
+    Ok(NameTable {
+        circuit,
+        leaves: names,
+        taken,
+    })
+}

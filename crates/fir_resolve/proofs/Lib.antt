@@ -1,0 +1,16 @@
+pub mod HeldNames
+pub mod NumberedModules
+pub mod WalkedNames
+pub mod OpenBlocks
+pub mod WalkedScopes
+pub mod PassedMentions
+pub mod NamedInstances
+pub mod WalkedBlocks
+pub mod WalkedWhens
+pub mod RegisterMentions
+pub mod WalkedModules
+pub mod FirstOfGroups
+pub mod ModuleOrders
+pub mod FirstInstances
+pub mod ModuleCircles
+pub mod HierarchyTargets

@@ -1,0 +1,50 @@
+//! The names in a module: in its ports, and then in its statements.
+
+ghost use Rattle.std.specs.Prelude.{◌≡◌, List, IfOk, map};
+ghost use Rattle.fir_ast.specs.Statements.{PlacedName};
+ghost use Rattle.fir_ast.specs.View.{module_of, port_of};
+ghost use Rattle.fir_meaning.specs.Visibility.{Before, behind_ports};
+ghost use Rattle.fir_meaning.specs.Mentions.{ports_mentions};
+ghost use Rattle.fir_names.specs.working.Numbered.{HasNumbers};
+ghost use Rattle.fir_resolve.specs.working.Scoped.{Passes, Walks};
+ghost use Rattle.fir_names.specs.working.Judged.{JudgesModule};
+
+use crate::numbers::Numbers;
+use crate::scope::Scope;
+use crate::statements::{in_block, in_typed};
+use fir_ast::{FirFault, Module, Port};
+use fir_base::{MemoryOut, Refused};
+use fir_names::{Component, Names};
+use std::alloc::Global;
+
+/// The table of what a module declares, or its first fault of names.
+pub fn in_module(
+    alloc: Global,
+    numbers: &Numbers,
+    part: &Module,
+) -> Result<Names, Refused<FirFault>>
+    ensures { (modules : List PlacedName) → HasNumbers numbers.now modules → JudgesModule modules (module_of part.now) result }
+{
+    let mut scope = Scope::new(alloc);
+    if let Some(fault) = in_ports(alloc, &mut scope, &part.ports)? {
+        return Err(Refused::Fault(fault));
+    }
+    let mut noted = Vec::new(alloc);
+    if let Some(fault) = in_block(&part.body, alloc, numbers, &mut scope, &mut noted)? {
+        return Err(Refused::Fault(fault));
+    }
+    Ok(scope.into_names(noted))
+}
+
+/// The first fault of names in ports, which are declared as they are passed.
+fn in_ports(alloc: Global, scope: &mut Scope, ports: &[Port]) -> Result<Option<FirFault>, MemoryOut>
+    ensures { IfOk result (λ f. (modules : List PlacedName) (before : Before) → Walks modules scope.old before → Passes modules scope.old scope.new (ports_mentions before (map port_of ports.now)) (behind_ports before (map port_of ports.now)) f) }
+{
+    for port in ports {
+        let component = Component::Port(port.direction);
+        if let Some(fault) = in_typed(alloc, scope, &port.ident, component, &port.ty)? {
+            return Ok(Some(fault));
+        }
+    }
+    Ok(None)
+}

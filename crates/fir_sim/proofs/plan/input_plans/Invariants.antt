@@ -1,6 +1,0 @@
-use Rattle.std.proofs.Common.{◌≡◌, take}
-use Rattle.fir_sim.specs.working.Plans.{input_plan, plans_by}
-use Rattle.fir_sim.proofs.plan.input_plans.Given as goal
-
-abbrev pub invariant-loop-k : goal.invariant-loop-k
-invariant-loop-k l = l.plans.items ≡ plans_by input_plan 0 (take l.k l.leaves)

@@ -1,6 +1,0 @@
-use Rattle.std.proofs.Common.{drop}
-use Rattle.fir_sim.proofs.Settling.{Walk}
-use Rattle.fir_sim.proofs.settle.settle.Given as goal
-
-abbrev pub invariant-loop-step : goal.invariant-loop-step
-invariant-loop-step l = Walk l.net l.initial.numbers l.numbers (drop l.step-index l.steps)

@@ -1,0 +1,16 @@
+pub mod ShapeNames
+pub mod ShapeNumbers
+pub mod ShapeWords
+pub mod WholeShapes
+pub mod Walks
+pub mod HeldNumbers
+pub mod HeldValues
+pub mod HeldTypes
+pub mod Settling
+pub mod StepTasks
+pub mod ClockRoots
+pub mod ClockNumbers
+pub mod Fits
+pub mod Lists
+pub mod Passing
+pub mod PlanLists

@@ -1,0 +1,9 @@
+-- What no clause of `run` reads: views of the code, its tables and its walks.
+pub mod Held
+pub mod Passes
+pub mod Plans
+pub mod Settling
+pub mod Shapes
+pub mod StateWords
+pub mod Steps
+pub mod Views

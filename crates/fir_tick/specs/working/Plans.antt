@@ -1,0 +1,99 @@
+-- What a tick does with each leaf that has bits: the place of each among the leaves, and what a register takes at which clock.
+use Rattle.std.specs.Prelude.{◌≡◌, ℕ, ◌+◌, ◌≤◌, List, [], ◌∷◌, ◌++◌, nat_eq, if◌then◌else◌, slice_get, Option, Some, None, unwrap_or}
+use Rattle.std.specs.List.{AllZip}
+use Rattle.fir_net.specs.declared.reads.Read.{Read}
+use Rattle.fir_net.specs.declared.leaf.Reset.{Reset}
+use Rattle.fir_net.specs.declared.leaf.Register.{Register}
+use Rattle.fir_net.specs.declared.leaf.Role.{Role}
+use Rattle.fir_net.specs.declared.leaf.Role.TheVariants as role
+use Rattle.fir_net.specs.declared.leaf.Leaf.{Leaf}
+use Rattle.fir_net.specs.declared.net.FlatNet.{FlatNet}
+use Rattle.fir_net.specs.working.Settled.{clocks, clock_driver, driven_clock, registers}
+use Rattle.fir_work.specs.declared.task.Task.{Task}
+use Rattle.fir_work.specs.working.Numbers.{place}
+use Rattle.fir_work.specs.working.Tasks.{IsFitTask}
+use Rattle.fir_tick.specs.declared.plan.InputPlan.{InputPlan}
+use Rattle.fir_tick.specs.declared.plan.OutputPlan.{OutputPlan}
+use Rattle.fir_tick.specs.declared.plan.RegisterPlan.{RegisterPlan}
+use Rattle.fir_tick.specs.declared.plan.ResetPlan.{ResetPlan}
+use Rattle.fir_tick.specs.declared.plan.Plan.{Plan}
+
+abbrev pub clock_count : Role → ℕ
+clock_count role.Clock = 1
+clock_count _ = 0
+
+-- how many clock inputs stand before each leaf, where n stand before the first
+abbrev pub clocks_before : ℕ → List Leaf → List ℕ
+clocks_before n [] = []
+clocks_before n (l ∷ ls) = n ∷ clocks_before (n + clock_count l.role) ls
+
+-- the clock at a number
+abbrev pub root_at : List (Option ℕ) → ℕ → Option ℕ
+root_at roots k = unwrap_or (slice_get roots k) None
+
+-- the clock of a leaf, by its role and its number among the clock inputs
+abbrev pub role_root : (ℕ → Option ℕ) → ℕ → Role → Option ℕ
+role_root clock number role.Clock = Some number
+role_root clock number (role.ClockOutput c) = driven_clock clock c
+role_root clock number (role.ClockWire c) = driven_clock clock c
+role_root clock number _ = None
+
+-- the clock of each clock leaf: an input's number, and of every other one what drives it, or none
+pub record AreRoots (net : FlatNet) (roots : List (Option ℕ)) : Type 0 where
+  pub inputs : (n k : ℕ) → slice_get (clocks net) n ≡ Some k → root_at roots k ≡ Some n
+  pub driven : (k : ℕ) (l : Leaf) (c : Option ℕ) → slice_get net.leaves k ≡ Some l → clock_driver l.role ≡ Some c → root_at roots k ≡ driven_clock (root_at roots) c
+
+-- a leaf of no bits is in no list of values
+abbrev pub planned : {P : Type 0} → ℕ → P → List P
+planned width p = if nat_eq width 0 then [] else (p ∷ [])
+
+abbrev pub input_plan : Role → ℕ → ℕ → List InputPlan
+input_plan role.Input width k = planned width (record { leaf = k; width = width })
+input_plan _ width k = []
+
+abbrev pub output_plan : Role → ℕ → ℕ → List OutputPlan
+output_plan (role.Output r) width k = planned width (record { leaf = k; width = width })
+output_plan _ width k = []
+
+-- the plans of the leaves, which are numbered from k on
+abbrev pub plans_by : {P : Type 0} → (Role → ℕ → ℕ → List P) → ℕ → List Leaf → List P
+plans_by plan k [] = []
+plans_by plan k (l ∷ ls) = plan l.role l.width k ++ plans_by plan (k + 1) ls
+
+-- what gives that which drives a register of that width
+abbrev pub IsNextPlan : FlatNet → ℕ → Option Read → Option Task → Type 0
+IsNextPlan net width None None = Unit {0}
+IsNextPlan net width None (Some t) = ⊥
+IsNextPlan net width (Some r) None = ⊥
+IsNextPlan net width (Some r) (Some t) = IsFitTask net r width t
+
+pub record IsResetOf (net : FlatNet) (width : ℕ) (r : Reset) (p : ResetPlan) : Type 0 where
+  pub kind : p.kind ≡ r.kind
+  pub condition : p.condition ≡ place net r.condition
+  pub init : IsFitTask net r.init width p.init
+
+abbrev pub IsResetPlan : FlatNet → ℕ → Option Reset → Option ResetPlan → Type 0
+IsResetPlan net width None None = Unit {0}
+IsResetPlan net width None (Some p) = ⊥
+IsResetPlan net width (Some r) None = ⊥
+IsResetPlan net width (Some r) (Some p) = IsResetOf net width r p
+
+-- the plan of the register whose leaf has that number
+pub record IsRegisterPlan (net : FlatNet) (roots : List (Option ℕ)) (p : RegisterPlan) (k : ℕ) : Type 0 where
+  pub leaf : Leaf
+  pub register : Register
+  pub at : slice_get net.leaves k ≡ Some leaf
+  pub kind : leaf.role ≡ role.Register register
+  pub place : p.leaf ≡ k
+  pub width : leaf.width ≡ p.width
+  pub narrow : p.width ≤ 128
+  pub clock : p.clock ≡ root_at roots register.clock
+  pub reset : IsResetPlan net p.width register.reset p.reset
+  pub next : IsNextPlan net p.width register.next p.next
+
+pub record IsPlan (net : FlatNet) (p : Plan) : Type 0 where
+  pub inputs : p.inputs.items ≡ plans_by input_plan 0 net.leaves
+  pub outputs : p.outputs.items ≡ plans_by output_plan 0 net.leaves
+  pub roots : List (Option ℕ)
+  pub are_roots : AreRoots net roots
+  pub registers : AllZip (IsRegisterPlan net roots) p.registers.items (registers net)

@@ -1,0 +1,90 @@
+//! The shape of a net's traces.
+
+ghost use Rattle.std.specs.Prelude.{◌≡◌, ◌++◌, IfOk, OnOk, option_map, count_by};
+ghost use Rattle.fir_net.specs.working.IsNet.{IsNet};
+ghost use Rattle.fir_tick.specs.working.Shapes.{IsShapeOf};
+ghost use Rattle.fir_tick.specs.working.StateWords.{input_widths, is_clock, state_word, state_words};
+
+use fir_ast::LeafId;
+use fir_base::{MemoryOut, Name};
+use fir_net::{FlatNet, Leaf, Role};
+use fir_net_names::{NameTable, names};
+use std::alloc::Global;
+use trace_text::{Shape, StateWord};
+
+/// The shape of the traces of a net: its inputs and clocks in port order, and its registers, which are the
+/// words of the state, under their names in the emitted text. Only memory can be wanting.
+pub fn shape(alloc: Global, net: &FlatNet) -> Result<Shape, MemoryOut>
+    requires { IsNet net.now }
+    ensures { IfOk result (λ s. IsShapeOf net.now s) }
+{
+    let table = names(alloc, net)?;
+    let leaves = net.leaves.as_slice();
+    let inputs = input_widths(alloc, leaves)?;
+    let clocks = clock_count(leaves);
+    let state = state_words(alloc, &table, leaves)?;
+    // A net's widths are at most 128, and the names of its table are distinct words.
+    let Some(shape) = Shape::new(alloc, inputs, clocks, state)? else {
+        unreachable!()
+    };
+    Ok(shape)
+}
+
+/// The widths of the inputs that have bits.
+fn input_widths(alloc: Global, leaves: &[Leaf]) -> Result<Vec<u32>, MemoryOut>
+    ensures { IfOk result (λ v. v.items ≡ input_widths leaves.now) }
+{
+    let mut widths = Vec::new(alloc);
+    for leaf in leaves {
+        if leaf.role == Role::Input && leaf.width != 0 {
+            widths.push(leaf.width)?;
+        }
+    }
+    Ok(widths)
+}
+
+fn clock_count(leaves: &[Leaf]) -> usize
+    ensures { result ≡ count_by (λ l. is_clock l.role) leaves.now }
+{
+    leaves.iter().filter(|leaf| is_clock(leaf.role)).count()
+}
+
+fn is_clock(role: Role) -> bool
+    ensures { result ≡ is_clock role }
+{
+    matches!(role, Role::Clock)
+}
+
+/// The words of the state: the registers that have bits, under the names that the table has for them.
+fn state_words(
+    alloc: Global,
+    table: &NameTable,
+    leaves: &[Leaf],
+) -> Result<Vec<StateWord>, MemoryOut>
+    ensures { IfOk result (λ v. v.items ≡ state_words table.now.leaves leaves.now) }
+{
+    let mut words = Vec::new(alloc);
+    for (number, leaf) in leaves.iter().enumerate() {
+        put_state_word(alloc, &mut words, leaf, table.leaf(LeafId::new(number)))?;
+    }
+    Ok(words)
+}
+
+/// Appends the word of a register that has a name. Any other leaf has none.
+fn put_state_word(
+    alloc: Global,
+    words: &mut Vec<StateWord>,
+    leaf: &Leaf,
+    name: Option<&Name>,
+) -> Result<(), MemoryOut>
+    ensures { OnOk result (words.new.items ≡ words.old.items ++ state_word leaf.now.role leaf.now.width (option_map (λ n. n.now) name.entry)) }
+{
+    if let (Role::Register(_), Some(name)) = (leaf.role, name) {
+        words.push(StateWord {
+            name: name.copy(alloc)?,
+            width: leaf.width,
+            depth: None,
+        })?;
+    }
+    Ok(())
+}

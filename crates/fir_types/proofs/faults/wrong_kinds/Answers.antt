@@ -1,5 +1,0 @@
-use Rattle.fir_types.proofs.KindsFaults.{kinds_fault}
-use Rattle.fir_types.proofs.faults.wrong_kinds.Goals as goal
-
-pub returns-in-Ok : goal.returns-in-Ok
-returns-in-Ok c = kinds_fault _ _ _ c.in-Ok.ensures
