@@ -22,7 +22,6 @@ pub enum ResetStep {
 }
 
 /// A fault. The first place of each is where it stands; names, leaf paths and words are texts.
-#[derive(Drop)]
 pub enum FirFault {
     /// E01: a byte that is in no token.
     Byte(Place, u8),
@@ -86,4 +85,87 @@ pub enum FirFault {
     AsyncInit(Place, Seq<Name>),
     /// E28: a closed walk of dependence.
     Loop(Place, Seq<Name>),
+}
+
+// Not derived, so that a drop is a call, which is proved once.
+impl Drop for FirFault {
+    fn drop(self) {
+        match self {
+            FirFault::Byte(_, _)
+            | FirFault::Indent(_, _)
+            | FirFault::Tab(_)
+            | FirFault::BadLiteral(_)
+            | FirFault::Syntax(_)
+            | FirFault::Unsupported(_, _)
+            | FirFault::Depth(_)
+            | FirFault::Version(_, _)
+            | FirFault::Unknown(_, _)
+            | FirFault::Twice(_, _, _)
+            | FirFault::NoModule(_, _)
+            | FirFault::Recursive(_, _)
+            | FirFault::Kinds(_, _)
+            | FirFault::NoField(_, _)
+            | FirFault::Types(_, _, _)
+            | FirFault::Flow(_, _)
+            | FirFault::NotPassive(_, _)
+            | FirFault::OutOfRange(_, _, _)
+            | FirFault::MemoryField(_, _, _)
+            | FirFault::Resets(_, _)
+            | FirFault::Over(_, _)
+            | FirFault::PortWidth(_, _)
+            | FirFault::Legality(_, _, _)
+            | FirFault::LiteralLegality(_, _, _, _)
+            | FirFault::Condition(_, _)
+            | FirFault::Cost(_, _)
+            | FirFault::Undriven(_, _, _)
+            | FirFault::Clock(_, _, _, _)
+            | FirFault::MemoryClocks(_, _, _, _)
+            | FirFault::AsyncInit(_, _)
+            | FirFault::Loop(_, _) => {}
+        }
+    }
+}
+
+impl FirFault {
+    ghost use Rattle.std.specs.Prelude.{◌≡◌};
+    ghost use Rattle.fir_ast.specs.FaultLines.{fault_place};
+
+    /// Where the fault stands.
+    pub fn place(&self) -> Place
+        ensures { result ≡ fault_place self.now }
+    {
+        match self {
+            FirFault::Byte(place, _)
+            | FirFault::Indent(place, _)
+            | FirFault::Tab(place)
+            | FirFault::BadLiteral(place)
+            | FirFault::Syntax(place)
+            | FirFault::Unsupported(place, _)
+            | FirFault::Depth(place)
+            | FirFault::Version(place, _)
+            | FirFault::Unknown(place, _)
+            | FirFault::Twice(place, _, _)
+            | FirFault::NoModule(place, _)
+            | FirFault::Recursive(place, _)
+            | FirFault::Kinds(place, _)
+            | FirFault::NoField(place, _)
+            | FirFault::Types(place, _, _)
+            | FirFault::Flow(place, _)
+            | FirFault::NotPassive(place, _)
+            | FirFault::OutOfRange(place, _, _)
+            | FirFault::MemoryField(place, _, _)
+            | FirFault::Resets(place, _)
+            | FirFault::Over(place, _)
+            | FirFault::PortWidth(place, _)
+            | FirFault::Legality(place, _, _)
+            | FirFault::LiteralLegality(place, _, _, _)
+            | FirFault::Condition(place, _)
+            | FirFault::Cost(place, _)
+            | FirFault::Undriven(place, _, _)
+            | FirFault::Clock(place, _, _, _)
+            | FirFault::MemoryClocks(place, _, _, _)
+            | FirFault::AsyncInit(place, _)
+            | FirFault::Loop(place, _) => *place,
+        }
+    }
 }

@@ -1,20 +1,16 @@
 //! The tree of a circuit as the text spells it, with a place wherever a fault may stand, and the faults
-//! E01 to E28 with the lines that are printed for them; and the numbers of leaves and nodes. The definitions
-//! see the tree as plain data without addresses (`specs/`: Types, Expressions, Statements, Circuits and
-//! View).
+//! E01 to E28; and the numbers of leaves and nodes. The definitions see the tree as plain data without
+//! addresses (`specs/`: Types, Expressions, Statements, Circuits and View), and say what line is printed for
+//! a fault (FaultLines, Texts).
 #![tactic(auto)]
 
 mod circuit;
-mod evidence;
 mod expressions;
 mod fault;
-mod fault_line;
 mod ids;
 mod place;
 mod statements;
-mod type_text;
 mod types;
-mod walk_text;
 
 pub use circuit::{Circuit, Module, Port};
 pub use expressions::{Expr, Literal, Part, Reference};

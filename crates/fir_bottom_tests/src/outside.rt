@@ -7,6 +7,7 @@ use fir_io::{
     PutFault, Sink, SureFiles, SureSink,
 };
 use std::alloc::Global;
+use std::path::PathBuf;
 use std::test::Fail;
 use std::{env, fs, process};
 
@@ -21,11 +22,14 @@ fn tell<S: Sink>(sink: &mut S, piece: &[u8]) -> Result<(), PutFault> {
 }
 
 fn is_as_wanted(answer: Result<Vec<u8>, FileFault>, wanted: Result<&[u8], FileFault>) -> bool {
-    match (answer, wanted) {
-        (Ok(content), Ok(wanted)) => content.as_slice() == wanted,
-        (Err(fault), Err(wanted)) => fault == wanted,
-        _ => false,
+    match answer {
+        Ok(content) => holds(content.as_slice(), wanted),
+        Err(fault) => matches!(wanted, Err(wanted) if wanted == fault),
     }
+}
+
+fn holds(content: &[u8], wanted: Result<&[u8], FileFault>) -> bool {
+    matches!(wanted, Ok(wanted) if wanted == content)
 }
 
 fn entries(alloc: Global) -> Result<Vec<FileEntry>, Fail> {
@@ -88,7 +92,7 @@ fn a_sink_in_memory_answers_as_planned(rt: HostRuntime) -> Result<(), Fail> {
 }
 
 #[test]
-fn sure_files_and_sinks_never_fail(rt: HostRuntime) -> Result<(), Fail> {
+fn sure_files_never_fail(rt: HostRuntime) -> Result<(), Fail> {
     let alloc = rt.alloc();
     let mut files = SureFiles::new(entries(alloc)?);
     assert!(rt; is_as_wanted(ask(&mut files, alloc, "a", 4), Ok(b"abcd")));
@@ -96,35 +100,58 @@ fn sure_files_and_sinks_never_fail(rt: HostRuntime) -> Result<(), Fail> {
     assert_eq!(rt; files.taken(), 4);
     assert!(rt; is_as_wanted(ask(&mut files, alloc, "missing", 0), Ok(b"")));
     assert_eq!(rt; files.taken(), 0);
-    let mut sink = SureSink::new(alloc);
+    Ok(())
+}
+
+#[test]
+fn a_sure_sink_never_fails(rt: HostRuntime) {
+    let mut sink = SureSink::new(rt.alloc());
     assert!(rt; tell(&mut sink, b"ab").is_ok());
     assert!(rt; tell(&mut sink, b"c").is_ok());
     assert!(rt; sink.held() == b"abc".as_slice());
     assert_eq!(rt; sink.into_bytes().len(), 3);
-    Ok(())
 }
 
 #[test]
 fn the_system_gives_back_what_it_took(rt: HostRuntime) -> Result<(), Fail> {
     let alloc = rt.alloc();
-    let folder = env::temp_dir(&rt)?;
-    let number = process::id(rt.process());
-    let name = format!(in alloc; "fir_io_test_{number}")?;
-    let path = folder.join(alloc, name.as_str())?;
+    let path = scratch_path(&rt, alloc)?;
     let text = path.as_str();
-
-    let mut sink = OsSink::new(fs::create(&rt, text)?);
-    assert!(rt; tell(&mut sink, b"ab").is_ok());
-    assert!(rt; tell(&mut sink, b"cde").is_ok());
-    let mut files = OsFiles::new(&rt);
-    let is_whole = is_as_wanted(ask(&mut files, alloc, text, 5), Ok(b"abcde"));
-    let is_longer = is_as_wanted(ask(&mut files, alloc, text, 4), Err(FileFault::TooLong));
+    assert!(rt; takes_two_pieces(&rt, text)?);
+    let is_whole = reads(&rt, alloc, text, 5, Ok(b"abcde"));
+    let is_longer = reads(&rt, alloc, text, 4, Err(FileFault::TooLong));
     fs::remove_file(&rt, text)?;
-    let is_missing = is_as_wanted(ask(&mut files, alloc, text, 5), Err(FileFault::Failed));
+    let is_missing = reads(&rt, alloc, text, 5, Err(FileFault::Failed));
     assert!(rt; is_whole);
     assert!(rt; is_longer);
     assert!(rt; is_missing);
     Ok(())
+}
+
+/// A path among the temporary files, by the number of this process.
+fn scratch_path(rt: &HostRuntime, alloc: Global) -> Result<PathBuf, Fail> {
+    let number = process::id(rt.process());
+    let name = format!(in alloc; "fir_io_test_{number}")?;
+    let folder = env::temp_dir(rt)?;
+    Ok(folder.join(alloc, name.as_str())?)
+}
+
+/// Puts `abcde` to a new file in two pieces; whether both are taken.
+fn takes_two_pieces(rt: &HostRuntime, path: &str) -> Result<bool, Fail> {
+    let mut sink = OsSink::new(fs::create(rt, path)?);
+    Ok(tell(&mut sink, b"ab").is_ok() && tell(&mut sink, b"cde").is_ok())
+}
+
+/// Whether the system answers so where that many bytes are taken at most.
+fn reads(
+    rt: &HostRuntime,
+    alloc: Global,
+    path: &str,
+    limit: u64,
+    wanted: Result<&[u8], FileFault>,
+) -> bool {
+    let mut files = OsFiles::new(rt);
+    is_as_wanted(ask(&mut files, alloc, path, limit), wanted)
 }
 
 #[test]

@@ -1,11 +1,11 @@
 //! Two passes in a row over small trees, with ample memory.
 
-ghost use Rattle.std.specs.Prelude.{◌≡◌};
+ghost use Rattle.std.specs.Prelude.{◌≡◌, []};
+ghost use Rattle.fir_ast.specs.declared.fault.FirFault.TheVariants.{NoModule, Recursive};
 ghost use Rattle.fir_pass.specs.Faults.{fault_of};
-ghost use Rattle.fir_pass.specs.working.Sketches.{sketch_meaning};
+ghost use Rattle.fir_pass.specs.working.Sketches.{origin, sketch_meaning};
 
-use fir_ast::{FirFault, Place};
-use fir_base::{Name, Refused, Seq};
+use fir_base::Refused;
 use fir_pass::{Either, Meant, Pass, then};
 use std::alloc::Global;
 
@@ -19,8 +19,7 @@ impl Meant for Sketch {
     ghost meaning = { λ s. sketch_meaning s.unnamed s.looped };
 }
 
-const ORIGIN: Place = Place { line: 1, col: 1 };
-
+/// The pass that looks for the main module: its one fault hands the tree back.
 #[derive(Drop)]
 struct FindMain;
 
@@ -29,25 +28,25 @@ impl Pass for FindMain {
 
     type Out = Sketch;
 
-    type Fault = (FirFault, Sketch);
+    type Fault = Sketch;
 
     ghost from = { 1 };
 
     ghost upto = { 2 };
 
-    ghost told = { λ f. fault_of f.0 };
+    ghost told = { λ f. fault_of (NoModule origin []) };
 
-    ghost hands_back = { λ x f. f.1 ≡ x };
+    ghost hands_back = { λ x f. f ≡ x };
 
-    fn run(&self, alloc: Global, x: Sketch) -> Result<Sketch, Refused<(FirFault, Sketch)>> {
+    fn run(&self, _alloc: Global, x: Sketch) -> Result<Sketch, Refused<Sketch>> {
         if x.unnamed {
-            let name = Name::from_vec(Vec::new(alloc));
-            return Err(Refused::Fault((FirFault::NoModule(ORIGIN, name), x)));
+            return Err(Refused::Fault(x));
         }
         Ok(x)
     }
 }
 
+/// The pass that looks for recursion, in the same way.
 #[derive(Drop)]
 struct FindLoop;
 
@@ -56,38 +55,30 @@ impl Pass for FindLoop {
 
     type Out = Sketch;
 
-    type Fault = (FirFault, Sketch);
+    type Fault = Sketch;
 
     ghost from = { 3 };
 
     ghost upto = { 3 };
 
-    ghost told = { λ f. fault_of f.0 };
+    ghost told = { λ f. fault_of (Recursive origin []) };
 
-    ghost hands_back = { λ x f. f.1 ≡ x };
+    ghost hands_back = { λ x f. f ≡ x };
 
-    fn run(&self, alloc: Global, x: Sketch) -> Result<Sketch, Refused<(FirFault, Sketch)>> {
+    fn run(&self, _alloc: Global, x: Sketch) -> Result<Sketch, Refused<Sketch>> {
         if x.looped {
-            let walk = Seq::from_vec(Vec::new(alloc));
-            return Err(Refused::Fault((FirFault::Recursive(ORIGIN, walk), x)));
+            return Err(Refused::Fault(x));
         }
         Ok(x)
     }
 }
 
-/// Which pass told a fault, and the tree that came back.
-fn told_by(fault: &Either<(FirFault, Sketch), (FirFault, Sketch)>) -> (u8, Sketch) {
-    match fault {
-        Either::One(first) => (1, first.1),
-        Either::Two(second) => (2, second.1),
-    }
-}
-
-/// What comes of the tree: nothing, or which pass told a fault, and the tree that came back.
+/// What comes of the tree: nothing, or which pass told its fault, and the tree that came back.
 fn told(alloc: Global, x: Sketch) -> Option<(u8, Sketch)> {
     match then(alloc, &FindMain, &FindLoop, x) {
         Ok(_) => None,
-        Err(Refused::Fault(fault)) => Some(told_by(&fault)),
+        Err(Refused::Fault(Either::One(back))) => Some((1, back)),
+        Err(Refused::Fault(Either::Two(back))) => Some((2, back)),
         Err(Refused::Memory) => Some((0, x)),
     }
 }

@@ -1,3 +1,5 @@
+pub mod OperandKinds
+pub mod PathTexts
 pub mod FirstDriven
 pub mod FlowFaults
 pub mod KindsFaults
@@ -8,6 +10,8 @@ pub mod HeldTypes
 pub mod MemoryPorts
 pub mod NotedWalks
 pub mod StatementFaults
+pub mod FaultLists
+pub mod ConnectSides
 pub mod RegisterWalks
 pub mod TypeFaultGroups
 pub mod TypePass

@@ -1,5 +1,5 @@
 -- Walks along the parts of a reference, part by part.
-use Rattle.std.proofs.Common.{◌≡◌, ℕ, ◌+◌, ◌<◌, List, [], ◌∷◌, ◌++◌, map, drop, length, get_or, Option, Ok, Err, Result, refl, sym, ap, ◌∙◌, append_assoc}
+use Rattle.std.proofs.Common.{◌≡◌, ℕ, ◌+◌, ◌<◌, List, [], ◌∷◌, ◌++◌, map, drop, length, get_or, Option, Some, None, Ok, Err, Result, refl, sym, ap, ◌∙◌, append_assoc}
 use Rattle.std.specs.Prelude.{option_map}
 use Rattle.fir_base.specs.declared.refused.Refused.{Refused}
 use Rattle.fir_ast.specs.declared.fault.FirFault.{FirFault}
@@ -7,17 +7,18 @@ use Rattle.fir_ast.specs.declared.place.Place.{Place}
 use Rattle.fir_ast.specs.declared.expressions.Part.{Part}
 use Rattle.fir_ast.specs.declared.expressions.Reference.{Reference}
 use Rattle.fir_ast.specs.Types.{DataType}
-use Rattle.fir_ast.specs.Expressions.{Parts, no_parts}
+use Rattle.fir_ast.specs.Expressions.{Parts, no_parts, reference}
+use Rattle.fir_ast.specs.Statements.{Sink}
 use Rattle.fir_ast.specs.View.{parts_of, sink_of}
 use Rattle.fir_meaning.specs.Checked.{Checked}
 use Rattle.fir_meaning.specs.LeafPaths.{Step, LeafPath, named}
 use Rattle.fir_meaning.specs.Reaching.{Reached, root}
 use Rattle.fir_meaning.specs.TypedScopes.{TypedScope}
-use Rattle.fir_meaning.specs.ExpressionTypes.{along_parts, reaching}
+use Rattle.fir_meaning.specs.ExpressionTypes.{along_parts, expression_type, reaching}
 use Rattle.fir_names.specs.working.Parts.{part_of}
 use Rattle.fir_types.specs.declared.reach.Reach.{Reach}
 use Rattle.fir_types.specs.working.Judged.{Is, IsFirstOf, Finds, GoesOn}
-use Rattle.fir_types.specs.working.Seen.{reached_as, sink_path, steps_of}
+use Rattle.fir_types.specs.working.Seen.{found_type, reached_as, sink_path, steps_of}
 use Rattle.fir_check.proofs.CheckedForms.{first_along}
 use Rattle.fir_types.proofs.PartViews.{parts_left, part_steps, sink_view}
 use Rattle.fir_types.proofs.GrownScopes.{append_none}
@@ -80,3 +81,11 @@ reached_done ts typed r left y walked none =
     let whole = walked.same ∙ ap (along_parts typed r.place walked.now) none in
     let path : sink_path (sink_of r) ≡ walked.path = walked.steps ∙ ap (λ ps. walked.path ++ steps_of ps) none ∙ sym (append_none walked.path) in
     rw (whole, path) walked.reached
+
+-- the type of what a reference reaches
+pub reference_found : (ts : List DataType) (typed : TypedScope) (s : Sink) (path : LeafPath) (o x : Option Reach) → o ≡ x
+    → Is (reaching typed s) (option_map (reached_as ts path) o) → Is (expression_type typed (reference s.place s.name s.parts)) (option_map (λ r. found_type ts r.found) x)
+reference_found ts typed s path o None same is =
+    record { has = ap (option_map (λ y. y.data_type)) (is.has ∙ ap (option_map (reached_as ts path)) same); none = is.none }
+reference_found ts typed s path o (Some r) same is =
+    record { has = ap (option_map (λ y. y.data_type)) (is.has ∙ ap (option_map (reached_as ts path)) same); none = is.none }

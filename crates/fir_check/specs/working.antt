@@ -3,3 +3,4 @@ pub mod Driven
 pub mod Connected
 pub mod Registers
 pub mod MemoryParts
+pub mod FaultsOfWords

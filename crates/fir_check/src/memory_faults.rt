@@ -6,6 +6,7 @@ ghost use Rattle.fir_meaning.specs.MemoryFaults.{flipped_data, is_one, memory_fa
 ghost use Rattle.fir_meaning.specs.MemoryTypes.{data_of_part, depth_of_part, first_one};
 ghost use Rattle.fir_meaning.specs.TypeKinds.{is_sized};
 ghost use Rattle.fir_type_table.specs.working.Tables.{type_at, types_of};
+ghost use Rattle.fir_check.specs.working.FaultsOfWords.{faults_of_words};
 ghost use Rattle.fir_types.specs.working.Walked.{Judges};
 
 use crate::faults::not_passive;
@@ -17,7 +18,6 @@ use fir_types::memory_fields::{NumberField, has_no_second_rule, has_one_word_typ
 use std::alloc::Global;
 
 /// The first fault of a memory whose words, where their type is written, have that type.
-#[tactic(auto, using(crate::proofs::CheckedForms::first_left))]
 pub fn in_memory_fields(
     alloc: Global,
     table: &TypeTable,
@@ -25,6 +25,27 @@ pub fn in_memory_fields(
     word_type: Option<TypeId>,
 ) -> Result<(), Refused<FirFault>>
     ensures { option_map (λ id. type_at (types_of table.now) id.number) word_type ≡ first_one (flat_map data_of_part (map memory_part_of memory.now.fields.items)) → Judges (memory_faults (named_of memory.now.ident) (map memory_part_of memory.now.fields.items)) result }
+{
+    in_words(alloc, table, memory, word_type)?;
+    let (ident, fields) = (&memory.ident, memory.fields.as_slice());
+    unless(alloc, has_read_latency(fields), ident, b"read-latency")?;
+    unless(alloc, has_write_latency(fields), ident, b"write-latency")?;
+    unless(
+        alloc,
+        has_no_second_rule(fields),
+        ident,
+        b"read-under-write",
+    )
+}
+
+/// The first fault of the words of a memory, of their type and of how many they are.
+fn in_words(
+    alloc: Global,
+    table: &TypeTable,
+    memory: &Memory,
+    word_type: Option<TypeId>,
+) -> Result<(), Refused<FirFault>>
+    ensures { option_map (λ id. type_at (types_of table.now) id.number) word_type ≡ first_one (flat_map data_of_part (map memory_part_of memory.now.fields.items)) → Judges (faults_of_words (named_of memory.now.ident) (map memory_part_of memory.now.fields.items)) result }
 {
     let (ident, fields) = (&memory.ident, memory.fields.as_slice());
     no_flips(alloc, table, ident, word_type)?;
@@ -34,15 +55,7 @@ pub fn in_memory_fields(
         ident,
         b"data-type",
     )?;
-    unless(alloc, has_depth(fields), ident, b"depth")?;
-    unless(alloc, has_read_latency(fields), ident, b"read-latency")?;
-    unless(alloc, has_write_latency(fields), ident, b"write-latency")?;
-    unless(
-        alloc,
-        has_no_second_rule(fields),
-        ident,
-        b"read-under-write",
-    )
+    unless(alloc, has_depth(fields), ident, b"depth")
 }
 
 /// The first data has no flips.

@@ -1,32 +1,35 @@
 //! The types in statements, in the order of the text, blocks of whens entered.
 
-ghost use Rattle.std.specs.Prelude.{◌≡◌, ℕ, List, IfOk, OnOk, flat_map, map, option_map, slice_get};
+ghost use Rattle.std.specs.Prelude.{◌≡◌, ℕ, List, [], IfOk, OnOk, flat_map, map, option_map, slice_get};
 ghost use Rattle.fir_ast.specs.declared.place.Place.{Place};
 ghost use Rattle.fir_ast.specs.Circuits.{ModuleTree};
 ghost use Rattle.fir_ast.specs.Statements.{PlacedName};
-ghost use Rattle.fir_ast.specs.View.{block_of, expr_of, memory_part_of, named_of, reset_of, stmt_of, type_of};
+ghost use Rattle.fir_ast.specs.View.{block_of, expr_of, memory_part_of, named_of, reset_of, sink_of, stmt_of, type_of};
 ghost use Rattle.fir_meaning.specs.Components as component;
 ghost use Rattle.fir_meaning.specs.Components.{Declarations};
+ghost use Rattle.fir_meaning.specs.ExpressionTypes.{reaching};
 ghost use Rattle.fir_meaning.specs.MemoryFaults.{memory_faults};
 ghost use Rattle.fir_meaning.specs.MemoryTypes.{data_of_part, first_one, memory_type};
 ghost use Rattle.fir_meaning.specs.TypeGroup.{scope_at, type_faults_in, type_faults_in_block};
+ghost use Rattle.fir_meaning.specs.TypedScopes.{TypedScope};
 ghost use Rattle.fir_meaning.specs.Visibility.{Before, behind, behind_block, with_declaration};
 ghost use Rattle.fir_names.specs.working.Parts.{when_view};
 ghost use Rattle.fir_names.specs.working.Tabulated.{entry_at};
 ghost use Rattle.fir_type_table.specs.working.Tables.{type_at, types_of};
 ghost use Rattle.fir_check.specs.working.MemoryParts.{HasWordType, IsFoundIn, IsHeldWordType};
+ghost use Rattle.fir_types.specs.working.Known.{Knows};
 ghost use Rattle.fir_types.specs.working.ModuleNotes.{block_notes, register_notes, statement_notes};
-ghost use Rattle.fir_types.specs.working.Notes.{expression_notes};
+ghost use Rattle.fir_types.specs.working.Notes.{expression_notes, reference_notes};
 ghost use Rattle.fir_types.specs.working.Noted.{Noted};
 ghost use Rattle.fir_types.specs.working.Statements.{found_bundle, node_faults, register_faults};
-ghost use Rattle.fir_types.specs.working.Walked.{Begins, GoesOnWith, IsOfModule, Passes, Walks};
+ghost use Rattle.fir_types.specs.working.Walked.{Begins, IsOfModule, Judges, Passes, Walks};
 
 use crate::connects::{in_connect, in_partial_connect};
 use crate::expressions::{in_expression, in_reference, in_unsigned};
 use crate::memory_faults::in_memory_fields;
 use crate::memory_type::memory_type;
 use crate::registers::{in_clock, in_reset, no_flips, register_type};
-use fir_ast::{Expr, FirFault, Ident, Memory, Register, Stmt, When};
+use fir_ast::{Expr, FirFault, Ident, Memory, Reference, Register, Stmt, Ty, When};
 use fir_base::{MemoryOut, Refused};
 use fir_names::{Component, Names};
 use fir_type_table::{TypeId, TypeTable};
@@ -66,10 +69,10 @@ fn in_statement(
     ensures notes { (modules : List ModuleTree) (before : Before) (whole : Declarations) → IsOfModule modules names.now whole → Begins (behind before (stmt_of statement.now)).declared whole → Walks modules bundles.now scope.old before → OnOk result (Noted (types_of scope.new.table) notes.old.items notes.new.items (statement_notes modules before (stmt_of statement.now))) }
 {
     match statement {
-        Stmt::Wire(_, _, _, ty) => Ok(scope.declare(alloc, ty)?),
+        Stmt::Wire(_, _, _, ty) => in_wire(alloc, scope, ty),
         Stmt::Reg(_, register) => in_register(alloc, names, scope, notes, register),
         Stmt::Node(_, ident, value) => in_node(alloc, names, scope, notes, ident, value),
-        Stmt::Inst(_, _, _) => Ok(declare_instance(names, bundles, scope)?),
+        Stmt::Inst(_, _, _) => in_instance(names, bundles, scope),
         Stmt::Mem(_, memory) => in_memory(alloc, scope, memory),
         Stmt::When(_, when) => in_when(when, alloc, names, bundles, scope, notes),
         Stmt::Connect(place, sink, source) => {
@@ -78,10 +81,7 @@ fn in_statement(
         Stmt::PartialConnect(place, sink, source) => {
             in_partial_connect(alloc, names, scope, notes, *place, sink, source)
         }
-        Stmt::Invalid(_, sink) => {
-            in_reference(sink, alloc, names, scope, notes)?;
-            Ok(())
-        }
+        Stmt::Invalid(_, sink) => in_invalid(alloc, names, scope, notes, sink),
         Stmt::Skip(_) => Ok(()),
     }
 }
@@ -102,6 +102,28 @@ fn in_when(
     in_unsigned(&when.condition, alloc, names, scope, notes)?;
     in_block(&when.then_block, alloc, names, bundles, scope, notes)?;
     in_block(&when.else_block, alloc, names, bundles, scope, notes)
+}
+
+/// A wire, of the type that is written.
+fn in_wire(alloc: Global, scope: &mut Scope, ty: &Ty) -> Result<(), Refused<FirFault>>
+    ensures { (modules : List ModuleTree) (bundles : List TypeId) (before : Before) (n : PlacedName) → Walks modules bundles scope.old before → Passes modules bundles scope.old scope.new [] (with_declaration before n (component.wire (type_of ty.now))) result }
+{
+    Ok(scope.declare(alloc, ty)?)
+}
+
+/// What is invalidated is reached.
+fn in_invalid(
+    alloc: Global,
+    names: &Names,
+    scope: &Scope,
+    notes: &mut Vec<Note>,
+    sink: &Reference,
+) -> Result<(), Refused<FirFault>>
+    ensures found { (typed : TypedScope) → Knows names.now scope.now typed → Judges (reaching typed (sink_of sink.now)).shows result }
+    ensures notes { (typed : TypedScope) → Knows names.now scope.now typed → OnOk result (Noted (types_of scope.now.table) notes.old.items notes.new.items (reference_notes typed (sink_of sink.now))) }
+{
+    in_reference(sink, alloc, names, scope, notes)?;
+    Ok(())
 }
 
 /// A register: its own type, its clock, and then its reset, in which it is known.
@@ -140,11 +162,15 @@ fn in_node(
 }
 
 /// An instance, which is as the ports of its module.
-fn declare_instance(names: &Names, bundles: &[TypeId], scope: &mut Scope) -> Result<(), MemoryOut>
-    ensures { IfOk result (λ _. (modules : List ModuleTree) (before : Before) (whole : Declarations) (n : PlacedName) (name : List ℕ) → IsOfModule modules names.now whole → Begins (with_declaration before n (component.instance name)).declared whole → Walks modules bundles.now scope.old before → Walks modules bundles.now scope.new (with_declaration before n (component.instance name)) × GoesOnWith (types_of scope.old.table) scope.new) }
+fn in_instance(
+    names: &Names,
+    bundles: &[TypeId],
+    scope: &mut Scope,
+) -> Result<(), Refused<FirFault>>
+    ensures { (modules : List ModuleTree) (before : Before) (whole : Declarations) (n : PlacedName) (name : List ℕ) → IsOfModule modules names.now whole → Begins (with_declaration before n (component.instance name)).declared whole → Walks modules bundles.now scope.old before → Passes modules bundles.now scope.old scope.new [] (with_declaration before n (component.instance name)) result }
 {
     let found = bundle_of(names, bundles, scope.declared.len());
-    scope.declare_found(found)
+    Ok(scope.declare_found(found)?)
 }
 
 /// The bundle of the instance before whose declaration so many stand.

@@ -5,17 +5,18 @@ use Rattle.fir_parse.specs.working.Laws.{SpellsOneTree, HasTreeOrFault}
 use Rattle.fir_io.specs.declared.ports.FileFault.{FileFault}
 use Rattle.fir_io.specs.declared.ports.FileFault.TheVariants as file
 use Rattle.fir_io.specs.Ports.{FilesSeen, SinkSeen, Rose, AtLeast, Grew, ReadShows}
-use Rattle.fir_compile.specs.declared.status.Status.{Status}
-use Rattle.fir_compile.specs.declared.status.Status.TheVariants.{Done, Refused, Usage, Unread, Unwritten, NoMemory, BadTrace, TooLong}
-use Rattle.fir_compile.specs.Messages.{unread_line, too_long_line, memory_line}
-use Rattle.fir_compile.specs.Emits.{Takes, Emits}
-use Rattle.fir_compile.specs.Outside.{Outside, outside, IsRead, code, limit}
+use Rattle.fir_outcome.specs.declared.status.Status.{Status}
+use Rattle.fir_outcome.specs.declared.status.Status.TheVariants.{Done, Refused, Usage, Unread, Unwritten, NoMemory, BadTrace, TooLong}
+use Rattle.fir_outcome.specs.Messages.{unread_line, too_long_line, memory_line}
+use Rattle.fir_outcome.specs.Emits.{Takes, Emits}
+use Rattle.fir_outcome.specs.Outside.{Outside, outside, IsRead, code, limit}
 use Rattle.fir_commands.specs.EmitsFile.{Due, EmitsFile}
 use Rattle.fir_commands.specs.EmitAnswers.{EmitAnswers, EmitComplete}
-use Rattle.fir_commands.specs.working.Endings.{Said, Complained, Untaken, Emitted}
-use Rattle.fir_compile.specs.Refusals.{Refuses}
+use Rattle.fir_cli.specs.working.Endings.{Said, Complained, Untaken}
+use Rattle.fir_commands.specs.working.EmitEndings.{Emitted}
+use Rattle.fir_outcome.specs.Refusals.{Refuses}
 use Rattle.fir_commands.proofs.Refused.{refused_is_not_taken}
-use Rattle.fir_compile.proofs.Told.{kept_same, IsTooLong, not_short, read_is, not_too_much}
+use Rattle.fir_runner.proofs.Told.{kept_same, IsTooLong, not_short, read_is, not_too_much}
 
 pub refused_said : (bytes line : List ℕ) (out err err' : SinkSeen) (s : Status) → Refuses bytes line → Said line Refused err err' s → Emitted bytes out out err err' s
 refused_said bytes line out err err' s why (inl p) = subst (Emitted bytes out out err err') (sym p.0) (line, why, refl, p.1)

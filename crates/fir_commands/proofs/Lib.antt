@@ -3,5 +3,3 @@ pub mod Refused
 pub mod EmitEnded
 pub mod SimulationEnded
 pub mod TraceEnded
-pub mod TraceShapes
-pub mod FirstLines

@@ -9,9 +9,9 @@ use Rattle.fir_meaning.specs.Lack.{Lack}
 use Rattle.fir_meaning.specs.LeafedModules.{Scene}
 use Rattle.fir_meaning.specs.SourceMeaning.{circuit_meaning}
 use Rattle.fir_lack.specs.Lacking.{lacking}
-use Rattle.fir_compile.specs.CircuitFaults.{IsFirstUpTo, LacksFirst, LacksNone}
-use Rattle.fir_compile.specs.Emits.{Takes}
-use Rattle.fir_compile.specs.Refusals.{RefusedFor, Refuses}
+use Rattle.fir_outcome.specs.CircuitFaults.{IsFirstUpTo, LacksFirst, LacksNone}
+use Rattle.fir_outcome.specs.Emits.{Takes}
+use Rattle.fir_outcome.specs.Refusals.{RefusedFor, Refuses}
 use Rattle.fir_compile.proofs.ClearGroups.{none_first}
 use Rattle.fir_commands.proofs.OneScene.{one_scene}
 

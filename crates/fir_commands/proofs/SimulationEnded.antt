@@ -14,23 +14,23 @@ use Rattle.fir_inst.specs.working.FlattensTo.{FlattensTo, MeansSource}
 use Rattle.fir_tick.specs.working.Views.{output_widths as net_widths}
 use Rattle.trace_text.specs.Shapes.{TraceShape}
 use Rattle.trace_text.specs.RunLines.{run_text}
-use Rattle.fir_compile.specs.declared.status.Status.{Status}
-use Rattle.fir_compile.specs.declared.status.Status.TheVariants.{Done, Refused, Usage, Unread, Unwritten, NoMemory, BadTrace, TooLong}
-use Rattle.fir_commands.specs.Command.{Simulated}
-use Rattle.fir_compile.specs.Messages.{unread_line, too_long_line, memory_line}
-use Rattle.fir_compile.specs.Refusals.{Refuses}
-use Rattle.fir_compile.specs.Outside.{IsRead, Outside, outside, limit, Kept}
-use Rattle.fir_commands.specs.working.Endings.{Said, Complained}
-use Rattle.fir_compile.specs.Simulations.{Prints, PrintsFront, PrintsRun}
-use Rattle.fir_compile.specs.Sources.{SourceAllows, output_widths}
+use Rattle.fir_outcome.specs.declared.status.Status.{Status}
+use Rattle.fir_outcome.specs.declared.status.Status.TheVariants.{Done, Refused, Usage, Unread, Unwritten, NoMemory, BadTrace, TooLong}
+use Rattle.fir_cli.specs.Command.{Simulated}
+use Rattle.fir_outcome.specs.Messages.{unread_line, too_long_line, memory_line}
+use Rattle.fir_outcome.specs.Refusals.{Refuses}
+use Rattle.fir_outcome.specs.Outside.{IsRead, Outside, outside, limit, Kept}
+use Rattle.fir_cli.specs.working.Endings.{Said, Complained}
+use Rattle.fir_outcome.specs.Simulations.{Prints, PrintsFront, PrintsRun}
+use Rattle.fir_outcome.specs.Sources.{SourceAllows, output_widths}
 use Rattle.fir_commands.specs.Simulates.{IsAsked, DueAtOnce, BeganTicks, MetBadLine, Simulates}
-use Rattle.fir_compile.specs.working.Running.{Ran}
-use Rattle.fir_compile.specs.working.Laws.{FrontsBegin}
+use Rattle.fir_runner.specs.working.Running.{Ran}
+use Rattle.fir_runner.specs.working.Laws.{FrontsBegin}
 use Rattle.fir_compile.specs.working.Made.{IsMadeOf}
 use Rattle.fir_commands.specs.working.SimulationEndings.{BeganLines, MetBadly, OfTrace, NotRead, OfText}
 use Rattle.fir_compile.proofs.AllRuns.{one_run, same_runs}
 use Rattle.fir_compile.proofs.SourceRuns.{from_net, source_allows_one, source_one}
-use Rattle.fir_compile.proofs.Told.{kept_same}
+use Rattle.fir_runner.proofs.Told.{kept_same}
 
 -- a run of the net is the one run of the source of the circuit that it was made of
 prints_run : (c : CircuitTree) (net : FlatNet) (flat : FlattensTo c net) (one : NetOne net) (with_state : Bool) (init : List ℕ) (ticks : List Tick)

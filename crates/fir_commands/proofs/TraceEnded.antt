@@ -11,18 +11,18 @@ use Rattle.trace_text.specs.BadLine.{BadLine}
 use Rattle.trace_text.specs.FaultTexts.{fault_text}
 use Rattle.trace_text.specs.RunLines.{run_text}
 use Rattle.trace_text.proofs.LineFronts.{front_lines}
-use Rattle.fir_compile.specs.declared.status.Status.{Status}
-use Rattle.fir_compile.specs.declared.status.Status.TheVariants as status
-use Rattle.fir_compile.specs.declared.lines.Finish.{Finish}
-use Rattle.fir_compile.specs.declared.lines.Finish.TheVariants as finish
-use Rattle.fir_compile.specs.Messages.{unwritten_line, memory_line}
-use Rattle.fir_compile.specs.Outside.{outside, limit, Kept, GrewByFront}
-use Rattle.fir_commands.specs.working.Endings.{Said, Complained, Untaken}
-use Rattle.fir_compile.specs.Simulations.{SaysFront}
-use Rattle.fir_compile.specs.working.Running.{Ran}
-use Rattle.fir_compile.specs.working.Lined.{Lined}
+use Rattle.fir_outcome.specs.declared.status.Status.{Status}
+use Rattle.fir_outcome.specs.declared.status.Status.TheVariants as status
+use Rattle.fir_runner.specs.declared.lines.Finish.{Finish}
+use Rattle.fir_runner.specs.declared.lines.Finish.TheVariants as finish
+use Rattle.fir_outcome.specs.Messages.{unwritten_line, memory_line}
+use Rattle.fir_outcome.specs.Outside.{outside, limit, Kept, GrewByFront}
+use Rattle.fir_cli.specs.working.Endings.{Said, Complained, Untaken}
+use Rattle.fir_outcome.specs.Simulations.{SaysFront}
+use Rattle.fir_runner.specs.working.Running.{Ran}
+use Rattle.fir_runner.specs.working.Lined.{Lined}
 use Rattle.fir_commands.specs.working.SimulationEndings.{FinishSaid, BeganLines, MetBadly, OfTrace, NotRead}
-use Rattle.fir_compile.proofs.Told.{kept_same}
+use Rattle.fir_runner.proofs.Told.{kept_same}
 
 -- what was grown by, was grown by a front of it
 whole_front : (old new : SinkSeen) (piece : List ℕ) → Grew old new piece → GrewByFront old new piece

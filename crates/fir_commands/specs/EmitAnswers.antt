@@ -1,8 +1,8 @@
 -- Which status the Verilog of a file is answered with, where memory is there and no read or write fails.
 use Rattle.std.specs.Prelude.{◌≡◌, ◌≢◌, ℕ, List}
 use Rattle.fir_ast.specs.Circuits.{CircuitTree}
-use Rattle.fir_compile.specs.Emits.{Takes}
-use Rattle.fir_compile.specs.Outside.{Outside, NoneFailed, Tells, TellsTooMuch}
+use Rattle.fir_outcome.specs.Emits.{Takes}
+use Rattle.fir_outcome.specs.Outside.{Outside, NoneFailed, Tells, TellsTooMuch}
 
 pub record EmitAnswers (name : List ℕ) (before : Outside) (answer : ℕ) : Type 0 where
   pub too_long : TellsTooMuch before name → answer ≡ 8

@@ -1,12 +1,12 @@
 -- What the program does where the words ask for the Verilog of a file: each status, with its cause and with what stands on the outputs.
 use Rattle.std.specs.Prelude.{◌≡◌, ℕ, ◌+◌, ◌<◌, List, length, IfSome, ◌⊎◌}
 use Rattle.fir_io.specs.Ports.{Rose, AtLeast, Grew}
-use Rattle.fir_compile.specs.declared.status.Status.{Status}
-use Rattle.fir_compile.specs.declared.status.Status.TheVariants as status
-use Rattle.fir_compile.specs.Messages.{unread_line, too_long_line, memory_line}
-use Rattle.fir_compile.specs.Emits.{Emits}
-use Rattle.fir_compile.specs.Refusals.{Refuses}
-use Rattle.fir_compile.specs.Outside.{limit, Outside, IsRead, Kept, GrewByFront, OutFailed, ErrFailed, MemoryFailed}
+use Rattle.fir_outcome.specs.declared.status.Status.{Status}
+use Rattle.fir_outcome.specs.declared.status.Status.TheVariants as status
+use Rattle.fir_outcome.specs.Messages.{unread_line, too_long_line, memory_line}
+use Rattle.fir_outcome.specs.Emits.{Emits}
+use Rattle.fir_outcome.specs.Refusals.{Refuses}
+use Rattle.fir_outcome.specs.Outside.{limit, Outside, IsRead, Kept, GrewByFront, OutFailed, ErrFailed, MemoryFailed}
 
 -- which line is due on the error output, with which status and for what cause
 abbrev pub Due : List ℕ → Outside → Outside → Status → List ℕ → Type 0

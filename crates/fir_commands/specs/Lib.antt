@@ -1,4 +1,3 @@
-pub mod Command
 pub mod EmitsFile
 pub mod EmitAnswers
 pub mod Simulates

@@ -3,14 +3,14 @@
 use Rattle.std.specs.Prelude.{◌≡◌, ℕ, ◌+◌, ◌<◌, List, length, IfSome, ◌⊎◌}
 use Rattle.fir_io.specs.Ports.{Rose, AtLeast, Grew}
 use Rattle.fir_ast.specs.Circuits.{CircuitTree}
-use Rattle.fir_compile.specs.declared.status.Status.{Status}
-use Rattle.fir_compile.specs.declared.status.Status.TheVariants as status
-use Rattle.fir_commands.specs.Command.{Simulated}
-use Rattle.fir_compile.specs.Messages.{unread_line, too_long_line, memory_line}
-use Rattle.fir_compile.specs.Emits.{Takes}
-use Rattle.fir_compile.specs.Refusals.{Refuses}
-use Rattle.fir_compile.specs.Outside.{limit, Outside, IsRead, Kept, GrewByFront, OutFailed, ErrFailed, MemoryFailed}
-use Rattle.fir_compile.specs.Simulations.{BeginsAll, PrintsWhole, PrintsBadly, PrintsFront}
+use Rattle.fir_outcome.specs.declared.status.Status.{Status}
+use Rattle.fir_outcome.specs.declared.status.Status.TheVariants as status
+use Rattle.fir_cli.specs.Command.{Simulated}
+use Rattle.fir_outcome.specs.Messages.{unread_line, too_long_line, memory_line}
+use Rattle.fir_outcome.specs.Emits.{Takes}
+use Rattle.fir_outcome.specs.Refusals.{Refuses}
+use Rattle.fir_outcome.specs.Outside.{limit, Outside, IsRead, Kept, GrewByFront, OutFailed, ErrFailed, MemoryFailed}
+use Rattle.fir_outcome.specs.Simulations.{BeginsAll, PrintsWhole, PrintsBadly, PrintsFront}
 
 -- the file that is asked: the circuit's, and where its text is taken the trace's
 abbrev pub IsAsked : Simulated → Outside → List ℕ → Type 0

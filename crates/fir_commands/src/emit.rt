@@ -1,15 +1,15 @@
 //! The command `emit`: the Verilog of the circuit in a file.
 
 ghost use Rattle.std.specs.Prelude.{◌≤◌, IsTrue, length};
-ghost use Rattle.fir_compile.specs.Outside.{outside};
+ghost use Rattle.fir_outcome.specs.Outside.{outside};
 ghost use Rattle.fir_commands.specs.EmitsFile.{EmitsFile};
-ghost use Rattle.fir_commands.specs.working.Endings.{Written, Emitted};
+ghost use Rattle.fir_commands.specs.working.EmitEndings.{Written, Emitted};
 
-use crate::limit::LIMIT;
-use crate::messages::{MEMORY_LINE, UNWRITTEN_LINE, say, say_fault, say_unread};
 use fir_base::Refused;
-use fir_compile::{Status, verilog_of};
+use fir_cli::{LIMIT, MEMORY_LINE, UNWRITTEN_LINE, say, say_fault, say_unread};
+use fir_compile::verilog_of;
 use fir_io::{Files, PutFault, Sink};
+use fir_outcome::Status;
 use std::alloc::Global;
 
 /// Reads the file, and puts the Verilog of its circuit to the output.

@@ -5,18 +5,19 @@ ghost use Rattle.fir_net.specs.working.IsNet.{IsNet};
 ghost use Rattle.fir_net.specs.working.IsOrder.{IsOrder};
 ghost use Rattle.fir_net.specs.working.Settled.{shape as shape_of_net};
 ghost use Rattle.trace_text.specs.Shapes.{plain};
-ghost use Rattle.fir_compile.specs.Outside.{outside};
+ghost use Rattle.fir_outcome.specs.Outside.{outside};
 ghost use Rattle.fir_commands.specs.Simulates.{Simulates};
-ghost use Rattle.fir_commands.specs.working.Commanded.{simulated};
+ghost use Rattle.fir_cli.specs.working.Commanded.{simulated};
 ghost use Rattle.fir_commands.specs.working.SimulationEndings.{FinishSaid, OfText, OfNet, OfTrace};
 
-use crate::command::Simulation;
-use crate::fronts::fronts_begin;
-use crate::limit::LIMIT;
-use crate::messages::{MEMORY_LINE, UNWRITTEN_LINE, say, say_bad_line, say_fault, say_unread};
 use fir_base::Refused;
-use fir_compile::{Compiled, Finish, Runner, Status, net_of, put_lines};
+use fir_cli::{
+    LIMIT, MEMORY_LINE, Simulation, UNWRITTEN_LINE, say, say_bad_line, say_fault, say_unread,
+};
+use fir_compile::{Compiled, net_of};
 use fir_io::{Files, Sink};
+use fir_outcome::Status;
+use fir_runner::{Finish, Runner, fronts_begin, put_lines};
 use std::alloc::Global;
 use trace_text::Shape;
 
@@ -104,7 +105,7 @@ fn simulate_trace<S: Sink, T: Sink>(
     requires of_net { plain shape ≡ shape_of_net compiled.net }
     ensures { OfTrace trace.now compiled.net shape with_state (S.seen out.old) (S.seen out.new) (T.seen err.old) (T.seen err.new) result }
 {
-    match Runner::new(alloc, compiled, shape, trace) {
+    match Runner::new(alloc, compiled.net, compiled.order, shape, trace) {
         Ok(mut runner) => {
             let finish = put_lines(alloc, &mut runner, trace, with_state, out);
             say_finish(alloc, trace, finish, err)

@@ -3,7 +3,7 @@
 use Rattle.std.proofs.Common.{◌≡◌, ℕ, List, [], ◌∷◌, refl, subst}
 use Rattle.std.specs.List.{AllByRecursion}
 use Rattle.fir_base.specs.Ticks.{Tick, TickResult, Shape, FitEach, HasShape, Allowance, IsRun}
-use Rattle.fir_compile.specs.Runs.{IsTick, HasOneRun, RunsOnce}
+use Rattle.fir_outcome.specs.Runs.{IsTick, HasOneRun, RunsOnce}
 
 -- what one allows the other allows too
 abbrev pub Includes : Allowance → Allowance → Type 0

@@ -13,7 +13,7 @@ use Rattle.fir_meaning.specs.WidthGroups.{IsInferred}
 use Rattle.fir_meaning.specs.CostGroup.{cost_group}
 use Rattle.fir_meaning.specs.UndrivenGroup.{undriven_group}
 use Rattle.fir_meaning.specs.SourceMeaning.{circuit_meaning}
-use Rattle.fir_compile.specs.CircuitFaults.{IsClearUpTo}
+use Rattle.fir_outcome.specs.CircuitFaults.{IsClearUpTo}
 use Rattle.fir_compile.specs.working.Readings.{IsCheckedTree}
 use Rattle.fir_compile.proofs.ClearGroups.{clear_text, clear_names, clear_types, clear_widths, clear_costs, clear_drivers, first_behind}
 

@@ -16,7 +16,7 @@ use Rattle.fir_meaning.specs.CostGroup.{cost_group}
 use Rattle.fir_meaning.specs.UndrivenGroup.{undriven_group}
 use Rattle.fir_meaning.specs.SourceMeaning.{circuit_meaning}
 use Rattle.fir_meaning.proofs.KeptTrees.{first_at, none_clear}
-use Rattle.fir_compile.specs.CircuitFaults.{IsClearUpTo, ShowsNone, IsFirstUpTo}
+use Rattle.fir_outcome.specs.CircuitFaults.{IsClearUpTo, ShowsNone, IsFirstUpTo}
 
 nothing : IsClear (in_order [])
 nothing f there = absurd there

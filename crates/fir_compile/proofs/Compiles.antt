@@ -15,9 +15,9 @@ use Rattle.ver_ast.specs.Allows.{VAllows}
 use Rattle.ver_ast.specs.Nets.{shape as v_shape}
 use Rattle.ver_build.specs.NamedFor.{IsNamedFor}
 use Rattle.ver_build.specs.working.Builds.{Builds}
-use Rattle.fir_compile.specs.Compiles.{Compiles, CompilesTo}
-use Rattle.fir_compile.specs.Runs.{RunsOnce}
-use Rattle.fir_compile.specs.Sources.{SourceAllows}
+use Rattle.fir_outcome.specs.Compiles.{Compiles, CompilesTo}
+use Rattle.fir_outcome.specs.Runs.{RunsOnce}
+use Rattle.fir_outcome.specs.Sources.{SourceAllows}
 use Rattle.fir_compile.proofs.AllRuns.{Includes, same_once, same_runs}
 use Rattle.fir_compile.proofs.SourceRuns.{from_net, source_one, source_runs_once, to_net}
 use Rattle.fir_compile.proofs.TakenBlocks.{blocks_are}

@@ -8,8 +8,8 @@ use Rattle.ver_emit.specs.Comments.{HasNoComment}
 use Rattle.ver_emit.specs.working.Laws.{LayoutIsSpelled, LayoutHasNoComment}
 use Rattle.fir_ast.specs.Circuits.{CircuitTree}
 use Rattle.fir_parse.specs.working.Laws.{SpellsOneTree}
-use Rattle.fir_compile.specs.Compiles.{Compiles}
-use Rattle.fir_compile.specs.Emits.{Takes, Emits}
+use Rattle.fir_outcome.specs.Compiles.{Compiles}
+use Rattle.fir_outcome.specs.Emits.{Takes, Emits}
 
 pub emits : SpellsOneTree → VSpellsOneTree → LayoutIsSpelled → LayoutHasNoComment → (read written : List ℕ) (c : CircuitTree) (v : Verilog) → Takes read c → Compiles c v → written ≡ layout v → Emits read written
 emits one v_one spelled clean read written c v taken made laid =

@@ -23,12 +23,12 @@ use Rattle.fir_meaning.specs.LeafedModules.{Scene}
 use Rattle.fir_meaning.specs.Scenes.{IsSceneOf}
 use Rattle.fir_meaning.specs.SizedDeclarations.{NumberedModule, Numbering, first_numbers, modules_from}
 use Rattle.fir_lack.specs.Lacking.{declares, declares_in, holds_clock, is_clock_input, lack_if, lacking, lacking_behind, lacking_block, lacking_clock, lacking_module, lacking_port, lacking_ports, lacking_reset, lacking_statement, resets_at_once, type_word}
-use Rattle.fir_compile.specs.Refusals.{NamesItsToken}
-use Rattle.fir_compile.proofs.WordPieces.{KeepsWords, token, somewhere, nothing, given, at, next, either}
-use Rattle.fir_compile.proofs.TypesKeepWords.{type_keeps}
-use Rattle.fir_compile.proofs.ExpressionsKeepWords.{expression_keeps}
-use Rattle.fir_compile.proofs.StatementsKeepWords.{block_keeps, statement_keeps}
-use Rattle.fir_compile.proofs.CircuitWords.{module_keeps, port_keeps, ports_keep, version}
+use Rattle.fir_outcome.specs.Refusals.{NamesItsToken}
+use Rattle.fir_spelled.proofs.WordPieces.{KeepsWords, token, somewhere, nothing, given, at, next, either}
+use Rattle.fir_spelled.proofs.TypesKeepWords.{type_keeps}
+use Rattle.fir_spelled.proofs.ExpressionsKeepWords.{expression_keeps}
+use Rattle.fir_spelled.proofs.StatementsKeepWords.{block_keeps, statement_keeps}
+use Rattle.fir_spelled.proofs.CircuitWords.{module_keeps, port_keeps, ports_keep, version}
 
 -- ---- tokens
 

@@ -12,7 +12,7 @@ use Rattle.fir_inst.specs.working.FlattensTo.{FlattensTo, MeansSource}
 use Rattle.ver_build.specs.working.Laws.{NamesAreForRows}
 use Rattle.trace_text.specs.Shapes.{TraceShape}
 use Rattle.fir_tick.specs.working.Shapes.{IsShapeOf}
-use Rattle.fir_compile.specs.Traces.{IsShapeFor, IsTraceShape}
+use Rattle.fir_outcome.specs.Traces.{IsShapeFor, IsTraceShape}
 use Rattle.fir_compile.specs.working.Made.{IsMadeOf}
 use Rattle.fir_compile.specs.working.Readings.{CompilesText}
 

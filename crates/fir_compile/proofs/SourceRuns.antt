@@ -16,8 +16,8 @@ use Rattle.fir_net.specs.working.Next.{next}
 use Rattle.fir_net.specs.working.One.{HasOne as NetHasOne, One as NetOne}
 use Rattle.fir_net.specs.working.Settled.{outputs, shape}
 use Rattle.fir_inst.specs.working.FlattensTo.{FlattensTo, MeansSource}
-use Rattle.fir_compile.specs.Runs.{RunsOnce}
-use Rattle.fir_compile.specs.Sources.{SourceAllows}
+use Rattle.fir_outcome.specs.Runs.{RunsOnce}
+use Rattle.fir_outcome.specs.Sources.{SourceAllows}
 use Rattle.fir_compile.proofs.AllRuns.{AllowsOne, AllowsSome, Includes, KeepsShape, runs_once}
 use Rattle.fir_compile.proofs.KeptShapes.{next_fits}
 

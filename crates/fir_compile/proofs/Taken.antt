@@ -19,7 +19,7 @@ use Rattle.fir_lack.specs.declared.lack.Lack.{Lack}
 use Rattle.fir_lack.specs.Lacking.{lacking}
 use Rattle.fir_lack.specs.working.Lacks.{IsLack, lack_of}
 use Rattle.fir_compile.specs.declared.compiled.Compiled.{Compiled}
-use Rattle.fir_compile.specs.CircuitFaults.{IsClearUpTo, LacksNone}
+use Rattle.fir_outcome.specs.CircuitFaults.{IsClearUpTo, LacksNone}
 use Rattle.fir_compile.specs.working.Readings.{CompilesText, IsCompiled, IsUnsupported, OrdersNet}
 use Rattle.fir_compile.proofs.ClearGroups.{clear_all, first_loop, has_module}
 use Rattle.fir_compile.proofs.LackTokens.{lack_names_its_token}

@@ -1,11 +1,1 @@
-pub mod Runs
-pub mod Sources
-pub mod Compiles
-pub mod Messages
-pub mod CircuitFaults
-pub mod Emits
-pub mod Refusals
-pub mod Outside
-pub mod Traces
-pub mod Simulations
 pub mod working

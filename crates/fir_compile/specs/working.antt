@@ -1,6 +1,3 @@
 -- What no clause of `run` reads: contracts between layers, laws, views of the code and its states.
-pub mod Laws
 pub mod Readings
-pub mod Running
-pub mod Lined
 pub mod Made

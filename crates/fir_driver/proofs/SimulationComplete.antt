@@ -8,19 +8,19 @@ use Rattle.trace_text.specs.Shapes.{TraceShape}
 use Rattle.trace_text.specs.TraceSpells.{TraceSpells}
 use Rattle.trace_text.specs.BadLine.{BadLine}
 use Rattle.trace_text.specs.working.Laws.{SpelledIsNotBad}
-use Rattle.fir_compile.specs.declared.status.Status.{Status}
-use Rattle.fir_compile.specs.declared.status.Status.TheVariants.{Done, Refused, Usage, Unread, Unwritten, NoMemory, BadTrace, TooLong}
-use Rattle.fir_commands.specs.Command.{Simulated, Command, emit, sim, command_of}
-use Rattle.fir_compile.specs.Emits.{Takes}
-use Rattle.fir_compile.specs.Outside.{Outside, IsRead, Tells, TellsTooMuch, code}
-use Rattle.fir_compile.specs.Traces.{IsTraceShape}
+use Rattle.fir_outcome.specs.declared.status.Status.{Status}
+use Rattle.fir_outcome.specs.declared.status.Status.TheVariants.{Done, Refused, Usage, Unread, Unwritten, NoMemory, BadTrace, TooLong}
+use Rattle.fir_cli.specs.Command.{Simulated, Command, emit, sim, command_of}
+use Rattle.fir_outcome.specs.Emits.{Takes}
+use Rattle.fir_outcome.specs.Outside.{Outside, IsRead, Tells, TellsTooMuch, code}
+use Rattle.fir_outcome.specs.Traces.{IsTraceShape}
 use Rattle.fir_commands.specs.Simulates.{IsAsked, Simulates}
 use Rattle.fir_driver.specs.SimulationAnswers.{SimulationAnswers, SimulationComplete}
 use Rattle.fir_driver.specs.Program.{NotTaken, Does, DoesFor, Answers, AnswersFor}
 use Rattle.fir_commands.proofs.Refused.{refused_is_not_taken}
-use Rattle.fir_compile.proofs.Told.{IsTooLong, not_short, read_is, not_too_much}
+use Rattle.fir_runner.proofs.Told.{IsTooLong, not_short, read_is, not_too_much}
 use Rattle.fir_commands.proofs.EmitEnded.{emit_complete}
-use Rattle.fir_commands.proofs.TraceShapes.{one_shape}
+use Rattle.fir_runner.proofs.TraceShapes.{one_shape}
 
 module _ (s : Simulated) (before : Outside) (text : List ℕ) (read_text : IsRead s.circuit before text) where
   told_text : (other : List ℕ) → Tells before s.circuit other → text ≡ other

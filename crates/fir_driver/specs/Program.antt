@@ -2,11 +2,11 @@
 use Rattle.std.specs.Prelude.{◌≡◌, ◌≢◌, ℕ, List, Option, Some, None, String, IsTrue, Bool}
 use Rattle.std.specs.declared.alloc.Global.{Global}
 use Rattle.fir_io.specs.Ports.{Rose, Grew}
-use Rattle.fir_compile.specs.declared.status.Status.{Status}
-use Rattle.fir_compile.specs.declared.status.Status.TheVariants as status
-use Rattle.fir_commands.specs.Command.{Command, emit, sim, command_of}
-use Rattle.fir_compile.specs.Messages.{usage_line}
-use Rattle.fir_compile.specs.Outside.{Outside, Kept, GrewByFront, NoneFailed}
+use Rattle.fir_outcome.specs.declared.status.Status.{Status}
+use Rattle.fir_outcome.specs.declared.status.Status.TheVariants as status
+use Rattle.fir_cli.specs.Command.{Command, emit, sim, command_of}
+use Rattle.fir_outcome.specs.Messages.{usage_line}
+use Rattle.fir_outcome.specs.Outside.{Outside, Kept, GrewByFront, NoneFailed}
 use Rattle.fir_commands.specs.EmitsFile.{EmitsFile}
 use Rattle.fir_commands.specs.EmitAnswers.{EmitComplete}
 use Rattle.fir_commands.specs.Simulates.{Simulates}

@@ -6,10 +6,10 @@ use Rattle.trace_text.specs.declared.fault.TraceFault.{TraceFault}
 use Rattle.trace_text.specs.Shapes.{TraceShape}
 use Rattle.trace_text.specs.TraceSpells.{TraceSpells}
 use Rattle.trace_text.specs.BadLine.{BadLine}
-use Rattle.fir_commands.specs.Command.{Simulated}
-use Rattle.fir_compile.specs.Emits.{Takes}
-use Rattle.fir_compile.specs.Outside.{Outside, NoneFailed, Tells, TellsTooMuch}
-use Rattle.fir_compile.specs.Traces.{IsTraceShape}
+use Rattle.fir_cli.specs.Command.{Simulated}
+use Rattle.fir_outcome.specs.Emits.{Takes}
+use Rattle.fir_outcome.specs.Outside.{Outside, NoneFailed, Tells, TellsTooMuch}
+use Rattle.fir_outcome.specs.Traces.{IsTraceShape}
 
 pub record SimulationAnswers (s : Simulated) (before : Outside) (answer : ℕ) : Type 0 where
   pub too_long : TellsTooMuch before s.circuit → answer ≡ 8

@@ -1,12 +1,13 @@
 //! The one call that the program makes.
 
 ghost use Rattle.std.specs.Prelude.{◌≡◌};
-ghost use Rattle.fir_compile.specs.Outside.{outside, code};
+ghost use Rattle.fir_outcome.specs.Outside.{outside, code};
 ghost use Rattle.fir_driver.specs.Program.{MayAsk, Does, Answers};
 
-use fir_commands::{Command, USAGE_LINE, command_of, emit_file, say, simulate};
-use fir_compile::Status;
+use fir_cli::{Command, USAGE_LINE, command_of, say};
+use fir_commands::{emit_file, simulate};
 use fir_io::{Files, Sink};
+use fir_outcome::Status;
 use fir_parse::laws::{has_tree_or_fault, spells_one_tree};
 use std::alloc::Global;
 use trace_text::laws::spelled_is_not_bad;

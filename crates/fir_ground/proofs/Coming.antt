@@ -41,7 +41,7 @@ module _ (g : Ground) where
   }
 
   -- nodes that come when the notes are read
-  expands_nodes : (rest : List Note) (a b new : Walk) (ids : List ℕ) (ts : List Term) → Comes g rest a b → new.notes.now ≡ b.notes.now
+  pub expands_nodes : (rest : List Note) (a b new : Walk) (ids : List ℕ) (ts : List Term) → Comes g rest a b → new.notes.now ≡ b.notes.now
       → new.drivers ≡ b.drivers → Gives b.nodes.items new.nodes.items ids ts
       → Expands g rest a new ids ts
   expands_nodes rest a b new ids ts one same still gives = record {

@@ -1,5 +1,6 @@
 -- Forms of expressions come behind their operands.
-use Rattle.std.proofs.Common.{◌≡◌, ℕ, ◌<◌, List, [], ◌∷◌, ◌++◌, map, length, subst, ◌∙◌, append_assoc, arith}
+use Rattle.std.proofs.Common.{◌≡◌, ℕ, ◌<◌, List, [], ◌∷◌, ◌++◌, map, length, subst, ◌∙◌, append_assoc, Result, IfOk, arith}
+use Rattle.std.proofs.lemmas.Result.{IfOk-weaker}
 use Rattle.fir_bits.specs.declared.operators.PrimOp.{PrimOp}
 use Rattle.fir_ast.specs.declared.place.Place.{Place}
 use Rattle.fir_ast.specs.Expressions.{Expression, Expressions, mux, operation, validif}
@@ -32,28 +33,30 @@ module _ (g : Ground) (typed : TypedScope) where
   GivesAll es a b ids =
       (ts : List DataType) (rest : List Note) → Enters g typed (notes_of_each typed es ++ rest) a → HaveTypes typed es ts → Expands g rest a b ids (operands typed es)
 
-  module _ (rest : List Note) (t : DataType) where
-    pub operation_comes : (p : Place) (op : PrimOp) (es : Expressions) (ks : List ℕ) (a b d : Walk) (ids out : List ℕ)
+  module _ (rest : List Note) (t : DataType) {A E : Type 0} (result : Result A E) (items_of : A → List ℕ) where
+    pub operation_comes : (p : Place) (op : PrimOp) (es : Expressions) (ks : List ℕ) (a b d : Walk) (ids : List ℕ)
         → Enters g typed (expression_notes typed (operation p op es ks) ++ rest) a → HasType typed (operation p op es ks) t → GivesAll es a b ids
         → ((note : Note) (more : List Note) → Ahead (types_in g) b.notes.now (note ∷ more)
-        → Expands g more b d out (over.operation op (terms_of (map (node_term b.nodes.items) ids)) ks ∷ []))
-        → Expands g rest a d out (terms typed (operation p op es ks))
-    operation_comes p op es ks a b d ids out enters typed_as gives form =
+        → IfOk result (λ made. Expands g more b d (items_of made) (over.operation op (terms_of (map (node_term b.nodes.items) ids)) ks ∷ [])))
+        → IfOk result (λ made. Expands g rest a d (items_of made) (terms typed (operation p op es ks)))
+    operation_comes p op es ks a b d ids enters typed_as gives form =
         let e = operation p op es ks in
         let left = expression_note typed e ∷ rest in
         let begins : Enters g typed (notes_of_each typed es ++ left) a =
         subst (λ ns. Enters g typed ns a) (append_assoc (notes_of_each typed es) (expression_note typed e ∷ []) rest) enters in
         let came = gives typed_as.0 left begins typed_as.2 in
-        let own = form (expression_note typed e) rest came.comes.ahead in
-        expands_then g left rest a b d out (terms typed e) came.comes
-        (subst (λ ts. Expands g rest b d out (over.operation op (terms_of ts) ks ∷ [])) came.gives.terms own)
+        IfOk-weaker result _ _
+        (λ made own.
+        expands_then g left rest a b d (items_of made) (terms typed e) came.comes
+        (subst (λ ts. Expands g rest b d (items_of made) (over.operation op (terms_of ts) ks ∷ [])) came.gives.terms own))
+        (form (expression_note typed e) rest came.comes.ahead)
 
-    pub validif_comes : (p : Place) (x y : Expression) (a b d z : Walk) (one : ℕ) (two out : List ℕ)
+    pub validif_comes : (p : Place) (x y : Expression) (a b d z : Walk) (one : ℕ) (two : List ℕ)
         → Enters g typed (expression_notes typed (validif p x y) ++ rest) a → HasType typed (validif p x y) t → GivesFirst x a b one → Gives y b d two
         → ((note : Note) (more : List Note) → Ahead (types_in g) d.notes.now (note ∷ more) → one < length d.nodes.items → AllBelow (length d.nodes.items) two
-        → Expands g more d z out (map (over.validif (node_term d.nodes.items one)) (map (node_term d.nodes.items) two)))
-        → Expands g rest a z out (terms typed (validif p x y))
-    validif_comes p x y a b d z one two out enters typed_as first second form =
+        → IfOk result (λ made. Expands g more d z (items_of made) (map (over.validif (node_term d.nodes.items one)) (map (node_term d.nodes.items) two))))
+        → IfOk result (λ made. Expands g rest a z (items_of made) (terms typed (validif p x y)))
+    validif_comes p x y a b d z one two enters typed_as first second form =
         let e = validif p x y in
         let left = expression_note typed e ∷ rest in
         let after = expression_notes typed y ++ left in
@@ -65,18 +68,22 @@ module _ (g : Ground) (typed : TypedScope) where
         let grown = next.comes.grows in
         let below : one < length d.nodes.items = omega (arith, own.shows.within, grows_length b.nodes.items d.nodes.items grown) in
         let condition = term_keeps b.nodes.items d.nodes.items one grown own.shows.within ∙ own.shows.term in
-        let made = form (expression_note typed e) rest next.comes.ahead below next.gives.within in
+        IfOk-weaker result _ _
+        (λ made comes.
+        let out = items_of made in
         expands_then g left rest a d z out (terms typed e) (come_then g after left a b d own.comes next.comes)
         (subst (λ k. Expands g rest d z out (map (over.validif k) (terms typed y))) condition
-        (subst (λ ts. Expands g rest d z out (map (over.validif (node_term d.nodes.items one)) ts)) next.gives.terms made))
+        (subst (λ ts. Expands g rest d z out (map (over.validif (node_term d.nodes.items one)) ts)) next.gives.terms comes)))
+        (form (expression_note typed e) rest next.comes.ahead below next.gives.within)
 
-    pub mux_comes : (p : Place) (x y u : Expression) (a b d f z : Walk) (one : ℕ) (two three out : List ℕ)
+    pub mux_comes : (p : Place) (x y u : Expression) (a b d f z : Walk) (one : ℕ) (two three : List ℕ)
         → Enters g typed (expression_notes typed (mux p x y u) ++ rest) a → HasType typed (mux p x y u) t → GivesFirst x a b one → Gives y b d two → Gives u d f three
         → ((note : Note) (more : List Note) → Ahead (types_in g) f.notes.now (note ∷ more) → one < length f.nodes.items → AllBelow (length f.nodes.items) two
         → AllBelow (length f.nodes.items) three
-        → Expands g more f z out (muxes (node_term f.nodes.items one) (map (node_term f.nodes.items) two) (map (node_term f.nodes.items) three)))
-        → Expands g rest a z out (terms typed (mux p x y u))
-    mux_comes p x y u a b d f z one two three out enters typed_as first second third form =
+        → IfOk result (λ made. Expands g more f z (items_of made)
+        (muxes (node_term f.nodes.items one) (map (node_term f.nodes.items) two) (map (node_term f.nodes.items) three))))
+        → IfOk result (λ made. Expands g rest a z (items_of made) (terms typed (mux p x y u)))
+    mux_comes p x y u a b d f z one two three enters typed_as first second third form =
         let e = mux p x y u in
         let left = expression_note typed e ∷ rest in
         let last = expression_notes typed u ++ left in
@@ -94,8 +101,11 @@ module _ (g : Ground) (typed : TypedScope) where
         let within = below_stays (length d.nodes.items) (length f.nodes.items) two (grows_length d.nodes.items f.nodes.items grown) next.gives.within in
         let condition = term_keeps b.nodes.items f.nodes.items one all own.shows.within ∙ own.shows.term in
         let ones = all_keep d.nodes.items f.nodes.items two grown next.gives.within ∙ next.gives.terms in
-        let made = form (expression_note typed e) rest end.comes.ahead below within end.gives.within in
+        IfOk-weaker result _ _
+        (λ made comes.
+        let out = items_of made in
         expands_then g left rest a f z out (terms typed e) (come_then g after left a b f own.comes (come_then g last left b d f next.comes end.comes))
         (subst (λ k. Expands g rest f z out (muxes k (terms typed y) (terms typed u))) condition
         (subst (λ ts. Expands g rest f z out (muxes (node_term f.nodes.items one) ts (terms typed u))) ones
-        (subst (λ ts. Expands g rest f z out (muxes (node_term f.nodes.items one) (map (node_term f.nodes.items) two) ts)) end.gives.terms made)))
+        (subst (λ ts. Expands g rest f z out (muxes (node_term f.nodes.items one) (map (node_term f.nodes.items) two) ts)) end.gives.terms comes))))
+        (form (expression_note typed e) rest end.comes.ahead below within end.gives.within)

@@ -40,23 +40,23 @@ pub fn in_expression<'a>(
     match expr {
         Expr::Ref(reference) => {
             let target = in_reference(reference, alloc, ground, walk)?;
-            Ok(read_all(alloc, ground.table, &mut walk.nodes, target)?)
+            read_all(alloc, ground.table, &mut walk.nodes, target)
         }
-        Expr::Literal(literal) => Ok(on_literal(alloc, walk, literal)?),
+        Expr::Literal(literal) => on_literal(alloc, walk, literal),
         Expr::Op(_, op, operands, integers) => {
             let operands = in_operands(operands, alloc, ground, walk)?;
-            Ok(on_operation(alloc, walk, *op, operands, integers)?)
+            on_operation(alloc, walk, *op, operands, integers)
         }
         Expr::Mux(_, condition, one, other) => {
             let condition = in_first(condition, alloc, ground, walk)?;
             let one = in_expression(one, alloc, ground, walk)?;
             let other = in_expression(other, alloc, ground, walk)?;
-            Ok(on_mux(alloc, walk, condition, &one, &other)?)
+            on_mux(alloc, walk, condition, &one, &other)
         }
         Expr::Validif(_, condition, value) => {
             let condition = in_first(condition, alloc, ground, walk)?;
             let value = in_expression(value, alloc, ground, walk)?;
-            Ok(on_validif(alloc, walk, condition, &value)?)
+            on_validif(alloc, walk, condition, &value)
         }
     }
 }
@@ -72,7 +72,7 @@ pub fn in_first<'a>(
     ensures { (typed : TypedScope) (t : DataType) (rest : List Meant) → Enters ground.now typed (expression_notes typed (expr_of expr.now) ++ rest) walk.old → HasType typed (expr_of expr.now) t → IfOk result (λ id. ExpandsFirst ground.now rest walk.old walk.new id (first_term (terms typed (expr_of expr.now)))) }
 {
     let ids = in_expression(expr, alloc, ground, walk)?;
-    Ok(first(&mut walk.nodes, &ids)?)
+    first(&mut walk.nodes, &ids)
 }
 
 /// The operands of an operation: a node for each.
@@ -106,7 +106,7 @@ pub fn in_reference<'a>(
     for part in &reference.parts {
         in_part(part, alloc, ground, walk, &mut indices)?;
     }
-    Ok(named(ground, walk, &indices)?)
+    named(ground, walk, &indices)
 }
 
 /// A part of a reference: its index, if it has a dynamic one.

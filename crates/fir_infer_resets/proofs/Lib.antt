@@ -26,6 +26,7 @@ pub mod LinkedElements
 pub mod LeafHomes
 pub mod ClassesOfLeaves
 pub mod SharedClasses
+pub mod AppendedTexts
 pub mod StepTexts
 pub mod InferredResets
 pub mod ShownWalks
@@ -34,6 +35,7 @@ pub mod ResetRows
 pub mod NamedPlaces
 pub mod FirstEndNumbers
 pub mod MetSteps
+pub mod ScalarPairs
 pub mod ScalarsMet
 pub mod MetFields
 pub mod FirstOfPairs

@@ -44,7 +44,7 @@ mod shapes;
 mod told;
 mod walk;
 
-pub use graph::{Kind, is_graph};
+pub use graph::Kind;
 pub use infer::infer_resets;
 pub use search::find_resets;
 pub use walk::Walk;

@@ -1,6 +1,6 @@
 //! What meets in the statements of a module, in the order of the text.
 
-ghost use Rattle.std.specs.Prelude.{◌≡◌, ◌++◌, ◌+◌, List, map, length, option_map, OnOk};
+ghost use Rattle.std.specs.Prelude.{◌≡◌, [], ◌∷◌, ◌++◌, ◌+◌, List, map, length, option_map, OnOk};
 ghost use Rattle.fir_ast.specs.declared.place.Place.{Place};
 ghost use Rattle.fir_ast.specs.Types.{DataType};
 ghost use Rattle.fir_ast.specs.Statements as tree;
@@ -95,7 +95,8 @@ fn in_node<'a>(walk: &mut Walk<'a>, ident: &'a Ident, value: &'a Expr) -> Result
     ensures { (place : Place) → PassesStatement (tree.node place (named_of ident.now) (expr_of value.now)) walk.old walk.new result }
 {
     let given = walk.source(value);
-    walk.meets.push(Meet::Node(ident, walk.declared, given))?;
+    let declared = walk.declared;
+    put_meet(&mut walk.meets, Meet::Node(ident, declared, given))?;
     walk.declare()
 }
 
@@ -103,7 +104,8 @@ fn in_node<'a>(walk: &mut Walk<'a>, ident: &'a Ident, value: &'a Expr) -> Result
 fn in_instance<'a>(walk: &mut Walk<'a>, ident: &'a Ident) -> Result<(), MemoryOut>
     ensures { (place : Place) (other : PlacedName) → PassesStatement (tree.instance place (named_of ident.now) other) walk.old walk.new result }
 {
-    walk.meets.push(Meet::Instance(ident, walk.declared))?;
+    let declared = walk.declared;
+    put_meet(&mut walk.meets, Meet::Instance(ident, declared))?;
     walk.declare()
 }
 
@@ -118,6 +120,13 @@ fn in_connect<'a>(
 {
     let range = walk.reference(sink);
     let given = walk.source(source);
-    walk.meets.push(Meet::Connected(whole, sink, range, given))?;
+    put_meet(&mut walk.meets, Meet::Connected(whole, sink, range, given))
+}
+
+/// Appends what meets.
+fn put_meet<'a>(meets: &mut Vec<Meet<'a>>, meet: Meet<'a>) -> Result<(), MemoryOut>
+    ensures { OnOk result (meets.new.items ≡ meets.old.items ++ meet.entry ∷ []) }
+{
+    meets.push(meet)?;
     Ok(())
 }

@@ -179,13 +179,8 @@ fn path_behind<'a>(
 ) -> Result<Vec<Step<'a>>, MemoryOut>
     ensures { IfOk result (λ v. path_of v.items ≡ path_of path.now ++ path_of steps.now) }
 {
-    let mut whole = Vec::new(alloc);
-    for step in path {
-        whole.push(*step)?;
-    }
-    for further in steps {
-        whole.push(*further)?;
-    }
+    let mut whole = Vec::from_slice(alloc, path)?;
+    whole.extend_from_slice(steps)?;
     Ok(whole)
 }
 

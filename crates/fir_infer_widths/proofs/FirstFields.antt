@@ -3,19 +3,22 @@ use Rattle.std.proofs.Common.{◌≡◌, ℕ, ◌+◌, ◌-◌, ◌^◌, ◌<◌
 use Rattle.std.specs.Option.{option_or}
 use Rattle.std.proofs.lemmas.List.{get_or_past}
 use Rattle.fir_ast.specs.Types.{DataType, Fields}
-use Rattle.fir_meaning.specs.LeafPaths.{LeafPath, named}
+use Rattle.fir_meaning.specs.LeafPaths.{Step, LeafPath, element, named}
 use Rattle.fir_meaning.specs.TypeLeaves.{turned}
 use Rattle.fir_meaning.specs.SharedLeaves.{shared_count}
+use Rattle.fir_meaning.specs.WidthExpressions.{Widths}
 use Rattle.fir_type_table.specs.declared.entry.Member.{Member}
 use Rattle.fir_type_table.specs.working.Saturated.{saturated}
 use Rattle.fir_type_table.specs.working.Tables.{type_at, shown}
 use Rattle.fir_type_table.proofs.WantedPaths.{behind}
 use Rattle.fir_type_table.proofs.MemberLists.{members_from, members_next}
 use Rattle.fir_meaning.specs.working.AssignedWidths.{assigned}
-use Rattle.fir_infer_widths.specs.working.FirstLeaves.{first_where, leaf_is_over, lacks_width, is_unwritten_shown}
+use Rattle.fir_infer_widths.specs.working.FirstLeaves.{first_where, leaf_is_over, lacks_width, is_unwritten_shown, passes}
+use Rattle.fir_infer_widths.specs.declared.first_leaf.Test.{Test as TestOfCode}
+use Rattle.fir_infer_widths.specs.declared.first_leaf.Test.TheVariants as test
 use Rattle.fir_infer_widths.specs.working.NumberedLeaves.{NumberedLeaf, numbered_under, numbered_leaves, numbered_field_leaves}
 use Rattle.fir_infer_widths.specs.working.SpotFaults.{is_over}
-use Rattle.fir_infer_widths.proofs.FirstLeaves.{Test, below, where_joined, where_under, where_same, alike_numbers, alike_field_numbers}
+use Rattle.fir_infer_widths.proofs.FirstLeaves.{Test, elements_of, where_joined, where_in_first, alike_field_numbers}
 
 abbrev pub member_leaves : List DataType → ℕ → Member → List NumberedLeaf
 member_leaves ts n m = map (numbered_under m.flip (named m.name)) (numbered_leaves n (type_at ts m.ty.number))
@@ -60,10 +63,6 @@ pub unnumbered : (test : Test) → ((l : NumberedLeaf) (n : ℕ) → test l ≡ 
     → first_where test (numbered_field_leaves n fs) ≡ first_where test (numbered_field_leaves m fs)
 unnumbered test same n m fs = alike_field_numbers Any (λ i j k h. tt) test (λ path flip i j t h. same _ j) n m tt fs
 
-pub unnumbered_type : (test : Test) → ((l : NumberedLeaf) (n : ℕ) → test l ≡ test (record l { number = n })) → (n m : ℕ) (t : DataType)
-    → first_where test (numbered_leaves n t) ≡ first_where test (numbered_leaves m t)
-unnumbered_type test same n m t = alike_numbers Any (λ i j k h. tt) test (λ path flip i j t h. same _ j) n m tt t
-
 -- below a flipped field straight leaves are inputs where flipped ones are
 turned_twice : (inward flip last : Bool) → turned inward (turned flip last) ≡ turned (turned inward flip) last
 turned_twice false flip last = refl
@@ -71,9 +70,17 @@ turned_twice true false last = refl
 turned_twice true true false = refl
 turned_twice true true true = refl
 
-pub unwritten_under : (is_bare inward flip : Bool) (x : List ℕ) (ls : List NumberedLeaf)
-    → first_where (is_unwritten_shown is_bare inward) (map (numbered_under flip (named x)) ls) ≡ behind (named x) (first_where (is_unwritten_shown is_bare (turned inward flip)) ls)
-unwritten_under is_bare inward flip x ls =
-    where_under (is_unwritten_shown is_bare inward) flip (named x) ls
-    ∙ ap (behind (named x)) (where_same (below flip (named x) (is_unwritten_shown is_bare inward)) (is_unwritten_shown is_bare (turned inward flip))
-    (λ l. ap (λ b. b && lacks_width (shown is_bare l.ground_type)) (turned_twice inward flip l.flip)) ls)
+pub unwritten_below : (is_bare inward flip : Bool) (s : Step) (l : NumberedLeaf)
+    → is_unwritten_shown is_bare inward (numbered_under flip s l) ≡ is_unwritten_shown is_bare (turned inward flip) l
+unwritten_below is_bare inward flip s l = ap (λ b. b && lacks_width (shown is_bare l.ground_type)) (turned_twice inward flip l.flip)
+
+-- a number may stand still in either test, and the first element stands for all
+pub next_passes : (ws : List ℕ) (t : TestOfCode) (n k count next : ℕ) → length ws < 2 ^ 64 → count ≡ saturated k → next ≡ min (n + count) (2 ^ 64 - 1) → (fs : Fields)
+    → first_where (passes (assigned ws) t) (numbered_field_leaves (n + k) fs) ≡ first_where (passes (assigned ws) t) (numbered_field_leaves next fs)
+next_passes ws test.Over n k count next long e f fs = next_saturated ws n k count next long e f fs
+next_passes ws (test.Unwritten is_bare inward) n k count next long e f fs = unnumbered (is_unwritten_shown is_bare inward) (λ l i. refl) (n + k) next fs
+
+pub passes_in_element : (u : Widths) (t : TestOfCode) (n : ℕ) (ls : List NumberedLeaf) → (n ≡ 0 → ⊥)
+    → first_where (passes u t) (elements_of n ls) ≡ behind (element 0) (first_where (passes u t) ls)
+passes_in_element u test.Over n ls some = where_in_first (leaf_is_over u) n ls some
+passes_in_element u (test.Unwritten is_bare inward) n ls some = where_in_first (is_unwritten_shown is_bare inward) n ls some

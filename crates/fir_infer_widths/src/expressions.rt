@@ -18,7 +18,7 @@ ghost use Rattle.fir_infer_widths.specs.working.Walks.{ComesPast, ComesTo, Comes
 
 use crate::forms::{on_literal, on_mux, on_operation, on_validif};
 use crate::ground::Ground;
-use crate::spot::Spot;
+use crate::spot::{Spot, put_spot};
 use crate::walk::Walk;
 use fir_ast::{Expr, Part, Reference};
 use fir_base::MemoryOut;
@@ -85,7 +85,7 @@ pub fn in_condition<'a>(
     ensures { (c : CircuitTree) (typed : TypedScope) (sized : SizedScope) (t : DataType) (meant : List Width) (rules : List Rule) (rest : List Meant) → Enters ground.now typed sized meant rules (expression_notes typed (expr_of condition.now) ++ rest) walk.old → HasType typed (expr_of condition.now) t → IfOk result (ComesTo c ground.now meant rules rest (spots_of_condition sized (expr_of condition.now)) (sized_type sized (expr_of condition.now)) walk.old walk.new) }
 {
     let side = in_expression(condition, alloc, ground, walk)?;
-    walk.spots.push(Spot::Condition(place_of(condition), side))?;
+    put_spot(&mut walk.spots, Spot::Condition(place_of(condition), side))?;
     Ok(side)
 }
 
@@ -103,7 +103,7 @@ pub fn in_reference<'a>(
         in_part(part, alloc, ground, walk)?;
     }
     let side = walk.named(ground);
-    walk.spots.push(Spot::Reference(reference, side))?;
+    put_spot(&mut walk.spots, Spot::Reference(reference, side))?;
     Ok(side)
 }
 

@@ -26,7 +26,7 @@ ghost use Rattle.fir_infer_widths.specs.working.Walks.{AreSides, ComesTo, Enters
 
 use crate::ground::Ground;
 use crate::integers::integer;
-use crate::spot::Spot;
+use crate::spot::{Spot, put_spot};
 use crate::walk::Walk;
 use fir_ast::{Literal, Place};
 use fir_base::MemoryOut;
@@ -43,7 +43,7 @@ pub fn on_literal<'a>(walk: &mut Walk<'a>, literal: &'a Literal) -> Result<Side,
 {
     walk.pass_note();
     let first = walk.arena.push_known(literal_width(literal))?;
-    walk.spots.push(Spot::Literal(literal, first))?;
+    put_spot(&mut walk.spots, Spot::Literal(literal, first))?;
     Ok(Side {
         found: Found::Number(literal.signed, None),
         first,
@@ -75,8 +75,10 @@ pub fn on_operation<'a>(
     let signed = is_signed(ground.table, one);
     let term = operation_term(op, signed, operands, integers);
     let first = walk.arena.push(term)?;
-    walk.spots
-        .push(Spot::Operation(place, op, integers, one.first, first))?;
+    put_spot(
+        &mut walk.spots,
+        Spot::Operation(place, op, integers, one.first, first),
+    )?;
     Ok(Side {
         found: result_found(op, signed),
         first,
@@ -186,6 +188,6 @@ fn chosen(
         found: bare(found),
         first,
     };
-    walk.spots.push(Spot::Choice(place, is_mux, side))?;
+    put_spot(&mut walk.spots, Spot::Choice(place, is_mux, side))?;
     Ok(side)
 }

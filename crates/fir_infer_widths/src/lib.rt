@@ -20,6 +20,7 @@ mod declared;
 mod direction;
 mod drives;
 mod expressions;
+mod first_leaf;
 mod first_over;
 mod first_unwritten;
 mod first_written_over;

@@ -16,7 +16,7 @@ ghost use Rattle.fir_infer_widths.specs.working.Spots.{spot_at, spots_in_module,
 ghost use Rattle.fir_infer_widths.specs.working.Walks.{Comes, ComesBehind, Declares, EntersAt};
 
 use crate::ground::Ground;
-use crate::spot::Spot;
+use crate::spot::{Spot, put_spot};
 use crate::statements::{declared, in_block};
 use crate::walk::Walk;
 use fir_ast::{Module, Port};
@@ -56,9 +56,10 @@ fn in_port<'a>(ground: &Ground<'a>, walk: &mut Walk<'a>, port: &'a Port) -> Resu
 {
     if ground.is_main {
         let own = walk.declare(ground);
-        walk.spots
-            .push(Spot::Port(port.direction, &port.ident, own))?;
-        return Ok(());
+        return put_spot(
+            &mut walk.spots,
+            Spot::Port(port.direction, &port.ident, own),
+        );
     }
     declared(ground, walk, &port.ident)?;
     Ok(())

@@ -7,7 +7,8 @@ ghost use Rattle.fir_types.specs.working.Walked.{Judges};
 ghost use Rattle.fir_meaning.specs.working.AssignedWidths.{assigned};
 ghost use Rattle.fir_infer_widths.specs.working.SpotFaults.{choice_word, is_any_over, leaves_of_side, named_over, over_at, sink_over, word_where, written_over};
 
-use crate::first_over::{first_over, is_over};
+use crate::first_leaf::is_over;
+use crate::first_over::first_over;
 use crate::first_written_over::first_written_over;
 use crate::leaf_path::{leaf_of_name, leaf_of_reference};
 use crate::spot::Spot;

@@ -1,7 +1,9 @@
 //! Where faults of widths may stand.
 
+ghost use Rattle.std.specs.Prelude.{◌≡◌, [], ◌∷◌, ◌++◌, OnOk};
+
 use fir_ast::{Ident, Literal, Place, Reference, Ty};
-use fir_base::Direction;
+use fir_base::{Direction, MemoryOut};
 use fir_bits::PrimOp;
 use fir_width::Side;
 
@@ -21,4 +23,12 @@ pub enum Spot<'a> {
     /// A mux, or else a validif.
     Choice(Place, bool, Side),
     Condition(Place, Side),
+}
+
+/// Appends a spot.
+pub fn put_spot<'a>(spots: &mut Vec<Spot<'a>>, spot: Spot<'a>) -> Result<(), MemoryOut>
+    ensures { OnOk result (spots.new.items ≡ spots.old.items ++ spot.entry ∷ []) }
+{
+    spots.push(spot)?;
+    Ok(())
 }

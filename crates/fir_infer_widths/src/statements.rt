@@ -30,7 +30,7 @@ ghost use Rattle.fir_infer_widths.specs.working.Walks.{ComesBehind, ComesDeclare
 use crate::drives::{in_connect, in_driver, in_reset};
 use crate::expressions::{in_condition, in_expression, in_reference};
 use crate::ground::Ground;
-use crate::spot::Spot;
+use crate::spot::{Spot, put_spot};
 use crate::walk::Walk;
 use fir_ast::{Expr, Ident, Memory, Register, Stmt, When};
 use fir_base::MemoryOut;
@@ -108,7 +108,7 @@ pub fn declared<'a>(
     ensures { (c : CircuitTree) (m : NumberedModule) (before : Before) (component : Component) (t : DataType) (meant : List Width) (rules : List Rule) (rest : List Meant) → Declares c ground.now m before (named_of ident.now) component t meant rules rest walk.old → ShowsLeaves c m (named_of ident.now) component (sized_declared m before (named_of ident.now) component) → IfOk result (ComesDeclared c ground.now m before (named_of ident.now) component meant rules rest walk.old walk.new) }
 {
     let own = walk.declare(ground);
-    walk.spots.push(Spot::Declared(ident, own))?;
+    put_spot(&mut walk.spots, Spot::Declared(ident, own))?;
     Ok(own)
 }
 
@@ -149,8 +149,7 @@ fn in_memory<'a>(
     ensures { (place : Place) → PassesStatement ground.now (tree.memory place (named_of memory.now.ident) (map memory_part_of memory.now.fields.items)) walk.old walk.new result }
 {
     let own = walk.declare(ground);
-    walk.spots.push(memory_spot(ground.table, memory, own))?;
-    Ok(())
+    put_spot(&mut walk.spots, memory_spot(ground.table, memory, own))
 }
 
 /// Where its faults of widths may stand.

@@ -1,7 +1,7 @@
 -- The walk over what a module declares tells of each leaf whether statements may drive it.
-use Rattle.std.proofs.Common.{◌≡◌, ℕ, zero, suc, ◌+◌, ◌<◌, ◌≤◌, List, [], ◌∷◌, ◌++◌, map, length, get_or, take, Bool, Option, Some, None, refl, sym, ap, ◌∙◌}
+use Rattle.std.proofs.Common.{◌≡◌, ℕ, zero, suc, ◌+◌, ◌<◌, List, [], ◌∷◌, ◌++◌, map, length, get_or, take, Bool, Option, Some, None, refl, sym, ap, ◌∙◌}
 use Rattle.std.specs.Prelude.{slice_get}
-use Rattle.std.proofs.lemmas.List.{append-nil, take_all, take_more}
+use Rattle.std.proofs.lemmas.List.{append-nil, take_more}
 use Rattle.std.proofs.lemmas.List.Concat.{flat_map-append}
 use Rattle.std.proofs.lemmas.Simd.{map-map}
 use Rattle.std.proofs.lemmas.Option.{get_or_from_slice_get, none-some, same_Some, slice_get-get_or, slice_get_within}
@@ -106,13 +106,12 @@ module _ (names : Names) (modules : List ModuleTree) (whole : Declarations) (of 
   pub none_read : None ≡ entry_at names i → ⊥
   none_read found = none-some (entry_of (names_of modules) i d) (found ∙ entry_is)
 
--- the walk over the leaves of a type, which are as the code has them
-pub driven_found : (flow : Flow) (before driven : List Bool) (i : ℕ) (xs : List LeafOfCode) (ls : List TypeLeaf) → length xs ≤ i
-    → driven ≡ before ++ map (λ (x : LeafOfCode). may_be_driven flow x.flip) (take i xs) → flips_seen xs ≡ flips_of ls
+-- the leaves of a type, which are as the code has them
+pub driven_found : (flow : Flow) (before driven : List Bool) (xs : List LeafOfCode) (ls : List TypeLeaf)
+    → driven ≡ before ++ map (λ (x : LeafOfCode). may_be_driven flow x.flip) xs → flips_seen xs ≡ flips_of ls
     → driven ≡ before ++ driven_by flow ls
-driven_found flow before driven i xs ls past so_far same =
-    so_far
-    ∙ ap (λ (l : List LeafOfCode). before ++ map (λ (x : LeafOfCode). may_be_driven flow x.flip) l) (take_all i xs past)
+driven_found flow before driven xs ls each same =
+    each
     ∙ ap (λ bs. before ++ bs)
     (sym (map-map (may_be_driven flow) (λ (x : LeafOfCode). x.flip) xs) ∙ ap (map (may_be_driven flow)) same
     ∙ map-map (may_be_driven flow) (λ (l : TypeLeaf). l.flip) ls)

@@ -1,7 +1,7 @@
 -- The arrays and the clocks of a memory.
 use Rattle.std.proofs.Common.{◌≡◌, ℕ, suc, List, [], ◌∷◌, ◌++◌, map, length, Option, Some, None, refl, sym, ap, ◌∙◌, subst, arith}
 use Rattle.std.specs.Prelude.{flat_map}
-use Rattle.std.proofs.lemmas.List.{length-map, map-append}
+use Rattle.std.proofs.lemmas.List.{length-map}
 use Rattle.fir_ast.specs.Statements.{PlacedName, MemoryPart}
 use Rattle.fir_ast.specs.Types.{DataType}
 use Rattle.fir_meaning.specs.Components as component
@@ -12,10 +12,9 @@ use Rattle.fir_meaning.specs.Visibility.{Before}
 use Rattle.fir_ground.specs.working.DeclarationDrivers.{DriverMeant, drivers_seen}
 use Rattle.fir_leaf.specs.declared.node.Node.{Node}
 use Rattle.fir_meaning.specs.LeafedModules.{Scene, held_types, memory_arrays, memory_before}
-use Rattle.fir_meaning.specs.LeafMemories.{LeafMemory, arrays_from, clocks_from, count_of_data, leaves_of_data, memory_behind, memory_declared}
+use Rattle.fir_meaning.specs.LeafMemories.{LeafMemory, arrays_from, count_of_data, leaves_of_data, memory_behind, memory_declared}
 use Rattle.fir_meaning.specs.LeafModules.{LeafType}
 use Rattle.fir_leaf.proofs.LeafPlaces.{leaves_counted}
-use Rattle.fir_leaf_circuit.specs.declared.leaf_module.MemoryClocks.{MemoryClocks}
 use Rattle.fir_leaf_table.specs.declared.memory.Memory.{Memory}
 use Rattle.fir_leaf_table.specs.declared.walk.Walk.{Walk}
 use Rattle.fir_leaf_table.specs.working.Memories.{IsMemory}
@@ -54,17 +53,14 @@ module _ (s : Scene) (before : Before) (n : PlacedName) (parts : List MemoryPart
     data_held =
         data_counted (first_one (flat_map data_of_part parts)) ∙ sym is.data_leaves ∙ sym (length-map memory.data.items type_seen) ∙ ap length is.holds_are
 
-    pub memory_ready : (nodes : List Node) (rest : List DriverMeant) (old taken new : Walk) (clocks : MemoryClocks)
-        → Counts s before old → taken ≡ record old { drivers = taken.drivers } → drivers_seen nodes taken.drivers.now ≡ rest
+    pub memory_ready : (nodes : List Node) (rest : List DriverMeant) (old taken new : Walk)
+        → taken ≡ record old { drivers = taken.drivers } → drivers_seen nodes taken.drivers.now ≡ rest
         → new ≡ record taken { arrays = new.arrays; memories = new.memories }
         → map array_seen new.arrays.items ≡ map array_seen taken.arrays.items ++ map unnamed_array (memory_arrays s (memory_before s before n parts) parts)
-        → new.memories.items ≡ taken.memories.items ++ clocks ∷ []
-        → clocks.declaration ≡ taken.declared
-        → clocks.port_clocks.items ≡ clocks_from meant.data_leaves meant.first meant.ports
+        → map memory_seen new.memories.items ≡ map memory_seen taken.memories.items ++ memory_declared (memory_before s before n parts) ∷ []
         → IsReady (component.memory parts) nodes rest (memory_arrays s (memory_before s before n parts) parts)
         (memory_declared (memory_before s before n parts) ∷ []) old new
-    memory_ready nodes rest old taken new clocks counts stays drivers same arrays memories declared ports =
-        let declaration : clocks.declaration ≡ length before.declared = declared ∙ ap (λ (w : Walk). w.declared) stays ∙ counts.declared in
+    memory_ready nodes rest old taken new stays drivers same arrays memories =
         record {
           declared = ap (λ (w : Walk). w.declared) same ∙ ap (λ (w : Walk). w.declared) stays;
           leaves = ap (λ (w : Walk). w.leaves) same ∙ ap (λ (w : Walk). w.leaves) stays;
@@ -75,9 +71,6 @@ module _ (s : Scene) (before : Before) (n : PlacedName) (parts : List MemoryPart
               ∙ ap (λ (w : Walk). map array_seen w.arrays.items ++ map unnamed_array (memory_arrays s (memory_before s before n parts) parts)) stays;
           many = arrays_long meant 0 words holds data_held ∙ data_counted (first_one (flat_map data_of_part parts));
           memories =
-              ap (map memory_seen) memories ∙ map-append memory_seen taken.memories.items (clocks ∷ [])
-              ∙ ap (λ (w : Walk). map memory_seen w.memories.items ++ memory_seen clocks ∷ []) stays
-              ∙ ap (λ m. map memory_seen old.memories.items ++ m ∷ [])
-              (ap (λ d. record { declaration = d; port_clocks = clocks.port_clocks.items }) declaration
-              ∙ ap (λ ks. record { declaration = length before.declared; port_clocks = ks }) ports);
+              memories
+              ∙ ap (λ (w : Walk). map memory_seen w.memories.items ++ memory_declared (memory_before s before n parts) ∷ []) stays;
         }

@@ -10,13 +10,12 @@ use crate::frame::Frame;
 use crate::giver::Giver;
 use crate::memory::memory_of;
 use crate::memory_arrays::push_arrays;
-use crate::memory_roles::{memory_clocks, memory_roles};
+use crate::memory_roles::{memory_roles, push_clocks};
 use crate::places::Places;
 use crate::push::push_leaves;
 use crate::walk::Walk;
 use fir_ast::Memory;
 use fir_base::MemoryOut;
-use fir_leaf_circuit::MemoryClocks;
 use std::alloc::Global;
 
 /// A memory.
@@ -37,13 +36,10 @@ pub fn in_memory(
         leaves,
         walk.arrays.len(),
     )?;
-    let roles = memory_roles(alloc, &made)?;
     walk.next_driver();
     push_arrays(alloc, &made, &mut walk.arrays)?;
-    walk.memories.push(MemoryClocks {
-        declaration: walk.declared,
-        port_clocks: memory_clocks(alloc, &made)?,
-    })?;
+    push_clocks(alloc, &made, &mut walk.memories)?;
+    let roles = memory_roles(alloc, &made)?;
     push_leaves(
         alloc,
         frame,

@@ -1,17 +1,17 @@
-//! The leaves of a memory's ports (FIRRTL spec, "Memories").
+//! The leaves of a memory's ports, and which of them are clocks (FIRRTL spec, "Memories").
 
-ghost use Rattle.std.specs.Prelude.{◌≡◌, IfOk, List, map};
+ghost use Rattle.std.specs.Prelude.{◌≡◌, [], ◌∷◌, ◌++◌, IfOk, List, OnOk, map};
 ghost use Rattle.fir_leaf.specs.declared.node.Node.{Node};
-ghost use Rattle.fir_meaning.specs.LeafMemories.{LeafMemory, clocks_from, memory_roles};
+ghost use Rattle.fir_meaning.specs.LeafMemories.{LeafMemory, clocks_from, memory_declared, memory_roles};
 ghost use Rattle.fir_meaning.specs.LeafModules.{LeafType};
 ghost use Rattle.fir_leaf_table.specs.working.Memories.{IsMemory};
-ghost use Rattle.fir_leaf_circuit.specs.working.Seen.{role_seen};
+ghost use Rattle.fir_leaf_circuit.specs.working.Seen.{memory_seen, role_seen};
 
 use crate::leaf_number::behind;
 use crate::memory::Memory;
 use crate::port_roles::put_roles;
 use fir_base::MemoryOut;
-use fir_leaf_circuit::LeafRole;
+use fir_leaf_circuit::{LeafRole, MemoryClocks};
 use std::alloc::Global;
 
 /// What gives each leaf of the ports its value, in the order of the ports and of their fields.
@@ -27,8 +27,24 @@ pub fn memory_roles(alloc: Global, memory: &Memory) -> Result<Vec<LeafRole>, Mem
     Ok(roles)
 }
 
+/// Puts the clock leaves of the ports behind those of the other memories.
+pub fn push_clocks(
+    alloc: Global,
+    memory: &Memory,
+    memories: &mut Vec<MemoryClocks>,
+) -> Result<(), MemoryOut>
+    ensures { OnOk result ((meant : LeafMemory) (holds : List LeafType) → IsMemory memory.now meant holds → map memory_seen memories.new.items ≡ map memory_seen memories.old.items ++ memory_declared meant ∷ []) }
+{
+    let port_clocks = memory_clocks(alloc, memory)?;
+    memories.push(MemoryClocks {
+        declaration: memory.declaration,
+        port_clocks,
+    })?;
+    Ok(())
+}
+
 /// The clock leaves of the ports, in their order.
-pub fn memory_clocks(alloc: Global, memory: &Memory) -> Result<Vec<usize>, MemoryOut>
+fn memory_clocks(alloc: Global, memory: &Memory) -> Result<Vec<usize>, MemoryOut>
     ensures { IfOk result (λ clocks. (meant : LeafMemory) (holds : List LeafType) → IsMemory memory.now meant holds → clocks.items ≡ clocks_from meant.data_leaves meant.first meant.ports) }
 {
     let mut clocks = Vec::new(alloc);

@@ -5,7 +5,7 @@ ghost use Rattle.fir_ast.specs.Circuits.{CircuitTree, ModuleTree};
 ghost use Rattle.fir_meaning.specs.Components as meant;
 ghost use Rattle.fir_meaning.specs.ComponentTypes.{typed_scope};
 ghost use Rattle.fir_meaning.specs.Flows.{flow_of};
-ghost use Rattle.fir_meaning.specs.TypeLeaves.{TypeLeaf};
+ghost use Rattle.fir_meaning.specs.TypeLeaves.{TypeLeaf as LeafMeant};
 ghost use Rattle.fir_meaning.specs.Visibility.{declarations};
 ghost use Rattle.fir_type_table.specs.working.Tables.{types_of};
 ghost use Rattle.fir_types.specs.working.Seen.{flow_seen, seen};
@@ -16,7 +16,7 @@ ghost use Rattle.fir_leaf_table.specs.working.DrivenLeaves.{driven_in, may_be_dr
 ghost use Rattle.fir_leaf_table.specs.working.Frames.{Frames};
 
 use crate::frame::Frame;
-use crate::type_leaves::type_leaves;
+use crate::type_leaves::{TypeLeaf, type_leaves};
 use fir_base::MemoryOut;
 use fir_names::Names;
 use fir_types::{Flow, Found};
@@ -53,14 +53,28 @@ fn push_driven(
     found: Option<Found>,
     driven: &mut Vec<bool>,
 ) -> Result<(), MemoryOut>
-    ensures { OnOk result (driven.new.items ≡ driven.old.items ++ map (λ (l : TypeLeaf). may_be_driven (flow_seen flow) l.flip) (leaves_of_data (seen (types_of frame.now.findings.now.table) found))) }
+    ensures { OnOk result (driven.new.items ≡ driven.old.items ++ map (λ (l : LeafMeant). may_be_driven (flow_seen flow) l.flip) (leaves_of_data (seen (types_of frame.now.findings.now.table) found))) }
 {
     let Some(found) = found else {
         return Ok(());
     };
     let leaves = type_leaves(alloc, frame.fitted, &frame.findings.table, found, 0)?;
-    for leaf in leaves.iter() {
-        driven.push(flow.under(leaf.flip) != Flow::Source)?;
+    push_each(flow, leaves.as_slice(), driven)
+}
+
+/// Of each leaf of what has this flow, whether statements may drive it.
+fn push_each(flow: Flow, leaves: &[TypeLeaf], driven: &mut Vec<bool>) -> Result<(), MemoryOut>
+    ensures { OnOk result (driven.new.items ≡ driven.old.items ++ map (λ (l : TypeLeaf). may_be_driven (flow_seen flow) l.flip) leaves.now) }
+{
+    for leaf in leaves {
+        driven.push(may_be_driven(flow, leaf.flip))?;
     }
     Ok(())
+}
+
+/// Whether statements may drive a leaf, flipped or not, of what has this flow.
+fn may_be_driven(flow: Flow, flip: bool) -> bool
+    ensures { result ≡ may_be_driven (flow_seen flow) flip }
+{
+    flow.under(flip) != Flow::Source
 }

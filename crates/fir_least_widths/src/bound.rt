@@ -1,7 +1,7 @@
 //! Bounds of unknown widths, each made of one operation on other unknowns.
 
-ghost use Rattle.std.specs.Prelude.{◌≡◌, ◌<◌, ◌↔◌, length, IsTrue};
-ghost use Rattle.fir_least_widths.specs.working.Bounds.{BoundsWithin, TermWithin, term_width};
+ghost use Rattle.std.specs.Prelude.{◌≡◌, length};
+ghost use Rattle.fir_least_widths.specs.working.Bounds.{TermWithin, term_width};
 ghost use Rattle.fir_meaning.specs.working.AssignedWidths.{assigned};
 
 use fir_bits::{PrimOp, counted_width};
@@ -53,30 +53,6 @@ pub(crate) fn term_width(term: &Term, widths: &[u32]) -> u32
             } else {
                 OVER
             }
-        }
-    }
-}
-
-/// Whether all unknowns that the bounds name are below that number.
-pub fn are_within(bounds: &[Bound], unknowns: usize) -> bool
-    ensures { IsTrue result ↔ BoundsWithin bounds.now unknowns }
-{
-    for bound in bounds {
-        if bound.unknown >= unknowns || !is_term_within(&bound.term, unknowns) {
-            return false;
-        }
-    }
-    true
-}
-
-fn is_term_within(term: &Term, unknowns: usize) -> bool
-    ensures { IsTrue result ↔ TermWithin term.now unknowns }
-{
-    match *term {
-        Term::Known(_) => true,
-        Term::Same(a) | Term::Single(_, _, a, _, _) => a < unknowns,
-        Term::Pair(_, _, a, b) | Term::Greater(a, b) | Term::Guarded(a, b) => {
-            a < unknowns && b < unknowns
         }
     }
 }

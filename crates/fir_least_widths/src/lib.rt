@@ -13,6 +13,6 @@ mod rounds;
 mod waiting;
 mod work_list;
 
-pub use bound::{Bound, OVER, Term, are_within};
+pub use bound::{Bound, OVER, Term};
 pub use rounds::least_widths_by_rounds;
 pub use work_list::least_widths;

@@ -41,7 +41,7 @@ pub fn add_elements(
         }
         [index, before @ ..] => {
             let found = add_elements(alloc, net, before)?;
-            Ok(add_further(alloc, net, &found, index)?)
+            add_further(alloc, net, &found, index)
         }
     }
 }

@@ -44,6 +44,6 @@ pub fn add_condition(
     let equal = add_test(alloc, net, PrimOp::Eq, index, literal)?;
     match earlier {
         None => Ok(equal),
-        Some(earlier) => Ok(add_test(alloc, net, PrimOp::And, earlier, equal)?),
+        Some(earlier) => add_test(alloc, net, PrimOp::And, earlier, equal),
     }
 }

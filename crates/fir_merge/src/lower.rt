@@ -59,28 +59,28 @@ fn lower_node(
         Node::Zeros => Ok(*nothing),
         Node::Absent(signed, width, picks) => {
             let indices = indices_at(alloc, before, bounds, *picks)?;
-            Ok(add_absent(alloc, net, *signed, *width, &indices, nothing)?)
+            add_absent(alloc, net, *signed, *width, &indices, nothing)
         }
-        Node::Literal(literal) => Ok(add_literal(net, literal, *nothing)?),
+        Node::Literal(literal) => add_literal(net, literal, *nothing),
         Node::Read(leaf, picks) => {
             let indices = indices_at(alloc, before, bounds, *picks)?;
-            Ok(add_read(alloc, net, types, *leaf, &indices, nothing)?)
+            add_read(alloc, net, types, *leaf, &indices, nothing)
         }
         Node::Pick(pick) => Ok(value_at(before, bounds, nothing, pick.index)),
         Node::Operation(op, operands, integers) => {
             let operands = values_at(alloc, before, bounds, nothing, operands)?;
-            Ok(add_operation(alloc, net, *op, &operands, integers)?)
+            add_operation(alloc, net, *op, &operands, integers)
         }
         Node::Mux(c, a, b) => {
             let c = value_at(before, bounds, nothing, *c);
             let a = value_at(before, bounds, nothing, *a);
             let b = value_at(before, bounds, nothing, *b);
-            Ok(add_choice(net, c, a, b)?)
+            add_choice(net, c, a, b)
         }
         Node::Validif(c, a) => {
             let c = value_at(before, bounds, nothing, *c);
             let a = value_at(before, bounds, nothing, *a);
-            Ok(add_validif(net, c, a, *nothing)?)
+            add_validif(net, c, a, *nothing)
         }
     }
 }

@@ -56,7 +56,7 @@ pub fn add_read(
     let elements = add_elements(alloc, net, indices)?;
     let zero = add_zero(net, ty)?;
     let other = add_unpicked(alloc, net, indices, &elements, &zero)?;
-    Ok(add_first_met(net, ty, leaf, &elements, &other)?)
+    add_first_met(net, ty, leaf, &elements, &other)
 }
 
 /// Adds zero of a type, for a leaf that is not there behind these indices.
@@ -120,7 +120,7 @@ fn add_chosen(
         [index, before @ ..] => {
             let chosen = add_chosen(alloc, net, before, value)?;
             let any = add_any(alloc, net, index)?;
-            Ok(add_choice(net, any, chosen, *value)?)
+            add_choice(net, any, chosen, *value)
         }
     }
 }

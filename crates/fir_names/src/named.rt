@@ -20,11 +20,21 @@ use std::marker::Model;
 
 /// A circuit in which no fault of names stands, with a table of what each module declares and an order of
 /// its modules. Contracts see the tree that was given.
-#[derive(Drop)]
 pub struct Named {
     circuit: Circuit,
     tables: Vec<Names>,
     order: Vec<usize>,
+}
+
+// Not derived, so that a drop is a call, which is proved once.
+impl Drop for Named {
+    fn drop(self) {
+        let Named {
+            circuit: _,
+            tables: _,
+            order: _,
+        } = self;
+    }
 }
 
 impl Model for Named {
@@ -69,13 +79,6 @@ impl Named {
         ensures named { HasNames (circuit_of self.now) }
     {
         &self.circuit
-    }
-
-    /// The tree alone.
-    pub fn into_circuit(self) -> Circuit
-        ensures { result ≡ self }
-    {
-        self.circuit
     }
 
     /// The table of the module with that number, from 0 on in the order of the text.

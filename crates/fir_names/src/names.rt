@@ -15,12 +15,21 @@ use indexmap::IndexMap;
 use std::alloc::Global;
 
 /// The declarations of a module, in the order of the text, each under the bytes that spell its name.
-#[derive(Drop)]
 pub struct Names {
     declarations: IndexMap<Vec<u8>, Declaration>,
     /// For each expression of the module, in the order in which their ends come, how many are declared
     /// before what a reference names; of any other form, and of a reference in an index, it is a guess.
     noted: Vec<usize>,
+}
+
+// Not derived, so that a drop is a call, which is proved once.
+impl Drop for Names {
+    fn drop(self) {
+        let Names {
+            declarations: _,
+            noted: _,
+        } = self;
+    }
 }
 
 impl Names {

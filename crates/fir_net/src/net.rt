@@ -7,9 +7,19 @@ use fir_base::{Name, Seq};
 /// A net: the circuit's name; the leaves, which are the ports in their order and then all others, registers
 /// in the order of the state; and the nodes, each behind the nodes that it reads. What drives a leaf may
 /// stand anywhere.
-#[derive(Drop)]
 pub struct FlatNet {
     pub name: Name,
     pub leaves: Seq<Leaf>,
     pub nodes: Seq<Node>,
+}
+
+// Not derived, so that a drop is a call, which is proved once.
+impl Drop for FlatNet {
+    fn drop(self) {
+        let FlatNet {
+            name: _,
+            leaves: _,
+            nodes: _,
+        } = self;
+    }
 }

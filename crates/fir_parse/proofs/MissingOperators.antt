@@ -1,5 +1,5 @@
 -- Where an operator may stand with its parenthesis and a word of a missing one is taken, an expression begins with it.
-use Rattle.std.proofs.Common.{◌≡◌, ℕ, List, [], ◌∷◌, Bool, true, false, None, codes, refl, sym, ap, ◌∙◌, subst, if◌then◌else◌}
+use Rattle.std.proofs.Common.{◌≡◌, ℕ, List, [], ◌∷◌, Bool, true, false, None, codes, refl, sym, ap, ◌∙◌, subst, if◌then◌else◌, IsTrue}
 use Rattle.std.specs.Str.{bytes_eq}
 use Rattle.fir_base.specs.Lists.{In}
 use Rattle.fir_base.proofs.Each.{all_at}
@@ -39,6 +39,9 @@ firm_refuses (wants s k) q next m h =
     let no_step : judge (wants s k) (round q) ≡ unexpected = ap (λ u. verdict_by u k (λ x. judge (k x) (round q))) (refuses_tail s m q).1 in
     absurd (cc)
 
+none_true : IsTrue false → ⊥
+none_true h = cc
+
 shut_refuses : (st : State) (q : Place) (next : State) → Guarded st → IsShut st → judge st (round q) ≡ continues next → ⊥
 shut_refuses (done c) q next g m h = absurd m
 shut_refuses (limit passed l st) q next g m h = absurd m
@@ -47,7 +50,7 @@ shut_refuses (wants (a_mark Equals) k) q next g m h = absurd (cc)
 shut_refuses (wants a_line_end k) q next g m h = absurd (cc)
 shut_refuses (wants more_names k) q next g m h = absurd (cc)
 shut_refuses (wants (parts d n) k) q next g m h = firm_refuses (k no_parts) q next (g no_parts).1 h
-shut_refuses (wants s k) q next g m h = absurd (cc)
+shut_refuses (wants s k) q next g m h = absurd (none_true m)
 
 shut_behind : (p : Place) (st : State) (q : Place) (next : State) → Guarded st → Meets (nested_shut p) st → judge st (round q) ≡ continues next → ⊥
 shut_behind p (done c) q next g m h = absurd m
@@ -132,7 +135,7 @@ operator_begins ports_and_statements k q p w next last e g steady none (f, a, sa
 operator_begins (behind_direction v r x) k q p w next last e g steady none (f, a, same) opens t =
     absurd (no_round (λ j. wants (a_mark Colon) (λ s. port_rest v (record { place = q; name = mux }) j)) f k a (λ n m h. absurd (cc)) (λ z. opens (subst RefusesRound same z)))
 operator_begins (behind_is d r v x) k q p w next last e g steady none a opens t = absurd (mux_of_is (lead_of v) d r x q (is_taken (behind_is d r v x) k (word_at mux q) next a))
-operator_begins s k q p w next last e g steady none (f, a, same) opens t = absurd (cc)
+operator_begins s k q p w next last e g steady none a opens t = absurd (is_taken s k (word_at mux q) next a)
 
 -- ---- the token behind the word
 

@@ -10,7 +10,7 @@ use fir_ast::{Circuit, FirFault, Place};
 impl<'t> Parser<'t> {
     ghost use Rattle.fir_ast.specs.View.{circuit_of};
     ghost use Rattle.fir_parse.specs.working.CircuitRules.{circuit_rest, version_plan, version_rest};
-    ghost use Rattle.fir_parse.specs.working.PartPlans.{circuit_plan};
+    ghost use Rattle.fir_parse.specs.working.PartPlans.{behind_major, circuit_plan, dotted_number};
     ghost use Rattle.fir_parse.specs.working.Reads.{rest, Reads};
     ghost use Rattle.fir_parse.specs.working.States.{wants};
     ghost use Rattle.fir_parse.specs.working.Symbols.{a_text, some_annotations};
@@ -51,13 +51,27 @@ impl<'t> Parser<'t> {
         ensures { Reads (λ k. version_plan k) (λ u. u) (rest self.old) (rest self.new) result }
     {
         self.word(b"version")?;
-        let first = self.natural()?;
-        known_version(first.place, first.number)?;
-        self.mark(Mark::Dot)?;
-        self.natural()?;
-        self.mark(Mark::Dot)?;
-        self.natural()?;
+        let major = self.natural()?;
+        known_version(major.place, major.number)?;
+        self.behind_major()
+    }
+
+    /// The second and the third number of the version and the line's end, behind the first number.
+    fn behind_major(&mut self) -> Result<(), Stop>
+        ensures { Reads (λ k. behind_major k) (λ u. u) (rest self.old) (rest self.new) result }
+    {
+        self.dotted_number()?;
+        self.dotted_number()?;
         self.line_end()?;
+        Ok(())
+    }
+
+    /// A dot and the number behind it.
+    fn dotted_number(&mut self) -> Result<(), Stop>
+        ensures { Reads (λ k. dotted_number k) (λ u. u) (rest self.old) (rest self.new) result }
+    {
+        self.mark(Mark::Dot)?;
+        self.natural()?;
         Ok(())
     }
 

@@ -110,9 +110,8 @@ impl<'t> Parser<'t> {
         ensures reads { Reads (λ k. connect_rest depth (sink_of sink) k) stmt_of (rest self.old) (rest self.new) result }
         ensures nearer { OnOk result (left self.new < left self.old) }
     {
-        let source = self.expression(depth)?;
-        self.line_end()?;
-        Ok(Stmt::Connect(sink.place, sink, source.tree))
+        let source = self.expression_line(depth)?;
+        Ok(Stmt::Connect(sink.place, sink, source))
     }
 
     /// `expr`, behind a sink and `<-`.
@@ -121,9 +120,8 @@ impl<'t> Parser<'t> {
         ensures reads { Reads (λ k. partial_connect_rest depth (sink_of sink) k) stmt_of (rest self.old) (rest self.new) result }
         ensures nearer { OnOk result (left self.new < left self.old) }
     {
-        let source = self.expression(depth)?;
-        self.line_end()?;
-        Ok(Stmt::PartialConnect(sink.place, sink, source.tree))
+        let source = self.expression_line(depth)?;
+        Ok(Stmt::PartialConnect(sink.place, sink, source))
     }
 
     /// `is invalid`, behind a sink.
@@ -257,11 +255,10 @@ impl<'t> Parser<'t> {
         ensures deep { IfOk result (Deepens depth) }
         ensures nearer { OnOk result (left self.new < left self.old) }
     {
-        let ident = self.ident(name_place, name)?;
         self.mark(Mark::Colon)?;
-        let ty = self.ty(depth)?;
-        self.line_end()?;
-        Ok(Begun::Statement(Stmt::Wire(place, ident, ty.tree.place, ty.tree.ty)))
+        let ident = self.ident(name_place, name)?;
+        let ty = self.type_line(depth)?;
+        Ok(Begun::Statement(Stmt::Wire(place, ident, ty.place, ty.ty)))
     }
 
     /// A register, behind its name.
@@ -295,11 +292,10 @@ impl<'t> Parser<'t> {
         ensures deep { IfOk result (Deepens depth) }
         ensures nearer { OnOk result (left self.new < left self.old) }
     {
-        let ident = self.ident(name_place, name)?;
         self.mark(Mark::Equals)?;
-        let value = self.expression(depth)?;
-        self.line_end()?;
-        Ok(Begun::Statement(Stmt::Node(place, ident, value.tree)))
+        let ident = self.ident(name_place, name)?;
+        let value = self.expression_line(depth)?;
+        Ok(Begun::Statement(Stmt::Node(place, ident, value)))
     }
 
     /// `of module`, behind an instance's name.
@@ -314,10 +310,10 @@ impl<'t> Parser<'t> {
         ensures deep { IfOk result (Deepens depth) }
         ensures nearer { OnOk result (left self.new < left self.old) }
     {
-        let ident = self.ident(name_place, name)?;
         self.word(b"of")?;
         let module = self.name()?;
         self.line_end()?;
+        let ident = self.ident(name_place, name)?;
         Ok(Begun::Statement(Stmt::Inst(place, ident, module)))
     }
 

@@ -16,6 +16,7 @@ impl<'t> Parser<'t> {
     ghost use Rattle.fir_parse.specs.Heights.{height};
     ghost use Rattle.fir_parse.specs.Lexemes.{mark};
     ghost use Rattle.fir_parse.specs.working.Reads.{left, rest, HasHeight, Reads};
+    ghost use Rattle.fir_parse.specs.working.StatementRules.{ends_line};
     ghost use Rattle.fir_parse.specs.working.States.{wants};
     ghost use Rattle.fir_parse.specs.working.Symbols.{an_expression, behind_word};
     ghost use Rattle.fir_parse.specs.working.Trees.{tall_expression};
@@ -36,6 +37,17 @@ impl<'t> Parser<'t> {
             }
             _ => Err(next.refused()),
         }
+    }
+
+    /// An expression and the line's end.
+    pub fn expression_line(&mut self, depth: u32) -> Result<Expr, Stop>
+        requires { depth ≤ 256 }
+        ensures reads { Reads (λ k. wants (an_expression depth) (λ e. ends_line e k)) expr_of (rest self.old) (rest self.new) result }
+        ensures nearer { OnOk result (left self.new < left self.old) }
+    {
+        let expr = self.expression(depth)?;
+        self.line_end()?;
+        Ok(expr.tree)
     }
 
     /// The expression that begins with a word, behind it.

@@ -59,7 +59,6 @@ impl<'t> Parser<'t> {
     }
 
     /// A literal with a width, from its `<` on.
-    #[tactic(auto, using(crate::proofs::Plans::limits))]
     pub fn sized_literal(&mut self, depth: u32, place: Place, signed: bool) -> Result<Literal, Stop>
         ensures reads { Reads (sized_plan signed depth place) (λ l. literal l) (rest self.old) (rest self.new) result }
         ensures nearer { OnOk result (left self.new < left self.old) }

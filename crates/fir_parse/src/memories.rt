@@ -134,9 +134,8 @@ impl<'t> Parser<'t> {
         ensures nearer { OnOk result (left self.new < left self.old) }
     {
         self.mark(Mark::Arrow)?;
-        let ty = self.ty(depth)?;
-        self.line_end()?;
-        Ok(MemoryField::DataType(place, ty.tree.place, ty.tree.ty))
+        let ty = self.type_line(depth)?;
+        Ok(MemoryField::DataType(place, ty.place, ty.ty))
     }
 
     /// What is read under a write, and the line's end.

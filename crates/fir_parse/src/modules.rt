@@ -255,13 +255,12 @@ impl<'t> Parser<'t> {
         ensures room { IfOk result HasRoom }
         ensures nearer { OnOk result (left self.new < left self.old) }
     {
-        let ty = self.ty(0)?;
-        self.line_end()?;
+        let ty = self.type_line(0)?;
         Ok(PortOr::Port(Port {
             direction,
             ident,
-            type_place: ty.tree.place,
-            ty: ty.tree.ty,
+            type_place: ty.place,
+            ty: ty.ty,
         }))
     }
 }

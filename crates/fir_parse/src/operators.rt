@@ -14,7 +14,9 @@ impl<'t> Parser<'t> {
     ghost use Rattle.fir_parse.specs.working.ExpressionRules.{by_form, closing_plan, mux_rest, next_integer, next_operand, operator_rest, validif_rest};
     ghost use Rattle.fir_parse.specs.Heights.{height};
     ghost use Rattle.fir_parse.specs.working.Reads.{left, rest, HasHeight, Reads};
-    ghost use Rattle.fir_parse.specs.working.Trees.{tall_expression};
+    ghost use Rattle.fir_parse.specs.working.States.{wants};
+    ghost use Rattle.fir_parse.specs.working.Symbols.{an_expression};
+    ghost use Rattle.fir_parse.specs.working.Trees.{boxed_expr_of, tall_boxed, tall_expression};
 
     /// The operands and integers of an operator, and its closing parenthesis.
     #[cycle(expressions)]
@@ -39,13 +41,13 @@ impl<'t> Parser<'t> {
         ensures high { IfOk result (HasHeight expr_of height) }
         ensures nearer { OnOk result (left self.new < left self.old) }
     {
+        let mut operands = Vec::new(self.alloc);
         let first = self.expression(depth)?;
+        operands.push(first.tree)?;
         let second = self.next_operand(depth)?;
+        operands.push(second.tree)?;
         let height = first.height.max(second.height) + 1;
         self.close(height)?;
-        let mut operands = Vec::new(self.alloc);
-        operands.push(first.tree)?;
-        operands.push(second.tree)?;
         let tree = Expr::Op(place, op, operands, Vec::new(self.alloc));
         Ok(Tall { tree, height })
     }
@@ -57,11 +59,11 @@ impl<'t> Parser<'t> {
         ensures high { IfOk result (HasHeight expr_of height) }
         ensures nearer { OnOk result (left self.new < left self.old) }
     {
+        let mut operands = Vec::new(self.alloc);
         let operand = self.expression(depth)?;
+        operands.push(operand.tree)?;
         let height = operand.height + 1;
         self.close(height)?;
-        let mut operands = Vec::new(self.alloc);
-        operands.push(operand.tree)?;
         let tree = Expr::Op(place, op, operands, Vec::new(self.alloc));
         Ok(Tall { tree, height })
     }
@@ -73,14 +75,14 @@ impl<'t> Parser<'t> {
         ensures high { IfOk result (HasHeight expr_of height) }
         ensures nearer { OnOk result (left self.new < left self.old) }
     {
-        let operand = self.expression(depth)?;
-        let integer = self.next_integer()?;
-        let height = operand.height + 1;
-        self.close(height)?;
         let mut operands = Vec::new(self.alloc);
+        let operand = self.expression(depth)?;
         operands.push(operand.tree)?;
+        let integer = self.next_integer()?;
         let mut integers = Vec::new(self.alloc);
         integers.push(integer)?;
+        let height = operand.height + 1;
+        self.close(height)?;
         let tree = Expr::Op(place, op, operands, integers);
         Ok(Tall { tree, height })
     }
@@ -92,16 +94,16 @@ impl<'t> Parser<'t> {
         ensures high { IfOk result (HasHeight expr_of height) }
         ensures nearer { OnOk result (left self.new < left self.old) }
     {
+        let mut operands = Vec::new(self.alloc);
         let operand = self.expression(depth)?;
+        operands.push(operand.tree)?;
         let high = self.next_integer()?;
         let low = self.next_integer()?;
-        let height = operand.height + 1;
-        self.close(height)?;
-        let mut operands = Vec::new(self.alloc);
-        operands.push(operand.tree)?;
         let mut integers = Vec::new(self.alloc);
         integers.push(high)?;
         integers.push(low)?;
+        let height = operand.height + 1;
+        self.close(height)?;
         let tree = Expr::Op(place, op, operands, integers);
         Ok(Tall { tree, height })
     }
@@ -114,17 +116,12 @@ impl<'t> Parser<'t> {
         ensures high { IfOk result (HasHeight expr_of height) }
         ensures nearer { OnOk result (left self.new < left self.old) }
     {
-        let condition = self.expression(depth)?;
-        let one = self.next_operand(depth)?;
-        let other = self.next_operand(depth)?;
+        let condition = self.boxed_operand(depth)?;
+        let one = self.next_boxed_operand(depth)?;
+        let other = self.next_boxed_operand(depth)?;
         let height = condition.height.max(one.height.max(other.height)) + 1;
         self.close(height)?;
-        let tree = Expr::Mux(
-            place,
-            Box::new(self.alloc, condition.tree)?,
-            Box::new(self.alloc, one.tree)?,
-            Box::new(self.alloc, other.tree)?,
-        );
+        let tree = Expr::Mux(place, condition.tree, one.tree, other.tree);
         Ok(Tall { tree, height })
     }
 
@@ -136,21 +133,45 @@ impl<'t> Parser<'t> {
         ensures high { IfOk result (HasHeight expr_of height) }
         ensures nearer { OnOk result (left self.new < left self.old) }
     {
-        let condition = self.expression(depth)?;
-        let value = self.next_operand(depth)?;
+        let condition = self.boxed_operand(depth)?;
+        let value = self.next_boxed_operand(depth)?;
         let height = condition.height.max(value.height) + 1;
         self.close(height)?;
-        let tree = Expr::Validif(
-            place,
-            Box::new(self.alloc, condition.tree)?,
-            Box::new(self.alloc, value.tree)?,
-        );
+        let tree = Expr::Validif(place, condition.tree, value.tree);
         Ok(Tall { tree, height })
+    }
+
+    /// An operand in a box.
+    #[cycle(expressions)]
+    fn boxed_operand(&mut self, depth: u32) -> Result<Tall<Box<Expr>>, Stop>
+        requires { depth ≤ 256 }
+        ensures reads { Reads (wants (an_expression depth)) tall_boxed (rest self.old) (rest self.new) result }
+        ensures high { IfOk result (HasHeight boxed_expr_of height) }
+        ensures nearer { OnOk result (left self.new < left self.old) }
+    {
+        let operand = self.expression(depth)?;
+        let tree = Box::new(self.alloc, operand.tree)?;
+        Ok(Tall {
+            tree,
+            height: operand.height,
+        })
+    }
+
+    /// A comma and an operand in a box.
+    #[cycle(expressions)]
+    fn next_boxed_operand(&mut self, depth: u32) -> Result<Tall<Box<Expr>>, Stop>
+        requires { depth ≤ 256 }
+        ensures reads { Reads (λ k. next_operand depth k) tall_boxed (rest self.old) (rest self.new) result }
+        ensures high { IfOk result (HasHeight boxed_expr_of height) }
+        ensures nearer { OnOk result (left self.new < left self.old) }
+    {
+        self.mark(Mark::Comma)?;
+        self.boxed_operand(depth)
     }
 
     /// A comma and an operand.
     #[cycle(expressions)]
-    fn next_operand(&mut self, depth: u32) -> Result<Tall<Expr>, Stop>
+    pub fn next_operand(&mut self, depth: u32) -> Result<Tall<Expr>, Stop>
         requires { depth ≤ 256 }
         ensures reads { Reads (λ k. next_operand depth k) tall_expression (rest self.old) (rest self.new) result }
         ensures high { IfOk result (HasHeight expr_of height) }

@@ -4,16 +4,23 @@ use crate::lexeme::{Lexeme, Mark};
 use crate::parser::Parser;
 use crate::stop::Stop;
 use crate::terminals::open_one;
-use fir_ast::{Ident, Place, Register, RegisterReset, Stmt};
+use fir_ast::{Expr, Ident, Place, Register, RegisterReset, Stmt};
+
+/// What clocks a register, and what resets it.
+#[derive(Drop)]
+pub struct Timing {
+    pub clock: Expr,
+    pub reset: Option<RegisterReset>,
+}
 
 impl<'t> Parser<'t> {
     ghost use Rattle.std.specs.Prelude.{◌<◌, ◌≤◌, OnOk, option_map};
     ghost use Rattle.fir_ast.specs.View.{named_of, reset_of, stmt_of};
-    ghost use Rattle.fir_parse.specs.working.PartPlans.{level_reset_plan, reset_part_plan, round_reset_plan};
+    ghost use Rattle.fir_parse.specs.working.PartPlans.{level_reset_plan, reset_behind_plan, reset_part_plan, round_reset_plan, timing_of, timing_plan};
     ghost use Rattle.fir_parse.specs.working.Reads.{left, rest, Reads};
     ghost use Rattle.fir_parse.specs.working.StatementRules.{register_rest, reset_rest};
     ghost use Rattle.fir_parse.specs.working.States.{wants};
-    ghost use Rattle.fir_parse.specs.working.Symbols.{a_mark, a_reset, behind_with};
+    ghost use Rattle.fir_parse.specs.working.Symbols.{a_closing, a_line_end, a_mark, a_reset, behind_with};
 
     /// `: type , clock` and what resets it, behind a register's name.
     pub fn register(&mut self, depth: u32, place: Place, ident: Ident) -> Result<Stmt, Stop>
@@ -23,17 +30,29 @@ impl<'t> Parser<'t> {
     {
         self.mark(Mark::Colon)?;
         let ty = self.ty(depth)?;
-        self.mark(Mark::Comma)?;
-        let clock = self.expression(depth)?;
-        let reset = self.reset(depth)?;
+        let timing = self.timing(depth)?;
         let register = Register {
             ident,
             type_place: ty.tree.place,
             ty: ty.tree.ty,
-            clock: clock.tree,
-            reset,
+            clock: timing.clock,
+            reset: timing.reset,
         };
         Ok(Stmt::Reg(place, Box::new(self.alloc, register)?))
+    }
+
+    /// `, clock` and what resets the register.
+    fn timing(&mut self, depth: u32) -> Result<Timing, Stop>
+        requires { depth ≤ 256 }
+        ensures reads { Reads (λ k. timing_plan depth k) timing_of (rest self.old) (rest self.new) result }
+        ensures nearer { OnOk result (left self.new < left self.old) }
+    {
+        let clock = self.next_operand(depth)?;
+        let reset = self.reset(depth)?;
+        Ok(Timing {
+            clock: clock.tree,
+            reset,
+        })
     }
 
     /// The reset part, or none, and the line's end.
@@ -80,7 +99,6 @@ impl<'t> Parser<'t> {
     }
 
     /// The reset part in parentheses, of which the first stands at the place.
-    #[tactic(auto, using(crate::proofs::Plans::limits))]
     fn reset_in_round(
         &mut self,
         depth: u32,
@@ -93,9 +111,17 @@ impl<'t> Parser<'t> {
     {
         open_one(depth, place)?;
         let reset = self.reset_pair(depth + 1, with)?;
-        self.mark(Mark::CloseRound)?;
-        self.line_end()?;
+        self.close_line()?;
         Ok(reset)
+    }
+
+    /// The closing parenthesis and the line's end.
+    fn close_line(&mut self) -> Result<Place, Stop>
+        ensures reads { Reads (λ k. wants (a_mark Mark.CloseRound) (λ q. wants a_line_end k)) (λ p. p) (rest self.old) (rest self.new) result }
+        ensures nearer { OnOk result (left self.new < left self.old) }
+    {
+        self.mark(Mark::CloseRound)?;
+        self.line_end()
     }
 
     /// The reset part on a line of its own, in a level of its own.
@@ -107,13 +133,20 @@ impl<'t> Parser<'t> {
         self.line_end()?;
         self.opening()?;
         let reset = self.reset_pair(depth, with)?;
-        self.line_end()?;
-        self.closing()?;
+        self.close_level()?;
         Ok(reset)
     }
 
+    /// The line's end and the end of the level.
+    fn close_level(&mut self) -> Result<Place, Stop>
+        ensures reads { Reads (λ k. wants a_line_end (λ q. wants a_closing k)) (λ p. p) (rest self.old) (rest self.new) result }
+        ensures nearer { OnOk result (left self.new < left self.old) }
+    {
+        self.line_end()?;
+        self.closing()
+    }
+
     /// `reset => (condition, init)`
-    #[tactic(auto, using(crate::proofs::Plans::limits))]
     fn reset_pair(&mut self, depth: u32, with: Place) -> Result<RegisterReset, Stop>
         requires { depth ≤ 256 }
         ensures reads { Reads (λ k. reset_rest depth with k) reset_of (rest self.old) (rest self.new) result }
@@ -123,9 +156,17 @@ impl<'t> Parser<'t> {
         self.mark(Mark::Arrow)?;
         let open = self.mark(Mark::OpenRound)?;
         open_one(depth, open)?;
-        let condition = self.expression(depth + 1)?;
-        self.mark(Mark::Comma)?;
-        let init = self.expression(depth + 1)?;
+        self.reset_behind(depth + 1, with)
+    }
+
+    /// `condition, init)`
+    fn reset_behind(&mut self, depth: u32, with: Place) -> Result<RegisterReset, Stop>
+        requires { depth ≤ 256 }
+        ensures reads { Reads (λ k. reset_behind_plan depth with k) reset_of (rest self.old) (rest self.new) result }
+        ensures nearer { OnOk result (left self.new < left self.old) }
+    {
+        let condition = self.expression(depth)?;
+        let init = self.next_operand(depth)?;
         self.mark(Mark::CloseRound)?;
         Ok(RegisterReset {
             place: with,

@@ -17,12 +17,13 @@ pub struct Sequence {
 }
 
 impl Sequence {
-    ghost use Rattle.std.specs.Prelude.{◌≡◌, ◌+◌, ◌≤◌, [], ℕ, OnOk, length, map};
+    ghost use Rattle.std.specs.Prelude.{◌≡◌, ◌+◌, ◌≤◌, ◌∷◌, ◌++◌, [], ℕ, OnOk, length, map};
     ghost use Rattle.fir_ast.specs.Statements.{Block};
     ghost use Rattle.fir_ast.specs.View.{block_of, stmt_of};
     ghost use Rattle.fir_parse.specs.working.States.{State};
     ghost use Rattle.fir_parse.specs.working.StatementRules.{behind_otherwise, behind_statement, closed_before};
     ghost use Rattle.fir_parse.specs.working.StatementTrees.{begun_of, done_of, more_statements, opens_of, otherwise_of, statements_before, Deepens, DeepensElse, IsWithin};
+    ghost use Rattle.fir_parse.specs.working.Symbols.{no_else};
 
     fn new(alloc: Global) -> Sequence
         ensures done { result.done.items ≡ [] }
@@ -67,9 +68,20 @@ impl Sequence {
         ensures within { OnOk result ((d : ℕ) → d ≤ 256 → Deepens d begun → IsWithin d self.new) }
     {
         match begun {
-            Begun::Statement(statement) => self.done.push(statement)?,
-            Begun::When(when) => self.pending.push(when)?,
+            Begun::Statement(statement) => {
+                self.done.push(statement)?;
+                Ok(())
+            }
+            Begun::When(when) => self.open(when),
         }
+    }
+
+    /// A when more that is open.
+    fn open(&mut self, when: OpenWhen) -> Result<(), MemoryOut>
+        ensures done { self.new.done.items ≡ self.old.done.items }
+        ensures pending { OnOk result (self.new.pending.items ≡ self.old.pending.items ++ when ∷ []) }
+    {
+        self.pending.push(when)?;
         Ok(())
     }
 
@@ -79,13 +91,21 @@ impl Sequence {
         ensures within { OnOk result ((d : ℕ) → d ≤ 256 → DeepensElse (d + length self.old.pending.items) otherwise → IsWithin d self.new) }
     {
         match otherwise {
-            Otherwise::Block(block) => self.close(block)?,
-            Otherwise::When(when) => self.pending.push(when)?,
-            Otherwise::Statement(statement) => {
-                self.close(Vec::new(self.alloc))?;
-                self.done.push(statement)?;
-            }
+            Otherwise::Block(block) => self.close(block),
+            Otherwise::When(when) => self.open(when),
+            Otherwise::Statement(statement) => self.close_before(statement),
         }
+    }
+
+    /// Closes the open whens, of which the last has no else, and adds the statement behind them.
+    fn close_before(&mut self, statement: Stmt) -> Result<(), MemoryOut>
+        ensures goes_on { OnOk result ((d : ℕ) (k : Block → State) → behind_otherwise d (opens_of self.old) (no_else (stmt_of statement)) (λ behind. k (statements_before (done_of self.old) behind)) ≡ more_statements d self.new k) }
+        ensures within { OnOk result ((d : ℕ) → d ≤ 256 → IsWithin d self.new) }
+    {
+        let mut behind = Vec::new(self.alloc);
+        behind.push(statement)?;
+        self.close(Vec::new(self.alloc))?;
+        self.done.append(&mut behind)?;
         Ok(())
     }
 }
@@ -168,9 +188,9 @@ impl<'t> Parser<'t> {
             return self.next_else(depth, place, sequence);
         }
         self.pass();
-        let begun = self.begun(depth, place, name)?;
         let mut sequence = sequence;
         sequence.close(Vec::new(self.alloc))?;
+        let begun = self.begun(depth, place, name)?;
         sequence.add(begun)?;
         Ok(sequence)
     }

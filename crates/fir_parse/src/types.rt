@@ -21,6 +21,7 @@ impl<'t> Parser<'t> {
     ghost use Rattle.fir_parse.specs.Lexemes.{mark, word};
     ghost use Rattle.fir_parse.specs.working.Reads.{left, rest, HasHeight, Leads, Reads};
     ghost use Rattle.fir_parse.specs.working.AtHand.{IsAtHand};
+    ghost use Rattle.fir_parse.specs.working.StatementRules.{ends_line};
     ghost use Rattle.fir_parse.specs.working.States.{wants};
     ghost use Rattle.fir_parse.specs.working.Symbols.{a_type, a_width, dimensions};
     ghost use Rattle.fir_parse.specs.working.Trees.{placed_type, placed_type_height, tall_placed_type, tall_type, tall_type_at};
@@ -40,6 +41,17 @@ impl<'t> Parser<'t> {
             tree: WrittenType { place, ty: ty.tree },
             height: ty.height,
         })
+    }
+
+    /// A type and the line's end.
+    pub fn type_line(&mut self, depth: u32) -> Result<WrittenType, Stop>
+        requires { depth ≤ 256 }
+        ensures reads { Reads (λ k. wants (a_type depth) (λ t. ends_line t k)) placed_type (rest self.old) (rest self.new) result }
+        ensures nearer { OnOk result (left self.new < left self.old) }
+    {
+        let ty = self.ty(depth)?;
+        self.line_end()?;
+        Ok(ty.tree)
     }
 
     /// A type whose first token is at hand.

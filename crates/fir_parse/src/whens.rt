@@ -33,6 +33,7 @@ pub enum Otherwise {
 impl<'t> Parser<'t> {
     ghost use Rattle.std.specs.Prelude.{◌+◌, ◌<◌, ◌≤◌, IfOk, OnOk, codes, map};
     ghost use Rattle.fir_ast.specs.View.{block_of, expr_of, stmt_of};
+    ghost use Rattle.fir_parse.specs.working.PartPlans.{block_behind_plan};
     ghost use Rattle.fir_parse.specs.working.Reads.{left, rest, Reads};
     ghost use Rattle.fir_parse.specs.working.StatementRules.{ref_rest, when_rest};
     ghost use Rattle.fir_parse.specs.working.StatementTrees.{open_when_of, otherwise_of, DeepensElse};
@@ -41,7 +42,6 @@ impl<'t> Parser<'t> {
 
     /// The colon and the block of a when, behind its condition.
     #[cycle(statements)]
-    #[tactic(auto, using(crate::proofs::Plans::limits))]
     pub fn when_behind(
         &mut self,
         depth: u32,
@@ -53,15 +53,27 @@ impl<'t> Parser<'t> {
         ensures deep { OnOk result (depth < 256) }
         ensures nearer { OnOk result (left self.new < left self.old) }
     {
-        self.mark(Mark::Colon)?;
-        let line_end = self.line_end()?;
-        open_one(depth, line_end)?;
-        let block = self.indented_block(depth + 1)?;
+        let block = self.block_behind(depth)?;
         Ok(OpenWhen {
             place,
             condition,
             block,
         })
+    }
+
+    /// The colon and the block of a when.
+    #[cycle(statements)]
+    #[tactic(auto, using(crate::proofs::Plans::limits))]
+    fn block_behind(&mut self, depth: u32) -> Result<Vec<Stmt>, Stop>
+        requires { depth ≤ 256 }
+        ensures reads { Reads (λ k. block_behind_plan depth k) (λ b. block_of (map stmt_of b.items)) (rest self.old) (rest self.new) result }
+        ensures deep { OnOk result (depth < 256) }
+        ensures nearer { OnOk result (left self.new < left self.old) }
+    {
+        self.mark(Mark::Colon)?;
+        let line_end = self.line_end()?;
+        open_one(depth, line_end)?;
+        self.indented_block(depth + 1)
     }
 
     /// The statements of a level, where one opens.

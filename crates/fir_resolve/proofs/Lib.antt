@@ -4,6 +4,7 @@ pub mod WalkedNames
 pub mod OpenBlocks
 pub mod WalkedScopes
 pub mod PassedMentions
+pub mod WalkedReferences
 pub mod NamedInstances
 pub mod WalkedBlocks
 pub mod WalkedWhens

@@ -1,13 +1,14 @@
 -- What a walk over mentions comes to: a fault is told, or none stands and the scope has what is behind.
-use Rattle.std.proofs.Common.{◌≡◌, List, ◌++◌, Some, None, option_map, sym, ◌∙◌}
+use Rattle.std.proofs.Common.{◌≡◌, List, ◌++◌, Some, None, option_map, sym, ap, ◌∙◌}
 use Rattle.std.specs.Prelude.{Option}
 use Rattle.fir_ast.specs.declared.fault.FirFault.{FirFault}
+use Rattle.fir_ast.specs.Expressions.{Expression}
 use Rattle.fir_ast.specs.Statements.{PlacedName}
 use Rattle.fir_pass.specs.Faults.{Fault, fault_of}
 use Rattle.fir_pass.specs.Groups.{first_of}
-use Rattle.fir_meaning.specs.Components.{find_name}
+use Rattle.fir_meaning.specs.Components.{Declarations, find_name}
 use Rattle.fir_meaning.specs.Visibility.{Before}
-use Rattle.fir_meaning.specs.Mentions.{Mention, declares, names_declared}
+use Rattle.fir_meaning.specs.Mentions.{Mention, declares, expression_mentions, names_declared}
 use Rattle.fir_meaning.specs.NameGroups.{faults_in, mention_faults}
 use Rattle.fir_resolve.specs.declared.scope.Scope.{Scope}
 use Rattle.fir_resolve.specs.working.Scoped.{Passes, Walks}
@@ -48,3 +49,8 @@ second_of_three a b c x none some = mentions_front (a ++ b) c x (some ∙ sym (m
 pub third_of_three : (a b c : List Mention) (o : Option Fault) → None ≡ first_of (faults_in a) → None ≡ first_of (faults_in b)
     → o ≡ first_of (faults_in c) → o ≡ first_of (faults_in (a ++ b ++ c))
 third_of_three a b c o none neither same = same ∙ sym (mentions_behind (a ++ b) c (neither ∙ sym (mentions_behind a b none)))
+
+-- what is told of an expression is told of all that stands for it
+pub expression_told : (visible : Declarations) (other e : Expression) (o : Option Fault) → other ≡ e → o ≡ first_of (faults_in (expression_mentions visible e))
+    → o ≡ first_of (faults_in (expression_mentions visible other))
+expression_told visible other e o is same = same ∙ ap (λ x. first_of (faults_in (expression_mentions visible x))) (sym is)

@@ -17,8 +17,9 @@ use Rattle.fir_resolve.specs.declared.scope.Scope.{Scope}
 use Rattle.fir_names.specs.working.Judged.{TabulatesEach}
 use Rattle.fir_resolve.specs.working.Namespaces.{Holds}
 use Rattle.fir_names.specs.working.Numbered.{names_of}
-use Rattle.fir_resolve.specs.working.Scoped.{Passes}
+use Rattle.fir_resolve.specs.working.Scoped.{Passes, Walks}
 use Rattle.fir_names.specs.working.Tabulated.{Tabulates}
+use Rattle.fir_resolve.proofs.PassedMentions.{passes_told}
 use Rattle.fir_names.proofs.FirstMentions.{head_silent, front_silent, front_told, mentions_behind, none_is, silent, told}
 
 -- the ports and the body of a module
@@ -28,34 +29,38 @@ module _ (modules : List PlacedName) (m : ModuleTree) (ports : List PortTree) (b
       ap (λ ps. ports_mentions at_head ps ++ block_mentions modules (behind_ports at_head ps) body) first
       ∙ ap (λ b. ports_mentions at_head m.ports ++ block_mentions modules (behind_ports at_head m.ports) b) second
 
-  pub ports_told : (old new : Scope) (f : Option FirFault) (x : FirFault) → f ≡ Some x
+  pub ports_told : (old new late : Scope) (f : Option FirFault) (x : FirFault) → f ≡ Some x
       → Passes modules old new (ports_mentions at_head ports) (behind_ports at_head ports) f
-      → first_of (faults_in (module_mentions modules m)) ≡ Some (fault_of x)
-  ports_told old new f x is p =
-      ap (λ ms. first_of (faults_in ms)) (sym parts_are)
-      ∙ sym (front_told f x (ports_mentions at_head ports) (block_mentions modules (behind_ports at_head ports) body) is p.first)
+      → Passes modules old late (module_mentions modules m) (behind_block (behind_ports at_head m.ports) m.body) (Some x)
+  ports_told old new late f x is p =
+      passes_told modules old late (module_mentions modules m) (behind_block (behind_ports at_head m.ports) m.body) x
+      (front_told f x (ports_mentions at_head ports) (block_mentions modules (behind_ports at_head ports) body) is p.first
+      ∙ ap (λ ms. first_of (faults_in ms)) parts_are)
 
-  pub body_told : (old new late : Scope) (f g : Option FirFault) (x : FirFault) → f ≡ None
-      → Passes modules old new (ports_mentions at_head ports) (behind_ports at_head ports) f → g ≡ Some x
+  pub body_passed : (old new late : Scope) (f g : Option FirFault) → f ≡ None
+      → Passes modules old new (ports_mentions at_head ports) (behind_ports at_head ports) f
       → Passes modules new late (block_mentions modules (behind_ports at_head ports) body) (behind_block (behind_ports at_head ports) body) g
-      → first_of (faults_in (module_mentions modules m)) ≡ Some (fault_of x)
-  body_told old new late f g x none p is q =
-      let b = block_mentions modules (behind_ports at_head ports) body in
-      ap (λ ms. first_of (faults_in ms)) (sym parts_are) ∙ front_silent f (ports_mentions at_head ports) b none p.first
-      ∙ sym (told g x (first_of (faults_in b)) is q.first)
+      → Passes modules old late (module_mentions modules m) (behind_block (behind_ports at_head m.ports) m.body) g
+  body_passed old new late f g none p q = record {
+    first =
+        q.first ∙ sym (front_silent f (ports_mentions at_head ports) (block_mentions modules (behind_ports at_head ports) body) none p.first)
+        ∙ ap (λ ms. first_of (faults_in ms)) parts_are;
+    walked = λ silent. subst (λ ps. Walks modules late (behind_block (behind_ports at_head ps) m.body)) first
+        (subst (λ s. Walks modules late (behind_block (behind_ports at_head ports) s)) second (q.walked silent));
+    still_open = λ silent. q.still_open silent ∙ p.still_open none;
+  }
 
-  pub module_passed : (old new late : Scope) (f g : Option FirFault) → f ≡ None
-      → Passes modules old new (ports_mentions at_head ports) (behind_ports at_head ports) f → g ≡ None
-      → Passes modules new late (block_mentions modules (behind_ports at_head ports) body) (behind_block (behind_ports at_head ports) body) g
-      → (faults_in (module_mentions modules m) ≡ []) × Tabulates modules late.names (declarations m)
-  module_passed old new late f g none p neither q =
-      let b = block_mentions modules (behind_ports at_head ports) body in (
-        none_is (faults_in (module_mentions modules m))
-            (silent g (first_of (faults_in b)) neither q.first ∙ sym (front_silent f (ports_mentions at_head ports) b none p.first)
-            ∙ ap (λ ms. first_of (faults_in ms)) parts_are),
-        subst (λ ps. Tabulates modules late.names (behind_block (behind_ports at_head ps) m.body).declared) first
-            (subst (λ s. Tabulates modules late.names (behind_block (behind_ports at_head ports) s).declared) second (q.walked neither).declared),
-      )
+-- a module
+module _ (modules : List PlacedName) (m : ModuleTree) (old new : Scope) (f : Option FirFault) where
+  pub module_told : (x : FirFault) → f ≡ Some x
+      → Passes modules old new (module_mentions modules m) (behind_block (behind_ports at_head m.ports) m.body) f
+      → first_of (faults_in (module_mentions modules m)) ≡ Some (fault_of x)
+  module_told x is p = sym (told f x (first_of (faults_in (module_mentions modules m))) is p.first)
+
+  pub module_passed : f ≡ None → Passes modules old new (module_mentions modules m) (behind_block (behind_ports at_head m.ports) m.body) f
+      → (faults_in (module_mentions modules m) ≡ []) × Tabulates modules new.names (declarations m)
+  module_passed none p =
+      (none_is (faults_in (module_mentions modules m)) (silent f (first_of (faults_in (module_mentions modules m))) none p.first), (p.walked none).declared)
 
 -- a table more
 pub each_more : (modules : List PlacedName) (ts : List Names) (ms : List ModuleTree) (t : Names) (m : ModuleTree) → TabulatesEach modules ts ms

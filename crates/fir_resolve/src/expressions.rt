@@ -54,12 +54,17 @@ pub fn in_expression(
     }
 }
 
-/// Notes of an expression that it names nothing itself, and gives what was found in it.
+/// Gives what was found in an expression that names nothing itself; where that is no fault, this is noted.
 fn with_note(noted: &mut Vec<usize>, found: Option<FirFault>) -> Result<Option<FirFault>, MemoryOut>
     ensures { IfOk result (λ f. f ≡ found) }
 {
-    noted.push(0)?;
-    Ok(found)
+    match found {
+        Some(fault) => Ok(Some(fault)),
+        None => {
+            noted.push(0)?;
+            Ok(None)
+        }
+    }
 }
 
 #[cycle(expressions)]

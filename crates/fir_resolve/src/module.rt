@@ -3,8 +3,8 @@
 ghost use Rattle.std.specs.Prelude.{◌≡◌, List, IfOk, map};
 ghost use Rattle.fir_ast.specs.Statements.{PlacedName};
 ghost use Rattle.fir_ast.specs.View.{module_of, port_of};
-ghost use Rattle.fir_meaning.specs.Visibility.{Before, behind_ports};
-ghost use Rattle.fir_meaning.specs.Mentions.{ports_mentions};
+ghost use Rattle.fir_meaning.specs.Visibility.{Before, at_head, behind_block, behind_ports};
+ghost use Rattle.fir_meaning.specs.Mentions.{module_mentions, ports_mentions};
 ghost use Rattle.fir_names.specs.working.Numbered.{HasNumbers};
 ghost use Rattle.fir_resolve.specs.working.Scoped.{Passes, Walks};
 ghost use Rattle.fir_names.specs.working.Judged.{JudgesModule};
@@ -26,14 +26,27 @@ pub fn in_module(
     ensures { (modules : List PlacedName) → HasNumbers numbers.now modules → JudgesModule modules (module_of part.now) result }
 {
     let mut scope = Scope::new(alloc);
-    if let Some(fault) = in_ports(alloc, &mut scope, &part.ports)? {
-        return Err(Refused::Fault(fault));
-    }
     let mut noted = Vec::new(alloc);
-    if let Some(fault) = in_block(&part.body, alloc, numbers, &mut scope, &mut noted)? {
-        return Err(Refused::Fault(fault));
+    match in_parts(alloc, numbers, &mut scope, &mut noted, part)? {
+        Some(fault) => Err(Refused::Fault(fault)),
+        None => Ok(scope.into_names(noted)),
     }
-    Ok(scope.into_names(noted))
+}
+
+/// The first fault of names in a module's ports, and then in its statements.
+fn in_parts(
+    alloc: Global,
+    numbers: &Numbers,
+    scope: &mut Scope,
+    noted: &mut Vec<usize>,
+    part: &Module,
+) -> Result<Option<FirFault>, MemoryOut>
+    ensures { IfOk result (λ f. (modules : List PlacedName) → HasNumbers numbers.now modules → Walks modules scope.old at_head → Passes modules scope.old scope.new (module_mentions modules (module_of part.now)) (behind_block (behind_ports at_head (module_of part.now).ports) (module_of part.now).body) f) }
+{
+    if let Some(fault) = in_ports(alloc, scope, &part.ports)? {
+        return Ok(Some(fault));
+    }
+    in_block(&part.body, alloc, numbers, scope, noted)
 }
 
 /// The first fault of names in ports, which are declared as they are passed.

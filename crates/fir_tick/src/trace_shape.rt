@@ -1,9 +1,10 @@
 //! The shape of a net's traces.
 
 ghost use Rattle.std.specs.Prelude.{◌≡◌, ◌++◌, IfOk, OnOk, option_map, count_by};
+ghost use Rattle.std.specs.Option.{option_to_list};
 ghost use Rattle.fir_net.specs.working.IsNet.{IsNet};
 ghost use Rattle.fir_tick.specs.working.Shapes.{IsShapeOf};
-ghost use Rattle.fir_tick.specs.working.StateWords.{input_widths, is_clock, state_word, state_words};
+ghost use Rattle.fir_tick.specs.working.StateWords.{input_width, input_widths, is_clock, state_word, state_words};
 
 use fir_ast::LeafId;
 use fir_base::{MemoryOut, Name};
@@ -36,11 +37,22 @@ fn input_widths(alloc: Global, leaves: &[Leaf]) -> Result<Vec<u32>, MemoryOut>
 {
     let mut widths = Vec::new(alloc);
     for leaf in leaves {
-        if leaf.role == Role::Input && leaf.width != 0 {
-            widths.push(leaf.width)?;
+        if let Some(width) = input_width(leaf) {
+            widths.push(width)?;
         }
     }
     Ok(widths)
+}
+
+/// The width of an input that has bits. Any other leaf has none.
+fn input_width(leaf: &Leaf) -> Option<u32>
+    ensures { option_to_list result ≡ input_width leaf.now.role leaf.now.width }
+{
+    let width = leaf.width;
+    match leaf.role {
+        Role::Input if width > 0 => Some(width),
+        _ => None,
+    }
 }
 
 fn clock_count(leaves: &[Leaf]) -> usize

@@ -4,9 +4,15 @@ use crate::entry::Entry;
 use std::marker::Model;
 
 /// Types, each under an id.
-#[derive(Drop)]
 pub struct TypeTable {
     pub(crate) entries: Vec<Entry>,
+}
+
+// Not derived, so that a drop is a call, which is proved once.
+impl Drop for TypeTable {
+    fn drop(self) {
+        let TypeTable { entries: _ } = self;
+    }
 }
 
 impl Model for TypeTable {

@@ -20,10 +20,19 @@ use std::marker::Model;
 
 /// A circuit in which no fault of types stands, with the types of what each module declares. Contracts see
 /// the tree that was given.
-#[derive(Drop)]
 pub struct Typed {
     named: Named,
     findings: Findings,
+}
+
+// Not derived, so that a drop is a call, which is proved once.
+impl Drop for Typed {
+    fn drop(self) {
+        let Typed {
+            named: _,
+            findings: _,
+        } = self;
+    }
 }
 
 impl Model for Typed {
@@ -73,13 +82,6 @@ impl Typed {
         ensures { IsTyped (circuit_of self.now) result.now }
     {
         &self.findings
-    }
-
-    /// The circuit with its names alone.
-    pub fn into_named(self) -> Named
-        ensures { result ≡ self }
-    {
-        self.named
     }
 
     /// The type of the declaration before which so many stand in the module with that number, from 0 on in

@@ -7,6 +7,7 @@ ghost use Rattle.fir_pass.specs.Groups.{IsClear};
 ghost use Rattle.fir_pass.specs.Law.{IfFault, IsFirst};
 ghost use Rattle.fir_meaning.specs.SourceMeaning.{circuit_meaning};
 ghost use Rattle.fir_meaning.specs.UndrivenGroup.{undriven_group};
+ghost use Rattle.fir_whens.specs.working.ModuleFaults.{AreAllDriven};
 ghost use Rattle.fir_whens.specs.working.NetCircuits.{AreNets};
 
 use crate::driven::check_driven;
@@ -29,14 +30,23 @@ pub fn lower_whens(
     ensures fault { IfFault result (λ f. IsFirst 9 9 (circuit_meaning (circuit_of circuit)) (fault_of f.0)) }
     ensures back { IfFault result (λ f. f.1 ≡ circuit) }
 {
-    match check_driven(alloc, &circuit) {
-        Ok(()) => {
-            let nets = module_nets(alloc, &circuit)?;
-            Ok(NetCircuit::new(circuit, nets))
-        }
+    match driven_nets(alloc, &circuit) {
+        Ok(nets) => Ok(NetCircuit::new(circuit, nets)),
         Err(Refused::Fault(fault)) => Err(Refused::Fault((fault, circuit))),
         Err(Refused::Memory) => Err(Refused::Memory),
     }
+}
+
+/// The nets of the modules, by their numbers, where no choice leaves a leaf undriven.
+fn driven_nets(alloc: Global, circuit: &LeafCircuit) -> Result<Vec<ModuleNet>, Refused<FirFault>>
+    ensures clear { IfOk result (λ nets. IsClear (undriven_group (circuit_of circuit.now))) }
+    ensures driven { IfOk result (λ nets. AreAllDriven (circuit_of circuit.now)) }
+    ensures nets { IfOk result (λ nets. AreNets (circuit_of circuit.now) nets.items) }
+    ensures fault { IfFault result (λ f. IsFirst 9 9 (circuit_meaning (circuit_of circuit.now)) (fault_of f)) }
+{
+    check_driven(alloc, circuit)?;
+    let nets = module_nets(alloc, circuit)?;
+    Ok(nets)
 }
 
 /// The nets of the modules, by their numbers.

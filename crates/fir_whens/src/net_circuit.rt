@@ -15,10 +15,16 @@ use std::marker::Model;
 
 /// A circuit in which every leaf is driven that statements must drive, with the nets of its modules. Contracts see the
 /// tree that was given.
-#[derive(Drop)]
 pub struct NetCircuit {
     leafed: LeafCircuit,
     nets: Vec<ModuleNet>,
+}
+
+// Not derived, so that a drop is a call, which is proved once.
+impl Drop for NetCircuit {
+    fn drop(self) {
+        let NetCircuit { leafed: _, nets: _ } = self;
+    }
 }
 
 impl Model for NetCircuit {
@@ -71,12 +77,5 @@ impl NetCircuit {
         roles_are_worth();
         roles_read_the_same();
         &self.nets
-    }
-
-    /// The circuit over its ground leaves alone.
-    pub fn into_leafed(self) -> LeafCircuit
-        ensures { result ≡ self }
-    {
-        self.leafed
     }
 }

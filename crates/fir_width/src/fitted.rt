@@ -19,11 +19,21 @@ use std::marker::Model;
 
 /// A circuit in which no width is over 128 bits and none illegal, with the widths of its leaves and with
 /// which of its Resets are asynchronous. Contracts see the tree that was given.
-#[derive(Drop)]
 pub struct Fitted {
     typed: Typed,
     resets: ResetMap,
     widths: Vec<u32>,
+}
+
+// Not derived, so that a drop is a call, which is proved once.
+impl Drop for Fitted {
+    fn drop(self) {
+        let Fitted {
+            typed: _,
+            resets: _,
+            widths: _,
+        } = self;
+    }
 }
 
 impl Model for Fitted {
@@ -77,13 +87,6 @@ impl Fitted {
         ensures { AreInferred (circuit_of self.now) result.now }
     {
         &self.resets
-    }
-
-    /// The circuit with its types alone.
-    pub fn into_typed(self) -> Typed
-        ensures { result ≡ self }
-    {
-        self.typed
     }
 }
 

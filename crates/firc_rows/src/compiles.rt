@@ -2,6 +2,7 @@
 
 use fir_base::{MemoryOut, Refused};
 use fir_compile::compile;
+use fir_fault_text::put_fault_line;
 use std::alloc::Global;
 use std::test::Fail;
 
@@ -13,7 +14,7 @@ fn told(alloc: Global, text: &[u8]) -> Result<Vec<u8>, MemoryOut> {
     }
     match compile(alloc, text) {
         Ok(_compiled) => {}
-        Err(Refused::Fault(fault)) => fault.put_line(alloc, &mut line)?,
+        Err(Refused::Fault(fault)) => put_fault_line(&fault, alloc, &mut line)?,
         Err(Refused::Memory) => return Err(MemoryOut),
     }
     Ok(line)

@@ -1,6 +1,6 @@
 //! What is left of the statuses where nothing fails.
 
-ghost use Rattle.fir_commands.specs.Command.{command_of};
+ghost use Rattle.fir_cli.specs.Command.{command_of};
 ghost use Rattle.firc_rows.specs.working.Left.{IsLeft};
 
 use fir_driver::run;

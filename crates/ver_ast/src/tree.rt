@@ -134,7 +134,6 @@ pub enum SignedOp {
 }
 
 /// A right side.
-#[derive(Drop)]
 pub enum Rhs {
     Atom(Atom),
     Unary(UnaryOp, Atom),
@@ -145,6 +144,20 @@ pub enum Rhs {
     SignedShift(Atom, Atom),
     /// `c ? a : b`: `a` where the condition `c` is 1, else `b` (IEEE 1364-2005, 5.1.13).
     Conditional(Atom, Atom, Atom),
+}
+
+// Not derived, so that a drop is a call, which is proved once.
+impl Drop for Rhs {
+    fn drop(self) {
+        match self {
+            Rhs::Atom(_)
+            | Rhs::Unary(_, _)
+            | Rhs::Binary(_, _, _)
+            | Rhs::Signed(_, _, _)
+            | Rhs::SignedShift(_, _)
+            | Rhs::Conditional(_, _, _) => {}
+        }
+    }
 }
 
 /// A continuous assignment (IEEE 1364-2005, 6.1).
@@ -173,9 +186,19 @@ pub enum Item {
 }
 
 /// A module: its name, its ports in order and its items in order.
-#[derive(Drop)]
 pub struct Verilog {
     pub name: Name,
     pub ports: Seq<Port>,
     pub items: Seq<Item>,
+}
+
+// Not derived, so that a drop is a call, which is proved once.
+impl Drop for Verilog {
+    fn drop(self) {
+        let Verilog {
+            name: _,
+            ports: _,
+            items: _,
+        } = self;
+    }
 }

@@ -10,7 +10,6 @@ use Rattle.fir_bits.specs.Operators.{flag, operation_value}
 use Rattle.fir_bits.specs.Widths.{width_of}
 use Rattle.fir_bits.proofs.Powers.{pow_le}
 use Rattle.fir_bits.specs.declared.operators.PrimOp.{PrimOp}
-use Rattle.fir_bits.specs.declared.operators.PrimOp.TheVariants as op
 use Rattle.fir_net.specs.working.Values.{at_width}
 use Rattle.ver_ast.specs.Atoms.{net, constant}
 use Rattle.ver_ast.specs.Nets.{Sized}
@@ -29,13 +28,13 @@ use Rattle.ver_build.proofs.Standing.{Stands, FitsSource, DeclaresInners, FitsIn
 use Rattle.ver_build.proofs.Fitted.{zero_env, zero_fits, held_as, holds_itself, holds_vector, whole_holds}
 use Rattle.ver_build.proofs.OperandAtoms.{Gives, constant_gives, net_gives, atom_gives}
 use Rattle.ver_build.proofs.RightSides.{Means, between_value, binary_side, choice_side, between_sound, between_is}
-use Rattle.ver_build.proofs.OperatorValues.{kind, division, operator_value, binary_operator, signed_operator, division_value}
+use Rattle.ver_build.proofs.OperatorValues.{IsOfKind, division, is_div, is_rem, operator_value, binary_operator, signed_operator, division_value}
 
 -- a net that keeps its equation has the value of its right side
 pub settled : (v : Option ℕ) (x n : ℕ) → v ≡ Some n → x ≡ unwrap_or v 0 → IsSome v × (x ≡ n)
 settled v x n is e = (subst IsSome (sym is) refl, e ∙ ap (λ w. unwrap_or w 0) is)
 
-module _ (nets : List Sized) (a b : Held) (is_a : Stands nets a) (is_b : Stands nets b) (o : PrimOp) (h : kind o ≡ division)
+module _ (nets : List Sized) (a b : Held) (is_a : Stands nets a) (is_b : Stands nets b) (o : PrimOp) (h : IsOfKind o division)
     (helpers : List (List ℕ)) (name : List ℕ) (r : ℕ) (some : 1 ≤ r) (narrow : r ≤ 128) where
   abbrev s : SignedOp
   s = signed_operator o
@@ -58,11 +57,10 @@ module _ (nets : List Sized) (a b : Held) (is_a : Stands nets a) (is_b : Stands 
   abbrev made : List Inner
   made = division_inners s p r a b helpers name
 
-  rules : (o : PrimOp) → kind o ≡ division
+  rules : (o : PrimOp) → IsOfKind o division
       → (signed_rule (signed_operator o) ≡ sides.arithmetic) × (binary_rule (binary_operator o) ≡ sides.arithmetic)
-  rules op.Div h = (refl, refl)
-  rules op.Rem h = (refl, refl)
-  rules o h = cc
+  rules o is_div = (refl, refl)
+  rules o is_rem = (refl, refl)
 
   w_some : 1 ≤ w
   w_some = omega arith

@@ -1,6 +1,6 @@
 -- What the nets of a node mean.
 -- They are sound, each reads what is known before it, and the last one has the node's value.
-use Rattle.std.proofs.Common.{◌≡◌, ◌≢◌, ℕ, ◌≤◌, Bool, List, [], ◌∷◌, ◌++◌, map, length, Ok, refl, sym, ap, ◌∙◌, subst, inl, inr, arith}
+use Rattle.std.proofs.Common.{◌≡◌, ℕ, ◌≤◌, Bool, List, [], ◌∷◌, ◌++◌, map, length, Ok, refl, sym, ap, ◌∙◌, subst, inl, inr, arith}
 use Rattle.std.specs.Prelude.{slice_index}
 use Rattle.std.specs.List.{AllByRecursion}
 use Rattle.fir_base.proofs.Each.{each_more}
@@ -31,17 +31,17 @@ use Rattle.ver_build.proofs.OperandLists.{first_stands, second_stands, all_stand
 use Rattle.ver_build.proofs.RightSides.{Means, choice_side}
 use Rattle.ver_build.proofs.OperationSides.{HasKinds, one_means}
 use Rattle.ver_build.proofs.DivisionNets.{settled, division_sound, division_means}
-use Rattle.ver_build.proofs.OperatorValues.{kind, division, binary_operator, signed_operator, at_width-own}
+use Rattle.ver_build.proofs.OperatorValues.{IsOfKind, division, is_div, is_rem, binary_operator, signed_operator, at_width-own}
 
 -- what holds of the nets of a division and of an operation with one net holds of those of each operation
 by_kind : (P : PrimOp → ℕ → List Inner → Type 0) (o : PrimOp) (r : ℕ) (a b : Held) (n m : ℕ) (helpers : List (List ℕ)) (name : List ℕ)
-    → (kind o ≡ division
+    → (IsOfKind o division
     → P o 3 (division_inners (signed_operator o) (binary_operator o) r a b helpers name))
-    → (kind o ≢ division → P o 0 (record { name = name; width = r; rhs = one_rhs o r a b n m } ∷ []))
+    → ((IsOfKind o division → ⊥) → P o 0 (record { name = name; width = r; rhs = one_rhs o r a b n m } ∷ []))
     → P o (helper_count o) (operation_inners o r a b n m helpers name)
-by_kind P op.Div r a b n m helpers name h k = h refl
-by_kind P op.Rem r a b n m helpers name h k = h refl
-by_kind P _ r a b n m helpers name h k = k (λ e. cc)
+by_kind P op.Div r a b n m helpers name h k = h is_div
+by_kind P op.Rem r a b n m helpers name h k = h is_rem
+by_kind P _ r a b n m helpers name h k = k (λ e. elim e [ ])
 
 -- what is known stays so
 more : (known : List (List ℕ)) (x : List ℕ) (h : Held) → IsKnown known h → IsKnown (x ∷ known) h
@@ -75,7 +75,7 @@ division_reads known a b is_a is_b o r helpers name =
     )
 
 -- an operation with one net, at the width of its type
-one_at : (nets : List Sized) (env : Env) (o : PrimOp) (a b : Held) (n m : ℕ) (t : NumTy) → kind o ≢ division → IsTyped o a b n m t → 1 ≤ t.width
+one_at : (nets : List Sized) (env : Env) (o : PrimOp) (a b : Held) (n m : ℕ) (t : NumTy) → (IsOfKind o division → ⊥) → IsTyped o a b n m t → 1 ≤ t.width
     → Stands nets a → Stands nets b → FitsSource env a.source → FitsSource env b.source
     → Means nets env t.width (operation_value o t.width (held_as env a) (held_as env b) n m) (one_rhs o t.width a b n m)
 one_at nets env o a b n m t h is some is_a is_b below_a below_b =
@@ -83,10 +83,9 @@ one_at nets env o a b n m t h is some is_a is_b below_a below_b =
     (one_means nets env a b is_a is_b below_a below_b n m o h is.kinds is.legal (subst (λ (r : ℕ). 1 ≤ r) is.width some)
     (subst (λ (r : ℕ). r ≤ 128) is.width is.narrow))
 
-division_kinds : (o : PrimOp) (s t : Bool) → kind o ≡ division → HasKinds (form_of o) s t → s ≡ t
-division_kinds op.Div s t h k = k
-division_kinds op.Rem s t h k = k
-division_kinds o s t h k = cc
+division_kinds : (o : PrimOp) (s t : Bool) → IsOfKind o division → HasKinds (form_of o) s t → s ≡ t
+division_kinds o s t is_div k = k
+division_kinds o s t is_rem k = k
 
 module _ (o : PrimOp) (ks : List ℕ) (hs : List Held) (helpers : List (List ℕ)) (name : List ℕ) where
   abbrev pub operation_nets : ℕ → List Inner

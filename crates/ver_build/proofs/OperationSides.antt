@@ -1,6 +1,6 @@
 -- What the right side of an operation with one net means.
 -- It is sound, and has the value of the operation on the numbers that the operands hold.
-use Rattle.std.proofs.Common.{◌≡◌, ◌≢◌, ℕ, ◌+◌, ◌-◌, ◌*◌, ◌/◌, ◌%◌, ◌^◌, ◌<◌, ◌≤◌, max, Bool, true, false, ◌⊎◌, ◌&&◌, not, if◌then◌else◌, List, ◌++◌, refl, sym, ◌∙◌, inl, inr, arith}
+use Rattle.std.proofs.Common.{◌≡◌, ℕ, ◌+◌, ◌-◌, ◌*◌, ◌/◌, ◌%◌, ◌^◌, ◌<◌, ◌≤◌, max, Bool, true, false, ◌⊎◌, ◌&&◌, not, if◌then◌else◌, List, ◌++◌, refl, sym, ◌∙◌, inl, inr, arith}
 use Rattle.std.specs.Prelude.{Some, nat_eq, nat_le, nat_lt, IsTrue}
 use Rattle.std.proofs.lemmas.Bool.{cond_both, and_cases, ltb-true, ltb-false, leb-true, and_parts, not-true, not-false, eqb-true, eqb-false}
 use Rattle.std.proofs.lemmas.Nat.{pow_pos}
@@ -34,7 +34,7 @@ use Rattle.ver_build.proofs.OperandAtoms.{Gives, AreBits, both_bits, zeros_bits,
 use Rattle.ver_build.proofs.FieldAtoms.{field_bits}
 use Rattle.ver_build.proofs.Choices.{if_equal}
 use Rattle.ver_build.proofs.RightSides.{between_value, Means, atom_side, unary_side, binary_side, shift_side, between_sound, between_is}
-use Rattle.ver_build.proofs.OperatorValues.{kind, division, order, equality, one_operand, copied, binary_operator, signed_operator, unary_operator, none_value, arithmetic_value, bitwise_value, order_value, equality_value, negative_value, unary_operation_value, unary_of_none, copied_value, at_width-unsigned, operator_value, shifted_value, dshl_value, dshr_value, shl_value, shr_bits, shr_sign, shr_nothing, head_value}
+use Rattle.ver_build.proofs.OperatorValues.{IsOfKind, division, order, equality, one_operand, copied, is_add, is_sub, is_mul, is_lt, is_leq, is_gt, is_geq, is_eq, is_neq, is_and, is_or, is_xor, is_not, is_andr, is_orr, is_xorr, is_pad, is_cvt, is_tail, is_as_uint, is_as_sint, is_as_async_reset, is_div, is_rem, binary_operator, signed_operator, unary_operator, none_value, arithmetic_value, bitwise_value, order_value, equality_value, negative_value, unary_operation_value, unary_of_none, copied_value, at_width-unsigned, operator_value, shifted_value, dshl_value, dshr_value, shl_value, shr_bits, shr_sign, shr_nothing, head_value}
 
 -- operands of one signedness, or a second one that is unsigned
 abbrev pub HasKinds : Form → Bool → Bool → Type 0
@@ -42,14 +42,13 @@ HasKinds form.Pair s t = s ≡ t
 HasKinds form.Shift s t = t ≡ false
 HasKinds _ s t = Unit {0}
 
-order_between : (o : PrimOp) → kind o ≡ order → (s : Bool) (r w x y : ℕ)
+order_between : (o : PrimOp) → IsOfKind o order → (s : Bool) (r w x y : ℕ)
     → operator_value s o w x y ≡ between_value s (signed_operator o) (binary_operator o) r w x y
 order_between o h true r w x y = refl
-order_between op.Lt h false r w x y = refl
-order_between op.Leq h false r w x y = refl
-order_between op.Gt h false r w x y = refl
-order_between op.Geq h false r w x y = refl
-order_between o h false r w x y = cc
+order_between o is_lt false r w x y = refl
+order_between o is_leq false r w x y = refl
+order_between o is_gt false r w x y = refl
+order_between o is_geq false r w x y = refl
 
 module _ (nets : List Sized) (env : Env) (a b : Held) (is_a : Stands nets a) (is_b : Stands nets b) (below_a : FitsSource env a.source)
     (below_b : FitsSource env b.source) (n m : ℕ) where
@@ -93,14 +92,14 @@ module _ (nets : List Sized) (env : Env) (a b : Held) (is_a : Stands nets a) (is
     w_narrow : w ≤ 128
     w_narrow = let narrow_a = is_a.narrow in let narrow_b = is_b.narrow in omega arith
 
-    equality_means : (o : PrimOp) → kind o ≡ equality → binary_rule (binary_operator o) ≡ sides.comparison
+    equality_means : (o : PrimOp) → IsOfKind o equality → binary_rule (binary_operator o) ≡ sides.comparison
         → IsFor o 1 (computed (binary_operator o) w a b)
     equality_means o h rule =
         binary_side nets env 1 w w _ _ (atom_at w a) (atom_at w b) (at_a w (omega arith) w_narrow) (at_b w (omega arith) w_narrow) _
         (binary_operator o)
         (rw rule (refl, refl)) (equality_value A B vector_a vector_b 1 n m w (omega arith) (omega arith) (sym same) o h 1)
 
-    order_means : (o : PrimOp) → kind o ≡ order → binary_rule (binary_operator o) ≡ sides.comparison
+    order_means : (o : PrimOp) → IsOfKind o order → binary_rule (binary_operator o) ≡ sides.comparison
         → signed_rule (signed_operator o) ≡ sides.comparison
         → IsFor o 1 (compared (signed_operator o) (binary_operator o) a b)
     order_means o h plain rule =
@@ -115,14 +114,14 @@ module _ (nets : List Sized) (env : Env) (a b : Held) (is_a : Stands nets a) (is
               ∙ order_value A B vector_a vector_b 1 n m w (omega arith) (omega arith) (sym same) o h;
         }
 
-  copied_means : (o : PrimOp) → kind o ≡ copied → IsTrue (is_legal o a.width n m)
+  copied_means : (o : PrimOp) → IsOfKind o copied → IsTrue (is_legal o a.width n m)
       → (let r = width_of o a.signed a.width b.width n m in 1 ≤ r → r ≤ 128 → IsFor o r (copied_rhs r a))
   copied_means o h legal some narrow =
       let r = width_of o a.signed a.width b.width n m in
       let value : operation_value o r A B n m ≡ at_width A r = copied_value A B vector_a n m o h legal in
       rw value (atom_side nets env r (at_width A r) (atom_at r a) (at_a r some narrow))
 
-  reduced_means : (o : PrimOp) → kind o ≡ one_operand → ((u : ℕ) → KeepsUnary (unary_operator o) 1 u) → none_value o < 2
+  reduced_means : (o : PrimOp) → IsOfKind o one_operand → ((u : ℕ) → KeepsUnary (unary_operator o) 1 u) → none_value o < 2
       → IsFor o 1 (reduced (unary_operator o) (none_value o) a)
   reduced_means o h rule small =
       if_equal (IsFor o 1) a.width 0 (rhs.Atom (constant 1 (none_value o))) (rhs.Unary (unary_operator o) (atom_at a.width a))
@@ -135,7 +134,7 @@ module _ (nets : List Sized) (env : Env) (a b : Held) (is_a : Stands nets a) (is
   not_means : 1 ≤ a.width → IsFor op.Not a.width (rhs.Unary unary.Not (atom_at a.width a))
   not_means some =
       unary_side nets env a.width a.width _ _ unary.Not (atom_at a.width a) refl (at_a a.width some is_a.narrow)
-      (unary_operation_value A B vector_a n m op.Not refl a.width)
+      (unary_operation_value A B vector_a n m op.Not is_not a.width)
 
   negative_means : (r : ℕ) → 1 ≤ r → r ≤ 128 → IsFor op.Neg r (rhs.Binary (constant r 0) binary.Sub (atom_at r a))
   negative_means r some narrow =
@@ -231,37 +230,37 @@ module _ (nets : List Sized) (env : Env) (a b : Held) (is_a : Stands nets a) (is
           (amount_is plain) _ binary.Shr refl value
 
   -- the operations with one net
-  pub one_means : (o : PrimOp) → kind o ≢ division → HasKinds (form_of o) a.signed b.signed → IsTrue (is_legal o a.width n m)
+  pub one_means : (o : PrimOp) → (IsOfKind o division → ⊥) → HasKinds (form_of o) a.signed b.signed → IsTrue (is_legal o a.width n m)
       → (let r = width_of o a.signed a.width b.width n m in 1 ≤ r → r ≤ 128 → IsFor o r (one_rhs o r a b n m))
-  one_means op.Add h k l s t = computed_means op.Add _ refl s t (arithmetic_value A B vector_a vector_b _ n m op.Add refl)
-  one_means op.Sub h k l s t = computed_means op.Sub _ refl s t (arithmetic_value A B vector_a vector_b _ n m op.Sub refl)
-  one_means op.Mul h k l s t = computed_means op.Mul _ refl s t (arithmetic_value A B vector_a vector_b _ n m op.Mul refl)
-  one_means op.Div h k l s t = absurd (h refl)
-  one_means op.Rem h k l s t = absurd (h refl)
-  one_means op.Lt h k l s t = order_means k op.Lt refl refl refl
-  one_means op.Leq h k l s t = order_means k op.Leq refl refl refl
-  one_means op.Gt h k l s t = order_means k op.Gt refl refl refl
-  one_means op.Geq h k l s t = order_means k op.Geq refl refl refl
-  one_means op.Eq h k l s t = equality_means k op.Eq refl refl
-  one_means op.Neq h k l s t = equality_means k op.Neq refl refl
-  one_means op.Pad h k l s t = copied_means op.Pad refl l s t
+  one_means op.Add h k l s t = computed_means op.Add _ refl s t (arithmetic_value A B vector_a vector_b _ n m op.Add is_add)
+  one_means op.Sub h k l s t = computed_means op.Sub _ refl s t (arithmetic_value A B vector_a vector_b _ n m op.Sub is_sub)
+  one_means op.Mul h k l s t = computed_means op.Mul _ refl s t (arithmetic_value A B vector_a vector_b _ n m op.Mul is_mul)
+  one_means op.Div h k l s t = absurd (h is_div)
+  one_means op.Rem h k l s t = absurd (h is_rem)
+  one_means op.Lt h k l s t = order_means k op.Lt is_lt refl refl
+  one_means op.Leq h k l s t = order_means k op.Leq is_leq refl refl
+  one_means op.Gt h k l s t = order_means k op.Gt is_gt refl refl
+  one_means op.Geq h k l s t = order_means k op.Geq is_geq refl refl
+  one_means op.Eq h k l s t = equality_means k op.Eq is_eq refl
+  one_means op.Neq h k l s t = equality_means k op.Neq is_neq refl
+  one_means op.Pad h k l s t = copied_means op.Pad is_pad l s t
   one_means op.Shl h k l s t = shl_means s t
   one_means op.Shr h k l s t = atom_side nets env _ _ _ (shifted_gives _ refl)
   one_means op.Dshl h k l s t = dshl_means k _ s t
   one_means op.Dshr h k l s t = dshr_means k s
-  one_means op.Cvt h k l s t = copied_means op.Cvt refl l s t
+  one_means op.Cvt h k l s t = copied_means op.Cvt is_cvt l s t
   one_means op.Neg h k l s t = negative_means _ s t
   one_means op.Not h k l s t = not_means s
-  one_means op.And h k l s t = computed_means op.And _ refl s t (bitwise_value A B vector_a vector_b _ n m op.And refl (omega arith) (omega arith))
-  one_means op.Or h k l s t = computed_means op.Or _ refl s t (bitwise_value A B vector_a vector_b _ n m op.Or refl (omega arith) (omega arith))
-  one_means op.Xor h k l s t = computed_means op.Xor _ refl s t (bitwise_value A B vector_a vector_b _ n m op.Xor refl (omega arith) (omega arith))
-  one_means op.Andr h k l s t = reduced_means op.Andr refl (λ u. refl) (omega arith)
-  one_means op.Orr h k l s t = reduced_means op.Orr refl (λ u. refl) (omega arith)
-  one_means op.Xorr h k l s t = reduced_means op.Xorr refl (λ u. refl) (omega arith)
+  one_means op.And h k l s t = computed_means op.And _ refl s t (bitwise_value A B vector_a vector_b _ n m op.And is_and (omega arith) (omega arith))
+  one_means op.Or h k l s t = computed_means op.Or _ refl s t (bitwise_value A B vector_a vector_b _ n m op.Or is_or (omega arith) (omega arith))
+  one_means op.Xor h k l s t = computed_means op.Xor _ refl s t (bitwise_value A B vector_a vector_b _ n m op.Xor is_xor (omega arith) (omega arith))
+  one_means op.Andr h k l s t = reduced_means op.Andr is_andr (λ u. refl) (omega arith)
+  one_means op.Orr h k l s t = reduced_means op.Orr is_orr (λ u. refl) (omega arith)
+  one_means op.Xorr h k l s t = reduced_means op.Xorr is_xorr (λ u. refl) (omega arith)
   one_means op.Cat h k l s t = cat_means s t
   one_means op.Bits h k l s t = let both = and_parts (nat_le m n) (nat_lt n a.width) l in bits_means (leb-true m n both.0) (ltb-true n a.width both.1)
   one_means op.Head h k l s t = head_means s (leb-true n a.width l)
-  one_means op.Tail h k l s t = copied_means op.Tail refl l s t
-  one_means op.AsUInt h k l s t = copied_means op.AsUInt refl l s t
-  one_means op.AsSInt h k l s t = copied_means op.AsSInt refl l s t
-  one_means op.AsAsyncReset h k l s t = copied_means op.AsAsyncReset refl l s t
+  one_means op.Tail h k l s t = copied_means op.Tail is_tail l s t
+  one_means op.AsUInt h k l s t = copied_means op.AsUInt is_as_uint l s t
+  one_means op.AsSInt h k l s t = copied_means op.AsSInt is_as_sint l s t
+  one_means op.AsAsyncReset h k l s t = copied_means op.AsAsyncReset is_as_async_reset l s t

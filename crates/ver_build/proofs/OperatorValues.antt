@@ -57,34 +57,32 @@ pub data Kind : Type 0 where
   one_operand : Kind
   copied : Kind
   division : Kind
-  other : Kind
 
-abbrev pub kind : PrimOp → Kind
-kind op.Add = arithmetic
-kind op.Sub = arithmetic
-kind op.Mul = arithmetic
-kind op.Lt = order
-kind op.Leq = order
-kind op.Gt = order
-kind op.Geq = order
-kind op.Eq = equality
-kind op.Neq = equality
-kind op.And = bitwise
-kind op.Or = bitwise
-kind op.Xor = bitwise
-kind op.Not = one_operand
-kind op.Andr = one_operand
-kind op.Orr = one_operand
-kind op.Xorr = one_operand
-kind op.Pad = copied
-kind op.Cvt = copied
-kind op.Tail = copied
-kind op.AsUInt = copied
-kind op.AsSInt = copied
-kind op.AsAsyncReset = copied
-kind op.Div = division
-kind op.Rem = division
-kind _ = other
+pub data IsOfKind : PrimOp → Kind → Type 0 where
+  is_add : IsOfKind op.Add arithmetic
+  is_sub : IsOfKind op.Sub arithmetic
+  is_mul : IsOfKind op.Mul arithmetic
+  is_lt : IsOfKind op.Lt order
+  is_leq : IsOfKind op.Leq order
+  is_gt : IsOfKind op.Gt order
+  is_geq : IsOfKind op.Geq order
+  is_eq : IsOfKind op.Eq equality
+  is_neq : IsOfKind op.Neq equality
+  is_and : IsOfKind op.And bitwise
+  is_or : IsOfKind op.Or bitwise
+  is_xor : IsOfKind op.Xor bitwise
+  is_not : IsOfKind op.Not one_operand
+  is_andr : IsOfKind op.Andr one_operand
+  is_orr : IsOfKind op.Orr one_operand
+  is_xorr : IsOfKind op.Xorr one_operand
+  is_pad : IsOfKind op.Pad copied
+  is_cvt : IsOfKind op.Cvt copied
+  is_tail : IsOfKind op.Tail copied
+  is_as_uint : IsOfKind op.AsUInt copied
+  is_as_sint : IsOfKind op.AsSInt copied
+  is_as_async_reset : IsOfKind op.AsAsyncReset copied
+  is_div : IsOfKind op.Div division
+  is_rem : IsOfKind op.Rem division
 
 -- the operator of the tree, between numbers; addition where there is none
 abbrev pub binary_operator : PrimOp → BinaryOp
@@ -146,32 +144,29 @@ module _ (a b : Num) (is_a : IsBitVector a.value) (is_b : IsBitVector b.value) (
   low_b : bits_of r (integer_of b) ≡ at_width b r
   low_b = bits_of-integer_of b r is_b
 
-  pub arithmetic_value : (o : PrimOp) → kind o ≡ arithmetic
+  pub arithmetic_value : (o : PrimOp) → IsOfKind o arithmetic
       → binary_value (binary_operator o) r (at_width a r) (at_width b r) ≡ Some (operation_value o r a b n m)
-  arithmetic_value op.Add h = rw (← low_a, ← low_b) (ap Some (sym (bits_of-sum r _ _)))
-  arithmetic_value op.Sub h = rw (← low_a, ← low_b) (ap Some (sym (bits_of-difference r _ _)))
-  arithmetic_value op.Mul h = rw (← low_a, ← low_b) (ap Some (sym (bits_of-product r _ _)))
-  arithmetic_value o h = cc
+  arithmetic_value o is_add = rw (← low_a, ← low_b) (ap Some (sym (bits_of-sum r _ _)))
+  arithmetic_value o is_sub = rw (← low_a, ← low_b) (ap Some (sym (bits_of-difference r _ _)))
+  arithmetic_value o is_mul = rw (← low_a, ← low_b) (ap Some (sym (bits_of-product r _ _)))
 
-  pub bitwise_value : (o : PrimOp) → kind o ≡ bitwise → a.value.width ≤ r → b.value.width ≤ r
+  pub bitwise_value : (o : PrimOp) → IsOfKind o bitwise → a.value.width ≤ r → b.value.width ≤ r
       → binary_value (binary_operator o) r (at_width a r) (at_width b r) ≡ Some (operation_value o r a b n m)
-  bitwise_value op.And h wide_a wide_b = let x = at_width-wider a r wide_a in let y = at_width-wider b r wide_b in rw (x, y) refl
-  bitwise_value op.Or h wide_a wide_b = let x = at_width-wider a r wide_a in let y = at_width-wider b r wide_b in rw (x, y) refl
-  bitwise_value op.Xor h wide_a wide_b = let x = at_width-wider a r wide_a in let y = at_width-wider b r wide_b in rw (x, y) refl
-  bitwise_value o h wide_a wide_b = cc
+  bitwise_value o is_and wide_a wide_b = let x = at_width-wider a r wide_a in let y = at_width-wider b r wide_b in rw (x, y) refl
+  bitwise_value o is_or wide_a wide_b = let x = at_width-wider a r wide_a in let y = at_width-wider b r wide_b in rw (x, y) refl
+  bitwise_value o is_xor wide_a wide_b = let x = at_width-wider a r wide_a in let y = at_width-wider b r wide_b in rw (x, y) refl
 
   -- an order of integers is that of the values that stand for them
-  ordered : (s : Bool) (o : PrimOp) → kind o ≡ order → (w x y : ℕ) → reading s w x ≡ integer_of a → reading s w y ≡ integer_of b
+  ordered : (s : Bool) (o : PrimOp) → IsOfKind o order → (w x y : ℕ) → reading s w x ≡ integer_of a → reading s w y ≡ integer_of b
       → operator_value s o w x y ≡ Some (operation_value o r a b n m)
-  ordered true op.Lt h w x y e f = rw (← e, ← f) refl
-  ordered true op.Leq h w x y e f = rw (← e, ← f) refl
-  ordered true op.Gt h w x y e f = rw (← e, ← f) refl
-  ordered true op.Geq h w x y e f = rw (← e, ← f) refl
-  ordered false op.Lt h w x y e f = rw (← e, ← f) refl
-  ordered false op.Leq h w x y e f = rw (← e, ← f) refl
-  ordered false op.Gt h w x y e f = rw (← e, ← f) refl
-  ordered false op.Geq h w x y e f = rw (← e, ← f) refl
-  ordered s o h w x y e f = cc
+  ordered true o is_lt w x y e f = rw (← e, ← f) refl
+  ordered true o is_leq w x y e f = rw (← e, ← f) refl
+  ordered true o is_gt w x y e f = rw (← e, ← f) refl
+  ordered true o is_geq w x y e f = rw (← e, ← f) refl
+  ordered false o is_lt w x y e f = rw (← e, ← f) refl
+  ordered false o is_leq w x y e f = rw (← e, ← f) refl
+  ordered false o is_gt w x y e f = rw (← e, ← f) refl
+  ordered false o is_geq w x y e f = rw (← e, ← f) refl
 
   -- comparisons are made at a width from that of each operand on
   module _ (w : ℕ) (wide_a : a.value.width ≤ w) (wide_b : b.value.width ≤ w) (same : b.signed ≡ a.signed) where
@@ -181,7 +176,7 @@ module _ (a b : Num) (is_a : IsBitVector a.value) (is_b : IsBitVector b.value) (
     read_b : reading a.signed w (at_width b w) ≡ integer_of b
     read_b = reading-at_width a.signed b w same is_b wide_b
 
-    pub order_value : (o : PrimOp) → kind o ≡ order
+    pub order_value : (o : PrimOp) → IsOfKind o order
         → operator_value a.signed o w (at_width a w) (at_width b w) ≡ Some (operation_value o r a b n m)
     order_value o h = ordered a.signed o h w (at_width a w) (at_width b w) read_a read_b
 
@@ -190,11 +185,10 @@ module _ (a b : Num) (is_a : IsBitVector a.value) (is_b : IsBitVector b.value) (
         same_integers a.signed w (at_width a w) (at_width b w) (at_width-below a w is_a) (at_width-below b w is_b)
         ∙ ap (λ z. int_eq z (reading a.signed w (at_width b w))) read_a ∙ ap (int_eq (integer_of a)) read_b
 
-    pub equality_value : (o : PrimOp) → kind o ≡ equality → (target : ℕ)
+    pub equality_value : (o : PrimOp) → IsOfKind o equality → (target : ℕ)
         → binary_value (binary_operator o) target (at_width a w) (at_width b w) ≡ Some (operation_value o r a b n m)
-    equality_value op.Eq h target = ap (λ t. Some (flag t)) equal
-    equality_value op.Neq h target = ap (λ t. Some (flag (not t))) equal
-    equality_value o h target = cc
+    equality_value o is_eq target = ap (λ t. Some (flag t)) equal
+    equality_value o is_neq target = ap (λ t. Some (flag (not t))) equal
 
 -- operations that read the integer of one operand
 module _ (a b : Num) (is_a : IsBitVector a.value) (n m : ℕ) where
@@ -239,35 +233,32 @@ module _ (a b : Num) (is_a : IsBitVector a.value) (n m : ℕ) where
   pub head_value : n ≤ a.value.width → operation_value op.Head n a b n m ≡ a.value.number / 2 ^ (a.value.width - n) % 2 ^ n
   head_value h = high n (a.value.width - n) (omega arith)
 
-  pub unary_operation_value : (o : PrimOp) → kind o ≡ one_operand → (r : ℕ)
+  pub unary_operation_value : (o : PrimOp) → IsOfKind o one_operand → (r : ℕ)
       → unary_value (unary_operator o) a.value.width (at_width a a.value.width) ≡ operation_value o r a b n m
-  unary_operation_value op.Not h r = ap (complement a.value.width) (at_width-own a)
-  unary_operation_value op.Andr h r = ap (λ x. flag (x == 2 ^ a.value.width - 1)) (at_width-own a)
-  unary_operation_value op.Orr h r = ap (λ x. flag (not (x == 0))) (at_width-own a)
-  unary_operation_value op.Xorr h r = ap (λ x. count_ones x % 2) (at_width-own a)
-  unary_operation_value o h r = cc
+  unary_operation_value o is_not r = ap (complement a.value.width) (at_width-own a)
+  unary_operation_value o is_andr r = ap (λ x. flag (x == 2 ^ a.value.width - 1)) (at_width-own a)
+  unary_operation_value o is_orr r = ap (λ x. flag (not (x == 0))) (at_width-own a)
+  unary_operation_value o is_xorr r = ap (λ x. count_ones x % 2) (at_width-own a)
 
   -- of no bits
-  pub unary_of_none : (o : PrimOp) → kind o ≡ one_operand → (r : ℕ) → a.value.width ≡ 0 → none_value o ≡ operation_value o r a b n m
+  pub unary_of_none : (o : PrimOp) → IsOfKind o one_operand → (r : ℕ) → a.value.width ≡ 0 → none_value o ≡ operation_value o r a b n m
   unary_of_none o h r none = of_none o h (omega (arith, rw none at is_a.below))
     where
-      of_none : (o : PrimOp) → kind o ≡ one_operand → a.value.number ≡ 0 → none_value o ≡ operation_value o r a b n m
-      of_none op.Not h e = rw (e, none) refl
-      of_none op.Andr h e = rw (e, none) refl
-      of_none op.Orr h e = rw e refl
-      of_none op.Xorr h e = let ones : count_ones 0 ≡ 0 = omega (arith, ones_le_self 0) in rw (e, ones) refl
-      of_none o h e = cc
+      of_none : (o : PrimOp) → IsOfKind o one_operand → a.value.number ≡ 0 → none_value o ≡ operation_value o r a b n m
+      of_none o is_not e = rw (e, none) refl
+      of_none o is_andr e = rw (e, none) refl
+      of_none o is_orr e = rw e refl
+      of_none o is_xorr e = let ones : count_ones 0 ≡ 0 = omega (arith, ones_le_self 0) in rw (e, ones) refl
 
   -- the result is the operand at the result's width
-  pub copied_value : (o : PrimOp) → kind o ≡ copied → IsTrue (is_legal o a.value.width n m)
+  pub copied_value : (o : PrimOp) → IsOfKind o copied → IsTrue (is_legal o a.value.width n m)
       → (let r = width_of o a.signed a.value.width b.value.width n m in operation_value o r a b n m ≡ at_width a r)
-  copied_value op.Pad h legal = sym (at_width-wider a (max a.value.width n) (omega arith))
-  copied_value op.Cvt h legal = bits_of-integer_of a _ is_a
-  copied_value op.Tail h legal = sym (fitted-narrower a.signed a.value.width a.value.number (a.value.width - n) is_a.below (omega arith))
-  copied_value op.AsUInt h legal = sym (at_width-own a)
-  copied_value op.AsSInt h legal = sym (at_width-own a)
-  copied_value op.AsAsyncReset h legal = let one : a.value.width ≡ 1 = eqb-true _ _ legal in sym (at_width-own a) ∙ ap (at_width a) one
-  copied_value o h legal = cc
+  copied_value o is_pad legal = sym (at_width-wider a (max a.value.width n) (omega arith))
+  copied_value o is_cvt legal = bits_of-integer_of a _ is_a
+  copied_value o is_tail legal = sym (fitted-narrower a.signed a.value.width a.value.number (a.value.width - n) is_a.below (omega arith))
+  copied_value o is_as_uint legal = sym (at_width-own a)
+  copied_value o is_as_sint legal = sym (at_width-own a)
+  copied_value o is_as_async_reset legal = let one : a.value.width ≡ 1 = eqb-true _ _ legal in sym (at_width-own a) ∙ ap (at_width a) one
 
 -- the quotient or the remainder of integers, where the divisor is not 0
 abbrev int_division : PrimOp → ℤ → ℤ → ℤ
@@ -279,21 +270,18 @@ abbrev total_division : PrimOp → ℤ → ℤ → ℤ
 total_division op.Rem x y = remainder x y
 total_division _ x y = quotient x y
 
-total_division-some : (o : PrimOp) → kind o ≡ division → (x y : ℤ) → int_eq y (pos 0) ≡ false → total_division o x y ≡ int_division o x y
-total_division-some op.Div h x y some = quotient_is x y some
-total_division-some op.Rem h x y some = remainder_is x y some
-total_division-some o h x y some = cc
+total_division-some : (o : PrimOp) → IsOfKind o division → (x y : ℤ) → int_eq y (pos 0) ≡ false → total_division o x y ≡ int_division o x y
+total_division-some o is_div x y some = quotient_is x y some
+total_division-some o is_rem x y some = remainder_is x y some
 
-total_division-zero : (o : PrimOp) → kind o ≡ division → (x : ℤ) → total_division o x (pos 0) ≡ pos 0
-total_division-zero op.Div h x = refl
-total_division-zero op.Rem h x = refl
-total_division-zero o h x = cc
+total_division-zero : (o : PrimOp) → IsOfKind o division → (x : ℤ) → total_division o x (pos 0) ≡ pos 0
+total_division-zero o is_div x = refl
+total_division-zero o is_rem x = refl
 
-int_division-within : (o : PrimOp) → kind o ≡ division → (v u w n m : ℕ) (x y : ℤ) → width_of o true v u n m ≤ w → v ≤ w → IsWithin v x
+int_division-within : (o : PrimOp) → IsOfKind o division → (v u w n m : ℕ) (x y : ℤ) → width_of o true v u n m ≤ w → v ≤ w → IsWithin v x
     → IsWithin w (int_division o x y)
-int_division-within op.Div h v u w n m x y room wide is = int_div-within v w x y (omega arith) is
-int_division-within op.Rem h v u w n m x y room wide is = int_rem-within w x y (within-wider v w x wide is)
-int_division-within o h v u w n m x y room wide is = cc
+int_division-within o is_div v u w n m x y room wide is = int_div-within v w x y (omega arith) is
+int_division-within o is_rem v u w n m x y room wide is = int_rem-within w x y (within-wider v w x wide is)
 
 -- the net of a division by a number that is not 0
 record IsDivisionNet (s : Bool) (w : ℕ) (value : Option ℕ) (z : ℤ) : Type 0 where
@@ -302,23 +290,21 @@ record IsDivisionNet (s : Bool) (w : ℕ) (value : Option ℕ) (z : ℤ) : Type 
   below : number < 2 ^ w
   reads : reading s w number ≡ z
 
-signed_division : (o : PrimOp) → kind o ≡ division → (w : ℕ) → 1 ≤ w → (x y : ℤ) → int_eq y (pos 0) ≡ false → IsWithin w (int_division o x y)
+signed_division : (o : PrimOp) → IsOfKind o division → (w : ℕ) → 1 ≤ w → (x y : ℤ) → int_eq y (pos 0) ≡ false → IsWithin w (int_division o x y)
     → signed_value (signed_operator o) w x y ≡ Some (bits_of w (int_division o x y))
-signed_division op.Div h w some x y apart is = let fits = fits_within w (int_div x y) some is in rw (apart, fits) refl
-signed_division op.Rem h w some x y apart is = rw apart refl
-signed_division o h w some x y apart is = cc
+signed_division o is_div w some x y apart is = let fits = fits_within w (int_div x y) some is in rw (apart, fits) refl
+signed_division o is_rem w some x y apart is = rw apart refl
 
-unsigned_division : (o : PrimOp) → kind o ≡ division → (w x d : ℕ) → x < 2 ^ w → 0 < d
+unsigned_division : (o : PrimOp) → IsOfKind o division → (w x d : ℕ) → x < 2 ^ w → 0 < d
     → IsDivisionNet false w (operator_value false o w x d) (int_division o (pos x) (pos d))
-unsigned_division op.Div h w x d below some =
+unsigned_division o is_div w x d below some =
     let apart = ne_eqb d 0 (λ e. omega arith) in
     record { number = x / d; is = rw apart refl; below = omega (arith, div-le_self x d); reads = refl }
-unsigned_division op.Rem h w x d below some =
+unsigned_division o is_rem w x d below some =
     let apart = ne_eqb d 0 (λ e. omega arith) in
     record { number = x % d; is = rw apart refl; below = omega (arith, mod-le x d); reads = refl }
-unsigned_division o h w x d below some = cc
 
-division_net : (o : PrimOp) → kind o ≡ division → (s : Bool) (w x d : ℕ) → 1 ≤ w → x < 2 ^ w → d < 2 ^ w → 0 < d
+division_net : (o : PrimOp) → IsOfKind o division → (s : Bool) (w x d : ℕ) → 1 ≤ w → x < 2 ^ w → d < 2 ^ w → 0 < d
     → (s ≡ true → (y : ℤ) → IsWithin w (int_division o (reading true w x) y))
     → IsDivisionNet s w (operator_value s o w x d) (int_division o (reading s w x) (reading s w d))
 division_net o h false w x d one below_x below_d some room = unsigned_division o h w x d below_x some
@@ -339,7 +325,7 @@ pub record IsDivided (s : Bool) (w r test : ℕ) (value : Option ℕ) (result : 
   pub below : number < 2 ^ w
   pub guarded : (if test == 1 then 0 else fitted s w number r) ≡ result
 
-divided : (o : PrimOp) → kind o ≡ division → (s : Bool) (w r x y : ℕ) → 1 ≤ w → x < 2 ^ w → y < 2 ^ w
+divided : (o : PrimOp) → IsOfKind o division → (s : Bool) (w r x y : ℕ) → 1 ≤ w → x < 2 ^ w → y < 2 ^ w
     → (s ≡ true → (z : ℤ) → IsWithin w (int_division o (reading true w x) z))
     → IsDivided s w r (flag (y == 0)) (operator_value s o w x (if flag (y == 0) == 1 then 1 else y))
     (bits_of r (total_division o (reading s w x) (reading s w y)))
@@ -370,15 +356,14 @@ divided o h s w r x y one below_x below_y room = by (y == 0) refl
               ∙ ap (bits_of r) (p.reads ∙ sym (total_division-some o h (reading s w x) (reading s w y) (reading-some s w y below_y some)));
         }
 
-total_division-value : (o : PrimOp) → kind o ≡ division → (r : ℕ) (a b : Num) (n m : ℕ) (x y : ℤ) → x ≡ integer_of a → y ≡ integer_of b
+total_division-value : (o : PrimOp) → IsOfKind o division → (r : ℕ) (a b : Num) (n m : ℕ) (x y : ℤ) → x ≡ integer_of a → y ≡ integer_of b
     → bits_of r (total_division o x y) ≡ operation_value o r a b n m
-total_division-value op.Div h r a b n m x y e f = rw (e, f) refl
-total_division-value op.Rem h r a b n m x y e f = rw (e, f) refl
-total_division-value o h r a b n m x y e f = cc
+total_division-value o is_div r a b n m x y e f = rw (e, f) refl
+total_division-value o is_rem r a b n m x y e f = rw (e, f) refl
 
 -- a division is made at the greatest width of the operands and the result, and its divisor is 1 in place of 0
 module _ (a b : Num) (is_a : IsBitVector a.value) (is_b : IsBitVector b.value) (same : b.signed ≡ a.signed) (n m : ℕ) where
-  pub division_value : (o : PrimOp) → kind o ≡ division → (r w : ℕ) → r ≡ width_of o a.signed a.value.width b.value.width n m
+  pub division_value : (o : PrimOp) → IsOfKind o division → (r w : ℕ) → r ≡ width_of o a.signed a.value.width b.value.width n m
       → w ≡ max r (max a.value.width b.value.width) → 1 ≤ r
       → (let test = flag (at_width b w == 0) in
       IsDivided a.signed w r test (operator_value a.signed o w (at_width a w) (if test == 1 then 1 else at_width b w)) (operation_value o r a b n m))

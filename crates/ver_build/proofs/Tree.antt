@@ -58,7 +58,12 @@ in_parts net t p order all put =
     (map (λ (i : Inner). item.Assign (inner_assign i)) (inners net p order)) (along (given item.Assign (leaf_assign p)) t.leaves 0 net.leaves)
     (along (given item.Always (leaf_block t p)) t.leaves 0 net.leaves))
 
-pub tree_built : (net : FlatNet) (t : NameTable) (p : Places) (order : List Read) (v : Verilog) → v.name ≡ t.circuit
-    → v.ports ≡ along leaf_port t.leaves 0 net.leaves → PutItems net t p order v.items → v ≡ built net t p order
+pub items_built : (net : FlatNet) (t : NameTable) (p : Places) (order : List Read) (all : List Item) → PutItems net t p order all
+    → all ≡ (built net t p order).items
 unfolding built
-tree_built net t p order v name ports put = rw (name, ports, in_parts net t p order v.items put) refl
+items_built net t p order all put = in_parts net t p order all put
+
+pub tree_built : (net : FlatNet) (t : NameTable) (p : Places) (order : List Read) (v : Verilog) → v.name ≡ t.circuit
+    → v.ports ≡ along leaf_port t.leaves 0 net.leaves → v.items ≡ (built net t p order).items → v ≡ built net t p order
+unfolding built
+tree_built net t p order v name ports items = rw (name, ports, items) refl

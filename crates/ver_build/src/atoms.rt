@@ -61,15 +61,27 @@ pub fn shifted(alloc: Global, width: u32, by: u128, held: Held) -> Result<Atom, 
     ensures { IfOk result (λ r. r ≡ side_by_side (shifted width by held)) }
 {
     let mut out = Vec::new(alloc);
+    put_shifted(alloc, &mut out, width, by, held)?;
+    side_by_side(alloc, out)
+}
+
+fn put_shifted(
+    alloc: Global,
+    out: &mut Vec<Atom>,
+    width: u32,
+    by: u128,
+    held: Held,
+) -> Result<(), MemoryOut>
+    ensures { OnOk result (out.new.items ≡ out.old.items ++ shifted width by held) }
+{
     let top = u128::from(held.width).saturating_sub(1);
     if by < u128::from(held.width) {
-        put_field(alloc, &mut out, width, top, by, held)?;
+        put_field(alloc, out, width, top, by, held)
     } else if held.signed && held.width != 0 {
-        put_field(alloc, &mut out, 1, top, top, held)?;
+        put_field(alloc, out, 1, top, top, held)
     } else {
-        put_zeros(&mut out, width)?;
+        put_zeros(out, width)
     }
-    side_by_side(alloc, out)
 }
 
 fn put_field(
@@ -82,12 +94,27 @@ fn put_field(
 ) -> Result<(), MemoryOut>
     ensures { OnOk result (out.new.items ≡ out.old.items ++ field width hi lo held) }
 {
-    match &held.source {
+    put_source_field(alloc, out, held.signed, width, hi, lo, &held.source)
+}
+
+/// The bits from `hi` down to `lo`, as many as `width`, of a value that is extended by its sign or by zeros.
+fn put_source_field(
+    alloc: Global,
+    out: &mut Vec<Atom>,
+    signed: bool,
+    width: u32,
+    hi: u128,
+    lo: u128,
+    source: &Source,
+) -> Result<(), MemoryOut>
+    ensures { OnOk result (out.new.items ≡ out.old.items ++ source_field signed width hi lo source.now) }
+{
+    match source {
         Source::Number(value) => {
             let field = low_bits(width, shifted_right(value.bits(), lo));
             out.push(constant(width, field))?;
         }
-        Source::Net(part) => put_net_field(alloc, out, held.signed, width, hi, lo, part)?,
+        Source::Net(part) => put_net_field(alloc, out, signed, width, hi, lo, part)?,
     }
     Ok(())
 }
@@ -121,13 +148,27 @@ fn put_parts(alloc: Global, out: &mut Vec<Atom>, held: Held) -> Result<(), Memor
     ensures { OnOk result (out.new.items ≡ out.old.items ++ parts held) }
 {
     if held.width == 0 {
-        return Ok(());
+        Ok(())
+    } else {
+        put_source_parts(alloc, out, held.signed, held.width, &held.source)
     }
-    match &held.source {
-        Source::Number(value) => out.push(constant(held.width, value.bits()))?,
+}
+
+/// What a value of so many bits, at least one, puts into a concatenation.
+fn put_source_parts(
+    alloc: Global,
+    out: &mut Vec<Atom>,
+    signed: bool,
+    width: u32,
+    source: &Source,
+) -> Result<(), MemoryOut>
+    ensures { OnOk result (out.new.items ≡ out.old.items ++ source_parts signed width source.now) }
+{
+    match source {
+        Source::Number(value) => out.push(constant(width, value.bits()))?,
         Source::Net(part) => {
-            let above = held.width.saturating_sub(part.kept);
-            put_extension(alloc, out, held.signed, part, above)?;
+            let above = width.saturating_sub(part.kept);
+            put_extension(alloc, out, signed, part, above)?;
             out.push(kept_bits(alloc, part)?)?;
         }
     }

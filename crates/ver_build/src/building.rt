@@ -18,7 +18,7 @@ use fir_net::laws::{nodes_have_their_types, nodes_have_their_values, ordered_has
 use fir_net::{FlatNet, Read};
 use fir_net_names::{NameTable, names};
 use std::alloc::Global;
-use ver_ast::{Verilog, valid_has_one_rest};
+use ver_ast::{Item, Verilog, valid_has_one_rest};
 
 /// The tree of the net with these names and places: nets for each operation and mux, an assign for each of
 /// these and each output, and a block for each register that something drives on a clock.
@@ -31,6 +31,26 @@ pub fn built_tree(
 ) -> Result<Verilog, MemoryOut>
     ensures { IfOk result (λ v. v ≡ built net.now table.now places.now order.now) }
 {
+    let name = table.module_name().copy(alloc)?;
+    let ports = ports_of(alloc, net, table)?;
+    let items = items_of(alloc, net, table, places, order)?;
+    Ok(Verilog {
+        name,
+        ports: Seq::from_vec(ports),
+        items: Seq::from_vec(items),
+    })
+}
+
+/// The items of that tree: registers, then wires, then assigns, then blocks.
+fn items_of(
+    alloc: Global,
+    net: &FlatNet,
+    table: &NameTable,
+    places: &Places,
+    order: &[Read],
+) -> Result<Vec<Item>, MemoryOut>
+    ensures { IfOk result (λ v. v.items ≡ (built net.now table.now places.now order.now).items) }
+{
     let inners = inners_of(alloc, net, places, order)?;
     // A wire and an assign for each of them.
     let mut items = Vec::with_capacity(alloc, inners.len().saturating_mul(2))?;
@@ -39,11 +59,7 @@ pub fn built_tree(
     put_inner_assigns(&mut items, inners)?;
     put_output_assigns(alloc, &mut items, net, table, places)?;
     put_blocks(alloc, &mut items, net, table, places)?;
-    Ok(Verilog {
-        name: table.module_name().copy(alloc)?,
-        ports: Seq::from_vec(ports_of(alloc, net, table)?),
-        items: Seq::from_vec(items),
-    })
+    Ok(items)
 }
 
 /// The Verilog tree of a whole net: valid, named by the table of names, arranged by kind with a block for each

@@ -2,7 +2,8 @@
 
 ghost use Rattle.std.specs.Prelude.{◌≡◌, ◌++◌, IfOk, OnOk, option_map, map, unwrap_or, []};
 ghost use Rattle.ver_ast.specs.declared.tree.Item.TheVariants as item;
-ghost use Rattle.ver_build.specs.working.Places.{name_at};
+ghost use Rattle.ver_build.specs.working.Operands.{atom_at};
+ghost use Rattle.ver_build.specs.working.Places.{held_of, name_at};
 ghost use Rattle.ver_build.specs.working.Built.{inners, read_inners, leaf_port, leaf_reg, leaf_assign, leaf_block, inner_wire, inner_assign, along, given};
 
 use crate::atoms::atom_at;
@@ -14,7 +15,7 @@ use fir_base::{Direction, MemoryOut, Name};
 use fir_net::{FlatNet, Leaf, Read, Role};
 use fir_net_names::NameTable;
 use std::alloc::Global;
-use ver_ast::{Always, Assign, Item, Net, Port, Rhs};
+use ver_ast::{Always, Assign, Atom, Item, Net, Port, Rhs};
 use ver_words::Signal;
 
 /// The ports of the leaves that have a name.
@@ -182,11 +183,9 @@ fn put_output_assign(
 {
     match (leaf.role, name) {
         (Role::Output(read), Some(name)) => {
-            let source = atom_at(alloc, leaf.width, places.held(alloc, read)?)?;
-            items.push(Item::Assign(Assign {
-                target: name.copy(alloc)?,
-                rhs: Rhs::Atom(source),
-            }))?;
+            let target = name.copy(alloc)?;
+            let rhs = Rhs::Atom(source_at(alloc, places, leaf.width, read)?);
+            items.push(Item::Assign(Assign { target, rhs }))?;
         }
         _ => (),
     }
@@ -231,16 +230,39 @@ fn put_block(
         return Ok(());
     };
     if let (Some(clock), Some(read)) = (places.clock(register.clock), register.next) {
-        let clock = clock_name(alloc, table, clock)?;
-        let target = name.copy(alloc)?;
-        let source = atom_at(alloc, leaf.width, places.held(alloc, read)?)?;
-        items.push(Item::Always(Always {
-            clock,
-            target,
-            source,
-        }))?;
+        let block = block_on(alloc, table, places, leaf.width, clock, read, name)?;
+        items.push(Item::Always(block))?;
     }
     Ok(())
+}
+
+/// The block that gives the net of that name and width what is read, on that clock.
+fn block_on(
+    alloc: Global,
+    table: &NameTable,
+    places: &Places,
+    width: u32,
+    clock: LeafId,
+    read: Read,
+    name: &Name,
+) -> Result<Always, MemoryOut>
+    ensures { IfOk result (λ b. b ≡ record { clock = unwrap_or (name_at table.now.leaves clock) []; target = name.now; source = atom_at width (held_of places.now read) }) }
+{
+    let clock = clock_name(alloc, table, clock)?;
+    let target = name.copy(alloc)?;
+    let source = source_at(alloc, places, width, read)?;
+    Ok(Always {
+        clock,
+        target,
+        source,
+    })
+}
+
+/// What is read, at that width.
+fn source_at(alloc: Global, places: &Places, width: u32, read: Read) -> Result<Atom, MemoryOut>
+    ensures { IfOk result (λ a. a ≡ atom_at width (held_of places.now read)) }
+{
+    atom_at(alloc, width, places.held(alloc, read)?)
 }
 
 /// The name of a clock's leaf; a whole net has one for each clock input.

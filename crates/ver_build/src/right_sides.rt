@@ -42,18 +42,34 @@ pub fn node_inners(
 {
     match node {
         Node::Literal(_) => Ok(Vec::new(alloc)),
-        Node::Operation(o) => {
-            let a = operand(alloc, places, o.reads.as_slice(), 0)?;
-            let b = operand(alloc, places, o.reads.as_slice(), 1)?;
-            operation_inners(alloc, o, a, b, helpers, name)
-        }
-        Node::Mux(m) => {
-            let name = name.copy(alloc)?;
-            let rhs = choice(alloc, places, m)?;
-            let width = m.width;
-            one_inner(alloc, Inner { name, width, rhs })
-        }
+        Node::Operation(o) => operation_inners(alloc, places, o, helpers, name),
+        Node::Mux(m) => mux_inners(alloc, places, m, name),
     }
+}
+
+fn mux_inners(alloc: Global, places: &Places, m: &Mux, name: &Name) -> Result<Vec<Inner>, MemoryOut>
+    ensures { IfOk result (λ v. v.items ≡ record { name = name.now; width = m.now.width; rhs = mux_rhs m.now.width (map (held_of places.now) m.now.reads) } ∷ []) }
+{
+    let name = name.copy(alloc)?;
+    let rhs = choice(alloc, places, m)?;
+    let width = m.width;
+    one_inner(alloc, Inner { name, width, rhs })
+}
+
+fn operation_inners(
+    alloc: Global,
+    places: &Places,
+    o: &Operation,
+    helpers: &[Name],
+    name: &Name,
+) -> Result<Vec<Inner>, MemoryOut>
+    ensures { IfOk result (λ v. v.items ≡ text.operation_inners o.now.op o.now.width
+        (slice_index_or (map (held_of places.now) o.now.reads) 0 no_bits) (slice_index_or (map (held_of places.now) o.now.reads) 1 no_bits)
+        (slice_index o.now.integers 0) (slice_index o.now.integers 1) helpers.now name.now) }
+{
+    let a = operand(alloc, places, o.reads.as_slice(), 0)?;
+    let b = operand(alloc, places, o.reads.as_slice(), 1)?;
+    computed_inners(alloc, o, a, b, helpers, name)
 }
 
 /// The operand of that number, or one of no bits.
@@ -89,7 +105,8 @@ fn operand_at(
     atom_at(alloc, width, operand(alloc, places, reads, k)?)
 }
 
-fn operation_inners(
+/// The nets of an operation on these operands.
+fn computed_inners(
     alloc: Global,
     o: &Operation,
     a: Held,
@@ -120,20 +137,26 @@ fn operation_inners(
             helpers,
             name,
         ),
-        _ => {
-            let name = name.copy(alloc)?;
-            let integers = o.integers.as_slice();
-            let rhs = one_rhs(alloc, o.op, r, a, b, at(integers, 0), at(integers, 1))?;
-            one_inner(
-                alloc,
-                Inner {
-                    name,
-                    width: r,
-                    rhs,
-                },
-            )
-        }
+        _ => only_inner(alloc, o, a, b, name),
     }
+}
+
+/// The net of an operation that has no other.
+fn only_inner(
+    alloc: Global,
+    o: &Operation,
+    a: Held,
+    b: Held,
+    name: &Name,
+) -> Result<Vec<Inner>, MemoryOut>
+    ensures { IfOk result (λ v. v.items
+        ≡ record { name = name.now; width = o.now.width; rhs = text.one_rhs o.now.op o.now.width a b (slice_index o.now.integers 0) (slice_index o.now.integers 1) } ∷ []) }
+{
+    let name = name.copy(alloc)?;
+    let integers = o.integers.as_slice();
+    let width = o.width;
+    let rhs = one_rhs(alloc, o.op, width, a, b, at(integers, 0), at(integers, 1))?;
+    one_inner(alloc, Inner { name, width, rhs })
 }
 
 /// The integer of that number, or 0.
@@ -342,11 +365,26 @@ fn division(
     let w = r.max(a.width.max(b.width));
     let signed = a.signed;
     let mut inners = Vec::new(alloc);
-    push_zero_test(alloc, &mut inners, w, b.copy(alloc)?, helpers)?;
-    push_divisor(alloc, &mut inners, w, b, helpers)?;
+    push_tested_divisor(alloc, &mut inners, w, b, helpers)?;
     push_quotient(alloc, &mut inners, operators, w, a, helpers)?;
     push_guarded(alloc, &mut inners, (r, w), signed, helpers, name)?;
     Ok(inners)
+}
+
+/// Appends the net that tells whether the divisor is zero, and that of the divisor, or else 1.
+fn push_tested_divisor(
+    alloc: Global,
+    inners: &mut Vec<Inner>,
+    w: u32,
+    b: Held,
+    helpers: &[Name],
+) -> Result<(), MemoryOut>
+    ensures { OnOk result (inners.new.items
+        ≡ (inners.old.items ++ record { name = helper helpers.now 0; width = 1; rhs = text.zero_test w b } ∷ [])
+        ++ record { name = helper helpers.now 1; width = w; rhs = text.divisor w (helper helpers.now 0) b } ∷ []) }
+{
+    push_zero_test(alloc, inners, w, b.copy(alloc)?, helpers)?;
+    push_divisor(alloc, inners, w, b, helpers)
 }
 
 /// Appends the net that tells whether the divisor is zero.
@@ -375,7 +413,7 @@ fn push_divisor(
     ensures { OnOk result (inners.new.items ≡ inners.old.items ++ record { name = helper helpers.now 1; width = w; rhs = text.divisor w (helper helpers.now 0) b } ∷ []) }
 {
     let name = helper(alloc, helpers, 1)?;
-    let rhs = divisor(alloc, w, helper(alloc, helpers, 0)?, b)?;
+    let rhs = divisor(alloc, w, b, helpers)?;
     push_inner(inners, name, w, rhs)
 }
 
@@ -391,8 +429,7 @@ fn push_quotient(
     ensures { OnOk result (inners.new.items ≡ inners.old.items ++ record { name = helper helpers.now 2; width = w; rhs = text.between operators.0 operators.1 w a (named_net (helper helpers.now 1)) } ∷ []) }
 {
     let name = helper(alloc, helpers, 2)?;
-    let divisor = helper(alloc, helpers, 1)?;
-    let rhs = between(alloc, operators.0, operators.1, w, a, net(divisor))?;
+    let rhs = quotient(alloc, operators, w, a, helpers)?;
     push_inner(inners, name, w, rhs)
 }
 
@@ -409,9 +446,7 @@ fn push_guarded(
     ensures { OnOk result (inners.new.items ≡ inners.old.items ++ record { name = name.now; width = widths.0; rhs = text.guarded widths.0 (helper helpers.now 0) (whole_net (helper helpers.now 2) signed widths.1) } ∷ []) }
 {
     let own = name.copy(alloc)?;
-    let is_zero = helper(alloc, helpers, 0)?;
-    let value = Held::whole(helper(alloc, helpers, 2)?, signed, widths.1);
-    let rhs = guarded(alloc, widths.0, is_zero, value)?;
+    let rhs = guarded(alloc, widths, signed, helpers)?;
     push_inner(inners, own, widths.0, rhs)
 }
 
@@ -439,15 +474,39 @@ fn zero_test(alloc: Global, w: u32, b: Held) -> Result<Rhs, MemoryOut>
 }
 
 /// The divisor, or 1 where it is zero.
-fn divisor(alloc: Global, w: u32, is_zero: Name, b: Held) -> Result<Rhs, MemoryOut>
-    ensures { IfOk result (λ rhs. rhs ≡ text.divisor w is_zero b) }
+fn divisor(alloc: Global, w: u32, b: Held, helpers: &[Name]) -> Result<Rhs, MemoryOut>
+    ensures { IfOk result (λ rhs. rhs ≡ text.divisor w (helper helpers.now 0) b) }
 {
-    Ok(Rhs::Conditional(net(is_zero), constant(w, 1), atom_at(alloc, w, b)?))
+    let is_zero = helper(alloc, helpers, 0)?;
+    let value = atom_at(alloc, w, b)?;
+    Ok(Rhs::Conditional(net(is_zero), constant(w, 1), value))
 }
 
-/// The value, or 0 where the divisor is zero.
-fn guarded(alloc: Global, r: u32, is_zero: Name, value: Held) -> Result<Rhs, MemoryOut>
-    ensures { IfOk result (λ rhs. rhs ≡ text.guarded r is_zero value) }
+/// The quotient or remainder by the net of the divisor.
+fn quotient(
+    alloc: Global,
+    operators: (SignedOp, BinaryOp),
+    w: u32,
+    a: Held,
+    helpers: &[Name],
+) -> Result<Rhs, MemoryOut>
+    ensures { IfOk result (λ rhs. rhs ≡ text.between operators.0 operators.1 w a (named_net (helper helpers.now 1))) }
 {
-    Ok(Rhs::Conditional(net(is_zero), constant(r, 0), atom_at(alloc, r, value)?))
+    let divisor = helper(alloc, helpers, 1)?;
+    between(alloc, operators.0, operators.1, w, a, net(divisor))
+}
+
+/// The quotient or remainder at the first of the widths, or 0 where the divisor is zero.
+fn guarded(
+    alloc: Global,
+    widths: (u32, u32),
+    signed: bool,
+    helpers: &[Name],
+) -> Result<Rhs, MemoryOut>
+    ensures { IfOk result (λ rhs. rhs ≡ text.guarded widths.0 (helper helpers.now 0) (whole_net (helper helpers.now 2) signed widths.1)) }
+{
+    let is_zero = helper(alloc, helpers, 0)?;
+    let held = Held::whole(helper(alloc, helpers, 2)?, signed, widths.1);
+    let value = atom_at(alloc, widths.0, held)?;
+    Ok(Rhs::Conditional(net(is_zero), constant(widths.0, 0), value))
 }

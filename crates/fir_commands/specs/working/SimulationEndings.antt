@@ -7,16 +7,16 @@ use Rattle.trace_text.specs.Shapes.{TraceShape}
 use Rattle.trace_text.specs.TraceSpells.{TraceSpells}
 use Rattle.trace_text.specs.BadLine.{BadLine}
 use Rattle.trace_text.specs.FaultTexts.{fault_text}
-use Rattle.fir_compile.specs.declared.status.Status.{Status}
-use Rattle.fir_compile.specs.declared.status.Status.TheVariants as status
-use Rattle.fir_compile.specs.declared.lines.Finish.{Finish}
-use Rattle.fir_compile.specs.declared.lines.Finish.TheVariants as finish
-use Rattle.fir_compile.specs.Messages.{unread_line, too_long_line, unwritten_line, memory_line}
-use Rattle.fir_compile.specs.Refusals.{Refuses}
-use Rattle.fir_compile.specs.Outside.{IsRead, Outside, limit, Kept, GrewByFront, Tried}
-use Rattle.fir_commands.specs.working.Endings.{Said, Complained}
-use Rattle.fir_compile.specs.Simulations.{SaysBadly, SaysFront}
-use Rattle.fir_compile.specs.working.Running.{Ran}
+use Rattle.fir_outcome.specs.declared.status.Status.{Status}
+use Rattle.fir_outcome.specs.declared.status.Status.TheVariants as status
+use Rattle.fir_runner.specs.declared.lines.Finish.{Finish}
+use Rattle.fir_runner.specs.declared.lines.Finish.TheVariants as finish
+use Rattle.fir_outcome.specs.Messages.{unread_line, too_long_line, unwritten_line, memory_line}
+use Rattle.fir_outcome.specs.Refusals.{Refuses}
+use Rattle.fir_outcome.specs.Outside.{IsRead, Outside, limit, Kept, GrewByFront, Tried}
+use Rattle.fir_cli.specs.working.Endings.{Said, Complained}
+use Rattle.fir_outcome.specs.Simulations.{SaysBadly, SaysFront}
+use Rattle.fir_runner.specs.working.Running.{Ran}
 use Rattle.fir_compile.specs.working.Made.{IsMadeOf}
 
 -- what is said of how the ticks ended

@@ -12,9 +12,9 @@ use Rattle.fir_net.specs.working.Settled.{shape}
 use Rattle.fir_inst.specs.working.FlattensTo.{FlattensTo}
 use Rattle.trace_text.specs.Shapes.{TraceShape, plain}
 use Rattle.fir_compile.specs.declared.compiled.Compiled.{Compiled}
-use Rattle.fir_compile.specs.Emits.{Takes}
-use Rattle.fir_compile.specs.Refusals.{RefusedFor}
-use Rattle.fir_compile.specs.Traces.{IsTraceShape}
+use Rattle.fir_outcome.specs.Emits.{Takes}
+use Rattle.fir_outcome.specs.Refusals.{RefusedFor}
+use Rattle.fir_outcome.specs.Traces.{IsTraceShape}
 
 pub record IsMadeOf (text : List ℕ) (net : FlatNet) (s : TraceShape) : Type 0 where
   pub circuit : CircuitTree

@@ -16,9 +16,9 @@ use Rattle.fir_loop.specs.working.IsLoop.{ShowsLoop}
 use Rattle.fir_loop.specs.working.Orders.{IsOrdered}
 use Rattle.fir_inst.specs.working.FlattensTo.{FlattensTo}
 use Rattle.fir_compile.specs.declared.compiled.Compiled.{Compiled}
-use Rattle.fir_compile.specs.CircuitFaults.{IsClearUpTo}
-use Rattle.fir_compile.specs.Emits.{Emits, Takes}
-use Rattle.fir_compile.specs.Refusals.{RefusedFor, ShowsFault}
+use Rattle.fir_outcome.specs.CircuitFaults.{IsClearUpTo}
+use Rattle.fir_outcome.specs.Emits.{Emits, Takes}
+use Rattle.fir_outcome.specs.Refusals.{RefusedFor, ShowsFault}
 
 -- the tree that the text spells, or its fault, unless memory ran out
 abbrev pub IsTree : List ℕ → Result Circuit (Refused FirFault) → Type 0

@@ -1,10 +1,12 @@
 -- The first leaf of a fault: one that is over, or an input without a width.
-use Rattle.std.specs.Prelude.{List, [], ◌∷◌, Bool, true, false, ◌&&◌, if◌then◌else◌, Option, Some, None}
+use Rattle.std.specs.Prelude.{ℕ, List, [], ◌∷◌, Bool, true, false, ◌&&◌, if◌then◌else◌, Option, Some, None}
 use Rattle.fir_ast.specs.Types.{DataType, uint, sint}
 use Rattle.fir_meaning.specs.LeafPaths.{LeafPath}
 use Rattle.fir_meaning.specs.TypeLeaves.{turned}
 use Rattle.fir_meaning.specs.WidthExpressions.{Widths}
 use Rattle.fir_type_table.specs.working.Tables.{shown}
+use Rattle.fir_infer_widths.specs.declared.first_leaf.Test.{Test}
+use Rattle.fir_infer_widths.specs.declared.first_leaf.Test.TheVariants as test
 use Rattle.fir_infer_widths.specs.working.NumberedLeaves.{NumberedLeaf}
 use Rattle.fir_infer_widths.specs.working.SpotFaults.{is_over}
 
@@ -38,3 +40,12 @@ is_unwritten_input inward l = turned inward l.flip && lacks_width l.ground_type
 -- where types are shown without their widths, or with them
 abbrev pub is_unwritten_shown : Bool → Bool → NumberedLeaf → Bool
 is_unwritten_shown is_bare inward l = turned inward l.flip && lacks_width (shown is_bare l.ground_type)
+
+-- the test that the code names
+abbrev pub passes : Widths → Test → NumberedLeaf → Bool
+passes u test.Over = leaf_is_over u
+passes u (test.Unwritten is_bare inward) = is_unwritten_shown is_bare inward
+
+-- a ground type alone
+abbrev pub ground_leaf : ℕ → DataType → NumberedLeaf
+ground_leaf number t = record { path = []; flip = false; number = number; ground_type = t }

@@ -1,5 +1,6 @@
 -- What the code's values are, in plain data, beside the trees of the language.
-use Rattle.std.specs.Prelude.{◌≡◌, ℕ, ◌<◌, ◌≤◌, List, [], ◌∷◌, map, Result, Ok, Err}
+use Rattle.std.specs.Prelude.{◌≡◌, ℕ, ◌<◌, ◌≤◌, List, [], ◌∷◌, map, Result, Ok, Err, Box}
+use Rattle.std.specs.Global.{Global}
 use Rattle.fir_ast.specs.declared.place.Place.{Place}
 use Rattle.fir_ast.specs.declared.types.Ty.{Ty}
 use Rattle.fir_ast.specs.declared.types.Field.{Field}
@@ -61,6 +62,12 @@ placed_type_height t = type_height t.data_type
 
 abbrev pub tall_expression : Tall Expr → Expression
 tall_expression t = expr_of t.tree
+
+abbrev pub boxed_expr_of : Box Expr Global → Expression
+boxed_expr_of e = expr_of e.value
+
+abbrev pub tall_boxed : Tall (Box Expr Global) → Expression
+tall_boxed t = boxed_expr_of t.tree
 
 abbrev pub tall_sink : Tall Reference → Sink
 tall_sink t = sink_of t.tree

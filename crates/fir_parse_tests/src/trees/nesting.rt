@@ -1,5 +1,6 @@
 //! Trees of the greatest nesting.
 
+use crate::trees::short_form::Form;
 use crate::trees::tree_of;
 use fir_base::MemoryOut;
 use std::alloc::Global;
@@ -21,32 +22,30 @@ const NESTINGS: &[Nesting] = &[
 /// A module with that nesting of 255 forms around what stands within.
 fn nested(alloc: Global, nesting: &Nesting) -> Result<Vec<u8>, MemoryOut> {
     let (before, open, inner, close) = *nesting;
-    let mut text = Vec::new(alloc);
-    text.extend_from_slice(HEAD)?;
-    text.extend_from_slice(before)?;
-    for _ in 0..255 {
-        text.extend_from_slice(open)?;
-    }
-    text.extend_from_slice(inner)?;
-    for _ in 0..255 {
-        text.extend_from_slice(close)?;
-    }
-    text.extend_from_slice(b"\n")?;
-    Ok(text)
+    let mut text = Form::new(alloc);
+    text.put(HEAD);
+    text.put(before);
+    text.put_times(open, 255);
+    text.put(inner);
+    text.put_times(close, 255);
+    text.put(b"\n");
+    text.into_bytes()
 }
 
 /// A module with 256 lines `when a :`, each in the one before.
 fn whens(alloc: Global) -> Result<Vec<u8>, MemoryOut> {
-    let mut text = Vec::new(alloc);
-    text.extend_from_slice(HEAD)?;
+    let mut text = Form::new(alloc);
+    text.put(HEAD);
     for level in 0..256 {
-        text.extend_from_slice(b"    ")?;
-        for _ in 0..level {
-            text.extend_from_slice(b"  ")?;
-        }
-        text.extend_from_slice(b"when a :\n")?;
+        text.put(b"    ");
+        text.put_times(b"  ", level);
+        text.put(b"when a :\n");
     }
-    Ok(text)
+    text.into_bytes()
+}
+
+fn has_tree(alloc: Global, text: Vec<u8>) -> Result<bool, MemoryOut> {
+    Ok(tree_of(alloc, text.as_slice())?.starts_with(b"T@"))
 }
 
 #[test]
@@ -55,10 +54,8 @@ fn trees_of_the_greatest_nesting_are_dropped_without_want_of_stack(
 ) -> Result<(), Fail> {
     let alloc = rt.alloc();
     for nesting in NESTINGS {
-        let text = nested(alloc, nesting)?;
-        assert!(rt; tree_of(alloc, text.as_slice())?.starts_with(b"T@"));
+        assert!(rt; has_tree(alloc, nested(alloc, nesting)?)?);
     }
-    let text = whens(alloc)?;
-    assert!(rt; tree_of(alloc, text.as_slice())?.starts_with(b"T@"));
+    assert!(rt; has_tree(alloc, whens(alloc)?)?);
     Ok(())
 }

@@ -1,8 +1,8 @@
 //! A tree in a short form, for comparison: all that has a place with it, as `a@3:5`.
 
 use fir_ast::{
-    Circuit, Expr, Ident, Literal, Memory, MemoryField, Module, Part, Place, Port, ReadUnderWrite,
-    Reference, Register, Stmt, Ty, When,
+    Circuit, Expr, Field, Ident, Literal, Memory, MemoryField, Module, Part, Place, Port,
+    ReadUnderWrite, Reference, Register, Stmt, Ty, When,
 };
 use fir_base::{Direction, MemoryOut, put_decimal};
 use std::alloc::Global;
@@ -22,9 +22,16 @@ impl Form {
         }
     }
 
-    fn put(&mut self, text: &[u8]) {
+    pub fn put(&mut self, text: &[u8]) {
         if self.bytes.extend_from_slice(text).is_err() {
             self.lacks_memory = true;
+        }
+    }
+
+    /// Appends the text that many times.
+    pub fn put_times(&mut self, text: &[u8], times: usize) {
+        for _ in 0..times {
+            self.put(text);
         }
     }
 
@@ -45,6 +52,13 @@ impl Form {
         } else {
             Ok(bytes)
         }
+    }
+}
+
+/// Appends a sign that stands in front of each item of a list but the first.
+fn put_separator(out: &mut Form, number: usize, sign: &[u8]) {
+    if number > 0 {
+        out.put(sign);
     }
 }
 
@@ -70,9 +84,7 @@ pub fn put_circuit(out: &mut Form, circuit: &Circuit) {
     put_ident(out, &circuit.ident);
     out.put(b"{");
     for (i, module) in circuit.modules.iter().enumerate() {
-        if i > 0 {
-            out.put(b" ");
-        }
+        put_separator(out, i, b" ");
         put_module(out, module);
     }
     out.put(b"}");
@@ -82,15 +94,17 @@ fn put_module(out: &mut Form, module: &Module) {
     put_first(out, module.place, b"");
     put_ident(out, &module.ident);
     out.put(b"(");
-    for (i, port) in module.ports.iter().enumerate() {
-        if i > 0 {
-            out.put(b",");
-        }
-        put_port(out, port);
-    }
+    put_ports(out, &module.ports);
     out.put(b")[");
     put_block(out, &module.body);
     out.put(b"]");
+}
+
+fn put_ports(out: &mut Form, ports: &[Port]) {
+    for (i, port) in ports.iter().enumerate() {
+        put_separator(out, i, b",");
+        put_port(out, port);
+    }
 }
 
 fn put_port(out: &mut Form, port: &Port) {
@@ -119,20 +133,7 @@ fn put_ty(out: &mut Form, ty: &Ty) {
         Ty::Clock => out.put(b"Clock"),
         Ty::Reset => out.put(b"Reset"),
         Ty::AsyncReset => out.put(b"AsyncReset"),
-        Ty::Bundle(fields) => {
-            out.put(b"{");
-            for (i, field) in fields.iter().enumerate() {
-                if i > 0 {
-                    out.put(b",");
-                }
-                if field.flip {
-                    out.put(b"~");
-                }
-                put_named(out, field.name.as_bytes(), field.place);
-                put_typed(out, field.type_place, &field.ty);
-            }
-            out.put(b"}");
-        }
+        Ty::Bundle(fields) => put_fields(out, fields),
         Ty::Vector(element, length) => {
             put_ty(out, element);
             out.put(b"[");
@@ -140,6 +141,20 @@ fn put_ty(out: &mut Form, ty: &Ty) {
             out.put(b"]");
         }
     }
+}
+
+#[cycle(short_types)]
+fn put_fields(out: &mut Form, fields: &[Field]) {
+    out.put(b"{");
+    for (i, field) in fields.iter().enumerate() {
+        put_separator(out, i, b",");
+        if field.flip {
+            out.put(b"~");
+        }
+        put_named(out, field.name.as_bytes(), field.place);
+        put_typed(out, field.type_place, &field.ty);
+    }
+    out.put(b"}");
 }
 
 fn put_sized(out: &mut Form, word: &[u8], width: Option<u128>) {
@@ -173,42 +188,52 @@ fn put_expr(out: &mut Form, expr: &Expr) {
         Expr::Ref(reference) => put_reference(out, reference),
         Expr::Literal(literal) => put_literal(out, literal),
         Expr::Op(place, op, operands, integers) => {
-            put_named(out, op.word(), *place);
-            out.put(b"(");
+            put_opened(out, op.word(), *place);
             put_operands(out, operands);
-            for integer in integers {
-                out.put(b",");
-                out.put_number(*integer);
-            }
-            out.put(b")");
+            put_integers(out, integers);
         }
         Expr::Mux(place, condition, one, other) => {
-            put_named(out, b"mux", *place);
-            out.put(b"(");
+            put_opened(out, b"mux", *place);
             put_expr(out, condition);
-            out.put(b",");
-            put_expr(out, one);
-            out.put(b",");
-            put_expr(out, other);
+            put_next(out, one);
+            put_next(out, other);
             out.put(b")");
         }
         Expr::Validif(place, condition, value) => {
-            put_named(out, b"validif", *place);
-            out.put(b"(");
+            put_opened(out, b"validif", *place);
             put_expr(out, condition);
-            out.put(b",");
-            put_expr(out, value);
+            put_next(out, value);
             out.put(b")");
         }
     }
 }
 
+/// Appends what a form in parentheses begins with.
+fn put_opened(out: &mut Form, name: &[u8], place: Place) {
+    put_named(out, name, place);
+    out.put(b"(");
+}
+
+/// Appends the integers of an operator, and what closes it.
+fn put_integers(out: &mut Form, integers: &[u128]) {
+    for integer in integers {
+        out.put(b",");
+        out.put_number(*integer);
+    }
+    out.put(b")");
+}
+
+/// Appends an expression that stands behind another.
+#[cycle(short_expressions)]
+fn put_next(out: &mut Form, expr: &Expr) {
+    out.put(b",");
+    put_expr(out, expr);
+}
+
 #[cycle(short_expressions)]
 fn put_operands(out: &mut Form, operands: &[Expr]) {
     for (i, operand) in operands.iter().enumerate() {
-        if i > 0 {
-            out.put(b",");
-        }
+        put_separator(out, i, b",");
         put_expr(out, operand);
     }
 }
@@ -249,9 +274,7 @@ fn put_part(out: &mut Form, part: &Part) {
 #[cycle(short_statements)]
 fn put_block(out: &mut Form, block: &[Stmt]) {
     for (i, statement) in block.iter().enumerate() {
-        if i > 0 {
-            out.put(b";");
-        }
+        put_separator(out, i, b";");
         put_statement(out, statement);
     }
 }
@@ -260,30 +283,21 @@ fn put_block(out: &mut Form, block: &[Stmt]) {
 fn put_statement(out: &mut Form, statement: &Stmt) {
     match statement {
         Stmt::Wire(place, ident, type_place, ty) => {
-            put_first(out, *place, b"wire ");
-            put_ident(out, ident);
+            put_declared(out, *place, b"wire ", ident);
             put_typed(out, *type_place, ty);
         }
-        Stmt::Reg(place, register) => {
-            put_first(out, *place, b"reg ");
-            put_register(out, register);
-        }
+        Stmt::Reg(place, register) => put_register(out, *place, register),
         Stmt::Node(place, ident, value) => {
-            put_first(out, *place, b"node ");
-            put_ident(out, ident);
+            put_declared(out, *place, b"node ", ident);
             out.put(b"=");
             put_expr(out, value);
         }
         Stmt::Inst(place, ident, module) => {
-            put_first(out, *place, b"inst ");
-            put_ident(out, ident);
+            put_declared(out, *place, b"inst ", ident);
             out.put(b" of ");
             put_ident(out, module);
         }
-        Stmt::Mem(place, memory) => {
-            put_first(out, *place, b"mem ");
-            put_memory(out, memory);
-        }
+        Stmt::Mem(place, memory) => put_memory(out, *place, memory),
         Stmt::When(place, when) => put_when(out, *place, when),
         Stmt::Connect(place, sink, source) => put_connect(out, *place, sink, b"<=", source),
         Stmt::PartialConnect(place, sink, source) => put_connect(out, *place, sink, b"<-", source),
@@ -300,6 +314,12 @@ fn put_first(out: &mut Form, place: Place, word: &[u8]) {
     put_place(out, place);
     out.put(b" ");
     out.put(word);
+}
+
+/// Appends what a statement begins with that declares a name.
+fn put_declared(out: &mut Form, place: Place, word: &[u8], ident: &Ident) {
+    put_first(out, place, word);
+    put_ident(out, ident);
 }
 
 fn put_connect(out: &mut Form, place: Place, sink: &Reference, sign: &[u8], source: &Expr) {
@@ -320,29 +340,24 @@ fn put_when(out: &mut Form, place: Place, when: &When) {
     out.put(b"]");
 }
 
-fn put_register(out: &mut Form, register: &Register) {
-    put_ident(out, &register.ident);
+fn put_register(out: &mut Form, place: Place, register: &Register) {
+    put_declared(out, place, b"reg ", &register.ident);
     put_typed(out, register.type_place, &register.ty);
-    out.put(b",");
-    put_expr(out, &register.clock);
+    put_next(out, &register.clock);
     if let Some(reset) = &register.reset {
         out.put(b",");
-        put_named(out, b"reset", reset.place);
-        out.put(b"(");
+        put_opened(out, b"reset", reset.place);
         put_expr(out, &reset.condition);
-        out.put(b",");
-        put_expr(out, &reset.init);
+        put_next(out, &reset.init);
         out.put(b")");
     }
 }
 
-fn put_memory(out: &mut Form, memory: &Memory) {
-    put_ident(out, &memory.ident);
+fn put_memory(out: &mut Form, place: Place, memory: &Memory) {
+    put_declared(out, place, b"mem ", &memory.ident);
     out.put(b"{");
     for (i, field) in memory.fields.iter().enumerate() {
-        if i > 0 {
-            out.put(b";");
-        }
+        put_separator(out, i, b";");
         put_field(out, field);
     }
     out.put(b"}");
@@ -372,12 +387,17 @@ fn put_field(out: &mut Form, field: &MemoryField) {
         MemoryField::Readwriter(place, names) => put_names(out, *place, b"readwriter", names),
         MemoryField::ReadUnderWrite(place, which) => {
             put_first(out, *place, b"read-under-write ");
-            match which {
-                ReadUnderWrite::Old => out.put(b"old"),
-                ReadUnderWrite::New => out.put(b"new"),
-                ReadUnderWrite::Undefined => out.put(b"undefined"),
-            }
+            put_read(out, *which);
         }
+    }
+}
+
+/// Appends what a read gives of a word that is written at the same edge.
+fn put_read(out: &mut Form, which: ReadUnderWrite) {
+    match which {
+        ReadUnderWrite::Old => out.put(b"old"),
+        ReadUnderWrite::New => out.put(b"new"),
+        ReadUnderWrite::Undefined => out.put(b"undefined"),
     }
 }
 

@@ -1,7 +1,7 @@
 -- What is left of the statuses of the program where no read and no write fails.
 -- Of words that are not taken 2; of `emit` 0, 1 and 8; of `sim` also 6, for a bad line of the trace. 5 is want of memory.
 use Rattle.std.specs.Prelude.{◌≡◌, ◌⊎◌, ℕ, Option, Some, None}
-use Rattle.fir_commands.specs.Command.{Command, emit, sim}
+use Rattle.fir_cli.specs.Command.{Command, emit, sim}
 
 abbrev pub IsLeft : Option Command → ℕ → Type 0
 IsLeft None answer = (answer ≡ 2) ⊎ (answer ≡ 5)

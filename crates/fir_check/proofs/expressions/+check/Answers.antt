@@ -11,14 +11,14 @@ use Rattle.fir_meaning.specs.ExpressionTypes.{access_form, expression_type, expr
 use Rattle.fir_type_table.specs.working.Tables.{types_of}
 use Rattle.fir_names.specs.working.Parts.{part_of}
 use Rattle.fir_types.specs.working.Seen.{sink_path}
-use Rattle.fir_check.proofs.CheckedForms.{condition, arm, first_along, in_first_of_two, in_second_of_two, in_first_of_three, in_second_of_three, in_third_of_three, in_index}
+use Rattle.fir_check.proofs.CheckedForms.{condition, arm, first_along, first_left, in_first_of_two, in_second_of_two, in_first_of_three, in_second_of_three, in_third_of_three, in_index}
 use Rattle.fir_types.specs.working.Notes.{expression_notes, notes_of_each, part_notes, reference_note, root_range}
 use Rattle.fir_names.proofs.FirstMentions.{views_left}
 use Rattle.fir_check.proofs.OperandWalks.{FoundSoFar, found_done, found_first, found_next}
 use Rattle.fir_check.proofs.NotedWalks.{NotesSoFar, noted_on, noted_then, noted_three, notes_done, notes_first, notes_next}
 use Rattle.fir_types.proofs.RangeWalks.{RangeSoFar, field_leads, index_leads, range_first, range_next, reference_noted}
-use Rattle.fir_types.proofs.PartViews.{field_view, index_view, access_view, literal_view, parts_left, sink_view}
-use Rattle.fir_check.proofs.PartWalks.{part_goes_on, part_more, part_fault, reached_done, reached_first}
+use Rattle.fir_types.proofs.PartViews.{field_view, index_view, access_view, literal_view, parts_left, reference_view, sink_view}
+use Rattle.fir_check.proofs.PartWalks.{part_goes_on, part_more, part_fault, reached_done, reached_first, reference_found}
 use Rattle.fir_check.proofs.expressions.+check.Goals as goal
 
 pub in_expression-returns-in_ok-found-in-Op-clause-found : goal.in_expression-returns-in_ok-found-in-Op-clause-found
@@ -144,6 +144,52 @@ pub in_expression-returns-in-Literal-clause-notes : goal.in_expression-returns-i
 in_expression-returns-in-Literal-clause-notes t c =
     let seen = ap expr_of c.in-Literal.is ∙ literal_view c.in-Literal.literal in
     λ typed knows. rw seen (c.note_expression.ensures.notes (expression_type typed (literal c.in-Literal.literal)) (record { has = refl; none = refl }))
+
+pub in_expression-returns-in_err-reached-in-Ref-clause-found : goal.in_expression-returns-in_err-reached-in-Ref-clause-found
+in_expression-returns-in_err-reached-in-Ref-clause-found t c =
+    let p = err_from_is_err_and c.from_residual.result c.from_residual.ensures.1 in
+    let seen = ap expr_of c.in-Ref.is ∙ reference_view c.in-Ref.reference in
+    λ typed knows. rw (p.1, p.2, seen) (c.in_err-reached-in-Ref.ensures.found typed knows)
+
+pub in_expression-returns-in-Some-clause-found : goal.in_expression-returns-in-Some-clause-found
+in_expression-returns-in-Some-clause-found t c =
+    let s = sink_of c.in-Ref.reference in
+    let seen = ap expr_of c.in-Ref.is ∙ reference_view c.in-Ref.reference in
+    λ typed knows. rw seen (reference_found (types_of c.args.scope.now.table) typed s (sink_path s) _ _ c.in-Some.is (c.in_ok-reached-in-Ref.ensures.found typed knows))
+
+pub in_expression-returns-in-Some-clause-notes : goal.in_expression-returns-in-Some-clause-notes
+in_expression-returns-in-Some-clause-notes t c =
+    let seen = ap expr_of c.in-Ref.is ∙ reference_view c.in-Ref.reference in
+    λ typed knows. rw seen (c.in_ok-reached-in-Ref.ensures.notes typed knows)
+
+pub in_expression-returns-in-None-clause-found : goal.in_expression-returns-in-None-clause-found
+in_expression-returns-in-None-clause-found t c =
+    let s = sink_of c.in-Ref.reference in
+    let seen = ap expr_of c.in-Ref.is ∙ reference_view c.in-Ref.reference in
+    λ typed knows. rw seen (reference_found (types_of c.args.scope.now.table) typed s (sink_path s) _ _ c.in-None.is (c.in_ok-reached-in-Ref.ensures.found typed knows))
+
+pub in_expression-returns-in-None-clause-notes : goal.in_expression-returns-in-None-clause-notes
+in_expression-returns-in-None-clause-notes t c =
+    let seen = ap expr_of c.in-Ref.is ∙ reference_view c.in-Ref.reference in
+    λ typed knows. rw seen (c.in_ok-reached-in-Ref.ensures.notes typed knows)
+
+pub in_expression-returns-in_err-found-in-Op-clause-found : goal.in_expression-returns-in_err-found-in-Op-clause-found
+in_expression-returns-in_err-found-in-Op-clause-found t c =
+    let p = err_from_is_err_and c.from_residual-in_err-found-in-Op.result c.from_residual-in_err-found-in-Op.ensures.1 in
+    let operands = expressions_of (map expr_of c.in-Op.operands.items) in
+    let seen = ap expr_of c.in-Op.is ∙ operation_view c.in-Op.place c.in-Op.op c.in-Op.operands c.in-Op.integers in
+    λ typed knows. rw (p.1, p.2, seen)
+    (first_left (expression_types typed operands).shows _ _ (rw c.deref.ensures.value at c.in_err-found-in-Op.ensures.found typed knows))
+
+pub in_unsigned-returns-in_err-found-clause-found : goal.in_unsigned-returns-in_err-found-clause-found
+in_unsigned-returns-in_err-found-clause-found t c =
+    let p = err_from_is_err_and c.from_residual.result c.from_residual.ensures.1 in
+    λ typed knows. rw (p.1, p.2) (first_left (expression_type typed (expr_of c.args.expr.now)).shows _ _ (c.in_err-found.ensures.found typed knows))
+
+pub in_passive-returns-in_err-found-clause-found : goal.in_passive-returns-in_err-found-clause-found
+in_passive-returns-in_err-found-clause-found t c =
+    let p = err_from_is_err_and c.from_residual.result c.from_residual.ensures.1 in
+    λ typed knows. rw (p.1, p.2) (first_left (expression_type typed (expr_of c.args.expr.now)).shows _ _ (c.in_err-found.ensures.found typed knows))
 
 pub in_unsigned-returns-clause-found : goal.in_unsigned-returns-clause-found
 in_unsigned-returns-clause-found t c =

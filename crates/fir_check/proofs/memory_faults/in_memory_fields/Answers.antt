@@ -1,18 +1,34 @@
-use Rattle.std.proofs.Common.{◌≡◌, List, [], ◌++◌}
+use Rattle.std.proofs.Common.{map}
 use Rattle.std.proofs.lemmas.Result.{err_from_is_err_and}
-use Rattle.fir_base.specs.declared.refused.Refused.{Refused}
-use Rattle.fir_ast.specs.declared.fault.FirFault.{FirFault}
-use Rattle.fir_pass.specs.Faults.{Fault}
-use Rattle.fir_types.specs.working.Judged.{IsFirstOf}
-use Rattle.fir_check.proofs.CheckedForms.{first_left}
+use Rattle.fir_ast.specs.View.{memory_part_of, named_of}
+use Rattle.fir_check.specs.working.FaultsOfWords.{faults_of_words}
+use Rattle.fir_check.proofs.FaultLists.{in_first, in_second, in_third, in_fourth}
 use Rattle.fir_check.proofs.memory_faults.in_memory_fields.Goals as goal
 
-fourth_first : (a b d e f g : List Fault) (r : Refused FirFault) → a ≡ [] → b ≡ [] → d ≡ [] → IsFirstOf e r → IsFirstOf (a ++ b ++ d ++ e ++ f ++ g) r
-fourth_first a b d e f g r x y z h = rw (x, y, z) (first_left (e ++ f) g r (first_left e f r h))
+pub returns-in_err-in_words : goal.returns-in_err-in_words
+returns-in_err-in_words c = λ words.
+    let p = err_from_is_err_and c.from_residual.result c.from_residual.ensures.1 in
+    rw (p.1, p.2) (in_first (faults_of_words (named_of c.args.memory.now.ident) (map memory_part_of c.args.memory.now.fields.items)) _ _ _ _ (c.in_err-in_words.ensures words))
 
-pub returns-in_err-unless-3 : goal.returns-in_err-unless-3
-returns-in_err-unless-3 c = λ words.
+pub returns-in_err-unless : goal.returns-in_err-unless
+returns-in_err-unless c = λ words.
     let s = c.as_slice-fields.ensures.value in
-    let p = err_from_is_err_and c.from_residual-in_err-unless-3.result c.from_residual-in_err-unless-3.ensures.1 in
-    rw (p.1, p.2, ← words, ← s, ← c.has_sized_words.ensures (rw s words), ← c.has_depth.ensures, ← c.has_read_latency.ensures)
-    (fourth_first _ _ _ _ _ _ _ c.in_ok-no_flips.ensures c.in_ok-unless.ensures c.in_ok-unless-2.ensures c.in_err-unless-3.ensures)
+    let p = err_from_is_err_and c.from_residual-in_err-unless.result c.from_residual-in_err-unless.ensures.1 in
+    let clear = rw (← s) at (c.in_ok-in_words.ensures words) in
+    rw (p.1, p.2, ← s, ← c.has_read_latency.ensures)
+    (in_second (faults_of_words (named_of c.args.memory.now.ident) (map memory_part_of c.as_slice-fields.result.now)) _ _ _ _ clear c.in_err-unless.ensures)
+
+pub returns-in_err-unless-2 : goal.returns-in_err-unless-2
+returns-in_err-unless-2 c = λ words.
+    let s = c.as_slice-fields.ensures.value in
+    let p = err_from_is_err_and c.from_residual-in_err-unless-2.result c.from_residual-in_err-unless-2.ensures.1 in
+    let clear = rw (← s) at (c.in_ok-in_words.ensures words) in
+    rw (p.1, p.2, ← s, ← c.has_read_latency.ensures, ← c.has_write_latency.ensures)
+    (in_third (faults_of_words (named_of c.args.memory.now.ident) (map memory_part_of c.as_slice-fields.result.now)) _ _ _ _ clear c.in_ok-unless.ensures c.in_err-unless-2.ensures)
+
+pub returns : goal.returns
+returns c = λ words.
+    let s = c.as_slice-fields.ensures.value in
+    let clear = rw (← s) at (c.in_ok-in_words.ensures words) in
+    rw (← s, ← c.has_read_latency.ensures, ← c.has_write_latency.ensures, ← c.has_no_second_rule.ensures)
+    (in_fourth (faults_of_words (named_of c.args.memory.now.ident) (map memory_part_of c.as_slice-fields.result.now)) _ _ _ _ clear c.in_ok-unless.ensures c.in_ok-unless-2.ensures c.unless-3.ensures)

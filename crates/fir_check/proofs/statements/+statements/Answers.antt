@@ -1,17 +1,15 @@
 use Rattle.std.proofs.Common.{◌+◌, map, drop, refl, ap, ◌∙◌, arith}
 use Rattle.std.proofs.lemmas.Result.{err_from_is_err_and}
 use Rattle.std.proofs.lemmas.List.{drop_all}
-use Rattle.fir_ast.specs.View.{block_of, expr_of, named_of, sink_of, stmt_of, type_of}
+use Rattle.fir_ast.specs.View.{block_of, expr_of, named_of, sink_of, stmt_of}
 use Rattle.fir_type_table.specs.working.Tables.{types_of}
 use Rattle.fir_ast.specs.Statements.{done, then, when, connect, partial_connect, invalid}
 use Rattle.fir_ast.proofs.TreeViews.{connect_view, register_view}
-use Rattle.fir_meaning.specs.Components as component
 use Rattle.fir_meaning.specs.TypeGroup.{scope_at, type_faults_in}
 use Rattle.fir_names.specs.working.Parts.{when_view}
 use Rattle.fir_names.proofs.FirstMentions.{views_left}
 use Rattle.fir_names.proofs.StatementViews.{wire_view, partial_connect_view, invalid_view, when_is}
 use Rattle.fir_types.proofs.KnownScopes.{knows_scope}
-use Rattle.fir_types.proofs.GrownScopes.{goes_still, walks_declared}
 use Rattle.fir_meaning.specs.Visibility.{behind_block, opened, reopened}
 use Rattle.fir_types.proofs.StatementParts.{instance_view, when_at}
 use Rattle.fir_check.proofs.StatementWalks.{NotedBlock, noted_block_begun, noted_block_done, noted_block_next, notes_by, when_noted, passed_goes, passes_by, judged_passes, block_fails, next_begins, block_passed, condition_fails, first_fails, when_passes, opens, reopens}
@@ -74,17 +72,13 @@ in_block-returns-clause-notes t c =
     = rw (← ap (λ left. block_of (map stmt_of left)) none) (c.loop-statement.invariant modules before whole of begins walks) in
     noted_block_done modules c.args.bundles.now c.args.scope.now c.loop-statement.scope c.args.notes.now.items c.loop-statement.notes.items before body so_far
 
-pub in_statement-returns-in_ok-declare-in-Wire-clause-passes : goal.in_statement-returns-in_ok-declare-in-Wire-clause-passes
-in_statement-returns-in_ok-declare-in-Wire-clause-passes t c =
+pub in_statement-returns-in-Wire-clause-passes : goal.in_statement-returns-in-Wire-clause-passes
+in_statement-returns-in-Wire-clause-passes t c =
     let i = c.in-Wire in
     let view = ap stmt_of i.is ∙ wire_view i.field-0 i.field-1 i.field-2 i.ty in
     λ modules before whole of begins walks.
-    rw view (
-      refl,
-      walks_declared modules c.args.bundles.now c.args.scope.now c.declare.new.self before (named_of i.field-1) (component.wire (type_of i.ty)) (type_of i.ty) walks
-          c.in_ok-declare-in-Wire.ensures refl,
-      record { more = c.in_ok-declare-in-Wire.ensures.more; grown = c.in_ok-declare-in-Wire.ensures.grown },
-    )
+    passes_by modules c.args.bundles.now c.args.scope.now c.in_wire.new.scope before (stmt_of c.args.statement.now) _ c.in_wire.result view
+    (c.in_wire.ensures modules c.args.bundles.now before (named_of i.field-1) walks)
 
 pub in_statement-returns-in-Reg-clause-passes : goal.in_statement-returns-in-Reg-clause-passes
 in_statement-returns-in-Reg-clause-passes t c =
@@ -95,14 +89,13 @@ in_statement-returns-in-Reg-clause-passes t c =
     passes_by modules c.args.bundles.now c.args.scope.now c.in_register.new.scope before (stmt_of c.args.statement.now) _ c.in_register.result view
     (c.in_register.ensures.passes modules c.args.bundles.now before whole of (begins_by before whole (stmt_of c.args.statement.now) _ view begins) walks)
 
-pub in_statement-returns-in_ok-declare_instance-in-Inst-clause-passes : goal.in_statement-returns-in_ok-declare_instance-in-Inst-clause-passes
-in_statement-returns-in_ok-declare_instance-in-Inst-clause-passes t c =
+pub in_statement-returns-in-Inst-clause-passes : goal.in_statement-returns-in-Inst-clause-passes
+in_statement-returns-in-Inst-clause-passes t c =
     let i = c.in-Inst in
     let view = ap stmt_of i.is ∙ instance_view i.field-0 i.field-1 i.field-2 in
     λ modules before whole of begins walks.
-    let after = c.in_ok-declare_instance-in-Inst.ensures modules before whole (named_of i.field-1) i.field-2.name of
-    (begins_by before whole (stmt_of c.args.statement.now) _ view begins) walks in
-    rw view (refl, after.0, after.1)
+    passes_by modules c.args.bundles.now c.args.scope.now c.in_instance.new.scope before (stmt_of c.args.statement.now) _ c.in_instance.result view
+    (c.in_instance.ensures modules before whole (named_of i.field-1) i.field-2.name of (begins_by before whole (stmt_of c.args.statement.now) _ view begins) walks)
 
 pub in_statement-returns-in-When-clause-passes : goal.in_statement-returns-in-When-clause-passes
 in_statement-returns-in-When-clause-passes t c =
@@ -134,24 +127,16 @@ in_statement-returns-in-PartialConnect-clause-passes t c =
     (judged_passes modules c.args.bundles.now c.args.scope.now before (type_faults_in modules before s) c.in_partial_connect.result
     (c.in_partial_connect.ensures.found (scope_at modules before) knows) walks)
 
-pub in_statement-returns-in_err-in_reference-in-Invalid-clause-passes : goal.in_statement-returns-in_err-in_reference-in-Invalid-clause-passes
-in_statement-returns-in_err-in_reference-in-Invalid-clause-passes t c =
-    let p = err_from_is_err_and c.from_residual-in_err-in_reference-in-Invalid.result c.from_residual-in_err-in_reference-in-Invalid.ensures.1 in
+pub in_statement-returns-in-Invalid-clause-passes : goal.in_statement-returns-in-Invalid-clause-passes
+in_statement-returns-in-Invalid-clause-passes t c =
     let i = c.in-Invalid in
     let s = invalid i.field-0 (sink_of i.sink) in
     let view = ap stmt_of i.is ∙ invalid_view i.field-0 i.sink in
     λ modules before whole of begins walks.
     let knows = knows_scope modules c.args.names.now whole c.args.bundles.now c.args.scope.now before of (begins_by before whole (stmt_of c.args.statement.now) s view begins) walks in
-    rw (p.1, p.2, view) (c.in_err-in_reference-in-Invalid.ensures.found (scope_at modules before) knows)
-
-pub in_statement-returns-in_ok-in_reference-in-Invalid-clause-passes : goal.in_statement-returns-in_ok-in_reference-in-Invalid-clause-passes
-in_statement-returns-in_ok-in_reference-in-Invalid-clause-passes t c =
-    let i = c.in-Invalid in
-    let s = invalid i.field-0 (sink_of i.sink) in
-    let view = ap stmt_of i.is ∙ invalid_view i.field-0 i.sink in
-    λ modules before whole of begins walks.
-    let knows = knows_scope modules c.args.names.now whole c.args.bundles.now c.args.scope.now before of (begins_by before whole (stmt_of c.args.statement.now) s view begins) walks in
-    rw view ((c.in_ok-in_reference-in-Invalid.ensures.found (scope_at modules before) knows).none, walks, goes_still c.args.scope.now c.args.scope.now refl)
+    passes_by modules c.args.bundles.now c.args.scope.now c.args.scope.now before (stmt_of c.args.statement.now) s c.in_invalid.result view
+    (judged_passes modules c.args.bundles.now c.args.scope.now before (type_faults_in modules before s) c.in_invalid.result
+    (c.in_invalid.ensures.found (scope_at modules before) knows) walks)
 
 pub in_when-returns-in_err-in_unsigned-clause-passes : goal.in_when-returns-in_err-in_unsigned-clause-passes
 in_when-returns-in_err-in_unsigned-clause-passes t c =
@@ -225,14 +210,15 @@ in_statement-returns-in-PartialConnect-clause-notes t c =
     notes_by (types_of c.args.scope.now.table) modules _ _ before (stmt_of c.args.statement.now) s c.in_partial_connect.result view
     (c.in_partial_connect.ensures.notes (scope_at modules before) knows)
 
-pub in_statement-returns-in_ok-in_reference-in-Invalid-clause-notes : goal.in_statement-returns-in_ok-in_reference-in-Invalid-clause-notes
-in_statement-returns-in_ok-in_reference-in-Invalid-clause-notes t c =
+pub in_statement-returns-in-Invalid-clause-notes : goal.in_statement-returns-in-Invalid-clause-notes
+in_statement-returns-in-Invalid-clause-notes t c =
     let i = c.in-Invalid in
     let s = invalid i.field-0 (sink_of i.sink) in
     let view = ap stmt_of i.is ∙ invalid_view i.field-0 i.sink in
     λ modules before whole of begins walks.
     let knows = knows_scope modules c.args.names.now whole c.args.bundles.now c.args.scope.now before of (begins_by before whole (stmt_of c.args.statement.now) s view begins) walks in
-    rw view (c.in_ok-in_reference-in-Invalid.ensures.notes (scope_at modules before) knows)
+    notes_by (types_of c.args.scope.now.table) modules _ _ before (stmt_of c.args.statement.now) s c.in_invalid.result view
+    (c.in_invalid.ensures.notes (scope_at modules before) knows)
 
 pub in_when-returns-clause-notes : goal.in_when-returns-clause-notes
 in_when-returns-clause-notes t c =

@@ -1,4 +1,4 @@
-use Rattle.fir_compile.specs.Outside.{IsRead, outside}
+use Rattle.fir_outcome.specs.Outside.{IsRead, outside}
 use Rattle.fir_commands.proofs.EmitEnded.{untaken_ended, emitted_ended}
 use Rattle.fir_commands.proofs.emit.emit_file.Goals as goal
 

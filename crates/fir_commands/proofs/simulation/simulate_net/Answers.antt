@@ -1,5 +1,5 @@
 use Rattle.std.proofs.Common.{inl, inr}
-use Rattle.fir_compile.specs.Outside.{IsRead, outside}
+use Rattle.fir_outcome.specs.Outside.{IsRead, outside}
 use Rattle.fir_commands.proofs.TraceEnded.{untaken_ended}
 use Rattle.fir_commands.proofs.simulation.simulate_net.Goals as goal
 

@@ -2,7 +2,7 @@ use Rattle.std.proofs.Common.{Some, None, subst}
 use Rattle.fir_ast.specs.View.{circuit_of}
 use Rattle.fir_meaning.specs.Scenes.{HasScenes}
 use Rattle.fir_lack.specs.working.Lacks.{IsLack}
-use Rattle.fir_compile.specs.Refusals.{RefusedFor}
+use Rattle.fir_outcome.specs.Refusals.{RefusedFor}
 use Rattle.fir_compile.proofs.Taken.{lacks_form, shows_later, compiles}
 use Rattle.fir_compile.proofs.ClearGroups.{later_first}
 use Rattle.fir_compile.proofs.passes.compile.Goals as goal

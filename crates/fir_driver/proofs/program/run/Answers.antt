@@ -1,4 +1,4 @@
-use Rattle.fir_compile.specs.Outside.{outside}
+use Rattle.fir_outcome.specs.Outside.{outside}
 use Rattle.fir_driver.proofs.SimulationComplete.{answers}
 use Rattle.fir_driver.proofs.program.run.Goals as goal
 

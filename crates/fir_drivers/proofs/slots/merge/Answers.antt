@@ -4,6 +4,10 @@ use Rattle.fir_drivers.proofs.BelowBounds.{below_read, bounds_later}
 use Rattle.fir_drivers.proofs.SlotSteps.{below_become, merges_at}
 use Rattle.fir_drivers.proofs.slots.merge.Goals as goal
 
+pub add_choice-requires-clause-condition : goal.add_choice-requires-clause-condition
+add_choice-requires-clause-condition c =
+    below_later c.args.net.now c.loop-place.net c.args.condition.now.read c.loop-place.invariant.grows c.requires.condition
+
 pub add_choice-requires-clause-first : goal.add_choice-requires-clause-first
 add_choice-requires-clause-first c =
     below_later c.args.net.now c.loop-place.net c.index-first-place.result.read c.loop-place.invariant.grows

@@ -1,5 +1,6 @@
 use Rattle.std.proofs.Common.{◌+◌, [], ◌∷◌, ◌++◌, map, drop, refl, sym, ap, subst, ◌∙◌, append_assoc}
 use Rattle.std.proofs.lemmas.List.{drop_all}
+use Rattle.std.proofs.lemmas.Result.{IfOk-weaker}
 use Rattle.fir_ast.specs.Expressions.{literal, mux, operation, reference, subaccess, validif}
 use Rattle.fir_ast.specs.Statements.{Sink}
 use Rattle.fir_ast.specs.View.{expr_of, expressions_of, parts_of, sink_of}
@@ -10,17 +11,17 @@ use Rattle.fir_names.specs.working.Parts.{part_of}
 use Rattle.fir_names.proofs.FirstMentions.{views_left}
 use Rattle.fir_types.specs.working.Notes.{expression_note, part_notes, reference_note, reference_notes}
 use Rattle.fir_types.proofs.PartViews.{access_view, literal_view, parts_left, sink_view}
-use Rattle.fir_meaning.specs.Leafed.{target_of, terms}
+use Rattle.fir_meaning.specs.Leafed.{target_of, target_terms, terms}
 use Rattle.fir_ground.specs.working.Grounds.{Enters}
-use Rattle.fir_ground.proofs.Coming.{come_then, expands_first, reference_expands}
+use Rattle.fir_ground.proofs.Coming.{come_then, expands_first, expands_nodes}
 use Rattle.fir_ground.proofs.FormsCome.{mux_comes, operation_comes, validif_comes}
 use Rattle.fir_ground.proofs.NamedTargets.{within_cost}
 use Rattle.fir_ground.proofs.OperandsCome.{OperandsSoFar, operands_done, operands_first, operands_next}
 use Rattle.fir_ground.proofs.PartsCome.{PartsSoFar, access_comes, parts_first, parts_next, parts_passed, reference_view}
 use Rattle.fir_ground.proofs.expressions.+expressions.Goals as goal
 
-pub in_expression-returns-in_ok-read_all-in-Ref : goal.in_expression-returns-in_ok-read_all-in-Ref
-in_expression-returns-in_ok-read_all-in-Ref t c =
+pub in_expression-returns-in_ok-target-in-Ref : goal.in_expression-returns-in_ok-target-in-Ref
+in_expression-returns-in_ok-target-in-Ref t c =
     let s = sink_of c.in-Ref.reference in
     let seen = ap expr_of c.in-Ref.is ∙ reference_view c.in-Ref.reference in
     λ typed ty rest enters typed_as.
@@ -29,37 +30,39 @@ in_expression-returns-in_ok-read_all-in-Ref t c =
     let reaches : ReachesThere typed s of.1 = (of.0, of.2, of.3) in
     let named = c.in_ok-target-in-Ref.ensures typed of.1 rest begins reaches in
     rw seen
-    (reference_expands c.args.ground.now rest c.args.walk.now c.in_reference.new.walk (record c.in_reference.new.walk { nodes = c.read_all.new.nodes })
-    c.in_ok-target-in-Ref.target (target_of typed s) c.in_ok-read_all-in-Ref.field-0.items named (within_cost typed s of.1 enters.stands.small reaches) refl refl
-    c.in_ok-read_all-in-Ref.ensures)
+    (IfOk-weaker c.read_all.result _ _
+    (λ ids gives.
+    expands_nodes c.args.ground.now rest c.args.walk.now c.in_reference.new.walk (record c.in_reference.new.walk { nodes = c.read_all.new.nodes }) ids.items
+    (target_terms (target_of typed s)) named.comes refl refl gives)
+    (c.read_all.ensures (target_of typed s) named.names (within_cost typed s of.1 enters.stands.small reaches)))
 
-pub in_expression-returns-in_ok-on_literal-in-Literal :
-    goal.in_expression-returns-in_ok-on_literal-in-Literal
-in_expression-returns-in_ok-on_literal-in-Literal t c =
+pub in_expression-returns-in-Literal :
+    goal.in_expression-returns-in-Literal
+in_expression-returns-in-Literal t c =
     let l = c.in-Literal.literal in
     let seen = ap expr_of c.in-Literal.is ∙ literal_view l in
     λ typed ty rest enters typed_as.
     let begins : Enters c.args.ground.now typed (expression_note typed (literal l) ∷ rest) c.args.walk.now = rw seen at enters in
-    rw seen (c.in_ok-on_literal-in-Literal.ensures c.args.ground.now (expression_note typed (literal l)) rest begins.ahead)
+    rw seen (c.on_literal.ensures c.args.ground.now (expression_note typed (literal l)) rest begins.ahead)
 
-pub in_expression-returns-in_ok-on_operation-in-Op :
-    goal.in_expression-returns-in_ok-on_operation-in-Op
-in_expression-returns-in_ok-on_operation-in-Op t c =
+pub in_expression-returns-in_ok-operands-in-Op :
+    goal.in_expression-returns-in_ok-operands-in-Op
+in_expression-returns-in_ok-operands-in-Op t c =
     let p = c.in-Op.field-0 in
     let op = c.in-Op.op in
     let es = expressions_of (map expr_of c.in-Op.operands.items) in
     let ks = c.in-Op.integers.items in
     let seen = ap expr_of c.in-Op.is ∙ operation_view p op c.in-Op.operands c.in-Op.integers in
     let operands = rw c.deref.ensures.value at c.in_ok-operands-in-Op.ensures in
-    let form = rw c.deref-in-Op.ensures.value at c.in_ok-on_operation-in-Op.ensures in
+    let form = rw c.deref-in-Op.ensures.value at c.on_operation.ensures in
     λ typed ty rest enters typed_as.
     let of : HasType typed (operation p op es ks) ty = rw seen at typed_as in
     rw seen
-    (operation_comes c.args.ground.now typed rest ty p op es ks c.args.walk.now c.in_operands.new.walk c.on_operation.new.walk c.in_ok-operands-in-Op.operands.items
-    c.in_ok-on_operation-in-Op.field-0.items (rw seen at enters) of (operands typed) (form c.args.ground.now))
+    (operation_comes c.args.ground.now typed rest ty c.on_operation.result (λ ids. ids.items) p op es ks c.args.walk.now c.in_operands.new.walk c.on_operation.new.walk c.in_ok-operands-in-Op.operands.items
+    (rw seen at enters) of (operands typed) (form c.args.ground.now))
 
-pub in_expression-returns-in_ok-on_mux-in-Mux : goal.in_expression-returns-in_ok-on_mux-in-Mux
-in_expression-returns-in_ok-on_mux-in-Mux t c =
+pub in_expression-returns-in_ok-other-in-Mux : goal.in_expression-returns-in_ok-other-in-Mux
+in_expression-returns-in_ok-other-in-Mux t c =
     let p = c.in-Mux.field-0 in
     let x = expr_of c.in-Mux.condition.value in
     let y = expr_of c.in-Mux.one.value in
@@ -68,38 +71,41 @@ in_expression-returns-in_ok-on_mux-in-Mux t c =
     let condition = rw c.deref-in-Mux.ensures at c.in_ok-condition-in-Mux.ensures in
     let one = rw c.deref-in-Mux-2.ensures at c.in_ok-one-in-Mux.ensures in
     let other = rw c.deref-in-Mux-3.ensures at c.in_ok-other-in-Mux.ensures in
-    let form = rw (c.deref-in-Mux-4.ensures.value, c.deref-in-Mux-5.ensures.value) at c.in_ok-on_mux-in-Mux.ensures in
+    let form = rw (c.deref-in-Mux-4.ensures.value, c.deref-in-Mux-5.ensures.value) at c.on_mux.ensures in
     λ typed ty rest enters typed_as.
     let of : HasType typed (mux p x y z) ty = rw seen at typed_as in
     rw seen
-    (mux_comes c.args.ground.now typed rest ty p x y z c.args.walk.now c.in_first.new.walk c.in_expression.new.walk c.in_expression-in-Mux.new.walk c.on_mux.new.walk
-    c.in_ok-condition-in-Mux.condition c.in_ok-one-in-Mux.one.items c.in_ok-other-in-Mux.other.items c.in_ok-on_mux-in-Mux.field-0.items (rw seen at enters) of (condition typed) (one typed)
+    (mux_comes c.args.ground.now typed rest ty c.on_mux.result (λ ids. ids.items) p x y z c.args.walk.now c.in_first.new.walk c.in_expression.new.walk c.in_expression-in-Mux.new.walk c.on_mux.new.walk
+    c.in_ok-condition-in-Mux.condition c.in_ok-one-in-Mux.one.items c.in_ok-other-in-Mux.other.items (rw seen at enters) of (condition typed) (one typed)
     (other typed) (form c.args.ground.now))
 
-pub in_expression-returns-in_ok-on_validif-in-Validif :
-    goal.in_expression-returns-in_ok-on_validif-in-Validif
-in_expression-returns-in_ok-on_validif-in-Validif t c =
+pub in_expression-returns-in_ok-value-in-Validif :
+    goal.in_expression-returns-in_ok-value-in-Validif
+in_expression-returns-in_ok-value-in-Validif t c =
     let p = c.in-Validif.field-0 in
     let x = expr_of c.in-Validif.condition.value in
     let y = expr_of c.in-Validif.value.value in
     let seen = ap expr_of c.in-Validif.is ∙ validif_view p c.in-Validif.condition c.in-Validif.value in
     let condition = rw c.deref-in-Validif.ensures at c.in_ok-condition-in-Validif.ensures in
     let value = rw c.deref-in-Validif-2.ensures at c.in_ok-value-in-Validif.ensures in
-    let form = rw c.deref-in-Validif-3.ensures.value at c.in_ok-on_validif-in-Validif.ensures in
+    let form = rw c.deref-in-Validif-3.ensures.value at c.on_validif.ensures in
     λ typed ty rest enters typed_as.
     let of : HasType typed (validif p x y) ty = rw seen at typed_as in
     rw seen
-    (validif_comes c.args.ground.now typed rest ty p x y c.args.walk.now c.in_first-in-Validif.new.walk c.in_expression-in-Validif.new.walk c.on_validif.new.walk
-    c.in_ok-condition-in-Validif.condition c.in_ok-value-in-Validif.value.items c.in_ok-on_validif-in-Validif.field-0.items (rw seen at enters) of (condition typed) (value typed)
+    (validif_comes c.args.ground.now typed rest ty c.on_validif.result (λ ids. ids.items) p x y c.args.walk.now c.in_first-in-Validif.new.walk c.in_expression-in-Validif.new.walk c.on_validif.new.walk
+    c.in_ok-condition-in-Validif.condition c.in_ok-value-in-Validif.value.items (rw seen at enters) of (condition typed) (value typed)
     (form c.args.ground.now))
 
 pub in_first-returns : goal.in_first-returns
 in_first-returns t c =
-    let first = rw c.deref.ensures.value at c.in_ok-first.ensures in
+    let first = rw c.deref.ensures.value at c.first.ensures in
     λ typed ty rest enters typed_as.
+    let all = c.in_ok-ids.ensures typed ty rest enters typed_as in
+    IfOk-weaker c.first.result _ _
+    (λ id shows.
     expands_first c.args.ground.now rest c.args.walk.now c.in_expression.new.walk (record c.in_expression.new.walk { nodes = c.first.new.nodes })
-    c.in_ok-ids.ids.items
-    c.in_ok-first.field-0 (terms typed (expr_of c.args.expr.now)) (c.in_ok-ids.ensures typed ty rest enters typed_as) refl refl first
+    c.in_ok-ids.ids.items id (terms typed (expr_of c.args.expr.now)) all refl refl (λ within. shows))
+    (first all.gives.within)
 
 pub in_operands-loop-operand-init : goal.in_operands-loop-operand-init
 in_operands-loop-operand-init t c =
@@ -170,12 +176,13 @@ in_reference-returns t c =
     let none = ap (λ ps. parts_of (map part_of ps)) (drop_all c.loop-part.part-index c.deref-part-items.result.now c.loop-part-test.false) in
     let start = c.args.walk.now in
     let passed_by = c.loop-part.walk in
-    let names = rw c.deref.ensures.value at c.in_ok-named.ensures in
+    let names = rw c.deref.ensures.value at c.named.ensures in
     λ typed end rest enters reaches.
     let front = reference_note typed s ∷ rest in
     let begins = subst (λ ns. Enters g typed ns start) (append_assoc (part_notes typed s.parts) (reference_note typed s ∷ []) rest) enters in
     let passed =
     parts_passed g typed front end s.parts start begins (parts_of (map part_of (drop c.loop-part.part-index c.deref-part-items.result.now))) passed_by c.loop-part.indices.items
     (c.loop-part.invariant typed end front begins reaches) none in
-    let own = names typed s end rest passed.behind reaches passed.are in
-    record { comes = come_then g front rest start passed_by c.named.new.walk passed.comes own.comes; names = own.names }
+    IfOk-weaker c.named.result _ _
+    (λ target own. record { comes = come_then g front rest start passed_by c.named.new.walk passed.comes own.comes; names = own.names })
+    (names typed s end rest passed.behind reaches passed.are)

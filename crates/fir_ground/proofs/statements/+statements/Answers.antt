@@ -15,12 +15,14 @@ use Rattle.fir_meaning.specs.TypeGroup.{scope_at}
 use Rattle.fir_meaning.specs.Visibility.{opened}
 use Rattle.fir_ground.specs.declared.driver.Driver.TheVariants.{Others}
 use Rattle.fir_ground.specs.working.DeclarationDrivers.{others}
+use Rattle.fir_names.specs.working.Parts.{when_view}
 use Rattle.fir_names.proofs.FirstMentions.{views_left}
 use Rattle.fir_names.proofs.StatementViews.{invalid_view, partial_connect_view, when_is, wire_view}
-use Rattle.fir_types.proofs.StatementParts.{instance_view}
+use Rattle.fir_types.proofs.StatementParts.{instance_view, when_at}
 use Rattle.fir_types.specs.working.ModuleNotes.{connect_notes}
 use Rattle.fir_types.specs.working.Notes.{reference_notes}
-use Rattle.fir_ground.proofs.PlaceWalks.{AtBlock, block_begun, block_next, block_passed, comes_none, declared_behind, enters_place, later, memory_view, next_begins, next_cost, next_enters, passes_by, still_behind}
+use Rattle.fir_leaf_pairs.proofs.Emitting.{emitted_none}
+use Rattle.fir_ground.proofs.PlaceWalks.{AtBlock, block_begun, block_next, block_passed, comes_none, declared_behind, enters_place, later, memory_view, next_begins, next_cost, next_enters, passes_by, skip_view, still_behind}
 use Rattle.fir_ground.proofs.WhenWalks.{between, condition_enters, first_begins, first_cost, first_enters, first_notes, second_cost, second_enters, second_notes, when_passed}
 use Rattle.fir_ground.proofs.statements.+statements.Goals as goal
 
@@ -209,3 +211,21 @@ in_statement-returns-in-Wire t c =
     (comes_none f rest walk enters.ahead) (λ later g. refl))
     c.declare.ensures))
     c.in-Wire.is
+
+pub in_statement-returns-in-When : goal.in_statement-returns-in-When
+in_statement-returns-in-When t c =
+    passes_by c.args.frame.now c.args.walk.now c.in_when.new.walk c.args.declared.now c.in_when.new.declared c.args.out.now.items c.in_when.new.out.items
+    c.in_when.result (stmt_of c.args.statement.now) (when_view c.in-When.when c.in-When.place) (ap stmt_of c.in-When.is ∙ when_at c.in-When.place c.in-When.when)
+    c.in_when.ensures
+
+pub in_statement-returns-in-Skip : goal.in_statement-returns-in-Skip
+in_statement-returns-in-Skip t c =
+    let f = c.args.frame.now in
+    let walk = c.args.walk.now in
+    let was = c.args.declared.now in
+    let out = c.args.out.now.items in
+    let p = c.in-Skip.field-0 in
+    rw (ap stmt_of c.in-Skip.is ∙ skip_view p)
+    (λ modules costs whole before rest enters begins legal cost.
+    still_behind f modules whole before rest rest _ was walk walk out out enters
+    (record { comes = comes_none f rest walk enters.ahead; emitted = emitted_none walk.nodes.items out }))

@@ -17,7 +17,7 @@ returns c =
     λ place ts m before rest ahead same.
     let source = c.source-given.ensures ts (scope_at m.modules before) rest ahead in
     let met = meeting m before (named_by n e) in
-    let middle : Walk = record second { meets = c.push.new.self } in
-    let behind = met_behind ts rest (length before.declared) (code.Node c.args.ident second.declared c.source-given.result) met old second c.push.new.self source.passes same
-    c.in_ok-push.ensures.items (refl, source.passes.declared ∙ same, source.is) in
+    let middle : Walk = record second { meets = c.put_meet.new.meets } in
+    let behind = met_behind ts rest (length before.declared) (code.Node c.args.ident second.declared c.source-given.result) met old second c.put_meet.new.meets source.passes same
+    c.in_ok-put_meet.ensures (refl, source.passes.declared ∙ same, source.is) in
     declared_behind ts rest before n (component.node e) (met ∷ []) old middle c.declare.new.self c.declare.result behind c.declare.ensures

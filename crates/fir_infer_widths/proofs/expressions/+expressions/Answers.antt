@@ -30,7 +30,7 @@ in_condition-returns t c = λ tree typed sized ty meant rules rest enters typed_
     let side = c.in_ok-side.side in
     let own = c.in_ok-side.ensures tree typed sized ty meant rules rest enters typed_as in
     come_spot tree scene meant rules rest (spots_within sized e) (code.Condition c.place_of.result side) (of_condition sized e) (sized_type sized e) c.args.walk.now c.in_expression.new.walk _ side own
-    refl refl refl c.in_ok-push.ensures.items (rw c.place_of.ensures (condition_spot tree (types_in scene) (meant ++ own.comes.more) sized e side own.is))
+    refl refl refl c.in_ok-put_spot.ensures (rw c.place_of.ensures (condition_spot tree (types_in scene) (meant ++ own.comes.more) sized e side own.is))
 
 pub in_expression-returns-in-Ref : goal.in_expression-returns-in-Ref
 in_expression-returns-in-Ref t c =
@@ -170,5 +170,5 @@ in_reference-returns t c =
     (come_read tree scene all (rules ++ []) rest own (of_expression sized (sink_expression s)) (sized_type sized (sink_expression s)) passed_by _ side
     (subst (Keeps all (rules ++ [])) (sym (ap (λ (x : Walk). x.arena) stays)) passed.behind.keeps)
     (c.named-side.ensures.ahead (types_in scene) (reference_note typed s) rest passed.behind.ahead)
-    (c.in_ok-push.ensures.items ∙ ap (λ (x : Walk). x.spots.items ++ own ∷ []) stays)
+    (c.in_ok-put_spot.ensures ∙ ap (λ (x : Walk). x.spots.items ++ own ∷ []) stays)
     (ap (λ (x : Walk). x.declared) stays) is (reference_spot tree (types_in scene) all sized c.args.reference side is))

@@ -1,7 +1,5 @@
-use Rattle.std.proofs.Common.{refl}
 use Rattle.fir_type_table.specs.working.Tables.{type_at, types_of}
-use Rattle.fir_infer_widths.specs.working.FirstLeaves.{is_unwritten_input, is_unwritten_shown}
-use Rattle.fir_infer_widths.proofs.FirstFields.{unnumbered_type}
+use Rattle.fir_infer_widths.specs.working.FirstLeaves.{is_unwritten_input}
 use Rattle.fir_infer_widths.proofs.FirstLeaves.{shown_leaves}
 use Rattle.fir_infer_widths.proofs.first_unwritten.find_in_side.Goals as goal
 
@@ -11,5 +9,4 @@ returns-in-Type c =
       c.in-Type.is,
       shown_leaves (is_unwritten_input c.args.inward) c.in-Type.is_bare c.args.side.first
           (type_at (types_of c.args.table.now) c.in-Type.id.number),
-      unnumbered_type (is_unwritten_shown c.in-Type.is_bare c.args.inward) (λ l n. refl) c.args.side.first 0 (type_at (types_of c.args.table.now) c.in-Type.id.number),
     ) c.find_leaf.ensures

@@ -22,7 +22,7 @@ returns c = λ tree scene typed sized meant rules rest enters.
     let made = c.in_ok-first.ensures meant rules (subst (Keeps meant rules) (sym arena) enters.keeps) in
     let keeps = rw c.literal_width.ensures at made.1 in
     let has = next_has meant w c.in_ok-first.first made.0 in
-    let spots = c.in_ok-push.ensures.items ∙ ap (λ (x : Walk). x.spots.items ++ code.Literal c.args.literal c.in_ok-first.first ∷ []) stays in
+    let spots = c.in_ok-put_spot.ensures ∙ ap (λ (x : Walk). x.spots.items ++ code.Literal c.args.literal c.in_ok-first.first ∷ []) stays in
     come_made tree scene meant (w ∷ []) rules rest (code.Literal c.args.literal c.in_ok-first.first) (of_expression sized (literal l)) (sized_type sized (literal l)) c.args.walk.now _ _
     keeps (c.pass_note.ensures.ahead (types_in scene) (expression_note typed (literal l)) rest enters.ahead) spots (ap (λ (x : Walk). x.declared) stays)
     (literal_side (types_in scene) (meant ++ w ∷ []) sized l c.in_ok-first.first has)

@@ -33,7 +33,7 @@ returns c = λ tree typed sized es t meant rules rest enters typed_as sides.
     let number = c.in_ok-first.first in
     let has = next_has meant w number made.0 in
     let operand : Has meant c.first_operand-one.result.first _ = rw one read.has in
-    let spots = c.in_ok-push.ensures.items ∙ ap (λ (x : Walk). x.spots.items ++ code.Operation c.args.place op ks c.first_operand-one.result.first number ∷ []) stays in
+    let spots = c.in_ok-put_spot.ensures ∙ ap (λ (x : Walk). x.spots.items ++ code.Operation c.args.place op ks c.first_operand-one.result.first number ∷ []) stays in
     come_made tree scene meant (w ∷ []) rules rest (code.Operation c.args.place op ks c.first_operand-one.result.first number) (of_expression sized e) (sized_type sized e) c.args.walk.now _ _
     made.1 (c.pass_note.ensures.ahead (types_in scene) (expression_note typed e) rest enters.ahead) spots (ap (λ (x : Walk). x.declared) stays)
     (scalar_side (types_in scene) (meant ++ w ∷ []) c.result_found.result number _ w has (rw (← signed) (c.result_found.ensures (types_in scene) w)))

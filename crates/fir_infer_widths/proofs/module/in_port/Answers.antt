@@ -1,3 +1,4 @@
+use Rattle.std.proofs.lemmas.Result.{on_ok_weaker}
 use Rattle.fir_ast.specs.View.{named_of, type_of}
 use Rattle.fir_meaning.specs.Components as component
 use Rattle.fir_infer_widths.proofs.DeclarationWalks.{main_port_comes, own_side, port_shows}
@@ -8,8 +9,10 @@ returns-then-ground c = λ k m before meant rules rest declares.
     let port = c.args.port.now in
     let own = own_side k c.args.ground.now m before (named_of port.ident) (component.port port.direction (type_of port.ty)) (type_of port.ty) meant rules rest c.args.walk.now declares in
     let at = c.declare-own.ensures _ own.found own.first declares.enters.declared own.at own.from in
-    main_port_comes k c.args.ground.now m before _ port.direction (type_of port.ty) meant rules rest c.args.walk.now declares c.if-ground.true c.declare-own.result c.declare-own.new.self
-    c.push.new.self at.0 at.1 c.in_ok-push.ensures.items
+    on_ok_weaker c.put_spot.result
+    (main_port_comes k c.args.ground.now m before _ port.direction (type_of port.ty) meant rules rest c.args.walk.now declares c.if-ground.true c.declare-own.result c.declare-own.new.self
+    c.put_spot.new.spots at.0 at.1)
+    c.put_spot.ensures
 
 pub returns : goal.returns
 returns c = λ k m before meant rules rest declares.

@@ -1,4 +1,5 @@
 use Rattle.std.proofs.Common.{map, subst, sym}
+use Rattle.std.proofs.lemmas.Result.{on_ok_weaker}
 use Rattle.fir_ast.specs.View.{memory_part_of, named_of}
 use Rattle.fir_meaning.specs.Components.{memory}
 use Rattle.fir_meaning.specs.MemoryTypes.{memory_bundle}
@@ -23,6 +24,8 @@ returns c = λ place k m before meant rules rest enters begins legal.
     let own = own_side k g m before n (memory parts) t meant rules rest c.args.walk.now declares in
     let at = c.declare-own.ensures _ own.found own.first enters.declared own.at own.from in
     let side = subst (λ o. IsSide (types_in g) meant (record { found = own.found; first = own.first }) (as_written o)) has own.is in
-    spot_comes k g m before n (memory parts) t meant rules rest c.args.walk.now declares c.memory_spot.result c.declare-own.new.self c.push.new.self at.1 c.in_ok-push.ensures.items
-    (subst (λ o. IsSpot k (types_in g) meant c.memory_spot.result (of_component m.inside n (memory parts) (as_written o))) (sym has)
-    (c.memory_spot.ensures k m.inside t meant has (rw at.0 own.type) (rw at.0 side)))
+    let spot = subst (λ o. IsSpot k (types_in g) meant c.memory_spot.result (of_component m.inside n (memory parts) (as_written o))) (sym has)
+    (c.memory_spot.ensures k m.inside t meant has (rw at.0 own.type) (rw at.0 side)) in
+    on_ok_weaker c.put_spot.result
+    (λ items. spot_comes k g m before n (memory parts) t meant rules rest c.args.walk.now declares c.memory_spot.result c.declare-own.new.self c.put_spot.new.spots at.1 items spot)
+    c.put_spot.ensures

@@ -13,7 +13,6 @@ use Rattle.fir_meaning.specs.LeafMemories.{arrays_of, leaves_of_data, memory_beh
 use Rattle.fir_meaning.specs.LeafModules.{source}
 use Rattle.fir_leaf_table.specs.declared.giver.Giver.TheVariants as giver
 use Rattle.fir_leaf_table.specs.declared.places.Places.TheVariants as places
-use Rattle.fir_leaf_circuit.specs.declared.leaf_module.MemoryClocks.{MemoryClocks}
 use Rattle.fir_leaf_table.specs.declared.walk.Walk.{Walk}
 use Rattle.fir_leaf_table.specs.working.Memories.{IsMemory}
 use Rattle.fir_leaf_circuit.specs.working.Seen.{role_seen}
@@ -29,7 +28,7 @@ returns c = λ place circuit s before nodes rest enters declared.
     let part = component.memory parts in
     let old = c.args.walk.now in
     let taken = c.next_driver.new.self in
-    let mid : Walk = record taken { arrays = c.push_arrays.new.arrays; memories = c.push.new.self } in
+    let mid : Walk = record taken { arrays = c.push_arrays.new.arrays; memories = c.push_clocks.new.memories } in
     let held = held_types s.widths (sized_array parts) in
     let meant = memory_before s before n parts in
     let words = leaves_of_data (first_one (flat_map data_of_part parts)) in
@@ -41,15 +40,13 @@ returns c = λ place circuit s before nodes rest enters declared.
     subst (λ fs. IsMemory made (memory_behind before.declared first n (map memory_part_of fs)) (held_types s.widths (sized_array (map memory_part_of fs))))
     c.deref.ensures.value (c.in_ok-made.ensures before.declared n s.widths enters.counts.declared many) in
     let is : IsMemory made meant held = memory_here s before n parts made first old enters.counts (c.len-leaves.ensures ∙ old.leaves.ok.0) behind in
-    let clocks : MemoryClocks = record { declaration = taken.declared; port_clocks = c.in_ok-memory_clocks.field-0 } in
     on_ok_weaker c.push_leaves.result
     (λ pushes.
     leaves_come c.args.frame.now circuit s before n part nodes (others ∷ rest) rest c.args.depth (places.Own n.place) (giver.Memory c.deref-2.result)
     (λ l. n.place) (role_in (memory_roles meant)) (memory_arrays s meant parts) (memory_declared meant ∷ []) old mid c.push_leaves.new.walk enters declared
-    (memory_ready s before n parts made is nodes rest old taken mid clocks enters.counts c.next_driver.ensures.stays
+    (memory_ready s before n parts made is nodes rest old taken mid c.next_driver.ensures.stays
     (takes_rest nodes others rest _ taken (c.next_driver.ensures.takes nodes others rest enters.drivers)) refl
-    (c.in_ok-push_arrays.ensures meant words held is (data_held s before n parts made is)) c.in_ok-push.ensures.items refl
-    (c.in_ok-memory_clocks.ensures meant held is))
+    (c.in_ok-push_arrays.ensures meant words held is (data_held s before n parts made is)) (c.in_ok-push_clocks.ensures meant held is))
     pushes
     (λ k l there. record {
       place = refl;

@@ -1,4 +1,5 @@
 use Rattle.std.proofs.Common.{◌++◌, sym, ap, ◌∙◌}
+use Rattle.std.proofs.lemmas.Result.{on_ok_weaker}
 use Rattle.fir_meaning.specs.TypeLeaves.{type_leaves}
 use Rattle.fir_type_table.specs.working.Tables.{types_of}
 use Rattle.fir_types.specs.working.Seen.{flow_seen, found_type, seen}
@@ -11,7 +12,9 @@ pub returns : goal.returns
 returns c =
     let ts = types_of c.args.frame.now.findings.now.table in
     let flow = flow_seen c.args.flow in
-    driven_found flow c.args.driven.now.items c.loop-leaf.driven.items c.loop-leaf.leaf-index c.deref-leaf-items.result.now
-    (type_leaves (found_type ts c.in-Some.found)) c.loop-leaf-test.false c.loop-leaf.invariant
-    (ap flips_seen c.deref-leaf-items.ensures.value ∙ c.in_ok-leaves.ensures.flips)
-    ∙ ap (λ o. c.args.driven.now.items ++ driven_by flow (leaves_of_data (seen ts o))) (sym c.in-Some.is)
+    on_ok_weaker c.push_each.result
+    (λ each.
+    driven_found flow c.args.driven.now.items c.push_each.new.driven.items c.as_slice.result.now (type_leaves (found_type ts c.in-Some.found)) each
+    (ap flips_seen c.as_slice.ensures.value ∙ c.in_ok-leaves.ensures.flips)
+    ∙ ap (λ o. c.args.driven.now.items ++ driven_by flow (leaves_of_data (seen ts o))) (sym c.in-Some.is))
+    c.push_each.ensures

@@ -1,10 +1,11 @@
 use Rattle.std.proofs.Common.{ℕ, List, length, map, sym, ap, ◌∙◌, subst}
-use Rattle.fir_leaf.specs.working.Nodes.{entries, entry_at, term_in}
+use Rattle.std.proofs.lemmas.Result.{IfOk-weaker}
+use Rattle.fir_leaf.specs.working.Nodes.{entries, entry_at, picks_at, term_in}
 use Rattle.fir_meaning.specs.Terms.{terms_of}
 use Rattle.fir_merge.specs.declared.bound.Bound.{Bound}
 use Rattle.fir_merge.specs.declared.index.Index.{Index}
 use Rattle.fir_merge.specs.working.Bounds.{EachBelow, OperationStands, types_in}
-use Rattle.fir_merge.specs.working.Entries.{IndicesBelow, value_in}
+use Rattle.fir_merge.specs.working.Entries.{IndicesBelow, IndicesStand, value_in}
 use Rattle.fir_merge.specs.working.Made.{made, made_each}
 use Rattle.fir_merge.proofs.GrownTerms.{grows_none}
 use Rattle.fir_merge.proofs.StandingEntries.{value_below, value_is, value_stands, values_below, values_stand}
@@ -65,8 +66,37 @@ returns-in-Pick-clause-stands c =
     rw (c.in-Pick.is, c.value_at.ensures) (λ nothing h.
     value_stands (types_in c.args.types.now) c.args.net.now c.args.before.now c.args.bounds.now c.args.nothing.now c.in-Pick.pick.index h nothing)
 
-pub returns-in_ok-add_operation-in-Operation-clause-stands : goal.returns-in_ok-add_operation-in-Operation-clause-stands
-returns-in_ok-add_operation-in-Operation-clause-stands c =
+pub returns-in_ok-indices-in-Absent-clause-stands : goal.returns-in_ok-indices-in-Absent-clause-stands
+returns-in_ok-indices-in-Absent-clause-stands c =
+    let holds = types_in c.args.types.now in
+    let old = c.args.net.now in
+    let known = entries c.args.before.now in
+    let picks = picks_at known c.in-Absent.picks in
+    rw c.in-Absent.is
+    (IfOk-weaker c.add_absent.result _ _
+    (λ r made_so nothing h.
+    let there = subst (λ (xs : List Index). IndicesStand holds old xs picks) (sym c.deref.ensures.value) (c.in_ok-indices-in-Absent.ensures.stand holds old h) in
+    made_so holds picks nothing there) c.add_absent.ensures.stands)
+
+pub returns-in-Literal-clause-stands : goal.returns-in-Literal-clause-stands
+returns-in-Literal-clause-stands c =
+    rw c.in-Literal.is
+    (IfOk-weaker c.add_literal.result _ _ (λ r made_so nothing h. made_so (types_in c.args.types.now) nothing) c.add_literal.ensures.stands)
+
+pub returns-in_ok-indices-in-Read-clause-stands : goal.returns-in_ok-indices-in-Read-clause-stands
+returns-in_ok-indices-in-Read-clause-stands c =
+    let holds = types_in c.args.types.now in
+    let old = c.args.net.now in
+    let known = entries c.args.before.now in
+    let picks = picks_at known c.in-Read.picks in
+    rw c.in-Read.is
+    (IfOk-weaker c.add_read.result _ _
+    (λ r made_so nothing h.
+    let there = subst (λ (xs : List Index). IndicesStand holds old xs picks) (sym c.deref-in-Read.ensures.value) (c.in_ok-indices-in-Read.ensures.stand holds old h) in
+    made_so picks nothing there) c.add_read.ensures.stands)
+
+pub returns-in_ok-operands-in-Operation-clause-stands : goal.returns-in_ok-operands-in-Operation-clause-stands
+returns-in_ok-operands-in-Operation-clause-stands c =
     let holds = types_in c.args.types.now in
     let old = c.args.net.now in
     let new = c.add_operation.new.net in
@@ -74,39 +104,44 @@ returns-in_ok-add_operation-in-Operation-clause-stands c =
     let bounds = c.args.bounds.now in
     let op = c.in-Operation.op in
     let places = c.in-Operation.operands.items in
-    let r = c.in_ok-add_operation-in-Operation.field-0 in
     let found = c.deref-in-Operation-2.ensures.value ∙ c.in_ok-operands-in-Operation.ensures
     ∙ ap (map (value_in before bounds c.args.nothing.now)) c.deref-in-Operation.ensures.value in
-    let integers = subst (λ (ks : List ℕ). OperationStands old new op c.deref-in-Operation-2.result.now ks r) c.deref-in-Operation-3.ensures.value
-    c.in_ok-add_operation-in-Operation.ensures.stands in
+    rw c.in-Operation.is
+    (IfOk-weaker c.add_operation.result _ _
+    (λ r made_so nothing h.
+    let integers = subst (λ (ks : List ℕ). OperationStands old new op c.deref-in-Operation-2.result.now ks r) c.deref-in-Operation-3.ensures.value made_so in
     let stands = subst (λ (bs : List Bound). OperationStands old new op bs c.in-Operation.integers.items r) found integers in
-    rw c.in-Operation.is (λ nothing h.
     stands holds (made_each holds (terms_of (map (λ i. term_in (entry_at (entries before) i)) places)))
-    (values_stand holds old before bounds c.args.nothing.now places h nothing))
+    (values_stand holds old before bounds c.args.nothing.now places h nothing)) c.add_operation.ensures.stands)
 
-pub returns-in_ok-add_choice-in-Mux-clause-stands : goal.returns-in_ok-add_choice-in-Mux-clause-stands
-returns-in_ok-add_choice-in-Mux-clause-stands c =
+pub returns-in-Mux-clause-stands : goal.returns-in-Mux-clause-stands
+returns-in-Mux-clause-stands c =
     let holds = types_in c.args.types.now in
     let old = c.args.net.now in
     let before = c.args.before.now in
     let bounds = c.args.bounds.now in
     let zero = c.args.nothing.now in
     let there = λ (i : ℕ). made holds (term_in (entry_at (entries before) i)) in
-    rw c.in-Mux.is (λ nothing h.
-    c.in_ok-add_choice-in-Mux.ensures.stands holds (there c.in-Mux.c) (there c.in-Mux.a) (there c.in-Mux.b)
+    rw c.in-Mux.is
+    (IfOk-weaker c.add_choice.result _ _
+    (λ r made_so nothing h.
+    made_so holds (there c.in-Mux.c) (there c.in-Mux.a) (there c.in-Mux.b)
     (value_is holds old before bounds zero c.in-Mux.c c.value_at-c.result h nothing c.value_at-c.ensures)
     (value_is holds old before bounds zero c.in-Mux.a c.value_at-a.result h nothing c.value_at-a.ensures)
-    (value_is holds old before bounds zero c.in-Mux.b c.value_at-b.result h nothing c.value_at-b.ensures))
+    (value_is holds old before bounds zero c.in-Mux.b c.value_at-b.result h nothing c.value_at-b.ensures)) c.add_choice.ensures.stands)
 
-pub returns-in_ok-add_validif-in-Validif-clause-stands : goal.returns-in_ok-add_validif-in-Validif-clause-stands
-returns-in_ok-add_validif-in-Validif-clause-stands c =
+pub returns-in-Validif-clause-stands : goal.returns-in-Validif-clause-stands
+returns-in-Validif-clause-stands c =
     let holds = types_in c.args.types.now in
     let old = c.args.net.now in
     let before = c.args.before.now in
     let bounds = c.args.bounds.now in
     let zero = c.args.nothing.now in
     let there = λ (i : ℕ). made holds (term_in (entry_at (entries before) i)) in
-    rw c.in-Validif.is (λ nothing h.
-    c.in_ok-add_validif-in-Validif.ensures.stands holds (there c.in-Validif.c) (there c.in-Validif.a) nothing
+    rw c.in-Validif.is
+    (IfOk-weaker c.add_validif.result _ _
+    (λ r made_so nothing h.
+    made_so holds (there c.in-Validif.c) (there c.in-Validif.a) nothing
     (value_is holds old before bounds zero c.in-Validif.c c.value_at-c-in-Validif.result h nothing c.value_at-c-in-Validif.ensures)
     (value_is holds old before bounds zero c.in-Validif.a c.value_at-a-in-Validif.result h nothing c.value_at-a-in-Validif.ensures))
+    c.add_validif.ensures.stands)

@@ -1,12 +1,20 @@
-use Rattle.std.proofs.Common.{◌+◌, List, [], ◌∷◌, ◌++◌, take, Option, Some, None, sym, ap, ◌∙◌, subst, append-nil}
+use Rattle.std.proofs.Common.{◌+◌, List, [], ◌∷◌, ◌++◌, length, take, Option, Some, None, refl, sym, ap, ◌∙◌, subst, append-nil}
 use Rattle.std.specs.Option.{option_to_list}
 use Rattle.std.proofs.lemmas.List.{take_all, take_more}
+use Rattle.std.proofs.lemmas.Option.{slice_get_read}
 use Rattle.fir_net.specs.declared.reads.Read.{Read}
 use Rattle.fir_tick.specs.declared.steps.Step.{Step}
 use Rattle.fir_tick.specs.working.Steps.{AreSteps, IsWorkOf}
 use Rattle.fir_tick.proofs.StepTasks.{steps_more}
 use Rattle.fir_tick.proofs.steps.steps_of.Goals as goal
 use Rattle.fir_tick.proofs.steps.steps_of.Goals.{in-Some+in_ok-push, in_default}
+
+pub step_of-requires-clause-there : goal.step_of-requires-clause-there
+step_of-requires-clause-there c =
+    let order = c.args.order.now in
+    let n = c.loop-read.read-index in
+    let v = c.read-item.result in
+    c.requires.ordered.only n v (slice_get_read order (length order) n v refl c.loop-read-test.true c.read-item.is)
 
 pub loop-read-preserved : goal.loop-read-preserved
 loop-read-preserved c =

@@ -1,29 +1,9 @@
-use Rattle.std.proofs.Common.{◌++◌, map, ap, ◌∙◌}
-use Rattle.ver_ast.specs.declared.tree.Item.TheVariants as item
-use Rattle.ver_build.specs.declared.right_sides.Inner.{Inner}
-use Rattle.ver_build.specs.working.Built.{inner_wire, inner_assign}
+use Rattle.std.proofs.Common.{◌∙◌}
 use Rattle.ver_build.proofs.Tree.{tree_built}
 use Rattle.ver_build.proofs.building.built_tree.Goals as goal
 
 pub returns : goal.returns
 returns c =
     tree_built c.args.net.now c.args.table.now c.args.places.now c.args.order.now
-    (record { name = c.in_ok-copy.field-0; ports = c.from_vec.result; items = c.from_vec-2.result })
-    (c.in_ok-copy.ensures ∙ c.module_name.ensures) (c.from_vec.ensures ∙ c.in_ok-ports_of.ensures)
-    (record {
-      none = c.in_ok-items.items.items;
-      regs = c.put_regs.new.items.items;
-      wires = c.put_wires.new.items.items;
-      inner_assigns = c.put_inner_assigns.new.items.items;
-      assigns = c.put_output_assigns.new.items.items;
-      nothing = c.in_ok-items.ensures.items;
-      put_regs = c.in_ok-put_regs.ensures;
-      put_wires =
-          c.in_ok-put_wires.ensures ∙ ap (λ xs. c.put_regs.new.items.items ++ map (λ (i : Inner). item.Wire (inner_wire i)) xs)
-          (c.as_slice.ensures.value ∙ c.in_ok-inners.ensures);
-      put_inner_assigns =
-          c.in_ok-put_inner_assigns.ensures ∙ ap (λ xs. c.put_wires.new.items.items ++ map (λ (i : Inner). item.Assign (inner_assign i)) xs)
-          c.in_ok-inners.ensures;
-      put_assigns = c.in_ok-put_output_assigns.ensures;
-      put_blocks = c.from_vec-2.ensures ∙ c.in_ok-put_blocks.ensures;
-    })
+    (record { name = c.in_ok-name.name; ports = c.from_vec.result; items = c.from_vec-2.result })
+    (c.in_ok-name.ensures ∙ c.module_name.ensures) (c.from_vec.ensures ∙ c.in_ok-ports.ensures) (c.from_vec-2.ensures ∙ c.in_ok-items.ensures)

@@ -13,6 +13,7 @@ use Rattle.fir_infer_resets.specs.working.FirstPairs.{Met, first_pairs, first_fi
 use Rattle.fir_infer_resets.specs.working.FirstEnds.{JoinsMet}
 use Rattle.fir_infer_resets.proofs.MetSteps.{none_met, part_met, same_met}
 use Rattle.fir_infer_resets.proofs.MetFields.{shown_from, fields_next, fields_end, partial_next, partial_over, partial_end, partial_bundles, min_reached}
+use Rattle.fir_infer_resets.proofs.ScalarPairs.{met_at, scalar_pairs}
 use Rattle.fir_infer_resets.proofs.pairs.Sides.+pairs.Goals as goal
 use Rattle.fir_infer_resets.proofs.pairs.Sides.+pairs.Goals.{join_partial_fields-in-Some+in_ok-join_behind, join_partial_fields-in_default}
 
@@ -126,6 +127,26 @@ join_types-returns-then-self-clause-joined t c =
     (same_met (circuit_of s.named.now) s.module_number s.left s.right _ _ c.args.joined.now c.join_partial_fields.new.joined
     (partial_bundles s.partly path (found_type ts c.args.one) (found_type ts c.args.other) (found_type ts (found.Type arm.b arm.y)) fs gs c.if-self.true arm.ensures.0 arm.ensures.1 arm.ensures.2))
     c.join_partial_fields.ensures.joined
+
+pub join_types-returns-in-Vectors-clause-joined : goal.join_types-returns-in-Vectors-clause-joined
+join_types-returns-in-Vectors-clause-joined t c =
+    let s = c.args.self.now in
+    on_ok_weaker c.join_behind.result
+    (same_met (circuit_of s.named.now) s.module_number s.left s.right _ _ c.args.joined.now c.join_behind.new.joined (sym (c.in-Vectors.ensures.0 s.partly (path_of c.args.steps.now.items))))
+    c.join_behind.ensures.joined
+
+pub join_types-returns-in-Scalars-clause-joined : goal.join_types-returns-in-Scalars-clause-joined
+join_types-returns-in-Scalars-clause-joined t c =
+    let s = c.args.self.now in
+    let ts = types_of s.table.now in
+    let one = found_type ts c.args.one in
+    let other = found_type ts c.args.other in
+    let path = path_of c.args.steps.now.items in
+    let arm = c.in-Scalars in
+    let pair = ap (λ l. met_at one other (path_of l)) c.as_slice.ensures.value
+    ∙ sym (scalar_pairs s.partly path one other arm.k arm.l arm.ensures.0 arm.ensures.1) in
+    on_ok_weaker c.join_scalars.result (same_met (circuit_of s.named.now) s.module_number s.left s.right _ _ c.args.joined.now c.join_scalars.new.joined pair)
+    (c.join_scalars.ensures one other arm.ensures.0 arm.ensures.1)
 
 pub join_types-returns-in-Apart-clause-joined : goal.join_types-returns-in-Apart-clause-joined
 join_types-returns-in-Apart-clause-joined t c =

@@ -39,6 +39,12 @@ decreases-index l = rank l.depth 5
 abbrev pub decreases-next_operand : goal.decreases-next_operand
 decreases-next_operand l = rank l.depth 5
 
+abbrev pub decreases-boxed_operand : goal.decreases-boxed_operand
+decreases-boxed_operand l = rank l.depth 5
+
+abbrev pub decreases-next_boxed_operand : goal.decreases-next_boxed_operand
+decreases-next_boxed_operand l = rank l.depth 6
+
 abbrev pub decreases-binary : goal.decreases-binary
 decreases-binary l = rank l.depth 6
 
@@ -52,10 +58,10 @@ abbrev pub decreases-with_range : goal.decreases-with_range
 decreases-with_range l = rank l.depth 6
 
 abbrev pub decreases-mux : goal.decreases-mux
-decreases-mux l = rank l.depth 6
+decreases-mux l = rank l.depth 7
 
 abbrev pub decreases-validif : goal.decreases-validif
-decreases-validif l = rank l.depth 6
+decreases-validif l = rank l.depth 7
 
 abbrev pub decreases-operation : goal.decreases-operation
 decreases-operation l = rank l.depth 7

@@ -3,13 +3,14 @@ use Rattle.std.proofs.lemmas.List.{length-map}
 use Rattle.std.proofs.lemmas.Bool.{eqb-true}
 use Rattle.std.specs.Str.{bytes_eq}
 use Rattle.fir_ast.specs.Statements.{done, invalid}
-use Rattle.fir_ast.specs.View.{block_of, stmt_of}
+use Rattle.fir_ast.specs.View.{block_of, expr_of, stmt_of}
 use Rattle.fir_parse.specs.declared.lexeme.Lexeme.{Lexeme}
 use Rattle.fir_parse.specs.declared.lexeme.Lexeme.TheVariants.{Word, Mark, LevelOpens, LevelCloses, End}
 use Rattle.fir_parse.specs.declared.lexeme.Mark.TheVariants.{Colon}
 use Rattle.fir_parse.specs.declared.words.Lead.TheVariants as lead
 use Rattle.fir_parse.specs.Lexemes.{word, mark, level_opens, level_closes}
 use Rattle.fir_parse.specs.working.Seen.{seen}
+use Rattle.fir_parse.specs.working.PartPlans.{block_behind_plan}
 use Rattle.fir_parse.specs.working.Reading.{read_on}
 use Rattle.fir_parse.specs.working.Reads.{rest}
 use Rattle.fir_parse.specs.working.States.{wants}
@@ -130,6 +131,14 @@ indented_block-returns-in_default-clause-reads t c = λ end k.
     stays_before (an_indented_block c.args.depth) done (seen c.peek-next.result.lexeme) c.peek-next.result.place _ (stands_there _ c.peek-next.result.lexeme c.peek-next.result.place c.peek-next.ensures c.in_default.not-End) (no_block c.args.depth c.peek-next.result.lexeme c.peek-next.result.place c.in_default.not-LevelOpens) end k
     ∙ ap (λ l. read_on everywhere end (k (block_of (map stmt_of l))) (rest c.args.self.now)) (sym c.new.ensures.items)
 
+pub when_behind-returns-in_err-block-clause-reads : goal.when_behind-returns-in_err-block-clause-reads
+when_behind-returns-in_err-block-clause-reads t c =
+    exits_behind _ (λ k. block_behind_plan c.args.depth k) _ _ _ _ c.from_residual.result _ (λ k b. k (record { place = c.args.place; condition = expr_of c.args.condition; block = b })) c.from_residual.ensures.1
+    (λ end k. refl) c.in_err-block.ensures.reads
+
+pub when_behind-returns-clause-reads : goal.when_behind-returns-clause-reads
+when_behind-returns-clause-reads t c = λ end k. c.in_ok-block.ensures.reads end (λ b. k (record { place = c.args.place; condition = expr_of c.args.condition; block = b }))
+
 pub behind_else-returns-in_err-line_end-in-Mark-Colon-clause-reads : goal.behind_else-returns-in_err-line_end-in-Mark-Colon-clause-reads
 behind_else-returns-in_err-line_end-in-Mark-Colon-clause-reads t c =
     exits_behind _ _ _ _ _ _ c.from_residual.result _ _ c.from_residual.ensures.1
@@ -237,7 +246,7 @@ next_statement-returns-in_err-begun-clause-reads t c =
       | next_statement-else-eq-via-then-eq+else-not-is_empty w ↦ no_whens c.args.sequence.pending.items c.args.name.now (none_left c.args.sequence.pending.items (sym c.args.sequence.pending.ok.0 ∙ eqb-true _ _ (sym w.is_empty.ensures ∙ w.if-not-is_empty.false)))
       | next_statement-else-eq-via-else-eq w ↦ let apart : bytes_eq c.args.name.now (codes "else") ≡ false = search rules in no_else_word (opens_of c.args.sequence) c.args.name.now apart
     ] in
-    exits_before (λ k. more_statements c.args.depth c.args.sequence k) (wants (behind_first c.args.depth c.args.place c.args.name.now)) (λ s k. more_statements c.args.depth s k) _ _ _ c.from_residual.result _ (λ k s. behind_statement c.args.depth s (λ behind. k (statements_before (done_of c.args.sequence) (closed_before (opens_of c.args.sequence) done behind)))) c.from_residual.ensures.1
+    exits_before (λ k. more_statements c.args.depth c.args.sequence k) (wants (behind_first c.args.depth c.args.place c.args.name.now)) (λ s k. more_statements c.args.depth s k) _ _ _ c.from_residual-in_err-begun.result _ (λ k s. behind_statement c.args.depth s (λ behind. k (statements_before (done_of c.args.sequence) (closed_before (opens_of c.args.sequence) done behind)))) c.from_residual-in_err-begun.ensures.1
     (λ end k. takes_first (statements c.args.depth (opens_of c.args.sequence)) _ (word c.args.name.now) c.args.place _ _ c.requires.at_hand c.pass.ensures.rest (first_word c.args.depth (opens_of c.args.sequence) c.args.name.now c.args.place no_else_here) end (λ behind. k (statements_before (done_of c.args.sequence) behind)))
     c.in_err-begun.ensures.reads
 

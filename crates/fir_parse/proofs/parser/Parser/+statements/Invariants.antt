@@ -10,19 +10,22 @@ use Rattle.fir_parse.proofs.parser.Parser.+statements.Given as goal
 use Rattle.fir_parse.specs.Limits.{everywhere}
 
 abbrev pub decreases-begun : goal.decreases-begun
-decreases-begun l = 4 * left l.self.now + 3
+decreases-begun l = 4 * left l.self.now + 4
 
 abbrev pub decreases-two_words : goal.decreases-two_words
-decreases-two_words l = 4 * left l.self.now + 2
+decreases-two_words l = 4 * left l.self.now + 3
 
 abbrev pub decreases-behind_is : goal.decreases-behind_is
-decreases-behind_is l = 4 * left l.self.now + 2
+decreases-behind_is l = 4 * left l.self.now + 3
 
 abbrev pub decreases-declared : goal.decreases-declared
-decreases-declared l = 4 * left l.self.now + 1
+decreases-declared l = 4 * left l.self.now + 2
 
 abbrev pub decreases-when_behind : goal.decreases-when_behind
-decreases-when_behind l = 4 * left l.self.now
+decreases-when_behind l = 4 * left l.self.now + 1
+
+abbrev pub decreases-block_behind : goal.decreases-block_behind
+decreases-block_behind l = 4 * left l.self.now
 
 abbrev pub decreases-indented_block : goal.decreases-indented_block
 decreases-indented_block l = 4 * left l.self.now

@@ -1,0 +1,3 @@
+-- What no clause of `run` reads: views of the code, its tables and its walks.
+pub mod Commanded
+pub mod Endings

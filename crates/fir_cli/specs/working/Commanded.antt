@@ -1,0 +1,12 @@
+-- A command of the code, as the definitions see it.
+use Rattle.fir_cli.specs.declared.command.Command.{Command as CommandOfCode}
+use Rattle.fir_cli.specs.declared.command.Command.TheVariants as code
+use Rattle.fir_cli.specs.declared.command.Simulation.{Simulation}
+use Rattle.fir_cli.specs.Command.{Command, Simulated, emit, sim, simulation_of}
+
+abbrev pub simulated : Simulation → Simulated
+simulated s = simulation_of s.circuit.now s.trace.now s.with_state
+
+abbrev pub commanded : CommandOfCode → Command
+commanded (code.Emit name) = emit name.now
+commanded (code.Sim s) = sim (simulated s)

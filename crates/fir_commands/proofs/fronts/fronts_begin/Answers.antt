@@ -1,5 +1,0 @@
-use Rattle.fir_commands.proofs.FirstLines.{fronts_begin}
-use Rattle.fir_commands.proofs.fronts.fronts_begin.Goals as goal
-
-pub returns : goal.returns
-returns c = fronts_begin c.front_lines_begin.ensures

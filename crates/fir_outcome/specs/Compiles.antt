@@ -1,0 +1,44 @@
+-- When a Verilog tree is what a circuit compiles to.
+-- It is named after the circuit; its items are arranged, with a block for just those registers that a statement of the circuit drives or that have a reset; it is
+-- valid; and at every tick it allows what the circuit's source allows, so that their runs are equal. From each state of their shape, through all ticks of it, each has
+-- exactly one run.
+use Rattle.std.specs.Prelude.{◌≡◌, ◌↔◌, ℕ, List}
+use Rattle.fir_base.specs.Ticks.{Tick, TickResult}
+use Rattle.ver_ast.specs.declared.tree.Verilog.{Verilog}
+use Rattle.ver_ast.specs.Valid.{Valid}
+use Rattle.ver_ast.specs.Nets.{shape as v_shape}
+use Rattle.ver_ast.specs.Allows.{VOne, VAllows, VRun}
+use Rattle.fir_ast.specs.Circuits.{CircuitTree}
+use Rattle.fir_meaning.specs.Elaborated.{IsSourceOf}
+use Rattle.fir_meaning.specs.LeafedModules.{Scene, leafed_module}
+use Rattle.fir_meaning.specs.Scenes.{IsSceneOf}
+use Rattle.fir_meaning.specs.SourceCircuits.{source_shape}
+use Rattle.fir_meaning.specs.SourceDesigns.{SourceDesign}
+use Rattle.fir_meaning.specs.SourceOne.{One}
+use Rattle.ver_build.specs.NamedFor.{IsNamedFor}
+use Rattle.ver_build.specs.Arranged.{IsArranged}
+use Rattle.fir_inst.specs.SourceRows.{source_rows, source_words}
+use Rattle.fir_inst.specs.TakingRegisters.{taking_words}
+use Rattle.fir_outcome.specs.Runs.{RunsOnce}
+use Rattle.fir_outcome.specs.Sources.{SourceAllows, SourceRun}
+
+-- in a circuit of that name, whose source is this tree
+pub record CompilesTo (name : List ℕ) (t : SourceDesign) (v : Verilog) : Type 0 where
+  pub named : IsNamedFor name (source_rows t) (source_words t) v
+  pub shapes : v_shape v ≡ source_shape t
+  pub one : One t
+  pub allows : (state : List ℕ) (tick : Tick) (shown after : List ℕ) → VAllows v state tick shown after ↔ SourceAllows t state tick shown after
+  pub runs : (state : List ℕ) (ticks : List Tick) (shown : List TickResult) → VRun v state ticks shown ↔ SourceRun t state ticks shown
+  pub runs_once : RunsOnce (source_shape t) (SourceAllows t)
+
+pub record Compiles (c : CircuitTree) (v : Verilog) : Type 0 where
+  pub arranged : IsArranged v
+  -- of the one module of the circuit
+  pub driven : (s : Scene) → IsSceneOf c 0 s → arranged.driven ≡ taking_words (leafed_module s)
+  pub valid : Valid v
+  pub v_one : VOne v
+  pub v_runs_once : RunsOnce (v_shape v) (VAllows v)
+  -- the circuit has a source, and whichever it is, the tree means it
+  pub source : SourceDesign
+  pub is_source : IsSourceOf c source
+  pub each : (t : SourceDesign) → IsSourceOf c t → CompilesTo c.named.name t v

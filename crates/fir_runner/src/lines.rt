@@ -1,0 +1,76 @@
+//! The lines of a simulation, put to the output some tens of kilobytes at a time.
+
+ghost use Rattle.std.specs.Prelude.{◌≡◌, []};
+ghost use Rattle.fir_runner.specs.working.Running.{IsReady, IsRunning};
+ghost use Rattle.fir_runner.specs.working.Lined.{Lined, RestPut};
+
+use crate::runner::Runner;
+use fir_base::Refused;
+use fir_io::{PutFault, Sink};
+use std::alloc::Global;
+use trace_text::TraceFault;
+
+/// How many bytes of lines are gathered before they are put to the output.
+const GATHERED: usize = 32768;
+
+/// How the ticks of a simulation end.
+#[derive(Clone, Copy)]
+pub enum Finish {
+    /// The trace has no more ticks.
+    AllRun,
+    /// The trace has a bad line.
+    BadLine(TraceFault),
+    /// Lines could not be written.
+    Unwritten,
+    /// Memory was wanted and not there.
+    NoMemory,
+}
+
+/// Runs the ticks of the trace, gathers the line of each, and puts them to the output.
+pub fn put_lines<S: Sink>(
+    alloc: Global,
+    runner: &mut Runner,
+    trace: &[u8],
+    with_state: bool,
+    out: &mut S,
+) -> Finish
+    requires ready { IsReady trace.now runner.old }
+    requires begun { IsRunning trace.now with_state runner.old [] }
+    ensures { Lined trace.now runner.old.sim.net runner.old.shape with_state (S.seen out.old) (S.seen out.new) result }
+{
+    let mut lines = Vec::new(alloc);
+    // each tick takes a byte of the trace at least
+    for _ in 0..trace.len() + 1 {
+        match runner.step(alloc, trace, with_state, &mut lines) {
+            Ok(true) => {
+                if lines.len() >= GATHERED {
+                    match out.put(lines.as_slice()) {
+                        Ok(()) => lines.clear(),
+                        Err(PutFault::Failed) => return Finish::Unwritten,
+                        Err(PutFault::Memory) => return Finish::NoMemory,
+                    }
+                }
+            }
+            Ok(false) => return put_rest(lines.as_slice(), out, Finish::AllRun),
+            Err(Refused::Fault(fault)) => {
+                return put_rest(lines.as_slice(), out, Finish::BadLine(fault));
+            }
+            Err(Refused::Memory) => return put_rest(lines.as_slice(), out, Finish::NoMemory),
+        }
+    }
+    unreachable!()
+}
+
+/// Puts the lines that are still gathered where the ticks end.
+fn put_rest<S: Sink>(lines: &[u8], out: &mut S, finish: Finish) -> Finish
+    ensures { RestPut lines.now finish (S.seen out.old) (S.seen out.new) result }
+{
+    if lines.is_empty() {
+        return finish;
+    }
+    match out.put(lines) {
+        Ok(()) => finish,
+        Err(PutFault::Failed) => Finish::Unwritten,
+        Err(PutFault::Memory) => Finish::NoMemory,
+    }
+}

@@ -1,0 +1,9 @@
+pub mod WordPieces
+pub mod TypesKeepWords
+pub mod ExpressionsKeepWords
+pub mod StatementsKeepWords
+pub mod TypeWords
+pub mod StatementWords
+pub mod CircuitWords
+pub mod FrontWords
+pub mod LexedWords
