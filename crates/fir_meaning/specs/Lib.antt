@@ -54,6 +54,7 @@ pub mod LeafModules
 pub mod LeafMemories
 pub mod LeafedModules
 pub mod Choices
+pub mod Outcomes
 pub mod UndrivenChoices
 pub mod Scenes
 pub mod UndrivenLeaves
@@ -86,7 +87,15 @@ pub mod SourceCircuits
 pub mod SourceValues
 pub mod SourceAllows
 pub mod SourceOne
+pub mod Visits
+pub mod SourceReads
+pub mod SourceDrives
+pub mod SourceChoices
+pub mod SourceUndriven
+pub mod SourceUndrivenGroup
 pub mod Elaborated
+pub mod SourceDependence
+pub mod SourceLoops
 pub mod Dependence
 pub mod CircuitDependence
 pub mod LeafNames

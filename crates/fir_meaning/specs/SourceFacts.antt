@@ -1,8 +1,11 @@
--- What the declarations of a module say of a leaf, by its path in the module: how many whens stand round its declaration, and whether statements may drive it
--- (FIRRTL spec, "Conditional Scopes", "Flow").
+-- What the declarations of a module say of a leaf, by its path in the module: how many whens stand round its declaration, whether statements may drive it, and
+-- where it stands (FIRRTL spec, "Conditional Scopes", "Flow").
 use Rattle.std.specs.Prelude.{ℕ, zero, List, [], ◌∷◌, not, Bool, false, if◌then◌else◌, Option, Some, None}
+use Rattle.fir_ast.specs.declared.place.Place.{Place}
+use Rattle.fir_ast.specs.Circuits.{ModuleTree, PortTree}
 use Rattle.fir_meaning.specs.LeafPaths.{LeafPath, named}
-use Rattle.fir_meaning.specs.Components.{Declaration, find}
+use Rattle.fir_meaning.specs.Components.{Component, Declaration, find, instance}
+use Rattle.fir_meaning.specs.ResetJoins.{numbered_module, port_place}
 use Rattle.fir_meaning.specs.ComponentTypes.{typed_scope}
 use Rattle.fir_meaning.specs.Flows.{Flow, flow_under, is_source}
 use Rattle.fir_meaning.specs.TypeLeaves.{TypeLeaf}
@@ -36,3 +39,25 @@ driven_of (Some k) path = driven_under k.flow (flip_on (leaves_of_data k.data_ty
 abbrev pub source_may_drive : Scene → LeafPath → Bool
 source_may_drive s (named x ∷ path) = driven_of (known (typed_scope s.own.modules (declarations s.own.inside)) x) path
 source_may_drive s _ = false
+
+abbrev pub ports_where : Option (ℕ × ModuleTree) → List PortTree
+ports_where None = []
+ports_where (Some child) = child.1.ports
+
+-- a leaf of an instance that is driven within it stands at the port of its module, any other at its declaration
+abbrev pub place_of_leaf : List ModuleTree → Bool → Place → Component → LeafPath → Place
+place_of_leaf modules is_driven p (instance other) path =
+    if is_driven then p else port_place p (ports_where (numbered_module 0 modules other)) path
+place_of_leaf modules is_driven p c path = p
+
+abbrev pub no_place : Place
+no_place = record { line = 0; col = 0 }
+
+abbrev pub place_where : List ModuleTree → Bool → Option Declaration → LeafPath → Place
+place_where modules is_driven None path = no_place
+place_where modules is_driven (Some d) path = place_of_leaf modules is_driven d.named.place d.component path
+
+abbrev pub source_place : Scene → LeafPath → Place
+source_place s (named x ∷ path) =
+    place_where s.own.modules (source_may_drive s (named x ∷ path)) (find (declarations s.own.inside) x) path
+source_place s _ = no_place

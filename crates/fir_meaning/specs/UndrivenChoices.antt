@@ -1,10 +1,10 @@
 -- Which choices leave a leaf undriven, and which of them is told (FIRRTL spec, "Initialization of Components").
 -- A choice is told by the outcomes of the whens and of the statements through indices that are reached and that hold a statement that drives the leaf. The
 -- one is told whose outcomes come first, compared in the order of the text: 0 before 1, and a miss before a hit.
-use Rattle.std.specs.Prelude.{◌≡◌, ℕ, ◌+◌, List, [], ◌∷◌, ◌++◌, Bool, true, false, ◌&&◌, ◌||◌, ◌==◌, nat_lt, if◌then◌else◌, None}
+use Rattle.std.specs.Prelude.{◌≡◌, ℕ, ◌+◌, List, [], ◌∷◌, ◌++◌, Bool, false, ◌&&◌, ◌||◌, nat_lt, if◌then◌else◌, None}
 use Rattle.fir_ast.specs.declared.fault.Outcome.{Outcome}
 use Rattle.fir_ast.specs.declared.fault.Outcome.TheVariants as outcome
-use Rattle.fir_ast.specs.declared.place.Place.{Place}
+use Rattle.fir_meaning.specs.Outcomes.{ComesFirst, told_once, write_told}
 use Rattle.fir_meaning.specs.TermReads.{reached, is_picked, is_among}
 use Rattle.fir_meaning.specs.LeafBlocks.{LeafStatement, LeafBlock, drive, when, instance, done, then}
 use Rattle.fir_meaning.specs.Choices.{Choice, first_part, second_part, last_all}
@@ -19,10 +19,6 @@ abbrev mutual
   pub drives_any : ℕ → LeafBlock → Bool
   drives_any x done = false
   drives_any x ((then) s b) = drives x s || drives_any x b
-
-abbrev pub write_told : Bool → Place → Bool → List Outcome
-write_told true p hit = outcome.Index p hit ∷ []
-write_told false p hit = []
 
 -- the same, where the leaf is declared within so many whens
 module _ (depth x : ℕ) where
@@ -43,30 +39,6 @@ module _ (depth x : ℕ) where
 
   abbrev pub IsUndriven : LeafBlock → Choice → Type 0
   IsUndriven b f = last_all depth x b 0 f ≡ None
-
--- outcomes of which the first that differs is 0 in the one and 1 in the other, or that are the same
-abbrev pub ComesFirst : List Outcome → List Outcome → Type 0
-ComesFirst [] [] = Unit {0}
-ComesFirst (outcome.When p false ∷ l) (outcome.When q true ∷ m) = p ≡ q
-ComesFirst (outcome.When p false ∷ l) (outcome.When q false ∷ m) = (p ≡ q) × ComesFirst l m
-ComesFirst (outcome.When p true ∷ l) (outcome.When q true ∷ m) = (p ≡ q) × ComesFirst l m
-ComesFirst (outcome.Index p false ∷ l) (outcome.Index q true ∷ m) = p ≡ q
-ComesFirst (outcome.Index p false ∷ l) (outcome.Index q false ∷ m) = (p ≡ q) × ComesFirst l m
-ComesFirst (outcome.Index p true ∷ l) (outcome.Index q true ∷ m) = (p ≡ q) × ComesFirst l m
-ComesFirst _ _ = ⊥
-
--- a statement that drives the leaf from both its sides is told once
-abbrev pub is_same_miss : Outcome → Outcome → Bool
-is_same_miss (outcome.Index p false) (outcome.Index q false) = p.line == q.line && p.col == q.col
-is_same_miss _ _ = false
-
-abbrev pub told_behind : Outcome → List Outcome → List Outcome
-told_behind o [] = []
-told_behind o (p ∷ ps) = if is_same_miss o p then told_behind p ps else p ∷ told_behind p ps
-
-abbrev pub told_once : List Outcome → List Outcome
-told_once [] = []
-told_once (o ∷ os) = o ∷ told_behind o os
 
 -- a choice of which these outcomes are told leaves the leaf undriven, and of each that does the outcomes come no earlier
 pub record IsFirstUndriven (depth x : ℕ) (b : LeafBlock) (outcomes : List Outcome) : Type 0 where
