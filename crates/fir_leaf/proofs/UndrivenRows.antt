@@ -11,7 +11,8 @@ use Rattle.fir_meaning.specs.LeafPaths.{LeafPath, element, named, path_text}
 use Rattle.fir_meaning.specs.SizedDeclarations.{NumberedModule, numbered_modules}
 use Rattle.fir_meaning.specs.TermReads.{multiples}
 use Rattle.fir_meaning.specs.Choices.{Choice}
-use Rattle.fir_meaning.specs.UndrivenChoices.{ComesFirst, IsFirstUndriven, IsUndriven, told_all, told_once}
+use Rattle.fir_meaning.specs.UndrivenChoices.{IsFirstUndriven, IsUndriven, told_all}
+use Rattle.fir_meaning.specs.Outcomes.{ComesFirst, told_once}
 use Rattle.fir_meaning.specs.UndrivenLeaves.{AreDrivenBefore, ShowsUndriven}
 use Rattle.fir_meaning.specs.LeafModules.{LeafModule}
 use Rattle.fir_meaning.specs.LeafedModules.{Scene, leafed_module}

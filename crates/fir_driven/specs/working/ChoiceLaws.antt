@@ -2,7 +2,8 @@
 use Rattle.std.specs.Prelude.{◌≡◌, ℕ, true, false}
 use Rattle.fir_meaning.specs.LeafBlocks.{LeafBlock}
 use Rattle.fir_meaning.specs.Choices.{Choice, covers_all}
-use Rattle.fir_meaning.specs.UndrivenChoices.{IsFirstUndriven, IsUndriven, told_once}
+use Rattle.fir_meaning.specs.UndrivenChoices.{IsFirstUndriven, IsUndriven}
+use Rattle.fir_meaning.specs.Outcomes.{told_once}
 use Rattle.fir_driven.specs.working.Missed.{missed_all}
 
 abbrev pub CoveredIsDriven : Type 0

@@ -1,7 +1,7 @@
 use Rattle.std.proofs.Common.{◌≡◌, ℕ, ◌+◌, ◌<◌, List, [], ◌∷◌, ◌++◌, true, false, if◌then◌else◌, drop, get_or, length, sym, ap, ◌∙◌, append_assoc, append-nil}
 use Rattle.std.proofs.lemmas.List.{drop_all, drop_more}
 use Rattle.fir_ast.specs.declared.fault.Outcome.{Outcome}
-use Rattle.fir_meaning.specs.UndrivenChoices.{is_same_miss, told_behind}
+use Rattle.fir_meaning.specs.Outcomes.{is_same_miss, told_behind}
 use Rattle.fir_driven.proofs.choice.told_once.Goals as goal
 use Rattle.fir_driven.proofs.choice.told_once.Goals.{then-not-is_same_miss+in_ok-push-2, else-not-is_same_miss}
 

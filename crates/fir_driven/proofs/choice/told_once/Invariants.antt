@@ -1,5 +1,5 @@
 use Rattle.std.proofs.Common.{◌≡◌, ◌++◌, drop}
-use Rattle.fir_meaning.specs.UndrivenChoices.{told_behind, told_once}
+use Rattle.fir_meaning.specs.Outcomes.{told_behind, told_once}
 use Rattle.fir_driven.proofs.choice.told_once.Given as goal
 
 abbrev pub invariant-loop-outcome : goal.invariant-loop-outcome

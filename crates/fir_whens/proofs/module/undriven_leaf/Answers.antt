@@ -6,7 +6,7 @@ use Rattle.fir_ast.specs.declared.fault.FirFault.TheVariants.{Undriven}
 use Rattle.fir_ast.specs.View.{circuit_of}
 use Rattle.fir_meaning.specs.Choices.{covers_all}
 use Rattle.fir_meaning.specs.LeafModules.{LeafDeclared}
-use Rattle.fir_meaning.specs.UndrivenChoices.{told_once}
+use Rattle.fir_meaning.specs.Outcomes.{told_once}
 use Rattle.fir_leaf.specs.working.NodeBlocks.{block_in}
 use Rattle.fir_leaf_circuit.specs.working.LeafStores.{depth_in}
 use Rattle.fir_driven.specs.working.Missed.{missed_all}

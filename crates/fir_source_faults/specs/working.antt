@@ -1,0 +1,3 @@
+pub mod ReadsByPath
+pub mod DrivesByPath
+pub mod SameFaults

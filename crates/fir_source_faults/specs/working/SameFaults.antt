@@ -1,0 +1,23 @@
+-- The faults E24 and E28 stand over numbered leaves exactly where they stand by paths (FIRRTL spec, "Initialization of Components", "Last Connect Semantics").
+use Rattle.std.specs.Prelude.{◌≡◌, ◌↔◌, []}
+use Rattle.fir_ast.specs.Circuits.{CircuitTree}
+use Rattle.fir_ast.specs.declared.fault.FirFault.{FirFault}
+use Rattle.fir_pass.specs.Groups.{SameGroup}
+use Rattle.fir_meaning.specs.Designs.{Design}
+use Rattle.fir_meaning.specs.Flattened.{flattened}
+use Rattle.fir_meaning.specs.LoopFaults as numbered
+use Rattle.fir_meaning.specs.NameGroups.{HasNames}
+use Rattle.fir_meaning.specs.SourceDesigns.{SourceDesign}
+use Rattle.fir_meaning.specs.SourceLoops.{ShowsLoop}
+use Rattle.fir_meaning.specs.SourceUndrivenGroup.{undriven_group}
+use Rattle.fir_meaning.specs.TypeGroup.{type_faults}
+use Rattle.fir_meaning.specs.UndrivenGroup as leafed
+use Rattle.fir_design.specs.working.MeaningLaws.{AreDesigns}
+
+-- undriven leaves
+abbrev pub SameUndrivenGroups : Type 0
+SameUndrivenGroups = (c : CircuitTree) → HasNames c → type_faults c ≡ [] → SameGroup (leafed.undriven_group c) (undriven_group c)
+
+-- closed walks of dependence
+abbrev pub SameLoops : Type 0
+SameLoops = (c : CircuitTree) (d : Design) (t : SourceDesign) (f : FirFault) → AreDesigns c d t → numbered.ShowsLoop (flattened d) f ↔ ShowsLoop t f

@@ -1,0 +1,4 @@
+//! The faults of circuits that leaves show (E24 to E28): what definitions over numbered leaves say of them is what
+//! those by paths say (FIRRTL spec, "Initialization of Components", "Last Connect Semantics"). Each law is the
+//! contract of a function that does nothing.
+#![tactic(auto)]
