@@ -96,6 +96,9 @@ pub mod SourceUndrivenGroup
 pub mod Elaborated
 pub mod SourceDependence
 pub mod SourceLoops
+pub mod SourceClocks
+pub mod SourceMemoryClocks
+pub mod SourceInits
 pub mod Dependence
 pub mod CircuitDependence
 pub mod LeafNames
