@@ -31,7 +31,9 @@ FORMS = [
 ]
 IMPORT = re.compile(r"use (?:Rattle\.(\w+)\.specs\.)?([\w.]+?)(?:\.\{(.*)\}| as (\w+))?$")
 TOKEN = re.compile(r"\[\]|[()\[\]{};,]|[^\s()\[\]{};,]+")
-STRING = re.compile(r'"[^"]*"')
+STRING = re.compile(r'"(?:[^"\\]|\\.)*"')
+# What has a meaning of its own: it is neither defined nor imported.
+BUILT_IN = set("→ × ⊥ : = ; , Type Unit tt record where pub data let _".split())
 
 
 class Unknown(Exception):
@@ -275,10 +277,22 @@ class SpecFile:
         signature, *clauses = grouped(lines, indent_of(lines[0]))
         found, _ = free_words(typed_names(tokens_of(signature))[1], local, self.aliases)
         for clause in clauses:
-            left, right = sides(tokens_of(clause))
-            read = [token for token in left if self.is_constructor(token)]
-            words, _ = free_words(right, local | (set(left) - set(read)), self.aliases)
-            found += read + words
+            found += self.words_of_clause(clause, local)
+        return found
+
+    def words_of_clause(self, lines, local):
+        """The words of a clause, with those of the functions that it defines for itself."""
+        end = next((k for k, line in enumerate(lines) if line.strip() == "where"), len(lines))
+        own, inner = lines[:end], lines[end + 1:]
+        left, right = sides(tokens_of(own))
+        found = [token for token in left if self.is_constructor(token)]
+        local = local | (set(left) - set(found))
+        indent = indent_of(inner[0]) if inner else 0
+        functions = grouped(inner, indent, lambda line: form_of(line) == "function")
+        local |= {name_in(function[0]) for function in functions}
+        found += free_words(right, local, self.aliases)[0]
+        for function in functions:
+            found += self.words_of_function(function, local)
         return found
 
     def words_of_units(self, lines, local):
@@ -297,10 +311,13 @@ class SpecFile:
         """The definitions of specs and items of the code that a definition reads."""
         found = []
         for word in self.words(name):
+            sources = self.sources_of(word)
             if word in self.here:
                 found.append((self.file, self.here[word].names[0]))
-            else:
-                found += [node for it, there in self.sources_of(word) for node in it.nodes(there)]
+            elif sources:
+                found += [node for it, there in sources for node in it.nodes(there)]
+            elif word not in BUILT_IN and not word.isdigit():
+                raise Unknown(f"{shown(self.file)}: {name}: what is {word}?")
         return list(dict.fromkeys(node for node in found if node != (self.file, name)))
 
     def imports_for(self, names):
@@ -402,33 +419,36 @@ module _ (k : Kept) where
     turn (kept last) = each (λ some. some) last
 
     pub back : Held
-    back = record { all = turn k some }
+    back = record { all = turn k free }
 
 pub data Kept : Type 0 where
   kept : List Held → Kept
 
-abbrev pub all : Kept
-all = k
+abbrev pub all : Kept → Kept
+all k = k
 
 abbrev pub some : Held
 some = all.kept
 
-abbrev pub last : Held
-last = some
+abbrev pub free : Held
+free = last
+  where
+    last : Held
+    last = some
 """
 SAMPLE_READS = {
     "Held": ["Kept"],
-    "turn": ["Kept", "Held", "some"],
+    "turn": ["Kept", "Held", "free"],
     "Kept": ["Held"],
     "all": ["Kept"],
     "some": ["Held", "all"],
-    "last": ["Held", "some"],
+    "free": ["Held", "some"],
 }
 
 
 def stop_on_sample():
     """Stops where a small file is not read as it is to be."""
-    file = SpecFile(None, SAMPLE)
+    file = SpecFile(CRATES / "sample.antt", SAMPLE)
     names = [it.names[0] for it in file.definitions]
     reads = {name: [below for _, below in file.read_by(name)] for name in names}
     counts = file.counts(["turn"])
