@@ -10,7 +10,8 @@ Some words are not counted: what a clause binds in its patterns, where it is no 
 bound by `λ`, by `let`, by `(x : A)` and by the head of a module, from there to the end of the
 bracket round it; the labels of `record { x = .. }`; a field behind a dot; and, in later fields of a
 record, its earlier ones. Nothing else is known of scopes or types, so a word may be counted that
-means something else. What stands in a module reads what the module's head does.
+means something else. What stands in a module reads what the module's head does. A word that is
+neither bound nor defined, imported or built in is an error here, so that none is passed over.
 """
 import functools
 import pathlib
