@@ -6,7 +6,7 @@ use Rattle.fir_base.specs.Lists.{In}
 use Rattle.fir_meaning.specs.TermReads.{reads}
 use Rattle.fir_meaning.specs.LeafBlocks.{LeafBlock}
 use Rattle.fir_meaning.specs.Choices.{LiveReads}
-use Rattle.fir_meaning.specs.LeafModules.{LeafModule, LeafReset, Reading, Role, computed, depth_at, pipe, reading, register, role_at, sink, source}
+use Rattle.fir_meaning.specs.LeafModules.{LeafReset, Reading, Role, computed, pipe, reading, register, sink, source}
 
 abbrev pub reads_if : Bool → LeafReset → List ℕ
 reads_if true r = reads r.condition ++ reads r.init
@@ -27,6 +27,3 @@ RoleDepends body depth x (computed t) y = In (reads t) y
 RoleDepends body depth x (register clock reset) y = In (reset_reads reset) y
 RoleDepends body depth x (reading r) y = In (reading_reads r) y
 RoleDepends body depth x (pipe r clock under) y = ⊥
-
-abbrev pub Depends : LeafModule → ℕ → ℕ → Type 0
-Depends m x y = RoleDepends m.body (depth_at m x) x (role_at m x) y

@@ -1,8 +1,7 @@
 -- What a tree means, at each stage of its way: what the law of passes speaks of.
 use Rattle.std.specs.Prelude.{ℕ, List}
 use Rattle.fir_base.specs.Ticks.{Allowance, Shape}
-use Rattle.fir_pass.specs.Faults.{Fault}
-use Rattle.fir_pass.specs.Groups.{Group, group_of}
+use Rattle.fir_pass.specs.Groups.{Group}
 
 -- the names of the inputs, the clocks, the outputs and the words of the state, each the path of a leaf as it is printed, in the order of the shape
 pub record ShapeNames : Type 0 where
@@ -28,7 +27,3 @@ pub record Meaning : Type 1 where
   pub has_shape : Shape → Type 0
   pub has_names : ShapeNames → Type 0
   pub has_counts : Counts → Type 0
-
--- the fault stands in the tree
-abbrev pub Shown : Meaning → Fault → Type 0
-Shown m f = (m.group (group_of f.code)).shows f
