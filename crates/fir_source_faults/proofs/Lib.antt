@@ -1,0 +1,4 @@
+pub mod PathsAlong
+pub mod TargetPaths
+pub mod ReadPaths
+pub mod ModuleReads
