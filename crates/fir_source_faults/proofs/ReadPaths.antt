@@ -76,7 +76,8 @@ module _ (whole : TypedScope) where
       let others : map term_reads seconds ≡ map g qs = cc in
       ap₂ (λ (x : List LeafPath) (xs : List (List LeafPath)). x ∷ xs)
       (map-append (path_at whole) (reads c ++ reads a) (reads b)
-      ∙ ap₂ (λ (xs ys : List LeafPath). xs ++ ys) (map-append (path_at whole) (reads c) (reads a) ∙ ap (λ (ys : List LeafPath). term_reads c ++ ys) first) second)
+      ∙ ap₂ (λ (xs ys : List LeafPath). xs ++ ys) (map-append (path_at whole) (reads c) (reads a)
+      ∙ ap (λ (ys : List LeafPath). term_reads c ++ ys) first) second)
       (muxes_read c firsts seconds f g qs more others)
 
   validifs_read : (c : Term) (ts : List Term) (f : LeafPath → List LeafPath) (qs : List LeafPath) → map term_reads ts ≡ map f qs
