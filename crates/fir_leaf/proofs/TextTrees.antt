@@ -158,6 +158,29 @@ covered = circuit_tree (name_at 1 9 (codes "T"))
     ∷ [])
     ∷ [])
 
+abbrev pub either_side : CircuitTree
+either_side = circuit_tree (name_at 1 9 (codes "T"))
+    (module_tree (at 2 3) (name_at 2 10 (codes "T"))
+    (port_tree Input (name_at 3 11 (codes "i")) (at 3 15) (uint (Some 1))
+    ∷ port_tree Input (name_at 4 11 (codes "j")) (at 4 15) (uint (Some 1))
+    ∷ [])
+    (wire (at 5 5) (name_at 5 10 (codes "v")) (at 5 14)
+    (vector
+    (bundle
+    (field (at 5 20) true (codes "b") (at 5 24) (uint (Some 1))
+    (field (at 5 38) true (codes "x") (at 5 42)
+    (bundle
+    (field (at 5 48) true (codes "b") (at 5 52) (uint (Some 1))
+    (field (at 5 66) true (codes "x") (at 5 70) (bundle (field (at 5 76) true (codes "b") (at 5 80) (uint (Some 1)) no_fields)) no_fields))) no_fields))) 1)
+    ∷ invalid (at 6 5) (sink (at 6 5) (codes "v") no_parts)
+    ∷ connect (at 7 5) (sink (at 7 5) (codes "v") (subindex (at 7 6) (at 7 7) 0 (subfield (at 7 9) (at 7 10) (codes "b") no_parts)))
+    (reference (at 7 15) (codes "v")
+    (subindex (at 7 16) (at 7 17) 0 (subfield (at 7 19) (at 7 20) (codes "x") (subfield (at 7 21) (at 7 22) (codes "b") no_parts))))
+    ∷ partial_connect (at 8 5) (sink (at 8 5) (codes "v") (subaccess (at 8 6) (reference (at 8 7) (codes "i") no_parts) no_parts))
+    (reference (at 8 13) (codes "v") (subaccess (at 8 14) (reference (at 8 15) (codes "j") no_parts) (subfield (at 8 17) (at 8 18) (codes "x") no_parts)))
+    ∷ [])
+    ∷ [])
+
 abbrev pub exchange : CircuitTree
 exchange = circuit_tree (name_at 1 9 (codes "T"))
     (module_tree (at 2 3) (name_at 2 10 (codes "T"))
