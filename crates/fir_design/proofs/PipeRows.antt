@@ -30,26 +30,31 @@ pipe_disabled_runs =
     (disabled_numbers 1 1 0 ∷ disabled_numbers 1 0 5 ∷ disabled_numbers 2 1 0 ∷ disabled_numbers 2 1 0 ∷ disabled_numbers 2 0 6 ∷ disabled_numbers 3 1 6
     ∷ []) refl
 
--- a memory of three words with one port that reads a tick later, what is written too, and writes where k is 1; the inputs are an address, k, and a number
+-- a memory of three words with one port that reads a tick later, what is written too, and writes where k is 1; the inputs are an address, the enable, k, a
+-- number and the mask
 abbrev written_ticks : List Tick
 written_ticks =
-    tick (0 ∷ []) (1 ∷ 1 ∷ 9 ∷ []) ∷ tick (0 ∷ []) (1 ∷ 0 ∷ 3 ∷ []) ∷ tick [] (2 ∷ 1 ∷ 3 ∷ [])
-    ∷ tick (0 ∷ []) (2 ∷ 1 ∷ 3 ∷ []) ∷ tick [] (0 ∷ 0 ∷ 0 ∷ []) ∷ []
+    tick (0 ∷ []) (1 ∷ 1 ∷ 1 ∷ 9 ∷ 1 ∷ []) ∷ tick (0 ∷ []) (1 ∷ 1 ∷ 0 ∷ 3 ∷ 0 ∷ []) ∷ tick [] (2 ∷ 1 ∷ 1 ∷ 3 ∷ 1 ∷ [])
+    ∷ tick (0 ∷ []) (2 ∷ 1 ∷ 1 ∷ 3 ∷ 1 ∷ []) ∷ tick (0 ∷ []) (2 ∷ 1 ∷ 0 ∷ 3 ∷ 1 ∷ []) ∷ tick (0 ∷ []) (0 ∷ 1 ∷ 1 ∷ 8 ∷ 0 ∷ [])
+    ∷ tick (0 ∷ []) (0 ∷ 0 ∷ 1 ∷ 8 ∷ 1 ∷ []) ∷ tick [] (0 ∷ 0 ∷ 0 ∷ 0 ∷ 0 ∷ []) ∷ []
 
-abbrev written_numbers : ℕ → ℕ → ℕ → ℕ → List (LeafPath × ℕ)
-written_numbers a k u o =
-    (own "a", a) ∷ (own "k", k) ∷ (own "u", u) ∷ (own "o", o) ∷ (port "x" "addr", a) ∷ (port "x" "en", 1) ∷ (port "x" "rdata", o) ∷ (port "x" "wmode", k)
-    ∷ (port "x" "wdata", u) ∷ (port "x" "wmask", 1) ∷ []
+abbrev written_numbers : ℕ → ℕ → ℕ → ℕ → ℕ → ℕ → List (LeafPath × ℕ)
+written_numbers a e k u w o =
+    (own "a", a) ∷ (own "e", e) ∷ (own "k", k) ∷ (own "u", u) ∷ (own "w", w) ∷ (own "o", o) ∷ (port "x" "addr", a) ∷ (port "x" "en", e) ∷ (port "x" "rdata", o)
+    ∷ (port "x" "wmode", k) ∷ (port "x" "wdata", u) ∷ (port "x" "wmask", w) ∷ []
 
--- While the port writes 9, its pipe takes zero: neither the word 5 from before nor the 9. Then it reads the 9. The third tick has no edge, so nothing is
--- written and the 9 stays; the fourth writes 3, and the pipe takes zero again.
+-- While the port writes 9, its pipe takes zero: neither the word 5 from before nor the 9. Then it reads the 9, for which it needs no mask. The third tick has
+-- no edge, so nothing is written and the 9 stays; the fourth writes 3, and the pipe takes zero again, and then the 3. With the mask or the enable 0 nothing is
+-- written, and the pipe takes zero, since k is 1.
 pipe_while_writing_runs : Runs text.pipe_while_writing (7 ∷ 4 ∷ 5 ∷ 6 ∷ []) written_ticks
     (result (7 ∷ []) (0 ∷ 4 ∷ 9 ∷ 6 ∷ []) ∷ result (0 ∷ []) (9 ∷ 4 ∷ 9 ∷ 6 ∷ []) ∷ result (9 ∷ []) (9 ∷ 4 ∷ 9 ∷ 6 ∷ [])
-    ∷ result (9 ∷ []) (0 ∷ 4 ∷ 9 ∷ 3 ∷ []) ∷ result (0 ∷ []) (0 ∷ 4 ∷ 9 ∷ 3 ∷ []) ∷ [])
+    ∷ result (9 ∷ []) (0 ∷ 4 ∷ 9 ∷ 3 ∷ []) ∷ result (0 ∷ []) (3 ∷ 4 ∷ 9 ∷ 3 ∷ []) ∷ result (3 ∷ []) (0 ∷ 4 ∷ 9 ∷ 3 ∷ [])
+    ∷ result (0 ∷ []) (0 ∷ 4 ∷ 9 ∷ 3 ∷ []) ∷ result (0 ∷ []) (0 ∷ 4 ∷ 9 ∷ 3 ∷ []) ∷ [])
 unfolding least_width addresses
 pipe_while_writing_runs =
     run_by text.pipe_while_writing refl refl ((own "clock", 0) ∷ (port "x" "clk", 0) ∷ []) (7 ∷ 4 ∷ 5 ∷ 6 ∷ []) written_ticks
-    (written_numbers 1 1 9 7 ∷ written_numbers 1 0 3 0 ∷ written_numbers 2 1 3 9 ∷ written_numbers 2 1 3 9 ∷ written_numbers 0 0 0 0 ∷ []) refl
+    (written_numbers 1 1 1 9 1 7 ∷ written_numbers 1 1 0 3 0 0 ∷ written_numbers 2 1 1 3 1 9 ∷ written_numbers 2 1 1 3 1 9 ∷ written_numbers 2 1 0 3 1 0
+    ∷ written_numbers 0 1 1 8 0 3 ∷ written_numbers 0 0 1 8 1 0 ∷ written_numbers 0 0 0 0 0 0 ∷ []) refl
 
 -- a memory of two words that is read a tick later and written at the same address; the inputs are the address and a number
 abbrev undefined_ticks : List Tick
