@@ -2,3 +2,7 @@
 //! those by paths say (FIRRTL spec, "Initialization of Components", "Last Connect Semantics"). Each law is the
 //! contract of a function that does nothing.
 #![tactic(auto)]
+
+mod plain_laws;
+
+pub use plain_laws::plain_sources_show_none;
