@@ -96,6 +96,7 @@ pub mod SourceUndrivenGroup
 pub mod Elaborated
 pub mod SourceDependence
 pub mod SourceLoops
+pub mod SourceRanks
 pub mod SourceClocks
 pub mod SourceMemoryClocks
 pub mod SourceInits

@@ -1,6 +1,7 @@
 -- E25 in a circuit (FIRRTL spec, "Clock Type", "Last Connect Semantics"): a clock leaf with two live drives, or a clock that a dynamic index picks.
 -- It stands at the leaf's declaration; for a register's own clock at the register, by its path. The evidence is the first in the text of the dynamic indices that
--- pick a clock in a live drive, in the node or in the register's clock, its place twice; else the first two live drives, of which an invalid is one.
+-- pick a clock in a live drive, in the node or in the register's clock, its place twice; else the first two live drives, of which an invalid is one. Told is the
+-- fault of the first leaf.
 use Rattle.std.specs.Prelude.{◌≡◌, List, [], ◌∷◌, ◌++◌, false, take, length, ◌+◌, ◌⊎◌}
 use Rattle.fir_base.specs.Lists.{In}
 use Rattle.fir_ast.specs.declared.fault.FirFault.{FirFault}
@@ -9,6 +10,7 @@ use Rattle.fir_ast.specs.declared.place.Place.{Place}
 use Rattle.fir_ast.specs.Circuits.{CircuitTree}
 use Rattle.fir_ast.specs.Expressions.{Expression, reference}
 use Rattle.fir_pass.specs.Faults.{Fault, fault_of}
+use Rattle.fir_pass.specs.Groups.{Group}
 use Rattle.fir_meaning.specs.Elaborated.{IsSourceOf}
 use Rattle.fir_meaning.specs.Lack.{is_before}
 use Rattle.fir_meaning.specs.LeafModules.{LeafType, a_clock, number}
@@ -20,6 +22,7 @@ use Rattle.fir_meaning.specs.SourceDesigns.{SourceDesign}
 use Rattle.fir_meaning.specs.SourceDrives.{Drive, module_drives}
 use Rattle.fir_meaning.specs.SourceFacts.{source_depth}
 use Rattle.fir_meaning.specs.SourceLoops.{StandsAt}
+use Rattle.fir_meaning.specs.SourceRanks.{HasRank, Rank, comes_before}
 use Rattle.fir_meaning.specs.SourceReads.{index_places}
 use Rattle.fir_meaning.specs.SourceRoles.{SourceRole, computed, register, sink}
 
@@ -92,14 +95,32 @@ module _ (t : SourceDesign) where
     pub stands : StandsAt t (leaf_path p) place
     pub is : f ≡ Clock place (path_text (leaf_path p)) first.place second.place
 
+  abbrev pub ShowsAt : PlacedLeaf → FirFault → Type 0
+  ShowsAt p f = ShowsPickedClock p f ⊎ ShowsTwoLive p f
+
   pub record ShowsClockFault (f : FirFault) : Type 0 where
     pub leaf : PlacedLeaf
     pub among : In (all_leaves t) leaf
-    pub shows : ShowsPickedClock leaf f ⊎ ShowsTwoLive leaf f
+    pub shows : ShowsAt leaf f
 
-pub record IsClockFaultOf (c : CircuitTree) (f : Fault) : Type 0 where
-  pub source : SourceDesign
-  pub is_source : IsSourceOf c source
-  pub fault : FirFault
-  pub shows : ShowsClockFault source fault
-  pub is : f ≡ fault_of fault
+  -- at a leaf before which no other shows one
+  pub record TellsClockFault (f : FirFault) : Type 0 where
+    pub leaf : PlacedLeaf
+    pub rank : Rank
+    pub has_rank : HasRank t leaf rank
+    pub shows : ShowsAt leaf f
+    pub first :
+        (other : PlacedLeaf) (its_rank : Rank) (its_fault : FirFault) → HasRank t other its_rank → ShowsAt other its_fault
+        → comes_before its_rank rank ≡ false
+
+-- in the source of a circuit
+module _ (Holds : SourceDesign → FirFault → Type 0) (c : CircuitTree) (f : Fault) where
+  pub record IsOfSource : Type 0 where
+    pub source : SourceDesign
+    pub is_source : IsSourceOf c source
+    pub fault : FirFault
+    pub holds : Holds source fault
+    pub is : f ≡ fault_of fault
+
+abbrev pub clock_group : CircuitTree → Group
+clock_group c = record { shows = IsOfSource ShowsClockFault c; tells = IsOfSource TellsClockFault c }

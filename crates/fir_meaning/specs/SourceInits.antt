@@ -1,6 +1,6 @@
 -- E27 in a circuit (FIRRTL spec, "Registers"): what gives a register with an asynchronous reset its init reaches an input or state.
 -- It stands at the register's declaration. The walk of dependence begins with a leaf that the init reads, and ends with an input of the main module or a leaf that
--- shows state: a register, or what a memory gives. No leaf stands on it twice.
+-- shows state: a register, or what a memory gives. No leaf stands on it twice. Any such walk may be told.
 use Rattle.std.specs.Prelude.{◌≡◌, List, ◌∷◌, map, Bool, true, false, Some, IsTrue}
 use Rattle.fir_base.specs.Lists.{Distinct, In}
 use Rattle.fir_ast.specs.declared.fault.FirFault.{FirFault}
@@ -8,10 +8,10 @@ use Rattle.fir_ast.specs.declared.fault.FirFault.TheVariants.{AsyncInit}
 use Rattle.fir_ast.specs.declared.place.Place.{Place}
 use Rattle.fir_ast.specs.Circuits.{CircuitTree}
 use Rattle.fir_ast.specs.Expressions.{Expression}
-use Rattle.fir_pass.specs.Faults.{Fault, fault_of}
-use Rattle.fir_meaning.specs.Elaborated.{IsSourceOf}
+use Rattle.fir_pass.specs.Groups.{Group, any_of}
 use Rattle.fir_meaning.specs.LeafPaths.{LeafPath, path_text}
 use Rattle.fir_meaning.specs.SourceCircuits.{PlacedLeaf, all_leaves, leaf_path}
+use Rattle.fir_meaning.specs.SourceClocks.{IsOfSource}
 use Rattle.fir_meaning.specs.SourceDependence.{IsWalk, from_main}
 use Rattle.fir_meaning.specs.SourceDesigns.{SourceDesign}
 use Rattle.fir_meaning.specs.SourceLoops.{StandsAt}
@@ -46,9 +46,5 @@ module _ (t : SourceDesign) where
     pub stands : StandsAt t (leaf_path leaf) place
     pub is : f ≡ AsyncInit place (map path_text (first ∷ rest))
 
-pub record IsAsyncInitOf (c : CircuitTree) (f : Fault) : Type 0 where
-  pub source : SourceDesign
-  pub is_source : IsSourceOf c source
-  pub fault : FirFault
-  pub shows : ShowsAsyncInit source fault
-  pub is : f ≡ fault_of fault
+abbrev pub init_group : CircuitTree → Group
+init_group c = any_of (IsOfSource ShowsAsyncInit c)

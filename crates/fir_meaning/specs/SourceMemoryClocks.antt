@@ -1,7 +1,8 @@
 -- E26 in a circuit (FIRRTL spec, "Memories", "Clock Type"): two ports of a memory on different clocks.
 -- The clock of a port is the leaf at which its chain of connects ends in the module that holds the memory: an input, or what an instance gives. It stands at the
 -- memory. The evidence is the clock of the first port that has one, and the first that differs from it. Before each path stands that of the module's instance.
-use Rattle.std.specs.Prelude.{◌≡◌, List, [], ◌∷◌, ◌++◌, codes, flat_map, map}
+-- Told is the fault of the first memory.
+use Rattle.std.specs.Prelude.{Some, ◌≡◌, ℕ, ◌≤◌, List, [], ◌∷◌, ◌++◌, codes, flat_map, map, slice_get, false}
 use Rattle.fir_base.specs.Lists.{In}
 use Rattle.fir_ast.specs.declared.fault.FirFault.{FirFault}
 use Rattle.fir_ast.specs.declared.fault.FirFault.TheVariants.{MemoryClocks}
@@ -9,12 +10,13 @@ use Rattle.fir_ast.specs.declared.place.Place.{Place}
 use Rattle.fir_ast.specs.Circuits.{CircuitTree}
 use Rattle.fir_ast.specs.Expressions.{Expression, reference}
 use Rattle.fir_ast.specs.Statements.{MemoryPart, PlacedName, memory}
-use Rattle.fir_pass.specs.Faults.{Fault, fault_of}
-use Rattle.fir_meaning.specs.Elaborated.{IsSourceOf}
+use Rattle.fir_pass.specs.Groups.{Group}
+use Rattle.fir_meaning.specs.Lack.{is_before}
 use Rattle.fir_meaning.specs.LeafModules.{a_clock}
 use Rattle.fir_meaning.specs.LeafPaths.{LeafPath, named, path_text}
 use Rattle.fir_meaning.specs.LeafedModules.{Scene}
 use Rattle.fir_meaning.specs.SourceChoices.{IsLive}
+use Rattle.fir_meaning.specs.SourceClocks.{IsOfSource}
 use Rattle.fir_meaning.specs.SourceDependence.{PlacedModule, all_modules}
 use Rattle.fir_meaning.specs.SourceDesigns.{SourceDesign}
 use Rattle.fir_meaning.specs.SourceDrives.{Drive, module_drives}
@@ -92,11 +94,20 @@ pub record ShowsMemoryClocks (m : PlacedModule) (f : FirFault) : Type 0 where
   pub is :
       f ≡ MemoryClocks name.place (path_text (m.at ++ named name.name ∷ [])) (path_text (m.at ++ clock)) (path_text (m.at ++ other_clock))
 
-pub record AreMemoryClocksOf (c : CircuitTree) (f : Fault) : Type 0 where
-  pub source : SourceDesign
-  pub is_source : IsSourceOf c source
+-- in the module of the instance of a number
+pub record ShowsMemoryFault (t : SourceDesign) (f : FirFault) : Type 0 where
+  pub number : ℕ
   pub holder : PlacedModule
-  pub among : In (all_modules source) holder
-  pub fault : FirFault
-  pub shows : ShowsMemoryClocks holder fault
-  pub is : f ≡ fault_of fault
+  pub is_holder : slice_get (all_modules t) number ≡ Some holder
+  pub shows : ShowsMemoryClocks holder f
+
+-- at a memory before which no other shows one: by its place in the text, and then by its instance
+pub record TellsMemoryFault (t : SourceDesign) (f : FirFault) : Type 0 where
+  pub told : ShowsMemoryFault t f
+  pub first :
+      (other : FirFault) (shown : ShowsMemoryFault t other) → is_before shown.shows.name.place told.shows.name.place ≡ false
+  pub first_instance :
+      (other : FirFault) (shown : ShowsMemoryFault t other) → shown.shows.name.place ≡ told.shows.name.place → told.number ≤ shown.number
+
+abbrev pub memory_clock_group : CircuitTree → Group
+memory_clock_group c = record { shows = IsOfSource ShowsMemoryFault c; tells = IsOfSource TellsMemoryFault c }

@@ -3,3 +3,4 @@ pub mod TargetPaths
 pub mod ReadPaths
 pub mod ModuleReads
 pub mod AmongPaths
+pub mod PlainScenes

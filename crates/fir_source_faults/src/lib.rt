@@ -3,6 +3,8 @@
 //! contract of a function that does nothing.
 #![tactic(auto)]
 
+mod plain_laws;
 mod read_laws;
 
+pub use plain_laws::plain_sources_show_none;
 pub use read_laws::terms_read_as_expressions;
