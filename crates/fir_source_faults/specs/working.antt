@@ -2,3 +2,4 @@ pub mod ReadsByPath
 pub mod DrivesByPath
 pub mod SameFaults
 pub mod PlainScenes
+pub mod PlainBlocks
