@@ -1,6 +1,7 @@
 -- Ticks and runs, for circuits of both languages.
--- At a tick the inputs have values and some clocks rise; a run takes one tick after the other.
-use Rattle.std.specs.Prelude.{ℕ, ◌+◌, ◌^◌, ◌<◌, ◌≤◌, List, [], ◌∷◌, Bool, nat_eq}
+-- At a tick the inputs have values and some clocks rise. It shows the numbers of the outputs, and beside them the clock of each output that is one: the number
+-- of a clock input, or none. A run takes one tick after the other.
+use Rattle.std.specs.Prelude.{ℕ, ◌+◌, ◌^◌, ◌<◌, ◌≤◌, List, [], ◌∷◌, Bool, nat_eq, Option}
 use Rattle.std.specs.List.{list_any}
 
 -- a value for each name
@@ -39,17 +40,19 @@ pub record HasShape (shape : Shape) (state : List ℕ) (tick : Tick) : Type 0 wh
   pub clocks_rise : AreClocks 0 shape.clocks tick.clocks
   pub state_fits : FitEach shape.state state
 
--- which outputs and which next state a state and a tick allow
+-- which outputs, which clocks of outputs and which next state a state and a tick allow
 abbrev pub Allowance : Type 1
-Allowance = List ℕ → Tick → List ℕ → List ℕ → Type 0
+Allowance = List ℕ → Tick → List ℕ → List (Option ℕ) → List ℕ → Type 0
 
--- what one tick shows: the outputs, and the state after it
+-- what one tick shows: the outputs and the clocks of those that are clocks, and the state after it
 pub record TickResult : Type 0 where
   pub outputs : List ℕ
+  pub clocks : List (Option ℕ)
   pub state : List ℕ
 
 -- tick for tick what is allowed, from an initial state on
 abbrev pub IsRun : Allowance → List ℕ → List Tick → List TickResult → Type 0
 IsRun allows state [] [] = Unit {0}
-IsRun allows state (tick ∷ ticks) (shown ∷ rest) = allows state tick shown.outputs shown.state × IsRun allows shown.state ticks rest
+IsRun allows state (tick ∷ ticks) (shown ∷ rest) =
+    allows state tick shown.outputs shown.clocks shown.state × IsRun allows shown.state ticks rest
 IsRun allows state _ _ = ⊥

@@ -4,6 +4,7 @@ use Rattle.fir_base.specs.Ticks.{Tick, TickResult, IsRun}
 use Rattle.fir_io.specs.Ports.{FilesSeen, SinkSeen, Rose, Grew}
 use Rattle.fir_ast.specs.Circuits.{CircuitTree}
 use Rattle.fir_meaning.specs.Elaborated.{IsSourceOf}
+use Rattle.fir_meaning.specs.SourceAllows.{Allows}
 use Rattle.fir_meaning.specs.SourceDesigns.{SourceDesign}
 use Rattle.fir_meaning.specs.SourceOne.{One}
 use Rattle.fir_net.specs.declared.net.FlatNet.{FlatNet}
@@ -22,7 +23,7 @@ use Rattle.fir_outcome.specs.Refusals.{Refuses}
 use Rattle.fir_outcome.specs.Outside.{IsRead, Outside, outside, limit, Kept}
 use Rattle.fir_cli.specs.working.Endings.{Said, Complained}
 use Rattle.fir_outcome.specs.Simulations.{Prints, PrintsFront, PrintsRun}
-use Rattle.fir_outcome.specs.Sources.{SourceAllows, output_widths}
+use Rattle.fir_outcome.specs.Sources.{output_widths}
 use Rattle.fir_commands.specs.Simulates.{IsAsked, DueAtOnce, BeganTicks, MetBadLine, Simulates}
 use Rattle.fir_runner.specs.working.Running.{Ran}
 use Rattle.fir_runner.specs.working.Laws.{FrontsBegin}
@@ -39,13 +40,13 @@ prints_run : (c : CircuitTree) (net : FlatNet) (flat : FlattensTo c net) (one : 
     → PrintsRun t with_state init ticks shown printed
 prints_run c net flat one with_state init ticks shown printed ran lines t is =
     let means : MeansSource t net = flat.each t is in
-    let run : IsRun (SourceAllows t) init ticks shown =
-    same_runs (NetAllows net) (SourceAllows t) (from_net c net flat one t is) init ticks shown ran in
+    let run : IsRun (Allows t) init ticks shown =
+    same_runs (NetAllows net) (Allows t) (from_net c net flat one t is) init ticks shown ran in
     let one_source : One t = source_one c net flat one t is in
     record {
       one = one_source;
       run = run;
-      only_run = λ others other. one_run (SourceAllows t) (source_allows_one t one_source) init ticks shown others run other;
+      only_run = λ others other. one_run (Allows t) (source_allows_one t one_source) init ticks shown others run other;
       lines =
           lines
           ∙ ap (λ (ws : List ℕ). run_text ws (net_shape net).state with_state shown) means.output_widths

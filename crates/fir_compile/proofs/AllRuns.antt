@@ -1,34 +1,39 @@
 -- Where each state and tick of a shape allow something, and only states of the shape, there is a run through all ticks. Where they allow one thing alone, there is
 -- one run alone.
-use Rattle.std.proofs.Common.{◌≡◌, ℕ, List, [], ◌∷◌, refl, subst}
+use Rattle.std.proofs.Common.{◌≡◌, ℕ, List, [], ◌∷◌, Option, refl, subst}
 use Rattle.std.specs.List.{AllByRecursion}
 use Rattle.fir_base.specs.Ticks.{Tick, TickResult, Shape, FitEach, HasShape, Allowance, IsRun}
 use Rattle.fir_outcome.specs.Runs.{IsTick, HasOneRun, RunsOnce}
 
 -- what one allows the other allows too
 abbrev pub Includes : Allowance → Allowance → Type 0
-Includes p q = (state : List ℕ) (tick : Tick) (shown after : List ℕ) → p state tick shown after → q state tick shown after
+Includes p q =
+    (state : List ℕ) (tick : Tick) (shown : List ℕ) (clocks : List (Option ℕ)) (after : List ℕ) → p state tick shown clocks after
+    → q state tick shown clocks after
 
 pub same_runs : (p q : Allowance) → Includes p q → (state : List ℕ) (ticks : List Tick) (shown : List TickResult) → IsRun p state ticks shown
     → IsRun q state ticks shown
 same_runs p q h state [] [] r = tt
 same_runs p q h state [] (s ∷ shown) r = absurd r
 same_runs p q h state (t ∷ ticks) [] r = absurd r
-same_runs p q h state (t ∷ ticks) (s ∷ shown) r = (h state t s.outputs s.state r.0, same_runs p q h s.state ticks shown r.1)
+same_runs p q h state (t ∷ ticks) (s ∷ shown) r = (h state t s.outputs s.clocks s.state r.0, same_runs p q h s.state ticks shown r.1)
 
 -- what a state and a tick allow
 abbrev pub Allowed : Allowance → List ℕ → Tick → Type 0
-Allowed allows state tick = (shown : List ℕ) × (after : List ℕ) × allows state tick shown after
+Allowed allows state tick = (shown : List ℕ) × (clocks : List (Option ℕ)) × (after : List ℕ) × allows state tick shown clocks after
 
 abbrev pub AllowsSome : Shape → Allowance → Type 0
 AllowsSome shape allows = (state : List ℕ) (tick : Tick) → HasShape shape state tick → Allowed allows state tick
 
 abbrev pub KeepsShape : Shape → Allowance → Type 0
-KeepsShape shape allows = (state : List ℕ) (tick : Tick) (shown after : List ℕ) → allows state tick shown after → FitEach shape.state after
+KeepsShape shape allows =
+    (state : List ℕ) (tick : Tick) (shown : List ℕ) (clocks : List (Option ℕ)) (after : List ℕ) → allows state tick shown clocks after
+    → FitEach shape.state after
 
 abbrev pub AllowsOne : Allowance → Type 0
 AllowsOne allows =
-    (state : List ℕ) (tick : Tick) (s t : TickResult) → allows state tick s.outputs s.state → allows state tick t.outputs t.state → t ≡ s
+    (state : List ℕ) (tick : Tick) (s t : TickResult) → allows state tick s.outputs s.clocks s.state → allows state tick t.outputs t.clocks t.state
+    → t ≡ s
 
 abbrev pub HasRun : Allowance → List ℕ → List Tick → Type 0
 HasRun allows state ticks = (shown : List TickResult) × IsRun allows state ticks shown
@@ -53,8 +58,8 @@ module _ (shape : Shape) (allows : Allowance) (some : AllowsSome shape allows) (
   has_run state (t ∷ ticks) fits are =
       let o : Allowed allows state t =
       some state t (record { inputs_fit = are.0.inputs_fit; clocks_rise = are.0.clocks_rise; state_fits = fits }) in
-      let rest : HasRun allows o.1 ticks = has_run o.1 ticks (keeps state t o.0 o.1 o.2) are.1 in
-      (record { outputs = o.0; state = o.1 } ∷ rest.0, (o.2, rest.1))
+      let rest : HasRun allows o.2 ticks = has_run o.2 ticks (keeps state t o.0 o.1 o.2 o.3) are.1 in
+      (record { outputs = o.0; clocks = o.1; state = o.2 } ∷ rest.0, (o.3, rest.1))
 
   pub runs_once : AllowsOne allows → RunsOnce shape allows
   runs_once one state ticks fits are =

@@ -2,13 +2,14 @@
 use Rattle.std.proofs.Common.{◌≡◌, ℕ, List, ◌∙◌, subst}
 use Rattle.fir_ast.specs.Circuits.{CircuitTree}
 use Rattle.fir_meaning.specs.Elaborated.{IsSourceOf}
+use Rattle.fir_meaning.specs.SourceAllows.{Allows}
 use Rattle.fir_meaning.specs.SourceCircuits.{source_shape}
 use Rattle.fir_meaning.specs.SourceDesigns.{SourceDesign}
 use Rattle.fir_net.specs.declared.net.FlatNet.{FlatNet}
-use Rattle.fir_net.specs.Rows.{net_rows, net_words}
+use Rattle.fir_net.specs.Rows.{net_arrays, net_rows, net_words}
 use Rattle.fir_net.specs.working.Laws.{NodesHaveTheirTypes}
 use Rattle.fir_net.specs.working.One.{One as NetOne}
-use Rattle.fir_inst.specs.SourceRows.{source_rows}
+use Rattle.fir_inst.specs.SourceRows.{source_rows, source_words}
 use Rattle.fir_inst.specs.working.FlattensTo.{FlattensTo, MeansSource}
 use Rattle.ver_ast.specs.declared.tree.Verilog.{Verilog}
 use Rattle.ver_ast.specs.Allows.{VAllows}
@@ -17,7 +18,6 @@ use Rattle.ver_build.specs.NamedFor.{IsNamedFor}
 use Rattle.ver_build.specs.working.Builds.{Builds}
 use Rattle.fir_outcome.specs.Compiles.{Compiles, CompilesTo}
 use Rattle.fir_outcome.specs.Runs.{RunsOnce}
-use Rattle.fir_outcome.specs.Sources.{SourceAllows}
 use Rattle.fir_compile.proofs.AllRuns.{Includes, same_once, same_runs}
 use Rattle.fir_compile.proofs.SourceRuns.{from_net, source_one, source_runs_once, to_net}
 use Rattle.fir_compile.proofs.TakenBlocks.{blocks_are}
@@ -30,30 +30,31 @@ module _ (types : NodesHaveTheirTypes) (c : CircuitTree) (net : FlatNet) (flat :
     shapes : v_shape v ≡ source_shape t
     shapes = made.shapes ∙ means.shapes
 
-    forth : Includes (VAllows v) (SourceAllows t)
-    forth s k o n x = from_net c net flat one t is s k o n ((made.allows s k o n).0 x)
+    forth : Includes (VAllows v) (Allows t)
+    forth s k o r n x = from_net c net flat one t is s k o r n ((made.allows s k o r n).0 x)
 
-    back : Includes (SourceAllows t) (VAllows v)
-    back s k o n x = (made.allows s k o n).1 (to_net c net flat one t is s k o n x)
+    back : Includes (Allows t) (VAllows v)
+    back s k o r n x = (made.allows s k o r n).1 (to_net c net flat one t is s k o r n x)
 
-    runs_once : RunsOnce (source_shape t) (SourceAllows t)
+    runs_once : RunsOnce (source_shape t) (Allows t)
     runs_once = source_runs_once c net flat one t is types
 
     v_runs_once : RunsOnce (v_shape v) (VAllows v)
     v_runs_once =
-        same_once (SourceAllows t) (VAllows v) (source_shape t) (v_shape v) shapes (same_runs (SourceAllows t) (VAllows v) back)
-        (same_runs (VAllows v) (SourceAllows t) forth) runs_once
+        same_once (Allows t) (VAllows v) (source_shape t) (v_shape v) shapes (same_runs (Allows t) (VAllows v) back)
+        (same_runs (VAllows v) (Allows t) forth) runs_once
 
     compiles_to : CompilesTo c.named.name t v
     compiles_to = record {
       named =
-          subst (λ words. IsNamedFor c.named.name (source_rows t) words v) means.words
-          (subst (λ rows. IsNamedFor c.named.name rows (net_words net) v) means.ports
-          (subst (λ name. IsNamedFor name (net_rows net) (net_words net) v) flat.named made.named));
+          subst (λ arrays. IsNamedFor c.named.name (source_rows t) (source_words t) arrays v) means.arrays
+          (subst (λ words. IsNamedFor c.named.name (source_rows t) words (net_arrays net) v) means.words
+          (subst (λ rows. IsNamedFor c.named.name rows (net_words net) (net_arrays net) v) means.ports
+          (subst (λ name. IsNamedFor name (net_rows net) (net_words net) (net_arrays net) v) flat.named made.named)));
       shapes = shapes;
       one = source_one c net flat one t is;
-      allows = λ s k o n. (forth s k o n, back s k o n);
-      runs = λ s ks os. (same_runs (VAllows v) (SourceAllows t) forth s ks os, same_runs (SourceAllows t) (VAllows v) back s ks os);
+      allows = λ s k o r n. (forth s k o r n, back s k o r n);
+      runs = λ s ks os. (same_runs (VAllows v) (Allows t) forth s ks os, same_runs (Allows t) (VAllows v) back s ks os);
       runs_once = runs_once;
     }
 

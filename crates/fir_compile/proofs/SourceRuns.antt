@@ -1,11 +1,11 @@
 -- How the source of a circuit runs, by way of the circuit's flat net.
-use Rattle.std.proofs.Common.{◌≡◌, ℕ, List, map, refl, sym, ap, ◌∙◌, subst}
+use Rattle.std.proofs.Common.{◌≡◌, ℕ, List, [], map, refl, sym, ap, ◌∙◌, subst}
 use Rattle.fir_base.specs.Ticks.{Tick, Shape, FitEach, HasShape}
 use Rattle.fir_ast.specs.Circuits.{CircuitTree}
 use Rattle.fir_meaning.specs.Elaborated.{IsSourceOf}
 use Rattle.fir_meaning.specs.LeafPaths.{LeafPath}
-use Rattle.fir_meaning.specs.SourceAllows.{next as source_next}
-use Rattle.fir_meaning.specs.SourceCircuits.{outputs as source_outputs, source_shape}
+use Rattle.fir_meaning.specs.SourceAllows.{Allows, next as source_next}
+use Rattle.fir_meaning.specs.SourceCircuits.{clock_outputs, outputs as source_outputs, source_shape}
 use Rattle.fir_meaning.specs.SourceDesigns.{SourceDesign}
 use Rattle.fir_meaning.specs.SourceOne.{HasOne, One}
 use Rattle.fir_meaning.specs.SourceValues.{PathEnv}
@@ -17,7 +17,6 @@ use Rattle.fir_net.specs.working.One.{HasOne as NetHasOne, One as NetOne}
 use Rattle.fir_net.specs.working.Settled.{outputs, shape}
 use Rattle.fir_inst.specs.working.FlattensTo.{FlattensTo, MeansSource}
 use Rattle.fir_outcome.specs.Runs.{RunsOnce}
-use Rattle.fir_outcome.specs.Sources.{SourceAllows}
 use Rattle.fir_compile.proofs.AllRuns.{AllowsOne, AllowsSome, Includes, KeepsShape, runs_once}
 use Rattle.fir_compile.proofs.KeptShapes.{next_fits}
 
@@ -25,13 +24,14 @@ same_env : (e f : PathEnv) → ((x : LeafPath) → e.numbers x ≡ f.numbers x) 
 same_env e f p q = λ i. record { numbers = λ x. p x i; clocks = λ x. q x i }
 
 -- with one choice of values a source shows one thing, and one state follows
-pub source_allows_one : (t : SourceDesign) → One t → AllowsOne (SourceAllows t)
+pub source_allows_one : (t : SourceDesign) → One t → AllowsOne (Allows t)
 source_allows_one t one state tick a b p q =
     let has : HasOne t state tick = one state tick p.1.shaped in
     let same : q.0 ≡ p.0 = same_env q.0 p.0 (has.same q.0 p.0 q.1 p.1) (has.same_clocks q.0 p.0 q.1 p.1) in
     let shown : b.outputs ≡ a.outputs = sym q.2 ∙ ap (λ (e : PathEnv). map e.numbers (source_outputs t)) same ∙ p.2 in
+    let clocks : b.clocks ≡ a.clocks = sym q.3 ∙ ap (λ (e : PathEnv). map e.clocks (clock_outputs t)) same ∙ p.3 in
     let after : b.state ≡ a.state = sym q.4 ∙ ap (source_next t state tick.clocks) same ∙ p.4 in
-    λ i. record { outputs = shown i; state = after i }
+    λ i. record { outputs = shown i; clocks = clocks i; state = after i }
 
 module _ (c : CircuitTree) (net : FlatNet) (flat : FlattensTo c net) (net_one : NetOne net) (t : SourceDesign) (is : IsSourceOf c t) where
   means : MeansSource t net
@@ -40,25 +40,25 @@ module _ (c : CircuitTree) (net : FlatNet) (flat : FlattensTo c net) (net_one : 
   pub source_one : One t
   source_one = means.one.1 net_one
 
-  pub from_net : Includes (NetAllows net) (SourceAllows t)
-  from_net s k o n x = (means.allows s k o n).0 x
+  pub from_net : Includes (NetAllows net) (Allows t)
+  from_net s k o r n x = (means.allows s k o r n).0 x
 
-  pub to_net : Includes (SourceAllows t) (NetAllows net)
-  to_net s k o n x = (means.allows s k o n).1 x
+  pub to_net : Includes (Allows t) (NetAllows net)
+  to_net s k o r n x = (means.allows s k o r n).1 x
 
-  allows_some : AllowsSome (source_shape t) (SourceAllows t)
+  allows_some : AllowsSome (source_shape t) (Allows t)
   allows_some state tick shaped =
       let h : NetHasOne net state tick = net_one state tick (subst (λ (s : Shape). HasShape s state tick) (sym means.shapes) shaped) in
       let shown : List ℕ = map h.env (outputs net) in
       let after : List ℕ = next net h.env h.clock tick in
-      (shown, after, from_net state tick shown after (h.env, h.clock, h.settled, refl, refl))
+      (shown, [], after, from_net state tick shown [] after (h.env, h.clock, h.settled, refl, refl, refl))
 
   module _ (types : NodesHaveTheirTypes) where
-    keeps_shape : KeepsShape (source_shape t) (SourceAllows t)
-    keeps_shape state tick shown after allowed =
-        let h : NetAllows net state tick shown after = to_net state tick shown after allowed in
+    keeps_shape : KeepsShape (source_shape t) (Allows t)
+    keeps_shape state tick shown clocks after allowed =
+        let h : NetAllows net state tick shown clocks after = to_net state tick shown clocks after allowed in
         let fits = next_fits types net flat.whole state tick h.0 h.1 h.2 in
-        subst (λ (s : Shape). FitEach s.state after) means.shapes (subst (λ (words : List ℕ). FitEach (shape net).state words) h.4 fits)
+        subst (λ (s : Shape). FitEach s.state after) means.shapes (subst (λ (words : List ℕ). FitEach (shape net).state words) h.5 fits)
 
-    pub source_runs_once : RunsOnce (source_shape t) (SourceAllows t)
-    source_runs_once = runs_once (source_shape t) (SourceAllows t) allows_some keeps_shape (source_allows_one t source_one)
+    pub source_runs_once : RunsOnce (source_shape t) (Allows t)
+    source_runs_once = runs_once (source_shape t) (Allows t) allows_some keeps_shape (source_allows_one t source_one)

@@ -1,8 +1,7 @@
 -- Where one choice of values is settled in a tree of designs at each tick, there is exactly one run.
 use Rattle.std.proofs.Common.{◌≡◌, ℕ, List, [], ◌∷◌, map, refl, sym, ap, ◌∙◌, subst}
-use Rattle.fir_base.specs.Ticks.{Tick, FitEach}
+use Rattle.fir_base.specs.Ticks.{FitEach, Tick, TickResult}
 use Rattle.fir_meaning.specs.LeafPaths.{LeafPath}
-use Rattle.fir_meaning.specs.LeafAllows.{LeafResult}
 use Rattle.fir_meaning.specs.SourceAllows.{next}
 use Rattle.fir_meaning.specs.SourceCircuits.{clock_outputs, outputs, source_shape}
 use Rattle.fir_meaning.specs.SourceDesigns.{SourceDesign}
@@ -14,7 +13,7 @@ pub same_env : (e f : PathEnv) → ((x : LeafPath) → e.numbers x ≡ f.numbers
 same_env e f p q = λ i. record { numbers = λ x. p x i; clocks = λ x. q x i }
 
 -- what a tick shows where these values are settled
-abbrev result_of : SourceDesign → List ℕ → Tick → PathEnv → LeafResult
+abbrev result_of : SourceDesign → List ℕ → Tick → PathEnv → TickResult
 result_of t state tick env =
     record { outputs = map env.numbers (outputs t); clocks = map env.clocks (clock_outputs t); state = next t state tick.clocks env }
 
@@ -22,7 +21,7 @@ module _ (t : SourceDesign) (one : One t) (keeps : KeepsShape t) where
   run_of : (state : List ℕ) (ticks : List Tick) → FitEach (source_shape t).state state → AreTicks t ticks → HasRun t state ticks
   run_of state [] fits are = record { shown = []; run = tt; same = λ others r. none others r }
     where
-      none : (others : List LeafResult) → Run t state [] others → others ≡ []
+      none : (others : List TickResult) → Run t state [] others → others ≡ []
       none [] r = refl
       none (o ∷ others) r = absurd r
   run_of state (k ∷ ticks) fits are =
@@ -34,7 +33,7 @@ module _ (t : SourceDesign) (one : One t) (keeps : KeepsShape t) where
         same = λ others r. same others o rest r;
       }
     where
-      same : (others : List LeafResult) (o : HasOne t state k) (rest : HasRun t (next t state k.clocks o.env) ticks)
+      same : (others : List TickResult) (o : HasOne t state k) (rest : HasRun t (next t state k.clocks o.env) ticks)
           → Run t state (k ∷ ticks) others → others ≡ result_of t state k o.env ∷ rest.shown
       same [] o rest r = absurd r
       same (s ∷ others) o rest r =

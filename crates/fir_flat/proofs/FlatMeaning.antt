@@ -1,5 +1,5 @@
 -- A flat net allows what its circuit allows, and has one choice of values where the circuit has.
-use Rattle.std.proofs.Common.{◌≡◌, ℕ, ◌<◌, ◌≤◌, List, [], length, true, false, map, refl, sym, ap, ◌∙◌, ⊎_elim, subst}
+use Rattle.std.proofs.Common.{◌≡◌, ℕ, ◌<◌, ◌≤◌, List, length, Option, true, false, map, refl, sym, ap, ◌∙◌, ⊎_elim, subst}
 use Rattle.std.proofs.lemmas.Bool.{cases_lt}
 use Rattle.fir_base.specs.Ticks.{HasShape, Shape, Tick}
 use Rattle.fir_bits.specs.working.Laws.{HasItsType}
@@ -19,17 +19,20 @@ use Rattle.fir_flat.proofs.NextStates.{next_same}
 use Rattle.fir_flat.proofs.SettledValues.{beside, own_beside, settled_in_circuit, settled_in_net}
 
 module _ (law : HasItsType) (c : LeafCircuit) (net : FlatNet) (faithful : IsFaithful c net) (state : List ℕ) (tick : Tick) where
-  allowed_in_net : (shown after : List ℕ) → leafed.Allows c state tick shown [] after → Allows net state tick shown after
-  allowed_in_net shown after h = (
+  allowed_in_net : (shown : List ℕ) (clocks : List (Option ℕ)) (after : List ℕ) → leafed.Allows c state tick shown clocks after
+      → Allows net state tick shown clocks after
+  allowed_in_net shown clocks after h = (
     h.0.numbers,
     h.0.clocks,
     settled_in_net c net faithful law state tick h.0 h.1,
     ap (map h.0.numbers) faithful.flat.outputs ∙ h.2,
+    sym h.3 ∙ ap (map h.0.clocks) faithful.flat.no_clock_outputs,
     sym (next_same law c net faithful h.0 h.0.numbers h.0.clocks (own_beside c net faithful law state tick h.0 h.1) state tick h.1) ∙ h.4,
   )
 
-  allowed_in_circuit : (shown after : List ℕ) → Allows net state tick shown after → leafed.Allows c state tick shown [] after
-  allowed_in_circuit shown after h =
+  allowed_in_circuit : (shown : List ℕ) (clocks : List (Option ℕ)) (after : List ℕ) → Allows net state tick shown clocks after
+      → leafed.Allows c state tick shown clocks after
+  allowed_in_circuit shown clocks after h =
       let env = kept c h.0 h.1 in
       let near = beside c net faithful law state tick h.0 h.1 h.2 in
       let settled = settled_in_circuit c net faithful law state tick h.0 h.1 h.2 in (
@@ -37,8 +40,8 @@ module _ (law : HasItsType) (c : LeafCircuit) (net : FlatNet) (faithful : IsFait
         settled,
         ap (map env.numbers) (sym faithful.flat.outputs)
             ∙ same_list c net faithful.flat output_number outputs_plain env.numbers h.0 (λ x l at plain. sym (near.numbers.values x l at plain)) ∙ h.3,
-        ap (map env.clocks) faithful.flat.no_clock_outputs,
-        next_same law c net faithful env h.0 h.1 near state tick settled ∙ h.4,
+        ap (map env.clocks) faithful.flat.no_clock_outputs ∙ sym h.4,
+        next_same law c net faithful env h.0 h.1 near state tick settled ∙ h.5,
       )
 
   -- any two choices that are settled in the circuit are the same at a leaf, where the net has one
@@ -97,8 +100,8 @@ module _ (law : HasItsType) (c : LeafCircuit) (net : FlatNet) (faithful : IsFait
   }
 
 pub allows_the_same : HasItsType → AllowsTheSame
-allows_the_same law c net faithful state tick shown after =
-    (allowed_in_net law c net faithful state tick shown after, allowed_in_circuit law c net faithful state tick shown after)
+allows_the_same law c net faithful state tick shown clocks after =
+    (allowed_in_net law c net faithful state tick shown clocks after, allowed_in_circuit law c net faithful state tick shown clocks after)
 
 pub has_one_where : HasItsType → HasOneWhere
 has_one_where law c net faithful = (

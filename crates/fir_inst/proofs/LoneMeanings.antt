@@ -31,7 +31,7 @@ use Rattle.fir_inst.specs.working.LoneCircuits.{IsLone}
 use Rattle.fir_inst.proofs.FlatLones.{IsLoneNet, lone_faithful, lone_net}
 use Rattle.fir_inst.proofs.LoneDesigns.{IsCircuitOf, design_alone}
 use Rattle.fir_inst.proofs.LoneSources.{IsFirst, is_first}
-use Rattle.fir_inst.proofs.SourceRowsOfNets.{rows_are, widths_are, words_are}
+use Rattle.fir_inst.proofs.SourceRowsOfNets.{arrays_are, rows_are, widths_are, words_are}
 
 -- the laws that it rests on
 pub record LawsBelow : Type 0 where
@@ -111,11 +111,12 @@ module _ (laws : LawsBelow) (c : CircuitTree) (order : List ℕ) (net : FlatNet)
       record {
         ports = rows_are (flattened d) ports net lone t step long;
         words = words_are (flattened d) ports net lone t step long;
+        arrays = arrays_are (flattened d) ports net lone t step long;
         shapes = sym (shape_is (flattened d) net lone.flat) ∙ laws.shapes c d t both;
         output_widths = widths_are (flattened d) ports net lone t step long;
         one = (λ o. net_one.0 (tree_one.0 o), λ o. tree_one.1 (net_one.1 o));
-        allows = λ state tick shown after.
-            let tree_allows = laws.allows c d t state tick shown [] after both in
-            let net_allows = laws.net_allows (flattened d) net faithful state tick shown after in
+        allows = λ state tick shown clocks after.
+            let tree_allows = laws.allows c d t state tick shown clocks after both in
+            let net_allows = laws.net_allows (flattened d) net faithful state tick shown clocks after in
             (λ a. tree_allows.1 (net_allows.1 a), λ a. net_allows.0 (tree_allows.0 a));
       }

@@ -10,7 +10,7 @@ use Rattle.fir_meaning.specs.LeafCircuits.{LeafCircuit, role_of, type_of_leaf}
 use Rattle.fir_meaning.specs.LeafModules.{LeafType, Role, a_clock, computed, leaf_at, number, number_type, register, sink, source}
 use Rattle.fir_meaning.specs.LeafPaths.{LeafPath, path_text}
 use Rattle.fir_meaning.specs.LeafStates as over
-use Rattle.fir_meaning.specs.SourceCircuits.{PlacedLeaf, all_leaves, is_sink, leaf_path, leaves_of_design, main_ports, ports_where, state_words}
+use Rattle.fir_meaning.specs.SourceCircuits.{PlacedLeaf, all_arrays, all_leaves, is_sink, leaf_path, leaves_of_design, main_ports, ports_where, state_arrays, state_words}
 use Rattle.fir_meaning.specs.SourceDesigns.{SourceDesign}
 use Rattle.fir_meaning.specs.SourceRoles as tree
 use Rattle.fir_meaning.specs.SourceRoles.{SourceRole}
@@ -21,7 +21,7 @@ use Rattle.fir_design.proofs.InStep.{InStep, SameRoleBelow}
 use Rattle.fir_design.proofs.LeavesInStep.{holds_there, types_are}
 use Rattle.fir_design.proofs.PathLookups.{flat_mapped_same, in_filter}
 use Rattle.fir_net.specs.Paths.{base_name}
-use Rattle.fir_net.specs.Rows.{Row, Word, clock_row, net_rows, net_words, role_word, row, word}
+use Rattle.fir_net.specs.Rows.{Row, Word, clock_row, net_arrays, net_rows, net_words, role_word, row, word}
 use Rattle.fir_net.specs.Rows as net_told
 use Rattle.fir_net.specs.declared.leaf.Leaf.{Leaf}
 use Rattle.fir_net.specs.declared.leaf.Role as net_leaf
@@ -32,11 +32,15 @@ use Rattle.fir_net.specs.working.Settled.{output_number, outputs, register_numbe
 use Rattle.fir_net.specs.working.Values.{leaf_width}
 use Rattle.fir_net.proofs.WholeValues.{width_at}
 use Rattle.fir_flat.proofs.FlatLeaves.{outputs_plain, same_list, type_at}
-use Rattle.fir_inst.specs.SourceRows.{leaf_name, role_row, source_rows, source_words}
+use Rattle.fir_inst.specs.SourceRows.{array_row, leaf_name, role_row, source_array_rows, source_rows, source_words}
 use Rattle.fir_inst.specs.working.FlattensTo.{output_widths}
 use Rattle.fir_inst.proofs.FlatLones.{IsLoneNet}
 use Rattle.fir_inst.proofs.FlatNumbers.{told_beside, told_by_numbers}
 use Rattle.fir_inst.proofs.LoneRoles.{IsShaped, driven_port, net_width}
+
+no_more : {A : Type 0} → (xs : List A) → map Some xs ≡ [] → xs ≡ []
+no_more [] e = refl
+no_more (x ∷ xs) e = cc
 
 -- of a port
 source_is : (c : LeafCircuit) (at : LeafPath) (q : SourceRole) → SameRoleBelow c at source q → q ≡ tree.source
@@ -127,6 +131,12 @@ module _ (c : LeafCircuit) (ports : ℕ) (net : FlatNet) (lone : IsLoneNet c por
       (λ x p e.
       let same = step.each x p e in
       ap₂ (λ (q : LeafPath) (h : LeafType). word (base_name (path_text q)) (number_type h).width) same.path same.holds)
+
+  -- without arrays on the side of leaves the source has none
+  pub arrays_are : net_arrays net ≡ source_array_rows t
+  arrays_are =
+      let none : map Some (state_arrays t) ≡ [] = sym step.array_order ∙ ap (map (slice_get (all_arrays t))) lone.flat.no_arrays in
+      ap (map array_row) (sym (no_more (state_arrays t) none))
 
   abbrev width_on : LeafPath → ℕ
   width_on x = (source_holds t x).width

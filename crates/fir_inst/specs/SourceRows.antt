@@ -1,14 +1,14 @@
--- The ports and the words of the state of a source, as rows that can be compared (FIRRTL spec, "Ports", "Registers"). Each leaf is named by its path, and the
--- leaves of a port stand in the order of its type; a flipped leaf of an output is an input. Leaves of no bits have no row.
-use Rattle.std.specs.Prelude.{ℕ, List, [], flat_map}
+-- The ports, the words and the arrays of the state of a source, as rows that can be compared (FIRRTL spec, "Ports", "Registers", "Memories"). Each leaf and
+-- array is named by its path, and the leaves of a port stand in the order of its type; a flipped leaf of an output is an input. What has no bits has no row.
+use Rattle.std.specs.Prelude.{ℕ, List, [], flat_map, map}
 use Rattle.fir_base.specs.declared.direction.Direction.TheVariants as direction
 use Rattle.fir_meaning.specs.LeafModules.{LeafType, a_clock, number, number_type}
 use Rattle.fir_meaning.specs.LeafPaths.{path_text}
-use Rattle.fir_meaning.specs.SourceCircuits.{PlacedLeaf, leaf_path, main_ports, state_words}
+use Rattle.fir_meaning.specs.SourceCircuits.{PlacedArray, PlacedLeaf, array_path, leaf_path, main_ports, state_arrays, state_words}
 use Rattle.fir_meaning.specs.SourceDesigns.{SourceDesign}
 use Rattle.fir_meaning.specs.SourceRoles.{SourceRole, sink, source}
 use Rattle.fir_net.specs.Paths.{base_name}
-use Rattle.fir_net.specs.Rows.{Row, Word, clock_row, row, word}
+use Rattle.fir_net.specs.Rows.{ArrayRow, Row, Word, clock_row, row, word}
 
 -- the name of a leaf, before it is made one of Verilog
 abbrev pub leaf_name : PlacedLeaf → List ℕ
@@ -26,3 +26,9 @@ source_rows t = flat_map (λ (p : PlacedLeaf). role_row p.leaf.role p.leaf.holds
 
 abbrev pub source_words : SourceDesign → List Word
 source_words t = flat_map (λ (p : PlacedLeaf). word (leaf_name p) (number_type p.leaf.holds).width) (state_words t)
+
+abbrev pub array_row : PlacedArray → ArrayRow
+array_row p = record { name = base_name (path_text (array_path p)); width = (number_type p.array.holds).width; depth = p.array.words }
+
+abbrev pub source_array_rows : SourceDesign → List ArrayRow
+source_array_rows t = map array_row (state_arrays t)

@@ -1,12 +1,12 @@
 -- Worked runs over leaves, computed from a text: two clocks, of which one goes out through a wire.
 use Rattle.std.proofs.Common.{◌≡◌, ℕ, List, [], ◌∷◌, Some, None, arith, refl}
-use Rattle.fir_base.specs.Ticks.{Tick}
+use Rattle.fir_base.specs.Ticks.{Tick, TickResult}
 use Rattle.fir_meaning.specs.TermValues.{Env}
 use Rattle.fir_meaning.specs.TermReads.{multiples}
 use Rattle.fir_meaning.specs.Designs.{elaborated}
 use Rattle.fir_meaning.specs.Memories.{addresses}
 use Rattle.fir_meaning.specs.LeafSettled.{Settled}
-use Rattle.fir_meaning.specs.LeafAllows.{LeafResult, Run}
+use Rattle.fir_meaning.specs.LeafAllows.{Run}
 use Rattle.fir_leaf.specs.working.ClockRoots.{HasRoot}
 use Rattle.fir_leaf.proofs.TextTrees as text
 use Rattle.fir_leaf.proofs.RowTrees.{over_leaves}
@@ -19,7 +19,7 @@ use Rattle.fir_leaf.proofs.RootClocks.{root_is_clock}
 abbrev exchange_ticks : List Tick
 exchange_ticks = tick (0 ∷ 1 ∷ []) [] ∷ tick (0 ∷ []) [] ∷ tick [] [] ∷ []
 
-abbrev leaves_words : ℕ → ℕ → LeafResult
+abbrev leaves_words : ℕ → ℕ → TickResult
 leaves_words r s = record { outputs = []; clocks = Some 1 ∷ None ∷ []; state = r ∷ s ∷ 4 ∷ [] }
 
 abbrev numbers_of_exchange : ℕ → ℕ → List ℕ

@@ -1,25 +1,25 @@
 -- Where one choice of values is settled at each tick, there is exactly one run.
 use Rattle.std.proofs.Common.{◌≡◌, ℕ, List, [], ◌∷◌, map, refl, sym, ap, ◌∙◌, subst}
-use Rattle.fir_base.specs.Ticks.{Tick, FitEach}
+use Rattle.fir_base.specs.Ticks.{FitEach, Tick, TickResult}
 use Rattle.fir_meaning.specs.TermValues.{Env}
 use Rattle.fir_meaning.specs.LeafCircuits.{LeafCircuit}
 use Rattle.fir_meaning.specs.LeafStates.{shape}
 use Rattle.fir_meaning.specs.LeafNext.{next}
-use Rattle.fir_meaning.specs.LeafAllows.{AreTicks, HasOne, HasRun, LeafResult, One, Run}
+use Rattle.fir_meaning.specs.LeafAllows.{AreTicks, HasOne, HasRun, One, Run}
 use Rattle.fir_leaf.specs.working.RunLaws.{KeepsShape, OneHasRun}
 
 pub same_env : (e f : Env) → ((x : ℕ) → e.numbers x ≡ f.numbers x) → ((x : ℕ) → e.clocks x ≡ f.clocks x) → e ≡ f
 same_env e f p q = λ i. record { numbers = λ x. p x i; clocks = λ x. q x i }
 
 -- what a tick shows where these values are settled
-abbrev result_of : LeafCircuit → List ℕ → Tick → Env → LeafResult
+abbrev result_of : LeafCircuit → List ℕ → Tick → Env → TickResult
 result_of c state tick env = record { outputs = map env.numbers c.outputs; clocks = map env.clocks c.clock_outputs; state = next c state tick env }
 
 module _ (c : LeafCircuit) (one : One c) (keeps : KeepsShape c) where
   run_of : (state : List ℕ) (ticks : List Tick) → FitEach (shape c).state state → AreTicks c ticks → HasRun c state ticks
   run_of state [] fits are = record { shown = []; run = tt; same = λ others r. none others r }
     where
-      none : (others : List LeafResult) → Run c state [] others → others ≡ []
+      none : (others : List TickResult) → Run c state [] others → others ≡ []
       none [] r = refl
       none (o ∷ others) r = absurd r
   run_of state (t ∷ ticks) fits are =
@@ -31,7 +31,7 @@ module _ (c : LeafCircuit) (one : One c) (keeps : KeepsShape c) where
         same = λ others r. same others o rest r;
       }
     where
-      same : (others : List LeafResult) (o : HasOne c state t) (rest : HasRun c (next c state t o.env) ticks) → Run c state (t ∷ ticks) others
+      same : (others : List TickResult) (o : HasOne c state t) (rest : HasRun c (next c state t o.env) ticks) → Run c state (t ∷ ticks) others
           → others ≡ result_of c state t o.env ∷ rest.shown
       same [] o rest r = absurd r
       same (s ∷ others) o rest r =

@@ -1,14 +1,14 @@
 -- A test of settled values, and of whole runs: for a circuit that is written out it computes.
 use Rattle.std.proofs.Common.{◌≡◌, ℕ, zero, suc, ◌+◌, ◌^◌, ◌<◌, ◌≤◌, List, [], ◌∷◌, length, map, Bool, true, false, ◌&&◌, Option, Some, None, nat_eq, nat_lt, nat_le, is_none, refl, ap, arith, ⊎_elim}
 use Rattle.std.proofs.lemmas.Bool.{cases_lt}
-use Rattle.fir_base.specs.Ticks.{Tick, FitEach, AreClocks}
+use Rattle.fir_base.specs.Ticks.{AreClocks, FitEach, Tick, TickResult}
 use Rattle.fir_meaning.specs.TermValues.{Env}
 use Rattle.fir_meaning.specs.LeafModules.{LeafType, a_clock, leaf_at, number}
 use Rattle.fir_meaning.specs.LeafCircuits.{LeafCircuit, role_of}
 use Rattle.fir_meaning.specs.LeafStates.{shape}
 use Rattle.fir_meaning.specs.LeafSettled.{Settled, Shows, clock_shown, number_shown}
 use Rattle.fir_meaning.specs.LeafNext.{next}
-use Rattle.fir_meaning.specs.LeafAllows.{LeafResult, Run}
+use Rattle.fir_meaning.specs.LeafAllows.{Run}
 
 -- the values of leaves that are listed
 abbrev pub number_in : List ℕ → ℕ → ℕ
@@ -163,14 +163,14 @@ settled_by c state tick numbers clocks e =
 
 -- a run through ticks, where the numbers of all leaves are given at each tick, and their clocks once
 module _ (c : LeafCircuit) (clocks : List (Option ℕ)) where
-  abbrev result_of : List ℕ → Tick → List ℕ → LeafResult
+  abbrev result_of : List ℕ → Tick → List ℕ → TickResult
   result_of state t numbers = record {
     outputs = map (number_in numbers) c.outputs;
     clocks = map (clock_in clocks) c.clock_outputs;
     state = next c state t (env_of numbers clocks);
   }
 
-  abbrev pub shown_by : List ℕ → List Tick → List (List ℕ) → List LeafResult
+  abbrev pub shown_by : List ℕ → List Tick → List (List ℕ) → List TickResult
   shown_by state (t ∷ ts) (numbers ∷ rest) = result_of state t numbers ∷ shown_by (next c state t (env_of numbers clocks)) ts rest
   shown_by state _ _ = []
 

@@ -34,7 +34,7 @@ AreClear from upto c = (k : ℕ) → from ≤ k → k ≤ upto → IsClear ((cir
 -- the tree stays as it is
 pub keeps_tree : (from upto : ℕ) (c n : CircuitTree) → n ≡ c → AreClear from upto c → Keeps from upto (circuit_meaning c) (circuit_meaning n)
 keeps_tree from upto c n e clear = subst (λ (x : CircuitTree). Keeps from upto (circuit_meaning c) (circuit_meaning x)) (sym e) (record {
-  allows = λ state tick shown after. ((λ x. x), (λ x. x));
+  allows = λ state tick shown clocks after. ((λ x. x), (λ x. x));
   one = ((λ x. x), (λ x. x));
   clear = clear;
   later = λ k past. record { shows = λ f. ((λ x. x), (λ x. x)); tells = λ f. ((λ x. x), (λ x. x)) };

@@ -1,38 +1,21 @@
 -- What a leaf circuit allows at a tick, and over a run (FIRRTL spec, "Circuits", "Clock Type").
--- A tick shows the numbers of the outputs, and beside them the clock of each output that is one: the number of a clock input, or none.
-use Rattle.std.specs.Prelude.{◌≡◌, ℕ, List, [], ◌∷◌, map, Option}
-use Rattle.fir_base.specs.Ticks.{Tick, HasShape, FitEach, AreClocks}
+-- Some settled values show the numbers of the outputs and the clocks of those that are clocks, and the next state follows from them.
+use Rattle.std.specs.Prelude.{◌≡◌, ℕ, List, [], ◌∷◌, map}
+use Rattle.fir_base.specs.Ticks.{Allowance, AreClocks, FitEach, HasShape, IsRun, Tick, TickResult}
 use Rattle.fir_meaning.specs.TermValues.{Env}
 use Rattle.fir_meaning.specs.LeafCircuits.{LeafCircuit}
 use Rattle.fir_meaning.specs.LeafStates.{shape}
 use Rattle.fir_meaning.specs.LeafSettled.{Settled}
 use Rattle.fir_meaning.specs.LeafNext.{next}
 
--- which outputs, which clocks of outputs and which next state a state and a tick allow
-abbrev pub LeafAllowance : Type 1
-LeafAllowance = List ℕ → Tick → List ℕ → List (Option ℕ) → List ℕ → Type 0
-
--- what one tick shows, and the state after it
-pub record LeafResult : Type 0 where
-  pub outputs : List ℕ
-  pub clocks : List (Option ℕ)
-  pub state : List ℕ
-
--- tick for tick what is allowed, from an initial state on
-abbrev pub IsLeafRun : LeafAllowance → List ℕ → List Tick → List LeafResult → Type 0
-IsLeafRun allows state [] [] = Unit {0}
-IsLeafRun allows state (tick ∷ ticks) (shown ∷ rest) =
-    allows state tick shown.outputs shown.clocks shown.state × IsLeafRun allows shown.state ticks rest
-IsLeafRun allows state _ _ = ⊥
-
 -- some settled values show the outputs and their clocks, and the next state follows from them
-abbrev pub Allows : LeafCircuit → LeafAllowance
+abbrev pub Allows : LeafCircuit → Allowance
 Allows c state tick shown clocks_shown after =
     (env : Env) × Settled c state tick env
     × (map env.numbers c.outputs ≡ shown) × (map env.clocks c.clock_outputs ≡ clocks_shown) × (next c state tick env ≡ after)
 
-abbrev pub Run : LeafCircuit → List ℕ → List Tick → List LeafResult → Type 0
-Run c = IsLeafRun (Allows c)
+abbrev pub Run : LeafCircuit → List ℕ → List Tick → List TickResult → Type 0
+Run c = IsRun (Allows c)
 
 -- some values are settled, and any two are the same at every number
 pub record HasOne (c : LeafCircuit) (state : List ℕ) (tick : Tick) : Type 0 where
@@ -56,6 +39,6 @@ AreTicks c (t ∷ ts) = IsTick c t × AreTicks c ts
 
 -- there is exactly one run from a state through the ticks
 pub record HasRun (c : LeafCircuit) (state : List ℕ) (ticks : List Tick) : Type 0 where
-  pub shown : List LeafResult
+  pub shown : List TickResult
   pub run : Run c state ticks shown
-  pub same : (others : List LeafResult) → Run c state ticks others → others ≡ shown
+  pub same : (others : List TickResult) → Run c state ticks others → others ≡ shown

@@ -4,11 +4,10 @@
 -- shows; else it keeps its state. A pipe and the arrays follow their clocks. Of two writes to one address that of the later port wins.
 use Rattle.std.specs.Prelude.{◌≡◌, ℕ, ◌^◌, ◌<◌, List, [], ◌∷◌, ◌++◌, flat_map, map, Bool, not, ◌&&◌, nat_eq, if◌then◌else◌, Option, Some, None, unwrap_or}
 use Rattle.fir_base.specs.Lists.{In}
-use Rattle.fir_base.specs.Ticks.{HasShape, Tick}
+use Rattle.fir_base.specs.Ticks.{Allowance, HasShape, Tick}
 use Rattle.fir_ast.specs.declared.statements.ReadUnderWrite.{ReadUnderWrite}
 use Rattle.fir_ast.specs.declared.statements.ReadUnderWrite.TheVariants.{New, Old, Undefined}
 use Rattle.fir_meaning.specs.LeafPaths.{LeafPath}
-use Rattle.fir_meaning.specs.LeafAllows.{LeafAllowance}
 use Rattle.fir_meaning.specs.LeafModules.{LeafType, a_clock, number}
 use Rattle.fir_meaning.specs.Memories.{addresses, has_edge}
 use Rattle.fir_meaning.specs.TreeStores.{same_path}
@@ -98,7 +97,7 @@ module _ (t : SourceDesign) where
     next = words_next ++ arrays_next
 
   -- some settled values show the outputs and their clocks, and the next state follows from them
-  abbrev pub Allows : LeafAllowance
+  abbrev pub Allows : Allowance
   Allows state tick shown clocks_shown after =
       (env : PathEnv) × Settled state tick env × (map env.numbers (outputs t) ≡ shown) × (map env.clocks (clock_outputs t) ≡ clocks_shown)
       × (next state tick.clocks env ≡ after)

@@ -1,6 +1,6 @@
 -- What a circuit means, as the law of passes sees it: what the source below its main module allows at each tick, and the faults of the circuit.
--- Outputs that are clocks are not shown yet: a source that has some allows nothing here. Of the faults of clocks (E25 to E27) none is said yet.
-use Rattle.std.specs.Prelude.{◌≡◌, [], filter, length, map}
+-- Of the faults of clocks (E25 to E27) none is said yet.
+use Rattle.std.specs.Prelude.{◌≡◌, [], Bool, true, false, filter, length, map}
 use Rattle.fir_ast.specs.Circuits.{CircuitTree}
 use Rattle.fir_pass.specs.Groups.{Groups, no_groups, then_group, in_order, group_at}
 use Rattle.fir_pass.specs.Meaning.{Meaning, ShapeNames, Counts}
@@ -11,9 +11,10 @@ use Rattle.fir_meaning.specs.LoopGroup.{loop_group}
 use Rattle.fir_meaning.specs.NameGroups.{name_group, main_group, hierarchy_group}
 use Rattle.fir_meaning.specs.ResetWalks.{reset_group}
 use Rattle.fir_meaning.specs.SourceAllows.{Allows}
-use Rattle.fir_meaning.specs.SourceCircuits.{all_arrays, all_leaves, clock_inputs, inputs, is_state, outputs, paths_of, source_shape, state_words}
+use Rattle.fir_meaning.specs.SourceCircuits.{all_arrays, all_leaves, clock_inputs, inputs, outputs, paths_of, source_shape, state_words}
 use Rattle.fir_meaning.specs.SourceDesigns.{SourceDesign}
 use Rattle.fir_meaning.specs.SourceOne.{One}
+use Rattle.fir_meaning.specs.SourceRoles.{SourceRole, register}
 use Rattle.fir_meaning.specs.TypeGroup.{type_group}
 use Rattle.fir_meaning.specs.UndrivenGroup.{undriven_group}
 use Rattle.fir_meaning.specs.WidthGroups.{over_group, legal_group}
@@ -35,10 +36,15 @@ source_names c t = record {
   state = map path_text (paths_of (state_words t));
 }
 
+-- a register that is declared; a pipe is none
+abbrev pub is_register : SourceRole → Bool
+is_register (register scope clock reset q) = true
+is_register _ = false
+
 abbrev pub source_counts : SourceDesign → Counts
 source_counts t = record {
   leaves = length (all_leaves t);
-  registers = length (filter (λ p. is_state p.leaf.role) (all_leaves t));
+  registers = length (filter (λ p. is_register p.leaf.role) (all_leaves t));
   memories = length (all_arrays t);
 }
 
@@ -48,7 +54,7 @@ OfSource c P = (t : SourceDesign) × IsSourceOf c t × P t
 
 unfoldable pub circuit_meaning : CircuitTree → Meaning
 circuit_meaning c = record {
-  allows = λ state tick shown after. OfSource c (λ t. Allows t state tick shown [] after);
+  allows = λ state tick shown clocks after. OfSource c (λ t. Allows t state tick shown clocks after);
   one = OfSource c One;
   group = group_at (circuit_groups c);
   has_shape = λ shape. OfSource c (λ t. source_shape t ≡ shape);

@@ -1,4 +1,4 @@
--- The ports and the words of the state of a net, as rows that can be compared. Leaves of no bits have none.
+-- The ports and the words of the state of a net, as rows that can be compared. Leaves of no bits have none. Arrays have rows too; a net has none yet.
 use Rattle.std.specs.Prelude.{ℕ, List, [], ◌∷◌, map, flat_map, nat_eq, if◌then◌else◌}
 use Rattle.fir_base.specs.declared.direction.Direction.{Direction}
 use Rattle.fir_base.specs.declared.direction.Direction.TheVariants as direction
@@ -29,6 +29,12 @@ pub record Word : Type 0 where
 abbrev pub word : List ℕ → ℕ → List Word
 word name width = if nat_eq width 0 then [] else (record { name = name; width = width } ∷ [])
 
+-- an array of the state: its name before it is made one of Verilog, the width of its words, and how many there are
+pub record ArrayRow : Type 0 where
+  pub name : List ℕ
+  pub width : ℕ
+  pub depth : ℕ
+
 abbrev pub role_row : Role → List ℕ → ℕ → List Row
 role_row role.Input name width = row name direction.Input width
 role_row role.Clock name width = clock_row name direction.Input
@@ -46,6 +52,9 @@ net_rows net = flat_map (λ l. role_row l.role (base_name l.path) l.width) net.l
 abbrev pub net_words : FlatNet → List Word
 net_words net = flat_map (λ l. role_word l.role (base_name l.path) l.width) net.leaves
 
+abbrev pub net_arrays : FlatNet → List ArrayRow
+net_arrays net = []
+
 abbrev pub row_names : List Row → List (List ℕ)
 row_names = map (λ r. r.name)
 
@@ -54,6 +63,9 @@ word_names = map (λ w. w.name)
 
 abbrev pub word_widths : List Word → List ℕ
 word_widths = map (λ w. w.width)
+
+abbrev pub array_names : List ArrayRow → List (List ℕ)
+array_names = map (λ a. a.name)
 
 -- direction, and what is carried
 abbrev pub PortKind : Type 0

@@ -1,16 +1,13 @@
--- What the source of a circuit allows and how it runs (FIRRTL spec, "Circuits", "Registers"). No output is a clock so far, so a tick shows numbers alone.
-use Rattle.std.specs.Prelude.{ℕ, List, []}
-use Rattle.fir_base.specs.Ticks.{Allowance, IsRun, Tick, TickResult}
+-- How the source of a circuit runs, and the widths of its outputs (FIRRTL spec, "Circuits", "Registers").
+use Rattle.std.specs.Prelude.{ℕ, List}
+use Rattle.fir_base.specs.Ticks.{IsRun, Tick, TickResult}
 use Rattle.fir_meaning.specs.SourceAllows.{Allows}
 use Rattle.fir_meaning.specs.SourceCircuits.{is_sink, ports_where, widths_of}
 use Rattle.fir_meaning.specs.SourceDesigns.{SourceDesign}
 use Rattle.fir_meaning.specs.StateWalks.{has_bits}
 
-abbrev pub SourceAllows : SourceDesign → Allowance
-SourceAllows t state tick shown after = Allows t state tick shown [] after
-
 abbrev pub SourceRun : SourceDesign → List ℕ → List Tick → List TickResult → Type 0
-SourceRun t = IsRun (SourceAllows t)
+SourceRun t = IsRun (Allows t)
 
 -- the widths of the outputs, in their order
 abbrev pub output_widths : SourceDesign → List ℕ

@@ -19,9 +19,9 @@ cleared from upto m n h k low after =
 -- what two passes keep
 pub keeps_both : (from upto next last : ℕ) (m n o : Meaning) → Follows from upto next last → Keeps from upto m n → Keeps next last n o → Keeps from last m o
 keeps_both from upto next last m n o e h1 h2 = record {
-  allows = λ state tick shown after. (
-    (λ x. (h2.allows state tick shown after).0 ((h1.allows state tick shown after).0 x)),
-    (λ y. (h1.allows state tick shown after).1 ((h2.allows state tick shown after).1 y)),
+  allows = λ state tick shown clocks after. (
+    (λ x. (h2.allows state tick shown clocks after).0 ((h1.allows state tick shown clocks after).0 x)),
+    (λ y. (h1.allows state tick shown clocks after).1 ((h2.allows state tick shown clocks after).1 y)),
   );
   one = ((λ x. h2.one.0 (h1.one.0 x)), (λ y. h1.one.1 (h2.one.1 y)));
   clear = λ k low high. cleared from upto m n h1 k low (λ lt. h2.clear k (omega arith) high);

@@ -1,6 +1,6 @@
 -- What a pass keeps, and what its fault shows.
 -- A pass looks for the faults of the groups from one number up to another.
-use Rattle.std.specs.Prelude.{◌≡◌, ◌↔◌, ℕ, ◌+◌, ◌<◌, ◌≤◌, List, Result, Ok, Err}
+use Rattle.std.specs.Prelude.{◌≡◌, ◌↔◌, ℕ, ◌+◌, ◌<◌, ◌≤◌, List, Option, Result, Ok, Err}
 use Rattle.fir_base.specs.Ticks.{Shape, Tick}
 use Rattle.fir_base.specs.declared.refused.Refused.{Refused}
 use Rattle.fir_base.specs.declared.refused.Refused.TheVariants.{Fault, Memory}
@@ -18,7 +18,9 @@ pub record IsFirst (from upto : ℕ) (m : Meaning) (f : ToldFault) : Type 0 wher
 
 -- the groups that are looked for are clear; all else that the trees mean is the same
 pub record Keeps (from upto : ℕ) (m n : Meaning) : Type 0 where
-  pub allows : (state : List ℕ) (tick : Tick) (shown after : List ℕ) → m.allows state tick shown after ↔ n.allows state tick shown after
+  pub allows :
+      (state : List ℕ) (tick : Tick) (shown : List ℕ) (clocks : List (Option ℕ)) (after : List ℕ)
+      → m.allows state tick shown clocks after ↔ n.allows state tick shown clocks after
   pub one : m.one ↔ n.one
   pub clear : (k : ℕ) → from ≤ k → k ≤ upto → IsClear (m.group k)
   pub later : (k : ℕ) → upto < k → SameGroup (m.group k) (n.group k)

@@ -17,7 +17,7 @@ pub record Counts : Type 0 where
   pub memories : ℕ
 
 pub record Meaning : Type 1 where
-  -- which outputs and which next state a state and a tick allow
+  -- which outputs, which clocks of outputs and which next state a state and a tick allow
   pub allows : Allowance
   -- at every state and tick of the shape exactly one choice of values is settled
   pub one : Type 0

@@ -2,13 +2,14 @@
 use Rattle.std.proofs.Common.{◌≡◌, ℕ, List, ◌++◌, Bool, ◌⊎◌, inl, inr, sym, ap, ◌∙◌, subst}
 use Rattle.fir_base.specs.Ticks.{Tick}
 use Rattle.fir_meaning.specs.Elaborated.{IsSourceOf}
+use Rattle.fir_meaning.specs.SourceAllows.{Allows}
 use Rattle.fir_meaning.specs.SourceCircuits.{source_shape}
 use Rattle.fir_meaning.specs.SourceDesigns.{SourceDesign}
 use Rattle.trace_text.specs.Shapes.{TraceShape}
 use Rattle.trace_text.specs.TraceSpells.{TraceSpells}
 use Rattle.trace_text.specs.working.Fronts.{FrontLinesBegin, Says}
 use Rattle.fir_outcome.specs.Simulations.{BeginsAll, Prints, PrintsAll, PrintsFront, PrintsRun, SaysBadly}
-use Rattle.fir_outcome.specs.Sources.{SourceAllows, output_widths}
+use Rattle.fir_outcome.specs.Sources.{output_widths}
 use Rattle.fir_outcome.specs.Traces.{IsTraceShape}
 use Rattle.fir_runner.specs.working.Laws.{FrontsBegin}
 use Rattle.fir_runner.proofs.TraceShapes.{one_shape}
@@ -36,7 +37,7 @@ all_said : (text trace : List ℕ) (with_state : Bool) (all : List ℕ) → Prin
 all_said text trace with_state all (inl p) = said_so text with_state (TraceSpells trace) (Says trace) all (λ s init ticks t. inl t) p
 all_said text trace with_state all (inr (line, p)) = said_so text with_state (SaysBadly trace line) (Says trace) all (λ s init ticks b. inr (b.0, b.1)) p
 
-module _ (law : (t : SourceDesign) → FrontLinesBegin (SourceAllows t)) (text trace : List ℕ) (with_state : Bool) (printed all : List ℕ)
+module _ (law : (t : SourceDesign) → FrontLinesBegin (Allows t)) (text trace : List ℕ) (with_state : Bool) (printed all : List ℕ)
     (p : PrintsFront text trace with_state printed) (q : Prints text with_state (Says trace) all) where
   same_circuit : q.circuit ≡ p.circuit
   same_circuit = p.only_circuit q.circuit q.taken.spelled
@@ -61,5 +62,5 @@ module _ (law : (t : SourceDesign) → FrontLinesBegin (SourceAllows t)) (text t
       in
       (front.back, whole.lines ∙ front.parts ∙ ap (λ l. l ++ front.back) (sym first.lines))
 
-pub fronts_begin : ((t : SourceDesign) → FrontLinesBegin (SourceAllows t)) → FrontsBegin
+pub fronts_begin : ((t : SourceDesign) → FrontLinesBegin (Allows t)) → FrontsBegin
 fronts_begin law text trace with_state printed p all q = begins law text trace with_state printed all p (all_said text trace with_state all q)

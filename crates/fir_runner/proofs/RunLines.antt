@@ -7,11 +7,12 @@ use Rattle.trace_text.specs.RunLines.{with_widths, shown_text, run_text}
 use Rattle.fir_tick.specs.working.Views.{numbers, widths}
 use Rattle.fir_runner.specs.working.Running.{last_state}
 
+-- what a net shows, which has no clock outputs
 abbrev pub shows : List ℕ → List ℕ → TickResult
-shows outputs state = record { outputs = outputs; state = state }
+shows outputs state = record { outputs = outputs; clocks = []; state = state }
 
 module _ (allows : Allowance) (tick : Tick) (last : TickResult) where
-  pub run_more : (init : List ℕ) (ticks : List Tick) (shown : List TickResult) → IsRun allows init ticks shown → allows (last_state init shown) tick last.outputs last.state → IsRun allows init (ticks ++ tick ∷ []) (shown ++ last ∷ [])
+  pub run_more : (init : List ℕ) (ticks : List Tick) (shown : List TickResult) → IsRun allows init ticks shown → allows (last_state init shown) tick last.outputs last.clocks last.state → IsRun allows init (ticks ++ tick ∷ []) (shown ++ last ∷ [])
   unfolding last_state
   run_more init [] [] run here = (here, tt)
   run_more init [] (s ∷ shown) run here = absurd run

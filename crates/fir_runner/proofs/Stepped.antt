@@ -56,14 +56,14 @@ module _ (trace : List ℕ) (with_state : Bool) (old new : Runner) (printed : Li
       } in
       rw (stays.net, stays.shape_stays) ran
 
-  module _ (tick : Tick) (read : TickRead trace old.shape old.at new.at tick) (allows : Allows old.sim.net (numbers old.sim.state) tick (numbers new.sim.outputs) (numbers new.sim.state)) where
+  module _ (tick : Tick) (read : TickRead trace old.shape old.at new.at tick) (allows : Allows old.sim.net (numbers old.sim.state) tick (numbers new.sim.outputs) [] (numbers new.sim.state)) where
     abbrev last : TickResult
     last = shows (numbers new.sim.outputs) (numbers new.sim.state)
 
     ran_more : IsRun (Allows old.sim.net) h.init (h.ticks ++ tick ∷ []) (h.shown ++ last ∷ [])
     ran_more =
         run_more (Allows old.sim.net) tick last h.init h.ticks h.shown h.run
-        (subst (λ (state : List ℕ). Allows old.sim.net state tick last.outputs last.state) h.state allows)
+        (subst (λ (state : List ℕ). Allows old.sim.net state tick last.outputs last.clocks last.state) h.state allows)
 
     -- a tick was run, and this is its line
     module _ (line : List ℕ) (outputs_are : widths new.sim.outputs ≡ output_widths old.sim.net)

@@ -1,14 +1,12 @@
 -- A circuit has one shape of traces.
--- Bases determine their names, one after the other; a shape's words are as many as the widths of the state, so that their names stand last.
-use Rattle.std.proofs.Common.{◌≡◌, ℕ, ◌+◌, ◌<◌, List, [], ◌∷◌, ◌++◌, length, drop, map, replicate, Bool, true, false, Option, None, MatchBool, refl, sym, ap, ◌∙◌, subst, arith, length-append}
-use Rattle.std.specs.Prelude.{unwrap_or}
-use Rattle.std.specs.List.{AllByRecursion}
+-- Bases determine their names, one after the other; a shape's words are as many as the words and arrays of the state, so that their names stand last.
+use Rattle.std.proofs.Common.{◌≡◌, ℕ, ◌+◌, ◌<◌, List, [], ◌∷◌, ◌++◌, length, drop, map, Bool, true, false, MatchBool, refl, sym, ap, ◌∙◌, subst, arith, length-append}
 use Rattle.std.proofs.Math.Seq.{drop-append_seam}
 use Rattle.std.proofs.lemmas.List.{length-map}
 use Rattle.fir_ast.specs.Circuits.{CircuitTree}
 use Rattle.fir_net_names.specs.Names.{is_free, suffixed, IsFirstFree, AreNamed}
 use Rattle.trace_text.specs.declared.shape.StateWord.{StateWord}
-use Rattle.trace_text.specs.Shapes.{TraceShape, shape_of, state_widths, plain}
+use Rattle.trace_text.specs.Shapes.{TraceShape, WordKind, plain, shape_of, word_kinds}
 use Rattle.fir_meaning.specs.SourceDesigns.{SourceDesign}
 use Rattle.fir_outcome.specs.Traces.{IsShapeFor, IsTraceShape}
 
@@ -43,43 +41,27 @@ one_naming taken (base ∷ bases) (x ∷ xs) (y ∷ ys) p q =
     let rest : xs ≡ ys = one_naming (x ∷ taken) bases xs ys p.1 (subst (λ name. AreNamed (name ∷ taken) bases ys) (sym first) q.1) in
     cc
 
-abbrev AreRegisters : List StateWord → Type 0
-AreRegisters = AllByRecursion (λ w. w.depth ≡ None)
+abbrev names_of : List StateWord → List (List ℕ)
+names_of = map (λ w. w.name)
 
-abbrev word_names : List StateWord → List (List ℕ)
-word_names = map (λ w. w.name)
-
-abbrev word_widths : List StateWord → List ℕ
-word_widths = map (λ w. w.width)
-
--- each register is one word
-register_widths : (ws : List StateWord) → AreRegisters ws → state_widths ws ≡ word_widths ws
-register_widths [] h = refl
-register_widths (w ∷ ws) h =
-    ap (λ (depth : Option ℕ). replicate (unwrap_or depth 1) w.width ++ state_widths ws) h.0 ∙ ap (λ widths. w.width ∷ widths) (register_widths ws h.1)
-
-as_many : (ws : List StateWord) → length (word_names ws) ≡ length (word_widths ws)
+as_many : (ws : List StateWord) → length (names_of ws) ≡ length (word_kinds ws)
 as_many ws = simp length-map
 
-abbrev word_of : List ℕ → ℕ → Option ℕ → StateWord
-word_of name width depth = record { name = name; width = width; depth = depth }
+abbrev word_of : List ℕ → WordKind → StateWord
+word_of name kind = record { name = name; width = kind.0; depth = kind.1 }
 
-same_word : (v w : StateWord) → v.name ≡ w.name → v.width ≡ w.width → v.depth ≡ w.depth → v ≡ w
-same_word v w names widths depths =
-    ap (λ name. word_of name v.width v.depth) names ∙ ap (λ width. word_of w.name width v.depth) widths ∙ ap (λ depth. word_of w.name w.width depth) depths
-
--- registers are determined by their names and widths
-same_registers : (vs ws : List StateWord) → AreRegisters vs → AreRegisters ws → word_names vs ≡ word_names ws → word_widths vs ≡ word_widths ws → vs ≡ ws
-same_registers [] [] p q names widths = refl
-same_registers [] (w ∷ ws) p q names widths = cc
-same_registers (v ∷ vs) [] p q names widths = cc
-same_registers (v ∷ vs) (w ∷ ws) p q names widths =
+-- words are determined by their names, widths and depths
+same_words : (vs ws : List StateWord) → names_of vs ≡ names_of ws → word_kinds vs ≡ word_kinds ws → vs ≡ ws
+same_words [] [] names kinds = refl
+same_words [] (w ∷ ws) names kinds = cc
+same_words (v ∷ vs) [] names kinds = cc
+same_words (v ∷ vs) (w ∷ ws) names kinds =
     let name : v.name ≡ w.name = cc in
-    let width : v.width ≡ w.width = cc in
-    let rest_names : word_names vs ≡ word_names ws = cc in
-    let rest_widths : word_widths vs ≡ word_widths ws = cc in
-    let first : v ≡ w = same_word v w name width (p.0 ∙ sym q.0) in
-    let rest : vs ≡ ws = same_registers vs ws p.1 q.1 rest_names rest_widths in
+    let kind : ◌≡◌ {A = WordKind} (v.width, v.depth) (w.width, w.depth) = cc in
+    let rest_names : names_of vs ≡ names_of ws = cc in
+    let rest_kinds : word_kinds vs ≡ word_kinds ws = cc in
+    let first : v ≡ w = ap (λ n. word_of n (v.width, v.depth)) name ∙ ap (word_of w.name) kind in
+    let rest : vs ≡ ws = same_words vs ws rest_names rest_kinds in
     cc
 
 -- equal lists with equally long ends have equal ends
@@ -96,12 +78,11 @@ same_shape s t inputs clocks state =
 one_shape_for : (x : SourceDesign) (s t : TraceShape) → IsShapeFor x s → IsShapeFor x t → s ≡ t
 one_shape_for x s t p q =
     let values : plain s ≡ plain t = p.values ∙ sym q.values in
-    let widths : word_widths s.state ≡ word_widths t.state =
-    sym (register_widths s.state p.registers) ∙ ap (λ x. x.state) values ∙ register_widths t.state q.registers in
-    let long : length (word_names s.state) ≡ length (word_names t.state) = omega (arith, as_many s.state, as_many t.state, ap length widths) in
-    let names : word_names s.state ≡ word_names t.state =
-    same_ends p.ports q.ports (word_names s.state) (word_names t.state) (one_naming [] _ _ _ p.named q.named) long in
-    same_shape s t (ap (λ x. x.inputs) values) (ap (λ x. x.clocks) values) (same_registers s.state t.state p.registers q.registers names widths)
+    let kinds : word_kinds s.state ≡ word_kinds t.state = p.words ∙ sym q.words in
+    let long : length (names_of s.state) ≡ length (names_of t.state) = omega (arith, as_many s.state, as_many t.state, ap length kinds) in
+    let names : names_of s.state ≡ names_of t.state =
+    same_ends p.ports q.ports (names_of s.state) (names_of t.state) (one_naming [] _ _ _ p.named q.named) long in
+    same_shape s t (ap (λ x. x.inputs) values) (ap (λ x. x.clocks) values) (same_words s.state t.state names kinds)
 
 pub one_shape : (c : CircuitTree) (s t : TraceShape) → IsTraceShape c s → IsTraceShape c t → s ≡ t
 one_shape c s t p q = one_shape_for p.source s t (p.each p.source p.is_source) (q.each p.source p.is_source)

@@ -9,12 +9,12 @@ use trace_text::laws::front_lines_begin;
 pub struct SourceCircuits {}
 
 impl Circuits for SourceCircuits {
+    ghost use Rattle.fir_meaning.specs.SourceAllows.{Allows};
     ghost use Rattle.fir_meaning.specs.SourceDesigns.{SourceDesign};
-    ghost use Rattle.fir_outcome.specs.Sources.{SourceAllows};
 
     ghost circuit = { SourceDesign };
 
-    ghost allows = { SourceAllows };
+    ghost allows = { Allows };
 }
 
 /// The lines of the first ticks of a trace begin those of all its ticks, up to its end or to its first bad line.

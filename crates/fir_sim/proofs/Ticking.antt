@@ -1,5 +1,5 @@
 -- What the passes of a tick leave, one behind the other: the values that a net allows, and what the simulator keeps.
-use Rattle.std.proofs.Common.{◌≡◌, ℕ, ◌<◌, ◌≤◌, List, [], ◌∷◌, length, map, sym, ap, ◌∙◌, subst, arith}
+use Rattle.std.proofs.Common.{◌≡◌, ℕ, ◌<◌, ◌≤◌, List, [], ◌∷◌, length, map, refl, sym, ap, ◌∙◌, subst, arith}
 use Rattle.std.specs.List.{AllByRecursion}
 use Rattle.std.proofs.lemmas.List.{length-map}
 use Rattle.fir_base.specs.Ticks.{Tick, FitEach}
@@ -129,7 +129,7 @@ module _ (net : FlatNet) (steps : List Step) (p : Plan) (tick : Tick) (is_tick :
   words_are : map (number_at start) (registers net) ≡ numbers before.state.items
   words_are = ap (λ (h : List ℕ). map (number_at h) (registers net)) t.put ∙ kept net steps p before running tick is_tick
 
-  pub allows : HasItsType → NodesHaveTheirTypes → NodesHaveTheirValues → Allows net (numbers before.state.items) tick (numbers after.outputs.items) (numbers after.state.items)
+  pub allows : HasItsType → NodesHaveTheirTypes → NodesHaveTheirValues → Allows net (numbers before.state.items) tick (numbers after.outputs.items) [] (numbers after.state.items)
   allows has types law =
       let roots = running.plan.roots in
       let ns = after.numbers.items in (
@@ -137,5 +137,6 @@ module _ (net : FlatNet) (steps : List Step) (p : Plan) (tick : Tick) (is_tick :
         root_at roots,
         settles has types law net running.whole start ns t.settled roots running.plan.are_roots (numbers before.state.items) tick is_tick (state_fits net steps p before running) inputs_are words_are,
         sym (ap numbers t.outputs ∙ numbers_of (output_value ns) p.outputs.items ∙ ap (map (λ q. (output_value ns q).number)) running.plan.outputs ∙ outputs_shown net running.whole ns),
+        refl,
         sym (ap numbers t.state ∙ numbers_of (register_value net ns tick.clocks) p.registers.items ∙ words_taken has types law net running.whole start ns t.settled roots tick p.registers.items running.plan.registers),
       )

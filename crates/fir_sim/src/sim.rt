@@ -1,6 +1,6 @@
 //! The simulator of a net.
 
-ghost use Rattle.std.specs.Prelude.{◌≡◌, IfOk, length, replicate};
+ghost use Rattle.std.specs.Prelude.{◌≡◌, [], IfOk, length, replicate};
 ghost use Rattle.fir_base.specs.Ticks.{FitEach};
 ghost use Rattle.fir_net.specs.working.IsNet.{IsNet};
 ghost use Rattle.fir_net.specs.working.IsOrder.{IsOrder};
@@ -70,7 +70,7 @@ impl Sim {
     pub fn tick(&mut self, tick: &Tick)
         requires { IsTickOf self.old.net tick.now.tick }
         ensures net { self.new.net ≡ self.old.net }
-        ensures allows { Allows self.old.net (numbers self.old.state) tick.now.tick (numbers self.new.outputs) (numbers self.new.state) }
+        ensures allows { Allows self.old.net (numbers self.old.state) tick.now.tick (numbers self.new.outputs) [] (numbers self.new.state) }
     {
         self.step(tick.inputs(), tick.clocks());
     }
@@ -79,7 +79,7 @@ impl Sim {
     pub fn step(&mut self, inputs: &[u128], clocks: &[usize])
         requires { IsTickOf self.old.net (record { inputs = inputs.now; clocks = clocks.now }) }
         ensures net { self.new.net ≡ self.old.net }
-        ensures allows { Allows self.old.net (numbers self.old.state) (record { inputs = inputs.now; clocks = clocks.now }) (numbers self.new.outputs) (numbers self.new.state) }
+        ensures allows { Allows self.old.net (numbers self.old.state) (record { inputs = inputs.now; clocks = clocks.now }) (numbers self.new.outputs) [] (numbers self.new.state) }
     {
         has_its_type();
         nodes_have_their_types();

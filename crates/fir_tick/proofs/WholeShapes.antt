@@ -1,8 +1,9 @@
 -- What is made of a net's leaves is a shape, and it is the shape of the net's states and ticks.
-use Rattle.std.proofs.Common.{◌≡◌, ℕ, ◌≤◌, List, [], ◌∷◌, ◌++◌, Bool, true, false, IsTrue, refl, ap₂, ◌∙◌, subst, arith, Option, Some, None}
+use Rattle.std.proofs.Common.{◌≡◌, ℕ, ◌≤◌, List, [], ◌∷◌, ◌++◌, Bool, true, false, IsTrue, map, refl, sym, ap₂, ◌∙◌, subst, arith, Option, Some, None}
 use Rattle.std.specs.Prelude.{not, ◌&&◌, flat_map, nat_eq, count_by, sum_by, replicate}
 use Rattle.std.specs.List.{AllByRecursion}
 use Rattle.std.proofs.lemmas.Bool.{eqb-false}
+use Rattle.std.proofs.lemmas.List.{map-append}
 use Rattle.std.proofs.lemmas.List.Concat.{flat_map-append}
 use Rattle.std.proofs.lemmas.List.Sums.{sum_by-cons}
 use Rattle.fir_base.specs.Ticks.{Shape}
@@ -13,6 +14,7 @@ use Rattle.fir_net.specs.declared.leaf.Role.TheVariants as role
 use Rattle.fir_net.specs.declared.leaf.Leaf.{Leaf}
 use Rattle.fir_net.specs.declared.node.Node.{Node}
 use Rattle.fir_net.specs.declared.net.FlatNet.{FlatNet}
+use Rattle.fir_net.specs.Rows.{Word, role_word, word}
 use Rattle.fir_net_names.specs.declared.name_table.NameTable.{NameTable}
 use Rattle.fir_net.specs.working.Settled.{shape as net_shape}
 use Rattle.fir_net.specs.working.IsNet.{IsLeaf, IsNet}
@@ -20,7 +22,7 @@ use Rattle.fir_net.specs.Paths.{base_name}
 use Rattle.fir_net_names.specs.working.IsTable.{IsTable}
 use Rattle.fir_net_names.specs.working.LeafNamed.{with_some, somes, is_wire, has_name, IsLeafName, AreLeafNames}
 use Rattle.trace_text.specs.declared.shape.StateWord.{StateWord}
-use Rattle.trace_text.specs.Shapes.{TraceShape, shape_of, plain, size_of, state_widths, IsWidth, IsStateWord, AreRegistersFirst, array_size, IsShape}
+use Rattle.trace_text.specs.Shapes.{TraceShape, shape_of, plain, size_of, state_widths, WordKind, word_kinds, IsWidth, IsStateWord, AreRegistersFirst, array_size, IsShape}
 use Rattle.fir_tick.specs.working.Shapes.{IsShapeOf}
 use Rattle.fir_tick.specs.working.StateWords.{input_width, input_widths, is_clock, state_word, state_words}
 use Rattle.fir_tick.proofs.ShapeNames.{names_of, ports_before, distinct_back}
@@ -118,6 +120,35 @@ state_widths_are taken (l ∷ ls) (n ∷ names) named =
     flat_map-append (λ (s : StateWord). replicate (size_of s) s.width) (state_word l.role l.width n) (state_words names ls)
     ∙ ap₂ (λ (x y : List ℕ). x ++ y) (word_widths l.role l.width n (has_leaf_name taken l n named.0)) (state_widths_are (with_some n taken) ls names named.1)
 
+-- the word of a leaf has the leaf's width, and no depth
+abbrev of_register : Word → WordKind
+of_register w = (w.width, None)
+
+kinds_first : (r : Role) (w : ℕ) (base : List ℕ) (name : Option (List ℕ)) → HasLeafName r w name
+    → word_kinds (state_word r w name) ≡ map of_register (role_word r base w)
+kinds_first (role.Register r) w base None none = choose (nat_eq w 0) refl
+  where
+    choose : (b : Bool) → nat_eq w 0 ≡ b → [] ≡ map of_register (word base w)
+    choose true e = rw e refl
+    choose false e = let no : true ≡ false = rw e at none in cc
+kinds_first (role.Register r) w base (Some name) bits = choose (nat_eq w 0) refl
+  where
+    choose : (b : Bool) → nat_eq w 0 ≡ b → (w, None) ∷ [] ≡ map of_register (word base w)
+    choose true e = let no : false ≡ true = rw e at bits in cc
+    choose false e = rw e refl
+kinds_first _ w base name has = refl
+
+kinds_are : (taken : List (List ℕ)) (ls : List Leaf) (names : List (Option (List ℕ))) → AreLeafNames taken ls names
+    → word_kinds (state_words names ls) ≡ map of_register (flat_map (λ l. role_word l.role (base_name l.path) l.width) ls)
+kinds_are taken [] [] named = refl
+kinds_are taken [] (n ∷ names) named = absurd named
+kinds_are taken (l ∷ ls) [] named = absurd named
+kinds_are taken (l ∷ ls) (n ∷ names) named =
+    map-append (λ (s : StateWord). (s.width, s.depth)) (state_word l.role l.width n) (state_words names ls)
+    ∙ ap₂ (λ (x y : List WordKind). x ++ y) (kinds_first l.role l.width (base_name l.path) n (has_leaf_name taken l n named.0))
+    (kinds_are (with_some n taken) ls names named.1)
+    ∙ sym (map-append of_register (role_word l.role (base_name l.path) l.width) (flat_map (λ l. role_word l.role (base_name l.path) l.width) ls))
+
 same_shape : (v w s t : List ℕ) (k n : ℕ) → v ≡ w → k ≡ n → s ≡ t → ◌≡◌ {A = Shape} (record { inputs = v; clocks = k; state = s }) (record { inputs = w; clocks = n; state = t })
 same_shape v w s t k n e f g = rw (e, f, g) refl
 
@@ -150,7 +181,7 @@ module _ (net : FlatNet) (table : NameTable) where
       let before = ports_before [] net.leaves table.leaves is.leaves whole.ports_first in
       record {
         values = made_plain is;
-        registers = depthless table.leaves net.leaves;
+        words = kinds_are [] net.leaves table.leaves is.leaves;
         table = table;
         named = is;
         ports = before.ports;

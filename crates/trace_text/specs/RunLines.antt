@@ -10,7 +10,7 @@ with_widths [] ns = []
 with_widths (w ∷ ws) [] = []
 with_widths (w ∷ ws) (n ∷ ns) = record { width = w; number = n } ∷ with_widths ws ns
 
--- outputs and state of these widths, the state where it is shown
+-- outputs and state of these widths, the state where it is shown; the clocks of outputs have no text
 abbrev pub shown_text : List ℕ → List ℕ → Bool → TickResult → List ℕ
 shown_text outputs state with_state shown =
     line_text (with_widths outputs shown.outputs) (if with_state then Some (with_widths state shown.state) else None) None

@@ -29,6 +29,13 @@ size_of s = unwrap_or s.depth 1
 abbrev pub state_widths : List StateWord → List ℕ
 state_widths = flat_map (λ s. replicate (size_of s) s.width)
 
+-- the width of a word, and the depth where it is an array
+abbrev pub WordKind : Type 0
+WordKind = ℕ × Option ℕ
+
+abbrev pub word_kinds : List StateWord → List WordKind
+word_kinds = map (λ s. (s.width, s.depth))
+
 -- the shape of states and ticks
 abbrev pub plain : TraceShape → Shape
 plain shape = record { inputs = shape.inputs; clocks = shape.clocks; state = state_widths shape.state }

@@ -1,5 +1,5 @@
--- What a tree allows at a tick, and over a run.
-use Rattle.std.specs.Prelude.{◌≡◌, ℕ, List, map}
+-- What a tree allows at a tick, and over a run. A tree has no outputs that are clocks yet, so the list of their clocks is empty.
+use Rattle.std.specs.Prelude.{◌≡◌, ℕ, List, [], map}
 use Rattle.fir_base.specs.Lists.{In}
 use Rattle.fir_base.specs.Ticks.{Env, Tick, TickResult, HasShape, Allowance, IsRun}
 use Rattle.ver_ast.specs.declared.tree.Verilog.{Verilog}
@@ -9,8 +9,8 @@ use Rattle.ver_ast.specs.Next.{v_next}
 
 -- some settled values show the outputs, and the next state follows from them
 abbrev pub VAllows : Verilog → Allowance
-VAllows v state tick shown next =
-    (env : Env) × VSettled v state tick env × (map env (names_of (outputs v)) ≡ shown) × (v_next v env tick ≡ next)
+VAllows v state tick shown clocks next =
+    (env : Env) × VSettled v state tick env × (map env (names_of (outputs v)) ≡ shown) × (clocks ≡ []) × (v_next v env tick ≡ next)
 
 abbrev pub VRun : Verilog → List ℕ → List Tick → List TickResult → Type 0
 VRun v = IsRun (VAllows v)

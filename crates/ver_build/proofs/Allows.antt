@@ -55,15 +55,17 @@ module _ (net : FlatNet) (t : NameTable) (p : Places) (order : List Read) (is : 
     stored : (f : Env) → words (nets (in_parts net t p order)) f ≡ words (sizes net t p order) f
     stored f = ap (λ (ns : List Sized). words ns f) (nets_sized net t p order is)
 
-    to_net : (shown after : List ℕ) → VAllows (in_parts net t p order) state tick shown after → NetAllows net state tick shown after
-    to_net shown after a =
+    to_net : (shown : List ℕ) (clocks : List (Option ℕ)) (after : List ℕ) → VAllows (in_parts net t p order) state tick shown clocks after
+        → NetAllows net state tick shown clocks after
+    to_net shown clocks after a =
         let f = a.0 in
         let rest = a.1.rest in (
           leaf_values p f,
           leaf_clocks t p f,
           net_settled net t p order is state tick f rest shapes,
           sym (outputs_same net t p order is (leaf_values p f) (leaf_clocks t p f) f (agrees net t p order is state tick f rest)) ∙ a.2,
-          sym (next_state net t p order is state tick f rest) ∙ sym (stored f) ∙ a.3,
+          a.3,
+          sym (next_state net t p order is state tick f rest) ∙ sym (stored f) ∙ a.4,
         )
 
     -- a choice of the net, beside the tree's
@@ -105,17 +107,19 @@ module _ (net : FlatNet) (t : NameTable) (p : Places) (order : List Read) (is : 
       next_too : words (sizes net t p order) f ≡ map (next_word net e clock tick.clocks) (registers net)
       next_too = states_same net t p order is e clock f agrees_too same_clock source_too tick.clocks
 
-    to_tree : (shown after : List ℕ) → NetAllows net state tick shown after → VAllows (in_parts net t p order) state tick shown after
-    to_tree shown after a =
+    to_tree : (shown : List ℕ) (clocks : List (Option ℕ)) (after : List ℕ) → NetAllows net state tick shown clocks after
+        → VAllows (in_parts net t p order) state tick shown clocks after
+    to_tree shown clocks after a =
         let shaped = subst (λ (s : Shape). HasShape s state tick) (sym shapes) a.2.shaped in
         let at_rest = is.laws.one_rest (in_parts net t p order) valid state tick shaped in
         let f = at_rest.env in (
           f,
           tree_settled net t p order is state tick f at_rest.rest,
           outputs_same net t p order is a.0 a.1 f (agrees_too a.0 a.1 a.2 f at_rest.rest) ∙ a.3,
-          stored f ∙ next_too a.0 a.1 a.2 f at_rest.rest ∙ a.4,
+          a.4,
+          stored f ∙ next_too a.0 a.1 a.2 f at_rest.rest ∙ a.5,
         )
 
-  pub parts_allow : (state : List ℕ) (tick : Tick) (shown after : List ℕ)
-      → VAllows (in_parts net t p order) state tick shown after ↔ NetAllows net state tick shown after
-  parts_allow state tick shown after = (to_net state tick shown after, to_tree state tick shown after)
+  pub parts_allow : (state : List ℕ) (tick : Tick) (shown : List ℕ) (clocks : List (Option ℕ)) (after : List ℕ)
+      → VAllows (in_parts net t p order) state tick shown clocks after ↔ NetAllows net state tick shown clocks after
+  parts_allow state tick shown clocks after = (to_net state tick shown clocks after, to_tree state tick shown clocks after)

@@ -1,6 +1,6 @@
 -- The tree of a whole net is named after it.
 -- Ports and registers are the leaves with bits in order, wires the inner nets, and every name is one of these.
-use Rattle.std.proofs.Common.{ℕ, List, [], ◌++◌, sym, ap, ◌∙◌, ⊎_elim, subst}
+use Rattle.std.proofs.Common.{◌≡◌, ℕ, List, [], ◌++◌, append-nil, sym, ap, ◌∙◌, ⊎_elim, subst}
 use Rattle.std.specs.Prelude.{map}
 use Rattle.std.specs.List.{AllByRecursion}
 use Rattle.std.proofs.lemmas.Simd.{map-map}
@@ -21,7 +21,7 @@ use Rattle.ver_ast.specs.declared.tree.Item.TheVariants as item
 use Rattle.ver_ast.specs.Nets.{Sized, names_of, widths_of, port_nets, regs, wires}
 use Rattle.ver_ast.specs.Spells.{HasItemNames, HasNames, atom_names, rhs_names}
 use Rattle.ver_ast.specs.Valid.{IsBlock}
-use Rattle.fir_net.specs.Rows.{net_rows, net_words, row_names, word_names}
+use Rattle.fir_net.specs.Rows.{array_names, net_arrays, net_rows, net_words, row_names, word_names}
 use Rattle.ver_build.specs.declared.places.Places.{Places}
 use Rattle.ver_build.specs.working.Places.{inner_names}
 use Rattle.ver_build.specs.working.Built.{inners}
@@ -120,21 +120,26 @@ module _ (net : FlatNet) (t : NameTable) (p : Places) (order : List Read) (is : 
             (all_mapped HasItemNames item.Always bs (all_from (λ b. HasItemNames (item.Always b)) bs block_names))));
       }
 
+  all_names_are : leaf_names (in_parts net t p order) ≡ somes t.leaves
+  all_names_are =
+      append-nil (port_names (in_parts net t p order) ++ names_of (regs (in_parts net t p order))) ∙ leaf_names_are net t p order is
+
   wires_inner : AreInner (leaf_names (in_parts net t p order)) 0 (names_of (wires (in_parts net t p order)))
   wires_inner =
-      rw (leaf_names_are net t p order is, wires_sized net t p order, map-map (λ (s : Sized). s.0) inner_sized (inners net p order))
+      rw (all_names_are, wires_sized net t p order, map-map (λ (s : Sized). s.0) inner_sized (inners net p order))
       (let nodes = is.places.nodes in rw (inners_named net p nodes.held order)
       (are_inner (somes t.leaves) 0 nodes.last (inner_names net p.nodes order) nodes.named))
 
-  pub parts_named : IsNamedFor net.name (net_rows net) (net_words net) (in_parts net t p order)
+  pub parts_named : IsNamedFor net.name (net_rows net) (net_words net) (net_arrays net) (in_parts net t p order)
   parts_named = record {
     circuit = is.table.circuit;
     ports = kinds_along net t.leaves net.leaves (leaves_known net t p order is);
     state = ap widths_of (registers_sized net t p order) ∙ widths_along net t.leaves net.leaves (leaves_named net t is.table);
     named_leaves =
-        subst (λ (ns : List (List ℕ)). AreNamed [] (row_names (net_rows net) ++ word_names (net_words net)) ns)
-        (sym (leaf_names_are net t p order is))
-        (named_along net t.leaves net.leaves (leaves_whole net t is.whole is.table) is.whole.ports_first is.table.leaves);
+        subst (λ (ns : List (List ℕ)). AreNamed [] (row_names (net_rows net) ++ word_names (net_words net) ++ array_names (net_arrays net)) ns)
+        (sym all_names_are)
+        (subst (λ (bases : List (List ℕ)). AreNamed [] bases (somes t.leaves)) (sym (append-nil (row_names (net_rows net) ++ word_names (net_words net))))
+        (named_along net t.leaves net.leaves (leaves_whole net t is.whole is.table) is.whole.ports_first is.table.leaves));
     named_wires = wires_inner;
     spelled = has_names;
   }

@@ -1,12 +1,11 @@
 -- What a tree of designs allows over a run, and when it has exactly one (FIRRTL spec, "Circuits", "Clock Type").
 use Rattle.std.specs.Prelude.{◌≡◌, ◌↔◌, ℕ, List, [], ◌∷◌}
-use Rattle.fir_base.specs.Ticks.{AreClocks, FitEach, HasShape, Tick}
+use Rattle.fir_base.specs.Ticks.{AreClocks, FitEach, HasShape, IsRun, Tick, TickResult}
 use Rattle.fir_ast.specs.Circuits.{CircuitTree}
 use Rattle.fir_meaning.specs.LeafPaths.{LeafPath}
 use Rattle.fir_meaning.specs.Designs.{Design}
 use Rattle.fir_meaning.specs.Flattened.{flattened}
 use Rattle.fir_meaning.specs.LeafAllows as over
-use Rattle.fir_meaning.specs.LeafAllows.{IsLeafRun, LeafResult}
 use Rattle.fir_design.specs.working.MeaningLaws.{AreDesigns}
 use Rattle.fir_meaning.specs.SourceAllows.{Allows, Settled, next}
 use Rattle.fir_meaning.specs.SourceCircuits.{source_shape}
@@ -16,8 +15,8 @@ use Rattle.fir_meaning.specs.SourceValues.{PathEnv}
 
 module _ (t : SourceDesign) where
   -- tick for tick what is allowed, from an initial state on
-  abbrev pub Run : List ℕ → List Tick → List LeafResult → Type 0
-  Run = IsLeafRun (Allows t)
+  abbrev pub Run : List ℕ → List Tick → List TickResult → Type 0
+  Run = IsRun (Allows t)
 
   -- the state after a tick has the shape
   abbrev pub KeepsShape : Type 0
@@ -34,9 +33,9 @@ module _ (t : SourceDesign) where
 
   -- there is exactly one run from a state through the ticks
   pub record HasRun (state : List ℕ) (ticks : List Tick) : Type 0 where
-    pub shown : List LeafResult
+    pub shown : List TickResult
     pub run : Run state ticks shown
-    pub same : (others : List LeafResult) → Run state ticks others → others ≡ shown
+    pub same : (others : List TickResult) → Run state ticks others → others ≡ shown
 
 -- exactly one choice of values is settled in the source where it is in its leaf circuit
 abbrev pub SameOne : Type 0

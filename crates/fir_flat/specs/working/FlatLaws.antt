@@ -1,5 +1,5 @@
 -- A flat net means what its circuit means.
-use Rattle.std.specs.Prelude.{◌↔◌, ℕ, List, []}
+use Rattle.std.specs.Prelude.{◌↔◌, ℕ, List, Option}
 use Rattle.fir_base.specs.Ticks.{Tick}
 use Rattle.fir_meaning.specs.UndrivenLeaves.{AreDriven}
 use Rattle.fir_meaning.specs.LeafAllows as leafed
@@ -20,8 +20,8 @@ pub record IsFaithful (c : LeafCircuit) (net : FlatNet) : Type 0 where
 
 abbrev pub AllowsTheSame : Type 0
 AllowsTheSame =
-    (c : LeafCircuit) (net : FlatNet) → IsFaithful c net → (state : List ℕ) (tick : Tick) (shown after : List ℕ)
-    → leafed.Allows c state tick shown [] after ↔ Allows net state tick shown after
+    (c : LeafCircuit) (net : FlatNet) → IsFaithful c net → (state : List ℕ) (tick : Tick) (shown : List ℕ) (clocks : List (Option ℕ)) (after : List ℕ)
+    → leafed.Allows c state tick shown clocks after ↔ Allows net state tick shown clocks after
 
 abbrev pub HasOneWhere : Type 0
 HasOneWhere = (c : LeafCircuit) (net : FlatNet) → IsFaithful c net → leafed.One c ↔ One net

@@ -22,7 +22,7 @@ sketch_groups unnamed looped =
 
 abbrev pub sketch_meaning : Bool → Bool → Meaning
 sketch_meaning unnamed looped = record {
-  allows = λ state tick shown after. Unit {0};
+  allows = λ state tick shown clocks after. Unit {0};
   one = Unit {0};
   group = group_at (sketch_groups unnamed looped);
   has_shape = λ shape. Unit {0};

@@ -1,17 +1,18 @@
 -- The shape of a net's traces.
 -- A tick gives a value for each input and names clocks, and the words of the state are the registers; they have the names of the emitted text.
 use Rattle.std.specs.Prelude.{◌≡◌, ℕ, List, ◌++◌, None, map}
-use Rattle.std.specs.List.{AllByRecursion}
 use Rattle.fir_net.specs.declared.net.FlatNet.{FlatNet}
+use Rattle.fir_net.specs.Rows.{net_words}
 use Rattle.fir_net_names.specs.declared.name_table.NameTable.{NameTable}
 use Rattle.fir_net.specs.working.Settled.{shape}
 use Rattle.fir_net_names.specs.working.IsTable.{IsTable}
 use Rattle.fir_net_names.specs.working.LeafNamed.{somes}
-use Rattle.trace_text.specs.Shapes.{TraceShape, plain}
+use Rattle.trace_text.specs.Shapes.{TraceShape, plain, word_kinds}
 
 pub record IsShapeOf (net : FlatNet) (s : TraceShape) : Type 0 where
   pub values : plain s ≡ shape net
-  pub registers : AllByRecursion (λ w. w.depth ≡ None) s.state
+  -- a register has no depth, and a net has no arrays yet
+  pub words : word_kinds s.state ≡ map (λ w. (w.width, None)) (net_words net)
   -- in the table of names the ports' names come first
   pub table : NameTable
   pub named : IsTable net table

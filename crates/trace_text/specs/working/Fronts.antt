@@ -33,8 +33,8 @@ FrontSpellsFirst =
 -- a state and a tick allow one result at most
 abbrev pub AllowsOne : Allowance → Type 0
 AllowsOne allows =
-    (state : List ℕ) (tick : Tick) (shown other : TickResult) → allows state tick shown.outputs shown.state → allows state tick other.outputs other.state
-    → other ≡ shown
+    (state : List ℕ) (tick : Tick) (shown other : TickResult) → allows state tick shown.outputs shown.clocks shown.state
+    → allows state tick other.outputs other.clocks other.state → other ≡ shown
 
 -- a run, and no other goes from the state through the ticks
 pub record IsOnlyRun (allows : Allowance) (init : List ℕ) (ticks : List Tick) (shown : List TickResult) : Type 0 where

@@ -14,7 +14,7 @@ clear_unlooped unnamed (suc (suc (suc (suc k)))) low high = absurd (omega arith)
 keeps : (unnamed looped : Bool) → looped ≡ false → Keeps 3 3 (sketch_meaning unnamed looped) (sketch_meaning unnamed looped)
 keeps unnamed true e = cc
 keeps unnamed false e = record {
-  allows = λ state tick shown after. ((λ x. x), (λ x. x));
+  allows = λ state tick shown clocks after. ((λ x. x), (λ x. x));
   one = ((λ x. x), (λ x. x));
   clear = clear_unlooped unnamed;
   later = λ k past. record { shows = λ f. ((λ x. x), (λ x. x)); tells = λ f. ((λ x. x), (λ x. x)) };

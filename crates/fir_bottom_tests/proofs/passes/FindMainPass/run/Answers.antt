@@ -13,7 +13,7 @@ clear_named looped (suc (suc (suc k))) low high = absurd (omega arith)
 keeps : (unnamed looped : Bool) → unnamed ≡ false → Keeps 1 2 (sketch_meaning unnamed looped) (sketch_meaning unnamed looped)
 keeps true looped e = cc
 keeps false looped e = record {
-  allows = λ state tick shown after. ((λ x. x), (λ x. x));
+  allows = λ state tick shown clocks after. ((λ x. x), (λ x. x));
   one = ((λ x. x), (λ x. x));
   clear = clear_named looped;
   later = λ k past. record { shows = λ f. ((λ x. x), (λ x. x)); tells = λ f. ((λ x. x), (λ x. x)) };
