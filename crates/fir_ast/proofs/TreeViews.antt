@@ -14,7 +14,8 @@ use Rattle.fir_ast.specs.declared.statements.Stmt.TheVariants as code
 use Rattle.fir_ast.specs.declared.statements.Stmt.TheOpen as layer
 use Rattle.fir_ast.specs.Expressions.{Expression, Parts, operation, mux, validif}
 use Rattle.fir_ast.specs.Statements.{Sink, Statement, register, node, connect}
-use Rattle.fir_ast.specs.View.{type_of, expr_of, expressions_of, sink_of, named_of, reset_of, stmt_of, expr_step, part_step, reference_step, stmt_step, when_step}
+use Rattle.fir_ast.specs.View.{type_of}
+use Rattle.fir_ast.specs.working.Views.{expr_of, expressions_of, sink_of, named_of, reset_of, stmt_of, expr_step, part_step, reference_step, stmt_step, when_step}
 
 pub operation_view : (p : Place) (op : PrimOp) (es : Vec Expr Global) (ks : Vec ℕ Global) → expr_of (code_expr.Op p op es ks) ≡ operation p op (expressions_of (map expr_of es.items)) ks.items
 operation_view p op es ks = ap expr_of (sym (code_expr.rolls-Op p op es ks)) ∙ fold-roll-Expr Expression (Parts → Parts) Sink expr_step part_step reference_step (expr_layer.Op p op es ks)

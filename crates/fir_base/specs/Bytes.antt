@@ -1,15 +1,11 @@
 -- Bytes of words: letters, digits, and with which bytes a word begins and goes on.
-use Rattle.std.specs.Prelude.{ℕ, List, [], ◌∷◌, Bool, false, ◌||◌, ◌&&◌, nat_le, nat_eq}
+use Rattle.std.specs.Prelude.{ℕ, Bool, ◌||◌, ◌&&◌, nat_le, nat_eq}
 
 abbrev pub is_letter : ℕ → Bool
 is_letter b = (nat_le 97 b && nat_le b 122) || (nat_le 65 b && nat_le b 90)
 
 abbrev pub is_digit : ℕ → Bool
 is_digit b = nat_le 48 b && nat_le b 57
-
-abbrev pub starts_with_digit : List ℕ → Bool
-starts_with_digit [] = false
-starts_with_digit (b ∷ bs) = is_digit b
 
 -- a letter or an underscore
 abbrev pub is_word_start : ℕ → Bool

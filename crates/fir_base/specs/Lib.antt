@@ -3,3 +3,4 @@ pub mod Digits
 pub mod Lists
 pub mod Ticks
 pub mod Words
+pub mod working

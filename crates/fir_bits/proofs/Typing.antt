@@ -3,10 +3,12 @@ use Rattle.std.proofs.Common.{◌≡◌, ℕ, ◌≤◌, Bool, true, false, not,
 use Rattle.std.specs.List.{All}
 use Rattle.std.proofs.lemmas.Bool.{leb-true}
 use Rattle.fir_bits.specs.Widths.{is_narrow}
-use Rattle.fir_bits.specs.Types.{is_legal, signed_of, typed_at, typed}
+use Rattle.fir_bits.specs.Types.{is_legal, signed_of}
+use Rattle.fir_bits.specs.working.Types.{typed_at, typed}
 use Rattle.fir_bits.specs.Values.{IsBitVector}
 use Rattle.fir_bits.specs.Forms.{form_of, takes, first_type, second_type}
-use Rattle.fir_bits.specs.Operators.{type_of, no_operand, first_operand, second_operand, applied, outcome}
+use Rattle.fir_bits.specs.working.Operators.{type_of}
+use Rattle.fir_bits.specs.Operators.{no_operand, first_operand, second_operand, applied, outcome}
 use Rattle.fir_bits.proofs.Below.{number_below}
 use Rattle.fir_bits.specs.declared.values.Num.{Num}
 use Rattle.fir_bits.specs.Widths.{width_of}

@@ -1,7 +1,5 @@
 -- The words by which the operations are spelled and faults name them (FIRRTL spec, "Primitive Operations").
-use Rattle.std.specs.Prelude.{ℕ, List, [], ◌∷◌, Option, codes}
-use Rattle.std.specs.List.{find}
-use Rattle.std.specs.Str.{bytes_eq}
+use Rattle.std.specs.Prelude.{ℕ, List, codes}
 use Rattle.fir_bits.specs.declared.operators.PrimOp.{PrimOp}
 use Rattle.fir_bits.specs.declared.operators.PrimOp.TheVariants.{Add, Sub, Mul, Div, Rem, Lt, Leq, Gt, Geq, Eq, Neq, Pad, Shl, Shr, Dshl, Dshr, Cvt, Neg, Not, And, Or, Xor, Andr, Orr, Xorr, Cat, Bits, Head, Tail, AsUInt, AsSInt, AsAsyncReset}
 
@@ -38,13 +36,3 @@ operator_word Tail = codes "tail"
 operator_word AsUInt = codes "asUInt"
 operator_word AsSInt = codes "asSInt"
 operator_word AsAsyncReset = codes "asAsyncReset"
-
--- all operations
-abbrev pub operators : List PrimOp
-operators =
-    Add ∷ Sub ∷ Mul ∷ Div ∷ Rem ∷ Lt ∷ Leq ∷ Gt ∷ Geq ∷ Eq ∷ Neq ∷ Pad ∷ Shl ∷ Shr ∷ Dshl ∷ Dshr ∷ Cvt ∷ Neg ∷ Not ∷
-    And ∷ Or ∷ Xor ∷ Andr ∷ Orr ∷ Xorr ∷ Cat ∷ Bits ∷ Head ∷ Tail ∷ AsUInt ∷ AsSInt ∷ AsAsyncReset ∷ []
-
--- the operation of the word
-abbrev pub operator_of : List ℕ → Option PrimOp
-operator_of word = find (λ op. bytes_eq word (operator_word op)) operators

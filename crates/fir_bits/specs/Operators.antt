@@ -8,12 +8,7 @@ use Rattle.fir_bits.specs.Widths.{width_of}
 use Rattle.fir_bits.specs.Types.{signed_of}
 use Rattle.fir_bits.specs.declared.operators.PrimOp.{PrimOp}
 use Rattle.fir_bits.specs.declared.operators.PrimOp.TheVariants.{Add, Sub, Mul, Div, Rem, Lt, Leq, Gt, Geq, Eq, Neq, Pad, Shl, Shr, Dshl, Dshr, Cvt, Neg, Not, And, Or, Xor, Andr, Orr, Xorr, Cat, Bits, Head, Tail, AsUInt, AsSInt, AsAsyncReset}
-use Rattle.fir_bits.specs.declared.types.NumTy.{NumTy}
 use Rattle.fir_bits.specs.declared.values.Num.{Num}
-
--- the type of an operand
-abbrev pub type_of : Num → NumTy
-type_of a = record { signed = a.signed; width = a.value.width }
 
 -- the integer that an operand stands for
 abbrev pub integer_of : Num → ℤ

@@ -1,2 +1,5 @@
 -- What no clause of `run` reads: contracts between layers, laws, views of the code and its states.
+pub mod OperatorWords
+pub mod Types
+pub mod Operators
 pub mod Laws

@@ -3,7 +3,8 @@
 ghost use Rattle.std.specs.Prelude.{◌≡◌, ◌+◌, ◌-◌, ◌^◌, ◌<◌, ◌≤◌, min, slice_index, slice_index_or};
 ghost use Rattle.fir_bits.specs.Forms.{form_of, has_counts, has_kinds, takes, first_type, second_type};
 ghost use Rattle.fir_bits.specs.Widths.{counted_width, width_of};
-ghost use Rattle.fir_bits.specs.Types.{signed_of, is_legal, typed_at, typed};
+ghost use Rattle.fir_bits.specs.Types.{signed_of, is_legal};
+ghost use Rattle.fir_bits.specs.working.Types.{typed_at, typed};
 
 use crate::bits::mask;
 use crate::operators::{Form, PrimOp, operators};

@@ -3,8 +3,10 @@
 ghost use Rattle.std.specs.Prelude.{◌≡◌, ◌+◌, ◌-◌, ◌*◌, ◌/◌, ◌%◌, ◌^◌, ◌<◌, ◌≤◌, IsTrue, IsOk, map, unsigned_abs, count_ones};
 ghost use Rattle.fir_bits.specs.Values.{complement};
 ghost use Rattle.fir_bits.specs.Widths.{width_of};
-ghost use Rattle.fir_bits.specs.Types.{is_legal, typed, typed_at};
-ghost use Rattle.fir_bits.specs.Operators.{type_of, integer_of, widened, operation_value, applied_at, applied};
+ghost use Rattle.fir_bits.specs.Types.{is_legal};
+ghost use Rattle.fir_bits.specs.working.Types.{typed, typed_at};
+ghost use Rattle.fir_bits.specs.working.Operators.{type_of};
+ghost use Rattle.fir_bits.specs.Operators.{integer_of, widened, operation_value, applied_at, applied};
 
 use crate::bits::{Bits, mask};
 use crate::operators::{PrimOp, operators};

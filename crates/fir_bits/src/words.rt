@@ -16,7 +16,8 @@ macro_rules! words_read {
 
 impl PrimOp {
     ghost use Rattle.std.specs.Prelude.{◌≡◌};
-    ghost use Rattle.fir_bits.specs.OperatorWords.{operator_word, operator_of};
+    ghost use Rattle.fir_bits.specs.OperatorWords.{operator_word};
+    ghost use Rattle.fir_bits.specs.working.OperatorWords.{operator_of};
 
     /// The word by which the operation is spelled (FIRRTL spec, "Primitive Operations").
     pub fn word(self) -> &'static [u8]

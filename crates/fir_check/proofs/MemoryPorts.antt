@@ -8,7 +8,8 @@ use Rattle.fir_ast.specs.declared.statements.Ident.{Ident}
 use Rattle.fir_ast.specs.declared.statements.MemoryField.{MemoryField}
 use Rattle.fir_ast.specs.Statements.{PlacedName}
 use Rattle.fir_ast.specs.Types.{DataType, Fields, bundle, clock, uint}
-use Rattle.fir_ast.specs.View.{fields_of, memory_part_of, named_of}
+use Rattle.fir_ast.specs.View.{fields_of}
+use Rattle.fir_ast.specs.working.Views.{memory_part_of, named_of}
 use Rattle.fir_meaning.specs.MemoryTypes.{address_width, bit, flipped_fields, mask_type, part, port_fields_of, reader_type, readwriter_type, writer_type}
 use Rattle.fir_type_table.specs.declared.entry.Entry.{Entry}
 use Rattle.fir_type_table.specs.declared.entry.Part.{Part}

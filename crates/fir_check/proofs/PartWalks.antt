@@ -9,7 +9,7 @@ use Rattle.fir_ast.specs.declared.expressions.Reference.{Reference}
 use Rattle.fir_ast.specs.Types.{DataType}
 use Rattle.fir_ast.specs.Expressions.{Parts, no_parts, reference}
 use Rattle.fir_ast.specs.Statements.{Sink}
-use Rattle.fir_ast.specs.View.{parts_of, sink_of}
+use Rattle.fir_ast.specs.working.Views.{parts_of, sink_of}
 use Rattle.fir_meaning.specs.Checked.{Checked}
 use Rattle.fir_meaning.specs.LeafPaths.{Step, LeafPath, named}
 use Rattle.fir_meaning.specs.Reaching.{Reached, root}

@@ -5,7 +5,7 @@ use Rattle.std.proofs.lemmas.List.{append-nil}
 use Rattle.fir_ast.specs.declared.expressions.Part.{Part}
 use Rattle.fir_ast.specs.declared.expressions.Reference.{Reference}
 use Rattle.fir_ast.specs.Expressions.{Parts, no_parts}
-use Rattle.fir_ast.specs.View.{parts_of, sink_of}
+use Rattle.fir_ast.specs.working.Views.{parts_of, sink_of}
 use Rattle.fir_meaning.specs.LeafPaths.{path_text, step_text}
 use Rattle.fir_names.specs.working.Parts.{part_of, part_view}
 use Rattle.fir_types.specs.working.Seen.{sink_path, steps_of}

@@ -2,7 +2,7 @@
 
 ghost use Rattle.std.specs.Prelude.{◌≡◌, IfOk, map};
 ghost use Rattle.fir_ast.specs.Types.{bundle};
-ghost use Rattle.fir_ast.specs.View.{module_of, port_of};
+ghost use Rattle.fir_ast.specs.working.Views.{module_of, port_of};
 ghost use Rattle.fir_meaning.specs.ComponentTypes.{is_input, port_fields};
 ghost use Rattle.fir_type_table.specs.working.Tables.{Adds, types_of};
 ghost use Rattle.fir_types.specs.working.Walked.{HoldsBundles};

@@ -1,7 +1,7 @@
 //! The types and flows of connects and partial connects (FIRRTL spec, "Connects", "Partial Connects", "Flow").
 
 ghost use Rattle.std.specs.Prelude.{OnOk};
-ghost use Rattle.fir_ast.specs.View.{expr_of, sink_of};
+ghost use Rattle.fir_ast.specs.working.Views.{expr_of, sink_of};
 ghost use Rattle.fir_meaning.specs.Checked.{shown_after};
 ghost use Rattle.fir_meaning.specs.ConnectFaults.{connect_faults, partial_connect_faults};
 ghost use Rattle.fir_meaning.specs.ExpressionTypes.{reached_by};

@@ -1,7 +1,7 @@
 //! E14: the first driven leaf of a connect that is a source, and its path (FIRRTL spec, "Flow").
 
 ghost use Rattle.std.specs.Prelude.{◌≡◌, [], ◌∷◌, ◌++◌, List, Option, true, false, IfOk, OnOk, Some, flat_map, map, option_map};
-ghost use Rattle.fir_ast.specs.View.{expr_of, sink_of};
+ghost use Rattle.fir_ast.specs.working.Views.{expr_of, sink_of};
 ghost use Rattle.fir_meaning.specs.ConnectPairs.{partial_pairs};
 ghost use Rattle.fir_meaning.specs.Equivalence.{is_partly_connectable};
 ghost use Rattle.fir_meaning.specs.KindFaults.{wrong_flow};

@@ -3,7 +3,7 @@
 
 ghost use Rattle.std.specs.Prelude.{◌≡◌, [], ◌∷◌, IfOk, OnOk, map, option_map};
 ghost use Rattle.fir_ast.specs.Expressions.{Parts};
-ghost use Rattle.fir_ast.specs.View.{expr_of, expressions_of, sink_of};
+ghost use Rattle.fir_ast.specs.working.Views.{expr_of, expressions_of, sink_of};
 ghost use Rattle.fir_meaning.specs.Checked.{Checked};
 ghost use Rattle.fir_meaning.specs.LeafPaths.{LeafPath};
 ghost use Rattle.fir_meaning.specs.ExpressionPlaces.{place_of};

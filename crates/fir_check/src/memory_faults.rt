@@ -1,7 +1,7 @@
 //! The faults of a memory, E15 and E17, which stand at its name (FIRRTL spec, "Memories").
 
 ghost use Rattle.std.specs.Prelude.{◌≡◌, ◌==◌, flat_map, if◌then◌else◌, map, nat_le, option_map};
-ghost use Rattle.fir_ast.specs.View.{memory_part_of, named_of};
+ghost use Rattle.fir_ast.specs.working.Views.{memory_part_of, named_of};
 ghost use Rattle.fir_meaning.specs.MemoryFaults.{flipped_data, is_one, memory_faults, read_latency_of_part, unless, write_latency_of_part};
 ghost use Rattle.fir_meaning.specs.MemoryTypes.{data_of_part, depth_of_part, first_one};
 ghost use Rattle.fir_meaning.specs.TypeKinds.{is_sized};

@@ -3,7 +3,7 @@
 ghost use Rattle.std.specs.Prelude.{◌≡◌, ◌<◌, ◌++◌, ℕ, List, [], ◌∷◌, Some, IfOk, OnOk, length, map, slice_get};
 ghost use Rattle.fir_ast.specs.declared.place.Place.{Place};
 ghost use Rattle.fir_ast.specs.Types.{DataType, Fields};
-ghost use Rattle.fir_ast.specs.View.{memory_part_of, named_of};
+ghost use Rattle.fir_ast.specs.working.Views.{memory_part_of, named_of};
 ghost use Rattle.fir_meaning.specs.MemoryTypes.{address_width, flipped_fields, memory_bundle, part, port_fields_of, reader_type, readwriter_type, writer_type};
 ghost use Rattle.fir_type_table.specs.working.Tables.{Adds, types_of};
 ghost use Rattle.fir_check.specs.working.MemoryParts.{AreParts, AreWires, HasPorts, HasPortsIn, HasWires, HasWiresIn, controls_of};

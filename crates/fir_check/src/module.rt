@@ -2,7 +2,7 @@
 
 ghost use Rattle.std.specs.Prelude.{◌≡◌, List, IfOk, map};
 ghost use Rattle.fir_ast.specs.Circuits.{ModuleTree};
-ghost use Rattle.fir_ast.specs.View.{module_of, port_of};
+ghost use Rattle.fir_ast.specs.working.Views.{module_of, port_of};
 ghost use Rattle.fir_meaning.specs.Visibility.{declarations};
 ghost use Rattle.fir_type_table.specs.working.Tables.{types_of};
 ghost use Rattle.fir_types.specs.working.Walked.{HoldsBundles, IsOfModule, PassesPorts};

@@ -1,7 +1,7 @@
 //! The types in the modules of a circuit, in the order of the text.
 
 ghost use Rattle.std.specs.Prelude.{◌≡◌};
-ghost use Rattle.fir_ast.specs.View.{circuit_of};
+ghost use Rattle.fir_ast.specs.working.Views.{circuit_of};
 ghost use Rattle.fir_types.specs.working.TypedModules.{JudgesTypes};
 
 use crate::bundles::add_bundles;

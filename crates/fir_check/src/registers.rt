@@ -1,7 +1,7 @@
 //! The types of a register: its own, its clock, and its reset (FIRRTL spec, "Registers").
 
 ghost use Rattle.std.specs.Prelude.{◌≡◌, OnOk, option_map};
-ghost use Rattle.fir_ast.specs.View.{expr_of, named_of, reset_of};
+ghost use Rattle.fir_ast.specs.working.Views.{expr_of, named_of, reset_of};
 ghost use Rattle.fir_meaning.specs.TypeGroup.{clock_faults, flipped_faults, register_type_faults, reset_faults};
 ghost use Rattle.fir_meaning.specs.Checked.{shown_on};
 ghost use Rattle.fir_meaning.specs.TypedScopes.{TypedScope};

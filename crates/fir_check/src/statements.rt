@@ -4,7 +4,8 @@ ghost use Rattle.std.specs.Prelude.{◌≡◌, ℕ, List, [], IfOk, OnOk, flat_m
 ghost use Rattle.fir_ast.specs.declared.place.Place.{Place};
 ghost use Rattle.fir_ast.specs.Circuits.{ModuleTree};
 ghost use Rattle.fir_ast.specs.Statements.{PlacedName};
-ghost use Rattle.fir_ast.specs.View.{block_of, expr_of, memory_part_of, named_of, reset_of, sink_of, stmt_of, type_of};
+ghost use Rattle.fir_ast.specs.working.Views.{block_of, expr_of, memory_part_of, named_of, reset_of, sink_of, stmt_of};
+ghost use Rattle.fir_ast.specs.View.{type_of};
 ghost use Rattle.fir_meaning.specs.Components as component;
 ghost use Rattle.fir_meaning.specs.Components.{Declarations};
 ghost use Rattle.fir_meaning.specs.ExpressionTypes.{reaching};

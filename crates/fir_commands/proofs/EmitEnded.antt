@@ -4,7 +4,8 @@ use Rattle.fir_ast.specs.Circuits.{CircuitTree}
 use Rattle.fir_parse.specs.working.Laws.{SpellsOneTree, HasTreeOrFault}
 use Rattle.fir_io.specs.declared.ports.FileFault.{FileFault}
 use Rattle.fir_io.specs.declared.ports.FileFault.TheVariants as file
-use Rattle.fir_io.specs.Ports.{FilesSeen, SinkSeen, Rose, AtLeast, Grew, ReadShows}
+use Rattle.fir_io.specs.Ports.{FilesSeen, SinkSeen, Rose, AtLeast, Grew}
+use Rattle.fir_io.specs.working.Ports.{ReadShows}
 use Rattle.fir_outcome.specs.declared.status.Status.{Status}
 use Rattle.fir_outcome.specs.declared.status.Status.TheVariants.{Done, Refused, Usage, Unread, Unwritten, NoMemory, BadTrace, TooLong}
 use Rattle.fir_outcome.specs.Messages.{unread_line, too_long_line, memory_line}

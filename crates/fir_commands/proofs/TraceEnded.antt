@@ -3,7 +3,8 @@ use Rattle.std.proofs.Common.{◌≡◌, ℕ, List, [], ◌∷◌, Bool, Err, �
 use Rattle.fir_base.specs.Ticks.{Tick}
 use Rattle.fir_io.specs.declared.ports.FileFault.{FileFault}
 use Rattle.fir_io.specs.declared.ports.FileFault.TheVariants.{Failed, TooLong, Memory}
-use Rattle.fir_io.specs.Ports.{FilesSeen, SinkSeen, Grew, ReadShows}
+use Rattle.fir_io.specs.Ports.{FilesSeen, SinkSeen, Grew}
+use Rattle.fir_io.specs.working.Ports.{ReadShows}
 use Rattle.fir_net.specs.declared.net.FlatNet.{FlatNet}
 use Rattle.trace_text.specs.declared.fault.TraceFault.{TraceFault}
 use Rattle.trace_text.specs.Shapes.{TraceShape}

@@ -6,7 +6,7 @@ use Rattle.fir_meaning.specs.SourceAllows.{Allows}
 use Rattle.fir_meaning.specs.SourceCircuits.{source_shape}
 use Rattle.fir_meaning.specs.SourceDesigns.{SourceDesign}
 use Rattle.fir_net.specs.declared.net.FlatNet.{FlatNet}
-use Rattle.fir_net.specs.Rows.{net_arrays, net_rows, net_words}
+use Rattle.fir_net.specs.working.Rows.{net_arrays, net_rows, net_words}
 use Rattle.fir_net.specs.working.Laws.{NodesHaveTheirTypes}
 use Rattle.fir_net.specs.working.One.{One as NetOne}
 use Rattle.fir_inst.specs.SourceRows.{source_rows, source_words}

@@ -6,7 +6,8 @@ use Rattle.fir_meaning.specs.Elaborated.{IsSourceOf}
 use Rattle.fir_meaning.specs.SourceDesigns.{SourceDesign}
 use Rattle.fir_net.specs.declared.net.FlatNet.{FlatNet}
 use Rattle.fir_net_names.specs.Names.{AreNamed}
-use Rattle.fir_net.specs.Rows.{ArrayRow, Row, Word, array_names, net_arrays, net_rows, net_words, row_names, word_names}
+use Rattle.fir_net.specs.Rows.{ArrayRow, Row, Word, array_names, row_names, word_names}
+use Rattle.fir_net.specs.working.Rows.{net_arrays, net_rows, net_words}
 use Rattle.fir_inst.specs.SourceRows.{source_rows, source_words}
 use Rattle.fir_inst.specs.working.FlattensTo.{FlattensTo, MeansSource}
 use Rattle.ver_build.specs.working.Laws.{NamesAreForRows}

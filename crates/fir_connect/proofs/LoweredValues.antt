@@ -3,7 +3,8 @@ use Rattle.std.proofs.Common.{◌≡◌, ℕ, ◌+◌, ◌-◌, ◌^◌, max, Li
 use Rattle.std.proofs.lemmas.Bool.{le-leb}
 use Rattle.fir_base.specs.Lists.{In}
 use Rattle.fir_ast.specs.declared.place.Place.{Place}
-use Rattle.fir_bits.specs.Operators.{integer_of, outcome, type_of}
+use Rattle.fir_bits.specs.Operators.{integer_of, outcome}
+use Rattle.fir_bits.specs.working.Operators.{type_of}
 use Rattle.fir_bits.specs.Values.{fitted, is_negative}
 use Rattle.fir_bits.specs.declared.types.NumTy.{NumTy}
 use Rattle.fir_bits.specs.declared.values.Num.{Num}

@@ -1,8 +1,9 @@
 -- The value of a term that has a type is of that type.
 use Rattle.std.proofs.Common.{◌≡◌, ℕ, max, Bool, true, false, not, if◌then◌else◌, List, [], ◌∷◌, map, Ok, Err, refl, sym, ap}
 use Rattle.fir_bits.specs.Forms.{form_of, takes}
-use Rattle.fir_bits.specs.Operators.{outcome, type_of}
-use Rattle.fir_bits.specs.Types.{typed}
+use Rattle.fir_bits.specs.Operators.{outcome}
+use Rattle.fir_bits.specs.working.Operators.{type_of}
+use Rattle.fir_bits.specs.working.Types.{typed}
 use Rattle.fir_bits.specs.declared.operators.PrimOp.{PrimOp}
 use Rattle.fir_bits.specs.declared.types.NumTy.{NumTy}
 use Rattle.fir_bits.specs.declared.types.OpFault.TheVariants.{Kinds, Over, Legality}

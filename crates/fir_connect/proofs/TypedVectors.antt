@@ -6,8 +6,9 @@ use Rattle.std.proofs.lemmas.Nat.{pow_pos}
 use Rattle.fir_bits.proofs.Below.{bits_of-below}
 use Rattle.fir_bits.proofs.Typing.{typed-outcome}
 use Rattle.fir_bits.specs.Integers.{of_sign}
-use Rattle.fir_bits.specs.Operators.{applied, outcome, type_of}
-use Rattle.fir_bits.specs.Types.{typed}
+use Rattle.fir_bits.specs.Operators.{applied, outcome}
+use Rattle.fir_bits.specs.working.Operators.{type_of}
+use Rattle.fir_bits.specs.working.Types.{typed}
 use Rattle.fir_bits.specs.Values.{IsBitVector}
 use Rattle.fir_bits.specs.declared.types.NumTy.{NumTy}
 use Rattle.fir_bits.specs.declared.types.OpFault.{OpFault}

@@ -1,7 +1,7 @@
 //! The cost of a circuit.
 
 ghost use Rattle.std.specs.Prelude.{◌≡◌, IfOk};
-ghost use Rattle.fir_ast.specs.View.{circuit_of};
+ghost use Rattle.fir_ast.specs.working.Views.{circuit_of};
 ghost use Rattle.fir_type_table.specs.working.Saturated.{saturated};
 ghost use Rattle.fir_expand.specs.working.Costing.{IsCostOf};
 ghost use Rattle.fir_meaning.specs.Costs.{sum_of};

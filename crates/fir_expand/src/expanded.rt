@@ -1,10 +1,11 @@
 //! The circuit over its ground leaves.
 
 ghost use Rattle.std.specs.Prelude.{◌≡◌, IfOk};
-ghost use Rattle.fir_ast.specs.View.{circuit_of};
+ghost use Rattle.fir_ast.specs.working.Views.{circuit_of};
 ghost use Rattle.fir_pass.specs.Faults.{fault_of};
 ghost use Rattle.fir_pass.specs.Groups.{IsClear};
-ghost use Rattle.fir_pass.specs.Law.{IfFault, IsFirst};
+ghost use Rattle.fir_pass.specs.working.Law.{IfFault};
+ghost use Rattle.fir_pass.specs.Law.{IsFirst};
 ghost use Rattle.fir_meaning.specs.CostGroup.{cost_group};
 ghost use Rattle.fir_meaning.specs.SourceMeaning.{circuit_meaning};
 

@@ -2,7 +2,7 @@
 
 ghost use Rattle.std.specs.Prelude.{◌≡◌, IfOk, List, map, slice_get};
 ghost use Rattle.fir_ast.specs.Statements.{PlacedName};
-ghost use Rattle.fir_ast.specs.View.{circuit_of};
+ghost use Rattle.fir_ast.specs.working.Views.{circuit_of};
 ghost use Rattle.fir_meaning.specs.Components.{Declarations};
 ghost use Rattle.fir_names.specs.working.Numbered.{instance_numbers, number_read};
 ghost use Rattle.fir_names.specs.working.Tabulated.{Tabulates, entry_at};

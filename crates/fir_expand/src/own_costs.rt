@@ -2,7 +2,7 @@
 
 ghost use Rattle.std.specs.Prelude.{◌≡◌, ◌<◌, IfOk, Some, length, slice_get};
 ghost use Rattle.fir_ast.specs.Circuits.{ModuleTree};
-ghost use Rattle.fir_ast.specs.View.{circuit_of};
+ghost use Rattle.fir_ast.specs.working.Views.{circuit_of};
 ghost use Rattle.fir_type_table.specs.working.Saturated.{saturated};
 ghost use Rattle.fir_types.specs.working.TypedModules.{IsTyped};
 ghost use Rattle.fir_expand.specs.working.OwnCosts.{own_cost, own_costs};

@@ -3,7 +3,7 @@
 
 ghost use Rattle.std.specs.Prelude.{◌≡◌, map};
 ghost use Rattle.fir_ast.specs.declared.place.Place.{Place};
-ghost use Rattle.fir_ast.specs.View.{block_of, memory_part_of, stmt_of};
+ghost use Rattle.fir_ast.specs.working.Views.{block_of, memory_part_of, stmt_of};
 ghost use Rattle.fir_names.specs.working.Parts.{when_view};
 ghost use Rattle.fir_type_table.specs.working.Saturated.{saturated};
 ghost use Rattle.fir_meaning.specs.Costs.{words_of};

@@ -1,6 +1,6 @@
 //! What a circuit means over its ground leaves, all its modules together.
 
-ghost use Rattle.fir_ast.specs.View.{circuit_of};
+ghost use Rattle.fir_ast.specs.working.Views.{circuit_of};
 ghost use Rattle.fir_design.specs.working.CircuitMeanings.{MeansTheSame};
 
 use fir_design::circuits_mean_their_sources;

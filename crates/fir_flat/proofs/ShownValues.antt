@@ -1,7 +1,7 @@
 -- What each leaf of a circuit shows is what its leaf in the flat net is worth, by their roles.
 use Rattle.std.proofs.Common.{◌≡◌, ℕ, ◌^◌, ◌<◌, List, [], ◌∷◌, Bool, true, false, if◌then◌else◌, Option, Some, None, slice_get, slice_index, inl, inr, refl, sym, ap, ◌∙◌, subst}
 use Rattle.fir_base.specs.Ticks.{HasShape, Tick}
-use Rattle.fir_bits.specs.Operators.{type_of}
+use Rattle.fir_bits.specs.working.Operators.{type_of}
 use Rattle.fir_bits.specs.declared.types.NumTy.{NumTy}
 use Rattle.fir_bits.specs.declared.values.Num.{Num}
 use Rattle.fir_meaning.specs.Values as over

@@ -10,7 +10,7 @@ use Rattle.fir_ast.specs.declared.expressions.Part.{Part, fold_out-Part}
 use Rattle.fir_ast.specs.declared.expressions.Reference.{Reference}
 use Rattle.fir_ast.specs.Expressions.{Expression, Parts, no_parts, reference, subaccess}
 use Rattle.fir_ast.specs.Statements.{Sink}
-use Rattle.fir_ast.specs.View.{expr_of, sink_of, expr_step, part_step, reference_step}
+use Rattle.fir_ast.specs.working.Views.{expr_of, sink_of, expr_step, part_step, reference_step}
 use Rattle.fir_meaning.specs.ExpressionPlaces.{place_of}
 use Rattle.fir_meaning.specs.Reaching.{Reached, at_any, at_element, at_field}
 use Rattle.fir_meaning.specs.TypedScopes.{TypedScope}

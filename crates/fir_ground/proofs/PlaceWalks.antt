@@ -7,7 +7,7 @@ use Rattle.fir_ast.specs.declared.statements.Stmt.{fold-roll-Stmt}
 use Rattle.fir_ast.specs.declared.statements.Stmt.TheVariants as code
 use Rattle.fir_ast.specs.declared.statements.Stmt.TheOpen as layer
 use Rattle.fir_ast.specs.Statements.{PlacedName, Statement, memory, skip, Block, done, then}
-use Rattle.fir_ast.specs.View.{memory_part_of, named_of, stmt_of, stmt_step, when_step}
+use Rattle.fir_ast.specs.working.Views.{memory_part_of, named_of, stmt_of, stmt_step, when_step}
 use Rattle.fir_ast.specs.Circuits.{ModuleTree}
 use Rattle.fir_meaning.specs.Components.{Component, Declarations}
 use Rattle.fir_meaning.specs.CostGroup.{cost_limit}

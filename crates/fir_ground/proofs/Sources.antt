@@ -8,7 +8,7 @@ use Rattle.fir_ast.specs.declared.expressions.Part.{Part}
 use Rattle.fir_ast.specs.declared.expressions.Reference.{Reference}
 use Rattle.fir_ast.specs.Expressions.{Expression, Parts}
 use Rattle.fir_ast.specs.Statements.{Sink}
-use Rattle.fir_ast.specs.View.{expr_of, expr_step, part_step, reference_step}
+use Rattle.fir_ast.specs.working.Views.{expr_of, expr_step, part_step, reference_step}
 use Rattle.fir_meaning.specs.TypedScopes.{TypedScope}
 use Rattle.fir_meaning.specs.Leafed.{target_read}
 

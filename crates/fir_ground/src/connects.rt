@@ -1,7 +1,7 @@
 //! Connects, partial connects and `is invalid` (FIRRTL spec, "Connects", "Partial Connects", "Invalidates").
 
 ghost use Rattle.std.specs.Prelude.{◌≡◌, IfOk, OnOk, map};
-ghost use Rattle.fir_ast.specs.View.{expr_of, sink_of};
+ghost use Rattle.fir_ast.specs.working.Views.{expr_of, sink_of};
 ghost use Rattle.fir_meaning.specs.LeafPairs.{leaf_pairs, partial_leaf_pairs};
 ghost use Rattle.fir_meaning.specs.ConnectPairs.{pairs, partial_pairs};
 ghost use Rattle.fir_meaning.specs.Equivalence.{is_connectable, is_partly_connectable};

@@ -3,7 +3,7 @@
 ghost use Rattle.std.specs.Prelude.{◌≡◌, ◌++◌, List, IfOk, None, Some};
 ghost use Rattle.fir_ast.specs.Expressions.{Expression};
 ghost use Rattle.fir_ast.specs.Types.{DataType};
-ghost use Rattle.fir_ast.specs.View.{expr_of, sink_of};
+ghost use Rattle.fir_ast.specs.working.Views.{expr_of, sink_of};
 ghost use Rattle.fir_meaning.specs.Leafed.{target_read};
 ghost use Rattle.fir_meaning.specs.Reaching.{Reached};
 ghost use Rattle.fir_meaning.specs.TypedScopes.{TypedScope};

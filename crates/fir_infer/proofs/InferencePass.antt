@@ -3,10 +3,11 @@ use Rattle.std.proofs.Common.{◌≡◌, ℕ, zero, suc, ◌<◌, ◌≤◌, Res
 use Rattle.std.proofs.lemmas.Bool.{cases_lt}
 use Rattle.fir_ast.specs.declared.circuit.Circuit.{Circuit}
 use Rattle.fir_ast.specs.Circuits.{CircuitTree}
-use Rattle.fir_ast.specs.View.{circuit_of}
+use Rattle.fir_ast.specs.working.Views.{circuit_of}
 use Rattle.fir_pass.specs.Faults.{Fault}
 use Rattle.fir_pass.specs.Groups.{group_of, IsClear}
-use Rattle.fir_pass.specs.Law.{IsFirst, Keeps}
+use Rattle.fir_pass.specs.Law.{IsFirst}
+use Rattle.fir_pass.specs.working.Law.{Keeps}
 use Rattle.fir_meaning.specs.ResetWalks.{ShowsResets}
 use Rattle.fir_meaning.specs.WidthGroups.{IsInferred}
 use Rattle.fir_meaning.specs.SourceMeaning.{circuit_meaning}

@@ -12,7 +12,8 @@ use Rattle.fir_ast.specs.declared.types.Ty.{Ty}
 use Rattle.fir_ast.specs.Types.{DataType}
 use Rattle.fir_ast.specs.Expressions.{Expression}
 use Rattle.fir_ast.specs.Statements.{PlacedName, Sink, Statement, wire, memory, when, invalid, Block, done, then}
-use Rattle.fir_ast.specs.View.{memory_part_of, named_of, stmt_of, type_of, stmt_step, when_step}
+use Rattle.fir_ast.specs.working.Views.{memory_part_of, named_of, stmt_of, stmt_step, when_step}
+use Rattle.fir_ast.specs.View.{type_of}
 use Rattle.fir_names.proofs.StatementViews.{wire_view}
 use Rattle.fir_meaning.specs.Components as component
 use Rattle.fir_meaning.specs.Components.{Component}

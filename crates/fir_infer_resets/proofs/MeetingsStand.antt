@@ -9,7 +9,7 @@ use Rattle.fir_ast.specs.declared.statements.Ident.{Ident}
 use Rattle.fir_ast.specs.Types.{DataType}
 use Rattle.fir_ast.specs.Expressions.{Expression, reference, literal, operation, mux, validif}
 use Rattle.fir_ast.specs.Statements.{PlacedName, Sink}
-use Rattle.fir_ast.specs.View.{sink_of, named_of}
+use Rattle.fir_ast.specs.working.Views.{sink_of, named_of}
 use Rattle.fir_ast.specs.Circuits.{CircuitTree}
 use Rattle.fir_meaning.specs.LeafPaths.{named}
 use Rattle.fir_meaning.specs.TypeLeaves.{TypeLeaf, type_leaves}

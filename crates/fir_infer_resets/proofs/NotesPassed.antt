@@ -9,7 +9,7 @@ use Rattle.fir_ast.specs.declared.place.Place.{Place}
 use Rattle.fir_ast.specs.Types.{DataType}
 use Rattle.fir_ast.specs.Expressions.{Expression, Parts, Expressions, expression}
 use Rattle.fir_ast.specs.Statements.{Sink}
-use Rattle.fir_ast.specs.View.{expr_of, expressions_of}
+use Rattle.fir_ast.specs.working.Views.{expr_of, expressions_of}
 use Rattle.fir_names.proofs.FirstMentions.{views_left}
 use Rattle.fir_ast.proofs.TreeViews.{mux_view, operation_view, validif_view}
 use Rattle.fir_types.proofs.PartViews.{literal_view}

@@ -1,7 +1,7 @@
 //! The graph of a circuit's resets is built.
 
 ghost use Rattle.std.specs.Prelude.{◌≡◌, [], ◌++◌, IfOk, List, OnOk, flat_map};
-ghost use Rattle.fir_ast.specs.View.{circuit_of};
+ghost use Rattle.fir_ast.specs.working.Views.{circuit_of};
 ghost use Rattle.fir_meaning.specs.NameGroups.{HasNames};
 ghost use Rattle.fir_meaning.specs.TypeGroup.{type_faults};
 ghost use Rattle.fir_type_table.specs.working.Tables.{types_of};

@@ -1,9 +1,9 @@
 //! The resets of a circuit.
 
 ghost use Rattle.std.specs.Prelude.{◌≡◌, [], IfOk};
-ghost use Rattle.fir_ast.specs.View.{circuit_of};
+ghost use Rattle.fir_ast.specs.working.Views.{circuit_of};
 ghost use Rattle.fir_pass.specs.Faults.{fault_of};
-ghost use Rattle.fir_pass.specs.Law.{IfFault};
+ghost use Rattle.fir_pass.specs.working.Law.{IfFault};
 ghost use Rattle.fir_meaning.specs.NameGroups.{HasNames};
 ghost use Rattle.fir_meaning.specs.ResetWalks.{ShowsResets};
 ghost use Rattle.fir_meaning.specs.TypeGroup.{type_faults};

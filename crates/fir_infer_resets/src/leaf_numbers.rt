@@ -2,7 +2,7 @@
 
 ghost use Rattle.std.specs.Prelude.{◌≡◌, ◌∷◌, Some, option_map, slice_get};
 ghost use Rattle.fir_ast.specs.Circuits.{CircuitTree, ModuleTree};
-ghost use Rattle.fir_ast.specs.View.{circuit_of};
+ghost use Rattle.fir_ast.specs.working.Views.{circuit_of};
 ghost use Rattle.fir_meaning.specs.ComponentTypes.{typed_scope};
 ghost use Rattle.fir_meaning.specs.LeafPaths as path;
 ghost use Rattle.fir_meaning.specs.Visibility.{declarations};

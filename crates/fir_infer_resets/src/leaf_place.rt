@@ -1,7 +1,7 @@
 //! What the first name of a leaf's path declares.
 
 ghost use Rattle.std.specs.Prelude.{◌≡◌, ℕ, Some, drop, option_copied};
-ghost use Rattle.fir_ast.specs.View.{circuit_of};
+ghost use Rattle.fir_ast.specs.working.Views.{circuit_of};
 ghost use Rattle.fir_meaning.specs.Components.{Declaration as Declared};
 ghost use Rattle.fir_meaning.specs.Mentions.{module_names};
 ghost use Rattle.fir_names.specs.working.Numbered.{component_of, module_number as number_of_instance};

@@ -1,7 +1,7 @@
 //! The Resets that a search has marked, by the numbers of their leaves.
 
 ghost use Rattle.std.specs.Prelude.{◌≡◌, ℕ, IfOk, OnOk, Option, Some, length, option_map};
-ghost use Rattle.fir_ast.specs.View.{circuit_of};
+ghost use Rattle.fir_ast.specs.working.Views.{circuit_of};
 ghost use Rattle.fir_types.specs.working.TypedModules.{IsTyped};
 ghost use Rattle.fir_type_table.specs.working.Saturated.{saturated};
 ghost use Rattle.fir_infer_resets.specs.working.Holding.{item_of};

@@ -1,7 +1,7 @@
 //! What meets in a module is joined: the two sides of connects, and nodes with their expressions.
 
 ghost use Rattle.std.specs.Prelude.{◌≡◌, [], IfOk, List, OnOk, option_map};
-ghost use Rattle.fir_ast.specs.View.{circuit_of, named_of, sink_of};
+ghost use Rattle.fir_ast.specs.working.Views.{circuit_of, named_of, sink_of};
 ghost use Rattle.fir_meaning.specs.NameGroups.{HasNames};
 ghost use Rattle.fir_meaning.specs.TypeGroup.{type_faults};
 ghost use Rattle.fir_infer_resets.specs.working.FirstEnds.{JoinsMet};

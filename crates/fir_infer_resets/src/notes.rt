@@ -4,7 +4,7 @@
 ghost use Rattle.std.specs.Prelude.{◌++◌, List, ◌∷◌, Option, map, option_map};
 ghost use Rattle.fir_ast.specs.Expressions.{Parts};
 ghost use Rattle.fir_ast.specs.Types.{DataType};
-ghost use Rattle.fir_ast.specs.View.{expr_of, expressions_of, reset_of, sink_of};
+ghost use Rattle.fir_ast.specs.working.Views.{expr_of, expressions_of, reset_of, sink_of};
 ghost use Rattle.fir_meaning.specs.TypedScopes.{TypedScope};
 ghost use Rattle.fir_names.specs.working.Parts.{part_of};
 ghost use Rattle.fir_types.specs.working.ModuleNotes.{reset_notes};

@@ -3,7 +3,7 @@
 ghost use Rattle.std.specs.Prelude.{◌≡◌, [], ◌∷◌, ◌++◌, IfOk, List, Some, false, map, slice_get};
 ghost use Rattle.fir_ast.specs.Circuits.{CircuitTree, ModuleTree};
 ghost use Rattle.fir_ast.specs.Types.{DataType, reset};
-ghost use Rattle.fir_ast.specs.View.{circuit_of, named_of, sink_of};
+ghost use Rattle.fir_ast.specs.working.Views.{circuit_of, named_of, sink_of};
 ghost use Rattle.fir_meaning.specs.Components.{find};
 ghost use Rattle.fir_meaning.specs.NameGroups.{HasNames};
 ghost use Rattle.fir_meaning.specs.TypeGroup.{type_faults};

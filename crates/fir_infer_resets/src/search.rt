@@ -1,7 +1,7 @@
 //! The search for asynchronous resets, by breadth.
 
 ghost use Rattle.std.specs.Prelude.{◌≡◌, ◌+◌, ◌<◌, IfOk, OnOk, vec_len};
-ghost use Rattle.fir_pass.specs.Law.{IfFault};
+ghost use Rattle.fir_pass.specs.working.Law.{IfFault};
 ghost use Rattle.fir_infer_resets.specs.working.ResetGraphs.{IsFound, IsGraph, IsResetWalk};
 ghost use Rattle.fir_infer_resets.specs.working.Reaching.{Searching};
 

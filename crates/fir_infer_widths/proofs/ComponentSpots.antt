@@ -7,7 +7,8 @@ use Rattle.fir_ast.specs.declared.statements.Ident.{Ident}
 use Rattle.fir_ast.specs.declared.types.Ty.{Ty}
 use Rattle.fir_ast.specs.Types.{DataType, uint, sint}
 use Rattle.fir_ast.specs.Statements.{PlacedName, MemoryPart}
-use Rattle.fir_ast.specs.View.{named_of, type_of}
+use Rattle.fir_ast.specs.working.Views.{named_of}
+use Rattle.fir_ast.specs.View.{type_of}
 use Rattle.fir_ast.specs.Circuits.{ModuleTree, CircuitTree}
 use Rattle.fir_meaning.specs.Components.{Component, port, memory}
 use Rattle.fir_meaning.specs.ComponentTypes.{is_input}

@@ -9,7 +9,7 @@ use Rattle.fir_ast.specs.declared.statements.Ident.{Ident}
 use Rattle.fir_ast.specs.Types.{DataType}
 use Rattle.fir_ast.specs.Expressions.{Expression}
 use Rattle.fir_ast.specs.Statements.{PlacedName, MemoryPart}
-use Rattle.fir_ast.specs.View.{named_of}
+use Rattle.fir_ast.specs.working.Views.{named_of}
 use Rattle.fir_ast.specs.Circuits.{ModuleTree, CircuitTree}
 use Rattle.fir_meaning.specs.Components.{Component, Declarations}
 use Rattle.fir_meaning.specs.Components as component

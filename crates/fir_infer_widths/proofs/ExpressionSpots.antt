@@ -8,7 +8,7 @@ use Rattle.fir_ast.specs.declared.expressions.Literal.{Literal}
 use Rattle.fir_ast.specs.declared.expressions.Reference.{Reference}
 use Rattle.fir_ast.specs.Types.{DataType, uint, sint, clock, reset, async_reset, bundle, vector}
 use Rattle.fir_ast.specs.Expressions.{Expression, literal, operation, mux, validif, Expressions}
-use Rattle.fir_ast.specs.View.{sink_of}
+use Rattle.fir_ast.specs.working.Views.{sink_of}
 use Rattle.fir_ast.specs.Circuits.{CircuitTree}
 use Rattle.fir_meaning.specs.ExpressionPlaces.{place_of}
 use Rattle.fir_meaning.specs.LeafPaths.{named}

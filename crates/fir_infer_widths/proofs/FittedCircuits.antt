@@ -9,7 +9,7 @@ use Rattle.fir_ast.specs.Types.{DataType}
 use Rattle.fir_ast.specs.Circuits.{CircuitTree}
 use Rattle.fir_pass.specs.Faults.{Fault, fault_of}
 use Rattle.fir_pass.specs.Groups.{first_of}
-use Rattle.fir_pass.specs.Law.{IfFaulty}
+use Rattle.fir_pass.specs.working.Law.{IfFaulty}
 use Rattle.fir_meaning.specs.WidthExpressions.{Width, Widths}
 use Rattle.fir_meaning.specs.WidthRules.{rules, AreWidths}
 use Rattle.fir_meaning.specs.OverFaults.{over_faults}

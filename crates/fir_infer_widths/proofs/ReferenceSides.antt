@@ -10,7 +10,7 @@ use Rattle.fir_ast.specs.declared.expressions.Reference.{Reference}
 use Rattle.fir_ast.specs.Circuits.{CircuitTree}
 use Rattle.fir_ast.specs.Expressions.{Expression, Parts, no_parts}
 use Rattle.fir_ast.specs.Statements.{Sink}
-use Rattle.fir_ast.specs.View.{expr_of, sink_of, expr_step, part_step, reference_step}
+use Rattle.fir_ast.specs.working.Views.{expr_of, sink_of, expr_step, part_step, reference_step}
 use Rattle.fir_meaning.specs.Reaching.{Reached, at_any, at_element, at_field}
 use Rattle.fir_meaning.specs.TypedScopes.{TypedScope}
 use Rattle.fir_meaning.specs.SizedScopes.{SizedScope, sink_expression}

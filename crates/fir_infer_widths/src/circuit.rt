@@ -1,7 +1,7 @@
 //! The walk over a circuit: all numbers and bounds, and the spots where faults of widths may stand.
 
 ghost use Rattle.std.specs.Prelude.{◌≡◌, ◌+◌, IfOk, OnOk, Some, slice_get};
-ghost use Rattle.fir_ast.specs.View.{circuit_of, module_of};
+ghost use Rattle.fir_ast.specs.working.Views.{circuit_of, module_of};
 ghost use Rattle.fir_meaning.specs.NameGroups.{HasNames};
 ghost use Rattle.fir_type_table.specs.working.Tables.{types_of};
 ghost use Rattle.fir_types.specs.working.TypedModules.{IsTyped};

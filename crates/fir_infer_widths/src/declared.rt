@@ -2,7 +2,7 @@
 //! and then what the bodies declare.
 
 ghost use Rattle.std.specs.Prelude.{◌≡◌, [], IfOk, OnOk, map};
-ghost use Rattle.fir_ast.specs.View.{circuit_of};
+ghost use Rattle.fir_ast.specs.working.Views.{circuit_of};
 ghost use Rattle.fir_meaning.specs.NameGroups.{HasNames};
 ghost use Rattle.fir_type_table.specs.working.Tables.{types_of};
 ghost use Rattle.fir_types.specs.working.FirstLeaves.{component_at};

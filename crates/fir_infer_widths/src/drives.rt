@@ -4,7 +4,7 @@
 ghost use Rattle.std.specs.Prelude.{◌≡◌, ◌++◌, ℕ, List, OnOk, option_map};
 ghost use Rattle.fir_ast.specs.Circuits.{CircuitTree};
 ghost use Rattle.fir_ast.specs.Types.{DataType};
-ghost use Rattle.fir_ast.specs.View.{expr_of, reset_of, sink_of};
+ghost use Rattle.fir_ast.specs.working.Views.{expr_of, reset_of, sink_of};
 ghost use Rattle.fir_meaning.specs.Reaching.{Reached};
 ghost use Rattle.fir_meaning.specs.TypedScopes.{TypedScope};
 ghost use Rattle.fir_meaning.specs.SizedScopes.{SizedScope, sink_expression, sized_type};

@@ -1,7 +1,7 @@
 //! Paths of leaves as texts, step by step.
 
 ghost use Rattle.std.specs.Prelude.{◌≡◌, ◌++◌, IfOk, OnOk, flat_map};
-ghost use Rattle.fir_ast.specs.View.{sink_of};
+ghost use Rattle.fir_ast.specs.working.Views.{sink_of};
 ghost use Rattle.fir_meaning.specs.LeafPaths.{element, named, path_text, step_text};
 ghost use Rattle.fir_names.specs.working.Parts.{part_view};
 ghost use Rattle.fir_type_table.specs.working.Wanted.{path_kept};

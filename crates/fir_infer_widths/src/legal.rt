@@ -3,7 +3,7 @@
 //! "Conditionals").
 
 ghost use Rattle.std.specs.Prelude.{◌≡◌, ◌∷◌, IfOk, flat_map};
-ghost use Rattle.fir_ast.specs.View.{named_of};
+ghost use Rattle.fir_ast.specs.working.Views.{named_of};
 ghost use Rattle.fir_meaning.specs.LegalFaults.{operation_faults, written_literal_faults};
 ghost use Rattle.fir_type_table.specs.working.Tables.{types_of};
 ghost use Rattle.fir_types.specs.working.Seen.{found_type};

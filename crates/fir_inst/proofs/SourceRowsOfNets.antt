@@ -21,8 +21,9 @@ use Rattle.fir_design.proofs.InStep.{InStep, SameRoleBelow}
 use Rattle.fir_design.proofs.LeavesInStep.{holds_there, types_are}
 use Rattle.fir_design.proofs.PathLookups.{flat_mapped_same, in_filter}
 use Rattle.fir_net.specs.Paths.{base_name}
-use Rattle.fir_net.specs.Rows.{Row, Word, clock_row, net_arrays, net_rows, net_words, role_word, row, word}
-use Rattle.fir_net.specs.Rows as net_told
+use Rattle.fir_net.specs.Rows.{Row, Word, clock_row, row, word}
+use Rattle.fir_net.specs.working.Rows.{net_arrays, net_rows, net_words, role_word}
+use Rattle.fir_net.specs.working.Rows as net_told
 use Rattle.fir_net.specs.declared.leaf.Leaf.{Leaf}
 use Rattle.fir_net.specs.declared.leaf.Role as net_leaf
 use Rattle.fir_net.specs.declared.leaf.Role.TheVariants as role

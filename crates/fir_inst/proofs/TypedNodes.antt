@@ -9,8 +9,9 @@ use Rattle.std.proofs.lemmas.Result.{IfOk-at_ok}
 use Rattle.fir_base.proofs.Elements.{get_left, there}
 use Rattle.fir_base.proofs.Writes.{push_end}
 use Rattle.fir_bits.specs.Forms.{no_type}
-use Rattle.fir_bits.specs.Operators.{applied, outcome, type_of}
-use Rattle.fir_bits.specs.Types.{typed}
+use Rattle.fir_bits.specs.Operators.{applied, outcome}
+use Rattle.fir_bits.specs.working.Operators.{type_of}
+use Rattle.fir_bits.specs.working.Types.{typed}
 use Rattle.fir_bits.specs.Values.{IsBitVector}
 use Rattle.fir_bits.specs.declared.operators.PrimOp.{PrimOp}
 use Rattle.fir_bits.specs.declared.types.NumTy.{NumTy}

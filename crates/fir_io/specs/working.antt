@@ -3,3 +3,4 @@ pub mod Memory
 pub mod Os
 pub mod Planned
 pub mod Sure
+pub mod Ports

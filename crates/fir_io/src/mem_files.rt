@@ -2,7 +2,7 @@
 
 ghost use Rattle.std.specs.Prelude.{◌≡◌, List, ℕ, IsTrue};
 ghost use Rattle.fir_io.specs.working.Memory.{content_of, mem_files_seen, MemReads};
-ghost use Rattle.fir_io.specs.Ports.{Reads};
+ghost use Rattle.fir_io.specs.working.Ports.{Reads};
 
 use crate::content::{content_of, read_content};
 use crate::entry::FileEntry;

@@ -2,7 +2,7 @@
 
 ghost use Rattle.std.specs.Prelude.{◌≡◌, [], Some};
 ghost use Rattle.fir_io.specs.working.Memory.{mem_sink_seen, MemPuts};
-ghost use Rattle.fir_io.specs.Ports.{Puts};
+ghost use Rattle.fir_io.specs.working.Ports.{Puts};
 
 use crate::held::{append, append_front};
 use crate::planned::{CallFault, FailingCall, planned_at};

@@ -2,7 +2,7 @@
 
 ghost use Rattle.std.specs.Prelude.{◌≡◌, ◌≢◌, List, ℕ, IsTrue, None};
 ghost use Rattle.fir_io.specs.working.Os.{os_files_seen, ReadsAll};
-ghost use Rattle.fir_io.specs.Ports.{Reads};
+ghost use Rattle.fir_io.specs.working.Ports.{Reads};
 
 use crate::ports::{FileFault, Files};
 use std::alloc::Global;

@@ -3,7 +3,7 @@
 ghost use Rattle.std.specs.Prelude.{◌≡◌, ◌≢◌, None, OnOk};
 ghost use Rattle.std.specs.Io.KnownBytes.{Appends};
 ghost use Rattle.fir_io.specs.working.Os.{os_sink_seen, os_writer};
-ghost use Rattle.fir_io.specs.Ports.{Puts};
+ghost use Rattle.fir_io.specs.working.Ports.{Puts};
 
 use crate::ports::{PutFault, Sink};
 use std::io;

@@ -1,7 +1,8 @@
 //! The two traits of the outside, and how their calls fail.
 
 ghost use Rattle.std.specs.Prelude.{IsTrue};
-ghost use Rattle.fir_io.specs.Ports.{FilesSeen, SinkSeen, Reads, Puts};
+ghost use Rattle.fir_io.specs.Ports.{FilesSeen, SinkSeen};
+ghost use Rattle.fir_io.specs.working.Ports.{Reads, Puts};
 
 use std::alloc::Global;
 use thiserror::Error;

@@ -1,7 +1,7 @@
 //! Files in memory, of which no read fails.
 
 ghost use Rattle.std.specs.Prelude.{◌≡◌, List, ℕ, IsTrue, Some};
-ghost use Rattle.fir_io.specs.Ports.{Reads};
+ghost use Rattle.fir_io.specs.working.Ports.{Reads};
 ghost use Rattle.fir_io.specs.working.Sure.{sure_content, sure_files_seen, SureReads};
 
 use crate::content::{content_of, read_content};

@@ -2,7 +2,7 @@
 
 ghost use Rattle.std.specs.Prelude.{◌≡◌, [], Some};
 ghost use Rattle.fir_io.specs.working.Memory.{HoldsPiece};
-ghost use Rattle.fir_io.specs.Ports.{Puts};
+ghost use Rattle.fir_io.specs.working.Ports.{Puts};
 ghost use Rattle.fir_io.specs.working.Sure.{sure_sink_seen};
 
 use crate::held::append;

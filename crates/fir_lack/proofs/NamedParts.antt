@@ -7,7 +7,7 @@ use Rattle.fir_ast.specs.declared.expressions.Part.{Part, fold_out-Part}
 use Rattle.fir_ast.specs.declared.expressions.Reference.{Reference, fold_out-Reference}
 use Rattle.fir_ast.specs.Expressions.{Expression, Parts}
 use Rattle.fir_ast.specs.Statements.{Sink}
-use Rattle.fir_ast.specs.View.{expr_step, part_step, parts_of, reference_step, sink_of}
+use Rattle.fir_ast.specs.working.Views.{expr_step, part_step, parts_of, reference_step, sink_of}
 use Rattle.fir_meaning.specs.Lack.{lack}
 use Rattle.fir_names.specs.working.Parts.{part_of}
 use Rattle.fir_lack.specs.Lacking.{lacking_parts}

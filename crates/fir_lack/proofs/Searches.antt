@@ -4,7 +4,7 @@ use Rattle.std.proofs.lemmas.List.{drop_all}
 use Rattle.std.specs.Option.{option_or}
 use Rattle.fir_ast.specs.Circuits.{PortTree}
 use Rattle.fir_ast.specs.Statements.{Statement}
-use Rattle.fir_ast.specs.View.{block_of}
+use Rattle.fir_ast.specs.working.Views.{block_of}
 use Rattle.fir_meaning.specs.Lack.{Lack}
 use Rattle.fir_meaning.specs.LeafedModules.{Scene}
 use Rattle.fir_names.proofs.FirstMentions.{views_left}

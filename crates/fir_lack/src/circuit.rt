@@ -1,7 +1,7 @@
 //! The first form of a circuit that the program lacks.
 
 ghost use Rattle.std.specs.Prelude.{IfOk, map};
-ghost use Rattle.fir_ast.specs.View.{circuit_of, module_of};
+ghost use Rattle.fir_ast.specs.working.Views.{circuit_of, module_of};
 ghost use Rattle.fir_lack.specs.working.Lacks.{IsLack, IsLoneWithout};
 ghost use Rattle.fir_lack.specs.working.Searched.{FindsInModule, FindsInModules};
 

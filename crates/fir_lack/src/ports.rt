@@ -1,7 +1,8 @@
 //! The first port of a module that the program lacks (FIRRTL spec, "Ports", "Clock Type").
 
 ghost use Rattle.std.specs.Prelude.{◌≡◌, map};
-ghost use Rattle.fir_ast.specs.View.{port_of, type_of};
+ghost use Rattle.fir_ast.specs.working.Views.{port_of};
+ghost use Rattle.fir_ast.specs.View.{type_of};
 ghost use Rattle.fir_lack.specs.Lacking.{is_clock_input};
 ghost use Rattle.fir_lack.specs.working.Searched.{SearchesPort, SearchesPorts};
 

@@ -2,7 +2,8 @@
 
 ghost use Rattle.std.specs.Prelude.{◌≡◌, ℕ, map, option_map};
 ghost use Rattle.fir_ast.specs.declared.place.Place.{Place};
-ghost use Rattle.fir_ast.specs.View.{block_of, expr_of, reset_of, sink_of, stmt_of, type_of};
+ghost use Rattle.fir_ast.specs.working.Views.{block_of, expr_of, reset_of, sink_of, stmt_of};
+ghost use Rattle.fir_ast.specs.View.{type_of};
 ghost use Rattle.fir_meaning.specs.LeafedModules.{Scene, module_leaves};
 ghost use Rattle.fir_names.specs.working.Parts.{when_view};
 ghost use Rattle.fir_lack.specs.Lacking.{lacking_clock, lacking_parts, lacking_reset, type_word};

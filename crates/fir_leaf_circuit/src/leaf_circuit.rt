@@ -1,7 +1,7 @@
 //! A circuit over ground leaves.
 
 ghost use Rattle.std.specs.Prelude.{◌≡◌};
-ghost use Rattle.fir_ast.specs.View.{circuit_of};
+ghost use Rattle.fir_ast.specs.working.Views.{circuit_of};
 ghost use Rattle.fir_pass.specs.Groups.{IsClear};
 ghost use Rattle.fir_meaning.specs.CostGroup.{cost_group};
 ghost use Rattle.fir_leaf_circuit.specs.working.Leafed.{AreLeafed};
@@ -40,7 +40,7 @@ impl Model for LeafCircuit {
 
     ghost coded = { contract.the_row.coded };
 
-    ghost use Rattle.fir_ast.specs.View.{circuit_of};
+    ghost use Rattle.fir_ast.specs.working.Views.{circuit_of};
     ghost use Rattle.fir_pass.specs.Groups.{IsClear};
     ghost use Rattle.fir_meaning.specs.CostGroup.{cost_group};
     ghost use Rattle.fir_leaf_circuit.specs.working.Leafed.{AreLeafed};
@@ -51,7 +51,7 @@ impl Model for LeafCircuit {
 }
 
 impl Meant for LeafCircuit {
-    ghost use Rattle.fir_ast.specs.View.{circuit_of};
+    ghost use Rattle.fir_ast.specs.working.Views.{circuit_of};
     ghost use Rattle.fir_meaning.specs.SourceMeaning.{circuit_meaning};
 
     ghost meaning = { λ l. circuit_meaning (circuit_of l) };

@@ -6,7 +6,7 @@ use Rattle.fir_base.proofs.Elements.{beside}
 use Rattle.fir_ast.specs.Types.{DataType}
 use Rattle.fir_ast.specs.Circuits.{CircuitTree, ModuleTree}
 use Rattle.fir_ast.specs.Statements.{PlacedName}
-use Rattle.fir_ast.specs.View.{circuit_of}
+use Rattle.fir_ast.specs.working.Views.{circuit_of}
 use Rattle.fir_meaning.specs.Components.{Component, Declaration, Declarations}
 use Rattle.fir_meaning.specs.ComponentTypes.{known_as, typed_behind, typed_scope}
 use Rattle.fir_meaning.specs.SizedDeclarations.{all_port_numbers, first_numbers, numbered_behind, numbered_modules, sized_declared}

@@ -4,7 +4,7 @@ use Rattle.std.specs.Prelude.{slice_get}
 use Rattle.std.proofs.lemmas.Option.{same_Some}
 use Rattle.fir_base.proofs.Elements.{get_in}
 use Rattle.fir_ast.specs.Circuits.{CircuitTree, ModuleTree}
-use Rattle.fir_ast.specs.View.{circuit_of}
+use Rattle.fir_ast.specs.working.Views.{circuit_of}
 use Rattle.fir_meaning.specs.Mentions.{module_names}
 use Rattle.fir_meaning.specs.NameGroups.{HasNames}
 use Rattle.fir_meaning.specs.SizedDeclarations.{NumberedModule}

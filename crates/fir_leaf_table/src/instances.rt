@@ -3,7 +3,7 @@
 ghost use Rattle.fir_ast.specs.declared.place.Place.{Place};
 ghost use Rattle.fir_ast.specs.Statements as tree;
 ghost use Rattle.fir_ast.specs.Statements.{PlacedName};
-ghost use Rattle.fir_ast.specs.View.{named_of};
+ghost use Rattle.fir_ast.specs.working.Views.{named_of};
 ghost use Rattle.fir_leaf_table.specs.working.Walks.{PassesStatement};
 
 use crate::frame::Frame;

@@ -1,7 +1,7 @@
 //! The modules of a circuit over their ground leaves.
 
 ghost use Rattle.std.specs.Prelude.{◌≡◌, ◌≤◌, ℕ, IfOk, Some, slice_get};
-ghost use Rattle.fir_ast.specs.View.{circuit_of, module_of};
+ghost use Rattle.fir_ast.specs.working.Views.{circuit_of, module_of};
 ghost use Rattle.fir_meaning.specs.CostGroup.{cost_limit};
 ghost use Rattle.fir_meaning.specs.Costs.{HasCost};
 ghost use Rattle.fir_meaning.specs.NameGroups.{HasNames};

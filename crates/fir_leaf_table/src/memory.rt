@@ -2,7 +2,7 @@
 
 ghost use Rattle.std.specs.Prelude.{◌≡◌, ◌+◌, IfOk, length, map};
 ghost use Rattle.fir_ast.specs.Statements.{PlacedName};
-ghost use Rattle.fir_ast.specs.View.{memory_part_of};
+ghost use Rattle.fir_ast.specs.working.Views.{memory_part_of};
 ghost use Rattle.fir_meaning.specs.Components.{Declarations};
 ghost use Rattle.fir_meaning.specs.Costs.{sum_of};
 ghost use Rattle.fir_meaning.specs.SizedMemories.{sized_array};

@@ -1,7 +1,7 @@
 //! What the fields of a memory say (FIRRTL spec, "Memories").
 
 ghost use Rattle.std.specs.Prelude.{◌≡◌, ◌++◌, IfOk, OnOk, flat_map, map};
-ghost use Rattle.fir_ast.specs.View.{memory_part_of, named_of};
+ghost use Rattle.fir_ast.specs.working.Views.{memory_part_of, named_of};
 ghost use Rattle.fir_meaning.specs.MemoryFaults.{read_latency_of_part, read_under_write_of_part};
 ghost use Rattle.fir_meaning.specs.MemoryTypes.{first_one};
 ghost use Rattle.fir_meaning.specs.LeafMemories.{port_kinds_of};

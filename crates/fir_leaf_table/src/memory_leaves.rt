@@ -3,7 +3,7 @@
 ghost use Rattle.std.specs.Prelude.{map};
 ghost use Rattle.fir_ast.specs.declared.place.Place.{Place};
 ghost use Rattle.fir_ast.specs.Statements as tree;
-ghost use Rattle.fir_ast.specs.View.{memory_part_of, named_of};
+ghost use Rattle.fir_ast.specs.working.Views.{memory_part_of, named_of};
 ghost use Rattle.fir_leaf_table.specs.working.Walks.{PassesStatement};
 
 use crate::frame::Frame;

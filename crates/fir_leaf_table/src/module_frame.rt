@@ -1,7 +1,7 @@
 //! The frame of a module.
 
 ghost use Rattle.std.specs.Prelude.{◌≡◌, ◌<◌, length};
-ghost use Rattle.fir_ast.specs.View.{circuit_of};
+ghost use Rattle.fir_ast.specs.working.Views.{circuit_of};
 ghost use Rattle.fir_meaning.specs.NameGroups.{HasNames};
 ghost use Rattle.fir_meaning.specs.LeafedModules.{Scene};
 ghost use Rattle.fir_leaf_table.specs.working.Frames.{Frames};

@@ -1,7 +1,7 @@
 //! Where the leaves of modules' ports stand, and so those of instances.
 
 ghost use Rattle.std.specs.Prelude.{◌≡◌, ◌++◌, Some, IfOk, OnOk, map, replicate};
-ghost use Rattle.fir_ast.specs.View.{circuit_of, port_of};
+ghost use Rattle.fir_ast.specs.working.Views.{circuit_of, port_of};
 ghost use Rattle.fir_meaning.specs.Costs.{leaves_where};
 ghost use Rattle.fir_type_table.specs.working.Saturated.{saturated};
 ghost use Rattle.fir_type_table.specs.working.Tables.{types_of};

@@ -1,7 +1,7 @@
 //! The leaves of a module's ports (FIRRTL spec, "Ports").
 
 ghost use Rattle.std.specs.Prelude.{[], ◌∷◌, map};
-ghost use Rattle.fir_ast.specs.View.{port_of};
+ghost use Rattle.fir_ast.specs.working.Views.{port_of};
 ghost use Rattle.fir_leaf_table.specs.working.Walks.{PassesPorts};
 
 use crate::frame::Frame;

@@ -3,7 +3,7 @@
 
 ghost use Rattle.std.specs.Prelude.{◌≡◌, ℕ, ◌+◌, ◌-◌, ◌<◌, ◌≤◌, [], ◌∷◌, ◌++◌, false, drop, length as long, IfOk, OnOk, Option};
 ghost use Rattle.fir_ast.specs.Types.{bundle, vector};
-ghost use Rattle.fir_ast.specs.View.{circuit_of};
+ghost use Rattle.fir_ast.specs.working.Views.{circuit_of};
 ghost use Rattle.fir_meaning.specs.ExpressionTypes.{number_type};
 ghost use Rattle.fir_meaning.specs.TypeLeaves.{turned};
 ghost use Rattle.fir_type_table.specs.working.Saturated.{saturated};

@@ -7,7 +7,7 @@ ghost use Rattle.fir_ast.specs.Expressions.{Expression};
 ghost use Rattle.fir_ast.specs.Statements as tree;
 ghost use Rattle.fir_ast.specs.Statements.{Reset};
 ghost use Rattle.fir_ast.specs.Types.{DataType};
-ghost use Rattle.fir_ast.specs.View.{named_of};
+ghost use Rattle.fir_ast.specs.working.Views.{named_of};
 ghost use Rattle.fir_meaning.specs.Visibility.{Before, declarations};
 ghost use Rattle.fir_types.specs.working.Walked.{Begins};
 ghost use Rattle.fir_ground.specs.working.DeclarationDrivers.{reset_seen, reset_terms};

@@ -6,7 +6,7 @@ ghost use Rattle.fir_ast.specs.declared.place.Place.{Place};
 ghost use Rattle.fir_ast.specs.Expressions.{Expression};
 ghost use Rattle.fir_ast.specs.Statements as tree;
 ghost use Rattle.fir_ast.specs.Types.{DataType};
-ghost use Rattle.fir_ast.specs.View.{block_of, named_of, stmt_of};
+ghost use Rattle.fir_ast.specs.working.Views.{block_of, named_of, stmt_of};
 ghost use Rattle.fir_names.specs.working.Parts.{when_view};
 ghost use Rattle.fir_leaf_table.specs.working.Walks.{PassesBlock, PassesStatement};
 

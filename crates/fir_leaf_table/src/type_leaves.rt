@@ -1,7 +1,7 @@
 //! The leaves of a type, with what they hold (FIRRTL spec, "Types").
 
 ghost use Rattle.std.specs.Prelude.{◌≡◌, IfOk};
-ghost use Rattle.fir_ast.specs.View.{circuit_of};
+ghost use Rattle.fir_ast.specs.working.Views.{circuit_of};
 ghost use Rattle.fir_meaning.specs.SizedTypes.{Sized};
 ghost use Rattle.fir_meaning.specs.TypeLeaves.{type_leaves};
 ghost use Rattle.fir_meaning.specs.WidthExpressions.{Widths as Assignment};

@@ -6,7 +6,7 @@ use Rattle.fir_ast.specs.declared.circuit.Circuit.{Circuit}
 use Rattle.fir_ast.specs.declared.circuit.Module.{Module}
 use Rattle.fir_ast.specs.Circuits.{CircuitTree, ModuleTree}
 use Rattle.fir_ast.specs.Types.{DataType}
-use Rattle.fir_ast.specs.View.{circuit_of, module_of}
+use Rattle.fir_ast.specs.working.Views.{circuit_of, module_of}
 use Rattle.fir_meaning.specs.ComponentTypes.{typed_scope}
 use Rattle.fir_meaning.specs.LeafMemories.{leaves_of_data}
 use Rattle.fir_meaning.specs.LeafPaths.{LeafPath, path_text, step_text}

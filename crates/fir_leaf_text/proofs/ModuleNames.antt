@@ -7,7 +7,7 @@ use Rattle.fir_ast.specs.declared.circuit.Module.{Module}
 use Rattle.fir_ast.specs.declared.circuit.Port.{Port}
 use Rattle.fir_ast.specs.declared.statements.Stmt.{Stmt}
 use Rattle.fir_ast.specs.Circuits.{PortTree}
-use Rattle.fir_ast.specs.View.{module_of, port_of}
+use Rattle.fir_ast.specs.working.Views.{module_of, port_of}
 use Rattle.fir_leaf.proofs.LeafPlaces.{get_left, get_mapped, get_right}
 use Rattle.fir_leaf_text.specs.working.DeclaredNames.{names_in_module}
 use Rattle.fir_leaf_text.proofs.SearchedNames.{names_of_statements}

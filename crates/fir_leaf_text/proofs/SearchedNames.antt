@@ -2,7 +2,7 @@
 use Rattle.std.proofs.Common.{◌≡◌, ℕ, ◌+◌, ◌<◌, List, [], ◌++◌, length, map, drop, get_or, Some, refl, sym, ap, ◌∙◌, append_assoc, length-append, arith}
 use Rattle.std.specs.Prelude.{slice_get}
 use Rattle.fir_ast.specs.declared.statements.Stmt.{Stmt}
-use Rattle.fir_ast.specs.View.{block_of, stmt_of}
+use Rattle.fir_ast.specs.working.Views.{block_of, stmt_of}
 use Rattle.fir_names.proofs.FirstMentions.{views_left}
 use Rattle.fir_leaf.proofs.LeafPlaces.{get_left, get_right}
 use Rattle.fir_leaf_text.specs.declared.declared_name.Search.{Search}

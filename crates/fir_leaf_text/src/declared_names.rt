@@ -2,7 +2,7 @@
 
 ghost use Rattle.std.specs.Prelude.{◌≡◌, [], ◌∷◌, ◌++◌, IfOk, OnOk, map};
 ghost use Rattle.fir_ast.specs.declared.place.Place.{Place};
-ghost use Rattle.fir_ast.specs.View.{block_of, module_of, stmt_of};
+ghost use Rattle.fir_ast.specs.working.Views.{block_of, module_of, stmt_of};
 ghost use Rattle.fir_names.specs.working.Parts.{when_view};
 ghost use Rattle.fir_leaf_text.specs.working.DeclaredNames.{names_in, names_in_block, names_in_module};
 

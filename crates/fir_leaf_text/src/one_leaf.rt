@@ -2,7 +2,7 @@
 //! that (FIRRTL spec, "References").
 
 ghost use Rattle.std.specs.Prelude.{◌≡◌, ◌==◌, IfOk, count_by, take};
-ghost use Rattle.fir_ast.specs.View.{circuit_of};
+ghost use Rattle.fir_ast.specs.working.Views.{circuit_of};
 ghost use Rattle.fir_leaf_text.specs.working.TextsOfLeaves.{IsTextOf};
 
 use crate::declared_leaf::put_declared_leaf;

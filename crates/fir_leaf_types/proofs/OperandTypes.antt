@@ -10,7 +10,8 @@ use Rattle.fir_bits.specs.declared.operators.Form.{Form}
 use Rattle.fir_bits.specs.declared.operators.Form.TheVariants.{Pair, Shift, Single, WithInteger, WithRange}
 use Rattle.fir_bits.specs.declared.types.NumTy.{NumTy}
 use Rattle.fir_bits.specs.Forms.{form_of, operands, integers, has_counts, has_kinds, takes, first_type, second_type}
-use Rattle.fir_bits.specs.Types.{is_legal, signed_of, typed}
+use Rattle.fir_bits.specs.Types.{is_legal, signed_of}
+use Rattle.fir_bits.specs.working.Types.{typed}
 use Rattle.fir_bits.specs.Widths.{is_narrow, counted_width}
 use Rattle.fir_bits.specs.Widths.{width_of as result_width}
 use Rattle.fir_ast.specs.Types.{DataType, uint, sint, clock, reset, async_reset, bundle, vector}

@@ -2,7 +2,8 @@
 use Rattle.std.proofs.Common.{◌≡◌, ℕ, ◌-◌, ◌<◌, cond, ◌||◌, ◌&&◌, eqb, List, [], ◌∷◌, length, get_or, take, drop, refl, ap, arith}
 use Rattle.std.proofs.lemmas.List.{take_all}
 use Rattle.fir_lex.specs.working.Bytes.{starts_with_byte, ends_line, line_end_length}
-use Rattle.fir_base.specs.Bytes.{is_digit, starts_with_digit}
+use Rattle.fir_base.specs.Bytes.{is_digit}
+use Rattle.fir_base.specs.working.Bytes.{starts_with_digit}
 
 pub first_is : (s : List ℕ) (b : ℕ) → 0 < length s → eqb (get_or s 0 0) b ≡ starts_with_byte b s
 first_is [] b some = absurd (omega arith)

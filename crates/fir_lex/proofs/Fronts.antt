@@ -5,7 +5,8 @@ use Rattle.std.proofs.lemmas.Bool.{cond_both, both_ways, eqb-true, eqb-false, le
 use Rattle.std.proofs.lemmas.List.Elements.{All-from_recursion, All-weaker}
 use Rattle.std.proofs.lemmas.List.Sums.{take_while-cons}
 use Rattle.fir_base.specs.Lists.{In}
-use Rattle.fir_base.specs.Bytes.{is_digit, starts_with_digit, is_word_start, is_word_byte}
+use Rattle.fir_base.specs.Bytes.{is_digit, is_word_start, is_word_byte}
+use Rattle.fir_base.specs.working.Bytes.{starts_with_digit}
 use Rattle.fir_base.specs.Digits.{decimal_value}
 use Rattle.fir_lex.specs.Tokens.{integer, sign}
 use Rattle.fir_lex.specs.working.Bytes.{starts_with_byte, is_blank}

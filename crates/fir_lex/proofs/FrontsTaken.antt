@@ -5,7 +5,8 @@ use Rattle.std.proofs.lemmas.Bool.{ne_eqb, false_from_ne_true, lt-leb, lt-ltb, o
 use Rattle.std.proofs.lemmas.List.Elements.{recursion_from_All, All-weaker}
 use Rattle.fir_base.specs.Lists.{In}
 use Rattle.fir_base.proofs.Each.{all_at}
-use Rattle.fir_base.specs.Bytes.{starts_with_digit, is_word_start}
+use Rattle.fir_base.specs.working.Bytes.{starts_with_digit}
+use Rattle.fir_base.specs.Bytes.{is_word_start}
 use Rattle.fir_base.specs.Digits.{decimal_value}
 use Rattle.fir_lex.specs.Tokens.{Token, word, dash_word, integer, text, sign, annotations, line_end, level_opens, level_closes}
 use Rattle.fir_lex.specs.working.Bytes.{starts_with_byte, ends_line, is_blank}

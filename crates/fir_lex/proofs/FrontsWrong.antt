@@ -4,7 +4,8 @@ use Rattle.std.proofs.Common.{◌≡◌, ◌≢◌, ℕ, ◌+◌, ◌^◌, ◌�
 use Rattle.std.specs.Prelude.{take_while}
 use Rattle.std.proofs.lemmas.Bool.{cond_both, eqb-true, eqb-false, ltb-false, leb-true, leb-false, and_parts}
 use Rattle.std.proofs.lemmas.List.Elements.{All-from_recursion, All-weaker}
-use Rattle.fir_base.specs.Bytes.{is_digit, starts_with_digit, is_word_start}
+use Rattle.fir_base.specs.Bytes.{is_digit, is_word_start}
+use Rattle.fir_base.specs.working.Bytes.{starts_with_digit}
 use Rattle.fir_base.specs.Digits.{decimal_value}
 use Rattle.fir_lex.specs.Tokens.{integer}
 use Rattle.fir_lex.specs.working.Bytes.{starts_with_byte, is_blank}

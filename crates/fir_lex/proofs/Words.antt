@@ -6,7 +6,8 @@ use Rattle.std.specs.Cmp.Lexicographic.{same_text}
 use Rattle.std.proofs.lemmas.Bool.{or_left}
 use Rattle.std.proofs.lemmas.List.Folds.{length-prefix_len}
 use Rattle.std.proofs.lemmas.List.Sums.{prefix_len-le-length}
-use Rattle.fir_base.specs.Bytes.{is_word_start, is_word_byte, is_digit, starts_with_digit}
+use Rattle.fir_base.specs.Bytes.{is_word_start, is_word_byte, is_digit}
+use Rattle.fir_base.specs.working.Bytes.{starts_with_digit}
 use Rattle.fir_lex.specs.working.Front.{dash_word_at}
 use Rattle.fir_lex.specs.working.View.{AtWord}
 

@@ -1,7 +1,7 @@
 //! The longest token at the front of a text, within a line.
 
 ghost use Rattle.std.specs.Prelude.{◌≡◌, ◌≤◌, length, slice_index, drop};
-ghost use Rattle.fir_base.specs.Bytes.{starts_with_digit};
+ghost use Rattle.fir_base.specs.working.Bytes.{starts_with_digit};
 ghost use Rattle.fir_lex.specs.working.Front.{marked_at, front};
 ghost use Rattle.fir_lex.specs.working.View.{front_of, IsWithinBytes};
 

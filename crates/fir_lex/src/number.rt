@@ -1,7 +1,8 @@
 //! Integers (FIRRTL spec, "Details about Syntax").
 
 ghost use Rattle.std.specs.Prelude.{◌≡◌, ◌≤◌, IsTrue, length, take, drop, take_while};
-ghost use Rattle.fir_base.specs.Bytes.{is_digit, starts_with_digit};
+ghost use Rattle.fir_base.specs.Bytes.{is_digit};
+ghost use Rattle.fir_base.specs.working.Bytes.{starts_with_digit};
 ghost use Rattle.fir_lex.specs.working.Front.{integer_front};
 ghost use Rattle.fir_lex.specs.working.Numbers.{digits_of};
 ghost use Rattle.fir_lex.specs.working.View.{front_of, IsWithinBytes};

@@ -6,7 +6,8 @@ use Rattle.fir_ast.specs.Circuits.{CircuitTree}
 use Rattle.fir_pass.specs.Faults.{Fault}
 use Rattle.fir_pass.specs.Groups.{group_of, first_of, in_order, IsClear}
 use Rattle.fir_pass.specs.Meaning.{Meaning}
-use Rattle.fir_pass.specs.Law.{IsFirst, Keeps}
+use Rattle.fir_pass.specs.Law.{IsFirst}
+use Rattle.fir_pass.specs.working.Law.{Keeps}
 use Rattle.fir_meaning.specs.SourceMeaning.{circuit_meaning}
 
 pub first_in : (fs : List Fault) (f : Fault) → first_of fs ≡ Some f → In fs f

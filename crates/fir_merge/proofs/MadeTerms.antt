@@ -2,7 +2,8 @@
 use Rattle.std.proofs.Common.{◌≡◌, ℕ, zero, suc, ◌+◌, ◌≤◌, List, [], ◌∷◌, ◌++◌, flat_map, map, Bool, true, false, not, if◌then◌else◌, Option, Some, None, Result, Ok, Err, refl, sym, ap, ◌∙◌, subst, arith}
 use Rattle.std.specs.Prelude.{IsOk, slice_index}
 use Rattle.fir_bits.specs.Forms.{first_type, form_of, second_type, takes}
-use Rattle.fir_bits.specs.Types.{is_legal, signed_of, typed}
+use Rattle.fir_bits.specs.Types.{is_legal, signed_of}
+use Rattle.fir_bits.specs.working.Types.{typed}
 use Rattle.fir_bits.specs.Widths.{is_narrow, width_of}
 use Rattle.fir_bits.specs.declared.operators.PrimOp.{PrimOp}
 use Rattle.fir_bits.specs.declared.operators.PrimOp.TheVariants.{Orr}

@@ -10,7 +10,7 @@ use Rattle.fir_base.proofs.Elements.{get_behind}
 use Rattle.fir_ast.specs.Statements.{PlacedName, Statement, wire, register, node, instance, memory, when, connect, partial_connect, invalid, skip, Block, done, then}
 use Rattle.fir_ast.specs.declared.circuit.Circuit.{Circuit}
 use Rattle.fir_ast.specs.declared.circuit.Module.{Module}
-use Rattle.fir_ast.specs.View.{circuit_of, module_of, port_of}
+use Rattle.fir_ast.specs.working.Views.{circuit_of, module_of, port_of}
 use Rattle.fir_ast.specs.Circuits.{PortTree, ModuleTree}
 use Rattle.fir_meaning.specs.Components.{Component, Declaration, Declarations}
 use Rattle.fir_meaning.specs.Components as component

@@ -2,7 +2,7 @@
 
 ghost use Rattle.std.specs.Prelude.{◌≡◌, IsSomeAnd, Some, option_copied, option_map, slice_get};
 ghost use Rattle.fir_ast.specs.Circuits.{ModuleTree};
-ghost use Rattle.fir_ast.specs.View.{circuit_of, port_of};
+ghost use Rattle.fir_ast.specs.working.Views.{circuit_of, port_of};
 ghost use Rattle.fir_meaning.specs.Mentions.{module_names};
 ghost use Rattle.fir_meaning.specs.NameGroups.{HasNames};
 ghost use Rattle.fir_meaning.specs.Visibility.{declarations};
@@ -45,7 +45,7 @@ impl Model for Named {
 
     ghost coded = { contract.the_row.coded };
 
-    ghost use Rattle.fir_ast.specs.View.{circuit_of};
+    ghost use Rattle.fir_ast.specs.working.Views.{circuit_of};
     ghost use Rattle.fir_names.specs.working.IsNamed.{IsNamed};
 
     ghost view = { λ n. n.circuit };
@@ -54,7 +54,7 @@ impl Model for Named {
 }
 
 impl Meant for Named {
-    ghost use Rattle.fir_ast.specs.View.{circuit_of};
+    ghost use Rattle.fir_ast.specs.working.Views.{circuit_of};
     ghost use Rattle.fir_meaning.specs.SourceMeaning.{circuit_meaning};
 
     ghost meaning = { λ n. circuit_meaning (circuit_of n) };

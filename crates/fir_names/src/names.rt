@@ -2,7 +2,7 @@
 
 ghost use Rattle.std.specs.Prelude.{◌≡◌, List, None, OnOk, [], ◌∷◌, ◌++◌, option_copied};
 ghost use Rattle.fir_ast.specs.Statements.{PlacedName};
-ghost use Rattle.fir_ast.specs.View.{named_of};
+ghost use Rattle.fir_ast.specs.working.Views.{named_of};
 ghost use Rattle.fir_meaning.specs.Components as meant;
 ghost use Rattle.fir_meaning.specs.Components.{Declarations};
 ghost use Rattle.fir_names.specs.working.Numbered.{component_of};

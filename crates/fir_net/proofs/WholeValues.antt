@@ -13,8 +13,9 @@ use Rattle.fir_base.proofs.Each.{all_joined}
 use Rattle.fir_bits.specs.Values.{IsBitVector}
 use Rattle.fir_bits.specs.working.Laws.{HasItsType}
 use Rattle.fir_bits.specs.Forms.{no_type}
-use Rattle.fir_bits.specs.Types.{typed}
-use Rattle.fir_bits.specs.Operators.{no_operand, type_of, widened, applied, outcome}
+use Rattle.fir_bits.specs.working.Types.{typed}
+use Rattle.fir_bits.specs.Operators.{no_operand, widened, applied, outcome}
+use Rattle.fir_bits.specs.working.Operators.{type_of}
 use Rattle.fir_bits.specs.declared.types.NumTy.{NumTy}
 use Rattle.fir_bits.specs.declared.values.Num.{Num}
 use Rattle.fir_bits.proofs.Below.{widened_below}

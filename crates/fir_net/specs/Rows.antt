@@ -1,11 +1,6 @@
 -- The ports and the words of the state of a net, as rows that can be compared. Leaves of no bits have none. Arrays have rows too; a net has none yet.
-use Rattle.std.specs.Prelude.{ℕ, List, [], ◌∷◌, map, flat_map, nat_eq, if◌then◌else◌}
+use Rattle.std.specs.Prelude.{ℕ, List, [], ◌∷◌, map, nat_eq, if◌then◌else◌}
 use Rattle.fir_base.specs.declared.direction.Direction.{Direction}
-use Rattle.fir_base.specs.declared.direction.Direction.TheVariants as direction
-use Rattle.fir_net.specs.declared.leaf.Role.{Role}
-use Rattle.fir_net.specs.declared.leaf.Role.TheVariants as role
-use Rattle.fir_net.specs.declared.net.FlatNet.{FlatNet}
-use Rattle.fir_net.specs.Paths.{base_name}
 use Rattle.ver_words.specs.declared.signal.Signal.{Signal}
 use Rattle.ver_words.specs.declared.signal.Signal.TheVariants.{Bits, Clock}
 
@@ -34,26 +29,6 @@ pub record ArrayRow : Type 0 where
   pub name : List ℕ
   pub width : ℕ
   pub depth : ℕ
-
-abbrev pub role_row : Role → List ℕ → ℕ → List Row
-role_row role.Input name width = row name direction.Input width
-role_row role.Clock name width = clock_row name direction.Input
-role_row (role.Output r) name width = row name direction.Output width
-role_row (role.ClockOutput c) name width = clock_row name direction.Output
-role_row _ name width = []
-
-abbrev pub role_word : Role → List ℕ → ℕ → List Word
-role_word (role.Register r) name width = word name width
-role_word _ name width = []
-
-abbrev pub net_rows : FlatNet → List Row
-net_rows net = flat_map (λ l. role_row l.role (base_name l.path) l.width) net.leaves
-
-abbrev pub net_words : FlatNet → List Word
-net_words net = flat_map (λ l. role_word l.role (base_name l.path) l.width) net.leaves
-
-abbrev pub net_arrays : FlatNet → List ArrayRow
-net_arrays net = []
 
 abbrev pub row_names : List Row → List (List ℕ)
 row_names = map (λ r. r.name)

@@ -14,3 +14,4 @@ pub mod Laws
 pub mod EqualNodes
 pub mod NodeHash
 pub mod Shares
+pub mod Rows

@@ -10,7 +10,8 @@ use Rattle.std.proofs.lemmas.Slice.Eq.{bytes_eq-Decides}
 use Rattle.fir_base.specs.Words.{is_among}
 use Rattle.ver_words.specs.declared.reserved.TheConstants.{RESERVED_WORDS}
 use Rattle.ver_words.specs.Names.{is_word, IsName, module_name}
-use Rattle.fir_base.specs.Bytes.{is_digit, starts_with_digit, is_word_byte, is_word_start}
+use Rattle.fir_base.specs.Bytes.{is_digit, is_word_byte, is_word_start}
+use Rattle.fir_base.specs.working.Bytes.{starts_with_digit}
 use Rattle.ver_words.specs.Reserved.{is_reserved}
 use Rattle.fir_net_names.specs.Names.{suffixed, inner_name}
 

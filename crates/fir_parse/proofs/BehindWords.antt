@@ -4,7 +4,7 @@ use Rattle.std.specs.Result.{IsErrAnd}
 use Rattle.fir_ast.specs.declared.place.Place.{Place}
 use Rattle.fir_ast.specs.declared.expressions.Expr.{Expr}
 use Rattle.fir_ast.specs.Expressions.{Expression, reference, no_parts}
-use Rattle.fir_ast.specs.View.{expr_of}
+use Rattle.fir_ast.specs.working.Views.{expr_of}
 use Rattle.fir_ast.specs.declared.fault.FirFault.TheVariants.{Depth}
 use Rattle.fir_parse.specs.working.AtHand.{StandsFirst}
 use Rattle.fir_parse.specs.declared.lexeme.Lexeme.{Lexeme as LexemeRef}

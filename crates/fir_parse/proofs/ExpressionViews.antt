@@ -10,7 +10,7 @@ use Rattle.fir_ast.specs.declared.expressions.Part.TheVariants as part
 use Rattle.fir_ast.specs.declared.expressions.Reference.{Reference, fold_out-Reference}
 use Rattle.fir_ast.specs.Expressions.{Expression, Parts, reference, literal, no_parts, subfield}
 use Rattle.fir_ast.specs.Statements.{Sink}
-use Rattle.fir_ast.specs.View.{expr_of, sink_of, parts_of, expr_step, part_step, reference_step}
+use Rattle.fir_ast.specs.working.Views.{expr_of, sink_of, parts_of, expr_step, part_step, reference_step}
 use Rattle.fir_parse.specs.working.Trees.{part_of}
 
 -- a reference that is read, as an expression

@@ -4,7 +4,8 @@ use Rattle.fir_base.specs.Lists.{In}
 use Rattle.fir_parse.specs.MissingForms.{missing_types, missing_operators, missing_statements, missing_ports, missing_modules}
 use Rattle.fir_bits.specs.declared.operators.PrimOp.{PrimOp}
 use Rattle.std.specs.Option.{IfSome}
-use Rattle.fir_bits.specs.OperatorWords.{operator_word, operator_of}
+use Rattle.fir_bits.specs.OperatorWords.{operator_word}
+use Rattle.fir_bits.specs.working.OperatorWords.{operator_of}
 use Rattle.fir_parse.specs.declared.words.TypeWord.{TypeWord}
 use Rattle.fir_parse.specs.declared.words.TypeWord.TheVariants as types
 use Rattle.fir_parse.specs.declared.words.Applied.{Applied}

@@ -7,7 +7,7 @@ use Rattle.fir_ast.specs.declared.circuit.Port.{Port}
 use Rattle.fir_ast.specs.Circuits.{PortTree}
 use Rattle.fir_ast.specs.declared.statements.Stmt.{Stmt}
 use Rattle.fir_ast.specs.Statements.{Block, done}
-use Rattle.fir_ast.specs.View.{block_of, port_of, stmt_of}
+use Rattle.fir_ast.specs.working.Views.{block_of, port_of, stmt_of}
 use Rattle.fir_parse.specs.declared.lexeme.Lexeme.{Lexeme}
 use Rattle.fir_parse.specs.declared.lexeme.Lexeme.TheVariants.{LevelCloses, Word}
 use Rattle.fir_parse.specs.working.CircuitRules.{with_port}

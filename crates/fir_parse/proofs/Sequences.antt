@@ -6,7 +6,7 @@ use Rattle.std.proofs.lemmas.List.{map-append}
 use Rattle.fir_ast.specs.declared.statements.Stmt.{Stmt}
 use Rattle.fir_ast.specs.declared.statements.Stmt.TheVariants as code
 use Rattle.fir_ast.specs.Statements.{Statement, when, Block, done, then}
-use Rattle.fir_ast.specs.View.{stmt_of, block_of}
+use Rattle.fir_ast.specs.working.Views.{stmt_of, block_of}
 use Rattle.fir_parse.proofs.StatementViews.{when_view}
 use Rattle.fir_parse.specs.declared.whens.OpenWhen.{OpenWhen as OpenWhenRef}
 use Rattle.fir_parse.specs.working.Symbols.{OpenWhen, statements}

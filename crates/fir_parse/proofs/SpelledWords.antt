@@ -7,7 +7,8 @@ use Rattle.fir_base.specs.declared.direction.Direction.{Direction}
 use Rattle.fir_base.specs.declared.direction.Direction.TheVariants.{Input, Output}
 use Rattle.fir_bits.specs.declared.operators.PrimOp.{PrimOp}
 use Rattle.fir_bits.specs.declared.operators.PrimOp.TheVariants.{Add}
-use Rattle.fir_bits.specs.OperatorWords.{operator_word, operators, operator_of}
+use Rattle.fir_bits.specs.OperatorWords.{operator_word}
+use Rattle.fir_bits.specs.working.OperatorWords.{operators, operator_of}
 use Rattle.fir_ast.specs.declared.statements.ReadUnderWrite.{ReadUnderWrite}
 use Rattle.fir_ast.specs.declared.statements.ReadUnderWrite.TheVariants.{Old, New, Undefined}
 use Rattle.fir_parse.specs.declared.words.Applied.TheVariants as applied

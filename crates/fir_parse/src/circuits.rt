@@ -8,7 +8,7 @@ use crate::stop::Stop;
 use fir_ast::{Circuit, FirFault, Place};
 
 impl<'t> Parser<'t> {
-    ghost use Rattle.fir_ast.specs.View.{circuit_of};
+    ghost use Rattle.fir_ast.specs.working.Views.{circuit_of};
     ghost use Rattle.fir_parse.specs.working.CircuitRules.{circuit_rest, version_plan, version_rest};
     ghost use Rattle.fir_parse.specs.working.PartPlans.{behind_major, circuit_plan, dotted_number};
     ghost use Rattle.fir_parse.specs.working.Reads.{rest, Reads};

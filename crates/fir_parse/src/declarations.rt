@@ -11,7 +11,7 @@ use fir_base::Name;
 impl<'t> Parser<'t> {
     ghost use Rattle.std.specs.Prelude.{◌≡◌, ℕ, ◌<◌, ◌≤◌, ◌∷◌, IfOk, OnOk, codes, drop};
     ghost use Rattle.fir_ast.specs.Statements.{invalid, skip};
-    ghost use Rattle.fir_ast.specs.View.{sink_of, stmt_of};
+    ghost use Rattle.fir_ast.specs.working.Views.{sink_of, stmt_of};
     ghost use Rattle.fir_parse.specs.Lexemes.{word};
     ghost use Rattle.fir_parse.specs.working.Reads.{left, rest, Reads};
     ghost use Rattle.fir_parse.specs.working.StatementRules.{begun, connect_rest, declared, ends_line, partial_connect_rest, ref_rest};

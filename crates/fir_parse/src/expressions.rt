@@ -10,7 +10,7 @@ use fir_base::Name;
 
 impl<'t> Parser<'t> {
     ghost use Rattle.std.specs.Prelude.{◌≡◌, ◌<◌, ◌≤◌, ◌∷◌, IfErr, IfOk, OnOk, drop};
-    ghost use Rattle.fir_ast.specs.View.{expr_of};
+    ghost use Rattle.fir_ast.specs.working.Views.{expr_of};
     ghost use Rattle.fir_ast.specs.Expressions.{reference, no_parts};
     ghost use Rattle.fir_parse.specs.working.ExpressionRules.{literal_rest, reference_rest};
     ghost use Rattle.fir_parse.specs.Heights.{height};

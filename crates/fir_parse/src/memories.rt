@@ -8,7 +8,7 @@ use fir_ast::{Ident, Memory, MemoryField, Place, ReadUnderWrite, Stmt};
 
 impl<'t> Parser<'t> {
     ghost use Rattle.std.specs.Prelude.{◌<◌, ◌≤◌, ◌∷◌, ◌++◌, OnOk, map};
-    ghost use Rattle.fir_ast.specs.View.{memory_part_of, named_of, stmt_of};
+    ghost use Rattle.fir_ast.specs.working.Views.{memory_part_of, named_of, stmt_of};
     ghost use Rattle.fir_parse.specs.working.MemoryRules.{names_plan, number_plan};
     ghost use Rattle.fir_parse.specs.working.PartPlans.{data_type_plan, under_write_plan};
     ghost use Rattle.fir_parse.specs.working.Reads.{left, rest, Reads};

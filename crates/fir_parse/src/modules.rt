@@ -25,7 +25,7 @@ pub enum PortOr {
 
 impl<'t> Parser<'t> {
     ghost use Rattle.std.specs.Prelude.{◌≡◌, ◌<◌, ◌≤◌, ◌∷◌, ◌++◌, IfOk, OnOk, drop, map};
-    ghost use Rattle.fir_ast.specs.View.{module_of, named_of};
+    ghost use Rattle.fir_ast.specs.working.Views.{module_of, named_of};
     ghost use Rattle.fir_parse.specs.working.CircuitRules.{behind_port, one_module, port_rest};
     ghost use Rattle.fir_parse.specs.Lexemes.{word};
     ghost use Rattle.fir_parse.specs.working.ModuleTrees.{body_of, port_or_of, HasRoom};

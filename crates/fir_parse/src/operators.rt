@@ -10,7 +10,7 @@ use fir_bits::{Form, PrimOp};
 
 impl<'t> Parser<'t> {
     ghost use Rattle.std.specs.Prelude.{◌<◌, ◌≤◌, IfOk, OnOk};
-    ghost use Rattle.fir_ast.specs.View.{expr_of};
+    ghost use Rattle.fir_ast.specs.working.Views.{expr_of};
     ghost use Rattle.fir_parse.specs.working.ExpressionRules.{by_form, closing_plan, mux_rest, next_integer, next_operand, operator_rest, validif_rest};
     ghost use Rattle.fir_parse.specs.Heights.{height};
     ghost use Rattle.fir_parse.specs.working.Reads.{left, rest, HasHeight, Reads};

@@ -18,7 +18,7 @@ pub enum Index {
 impl<'t> Parser<'t> {
     ghost use Rattle.std.specs.Prelude.{◌≡◌, ◌<◌, ◌≤◌, ◌+◌, ◌∷◌, IfErr, IfOk, OnOk, drop};
     ghost use Rattle.fir_ast.specs.Expressions.{Parts};
-    ghost use Rattle.fir_ast.specs.View.{sink_of};
+    ghost use Rattle.fir_ast.specs.working.Views.{sink_of};
     ghost use Rattle.fir_parse.specs.Heights.{height, height_with};
     ghost use Rattle.fir_parse.specs.Lexemes.{mark};
     ghost use Rattle.fir_parse.specs.working.Reads.{left, rest, HasHeight, Leads, Reads};

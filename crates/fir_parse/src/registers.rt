@@ -15,7 +15,7 @@ pub struct Timing {
 
 impl<'t> Parser<'t> {
     ghost use Rattle.std.specs.Prelude.{◌<◌, ◌≤◌, OnOk, option_map};
-    ghost use Rattle.fir_ast.specs.View.{named_of, reset_of, stmt_of};
+    ghost use Rattle.fir_ast.specs.working.Views.{named_of, reset_of, stmt_of};
     ghost use Rattle.fir_parse.specs.working.PartPlans.{level_reset_plan, reset_behind_plan, reset_part_plan, round_reset_plan, timing_of, timing_plan};
     ghost use Rattle.fir_parse.specs.working.Reads.{left, rest, Reads};
     ghost use Rattle.fir_parse.specs.working.StatementRules.{register_rest, reset_rest};

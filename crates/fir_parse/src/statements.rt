@@ -19,7 +19,7 @@ pub struct Sequence {
 impl Sequence {
     ghost use Rattle.std.specs.Prelude.{◌≡◌, ◌+◌, ◌≤◌, ◌∷◌, ◌++◌, [], ℕ, OnOk, length, map};
     ghost use Rattle.fir_ast.specs.Statements.{Block};
-    ghost use Rattle.fir_ast.specs.View.{block_of, stmt_of};
+    ghost use Rattle.fir_ast.specs.working.Views.{block_of, stmt_of};
     ghost use Rattle.fir_parse.specs.working.States.{State};
     ghost use Rattle.fir_parse.specs.working.StatementRules.{behind_otherwise, behind_statement, closed_before};
     ghost use Rattle.fir_parse.specs.working.StatementTrees.{begun_of, done_of, more_statements, opens_of, otherwise_of, statements_before, Deepens, DeepensElse, IsWithin};
@@ -112,7 +112,7 @@ impl Sequence {
 
 impl<'t> Parser<'t> {
     ghost use Rattle.std.specs.Prelude.{◌≡◌, ◌≢◌, ◌<◌, ◌≤◌, ◌∷◌, [], codes, IfOk, OnOk, drop, map};
-    ghost use Rattle.fir_ast.specs.View.{block_of, stmt_of};
+    ghost use Rattle.fir_ast.specs.working.Views.{block_of, stmt_of};
     ghost use Rattle.fir_parse.specs.Lexemes.{word};
     ghost use Rattle.fir_parse.specs.working.Reads.{left, rest, Leads, Reads};
     ghost use Rattle.fir_parse.specs.working.States.{wants};

@@ -28,7 +28,7 @@ impl Natural {
 
 impl<'t> Parser<'t> {
     ghost use Rattle.std.specs.Prelude.{◌≡◌, ◌<◌, IfOk, OnOk};
-    ghost use Rattle.fir_ast.specs.View.{named_of};
+    ghost use Rattle.fir_ast.specs.working.Views.{named_of};
     ghost use Rattle.fir_parse.specs.working.Reads.{left, rest, Reads};
     ghost use Rattle.fir_parse.specs.working.States.{wants};
     ghost use Rattle.fir_parse.specs.working.Symbols.{a_mark, a_word, a_name, a_field_name, a_natural, a_line_end, an_opening, a_closing};

@@ -32,7 +32,7 @@ pub enum Otherwise {
 
 impl<'t> Parser<'t> {
     ghost use Rattle.std.specs.Prelude.{◌+◌, ◌<◌, ◌≤◌, IfOk, OnOk, codes, map};
-    ghost use Rattle.fir_ast.specs.View.{block_of, expr_of, stmt_of};
+    ghost use Rattle.fir_ast.specs.working.Views.{block_of, expr_of, stmt_of};
     ghost use Rattle.fir_parse.specs.working.PartPlans.{block_behind_plan};
     ghost use Rattle.fir_parse.specs.working.Reads.{left, rest, Reads};
     ghost use Rattle.fir_parse.specs.working.StatementRules.{ref_rest, when_rest};

@@ -4,7 +4,8 @@ use Rattle.std.proofs.lemmas.Bool.{cases_lt}
 use Rattle.fir_pass.specs.Faults.{Fault}
 use Rattle.fir_pass.specs.Groups.{group_of, IsClear}
 use Rattle.fir_pass.specs.Meaning.{Meaning}
-use Rattle.fir_pass.specs.Law.{Keeps, IsFirst, Follows}
+use Rattle.fir_pass.specs.working.Law.{Keeps, Follows}
+use Rattle.fir_pass.specs.Law.{IsFirst}
 
 -- a fault of the first pass is the first of both
 pub first_of_one : (from upto next last : ℕ) (m : Meaning) (f : Fault) → Follows from upto next last → IsFirst from upto m f → IsFirst from last m f

@@ -1,6 +1,6 @@
 -- The groups of faults, in the order in which they are looked for, and which fault of a group is told.
 -- Faults of the text come before all groups. A group lists its faults in the order of the text, or any of them may be told.
-use Rattle.std.specs.Prelude.{◌≡◌, ◌↔◌, ℕ, zero, suc, List, [], ◌∷◌, Option, Some, None}
+use Rattle.std.specs.Prelude.{◌≡◌, ℕ, zero, suc, List, [], ◌∷◌, Option, Some, None}
 use Rattle.fir_base.specs.Lists.{In}
 use Rattle.fir_pass.specs.Faults.{Code, E01, E02, E03, E04, E05, E06, E07, E08, E09, E10, E11, E12, E13, E14, E15, E16, E17, E18, E19, E20, E21, E22, E23, E24, E25, E26, E27, E28, Fault}
 
@@ -52,11 +52,6 @@ any_of Stands = record { shows = Stands; tells = Stands }
 -- no fault of the group stands
 abbrev pub IsClear : Group → Type 0
 IsClear group = (f : Fault) → group.shows f → ⊥
-
--- the groups show and tell the same
-pub record SameGroup (one other : Group) : Type 0 where
-  pub shows : (f : Fault) → one.shows f ↔ other.shows f
-  pub tells : (f : Fault) → one.tells f ↔ other.tells f
 
 -- groups one behind the other, numbered from 0 on
 pub data Groups : Type 1 where

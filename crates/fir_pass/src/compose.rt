@@ -1,7 +1,8 @@
 //! Two passes in a row, and as one.
 
 ghost use Rattle.std.specs.Prelude.{IfOk};
-ghost use Rattle.fir_pass.specs.Law.{Follows, Keeps, IfFault, IsFirst};
+ghost use Rattle.fir_pass.specs.working.Law.{Follows, Keeps, IfFault};
+ghost use Rattle.fir_pass.specs.Law.{IsFirst};
 ghost use Rattle.fir_pass.specs.working.Either.{told_by, HandsBack};
 
 use crate::alternative::Either;

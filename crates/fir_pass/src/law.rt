@@ -3,7 +3,8 @@
 ghost use Rattle.std.specs.Prelude.{ℕ, IfOk};
 ghost use Rattle.fir_pass.specs.Faults.{Fault};
 ghost use Rattle.fir_pass.specs.Meaning.{Meaning};
-ghost use Rattle.fir_pass.specs.Law.{Keeps, IfFault, IsFirst};
+ghost use Rattle.fir_pass.specs.working.Law.{Keeps, IfFault};
+ghost use Rattle.fir_pass.specs.Law.{IsFirst};
 
 use fir_base::Refused;
 use std::alloc::Global;

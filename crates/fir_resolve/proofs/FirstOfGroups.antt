@@ -10,10 +10,11 @@ use Rattle.fir_ast.specs.declared.fault.FirFault.{FirFault}
 use Rattle.fir_ast.specs.Statements.{PlacedName}
 use Rattle.fir_ast.specs.declared.circuit.Circuit.{Circuit}
 use Rattle.fir_ast.specs.Circuits.{CircuitTree}
-use Rattle.fir_ast.specs.View.{circuit_of}
+use Rattle.fir_ast.specs.working.Views.{circuit_of}
 use Rattle.fir_pass.specs.Faults.{Fault as ToldFault, fault_of}
 use Rattle.fir_pass.specs.Groups.{group_of, first_of, IsClear}
-use Rattle.fir_pass.specs.Law.{IsFirst, Keeps}
+use Rattle.fir_pass.specs.Law.{IsFirst}
+use Rattle.fir_pass.specs.working.Law.{Keeps}
 use Rattle.fir_meaning.specs.Components.{Declaration, find, find_name}
 use Rattle.fir_meaning.specs.Mentions.{Mention, declares, uses, instantiates, circuit_mentions, module_names}
 use Rattle.fir_meaning.specs.NameGroups.{second_faults, hidden_faults, missing_faults, mention_faults, faults_in, absent_faults, no_main_faults, IsRecursive, HasNames, name_group}

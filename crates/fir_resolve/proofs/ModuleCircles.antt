@@ -9,7 +9,7 @@ use Rattle.fir_base.proofs.Elements.{all_there, get_in, number_of as place_of}
 use Rattle.fir_base.proofs.Members.{in_map_from}
 use Rattle.fir_ast.specs.declared.circuit.Module.{Module}
 use Rattle.fir_ast.specs.declared.place.Place.{Place}
-use Rattle.fir_ast.specs.View.{module_of}
+use Rattle.fir_ast.specs.working.Views.{module_of}
 use Rattle.fir_ast.specs.Statements.{PlacedName}
 use Rattle.fir_ast.specs.Circuits.{ModuleTree, CircuitTree}
 use Rattle.fir_graph.specs.working.HasTarget.{HasTarget}

@@ -12,7 +12,7 @@ use Rattle.std.proofs.lemmas.List.{map_more, map-append, length-map, length-take
 use Rattle.fir_base.proofs.SameNames.{name_is}
 use Rattle.fir_ast.specs.declared.circuit.Module.{Module}
 use Rattle.fir_ast.specs.Circuits.{ModuleTree}
-use Rattle.fir_ast.specs.View.{module_of, named_of}
+use Rattle.fir_ast.specs.working.Views.{module_of, named_of}
 use Rattle.fir_ast.specs.Statements.{PlacedName}
 use Rattle.fir_pass.specs.Faults.{Fault}
 use Rattle.fir_pass.specs.Groups.{first_of}

@@ -6,7 +6,8 @@ use Rattle.fir_ast.specs.declared.types.Field.{Field}
 use Rattle.fir_ast.specs.declared.statements.Ident.{Ident}
 use Rattle.fir_ast.specs.declared.statements.MemoryField.{MemoryField}
 use Rattle.fir_ast.specs.Statements.{MemoryPart, PlacedName}
-use Rattle.fir_ast.specs.View.{fields_of, memory_part_of, named_of, type_of}
+use Rattle.fir_ast.specs.View.{fields_of, type_of}
+use Rattle.fir_ast.specs.working.Views.{memory_part_of, named_of}
 use Rattle.fir_ast.specs.working.BundleText.{field_of}
 use Rattle.fir_ast.proofs.Fields.{field_of-is}
 use Rattle.fir_pass.specs.Faults.{Fault}

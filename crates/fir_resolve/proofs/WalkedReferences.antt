@@ -9,7 +9,7 @@ use Rattle.fir_ast.specs.declared.expressions.Reference.{Reference, fold_out-Ref
 use Rattle.fir_ast.specs.declared.fault.FirFault.{FirFault}
 use Rattle.fir_ast.specs.Expressions.{Expression, Parts, no_parts}
 use Rattle.fir_ast.specs.Statements.{Sink}
-use Rattle.fir_ast.specs.View.{parts_of, sink_of, expr_step, part_step, reference_step}
+use Rattle.fir_ast.specs.working.Views.{parts_of, sink_of, expr_step, part_step, reference_step}
 use Rattle.fir_pass.specs.Faults.{Fault, fault_of}
 use Rattle.fir_pass.specs.Groups.{first_of}
 use Rattle.fir_meaning.specs.Components.{Declarations}

@@ -2,7 +2,7 @@
 //! declared before it: that of a reference where it begins, and a 0 behind the operands of each other form.
 
 ghost use Rattle.std.specs.Prelude.{◌≡◌, IfOk, map, option_map};
-ghost use Rattle.fir_ast.specs.View.{expr_of, expressions_of, sink_of};
+ghost use Rattle.fir_ast.specs.working.Views.{expr_of, expressions_of, sink_of};
 ghost use Rattle.fir_pass.specs.Faults.{fault_of};
 ghost use Rattle.fir_pass.specs.Groups.{first_of};
 ghost use Rattle.fir_meaning.specs.Components.{Declarations};

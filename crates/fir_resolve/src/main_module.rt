@@ -1,7 +1,7 @@
 //! The main module, which has the circuit's name (E10).
 
 ghost use Rattle.std.specs.Prelude.{◌≡◌, IfOk, option_map};
-ghost use Rattle.fir_ast.specs.View.{circuit_of};
+ghost use Rattle.fir_ast.specs.working.Views.{circuit_of};
 ghost use Rattle.fir_pass.specs.Faults.{fault_of};
 ghost use Rattle.fir_pass.specs.Groups.{first_of};
 ghost use Rattle.fir_meaning.specs.Mentions.{module_names};

@@ -2,7 +2,7 @@
 
 ghost use Rattle.std.specs.Prelude.{◌≡◌, List, IfOk, map};
 ghost use Rattle.fir_ast.specs.Statements.{PlacedName};
-ghost use Rattle.fir_ast.specs.View.{module_of, port_of};
+ghost use Rattle.fir_ast.specs.working.Views.{module_of, port_of};
 ghost use Rattle.fir_meaning.specs.Visibility.{Before, at_head, behind_block, behind_ports};
 ghost use Rattle.fir_meaning.specs.Mentions.{module_mentions, ports_mentions};
 ghost use Rattle.fir_names.specs.working.Numbered.{HasNumbers};

@@ -2,7 +2,7 @@
 
 ghost use Rattle.std.specs.Prelude.{◌≡◌, List, map};
 ghost use Rattle.fir_ast.specs.Statements.{PlacedName};
-ghost use Rattle.fir_ast.specs.View.{module_of};
+ghost use Rattle.fir_ast.specs.working.Views.{module_of};
 ghost use Rattle.fir_names.specs.working.Numbered.{HasNumbers};
 ghost use Rattle.fir_names.specs.working.Judged.{JudgesModules};
 

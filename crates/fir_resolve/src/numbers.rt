@@ -1,7 +1,7 @@
 //! The numbers of a circuit's modules, by name.
 
 ghost use Rattle.std.specs.Prelude.{IfOk, map};
-ghost use Rattle.fir_ast.specs.View.{module_of};
+ghost use Rattle.fir_ast.specs.working.Views.{module_of};
 ghost use Rattle.fir_names.specs.working.Numbered.{HasNumbers, names_of};
 
 use fir_ast::Module;

@@ -17,7 +17,7 @@ pub struct Parsed {
 }
 
 impl Meant for Parsed {
-    ghost use Rattle.fir_ast.specs.View.{circuit_of};
+    ghost use Rattle.fir_ast.specs.working.Views.{circuit_of};
     ghost use Rattle.fir_meaning.specs.SourceMeaning.{circuit_meaning};
 
     ghost meaning = { λ p. circuit_meaning (circuit_of p.circuit) };

@@ -3,7 +3,7 @@
 
 ghost use Rattle.std.specs.Prelude.{◌≡◌, ◌<◌, IfOk, Some, length, map, slice_get, slice_index, slice_index_or};
 ghost use Rattle.std.specs.List.{AllByRecursion};
-ghost use Rattle.fir_ast.specs.View.{circuit_of, module_of};
+ghost use Rattle.fir_ast.specs.working.Views.{circuit_of, module_of};
 ghost use Rattle.fir_graph.specs.working.IsCircle.{IsCircle};
 ghost use Rattle.fir_pass.specs.Faults.{fault_of};
 ghost use Rattle.fir_pass.specs.Groups.{IsClear};

@@ -6,7 +6,8 @@ use Rattle.std.proofs.lemmas.List.{length-map}
 use Rattle.fir_ast.specs.Circuits.{CircuitTree}
 use Rattle.fir_net_names.specs.Names.{is_free, suffixed, IsFirstFree, AreNamed}
 use Rattle.trace_text.specs.declared.shape.StateWord.{StateWord}
-use Rattle.trace_text.specs.Shapes.{TraceShape, WordKind, plain, shape_of, word_kinds}
+use Rattle.trace_text.specs.Shapes.{TraceShape, WordKind, plain, word_kinds}
+use Rattle.trace_text.specs.working.Shapes.{shape_of}
 use Rattle.fir_meaning.specs.SourceDesigns.{SourceDesign}
 use Rattle.fir_outcome.specs.Traces.{IsShapeFor, IsTraceShape}
 

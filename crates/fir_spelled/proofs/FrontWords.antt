@@ -6,7 +6,8 @@ use Rattle.std.specs.List.{list_all}
 use Rattle.std.proofs.lemmas.List.Sums.{take_while-cons}
 use Rattle.ver_words.specs.Names.{is_word}
 use Rattle.fir_lex.specs.working.Bytes.{starts_with_byte, is_blank}
-use Rattle.fir_base.specs.Bytes.{is_digit, starts_with_digit, is_word_start, is_word_byte}
+use Rattle.fir_base.specs.Bytes.{is_digit, is_word_start, is_word_byte}
+use Rattle.fir_base.specs.working.Bytes.{starts_with_digit}
 use Rattle.fir_base.specs.Digits.{decimal_value}
 use Rattle.fir_lex.specs.working.Front.{Front, found, dash_word_at, dash_or_word, integer_front, closed_string, string_front, string_length, information_front, information_length, annotations_front, block_length, in_brackets, is_single, front}
 use Rattle.fir_parse.specs.Lexemes.{Lexeme, integer, sign_lexeme, lexeme_of}

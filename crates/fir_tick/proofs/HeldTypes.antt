@@ -9,8 +9,9 @@ use Rattle.fir_base.proofs.Elements.{there, all_there}
 use Rattle.fir_bits.specs.Values.{IsBitVector}
 use Rattle.fir_bits.specs.working.Laws.{HasItsType}
 use Rattle.fir_bits.specs.Forms.{no_type}
-use Rattle.fir_bits.specs.Types.{typed}
-use Rattle.fir_bits.specs.Operators.{type_of, applied, outcome}
+use Rattle.fir_bits.specs.working.Types.{typed}
+use Rattle.fir_bits.specs.working.Operators.{type_of}
+use Rattle.fir_bits.specs.Operators.{applied, outcome}
 use Rattle.fir_bits.specs.declared.types.NumTy.{NumTy}
 use Rattle.fir_bits.specs.declared.values.Num.{Num}
 use Rattle.fir_net.specs.declared.reads.Read.{Read}

@@ -14,7 +14,8 @@ use Rattle.fir_net.specs.declared.leaf.Role.TheVariants as role
 use Rattle.fir_net.specs.declared.leaf.Leaf.{Leaf}
 use Rattle.fir_net.specs.declared.node.Node.{Node}
 use Rattle.fir_net.specs.declared.net.FlatNet.{FlatNet}
-use Rattle.fir_net.specs.Rows.{Word, role_word, word}
+use Rattle.fir_net.specs.Rows.{Word, word}
+use Rattle.fir_net.specs.working.Rows.{role_word}
 use Rattle.fir_net_names.specs.declared.name_table.NameTable.{NameTable}
 use Rattle.fir_net.specs.working.Settled.{shape as net_shape}
 use Rattle.fir_net.specs.working.IsNet.{IsLeaf, IsNet}
@@ -22,7 +23,8 @@ use Rattle.fir_net.specs.Paths.{base_name}
 use Rattle.fir_net_names.specs.working.IsTable.{IsTable}
 use Rattle.fir_net_names.specs.working.LeafNamed.{with_some, somes, is_wire, has_name, IsLeafName, AreLeafNames}
 use Rattle.trace_text.specs.declared.shape.StateWord.{StateWord}
-use Rattle.trace_text.specs.Shapes.{TraceShape, shape_of, plain, size_of, state_widths, WordKind, word_kinds, IsWidth, IsStateWord, AreRegistersFirst, array_size, IsShape}
+use Rattle.trace_text.specs.Shapes.{TraceShape, plain, size_of, state_widths, WordKind, word_kinds}
+use Rattle.trace_text.specs.working.Shapes.{shape_of, IsWidth, IsStateWord, AreRegistersFirst, array_size, IsShape}
 use Rattle.fir_tick.specs.working.Shapes.{IsShapeOf}
 use Rattle.fir_tick.specs.working.StateWords.{input_width, input_widths, is_clock, state_word, state_words}
 use Rattle.fir_tick.proofs.ShapeNames.{names_of, ports_before, distinct_back}

@@ -4,7 +4,7 @@ use Rattle.std.specs.Prelude.{Option, is_some, option_to_list}
 use Rattle.std.proofs.lemmas.List.{drop_all}
 use Rattle.fir_ast.specs.declared.statements.MemoryField.{MemoryField}
 use Rattle.fir_ast.specs.Statements.{MemoryPart}
-use Rattle.fir_ast.specs.View.{memory_part_of}
+use Rattle.fir_ast.specs.working.Views.{memory_part_of}
 use Rattle.fir_names.proofs.FirstMentions.{views_left}
 
 pub record Left {A : Type 0} (give : MemoryPart → List A) (so_far : List A) (fields : List MemoryField) (i : ℕ) : Type 0 where

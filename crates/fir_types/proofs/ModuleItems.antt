@@ -2,7 +2,7 @@
 use Rattle.std.proofs.Common.{◌≡◌, ℕ, zero, suc, ◌+◌, ◌<◌, List, [], ◌∷◌, map, length, slice_get, Some, sym, ap, ◌∙◌, get_or, arith}
 use Rattle.fir_ast.specs.declared.circuit.Circuit.{Circuit}
 use Rattle.fir_ast.specs.declared.circuit.Module.{Module}
-use Rattle.fir_ast.specs.View.{circuit_of, module_of}
+use Rattle.fir_ast.specs.working.Views.{circuit_of, module_of}
 
 module_at : (xs : List Module) (i : ℕ) (x : Module) → i < length xs → x ≡ get_or xs i x → slice_get (map module_of xs) i ≡ Some (module_of x)
 module_at [] i x within at = absurd (omega arith)

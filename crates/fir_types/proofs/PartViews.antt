@@ -12,7 +12,7 @@ use Rattle.fir_ast.specs.declared.expressions.Part.{Part, fold-roll-Part, fold_o
 use Rattle.fir_ast.specs.declared.expressions.Part.TheVariants as part
 use Rattle.fir_ast.specs.Expressions.{Expression, literal, reference, Parts, no_parts, subfield, subindex, subaccess}
 use Rattle.fir_ast.specs.Statements.{Sink}
-use Rattle.fir_ast.specs.View.{expr_of, parts_of, sink_of, expr_step, part_step, reference_step}
+use Rattle.fir_ast.specs.working.Views.{expr_of, parts_of, sink_of, expr_step, part_step, reference_step}
 use Rattle.fir_names.specs.working.Parts.{part_of}
 use Rattle.fir_types.specs.working.Seen.{steps_of}
 

@@ -7,7 +7,7 @@ use Rattle.fir_ast.specs.declared.statements.Stmt.TheVariants as code
 use Rattle.fir_ast.specs.declared.statements.Stmt.TheOpen as layer
 use Rattle.fir_ast.specs.declared.statements.When.{When}
 use Rattle.fir_ast.specs.Statements.{Statement, instance}
-use Rattle.fir_ast.specs.View.{named_of, stmt_of, stmt_step, when_step}
+use Rattle.fir_ast.specs.working.Views.{named_of, stmt_of, stmt_step, when_step}
 use Rattle.fir_names.specs.working.Parts.{when_view}
 
 pub instance_view : (p : Place) (i m : Ident) → stmt_of (code.Inst p i m) ≡ instance p (named_of i) (named_of m)

@@ -1,7 +1,7 @@
 //! Where an expression stands.
 
 ghost use Rattle.std.specs.Prelude.{◌≡◌};
-ghost use Rattle.fir_ast.specs.View.{expr_of};
+ghost use Rattle.fir_ast.specs.working.Views.{expr_of};
 ghost use Rattle.fir_meaning.specs.ExpressionPlaces.{place_of};
 
 use fir_ast::{Expr, Place};

@@ -1,7 +1,8 @@
 //! A circuit with its types.
 
 ghost use Rattle.std.specs.Prelude.{◌≡◌, [], IfOk, IfSome, is_some, option_map};
-ghost use Rattle.fir_ast.specs.View.{circuit_of, type_of};
+ghost use Rattle.fir_ast.specs.working.Views.{circuit_of};
+ghost use Rattle.fir_ast.specs.View.{type_of};
 ghost use Rattle.fir_meaning.specs.TypeGroup.{type_faults};
 ghost use Rattle.fir_type_table.specs.working.Saturated.{saturated};
 ghost use Rattle.fir_types.specs.working.LeafNumbers.{first_named};
@@ -43,7 +44,7 @@ impl Model for Typed {
 
     ghost coded = { contract.the_row.coded };
 
-    ghost use Rattle.fir_ast.specs.View.{circuit_of};
+    ghost use Rattle.fir_ast.specs.working.Views.{circuit_of};
     ghost use Rattle.fir_types.specs.working.TypedModules.{IsTyped};
 
     ghost view = { λ t. t.named };
@@ -52,7 +53,7 @@ impl Model for Typed {
 }
 
 impl Meant for Typed {
-    ghost use Rattle.fir_ast.specs.View.{circuit_of};
+    ghost use Rattle.fir_ast.specs.working.Views.{circuit_of};
     ghost use Rattle.fir_meaning.specs.SourceMeaning.{circuit_meaning};
 
     ghost meaning = { λ t. circuit_meaning (circuit_of t) };

@@ -2,9 +2,9 @@
 use Rattle.std.proofs.Common.{◌≡◌, ℕ, ◌≤◌, Result, Ok, Err, IfOk, ap, subst, arith}
 use Rattle.fir_ast.specs.declared.circuit.Circuit.{Circuit}
 use Rattle.fir_ast.specs.Circuits.{CircuitTree}
-use Rattle.fir_ast.specs.View.{circuit_of}
+use Rattle.fir_ast.specs.working.Views.{circuit_of}
 use Rattle.fir_pass.specs.Groups.{IsClear}
-use Rattle.fir_pass.specs.Law.{Keeps}
+use Rattle.fir_pass.specs.working.Law.{Keeps}
 use Rattle.fir_meaning.specs.SourceMeaning.{circuit_meaning}
 use Rattle.fir_meaning.specs.UndrivenGroup.{undriven_group}
 use Rattle.fir_meaning.proofs.KeptTrees.{keeps_tree}

@@ -1,10 +1,11 @@
 //! From a circuit over its leaves to the nets of its modules.
 
 ghost use Rattle.std.specs.Prelude.{◌≡◌, IfOk};
-ghost use Rattle.fir_ast.specs.View.{circuit_of};
+ghost use Rattle.fir_ast.specs.working.Views.{circuit_of};
 ghost use Rattle.fir_pass.specs.Faults.{fault_of};
 ghost use Rattle.fir_pass.specs.Groups.{IsClear};
-ghost use Rattle.fir_pass.specs.Law.{IfFault, IsFirst};
+ghost use Rattle.fir_pass.specs.working.Law.{IfFault};
+ghost use Rattle.fir_pass.specs.Law.{IsFirst};
 ghost use Rattle.fir_meaning.specs.SourceMeaning.{circuit_meaning};
 ghost use Rattle.fir_meaning.specs.UndrivenGroup.{undriven_group};
 ghost use Rattle.fir_whens.specs.working.ModuleFaults.{AreAllDriven};

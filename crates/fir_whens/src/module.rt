@@ -1,7 +1,7 @@
 //! The first leaf of a module that some choice leaves undriven.
 
 ghost use Rattle.std.specs.Prelude.{◌≡◌, IfOk};
-ghost use Rattle.fir_ast.specs.View.{circuit_of};
+ghost use Rattle.fir_ast.specs.working.Views.{circuit_of};
 ghost use Rattle.fir_whens.specs.working.CoveredModules.{IsFirstNotCovered, depths_of, is_sink_role};
 ghost use Rattle.fir_whens.specs.working.ModuleFaults.{IsFoundOf};
 

@@ -1,7 +1,7 @@
 //! A circuit with a net for each of its modules.
 
 ghost use Rattle.std.specs.Prelude.{◌≡◌};
-ghost use Rattle.fir_ast.specs.View.{circuit_of};
+ghost use Rattle.fir_ast.specs.working.Views.{circuit_of};
 ghost use Rattle.fir_pass.specs.Groups.{IsClear};
 ghost use Rattle.fir_meaning.specs.UndrivenGroup.{undriven_group};
 ghost use Rattle.fir_whens.specs.working.ModuleFaults.{AreAllDriven};
@@ -35,7 +35,7 @@ impl Model for NetCircuit {
 
     ghost coded = { contract.the_row.coded };
 
-    ghost use Rattle.fir_ast.specs.View.{circuit_of};
+    ghost use Rattle.fir_ast.specs.working.Views.{circuit_of};
     ghost use Rattle.fir_pass.specs.Groups.{IsClear};
     ghost use Rattle.fir_meaning.specs.UndrivenGroup.{undriven_group};
     ghost use Rattle.fir_whens.specs.working.ModuleFaults.{AreAllDriven};

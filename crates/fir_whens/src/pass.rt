@@ -12,7 +12,7 @@ use fir_pass::{Meant, Pass};
 use std::alloc::Global;
 
 impl Meant for NetCircuit {
-    ghost use Rattle.fir_ast.specs.View.{circuit_of};
+    ghost use Rattle.fir_ast.specs.working.Views.{circuit_of};
     ghost use Rattle.fir_meaning.specs.SourceMeaning.{circuit_meaning};
 
     ghost meaning = { λ n. circuit_meaning (circuit_of n) };

@@ -1,6 +1,6 @@
 //! The modules of a circuit over its ground leaves have types.
 
-ghost use Rattle.fir_ast.specs.View.{circuit_of};
+ghost use Rattle.fir_ast.specs.working.Views.{circuit_of};
 ghost use Rattle.fir_whens.specs.working.ModuleNets.{AreAllTyped};
 
 use fir_leaf_circuit::LeafCircuit;

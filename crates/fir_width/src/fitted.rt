@@ -1,7 +1,7 @@
 //! A circuit with its widths.
 
 ghost use Rattle.std.specs.Prelude.{◌≡◌, Some, IfOk, slice_get};
-ghost use Rattle.fir_ast.specs.View.{circuit_of};
+ghost use Rattle.fir_ast.specs.working.Views.{circuit_of};
 ghost use Rattle.fir_meaning.specs.WidthExpressions.{Width, Widths as Assignment, width_of};
 ghost use Rattle.fir_meaning.specs.WidthRules.{AreWidths};
 ghost use Rattle.fir_width.specs.working.DeclaredWidths.{leaf_widths};
@@ -44,7 +44,7 @@ impl Model for Fitted {
 
     ghost coded = { contract.the_row.coded };
 
-    ghost use Rattle.fir_ast.specs.View.{circuit_of};
+    ghost use Rattle.fir_ast.specs.working.Views.{circuit_of};
     ghost use Rattle.fir_reset.specs.working.Inferred.{AreInferred};
     ghost use Rattle.fir_width.specs.working.Fitting.{HasWidths};
 
@@ -54,7 +54,7 @@ impl Model for Fitted {
 }
 
 impl Meant for Fitted {
-    ghost use Rattle.fir_ast.specs.View.{circuit_of};
+    ghost use Rattle.fir_ast.specs.working.Views.{circuit_of};
     ghost use Rattle.fir_meaning.specs.SourceMeaning.{circuit_meaning};
 
     ghost meaning = { λ f. circuit_meaning (circuit_of f) };

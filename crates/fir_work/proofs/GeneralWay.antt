@@ -6,8 +6,9 @@ use Rattle.std.proofs.lemmas.Result.{IfOk-at_ok}
 use Rattle.std.proofs.lemmas.List.Elements.{All-from_recursion}
 use Rattle.fir_base.proofs.Elements.{all_there}
 use Rattle.fir_bits.specs.Values.{IsBitVector}
-use Rattle.fir_bits.specs.Types.{typed}
-use Rattle.fir_bits.specs.Operators.{applied, outcome, type_of}
+use Rattle.fir_bits.specs.working.Types.{typed}
+use Rattle.fir_bits.specs.Operators.{applied, outcome}
+use Rattle.fir_bits.specs.working.Operators.{type_of}
 use Rattle.fir_bits.specs.declared.types.NumTy.{NumTy}
 use Rattle.fir_bits.specs.declared.values.Num.{Num}
 use Rattle.fir_bits.proofs.Typing.{typed-outcome}

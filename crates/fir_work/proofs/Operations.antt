@@ -5,7 +5,8 @@ use Rattle.std.specs.List.{AllByRecursion}
 use Rattle.std.proofs.lemmas.Bool.{leb-true, eqb-true}
 use Rattle.fir_bits.specs.Forms.{form_of, has_kinds, takes, first_type, second_type, no_type}
 use Rattle.fir_bits.specs.Widths.{width_of, is_narrow}
-use Rattle.fir_bits.specs.Types.{is_legal, signed_of, typed, typed_at}
+use Rattle.fir_bits.specs.Types.{is_legal, signed_of}
+use Rattle.fir_bits.specs.working.Types.{typed, typed_at}
 use Rattle.fir_bits.specs.Operators.{no_operand, operation_value, outcome}
 use Rattle.fir_bits.specs.declared.operators.PrimOp.{PrimOp}
 use Rattle.fir_bits.specs.declared.operators.Form.{Form}

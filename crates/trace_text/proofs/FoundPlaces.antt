@@ -8,7 +8,8 @@ use Rattle.std.proofs.lemmas.List.{length-replicate}
 use Rattle.std.proofs.lemmas.List.Sums.{sum_by-cons}
 use Rattle.trace_text.specs.declared.shape.StateWord.{StateWord}
 use Rattle.trace_text.specs.declared.shape.FoundWord.{FoundWord}
-use Rattle.trace_text.specs.Shapes.{IsStateWord, size_of, array_size, state_widths, found_from}
+use Rattle.trace_text.specs.working.Shapes.{IsStateWord, array_size}
+use Rattle.trace_text.specs.Shapes.{size_of, state_widths, found_from}
 use Rattle.fir_base.proofs.Tests.{chosen}
 
 abbrev here : ℕ → StateWord → FoundWord

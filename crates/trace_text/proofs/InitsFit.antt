@@ -9,7 +9,8 @@ use Rattle.fir_base.specs.Ticks.{FitEach}
 use Rattle.trace_text.specs.declared.shape.StateWord.{StateWord}
 use Rattle.trace_text.specs.declared.shape.FoundWord.{FoundWord}
 use Rattle.trace_text.specs.Spelling.{decimal_of}
-use Rattle.trace_text.specs.Shapes.{TraceShape, IsShape, size_of, state_widths, found_from, found}
+use Rattle.trace_text.specs.Shapes.{TraceShape, size_of, state_widths, found_from, found}
+use Rattle.trace_text.specs.working.Shapes.{IsShape}
 use Rattle.trace_text.specs.SpelledLines.{IsInitLine}
 use Rattle.trace_text.specs.TraceSpells.{AreInits, zeros}
 use Rattle.fir_base.proofs.Tests.{chosen}

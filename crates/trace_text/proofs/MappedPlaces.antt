@@ -14,7 +14,8 @@ use Rattle.std.proofs.lemmas.List.Sums.{sum_by-cons, sum_by_push, sum_by_more_le
 use Rattle.fir_base.specs.Lists.{In, Distinct}
 use Rattle.trace_text.specs.declared.shape.StateWord.{StateWord}
 use Rattle.trace_text.specs.declared.shape.FoundWord.{FoundWord}
-use Rattle.trace_text.specs.Shapes.{found_from, size_of, array_size}
+use Rattle.trace_text.specs.Shapes.{found_from, size_of}
+use Rattle.trace_text.specs.working.Shapes.{array_size}
 use Rattle.trace_text.specs.working.Places.{HasPlaces}
 use Rattle.fir_base.proofs.Twins.{apart, distinct_more}
 use Rattle.trace_text.proofs.FoundPlaces.{one_or_array}

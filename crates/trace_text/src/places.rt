@@ -2,7 +2,7 @@
 
 ghost use Rattle.std.specs.Prelude.{◌≡◌, ◌≤◌, IfOk, IfSome, Ok, None, map, sum_by};
 ghost use Rattle.fir_base.specs.Lists.{Distinct};
-ghost use Rattle.trace_text.specs.Shapes.{array_size, word_limit};
+ghost use Rattle.trace_text.specs.working.Shapes.{array_size, word_limit};
 ghost use Rattle.trace_text.specs.working.Places.{HasPlaces};
 
 use crate::shape::{FoundWord, StateWord};

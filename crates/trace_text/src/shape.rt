@@ -1,7 +1,8 @@
 //! The shape of a trace: which inputs and clocks a tick has, and which words the state.
 
 ghost use Rattle.std.specs.Prelude.{◌≡◌, ◌^◌, ◌<◌, IfOk, IfSome, Ok, None, length};
-ghost use Rattle.trace_text.specs.Shapes.{found, IsShape, shape_of, state_widths};
+ghost use Rattle.trace_text.specs.Shapes.{found, state_widths};
+ghost use Rattle.trace_text.specs.working.Shapes.{IsShape, shape_of};
 ghost use Rattle.trace_text.specs.working.TickWords.{AreWidths};
 
 use crate::places::places_of;
@@ -41,7 +42,8 @@ pub struct Shape {
 }
 
 impl Model for Shape {
-    ghost use Rattle.trace_text.specs.Shapes.{TraceShape, IsShape, shape_of};
+    ghost use Rattle.trace_text.specs.Shapes.{TraceShape};
+    ghost use Rattle.trace_text.specs.working.Shapes.{IsShape, shape_of};
     ghost use Rattle.trace_text.specs.working.Places.{HasPlaces};
 
     ghost Value = { TraceShape };

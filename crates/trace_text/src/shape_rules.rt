@@ -2,7 +2,8 @@
 
 ghost use Rattle.std.specs.Prelude.{◌≡◌, ◌≤◌, ◌↔◌, IsTrue, sum_by};
 ghost use Rattle.std.specs.List.{AllByRecursion};
-ghost use Rattle.trace_text.specs.Shapes.{IsWidth, IsStateWord, AreRegistersFirst, array_size, size_of, word_limit};
+ghost use Rattle.trace_text.specs.working.Shapes.{IsWidth, IsStateWord, AreRegistersFirst, array_size, word_limit};
+ghost use Rattle.trace_text.specs.Shapes.{size_of};
 
 use crate::shape::StateWord;
 use crate::spelling::is_word;

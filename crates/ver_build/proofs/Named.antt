@@ -21,7 +21,8 @@ use Rattle.ver_ast.specs.declared.tree.Item.TheVariants as item
 use Rattle.ver_ast.specs.Nets.{Sized, names_of, widths_of, port_nets, regs, wires}
 use Rattle.ver_ast.specs.Spells.{HasItemNames, HasNames, atom_names, rhs_names}
 use Rattle.ver_ast.specs.Valid.{IsBlock}
-use Rattle.fir_net.specs.Rows.{array_names, net_arrays, net_rows, net_words, row_names, word_names}
+use Rattle.fir_net.specs.Rows.{array_names, row_names, word_names}
+use Rattle.fir_net.specs.working.Rows.{net_arrays, net_rows, net_words}
 use Rattle.ver_build.specs.declared.places.Places.{Places}
 use Rattle.ver_build.specs.working.Places.{inner_names}
 use Rattle.ver_build.specs.working.Built.{inners}

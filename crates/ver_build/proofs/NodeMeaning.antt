@@ -6,9 +6,10 @@ use Rattle.std.specs.List.{AllByRecursion}
 use Rattle.fir_base.proofs.Each.{each_more}
 use Rattle.fir_base.specs.Ticks.{Env}
 use Rattle.fir_bits.specs.Forms.{form_of}
-use Rattle.fir_bits.specs.Types.{typed}
+use Rattle.fir_bits.specs.working.Types.{typed}
 use Rattle.fir_bits.specs.Widths.{width_of}
-use Rattle.fir_bits.specs.Operators.{type_of, operation_value, first_operand, second_operand, applied}
+use Rattle.fir_bits.specs.working.Operators.{type_of}
+use Rattle.fir_bits.specs.Operators.{operation_value, first_operand, second_operand, applied}
 use Rattle.fir_bits.specs.declared.operators.PrimOp.{PrimOp}
 use Rattle.fir_bits.specs.declared.operators.PrimOp.TheVariants as op
 use Rattle.fir_bits.specs.declared.types.NumTy.{NumTy}

@@ -8,8 +8,9 @@ use Rattle.fir_base.specs.Lists.{In}
 use Rattle.fir_base.specs.Ticks.{Env, Tick}
 use Rattle.fir_base.proofs.Each.{all_from}
 use Rattle.fir_base.proofs.Elements.{there, all_there}
-use Rattle.fir_bits.specs.Types.{typed}
-use Rattle.fir_bits.specs.Operators.{no_operand, type_of}
+use Rattle.fir_bits.specs.working.Types.{typed}
+use Rattle.fir_bits.specs.Operators.{no_operand}
+use Rattle.fir_bits.specs.working.Operators.{type_of}
 use Rattle.fir_bits.specs.declared.types.NumTy.{NumTy}
 use Rattle.fir_bits.specs.declared.values.Num.{Num}
 use Rattle.fir_net.specs.declared.reads.Read.{Read}

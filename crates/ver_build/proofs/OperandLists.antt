@@ -7,8 +7,10 @@ use Rattle.std.proofs.lemmas.Bool.{and_parts, not-true, leb-true}
 use Rattle.fir_base.specs.Ticks.{Env}
 use Rattle.fir_bits.specs.Forms.{form_of, has_kinds, takes, first_type, second_type}
 use Rattle.fir_bits.specs.Widths.{width_of, is_narrow}
-use Rattle.fir_bits.specs.Types.{signed_of, is_legal, typed}
-use Rattle.fir_bits.specs.Operators.{type_of, first_operand, second_operand}
+use Rattle.fir_bits.specs.Types.{signed_of, is_legal}
+use Rattle.fir_bits.specs.working.Types.{typed}
+use Rattle.fir_bits.specs.working.Operators.{type_of}
+use Rattle.fir_bits.specs.Operators.{first_operand, second_operand}
 use Rattle.fir_bits.specs.declared.operators.PrimOp.{PrimOp}
 use Rattle.fir_bits.specs.declared.operators.Form.{Form}
 use Rattle.fir_bits.specs.declared.operators.Form.TheVariants as form

@@ -15,7 +15,8 @@ use Rattle.ver_words.specs.declared.signal.Signal.TheVariants.{Bits}
 use Rattle.ver_ast.specs.declared.tree.Port.{Port}
 use Rattle.ver_ast.specs.Nets.{Sized, widths_of}
 use Rattle.ver_build.specs.working.Built.{leaf_port, port_of}
-use Rattle.fir_net.specs.Rows.{Row, row, Word, word, role_row, role_word, row_names, row_kinds, word_names, word_widths, PortKind}
+use Rattle.fir_net.specs.Rows.{Row, row, Word, word, row_names, row_kinds, word_names, word_widths, PortKind}
+use Rattle.fir_net.specs.working.Rows.{role_row, role_word}
 use Rattle.ver_build.proofs.Names.{NameList, Each, zipped, map_zipped, same_zipped}
 use Rattle.fir_net.specs.declared.net.FlatNet.{FlatNet}
 use Rattle.fir_net.specs.working.IsWritable.{IsWritableRole}

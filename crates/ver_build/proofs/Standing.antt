@@ -6,7 +6,7 @@ use Rattle.std.specs.List.{AllByRecursion}
 use Rattle.fir_base.specs.Lists.{EachIn}
 use Rattle.fir_base.specs.Ticks.{Env}
 use Rattle.fir_bits.specs.Values.{BitVector}
-use Rattle.fir_bits.specs.Operators.{type_of}
+use Rattle.fir_bits.specs.working.Operators.{type_of}
 use Rattle.fir_bits.specs.declared.types.NumTy.{NumTy}
 use Rattle.fir_bits.specs.declared.values.Num.{Num}
 use Rattle.ver_ast.specs.Nets.{Sized, width_in}

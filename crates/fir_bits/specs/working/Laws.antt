@@ -6,9 +6,11 @@ use Rattle.fir_bits.specs.Values.{BitVector, IsBitVector, extended, low_bits}
 use Rattle.fir_bits.specs.Integers.{reading}
 use Rattle.fir_bits.specs.Literals.{holds_number, least_width}
 use Rattle.fir_bits.specs.Widths.{counted_width}
-use Rattle.fir_bits.specs.Types.{typed}
-use Rattle.fir_bits.specs.OperatorWords.{operator_word, operator_of}
-use Rattle.fir_bits.specs.Operators.{type_of, integer_of, applied, outcome}
+use Rattle.fir_bits.specs.working.Types.{typed}
+use Rattle.fir_bits.specs.OperatorWords.{operator_word}
+use Rattle.fir_bits.specs.working.OperatorWords.{operator_of}
+use Rattle.fir_bits.specs.working.Operators.{type_of}
+use Rattle.fir_bits.specs.Operators.{integer_of, applied, outcome}
 use Rattle.fir_bits.specs.declared.operators.PrimOp.{PrimOp}
 use Rattle.fir_bits.specs.declared.operators.PrimOp.TheVariants.{Pad, Cvt, Neg, Cat, Head, Tail, AsUInt, AsSInt}
 use Rattle.fir_bits.specs.declared.values.Num.{Num}

@@ -3,7 +3,7 @@
 use Rattle.std.specs.Prelude.{ℕ, zero, suc, List, [], ◌∷◌, map, flat_map, false, Option, Some, None, Result, Ok, Err}
 use Rattle.fir_bits.specs.Forms.{no_type}
 use Rattle.fir_bits.specs.Literals.{least_width}
-use Rattle.fir_bits.specs.Types.{typed}
+use Rattle.fir_bits.specs.working.Types.{typed}
 use Rattle.fir_bits.specs.declared.operators.PrimOp.{PrimOp}
 use Rattle.fir_bits.specs.declared.operators.PrimOp.TheVariants.{And, Eq, Orr}
 use Rattle.fir_bits.specs.declared.types.NumTy.{NumTy}

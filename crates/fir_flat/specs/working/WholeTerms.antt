@@ -1,7 +1,7 @@
 -- Terms of a net whose parts have the types that they are said to have, and read leaves that hold numbers (FIRRTL spec, "Primitive Operations", "Multiplexers").
 use Rattle.std.specs.Prelude.{◌≡◌, ℕ, ◌<◌, ◌≤◌, List, [], ◌∷◌, Ok}
 use Rattle.std.specs.List.{AllByRecursion}
-use Rattle.fir_bits.specs.Types.{typed}
+use Rattle.fir_bits.specs.working.Types.{typed}
 use Rattle.fir_bits.specs.declared.types.NumTy.{NumTy}
 use Rattle.fir_meaning.specs.LeafModules.{LeafType, number}
 use Rattle.fir_connect.specs.working.LoweredLaws.{types_of}

@@ -2,7 +2,7 @@
 use Rattle.std.specs.Prelude.{◌≡◌, ℕ, List, [], map, Bool, false, Option, Some, None}
 use Rattle.fir_ast.specs.Types.{DataType}
 use Rattle.fir_ast.specs.Statements.{PlacedName, Sink}
-use Rattle.fir_ast.specs.View.{sink_of}
+use Rattle.fir_ast.specs.working.Views.{sink_of}
 use Rattle.fir_ast.specs.Circuits.{CircuitTree}
 use Rattle.fir_types.specs.declared.found.Found.{Found}
 use Rattle.fir_types.specs.declared.note.Pick.{Pick}

@@ -4,7 +4,8 @@ use Rattle.fir_bits.specs.OperatorWords.{operator_word}
 use Rattle.fir_ast.specs.declared.place.Place.{Place}
 use Rattle.fir_ast.specs.Types.{DataType, uint, sint}
 use Rattle.fir_ast.specs.Statements.{PlacedName, Sink}
-use Rattle.fir_ast.specs.View.{named_of, sink_of, type_of}
+use Rattle.fir_ast.specs.working.Views.{named_of, sink_of}
+use Rattle.fir_ast.specs.View.{type_of}
 use Rattle.fir_ast.specs.Circuits.{CircuitTree}
 use Rattle.fir_pass.specs.Faults.{Fault}
 use Rattle.fir_meaning.specs.LeafPaths.{LeafPath, named}

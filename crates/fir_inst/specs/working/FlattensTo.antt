@@ -17,7 +17,7 @@ use Rattle.fir_meaning.specs.SourceDesigns.{SourceDesign}
 use Rattle.fir_meaning.specs.SourceOne.{One}
 use Rattle.fir_meaning.specs.StateWalks.{has_bits}
 use Rattle.fir_net.specs.declared.net.FlatNet.{FlatNet}
-use Rattle.fir_net.specs.Rows.{net_arrays, net_rows, net_words}
+use Rattle.fir_net.specs.working.Rows.{net_arrays, net_rows, net_words}
 use Rattle.fir_net.specs.working.Allows.{Allows as NetAllows}
 use Rattle.fir_net.specs.working.IsNet.{IsNet}
 use Rattle.fir_net.specs.working.IsWritable.{IsWritable}

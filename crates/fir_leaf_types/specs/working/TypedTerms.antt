@@ -1,7 +1,7 @@
 -- The types of terms over leaves (FIRRTL spec, "Expressions", "Primitive Operations", "Multiplexers", "Sub-accesses").
 use Rattle.std.specs.Prelude.{◌≡◌, ℕ, ◌≤◌, max, List, [], ◌∷◌, false, Ok}
 use Rattle.fir_base.specs.Lists.{In}
-use Rattle.fir_bits.specs.Types.{typed}
+use Rattle.fir_bits.specs.working.Types.{typed}
 use Rattle.fir_bits.specs.declared.types.NumTy.{NumTy}
 use Rattle.fir_meaning.specs.Values.{literal_type}
 use Rattle.fir_meaning.specs.TermReads.{reached}

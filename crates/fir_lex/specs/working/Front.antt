@@ -3,7 +3,8 @@ use Rattle.std.specs.Prelude.{ℕ, suc, ◌+◌, ◌-◌, ◌^◌, List, [], ◌
 use Rattle.std.specs.List.{starts_with}
 use Rattle.fir_lex.specs.Tokens.{Token, word, dash_word, integer, text, sign, annotations}
 use Rattle.fir_lex.specs.working.Bytes.{ends_line, starts_with_byte, is_blank}
-use Rattle.fir_base.specs.Bytes.{is_digit, starts_with_digit, is_word_start, is_word_byte}
+use Rattle.fir_base.specs.Bytes.{is_digit, is_word_start, is_word_byte}
+use Rattle.fir_base.specs.working.Bytes.{starts_with_digit}
 use Rattle.fir_base.specs.Digits.{decimal_value}
 
 -- a token and its length; a number of bytes that are no token; a byte in no token, so many bytes on; a literal out of form or range

@@ -1,7 +1,7 @@
 -- Where a value is in a net, and its type.
 use Rattle.std.specs.Prelude.{◌≡◌, ℕ, List, [], ◌∷◌, length, map, slice_index_or}
 use Rattle.fir_bits.specs.Forms.{no_type}
-use Rattle.fir_bits.specs.Types.{typed}
+use Rattle.fir_bits.specs.working.Types.{typed}
 use Rattle.fir_bits.specs.declared.operators.PrimOp.{PrimOp}
 use Rattle.fir_bits.specs.declared.types.NumTy.{NumTy}
 use Rattle.fir_bits.specs.declared.values.Num.{Num}

@@ -6,7 +6,7 @@ use Rattle.fir_ast.specs.declared.statements.When.{When, fold-When}
 use Rattle.fir_ast.specs.Types.{DataType}
 use Rattle.fir_ast.specs.Expressions.{Expression, Parts, no_parts}
 use Rattle.fir_ast.specs.Statements.{PlacedName, Sink, Reset, Statement}
-use Rattle.fir_ast.specs.View.{expr_step, part_step, reference_step, stmt_step, when_step}
+use Rattle.fir_ast.specs.working.Views.{expr_step, part_step, reference_step, stmt_step, when_step}
 use Rattle.fir_meaning.specs.Components as component
 use Rattle.fir_meaning.specs.Visibility.{Before, with_declaration}
 use Rattle.fir_meaning.specs.Mentions.{Mention, declares, names_declared, type_mentions, expression_mentions, reset_mentions}

@@ -7,8 +7,8 @@ use Rattle.std.specs.List.{AllByRecursion}
 use Rattle.ver_words.specs.Names.{is_word}
 use Rattle.fir_bits.specs.Values.{IsBitVector}
 use Rattle.fir_bits.specs.Forms.{no_type}
-use Rattle.fir_bits.specs.Types.{typed}
-use Rattle.fir_bits.specs.Operators.{type_of}
+use Rattle.fir_bits.specs.working.Types.{typed}
+use Rattle.fir_bits.specs.working.Operators.{type_of}
 use Rattle.fir_bits.specs.declared.types.NumTy.{NumTy}
 use Rattle.fir_net.specs.Paths.{base_name}
 use Rattle.fir_net.specs.declared.reads.Read.{Read}

@@ -2,7 +2,8 @@
 -- Each node reads leaves and the nodes before it. A value is a UInt or an SInt, as the type of its leaf or node says.
 use Rattle.std.specs.Prelude.{◌≡◌, ℕ, List, [], ◌∷◌, ◌++◌, map, slice_get, ◌==◌, if◌then◌else◌, unwrap_or, option_map}
 use Rattle.fir_bits.specs.Values.{IsBitVector, fitted}
-use Rattle.fir_bits.specs.Operators.{no_operand, outcome, type_of}
+use Rattle.fir_bits.specs.Operators.{no_operand, outcome}
+use Rattle.fir_bits.specs.working.Operators.{type_of}
 use Rattle.fir_bits.specs.Forms.{no_type}
 use Rattle.fir_bits.specs.declared.types.NumTy.{NumTy}
 use Rattle.fir_bits.specs.declared.values.Num.{Num}

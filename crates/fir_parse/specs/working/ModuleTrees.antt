@@ -1,6 +1,6 @@
 -- What the code's modules under way are, in plain data.
 use Rattle.std.specs.Prelude.{map}
-use Rattle.fir_ast.specs.View.{port_of, stmt_of, block_of}
+use Rattle.fir_ast.specs.working.Views.{port_of, stmt_of, block_of}
 use Rattle.fir_parse.specs.declared.modules.Body.{Body}
 use Rattle.fir_parse.specs.declared.modules.PortOr.{PortOr}
 use Rattle.fir_parse.specs.declared.modules.PortOr.TheVariants as port_or

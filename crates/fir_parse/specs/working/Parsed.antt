@@ -4,7 +4,7 @@ use Rattle.fir_base.specs.declared.refused.Refused.{Refused}
 use Rattle.fir_base.specs.declared.refused.Refused.TheVariants.{Fault, Memory}
 use Rattle.fir_ast.specs.declared.fault.FirFault.{FirFault}
 use Rattle.fir_ast.specs.declared.circuit.Circuit.{Circuit}
-use Rattle.fir_ast.specs.View.{circuit_of}
+use Rattle.fir_ast.specs.working.Views.{circuit_of}
 use Rattle.fir_lex.specs.TokensOf.{place_after}
 use Rattle.fir_lex.specs.working.TokenText.{TokenText}
 use Rattle.fir_ast.specs.declared.fault.FirFault.TheVariants.{Syntax}

@@ -6,7 +6,7 @@ use Rattle.fir_ast.specs.declared.fault.FirFault.TheVariants.{Version}
 use Rattle.fir_ast.specs.Statements.{Block, MemoryPart, Reset, data_type, read_under_write, invalid}
 use Rattle.fir_ast.specs.Circuits.{CircuitTree}
 use Rattle.fir_ast.specs.Expressions.{Expression}
-use Rattle.fir_ast.specs.View.{expr_of, reset_of}
+use Rattle.fir_ast.specs.working.Views.{expr_of, reset_of}
 use Rattle.fir_parse.specs.declared.lexeme.Mark.TheVariants.{Arrow, CloseRound, Colon, Dot}
 use Rattle.fir_parse.specs.declared.registers.Timing.{Timing}
 use Rattle.fir_parse.specs.declared.stop.Stop.{Stop}

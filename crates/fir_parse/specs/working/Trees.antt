@@ -11,7 +11,8 @@ use Rattle.fir_ast.specs.declared.fault.FirFault.TheVariants.{Unsupported, Depth
 use Rattle.fir_ast.specs.Types.{DataType}
 use Rattle.fir_ast.specs.Expressions.{Expression, Parts}
 use Rattle.fir_ast.specs.Statements.{Sink}
-use Rattle.fir_ast.specs.View.{type_of, fields_of, expr_of, sink_of, expr_step, part_step, reference_step}
+use Rattle.fir_ast.specs.View.{type_of, fields_of}
+use Rattle.fir_ast.specs.working.Views.{expr_of, sink_of, expr_step, part_step, reference_step}
 use Rattle.fir_ast.specs.working.BundleText.{field_of}
 use Rattle.fir_parse.specs.declared.parser.Tall.{Tall}
 use Rattle.fir_parse.specs.declared.types.WrittenType.{WrittenType}

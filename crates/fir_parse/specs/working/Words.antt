@@ -4,7 +4,7 @@ use Rattle.std.specs.Str.{bytes_eq}
 use Rattle.fir_base.specs.declared.direction.Direction.{Direction}
 use Rattle.fir_base.specs.declared.direction.Direction.TheVariants as direction
 use Rattle.fir_bits.specs.declared.operators.PrimOp.{PrimOp}
-use Rattle.fir_bits.specs.OperatorWords.{operator_of}
+use Rattle.fir_bits.specs.working.OperatorWords.{operator_of}
 use Rattle.fir_ast.specs.declared.statements.ReadUnderWrite.{ReadUnderWrite}
 use Rattle.fir_ast.specs.declared.statements.ReadUnderWrite.TheVariants as under
 use Rattle.fir_parse.specs.declared.words.Declaration.TheVariants as declares

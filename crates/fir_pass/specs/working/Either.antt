@@ -2,7 +2,7 @@
 use Rattle.std.specs.Prelude.{ℕ}
 use Rattle.fir_pass.specs.Faults.{Fault}
 use Rattle.fir_pass.specs.Meaning.{Meaning}
-use Rattle.fir_pass.specs.Law.{Keeps}
+use Rattle.fir_pass.specs.working.Law.{Keeps}
 use Rattle.fir_pass.specs.declared.alternative.Either.{Either}
 use Rattle.fir_pass.specs.declared.alternative.Either.TheVariants.{One, Two}
 

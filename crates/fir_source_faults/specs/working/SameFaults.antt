@@ -2,7 +2,7 @@
 use Rattle.std.specs.Prelude.{◌≡◌, ◌↔◌, []}
 use Rattle.fir_ast.specs.Circuits.{CircuitTree}
 use Rattle.fir_ast.specs.declared.fault.FirFault.{FirFault}
-use Rattle.fir_pass.specs.Groups.{SameGroup}
+use Rattle.fir_pass.specs.working.Groups.{SameGroup}
 use Rattle.fir_meaning.specs.Designs.{Design}
 use Rattle.fir_meaning.specs.Flattened.{flattened}
 use Rattle.fir_meaning.specs.LoopFaults as numbered

@@ -2,7 +2,7 @@
 -- A tick gives a value for each input and names clocks, and the words of the state are the registers; they have the names of the emitted text.
 use Rattle.std.specs.Prelude.{◌≡◌, ℕ, List, ◌++◌, None, map}
 use Rattle.fir_net.specs.declared.net.FlatNet.{FlatNet}
-use Rattle.fir_net.specs.Rows.{net_words}
+use Rattle.fir_net.specs.working.Rows.{net_words}
 use Rattle.fir_net_names.specs.declared.name_table.NameTable.{NameTable}
 use Rattle.fir_net.specs.working.Settled.{shape}
 use Rattle.fir_net_names.specs.working.IsTable.{IsTable}

@@ -7,7 +7,7 @@ use Rattle.fir_ast.specs.declared.fault.FirFault.{FirFault}
 use Rattle.fir_ast.specs.Circuits.{CircuitTree}
 use Rattle.fir_pass.specs.Faults.{Fault, fault_of}
 use Rattle.fir_pass.specs.Groups.{first_of}
-use Rattle.fir_pass.specs.Law.{IfFaulty}
+use Rattle.fir_pass.specs.working.Law.{IfFaulty}
 use Rattle.fir_meaning.specs.WidthExpressions.{Width, Widths, width_of}
 use Rattle.fir_meaning.specs.WidthRules.{AreWidths}
 use Rattle.fir_meaning.specs.OverFaults.{over_faults}

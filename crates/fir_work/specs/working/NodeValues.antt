@@ -1,8 +1,9 @@
 -- What a node computes from the values that it reads.
 -- An operation computes with the kinds of its operands; a mux extends the value that it takes by its sign.
 use Rattle.std.specs.Prelude.{◌≡◌, ◌≤◌, map, IsOk, Option, Some, None}
-use Rattle.fir_bits.specs.Types.{typed}
-use Rattle.fir_bits.specs.Operators.{no_operand, type_of, outcome}
+use Rattle.fir_bits.specs.working.Types.{typed}
+use Rattle.fir_bits.specs.Operators.{no_operand, outcome}
+use Rattle.fir_bits.specs.working.Operators.{type_of}
 use Rattle.fir_bits.specs.declared.values.Num.{Num}
 use Rattle.fir_net.specs.declared.reads.Read.{Read}
 use Rattle.fir_net.specs.declared.node.Operation.{Operation}

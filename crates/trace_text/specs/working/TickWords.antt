@@ -8,7 +8,8 @@ use Rattle.trace_text.specs.declared.clock_list.ReadClocks.{ReadClocks}
 use Rattle.trace_text.specs.declared.tick_words.ReadValues.{ReadValues}
 use Rattle.trace_text.specs.Lines.{words_of}
 use Rattle.trace_text.specs.Spelling.{hexadecimal_of, clocks_of}
-use Rattle.trace_text.specs.Shapes.{TraceShape, IsWidth}
+use Rattle.trace_text.specs.Shapes.{TraceShape}
+use Rattle.trace_text.specs.working.Shapes.{IsWidth}
 use Rattle.trace_text.specs.LineFaults.{misspelled_values, wide_values, tick_faults}
 use Rattle.trace_text.specs.working.ClockLists.{ReadsClockList}
 use Rattle.trace_text.specs.working.Readings.{first_cause}

@@ -10,7 +10,7 @@ use Rattle.ver_ast.specs.Allows.{VAllows, VOne}
 use Rattle.fir_net.specs.declared.net.FlatNet.{FlatNet}
 use Rattle.fir_net.specs.working.Settled.{shape as net_shape}
 use Rattle.fir_net.specs.working.Allows.{Allows as NetAllows}
-use Rattle.fir_net.specs.Rows.{net_arrays, net_rows, net_words}
+use Rattle.fir_net.specs.working.Rows.{net_arrays, net_rows, net_words}
 use Rattle.ver_build.specs.NamedFor.{IsNamedFor}
 use Rattle.ver_build.specs.Arranged.{IsArranged}
 use Rattle.ver_build.specs.working.DrivenRegisters.{net_registers, AreMarked}

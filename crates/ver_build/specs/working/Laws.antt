@@ -6,7 +6,8 @@ use Rattle.fir_net.specs.working.IsNet.{IsNet}
 use Rattle.fir_net_names.specs.working.IsTable.{IsTable}
 use Rattle.fir_net_names.specs.working.LeafNamed.{somes}
 use Rattle.fir_net_names.specs.Names.{AreNamed}
-use Rattle.fir_net.specs.Rows.{net_rows, net_words, row_names, word_names}
+use Rattle.fir_net.specs.working.Rows.{net_rows, net_words}
+use Rattle.fir_net.specs.Rows.{row_names, word_names}
 
 -- in the table of a whole net the names of leaves are those for its ports and then for the words of its state
 abbrev pub NamesAreForRows : Type 0

@@ -1,6 +1,6 @@
 use Rattle.std.proofs.Common.{◌≡◌, min, arith}
 use Rattle.fir_bits.specs.Widths.{width_of}
-use Rattle.fir_bits.specs.Operators.{type_of}
+use Rattle.fir_bits.specs.working.Operators.{type_of}
 use Rattle.fir_bits.proofs.Below.{number_below}
 use Rattle.fir_bits.proofs.Typing.{typed_at-ok, typed_at-width}
 use Rattle.fir_bits.proofs.values.apply_at.Goals as goal

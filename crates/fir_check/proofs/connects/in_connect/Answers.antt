@@ -1,7 +1,7 @@
 use Rattle.std.proofs.Common.{◌≡◌, Some, subst, sym}
 use Rattle.std.specs.Prelude.{option_map}
 use Rattle.std.proofs.lemmas.Result.{err_from_is_err_and}
-use Rattle.fir_ast.specs.View.{expr_of, sink_of}
+use Rattle.fir_ast.specs.working.Views.{expr_of, sink_of}
 use Rattle.fir_meaning.specs.ConnectFaults.{connect_faults}
 use Rattle.fir_meaning.specs.ExpressionTypes.{expression_type, reached_by, reaching}
 use Rattle.fir_type_table.specs.working.Tables.{types_of}

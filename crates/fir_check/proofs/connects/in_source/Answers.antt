@@ -1,6 +1,6 @@
 use Rattle.std.proofs.Common.{ap, ◌∙◌}
 use Rattle.std.proofs.lemmas.Result.{err_from_is_err_and}
-use Rattle.fir_ast.specs.View.{expr_of, sink_of}
+use Rattle.fir_ast.specs.working.Views.{expr_of, sink_of}
 use Rattle.fir_type_table.specs.working.Tables.{types_of}
 use Rattle.fir_types.specs.working.Seen.{sink_path}
 use Rattle.fir_types.proofs.PartViews.{reference_view}

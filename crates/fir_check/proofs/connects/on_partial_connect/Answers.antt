@@ -1,5 +1,5 @@
 use Rattle.std.proofs.Common.{sym, ◌∙◌, map}
-use Rattle.fir_ast.specs.View.{expr_of, sink_of}
+use Rattle.fir_ast.specs.working.Views.{expr_of, sink_of}
 use Rattle.fir_meaning.specs.ConnectPairs.{partial_pairs}
 use Rattle.fir_type_table.specs.working.Tables.{types_of}
 use Rattle.fir_check.specs.working.Driven.{first_driven, spot_of_pair}

@@ -1,5 +1,5 @@
 use Rattle.std.proofs.Common.{ap, ◌∙◌}
-use Rattle.fir_ast.specs.View.{expr_of, sink_of}
+use Rattle.fir_ast.specs.working.Views.{expr_of, sink_of}
 use Rattle.fir_check.proofs.FlowFaults.{told_on_left, told_on_right}
 use Rattle.fir_types.proofs.PartViews.{reference_view}
 use Rattle.fir_check.proofs.drives.drives_a_source.Goals as goal

@@ -1,6 +1,6 @@
 use Rattle.std.proofs.Common.{◌+◌, ◌++◌, map, drop, sym, ap, ◌∙◌}
 use Rattle.std.proofs.lemmas.List.{drop_all}
-use Rattle.fir_ast.specs.View.{parts_of, sink_of}
+use Rattle.fir_ast.specs.working.Views.{parts_of, sink_of}
 use Rattle.fir_meaning.specs.LeafPaths.{path_text}
 use Rattle.fir_names.specs.working.Parts.{part_of}
 use Rattle.fir_types.specs.working.Seen.{sink_path}

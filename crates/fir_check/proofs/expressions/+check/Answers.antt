@@ -3,7 +3,7 @@ use Rattle.std.specs.Prelude.{option_map}
 use Rattle.std.proofs.lemmas.List.{drop_all}
 use Rattle.std.proofs.lemmas.Result.{err_from_is_err_and}
 use Rattle.fir_ast.specs.Expressions.{subfield, subindex, subaccess, literal}
-use Rattle.fir_ast.specs.View.{expr_of, expressions_of, parts_of, sink_of}
+use Rattle.fir_ast.specs.working.Views.{expr_of, expressions_of, parts_of, sink_of}
 use Rattle.fir_ast.specs.Statements.{Sink}
 use Rattle.fir_ast.proofs.TreeViews.{operation_view, mux_view, sink_name, validif_view}
 use Rattle.fir_meaning.specs.LeafPaths.{named, element}

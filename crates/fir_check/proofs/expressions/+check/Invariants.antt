@@ -1,6 +1,6 @@
 use Rattle.std.proofs.Common.{map, drop}
 use Rattle.std.specs.Prelude.{option_map}
-use Rattle.fir_ast.specs.View.{expr_of, expressions_of, parts_of, sink_of}
+use Rattle.fir_ast.specs.working.Views.{expr_of, expressions_of, parts_of, sink_of}
 use Rattle.fir_meaning.specs.TypedScopes.{TypedScope}
 use Rattle.fir_meaning.specs.ExpressionTypes.{expression_types}
 use Rattle.fir_type_table.specs.working.Tables.{types_of}

@@ -1,6 +1,6 @@
 use Rattle.std.proofs.Common.{map}
 use Rattle.std.proofs.lemmas.Result.{err_from_is_err_and}
-use Rattle.fir_ast.specs.View.{memory_part_of, named_of}
+use Rattle.fir_ast.specs.working.Views.{memory_part_of, named_of}
 use Rattle.fir_check.specs.working.FaultsOfWords.{faults_of_words}
 use Rattle.fir_check.proofs.FaultLists.{in_first, in_second, in_third, in_fourth}
 use Rattle.fir_check.proofs.memory_faults.in_memory_fields.Goals as goal

@@ -1,6 +1,6 @@
 use Rattle.std.proofs.Common.{◌≡◌, List, ◌++◌, Some, map, slice_get, take}
 use Rattle.fir_ast.specs.Types.{DataType, Fields}
-use Rattle.fir_ast.specs.View.{named_of}
+use Rattle.fir_ast.specs.working.Views.{named_of}
 use Rattle.fir_meaning.specs.MemoryTypes.{flipped_fields}
 use Rattle.fir_check.specs.working.MemoryParts.{AreParts}
 use Rattle.fir_check.proofs.memory_type.put_each.Given as goal

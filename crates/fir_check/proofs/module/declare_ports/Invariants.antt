@@ -1,5 +1,5 @@
 use Rattle.std.proofs.Common.{map, take}
-use Rattle.fir_ast.specs.View.{port_of}
+use Rattle.fir_ast.specs.working.Views.{port_of}
 use Rattle.fir_types.specs.working.Walked.{PassesPorts}
 use Rattle.fir_check.proofs.module.declare_ports.Given as goal
 

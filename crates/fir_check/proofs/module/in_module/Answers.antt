@@ -1,6 +1,6 @@
 use Rattle.std.proofs.Common.{map, ap, subst}
 use Rattle.std.proofs.lemmas.Result.{err_from_is_err_and}
-use Rattle.fir_ast.specs.View.{block_of, module_of, port_of, stmt_of}
+use Rattle.fir_ast.specs.working.Views.{block_of, module_of, port_of, stmt_of}
 use Rattle.fir_meaning.specs.Visibility.{at_head, behind_ports, declarations}
 use Rattle.fir_type_table.specs.working.Tables.{types_of}
 use Rattle.fir_types.specs.declared.scope.Scope.{Scope}

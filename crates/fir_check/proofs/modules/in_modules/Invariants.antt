@@ -1,5 +1,5 @@
 use Rattle.std.proofs.Common.{map, take}
-use Rattle.fir_ast.specs.View.{circuit_of, module_of}
+use Rattle.fir_ast.specs.working.Views.{circuit_of, module_of}
 use Rattle.fir_check.proofs.CircuitWalks.{ModulesTyped}
 use Rattle.fir_check.proofs.modules.in_modules.Given as goal
 

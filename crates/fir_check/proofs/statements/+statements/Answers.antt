@@ -1,7 +1,7 @@
 use Rattle.std.proofs.Common.{◌+◌, map, drop, refl, ap, ◌∙◌, arith}
 use Rattle.std.proofs.lemmas.Result.{err_from_is_err_and}
 use Rattle.std.proofs.lemmas.List.{drop_all}
-use Rattle.fir_ast.specs.View.{block_of, expr_of, named_of, sink_of, stmt_of}
+use Rattle.fir_ast.specs.working.Views.{block_of, expr_of, named_of, sink_of, stmt_of}
 use Rattle.fir_type_table.specs.working.Tables.{types_of}
 use Rattle.fir_ast.specs.Statements.{done, then, when, connect, partial_connect, invalid}
 use Rattle.fir_ast.proofs.TreeViews.{connect_view, register_view}

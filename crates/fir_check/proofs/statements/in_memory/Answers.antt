@@ -1,5 +1,5 @@
 use Rattle.std.proofs.Common.{◌++◌, map}
-use Rattle.fir_ast.specs.View.{memory_part_of, named_of}
+use Rattle.fir_ast.specs.working.Views.{memory_part_of, named_of}
 use Rattle.fir_meaning.specs.Components as component
 use Rattle.fir_types.proofs.GrownScopes.{walks_more}
 use Rattle.fir_check.proofs.HeldTypes.{grown_twice}

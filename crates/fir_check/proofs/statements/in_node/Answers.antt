@@ -1,5 +1,5 @@
 use Rattle.std.proofs.lemmas.Result.{err_from_is_err_and}
-use Rattle.fir_ast.specs.View.{expr_of, named_of}
+use Rattle.fir_ast.specs.working.Views.{expr_of, named_of}
 use Rattle.fir_meaning.specs.Components.{node}
 use Rattle.fir_meaning.specs.ExpressionTypes.{expression_type}
 use Rattle.fir_meaning.specs.TypeGroup.{scope_at, flipped_faults}

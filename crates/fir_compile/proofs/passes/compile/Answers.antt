@@ -1,5 +1,5 @@
 use Rattle.std.proofs.Common.{Some, None, subst}
-use Rattle.fir_ast.specs.View.{circuit_of}
+use Rattle.fir_ast.specs.working.Views.{circuit_of}
 use Rattle.fir_meaning.specs.Scenes.{HasScenes}
 use Rattle.fir_lack.specs.working.Lacks.{IsLack}
 use Rattle.fir_outcome.specs.Refusals.{RefusedFor}

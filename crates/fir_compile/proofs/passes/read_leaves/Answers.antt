@@ -1,4 +1,4 @@
-use Rattle.fir_ast.specs.View.{circuit_of}
+use Rattle.fir_ast.specs.working.Views.{circuit_of}
 use Rattle.fir_compile.proofs.CheckedTrees.{costly, within_cost}
 use Rattle.fir_compile.proofs.passes.read_leaves.Goals as goal
 

@@ -1,5 +1,5 @@
 use Rattle.std.proofs.lemmas.Result.{err_from_is_err_and}
-use Rattle.fir_ast.specs.View.{circuit_of}
+use Rattle.fir_ast.specs.working.Views.{circuit_of}
 use Rattle.fir_compile.proofs.ReadTrees.{fault_read, tree_read, without_tokens}
 use Rattle.fir_compile.proofs.passes.read_tree.Goals as goal
 

@@ -1,5 +1,5 @@
 use Rattle.std.proofs.Common.{ap, subst, ◌∙◌}
-use Rattle.fir_ast.specs.View.{circuit_of}
+use Rattle.fir_ast.specs.working.Views.{circuit_of}
 use Rattle.fir_type_table.specs.working.Saturated.{saturated}
 use Rattle.fir_meaning.specs.Costs.{sum_of}
 use Rattle.fir_expand.specs.working.OwnCosts.{AreCostsByNumber}

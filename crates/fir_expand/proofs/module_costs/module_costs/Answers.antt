@@ -1,5 +1,5 @@
 use Rattle.std.proofs.Common.{◌<◌, length, ap, map, slice_index_or, arith}
-use Rattle.fir_ast.specs.View.{circuit_of, module_of}
+use Rattle.fir_ast.specs.working.Views.{circuit_of, module_of}
 use Rattle.fir_expand.proofs.CostsInOrder.{at_place, below, costs_all, module_costed, own_long}
 use Rattle.fir_expand.proofs.module_costs.module_costs.Goals as goal
 

@@ -1,4 +1,4 @@
-use Rattle.fir_ast.specs.View.{circuit_of}
+use Rattle.fir_ast.specs.working.Views.{circuit_of}
 use Rattle.fir_expand.proofs.CostsInOrder.{CostsSoFar}
 use Rattle.fir_expand.proofs.module_costs.module_costs.Given as goal
 

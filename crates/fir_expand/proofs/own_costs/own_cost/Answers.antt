@@ -1,6 +1,6 @@
 use Rattle.std.proofs.Common.{◌≡◌, Vec, Global, Option, map, ap, ◌∙◌, sym}
 use Rattle.fir_ast.specs.Circuits.{ModuleTree}
-use Rattle.fir_ast.specs.View.{block_of, circuit_of, module_of, stmt_of}
+use Rattle.fir_ast.specs.working.Views.{block_of, circuit_of, module_of, stmt_of}
 use Rattle.fir_type_table.specs.working.Saturated.{saturated}
 use Rattle.fir_type_table.specs.working.Tables.{types_of}
 use Rattle.fir_types.specs.declared.found.Found.{Found}

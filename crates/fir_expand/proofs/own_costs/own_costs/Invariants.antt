@@ -1,5 +1,5 @@
 use Rattle.std.proofs.Common.{◌≡◌, map, take}
-use Rattle.fir_ast.specs.View.{circuit_of}
+use Rattle.fir_ast.specs.working.Views.{circuit_of}
 use Rattle.fir_type_table.specs.working.Saturated.{saturated}
 use Rattle.fir_expand.specs.working.OwnCosts.{own_cost}
 use Rattle.fir_expand.proofs.own_costs.own_costs.Given as goal

@@ -1,5 +1,5 @@
 use Rattle.std.proofs.Common.{map}
-use Rattle.fir_ast.specs.View.{block_of, stmt_of}
+use Rattle.fir_ast.specs.working.Views.{block_of, stmt_of}
 use Rattle.fir_expand.specs.working.OwnSums.{plain_cost_of_block}
 use Rattle.fir_expand.proofs.SaturatedSums.{SumSoFar}
 use Rattle.fir_expand.proofs.plain_costs.+statements.Given as goal

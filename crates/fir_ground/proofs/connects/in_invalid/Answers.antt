@@ -1,4 +1,4 @@
-use Rattle.fir_ast.specs.View.{sink_of}
+use Rattle.fir_ast.specs.working.Views.{sink_of}
 use Rattle.fir_leaf_pairs.specs.working.Drives.{sinks_in}
 use Rattle.fir_ground.proofs.Connecting.{invalid_comes}
 use Rattle.fir_ground.proofs.connects.in_invalid.Goals as goal

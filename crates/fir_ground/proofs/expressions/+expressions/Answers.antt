@@ -3,7 +3,7 @@ use Rattle.std.proofs.lemmas.List.{drop_all}
 use Rattle.std.proofs.lemmas.Result.{IfOk-weaker}
 use Rattle.fir_ast.specs.Expressions.{literal, mux, operation, reference, subaccess, validif}
 use Rattle.fir_ast.specs.Statements.{Sink}
-use Rattle.fir_ast.specs.View.{expr_of, expressions_of, parts_of, sink_of}
+use Rattle.fir_ast.specs.working.Views.{expr_of, expressions_of, parts_of, sink_of}
 use Rattle.fir_ast.proofs.TreeViews.{mux_view, operation_view, validif_view}
 use Rattle.fir_meaning.specs.ExpressionPlaces.{place_of}
 use Rattle.fir_meaning.specs.working.WellTyped.{HasType, Leads, Reaches as ReachesThere}

@@ -1,6 +1,6 @@
 use Rattle.std.proofs.Common.{List, ◌++◌, map, drop}
 use Rattle.fir_ast.specs.Types.{DataType}
-use Rattle.fir_ast.specs.View.{expr_of, expressions_of, parts_of, sink_of}
+use Rattle.fir_ast.specs.working.Views.{expr_of, expressions_of, parts_of, sink_of}
 use Rattle.fir_meaning.specs.Reaching.{Reached}
 use Rattle.fir_meaning.specs.TypedScopes.{TypedScope}
 use Rattle.fir_meaning.specs.working.WellTyped.{HaveTypes, Reaches}

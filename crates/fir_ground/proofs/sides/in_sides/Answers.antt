@@ -1,5 +1,5 @@
 use Rattle.std.proofs.Common.{◌≡◌, ◌++◌, append_assoc, ap, subst, ◌∙◌}
-use Rattle.fir_ast.specs.View.{expr_of, sink_of}
+use Rattle.fir_ast.specs.working.Views.{expr_of, sink_of}
 use Rattle.fir_types.specs.working.Notes.{expression_notes, reference_notes}
 use Rattle.fir_types.specs.working.Seen.{found_type}
 use Rattle.fir_meaning.specs.Leafed.{target_read}

@@ -1,6 +1,6 @@
 use Rattle.std.proofs.Common.{◌++◌, refl, ap, ◌∙◌}
 use Rattle.fir_ast.specs.Expressions.{reference}
-use Rattle.fir_ast.specs.View.{expr_of, sink_of}
+use Rattle.fir_ast.specs.working.Views.{expr_of, sink_of}
 use Rattle.fir_meaning.specs.working.WellTyped.{HasType, Reaches as ReachesThere}
 use Rattle.fir_types.specs.working.Notes.{reference_notes}
 use Rattle.fir_meaning.specs.Leafed.{target_of}

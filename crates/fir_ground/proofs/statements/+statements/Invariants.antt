@@ -1,6 +1,6 @@
 use Rattle.std.proofs.Common.{List, ◌++◌, ◌≤◌, map, drop}
 use Rattle.fir_ast.specs.Circuits.{ModuleTree}
-use Rattle.fir_ast.specs.View.{block_of, stmt_of}
+use Rattle.fir_ast.specs.working.Views.{block_of, stmt_of}
 use Rattle.fir_meaning.specs.Components.{Declarations}
 use Rattle.fir_meaning.specs.CostGroup.{cost_limit}
 use Rattle.fir_meaning.specs.Costs.{ModuleCosts, cost_of_block}

@@ -1,6 +1,6 @@
 use Rattle.std.proofs.Common.{◌≡◌, ◌++◌, List, map, Option, Some, append_assoc, ap, ◌∙◌, subst}
 use Rattle.std.specs.Prelude.{option_map}
-use Rattle.fir_ast.specs.View.{expr_of, reset_of}
+use Rattle.fir_ast.specs.working.Views.{expr_of, reset_of}
 use Rattle.fir_types.specs.working.Notes.{expression_notes}
 use Rattle.fir_meaning.specs.Leafed.{first_term, terms}
 use Rattle.fir_leaf.specs.working.Nodes.{node_term}

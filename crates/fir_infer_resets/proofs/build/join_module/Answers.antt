@@ -1,6 +1,6 @@
 use Rattle.std.proofs.Common.{◌≡◌, [], ◌∷◌, ◌+◌, ◌∙◌, ap, drop, subst, sym}
 use Rattle.std.proofs.lemmas.List.{drop_all, drop_more}
-use Rattle.fir_ast.specs.View.{circuit_of}
+use Rattle.fir_ast.specs.working.Views.{circuit_of}
 use Rattle.fir_type_table.specs.working.Tables.{types_of}
 use Rattle.fir_infer_resets.proofs.MeetsHeld.{MeetsSoFar, meets_all, meets_first, meets_next}
 use Rattle.fir_infer_resets.proofs.build.join_module.Goals as goal

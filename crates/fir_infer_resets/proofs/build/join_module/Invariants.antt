@@ -1,5 +1,5 @@
 use Rattle.std.proofs.Common.{List, drop}
-use Rattle.fir_ast.specs.View.{circuit_of}
+use Rattle.fir_ast.specs.working.Views.{circuit_of}
 use Rattle.fir_type_table.specs.working.Tables.{types_of}
 use Rattle.fir_infer_resets.specs.working.Holding.{Holds}
 use Rattle.fir_infer_resets.specs.working.Meetings.{Meeting}

@@ -1,6 +1,6 @@
 use Rattle.std.proofs.Common.{◌≡◌, [], ◌∷◌, ◌+◌, ◌∙◌, ap, drop, subst, sym}
 use Rattle.std.proofs.lemmas.List.{drop_all, drop_more}
-use Rattle.fir_ast.specs.View.{circuit_of}
+use Rattle.fir_ast.specs.working.Views.{circuit_of}
 use Rattle.fir_type_table.specs.working.Tables.{types_of}
 use Rattle.fir_infer_resets.proofs.MeetsHeld.{ModulesSoFar, modules_all, modules_first, modules_next}
 use Rattle.fir_infer_resets.proofs.build.joined_of.Goals as goal

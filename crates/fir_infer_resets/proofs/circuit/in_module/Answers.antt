@@ -1,6 +1,6 @@
 use Rattle.std.proofs.Common.{◌≡◌, [], map, length, sym, ap, ◌∙◌, arith}
 use Rattle.std.proofs.lemmas.List.{length-map}
-use Rattle.fir_ast.specs.View.{block_of, port_of, stmt_of}
+use Rattle.fir_ast.specs.working.Views.{block_of, port_of, stmt_of}
 use Rattle.fir_meaning.specs.Visibility.{at_head, behind_ports}
 use Rattle.fir_infer_resets.specs.declared.meets.Walk.{Walk}
 use Rattle.fir_infer_resets.proofs.ModulesMet.{module_ahead, module_met, ports_counted}

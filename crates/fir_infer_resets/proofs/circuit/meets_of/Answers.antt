@@ -1,6 +1,6 @@
 use Rattle.std.proofs.Common.{length, refl, ap, ◌∙◌, ◌≤◌, arith}
 use Rattle.std.proofs.lemmas.List.{length-map}
-use Rattle.fir_ast.specs.View.{circuit_of, module_of}
+use Rattle.fir_ast.specs.working.Views.{circuit_of, module_of}
 use Rattle.fir_type_table.specs.working.Tables.{types_of}
 use Rattle.fir_types.proofs.ModuleItems.{module_there}
 use Rattle.fir_infer_resets.proofs.ModulesMet.{met_all, met_first, met_next, notes_ahead, numbered}

@@ -1,4 +1,4 @@
-use Rattle.fir_ast.specs.View.{circuit_of}
+use Rattle.fir_ast.specs.working.Views.{circuit_of}
 use Rattle.fir_type_table.specs.working.Tables.{types_of}
 use Rattle.fir_infer_resets.proofs.ModulesMet.{MetSoFar}
 use Rattle.fir_infer_resets.proofs.circuit.meets_of.Given as goal

@@ -1,5 +1,5 @@
 use Rattle.std.proofs.Common.{sym, ◌∙◌, ap, length}
-use Rattle.fir_ast.specs.View.{circuit_of}
+use Rattle.fir_ast.specs.working.Views.{circuit_of}
 use Rattle.fir_pass.specs.Faults.{fault_of}
 use Rattle.fir_infer_resets.specs.working.DirectWalks.{Replaces}
 use Rattle.fir_infer_resets.specs.working.ResetGraphs.{IsResetWalk}

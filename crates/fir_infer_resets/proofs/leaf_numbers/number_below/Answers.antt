@@ -1,5 +1,5 @@
 use Rattle.std.proofs.Common.{◌+◌, ap, ◌∙◌}
-use Rattle.fir_ast.specs.View.{circuit_of}
+use Rattle.fir_ast.specs.working.Views.{circuit_of}
 use Rattle.fir_type_table.specs.working.Saturated.{saturated}
 use Rattle.fir_infer_resets.specs.working.Holding.{path_of}
 use Rattle.fir_infer_resets.proofs.PathNumbers.{no_type_number, no_offset_number, no_first_number, the_number}

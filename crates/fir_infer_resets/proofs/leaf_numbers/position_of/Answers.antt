@@ -1,5 +1,5 @@
 use Rattle.std.proofs.Common.{None, Some, ◌∙◌}
-use Rattle.fir_ast.specs.View.{circuit_of}
+use Rattle.fir_ast.specs.working.Views.{circuit_of}
 use Rattle.fir_meaning.specs.Mentions.{module_names}
 use Rattle.fir_infer_resets.proofs.PathNumbers.{found_position}
 use Rattle.fir_infer_resets.proofs.leaf_numbers.position_of.Goals as goal

@@ -1,6 +1,6 @@
 use Rattle.std.proofs.Common.{Some, length, false, ap, ◌∙◌}
 use Rattle.std.proofs.lemmas.Option.{slice_get-get_or, slice_get_read}
-use Rattle.fir_ast.specs.View.{circuit_of}
+use Rattle.fir_ast.specs.working.Views.{circuit_of}
 use Rattle.fir_infer_resets.proofs.FirstMarks.{first_all, first_none, first_passed, first_set}
 use Rattle.fir_infer_resets.proofs.marked.map_of.Goals as goal
 use Rattle.fir_infer_resets.proofs.marked.map_of.Goals.{then-marked+in_ok-set_end, else-marked}

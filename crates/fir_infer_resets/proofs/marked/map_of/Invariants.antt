@@ -1,4 +1,4 @@
-use Rattle.fir_ast.specs.View.{circuit_of}
+use Rattle.fir_ast.specs.working.Views.{circuit_of}
 use Rattle.fir_infer_resets.specs.working.MarkedLeaves.{AreFirstMarked}
 use Rattle.fir_infer_resets.proofs.marked.map_of.Given as goal
 

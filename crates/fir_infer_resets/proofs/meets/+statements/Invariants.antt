@@ -1,6 +1,6 @@
 use Rattle.std.proofs.Common.{◌≡◌, List, ◌++◌, length, map, drop}
 use Rattle.fir_ast.specs.Types.{DataType}
-use Rattle.fir_ast.specs.View.{block_of, stmt_of}
+use Rattle.fir_ast.specs.working.Views.{block_of, stmt_of}
 use Rattle.fir_meaning.specs.Visibility.{Before}
 use Rattle.fir_types.specs.working.ModuleNotes.{block_notes}
 use Rattle.fir_types.specs.working.Notes.{Note}

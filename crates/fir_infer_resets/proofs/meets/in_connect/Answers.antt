@@ -1,5 +1,5 @@
 use Rattle.std.proofs.lemmas.Result.{on_ok_weaker}
-use Rattle.fir_ast.specs.View.{expr_of}
+use Rattle.fir_ast.specs.working.Views.{expr_of}
 use Rattle.fir_meaning.specs.TypeGroup.{scope_at}
 use Rattle.fir_infer_resets.proofs.ConnectMeets.{connect_passed}
 use Rattle.fir_infer_resets.proofs.meets.in_connect.Goals as goal

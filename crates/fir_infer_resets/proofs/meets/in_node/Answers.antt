@@ -1,5 +1,5 @@
 use Rattle.std.proofs.Common.{[], ◌∷◌, length, refl, ◌∙◌}
-use Rattle.fir_ast.specs.View.{expr_of, named_of}
+use Rattle.fir_ast.specs.working.Views.{expr_of, named_of}
 use Rattle.fir_meaning.specs.Components as component
 use Rattle.fir_meaning.specs.TypeGroup.{scope_at}
 use Rattle.fir_infer_resets.specs.declared.meet.Meet.TheVariants as code

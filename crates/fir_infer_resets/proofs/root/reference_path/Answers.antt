@@ -1,6 +1,6 @@
 use Rattle.std.proofs.Common.{◌+◌, [], ◌∷◌, ◌++◌, drop, map, sym, ap, ◌∙◌, append_assoc, append-nil}
 use Rattle.std.proofs.lemmas.List.{drop_all, map-append}
-use Rattle.fir_ast.specs.View.{parts_of}
+use Rattle.fir_ast.specs.working.Views.{parts_of}
 use Rattle.fir_names.specs.working.Parts.{part_of, part_view}
 use Rattle.fir_types.specs.working.Seen.{steps_of}
 use Rattle.fir_types.proofs.PartViews.{part_steps, parts_left}

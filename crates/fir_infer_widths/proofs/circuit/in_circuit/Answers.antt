@@ -1,6 +1,6 @@
 use Rattle.std.proofs.Common.{length, ap, arith}
 use Rattle.fir_ast.specs.declared.circuit.Circuit.{Circuit}
-use Rattle.fir_ast.specs.View.{circuit_of, module_of}
+use Rattle.fir_ast.specs.working.Views.{circuit_of, module_of}
 use Rattle.fir_types.proofs.InstanceWalks.{length_of_map}
 use Rattle.fir_type_table.specs.working.Tables.{types_of}
 use Rattle.fir_infer_widths.proofs.CircuitWalks.{circuit_walked}

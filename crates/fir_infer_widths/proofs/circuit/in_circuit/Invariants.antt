@@ -1,4 +1,4 @@
-use Rattle.fir_ast.specs.View.{circuit_of}
+use Rattle.fir_ast.specs.working.Views.{circuit_of}
 use Rattle.fir_type_table.specs.working.Tables.{types_of}
 use Rattle.fir_infer_widths.specs.working.Circuits.{WalkedSoFar}
 use Rattle.fir_infer_widths.proofs.circuit.in_circuit.Given as goal

@@ -3,7 +3,7 @@ use Rattle.std.proofs.lemmas.Option.{slice_get_within}
 use Rattle.std.proofs.lemmas.Result.{on_ok_weaker}
 use Rattle.std.specs.Str.{bytes_eq}
 use Rattle.fir_ast.specs.declared.circuit.Circuit.{Circuit}
-use Rattle.fir_ast.specs.View.{circuit_of, module_of}
+use Rattle.fir_ast.specs.working.Views.{circuit_of, module_of}
 use Rattle.fir_types.specs.declared.found.Found.{Found}
 use Rattle.fir_types.specs.declared.note.Note.{Note}
 use Rattle.fir_infer_widths.proofs.CircuitWalks.{module_enters, module_legal, module_walked, own}

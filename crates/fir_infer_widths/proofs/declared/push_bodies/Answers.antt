@@ -1,5 +1,5 @@
 use Rattle.std.proofs.Common.{ap, ◌∙◌}
-use Rattle.fir_ast.specs.View.{circuit_of}
+use Rattle.fir_ast.specs.working.Views.{circuit_of}
 use Rattle.fir_type_table.specs.working.Tables.{types_of}
 use Rattle.fir_types.specs.working.TypedModules.{found_types}
 use Rattle.fir_infer_widths.proofs.DeclaredWalks.{module_beside, bodies_begin, bodies_end, bodies_next}

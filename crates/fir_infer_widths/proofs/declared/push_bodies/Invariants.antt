@@ -1,4 +1,4 @@
-use Rattle.fir_ast.specs.View.{circuit_of}
+use Rattle.fir_ast.specs.working.Views.{circuit_of}
 use Rattle.fir_infer_widths.proofs.DeclaredWalks.{BodiesSoFar}
 use Rattle.fir_infer_widths.proofs.declared.push_bodies.Given as goal
 

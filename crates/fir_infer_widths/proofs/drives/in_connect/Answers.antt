@@ -1,6 +1,6 @@
 use Rattle.std.proofs.Common.{[], ◌++◌, append_assoc}
 use Rattle.std.proofs.lemmas.Result.{on_ok_weaker}
-use Rattle.fir_ast.specs.View.{expr_of, sink_of}
+use Rattle.fir_ast.specs.working.Views.{expr_of, sink_of}
 use Rattle.fir_meaning.specs.SizedScopes.{sink_expression, sized_type}
 use Rattle.fir_meaning.specs.WidthRules.{connect_rules}
 use Rattle.fir_types.specs.working.ModuleNotes.{connect_notes}

@@ -1,6 +1,6 @@
 use Rattle.std.proofs.Common.{[], ◌++◌}
 use Rattle.std.proofs.lemmas.Result.{on_ok_weaker}
-use Rattle.fir_ast.specs.View.{expr_of}
+use Rattle.fir_ast.specs.working.Views.{expr_of}
 use Rattle.fir_meaning.specs.SizedScopes.{sized_type}
 use Rattle.fir_meaning.specs.WidthRules.{connect_rules}
 use Rattle.fir_infer_widths.specs.working.Spots.{spots_within}

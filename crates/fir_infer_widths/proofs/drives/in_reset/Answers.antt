@@ -1,7 +1,7 @@
 use Rattle.std.proofs.Common.{[], ◌++◌, append_assoc}
 use Rattle.std.specs.Prelude.{Some}
 use Rattle.std.proofs.lemmas.Result.{on_ok_weaker}
-use Rattle.fir_ast.specs.View.{reset_of}
+use Rattle.fir_ast.specs.working.Views.{reset_of}
 use Rattle.fir_meaning.specs.SizedScopes.{sized_type}
 use Rattle.fir_meaning.specs.WidthRules.{init_rules}
 use Rattle.fir_types.specs.working.ModuleNotes.{reset_notes}

@@ -2,7 +2,7 @@ use Rattle.std.proofs.Common.{◌+◌, [], ◌∷◌, ◌++◌, map, drop, refl,
 use Rattle.std.proofs.lemmas.List.{drop_all}
 use Rattle.fir_ast.specs.Expressions.{mux, operation, subaccess, validif}
 use Rattle.fir_ast.specs.Statements.{Sink}
-use Rattle.fir_ast.specs.View.{expr_of, expressions_of, parts_of, sink_of}
+use Rattle.fir_ast.specs.working.Views.{expr_of, expressions_of, parts_of, sink_of}
 use Rattle.fir_ast.proofs.TreeViews.{mux_view, operation_view, validif_view}
 use Rattle.fir_meaning.specs.SizedScopes.{sink_expression, sized_type}
 use Rattle.fir_meaning.specs.working.WellTyped.{HasType, Leads}

@@ -1,7 +1,7 @@
 use Rattle.std.proofs.Common.{◌+◌, ◌∷◌, ◌++◌, drop, flat_map, map, sym, ap, ◌∙◌, append_assoc, append-nil}
 use Rattle.std.proofs.lemmas.List.{drop_all}
 use Rattle.std.proofs.lemmas.List.Concat.{flat_map-append}
-use Rattle.fir_ast.specs.View.{parts_of}
+use Rattle.fir_ast.specs.working.Views.{parts_of}
 use Rattle.fir_meaning.specs.LeafPaths.{named, path_text, step_text}
 use Rattle.fir_names.specs.working.Parts.{part_of, part_view}
 use Rattle.fir_types.specs.working.Seen.{sink_path, steps_of}

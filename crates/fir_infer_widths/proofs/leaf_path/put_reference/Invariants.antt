@@ -1,5 +1,5 @@
 use Rattle.std.proofs.Common.{◌≡◌, ◌++◌, drop, flat_map, map}
-use Rattle.fir_ast.specs.View.{parts_of, sink_of}
+use Rattle.fir_ast.specs.working.Views.{parts_of, sink_of}
 use Rattle.fir_meaning.specs.LeafPaths.{path_text, step_text}
 use Rattle.fir_names.specs.working.Parts.{part_of}
 use Rattle.fir_types.specs.working.Seen.{sink_path, steps_of}

@@ -1,5 +1,5 @@
 use Rattle.std.proofs.Common.{◌++◌, ap, ◌∙◌}
-use Rattle.fir_ast.specs.View.{named_of}
+use Rattle.fir_ast.specs.working.Views.{named_of}
 use Rattle.fir_type_table.specs.working.Tables.{types_of}
 use Rattle.fir_infer_widths.specs.working.SpotFaults.{leaves_of_side}
 use Rattle.fir_infer_widths.proofs.ToldLeaves.{none_unwritten, first_unwritten}

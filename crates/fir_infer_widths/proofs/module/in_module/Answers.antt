@@ -1,6 +1,6 @@
 use Rattle.std.proofs.Common.{◌≡◌, map, sym, ap, subst, ◌∙◌}
 use Rattle.fir_ast.specs.Circuits.{ModuleTree}
-use Rattle.fir_ast.specs.View.{block_of, port_of, stmt_of}
+use Rattle.fir_ast.specs.working.Views.{block_of, port_of, stmt_of}
 use Rattle.fir_infer_widths.proofs.ModuleWalks.{BlockWalks, PortsWalk, module_comes}
 use Rattle.fir_infer_widths.proofs.module.in_module.Goals as goal
 

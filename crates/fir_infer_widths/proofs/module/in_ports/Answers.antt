@@ -1,6 +1,6 @@
 use Rattle.std.proofs.Common.{[], ◌∷◌, ◌+◌, ◌++◌, map, drop, ap, arith}
 use Rattle.std.proofs.lemmas.List.{drop_all}
-use Rattle.fir_ast.specs.View.{port_of}
+use Rattle.fir_ast.specs.working.Views.{port_of}
 use Rattle.fir_names.proofs.FirstMentions.{views_left}
 use Rattle.fir_infer_widths.proofs.PortWalks.{AtPorts, next_declares, ports_begun, ports_next, ports_passed}
 use Rattle.fir_infer_widths.proofs.module.in_ports.Goals as goal

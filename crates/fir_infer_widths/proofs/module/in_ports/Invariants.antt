@@ -1,6 +1,6 @@
 use Rattle.std.proofs.Common.{List, map, drop}
 use Rattle.fir_ast.specs.Circuits.{CircuitTree}
-use Rattle.fir_ast.specs.View.{port_of}
+use Rattle.fir_ast.specs.working.Views.{port_of}
 use Rattle.fir_meaning.specs.Visibility.{Before, behind_ports, declarations}
 use Rattle.fir_meaning.specs.SizedDeclarations.{NumberedModule}
 use Rattle.fir_meaning.specs.WidthExpressions.{Rule, Width}

@@ -1,6 +1,6 @@
 use Rattle.std.proofs.Common.{◌++◌, Some, ap, ◌∙◌}
 use Rattle.fir_ast.specs.Statements.{Sink}
-use Rattle.fir_ast.specs.View.{sink_of}
+use Rattle.fir_ast.specs.working.Views.{sink_of}
 use Rattle.fir_meaning.specs.LeafPaths.{path_text}
 use Rattle.fir_meaning.specs.SizeFaults.{word_over}
 use Rattle.fir_type_table.specs.working.Tables.{types_of}

@@ -1,6 +1,6 @@
 use Rattle.std.proofs.Common.{List, ◌++◌, map, drop}
 use Rattle.fir_ast.specs.Circuits.{CircuitTree}
-use Rattle.fir_ast.specs.View.{block_of, stmt_of}
+use Rattle.fir_ast.specs.working.Views.{block_of, stmt_of}
 use Rattle.fir_meaning.specs.Visibility.{Before, behind_block, declarations}
 use Rattle.fir_meaning.specs.SizedDeclarations.{NumberedModule}
 use Rattle.fir_meaning.specs.working.WellTyped.{AreLegal}

@@ -1,4 +1,4 @@
-use Rattle.fir_ast.specs.View.{named_of}
+use Rattle.fir_ast.specs.working.Views.{named_of}
 use Rattle.fir_infer_widths.proofs.DeclarationWalks.{declared_comes, own_side}
 use Rattle.fir_infer_widths.proofs.statements.declared.Goals as goal
 

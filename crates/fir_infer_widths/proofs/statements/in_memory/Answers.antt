@@ -1,6 +1,6 @@
 use Rattle.std.proofs.Common.{map, subst, sym}
 use Rattle.std.proofs.lemmas.Result.{on_ok_weaker}
-use Rattle.fir_ast.specs.View.{memory_part_of, named_of}
+use Rattle.fir_ast.specs.working.Views.{memory_part_of, named_of}
 use Rattle.fir_meaning.specs.Components.{memory}
 use Rattle.fir_meaning.specs.MemoryTypes.{memory_bundle}
 use Rattle.fir_meaning.specs.TypeGroup.{scope_at}

@@ -2,7 +2,8 @@ use Rattle.std.proofs.Common.{[], ◌++◌, append_assoc, refl}
 use Rattle.std.specs.Prelude.{option_map}
 use Rattle.std.proofs.lemmas.Result.{on_ok_weaker}
 use Rattle.fir_ast.specs.Types.{clock}
-use Rattle.fir_ast.specs.View.{expr_of, named_of, reset_of, type_of}
+use Rattle.fir_ast.specs.working.Views.{expr_of, named_of, reset_of}
+use Rattle.fir_ast.specs.View.{type_of}
 use Rattle.fir_meaning.specs.Components.{register}
 use Rattle.fir_meaning.specs.TypeGroup.{scope_at}
 use Rattle.fir_meaning.specs.Visibility.{declarations, with_declaration}

@@ -1,5 +1,5 @@
 use Rattle.std.proofs.Common.{map, arith}
-use Rattle.fir_ast.specs.View.{port_of}
+use Rattle.fir_ast.specs.working.Views.{port_of}
 use Rattle.fir_lack.proofs.Searches.{all_left, none_left, part_found, part_passed, ports}
 use Rattle.fir_lack.proofs.ports.lacking_ports.Goals as goal
 

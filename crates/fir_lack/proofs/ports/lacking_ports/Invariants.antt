@@ -1,5 +1,5 @@
 use Rattle.std.proofs.Common.{ℕ, ◌+◌, drop, length, map}
-use Rattle.fir_ast.specs.View.{port_of}
+use Rattle.fir_ast.specs.working.Views.{port_of}
 use Rattle.fir_meaning.specs.LeafedModules.{Scene}
 use Rattle.fir_lack.specs.Lacking.{lacking_ports}
 use Rattle.fir_lack.specs.working.Searched.{IsAt}

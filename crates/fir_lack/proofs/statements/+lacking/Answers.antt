@@ -1,6 +1,6 @@
 use Rattle.std.proofs.Common.{map, sym, ap, ◌∙◌, subst, arith}
 use Rattle.fir_ast.specs.Statements.{Statement}
-use Rattle.fir_ast.specs.View.{stmt_of}
+use Rattle.fir_ast.specs.working.Views.{stmt_of}
 use Rattle.fir_types.proofs.StatementParts.{when_at}
 use Rattle.fir_lack.specs.working.Searched.{SearchesStatement}
 use Rattle.fir_lack.proofs.Searches.{all_left, none_left, part_found, part_passed, statements}

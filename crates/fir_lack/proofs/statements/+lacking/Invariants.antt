@@ -1,5 +1,5 @@
 use Rattle.std.proofs.Common.{ℕ, ◌+◌, drop, map}
-use Rattle.fir_ast.specs.View.{block_of, stmt_of}
+use Rattle.fir_ast.specs.working.Views.{block_of, stmt_of}
 use Rattle.fir_meaning.specs.LeafedModules.{Scene}
 use Rattle.fir_lack.specs.Lacking.{declares_in, lacking_block}
 use Rattle.fir_lack.specs.working.Searched.{IsAt}

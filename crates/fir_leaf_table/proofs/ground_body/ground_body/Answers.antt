@@ -1,6 +1,6 @@
 use Rattle.std.proofs.Common.{[], Vec, Global, ◌≡◌, length, map, refl, ap, ◌∙◌, arith}
 use Rattle.fir_ast.specs.Circuits.{ModuleTree}
-use Rattle.fir_ast.specs.View.{block_of, port_of, stmt_of}
+use Rattle.fir_ast.specs.working.Views.{block_of, port_of, stmt_of}
 use Rattle.fir_meaning.specs.ComponentTypes.{typed_scope}
 use Rattle.fir_meaning.specs.Visibility.{declarations}
 use Rattle.fir_types.specs.declared.note.Note.{Note}

@@ -1,7 +1,7 @@
 use Rattle.std.proofs.Common.{◌≡◌, ℕ, [], ◌∷◌, Some, refl, sym, subst}
 use Rattle.std.specs.Prelude.{slice_get}
 use Rattle.std.proofs.lemmas.Result.{on_ok_weaker}
-use Rattle.fir_ast.specs.View.{named_of}
+use Rattle.fir_ast.specs.working.Views.{named_of}
 use Rattle.fir_meaning.specs.Components.{instance}
 use Rattle.fir_meaning.specs.ComponentTypes.{instance_type}
 use Rattle.fir_meaning.specs.ResetJoins.{numbered_module}

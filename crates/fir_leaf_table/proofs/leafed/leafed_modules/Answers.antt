@@ -1,7 +1,7 @@
 use Rattle.std.proofs.Common.{◌≡◌, ◌+◌, ◌<◌, ◌≤◌, List, length, sym, ap, subst, ◌∙◌, arith}
 use Rattle.fir_ast.specs.declared.circuit.Circuit.{Circuit}
 use Rattle.fir_ast.specs.declared.circuit.Module.{Module}
-use Rattle.fir_ast.specs.View.{circuit_of, module_of}
+use Rattle.fir_ast.specs.working.Views.{circuit_of, module_of}
 use Rattle.fir_types.proofs.InstanceWalks.{length_of_map}
 use Rattle.fir_leaf_table.proofs.LeafedSoFar.{LeafedSoFar, leafed_more, leafed_whole}
 use Rattle.fir_leaf_table.proofs.LimitedModules.{modules_costed}

@@ -1,4 +1,4 @@
-use Rattle.fir_ast.specs.View.{circuit_of}
+use Rattle.fir_ast.specs.working.Views.{circuit_of}
 use Rattle.fir_leaf_table.proofs.LeafedSoFar.{LeafedSoFar}
 use Rattle.fir_leaf_table.proofs.leafed.leafed_modules.Given as goal
 

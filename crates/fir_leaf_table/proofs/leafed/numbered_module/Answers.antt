@@ -2,7 +2,7 @@ use Rattle.std.proofs.Common.{◌≡◌, [], length, map, refl, sym, ap, ◌∙�
 use Rattle.std.specs.Prelude.{slice_get}
 use Rattle.std.proofs.lemmas.Option.{same_Some}
 use Rattle.fir_ast.specs.Circuits.{ModuleTree}
-use Rattle.fir_ast.specs.View.{block_of, circuit_of, module_of, port_of, stmt_of}
+use Rattle.fir_ast.specs.working.Views.{block_of, circuit_of, module_of, port_of, stmt_of}
 use Rattle.fir_meaning.specs.Visibility.{at_head}
 use Rattle.fir_meaning.specs.LeafedModules.{behind_all_ports}
 use Rattle.fir_leaf_table.specs.declared.walk.Walk.{Walk}

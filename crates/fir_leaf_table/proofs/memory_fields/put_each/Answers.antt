@@ -1,6 +1,6 @@
 use Rattle.std.proofs.Common.{◌++◌, map, ap, ◌∙◌}
 use Rattle.std.proofs.lemmas.List.{take_all}
-use Rattle.fir_ast.specs.View.{named_of}
+use Rattle.fir_ast.specs.working.Views.{named_of}
 use Rattle.fir_leaf_table.specs.working.Memories.{port_seen}
 use Rattle.fir_leaf_table.proofs.memory_fields.put_each.Goals as goal
 

@@ -1,5 +1,5 @@
 use Rattle.std.proofs.Common.{◌≡◌, ◌++◌, map, take}
-use Rattle.fir_ast.specs.View.{named_of}
+use Rattle.fir_ast.specs.working.Views.{named_of}
 use Rattle.fir_leaf_table.specs.working.Memories.{port_seen}
 use Rattle.fir_leaf_table.proofs.memory_fields.put_each.Given as goal
 

@@ -1,5 +1,5 @@
 use Rattle.std.proofs.Common.{take}
-use Rattle.fir_ast.specs.View.{circuit_of}
+use Rattle.fir_ast.specs.working.Views.{circuit_of}
 use Rattle.fir_leaf_table.specs.working.ModulePlaces.{ArePlacesOf}
 use Rattle.fir_leaf_table.proofs.port_places.all_port_places.Given as goal
 

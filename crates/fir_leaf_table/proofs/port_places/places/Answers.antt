@@ -1,7 +1,7 @@
 use Rattle.std.proofs.Common.{length, map}
 use Rattle.std.proofs.lemmas.List.{length_push}
 use Rattle.std.proofs.lemmas.Slice.Zip.{zip_turn}
-use Rattle.fir_ast.specs.View.{port_of}
+use Rattle.fir_ast.specs.working.Views.{port_of}
 use Rattle.fir_type_table.specs.working.Tables.{types_of}
 use Rattle.fir_leaf_table.specs.working.ModulePlaces.{places_of}
 use Rattle.fir_leaf_table.proofs.PlacesSoFar.{places_more}

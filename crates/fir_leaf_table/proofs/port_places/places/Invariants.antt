@@ -1,5 +1,5 @@
 use Rattle.std.proofs.Common.{◌≡◌, ◌++◌, drop, length, map}
-use Rattle.fir_ast.specs.View.{port_of}
+use Rattle.fir_ast.specs.working.Views.{port_of}
 use Rattle.fir_type_table.specs.working.Tables.{types_of}
 use Rattle.fir_leaf_table.specs.working.ModulePlaces.{places_of}
 use Rattle.fir_leaf_table.specs.working.PortPlaces.{HaveTypes}

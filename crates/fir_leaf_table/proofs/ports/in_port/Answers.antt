@@ -1,6 +1,6 @@
 use Rattle.std.proofs.Common.{[], append-nil, refl, sym, subst}
 use Rattle.std.proofs.lemmas.Result.{on_ok_weaker}
-use Rattle.fir_ast.specs.View.{port_of}
+use Rattle.fir_ast.specs.working.Views.{port_of}
 use Rattle.fir_meaning.specs.Components as component
 use Rattle.fir_meaning.specs.Visibility.{with_declaration}
 use Rattle.fir_meaning.specs.LeafedModules.{own_leaves, port_role}

@@ -1,6 +1,6 @@
 use Rattle.std.proofs.Common.{◌+◌, [], ◌∷◌, map, drop, ap, arith}
 use Rattle.std.proofs.lemmas.List.{drop_all}
-use Rattle.fir_ast.specs.View.{port_of}
+use Rattle.fir_ast.specs.working.Views.{port_of}
 use Rattle.fir_names.proofs.FirstMentions.{views_left}
 use Rattle.fir_leaf_table.proofs.PortWalks.{AtPorts, port_begins, port_enters, port_next, ports_passed}
 use Rattle.fir_leaf_table.proofs.ports.in_ports.Goals as goal

@@ -1,6 +1,6 @@
 use Rattle.std.proofs.Common.{List, drop, map}
 use Rattle.fir_ast.specs.Circuits.{CircuitTree}
-use Rattle.fir_ast.specs.View.{port_of}
+use Rattle.fir_ast.specs.working.Views.{port_of}
 use Rattle.fir_meaning.specs.Visibility.{Before, behind_ports, declarations}
 use Rattle.fir_types.specs.working.Walked.{Begins}
 use Rattle.fir_ground.specs.working.DeclarationDrivers.{DriverMeant}

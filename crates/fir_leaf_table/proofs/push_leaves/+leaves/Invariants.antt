@@ -1,5 +1,5 @@
 use Rattle.std.proofs.Common.{◌+◌, ◌-◌, ◌*◌}
-use Rattle.fir_ast.specs.View.{circuit_of}
+use Rattle.fir_ast.specs.working.Views.{circuit_of}
 use Rattle.fir_type_table.specs.working.Tables.{members_at, types_of}
 use Rattle.fir_leaf_table.proofs.PushedMembers.{PushesTo}
 use Rattle.fir_leaf_table.proofs.push_leaves.+leaves.Given as goal

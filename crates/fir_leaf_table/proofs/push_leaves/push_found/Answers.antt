@@ -1,7 +1,7 @@
 use Rattle.std.proofs.Common.{false, subst, sym, ap}
 use Rattle.std.specs.Prelude.{OnOk}
 use Rattle.std.proofs.lemmas.Result.{on_ok_weaker}
-use Rattle.fir_ast.specs.View.{circuit_of}
+use Rattle.fir_ast.specs.working.Views.{circuit_of}
 use Rattle.fir_type_table.specs.working.Tables.{type_at, types_of}
 use Rattle.fir_types.specs.working.Seen.{found_type}
 use Rattle.fir_leaf_table.specs.working.PushedTypeLeaves.{Pushes}

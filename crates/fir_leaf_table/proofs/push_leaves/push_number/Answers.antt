@@ -1,7 +1,7 @@
 use Rattle.std.proofs.Common.{ap, ◌∙◌}
 use Rattle.std.specs.Prelude.{slice_get}
 use Rattle.std.proofs.lemmas.Result.{on_ok_weaker}
-use Rattle.fir_ast.specs.View.{circuit_of}
+use Rattle.fir_ast.specs.working.Views.{circuit_of}
 use Rattle.fir_width.specs.working.DeclaredWidths.{leaf_widths}
 use Rattle.fir_leaf_table.proofs.HeldLeaves.{pushes_number}
 use Rattle.fir_leaf_table.proofs.push_leaves.push_number.Goals as goal

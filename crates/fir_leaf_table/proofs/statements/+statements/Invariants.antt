@@ -1,6 +1,6 @@
 use Rattle.std.proofs.Common.{List, ◌++◌, drop, map}
 use Rattle.fir_ast.specs.Circuits.{CircuitTree}
-use Rattle.fir_ast.specs.View.{block_of, stmt_of}
+use Rattle.fir_ast.specs.working.Views.{block_of, stmt_of}
 use Rattle.fir_meaning.specs.Visibility.{Before, behind_block, declarations}
 use Rattle.fir_types.specs.working.Walked.{Begins}
 use Rattle.fir_ground.specs.working.DeclarationDrivers.{DriverMeant, drivers_in_block}

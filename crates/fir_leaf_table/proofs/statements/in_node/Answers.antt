@@ -1,7 +1,7 @@
 use Rattle.std.proofs.Common.{◌≡◌, ◌∷◌, [], map, refl, ap, sym, ◌∙◌}
 use Rattle.std.specs.Prelude.{option_map}
 use Rattle.std.proofs.lemmas.Result.{on_ok_weaker}
-use Rattle.fir_ast.specs.View.{named_of}
+use Rattle.fir_ast.specs.working.Views.{named_of}
 use Rattle.fir_meaning.specs.Components as component
 use Rattle.fir_meaning.specs.TypeGroup.{scope_at}
 use Rattle.fir_ground.specs.working.DeclarationDrivers.{driver_seen, node_terms}

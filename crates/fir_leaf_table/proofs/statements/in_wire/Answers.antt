@@ -1,6 +1,6 @@
 use Rattle.std.proofs.Common.{[], ◌∷◌, refl}
 use Rattle.std.proofs.lemmas.Result.{on_ok_weaker}
-use Rattle.fir_ast.specs.View.{named_of}
+use Rattle.fir_ast.specs.working.Views.{named_of}
 use Rattle.fir_meaning.specs.Components as component
 use Rattle.fir_ground.specs.working.DeclarationDrivers.{others}
 use Rattle.fir_meaning.specs.LeafModules.{sink}

@@ -2,7 +2,7 @@ use Rattle.std.proofs.Common.{length, sym, ap, ◌∙◌, arith, subst}
 use Rattle.std.specs.Prelude.{◌≡◌, ◌++◌}
 use Rattle.std.proofs.lemmas.List.{length-map}
 use Rattle.fir_ast.specs.declared.circuit.Circuit.{Circuit}
-use Rattle.fir_ast.specs.View.{circuit_of, module_of}
+use Rattle.fir_ast.specs.working.Views.{circuit_of, module_of}
 use Rattle.fir_leaf.proofs.LeafPlaces.{get_mapped}
 use Rattle.fir_leaf_text.specs.working.TextsOfLeaves.{declared_texts}
 use Rattle.fir_leaf_text.proofs.AllTexts.{all_declared, no_module_texts, one_declared}

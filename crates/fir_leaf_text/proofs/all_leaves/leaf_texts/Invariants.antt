@@ -1,4 +1,4 @@
-use Rattle.fir_ast.specs.View.{circuit_of}
+use Rattle.fir_ast.specs.working.Views.{circuit_of}
 use Rattle.fir_leaf_text.proofs.AllTexts.{AreTextsSoFar}
 use Rattle.fir_leaf_text.proofs.all_leaves.leaf_texts.Given as goal
 

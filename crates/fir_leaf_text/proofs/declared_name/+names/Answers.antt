@@ -1,6 +1,6 @@
 use Rattle.std.proofs.Common.{◌+◌, drop, sym, ap, ◌∙◌, subst, refl}
 use Rattle.fir_ast.specs.Statements.{Statement}
-use Rattle.fir_ast.specs.View.{stmt_of}
+use Rattle.fir_ast.specs.working.Views.{stmt_of}
 use Rattle.fir_names.proofs.StatementViews.{when_is}
 use Rattle.fir_types.proofs.StatementParts.{when_at}
 use Rattle.fir_leaf_text.specs.working.DeclaredNames.{IsSearched, names_in}

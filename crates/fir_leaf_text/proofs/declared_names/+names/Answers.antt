@@ -1,7 +1,7 @@
 use Rattle.std.proofs.Common.{◌+◌, ◌++◌, drop, sym, ap, ◌∙◌, append_assoc, append-nil}
 use Rattle.std.proofs.lemmas.List.{drop_all}
 use Rattle.std.proofs.lemmas.Result.{on_ok_weaker}
-use Rattle.fir_ast.specs.View.{stmt_of}
+use Rattle.fir_ast.specs.working.Views.{stmt_of}
 use Rattle.fir_names.proofs.StatementViews.{when_is}
 use Rattle.fir_types.proofs.StatementParts.{when_at}
 use Rattle.fir_leaf_text.specs.working.DeclaredNames.{names_in}

@@ -1,6 +1,6 @@
 use Rattle.std.proofs.Common.{◌≡◌, ◌+◌, [], ◌∷◌, ◌++◌, map, take, sym, ap, ap₂, ◌∙◌}
 use Rattle.std.proofs.lemmas.List.{map-append, take_all, take_more}
-use Rattle.fir_ast.specs.View.{port_of}
+use Rattle.fir_ast.specs.working.Views.{port_of}
 use Rattle.fir_leaf_text.proofs.ModuleNames.{names_of_ports, port_name}
 use Rattle.fir_leaf_text.proofs.SearchedNames.{names_of_statements}
 use Rattle.fir_leaf_text.proofs.declared_names.declared_names.Goals as goal

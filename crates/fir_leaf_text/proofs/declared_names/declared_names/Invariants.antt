@@ -1,5 +1,5 @@
 use Rattle.std.proofs.Common.{◌≡◌, map, take}
-use Rattle.fir_ast.specs.View.{port_of}
+use Rattle.fir_ast.specs.working.Views.{port_of}
 use Rattle.fir_leaf_text.proofs.declared_names.declared_names.Given as goal
 
 abbrev pub invariant-loop-port : goal.invariant-loop-port

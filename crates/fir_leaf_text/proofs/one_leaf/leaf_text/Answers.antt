@@ -1,6 +1,6 @@
 use Rattle.std.proofs.Common.{◌≤◌, ◌∙◌, length, refl}
 use Rattle.std.proofs.lemmas.Option.{slice_get_read}
-use Rattle.fir_ast.specs.View.{circuit_of}
+use Rattle.fir_ast.specs.working.Views.{circuit_of}
 use Rattle.fir_leaf_text.proofs.LeafTexts.{leaf_read, leaves_counted, no_leaf, no_module, text_is, writes_text}
 use Rattle.fir_leaf_text.proofs.one_leaf.leaf_text.Goals as goal
 

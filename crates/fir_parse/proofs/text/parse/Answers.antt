@@ -1,5 +1,5 @@
 use Rattle.std.proofs.Common.{◌≡◌, [], Err, refl, sym, ◌∙◌, subst, rules}
-use Rattle.fir_ast.specs.View.{circuit_of}
+use Rattle.fir_ast.specs.working.Views.{circuit_of}
 use Rattle.fir_ast.specs.declared.fault.FirFault.TheVariants.{Syntax}
 use Rattle.fir_lex.specs.TokensOf.{place_after}
 use Rattle.fir_lex.proofs.Places.{place_on}

@@ -1,5 +1,5 @@
 use Rattle.std.proofs.Common.{sym, ap, ◌∙◌}
-use Rattle.fir_ast.specs.View.{circuit_of}
+use Rattle.fir_ast.specs.working.Views.{circuit_of}
 use Rattle.fir_parse.specs.declared.lexeme.Lexeme.TheVariants.{End}
 use Rattle.fir_parse.specs.working.Reading.{read, read_on}
 use Rattle.fir_parse.specs.working.States.{done, wants}

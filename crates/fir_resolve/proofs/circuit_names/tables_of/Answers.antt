@@ -1,6 +1,6 @@
 use Rattle.std.proofs.Common.{Err, map, subst, sym}
 use Rattle.std.proofs.lemmas.Result.{err_from_is_err_and}
-use Rattle.fir_ast.specs.View.{circuit_of, module_of}
+use Rattle.fir_ast.specs.working.Views.{circuit_of, module_of}
 use Rattle.fir_meaning.specs.Mentions.{module_names}
 use Rattle.fir_names.specs.working.Judged.{JudgesModules, TabulatesEach}
 use Rattle.fir_names.specs.working.Numbered.{HasNumbers, names_of}

@@ -3,7 +3,7 @@ use Rattle.std.specs.Prelude.{option_map}
 use Rattle.std.proofs.lemmas.Result.{IfOk-weaker}
 use Rattle.std.proofs.lemmas.List.{drop_all}
 use Rattle.fir_ast.specs.Expressions.{mux, operation, validif}
-use Rattle.fir_ast.specs.View.{expr_of, expressions_of, parts_of}
+use Rattle.fir_ast.specs.working.Views.{expr_of, expressions_of, parts_of}
 use Rattle.fir_ast.proofs.TreeViews.{mux_view, operation_view, validif_view}
 use Rattle.fir_pass.specs.Faults.{fault_of}
 use Rattle.fir_pass.specs.Groups.{first_of}

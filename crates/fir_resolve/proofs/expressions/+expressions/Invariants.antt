@@ -1,5 +1,5 @@
 use Rattle.std.proofs.Common.{◌≡◌, map, drop}
-use Rattle.fir_ast.specs.View.{expr_of, expressions_of, parts_of}
+use Rattle.fir_ast.specs.working.Views.{expr_of, expressions_of, parts_of}
 use Rattle.fir_pass.specs.Groups.{first_of}
 use Rattle.fir_meaning.specs.Components.{Declarations}
 use Rattle.fir_meaning.specs.Mentions.{operand_mentions, part_mentions}

@@ -1,6 +1,6 @@
 use Rattle.std.proofs.Common.{◌∙◌, sym, ap}
 use Rattle.std.specs.Prelude.{is_some}
-use Rattle.fir_ast.specs.View.{circuit_of, named_of}
+use Rattle.fir_ast.specs.working.Views.{circuit_of, named_of}
 use Rattle.fir_meaning.specs.Components.{find_name}
 use Rattle.fir_meaning.specs.Mentions.{module_names}
 use Rattle.fir_resolve.proofs.NumberedModules.{has_number, main_absent, main_there}

@@ -1,5 +1,5 @@
 use Rattle.std.proofs.Common.{[], map, drop}
-use Rattle.fir_ast.specs.View.{memory_part_of}
+use Rattle.fir_ast.specs.working.Views.{memory_part_of}
 use Rattle.fir_meaning.specs.Mentions.{memory_mentions}
 use Rattle.fir_resolve.proofs.WalkedNames.{At}
 use Rattle.fir_resolve.proofs.memory_ports.in_memory.Given as goal

@@ -1,5 +1,5 @@
 use Rattle.std.proofs.Common.{◌∙◌, ◌+◌, ◌++◌, [], ◌∷◌, map, drop, refl, sym, ap, append_assoc}
-use Rattle.fir_ast.specs.View.{named_of}
+use Rattle.fir_ast.specs.working.Views.{named_of}
 use Rattle.fir_meaning.specs.Mentions.{declares, port_mentions}
 use Rattle.fir_names.proofs.FirstMentions.{head_silent, views_left}
 use Rattle.fir_resolve.proofs.WalkedNames.{at_next, at_start, port_step, ports_next}

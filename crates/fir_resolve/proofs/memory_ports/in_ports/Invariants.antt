@@ -1,6 +1,6 @@
 use Rattle.std.proofs.Common.{◌≡◌, List, ◌++◌, map, drop}
 use Rattle.fir_ast.specs.Statements.{PlacedName}
-use Rattle.fir_ast.specs.View.{named_of}
+use Rattle.fir_ast.specs.working.Views.{named_of}
 use Rattle.fir_meaning.specs.Mentions.{port_mentions}
 use Rattle.fir_resolve.specs.working.Namespaces.{Holds}
 use Rattle.fir_resolve.proofs.WalkedNames.{At}

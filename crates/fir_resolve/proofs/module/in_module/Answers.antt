@@ -1,4 +1,4 @@
-use Rattle.fir_ast.specs.View.{module_of}
+use Rattle.fir_ast.specs.working.Views.{module_of}
 use Rattle.fir_meaning.specs.Visibility.{declarations}
 use Rattle.fir_resolve.proofs.WalkedModules.{module_told, module_passed}
 use Rattle.fir_resolve.proofs.module.in_module.Goals as goal

@@ -1,6 +1,6 @@
 use Rattle.std.proofs.Common.{map, refl, ap}
 use Rattle.std.proofs.lemmas.Result.{IfOk-weaker}
-use Rattle.fir_ast.specs.View.{block_of, module_of, port_of, stmt_of}
+use Rattle.fir_ast.specs.working.Views.{block_of, module_of, port_of, stmt_of}
 use Rattle.fir_meaning.specs.Visibility.{at_head, behind_ports}
 use Rattle.fir_resolve.proofs.WalkedModules.{ports_told, body_passed}
 use Rattle.fir_resolve.proofs.module.in_parts.Goals as goal

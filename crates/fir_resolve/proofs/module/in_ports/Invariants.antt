@@ -1,6 +1,6 @@
 use Rattle.std.proofs.Common.{List, map, drop}
 use Rattle.fir_ast.specs.Statements.{PlacedName}
-use Rattle.fir_ast.specs.View.{port_of}
+use Rattle.fir_ast.specs.working.Views.{port_of}
 use Rattle.fir_meaning.specs.Visibility.{Before}
 use Rattle.fir_resolve.specs.working.Scoped.{Walks}
 use Rattle.fir_resolve.proofs.WalkedBlocks.{AtPorts}

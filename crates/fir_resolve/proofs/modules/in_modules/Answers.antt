@@ -1,5 +1,5 @@
 use Rattle.std.proofs.Common.{◌+◌, map, drop}
-use Rattle.fir_ast.specs.View.{module_of}
+use Rattle.fir_ast.specs.working.Views.{module_of}
 use Rattle.fir_names.proofs.FirstMentions.{views_left}
 use Rattle.fir_resolve.proofs.WalkedModules.{modules_next}
 use Rattle.fir_resolve.proofs.modules.in_modules.Goals as goal

@@ -1,6 +1,6 @@
 use Rattle.std.proofs.Common.{List, map, drop}
 use Rattle.fir_ast.specs.Statements.{PlacedName}
-use Rattle.fir_ast.specs.View.{module_of}
+use Rattle.fir_ast.specs.working.Views.{module_of}
 use Rattle.fir_names.specs.working.Numbered.{HasNumbers}
 use Rattle.fir_resolve.proofs.WalkedModules.{AtModules}
 use Rattle.fir_resolve.proofs.modules.in_modules.Given as goal

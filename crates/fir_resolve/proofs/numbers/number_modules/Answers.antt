@@ -2,7 +2,7 @@ use Rattle.std.proofs.Common.{map, take, arith, sym}
 use Rattle.std.specs.BTreeMap.{get}
 use Rattle.std.specs.Cmp.Lexicographic.{slice_cmp}
 use Rattle.std.specs.Ordering.{nat_cmp}
-use Rattle.fir_ast.specs.View.{module_of, named_of}
+use Rattle.fir_ast.specs.working.Views.{module_of, named_of}
 use Rattle.fir_names.specs.working.Numbered.{names_of}
 use Rattle.fir_names.proofs.LookUps.{none_there}
 use Rattle.fir_resolve.proofs.NumberedModules.{names_count, names_more, numbers_kept, numbers_more}

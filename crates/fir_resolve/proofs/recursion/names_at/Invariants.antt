@@ -1,5 +1,5 @@
 use Rattle.std.proofs.Common.{◌≡◌, map, take}
-use Rattle.fir_ast.specs.View.{module_of}
+use Rattle.fir_ast.specs.working.Views.{module_of}
 use Rattle.fir_names.specs.working.Ordered.{name_at}
 use Rattle.fir_resolve.proofs.recursion.names_at.Given as goal
 

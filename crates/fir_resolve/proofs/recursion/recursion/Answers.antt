@@ -2,7 +2,7 @@ use Rattle.std.proofs.Common.{ℕ, ◌<◌, ◌∙◌, List, length, get_or, map
 use Rattle.std.specs.List.{AllByRecursion}
 use Rattle.std.proofs.lemmas.List.{length-map}
 use Rattle.fir_ast.specs.declared.circuit.Module.{Module}
-use Rattle.fir_ast.specs.View.{circuit_of, module_of}
+use Rattle.fir_ast.specs.working.Views.{circuit_of, module_of}
 use Rattle.fir_meaning.specs.NameGroups.{IsRecursive, recursive}
 use Rattle.fir_names.specs.working.Ordered.{HasInstance, IsFirstInstance, name_at}
 use Rattle.fir_resolve.proofs.ModuleCircles.{first_within, first_has, circle_within, circle_shows}

@@ -1,6 +1,6 @@
 use Rattle.std.proofs.Common.{List, map, drop}
 use Rattle.fir_ast.specs.Statements.{PlacedName}
-use Rattle.fir_ast.specs.View.{block_of, stmt_of}
+use Rattle.fir_ast.specs.working.Views.{block_of, stmt_of}
 use Rattle.fir_meaning.specs.Visibility.{Before}
 use Rattle.fir_names.specs.working.Numbered.{HasNumbers}
 use Rattle.fir_resolve.specs.working.Scoped.{Walks}

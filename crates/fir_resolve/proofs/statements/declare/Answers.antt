@@ -1,5 +1,5 @@
 use Rattle.std.proofs.Common.{[], sym}
-use Rattle.fir_ast.specs.View.{named_of}
+use Rattle.fir_ast.specs.working.Views.{named_of}
 use Rattle.fir_meaning.specs.Mentions.{declares, names_declared}
 use Rattle.fir_names.proofs.FirstMentions.{head_silent}
 use Rattle.fir_resolve.proofs.PassedMentions.{is_new, passes_silent}

@@ -1,4 +1,4 @@
-use Rattle.fir_ast.specs.View.{expr_of, sink_of}
+use Rattle.fir_ast.specs.working.Views.{expr_of, sink_of}
 use Rattle.fir_meaning.specs.Mentions.{expression_mentions, sink_mentions}
 use Rattle.fir_names.proofs.FirstMentions.{front_told}
 use Rattle.fir_resolve.proofs.statements.in_connect.Goals as goal

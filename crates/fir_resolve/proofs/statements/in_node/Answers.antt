@@ -1,5 +1,5 @@
 use Rattle.std.proofs.Common.{refl, sym, ◌∙◌}
-use Rattle.fir_ast.specs.View.{expr_of, named_of}
+use Rattle.fir_ast.specs.working.Views.{expr_of, named_of}
 use Rattle.fir_pass.specs.Groups.{first_of}
 use Rattle.fir_meaning.specs.Components as component
 use Rattle.fir_meaning.specs.Mentions.{declares, names_declared, expression_mentions}

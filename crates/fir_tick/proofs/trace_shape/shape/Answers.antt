@@ -1,6 +1,6 @@
 use Rattle.std.proofs.Common.{sym, ◌∙◌, ap, subst, Ok}
 use Rattle.fir_tick.specs.working.Shapes.{IsShapeOf}
-use Rattle.trace_text.specs.Shapes.{IsShape}
+use Rattle.trace_text.specs.working.Shapes.{IsShape}
 use Rattle.fir_tick.proofs.WholeShapes.{made_by, made_is_shape, made_of_net, leaf_words}
 use Rattle.fir_tick.proofs.trace_shape.shape.Goals as goal
 

@@ -1,4 +1,4 @@
-use Rattle.fir_ast.specs.View.{circuit_of}
+use Rattle.fir_ast.specs.working.Views.{circuit_of}
 use Rattle.fir_type_table.specs.working.Tables.{types_of}
 use Rattle.fir_types.proofs.LeafWalks.{circuit_all, circuit_first, circuit_next, module_beside}
 use Rattle.fir_types.proofs.leaf_numbers.first_leaves.Goals as goal

@@ -1,4 +1,4 @@
-use Rattle.fir_ast.specs.View.{circuit_of}
+use Rattle.fir_ast.specs.working.Views.{circuit_of}
 use Rattle.fir_types.proofs.LeafWalks.{CircuitSoFar}
 use Rattle.fir_types.proofs.leaf_numbers.first_leaves.Given as goal
 

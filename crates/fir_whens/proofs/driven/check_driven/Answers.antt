@@ -1,5 +1,5 @@
 use Rattle.std.proofs.Common.{◌≡◌, ◌≤◌, length, arith, subst, ◌∙◌}
-use Rattle.fir_ast.specs.View.{circuit_of}
+use Rattle.fir_ast.specs.working.Views.{circuit_of}
 use Rattle.fir_whens.specs.working.ModuleFaults.{IsFoundOf}
 use Rattle.fir_whens.proofs.UndrivenCircuits.{ModulesDriven, all_clear, all_driven, first_fault, one_more}
 use Rattle.fir_whens.proofs.driven.check_driven.Goals as goal

@@ -1,4 +1,4 @@
-use Rattle.fir_ast.specs.View.{circuit_of}
+use Rattle.fir_ast.specs.working.Views.{circuit_of}
 use Rattle.fir_whens.proofs.UndrivenCircuits.{ModulesDriven}
 use Rattle.fir_whens.proofs.driven.check_driven.Given as goal
 

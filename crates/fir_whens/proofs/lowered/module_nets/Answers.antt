@@ -1,6 +1,6 @@
 use Rattle.std.proofs.Common.{length, refl}
 use Rattle.std.proofs.lemmas.Option.{slice_get_read}
-use Rattle.fir_ast.specs.View.{circuit_of}
+use Rattle.fir_ast.specs.working.Views.{circuit_of}
 use Rattle.fir_whens.proofs.NetsOfCircuits.{net_there, one_more_net}
 use Rattle.fir_whens.proofs.lowered.module_nets.Goals as goal
 

@@ -1,4 +1,4 @@
-use Rattle.fir_ast.specs.View.{circuit_of}
+use Rattle.fir_ast.specs.working.Views.{circuit_of}
 use Rattle.fir_whens.proofs.NetsOfCircuits.{NetsSoFar}
 use Rattle.fir_whens.proofs.lowered.module_nets.Given as goal
 

@@ -3,7 +3,7 @@ use Rattle.std.specs.Prelude.{slice_get}
 use Rattle.std.proofs.lemmas.Bool.{ltb-true}
 use Rattle.std.proofs.lemmas.Option.{slice_get_read, slice_get_within}
 use Rattle.fir_ast.specs.declared.fault.FirFault.TheVariants.{Undriven}
-use Rattle.fir_ast.specs.View.{circuit_of}
+use Rattle.fir_ast.specs.working.Views.{circuit_of}
 use Rattle.fir_meaning.specs.Choices.{covers_all}
 use Rattle.fir_meaning.specs.LeafModules.{LeafDeclared}
 use Rattle.fir_meaning.specs.Outcomes.{told_once}

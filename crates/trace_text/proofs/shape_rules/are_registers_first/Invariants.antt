@@ -1,6 +1,6 @@
 use Rattle.std.proofs.Common.{drop}
 use Rattle.std.specs.Prelude.{◌↔◌, MatchBool}
-use Rattle.trace_text.specs.Shapes.{AreArrays, AreRegistersFirst}
+use Rattle.trace_text.specs.working.Shapes.{AreArrays, AreRegistersFirst}
 use Rattle.trace_text.proofs.shape_rules.are_registers_first.Given as goal
 
 -- behind an array only arrays may follow

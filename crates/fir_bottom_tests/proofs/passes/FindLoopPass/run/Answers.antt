@@ -1,6 +1,6 @@
 use Rattle.std.proofs.Common.{◌≡◌, ℕ, zero, suc, ◌≤◌, Bool, true, false, arith}
 use Rattle.fir_pass.specs.Groups.{IsClear, group_at}
-use Rattle.fir_pass.specs.Law.{Keeps}
+use Rattle.fir_pass.specs.working.Law.{Keeps}
 use Rattle.fir_pass.specs.working.Sketches.{sketch_groups, sketch_meaning}
 use Rattle.fir_bottom_tests.proofs.passes.FindLoopPass.run.Goals as goal
 

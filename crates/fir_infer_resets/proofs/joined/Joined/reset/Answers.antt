@@ -1,7 +1,7 @@
 use Rattle.std.proofs.Common.{◌≡◌, refl, sym, subst}
 use Rattle.std.specs.Prelude.{IfOk}
 use Rattle.std.proofs.lemmas.Result.{IfOk-weaker}
-use Rattle.fir_ast.specs.View.{circuit_of}
+use Rattle.fir_ast.specs.working.Views.{circuit_of}
 use Rattle.fir_infer_resets.specs.working.Holding.{path_of, reset_end, HasNumber}
 use Rattle.fir_meaning.specs.ResetWalks.{IsLeafOf}
 use Rattle.fir_infer_resets.proofs.HeldGraphs.{number_through}

@@ -2,7 +2,7 @@ use Rattle.std.proofs.Common.{[], ◌∷◌, ◌++◌, ◌+◌, map, drop, sym, 
 use Rattle.std.proofs.lemmas.List.{drop_all}
 use Rattle.fir_ast.specs.Expressions.{literal, mux, operation, validif}
 use Rattle.fir_ast.specs.Statements.{Sink}
-use Rattle.fir_ast.specs.View.{expr_of, expressions_of, parts_of, sink_of}
+use Rattle.fir_ast.specs.working.Views.{expr_of, expressions_of, parts_of, sink_of}
 use Rattle.fir_ast.proofs.TreeViews.{mux_view, operation_view, validif_view}
 use Rattle.fir_meaning.specs.ExpressionTypes.{expression_type}
 use Rattle.fir_names.specs.working.Parts.{part_of}

@@ -1,6 +1,6 @@
 use Rattle.std.proofs.Common.{◌++◌, ap}
 use Rattle.std.specs.Prelude.{option_map}
-use Rattle.fir_ast.specs.View.{expr_of, reset_of}
+use Rattle.fir_ast.specs.working.Views.{expr_of, reset_of}
 use Rattle.fir_types.specs.working.Notes.{expression_notes}
 use Rattle.fir_infer_resets.proofs.NotesPassed.{ahead_behind, passes_then}
 use Rattle.fir_infer_resets.proofs.meets.Walk.pass_reset.Goals as goal

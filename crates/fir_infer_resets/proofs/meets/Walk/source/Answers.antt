@@ -1,5 +1,5 @@
 use Rattle.std.proofs.Common.{refl, ap, ◌∙◌}
-use Rattle.fir_ast.specs.View.{expr_of}
+use Rattle.fir_ast.specs.working.Views.{expr_of}
 use Rattle.fir_types.proofs.PartViews.{reference_view}
 use Rattle.fir_infer_resets.proofs.NotesPassed.{value_no_reference}
 use Rattle.fir_infer_resets.proofs.meets.Walk.source.Goals as goal

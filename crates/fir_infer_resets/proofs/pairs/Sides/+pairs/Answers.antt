@@ -1,7 +1,7 @@
 use Rattle.std.proofs.Common.{ℕ, ◌+◌, ◌<◌, List, [], ◌∷◌, ◌++◌, length, sym, ap, ◌∙◌, subst, arith, Vec, Global}
 use Rattle.std.specs.Prelude.{option_map}
 use Rattle.std.proofs.lemmas.Result.{on_ok_weaker}
-use Rattle.fir_ast.specs.View.{circuit_of}
+use Rattle.fir_ast.specs.working.Views.{circuit_of}
 use Rattle.fir_type_table.specs.declared.entry.Member.{Member}
 use Rattle.fir_type_table.specs.working.Tables.{member_fields, members_at, shown, shown_fields, type_at, types_of}
 use Rattle.fir_meaning.specs.LeafPaths.{named}

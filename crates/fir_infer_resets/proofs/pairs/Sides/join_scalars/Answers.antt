@@ -1,6 +1,6 @@
 use Rattle.std.proofs.Common.{false, subst}
 use Rattle.std.specs.Prelude.{IsTrue}
-use Rattle.fir_ast.specs.View.{circuit_of}
+use Rattle.fir_ast.specs.working.Views.{circuit_of}
 use Rattle.fir_infer_resets.specs.working.Holding.{path_of}
 use Rattle.fir_infer_resets.proofs.MetSteps.{where_ok, at_ok}
 use Rattle.fir_infer_resets.proofs.ScalarsMet.{no_reset_met, no_left_met, no_right_met, both_met}

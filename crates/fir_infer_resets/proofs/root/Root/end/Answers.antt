@@ -1,6 +1,6 @@
 use Rattle.std.proofs.Common.{Some, IfOk, sym, ap, ◌∙◌, ◌≡◌, subst}
 use Rattle.fir_ast.specs.Types.{reset}
-use Rattle.fir_ast.specs.View.{circuit_of}
+use Rattle.fir_ast.specs.working.Views.{circuit_of}
 use Rattle.fir_infer_resets.specs.working.Holding.{path_of}
 use Rattle.fir_infer_resets.specs.working.FirstEnds.{first_ends, HasEnd, AreLeaves}
 use Rattle.fir_infer_resets.proofs.FirstEndNumbers.{kind_reset, kind_other}

@@ -1,5 +1,5 @@
 use Rattle.std.proofs.Common.{◌++◌, ap, ◌∙◌}
-use Rattle.fir_ast.specs.View.{circuit_of}
+use Rattle.fir_ast.specs.working.Views.{circuit_of}
 use Rattle.fir_infer_resets.specs.working.Holding.{path_of}
 use Rattle.fir_infer_resets.proofs.FirstEndNumbers.{reset_numbered}
 use Rattle.fir_infer_resets.proofs.root.Root.reset.Goals as goal

@@ -1,6 +1,6 @@
 use Rattle.std.proofs.Common.{◌∙◌, ap, subst, slice_get}
 use Rattle.fir_ast.specs.declared.circuit.Circuit.{Circuit}
-use Rattle.fir_ast.specs.View.{circuit_of}
+use Rattle.fir_ast.specs.working.Views.{circuit_of}
 use Rattle.fir_meaning.specs.Mentions.{module_names}
 use Rattle.fir_names.specs.working.Judged.{TabulatesEach}
 use Rattle.fir_names.proofs.TablesByNumber.{item_is, lent_table}

@@ -1,6 +1,6 @@
 use Rattle.std.proofs.Common.{◌≡◌, ◌∙◌, sym, ap, subst, map, slice_get, option_copied, option_map, Some}
 use Rattle.fir_ast.specs.declared.circuit.Circuit.{Circuit}
-use Rattle.fir_ast.specs.View.{module_of, port_of}
+use Rattle.fir_ast.specs.working.Views.{module_of, port_of}
 use Rattle.fir_names.proofs.TablesByNumber.{item_is}
 use Rattle.fir_names.proofs.PortEntries.{without_table, without_entry, without_port, without_module, with_port}
 use Rattle.fir_names.proofs.named.Named.port.Goals as goal

@@ -1,5 +1,5 @@
 use Rattle.std.proofs.Common.{◌∙◌, ap, sym}
-use Rattle.fir_ast.specs.View.{named_of}
+use Rattle.fir_ast.specs.working.Views.{named_of}
 use Rattle.fir_meaning.specs.Components.{find}
 use Rattle.fir_names.proofs.GrownTables.{entry_by, tabulates_more}
 use Rattle.fir_names.proofs.names.Names.declare.Goals as goal

@@ -3,7 +3,7 @@ use Rattle.std.proofs.lemmas.List.{length-map}
 use Rattle.std.proofs.lemmas.Bool.{eqb-true}
 use Rattle.std.specs.Str.{bytes_eq}
 use Rattle.fir_ast.specs.Statements.{done, invalid}
-use Rattle.fir_ast.specs.View.{block_of, expr_of, stmt_of}
+use Rattle.fir_ast.specs.working.Views.{block_of, expr_of, stmt_of}
 use Rattle.fir_parse.specs.declared.lexeme.Lexeme.{Lexeme}
 use Rattle.fir_parse.specs.declared.lexeme.Lexeme.TheVariants.{Word, Mark, LevelOpens, LevelCloses, End}
 use Rattle.fir_parse.specs.declared.lexeme.Mark.TheVariants.{Colon}

@@ -1,5 +1,5 @@
 use Rattle.std.proofs.Common.{◌≡◌, codes, rules, refl}
-use Rattle.fir_ast.specs.View.{sink_of, stmt_of}
+use Rattle.fir_ast.specs.working.Views.{sink_of, stmt_of}
 use Rattle.fir_ast.specs.Statements.{invalid}
 use Rattle.fir_parse.specs.declared.lexeme.Lexeme.TheVariants.{Mark}
 use Rattle.fir_parse.specs.declared.lexeme.Mark.TheVariants.{Connect, PartialConnect}

@@ -1,7 +1,7 @@
 use Rattle.std.proofs.Common.{◌≡◌, [], map, refl, ap, ◌∙◌}
 use Rattle.fir_ast.specs.declared.place.Place.{Place}
 use Rattle.fir_ast.specs.Statements.{done}
-use Rattle.fir_ast.specs.View.{port_of}
+use Rattle.fir_ast.specs.working.Views.{port_of}
 use Rattle.fir_parse.specs.declared.lexeme.Lexeme.{Lexeme}
 use Rattle.fir_parse.specs.declared.lexeme.Lexeme.TheVariants.{LevelOpens}
 use Rattle.fir_parse.specs.Lexemes.{level_opens}

@@ -1,5 +1,5 @@
 use Rattle.std.proofs.Common.{◌≡◌, [], ◌∷◌, ◌++◌, map, ◌∙◌}
-use Rattle.fir_ast.specs.View.{named_of}
+use Rattle.fir_ast.specs.working.Views.{named_of}
 use Rattle.fir_parse.specs.working.MemoryRules.{names_plan}
 use Rattle.fir_parse.specs.working.States.{wants}
 use Rattle.fir_parse.specs.working.Symbols.{more_names}

@@ -1,6 +1,6 @@
 use Rattle.std.proofs.Common.{◌∙◌, refl}
 use Rattle.fir_ast.specs.Statements.{depth, read_latency, write_latency, reader, writer, readwriter}
-use Rattle.fir_ast.specs.View.{memory_part_of}
+use Rattle.fir_ast.specs.working.Views.{memory_part_of}
 use Rattle.fir_parse.specs.declared.words.FieldWord.TheVariants.{DataType, Depth, ReadLatency, WriteLatency, Reader, Writer, Readwriter, ReadUnderWrite}
 use Rattle.fir_parse.specs.working.MemoryRules.{names_field, number_field}
 use Rattle.fir_parse.specs.working.PartPlans.{data_type_plan, under_write_plan}

@@ -1,5 +1,5 @@
 use Rattle.std.proofs.Common.{◌≡◌, [], ◌∷◌, ◌++◌, map, ◌∙◌}
-use Rattle.fir_ast.specs.View.{memory_part_of}
+use Rattle.fir_ast.specs.working.Views.{memory_part_of}
 use Rattle.fir_parse.specs.working.States.{wants}
 use Rattle.fir_parse.specs.working.Symbols.{a_memory_field, more_memory_fields}
 use Rattle.fir_parse.proofs.LoopReads.{pushed}

@@ -1,5 +1,5 @@
 use Rattle.std.proofs.Common.{◌≡◌, [], ◌∷◌, ◌++◌, map, ◌∙◌}
-use Rattle.fir_ast.specs.View.{module_of}
+use Rattle.fir_ast.specs.working.Views.{module_of}
 use Rattle.fir_parse.specs.working.States.{wants}
 use Rattle.fir_parse.specs.working.Symbols.{first_module, more_modules}
 use Rattle.fir_parse.proofs.LoopReads.{pushed}

@@ -1,6 +1,6 @@
 use Rattle.std.proofs.Common.{[], ◌++◌, map, refl, ap, ◌∙◌, arith}
 use Rattle.std.proofs.lemmas.List.{append-nil}
-use Rattle.fir_ast.specs.View.{module_of}
+use Rattle.fir_ast.specs.working.Views.{module_of}
 use Rattle.fir_parse.specs.declared.lexeme.Lexeme.TheVariants.{LevelCloses}
 use Rattle.fir_parse.specs.Lexemes.{level_closes}
 use Rattle.fir_parse.specs.working.Reading.{read_on}

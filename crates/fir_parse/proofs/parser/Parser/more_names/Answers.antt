@@ -1,6 +1,6 @@
 use Rattle.std.proofs.Common.{[], ◌∷◌, ◌++◌, map, refl, ap, ◌∙◌, arith}
 use Rattle.std.proofs.lemmas.List.{append-nil}
-use Rattle.fir_ast.specs.View.{named_of}
+use Rattle.fir_ast.specs.working.Views.{named_of}
 use Rattle.fir_parse.specs.declared.lexeme.Lexeme.TheVariants.{LineEnd}
 use Rattle.fir_parse.specs.Lexemes.{line_end}
 use Rattle.fir_parse.specs.working.Reading.{read_on}

@@ -1,6 +1,6 @@
 use Rattle.std.proofs.Common.{refl, sym, ap, ◌∙◌}
 use Rattle.fir_ast.specs.Statements.{Sink, partial_connect}
-use Rattle.fir_ast.specs.View.{expr_of, sink_of}
+use Rattle.fir_ast.specs.working.Views.{expr_of, sink_of}
 use Rattle.fir_parse.specs.Limits.{everywhere}
 use Rattle.fir_parse.specs.working.Reading.{read_on}
 use Rattle.fir_parse.specs.working.Reads.{rest}

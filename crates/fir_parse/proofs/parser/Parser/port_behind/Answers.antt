@@ -1,5 +1,5 @@
 use Rattle.std.proofs.Common.{refl}
-use Rattle.fir_ast.specs.View.{named_of}
+use Rattle.fir_ast.specs.working.Views.{named_of}
 use Rattle.fir_parse.specs.working.States.{wants}
 use Rattle.fir_parse.specs.working.StatementRules.{ends_line}
 use Rattle.fir_parse.specs.working.Symbols.{a_type, port}

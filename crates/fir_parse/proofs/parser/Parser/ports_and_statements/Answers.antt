@@ -1,6 +1,6 @@
 use Rattle.std.proofs.Common.{[], map, refl, ap, ◌∙◌, arith}
 use Rattle.fir_ast.specs.Statements.{done}
-use Rattle.fir_ast.specs.View.{port_of}
+use Rattle.fir_ast.specs.working.Views.{port_of}
 use Rattle.fir_parse.specs.declared.lexeme.Lexeme.TheVariants.{LevelCloses}
 use Rattle.fir_parse.specs.working.CircuitRules.{behind_port}
 use Rattle.fir_parse.specs.Lexemes.{level_closes}

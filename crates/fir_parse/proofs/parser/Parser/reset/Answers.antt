@@ -1,5 +1,5 @@
 use Rattle.std.proofs.Common.{refl, None, option_map}
-use Rattle.fir_ast.specs.View.{reset_of}
+use Rattle.fir_ast.specs.working.Views.{reset_of}
 use Rattle.fir_parse.specs.declared.lexeme.Lexeme.TheVariants.{LineEnd}
 use Rattle.fir_parse.specs.Lexemes.{line_end}
 use Rattle.fir_parse.specs.working.PartPlans.{reset_part_plan}

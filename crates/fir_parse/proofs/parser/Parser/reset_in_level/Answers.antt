@@ -1,5 +1,5 @@
 use Rattle.std.proofs.Common.{◌∙◌}
-use Rattle.fir_ast.specs.View.{reset_of}
+use Rattle.fir_ast.specs.working.Views.{reset_of}
 use Rattle.fir_parse.specs.working.StatementRules.{ends_line}
 use Rattle.fir_parse.specs.working.States.{wants}
 use Rattle.fir_parse.specs.working.Symbols.{a_closing, a_line_end}

@@ -1,6 +1,6 @@
 use Rattle.std.proofs.Common.{◌+◌, refl, ◌∙◌}
 use Rattle.fir_ast.specs.Statements.{Reset}
-use Rattle.fir_ast.specs.View.{reset_of}
+use Rattle.fir_ast.specs.working.Views.{reset_of}
 use Rattle.fir_parse.specs.declared.lexeme.Mark.TheVariants.{CloseRound}
 use Rattle.fir_parse.specs.working.Reads.{rest, Plan}
 use Rattle.fir_parse.specs.working.States.{opens, wants}

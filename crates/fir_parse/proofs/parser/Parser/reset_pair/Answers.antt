@@ -1,5 +1,5 @@
 use Rattle.std.proofs.Common.{◌+◌, ◌∙◌}
-use Rattle.fir_ast.specs.View.{reset_of}
+use Rattle.fir_ast.specs.working.Views.{reset_of}
 use Rattle.fir_parse.specs.working.PartPlans.{reset_behind_plan}
 use Rattle.fir_parse.specs.working.StatementRules.{reset_rest}
 use Rattle.fir_parse.specs.working.States.{opens}

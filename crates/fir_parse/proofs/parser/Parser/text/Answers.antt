@@ -1,6 +1,6 @@
 use Rattle.std.proofs.Common.{◌≡◌, ℕ, List, true, false, codes, refl, sym, ap, ◌∙◌, Bor}
 use Rattle.std.specs.Str.{bytes_eq}
-use Rattle.fir_ast.specs.View.{circuit_of}
+use Rattle.fir_ast.specs.working.Views.{circuit_of}
 use Rattle.fir_parse.specs.declared.lexeme.Lexeme.{Lexeme}
 use Rattle.fir_parse.specs.declared.lexeme.Lexeme.TheVariants.{Word}
 use Rattle.fir_parse.specs.working.CircuitRules.{version_rest}

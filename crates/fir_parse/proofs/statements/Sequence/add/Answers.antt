@@ -1,6 +1,6 @@
 use Rattle.std.proofs.Common.{[], map, sym, ap, ◌∙◌}
 use Rattle.fir_ast.specs.Statements.{then}
-use Rattle.fir_ast.specs.View.{stmt_of}
+use Rattle.fir_ast.specs.working.Views.{stmt_of}
 use Rattle.fir_parse.specs.working.StatementRules.{behind_statement}
 use Rattle.fir_parse.specs.working.StatementTrees.{begun_of, done_of, open_when_of, statements_before}
 use Rattle.fir_parse.proofs.Sequences.{done_longer, level_alike, no_opens}

@@ -1,6 +1,6 @@
 use Rattle.std.proofs.Common.{◌≡◌, [], ◌∷◌, ◌++◌, length, true, map, refl, sym, ap, ◌∙◌}
 use Rattle.std.proofs.lemmas.Bool.{eq-eqb, eqb-true}
-use Rattle.fir_ast.specs.View.{block_of, stmt_of}
+use Rattle.fir_ast.specs.working.Views.{block_of, stmt_of}
 use Rattle.fir_parse.specs.working.StatementTrees.{done_of, statements_before}
 use Rattle.fir_parse.proofs.Sequences.{closes_first, closes_last, closes_none, none_left, when_with}
 use Rattle.fir_parse.proofs.statements.Sequence.close.Goals as goal

@@ -1,6 +1,6 @@
 use Rattle.std.proofs.Common.{◌≡◌, map}
 use Rattle.fir_ast.specs.Statements.{Block}
-use Rattle.fir_ast.specs.View.{block_of, stmt_of}
+use Rattle.fir_ast.specs.working.Views.{block_of, stmt_of}
 use Rattle.fir_parse.specs.working.StatementRules.{closed_before}
 use Rattle.fir_parse.specs.working.StatementTrees.{done_of, opens_of, statements_before}
 use Rattle.fir_parse.proofs.statements.Sequence.close.Given as goal

@@ -1,5 +1,5 @@
 use Rattle.std.proofs.Common.{◌∙◌, refl, sym}
-use Rattle.fir_ast.specs.View.{named_of}
+use Rattle.fir_ast.specs.working.Views.{named_of}
 use Rattle.fir_meaning.specs.Visibility.{declaration_at}
 use Rattle.fir_names.proofs.TableEntries.{unnamed}
 use Rattle.fir_resolve.proofs.WalkedScopes.{walks_more}

@@ -1,5 +1,5 @@
 use Rattle.std.proofs.Common.{◌∙◌, ap, sym, Some}
-use Rattle.fir_ast.specs.View.{named_of}
+use Rattle.fir_ast.specs.working.Views.{named_of}
 use Rattle.fir_pass.specs.Groups.{first_of}
 use Rattle.fir_names.specs.working.Tabulated.{entry_named}
 use Rattle.fir_names.proofs.TableEntries.{second_is, told_by_entry, none_by_entry}

@@ -1,6 +1,6 @@
 use Rattle.std.proofs.Common.{◌+◌, ap, map, subst, sym, ◌∙◌}
 use Rattle.std.specs.Prelude.{◌≡◌, is_some}
-use Rattle.fir_ast.specs.View.{circuit_of}
+use Rattle.fir_ast.specs.working.Views.{circuit_of}
 use Rattle.fir_type_table.specs.working.Saturated.{saturated}
 use Rattle.fir_types.specs.working.LeafNumbers.{first_leaves}
 use Rattle.fir_types.proofs.LeafWalks.{leaf_past, leaf_there, named_number, read_at}

@@ -1,5 +1,5 @@
 use Rattle.std.proofs.Common.{subst}
-use Rattle.fir_ast.specs.View.{circuit_of}
+use Rattle.fir_ast.specs.working.Views.{circuit_of}
 use Rattle.fir_whens.specs.working.ModuleFaults.{AreAllDriven}
 use Rattle.fir_whens.specs.working.ModuleNets.{AreAllTyped}
 use Rattle.fir_whens.specs.working.NetCircuits.{AreNets}

@@ -1,5 +1,5 @@
 use Rattle.std.proofs.Common.{rules, ◌≡◌, subst}
-use Rattle.fir_ast.specs.View.{circuit_of}
+use Rattle.fir_ast.specs.working.Views.{circuit_of}
 use Rattle.fir_meaning.specs.WidthExpressions.{width_of}
 use Rattle.fir_meaning.specs.working.AssignedWidths.{assigned}
 use Rattle.fir_width.specs.working.Fitting.{HasWidths}
