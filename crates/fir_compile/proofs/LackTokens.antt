@@ -22,7 +22,7 @@ use Rattle.fir_meaning.specs.Lack.{Lack, lack}
 use Rattle.fir_meaning.specs.LeafedModules.{Scene}
 use Rattle.fir_meaning.specs.Scenes.{IsSceneOf}
 use Rattle.fir_meaning.specs.SizedDeclarations.{NumberedModule, Numbering, first_numbers, modules_from}
-use Rattle.fir_lack.specs.Lacking.{declares, declares_in, holds_clock, is_clock_input, lack_if, lacking, lacking_behind, lacking_block, lacking_clock, lacking_module, lacking_port, lacking_ports, lacking_reset, lacking_statement, resets_at_once, type_word}
+use Rattle.fir_lack.specs.Lacking.{holds_clock, is_clock_input, lack_if, lacking, lacking_behind, lacking_block, lacking_clock, lacking_module, lacking_port, lacking_ports, lacking_reset, lacking_statement, type_word}
 use Rattle.fir_outcome.specs.Refusals.{NamesItsToken}
 use Rattle.fir_spelled.proofs.WordPieces.{KeepsWords, token, somewhere, nothing, given, at, next, either}
 use Rattle.fir_spelled.proofs.TypesKeepWords.{type_keeps}

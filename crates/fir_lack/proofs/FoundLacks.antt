@@ -16,7 +16,7 @@ use Rattle.fir_meaning.specs.TypeGroup.{type_faults}
 use Rattle.fir_meaning.specs.working.WidthLaws.{FitsAll}
 use Rattle.fir_lack.specs.declared.lack.Lack.{Lack as LackOfCode}
 use Rattle.fir_lack.specs.declared.marks.Mark.{Mark}
-use Rattle.fir_lack.specs.Lacking.{is_reset_at_once, some_leaf}
+use Rattle.fir_lack.specs.working.NumberedLacks.{is_reset_at_once, some_leaf}
 use Rattle.fir_lack.specs.working.Lacks.{IsLack, IsLoneWithout}
 use Rattle.fir_lack.specs.working.Laws.{WithoutLackIsLone}
 use Rattle.fir_lack.specs.working.Marked.{AreMarks, MarksAll, mark_of}

@@ -19,7 +19,8 @@ use Rattle.fir_meaning.specs.working.WidthLaws.{OneLeast}
 use Rattle.fir_inst.specs.working.LoneCircuits.{IsLoneModule, IsPlainRole}
 use Rattle.fir_inst.proofs.PortRoles.{port_roles}
 use Rattle.fir_leaf_types.specs.working.TypedModules.{IsModuleTyped, IsRoleTyped, LeafedModulesAreTyped, held_in}
-use Rattle.fir_lack.specs.Lacking.{lacking_behind, lacking_block, lacking_module, lacking_ports}
+use Rattle.fir_lack.specs.Lacking.{lacking_behind}
+use Rattle.fir_lack.specs.working.NumberedLacks.{lacking_block, lacking_module, lacking_ports}
 use Rattle.fir_lack.specs.working.Laws.{WithoutLackIsLone}
 use Rattle.fir_lack.proofs.LackParts.{none_first, none_second}
 use Rattle.fir_lack.proofs.NoArrays.{no_arrays}
