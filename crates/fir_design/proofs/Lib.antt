@@ -116,3 +116,8 @@ pub mod TreeRuns
 pub mod OneSettled
 pub mod AllScenes
 pub mod MeantSources
+pub mod WrittenSources
+pub mod SourceTests
+pub mod RowPaths
+pub mod PipeRows
+pub mod WriteRows

@@ -1,14 +1,16 @@
 -- Worked faults of leaf circuits, computed from texts: loops, clocks with two live statements or an index, an asynchronous init that reaches an input.
-use Rattle.std.proofs.Common.{◌≡◌, ℕ, zero, suc, List, [], ◌∷◌, ◌++◌, true, false, refl, sym, subst, arith, inl, inr, nat_eq}
+use Rattle.std.proofs.Common.{◌≡◌, ℕ, zero, suc, List, [], ◌∷◌, ◌++◌, true, false, refl, sym, subst, arith, inl, inr, nat_eq, length}
 use Rattle.std.proofs.lemmas.Bool.{eq-eqb}
 use Rattle.std.proofs.lemmas.Option.{same_Some}
 use Rattle.std.specs.Prelude.{codes}
+use Rattle.std.specs.Fmt.{digits}
 use Rattle.fir_base.specs.Lists.{In, Distinct}
 use Rattle.fir_ast.specs.declared.place.Place.{Place}
 use Rattle.fir_ast.specs.declared.fault.FirFault.{FirFault}
 use Rattle.fir_ast.specs.declared.fault.FirFault.TheVariants.{AsyncInit, Clock, Loop}
 use Rattle.fir_bits.specs.Literals.{least_width}
 use Rattle.fir_meaning.specs.Lack.{is_before}
+use Rattle.fir_meaning.specs.TermReads.{multiples}
 use Rattle.fir_meaning.specs.Choices.{Live, live_reads}
 use Rattle.fir_meaning.proofs.SmallTrees.{at}
 use Rattle.fir_meaning.specs.CircuitDependence.{CircuitDepends, IsWalk}
@@ -104,6 +106,21 @@ memory_shows_loop = record {
     ),
   );
   distinct = distinct (2 ∷ 6 ∷ 10 ∷ 7 ∷ 5 ∷ 3 ∷ []) refl;
+  is = refl;
+}
+
+-- v is invalid, v[0].b <= v[0].x.b, and v[i] <- v[j].x, by which first v[j].x.b takes v[i].b, and then v[i].x.b takes v[j].x.x.b; the leaves are i, j, v[0].b,
+-- v[0].x.b and v[0].x.x.b. Each of the two has an outcome of its own: where the first hits and the second misses, v[0].x.b hangs on v[0].b
+either_side_shows_loop : ShowsLoop (over_leaves text.either_side) (Loop (at 5 10) (codes "v[0].b" ∷ codes "v[0].x.b" ∷ codes "v[0].b" ∷ []))
+unfolding elaborated multiples digits
+either_side_shows_loop = record {
+  first = 2;
+  between = 3 ∷ [];
+  walk = (
+    record { live = _; is_live = record { choice = λ way. true; last = refl }; read = inl refl },
+    (record { live = _; is_live = record { choice = λ way. nat_eq (length way) 5; last = refl }; read = inr (inr (inl refl)) }, refl),
+  );
+  distinct = distinct (2 ∷ 3 ∷ []) refl;
   is = refl;
 }
 

@@ -52,6 +52,7 @@ pub mod FirstPlaces
 pub mod ClockSteps
 pub mod ClosedWalks
 pub mod FaultRows
+pub mod RankedRows
 pub mod ClockFaultRows
 pub mod Elaborating
 pub mod MovedTerms

@@ -24,7 +24,7 @@ clock_in (v ∷ vs) (suc x) = clock_in vs x
 abbrev pub env_of : List ℕ → List (Option ℕ) → Env
 env_of numbers clocks = record { numbers = number_in numbers; clocks = clock_in clocks }
 
-abbrev is_number : Option ℕ → ℕ → Bool
+abbrev pub is_number : Option ℕ → ℕ → Bool
 is_number None w = false
 is_number (Some v) w = nat_eq v w
 
@@ -33,16 +33,16 @@ same_clock None None = true
 same_clock (Some v) (Some w) = nat_eq v w
 same_clock _ _ = false
 
-abbrev is_clock : Option (Option ℕ) → Option ℕ → Bool
+abbrev pub is_clock : Option (Option ℕ) → Option ℕ → Bool
 is_clock None w = false
 is_clock (Some v) w = same_clock v w
 
-abbrev fit_each : List ℕ → List ℕ → Bool
+abbrev pub fit_each : List ℕ → List ℕ → Bool
 fit_each [] [] = true
 fit_each (w ∷ ws) (v ∷ vs) = nat_lt v (2 ^ w) && fit_each ws vs
 fit_each _ _ = false
 
-abbrev are_clocks : ℕ → ℕ → List ℕ → Bool
+abbrev pub are_clocks : ℕ → ℕ → List ℕ → Bool
 are_clocks low count [] = true
 are_clocks low count (k ∷ ks) = nat_le low k && (nat_lt k count && are_clocks (k + 1) count ks)
 
@@ -68,30 +68,30 @@ is_settled c state tick numbers clocks =
     fit_each (shape c).inputs tick.inputs && (are_clocks 0 (shape c).clocks tick.clocks && (fit_each (shape c).state state
     && (shows_each c state tick.inputs (env_of numbers clocks) 0 (length c.leaves) && has_values c numbers clocks)))
 
-left : (a b : Bool) → (a && b) ≡ true → a ≡ true
+pub left : (a b : Bool) → (a && b) ≡ true → a ≡ true
 left true b e = refl
 left false b e = absurd cc
 
-right : (a b : Bool) → (a && b) ≡ true → b ≡ true
+pub right : (a b : Bool) → (a && b) ≡ true → b ≡ true
 right true b e = e
 right false b e = absurd cc
 
-number_is : (o : Option ℕ) (w : ℕ) → is_number o w ≡ true → o ≡ Some w
+pub number_is : (o : Option ℕ) (w : ℕ) → is_number o w ≡ true → o ≡ Some w
 number_is None w e = absurd cc
 number_is (Some v) w e = let same : v ≡ w = grind arith in ap Some same
 
-clock_is : (o : Option (Option ℕ)) (w : Option ℕ) → is_clock o w ≡ true → o ≡ Some w
+pub clock_is : (o : Option (Option ℕ)) (w : Option ℕ) → is_clock o w ≡ true → o ≡ Some w
 clock_is None w e = absurd cc
 clock_is (Some None) None e = refl
 clock_is (Some None) (Some w) e = absurd cc
 clock_is (Some (Some v)) None e = absurd cc
 clock_is (Some (Some v)) (Some w) e = let same : v ≡ w = grind arith in ap (λ u. Some (Some u)) same
 
-none_is : (o : Option ℕ) → is_none o ≡ true → o ≡ None
+pub none_is : (o : Option ℕ) → is_none o ≡ true → o ≡ None
 none_is None e = refl
 none_is (Some v) e = absurd cc
 
-fits : (ws vs : List ℕ) → fit_each ws vs ≡ true → FitEach ws vs
+pub fits : (ws vs : List ℕ) → fit_each ws vs ≡ true → FitEach ws vs
 fits [] [] e = tt
 fits [] (v ∷ vs) e = absurd cc
 fits (w ∷ ws) [] e = absurd cc
@@ -99,7 +99,7 @@ fits (w ∷ ws) (v ∷ vs) e =
     let here = left (nat_lt v (2 ^ w)) (fit_each ws vs) e in
     ((grind arith), fits ws vs (right (nat_lt v (2 ^ w)) (fit_each ws vs) e))
 
-clocks_are : (low count : ℕ) (ks : List ℕ) → are_clocks low count ks ≡ true → AreClocks low count ks
+pub clocks_are : (low count : ℕ) (ks : List ℕ) → are_clocks low count ks ≡ true → AreClocks low count ks
 clocks_are low count [] e = tt
 clocks_are low count (k ∷ ks) e =
     let here = left (nat_le low k) _ e in

@@ -1,0 +1,5 @@
+pub mod PathsAlong
+pub mod TargetPaths
+pub mod ReadPaths
+pub mod ModuleReads
+pub mod AmongPaths

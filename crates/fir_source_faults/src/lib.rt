@@ -2,3 +2,7 @@
 //! those by paths say (FIRRTL spec, "Initialization of Components", "Last Connect Semantics"). Each law is the
 //! contract of a function that does nothing.
 #![tactic(auto)]
+
+mod read_laws;
+
+pub use read_laws::terms_read_as_expressions;
