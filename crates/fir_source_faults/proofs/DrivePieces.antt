@@ -26,14 +26,6 @@ use Rattle.fir_design.proofs.PathLookups.{same_test}
 use Rattle.fir_source_faults.specs.working.ReadsByPath.{path_in, paths_in}
 use Rattle.fir_source_faults.proofs.Pieces.{Agree, Piece, SameAt, SameLast, both_pieces, outer_reads, retold}
 
--- among numbers stands one where its path is among theirs
-pub among_same : (s : Scene) (x : ℕ) → ((y z : ℕ) → y < length (module_leaves s) → z < length (module_leaves s) → path_in s y ≡ path_in s z → y ≡ z)
-    → x < length (module_leaves s) → (ys : List ℕ) → AllByRecursion (λ y. y < length (module_leaves s)) ys
-    → is_among ys x ≡ has_path (paths_in s ys) (path_in s x)
-among_same s x once lt [] within = refl
-among_same s x once lt (y ∷ ys) within =
-    ap₂ (λ p q. p || q) (same_test (path_in s) y x (once y x within.0 lt)) (among_same s x once lt ys within.1)
-
 module _ (s : Scene) (depth x : ℕ) (under : List Branch) (k : ℕ) where
   abbrev path : LeafPath
   path = path_in s x

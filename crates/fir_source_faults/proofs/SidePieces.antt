@@ -24,7 +24,8 @@ use Rattle.fir_meaning.specs.Visits.{Branch}
 use Rattle.fir_meaning.specs.working.WellTyped.{HasType, Reaches}
 use Rattle.fir_leaf.specs.working.LeafLaws.{Begins}
 use Rattle.fir_source_faults.specs.working.ReadsByPath.{ReadsByPath, leaves_from, path_in, paths_in, scope_of_module}
-use Rattle.fir_source_faults.proofs.DrivePieces.{Beside, among_same, idle, one_drive}
+use Rattle.fir_source_faults.proofs.AmongPaths.{among_paths}
+use Rattle.fir_source_faults.proofs.DrivePieces.{Beside, idle, one_drive}
 
 -- what is given reads what its expression reads
 pub side_reads : (scope : TypedScope) (e : Expression) (q : LeafPath) → (side scope e q).reads ≡ tree.reads scope e q
@@ -57,7 +58,7 @@ module _ (s : Scene) (depth x : ℕ) (reading : ReadsByPath s) (lt : x < length 
       by None e all = nothing_driven driven given (ap (λ (ys : List LeafPath). has_path ys (path_in s x)) (sym e))
       by (Some b) e all =
           one_drive s depth x under k way p (b + n) r.picks t driven given
-          (among_same s x reading.once lt (by_number.reached (b + n) r.picks) all ∙ ap (λ (ys : List LeafPath). has_path ys (path_in s x)) e)
+          (among_paths s reading (by_number.reached (b + n) r.picks) x all lt ∙ ap (λ (ys : List LeafPath). has_path ys (path_in s x)) e)
           picked indices gives
 
   module _ (scope : TypedScope) (begins : Begins scope (scope_of_module s)) where
