@@ -1,6 +1,6 @@
 -- One statement over leaves beside one drive of the text, and statements and drives of which none drives the leaf.
-use Rattle.std.proofs.Common.{◌≡◌, ℕ, ◌<◌, List, [], ◌∷◌, ◌++◌, Bool, true, false, not, ◌&&◌, ◌||◌, drop, flat_map, length, if◌then◌else◌, Some, None, refl, sym, ap, ap₂, ◌∙◌, append_assoc, append-nil}
-use Rattle.std.specs.List.{list_any, AllByRecursion}
+use Rattle.std.proofs.Common.{◌≡◌, ℕ, List, [], ◌∷◌, ◌++◌, Bool, true, false, not, ◌&&◌, ◌||◌, drop, flat_map, if◌then◌else◌, Some, None, refl, sym, ap, ap₂, ◌∙◌, append_assoc, append-nil}
+use Rattle.std.specs.List.{list_any}
 use Rattle.std.proofs.lemmas.Bool.{and_right, or_parts}
 use Rattle.std.proofs.lemmas.Grind.{flat_map-append}
 use Rattle.std.proofs.lemmas.List.{map-append}
@@ -12,7 +12,7 @@ use Rattle.fir_meaning.specs.LeafBlocks.{LeafBlock, joined}
 use Rattle.fir_meaning.specs.LeafBlocks as leafed
 use Rattle.fir_meaning.specs.LeafPaths.{LeafPath}
 use Rattle.fir_meaning.specs.LeafedBlocks.{alone}
-use Rattle.fir_meaning.specs.LeafedModules.{Scene, module_leaves}
+use Rattle.fir_meaning.specs.LeafedModules.{Scene}
 use Rattle.fir_meaning.specs.SourceChoices.{Choice, are_taken, has_path, last, may_drive}
 use Rattle.fir_meaning.specs.SourceDrives.{Drive, Side}
 use Rattle.fir_meaning.specs.SourceUndriven.{told_drive}
@@ -22,7 +22,6 @@ use Rattle.fir_meaning.specs.Terms.{Picks, Term}
 use Rattle.fir_meaning.specs.UndrivenChoices as numbered
 use Rattle.fir_meaning.specs.UndrivenChoices.{drives_any}
 use Rattle.fir_meaning.specs.Visits.{Branch}
-use Rattle.fir_design.proofs.PathLookups.{same_test}
 use Rattle.fir_source_faults.specs.working.ReadsByPath.{path_in, paths_in}
 use Rattle.fir_source_faults.proofs.Pieces.{Agree, Piece, SameAt, SameLast, both_pieces, outer_reads, retold}
 
