@@ -3,6 +3,8 @@
 //! contract of a function that does nothing.
 #![tactic(auto)]
 
+mod drive_laws;
 mod read_laws;
 
+pub use drive_laws::drives_are_live_by_path;
 pub use read_laws::terms_read_as_expressions;
