@@ -12,3 +12,4 @@ pub mod ConnectPieces
 pub mod InvalidPieces
 pub mod BlockPieces
 pub mod ModuleDrives
+pub mod TakingWords

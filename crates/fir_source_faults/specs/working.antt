@@ -1,3 +1,4 @@
 pub mod ReadsByPath
 pub mod DrivesByPath
+pub mod NumberedTaking
 pub mod SameFaults
