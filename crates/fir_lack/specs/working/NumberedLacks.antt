@@ -1,15 +1,10 @@
 -- The first form of a circuit that `emit` and `sim` lack so far, as the code looks for it: by the numbers of declarations, over numbered leaves. It is the one
 -- that the definitions by names tell.
-use Rattle.std.specs.Prelude.{ℕ, suc, ◌+◌, List, [], ◌∷◌, codes, length, Bool, true, false, ◌&&◌, nat_eq, if◌then◌else◌, Option, Some, None}
+use Rattle.std.specs.Prelude.{ℕ, suc, ◌+◌, List, [], ◌∷◌, codes, length, Bool, false, ◌&&◌, nat_eq, if◌then◌else◌, Option, Some, None}
 use Rattle.std.specs.List.{list_any}
 use Rattle.std.specs.Option.{option_or}
-use Rattle.fir_base.specs.declared.direction.Direction.{Direction}
-use Rattle.fir_base.specs.declared.direction.Direction.TheVariants as direction
-use Rattle.fir_ast.specs.declared.place.Place.{Place}
-use Rattle.fir_ast.specs.Types.{DataType, uint, sint, clock, reset, async_reset, bundle, vector}
-use Rattle.fir_ast.specs.Expressions.{Expression, reference, Parts, no_parts}
 use Rattle.fir_ast.specs.Statements.{Reset, Statement, wire, register, node, instance, memory, when, Block, done, then}
-use Rattle.fir_ast.specs.Circuits.{PortTree, ModuleTree, CircuitTree}
+use Rattle.fir_ast.specs.Circuits.{PortTree, CircuitTree}
 use Rattle.fir_meaning.specs.Flattened.{is_clock}
 use Rattle.fir_meaning.specs.Lack.{Lack, lack}
 use Rattle.fir_meaning.specs.LeafModules.{LeafDeclared, LeafReset, Role}
