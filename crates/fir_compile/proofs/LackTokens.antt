@@ -22,7 +22,7 @@ use Rattle.fir_meaning.specs.Lack.{Lack, lack}
 use Rattle.fir_meaning.specs.LeafedModules.{Scene}
 use Rattle.fir_meaning.specs.Scenes.{IsSceneOf}
 use Rattle.fir_meaning.specs.SizedDeclarations.{NumberedModule, Numbering, first_numbers, modules_from}
-use Rattle.fir_lack.specs.Lacking.{declares, declares_in, holds_clock, is_clock_input, lack_if, lacking, lacking_behind, lacking_block, lacking_clock, lacking_module, lacking_port, lacking_ports, lacking_reset, lacking_statement, resets_at_once, type_word}
+use Rattle.fir_lack.specs.Lacking.{holds_clock, is_clock_input, is_reset_at_once, lack_if, lacking, lacking_behind, lacking_block, lacking_clock, lacking_module, lacking_port, lacking_ports, lacking_reset, lacking_statement, some_leaf, type_word}
 use Rattle.fir_outcome.specs.Refusals.{NamesItsToken}
 use Rattle.fir_spelled.proofs.WordPieces.{KeepsWords, token, somewhere, nothing, given, at, next, either}
 use Rattle.fir_spelled.proofs.TypesKeepWords.{type_keeps}
@@ -109,100 +109,100 @@ clock_stands d (mux p c x y) l a b e is = none_is_no_lack l e
 clock_stands d (validif p c x) l a b e is = none_is_no_lack l e
 
 module _ (s : Scene) (l : Lack) where
-  reset_stands : (k d : ℕ) (r : Option Reset) (a b : List Terminal) → lacking_reset s k r ≡ Some l → IsReset everywhere d r a b → NamesItsToken a l
-  reset_stands k d None a b e is = none_is_no_lack l e
-  reset_stands k d (Some r) a b e (m, x, rest) =
-      named_stands (codes "with") r.place l a m (lack_if_is (resets_at_once s k) r.place (codes "with") l e) x
+  reset_stands : (name : List ℕ) (d : ℕ) (r : Option Reset) (a b : List Terminal) → lacking_reset s name r ≡ Some l → IsReset everywhere d r a b → NamesItsToken a l
+  reset_stands name d None a b e is = none_is_no_lack l e
+  reset_stands name d (Some r) a b e (m, x, rest) =
+      named_stands (codes "with") r.place l a m (lack_if_is (some_leaf s (λ x. is_reset_at_once x.role) name) r.place (codes "with") l e) x
 
-  port_stands : (k : ℕ) (p : PortTree) (a b : List Terminal) → lacking_port s k p ≡ Some l → IsPort everywhere p a b → NamesItsToken a l
-  port_stands k p a b e is =
-      let same = lack_unless_is (is_clock_input p.direction p.data_type) (holds_clock s k) p.type_place (type_word p.data_type) l e in
+  port_stands : (p : PortTree) (a b : List Terminal) → lacking_port s p ≡ Some l → IsPort everywhere p a b → NamesItsToken a l
+  port_stands p a b e is =
+      let same = lack_unless_is (is_clock_input p.direction p.data_type) (holds_clock s p.named.name) p.type_place (type_word p.data_type) l e in
       declared_stands (Word (direction_word p.direction)) LineEnd somewhere p.named 0 p.type_place p.data_type l a b same is
 
-  ports_stand : (k : ℕ) (ps : List PortTree) (a b : List Terminal) → lacking_ports s k ps ≡ Some l → ArePorts everywhere ps a b → NamesItsToken a l
-  ports_stand k [] a b e is = none_is_no_lack l e
-  ports_stand k (p ∷ ps) a b e (m, x, y) =
-      elim (first_or_second (lacking_port s k p) (lacking_ports s (suc k) ps) l e) [
-        | inl first ↦ port_stands k p a m first x
-        | inr second ↦ later (port_keeps p) a m x l (ports_stand (suc k) ps m b second y)
+  ports_stand : (ps : List PortTree) (a b : List Terminal) → lacking_ports s ps ≡ Some l → ArePorts everywhere ps a b → NamesItsToken a l
+  ports_stand [] a b e is = none_is_no_lack l e
+  ports_stand (p ∷ ps) a b e (m, x, y) =
+      elim (first_or_second (lacking_port s p) (lacking_ports s ps) l e) [
+        | inl first ↦ port_stands p a m first x
+        | inr second ↦ later (port_keeps p) a m x l (ports_stand ps m b second y)
       ]
 
   -- a statement, or those behind it
-  first_or_rest : (k d : ℕ) (x : Statement) (rest : Block) (a m : List Terminal) → lacking_block s k ((then) x rest) ≡ Some l
-      → IsStatement everywhere d x a m → (lacking_statement s k x ≡ Some l → NamesItsToken a l)
-      → (lacking_block s (k + declares x) rest ≡ Some l → NamesItsToken m l) → NamesItsToken a l
-  first_or_rest k d x rest a m e is first_stands rest_stands =
-      elim (first_or_second (lacking_statement s k x) (lacking_block s (k + declares x) rest) l e) [
+  first_or_rest : (d : ℕ) (x : Statement) (rest : Block) (a m : List Terminal) → lacking_block s ((then) x rest) ≡ Some l
+      → IsStatement everywhere d x a m → (lacking_statement s x ≡ Some l → NamesItsToken a l)
+      → (lacking_block s rest ≡ Some l → NamesItsToken m l) → NamesItsToken a l
+  first_or_rest d x rest a m e is first_stands rest_stands =
+      elim (first_or_second (lacking_statement s x) (lacking_block s rest) l e) [
         | inl first ↦ first_stands first
         | inr second ↦ later (statement_keeps d x) a m is l (rest_stands second)
       ]
 
   mutual
-    statement_stands : (k d : ℕ) (x : Statement) (a b : List Terminal) → lacking_statement s k x ≡ Some l → IsStatement everywhere d x a b
+    statement_stands : (d : ℕ) (x : Statement) (a b : List Terminal) → lacking_statement s x ≡ Some l → IsStatement everywhere d x a b
         → NamesItsToken a l
-    statement_stands k d (wire p n q t) a b e is =
-        declared_stands (Token (word (codes "wire")) p) LineEnd token n d q t l a b (lack_if_is (holds_clock s k) q (type_word t) l e) is
-    statement_stands k d (register p n q t c r) a b e (m1, w, (m2, name, (m3, colon, (m4, type_there, (m5, comma, (m6, x, y)))))) =
+    statement_stands d (wire p n q t) a b e is =
+        declared_stands (Token (word (codes "wire")) p) LineEnd token n d q t l a b (lack_if_is (holds_clock s n.name) q (type_word t) l e) is
+    statement_stands d (register p n q t c r) a b e (m1, w, (m2, name, (m3, colon, (m4, type_there, (m5, comma, (m6, x, y)))))) =
         later (next token (next token (next somewhere (next (next at (type_keeps d t)) somewhere)))) a m5
         (m1, w, (m2, name, (m3, colon, (m4, type_there, comma)))) l
-        (elim (first_or_second (lacking_clock c) (lacking_reset s k r) l e) [
+        (elim (first_or_second (lacking_clock c) (lacking_reset s n.name r) l e) [
           | inl at_clock ↦ clock_stands d c l m5 m6 at_clock x
-          | inr at_reset ↦ later (expression_keeps d c) m5 m6 x l (reset_stands k d r m6 b at_reset y)
+          | inr at_reset ↦ later (expression_keeps d c) m5 m6 x l (reset_stands n.name d r m6 b at_reset y)
         ])
-    statement_stands k d (node p n x) a b e (m, w, rest) =
-        named_stands (codes "node") p l a m (lack_if_is (holds_clock s k) p (codes "node") l e) w
-    statement_stands k d (instance p n other) a b e (m, w, rest) = named_stands (codes "inst") p l a m (same_Some _ l e) w
-    statement_stands k d (memory p n parts) a b e (m, w, rest) = named_stands (codes "mem") p l a m (same_Some _ l e) w
-    statement_stands k d (when p c x y) a z e (m1, w, (m2, condition, (m3, colon, (m4, end, (m5, near, (m6, first, second)))))) =
+    statement_stands d (node p n x) a b e (m, w, rest) =
+        named_stands (codes "node") p l a m (lack_if_is (holds_clock s n.name) p (codes "node") l e) w
+    statement_stands d (instance p n other) a b e (m, w, rest) = named_stands (codes "inst") p l a m (same_Some _ l e) w
+    statement_stands d (memory p n parts) a b e (m, w, rest) = named_stands (codes "mem") p l a m (same_Some _ l e) w
+    statement_stands d (when p c x y) a z e (m1, w, (m2, condition, (m3, colon, (m4, end, (m5, near, (m6, first, second)))))) =
         later (next token (next (expression_keeps d c) (next somewhere (next somewhere given)))) a m5
         (m1, w, (m2, condition, (m3, colon, (m4, end, near)))) l
-        (elim (first_or_second (lacking_block s k x) (lacking_block s (k + declares_in x) y) l e) [
-          | inl in_first ↦ block_stands k (d + 1) x m5 m6 in_first first
-          | inr in_second ↦ later (block_keeps (d + 1) x) m5 m6 first l (else_stands (k + declares_in x) d y m6 z in_second second)
+        (elim (first_or_second (lacking_block s x) (lacking_block s y) l e) [
+          | inl in_first ↦ block_stands (d + 1) x m5 m6 in_first first
+          | inr in_second ↦ later (block_keeps (d + 1) x) m5 m6 first l (else_stands d y m6 z in_second second)
         ])
-    statement_stands k d (connect p t x) a b e is = none_is_no_lack l e
-    statement_stands k d (partial_connect p t x) a b e is = none_is_no_lack l e
-    statement_stands k d (invalid p t) a b e is = none_is_no_lack l e
-    statement_stands k d (skip p) a b e is = none_is_no_lack l e
+    statement_stands d (connect p t x) a b e is = none_is_no_lack l e
+    statement_stands d (partial_connect p t x) a b e is = none_is_no_lack l e
+    statement_stands d (invalid p t) a b e is = none_is_no_lack l e
+    statement_stands d (skip p) a b e is = none_is_no_lack l e
 
-    statements_stand : (k d : ℕ) (x : Block) (a b : List Terminal) → lacking_block s k x ≡ Some l → AreStatements everywhere d x a b → NamesItsToken a l
-    statements_stand k d done a b e is = none_is_no_lack l e
-    statements_stand k d ((then) x rest) a b e (m, is, are) =
-        first_or_rest k d x rest a m e is (λ first. statement_stands k d x a m first is)
-        (λ second. statements_stand (k + declares x) d rest m b second are)
+    statements_stand : (d : ℕ) (x : Block) (a b : List Terminal) → lacking_block s x ≡ Some l → AreStatements everywhere d x a b → NamesItsToken a l
+    statements_stand d done a b e is = none_is_no_lack l e
+    statements_stand d ((then) x rest) a b e (m, is, are) =
+        first_or_rest d x rest a m e is (λ first. statement_stands d x a m first is)
+        (λ second. statements_stand d rest m b second are)
 
-    block_stands : (k d : ℕ) (x : Block) (a b : List Terminal) → lacking_block s k x ≡ Some l → IsBlock everywhere d x a b → NamesItsToken a l
-    block_stands k d done a b e is = none_is_no_lack l e
-    block_stands k d ((then) x rest) a b e (m, opens, (n, is, (o, are, closes))) =
+    block_stands : (d : ℕ) (x : Block) (a b : List Terminal) → lacking_block s x ≡ Some l → IsBlock everywhere d x a b → NamesItsToken a l
+    block_stands d done a b e is = none_is_no_lack l e
+    block_stands d ((then) x rest) a b e (m, opens, (n, is, (o, are, closes))) =
         later somewhere a m opens l
-        (first_or_rest k d x rest m n e is (λ first. statement_stands k d x m n first is)
-        (λ second. statements_stand (k + declares x) d rest n o second are))
+        (first_or_rest d x rest m n e is (λ first. statement_stands d x m n first is)
+        (λ second. statements_stand d rest n o second are))
 
-    else_stands : (k d : ℕ) (x : Block) (a b : List Terminal) → lacking_block s k x ≡ Some l → IsElse everywhere d x a b → NamesItsToken a l
-    else_stands k d done a b e is = none_is_no_lack l e
-    else_stands k d ((then) x rest) a b e (inl (m1, w, (m2, colon, (m3, end, (m4, opens, (n, is, (o, are, closes))))))) =
+    else_stands : (d : ℕ) (x : Block) (a b : List Terminal) → lacking_block s x ≡ Some l → IsElse everywhere d x a b → NamesItsToken a l
+    else_stands d done a b e is = none_is_no_lack l e
+    else_stands d ((then) x rest) a b e (inl (m1, w, (m2, colon, (m3, end, (m4, opens, (n, is, (o, are, closes))))))) =
         later (next somewhere (next somewhere (next somewhere somewhere))) a m4 (m1, w, (m2, colon, (m3, end, opens))) l
-        (first_or_rest k (d + 1) x rest m4 n e is (λ first. statement_stands k (d + 1) x m4 n first is)
-        (λ second. statements_stand (k + declares x) (d + 1) rest n o second are))
-    else_stands k d ((then) x rest) a b e (inr (m1, w, (m2, ((is_when, none), same), is))) =
+        (first_or_rest (d + 1) x rest m4 n e is (λ first. statement_stands (d + 1) x m4 n first is)
+        (λ second. statements_stand (d + 1) rest n o second are))
+    else_stands d ((then) x rest) a b e (inr (m1, w, (m2, ((is_when, none), same), is))) =
         later somewhere a m1 w l
         (subst (λ ts. NamesItsToken ts l) (sym same)
-        (elim (first_or_second (lacking_statement s k x) (lacking_block s (k + declares x) rest) l e) [
-          | inl first ↦ statement_stands k (d + 1) x m2 b first is
-          | inr second ↦ none_is_no_lack l (subst (λ (y : Block). lacking_block s (k + declares x) y ≡ Some l) none second)
+        (elim (first_or_second (lacking_statement s x) (lacking_block s rest) l e) [
+          | inl first ↦ statement_stands (d + 1) x m2 b first is
+          | inr second ↦ none_is_no_lack l (subst (λ (y : Block). lacking_block s y ≡ Some l) none second)
         ]))
 
-  body_stands : (ps : List PortTree) (body : Block) (a b : List Terminal) → option_or (lacking_ports s 0 ps) (lacking_block s (length ps) body) ≡ Some l
+  body_stands : (ps : List PortTree) (body : Block) (a b : List Terminal) → option_or (lacking_ports s ps) (lacking_block s body) ≡ Some l
       → IsBody everywhere ps body a b → NamesItsToken a l
   body_stands ps body a b e (inl ((no_ports, no_body), same)) =
       none_is_no_lack l
-      (subst (λ (x : Block). lacking_block s 0 x ≡ Some l) no_body (subst (λ (xs : List PortTree). option_or (lacking_ports s 0 xs) (lacking_block s (length xs) body) ≡ Some l) no_ports e))
+      (subst (λ (x : Block). lacking_block s x ≡ Some l) no_body (subst (λ (xs : List PortTree). option_or (lacking_ports s xs) (lacking_block s body) ≡ Some l) no_ports e))
   body_stands ps body a b e (inr (m, opens, (n, ports, (o, body_there, closes)))) =
-      later somewhere a m opens l (by_part (first_or_second (lacking_ports s 0 ps) (lacking_block s (length ps) body) l e))
+      later somewhere a m opens l (by_part (first_or_second (lacking_ports s ps) (lacking_block s body) l e))
     where
-      by_part : (lacking_ports s 0 ps ≡ Some l) ⊎ (lacking_block s (length ps) body ≡ Some l) → NamesItsToken m l
-      by_part (inl in_ports) = ports_stand 0 ps m n in_ports ports
-      by_part (inr in_body) = later (ports_keep ps) m n ports l (statements_stand (length ps) 0 body n o in_body body_there)
+      by_part : (lacking_ports s ps ≡ Some l) ⊎ (lacking_block s body ≡ Some l) → NamesItsToken m l
+      by_part (inl in_ports) = ports_stand ps m n in_ports ports
+      by_part (inr in_body) = later (ports_keep ps) m n ports l (statements_stand 0 body n o in_body body_there)
 
   module_stands : (a b : List Terminal) → lacking_module s ≡ Some l → IsModule everywhere s.own.inside a b → NamesItsToken a l
   module_stands a b e (m1, w, (m2, name, (m3, colon, (m4, end, body)))) =

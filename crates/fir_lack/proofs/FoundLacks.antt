@@ -16,13 +16,14 @@ use Rattle.fir_meaning.specs.TypeGroup.{type_faults}
 use Rattle.fir_meaning.specs.working.WidthLaws.{FitsAll}
 use Rattle.fir_lack.specs.declared.lack.Lack.{Lack as LackOfCode}
 use Rattle.fir_lack.specs.declared.marks.Mark.{Mark}
-use Rattle.fir_lack.specs.Lacking.{is_reset_at_once, some_leaf}
+use Rattle.fir_lack.specs.working.NumberedLacks.{is_reset_at_once, some_leaf}
 use Rattle.fir_lack.specs.working.Lacks.{IsLack, IsLoneWithout}
 use Rattle.fir_lack.specs.working.Laws.{WithoutLackIsLone}
 use Rattle.fir_lack.specs.working.Marked.{AreMarks, MarksAll, mark_of}
 use Rattle.fir_lack.specs.working.Searched.{FindsInModules}
 use Rattle.fir_lack.proofs.LoneCircuits.{some_module}
 use Rattle.fir_lack.proofs.MarkSteps.{two_marks}
+use Rattle.fir_lack.proofs.NamedLacks.{same_lacking}
 
 -- paths count for nothing
 unnamed_some : (is : LeafDeclared → Bool) → ((l : LeafDeclared) → is (unnamed l) ≡ is l) → (ls : List LeafDeclared) (d : ℕ)
@@ -50,10 +51,11 @@ first_inside : (modules : List ModuleTree) (numbers : Numbering) (ms : List Modu
 first_inside modules numbers [] n at = absurd (none-some n at)
 first_inside modules numbers (m ∷ ms) n at = ap (option_map (λ (x : NumberedModule). x.inside)) at
 
-pub finds_lack : (c : CircuitTree) (ms : List LeafModule) (m : LeafModule) (marks : List Mark) (r : Option LackOfCode) → AreLeafed c ms
-    → slice_get ms 0 ≡ Some m → MarksAll m.leaves.items marks → FindsInModules c.modules marks r → IsLack c r
-finds_lack c ms m marks r leafed at marked found s scene =
+pub finds_lack : (c : CircuitTree) → HasNames c → type_faults c ≡ [] → (ms : List LeafModule) (m : LeafModule) (marks : List Mark) (r : Option LackOfCode)
+    → AreLeafed c ms → slice_get ms 0 ≡ Some m → MarksAll m.leaves.items marks → FindsInModules c.modules marks r → IsLack c r
+finds_lack c names types ms m marks r leafed at marked found s scene =
     found c s refl (first_inside c.modules (first_numbers c.modules) c.modules s.own scene.own) (are_marks m s marks (leafed.each 0 m s at scene) marked)
+    ∙ same_lacking c s names types scene
 
 pub lone_without : WithoutLackIsLone → (c : CircuitTree) → HasNames c → type_faults c ≡ [] → FitsAll c → HasScenes c → (r : Option LackOfCode)
     → IsLack c r → IsLoneWithout c r

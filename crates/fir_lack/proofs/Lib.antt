@@ -5,6 +5,7 @@ pub mod LackParts
 pub mod QuietBlocks
 pub mod NoArrays
 pub mod UnmarkedLeaves
+pub mod NamedLacks
 pub mod PlainRoles
 pub mod PlainLeaves
 pub mod LoneCircuits

@@ -1,5 +1,5 @@
 -- A circuit that lacks nothing is flattened so far.
-use Rattle.std.proofs.Common.{◌≡◌, ℕ, zero, suc, ◌<◌, ◌≤◌, List, [], ◌∷◌, ◌++◌, length, map, None, refl, sym, subst, arith, inl, ⊎_elim}
+use Rattle.std.proofs.Common.{◌≡◌, ℕ, zero, suc, ◌<◌, ◌≤◌, List, [], ◌∷◌, ◌++◌, length, map, None, refl, sym, ◌∙◌, subst, arith, inl, ⊎_elim}
 use Rattle.std.proofs.lemmas.Option.{get_or_from_slice_get, slice_get_within}
 use Rattle.fir_base.specs.Lists.{In}
 use Rattle.fir_base.proofs.Elements.{get_in, number_of, there}
@@ -12,6 +12,7 @@ use Rattle.fir_meaning.specs.LeafModules.{LeafDeclared, leaf_at, no_leaf}
 use Rattle.fir_meaning.specs.LegalFaults.{legal_faults}
 use Rattle.fir_meaning.specs.NameGroups.{HasNames, absent_faults, no_module}
 use Rattle.fir_meaning.specs.OverFaults.{over_faults}
+use Rattle.fir_meaning.specs.Scenes.{IsSceneOf}
 use Rattle.fir_meaning.specs.Visibility.{at_head}
 use Rattle.fir_meaning.specs.WidthExpressions.{Widths}
 use Rattle.fir_meaning.specs.WidthRules.{rules}
@@ -19,9 +20,11 @@ use Rattle.fir_meaning.specs.working.WidthLaws.{OneLeast}
 use Rattle.fir_inst.specs.working.LoneCircuits.{IsLoneModule, IsPlainRole}
 use Rattle.fir_inst.proofs.PortRoles.{port_roles}
 use Rattle.fir_leaf_types.specs.working.TypedModules.{IsModuleTyped, IsRoleTyped, LeafedModulesAreTyped, held_in}
-use Rattle.fir_lack.specs.Lacking.{lacking_behind, lacking_block, lacking_module, lacking_ports}
+use Rattle.fir_lack.specs.Lacking.{lacking_behind}
+use Rattle.fir_lack.specs.working.NumberedLacks.{lacking, lacking_block, lacking_module, lacking_ports}
 use Rattle.fir_lack.specs.working.Laws.{WithoutLackIsLone}
 use Rattle.fir_lack.proofs.LackParts.{none_first, none_second}
+use Rattle.fir_lack.proofs.NamedLacks.{same_lacking}
 use Rattle.fir_lack.proofs.NoArrays.{no_arrays}
 use Rattle.fir_lack.proofs.PlainLeaves.{IsLoneLeaf, block_lone, ports_plain}
 use Rattle.fir_lack.proofs.QuietBlocks.{no_instances}
@@ -98,13 +101,14 @@ pub lone_by : LeafedModulesAreTyped → OneLeast → WithoutLackIsLone
 lone_by modules_typed one_least c names types fits scenes none =
     let some = some_module c names in
     let first = scenes 0 some in
+    let by_number : (s : Scene) → IsSceneOf c 0 s → lacking c s ≡ None = λ s scene. same_lacking c s names types scene ∙ none s scene in
     record {
       one_module =
           one_module c.modules some
-          (none_second (lacking_module first.0) (lacking_behind c.modules) (none first.0 first.1));
+          (none_second (lacking_module first.0) (lacking_behind c.modules) (by_number first.0 first.1));
       each = λ s scene.
           let same : fits.widths ≡ s.widths = λ i k. one_least (rules c) fits.widths s.widths fits.are scene.widths k i in
-          lone_module s (none_first (lacking_module s) (lacking_behind c.modules) (none s scene))
+          lone_module s (none_first (lacking_module s) (lacking_behind c.modules) (by_number s scene))
           (modules_typed c 0 s names types scene (subst (λ (w : Widths). over_faults c w ≡ []) same fits.over)
           (subst (λ (w : Widths). legal_faults c w ≡ []) same fits.legal));
     }

@@ -4,7 +4,7 @@ use Rattle.fir_ast.specs.Statements.{Statement, wire, register, node, instance, 
 use Rattle.fir_meaning.specs.LeafModules.{LeafArray}
 use Rattle.fir_meaning.specs.LeafedModules.{Scene, arrays_in, arrays_in_block}
 use Rattle.fir_meaning.specs.Visibility.{Before, opened, reopened, behind, behind_block}
-use Rattle.fir_lack.specs.Lacking.{declares, declares_in, lacking_block, lacking_statement}
+use Rattle.fir_lack.specs.working.NumberedLacks.{declares, declares_in, lacking_block, lacking_statement}
 use Rattle.fir_lack.proofs.LackParts.{none_first, none_second}
 
 both_empty : (xs ys : List LeafArray) → xs ≡ [] → ys ≡ [] → xs ++ ys ≡ []

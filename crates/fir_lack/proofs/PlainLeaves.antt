@@ -21,7 +21,8 @@ use Rattle.fir_meaning.specs.TypeLeaves.{TypeLeaf, type_leaves}
 use Rattle.fir_meaning.specs.Visibility.{Before, opened, reopened, with_declaration, behind, behind_block}
 use Rattle.fir_inst.specs.working.LoneCircuits.{ActsAtEdges, IsPlainRole}
 use Rattle.fir_leaf_types.specs.working.TypedModules.{IsRoleTyped, held_in}
-use Rattle.fir_lack.specs.Lacking.{declares, declares_in, holds_clock, is_clock_input, is_reset_at_once, lacking_block, lacking_clock, lacking_port, lacking_ports, lacking_reset, lacking_statement, lack_if, resets_at_once, type_word}
+use Rattle.fir_lack.specs.Lacking.{is_clock_input, lacking_clock, lack_if, type_word}
+use Rattle.fir_lack.specs.working.NumberedLacks.{declares, declares_in, holds_clock, is_reset_at_once, lacking_block, lacking_port, lacking_ports, lacking_reset, lacking_statement, resets_at_once}
 use Rattle.fir_lack.proofs.LackParts.{no_lack_if, none_first, none_second}
 use Rattle.fir_lack.proofs.PlainClocks.{plain_clock}
 use Rattle.fir_lack.proofs.PlainRoles.{IsFree, clock_source, edges_by, free_plain, port_free, register_plain, source_plain}

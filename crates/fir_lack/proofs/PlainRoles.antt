@@ -12,7 +12,8 @@ use Rattle.fir_meaning.specs.LeafModules.{LeafModule, LeafReset, LeafType, Role,
 use Rattle.fir_meaning.specs.Terms.{Term}
 use Rattle.fir_meaning.specs.TypeLeaves.{TypeLeaf, type_leaves}
 use Rattle.fir_inst.specs.working.LoneCircuits.{ActsAtEdges, IsPlainClock, IsPlainRole}
-use Rattle.fir_lack.specs.Lacking.{acts_at_once, is_clock_input}
+use Rattle.fir_lack.specs.Lacking.{is_clock_input}
+use Rattle.fir_lack.specs.working.NumberedLacks.{acts_at_once}
 
 -- those that are plain for every number
 abbrev pub IsFree : Role → Type 0

@@ -16,7 +16,7 @@ use Rattle.fir_meaning.specs.TypeGroup.{scope_at}
 use Rattle.fir_meaning.specs.TypeLeaves.{leaf_count}
 use Rattle.fir_meaning.specs.Visibility.{Before, opened, reopened, behind, behind_block}
 use Rattle.fir_inst.specs.working.LoneCircuits.{HaveNoInstances}
-use Rattle.fir_lack.specs.Lacking.{declares, declares_in, lacking_block, lacking_statement}
+use Rattle.fir_lack.specs.working.NumberedLacks.{declares, declares_in, lacking_block, lacking_statement}
 use Rattle.fir_lack.proofs.LackParts.{none_first, none_second}
 
 none_joined : (a b : LeafBlock) → HaveNoInstances a → HaveNoInstances b → HaveNoInstances (joined a b)

@@ -10,7 +10,7 @@ use Rattle.fir_meaning.specs.LeafedModules.{Scene}
 use Rattle.fir_names.proofs.FirstMentions.{views_left}
 use Rattle.fir_lack.specs.declared.lack.Lack.{Lack as LackOfCode}
 use Rattle.fir_lack.specs.declared.walk.Walk.{Walk}
-use Rattle.fir_lack.specs.Lacking.{declares, declares_in, lacking_block, lacking_port, lacking_ports, lacking_statement}
+use Rattle.fir_lack.specs.working.NumberedLacks.{declares, declares_in, lacking_block, lacking_port, lacking_ports, lacking_statement}
 use Rattle.fir_lack.specs.working.Lacks.{lack_of}
 use Rattle.fir_lack.specs.working.Searched.{IsAt, IsSearched}
 

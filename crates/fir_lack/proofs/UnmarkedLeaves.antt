@@ -13,7 +13,7 @@ use Rattle.fir_meaning.specs.LeafMemories.{leaves_of_data}
 use Rattle.fir_meaning.specs.LeafModules.{LeafDeclared, LeafType, Role}
 use Rattle.fir_meaning.specs.TypeLeaves.{TypeLeaf}
 use Rattle.fir_meaning.specs.Visibility.{Before, behind, behind_block, behind_ports, declaration_at, opened, reopened, with_declaration}
-use Rattle.fir_lack.specs.Lacking.{declares, declares_in, some_leaf}
+use Rattle.fir_lack.specs.working.NumberedLacks.{declares, declares_in, some_leaf}
 
 behind_true : (b c : Bool) → b ≡ true → (b && c) ≡ false → c ≡ false
 behind_true true c here e = e

@@ -1,9 +1,10 @@
 -- The first form of a circuit that `emit` and `sim` lack so far: where it begins, and its first token.
 -- They have one module without instances and memories. A clock is an input of its own, which registers name; no other port, wire or node holds one. A reset
 -- acts at the edges of its register's clock. All else is lacking.
-use Rattle.std.specs.Prelude.{ℕ, suc, ◌+◌, List, [], ◌∷◌, codes, length, Bool, true, false, ◌&&◌, nat_eq, if◌then◌else◌, Option, Some, None}
+use Rattle.std.specs.Prelude.{ℕ, List, [], ◌∷◌, codes, Bool, true, false, ◌&&◌, if◌then◌else◌, Option, Some, None}
 use Rattle.std.specs.List.{list_any}
 use Rattle.std.specs.Option.{option_or}
+use Rattle.std.specs.Str.{bytes_eq}
 use Rattle.fir_base.specs.declared.direction.Direction.{Direction}
 use Rattle.fir_base.specs.declared.direction.Direction.TheVariants as direction
 use Rattle.fir_ast.specs.declared.place.Place.{Place}
@@ -13,9 +14,10 @@ use Rattle.fir_ast.specs.Statements.{Reset, Statement, wire, register, node, ins
 use Rattle.fir_ast.specs.Circuits.{PortTree, ModuleTree, CircuitTree}
 use Rattle.fir_meaning.specs.Flattened.{is_clock}
 use Rattle.fir_meaning.specs.Lack.{Lack, lack}
-use Rattle.fir_meaning.specs.LeafModules.{LeafDeclared, LeafReset, Role}
-use Rattle.fir_meaning.specs.LeafModules as role
-use Rattle.fir_meaning.specs.LeafedModules.{Scene, module_leaves}
+use Rattle.fir_meaning.specs.LeafPaths.{LeafPath, named}
+use Rattle.fir_meaning.specs.LeafedModules.{Scene}
+use Rattle.fir_meaning.specs.SourceRoles.{SourceLeaf, SourceReset, SourceRole, source_leaves}
+use Rattle.fir_meaning.specs.SourceRoles as role
 
 -- the first token of a type
 abbrev pub type_word : DataType → List ℕ
@@ -27,28 +29,13 @@ type_word async_reset = codes "AsyncReset"
 type_word (bundle fs) = codes "{"
 type_word (vector t n) = type_word t
 
--- how many names are declared in a statement and its blocks
-abbrev mutual
-  pub declares : Statement → ℕ
-  declares (wire p n begins t) = 1
-  declares (register p n begins t c r) = 1
-  declares (node p n e) = 1
-  declares (instance p n other) = 1
-  declares (memory p n parts) = 1
-  declares (when p c a b) = declares_in a + declares_in b
-  declares _ = 0
-
-  pub declares_in : Block → ℕ
-  declares_in done = 0
-  declares_in ((then) x b) = declares x + declares_in b
-
-abbrev pub acts_at_once : Option LeafReset → Bool
+abbrev pub acts_at_once : Option SourceReset → Bool
 acts_at_once None = false
 acts_at_once (Some r) = r.is_async
 
 -- a leaf that is reset as soon as a condition is 1
-abbrev pub is_reset_at_once : Role → Bool
-is_reset_at_once (role.register c r) = acts_at_once r
+abbrev pub is_reset_at_once : SourceRole → Bool
+is_reset_at_once (role.register scope c r q) = acts_at_once r
 is_reset_at_once _ = false
 
 abbrev pub lack_if : Bool → Place → List ℕ → Option Lack
@@ -68,45 +55,48 @@ abbrev pub lacking_clock : Expression → Option Lack
 lacking_clock (reference p n ps) = lacking_parts p n ps
 lacking_clock e = None
 
--- some leaf of what is declared behind so many others is so
-abbrev pub some_leaf : (LeafDeclared → Bool) → List LeafDeclared → ℕ → Bool
-some_leaf is ls d = list_any (λ (l : LeafDeclared). nat_eq l.declaration d && is l) ls
+-- whether a path is of what is declared under a name
+abbrev pub is_of : List ℕ → LeafPath → Bool
+is_of name (named x ∷ path) = bytes_eq x name
+is_of name _ = false
 
--- in the module of a scene, behind so many declarations
+-- in the module of a scene
 module _ (s : Scene) where
-  abbrev pub holds_clock : ℕ → Bool
-  holds_clock d = some_leaf (λ l. is_clock l.holds) (module_leaves s) d
+  -- some leaf of what is declared under the name is so
+  abbrev pub some_leaf : (SourceLeaf → Bool) → List ℕ → Bool
+  some_leaf is name = list_any (λ (l : SourceLeaf). is_of name l.path && is l) (source_leaves s)
 
-  abbrev pub resets_at_once : ℕ → Bool
-  resets_at_once d = some_leaf (λ l. is_reset_at_once l.role) (module_leaves s) d
+  abbrev pub holds_clock : List ℕ → Bool
+  holds_clock name = some_leaf (λ l. is_clock l.holds) name
 
-  abbrev pub lacking_reset : ℕ → Option Reset → Option Lack
-  lacking_reset d None = None
-  lacking_reset d (Some r) = lack_if (resets_at_once d) r.place (codes "with")
+  abbrev pub lacking_reset : List ℕ → Option Reset → Option Lack
+  lacking_reset name None = None
+  lacking_reset name (Some r) = lack_if (some_leaf (λ l. is_reset_at_once l.role) name) r.place (codes "with")
 
-  abbrev pub lacking_port : ℕ → PortTree → Option Lack
-  lacking_port d p = if is_clock_input p.direction p.data_type then None else lack_if (holds_clock d) p.type_place (type_word p.data_type)
+  abbrev pub lacking_port : PortTree → Option Lack
+  lacking_port p =
+      if is_clock_input p.direction p.data_type then None else lack_if (holds_clock p.named.name) p.type_place (type_word p.data_type)
 
-  abbrev pub lacking_ports : ℕ → List PortTree → Option Lack
-  lacking_ports d [] = None
-  lacking_ports d (p ∷ ps) = option_or (lacking_port d p) (lacking_ports (suc d) ps)
+  abbrev pub lacking_ports : List PortTree → Option Lack
+  lacking_ports [] = None
+  lacking_ports (p ∷ ps) = option_or (lacking_port p) (lacking_ports ps)
 
   abbrev mutual
-    pub lacking_statement : ℕ → Statement → Option Lack
-    lacking_statement d (wire p n begins t) = lack_if (holds_clock d) begins (type_word t)
-    lacking_statement d (register p n begins t c r) = option_or (lacking_clock c) (lacking_reset d r)
-    lacking_statement d (node p n e) = lack_if (holds_clock d) p (codes "node")
-    lacking_statement d (instance p n other) = lack p (codes "inst")
-    lacking_statement d (memory p n parts) = lack p (codes "mem")
-    lacking_statement d (when p c a b) = option_or (lacking_block d a) (lacking_block (d + declares_in a) b)
-    lacking_statement d _ = None
+    pub lacking_statement : Statement → Option Lack
+    lacking_statement (wire p n begins t) = lack_if (holds_clock n.name) begins (type_word t)
+    lacking_statement (register p n begins t c r) = option_or (lacking_clock c) (lacking_reset n.name r)
+    lacking_statement (node p n e) = lack_if (holds_clock n.name) p (codes "node")
+    lacking_statement (instance p n other) = lack p (codes "inst")
+    lacking_statement (memory p n parts) = lack p (codes "mem")
+    lacking_statement (when p c a b) = option_or (lacking_block a) (lacking_block b)
+    lacking_statement _ = None
 
-    pub lacking_block : ℕ → Block → Option Lack
-    lacking_block d done = None
-    lacking_block d ((then) x b) = option_or (lacking_statement d x) (lacking_block (d + declares x) b)
+    pub lacking_block : Block → Option Lack
+    lacking_block done = None
+    lacking_block ((then) x b) = option_or (lacking_statement x) (lacking_block b)
 
   abbrev pub lacking_module : Option Lack
-  lacking_module = option_or (lacking_ports 0 s.own.inside.ports) (lacking_block (length s.own.inside.ports) s.own.inside.body)
+  lacking_module = option_or (lacking_ports s.own.inside.ports) (lacking_block s.own.inside.body)
 
 -- a second module
 abbrev pub lacking_behind : List ModuleTree → Option Lack

@@ -1,4 +1,6 @@
--- What no clause of `run` reads: the forms of the code, and a law.
+-- What no clause of `run` reads: the forms of the code, and laws.
+pub mod NumberedLacks
+pub mod SameLacks
 pub mod Lacks
 pub mod Marked
 pub mod Searched

@@ -18,4 +18,4 @@ mod walk;
 
 pub use circuit::lacking;
 pub use lack::Lack;
-pub use laws::without_lack_is_lone;
+pub use laws::{lacking_goes_by_names, without_lack_is_lone};

@@ -6,7 +6,8 @@ ghost use Rattle.fir_ast.specs.working.Views.{block_of, expr_of, reset_of, sink_
 ghost use Rattle.fir_ast.specs.View.{type_of};
 ghost use Rattle.fir_meaning.specs.LeafedModules.{Scene, module_leaves};
 ghost use Rattle.fir_names.specs.working.Parts.{when_view};
-ghost use Rattle.fir_lack.specs.Lacking.{lacking_clock, lacking_parts, lacking_reset, type_word};
+ghost use Rattle.fir_lack.specs.Lacking.{lacking_clock, lacking_parts, type_word};
+ghost use Rattle.fir_lack.specs.working.NumberedLacks.{lacking_reset};
 ghost use Rattle.fir_lack.specs.working.Lacks.{lack_of};
 ghost use Rattle.fir_lack.specs.working.Marked.{mark_of};
 ghost use Rattle.fir_lack.specs.working.Searched.{SearchesBlock, SearchesDeclaration, SearchesRegister, SearchesStatement};

@@ -4,3 +4,13 @@ pub mod ReadPaths
 pub mod ModuleReads
 pub mod AmongPaths
 pub mod PlainScenes
+pub mod JoinedChoices
+pub mod Pieces
+pub mod WhenPieces
+pub mod DrivePieces
+pub mod SidePieces
+pub mod ConnectPieces
+pub mod InvalidPieces
+pub mod BlockPieces
+pub mod ModuleDrives
+pub mod TakingWords

@@ -1,1 +1,2 @@
+pub mod TakingRegisters
 pub mod working

@@ -8,7 +8,7 @@ use Rattle.fir_meaning.specs.Flattened.{is_clock}
 use Rattle.fir_meaning.specs.LeafModules.{LeafDeclared}
 use Rattle.fir_meaning.specs.LeafedModules.{Scene, module_leaves}
 use Rattle.fir_lack.specs.declared.marks.Mark.{Mark}
-use Rattle.fir_lack.specs.Lacking.{is_reset_at_once, some_leaf}
+use Rattle.fir_lack.specs.working.NumberedLacks.{is_reset_at_once, some_leaf}
 
 abbrev pub unmarked : Mark
 unmarked = record { clock = false; reset = false }

@@ -11,7 +11,8 @@ use Rattle.fir_meaning.specs.LeafedModules.{Scene}
 use Rattle.fir_lack.specs.declared.lack.Lack.{Lack as LackOfCode}
 use Rattle.fir_lack.specs.declared.marks.Mark.{Mark}
 use Rattle.fir_lack.specs.declared.walk.Walk.{Walk}
-use Rattle.fir_lack.specs.Lacking.{declares, declares_in, holds_clock, lacking, lacking_block, lacking_clock, lacking_module, lacking_port, lacking_ports, lacking_reset, lacking_statement, lack_if}
+use Rattle.fir_lack.specs.Lacking.{lacking_clock, lack_if}
+use Rattle.fir_lack.specs.working.NumberedLacks.{declares, declares_in, holds_clock, lacking, lacking_block, lacking_module, lacking_port, lacking_ports, lacking_reset, lacking_statement}
 use Rattle.fir_lack.specs.working.Lacks.{lack_of}
 use Rattle.fir_lack.specs.working.Marked.{AreMarks}
 

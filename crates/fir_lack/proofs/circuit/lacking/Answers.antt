@@ -35,7 +35,7 @@ returns c =
     subst (λ ms. MarksAll c.in-Some.part.now.leaves.items ms) (sym c.deref-2.ensures.value)
     (subst (λ ls. MarksAll ls c.in_ok-marks.marks.items) c.deref.ensures.value c.in_ok-marks.ensures) in
     let found : IsLack (circuit_of tree) c.lacking_modules.result =
-    finds_lack (circuit_of tree) c.modules.result.now c.in-Some.part.now c.deref-2.result.now c.lacking_modules.result c.modules.ensures.leafed
+    finds_lack (circuit_of tree) names types c.modules.result.now c.in-Some.part.now c.deref-2.result.now c.lacking_modules.result c.modules.ensures.leafed
     (sym c.in-Some.ensures.value) marked
     (subst (λ ms. FindsInModules ms c.deref-2.result.now c.lacking_modules.result) modules c.lacking_modules.ensures) in
     record { lack = found; lone = lone_without c.without_lack_is_lone.ensures (circuit_of tree) names types fits c.modules.ensures.scenes _ found }

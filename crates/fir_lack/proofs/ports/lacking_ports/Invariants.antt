@@ -1,7 +1,7 @@
 use Rattle.std.proofs.Common.{ℕ, ◌+◌, drop, length, map}
 use Rattle.fir_ast.specs.working.Views.{port_of}
 use Rattle.fir_meaning.specs.LeafedModules.{Scene}
-use Rattle.fir_lack.specs.Lacking.{lacking_ports}
+use Rattle.fir_lack.specs.working.NumberedLacks.{lacking_ports}
 use Rattle.fir_lack.specs.working.Searched.{IsAt}
 use Rattle.fir_lack.proofs.Searches as parts
 use Rattle.fir_lack.proofs.Searches.{IsLeft}
