@@ -4,3 +4,7 @@ pub mod ReadPaths
 pub mod ModuleReads
 pub mod AmongPaths
 pub mod PlainScenes
+pub mod NumberedRoles
+pub mod PlainLeaves
+pub mod PlainStatements
+pub mod PlainBlocks
