@@ -8,3 +8,5 @@ pub mod NumberedRoles
 pub mod PlainLeaves
 pub mod PlainStatements
 pub mod PlainBlocks
+pub mod LoneSources
+pub mod PlainCircuits
