@@ -14,3 +14,9 @@ pub mod InvalidPieces
 pub mod BlockPieces
 pub mod ModuleDrives
 pub mod TakingWords
+pub mod NumberedRoles
+pub mod PlainLeaves
+pub mod PlainStatements
+pub mod PlainBlocks
+pub mod LoneSources
+pub mod PlainCircuits
