@@ -12,3 +12,7 @@ pub mod ConnectPieces
 pub mod InvalidPieces
 pub mod BlockPieces
 pub mod ModuleDrives
+pub mod RoleReads
+pub mod MemoryKinds
+pub mod BlockReads
+pub mod LoopWalks
