@@ -16,3 +16,4 @@ pub mod RoleReads
 pub mod MemoryKinds
 pub mod BlockReads
 pub mod LoopWalks
+pub mod DeclaredPlaces
