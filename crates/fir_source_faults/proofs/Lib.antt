@@ -17,3 +17,5 @@ pub mod MemoryKinds
 pub mod BlockReads
 pub mod LoopWalks
 pub mod DeclaredPlaces
+pub mod LoneNumbers
+pub mod LoneLeaves
