@@ -96,7 +96,7 @@ module _ (s : Scene) where
   sink_or_source true = refl
   sink_or_source false = refl
 
-  ports_read : (ps : List PortTree) (before : Before) → AreRead (leaves_of_ports s before ps) (sources_of_ports s before ps)
+  pub ports_read : (ps : List PortTree) (before : Before) → AreRead (leaves_of_ports s before ps) (sources_of_ports s before ps)
   ports_read [] before = tt
   ports_read (p ∷ ps) before =
       let c = component.port p.direction p.data_type in

@@ -19,3 +19,5 @@ pub mod LoopWalks
 pub mod DeclaredPlaces
 pub mod LoneNumbers
 pub mod LoneLeaves
+pub mod LoneLoops
+pub mod LoneDesigns
