@@ -4,7 +4,9 @@
 #![tactic(auto)]
 
 mod drive_laws;
+mod loop_laws;
 mod read_laws;
 
 pub use drive_laws::drives_are_live_by_path;
+pub use loop_laws::lone_loops_stand_by_path;
 pub use read_laws::terms_read_as_expressions;
