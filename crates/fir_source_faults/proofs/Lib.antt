@@ -20,3 +20,12 @@ pub mod PlainStatements
 pub mod PlainBlocks
 pub mod LoneSources
 pub mod PlainCircuits
+pub mod RoleReads
+pub mod MemoryKinds
+pub mod BlockReads
+pub mod LoopWalks
+pub mod DeclaredPlaces
+pub mod LoneNumbers
+pub mod LoneLeaves
+pub mod LoneLoops
+pub mod LoneDesigns

@@ -7,7 +7,7 @@ use Rattle.fir_meaning.specs.Designs.{Design}
 use Rattle.fir_meaning.specs.Flattened.{flattened}
 use Rattle.fir_meaning.specs.LoopFaults as numbered
 use Rattle.fir_meaning.specs.NameGroups.{HasNames}
-use Rattle.fir_meaning.specs.SourceDesigns.{SourceDesign}
+use Rattle.fir_meaning.specs.SourceDesigns.{SourceDesign, instances_of_block}
 use Rattle.fir_meaning.specs.SourceLoops.{ShowsLoop}
 use Rattle.fir_meaning.specs.SourceUndrivenGroup.{undriven_group}
 use Rattle.fir_meaning.specs.TypeGroup.{type_faults}
@@ -21,3 +21,9 @@ SameUndrivenGroups = (c : CircuitTree) → HasNames c → type_faults c ≡ [] �
 -- closed walks of dependence
 abbrev pub SameLoops : Type 0
 SameLoops = (c : CircuitTree) (d : Design) (t : SourceDesign) (f : FirFault) → AreDesigns c d t → numbered.ShowsLoop (flattened d) f ↔ ShowsLoop t f
+
+-- so far those of a module without instances
+abbrev pub SameLoneLoops : Type 0
+SameLoneLoops =
+    (c : CircuitTree) (d : Design) (t : SourceDesign) (f : FirFault) (a : AreDesigns c d t) → instances_of_block a.main.own.inside.body ≡ []
+    → numbered.ShowsLoop (flattened d) f ↔ ShowsLoop t f
