@@ -12,3 +12,6 @@ pub mod ConnectPieces
 pub mod InvalidPieces
 pub mod BlockPieces
 pub mod ModuleDrives
+pub mod SinkPlaces
+pub mod SceneUndriven
+pub mod SameUndrivenGroups

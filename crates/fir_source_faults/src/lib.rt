@@ -5,6 +5,8 @@
 
 mod drive_laws;
 mod read_laws;
+mod undriven_laws;
 
 pub use drive_laws::drives_are_live_by_path;
 pub use read_laws::terms_read_as_expressions;
+pub use undriven_laws::leaves_are_undriven_by_path;
