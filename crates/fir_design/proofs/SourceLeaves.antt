@@ -57,10 +57,10 @@ module _ (s : Scene) (f : IsFineScene s) (x : ℕ) (lt : x < length (module_leav
   abbrev is : IsLeafOf (whole_scope s) (declarations s.own.inside) (leaf_at (module_leaves s) x)
   is = leaf_is s f x lt
 
-  path_there : path_at (whole_scope s) x ≡ named (leaf_is s f x lt).known.name ∷ (leaf_is s f x lt).leaf.path
+  pub path_there : path_at (whole_scope s) x ≡ named (leaf_is s f x lt).known.name ∷ (leaf_is s f x lt).leaf.path
   path_there = sym (leaf_path s f x) ∙ is.path
 
-  found : find (declarations s.own.inside) (leaf_is s f x lt).known.name ≡ Some (leaf_is s f x lt).declared
+  pub found : find (declarations s.own.inside) (leaf_is s f x lt).known.name ≡ Some (leaf_is s f x lt).declared
   found =
       let all = declarations s.own.inside in
       let place = (leaf_at (module_leaves s) x).declaration in

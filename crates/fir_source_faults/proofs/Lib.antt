@@ -29,3 +29,6 @@ pub mod LoneNumbers
 pub mod LoneLeaves
 pub mod LoneLoops
 pub mod LoneDesigns
+pub mod SinkPlaces
+pub mod SceneUndriven
+pub mod SameUndrivenGroups
