@@ -1,0 +1,4 @@
+pub mod LeafTests
+pub mod SparedStores
+pub mod LastConnects
+pub mod RunBranches

@@ -1,0 +1,144 @@
+-- What the blocks of a when store at a leaf that is declared outside of it, or inside.
+use Rattle.std.proofs.Common.{◌≡◌, ℕ, zero, suc, ◌+◌, ◌≤◌, List, [], ◌∷◌, ◌++◌, length, drop, Bool, true, false, not, if◌then◌else◌, Option, Some, None, refl, sym, ap, ap₂, ◌∙◌, arith, subst, append_assoc, inl, inr}
+use Rattle.std.proofs.lemmas.List.{append_cancel_left}
+use Rattle.fir_base.specs.Lists.{In}
+use Rattle.fir_base.proofs.Members.{in_left, in_right}
+use Rattle.fir_ast.specs.Expressions.{Expression}
+use Rattle.fir_ast.specs.Statements.{Sink, Statement, wire, register, node, instance, memory, when, connect, partial_connect, invalid, skip, Block, done, then}
+use Rattle.fir_meaning.specs.ConnectPairs.{Pair, pairs, partial_pairs}
+use Rattle.fir_meaning.specs.LeafPaths.{LeafPath}
+use Rattle.fir_meaning.specs.TypeGroup.{scope_at}
+use Rattle.fir_meaning.specs.TypeLeaves.{TypeLeaf, type_leaves}
+use Rattle.fir_meaning.specs.TypedScopes.{TypedScope}
+use Rattle.fir_meaning.specs.Visibility.{Before, opened, reopened, behind, behind_block}
+use Rattle.fir_meaning.specs.DesignStores.{DesignStore, kept_at}
+use Rattle.fir_meaning.specs.LeafBlocks.{all_true, counts}
+use Rattle.fir_meaning.specs.LeafedModules.{Scene}
+use Rattle.fir_meaning.specs.TreeAims.{Aim}
+use Rattle.fir_meaning.specs.TreeStores.{may_be_driven, same_path}
+use Rattle.fir_meaning.specs.TreeValues.{TypesByPath, ValuesByPath, aim_of, aim_read, leaf_where}
+use Rattle.fir_meaning.specs.SourceDesigns.{InstanceOf, instances_of, instances_of_block}
+use Rattle.fir_meaning.specs.SourceFacts.{source_depth, source_may_drive}
+use Rattle.fir_meaning.specs.SourceStores.{Gifts, exec_source, exec_source_all, source_invalid, source_kept, source_pair, source_pairs}
+use Rattle.fir_source_laws.specs.working.SparedLeaves.{SparedBy, Spares, SparesAll, SparesAt, SparesNamed, SparesPairs, driven, gift, is_one, pairs_between}
+use Rattle.fir_source_laws.proofs.LeafTests.{kept_elsewhere, leaf_is}
+use Rattle.fir_source_laws.proofs.SparedStores.{pair_kept}
+
+-- two lists of whens that a leaf of a depth counts alike, and go on doing so
+pub record CountAlike (depth : ℕ) (one other : List Bool) : Type 0 where
+  pub alike : (more : List Bool) → counts depth (one ++ more) ≡ counts depth (other ++ more)
+
+-- and one that has a when which it counts, and that is not taken
+pub record IsBlocked (depth : ℕ) (taken : List Bool) : Type 0 where
+  pub blocked : (more : List Bool) → counts depth (taken ++ more) ≡ false
+
+pub longer_alike : (depth : ℕ) (one other : List Bool) (b : Bool) → CountAlike depth one other → CountAlike depth (one ++ b ∷ []) (other ++ b ∷ [])
+longer_alike depth one other b h = record {
+  alike = λ more. rw (append_assoc one (b ∷ []) more, append_assoc other (b ∷ []) more) (h.alike (b ∷ more));
+}
+
+pub longer_blocked : (depth : ℕ) (taken : List Bool) (b : Bool) → IsBlocked depth taken → IsBlocked depth (taken ++ b ∷ [])
+longer_blocked depth taken b h = record { blocked = λ more. rw (append_assoc taken (b ∷ []) more) (h.blocked (b ∷ more)) }
+
+now_alike : (depth : ℕ) (one other : List Bool) → CountAlike depth one other → counts depth one ≡ counts depth other
+now_alike depth one other h = ?
+
+now_blocked : (depth : ℕ) (taken : List Bool) → IsBlocked depth taken → counts depth taken ≡ false
+now_blocked depth taken h = ?
+
+-- a when that is taken counts as none, and one that is not blocks
+pub taken_alike : (depth : ℕ) (taken : List Bool) → depth ≤ length taken → CountAlike depth (taken ++ true ∷ []) taken
+taken_alike depth taken h = record { alike = λ more. rw (append_assoc taken (true ∷ []) more) (by depth taken more h) }
+  where
+    all_with : (taken more : List Bool) → all_true (taken ++ true ∷ more) ≡ all_true (taken ++ more)
+    all_with [] more = refl
+    all_with (true ∷ bs) more = all_with bs more
+    all_with (false ∷ bs) more = refl
+
+    by : (depth : ℕ) (taken more : List Bool) → depth ≤ length taken → counts depth (taken ++ true ∷ more) ≡ counts depth (taken ++ more)
+    by zero taken more h = all_with taken more
+    by (suc n) [] more h = absurd (omega (arith, h))
+    by (suc n) (b ∷ bs) more h = by n bs more (omega (arith, h))
+
+pub untaken_blocked : (depth : ℕ) (taken : List Bool) → depth ≤ length taken → IsBlocked depth (taken ++ false ∷ [])
+untaken_blocked depth taken h = record { blocked = λ more. rw (append_assoc taken (false ∷ []) more) (by depth taken more h) }
+  where
+    all_with : (taken more : List Bool) → all_true (taken ++ false ∷ more) ≡ false
+    all_with [] more = refl
+    all_with (true ∷ bs) more = all_with bs more
+    all_with (false ∷ bs) more = refl
+
+    by : (depth : ℕ) (taken more : List Bool) → depth ≤ length taken → counts depth (taken ++ false ∷ more) ≡ false
+    by zero taken more h = all_with taken more
+    by (suc n) [] more h = absurd (omega (arith, h))
+    by (suc n) (b ∷ bs) more h = by n bs more (omega (arith, h))
+
+-- the whens round a declaration count for nothing
+pub outer_alike : (depth : ℕ) (outer other inner : List Bool) → length outer ≤ depth → length other ≡ length outer
+    → CountAlike depth (outer ++ inner) (other ++ inner)
+outer_alike depth outer other inner h e = record {
+  alike = λ more. rw (append_assoc outer inner more, append_assoc other inner more) (by depth outer other (inner ++ more) h e);
+}
+  where
+    by : (depth : ℕ) (outer other more : List Bool) → length outer ≤ depth → length other ≡ length outer
+        → counts depth (outer ++ more) ≡ counts depth (other ++ more)
+    by depth [] [] more h e = refl
+    by depth [] (b ∷ bs) more h e = absurd (omega (arith, e))
+    by depth (b ∷ bs) [] more h e = absurd (omega (arith, e))
+    by zero (b ∷ bs) (d ∷ ds) more h e = absurd (omega (arith, h))
+    by (suc n) (b ∷ bs) (d ∷ ds) more h e = by n bs ds more (omega (arith, h)) (omega (arith, e))
+
+module _ {V : Type 0} (s : Scene) (holds : TypesByPath) (env : ValuesByPath) (path : LeafPath)
+    (child : List ℕ → DesignStore V → DesignStore V) (x : LeafPath) where
+  blocked_at : (taken : List Bool) (o : Option LeafPath) → IsBlocked (source_depth s x) taken
+      → SparesAt s holds env path child (path ++ x) taken o
+  blocked_at taken None h = tt
+  blocked_at taken (Some y) h = λ same.
+      let here : y ≡ x = append_cancel_left path y x same in
+      ap (λ z. counts (source_depth s z) taken) here ∙ now_blocked (source_depth s x) taken h
+
+  mutual
+    blocked_statement : (y : Statement) (before : Before) (taken : List Bool) → IsBlocked (source_depth s x) taken
+        → ((i : InstanceOf) → In (instances_of y) i → SparedBy s holds env path child (path ++ x) i.named.name)
+        → Spares s holds env path child (path ++ x) before y taken
+    blocked_statement (connect p sink e) before taken h spared =
+        λ pair m. blocked_at taken (driven holds env (scope_at s.own.modules before) sink e pair) h
+    blocked_statement (partial_connect p sink e) before taken h spared =
+        λ pair m. blocked_at taken (driven holds env (scope_at s.own.modules before) sink e pair) h
+    blocked_statement (invalid p sink) before taken h spared =
+        λ l m may. blocked_at taken (leaf_where (aim_of (scope_at s.own.modules before) holds env sink).at l.path) h
+    blocked_statement (when p c a b) before taken h spared =
+        let high = is_one holds env (scope_at s.own.modules before) c in (
+          blocked_block a (opened before) (taken ++ high ∷ []) (longer_blocked (source_depth s x) taken high h)
+          (λ i m. spared i (in_left (instances_of_block a) (instances_of_block b) i m)),
+          blocked_block b (reopened before (behind_block (opened before) a)) (taken ++ not high ∷ [])
+          (longer_blocked (source_depth s x) taken (not high) h)
+          (λ i m. spared i (in_right (instances_of_block a) (instances_of_block b) i m)),
+        )
+    blocked_statement (instance p n other) before taken h spared = spared (record { named = n; other = other }) (inl refl)
+    blocked_statement (wire p n begins t) before taken h spared = tt
+    blocked_statement (register p n begins t c r) before taken h spared = tt
+    blocked_statement (node p n e) before taken h spared = tt
+    blocked_statement (memory p n parts) before taken h spared = tt
+    blocked_statement (skip p) before taken h spared = tt
+
+    pub blocked_block : (b : Block) (before : Before) (taken : List Bool) → IsBlocked (source_depth s x) taken
+        → ((i : InstanceOf) → In (instances_of_block b) i → SparedBy s holds env path child (path ++ x) i.named.name)
+        → SparesAll s holds env path child (path ++ x) before b taken
+    blocked_block done before taken h spared = tt
+    blocked_block ((then) y b) before taken h spared = (
+      blocked_statement y before taken h (λ i m. spared i (in_left (instances_of y) (instances_of_block b) i m)),
+      blocked_block b (behind before y) taken h (λ i m. spared i (in_right (instances_of y) (instances_of_block b) i m)),
+    )
+
+module _ {V : Type 0} (s : Scene) (holds : TypesByPath) (env : ValuesByPath) (gifts : Gifts V) (path : LeafPath)
+    (child : List ℕ → DesignStore V → DesignStore V) (x : LeafPath) where
+  -- at one leaf an instance tells by what was there
+  abbrev pub TellsAt : List ℕ → Type 0
+  TellsAt name = (one other : DesignStore V) → one (path ++ x) ≡ other (path ++ x) → child name one (path ++ x) ≡ child name other (path ++ x)
+
+  pub alike_kept : (o : Option LeafPath) (give : LeafPath → V) (taken others : List Bool) (one other : DesignStore V)
+      → CountAlike (source_depth s x) taken others → one (path ++ x) ≡ other (path ++ x)
+      → source_kept s holds env gifts path child o give taken one (path ++ x) ≡ source_kept s holds env gifts path child o give others other (path ++ x)
+  alike_kept None give taken others one other h e = e
+  alike_kept (Some y) give taken others one other h e = ?

@@ -1,0 +1,8 @@
+-- What no clause of `run` reads: laws of what a circuit's source means.
+-- Which leaves statements leave as they are.
+pub mod SparedLeaves
+-- Connects, invalids and whens.
+pub mod ConnectLaws
+pub mod WhenLaws
+-- Instances.
+pub mod FitLaws
