@@ -1,6 +1,6 @@
 -- What the blocks of a when store at a leaf that is declared outside of it, or inside.
 use Rattle.std.proofs.Common.{◌≡◌, ℕ, zero, suc, ◌+◌, ◌≤◌, List, [], ◌∷◌, ◌++◌, length, drop, Bool, true, false, not, if◌then◌else◌, Option, Some, None, refl, sym, ap, ap₂, ◌∙◌, arith, subst, append_assoc, inl, inr}
-use Rattle.std.proofs.lemmas.List.{append_cancel_left}
+use Rattle.std.proofs.lemmas.List.{append-nil, append_cancel_left}
 use Rattle.fir_base.specs.Lists.{In}
 use Rattle.fir_base.proofs.Members.{in_left, in_right}
 use Rattle.fir_ast.specs.Expressions.{Expression}
@@ -41,10 +41,10 @@ pub longer_blocked : (depth : ℕ) (taken : List Bool) (b : Bool) → IsBlocked 
 longer_blocked depth taken b h = record { blocked = λ more. rw (append_assoc taken (b ∷ []) more) (h.blocked (b ∷ more)) }
 
 now_alike : (depth : ℕ) (one other : List Bool) → CountAlike depth one other → counts depth one ≡ counts depth other
-now_alike depth one other h = ?
+now_alike depth one other h = ap (counts depth) (sym (append-nil one)) ∙ h.alike [] ∙ ap (counts depth) (append-nil other)
 
 now_blocked : (depth : ℕ) (taken : List Bool) → IsBlocked depth taken → counts depth taken ≡ false
-now_blocked depth taken h = ?
+now_blocked depth taken h = ap (counts depth) (sym (append-nil taken)) ∙ h.blocked []
 
 -- a when that is taken counts as none, and one that is not blocks
 pub taken_alike : (depth : ℕ) (taken : List Bool) → depth ≤ length taken → CountAlike depth (taken ++ true ∷ []) taken
@@ -137,8 +137,91 @@ module _ {V : Type 0} (s : Scene) (holds : TypesByPath) (env : ValuesByPath) (gi
   abbrev pub TellsAt : List ℕ → Type 0
   TellsAt name = (one other : DesignStore V) → one (path ++ x) ≡ other (path ++ x) → child name one (path ++ x) ≡ child name other (path ++ x)
 
-  pub alike_kept : (o : Option LeafPath) (give : LeafPath → V) (taken others : List Bool) (one other : DesignStore V)
+  alike_kept : (o : Option LeafPath) (give : LeafPath → V) (taken others : List Bool) (one other : DesignStore V)
       → CountAlike (source_depth s x) taken others → one (path ++ x) ≡ other (path ++ x)
       → source_kept s holds env gifts path child o give taken one (path ++ x) ≡ source_kept s holds env gifts path child o give others other (path ++ x)
   alike_kept None give taken others one other h e = e
-  alike_kept (Some y) give taken others one other h e = ?
+  alike_kept (Some y) give taken others one other h e =
+      by (same_path (path ++ y) (path ++ x)) (counts (source_depth s y) taken) (counts (source_depth s y) others) refl refl refl
+    where
+      counted : same_path (path ++ y) (path ++ x) ≡ true → counts (source_depth s y) taken ≡ counts (source_depth s y) others
+      counted t =
+          let here : y ≡ x = append_cancel_left path y x (leaf_is (path ++ y) (path ++ x) t) in
+          ap (λ z. counts (source_depth s z) taken) here ∙ now_alike (source_depth s x) taken others h
+          ∙ ap (λ z. counts (source_depth s z) others) (sym here)
+
+      by : (t a b : Bool) → same_path (path ++ y) (path ++ x) ≡ t → counts (source_depth s y) taken ≡ a → counts (source_depth s y) others ≡ b
+          → (if a then kept_at (path ++ y) (give y) one else one) (path ++ x) ≡ (if b then kept_at (path ++ y) (give y) other else other) (path ++ x)
+      by true true true same p q = rw same refl
+      by true false false same p q = e
+      by true true false same p q = let no = counted same in absurd (cc)
+      by true false true same p q = let no = counted same in absurd (cc)
+      by false true true same p q = rw same e
+      by false true false same p q = rw same e
+      by false false true same p q = rw same e
+      by false false false same p q = e
+
+  alike_pairs : (scope : TypedScope) (sink : Sink) (c : Expression) (ps : List Pair) (taken others : List Bool) (one other : DesignStore V)
+      → CountAlike (source_depth s x) taken others → one (path ++ x) ≡ other (path ++ x)
+      → source_pairs s holds env gifts path child scope sink c taken ps one (path ++ x)
+      ≡ source_pairs s holds env gifts path child scope sink c others ps other (path ++ x)
+  alike_pairs scope sink c [] taken others one other h e = e
+  alike_pairs scope sink c (p ∷ ps) taken others one other h e =
+      alike_pairs scope sink c ps taken others (source_pair s holds env gifts path child scope sink c taken p one)
+      (source_pair s holds env gifts path child scope sink c others p other) h
+      (rw (pair_kept s holds env gifts path child scope sink c taken p one, pair_kept s holds env gifts path child scope sink c others p other)
+      (alike_kept (driven holds env scope sink c p) (gift gifts scope sink c p) taken others one other h e))
+
+  alike_named : (a : Aim) (ls : List TypeLeaf) (taken others : List Bool) (one other : DesignStore V)
+      → CountAlike (source_depth s x) taken others → one (path ++ x) ≡ other (path ++ x)
+      → source_invalid s holds env gifts path child a taken ls one (path ++ x) ≡ source_invalid s holds env gifts path child a others ls other (path ++ x)
+  alike_named a [] taken others one other h e = e
+  alike_named a (l ∷ ls) taken others one other h e =
+      alike_named a ls taken others _ _ h (by (may_be_driven (source_may_drive s) (leaf_where a.first l.path)))
+    where
+      by : (may : Bool)
+          → (if may then source_kept s holds env gifts path child (leaf_where a.at l.path) gifts.of_invalid taken one else one) (path ++ x)
+          ≡ (if may then source_kept s holds env gifts path child (leaf_where a.at l.path) gifts.of_invalid others other else other) (path ++ x)
+      by true = alike_kept (leaf_where a.at l.path) gifts.of_invalid taken others one other h e
+      by false = e
+
+  mutual
+    alike_statement : (y : Statement) (before : Before) (taken others : List Bool) (one other : DesignStore V)
+        → CountAlike (source_depth s x) taken others → one (path ++ x) ≡ other (path ++ x)
+        → ((i : InstanceOf) → In (instances_of y) i → TellsAt i.named.name)
+        → exec_source s holds env gifts path child before y taken one (path ++ x) ≡ exec_source s holds env gifts path child before y others other (path ++ x)
+    alike_statement (connect p sink c) before taken others one other h e tells =
+        alike_pairs (scope_at s.own.modules before) sink c (pairs_between holds env pairs (scope_at s.own.modules before) sink c) taken others one other h e
+    alike_statement (partial_connect p sink c) before taken others one other h e tells =
+        alike_pairs (scope_at s.own.modules before) sink c (pairs_between holds env partial_pairs (scope_at s.own.modules before) sink c)
+        taken others one other h e
+    alike_statement (invalid p sink) before taken others one other h e tells =
+        let a = aim_of (scope_at s.own.modules before) holds env sink in
+        alike_named a (type_leaves a.data_type) taken others one other h e
+    alike_statement (when p c a b) before taken others one other h e tells =
+        let high = is_one holds env (scope_at s.own.modules before) c in
+        alike_block b (reopened before (behind_block (opened before) a)) (taken ++ not high ∷ []) (others ++ not high ∷ [])
+        (exec_source_all s holds env gifts path child (opened before) a (taken ++ high ∷ []) one)
+        (exec_source_all s holds env gifts path child (opened before) a (others ++ high ∷ []) other)
+        (longer_alike (source_depth s x) taken others (not high) h)
+        (alike_block a (opened before) (taken ++ high ∷ []) (others ++ high ∷ []) one other
+        (longer_alike (source_depth s x) taken others high h) e (λ i m. tells i (in_left (instances_of_block a) (instances_of_block b) i m)))
+        (λ i m. tells i (in_right (instances_of_block a) (instances_of_block b) i m))
+    alike_statement (instance p n m) before taken others one other h e tells = tells (record { named = n; other = m }) (inl refl) one other e
+    alike_statement (wire p n begins t) before taken others one other h e tells = e
+    alike_statement (register p n begins t c r) before taken others one other h e tells = e
+    alike_statement (node p n c) before taken others one other h e tells = e
+    alike_statement (memory p n parts) before taken others one other h e tells = e
+    alike_statement (skip p) before taken others one other h e tells = e
+
+    pub alike_block : (b : Block) (before : Before) (taken others : List Bool) (one other : DesignStore V)
+        → CountAlike (source_depth s x) taken others → one (path ++ x) ≡ other (path ++ x)
+        → ((i : InstanceOf) → In (instances_of_block b) i → TellsAt i.named.name)
+        → exec_source_all s holds env gifts path child before b taken one (path ++ x)
+        ≡ exec_source_all s holds env gifts path child before b others other (path ++ x)
+    alike_block done before taken others one other h e tells = e
+    alike_block ((then) y b) before taken others one other h e tells =
+        alike_block b (behind before y) taken others (exec_source s holds env gifts path child before y taken one)
+        (exec_source s holds env gifts path child before y others other) h
+        (alike_statement y before taken others one other h e (λ i m. tells i (in_left (instances_of y) (instances_of_block b) i m)))
+        (λ i m. tells i (in_right (instances_of y) (instances_of_block b) i m))

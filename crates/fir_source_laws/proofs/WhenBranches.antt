@@ -1,0 +1,66 @@
+-- A when runs one of its blocks, and leaves that are declared within whens count none of them.
+use Rattle.std.proofs.Common.{◌≡◌, ℕ, ◌≤◌, List, [], ◌∷◌, ◌++◌, length, Bool, true, false, not, if◌then◌else◌, refl, sym, ◌∙◌}
+use Rattle.fir_base.specs.Lists.{In}
+use Rattle.fir_base.proofs.Members.{in_left, in_right}
+use Rattle.fir_ast.specs.Statements.{Block}
+use Rattle.fir_meaning.specs.LeafPaths.{LeafPath}
+use Rattle.fir_meaning.specs.TypeGroup.{scope_at}
+use Rattle.fir_meaning.specs.Visibility.{Before, opened, reopened, behind_block}
+use Rattle.fir_meaning.specs.DesignStores.{DesignStore}
+use Rattle.fir_meaning.specs.LeafedModules.{Scene}
+use Rattle.fir_meaning.specs.TreeValues.{TypesByPath, ValuesByPath}
+use Rattle.fir_meaning.specs.SourceDesigns.{InstanceOf, instances_of_block}
+use Rattle.fir_meaning.specs.SourceFacts.{source_depth}
+use Rattle.fir_meaning.specs.SourceStores.{Gifts, exec_source_all}
+use Rattle.fir_source_laws.specs.working.SparedLeaves.{SparedBy, is_one}
+use Rattle.fir_source_laws.specs.working.WhenLaws.{InnerLeavesCountNone, InnerLeavesCountNoneOf, WhenRunsOne, WhenRunsOneOf}
+use Rattle.fir_source_laws.proofs.RunBranches.{CountAlike, IsBlocked, TellsAt, alike_block, blocked_block, outer_alike, taken_alike, untaken_blocked}
+use Rattle.fir_source_laws.proofs.SparedStores.{spared_block}
+
+runs_one : {V : Type 0} → WhenRunsOneOf V
+runs_one {V} s holds env gifts path child before p c a b taken store x outer spared = by (is_one holds env (scope_at s.own.modules before) c)
+  where
+    alike : CountAlike (source_depth s x) (taken ++ true ∷ []) taken
+    alike = taken_alike (source_depth s x) taken outer
+
+    blocked : IsBlocked (source_depth s x) (taken ++ false ∷ [])
+    blocked = untaken_blocked (source_depth s x) taken outer
+
+    in_a : (i : InstanceOf) → In (instances_of_block a) i → SparedBy s holds env path child (path ++ x) i.named.name
+    in_a i m = spared i (in_left (instances_of_block a) (instances_of_block b) i m)
+
+    in_b : (i : InstanceOf) → In (instances_of_block b) i → SparedBy s holds env path child (path ++ x) i.named.name
+    in_b i m = spared i (in_right (instances_of_block a) (instances_of_block b) i m)
+
+    tells : (i : InstanceOf) → SparedBy s holds env path child (path ++ x) i.named.name → TellsAt s holds env gifts path child x i.named.name
+    tells i same one other e = same one ∙ e ∙ sym (same other)
+
+    by : (high : Bool)
+        → exec_source_all s holds env gifts path child (reopened before (behind_block (opened before) a)) b (taken ++ not high ∷ [])
+        (exec_source_all s holds env gifts path child (opened before) a (taken ++ high ∷ []) store) (path ++ x)
+        ≡ (if high
+        then exec_source_all s holds env gifts path child (opened before) a taken store (path ++ x)
+        else exec_source_all s holds env gifts path child (reopened before (behind_block (opened before) a)) b taken store (path ++ x))
+    by true =
+        spared_block s holds env gifts path child (path ++ x) b (reopened before (behind_block (opened before) a)) (taken ++ false ∷ [])
+        (exec_source_all s holds env gifts path child (opened before) a (taken ++ true ∷ []) store)
+        (blocked_block s holds env path child x b (reopened before (behind_block (opened before) a)) (taken ++ false ∷ []) blocked in_b)
+        ∙ alike_block s holds env gifts path child x a (opened before) (taken ++ true ∷ []) taken store store alike refl (λ i m. tells i (in_a i m))
+    by false =
+        alike_block s holds env gifts path child x b (reopened before (behind_block (opened before) a)) (taken ++ true ∷ []) taken
+        (exec_source_all s holds env gifts path child (opened before) a (taken ++ false ∷ []) store) store alike
+        (spared_block s holds env gifts path child (path ++ x) a (opened before) (taken ++ false ∷ []) store
+        (blocked_block s holds env path child x a (opened before) (taken ++ false ∷ []) blocked in_a))
+        (λ i m. tells i (in_b i m))
+
+pub when_runs_one : WhenRunsOne
+when_runs_one = (runs_one, runs_one)
+
+inner_none : {V : Type 0} → InnerLeavesCountNoneOf V
+inner_none s holds env gifts path child before b outer other inner store x within as_many tells =
+    alike_block s holds env gifts path child x b before (outer ++ inner) (other ++ inner) store store
+    (outer_alike (source_depth s x) outer other inner within as_many) refl
+    (λ i m one two e. tells i.named.name one two (path ++ x) e)
+
+pub inner_leaves_count_none : InnerLeavesCountNone
+inner_leaves_count_none = (inner_none, inner_none)
