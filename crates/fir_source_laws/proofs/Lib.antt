@@ -3,3 +3,7 @@ pub mod SparedStores
 pub mod LastConnects
 pub mod RunBranches
 pub mod WhenBranches
+pub mod FitValues
+pub mod InvalidStores
+pub mod ModuleStores
+pub mod DeclaredDepths

@@ -6,3 +6,6 @@ pub mod ConnectLaws
 pub mod WhenLaws
 -- Instances.
 pub mod FitLaws
+pub mod DepthLaws
+-- Instances.
+pub mod InstanceLaws

@@ -3,6 +3,7 @@
 ghost use Rattle.fir_source_laws.specs.working.ConnectLaws.{LastConnect, LastPartialConnect, LastGroundConnect, SparedStays, UndrivenKeeps};
 ghost use Rattle.fir_source_laws.specs.working.FitLaws.{ConnectsFit, InvalidSparesSources, InvalidStores};
 ghost use Rattle.fir_source_laws.specs.working.WhenLaws.{InnerLeavesCountNone, WhenRunsOne};
+ghost use Rattle.fir_source_laws.specs.working.DepthLaws.{DepthsAreWhens};
 
 /// x
 pub fn last_connect_is_stored()
@@ -22,4 +23,39 @@ pub fn whens_run_one_block()
 /// x
 pub fn inner_leaves_count_no_outer_when()
     ensures { InnerLeavesCountNone }
+{}
+
+/// x
+pub fn last_connect_of_a_body_is_stored()
+    ensures { LastGroundConnect }
+{}
+
+/// x
+pub fn spared_leaves_stay()
+    ensures { SparedStays }
+{}
+
+/// x
+pub fn undriven_leaves_keep_what_they_show()
+    ensures { UndrivenKeeps }
+{}
+
+/// x
+pub fn connects_extend_or_cut()
+    ensures { ConnectsFit }
+{}
+
+/// x
+pub fn invalids_store_zero()
+    ensures { InvalidStores }
+{}
+
+/// x
+pub fn invalids_spare_sources()
+    ensures { InvalidSparesSources }
+{}
+
+/// x
+pub fn depths_are_whens()
+    ensures { DepthsAreWhens }
 {}
