@@ -7,3 +7,5 @@ pub mod FitValues
 pub mod InvalidStores
 pub mod ModuleStores
 pub mod DeclaredDepths
+pub mod OwnPaths
+pub mod InstanceStores

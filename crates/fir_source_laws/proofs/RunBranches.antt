@@ -32,12 +32,12 @@ pub record CountAlike (depth : ℕ) (one other : List Bool) : Type 0 where
 pub record IsBlocked (depth : ℕ) (taken : List Bool) : Type 0 where
   pub blocked : (more : List Bool) → counts depth (taken ++ more) ≡ false
 
-pub longer_alike : (depth : ℕ) (one other : List Bool) (b : Bool) → CountAlike depth one other → CountAlike depth (one ++ b ∷ []) (other ++ b ∷ [])
+longer_alike : (depth : ℕ) (one other : List Bool) (b : Bool) → CountAlike depth one other → CountAlike depth (one ++ b ∷ []) (other ++ b ∷ [])
 longer_alike depth one other b h = record {
   alike = λ more. rw (append_assoc one (b ∷ []) more, append_assoc other (b ∷ []) more) (h.alike (b ∷ more));
 }
 
-pub longer_blocked : (depth : ℕ) (taken : List Bool) (b : Bool) → IsBlocked depth taken → IsBlocked depth (taken ++ b ∷ [])
+longer_blocked : (depth : ℕ) (taken : List Bool) (b : Bool) → IsBlocked depth taken → IsBlocked depth (taken ++ b ∷ [])
 longer_blocked depth taken b h = record { blocked = λ more. rw (append_assoc taken (b ∷ []) more) (h.blocked (b ∷ more)) }
 
 now_alike : (depth : ℕ) (one other : List Bool) → CountAlike depth one other → counts depth one ≡ counts depth other
@@ -133,25 +133,26 @@ module _ {V : Type 0} (s : Scene) (holds : TypesByPath) (env : ValuesByPath) (pa
 
 module _ {V : Type 0} (s : Scene) (holds : TypesByPath) (env : ValuesByPath) (gifts : Gifts V) (path : LeafPath)
     (child : List ℕ → DesignStore V → DesignStore V) (x : LeafPath) where
-  -- at one leaf an instance tells by what was there
+  -- two lists of whens that the leaf counts alike
+  abbrev pub AlikeAt : List Bool → List Bool → Type 0
+  AlikeAt taken others = (y : LeafPath) → path ++ y ≡ x → CountAlike (source_depth s y) taken others
+
+  -- at the leaf an instance tells by what was there
   abbrev pub TellsAt : List ℕ → Type 0
-  TellsAt name = (one other : DesignStore V) → one (path ++ x) ≡ other (path ++ x) → child name one (path ++ x) ≡ child name other (path ++ x)
+  TellsAt name = (one other : DesignStore V) → one x ≡ other x → child name one x ≡ child name other x
 
   alike_kept : (o : Option LeafPath) (give : LeafPath → V) (taken others : List Bool) (one other : DesignStore V)
-      → CountAlike (source_depth s x) taken others → one (path ++ x) ≡ other (path ++ x)
-      → source_kept s holds env gifts path child o give taken one (path ++ x) ≡ source_kept s holds env gifts path child o give others other (path ++ x)
+      → AlikeAt taken others → one x ≡ other x
+      → source_kept s holds env gifts path child o give taken one x ≡ source_kept s holds env gifts path child o give others other x
   alike_kept None give taken others one other h e = e
   alike_kept (Some y) give taken others one other h e =
-      by (same_path (path ++ y) (path ++ x)) (counts (source_depth s y) taken) (counts (source_depth s y) others) refl refl refl
+      by (same_path (path ++ y) x) (counts (source_depth s y) taken) (counts (source_depth s y) others) refl refl refl
     where
-      counted : same_path (path ++ y) (path ++ x) ≡ true → counts (source_depth s y) taken ≡ counts (source_depth s y) others
-      counted t =
-          let here : y ≡ x = append_cancel_left path y x (leaf_is (path ++ y) (path ++ x) t) in
-          ap (λ z. counts (source_depth s z) taken) here ∙ now_alike (source_depth s x) taken others h
-          ∙ ap (λ z. counts (source_depth s z) others) (sym here)
+      counted : same_path (path ++ y) x ≡ true → counts (source_depth s y) taken ≡ counts (source_depth s y) others
+      counted t = now_alike (source_depth s y) taken others (h y (leaf_is (path ++ y) x t))
 
-      by : (t a b : Bool) → same_path (path ++ y) (path ++ x) ≡ t → counts (source_depth s y) taken ≡ a → counts (source_depth s y) others ≡ b
-          → (if a then kept_at (path ++ y) (give y) one else one) (path ++ x) ≡ (if b then kept_at (path ++ y) (give y) other else other) (path ++ x)
+      by : (t a b : Bool) → same_path (path ++ y) x ≡ t → counts (source_depth s y) taken ≡ a → counts (source_depth s y) others ≡ b
+          → (if a then kept_at (path ++ y) (give y) one else one) x ≡ (if b then kept_at (path ++ y) (give y) other else other) x
       by true true true same p q = rw same refl
       by true false false same p q = e
       by true true false same p q = let no = counted same in absurd (cc)
@@ -162,9 +163,9 @@ module _ {V : Type 0} (s : Scene) (holds : TypesByPath) (env : ValuesByPath) (gi
       by false false false same p q = e
 
   alike_pairs : (scope : TypedScope) (sink : Sink) (c : Expression) (ps : List Pair) (taken others : List Bool) (one other : DesignStore V)
-      → CountAlike (source_depth s x) taken others → one (path ++ x) ≡ other (path ++ x)
-      → source_pairs s holds env gifts path child scope sink c taken ps one (path ++ x)
-      ≡ source_pairs s holds env gifts path child scope sink c others ps other (path ++ x)
+      → AlikeAt taken others → one x ≡ other x
+      → source_pairs s holds env gifts path child scope sink c taken ps one x
+      ≡ source_pairs s holds env gifts path child scope sink c others ps other x
   alike_pairs scope sink c [] taken others one other h e = e
   alike_pairs scope sink c (p ∷ ps) taken others one other h e =
       alike_pairs scope sink c ps taken others (source_pair s holds env gifts path child scope sink c taken p one)
@@ -173,23 +174,23 @@ module _ {V : Type 0} (s : Scene) (holds : TypesByPath) (env : ValuesByPath) (gi
       (alike_kept (driven holds env scope sink c p) (gift gifts scope sink c p) taken others one other h e))
 
   alike_named : (a : Aim) (ls : List TypeLeaf) (taken others : List Bool) (one other : DesignStore V)
-      → CountAlike (source_depth s x) taken others → one (path ++ x) ≡ other (path ++ x)
-      → source_invalid s holds env gifts path child a taken ls one (path ++ x) ≡ source_invalid s holds env gifts path child a others ls other (path ++ x)
+      → AlikeAt taken others → one x ≡ other x
+      → source_invalid s holds env gifts path child a taken ls one x ≡ source_invalid s holds env gifts path child a others ls other x
   alike_named a [] taken others one other h e = e
   alike_named a (l ∷ ls) taken others one other h e =
       alike_named a ls taken others _ _ h (by (may_be_driven (source_may_drive s) (leaf_where a.first l.path)))
     where
       by : (may : Bool)
-          → (if may then source_kept s holds env gifts path child (leaf_where a.at l.path) gifts.of_invalid taken one else one) (path ++ x)
-          ≡ (if may then source_kept s holds env gifts path child (leaf_where a.at l.path) gifts.of_invalid others other else other) (path ++ x)
+          → (if may then source_kept s holds env gifts path child (leaf_where a.at l.path) gifts.of_invalid taken one else one) x
+          ≡ (if may then source_kept s holds env gifts path child (leaf_where a.at l.path) gifts.of_invalid others other else other) x
       by true = alike_kept (leaf_where a.at l.path) gifts.of_invalid taken others one other h e
       by false = e
 
   mutual
     alike_statement : (y : Statement) (before : Before) (taken others : List Bool) (one other : DesignStore V)
-        → CountAlike (source_depth s x) taken others → one (path ++ x) ≡ other (path ++ x)
+        → AlikeAt taken others → one x ≡ other x
         → ((i : InstanceOf) → In (instances_of y) i → TellsAt i.named.name)
-        → exec_source s holds env gifts path child before y taken one (path ++ x) ≡ exec_source s holds env gifts path child before y others other (path ++ x)
+        → exec_source s holds env gifts path child before y taken one x ≡ exec_source s holds env gifts path child before y others other x
     alike_statement (connect p sink c) before taken others one other h e tells =
         alike_pairs (scope_at s.own.modules before) sink c (pairs_between holds env pairs (scope_at s.own.modules before) sink c) taken others one other h e
     alike_statement (partial_connect p sink c) before taken others one other h e tells =
@@ -203,9 +204,9 @@ module _ {V : Type 0} (s : Scene) (holds : TypesByPath) (env : ValuesByPath) (gi
         alike_block b (reopened before (behind_block (opened before) a)) (taken ++ not high ∷ []) (others ++ not high ∷ [])
         (exec_source_all s holds env gifts path child (opened before) a (taken ++ high ∷ []) one)
         (exec_source_all s holds env gifts path child (opened before) a (others ++ high ∷ []) other)
-        (longer_alike (source_depth s x) taken others (not high) h)
+        (λ y same. longer_alike (source_depth s y) taken others (not high) (h y same))
         (alike_block a (opened before) (taken ++ high ∷ []) (others ++ high ∷ []) one other
-        (longer_alike (source_depth s x) taken others high h) e (λ i m. tells i (in_left (instances_of_block a) (instances_of_block b) i m)))
+        (λ y same. longer_alike (source_depth s y) taken others high (h y same)) e (λ i m. tells i (in_left (instances_of_block a) (instances_of_block b) i m)))
         (λ i m. tells i (in_right (instances_of_block a) (instances_of_block b) i m))
     alike_statement (instance p n m) before taken others one other h e tells = tells (record { named = n; other = m }) (inl refl) one other e
     alike_statement (wire p n begins t) before taken others one other h e tells = e
@@ -215,10 +216,10 @@ module _ {V : Type 0} (s : Scene) (holds : TypesByPath) (env : ValuesByPath) (gi
     alike_statement (skip p) before taken others one other h e tells = e
 
     pub alike_block : (b : Block) (before : Before) (taken others : List Bool) (one other : DesignStore V)
-        → CountAlike (source_depth s x) taken others → one (path ++ x) ≡ other (path ++ x)
+        → AlikeAt taken others → one x ≡ other x
         → ((i : InstanceOf) → In (instances_of_block b) i → TellsAt i.named.name)
-        → exec_source_all s holds env gifts path child before b taken one (path ++ x)
-        ≡ exec_source_all s holds env gifts path child before b others other (path ++ x)
+        → exec_source_all s holds env gifts path child before b taken one x
+        ≡ exec_source_all s holds env gifts path child before b others other x
     alike_block done before taken others one other h e tells = e
     alike_block ((then) y b) before taken others one other h e tells =
         alike_block b (behind before y) taken others (exec_source s holds env gifts path child before y taken one)

@@ -1,5 +1,6 @@
 -- A when runs one of its blocks, and leaves that are declared within whens count none of them.
-use Rattle.std.proofs.Common.{◌≡◌, ℕ, ◌≤◌, List, [], ◌∷◌, ◌++◌, length, Bool, true, false, not, if◌then◌else◌, refl, sym, ◌∙◌}
+use Rattle.std.proofs.Common.{◌≡◌, ℕ, ◌≤◌, List, [], ◌∷◌, ◌++◌, length, Bool, true, false, not, if◌then◌else◌, refl, sym, subst, ◌∙◌}
+use Rattle.std.proofs.lemmas.List.{append_cancel_left}
 use Rattle.fir_base.specs.Lists.{In}
 use Rattle.fir_base.proofs.Members.{in_left, in_right}
 use Rattle.fir_ast.specs.Statements.{Block}
@@ -14,14 +15,19 @@ use Rattle.fir_meaning.specs.SourceFacts.{source_depth}
 use Rattle.fir_meaning.specs.SourceStores.{Gifts, exec_source_all}
 use Rattle.fir_source_laws.specs.working.SparedLeaves.{SparedBy, is_one}
 use Rattle.fir_source_laws.specs.working.WhenLaws.{InnerLeavesCountNone, InnerLeavesCountNoneOf, WhenRunsOne, WhenRunsOneOf}
-use Rattle.fir_source_laws.proofs.RunBranches.{CountAlike, IsBlocked, TellsAt, alike_block, blocked_block, outer_alike, taken_alike, untaken_blocked}
+use Rattle.fir_source_laws.proofs.RunBranches.{AlikeAt, CountAlike, IsBlocked, TellsAt, alike_block, blocked_block, outer_alike, taken_alike, untaken_blocked}
 use Rattle.fir_source_laws.proofs.SparedStores.{spared_block}
+
+module _ {V : Type 0} (s : Scene) (holds : TypesByPath) (env : ValuesByPath) (gifts : Gifts V) (path : LeafPath)
+    (child : List ℕ → DesignStore V → DesignStore V) (x : LeafPath) where
+  here_alike : (one other : List Bool) → CountAlike (source_depth s x) one other → AlikeAt s holds env gifts path child (path ++ x) one other
+  here_alike one other h y same = subst (λ z. CountAlike (source_depth s z) one other) (sym (append_cancel_left path y x same)) h
 
 runs_one : {V : Type 0} → WhenRunsOneOf V
 runs_one {V} s holds env gifts path child before p c a b taken store x outer spared = by (is_one holds env (scope_at s.own.modules before) c)
   where
-    alike : CountAlike (source_depth s x) (taken ++ true ∷ []) taken
-    alike = taken_alike (source_depth s x) taken outer
+    alike : AlikeAt s holds env gifts path child (path ++ x) (taken ++ true ∷ []) taken
+    alike = here_alike s holds env gifts path child x (taken ++ true ∷ []) taken (taken_alike (source_depth s x) taken outer)
 
     blocked : IsBlocked (source_depth s x) (taken ++ false ∷ [])
     blocked = untaken_blocked (source_depth s x) taken outer
@@ -32,7 +38,7 @@ runs_one {V} s holds env gifts path child before p c a b taken store x outer spa
     in_b : (i : InstanceOf) → In (instances_of_block b) i → SparedBy s holds env path child (path ++ x) i.named.name
     in_b i m = spared i (in_right (instances_of_block a) (instances_of_block b) i m)
 
-    tells : (i : InstanceOf) → SparedBy s holds env path child (path ++ x) i.named.name → TellsAt s holds env gifts path child x i.named.name
+    tells : (i : InstanceOf) → SparedBy s holds env path child (path ++ x) i.named.name → TellsAt s holds env gifts path child (path ++ x) i.named.name
     tells i same one other e = same one ∙ e ∙ sym (same other)
 
     by : (high : Bool)
@@ -45,9 +51,9 @@ runs_one {V} s holds env gifts path child before p c a b taken store x outer spa
         spared_block s holds env gifts path child (path ++ x) b (reopened before (behind_block (opened before) a)) (taken ++ false ∷ [])
         (exec_source_all s holds env gifts path child (opened before) a (taken ++ true ∷ []) store)
         (blocked_block s holds env path child x b (reopened before (behind_block (opened before) a)) (taken ++ false ∷ []) blocked in_b)
-        ∙ alike_block s holds env gifts path child x a (opened before) (taken ++ true ∷ []) taken store store alike refl (λ i m. tells i (in_a i m))
+        ∙ alike_block s holds env gifts path child (path ++ x) a (opened before) (taken ++ true ∷ []) taken store store alike refl (λ i m. tells i (in_a i m))
     by false =
-        alike_block s holds env gifts path child x b (reopened before (behind_block (opened before) a)) (taken ++ true ∷ []) taken
+        alike_block s holds env gifts path child (path ++ x) b (reopened before (behind_block (opened before) a)) (taken ++ true ∷ []) taken
         (exec_source_all s holds env gifts path child (opened before) a (taken ++ false ∷ []) store) store alike
         (spared_block s holds env gifts path child (path ++ x) a (opened before) (taken ++ false ∷ []) store
         (blocked_block s holds env path child x a (opened before) (taken ++ false ∷ []) blocked in_a))
@@ -58,8 +64,9 @@ when_runs_one = (runs_one, runs_one)
 
 inner_none : {V : Type 0} → InnerLeavesCountNoneOf V
 inner_none s holds env gifts path child before b outer other inner store x within as_many tells =
-    alike_block s holds env gifts path child x b before (outer ++ inner) (other ++ inner) store store
-    (outer_alike (source_depth s x) outer other inner within as_many) refl
+    alike_block s holds env gifts path child (path ++ x) b before (outer ++ inner) (other ++ inner) store store
+    (here_alike s holds env gifts path child x (outer ++ inner) (other ++ inner)
+    (outer_alike (source_depth s x) outer other inner within as_many)) refl
     (λ i m one two e. tells i.named.name one two (path ++ x) e)
 
 pub inner_leaves_count_none : InnerLeavesCountNone

@@ -2,6 +2,7 @@
 
 ghost use Rattle.fir_source_laws.specs.working.ConnectLaws.{LastConnect, LastPartialConnect, LastGroundConnect, SparedStays, UndrivenKeeps};
 ghost use Rattle.fir_source_laws.specs.working.FitLaws.{ConnectsFit, InvalidSparesSources, InvalidStores};
+ghost use Rattle.fir_source_laws.specs.working.InstanceLaws.{InstancesCountNoWhen, InstancesShareNothing, InstancesStoreBelow, InstancesTellByLeaf};
 ghost use Rattle.fir_source_laws.specs.working.WhenLaws.{InnerLeavesCountNone, WhenRunsOne};
 ghost use Rattle.fir_source_laws.specs.working.DepthLaws.{DepthsAreWhens};
 
@@ -58,4 +59,24 @@ pub fn invalids_spare_sources()
 /// x
 pub fn depths_are_whens()
     ensures { DepthsAreWhens }
+{}
+
+/// x
+pub fn instances_share_nothing()
+    ensures { InstancesShareNothing }
+{}
+
+/// x
+pub fn instances_store_below_their_paths()
+    ensures { InstancesStoreBelow }
+{}
+
+/// x
+pub fn instances_count_no_when()
+    ensures { InstancesCountNoWhen }
+{}
+
+/// x
+pub fn instances_store_by_leaf()
+    ensures { InstancesTellByLeaf }
 {}
