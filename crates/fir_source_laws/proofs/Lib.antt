@@ -9,3 +9,5 @@ pub mod ModuleStores
 pub mod DeclaredDepths
 pub mod OwnPaths
 pub mod InstanceStores
+pub mod PortNames
+pub mod PortValues

@@ -9,3 +9,4 @@ pub mod FitLaws
 pub mod DepthLaws
 -- Instances.
 pub mod InstanceLaws
+pub mod PortLaws

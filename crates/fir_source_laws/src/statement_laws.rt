@@ -4,6 +4,7 @@ ghost use Rattle.fir_source_laws.specs.working.ConnectLaws.{LastConnect, LastPar
 ghost use Rattle.fir_source_laws.specs.working.FitLaws.{ConnectsFit, InvalidSparesSources, InvalidStores};
 ghost use Rattle.fir_source_laws.specs.working.InstanceLaws.{InstancesCountNoWhen, InstancesShareNothing, InstancesStoreBelow, InstancesTellByLeaf};
 ghost use Rattle.fir_source_laws.specs.working.WhenLaws.{InnerLeavesCountNone, WhenRunsOne};
+ghost use Rattle.fir_source_laws.specs.working.PortLaws.{PortsAreOne, PortsReadAsStored};
 ghost use Rattle.fir_source_laws.specs.working.DepthLaws.{DepthsAreWhens};
 
 /// x
@@ -79,4 +80,9 @@ pub fn instances_count_no_when()
 /// x
 pub fn instances_store_by_leaf()
     ensures { InstancesTellByLeaf }
+{}
+
+/// x
+pub fn ports_are_one_leaf()
+    ensures { PortsAreOne }
 {}
