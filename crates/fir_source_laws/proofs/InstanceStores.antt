@@ -67,8 +67,24 @@ module _ {V : Type 0} (holds : TypesByPath) (env : ValuesByPath) (gifts : LeafPa
         (design_spares (at ++ named y ∷ []) d store (λ h. outside (below_joined at (named y ∷ []) x h)))
         (instance_spares at rest name store outside)
 
+  -- the instance of a name stores below that name
+  module _ (at : LeafPath) (name : List ℕ) (store : DesignStore V) (outside : IsBelow (at ++ named name ∷ []) x → ⊥) where
+    one_spares : (y : List ℕ) (d : SourceDesign) (rest : Instances) (is_so : Bool) → bytes_eq y name ≡ is_so
+        → exec_instances holds env gifts at rest name store x ≡ store x
+        → (if is_so then exec_design holds env gifts (at ++ named y ∷ []) d store else exec_instances holds env gifts at rest name store) x ≡ store x
+    one_spares y d rest false t further = further
+    one_spares y d rest true t further =
+        design_spares (at ++ named y ∷ []) d store (λ h. outside (subst (λ n. IsBelow (at ++ named n ∷ []) x) (name_is y name t) h))
+
+    pub named_spares : (is : Instances) → exec_instances holds env gifts at is name store x ≡ store x
+    named_spares no_instances = refl
+    named_spares (held y d rest) = one_spares y d rest (bytes_eq y name) refl (named_spares rest)
+
 store_below : {V : Type 0} → InstancesStoreBelowOf V
-store_below holds env gifts at d store x outside = design_spares holds env gifts x at d store outside
+store_below holds env gifts at store x = (
+  λ d outside. design_spares holds env gifts x at d store outside,
+  λ is name outside. named_spares holds env gifts x at name store outside is,
+)
 
 pub instances_store_below : InstancesStoreBelow
 instances_store_below = (store_below, store_below)

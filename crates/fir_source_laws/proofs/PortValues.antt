@@ -1,6 +1,7 @@
 -- A port named within its instance, and from outside.
 use Rattle.std.proofs.Common.{◌≡◌, ℕ, List, [], ◌∷◌, ◌++◌, Option, Some, None, option_map, refl, sym, ap, ap₂, ◌∙◌, subst, append_assoc}
 use Rattle.fir_bits.specs.declared.types.NumTy.{NumTy}
+use Rattle.fir_bits.specs.declared.values.Num.{Num}
 use Rattle.fir_ast.specs.declared.place.Place.{Place}
 use Rattle.fir_ast.specs.Circuits.{ModuleTree}
 use Rattle.fir_ast.specs.Expressions.{Parts, no_parts, reference, subaccess, subfield, subindex}
@@ -16,9 +17,13 @@ use Rattle.fir_meaning.specs.TypedScopes.{TypedScope, known}
 use Rattle.fir_meaning.specs.Values.{number_of}
 use Rattle.fir_meaning.specs.Visibility.{Before}
 use Rattle.fir_meaning.specs.TreeAims.{Aim, behind, element_aim, element_aim_at, field_aim, field_aim_at, named_aim, step_aim, whole_aim}
-use Rattle.fir_meaning.specs.TreeValues.{TypesByPath, ValuesByPath, aim_along, aim_value, leaf_where, type_where, value_where}
+use Rattle.fir_meaning.specs.TreeValues.{TypesByPath, ValuesByPath, aim_along, aim_value, leaf_where, type_where, value, value_where}
+use Rattle.fir_meaning.specs.LeafModules.{number}
+use Rattle.fir_meaning.specs.SourceAllows.{Shows}
+use Rattle.fir_meaning.specs.SourceCircuits.{leaf_path}
 use Rattle.fir_meaning.specs.SourceStores.{below}
-use Rattle.fir_source_laws.specs.working.PortLaws.{IsPortOf, IsStatic, PortsAreOne}
+use Rattle.fir_meaning.specs.SourceValues.{number_shown, number_stored, source_holds}
+use Rattle.fir_source_laws.specs.working.PortLaws.{IsPortOf, IsStatic, PortsAreOne, PortsReadAsStored}
 use Rattle.fir_source_laws.proofs.PortNames.{field_outside, type_outside, type_within}
 
 module _ (i : List ℕ) where
@@ -104,4 +109,27 @@ ports_are_one modules outside within i p holds env at here there dot stands part
     (below (at ++ named i ∷ []) env) (below at env) parts _ _ static (port_shifted modules outside within i p is) in (
       aim_shifted i holds env at q _ _ shifted,
       leaf_shifted i holds env at q _ ∙ ap (λ o. option_map (λ x. at ++ x) (leaf_where o q)) (sym shifted.at),
+    )
+
+-- what a module reads of its port, by the port's path from the main module on
+port_read : (modules : List ModuleTree) (outside within : Before) (i p : List ℕ) (holds : TypesByPath) (env : ValuesByPath) (at : LeafPath) (here : Place)
+    (q : LeafPath) → IsPortOf modules outside within i p
+    → (value (scope_at modules within) (below (at ++ named i ∷ []) holds) (below (at ++ named i ∷ []) env) (reference here p no_parts) q).value.number
+    ≡ env (at ++ named i ∷ named p ∷ q)
+port_read modules outside within i p holds env at here q is =
+    ap (λ t. (aim_value (below (at ++ named i ∷ []) holds) (below (at ++ named i ∷ []) env) (whole_aim p t) q).value.number)
+    (type_within modules outside within i p is)
+    ∙ ap env (append_assoc at (named i ∷ []) (named p ∷ q))
+
+pub ports_read_as_stored : PortsReadAsStored
+ports_read_as_stored t state tick env leaf h modules outside within i p at here there dot stands q settled among role holds path is =
+    let shows : Shows t state tick.inputs env leaf (number h) = subst (Shows t state tick.inputs env leaf) holds (settled.each leaf among) in
+    let sunk : number_stored t env (leaf_path leaf) ≡ Some (env.numbers (leaf_path leaf)) =
+    sym (ap (number_shown t env state tick.inputs leaf.at (leaf_path leaf)) role) ∙ shows.0 in
+    let stored : number_stored t env (at ++ named i ∷ named p ∷ q) ≡ Some (env.numbers (at ++ named i ∷ named p ∷ q)) =
+    subst (λ x. number_stored t env x ≡ Some (env.numbers x)) path sunk in
+    let inner = port_read modules outside within i p (source_holds t) env.numbers at here q is in
+    let one = ports_are_one modules outside within i p (source_holds t) env.numbers at here there dot stands no_parts q is tt in (
+      stored ∙ ap Some (sym inner),
+      stored ∙ ap Some (sym inner ∙ ap (λ (v : Num). v.value.number) one.0),
     )

@@ -86,3 +86,8 @@ pub fn instances_store_by_leaf()
 pub fn ports_are_one_leaf()
     ensures { PortsAreOne }
 {}
+
+/// x
+pub fn ports_read_as_stored()
+    ensures { PortsReadAsStored }
+{}

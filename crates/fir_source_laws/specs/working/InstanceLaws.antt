@@ -32,11 +32,12 @@ InstancesShareNothing =
     (common inner other : LeafPath) (one two : List ℕ) (d e : SourceDesign) (x : LeafPath) → (one ≡ two → ⊥)
     → HasPath (common ++ named one ∷ inner) d x → HasPath (common ++ named two ∷ other) e x → ⊥
 
--- statements of an instance store below its path alone
+-- statements of an instance store below its path alone, whether it is told by its design or by its name in the module that holds it
 abbrev pub InstancesStoreBelowOf : Type 0 → Type 0
 InstancesStoreBelowOf V =
-    (holds : TypesByPath) (env : ValuesByPath) (gifts : LeafPath → Gifts V) (at : LeafPath) (d : SourceDesign) (store : DesignStore V) (x : LeafPath)
-    → (IsBelow at x → ⊥) → exec_design holds env gifts at d store x ≡ store x
+    (holds : TypesByPath) (env : ValuesByPath) (gifts : LeafPath → Gifts V) (at : LeafPath) (store : DesignStore V) (x : LeafPath)
+    → ((d : SourceDesign) → (IsBelow at x → ⊥) → exec_design holds env gifts at d store x ≡ store x)
+    × ((is : Instances) (name : List ℕ) → (IsBelow (at ++ named name ∷ []) x → ⊥) → exec_instances holds env gifts at is name store x ≡ store x)
 
 abbrev pub InstancesStoreBelow : Type 0
 InstancesStoreBelow = InstancesStoreBelowOf ℕ × InstancesStoreBelowOf (Option ℕ)
