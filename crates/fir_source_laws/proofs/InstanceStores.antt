@@ -14,7 +14,8 @@ use Rattle.fir_meaning.specs.TreeValues.{TypesByPath, ValuesByPath, aim_of, leaf
 use Rattle.fir_meaning.specs.SourceDesigns.{Instances, SourceDesign, held, made_of, no_instances}
 use Rattle.fir_meaning.specs.SourceFacts.{source_depth}
 use Rattle.fir_meaning.specs.SourceStores.{Gifts, below, exec_design, exec_instances, exec_source}
-use Rattle.fir_source_laws.specs.working.InstanceLaws.{InstancesCountNoWhen, InstancesCountNoWhenOf, InstancesStoreBelow, InstancesStoreBelowOf, InstancesTellByLeaf, InstancesTellByLeafOf, IsBelow, design_named}
+use Rattle.fir_source_laws.specs.working.InstanceLaws.{InstancesCountNoWhen, InstancesCountNoWhenOf, InstancesStoreBelow, InstancesStoreBelowOf, InstancesTellByLeaf, InstancesTellByLeafOf, design_named}
+use Rattle.fir_source_laws.specs.working.TreeStatements.{IsBelow}
 use Rattle.fir_source_laws.specs.working.SparedLeaves.{Spares, SparesAll, SparesAt, SparedBy, driven, is_one}
 use Rattle.fir_source_laws.proofs.OwnPaths.{below_joined, either_way}
 use Rattle.fir_source_laws.proofs.RunBranches.{alike_block}
@@ -22,13 +23,13 @@ use Rattle.fir_source_laws.proofs.SparedStores.{spared_block}
 
 -- the statements of a module spare what is not below its path
 module _ {V : Type 0} (s : Scene) (holds : TypesByPath) (env : ValuesByPath) (path : LeafPath) (child : List ℕ → DesignStore V → DesignStore V)
-    (x : LeafPath) (outside : IsBelow path x → ⊥) (inside : (name : List ℕ) → SparedBy s holds env path child x name) where
-  outside_at : (taken : List Bool) (o : Option LeafPath) → SparesAt s holds env path child x taken o
+    (x : LeafPath) (outside : IsBelow path x → ⊥) (inside : (name : List ℕ) → SparedBy child x name) where
+  outside_at : (taken : List Bool) (o : Option LeafPath) → SparesAt s holds env path x taken o
   outside_at taken None = tt
   outside_at taken (Some y) = λ same. absurd (outside (y, sym same))
 
   mutual
-    outside_statement : (y : Statement) (before : Before) (taken : List Bool) → Spares s holds env path child x before y taken
+    outside_statement : (y : Statement) (before : Before) (taken : List Bool) → Spares s holds env path x (SparedBy child x) before y taken
     outside_statement (connect p sink e) before taken = λ pair m. outside_at taken (driven holds env (scope_at s.own.modules before) sink e pair)
     outside_statement (partial_connect p sink e) before taken = λ pair m. outside_at taken (driven holds env (scope_at s.own.modules before) sink e pair)
     outside_statement (invalid p sink) before taken =
@@ -44,7 +45,7 @@ module _ {V : Type 0} (s : Scene) (holds : TypesByPath) (env : ValuesByPath) (pa
     outside_statement (memory p n parts) before taken = tt
     outside_statement (skip p) before taken = tt
 
-    pub outside_block : (b : Block) (before : Before) (taken : List Bool) → SparesAll s holds env path child x before b taken
+    pub outside_block : (b : Block) (before : Before) (taken : List Bool) → SparesAll s holds env path x (SparedBy child x) before b taken
     outside_block done before taken = tt
     outside_block ((then) y b) before taken = (outside_statement y before taken, outside_block b (behind before y) taken)
 
@@ -108,7 +109,7 @@ module _ {V : Type 0} (holds : TypesByPath) (env : ValuesByPath) (gifts : LeafPa
   named_runs (held x e rest) h = one_of (bytes_eq x name) x e rest refl (named_runs rest) h
 
 count_no_when : {V : Type 0} → InstancesCountNoWhenOf V
-count_no_when holds env gifts path s is before p n other taken store d found = named_runs holds env gifts path n.name d store is found
+count_no_when s holds env gifts path is before p n other taken store d found = named_runs holds env gifts path n.name d store is found
 
 pub instances_count_no_when : InstancesCountNoWhen
 instances_count_no_when = (count_no_when, count_no_when)
@@ -127,7 +128,7 @@ module _ {V : Type 0} (holds : TypesByPath) (env : ValuesByPath) (gifts : LeafPa
         (behind_all_ports s.own.inside) [] [] one other (λ y e. record { alike = λ more. refl }) same
         (λ i m a b e. instance_tells at is i.named.name a b e)
 
-    instance_tells : (at : LeafPath) (is : Instances) (name : List ℕ) (one other : DesignStore V) → one x ≡ other x
+    pub instance_tells : (at : LeafPath) (is : Instances) (name : List ℕ) (one other : DesignStore V) → one x ≡ other x
         → exec_instances holds env gifts at is name one x ≡ exec_instances holds env gifts at is name other x
     instance_tells at no_instances name one other same = same
     instance_tells at (held y d rest) name one other same =
@@ -136,7 +137,10 @@ module _ {V : Type 0} (holds : TypesByPath) (env : ValuesByPath) (gifts : LeafPa
         (design_tells (at ++ named y ∷ []) d one other same) (instance_tells at rest name one other same)
 
 tell_by_leaf : {V : Type 0} → InstancesTellByLeafOf V
-tell_by_leaf holds env gifts at d one other x same = design_tells holds env gifts x at d one other same
+tell_by_leaf holds env gifts at = (
+  λ d one other x same. design_tells holds env gifts x at d one other same,
+  λ is name one other x same. instance_tells holds env gifts x at is name one other same,
+)
 
 pub instances_tell_by_leaf : InstancesTellByLeaf
 instances_tell_by_leaf = (tell_by_leaf, tell_by_leaf)

@@ -81,7 +81,7 @@ spares_of s holds env gifts path child before p sink taken store x one source =
     (λ l m may. by a.at a.first l.path one may)
   where
     by : (at first : Option LeafPath) (q : LeafPath) → at ≡ first → may_be_driven (source_may_drive s) (leaf_where first q) ≡ true
-        → SparesAt s holds env path child (path ++ x) taken (leaf_where at q)
+        → SparesAt s holds env path (path ++ x) taken (leaf_where at q)
     by None first q e may = tt
     by (Some z) first q e may = λ same.
         let here : z ++ q ≡ x = append_cancel_left path (z ++ q) x same in

@@ -11,7 +11,8 @@ use Rattle.fir_meaning.specs.LeafedModules.{Scene, behind_all_ports}
 use Rattle.fir_meaning.specs.SourceCircuits.{PlacedArray, PlacedLeaf, array_order_in, array_order_in_block, array_order_of_design, array_order_of_instance, array_path, arrays_of_design, arrays_of_instances, inner_leaves, is_stored_array, is_word, leaf_path, leaves_of_design, leaves_of_instances, placed, placed_arrays, words_in, words_in_block, words_of_design, words_of_instance}
 use Rattle.fir_meaning.specs.SourceDesigns.{Instances, SourceDesign, held, made_of, no_instances}
 use Rattle.fir_meaning.specs.SourceRoles.{SourceArray, SourceLeaf, source_arrays, source_arrays_in, sources_in}
-use Rattle.fir_source_laws.specs.working.InstanceLaws.{HasPath, of_leaf, of_word, of_array, of_stored_array, InstancesShareNothing, IsBelow}
+use Rattle.fir_source_laws.specs.working.InstanceLaws.{HasPath, of_leaf, of_word, of_array, of_stored_array, InstancesShareNothing}
+use Rattle.fir_source_laws.specs.working.TreeStatements.{IsBelow}
 
 -- what both of two have the chosen one has
 pub either_way : {A : Type 0} (P : A → Type 0) (b : Bool) (x y : A) → P x → P y → P (if b then x else y)

@@ -91,7 +91,7 @@ outer_alike depth outer other inner h e = record {
 module _ {V : Type 0} (s : Scene) (holds : TypesByPath) (env : ValuesByPath) (path : LeafPath)
     (child : List ℕ → DesignStore V → DesignStore V) (x : LeafPath) where
   blocked_at : (taken : List Bool) (o : Option LeafPath) → IsBlocked (source_depth s x) taken
-      → SparesAt s holds env path child (path ++ x) taken o
+      → SparesAt s holds env path (path ++ x) taken o
   blocked_at taken None h = tt
   blocked_at taken (Some y) h = λ same.
       let here : y ≡ x = append_cancel_left path y x same in
@@ -99,8 +99,8 @@ module _ {V : Type 0} (s : Scene) (holds : TypesByPath) (env : ValuesByPath) (pa
 
   mutual
     blocked_statement : (y : Statement) (before : Before) (taken : List Bool) → IsBlocked (source_depth s x) taken
-        → ((i : InstanceOf) → In (instances_of y) i → SparedBy s holds env path child (path ++ x) i.named.name)
-        → Spares s holds env path child (path ++ x) before y taken
+        → ((i : InstanceOf) → In (instances_of y) i → SparedBy child (path ++ x) i.named.name)
+        → Spares s holds env path (path ++ x) (SparedBy child (path ++ x)) before y taken
     blocked_statement (connect p sink e) before taken h spared =
         λ pair m. blocked_at taken (driven holds env (scope_at s.own.modules before) sink e pair) h
     blocked_statement (partial_connect p sink e) before taken h spared =
@@ -123,8 +123,8 @@ module _ {V : Type 0} (s : Scene) (holds : TypesByPath) (env : ValuesByPath) (pa
     blocked_statement (skip p) before taken h spared = tt
 
     pub blocked_block : (b : Block) (before : Before) (taken : List Bool) → IsBlocked (source_depth s x) taken
-        → ((i : InstanceOf) → In (instances_of_block b) i → SparedBy s holds env path child (path ++ x) i.named.name)
-        → SparesAll s holds env path child (path ++ x) before b taken
+        → ((i : InstanceOf) → In (instances_of_block b) i → SparedBy child (path ++ x) i.named.name)
+        → SparesAll s holds env path (path ++ x) (SparedBy child (path ++ x)) before b taken
     blocked_block done before taken h spared = tt
     blocked_block ((then) y b) before taken h spared = (
       blocked_statement y before taken h (λ i m. spared i (in_left (instances_of y) (instances_of_block b) i m)),

@@ -18,7 +18,7 @@ use Rattle.fir_meaning.specs.TreeStores.{may_be_driven}
 use Rattle.fir_meaning.specs.TreeValues.{TypesByPath, ValuesByPath, aim_of, aim_read, leaf_where}
 use Rattle.fir_meaning.specs.SourceFacts.{source_depth, source_may_drive}
 use Rattle.fir_meaning.specs.SourceStores.{Gifts, exec_source, exec_source_all, source_invalid, source_kept, source_pair, source_pairs}
-use Rattle.fir_source_laws.specs.working.SparedLeaves.{Spares, SparesAll, SparesAt, SparesNamed, SparesPairs, driven, gift, is_one, pairs_between}
+use Rattle.fir_source_laws.specs.working.SparedLeaves.{SparedBy, Spares, SparesAll, SparesAt, SparesNamed, SparesPairs, driven, gift, is_one, pairs_between}
 use Rattle.fir_source_laws.proofs.LeafTests.{kept_elsewhere, kept_there}
 
 module _ {V : Type 0} (s : Scene) (holds : TypesByPath) (env : ValuesByPath) (gifts : Gifts V) (path : LeafPath)
@@ -54,7 +54,7 @@ module _ {V : Type 0} (s : Scene) (holds : TypesByPath) (env : ValuesByPath) (gi
 
   module _ (x : LeafPath) where
     pub spared_kept : (o : Option LeafPath) (give : LeafPath → V) (taken : List Bool) (store : DesignStore V)
-        → SparesAt s holds env path child x taken o
+        → SparesAt s holds env path x taken o
         → source_kept s holds env gifts path child o give taken store x ≡ store x
     spared_kept None give taken store h = refl
     spared_kept (Some y) give taken store h = by (counts (source_depth s y) taken) refl
@@ -65,7 +65,7 @@ module _ {V : Type 0} (s : Scene) (holds : TypesByPath) (env : ValuesByPath) (gi
         by true e = kept_elsewhere (give y) store (path ++ y) x (λ same. let no = h same in cc)
 
     pub spared_pairs : (scope : TypedScope) (sink : Sink) (e : Expression) (taken : List Bool) (ps : List Pair) (store : DesignStore V)
-        → SparesPairs s holds env path child x scope sink e taken ps
+        → SparesPairs s holds env path x scope sink e taken ps
         → source_pairs s holds env gifts path child scope sink e taken ps store x ≡ store x
     spared_pairs scope sink e taken [] store h = refl
     spared_pairs scope sink e taken (p ∷ ps) store h =
@@ -74,20 +74,20 @@ module _ {V : Type 0} (s : Scene) (holds : TypesByPath) (env : ValuesByPath) (gi
         (spared_kept (driven holds env scope sink e p) (gift gifts scope sink e p) taken store (h p (inl refl)))
 
     pub spared_named : (a : Aim) (taken : List Bool) (ls : List TypeLeaf) (store : DesignStore V)
-        → SparesNamed s holds env path child x a taken ls
+        → SparesNamed s holds env path x a taken ls
         → source_invalid s holds env gifts path child a taken ls store x ≡ store x
     spared_named a taken [] store h = refl
     spared_named a taken (l ∷ ls) store h =
         spared_named a taken ls _ (λ k m. h k (inr m)) ∙ by (may_be_driven (source_may_drive s) (leaf_where a.first l.path)) (h l (inl refl))
       where
-        by : (may : Bool) → (may ≡ true → SparesAt s holds env path child x taken (leaf_where a.at l.path))
+        by : (may : Bool) → (may ≡ true → SparesAt s holds env path x taken (leaf_where a.at l.path))
             → (if may then source_kept s holds env gifts path child (leaf_where a.at l.path) gifts.of_invalid taken store else store) x ≡ store x
         by true spares = spared_kept (leaf_where a.at l.path) gifts.of_invalid taken store (spares refl)
         by false spares = refl
 
     mutual
       pub spared_statement : (y : Statement) (before : Before) (taken : List Bool) (store : DesignStore V)
-          → Spares s holds env path child x before y taken
+          → Spares s holds env path x (SparedBy child x) before y taken
           → exec_source s holds env gifts path child before y taken store x ≡ store x
       spared_statement (connect p sink e) before taken store h =
           spared_pairs (scope_at s.own.modules before) sink e taken (pairs_between holds env pairs (scope_at s.own.modules before) sink e) store h
@@ -109,9 +109,34 @@ module _ {V : Type 0} (s : Scene) (holds : TypesByPath) (env : ValuesByPath) (gi
       spared_statement (skip p) before taken store h = refl
 
       pub spared_block : (b : Block) (before : Before) (taken : List Bool) (store : DesignStore V)
-          → SparesAll s holds env path child x before b taken
+          → SparesAll s holds env path x (SparedBy child x) before b taken
           → exec_source_all s holds env gifts path child before b taken store x ≡ store x
       spared_block done before taken store h = refl
       spared_block ((then) y b) before taken store h =
           spared_block b (behind before y) taken (exec_source s holds env gifts path child before y taken store) h.1
           ∙ spared_statement y before taken store h.0
+
+-- what instances are said to spare may be said in other words
+module _ (s : Scene) (holds : TypesByPath) (env : ValuesByPath) (path x : LeafPath) (spared other : List ℕ → Type 0)
+    (each : (name : List ℕ) → spared name → other name) where
+  mutual
+    through_statement : (y : Statement) (before : Before) (taken : List Bool) → Spares s holds env path x spared before y taken
+        → Spares s holds env path x other before y taken
+    through_statement (connect p sink e) before taken h = h
+    through_statement (partial_connect p sink e) before taken h = h
+    through_statement (invalid p sink) before taken h = h
+    through_statement (when p c a b) before taken h = (
+      spares_through a (opened before) _ h.0,
+      spares_through b (reopened before (behind_block (opened before) a)) _ h.1,
+    )
+    through_statement (instance p n m) before taken h = each n.name h
+    through_statement (wire p n begins t) before taken h = tt
+    through_statement (register p n begins t c r) before taken h = tt
+    through_statement (node p n e) before taken h = tt
+    through_statement (memory p n parts) before taken h = tt
+    through_statement (skip p) before taken h = tt
+
+    pub spares_through : (b : Block) (before : Before) (taken : List Bool) → SparesAll s holds env path x spared before b taken
+        → SparesAll s holds env path x other before b taken
+    spares_through done before taken h = tt
+    spares_through ((then) y b) before taken h = (through_statement y before taken h.0, spares_through b (behind before y) taken h.1)

@@ -1,6 +1,7 @@
 -- What no clause of `run` reads: laws of what a circuit's source means.
 -- Which leaves statements leave as they are.
 pub mod SparedLeaves
+pub mod TreeStatements
 -- Connects, invalids and whens.
 pub mod ConnectLaws
 pub mod WhenLaws

@@ -1,6 +1,6 @@
 //! What statements store, and what instances share.
 
-ghost use Rattle.fir_source_laws.specs.working.ConnectLaws.{LastConnect, LastPartialConnect, LastGroundConnect, SparedStays, UndrivenKeeps};
+ghost use Rattle.fir_source_laws.specs.working.ConnectLaws.{LastConnect, LastPartialConnect, LastGroundConnect, SparedInTrees, SparedStays, UndrivenKeeps};
 ghost use Rattle.fir_source_laws.specs.working.FitLaws.{ConnectsFit, InvalidSparesSources, InvalidStores};
 ghost use Rattle.fir_source_laws.specs.working.InstanceLaws.{InstancesCountNoWhen, InstancesShareNothing, InstancesStoreBelow, InstancesTellByLeaf};
 ghost use Rattle.fir_source_laws.specs.working.WhenLaws.{InnerLeavesCountNone, WhenRunsOne};
@@ -90,4 +90,9 @@ pub fn ports_are_one_leaf()
 /// x
 pub fn ports_read_as_stored()
     ensures { PortsReadAsStored }
+{}
+
+/// x
+pub fn leaves_spared_by_trees_stay()
+    ensures { SparedInTrees }
 {}

@@ -24,7 +24,7 @@ use Rattle.fir_meaning.specs.SourceDesigns.{Instances, SourceDesign, made_of}
 use Rattle.fir_meaning.specs.SourceFacts.{source_depth, source_may_drive}
 use Rattle.fir_meaning.specs.SourceStores.{Gifts, below, exec_design, exec_instances, exec_source, exec_source_all, number_gifts}
 use Rattle.fir_meaning.specs.SourceValues.{PathEnv, number_stored, source_holds}
-use Rattle.fir_source_laws.specs.working.SparedLeaves.{SparesAll, SparesPairs, driven, followed, gift, pairs_between}
+use Rattle.fir_source_laws.specs.working.SparedLeaves.{InstanceSpares, SparedBy, SparesAll, SparesPairs, TreeSpares, driven, followed, gift, pairs_between}
 
 -- a pair of a statement that connects by pairs gives what is stored, where no later pair and no later statement drives its leaf, and the leaf is declared within
 -- all whens round the statement: at a leaf of the module's head, where there are none
@@ -36,8 +36,8 @@ LastConnectOf V statement pairs_of =
     → place ≡ behind_block before earlier
     → pairs_between holds env pairs_of (scope_at s.own.modules place) sink e ≡ first ++ pair ∷ rest
     → driven holds env (scope_at s.own.modules place) sink e pair ≡ Some x
-    → SparesPairs s holds env path child (path ++ x) (scope_at s.own.modules place) sink e taken rest
-    → SparesAll s holds env path child (path ++ x) (behind place (statement p sink e)) later taken
+    → SparesPairs s holds env path (path ++ x) (scope_at s.own.modules place) sink e taken rest
+    → SparesAll s holds env path (path ++ x) (SparedBy child (path ++ x)) (behind place (statement p sink e)) later taken
     → length taken ≤ source_depth s x
     → exec_source_all s holds env gifts path child before (followed earlier ((then) (statement p sink e) later)) taken store (path ++ x)
     ≡ Some (gift gifts (scope_at s.own.modules place) sink e pair x)
@@ -58,7 +58,7 @@ LastGroundConnect =
     → place ≡ behind_block (behind_all_ports s.own.inside) earlier
     → pairs_between (below path holds) (below path env) pairs (scope_at s.own.modules place) sink e ≡ ground_pair t u
     → (aim_of (scope_at s.own.modules place) (below path holds) (below path env) sink).at ≡ Some x
-    → SparesAll s (below path holds) (below path env) path (exec_instances holds env (number_gifts holds env) path is) (path ++ x) place later []
+    → SparesAll s (below path holds) (below path env) path (path ++ x) (InstanceSpares holds env (path ++ x) path is) place later []
     → exec_design holds env (number_gifts holds env) path (made_of s is) store (path ++ x)
     ≡ Some (fit (value (scope_at s.own.modules place) (below path holds) (below path env) e []) (holds (path ++ x)))
 
@@ -67,17 +67,23 @@ abbrev pub SparedStaysOf : Type 0 → Type 0
 SparedStaysOf V =
     (s : Scene) (holds : TypesByPath) (env : ValuesByPath) (gifts : Gifts V) (path : LeafPath) (child : List ℕ → DesignStore V → DesignStore V)
     (before : Before) (b : Block) (taken : List Bool) (store : DesignStore V) (x : LeafPath)
-    → SparesAll s holds env path child x before b taken
+    → SparesAll s holds env path x (SparedBy child x) before b taken
     → exec_source_all s holds env gifts path child before b taken store x ≡ store x
 
 abbrev pub SparedStays : Type 0
 SparedStays = SparedStaysOf ℕ × SparedStaysOf (Option ℕ)
 
--- in the whole tree nothing is stored there, and a register that has its turn takes what it shows
+-- and one that a whole tree spares
+abbrev pub SparedInTreesOf : Type 0 → Type 0
+SparedInTreesOf V =
+    (holds : TypesByPath) (env : ValuesByPath) (gifts : LeafPath → Gifts V) (at : LeafPath) (d : SourceDesign) (store : DesignStore V) (x : LeafPath)
+    → TreeSpares holds env x at d → exec_design holds env gifts at d store x ≡ store x
+
+abbrev pub SparedInTrees : Type 0
+SparedInTrees = SparedInTreesOf ℕ × SparedInTreesOf (Option ℕ)
+
+-- where all statements of the circuit spare it nothing is stored there, and a register that has its turn takes what it shows
 abbrev pub UndrivenKeeps : Type 0
 UndrivenKeeps =
-    (s : Scene) (is : Instances) (state edges : List ℕ) (env : PathEnv) (x : LeafPath)
-    → SparesAll s (source_holds (made_of s is)) env.numbers []
-    (exec_instances (source_holds (made_of s is)) env.numbers (number_gifts (source_holds (made_of s is)) env.numbers) [] is) x
-    (behind_all_ports s.own.inside) s.own.inside.body []
-    → (number_stored (made_of s is) env x ≡ None) × (stored_or_shown (made_of s is) state edges env x ≡ env.numbers x)
+    (t : SourceDesign) (state edges : List ℕ) (env : PathEnv) (x : LeafPath) → TreeSpares (source_holds t) env.numbers x [] t
+    → (number_stored t env x ≡ None) × (stored_or_shown t state edges env x ≡ env.numbers x)

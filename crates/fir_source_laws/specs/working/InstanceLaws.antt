@@ -12,12 +12,9 @@ use Rattle.fir_meaning.specs.DesignStores.{DesignStore}
 use Rattle.fir_meaning.specs.LeafedModules.{Scene}
 use Rattle.fir_meaning.specs.SourceCircuits.{PlacedArray, PlacedLeaf, array_order_of_design, array_path, arrays_of_design, leaf_path, leaves_of_design, words_of_design}
 use Rattle.fir_meaning.specs.SourceDesigns.{Instances, SourceDesign, held, no_instances}
-use Rattle.fir_meaning.specs.SourceStores.{Gifts, below, exec_design, exec_instances, exec_source}
+use Rattle.fir_meaning.specs.SourceStores.{Gifts, exec_design, exec_instances}
 use Rattle.fir_meaning.specs.TreeValues.{TypesByPath, ValuesByPath}
-use Rattle.fir_source_laws.specs.working.WhenLaws.{TellsByLeaf}
-
-abbrev pub IsBelow : LeafPath → LeafPath → Type 0
-IsBelow at x = (rest : LeafPath) × (x ≡ at ++ rest)
+use Rattle.fir_source_laws.specs.working.TreeStatements.{IsBelow, TellsByLeaf, exec_in}
 
 -- the paths that a design of the instance at a path has: of leaves, of words of the state, of arrays, and of arrays of the state
 pub data HasPath (at : LeafPath) (d : SourceDesign) (x : LeafPath) : Type 0 where
@@ -45,7 +42,9 @@ InstancesStoreBelow = InstancesStoreBelowOf ℕ × InstancesStoreBelowOf (Option
 -- what they store at a leaf hangs on no store at another
 abbrev pub InstancesTellByLeafOf : Type 0 → Type 0
 InstancesTellByLeafOf V =
-    (holds : TypesByPath) (env : ValuesByPath) (gifts : LeafPath → Gifts V) (at : LeafPath) (d : SourceDesign) → TellsByLeaf (exec_design holds env gifts at d)
+    (holds : TypesByPath) (env : ValuesByPath) (gifts : LeafPath → Gifts V) (at : LeafPath)
+    → ((d : SourceDesign) → TellsByLeaf (exec_design holds env gifts at d))
+    × ((is : Instances) (name : List ℕ) → TellsByLeaf (exec_instances holds env gifts at is name))
 
 abbrev pub InstancesTellByLeaf : Type 0
 InstancesTellByLeaf = InstancesTellByLeafOf ℕ × InstancesTellByLeafOf (Option ℕ)
@@ -58,10 +57,10 @@ design_named (held x d rest) name = if bytes_eq x name then Some d else design_n
 -- a statement that declares an instance stores what the design of the instance stores, whatever whens stand round it
 abbrev pub InstancesCountNoWhenOf : Type 0 → Type 0
 InstancesCountNoWhenOf V =
-    (holds : TypesByPath) (env : ValuesByPath) (gifts : LeafPath → Gifts V) (path : LeafPath) (s : Scene) (is : Instances)
+    (s : Scene) (holds : TypesByPath) (env : ValuesByPath) (gifts : LeafPath → Gifts V) (path : LeafPath) (is : Instances)
     (before : Before) (p : Place) (n other : PlacedName) (taken : List Bool) (store : DesignStore V) (d : SourceDesign)
     → design_named is n.name ≡ Some d
-    → exec_source s (below path holds) (below path env) (gifts path) path (exec_instances holds env gifts path is) before (instance p n other) taken store
+    → exec_in s holds env gifts path is before (instance p n other) taken store
     ≡ exec_design holds env gifts (path ++ named n.name ∷ []) d store
 
 abbrev pub InstancesCountNoWhen : Type 0

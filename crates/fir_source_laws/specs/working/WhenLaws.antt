@@ -6,44 +6,41 @@ use Rattle.fir_base.specs.Lists.{In}
 use Rattle.fir_ast.specs.declared.place.Place.{Place}
 use Rattle.fir_ast.specs.Expressions.{Expression}
 use Rattle.fir_ast.specs.Statements.{Block, when}
-use Rattle.fir_meaning.specs.LeafPaths.{LeafPath}
+use Rattle.fir_meaning.specs.LeafPaths.{LeafPath, named}
 use Rattle.fir_meaning.specs.TypeGroup.{scope_at}
 use Rattle.fir_meaning.specs.Visibility.{Before, opened, reopened, behind_block}
 use Rattle.fir_meaning.specs.DesignStores.{DesignStore}
 use Rattle.fir_meaning.specs.LeafedModules.{Scene}
 use Rattle.fir_meaning.specs.TreeValues.{TypesByPath, ValuesByPath}
-use Rattle.fir_meaning.specs.SourceDesigns.{InstanceOf, instances_of}
+use Rattle.fir_meaning.specs.SourceDesigns.{InstanceOf, Instances, instances_of}
 use Rattle.fir_meaning.specs.SourceFacts.{source_depth}
-use Rattle.fir_meaning.specs.SourceStores.{Gifts, exec_source, exec_source_all}
-use Rattle.fir_source_laws.specs.working.SparedLeaves.{SparedBy, is_one}
+use Rattle.fir_meaning.specs.SourceStores.{Gifts, below}
+use Rattle.fir_source_laws.specs.working.SparedLeaves.{is_one}
+use Rattle.fir_source_laws.specs.working.TreeStatements.{IsBelow, exec_all_in, exec_in}
 
--- the block that is run stores what it would store in the place of the when, at a leaf declared outside that no instance declared inside stores at
+-- the block that is run stores what it would store in the place of the when, at a leaf declared outside that is of no instance declared inside
 abbrev pub WhenRunsOneOf : Type 0 → Type 0
 WhenRunsOneOf V =
-    (s : Scene) (holds : TypesByPath) (env : ValuesByPath) (gifts : Gifts V) (path : LeafPath) (child : List ℕ → DesignStore V → DesignStore V)
+    (s : Scene) (holds : TypesByPath) (env : ValuesByPath) (gifts : LeafPath → Gifts V) (path : LeafPath) (is : Instances)
     (before : Before) (p : Place) (c : Expression) (a b : Block) (taken : List Bool) (store : DesignStore V) (x : LeafPath)
     → source_depth s x ≤ length taken
-    → ((i : InstanceOf) → In (instances_of (when p c a b)) i → SparedBy s holds env path child (path ++ x) i.named.name)
-    → exec_source s holds env gifts path child before (when p c a b) taken store (path ++ x)
-    ≡ (if is_one holds env (scope_at s.own.modules before) c
-    then exec_source_all s holds env gifts path child (opened before) a taken store (path ++ x)
-    else exec_source_all s holds env gifts path child (reopened before (behind_block (opened before) a)) b taken store (path ++ x))
+    → ((i : InstanceOf) → In (instances_of (when p c a b)) i → IsBelow (named i.named.name ∷ []) x → ⊥)
+    → exec_in s holds env gifts path is before (when p c a b) taken store (path ++ x)
+    ≡ (if is_one (below path holds) (below path env) (scope_at s.own.modules before) c
+    then exec_all_in s holds env gifts path is (opened before) a taken store (path ++ x)
+    else exec_all_in s holds env gifts path is (reopened before (behind_block (opened before) a)) b taken store (path ++ x))
 
 abbrev pub WhenRunsOne : Type 0
 WhenRunsOne = WhenRunsOneOf ℕ × WhenRunsOneOf (Option ℕ)
 
--- what an instance stores at a leaf, told by what was stored there
-abbrev pub TellsByLeaf : {V : Type 0} → (DesignStore V → DesignStore V) → Type 0
-TellsByLeaf {V} run = (one other : DesignStore V) (x : LeafPath) → one x ≡ other x → run one x ≡ run other x
-
 -- a leaf that is declared within so many whens takes the same, whichever of them are taken
 abbrev pub InnerLeavesCountNoneOf : Type 0 → Type 0
 InnerLeavesCountNoneOf V =
-    (s : Scene) (holds : TypesByPath) (env : ValuesByPath) (gifts : Gifts V) (path : LeafPath) (child : List ℕ → DesignStore V → DesignStore V)
+    (s : Scene) (holds : TypesByPath) (env : ValuesByPath) (gifts : LeafPath → Gifts V) (path : LeafPath) (is : Instances)
     (before : Before) (b : Block) (outer other inner : List Bool) (store : DesignStore V) (x : LeafPath)
-    → length outer ≤ source_depth s x → length other ≡ length outer → ((name : List ℕ) → TellsByLeaf (child name))
-    → exec_source_all s holds env gifts path child before b (outer ++ inner) store (path ++ x)
-    ≡ exec_source_all s holds env gifts path child before b (other ++ inner) store (path ++ x)
+    → length outer ≤ source_depth s x → length other ≡ length outer
+    → exec_all_in s holds env gifts path is before b (outer ++ inner) store (path ++ x)
+    ≡ exec_all_in s holds env gifts path is before b (other ++ inner) store (path ++ x)
 
 abbrev pub InnerLeavesCountNone : Type 0
 InnerLeavesCountNone = InnerLeavesCountNoneOf ℕ × InnerLeavesCountNoneOf (Option ℕ)
