@@ -1,5 +1,5 @@
 -- A declaration has as its depth the number of whens round it.
-use Rattle.std.proofs.Common.{◌≡◌, ℕ, ◌+◌, List, [], ◌∷◌, ◌++◌, Some, refl, sym, ap, ◌∙◌, inl, inr, ⊎_elim}
+use Rattle.std.proofs.Common.{◌≡◌, ℕ, ◌+◌, List, [], ◌∷◌, refl, sym, ap, ◌∙◌, inl, inr, ⊎_elim}
 use Rattle.fir_base.specs.Lists.{In}
 use Rattle.fir_base.proofs.Members.{in_either, in_right}
 use Rattle.fir_ast.specs.Circuits.{PortTree}
@@ -111,9 +111,9 @@ depths_are_whens s distinct =
     let head = behind_all_ports s.own.inside in
     let once : Once (declarations s.own.inside) = record { once = distinct } in (
       λ w q m.
-      depth_is s w.name w.whens q once (in_block s.own.inside.body head 0 w (depth_ports s.own.inside.ports at_head) m),
+          depth_is s w.name w.whens q once (in_block s.own.inside.body head 0 w (depth_ports s.own.inside.ports at_head) m),
       λ p q m.
-      depth_is s p.named.name 0 q once
-      (more_declared head.declared (declarations s.own.inside) p.named.name 0 (grows_block s.own.inside.body head)
-      (in_ports s.own.inside.ports at_head p m)),
+          depth_is s p.named.name 0 q once
+          (more_declared head.declared (declarations s.own.inside) p.named.name 0 (grows_block s.own.inside.body head)
+          (in_ports s.own.inside.ports at_head p m)),
     )

@@ -1,9 +1,8 @@
 -- What a value is at the type of a sink.
-use Rattle.std.proofs.Common.{◌≡◌, ℕ, ◌++◌, ◌^◌, ◌%◌, ◌<◌, ◌≤◌, Bool, true, false, nat_le, refl, sym, ap, ◌∙◌}
+use Rattle.std.proofs.Common.{◌++◌, refl}
 use Rattle.std.proofs.lemmas.Bool.{le-leb, lt-leb}
 use Rattle.fir_bits.specs.declared.types.NumTy.{NumTy}
 use Rattle.fir_bits.specs.declared.values.Num.{Num}
-use Rattle.fir_bits.specs.Integers.{reading}
 use Rattle.fir_bits.specs.Values.{IsBitVector}
 use Rattle.fir_bits.proofs.Readings.{reading-extended}
 use Rattle.fir_meaning.specs.Values.{fit}

@@ -1,22 +1,19 @@
 -- What the statements of an instance store, and where.
-use Rattle.std.proofs.Common.{◌≡◌, ℕ, List, [], ◌∷◌, ◌++◌, Bool, true, false, if◌then◌else◌, Option, Some, None, refl, sym, ap, ◌∙◌, subst, append_assoc, inl, inr}
+use Rattle.std.proofs.Common.{◌≡◌, ℕ, List, [], ◌∷◌, ◌++◌, Bool, true, false, if◌then◌else◌, Option, Some, None, refl, sym, subst}
 use Rattle.std.specs.Str.{bytes_eq}
-use Rattle.fir_base.specs.Lists.{In}
 use Rattle.fir_base.proofs.SameNames.{name_is}
 use Rattle.fir_ast.specs.Statements.{Statement, wire, register, node, instance, memory, when, connect, partial_connect, invalid, skip, Block, done, then}
 use Rattle.fir_meaning.specs.LeafPaths.{LeafPath, named}
 use Rattle.fir_meaning.specs.TypeGroup.{scope_at}
 use Rattle.fir_meaning.specs.Visibility.{Before, behind, behind_block, opened, reopened}
 use Rattle.fir_meaning.specs.DesignStores.{DesignStore}
-use Rattle.fir_meaning.specs.LeafBlocks.{counts}
 use Rattle.fir_meaning.specs.LeafedModules.{Scene, behind_all_ports}
 use Rattle.fir_meaning.specs.TreeValues.{TypesByPath, ValuesByPath, aim_of, leaf_where}
 use Rattle.fir_meaning.specs.SourceDesigns.{Instances, SourceDesign, held, made_of, no_instances}
-use Rattle.fir_meaning.specs.SourceFacts.{source_depth}
-use Rattle.fir_meaning.specs.SourceStores.{Gifts, below, exec_design, exec_instances, exec_source}
+use Rattle.fir_meaning.specs.SourceStores.{Gifts, below, exec_design, exec_instances}
 use Rattle.fir_source_laws.specs.working.InstanceLaws.{InstancesCountNoWhen, InstancesCountNoWhenOf, InstancesStoreBelow, InstancesStoreBelowOf, InstancesTellByLeaf, InstancesTellByLeafOf, design_named}
 use Rattle.fir_source_laws.specs.working.TreeStatements.{IsBelow}
-use Rattle.fir_source_laws.specs.working.SparedLeaves.{Spares, SparesAll, SparesAt, SparedBy, driven, is_one}
+use Rattle.fir_source_laws.specs.working.SparedLeaves.{Spares, SparesAll, SparesAt, SparedBy, driven}
 use Rattle.fir_source_laws.proofs.OwnPaths.{below_joined, either_way}
 use Rattle.fir_source_laws.proofs.RunBranches.{alike_block}
 use Rattle.fir_source_laws.proofs.SparedStores.{spared_block}

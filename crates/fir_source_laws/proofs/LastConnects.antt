@@ -1,21 +1,21 @@
 -- The last connect that drives a leaf gives what is stored there.
-use Rattle.std.proofs.Common.{◌≡◌, ℕ, zero, suc, ◌≤◌, List, [], ◌∷◌, ◌++◌, length, drop, Bool, true, false, Option, Some, refl, sym, ap, ◌∙◌, arith, subst}
+use Rattle.std.proofs.Common.{◌≡◌, ℕ, zero, suc, ◌≤◌, List, [], ◌∷◌, ◌++◌, length, Bool, true, refl, sym, ap, ◌∙◌, arith}
 use Rattle.fir_ast.specs.declared.place.Place.{Place}
 use Rattle.fir_ast.specs.Types.{DataType}
 use Rattle.fir_ast.specs.Expressions.{Expression}
 use Rattle.fir_ast.specs.Statements.{Sink, Statement, connect, partial_connect, Block, done, then}
-use Rattle.fir_meaning.specs.ConnectPairs.{Pair, ground_pair, pairs, partial_pairs}
+use Rattle.fir_meaning.specs.ConnectPairs.{Pair, pairs, partial_pairs}
 use Rattle.fir_meaning.specs.LeafPaths.{LeafPath}
 use Rattle.fir_meaning.specs.TypeGroup.{scope_at}
 use Rattle.fir_meaning.specs.Visibility.{Before, behind, behind_block}
 use Rattle.fir_meaning.specs.DesignStores.{DesignStore}
-use Rattle.fir_meaning.specs.LeafBlocks.{all_true, counts}
+use Rattle.fir_meaning.specs.LeafBlocks.{counts}
 use Rattle.fir_meaning.specs.LeafedModules.{Scene}
 use Rattle.fir_meaning.specs.TreeValues.{TypesByPath, ValuesByPath}
 use Rattle.fir_meaning.specs.SourceFacts.{source_depth}
 use Rattle.fir_meaning.specs.SourceStores.{Gifts, exec_source, exec_source_all, source_pair, source_pairs}
 use Rattle.fir_source_laws.specs.working.ConnectLaws.{LastConnect, LastConnectOf, LastPartialConnect}
-use Rattle.fir_source_laws.specs.working.SparedLeaves.{driven, followed, gift, pairs_between}
+use Rattle.fir_source_laws.specs.working.SparedLeaves.{followed, gift, pairs_between}
 use Rattle.fir_source_laws.proofs.SparedStores.{kept_at_leaf, pair_kept, pairs_joined, spared_block, spared_pairs}
 
 -- a leaf that is declared within all whens counts none

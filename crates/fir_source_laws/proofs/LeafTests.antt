@@ -1,5 +1,5 @@
 -- The test of two paths finds what is equal, and what is kept at one path shows there alone.
-use Rattle.std.proofs.Common.{◌≡◌, List, [], ◌∷◌, Bool, true, false, if◌then◌else◌, Some, refl, ap, ◌∙◌}
+use Rattle.std.proofs.Common.{◌≡◌, [], ◌∷◌, true, Some, refl, ap}
 use Rattle.std.proofs.lemmas.Bool.{eq-eqb, eqb-true, false_from_ne_true}
 use Rattle.fir_base.proofs.SameNames.{name_is, name_same}
 use Rattle.fir_base.proofs.Tests.{both}

@@ -1,21 +1,17 @@
 -- What connects leave in the statements of a whole module, and in the whole tree.
-use Rattle.std.proofs.Common.{◌≡◌, ℕ, zero, List, [], ◌∷◌, ◌++◌, Bool, true, false, if◌then◌else◌, Option, Some, None, unwrap_or, refl, sym, ap, ◌∙◌, arith}
+use Rattle.std.proofs.Common.{◌≡◌, ℕ, List, [], ◌∷◌, ◌++◌, Bool, true, false, if◌then◌else◌, Some, None, unwrap_or, refl, ap, ◌∙◌, arith}
 use Rattle.std.specs.Str.{bytes_eq}
 use Rattle.std.proofs.lemmas.List.{append-nil}
-use Rattle.fir_ast.specs.Statements.{connect, Block, then}
-use Rattle.fir_meaning.specs.ConnectPairs.{pairs}
 use Rattle.fir_meaning.specs.LeafPaths.{LeafPath, named}
 use Rattle.fir_meaning.specs.TypeGroup.{scope_at}
-use Rattle.fir_meaning.specs.TreeValues.{TypesByPath, ValuesByPath, aim_of, leaf_where, value}
-use Rattle.fir_meaning.specs.Values.{fit}
+use Rattle.fir_meaning.specs.TreeValues.{TypesByPath, ValuesByPath, aim_of, leaf_where}
 use Rattle.fir_meaning.specs.DesignStores.{DesignStore, nothing_kept}
 use Rattle.fir_meaning.specs.LeafedModules.{behind_all_ports}
 use Rattle.fir_meaning.specs.SourceDesigns.{Instances, SourceDesign, held, made_of, no_instances}
-use Rattle.fir_meaning.specs.SourceFacts.{source_depth}
 use Rattle.fir_meaning.specs.SourceStores.{Gifts, below, exec_design, exec_instances, exec_source_all, number_gifts}
 use Rattle.fir_meaning.specs.SourceValues.{number_stored, source_holds}
 use Rattle.fir_source_laws.specs.working.ConnectLaws.{LastGroundConnect, SparedInTrees, SparedInTreesOf, SparedStays, SparedStaysOf, UndrivenKeeps}
-use Rattle.fir_source_laws.specs.working.SparedLeaves.{InstanceSpares, SparedBy, TreeSpares, chosen_of, followed}
+use Rattle.fir_source_laws.specs.working.SparedLeaves.{InstanceSpares, SparedBy, TreeSpares, chosen_of}
 use Rattle.fir_source_laws.proofs.LastConnects.{last_connect_of}
 use Rattle.fir_source_laws.proofs.SparedStores.{spared_block, spares_through}
 

@@ -1,5 +1,5 @@
 -- What a design has stands below its path.
-use Rattle.std.proofs.Common.{◌≡◌, ℕ, List, [], ◌∷◌, ◌++◌, Bool, true, false, filter, map, if◌then◌else◌, refl, sym, ap, ◌∙◌, subst, append_assoc, inl, inr, ⊎_elim}
+use Rattle.std.proofs.Common.{◌≡◌, ℕ, List, [], ◌∷◌, ◌++◌, Bool, true, false, filter, if◌then◌else◌, sym, ap, ◌∙◌, subst, append_assoc, inl, inr, ⊎_elim}
 use Rattle.std.proofs.lemmas.List.{append-nil, append_cancel_left}
 use Rattle.std.specs.Str.{bytes_eq}
 use Rattle.fir_base.specs.Lists.{In}
@@ -8,7 +8,7 @@ use Rattle.fir_ast.specs.Statements.{Statement, wire, register, node, instance, 
 use Rattle.fir_meaning.specs.LeafPaths.{LeafPath, named}
 use Rattle.fir_meaning.specs.Visibility.{Before, behind, behind_block, opened, reopened}
 use Rattle.fir_meaning.specs.LeafedModules.{Scene, behind_all_ports}
-use Rattle.fir_meaning.specs.SourceCircuits.{PlacedArray, PlacedLeaf, array_order_in, array_order_in_block, array_order_of_design, array_order_of_instance, array_path, arrays_of_design, arrays_of_instances, inner_leaves, is_stored_array, is_word, leaf_path, leaves_of_design, leaves_of_instances, placed, placed_arrays, words_in, words_in_block, words_of_design, words_of_instance}
+use Rattle.fir_meaning.specs.SourceCircuits.{PlacedArray, PlacedLeaf, array_order_in, array_order_in_block, array_order_of_design, array_order_of_instance, arrays_of_design, arrays_of_instances, inner_leaves, is_stored_array, is_word, leaves_of_design, leaves_of_instances, placed, placed_arrays, words_in, words_in_block, words_of_design, words_of_instance}
 use Rattle.fir_meaning.specs.SourceDesigns.{Instances, SourceDesign, held, made_of, no_instances}
 use Rattle.fir_meaning.specs.SourceRoles.{SourceArray, SourceLeaf, source_arrays, source_arrays_in, sources_in}
 use Rattle.fir_source_laws.specs.working.InstanceLaws.{HasPath, of_leaf, of_word, of_array, of_stored_array, InstancesShareNothing}

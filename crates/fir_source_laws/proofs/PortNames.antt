@@ -1,13 +1,10 @@
 -- What is known of a port within its module, and of an instance where it is declared.
-use Rattle.std.proofs.Common.{◌≡◌, ℕ, List, [], ◌∷◌, ◌++◌, Bool, true, false, if◌then◌else◌, Option, Some, None, option_map, refl, sym, ap, ◌∙◌, ⊎_elim, append_assoc}
+use Rattle.std.proofs.Common.{◌≡◌, ℕ, List, [], ◌∷◌, ◌++◌, Bool, true, false, if◌then◌else◌, Some, None, option_map, refl, ap, ◌∙◌}
 use Rattle.std.specs.Str.{bytes_eq}
-use Rattle.fir_base.proofs.Tests.{chosen}
-use Rattle.fir_base.specs.declared.direction.Direction.{Direction}
 use Rattle.fir_ast.specs.Circuits.{ModuleTree, PortTree}
-use Rattle.fir_ast.specs.Types.{DataType}
 use Rattle.fir_meaning.specs.Components as component
 use Rattle.fir_meaning.specs.Components.{Component, Declaration, Declarations, find}
-use Rattle.fir_meaning.specs.ComponentTypes.{component_type, find_module, instance_bundle, instance_type, is_input, known_as, port_fields, typed_behind, typed_scope}
+use Rattle.fir_meaning.specs.ComponentTypes.{component_type, instance_bundle, is_input, known_as, port_fields, typed_behind}
 use Rattle.fir_meaning.specs.Reaching.{field_of_type}
 use Rattle.fir_meaning.specs.ResetJoins.{type_of_known}
 use Rattle.fir_meaning.specs.TypeGroup.{scope_at}

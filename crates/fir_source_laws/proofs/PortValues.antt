@@ -1,19 +1,15 @@
 -- A port named within its instance, and from outside.
 use Rattle.std.proofs.Common.{◌≡◌, ℕ, List, [], ◌∷◌, ◌++◌, Option, Some, None, option_map, refl, sym, ap, ap₂, ◌∙◌, subst, append_assoc}
-use Rattle.fir_bits.specs.declared.types.NumTy.{NumTy}
 use Rattle.fir_bits.specs.declared.values.Num.{Num}
 use Rattle.fir_ast.specs.declared.place.Place.{Place}
 use Rattle.fir_ast.specs.Circuits.{ModuleTree}
 use Rattle.fir_ast.specs.Expressions.{Parts, no_parts, reference, subaccess, subfield, subindex}
 use Rattle.fir_ast.specs.Types.{DataType}
-use Rattle.fir_meaning.specs.ComponentTypes.{instance_bundle}
 use Rattle.fir_meaning.specs.LeafPaths.{LeafPath, Step, named, element}
-use Rattle.fir_meaning.specs.Leafed.{absent_type}
 use Rattle.fir_meaning.specs.Reaching.{field_of_type, vector_of_type}
-use Rattle.fir_meaning.specs.ResetJoins.{type_of_known}
 use Rattle.fir_meaning.specs.TypeGroup.{scope_at}
 use Rattle.fir_meaning.specs.TypeKinds.{FieldFound}
-use Rattle.fir_meaning.specs.TypedScopes.{TypedScope, known}
+use Rattle.fir_meaning.specs.TypedScopes.{TypedScope}
 use Rattle.fir_meaning.specs.Values.{number_of}
 use Rattle.fir_meaning.specs.Visibility.{Before}
 use Rattle.fir_meaning.specs.TreeAims.{Aim, behind, element_aim, element_aim_at, field_aim, field_aim_at, named_aim, step_aim, whole_aim}

@@ -1,5 +1,5 @@
 -- What the blocks of a when store at a leaf that is declared outside of it, or inside.
-use Rattle.std.proofs.Common.{◌≡◌, ℕ, zero, suc, ◌+◌, ◌≤◌, List, [], ◌∷◌, ◌++◌, length, drop, Bool, true, false, not, if◌then◌else◌, Option, Some, None, refl, sym, ap, ap₂, ◌∙◌, arith, subst, append_assoc, inl, inr}
+use Rattle.std.proofs.Common.{◌≡◌, ℕ, zero, suc, ◌≤◌, List, [], ◌∷◌, ◌++◌, length, Bool, true, false, not, if◌then◌else◌, Option, Some, None, refl, sym, ap, ◌∙◌, arith, append_assoc, inl}
 use Rattle.std.proofs.lemmas.List.{append-nil, append_cancel_left}
 use Rattle.fir_base.specs.Lists.{In}
 use Rattle.fir_base.proofs.Members.{in_left, in_right}
@@ -16,12 +16,12 @@ use Rattle.fir_meaning.specs.LeafBlocks.{all_true, counts}
 use Rattle.fir_meaning.specs.LeafedModules.{Scene}
 use Rattle.fir_meaning.specs.TreeAims.{Aim}
 use Rattle.fir_meaning.specs.TreeStores.{may_be_driven, same_path}
-use Rattle.fir_meaning.specs.TreeValues.{TypesByPath, ValuesByPath, aim_of, aim_read, leaf_where}
+use Rattle.fir_meaning.specs.TreeValues.{TypesByPath, ValuesByPath, aim_of, leaf_where}
 use Rattle.fir_meaning.specs.SourceDesigns.{InstanceOf, instances_of, instances_of_block}
 use Rattle.fir_meaning.specs.SourceFacts.{source_depth, source_may_drive}
 use Rattle.fir_meaning.specs.SourceStores.{Gifts, exec_source, exec_source_all, source_invalid, source_kept, source_pair, source_pairs}
-use Rattle.fir_source_laws.specs.working.SparedLeaves.{SparedBy, Spares, SparesAll, SparesAt, SparesNamed, SparesPairs, driven, gift, is_one, pairs_between}
-use Rattle.fir_source_laws.proofs.LeafTests.{kept_elsewhere, leaf_is}
+use Rattle.fir_source_laws.specs.working.SparedLeaves.{SparedBy, Spares, SparesAll, SparesAt, driven, gift, is_one, pairs_between}
+use Rattle.fir_source_laws.proofs.LeafTests.{leaf_is}
 use Rattle.fir_source_laws.proofs.SparedStores.{pair_kept}
 
 -- two lists of whens that a leaf of a depth counts alike, and go on doing so
@@ -110,10 +110,10 @@ module _ {V : Type 0} (s : Scene) (holds : TypesByPath) (env : ValuesByPath) (pa
     blocked_statement (when p c a b) before taken h spared =
         let high = is_one holds env (scope_at s.own.modules before) c in (
           blocked_block a (opened before) (taken ++ high ∷ []) (longer_blocked (source_depth s x) taken high h)
-          (λ i m. spared i (in_left (instances_of_block a) (instances_of_block b) i m)),
+              (λ i m. spared i (in_left (instances_of_block a) (instances_of_block b) i m)),
           blocked_block b (reopened before (behind_block (opened before) a)) (taken ++ not high ∷ [])
-          (longer_blocked (source_depth s x) taken (not high) h)
-          (λ i m. spared i (in_right (instances_of_block a) (instances_of_block b) i m)),
+              (longer_blocked (source_depth s x) taken (not high) h)
+              (λ i m. spared i (in_right (instances_of_block a) (instances_of_block b) i m)),
         )
     blocked_statement (instance p n other) before taken h spared = spared (record { named = n; other = other }) (inl refl)
     blocked_statement (wire p n begins t) before taken h spared = tt

@@ -1,7 +1,5 @@
 -- What statements that spare a leaf leave there.
 use Rattle.std.proofs.Common.{◌≡◌, ℕ, List, [], ◌∷◌, ◌++◌, Bool, true, false, not, if◌then◌else◌, Option, Some, None, refl, ◌∙◌, inl, inr}
-use Rattle.fir_base.specs.Lists.{In}
-use Rattle.fir_ast.specs.Types.{DataType}
 use Rattle.fir_ast.specs.Expressions.{Expression}
 use Rattle.fir_ast.specs.Statements.{Sink, Statement, wire, register, node, instance, memory, when, connect, partial_connect, invalid, skip, Block, done, then}
 use Rattle.fir_meaning.specs.ConnectPairs.{Pair, pairs, partial_pairs}

@@ -1,8 +1,19 @@
 //! What the source of a circuit means, in the words of the language: laws, each the contract of a function
-//! that does nothing, over the definitions that say what a source allows (FIRRTL spec, "Connects",
-//! "Conditionals", "Invalidates", "Instances").
+//! that does nothing, over the definitions that say what a source allows. The last connect counts, whens run
+//! one of their blocks, invalids store zero (`statement_laws`); an instance's port is its module's, and
+//! instances share nothing (`instance_laws`).
 #![tactic(auto)]
 
+mod instance_laws;
 mod statement_laws;
 
-pub use statement_laws::{last_connect_is_stored};
+pub use instance_laws::{
+    instances_count_no_when, instances_share_nothing, instances_store_below_their_paths,
+    instances_store_by_leaf, ports_are_one_leaf, ports_read_as_stored,
+};
+pub use statement_laws::{
+    connects_extend_or_cut, depths_are_whens, inner_leaves_count_no_outer_when,
+    invalids_spare_sources, invalids_store_zero, last_connect_is_stored,
+    last_connect_of_a_body_is_stored, last_partial_connect_is_stored, leaves_spared_by_trees_stay,
+    spared_leaves_stay, undriven_leaves_keep_what_they_show, whens_run_one_block,
+};

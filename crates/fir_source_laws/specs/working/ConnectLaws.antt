@@ -1,28 +1,22 @@
 -- What connects and invalids leave at a leaf (FIRRTL spec, "Connects", "Partial Connects", "Invalidates", "Last Connect Semantics").
 -- Of all statements that drive a leaf the last one gives what is stored there. Where none does, what was stored stays, and a register keeps what it shows.
-use Rattle.std.specs.Prelude.{◌≡◌, ℕ, ◌^◌, ◌%◌, ◌<◌, ◌≤◌, List, [], ◌∷◌, ◌++◌, length, Bool, true, false, Option, Some, None}
-use Rattle.fir_base.specs.Lists.{In}
-use Rattle.fir_bits.specs.Integers.{reading}
-use Rattle.fir_bits.specs.Values.{IsBitVector}
+use Rattle.std.specs.Prelude.{◌≡◌, ℕ, ◌≤◌, List, [], ◌∷◌, ◌++◌, length, Bool, Option, Some, None}
 use Rattle.fir_ast.specs.declared.place.Place.{Place}
 use Rattle.fir_ast.specs.Types.{DataType}
 use Rattle.fir_ast.specs.Expressions.{Expression}
-use Rattle.fir_ast.specs.Statements.{Sink, Statement, connect, partial_connect, invalid, Block, then}
+use Rattle.fir_ast.specs.Statements.{Sink, Statement, connect, partial_connect, Block, then}
 use Rattle.fir_meaning.specs.ConnectPairs.{Pair, ground_pair, pairs, partial_pairs}
 use Rattle.fir_meaning.specs.LeafPaths.{LeafPath}
 use Rattle.fir_meaning.specs.TypeGroup.{scope_at}
-use Rattle.fir_meaning.specs.TypeLeaves.{TypeLeaf, type_leaves}
-use Rattle.fir_meaning.specs.TypedScopes.{TypedScope}
 use Rattle.fir_meaning.specs.Values.{fit}
 use Rattle.fir_meaning.specs.Visibility.{Before, behind, behind_block}
 use Rattle.fir_meaning.specs.DesignStores.{DesignStore}
 use Rattle.fir_meaning.specs.LeafedModules.{Scene, behind_all_ports}
-use Rattle.fir_meaning.specs.TreeStores.{may_be_driven}
-use Rattle.fir_meaning.specs.TreeValues.{TypesByPath, ValuesByPath, aim_of, leaf_where, value}
+use Rattle.fir_meaning.specs.TreeValues.{TypesByPath, ValuesByPath, aim_of, value}
 use Rattle.fir_meaning.specs.SourceAllows.{stored_or_shown}
 use Rattle.fir_meaning.specs.SourceDesigns.{Instances, SourceDesign, made_of}
-use Rattle.fir_meaning.specs.SourceFacts.{source_depth, source_may_drive}
-use Rattle.fir_meaning.specs.SourceStores.{Gifts, below, exec_design, exec_instances, exec_source, exec_source_all, number_gifts}
+use Rattle.fir_meaning.specs.SourceFacts.{source_depth}
+use Rattle.fir_meaning.specs.SourceStores.{Gifts, below, exec_design, exec_source_all, number_gifts}
 use Rattle.fir_meaning.specs.SourceValues.{PathEnv, number_stored, source_holds}
 use Rattle.fir_source_laws.specs.working.SparedLeaves.{InstanceSpares, SparedBy, SparesAll, SparesPairs, TreeSpares, driven, followed, gift, pairs_between}
 

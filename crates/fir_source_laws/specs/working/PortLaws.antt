@@ -1,7 +1,7 @@
 -- An instance's port and the port of its module (FIRRTL spec, "Instances", "Ports", "References").
 -- They are one leaf: what names a port within an instance and what names it from the module that holds the instance have one path from the main module on, and
 -- one value. So what is stored at a port, from outside or from within, is what both sides read of it.
-use Rattle.std.specs.Prelude.{◌≡◌, ℕ, List, [], ◌∷◌, ◌++◌, Bool, if◌then◌else◌, Option, Some, None, option_map}
+use Rattle.std.specs.Prelude.{◌≡◌, ℕ, List, [], ◌∷◌, ◌++◌, if◌then◌else◌, Option, Some, None, option_map}
 use Rattle.std.specs.Str.{bytes_eq}
 use Rattle.fir_base.specs.Lists.{In}
 use Rattle.fir_base.specs.Ticks.{Tick}

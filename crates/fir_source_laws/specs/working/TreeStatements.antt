@@ -1,6 +1,6 @@
 -- The statements of a module within a tree of designs (FIRRTL spec, "Instances").
 -- Each has its place in the module of the instance at a path, whose instances are given; types and values are told by paths from the main module on.
-use Rattle.std.specs.Prelude.{◌≡◌, ℕ, List, ◌++◌, Bool}
+use Rattle.std.specs.Prelude.{◌≡◌, List, ◌++◌, Bool}
 use Rattle.fir_ast.specs.Statements.{Block, Statement}
 use Rattle.fir_meaning.specs.LeafPaths.{LeafPath}
 use Rattle.fir_meaning.specs.Visibility.{Before}

@@ -1,0 +1,40 @@
+//! What instances share, and what they do not.
+
+ghost use Rattle.fir_source_laws.specs.working.InstanceLaws.{InstancesCountNoWhen, InstancesShareNothing, InstancesStoreBelow, InstancesTellByLeaf};
+ghost use Rattle.fir_source_laws.specs.working.PortLaws.{PortsAreOne, PortsReadAsStored};
+
+/// An instance's port and the port of its module are one leaf: what names the port within the module and what
+/// names it where the instance is declared have one path from the main module on, and one value
+/// (FIRRTL spec, "Instances", "Ports").
+pub fn ports_are_one_leaf()
+    ensures { PortsAreOne }
+{}
+
+/// So where values are settled, what statements store at such a port, from either side, is what both sides read
+/// of it (FIRRTL spec, "Instances", "Ports").
+pub fn ports_read_as_stored()
+    ensures { PortsReadAsStored }
+{}
+
+/// Instances of two names share nothing, wherever they stand: no leaf, no word of the state, no array; nor do
+/// the instances within them (FIRRTL spec, "Instances").
+pub fn instances_share_nothing()
+    ensures { InstancesShareNothing }
+{}
+
+/// The statements of an instance's module, and of those within it, store below the path of the instance alone
+/// (FIRRTL spec, "Instances").
+pub fn instances_store_below_their_paths()
+    ensures { InstancesStoreBelow }
+{}
+
+/// What they leave at a leaf hangs on what was stored there, and on no other leaf (FIRRTL spec, "Instances").
+pub fn instances_store_by_leaf()
+    ensures { InstancesTellByLeaf }
+{}
+
+/// The statement that declares an instance stores what the body of its module stores at its path, whatever whens
+/// stand round it (FIRRTL spec, "Instances", "Conditional Last Connect Semantics").
+pub fn instances_count_no_when()
+    ensures { InstancesCountNoWhen }
+{}
