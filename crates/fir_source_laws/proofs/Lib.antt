@@ -11,3 +11,4 @@ pub mod OwnPaths
 pub mod InstanceStores
 pub mod PortNames
 pub mod PortValues
+pub mod TreeModules

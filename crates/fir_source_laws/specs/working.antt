@@ -11,3 +11,4 @@ pub mod DepthLaws
 -- Instances.
 pub mod InstanceLaws
 pub mod PortLaws
+pub mod ModuleLaws

@@ -1,6 +1,7 @@
 //! What instances share, and what they do not.
 
 ghost use Rattle.fir_source_laws.specs.working.InstanceLaws.{InstancesCountNoWhen, InstancesShareNothing, InstancesStoreBelow, InstancesTellByLeaf};
+ghost use Rattle.fir_source_laws.specs.working.ModuleLaws.{InstancesAreOfTheirModules, MainIsOnTop, NothingInsideIsInput};
 ghost use Rattle.fir_source_laws.specs.working.PortLaws.{PortsAreOne, PortsReadAsStored};
 
 /// An instance's port and the port of its module are one leaf: what names the port within the module and what
@@ -37,4 +38,21 @@ pub fn instances_store_by_leaf()
 /// stand round it (FIRRTL spec, "Instances", "Conditional Last Connect Semantics").
 pub fn instances_count_no_when()
     ensures { InstancesCountNoWhen }
+{}
+
+/// Below each instance in the tree of a circuit stands the module that the instance names, where no two
+/// instances of a module have one name (FIRRTL spec, "Instances", "Modules").
+pub fn instances_are_of_their_modules()
+    ensures { InstancesAreOfTheirModules }
+{}
+
+/// At the top of the tree stands the module with the circuit's name (FIRRTL spec, "Circuits").
+pub fn main_module_is_on_top()
+    ensures { MainIsOnTop }
+{}
+
+/// Of all that stands within modules, the ports of instances among it, no leaf takes its value from outside of
+/// the circuit (FIRRTL spec, "Ports", "Instances").
+pub fn nothing_inside_is_input()
+    ensures { NothingInsideIsInput }
 {}

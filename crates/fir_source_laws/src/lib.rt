@@ -8,8 +8,9 @@ mod instance_laws;
 mod statement_laws;
 
 pub use instance_laws::{
-    instances_count_no_when, instances_share_nothing, instances_store_below_their_paths,
-    instances_store_by_leaf, ports_are_one_leaf, ports_read_as_stored,
+    instances_are_of_their_modules, instances_count_no_when, instances_share_nothing,
+    instances_store_below_their_paths, instances_store_by_leaf, main_module_is_on_top,
+    nothing_inside_is_input, ports_are_one_leaf, ports_read_as_stored,
 };
 pub use statement_laws::{
     connects_extend_or_cut, depths_are_whens, inner_leaves_count_no_outer_when,
