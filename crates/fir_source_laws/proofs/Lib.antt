@@ -12,3 +12,4 @@ pub mod InstanceStores
 pub mod PortNames
 pub mod PortValues
 pub mod TreeModules
+pub mod PickedLeaves

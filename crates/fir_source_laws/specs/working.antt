@@ -5,6 +5,7 @@ pub mod TreeStatements
 -- Connects, invalids and whens.
 pub mod ConnectLaws
 pub mod WhenLaws
+pub mod PickLaws
 -- Instances.
 pub mod FitLaws
 pub mod DepthLaws

@@ -16,5 +16,5 @@ pub use statement_laws::{
     connects_extend_or_cut, depths_are_whens, inner_leaves_count_no_outer_when,
     invalids_spare_sources, invalids_store_zero, last_connect_is_stored,
     last_connect_of_a_body_is_stored, last_partial_connect_is_stored, leaves_spared_by_trees_stay,
-    spared_leaves_stay, undriven_leaves_keep_what_they_show, whens_run_one_block,
+    spared_leaves_stay, subaccesses_pick, undriven_leaves_keep_what_they_show, whens_run_one_block,
 };

@@ -3,6 +3,7 @@
 ghost use Rattle.fir_source_laws.specs.working.ConnectLaws.{LastConnect, LastPartialConnect, LastGroundConnect, SparedInTrees, SparedStays, UndrivenKeeps};
 ghost use Rattle.fir_source_laws.specs.working.DepthLaws.{DepthsAreWhens};
 ghost use Rattle.fir_source_laws.specs.working.FitLaws.{ConnectsFit, InvalidSparesSources, InvalidStores};
+ghost use Rattle.fir_source_laws.specs.working.PickLaws.{SubaccessesPick};
 ghost use Rattle.fir_source_laws.specs.working.WhenLaws.{InnerLeavesCountNone, WhenRunsOne};
 
 /// Of all connects that drive a leaf the last one counts: a pair of a connect gives what is stored at its leaf,
@@ -76,4 +77,10 @@ pub fn inner_leaves_count_no_outer_when()
 /// where each name of the module is declared once (FIRRTL spec, "Conditional Scopes").
 pub fn depths_are_whens()
     ensures { DepthsAreWhens }
+{}
+
+/// A sub-access whose index has a value in range is the sub-index of that number, in what it reads and in what
+/// it drives; out of range it reads zero and drives nothing (FIRRTL spec, "Sub-accesses").
+pub fn subaccesses_pick()
+    ensures { SubaccessesPick }
 {}
