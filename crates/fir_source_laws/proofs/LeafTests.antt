@@ -23,7 +23,7 @@ leaf_is (x ∷ xs) (y ∷ ys) h =
     let rest : xs ≡ ys = leaf_is xs ys tests.1 in
     cc
 
-step_same : (s : Step) → same_step s s ≡ true
+pub step_same : (s : Step) → same_step s s ≡ true
 step_same (named x) = name_same x
 step_same (element i) = eq-eqb i i refl
 

@@ -13,3 +13,5 @@ pub mod PortNames
 pub mod PortValues
 pub mod TreeModules
 pub mod PickedLeaves
+pub mod TreeParts
+pub mod MovedModules

@@ -1,9 +1,9 @@
 -- What an index picks by its value.
-use Rattle.std.proofs.Common.{◌≡◌, ℕ, ◌<◌, ◌≤◌, List, [], ◌∷◌, ◌++◌, nat_lt, Bool, true, false, if◌then◌else◌, Option, Some, None, refl, sym, ap, ◌∙◌, subst}
+use Rattle.std.proofs.Common.{◌≡◌, ℕ, ◌<◌, ◌≤◌, List, [], nat_lt, Bool, true, false, if◌then◌else◌, Option, Some, None, refl, sym, ap, ◌∙◌, subst}
 use Rattle.std.proofs.lemmas.Bool.{le-ltb, lt-ltb}
 use Rattle.fir_ast.specs.Expressions.{Parts, no_parts, subaccess, subfield, subindex}
 use Rattle.fir_ast.specs.Types.{DataType}
-use Rattle.fir_meaning.specs.LeafPaths.{LeafPath, Step, element, named}
+use Rattle.fir_meaning.specs.LeafPaths.{LeafPath, element, named}
 use Rattle.fir_meaning.specs.Reaching.{field_of_type, vector_of_type}
 use Rattle.fir_meaning.specs.TypeKinds.{FieldFound}
 use Rattle.fir_meaning.specs.TypedScopes.{TypedScope}
@@ -96,9 +96,9 @@ subaccesses_pick scope holds env here name front rest e first stands t n is =
     let index = along_further scope holds env front (subindex first stands i rest) head in
     let read = λ (q : LeafPath) (o : Option LeafPath). value_where (leaf_where o q) env in (
       λ lt.
-      let one = ap (λ (z : Aim). z.at) access ∙ (along_one scope holds env rest (picked_aim i a) (element_aim i a) (picked_within i n a t is lt)).at
-      ∙ sym (ap (λ (z : Aim). z.at) index) in (one, λ q. ap (read q) one),
+          let one = ap (λ (z : Aim). z.at) access ∙ (along_one scope holds env rest (picked_aim i a) (element_aim i a) (picked_within i n a t is lt)).at
+          ∙ sym (ap (λ (z : Aim). z.at) index) in (one, λ q. ap (read q) one),
       λ le.
-      let none = ap (λ (z : Aim). z.at) access ∙ along_none scope holds env rest (picked_aim i a) (picked_past i n a t is le) in
-      (none, λ q. ap (read q) none),
+          let none = ap (λ (z : Aim). z.at) access ∙ along_none scope holds env rest (picked_aim i a) (picked_past i n a t is le) in
+          (none, λ q. ap (read q) none),
     )

@@ -1,5 +1,5 @@
 -- The modules of a tree are those that its instances name.
-use Rattle.std.proofs.Common.{◌≡◌, ℕ, zero, suc, ◌+◌, List, [], ◌∷◌, ◌++◌, map, Bool, true, false, if◌then◌else◌, Option, Some, None, option_map, slice_get, refl, sym, ap, ◌∙◌, subst, arith, inl, inr, ⊎_elim}
+use Rattle.std.proofs.Common.{◌≡◌, ℕ, suc, ◌+◌, List, [], ◌∷◌, ◌++◌, map, Bool, true, false, if◌then◌else◌, Option, Some, None, option_map, slice_get, refl, sym, ap, ◌∙◌, subst, arith, inl, inr, ⊎_elim}
 use Rattle.std.specs.Str.{bytes_eq}
 use Rattle.std.proofs.lemmas.Option.{slice_get-map}
 use Rattle.std.proofs.lemmas.Simd.{map-map}
@@ -8,15 +8,14 @@ use Rattle.fir_base.proofs.Members.{in_either, in_map, in_map_from}
 use Rattle.fir_base.proofs.SameNames.{name_other, name_same}
 use Rattle.fir_ast.specs.Circuits.{CircuitTree, ModuleTree}
 use Rattle.fir_meaning.specs.ComponentTypes.{find_module}
-use Rattle.fir_meaning.specs.Elaborated.{AreScenes, IsSourceOf}
+use Rattle.fir_meaning.specs.Elaborated.{AreScenes}
 use Rattle.fir_meaning.specs.LeafPaths.{LeafPath, named}
 use Rattle.fir_meaning.specs.LeafedModules.{Scene, behind_all_ports}
 use Rattle.fir_meaning.specs.ResetJoins.{numbered_module}
-use Rattle.fir_meaning.specs.SizedDeclarations.{Numbering, NumberedModule, behind_module, first_numbers, modules_from, numbered_modules}
+use Rattle.fir_meaning.specs.SizedDeclarations.{Numbering, NumberedModule, behind_module, first_numbers, modules_from}
 use Rattle.fir_meaning.specs.SourceCircuits.{PlacedLeaf, inner_leaves, leaves_of_design, leaves_of_instances, placed, role_within, within}
 use Rattle.fir_meaning.specs.SourceDesigns.{AreInstances, InstanceOf, Instances, IsSourceDesignOf, SourceDesign, held, instances_of_block, made_of, no_instances, scene_of, scene_where}
 use Rattle.fir_meaning.specs.SourceRoles.{SourceLeaf, SourceRole, computed, pipe, reading, register, sink, source, sources_in_block}
-use Rattle.fir_source_laws.specs.working.InstanceLaws.{design_named}
 use Rattle.fir_source_laws.specs.working.ModuleLaws.{InstancesAreOfTheirModules, IsOfModule, MainIsOnTop, NothingInsideIsInput, module_of}
 
 -- the first module of a name, and its place

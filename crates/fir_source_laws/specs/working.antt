@@ -13,3 +13,5 @@ pub mod DepthLaws
 pub mod InstanceLaws
 pub mod PortLaws
 pub mod ModuleLaws
+pub mod TreeLaws
+pub mod PlaceLaws

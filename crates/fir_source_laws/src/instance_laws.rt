@@ -2,7 +2,9 @@
 
 ghost use Rattle.fir_source_laws.specs.working.InstanceLaws.{InstancesCountNoWhen, InstancesShareNothing, InstancesStoreBelow, InstancesTellByLeaf};
 ghost use Rattle.fir_source_laws.specs.working.ModuleLaws.{InstancesAreOfTheirModules, MainIsOnTop, NothingInsideIsInput};
+ghost use Rattle.fir_source_laws.specs.working.PlaceLaws.{ModulesMeanOneThing};
 ghost use Rattle.fir_source_laws.specs.working.PortLaws.{PortsAreOne, PortsReadAsStored};
+ghost use Rattle.fir_source_laws.specs.working.TreeLaws.{PortsAreLeaves, TreesHaveTheirInstances};
 
 /// An instance's port and the port of its module are one leaf: what names the port within the module and what
 /// names it where the instance is declared have one path from the main module on, and one value
@@ -55,4 +57,23 @@ pub fn main_module_is_on_top()
 /// the circuit (FIRRTL spec, "Ports", "Instances").
 pub fn nothing_inside_is_input()
     ensures { NothingInsideIsInput }
+{}
+
+/// The leaves of an instance's ports are leaves of the module that holds it, and each is driven
+/// (FIRRTL spec, "Instances").
+pub fn ports_of_instances_are_leaves()
+    ensures { PortsAreLeaves }
+{}
+
+/// All leaves and arrays of an instance, and all words and arrays of its state, are those of the module that
+/// holds it too (FIRRTL spec, "Instances").
+pub fn trees_have_what_their_instances_have()
+    ensures { TreesHaveTheirInstances }
+{}
+
+/// A module means the same wherever its instances stand: what its statements, and those of the modules within
+/// it, store below the path of an instance is told by what is below that path alone (FIRRTL spec, "Instances",
+/// "Modules").
+pub fn modules_mean_one_thing()
+    ensures { ModulesMeanOneThing }
 {}

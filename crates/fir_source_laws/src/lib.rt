@@ -10,7 +10,8 @@ mod statement_laws;
 pub use instance_laws::{
     instances_are_of_their_modules, instances_count_no_when, instances_share_nothing,
     instances_store_below_their_paths, instances_store_by_leaf, main_module_is_on_top,
-    nothing_inside_is_input, ports_are_one_leaf, ports_read_as_stored,
+    modules_mean_one_thing, nothing_inside_is_input, ports_are_one_leaf,
+    ports_of_instances_are_leaves, ports_read_as_stored, trees_have_what_their_instances_have,
 };
 pub use statement_laws::{
     connects_extend_or_cut, depths_are_whens, inner_leaves_count_no_outer_when,

@@ -1,7 +1,7 @@
 -- Which modules the tree of a circuit has (FIRRTL spec, "Circuits", "Modules", "Instances").
 -- At its top stands the module with the circuit's name, and below each instance the module that the instance names. Only the ports of the main module take
 -- values from outside: of all that stands within modules, an instance's ports among it, each leaf is given its value within.
-use Rattle.std.specs.Prelude.{◌≡◌, ℕ, List, map, Option, Some}
+use Rattle.std.specs.Prelude.{◌≡◌, List, map, Some}
 use Rattle.fir_base.specs.Lists.{Distinct, In}
 use Rattle.fir_ast.specs.Circuits.{CircuitTree, ModuleTree}
 use Rattle.fir_meaning.specs.ComponentTypes.{find_module}
