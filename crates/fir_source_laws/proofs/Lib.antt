@@ -1,0 +1,17 @@
+pub mod LeafTests
+pub mod SparedStores
+pub mod LastConnects
+pub mod RunBranches
+pub mod WhenBranches
+pub mod FitValues
+pub mod InvalidStores
+pub mod ModuleStores
+pub mod DeclaredDepths
+pub mod OwnPaths
+pub mod InstanceStores
+pub mod PortNames
+pub mod PortValues
+pub mod TreeModules
+pub mod PickedLeaves
+pub mod TreeParts
+pub mod MovedModules
