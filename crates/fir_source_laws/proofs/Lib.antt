@@ -1,0 +1,5 @@
+pub mod StatePaths
+pub mod Edges
+pub mod WordsBehind
+pub mod HeldWords
+pub mod ShownRegisters

@@ -1,0 +1,12 @@
+//! Laws of what a circuit means, in the words of the FIRRTL spec, each the contract of a function that does
+//! nothing: what its registers and memories hold and show, tick by tick (`state_laws`). They speak of the very
+//! definitions that give a source its meaning, and a wrong one of those would break one of these.
+#![tactic(auto)]
+
+mod state_laws;
+
+pub use state_laws::{
+    asynchronous_resets_act_at_once, asynchronous_resets_are_kept,
+    registers_hold_where_nothing_is_stored, registers_keep_their_word, registers_show_their_word,
+    registers_take_what_is_stored, synchronous_resets_act_at_edges,
+};
