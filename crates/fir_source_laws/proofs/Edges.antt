@@ -36,6 +36,10 @@ without_edge edges None none = refl
 without_edge edges (Some k) none =
     false_from_ne_true (rises edges k) (λ e. none (record { clock_number = k; is = refl; rises = in_rises edges k e }))
 
+pub edge_from : (edges : List ℕ) (clock : Option ℕ) → has_edge edges clock ≡ true → HasEdge edges clock
+edge_from edges None e = absurd (cc)
+edge_from edges (Some k) e = record { clock_number = k; is = refl; rises = in_rises edges k e }
+
 module _ (t : SourceDesign) (env : PathEnv) (at : LeafPath) where
   pub one_is : (scope : TypedScope) (e : Expression) → IsOne t env at scope e → is_true_at t env at scope e ≡ true
   one_is scope e h = eq-eqb (value_at t env at scope e []).value.number 1 h

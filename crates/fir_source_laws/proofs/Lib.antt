@@ -3,3 +3,10 @@ pub mod Edges
 pub mod WordsBehind
 pub mod HeldWords
 pub mod ShownRegisters
+pub mod ArrayRounds
+pub mod DeclaredArrays
+pub mod PortWrites
+pub mod WrittenWords
+pub mod ReadRoles
+pub mod ReadWords
+pub mod ReadValues

@@ -3,3 +3,7 @@
 pub mod StateWords
 -- What registers hold and show.
 pub mod RegisterLaws
+-- Memories: what their ports do, what their words become, and what is read of them.
+pub mod MemoryPorts
+pub mod WriteLaws
+pub mod ReadLaws

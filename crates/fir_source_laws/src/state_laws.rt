@@ -1,5 +1,16 @@
-//! What registers hold and show, tick by tick.
+//! What registers and memories hold and show, tick by tick.
 
+ghost use Rattle.fir_source_laws.specs.working.ReadLaws.{
+  OfPipes,
+  OfShown,
+  PipeKeeps,
+  PipesTheNewWord,
+  PipesTheOldWord,
+  PipesZero,
+  ShowsPipe,
+  ShowsWord,
+  ShowsZero,
+};
 ghost use Rattle.fir_source_laws.specs.working.RegisterLaws.{
   HoldsWhereNothingIsStored,
   IsResetAtEdge,
@@ -9,6 +20,14 @@ ghost use Rattle.fir_source_laws.specs.working.RegisterLaws.{
   ShowsInitAtOnce,
   ShowsItsWord,
   TakesWhatIsStored,
+};
+ghost use Rattle.fir_source_laws.specs.working.WriteLaws.{
+  MaskedKeeps,
+  OfWrites,
+  StaysUnwritten,
+  StaysWithoutEdgeOrPastDepth,
+  TakesTheLastWrite,
+  TakesTheLaterWrite,
 };
 
 /// A register whose clock has no edge keeps its word, unless an asynchronous reset is 1 (FIRRTL spec,
@@ -50,4 +69,73 @@ pub fn asynchronous_resets_act_at_once()
 /// without an edge at the second it is the word behind both (FIRRTL spec, "Registers").
 pub fn asynchronous_resets_are_kept()
     ensures { OfRegisters KeepsItsInit }
+{}
+
+/// A port without latency that is enabled, and that does not write as a readwriter, shows the word at its
+/// address at once (FIRRTL spec, "Memories").
+pub fn reads_show_their_word()
+    ensures { OfShown ShowsWord }
+{}
+
+/// One that is not enabled, that writes, or that has an address past the depth, shows zero at once (FIRRTL
+/// spec, "Memories").
+pub fn idle_reads_show_zero()
+    ensures { OfShown ShowsZero }
+{}
+
+/// With a latency a port shows the word of its pipe (FIRRTL spec, "Memories").
+pub fn pipes_show_their_word()
+    ensures { OfShown ShowsPipe }
+{}
+
+/// The pipe of a port that is not enabled, that writes, or that has an address past the depth, takes zero at an
+/// edge (FIRRTL spec, "Memories").
+pub fn idle_reads_pipe_zero()
+    ensures { OfPipes PipesZero }
+{}
+
+/// Where old data is read under a write, or the text leaves it open, a pipe takes at an edge the word before
+/// all writes of the tick (FIRRTL spec, "Memories").
+pub fn pipes_take_the_old_word()
+    ensures { OfPipes PipesTheOldWord }
+{}
+
+/// Where new data is read under a write, it takes the word behind all writes of all ports at the tick, which is
+/// the word of the next state (FIRRTL spec, "Memories").
+pub fn pipes_take_the_new_word()
+    ensures { OfPipes PipesTheNewWord }
+{}
+
+/// A pipe whose port's clock has no edge, or is none, keeps its word (FIRRTL spec, "Memories", "Clock Type").
+pub fn pipes_keep_their_word()
+    ensures { OfPipes PipeKeeps }
+{}
+
+/// At an edge, with the enable, the mask and a readwriter's mode 1, the word at a port's address becomes the
+/// data given, if no later port writes there (FIRRTL spec, "Memories").
+pub fn memories_take_the_last_write()
+    ensures { OfWrites TakesTheLastWrite }
+{}
+
+/// Of two writes to one address at one tick that of the port that stands later in the text wins, of writers and
+/// readwriters in any order (FIRRTL spec, "Memories").
+pub fn memories_take_the_later_write()
+    ensures { OfWrites TakesTheLaterWrite }
+{}
+
+/// A word at an address to which no port writes at the tick stays (FIRRTL spec, "Memories").
+pub fn memories_keep_what_is_unwritten()
+    ensures { OfWrites StaysUnwritten }
+{}
+
+/// A port whose clock has no edge, or is none, writes nothing, and a write past the depth does nothing (FIRRTL
+/// spec, "Memories", "Clock Type").
+pub fn memories_keep_without_edge_or_past_depth()
+    ensures { OfWrites StaysWithoutEdgeOrPastDepth }
+{}
+
+/// A leaf of the data whose mask is 0 keeps its word, while another one of the same write takes its data (FIRRTL
+/// spec, "Memories").
+pub fn memories_keep_masked_leaves()
+    ensures { OfWrites MaskedKeeps }
 {}
