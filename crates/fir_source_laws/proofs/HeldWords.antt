@@ -10,7 +10,7 @@ use Rattle.fir_meaning.specs.SourceDesigns.{SourceDesign}
 use Rattle.fir_meaning.specs.SourceRoles.{SourceReset}
 use Rattle.fir_meaning.specs.SourceValues.{PathEnv, clock_at, init_of, is_true_at, word_of}
 use Rattle.fir_meaning.specs.TypedScopes.{TypedScope}
-use Rattle.fir_source_laws.specs.working.RegisterLaws.{IsClocked, IsRegister, IsReset, init_fitted}
+use Rattle.fir_source_laws.specs.working.RegisterLaws.{IsClocked, IsRegister, IsReset}
 use Rattle.fir_source_laws.specs.working.StateWords.{word_behind_tick}
 use Rattle.fir_source_laws.proofs.Edges.{one_is, one_is_not, with_edge, without_edge}
 use Rattle.fir_source_laws.proofs.WordsBehind.{next_word}
@@ -45,7 +45,7 @@ module _ (t : SourceDesign) (p : PlacedLeaf) (scope : TypedScope) (clock : Expre
       → word_behind_tick t state edges env (leaf_path p)
       ≡ register_next t state edges env p.at (leaf_path p) reset q (has_edge edges (clock_at t env p.at scope clock [])) (word_of t env state (leaf_path p))
   register_word reset h =
-      next_word t state edges env p h.among_words h.once ∙ ap (word_next t state edges env p.at (leaf_path p)) h.role
+      next_word t state edges env p h.among_words h.once_in_words ∙ ap (word_next t state edges env p.at (leaf_path p)) h.role
 
   abbrev behind : Option SourceReset → Bool → ℕ
   behind reset edge = register_next t state edges env p.at (leaf_path p) reset q edge (word_of t env state (leaf_path p))
@@ -92,7 +92,7 @@ module _ (t : SourceDesign) (p : PlacedLeaf) (scope : TypedScope) (clock : Expre
       go false = kept reset (free true)
 
   pub reset_at_edge : (r : SourceReset) → IsRegister t p scope clock (Some r) q → IsReset t env p.at (Some r) false
-      → IsClocked t p scope clock q edges env → word_behind_tick t state edges env (leaf_path p) ≡ init_fitted t env p r q
+      → IsClocked t p scope clock q edges env → word_behind_tick t state edges env (leaf_path p) ≡ init_of t env p.at (leaf_path p) r q
   reset_at_edge r h is clocked =
       word_at_edge (Some r) h clocked
       ∙ ap (λ (b : Bool). if b then init_of t env p.at (leaf_path p) r q else taken_at_edge t state edges env p.at (leaf_path p) (Some r) q)
@@ -100,7 +100,7 @@ module _ (t : SourceDesign) (p : PlacedLeaf) (scope : TypedScope) (clock : Expre
       ∙ ap (λ (b : Bool). if b then init_of t env p.at (leaf_path p) r q else stored_or_shown t state edges env (leaf_path p)) (sync_is t env p.at r is)
 
   pub reset_at_once : (r : SourceReset) → IsRegister t p scope clock (Some r) q → IsReset t env p.at (Some r) true
-      → word_behind_tick t state edges env (leaf_path p) ≡ init_fitted t env p r q
+      → word_behind_tick t state edges env (leaf_path p) ≡ init_of t env p.at (leaf_path p) r q
   reset_at_once r h is =
       register_word (Some r) h
       ∙ ap (λ (b : Bool).

@@ -7,6 +7,7 @@ pub mod ArrayRounds
 pub mod DeclaredArrays
 pub mod PortWrites
 pub mod WrittenWords
+pub mod DeclaredLeaves
 pub mod ReadRoles
 pub mod ReadWords
 pub mod ReadValues

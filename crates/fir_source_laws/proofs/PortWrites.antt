@@ -7,8 +7,7 @@ use Rattle.fir_meaning.specs.Memories.{has_edge}
 use Rattle.fir_meaning.specs.SourceAllows.{word_after, writes_at}
 use Rattle.fir_meaning.specs.SourceRoles.{NamedPort, PathWriting, port_writing, writings_at}
 use Rattle.fir_meaning.specs.SourceValues.{PathEnv}
-use Rattle.fir_source_laws.specs.working.MemoryPorts.{MayWrite, Memory, Writes, address_of, clock_on, data_of, enable, mask_of, mode}
-use Rattle.fir_source_laws.specs.working.WriteLaws.{NoneWrites}
+use Rattle.fir_source_laws.specs.working.MemoryPorts.{MayWrite, Memory, NoneWrites, Writes, address_of, clock_on, data_of, enable, mask_of, mode}
 use Rattle.fir_source_laws.proofs.Edges.{edge_from, with_edge}
 
 module _ (m : Memory) (state edges : List ℕ) (env : PathEnv) (q : LeafPath) (address : ℕ) where
@@ -116,14 +115,14 @@ module _ (m : Memory) (state edges : List ℕ) (env : PathEnv) (q : LeafPath) (a
             let f = and_parts (unmasked reads_and_writes) true d.1 in
             with_all reads_and_writes e b.0 c.0 (eqb-true (mode m env port) 1 d.0) f.0 a.1))
 
-  pub by_none : (ports : List NamedPort) (word : ℕ) → NoneWrites m state edges env q ports address → by_ports ports word ≡ word
+  pub by_none : (ports : List NamedPort) (word : ℕ) → NoneWrites m env edges q ports address → by_ports ports word ≡ word
   by_none [] word none = refl
   by_none (p ∷ ports) word none =
       by_first p ports word ∙ by_none ports (by_port p word) (λ o among. none o (inr among)) ∙ port_idle p word (none p (inl refl))
 
   -- the last that writes
   pub by_last : (before later : List NamedPort) (port : NamedPort) (word : ℕ) → Writes m env edges q port address
-      → NoneWrites m state edges env q later address → by_ports (before ++ port ∷ later) word ≡ data_of m env port.kind port.name q
+      → NoneWrites m env edges q later address → by_ports (before ++ port ∷ later) word ≡ data_of m env port.kind port.name q
   by_last before later port word w none =
       by_both before (port ∷ later) word ∙ by_first port later (by_ports before word) ∙ by_none later (by_port port (by_ports before word)) none
       ∙ port_writes port (by_ports before word) w

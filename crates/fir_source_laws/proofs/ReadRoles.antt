@@ -7,21 +7,13 @@ use Rattle.fir_base.proofs.Members.{in_map}
 use Rattle.fir_base.proofs.SameNames.{name_other, name_same}
 use Rattle.fir_meaning.specs.Components as component
 use Rattle.fir_meaning.specs.LeafMemories.{PortKind, leaves_of_data, reads, reads_and_writes, writes}
-use Rattle.fir_meaning.specs.LeafModules.{LeafType}
 use Rattle.fir_meaning.specs.LeafPaths.{LeafPath, named}
 use Rattle.fir_meaning.specs.LeafedModules.{held_by_declared, type_of_declared}
 use Rattle.fir_meaning.specs.MemoryTypes.{first_one}
 use Rattle.fir_meaning.specs.SourceCircuits.{PlacedLeaf}
-use Rattle.fir_meaning.specs.SourceRoles.{NamedPort, PathNeed, PathReading, SourceLeaf, SourceRole, kind_of, latency_of, memory_role, needed, port_field, port_role, read_by, source_leaves_of, under_write_of}
-use Rattle.fir_meaning.specs.TypeLeaves.{TypeLeaf}
+use Rattle.fir_meaning.specs.SourceRoles.{NamedPort, PathNeed, PathReading, SourceRole, kind_of, latency_of, memory_role, needed, port_field, port_role, read_by, under_write_of}
+use Rattle.fir_source_laws.proofs.DeclaredLeaves.{declared}
 use Rattle.fir_source_laws.specs.working.MemoryPorts.{HasLatency, IsRead, IsShown, Memory, ports}
-
-declared : (name : List ℕ) (role_of : TypeLeaf → SourceRole) (ls : List TypeLeaf) (hs : List LeafType) (x : SourceLeaf)
-    → In (source_leaves_of name role_of ls hs) x → (l : TypeLeaf) × (x.path ≡ named name ∷ l.path) × (x.role ≡ role_of l)
-declared name role_of [] hs x among = absurd among
-declared name role_of (l ∷ ls) [] x among = absurd among
-declared name role_of (l ∷ ls) (h ∷ hs) x (inl is) = (l, ap (λ (y : SourceLeaf). y.path) (sym is), ap (λ (y : SourceLeaf). y.role) (sym is))
-declared name role_of (l ∷ ls) (h ∷ hs) x (inr m) = declared name role_of ls hs x m
 
 kind_found : (ps : List NamedPort) (port : NamedPort) → In ps port → Distinct (map (λ (o : NamedPort). o.name) ps) → kind_of ps port.name ≡ Some port.kind
 kind_found [] port among once = absurd among

@@ -4,15 +4,17 @@ use Rattle.fir_base.specs.Lists.{In}
 use Rattle.fir_base.specs.Ticks.{Tick}
 use Rattle.fir_ast.specs.Expressions.{Expression}
 use Rattle.fir_bits.specs.declared.types.NumTy.{NumTy}
-use Rattle.fir_meaning.specs.LeafModules.{number}
+use Rattle.fir_meaning.specs.LeafModules.{LeafType, number, number_type}
 use Rattle.fir_meaning.specs.LeafPaths.{LeafPath}
 use Rattle.fir_meaning.specs.SourceAllows.{Settled, Shows, next}
 use Rattle.fir_meaning.specs.SourceCircuits.{PlacedLeaf, all_leaves, leaf_path}
 use Rattle.fir_meaning.specs.SourceDesigns.{SourceDesign}
 use Rattle.fir_meaning.specs.SourceRoles.{SourceReset}
-use Rattle.fir_meaning.specs.SourceValues.{PathEnv, init_of, number_shown, register_shown, word_of}
+use Rattle.fir_meaning.specs.SourceValues.{PathEnv, init_of, number_shown, register_shown, value_at, word_of}
+use Rattle.fir_meaning.specs.Values.{fit}
 use Rattle.fir_meaning.specs.TypedScopes.{TypedScope}
 use Rattle.fir_source_laws.specs.working.RegisterLaws.{HoldsWhereNothingIsStored, IsRegister, IsReset, IsResetAtEdge, KeepsItsInit, KeepsWithoutEdge, ShowsInitAtOnce, ShowsItsWord, TakesWhatIsStored, init_fitted}
+use Rattle.fir_source_laws.proofs.WordsBehind.{holds_found}
 use Rattle.fir_source_laws.proofs.HeldWords.{async_is, async_is_not, holds_word, keeps, not_both, reset_at_edge, reset_at_once, takes}
 
 -- a leaf that holds a number has the number that it shows
@@ -42,7 +44,7 @@ module _ (t : SourceDesign) (p : PlacedLeaf) (scope : TypedScope) (clock : Expre
     shows_word reset h s free = shown reset h s ∙ word_shown reset free
 
     pub shows_init : (r : SourceReset) → IsRegister t p scope clock (Some r) q → Settled t state tick env → IsReset t env p.at (Some r) true
-        → env.numbers (leaf_path p) ≡ init_fitted t env p r q
+        → env.numbers (leaf_path p) ≡ init_of t env p.at (leaf_path p) r q
     shows_init r h s is =
         shown (Some r) h s
         ∙ ap (λ (b : Bool). if b then init_of t env p.at (leaf_path p) r q else word_of t env state (leaf_path p)) (async_is t env p.at r is)
@@ -59,9 +61,16 @@ module _ (t : SourceDesign) (p : PlacedLeaf) (scope : TypedScope) (clock : Expre
       holds_word t p scope clock q state tick.clocks env reset h free
       (ap (λ (o : Option ℕ). unwrap_or o (env.numbers (leaf_path p))) none ∙ shows_word state tick env reset h s (free true))
 
+  -- the type that is found at its path is its own
+  init_is : (env : PathEnv) (r : SourceReset) (h : IsRegister t p scope clock (Some r) q)
+      → init_of t env p.at (leaf_path p) r q ≡ init_fitted t env p.at r q h.width
+  init_is env r h =
+      ap (λ (holds : LeafType). fit (value_at t env p.at r.scope r.init q) (number_type holds))
+      (holds_found (all_leaves t) p h.among h.once ∙ h.holds)
+
   pub are_reset_at_edge : IsResetAtEdge t p scope clock q
   are_reset_at_edge r state edges env h is = (
-    λ clocked. reset_at_edge t p scope clock q state edges env r h is clocked,
+    λ clocked. reset_at_edge t p scope clock q state edges env r h is clocked ∙ init_is env r h,
     λ none. keeps t p scope clock q state edges env (Some r) h none (not_both t env p.at r is),
   )
 
@@ -70,13 +79,13 @@ module _ (t : SourceDesign) (p : PlacedLeaf) (scope : TypedScope) (clock : Expre
 
   pub show_init_at_once : ShowsInitAtOnce t p scope clock q
   show_init_at_once r state tick env h s is =
-      (shows_init state tick env r h s is, reset_at_once t p scope clock q state tick.clocks env r h is)
+      (shows_init state tick env r h s is ∙ init_is env r h, reset_at_once t p scope clock q state tick.clocks env r h is ∙ init_is env r h)
 
   pub keep_their_init : KeepsItsInit t p scope clock q
   keep_their_init r state first second env later h s is s_later free =
-      let kept : word_of t later (next t state first.clocks env) (leaf_path p) ≡ init_fitted t env p r q =
-      reset_at_once t p scope clock q state first.clocks env r h is in (
-        shows_init state first env r h s is,
+      let kept : word_of t later (next t state first.clocks env) (leaf_path p) ≡ init_fitted t env p.at r q h.width =
+      reset_at_once t p scope clock q state first.clocks env r h is ∙ init_is env r h in (
+        shows_init state first env r h s is ∙ init_is env r h,
         shows_word (next t state first.clocks env) second later (Some r) h s_later free ∙ kept,
         λ none. keeps t p scope clock q (next t state first.clocks env) second.clocks later (Some r) h none free ∙ kept,
       )

@@ -7,9 +7,9 @@ use Rattle.fir_meaning.specs.SourceAllows.{word_after}
 use Rattle.fir_meaning.specs.SourceCircuits.{PlacedArray, array_path}
 use Rattle.fir_meaning.specs.SourceRoles.{NamedPort, PathWriting}
 use Rattle.fir_meaning.specs.SourceValues.{PathEnv, word_before}
-use Rattle.fir_source_laws.specs.working.MemoryPorts.{HasDepth, IsArray, Memory, Writes, address_of, clock_on, mask_of, ports}
+use Rattle.fir_source_laws.specs.working.MemoryPorts.{HasDepth, IsArray, Memory, NoneWrites, Writes, address_of, clock_on, mask_of, ports}
 use Rattle.fir_source_laws.specs.working.StateWords.{HasEdge, array_behind_tick}
-use Rattle.fir_source_laws.specs.working.WriteLaws.{MaskedKeeps, NoneWrites, StaysUnwritten, StaysWithoutEdgeOrPastDepth, TakesTheLastWrite, TakesTheLaterWrite}
+use Rattle.fir_source_laws.specs.working.WriteLaws.{MaskedKeeps, StaysUnwritten, StaysWithoutEdgeOrPastDepth, TakesTheLastWrite, TakesTheLaterWrite}
 use Rattle.fir_source_laws.proofs.ArrayRounds.{next_array}
 use Rattle.fir_source_laws.proofs.DeclaredArrays.{depth_is, writings_are}
 use Rattle.fir_source_laws.proofs.PortWrites.{by_last, by_none, by_ports}
@@ -26,7 +26,7 @@ module _ (m : Memory) (state edges : List ℕ) (env : PathEnv) (depth : ℕ) whe
       word_after m.design state edges env x ws address (word_before m.design state (array_path a) address)) h.placed (writings_are m q a h)
 
   stays : (q : LeafPath) (a : PlacedArray) (address : ℕ) → HasDepth m depth → IsArray m q a → address < depth
-      → NoneWrites m state edges env q (ports m) address
+      → NoneWrites m env edges q (ports m) address
       → array_behind_tick m.design state edges env (array_path a) address ≡ word_before m.design state (array_path a) address
   stays q a address e h lt none = array_word q a address e h lt ∙ by_none m state edges env q address (ports m) (word_before m.design state (array_path a) address) none
 

@@ -1,7 +1,8 @@
 -- Laws of what circuits mean: no clause of `run` reads them.
 -- The state of a design, behind a tick and before it.
 pub mod StateWords
--- What registers hold and show.
+-- What registers are declared as, and what they hold and show.
+pub mod DeclaredRegisters
 pub mod RegisterLaws
 -- Memories: what their ports do, what their words become, and what is read of them.
 pub mod MemoryPorts

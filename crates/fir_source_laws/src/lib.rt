@@ -11,6 +11,6 @@ pub use state_laws::{
     memories_keep_without_edge_or_past_depth, memories_take_the_last_write,
     memories_take_the_later_write, pipes_keep_their_word, pipes_show_their_word,
     pipes_take_the_new_word, pipes_take_the_old_word, reads_show_their_word,
-    registers_hold_where_nothing_is_stored, registers_keep_their_word, registers_show_their_word,
-    registers_take_what_is_stored, synchronous_resets_act_at_edges,
+    registers_are_declared, registers_hold_where_nothing_is_stored, registers_keep_their_word,
+    registers_show_their_word, registers_take_what_is_stored, synchronous_resets_act_at_edges,
 };

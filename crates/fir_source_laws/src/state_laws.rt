@@ -1,5 +1,6 @@
 //! What registers and memories hold and show, tick by tick.
 
+ghost use Rattle.fir_source_laws.specs.working.DeclaredRegisters.{AreDeclared};
 ghost use Rattle.fir_source_laws.specs.working.ReadLaws.{
   OfPipes,
   OfShown,
@@ -29,6 +30,12 @@ ghost use Rattle.fir_source_laws.specs.working.WriteLaws.{
   TakesTheLastWrite,
   TakesTheLaterWrite,
 };
+
+/// Each leaf of the statement of a register is a register with the clock and the reset of the statement, and
+/// takes the leaf of the init at its own path (FIRRTL spec, "Registers").
+pub fn registers_are_declared()
+    ensures { AreDeclared }
+{}
 
 /// A register whose clock has no edge keeps its word, unless an asynchronous reset is 1 (FIRRTL spec,
 /// "Registers", "Clock Type").

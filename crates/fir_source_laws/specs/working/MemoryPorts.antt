@@ -121,6 +121,10 @@ module _ (m : Memory) (env : PathEnv) where
     pub unmasked : mask_of port.kind port.name q ≡ 1
     pub addressed : address_of port ≡ address
 
+  -- none of these ports does
+  abbrev pub NoneWrites : List ℕ → LeafPath → List NamedPort → ℕ → Type 0
+  NoneWrites edges q among address = (o : NamedPort) → In among o → Writes edges q o address → ⊥
+
   -- a port reads a word
   pub record Reads (depth : ℕ) (port : NamedPort) : Type 0 where
     pub enabled : enable port ≡ 1

@@ -7,7 +7,7 @@ use Rattle.fir_meaning.specs.LeafPaths.{LeafPath}
 use Rattle.fir_meaning.specs.SourceCircuits.{PlacedArray, array_path}
 use Rattle.fir_meaning.specs.SourceRoles.{NamedPort}
 use Rattle.fir_meaning.specs.SourceValues.{PathEnv, word_before}
-use Rattle.fir_source_laws.specs.working.MemoryPorts.{HasDepth, IsArray, Memory, Writes, address_of, clock_on, data_of, mask_of, ports}
+use Rattle.fir_source_laws.specs.working.MemoryPorts.{HasDepth, IsArray, Memory, NoneWrites, Writes, address_of, clock_on, data_of, mask_of, ports}
 use Rattle.fir_source_laws.specs.working.StateWords.{HasEdge, array_behind_tick}
 
 module _ (m : Memory) (state edges : List ℕ) (env : PathEnv) where
@@ -17,16 +17,12 @@ module _ (m : Memory) (state edges : List ℕ) (env : PathEnv) where
   abbrev pub Takes : PlacedArray → ℕ → ℕ → Type 0
   Takes a address v = array_behind_tick m.design state edges env (array_path a) address ≡ v
 
-  -- none of these ports writes there
-  abbrev pub NoneWrites : LeafPath → List NamedPort → ℕ → Type 0
-  NoneWrites q among address = (o : NamedPort) → In among o → Writes m env edges q o address → ⊥
-
   module _ (depth : ℕ) (q : LeafPath) (a : PlacedArray) (address : ℕ) where
     -- a port writes, and none behind it
     abbrev pub TakesTheLastWrite : Type 0
     TakesTheLastWrite =
         (before later : List NamedPort) (port : NamedPort) → HasDepth m depth → IsArray m q a → address < depth → ports m ≡ before ++ port ∷ later
-        → Writes m env edges q port address → NoneWrites q later address
+        → Writes m env edges q port address → NoneWrites m env edges q later address
         → Takes a address (data_of m env port.kind port.name q)
 
     -- of two writes, readers, writers and readwriters among each other
@@ -34,11 +30,11 @@ module _ (m : Memory) (state edges : List ℕ) (env : PathEnv) where
     TakesTheLaterWrite =
         (before between later : List NamedPort) (first second : NamedPort) → HasDepth m depth → IsArray m q a → address < depth
         → ports m ≡ before ++ first ∷ between ++ second ∷ later
-        → Writes m env edges q first address → Writes m env edges q second address → NoneWrites q later address
+        → Writes m env edges q first address → Writes m env edges q second address → NoneWrites m env edges q later address
         → Takes a address (data_of m env second.kind second.name q)
 
     abbrev pub StaysUnwritten : Type 0
-    StaysUnwritten = HasDepth m depth → IsArray m q a → address < depth → NoneWrites q (ports m) address → Keeps a address
+    StaysUnwritten = HasDepth m depth → IsArray m q a → address < depth → NoneWrites m env edges q (ports m) address → Keeps a address
 
     -- no port has both an edge of its clock and an address below the depth
     abbrev pub StaysWithoutEdgeOrPastDepth : Type 0
@@ -52,7 +48,7 @@ module _ (m : Memory) (state edges : List ℕ) (env : PathEnv) where
     MaskedKeeps =
         (masked : LeafPath) (b : PlacedArray) (before later : List NamedPort) (port : NamedPort) → HasDepth m depth → IsArray m q a → IsArray m masked b
         → address < depth → ports m ≡ before ++ port ∷ later
-        → ((leaf : LeafPath) → NoneWrites leaf (before ++ later) address)
+        → ((leaf : LeafPath) → NoneWrites m env edges leaf (before ++ later) address)
         → Writes m env edges q port address → mask_of m env port.kind port.name masked ≡ 0
         → Takes a address (data_of m env port.kind port.name q) × Keeps b address
 
