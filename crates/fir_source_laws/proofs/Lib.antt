@@ -11,3 +11,4 @@ pub mod DeclaredLeaves
 pub mod ReadRoles
 pub mod ReadWords
 pub mod ReadValues
+pub mod KeptWords

@@ -8,3 +8,5 @@ pub mod RegisterLaws
 pub mod MemoryPorts
 pub mod WriteLaws
 pub mod ReadLaws
+-- What is kept over many ticks.
+pub mod RunLaws

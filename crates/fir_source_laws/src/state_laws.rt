@@ -22,6 +22,11 @@ ghost use Rattle.fir_source_laws.specs.working.RegisterLaws.{
   ShowsItsWord,
   TakesWhatIsStored,
 };
+ghost use Rattle.fir_source_laws.specs.working.RunLaws.{
+  HoldsUntilEdge,
+  IsReadUntilWrittenAgain,
+  ReadsATickLater,
+};
 ghost use Rattle.fir_source_laws.specs.working.WriteLaws.{
   MaskedKeeps,
   OfWrites,
@@ -145,4 +150,22 @@ pub fn memories_keep_without_edge_or_past_depth()
 /// spec, "Memories").
 pub fn memories_keep_masked_leaves()
     ensures { OfWrites MaskedKeeps }
+{}
+
+/// Over any number of ticks without an edge or an asynchronous reset a register shows the word that it had
+/// (FIRRTL spec, "Registers").
+pub fn registers_hold_until_an_edge()
+    ensures { HoldsUntilEdge }
+{}
+
+/// A word that is written is read at its address, after any number of ticks at which no port writes there (FIRRTL
+/// spec, "Memories").
+pub fn writes_are_read_until_written_again()
+    ensures { IsReadUntilWrittenAgain }
+{}
+
+/// With a latency, and old data read under a write, a port shows at a tick the word that stood at its address at
+/// the tick before, where its clock had an edge (FIRRTL spec, "Memories").
+pub fn pipes_are_read_a_tick_later()
+    ensures { ReadsATickLater }
 {}
