@@ -116,3 +116,4 @@ pub mod TreeRuns
 pub mod OneSettled
 pub mod AllScenes
 pub mod MeantSources
+pub mod StateStandsOnce
