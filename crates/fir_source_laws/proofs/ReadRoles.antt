@@ -11,8 +11,11 @@ use Rattle.fir_meaning.specs.LeafPaths.{LeafPath, named}
 use Rattle.fir_meaning.specs.LeafedModules.{held_by_declared, type_of_declared}
 use Rattle.fir_meaning.specs.MemoryTypes.{first_one}
 use Rattle.fir_meaning.specs.SourceCircuits.{PlacedLeaf}
-use Rattle.fir_meaning.specs.SourceRoles.{NamedPort, PathNeed, PathReading, SourceRole, kind_of, latency_of, memory_role, needed, port_field, port_role, read_by, under_write_of}
+use Rattle.fir_meaning.specs.SourceRoles.{NamedPort, PathNeed, PathReading, SourceLeaf, SourceRole, kind_of, latency_of, memory_role, needed, port_field, port_role, read_by, sink, sources_in, under_write_of}
 use Rattle.fir_source_laws.proofs.DeclaredLeaves.{declared}
+use Rattle.fir_meaning.specs.Visibility.{Before}
+use Rattle.fir_ast.specs.Statements.{memory}
+use Rattle.fir_source_laws.specs.working.PortLaws.{OthersAreDriven}
 use Rattle.fir_source_laws.specs.working.MemoryPorts.{HasLatency, IsRead, IsShown, Memory, ports}
 
 kind_found : (ps : List NamedPort) (port : NamedPort) → In ps port → Distinct (map (λ (o : NamedPort). o.name) ps) → kind_of ps port.name ≡ Some port.kind
@@ -53,18 +56,31 @@ module _ (m : Memory) (port : NamedPort) (q : LeafPath) where
       let test : bytes_eq field (codes "rdata") ≡ true = ap (λ x. bytes_eq x (codes "rdata")) shown ∙ name_same (codes "rdata") in
       rw (test, e) refl
 
-  pub role_is : (p : PlacedLeaf) → IsRead m port q p → p.leaf.role ≡ role_at (latency_of m.parts)
-  role_is p h =
+  -- the role of a leaf of a field of the port
+  port_role_is : (before : Before) (x : SourceLeaf) (field : List ℕ) → In (sources_in m.scene before (memory m.place m.named m.parts)) x
+      → x.path ≡ named m.named.name ∷ named port.name ∷ named field ∷ q → In (ports m) port → Distinct (map (λ (o : NamedPort). o.name) (ports m))
+      → x.role ≡ port_role m.named.name m.parts port.name field q (Some port.kind)
+  port_role_is before x field among is is_port once =
       let d =
       declared m.named.name (λ l. memory_role m.named.name m.parts l.path)
-      (leaves_of_data
-      (type_of_declared m.scene (record { named = m.named; component = component.memory m.parts; before = h.before })))
-      (held_by_declared m.scene (record { named = m.named; component = component.memory m.parts; before = h.before })) p.leaf h.declared in
-      let whole : named m.named.name ∷ d.0.path ≡ named m.named.name ∷ named port.name ∷ named h.field ∷ q = sym d.1 ∙ h.path in
-      let path : d.0.path ≡ named port.name ∷ named h.field ∷ q = cc in
+      (leaves_of_data (type_of_declared m.scene (record { named = m.named; component = component.memory m.parts; before = before })))
+      (held_by_declared m.scene (record { named = m.named; component = component.memory m.parts; before = before })) x among in
+      let whole : named m.named.name ∷ d.0.path ≡ named m.named.name ∷ named port.name ∷ named field ∷ q = sym d.1 ∙ is in
+      let path : d.0.path ≡ named port.name ∷ named field ∷ q = cc in
       d.2 ∙ ap (memory_role m.named.name m.parts) path
-      ∙ ap (port_role m.named.name m.parts port.name h.field q) (kind_found (ports m) port h.is_port h.once)
-      ∙ shown_role port.kind h.field refl h.shown
+      ∙ ap (port_role m.named.name m.parts port.name field q) (kind_found (ports m) port is_port once)
+
+  pub role_is : (p : PlacedLeaf) → IsRead m port q p → p.leaf.role ≡ role_at (latency_of m.parts)
+  role_is p h = port_role_is h.before p.leaf h.field h.declared h.path h.is_port h.once ∙ shown_role port.kind h.field refl h.shown
 
   pub role_late : (p : PlacedLeaf) (latency : ℕ) → IsRead m port q p → HasLatency m latency → p.leaf.role ≡ role_at latency
   role_late p latency h late = role_is p h ∙ ap role_at (ap (λ (ns : List ℕ). unwrap_or (first_one ns) 0) late)
+
+  other_role : (kind : PortKind) (field : List ℕ) → (IsShown kind field → ⊥) → port_role m.named.name m.parts port.name field q (Some kind) ≡ sink
+  other_role reads field other = let test : bytes_eq field (codes "data") ≡ false = name_other field (codes "data") other in rw test refl
+  other_role writes field other = refl
+  other_role reads_and_writes field other = let test : bytes_eq field (codes "rdata") ≡ false = name_other field (codes "rdata") other in rw test refl
+
+pub others_are_driven : OthersAreDriven
+others_are_driven m before port field q x is_port once among is other =
+    port_role_is m port q before x field among is is_port once ∙ other_role m port q port.kind field other

@@ -6,6 +6,7 @@ pub mod DeclaredRegisters
 pub mod RegisterLaws
 -- Memories: what their ports do, what their words become, and what is read of them.
 pub mod MemoryPorts
+pub mod PortLaws
 pub mod WriteLaws
 pub mod ReadLaws
 -- What is kept over many ticks.

@@ -1,6 +1,7 @@
 //! What registers and memories hold and show, tick by tick.
 
 ghost use Rattle.fir_source_laws.specs.working.DeclaredRegisters.{AreDeclared};
+ghost use Rattle.fir_source_laws.specs.working.PortLaws.{OthersAreDriven};
 ghost use Rattle.fir_source_laws.specs.working.ReadLaws.{
   OfPipes,
   OfShown,
@@ -81,6 +82,12 @@ pub fn asynchronous_resets_act_at_once()
 /// without an edge at the second it is the word behind both (FIRRTL spec, "Registers").
 pub fn asynchronous_resets_are_kept()
     ensures { OfRegisters KeepsItsInit }
+{}
+
+/// The leaves of a memory's ports are driven by the statements of its module, but for the data of a reader and the
+/// rdata of a readwriter (FIRRTL spec, "Memories").
+pub fn memory_ports_are_driven()
+    ensures { OthersAreDriven }
 {}
 
 /// A port without latency that is enabled, and that does not write as a readwriter, shows the word at its
