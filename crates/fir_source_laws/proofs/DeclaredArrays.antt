@@ -11,7 +11,7 @@ use Rattle.fir_meaning.specs.SizedMemories.{sized_array}
 use Rattle.fir_meaning.specs.SourceCircuits.{PlacedArray, array_path}
 use Rattle.fir_meaning.specs.SourceRoles.{SourceArray, arrays_of_data, ports_of_part, writings_at}
 use Rattle.fir_meaning.specs.TypeLeaves.{TypeLeaf}
-use Rattle.fir_source_laws.specs.working.MemoryPorts.{HasDepth, IsArray, Memory, ports}
+use Rattle.fir_source_laws.specs.working.MemoryLeaves.{HasDepth, IsArray, Memory, ports}
 
 declared : (name : List ℕ) (parts : List MemoryPart) (ls : List TypeLeaf) (hs : List LeafType) (a : SourceArray)
     → In (arrays_of_data name parts ls hs) a

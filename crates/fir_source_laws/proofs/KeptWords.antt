@@ -9,7 +9,8 @@ use Rattle.fir_meaning.specs.SourceDesigns.{SourceDesign}
 use Rattle.fir_meaning.specs.SourceRoles.{SourceReset}
 use Rattle.fir_meaning.specs.SourceValues.{PathEnv, word_before, word_of}
 use Rattle.fir_meaning.specs.TypedScopes.{TypedScope}
-use Rattle.fir_source_laws.specs.working.MemoryPorts.{HasDepth, IsArray, Memory, NoneWrites, ports}
+use Rattle.fir_source_laws.specs.working.MemoryLeaves.{HasDepth, IsArray, Memory, ports}
+use Rattle.fir_source_laws.specs.working.MemoryPorts.{NoneWrites}
 use Rattle.fir_source_laws.specs.working.RegisterLaws.{IsClocked, IsRegister, IsReset}
 use Rattle.fir_source_laws.specs.working.RunLaws.{HoldsUntilEdge, IsReadUntilWrittenAgain, ReadsATickLater, Valued, state_behind}
 use Rattle.fir_source_laws.proofs.HeldWords.{keeps}

@@ -7,7 +7,8 @@ use Rattle.fir_meaning.specs.Memories.{has_edge}
 use Rattle.fir_meaning.specs.SourceAllows.{word_after, writes_at}
 use Rattle.fir_meaning.specs.SourceRoles.{NamedPort, PathWriting, port_writing, writings_at}
 use Rattle.fir_meaning.specs.SourceValues.{PathEnv}
-use Rattle.fir_source_laws.specs.working.MemoryPorts.{MayWrite, Memory, NoneWrites, Writes, address_of, clock_on, data_of, enable, mask_of, mode}
+use Rattle.fir_source_laws.specs.working.MemoryLeaves.{Memory}
+use Rattle.fir_source_laws.specs.working.MemoryPorts.{MayWrite, NoneWrites, Writes, address_of, clock_on, data_of, enable, mask_of, mode}
 use Rattle.fir_source_laws.proofs.Edges.{edge_from, with_edge}
 
 module _ (m : Memory) (state edges : List ℕ) (env : PathEnv) (q : LeafPath) (address : ℕ) where

@@ -9,7 +9,8 @@ use Rattle.fir_meaning.specs.SourceAllows.{Settled, piped, word_next, word_writt
 use Rattle.fir_meaning.specs.SourceCircuits.{PlacedArray, PlacedLeaf, array_path, leaf_path}
 use Rattle.fir_meaning.specs.SourceRoles.{NamedPort, SourceRole, under_write_of}
 use Rattle.fir_meaning.specs.SourceValues.{PathEnv, number_shown, read_before, word_before, word_of}
-use Rattle.fir_source_laws.specs.working.MemoryPorts.{HasDepth, HasLatency, IsArray, IsPipe, IsRead, Memory, Reads, ReadsNothing, address_of, clock_on}
+use Rattle.fir_source_laws.specs.working.MemoryLeaves.{HasDepth, HasLatency, IsArray, IsPipe, IsRead, Memory}
+use Rattle.fir_source_laws.specs.working.MemoryPorts.{Reads, ReadsNothing, address_of, clock_on}
 use Rattle.fir_source_laws.specs.working.ReadLaws.{PipeKeeps, PipesTheNewWord, PipesTheOldWord, PipesZero, ReadsOld, ShowsPipe, ShowsWord, ShowsZero}
 use Rattle.fir_source_laws.specs.working.StateWords.{HasEdge, word_behind_tick}
 use Rattle.fir_source_laws.proofs.ArrayRounds.{next_written}

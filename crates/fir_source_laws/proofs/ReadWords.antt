@@ -6,7 +6,8 @@ use Rattle.fir_meaning.specs.LeafPaths.{LeafPath, named}
 use Rattle.fir_meaning.specs.SourceCircuits.{PlacedArray, all_arrays}
 use Rattle.fir_meaning.specs.SourceRoles.{NamedPort}
 use Rattle.fir_meaning.specs.SourceValues.{PathEnv, are_met, read_word, words_on}
-use Rattle.fir_source_laws.specs.working.MemoryPorts.{HasDepth, IsArray, MayRead, Memory, Reads, ReadsNothing, address_of, enable, mode}
+use Rattle.fir_source_laws.specs.working.MemoryLeaves.{HasDepth, IsArray, Memory}
+use Rattle.fir_source_laws.specs.working.MemoryPorts.{MayRead, Reads, ReadsNothing, address_of, enable, mode}
 use Rattle.fir_source_laws.proofs.ArrayRounds.{words_found}
 use Rattle.fir_source_laws.proofs.DeclaredArrays.{array_path_is, depth_is}
 use Rattle.fir_source_laws.proofs.ReadRoles.{needs_of, reading_of}

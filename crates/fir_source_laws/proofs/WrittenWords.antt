@@ -7,7 +7,8 @@ use Rattle.fir_meaning.specs.SourceAllows.{word_after}
 use Rattle.fir_meaning.specs.SourceCircuits.{PlacedArray, array_path}
 use Rattle.fir_meaning.specs.SourceRoles.{NamedPort, PathWriting}
 use Rattle.fir_meaning.specs.SourceValues.{PathEnv, word_before}
-use Rattle.fir_source_laws.specs.working.MemoryPorts.{HasDepth, IsArray, Memory, NoneWrites, Writes, address_of, clock_on, mask_of, ports}
+use Rattle.fir_source_laws.specs.working.MemoryLeaves.{HasDepth, IsArray, Memory, ports}
+use Rattle.fir_source_laws.specs.working.MemoryPorts.{NoneWrites, Writes, address_of, clock_on, mask_of}
 use Rattle.fir_source_laws.specs.working.StateWords.{HasEdge, array_behind_tick}
 use Rattle.fir_source_laws.specs.working.WriteLaws.{MaskedKeeps, StaysUnwritten, StaysWithoutEdgeOrPastDepth, TakesTheLastWrite, TakesTheLaterWrite}
 use Rattle.fir_source_laws.proofs.ArrayRounds.{next_array}

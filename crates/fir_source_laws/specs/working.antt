@@ -5,6 +5,7 @@ pub mod StateWords
 pub mod DeclaredRegisters
 pub mod RegisterLaws
 -- Memories: what their ports do, what their words become, and what is read of them.
+pub mod MemoryLeaves
 pub mod MemoryPorts
 pub mod PortLaws
 pub mod WriteLaws

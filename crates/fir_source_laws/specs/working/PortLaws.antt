@@ -6,7 +6,7 @@ use Rattle.fir_ast.specs.Statements.{memory}
 use Rattle.fir_meaning.specs.LeafPaths.{LeafPath, named}
 use Rattle.fir_meaning.specs.SourceRoles.{NamedPort, SourceLeaf, sink, sources_in}
 use Rattle.fir_meaning.specs.Visibility.{Before}
-use Rattle.fir_source_laws.specs.working.MemoryPorts.{IsShown, Memory, ports}
+use Rattle.fir_source_laws.specs.working.MemoryLeaves.{IsShown, Memory, ports}
 
 abbrev pub OthersAreDriven : Type 0
 OthersAreDriven =

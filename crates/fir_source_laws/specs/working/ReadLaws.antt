@@ -10,7 +10,8 @@ use Rattle.fir_meaning.specs.SourceAllows.{Settled}
 use Rattle.fir_meaning.specs.SourceCircuits.{PlacedArray, PlacedLeaf, array_path, leaf_path}
 use Rattle.fir_meaning.specs.SourceRoles.{NamedPort}
 use Rattle.fir_meaning.specs.SourceValues.{PathEnv, word_before, word_of}
-use Rattle.fir_source_laws.specs.working.MemoryPorts.{HasDepth, HasLatency, IsArray, IsPipe, IsRead, Memory, Reads, ReadsNothing, address_of, clock_on}
+use Rattle.fir_source_laws.specs.working.MemoryLeaves.{HasDepth, HasLatency, IsArray, IsPipe, IsRead, Memory}
+use Rattle.fir_source_laws.specs.working.MemoryPorts.{Reads, ReadsNothing, address_of, clock_on}
 use Rattle.fir_source_laws.specs.working.StateWords.{HasEdge, array_behind_tick, word_behind_tick}
 
 -- new data is read under a write; else old data, or what the text leaves open

@@ -1,6 +1,6 @@
 -- What is kept from tick to tick (FIRRTL spec, "Registers", "Memories").
--- A word that is written is read until it is written again; a register holds its word until an edge or an asynchronous reset; what a pipe took is shown at the next
--- tick.
+-- A word that is written is read until it is written again; a register holds its word until an edge or an asynchronous reset; what a pipe took is shown at
+-- the next tick.
 use Rattle.std.specs.Prelude.{◌≡◌, ℕ, ◌<◌, List, [], ◌∷◌, ◌++◌, true, Option}
 use Rattle.fir_base.specs.Lists.{In}
 use Rattle.fir_base.specs.Ticks.{Tick}
@@ -12,7 +12,8 @@ use Rattle.fir_meaning.specs.SourceDesigns.{SourceDesign}
 use Rattle.fir_meaning.specs.SourceRoles.{NamedPort, SourceReset}
 use Rattle.fir_meaning.specs.SourceValues.{PathEnv, word_before, word_of}
 use Rattle.fir_meaning.specs.TypedScopes.{TypedScope}
-use Rattle.fir_source_laws.specs.working.MemoryPorts.{HasDepth, HasLatency, IsArray, IsPipe, IsRead, Memory, NoneWrites, Reads, Writes, address_of, clock_on, data_of, ports}
+use Rattle.fir_source_laws.specs.working.MemoryLeaves.{HasDepth, HasLatency, IsArray, IsPipe, IsRead, Memory, ports}
+use Rattle.fir_source_laws.specs.working.MemoryPorts.{NoneWrites, Reads, Writes, address_of, clock_on, data_of}
 use Rattle.fir_source_laws.specs.working.ReadLaws.{ReadsOld}
 use Rattle.fir_source_laws.specs.working.RegisterLaws.{IsClocked, IsRegister, IsReset}
 use Rattle.fir_source_laws.specs.working.StateWords.{HasEdge}

@@ -7,7 +7,8 @@ use Rattle.fir_meaning.specs.LeafPaths.{LeafPath}
 use Rattle.fir_meaning.specs.SourceCircuits.{PlacedArray, array_path}
 use Rattle.fir_meaning.specs.SourceRoles.{NamedPort}
 use Rattle.fir_meaning.specs.SourceValues.{PathEnv, word_before}
-use Rattle.fir_source_laws.specs.working.MemoryPorts.{HasDepth, IsArray, Memory, NoneWrites, Writes, address_of, clock_on, data_of, mask_of, ports}
+use Rattle.fir_source_laws.specs.working.MemoryLeaves.{HasDepth, IsArray, Memory, ports}
+use Rattle.fir_source_laws.specs.working.MemoryPorts.{NoneWrites, Writes, address_of, clock_on, data_of, mask_of}
 use Rattle.fir_source_laws.specs.working.StateWords.{HasEdge, array_behind_tick}
 
 module _ (m : Memory) (state edges : List ℕ) (env : PathEnv) where
