@@ -15,7 +15,7 @@ use Rattle.fir_meaning.specs.SourceRoles.{NamedPort, PathNeed, PathReading, Sour
 use Rattle.fir_source_laws.proofs.DeclaredLeaves.{declared}
 use Rattle.fir_meaning.specs.Visibility.{Before}
 use Rattle.fir_ast.specs.Statements.{memory}
-use Rattle.fir_source_laws.specs.working.PortLaws.{OthersAreDriven}
+use Rattle.fir_source_laws.specs.working.MemoryPortLaws.{OthersAreDriven}
 use Rattle.fir_source_laws.specs.working.MemoryLeaves.{HasLatency, IsRead, IsShown, Memory, ports}
 
 kind_found : (ps : List NamedPort) (port : NamedPort) → In ps port → Distinct (map (λ (o : NamedPort). o.name) ps) → kind_of ps port.name ≡ Some port.kind

@@ -7,7 +7,7 @@ pub mod RegisterLaws
 -- Memories: what their ports do, what their words become, and what is read of them.
 pub mod MemoryLeaves
 pub mod MemoryPorts
-pub mod PortLaws
+pub mod MemoryPortLaws
 pub mod WriteLaws
 pub mod ReadLaws
 -- What is kept over many ticks.

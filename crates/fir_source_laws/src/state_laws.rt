@@ -1,7 +1,7 @@
 //! What registers and memories hold and show, tick by tick.
 
 ghost use Rattle.fir_source_laws.specs.working.DeclaredRegisters.{AreDeclared};
-ghost use Rattle.fir_source_laws.specs.working.PortLaws.{OthersAreDriven};
+ghost use Rattle.fir_source_laws.specs.working.MemoryPortLaws.{OthersAreDriven};
 ghost use Rattle.fir_source_laws.specs.working.ReadLaws.{
   OfPipes,
   OfShown,
