@@ -121,3 +121,4 @@ pub mod SourceTests
 pub mod RowPaths
 pub mod PipeRows
 pub mod WriteRows
+pub mod StateStandsOnce

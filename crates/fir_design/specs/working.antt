@@ -9,3 +9,5 @@ pub mod SameRoles
 pub mod MeaningLaws
 pub mod SourceRuns
 pub mod CircuitMeanings
+-- Its state stands once.
+pub mod StateOnce

@@ -13,6 +13,6 @@ pub use design_laws::has_sound_designs;
 pub use meaning_laws::{
     circuits_mean_their_sources, leaf_circuits_allow_what_their_sources_allow,
     leaf_circuits_have_the_shape_of_their_sources, one_source_has_run,
-    sources_have_one_where_their_leaf_circuits_have,
+    sources_have_one_where_their_leaf_circuits_have, sources_stand_once,
 };
 pub use source_laws::{has_one_tree, views_clock_as_trees, views_have_roles, views_store_as_trees};

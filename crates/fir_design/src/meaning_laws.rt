@@ -3,6 +3,7 @@
 ghost use Rattle.fir_design.specs.working.CircuitMeanings.{CircuitsMeanTheirSources};
 ghost use Rattle.fir_design.specs.working.MeaningLaws.{SameAllows, SameShape};
 ghost use Rattle.fir_design.specs.working.SourceRuns.{OneHasRun, SameOne};
+ghost use Rattle.fir_design.specs.working.StateOnce.{SourcesStandOnce};
 
 use crate::design_laws::has_sound_designs;
 use crate::source_laws::has_one_tree;
@@ -17,6 +18,12 @@ pub fn leaf_circuits_have_the_shape_of_their_sources()
 /// spec, "Circuits", "Instances").
 pub fn leaf_circuits_allow_what_their_sources_allow()
     ensures { SameAllows }
+{}
+
+/// No path is that of two leaves or of two arrays of the source, nor of two words of its state (FIRRTL spec,
+/// "Namespaces", "Registers", "Memories").
+pub fn sources_stand_once()
+    ensures { SourcesStandOnce }
 {}
 
 /// At every state and tick exactly one choice of values is settled in the source where it is in its leaf

@@ -15,3 +15,17 @@ pub mod TreeModules
 pub mod PickedLeaves
 pub mod TreeParts
 pub mod MovedModules
+pub mod StatePaths
+pub mod Edges
+pub mod WordsBehind
+pub mod HeldWords
+pub mod ShownRegisters
+pub mod ArrayRounds
+pub mod DeclaredArrays
+pub mod PortWrites
+pub mod WrittenWords
+pub mod DeclaredLeaves
+pub mod ReadRoles
+pub mod ReadWords
+pub mod ReadValues
+pub mod KeptWords
