@@ -8,38 +8,42 @@ use Rattle.fir_pass.specs.Faults.{fault_of}
 use Rattle.fir_pass.specs.Groups.{Group, group_of, in_order, IsClear}
 use Rattle.fir_pass.specs.Law.{IsFirst}
 use Rattle.fir_meaning.specs.Components.{find_name}
-use Rattle.fir_meaning.specs.LoopGroup.{loop_group}
+use Rattle.fir_meaning.specs.SourceClocks.{clock_group}
+use Rattle.fir_meaning.specs.SourceInits.{init_group}
+use Rattle.fir_meaning.specs.SourceLoops.{loop_group}
+use Rattle.fir_meaning.specs.SourceMemoryClocks.{memory_clock_group}
+use Rattle.fir_meaning.specs.SourceUndrivenGroup.{undriven_group}
 use Rattle.fir_meaning.specs.NameGroups.{HasNames, absent_faults}
 use Rattle.fir_meaning.specs.TypeGroup.{type_faults}
 use Rattle.fir_meaning.specs.WidthGroups.{IsInferred}
 use Rattle.fir_meaning.specs.CostGroup.{cost_group}
-use Rattle.fir_meaning.specs.UndrivenGroup.{undriven_group}
 use Rattle.fir_meaning.specs.SourceMeaning.{circuit_meaning}
 use Rattle.fir_meaning.proofs.KeptTrees.{first_at, none_clear}
+use Rattle.fir_lack.specs.working.Lacks.{AreClocksClear}
 use Rattle.fir_outcome.specs.CircuitFaults.{IsClearUpTo, ShowsNone, IsFirstUpTo}
 
 nothing : IsClear (in_order [])
 nothing f there = absurd there
 
--- the groups behind that of E24: that of E28, and empty ones
-behind_undriven : (c : CircuitTree) (P : ℕ → Group → Type 0) → ((k : ℕ) → P k (in_order [])) → P 13 (loop_group c) → (k : ℕ) → 9 < k
-    → P k ((circuit_meaning c).group k)
+-- the groups behind that of E24: those of E25 to E28, and empty ones
+behind_undriven : (c : CircuitTree) (P : ℕ → Group → Type 0) → ((k : ℕ) → P k (in_order [])) → P 10 (clock_group c) → P 11 (memory_clock_group c)
+    → P 12 (init_group c) → P 13 (loop_group c) → (k : ℕ) → 9 < k → P k ((circuit_meaning c).group k)
 unfolding circuit_meaning
-behind_undriven c P none loops zero past = absurd (omega arith)
-behind_undriven c P none loops (suc zero) past = absurd (omega arith)
-behind_undriven c P none loops (suc (suc zero)) past = absurd (omega arith)
-behind_undriven c P none loops (suc (suc (suc zero))) past = absurd (omega arith)
-behind_undriven c P none loops (suc (suc (suc (suc zero)))) past = absurd (omega arith)
-behind_undriven c P none loops (suc (suc (suc (suc (suc zero))))) past = absurd (omega arith)
-behind_undriven c P none loops (suc (suc (suc (suc (suc (suc zero)))))) past = absurd (omega arith)
-behind_undriven c P none loops (suc (suc (suc (suc (suc (suc (suc zero))))))) past = absurd (omega arith)
-behind_undriven c P none loops (suc (suc (suc (suc (suc (suc (suc (suc zero)))))))) past = absurd (omega arith)
-behind_undriven c P none loops (suc (suc (suc (suc (suc (suc (suc (suc (suc zero))))))))) past = absurd (omega arith)
-behind_undriven c P none loops (suc (suc (suc (suc (suc (suc (suc (suc (suc (suc zero)))))))))) past = none 10
-behind_undriven c P none loops (suc (suc (suc (suc (suc (suc (suc (suc (suc (suc (suc zero))))))))))) past = none 11
-behind_undriven c P none loops (suc (suc (suc (suc (suc (suc (suc (suc (suc (suc (suc (suc zero)))))))))))) past = none 12
-behind_undriven c P none loops (suc (suc (suc (suc (suc (suc (suc (suc (suc (suc (suc (suc (suc zero))))))))))))) past = loops
-behind_undriven c P none loops (suc (suc (suc (suc (suc (suc (suc (suc (suc (suc (suc (suc (suc (suc k)))))))))))))) past = none (suc (suc (suc (suc (suc (suc (suc (suc (suc (suc (suc (suc (suc (suc k))))))))))))))
+behind_undriven c P none clocks memories inits loops zero past = absurd (omega arith)
+behind_undriven c P none clocks memories inits loops (suc zero) past = absurd (omega arith)
+behind_undriven c P none clocks memories inits loops (suc (suc zero)) past = absurd (omega arith)
+behind_undriven c P none clocks memories inits loops (suc (suc (suc zero))) past = absurd (omega arith)
+behind_undriven c P none clocks memories inits loops (suc (suc (suc (suc zero)))) past = absurd (omega arith)
+behind_undriven c P none clocks memories inits loops (suc (suc (suc (suc (suc zero))))) past = absurd (omega arith)
+behind_undriven c P none clocks memories inits loops (suc (suc (suc (suc (suc (suc zero)))))) past = absurd (omega arith)
+behind_undriven c P none clocks memories inits loops (suc (suc (suc (suc (suc (suc (suc zero))))))) past = absurd (omega arith)
+behind_undriven c P none clocks memories inits loops (suc (suc (suc (suc (suc (suc (suc (suc zero)))))))) past = absurd (omega arith)
+behind_undriven c P none clocks memories inits loops (suc (suc (suc (suc (suc (suc (suc (suc (suc zero))))))))) past = absurd (omega arith)
+behind_undriven c P none clocks memories inits loops (suc (suc (suc (suc (suc (suc (suc (suc (suc (suc zero)))))))))) past = clocks
+behind_undriven c P none clocks memories inits loops (suc (suc (suc (suc (suc (suc (suc (suc (suc (suc (suc zero))))))))))) past = memories
+behind_undriven c P none clocks memories inits loops (suc (suc (suc (suc (suc (suc (suc (suc (suc (suc (suc (suc zero)))))))))))) past = inits
+behind_undriven c P none clocks memories inits loops (suc (suc (suc (suc (suc (suc (suc (suc (suc (suc (suc (suc (suc zero))))))))))))) past = loops
+behind_undriven c P none clocks memories inits loops (suc (suc (suc (suc (suc (suc (suc (suc (suc (suc (suc (suc (suc (suc k)))))))))))))) past = none (suc (suc (suc (suc (suc (suc (suc (suc (suc (suc (suc (suc (suc (suc k))))))))))))))
 
 -- a circuit that has its main module has a module
 some_module : (ms : List ModuleTree) (n : PlacedName) → IsClear (in_order (absent_faults (find_name (map (λ m. m.named) ms) n.name) n)) → 0 < length ms
@@ -88,19 +92,22 @@ module _ (c : CircuitTree) where
   unfolding circuit_meaning
   has_module clear = some_module c.modules c.named (clear 2 (omega arith))
 
-  -- behind these only that of E28 can show a fault
-  pub clear_all : IsClearUpTo 9 c → IsClear (loop_group c) → ShowsNone c
-  clear_all clear loops k =
+  -- behind these those of clocks, of the clocks of memories, of asynchronous inits and of loops
+  pub clear_all : IsClearUpTo 9 c → AreClocksClear c → IsClear (loop_group c) → ShowsNone c
+  clear_all clear clocks loops k =
       ⊎_elim
-      (λ (past : 9 < k). behind_undriven c (λ j group. IsClear group) (λ j. nothing) loops k past)
+      (λ (past : 9 < k). behind_undriven c (λ j group. IsClear group) (λ j. nothing) clocks.0 clocks.1 clocks.2 loops k past)
       (λ (within : k ≤ 9). clear k within)
       (cases_lt 9 k)
 
-  pub first_loop : (f : FirFault) → group_of (fault_of f).code ≡ 13 → (loop_group c).shows (fault_of f) → IsFirst 10 13 (circuit_meaning c) (fault_of f)
+  pub first_loop : (f : FirFault) → group_of (fault_of f).code ≡ 13 → AreClocksClear c → (loop_group c).shows (fault_of f)
+      → IsFirst 10 13 (circuit_meaning c) (fault_of f)
   unfolding circuit_meaning
-  first_loop f e shows =
+  first_loop f e clocks shows =
       first_at 10 13 13 (circuit_meaning c) (fault_of f) e (omega arith) (omega arith) shows shows
-      (λ k low high. behind_undriven c (λ j group. j < 13 → IsClear group) (λ j below. nothing) (λ below. absurd (omega (arith, below))) k (omega (arith, low)) high)
+      (λ k low high.
+      behind_undriven c (λ j group. j < 13 → IsClear group) (λ j below. nothing) (λ below. clocks.0) (λ below. clocks.1) (λ below. clocks.2)
+      (λ below. absurd (omega (arith, below))) k (omega (arith, low)) high)
 
   -- the first of some groups behind E24 is the first of all that are behind it
   pub later_first : (f : FirFault) → IsFirst 10 12 (circuit_meaning c) (fault_of f) → IsFirst 10 13 (circuit_meaning c) (fault_of f)

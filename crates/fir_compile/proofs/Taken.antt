@@ -17,7 +17,7 @@ use Rattle.fir_loop.specs.working.IsLoop.{ShowsLoop}
 use Rattle.fir_inst.specs.working.FlattensTo.{FlattensTo}
 use Rattle.fir_lack.specs.declared.lack.Lack.{Lack}
 use Rattle.fir_lack.specs.Lacking.{lacking}
-use Rattle.fir_lack.specs.working.Lacks.{IsLack, lack_of}
+use Rattle.fir_lack.specs.working.Lacks.{AreClocksClear, IsLack, lack_of}
 use Rattle.fir_compile.specs.declared.compiled.Compiled.{Compiled}
 use Rattle.fir_outcome.specs.CircuitFaults.{IsClearUpTo, LacksNone}
 use Rattle.fir_compile.specs.working.Readings.{CompilesText, IsCompiled, IsUnsupported, OrdersNet}
@@ -59,9 +59,9 @@ module _ (bytes : List ℕ) (t : CircuitTree) (spelled : Spells bytes t) (clear 
     shows_later f first =
         inr (inr (inr (record { circuit = t; spelled = spelled; clear = clear; in_language = in_language; first = first })))
 
-    module _ (net : FlatNet) (flat : FlattensTo t net) where
+    module _ (clocks : AreClocksClear t) (net : FlatNet) (flat : FlattensTo t net) where
       shows_loop : (f : FirFault) → ShowsLoop net f → IsCompiled bytes (Err (Fault f))
-      shows_loop f shown = shows_later f (first_loop t f (ap (λ x. group_of (fault_of x).code) shown.is) (flat.loops f shown))
+      shows_loop f shown = shows_later f (first_loop t f (ap (λ x. group_of (fault_of x).code) shown.is) clocks (flat.loops f shown))
 
       -- the net has an order, or a closed walk
       pub compiles : (r : Result Compiled (Refused FirFault)) → OrdersNet net r → IsCompiled bytes r
@@ -69,7 +69,7 @@ module _ (bytes : List ℕ) (t : CircuitTree) (spelled : Spells bytes t) (clear 
           subst (CompilesText bytes) (sym ordered.0)
           (record {
             circuit = t;
-            taken = record { spelled = spelled; in_language = in_language; faultless = clear_all t clear (flat.no_loop ordered.1.no_loop) };
+            taken = record { spelled = spelled; in_language = in_language; faultless = clear_all t clear clocks (flat.no_loop ordered.1.no_loop) };
             flattened = flat;
             one = ordered.1.one;
           })

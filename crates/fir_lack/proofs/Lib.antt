@@ -11,3 +11,4 @@ pub mod PlainLeaves
 pub mod LoneCircuits
 pub mod FoundLacks
 pub mod PlainClocks
+pub mod ClearClocks

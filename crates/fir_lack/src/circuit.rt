@@ -2,7 +2,7 @@
 
 ghost use Rattle.std.specs.Prelude.{IfOk, map};
 ghost use Rattle.fir_ast.specs.working.Views.{circuit_of, module_of};
-ghost use Rattle.fir_lack.specs.working.Lacks.{IsLack, IsLoneWithout};
+ghost use Rattle.fir_lack.specs.working.Lacks.{IsClearWithout, IsLack, IsLoneWithout};
 ghost use Rattle.fir_lack.specs.working.Searched.{FindsInModule, FindsInModules};
 
 use crate::lack::{Lack, told};
@@ -14,6 +14,7 @@ use crate::walk::Walk;
 use fir_ast::Module;
 use fir_base::MemoryOut;
 use fir_leaf_circuit::LeafCircuit;
+use fir_source_faults::plain_circuits_show_none;
 use std::alloc::Global;
 
 /// The first form that it lacks, if it lacks one: in its first module, or a second module (FIRRTL spec, "Circuits",
@@ -21,8 +22,10 @@ use std::alloc::Global;
 pub fn lacking(alloc: Global, circuit: &LeafCircuit) -> Result<Option<Lack<'_>>, MemoryOut>
     ensures lack { IfOk result (IsLack (circuit_of circuit.now)) }
     ensures lone { IfOk result (λ lack. IsLoneWithout (circuit_of circuit.now) lack) }
+    ensures clocks { IfOk result (λ lack. IsClearWithout (circuit_of circuit.now) lack) }
 {
     without_lack_is_lone();
+    plain_circuits_show_none();
     let tree = circuit.fitted().typed().named().circuit();
     let Some(part) = circuit.modules().first() else {
         return Ok(None);

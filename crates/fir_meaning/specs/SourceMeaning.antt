@@ -7,25 +7,28 @@ use Rattle.fir_pass.specs.Meaning.{Meaning, ShapeNames, Counts}
 use Rattle.fir_meaning.specs.CostGroup.{cost_group}
 use Rattle.fir_meaning.specs.Elaborated.{IsSourceOf}
 use Rattle.fir_meaning.specs.LeafPaths.{path_text}
-use Rattle.fir_meaning.specs.LoopGroup.{loop_group}
 use Rattle.fir_meaning.specs.NameGroups.{name_group, main_group, hierarchy_group}
 use Rattle.fir_meaning.specs.ResetWalks.{reset_group}
 use Rattle.fir_meaning.specs.SourceAllows.{Allows}
+use Rattle.fir_meaning.specs.SourceClocks.{clock_group}
+use Rattle.fir_meaning.specs.SourceInits.{init_group}
+use Rattle.fir_meaning.specs.SourceLoops.{loop_group}
+use Rattle.fir_meaning.specs.SourceMemoryClocks.{memory_clock_group}
+use Rattle.fir_meaning.specs.SourceUndrivenGroup.{undriven_group}
 use Rattle.fir_meaning.specs.SourceCircuits.{all_arrays, all_leaves, clock_inputs, inputs, outputs, paths_of, source_shape, state_words}
 use Rattle.fir_meaning.specs.SourceDesigns.{SourceDesign}
 use Rattle.fir_meaning.specs.SourceOne.{One}
 use Rattle.fir_meaning.specs.SourceRoles.{SourceRole, register}
 use Rattle.fir_meaning.specs.TypeGroup.{type_group}
-use Rattle.fir_meaning.specs.UndrivenGroup.{undriven_group}
 use Rattle.fir_meaning.specs.WidthGroups.{over_group, legal_group}
 
--- in the order of the table of faults: none of the text; E08, E09; E10; E11; E12 to E17; E18; E19; E20 to E22; E23; E24; none of E25, E26 and E27; E28
+-- in the order of the table of faults: none of the text; E08, E09; E10; E11; E12 to E17; E18; E19; E20 to E22; E23; E24; E25; E26; E27; E28
 abbrev pub circuit_groups : CircuitTree → Groups
 circuit_groups c =
     then_group (in_order []) (then_group (name_group c) (then_group (main_group c) (then_group (hierarchy_group c)
     (then_group (type_group c) (then_group (reset_group c) (then_group (over_group c) (then_group (legal_group c)
     (then_group (cost_group c) (then_group (undriven_group c)
-    (then_group (in_order []) (then_group (in_order []) (then_group (in_order []) (then_group (loop_group c) no_groups)))))))))))))
+    (then_group (clock_group c) (then_group (memory_clock_group c) (then_group (init_group c) (then_group (loop_group c) no_groups)))))))))))))
 
 abbrev pub source_names : CircuitTree → SourceDesign → ShapeNames
 source_names c t = record {

@@ -1,7 +1,7 @@
 use Rattle.std.proofs.Common.{Some, None, subst}
 use Rattle.fir_ast.specs.working.Views.{circuit_of}
 use Rattle.fir_meaning.specs.Scenes.{HasScenes}
-use Rattle.fir_lack.specs.working.Lacks.{IsLack}
+use Rattle.fir_lack.specs.working.Lacks.{AreClocksClear, IsLack}
 use Rattle.fir_outcome.specs.Refusals.{RefusedFor}
 use Rattle.fir_compile.proofs.Taken.{lacks_form, shows_later, compiles}
 use Rattle.fir_compile.proofs.ClearGroups.{later_first}
@@ -21,7 +21,8 @@ pub returns-in-Ok-clause-compiled : goal.returns-in-Ok-clause-compiled
 returns-in-Ok-clause-compiled c =
     let scenes = subst (λ t. HasScenes (circuit_of t)) c.leafed.ensures.tree c.modules-modules.ensures.scenes in
     let without = subst (λ t. IsLack (circuit_of t) None) c.leafed-2.ensures.tree (rw c.in_default.is at c.in_ok-lack.ensures.lack) in
-    compiles c.args.bytes.now (circuit_of c.in_ok-nets.nets) c.in_ok-nets.ensures.0 c.in_ok-nets.ensures.1 scenes without c.in-Ok.net c.in-Ok.ensures.flat
+    let clocks = subst (λ t. AreClocksClear (circuit_of t)) c.leafed-2.ensures.tree (rw c.in_default.is at c.in_ok-lack.ensures.clocks) in
+    compiles c.args.bytes.now (circuit_of c.in_ok-nets.nets) c.in_ok-nets.ensures.0 c.in_ok-nets.ensures.1 scenes without clocks c.in-Ok.net c.in-Ok.ensures.flat
     c.in_order.result c.in_order.ensures
 
 pub returns-in-Err-Fault-clause-compiled : goal.returns-in-Err-Fault-clause-compiled

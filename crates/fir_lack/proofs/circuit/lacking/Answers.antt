@@ -8,6 +8,7 @@ use Rattle.fir_meaning.specs.working.WidthLaws.{FitsAll}
 use Rattle.fir_lack.specs.working.Lacks.{IsLack}
 use Rattle.fir_lack.specs.working.Marked.{MarksAll}
 use Rattle.fir_lack.specs.working.Searched.{FindsInModules}
+use Rattle.fir_lack.proofs.ClearClocks.{clear_without}
 use Rattle.fir_lack.proofs.FoundLacks.{finds_lack, first_there, lone_without}
 use Rattle.fir_lack.proofs.circuit.lacking.Goals as goal
 
@@ -38,4 +39,5 @@ returns c =
     finds_lack (circuit_of tree) names types c.modules.result.now c.in-Some.part.now c.deref-2.result.now c.lacking_modules.result c.modules.ensures.leafed
     (sym c.in-Some.ensures.value) marked
     (subst (λ ms. FindsInModules ms c.deref-2.result.now c.lacking_modules.result) modules c.lacking_modules.ensures) in
-    record { lack = found; lone = lone_without c.without_lack_is_lone.ensures (circuit_of tree) names types fits c.modules.ensures.scenes _ found }
+    let lone = lone_without c.without_lack_is_lone.ensures (circuit_of tree) names types fits c.modules.ensures.scenes _ found in
+    record { lack = found; lone = lone; clocks = clear_without c.plain_circuits_show_none.ensures (circuit_of tree) names types _ found lone }
