@@ -6,7 +6,8 @@ pub mod AmongPaths
 pub mod PlainScenes
 pub mod NumberedRoles
 pub mod PlainLeaves
-pub mod PlainStatements
+pub mod PlainRegisters
+pub mod PlainVisits
 pub mod PlainBlocks
 pub mod LoneSources
 pub mod PlainCircuits
