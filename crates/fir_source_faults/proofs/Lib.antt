@@ -16,7 +16,8 @@ pub mod ModuleDrives
 pub mod TakingWords
 pub mod NumberedRoles
 pub mod PlainLeaves
-pub mod PlainStatements
+pub mod PlainRegisters
+pub mod PlainVisits
 pub mod PlainBlocks
 pub mod LoneSources
 pub mod PlainCircuits

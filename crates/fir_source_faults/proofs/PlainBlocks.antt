@@ -1,5 +1,5 @@
 -- A module is plain where its statements and its numbered leaves are.
-use Rattle.std.proofs.Common.{◌≡◌, List, [], ◌++◌, ◌⊎◌, Option, ap, subst, ◌∙◌, inl, inr, false, Some}
+use Rattle.std.proofs.Common.{◌≡◌, [], ◌++◌, ◌⊎◌, Option, ap, subst, ◌∙◌, inl, inr, false, Some}
 use Rattle.fir_base.specs.Lists.{In}
 use Rattle.fir_base.proofs.Members.{in_either, in_left, in_map_from, in_right}
 use Rattle.fir_ast.specs.Expressions.{Expression}
@@ -8,15 +8,16 @@ use Rattle.fir_meaning.specs.LeafPaths.{LeafPath}
 use Rattle.fir_meaning.specs.LeafedModules.{Scene, behind_all_ports, leafed_module}
 use Rattle.fir_meaning.specs.SourceCircuits.{PlacedLeaf, all_leaves, inner_leaves, placed, port_leaves, role_within, within}
 use Rattle.fir_meaning.specs.SourceClocks.{picking_places}
-use Rattle.fir_meaning.specs.SourceRoles.{SourceLeaf, SourceReset, SourceRole, register, source, source_leaves, sources_in_block}
+use Rattle.fir_meaning.specs.SourceRoles.{SourceLeaf, SourceReset, SourceRole, register, source, source_leaves}
 use Rattle.fir_meaning.specs.TypedScopes.{TypedScope}
 use Rattle.fir_meaning.specs.Visibility.{at_head}
 use Rattle.fir_design.specs.working.SameRoles.{SameLeaves}
 use Rattle.fir_design.proofs.ViewRoles.{views_same}
 use Rattle.fir_source_faults.specs.working.PlainBlocks.{ArePlain, ArePlainLeaves, PlainModulesArePlain}
 use Rattle.fir_source_faults.specs.working.PlainScenes.{IsPlainScene, alone}
-use Rattle.fir_source_faults.proofs.PlainLeaves.{clock_source, inner_no_clock, reset_waits}
-use Rattle.fir_source_faults.proofs.PlainStatements.{block_named, block_no_memory, no_instance_in, port_no_register}
+use Rattle.fir_source_faults.proofs.PlainLeaves.{clock_source, inner, inner_no_clock, reset_waits}
+use Rattle.fir_source_faults.proofs.PlainRegisters.{block_named, port_no_register}
+use Rattle.fir_source_faults.proofs.PlainVisits.{block_no_memory, no_instance_in}
 
 -- a register is one within its module too
 register_within : (r : SourceRole) (scope : TypedScope) (clock : Expression) (reset : Option SourceReset) (q : LeafPath)
@@ -25,18 +26,15 @@ register_within source scope clock reset q e = absurd (cc)
 register_within r scope clock reset q e = e
 
 module _ (s : Scene) where
-  abbrev inner : List SourceLeaf
-  inner = sources_in_block s (behind_all_ports s.own.inside) s.own.inside.body
-
   record IsInner (p : PlacedLeaf) : Type 0 where
     leaf : SourceLeaf
-    among : In inner leaf
+    among : In (inner s) leaf
     is : within leaf ≡ p.leaf
 
   inner_leaf : (p : PlacedLeaf) → In (placed [] (inner_leaves s)) p → IsInner p
   inner_leaf p i =
       let one = in_map_from (λ (l : SourceLeaf). record { at = []; leaf = l }) (inner_leaves s) p i in
-      let two = in_map_from within inner one.0 one.1 in
+      let two = in_map_from within (inner s) one.0 one.1 in
       record { leaf = two.0; among = two.1; is = two.2 ∙ ap (λ (x : PlacedLeaf). x.leaf) one.2 }
 
   port_leaf : (p : PlacedLeaf) → In (placed [] (port_leaves s)) p → In (port_leaves s) p.leaf
@@ -55,7 +53,7 @@ module _ (s : Scene) where
   module _ (same : SameLeaves (leafed_module s).leaves (leafed_module s).arrays (leafed_module s).leaves (source_leaves s))
       (plain : ArePlain s.own.inside.body) (leaves : ArePlainLeaves (leafed_module s)) where
     clocks_by : (p : PlacedLeaf) → p.leaf.holds ≡ a_clock → In (port_leaves s) p.leaf ⊎ IsInner p → p.leaf.role ≡ source
-    clocks_by p e (inl i) = clock_source s same leaves p.leaf (in_left (port_leaves s) inner p.leaf i) e
+    clocks_by p e (inl i) = clock_source s same leaves p.leaf (in_left (port_leaves s) (inner s) p.leaf i) e
     clocks_by p e (inr i) = absurd (inner_no_clock s same leaves i.leaf i.among (ap (λ (l : SourceLeaf). l.holds) i.is ∙ e))
 
     module _ (p : PlacedLeaf) (scope : TypedScope) (clock : Expression) (q : LeafPath) where
@@ -71,9 +69,9 @@ module _ (s : Scene) where
 
       resets_by : (reset : SourceReset) → p.leaf.role ≡ register scope clock (Some reset) q → In (port_leaves s) p.leaf ⊎ IsInner p
           → reset.is_async ≡ false
-      resets_by reset e (inl i) = reset_waits s same leaves scope clock reset q p.leaf (in_left (port_leaves s) inner p.leaf i) e
+      resets_by reset e (inl i) = reset_waits s same leaves scope clock reset q p.leaf (in_left (port_leaves s) (inner s) p.leaf i) e
       resets_by reset e (inr i) =
-          reset_waits s same leaves scope clock reset q i.leaf (in_right (port_leaves s) inner i.leaf i.among) (register_inside (Some reset) i e)
+          reset_waits s same leaves scope clock reset q i.leaf (in_right (port_leaves s) (inner s) i.leaf i.among) (register_inside (Some reset) i e)
 
     plain_scene : IsPlainScene s
     plain_scene = record {

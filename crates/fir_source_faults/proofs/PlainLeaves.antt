@@ -1,4 +1,5 @@
--- In a module whose numbered leaves are plain, each clock leaf is an input and no reset acts at once: the leaves of its source have the roles of those of its view.
+-- In a module whose numbered leaves are plain, each clock leaf is an input and no reset acts at once.
+-- The leaves of its source have the roles of those of its view.
 use Rattle.std.proofs.Common.{◌≡◌, ℕ, ◌+◌, ◌<◌, List, length, slice_get, false, Some, None, refl, sym, subst, ◌∙◌, arith}
 use Rattle.fir_base.specs.Lists.{In}
 use Rattle.fir_base.proofs.Elements.{number_of}
@@ -25,11 +26,12 @@ module _ (leaves : List LeafDeclared) (arrays : List LeafArray) where
   only_source : (r : Role) (t : SourceRole) → r ≡ over.source → SameRole leaves arrays r t → t ≡ source
   only_source r t e h = source_alone t (subst (λ (x : Role). SameRole leaves arrays x t) e h)
 
+-- the leaves of a module that are no ports
+abbrev pub inner : Scene → List SourceLeaf
+inner s = sources_in_block s (behind_all_ports s.own.inside) s.own.inside.body
+
 module _ (s : Scene) (same : SameLeaves (leafed_module s).leaves (leafed_module s).arrays (leafed_module s).leaves (source_leaves s))
     (plain : ArePlainLeaves (leafed_module s)) where
-  abbrev pub inner : List SourceLeaf
-  inner = sources_in_block s (behind_all_ports s.own.inside) s.own.inside.body
-
   abbrev AtNumber : ℕ → SourceLeaf → Type 0
   AtNumber k t = HasSame (leafed_module s).leaves (leafed_module s).arrays (leafed_module s).leaves k t
 
@@ -44,11 +46,11 @@ module _ (s : Scene) (same : SameLeaves (leafed_module s).leaves (leafed_module 
       (plain.clocks n.0 there.below (there.holds ∙ e)) there.role
 
   -- what is no port holds no clock
-  pub inner_no_clock : (t : SourceLeaf) → In inner t → t.holds ≡ a_clock → ⊥
+  pub inner_no_clock : (t : SourceLeaf) → In (inner s) t → t.holds ≡ a_clock → ⊥
   inner_no_clock t i e =
-      let n = number_of inner t i in
+      let n = number_of (inner s) t i in
       let k = length (port_leaves s) + n.0 in
-      let there = at_number k t (get_right (port_leaves s) inner (length (port_leaves s)) n.0 refl ∙ n.1) in
+      let there = at_number k t (get_right (port_leaves s) (inner s) (length (port_leaves s)) n.0 refl ∙ n.1) in
       let long = ports_beside s s.own.inside.ports at_head in
       plain.inner k (omega (arith, long)) there.below (plain.clocks k there.below (there.holds ∙ e))
 
