@@ -38,7 +38,7 @@ use Rattle.fir_whens.specs.declared.module_net.ModuleNet.{ModuleNet}
 use Rattle.fir_whens.specs.declared.net_role.NetRole.{NetRole}
 use Rattle.fir_whens.proofs.CoveredViews.{as_many, same_leaf}
 use Rattle.fir_inst.specs.declared.kept_nodes.KeptNodes.{KeptNodes}
-use Rattle.fir_inst.specs.TakingRegisters.{takes_by}
+use Rattle.fir_source_faults.specs.working.NumberedTaking.{takes_by}
 use Rattle.fir_inst.specs.working.FlatModules.{HasWidth, IsFlatLeaf, IsFlatModule, IsFlattened, has_next}
 use Rattle.fir_inst.specs.working.FlatRoles.{choices_behind, flat_leaves_of, flat_role_of}
 use Rattle.fir_inst.specs.working.KeptNodes.{IsHeld, Keeps, LeavesHold, ReadWhole}

@@ -1,5 +1,6 @@
 -- A circuit of one module means what the flat net of that module means, and closed walks stand in both alike.
-use Rattle.std.proofs.Common.{◌≡◌, ℕ, List, refl}
+use Rattle.std.proofs.Common.{◌≡◌, ℕ, List, refl, ◌∙◌}
+use Rattle.fir_base.proofs.Elements.{get_in}
 use Rattle.fir_ast.specs.Circuits.{CircuitTree}
 use Rattle.fir_pass.specs.Groups.{IsClear}
 use Rattle.fir_meaning.specs.Elaborated.{HasMain, IsLeafDesignOf, IsSourceOf, views}
@@ -8,7 +9,9 @@ use Rattle.fir_meaning.specs.LeafCircuits.{LeafCircuit}
 use Rattle.fir_meaning.specs.LeafModules.{leaf_at}
 use Rattle.fir_meaning.specs.LeafedModules.{Scene, leafed_module}
 use Rattle.fir_meaning.specs.LoopGroup.{loop_group}
+use Rattle.fir_meaning.specs.SizedDeclarations.{numbered_modules}
 use Rattle.fir_design.specs.working.SourceLaws.{HasOneTree}
+use Rattle.fir_source_faults.specs.working.NumberedTaking.{SameRegistersTakeValues}
 use Rattle.fir_net.specs.declared.net.FlatNet.{FlatNet}
 use Rattle.fir_net.specs.working.IsNet.{IsNet}
 use Rattle.fir_net.specs.working.IsWritable.{IsWritable}
@@ -22,8 +25,8 @@ use Rattle.fir_inst.proofs.LoneRoles.{shaped_writable}
 use Rattle.fir_inst.proofs.LoneSources.{has_scene, is_first}
 use Rattle.fir_inst.proofs.TakenRegisters.{clocked, taken_are}
 
-module _ (laws : LawsBelow) (trees : HasOneTree) (same_loops : ShowsTheSameLoops) (hidden : HidesNoLoop) (c : CircuitTree) (order : List ℕ) (net : FlatNet)
-    (given : IsGiven c order net) where
+module _ (laws : LawsBelow) (trees : HasOneTree) (taking : SameRegistersTakeValues) (same_loops : ShowsTheSameLoops) (hidden : HidesNoLoop) (c : CircuitTree)
+    (order : List ℕ) (net : FlatNet) (given : IsGiven c order net) where
   -- the net is whole
   whole_by : (scenes : List Scene) (main : Scene) → HasMain c scenes main → IsNet net
   whole_by scenes main has = (given.of.flat main (is_first c scenes main given.lone.one_module has).scene).whole
@@ -57,7 +60,9 @@ module _ (laws : LawsBelow) (trees : HasOneTree) (same_loops : ShowsTheSameLoops
         source = tree.0;
         is_source = source;
         each = means laws c order net given;
-        taken = λ s scene. taken_are (leafed_module s) net (given.lone.each s scene) (given.of.flat s scene);
+        taken = λ s scene.
+            taken_are (leafed_module s) net (given.lone.each s scene) (given.of.flat s scene)
+            ∙ taking c s given.names given.types (get_in (numbered_modules c) 0 s.own scene.own);
         clocked = clocked (leafed_module s.main) net (given.lone.each s.main h.first.scene) (given.of.flat s.main h.first.scene);
         loops = λ f shown. record {
           design = h.design;
@@ -69,7 +74,7 @@ module _ (laws : LawsBelow) (trees : HasOneTree) (same_loops : ShowsTheSameLoops
         no_loop = no_loop;
       }
 
-pub lone_modules : LawsBelow → HasOneTree → ShowsTheSameLoops → HidesNoLoop → LoneModulesFlatten
-lone_modules laws trees same_loops hidden c order net names types in_order scenes lone of named =
-    flattens laws trees same_loops hidden c order net
+pub lone_modules : LawsBelow → HasOneTree → SameRegistersTakeValues → ShowsTheSameLoops → HidesNoLoop → LoneModulesFlatten
+lone_modules laws trees taking same_loops hidden c order net names types in_order scenes lone of named =
+    flattens laws trees taking same_loops hidden c order net
     (record { names = names; types = types; in_order = in_order; scenes = scenes; lone = lone; of = of }) named

@@ -20,7 +20,7 @@ use Rattle.fir_leaf_types.specs.working.TypedTerms.{IsNarrow}
 use Rattle.fir_whens.specs.declared.net_role.NetReset.{NetReset}
 use Rattle.fir_whens.specs.declared.net_role.NetRole.{NetRole}
 use Rattle.fir_whens.specs.declared.net_role.NetRole.TheVariants as code
-use Rattle.fir_inst.specs.TakingRegisters.{has_reset, takes_by}
+use Rattle.fir_source_faults.specs.working.NumberedTaking.{has_reset, takes_by}
 use Rattle.fir_inst.specs.working.FlatModules.{HasWidth, has_next, has_read}
 use Rattle.fir_inst.specs.working.FlatRoles.{driven_next, driven_role, flat_role_of, next_read, width_of}
 use Rattle.fir_inst.specs.working.KeptNodes.{IsHeld}

@@ -11,7 +11,7 @@ use Rattle.fir_net.proofs.LeafEquations.{driven_at}
 use Rattle.fir_net.proofs.NumberedLeaves as numbered
 use Rattle.fir_net.proofs.Places.{map_at}
 use Rattle.fir_flat.specs.working.FlatCircuits.{IsDrivenBy}
-use Rattle.fir_inst.specs.TakingRegisters.{takes, taking_words}
+use Rattle.fir_source_faults.specs.working.NumberedTaking.{takes, taking_words}
 use Rattle.fir_inst.specs.working.FlatModules.{IsFlatModule}
 use Rattle.fir_inst.specs.working.LoneCircuits.{IsLoneModule}
 use Rattle.fir_inst.specs.working.TakenRegisters.{IsClocked, takes_in, taken_words}

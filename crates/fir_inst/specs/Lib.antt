@@ -1,3 +1,2 @@
 pub mod SourceRows
-pub mod TakingRegisters
 pub mod working

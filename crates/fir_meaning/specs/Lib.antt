@@ -91,6 +91,7 @@ pub mod Visits
 pub mod SourceReads
 pub mod SourceDrives
 pub mod SourceChoices
+pub mod TakingRegisters
 pub mod SourceUndriven
 pub mod SourceUndrivenGroup
 pub mod Elaborated

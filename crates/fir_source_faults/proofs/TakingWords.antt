@@ -13,11 +13,15 @@ use Rattle.fir_meaning.specs.UndrivenChoices.{drives_any}
 use Rattle.fir_design.specs.working.SameRoles.{MaySameReset, SameLeaves, SameRole}
 use Rattle.fir_design.proofs.FineScenes.{IsFineScene, fine_scene}
 use Rattle.fir_design.proofs.ViewRoles.{views_same}
-use Rattle.fir_source_faults.specs.TakingRegisters as by_path
+use Rattle.fir_meaning.specs.TakingRegisters as by_path
 use Rattle.fir_source_faults.specs.working.NumberedTaking as numbered
 use Rattle.fir_source_faults.specs.working.NumberedTaking.{SameRegistersTakeValues}
 use Rattle.fir_source_faults.specs.working.ReadsByPath.{ModulesReadByPath, ReadsByPath, path_in, scope_of_module}
 use Rattle.fir_source_faults.proofs.BlockPieces.{block_piece}
+
+-- a word of the state
+abbrev is_word : LeafDeclared → Bool
+is_word l = is_state l.role && has_bits l.holds
 
 module _ (leaves : List LeafDeclared) (arrays : List LeafArray) where
   reset_same : (r : Option LeafReset) (t : Option SourceReset) (q : LeafPath) → MaySameReset leaves r t q → numbered.has_reset r ≡ by_path.has_reset t
@@ -58,22 +62,22 @@ module _ (s : Scene) (fine : IsFineScene s) (reading : ReadsByPath s) where
   -- of all from a number on
   words_from : (k : ℕ) (ls : List LeafDeclared) (ts : List SourceLeaf) → ((j : ℕ) → slice_get (module_leaves s) (k + j) ≡ slice_get ls j)
       → SameLeaves (module_leaves s) (leafed_module s).arrays ls ts
-      → map (numbered.takes (leafed_module s)) (numbers_where numbered.is_word k ls) ≡ map (by_path.takes s) (filter by_path.is_word ts)
+      → map (numbered.takes (leafed_module s)) (numbers_where is_word k ls) ≡ map (by_path.takes s) (filter by_path.is_word ts)
   words_from k [] [] there same = refl
   words_from k [] (t ∷ ts) there same = absurd same
   words_from k (l ∷ ls) [] there same = absurd same
   words_from k (l ∷ ls) (t ∷ ts) there same =
       let none : k + 0 ≡ k = omega arith in
       let at : slice_get (module_leaves s) k ≡ Some l = ap (slice_get (module_leaves s)) (sym none) ∙ there 0 in
-      let word : numbered.is_word l ≡ by_path.is_word t =
+      let word : is_word l ≡ by_path.is_word t =
       ap₂ (λ a b. a && b) (role_state (module_leaves s) (leafed_module s).arrays l.role t.role same.0.2) (ap has_bits same.0.1) in
-      by (numbered.is_word l) (by_path.is_word t) word (one_takes k l t at same.0.0 same.0.2)
+      by (is_word l) (by_path.is_word t) word (one_takes k l t at same.0.0 same.0.2)
       (words_from (suc k) ls ts
       (λ j. let next : suc k + j ≡ k + suc j = omega arith in ap (slice_get (module_leaves s)) next ∙ there (suc j)) same.1)
     where
       by : (a b : Bool) → a ≡ b → numbered.takes (leafed_module s) k ≡ by_path.takes s t
-          → map (numbered.takes (leafed_module s)) (numbers_where numbered.is_word (suc k) ls) ≡ map (by_path.takes s) (filter by_path.is_word ts)
-          → map (numbered.takes (leafed_module s)) (if a then k ∷ numbers_where numbered.is_word (suc k) ls else numbers_where numbered.is_word (suc k) ls)
+          → map (numbered.takes (leafed_module s)) (numbers_where is_word (suc k) ls) ≡ map (by_path.takes s) (filter by_path.is_word ts)
+          → map (numbered.takes (leafed_module s)) (if a then k ∷ numbers_where is_word (suc k) ls else numbers_where is_word (suc k) ls)
           ≡ map (by_path.takes s) (if b then t ∷ filter by_path.is_word ts else filter by_path.is_word ts)
       by true true e here rest = ap₂ (λ (z : Bool) (zs : List Bool). z ∷ zs) here rest
       by false false e here rest = rest

@@ -1,2 +1,1 @@
-pub mod TakingRegisters
 pub mod working

@@ -19,7 +19,7 @@ use Rattle.fir_flat.specs.working.FlatCircuits.{IsRoleOf}
 use Rattle.fir_flat.specs.working.WholeRoles.{IsModuleWithin}
 use Rattle.fir_whens.specs.declared.module_net.ModuleNet.{ModuleNet}
 use Rattle.fir_whens.specs.working.ModuleNets.{IsNetOf}
-use Rattle.fir_inst.specs.TakingRegisters.{takes}
+use Rattle.fir_source_faults.specs.working.NumberedTaking.{takes}
 use Rattle.fir_inst.specs.working.LoneCircuits.{IsLoneModule}
 
 -- a clock is one bit wide

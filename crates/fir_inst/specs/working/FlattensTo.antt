@@ -8,7 +8,7 @@ use Rattle.fir_ast.specs.Circuits.{CircuitTree}
 use Rattle.fir_pass.specs.Faults.{fault_of}
 use Rattle.fir_pass.specs.Groups.{IsClear}
 use Rattle.fir_meaning.specs.Elaborated.{IsSourceOf}
-use Rattle.fir_meaning.specs.LeafedModules.{Scene, leafed_module}
+use Rattle.fir_meaning.specs.LeafedModules.{Scene}
 use Rattle.fir_meaning.specs.LoopGroup.{loop_group}
 use Rattle.fir_meaning.specs.Scenes.{IsSceneOf}
 use Rattle.fir_meaning.specs.SourceAllows.{Allows}
@@ -16,6 +16,7 @@ use Rattle.fir_meaning.specs.SourceCircuits.{is_sink, ports_where, source_shape,
 use Rattle.fir_meaning.specs.SourceDesigns.{SourceDesign}
 use Rattle.fir_meaning.specs.SourceOne.{One}
 use Rattle.fir_meaning.specs.StateWalks.{has_bits}
+use Rattle.fir_meaning.specs.TakingRegisters.{taking_words}
 use Rattle.fir_net.specs.declared.net.FlatNet.{FlatNet}
 use Rattle.fir_net.specs.working.Rows.{net_arrays, net_rows, net_words}
 use Rattle.fir_net.specs.working.Allows.{Allows as NetAllows}
@@ -26,7 +27,6 @@ use Rattle.fir_net.specs.working.Settled.{outputs as net_outputs, shape as net_s
 use Rattle.fir_net.specs.working.Values.{leaf_width}
 use Rattle.fir_loop.specs.working.IsLoop.{IsLoop, ShowsLoop}
 use Rattle.fir_inst.specs.SourceRows.{source_array_rows, source_rows, source_words}
-use Rattle.fir_inst.specs.TakingRegisters.{taking_words}
 use Rattle.fir_inst.specs.working.TakenRegisters.{IsClocked, taken_words}
 
 -- the widths of the outputs, in their order
@@ -51,7 +51,7 @@ pub record FlattensTo (c : CircuitTree) (net : FlatNet) : Type 0 where
   pub source : SourceDesign
   pub is_source : IsSourceOf c source
   pub each : (t : SourceDesign) → IsSourceOf c t → MeansSource t net
-  pub taken : (s : Scene) → IsSceneOf c 0 s → taken_words net ≡ taking_words (leafed_module s)
+  pub taken : (s : Scene) → IsSceneOf c 0 s → taken_words net ≡ taking_words s
   pub clocked : IsClocked net
   pub loops : (f : FirFault) → ShowsLoop net f → (loop_group c).shows (fault_of f)
   pub no_loop : ((walk : List ℕ) → IsLoop net walk → ⊥) → IsClear (loop_group c)

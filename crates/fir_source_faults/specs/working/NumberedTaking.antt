@@ -10,7 +10,7 @@ use Rattle.fir_meaning.specs.SizedDeclarations.{numbered_modules}
 use Rattle.fir_meaning.specs.StateWalks.{has_bits, is_state, numbers_where}
 use Rattle.fir_meaning.specs.TypeGroup.{type_faults}
 use Rattle.fir_meaning.specs.UndrivenChoices.{drives_any}
-use Rattle.fir_source_faults.specs.TakingRegisters as tree
+use Rattle.fir_meaning.specs.TakingRegisters as tree
 
 abbrev pub has_reset : Option LeafReset → Bool
 has_reset None = false
@@ -24,12 +24,9 @@ takes_by is_driven _ = false
 abbrev pub takes : LeafModule → ℕ → Bool
 takes m x = takes_by (drives_any x m.body) (role_at m x)
 
-abbrev pub is_word : LeafDeclared → Bool
-is_word l = is_state l.role && has_bits l.holds
-
 -- the words of its state, in their order
 abbrev pub taking_words : LeafModule → List Bool
-taking_words m = map (takes m) (numbers_where is_word 0 m.leaves)
+taking_words m = map (takes m) (numbers_where (λ (l : LeafDeclared). is_state l.role && has_bits l.holds) 0 m.leaves)
 
 -- so it is in each module of a circuit that shows no fault of names or types
 abbrev pub SameRegistersTakeValues : Type 0
