@@ -122,3 +122,4 @@ pub mod RowPaths
 pub mod PipeRows
 pub mod WriteRows
 pub mod StateStandsOnce
+pub mod CountRows
