@@ -26,7 +26,7 @@ pipe_disabled_runs : Runs text.pipe_disabled (0 ∷ 4 ∷ 5 ∷ 6 ∷ []) disabl
     ∷ result (0 ∷ []) (6 ∷ 4 ∷ 5 ∷ 6 ∷ []) ∷ result (6 ∷ []) (6 ∷ 4 ∷ 5 ∷ 6 ∷ []) ∷ result (6 ∷ []) (0 ∷ 4 ∷ 5 ∷ 6 ∷ []) ∷ [])
 unfolding least_width addresses
 pipe_disabled_runs =
-    run_by text.pipe_disabled refl refl ((own "clock", 0) ∷ (port "r" "clk", 0) ∷ []) (0 ∷ 4 ∷ 5 ∷ 6 ∷ []) disabled_ticks
+    run_by text.pipe_disabled refl ((own "clock", 0) ∷ (port "r" "clk", 0) ∷ []) (0 ∷ 4 ∷ 5 ∷ 6 ∷ []) disabled_ticks
     (disabled_numbers 1 1 0 ∷ disabled_numbers 1 0 5 ∷ disabled_numbers 2 1 0 ∷ disabled_numbers 2 1 0 ∷ disabled_numbers 2 0 6 ∷ disabled_numbers 3 1 6
     ∷ []) refl
 
@@ -52,7 +52,7 @@ pipe_while_writing_runs : Runs text.pipe_while_writing (7 ∷ 4 ∷ 5 ∷ 6 ∷ 
     ∷ result (0 ∷ []) (0 ∷ 4 ∷ 9 ∷ 3 ∷ []) ∷ result (0 ∷ []) (0 ∷ 4 ∷ 9 ∷ 3 ∷ []) ∷ [])
 unfolding least_width addresses
 pipe_while_writing_runs =
-    run_by text.pipe_while_writing refl refl ((own "clock", 0) ∷ (port "x" "clk", 0) ∷ []) (7 ∷ 4 ∷ 5 ∷ 6 ∷ []) written_ticks
+    run_by text.pipe_while_writing refl ((own "clock", 0) ∷ (port "x" "clk", 0) ∷ []) (7 ∷ 4 ∷ 5 ∷ 6 ∷ []) written_ticks
     (written_numbers 1 1 1 9 1 7 ∷ written_numbers 1 1 0 3 0 0 ∷ written_numbers 2 1 1 3 1 9 ∷ written_numbers 2 1 1 3 1 9 ∷ written_numbers 2 1 0 3 1 0
     ∷ written_numbers 0 1 1 8 0 3 ∷ written_numbers 0 0 1 8 1 0 ∷ written_numbers 0 0 0 0 0 0 ∷ []) refl
 
@@ -70,7 +70,7 @@ undefined_is_old_runs : Runs text.undefined_is_old (0 ∷ 4 ∷ 5 ∷ []) undefi
     (result (0 ∷ []) (5 ∷ 4 ∷ 9 ∷ []) ∷ result (5 ∷ []) (9 ∷ 4 ∷ 3 ∷ []) ∷ result (9 ∷ []) (9 ∷ 4 ∷ 3 ∷ []) ∷ [])
 unfolding least_width addresses
 undefined_is_old_runs =
-    run_by text.undefined_is_old refl refl ((own "clock", 0) ∷ (port "r" "clk", 0) ∷ (port "w" "clk", 0) ∷ []) (0 ∷ 4 ∷ 5 ∷ []) undefined_ticks
+    run_by text.undefined_is_old refl ((own "clock", 0) ∷ (port "r" "clk", 0) ∷ (port "w" "clk", 0) ∷ []) (0 ∷ 4 ∷ 5 ∷ []) undefined_ticks
     (undefined_numbers 1 9 0 ∷ undefined_numbers 1 3 5 ∷ undefined_numbers 0 0 9 ∷ []) refl
 
 -- an instance b whose output is not its input, and an instance x with a memory of two words at the address that b gives; what is read goes back into b. The
@@ -88,5 +88,5 @@ pipe_in_a_ring_runs : Runs text.pipe_in_a_ring (0 ∷ 0 ∷ 1 ∷ []) ring_ticks
     (result (0 ∷ []) (1 ∷ 0 ∷ 1 ∷ []) ∷ result (1 ∷ []) (0 ∷ 0 ∷ 1 ∷ []) ∷ result (0 ∷ []) (0 ∷ 0 ∷ 1 ∷ []) ∷ [])
 unfolding least_width addresses
 pipe_in_a_ring_runs =
-    run_by text.pipe_in_a_ring refl refl ((own "clock", 0) ∷ (field (own "x") "clock", 0) ∷ (own "x" ++ port "r" "clk", 0) ∷ []) (0 ∷ 0 ∷ 1 ∷ []) ring_ticks
+    run_by text.pipe_in_a_ring refl ((own "clock", 0) ∷ (field (own "x") "clock", 0) ∷ (own "x" ++ port "r" "clk", 0) ∷ []) (0 ∷ 0 ∷ 1 ∷ []) ring_ticks
     (ring_numbers 0 1 ∷ ring_numbers 1 0 ∷ ring_numbers 0 1 ∷ []) refl

@@ -16,4 +16,4 @@ abbrev pub port : String → String → LeafPath
 port p x = named (codes "m") ∷ named (codes p) ∷ named (codes x) ∷ []
 
 abbrev pub result : List ℕ → List ℕ → TickResult
-result outputs state = record { outputs = outputs; state = state }
+result outputs state = record { outputs = outputs; clocks = []; state = state }

@@ -134,6 +134,7 @@ module _ (t : SourceDesign) (clocks : List (LeafPath × ℕ)) where
   abbrev result_of : List ℕ → Tick → List (LeafPath × ℕ) → TickResult
   result_of state tick numbers = record {
     outputs = map (number_on numbers) (outputs t);
+    clocks = map (clock_on clocks) (clock_outputs t);
     state = next t state tick.clocks (env_on numbers clocks);
   }
 
@@ -147,21 +148,21 @@ module _ (t : SourceDesign) (clocks : List (LeafPath × ℕ)) where
       is_settled t state k numbers clocks && are_settled (next t state k.clocks (env_on numbers clocks)) ks rest
   are_settled state _ _ = false
 
-run_from : (c : CircuitTree) → IsSourceOf c (source_of c) → clock_outputs (source_of c) ≡ [] → (clocks : List (LeafPath × ℕ)) (state : List ℕ) (ks : List Tick)
+run_from : (c : CircuitTree) → IsSourceOf c (source_of c) → (clocks : List (LeafPath × ℕ)) (state : List ℕ) (ks : List Tick)
     (rest : List (List (LeafPath × ℕ))) → are_settled (source_of c) clocks state ks rest ≡ true
     → Runs c state ks (shown_by (source_of c) clocks state ks rest)
 unfolding circuit_meaning
-run_from c is no_clocks clocks state [] [] e = tt
-run_from c is no_clocks clocks state [] (numbers ∷ rest) e = absurd cc
-run_from c is no_clocks clocks state (k ∷ ks) [] e = absurd cc
-run_from c is no_clocks clocks state (k ∷ ks) (numbers ∷ rest) e =
+run_from c is clocks state [] [] e = tt
+run_from c is clocks state [] (numbers ∷ rest) e = absurd cc
+run_from c is clocks state (k ∷ ks) [] e = absurd cc
+run_from c is clocks state (k ∷ ks) (numbers ∷ rest) e =
     let t = source_of c in
     let after = next t state k.clocks (env_on numbers clocks) in
     let settled = settled_by t state k numbers clocks (left (is_settled t state k numbers clocks) _ e) in
-    let later = run_from c is no_clocks clocks after ks rest (right (is_settled t state k numbers clocks) _ e) in
-    ((t, is, (env_on numbers clocks, settled, refl, ap (map (clock_on clocks)) no_clocks, refl)), later)
+    let later = run_from c is clocks after ks rest (right (is_settled t state k numbers clocks) _ e) in
+    ((t, is, (env_on numbers clocks, settled, refl, refl, refl)), later)
 
-pub run_by : (c : CircuitTree) → is_written c ≡ true → clock_outputs (source_of c) ≡ [] → (clocks : List (LeafPath × ℕ)) (state : List ℕ) (ks : List Tick)
+pub run_by : (c : CircuitTree) → is_written c ≡ true → (clocks : List (LeafPath × ℕ)) (state : List ℕ) (ks : List Tick)
     (rest : List (List (LeafPath × ℕ))) → are_settled (source_of c) clocks state ks rest ≡ true
     → Runs c state ks (shown_by (source_of c) clocks state ks rest)
-run_by c written no_clocks clocks state ks rest e = run_from c (written_source c written) no_clocks clocks state ks rest e
+run_by c written clocks state ks rest e = run_from c (written_source c written) clocks state ks rest e

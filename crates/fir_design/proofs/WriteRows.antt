@@ -30,7 +30,7 @@ masked_leaves_runs : Runs text.masked_leaves (1 ∷ 2 ∷ 3 ∷ 4 ∷ []) masked
     ∷ result (9 ∷ 4 ∷ []) (1 ∷ 10 ∷ 6 ∷ 11 ∷ []) ∷ result (1 ∷ 6 ∷ []) (1 ∷ 10 ∷ 6 ∷ 11 ∷ []) ∷ [])
 unfolding least_width addresses
 masked_leaves_runs =
-    run_by text.masked_leaves refl refl ((own "clock", 0) ∷ (port "r" "clk", 0) ∷ (port "w" "clk", 0) ∷ []) (1 ∷ 2 ∷ 3 ∷ 4 ∷ []) masked_ticks
+    run_by text.masked_leaves refl ((own "clock", 0) ∷ (port "r" "clk", 0) ∷ (port "w" "clk", 0) ∷ []) (1 ∷ 2 ∷ 3 ∷ 4 ∷ []) masked_ticks
     (masked_numbers 1 1 0 9 8 2 4 ∷ masked_numbers 0 0 1 7 6 1 3 ∷ masked_numbers 1 0 0 5 5 9 4 ∷ masked_numbers 1 1 1 10 11 9 4
     ∷ masked_numbers 0 1 1 0 0 1 6 ∷ []) refl
 
@@ -54,6 +54,6 @@ later_port_wins_runs : Runs text.later_port_wins (8 ∷ 9 ∷ []) ports_ticks
     ∷ result (0 ∷ []) (3 ∷ 2 ∷ []) ∷ result (0 ∷ []) (2 ∷ 2 ∷ []) ∷ result (2 ∷ []) (2 ∷ 2 ∷ []) ∷ [])
 unfolding least_width addresses
 later_port_wins_runs =
-    run_by text.later_port_wins refl refl ((own "clock", 0) ∷ (port "p" "clk", 0) ∷ (port "x" "clk", 0) ∷ (port "q" "clk", 0) ∷ []) (8 ∷ 9 ∷ []) ports_ticks
+    run_by text.later_port_wins refl ((own "clock", 0) ∷ (port "p" "clk", 0) ∷ (port "x" "clk", 0) ∷ (port "q" "clk", 0) ∷ []) (8 ∷ 9 ∷ []) ports_ticks
     (ports_numbers 0 1 1 1 0 ∷ ports_numbers 1 1 1 0 0 ∷ ports_numbers 0 1 0 0 3 ∷ ports_numbers 0 0 1 1 0 ∷ ports_numbers 0 0 1 0 0
     ∷ ports_numbers 0 0 0 0 2 ∷ []) refl
