@@ -1,8 +1,7 @@
 -- What a tree of designs allows over a run, and when it has exactly one (FIRRTL spec, "Circuits", "Clock Type").
 use Rattle.std.specs.Prelude.{◌≡◌, ◌↔◌, ℕ, List, [], ◌∷◌}
-use Rattle.fir_base.specs.Ticks.{AreClocks, FitEach, HasShape, IsRun, Tick, TickResult}
+use Rattle.fir_base.specs.Ticks.{AreClocks, FitEach, IsRun, Tick, TickResult}
 use Rattle.fir_ast.specs.Circuits.{CircuitTree}
-use Rattle.fir_meaning.specs.LeafPaths.{LeafPath}
 use Rattle.fir_meaning.specs.Designs.{Design}
 use Rattle.fir_meaning.specs.Flattened.{flattened}
 use Rattle.fir_meaning.specs.LeafAllows as over
