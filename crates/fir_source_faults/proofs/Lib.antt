@@ -5,6 +5,7 @@ pub mod ModuleReads
 pub mod AmongPaths
 pub mod JoinedChoices
 pub mod Pieces
+pub mod TakenBranches
 pub mod WhenPieces
 pub mod DrivePieces
 pub mod SidePieces

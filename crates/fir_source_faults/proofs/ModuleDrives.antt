@@ -19,7 +19,7 @@ use Rattle.fir_source_faults.specs.working.DrivesByPath.{DrivesByPath, ModulesDr
 use Rattle.fir_source_faults.specs.working.ReadsByPath.{ModulesReadByPath, ReadsByPath, path_in, scope_of_module}
 use Rattle.fir_source_faults.proofs.BlockPieces.{block_piece}
 use Rattle.fir_source_faults.proofs.Pieces.{Agree, Piece, SameLast, condition_reads, outer_reads}
-use Rattle.fir_source_faults.proofs.WhenPieces.{drop_nothing}
+use Rattle.fir_source_faults.proofs.TakenBranches.{drop_nothing}
 
 module _ (s : Scene) (fine : IsFineScene s) (x : ℕ) (reading : ReadsByPath s) (lt : x < length (module_leaves s)) where
   abbrev path : LeafPath
