@@ -11,7 +11,7 @@ use Rattle.fir_meaning.specs.NameGroups.{HasNames}
 use Rattle.fir_meaning.specs.TypeGroup.{type_faults}
 use Rattle.fir_meaning.specs.WidthGroups.{IsInferred}
 use Rattle.fir_meaning.specs.CostGroup.{cost_group}
-use Rattle.fir_meaning.specs.UndrivenGroup.{undriven_group}
+use Rattle.fir_meaning.specs.SourceUndrivenGroup.{undriven_group}
 use Rattle.fir_meaning.specs.SourceMeaning.{circuit_meaning}
 use Rattle.fir_outcome.specs.CircuitFaults.{IsClearUpTo}
 use Rattle.fir_compile.specs.working.Readings.{IsCheckedTree}

@@ -13,7 +13,7 @@ use Rattle.fir_meaning.specs.NameGroups.{HasNames, absent_faults}
 use Rattle.fir_meaning.specs.TypeGroup.{type_faults}
 use Rattle.fir_meaning.specs.WidthGroups.{IsInferred}
 use Rattle.fir_meaning.specs.CostGroup.{cost_group}
-use Rattle.fir_meaning.specs.UndrivenGroup.{undriven_group}
+use Rattle.fir_meaning.specs.SourceUndrivenGroup.{undriven_group}
 use Rattle.fir_meaning.specs.SourceMeaning.{circuit_meaning}
 use Rattle.fir_meaning.proofs.KeptTrees.{first_at, none_clear}
 use Rattle.fir_outcome.specs.CircuitFaults.{IsClearUpTo, ShowsNone, IsFirstUpTo}

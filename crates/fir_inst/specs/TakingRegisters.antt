@@ -3,7 +3,7 @@
 use Rattle.std.specs.Prelude.{ℕ, List, map, Bool, true, false, ◌&&◌, ◌||◌, Option, Some, None}
 use Rattle.fir_meaning.specs.LeafModules.{LeafDeclared, LeafModule, LeafReset, Role, register, role_at}
 use Rattle.fir_meaning.specs.StateWalks.{has_bits, is_state, numbers_where}
-use Rattle.fir_meaning.specs.UndrivenChoices.{drives_any}
+use Rattle.fir_meaning.specs.working.UndrivenChoices.{drives_any}
 
 abbrev pub has_reset : Option LeafReset → Bool
 has_reset None = false

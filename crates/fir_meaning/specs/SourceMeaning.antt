@@ -15,7 +15,7 @@ use Rattle.fir_meaning.specs.SourceCircuits.{all_arrays, all_leaves, clock_input
 use Rattle.fir_meaning.specs.SourceDesigns.{SourceDesign}
 use Rattle.fir_meaning.specs.SourceOne.{One}
 use Rattle.fir_meaning.specs.TypeGroup.{type_group}
-use Rattle.fir_meaning.specs.UndrivenGroup.{undriven_group}
+use Rattle.fir_meaning.specs.SourceUndrivenGroup.{undriven_group}
 use Rattle.fir_meaning.specs.WidthGroups.{over_group, legal_group}
 
 -- in the order of the table of faults: none of the text; E08, E09; E10; E11; E12 to E17; E18; E19; E20 to E22; E23; E24; none of E25, E26 and E27; E28

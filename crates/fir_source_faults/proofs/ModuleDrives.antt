@@ -11,7 +11,7 @@ use Rattle.fir_meaning.specs.SourceChoices.{Choice, are_taken, last}
 use Rattle.fir_meaning.specs.SourceDrives.{Drive, module_drives}
 use Rattle.fir_meaning.specs.SourceFacts.{source_depth}
 use Rattle.fir_meaning.specs.SourceUndriven.{told_all}
-use Rattle.fir_meaning.specs.UndrivenChoices as numbered
+use Rattle.fir_meaning.specs.working.UndrivenChoices as numbered
 use Rattle.fir_meaning.specs.Visits.{Visit, module_visits}
 use Rattle.fir_design.proofs.FineScenes.{IsFineScene, fine_scene, leaf_path}
 use Rattle.fir_design.proofs.SourceLeaves.{source_depth_is}

@@ -21,8 +21,8 @@ use Rattle.fir_meaning.specs.SourceDrives.{Drive}
 use Rattle.fir_meaning.specs.SourceReads as tree
 use Rattle.fir_meaning.specs.TermReads as by_number
 use Rattle.fir_meaning.specs.Terms.{Term}
-use Rattle.fir_meaning.specs.UndrivenChoices as numbered
-use Rattle.fir_meaning.specs.UndrivenChoices.{drives_any}
+use Rattle.fir_meaning.specs.working.UndrivenChoices as numbered
+use Rattle.fir_meaning.specs.working.UndrivenChoices.{drives_any}
 use Rattle.fir_meaning.specs.Visibility.{Before}
 use Rattle.fir_meaning.specs.Visits.{Branch, branch}
 use Rattle.fir_source_faults.specs.working.ReadsByPath.{path_in, paths_in}
