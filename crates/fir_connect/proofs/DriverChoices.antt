@@ -11,7 +11,7 @@ use Rattle.fir_meaning.specs.TermReads.{is_among, reached}
 use Rattle.fir_meaning.specs.TermValues.{Holds, is_true, leaf_of}
 use Rattle.fir_meaning.specs.LeafBlocks.{LeafStatement, drive, when, instance, LeafBlock, done, then}
 use Rattle.fir_meaning.specs.Choices.{Choice, Live, below, driving, last, last_all, later}
-use Rattle.fir_meaning.specs.UndrivenChoices.{drives_any}
+use Rattle.fir_meaning.specs.working.UndrivenChoices.{drives_any}
 use Rattle.fir_leaf.proofs.LiveStatements.{live_all}
 use Rattle.fir_leaf.proofs.PickedLeaves.{among_in, in_reached}
 use Rattle.fir_leaf.specs.working.ValueChoices.{choice_of, choice_of_all, hits}

@@ -6,7 +6,7 @@ use Rattle.fir_base.proofs.Members.{in_left, in_map, in_right}
 use Rattle.fir_meaning.specs.Terms.{Term}
 use Rattle.fir_meaning.specs.LeafBlocks.{LeafStatement, drive, when, instance, LeafBlock, done, then}
 use Rattle.fir_meaning.specs.Choices.{Choice, Live, below, covers_all, driving, last_all, lives, lives_all, unless}
-use Rattle.fir_meaning.specs.UndrivenChoices.{drives, drives_any}
+use Rattle.fir_meaning.specs.working.UndrivenChoices.{drives, drives_any}
 use Rattle.fir_leaf.proofs.LiveStatements.{covered_all, live_all}
 
 pub record SomeLive (ls : List Live) : Type 0 where

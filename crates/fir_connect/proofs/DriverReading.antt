@@ -8,7 +8,7 @@ use Rattle.fir_meaning.specs.TermReads.{is_among, picks_read, reached, reads}
 use Rattle.fir_meaning.specs.TermValues.{Holds}
 use Rattle.fir_meaning.specs.LeafBlocks.{LeafStatement, drive, when, instance, LeafBlock, done, then}
 use Rattle.fir_meaning.specs.Choices.{Live, LiveReads, below, covers, covers_all, driving, live_reads, lives, lives_all, unless}
-use Rattle.fir_meaning.specs.UndrivenChoices.{drives_any}
+use Rattle.fir_meaning.specs.working.UndrivenChoices.{drives_any}
 use Rattle.fir_leaf.proofs.LiveStatements.{lives_are_live}
 use Rattle.fir_connect.specs.working.NetTerms.{NetTerm, choice}
 use Rattle.fir_connect.specs.working.NetReads.{net_reads}

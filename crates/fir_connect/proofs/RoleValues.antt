@@ -8,7 +8,7 @@ use Rattle.fir_meaning.specs.LeafBlocks.{exec_all, nothing_stored}
 use Rattle.fir_meaning.specs.LeafModules.{LeafModule, LeafReset, LeafType, Role, a_clock, computed, depth_at, is_sink, number, number_type, pipe, reading, register, role_at, sink, source}
 use Rattle.fir_meaning.specs.TermValues.{clock_of}
 use Rattle.fir_meaning.specs.Terms.{Term, zeros}
-use Rattle.fir_meaning.specs.UndrivenLeaves.{AreDriven}
+use Rattle.fir_meaning.specs.working.UndrivenLeaves.{AreDriven}
 use Rattle.fir_leaf.proofs.LiveStores.{nothing_where_undriven}
 use Rattle.fir_leaf.specs.working.ChoiceLaws.{fitted_at}
 use Rattle.fir_leaf.specs.working.ValueChoices.{choice_of_all}

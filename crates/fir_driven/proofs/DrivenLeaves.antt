@@ -3,7 +3,7 @@ use Rattle.std.proofs.Common.{◌≡◌, ℕ, ◌+◌, ◌<◌, List, [], ◌∷
 use Rattle.std.proofs.lemmas.List.{map_more}
 use Rattle.fir_meaning.specs.TermReads.{is_among, reached}
 use Rattle.fir_meaning.specs.LeafBlocks.{LeafStatement}
-use Rattle.fir_meaning.specs.UndrivenChoices.{drives, drives_any}
+use Rattle.fir_meaning.specs.working.UndrivenChoices.{drives, drives_any}
 use Rattle.fir_leaf.specs.declared.node.Node.{Node}
 use Rattle.fir_leaf.specs.declared.statement.Drive.{Drive}
 use Rattle.fir_leaf.specs.declared.statement.LeafStmt.{LeafStmt}

@@ -9,7 +9,7 @@ use Rattle.fir_meaning.specs.Terms.{Term}
 use Rattle.fir_meaning.specs.TermReads.{reached, is_picked, is_among}
 use Rattle.fir_meaning.specs.LeafBlocks.{LeafStatement, LeafBlock, drive, when, instance, done, then}
 use Rattle.fir_meaning.specs.Choices.{Choice, Live, below, driving, later, first_part, second_part, last, last_all, covers, covers_all}
-use Rattle.fir_meaning.specs.UndrivenChoices.{told, told_all, drives_any}
+use Rattle.fir_meaning.specs.working.UndrivenChoices.{told, told_all, drives_any}
 use Rattle.fir_meaning.specs.Outcomes.{ComesFirst, write_told}
 use Rattle.fir_leaf.proofs.LiveStatements.{covered_all}
 use Rattle.fir_driven.specs.working.Missed.{missed, missed_all}

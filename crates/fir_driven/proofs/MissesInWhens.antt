@@ -9,7 +9,7 @@ use Rattle.fir_ast.specs.declared.place.Place.{Place}
 use Rattle.fir_meaning.specs.LeafBlocks.{LeafBlock, when}
 use Rattle.fir_meaning.specs.Terms.{Term}
 use Rattle.fir_meaning.specs.Choices.{covers, covers_all}
-use Rattle.fir_meaning.specs.UndrivenChoices.{drives_any}
+use Rattle.fir_meaning.specs.working.UndrivenChoices.{drives_any}
 use Rattle.fir_driven.specs.declared.choice.Asked.{Asked}
 use Rattle.fir_driven.specs.declared.choice.Told.{Told}
 use Rattle.fir_driven.specs.working.Missed.{missed_all}

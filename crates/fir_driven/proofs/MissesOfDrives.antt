@@ -7,7 +7,7 @@ use Rattle.fir_ast.specs.declared.place.Place.{Place}
 use Rattle.fir_meaning.specs.LeafBlocks.{LeafStatement, drive}
 use Rattle.fir_meaning.specs.Terms.{Picks, Term}
 use Rattle.fir_meaning.specs.TermReads.{is_among, is_picked, reached}
-use Rattle.fir_meaning.specs.UndrivenChoices.{drives}
+use Rattle.fir_meaning.specs.working.UndrivenChoices.{drives}
 use Rattle.fir_driven.specs.declared.choice.Asked.{Asked}
 use Rattle.fir_driven.specs.working.MissWalks.{MissesStatement}
 use Rattle.fir_driven.proofs.MissesInBlocks.{misses_none}

@@ -3,7 +3,7 @@ use Rattle.std.proofs.Common.{◌≡◌, ℕ, ◌+◌, ◌<◌, List, Bool, ◌|
 use Rattle.std.proofs.lemmas.List.{at_drop_all, at_drop_more}
 use Rattle.fir_meaning.specs.TermReads.{is_among}
 use Rattle.fir_meaning.specs.LeafBlocks.{done, then}
-use Rattle.fir_meaning.specs.UndrivenChoices.{drives, drives_any}
+use Rattle.fir_meaning.specs.working.UndrivenChoices.{drives, drives_any}
 use Rattle.fir_leaf.specs.declared.node.Node.{Node}
 use Rattle.fir_leaf.specs.declared.statement.LeafStmt.{LeafStmt}
 use Rattle.fir_leaf.specs.working.NodeBlocks.{block_in, statement_in}

@@ -5,7 +5,7 @@ use Rattle.fir_ast.specs.declared.place.Place.{Place}
 use Rattle.fir_meaning.specs.TermReads.{is_among}
 use Rattle.fir_meaning.specs.Terms.{Term}
 use Rattle.fir_meaning.specs.LeafBlocks.{LeafBlock, when}
-use Rattle.fir_meaning.specs.UndrivenChoices.{drives, drives_any}
+use Rattle.fir_meaning.specs.working.UndrivenChoices.{drives, drives_any}
 use Rattle.fir_driven.specs.working.Covering.{depth_in}
 use Rattle.fir_drivers.specs.working.TargetLists.{Collects, ListsTargets, StacksBlock, StacksStatement, TakesOuter}
 use Rattle.fir_driven.proofs.AmongLeaves.{among_both}

@@ -4,7 +4,7 @@ use Rattle.fir_meaning.specs.LeafBlocks.{LeafStatement, LeafBlock, drive, when, 
 use Rattle.fir_meaning.specs.TermReads.{reached}
 use Rattle.fir_meaning.specs.TermValues.{Holds}
 use Rattle.fir_meaning.specs.Terms.{no_picks, pick}
-use Rattle.fir_meaning.specs.UndrivenChoices.{drives, drives_any}
+use Rattle.fir_meaning.specs.working.UndrivenChoices.{drives, drives_any}
 use Rattle.fir_connect.specs.working.Drivers.{driver, driver_all, given}
 use Rattle.fir_connect.specs.working.Lowered.{conditions, lowered}
 use Rattle.fir_connect.specs.working.NetTerms.{NetTerm, choice}

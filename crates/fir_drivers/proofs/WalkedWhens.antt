@@ -8,7 +8,7 @@ use Rattle.fir_meaning.specs.LeafBlocks.{LeafStatement, LeafBlock, when}
 use Rattle.fir_meaning.specs.TermReads.{is_among}
 use Rattle.fir_meaning.specs.TermValues.{Holds}
 use Rattle.fir_meaning.specs.Terms.{Term}
-use Rattle.fir_meaning.specs.UndrivenChoices.{drives_any}
+use Rattle.fir_meaning.specs.working.UndrivenChoices.{drives_any}
 use Rattle.fir_leaf.specs.declared.statement.LeafWhen.{LeafWhen}
 use Rattle.fir_leaf.specs.declared.statement.LeafStmt.TheVariants as code
 use Rattle.fir_leaf.specs.working.Nodes.{node_term}

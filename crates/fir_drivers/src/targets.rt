@@ -6,7 +6,7 @@ ghost use Rattle.fir_leaf.specs.declared.statement.LeafStmt.TheVariants as code;
 ghost use Rattle.fir_leaf.specs.working.NodeBlocks.{block_in, statement_in};
 ghost use Rattle.fir_drivers.specs.working.TargetLists.{AreUnmarked, Collects, StacksBlock, StacksStatement, TakesOuter};
 ghost use Rattle.fir_meaning.specs.TermReads.{is_among};
-ghost use Rattle.fir_meaning.specs.UndrivenChoices.{drives, drives_any};
+ghost use Rattle.fir_meaning.specs.working.UndrivenChoices.{drives, drives_any};
 
 use fir_base::MemoryOut;
 use fir_driven::{depth_of, list_drive, move_marked, set_flag};

@@ -9,7 +9,7 @@ use Rattle.fir_meaning.specs.LeafModules.{LeafModule, LeafType, number, number_t
 use Rattle.fir_meaning.specs.TermReads.{reached}
 use Rattle.fir_meaning.specs.TermValues.{Holds}
 use Rattle.fir_meaning.specs.Terms.{Term, no_picks, pick}
-use Rattle.fir_meaning.specs.UndrivenChoices.{drives_any}
+use Rattle.fir_meaning.specs.working.UndrivenChoices.{drives_any}
 use Rattle.fir_leaf.specs.working.LeafNumbers.{BlockWithin, StatementWithin, TermWithin}
 use Rattle.fir_leaf_types.specs.working.TypedBlocks.{AreTyped, IsTyped, MayGive}
 use Rattle.fir_leaf_types.specs.working.TypedModules.{held_in}

@@ -7,7 +7,7 @@ use Rattle.fir_meaning.specs.LeafCircuits.{LeafCircuit}
 use Rattle.fir_meaning.specs.LeafModules.{LeafDeclared, LeafModule, LeafType, a_clock, depth_at, is_sink, leaf_at, number, role_at}
 use Rattle.fir_meaning.specs.LeafPaths.{path_text}
 use Rattle.fir_meaning.specs.StateWalks.{has_bits, is_state, numbers_where}
-use Rattle.fir_meaning.specs.UndrivenLeaves.{AreDriven}
+use Rattle.fir_meaning.specs.working.UndrivenLeaves.{AreDriven}
 use Rattle.fir_leaf_types.specs.working.TypedModules.{IsModuleTyped, held_in}
 use Rattle.fir_connect.specs.working.NetRoles.{net_role_at, net_types}
 use Rattle.fir_net.specs.declared.leaf.Leaf.{Leaf}

@@ -11,9 +11,9 @@ use Rattle.fir_meaning.specs.LeafPaths.{LeafPath, element, named, path_text}
 use Rattle.fir_meaning.specs.SizedDeclarations.{NumberedModule, numbered_modules}
 use Rattle.fir_meaning.specs.TermReads.{multiples}
 use Rattle.fir_meaning.specs.Choices.{Choice}
-use Rattle.fir_meaning.specs.UndrivenChoices.{IsFirstUndriven, IsUndriven, told_all}
+use Rattle.fir_meaning.specs.working.UndrivenChoices.{IsFirstUndriven, IsUndriven, told_all}
 use Rattle.fir_meaning.specs.Outcomes.{ComesFirst, told_once}
-use Rattle.fir_meaning.specs.UndrivenLeaves.{AreDrivenBefore, ShowsUndriven}
+use Rattle.fir_meaning.specs.working.UndrivenLeaves.{AreDrivenBefore, ShowsUndriven}
 use Rattle.fir_meaning.specs.LeafModules.{LeafModule}
 use Rattle.fir_meaning.specs.LeafedModules.{Scene, leafed_module}
 use Rattle.fir_meaning.specs.Scenes.{IsSceneOf}

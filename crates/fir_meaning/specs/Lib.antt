@@ -55,10 +55,7 @@ pub mod LeafMemories
 pub mod LeafedModules
 pub mod Choices
 pub mod Outcomes
-pub mod UndrivenChoices
 pub mod Scenes
-pub mod UndrivenLeaves
-pub mod UndrivenGroup
 pub mod Costs
 pub mod CostGroup
 pub mod TypeParts

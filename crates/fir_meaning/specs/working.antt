@@ -6,3 +6,6 @@ pub mod TypeLaws
 pub mod InferredTypes
 pub mod WidthLaws
 pub mod AssignedWidths
+pub mod UndrivenChoices
+pub mod UndrivenLeaves
+pub mod UndrivenGroup

@@ -19,8 +19,8 @@ use Rattle.fir_meaning.specs.SourceUndriven.{told_drive}
 use Rattle.fir_meaning.specs.TermReads as by_number
 use Rattle.fir_meaning.specs.TermReads.{is_among}
 use Rattle.fir_meaning.specs.Terms.{Picks, Term}
-use Rattle.fir_meaning.specs.UndrivenChoices as numbered
-use Rattle.fir_meaning.specs.UndrivenChoices.{drives_any}
+use Rattle.fir_meaning.specs.working.UndrivenChoices as numbered
+use Rattle.fir_meaning.specs.working.UndrivenChoices.{drives_any}
 use Rattle.fir_meaning.specs.Visits.{Branch}
 use Rattle.fir_source_faults.specs.working.ReadsByPath.{path_in, paths_in}
 use Rattle.fir_source_faults.proofs.Pieces.{Agree, Piece, SameAt, SameLast, both_pieces, outer_reads, retold}

@@ -10,7 +10,7 @@ use Rattle.fir_meaning.specs.TermReads.{is_picked}
 use Rattle.fir_meaning.specs.Outcomes.{write_told}
 use Rattle.fir_ast.specs.declared.fault.Outcome.TheVariants as outcome
 use Rattle.fir_meaning.specs.LeafPaths.{LeafPath}
-use Rattle.fir_meaning.specs.UndrivenChoices.{drives, drives_any, told, told_all}
+use Rattle.fir_meaning.specs.working.UndrivenChoices.{drives, drives_any, told, told_all}
 
 -- a choice made of an outcome and two choices
 abbrev pub split : Bool → Choice → Choice → Choice

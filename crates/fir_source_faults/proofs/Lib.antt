@@ -6,6 +6,7 @@ pub mod AmongPaths
 pub mod PlainScenes
 pub mod JoinedChoices
 pub mod Pieces
+pub mod TakenBranches
 pub mod WhenPieces
 pub mod DrivePieces
 pub mod SidePieces

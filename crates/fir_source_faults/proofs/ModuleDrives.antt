@@ -11,7 +11,7 @@ use Rattle.fir_meaning.specs.SourceChoices.{Choice, are_taken, last}
 use Rattle.fir_meaning.specs.SourceDrives.{Drive, module_drives}
 use Rattle.fir_meaning.specs.SourceFacts.{source_depth}
 use Rattle.fir_meaning.specs.SourceUndriven.{told_all}
-use Rattle.fir_meaning.specs.UndrivenChoices as numbered
+use Rattle.fir_meaning.specs.working.UndrivenChoices as numbered
 use Rattle.fir_meaning.specs.Visits.{Visit, module_visits}
 use Rattle.fir_design.proofs.FineScenes.{IsFineScene, fine_scene, leaf_path}
 use Rattle.fir_design.proofs.SourceLeaves.{source_depth_is}
@@ -19,7 +19,7 @@ use Rattle.fir_source_faults.specs.working.DrivesByPath.{DrivesByPath, ModulesDr
 use Rattle.fir_source_faults.specs.working.ReadsByPath.{ModulesReadByPath, ReadsByPath, path_in, scope_of_module}
 use Rattle.fir_source_faults.proofs.BlockPieces.{block_piece}
 use Rattle.fir_source_faults.proofs.Pieces.{Agree, Piece, SameLast, condition_reads, outer_reads}
-use Rattle.fir_source_faults.proofs.WhenPieces.{drop_nothing}
+use Rattle.fir_source_faults.proofs.TakenBranches.{drop_nothing}
 
 module _ (s : Scene) (fine : IsFineScene s) (x : ℕ) (reading : ReadsByPath s) (lt : x < length (module_leaves s)) where
   abbrev path : LeafPath

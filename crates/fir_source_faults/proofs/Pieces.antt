@@ -12,8 +12,8 @@ use Rattle.fir_meaning.specs.LeafedModules.{Scene, scope_before}
 use Rattle.fir_meaning.specs.SourceChoices.{Choice, are_taken, last, later, live_reads, may_drive}
 use Rattle.fir_meaning.specs.SourceDrives.{Drive}
 use Rattle.fir_meaning.specs.SourceReads as tree
-use Rattle.fir_meaning.specs.UndrivenChoices as numbered
-use Rattle.fir_meaning.specs.UndrivenChoices.{drives_any}
+use Rattle.fir_meaning.specs.working.UndrivenChoices as numbered
+use Rattle.fir_meaning.specs.working.UndrivenChoices.{drives_any}
 use Rattle.fir_meaning.specs.Visits.{Branch}
 use Rattle.fir_source_faults.specs.working.ReadsByPath.{path_in, paths_in}
 use Rattle.fir_source_faults.proofs.JoinedChoices.{drives_joined, last_behind, last_joined, last_merged, merged, past, split, told_joined, told_merged}

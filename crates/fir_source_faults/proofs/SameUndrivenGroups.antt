@@ -12,8 +12,8 @@ use Rattle.fir_meaning.specs.Scenes.{IsSceneOf}
 use Rattle.fir_meaning.specs.SizedDeclarations.{numbered_modules}
 use Rattle.fir_meaning.specs.SourceUndrivenGroup.{AreDriven, AreDrivenBefore, IsFaultOf, IsShown, IsTold}
 use Rattle.fir_meaning.specs.TypeGroup.{type_faults}
-use Rattle.fir_meaning.specs.UndrivenGroup as numbered
-use Rattle.fir_meaning.specs.UndrivenLeaves as leafed
+use Rattle.fir_meaning.specs.working.UndrivenGroup as numbered
+use Rattle.fir_meaning.specs.working.UndrivenLeaves as leafed
 use Rattle.fir_source_faults.specs.working.SameFaults.{SameUndrivenGroups}
 use Rattle.fir_source_faults.proofs.SceneUndriven.{driven_back, driven_forth, one_there, shows_back, shows_forth, there}
 

@@ -20,8 +20,8 @@ use Rattle.fir_meaning.specs.SourceRoles.{SourceLeaf, source_leaves}
 use Rattle.fir_meaning.specs.SourceUndriven.{IsFirstUndriven, IsUndriven}
 use Rattle.fir_meaning.specs.SourceUndrivenGroup.{IsDriven, ShowsUndriven}
 use Rattle.fir_meaning.specs.TypeGroup.{type_faults}
-use Rattle.fir_meaning.specs.UndrivenChoices as numbered
-use Rattle.fir_meaning.specs.UndrivenLeaves as leafed
+use Rattle.fir_meaning.specs.working.UndrivenChoices as numbered
+use Rattle.fir_meaning.specs.working.UndrivenLeaves as leafed
 use Rattle.fir_meaning.specs.Visits.{Visit, module_visits}
 use Rattle.fir_design.proofs.FineScenes.{fine_scene}
 use Rattle.fir_design.proofs.RoleKinds.{same_sink}

@@ -1,9 +1,9 @@
 -- A when over leaves beside a when of the text.
-use Rattle.std.proofs.Common.{◌≡◌, ℕ, zero, suc, ◌+◌, ◌≤◌, List, [], ◌∷◌, ◌++◌, Bool, true, false, not, ◌&&◌, ◌||◌, drop, flat_map, length, nat_lt, if◌then◌else◌, Option, Some, None, option_map, refl, sym, ap, ap₂, ◌∙◌, append_assoc, append-nil, arith, subst}
+use Rattle.std.proofs.Common.{◌≡◌, ℕ, ◌+◌, List, [], ◌∷◌, ◌++◌, Bool, true, false, not, ◌&&◌, ◌||◌, drop, flat_map, length, nat_lt, if◌then◌else◌, Option, refl, sym, ap, ap₂, ◌∙◌, append-nil, arith, subst}
 use Rattle.std.specs.List.{list_any}
 use Rattle.std.proofs.lemmas.Bool.{ltb-false, ltb-true, or_parts}
 use Rattle.std.proofs.lemmas.Grind.{flat_map-append}
-use Rattle.std.proofs.lemmas.List.{drop-append-le, length-append, map-append}
+use Rattle.std.proofs.lemmas.List.{drop-append-le, length-append}
 use Rattle.std.proofs.lemmas.List.Folds.{list_any-append}
 use Rattle.fir_ast.specs.declared.fault.Outcome.{Outcome}
 use Rattle.fir_ast.specs.declared.fault.Outcome.TheVariants as outcome
@@ -21,72 +21,14 @@ use Rattle.fir_meaning.specs.SourceDrives.{Drive}
 use Rattle.fir_meaning.specs.SourceReads as tree
 use Rattle.fir_meaning.specs.TermReads as by_number
 use Rattle.fir_meaning.specs.Terms.{Term}
-use Rattle.fir_meaning.specs.UndrivenChoices as numbered
-use Rattle.fir_meaning.specs.UndrivenChoices.{drives_any}
+use Rattle.fir_meaning.specs.working.UndrivenChoices as numbered
+use Rattle.fir_meaning.specs.working.UndrivenChoices.{drives_any}
 use Rattle.fir_meaning.specs.Visibility.{Before}
 use Rattle.fir_meaning.specs.Visits.{Branch, branch}
 use Rattle.fir_source_faults.specs.working.ReadsByPath.{path_in, paths_in}
 use Rattle.fir_source_faults.proofs.JoinedChoices.{last_behind, nothing_later, nothing_told, split}
 use Rattle.fir_source_faults.proofs.Pieces.{Agree, Piece, SameLast, condition_reads, inside, outer_reads, same_later}
-
--- branches from a leaf's declaration inward, with one more
-pub drop_nothing : {A : Type 0} → (n : ℕ) → drop {A = A} n [] ≡ []
-drop_nothing zero = refl
-drop_nothing (suc n) = refl
-
-drop_all : {A : Type 0} → (n : ℕ) (xs : List A) → length xs ≤ n → drop n xs ≡ []
-drop_all n [] h = drop_nothing n
-drop_all zero (x ∷ xs) h = absurd (omega (arith, h))
-drop_all (suc n) (x ∷ xs) h = drop_all n xs (omega (arith, h))
-
-taken_more : (h : Choice) (bs : List Branch) (b : Branch)
-    → are_taken h (bs ++ b ∷ []) ≡ (are_taken h bs && ((if b.is_first then h b.way else not (h b.way)) && true))
-taken_more h [] b = refl
-taken_more h (c ∷ bs) b =
-    ap (λ t. (if c.is_first then h c.way else not (h c.way)) && t) (taken_more h bs b)
-    ∙ thrice (if c.is_first then h c.way else not (h c.way)) (are_taken h bs) ((if b.is_first then h b.way else not (h b.way)) && true)
-  where
-    thrice : (p q r : Bool) → (p && (q && r)) ≡ ((p && q) && r)
-    thrice true q r = refl
-    thrice false q r = refl
-
-or_false : (b : Bool) → (b || false) ≡ b
-or_false true = refl
-or_false false = refl
-
-module _ (s : Scene) (depth x : ℕ) where
-  -- a condition goes from those that stand round into the live statement
-  moved_in : (outer : List LeafPath) (t : Term) (r : List LeafPath) (o : Option Live) (d : Option Drive) → paths_in s (by_number.reads t) ≡ r
-      → SameLast s depth x (outer ++ (r ++ [])) o d → SameLast s depth x outer (option_map (below t) o) d
-  moved_in outer t r None None e h = tt
-  moved_in outer t r None (Some d) e h = absurd h
-  moved_in outer t r (Some l) None e h = absurd h
-  moved_in outer t r (Some l) (Some d) e h =
-      let rest = paths_in s (over.live_reads l) in
-      let behind : paths_in s (over.live_reads (below t l)) ≡ paths_in s (by_number.reads t ++ over.live_reads l) =
-      ap (paths_in s)
-      (ap (λ (ps : List ℕ). ps ++ by_number.reads l.given)
-      (append_assoc (by_number.reads t) (flat_map by_number.reads l.under) (by_number.picks_read l.through))
-      ∙ append_assoc (by_number.reads t) (flat_map by_number.reads l.under ++ by_number.picks_read l.through) (by_number.reads l.given)) in
-      let apart : paths_in s (by_number.reads t ++ over.live_reads l) ≡ paths_in s (by_number.reads t) ++ rest =
-      map-append (path_in s) (by_number.reads t) (over.live_reads l) in
-      record {
-        place = h.place;
-        reads =
-            ap (λ (ps : List LeafPath). outer ++ ps) (behind ∙ apart ∙ ap (λ (ps : List LeafPath). ps ++ rest) (e ∙ sym (append-nil r)))
-            ∙ sym (append_assoc outer (r ++ []) rest) ∙ h.reads;
-      }
-
--- what a when tells beside its blocks, of which one is taken
-told_first : (hold : Bool) (o : Outcome) (n ta tb : List Outcome) → n ≡ ta → tb ≡ [] → (hold ≡ false → n ≡ [])
-    → (if hold then o ∷ n else []) ++ [] ≡ (if hold then o ∷ [] else []) ++ (ta ++ tb)
-told_first true o n ta tb e none h = ap (λ (os : List Outcome). o ∷ os) (append-nil n ∙ e ∙ sym (append-nil ta) ∙ ap (λ (os : List Outcome). ta ++ os) (sym none))
-told_first false o n ta tb e none h = ap₂ (λ (os ps : List Outcome). os ++ ps) (sym (h refl) ∙ e) (sym none)
-
-told_second : (hold : Bool) (o : Outcome) (n ta tb : List Outcome) → n ≡ tb → ta ≡ [] → (hold ≡ false → n ≡ [])
-    → (if hold then o ∷ n else []) ++ [] ≡ (if hold then o ∷ [] else []) ++ (ta ++ tb)
-told_second true o n ta tb e none h = ap (λ (os : List Outcome). o ∷ os) (append-nil n ∙ ap₂ (λ (os ps : List Outcome). os ++ ps) (sym none) e)
-told_second false o n ta tb e none h = ap₂ (λ (os ps : List Outcome). os ++ ps) (sym none) (sym (h refl) ∙ e)
+use Rattle.fir_source_faults.proofs.TakenBranches.{drop_all, moved_in, or_false, taken_more, told_first, told_second}
 
 module _ (s : Scene) (depth x : ℕ) (way : List Bool) (under : List Branch) (k : ℕ) (long : length under ≡ k) (before : Before) (c : Expression) (t : Term)
     (reads : paths_in s (by_number.reads t) ≡ tree.reads (scope_before s before) c []) (p : Place) (a b : LeafBlock) (ds es : List Drive)

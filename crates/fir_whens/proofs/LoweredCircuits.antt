@@ -6,7 +6,7 @@ use Rattle.fir_ast.specs.working.Views.{circuit_of}
 use Rattle.fir_pass.specs.Groups.{IsClear}
 use Rattle.fir_pass.specs.working.Law.{Keeps}
 use Rattle.fir_meaning.specs.SourceMeaning.{circuit_meaning}
-use Rattle.fir_meaning.specs.UndrivenGroup.{undriven_group}
+use Rattle.fir_meaning.specs.SourceUndrivenGroup.{undriven_group}
 use Rattle.fir_meaning.proofs.KeptTrees.{keeps_tree}
 
 clear_at : (c : CircuitTree) → IsClear (undriven_group c) → (k : ℕ) → 9 ≤ k → k ≤ 9 → IsClear ((circuit_meaning c).group k)

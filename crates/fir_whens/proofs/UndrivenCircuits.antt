@@ -6,14 +6,15 @@ use Rattle.std.proofs.lemmas.Option.{none-some}
 use Rattle.fir_ast.specs.declared.fault.FirFault.{FirFault}
 use Rattle.fir_ast.specs.Circuits.{CircuitTree, ModuleTree}
 use Rattle.fir_pass.specs.Faults.{Fault, code_of, fault_of}
-use Rattle.fir_pass.specs.Groups.{IsClear, group_of}
+use Rattle.fir_pass.specs.Groups.{IsClear, SameGroup, group_of}
 use Rattle.fir_pass.specs.Law.{IsFirst}
 use Rattle.fir_meaning.specs.LeafedModules.{Scene, leafed_module}
 use Rattle.fir_meaning.specs.Scenes.{IsSceneOf}
 use Rattle.fir_meaning.specs.SizedDeclarations.{NumberedModule, Numbering, behind_module, first_numbers, modules_from}
 use Rattle.fir_meaning.specs.SourceMeaning.{circuit_meaning}
-use Rattle.fir_meaning.specs.UndrivenGroup.{IsShown, IsTold, undriven_group}
-use Rattle.fir_meaning.specs.UndrivenLeaves.{AreDriven}
+use Rattle.fir_meaning.specs.SourceUndrivenGroup.{undriven_group}
+use Rattle.fir_meaning.specs.working.UndrivenGroup as numbered
+use Rattle.fir_meaning.specs.working.UndrivenLeaves.{AreDriven}
 use Rattle.fir_meaning.proofs.KeptTrees.{first_at}
 use Rattle.fir_whens.specs.working.ModuleFaults.{AreAllDriven, IsFirstOf}
 
@@ -39,24 +40,27 @@ module _ (c : CircuitTree) where
       by (inl lower) = before other s lower scene
       by (inr high) = let e : other ≡ n = omega (arith, below, high) in here s (subst (λ k. IsSceneOf c k s) e scene)
 
-  pub all_clear : ModulesDriven (length c.modules) → IsClear (undriven_group c)
-  all_clear driven f shown =
+  pub all_clear : SameGroup (numbered.undriven_group c) (undriven_group c) → ModulesDriven (length c.modules) → IsClear (undriven_group c)
+  all_clear same driven f by_path =
+      let shown = (same.shows f).1 by_path in
       driven shown.module_number shown.stands.scene (scene_within shown.module_number shown.stands.scene shown.stands.is_scene) shown.stands.is_scene
       shown.leaf shown.stands.shows.within shown.stands.shows.is_sink shown.stands.shows.first.choice shown.stands.shows.first.undriven
 
   pub all_driven : ModulesDriven (length c.modules) → AreAllDriven c
   all_driven driven k s scene = driven k s (scene_within k s scene) scene
 
-  pub first_fault : (k : ℕ) (f : FirFault) → ModulesDriven k → IsFirstOf c k f → IsFirst 9 9 (circuit_meaning c) (fault_of f)
+  pub first_fault : SameGroup (numbered.undriven_group c) (undriven_group c) → (k : ℕ) (f : FirFault) → ModulesDriven k → IsFirstOf c k f
+      → IsFirst 9 9 (circuit_meaning c) (fault_of f)
   unfolding circuit_meaning
-  first_fault k f driven found =
+  first_fault same k f driven found =
       let group : group_of (code_of f) ≡ 9 = ap (λ (g : Fault). group_of g.code) found.stands.is ∙ ap (λ g. group_of (code_of g)) found.stands.shows.is in
-      let told : IsTold c (fault_of f) = record {
+      let told : numbered.IsTold c (fault_of f) = record {
         module_number = k;
         leaf = found.leaf;
         stands = found.stands;
         before = found.before;
         modules_before = driven;
       } in
-      let shown : IsShown c (fault_of f) = record { module_number = k; leaf = found.leaf; stands = found.stands } in
-      first_at 9 9 9 (circuit_meaning c) (fault_of f) group (omega arith) (omega arith) told shown (λ j low high. absurd (omega (arith, low, high)))
+      let shown : numbered.IsShown c (fault_of f) = record { module_number = k; leaf = found.leaf; stands = found.stands } in
+      first_at 9 9 9 (circuit_meaning c) (fault_of f) group (omega arith) (omega arith) ((same.tells (fault_of f)).0 told)
+      ((same.shows (fault_of f)).0 shown) (λ j low high. absurd (omega (arith, low, high)))

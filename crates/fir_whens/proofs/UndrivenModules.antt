@@ -7,9 +7,9 @@ use Rattle.fir_ast.specs.Circuits.{CircuitTree}
 use Rattle.fir_meaning.specs.LeafModules.{depth_at}
 use Rattle.fir_meaning.specs.LeafedModules.{leafed_module}
 use Rattle.fir_meaning.specs.Scenes.{HasScenes}
-use Rattle.fir_meaning.specs.UndrivenChoices.{IsFirstUndriven}
+use Rattle.fir_meaning.specs.working.UndrivenChoices.{IsFirstUndriven}
 use Rattle.fir_meaning.specs.Outcomes.{told_once}
-use Rattle.fir_meaning.specs.UndrivenLeaves.{AreDrivenBefore}
+use Rattle.fir_meaning.specs.working.UndrivenLeaves.{AreDrivenBefore}
 use Rattle.fir_leaf.specs.working.NodeBlocks.{block_in}
 use Rattle.fir_leaf_circuit.specs.declared.leaf_module.LeafModule.{LeafModule}
 use Rattle.fir_leaf_circuit.specs.working.Leafed.{AreLeafed}

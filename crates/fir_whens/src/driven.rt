@@ -7,10 +7,11 @@ ghost use Rattle.fir_pass.specs.Groups.{IsClear};
 ghost use Rattle.fir_pass.specs.working.Law.{IfFault};
 ghost use Rattle.fir_pass.specs.Law.{IsFirst};
 ghost use Rattle.fir_meaning.specs.SourceMeaning.{circuit_meaning};
-ghost use Rattle.fir_meaning.specs.UndrivenGroup.{undriven_group};
+ghost use Rattle.fir_meaning.specs.SourceUndrivenGroup.{undriven_group};
 ghost use Rattle.fir_whens.specs.working.ModuleFaults.{AreAllDriven};
 
 use crate::module::undriven_leaf;
+use crate::undriven_groups::undriven_by_path;
 use fir_ast::FirFault;
 use fir_base::Refused;
 use fir_leaf_circuit::LeafCircuit;
@@ -23,6 +24,7 @@ pub fn check_driven(alloc: Global, circuit: &LeafCircuit) -> Result<(), Refused<
     ensures driven { IfOk result (λ u. AreAllDriven (circuit_of circuit.now)) }
     ensures fault { IfFault result (λ f. IsFirst 9 9 (circuit_meaning (circuit_of circuit.now)) (fault_of f)) }
 {
+    undriven_by_path(circuit);
     for module_number in 0..circuit.modules().len() {
         if let Some(fault) = undriven_leaf(alloc, circuit, module_number)? {
             return Err(Refused::Fault(fault));

@@ -12,6 +12,7 @@ mod net_circuit;
 mod net_role;
 mod pass;
 mod typed_modules;
+mod undriven_groups;
 
 pub use driven::check_driven;
 pub use lowered::lower_whens;

@@ -7,7 +7,7 @@ ghost use Rattle.fir_pass.specs.Groups.{IsClear};
 ghost use Rattle.fir_pass.specs.working.Law.{IfFault};
 ghost use Rattle.fir_pass.specs.Law.{IsFirst};
 ghost use Rattle.fir_meaning.specs.SourceMeaning.{circuit_meaning};
-ghost use Rattle.fir_meaning.specs.UndrivenGroup.{undriven_group};
+ghost use Rattle.fir_meaning.specs.SourceUndrivenGroup.{undriven_group};
 ghost use Rattle.fir_whens.specs.working.ModuleFaults.{AreAllDriven};
 ghost use Rattle.fir_whens.specs.working.NetCircuits.{AreNets};
 

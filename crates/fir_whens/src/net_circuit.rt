@@ -3,7 +3,7 @@
 ghost use Rattle.std.specs.Prelude.{◌≡◌};
 ghost use Rattle.fir_ast.specs.working.Views.{circuit_of};
 ghost use Rattle.fir_pass.specs.Groups.{IsClear};
-ghost use Rattle.fir_meaning.specs.UndrivenGroup.{undriven_group};
+ghost use Rattle.fir_meaning.specs.SourceUndrivenGroup.{undriven_group};
 ghost use Rattle.fir_whens.specs.working.ModuleFaults.{AreAllDriven};
 ghost use Rattle.fir_whens.specs.working.NetCircuits.{AreNets, NetsGive};
 
@@ -37,7 +37,7 @@ impl Model for NetCircuit {
 
     ghost use Rattle.fir_ast.specs.working.Views.{circuit_of};
     ghost use Rattle.fir_pass.specs.Groups.{IsClear};
-    ghost use Rattle.fir_meaning.specs.UndrivenGroup.{undriven_group};
+    ghost use Rattle.fir_meaning.specs.SourceUndrivenGroup.{undriven_group};
     ghost use Rattle.fir_whens.specs.working.ModuleFaults.{AreAllDriven};
     ghost use Rattle.fir_whens.specs.working.NetCircuits.{AreNets};
 

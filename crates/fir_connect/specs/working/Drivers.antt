@@ -6,7 +6,7 @@ use Rattle.fir_meaning.specs.Terms.{Term, Picks, zeros, no_picks, pick}
 use Rattle.fir_meaning.specs.TermReads.{reached}
 use Rattle.fir_meaning.specs.TermValues.{Holds}
 use Rattle.fir_meaning.specs.LeafBlocks.{LeafStatement, LeafBlock, drive, when, instance, done, then}
-use Rattle.fir_meaning.specs.UndrivenChoices.{drives_any}
+use Rattle.fir_meaning.specs.working.UndrivenChoices.{drives_any}
 use Rattle.fir_connect.specs.working.NetTerms.{NetTerm, leaf, choice}
 use Rattle.fir_connect.specs.working.Lowered.{Candidate, candidates, conditions, lowered, zero_of}
 

@@ -9,7 +9,7 @@ use Rattle.fir_meaning.specs.LeafModules as leafed
 use Rattle.fir_meaning.specs.TermReads.{reads}
 use Rattle.fir_meaning.specs.Terms.{Term}
 use Rattle.fir_meaning.specs.TermValues.{clock_of, eval, is_true}
-use Rattle.fir_meaning.specs.UndrivenLeaves.{AreDriven}
+use Rattle.fir_meaning.specs.working.UndrivenLeaves.{AreDriven}
 use Rattle.fir_leaf.specs.working.ChoiceLaws.{fitted_at}
 use Rattle.fir_leaf_types.specs.working.TypedModules.{IsModuleTyped, held_in}
 use Rattle.fir_connect.specs.working.NetReads.{net_reads}

@@ -2,7 +2,7 @@
 use Rattle.std.specs.Prelude.{◌≡◌, ℕ, true, false}
 use Rattle.fir_meaning.specs.LeafBlocks.{LeafBlock}
 use Rattle.fir_meaning.specs.Choices.{Choice, covers_all}
-use Rattle.fir_meaning.specs.UndrivenChoices.{IsFirstUndriven, IsUndriven}
+use Rattle.fir_meaning.specs.working.UndrivenChoices.{IsFirstUndriven, IsUndriven}
 use Rattle.fir_meaning.specs.Outcomes.{told_once}
 use Rattle.fir_driven.specs.working.Missed.{missed_all}
 

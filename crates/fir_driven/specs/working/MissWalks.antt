@@ -3,7 +3,7 @@ use Rattle.std.specs.Prelude.{◌≡◌, ℕ, List, ◌++◌, Bool, false}
 use Rattle.fir_ast.specs.declared.fault.Outcome.{Outcome}
 use Rattle.fir_meaning.specs.LeafBlocks.{LeafStatement, LeafBlock}
 use Rattle.fir_meaning.specs.Choices.{covers, covers_all}
-use Rattle.fir_meaning.specs.UndrivenChoices.{drives, drives_any}
+use Rattle.fir_meaning.specs.working.UndrivenChoices.{drives, drives_any}
 use Rattle.fir_driven.specs.working.Missed.{missed, missed_all}
 use Rattle.fir_driven.specs.declared.choice.Asked.{Asked}
 use Rattle.fir_driven.specs.declared.choice.Told.{Told}

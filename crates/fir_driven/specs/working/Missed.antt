@@ -6,7 +6,7 @@ use Rattle.fir_ast.specs.declared.fault.Outcome.TheVariants as outcome
 use Rattle.fir_meaning.specs.TermReads.{reached, is_picked, is_among}
 use Rattle.fir_meaning.specs.LeafBlocks.{LeafStatement, LeafBlock, drive, when, instance, done, then}
 use Rattle.fir_meaning.specs.Choices.{covers_all}
-use Rattle.fir_meaning.specs.UndrivenChoices.{drives_any}
+use Rattle.fir_meaning.specs.working.UndrivenChoices.{drives_any}
 use Rattle.fir_meaning.specs.Outcomes.{write_told}
 
 -- of a leaf that is declared within so many whens

@@ -2,7 +2,7 @@
 use Rattle.std.specs.Prelude.{◌≡◌, ℕ, ◌+◌, ◌<◌, ◌≤◌, List, [], ◌∷◌, ◌++◌, length, Bool, false, not, ◌&&◌, ◌||◌, nat_lt}
 use Rattle.fir_meaning.specs.TermReads.{is_among}
 use Rattle.fir_meaning.specs.LeafBlocks.{LeafStatement, LeafBlock, drive, when, instance, done, then}
-use Rattle.fir_meaning.specs.UndrivenChoices.{drives_any}
+use Rattle.fir_meaning.specs.working.UndrivenChoices.{drives_any}
 use Rattle.fir_driven.specs.working.Covering.{depth_in, flag_at}
 
 -- a leaf that is declared outside a when within so many, and that a statement of a block of it drives

@@ -1,7 +1,7 @@
 -- A flat net means what its circuit means.
 use Rattle.std.specs.Prelude.{◌↔◌, ℕ, List, Option}
 use Rattle.fir_base.specs.Ticks.{Tick}
-use Rattle.fir_meaning.specs.UndrivenLeaves.{AreDriven}
+use Rattle.fir_meaning.specs.working.UndrivenLeaves.{AreDriven}
 use Rattle.fir_meaning.specs.LeafAllows as leafed
 use Rattle.fir_meaning.specs.LeafCircuits.{LeafCircuit}
 use Rattle.fir_leaf_types.specs.working.TypedModules.{IsModuleTyped}

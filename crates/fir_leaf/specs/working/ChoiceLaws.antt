@@ -5,7 +5,7 @@ use Rattle.fir_meaning.specs.Terms.{Term}
 use Rattle.fir_meaning.specs.TermValues.{Holds, eval}
 use Rattle.fir_meaning.specs.LeafBlocks.{LeafBlock, exec_all, nothing_stored}
 use Rattle.fir_meaning.specs.Choices.{Live, IsLive, LiveReads, last_all, lives_all}
-use Rattle.fir_meaning.specs.UndrivenChoices.{IsUndriven}
+use Rattle.fir_meaning.specs.working.UndrivenChoices.{IsUndriven}
 use Rattle.fir_leaf.specs.working.ValueChoices.{choice_of_all}
 use Rattle.fir_meaning.specs.Values.{fit}
 

@@ -5,7 +5,7 @@ use Rattle.fir_ast.specs.declared.fault.FirFault.{FirFault}
 use Rattle.fir_meaning.specs.Terms.{Term, absent, no_picks, read, zeros}
 use Rattle.fir_meaning.specs.TermReads.{is_picked}
 use Rattle.fir_meaning.specs.Choices.{Choice, Live}
-use Rattle.fir_meaning.specs.UndrivenChoices.{IsUndriven}
+use Rattle.fir_meaning.specs.working.UndrivenChoices.{IsUndriven}
 use Rattle.fir_meaning.specs.LeafModules.{Role, computed, sink}
 use Rattle.fir_meaning.specs.LeafCircuits.{LeafCircuit, depth_of, role_of}
 use Rattle.fir_leaf.specs.working.ClockRoots.{GivesClock, IsChain, IsClockLeaf, lives_of}

@@ -14,7 +14,7 @@ use Rattle.fir_meaning.specs.SourceDrives.{Drive, module_drives}
 use Rattle.fir_meaning.specs.SourceFacts.{source_depth}
 use Rattle.fir_meaning.specs.SourceUndriven.{IsUndriven, told_all}
 use Rattle.fir_meaning.specs.TypeGroup.{type_faults}
-use Rattle.fir_meaning.specs.UndrivenChoices as numbered
+use Rattle.fir_meaning.specs.working.UndrivenChoices as numbered
 use Rattle.fir_meaning.specs.Visits.{module_visits}
 use Rattle.fir_source_faults.specs.working.ReadsByPath.{path_in, paths_in}
 

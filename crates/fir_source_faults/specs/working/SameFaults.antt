@@ -11,7 +11,7 @@ use Rattle.fir_meaning.specs.SourceDesigns.{SourceDesign, instances_of_block}
 use Rattle.fir_meaning.specs.SourceLoops.{ShowsLoop}
 use Rattle.fir_meaning.specs.SourceUndrivenGroup.{undriven_group}
 use Rattle.fir_meaning.specs.TypeGroup.{type_faults}
-use Rattle.fir_meaning.specs.UndrivenGroup as leafed
+use Rattle.fir_meaning.specs.working.UndrivenGroup as leafed
 use Rattle.fir_design.specs.working.MeaningLaws.{AreDesigns}
 
 -- undriven leaves

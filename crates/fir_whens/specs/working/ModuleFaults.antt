@@ -5,8 +5,8 @@ use Rattle.fir_ast.specs.Circuits.{CircuitTree}
 use Rattle.fir_pass.specs.Faults.{fault_of}
 use Rattle.fir_meaning.specs.LeafedModules.{Scene, leafed_module}
 use Rattle.fir_meaning.specs.Scenes.{IsSceneOf}
-use Rattle.fir_meaning.specs.UndrivenGroup.{IsFaultOf}
-use Rattle.fir_meaning.specs.UndrivenLeaves.{AreDriven, AreDrivenBefore}
+use Rattle.fir_meaning.specs.working.UndrivenGroup.{IsFaultOf}
+use Rattle.fir_meaning.specs.working.UndrivenLeaves.{AreDriven, AreDrivenBefore}
 
 pub record IsFirstOf (c : CircuitTree) (module_number : ℕ) (f : FirFault) : Type 0 where
   pub leaf : ℕ

@@ -1,7 +1,7 @@
 use Rattle.std.proofs.Common.{◌+◌, ◌||◌, drop, sym, ap, ◌∙◌}
 use Rattle.std.proofs.lemmas.List.{at_drop_more}
 use Rattle.fir_leaf.specs.working.NodeBlocks.{block_in, statement_in}
-use Rattle.fir_meaning.specs.UndrivenChoices.{drives, drives_any}
+use Rattle.fir_meaning.specs.working.UndrivenChoices.{drives, drives_any}
 use Rattle.fir_driven.proofs.choice.+drives.Goals as goal
 
 pub drives_any-returns-then-branch : goal.drives_any-returns-then-branch

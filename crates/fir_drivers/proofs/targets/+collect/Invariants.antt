@@ -1,5 +1,5 @@
 use Rattle.std.proofs.Common.{map, drop}
-use Rattle.fir_meaning.specs.UndrivenChoices.{drives_any}
+use Rattle.fir_meaning.specs.working.UndrivenChoices.{drives_any}
 use Rattle.fir_leaf.specs.working.NodeBlocks.{block_in}
 use Rattle.fir_drivers.specs.working.TargetLists.{AreUnmarked, Collects, StacksBlock}
 use Rattle.fir_drivers.proofs.targets.+collect.Given as goal

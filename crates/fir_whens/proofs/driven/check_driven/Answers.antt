@@ -8,7 +8,7 @@ pub returns-in-Some-clause-fault : goal.returns-in-Some-clause-fault
 returns-in-Some-clause-fault c =
     let tree = circuit_of c.args.circuit.now in
     let number = c.loop-module_number.module_number in
-    first_fault tree number c.in-Some.fault c.loop-module_number.invariant (subst (λ f. IsFoundOf tree number f) c.in-Some.is c.in_ok-fault.ensures)
+    first_fault tree c.undriven_by_path.ensures number c.in-Some.fault c.loop-module_number.invariant (subst (λ f. IsFoundOf tree number f) c.in-Some.is c.in_ok-fault.ensures)
 
 pub loop-module_number-preserved : goal.loop-module_number-preserved
 loop-module_number-preserved c =
@@ -23,7 +23,7 @@ returns-clause-clear c =
     let low : c.loop-module_number.module_number ≤ length modules = c.loop-module_number.auto.module_number-end in
     let high : length modules ≤ c.loop-module_number.module_number = c.loop-module_number-test.false in
     let all : c.loop-module_number.module_number ≡ length modules = omega (arith, low, high) in
-    all_clear tree (subst (λ n. ModulesDriven tree n) (all ∙ c.modules-module_number-end.ensures.leafed.count) c.loop-module_number.invariant)
+    all_clear tree c.undriven_by_path.ensures (subst (λ n. ModulesDriven tree n) (all ∙ c.modules-module_number-end.ensures.leafed.count) c.loop-module_number.invariant)
 
 pub returns-clause-driven : goal.returns-clause-driven
 returns-clause-driven c =

@@ -1,7 +1,7 @@
 use Rattle.std.proofs.Common.{subst}
 use Rattle.fir_ast.specs.working.Views.{circuit_of}
 use Rattle.fir_pass.specs.Groups.{IsClear}
-use Rattle.fir_meaning.specs.UndrivenGroup.{undriven_group}
+use Rattle.fir_meaning.specs.SourceUndrivenGroup.{undriven_group}
 use Rattle.fir_whens.specs.working.ModuleFaults.{AreAllDriven}
 use Rattle.fir_whens.proofs.net_circuit.NetCircuit.leafed.Goals as goal
 

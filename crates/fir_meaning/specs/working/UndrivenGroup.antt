@@ -7,7 +7,7 @@ use Rattle.fir_pass.specs.Faults.{Fault, fault_of}
 use Rattle.fir_pass.specs.Groups.{Group}
 use Rattle.fir_meaning.specs.LeafedModules.{Scene, leafed_module}
 use Rattle.fir_meaning.specs.Scenes.{IsSceneOf}
-use Rattle.fir_meaning.specs.UndrivenLeaves.{AreDriven, AreDrivenBefore, ShowsUndriven}
+use Rattle.fir_meaning.specs.working.UndrivenLeaves.{AreDriven, AreDrivenBefore, ShowsUndriven}
 
 -- the fault of a leaf of the module of a number
 pub record IsFaultOf (c : CircuitTree) (module_number leaf : ℕ) (f : Fault) : Type 0 where
