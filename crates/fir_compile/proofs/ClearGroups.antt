@@ -8,7 +8,7 @@ use Rattle.fir_pass.specs.Faults.{fault_of}
 use Rattle.fir_pass.specs.Groups.{Group, group_of, in_order, IsClear}
 use Rattle.fir_pass.specs.Law.{IsFirst}
 use Rattle.fir_meaning.specs.Components.{find_name}
-use Rattle.fir_meaning.specs.LoopGroup.{loop_group}
+use Rattle.fir_meaning.specs.SourceLoops.{loop_group}
 use Rattle.fir_meaning.specs.NameGroups.{HasNames, absent_faults}
 use Rattle.fir_meaning.specs.TypeGroup.{type_faults}
 use Rattle.fir_meaning.specs.WidthGroups.{IsInferred}

@@ -96,10 +96,5 @@ pub mod SourceUndrivenGroup
 pub mod Elaborated
 pub mod SourceDependence
 pub mod SourceLoops
-pub mod Dependence
-pub mod CircuitDependence
-pub mod LeafNames
-pub mod LoopFaults
-pub mod LoopGroup
 pub mod SourceMeaning
 pub mod working

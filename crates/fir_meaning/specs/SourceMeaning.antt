@@ -7,7 +7,7 @@ use Rattle.fir_pass.specs.Meaning.{Meaning, ShapeNames, Counts}
 use Rattle.fir_meaning.specs.CostGroup.{cost_group}
 use Rattle.fir_meaning.specs.Elaborated.{IsSourceOf}
 use Rattle.fir_meaning.specs.LeafPaths.{path_text}
-use Rattle.fir_meaning.specs.LoopGroup.{loop_group}
+use Rattle.fir_meaning.specs.SourceLoops.{loop_group}
 use Rattle.fir_meaning.specs.NameGroups.{name_group, main_group, hierarchy_group}
 use Rattle.fir_meaning.specs.ResetWalks.{reset_group}
 use Rattle.fir_meaning.specs.SourceAllows.{Allows}

@@ -6,3 +6,8 @@ pub mod TypeLaws
 pub mod InferredTypes
 pub mod WidthLaws
 pub mod AssignedWidths
+-- The closed walks of dependence over numbered leaves (E28).
+pub mod Dependence
+pub mod CircuitDependence
+pub mod LeafNames
+pub mod LoopFaults
