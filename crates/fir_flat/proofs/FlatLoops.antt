@@ -9,12 +9,12 @@ use Rattle.fir_base.proofs.Members.{map_same}
 use Rattle.fir_ast.specs.declared.fault.FirFault.{FirFault}
 use Rattle.fir_ast.specs.declared.fault.FirFault.TheVariants.{Loop}
 use Rattle.fir_ast.specs.declared.place.Place.{Place}
-use Rattle.fir_meaning.specs.CircuitDependence.{IsWalk}
+use Rattle.fir_meaning.specs.working.CircuitDependence.{IsWalk}
 use Rattle.fir_meaning.specs.LeafCircuits.{LeafCircuit}
 use Rattle.fir_meaning.specs.LeafModules.{LeafDeclared, no_leaf}
-use Rattle.fir_meaning.specs.LeafNames.{path_of_leaf, place_of_leaf}
+use Rattle.fir_meaning.specs.working.LeafNames.{path_of_leaf, place_of_leaf}
 use Rattle.fir_meaning.specs.LeafPaths.{path_text}
-use Rattle.fir_meaning.specs.LoopFaults.{ShowsLoop}
+use Rattle.fir_meaning.specs.working.LoopFaults.{ShowsLoop}
 use Rattle.fir_net.specs.declared.leaf.Leaf.{Leaf}
 use Rattle.fir_net.specs.declared.net.FlatNet.{FlatNet}
 use Rattle.fir_net.specs.working.IsNet.{IsNet}

@@ -7,8 +7,8 @@ use Rattle.fir_base.specs.Lists.{In}
 use Rattle.fir_base.proofs.Elements.{there}
 use Rattle.fir_base.proofs.Members.{in_either, in_left, in_right}
 use Rattle.fir_meaning.specs.Choices.{LiveReads}
-use Rattle.fir_meaning.specs.CircuitDependence.{CircuitDepends}
-use Rattle.fir_meaning.specs.Dependence.{RoleDepends, reading_reads, reads_if, reset_reads}
+use Rattle.fir_meaning.specs.working.CircuitDependence.{CircuitDepends}
+use Rattle.fir_meaning.specs.working.Dependence.{RoleDepends, reading_reads, reads_if, reset_reads}
 use Rattle.fir_meaning.specs.LeafCircuits.{LeafCircuit, role_of}
 use Rattle.fir_meaning.specs.LeafModules.{LeafDeclared, LeafModule, LeafReset, LeafType, a_clock, depth_at, leaf_at, no_leaf, number}
 use Rattle.fir_meaning.specs.LeafModules as leafed

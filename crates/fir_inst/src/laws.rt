@@ -12,7 +12,7 @@ use fir_flat::{
     flat_nets_show_the_same_loops, lone_modules_are_themselves,
 };
 use fir_leaf::leaves_follow_types;
-use fir_source_faults::same_registers_take_values;
+use fir_source_faults::{lone_loops_stand_by_path, same_registers_take_values};
 
 /// A circuit of one module, whose clocks are inputs and whose resets act at edges, means what the flat net of that module
 /// means: it has its ports and its state, allows at every tick the same outputs and next states, and has a closed walk of
@@ -29,6 +29,7 @@ pub fn lone_modules_flatten()
     flat_nets_allow_the_same();
     flat_nets_have_one();
     lone_modules_are_themselves();
+    lone_loops_stand_by_path();
     flat_nets_show_the_same_loops();
     flat_nets_hide_no_loop();
     leaves_follow_types();

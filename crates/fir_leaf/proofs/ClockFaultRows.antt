@@ -15,7 +15,7 @@ use Rattle.fir_meaning.proofs.SmallTrees.{at}
 use Rattle.fir_leaf.specs.working.ClockRoots.{HasRoot}
 use Rattle.fir_leaf.specs.working.ClockFaults.{ShowsClockFault, ShowsPickedClock, ShowsTwoLive}
 use Rattle.fir_meaning.specs.Designs.{elaborated, module_of}
-use Rattle.fir_meaning.specs.LoopFaults.{ShowsLoop}
+use Rattle.fir_meaning.specs.working.LoopFaults.{ShowsLoop}
 use Rattle.fir_leaf.specs.working.MemoryClockFaults.{HasClock, ShowsMemoryClocks}
 use Rattle.fir_leaf.specs.working.ModuleCircuits.{module_circuit}
 use Rattle.fir_leaf.proofs.FaultRows.{distinct, only_place}

@@ -10,9 +10,9 @@ use Rattle.fir_meaning.specs.Choices.{Live}
 use Rattle.fir_meaning.specs.LeafModules.{Role, computed, pipe, reading, register, sink, source}
 use Rattle.fir_meaning.specs.LeafCircuits.{LeafCircuit, depth_of, role_of}
 use Rattle.fir_leaf.specs.working.ClockRoots.{GivesClock}
-use Rattle.fir_meaning.specs.Dependence.{RoleDepends}
-use Rattle.fir_meaning.specs.CircuitDependence.{IsWalk}
-use Rattle.fir_meaning.specs.LoopFaults.{ShowsLoop}
+use Rattle.fir_meaning.specs.working.Dependence.{RoleDepends}
+use Rattle.fir_meaning.specs.working.CircuitDependence.{IsWalk}
+use Rattle.fir_meaning.specs.working.LoopFaults.{ShowsLoop}
 use Rattle.fir_leaf.specs.working.FaultLaws.{ChainIsWalk, ClosedWalkShowsLoop, RingShowsLoop}
 use Rattle.fir_leaf.proofs.LiveStatements.{lives_are_live}
 

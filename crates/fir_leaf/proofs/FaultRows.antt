@@ -13,11 +13,11 @@ use Rattle.fir_meaning.specs.Lack.{is_before}
 use Rattle.fir_meaning.specs.TermReads.{multiples}
 use Rattle.fir_meaning.specs.Choices.{Live, live_reads}
 use Rattle.fir_meaning.proofs.SmallTrees.{at}
-use Rattle.fir_meaning.specs.CircuitDependence.{CircuitDepends, IsWalk}
+use Rattle.fir_meaning.specs.working.CircuitDependence.{CircuitDepends, IsWalk}
 use Rattle.fir_leaf.specs.working.ClockFaults.{ShowsClockFault}
 use Rattle.fir_meaning.specs.Designs.{elaborated}
 use Rattle.fir_leaf.specs.working.InitFaults.{ShowsAsyncInit}
-use Rattle.fir_meaning.specs.LoopFaults.{ShowsLoop}
+use Rattle.fir_meaning.specs.working.LoopFaults.{ShowsLoop}
 use Rattle.fir_leaf.proofs.NamedTests.{are_distinct, distinct_by_test}
 use Rattle.fir_leaf.proofs.RowTrees.{over_leaves}
 use Rattle.fir_leaf.proofs.TextTrees as text

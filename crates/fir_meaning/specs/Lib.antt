@@ -98,10 +98,5 @@ pub mod SourceRanks
 pub mod SourceClocks
 pub mod SourceMemoryClocks
 pub mod SourceInits
-pub mod Dependence
-pub mod CircuitDependence
-pub mod LeafNames
-pub mod LoopFaults
-pub mod LoopGroup
 pub mod SourceMeaning
 pub mod working

@@ -9,3 +9,8 @@ pub mod AssignedWidths
 pub mod UndrivenChoices
 pub mod UndrivenLeaves
 pub mod UndrivenGroup
+-- The closed walks of dependence over numbered leaves (E28).
+pub mod Dependence
+pub mod CircuitDependence
+pub mod LeafNames
+pub mod LoopFaults

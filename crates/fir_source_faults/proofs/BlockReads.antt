@@ -9,7 +9,7 @@ use Rattle.fir_ast.specs.Circuits.{CircuitTree, PortTree}
 use Rattle.fir_ast.specs.Expressions.{Expression}
 use Rattle.fir_ast.specs.Statements.{Reset, Statement, wire, register, node, instance, memory, when, connect, partial_connect, invalid, skip, Block, done, then}
 use Rattle.fir_meaning.specs.Components as component
-use Rattle.fir_meaning.specs.Dependence as over
+use Rattle.fir_meaning.specs.working.Dependence as over
 use Rattle.fir_meaning.specs.Equivalence.{alike, same_ground}
 use Rattle.fir_meaning.specs.Flows.{flow_under, is_source, port_flow}
 use Rattle.fir_meaning.specs.LeafPaths.{LeafPath}

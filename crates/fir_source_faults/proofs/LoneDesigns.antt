@@ -3,11 +3,11 @@ use Rattle.std.proofs.Common.{◌≡◌, ◌↔◌, ◌≤◌, List, [], ◌∷�
 use Rattle.fir_base.specs.Lists.{In}
 use Rattle.fir_ast.specs.declared.fault.FirFault.{FirFault}
 use Rattle.fir_ast.specs.Circuits.{CircuitTree}
-use Rattle.fir_meaning.specs.Designs.{Items, made_of}
+use Rattle.fir_meaning.specs.Designs.{Design, Items, made_of}
 use Rattle.fir_meaning.specs.Flattened.{flattened}
 use Rattle.fir_meaning.specs.LeafModules.{LeafModule}
 use Rattle.fir_meaning.specs.LeafedModules.{Scene, leafed_module}
-use Rattle.fir_meaning.specs.LoopFaults as numbered
+use Rattle.fir_meaning.specs.working.LoopFaults as numbered
 use Rattle.fir_meaning.specs.SizedDeclarations.{numbered_modules}
 use Rattle.fir_meaning.specs.SourceDesigns.{AreInstances, InstanceOf, Instances, SourceDesign, held, instances_of_block, no_instances}
 use Rattle.fir_meaning.specs.SourceDesigns as tree
@@ -35,6 +35,29 @@ none_held : (scenes : List Scene) (s : Scene) (is : List InstanceOf) (trees : In
 none_held scenes s [] no_instances e h = refl
 none_held scenes s [] (held name d rest) e h = absurd h
 none_held scenes s (i ∷ is) trees e h = absurd (cc)
+
+-- where the statements over leaves hold no instance, the text has none
+no_trees : (trees : Instances) → trees_in trees ≡ [] → trees ≡ no_instances
+no_trees no_instances e = refl
+no_trees (held name d rest) e = absurd (cc)
+
+none_in_step : {A B : Type 0} (R : A → B → Type 0) (ys : List B) → AreInStep R [] ys → ys ≡ []
+none_in_step R [] h = refl
+none_in_step R (y ∷ ys) h = absurd h
+
+none_written : (scenes : List Scene) (s : Scene) (is : List InstanceOf) → AreInstances scenes s is no_instances → is ≡ []
+none_written scenes s [] h = refl
+none_written scenes s (i ∷ is) h = absurd h
+
+pub none_by_body : (c : CircuitTree) (d : Design) (t : SourceDesign) (a : AreDesigns c d t) → all_held_in 0 (leafed_module a.main).body ≡ []
+    → instances_of_block a.main.own.inside.body ≡ []
+none_by_body c d (tree.made_of u trees) a e =
+    let s = a.main in
+    let beside = trees_of_module a.scenes s c a.names (scene_own c a.scenes a.are s a.among) trees a.tree.1 in
+    let none = no_trees trees
+    (none_in_step (IsTreeOf a.scenes s) (trees_in trees) (subst (λ hs. AreInStep (IsTreeOf a.scenes s) hs (trees_in trees)) e beside)) in
+    none_written a.scenes s (instances_of_block s.own.inside.body)
+    (subst (AreInstances a.scenes s (instances_of_block s.own.inside.body)) none a.tree.1)
 
 module _ (roles : ViewsHaveRoles) (reads : ModulesReadByPath) (drives : ModulesDriveByPath) where
   -- at the module and the tree that the design has

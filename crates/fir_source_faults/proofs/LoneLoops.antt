@@ -3,15 +3,15 @@ use Rattle.std.proofs.Common.{◌≡◌, ◌↔◌, ℕ, ◌<◌, ◌≤◌, Lis
 use Rattle.std.proofs.lemmas.Bool.{ltb-true, ltb-false}
 use Rattle.std.proofs.lemmas.List.{get_or_past}
 use Rattle.std.proofs.lemmas.Option.{get_or_from_slice_get, slice_get_within}
-use Rattle.fir_meaning.specs.LeafNames.{place_of_leaf}
+use Rattle.fir_meaning.specs.working.LeafNames.{place_of_leaf}
 use Rattle.fir_ast.specs.declared.place.Place.{Place}
 use Rattle.fir_ast.specs.declared.fault.FirFault.{FirFault}
 use Rattle.fir_source_faults.proofs.DeclaredPlaces.{source_place_is}
-use Rattle.fir_meaning.specs.CircuitDependence.{CircuitDepends}
-use Rattle.fir_meaning.specs.Dependence.{RoleDepends}
+use Rattle.fir_meaning.specs.working.CircuitDependence.{CircuitDepends}
+use Rattle.fir_meaning.specs.working.Dependence.{RoleDepends}
 use Rattle.fir_meaning.specs.SourceLoops.{ShowsLoop, StandsAt}
 use Rattle.fir_source_faults.proofs.LoopWalks.{SameDependence, same_loops}
-use Rattle.fir_meaning.specs.LoopFaults as numbered
+use Rattle.fir_meaning.specs.working.LoopFaults as numbered
 use Rattle.fir_base.specs.Lists.{In}
 use Rattle.fir_base.proofs.Elements.{there, get_in, number_of}
 use Rattle.fir_base.proofs.Members.{in_map, in_map_from}

@@ -1,7 +1,7 @@
 -- In a design without instances every leaf keeps its number: its statements, and what its roles read, are those of its module.
 use Rattle.std.proofs.Common.{◌≡◌, ℕ, ◌+◌, List, [], ◌∷◌, ◌++◌, map, Bool, true, false, nat_lt, Option, Some, None, option_map, refl, ap, ap₂, arith}
 use Rattle.std.proofs.lemmas.Bool.{ltb-true, ltb-false}
-use Rattle.fir_meaning.specs.Dependence.{reads_if, reset_reads}
+use Rattle.fir_meaning.specs.working.Dependence.{reads_if, reset_reads}
 use Rattle.fir_meaning.specs.LeafBlocks.{joined}
 use Rattle.fir_meaning.specs.LeafBlocks as over
 use Rattle.fir_meaning.specs.LeafModules as role

@@ -7,12 +7,12 @@ use Rattle.fir_base.proofs.Members.{in_map, in_map_from}
 use Rattle.fir_ast.specs.declared.fault.FirFault.{FirFault}
 use Rattle.fir_ast.specs.declared.fault.FirFault.TheVariants.{Loop}
 use Rattle.fir_ast.specs.declared.place.Place.{Place}
-use Rattle.fir_meaning.specs.CircuitDependence as over
-use Rattle.fir_meaning.specs.CircuitDependence.{CircuitDepends}
+use Rattle.fir_meaning.specs.working.CircuitDependence as over
+use Rattle.fir_meaning.specs.working.CircuitDependence.{CircuitDepends}
 use Rattle.fir_meaning.specs.LeafCircuits.{LeafCircuit}
-use Rattle.fir_meaning.specs.LeafNames.{path_of_leaf, place_of_leaf}
+use Rattle.fir_meaning.specs.working.LeafNames.{path_of_leaf, place_of_leaf}
 use Rattle.fir_meaning.specs.LeafPaths.{LeafPath, path_text}
-use Rattle.fir_meaning.specs.LoopFaults as numbered
+use Rattle.fir_meaning.specs.working.LoopFaults as numbered
 use Rattle.fir_meaning.specs.SourceDependence.{Depends, IsWalk}
 use Rattle.fir_meaning.specs.SourceDesigns.{SourceDesign}
 use Rattle.fir_meaning.specs.SourceLoops.{ShowsLoop, StandsAt}

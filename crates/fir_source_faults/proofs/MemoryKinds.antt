@@ -5,7 +5,7 @@ use Rattle.std.specs.Prelude.{codes, flat_map}
 use Rattle.std.specs.Str.{bytes_eq}
 use Rattle.fir_ast.specs.declared.statements.ReadUnderWrite.{ReadUnderWrite}
 use Rattle.fir_ast.specs.Statements.{MemoryPart}
-use Rattle.fir_meaning.specs.Dependence as over
+use Rattle.fir_meaning.specs.working.Dependence as over
 use Rattle.fir_meaning.specs.LeafMemories.{PortKind, reads, reads_and_writes, writes}
 use Rattle.fir_meaning.specs.LeafModules as role
 use Rattle.fir_meaning.specs.LeafModules.{LeafArray, LeafDeclared, LeafType, Need, Reading, Role}

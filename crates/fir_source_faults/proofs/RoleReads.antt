@@ -1,7 +1,7 @@
 -- What a role reads within a tick, as one list, by numbers and by paths; and on what a leaf of the role depends.
 use Rattle.std.proofs.Common.{◌≡◌, ℕ, List, [], true, false}
 use Rattle.fir_base.specs.Lists.{In}
-use Rattle.fir_meaning.specs.Dependence as over
+use Rattle.fir_meaning.specs.working.Dependence as over
 use Rattle.fir_meaning.specs.LeafBlocks.{LeafBlock}
 use Rattle.fir_meaning.specs.LeafModules as role
 use Rattle.fir_meaning.specs.LeafModules.{LeafArray, LeafDeclared, LeafReset, Need, Reading, Role, is_sink}

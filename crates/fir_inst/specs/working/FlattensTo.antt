@@ -9,7 +9,7 @@ use Rattle.fir_pass.specs.Faults.{fault_of}
 use Rattle.fir_pass.specs.Groups.{IsClear}
 use Rattle.fir_meaning.specs.Elaborated.{IsSourceOf}
 use Rattle.fir_meaning.specs.LeafedModules.{Scene}
-use Rattle.fir_meaning.specs.LoopGroup.{loop_group}
+use Rattle.fir_meaning.specs.SourceLoops.{loop_group}
 use Rattle.fir_meaning.specs.Scenes.{IsSceneOf}
 use Rattle.fir_meaning.specs.SourceAllows.{Allows}
 use Rattle.fir_meaning.specs.SourceCircuits.{is_sink, ports_where, source_shape, widths_of}

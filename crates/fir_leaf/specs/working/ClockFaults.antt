@@ -12,7 +12,7 @@ use Rattle.fir_meaning.specs.Terms.{Term, Picks, absent, no_picks, pick, read}
 use Rattle.fir_meaning.specs.Choices.{Live}
 use Rattle.fir_meaning.specs.LeafModules.{LeafType, Role, a_clock, computed, leaf_at, number, register, sink}
 use Rattle.fir_meaning.specs.LeafCircuits.{LeafCircuit, role_of}
-use Rattle.fir_meaning.specs.LeafNames.{component_of_leaf, path_of_leaf, place_of_leaf}
+use Rattle.fir_meaning.specs.working.LeafNames.{component_of_leaf, path_of_leaf, place_of_leaf}
 use Rattle.fir_leaf.specs.working.ClockRoots.{lives_of}
 
 -- where the indices stand

@@ -9,9 +9,9 @@ use Rattle.fir_meaning.specs.working.UndrivenChoices.{IsUndriven}
 use Rattle.fir_meaning.specs.LeafModules.{Role, computed, sink}
 use Rattle.fir_meaning.specs.LeafCircuits.{LeafCircuit, depth_of, role_of}
 use Rattle.fir_leaf.specs.working.ClockRoots.{GivesClock, IsChain, IsClockLeaf, lives_of}
-use Rattle.fir_meaning.specs.CircuitDependence.{IsWalk}
+use Rattle.fir_meaning.specs.working.CircuitDependence.{IsWalk}
 use Rattle.fir_leaf.specs.working.ClockFaults.{ShowsClockFault}
-use Rattle.fir_meaning.specs.LoopFaults.{ShowsLoop}
+use Rattle.fir_meaning.specs.working.LoopFaults.{ShowsLoop}
 
 -- a chain of clocks is a walk of dependence
 abbrev pub ChainIsWalk : Type 0

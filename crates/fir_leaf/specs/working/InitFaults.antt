@@ -9,8 +9,8 @@ use Rattle.fir_meaning.specs.Terms.{Term}
 use Rattle.fir_meaning.specs.TermReads.{reads}
 use Rattle.fir_meaning.specs.LeafModules.{LeafReset, Role, computed, register, sink}
 use Rattle.fir_meaning.specs.LeafCircuits.{LeafCircuit, role_of}
-use Rattle.fir_meaning.specs.LeafNames.{path_of_leaf, place_of_leaf}
-use Rattle.fir_meaning.specs.CircuitDependence.{IsWalk}
+use Rattle.fir_meaning.specs.working.LeafNames.{path_of_leaf, place_of_leaf}
+use Rattle.fir_meaning.specs.working.CircuitDependence.{IsWalk}
 
 -- an input, or what shows state: a register, or what a memory gives
 abbrev pub ends_init : Role → Bool

@@ -13,4 +13,5 @@ returns c =
       net_one = c.flat_nets_have_one.ensures;
       itself = c.lone_modules_are_themselves.ensures;
       follow = c.leaves_follow_types.ensures;
-    }) c.has_one_tree.ensures c.same_registers_take_values.ensures c.flat_nets_show_the_same_loops.ensures c.flat_nets_hide_no_loop.ensures
+    }) c.has_one_tree.ensures c.same_registers_take_values.ensures c.lone_loops_stand_by_path.ensures c.flat_nets_show_the_same_loops.ensures
+    c.flat_nets_hide_no_loop.ensures

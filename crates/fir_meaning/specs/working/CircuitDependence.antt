@@ -2,7 +2,7 @@
 -- A leaf depends on what one of its role does in a module. On a walk each leaf depends on the one behind it.
 use Rattle.std.specs.Prelude.{◌≡◌, ℕ, List, [], ◌∷◌}
 use Rattle.fir_meaning.specs.LeafCircuits.{LeafCircuit, depth_of, role_of}
-use Rattle.fir_meaning.specs.Dependence.{RoleDepends}
+use Rattle.fir_meaning.specs.working.Dependence.{RoleDepends}
 
 abbrev pub CircuitDepends : LeafCircuit → ℕ → ℕ → Type 0
 CircuitDepends c x y = RoleDepends c.body (depth_of c x) x (role_of c x) y

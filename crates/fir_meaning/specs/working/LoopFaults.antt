@@ -5,8 +5,8 @@ use Rattle.fir_base.specs.Lists.{Distinct}
 use Rattle.fir_ast.specs.declared.fault.FirFault.{FirFault}
 use Rattle.fir_ast.specs.declared.fault.FirFault.TheVariants.{Loop}
 use Rattle.fir_meaning.specs.LeafCircuits.{LeafCircuit}
-use Rattle.fir_meaning.specs.LeafNames.{path_of_leaf, place_of_leaf}
-use Rattle.fir_meaning.specs.CircuitDependence.{IsWalk}
+use Rattle.fir_meaning.specs.working.LeafNames.{path_of_leaf, place_of_leaf}
+use Rattle.fir_meaning.specs.working.CircuitDependence.{IsWalk}
 
 pub record ShowsLoop (c : LeafCircuit) (f : FirFault) : Type 0 where
   pub first : ℕ
