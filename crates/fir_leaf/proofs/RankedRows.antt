@@ -11,9 +11,9 @@ use Rattle.fir_meaning.specs.Choices.{live_reads, lives_all}
 use Rattle.fir_meaning.specs.LeafBlocks.{LeafBlock}
 use Rattle.fir_meaning.specs.LeafModules.{LeafDeclared, Role, computed, leaf_at, no_leaf, pipe, reading, register, sink, source}
 use Rattle.fir_meaning.specs.LeafCircuits.{LeafCircuit, depth_of, role_of}
-use Rattle.fir_meaning.specs.Dependence.{RoleDepends, reading_reads, reset_reads}
-use Rattle.fir_meaning.specs.CircuitDependence.{CircuitDepends, IsWalk}
-use Rattle.fir_meaning.specs.LoopFaults.{ShowsLoop}
+use Rattle.fir_meaning.specs.working.Dependence.{RoleDepends, reading_reads, reset_reads}
+use Rattle.fir_meaning.specs.working.CircuitDependence.{CircuitDepends, IsWalk}
+use Rattle.fir_meaning.specs.working.LoopFaults.{ShowsLoop}
 use Rattle.fir_meaning.specs.Designs.{elaborated}
 use Rattle.fir_leaf.proofs.LiveStatements.{lives_are_live}
 use Rattle.fir_leaf.proofs.RowTrees.{over_leaves}

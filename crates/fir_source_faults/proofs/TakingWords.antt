@@ -9,7 +9,7 @@ use Rattle.fir_meaning.specs.SourceCircuits as source
 use Rattle.fir_meaning.specs.SourceRoles as tree
 use Rattle.fir_meaning.specs.SourceRoles.{SourceLeaf, SourceReset, SourceRole, source_leaves}
 use Rattle.fir_meaning.specs.StateWalks.{has_bits, is_state, numbers_where}
-use Rattle.fir_meaning.specs.UndrivenChoices.{drives_any}
+use Rattle.fir_meaning.specs.working.UndrivenChoices.{drives_any}
 use Rattle.fir_design.specs.working.SameRoles.{MaySameReset, SameLeaves, SameRole}
 use Rattle.fir_design.proofs.FineScenes.{IsFineScene, fine_scene}
 use Rattle.fir_design.proofs.ViewRoles.{views_same}

@@ -6,7 +6,8 @@ use Rattle.std.proofs.lemmas.Option.{none-some}
 use Rattle.fir_ast.specs.declared.fault.FirFault.{FirFault}
 use Rattle.fir_ast.specs.Circuits.{CircuitTree, ModuleTree}
 use Rattle.fir_pass.specs.Faults.{Fault, code_of, fault_of}
-use Rattle.fir_pass.specs.Groups.{IsClear, SameGroup, group_of}
+use Rattle.fir_pass.specs.Groups.{IsClear, group_of}
+use Rattle.fir_pass.specs.working.Groups.{SameGroup}
 use Rattle.fir_pass.specs.Law.{IsFirst}
 use Rattle.fir_meaning.specs.LeafedModules.{Scene, leafed_module}
 use Rattle.fir_meaning.specs.Scenes.{IsSceneOf}

@@ -1,7 +1,7 @@
 //! Undriven leaves of a circuit over its ground leaves, by number and by path.
 
-ghost use Rattle.fir_ast.specs.View.{circuit_of};
-ghost use Rattle.fir_pass.specs.Groups.{SameGroup};
+ghost use Rattle.fir_ast.specs.working.Views.{circuit_of};
+ghost use Rattle.fir_pass.specs.working.Groups.{SameGroup};
 ghost use Rattle.fir_meaning.specs.SourceUndrivenGroup.{undriven_group};
 ghost use Rattle.fir_meaning.specs.working.UndrivenGroup as numbered;
 

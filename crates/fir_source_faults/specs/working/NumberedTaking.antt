@@ -9,7 +9,7 @@ use Rattle.fir_meaning.specs.NameGroups.{HasNames}
 use Rattle.fir_meaning.specs.SizedDeclarations.{numbered_modules}
 use Rattle.fir_meaning.specs.StateWalks.{has_bits, is_state, numbers_where}
 use Rattle.fir_meaning.specs.TypeGroup.{type_faults}
-use Rattle.fir_meaning.specs.UndrivenChoices.{drives_any}
+use Rattle.fir_meaning.specs.working.UndrivenChoices.{drives_any}
 use Rattle.fir_meaning.specs.TakingRegisters as tree
 
 abbrev pub has_reset : Option LeafReset → Bool
