@@ -6,7 +6,7 @@ use Rattle.fir_pass.specs.Faults.{fault_of}
 use Rattle.fir_pass.specs.Law.{IsFirst}
 use Rattle.fir_parse.specs.working.Laws.{SpellsOneTree, HasTreeOrFault}
 use Rattle.fir_meaning.specs.Lack.{Lack}
-use Rattle.fir_meaning.specs.LeafedModules.{Scene}
+use Rattle.fir_meaning.specs.ModuleScenes.{Scene}
 use Rattle.fir_meaning.specs.SourceMeaning.{circuit_meaning}
 use Rattle.fir_lack.specs.Lacking.{lacking}
 use Rattle.fir_outcome.specs.CircuitFaults.{IsFirstUpTo, LacksFirst, LacksNone}

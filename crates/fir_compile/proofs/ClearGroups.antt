@@ -13,9 +13,10 @@ use Rattle.fir_meaning.specs.SourceInits.{init_group}
 use Rattle.fir_meaning.specs.SourceLoops.{loop_group}
 use Rattle.fir_meaning.specs.SourceMemoryClocks.{memory_clock_group}
 use Rattle.fir_meaning.specs.SourceUndrivenGroup.{undriven_group}
-use Rattle.fir_meaning.specs.NameGroups.{HasNames, absent_faults}
+use Rattle.fir_meaning.specs.working.NameGroups.{HasNames}
+use Rattle.fir_meaning.specs.NameGroups.{absent_faults}
 use Rattle.fir_meaning.specs.TypeGroup.{type_faults}
-use Rattle.fir_meaning.specs.WidthGroups.{IsInferred}
+use Rattle.fir_meaning.specs.working.WidthGroups.{IsInferred}
 use Rattle.fir_meaning.specs.CostGroup.{cost_group}
 use Rattle.fir_meaning.specs.SourceMeaning.{circuit_meaning}
 use Rattle.fir_meaning.proofs.KeptTrees.{first_at, none_clear}

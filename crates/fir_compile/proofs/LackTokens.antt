@@ -19,7 +19,7 @@ use Rattle.fir_parse.specs.ExpressionForms.{IsExpression}
 use Rattle.fir_parse.specs.StatementForms.{AreStatements, IsBlock, IsElse, IsReset, IsStatement}
 use Rattle.fir_parse.specs.CircuitForms.{direction_word, AreModules, ArePorts, AreSomeModules, IsBody, IsModule, IsPort, IsSpelled}
 use Rattle.fir_meaning.specs.Lack.{Lack, lack}
-use Rattle.fir_meaning.specs.LeafedModules.{Scene}
+use Rattle.fir_meaning.specs.ModuleScenes.{Scene}
 use Rattle.fir_meaning.specs.Scenes.{IsSceneOf}
 use Rattle.fir_meaning.specs.SizedDeclarations.{NumberedModule, Numbering, first_numbers, modules_from}
 use Rattle.fir_lack.specs.Lacking.{holds_clock, is_clock_input, is_reset_at_once, lack_if, lacking, lacking_behind, lacking_block, lacking_clock, lacking_module, lacking_port, lacking_ports, lacking_reset, lacking_statement, some_leaf, type_word}

@@ -8,8 +8,9 @@ use Rattle.fir_pass.specs.Faults.{fault_of}
 use Rattle.fir_pass.specs.Groups.{group_of}
 use Rattle.fir_pass.specs.Law.{IsFirst}
 use Rattle.fir_parse.specs.Spells.{Spells, terminals}
-use Rattle.fir_meaning.specs.LeafedModules.{Scene}
-use Rattle.fir_meaning.specs.Scenes.{HasScenes, IsSceneOf}
+use Rattle.fir_meaning.specs.ModuleScenes.{Scene}
+use Rattle.fir_meaning.specs.working.Scenes.{HasScenes}
+use Rattle.fir_meaning.specs.Scenes.{IsSceneOf}
 use Rattle.fir_meaning.specs.SourceMeaning.{circuit_meaning}
 use Rattle.fir_net.specs.declared.net.FlatNet.{FlatNet}
 use Rattle.fir_net.specs.working.IsOrder.{IsOrder}

@@ -2,7 +2,7 @@
 use Rattle.std.proofs.Common.{◌≡◌, ℕ, [], ◌∷◌, List, true, false, inl, inr, ⊎_elim, nat_eq}
 use Rattle.std.proofs.lemmas.Bool.{eqb-true, or_cases}
 use Rattle.fir_base.specs.Lists.{In}
-use Rattle.fir_meaning.specs.TermReads.{is_among}
+use Rattle.fir_meaning.specs.working.TermReads.{is_among}
 use Rattle.fir_leaf.proofs.PickedLeaves.{among_in}
 
 pub in_among : (xs : List ℕ) (x : ℕ) → is_among xs x ≡ true → In xs x

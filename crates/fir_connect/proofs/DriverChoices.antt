@@ -5,12 +5,12 @@ use Rattle.std.proofs.lemmas.Bool.{eqb-true, or_parts}
 use Rattle.fir_base.specs.Lists.{In}
 use Rattle.fir_ast.specs.declared.place.Place.{Place}
 use Rattle.fir_meaning.specs.Values.{is_high}
-use Rattle.fir_meaning.specs.LeafModules.{LeafType}
-use Rattle.fir_meaning.specs.Terms.{Term, Picks, no_picks, pick}
-use Rattle.fir_meaning.specs.TermReads.{is_among, reached}
-use Rattle.fir_meaning.specs.TermValues.{Holds, is_true, leaf_of}
-use Rattle.fir_meaning.specs.LeafBlocks.{LeafStatement, drive, when, instance, LeafBlock, done, then}
-use Rattle.fir_meaning.specs.Choices.{Choice, Live, below, driving, last, last_all, later}
+use Rattle.fir_meaning.specs.LeafTypes.{LeafType}
+use Rattle.fir_meaning.specs.working.Terms.{Term, Picks, no_picks, pick}
+use Rattle.fir_meaning.specs.working.TermReads.{is_among, reached}
+use Rattle.fir_meaning.specs.working.TermValues.{Holds, is_true, leaf_of}
+use Rattle.fir_meaning.specs.working.LeafBlocks.{LeafStatement, drive, when, instance, LeafBlock, done, then}
+use Rattle.fir_meaning.specs.working.Choices.{Choice, Live, below, driving, last, last_all, later}
 use Rattle.fir_meaning.specs.working.UndrivenChoices.{drives_any}
 use Rattle.fir_leaf.proofs.LiveStatements.{live_all}
 use Rattle.fir_leaf.proofs.PickedLeaves.{among_in, in_reached}

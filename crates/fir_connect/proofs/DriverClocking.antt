@@ -1,9 +1,9 @@
 -- What drives a clock leaf gives the clock that the statements store there.
 use Rattle.std.proofs.Common.{◌≡◌, ℕ, Option, unwrap_or, refl, sym, ap, ◌∙◌}
-use Rattle.fir_meaning.specs.Choices.{last_all}
-use Rattle.fir_meaning.specs.LeafModules.{LeafType, a_clock}
-use Rattle.fir_meaning.specs.TermValues.{clock_of}
-use Rattle.fir_meaning.specs.Terms.{Term}
+use Rattle.fir_meaning.specs.working.Choices.{last_all}
+use Rattle.fir_meaning.specs.LeafTypes.{LeafType, a_clock}
+use Rattle.fir_meaning.specs.working.TermValues.{clock_of}
+use Rattle.fir_meaning.specs.working.Terms.{Term}
 use Rattle.fir_leaf.proofs.LiveStores.{stored_is_live}
 use Rattle.fir_leaf.specs.working.ValueChoices.{choice_of_all}
 use Rattle.fir_leaf_types.specs.working.TypedBlocks.{MayGive}

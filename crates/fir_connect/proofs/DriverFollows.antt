@@ -3,10 +3,10 @@ use Rattle.std.proofs.Common.{◌≡◌, ℕ, [], ◌∷◌, List, ◌++◌, fla
 use Rattle.std.proofs.lemmas.Bool.{and_cases}
 use Rattle.fir_base.specs.Lists.{In}
 use Rattle.fir_base.proofs.Members.{in_either, in_left, in_map, in_map_from, in_right}
-use Rattle.fir_meaning.specs.Terms.{Term}
-use Rattle.fir_meaning.specs.TermReads.{picks_read, reads}
-use Rattle.fir_meaning.specs.TermValues.{Holds}
-use Rattle.fir_meaning.specs.Choices.{Live, below, live_reads, unless}
+use Rattle.fir_meaning.specs.working.Terms.{Term}
+use Rattle.fir_meaning.specs.working.TermReads.{picks_read, reads}
+use Rattle.fir_meaning.specs.working.TermValues.{Holds}
+use Rattle.fir_meaning.specs.working.Choices.{Live, below, live_reads, unless}
 use Rattle.fir_connect.specs.working.NetTerms.{NetTerm, choice}
 use Rattle.fir_connect.specs.working.NetReads.{net_reads}
 use Rattle.fir_connect.specs.working.Lowered.{lowered}

@@ -3,9 +3,9 @@ use Rattle.std.proofs.Common.{◌≡◌, ℕ, ◌+◌, [], List, ◌++◌, map, 
 use Rattle.std.proofs.lemmas.Bool.{false_from_ne_true, or_cases, or_parts}
 use Rattle.fir_base.specs.Lists.{In}
 use Rattle.fir_base.proofs.Members.{in_left, in_map, in_right}
-use Rattle.fir_meaning.specs.Terms.{Term}
-use Rattle.fir_meaning.specs.LeafBlocks.{LeafStatement, drive, when, instance, LeafBlock, done, then}
-use Rattle.fir_meaning.specs.Choices.{Choice, Live, below, covers_all, driving, last_all, lives, lives_all, unless}
+use Rattle.fir_meaning.specs.working.Terms.{Term}
+use Rattle.fir_meaning.specs.working.LeafBlocks.{LeafStatement, drive, when, instance, LeafBlock, done, then}
+use Rattle.fir_meaning.specs.working.Choices.{Choice, Live, below, covers_all, driving, last_all, lives, lives_all, unless}
 use Rattle.fir_meaning.specs.working.UndrivenChoices.{drives, drives_any}
 use Rattle.fir_leaf.proofs.LiveStatements.{covered_all, live_all}
 

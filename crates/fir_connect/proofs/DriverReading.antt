@@ -3,11 +3,11 @@ use Rattle.std.proofs.Common.{◌≡◌, ℕ, ◌+◌, [], ◌∷◌, List, ◌+
 use Rattle.fir_base.specs.Lists.{In}
 use Rattle.fir_base.proofs.Members.{in_either, in_left, in_right}
 use Rattle.fir_ast.specs.declared.place.Place.{Place}
-use Rattle.fir_meaning.specs.Terms.{Term, Picks, no_picks, pick}
-use Rattle.fir_meaning.specs.TermReads.{is_among, picks_read, reached, reads}
-use Rattle.fir_meaning.specs.TermValues.{Holds}
-use Rattle.fir_meaning.specs.LeafBlocks.{LeafStatement, drive, when, instance, LeafBlock, done, then}
-use Rattle.fir_meaning.specs.Choices.{Live, LiveReads, below, covers, covers_all, driving, live_reads, lives, lives_all, unless}
+use Rattle.fir_meaning.specs.working.Terms.{Term, Picks, no_picks, pick}
+use Rattle.fir_meaning.specs.working.TermReads.{is_among, picks_read, reached, reads}
+use Rattle.fir_meaning.specs.working.TermValues.{Holds}
+use Rattle.fir_meaning.specs.working.LeafBlocks.{LeafStatement, drive, when, instance, LeafBlock, done, then}
+use Rattle.fir_meaning.specs.working.Choices.{Live, LiveReads, below, covers, covers_all, driving, live_reads, lives, lives_all, unless}
 use Rattle.fir_meaning.specs.working.UndrivenChoices.{drives_any}
 use Rattle.fir_leaf.proofs.LiveStatements.{lives_are_live}
 use Rattle.fir_connect.specs.working.NetTerms.{NetTerm, choice}

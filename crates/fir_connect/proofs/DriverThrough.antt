@@ -2,9 +2,9 @@
 use Rattle.std.proofs.Common.{◌≡◌, ◌↔◌, ℕ, [], ◌∷◌, List, ◌++◌, Bool, true, false, refl, sym, ap, ◌∙◌, inl, inr, ◌⊎◌, ⊎_elim, subst, nat_eq, if◌then◌else◌, arith}
 use Rattle.fir_base.specs.Lists.{In}
 use Rattle.fir_base.proofs.Members.{in_either, in_left, in_right}
-use Rattle.fir_meaning.specs.Terms.{Term, zeros, absent, literal, read, operation, mux, validif}
-use Rattle.fir_meaning.specs.TermReads.{reads}
-use Rattle.fir_meaning.specs.TermValues.{Holds}
+use Rattle.fir_meaning.specs.working.Terms.{Term, zeros, absent, literal, read, operation, mux, validif}
+use Rattle.fir_meaning.specs.working.TermReads.{reads}
+use Rattle.fir_meaning.specs.working.TermValues.{Holds}
 use Rattle.fir_connect.specs.working.NetTerms.{NetTerm, choice}
 use Rattle.fir_connect.specs.working.NetReads.{net_reads}
 use Rattle.fir_connect.specs.working.Lowered.{Candidate}

@@ -8,11 +8,11 @@ use Rattle.fir_bits.specs.working.Operators.{type_of}
 use Rattle.fir_bits.specs.Values.{fitted}
 use Rattle.fir_bits.specs.declared.types.NumTy.{NumTy}
 use Rattle.fir_bits.specs.declared.values.Num.{Num}
-use Rattle.fir_meaning.specs.Choices.{Live, last_all}
+use Rattle.fir_meaning.specs.working.Choices.{Live, last_all}
 use Rattle.fir_meaning.specs.Values.{at_width, is_high, fit}
-use Rattle.fir_meaning.specs.LeafModules.{LeafType, number, number_type}
-use Rattle.fir_meaning.specs.TermValues.{Holds, eval}
-use Rattle.fir_meaning.specs.Terms.{Term, zeros}
+use Rattle.fir_meaning.specs.LeafTypes.{LeafType, number, number_type}
+use Rattle.fir_meaning.specs.working.TermValues.{Holds, eval}
+use Rattle.fir_meaning.specs.working.Terms.{Term, zeros}
 use Rattle.fir_leaf.proofs.LiveStores.{stored_is_live}
 use Rattle.fir_leaf.specs.working.ChoiceLaws.{fitted_at}
 use Rattle.fir_leaf.specs.working.ValueChoices.{choice_of_all}

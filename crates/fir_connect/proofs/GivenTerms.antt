@@ -1,9 +1,9 @@
 -- What a statement gives to a leaf: zero where it is `is invalid`, and else a term of a type of the leaf's kind.
 use Rattle.std.proofs.Common.{◌≡◌, ℕ, inl, inr, ◌⊎◌}
 use Rattle.fir_bits.specs.declared.types.NumTy.{NumTy}
-use Rattle.fir_meaning.specs.LeafModules.{LeafType, a_clock, number}
-use Rattle.fir_meaning.specs.TermValues.{Holds}
-use Rattle.fir_meaning.specs.Terms.{Term, zeros, absent, literal, read, operation, mux, validif}
+use Rattle.fir_meaning.specs.LeafTypes.{LeafType, a_clock, number}
+use Rattle.fir_meaning.specs.working.TermValues.{Holds}
+use Rattle.fir_meaning.specs.working.Terms.{Term, zeros, absent, literal, read, operation, mux, validif}
 use Rattle.fir_leaf_types.specs.working.TypedBlocks.{IsSameKind, MayGive}
 use Rattle.fir_leaf_types.specs.working.TypedTerms.{HasType}
 use Rattle.fir_connect.specs.working.NetTerms.{NetTerm}

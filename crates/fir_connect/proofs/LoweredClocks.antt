@@ -3,9 +3,9 @@ use Rattle.std.proofs.Common.{◌≡◌, ℕ, List, [], ◌∷◌, Bool, true, f
 use Rattle.fir_base.specs.Lists.{In}
 use Rattle.fir_bits.specs.declared.types.NumTy.{NumTy}
 use Rattle.fir_meaning.specs.Values.{is_high}
-use Rattle.fir_meaning.specs.TermReads.{reached}
-use Rattle.fir_meaning.specs.TermValues.{Holds, clock_at}
-use Rattle.fir_meaning.specs.Terms.{Picks, zeros, absent, literal, read, operation, mux, validif, no_picks, pick}
+use Rattle.fir_meaning.specs.working.TermReads.{reached}
+use Rattle.fir_meaning.specs.working.TermValues.{Holds, clock_at}
+use Rattle.fir_meaning.specs.working.Terms.{Picks, zeros, absent, literal, read, operation, mux, validif, no_picks, pick}
 use Rattle.fir_connect.specs.working.NetTerms.{NetTerm}
 use Rattle.fir_connect.specs.working.NetValues.{term_clock, term_value}
 use Rattle.fir_connect.specs.working.Lowered.{Candidate, candidates, conditions, first_met, unpicked, without, zero_of}

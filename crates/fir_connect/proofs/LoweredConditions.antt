@@ -8,8 +8,8 @@ use Rattle.fir_bits.specs.Operators.{flag, integer_of, outcome}
 use Rattle.fir_bits.specs.declared.operators.PrimOp.TheVariants.{And}
 use Rattle.fir_bits.specs.declared.values.Num.{Num}
 use Rattle.fir_meaning.specs.Values.{is_high, number_of}
-use Rattle.fir_meaning.specs.TermValues.{Holds}
-use Rattle.fir_meaning.specs.Terms.{Picks, no_picks, pick}
+use Rattle.fir_meaning.specs.working.TermValues.{Holds}
+use Rattle.fir_meaning.specs.working.Terms.{Picks, no_picks, pick}
 use Rattle.fir_connect.specs.working.NetTerms.{NetTerm}
 use Rattle.fir_connect.specs.working.NetValues.{term_value}
 use Rattle.fir_connect.specs.working.Lowered.{both, conditions, is_number, lowered, one_bit}

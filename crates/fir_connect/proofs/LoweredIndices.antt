@@ -3,8 +3,8 @@ use Rattle.std.proofs.Common.{◌≡◌, ℕ, zero, suc, ◌+◌, ◌*◌, ◌<�
 use Rattle.std.proofs.lemmas.Bool.{ltb-true, ltb-false}
 use Rattle.fir_base.specs.Lists.{In}
 use Rattle.fir_meaning.specs.Values.{is_high}
-use Rattle.fir_meaning.specs.TermReads.{multiples}
-use Rattle.fir_meaning.specs.TermValues.{Holds, picked}
+use Rattle.fir_meaning.specs.working.TermReads.{multiples}
+use Rattle.fir_meaning.specs.working.TermValues.{Holds, picked}
 use Rattle.fir_connect.specs.working.NetTerms.{NetTerm}
 use Rattle.fir_connect.specs.working.NetValues.{term_value}
 use Rattle.fir_connect.specs.working.Lowered.{numbers_from}

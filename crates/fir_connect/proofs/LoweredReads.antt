@@ -4,10 +4,10 @@ use Rattle.std.proofs.lemmas.List.{append-nil}
 use Rattle.fir_base.specs.Lists.{In}
 use Rattle.fir_base.proofs.Members.{in_left, in_right, in_either}
 use Rattle.fir_bits.specs.declared.types.NumTy.{NumTy}
-use Rattle.fir_meaning.specs.TermReads.{picks_read, reached, reads}
-use Rattle.fir_meaning.specs.TermReads as over_reads
-use Rattle.fir_meaning.specs.TermValues.{Holds}
-use Rattle.fir_meaning.specs.Terms.{Term, Picks, Terms, zeros, absent, literal, read, operation, mux, validif, no_picks, pick, no_terms, term}
+use Rattle.fir_meaning.specs.working.TermReads.{picks_read, reached, reads}
+use Rattle.fir_meaning.specs.working.TermReads as over_reads
+use Rattle.fir_meaning.specs.working.TermValues.{Holds}
+use Rattle.fir_meaning.specs.working.Terms.{Term, Picks, Terms, zeros, absent, literal, read, operation, mux, validif, no_picks, pick, no_terms, term}
 use Rattle.fir_connect.specs.working.NetTerms.{NetTerm}
 use Rattle.fir_connect.specs.working.NetReads.{net_reads, each_read}
 use Rattle.fir_connect.specs.working.Lowered.{Candidate, both, candidates, conditions, first_met, is_number, lowered, lowered_each, unpicked, without, zero_of}

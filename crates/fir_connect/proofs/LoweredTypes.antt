@@ -1,11 +1,11 @@
 -- A lowered term has the type of the term.
 use Rattle.std.proofs.Common.{◌≡◌, ℕ, max, List, [], ◌∷◌, refl, sym, ap, ◌∙◌, arith}
 use Rattle.fir_bits.specs.declared.types.NumTy.{NumTy}
-use Rattle.fir_meaning.specs.LeafModules.{LeafType, number, number_type}
-use Rattle.fir_meaning.specs.TermReads.{reached}
-use Rattle.fir_meaning.specs.TermValues.{Holds}
+use Rattle.fir_meaning.specs.LeafTypes.{LeafType, number, number_type}
+use Rattle.fir_meaning.specs.working.TermReads.{reached}
+use Rattle.fir_meaning.specs.working.TermValues.{Holds}
 use Rattle.fir_meaning.specs.Values.{literal_type}
-use Rattle.fir_meaning.specs.Terms.{Term, Picks, Terms, zeros, absent, literal, read, operation, mux, validif, no_picks, pick, no_terms, term}
+use Rattle.fir_meaning.specs.working.Terms.{Term, Picks, Terms, zeros, absent, literal, read, operation, mux, validif, no_picks, pick, no_terms, term}
 use Rattle.fir_leaf_types.specs.working.TypedTerms.{HasType, HaveTypes}
 use Rattle.fir_connect.specs.working.NetTerms.{NetTerm, joined_type, term_type, term_types}
 use Rattle.fir_connect.specs.working.Lowered.{Candidate, candidates, conditions, first_met, lowered, lowered_each, unpicked, without, zero_of}

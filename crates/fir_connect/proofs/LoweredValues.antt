@@ -10,10 +10,10 @@ use Rattle.fir_bits.specs.declared.types.NumTy.{NumTy}
 use Rattle.fir_bits.specs.declared.values.Num.{Num}
 use Rattle.fir_meaning.specs.Values.{at_width, is_high, number_of, value_or_zero}
 use Rattle.fir_meaning.specs.Values as over_values
-use Rattle.fir_meaning.specs.LeafModules.{LeafType, number, number_type}
-use Rattle.fir_meaning.specs.TermReads.{reached}
-use Rattle.fir_meaning.specs.TermValues.{Holds, eval, eval_each, leaf_of, picked, value_at}
-use Rattle.fir_meaning.specs.Terms.{Term, Picks, Terms, zeros, absent, literal, read, operation, mux, validif, no_picks, pick, no_terms, term}
+use Rattle.fir_meaning.specs.LeafTypes.{LeafType, number, number_type}
+use Rattle.fir_meaning.specs.working.TermReads.{reached}
+use Rattle.fir_meaning.specs.working.TermValues.{Holds, eval, eval_each, leaf_of, picked, value_at}
+use Rattle.fir_meaning.specs.working.Terms.{Term, Picks, Terms, zeros, absent, literal, read, operation, mux, validif, no_picks, pick, no_terms, term}
 use Rattle.fir_leaf_types.specs.working.TypedTerms.{AreAlike, AreIndices, HasType, HaveTypes}
 use Rattle.fir_connect.specs.working.NetTerms.{NetTerm, joined_type}
 use Rattle.fir_connect.specs.working.NetValues.{term_value, term_values}

@@ -7,10 +7,10 @@ use Rattle.fir_ast.specs.declared.place.Place.{Place}
 use Rattle.fir_bits.specs.Operators.{integer_of}
 use Rattle.fir_bits.specs.declared.types.NumTy.{NumTy}
 use Rattle.fir_bits.specs.declared.values.Num.{Num}
-use Rattle.fir_meaning.specs.LeafModules.{LeafType}
-use Rattle.fir_meaning.specs.TermReads.{multiples, reached}
-use Rattle.fir_meaning.specs.TermValues.{Holds, eval, leaf_of, picked}
-use Rattle.fir_meaning.specs.Terms.{Picks, Term, no_picks, pick}
+use Rattle.fir_meaning.specs.LeafTypes.{LeafType}
+use Rattle.fir_meaning.specs.working.TermReads.{multiples, reached}
+use Rattle.fir_meaning.specs.working.TermValues.{Holds, eval, leaf_of, picked}
+use Rattle.fir_meaning.specs.working.Terms.{Picks, Term, no_picks, pick}
 use Rattle.fir_leaf.specs.working.ValueChoices.{hits}
 use Rattle.fir_leaf_types.specs.working.TypedTerms.{AreIndices}
 use Rattle.fir_connect.specs.working.NetTerms.{NetTerm}

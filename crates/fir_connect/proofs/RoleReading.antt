@@ -1,6 +1,6 @@
 -- What drives a leaf in the net reads what the live statements read, a node what its expression reads, and the clock and the reset of a register what they read.
 use Rattle.std.proofs.Common.{ℕ, Option, Some, None, option_map}
-use Rattle.fir_meaning.specs.LeafModules.{LeafModule, LeafReset, Role, computed, depth_at, pipe, reading, register, role_at, sink, source}
+use Rattle.fir_meaning.specs.working.LeafModules.{LeafModule, LeafReset, Role, computed, depth_at, pipe, reading, register, role_at, sink, source}
 use Rattle.fir_connect.specs.working.NetRoles.{net_reset, net_role, net_types}
 use Rattle.fir_connect.specs.working.RoleLaws.{ReadsTheSame, ResetReads, RolesReadTheSame}
 use Rattle.fir_connect.proofs.DriverReading.{driver_reads}

@@ -4,10 +4,11 @@ use Rattle.std.proofs.Common.{◌≡◌, ◌⊎◌, ℕ, ◌^◌, ◌<◌, [], �
 use Rattle.fir_bits.specs.declared.types.NumTy.{NumTy}
 use Rattle.fir_bits.specs.declared.values.Num.{Num}
 use Rattle.fir_meaning.specs.Values.{is_high, number_of, fit}
-use Rattle.fir_meaning.specs.LeafBlocks.{exec_all, nothing_stored}
-use Rattle.fir_meaning.specs.LeafModules.{LeafModule, LeafReset, LeafType, Role, a_clock, computed, depth_at, is_sink, number, number_type, pipe, reading, register, role_at, sink, source}
-use Rattle.fir_meaning.specs.TermValues.{clock_of}
-use Rattle.fir_meaning.specs.Terms.{Term, zeros}
+use Rattle.fir_meaning.specs.working.LeafBlocks.{exec_all, nothing_stored}
+use Rattle.fir_meaning.specs.working.LeafModules.{LeafModule, LeafReset, Role, computed, depth_at, is_sink, pipe, reading, register, role_at, sink, source}
+use Rattle.fir_meaning.specs.LeafTypes.{LeafType, a_clock, number, number_type}
+use Rattle.fir_meaning.specs.working.TermValues.{clock_of}
+use Rattle.fir_meaning.specs.working.Terms.{Term, zeros}
 use Rattle.fir_meaning.specs.working.UndrivenLeaves.{AreDriven}
 use Rattle.fir_leaf.proofs.LiveStores.{nothing_where_undriven}
 use Rattle.fir_leaf.specs.working.ChoiceLaws.{fitted_at}

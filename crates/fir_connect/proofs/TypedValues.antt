@@ -8,10 +8,10 @@ use Rattle.fir_bits.specs.declared.operators.PrimOp.{PrimOp}
 use Rattle.fir_bits.specs.declared.types.NumTy.{NumTy}
 use Rattle.fir_bits.specs.declared.types.OpFault.TheVariants.{Kinds, Over, Legality}
 use Rattle.fir_bits.specs.declared.values.Num.{Num}
-use Rattle.fir_meaning.specs.LeafModules.{LeafType, number, number_type}
+use Rattle.fir_meaning.specs.LeafTypes.{LeafType, number, number_type}
 use Rattle.fir_meaning.specs.Values.{literal_type}
-use Rattle.fir_meaning.specs.TermValues.{eval, eval_each}
-use Rattle.fir_meaning.specs.Terms.{Term, Terms, zeros, absent, literal, read, operation, mux, validif, no_terms, term}
+use Rattle.fir_meaning.specs.working.TermValues.{eval, eval_each}
+use Rattle.fir_meaning.specs.working.Terms.{Term, Terms, zeros, absent, literal, read, operation, mux, validif, no_terms, term}
 use Rattle.fir_leaf_types.specs.working.TypedTerms.{HasType, HaveTypes}
 use Rattle.fir_connect.specs.working.LoweredLaws.{types_of}
 

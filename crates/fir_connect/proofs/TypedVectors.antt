@@ -14,10 +14,10 @@ use Rattle.fir_bits.specs.declared.types.NumTy.{NumTy}
 use Rattle.fir_bits.specs.declared.types.OpFault.{OpFault}
 use Rattle.fir_bits.specs.declared.values.Num.{Num}
 use Rattle.fir_meaning.specs.Values.{at_width, choice, is_high, value_or_zero, literal_type}
-use Rattle.fir_meaning.specs.LeafModules.{LeafType, number, number_type}
-use Rattle.fir_meaning.specs.TermReads.{reached}
-use Rattle.fir_meaning.specs.TermValues.{eval, eval_each, leaf_of, value_at}
-use Rattle.fir_meaning.specs.Terms.{Picks, Term, Terms, zeros, absent, literal, read, operation, mux, validif, no_terms, term}
+use Rattle.fir_meaning.specs.LeafTypes.{LeafType, number, number_type}
+use Rattle.fir_meaning.specs.working.TermReads.{reached}
+use Rattle.fir_meaning.specs.working.TermValues.{eval, eval_each, leaf_of, value_at}
+use Rattle.fir_meaning.specs.working.Terms.{Picks, Term, Terms, zeros, absent, literal, read, operation, mux, validif, no_terms, term}
 use Rattle.fir_leaf.proofs.PickedLeaves.{in_reached}
 use Rattle.fir_leaf_types.specs.working.TypedTerms.{AreAlike, HasType, HaveTypes}
 use Rattle.fir_connect.specs.working.LoweredLaws.{types_of}

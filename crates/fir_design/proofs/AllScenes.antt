@@ -4,8 +4,9 @@ use Rattle.std.specs.Prelude.{slice_get}
 use Rattle.std.proofs.lemmas.Option.{none-some, same_Some}
 use Rattle.fir_base.specs.Lists.{In}
 use Rattle.fir_ast.specs.Circuits.{CircuitTree, ModuleTree}
-use Rattle.fir_meaning.specs.LeafedModules.{Scene}
-use Rattle.fir_meaning.specs.Scenes.{HasScenes, IsSceneOf}
+use Rattle.fir_meaning.specs.ModuleScenes.{Scene}
+use Rattle.fir_meaning.specs.working.Scenes.{HasScenes}
+use Rattle.fir_meaning.specs.Scenes.{IsSceneOf}
 use Rattle.fir_meaning.specs.SizedDeclarations.{NumberedModule, Numbering, behind_module, first_numbers, modules_from, numbered_modules}
 use Rattle.fir_design.specs.working.CircuitMeanings.{HasAllScenes}
 

@@ -8,17 +8,19 @@ use Rattle.fir_base.specs.Lists.{In}
 use Rattle.fir_ast.specs.Circuits.{CircuitTree}
 use Rattle.fir_meaning.specs.Components.{Declaration}
 use Rattle.fir_meaning.specs.LeafPaths.{LeafPath, named}
-use Rattle.fir_meaning.specs.NameGroups.{HasNames}
+use Rattle.fir_meaning.specs.working.NameGroups.{HasNames}
 use Rattle.fir_meaning.specs.TypeGroup.{type_faults}
 use Rattle.fir_meaning.specs.Visibility.{declarations}
-use Rattle.fir_meaning.specs.Designs.{Design, IsDesignOf, Items, made_of}
-use Rattle.fir_meaning.specs.FlatDesigns.{array_count_below}
-use Rattle.fir_meaning.specs.LeafModules.{LeafModule}
-use Rattle.fir_meaning.specs.LeafedModules.{Scene, behind_all_ports, leafed_module}
-use Rattle.fir_meaning.specs.StateWalks.{all_array_order_in, array_order_below, own_arrays}
+use Rattle.fir_meaning.specs.working.Designs.{Design, IsDesignOf, Items, made_of}
+use Rattle.fir_meaning.specs.working.FlatDesigns.{array_count_below}
+use Rattle.fir_meaning.specs.working.LeafModules.{LeafModule}
+use Rattle.fir_meaning.specs.ModuleScenes.{Scene, behind_all_ports}
+use Rattle.fir_meaning.specs.working.LeafedModules.{leafed_module}
+use Rattle.fir_meaning.specs.working.StateWalks.{all_array_order_in, array_order_below, own_arrays}
 use Rattle.fir_leaf.proofs.FlatOrders.{walk_same}
 use Rattle.fir_leaf.proofs.FlatPlaces.{At, at_left, at_right}
-use Rattle.fir_meaning.specs.Elaborated.{AreScenes, views}
+use Rattle.fir_meaning.specs.Elaborated.{AreScenes}
+use Rattle.fir_meaning.specs.working.Elaborated.{views}
 use Rattle.fir_design.specs.working.SameRoles.{ViewsHaveRoles}
 use Rattle.fir_meaning.specs.SourceCircuits.{PlacedArray, array_order_of_design, array_order_of_instance, arrays_of_design, arrays_of_instances, placed_arrays}
 use Rattle.fir_meaning.specs.SourceDesigns.{Instances, IsSourceDesignOf, SourceDesign, held, no_instances}

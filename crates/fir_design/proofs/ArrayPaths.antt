@@ -9,10 +9,10 @@ use Rattle.fir_base.proofs.Members.{in_either, in_map_from, map_same}
 use Rattle.fir_base.proofs.Twins.{distinct_joined}
 use Rattle.fir_ast.specs.Circuits.{CircuitTree, ModuleTree}
 use Rattle.fir_meaning.specs.LeafPaths.{LeafPath, named}
-use Rattle.fir_meaning.specs.NameGroups.{HasNames}
+use Rattle.fir_meaning.specs.working.NameGroups.{HasNames}
 use Rattle.fir_meaning.specs.ResetJoins.{numbered_module}
 use Rattle.fir_meaning.specs.TypeGroup.{type_faults}
-use Rattle.fir_meaning.specs.LeafedModules.{Scene}
+use Rattle.fir_meaning.specs.ModuleScenes.{Scene}
 use Rattle.fir_meaning.specs.Elaborated.{AreScenes}
 use Rattle.fir_meaning.specs.SourceCircuits.{array_path, arrays_of_design, arrays_of_instances, placed_arrays}
 use Rattle.fir_meaning.specs.SourceDesigns.{AreInstances, InstanceOf, Instances, IsSourceDesignOf, SourceDesign, held, instances_of_block, made_of, no_instances, scene_where}

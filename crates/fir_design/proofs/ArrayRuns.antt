@@ -7,9 +7,13 @@ use Rattle.fir_meaning.specs.MemoryTypes.{data_of_part, first_one}
 use Rattle.fir_meaning.specs.SizedMemories.{sized_array}
 use Rattle.fir_meaning.specs.TypeLeaves.{TypeLeaf}
 use Rattle.fir_meaning.specs.Visibility.{Before, behind, behind_block, declaration_at, opened, reopened}
-use Rattle.fir_meaning.specs.LeafMemories.{LeafMemory, arrays_from, leaves_of_data}
-use Rattle.fir_meaning.specs.LeafModules.{LeafArray, LeafType}
-use Rattle.fir_meaning.specs.LeafedModules.{Scene, arrays_in, arrays_in_block, held_types, memory_before}
+use Rattle.fir_meaning.specs.working.LeafMemories.{LeafMemory, arrays_from}
+use Rattle.fir_meaning.specs.FoundTypes.{leaves_of_data}
+use Rattle.fir_meaning.specs.working.LeafModules.{LeafArray}
+use Rattle.fir_meaning.specs.LeafTypes.{LeafType}
+use Rattle.fir_meaning.specs.ModuleScenes.{Scene}
+use Rattle.fir_meaning.specs.working.LeafedModules.{arrays_in, arrays_in_block, memory_before}
+use Rattle.fir_meaning.specs.HeldTypes.{held_types}
 use Rattle.fir_meaning.specs.SourceRoles.{arrays_of_data, source_arrays_in, source_arrays_in_block}
 use Rattle.fir_design.proofs.DeclaredRuns.{IsRun, both_runs, no_run, one_run}
 use Rattle.fir_design.proofs.InstanceStatements.{longer_block, longer_statement}

@@ -7,9 +7,10 @@ use Rattle.fir_meaning.specs.Components as component
 use Rattle.fir_meaning.specs.Components.{Component, Declaration}
 use Rattle.fir_meaning.specs.LeafPaths.{LeafPath}
 use Rattle.fir_meaning.specs.Visibility.{Before, behind, behind_block, declaration_at, declarations, opened, reopened, with_declaration}
-use Rattle.fir_meaning.specs.LeafModules.{LeafArray}
-use Rattle.fir_meaning.specs.LeafedModules.{Scene, arrays_in, arrays_in_block, leafed_module}
-use Rattle.fir_meaning.specs.StateWalks.{own_arrays}
+use Rattle.fir_meaning.specs.working.LeafModules.{LeafArray}
+use Rattle.fir_meaning.specs.ModuleScenes.{Scene}
+use Rattle.fir_meaning.specs.working.LeafedModules.{arrays_in, arrays_in_block, leafed_module}
+use Rattle.fir_meaning.specs.working.StateWalks.{own_arrays}
 use Rattle.fir_meaning.specs.SourceCircuits.{PlacedArray, array_order_in, array_order_in_block, is_stored_array, placed_arrays}
 use Rattle.fir_meaning.specs.SourceRoles.{SourceArray, source_arrays_in, source_arrays_in_block}
 use Rattle.fir_design.proofs.ArrayRuns.{block_beside, block_run, memory_declares, statement_beside, statement_run}

@@ -6,10 +6,11 @@ use Rattle.fir_base.specs.Lists.{In}
 use Rattle.fir_base.proofs.Elements.{get_in, number_of, there}
 use Rattle.fir_meaning.specs.LeafPaths.{LeafPath}
 use Rattle.fir_leaf.specs.working.DesignStates.{array_at}
-use Rattle.fir_meaning.specs.LeafCircuits.{LeafCircuit}
-use Rattle.fir_meaning.specs.LeafStates.{array_of}
-use Rattle.fir_meaning.specs.Memories.{begins_from, word_behind, word_before}
-use Rattle.fir_meaning.specs.TreeStores.{same_path}
+use Rattle.fir_meaning.specs.working.LeafCircuits.{LeafCircuit}
+use Rattle.fir_meaning.specs.working.LeafStates.{array_of}
+use Rattle.fir_meaning.specs.working.Memories.{begins_from, word_before}
+use Rattle.fir_meaning.specs.MemoryWords.{word_behind}
+use Rattle.fir_meaning.specs.SamePaths.{same_path}
 use Rattle.fir_meaning.specs.SourceCircuits.{PlacedArray, all_arrays, all_leaves, array_path, state_arrays, state_words}
 use Rattle.fir_meaning.specs.SourceDesigns.{SourceDesign}
 use Rattle.fir_meaning.specs.SourceValues as tree

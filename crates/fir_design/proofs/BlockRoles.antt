@@ -6,19 +6,20 @@ use Rattle.fir_ast.specs.Circuits.{CircuitTree, PortTree}
 use Rattle.fir_ast.specs.Statements.{Statement, wire, register, node, instance, memory, when, connect, partial_connect, invalid, skip, Block, done, then}
 use Rattle.fir_meaning.specs.Components as component
 use Rattle.fir_meaning.specs.Flows.{flow_under, is_source, port_flow}
-use Rattle.fir_meaning.specs.NameGroups.{HasNames}
+use Rattle.fir_meaning.specs.working.NameGroups.{HasNames}
 use Rattle.fir_meaning.specs.ResetJoins.{numbered_module}
 use Rattle.fir_meaning.specs.SizedDeclarations.{numbered_modules}
 use Rattle.fir_meaning.specs.TypeGroup.{type_faults}
 use Rattle.fir_meaning.specs.Visibility.{Before, behind, behind_block, declarations, opened, reopened, with_declaration}
 use Rattle.fir_meaning.specs.working.WellTyped.{AreLegal, IsLegal}
 use Rattle.fir_meaning.proofs.FoundTypes.{found_type}
-use Rattle.fir_meaning.specs.LeafMemories.{leaves_of_data}
-use Rattle.fir_meaning.specs.Leafed.{terms}
-use Rattle.fir_meaning.specs.LeafedBlocks.{term_at}
-use Rattle.fir_meaning.specs.LeafModules.{LeafArray, LeafDeclared, sink, source}
-use Rattle.fir_meaning.specs.LeafModules as role
-use Rattle.fir_meaning.specs.LeafedModules.{Declared, Scene, arrays_in, arrays_in_block, instance_place, instance_role, leafed_module, leaves_in, leaves_in_block, leaves_of_ports, module_leaves, port_role, register_role, scope_before}
+use Rattle.fir_meaning.specs.FoundTypes.{leaves_of_data}
+use Rattle.fir_meaning.specs.working.Leafed.{terms}
+use Rattle.fir_meaning.specs.working.LeafedBlocks.{term_at}
+use Rattle.fir_meaning.specs.working.LeafModules.{LeafArray, LeafDeclared, sink, source}
+use Rattle.fir_meaning.specs.working.LeafModules as role
+use Rattle.fir_meaning.specs.ModuleScenes.{Declared, Scene, scope_before}
+use Rattle.fir_meaning.specs.working.LeafedModules.{arrays_in, arrays_in_block, instance_place, instance_role, leafed_module, leaves_in, leaves_in_block, leaves_of_ports, module_leaves, port_role, register_role}
 use Rattle.fir_leaf.proofs.DeclaredLeaves.{own_module}
 use Rattle.fir_leaf.proofs.ScopesBegin.{begins_behind, begins_block, begins_through}
 use Rattle.fir_design.specs.working.SameRoles.{SameRole}

@@ -2,7 +2,7 @@
 use Rattle.std.proofs.Common.{◌≡◌, ℕ, suc, ◌+◌, ◌<◌, List, [], ◌∷◌, ◌++◌, Bool, true, false, map, filter, length, refl, ap, ap₂, arith, inl, inr}
 use Rattle.std.specs.Prelude.{if◌then◌else◌}
 use Rattle.fir_base.specs.Lists.{In}
-use Rattle.fir_meaning.specs.StateWalks.{numbers_where}
+use Rattle.fir_meaning.specs.working.StateWalks.{numbers_where}
 
 -- both are so or neither is, and what is so is named alike by its number and by itself
 pub record IsChosen {A B C : Type 0} (is_so : A → Bool) (so : B → Bool) (by_number : ℕ → C) (by_itself : B → C) (b : ℕ) (x : A)

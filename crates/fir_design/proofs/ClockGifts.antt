@@ -9,17 +9,18 @@ use Rattle.fir_meaning.specs.Reaching.{Reached}
 use Rattle.fir_meaning.specs.TypeLeaves.{TypeLeaf, type_leaves}
 use Rattle.fir_meaning.specs.TypedScopes.{TypedScope}
 use Rattle.fir_meaning.specs.working.WellTyped.{HasType, Reaches}
-use Rattle.fir_meaning.specs.DesignPaths.{seen}
-use Rattle.fir_meaning.specs.DesignStores.{clock_given}
+use Rattle.fir_meaning.specs.working.DesignPaths.{seen}
+use Rattle.fir_meaning.specs.working.DesignStores.{clock_given}
 use Rattle.fir_leaf.specs.working.LeafLaws.{Begins, path_at}
-use Rattle.fir_meaning.specs.Leafed.{first_term, leaf_term, leaf_terms, muxes, target_of, target_terms, terms}
-use Rattle.fir_meaning.specs.LeafedBlocks.{term_at}
-use Rattle.fir_meaning.specs.LeafedModules.{Scene, leafed_module}
+use Rattle.fir_meaning.specs.working.Leafed.{first_term, leaf_term, leaf_terms, muxes, target_of, target_terms, terms}
+use Rattle.fir_meaning.specs.working.LeafedBlocks.{term_at}
+use Rattle.fir_meaning.specs.ModuleScenes.{Scene}
+use Rattle.fir_meaning.specs.working.LeafedModules.{leafed_module}
 use Rattle.fir_leaf.specs.working.Standing.{leaf_from}
-use Rattle.fir_meaning.specs.Targets.{Target}
-use Rattle.fir_meaning.specs.Terms.{Picks, Term}
-use Rattle.fir_meaning.specs.Terms as over
-use Rattle.fir_meaning.specs.TermValues.{clock_at, leaf_of}
+use Rattle.fir_meaning.specs.working.Targets.{Target}
+use Rattle.fir_meaning.specs.working.Terms.{Picks, Term}
+use Rattle.fir_meaning.specs.working.Terms as over
+use Rattle.fir_meaning.specs.working.TermValues.{clock_at, leaf_of}
 use Rattle.fir_meaning.specs.TreeValues.{TypesByPath, ValuesByPath, aim_of, leaf_where}
 use Rattle.fir_leaf.proofs.LeafValues.{reaches_stands}
 use Rattle.fir_meaning.specs.SourceStores.{below, clock_gifts, clock_where}

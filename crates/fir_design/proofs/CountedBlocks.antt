@@ -11,12 +11,13 @@ use Rattle.fir_meaning.specs.ResetJoins.{numbered_module}
 use Rattle.fir_meaning.specs.TypeLeaves.{TypeLeaf}
 use Rattle.fir_meaning.specs.Visibility.{Before, behind, behind_block, behind_ports, declaration_at, opened, reopened, with_declaration}
 use Rattle.fir_meaning.proofs.KnownNames.{typed_more}
-use Rattle.fir_meaning.specs.LeafMemories.{arrays_of, memory_roles}
-use Rattle.fir_meaning.specs.Leafed.{terms}
-use Rattle.fir_meaning.specs.LeafedBlocks.{term_at}
-use Rattle.fir_meaning.specs.LeafModules.{LeafArray, LeafDeclared, Role, computed, sink}
-use Rattle.fir_meaning.specs.LeafedModules.{Scene, arrays_in, arrays_in_block, declared_leaves, instance_place, instance_role, leaves_in, leaves_in_block, leaves_of_ports, memory_before, port_role, register_role, role_in, scope_before}
-use Rattle.fir_meaning.specs.Targets.{leaves_so_far}
+use Rattle.fir_meaning.specs.working.LeafMemories.{arrays_of, memory_roles}
+use Rattle.fir_meaning.specs.working.Leafed.{terms}
+use Rattle.fir_meaning.specs.working.LeafedBlocks.{term_at}
+use Rattle.fir_meaning.specs.working.LeafModules.{LeafArray, LeafDeclared, Role, computed, sink}
+use Rattle.fir_meaning.specs.ModuleScenes.{Scene, scope_before}
+use Rattle.fir_meaning.specs.working.LeafedModules.{arrays_in, arrays_in_block, declared_leaves, instance_place, instance_role, leaves_in, leaves_in_block, leaves_of_ports, memory_before, port_role, register_role, role_in}
+use Rattle.fir_meaning.specs.working.Targets.{leaves_so_far}
 use Rattle.fir_design.proofs.CountedLeaves.{declared_long, memory_long}
 use Rattle.fir_design.proofs.KnownDeclarations.{far_more}
 

@@ -10,10 +10,14 @@ use Rattle.fir_meaning.specs.SizedMemories.{as_written}
 use Rattle.fir_meaning.specs.SizedTypes.{numbered}
 use Rattle.fir_meaning.specs.TypeLeaves.{TypeLeaf, leaf_count, type_leaves}
 use Rattle.fir_meaning.specs.Visibility.{at_head}
-use Rattle.fir_meaning.specs.DesignPaths.{no_name}
-use Rattle.fir_meaning.specs.LeafMemories.{LeafMemory, array_count, arrays_from, count_of_data, leaves_of_data}
-use Rattle.fir_meaning.specs.LeafModules.{LeafType, Role}
-use Rattle.fir_meaning.specs.LeafedModules.{Declared, Scene, declared_leaves, held_by_declared, held_types, leaves_from, memory_arrays, type_of_declared}
+use Rattle.fir_meaning.specs.working.DesignPaths.{no_name}
+use Rattle.fir_meaning.specs.working.LeafMemories.{LeafMemory, array_count, arrays_from, count_of_data}
+use Rattle.fir_meaning.specs.FoundTypes.{leaves_of_data}
+use Rattle.fir_meaning.specs.LeafTypes.{LeafType}
+use Rattle.fir_meaning.specs.working.LeafModules.{Role}
+use Rattle.fir_meaning.specs.ModuleScenes.{Declared, Scene, held_by_declared, type_of_declared}
+use Rattle.fir_meaning.specs.working.LeafedModules.{declared_leaves, leaves_from, memory_arrays}
+use Rattle.fir_meaning.specs.HeldTypes.{held_types}
 use Rattle.fir_leaf.proofs.HeldCounts.{held_by_type}
 use Rattle.fir_leaf.proofs.LeafPlaces.{leaves_counted}
 use Rattle.fir_design.proofs.DataHeld.{data_held}

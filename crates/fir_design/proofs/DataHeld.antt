@@ -9,8 +9,8 @@ use Rattle.fir_meaning.specs.SizedTypes.{numbered}
 use Rattle.fir_meaning.specs.TypeLeaves.{leaf_count}
 use Rattle.fir_meaning.specs.Visibility.{Before}
 use Rattle.fir_meaning.specs.WidthExpressions.{Widths}
-use Rattle.fir_meaning.specs.LeafModules.{LeafType}
-use Rattle.fir_meaning.specs.LeafedModules.{held_types}
+use Rattle.fir_meaning.specs.LeafTypes.{LeafType}
+use Rattle.fir_meaning.specs.HeldTypes.{held_types}
 use Rattle.fir_leaf.proofs.HeldCounts.{held_by_type}
 
 -- by a memory of the data with one reader

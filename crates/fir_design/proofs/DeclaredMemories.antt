@@ -17,8 +17,9 @@ use Rattle.fir_meaning.specs.Visibility.{Before, declaration_at, declarations, w
 use Rattle.fir_meaning.specs.working.WellTyped.{MemoryIsLegal}
 use Rattle.fir_meaning.proofs.LeafSteps.{behind_step, path_of}
 use Rattle.fir_leaf.specs.working.LeafLaws as law
-use Rattle.fir_meaning.specs.LeafedModules.{Scene, module_leaves, scope_before}
-use Rattle.fir_meaning.specs.Targets.{leaves_so_far}
+use Rattle.fir_meaning.specs.ModuleScenes.{Scene, scope_before}
+use Rattle.fir_meaning.specs.working.LeafedModules.{module_leaves}
+use Rattle.fir_meaning.specs.working.Targets.{leaves_so_far}
 use Rattle.fir_design.specs.working.SameRoles.{path_at}
 use Rattle.fir_meaning.specs.SourceRoles.{NamedPort, kind_of, ports_of_part}
 use Rattle.fir_design.proofs.DeclaredInstances.{Grows}

@@ -2,7 +2,7 @@
 use Rattle.std.proofs.Common.{◌≡◌, ℕ, ◌+◌, ◌<◌, ◌≤◌, List, [], ◌++◌, Bool, false, length, refl, sym, ap, ◌∙◌, arith, append_assoc, append-nil, length-append, ⊎_elim}
 use Rattle.fir_base.specs.Lists.{In}
 use Rattle.fir_base.proofs.Members.{in_either}
-use Rattle.fir_meaning.specs.StateWalks.{numbers_where}
+use Rattle.fir_meaning.specs.working.StateWalks.{numbers_where}
 use Rattle.fir_design.proofs.ChosenNumbers.{numbers_alike, numbers_joined, numbers_none}
 
 module _ {A : Type 0} (place : A → ℕ) where

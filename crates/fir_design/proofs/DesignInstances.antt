@@ -4,12 +4,12 @@ use Rattle.std.specs.Prelude.{if◌then◌else◌}
 use Rattle.std.proofs.lemmas.Bool.{eqb-true}
 use Rattle.fir_base.specs.Lists.{In}
 use Rattle.fir_base.proofs.Members.{in_either}
-use Rattle.fir_meaning.specs.Designs.{AreItemsIn, Design, IsDesignOf, IsItemIn, Item, Items, block_of, done, drive, instance, made_of, module_of, statement_of, then, when}
-use Rattle.fir_meaning.specs.FlatDesigns.{count, count_all, count_below}
-use Rattle.fir_meaning.specs.LeafBlocks.{HeldInstance}
-use Rattle.fir_meaning.specs.LeafModules.{LeafModule}
-use Rattle.fir_meaning.specs.Numberings.{Numbering, number}
-use Rattle.fir_meaning.specs.StateWalks.{all_words_in, words_below, words_in}
+use Rattle.fir_meaning.specs.working.Designs.{AreItemsIn, Design, IsDesignOf, IsItemIn, Item, Items, block_of, done, drive, instance, made_of, module_of, statement_of, then, when}
+use Rattle.fir_meaning.specs.working.FlatDesigns.{count, count_all, count_below}
+use Rattle.fir_meaning.specs.working.LeafBlocks.{HeldInstance}
+use Rattle.fir_meaning.specs.working.LeafModules.{LeafModule}
+use Rattle.fir_meaning.specs.working.Numberings.{Numbering, number}
+use Rattle.fir_meaning.specs.working.StateWalks.{all_words_in, words_below, words_in}
 use Rattle.fir_design.proofs.HeldInstances.{Held, all_held_in, held_in}
 use Rattle.std.proofs.lemmas.List.{map-append}
 

@@ -4,14 +4,16 @@ use Rattle.std.proofs.lemmas.List.{append-nil}
 use Rattle.fir_base.specs.Lists.{In}
 use Rattle.fir_base.proofs.Elements.{get_in}
 use Rattle.fir_ast.specs.Circuits.{CircuitTree}
-use Rattle.fir_meaning.specs.NameGroups.{HasNames}
+use Rattle.fir_meaning.specs.working.NameGroups.{HasNames}
 use Rattle.fir_meaning.specs.Visibility.{declarations}
-use Rattle.fir_meaning.specs.DesignPaths.{instance_name}
-use Rattle.fir_meaning.specs.Designs.{Design, IsDesignOf, Items, made_of, module_of}
-use Rattle.fir_meaning.specs.LeafBlocks.{HeldInstance}
-use Rattle.fir_meaning.specs.LeafModules.{LeafModule}
-use Rattle.fir_meaning.specs.LeafedModules.{Scene, behind_all_ports, driven_leaves, leafed_module}
-use Rattle.fir_meaning.specs.Elaborated.{AreScenes, views}
+use Rattle.fir_meaning.specs.working.DesignPaths.{instance_name}
+use Rattle.fir_meaning.specs.working.Designs.{Design, IsDesignOf, Items, made_of, module_of}
+use Rattle.fir_meaning.specs.working.LeafBlocks.{HeldInstance}
+use Rattle.fir_meaning.specs.working.LeafModules.{LeafModule}
+use Rattle.fir_meaning.specs.ModuleScenes.{Scene, behind_all_ports}
+use Rattle.fir_meaning.specs.working.LeafedModules.{driven_leaves, leafed_module}
+use Rattle.fir_meaning.specs.Elaborated.{AreScenes}
+use Rattle.fir_meaning.specs.working.Elaborated.{views}
 use Rattle.fir_meaning.specs.SourceDesigns.{AreInstances, InstanceOf, Instances, IsSourceDesignOf, SourceDesign, held, no_instances, scene_where}
 use Rattle.fir_meaning.specs.SourceDesigns as source
 use Rattle.fir_design.proofs.DesignInstances.{Instance, all_designed, block_held, each_design, held_of, instances_in, own_of}

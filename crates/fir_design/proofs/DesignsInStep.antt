@@ -5,20 +5,22 @@ use Rattle.fir_base.specs.Lists.{In}
 use Rattle.fir_base.proofs.Elements.{get_in}
 use Rattle.fir_ast.specs.Circuits.{CircuitTree}
 use Rattle.fir_meaning.specs.LeafPaths.{LeafPath, named}
-use Rattle.fir_meaning.specs.NameGroups.{HasNames}
+use Rattle.fir_meaning.specs.working.NameGroups.{HasNames}
 use Rattle.fir_meaning.specs.TypeGroup.{type_faults}
-use Rattle.fir_meaning.specs.DesignPaths.{instance_path}
-use Rattle.fir_meaning.specs.Designs.{AreItemsIn, Design, IsDesignOf, IsItemIn, Item, Items, block_of, done, drive, instance, made_of, statement_of, then, when}
-use Rattle.fir_meaning.specs.FlatDesigns.{array_count, array_count_all, count, count_all, inner_leaves}
-use Rattle.fir_meaning.specs.FlatLeaves.{all_arrays_in, all_leaves_in, arrays_below, arrays_in, leaves_below, leaves_in, placed_array}
-use Rattle.fir_meaning.specs.LeafCircuits.{LeafCircuit}
-use Rattle.fir_meaning.specs.LeafedModules.{Scene, leafed_module}
-use Rattle.fir_meaning.specs.Numberings.{Numbering, number, numbering}
+use Rattle.fir_meaning.specs.working.DesignPaths.{instance_path}
+use Rattle.fir_meaning.specs.working.Designs.{AreItemsIn, Design, IsDesignOf, IsItemIn, Item, Items, block_of, done, drive, instance, made_of, statement_of, then, when}
+use Rattle.fir_meaning.specs.working.FlatDesigns.{array_count, array_count_all, count, count_all, inner_leaves}
+use Rattle.fir_meaning.specs.working.FlatLeaves.{all_arrays_in, all_leaves_in, arrays_below, arrays_in, leaves_below, leaves_in, placed_array}
+use Rattle.fir_meaning.specs.working.LeafCircuits.{LeafCircuit}
+use Rattle.fir_meaning.specs.ModuleScenes.{Scene}
+use Rattle.fir_meaning.specs.working.LeafedModules.{leafed_module}
+use Rattle.fir_meaning.specs.working.Numberings.{Numbering, number, numbering}
 use Rattle.fir_leaf.specs.working.SoundDesigns.{AreWired, IsWired}
 use Rattle.fir_leaf.proofs.FlatArrays.{array_count_is, array_counts_are}
 use Rattle.fir_leaf.proofs.FlatPlaces.{At, at_left, at_right, count_is, counts_are, held_stands, inner_at}
 use Rattle.fir_leaf.proofs.MovedTerms.{Stands}
-use Rattle.fir_meaning.specs.Elaborated.{AreScenes, views}
+use Rattle.fir_meaning.specs.Elaborated.{AreScenes}
+use Rattle.fir_meaning.specs.working.Elaborated.{views}
 use Rattle.fir_design.specs.working.SameRoles.{ViewsHaveRoles}
 use Rattle.fir_meaning.specs.SourceCircuits.{arrays_of_design, leaves_of_design}
 use Rattle.fir_meaning.specs.SourceDesigns.{Instances, IsSourceDesignOf, SourceDesign}

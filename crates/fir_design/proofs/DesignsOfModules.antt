@@ -3,9 +3,9 @@ use Rattle.std.proofs.Common.{◌≡◌, ℕ, ◌+◌, ◌≤◌, List, ◌++◌
 use Rattle.std.proofs.lemmas.List.{map-append}
 use Rattle.fir_base.specs.Lists.{In, Distinct}
 use Rattle.fir_base.proofs.Members.{in_left, in_right}
-use Rattle.fir_meaning.specs.LeafBlocks.{HeldInstance}
-use Rattle.fir_meaning.specs.LeafModules.{LeafModule}
-use Rattle.fir_meaning.specs.Designs.{Item, drive, when, instance, Items, done, then, Design, made_of, statement_of, block_of, module_of, empty_module, IsItemIn, AreItemsIn, IsDesignOf}
+use Rattle.fir_meaning.specs.working.LeafBlocks.{HeldInstance}
+use Rattle.fir_meaning.specs.working.LeafModules.{LeafModule}
+use Rattle.fir_meaning.specs.working.Designs.{Item, drive, when, instance, Items, done, then, Design, made_of, statement_of, block_of, module_of, empty_module, IsItemIn, AreItemsIn, IsDesignOf}
 use Rattle.fir_leaf.specs.working.NamedDesigns.{AreNamedItems, HasOwnNames, IsNamed, IsNamedInstance, IsNamedItem, IsOwnInstance, all_instances_in, instances_in}
 use Rattle.fir_leaf.specs.working.SoundDesigns.{AreWired, IsHeld, IsInstance, IsMain, IsWired}
 use Rattle.fir_design.proofs.DeclaredInstances.{declaration_of}

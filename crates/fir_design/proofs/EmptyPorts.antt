@@ -4,10 +4,12 @@ use Rattle.std.proofs.lemmas.Bool.{eqb-true}
 use Rattle.std.proofs.lemmas.List.{get_or-append-add}
 use Rattle.fir_base.specs.Lists.{In}
 use Rattle.fir_meaning.specs.Visibility.{at_head}
-use Rattle.fir_meaning.specs.LeafModules.{LeafArray, LeafDeclared, leaf_at, no_leaf}
-use Rattle.fir_meaning.specs.LeafedModules.{Scene, behind_all_ports, leafed_module, leaves_in_block, leaves_of_ports, module_leaves}
+use Rattle.fir_meaning.specs.working.LeafModules.{LeafArray, LeafDeclared, leaf_at, no_leaf}
+use Rattle.fir_meaning.specs.ModuleScenes.{Scene, behind_all_ports}
+use Rattle.fir_meaning.specs.working.LeafedModules.{leafed_module, leaves_in_block, leaves_of_ports, module_leaves}
 use Rattle.fir_leaf.specs.working.StateLaws.{PortsShowNone}
-use Rattle.fir_meaning.specs.StateWalks.{has_bits, own_arrays, own_words}
+use Rattle.fir_meaning.specs.LeafTypes.{has_bits}
+use Rattle.fir_meaning.specs.working.StateWalks.{own_arrays, own_words}
 use Rattle.fir_leaf.proofs.OncePaths.{at_in}
 use Rattle.fir_leaf.proofs.OnceStates.{own_word}
 use Rattle.fir_design.proofs.ArrayRuns.{block_run as arrays_run}

@@ -6,10 +6,10 @@ use Rattle.fir_base.specs.Lists.{In}
 use Rattle.fir_base.proofs.Elements.{get_in}
 use Rattle.fir_base.proofs.Members.{in_map, in_map_from}
 use Rattle.fir_meaning.specs.LeafPaths.{LeafPath}
-use Rattle.fir_meaning.specs.LeafCircuits.{LeafCircuit}
-use Rattle.fir_meaning.specs.LeafModules.{LeafDeclared}
+use Rattle.fir_meaning.specs.working.LeafCircuits.{LeafCircuit}
+use Rattle.fir_meaning.specs.working.LeafModules.{LeafDeclared}
 use Rattle.fir_leaf.specs.working.SoundDesigns.{circuit_path}
-use Rattle.fir_meaning.specs.TermValues.{Env}
+use Rattle.fir_meaning.specs.working.TermValues.{Env}
 use Rattle.fir_meaning.specs.SourceCircuits.{all_leaves, leaf_path, paths_of}
 use Rattle.fir_meaning.specs.SourceDesigns.{SourceDesign}
 use Rattle.fir_meaning.specs.SourceValues.{PathEnv}

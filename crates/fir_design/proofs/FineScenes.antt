@@ -6,7 +6,7 @@ use Rattle.std.proofs.Math.ListN.{get_or-map}
 use Rattle.fir_base.specs.Lists.{In}
 use Rattle.fir_ast.specs.Circuits.{CircuitTree}
 use Rattle.fir_meaning.specs.LeafPaths.{LeafPath}
-use Rattle.fir_meaning.specs.NameGroups.{HasNames}
+use Rattle.fir_meaning.specs.working.NameGroups.{HasNames}
 use Rattle.fir_meaning.specs.TypedScopes.{TypedScope}
 use Rattle.fir_meaning.specs.TypeGroup.{type_faults}
 use Rattle.fir_meaning.specs.ComponentTypes.{typed_scope}
@@ -15,8 +15,9 @@ use Rattle.fir_meaning.specs.Visibility.{declarations}
 use Rattle.fir_meaning.specs.working.WellTyped.{AreLegal}
 use Rattle.fir_meaning.proofs.WellTypedCircuits.{well_typed}
 use Rattle.fir_leaf.specs.working.LeafLaws.{IsFine, path_at, scope_paths}
-use Rattle.fir_meaning.specs.LeafModules.{LeafDeclared, leaf_at, no_leaf}
-use Rattle.fir_meaning.specs.LeafedModules.{Scene, behind_all_ports, module_leaves}
+use Rattle.fir_meaning.specs.working.LeafModules.{LeafDeclared, leaf_at, no_leaf}
+use Rattle.fir_meaning.specs.ModuleScenes.{Scene, behind_all_ports}
+use Rattle.fir_meaning.specs.working.LeafedModules.{module_leaves}
 use Rattle.fir_leaf.specs.working.TableLaws.{IsLeafOf}
 use Rattle.fir_leaf.proofs.ClearScopes.{fine_module}
 use Rattle.fir_leaf.proofs.DeclaredLeaves.{leaves_declared, own_module}

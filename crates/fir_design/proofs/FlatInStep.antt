@@ -4,14 +4,15 @@ use Rattle.std.proofs.lemmas.List.{append-nil}
 use Rattle.std.proofs.lemmas.Option.{get_or_from_slice_get}
 use Rattle.fir_base.proofs.Elements.{there}
 use Rattle.fir_ast.specs.Circuits.{CircuitTree}
-use Rattle.fir_meaning.specs.Designs.{Design, made_of}
+use Rattle.fir_meaning.specs.working.Designs.{Design, made_of}
 use Rattle.fir_leaf.specs.working.DesignStates.{array_at, no_array}
-use Rattle.fir_meaning.specs.FlatLeaves.{arrays_below, leaves_below}
-use Rattle.fir_meaning.specs.Flattened.{flattened}
-use Rattle.fir_meaning.specs.Flattened as flat
-use Rattle.fir_meaning.specs.LeafCircuits.{LeafCircuit}
-use Rattle.fir_meaning.specs.LeafModules.{LeafArray, LeafModule, leaf_at, no_leaf}
-use Rattle.fir_meaning.specs.LeafedModules.{Scene, leafed_module}
+use Rattle.fir_meaning.specs.working.FlatLeaves.{arrays_below, leaves_below}
+use Rattle.fir_meaning.specs.working.Flattened.{flattened}
+use Rattle.fir_meaning.specs.working.Flattened as flat
+use Rattle.fir_meaning.specs.working.LeafCircuits.{LeafCircuit}
+use Rattle.fir_meaning.specs.working.LeafModules.{LeafArray, LeafModule, leaf_at, no_leaf}
+use Rattle.fir_meaning.specs.ModuleScenes.{Scene}
+use Rattle.fir_meaning.specs.working.LeafedModules.{leafed_module}
 use Rattle.fir_leaf.specs.working.SoundDesigns.{circuit_path}
 use Rattle.fir_leaf.proofs.FlatMeaning.{main_at, main_stands}
 use Rattle.fir_leaf.proofs.FlatPlaces.{At}

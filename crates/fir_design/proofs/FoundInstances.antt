@@ -8,14 +8,14 @@ use Rattle.fir_ast.specs.Statements.{Statement, wire, register, node, instance, 
 use Rattle.fir_ast.specs.Circuits.{ModuleTree, CircuitTree}
 use Rattle.fir_meaning.specs.Components.{Declaration, Declarations, find}
 use Rattle.fir_meaning.specs.Components as component
-use Rattle.fir_meaning.specs.NameGroups.{HasNames}
+use Rattle.fir_meaning.specs.working.NameGroups.{HasNames}
 use Rattle.fir_meaning.specs.ResetJoins.{numbered_module}
 use Rattle.fir_meaning.specs.Visibility.{Before, opened, reopened, behind, behind_block, declarations}
 use Rattle.fir_meaning.proofs.FoundDeclarations.{Once, once_found}
 use Rattle.fir_names.specs.working.ModuleOrder.{find_number}
 use Rattle.fir_names.proofs.BehindStatements.{adds_block}
 use Rattle.fir_names.proofs.ModulesThere.{instance_number}
-use Rattle.fir_meaning.specs.LeafedModules.{Scene, behind_all_ports}
+use Rattle.fir_meaning.specs.ModuleScenes.{Scene, behind_all_ports}
 use Rattle.fir_leaf.proofs.DeclaredLeaves.{IsOwn}
 use Rattle.fir_meaning.specs.SourceDesigns.{InstanceOf, instances_of, instances_of_block}
 use Rattle.fir_design.proofs.DeclaredInstances.{instance_within}

@@ -2,8 +2,8 @@
 use Rattle.std.proofs.Common.{◌≡◌, ℕ, ◌+◌, List, [], ◌∷◌, ◌++◌, refl, ap, ◌∙◌, append_assoc, sym, inl}
 use Rattle.fir_base.specs.Lists.{In}
 use Rattle.fir_base.proofs.Members.{in_left, in_right}
-use Rattle.fir_meaning.specs.LeafBlocks.{HeldInstance, LeafBlock, LeafStatement, drive, when, instance, done, then, joined}
-use Rattle.fir_meaning.specs.Designs.{EachInstance, AllInstances}
+use Rattle.fir_meaning.specs.working.LeafBlocks.{HeldInstance, LeafBlock, LeafStatement, drive, when, instance, done, then, joined}
+use Rattle.fir_meaning.specs.working.Designs.{EachInstance, AllInstances}
 
 pub record Held : Type 0 where
   pub depth : ℕ

@@ -8,14 +8,15 @@ use Rattle.fir_meaning.specs.TypedScopes.{TypedScope}
 use Rattle.fir_leaf.specs.working.ChoiceLaws.{fitted_at}
 use Rattle.fir_leaf.specs.working.DesignLaws.{numbered}
 use Rattle.fir_leaf.specs.working.DesignStates.{array_at}
-use Rattle.fir_meaning.specs.DesignStores.{nothing_kept}
-use Rattle.fir_meaning.specs.LeafBlocks.{exec_all, nothing_stored}
-use Rattle.fir_meaning.specs.LeafCircuits.{LeafCircuit, depth_of}
-use Rattle.fir_meaning.specs.LeafModules as over
-use Rattle.fir_meaning.specs.LeafModules.{LeafArray, LeafReset, LeafType, Need, Reading, Role, Writing, leaf_at}
+use Rattle.fir_meaning.specs.PathStores.{nothing_kept}
+use Rattle.fir_meaning.specs.working.LeafBlocks.{exec_all, nothing_stored}
+use Rattle.fir_meaning.specs.working.LeafCircuits.{LeafCircuit, depth_of}
+use Rattle.fir_meaning.specs.working.LeafModules as over
+use Rattle.fir_meaning.specs.working.LeafModules.{LeafArray, LeafReset, Need, Reading, Role, Writing, leaf_at}
+use Rattle.fir_meaning.specs.LeafTypes.{LeafType}
 use Rattle.fir_leaf.specs.working.SoundDesigns.{circuit_path}
-use Rattle.fir_meaning.specs.TermValues.{clock_of, eval}
-use Rattle.fir_meaning.specs.Terms.{Term}
+use Rattle.fir_meaning.specs.working.TermValues.{clock_of, eval}
+use Rattle.fir_meaning.specs.working.Terms.{Term}
 use Rattle.fir_meaning.specs.TreeValues.{TypesByPath, ValuesByPath, aim_read, leaf_where, value}
 use Rattle.fir_meaning.specs.SourceCircuits.{PlacedArray, PlacedLeaf, all_arrays, all_leaves, array_path, clock_inputs, clock_outputs, inputs, leaf_path, outputs, state_arrays, state_words}
 use Rattle.fir_meaning.specs.SourceDesigns.{SourceDesign}

@@ -7,7 +7,7 @@ use Rattle.fir_ast.specs.Statements.{PlacedName, Statement, wire, register, node
 use Rattle.fir_meaning.specs.Components.{Component, Declaration, Declarations}
 use Rattle.fir_meaning.specs.Components as component
 use Rattle.fir_meaning.specs.Visibility.{Before, behind, behind_block, declaration_at, declarations, opened, reopened, with_declaration}
-use Rattle.fir_meaning.specs.LeafedModules.{Scene, behind_all_ports}
+use Rattle.fir_meaning.specs.ModuleScenes.{Scene, behind_all_ports}
 use Rattle.fir_design.proofs.DistinctElements.{distinct_without}
 use Rattle.fir_design.proofs.FineScenes.{IsFineScene}
 use Rattle.fir_design.proofs.KnownDeclarations.{known_names}

@@ -5,9 +5,10 @@ use Rattle.fir_meaning.specs.Components as component
 use Rattle.fir_meaning.specs.Components.{Component, Declaration}
 use Rattle.fir_meaning.specs.LeafPaths.{LeafPath}
 use Rattle.fir_meaning.specs.Visibility.{declarations}
-use Rattle.fir_meaning.specs.Designs.{Design}
-use Rattle.fir_meaning.specs.LeafBlocks.{HeldInstance}
-use Rattle.fir_meaning.specs.LeafedModules.{Scene, behind_all_ports, leafed_module}
+use Rattle.fir_meaning.specs.working.Designs.{Design}
+use Rattle.fir_meaning.specs.working.LeafBlocks.{HeldInstance}
+use Rattle.fir_meaning.specs.ModuleScenes.{Scene, behind_all_ports}
+use Rattle.fir_meaning.specs.working.LeafedModules.{leafed_module}
 use Rattle.fir_leaf.proofs.FlatPlaces.{At}
 use Rattle.fir_meaning.specs.SourceDesigns.{Instances, SourceDesign}
 use Rattle.fir_design.proofs.DesignInstances.{Instance, given, given_none, held_of, own_of}

@@ -1,10 +1,10 @@
 -- The arrays of a design's instances, one instance behind the other.
 use Rattle.std.proofs.Common.{◌≡◌, ℕ, ◌+◌, List, [], ◌++◌, nat_eq, refl, sym, ap, ap₂, ◌∙◌, arith, append-nil}
 use Rattle.std.specs.Prelude.{if◌then◌else◌}
-use Rattle.fir_meaning.specs.Designs.{Design, Item, Items, done, drive, instance, then, when}
-use Rattle.fir_meaning.specs.FlatDesigns.{array_count, array_count_all, array_count_below}
-use Rattle.fir_meaning.specs.LeafBlocks.{HeldInstance}
-use Rattle.fir_meaning.specs.StateWalks.{all_array_order_in, array_order_below, array_order_in}
+use Rattle.fir_meaning.specs.working.Designs.{Design, Item, Items, done, drive, instance, then, when}
+use Rattle.fir_meaning.specs.working.FlatDesigns.{array_count, array_count_all, array_count_below}
+use Rattle.fir_meaning.specs.working.LeafBlocks.{HeldInstance}
+use Rattle.fir_meaning.specs.working.StateWalks.{all_array_order_in, array_order_below, array_order_in}
 use Rattle.fir_design.proofs.DesignInstances.{given, given_joined, instance_in, instances_in, sizes, sizes_joined}
 
 mutual

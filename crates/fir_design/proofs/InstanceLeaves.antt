@@ -13,15 +13,16 @@ use Rattle.fir_meaning.specs.LeafPaths.{LeafPath, named}
 use Rattle.fir_meaning.specs.TypedScopes.{Known, TypedScope}
 use Rattle.fir_meaning.specs.TypeLeaves.{TypeLeaf, leaf_count, type_leaves}
 use Rattle.fir_meaning.specs.Visibility.{declarations}
-use Rattle.fir_meaning.specs.DesignPaths.{instance_name}
+use Rattle.fir_meaning.specs.working.DesignPaths.{instance_name}
 use Rattle.fir_leaf.specs.working.LeafLaws.{known_paths, path_at, scope_paths}
-use Rattle.fir_meaning.specs.LeafMemories.{leaves_of_data}
-use Rattle.fir_meaning.specs.LeafModules.{leaf_at}
-use Rattle.fir_meaning.specs.LeafedModules.{Scene, leafed_module, module_leaves}
+use Rattle.fir_meaning.specs.FoundTypes.{leaves_of_data}
+use Rattle.fir_meaning.specs.working.LeafModules.{leaf_at}
+use Rattle.fir_meaning.specs.ModuleScenes.{Scene}
+use Rattle.fir_meaning.specs.working.LeafedModules.{leafed_module, module_leaves}
 use Rattle.fir_leaf.specs.working.NamedDesigns.{IsOwnInstance, IsPortOf}
 use Rattle.fir_leaf.specs.working.SoundDesigns.{IsHeld}
 use Rattle.fir_leaf.specs.working.TableLaws.{IsLeafOf}
-use Rattle.fir_meaning.specs.Targets.{leaves_so_far}
+use Rattle.fir_meaning.specs.working.Targets.{leaves_so_far}
 use Rattle.fir_leaf.proofs.LeafPlaces.{leaves_counted}
 use Rattle.fir_leaf.proofs.OwnPaths.{path_once}
 use Rattle.fir_design.proofs.DeclaredInstances.{IsDeclared, instance_within}

@@ -11,9 +11,10 @@ use Rattle.fir_meaning.specs.TypedScopes.{TypedScope}
 use Rattle.fir_meaning.specs.ExpressionTypes.{expression_type}
 use Rattle.fir_meaning.specs.TypeGroup.{scope_at}
 use Rattle.fir_names.proofs.BehindStatements.{adds_statement, adds_block}
-use Rattle.fir_meaning.specs.LeafPairs.{leaf_pairs, partial_leaf_pairs}
-use Rattle.fir_meaning.specs.Leafed.{target_of}
-use Rattle.fir_meaning.specs.LeafedBlocks.{type_where, sides, leafed, leafed_all}
+use Rattle.fir_meaning.specs.working.LeafPairs.{leaf_pairs, partial_leaf_pairs}
+use Rattle.fir_meaning.specs.working.Leafed.{target_of}
+use Rattle.fir_meaning.specs.FoundTypes.{type_where}
+use Rattle.fir_meaning.specs.working.LeafedBlocks.{sides, leafed, leafed_all}
 use Rattle.fir_leaf.specs.working.LeafLaws.{Begins}
 use Rattle.fir_leaf.proofs.ScopesBegin.{begins_through, begins_behind, begins_block}
 use Rattle.fir_design.proofs.HeldInstances.{all_held_in, held_joined}

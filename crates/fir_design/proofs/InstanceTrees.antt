@@ -3,10 +3,11 @@ use Rattle.std.proofs.Common.{◌≡◌, ℕ, List, [], ◌∷◌, ◌++◌, fla
 use Rattle.std.proofs.lemmas.List.{append-nil}
 use Rattle.fir_ast.specs.Circuits.{CircuitTree}
 use Rattle.fir_meaning.specs.LeafPaths.{LeafPath, named}
-use Rattle.fir_meaning.specs.NameGroups.{HasNames}
+use Rattle.fir_meaning.specs.working.NameGroups.{HasNames}
 use Rattle.fir_meaning.specs.Visibility.{declarations}
-use Rattle.fir_meaning.specs.DesignPaths.{instance_name}
-use Rattle.fir_meaning.specs.LeafedModules.{Scene, behind_all_ports, driven_leaves, leafed_module}
+use Rattle.fir_meaning.specs.working.DesignPaths.{instance_name}
+use Rattle.fir_meaning.specs.ModuleScenes.{Scene, behind_all_ports}
+use Rattle.fir_meaning.specs.working.LeafedModules.{driven_leaves, leafed_module}
 use Rattle.fir_leaf.proofs.DeclaredLeaves.{IsOwn}
 use Rattle.fir_meaning.specs.SourceCircuits.{PlacedArray, PlacedLeaf, arrays_of_design, arrays_of_instances, leaves_of_design, leaves_of_instances}
 use Rattle.fir_meaning.specs.SourceDesigns.{AreInstances, InstanceOf, Instances, IsSourceDesignOf, SourceDesign, held, no_instances, scene_where}

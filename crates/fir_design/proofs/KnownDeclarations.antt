@@ -8,7 +8,7 @@ use Rattle.fir_meaning.specs.Costs.{leaves_where}
 use Rattle.fir_meaning.specs.TypedScopes.{Known, TypedScope}
 use Rattle.fir_meaning.specs.ComponentTypes.{known_as, typed_behind, typed_scope}
 use Rattle.fir_leaf.specs.working.LeafLaws.{Begins, scope_paths}
-use Rattle.fir_meaning.specs.Targets.{leaves_so_far}
+use Rattle.fir_meaning.specs.working.Targets.{leaves_so_far}
 use Rattle.fir_leaf.proofs.NamedPlaces.{known_counted, paths_joined}
 use Rattle.fir_leaf.specs.working.LeafLaws.{known_paths}
 

@@ -9,8 +9,8 @@ use Rattle.fir_meaning.specs.TypedScopes.{Known, TypedScope}
 use Rattle.fir_meaning.specs.TypeLeaves.{TypeLeaf, leaf_count, type_leaves}
 use Rattle.fir_meaning.specs.Costs.{leaves_where}
 use Rattle.fir_leaf.specs.working.LeafLaws.{IsFine, known_paths, path_at, scope_paths}
-use Rattle.fir_meaning.specs.LeafMemories.{leaves_of_data}
-use Rattle.fir_meaning.specs.Targets.{leaves_so_far}
+use Rattle.fir_meaning.specs.FoundTypes.{leaves_of_data}
+use Rattle.fir_meaning.specs.working.Targets.{leaves_so_far}
 use Rattle.fir_leaf.proofs.LeafPlaces.{get_left, get_mapped, get_right}
 use Rattle.fir_leaf.proofs.NamedPlaces.{known_counted, paths_joined}
 use Rattle.fir_design.proofs.KnownDeclarations.{far_counted}

@@ -8,8 +8,9 @@ use Rattle.fir_base.specs.Lists.{In}
 use Rattle.fir_base.proofs.Elements.{get_in, number_of, there}
 use Rattle.fir_base.proofs.Members.{in_map_from}
 use Rattle.fir_leaf.specs.working.DesignLaws.{numbered}
-use Rattle.fir_meaning.specs.LeafCircuits.{LeafCircuit, type_of_leaf}
-use Rattle.fir_meaning.specs.LeafModules.{LeafDeclared, leaf_at, no_bits, no_leaf, number, number_type}
+use Rattle.fir_meaning.specs.working.LeafCircuits.{LeafCircuit, type_of_leaf}
+use Rattle.fir_meaning.specs.working.LeafModules.{LeafDeclared, leaf_at, no_leaf}
+use Rattle.fir_meaning.specs.LeafTypes.{no_bits, number, number_type}
 use Rattle.fir_leaf.specs.working.SoundDesigns.{circuit_path}
 use Rattle.fir_meaning.specs.SourceCircuits.{PlacedLeaf, all_leaves, leaf_path, paths_of, state_words}
 use Rattle.fir_meaning.specs.SourceDesigns.{SourceDesign}

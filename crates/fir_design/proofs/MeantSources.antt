@@ -1,7 +1,7 @@
 -- The modules of a circuit mean over their leaves what they mean by paths.
 use Rattle.std.proofs.Common.{◌≡◌, ℕ, ◌<◌, List, [], length}
 use Rattle.fir_ast.specs.Circuits.{CircuitTree}
-use Rattle.fir_meaning.specs.NameGroups.{HasNames}
+use Rattle.fir_meaning.specs.working.NameGroups.{HasNames}
 use Rattle.fir_meaning.specs.TypeGroup.{type_faults}
 use Rattle.fir_names.specs.working.ModuleOrder.{IsModuleOrder}
 use Rattle.fir_design.specs.working.CircuitDesigns.{HasSoundDesigns}

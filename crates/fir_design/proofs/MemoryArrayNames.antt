@@ -11,16 +11,18 @@ use Rattle.fir_ast.specs.Circuits.{CircuitTree}
 use Rattle.fir_meaning.specs.LeafPaths.{LeafPath, named}
 use Rattle.fir_meaning.specs.Mentions.{block_mentions, circuit_mentions, data_mentions, declares, expression_mentions, memory_mentions, mentions, module_names, names_declared, port_mentions, ports_mentions, ports_of, type_mentions}
 use Rattle.fir_meaning.specs.MemoryTypes.{data_of_part, first_one}
-use Rattle.fir_meaning.specs.NameGroups.{HasNames, faults_in, mention_faults}
+use Rattle.fir_meaning.specs.working.NameGroups.{HasNames}
+use Rattle.fir_meaning.specs.NameGroups.{faults_in, mention_faults}
 use Rattle.fir_meaning.specs.SizedMemories.{sized_array}
 use Rattle.fir_meaning.specs.TypeLeaves.{TypeLeaf}
 use Rattle.fir_meaning.specs.Visibility.{Before, at_head, behind, behind_block, opened, reopened}
 use Rattle.fir_meaning.proofs.DistinctLeaves.{paths_distinct}
 use Rattle.fir_meaning.proofs.OnceDeclared.{clear_left, clear_right}
 use Rattle.fir_meaning.proofs.OneLookUp.{clear_module, emptied}
-use Rattle.fir_meaning.specs.LeafMemories.{leaves_of_data}
-use Rattle.fir_meaning.specs.LeafModules.{LeafType}
-use Rattle.fir_meaning.specs.LeafedModules.{Scene, behind_all_ports, held_types}
+use Rattle.fir_meaning.specs.FoundTypes.{leaves_of_data}
+use Rattle.fir_meaning.specs.LeafTypes.{LeafType}
+use Rattle.fir_meaning.specs.ModuleScenes.{Scene, behind_all_ports}
+use Rattle.fir_meaning.specs.HeldTypes.{held_types}
 use Rattle.fir_leaf.proofs.DeclaredLeaves.{IsOwn}
 use Rattle.fir_meaning.specs.SourceDesigns.{InstanceOf, instances_of, instances_of_block}
 use Rattle.fir_meaning.specs.SourceRoles.{SourceArray, arrays_of_data, source_arrays, source_arrays_in, source_arrays_in_block}

@@ -5,8 +5,9 @@ use Rattle.fir_ast.specs.Statements.{MemoryPart}
 use Rattle.fir_meaning.specs.LeafPaths.{named}
 use Rattle.fir_meaning.specs.MemoryTypes.{depth_of_part, first_one}
 use Rattle.fir_meaning.specs.TypeLeaves.{TypeLeaf}
-use Rattle.fir_meaning.specs.LeafMemories.{LeafMemory, arrays_from, writings_from}
-use Rattle.fir_meaning.specs.LeafModules.{LeafArray, LeafDeclared, LeafType}
+use Rattle.fir_meaning.specs.working.LeafMemories.{LeafMemory, arrays_from, writings_from}
+use Rattle.fir_meaning.specs.working.LeafModules.{LeafArray, LeafDeclared}
+use Rattle.fir_meaning.specs.LeafTypes.{LeafType}
 use Rattle.fir_design.specs.working.SameRoles.{array_on, writing_on}
 use Rattle.fir_meaning.specs.SourceRoles.{arrays_of_data, ports_of_part, writings_at}
 

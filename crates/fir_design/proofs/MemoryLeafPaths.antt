@@ -10,7 +10,7 @@ use Rattle.fir_meaning.specs.LeafPaths.{LeafPath, named}
 use Rattle.fir_meaning.specs.MemoryTypes.{flipped_fields, mask_type, port_fields_of, reader_type, readwriter_type, writer_type}
 use Rattle.fir_meaning.specs.TypeLeaves.{field_leaves, type_leaves, under}
 use Rattle.fir_meaning.proofs.LeafSteps.{behind_step, path_of, paths_joined}
-use Rattle.fir_meaning.specs.LeafMemories.{PortKind, reads, reads_and_writes, writes}
+use Rattle.fir_meaning.specs.MemoryPorts.{PortKind, reads, reads_and_writes, writes}
 use Rattle.fir_meaning.specs.SourceRoles.{ports_of_part}
 use Rattle.fir_design.proofs.MaskLeaves.{mask_paths}
 use Rattle.fir_design.proofs.MemoryPortPaths.{behind_field, control_paths, kind_paths, port_paths}

@@ -12,7 +12,7 @@ use Rattle.fir_meaning.specs.MemoryTypes.{flipped_fields, memory_bundle, port_fi
 use Rattle.fir_meaning.specs.Mentions.{type_mentions}
 use Rattle.fir_meaning.specs.NameGroups.{faults_in}
 use Rattle.fir_meaning.proofs.FreshFields.{AreFresh, field_names, fresh_fields}
-use Rattle.fir_meaning.specs.LeafMemories.{PortKind, reads, reads_and_writes, writes}
+use Rattle.fir_meaning.specs.MemoryPorts.{PortKind, reads, reads_and_writes, writes}
 use Rattle.fir_meaning.specs.SourceRoles.{NamedPort, kind_of, ports_of_part}
 
 abbrev port_name : NamedPort → List ℕ

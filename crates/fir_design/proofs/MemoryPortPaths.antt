@@ -5,7 +5,8 @@ use Rattle.std.proofs.lemmas.List.{length-map, map-append}
 use Rattle.fir_ast.specs.Statements.{PlacedName, MemoryPart, reader, writer, readwriter}
 use Rattle.fir_meaning.specs.LeafPaths.{LeafPath, named}
 use Rattle.fir_meaning.proofs.LeafSteps.{behind_step}
-use Rattle.fir_meaning.specs.LeafMemories.{PortKind, port_kinds_of, port_size, reads, reads_and_writes, writes}
+use Rattle.fir_meaning.specs.MemoryPorts.{PortKind, reads, reads_and_writes, writes}
+use Rattle.fir_meaning.specs.working.LeafMemories.{port_kinds_of, port_size}
 use Rattle.fir_meaning.specs.SourceRoles.{NamedPort, ports_of_part}
 
 -- where the leaves of the data have these paths: of a field of data

@@ -4,8 +4,9 @@ use Rattle.std.specs.Prelude.{codes}
 use Rattle.std.proofs.lemmas.List.{length-map}
 use Rattle.fir_meaning.specs.LeafPaths.{LeafPath, named}
 use Rattle.fir_meaning.proofs.LeafSteps.{behind_step}
-use Rattle.fir_meaning.specs.LeafMemories.{PortKind, mode, reads_and_writes}
-use Rattle.fir_meaning.specs.LeafModules.{LeafDeclared}
+use Rattle.fir_meaning.specs.MemoryPorts.{PortKind, reads_and_writes}
+use Rattle.fir_meaning.specs.working.LeafMemories.{mode}
+use Rattle.fir_meaning.specs.working.LeafModules.{LeafDeclared}
 use Rattle.fir_leaf.proofs.LeafPlaces.{get_mapped}
 use Rattle.fir_design.specs.working.SameRoles.{path_at}
 use Rattle.fir_meaning.specs.SourceRoles.{port_field}

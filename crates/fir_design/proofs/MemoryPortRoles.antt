@@ -6,8 +6,9 @@ use Rattle.fir_base.specs.Lists.{In}
 use Rattle.fir_ast.specs.Statements.{MemoryPart}
 use Rattle.fir_meaning.specs.LeafPaths.{LeafPath, element, named}
 use Rattle.fir_meaning.proofs.LeafSteps.{behind_step}
-use Rattle.fir_meaning.specs.LeafMemories.{LeafMemory, PortKind, enable, mode, port_roles, port_size, read_roles, reads, reads_and_writes, roles_from, sinks, writes}
-use Rattle.fir_meaning.specs.LeafModules.{LeafArray, LeafDeclared, Need, Role, sink}
+use Rattle.fir_meaning.specs.working.LeafMemories.{LeafMemory, enable, mode, port_roles, port_size, read_roles, roles_from, sinks}
+use Rattle.fir_meaning.specs.MemoryPorts.{PortKind, reads, reads_and_writes, writes}
+use Rattle.fir_meaning.specs.working.LeafModules.{LeafArray, LeafDeclared, Need, Role, sink}
 use Rattle.fir_design.specs.working.SameRoles.{path_at}
 use Rattle.fir_meaning.specs.SourceRoles as tree
 use Rattle.fir_meaning.specs.SourceRoles.{NamedPort, PathNeed, SourceRole, kind_of, memory_role, port_field, ports_of_part}

@@ -6,8 +6,8 @@ use Rattle.fir_ast.specs.Statements.{MemoryPart}
 use Rattle.fir_meaning.specs.LeafPaths.{LeafPath, named}
 use Rattle.fir_meaning.proofs.LeafSteps.{behind_step}
 use Rattle.fir_leaf.specs.working.DesignStates.{array_at}
-use Rattle.fir_meaning.specs.LeafMemories.{LeafMemory, read_role, read_roles}
-use Rattle.fir_meaning.specs.LeafModules.{LeafArray, LeafDeclared, Need}
+use Rattle.fir_meaning.specs.working.LeafMemories.{LeafMemory, read_role, read_roles}
+use Rattle.fir_meaning.specs.working.LeafModules.{LeafArray, LeafDeclared, Need}
 use Rattle.fir_design.specs.working.SameRoles.{SameRole, need_on, path_at}
 use Rattle.fir_meaning.specs.SourceRoles as tree
 use Rattle.fir_meaning.specs.SourceRoles.{NamedPort, PathNeed, SourceRole, kind_of, latency_of, needed, port_field, ports_of_part, under_write_of}

@@ -11,7 +11,7 @@ use Rattle.fir_meaning.specs.Components.{Declaration}
 use Rattle.fir_meaning.specs.Costs.{sum_of}
 use Rattle.fir_meaning.specs.LeafPaths.{LeafPath, named}
 use Rattle.fir_meaning.specs.MemoryTypes.{data_of_part, first_one}
-use Rattle.fir_meaning.specs.NameGroups.{HasNames}
+use Rattle.fir_meaning.specs.working.NameGroups.{HasNames}
 use Rattle.fir_meaning.specs.SizedDeclarations.{numbered_modules}
 use Rattle.fir_meaning.specs.SizedMemories.{sized_array}
 use Rattle.fir_meaning.specs.TypeGroup.{type_faults}
@@ -21,10 +21,14 @@ use Rattle.fir_meaning.specs.working.WellTyped.{IsLegal}
 use Rattle.fir_meaning.proofs.LeafSteps.{behind_step, path_of}
 use Rattle.fir_leaf.specs.working.DesignStates.{array_at, no_array}
 use Rattle.fir_leaf.specs.working.LeafLaws.{Begins}
-use Rattle.fir_meaning.specs.LeafMemories.{LeafMemory, arrays_from, arrays_of, leaves_of_data, memory_roles}
-use Rattle.fir_meaning.specs.LeafModules.{LeafArray, LeafDeclared, LeafType}
-use Rattle.fir_meaning.specs.LeafedModules.{Declared, Scene, arrays_in, held_by_declared, held_types, leafed_module, leaves_in, memory_before, module_leaves, role_in, scope_before, type_of_declared}
-use Rattle.fir_meaning.specs.Targets.{leaves_so_far}
+use Rattle.fir_meaning.specs.working.LeafMemories.{LeafMemory, arrays_from, arrays_of, memory_roles}
+use Rattle.fir_meaning.specs.FoundTypes.{leaves_of_data}
+use Rattle.fir_meaning.specs.working.LeafModules.{LeafArray, LeafDeclared}
+use Rattle.fir_meaning.specs.LeafTypes.{LeafType}
+use Rattle.fir_meaning.specs.ModuleScenes.{Declared, Scene, held_by_declared, scope_before, type_of_declared}
+use Rattle.fir_meaning.specs.working.LeafedModules.{arrays_in, leafed_module, leaves_in, memory_before, module_leaves, role_in}
+use Rattle.fir_meaning.specs.HeldTypes.{held_types}
+use Rattle.fir_meaning.specs.working.Targets.{leaves_so_far}
 use Rattle.fir_leaf.proofs.DeclaredLeaves.{own_module}
 use Rattle.fir_leaf.proofs.LeafPlaces.{get_mapped, leaves_counted}
 use Rattle.fir_design.specs.working.SameRoles.{SameLeaves, array_on, path_at}

@@ -2,8 +2,8 @@
 use Rattle.std.proofs.Common.{◌≡◌, ℕ, zero, suc, ◌+◌, ◌*◌, List, [], ◌∷◌, ◌++◌, map, length, ap, ◌∙◌, arith}
 use Rattle.std.proofs.lemmas.List.{map-append}
 use Rattle.fir_meaning.specs.LeafPaths.{LeafPath, named}
-use Rattle.fir_meaning.specs.LeafMemories.{sinks}
-use Rattle.fir_meaning.specs.LeafModules.{LeafArray, LeafDeclared, Role, sink}
+use Rattle.fir_meaning.specs.working.LeafMemories.{sinks}
+use Rattle.fir_meaning.specs.working.LeafModules.{LeafArray, LeafDeclared, Role, sink}
 use Rattle.fir_meaning.specs.SourceRoles as tree
 use Rattle.fir_meaning.specs.SourceRoles.{SourceRole}
 use Rattle.fir_design.proofs.MemoryPortPaths.{behind_field}

@@ -4,8 +4,9 @@ use Rattle.std.specs.Prelude.{codes}
 use Rattle.std.proofs.lemmas.List.{map-append}
 use Rattle.fir_meaning.specs.LeafPaths.{LeafPath, named}
 use Rattle.fir_meaning.proofs.LeafSteps.{behind_step}
-use Rattle.fir_meaning.specs.LeafMemories.{PortKind, port_size, port_writings, reads, reads_and_writes, writes, writings_from}
-use Rattle.fir_meaning.specs.LeafModules.{LeafDeclared}
+use Rattle.fir_meaning.specs.MemoryPorts.{PortKind, reads, reads_and_writes, writes}
+use Rattle.fir_meaning.specs.working.LeafMemories.{port_size, port_writings, writings_from}
+use Rattle.fir_meaning.specs.working.LeafModules.{LeafDeclared}
 use Rattle.fir_design.specs.working.SameRoles.{path_at, writing_on}
 use Rattle.fir_meaning.specs.SourceRoles.{NamedPort, PathWriting, port_writing, writings_at}
 use Rattle.fir_design.proofs.MemoryPortPaths.{behind_field, kind_paths, port_long, port_paths}

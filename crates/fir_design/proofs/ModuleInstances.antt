@@ -14,9 +14,10 @@ use Rattle.fir_meaning.specs.Components.{Declaration, Declarations}
 use Rattle.fir_meaning.specs.TypeGroup.{scope_at}
 use Rattle.fir_meaning.specs.TypedScopes.{Known, TypedScope}
 use Rattle.fir_meaning.specs.Visibility.{declarations}
-use Rattle.fir_meaning.specs.DesignPaths.{instance_name}
-use Rattle.fir_meaning.specs.LeafBlocks.{HeldInstance}
-use Rattle.fir_meaning.specs.LeafedModules.{Scene, behind_all_ports, leafed_module}
+use Rattle.fir_meaning.specs.working.DesignPaths.{instance_name}
+use Rattle.fir_meaning.specs.working.LeafBlocks.{HeldInstance}
+use Rattle.fir_meaning.specs.ModuleScenes.{Scene, behind_all_ports}
+use Rattle.fir_meaning.specs.working.LeafedModules.{leafed_module}
 use Rattle.fir_design.proofs.DeclaredInstances.{IsDeclared, instance_within}
 use Rattle.fir_design.proofs.DesignInstances.{Instance, held_of, own_of}
 use Rattle.fir_design.proofs.FineScenes.{IsFineScene, whole_scope}

@@ -12,11 +12,13 @@ use Rattle.fir_meaning.specs.Components as component
 use Rattle.fir_meaning.specs.Visibility.{Before, at_head, behind_ports, declarations, with_declaration}
 use Rattle.fir_meaning.specs.ResetJoins.{numbered_module}
 use Rattle.fir_names.specs.working.ModuleOrder.{IsModuleOrder}
-use Rattle.fir_meaning.specs.Designs.{IsDesignOf, AllInstances, IsRanked, Design, elaborated}
-use Rattle.fir_meaning.specs.LeafedModules.{Scene, behind_all_ports, driven_leaves, leafed_module}
+use Rattle.fir_meaning.specs.working.Designs.{IsDesignOf, AllInstances, IsRanked, Design, elaborated}
+use Rattle.fir_meaning.specs.ModuleScenes.{Scene, behind_all_ports}
+use Rattle.fir_meaning.specs.working.LeafedModules.{driven_leaves, leafed_module}
 use Rattle.fir_leaf.proofs.Elaborating.{has_design}
 use Rattle.fir_leaf.proofs.ScopesBegin.{begins_all}
-use Rattle.fir_meaning.specs.Elaborated.{AreScenes, views}
+use Rattle.fir_meaning.specs.Elaborated.{AreScenes}
+use Rattle.fir_meaning.specs.working.Elaborated.{views}
 use Rattle.fir_design.proofs.HeldInstances.{Held, all_held_in, all_by_held}
 use Rattle.fir_design.proofs.DeclaredInstances.{AreDeclared, IsDeclared, instance_within}
 use Rattle.fir_design.proofs.InstanceStatements.{block_declared}

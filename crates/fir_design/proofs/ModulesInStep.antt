@@ -4,12 +4,13 @@ use Rattle.std.specs.List.{AllByRecursion}
 use Rattle.std.proofs.Math.Seq.{drop-append_seam}
 use Rattle.fir_meaning.specs.LeafPaths.{LeafPath}
 use Rattle.fir_meaning.specs.Visibility.{at_head}
-use Rattle.fir_meaning.specs.FlatDesigns as flat
-use Rattle.fir_meaning.specs.FlatLeaves.{placed_array, placed_leaf}
-use Rattle.fir_meaning.specs.LeafCircuits.{LeafCircuit}
-use Rattle.fir_meaning.specs.LeafModules.{LeafArray, LeafDeclared, LeafModule, Writing}
-use Rattle.fir_meaning.specs.LeafedModules.{Scene, behind_all_ports, leafed_module, leaves_in_block, leaves_of_ports}
-use Rattle.fir_meaning.specs.Numberings.{Numbering, moved_writing}
+use Rattle.fir_meaning.specs.working.FlatDesigns as flat
+use Rattle.fir_meaning.specs.working.FlatLeaves.{placed_array, placed_leaf}
+use Rattle.fir_meaning.specs.working.LeafCircuits.{LeafCircuit}
+use Rattle.fir_meaning.specs.working.LeafModules.{LeafArray, LeafDeclared, LeafModule, Writing}
+use Rattle.fir_meaning.specs.ModuleScenes.{Scene, behind_all_ports}
+use Rattle.fir_meaning.specs.working.LeafedModules.{leafed_module, leaves_in_block, leaves_of_ports}
+use Rattle.fir_meaning.specs.working.Numberings.{Numbering, moved_writing}
 use Rattle.fir_leaf.proofs.MovedTerms.{Stands}
 use Rattle.fir_design.specs.working.SameRoles.{SameLeaves, array_on, writing_on}
 use Rattle.fir_meaning.specs.SourceCircuits.{inner_leaves, placed, placed_arrays, port_leaves, within}

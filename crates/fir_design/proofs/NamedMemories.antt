@@ -7,8 +7,8 @@ use Rattle.fir_ast.specs.declared.statements.ReadUnderWrite.{ReadUnderWrite}
 use Rattle.fir_ast.specs.Statements.{MemoryPart}
 use Rattle.fir_meaning.specs.LeafPaths.{LeafPath, Step, element, named}
 use Rattle.fir_meaning.specs.TypeLeaves.{TypeLeaf}
-use Rattle.fir_meaning.specs.LeafMemories.{PortKind, reads, reads_and_writes, writes}
-use Rattle.fir_meaning.specs.LeafModules.{LeafType}
+use Rattle.fir_meaning.specs.MemoryPorts.{PortKind, reads, reads_and_writes, writes}
+use Rattle.fir_meaning.specs.LeafTypes.{LeafType}
 use Rattle.fir_meaning.specs.SourceRoles as tree
 use Rattle.fir_meaning.specs.SourceRoles.{NamedPort, PathNeed, PathReading, PathWriting, SourceArray, SourceLeaf, SourceRole, arrays_of_data, kind_of, latency_of, memory_role, port_field, port_role, port_writing, ports_of_part, read_by, read_role, source_arrays, source_arrays_in, source_arrays_in_block, source_leaves_of, source_reset, sources_in, sources_in_block, under_write_of, writings_at}
 use Rattle.fir_design.proofs.NamedPaths.{ArrayHasNames, HasName, NeedsHaveNames, ReadingHasNames, RoleHasNames, WritingHasNames}

@@ -3,7 +3,7 @@ use Rattle.std.proofs.Common.{◌≡◌, ℕ, zero, suc, ◌<◌, List, [], ◌�
 use Rattle.std.specs.List.{AllByRecursion}
 use Rattle.fir_meaning.specs.LeafPaths.{LeafPath}
 use Rattle.fir_leaf.specs.working.DesignStates.{array_at}
-use Rattle.fir_meaning.specs.LeafModules.{LeafArray, LeafDeclared, leaf_at}
+use Rattle.fir_meaning.specs.working.LeafModules.{LeafArray, LeafDeclared, leaf_at}
 use Rattle.fir_meaning.specs.SourceRoles.{PathNeed, PathReading, PathWriting, SourceArray, SourceLeaf, SourceRole, pipe, reading}
 
 pub record HasName (q : LeafPath) : Type 0 where

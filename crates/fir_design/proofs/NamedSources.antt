@@ -10,9 +10,10 @@ use Rattle.fir_meaning.specs.MemoryTypes.{data_of_part, first_one}
 use Rattle.fir_meaning.specs.SizedMemories.{sized_array}
 use Rattle.fir_meaning.specs.TypeLeaves.{TypeLeaf}
 use Rattle.fir_meaning.specs.Visibility.{Before, behind, behind_block, opened, reopened, with_declaration}
-use Rattle.fir_meaning.specs.LeafMemories.{leaves_of_data}
-use Rattle.fir_meaning.specs.LeafModules.{LeafType}
-use Rattle.fir_meaning.specs.LeafedModules.{Scene, held_by_declared, held_types, scope_before, type_of_declared}
+use Rattle.fir_meaning.specs.FoundTypes.{leaves_of_data}
+use Rattle.fir_meaning.specs.LeafTypes.{LeafType}
+use Rattle.fir_meaning.specs.ModuleScenes.{Scene, held_by_declared, scope_before, type_of_declared}
+use Rattle.fir_meaning.specs.HeldTypes.{held_types}
 use Rattle.fir_meaning.specs.SourceRoles as tree
 use Rattle.fir_meaning.specs.SourceRoles.{NamedPort, PathNeed, PathReading, PathWriting, SourceArray, SourceLeaf, SourceRole, arrays_of_data, kind_of, latency_of, memory_role, port_field, port_role, port_writing, ports_of_part, read_by, read_role, source_arrays, source_arrays_in, source_arrays_in_block, source_leaves_of, source_reset, sources_in, sources_in_block, under_write_of, writings_at}
 use Rattle.fir_design.proofs.NamedMemories.{begins_so, data_named, memory_named}

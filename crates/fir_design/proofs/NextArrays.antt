@@ -5,11 +5,12 @@ use Rattle.fir_ast.specs.declared.statements.ReadUnderWrite.{ReadUnderWrite}
 use Rattle.fir_ast.specs.declared.statements.ReadUnderWrite.TheVariants.{New, Old, Undefined}
 use Rattle.fir_meaning.specs.LeafPaths.{LeafPath}
 use Rattle.fir_leaf.specs.working.DesignStates.{array_at}
-use Rattle.fir_meaning.specs.LeafCircuits.{LeafCircuit}
-use Rattle.fir_meaning.specs.LeafModules.{Reading, Writing}
-use Rattle.fir_meaning.specs.Memories as over_memories
-use Rattle.fir_meaning.specs.Memories.{addresses, has_edge}
-use Rattle.fir_meaning.specs.TreeStores.{same_path}
+use Rattle.fir_meaning.specs.working.LeafCircuits.{LeafCircuit}
+use Rattle.fir_meaning.specs.working.LeafModules.{Reading, Writing}
+use Rattle.fir_meaning.specs.working.Memories as over_memories
+use Rattle.fir_meaning.specs.MemoryWords.{addresses}
+use Rattle.fir_meaning.specs.ClockEdges.{has_edge}
+use Rattle.fir_meaning.specs.SamePaths.{same_path}
 use Rattle.fir_meaning.specs.SourceAllows as tree
 use Rattle.fir_meaning.specs.SourceCircuits.{PlacedArray, all_arrays, array_path, state_arrays}
 use Rattle.fir_meaning.specs.SourceDesigns.{SourceDesign}

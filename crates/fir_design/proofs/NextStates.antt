@@ -3,13 +3,13 @@ use Rattle.std.proofs.Common.{◌≡◌, ℕ, ◌<◌, List, [], ◌++◌, Bool,
 use Rattle.fir_base.specs.Ticks.{Tick}
 use Rattle.fir_ast.specs.declared.statements.ReadUnderWrite.{ReadUnderWrite}
 use Rattle.fir_meaning.specs.LeafPaths.{LeafPath}
-use Rattle.fir_meaning.specs.LeafCircuits.{LeafCircuit, role_of}
-use Rattle.fir_meaning.specs.LeafModules as role
-use Rattle.fir_meaning.specs.LeafModules.{LeafReset, Role}
-use Rattle.fir_meaning.specs.LeafNext as over
-use Rattle.fir_meaning.specs.Memories as over_memories
-use Rattle.fir_meaning.specs.Memories.{has_edge}
-use Rattle.fir_meaning.specs.LeafStates.{look}
+use Rattle.fir_meaning.specs.working.LeafCircuits.{LeafCircuit, role_of}
+use Rattle.fir_meaning.specs.working.LeafModules as role
+use Rattle.fir_meaning.specs.working.LeafModules.{LeafReset, Role}
+use Rattle.fir_meaning.specs.working.LeafNext as over
+use Rattle.fir_meaning.specs.working.Memories as over_memories
+use Rattle.fir_meaning.specs.ClockEdges.{has_edge}
+use Rattle.fir_meaning.specs.working.LeafStates.{look}
 use Rattle.fir_leaf.specs.working.SoundDesigns.{circuit_path}
 use Rattle.fir_meaning.specs.SourceAllows as tree
 use Rattle.fir_meaning.specs.SourceCircuits.{PlacedLeaf, all_leaves, leaf_path, state_words}

@@ -8,13 +8,14 @@ use Rattle.fir_meaning.specs.LeafPaths.{LeafPath}
 use Rattle.fir_meaning.specs.TypeLeaves.{TypeLeaf, type_leaves}
 use Rattle.fir_meaning.specs.TypedScopes.{TypedScope}
 use Rattle.fir_meaning.specs.working.WellTyped.{HasType}
-use Rattle.fir_meaning.specs.DesignPaths.{seen}
-use Rattle.fir_meaning.specs.DesignStores.{number_given}
+use Rattle.fir_meaning.specs.working.DesignPaths.{seen}
+use Rattle.fir_meaning.specs.working.DesignStores.{number_given}
 use Rattle.fir_leaf.specs.working.LeafLaws.{Begins, path_at}
-use Rattle.fir_meaning.specs.Leafed.{terms}
-use Rattle.fir_meaning.specs.LeafedBlocks.{term_at}
-use Rattle.fir_meaning.specs.LeafedModules.{Scene, leafed_module}
-use Rattle.fir_meaning.specs.TermValues.{eval}
+use Rattle.fir_meaning.specs.working.Leafed.{terms}
+use Rattle.fir_meaning.specs.working.LeafedBlocks.{term_at}
+use Rattle.fir_meaning.specs.ModuleScenes.{Scene}
+use Rattle.fir_meaning.specs.working.LeafedModules.{leafed_module}
+use Rattle.fir_meaning.specs.working.TermValues.{eval}
 use Rattle.fir_meaning.specs.TreeValues.{TypesByPath, ValuesByPath, value}
 use Rattle.fir_leaf.proofs.LeafValues.{fine_values_same}
 use Rattle.fir_leaf.proofs.PairStores.{term_value}

@@ -12,11 +12,13 @@ use Rattle.fir_meaning.specs.Mentions.{module_names}
 use Rattle.fir_meaning.specs.ResetJoins.{numbered_module}
 use Rattle.fir_meaning.specs.SizedDeclarations.{Numbering, NumberedModule, behind_module, modules_from, first_numbers, numbered_modules}
 use Rattle.fir_names.specs.working.ModuleOrder.{find_number}
-use Rattle.fir_meaning.specs.Designs.{empty_module, module_of}
-use Rattle.fir_meaning.specs.LeafModules.{LeafModule}
-use Rattle.fir_meaning.specs.LeafedModules.{Scene, leafed_module}
+use Rattle.fir_meaning.specs.working.Designs.{empty_module, module_of}
+use Rattle.fir_meaning.specs.working.LeafModules.{LeafModule}
+use Rattle.fir_meaning.specs.ModuleScenes.{Scene}
+use Rattle.fir_meaning.specs.working.LeafedModules.{leafed_module}
 use Rattle.fir_leaf.proofs.DeclaredLeaves.{IsOwn, own_module}
-use Rattle.fir_meaning.specs.Elaborated.{AreScenes, views}
+use Rattle.fir_meaning.specs.Elaborated.{AreScenes}
+use Rattle.fir_meaning.specs.working.Elaborated.{views}
 
 -- the first module of a name: which it is, by its number, and what number the name has
 pub record IsNumbered (modules : List ModuleTree) (name : List ℕ) (from : ℕ) (child : ℕ × ModuleTree) : Type 0 where

@@ -5,13 +5,13 @@ use Rattle.fir_base.specs.Ticks.{HasShape, Shape, Tick}
 use Rattle.fir_base.proofs.Elements.{number_of}
 use Rattle.fir_base.proofs.Members.{in_map_from}
 use Rattle.fir_meaning.specs.LeafPaths.{LeafPath}
-use Rattle.fir_meaning.specs.Flattened.{flattened}
-use Rattle.fir_meaning.specs.LeafAllows as over
-use Rattle.fir_meaning.specs.LeafCircuits.{LeafCircuit}
-use Rattle.fir_meaning.specs.LeafSettled as over_settled
+use Rattle.fir_meaning.specs.working.Flattened.{flattened}
+use Rattle.fir_meaning.specs.working.LeafAllows as over
+use Rattle.fir_meaning.specs.working.LeafCircuits.{LeafCircuit}
+use Rattle.fir_meaning.specs.working.LeafSettled as over_settled
 use Rattle.fir_leaf.specs.working.SoundDesigns.{circuit_path}
-use Rattle.fir_meaning.specs.TermValues.{Env}
-use Rattle.fir_meaning.specs.TreeStores.{same_path}
+use Rattle.fir_meaning.specs.working.TermValues.{Env}
+use Rattle.fir_meaning.specs.SamePaths.{same_path}
 use Rattle.fir_leaf.proofs.FlatStores.{same_path_is, same_path_refl}
 use Rattle.fir_meaning.specs.SourceAllows.{Settled}
 use Rattle.fir_meaning.specs.SourceCircuits.{all_leaves, leaf_path, paths_of}

@@ -5,8 +5,9 @@ use Rattle.std.proofs.lemmas.List.{length-map, map-append}
 use Rattle.std.proofs.lemmas.Simd.{map-map}
 use Rattle.fir_base.specs.Lists.{In}
 use Rattle.fir_meaning.specs.LeafPaths.{LeafPath}
-use Rattle.fir_meaning.specs.LeafModules.{LeafArray, LeafModule}
-use Rattle.fir_meaning.specs.StateWalks.{has_bits, own_arrays}
+use Rattle.fir_meaning.specs.working.LeafModules.{LeafArray, LeafModule}
+use Rattle.fir_meaning.specs.LeafTypes.{has_bits}
+use Rattle.fir_meaning.specs.working.StateWalks.{own_arrays}
 use Rattle.fir_leaf.proofs.FlatPlaces.{At, at_left, at_right}
 use Rattle.fir_design.specs.working.SameRoles.{array_on}
 use Rattle.fir_meaning.specs.SourceCircuits.{PlacedArray, is_stored_array, placed_arrays}

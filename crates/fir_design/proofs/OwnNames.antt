@@ -15,11 +15,15 @@ use Rattle.fir_meaning.specs.MemoryTypes.{data_of_part, first_one}
 use Rattle.fir_meaning.specs.SizedMemories.{sized_array}
 use Rattle.fir_meaning.specs.TypeLeaves.{TypeLeaf}
 use Rattle.fir_meaning.specs.Visibility.{Before, behind, behind_block, declaration_at, declarations, opened, reopened}
-use Rattle.fir_meaning.specs.DesignPaths.{no_name}
+use Rattle.fir_meaning.specs.working.DesignPaths.{no_name}
 use Rattle.fir_leaf.specs.working.DesignStates.{array_at, no_array}
-use Rattle.fir_meaning.specs.LeafMemories.{LeafMemory, arrays_from, leaves_of_data}
-use Rattle.fir_meaning.specs.LeafModules.{LeafArray, LeafType, leaf_at}
-use Rattle.fir_meaning.specs.LeafedModules.{Scene, arrays_in, arrays_in_block, behind_all_ports, held_types, leafed_module, memory_before, module_leaves}
+use Rattle.fir_meaning.specs.working.LeafMemories.{LeafMemory, arrays_from}
+use Rattle.fir_meaning.specs.FoundTypes.{leaves_of_data}
+use Rattle.fir_meaning.specs.working.LeafModules.{LeafArray, leaf_at}
+use Rattle.fir_meaning.specs.LeafTypes.{LeafType}
+use Rattle.fir_meaning.specs.ModuleScenes.{Scene, behind_all_ports}
+use Rattle.fir_meaning.specs.working.LeafedModules.{arrays_in, arrays_in_block, leafed_module, memory_before, module_leaves}
+use Rattle.fir_meaning.specs.HeldTypes.{held_types}
 use Rattle.fir_leaf.specs.working.NamedDesigns.{HasOwnNames, IsBehind, declared_name}
 use Rattle.fir_leaf.specs.working.TableLaws.{IsLeafOf}
 use Rattle.fir_leaf.proofs.OncePaths.{at_in}

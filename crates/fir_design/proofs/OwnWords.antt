@@ -5,10 +5,11 @@ use Rattle.std.proofs.lemmas.Simd.{map-map}
 use Rattle.fir_base.specs.Lists.{In}
 use Rattle.fir_base.proofs.Elements.{get_behind}
 use Rattle.fir_meaning.specs.LeafPaths.{LeafPath}
-use Rattle.fir_meaning.specs.LeafModules.{LeafArray, LeafDeclared, LeafModule}
-use Rattle.fir_meaning.specs.Numberings.{Numbering, number}
-use Rattle.fir_meaning.specs.StateWalks.{has_bits, own_words}
-use Rattle.fir_meaning.specs.StateWalks as over
+use Rattle.fir_meaning.specs.working.LeafModules.{LeafArray, LeafDeclared, LeafModule}
+use Rattle.fir_meaning.specs.working.Numberings.{Numbering, number}
+use Rattle.fir_meaning.specs.LeafTypes.{has_bits}
+use Rattle.fir_meaning.specs.working.StateWalks.{own_words}
+use Rattle.fir_meaning.specs.working.StateWalks as over
 use Rattle.fir_leaf.proofs.FlatPlaces.{At, at_right}
 use Rattle.fir_leaf.proofs.MovedTerms.{number_own}
 use Rattle.fir_design.specs.working.SameRoles.{SameLeaves}

@@ -4,8 +4,8 @@ use Rattle.std.proofs.lemmas.Bool.{cases_eq, eq-eqb, ne_eqb, false_from_ne_true}
 use Rattle.std.proofs.lemmas.List.Folds.{flat_map-map}
 use Rattle.fir_base.specs.Lists.{In}
 use Rattle.fir_meaning.specs.LeafPaths.{LeafPath}
-use Rattle.fir_meaning.specs.LeafStates.{look, place_in}
-use Rattle.fir_meaning.specs.TreeStores.{same_path}
+use Rattle.fir_meaning.specs.working.LeafStates.{look, place_in}
+use Rattle.fir_meaning.specs.SamePaths.{same_path}
 use Rattle.fir_leaf.proofs.FlatStores.{same_path_is, same_path_refl}
 use Rattle.fir_meaning.specs.SourceValues.{look_on, place_on}
 

@@ -4,7 +4,7 @@ use Rattle.std.proofs.Common.{ℕ, List, [], ◌∷◌, ◌++◌, refl}
 use Rattle.fir_base.specs.Ticks.{Tick}
 use Rattle.fir_bits.specs.Literals.{least_width}
 use Rattle.fir_meaning.specs.LeafPaths.{LeafPath}
-use Rattle.fir_meaning.specs.Memories.{addresses}
+use Rattle.fir_meaning.specs.MemoryWords.{addresses}
 use Rattle.fir_leaf.proofs.TextTrees as text
 use Rattle.fir_leaf.proofs.SmallCircuits.{tick}
 use Rattle.fir_design.proofs.RowPaths.{field, own, port, result}

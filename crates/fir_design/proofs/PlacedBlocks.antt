@@ -8,9 +8,10 @@ use Rattle.fir_meaning.specs.ComponentTypes.{typed_scope}
 use Rattle.fir_meaning.specs.Visibility.{Before, behind, at_head, declarations}
 use Rattle.fir_meaning.specs.working.WellTyped.{IsLegal}
 use Rattle.fir_leaf.specs.working.LeafLaws.{Begins}
-use Rattle.fir_meaning.specs.LeafModules.{LeafArray, LeafDeclared}
-use Rattle.fir_meaning.specs.LeafedModules.{Scene, arrays_in, arrays_in_block, behind_all_ports, leafed_module, leaves_in, leaves_in_block, leaves_of_ports, module_leaves}
-use Rattle.fir_meaning.specs.Targets.{leaves_so_far}
+use Rattle.fir_meaning.specs.working.LeafModules.{LeafArray, LeafDeclared}
+use Rattle.fir_meaning.specs.ModuleScenes.{Scene, behind_all_ports}
+use Rattle.fir_meaning.specs.working.LeafedModules.{arrays_in, arrays_in_block, leafed_module, leaves_in, leaves_in_block, leaves_of_ports, module_leaves}
+use Rattle.fir_meaning.specs.working.Targets.{leaves_so_far}
 use Rattle.fir_leaf.proofs.ScopesBegin.{begins_all}
 use Rattle.fir_design.proofs.CountedBlocks.{IsCounted, arrays_so_far, ports_counted}
 use Rattle.fir_design.proofs.DeclaredInstances.{Grows}

@@ -6,7 +6,7 @@ use Rattle.fir_ast.specs.Statements.{PlacedName}
 use Rattle.fir_meaning.specs.Components.{Component, Declarations}
 use Rattle.fir_meaning.specs.LeafPaths.{LeafPath}
 use Rattle.fir_meaning.specs.Visibility.{Before, declaration_at, with_declaration}
-use Rattle.fir_meaning.specs.LeafModules.{LeafDeclared, LeafModule}
+use Rattle.fir_meaning.specs.working.LeafModules.{LeafDeclared, LeafModule}
 use Rattle.fir_leaf.proofs.FlatPlaces.{At, at_left, at_right}
 use Rattle.fir_design.specs.working.SameRoles.{SameLeaves}
 use Rattle.fir_meaning.specs.SourceCircuits.{PlacedLeaf, placed, within}

@@ -14,12 +14,14 @@ use Rattle.fir_meaning.specs.TypedScopes.{TypedScope}
 use Rattle.fir_meaning.specs.TypeGroup.{scope_at}
 use Rattle.fir_meaning.specs.Visibility.{Before, at_head, behind_ports, declaration_at, with_declaration}
 use Rattle.fir_meaning.proofs.KnownNames.{typed_more}
-use Rattle.fir_meaning.specs.LeafModules.{LeafDeclared, LeafType, Role, leaf_at, no_leaf}
-use Rattle.fir_meaning.specs.LeafedModules.{Declared, Scene, behind_all_ports, held_by_declared, leafed_module, leaves_from, leaves_in_block, leaves_of_ports, port_role, type_of_declared}
-use Rattle.fir_meaning.specs.LeafMemories.{leaves_of_data}
+use Rattle.fir_meaning.specs.working.LeafModules.{LeafDeclared, Role, leaf_at, no_leaf}
+use Rattle.fir_meaning.specs.LeafTypes.{LeafType}
+use Rattle.fir_meaning.specs.ModuleScenes.{Declared, Scene, behind_all_ports, held_by_declared, type_of_declared}
+use Rattle.fir_meaning.specs.working.LeafedModules.{leafed_module, leaves_from, leaves_in_block, leaves_of_ports, port_role}
+use Rattle.fir_meaning.specs.FoundTypes.{leaves_of_data}
 use Rattle.fir_leaf.proofs.LeafPlaces.{leaves_counted}
 use Rattle.fir_leaf.proofs.OncePaths.{at_in}
-use Rattle.fir_meaning.specs.Targets.{leaves_so_far}
+use Rattle.fir_meaning.specs.working.Targets.{leaves_so_far}
 use Rattle.fir_leaf.proofs.PortPaths.{same_ports}
 use Rattle.fir_design.proofs.KnownDeclarations.{far_more}
 

@@ -4,16 +4,18 @@ use Rattle.std.proofs.lemmas.List.{get_or-append-add}
 use Rattle.fir_base.specs.Lists.{In}
 use Rattle.fir_ast.specs.Circuits.{CircuitTree}
 use Rattle.fir_meaning.specs.Visibility.{at_head}
-use Rattle.fir_meaning.specs.Designs.{Design, IsDesignOf, Items, made_of}
-use Rattle.fir_meaning.specs.FlatLeaves.{leaves_below}
-use Rattle.fir_meaning.specs.Flattened.{flattened, is_clock, is_input, ports_where}
-use Rattle.fir_meaning.specs.Flattened as over
-use Rattle.fir_meaning.specs.LeafModules.{LeafArray, LeafDeclared, LeafModule, LeafType, Role, is_sink, leaf_at, no_leaf}
-use Rattle.fir_meaning.specs.LeafedModules.{Scene, behind_all_ports, leafed_module, leaves_in_block, leaves_of_ports}
+use Rattle.fir_meaning.specs.working.Designs.{Design, IsDesignOf, Items, made_of}
+use Rattle.fir_meaning.specs.working.FlatLeaves.{leaves_below}
+use Rattle.fir_meaning.specs.working.Flattened.{flattened, is_input, ports_where}
+use Rattle.fir_meaning.specs.LeafTypes.{is_clock, LeafType, has_bits}
+use Rattle.fir_meaning.specs.working.Flattened as over
+use Rattle.fir_meaning.specs.working.LeafModules.{LeafArray, LeafDeclared, LeafModule, Role, is_sink, leaf_at, no_leaf}
+use Rattle.fir_meaning.specs.ModuleScenes.{Scene, behind_all_ports}
+use Rattle.fir_meaning.specs.working.LeafedModules.{leafed_module, leaves_in_block, leaves_of_ports}
 use Rattle.fir_leaf.specs.working.SoundDesigns.{circuit_path}
-use Rattle.fir_meaning.specs.StateWalks.{has_bits, numbers_where}
+use Rattle.fir_meaning.specs.working.StateWalks.{numbers_where}
 use Rattle.fir_leaf.proofs.FlatMeaning.{main_table}
-use Rattle.fir_meaning.specs.Elaborated.{views}
+use Rattle.fir_meaning.specs.working.Elaborated.{views}
 use Rattle.fir_design.specs.working.MeaningLaws.{AreDesigns}
 use Rattle.fir_design.specs.working.SameRoles.{SameLeaves, SameRole, ViewsHaveRoles}
 use Rattle.fir_meaning.specs.SourceCircuits.{PlacedLeaf, clock_inputs, clock_outputs, inputs, is_source, leaf_path, outputs, paths_of, placed}

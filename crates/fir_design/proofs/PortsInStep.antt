@@ -9,12 +9,14 @@ use Rattle.fir_meaning.specs.Components as component
 use Rattle.fir_meaning.specs.Flows.{flow_under, is_source, port_flow}
 use Rattle.fir_meaning.specs.TypeLeaves.{TypeLeaf}
 use Rattle.fir_meaning.specs.Visibility.{Before, at_head, with_declaration}
-use Rattle.fir_meaning.specs.Flattened as flat_circuit
-use Rattle.fir_meaning.specs.LeafCircuits.{LeafCircuit}
-use Rattle.fir_meaning.specs.LeafMemories.{leaves_of_data}
-use Rattle.fir_meaning.specs.LeafModules as over
-use Rattle.fir_meaning.specs.LeafModules.{LeafArray, LeafDeclared, LeafModule, LeafType, Writing}
-use Rattle.fir_meaning.specs.LeafedModules.{Declared, Scene, behind_all_ports, held_by_declared, leafed_module, leaves_from, leaves_in_block, leaves_of_ports, port_role, type_of_declared}
+use Rattle.fir_meaning.specs.working.Flattened as flat_circuit
+use Rattle.fir_meaning.specs.working.LeafCircuits.{LeafCircuit}
+use Rattle.fir_meaning.specs.FoundTypes.{leaves_of_data}
+use Rattle.fir_meaning.specs.working.LeafModules as over
+use Rattle.fir_meaning.specs.working.LeafModules.{LeafArray, LeafDeclared, LeafModule, Writing}
+use Rattle.fir_meaning.specs.LeafTypes.{LeafType}
+use Rattle.fir_meaning.specs.ModuleScenes.{Declared, Scene, behind_all_ports, held_by_declared, type_of_declared}
+use Rattle.fir_meaning.specs.working.LeafedModules.{leafed_module, leaves_from, leaves_in_block, leaves_of_ports, port_role}
 use Rattle.fir_meaning.specs.SourceCircuits.{PlacedLeaf, leaf_path, placed, port_leaves}
 use Rattle.fir_meaning.specs.SourceRoles as tree
 use Rattle.fir_meaning.specs.SourceRoles.{SourceArray, SourceLeaf, source_arrays, source_leaves, source_leaves_of, source_port_role, sources_in_block, sources_of_ports}

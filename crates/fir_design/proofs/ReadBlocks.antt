@@ -15,10 +15,11 @@ use Rattle.fir_meaning.specs.TypeGroup.{scope_at}
 use Rattle.fir_meaning.specs.ResetJoins.{numbered_module}
 use Rattle.fir_meaning.specs.working.WellTyped.{HasType, ConnectIsLegal, IsLegal, AreLegal}
 use Rattle.fir_meaning.proofs.FoundTypes.{found_type}
-use Rattle.fir_meaning.specs.LeafModules.{LeafModule}
-use Rattle.fir_meaning.specs.LeafPairs.{LeafPair, leaf_pairs, partial_leaf_pairs}
-use Rattle.fir_meaning.specs.Leafed.{target_of, target_read}
-use Rattle.fir_meaning.specs.LeafedBlocks.{type_where, sides, instance_block, connect_block, leafed, leafed_all}
+use Rattle.fir_meaning.specs.working.LeafModules.{LeafModule}
+use Rattle.fir_meaning.specs.working.LeafPairs.{LeafPair, leaf_pairs, partial_leaf_pairs}
+use Rattle.fir_meaning.specs.working.Leafed.{target_of, target_read}
+use Rattle.fir_meaning.specs.FoundTypes.{type_where}
+use Rattle.fir_meaning.specs.working.LeafedBlocks.{sides, instance_block, connect_block, leafed, leafed_all}
 use Rattle.fir_leaf.specs.working.LeafLaws.{Begins}
 use Rattle.fir_leaf.proofs.PairsByNumber.{IsPair, ArePairs, pairs_numbered, partial_numbered}
 use Rattle.fir_leaf.proofs.ScopesBegin.{begins_through, begins_behind, begins_block}

@@ -6,11 +6,11 @@ use Rattle.fir_ast.specs.Types.{DataType, bundle, vector}
 use Rattle.fir_meaning.specs.TypeLeaves.{leaf_count}
 use Rattle.fir_meaning.specs.TypeKinds.{FieldFound}
 use Rattle.fir_meaning.specs.Reaching.{field_of_type, vector_of_type}
-use Rattle.fir_meaning.specs.FieldSizes.{leaves_before}
-use Rattle.fir_meaning.specs.LeafModules.{LeafModule}
+use Rattle.fir_meaning.specs.working.FieldSizes.{leaves_before}
+use Rattle.fir_meaning.specs.working.LeafModules.{LeafModule}
 use Rattle.fir_leaf.specs.working.SoundDesigns.{IsTermIn, last_of}
-use Rattle.fir_meaning.specs.Terms.{Term, Picks, no_picks, pick}
-use Rattle.fir_meaning.specs.Targets.{Target, stride_from, field_target, element_target, picked_target, further}
+use Rattle.fir_meaning.specs.working.Terms.{Term, Picks, no_picks, pick}
+use Rattle.fir_meaning.specs.working.Targets.{Target, stride_from, field_target, element_target, picked_target, further}
 use Rattle.fir_leaf.proofs.LeafPlaces.{field_within, element_within}
 use Rattle.fir_design.proofs.ReadTargets.{IsBehind, IsTargetIn, LastBelow}
 

@@ -11,14 +11,17 @@ use Rattle.fir_meaning.specs.TypeGroup.{scope_at}
 use Rattle.fir_meaning.specs.TypeLeaves.{TypeLeaf, leaf_count}
 use Rattle.fir_meaning.specs.Visibility.{Before, behind, behind_block, opened, reopened, with_declaration}
 use Rattle.fir_meaning.specs.working.WellTyped.{AreLegal, IsLegal, ResetIsLegal}
-use Rattle.fir_meaning.specs.Leafed.{terms}
-use Rattle.fir_meaning.specs.LeafedBlocks.{term_at}
-use Rattle.fir_meaning.specs.LeafedModules.{Declared, Scene, behind_all_ports, held_by_declared, instance_place, instance_role, leaf_reset, leafed_module, leaves_from, leaves_in, leaves_in_block, memory_before, register_role, role_in, scope_before, type_of_declared}
+use Rattle.fir_meaning.specs.working.Leafed.{terms}
+use Rattle.fir_meaning.specs.working.LeafedBlocks.{term_at}
+use Rattle.fir_meaning.specs.ModuleScenes.{Declared, Scene, behind_all_ports, held_by_declared, scope_before, type_of_declared}
+use Rattle.fir_meaning.specs.working.LeafedModules.{instance_place, instance_role, leaf_reset, leafed_module, leaves_from, leaves_in, leaves_in_block, memory_before, register_role, role_in}
 use Rattle.fir_leaf.specs.working.LeafLaws.{Begins}
-use Rattle.fir_meaning.specs.LeafMemories.{leaves_of_data, memory_roles}
-use Rattle.fir_meaning.specs.LeafModules as over
-use Rattle.fir_meaning.specs.LeafModules.{LeafDeclared, LeafModule, LeafType, Need, Role}
-use Rattle.fir_meaning.specs.Targets.{leaves_ahead, leaves_so_far}
+use Rattle.fir_meaning.specs.FoundTypes.{leaves_of_data}
+use Rattle.fir_meaning.specs.working.LeafMemories.{memory_roles}
+use Rattle.fir_meaning.specs.working.LeafModules as over
+use Rattle.fir_meaning.specs.working.LeafModules.{LeafDeclared, LeafModule, Need, Role}
+use Rattle.fir_meaning.specs.LeafTypes.{LeafType}
+use Rattle.fir_meaning.specs.working.Targets.{leaves_ahead, leaves_so_far}
 use Rattle.fir_leaf.proofs.NamedPlaces.{named_in_whole}
 use Rattle.fir_leaf.proofs.ScopesBegin.{begins_all, begins_behind, begins_block, begins_through}
 use Rattle.fir_design.proofs.FineScenes.{IsFineScene, leaves_long, whole_scope}

@@ -6,14 +6,14 @@ use Rattle.fir_ast.specs.declared.place.Place.{Place}
 use Rattle.fir_ast.specs.Types.{DataType}
 use Rattle.fir_meaning.specs.TypeLeaves.{type_leaves, leaf_count}
 use Rattle.fir_meaning.specs.ConnectPairs.{Pair}
-use Rattle.fir_meaning.specs.LeafBlocks.{LeafBlock, LeafStatement, joined}
-use Rattle.fir_meaning.specs.LeafBlocks as over
-use Rattle.fir_meaning.specs.LeafModules.{LeafModule}
-use Rattle.fir_meaning.specs.LeafPairs.{LeafPair}
-use Rattle.fir_meaning.specs.LeafedBlocks.{alone, driven, driven_from, driven_where, term_at, Sides, pair_block, pairs_block, invalid_leaf, invalid_leaves}
+use Rattle.fir_meaning.specs.working.LeafBlocks.{LeafBlock, LeafStatement, joined}
+use Rattle.fir_meaning.specs.working.LeafBlocks as over
+use Rattle.fir_meaning.specs.working.LeafModules.{LeafModule}
+use Rattle.fir_meaning.specs.working.LeafPairs.{LeafPair}
+use Rattle.fir_meaning.specs.working.LeafedBlocks.{alone, driven, driven_from, driven_where, term_at, Sides, pair_block, pairs_block, invalid_leaf, invalid_leaves}
 use Rattle.fir_leaf.specs.working.SoundDesigns.{ArePicksIn, IsRead, IsTermIn}
-use Rattle.fir_meaning.specs.Targets.{Target}
-use Rattle.fir_meaning.specs.Terms.{Term, zeros}
+use Rattle.fir_meaning.specs.working.Targets.{Target}
+use Rattle.fir_meaning.specs.working.Terms.{Term, zeros}
 use Rattle.fir_leaf.proofs.LeafPlaces.{leaves_counted}
 use Rattle.fir_leaf.proofs.PairsByNumber.{IsPair, ArePairs}
 use Rattle.fir_design.proofs.ReadTargets.{AreNamesIn, IsTargetIn}

@@ -7,10 +7,10 @@ use Rattle.fir_meaning.specs.Costs.{leaves_where}
 use Rattle.fir_meaning.specs.TypeLeaves.{leaf_count}
 use Rattle.fir_meaning.specs.TypedScopes.{TypedScope, known}
 use Rattle.fir_meaning.specs.ResetJoins.{type_of_known}
-use Rattle.fir_meaning.specs.LeafModules.{LeafModule}
+use Rattle.fir_meaning.specs.working.LeafModules.{LeafModule}
 use Rattle.fir_leaf.specs.working.SoundDesigns.{ArePicksIn, IsRead, last_of}
-use Rattle.fir_meaning.specs.Terms.{no_picks}
-use Rattle.fir_meaning.specs.Targets.{Target, leaves_ahead, leaves_so_far, named_target}
+use Rattle.fir_meaning.specs.working.Terms.{no_picks}
+use Rattle.fir_meaning.specs.working.Targets.{Target, leaves_ahead, leaves_so_far, named_target}
 
 -- the last leaf that is picked, from each leaf of the target's type
 pub record LastBelow (n : ℕ) (r : Target) : Type 0 where

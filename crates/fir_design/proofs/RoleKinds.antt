@@ -1,9 +1,9 @@
 -- Roles over numbers and over paths that say the same are of one kind: both sources, both sinks, or both such that they show state.
 use Rattle.std.proofs.Common.{◌≡◌, List, refl}
-use Rattle.fir_meaning.specs.Flattened.{is_input}
-use Rattle.fir_meaning.specs.LeafModules as over
-use Rattle.fir_meaning.specs.LeafModules.{LeafArray, LeafDeclared, Role}
-use Rattle.fir_meaning.specs.StateWalks as over_state
+use Rattle.fir_meaning.specs.working.Flattened.{is_input}
+use Rattle.fir_meaning.specs.working.LeafModules as over
+use Rattle.fir_meaning.specs.working.LeafModules.{LeafArray, LeafDeclared, Role}
+use Rattle.fir_meaning.specs.working.StateWalks as over_state
 use Rattle.fir_design.specs.working.SameRoles.{SameRole}
 use Rattle.fir_meaning.specs.SourceCircuits.{is_sink, is_source, is_state}
 use Rattle.fir_meaning.specs.SourceRoles as tree

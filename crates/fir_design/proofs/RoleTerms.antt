@@ -4,10 +4,13 @@ use Rattle.std.specs.List.{AllByRecursion}
 use Rattle.fir_base.proofs.Each.{all_joined}
 use Rattle.fir_ast.specs.declared.place.Place.{Place}
 use Rattle.fir_meaning.specs.TypeLeaves.{TypeLeaf}
-use Rattle.fir_meaning.specs.LeafedModules.{Declared, leaves_from, role_in}
-use Rattle.fir_meaning.specs.LeafMemories.{LeafMemory, PortKind, enable, mode, port_roles, port_size, read_role, read_roles, reads, reads_and_writes, roles_from, sinks, writes}
-use Rattle.fir_meaning.specs.LeafModules as over
-use Rattle.fir_meaning.specs.LeafModules.{LeafDeclared, LeafModule, LeafType, Need, Role}
+use Rattle.fir_meaning.specs.ModuleScenes.{Declared}
+use Rattle.fir_meaning.specs.working.LeafedModules.{leaves_from, role_in}
+use Rattle.fir_meaning.specs.working.LeafMemories.{LeafMemory, enable, mode, port_roles, port_size, read_role, read_roles, roles_from, sinks}
+use Rattle.fir_meaning.specs.MemoryPorts.{PortKind, reads, reads_and_writes, writes}
+use Rattle.fir_meaning.specs.working.LeafModules as over
+use Rattle.fir_meaning.specs.working.LeafModules.{LeafDeclared, LeafModule, Need, Role}
+use Rattle.fir_meaning.specs.LeafTypes.{LeafType}
 use Rattle.fir_design.proofs.RolesBelow.{RoleReads}
 
 module _ (m : LeafModule) where

@@ -4,12 +4,12 @@ use Rattle.fir_ast.specs.Expressions.{Expression}
 use Rattle.fir_meaning.specs.LeafPaths.{LeafPath}
 use Rattle.fir_meaning.specs.TypedScopes.{TypedScope}
 use Rattle.fir_leaf.specs.working.DesignStates.{array_at}
-use Rattle.fir_meaning.specs.LeafCircuits.{LeafCircuit}
-use Rattle.fir_meaning.specs.LeafModules as over
-use Rattle.fir_meaning.specs.LeafModules.{LeafModule, LeafReset, Need, Reading, Role}
-use Rattle.fir_meaning.specs.Numberings.{Numbering, moved, moved_need, moved_reading, moved_reset, moved_role, number}
+use Rattle.fir_meaning.specs.working.LeafCircuits.{LeafCircuit}
+use Rattle.fir_meaning.specs.working.LeafModules as over
+use Rattle.fir_meaning.specs.working.LeafModules.{LeafModule, LeafReset, Need, Reading, Role}
+use Rattle.fir_meaning.specs.working.Numberings.{Numbering, moved, moved_need, moved_reading, moved_reset, moved_role, number}
 use Rattle.fir_leaf.specs.working.SoundDesigns.{IsTermIn, circuit_path}
-use Rattle.fir_meaning.specs.Terms.{Term}
+use Rattle.fir_meaning.specs.working.Terms.{Term}
 use Rattle.fir_leaf.proofs.MovedTerms.{Stands, clock_same, eval_same}
 use Rattle.fir_design.specs.working.SameRoles.{MaySameReset, SameRole, SameTerm, need_on, path_at, reading_on}
 use Rattle.fir_meaning.specs.SourceCircuits.{role_within}

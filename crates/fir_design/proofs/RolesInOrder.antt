@@ -3,8 +3,10 @@ use Rattle.std.proofs.Common.{◌≡◌, ℕ, zero, suc, ◌+◌, List, [], ◌�
 use Rattle.std.specs.Prelude.{slice_index_or}
 use Rattle.fir_ast.specs.declared.place.Place.{Place}
 use Rattle.fir_meaning.specs.TypeLeaves.{TypeLeaf}
-use Rattle.fir_meaning.specs.LeafModules.{LeafArray, LeafDeclared, LeafType, Role, source}
-use Rattle.fir_meaning.specs.LeafedModules.{Declared, leaves_from}
+use Rattle.fir_meaning.specs.working.LeafModules.{LeafArray, LeafDeclared, Role, source}
+use Rattle.fir_meaning.specs.LeafTypes.{LeafType}
+use Rattle.fir_meaning.specs.ModuleScenes.{Declared}
+use Rattle.fir_meaning.specs.working.LeafedModules.{leaves_from}
 use Rattle.fir_design.specs.working.SameRoles.{SameLeaves, SameRole}
 use Rattle.fir_meaning.specs.SourceRoles.{SourceRole, source_leaves_of}
 

@@ -1,13 +1,14 @@
 -- What statements over leaves store at the leaves of the module at a path, where the instance of a name stores what is told.
 use Rattle.std.proofs.Common.{◌≡◌, ℕ, List, [], ◌∷◌, ◌++◌, Bool, not, refl}
 use Rattle.fir_meaning.specs.LeafPaths.{LeafPath}
-use Rattle.fir_meaning.specs.DesignPaths.{instance_name, seen}
-use Rattle.fir_meaning.specs.DesignStores.{DesignStore, kept}
-use Rattle.fir_meaning.specs.LeafBlocks.{LeafBlock, LeafStatement, joined}
-use Rattle.fir_meaning.specs.LeafBlocks as over
-use Rattle.fir_meaning.specs.LeafModules.{LeafModule}
-use Rattle.fir_meaning.specs.Terms.{Term}
-use Rattle.fir_meaning.specs.TermValues.{is_true, leaf_of}
+use Rattle.fir_meaning.specs.working.DesignPaths.{instance_name, seen}
+use Rattle.fir_meaning.specs.PathStores.{DesignStore}
+use Rattle.fir_meaning.specs.working.DesignStores.{kept}
+use Rattle.fir_meaning.specs.working.LeafBlocks.{LeafBlock, LeafStatement, joined}
+use Rattle.fir_meaning.specs.working.LeafBlocks as over
+use Rattle.fir_meaning.specs.working.LeafModules.{LeafModule}
+use Rattle.fir_meaning.specs.working.Terms.{Term}
+use Rattle.fir_meaning.specs.working.TermValues.{is_true, leaf_of}
 use Rattle.fir_meaning.specs.TreeValues.{TypesByPath, ValuesByPath}
 
 module _ {V : Type 0} (holds : TypesByPath) (env : ValuesByPath) (given : LeafPath → LeafModule → ℕ → Term → V)

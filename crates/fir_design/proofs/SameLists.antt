@@ -3,9 +3,10 @@ use Rattle.std.proofs.Common.{◌≡◌, ℕ, ◌+◌, List, [], ◌∷◌, ◌+
 use Rattle.std.proofs.lemmas.List.{map-append}
 use Rattle.fir_ast.specs.declared.place.Place.{Place}
 use Rattle.fir_meaning.specs.TypeLeaves.{TypeLeaf}
-use Rattle.fir_meaning.specs.LeafMemories.{leaves_of_data}
-use Rattle.fir_meaning.specs.LeafModules.{LeafArray, LeafDeclared, Role}
-use Rattle.fir_meaning.specs.LeafedModules.{Declared, Scene, declared_leaves, held_by_declared, leafed_module, module_leaves, type_of_declared}
+use Rattle.fir_meaning.specs.FoundTypes.{leaves_of_data}
+use Rattle.fir_meaning.specs.working.LeafModules.{LeafArray, LeafDeclared, Role}
+use Rattle.fir_meaning.specs.ModuleScenes.{Declared, Scene, held_by_declared, type_of_declared}
+use Rattle.fir_meaning.specs.working.LeafedModules.{declared_leaves, leafed_module, module_leaves}
 use Rattle.fir_design.specs.working.SameRoles.{SameLeaves, SameRole, array_on}
 use Rattle.fir_meaning.specs.SourceRoles.{SourceArray, SourceLeaf, SourceRole, declared_sources}
 use Rattle.fir_design.proofs.RolesInOrder as one

@@ -2,12 +2,12 @@
 use Rattle.std.proofs.Common.{◌≡◌, ◌↔◌, ℕ, List, map, Option, None, sym, ap, ◌∙◌, subst}
 use Rattle.std.proofs.lemmas.Simd.{map-map}
 use Rattle.fir_base.specs.Ticks.{Tick}
-use Rattle.fir_meaning.specs.LeafAllows as over
-use Rattle.fir_meaning.specs.LeafCircuits.{LeafCircuit}
-use Rattle.fir_meaning.specs.LeafNext.{next}
-use Rattle.fir_meaning.specs.LeafSettled as over_settled
+use Rattle.fir_meaning.specs.working.LeafAllows as over
+use Rattle.fir_meaning.specs.working.LeafCircuits.{LeafCircuit}
+use Rattle.fir_meaning.specs.working.LeafNext.{next}
+use Rattle.fir_meaning.specs.working.LeafSettled as over_settled
 use Rattle.fir_leaf.specs.working.SoundDesigns.{circuit_path}
-use Rattle.fir_meaning.specs.TermValues.{Env}
+use Rattle.fir_meaning.specs.working.TermValues.{Env}
 use Rattle.fir_meaning.specs.SourceAllows.{Allows}
 use Rattle.fir_meaning.specs.SourceCircuits.{clock_outputs, outputs}
 use Rattle.fir_meaning.specs.SourceDesigns.{SourceDesign}

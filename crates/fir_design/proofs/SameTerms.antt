@@ -12,11 +12,12 @@ use Rattle.fir_meaning.specs.TypedScopes.{TypedScope}
 use Rattle.fir_meaning.specs.working.WellTyped.{HasType, MayReset, ResetIsLegal}
 use Rattle.fir_meaning.proofs.LeafSteps.{path_of}
 use Rattle.fir_leaf.specs.working.LeafLaws.{Begins, numbered}
-use Rattle.fir_meaning.specs.Leafed.{first_term, terms}
-use Rattle.fir_meaning.specs.LeafedBlocks.{term_at}
-use Rattle.fir_meaning.specs.LeafedModules.{Scene, leaf_reset, module_leaves}
-use Rattle.fir_meaning.specs.Terms.{Term}
-use Rattle.fir_meaning.specs.TermValues.{eval}
+use Rattle.fir_meaning.specs.working.Leafed.{first_term, terms}
+use Rattle.fir_meaning.specs.working.LeafedBlocks.{term_at}
+use Rattle.fir_meaning.specs.ModuleScenes.{Scene}
+use Rattle.fir_meaning.specs.working.LeafedModules.{leaf_reset, module_leaves}
+use Rattle.fir_meaning.specs.working.Terms.{Term}
+use Rattle.fir_meaning.specs.working.TermValues.{eval}
 use Rattle.fir_meaning.specs.TreeValues.{value}
 use Rattle.fir_leaf.proofs.AlikeTypes.{alike_types}
 use Rattle.fir_leaf.proofs.LeafValues.{fine_values_same}

@@ -5,8 +5,9 @@ use Rattle.fir_meaning.specs.ResetJoins.{type_of_known}
 use Rattle.fir_meaning.specs.TypedScopes.{TypedScope, known}
 use Rattle.fir_meaning.specs.TypeLeaves.{leaf_count}
 use Rattle.fir_leaf.specs.working.LeafLaws.{Begins}
-use Rattle.fir_meaning.specs.LeafedModules.{Scene, behind_all_ports, driven_leaves, leafed_module}
-use Rattle.fir_meaning.specs.Targets.{leaves_ahead, leaves_so_far}
+use Rattle.fir_meaning.specs.ModuleScenes.{Scene, behind_all_ports}
+use Rattle.fir_meaning.specs.working.LeafedModules.{driven_leaves, leafed_module}
+use Rattle.fir_meaning.specs.working.Targets.{leaves_ahead, leaves_so_far}
 use Rattle.fir_leaf.proofs.NamedPlaces.{named_in_whole}
 use Rattle.fir_leaf.proofs.ScopesBegin.{begins_all}
 use Rattle.fir_design.proofs.FineScenes.{IsFineScene, leaves_long, whole_scope}

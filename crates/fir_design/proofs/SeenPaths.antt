@@ -2,9 +2,10 @@
 use Rattle.std.proofs.Common.{◌≡◌, ℕ, ◌++◌, ap}
 use Rattle.std.proofs.Math.Path.{fun_ext}
 use Rattle.fir_meaning.specs.LeafPaths.{LeafPath}
-use Rattle.fir_meaning.specs.DesignPaths.{leaf_path, seen}
+use Rattle.fir_meaning.specs.working.DesignPaths.{leaf_path, seen}
 use Rattle.fir_leaf.specs.working.LeafLaws.{numbered, path_at}
-use Rattle.fir_meaning.specs.LeafedModules.{Scene, leafed_module}
+use Rattle.fir_meaning.specs.ModuleScenes.{Scene}
+use Rattle.fir_meaning.specs.working.LeafedModules.{leafed_module}
 use Rattle.fir_meaning.specs.SourceStores.{below}
 use Rattle.fir_design.proofs.FineScenes.{IsFineScene, whole_scope}
 use Rattle.fir_design.proofs.FineScenes as scenes

@@ -4,9 +4,10 @@ use Rattle.fir_base.specs.Lists.{In}
 use Rattle.fir_base.specs.Ticks.{HasShape, Shape, Tick}
 use Rattle.fir_base.proofs.Elements.{get_in, number_of}
 use Rattle.fir_meaning.specs.LeafPaths.{LeafPath}
-use Rattle.fir_meaning.specs.LeafCircuits.{LeafCircuit, role_of}
-use Rattle.fir_meaning.specs.LeafModules.{LeafDeclared, LeafType, a_clock, leaf_at, number}
-use Rattle.fir_meaning.specs.LeafSettled as over
+use Rattle.fir_meaning.specs.working.LeafCircuits.{LeafCircuit, role_of}
+use Rattle.fir_meaning.specs.working.LeafModules.{LeafDeclared, leaf_at}
+use Rattle.fir_meaning.specs.LeafTypes.{LeafType, a_clock, number}
+use Rattle.fir_meaning.specs.working.LeafSettled as over
 use Rattle.fir_meaning.specs.SourceAllows as tree
 use Rattle.fir_meaning.specs.SourceCircuits.{PlacedLeaf, all_leaves, leaf_path, paths_of}
 use Rattle.fir_meaning.specs.SourceDesigns.{SourceDesign}

@@ -6,12 +6,11 @@ use Rattle.fir_base.specs.Ticks.{Shape}
 use Rattle.fir_base.proofs.Members.{in_left, map_same}
 use Rattle.fir_bits.specs.declared.types.NumTy.{NumTy}
 use Rattle.fir_meaning.specs.LeafPaths.{LeafPath}
-use Rattle.fir_meaning.specs.LeafCircuits.{LeafCircuit, type_of_leaf}
-use Rattle.fir_meaning.specs.LeafModules.{LeafType, number_type}
-use Rattle.fir_meaning.specs.LeafStates as over
-use Rattle.fir_meaning.specs.LeafStates.{shape}
+use Rattle.fir_meaning.specs.working.LeafCircuits.{LeafCircuit, type_of_leaf}
+use Rattle.fir_meaning.specs.LeafTypes.{LeafType, number_type, has_bits}
+use Rattle.fir_meaning.specs.working.LeafStates as over
+use Rattle.fir_meaning.specs.working.LeafStates.{shape}
 use Rattle.fir_leaf.specs.working.SoundDesigns.{circuit_path}
-use Rattle.fir_meaning.specs.StateWalks.{has_bits}
 use Rattle.fir_meaning.specs.SourceCircuits.{PlacedLeaf, all_arrays, all_leaves, is_source, leaf_path, leaves_of_design, main_ports, ports_where, source_shape, state_arrays, state_words, widths_in, widths_of}
 use Rattle.fir_meaning.specs.SourceDesigns.{SourceDesign}
 use Rattle.fir_meaning.specs.SourceValues.{source_holds}

@@ -2,11 +2,12 @@
 use Rattle.std.proofs.Common.{◌≡◌, ℕ, ◌<◌, List, length, Some, refl, ap, ◌∙◌}
 use Rattle.fir_bits.specs.declared.values.Num.{Num}
 use Rattle.fir_meaning.specs.LeafPaths.{LeafPath}
-use Rattle.fir_meaning.specs.LeafCircuits.{LeafCircuit}
-use Rattle.fir_meaning.specs.LeafModules as role
-use Rattle.fir_meaning.specs.LeafModules.{Role, number}
-use Rattle.fir_meaning.specs.LeafSettled as over
-use Rattle.fir_meaning.specs.LeafStates.{look}
+use Rattle.fir_meaning.specs.working.LeafCircuits.{LeafCircuit}
+use Rattle.fir_meaning.specs.working.LeafModules as role
+use Rattle.fir_meaning.specs.working.LeafModules.{Role}
+use Rattle.fir_meaning.specs.LeafTypes.{number}
+use Rattle.fir_meaning.specs.working.LeafSettled as over
+use Rattle.fir_meaning.specs.working.LeafStates.{look}
 use Rattle.fir_leaf.specs.working.SoundDesigns.{circuit_path}
 use Rattle.fir_meaning.specs.SourceCircuits.{inputs, paths_of, state_words}
 use Rattle.fir_meaning.specs.SourceDesigns.{SourceDesign}

@@ -4,16 +4,18 @@ use Rattle.fir_base.specs.Lists.{In}
 use Rattle.fir_base.proofs.Elements.{get_in}
 use Rattle.fir_ast.specs.Circuits.{CircuitTree}
 use Rattle.fir_meaning.specs.ComponentTypes.{find_module}
-use Rattle.fir_meaning.specs.NameGroups.{HasNames}
+use Rattle.fir_meaning.specs.working.NameGroups.{HasNames}
 use Rattle.fir_meaning.specs.ResetJoins.{numbered_module}
 use Rattle.fir_meaning.specs.TypeGroup.{type_faults}
 use Rattle.fir_meaning.specs.Visibility.{declarations}
-use Rattle.fir_meaning.specs.Designs.{module_of}
-use Rattle.fir_meaning.specs.LeafedModules.{Scene, leafed_module}
+use Rattle.fir_meaning.specs.working.Designs.{module_of}
+use Rattle.fir_meaning.specs.ModuleScenes.{Scene}
+use Rattle.fir_meaning.specs.working.LeafedModules.{leafed_module}
 use Rattle.fir_leaf.specs.working.NamedDesigns.{IsOwnInstance}
 use Rattle.fir_leaf.specs.working.SoundDesigns.{IsHeld}
 use Rattle.fir_leaf.proofs.OncePaths.{names_make_sound}
-use Rattle.fir_meaning.specs.Elaborated.{AreScenes, views}
+use Rattle.fir_meaning.specs.Elaborated.{AreScenes}
+use Rattle.fir_meaning.specs.working.Elaborated.{views}
 use Rattle.fir_design.specs.working.CircuitDesigns.{HasSoundDesigns}
 use Rattle.fir_design.proofs.DeclaredInstances.{AreDeclared, IsDeclared}
 use Rattle.fir_design.proofs.DesignsOfModules.{IsRight, IsRightInstance, main_design, named_design, nothing_right}

@@ -14,16 +14,17 @@ use Rattle.fir_meaning.specs.TypeGroup.{scope_at}
 use Rattle.fir_meaning.specs.TypedScopes.{TypedScope}
 use Rattle.fir_meaning.specs.Visibility.{Before, opened, reopened, behind, behind_block, declarations}
 use Rattle.fir_meaning.specs.working.WellTyped.{AreLegal, HasType, IsLegal}
-use Rattle.fir_meaning.specs.DesignPaths.{seen}
-use Rattle.fir_meaning.specs.DesignStores.{DesignStore}
+use Rattle.fir_meaning.specs.working.DesignPaths.{seen}
+use Rattle.fir_meaning.specs.PathStores.{DesignStore}
 use Rattle.fir_leaf.specs.working.LeafLaws.{Begins}
-use Rattle.fir_meaning.specs.LeafModules.{LeafModule}
-use Rattle.fir_meaning.specs.LeafPairs.{leaf_pairs, partial_leaf_pairs}
-use Rattle.fir_meaning.specs.Leafed.{first_term, target_of, terms}
-use Rattle.fir_meaning.specs.LeafedBlocks.{instance_block, leafed, leafed_all}
-use Rattle.fir_meaning.specs.LeafedModules.{Scene, driven_leaves, leafed_module}
-use Rattle.fir_meaning.specs.Terms.{Term}
-use Rattle.fir_meaning.specs.TermValues.{eval, is_true}
+use Rattle.fir_meaning.specs.working.LeafModules.{LeafModule}
+use Rattle.fir_meaning.specs.working.LeafPairs.{leaf_pairs, partial_leaf_pairs}
+use Rattle.fir_meaning.specs.working.Leafed.{first_term, target_of, terms}
+use Rattle.fir_meaning.specs.working.LeafedBlocks.{instance_block, leafed, leafed_all}
+use Rattle.fir_meaning.specs.ModuleScenes.{Scene}
+use Rattle.fir_meaning.specs.working.LeafedModules.{driven_leaves, leafed_module}
+use Rattle.fir_meaning.specs.working.Terms.{Term}
+use Rattle.fir_meaning.specs.working.TermValues.{eval, is_true}
 use Rattle.fir_meaning.specs.TreeValues.{TypesByPath, ValuesByPath, aim_of, value}
 use Rattle.fir_leaf.proofs.LeafValues.{fine_values_same, reaches_stands}
 use Rattle.fir_leaf.proofs.PairsByNumber.{pairs_numbered, partial_numbered}

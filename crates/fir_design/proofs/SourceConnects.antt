@@ -12,14 +12,16 @@ use Rattle.fir_meaning.specs.TypeLeaves.{TypeLeaf, type_leaves}
 use Rattle.fir_meaning.specs.TypedScopes.{TypedScope}
 use Rattle.fir_meaning.specs.working.WellTyped.{ConnectIsLegal, HasType, Reaches}
 use Rattle.fir_meaning.proofs.FoundTypes.{found_type}
-use Rattle.fir_meaning.specs.DesignStores.{DesignStore}
+use Rattle.fir_meaning.specs.PathStores.{DesignStore}
 use Rattle.fir_leaf.specs.working.LeafLaws.{Begins, path_at}
-use Rattle.fir_meaning.specs.LeafModules.{LeafModule}
-use Rattle.fir_meaning.specs.LeafPairs.{LeafPair}
-use Rattle.fir_meaning.specs.Leafed.{target_of, target_read, target_terms, terms}
-use Rattle.fir_meaning.specs.LeafedBlocks.{connect_block, term_at, type_where}
-use Rattle.fir_meaning.specs.LeafedModules.{Scene, leafed_module}
-use Rattle.fir_meaning.specs.Terms.{Term, zeros}
+use Rattle.fir_meaning.specs.working.LeafModules.{LeafModule}
+use Rattle.fir_meaning.specs.working.LeafPairs.{LeafPair}
+use Rattle.fir_meaning.specs.working.Leafed.{target_of, target_read, target_terms, terms}
+use Rattle.fir_meaning.specs.working.LeafedBlocks.{connect_block, term_at}
+use Rattle.fir_meaning.specs.FoundTypes.{type_where}
+use Rattle.fir_meaning.specs.ModuleScenes.{Scene}
+use Rattle.fir_meaning.specs.working.LeafedModules.{leafed_module}
+use Rattle.fir_meaning.specs.working.Terms.{Term, zeros}
 use Rattle.fir_meaning.specs.TreeValues.{TypesByPath, ValuesByPath, aim_of, aim_read}
 use Rattle.fir_leaf.proofs.LeafValues.{reaches_stands}
 use Rattle.fir_leaf.proofs.PairsByNumber.{IsPair, ArePairs}

@@ -16,10 +16,11 @@ use Rattle.fir_meaning.specs.TypeGroup.{scope_at}
 use Rattle.fir_meaning.specs.TypeLeaves.{leaf_count}
 use Rattle.fir_meaning.specs.Visibility.{Before, declaration_at, with_declaration, opened, reopened, behind, behind_block}
 use Rattle.fir_names.proofs.BehindStatements.{adds_block}
-use Rattle.fir_meaning.specs.DesignPaths.{no_name}
-use Rattle.fir_meaning.specs.Leafed.{target_of}
-use Rattle.fir_meaning.specs.LeafPairs.{leaf_pairs, partial_leaf_pairs}
-use Rattle.fir_meaning.specs.LeafedBlocks.{instance_block, leafed, leafed_all, sides, type_where}
+use Rattle.fir_meaning.specs.working.DesignPaths.{no_name}
+use Rattle.fir_meaning.specs.working.Leafed.{target_of}
+use Rattle.fir_meaning.specs.working.LeafPairs.{leaf_pairs, partial_leaf_pairs}
+use Rattle.fir_meaning.specs.working.LeafedBlocks.{instance_block, leafed, leafed_all, sides}
+use Rattle.fir_meaning.specs.FoundTypes.{type_where}
 use Rattle.fir_meaning.specs.SourceDesigns.{InstanceOf, instances_of, instances_of_block}
 use Rattle.fir_design.proofs.DeclaredInstances.{Grows}
 use Rattle.fir_design.proofs.DrivingBlocks.{pairs_none, invalid_none}

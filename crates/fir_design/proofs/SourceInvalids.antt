@@ -4,18 +4,19 @@ use Rattle.std.proofs.lemmas.Option.{slice_get_within}
 use Rattle.fir_ast.specs.declared.place.Place.{Place}
 use Rattle.fir_meaning.specs.LeafPaths.{LeafPath}
 use Rattle.fir_meaning.specs.TypeLeaves.{TypeLeaf, type_leaves}
-use Rattle.fir_meaning.specs.DesignStores.{DesignStore}
-use Rattle.fir_meaning.specs.LeafBlocks.{LeafBlock}
-use Rattle.fir_meaning.specs.LeafBlocks as over
+use Rattle.fir_meaning.specs.PathStores.{DesignStore}
+use Rattle.fir_meaning.specs.working.LeafBlocks.{LeafBlock}
+use Rattle.fir_meaning.specs.working.LeafBlocks as over
 use Rattle.fir_leaf.specs.working.LeafLaws.{path_at}
-use Rattle.fir_meaning.specs.LeafModules.{LeafModule}
-use Rattle.fir_meaning.specs.LeafedBlocks.{driven_from, invalid_block, invalid_leaf, invalid_leaves}
-use Rattle.fir_meaning.specs.LeafedModules.{Scene, driven_leaves, leafed_module}
+use Rattle.fir_meaning.specs.working.LeafModules.{LeafModule}
+use Rattle.fir_meaning.specs.working.LeafedBlocks.{driven_from, invalid_block, invalid_leaf, invalid_leaves}
+use Rattle.fir_meaning.specs.ModuleScenes.{Scene}
+use Rattle.fir_meaning.specs.working.LeafedModules.{driven_leaves, leafed_module}
 use Rattle.fir_leaf.specs.working.Standing.{Stands}
-use Rattle.fir_meaning.specs.Targets.{Target}
-use Rattle.fir_meaning.specs.Terms.{Term, zeros}
+use Rattle.fir_meaning.specs.working.Targets.{Target}
+use Rattle.fir_meaning.specs.working.Terms.{Term, zeros}
 use Rattle.fir_meaning.specs.TreeAims.{Aim}
-use Rattle.fir_meaning.specs.TreeStores.{may_be_driven}
+use Rattle.fir_meaning.specs.SamePaths.{may_be_driven}
 use Rattle.fir_meaning.specs.TreeValues.{TypesByPath, ValuesByPath, leaf_where}
 use Rattle.fir_leaf.proofs.LeafPlaces.{leaves_counted}
 use Rattle.fir_meaning.specs.SourceFacts.{source_may_drive}

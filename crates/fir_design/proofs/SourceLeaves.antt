@@ -16,11 +16,12 @@ use Rattle.fir_meaning.specs.Visibility.{declarations}
 use Rattle.fir_meaning.proofs.DistinctLeaves.{paths_distinct}
 use Rattle.fir_meaning.proofs.FoundDeclarations.{Once, once_found}
 use Rattle.fir_leaf.specs.working.LeafLaws.{path_at}
-use Rattle.fir_meaning.specs.LeafMemories.{leaves_of_data}
-use Rattle.fir_meaning.specs.LeafModules.{leaf_at, may_drive}
-use Rattle.fir_meaning.specs.LeafedModules.{Scene, module_leaves}
+use Rattle.fir_meaning.specs.FoundTypes.{leaves_of_data}
+use Rattle.fir_meaning.specs.working.LeafModules.{leaf_at, may_drive}
+use Rattle.fir_meaning.specs.ModuleScenes.{Scene}
+use Rattle.fir_meaning.specs.working.LeafedModules.{module_leaves}
 use Rattle.fir_leaf.specs.working.TableLaws.{IsLeafOf}
-use Rattle.fir_meaning.specs.TreeStores.{same_path}
+use Rattle.fir_meaning.specs.SamePaths.{same_path}
 use Rattle.fir_leaf.proofs.OneStore.{path_is, path_same}
 use Rattle.fir_meaning.specs.SourceFacts.{depth_of, driven_of, driven_under, flip_on, source_depth, source_may_drive}
 use Rattle.fir_design.proofs.FineScenes.{IsFineScene, leaf_is, leaf_path, whole_scope}

@@ -1,7 +1,7 @@
 -- The leaf circuit of a design and the tree of its source modules go in step; so they have one shape and allow the same.
 use Rattle.fir_ast.specs.Circuits.{CircuitTree}
-use Rattle.fir_meaning.specs.Designs.{Design}
-use Rattle.fir_meaning.specs.Flattened.{flattened}
+use Rattle.fir_meaning.specs.working.Designs.{Design}
+use Rattle.fir_meaning.specs.working.Flattened.{flattened}
 use Rattle.fir_design.specs.working.MeaningLaws.{AreDesigns, SameAllows, SameShape}
 use Rattle.fir_meaning.specs.SourceDesigns.{SourceDesign}
 use Rattle.fir_design.proofs.FlatInStep.{arrays_once, each_array, each_leaf, leaves_named, leaves_once, many_arrays, many_leaves}

@@ -7,14 +7,15 @@ use Rattle.fir_meaning.specs.ConnectPairs.{Pair}
 use Rattle.fir_meaning.specs.LeafPaths.{LeafPath}
 use Rattle.fir_meaning.specs.TypeLeaves.{TypeLeaf}
 use Rattle.fir_meaning.specs.TypedScopes.{TypedScope}
-use Rattle.fir_meaning.specs.DesignStores.{DesignStore}
+use Rattle.fir_meaning.specs.PathStores.{DesignStore}
 use Rattle.fir_leaf.specs.working.LeafLaws.{path_at}
-use Rattle.fir_meaning.specs.LeafModules.{LeafModule}
-use Rattle.fir_meaning.specs.LeafPairs.{LeafPair}
-use Rattle.fir_meaning.specs.Leafed.{target_of, target_read, target_terms, terms}
-use Rattle.fir_meaning.specs.LeafedBlocks.{Sides, driven_where, pair_block, pairs_block, sides, term_at}
-use Rattle.fir_meaning.specs.LeafedModules.{Scene, leafed_module}
-use Rattle.fir_meaning.specs.Terms.{Term}
+use Rattle.fir_meaning.specs.working.LeafModules.{LeafModule}
+use Rattle.fir_meaning.specs.working.LeafPairs.{LeafPair}
+use Rattle.fir_meaning.specs.working.Leafed.{target_of, target_read, target_terms, terms}
+use Rattle.fir_meaning.specs.working.LeafedBlocks.{Sides, driven_where, pair_block, pairs_block, sides, term_at}
+use Rattle.fir_meaning.specs.ModuleScenes.{Scene}
+use Rattle.fir_meaning.specs.working.LeafedModules.{leafed_module}
+use Rattle.fir_meaning.specs.working.Terms.{Term}
 use Rattle.fir_meaning.specs.TreeValues.{TypesByPath, ValuesByPath, aim_of, aim_read, leaf_where}
 use Rattle.fir_leaf.proofs.PairsByNumber.{IsPair, ArePairs}
 use Rattle.fir_meaning.specs.SourceStores.{Gifts, below, source_kept, source_pair, source_pairs}

@@ -6,13 +6,13 @@ use Rattle.fir_base.specs.Ticks.{IsRun, Tick, TickResult}
 use Rattle.fir_ast.specs.Circuits.{CircuitTree}
 use Rattle.fir_meaning.specs.Elaborated.{IsSourceOf}
 use Rattle.fir_meaning.specs.LeafPaths.{LeafPath}
-use Rattle.fir_meaning.specs.LeafModules.{LeafType, a_clock, number}
+use Rattle.fir_meaning.specs.LeafTypes.{LeafType, a_clock, number}
 use Rattle.fir_meaning.specs.SourceAllows.{Settled, Shows, next}
 use Rattle.fir_meaning.specs.SourceCircuits.{PlacedLeaf, all_leaves, clock_outputs, leaf_path, outputs, paths_of, source_shape}
 use Rattle.fir_meaning.specs.SourceDesigns.{SourceDesign}
 use Rattle.fir_meaning.specs.SourceMeaning.{circuit_meaning}
 use Rattle.fir_meaning.specs.SourceValues.{PathEnv, clock_shown, number_shown}
-use Rattle.fir_meaning.specs.TreeStores.{same_path}
+use Rattle.fir_meaning.specs.SamePaths.{same_path}
 use Rattle.fir_leaf.proofs.FlatStores.{same_path_is}
 use Rattle.fir_leaf.proofs.SettledTests.{are_clocks, clock_is, clocks_are, fit_each, fits, is_clock, is_number, left, none_is, number_is, right}
 use Rattle.fir_design.proofs.WrittenSources.{is_written, source_of, written_source}

@@ -3,9 +3,10 @@ use Rattle.std.proofs.Common.{◌≡◌, List, [], ◌++◌, map, length, slice_
 use Rattle.std.proofs.lemmas.List.{length-map}
 use Rattle.fir_ast.specs.Circuits.{CircuitTree}
 use Rattle.fir_meaning.specs.Visibility.{at_head}
-use Rattle.fir_meaning.specs.Designs.{Design, made_of}
-use Rattle.fir_meaning.specs.Flattened.{flattened}
-use Rattle.fir_meaning.specs.LeafedModules.{Scene, leafed_module}
+use Rattle.fir_meaning.specs.working.Designs.{Design, made_of}
+use Rattle.fir_meaning.specs.working.Flattened.{flattened}
+use Rattle.fir_meaning.specs.ModuleScenes.{Scene}
+use Rattle.fir_meaning.specs.working.LeafedModules.{leafed_module}
 use Rattle.fir_leaf.proofs.FlatPlaces.{At}
 use Rattle.fir_design.specs.working.MeaningLaws.{AreDesigns}
 use Rattle.fir_design.specs.working.SameRoles.{ViewsHaveRoles}

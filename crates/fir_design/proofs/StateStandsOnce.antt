@@ -5,8 +5,8 @@ use Rattle.fir_base.proofs.Elements.{get_in, number_of}
 use Rattle.fir_base.proofs.Members.{in_map_from}
 use Rattle.fir_leaf.proofs.OnceStates.{arrays_once, words_once}
 use Rattle.fir_leaf.proofs.PortRoles.{leafed_ports}
-use Rattle.fir_meaning.specs.Flattened.{flattened}
-use Rattle.fir_meaning.specs.LeafCircuits.{LeafCircuit}
+use Rattle.fir_meaning.specs.working.Flattened.{flattened}
+use Rattle.fir_meaning.specs.working.LeafCircuits.{LeafCircuit}
 use Rattle.fir_meaning.specs.SourceCircuits.{all_arrays, all_leaves, array_path, leaf_path, state_arrays, state_words}
 use Rattle.fir_meaning.specs.SourceDesigns.{SourceDesign}
 use Rattle.fir_design.specs.working.StateOnce.{SourcesStandOnce}

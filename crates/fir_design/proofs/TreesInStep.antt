@@ -5,16 +5,17 @@ use Rattle.std.proofs.lemmas.List.Concat.{flat_map-append}
 use Rattle.fir_base.specs.Lists.{In}
 use Rattle.fir_ast.specs.Circuits.{CircuitTree}
 use Rattle.fir_meaning.specs.LeafPaths.{LeafPath, named}
-use Rattle.fir_meaning.specs.NameGroups.{HasNames}
+use Rattle.fir_meaning.specs.working.NameGroups.{HasNames}
 use Rattle.fir_meaning.specs.TypeGroup.{type_faults}
-use Rattle.fir_meaning.specs.Designs.{Items, made_of}
+use Rattle.fir_meaning.specs.working.Designs.{Items, made_of}
 use Rattle.fir_leaf.specs.working.DesignStates.{no_array}
-use Rattle.fir_meaning.specs.FlatDesigns.{inner_leaves}
-use Rattle.fir_meaning.specs.FlatLeaves.{all_arrays_in, all_leaves_in, arrays_below, leaves_below, placed_array, placed_leaf}
-use Rattle.fir_meaning.specs.LeafCircuits.{LeafCircuit}
-use Rattle.fir_meaning.specs.LeafModules.{LeafArray, LeafDeclared, LeafModule}
-use Rattle.fir_meaning.specs.LeafedModules.{Scene, leafed_module}
-use Rattle.fir_meaning.specs.Numberings.{Numbering, numbering}
+use Rattle.fir_meaning.specs.working.FlatDesigns.{inner_leaves}
+use Rattle.fir_meaning.specs.working.FlatLeaves.{all_arrays_in, all_leaves_in, arrays_below, leaves_below, placed_array, placed_leaf}
+use Rattle.fir_meaning.specs.working.LeafCircuits.{LeafCircuit}
+use Rattle.fir_meaning.specs.working.LeafModules.{LeafArray, LeafDeclared, LeafModule}
+use Rattle.fir_meaning.specs.ModuleScenes.{Scene}
+use Rattle.fir_meaning.specs.working.LeafedModules.{leafed_module}
+use Rattle.fir_meaning.specs.working.Numberings.{Numbering, numbering}
 use Rattle.fir_leaf.proofs.FlatPlaces.{At, at_get, at_left, at_room}
 use Rattle.fir_leaf.proofs.MovedTerms.{Stands}
 use Rattle.fir_meaning.specs.Elaborated.{AreScenes}

@@ -1,6 +1,7 @@
 -- The designs of modules' views store at every path what the trees of their statements store there: numbers and clocks.
 use Rattle.std.proofs.Common.{ℕ, [], Option, ap}
-use Rattle.fir_meaning.specs.DesignStores.{DesignStore, clock_given, nothing_kept, number_given}
+use Rattle.fir_meaning.specs.PathStores.{DesignStore, nothing_kept}
+use Rattle.fir_meaning.specs.working.DesignStores.{clock_given, number_given}
 use Rattle.fir_design.specs.working.SourceLaws.{ViewsClockAsTrees, ViewsStoreAsTrees}
 use Rattle.fir_meaning.specs.SourceStores.{clock_gifts, number_gifts}
 use Rattle.fir_design.proofs.ClockGifts.{clock_gives}

@@ -8,14 +8,14 @@ use Rattle.fir_meaning.specs.LeafPaths.{LeafPath}
 use Rattle.fir_meaning.specs.TypedScopes.{TypedScope}
 use Rattle.fir_leaf.specs.working.ChoiceLaws.{fitted_at}
 use Rattle.fir_leaf.specs.working.DesignLaws.{numbered}
-use Rattle.fir_meaning.specs.LeafBlocks.{exec_all, nothing_stored}
-use Rattle.fir_meaning.specs.LeafCircuits.{LeafCircuit, depth_of, type_of_leaf}
-use Rattle.fir_meaning.specs.LeafModules.{LeafReset, Need, Reading}
-use Rattle.fir_meaning.specs.LeafSettled as over
-use Rattle.fir_meaning.specs.Memories as over_memories
+use Rattle.fir_meaning.specs.working.LeafBlocks.{exec_all, nothing_stored}
+use Rattle.fir_meaning.specs.working.LeafCircuits.{LeafCircuit, depth_of, type_of_leaf}
+use Rattle.fir_meaning.specs.working.LeafModules.{LeafReset, Need, Reading}
+use Rattle.fir_meaning.specs.working.LeafSettled as over
+use Rattle.fir_meaning.specs.working.Memories as over_memories
 use Rattle.fir_leaf.specs.working.SoundDesigns.{circuit_path}
-use Rattle.fir_meaning.specs.TermValues.{Env, clock_of, eval, is_true}
-use Rattle.fir_meaning.specs.Terms.{Term}
+use Rattle.fir_meaning.specs.working.TermValues.{Env, clock_of, eval, is_true}
+use Rattle.fir_meaning.specs.working.Terms.{Term}
 use Rattle.fir_meaning.specs.SourceCircuits.{all_arrays}
 use Rattle.fir_meaning.specs.SourceDesigns.{SourceDesign}
 use Rattle.fir_meaning.specs.SourceRoles.{PathNeed, PathReading, SourceReset}

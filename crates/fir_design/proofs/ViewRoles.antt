@@ -1,7 +1,8 @@
 -- The leaf views of modules have the roles of their trees.
 use Rattle.std.proofs.Common.{[]}
 use Rattle.fir_meaning.specs.Visibility.{at_head}
-use Rattle.fir_meaning.specs.LeafedModules.{arrays_in_block, behind_all_ports, leaves_in_block, leaves_of_ports}
+use Rattle.fir_meaning.specs.working.LeafedModules.{arrays_in_block, leaves_in_block, leaves_of_ports}
+use Rattle.fir_meaning.specs.ModuleScenes.{behind_all_ports}
 use Rattle.fir_leaf.proofs.DeclaredLeaves.{own_module}
 use Rattle.fir_design.specs.working.SameRoles.{ViewsHaveRoles}
 use Rattle.fir_meaning.specs.SourceRoles.{source_arrays_in_block, sources_in_block, sources_of_ports}

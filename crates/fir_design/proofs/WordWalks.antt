@@ -9,11 +9,13 @@ use Rattle.fir_meaning.specs.Components.{Component, Declaration}
 use Rattle.fir_meaning.specs.LeafPaths.{LeafPath, named}
 use Rattle.fir_meaning.specs.TypeLeaves.{TypeLeaf}
 use Rattle.fir_meaning.specs.Visibility.{Before, behind, behind_block, declaration_at, declarations, opened, reopened, with_declaration}
-use Rattle.fir_meaning.specs.LeafMemories.{leaves_of_data}
-use Rattle.fir_meaning.specs.LeafModules.{LeafDeclared, LeafType}
-use Rattle.fir_meaning.specs.LeafedModules.{Scene, held_by_declared, leafed_module, leaves_in, leaves_in_block, type_of_declared}
-use Rattle.fir_meaning.specs.Numberings.{number, numbering}
-use Rattle.fir_meaning.specs.StateWalks.{own_words}
+use Rattle.fir_meaning.specs.FoundTypes.{leaves_of_data}
+use Rattle.fir_meaning.specs.working.LeafModules.{LeafDeclared}
+use Rattle.fir_meaning.specs.LeafTypes.{LeafType}
+use Rattle.fir_meaning.specs.ModuleScenes.{Scene, held_by_declared, type_of_declared}
+use Rattle.fir_meaning.specs.working.LeafedModules.{leafed_module, leaves_in, leaves_in_block}
+use Rattle.fir_meaning.specs.working.Numberings.{number, numbering}
+use Rattle.fir_meaning.specs.working.StateWalks.{own_words}
 use Rattle.fir_meaning.specs.SourceCircuits.{PlacedLeaf, is_word, placed, words_in, words_in_block}
 use Rattle.fir_meaning.specs.SourceRoles.{SourceLeaf, sink, source, source_leaves_of, sources_in, sources_in_block}
 use Rattle.fir_design.proofs.DeclaredInstances.{Grows}

@@ -8,19 +8,21 @@ use Rattle.fir_base.specs.Lists.{In}
 use Rattle.fir_ast.specs.Circuits.{CircuitTree}
 use Rattle.fir_meaning.specs.Components.{Declaration}
 use Rattle.fir_meaning.specs.LeafPaths.{LeafPath, named}
-use Rattle.fir_meaning.specs.NameGroups.{HasNames}
+use Rattle.fir_meaning.specs.working.NameGroups.{HasNames}
 use Rattle.fir_meaning.specs.TypeGroup.{type_faults}
 use Rattle.fir_meaning.specs.Visibility.{declarations}
-use Rattle.fir_meaning.specs.Designs.{Design, IsDesignOf, Items, made_of}
-use Rattle.fir_meaning.specs.FlatDesigns.{count_below, inner_leaves}
-use Rattle.fir_meaning.specs.LeafModules.{LeafModule}
-use Rattle.fir_meaning.specs.LeafedModules.{Scene, behind_all_ports, leafed_module}
-use Rattle.fir_meaning.specs.Numberings.{number, numbering}
-use Rattle.fir_meaning.specs.StateWalks.{all_words_in, own_words, words_below}
+use Rattle.fir_meaning.specs.working.Designs.{Design, IsDesignOf, Items, made_of}
+use Rattle.fir_meaning.specs.working.FlatDesigns.{count_below, inner_leaves}
+use Rattle.fir_meaning.specs.working.LeafModules.{LeafModule}
+use Rattle.fir_meaning.specs.ModuleScenes.{Scene, behind_all_ports}
+use Rattle.fir_meaning.specs.working.LeafedModules.{leafed_module}
+use Rattle.fir_meaning.specs.working.Numberings.{number, numbering}
+use Rattle.fir_meaning.specs.working.StateWalks.{all_words_in, own_words, words_below}
 use Rattle.fir_leaf.proofs.FlatOrders.{walk_same}
 use Rattle.fir_leaf.proofs.FlatPlaces.{At, at_right}
 use Rattle.fir_leaf.proofs.PortRoles.{leafed_ports}
-use Rattle.fir_meaning.specs.Elaborated.{AreScenes, views}
+use Rattle.fir_meaning.specs.Elaborated.{AreScenes}
+use Rattle.fir_meaning.specs.working.Elaborated.{views}
 use Rattle.fir_design.specs.working.SameRoles.{ViewsHaveRoles}
 use Rattle.fir_meaning.specs.SourceCircuits.{PlacedLeaf, leaves_of_design, leaves_of_instances, placed, within, words_of_design, words_of_instance}
 use Rattle.fir_meaning.specs.SourceDesigns.{Instances, IsSourceDesignOf, SourceDesign, held, no_instances}

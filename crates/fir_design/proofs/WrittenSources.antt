@@ -8,9 +8,9 @@ use Rattle.fir_ast.specs.Types.{DataType, reset}
 use Rattle.fir_ast.specs.Circuits.{CircuitTree, ModuleTree}
 use Rattle.fir_ast.specs.Statements.{done}
 use Rattle.fir_meaning.specs.ComponentTypes.{typed_scope}
-use Rattle.fir_meaning.specs.DesignPaths.{no_name}
+use Rattle.fir_meaning.specs.working.DesignPaths.{no_name}
 use Rattle.fir_meaning.specs.Elaborated.{IsSourceOf}
-use Rattle.fir_meaning.specs.LeafedModules.{Scene}
+use Rattle.fir_meaning.specs.ModuleScenes.{Scene}
 use Rattle.fir_meaning.specs.ResetItems.{End, is_reset}
 use Rattle.fir_meaning.specs.ResetJoins.{numbered_module}
 use Rattle.fir_meaning.specs.ResetWalks.{IsAsynchronous, IsLeafOf, goes_on, meets}

@@ -1,7 +1,7 @@
 -- Whether a leaf is among others, one more of them, or two lists of them.
 use Rattle.std.proofs.Common.{◌≡◌, ℕ, ◌+◌, ◌<◌, List, [], ◌∷◌, ◌++◌, Bool, true, false, ◌||◌, take, get_or, length, refl, ap, ◌∙◌, nat_eq}
 use Rattle.std.proofs.lemmas.List.{take_more}
-use Rattle.fir_meaning.specs.TermReads.{is_among}
+use Rattle.fir_meaning.specs.working.TermReads.{is_among}
 
 or_assoc : (a b c : Bool) → (a || (b || c)) ≡ ((a || b) || c)
 or_assoc true b c = refl

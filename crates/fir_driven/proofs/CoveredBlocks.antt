@@ -1,9 +1,9 @@
 -- What statements cover, one after another.
 use Rattle.std.proofs.Common.{◌≡◌, ℕ, ◌+◌, ◌<◌, List, [], ◌∷◌, ◌++◌, Bool, ◌||◌, map, take, get_or, length, refl, sym, ap, ◌∙◌, arith}
 use Rattle.std.proofs.lemmas.List.{map_more}
-use Rattle.fir_meaning.specs.TermReads.{is_among}
-use Rattle.fir_meaning.specs.LeafBlocks.{LeafStatement}
-use Rattle.fir_meaning.specs.Choices.{covers, covers_all}
+use Rattle.fir_meaning.specs.working.TermReads.{is_among}
+use Rattle.fir_meaning.specs.working.LeafBlocks.{LeafStatement}
+use Rattle.fir_meaning.specs.working.Choices.{covers, covers_all}
 use Rattle.fir_leaf.specs.declared.node.Node.{Node}
 use Rattle.fir_leaf.specs.declared.statement.LeafStmt.{LeafStmt}
 use Rattle.fir_leaf.specs.working.NodeBlocks.{block_in, block_of, statement_in}

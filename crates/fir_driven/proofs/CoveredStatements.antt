@@ -1,8 +1,8 @@
 -- The leaf that a statement of the code covers alone.
 use Rattle.std.proofs.Common.{◌≡◌, ℕ, List, [], ◌∷◌, ◌++◌, Bool, true, false, not, ◌&&◌, ◌||◌, refl, sym, nat_eq, arith}
 use Rattle.std.proofs.lemmas.Bool.{and_right}
-use Rattle.fir_meaning.specs.TermReads.{is_among, is_picked, reached}
-use Rattle.fir_meaning.specs.Terms.{Picks, no_picks, pick}
+use Rattle.fir_meaning.specs.working.TermReads.{is_among, is_picked, reached}
+use Rattle.fir_meaning.specs.working.Terms.{Picks, no_picks, pick}
 use Rattle.fir_leaf.specs.declared.node.Node.{Node}
 use Rattle.fir_leaf.specs.declared.statement.Drive.{Drive}
 use Rattle.fir_leaf.specs.declared.statement.LeafStmt.TheVariants as code

@@ -2,9 +2,9 @@
 use Rattle.std.proofs.Common.{◌≡◌, ℕ, ◌+◌, ◌<◌, ◌≤◌, List, [], Bool, true, false, ◌&&◌, ◌||◌, length, refl, ◌∙◌, nat_lt, arith, ⊎_elim}
 use Rattle.std.proofs.lemmas.Bool.{cases_lt, lt-ltb, le-ltb}
 use Rattle.fir_ast.specs.declared.place.Place.{Place}
-use Rattle.fir_meaning.specs.TermReads.{is_among}
-use Rattle.fir_meaning.specs.Terms.{Term}
-use Rattle.fir_meaning.specs.LeafBlocks.{LeafBlock, when}
+use Rattle.fir_meaning.specs.working.TermReads.{is_among}
+use Rattle.fir_meaning.specs.working.Terms.{Term}
+use Rattle.fir_meaning.specs.working.LeafBlocks.{LeafBlock, when}
 use Rattle.fir_driven.specs.working.Covering.{depth_in, flag_at}
 use Rattle.fir_driven.specs.working.CoverWalks.{Covers, Joins, is_covered, is_covered_in}
 use Rattle.fir_driven.specs.declared.covered.Covering.{Covering}

@@ -1,8 +1,8 @@
 -- The leaves that statements may drive, listed behind others.
 use Rattle.std.proofs.Common.{◌≡◌, ℕ, ◌+◌, ◌<◌, List, [], ◌∷◌, ◌++◌, Bool, ◌||◌, map, take, get_or, length, sym, ap, ◌∙◌, arith}
 use Rattle.std.proofs.lemmas.List.{map_more}
-use Rattle.fir_meaning.specs.TermReads.{is_among, reached}
-use Rattle.fir_meaning.specs.LeafBlocks.{LeafStatement}
+use Rattle.fir_meaning.specs.working.TermReads.{is_among, reached}
+use Rattle.fir_meaning.specs.working.LeafBlocks.{LeafStatement}
 use Rattle.fir_meaning.specs.working.UndrivenChoices.{drives, drives_any}
 use Rattle.fir_leaf.specs.declared.node.Node.{Node}
 use Rattle.fir_leaf.specs.declared.statement.Drive.{Drive}

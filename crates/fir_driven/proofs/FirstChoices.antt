@@ -5,10 +5,10 @@ use Rattle.std.proofs.lemmas.Bool.{or_parts}
 use Rattle.fir_ast.specs.declared.fault.Outcome.{Outcome}
 use Rattle.fir_ast.specs.declared.fault.Outcome.TheVariants as outcome
 use Rattle.fir_ast.specs.declared.place.Place.{Place}
-use Rattle.fir_meaning.specs.Terms.{Term}
-use Rattle.fir_meaning.specs.TermReads.{reached, is_picked, is_among}
-use Rattle.fir_meaning.specs.LeafBlocks.{LeafStatement, LeafBlock, drive, when, instance, done, then}
-use Rattle.fir_meaning.specs.Choices.{Choice, Live, below, driving, later, first_part, second_part, last, last_all, covers, covers_all}
+use Rattle.fir_meaning.specs.working.Terms.{Term}
+use Rattle.fir_meaning.specs.working.TermReads.{reached, is_picked, is_among}
+use Rattle.fir_meaning.specs.working.LeafBlocks.{LeafStatement, LeafBlock, drive, when, instance, done, then}
+use Rattle.fir_meaning.specs.working.Choices.{Choice, Live, below, driving, later, first_part, second_part, last, last_all, covers, covers_all}
 use Rattle.fir_meaning.specs.working.UndrivenChoices.{told, told_all, drives_any}
 use Rattle.fir_meaning.specs.Outcomes.{ComesFirst, write_told}
 use Rattle.fir_leaf.proofs.LiveStatements.{covered_all}

@@ -1,7 +1,7 @@
 -- Flags of the leaves of a list that change one after another.
 use Rattle.std.proofs.Common.{◌≡◌, ℕ, ◌+◌, ◌<◌, ◌≤◌, List, Bool, true, false, ◌&&◌, ◌||◌, if◌then◌else◌, length, take, get_or, refl, ap, ◌∙◌, nat_eq, nat_lt, arith}
 use Rattle.std.proofs.lemmas.Bool.{eqb-true, lt-ltb, le-ltb}
-use Rattle.fir_meaning.specs.TermReads.{is_among}
+use Rattle.fir_meaning.specs.working.TermReads.{is_among}
 use Rattle.fir_driven.specs.working.Covering.{depth_in, flag_at}
 use Rattle.fir_driven.specs.working.FlagChanges.{FlagsBecome}
 use Rattle.fir_driven.proofs.AmongLeaves.{among_more}

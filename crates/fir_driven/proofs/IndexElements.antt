@@ -5,7 +5,7 @@ use Rattle.std.proofs.lemmas.List.{take_more}
 use Rattle.fir_leaf.specs.declared.node.Node.{Node}
 use Rattle.fir_leaf.specs.declared.node.Pick.{Pick}
 use Rattle.fir_leaf.specs.working.Nodes.{entries, picks_at}
-use Rattle.fir_meaning.specs.TermReads.{multiples, reached}
+use Rattle.fir_meaning.specs.working.TermReads.{multiples, reached}
 use Rattle.fir_driven.specs.working.Indices.{IsIndex, elements_behind, leaves_behind}
 
 -- the next element

@@ -6,8 +6,8 @@ use Rattle.std.proofs.lemmas.Bool.Decides.{nat_tests}
 use Rattle.fir_leaf.specs.declared.node.Node.{Node}
 use Rattle.fir_leaf.specs.declared.node.Node.TheVariants as code
 use Rattle.fir_leaf.specs.declared.node.Pick.{Pick}
-use Rattle.fir_meaning.specs.Terms as over
-use Rattle.fir_meaning.specs.Terms.{no_picks, pick}
+use Rattle.fir_meaning.specs.working.Terms as over
+use Rattle.fir_meaning.specs.working.Terms.{no_picks, pick}
 use Rattle.fir_leaf.specs.working.Nodes.{Entry, a_term, entries, entries_from, entry_at, entry_of, picks_at, picks_in, term_in}
 use Rattle.fir_driven.specs.working.Indices.{IsIndex, earlier, nodes_up_to}
 

@@ -1,6 +1,6 @@
 -- The end of a when: what the steps of a join come to.
 use Rattle.std.proofs.Common.{◌≡◌, ℕ, ◌<◌, List, Bool, true, false, not, ◌&&◌, ◌||◌, if◌then◌else◌, length, ◌∙◌, nat_lt, arith}
-use Rattle.fir_meaning.specs.TermReads.{is_among}
+use Rattle.fir_meaning.specs.working.TermReads.{is_among}
 use Rattle.fir_driven.specs.working.Covering.{depth_in, flag_at}
 use Rattle.fir_driven.specs.working.FlagChanges.{FlagsBecome}
 use Rattle.fir_driven.specs.working.CoverWalks.{IsReady, Joins, MovesMarked}

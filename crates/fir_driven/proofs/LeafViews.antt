@@ -7,7 +7,7 @@ use Rattle.fir_leaf.specs.declared.statement.LeafWhen.{LeafWhen, fold_out-LeafWh
 use Rattle.fir_leaf.specs.declared.statement.LeafStmt.{fold-roll-LeafStmt}
 use Rattle.fir_leaf.specs.declared.statement.LeafStmt.TheOpen.{LeafStmt-F}
 use Rattle.fir_leaf.specs.declared.statement.LeafStmt.TheVariants as code
-use Rattle.fir_meaning.specs.LeafBlocks.{LeafStatement, drive, when, instance}
+use Rattle.fir_meaning.specs.working.LeafBlocks.{LeafStatement, drive, when, instance}
 use Rattle.fir_leaf.specs.working.Nodes.{entries, node_term, picks_at}
 use Rattle.fir_leaf.specs.working.NodeBlocks.{block_in, statement_in, statement_step, when_step}
 

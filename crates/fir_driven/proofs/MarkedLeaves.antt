@@ -1,7 +1,7 @@
 -- Marked leaves that are listed one after another.
 use Rattle.std.proofs.Common.{◌≡◌, ℕ, ◌+◌, ◌<◌, List, [], ◌∷◌, ◌++◌, Bool, true, false, not, ◌&&◌, ◌||◌, if◌then◌else◌, length, take, get_or, sym, ◌∙◌, nat_eq, arith}
 use Rattle.std.proofs.lemmas.Bool.{eqb-true}
-use Rattle.fir_meaning.specs.TermReads.{is_among}
+use Rattle.fir_meaning.specs.working.TermReads.{is_among}
 use Rattle.fir_driven.specs.working.Covering.{flag_at}
 use Rattle.fir_driven.specs.working.FlagChanges.{FlagsBecome}
 use Rattle.fir_driven.specs.working.CoverWalks.{MovesMarked}

@@ -6,8 +6,8 @@ use Rattle.fir_ast.specs.declared.fault.Outcome.{Outcome}
 use Rattle.fir_leaf.specs.declared.node.Node.{Node}
 use Rattle.fir_leaf.specs.declared.statement.LeafStmt.{LeafStmt}
 use Rattle.fir_leaf.specs.working.NodeBlocks.{block_in, block_of, statement_in}
-use Rattle.fir_meaning.specs.LeafBlocks.{LeafStatement}
-use Rattle.fir_meaning.specs.Choices.{covers, covers_all}
+use Rattle.fir_meaning.specs.working.LeafBlocks.{LeafStatement}
+use Rattle.fir_meaning.specs.working.Choices.{covers, covers_all}
 use Rattle.fir_meaning.specs.working.UndrivenChoices.{drives, drives_any}
 use Rattle.fir_driven.specs.declared.choice.Asked.{Asked}
 use Rattle.fir_driven.specs.declared.choice.Told.{Told}

@@ -6,9 +6,9 @@ use Rattle.std.proofs.lemmas.List.{take_at}
 use Rattle.fir_ast.specs.declared.fault.Outcome.{Outcome}
 use Rattle.fir_ast.specs.declared.fault.Outcome.TheVariants as outcome
 use Rattle.fir_ast.specs.declared.place.Place.{Place}
-use Rattle.fir_meaning.specs.LeafBlocks.{LeafBlock, when}
-use Rattle.fir_meaning.specs.Terms.{Term}
-use Rattle.fir_meaning.specs.Choices.{covers, covers_all}
+use Rattle.fir_meaning.specs.working.LeafBlocks.{LeafBlock, when}
+use Rattle.fir_meaning.specs.working.Terms.{Term}
+use Rattle.fir_meaning.specs.working.Choices.{covers, covers_all}
 use Rattle.fir_meaning.specs.working.UndrivenChoices.{drives_any}
 use Rattle.fir_driven.specs.declared.choice.Asked.{Asked}
 use Rattle.fir_driven.specs.declared.choice.Told.{Told}

@@ -4,9 +4,9 @@ use Rattle.std.proofs.lemmas.Bool.{and_right}
 use Rattle.fir_ast.specs.declared.fault.Outcome.{Outcome}
 use Rattle.fir_ast.specs.declared.fault.Outcome.TheVariants as outcome
 use Rattle.fir_ast.specs.declared.place.Place.{Place}
-use Rattle.fir_meaning.specs.LeafBlocks.{LeafStatement, drive}
-use Rattle.fir_meaning.specs.Terms.{Picks, Term}
-use Rattle.fir_meaning.specs.TermReads.{is_among, is_picked, reached}
+use Rattle.fir_meaning.specs.working.LeafBlocks.{LeafStatement, drive}
+use Rattle.fir_meaning.specs.working.Terms.{Picks, Term}
+use Rattle.fir_meaning.specs.working.TermReads.{is_among, is_picked, reached}
 use Rattle.fir_meaning.specs.working.UndrivenChoices.{drives}
 use Rattle.fir_driven.specs.declared.choice.Asked.{Asked}
 use Rattle.fir_driven.specs.working.MissWalks.{MissesStatement}

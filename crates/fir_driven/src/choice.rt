@@ -3,7 +3,7 @@
 //! is 0, and its first block is not walked; else it is 1.
 
 ghost use Rattle.std.specs.Prelude.{◌≡◌, ◌||◌, IfOk, ℕ, false};
-ghost use Rattle.fir_meaning.specs.Choices.{covers_all};
+ghost use Rattle.fir_meaning.specs.working.Choices.{covers_all};
 ghost use Rattle.fir_meaning.specs.working.UndrivenChoices.{drives, drives_any};
 ghost use Rattle.fir_meaning.specs.Outcomes.{is_same_miss, told_once};
 ghost use Rattle.fir_leaf.specs.declared.statement.LeafStmt.TheVariants as code;

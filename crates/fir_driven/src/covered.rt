@@ -4,7 +4,7 @@
 //! the work does not grow with the nesting.
 
 ghost use Rattle.std.specs.Prelude.{◌≡◌, ℕ, ◌||◌, List, IfOk, OnOk};
-ghost use Rattle.fir_meaning.specs.TermReads.{is_among};
+ghost use Rattle.fir_meaning.specs.working.TermReads.{is_among};
 ghost use Rattle.fir_leaf.specs.declared.statement.LeafStmt.TheVariants as code;
 ghost use Rattle.fir_leaf.specs.working.NodeBlocks.{block_in, statement_in};
 ghost use Rattle.fir_driven.specs.working.Covering.{AreCovered};

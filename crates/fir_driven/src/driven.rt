@@ -1,7 +1,7 @@
 //! The leaves that some statement may drive, under whatever choice (FIRRTL spec, "Connects").
 
 ghost use Rattle.std.specs.Prelude.{◌≡◌, ◌||◌, ℕ, IfOk, OnOk};
-ghost use Rattle.fir_meaning.specs.TermReads.{is_among};
+ghost use Rattle.fir_meaning.specs.working.TermReads.{is_among};
 ghost use Rattle.fir_meaning.specs.working.UndrivenChoices.{drives, drives_any};
 ghost use Rattle.fir_leaf.specs.declared.statement.LeafStmt.TheVariants as code;
 ghost use Rattle.fir_leaf.specs.working.NodeBlocks.{block_in, statement_in};

@@ -1,7 +1,7 @@
 //! A flag for each leaf.
 
 ghost use Rattle.std.specs.Prelude.{◌≡◌, ◌&&◌, ◌||◌, nat_eq, nat_lt, if◌then◌else◌};
-ghost use Rattle.fir_meaning.specs.TermReads.{is_among};
+ghost use Rattle.fir_meaning.specs.working.TermReads.{is_among};
 ghost use Rattle.fir_driven.specs.working.Covering.{depth_in, flag_at};
 ghost use Rattle.fir_driven.specs.working.FlagChanges.{FlagsBecome};
 

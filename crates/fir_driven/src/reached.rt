@@ -1,8 +1,8 @@
 //! The leaves that a statement may drive: one, or each that its indices may pick (FIRRTL spec, "Sub-accesses").
 
 ghost use Rattle.std.specs.Prelude.{◌≡◌, ◌++◌, IfNone, IfOk, IfSome, OnOk};
-ghost use Rattle.fir_meaning.specs.Terms.{no_picks};
-ghost use Rattle.fir_meaning.specs.TermReads.{is_picked, multiples, reached};
+ghost use Rattle.fir_meaning.specs.working.Terms.{no_picks};
+ghost use Rattle.fir_meaning.specs.working.TermReads.{is_picked, multiples, reached};
 ghost use Rattle.fir_leaf.specs.working.Nodes.{entries, picks_at};
 ghost use Rattle.fir_driven.specs.working.Indices.{IsIndex, earlier, elements_behind};
 

@@ -1,8 +1,8 @@
 -- The lists of the statements of a block, and the leaves that they drive, from the last statement to the first.
 use Rattle.std.proofs.Common.{◌≡◌, ℕ, ◌+◌, ◌<◌, List, Bool, ◌||◌, drop, get_or, length, refl, sym, ap, ◌∙◌, arith}
 use Rattle.std.proofs.lemmas.List.{at_drop_all, at_drop_more}
-use Rattle.fir_meaning.specs.TermReads.{is_among}
-use Rattle.fir_meaning.specs.LeafBlocks.{done, then}
+use Rattle.fir_meaning.specs.working.TermReads.{is_among}
+use Rattle.fir_meaning.specs.working.LeafBlocks.{done, then}
 use Rattle.fir_meaning.specs.working.UndrivenChoices.{drives, drives_any}
 use Rattle.fir_leaf.specs.declared.node.Node.{Node}
 use Rattle.fir_leaf.specs.declared.statement.LeafStmt.{LeafStmt}

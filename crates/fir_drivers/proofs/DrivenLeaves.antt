@@ -1,6 +1,6 @@
 -- The lists of whens behind a statement that drives leaves.
 use Rattle.std.proofs.Common.{◌≡◌, ℕ, List, Bool, ◌||◌, refl}
-use Rattle.fir_meaning.specs.TermReads.{is_among}
+use Rattle.fir_meaning.specs.working.TermReads.{is_among}
 use Rattle.fir_meaning.specs.working.UndrivenChoices.{drives}
 use Rattle.fir_leaf.specs.declared.node.Node.{Node}
 use Rattle.fir_leaf.specs.declared.statement.Drive.{Drive}

@@ -1,8 +1,8 @@
 -- What drives the leaves of a module, by the walk over its statements.
 use Rattle.std.proofs.Common.{◌≡◌, ℕ, ◌≤◌, Bool, List, [], length, sym, ◌∙◌, subst}
 use Rattle.fir_bits.specs.Forms.{no_type}
-use Rattle.fir_meaning.specs.LeafBlocks.{LeafBlock}
-use Rattle.fir_meaning.specs.TermValues.{Holds}
+use Rattle.fir_meaning.specs.working.LeafBlocks.{LeafBlock}
+use Rattle.fir_meaning.specs.working.TermValues.{Holds}
 use Rattle.fir_leaf.specs.working.Nodes.{entries}
 use Rattle.fir_connect.specs.working.Drivers.{start}
 use Rattle.fir_connect.specs.working.Lowered.{zero_of}

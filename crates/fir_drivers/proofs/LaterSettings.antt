@@ -1,9 +1,9 @@
 -- What the walk reads stands for its terms also where nodes are added.
 use Rattle.std.proofs.Common.{ℕ, List, [], ◌∷◌, length, subst}
 use Rattle.fir_bits.specs.Forms.{no_type}
-use Rattle.fir_meaning.specs.LeafModules.{LeafType}
-use Rattle.fir_meaning.specs.TermValues.{Holds}
-use Rattle.fir_meaning.specs.Terms.{no_picks, pick}
+use Rattle.fir_meaning.specs.LeafTypes.{LeafType}
+use Rattle.fir_meaning.specs.working.TermValues.{Holds}
+use Rattle.fir_meaning.specs.working.Terms.{no_picks, pick}
 use Rattle.fir_leaf.specs.working.Nodes.{Entry, a_term, entries, node_term, some_picks}
 use Rattle.fir_leaf_types.specs.working.TypedTerms.{HasType}
 use Rattle.fir_net.specs.declared.node.Node.{Node}

@@ -2,7 +2,7 @@
 use Rattle.std.proofs.Common.{◌≡◌, ℕ, ◌+◌, ◌<◌, ◌≤◌, List, [], Bool, true, false, not, ◌&&◌, ◌||◌, if◌then◌else◌, length, take, get_or, ◌∙◌, nat_eq}
 use Rattle.std.proofs.Common.{nat_lt, arith}
 use Rattle.std.proofs.lemmas.Bool.{eqb-true, lt-ltb, le-ltb}
-use Rattle.fir_meaning.specs.TermReads.{is_among}
+use Rattle.fir_meaning.specs.working.TermReads.{is_among}
 use Rattle.fir_driven.specs.working.Covering.{depth_in, flag_at}
 use Rattle.fir_driven.specs.working.CoverWalks.{MovesMarked}
 use Rattle.fir_driven.specs.working.FlagChanges.{FlagsBecome}

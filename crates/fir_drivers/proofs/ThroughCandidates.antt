@@ -1,10 +1,10 @@
 -- What a leaf goes on with through candidates.
 use Rattle.std.proofs.Common.{◌≡◌, ℕ, List, [], ◌∷◌, ◌++◌, Bool, true, false, if◌then◌else◌, map, Option, Some, None, refl, sym, ap, ◌∙◌, nat_eq, arith, ⊎_elim}
 use Rattle.std.proofs.lemmas.Bool.{cases_Bool}
-use Rattle.fir_meaning.specs.LeafModules.{LeafType, number_type}
-use Rattle.fir_meaning.specs.TermReads.{is_among, reached}
-use Rattle.fir_meaning.specs.TermValues.{Holds}
-use Rattle.fir_meaning.specs.Terms.{Term, Picks, zeros, absent, literal, read, operation, mux, validif, no_picks, pick}
+use Rattle.fir_meaning.specs.LeafTypes.{LeafType, number_type}
+use Rattle.fir_meaning.specs.working.TermReads.{is_among, reached}
+use Rattle.fir_meaning.specs.working.TermValues.{Holds}
+use Rattle.fir_meaning.specs.working.Terms.{Term, Picks, zeros, absent, literal, read, operation, mux, validif, no_picks, pick}
 use Rattle.fir_leaf_types.specs.working.TypedTerms.{AreAlike, AreIndices}
 use Rattle.fir_connect.specs.working.Drivers.{driven_by, given, through}
 use Rattle.fir_connect.specs.working.Lowered.{Candidate, candidates, conditions, lowered, zero_of}

@@ -1,9 +1,9 @@
 -- The walk over statements, one after another.
 use Rattle.std.proofs.Common.{◌≡◌, ℕ, ◌+◌, ◌<◌, ◌≤◌, List, [], ◌∷◌, ◌++◌, length, map, take, drop, get_or, refl, sym, ap, ◌∙◌, subst}
 use Rattle.std.proofs.lemmas.List.{drop_all, drop_more, map_more, take_all}
-use Rattle.fir_meaning.specs.LeafBlocks.{LeafStatement, LeafBlock, done, then}
-use Rattle.fir_meaning.specs.LeafModules.{LeafType}
-use Rattle.fir_meaning.specs.TermValues.{Holds}
+use Rattle.fir_meaning.specs.working.LeafBlocks.{LeafStatement, LeafBlock, done, then}
+use Rattle.fir_meaning.specs.LeafTypes.{LeafType}
+use Rattle.fir_meaning.specs.working.TermValues.{Holds}
 use Rattle.fir_leaf.specs.declared.node.Node.{Node as LeafNode}
 use Rattle.fir_leaf.specs.declared.statement.Drive.{Drive}
 use Rattle.fir_leaf.specs.declared.statement.LeafStmt.{LeafStmt}

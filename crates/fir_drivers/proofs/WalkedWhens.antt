@@ -4,10 +4,10 @@ use Rattle.std.specs.Prelude.{Err, Ok, OnOk, Result, slice_get, unwrap_or}
 use Rattle.std.proofs.lemmas.Bool.{cases_Bool}
 use Rattle.std.proofs.lemmas.Option.{slice_get_within}
 use Rattle.fir_ast.specs.declared.place.Place.{Place}
-use Rattle.fir_meaning.specs.LeafBlocks.{LeafStatement, LeafBlock, when}
-use Rattle.fir_meaning.specs.TermReads.{is_among}
-use Rattle.fir_meaning.specs.TermValues.{Holds}
-use Rattle.fir_meaning.specs.Terms.{Term}
+use Rattle.fir_meaning.specs.working.LeafBlocks.{LeafStatement, LeafBlock, when}
+use Rattle.fir_meaning.specs.working.TermReads.{is_among}
+use Rattle.fir_meaning.specs.working.TermValues.{Holds}
+use Rattle.fir_meaning.specs.working.Terms.{Term}
 use Rattle.fir_meaning.specs.working.UndrivenChoices.{drives_any}
 use Rattle.fir_leaf.specs.declared.statement.LeafWhen.{LeafWhen}
 use Rattle.fir_leaf.specs.declared.statement.LeafStmt.TheVariants as code

@@ -5,7 +5,7 @@ ghost use Rattle.std.specs.Prelude.{◌≡◌, ◌||◌, [], IfOk, ℕ, map, OnO
 ghost use Rattle.fir_leaf.specs.declared.statement.LeafStmt.TheVariants as code;
 ghost use Rattle.fir_leaf.specs.working.NodeBlocks.{block_in, statement_in};
 ghost use Rattle.fir_drivers.specs.working.TargetLists.{AreUnmarked, Collects, StacksBlock, StacksStatement, TakesOuter};
-ghost use Rattle.fir_meaning.specs.TermReads.{is_among};
+ghost use Rattle.fir_meaning.specs.working.TermReads.{is_among};
 ghost use Rattle.fir_meaning.specs.working.UndrivenChoices.{drives, drives_any};
 
 use fir_base::MemoryOut;

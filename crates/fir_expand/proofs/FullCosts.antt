@@ -5,7 +5,7 @@ use Rattle.fir_base.specs.Lists.{In}
 use Rattle.fir_base.proofs.Elements.{number_of as place_of}
 use Rattle.fir_ast.specs.Circuits.{ModuleTree, CircuitTree}
 use Rattle.fir_meaning.specs.Mentions.{module_names}
-use Rattle.fir_meaning.specs.NameGroups.{HasNames}
+use Rattle.fir_meaning.specs.working.NameGroups.{HasNames}
 use Rattle.fir_names.specs.working.ModuleOrder.{find_number, IsModuleOrder}
 use Rattle.fir_names.proofs.ModulesThere.{own_number}
 use Rattle.fir_meaning.specs.Costs.{ModuleCosts, cost_of_module, AreCosts}

@@ -5,7 +5,8 @@ use Rattle.fir_base.proofs.Elements.{get_in}
 use Rattle.fir_base.proofs.Members.{in_map, map_same}
 use Rattle.fir_ast.specs.Circuits.{ModuleTree, CircuitTree}
 use Rattle.fir_meaning.specs.Hierarchy.{Enters, IsWalk}
-use Rattle.fir_meaning.specs.NameGroups.{HasNames, recursive}
+use Rattle.fir_meaning.specs.working.NameGroups.{HasNames}
+use Rattle.fir_meaning.specs.NameGroups.{recursive}
 use Rattle.fir_names.proofs.ModulesThere.{instance_number}
 use Rattle.fir_meaning.specs.Costs.{ModuleCosts, sum_of, AreCosts}
 use Rattle.fir_expand.specs.working.CostLaws.{HasOneCost}

@@ -7,7 +7,7 @@ use Rattle.fir_bits.specs.Values.{IsBitVector, fitted}
 use Rattle.fir_bits.specs.declared.types.NumTy.{NumTy}
 use Rattle.fir_bits.specs.declared.values.Num.{Num}
 use Rattle.fir_bits.specs.working.Laws.{HasItsType}
-use Rattle.fir_meaning.specs.TermValues.{Holds}
+use Rattle.fir_meaning.specs.working.TermValues.{Holds}
 use Rattle.fir_meaning.specs.Values as over
 use Rattle.fir_net.specs.declared.leaf.Leaf.{Leaf}
 use Rattle.fir_net.specs.declared.net.FlatNet.{FlatNet}

@@ -5,11 +5,12 @@ use Rattle.std.proofs.lemmas.Option.{slice_get_within}
 use Rattle.fir_base.specs.Ticks.{Shape}
 use Rattle.fir_base.proofs.Elements.{there}
 use Rattle.fir_bits.specs.declared.types.NumTy.{NumTy}
-use Rattle.fir_meaning.specs.LeafModules.{LeafType, a_clock, leaf_at, number, number_type}
-use Rattle.fir_meaning.specs.LeafCircuits.{LeafCircuit, type_of_leaf}
-use Rattle.fir_meaning.specs.LeafStates.{widths_in, widths_of}
-use Rattle.fir_meaning.specs.LeafStates as leafed
-use Rattle.fir_meaning.specs.TermValues.{Holds}
+use Rattle.fir_meaning.specs.LeafTypes.{LeafType, a_clock, number, number_type}
+use Rattle.fir_meaning.specs.working.LeafModules.{leaf_at}
+use Rattle.fir_meaning.specs.working.LeafCircuits.{LeafCircuit, type_of_leaf}
+use Rattle.fir_meaning.specs.working.LeafStates.{widths_in, widths_of}
+use Rattle.fir_meaning.specs.working.LeafStates as leafed
+use Rattle.fir_meaning.specs.working.TermValues.{Holds}
 use Rattle.fir_net.specs.declared.leaf.Leaf.{Leaf}
 use Rattle.fir_net.specs.declared.leaf.Role.{Role}
 use Rattle.fir_net.specs.declared.leaf.Role.TheVariants as role

@@ -3,11 +3,12 @@ use Rattle.std.proofs.Common.{◌≡◌, ℕ, ◌<◌, ◌≤◌, List, length, 
 use Rattle.std.proofs.lemmas.Bool.{cases_lt}
 use Rattle.fir_base.specs.Ticks.{HasShape, Shape, Tick}
 use Rattle.fir_bits.specs.working.Laws.{HasItsType}
-use Rattle.fir_meaning.specs.LeafModules.{LeafType, a_clock, leaf_at, number}
-use Rattle.fir_meaning.specs.TermValues.{Env}
-use Rattle.fir_meaning.specs.LeafAllows as leafed
-use Rattle.fir_meaning.specs.LeafCircuits.{LeafCircuit}
-use Rattle.fir_meaning.specs.LeafSettled.{Settled, Shows}
+use Rattle.fir_meaning.specs.LeafTypes.{LeafType, a_clock, number}
+use Rattle.fir_meaning.specs.working.LeafModules.{leaf_at}
+use Rattle.fir_meaning.specs.working.TermValues.{Env}
+use Rattle.fir_meaning.specs.working.LeafAllows as leafed
+use Rattle.fir_meaning.specs.working.LeafCircuits.{LeafCircuit}
+use Rattle.fir_meaning.specs.working.LeafSettled.{Settled, Shows}
 use Rattle.fir_net.specs.declared.net.FlatNet.{FlatNet}
 use Rattle.fir_net.specs.working.Allows.{Allows}
 use Rattle.fir_net.specs.working.One.{HasOne}

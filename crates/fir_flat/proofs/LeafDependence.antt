@@ -6,14 +6,15 @@ use Rattle.std.proofs.lemmas.List.{get_or_past}
 use Rattle.fir_base.specs.Lists.{In}
 use Rattle.fir_base.proofs.Elements.{there}
 use Rattle.fir_base.proofs.Members.{in_either, in_left, in_right}
-use Rattle.fir_meaning.specs.Choices.{LiveReads}
+use Rattle.fir_meaning.specs.working.Choices.{LiveReads}
 use Rattle.fir_meaning.specs.working.CircuitDependence.{CircuitDepends}
 use Rattle.fir_meaning.specs.working.Dependence.{RoleDepends, reading_reads, reads_if, reset_reads}
-use Rattle.fir_meaning.specs.LeafCircuits.{LeafCircuit, role_of}
-use Rattle.fir_meaning.specs.LeafModules.{LeafDeclared, LeafModule, LeafReset, LeafType, a_clock, depth_at, leaf_at, no_leaf, number}
-use Rattle.fir_meaning.specs.LeafModules as leafed
-use Rattle.fir_meaning.specs.TermReads.{reads}
-use Rattle.fir_meaning.specs.TermValues.{Holds}
+use Rattle.fir_meaning.specs.working.LeafCircuits.{LeafCircuit, role_of}
+use Rattle.fir_meaning.specs.working.LeafModules.{LeafDeclared, LeafModule, LeafReset, depth_at, leaf_at, no_leaf}
+use Rattle.fir_meaning.specs.LeafTypes.{LeafType, a_clock, number}
+use Rattle.fir_meaning.specs.working.LeafModules as leafed
+use Rattle.fir_meaning.specs.working.TermReads.{reads}
+use Rattle.fir_meaning.specs.working.TermValues.{Holds}
 use Rattle.fir_net.specs.declared.leaf.Leaf.{Leaf}
 use Rattle.fir_net.specs.declared.leaf.Reset.{Reset}
 use Rattle.fir_net.specs.declared.leaf.ResetKind.{ResetKind}

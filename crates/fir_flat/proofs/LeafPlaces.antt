@@ -4,7 +4,7 @@ use Rattle.std.specs.Prelude.{Some}
 use Rattle.std.proofs.lemmas.Bool.{eq-eqb}
 use Rattle.std.proofs.lemmas.Bool.Decides.{eqb_tells}
 use Rattle.fir_base.specs.Ticks.{FitEach}
-use Rattle.fir_meaning.specs.LeafStates.{look, place_in}
+use Rattle.fir_meaning.specs.working.LeafStates.{look, place_in}
 use Rattle.fir_net.proofs.Places.{place_of}
 
 -- where there are as many values as leaves; of a leaf that is not among them it is 0

@@ -4,13 +4,14 @@ use Rattle.std.specs.List.{range_with_len}
 use Rattle.std.proofs.lemmas.List.{take-append-drop}
 use Rattle.std.proofs.lemmas.Bool.{ltb-true, ltb-false}
 use Rattle.fir_meaning.specs.LeafPaths.{LeafPath}
-use Rattle.fir_meaning.specs.LeafModules.{LeafDeclared, LeafModule}
-use Rattle.fir_meaning.specs.Designs.{Item, drive, when, instance, Items, done, then, made_of}
-use Rattle.fir_meaning.specs.FlatDesigns.{array_count, array_count_all, count, count_all, inner_leaves}
-use Rattle.fir_meaning.specs.FlatLeaves.{all_leaves_in, leaves_in}
-use Rattle.fir_meaning.specs.Flattened.{flattened}
-use Rattle.fir_meaning.specs.Numberings.{Numbering, number, numbering}
-use Rattle.fir_meaning.specs.StateWalks.{all_array_order_in, all_words_in, array_order_in, has_bits, is_state, numbers_where, own_arrays, own_words, words_in}
+use Rattle.fir_meaning.specs.working.LeafModules.{LeafDeclared, LeafModule}
+use Rattle.fir_meaning.specs.working.Designs.{Item, drive, when, instance, Items, done, then, made_of}
+use Rattle.fir_meaning.specs.working.FlatDesigns.{array_count, array_count_all, count, count_all, inner_leaves}
+use Rattle.fir_meaning.specs.working.FlatLeaves.{all_leaves_in, leaves_in}
+use Rattle.fir_meaning.specs.working.Flattened.{flattened}
+use Rattle.fir_meaning.specs.working.Numberings.{Numbering, number, numbering}
+use Rattle.fir_meaning.specs.working.StateWalks.{all_array_order_in, all_words_in, array_order_in, is_state, numbers_where, own_arrays, own_words, words_in}
+use Rattle.fir_meaning.specs.LeafTypes.{has_bits}
 use Rattle.fir_leaf.proofs.MovedTerms.{number_own, number_port}
 use Rattle.fir_flat.specs.working.LoneModules.{HasNoInstance, HaveNoInstances, LoneIsItself, StandsAlone}
 use Rattle.fir_flat.proofs.SameNumbers.{body_same, leaves_same}

@@ -6,7 +6,7 @@ use Rattle.fir_base.specs.Lists.{Distinct}
 use Rattle.fir_base.proofs.Elements.{number_of}
 use Rattle.fir_base.proofs.Writes.{PushedOr, push_cases, push_end, push_left}
 use Rattle.fir_meaning.specs.working.CircuitDependence.{CircuitDepends, IsWalk}
-use Rattle.fir_meaning.specs.LeafCircuits.{LeafCircuit}
+use Rattle.fir_meaning.specs.working.LeafCircuits.{LeafCircuit}
 use Rattle.fir_net.specs.declared.net.FlatNet.{FlatNet}
 use Rattle.fir_net.specs.working.IsNet.{IsNet}
 use Rattle.fir_net.proofs.Places.{place_is}

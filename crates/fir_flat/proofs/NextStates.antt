@@ -4,15 +4,17 @@ use Rattle.std.specs.Prelude.{flat_map}
 use Rattle.std.proofs.lemmas.Option.{same_Some}
 use Rattle.fir_base.specs.Ticks.{Tick}
 use Rattle.fir_bits.specs.working.Laws.{HasItsType}
-use Rattle.fir_meaning.specs.LeafModules.{LeafType, a_clock, leaf_at, number, number_type}
-use Rattle.fir_meaning.specs.LeafModules as leafed
-use Rattle.fir_meaning.specs.TermValues.{Env, clock_of}
-use Rattle.fir_meaning.specs.LeafCircuits.{LeafCircuit, depth_of, role_of, type_of_leaf}
-use Rattle.fir_meaning.specs.LeafNext.{word_next, words_next}
-use Rattle.fir_meaning.specs.LeafNext as leaf_next
-use Rattle.fir_meaning.specs.LeafSettled.{Settled, Shows, ShowsNumber, number_shown, register_shown}
-use Rattle.fir_meaning.specs.LeafStates.{look}
-use Rattle.fir_meaning.specs.Memories.{array_next, has_edge}
+use Rattle.fir_meaning.specs.LeafTypes.{LeafType, a_clock, number, number_type}
+use Rattle.fir_meaning.specs.working.LeafModules.{leaf_at}
+use Rattle.fir_meaning.specs.working.LeafModules as leafed
+use Rattle.fir_meaning.specs.working.TermValues.{Env, clock_of}
+use Rattle.fir_meaning.specs.working.LeafCircuits.{LeafCircuit, depth_of, role_of, type_of_leaf}
+use Rattle.fir_meaning.specs.working.LeafNext.{word_next, words_next}
+use Rattle.fir_meaning.specs.working.LeafNext as leaf_next
+use Rattle.fir_meaning.specs.working.LeafSettled.{Settled, Shows, ShowsNumber, number_shown, register_shown}
+use Rattle.fir_meaning.specs.working.LeafStates.{look}
+use Rattle.fir_meaning.specs.working.Memories.{array_next}
+use Rattle.fir_meaning.specs.ClockEdges.{has_edge}
 use Rattle.fir_net.specs.declared.leaf.Leaf.{Leaf}
 use Rattle.fir_net.specs.declared.leaf.Register.{Register}
 use Rattle.fir_net.specs.declared.leaf.Role.{Role}

@@ -6,7 +6,7 @@ use Rattle.std.proofs.lemmas.List.{map_push}
 use Rattle.fir_bits.specs.Forms.{no_type}
 use Rattle.fir_bits.specs.Operators.{no_operand, outcome}
 use Rattle.fir_bits.specs.declared.values.Num.{Num}
-use Rattle.fir_meaning.specs.TermValues.{Holds}
+use Rattle.fir_meaning.specs.working.TermValues.{Holds}
 use Rattle.fir_net.specs.declared.leaf.Leaf.{Leaf}
 use Rattle.fir_net.specs.declared.net.FlatNet.{FlatNet}
 use Rattle.fir_net.specs.declared.node.Node.{Node}

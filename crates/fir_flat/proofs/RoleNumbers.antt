@@ -18,12 +18,15 @@ use Rattle.fir_meaning.specs.TypeGroup.{scope_at}
 use Rattle.fir_meaning.specs.ResetJoins.{numbered_module}
 use Rattle.fir_meaning.specs.working.WellTyped.{ResetIsLegal, IsLegal, AreLegal}
 use Rattle.fir_meaning.specs.working.TypeLaws.{FaultlessIsWellTyped}
-use Rattle.fir_meaning.specs.Leafed.{terms}
-use Rattle.fir_meaning.specs.LeafedBlocks.{term_at}
-use Rattle.fir_meaning.specs.LeafMemories.{LeafMemory, leaves_of_data, memory_roles}
-use Rattle.fir_meaning.specs.LeafModules.{LeafDeclared, LeafType, Role, computed, leaf_at, no_leaf, pipe, reading, sink, source}
-use Rattle.fir_meaning.specs.LeafModules as role
-use Rattle.fir_meaning.specs.LeafedModules.{Scene, Declared, leaves_from, type_of_declared, held_by_declared, declared_leaves, leaf_reset, port_role, register_role, instance_place, instance_role, role_in, memory_before, leaves_in, leaves_in_block, leaves_of_ports, behind_all_ports, module_leaves}
+use Rattle.fir_meaning.specs.working.Leafed.{terms}
+use Rattle.fir_meaning.specs.working.LeafedBlocks.{term_at}
+use Rattle.fir_meaning.specs.working.LeafMemories.{LeafMemory, memory_roles}
+use Rattle.fir_meaning.specs.FoundTypes.{leaves_of_data}
+use Rattle.fir_meaning.specs.working.LeafModules.{LeafDeclared, Role, computed, leaf_at, no_leaf, pipe, reading, sink, source}
+use Rattle.fir_meaning.specs.LeafTypes.{LeafType}
+use Rattle.fir_meaning.specs.working.LeafModules as role
+use Rattle.fir_meaning.specs.ModuleScenes.{Scene, Declared, type_of_declared, held_by_declared, behind_all_ports}
+use Rattle.fir_meaning.specs.working.LeafedModules.{leaves_from, declared_leaves, leaf_reset, port_role, register_role, instance_place, instance_role, role_in, memory_before, leaves_in, leaves_in_block, leaves_of_ports, module_leaves}
 use Rattle.fir_leaf.specs.working.LeafLaws.{Begins, scope_paths}
 use Rattle.fir_leaf.specs.working.TableLaws.{LeavesAreDeclared, NumbersAreLeaves}
 use Rattle.fir_leaf.proofs.DeclaredLeaves.{own_module}

@@ -1,14 +1,14 @@
 -- Where every leaf keeps its number, terms, statements, roles and leaves are as they were.
 use Rattle.std.proofs.Common.{◌≡◌, ℕ, zero, suc, ◌+◌, ◌<◌, ◌≤◌, List, [], ◌∷◌, drop, map, length, refl, ap, ap₂, arith}
 use Rattle.std.specs.Prelude.{Option, Some, None, option_map}
-use Rattle.fir_meaning.specs.LeafBlocks.{LeafBlock, joined}
-use Rattle.fir_meaning.specs.LeafBlocks as over
-use Rattle.fir_meaning.specs.LeafModules.{LeafDeclared, LeafReset, Need, Reading, Role, computed, leaf_at, pipe, reading, register, sink, source}
-use Rattle.fir_meaning.specs.Terms.{Term, zeros, absent, literal, read, operation, mux, validif, Picks, no_picks, pick, Terms, no_terms, term}
-use Rattle.fir_meaning.specs.Designs.{Item, drive, when, instance, Items, done, then, block_of, statement_of}
-use Rattle.fir_meaning.specs.FlatDesigns.{count, count_all, flat, flat_all}
-use Rattle.fir_meaning.specs.FlatLeaves.{placed_leaf}
-use Rattle.fir_meaning.specs.Numberings.{Numbering, moved, moved_need, moved_picks, moved_reading, moved_reset, moved_role, moved_terms, number}
+use Rattle.fir_meaning.specs.working.LeafBlocks.{LeafBlock, joined}
+use Rattle.fir_meaning.specs.working.LeafBlocks as over
+use Rattle.fir_meaning.specs.working.LeafModules.{LeafDeclared, LeafReset, Need, Reading, Role, computed, leaf_at, pipe, reading, register, sink, source}
+use Rattle.fir_meaning.specs.working.Terms.{Term, zeros, absent, literal, read, operation, mux, validif, Picks, no_picks, pick, Terms, no_terms, term}
+use Rattle.fir_meaning.specs.working.Designs.{Item, drive, when, instance, Items, done, then, block_of, statement_of}
+use Rattle.fir_meaning.specs.working.FlatDesigns.{count, count_all, flat, flat_all}
+use Rattle.fir_meaning.specs.working.FlatLeaves.{placed_leaf}
+use Rattle.fir_meaning.specs.working.Numberings.{Numbering, moved, moved_need, moved_picks, moved_reading, moved_reset, moved_role, moved_terms, number}
 use Rattle.fir_flat.specs.working.LoneModules.{HasNoInstance, HaveNoInstances}
 
 module _ (n : Numbering) (same : (x : ℕ) → number n x ≡ x) where

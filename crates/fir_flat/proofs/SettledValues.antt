@@ -5,12 +5,13 @@ use Rattle.std.proofs.lemmas.Nat.{pow_pos}
 use Rattle.std.proofs.lemmas.Option.{same_Some}
 use Rattle.fir_base.specs.Ticks.{HasShape, Shape, Tick}
 use Rattle.fir_bits.specs.working.Laws.{HasItsType}
-use Rattle.fir_meaning.specs.LeafModules.{LeafType, a_clock, leaf_at, number, number_type}
-use Rattle.fir_meaning.specs.LeafModules as leafed
-use Rattle.fir_meaning.specs.TermValues.{Env}
-use Rattle.fir_meaning.specs.LeafCircuits.{LeafCircuit, depth_of, role_of, type_of_leaf}
-use Rattle.fir_meaning.specs.LeafSettled.{Settled, Shows, clock_shown}
-use Rattle.fir_meaning.specs.LeafStates.{place_in}
+use Rattle.fir_meaning.specs.LeafTypes.{LeafType, a_clock, number, number_type}
+use Rattle.fir_meaning.specs.working.LeafModules.{leaf_at}
+use Rattle.fir_meaning.specs.working.LeafModules as leafed
+use Rattle.fir_meaning.specs.working.TermValues.{Env}
+use Rattle.fir_meaning.specs.working.LeafCircuits.{LeafCircuit, depth_of, role_of, type_of_leaf}
+use Rattle.fir_meaning.specs.working.LeafSettled.{Settled, Shows, clock_shown}
+use Rattle.fir_meaning.specs.working.LeafStates.{place_in}
 use Rattle.fir_net.specs.declared.leaf.Leaf.{Leaf}
 use Rattle.fir_net.specs.declared.leaf.Role.{Role}
 use Rattle.fir_net.specs.declared.leaf.Role.TheVariants as role

@@ -5,12 +5,13 @@ use Rattle.fir_bits.specs.working.Operators.{type_of}
 use Rattle.fir_bits.specs.declared.types.NumTy.{NumTy}
 use Rattle.fir_bits.specs.declared.values.Num.{Num}
 use Rattle.fir_meaning.specs.Values as over
-use Rattle.fir_meaning.specs.LeafModules.{LeafReset, LeafType, a_clock, leaf_at, number, number_type}
-use Rattle.fir_meaning.specs.LeafModules as leafed
-use Rattle.fir_meaning.specs.TermValues.{Env, eval}
-use Rattle.fir_meaning.specs.LeafCircuits.{LeafCircuit, depth_of, role_of, type_of_leaf}
-use Rattle.fir_meaning.specs.LeafSettled.{number_shown, register_shown}
-use Rattle.fir_meaning.specs.LeafStates.{look}
+use Rattle.fir_meaning.specs.working.LeafModules.{LeafReset, leaf_at}
+use Rattle.fir_meaning.specs.LeafTypes.{LeafType, a_clock, number, number_type}
+use Rattle.fir_meaning.specs.working.LeafModules as leafed
+use Rattle.fir_meaning.specs.working.TermValues.{Env, eval}
+use Rattle.fir_meaning.specs.working.LeafCircuits.{LeafCircuit, depth_of, role_of, type_of_leaf}
+use Rattle.fir_meaning.specs.working.LeafSettled.{number_shown, register_shown}
+use Rattle.fir_meaning.specs.working.LeafStates.{look}
 use Rattle.fir_leaf_types.specs.working.TypedModules.{IsRoleTyped, held_in}
 use Rattle.fir_net.specs.declared.leaf.Leaf.{Leaf}
 use Rattle.fir_net.specs.declared.leaf.Reset.{Reset}

@@ -1,11 +1,11 @@
 -- What follows the word of a register is the same in a circuit and in its flat net, where its clock has an edge or has none.
 use Rattle.std.proofs.Common.{◌≡◌, ℕ, Bool, true, false, if◌then◌else◌, Option, Some, None, slice_get, refl, sym, ap, ◌∙◌}
 use Rattle.fir_bits.specs.working.Laws.{HasItsType}
-use Rattle.fir_meaning.specs.LeafModules.{LeafReset}
-use Rattle.fir_meaning.specs.TermValues.{Env}
-use Rattle.fir_meaning.specs.LeafCircuits.{LeafCircuit, type_of_leaf}
-use Rattle.fir_meaning.specs.LeafNext.{register_next, stored_or_shown}
-use Rattle.fir_meaning.specs.LeafSettled.{register_shown}
+use Rattle.fir_meaning.specs.working.LeafModules.{LeafReset}
+use Rattle.fir_meaning.specs.working.TermValues.{Env}
+use Rattle.fir_meaning.specs.working.LeafCircuits.{LeafCircuit, type_of_leaf}
+use Rattle.fir_meaning.specs.working.LeafNext.{register_next, stored_or_shown}
+use Rattle.fir_meaning.specs.working.LeafSettled.{register_shown}
 use Rattle.fir_net.specs.declared.leaf.Leaf.{Leaf}
 use Rattle.fir_net.specs.declared.leaf.Reset.{Reset}
 use Rattle.fir_net.specs.declared.net.FlatNet.{FlatNet}

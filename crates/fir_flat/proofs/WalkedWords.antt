@@ -3,8 +3,8 @@ use Rattle.std.proofs.Common.{◌≡◌, ◌≢◌, ℕ, zero, suc, ◌+◌, ◌
 use Rattle.std.specs.Prelude.{nat_eq, if◌then◌else◌}
 use Rattle.std.specs.List.{range_with_len}
 use Rattle.std.proofs.lemmas.Bool.Decides.{eqb_tells}
-use Rattle.fir_meaning.specs.LeafModules.{LeafDeclared, leaf_at}
-use Rattle.fir_meaning.specs.StateWalks.{numbers_where}
+use Rattle.fir_meaning.specs.working.LeafModules.{LeafDeclared, leaf_at}
+use Rattle.fir_meaning.specs.working.StateWalks.{numbers_where}
 
 pub walked_alike : {A : Type 0} (f g : ℕ → List A) (ks : List ℕ) → ((k : ℕ) → f k ≡ g k) → flat_map f ks ≡ flat_map g ks
 walked_alike f g [] e = refl

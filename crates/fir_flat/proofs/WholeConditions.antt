@@ -7,9 +7,9 @@ use Rattle.fir_bits.specs.Literals.{least_width}
 use Rattle.fir_bits.specs.working.Types.{typed}
 use Rattle.fir_bits.specs.declared.operators.PrimOp.TheVariants.{Eq, Orr}
 use Rattle.fir_bits.specs.declared.types.NumTy.{NumTy}
-use Rattle.fir_meaning.specs.LeafModules.{LeafType, number}
-use Rattle.fir_meaning.specs.TermValues.{Holds}
-use Rattle.fir_meaning.specs.Terms.{Term}
+use Rattle.fir_meaning.specs.LeafTypes.{LeafType, number}
+use Rattle.fir_meaning.specs.working.TermValues.{Holds}
+use Rattle.fir_meaning.specs.working.Terms.{Term}
 use Rattle.fir_leaf_types.specs.working.TypedTerms.{HasType}
 use Rattle.fir_connect.specs.working.NetTerms.{NetTerm, choice, no_terms, term, term_type, term_types}
 use Rattle.fir_connect.specs.working.Lowered.{both, is_number, one_bit, result}

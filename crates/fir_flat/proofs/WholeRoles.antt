@@ -1,8 +1,9 @@
 -- The roles of a module's leaves in its net are whole: what drives a leaf, what a node is, and what a register takes at its reset.
 use Rattle.std.proofs.Common.{◌≡◌, ℕ, ◌<◌, length, Bool, true, false, Option, Some, None, option_map, ap, subst}
 use Rattle.fir_bits.specs.declared.types.NumTy.{NumTy}
-use Rattle.fir_meaning.specs.LeafModules.{LeafModule, LeafReset, Role, computed, depth_at, number, pipe, reading, register, role_at, sink, source}
-use Rattle.fir_meaning.specs.Terms.{Term}
+use Rattle.fir_meaning.specs.working.LeafModules.{LeafModule, LeafReset, Role, computed, depth_at, pipe, reading, register, role_at, sink, source}
+use Rattle.fir_meaning.specs.LeafTypes.{number}
+use Rattle.fir_meaning.specs.working.Terms.{Term}
 use Rattle.fir_leaf_types.specs.working.TypedModules.{IsModuleTyped, IsResetTyped, IsRoleTyped, held_in}
 use Rattle.fir_connect.specs.working.Drivers.{driver_of, start}
 use Rattle.fir_connect.specs.working.NetRoles.{net_reset, net_role, net_types}

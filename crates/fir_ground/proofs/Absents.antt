@@ -15,7 +15,7 @@ use Rattle.fir_types.proofs.BareTypes.{shown_leaf_count}
 use Rattle.fir_leaf.specs.declared.node.Node.{Node}
 use Rattle.fir_leaf.specs.declared.node.Node.TheVariants as node
 use Rattle.fir_leaf.specs.working.Nodes.{Gives, entries, picks_at}
-use Rattle.fir_meaning.specs.Terms.{Picks, Term, absent}
+use Rattle.fir_meaning.specs.working.Terms.{Picks, Term, absent}
 use Rattle.fir_ground.specs.working.Absent.{Adds, absent_element_terms, absent_field_terms, absent_leaf, absent_terms}
 use Rattle.fir_leaf_pairs.specs.working.TargetNames.{PicksWithin}
 use Rattle.fir_leaf_pairs.proofs.Entries.{grows_length, picks_keep, picks_stay}

@@ -9,7 +9,7 @@ use Rattle.fir_leaf.specs.declared.node.Node.{Node}
 use Rattle.fir_leaf.specs.declared.node.Node.TheVariants as node
 use Rattle.fir_leaf.specs.declared.node.Pick.{Pick as PickOfCode}
 use Rattle.fir_leaf.specs.working.Nodes.{AllBelow, Grows, entries, picks_at, picks_in}
-use Rattle.fir_meaning.specs.Terms.{Picks, no_picks}
+use Rattle.fir_meaning.specs.working.Terms.{Picks, no_picks}
 use Rattle.fir_ground.specs.declared.references.Chain.{Chain}
 use Rattle.fir_ground.specs.declared.references.Index.{Index as IndexOfCode}
 use Rattle.fir_leaf_pairs.specs.working.TargetNames.{PicksWithin}

@@ -4,10 +4,10 @@ use Rattle.fir_ast.specs.Types.{DataType}
 use Rattle.fir_meaning.specs.TypedScopes.{TypedScope}
 use Rattle.fir_types.specs.working.Notes.{Note}
 use Rattle.fir_leaf.specs.declared.node.Node.{Node}
-use Rattle.fir_meaning.specs.Leafed.{first_term, target_terms}
+use Rattle.fir_meaning.specs.working.Leafed.{first_term, target_terms}
 use Rattle.fir_leaf.specs.working.Nodes.{AllBelow, Gives, Grows, Shows, node_term}
-use Rattle.fir_meaning.specs.Targets as over
-use Rattle.fir_meaning.specs.Terms.{Term}
+use Rattle.fir_meaning.specs.working.Targets as over
+use Rattle.fir_meaning.specs.working.Terms.{Term}
 use Rattle.fir_ground.specs.declared.ground.Ground.{Ground}
 use Rattle.fir_leaf_pairs.specs.declared.target.Target.{Target}
 use Rattle.fir_ground.specs.declared.walk.Walk.{Walk}

@@ -18,14 +18,15 @@ use Rattle.fir_types.specs.working.Seen.{found_type}
 use Rattle.fir_leaf.specs.declared.node.Node.{Node}
 use Rattle.fir_leaf.specs.declared.node.Node.TheVariants as node
 use Rattle.fir_leaf.specs.declared.statement.LeafStmt.{LeafStmt}
-use Rattle.fir_meaning.specs.Leafed.{target_of, target_read, target_terms, terms}
-use Rattle.fir_meaning.specs.LeafedBlocks.{Sides, connect_block, invalid_block, pairs_block, sides, type_where}
-use Rattle.fir_meaning.specs.LeafPairs.{LeafPair}
+use Rattle.fir_meaning.specs.working.Leafed.{target_of, target_read, target_terms, terms}
+use Rattle.fir_meaning.specs.working.LeafedBlocks.{Sides, connect_block, invalid_block, pairs_block, sides}
+use Rattle.fir_meaning.specs.FoundTypes.{type_where}
+use Rattle.fir_meaning.specs.working.LeafPairs.{LeafPair}
 use Rattle.fir_leaf.specs.working.NodeBlocks.{Emitted}
 use Rattle.fir_leaf.specs.working.Nodes.{Grows, node_term}
-use Rattle.fir_meaning.specs.Targets as over
-use Rattle.fir_meaning.specs.Targets.{leaves_so_far}
-use Rattle.fir_meaning.specs.Terms as term
+use Rattle.fir_meaning.specs.working.Targets as over
+use Rattle.fir_meaning.specs.working.Targets.{leaves_so_far}
+use Rattle.fir_meaning.specs.working.Terms as term
 use Rattle.fir_ground.specs.declared.ground.Ground.{Ground}
 use Rattle.fir_leaf_pairs.specs.declared.pairs.LeafPair.{LeafPair as PairOfCode}
 use Rattle.fir_ground.specs.declared.sides.Sides.{Sides as SidesOfCode}

@@ -10,7 +10,7 @@ use Rattle.fir_type_table.specs.working.Saturated.{saturated}
 use Rattle.fir_types.specs.declared.found.Found.{Found}
 use Rattle.fir_types.specs.working.FirstLeaves.{starts_from}
 use Rattle.fir_types.specs.working.Seen.{seen}
-use Rattle.fir_meaning.specs.Targets.{leaves_so_far}
+use Rattle.fir_meaning.specs.working.Targets.{leaves_so_far}
 use Rattle.fir_ground.specs.working.Statements.{firsts_from}
 
 -- how many leaves each declaration has, as the code counts them

@@ -8,10 +8,10 @@ use Rattle.fir_ast.specs.Types.{DataType}
 use Rattle.fir_meaning.specs.TypedScopes.{TypedScope}
 use Rattle.fir_meaning.specs.working.WellTyped.{HasType, HaveTypes}
 use Rattle.fir_types.specs.working.Notes.{Note, expression_note, expression_notes, notes_of_each}
-use Rattle.fir_meaning.specs.Leafed.{first_term, muxes, operands, terms}
+use Rattle.fir_meaning.specs.working.Leafed.{first_term, muxes, operands, terms}
 use Rattle.fir_leaf.specs.working.Nodes.{AllBelow, node_term}
-use Rattle.fir_meaning.specs.Terms.{Term, terms_of}
-use Rattle.fir_meaning.specs.Terms as over
+use Rattle.fir_meaning.specs.working.Terms.{Term, terms_of}
+use Rattle.fir_meaning.specs.working.Terms as over
 use Rattle.fir_ground.specs.declared.ground.Ground.{Ground}
 use Rattle.fir_ground.specs.declared.walk.Walk.{Walk}
 use Rattle.fir_ground.specs.working.Expressions.{ExpandsFirst}

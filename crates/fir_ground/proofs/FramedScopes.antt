@@ -21,7 +21,7 @@ use Rattle.fir_names.specs.working.Tabulated.{entry_at, entry_of}
 use Rattle.fir_names.proofs.TablesByNumber.{entry_read}
 use Rattle.fir_types.specs.working.Notes.{position_of}
 use Rattle.fir_types.specs.working.Walked.{Begins}
-use Rattle.fir_meaning.specs.Targets.{leaves_ahead, leaves_so_far}
+use Rattle.fir_meaning.specs.working.Targets.{leaves_ahead, leaves_so_far}
 use Rattle.fir_ground.specs.declared.frame.Frame.{Frame}
 use Rattle.fir_ground.specs.working.Grounds.{Stands}
 use Rattle.fir_ground.specs.working.Statements.{Frames, IsInstanceAt, firsts_from}

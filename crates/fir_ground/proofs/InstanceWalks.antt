@@ -6,10 +6,10 @@ use Rattle.fir_leaf.specs.declared.node.Node.{Node}
 use Rattle.fir_leaf.specs.declared.statement.LeafInstance.{LeafInstance}
 use Rattle.fir_leaf.specs.declared.statement.LeafStmt.{LeafStmt}
 use Rattle.fir_leaf.specs.declared.statement.LeafStmt.TheVariants as code
-use Rattle.fir_meaning.specs.LeafBlocks.{HeldInstance, instance}
-use Rattle.fir_meaning.specs.LeafedBlocks.{instance_block}
+use Rattle.fir_meaning.specs.working.LeafBlocks.{HeldInstance, instance}
+use Rattle.fir_meaning.specs.working.LeafedBlocks.{instance_block}
 use Rattle.fir_leaf.specs.working.NodeBlocks.{Emitted}
-use Rattle.fir_meaning.specs.Targets.{leaves_so_far}
+use Rattle.fir_meaning.specs.working.Targets.{leaves_so_far}
 use Rattle.fir_ground.specs.working.Statements.{IsInstance}
 use Rattle.fir_leaf_pairs.proofs.Emitting.{emitted_one, instance_is}
 

@@ -21,9 +21,9 @@ use Rattle.fir_types.specs.working.Noted.{note_seen, pick_seen, range_seen, satu
 use Rattle.fir_types.specs.working.Notes.{LeafRange, Note, known_range, of_reference, position_of, range_behind, range_where, reference_note, root_range, whole_range}
 use Rattle.fir_types.specs.working.Seen.{found_type}
 use Rattle.fir_leaf.specs.declared.node.Node.{Node}
-use Rattle.fir_meaning.specs.Leafed.{target_along, target_of}
-use Rattle.fir_meaning.specs.Targets.{leaves_ahead, leaves_so_far, named_target, whole_target}
-use Rattle.fir_meaning.specs.Terms.{no_picks}
+use Rattle.fir_meaning.specs.working.Leafed.{target_along, target_of}
+use Rattle.fir_meaning.specs.working.Targets.{leaves_ahead, leaves_so_far, named_target, whole_target}
+use Rattle.fir_meaning.specs.working.Terms.{no_picks}
 use Rattle.fir_ground.specs.declared.ground.Ground.{Ground}
 use Rattle.fir_leaf_pairs.specs.declared.target.Target.{Target}
 use Rattle.fir_ground.specs.declared.walk.Walk.{Walk}

@@ -3,8 +3,8 @@ use Rattle.std.proofs.Common.{◌≡◌, ℕ, List, length, Option, Some, None, 
 use Rattle.fir_ast.specs.Types.{DataType}
 use Rattle.fir_leaf.specs.declared.node.Node.{Node}
 use Rattle.fir_leaf.specs.working.Nodes.{Gives, Grows}
-use Rattle.fir_meaning.specs.Targets as over
-use Rattle.fir_meaning.specs.Terms.{Term}
+use Rattle.fir_meaning.specs.working.Targets as over
+use Rattle.fir_meaning.specs.working.Terms.{Term}
 use Rattle.fir_leaf_pairs.specs.declared.target.Target.{Target}
 use Rattle.fir_leaf_pairs.specs.working.Drives.{HasTarget, MayHaveTarget, Stand}
 use Rattle.fir_ground.specs.working.Expressions.{MayName}

@@ -12,7 +12,7 @@ use Rattle.fir_meaning.proofs.FoundTypes.{found_type}
 use Rattle.fir_types.specs.declared.note.Note.{Note as NoteOfCode}
 use Rattle.fir_types.specs.working.Notes.{Note, expression_note, expression_notes, notes_of_each, of_expression, part_notes, reference_note}
 use Rattle.fir_types.specs.working.Noted.{note_seen, saturated_note}
-use Rattle.fir_meaning.specs.Leafed.{target_read}
+use Rattle.fir_meaning.specs.working.Leafed.{target_read}
 use Rattle.fir_ground.specs.working.Grounds.{Ahead}
 
 -- behind the notes that are passed stand those that are left

@@ -6,9 +6,9 @@ use Rattle.fir_ast.specs.Expressions.{Expression, Expressions, no_expressions, e
 use Rattle.fir_meaning.specs.TypedScopes.{TypedScope}
 use Rattle.fir_meaning.specs.working.WellTyped.{HaveTypes}
 use Rattle.fir_types.specs.working.Notes.{Note, expression_notes, notes_of_each}
-use Rattle.fir_meaning.specs.Leafed.{first_term, operands, terms}
+use Rattle.fir_meaning.specs.working.Leafed.{first_term, operands, terms}
 use Rattle.fir_leaf.specs.working.Nodes.{Gives}
-use Rattle.fir_meaning.specs.Terms.{Term}
+use Rattle.fir_meaning.specs.working.Terms.{Term}
 use Rattle.fir_ground.specs.declared.ground.Ground.{Ground}
 use Rattle.fir_ground.specs.declared.walk.Walk.{Walk}
 use Rattle.fir_ground.specs.working.Grounds.{Comes, Enters, Expands}

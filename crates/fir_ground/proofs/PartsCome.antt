@@ -18,7 +18,7 @@ use Rattle.fir_meaning.specs.working.WellTyped.{Leads}
 use Rattle.fir_names.specs.working.Parts.{part_of}
 use Rattle.fir_types.specs.working.Notes.{Note, expression_notes, part_notes}
 use Rattle.fir_leaf.specs.declared.node.Node.{Node}
-use Rattle.fir_meaning.specs.Leafed.{first_term, terms}
+use Rattle.fir_meaning.specs.working.Leafed.{first_term, terms}
 use Rattle.fir_leaf.specs.working.Nodes.{Grows, node_term}
 use Rattle.fir_ground.specs.declared.ground.Ground.{Ground}
 use Rattle.fir_ground.specs.declared.references.Index.{Index as IndexOfCode}

@@ -22,9 +22,9 @@ use Rattle.fir_types.specs.working.Walked.{Begins}
 use Rattle.fir_types.proofs.KnownScopes.{begins_before}
 use Rattle.fir_leaf.specs.declared.node.Node.{Node}
 use Rattle.fir_leaf.specs.declared.statement.LeafStmt.{LeafStmt}
-use Rattle.fir_meaning.specs.LeafBlocks.{LeafBlock, joined}
-use Rattle.fir_meaning.specs.LeafBlocks as over
-use Rattle.fir_meaning.specs.LeafedBlocks.{leafed, leafed_all}
+use Rattle.fir_meaning.specs.working.LeafBlocks.{LeafBlock, joined}
+use Rattle.fir_meaning.specs.working.LeafBlocks as over
+use Rattle.fir_meaning.specs.working.LeafedBlocks.{leafed, leafed_all}
 use Rattle.fir_leaf.specs.working.NodeBlocks.{Emitted}
 use Rattle.fir_leaf.specs.working.Nodes.{Grows}
 use Rattle.fir_ground.specs.declared.driver.Driver.{Driver}

@@ -7,10 +7,10 @@ use Rattle.fir_meaning.specs.LeafPaths.{named, element}
 use Rattle.fir_meaning.specs.TypeLeaves.{TypeLeaf, element_leaves, field_count, field_leaves, leaf_count, type_leaves, under}
 use Rattle.fir_leaf.specs.declared.node.Node.{Node}
 use Rattle.fir_leaf.specs.declared.node.Node.TheVariants as node
-use Rattle.fir_meaning.specs.Leafed.{leaf_term, leaf_terms, target_terms}
+use Rattle.fir_meaning.specs.working.Leafed.{leaf_term, leaf_terms, target_terms}
 use Rattle.fir_leaf.specs.working.Nodes.{Gives, entries, picks_at}
-use Rattle.fir_meaning.specs.Targets as over
-use Rattle.fir_meaning.specs.Terms.{Picks, read}
+use Rattle.fir_meaning.specs.working.Targets as over
+use Rattle.fir_meaning.specs.working.Terms.{Picks, read}
 use Rattle.fir_types.specs.working.Seen.{found_type}
 use Rattle.fir_type_table.specs.working.Saturated.{saturated}
 use Rattle.fir_leaf_pairs.specs.declared.target.Target.{Target}

@@ -12,7 +12,7 @@ use Rattle.fir_meaning.proofs.FoundTypes.{found_type}
 use Rattle.fir_type_table.specs.working.Saturated.{saturated}
 use Rattle.fir_types.specs.working.Noted.{saturated_note, saturated_pick, saturated_range}
 use Rattle.fir_types.specs.working.Notes.{LeafRange, Note, Pick, of_expression, of_reference}
-use Rattle.fir_meaning.specs.Targets.{leaves_so_far}
+use Rattle.fir_meaning.specs.working.Targets.{leaves_so_far}
 use Rattle.fir_ground.specs.working.ResetKinds.{KindMeant, all_there, inferred_by, inferred_kind, kind_by, kind_of_reset, sink_range, synchronous_kind}
 use Rattle.fir_ground.proofs.NamedTargets.{ranged}
 use Rattle.fir_ground.proofs.NotesLast.{own_note}

@@ -10,7 +10,7 @@ use Rattle.fir_ast.specs.Expressions.{Expression, Parts}
 use Rattle.fir_ast.specs.Statements.{Sink}
 use Rattle.fir_ast.specs.working.Views.{expr_of, expr_step, part_step, reference_step}
 use Rattle.fir_meaning.specs.TypedScopes.{TypedScope}
-use Rattle.fir_meaning.specs.Leafed.{target_read}
+use Rattle.fir_meaning.specs.working.Leafed.{target_read}
 
 module _ (typed : TypedScope) where
   rolled : (l : Expr-F Expr Part Reference) → ((r : Reference) → roll-Expr l ≡ code_expr.Ref r → ⊥) → target_read typed (expr_of (roll-Expr l)) ≡ None

@@ -15,12 +15,12 @@ use Rattle.fir_meaning.specs.TypeKinds.{FieldFound, field_named}
 use Rattle.fir_meaning.specs.TypeLeaves.{field_count, leaf_count}
 use Rattle.fir_meaning.specs.working.WellTyped.{Leads}
 use Rattle.fir_type_table.specs.working.Saturated.{saturated}
-use Rattle.fir_meaning.specs.FieldSizes.{leaves_before, leaves_before_field}
+use Rattle.fir_meaning.specs.working.FieldSizes.{leaves_before, leaves_before_field}
 use Rattle.fir_types.specs.working.Noted.{saturated_pick}
 use Rattle.fir_types.specs.working.Notes.{LeafRange, Pick, element_range, field_range, picked_range, range_behind}
-use Rattle.fir_meaning.specs.Leafed.{first_term, target_along, terms}
-use Rattle.fir_meaning.specs.Targets.{Target, element_target_at, field_target_at, further, picked_target_at, stride_from}
-use Rattle.fir_meaning.specs.Terms.{Picks, Term, pick}
+use Rattle.fir_meaning.specs.working.Leafed.{first_term, target_along, terms}
+use Rattle.fir_meaning.specs.working.Targets.{Target, element_target_at, field_target_at, further, picked_target_at, stride_from}
+use Rattle.fir_meaning.specs.working.Terms.{Picks, Term, pick}
 use Rattle.fir_ground.specs.working.Indices.{Index, indices_in, pick_behind, picks_behind, stride_where, there_behind}
 
 -- a number where all vectors have elements

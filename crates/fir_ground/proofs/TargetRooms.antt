@@ -16,10 +16,10 @@ use Rattle.fir_meaning.specs.TypeKinds.{FieldFound}
 use Rattle.fir_meaning.specs.TypeLeaves.{leaf_count}
 use Rattle.fir_meaning.specs.TypedScopes.{Known, TypedScope, known}
 use Rattle.fir_meaning.specs.working.WellTyped.{HasType, Leads, Reaches}
-use Rattle.fir_meaning.specs.FieldSizes.{leaves_before}
-use Rattle.fir_meaning.specs.Leafed.{first_term, target_along, target_of, target_read, terms}
-use Rattle.fir_meaning.specs.Targets.{Target, element_target, element_target_at, field_target, field_target_at, further, leaves_ahead, leaves_so_far, picked_target, picked_target_at, whole_target, named_target}
-use Rattle.fir_meaning.specs.Terms.{Term}
+use Rattle.fir_meaning.specs.working.FieldSizes.{leaves_before}
+use Rattle.fir_meaning.specs.working.Leafed.{first_term, target_along, target_of, target_read, terms}
+use Rattle.fir_meaning.specs.working.Targets.{Target, element_target, element_target_at, field_target, field_target_at, further, leaves_ahead, leaves_so_far, picked_target, picked_target_at, whole_target, named_target}
+use Rattle.fir_meaning.specs.working.Terms.{Term}
 use Rattle.fir_leaf_pairs.specs.working.Reads.{IsWithin, IsWithinCost}
 use Rattle.fir_leaf_pairs.proofs.PairNumbers.{field_before}
 

@@ -19,10 +19,10 @@ use Rattle.fir_meaning.specs.TypeLeaves.{TypeLeaf, element_leaves, field_count, 
 use Rattle.fir_meaning.specs.TypedScopes.{TypedScope}
 use Rattle.fir_meaning.specs.working.WellTyped.{HasType}
 use Rattle.fir_types.proofs.BareTypes.{shown_leaf_count}
-use Rattle.fir_meaning.specs.Leafed.{first_term, leaf_terms, muxes, target_of, target_terms, terms}
-use Rattle.fir_meaning.specs.Targets.{Target, leaves_so_far}
-use Rattle.fir_meaning.specs.Terms.{Term}
-use Rattle.fir_meaning.specs.Terms as over
+use Rattle.fir_meaning.specs.working.Leafed.{first_term, leaf_terms, muxes, target_of, target_terms, terms}
+use Rattle.fir_meaning.specs.working.Targets.{Target, leaves_so_far}
+use Rattle.fir_meaning.specs.working.Terms.{Term}
+use Rattle.fir_meaning.specs.working.Terms as over
 use Rattle.fir_leaf_pairs.proofs.PairNumbers.{both_true, same_number}
 use Rattle.fir_ground.proofs.TargetRooms.{aims_sink}
 

@@ -17,13 +17,13 @@ use Rattle.fir_types.proofs.KnownScopes.{begins_before}
 use Rattle.fir_leaf.specs.declared.statement.LeafWhen.{LeafWhen}
 use Rattle.fir_leaf.specs.declared.statement.LeafStmt.{LeafStmt}
 use Rattle.fir_leaf.specs.declared.statement.LeafStmt.TheVariants as code
-use Rattle.fir_meaning.specs.LeafBlocks.{LeafBlock}
-use Rattle.fir_meaning.specs.LeafBlocks as over
-use Rattle.fir_meaning.specs.Leafed.{first_term, terms}
-use Rattle.fir_meaning.specs.LeafedBlocks.{leafed, leafed_all}
+use Rattle.fir_meaning.specs.working.LeafBlocks.{LeafBlock}
+use Rattle.fir_meaning.specs.working.LeafBlocks as over
+use Rattle.fir_meaning.specs.working.Leafed.{first_term, terms}
+use Rattle.fir_meaning.specs.working.LeafedBlocks.{leafed, leafed_all}
 use Rattle.fir_leaf.specs.working.NodeBlocks.{block_in}
 use Rattle.fir_leaf.specs.working.Nodes.{Grows, node_term}
-use Rattle.fir_meaning.specs.Terms.{Term}
+use Rattle.fir_meaning.specs.working.Terms.{Term}
 use Rattle.fir_ground.specs.declared.driver.Driver.{Driver}
 use Rattle.fir_ground.specs.declared.frame.Frame.{Frame}
 use Rattle.fir_ground.specs.declared.walk.Walk.{Walk}

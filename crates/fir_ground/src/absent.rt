@@ -2,7 +2,7 @@
 
 ghost use Rattle.std.specs.Prelude.{◌≡◌, [], ◌∷◌, IfOk, OnOk, if◌then◌else◌, length as long, unwrap_or};
 ghost use Rattle.fir_leaf.specs.working.Nodes.{Gives, entries, picks_at};
-ghost use Rattle.fir_meaning.specs.Terms.{Picks, absent as absent_term};
+ghost use Rattle.fir_meaning.specs.working.Terms.{Picks, absent as absent_term};
 ghost use Rattle.fir_type_table.specs.working.Tables.{member_fields, members_at, shown, shown_fields, type_at, types_of};
 ghost use Rattle.fir_types.specs.working.Seen.{found_type};
 ghost use Rattle.fir_leaf_pairs.specs.working.TargetNames.{PicksWithin};

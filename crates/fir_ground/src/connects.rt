@@ -2,7 +2,7 @@
 
 ghost use Rattle.std.specs.Prelude.{◌≡◌, IfOk, OnOk, map};
 ghost use Rattle.fir_ast.specs.working.Views.{expr_of, sink_of};
-ghost use Rattle.fir_meaning.specs.LeafPairs.{leaf_pairs, partial_leaf_pairs};
+ghost use Rattle.fir_meaning.specs.working.LeafPairs.{leaf_pairs, partial_leaf_pairs};
 ghost use Rattle.fir_meaning.specs.ConnectPairs.{pairs, partial_pairs};
 ghost use Rattle.fir_meaning.specs.Equivalence.{is_connectable, is_partly_connectable};
 ghost use Rattle.fir_meaning.specs.working.WellTyped.{ConnectIsLegal};

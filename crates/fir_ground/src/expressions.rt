@@ -5,7 +5,7 @@ ghost use Rattle.std.specs.Prelude.{◌≡◌, ◌++◌, List, map, IfOk, OnOk};
 ghost use Rattle.fir_ast.specs.Expressions.{Parts};
 ghost use Rattle.fir_ast.specs.Types.{DataType};
 ghost use Rattle.fir_ast.specs.working.Views.{expr_of, expressions_of, sink_of};
-ghost use Rattle.fir_meaning.specs.Leafed.{first_term, operands as terms_of_each, target_of, terms};
+ghost use Rattle.fir_meaning.specs.working.Leafed.{first_term, operands as terms_of_each, target_of, terms};
 ghost use Rattle.fir_meaning.specs.Reaching.{Reached};
 ghost use Rattle.fir_meaning.specs.TypedScopes.{TypedScope};
 ghost use Rattle.fir_meaning.specs.working.WellTyped.{HasType, HaveTypes, Leads, Reaches as ReachesThere};

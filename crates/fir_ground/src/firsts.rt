@@ -7,7 +7,7 @@ ghost use Rattle.fir_meaning.specs.TypedScopes.{TypedScope};
 ghost use Rattle.fir_type_table.specs.working.Saturated.{saturated};
 ghost use Rattle.fir_type_table.specs.working.Tables.{types_of};
 ghost use Rattle.fir_types.specs.working.Seen.{seen};
-ghost use Rattle.fir_meaning.specs.Targets.{leaves_so_far};
+ghost use Rattle.fir_meaning.specs.working.Targets.{leaves_so_far};
 ghost use Rattle.fir_ground.specs.working.Statements.{firsts_from};
 
 use fir_base::MemoryOut;

@@ -1,9 +1,9 @@
 //! The nodes of a form, behind those of its operands.
 
 ghost use Rattle.std.specs.Prelude.{◌≡◌, ◌<◌, List, [], ◌∷◌, map, length, IfOk};
-ghost use Rattle.fir_meaning.specs.Leafed.{muxes};
+ghost use Rattle.fir_meaning.specs.working.Leafed.{muxes};
 ghost use Rattle.fir_leaf.specs.working.Nodes.{AllBelow, node_term};
-ghost use Rattle.fir_meaning.specs.Terms.{literal as written, operation, terms_of, validif as guarded};
+ghost use Rattle.fir_meaning.specs.working.Terms.{literal as written, operation, terms_of, validif as guarded};
 ghost use Rattle.fir_types.specs.working.Notes.{Note as Meant};
 ghost use Rattle.fir_ground.specs.declared.ground.Ground.{Ground as GroundOfCode};
 ghost use Rattle.fir_ground.specs.working.Grounds.{Ahead, Expands, types_in};

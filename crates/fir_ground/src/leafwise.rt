@@ -1,9 +1,9 @@
 //! Nodes of forms, leaf by leaf.
 
 ghost use Rattle.std.specs.Prelude.{◌≡◌, ◌<◌, [], ◌∷◌, map, length, IfOk};
-ghost use Rattle.fir_meaning.specs.Leafed.{first_term, muxes};
+ghost use Rattle.fir_meaning.specs.working.Leafed.{first_term, muxes};
 ghost use Rattle.fir_leaf.specs.working.Nodes.{AllBelow, Gives, Shows, node_term};
-ghost use Rattle.fir_meaning.specs.Terms.{validif as guarded};
+ghost use Rattle.fir_meaning.specs.working.Terms.{validif as guarded};
 
 use fir_base::MemoryOut;
 use fir_leaf::{Node, add};

@@ -1,10 +1,10 @@
 //! Nodes for the leaves of a target.
 
 ghost use Rattle.std.specs.Prelude.{◌≡◌, ◌+◌, ◌≤◌, ℕ, IfOk, length};
-ghost use Rattle.fir_meaning.specs.Leafed.{target_terms};
+ghost use Rattle.fir_meaning.specs.working.Leafed.{target_terms};
 ghost use Rattle.fir_leaf.specs.working.Nodes.{Gives, entries, picks_at};
-ghost use Rattle.fir_meaning.specs.Targets.{Target as Meant};
-ghost use Rattle.fir_meaning.specs.Terms.{Picks};
+ghost use Rattle.fir_meaning.specs.working.Targets.{Target as Meant};
+ghost use Rattle.fir_meaning.specs.working.Terms.{Picks};
 ghost use Rattle.fir_type_table.specs.working.Tables.{types_of};
 ghost use Rattle.fir_leaf_pairs.specs.working.TargetNames.{Names, PicksWithin};
 ghost use Rattle.fir_leaf_pairs.specs.working.Reads.{IsWithinCost, reads_from};

@@ -3,7 +3,7 @@
 ghost use Rattle.std.specs.Prelude.{◌≡◌, ◌&&◌, ◌∷◌, List, IfOk, length, map, nat_lt, true};
 ghost use Rattle.fir_ast.specs.Statements.{Sink};
 ghost use Rattle.fir_leaf.specs.working.Nodes.{entries, picks_at};
-ghost use Rattle.fir_meaning.specs.Terms.{Picks, no_picks};
+ghost use Rattle.fir_meaning.specs.working.Terms.{Picks, no_picks};
 ghost use Rattle.fir_meaning.specs.Reaching.{Reached};
 ghost use Rattle.fir_meaning.specs.TypedScopes.{TypedScope};
 ghost use Rattle.fir_meaning.specs.working.WellTyped.{Reaches as ReachesThere};
@@ -12,7 +12,7 @@ ghost use Rattle.fir_types.specs.working.Noted.{pick_seen};
 ghost use Rattle.fir_types.specs.working.Notes.{Note as Meant, reference_note};
 ghost use Rattle.fir_ground.specs.working.Grounds.{Enters, Reaches};
 ghost use Rattle.fir_leaf_pairs.specs.working.TargetNames.{PicksWithin};
-ghost use Rattle.fir_meaning.specs.Leafed.{target_of};
+ghost use Rattle.fir_meaning.specs.working.Leafed.{target_of};
 ghost use Rattle.fir_ground.specs.working.Indices.{AreIndices, Index as IndexMeant, IsChained, IsPicked, base_of, index_seen, indices_in, pick_behind, picks_behind, there_behind};
 
 use crate::ground::Ground;

@@ -4,7 +4,7 @@ ghost use Rattle.std.specs.Prelude.{◌≡◌, ◌++◌, List, IfOk, None, Some}
 ghost use Rattle.fir_ast.specs.Expressions.{Expression};
 ghost use Rattle.fir_ast.specs.Types.{DataType};
 ghost use Rattle.fir_ast.specs.working.Views.{expr_of, sink_of};
-ghost use Rattle.fir_meaning.specs.Leafed.{target_read};
+ghost use Rattle.fir_meaning.specs.working.Leafed.{target_read};
 ghost use Rattle.fir_meaning.specs.Reaching.{Reached};
 ghost use Rattle.fir_meaning.specs.TypedScopes.{TypedScope};
 ghost use Rattle.fir_meaning.specs.working.WellTyped.{HasType, Reaches as ReachesThere};

@@ -3,7 +3,7 @@
 ghost use Rattle.std.specs.Prelude.{◌++◌, List, IfOk};
 ghost use Rattle.fir_ast.specs.Types.{DataType};
 ghost use Rattle.fir_ast.specs.working.Views.{expr_of};
-ghost use Rattle.fir_meaning.specs.Leafed.{target_read, terms};
+ghost use Rattle.fir_meaning.specs.working.Leafed.{target_read, terms};
 ghost use Rattle.fir_meaning.specs.TypedScopes.{TypedScope};
 ghost use Rattle.fir_meaning.specs.working.WellTyped.{HasType};
 ghost use Rattle.fir_types.specs.working.Notes.{Note as Meant, expression_notes};

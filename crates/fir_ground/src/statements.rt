@@ -11,7 +11,7 @@ ghost use Rattle.fir_ast.specs.working.Views.{block_of, expr_of, named_of, reset
 ghost use Rattle.fir_ast.specs.View.{type_of};
 ghost use Rattle.fir_leaf.specs.declared.node.Node.{Node};
 ghost use Rattle.fir_leaf.specs.declared.statement.LeafStmt.{LeafStmt};
-ghost use Rattle.fir_meaning.specs.LeafedBlocks.{instance_block};
+ghost use Rattle.fir_meaning.specs.working.LeafedBlocks.{instance_block};
 ghost use Rattle.fir_leaf.specs.working.NodeBlocks.{Emitted};
 ghost use Rattle.fir_meaning.specs.Components.{Declarations};
 ghost use Rattle.fir_meaning.specs.ResetJoins.{numbered_module};

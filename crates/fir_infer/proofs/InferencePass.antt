@@ -9,7 +9,7 @@ use Rattle.fir_pass.specs.Groups.{group_of, IsClear}
 use Rattle.fir_pass.specs.Law.{IsFirst}
 use Rattle.fir_pass.specs.working.Law.{Keeps}
 use Rattle.fir_meaning.specs.ResetWalks.{ShowsResets}
-use Rattle.fir_meaning.specs.WidthGroups.{IsInferred}
+use Rattle.fir_meaning.specs.working.WidthGroups.{IsInferred}
 use Rattle.fir_meaning.specs.SourceMeaning.{circuit_meaning}
 use Rattle.fir_meaning.specs.working.WidthLaws.{FitsAll}
 use Rattle.fir_meaning.proofs.InferredCircuits.{over_clear, legal_clear}

@@ -6,7 +6,7 @@ ghost use Rattle.fir_pass.specs.Faults.{fault_of};
 ghost use Rattle.fir_pass.specs.working.Law.{IfFault};
 ghost use Rattle.fir_pass.specs.Law.{IsFirst};
 ghost use Rattle.fir_meaning.specs.SourceMeaning.{circuit_meaning};
-ghost use Rattle.fir_meaning.specs.WidthGroups.{IsInferred};
+ghost use Rattle.fir_meaning.specs.working.WidthGroups.{IsInferred};
 ghost use Rattle.fir_reset.specs.working.Inferred.{AreInferred};
 
 use fir_ast::FirFault;

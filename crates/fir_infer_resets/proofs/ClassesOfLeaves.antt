@@ -9,7 +9,7 @@ use Rattle.fir_meaning.specs.Components.{Declaration}
 use Rattle.fir_meaning.specs.Visibility.{declarations}
 use Rattle.fir_meaning.specs.TypedScopes.{Known}
 use Rattle.fir_meaning.specs.ComponentTypes.{instance_bundle, typed_scope}
-use Rattle.fir_meaning.specs.NameGroups.{HasNames}
+use Rattle.fir_meaning.specs.working.NameGroups.{HasNames}
 use Rattle.fir_meaning.specs.TypeGroup.{type_faults}
 use Rattle.fir_meaning.specs.ResetItems.{End, leaf_item}
 use Rattle.fir_reset.specs.working.ElementPaths.{any_element, DifferInElements}

@@ -11,7 +11,7 @@ use Rattle.fir_meaning.specs.LeafPaths.{LeafPath, named}
 use Rattle.fir_meaning.specs.Components.{Component, Declaration, port, wire, register, node, instance, memory}
 use Rattle.fir_meaning.specs.ComponentTypes.{find_module, instance_bundle, instance_type, component_type}
 use Rattle.fir_meaning.specs.Mentions.{module_names}
-use Rattle.fir_meaning.specs.NameGroups.{HasNames}
+use Rattle.fir_meaning.specs.working.NameGroups.{HasNames}
 use Rattle.fir_meaning.specs.TypedScopes.{Known}
 use Rattle.fir_names.specs.working.ModuleOrder.{find_number}
 use Rattle.fir_names.specs.working.Numbered.{component_of, number_of, module_number}

@@ -4,7 +4,7 @@ use Rattle.std.specs.Prelude.{slice_get}
 use Rattle.fir_base.proofs.Elements.{get_in}
 use Rattle.fir_ast.specs.Circuits.{ModuleTree, CircuitTree}
 use Rattle.fir_meaning.specs.LeafPaths.{LeafPath, named}
-use Rattle.fir_meaning.specs.NameGroups.{HasNames}
+use Rattle.fir_meaning.specs.working.NameGroups.{HasNames}
 use Rattle.fir_meaning.specs.Visibility.{declarations}
 use Rattle.fir_meaning.proofs.FoundDeclarations.{once_found}
 use Rattle.fir_meaning.specs.ResetItems.{End, leaf_item}

@@ -9,7 +9,7 @@ use Rattle.fir_ast.specs.Circuits.{ModuleTree, CircuitTree}
 use Rattle.fir_meaning.specs.Components.{Component, port, wire, register, node, instance, memory}
 use Rattle.fir_meaning.specs.TypedScopes.{Known}
 use Rattle.fir_meaning.specs.ComponentTypes.{find_module, instance_bundle, instance_type, component_type}
-use Rattle.fir_meaning.specs.NameGroups.{HasNames}
+use Rattle.fir_meaning.specs.working.NameGroups.{HasNames}
 use Rattle.fir_meaning.specs.ResetItems.{End, leaf_end}
 use Rattle.fir_meaning.specs.ResetJoins.{numbered_module, port_place, joins}
 use Rattle.fir_meaning.specs.ResetWalks.{IsLeafOf}

@@ -14,7 +14,7 @@ use Rattle.fir_meaning.specs.TypeLeaves.{TypeLeaf, type_leaves}
 use Rattle.fir_meaning.specs.Components.{Component, Declaration, port, wire, register, node, instance, memory}
 use Rattle.fir_meaning.specs.Visibility.{declarations}
 use Rattle.fir_meaning.specs.ComponentTypes.{port_fields, instance_bundle}
-use Rattle.fir_meaning.specs.NameGroups.{HasNames}
+use Rattle.fir_meaning.specs.working.NameGroups.{HasNames}
 use Rattle.fir_meaning.proofs.FreshFields.{field_names}
 use Rattle.fir_meaning.specs.ResetItems.{End, leaf_item, leaf_end}
 use Rattle.fir_meaning.specs.ResetJoins.{Join, ResetModule, numbered_module, port_place, instance_joins, joins}

@@ -12,7 +12,7 @@ use Rattle.fir_meaning.specs.Components as component
 use Rattle.fir_meaning.specs.Visibility.{Before, declaration_at, opened, reopened, behind, behind_block, behind_ports, at_head, declarations}
 use Rattle.fir_meaning.specs.Equivalence.{is_connectable, is_partly_connectable}
 use Rattle.fir_meaning.specs.ConnectPairs.{pairs, partial_pairs}
-use Rattle.fir_meaning.specs.NameGroups.{HasNames}
+use Rattle.fir_meaning.specs.working.NameGroups.{HasNames}
 use Rattle.fir_meaning.specs.TypeGroup.{scope_at, type_faults}
 use Rattle.fir_meaning.specs.working.WellTyped.{HasType, ConnectIsLegal, IsLegal, AreLegal}
 use Rattle.fir_meaning.proofs.WellTypedCircuits.{well_typed}

@@ -8,7 +8,7 @@ use Rattle.fir_base.proofs.Elements.{get_behind, get_in}
 use Rattle.fir_base.proofs.Members.{in_right}
 use Rattle.fir_ast.specs.Types.{DataType}
 use Rattle.fir_ast.specs.Circuits.{CircuitTree}
-use Rattle.fir_meaning.specs.NameGroups.{HasNames}
+use Rattle.fir_meaning.specs.working.NameGroups.{HasNames}
 use Rattle.fir_type_table.specs.working.Tables.{types_of}
 use Rattle.fir_types.specs.declared.findings.Findings.{Findings}
 use Rattle.fir_types.specs.working.TypedModules.{IsTyped}

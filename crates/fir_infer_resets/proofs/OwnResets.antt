@@ -6,7 +6,7 @@ use Rattle.fir_base.proofs.Writes.{PushedOr, push_cases}
 use Rattle.fir_ast.specs.declared.place.Place.{Place}
 use Rattle.fir_ast.specs.Circuits.{CircuitTree}
 use Rattle.fir_meaning.specs.LeafPaths.{LeafPath}
-use Rattle.fir_meaning.specs.NameGroups.{HasNames}
+use Rattle.fir_meaning.specs.working.NameGroups.{HasNames}
 use Rattle.fir_meaning.specs.TypeGroup.{type_faults}
 use Rattle.fir_infer_resets.specs.declared.joined.Joined.{Joined}
 use Rattle.fir_meaning.specs.ResetItems.{End}

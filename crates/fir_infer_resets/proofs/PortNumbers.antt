@@ -4,7 +4,7 @@ use Rattle.fir_ast.specs.declared.place.Place.{Place}
 use Rattle.fir_ast.specs.Circuits.{CircuitTree}
 use Rattle.fir_meaning.specs.LeafPaths.{LeafPath, named}
 use Rattle.fir_meaning.specs.Components.{Declaration}
-use Rattle.fir_meaning.specs.NameGroups.{HasNames}
+use Rattle.fir_meaning.specs.working.NameGroups.{HasNames}
 use Rattle.fir_infer_resets.specs.declared.item.Step.{Step}
 use Rattle.fir_meaning.specs.ResetItems.{leaf_item}
 use Rattle.fir_meaning.specs.ResetWalks.{IsLeafOf, Joined as AreJoined}

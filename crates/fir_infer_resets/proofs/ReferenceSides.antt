@@ -9,7 +9,7 @@ use Rattle.fir_ast.specs.Types.{DataType}
 use Rattle.fir_ast.specs.Circuits.{CircuitTree}
 use Rattle.fir_meaning.specs.LeafPaths.{LeafPath}
 use Rattle.fir_meaning.specs.TypeLeaves.{TypeLeaf, type_leaves}
-use Rattle.fir_meaning.specs.NameGroups.{HasNames}
+use Rattle.fir_meaning.specs.working.NameGroups.{HasNames}
 use Rattle.fir_infer_resets.specs.declared.item.Step.{Step}
 use Rattle.fir_infer_resets.specs.declared.root.Access.{Access}
 use Rattle.fir_infer_resets.specs.declared.root.Access.TheVariants as access

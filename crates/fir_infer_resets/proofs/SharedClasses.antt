@@ -13,7 +13,7 @@ use Rattle.fir_meaning.specs.Components.{Declaration, Declarations}
 use Rattle.fir_meaning.specs.Components as component
 use Rattle.fir_meaning.specs.Visibility.{Before, declaration_at, with_declaration, opened, reopened, behind, behind_block, behind_ports, at_head, declarations}
 use Rattle.fir_meaning.specs.ComponentTypes.{instance_bundle}
-use Rattle.fir_meaning.specs.NameGroups.{HasNames}
+use Rattle.fir_meaning.specs.working.NameGroups.{HasNames}
 use Rattle.fir_meaning.specs.TypeGroup.{type_faults}
 use Rattle.fir_meaning.proofs.GrownDeclarations.{grows_block}
 use Rattle.fir_meaning.specs.ResetItems.{End, leaf_item, leaf_end}

@@ -6,7 +6,7 @@ use Rattle.fir_ast.specs.Statements.{PlacedName}
 use Rattle.fir_ast.specs.Circuits.{ModuleTree, CircuitTree}
 use Rattle.fir_meaning.specs.ComponentTypes.{instance_bundle}
 use Rattle.fir_meaning.specs.LeafPaths.{named}
-use Rattle.fir_meaning.specs.NameGroups.{HasNames}
+use Rattle.fir_meaning.specs.working.NameGroups.{HasNames}
 use Rattle.fir_meaning.specs.TypeGroup.{type_faults}
 use Rattle.fir_meaning.specs.TypeLeaves.{TypeLeaf, type_leaves}
 use Rattle.fir_infer_resets.specs.working.FoundKinds.{AllButShared, IsShared}

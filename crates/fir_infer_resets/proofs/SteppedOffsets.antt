@@ -8,7 +8,7 @@ use Rattle.fir_meaning.specs.Reaching.{field_of_type}
 use Rattle.fir_meaning.specs.TypeKinds.{FieldFound, field_named}
 use Rattle.fir_meaning.specs.SharedLeaves.{shared_count}
 use Rattle.fir_type_table.specs.working.Saturated.{saturated}
-use Rattle.fir_meaning.specs.FieldSizes.{shared_before, shared_before_field}
+use Rattle.fir_meaning.specs.working.FieldSizes.{shared_before, shared_before_field}
 use Rattle.fir_types.specs.declared.found.Found.{Found}
 use Rattle.fir_types.specs.declared.found.FieldOf.{FieldOf}
 use Rattle.fir_types.specs.working.Seen.{field_seen, found_type}

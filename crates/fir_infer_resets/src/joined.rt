@@ -4,7 +4,7 @@ ghost use Rattle.std.specs.Prelude.{◌≡◌, ◌<◌, ◌+◌, ◌⊎◌, Some
 ghost use Rattle.fir_ast.specs.declared.place.Place.{Place as MeantPlace};
 ghost use Rattle.fir_ast.specs.Circuits.{CircuitTree};
 ghost use Rattle.fir_ast.specs.working.Views.{circuit_of};
-ghost use Rattle.fir_meaning.specs.NameGroups.{HasNames};
+ghost use Rattle.fir_meaning.specs.working.NameGroups.{HasNames};
 ghost use Rattle.fir_meaning.specs.TypeGroup.{type_faults};
 ghost use Rattle.fir_infer_resets.specs.working.Adding.{AddsEnd, AddsReset};
 ghost use Rattle.fir_reset.specs.working.DeclaredLeaves.{IsNoInstance};

@@ -2,7 +2,7 @@
 
 ghost use Rattle.std.specs.Prelude.{◌≡◌, [], IfOk, List, OnOk, option_map};
 ghost use Rattle.fir_ast.specs.working.Views.{circuit_of, named_of, sink_of};
-ghost use Rattle.fir_meaning.specs.NameGroups.{HasNames};
+ghost use Rattle.fir_meaning.specs.working.NameGroups.{HasNames};
 ghost use Rattle.fir_meaning.specs.TypeGroup.{type_faults};
 ghost use Rattle.fir_infer_resets.specs.working.FirstEnds.{JoinsMet};
 ghost use Rattle.fir_infer_resets.specs.working.FirstPairs.{met_pairs};

@@ -5,7 +5,7 @@ ghost use Rattle.fir_ast.specs.Circuits.{CircuitTree, ModuleTree};
 ghost use Rattle.fir_ast.specs.Types.{DataType, reset};
 ghost use Rattle.fir_ast.specs.working.Views.{circuit_of, named_of, sink_of};
 ghost use Rattle.fir_meaning.specs.Components.{find};
-ghost use Rattle.fir_meaning.specs.NameGroups.{HasNames};
+ghost use Rattle.fir_meaning.specs.working.NameGroups.{HasNames};
 ghost use Rattle.fir_meaning.specs.TypeGroup.{type_faults};
 ghost use Rattle.fir_meaning.specs.Visibility.{declarations};
 ghost use Rattle.fir_names.specs.working.Parts.{part_view};

@@ -10,7 +10,7 @@ use Rattle.fir_base.proofs.Tests.{chosen}
 use Rattle.fir_ast.specs.Circuits.{CircuitTree, ModuleTree}
 use Rattle.fir_ast.specs.Types.{DataType}
 use Rattle.fir_meaning.specs.ComponentTypes.{find_module}
-use Rattle.fir_meaning.specs.NameGroups.{HasNames}
+use Rattle.fir_meaning.specs.working.NameGroups.{HasNames}
 use Rattle.fir_meaning.specs.Visibility.{at_head, behind_ports, declarations}
 use Rattle.fir_meaning.specs.SizedDeclarations.{NumberedModule, first_numbers, numbered_modules}
 use Rattle.fir_meaning.specs.working.WellTyped.{AreLegal, IsWellTyped}

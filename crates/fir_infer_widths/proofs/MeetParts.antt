@@ -10,7 +10,7 @@ use Rattle.fir_meaning.specs.SizedMatches.{Match, matches, field_matches, where_
 use Rattle.fir_type_table.specs.declared.kind.TypeId.{TypeId}
 use Rattle.fir_type_table.specs.declared.entry.Member.{Member}
 use Rattle.fir_type_table.specs.working.Saturated.{saturated}
-use Rattle.fir_meaning.specs.FieldSizes.{shared_before}
+use Rattle.fir_meaning.specs.working.FieldSizes.{shared_before}
 use Rattle.fir_type_table.specs.working.Tables.{type_at, member_fields, shown}
 use Rattle.fir_types.specs.declared.found.Found.TheVariants as found
 use Rattle.fir_types.specs.working.Seen.{found_type}

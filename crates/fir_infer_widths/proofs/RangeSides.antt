@@ -15,7 +15,7 @@ use Rattle.fir_meaning.specs.SizedTypes.{Sized, unsigned, signed, clock_scalar, 
 use Rattle.fir_meaning.specs.SizedScopes.{sized_part}
 use Rattle.fir_meaning.proofs.SizedShapes.{element_bare, field_bare}
 use Rattle.fir_type_table.specs.working.Saturated.{saturated}
-use Rattle.fir_meaning.specs.FieldSizes.{shared_before, shared_before_field}
+use Rattle.fir_meaning.specs.working.FieldSizes.{shared_before, shared_before_field}
 use Rattle.fir_types.specs.working.Notes.{LeafRange, element_range, field_range, picked_range, range_behind}
 use Rattle.fir_types.specs.working.Seen.{found_type}
 use Rattle.fir_width.specs.declared.side.Side.{Side}

@@ -2,7 +2,7 @@
 
 ghost use Rattle.std.specs.Prelude.{◌≡◌, ◌+◌, IfOk, OnOk, Some, slice_get};
 ghost use Rattle.fir_ast.specs.working.Views.{circuit_of, module_of};
-ghost use Rattle.fir_meaning.specs.NameGroups.{HasNames};
+ghost use Rattle.fir_meaning.specs.working.NameGroups.{HasNames};
 ghost use Rattle.fir_type_table.specs.working.Tables.{types_of};
 ghost use Rattle.fir_types.specs.working.TypedModules.{IsTyped};
 ghost use Rattle.fir_infer_widths.specs.working.Circuits.{IsWalked, WalkedSoFar};

@@ -5,7 +5,7 @@ use Rattle.std.proofs.lemmas.Bool.{cases_eq}
 use Rattle.std.proofs.lemmas.List.{length-map}
 use Rattle.fir_base.proofs.Elements.{get_left}
 use Rattle.fir_base.proofs.Writes.{push_end}
-use Rattle.fir_meaning.specs.LeafModules.{LeafType}
+use Rattle.fir_meaning.specs.LeafTypes.{LeafType}
 use Rattle.fir_connect.specs.working.NetTerms.{NetTerm, operation, term}
 use Rattle.fir_net.specs.declared.leaf.Leaf.{Leaf}
 use Rattle.fir_net.specs.declared.node.Node.{Node}

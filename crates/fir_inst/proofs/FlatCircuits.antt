@@ -5,11 +5,13 @@ use Rattle.std.specs.List.{AllByRecursion}
 use Rattle.fir_base.proofs.Each.{all_mapped}
 use Rattle.fir_base.proofs.Elements.{get_in}
 use Rattle.fir_ast.specs.Circuits.{CircuitTree}
-use Rattle.fir_meaning.specs.LeafModules.{LeafDeclared}
+use Rattle.fir_meaning.specs.working.LeafModules.{LeafDeclared}
 use Rattle.fir_meaning.specs.LeafPaths.{path_text}
-use Rattle.fir_meaning.specs.LeafedModules.{Scene, leafed_module, module_leaves}
-use Rattle.fir_meaning.specs.NameGroups.{HasNames}
-use Rattle.fir_meaning.specs.Scenes.{HasScenes, IsSceneOf}
+use Rattle.fir_meaning.specs.ModuleScenes.{Scene}
+use Rattle.fir_meaning.specs.working.LeafedModules.{leafed_module, module_leaves}
+use Rattle.fir_meaning.specs.working.NameGroups.{HasNames}
+use Rattle.fir_meaning.specs.working.Scenes.{HasScenes}
+use Rattle.fir_meaning.specs.Scenes.{IsSceneOf}
 use Rattle.fir_meaning.specs.SizedDeclarations.{numbered_modules}
 use Rattle.fir_meaning.specs.TypeGroup.{type_faults}
 use Rattle.ver_words.specs.Names.{is_word}

@@ -1,12 +1,13 @@
 -- The net of a lone module is a flat net of the circuit of a design of it: leaf by leaf, with the same ports and state.
 use Rattle.std.proofs.Common.{◌≡◌, ℕ, ◌<◌, ◌≤◌, List, [], length, slice_get, true, false, ◌&&◌, Some, refl, sym, ap, ◌∙◌, subst, arith}
 use Rattle.std.proofs.lemmas.Option.{slice_get_within}
-use Rattle.fir_meaning.specs.Flattened.{is_clock, is_input}
-use Rattle.fir_meaning.specs.LeafBlocks.{LeafBlock}
-use Rattle.fir_meaning.specs.LeafCircuits.{LeafCircuit}
-use Rattle.fir_meaning.specs.LeafModules.{LeafDeclared, LeafModule, LeafType, a_clock, depth_at, is_sink, leaf_at, number, role_at}
+use Rattle.fir_meaning.specs.LeafTypes.{is_clock, LeafType, a_clock, number, has_bits}
+use Rattle.fir_meaning.specs.working.Flattened.{is_input}
+use Rattle.fir_meaning.specs.working.LeafBlocks.{LeafBlock}
+use Rattle.fir_meaning.specs.working.LeafCircuits.{LeafCircuit}
+use Rattle.fir_meaning.specs.working.LeafModules.{LeafDeclared, LeafModule, depth_at, is_sink, leaf_at, role_at}
 use Rattle.fir_meaning.specs.LeafPaths.{path_text}
-use Rattle.fir_meaning.specs.StateWalks.{has_bits, is_state, numbers_where}
+use Rattle.fir_meaning.specs.working.StateWalks.{is_state, numbers_where}
 use Rattle.fir_meaning.specs.working.UndrivenLeaves.{AreDriven}
 use Rattle.fir_leaf_types.specs.working.TypedModules.{IsModuleTyped, held_in}
 use Rattle.fir_connect.specs.working.NetRoles.{net_role_at, net_types}

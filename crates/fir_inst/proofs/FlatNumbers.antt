@@ -3,8 +3,8 @@ use Rattle.std.proofs.Common.{◌≡◌, ℕ, zero, suc, ◌+◌, ◌<◌, ◌�
 use Rattle.std.proofs.lemmas.List.{take_all}
 use Rattle.std.proofs.lemmas.List.Concat.{flat_map-append}
 use Rattle.std.proofs.lemmas.Option.{none-some, slice_get_within}
-use Rattle.fir_meaning.specs.LeafModules.{LeafDeclared, leaf_at}
-use Rattle.fir_meaning.specs.StateWalks.{numbers_where}
+use Rattle.fir_meaning.specs.working.LeafModules.{LeafDeclared, leaf_at}
+use Rattle.fir_meaning.specs.working.StateWalks.{numbers_where}
 use Rattle.fir_net.specs.declared.leaf.Leaf.{Leaf}
 use Rattle.fir_net.specs.declared.leaf.Role.{Role}
 use Rattle.fir_net.specs.working.Settled.{numbers_by}

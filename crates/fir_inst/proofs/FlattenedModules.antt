@@ -18,7 +18,8 @@ use Rattle.fir_leaf_circuit.specs.declared.leaf_module.LeafModule.{LeafModule as
 use Rattle.fir_leaf_circuit.specs.working.Seen.{leaf_seen, type_seen, unnamed}
 use Rattle.fir_leaf_types.specs.working.TypedModules.{held_in}
 use Rattle.fir_leaf_types.specs.working.TypedTerms.{IsNarrow}
-use Rattle.fir_meaning.specs.LeafModules.{LeafDeclared, LeafModule, LeafType, Role as LeafRole, a_clock, depth_at, leaf_at, no_leaf, register, role_at}
+use Rattle.fir_meaning.specs.working.LeafModules.{LeafDeclared, LeafModule, Role as LeafRole, depth_at, leaf_at, no_leaf, register, role_at}
+use Rattle.fir_meaning.specs.LeafTypes.{LeafType, a_clock}
 use Rattle.fir_meaning.specs.working.UndrivenChoices.{drives_any}
 use Rattle.fir_meaning.specs.LeafPaths.{path_text}
 use Rattle.fir_connect.specs.working.NetRoles.{net_role, net_role_at, net_types}

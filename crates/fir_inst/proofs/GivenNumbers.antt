@@ -2,9 +2,11 @@
 use Rattle.std.proofs.Common.{◌≡◌, ◌≢◌, ℕ, ◌<◌, List, [], ◌∷◌, Bool, true, false, ◌&&◌, nat_lt, if◌then◌else◌, refl, sym, ap, ◌∙◌, subst, inl, inr, ⊎_elim, eqb, arith, true≢false}
 use Rattle.std.proofs.lemmas.Bool.{lt-ltb}
 use Rattle.std.proofs.lemmas.Bool.Decides.{eqb_tells}
-use Rattle.fir_meaning.specs.Flattened as over
-use Rattle.fir_meaning.specs.LeafModules.{LeafType, Role, a_clock, computed, is_sink, number, register, sink, source}
-use Rattle.fir_meaning.specs.StateWalks.{has_bits, is_state}
+use Rattle.fir_meaning.specs.working.Flattened as over
+use Rattle.fir_meaning.specs.LeafTypes as held
+use Rattle.fir_meaning.specs.LeafTypes.{LeafType, a_clock, number, has_bits}
+use Rattle.fir_meaning.specs.working.LeafModules.{Role, computed, is_sink, register, sink, source}
+use Rattle.fir_meaning.specs.working.StateWalks.{is_state}
 use Rattle.fir_net.specs.declared.leaf.Role as net_leaf
 use Rattle.fir_net.specs.declared.leaf.Role.TheVariants as role
 use Rattle.fir_net.specs.declared.reads.Read.{Read}
@@ -40,7 +42,7 @@ module _ (x : net_leaf.Role) (w k : ℕ) where
   input_given (number t) (register clock reset) is e = ap (λ y. input_number y w k) is.1
   input_given h r is e = absurd is
 
-  pub clock_given : (h : LeafType) (r : Role) → IsShaped x h r → clock_number x w k ≡ given (over.is_input r && over.is_clock h) k
+  pub clock_given : (h : LeafType) (r : Role) → IsShaped x h r → clock_number x w k ≡ given (over.is_input r && held.is_clock h) k
   clock_given (number t) source is = ap (λ y. clock_number y w k) is
   clock_given a_clock source is = ap (λ y. clock_number y w k) is
   clock_given (number t) sink is = driven_none (λ y. clock_number y w k) x is.0 is.1 refl refl

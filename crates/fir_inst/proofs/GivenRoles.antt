@@ -6,9 +6,10 @@ use Rattle.fir_leaf_circuit.specs.declared.leaf.LeafType.{LeafType as TypeOfCode
 use Rattle.fir_leaf_circuit.specs.declared.leaf.LeafType.TheVariants.{Clock, Number}
 use Rattle.fir_leaf_circuit.specs.working.Seen.{type_seen}
 use Rattle.fir_leaf_types.specs.working.TypedModules.{held_in}
-use Rattle.fir_meaning.specs.LeafBlocks.{LeafBlock}
-use Rattle.fir_meaning.specs.LeafModules.{LeafModule, LeafReset, Role, a_clock, computed, pipe, reading, register, sink, source}
-use Rattle.fir_meaning.specs.Terms.{Term}
+use Rattle.fir_meaning.specs.working.LeafBlocks.{LeafBlock}
+use Rattle.fir_meaning.specs.working.LeafModules.{LeafModule, LeafReset, Role, computed, pipe, reading, register, sink, source}
+use Rattle.fir_meaning.specs.LeafTypes.{a_clock}
+use Rattle.fir_meaning.specs.working.Terms.{Term}
 use Rattle.fir_connect.specs.working.Lowered.{lowered, one_bit}
 use Rattle.fir_connect.specs.working.NetRoles.{NetReset as ResetMeant, NetRole as RoleMeant, net_reset, net_role, net_types}
 use Rattle.fir_connect.specs.working.NetRoles as meant

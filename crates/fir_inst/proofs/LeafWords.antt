@@ -6,9 +6,9 @@ use Rattle.fir_base.proofs.Each.{all_at, all_from}
 use Rattle.fir_base.proofs.Elements.{all_there, get_in}
 use Rattle.fir_ast.specs.Types.{DataType}
 use Rattle.fir_meaning.specs.Components.{Declarations}
-use Rattle.fir_meaning.specs.LeafMemories.{leaves_of_data}
-use Rattle.fir_meaning.specs.LeafModules.{LeafDeclared}
-use Rattle.fir_meaning.specs.LeafedModules.{module_leaves}
+use Rattle.fir_meaning.specs.FoundTypes.{leaves_of_data}
+use Rattle.fir_meaning.specs.working.LeafModules.{LeafDeclared}
+use Rattle.fir_meaning.specs.working.LeafedModules.{module_leaves}
 use Rattle.fir_meaning.specs.SizedDeclarations.{numbered_modules}
 use Rattle.fir_meaning.specs.TypedScopes.{TypedScope}
 use Rattle.fir_meaning.specs.ComponentTypes.{typed_scope}

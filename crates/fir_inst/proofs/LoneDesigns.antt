@@ -5,15 +5,17 @@ use Rattle.std.proofs.lemmas.Option.{slice_get_within}
 use Rattle.fir_base.proofs.Elements.{get_in}
 use Rattle.fir_ast.specs.Circuits.{CircuitTree}
 use Rattle.fir_meaning.specs.Components.{Declaration}
-use Rattle.fir_meaning.specs.Designs.{Design, IsDesignOf, Item, drive, when, instance, Items, done, then, block_of, made_of, statement_of}
-use Rattle.fir_meaning.specs.Flattened.{flattened, is_clock, is_input, ports_where}
-use Rattle.fir_meaning.specs.LeafCircuits.{LeafCircuit}
-use Rattle.fir_meaning.specs.LeafModules.{LeafDeclared, LeafModule, is_sink, leaf_at, no_leaf}
-use Rattle.fir_meaning.specs.LeafedModules.{Scene, leafed_module, module_leaves}
-use Rattle.fir_meaning.specs.NameGroups.{HasNames}
+use Rattle.fir_meaning.specs.working.Designs.{Design, IsDesignOf, Item, drive, when, instance, Items, done, then, block_of, made_of, statement_of}
+use Rattle.fir_meaning.specs.working.Flattened.{flattened, is_input, ports_where}
+use Rattle.fir_meaning.specs.LeafTypes.{is_clock, has_bits}
+use Rattle.fir_meaning.specs.working.LeafCircuits.{LeafCircuit}
+use Rattle.fir_meaning.specs.working.LeafModules.{LeafDeclared, LeafModule, is_sink, leaf_at, no_leaf}
+use Rattle.fir_meaning.specs.ModuleScenes.{Scene}
+use Rattle.fir_meaning.specs.working.LeafedModules.{leafed_module, module_leaves}
+use Rattle.fir_meaning.specs.working.NameGroups.{HasNames}
 use Rattle.fir_meaning.specs.Scenes.{IsSceneOf}
 use Rattle.fir_meaning.specs.SizedDeclarations.{numbered_modules}
-use Rattle.fir_meaning.specs.StateWalks.{has_bits, is_state, numbers_where}
+use Rattle.fir_meaning.specs.working.StateWalks.{is_state, numbers_where}
 use Rattle.fir_meaning.specs.TypeGroup.{type_faults}
 use Rattle.fir_meaning.specs.Visibility.{declarations}
 use Rattle.fir_leaf.specs.working.TableLaws.{LeavesFollowTypes}

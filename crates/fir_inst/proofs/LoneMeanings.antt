@@ -2,13 +2,16 @@
 use Rattle.std.proofs.Common.{◌≡◌, ℕ, List, [], length, sym, ap, ◌∙◌}
 use Rattle.std.proofs.lemmas.List.{length-map}
 use Rattle.fir_ast.specs.Circuits.{CircuitTree}
-use Rattle.fir_meaning.specs.Designs.{Design, IsDesignOf}
-use Rattle.fir_meaning.specs.Elaborated.{HasMain, IsSourceOf, views}
-use Rattle.fir_meaning.specs.Flattened.{flattened}
-use Rattle.fir_meaning.specs.LeafModules.{LeafModule}
-use Rattle.fir_meaning.specs.LeafedModules.{Scene, leafed_module}
-use Rattle.fir_meaning.specs.NameGroups.{HasNames}
-use Rattle.fir_meaning.specs.Scenes.{HasScenes, IsSceneOf}
+use Rattle.fir_meaning.specs.working.Designs.{Design, IsDesignOf}
+use Rattle.fir_meaning.specs.Elaborated.{HasMain, IsSourceOf}
+use Rattle.fir_meaning.specs.working.Elaborated.{views}
+use Rattle.fir_meaning.specs.working.Flattened.{flattened}
+use Rattle.fir_meaning.specs.working.LeafModules.{LeafModule}
+use Rattle.fir_meaning.specs.ModuleScenes.{Scene}
+use Rattle.fir_meaning.specs.working.LeafedModules.{leafed_module}
+use Rattle.fir_meaning.specs.working.NameGroups.{HasNames}
+use Rattle.fir_meaning.specs.working.Scenes.{HasScenes}
+use Rattle.fir_meaning.specs.Scenes.{IsSceneOf}
 use Rattle.fir_meaning.specs.SourceCircuits.{PlacedLeaf, main_ports, port_leaves}
 use Rattle.fir_meaning.specs.SourceDesigns.{IsSourceDesignOf, SourceDesign, made_of}
 use Rattle.fir_meaning.specs.SourceRoles.{SourceLeaf}

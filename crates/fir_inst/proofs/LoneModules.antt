@@ -4,12 +4,14 @@ use Rattle.fir_base.proofs.Elements.{get_in}
 use Rattle.fir_ast.specs.declared.fault.FirFault.{FirFault}
 use Rattle.fir_ast.specs.Circuits.{CircuitTree}
 use Rattle.fir_pass.specs.Groups.{IsClear}
-use Rattle.fir_meaning.specs.Elaborated.{HasMain, IsSourceOf, views}
-use Rattle.fir_meaning.specs.Flattened.{flattened}
-use Rattle.fir_meaning.specs.LeafBlocks.{LeafBlock, LeafStatement, done, drive, instance, then, when}
-use Rattle.fir_meaning.specs.LeafCircuits.{LeafCircuit}
-use Rattle.fir_meaning.specs.LeafModules.{leaf_at}
-use Rattle.fir_meaning.specs.LeafedModules.{Scene, leafed_module}
+use Rattle.fir_meaning.specs.Elaborated.{HasMain, IsSourceOf}
+use Rattle.fir_meaning.specs.working.Elaborated.{views}
+use Rattle.fir_meaning.specs.working.Flattened.{flattened}
+use Rattle.fir_meaning.specs.working.LeafBlocks.{LeafBlock, LeafStatement, done, drive, instance, then, when}
+use Rattle.fir_meaning.specs.working.LeafCircuits.{LeafCircuit}
+use Rattle.fir_meaning.specs.working.LeafModules.{leaf_at}
+use Rattle.fir_meaning.specs.ModuleScenes.{Scene}
+use Rattle.fir_meaning.specs.working.LeafedModules.{leafed_module}
 use Rattle.fir_meaning.specs.SizedDeclarations.{numbered_modules}
 use Rattle.fir_meaning.specs.SourceDesigns.{SourceDesign}
 use Rattle.fir_meaning.specs.SourceLoops.{ShowsLoop, loop_group}
@@ -45,8 +47,8 @@ mutual
   none_held k done h = refl
   none_held k ((then) s b) h = ap₂ (λ xs ys. xs ++ ys) (none_in k s h.0) (none_held k b h.1)
 
-module _ (laws : LawsBelow) (trees : HasOneTree) (taking : SameRegistersTakeValues) (by_path : SameLoneLoops) (same_loops : ShowsTheSameLoops) (hidden : HidesNoLoop) 
-    (c : CircuitTree) 
+module _ (laws : LawsBelow) (trees : HasOneTree) (taking : SameRegistersTakeValues) (by_path : SameLoneLoops) (same_loops : ShowsTheSameLoops) (hidden : HidesNoLoop)
+    (c : CircuitTree)
     (order : List ℕ) (net : FlatNet) (given : IsGiven c order net) where
   -- the net is whole
   whole_by : (scenes : List Scene) (main : Scene) → HasMain c scenes main → IsNet net

@@ -9,10 +9,12 @@ use Rattle.fir_ast.specs.Circuits.{CircuitTree, ModuleTree}
 use Rattle.fir_ast.specs.Statements.{PlacedName}
 use Rattle.fir_meaning.specs.Components.{find_name}
 use Rattle.fir_meaning.specs.Elaborated.{HasMain}
-use Rattle.fir_meaning.specs.LeafedModules.{Scene}
-use Rattle.fir_meaning.specs.NameGroups.{HasNames, absent_faults, no_module}
+use Rattle.fir_meaning.specs.ModuleScenes.{Scene}
+use Rattle.fir_meaning.specs.working.NameGroups.{HasNames}
+use Rattle.fir_meaning.specs.NameGroups.{absent_faults, no_module}
 use Rattle.fir_meaning.specs.ResetJoins.{numbered_module}
-use Rattle.fir_meaning.specs.Scenes.{HasScenes, IsSceneOf}
+use Rattle.fir_meaning.specs.working.Scenes.{HasScenes}
+use Rattle.fir_meaning.specs.Scenes.{IsSceneOf}
 use Rattle.fir_meaning.specs.SourceDesigns.{scene_where}
 use Rattle.fir_design.proofs.AllScenes.{all_scenes, scene_at}
 

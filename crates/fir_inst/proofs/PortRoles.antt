@@ -10,9 +10,11 @@ use Rattle.fir_ast.specs.Circuits.{PortTree}
 use Rattle.fir_ast.specs.declared.place.Place.{Place}
 use Rattle.fir_meaning.specs.Components as component
 use Rattle.fir_meaning.specs.Flows.{flow_under, is_source, port_flow}
-use Rattle.fir_meaning.specs.LeafModules.{LeafDeclared, LeafType, leaf_at, no_leaf, role_at, sink, source}
-use Rattle.fir_meaning.specs.LeafedModules.{Declared, Scene, held_by_declared, leafed_module, leaves_from, leaves_in_block, behind_all_ports, leaves_of_ports, port_role, type_of_declared}
-use Rattle.fir_meaning.specs.LeafMemories.{leaves_of_data}
+use Rattle.fir_meaning.specs.working.LeafModules.{LeafDeclared, leaf_at, no_leaf, role_at, sink, source}
+use Rattle.fir_meaning.specs.LeafTypes.{LeafType}
+use Rattle.fir_meaning.specs.ModuleScenes.{Declared, Scene, held_by_declared, behind_all_ports, type_of_declared}
+use Rattle.fir_meaning.specs.working.LeafedModules.{leafed_module, leaves_from, leaves_in_block, leaves_of_ports, port_role}
+use Rattle.fir_meaning.specs.FoundTypes.{leaves_of_data}
 use Rattle.fir_meaning.specs.TypeLeaves.{TypeLeaf}
 use Rattle.fir_meaning.specs.Visibility.{Before, at_head, with_declaration}
 use Rattle.fir_inst.specs.working.LoneCircuits.{IsPortRole}

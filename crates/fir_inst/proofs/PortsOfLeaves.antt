@@ -5,8 +5,9 @@ use Rattle.fir_bits.specs.declared.types.NumTy.{NumTy}
 use Rattle.fir_leaf_circuit.specs.declared.leaf.LeafType.{LeafType as TypeOfCode}
 use Rattle.fir_leaf_circuit.specs.declared.leaf.LeafType.TheVariants.{Clock, Number}
 use Rattle.fir_leaf_circuit.specs.working.Seen.{type_seen}
-use Rattle.fir_meaning.specs.LeafBlocks.{LeafBlock}
-use Rattle.fir_meaning.specs.LeafModules.{LeafModule, LeafReset, Role as LeafRole, a_clock, computed, register, sink, source}
+use Rattle.fir_meaning.specs.working.LeafBlocks.{LeafBlock}
+use Rattle.fir_meaning.specs.working.LeafModules.{LeafModule, LeafReset, Role as LeafRole, computed, register, sink, source}
+use Rattle.fir_meaning.specs.LeafTypes.{a_clock}
 use Rattle.fir_connect.specs.working.NetRoles.{NetRole as RoleMeant, net_reset, net_role, net_types}
 use Rattle.fir_connect.specs.working.NetRoles as meant
 use Rattle.fir_connect.specs.working.NetTerms.{NetTerm}

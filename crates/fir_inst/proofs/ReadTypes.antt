@@ -4,8 +4,8 @@ use Rattle.std.specs.Prelude.{Option}
 use Rattle.fir_base.proofs.Elements.{all_there, there}
 use Rattle.fir_bits.specs.Forms.{no_type}
 use Rattle.fir_bits.specs.declared.types.NumTy.{NumTy}
-use Rattle.fir_meaning.specs.LeafModules.{LeafType, a_clock, number, number_type}
-use Rattle.fir_meaning.specs.TermValues.{Holds}
+use Rattle.fir_meaning.specs.LeafTypes.{LeafType, a_clock, number, number_type}
+use Rattle.fir_meaning.specs.working.TermValues.{Holds}
 use Rattle.fir_net.specs.declared.leaf.Leaf.{Leaf}
 use Rattle.fir_net.specs.declared.node.Node.{Node}
 use Rattle.fir_net.specs.declared.node.Node.TheVariants as node

@@ -8,8 +8,9 @@ use Rattle.fir_meaning.specs.Components as component
 use Rattle.fir_meaning.specs.Components.{Component}
 use Rattle.fir_meaning.specs.TypeLeaves.{TypeLeaf}
 use Rattle.fir_meaning.specs.Visibility.{Before, at_head, behind, behind_block, declaration_at, opened, reopened, with_declaration}
-use Rattle.fir_meaning.specs.LeafModules.{LeafDeclared, Role, leaf_at}
-use Rattle.fir_meaning.specs.LeafedModules.{Scene, behind_all_ports, declared_leaves, leaves_in, leaves_in_block, leaves_of_ports, module_leaves}
+use Rattle.fir_meaning.specs.working.LeafModules.{LeafDeclared, Role, leaf_at}
+use Rattle.fir_meaning.specs.ModuleScenes.{Scene, behind_all_ports}
+use Rattle.fir_meaning.specs.working.LeafedModules.{declared_leaves, leaves_in, leaves_in_block, leaves_of_ports, module_leaves}
 use Rattle.fir_design.proofs.InstanceStatements.{longer_block, longer_statement}
 use Rattle.fir_design.proofs.LeafRuns.{block_run, one_declares, ports_run, statement_run}
 

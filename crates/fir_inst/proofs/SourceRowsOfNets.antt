@@ -6,16 +6,16 @@ use Rattle.fir_base.proofs.Elements.{get_left}
 use Rattle.fir_base.proofs.Members.{in_left, map_same}
 use Rattle.fir_base.specs.declared.direction.Direction.TheVariants as direction
 use Rattle.fir_bits.specs.declared.types.NumTy.{NumTy}
-use Rattle.fir_meaning.specs.LeafCircuits.{LeafCircuit, role_of, type_of_leaf}
-use Rattle.fir_meaning.specs.LeafModules.{LeafType, Role, a_clock, computed, leaf_at, number, number_type, register, sink, source}
+use Rattle.fir_meaning.specs.working.LeafCircuits.{LeafCircuit, role_of, type_of_leaf}
+use Rattle.fir_meaning.specs.LeafTypes.{LeafType, a_clock, number, number_type, has_bits}
+use Rattle.fir_meaning.specs.working.LeafModules.{Role, computed, leaf_at, register, sink, source}
 use Rattle.fir_meaning.specs.LeafPaths.{LeafPath, path_text}
-use Rattle.fir_meaning.specs.LeafStates as over
+use Rattle.fir_meaning.specs.working.LeafStates as over
 use Rattle.fir_meaning.specs.SourceCircuits.{PlacedLeaf, all_arrays, all_leaves, is_sink, leaf_path, leaves_of_design, main_ports, ports_where, state_arrays, state_words}
 use Rattle.fir_meaning.specs.SourceDesigns.{SourceDesign}
 use Rattle.fir_meaning.specs.SourceRoles as tree
 use Rattle.fir_meaning.specs.SourceRoles.{SourceRole}
 use Rattle.fir_meaning.specs.SourceValues.{source_holds}
-use Rattle.fir_meaning.specs.StateWalks.{has_bits}
 use Rattle.fir_leaf.specs.working.SoundDesigns.{circuit_path}
 use Rattle.fir_design.proofs.InStep.{InStep, SameRoleBelow}
 use Rattle.fir_design.proofs.LeavesInStep.{holds_there, types_are}

@@ -1,6 +1,7 @@
 -- Which registers of the flat net of a lone module take a value, and that their clocks are inputs.
 use Rattle.std.proofs.Common.{◌≡◌, ℕ, map, true, Some, slice_get, ap, ◌∙◌, inl, inr}
-use Rattle.fir_meaning.specs.LeafModules.{LeafModule, LeafType, Role, a_clock, computed, number, register, role_at, sink, source}
+use Rattle.fir_meaning.specs.working.LeafModules.{LeafModule, Role, computed, register, role_at, sink, source}
+use Rattle.fir_meaning.specs.LeafTypes.{LeafType, a_clock, number}
 use Rattle.fir_leaf_types.specs.working.TypedModules.{held_in}
 use Rattle.fir_net.specs.declared.leaf.Role as net_leaf
 use Rattle.fir_net.specs.declared.leaf.Role.TheVariants as role

@@ -17,7 +17,7 @@ use Rattle.fir_bits.specs.declared.operators.PrimOp.{PrimOp}
 use Rattle.fir_bits.specs.declared.types.NumTy.{NumTy}
 use Rattle.fir_bits.specs.declared.values.Num.{Num}
 use Rattle.fir_bits.proofs.Typing.{typed-outcome}
-use Rattle.fir_meaning.specs.LeafModules.{LeafType, number, number_type}
+use Rattle.fir_meaning.specs.LeafTypes.{LeafType, number, number_type}
 use Rattle.fir_connect.specs.working.LoweredLaws.{types_of}
 use Rattle.fir_connect.specs.working.NetTerms.{NetTerm, leaf, term_type, term_types}
 use Rattle.fir_net.specs.declared.leaf.Leaf.{Leaf}

@@ -2,7 +2,7 @@
 -- array is named by its path, and the leaves of a port stand in the order of its type; a flipped leaf of an output is an input. What has no bits has no row.
 use Rattle.std.specs.Prelude.{ℕ, List, [], flat_map, map}
 use Rattle.fir_base.specs.declared.direction.Direction.TheVariants as direction
-use Rattle.fir_meaning.specs.LeafModules.{LeafType, a_clock, number, number_type}
+use Rattle.fir_meaning.specs.LeafTypes.{LeafType, a_clock, number, number_type}
 use Rattle.fir_meaning.specs.LeafPaths.{path_text}
 use Rattle.fir_meaning.specs.SourceCircuits.{PlacedArray, PlacedLeaf, array_path, leaf_path, main_ports, state_arrays, state_words}
 use Rattle.fir_meaning.specs.SourceDesigns.{SourceDesign}

@@ -4,12 +4,14 @@ use Rattle.std.proofs.lemmas.Option.{none-some}
 use Rattle.fir_ast.specs.Circuits.{CircuitTree}
 use Rattle.fir_ast.specs.Expressions.{Expression, reference, literal, operation, mux, validif, no_parts, subfield, subindex, subaccess}
 use Rattle.fir_ast.specs.Statements.{Statement, wire, register, node, instance, memory, when, connect, partial_connect, invalid, skip, Block, done, then}
-use Rattle.fir_meaning.specs.LeafedModules.{Scene, leafed_module}
-use Rattle.fir_meaning.specs.LeafModules.{LeafModule, LeafReset, LeafType, Role, a_clock, number, computed, pipe, reading, register as register_role, role_at, sink, source}
-use Rattle.fir_meaning.specs.NameGroups.{HasNames}
+use Rattle.fir_meaning.specs.ModuleScenes.{Scene}
+use Rattle.fir_meaning.specs.working.LeafedModules.{leafed_module}
+use Rattle.fir_meaning.specs.working.LeafModules.{LeafModule, LeafReset, Role, computed, pipe, reading, register as register_role, role_at, sink, source}
+use Rattle.fir_meaning.specs.LeafTypes.{LeafType, a_clock, number}
+use Rattle.fir_meaning.specs.working.NameGroups.{HasNames}
 use Rattle.fir_meaning.specs.Scenes.{IsSceneOf}
 use Rattle.fir_meaning.specs.SourceClocks.{picking_places}
-use Rattle.fir_meaning.specs.Terms.{Term}
+use Rattle.fir_meaning.specs.working.Terms.{Term}
 use Rattle.fir_meaning.specs.TypeGroup.{type_faults}
 use Rattle.fir_inst.specs.working.LoneCircuits.{IsLone, IsLoneModule, IsPlainRole}
 use Rattle.fir_leaf_types.specs.working.TypedModules.{held_in}
@@ -47,9 +49,10 @@ module _ (s : Scene) where
 
     block_plain : (b : Block) → lacking_block s b ≡ None → ArePlain b
     block_plain done none = tt
-    block_plain ((then) x rest) none =
-        (statement_plain x (none_first (lacking_statement s x) (lacking_block s rest) none),
-        block_plain rest (none_second (lacking_statement s x) (lacking_block s rest) none))
+    block_plain ((then) x rest) none = (
+      statement_plain x (none_first (lacking_statement s x) (lacking_block s rest) none),
+      block_plain rest (none_second (lacking_statement s x) (lacking_block s rest) none),
+    )
 
 -- the roles of a lone module
 module _ (m : LeafModule) (lone : IsLoneModule m) where

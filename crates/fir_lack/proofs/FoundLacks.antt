@@ -6,11 +6,12 @@ use Rattle.fir_ast.specs.Circuits.{CircuitTree, ModuleTree}
 use Rattle.fir_leaf_circuit.specs.declared.leaf_module.LeafModule.{LeafModule}
 use Rattle.fir_leaf_circuit.specs.working.Leafed.{AreLeafed}
 use Rattle.fir_leaf_circuit.specs.working.Seen.{HasView, unnamed}
-use Rattle.fir_meaning.specs.Flattened.{is_clock}
-use Rattle.fir_meaning.specs.LeafedModules.{Scene, leafed_module, module_leaves}
-use Rattle.fir_meaning.specs.LeafModules.{LeafDeclared}
-use Rattle.fir_meaning.specs.NameGroups.{HasNames}
-use Rattle.fir_meaning.specs.Scenes.{HasScenes}
+use Rattle.fir_meaning.specs.LeafTypes.{is_clock}
+use Rattle.fir_meaning.specs.ModuleScenes.{Scene}
+use Rattle.fir_meaning.specs.working.LeafedModules.{leafed_module, module_leaves}
+use Rattle.fir_meaning.specs.working.LeafModules.{LeafDeclared}
+use Rattle.fir_meaning.specs.working.NameGroups.{HasNames}
+use Rattle.fir_meaning.specs.working.Scenes.{HasScenes}
 use Rattle.fir_meaning.specs.SizedDeclarations.{NumberedModule, Numbering, first_numbers, modules_from}
 use Rattle.fir_meaning.specs.TypeGroup.{type_faults}
 use Rattle.fir_meaning.specs.working.WidthLaws.{FitsAll}

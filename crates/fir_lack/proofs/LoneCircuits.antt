@@ -7,10 +7,12 @@ use Rattle.fir_base.proofs.Members.{in_either, in_left, in_right}
 use Rattle.fir_ast.specs.Circuits.{CircuitTree, ModuleTree}
 use Rattle.fir_ast.specs.Statements.{PlacedName}
 use Rattle.fir_meaning.specs.Components.{find_name}
-use Rattle.fir_meaning.specs.LeafedModules.{Scene, behind_all_ports, driven_leaves, leafed_module, leaves_in_block, leaves_of_ports, module_leaves}
-use Rattle.fir_meaning.specs.LeafModules.{LeafDeclared, leaf_at, no_leaf}
+use Rattle.fir_meaning.specs.ModuleScenes.{Scene, behind_all_ports}
+use Rattle.fir_meaning.specs.working.LeafedModules.{driven_leaves, leafed_module, leaves_in_block, leaves_of_ports, module_leaves}
+use Rattle.fir_meaning.specs.working.LeafModules.{LeafDeclared, leaf_at, no_leaf}
 use Rattle.fir_meaning.specs.LegalFaults.{legal_faults}
-use Rattle.fir_meaning.specs.NameGroups.{HasNames, absent_faults, no_module}
+use Rattle.fir_meaning.specs.working.NameGroups.{HasNames}
+use Rattle.fir_meaning.specs.NameGroups.{absent_faults, no_module}
 use Rattle.fir_meaning.specs.OverFaults.{over_faults}
 use Rattle.fir_meaning.specs.Scenes.{IsSceneOf}
 use Rattle.fir_meaning.specs.Visibility.{at_head}

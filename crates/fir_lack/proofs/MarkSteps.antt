@@ -5,8 +5,9 @@ use Rattle.std.proofs.Math.Bool.{or-false}
 use Rattle.fir_leaf.specs.declared.node.Node.{Node}
 use Rattle.fir_leaf_circuit.specs.declared.leaf.Leaf.{Leaf}
 use Rattle.fir_leaf_circuit.specs.working.Seen.{leaf_seen, leaves_seen}
-use Rattle.fir_meaning.specs.LeafModules.{LeafDeclared}
-use Rattle.fir_meaning.specs.LeafedModules.{Scene, module_leaves}
+use Rattle.fir_meaning.specs.working.LeafModules.{LeafDeclared}
+use Rattle.fir_meaning.specs.ModuleScenes.{Scene}
+use Rattle.fir_meaning.specs.working.LeafedModules.{module_leaves}
 use Rattle.fir_lack.specs.declared.marks.Mark.{Mark}
 use Rattle.fir_lack.specs.working.Marked.{AreMarks, MarksAll, MarksAlso, both_marks, mark_at, mark_of}
 

@@ -1,8 +1,9 @@
 -- Statements that lack nothing declare no memories, and so no arrays.
 use Rattle.std.proofs.Common.{◌≡◌, ℕ, ◌+◌, List, [], ◌++◌, None, refl}
 use Rattle.fir_ast.specs.Statements.{Statement, wire, register, node, instance, memory, when, connect, partial_connect, invalid, skip, Block, done, then}
-use Rattle.fir_meaning.specs.LeafModules.{LeafArray}
-use Rattle.fir_meaning.specs.LeafedModules.{Scene, arrays_in, arrays_in_block}
+use Rattle.fir_meaning.specs.working.LeafModules.{LeafArray}
+use Rattle.fir_meaning.specs.ModuleScenes.{Scene}
+use Rattle.fir_meaning.specs.working.LeafedModules.{arrays_in, arrays_in_block}
 use Rattle.fir_meaning.specs.Visibility.{Before, opened, reopened, behind, behind_block}
 use Rattle.fir_lack.specs.working.NumberedLacks.{declares, declares_in, lacking_block, lacking_statement}
 use Rattle.fir_lack.proofs.LackParts.{none_first, none_second}

@@ -2,12 +2,13 @@
 use Rattle.std.proofs.Common.{◌≡◌, ℕ, zero, suc, ◌+◌, ◌<◌, List, [], ◌∷◌, length, map, Option, Some, None, refl, arith}
 use Rattle.fir_ast.specs.Types.{DataType}
 use Rattle.fir_ast.specs.Expressions.{Expression, reference, literal, operation, mux, validif, no_parts, subfield, subindex, subaccess}
-use Rattle.fir_meaning.specs.Leafed.{first_term, leaf_terms, muxes, target_terms, terms}
-use Rattle.fir_meaning.specs.LeafModules.{LeafDeclared, LeafModule, a_clock, leaf_at}
+use Rattle.fir_meaning.specs.working.Leafed.{first_term, leaf_terms, muxes, target_terms, terms}
+use Rattle.fir_meaning.specs.working.LeafModules.{LeafDeclared, LeafModule, leaf_at}
+use Rattle.fir_meaning.specs.LeafTypes.{a_clock}
 use Rattle.fir_meaning.specs.ResetJoins.{type_of_known}
-use Rattle.fir_meaning.specs.Targets.{leaves_ahead, whole_target}
-use Rattle.fir_meaning.specs.Terms.{Term, no_picks, read}
-use Rattle.fir_meaning.specs.Terms as over
+use Rattle.fir_meaning.specs.working.Targets.{leaves_ahead, whole_target}
+use Rattle.fir_meaning.specs.working.Terms.{Term, no_picks, read}
+use Rattle.fir_meaning.specs.working.Terms as over
 use Rattle.fir_meaning.specs.TypedScopes.{TypedScope, known}
 use Rattle.fir_meaning.specs.TypeLeaves.{TypeLeaf, type_leaves}
 use Rattle.fir_inst.specs.working.LoneCircuits.{IsPlainClock}

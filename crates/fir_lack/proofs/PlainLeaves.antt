@@ -10,13 +10,14 @@ use Rattle.fir_ast.specs.Types.{DataType}
 use Rattle.fir_ast.specs.Statements.{PlacedName, Reset, Statement, wire, register, node, instance, memory, when, connect, partial_connect, invalid, skip, Block, done, then}
 use Rattle.fir_meaning.specs.Components as component
 use Rattle.fir_meaning.specs.Components.{Component}
-use Rattle.fir_meaning.specs.Flattened.{is_clock}
-use Rattle.fir_meaning.specs.Leafed.{first_term, terms}
-use Rattle.fir_meaning.specs.LeafedBlocks.{term_at}
-use Rattle.fir_meaning.specs.LeafedModules.{Declared, Scene, leaf_reset, leafed_module, leaves_in, leaves_in_block, leaves_of_ports, module_leaves, own_leaves, port_role, register_role, scope_before}
-use Rattle.fir_meaning.specs.LeafModules.{LeafDeclared, LeafModule, LeafReset, Role, computed, sink, source}
-use Rattle.fir_meaning.specs.LeafModules as role
-use Rattle.fir_meaning.specs.Terms.{Term}
+use Rattle.fir_meaning.specs.LeafTypes.{is_clock}
+use Rattle.fir_meaning.specs.working.Leafed.{first_term, terms}
+use Rattle.fir_meaning.specs.working.LeafedBlocks.{term_at}
+use Rattle.fir_meaning.specs.ModuleScenes.{Declared, Scene, scope_before}
+use Rattle.fir_meaning.specs.working.LeafedModules.{leaf_reset, leafed_module, leaves_in, leaves_in_block, leaves_of_ports, module_leaves, own_leaves, port_role, register_role}
+use Rattle.fir_meaning.specs.working.LeafModules.{LeafDeclared, LeafModule, LeafReset, Role, computed, sink, source}
+use Rattle.fir_meaning.specs.working.LeafModules as role
+use Rattle.fir_meaning.specs.working.Terms.{Term}
 use Rattle.fir_meaning.specs.TypeLeaves.{TypeLeaf, type_leaves}
 use Rattle.fir_meaning.specs.Visibility.{Before, opened, reopened, with_declaration, behind, behind_block}
 use Rattle.fir_inst.specs.working.LoneCircuits.{ActsAtEdges, IsPlainRole}

@@ -5,11 +5,11 @@ use Rattle.fir_base.specs.declared.direction.Direction.{Direction}
 use Rattle.fir_base.specs.declared.direction.Direction.TheVariants as direction
 use Rattle.fir_bits.specs.declared.types.NumTy.{NumTy}
 use Rattle.fir_ast.specs.Types.{DataType, uint, sint, clock, reset, async_reset, bundle, vector}
-use Rattle.fir_meaning.specs.Flattened.{is_clock}
+use Rattle.fir_meaning.specs.LeafTypes.{is_clock, LeafType, a_clock, number}
 use Rattle.fir_meaning.specs.Flows.{flow_under, is_source, port_flow}
-use Rattle.fir_meaning.specs.LeafedModules.{port_role}
-use Rattle.fir_meaning.specs.LeafModules.{LeafModule, LeafReset, LeafType, Role, a_clock, computed, number, pipe, reading, register, sink, source}
-use Rattle.fir_meaning.specs.Terms.{Term}
+use Rattle.fir_meaning.specs.working.LeafedModules.{port_role}
+use Rattle.fir_meaning.specs.working.LeafModules.{LeafModule, LeafReset, Role, computed, pipe, reading, register, sink, source}
+use Rattle.fir_meaning.specs.working.Terms.{Term}
 use Rattle.fir_meaning.specs.TypeLeaves.{TypeLeaf, type_leaves}
 use Rattle.fir_inst.specs.working.LoneCircuits.{ActsAtEdges, IsPlainClock, IsPlainRole}
 use Rattle.fir_lack.specs.Lacking.{is_clock_input}

@@ -4,14 +4,15 @@ use Rattle.fir_ast.specs.declared.place.Place.{Place}
 use Rattle.fir_ast.specs.Circuits.{ModuleTree}
 use Rattle.fir_ast.specs.Statements.{Statement, wire, register, node, instance, memory, when, connect, partial_connect, invalid, skip, Block, done, then}
 use Rattle.fir_meaning.specs.ExpressionTypes.{expression_type}
-use Rattle.fir_meaning.specs.LeafBlocks as over
-use Rattle.fir_meaning.specs.LeafBlocks.{LeafBlock, joined}
-use Rattle.fir_meaning.specs.Leafed.{target_of}
-use Rattle.fir_meaning.specs.LeafedBlocks.{Sides, alone, driven, driven_from, driven_where, invalid_leaf, invalid_leaves, leafed, leafed_all, pair_block, pairs_block, sides, term_at, type_where}
-use Rattle.fir_meaning.specs.LeafedModules.{Scene}
-use Rattle.fir_meaning.specs.LeafPairs.{LeafPair, leaf_pairs, partial_leaf_pairs}
-use Rattle.fir_meaning.specs.Targets.{Target}
-use Rattle.fir_meaning.specs.Terms.{Term, zeros}
+use Rattle.fir_meaning.specs.working.LeafBlocks as over
+use Rattle.fir_meaning.specs.working.LeafBlocks.{LeafBlock, joined}
+use Rattle.fir_meaning.specs.working.Leafed.{target_of}
+use Rattle.fir_meaning.specs.working.LeafedBlocks.{Sides, alone, driven, driven_from, driven_where, invalid_leaf, invalid_leaves, leafed, leafed_all, pair_block, pairs_block, sides, term_at}
+use Rattle.fir_meaning.specs.FoundTypes.{type_where}
+use Rattle.fir_meaning.specs.ModuleScenes.{Scene}
+use Rattle.fir_meaning.specs.working.LeafPairs.{LeafPair, leaf_pairs, partial_leaf_pairs}
+use Rattle.fir_meaning.specs.working.Targets.{Target}
+use Rattle.fir_meaning.specs.working.Terms.{Term, zeros}
 use Rattle.fir_meaning.specs.TypeGroup.{scope_at}
 use Rattle.fir_meaning.specs.TypeLeaves.{leaf_count}
 use Rattle.fir_meaning.specs.Visibility.{Before, opened, reopened, behind, behind_block}

@@ -6,7 +6,7 @@ use Rattle.fir_ast.specs.Circuits.{PortTree}
 use Rattle.fir_ast.specs.Statements.{Statement}
 use Rattle.fir_ast.specs.working.Views.{block_of}
 use Rattle.fir_meaning.specs.Lack.{Lack}
-use Rattle.fir_meaning.specs.LeafedModules.{Scene}
+use Rattle.fir_meaning.specs.ModuleScenes.{Scene}
 use Rattle.fir_names.proofs.FirstMentions.{views_left}
 use Rattle.fir_lack.specs.declared.lack.Lack.{Lack as LackOfCode}
 use Rattle.fir_lack.specs.declared.walk.Walk.{Walk}

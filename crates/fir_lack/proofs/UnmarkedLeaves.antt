@@ -8,9 +8,11 @@ use Rattle.fir_ast.specs.Circuits.{PortTree}
 use Rattle.fir_ast.specs.Statements.{PlacedName, Statement, wire, register, node, instance, memory, when, connect, partial_connect, invalid, skip, Block, done, then}
 use Rattle.fir_meaning.specs.Components as component
 use Rattle.fir_meaning.specs.Components.{Component}
-use Rattle.fir_meaning.specs.LeafedModules.{Declared, Scene, declared_leaves, held_by_declared, leaves_from, type_of_declared}
-use Rattle.fir_meaning.specs.LeafMemories.{leaves_of_data}
-use Rattle.fir_meaning.specs.LeafModules.{LeafDeclared, LeafType, Role}
+use Rattle.fir_meaning.specs.ModuleScenes.{Declared, Scene, held_by_declared, type_of_declared}
+use Rattle.fir_meaning.specs.working.LeafedModules.{declared_leaves, leaves_from}
+use Rattle.fir_meaning.specs.FoundTypes.{leaves_of_data}
+use Rattle.fir_meaning.specs.working.LeafModules.{LeafDeclared, Role}
+use Rattle.fir_meaning.specs.LeafTypes.{LeafType}
 use Rattle.fir_meaning.specs.TypeLeaves.{TypeLeaf}
 use Rattle.fir_meaning.specs.Visibility.{Before, behind, behind_block, behind_ports, declaration_at, opened, reopened, with_declaration}
 use Rattle.fir_lack.specs.working.NumberedLacks.{declares, declares_in, some_leaf}

@@ -12,10 +12,10 @@ use Rattle.fir_ast.specs.Types.{DataType, uint, sint, clock, reset, async_reset,
 use Rattle.fir_ast.specs.Expressions.{Expression, reference, Parts, no_parts}
 use Rattle.fir_ast.specs.Statements.{Reset, Statement, wire, register, node, instance, memory, when, Block, done, then}
 use Rattle.fir_ast.specs.Circuits.{PortTree, ModuleTree, CircuitTree}
-use Rattle.fir_meaning.specs.Flattened.{is_clock}
+use Rattle.fir_meaning.specs.LeafTypes.{is_clock}
 use Rattle.fir_meaning.specs.Lack.{Lack, lack}
 use Rattle.fir_meaning.specs.LeafPaths.{LeafPath, named}
-use Rattle.fir_meaning.specs.LeafedModules.{Scene}
+use Rattle.fir_meaning.specs.ModuleScenes.{Scene}
 use Rattle.fir_meaning.specs.SourceRoles.{SourceLeaf, SourceReset, SourceRole, source_leaves}
 use Rattle.fir_meaning.specs.SourceRoles as role
 

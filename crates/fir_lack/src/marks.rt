@@ -3,7 +3,7 @@
 ghost use Rattle.std.specs.Prelude.{◌≡◌, IfOk, List, OnOk};
 ghost use Rattle.fir_leaf.specs.declared.node.Node.{Node};
 ghost use Rattle.fir_leaf_circuit.specs.working.Seen.{role_seen, type_seen};
-ghost use Rattle.fir_meaning.specs.Flattened.{is_clock};
+ghost use Rattle.fir_meaning.specs.LeafTypes.{is_clock};
 ghost use Rattle.fir_lack.specs.working.NumberedLacks.{is_reset_at_once};
 ghost use Rattle.fir_lack.specs.working.Marked.{MarksAll, MarksAlso};
 

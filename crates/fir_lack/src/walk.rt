@@ -1,7 +1,8 @@
 //! How far the walk over the declarations of a module has come.
 
 ghost use Rattle.std.specs.Prelude.{◌≡◌, ◌+◌, ℕ};
-ghost use Rattle.fir_meaning.specs.LeafedModules.{Scene, module_leaves};
+ghost use Rattle.fir_meaning.specs.ModuleScenes.{Scene};
+ghost use Rattle.fir_meaning.specs.working.LeafedModules.{module_leaves};
 ghost use Rattle.fir_lack.specs.working.Marked.{AreMarks, mark_of};
 
 use crate::marks::{Mark, UNMARKED};

@@ -17,15 +17,16 @@ use Rattle.fir_meaning.specs.TypeGroup.{scope_at}
 use Rattle.fir_meaning.specs.ResetJoins.{numbered_module}
 use Rattle.fir_meaning.specs.working.WellTyped.{HasType, ConnectIsLegal, IsLegal, AreLegal}
 use Rattle.fir_meaning.proofs.FoundTypes.{found_type}
-use Rattle.fir_meaning.specs.Terms.{Term, zeros}
-use Rattle.fir_meaning.specs.LeafBlocks.{LeafBlock, joined}
-use Rattle.fir_meaning.specs.LeafBlocks as over
-use Rattle.fir_meaning.specs.LeafPairs.{LeafPair, leaf_pairs, partial_leaf_pairs}
-use Rattle.fir_meaning.specs.Leafed.{target_of, target_read}
-use Rattle.fir_meaning.specs.LeafedBlocks.{alone, driven, driven_from, driven_where, term_at, Sides, pair_block, pairs_block, invalid_leaf, invalid_leaves, type_where, sides, instance_block, connect_block, leafed, leafed_all}
+use Rattle.fir_meaning.specs.working.Terms.{Term, zeros}
+use Rattle.fir_meaning.specs.working.LeafBlocks.{LeafBlock, joined}
+use Rattle.fir_meaning.specs.working.LeafBlocks as over
+use Rattle.fir_meaning.specs.working.LeafPairs.{LeafPair, leaf_pairs, partial_leaf_pairs}
+use Rattle.fir_meaning.specs.working.Leafed.{target_of, target_read}
+use Rattle.fir_meaning.specs.working.LeafedBlocks.{alone, driven, driven_from, driven_where, term_at, Sides, pair_block, pairs_block, invalid_leaf, invalid_leaves, sides, instance_block, connect_block, leafed, leafed_all}
+use Rattle.fir_meaning.specs.FoundTypes.{type_where}
 use Rattle.fir_leaf.specs.working.LeafNumbers.{TermWithin, BlockWithin}
 use Rattle.fir_leaf.specs.working.LeafLaws.{known_paths, scope_paths, Begins}
-use Rattle.fir_meaning.specs.Targets.{Target, leaves_so_far}
+use Rattle.fir_meaning.specs.working.Targets.{Target, leaves_so_far}
 use Rattle.fir_leaf.proofs.LeafPlaces.{leaves_counted}
 use Rattle.fir_leaf.proofs.NamedPlaces.{known_counted, paths_joined}
 use Rattle.fir_leaf.proofs.PairsByNumber.{IsPair, ArePairs, pairs_numbered, partial_numbered}

@@ -16,13 +16,14 @@ use Rattle.fir_meaning.specs.TypeGroup.{scope_at}
 use Rattle.fir_meaning.specs.ResetJoins.{numbered_module}
 use Rattle.fir_meaning.specs.working.WellTyped.{HasType, ConnectIsLegal, IsLegal, AreLegal}
 use Rattle.fir_meaning.proofs.FoundTypes.{found_type}
-use Rattle.fir_meaning.specs.TermValues.{eval, is_true}
-use Rattle.fir_meaning.specs.LeafBlocks.{LeafStore}
-use Rattle.fir_meaning.specs.LeafPairs.{LeafPair, leaf_pairs, partial_leaf_pairs}
-use Rattle.fir_meaning.specs.Leafed.{first_term, terms, target_of, target_read}
-use Rattle.fir_meaning.specs.LeafedBlocks.{type_where, sides, instance_block, connect_block, leafed, leafed_all}
+use Rattle.fir_meaning.specs.working.TermValues.{eval, is_true}
+use Rattle.fir_meaning.specs.working.LeafBlocks.{LeafStore}
+use Rattle.fir_meaning.specs.working.LeafPairs.{LeafPair, leaf_pairs, partial_leaf_pairs}
+use Rattle.fir_meaning.specs.working.Leafed.{first_term, terms, target_of, target_read}
+use Rattle.fir_meaning.specs.FoundTypes.{type_where}
+use Rattle.fir_meaning.specs.working.LeafedBlocks.{sides, instance_block, connect_block, leafed, leafed_all}
 use Rattle.fir_meaning.specs.TreeValues.{ValuesByPath, value, aim_of, aim_read, aim_value}
-use Rattle.fir_meaning.specs.TreeStores.{PathStore, LeafFacts, exec_connect, is_taken, exec_tree, exec_tree_all}
+use Rattle.fir_meaning.specs.working.TreeStores.{PathStore, LeafFacts, exec_connect, is_taken, exec_tree, exec_tree_all}
 use Rattle.fir_leaf.specs.working.LeafLaws.{Begins, numbered, IsFine, IsSameStore, SameStores}
 use Rattle.fir_leaf.proofs.PairsByNumber.{IsPair, ArePairs, pairs_numbered, partial_numbered}
 use Rattle.fir_leaf.proofs.PairStores.{run, run_joined, NameSame, nothing_named, standing_named, pairs_same}

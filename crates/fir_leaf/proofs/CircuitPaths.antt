@@ -6,14 +6,15 @@ use Rattle.fir_bits.specs.declared.types.NumTy.{NumTy}
 use Rattle.fir_base.specs.Lists.{In}
 use Rattle.fir_base.proofs.Members.{in_either, in_map_from}
 use Rattle.fir_meaning.specs.LeafPaths.{LeafPath, named}
-use Rattle.fir_meaning.specs.TermValues.{Env, clock_at, clock_of, value_at}
-use Rattle.fir_meaning.specs.LeafBlocks.{exec_all, nothing_stored}
-use Rattle.fir_meaning.specs.LeafModules.{LeafDeclared, leaf_at, no_leaf, number_type}
-use Rattle.fir_meaning.specs.LeafCircuits.{depth_of, type_of_leaf}
+use Rattle.fir_meaning.specs.working.TermValues.{Env, clock_at, clock_of, value_at}
+use Rattle.fir_meaning.specs.working.LeafBlocks.{exec_all, nothing_stored}
+use Rattle.fir_meaning.specs.working.LeafModules.{LeafDeclared, leaf_at, no_leaf}
+use Rattle.fir_meaning.specs.LeafTypes.{number_type}
+use Rattle.fir_meaning.specs.working.LeafCircuits.{depth_of, type_of_leaf}
 use Rattle.fir_leaf.specs.working.ChoiceLaws.{fitted_at}
-use Rattle.fir_meaning.specs.TreeStores.{same_path}
-use Rattle.fir_meaning.specs.Designs.{Design, made_of}
-use Rattle.fir_meaning.specs.Flattened.{flattened}
+use Rattle.fir_meaning.specs.SamePaths.{same_path}
+use Rattle.fir_meaning.specs.working.Designs.{Design, made_of}
+use Rattle.fir_meaning.specs.working.Flattened.{flattened}
 use Rattle.fir_leaf.specs.working.SoundDesigns.{IsMain}
 use Rattle.fir_leaf.specs.working.NamedDesigns.{IsBehind, IsNamed, paths_of}
 use Rattle.fir_leaf.specs.working.DesignLaws.{numbered}

@@ -9,12 +9,12 @@ use Rattle.fir_ast.specs.declared.fault.FirFault.TheVariants.{Clock, Loop, Memor
 use Rattle.fir_bits.specs.Literals.{least_width}
 use Rattle.fir_meaning.specs.Lack.{is_before}
 use Rattle.fir_meaning.specs.LeafPaths.{element, named, path_text}
-use Rattle.fir_meaning.specs.LeafModules.{LeafModule}
-use Rattle.fir_meaning.specs.TermReads.{multiples}
+use Rattle.fir_meaning.specs.working.LeafModules.{LeafModule}
+use Rattle.fir_meaning.specs.working.TermReads.{multiples}
 use Rattle.fir_meaning.proofs.SmallTrees.{at}
 use Rattle.fir_leaf.specs.working.ClockRoots.{HasRoot}
 use Rattle.fir_leaf.specs.working.ClockFaults.{ShowsClockFault, ShowsPickedClock, ShowsTwoLive}
-use Rattle.fir_meaning.specs.Designs.{elaborated, module_of}
+use Rattle.fir_meaning.specs.working.Designs.{elaborated, module_of}
 use Rattle.fir_meaning.specs.working.LoopFaults.{ShowsLoop}
 use Rattle.fir_leaf.specs.working.MemoryClockFaults.{HasClock, ShowsMemoryClocks}
 use Rattle.fir_leaf.specs.working.ModuleCircuits.{module_circuit}

@@ -1,7 +1,7 @@
 -- Chains of clocks that come back never end, and what has a root ends.
 use Rattle.std.proofs.Common.{◌≡◌, ℕ, zero, suc, ◌≤◌, List, [], ◌∷◌, ◌++◌, length, length-append, Option, Some, None, refl, ap, subst, arith, inl, inr}
-use Rattle.fir_meaning.specs.Terms.{no_picks, read}
-use Rattle.fir_meaning.specs.LeafCircuits.{LeafCircuit, role_of}
+use Rattle.fir_meaning.specs.working.Terms.{no_picks, read}
+use Rattle.fir_meaning.specs.working.LeafCircuits.{LeafCircuit, role_of}
 use Rattle.fir_leaf.specs.working.ClockRoots.{Follows, HasRoot, IsChain, IsEnd, NeverEnds}
 use Rattle.fir_leaf.specs.working.RunLaws.{OneRootOf, RingNeverEnds, RootBefore}
 use Rattle.fir_leaf.proofs.RootClocks.{gives_once, has_one_root, stops}

@@ -1,12 +1,12 @@
 -- Worked runs over leaves, computed from a text: two clocks, of which one goes out through a wire.
 use Rattle.std.proofs.Common.{◌≡◌, ℕ, List, [], ◌∷◌, Some, None, arith, refl}
 use Rattle.fir_base.specs.Ticks.{Tick, TickResult}
-use Rattle.fir_meaning.specs.TermValues.{Env}
-use Rattle.fir_meaning.specs.TermReads.{multiples}
-use Rattle.fir_meaning.specs.Designs.{elaborated}
-use Rattle.fir_meaning.specs.Memories.{addresses}
-use Rattle.fir_meaning.specs.LeafSettled.{Settled}
-use Rattle.fir_meaning.specs.LeafAllows.{Run}
+use Rattle.fir_meaning.specs.working.TermValues.{Env}
+use Rattle.fir_meaning.specs.working.TermReads.{multiples}
+use Rattle.fir_meaning.specs.working.Designs.{elaborated}
+use Rattle.fir_meaning.specs.MemoryWords.{addresses}
+use Rattle.fir_meaning.specs.working.LeafSettled.{Settled}
+use Rattle.fir_meaning.specs.working.LeafAllows.{Run}
 use Rattle.fir_leaf.specs.working.ClockRoots.{HasRoot}
 use Rattle.fir_leaf.proofs.TextTrees as text
 use Rattle.fir_leaf.proofs.RowTrees.{over_leaves}

@@ -3,10 +3,11 @@ use Rattle.std.proofs.Common.{◌≡◌, ℕ, List, [], ◌∷◌, ◌++◌, fla
 use Rattle.fir_base.specs.Lists.{In}
 use Rattle.fir_ast.specs.declared.place.Place.{Place}
 use Rattle.fir_ast.specs.declared.fault.FirFault.{FirFault}
-use Rattle.fir_meaning.specs.Terms.{Term, absent, literal, mux, no_picks, operation, pick, read, validif, zeros}
-use Rattle.fir_meaning.specs.Choices.{Live, last_all}
-use Rattle.fir_meaning.specs.LeafModules.{Role, a_clock, computed, leaf_at, pipe, reading, register, sink, source}
-use Rattle.fir_meaning.specs.LeafCircuits.{LeafCircuit, depth_of, role_of}
+use Rattle.fir_meaning.specs.working.Terms.{Term, absent, literal, mux, no_picks, operation, pick, read, validif, zeros}
+use Rattle.fir_meaning.specs.working.Choices.{Live, last_all}
+use Rattle.fir_meaning.specs.working.LeafModules.{Role, computed, leaf_at, pipe, reading, register, sink, source}
+use Rattle.fir_meaning.specs.LeafTypes.{a_clock}
+use Rattle.fir_meaning.specs.working.LeafCircuits.{LeafCircuit, depth_of, role_of}
 use Rattle.fir_leaf.specs.working.ClockRoots.{GivesClock, IsClockLeaf, lives_of}
 use Rattle.fir_leaf.specs.working.ClockFaults.{ShowsClockFault, clock_places, index_places, live_places, picking_places}
 use Rattle.fir_leaf.specs.working.FaultLaws.{FaultlessHasStep, HasStep, IsClockTerm, IsGiven, IsPlainClock}

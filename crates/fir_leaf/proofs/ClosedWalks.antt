@@ -4,11 +4,11 @@ use Rattle.fir_base.specs.Lists.{In, Distinct}
 use Rattle.fir_base.proofs.Members.{in_right}
 use Rattle.fir_base.proofs.Twins.{apart, distinct_left}
 use Rattle.fir_ast.specs.declared.fault.FirFault.{FirFault}
-use Rattle.fir_meaning.specs.Terms.{Term, no_picks, read}
-use Rattle.fir_meaning.specs.TermReads.{picks_read, reads}
-use Rattle.fir_meaning.specs.Choices.{Live}
-use Rattle.fir_meaning.specs.LeafModules.{Role, computed, pipe, reading, register, sink, source}
-use Rattle.fir_meaning.specs.LeafCircuits.{LeafCircuit, depth_of, role_of}
+use Rattle.fir_meaning.specs.working.Terms.{Term, no_picks, read}
+use Rattle.fir_meaning.specs.working.TermReads.{picks_read, reads}
+use Rattle.fir_meaning.specs.working.Choices.{Live}
+use Rattle.fir_meaning.specs.working.LeafModules.{Role, computed, pipe, reading, register, sink, source}
+use Rattle.fir_meaning.specs.working.LeafCircuits.{LeafCircuit, depth_of, role_of}
 use Rattle.fir_leaf.specs.working.ClockRoots.{GivesClock}
 use Rattle.fir_meaning.specs.working.Dependence.{RoleDepends}
 use Rattle.fir_meaning.specs.working.CircuitDependence.{IsWalk}

@@ -1,7 +1,7 @@
 -- Worked circuits of several modules, computed from their texts to what their leaf circuits store.
 use Rattle.std.proofs.Common.{◌≡◌, [], ◌∷◌, Some, None, refl}
 use Rattle.std.specs.Prelude.{codes}
-use Rattle.fir_meaning.specs.Designs.{elaborated}
+use Rattle.fir_meaning.specs.working.Designs.{elaborated}
 use Rattle.fir_leaf.proofs.TextTrees as text
 use Rattle.fir_leaf.proofs.RowTrees.{over_leaves, paths_of, stores}
 

@@ -16,8 +16,9 @@ use Rattle.fir_meaning.specs.LeafPaths.{Step, named, element}
 use Rattle.fir_meaning.specs.TypeLeaves.{turned, TypeLeaf, under, element_leaves, type_leaves, field_leaves, leaf_count, field_count}
 use Rattle.fir_meaning.specs.TypeKinds.{is_passive, are_passive}
 use Rattle.fir_meaning.specs.MemoryTypes.{mask_type, mask_fields, reader_type, writer_type, readwriter_type, flipped_fields, port_fields_of}
-use Rattle.fir_meaning.specs.LeafModules.{Need, Reading, Role, sink, source, reading, pipe}
-use Rattle.fir_meaning.specs.LeafMemories.{PortKind, reads, writes, reads_and_writes, port_kinds_of, LeafMemory, enable, mode, port_size, read_role, read_roles, sinks, port_roles, roles_from}
+use Rattle.fir_meaning.specs.working.LeafModules.{Need, Reading, Role, sink, source, reading, pipe}
+use Rattle.fir_meaning.specs.MemoryPorts.{PortKind, reads, writes, reads_and_writes}
+use Rattle.fir_meaning.specs.working.LeafMemories.{port_kinds_of, LeafMemory, enable, mode, port_size, read_role, read_roles, sinks, port_roles, roles_from}
 
 abbrev pub flips : List TypeLeaf → List Bool
 flips = map (λ (l : TypeLeaf). l.flip)

@@ -1,9 +1,9 @@
 -- Which designs a module has.
 use Rattle.std.proofs.Common.{◌≡◌, ℕ, zero, suc, ◌<◌, List, refl, sym, ap, ◌∙◌, arith}
-use Rattle.fir_meaning.specs.LeafBlocks.{LeafBlock, LeafStatement}
-use Rattle.fir_meaning.specs.LeafBlocks as over
-use Rattle.fir_meaning.specs.LeafModules.{LeafModule}
-use Rattle.fir_meaning.specs.Designs.{Item, drive, when, instance, Items, done, then, Design, made_of, statement_of, block_of, module_of, IsItemIn, AreItemsIn, IsDesignOf, item_with, items_with, elaborated, EachInstance, AllInstances, IsRanked}
+use Rattle.fir_meaning.specs.working.LeafBlocks.{LeafBlock, LeafStatement}
+use Rattle.fir_meaning.specs.working.LeafBlocks as over
+use Rattle.fir_meaning.specs.working.LeafModules.{LeafModule}
+use Rattle.fir_meaning.specs.working.Designs.{Item, drive, when, instance, Items, done, then, Design, made_of, statement_of, block_of, module_of, IsItemIn, AreItemsIn, IsDesignOf, item_with, items_with, elaborated, EachInstance, AllInstances, IsRanked}
 
 -- with what stands for the modules taken away, the statements are as before
 mutual

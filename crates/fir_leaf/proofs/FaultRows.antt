@@ -10,12 +10,12 @@ use Rattle.fir_ast.specs.declared.fault.FirFault.{FirFault}
 use Rattle.fir_ast.specs.declared.fault.FirFault.TheVariants.{AsyncInit, Clock, Loop}
 use Rattle.fir_bits.specs.Literals.{least_width}
 use Rattle.fir_meaning.specs.Lack.{is_before}
-use Rattle.fir_meaning.specs.TermReads.{multiples}
-use Rattle.fir_meaning.specs.Choices.{Live, live_reads}
+use Rattle.fir_meaning.specs.working.TermReads.{multiples}
+use Rattle.fir_meaning.specs.working.Choices.{Live, live_reads}
 use Rattle.fir_meaning.proofs.SmallTrees.{at}
 use Rattle.fir_meaning.specs.working.CircuitDependence.{CircuitDepends, IsWalk}
 use Rattle.fir_leaf.specs.working.ClockFaults.{ShowsClockFault}
-use Rattle.fir_meaning.specs.Designs.{elaborated}
+use Rattle.fir_meaning.specs.working.Designs.{elaborated}
 use Rattle.fir_leaf.specs.working.InitFaults.{ShowsAsyncInit}
 use Rattle.fir_meaning.specs.working.LoopFaults.{ShowsLoop}
 use Rattle.fir_leaf.proofs.NamedTests.{are_distinct, distinct_by_test}

@@ -3,13 +3,13 @@ use Rattle.std.proofs.Common.{◌≡◌, ℕ, ◌+◌, ◌<◌, List, [], ◌++�
 use Rattle.std.specs.Prelude.{nat_eq}
 use Rattle.std.proofs.lemmas.List.{length-map, get_or-map, map-append}
 use Rattle.fir_meaning.specs.LeafPaths.{LeafPath}
-use Rattle.fir_meaning.specs.LeafModules.{LeafArray, LeafModule}
-use Rattle.fir_meaning.specs.Designs.{Item, drive, when, instance, Items, done, then, Design, made_of}
-use Rattle.fir_meaning.specs.DesignPaths.{instance_path}
-use Rattle.fir_meaning.specs.Numberings.{Numbering, number, numbering}
-use Rattle.fir_meaning.specs.FlatDesigns.{inner_leaves, count, count_all, array_count, array_count_all, array_count_below}
-use Rattle.fir_meaning.specs.FlatLeaves.{placed_array, arrays_in, all_arrays_in, arrays_below}
-use Rattle.fir_meaning.specs.StateWalks.{all_array_order_in, array_order_below, array_order_in, own_arrays}
+use Rattle.fir_meaning.specs.working.LeafModules.{LeafArray, LeafModule}
+use Rattle.fir_meaning.specs.working.Designs.{Item, drive, when, instance, Items, done, then, Design, made_of}
+use Rattle.fir_meaning.specs.working.DesignPaths.{instance_path}
+use Rattle.fir_meaning.specs.working.Numberings.{Numbering, number, numbering}
+use Rattle.fir_meaning.specs.working.FlatDesigns.{inner_leaves, count, count_all, array_count, array_count_all, array_count_below}
+use Rattle.fir_meaning.specs.working.FlatLeaves.{placed_array, arrays_in, all_arrays_in, arrays_below}
+use Rattle.fir_meaning.specs.working.StateWalks.{all_array_order_in, array_order_below, array_order_in, own_arrays}
 use Rattle.fir_leaf.specs.working.DesignStates.{all_array_paths_in, array_at, array_paths_below, array_paths_in, no_array}
 use Rattle.fir_leaf.specs.working.DesignLaws.{SameArrays}
 use Rattle.fir_leaf.proofs.FlatPlaces.{At, at_get, at_left, at_right}

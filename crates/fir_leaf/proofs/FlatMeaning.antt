@@ -3,19 +3,20 @@ use Rattle.std.proofs.Common.{◌≡◌, ℕ, ◌+◌, ◌<◌, ◌≤◌, List,
 use Rattle.std.proofs.lemmas.List.{length-take, get_or-take, get_or_append_left}
 use Rattle.fir_meaning.specs.LeafPaths.{LeafPath}
 use Rattle.fir_meaning.specs.Values.{fit}
-use Rattle.fir_meaning.specs.Terms.{Term}
-use Rattle.fir_meaning.specs.TermValues.{clock_of, eval}
-use Rattle.fir_meaning.specs.LeafBlocks.{nothing_stored}
-use Rattle.fir_meaning.specs.LeafModules.{LeafDeclared, LeafModule, leaf_at, no_leaf}
+use Rattle.fir_meaning.specs.working.Terms.{Term}
+use Rattle.fir_meaning.specs.working.TermValues.{clock_of, eval}
+use Rattle.fir_meaning.specs.working.LeafBlocks.{nothing_stored}
+use Rattle.fir_meaning.specs.working.LeafModules.{LeafDeclared, LeafModule, leaf_at, no_leaf}
 use Rattle.fir_leaf.specs.working.ChoiceLaws.{fitted_at}
 use Rattle.fir_meaning.specs.TreeValues.{TypesByPath, ValuesByPath}
-use Rattle.fir_meaning.specs.Designs.{Items, made_of}
-use Rattle.fir_meaning.specs.DesignPaths.{seen}
-use Rattle.fir_meaning.specs.DesignStores.{clock_given, nothing_kept, number_given}
-use Rattle.fir_meaning.specs.Numberings.{Numbering, moved, number, numbering}
-use Rattle.fir_meaning.specs.FlatDesigns.{inner_leaves}
-use Rattle.fir_meaning.specs.FlatLeaves.{all_leaves_in, leaves_below}
-use Rattle.fir_meaning.specs.Flattened.{port_leaves}
+use Rattle.fir_meaning.specs.working.Designs.{Items, made_of}
+use Rattle.fir_meaning.specs.working.DesignPaths.{seen}
+use Rattle.fir_meaning.specs.working.DesignStores.{clock_given, number_given}
+use Rattle.fir_meaning.specs.PathStores.{nothing_kept}
+use Rattle.fir_meaning.specs.working.Numberings.{Numbering, moved, number, numbering}
+use Rattle.fir_meaning.specs.working.FlatDesigns.{inner_leaves}
+use Rattle.fir_meaning.specs.working.FlatLeaves.{all_leaves_in, leaves_below}
+use Rattle.fir_meaning.specs.working.Flattened.{port_leaves}
 use Rattle.fir_leaf.specs.working.SoundDesigns.{IsTermIn}
 use Rattle.fir_leaf.specs.working.DesignLaws.{SameDesignClocks, SameDesignStores}
 use Rattle.fir_leaf.proofs.MovedTerms.{Stands, clock_same, eval_same, in_table}

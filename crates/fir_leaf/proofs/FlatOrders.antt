@@ -4,14 +4,14 @@ use Rattle.std.specs.Prelude.{nat_eq, if◌then◌else◌}
 use Rattle.std.specs.List.{range_with_len}
 use Rattle.std.proofs.lemmas.List.{map-append}
 use Rattle.fir_meaning.specs.LeafPaths.{LeafPath}
-use Rattle.fir_meaning.specs.LeafBlocks.{HeldInstance}
-use Rattle.fir_meaning.specs.LeafModules.{LeafDeclared, LeafModule, leaf_at}
-use Rattle.fir_meaning.specs.Designs.{Item, drive, when, instance, Items, done, then, Design, made_of}
-use Rattle.fir_meaning.specs.DesignPaths.{instance_path, leaf_path}
-use Rattle.fir_meaning.specs.Numberings.{Numbering, number, numbering}
-use Rattle.fir_meaning.specs.FlatDesigns.{inner_leaves, count, count_all, array_count, array_count_all}
-use Rattle.fir_meaning.specs.FlatLeaves.{leaves_in, all_leaves_in, leaves_below}
-use Rattle.fir_meaning.specs.StateWalks.{all_words_in, numbers_where, own_words, walk, words_below, words_in}
+use Rattle.fir_meaning.specs.working.LeafBlocks.{HeldInstance}
+use Rattle.fir_meaning.specs.working.LeafModules.{LeafDeclared, LeafModule, leaf_at}
+use Rattle.fir_meaning.specs.working.Designs.{Item, drive, when, instance, Items, done, then, Design, made_of}
+use Rattle.fir_meaning.specs.working.DesignPaths.{instance_path, leaf_path}
+use Rattle.fir_meaning.specs.working.Numberings.{Numbering, number, numbering}
+use Rattle.fir_meaning.specs.working.FlatDesigns.{inner_leaves, count, count_all, array_count, array_count_all}
+use Rattle.fir_meaning.specs.working.FlatLeaves.{leaves_in, all_leaves_in, leaves_below}
+use Rattle.fir_meaning.specs.working.StateWalks.{all_words_in, numbers_where, own_words, walk, words_below, words_in}
 use Rattle.fir_leaf.specs.working.DesignStates.{all_word_paths_in, word_paths_below, word_paths_in}
 use Rattle.fir_leaf.specs.working.SoundDesigns.{IsWired, AreWired, IsInstance}
 use Rattle.fir_leaf.specs.working.DesignLaws.{SameWords}

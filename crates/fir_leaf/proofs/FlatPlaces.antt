@@ -4,13 +4,13 @@ use Rattle.std.specs.Prelude.{nat_lt}
 use Rattle.std.proofs.lemmas.Bool.{ltb-true, ltb-false}
 use Rattle.std.proofs.lemmas.List.{length-map, length-drop, get_or-map, get_or-drop, get_or_append_left, get_or-append-add}
 use Rattle.fir_meaning.specs.LeafPaths.{LeafPath, named}
-use Rattle.fir_meaning.specs.LeafModules.{LeafDeclared, LeafModule, leaf_at, no_leaf}
-use Rattle.fir_meaning.specs.LeafBlocks.{HeldInstance}
-use Rattle.fir_meaning.specs.Designs.{Item, drive, when, instance, Items, done, then, Design, made_of}
-use Rattle.fir_meaning.specs.DesignPaths.{instance_path, instance_name}
-use Rattle.fir_meaning.specs.Numberings.{Numbering, number, numbering}
-use Rattle.fir_meaning.specs.FlatDesigns.{inner_leaves, count, count_all, count_below, array_count, array_count_all}
-use Rattle.fir_meaning.specs.FlatLeaves.{placed_leaf, leaves_in, all_leaves_in, leaves_below}
+use Rattle.fir_meaning.specs.working.LeafModules.{LeafDeclared, LeafModule, leaf_at, no_leaf}
+use Rattle.fir_meaning.specs.working.LeafBlocks.{HeldInstance}
+use Rattle.fir_meaning.specs.working.Designs.{Item, drive, when, instance, Items, done, then, Design, made_of}
+use Rattle.fir_meaning.specs.working.DesignPaths.{instance_path, instance_name}
+use Rattle.fir_meaning.specs.working.Numberings.{Numbering, number, numbering}
+use Rattle.fir_meaning.specs.working.FlatDesigns.{inner_leaves, count, count_all, count_below, array_count, array_count_all}
+use Rattle.fir_meaning.specs.working.FlatLeaves.{placed_leaf, leaves_in, all_leaves_in, leaves_below}
 use Rattle.fir_leaf.specs.working.SoundDesigns.{IsHeld}
 use Rattle.fir_leaf.proofs.MovedTerms.{number_port, number_own, number_more, Stands}
 

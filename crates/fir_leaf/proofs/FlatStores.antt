@@ -4,19 +4,21 @@ use Rattle.std.specs.Prelude.{drop, not, if◌then◌else◌}
 use Rattle.std.proofs.lemmas.Bool.{cases_eq, eq-eqb, ne_eqb, false_from_ne_true, and_parts, and_from, eqb-true}
 use Rattle.std.proofs.lemmas.Slice.Eq.{bytes_eq-Decides}
 use Rattle.fir_meaning.specs.LeafPaths.{LeafPath, Step, named, element}
-use Rattle.fir_meaning.specs.LeafBlocks.{all_true, HeldInstance, LeafBlock, LeafStore, counts, joined, stored_at}
-use Rattle.fir_meaning.specs.Terms.{Term}
-use Rattle.fir_meaning.specs.TermValues.{Holds, is_true}
-use Rattle.fir_meaning.specs.LeafBlocks as over
-use Rattle.fir_meaning.specs.LeafModules.{LeafDeclared, LeafModule, leaf_at}
+use Rattle.fir_meaning.specs.CountedWhens.{all_true, counts}
+use Rattle.fir_meaning.specs.working.LeafBlocks.{HeldInstance, LeafBlock, LeafStore, joined, stored_at}
+use Rattle.fir_meaning.specs.working.Terms.{Term}
+use Rattle.fir_meaning.specs.working.TermValues.{Holds, is_true}
+use Rattle.fir_meaning.specs.working.LeafBlocks as over
+use Rattle.fir_meaning.specs.working.LeafModules.{LeafDeclared, LeafModule, leaf_at}
 use Rattle.fir_meaning.specs.TreeValues.{TypesByPath, ValuesByPath}
-use Rattle.fir_meaning.specs.TreeStores.{same_step, same_path}
-use Rattle.fir_meaning.specs.Designs.{Item, drive, when, instance, Items, done, then, Design, made_of}
-use Rattle.fir_meaning.specs.DesignPaths.{instance_path, leaf_path, seen}
-use Rattle.fir_meaning.specs.DesignStores.{DesignStore, exec_below, exec_item, exec_items, kept, kept_at}
-use Rattle.fir_meaning.specs.Numberings.{Numbering, moved, number, numbering}
-use Rattle.fir_meaning.specs.FlatDesigns.{inner_leaves, count, count_all, array_count, array_count_all, flat, flat_all, flat_below}
-use Rattle.fir_meaning.specs.FlatLeaves.{leaves_in, all_leaves_in, leaves_below}
+use Rattle.fir_meaning.specs.SamePaths.{same_step, same_path}
+use Rattle.fir_meaning.specs.working.Designs.{Item, drive, when, instance, Items, done, then, Design, made_of}
+use Rattle.fir_meaning.specs.working.DesignPaths.{instance_path, leaf_path, seen}
+use Rattle.fir_meaning.specs.PathStores.{DesignStore, kept_at}
+use Rattle.fir_meaning.specs.working.DesignStores.{exec_below, exec_item, exec_items, kept}
+use Rattle.fir_meaning.specs.working.Numberings.{Numbering, moved, number, numbering}
+use Rattle.fir_meaning.specs.working.FlatDesigns.{inner_leaves, count, count_all, array_count, array_count_all, flat, flat_all, flat_below}
+use Rattle.fir_meaning.specs.working.FlatLeaves.{leaves_in, all_leaves_in, leaves_below}
 use Rattle.fir_leaf.specs.working.SoundDesigns.{last_of, IsTermIn, IsWired, AreWired, IsInstance}
 use Rattle.fir_leaf.proofs.MovedTerms.{Both, Stands, in_table, eval_same, leaf_same}
 use Rattle.fir_leaf.proofs.FlatPlaces.{At, at_left, at_right, count_is, counts_are, held_stands, inner_at}

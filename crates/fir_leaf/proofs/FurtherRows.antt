@@ -2,12 +2,12 @@
 -- statements.
 use Rattle.std.proofs.Common.{◌≡◌, [], ◌∷◌, Some, None, refl}
 use Rattle.fir_bits.specs.declared.operators.PrimOp.TheVariants.{Not}
-use Rattle.fir_meaning.specs.Terms.{Term, no_picks, no_terms, operation, read, term}
-use Rattle.fir_meaning.specs.TermReads.{multiples}
-use Rattle.fir_meaning.specs.LeafBlocks as over
-use Rattle.fir_meaning.specs.Choices.{below, driving, lives_all}
+use Rattle.fir_meaning.specs.working.Terms.{Term, no_picks, no_terms, operation, read, term}
+use Rattle.fir_meaning.specs.working.TermReads.{multiples}
+use Rattle.fir_meaning.specs.working.LeafBlocks as over
+use Rattle.fir_meaning.specs.working.Choices.{below, driving, lives_all}
 use Rattle.fir_meaning.proofs.SmallTrees.{at}
-use Rattle.fir_meaning.specs.Designs.{elaborated}
+use Rattle.fir_meaning.specs.working.Designs.{elaborated}
 use Rattle.fir_leaf.proofs.TextTrees as text
 use Rattle.fir_leaf.proofs.RowTrees.{over_leaves, stores, takes, statements, four, by_i}
 

@@ -19,7 +19,7 @@ use Rattle.fir_meaning.specs.SizedMemories.{as_written}
 use Rattle.fir_meaning.specs.SizedDeclarations.{NumberedModule, port_numbers, instance_from, numbers_at, sized_declared}
 use Rattle.fir_meaning.proofs.SizedShapes.{numbered_bare, renumbered_bare}
 use Rattle.fir_meaning.proofs.SizedExpressions.{sized_as_typed}
-use Rattle.fir_meaning.specs.LeafedModules.{repeated, held_types, held_field_types}
+use Rattle.fir_meaning.specs.HeldTypes.{repeated, held_types, held_field_types}
 
 -- a sized type holds a type for each leaf
 repeated_counted : {A : Type 0} (n : ℕ) (xs : List A) → length (repeated n xs) ≡ n * length xs

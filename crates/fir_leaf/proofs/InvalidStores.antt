@@ -5,14 +5,15 @@ use Rattle.fir_ast.specs.declared.place.Place.{Place}
 use Rattle.fir_meaning.specs.LeafPaths.{LeafPath}
 use Rattle.fir_meaning.specs.TypeLeaves.{TypeLeaf, type_leaves}
 use Rattle.fir_meaning.specs.TypedScopes.{TypedScope}
-use Rattle.fir_meaning.specs.Terms.{zeros}
-use Rattle.fir_meaning.specs.LeafBlocks.{LeafStore, LeafBlock}
-use Rattle.fir_meaning.specs.LeafBlocks as over
-use Rattle.fir_meaning.specs.Targets.{Target}
-use Rattle.fir_meaning.specs.LeafedBlocks.{driven, driven_from, invalid_leaf, invalid_leaves, invalid_block}
+use Rattle.fir_meaning.specs.working.Terms.{zeros}
+use Rattle.fir_meaning.specs.working.LeafBlocks.{LeafStore, LeafBlock}
+use Rattle.fir_meaning.specs.working.LeafBlocks as over
+use Rattle.fir_meaning.specs.working.Targets.{Target}
+use Rattle.fir_meaning.specs.working.LeafedBlocks.{driven, driven_from, invalid_leaf, invalid_leaves, invalid_block}
 use Rattle.fir_meaning.specs.TreeAims.{Aim}
 use Rattle.fir_meaning.specs.TreeValues.{ValuesByPath, leaf_where}
-use Rattle.fir_meaning.specs.TreeStores.{PathStore, LeafFacts, may_be_driven, path_stored, invalidated, exec_invalid}
+use Rattle.fir_meaning.specs.working.TreeStores.{PathStore, LeafFacts, path_stored, invalidated, exec_invalid}
+use Rattle.fir_meaning.specs.SamePaths.{may_be_driven}
 use Rattle.fir_leaf.specs.working.LeafLaws.{numbered, path_at, IsFine, IsSameStore}
 use Rattle.fir_leaf.specs.working.Standing.{Stands}
 use Rattle.fir_leaf.proofs.LeafPlaces.{leaves_counted}

@@ -29,13 +29,16 @@ use Rattle.fir_meaning.specs.ResetJoins.{numbered_module}
 use Rattle.fir_meaning.specs.working.WellTyped.{MemoryIsLegal, IsLegal, AreLegal}
 use Rattle.fir_meaning.proofs.FoundTypes.{found_type}
 use Rattle.fir_meaning.proofs.WellTypedCircuits.{well_typed}
-use Rattle.fir_meaning.specs.Leafed.{terms}
-use Rattle.fir_meaning.specs.LeafedBlocks.{term_at}
-use Rattle.fir_meaning.specs.LeafMemories.{LeafMemory, array_count, leaves_of_data, memory_roles, port_kinds_of}
-use Rattle.fir_meaning.specs.LeafModules.{LeafDeclared, LeafReset, LeafType, Reading, Role, computed, is_sink, may_drive, pipe, reading, sink, source}
-use Rattle.fir_meaning.specs.LeafModules as role
-use Rattle.fir_meaning.specs.Terms.{Term}
-use Rattle.fir_meaning.specs.LeafedModules.{Scene, Declared, leaves_from, type_of_declared, held_by_declared, declared_leaves, scope_before, port_role, register_role, instance_place, instance_role, role_in, memory_before, leaves_in, leaves_in_block, leaves_of_ports, behind_all_ports, module_leaves}
+use Rattle.fir_meaning.specs.working.Leafed.{terms}
+use Rattle.fir_meaning.specs.working.LeafedBlocks.{term_at}
+use Rattle.fir_meaning.specs.working.LeafMemories.{LeafMemory, array_count, memory_roles, port_kinds_of}
+use Rattle.fir_meaning.specs.FoundTypes.{leaves_of_data}
+use Rattle.fir_meaning.specs.working.LeafModules.{LeafDeclared, LeafReset, Reading, Role, computed, is_sink, may_drive, pipe, reading, sink, source}
+use Rattle.fir_meaning.specs.LeafTypes.{LeafType}
+use Rattle.fir_meaning.specs.working.LeafModules as role
+use Rattle.fir_meaning.specs.working.Terms.{Term}
+use Rattle.fir_meaning.specs.ModuleScenes.{Scene, Declared, type_of_declared, held_by_declared, scope_before, behind_all_ports}
+use Rattle.fir_meaning.specs.working.LeafedModules.{leaves_from, declared_leaves, port_role, register_role, instance_place, instance_role, role_in, memory_before, leaves_in, leaves_in_block, leaves_of_ports, module_leaves}
 use Rattle.fir_leaf.specs.working.TableLaws.{IsLeafOf, LeavesFollowTypes, is_register}
 use Rattle.fir_leaf.proofs.LeafPlaces.{get_left}
 use Rattle.fir_leaf.proofs.DeclaredLeaves.{own_module}

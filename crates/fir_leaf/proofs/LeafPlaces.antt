@@ -11,7 +11,7 @@ use Rattle.fir_meaning.specs.TypeLeaves.{TypeLeaf, under, element_leaves, type_l
 use Rattle.fir_meaning.specs.TypeKinds.{FieldFound, field_named}
 use Rattle.fir_base.proofs.SameNames.{name_is}
 use Rattle.fir_base.proofs.Tests.{chosen}
-use Rattle.fir_meaning.specs.FieldSizes.{leaves_before_field}
+use Rattle.fir_meaning.specs.working.FieldSizes.{leaves_before_field}
 
 -- an element of joined lists
 pub get_left : {A : Type 0} (xs ys : List A) (k : ℕ) (x : A) → slice_get xs k ≡ Some x → slice_get (xs ++ ys) k ≡ Some x

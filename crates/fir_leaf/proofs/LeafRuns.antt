@@ -1,11 +1,11 @@
 -- Where one choice of values is settled at each tick, there is exactly one run.
 use Rattle.std.proofs.Common.{◌≡◌, ℕ, List, [], ◌∷◌, map, refl, sym, ap, ◌∙◌, subst}
 use Rattle.fir_base.specs.Ticks.{FitEach, Tick, TickResult}
-use Rattle.fir_meaning.specs.TermValues.{Env}
-use Rattle.fir_meaning.specs.LeafCircuits.{LeafCircuit}
-use Rattle.fir_meaning.specs.LeafStates.{shape}
-use Rattle.fir_meaning.specs.LeafNext.{next}
-use Rattle.fir_meaning.specs.LeafAllows.{AreTicks, HasOne, HasRun, One, Run}
+use Rattle.fir_meaning.specs.working.TermValues.{Env}
+use Rattle.fir_meaning.specs.working.LeafCircuits.{LeafCircuit}
+use Rattle.fir_meaning.specs.working.LeafStates.{shape}
+use Rattle.fir_meaning.specs.working.LeafNext.{next}
+use Rattle.fir_meaning.specs.working.LeafAllows.{AreTicks, HasOne, HasRun, One, Run}
 use Rattle.fir_leaf.specs.working.RunLaws.{KeepsShape, OneHasRun}
 
 pub same_env : (e f : Env) → ((x : ℕ) → e.numbers x ≡ f.numbers x) → ((x : ℕ) → e.clocks x ≡ f.clocks x) → e ≡ f

@@ -17,11 +17,11 @@ use Rattle.fir_meaning.specs.TypedScopes.{TypedScope, known}
 use Rattle.fir_meaning.specs.working.WellTyped.{HasType, HaveTypes, Leads, Reaches}
 use Rattle.fir_meaning.proofs.FreshFields.{HasFreshFields, fresh_fields}
 use Rattle.fir_leaf.specs.working.LeafLaws.{numbered, Begins, IsFine, SameValues}
-use Rattle.fir_meaning.specs.Leafed.{first_term, terms, target_along, operands, target_of}
+use Rattle.fir_meaning.specs.working.Leafed.{first_term, terms, target_along, operands, target_of}
 use Rattle.fir_leaf.specs.working.Standing.{Stands}
-use Rattle.fir_meaning.specs.Targets.{Target, named_target, field_target, field_target_at, element_target, element_target_at, picked_target, picked_target_at}
-use Rattle.fir_meaning.specs.Terms.{terms_of}
-use Rattle.fir_meaning.specs.TermValues.{eval, eval_each}
+use Rattle.fir_meaning.specs.working.Targets.{Target, named_target, field_target, field_target_at, element_target, element_target_at, picked_target, picked_target_at}
+use Rattle.fir_meaning.specs.working.Terms.{terms_of}
+use Rattle.fir_meaning.specs.working.TermValues.{eval, eval_each}
 use Rattle.fir_meaning.specs.TreeAims.{Aim, named_aim, field_aim, element_aim, picked_aim}
 use Rattle.fir_meaning.specs.TreeValues.{TypesByPath, ValuesByPath, aim_value, value, aim_along, operand_values, aim_of}
 use Rattle.fir_leaf.proofs.AlikeTypes.{leaf_paths, bare_paths, fresh_from_bare, alike_types}

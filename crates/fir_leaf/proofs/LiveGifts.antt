@@ -2,10 +2,10 @@
 use Rattle.std.proofs.Common.{◌≡◌, ℕ, [], Option, Some, None, option_map, refl, sym, ◌∙◌}
 use Rattle.std.proofs.lemmas.Option.{same_Some}
 use Rattle.fir_base.specs.Lists.{In}
-use Rattle.fir_meaning.specs.Terms.{Term}
-use Rattle.fir_meaning.specs.TermValues.{Holds}
-use Rattle.fir_meaning.specs.LeafBlocks.{LeafBlock, exec_all, nothing_stored}
-use Rattle.fir_meaning.specs.Choices.{Choice, Live, last_all, lives_all}
+use Rattle.fir_meaning.specs.working.Terms.{Term}
+use Rattle.fir_meaning.specs.working.TermValues.{Holds}
+use Rattle.fir_meaning.specs.working.LeafBlocks.{LeafBlock, exec_all, nothing_stored}
+use Rattle.fir_meaning.specs.working.Choices.{Choice, Live, last_all, lives_all}
 use Rattle.fir_leaf.specs.working.ValueChoices.{choice_of_all}
 use Rattle.fir_leaf.proofs.LiveStores.{stored_is_live}
 use Rattle.fir_leaf.proofs.LiveStatements.{live_all}

@@ -3,10 +3,10 @@ use Rattle.std.proofs.Common.{◌≡◌, ℕ, ◌+◌, List, [], ◌∷◌, ◌+
 use Rattle.std.proofs.lemmas.Option.{same_Some}
 use Rattle.fir_base.specs.Lists.{In}
 use Rattle.fir_base.proofs.Members.{in_left, in_right, in_either, in_map, in_map_from}
-use Rattle.fir_meaning.specs.Terms.{Term, zeros}
-use Rattle.fir_meaning.specs.TermReads.{is_picked, is_among, reached}
-use Rattle.fir_meaning.specs.LeafBlocks.{LeafStatement, drive, when, instance, LeafBlock, done, then}
-use Rattle.fir_meaning.specs.Choices.{Choice, Live, below, later, first_part, second_part, driving, unless, last, last_all, covers, covers_all, lives, lives_all}
+use Rattle.fir_meaning.specs.working.Terms.{Term, zeros}
+use Rattle.fir_meaning.specs.working.TermReads.{is_picked, is_among, reached}
+use Rattle.fir_meaning.specs.working.LeafBlocks.{LeafStatement, drive, when, instance, LeafBlock, done, then}
+use Rattle.fir_meaning.specs.working.Choices.{Choice, Live, below, later, first_part, second_part, driving, unless, last, last_all, covers, covers_all, lives, lives_all}
 use Rattle.fir_leaf.specs.working.ChoiceLaws.{LivesAreLive}
 
 -- a choice of its own for each part

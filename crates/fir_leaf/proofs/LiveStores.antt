@@ -1,11 +1,12 @@
 -- What is stored at a leaf is what the statement gives that is live under the choice of the values; nothing, where that leaves the leaf undriven.
 use Rattle.std.proofs.Common.{◌≡◌, ◌↔◌, ℕ, zero, suc, ◌+◌, ◌<◌, ◌≤◌, List, [], ◌∷◌, ◌++◌, length, length-append, Bool, true, false, ◌&&◌, ◌||◌, not, Option, Some, None, option_map, refl, sym, ap, ◌∙◌, arith, nat_eq, nat_lt, if◌then◌else◌}
 use Rattle.fir_ast.specs.declared.place.Place.{Place}
-use Rattle.fir_meaning.specs.LeafBlocks.{all_true, LeafStatement, drive, when, instance, LeafBlock, done, then, LeafStore, nothing_stored, stored_at, counts, stored, exec, exec_all}
-use Rattle.fir_meaning.specs.Terms.{Term, Picks, no_picks, pick}
-use Rattle.fir_meaning.specs.TermValues.{Holds, is_true, leaf_of}
-use Rattle.fir_meaning.specs.TermReads.{is_picked, is_among, reached}
-use Rattle.fir_meaning.specs.Choices.{Live, below, later, driving, last, last_all}
+use Rattle.fir_meaning.specs.CountedWhens.{all_true, counts}
+use Rattle.fir_meaning.specs.working.LeafBlocks.{LeafStatement, drive, when, instance, LeafBlock, done, then, LeafStore, nothing_stored, stored_at, stored, exec, exec_all}
+use Rattle.fir_meaning.specs.working.Terms.{Term, Picks, no_picks, pick}
+use Rattle.fir_meaning.specs.working.TermValues.{Holds, is_true, leaf_of}
+use Rattle.fir_meaning.specs.working.TermReads.{is_picked, is_among, reached}
+use Rattle.fir_meaning.specs.working.Choices.{Live, below, later, driving, last, last_all}
 use Rattle.fir_leaf.specs.working.ValueChoices.{hits, choice_of, choice_of_all}
 use Rattle.fir_leaf.specs.working.ChoiceLaws.{StoredIsLive, NothingWhereUndriven}
 use Rattle.fir_leaf.proofs.PickedLeaves.{among_in, in_reached, same_is}

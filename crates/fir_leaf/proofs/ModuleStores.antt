@@ -3,7 +3,7 @@ use Rattle.std.proofs.Common.{[], None, refl}
 use Rattle.fir_meaning.specs.Visibility.{behind_ports, at_head, declarations}
 use Rattle.fir_meaning.specs.ComponentTypes.{typed_scope}
 use Rattle.fir_meaning.proofs.WellTypedCircuits.{well_typed}
-use Rattle.fir_meaning.specs.LeafBlocks.{nothing_stored}
+use Rattle.fir_meaning.specs.working.LeafBlocks.{nothing_stored}
 use Rattle.fir_leaf.specs.working.LeafLaws.{IsSameStore, SameModuleStores}
 use Rattle.fir_leaf.proofs.ScopesBegin.{begins_all}
 use Rattle.fir_leaf.proofs.BlockStores.{same_stores}

@@ -5,12 +5,12 @@ use Rattle.std.proofs.lemmas.Bool.{ltb-true, ltb-false, lt-ltb, le-ltb}
 use Rattle.fir_bits.specs.Operators.{outcome}
 use Rattle.fir_meaning.specs.Values.{number_of}
 use Rattle.fir_meaning.specs.LeafPaths.{LeafPath}
-use Rattle.fir_meaning.specs.Terms.{Term, zeros, absent, literal, read, operation, mux, validif, Picks, no_picks, pick, Terms, no_terms, term}
-use Rattle.fir_meaning.specs.TermValues.{eval, leaf_of, eval_each, picked, value_at, clock_at, clock_of}
-use Rattle.fir_meaning.specs.LeafModules.{LeafDeclared, LeafModule, leaf_at}
+use Rattle.fir_meaning.specs.working.Terms.{Term, zeros, absent, literal, read, operation, mux, validif, Picks, no_picks, pick, Terms, no_terms, term}
+use Rattle.fir_meaning.specs.working.TermValues.{eval, leaf_of, eval_each, picked, value_at, clock_at, clock_of}
+use Rattle.fir_meaning.specs.working.LeafModules.{LeafDeclared, LeafModule, leaf_at}
 use Rattle.fir_meaning.specs.TreeValues.{TypesByPath, ValuesByPath}
-use Rattle.fir_meaning.specs.Numberings.{Numbering, number, moved, moved_picks, moved_terms}
-use Rattle.fir_meaning.specs.DesignPaths.{seen}
+use Rattle.fir_meaning.specs.working.Numberings.{Numbering, number, moved, moved_picks, moved_terms}
+use Rattle.fir_meaning.specs.working.DesignPaths.{seen}
 use Rattle.fir_leaf.specs.working.SoundDesigns.{last_of, IsRead, IsTermIn, ArePicksIn, AreTermsIn}
 
 pub number_port : (n : Numbering) (k : ℕ) → k < n.ports → number n k ≡ n.first + k

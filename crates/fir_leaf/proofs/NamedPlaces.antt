@@ -13,8 +13,8 @@ use Rattle.fir_meaning.specs.TypeLeaves.{TypeLeaf, type_leaves, leaf_count}
 use Rattle.fir_meaning.specs.TypedScopes.{Known, TypedScope, known}
 use Rattle.fir_base.proofs.SameNames.{name_is}
 use Rattle.fir_leaf.specs.working.LeafLaws.{known_paths, scope_paths, path_at, Begins}
-use Rattle.fir_meaning.specs.LeafMemories.{leaves_of_data}
-use Rattle.fir_meaning.specs.Targets.{leaves_ahead}
+use Rattle.fir_meaning.specs.FoundTypes.{leaves_of_data}
+use Rattle.fir_meaning.specs.working.Targets.{leaves_ahead}
 use Rattle.fir_leaf.proofs.LeafPlaces.{get_left, get_right, get_mapped, leaves_counted}
 
 abbrev path_below : List ℕ → TypeLeaf → LeafPath

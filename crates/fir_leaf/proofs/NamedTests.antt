@@ -6,10 +6,10 @@ use Rattle.std.proofs.lemmas.Slice.Eq.{bytes_eq-Decides}
 use Rattle.fir_base.specs.Lists.{In, Distinct}
 use Rattle.fir_ast.specs.Statements.{PlacedName}
 use Rattle.fir_meaning.specs.LeafPaths.{LeafPath, named, element}
-use Rattle.fir_meaning.specs.LeafBlocks.{HeldInstance}
-use Rattle.fir_meaning.specs.LeafModules.{LeafArray, LeafDeclared, LeafModule, leaf_at}
-use Rattle.fir_meaning.specs.TreeStores.{same_path}
-use Rattle.fir_meaning.specs.Designs.{Item, drive, when, instance, Items, done, then, Design, made_of}
+use Rattle.fir_meaning.specs.working.LeafBlocks.{HeldInstance}
+use Rattle.fir_meaning.specs.working.LeafModules.{LeafArray, LeafDeclared, LeafModule, leaf_at}
+use Rattle.fir_meaning.specs.SamePaths.{same_path}
+use Rattle.fir_meaning.specs.working.Designs.{Item, drive, when, instance, Items, done, then, Design, made_of}
 use Rattle.fir_leaf.specs.working.DesignStates.{array_at}
 use Rattle.fir_leaf.specs.working.NamedDesigns.{declared_name, paths_of, IsBehind, IsPortOf, HasOwnNames, IsOwnInstance, all_instances_in, IsNamedItem, AreNamedItems, IsNamedInstance, IsNamed}
 use Rattle.fir_leaf.proofs.FlatStores.{same_path_refl}

@@ -8,14 +8,14 @@ use Rattle.fir_base.proofs.Members.{in_either, in_map, in_map_from, in_left, in_
 use Rattle.fir_base.proofs.Twins.{apart, distinct_joined, distinct_left, distinct_right}
 use Rattle.fir_ast.specs.Statements.{PlacedName}
 use Rattle.fir_meaning.specs.LeafPaths.{LeafPath, Step, named}
-use Rattle.fir_meaning.specs.LeafBlocks.{HeldInstance}
-use Rattle.fir_meaning.specs.LeafModules.{LeafDeclared, LeafModule, leaf_at, no_leaf}
-use Rattle.fir_meaning.specs.Designs.{Item, drive, when, instance, Items, done, then, Design, made_of}
-use Rattle.fir_meaning.specs.DesignPaths.{instance_name, instance_path, no_name}
-use Rattle.fir_meaning.specs.Numberings.{Numbering, number, numbering}
-use Rattle.fir_meaning.specs.FlatDesigns.{inner_leaves, count, count_all, array_count, array_count_all}
-use Rattle.fir_meaning.specs.FlatLeaves.{placed_leaf, leaves_in, all_leaves_in, leaves_below}
-use Rattle.fir_meaning.specs.Flattened.{flattened, port_leaves}
+use Rattle.fir_meaning.specs.working.LeafBlocks.{HeldInstance}
+use Rattle.fir_meaning.specs.working.LeafModules.{LeafDeclared, LeafModule, leaf_at, no_leaf}
+use Rattle.fir_meaning.specs.working.Designs.{Item, drive, when, instance, Items, done, then, Design, made_of}
+use Rattle.fir_meaning.specs.working.DesignPaths.{instance_name, instance_path, no_name}
+use Rattle.fir_meaning.specs.working.Numberings.{Numbering, number, numbering}
+use Rattle.fir_meaning.specs.working.FlatDesigns.{inner_leaves, count, count_all, array_count, array_count_all}
+use Rattle.fir_meaning.specs.working.FlatLeaves.{placed_leaf, leaves_in, all_leaves_in, leaves_below}
+use Rattle.fir_meaning.specs.working.Flattened.{flattened, port_leaves}
 use Rattle.fir_leaf.specs.working.SoundDesigns.{IsHeld, IsWired, AreWired, IsInstance}
 use Rattle.fir_leaf.specs.working.NamedDesigns.{declared_name, paths_of, IsBehind, IsPortOf, HasOwnNames, IsOwnInstance, instances_in, all_instances_in, IsNamedItem, AreNamedItems, IsNamedInstance}
 use Rattle.fir_leaf.specs.working.DesignLaws.{NamesMakeSound}

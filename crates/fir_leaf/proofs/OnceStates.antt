@@ -7,12 +7,13 @@ use Rattle.std.proofs.lemmas.List.{length-drop}
 use Rattle.fir_base.specs.Lists.{In, Distinct}
 use Rattle.fir_base.proofs.Members.{in_either, in_flat_map_from, in_map_from}
 use Rattle.fir_base.proofs.Twins.{distinct_joined}
-use Rattle.fir_meaning.specs.LeafModules.{LeafArray, LeafDeclared, LeafModule, leaf_at, no_leaf}
-use Rattle.fir_meaning.specs.Designs.{Item, drive, when, instance, Items, done, then, Design, made_of}
+use Rattle.fir_meaning.specs.working.LeafModules.{LeafArray, LeafDeclared, LeafModule, leaf_at, no_leaf}
+use Rattle.fir_meaning.specs.working.Designs.{Item, drive, when, instance, Items, done, then, Design, made_of}
 use Rattle.fir_leaf.specs.working.DesignStates.{no_array}
-use Rattle.fir_meaning.specs.Numberings.{Numbering, number, numbering}
-use Rattle.fir_meaning.specs.FlatDesigns.{inner_leaves, count, count_all, count_below, array_count, array_count_all, array_count_below}
-use Rattle.fir_meaning.specs.StateWalks.{all_array_order_in, all_words_in, array_order_below, array_order_in, has_bits, is_state, numbers_where, own_arrays, own_words, walk, words_below, words_in}
+use Rattle.fir_meaning.specs.working.Numberings.{Numbering, number, numbering}
+use Rattle.fir_meaning.specs.working.FlatDesigns.{inner_leaves, count, count_all, count_below, array_count, array_count_all, array_count_below}
+use Rattle.fir_meaning.specs.working.StateWalks.{all_array_order_in, all_words_in, array_order_below, array_order_in, is_state, numbers_where, own_arrays, own_words, walk, words_below, words_in}
+use Rattle.fir_meaning.specs.LeafTypes.{has_bits}
 use Rattle.fir_leaf.specs.working.StateLaws.{ArraysStandOnce, EachInItem, EachInItems, EachModule, PortsShowNone, WordsStandOnce}
 use Rattle.fir_leaf.proofs.MovedTerms.{number_own}
 use Rattle.fir_leaf.proofs.WholeStates.{IsWord}

@@ -7,11 +7,13 @@ use Rattle.fir_bits.specs.declared.values.Num.{Num}
 use Rattle.fir_meaning.specs.LeafPaths.{LeafPath, Step, named, element}
 use Rattle.fir_meaning.specs.TypedScopes.{TypedScope}
 use Rattle.fir_meaning.specs.Values.{fit}
-use Rattle.fir_meaning.specs.Terms.{Term}
-use Rattle.fir_meaning.specs.TermValues.{eval}
-use Rattle.fir_meaning.specs.LeafBlocks.{LeafStore, stored_at, counts, stored}
+use Rattle.fir_meaning.specs.working.Terms.{Term}
+use Rattle.fir_meaning.specs.working.TermValues.{eval}
+use Rattle.fir_meaning.specs.working.LeafBlocks.{LeafStore, stored_at, stored}
+use Rattle.fir_meaning.specs.CountedWhens.{counts}
 use Rattle.fir_meaning.specs.TreeValues.{ValuesByPath}
-use Rattle.fir_meaning.specs.TreeStores.{same_step, same_path, PathStore, path_stored_at, LeafFacts, path_stored}
+use Rattle.fir_meaning.specs.SamePaths.{same_step, same_path}
+use Rattle.fir_meaning.specs.working.TreeStores.{PathStore, path_stored_at, LeafFacts, path_stored}
 use Rattle.fir_leaf.specs.working.LeafLaws.{numbered, path_at, scope_paths, IsFine, IsSameStore, number_given}
 use Rattle.fir_leaf.proofs.OwnPaths.{path_once}
 

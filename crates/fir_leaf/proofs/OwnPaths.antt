@@ -10,7 +10,7 @@ use Rattle.fir_meaning.specs.Mentions.{type_mentions}
 use Rattle.fir_meaning.specs.NameGroups.{faults_in}
 use Rattle.fir_meaning.specs.TypedScopes.{Known, TypedScope}
 use Rattle.fir_meaning.proofs.DistinctLeaves.{paths_distinct}
-use Rattle.fir_meaning.specs.LeafMemories.{leaves_of_data}
+use Rattle.fir_meaning.specs.FoundTypes.{leaves_of_data}
 use Rattle.fir_leaf.specs.working.LeafLaws.{known_paths, scope_paths, path_at, IsFine}
 
 -- the paths of leaves behind one step

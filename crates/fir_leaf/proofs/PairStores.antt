@@ -8,16 +8,16 @@ use Rattle.fir_meaning.specs.LeafPaths.{LeafPath}
 use Rattle.fir_meaning.specs.TypeLeaves.{TypeLeaf, type_leaves}
 use Rattle.fir_meaning.specs.ConnectPairs.{Pair}
 use Rattle.fir_meaning.specs.TypedScopes.{TypedScope}
-use Rattle.fir_meaning.specs.Terms.{Term, zeros}
-use Rattle.fir_meaning.specs.TermValues.{Holds, eval}
-use Rattle.fir_meaning.specs.LeafBlocks.{LeafStore, LeafBlock, joined, exec, exec_all, stored}
-use Rattle.fir_meaning.specs.LeafBlocks as over
-use Rattle.fir_meaning.specs.Targets.{Target}
-use Rattle.fir_meaning.specs.LeafPairs.{LeafPair}
-use Rattle.fir_meaning.specs.LeafedBlocks.{driven_from, driven_where, term_at, Sides, pair_block, pairs_block}
+use Rattle.fir_meaning.specs.working.Terms.{Term, zeros}
+use Rattle.fir_meaning.specs.working.TermValues.{Holds, eval}
+use Rattle.fir_meaning.specs.working.LeafBlocks.{LeafStore, LeafBlock, joined, exec, exec_all, stored}
+use Rattle.fir_meaning.specs.working.LeafBlocks as over
+use Rattle.fir_meaning.specs.working.Targets.{Target}
+use Rattle.fir_meaning.specs.working.LeafPairs.{LeafPair}
+use Rattle.fir_meaning.specs.working.LeafedBlocks.{driven_from, driven_where, term_at, Sides, pair_block, pairs_block}
 use Rattle.fir_meaning.specs.TreeAims.{Aim}
 use Rattle.fir_meaning.specs.TreeValues.{ValuesByPath, leaf_where}
-use Rattle.fir_meaning.specs.TreeStores.{PathStore, LeafFacts, path_stored}
+use Rattle.fir_meaning.specs.working.TreeStores.{PathStore, LeafFacts, path_stored}
 use Rattle.fir_leaf.specs.working.LeafLaws.{numbered, path_at, scope_paths, IsFine, IsSameStore, number_given}
 use Rattle.fir_leaf.specs.working.Standing.{leaf_from, target_leaf, Stands}
 use Rattle.fir_leaf.proofs.LeafPlaces.{leaves_counted}

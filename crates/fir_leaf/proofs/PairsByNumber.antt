@@ -13,8 +13,8 @@ use Rattle.fir_meaning.specs.TypeKinds.{FieldFound, field_named}
 use Rattle.fir_meaning.specs.Equivalence.{fitting_ground, met, fields_alike, is_connectable, is_partly_connectable, fields_partly_connectable}
 use Rattle.fir_meaning.specs.ConnectPairs.{Pair, both_under, element_pairs, pairs, field_pairs, partial_pairs, partial_field_pairs}
 use Rattle.fir_meaning.proofs.LeafSteps.{same_flip}
-use Rattle.fir_meaning.specs.FieldSizes.{leaves_before_field}
-use Rattle.fir_meaning.specs.LeafPairs.{LeafPair, past, turned_pair, element_leaf_pairs, leaf_pairs, field_leaf_pairs, partial_leaf_pairs, partial_field_leaf_pairs}
+use Rattle.fir_meaning.specs.working.FieldSizes.{leaves_before_field}
+use Rattle.fir_meaning.specs.working.LeafPairs.{LeafPair, past, turned_pair, element_leaf_pairs, leaf_pairs, field_leaf_pairs, partial_leaf_pairs, partial_field_leaf_pairs}
 use Rattle.fir_leaf.proofs.LeafPlaces.{get_left, get_right, get_mapped, leaves_counted, field_stands_from, element_stands_from}
 
 -- the leaves of a pair, by their numbers in two lists

@@ -3,9 +3,9 @@ use Rattle.std.proofs.Common.{◌≡◌, ℕ, zero, suc, ◌+◌, ◌*◌, ◌<�
 use Rattle.std.proofs.lemmas.Option.{same_Some}
 use Rattle.fir_base.specs.Lists.{In}
 use Rattle.fir_base.proofs.Members.{in_flat_map}
-use Rattle.fir_meaning.specs.Terms.{Picks, no_picks, pick}
-use Rattle.fir_meaning.specs.TermValues.{Holds, eval, leaf_of}
-use Rattle.fir_meaning.specs.TermReads.{is_among, multiples, reached}
+use Rattle.fir_meaning.specs.working.Terms.{Picks, no_picks, pick}
+use Rattle.fir_meaning.specs.working.TermValues.{Holds, eval, leaf_of}
+use Rattle.fir_meaning.specs.working.TermReads.{is_among, multiples, reached}
 
 pub same_is : (x : ℕ) → nat_eq x x ≡ true
 same_is x = grind arith

@@ -14,8 +14,11 @@ use Rattle.fir_meaning.specs.SizedTypes.{numbered, numbered_fields, past}
 use Rattle.fir_meaning.specs.SizedDeclarations.{numbers_at}
 use Rattle.fir_meaning.specs.Visibility.{Before, at_head, with_declaration}
 use Rattle.fir_meaning.specs.WidthExpressions.{Widths}
-use Rattle.fir_meaning.specs.LeafModules.{LeafType, Role}
-use Rattle.fir_meaning.specs.LeafedModules.{Declared, Scene, held_field_types, held_types, leaves_from, leaves_of_ports, port_role, repeated}
+use Rattle.fir_meaning.specs.LeafTypes.{LeafType}
+use Rattle.fir_meaning.specs.working.LeafModules.{Role}
+use Rattle.fir_meaning.specs.ModuleScenes.{Declared, Scene}
+use Rattle.fir_meaning.specs.HeldTypes.{held_field_types, held_types, repeated}
+use Rattle.fir_meaning.specs.working.LeafedModules.{leaves_from, leaves_of_ports, port_role}
 use Rattle.fir_leaf.specs.working.DesignLaws.{SamePorts}
 
 long_elements : (i n : ℕ) (ls : List TypeLeaf) (hs : List LeafType) → length ls ≡ length hs → length (element_leaves i n ls) ≡ length (repeated n hs)

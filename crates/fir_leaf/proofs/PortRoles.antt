@@ -12,10 +12,12 @@ use Rattle.fir_meaning.specs.Components as component
 use Rattle.fir_meaning.specs.Flows.{flow_under, is_source, port_flow}
 use Rattle.fir_meaning.specs.TypeLeaves.{TypeLeaf}
 use Rattle.fir_meaning.specs.Visibility.{Before, at_head, with_declaration}
-use Rattle.fir_meaning.specs.LeafModules.{LeafDeclared, LeafModule, LeafType, leaf_at, no_leaf, sink, source}
-use Rattle.fir_meaning.specs.LeafedModules.{Declared, Scene, behind_all_ports, declared_leaves, leafed_module, leaves_from, leaves_in_block, leaves_of_ports, port_role}
-use Rattle.fir_meaning.specs.Designs.{Item, drive, when, instance, Items, done, then, Design, made_of, empty_module, module_of, IsItemIn, AreItemsIn, IsDesignOf}
-use Rattle.fir_meaning.specs.StateWalks.{is_state}
+use Rattle.fir_meaning.specs.working.LeafModules.{LeafDeclared, LeafModule, leaf_at, no_leaf, sink, source}
+use Rattle.fir_meaning.specs.LeafTypes.{LeafType}
+use Rattle.fir_meaning.specs.ModuleScenes.{Declared, Scene, behind_all_ports}
+use Rattle.fir_meaning.specs.working.LeafedModules.{declared_leaves, leafed_module, leaves_from, leaves_in_block, leaves_of_ports, port_role}
+use Rattle.fir_meaning.specs.working.Designs.{Item, drive, when, instance, Items, done, then, Design, made_of, empty_module, module_of, IsItemIn, AreItemsIn, IsDesignOf}
+use Rattle.fir_meaning.specs.working.StateWalks.{is_state}
 use Rattle.fir_leaf.specs.working.StateLaws.{EachInItem, EachInItems, EachModule, LeafedPortsShowNone, PortsShowNone}
 use Rattle.fir_leaf.proofs.OncePaths.{at_in}
 

@@ -6,15 +6,15 @@ use Rattle.fir_base.specs.Lists.{In}
 use Rattle.fir_base.proofs.Members.{in_flat_map}
 use Rattle.fir_ast.specs.declared.fault.FirFault.{FirFault}
 use Rattle.fir_bits.specs.Literals.{least_width}
-use Rattle.fir_meaning.specs.TermReads.{reads}
-use Rattle.fir_meaning.specs.Choices.{live_reads, lives_all}
-use Rattle.fir_meaning.specs.LeafBlocks.{LeafBlock}
-use Rattle.fir_meaning.specs.LeafModules.{LeafDeclared, Role, computed, leaf_at, no_leaf, pipe, reading, register, sink, source}
-use Rattle.fir_meaning.specs.LeafCircuits.{LeafCircuit, depth_of, role_of}
+use Rattle.fir_meaning.specs.working.TermReads.{reads}
+use Rattle.fir_meaning.specs.working.Choices.{live_reads, lives_all}
+use Rattle.fir_meaning.specs.working.LeafBlocks.{LeafBlock}
+use Rattle.fir_meaning.specs.working.LeafModules.{LeafDeclared, Role, computed, leaf_at, no_leaf, pipe, reading, register, sink, source}
+use Rattle.fir_meaning.specs.working.LeafCircuits.{LeafCircuit, depth_of, role_of}
 use Rattle.fir_meaning.specs.working.Dependence.{RoleDepends, reading_reads, reset_reads}
 use Rattle.fir_meaning.specs.working.CircuitDependence.{CircuitDepends, IsWalk}
 use Rattle.fir_meaning.specs.working.LoopFaults.{ShowsLoop}
-use Rattle.fir_meaning.specs.Designs.{elaborated}
+use Rattle.fir_meaning.specs.working.Designs.{elaborated}
 use Rattle.fir_leaf.proofs.LiveStatements.{lives_are_live}
 use Rattle.fir_leaf.proofs.RowTrees.{over_leaves}
 use Rattle.fir_leaf.proofs.SettledTests.{left, right}

@@ -5,11 +5,11 @@ use Rattle.fir_base.specs.Lists.{In}
 use Rattle.fir_base.proofs.Members.{in_left, in_right, in_map}
 use Rattle.fir_ast.specs.declared.place.Place.{Place}
 use Rattle.fir_meaning.specs.Values.{number_of}
-use Rattle.fir_meaning.specs.Terms.{Term, Picks, Terms, zeros, absent, literal, read, operation, mux, validif, no_picks, pick, no_terms, term}
-use Rattle.fir_meaning.specs.TermValues.{Holds, eval, eval_each, is_true, leaf_of, value_at}
-use Rattle.fir_meaning.specs.TermReads.{each_read, is_among, is_picked, picks_read, reached, reads}
-use Rattle.fir_meaning.specs.LeafBlocks.{LeafStatement, drive, when, instance, LeafBlock, done, then}
-use Rattle.fir_meaning.specs.Choices.{Live, below, covers_all, driving, last, last_all, later, live_reads, lives, lives_all, unless}
+use Rattle.fir_meaning.specs.working.Terms.{Term, Picks, Terms, zeros, absent, literal, read, operation, mux, validif, no_picks, pick, no_terms, term}
+use Rattle.fir_meaning.specs.working.TermValues.{Holds, eval, eval_each, is_true, leaf_of, value_at}
+use Rattle.fir_meaning.specs.working.TermReads.{each_read, is_among, is_picked, picks_read, reached, reads}
+use Rattle.fir_meaning.specs.working.LeafBlocks.{LeafStatement, drive, when, instance, LeafBlock, done, then}
+use Rattle.fir_meaning.specs.working.Choices.{Live, below, covers_all, driving, last, last_all, later, live_reads, lives, lives_all, unless}
 use Rattle.fir_leaf.specs.working.ValueChoices.{choice_of, choice_of_all, hits}
 use Rattle.fir_leaf.specs.working.ChoiceLaws.{StoresByReads, fitted_at}
 use Rattle.fir_leaf.proofs.PickedLeaves.{in_reached}

@@ -3,12 +3,13 @@ use Rattle.std.proofs.Common.{◌≡◌, ℕ, List, [], ◌∷◌, Option, Some,
 use Rattle.std.proofs.lemmas.Option.{same_Some}
 use Rattle.fir_base.specs.Lists.{In}
 use Rattle.fir_base.specs.Ticks.{Tick}
-use Rattle.fir_meaning.specs.Terms.{Term, no_picks, read, zeros}
-use Rattle.fir_meaning.specs.TermValues.{Env, clock_of}
-use Rattle.fir_meaning.specs.Choices.{Live}
-use Rattle.fir_meaning.specs.LeafModules.{Role, a_clock, computed, pipe, reading, register, sink, source}
-use Rattle.fir_meaning.specs.LeafCircuits.{LeafCircuit, depth_of, role_of, type_of_leaf}
-use Rattle.fir_meaning.specs.LeafSettled.{Settled, Shows, clock_given, clock_shown}
+use Rattle.fir_meaning.specs.working.Terms.{Term, no_picks, read, zeros}
+use Rattle.fir_meaning.specs.working.TermValues.{Env, clock_of}
+use Rattle.fir_meaning.specs.working.Choices.{Live}
+use Rattle.fir_meaning.specs.working.LeafModules.{Role, computed, pipe, reading, register, sink, source}
+use Rattle.fir_meaning.specs.LeafTypes.{a_clock}
+use Rattle.fir_meaning.specs.working.LeafCircuits.{LeafCircuit, depth_of, role_of, type_of_leaf}
+use Rattle.fir_meaning.specs.working.LeafSettled.{Settled, Shows, clock_given, clock_shown}
 use Rattle.fir_leaf.specs.working.ClockRoots.{GivesClock, IsChain, IsClockLeaf, IsEnd, root_clock}
 use Rattle.fir_leaf.specs.working.RunLaws.{HasOneRoot, RootIsClock}
 use Rattle.fir_leaf.proofs.LiveGifts.{from_live}

@@ -6,16 +6,16 @@ use Rattle.fir_ast.specs.Circuits.{ModuleTree, CircuitTree}
 use Rattle.fir_meaning.specs.LeafPaths.{LeafPath, path_text}
 use Rattle.fir_meaning.specs.ResetJoins.{numbered_module}
 use Rattle.fir_meaning.specs.SizedDeclarations.{NumberedModule, numbered_modules}
-use Rattle.fir_meaning.specs.Terms.{Term, Picks, literal, no_picks, pick, read}
-use Rattle.fir_meaning.specs.LeafBlocks.{LeafBlock, exec_all, nothing_stored}
-use Rattle.fir_meaning.specs.LeafBlocks as over
-use Rattle.fir_meaning.specs.LeafModules.{LeafDeclared, LeafModule}
-use Rattle.fir_meaning.specs.LeafedModules.{leafed_module}
+use Rattle.fir_meaning.specs.working.Terms.{Term, Picks, literal, no_picks, pick, read}
+use Rattle.fir_meaning.specs.working.LeafBlocks.{LeafBlock, exec_all, nothing_stored}
+use Rattle.fir_meaning.specs.working.LeafBlocks as over
+use Rattle.fir_meaning.specs.working.LeafModules.{LeafDeclared, LeafModule}
+use Rattle.fir_meaning.specs.working.LeafedModules.{leafed_module}
 use Rattle.fir_meaning.proofs.SmallTrees.{at}
-use Rattle.fir_meaning.specs.LeafCircuits.{LeafCircuit, depth_of, type_of_leaf}
+use Rattle.fir_meaning.specs.working.LeafCircuits.{LeafCircuit, depth_of, type_of_leaf}
 use Rattle.fir_leaf.specs.working.ChoiceLaws.{fitted_at}
-use Rattle.fir_meaning.specs.Designs.{Design, elaborated, module_of}
-use Rattle.fir_meaning.specs.Flattened.{flattened}
+use Rattle.fir_meaning.specs.working.Designs.{Design, elaborated, module_of}
+use Rattle.fir_meaning.specs.working.Flattened.{flattened}
 
 -- the modules of a circuit over their leaves, with widths of the numbers, and with which Resets are asynchronous
 abbrev pub modules_with : (ℕ → ℕ) → (LeafPath → Bool) → CircuitTree → List LeafModule

@@ -1,10 +1,10 @@
 -- Worked circuits over their leaves, computed from their texts: the last connect wins, a when keeps the connect before it, indices pick, flipped fields turn.
 -- Each line of a text is named by its number, where the ports begin in line 3.
 use Rattle.std.proofs.Common.{◌≡◌, [], ◌∷◌, map, Some, None, refl}
-use Rattle.fir_meaning.specs.Terms.{no_picks, read, zeros}
-use Rattle.fir_meaning.specs.LeafBlocks as over
+use Rattle.fir_meaning.specs.working.Terms.{no_picks, read, zeros}
+use Rattle.fir_meaning.specs.working.LeafBlocks as over
 use Rattle.fir_meaning.proofs.SmallTrees.{at}
-use Rattle.fir_meaning.specs.Designs.{elaborated}
+use Rattle.fir_meaning.specs.working.Designs.{elaborated}
 use Rattle.fir_leaf.proofs.TextTrees as text
 use Rattle.fir_leaf.proofs.RowTrees.{over_leaves, stores, takes, statements, four, by_i}
 

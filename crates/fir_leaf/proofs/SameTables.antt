@@ -1,9 +1,10 @@
 -- Tables that agree at each number that stands in statements store the same by them.
 use Rattle.std.proofs.Common.{◌≡◌, ℕ, ◌<◌, List, [], ◌∷◌, ◌++◌, Bool, true, false, not, if◌then◌else◌, Option, Some, None, refl, ap}
 use Rattle.fir_meaning.specs.Values.{number_of}
-use Rattle.fir_meaning.specs.Terms.{Term, Picks, Terms, zeros, absent, literal, read, operation, mux, validif, no_picks, pick, no_terms, term}
-use Rattle.fir_meaning.specs.TermValues.{Holds, eval, eval_each, is_true, leaf_of, value_at}
-use Rattle.fir_meaning.specs.LeafBlocks.{LeafStatement, LeafBlock, LeafStore, counts, drive, when, instance, done, then, exec, exec_all, stored, stored_at}
+use Rattle.fir_meaning.specs.working.Terms.{Term, Picks, Terms, zeros, absent, literal, read, operation, mux, validif, no_picks, pick, no_terms, term}
+use Rattle.fir_meaning.specs.working.TermValues.{Holds, eval, eval_each, is_true, leaf_of, value_at}
+use Rattle.fir_meaning.specs.working.LeafBlocks.{LeafStatement, LeafBlock, LeafStore, drive, when, instance, done, then, exec, exec_all, stored, stored_at}
+use Rattle.fir_meaning.specs.CountedWhens.{counts}
 use Rattle.fir_leaf.specs.working.LeafNumbers.{TermWithin, PicksWithin, TermsWithin, StatementWithin, BlockWithin}
 use Rattle.fir_leaf.proofs.PickedLeaves.{in_reached}
 

@@ -2,13 +2,14 @@
 use Rattle.std.proofs.Common.{◌≡◌, ℕ, zero, suc, ◌+◌, ◌^◌, ◌<◌, ◌≤◌, List, [], ◌∷◌, length, map, Bool, true, false, ◌&&◌, Option, Some, None, nat_eq, nat_lt, nat_le, is_none, refl, ap, arith, ⊎_elim}
 use Rattle.std.proofs.lemmas.Bool.{cases_lt}
 use Rattle.fir_base.specs.Ticks.{AreClocks, FitEach, Tick, TickResult}
-use Rattle.fir_meaning.specs.TermValues.{Env}
-use Rattle.fir_meaning.specs.LeafModules.{LeafType, a_clock, leaf_at, number}
-use Rattle.fir_meaning.specs.LeafCircuits.{LeafCircuit, role_of}
-use Rattle.fir_meaning.specs.LeafStates.{shape}
-use Rattle.fir_meaning.specs.LeafSettled.{Settled, Shows, clock_shown, number_shown}
-use Rattle.fir_meaning.specs.LeafNext.{next}
-use Rattle.fir_meaning.specs.LeafAllows.{Run}
+use Rattle.fir_meaning.specs.working.TermValues.{Env}
+use Rattle.fir_meaning.specs.LeafTypes.{LeafType, a_clock, number}
+use Rattle.fir_meaning.specs.working.LeafModules.{leaf_at}
+use Rattle.fir_meaning.specs.working.LeafCircuits.{LeafCircuit, role_of}
+use Rattle.fir_meaning.specs.working.LeafStates.{shape}
+use Rattle.fir_meaning.specs.working.LeafSettled.{Settled, Shows, clock_shown, number_shown}
+use Rattle.fir_meaning.specs.working.LeafNext.{next}
+use Rattle.fir_meaning.specs.working.LeafAllows.{Run}
 
 -- the values of leaves that are listed
 abbrev pub number_in : List ℕ → ℕ → ℕ

@@ -6,14 +6,15 @@ use Rattle.std.proofs.lemmas.List.{length-map, get_or-map}
 use Rattle.fir_base.specs.Lists.{In}
 use Rattle.fir_base.proofs.Members.{in_either, in_flat_map_from, in_map_from}
 use Rattle.fir_meaning.specs.LeafPaths.{LeafPath}
-use Rattle.fir_meaning.specs.LeafModules.{LeafArray, LeafDeclared, LeafModule, leaf_at}
-use Rattle.fir_meaning.specs.Designs.{Item, drive, when, instance, Items, done, then, Design, made_of}
-use Rattle.fir_meaning.specs.DesignPaths.{instance_path}
+use Rattle.fir_meaning.specs.working.LeafModules.{LeafArray, LeafDeclared, LeafModule, leaf_at}
+use Rattle.fir_meaning.specs.working.Designs.{Item, drive, when, instance, Items, done, then, Design, made_of}
+use Rattle.fir_meaning.specs.working.DesignPaths.{instance_path}
 use Rattle.fir_leaf.specs.working.DesignStates.{array_at, no_array}
-use Rattle.fir_meaning.specs.Numberings.{Numbering, number, numbering}
-use Rattle.fir_meaning.specs.FlatDesigns.{inner_leaves, count, count_all, array_count, array_count_all}
-use Rattle.fir_meaning.specs.FlatLeaves.{placed_leaf, leaves_in, all_leaves_in, leaves_below, placed_array, arrays_in, all_arrays_in, arrays_below}
-use Rattle.fir_meaning.specs.StateWalks.{all_array_order_in, all_words_in, array_order_below, array_order_in, has_bits, own_arrays, own_words, words_below, words_in}
+use Rattle.fir_meaning.specs.working.Numberings.{Numbering, number, numbering}
+use Rattle.fir_meaning.specs.working.FlatDesigns.{inner_leaves, count, count_all, array_count, array_count_all}
+use Rattle.fir_meaning.specs.working.FlatLeaves.{placed_leaf, leaves_in, all_leaves_in, leaves_below, placed_array, arrays_in, all_arrays_in, arrays_below}
+use Rattle.fir_meaning.specs.working.StateWalks.{all_array_order_in, all_words_in, array_order_below, array_order_in, own_arrays, own_words, words_below, words_in}
+use Rattle.fir_meaning.specs.LeafTypes.{has_bits}
 use Rattle.fir_leaf.specs.working.StateLaws.{ArraysHaveBits, EachInItem, EachInItems, EachModule, PortsShowNone, WordsShowState}
 use Rattle.fir_leaf.proofs.MovedTerms.{number_own}
 use Rattle.fir_leaf.proofs.FlatPlaces.{At, at_get, at_left, at_right, at_room, count_is, counts_are, inner_at, placed_at}

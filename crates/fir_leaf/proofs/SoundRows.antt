@@ -1,7 +1,7 @@
 -- The designs of the rows are sound, and named, so the laws hold of them; and that of the chain is the design of its module.
 use Rattle.std.proofs.Common.{refl}
 use Rattle.fir_bits.specs.Literals.{least_width}
-use Rattle.fir_meaning.specs.Designs.{IsDesignOf, elaborated}
+use Rattle.fir_meaning.specs.working.Designs.{IsDesignOf, elaborated}
 use Rattle.fir_leaf.specs.working.SoundDesigns.{IsSound}
 use Rattle.fir_leaf.specs.working.NamedDesigns.{IsNamed}
 use Rattle.fir_leaf.proofs.TextTrees as text

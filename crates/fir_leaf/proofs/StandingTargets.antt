@@ -9,12 +9,12 @@ use Rattle.fir_meaning.specs.ResetJoins.{type_of_known}
 use Rattle.fir_meaning.specs.TypeKinds.{FieldFound}
 use Rattle.fir_meaning.specs.TypeLeaves.{TypeLeaf, under, type_leaves, leaf_count}
 use Rattle.fir_meaning.specs.TypedScopes.{TypedScope, known}
-use Rattle.fir_meaning.specs.FieldSizes.{leaves_before}
+use Rattle.fir_meaning.specs.working.FieldSizes.{leaves_before}
 use Rattle.fir_leaf.specs.working.LeafLaws.{numbered, path_at, scope_paths, Begins}
 use Rattle.fir_leaf.specs.working.Standing.{Stands, leaf_from}
-use Rattle.fir_meaning.specs.Targets.{Target, leaves_ahead, named_target, stride_from, field_target, element_target, picked_target, further}
-use Rattle.fir_meaning.specs.Terms.{Term, Picks, no_picks, pick}
-use Rattle.fir_meaning.specs.TermValues.{Holds, eval, leaf_of}
+use Rattle.fir_meaning.specs.working.Targets.{Target, leaves_ahead, named_target, stride_from, field_target, element_target, picked_target, further}
+use Rattle.fir_meaning.specs.working.Terms.{Term, Picks, no_picks, pick}
+use Rattle.fir_meaning.specs.working.TermValues.{Holds, eval, leaf_of}
 use Rattle.fir_meaning.specs.TreeAims.{Aim, behind, named_aim, step_aim, field_aim, element_aim, picked_aim}
 use Rattle.fir_meaning.specs.TreeValues.{TypesByPath, ValuesByPath, leaf_where}
 use Rattle.fir_leaf.proofs.LeafPlaces.{StandsFrom, field_stands_from, field_within, element_stands_from, element_within}

@@ -5,10 +5,10 @@ use Rattle.std.specs.Prelude.{codes}
 use Rattle.fir_ast.specs.declared.statements.ReadUnderWrite.TheVariants.{Old}
 use Rattle.fir_bits.specs.Literals.{least_width}
 use Rattle.fir_meaning.specs.LeafPaths.{LeafPath, path_text}
-use Rattle.fir_meaning.specs.LeafModules.{pipe}
-use Rattle.fir_meaning.specs.LeafCircuits.{LeafCircuit, role_of}
+use Rattle.fir_meaning.specs.working.LeafModules.{pipe}
+use Rattle.fir_meaning.specs.working.LeafCircuits.{LeafCircuit, role_of}
 use Rattle.fir_leaf.specs.working.DesignStates.{array_at}
-use Rattle.fir_meaning.specs.Designs.{elaborated}
+use Rattle.fir_meaning.specs.working.Designs.{elaborated}
 use Rattle.fir_leaf.specs.working.SoundDesigns.{circuit_path}
 use Rattle.fir_leaf.specs.working.DesignLaws.{array_path}
 use Rattle.fir_leaf.proofs.TextTrees as text

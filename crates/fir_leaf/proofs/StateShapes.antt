@@ -8,14 +8,17 @@ use Rattle.fir_base.specs.Ticks.{Tick, FitEach}
 use Rattle.fir_ast.specs.declared.statements.ReadUnderWrite.{ReadUnderWrite}
 use Rattle.fir_ast.specs.declared.statements.ReadUnderWrite.TheVariants.{Old, New, Undefined}
 use Rattle.fir_meaning.proofs.FittedValues.{at_width_below}
-use Rattle.fir_meaning.specs.Terms.{Term}
-use Rattle.fir_meaning.specs.TermValues.{Env, clock_of, eval, is_true}
-use Rattle.fir_meaning.specs.LeafModules.{LeafReset, LeafType, Reading, Role, Writing, a_clock, computed, leaf_at, number, number_type, pipe, reading, register, sink, source}
-use Rattle.fir_meaning.specs.LeafCircuits.{LeafCircuit, depth_of, role_of, type_of_leaf}
-use Rattle.fir_meaning.specs.LeafStates.{array_of, array_width, look, shape, widths_in, widths_of}
-use Rattle.fir_meaning.specs.Memories.{addresses, are_met, array_next, arrays_next, begins_at, begins_from, has_edge, piped, read_word, word_after, word_before, word_behind, word_written, writes_at}
-use Rattle.fir_meaning.specs.LeafSettled.{Settled, Shows, number_given, number_stored}
-use Rattle.fir_meaning.specs.LeafNext.{register_next, stored_or_shown, word_next, words_next}
+use Rattle.fir_meaning.specs.working.Terms.{Term}
+use Rattle.fir_meaning.specs.working.TermValues.{Env, clock_of, eval, is_true}
+use Rattle.fir_meaning.specs.working.LeafModules.{LeafReset, Reading, Role, Writing, computed, leaf_at, pipe, reading, register, sink, source}
+use Rattle.fir_meaning.specs.LeafTypes.{LeafType, a_clock, number, number_type}
+use Rattle.fir_meaning.specs.working.LeafCircuits.{LeafCircuit, depth_of, role_of, type_of_leaf}
+use Rattle.fir_meaning.specs.working.LeafStates.{array_of, array_width, look, shape, widths_in, widths_of}
+use Rattle.fir_meaning.specs.MemoryWords.{addresses, word_behind}
+use Rattle.fir_meaning.specs.working.Memories.{are_met, array_next, arrays_next, begins_at, begins_from, piped, read_word, word_after, word_before, word_written, writes_at}
+use Rattle.fir_meaning.specs.ClockEdges.{has_edge}
+use Rattle.fir_meaning.specs.working.LeafSettled.{Settled, Shows, number_given, number_stored}
+use Rattle.fir_meaning.specs.working.LeafNext.{register_next, stored_or_shown, word_next, words_next}
 use Rattle.fir_leaf.specs.working.RunLaws.{FormedKeepsShape, IsFormed, IsNumber, TermsFit}
 use Rattle.fir_leaf.proofs.LiveGifts.{from_live}
 

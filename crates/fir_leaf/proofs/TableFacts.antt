@@ -7,9 +7,10 @@ use Rattle.fir_meaning.specs.LeafPaths.{LeafPath}
 use Rattle.fir_meaning.specs.ComponentTypes.{typed_scope}
 use Rattle.fir_meaning.specs.Visibility.{declarations}
 use Rattle.fir_meaning.proofs.WellTypedCircuits.{well_typed}
-use Rattle.fir_meaning.specs.LeafModules.{LeafDeclared, leaf_at, may_drive, number_type}
-use Rattle.fir_meaning.specs.LeafedModules.{module_leaves}
-use Rattle.fir_meaning.specs.TreeStores.{same_path}
+use Rattle.fir_meaning.specs.working.LeafModules.{LeafDeclared, leaf_at, may_drive}
+use Rattle.fir_meaning.specs.LeafTypes.{number_type}
+use Rattle.fir_meaning.specs.working.LeafedModules.{module_leaves}
+use Rattle.fir_meaning.specs.SamePaths.{same_path}
 use Rattle.fir_leaf.specs.working.TableLaws.{SayTheTable, TableHasFacts, leaf_on, table_facts}
 use Rattle.fir_leaf.proofs.ClearScopes.{fine_module}
 use Rattle.fir_leaf.proofs.DeclaredLeaves.{own_module, leaves_declared}

@@ -5,23 +5,24 @@ use Rattle.std.proofs.Math.ListN.{get_or-map}
 use Rattle.fir_base.specs.Lists.{In}
 use Rattle.fir_ast.specs.Circuits.{CircuitTree}
 use Rattle.fir_meaning.specs.LeafPaths.{LeafPath}
-use Rattle.fir_meaning.specs.NameGroups.{HasNames}
+use Rattle.fir_meaning.specs.working.NameGroups.{HasNames}
 use Rattle.fir_meaning.specs.TypeGroup.{type_faults}
 use Rattle.fir_meaning.specs.TypedScopes.{TypedScope}
 use Rattle.fir_meaning.specs.ComponentTypes.{typed_scope}
 use Rattle.fir_meaning.specs.Visibility.{declarations}
 use Rattle.fir_meaning.specs.SizedDeclarations.{numbered_modules}
 use Rattle.fir_meaning.proofs.WellTypedCircuits.{well_typed}
-use Rattle.fir_meaning.specs.Terms.{Term}
-use Rattle.fir_meaning.specs.TermValues.{Holds}
-use Rattle.fir_meaning.specs.LeafBlocks.{LeafBlock, exec_all, nothing_stored}
+use Rattle.fir_meaning.specs.working.Terms.{Term}
+use Rattle.fir_meaning.specs.working.TermValues.{Holds}
+use Rattle.fir_meaning.specs.working.LeafBlocks.{LeafBlock, exec_all, nothing_stored}
 use Rattle.fir_leaf.specs.working.ChoiceLaws.{fitted_at}
-use Rattle.fir_meaning.specs.LeafModules.{LeafDeclared, depth_at, leaf_at, no_leaf}
-use Rattle.fir_meaning.specs.LeafedBlocks.{leafed_all}
-use Rattle.fir_meaning.specs.LeafedModules.{Scene, behind_all_ports, driven_leaves, leafed_module, module_leaves}
+use Rattle.fir_meaning.specs.working.LeafModules.{LeafDeclared, depth_at, leaf_at, no_leaf}
+use Rattle.fir_meaning.specs.working.LeafedBlocks.{leafed_all}
+use Rattle.fir_meaning.specs.ModuleScenes.{Scene, behind_all_ports}
+use Rattle.fir_meaning.specs.working.LeafedModules.{driven_leaves, leafed_module, module_leaves}
 use Rattle.fir_leaf.specs.working.LeafNumbers.{TermWithin, BlockWithin}
 use Rattle.fir_meaning.specs.TreeValues.{ValuesByPath}
-use Rattle.fir_meaning.specs.TreeStores.{LeafFacts, exec_tree_all}
+use Rattle.fir_meaning.specs.working.TreeStores.{LeafFacts, exec_tree_all}
 use Rattle.fir_leaf.specs.working.LeafLaws.{scope_paths, path_at, numbered, number_given}
 use Rattle.fir_leaf.specs.working.TableLaws.{NumbersAreLeaves, SayTheTable, TableStores, table_holds, table_values}
 use Rattle.fir_leaf.proofs.ScopesBegin.{begins_all}

@@ -11,10 +11,10 @@ use Rattle.fir_meaning.specs.TypeKinds.{FieldFound}
 use Rattle.fir_meaning.specs.TypedScopes.{TypedScope, known}
 use Rattle.fir_meaning.specs.Reaching.{field_of_type, vector_of_type}
 use Rattle.fir_meaning.specs.ResetJoins.{type_of_known}
-use Rattle.fir_meaning.specs.FieldSizes.{leaves_before}
-use Rattle.fir_meaning.specs.Terms.{Term, Picks, no_picks, pick}
-use Rattle.fir_meaning.specs.TermReads.{multiples, reached}
-use Rattle.fir_meaning.specs.Targets.{Target, leaves_ahead, named_target, stride_from, field_target, element_target, picked_target, further}
+use Rattle.fir_meaning.specs.working.FieldSizes.{leaves_before}
+use Rattle.fir_meaning.specs.working.Terms.{Term, Picks, no_picks, pick}
+use Rattle.fir_meaning.specs.working.TermReads.{multiples, reached}
+use Rattle.fir_meaning.specs.working.Targets.{Target, leaves_ahead, named_target, stride_from, field_target, element_target, picked_target, further}
 use Rattle.fir_leaf.specs.working.LeafNumbers.{AllBelow, TermWithin, PicksWithin}
 use Rattle.fir_leaf.specs.working.LeafLaws.{scope_paths, Begins}
 use Rattle.fir_leaf.proofs.LeafPlaces.{field_within, element_within}

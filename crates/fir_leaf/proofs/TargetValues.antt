@@ -2,19 +2,21 @@
 use Rattle.std.proofs.Common.{◌≡◌, ℕ, suc, ◌+◌, List, [], ◌∷◌, Bool, map, slice_get, refl, sym, ap, ◌∙◌, arith, Option, Some, None, option_map}
 use Rattle.fir_bits.specs.declared.values.Num.{Num}
 use Rattle.fir_ast.specs.Types.{DataType}
-use Rattle.fir_meaning.specs.Values.{number_of, is_high, choice, choices, value_or_zero}
+use Rattle.fir_meaning.specs.Values.{number_of, is_high, choice, value_or_zero}
+use Rattle.fir_meaning.specs.working.Values.{choices}
 use Rattle.fir_meaning.specs.LeafPaths.{LeafPath}
 use Rattle.fir_meaning.specs.TypeLeaves.{TypeLeaf, type_leaves}
 use Rattle.fir_meaning.specs.TypedScopes.{TypedScope}
 use Rattle.fir_meaning.proofs.FreshFields.{HasFreshFields}
 use Rattle.fir_meaning.proofs.LeafSteps.{path_of}
 use Rattle.fir_leaf.specs.working.LeafLaws.{numbered, path_at}
-use Rattle.fir_meaning.specs.Leafed.{absent_type, leaf_term, leaf_terms, target_terms, first_term, muxes}
+use Rattle.fir_meaning.specs.FoundTypes.{absent_type}
+use Rattle.fir_meaning.specs.working.Leafed.{leaf_term, leaf_terms, target_terms, first_term, muxes}
 use Rattle.fir_leaf.specs.working.Standing.{Stands, leaf_from}
-use Rattle.fir_meaning.specs.Targets.{Target}
-use Rattle.fir_meaning.specs.Terms as over
-use Rattle.fir_meaning.specs.Terms.{Term, Picks}
-use Rattle.fir_meaning.specs.TermValues.{eval, leaf_of, value_at}
+use Rattle.fir_meaning.specs.working.Targets.{Target}
+use Rattle.fir_meaning.specs.working.Terms as over
+use Rattle.fir_meaning.specs.working.Terms.{Term, Picks}
+use Rattle.fir_meaning.specs.working.TermValues.{eval, leaf_of, value_at}
 use Rattle.fir_meaning.specs.TreeAims.{Aim}
 use Rattle.fir_meaning.specs.TreeValues.{TypesByPath, ValuesByPath, value_where, type_where, leaf_where, aim_value}
 use Rattle.fir_meaning.specs.TypeParts.{ground_at}

@@ -10,12 +10,12 @@ use Rattle.fir_meaning.specs.TypeLeaves.{TypeLeaf, type_leaves, leaf_count}
 use Rattle.fir_meaning.specs.TypedScopes.{TypedScope, known}
 use Rattle.fir_meaning.specs.working.WellTyped.{HasType, HaveTypes, Leads, Reaches}
 use Rattle.fir_leaf.specs.working.LeafLaws.{scope_paths, Begins}
-use Rattle.fir_meaning.specs.Leafed.{leaf_term, leaf_terms, target_terms, first_term, muxes, terms, target_along, operands, target_of}
-use Rattle.fir_meaning.specs.LeafedBlocks.{term_at}
+use Rattle.fir_meaning.specs.working.Leafed.{leaf_term, leaf_terms, target_terms, first_term, muxes, terms, target_along, operands, target_of}
+use Rattle.fir_meaning.specs.working.LeafedBlocks.{term_at}
 use Rattle.fir_leaf.specs.working.LeafNumbers.{TermWithin, TermsWithin}
-use Rattle.fir_meaning.specs.Targets.{Target, named_target, field_target, field_target_at, element_target, element_target_at, picked_target, picked_target_at}
-use Rattle.fir_meaning.specs.Terms.{Term, terms_of, zeros}
-use Rattle.fir_meaning.specs.Terms as over
+use Rattle.fir_meaning.specs.working.Targets.{Target, named_target, field_target, field_target_at, element_target, element_target_at, picked_target, picked_target_at}
+use Rattle.fir_meaning.specs.working.Terms.{Term, terms_of, zeros}
+use Rattle.fir_meaning.specs.working.Terms as over
 use Rattle.fir_leaf.proofs.LeafPlaces.{leaves_counted}
 use Rattle.fir_leaf.proofs.NamedPlaces.{reached_type}
 use Rattle.fir_leaf.proofs.TargetNumbers.{TargetWithin, named_numbers, field_numbers, element_numbers, picked_numbers}

@@ -2,10 +2,10 @@
 -- A run is computed from the numbers of all leaves at each tick, and from their clocks.
 use Rattle.std.proofs.Common.{ℕ, List, [], ◌∷◌, Option, Some, None, refl}
 use Rattle.fir_base.specs.Ticks.{Tick}
-use Rattle.fir_meaning.specs.TermReads.{multiples}
-use Rattle.fir_meaning.specs.Designs.{elaborated}
-use Rattle.fir_meaning.specs.Memories.{addresses}
-use Rattle.fir_meaning.specs.LeafAllows.{Run}
+use Rattle.fir_meaning.specs.working.TermReads.{multiples}
+use Rattle.fir_meaning.specs.working.Designs.{elaborated}
+use Rattle.fir_meaning.specs.MemoryWords.{addresses}
+use Rattle.fir_meaning.specs.working.LeafAllows.{Run}
 use Rattle.fir_leaf.proofs.TextTrees as text
 use Rattle.fir_leaf.proofs.RowTrees.{over_leaves}
 use Rattle.fir_leaf.proofs.SmallCircuits.{shows, tick}

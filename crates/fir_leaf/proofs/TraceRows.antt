@@ -1,11 +1,11 @@
 -- Worked runs over leaves, computed from texts: what circuits without a state show, tick by tick.
 -- A run is computed from the numbers of all leaves at each tick; no leaf has a clock.
 use Rattle.std.proofs.Common.{◌≡◌, ℕ, List, [], ◌∷◌, map, true, Option, None, refl, subst}
-use Rattle.fir_meaning.specs.TermReads.{multiples}
-use Rattle.fir_meaning.specs.Designs.{elaborated}
-use Rattle.fir_meaning.specs.LeafCircuits.{LeafCircuit}
-use Rattle.fir_meaning.specs.Memories.{addresses}
-use Rattle.fir_meaning.specs.LeafAllows.{Run}
+use Rattle.fir_meaning.specs.working.TermReads.{multiples}
+use Rattle.fir_meaning.specs.working.Designs.{elaborated}
+use Rattle.fir_meaning.specs.working.LeafCircuits.{LeafCircuit}
+use Rattle.fir_meaning.specs.MemoryWords.{addresses}
+use Rattle.fir_meaning.specs.working.LeafAllows.{Run}
 use Rattle.fir_leaf.proofs.TextTrees as text
 use Rattle.fir_leaf.proofs.RowTrees.{over_leaves}
 use Rattle.fir_leaf.proofs.SmallCircuits.{shows, tick}

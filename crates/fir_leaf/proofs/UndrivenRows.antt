@@ -9,16 +9,17 @@ use Rattle.fir_ast.specs.declared.fault.Outcome.TheVariants as outcome
 use Rattle.fir_ast.specs.Circuits.{CircuitTree}
 use Rattle.fir_meaning.specs.LeafPaths.{LeafPath, element, named, path_text}
 use Rattle.fir_meaning.specs.SizedDeclarations.{NumberedModule, numbered_modules}
-use Rattle.fir_meaning.specs.TermReads.{multiples}
-use Rattle.fir_meaning.specs.Choices.{Choice}
+use Rattle.fir_meaning.specs.working.TermReads.{multiples}
+use Rattle.fir_meaning.specs.working.Choices.{Choice}
 use Rattle.fir_meaning.specs.working.UndrivenChoices.{IsFirstUndriven, IsUndriven, told_all}
 use Rattle.fir_meaning.specs.Outcomes.{ComesFirst, told_once}
 use Rattle.fir_meaning.specs.working.UndrivenLeaves.{AreDrivenBefore, ShowsUndriven}
-use Rattle.fir_meaning.specs.LeafModules.{LeafModule}
-use Rattle.fir_meaning.specs.LeafedModules.{Scene, leafed_module}
+use Rattle.fir_meaning.specs.working.LeafModules.{LeafModule}
+use Rattle.fir_meaning.specs.ModuleScenes.{Scene}
+use Rattle.fir_meaning.specs.working.LeafedModules.{leafed_module}
 use Rattle.fir_meaning.specs.Scenes.{IsSceneOf}
 use Rattle.fir_meaning.proofs.SmallTrees.{at}
-use Rattle.fir_meaning.specs.Designs.{module_of}
+use Rattle.fir_meaning.specs.working.Designs.{module_of}
 use Rattle.fir_leaf.proofs.TextTrees as text
 use Rattle.fir_leaf.proofs.RowTrees.{modules_with}
 

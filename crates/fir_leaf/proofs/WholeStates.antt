@@ -8,16 +8,17 @@ use Rattle.std.proofs.lemmas.List.FromFn.{get_or-range_with_len, length-range_wi
 use Rattle.fir_base.specs.Lists.{In}
 use Rattle.fir_base.proofs.Members.{in_flat_map, in_left, in_map, in_right}
 use Rattle.fir_meaning.specs.LeafPaths.{LeafPath}
-use Rattle.fir_meaning.specs.LeafBlocks.{HeldInstance}
-use Rattle.fir_meaning.specs.LeafModules.{LeafArray, LeafDeclared, LeafModule, Role, computed, leaf_at, no_leaf, pipe, reading, register, sink, source}
-use Rattle.fir_meaning.specs.Designs.{Item, drive, when, instance, Items, done, then, Design, made_of}
-use Rattle.fir_meaning.specs.DesignPaths.{instance_path}
+use Rattle.fir_meaning.specs.working.LeafBlocks.{HeldInstance}
+use Rattle.fir_meaning.specs.working.LeafModules.{LeafArray, LeafDeclared, LeafModule, Role, computed, leaf_at, no_leaf, pipe, reading, register, sink, source}
+use Rattle.fir_meaning.specs.working.Designs.{Item, drive, when, instance, Items, done, then, Design, made_of}
+use Rattle.fir_meaning.specs.working.DesignPaths.{instance_path}
 use Rattle.fir_leaf.specs.working.DesignStates.{array_at, no_array}
-use Rattle.fir_meaning.specs.Numberings.{Numbering, moved_role, number, numbering}
-use Rattle.fir_meaning.specs.FlatDesigns.{inner_leaves, count, count_all, array_count, array_count_all}
-use Rattle.fir_meaning.specs.FlatLeaves.{placed_leaf, leaves_in, all_leaves_in, leaves_below, placed_array, arrays_in, all_arrays_in, arrays_below}
-use Rattle.fir_meaning.specs.StateWalks.{all_array_order_in, all_words_in, array_order_below, array_order_in, has_bits, is_state, numbers_where, own_arrays, own_words, walk, words_below, words_in}
-use Rattle.fir_meaning.specs.Flattened.{port_leaves}
+use Rattle.fir_meaning.specs.working.Numberings.{Numbering, moved_role, number, numbering}
+use Rattle.fir_meaning.specs.working.FlatDesigns.{inner_leaves, count, count_all, array_count, array_count_all}
+use Rattle.fir_meaning.specs.working.FlatLeaves.{placed_leaf, leaves_in, all_leaves_in, leaves_below, placed_array, arrays_in, all_arrays_in, arrays_below}
+use Rattle.fir_meaning.specs.working.StateWalks.{all_array_order_in, all_words_in, array_order_below, array_order_in, is_state, numbers_where, own_arrays, own_words, walk, words_below, words_in}
+use Rattle.fir_meaning.specs.LeafTypes.{has_bits}
+use Rattle.fir_meaning.specs.working.Flattened.{port_leaves}
 use Rattle.fir_leaf.specs.working.NamedDesigns.{HasOwnNames, IsNamedItem, AreNamedItems, IsNamedInstance}
 use Rattle.fir_leaf.specs.working.StateLaws.{ArraysAreAll, WordsAreAll}
 use Rattle.fir_leaf.proofs.MovedTerms.{number_own, number_port}

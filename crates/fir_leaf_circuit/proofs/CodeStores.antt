@@ -4,16 +4,17 @@ use Rattle.std.proofs.lemmas.List.{length-map}
 use Rattle.std.proofs.Math.ListN.{get_or-map}
 use Rattle.fir_base.proofs.Elements.{get_in}
 use Rattle.fir_ast.specs.Circuits.{CircuitTree}
-use Rattle.fir_meaning.specs.NameGroups.{HasNames}
+use Rattle.fir_meaning.specs.working.NameGroups.{HasNames}
 use Rattle.fir_meaning.specs.SizedDeclarations.{numbered_modules}
 use Rattle.fir_meaning.specs.TypeGroup.{type_faults}
 use Rattle.fir_leaf.specs.working.ChoiceLaws.{fitted_at}
-use Rattle.fir_meaning.specs.LeafBlocks.{exec_all, nothing_stored}
-use Rattle.fir_meaning.specs.LeafModules.{LeafDeclared, LeafModule as View, depth_at, leaf_at, no_leaf, number_type}
+use Rattle.fir_meaning.specs.working.LeafBlocks.{exec_all, nothing_stored}
+use Rattle.fir_meaning.specs.working.LeafModules.{LeafDeclared, LeafModule as View, depth_at, leaf_at, no_leaf}
+use Rattle.fir_meaning.specs.LeafTypes.{number_type}
 use Rattle.fir_leaf.specs.working.LeafNumbers.{TermWithin}
-use Rattle.fir_meaning.specs.LeafedModules.{leafed_module, module_leaves}
+use Rattle.fir_meaning.specs.working.LeafedModules.{leafed_module, module_leaves}
 use Rattle.fir_leaf.specs.working.TableLaws.{NumbersAreLeaves, TableHasFacts, TableStores, table_facts, table_holds}
-use Rattle.fir_meaning.specs.Terms.{Term}
+use Rattle.fir_meaning.specs.working.Terms.{Term}
 use Rattle.fir_leaf.proofs.SameTables.{block_alike, value_alike}
 use Rattle.fir_leaf_circuit.specs.declared.leaf_module.LeafModule.{LeafModule}
 use Rattle.fir_leaf_circuit.specs.working.Leafed.{AreLeafed}

@@ -4,12 +4,12 @@ use Rattle.std.specs.Prelude.{slice_get}
 use Rattle.std.proofs.lemmas.Option.{none-some}
 use Rattle.fir_base.proofs.Elements.{there}
 use Rattle.fir_ast.specs.Circuits.{CircuitTree, ModuleTree}
-use Rattle.fir_meaning.specs.NameGroups.{HasNames}
+use Rattle.fir_meaning.specs.working.NameGroups.{HasNames}
 use Rattle.fir_meaning.specs.SizedDeclarations.{NumberedModule, Numbering, behind_module, first_numbers, modules_from}
 use Rattle.fir_meaning.specs.TypeGroup.{type_faults}
 use Rattle.fir_meaning.specs.working.WidthLaws.{FitsAll}
 use Rattle.fir_reset.specs.working.Inferred.{AreInferred}
-use Rattle.fir_meaning.specs.Scenes.{HasScenes}
+use Rattle.fir_meaning.specs.working.Scenes.{HasScenes}
 use Rattle.fir_leaf_circuit.proofs.ResetPaths.{are_resets, is_async_in}
 
 -- the module of a number with the numbers of its leaves

@@ -5,7 +5,7 @@ ghost use Rattle.fir_ast.specs.working.Views.{circuit_of};
 ghost use Rattle.fir_pass.specs.Groups.{IsClear};
 ghost use Rattle.fir_meaning.specs.CostGroup.{cost_group};
 ghost use Rattle.fir_leaf_circuit.specs.working.Leafed.{AreLeafed};
-ghost use Rattle.fir_meaning.specs.Scenes.{HasScenes};
+ghost use Rattle.fir_meaning.specs.working.Scenes.{HasScenes};
 ghost use Rattle.fir_leaf_circuit.specs.working.LeafStores.{StoreAsTheirTrees};
 
 use crate::leaf_module::LeafModule;

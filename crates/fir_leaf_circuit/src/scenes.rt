@@ -1,7 +1,7 @@
 //! A law about the modules of a circuit that has its widths.
 
 ghost use Rattle.fir_ast.specs.working.Views.{circuit_of};
-ghost use Rattle.fir_meaning.specs.Scenes.{HasScenes};
+ghost use Rattle.fir_meaning.specs.working.Scenes.{HasScenes};
 
 use fir_width::Fitted;
 

@@ -11,13 +11,13 @@ use Rattle.fir_leaf.specs.declared.node.Node.{Node}
 use Rattle.fir_leaf.specs.declared.statement.Drive.{Drive}
 use Rattle.fir_leaf.specs.declared.statement.LeafStmt.{LeafStmt}
 use Rattle.fir_leaf.specs.declared.statement.LeafStmt.TheVariants as code
-use Rattle.fir_meaning.specs.LeafBlocks.{LeafBlock, drive, done, joined}
-use Rattle.fir_meaning.specs.LeafedBlocks.{Sides, driven, driven_from, driven_where, invalid_block, invalid_leaf, invalid_leaves, pair_block, pairs_block, term_at}
-use Rattle.fir_meaning.specs.LeafPairs.{LeafPair}
+use Rattle.fir_meaning.specs.working.LeafBlocks.{LeafBlock, drive, done, joined}
+use Rattle.fir_meaning.specs.working.LeafedBlocks.{Sides, driven, driven_from, driven_where, invalid_block, invalid_leaf, invalid_leaves, pair_block, pairs_block, term_at}
+use Rattle.fir_meaning.specs.working.LeafPairs.{LeafPair}
 use Rattle.fir_leaf.specs.working.Nodes.{entries, node_term, picks_at}
 use Rattle.fir_leaf.specs.working.NodeBlocks.{Emitted}
-use Rattle.fir_meaning.specs.Targets as over
-use Rattle.fir_meaning.specs.Terms.{Term, zeros}
+use Rattle.fir_meaning.specs.working.Targets as over
+use Rattle.fir_meaning.specs.working.Terms.{Term, zeros}
 use Rattle.fir_leaf_pairs.specs.declared.pairs.LeafPair.{LeafPair as PairOfCode}
 use Rattle.fir_leaf_pairs.specs.declared.target.Target.{Target}
 use Rattle.fir_leaf_pairs.specs.working.Drives.{Stand, StandsFor, HasTarget, MayHaveTarget, HasSides, GivesBack, is_any_flipped, Drives, DrivesBack, DrivesPair, DrivesPairs, DrivesZero, DrivesZeros, sinks_in}

@@ -8,7 +8,7 @@ use Rattle.fir_leaf.specs.declared.statement.LeafWhen.{LeafWhen, fold_out-LeafWh
 use Rattle.fir_leaf.specs.declared.statement.LeafStmt.{LeafStmt, fold-roll-LeafStmt}
 use Rattle.fir_leaf.specs.declared.statement.LeafStmt.TheOpen.{LeafStmt-F}
 use Rattle.fir_leaf.specs.declared.statement.LeafStmt.TheVariants as code
-use Rattle.fir_meaning.specs.LeafBlocks.{LeafStatement, LeafBlock, drive, when, instance, done, then, joined}
+use Rattle.fir_meaning.specs.working.LeafBlocks.{LeafStatement, LeafBlock, drive, when, instance, done, then, joined}
 use Rattle.fir_leaf.specs.working.Nodes.{Grows, entries, node_term, picks_at}
 use Rattle.fir_leaf.specs.working.NodeBlocks.{block_of, block_in, statement_in, statement_step, when_step, Emitted}
 use Rattle.fir_leaf_pairs.proofs.Entries.{grows_on}

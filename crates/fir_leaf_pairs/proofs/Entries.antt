@@ -3,7 +3,7 @@ use Rattle.std.proofs.Common.{◌≡◌, ℕ, ◌<◌, ◌≤◌, List, [], ◌�
 use Rattle.std.proofs.lemmas.List.{get_or_append_left}
 use Rattle.std.proofs.Math.Seq.{get_or-append_seam}
 use Rattle.fir_leaf.specs.declared.node.Node.{Node}
-use Rattle.fir_meaning.specs.Terms as over
+use Rattle.fir_meaning.specs.working.Terms as over
 use Rattle.fir_leaf.specs.working.Nodes.{Entry, Grows, a_term, entries, entries_from, entry_at, entry_of, picks_at, picks_in}
 use Rattle.fir_leaf_pairs.specs.working.TargetNames.{PicksWithin}
 

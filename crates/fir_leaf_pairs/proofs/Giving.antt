@@ -3,9 +3,9 @@ use Rattle.std.proofs.Common.{◌≡◌, ℕ, zero, suc, ◌+◌, ◌<◌, ◌�
 use Rattle.std.proofs.lemmas.List.{map-append}
 use Rattle.fir_leaf.specs.declared.node.Node.{Node}
 use Rattle.fir_leaf.specs.declared.node.Node.TheVariants as node
-use Rattle.fir_meaning.specs.Terms.{Term}
-use Rattle.fir_meaning.specs.Terms as over
-use Rattle.fir_meaning.specs.Leafed.{first_term, muxes}
+use Rattle.fir_meaning.specs.working.Terms.{Term}
+use Rattle.fir_meaning.specs.working.Terms as over
+use Rattle.fir_meaning.specs.working.Leafed.{first_term, muxes}
 use Rattle.fir_leaf.specs.working.Nodes.{AllBelow, Gives, Grows, Shows, entries, entry_of, node_term, term_in}
 use Rattle.fir_leaf_pairs.proofs.Entries.{keeps, grows_none, grows_on, grows_length, stands_new}
 

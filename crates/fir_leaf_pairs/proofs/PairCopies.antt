@@ -4,7 +4,7 @@ use Rattle.std.proofs.lemmas.List.{append-nil, map-append, length-drop, get_or_a
 use Rattle.std.specs.Prelude.{slice_range}
 use Rattle.fir_meaning.specs.TypeLeaves.{leaf_count}
 use Rattle.fir_ast.specs.Types.{DataType}
-use Rattle.fir_meaning.specs.LeafPairs.{LeafPair, past, element_leaf_pairs}
+use Rattle.fir_meaning.specs.working.LeafPairs.{LeafPair, past, element_leaf_pairs}
 use Rattle.fir_type_table.specs.working.Saturated.{saturated}
 use Rattle.fir_leaf_pairs.specs.declared.pairs.LeafPair.{LeafPair as PairOfCode}
 use Rattle.fir_leaf_pairs.specs.working.PairNumbers.{AreWithin}

@@ -6,11 +6,11 @@ use Rattle.fir_meaning.specs.TypeLeaves.{turned, leaf_count, field_count}
 use Rattle.fir_meaning.specs.TypeKinds.{FieldFound, field_named}
 use Rattle.fir_meaning.specs.Reaching.{field_of_type}
 use Rattle.fir_meaning.specs.Equivalence.{met}
-use Rattle.fir_meaning.specs.LeafPairs.{LeafPair, past, turned_pair, partial_leaf_pairs, partial_field_leaf_pairs}
+use Rattle.fir_meaning.specs.working.LeafPairs.{LeafPair, past, turned_pair, partial_leaf_pairs, partial_field_leaf_pairs}
 use Rattle.fir_type_table.specs.declared.entry.Member.{Member}
 use Rattle.fir_type_table.specs.declared.kind.TypeId.{TypeId}
 use Rattle.fir_type_table.specs.working.Saturated.{saturated}
-use Rattle.fir_meaning.specs.FieldSizes.{leaves_before, leaves_before_field}
+use Rattle.fir_meaning.specs.working.FieldSizes.{leaves_before, leaves_before_field}
 use Rattle.fir_type_table.specs.working.Tables.{type_at, member_of, member_fields}
 use Rattle.fir_type_table.proofs.MemberLists.{members_from, members_next, members_end}
 use Rattle.fir_leaf_pairs.specs.declared.pairs.LeafPair.{LeafPair as PairOfCode}

@@ -7,8 +7,8 @@ use Rattle.fir_ast.specs.Types.{DataType, bundle, vector, Fields, no_fields, fie
 use Rattle.fir_meaning.specs.TypeLeaves.{leaf_count, field_count}
 use Rattle.fir_meaning.specs.TypeKinds.{FieldFound, field_named}
 use Rattle.fir_meaning.specs.Equivalence.{fitting_ground, is_connectable, fields_alike, met}
-use Rattle.fir_meaning.specs.LeafPairs.{LeafPair, past, turned_pair, element_leaf_pairs, leaf_pairs, field_leaf_pairs, partial_leaf_pairs, partial_field_leaf_pairs}
-use Rattle.fir_meaning.specs.FieldSizes.{leaves_before_field}
+use Rattle.fir_meaning.specs.working.LeafPairs.{LeafPair, past, turned_pair, element_leaf_pairs, leaf_pairs, field_leaf_pairs, partial_leaf_pairs, partial_field_leaf_pairs}
+use Rattle.fir_meaning.specs.working.FieldSizes.{leaves_before_field}
 use Rattle.fir_leaf_pairs.specs.working.PairNumbers.{AreWithin}
 
 pub within_joined : (n m : ℕ) (ps qs : List LeafPair) → AreWithin n m ps → AreWithin n m qs → AreWithin n m (ps ++ qs)

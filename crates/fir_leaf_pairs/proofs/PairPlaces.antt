@@ -3,7 +3,7 @@ use Rattle.std.proofs.Common.{◌≡◌, ℕ, zero, suc, ◌+◌, ◌*◌, List,
 use Rattle.std.proofs.lemmas.List.{append-nil, map-append}
 use Rattle.fir_ast.specs.Types.{DataType}
 use Rattle.fir_meaning.specs.TypeLeaves.{turned, leaf_count}
-use Rattle.fir_meaning.specs.LeafPairs.{LeafPair, past, turned_pair, element_leaf_pairs}
+use Rattle.fir_meaning.specs.working.LeafPairs.{LeafPair, past, turned_pair, element_leaf_pairs}
 use Rattle.fir_leaf_pairs.specs.declared.pairs.LeafPair.{LeafPair as PairOfCode}
 use Rattle.fir_leaf_pairs.specs.working.PairNumbers.{AreWithin}
 use Rattle.fir_leaf_pairs.specs.working.Pairing.{pairs_of, Joins, Paired, pair_seen, placed}

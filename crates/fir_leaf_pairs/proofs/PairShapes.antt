@@ -5,8 +5,8 @@ use Rattle.fir_ast.specs.Types.{DataType, bundle, vector, Fields, no_fields, fie
 use Rattle.fir_meaning.specs.TypeLeaves.{leaf_count}
 use Rattle.fir_meaning.specs.TypeKinds.{bare, bare_fields, FieldFound, field_named}
 use Rattle.fir_meaning.specs.Equivalence.{met}
-use Rattle.fir_meaning.specs.LeafPairs.{past, turned_pair, element_leaf_pairs, leaf_pairs, field_leaf_pairs, partial_leaf_pairs, partial_field_leaf_pairs}
-use Rattle.fir_meaning.specs.FieldSizes.{leaves_before_field}
+use Rattle.fir_meaning.specs.working.LeafPairs.{past, turned_pair, element_leaf_pairs, leaf_pairs, field_leaf_pairs, partial_leaf_pairs, partial_field_leaf_pairs}
+use Rattle.fir_meaning.specs.working.FieldSizes.{leaves_before_field}
 use Rattle.fir_type_table.specs.working.Tables.{shown}
 use Rattle.fir_types.proofs.BareTypes.{shown_field, bare_field_named, shown_leaf_count, shown_leaves_before}
 use Rattle.fir_leaf_pairs.specs.working.Pairing.{pairs_of, named_pairs}

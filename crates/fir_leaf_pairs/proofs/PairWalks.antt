@@ -5,7 +5,7 @@ use Rattle.std.proofs.lemmas.Bool.{cases_lt}
 use Rattle.fir_ast.specs.declared.place.Place.{Place}
 use Rattle.fir_ast.specs.Types.{DataType, bundle, vector, Fields, no_fields, field}
 use Rattle.fir_meaning.specs.TypeLeaves.{turned, leaf_count, field_count}
-use Rattle.fir_meaning.specs.LeafPairs.{LeafPair, past, turned_pair, element_leaf_pairs, ground_leaf_pair, leaf_pairs, field_leaf_pairs}
+use Rattle.fir_meaning.specs.working.LeafPairs.{LeafPair, past, turned_pair, element_leaf_pairs, ground_leaf_pair, leaf_pairs, field_leaf_pairs}
 use Rattle.fir_type_table.specs.declared.entry.Member.{Member}
 use Rattle.fir_type_table.specs.working.Saturated.{saturated}
 use Rattle.fir_type_table.specs.working.Tables.{type_at, member_of, member_fields}

@@ -6,7 +6,7 @@ ghost use Rattle.std.specs.Prelude.{◌≡◌, ◌-◌, ◌++◌, ◌<◌, ◌�
 ghost use Rattle.fir_ast.specs.Types.{DataType};
 ghost use Rattle.fir_meaning.specs.Equivalence.{is_connectable};
 ghost use Rattle.fir_meaning.specs.TypeLeaves.{leaf_count, turned};
-ghost use Rattle.fir_meaning.specs.LeafPairs.{leaf_pairs, partial_leaf_pairs};
+ghost use Rattle.fir_meaning.specs.working.LeafPairs.{leaf_pairs, partial_leaf_pairs};
 ghost use Rattle.fir_type_table.specs.working.Tables.{members_at, types_of};
 ghost use Rattle.fir_types.specs.working.Seen.{found_type};
 ghost use Rattle.fir_leaf_pairs.specs.working.Pairing.{PairsElements, PairsFields, PairsFound, PairsNamed, PairsNamedFields, PairsParts, Paired, copies, is_ground_type, moved, pair_seen, pairs_of};

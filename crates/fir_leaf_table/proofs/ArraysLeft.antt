@@ -3,9 +3,9 @@ use Rattle.std.proofs.Common.{◌≡◌, ℕ, suc, ◌+◌, ◌<◌, ◌≤◌, 
 use Rattle.std.proofs.lemmas.List.{append-nil, drop-map, drop_more, drop_all, map_push}
 use Rattle.fir_ast.specs.Types.{clock}
 use Rattle.fir_meaning.specs.TypeLeaves.{TypeLeaf}
-use Rattle.fir_meaning.specs.LeafMemories.{LeafMemory, arrays_from, writings_from}
-use Rattle.fir_meaning.specs.LeafModules as view
-use Rattle.fir_meaning.specs.LeafModules.{LeafType}
+use Rattle.fir_meaning.specs.working.LeafMemories.{LeafMemory, arrays_from, writings_from}
+use Rattle.fir_meaning.specs.working.LeafModules as view
+use Rattle.fir_meaning.specs.LeafTypes.{LeafType}
 use Rattle.fir_leaf_circuit.specs.declared.array.LeafArray.{LeafArray}
 use Rattle.fir_leaf_circuit.specs.declared.array.Writing.{Writing}
 use Rattle.fir_leaf_circuit.specs.declared.leaf.LeafType.{LeafType as TypeOfCode}

@@ -9,8 +9,9 @@ use Rattle.fir_types.specs.working.Walked.{Begins}
 use Rattle.fir_types.proofs.KnownScopes.{begins_before}
 use Rattle.fir_ground.specs.working.DeclarationDrivers.{DriverMeant, drivers_in, drivers_in_block, drivers_seen}
 use Rattle.fir_leaf.specs.declared.node.Node.{Node}
-use Rattle.fir_meaning.specs.LeafedModules.{Scene, arrays_in, arrays_in_block, leaves_in, leaves_in_block, memories_in, memories_in_block}
-use Rattle.fir_meaning.specs.LeafModules.{LeafArray, LeafDeclared, MemoryDeclared}
+use Rattle.fir_meaning.specs.ModuleScenes.{Scene}
+use Rattle.fir_meaning.specs.working.LeafedModules.{arrays_in, arrays_in_block, leaves_in, leaves_in_block, memories_in, memories_in_block}
+use Rattle.fir_meaning.specs.working.LeafModules.{LeafArray, LeafDeclared, MemoryDeclared}
 use Rattle.fir_leaf_table.specs.declared.frame.Frame.{Frame}
 use Rattle.fir_leaf_table.specs.declared.walk.Walk.{Walk}
 use Rattle.fir_leaf_circuit.specs.working.Seen.{array_seen, leaves_seen, memory_seen, unnamed, unnamed_array}

@@ -9,8 +9,8 @@ use Rattle.fir_meaning.specs.TypedScopes.{Known}
 use Rattle.fir_meaning.specs.TypeGroup.{scope_at}
 use Rattle.fir_meaning.specs.Visibility.{Before, declaration_at, with_declaration}
 use Rattle.fir_meaning.proofs.KnownNames.{typed_more}
-use Rattle.fir_meaning.specs.LeafMemories.{arrays_of}
-use Rattle.fir_meaning.specs.Targets.{leaves_so_far}
+use Rattle.fir_meaning.specs.working.LeafMemories.{arrays_of}
+use Rattle.fir_meaning.specs.working.Targets.{leaves_so_far}
 
 sum_more : {A : Type 0} (f : A → ℕ) (xs : List A) (x : A) → sum_of (map f (xs ++ x ∷ [])) ≡ sum_of (map f xs) + f x
 sum_more f [] x = omega arith

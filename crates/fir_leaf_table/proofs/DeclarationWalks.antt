@@ -13,9 +13,12 @@ use Rattle.fir_meaning.specs.Visibility.{Before, declaration_at, declarations, w
 use Rattle.fir_types.specs.working.Walked.{Begins}
 use Rattle.fir_ground.specs.working.DeclarationDrivers.{DriverMeant, drivers_seen}
 use Rattle.fir_leaf.specs.declared.node.Node.{Node}
-use Rattle.fir_meaning.specs.LeafedModules.{Declared, Scene, declared_leaves, held_by_declared, leaves_from, type_of_declared}
-use Rattle.fir_meaning.specs.LeafMemories.{arrays_of, leaves_of_data}
-use Rattle.fir_meaning.specs.LeafModules.{LeafArray, LeafType, MemoryDeclared, Role}
+use Rattle.fir_meaning.specs.ModuleScenes.{Declared, Scene, held_by_declared, type_of_declared}
+use Rattle.fir_meaning.specs.working.LeafedModules.{declared_leaves, leaves_from}
+use Rattle.fir_meaning.specs.working.LeafMemories.{arrays_of}
+use Rattle.fir_meaning.specs.FoundTypes.{leaves_of_data}
+use Rattle.fir_meaning.specs.working.LeafModules.{LeafArray, MemoryDeclared, Role}
+use Rattle.fir_meaning.specs.LeafTypes.{LeafType}
 use Rattle.fir_leaf_circuit.specs.declared.array.LeafArray.{LeafArray as ArrayOfCode}
 use Rattle.fir_leaf_table.specs.declared.frame.Frame.{Frame}
 use Rattle.fir_leaf_table.specs.declared.giver.Giver.{Giver}

@@ -12,15 +12,16 @@ use Rattle.fir_meaning.specs.TypeLeaves.{TypeLeaf}
 use Rattle.fir_meaning.specs.TypedScopes.{Known, TypedScope}
 use Rattle.fir_meaning.specs.Components.{Declarations}
 use Rattle.fir_meaning.specs.ComponentTypes.{typed_scope}
-use Rattle.fir_meaning.specs.NameGroups.{HasNames}
+use Rattle.fir_meaning.specs.working.NameGroups.{HasNames}
 use Rattle.fir_meaning.specs.SizedDeclarations.{numbered_modules}
 use Rattle.fir_meaning.specs.TypeGroup.{type_faults}
 use Rattle.fir_meaning.specs.Visibility.{declarations}
 use Rattle.fir_meaning.proofs.WellTypedCircuits.{well_typed}
-use Rattle.fir_meaning.specs.LeafedModules.{Scene, module_leaves}
+use Rattle.fir_meaning.specs.ModuleScenes.{Scene}
+use Rattle.fir_meaning.specs.working.LeafedModules.{module_leaves}
 use Rattle.fir_leaf.specs.working.LeafLaws.{scope_paths}
-use Rattle.fir_meaning.specs.LeafMemories.{leaves_of_data}
-use Rattle.fir_meaning.specs.LeafModules.{LeafDeclared, may_drive}
+use Rattle.fir_meaning.specs.FoundTypes.{leaves_of_data}
+use Rattle.fir_meaning.specs.working.LeafModules.{LeafDeclared, may_drive}
 use Rattle.fir_leaf.specs.working.TableLaws.{IsLeafOf}
 use Rattle.fir_leaf.proofs.ClearScopes.{fine_module}
 use Rattle.fir_leaf.proofs.DeclaredLeaves.{leaves_declared, own_module}

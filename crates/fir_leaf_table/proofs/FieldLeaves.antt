@@ -15,8 +15,8 @@ use Rattle.fir_width.specs.working.FlatWidths.{flat, flat_fields}
 use Rattle.fir_width.specs.working.StandingWidths.{Stands}
 use Rattle.fir_width.proofs.FlatShapes.{flat_counted}
 use Rattle.fir_width.proofs.StandingWidths.{stands_left, stands_right}
-use Rattle.fir_meaning.specs.LeafModules.{LeafType}
-use Rattle.fir_meaning.specs.LeafedModules.{held_field_types, held_types}
+use Rattle.fir_meaning.specs.LeafTypes.{LeafType}
+use Rattle.fir_meaning.specs.HeldTypes.{held_field_types, held_types}
 use Rattle.fir_leaf_table.specs.declared.type_leaves.TypeLeaf.{TypeLeaf as LeafOfCode}
 use Rattle.fir_leaf_table.specs.working.PushedTypeLeaves.{Pushes}
 use Rattle.fir_leaf_circuit.specs.working.Seen.{type_seen}

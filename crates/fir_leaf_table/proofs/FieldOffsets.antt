@@ -8,7 +8,7 @@ use Rattle.fir_meaning.specs.LeafPaths.{LeafPath, element, named}
 use Rattle.fir_meaning.specs.Reaching.{field_of_type, vector_of_type}
 use Rattle.fir_meaning.specs.SharedLeaves.{shared_count}
 use Rattle.fir_meaning.specs.TypeKinds.{FieldFound, field_named}
-use Rattle.fir_meaning.specs.FieldSizes.{shared_before, shared_before_field}
+use Rattle.fir_meaning.specs.working.FieldSizes.{shared_before, shared_before_field}
 use Rattle.fir_reset.specs.working.LeafClasses.{behind_so_many, offset_in, offset_in_fields}
 
 pub none_before : (o : Option ℕ) → o ≡ behind_so_many 0 o

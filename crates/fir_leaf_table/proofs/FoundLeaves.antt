@@ -29,8 +29,9 @@ use Rattle.fir_width.specs.working.Sides.{IsSide}
 use Rattle.fir_width.proofs.BodyNumbers.{ports_before}
 use Rattle.fir_width.proofs.DeclaredScopes.{known_behind, nodes_typed, scope_known}
 use Rattle.fir_width.proofs.StandingWidths.{stands_left, stands_right, stands_whole}
-use Rattle.fir_meaning.specs.LeafModules.{LeafType}
-use Rattle.fir_meaning.specs.LeafedModules.{Scene, held_by_declared, held_types, type_of_declared}
+use Rattle.fir_meaning.specs.LeafTypes.{LeafType}
+use Rattle.fir_meaning.specs.ModuleScenes.{Scene, held_by_declared, type_of_declared}
+use Rattle.fir_meaning.specs.HeldTypes.{held_types}
 use Rattle.fir_leaf.proofs.LeafPlaces.{get_mapped}
 use Rattle.fir_leaf_table.specs.declared.frame.Frame.{Frame}
 use Rattle.fir_leaf_table.specs.declared.type_leaves.TypeLeaf.{TypeLeaf as LeafOfCode}

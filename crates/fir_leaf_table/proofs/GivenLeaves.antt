@@ -7,8 +7,10 @@ use Rattle.fir_ast.specs.Types.{DataType}
 use Rattle.fir_meaning.specs.Costs.{leaves_where}
 use Rattle.fir_meaning.specs.TypeLeaves.{TypeLeaf, type_leaves}
 use Rattle.fir_leaf.specs.declared.node.Node.{Node}
-use Rattle.fir_meaning.specs.LeafedModules.{Declared, leaves_from}
-use Rattle.fir_meaning.specs.LeafModules.{LeafDeclared, LeafType, Role}
+use Rattle.fir_meaning.specs.ModuleScenes.{Declared}
+use Rattle.fir_meaning.specs.working.LeafedModules.{leaves_from}
+use Rattle.fir_meaning.specs.working.LeafModules.{LeafDeclared, Role}
+use Rattle.fir_meaning.specs.LeafTypes.{LeafType}
 use Rattle.fir_leaf.proofs.LeafPlaces.{leaves_counted}
 use Rattle.fir_leaf_table.specs.declared.giver.Giver.{Giver}
 use Rattle.fir_leaf_circuit.specs.declared.leaf.Leaf.{Leaf}

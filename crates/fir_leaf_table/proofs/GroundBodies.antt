@@ -14,8 +14,9 @@ use Rattle.fir_types.specs.working.ModuleNotes.{block_notes}
 use Rattle.std.proofs.lemmas.List.{length_push}
 use Rattle.fir_width.proofs.FoundModules.{FoundOf, found_of}
 use Rattle.fir_leaf.specs.declared.statement.LeafStmt.{LeafStmt}
-use Rattle.fir_meaning.specs.LeafedBlocks.{leafed_all}
-use Rattle.fir_meaning.specs.LeafedModules.{Scene, behind_all_ports, driven_leaves}
+use Rattle.fir_meaning.specs.working.LeafedBlocks.{leafed_all}
+use Rattle.fir_meaning.specs.ModuleScenes.{Scene, behind_all_ports}
+use Rattle.fir_meaning.specs.working.LeafedModules.{driven_leaves}
 use Rattle.fir_ground.specs.declared.frame.Frame.{Frame as GroundFrame}
 use Rattle.fir_ground.specs.declared.walk.Walk.{Walk as GroundWalk}
 use Rattle.fir_ground.specs.working.DeclarationDrivers.{drivers_in_block, drivers_seen}

@@ -17,8 +17,8 @@ use Rattle.fir_width.specs.working.DeclaredWidths.{leaf_widths}
 use Rattle.fir_width.specs.working.FlatWidths.{flat}
 use Rattle.fir_width.specs.working.StandingWidths.{Stands}
 use Rattle.fir_width.proofs.StandingWidths.{stands_head}
-use Rattle.fir_meaning.specs.LeafedModules.{held_types, repeated}
-use Rattle.fir_meaning.specs.LeafModules.{number}
+use Rattle.fir_meaning.specs.HeldTypes.{held_types, repeated}
+use Rattle.fir_meaning.specs.LeafTypes.{number}
 use Rattle.fir_leaf.proofs.LeafPlaces.{leaves_counted}
 use Rattle.fir_leaf_circuit.specs.declared.leaf.LeafType.{LeafType as TypeOfCode}
 use Rattle.fir_leaf_circuit.specs.declared.leaf.LeafType.TheVariants.{Number, Clock}

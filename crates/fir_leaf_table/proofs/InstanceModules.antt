@@ -18,7 +18,7 @@ use Rattle.fir_names.specs.working.Numbered.{names_of}
 use Rattle.fir_names.specs.working.Tabulated.{entry_at, entry_of}
 use Rattle.fir_names.proofs.TablesByNumber.{entry_read}
 use Rattle.fir_reset.proofs.ModuleNumbers.{is_numbered}
-use Rattle.fir_meaning.specs.LeafedModules.{Scene}
+use Rattle.fir_meaning.specs.ModuleScenes.{Scene}
 use Rattle.fir_leaf_table.specs.declared.frame.Frame.{Frame}
 use Rattle.fir_leaf_table.specs.working.Frames.{Frames, IsDeclaredAt}
 

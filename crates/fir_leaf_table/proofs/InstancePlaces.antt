@@ -6,14 +6,14 @@ use Rattle.fir_ast.specs.declared.place.Place.{Place}
 use Rattle.fir_ast.specs.Circuits.{CircuitTree, ModuleTree}
 use Rattle.fir_ast.specs.Statements.{PlacedName}
 use Rattle.fir_meaning.specs.ComponentTypes.{instance_bundle, instance_type, port_fields}
-use Rattle.fir_meaning.specs.NameGroups.{HasNames}
+use Rattle.fir_meaning.specs.working.NameGroups.{HasNames}
 use Rattle.fir_meaning.specs.ResetJoins.{numbered_module, port_place}
 use Rattle.fir_meaning.specs.TypeLeaves.{TypeLeaf, field_leaves}
 use Rattle.fir_reset.proofs.FreshScopes.{sound}
 use Rattle.fir_reset.proofs.ModuleNumbers.{is_numbered}
 use Rattle.fir_leaf.specs.declared.node.Node.{Node}
-use Rattle.fir_meaning.specs.LeafedModules.{instance_place, instance_role}
-use Rattle.fir_meaning.specs.LeafMemories.{leaves_of_data}
+use Rattle.fir_meaning.specs.working.LeafedModules.{instance_place, instance_role}
+use Rattle.fir_meaning.specs.FoundTypes.{leaves_of_data}
 use Rattle.fir_leaf_table.specs.declared.giver.Giver.TheVariants as giver
 use Rattle.fir_leaf_table.specs.declared.places.Places.{Places}
 use Rattle.fir_leaf_table.specs.working.Givers.{place_of}

@@ -8,7 +8,8 @@ use Rattle.fir_base.specs.Lists.{In}
 use Rattle.fir_base.proofs.Elements.{get_behind, get_left}
 use Rattle.fir_ast.specs.Circuits.{CircuitTree, ModuleTree}
 use Rattle.fir_meaning.specs.SizedDeclarations.{NumberedModule, Numbering, behind_module, first_numbers, modules_from}
-use Rattle.fir_meaning.specs.LeafedModules.{Scene, leafed_module}
+use Rattle.fir_meaning.specs.ModuleScenes.{Scene}
+use Rattle.fir_meaning.specs.working.LeafedModules.{leafed_module}
 use Rattle.fir_leaf_circuit.specs.declared.leaf_module.LeafModule.{LeafModule}
 use Rattle.fir_leaf_circuit.specs.working.Leafed.{AreLeafed}
 use Rattle.fir_leaf_table.specs.working.ModuleWalks.{AreWithinLimit, IsWithinLimit}

@@ -10,7 +10,7 @@ use Rattle.fir_meaning.specs.ResetWalks.{IsAsynchronous, IsLeafOf, IsReset}
 use Rattle.fir_type_table.specs.working.Saturated.{saturated}
 use Rattle.fir_types.specs.working.LeafNumbers.{first_leaves}
 use Rattle.fir_types.specs.working.TypedModules.{leaf_declared}
-use Rattle.fir_meaning.specs.LeafedModules.{Scene}
+use Rattle.fir_meaning.specs.ModuleScenes.{Scene}
 use Rattle.fir_reset.specs.working.Inferred.{AreInferred, leaf_number}
 use Rattle.fir_leaf_table.specs.declared.frame.Frame.{Frame}
 use Rattle.fir_leaf_table.specs.working.Frames.{Frames}

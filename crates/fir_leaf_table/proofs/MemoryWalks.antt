@@ -11,9 +11,12 @@ use Rattle.fir_meaning.specs.TypeLeaves.{TypeLeaf}
 use Rattle.fir_meaning.specs.Visibility.{Before}
 use Rattle.fir_ground.specs.working.DeclarationDrivers.{DriverMeant, drivers_seen}
 use Rattle.fir_leaf.specs.declared.node.Node.{Node}
-use Rattle.fir_meaning.specs.LeafedModules.{Scene, held_types, memory_arrays, memory_before}
-use Rattle.fir_meaning.specs.LeafMemories.{LeafMemory, arrays_from, count_of_data, leaves_of_data, memory_behind, memory_declared}
-use Rattle.fir_meaning.specs.LeafModules.{LeafType}
+use Rattle.fir_meaning.specs.ModuleScenes.{Scene}
+use Rattle.fir_meaning.specs.HeldTypes.{held_types}
+use Rattle.fir_meaning.specs.working.LeafedModules.{memory_arrays, memory_before}
+use Rattle.fir_meaning.specs.working.LeafMemories.{LeafMemory, arrays_from, count_of_data, memory_behind, memory_declared}
+use Rattle.fir_meaning.specs.FoundTypes.{leaves_of_data}
+use Rattle.fir_meaning.specs.LeafTypes.{LeafType}
 use Rattle.fir_leaf.proofs.LeafPlaces.{leaves_counted}
 use Rattle.fir_leaf_table.specs.declared.memory.Memory.{Memory}
 use Rattle.fir_leaf_table.specs.declared.walk.Walk.{Walk}

@@ -10,7 +10,7 @@ use Rattle.fir_meaning.specs.TypedScopes.{Known, TypedScope}
 use Rattle.fir_meaning.specs.TypeGroup.{scope_at}
 use Rattle.fir_meaning.specs.Visibility.{Before, at_head, behind, behind_block, behind_ports, declaration_at, declarations, opened, reopened, with_declaration}
 use Rattle.fir_types.proofs.GrownScopes.{scope_more}
-use Rattle.fir_meaning.specs.Targets.{leaves_so_far}
+use Rattle.fir_meaning.specs.working.Targets.{leaves_so_far}
 
 leaves_more : (scope : TypedScope) (k : Known) → leaves_so_far (scope ++ k ∷ []) ≡ leaves_so_far scope + leaves_where k.data_type
 leaves_more [] k = omega arith

@@ -6,7 +6,7 @@ use Rattle.fir_base.proofs.Elements.{get_in}
 use Rattle.fir_ast.specs.Circuits.{CircuitTree, ModuleTree}
 use Rattle.fir_ast.specs.working.Views.{circuit_of}
 use Rattle.fir_meaning.specs.Mentions.{module_names}
-use Rattle.fir_meaning.specs.NameGroups.{HasNames}
+use Rattle.fir_meaning.specs.working.NameGroups.{HasNames}
 use Rattle.fir_meaning.specs.SizedDeclarations.{NumberedModule}
 use Rattle.fir_meaning.specs.Visibility.{declarations}
 use Rattle.fir_names.specs.declared.names.Names.{Names}
@@ -15,7 +15,7 @@ use Rattle.fir_names.proofs.ModulesThere.{instance_number}
 use Rattle.fir_types.specs.declared.findings.Findings.{Findings}
 use Rattle.fir_types.specs.working.TypedModules.{IsTyped}
 use Rattle.fir_types.specs.working.Walked.{IsOfModule}
-use Rattle.fir_meaning.specs.LeafedModules.{Scene}
+use Rattle.fir_meaning.specs.ModuleScenes.{Scene}
 use Rattle.fir_width.proofs.FoundModules.{numbered_module, found_of}
 use Rattle.fir_leaf_table.specs.declared.frame.Frame.{Frame}
 use Rattle.fir_leaf_table.specs.working.Frames.{Frames}

@@ -10,7 +10,8 @@ use Rattle.fir_names.proofs.BehindStatements.{adds_block}
 use Rattle.fir_types.specs.working.Walked.{Begins}
 use Rattle.fir_types.proofs.InstanceWalks.{length_of_map}
 use Rattle.fir_leaf.specs.declared.node.Node.{Node}
-use Rattle.fir_meaning.specs.LeafedModules.{Scene, arrays_in_block, behind_all_ports, leafed_module, leaves_in_block, leaves_of_ports, memories_in_block}
+use Rattle.fir_meaning.specs.ModuleScenes.{Scene, behind_all_ports}
+use Rattle.fir_meaning.specs.working.LeafedModules.{arrays_in_block, leafed_module, leaves_in_block, leaves_of_ports, memories_in_block}
 use Rattle.fir_ground.specs.working.DeclarationDrivers.{DriverMeant, drivers_in_block, drivers_seen}
 use Rattle.fir_leaf_table.specs.declared.frame.Frame.{Frame}
 use Rattle.fir_leaf_table.specs.declared.ground_body.GroundBody.{GroundBody}

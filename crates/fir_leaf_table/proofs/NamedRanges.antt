@@ -16,7 +16,7 @@ use Rattle.fir_meaning.specs.Reaching.{Reached, at_any, at_element, at_field, fi
 use Rattle.fir_meaning.specs.TypeKinds.{FieldFound}
 use Rattle.fir_meaning.specs.TypeLeaves.{leaf_count}
 use Rattle.fir_meaning.specs.TypedScopes.{Known, TypedScope, known}
-use Rattle.fir_meaning.specs.FieldSizes.{shared_before}
+use Rattle.fir_meaning.specs.working.FieldSizes.{shared_before}
 use Rattle.fir_types.specs.working.Notes.{LeafRange, Pick, element_range, field_range, known_range, picked_range, position_of, range_behind, range_where, root_range, whole_range}
 use Rattle.fir_ground.specs.working.ResetKinds.{all_there, sink_range}
 use Rattle.fir_leaf_table.proofs.ReachedLeaves.{IsBelow, element_below, field_below, whole, whole_below}

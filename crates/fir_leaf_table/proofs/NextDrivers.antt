@@ -5,7 +5,7 @@ use Rattle.fir_ground.specs.declared.driver.Driver.TheVariants.{Others, Node, Re
 use Rattle.fir_ground.specs.declared.driver.RegisterDriver.{RegisterDriver}
 use Rattle.fir_ground.specs.working.DeclarationDrivers.{DriverMeant, ResetMeant, driver_seen, drivers_seen, node_terms, register_terms}
 use Rattle.fir_leaf.specs.declared.node.Node.{Node as NodeOfCode}
-use Rattle.fir_meaning.specs.Terms.{Term}
+use Rattle.fir_meaning.specs.working.Terms.{Term}
 use Rattle.fir_leaf_table.specs.declared.walk.Walk.{Walk}
 use Rattle.fir_leaf_table.specs.working.TakenDrivers.{TakesDriver}
 

@@ -4,9 +4,9 @@ use Rattle.std.specs.Prelude.{slice_index_or}
 use Rattle.std.proofs.lemmas.List.{get_or_past}
 use Rattle.std.proofs.Math.ListN.{get_or-map}
 use Rattle.fir_leaf.specs.declared.node.Node.{Node}
-use Rattle.fir_meaning.specs.LeafedBlocks.{term_at}
+use Rattle.fir_meaning.specs.working.LeafedBlocks.{term_at}
 use Rattle.fir_leaf.specs.working.Nodes.{Entry, a_term, entries, entries_from, entry_of, node_term, term_in}
-use Rattle.fir_meaning.specs.Terms as over
+use Rattle.fir_meaning.specs.working.Terms as over
 
 long_from : (known : List Entry) (ns : List Node) → (more : List Entry) × (entries_from known ns ≡ known ++ more) × (length more ≡ length ns)
 unfolding entries_from

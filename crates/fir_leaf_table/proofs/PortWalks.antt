@@ -8,8 +8,9 @@ use Rattle.fir_types.specs.working.Walked.{Begins}
 use Rattle.fir_types.proofs.KnownScopes.{begins_before}
 use Rattle.fir_ground.specs.working.DeclarationDrivers.{DriverMeant}
 use Rattle.fir_leaf.specs.declared.node.Node.{Node}
-use Rattle.fir_meaning.specs.LeafedModules.{Scene, leaves_of_ports, own_leaves, port_role}
-use Rattle.fir_meaning.specs.LeafModules.{LeafDeclared}
+use Rattle.fir_meaning.specs.ModuleScenes.{Scene}
+use Rattle.fir_meaning.specs.working.LeafedModules.{leaves_of_ports, own_leaves, port_role}
+use Rattle.fir_meaning.specs.working.LeafModules.{LeafDeclared}
 use Rattle.fir_leaf_table.specs.declared.frame.Frame.{Frame}
 use Rattle.fir_leaf_table.specs.declared.walk.Walk.{Walk}
 use Rattle.fir_leaf_circuit.specs.working.Seen.{leaves_seen, unnamed}

@@ -1,8 +1,9 @@
 -- A walk over the ports of a memory, each of which begins behind the leaves of those before it.
 use Rattle.std.proofs.Common.{◌≡◌, ℕ, ◌+◌, ◌<◌, ◌≤◌, List, [], ◌∷◌, ◌++◌, map, drop, length, get_or, sym, ap, ◌∙◌, append_assoc}
 use Rattle.std.proofs.lemmas.List.{append-nil, drop_more, drop_all}
-use Rattle.fir_meaning.specs.LeafMemories.{LeafMemory, PortKind, port_size}
-use Rattle.fir_meaning.specs.LeafModules.{LeafType}
+use Rattle.fir_meaning.specs.working.LeafMemories.{LeafMemory, port_size}
+use Rattle.fir_meaning.specs.MemoryPorts.{PortKind}
+use Rattle.fir_meaning.specs.LeafTypes.{LeafType}
 use Rattle.fir_leaf_table.specs.declared.memory.Memory.{Memory}
 use Rattle.fir_leaf_table.specs.declared.memory.MemoryPort.{MemoryPort}
 use Rattle.fir_leaf_table.specs.working.Memories.{IsMemory, port_seen}

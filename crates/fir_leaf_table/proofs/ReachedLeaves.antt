@@ -10,7 +10,7 @@ use Rattle.fir_meaning.specs.LeafPaths.{LeafPath, Step, element, named}
 use Rattle.fir_meaning.specs.Reaching.{Reached, at_field, field_of_type, further, vector_of_type}
 use Rattle.fir_meaning.specs.TypeKinds.{FieldFound}
 use Rattle.fir_meaning.specs.TypeLeaves.{TypeLeaf, type_leaves, under}
-use Rattle.fir_meaning.specs.FieldSizes.{shared_before}
+use Rattle.fir_meaning.specs.working.FieldSizes.{shared_before}
 use Rattle.fir_reset.specs.working.LeafClasses.{behind_so_many, offset_in}
 use Rattle.fir_reset.proofs.ReferencePaths.{in_vector, leaf_behind}
 use Rattle.fir_leaf_table.proofs.FieldOffsets.{element_offset, field_offset, more_before, none_before}

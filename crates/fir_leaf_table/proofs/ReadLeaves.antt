@@ -1,8 +1,8 @@
 -- The leaves of a port: those that are driven, and those that are read.
 use Rattle.std.proofs.Common.{◌≡◌, ℕ, zero, suc, ◌+◌, List, [], ◌∷◌, ◌++◌, map, sym, ap, ◌∙◌, arith, append_assoc}
 use Rattle.std.proofs.lemmas.List.{map_push}
-use Rattle.fir_meaning.specs.LeafMemories.{LeafMemory, read_role, read_roles, sinks}
-use Rattle.fir_meaning.specs.LeafModules.{Need, sink}
+use Rattle.fir_meaning.specs.working.LeafMemories.{LeafMemory, read_role, read_roles, sinks}
+use Rattle.fir_meaning.specs.working.LeafModules.{Need, sink}
 
 -- two calls, one behind the other
 pub put_twice : {A : Type 0} (old mid new xs ys : List A) → mid ≡ old ++ xs → new ≡ mid ++ ys → new ≡ old ++ (xs ++ ys)

@@ -2,7 +2,7 @@
 use Rattle.std.proofs.Common.{◌≡◌, ℕ, zero, suc, ◌+◌, ◌-◌, ◌≤◌, List, ◌++◌, length, take, drop, sym, ap, ◌∙◌, append_assoc, append-nil, arith}
 use Rattle.std.specs.Prelude.{slice_range}
 use Rattle.std.proofs.lemmas.List.{drop-append-le, length-append, length-drop, take-append-le, take_all}
-use Rattle.fir_meaning.specs.LeafedModules.{repeated}
+use Rattle.fir_meaning.specs.HeldTypes.{repeated}
 
 repeated_push : {A : Type 0} → (n : ℕ) (xs : List A) → repeated n xs ++ xs ≡ repeated (n + 1) xs
 repeated_push zero xs = sym (append-nil xs)

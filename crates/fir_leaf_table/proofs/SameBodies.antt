@@ -7,9 +7,10 @@ use Rattle.fir_ast.specs.Circuits.{CircuitTree, ModuleTree}
 use Rattle.fir_ast.specs.Statements.{Block}
 use Rattle.fir_meaning.specs.ComponentTypes.{typed_scope}
 use Rattle.fir_meaning.specs.Visibility.{Before, declarations}
-use Rattle.fir_meaning.specs.LeafedBlocks.{leafed_all}
-use Rattle.fir_meaning.specs.LeafedModules.{Scene, driven_leaves, module_leaves}
-use Rattle.fir_meaning.specs.LeafModules.{LeafDeclared, may_drive, no_leaf}
+use Rattle.fir_meaning.specs.working.LeafedBlocks.{leafed_all}
+use Rattle.fir_meaning.specs.ModuleScenes.{Scene}
+use Rattle.fir_meaning.specs.working.LeafedModules.{driven_leaves, module_leaves}
+use Rattle.fir_meaning.specs.working.LeafModules.{LeafDeclared, may_drive, no_leaf}
 use Rattle.fir_leaf_pairs.specs.working.Drives.{sinks_in}
 use Rattle.fir_leaf_table.specs.declared.frame.Frame.{Frame}
 use Rattle.fir_leaf_table.specs.working.DrivenLeaves.{driven_in}

@@ -8,7 +8,7 @@ use Rattle.fir_ast.specs.Statements.{Sink}
 use Rattle.fir_meaning.specs.ComponentTypes.{typed_scope}
 use Rattle.fir_meaning.specs.ExpressionTypes.{expression_type, reached_by, reaching}
 use Rattle.fir_meaning.specs.LeafPaths.{LeafPath}
-use Rattle.fir_meaning.specs.NameGroups.{HasNames}
+use Rattle.fir_meaning.specs.working.NameGroups.{HasNames}
 use Rattle.fir_meaning.specs.Reaching.{Reached}
 use Rattle.fir_meaning.specs.ResetItems.{End}
 use Rattle.fir_meaning.specs.ResetWalks.{IsAsynchronous, IsLeafOf, IsReset}
@@ -21,7 +21,8 @@ use Rattle.fir_types.specs.working.Walked.{Begins}
 use Rattle.fir_reset.specs.working.Inferred.{leaf_number}
 use Rattle.fir_ground.specs.working.ResetKinds.{KindMeant, all_there, asynchronous_kind, inferred_by, inferred_kind, kind_by, kind_of_reset, range_named, synchronous_kind}
 use Rattle.fir_ground.proofs.FramedScopes.{scope_joined}
-use Rattle.fir_meaning.specs.LeafedModules.{Scene, async_by, async_reached, async_where, is_async_reset, scope_before}
+use Rattle.fir_meaning.specs.ModuleScenes.{Scene, scope_before}
+use Rattle.fir_meaning.specs.AsyncResets.{async_by, async_reached, async_where, is_async_reset}
 use Rattle.fir_leaf_table.specs.declared.frame.Frame.{Frame}
 use Rattle.fir_leaf_table.specs.working.Frames.{Frames}
 use Rattle.fir_meaning.specs.Scenes.{AreResets, IsAsynchronousAt}

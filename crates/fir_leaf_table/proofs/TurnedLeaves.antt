@@ -8,7 +8,7 @@ use Rattle.fir_meaning.specs.TypeLeaves.{TypeLeaf, element_leaves, field_leaves,
 use Rattle.fir_type_table.specs.working.Tables.{shown}
 use Rattle.fir_types.specs.working.Spots.{Spot, spot_of}
 use Rattle.fir_types.proofs.LeafSpots.{shown_leaves}
-use Rattle.fir_meaning.specs.LeafedModules.{repeated}
+use Rattle.fir_meaning.specs.HeldTypes.{repeated}
 use Rattle.fir_leaf_table.specs.working.TypedLeaves.{flips_of}
 
 pub flips_joined : (ls ks : List TypeLeaf) → flips_of (ls ++ ks) ≡ flips_of ls ++ flips_of ks

@@ -8,7 +8,7 @@ use Rattle.fir_meaning.specs.TypeKinds.{bare}
 use Rattle.fir_meaning.specs.TypeLeaves.{leaf_count, field_count}
 use Rattle.fir_meaning.specs.WidthExpressions.{Width, Widths}
 use Rattle.fir_types.proofs.BareTypes.{shown_leaf_count}
-use Rattle.fir_meaning.specs.LeafedModules.{held_field_types, held_types, repeated}
+use Rattle.fir_meaning.specs.HeldTypes.{held_field_types, held_types, repeated}
 
 -- what a sized type is, by the type without widths that it has
 abbrev pub HasShape : DataType → Sized → Type 0

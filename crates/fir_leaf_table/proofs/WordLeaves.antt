@@ -14,8 +14,8 @@ use Rattle.fir_meaning.specs.SizedTypes.{numbered, numbered_fields, past}
 use Rattle.fir_meaning.specs.SharedLeaves.{shared_count}
 use Rattle.fir_meaning.specs.TypeLeaves.{field_count, leaf_count}
 use Rattle.fir_meaning.specs.WidthExpressions.{Widths}
-use Rattle.fir_meaning.specs.LeafModules.{LeafType, number}
-use Rattle.fir_meaning.specs.LeafedModules.{held_field_types, held_types, repeated}
+use Rattle.fir_meaning.specs.LeafTypes.{LeafType, number}
+use Rattle.fir_meaning.specs.HeldTypes.{held_field_types, held_types, repeated}
 use Rattle.fir_leaf_circuit.specs.declared.leaf.LeafType.{LeafType as TypeOfCode}
 use Rattle.fir_leaf_circuit.specs.working.Seen.{type_seen}
 use Rattle.fir_leaf_table.specs.working.TypedLeaves.{types_seen}

@@ -5,7 +5,7 @@ ghost use Rattle.fir_ast.specs.Circuits.{CircuitTree};
 ghost use Rattle.fir_ast.specs.Statements.{PlacedName};
 ghost use Rattle.fir_meaning.specs.Components.{Component};
 ghost use Rattle.fir_meaning.specs.Visibility.{Before};
-ghost use Rattle.fir_meaning.specs.LeafedModules.{Scene, held_by_declared, type_of_declared};
+ghost use Rattle.fir_meaning.specs.ModuleScenes.{Scene, held_by_declared, type_of_declared};
 ghost use Rattle.fir_leaf_table.specs.working.Frames.{Frames, IsDeclaredAt};
 ghost use Rattle.fir_leaf_table.specs.working.TypedLeaves.{AreLeavesOf};
 

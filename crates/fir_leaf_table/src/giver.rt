@@ -3,8 +3,8 @@
 
 ghost use Rattle.std.specs.Prelude.{◌≡◌, List, length, map, option_map, slice_index_or};
 ghost use Rattle.fir_leaf.specs.declared.node.Node.{Node as NodeMeant};
-ghost use Rattle.fir_meaning.specs.LeafedBlocks.{term_at};
-ghost use Rattle.fir_meaning.specs.LeafModules.{source};
+ghost use Rattle.fir_meaning.specs.working.LeafedBlocks.{term_at};
+ghost use Rattle.fir_meaning.specs.working.LeafModules.{source};
 ghost use Rattle.fir_leaf.specs.working.Nodes.{node_term};
 ghost use Rattle.fir_leaf_table.specs.working.Givers.{direction_role, flipped_role, giver_role, reset_given};
 ghost use Rattle.fir_leaf_circuit.specs.working.Seen.{reset_seen, role_seen};

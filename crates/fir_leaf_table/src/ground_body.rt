@@ -3,7 +3,7 @@
 ghost use Rattle.std.specs.Prelude.{◌≡◌, ◌<◌, IfOk, length};
 ghost use Rattle.fir_ast.specs.Circuits.{CircuitTree};
 ghost use Rattle.fir_ast.specs.working.Views.{module_of};
-ghost use Rattle.fir_meaning.specs.LeafedModules.{Scene};
+ghost use Rattle.fir_meaning.specs.ModuleScenes.{Scene};
 ghost use Rattle.fir_leaf_table.specs.working.Frames.{Frames};
 ghost use Rattle.fir_leaf_table.specs.working.ModuleWalks.{IsGroundOf, IsWithinLimit};
 

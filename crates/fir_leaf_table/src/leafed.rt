@@ -4,8 +4,9 @@ ghost use Rattle.std.specs.Prelude.{◌≡◌, ◌≤◌, ℕ, IfOk, Some, slice
 ghost use Rattle.fir_ast.specs.working.Views.{circuit_of, module_of};
 ghost use Rattle.fir_meaning.specs.CostGroup.{cost_limit};
 ghost use Rattle.fir_meaning.specs.Costs.{HasCost};
-ghost use Rattle.fir_meaning.specs.NameGroups.{HasNames};
-ghost use Rattle.fir_meaning.specs.LeafedModules.{Scene, leafed_module};
+ghost use Rattle.fir_meaning.specs.working.NameGroups.{HasNames};
+ghost use Rattle.fir_meaning.specs.ModuleScenes.{Scene};
+ghost use Rattle.fir_meaning.specs.working.LeafedModules.{leafed_module};
 ghost use Rattle.fir_leaf_circuit.specs.working.Leafed.{AreLeafed};
 ghost use Rattle.fir_leaf_table.specs.working.ModulePlaces.{ArePlacesOf};
 ghost use Rattle.fir_leaf_table.specs.working.ModuleWalks.{IsWithinLimit};

@@ -7,8 +7,8 @@ ghost use Rattle.fir_meaning.specs.Components.{Declarations};
 ghost use Rattle.fir_meaning.specs.Costs.{sum_of};
 ghost use Rattle.fir_meaning.specs.SizedMemories.{sized_array};
 ghost use Rattle.fir_meaning.specs.WidthExpressions.{Widths as Assignment};
-ghost use Rattle.fir_meaning.specs.LeafMemories.{array_count, arrays_of, memory_behind, port_size};
-ghost use Rattle.fir_meaning.specs.LeafedModules.{held_types};
+ghost use Rattle.fir_meaning.specs.working.LeafMemories.{array_count, arrays_of, memory_behind, port_size};
+ghost use Rattle.fir_meaning.specs.HeldTypes.{held_types};
 ghost use Rattle.fir_leaf_table.specs.working.Memories.{IsMemory, port_seen};
 ghost use Rattle.fir_leaf_table.specs.working.TypedLeaves.{types_seen};
 

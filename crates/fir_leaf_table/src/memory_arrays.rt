@@ -2,8 +2,8 @@
 
 ghost use Rattle.std.specs.Prelude.{◌≡◌, ◌++◌, IfOk, List, OnOk, length, map};
 ghost use Rattle.fir_meaning.specs.TypeLeaves.{TypeLeaf};
-ghost use Rattle.fir_meaning.specs.LeafMemories.{LeafMemory, arrays_from, writings_from};
-ghost use Rattle.fir_meaning.specs.LeafModules.{LeafType};
+ghost use Rattle.fir_meaning.specs.working.LeafMemories.{LeafMemory, arrays_from, writings_from};
+ghost use Rattle.fir_meaning.specs.LeafTypes.{LeafType};
 ghost use Rattle.fir_leaf_table.specs.working.Memories.{IsMemory};
 ghost use Rattle.fir_leaf_circuit.specs.working.Seen.{array_seen, unnamed_array, writing_seen};
 

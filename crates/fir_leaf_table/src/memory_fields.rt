@@ -4,7 +4,7 @@ ghost use Rattle.std.specs.Prelude.{◌≡◌, ◌++◌, IfOk, OnOk, flat_map, m
 ghost use Rattle.fir_ast.specs.working.Views.{memory_part_of, named_of};
 ghost use Rattle.fir_meaning.specs.MemoryFaults.{read_latency_of_part, read_under_write_of_part};
 ghost use Rattle.fir_meaning.specs.MemoryTypes.{first_one};
-ghost use Rattle.fir_meaning.specs.LeafMemories.{port_kinds_of};
+ghost use Rattle.fir_meaning.specs.working.LeafMemories.{port_kinds_of};
 ghost use Rattle.fir_leaf_table.specs.working.Memories.{port_seen};
 
 use crate::memory::MemoryPort;

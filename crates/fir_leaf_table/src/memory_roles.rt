@@ -2,8 +2,8 @@
 
 ghost use Rattle.std.specs.Prelude.{◌≡◌, [], ◌∷◌, ◌++◌, IfOk, List, OnOk, map};
 ghost use Rattle.fir_leaf.specs.declared.node.Node.{Node};
-ghost use Rattle.fir_meaning.specs.LeafMemories.{LeafMemory, clocks_from, memory_declared, memory_roles};
-ghost use Rattle.fir_meaning.specs.LeafModules.{LeafType};
+ghost use Rattle.fir_meaning.specs.working.LeafMemories.{LeafMemory, clocks_from, memory_declared, memory_roles};
+ghost use Rattle.fir_meaning.specs.LeafTypes.{LeafType};
 ghost use Rattle.fir_leaf_table.specs.working.Memories.{IsMemory};
 ghost use Rattle.fir_leaf_circuit.specs.working.Seen.{memory_seen, role_seen};
 

@@ -2,8 +2,8 @@
 
 ghost use Rattle.std.specs.Prelude.{◌≡◌, ◌<◌, length};
 ghost use Rattle.fir_ast.specs.working.Views.{circuit_of};
-ghost use Rattle.fir_meaning.specs.NameGroups.{HasNames};
-ghost use Rattle.fir_meaning.specs.LeafedModules.{Scene};
+ghost use Rattle.fir_meaning.specs.working.NameGroups.{HasNames};
+ghost use Rattle.fir_meaning.specs.ModuleScenes.{Scene};
 ghost use Rattle.fir_leaf_table.specs.working.Frames.{Frames};
 ghost use Rattle.fir_leaf_table.specs.working.ModulePlaces.{ArePlacesOf};
 ghost use Rattle.fir_meaning.specs.Scenes.{IsSceneOf};

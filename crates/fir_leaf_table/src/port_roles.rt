@@ -2,8 +2,8 @@
 
 ghost use Rattle.std.specs.Prelude.{◌≡◌, ◌+◌, ◌*◌, ◌++◌, ◌∷◌, IfOk, List, OnOk, false, map};
 ghost use Rattle.fir_leaf.specs.declared.node.Node.{Node};
-ghost use Rattle.fir_meaning.specs.LeafMemories.{LeafMemory, enable, port_roles, read_role, read_roles, sinks};
-ghost use Rattle.fir_meaning.specs.LeafModules.{LeafType};
+ghost use Rattle.fir_meaning.specs.working.LeafMemories.{LeafMemory, enable, port_roles, read_role, read_roles, sinks};
+ghost use Rattle.fir_meaning.specs.LeafTypes.{LeafType};
 ghost use Rattle.fir_leaf_table.specs.working.Memories.{IsMemory, port_seen};
 ghost use Rattle.fir_leaf_circuit.specs.working.Seen.{mode_need, role_seen};
 

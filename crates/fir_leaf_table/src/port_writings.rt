@@ -1,7 +1,7 @@
 //! What one port of a memory writes (FIRRTL spec, "Memories").
 
 ghost use Rattle.std.specs.Prelude.{◌≡◌, ◌+◌, IfOk, option_map, option_to_list};
-ghost use Rattle.fir_meaning.specs.LeafMemories.{port_writings};
+ghost use Rattle.fir_meaning.specs.working.LeafMemories.{port_writings};
 ghost use Rattle.fir_leaf_table.specs.working.Memories.{port_seen};
 ghost use Rattle.fir_leaf_circuit.specs.working.Seen.{writing_seen};
 

@@ -9,7 +9,7 @@ ghost use Rattle.fir_meaning.specs.TypeLeaves.{turned};
 ghost use Rattle.fir_type_table.specs.working.Saturated.{saturated};
 ghost use Rattle.fir_type_table.specs.working.Tables.{member_fields, members_at, type_at, types_of};
 ghost use Rattle.fir_types.specs.working.Seen.{found_type};
-ghost use Rattle.fir_meaning.specs.LeafedModules.{repeated};
+ghost use Rattle.fir_meaning.specs.HeldTypes.{repeated};
 ghost use Rattle.fir_width.specs.working.FieldsAt.{IsBundleAt};
 ghost use Rattle.fir_leaf_table.specs.working.PushedTypeLeaves.{Pushes};
 

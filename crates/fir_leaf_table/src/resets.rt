@@ -11,7 +11,8 @@ ghost use Rattle.fir_types.specs.working.TypedModules.{leaf_declared};
 ghost use Rattle.fir_types.specs.working.Walked.{Begins};
 ghost use Rattle.fir_reset.specs.working.Inferred.{leaf_number};
 ghost use Rattle.fir_ground.specs.working.ResetKinds.{kind_of_reset, kind_seen};
-ghost use Rattle.fir_meaning.specs.LeafedModules.{Scene, is_async_reset, scope_before};
+ghost use Rattle.fir_meaning.specs.ModuleScenes.{Scene, scope_before};
+ghost use Rattle.fir_meaning.specs.AsyncResets.{is_async_reset};
 ghost use Rattle.fir_leaf_table.specs.working.Frames.{Frames};
 
 use crate::frame::Frame;

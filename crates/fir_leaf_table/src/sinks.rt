@@ -10,8 +10,8 @@ ghost use Rattle.fir_meaning.specs.Visibility.{declarations};
 ghost use Rattle.fir_type_table.specs.working.Tables.{types_of};
 ghost use Rattle.fir_types.specs.working.Seen.{flow_seen, seen};
 ghost use Rattle.fir_types.specs.working.Walked.{IsOfModule};
-ghost use Rattle.fir_meaning.specs.LeafMemories.{leaves_of_data};
-ghost use Rattle.fir_meaning.specs.LeafedModules.{Scene};
+ghost use Rattle.fir_meaning.specs.FoundTypes.{leaves_of_data};
+ghost use Rattle.fir_meaning.specs.ModuleScenes.{Scene};
 ghost use Rattle.fir_leaf_table.specs.working.DrivenLeaves.{driven_in, may_be_driven};
 ghost use Rattle.fir_leaf_table.specs.working.Frames.{Frames};
 

@@ -8,7 +8,7 @@ ghost use Rattle.fir_meaning.specs.WidthExpressions.{Widths as Assignment};
 ghost use Rattle.fir_meaning.specs.WidthRules.{AreWidths};
 ghost use Rattle.fir_type_table.specs.working.Tables.{types_of};
 ghost use Rattle.fir_types.specs.working.Seen.{found_type};
-ghost use Rattle.fir_meaning.specs.LeafedModules.{held_types};
+ghost use Rattle.fir_meaning.specs.HeldTypes.{held_types};
 ghost use Rattle.fir_width.specs.declared.side.Side.{Side};
 ghost use Rattle.fir_width.specs.working.DeclaredWidths.{leaf_widths};
 ghost use Rattle.fir_width.specs.working.Sides.{IsSide};

@@ -5,8 +5,8 @@ ghost use Rattle.fir_ast.specs.View.{fields_of, type_of};
 ghost use Rattle.fir_ast.specs.working.BundleText.{field_of};
 ghost use Rattle.fir_meaning.specs.SizedTypes.{leaf_width, numbered, numbered_fields};
 ghost use Rattle.fir_meaning.specs.WidthExpressions.{Widths as Assignment, width_of};
-ghost use Rattle.fir_meaning.specs.LeafModules.{number};
-ghost use Rattle.fir_meaning.specs.LeafedModules.{held_field_types, held_types, repeated};
+ghost use Rattle.fir_meaning.specs.LeafTypes.{number};
+ghost use Rattle.fir_meaning.specs.HeldTypes.{held_field_types, held_types, repeated};
 ghost use Rattle.fir_leaf_circuit.specs.working.Seen.{type_seen};
 ghost use Rattle.fir_leaf_table.specs.working.TypedLeaves.{types_seen};
 

@@ -8,10 +8,10 @@ use Rattle.fir_base.proofs.Elements.{get_in, there}
 use Rattle.fir_ast.specs.Circuits.{CircuitTree, ModuleTree}
 use Rattle.fir_ast.specs.Types.{DataType}
 use Rattle.fir_meaning.specs.ComponentTypes.{typed_scope}
-use Rattle.fir_meaning.specs.LeafMemories.{leaves_of_data}
-use Rattle.fir_meaning.specs.LeafModules.{LeafDeclared}
+use Rattle.fir_meaning.specs.FoundTypes.{leaves_of_data}
+use Rattle.fir_meaning.specs.working.LeafModules.{LeafDeclared}
 use Rattle.fir_meaning.specs.LeafPaths.{named, path_text}
-use Rattle.fir_meaning.specs.LeafedModules.{module_leaves}
+use Rattle.fir_meaning.specs.working.LeafedModules.{module_leaves}
 use Rattle.fir_meaning.specs.SizedDeclarations.{numbered_modules}
 use Rattle.fir_meaning.specs.TypeLeaves.{TypeLeaf}
 use Rattle.fir_meaning.specs.TypedScopes.{Known, TypedScope}

@@ -8,7 +8,7 @@ use Rattle.fir_ast.specs.Circuits.{CircuitTree, ModuleTree}
 use Rattle.fir_ast.specs.Types.{DataType}
 use Rattle.fir_ast.specs.working.Views.{circuit_of, module_of}
 use Rattle.fir_meaning.specs.ComponentTypes.{typed_scope}
-use Rattle.fir_meaning.specs.LeafMemories.{leaves_of_data}
+use Rattle.fir_meaning.specs.FoundTypes.{leaves_of_data}
 use Rattle.fir_meaning.specs.LeafPaths.{LeafPath, path_text, step_text}
 use Rattle.fir_meaning.specs.TypedScopes.{Known}
 use Rattle.fir_meaning.specs.Visibility.{declarations}

@@ -3,7 +3,7 @@ use Rattle.std.proofs.Common.{◌≡◌, ℕ, ◌+◌, ◌-◌, ◌^◌, ◌<◌
 use Rattle.std.specs.Str.{bytes_eq}
 use Rattle.fir_base.proofs.SameNames.{name_is}
 use Rattle.fir_ast.specs.Types.{DataType, bundle}
-use Rattle.fir_meaning.specs.FieldSizes.{leaves_before, leaves_before_field}
+use Rattle.fir_meaning.specs.working.FieldSizes.{leaves_before, leaves_before_field}
 use Rattle.fir_meaning.specs.Reaching.{field_of_type}
 use Rattle.fir_meaning.specs.TypeKinds.{FieldFound, field_named}
 use Rattle.fir_meaning.specs.TypeLeaves.{field_count, leaf_count}

@@ -5,8 +5,8 @@ use Rattle.std.proofs.lemmas.Option.{slice_get_read}
 use Rattle.fir_ast.specs.declared.circuit.Circuit.{Circuit}
 use Rattle.fir_ast.specs.Circuits.{CircuitTree}
 use Rattle.fir_ast.specs.working.Views.{circuit_of}
-use Rattle.fir_meaning.specs.LeafModules.{leaf_at}
-use Rattle.fir_meaning.specs.LeafedModules.{module_leaves}
+use Rattle.fir_meaning.specs.working.LeafModules.{leaf_at}
+use Rattle.fir_meaning.specs.working.LeafedModules.{module_leaves}
 use Rattle.fir_leaf.specs.working.TableLaws.{LeavesAreDeclared}
 use Rattle.fir_leaf_circuit.specs.declared.leaf.Leaf.{Leaf}
 use Rattle.fir_leaf_circuit.specs.declared.leaf_module.LeafModule.{LeafModule}

@@ -6,7 +6,7 @@ use Rattle.std.proofs.lemmas.List.{length-map}
 use Rattle.std.proofs.lemmas.List.Sums.{sum_by-cons}
 use Rattle.std.proofs.lemmas.Option.{none-some, same_Some}
 use Rattle.fir_base.proofs.Elements.{get_left, there}
-use Rattle.fir_meaning.specs.LeafMemories.{leaves_of_data}
+use Rattle.fir_meaning.specs.FoundTypes.{leaves_of_data}
 use Rattle.fir_meaning.specs.LeafPaths.{LeafPath, named}
 use Rattle.fir_meaning.specs.TypeLeaves.{TypeLeaf}
 use Rattle.fir_meaning.specs.TypedScopes.{Known, TypedScope}

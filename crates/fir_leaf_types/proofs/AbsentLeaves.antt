@@ -7,9 +7,9 @@ use Rattle.fir_meaning.specs.LeafPaths.{Step, named, element}
 use Rattle.fir_meaning.specs.TypeLeaves.{TypeLeaf, under, element_leaves, type_leaves, field_leaves}
 use Rattle.fir_meaning.specs.WidthExpressions.{Widths, width_of}
 use Rattle.fir_meaning.specs.SizedTypes.{Sized, SizedFields, unsigned, signed, clock_scalar, reset_scalar, async_scalar, scalar, sized_bundle, sized_vector, no_sized_fields, sized_field}
-use Rattle.fir_meaning.specs.Leafed.{absent_type}
-use Rattle.fir_meaning.specs.LeafModules.{LeafType, number_type}
-use Rattle.fir_meaning.specs.LeafedModules.{repeated, held_types, held_field_types}
+use Rattle.fir_meaning.specs.FoundTypes.{absent_type}
+use Rattle.fir_meaning.specs.LeafTypes.{LeafType, number_type}
+use Rattle.fir_meaning.specs.HeldTypes.{repeated, held_types, held_field_types}
 use Rattle.fir_leaf_types.specs.working.TypedTerms.{IsNarrow}
 use Rattle.fir_leaf_types.proofs.StandingWidths.{Absent, FieldsAbsent}
 

@@ -28,12 +28,14 @@ use Rattle.fir_meaning.specs.LegalFaults.{legal_rule, condition_faults}
 use Rattle.fir_meaning.specs.working.WellTyped.{HasType, ConnectIsLegal, IsLegal, AreLegal}
 use Rattle.fir_meaning.proofs.FoundTypes.{found_type}
 use Rattle.fir_meaning.proofs.SizedExpressions.{sized_as_typed}
-use Rattle.fir_meaning.specs.Leafed.{target_of, target_read}
-use Rattle.fir_meaning.specs.LeafPairs.{LeafPair, leaf_pairs, partial_leaf_pairs}
-use Rattle.fir_meaning.specs.LeafedBlocks.{type_where, sides, instance_block, connect_block, leafed, leafed_all}
-use Rattle.fir_meaning.specs.Targets.{Target}
-use Rattle.fir_meaning.specs.LeafModules.{LeafType}
-use Rattle.fir_meaning.specs.LeafedModules.{Scene, leafed_module, module_leaves}
+use Rattle.fir_meaning.specs.working.Leafed.{target_of, target_read}
+use Rattle.fir_meaning.specs.working.LeafPairs.{LeafPair, leaf_pairs, partial_leaf_pairs}
+use Rattle.fir_meaning.specs.FoundTypes.{type_where}
+use Rattle.fir_meaning.specs.working.LeafedBlocks.{sides, instance_block, connect_block, leafed, leafed_all}
+use Rattle.fir_meaning.specs.working.Targets.{Target}
+use Rattle.fir_meaning.specs.LeafTypes.{LeafType}
+use Rattle.fir_meaning.specs.ModuleScenes.{Scene}
+use Rattle.fir_meaning.specs.working.LeafedModules.{leafed_module, module_leaves}
 use Rattle.fir_meaning.proofs.PartialPairs.{partial_fit}
 use Rattle.fir_leaf.proofs.PairsByNumber.{IsPair, ArePairs, pairs_numbered, partial_numbered}
 use Rattle.fir_leaf_types.specs.working.TypedBlocks.{AreTyped}

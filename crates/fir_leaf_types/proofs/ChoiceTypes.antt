@@ -12,11 +12,11 @@ use Rattle.fir_meaning.specs.Equivalence.{alike, fields_alike, same_ground}
 use Rattle.fir_meaning.specs.WidthExpressions.{Width, Widths, width_of}
 use Rattle.fir_meaning.specs.SizedTypes.{Scalar, Sized, SizedFields, unsigned, signed, clock_scalar, reset_scalar, async_scalar, scalar, sized_bundle, sized_vector, no_sized_fields, sized_field, bare_type, bare_type_fields}
 use Rattle.fir_meaning.specs.SizedOperations.{greater_of, greater_fields, guarded_by, guarded_fields}
-use Rattle.fir_meaning.specs.Terms.{Term}
-use Rattle.fir_meaning.specs.Terms as over
-use Rattle.fir_meaning.specs.Leafed.{muxes}
-use Rattle.fir_meaning.specs.LeafModules.{LeafType, number, a_clock, number_type}
-use Rattle.fir_meaning.specs.LeafedModules.{repeated, held_types, held_field_types}
+use Rattle.fir_meaning.specs.working.Terms.{Term}
+use Rattle.fir_meaning.specs.working.Terms as over
+use Rattle.fir_meaning.specs.working.Leafed.{muxes}
+use Rattle.fir_meaning.specs.LeafTypes.{LeafType, number, a_clock, number_type}
+use Rattle.fir_meaning.specs.HeldTypes.{repeated, held_types, held_field_types}
 use Rattle.fir_leaf_types.specs.working.TypedTerms.{HasType, one_bit}
 use Rattle.fir_leaf_types.proofs.HeldKinds.{kinds, held_kinds, alike_kinds, same_ground_kinds, IsNumber, not_zero}
 use Rattle.fir_leaf_types.proofs.StandingTypedTargets.{HaveEach}

@@ -15,14 +15,14 @@ use Rattle.fir_meaning.specs.TypeKinds.{bare}
 use Rattle.fir_meaning.specs.TypeLeaves.{TypeLeaf, type_leaves, leaf_count}
 use Rattle.fir_meaning.specs.WidthExpressions.{Widths}
 use Rattle.fir_meaning.specs.SizedTypes.{Sized, bare_type}
-use Rattle.fir_meaning.specs.Terms.{Term, zeros}
-use Rattle.fir_meaning.specs.LeafBlocks.{LeafBlock, joined}
-use Rattle.fir_meaning.specs.LeafBlocks as over
-use Rattle.fir_meaning.specs.Targets.{Target}
-use Rattle.fir_meaning.specs.LeafPairs.{LeafPair}
-use Rattle.fir_meaning.specs.LeafedBlocks.{alone, driven, driven_from, driven_where, term_at, Sides, pair_block, pairs_block, invalid_leaf, invalid_leaves, invalid_block}
-use Rattle.fir_meaning.specs.LeafModules.{LeafType, a_clock, number}
-use Rattle.fir_meaning.specs.LeafedModules.{held_types}
+use Rattle.fir_meaning.specs.working.Terms.{Term, zeros}
+use Rattle.fir_meaning.specs.working.LeafBlocks.{LeafBlock, joined}
+use Rattle.fir_meaning.specs.working.LeafBlocks as over
+use Rattle.fir_meaning.specs.working.Targets.{Target}
+use Rattle.fir_meaning.specs.working.LeafPairs.{LeafPair}
+use Rattle.fir_meaning.specs.working.LeafedBlocks.{alone, driven, driven_from, driven_where, term_at, Sides, pair_block, pairs_block, invalid_leaf, invalid_leaves, invalid_block}
+use Rattle.fir_meaning.specs.LeafTypes.{LeafType, a_clock, number}
+use Rattle.fir_meaning.specs.HeldTypes.{held_types}
 use Rattle.fir_leaf.proofs.PairsByNumber.{IsPair, ArePairs}
 use Rattle.fir_leaf_types.specs.working.TypedTerms.{HasType}
 use Rattle.fir_leaf_types.specs.working.TypedBlocks.{AreTyped, IsSameKind, MayGive}

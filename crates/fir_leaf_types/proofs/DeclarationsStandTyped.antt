@@ -9,7 +9,7 @@ use Rattle.fir_meaning.specs.WidthExpressions.{Widths}
 use Rattle.fir_meaning.specs.SizedScopes.{SizedName}
 use Rattle.fir_meaning.specs.SizedDeclarations.{Numbering, sized_component, numbered_with, numbered_behind}
 use Rattle.fir_meaning.proofs.KnownNames.{typed_more}
-use Rattle.fir_meaning.specs.LeafModules.{LeafType}
+use Rattle.fir_meaning.specs.LeafTypes.{LeafType}
 use Rattle.fir_leaf.proofs.LeafPlaces.{get_left}
 use Rattle.fir_leaf_types.proofs.ScopesStandTyped.{ScopeStands, held_where, held_along, scope_more, held_more, declaration_stands}
 

@@ -31,12 +31,12 @@ use Rattle.fir_meaning.specs.SizedScopes.{SizedScope, literal_width, sized_in, s
 use Rattle.fir_meaning.specs.WidthWalk.{shown_within, shown_within_parts, shown_within_each}
 use Rattle.fir_meaning.specs.OverFaults.{over_rule, first_path, expression_over}
 use Rattle.fir_meaning.specs.LegalFaults.{legal_rule, condition_faults, form_faults, operation_faults}
-use Rattle.fir_meaning.specs.Terms.{Term, terms_of}
-use Rattle.fir_meaning.specs.Terms as over
-use Rattle.fir_meaning.specs.Targets.{Target, leaves_ahead, named_target, field_target, field_target_at, element_target, element_target_at, picked_target, picked_target_at}
-use Rattle.fir_meaning.specs.Leafed.{first_term, terms, target_along, operands, target_of}
-use Rattle.fir_meaning.specs.LeafModules.{LeafType, number}
-use Rattle.fir_meaning.specs.LeafedModules.{held_types}
+use Rattle.fir_meaning.specs.working.Terms.{Term, terms_of}
+use Rattle.fir_meaning.specs.working.Terms as over
+use Rattle.fir_meaning.specs.working.Targets.{Target, leaves_ahead, named_target, field_target, field_target_at, element_target, element_target_at, picked_target, picked_target_at}
+use Rattle.fir_meaning.specs.working.Leafed.{first_term, terms, target_along, operands, target_of}
+use Rattle.fir_meaning.specs.LeafTypes.{LeafType, number}
+use Rattle.fir_meaning.specs.HeldTypes.{held_types}
 use Rattle.fir_meaning.specs.working.WellTyped.{HasType, HaveTypes, Leads, Reaches}
 use Rattle.fir_leaf.proofs.NamedPlaces.{reached_type}
 use Rattle.fir_leaf.proofs.SingleLeaves.{kinds_apart}

@@ -15,8 +15,8 @@ use Rattle.fir_meaning.specs.TypeKinds.{bare, bare_fields, is_numeric, are_numer
 use Rattle.fir_meaning.specs.Equivalence.{alike, fields_alike, same_ground, fitting_ground}
 use Rattle.fir_meaning.specs.WidthExpressions.{Widths}
 use Rattle.fir_meaning.specs.SizedTypes.{Sized, SizedFields, unsigned, signed, clock_scalar, reset_scalar, async_scalar, scalar, sized_bundle, sized_vector, no_sized_fields, sized_field, bare_type, bare_type_fields}
-use Rattle.fir_meaning.specs.LeafModules.{LeafType, number, a_clock, number_type}
-use Rattle.fir_meaning.specs.LeafedModules.{repeated, held_types, held_field_types}
+use Rattle.fir_meaning.specs.LeafTypes.{LeafType, number, a_clock, number_type}
+use Rattle.fir_meaning.specs.HeldTypes.{repeated, held_types, held_field_types}
 use Rattle.fir_leaf_types.specs.working.TypedBlocks.{IsSameKind}
 
 abbrev pub of_sign : Bool → LeafType

@@ -5,11 +5,11 @@ use Rattle.std.proofs.Math.Nat.{suc-mul}
 use Rattle.fir_ast.specs.Types.{DataType, uint, sint, clock, reset, async_reset, bundle, vector, Fields, no_fields, field}
 use Rattle.fir_meaning.specs.TypeKinds.{bare, bare_fields}
 use Rattle.fir_meaning.specs.TypeLeaves.{leaf_count, field_count}
-use Rattle.fir_meaning.specs.FieldSizes.{leaves_before, leaves_before_field}
+use Rattle.fir_meaning.specs.working.FieldSizes.{leaves_before, leaves_before_field}
 use Rattle.fir_meaning.specs.WidthExpressions.{Widths}
 use Rattle.fir_meaning.specs.SizedTypes.{Sized, SizedFields, unsigned, signed, clock_scalar, reset_scalar, async_scalar, scalar, sized_bundle, sized_vector, no_sized_fields, sized_field, bare_type, bare_type_fields, sized_named}
-use Rattle.fir_meaning.specs.LeafModules.{LeafType}
-use Rattle.fir_meaning.specs.LeafedModules.{repeated, held_types, held_field_types}
+use Rattle.fir_meaning.specs.LeafTypes.{LeafType}
+use Rattle.fir_meaning.specs.HeldTypes.{repeated, held_types, held_field_types}
 use Rattle.fir_leaf.proofs.LeafPlaces.{get_left, get_right}
 
 pub repeated_counted : {A : Type 0} → (n : ℕ) (xs : List A) → length (repeated n xs) ≡ n * length xs

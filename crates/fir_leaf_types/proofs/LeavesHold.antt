@@ -12,11 +12,14 @@ use Rattle.fir_meaning.specs.Visibility.{Before, declaration_at, with_declaratio
 use Rattle.fir_meaning.specs.ComponentTypes.{typed_scope}
 use Rattle.fir_meaning.specs.ResetJoins.{numbered_module}
 use Rattle.fir_meaning.specs.SizedDeclarations.{numbered_behind, sized_declared}
-use Rattle.fir_meaning.specs.Leafed.{terms}
-use Rattle.fir_meaning.specs.LeafedBlocks.{term_at}
-use Rattle.fir_meaning.specs.LeafMemories.{leaves_of_data, memory_roles}
-use Rattle.fir_meaning.specs.LeafModules.{LeafDeclared, LeafType, Role, computed, leaf_at, sink}
-use Rattle.fir_meaning.specs.LeafedModules.{Scene, Declared, leaves_from, type_of_declared, held_by_declared, declared_leaves, scope_before, port_role, register_role, instance_place, instance_role, role_in, memory_before, leaves_in, leaves_in_block, leaves_of_ports, behind_all_ports, module_leaves}
+use Rattle.fir_meaning.specs.working.Leafed.{terms}
+use Rattle.fir_meaning.specs.working.LeafedBlocks.{term_at}
+use Rattle.fir_meaning.specs.FoundTypes.{leaves_of_data}
+use Rattle.fir_meaning.specs.working.LeafMemories.{memory_roles}
+use Rattle.fir_meaning.specs.working.LeafModules.{LeafDeclared, Role, computed, leaf_at, sink}
+use Rattle.fir_meaning.specs.LeafTypes.{LeafType}
+use Rattle.fir_meaning.specs.ModuleScenes.{Scene, Declared, type_of_declared, held_by_declared, scope_before, behind_all_ports}
+use Rattle.fir_meaning.specs.working.LeafedModules.{leaves_from, declared_leaves, port_role, register_role, instance_place, instance_role, role_in, memory_before, leaves_in, leaves_in_block, leaves_of_ports, module_leaves}
 use Rattle.fir_leaf.proofs.LeafPlaces.{leaves_counted}
 use Rattle.fir_leaf.proofs.HeldCounts.{held_by_type}
 use Rattle.fir_leaf_types.proofs.ScopesStandTyped.{held_where, held_along}

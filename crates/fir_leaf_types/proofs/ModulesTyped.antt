@@ -14,8 +14,9 @@ use Rattle.fir_meaning.specs.LegalFaults.{legal_rule}
 use Rattle.fir_meaning.specs.working.WellTyped.{AreLegal}
 use Rattle.fir_meaning.specs.working.WidthLaws.{WidthsGrow}
 use Rattle.fir_meaning.proofs.WellTypedCircuits.{well_typed}
-use Rattle.fir_meaning.specs.LeafModules.{LeafDeclared, leaf_at}
-use Rattle.fir_meaning.specs.LeafedModules.{behind_all_ports, driven_leaves, leaves_in_block, leaves_of_ports, leafed_module, module_leaves}
+use Rattle.fir_meaning.specs.working.LeafModules.{LeafDeclared, leaf_at}
+use Rattle.fir_meaning.specs.ModuleScenes.{behind_all_ports}
+use Rattle.fir_meaning.specs.working.LeafedModules.{driven_leaves, leaves_in_block, leaves_of_ports, leafed_module, module_leaves}
 use Rattle.fir_leaf.proofs.DeclaredLeaves.{own_module}
 use Rattle.fir_leaf_types.specs.working.TypedModules.{LeafedModulesAreTyped, held_in}
 use Rattle.fir_leaf_types.proofs.DeclarationsGrow.{grows_all}

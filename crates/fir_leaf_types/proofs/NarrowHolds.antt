@@ -12,7 +12,7 @@ use Rattle.fir_meaning.specs.SizedLeaves.{SizedLeaf, sized_under, sized_leaves, 
 use Rattle.fir_meaning.specs.SizedMemories.{ports_or_array}
 use Rattle.fir_meaning.specs.SizeFaults.{leaf_over, word_over}
 use Rattle.fir_meaning.specs.OverFaults.{is_leaf_over, leaves_over, form_over}
-use Rattle.fir_meaning.specs.LeafedModules.{held_types, held_field_types}
+use Rattle.fir_meaning.specs.HeldTypes.{held_types, held_field_types}
 use Rattle.fir_leaf_types.specs.working.TypedTerms.{IsNarrow}
 use Rattle.fir_leaf_types.proofs.HeldKinds.{all_repeated, not_zero}
 

@@ -14,8 +14,8 @@ use Rattle.fir_meaning.specs.TypeKinds.{is_passive, are_passive}
 use Rattle.fir_meaning.specs.WidthExpressions.{Width, Widths, unknown, width_of}
 use Rattle.fir_meaning.specs.SizedTypes.{Sized, SizedFields, unsigned, signed, clock_scalar, reset_scalar, async_scalar, scalar, sized_bundle, sized_vector, no_sized_fields, sized_field, numbered, numbered_fields, bare_type, bare_type_fields, written_type, node_type, node_fields, renumbered, sized_named}
 use Rattle.fir_meaning.specs.SizedMatches.{Match, where_met, matches, field_matches}
-use Rattle.fir_meaning.specs.LeafModules.{number}
-use Rattle.fir_meaning.specs.LeafedModules.{repeated, held_types, held_field_types}
+use Rattle.fir_meaning.specs.LeafTypes.{number}
+use Rattle.fir_meaning.specs.HeldTypes.{repeated, held_types, held_field_types}
 use Rattle.fir_leaf_types.proofs.HeldKinds.{not_zero}
 use Rattle.fir_leaf_types.proofs.OwnedNumbers.{IsOwned, Within, numbered_owned, numbered_fields_owned}
 use Rattle.fir_leaf_types.proofs.StraightMatches.{passive_bare, passive_straight, straight_owned}

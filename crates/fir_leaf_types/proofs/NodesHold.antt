@@ -11,7 +11,7 @@ use Rattle.fir_ast.specs.Circuits.{ModuleTree, CircuitTree}
 use Rattle.fir_meaning.specs.Components.{Declaration, Declarations}
 use Rattle.fir_meaning.specs.Components as component
 use Rattle.fir_meaning.specs.ComponentTypes.{known_as, typed_behind, typed_scope}
-use Rattle.fir_meaning.specs.NameGroups.{HasNames}
+use Rattle.fir_meaning.specs.working.NameGroups.{HasNames}
 use Rattle.fir_meaning.specs.SharedLeaves.{shared_count}
 use Rattle.fir_meaning.specs.SizedTypes.{Sized, bare_type, renumbered}
 use Rattle.fir_meaning.specs.SizedMatches.{matches}
@@ -29,7 +29,7 @@ use Rattle.fir_meaning.proofs.FoundTypes.{found_type}
 use Rattle.fir_meaning.proofs.FreshFields.{HasFreshFields}
 use Rattle.fir_meaning.proofs.SizedExpressions.{sized_as_typed}
 use Rattle.fir_meaning.proofs.WellTypedCircuits.{well_typed}
-use Rattle.fir_meaning.specs.LeafedModules.{Scene, behind_all_ports}
+use Rattle.fir_meaning.specs.ModuleScenes.{Scene, behind_all_ports}
 use Rattle.fir_leaf.specs.working.LeafLaws.{Begins, IsFine}
 use Rattle.fir_leaf.proofs.AlikeTypes.{fresh_bare}
 use Rattle.fir_leaf.proofs.ClearScopes.{fine_module}

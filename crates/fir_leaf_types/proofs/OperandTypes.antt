@@ -21,8 +21,8 @@ use Rattle.fir_meaning.specs.WidthExpressions.{Width, Widths, width_of}
 use Rattle.fir_meaning.specs.SizedTypes.{Sized, unsigned, signed, clock_scalar, reset_scalar, async_scalar, scalar, sized_bundle, sized_vector, bare_type}
 use Rattle.fir_meaning.specs.SizedOperations.{number_scalar, is_signed, width_in, first_sized, result_scalar, operation_width, sized_operation}
 use Rattle.fir_meaning.proofs.SizedShapes.{operand_signed}
-use Rattle.fir_meaning.specs.LeafModules.{number}
-use Rattle.fir_meaning.specs.LeafedModules.{scalar_type, held_types}
+use Rattle.fir_meaning.specs.LeafTypes.{number}
+use Rattle.fir_meaning.specs.HeldTypes.{scalar_type, held_types}
 
 -- what may be an operand
 abbrev IsOperand : DataType → Type 0

@@ -37,13 +37,18 @@ use Rattle.fir_meaning.specs.OverFaults.{over_rule}
 use Rattle.fir_meaning.specs.LegalFaults.{legal_rule, condition_faults}
 use Rattle.fir_meaning.specs.working.WellTyped.{HasType, MayReset, ResetIsLegal, IsLegal, AreLegal}
 use Rattle.fir_meaning.proofs.SizedShapes.{numbered_bare}
-use Rattle.fir_meaning.specs.Leafed.{first_term, terms}
-use Rattle.fir_meaning.specs.LeafedBlocks.{term_at}
-use Rattle.fir_meaning.specs.LeafMemories.{LeafMemory, PortKind, reads, writes, reads_and_writes, enable, leaves_of_data, memory_roles, mode, port_roles, port_size, read_role, read_roles, roles_from, sinks}
-use Rattle.fir_meaning.specs.LeafModules.{LeafDeclared, LeafType, Need, Role, a_clock, computed, number, pipe, reading, sink, source}
-use Rattle.fir_meaning.specs.LeafModules as role
-use Rattle.fir_meaning.specs.LeafedModules.{Scene, Declared, leaves_from, type_of_declared, held_by_declared, held_types, declared_leaves, leaf_reset, port_role, register_role, instance_place, instance_role, role_in, memory_before, leaves_in, leaves_in_block, leaves_of_ports, leafed_module}
-use Rattle.fir_meaning.specs.Terms.{Term, zeros}
+use Rattle.fir_meaning.specs.working.Leafed.{first_term, terms}
+use Rattle.fir_meaning.specs.working.LeafedBlocks.{term_at}
+use Rattle.fir_meaning.specs.working.LeafMemories.{LeafMemory, enable, memory_roles, mode, port_roles, port_size, read_role, read_roles, roles_from, sinks}
+use Rattle.fir_meaning.specs.MemoryPorts.{PortKind, reads, writes, reads_and_writes}
+use Rattle.fir_meaning.specs.FoundTypes.{leaves_of_data}
+use Rattle.fir_meaning.specs.working.LeafModules.{LeafDeclared, Need, Role, computed, pipe, reading, sink, source}
+use Rattle.fir_meaning.specs.LeafTypes.{LeafType, a_clock, number}
+use Rattle.fir_meaning.specs.working.LeafModules as role
+use Rattle.fir_meaning.specs.ModuleScenes.{Scene, Declared, type_of_declared, held_by_declared}
+use Rattle.fir_meaning.specs.working.LeafedModules.{leaves_from, declared_leaves, leaf_reset, port_role, register_role, instance_place, instance_role, role_in, memory_before, leaves_in, leaves_in_block, leaves_of_ports, leafed_module}
+use Rattle.fir_meaning.specs.HeldTypes.{held_types}
+use Rattle.fir_meaning.specs.working.Terms.{Term, zeros}
 use Rattle.fir_leaf_types.specs.working.TypedTerms.{IsNarrow, one_bit}
 use Rattle.fir_leaf_types.specs.working.TypedTerms as typed
 use Rattle.fir_leaf_types.specs.working.TypedBlocks.{MayGive}

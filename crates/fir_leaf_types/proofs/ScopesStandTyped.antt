@@ -17,12 +17,12 @@ use Rattle.fir_meaning.specs.SizedTypes.{Sized, bare_type, numbered}
 use Rattle.fir_meaning.specs.SizedScopes.{SizedName, SizedScope, sized_in, sized_type}
 use Rattle.fir_meaning.specs.SizedMemories.{as_written}
 use Rattle.fir_meaning.specs.SizedDeclarations.{Numbering, port_numbers, instance_from, sized_component, numbered_behind}
-use Rattle.fir_meaning.specs.Targets.{leaves_ahead}
+use Rattle.fir_meaning.specs.working.Targets.{leaves_ahead}
 use Rattle.fir_meaning.proofs.SizedShapes.{numbered_bare, renumbered_bare}
 use Rattle.fir_meaning.proofs.SizedExpressions.{sized_as_typed}
 use Rattle.fir_meaning.proofs.InferredNodes.{nodes_as_inferred}
-use Rattle.fir_meaning.specs.LeafModules.{LeafType}
-use Rattle.fir_meaning.specs.LeafedModules.{held_types}
+use Rattle.fir_meaning.specs.LeafTypes.{LeafType}
+use Rattle.fir_meaning.specs.HeldTypes.{held_types}
 use Rattle.fir_leaf.proofs.LeafPlaces.{get_left, get_right}
 use Rattle.fir_leaf_types.proofs.HeldPlaces.{counted_by_type}
 use Rattle.fir_leaf_types.proofs.StandingWidths.{Present, written_present, inferred_present}

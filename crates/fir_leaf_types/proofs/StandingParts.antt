@@ -1,15 +1,15 @@
 -- A part of a type beside that of its sized type: a field, an element.
 use Rattle.std.proofs.Common.{◌≡◌, ℕ, ◌+◌, ◌*◌, ◌<◌, List, Option, Some, slice_get, sym, ap, ◌∙◌, subst, arith}
 use Rattle.fir_ast.specs.Types.{DataType, bundle, vector}
-use Rattle.fir_meaning.specs.FieldSizes.{leaves_before, leaves_before_field}
+use Rattle.fir_meaning.specs.working.FieldSizes.{leaves_before, leaves_before_field}
 use Rattle.fir_meaning.specs.Reaching.{field_of_type, vector_of_type}
 use Rattle.fir_meaning.specs.TypeKinds.{bare, FieldFound}
 use Rattle.fir_meaning.specs.TypeLeaves.{leaf_count}
 use Rattle.fir_meaning.specs.WidthExpressions.{Widths}
 use Rattle.fir_meaning.specs.SizedTypes.{Sized, scalar, sized_bundle, sized_vector, bare_type, bare_type_fields, sized_named, sized_found, fields_in, element_in}
 use Rattle.fir_meaning.proofs.SizedShapes.{field_bare, element_bare}
-use Rattle.fir_meaning.specs.LeafModules.{LeafType}
-use Rattle.fir_meaning.specs.LeafedModules.{held_types, held_field_types}
+use Rattle.fir_meaning.specs.LeafTypes.{LeafType}
+use Rattle.fir_meaning.specs.HeldTypes.{held_types, held_field_types}
 use Rattle.fir_leaf_types.proofs.HeldPlaces.{counted_by_type, before_bare, held_by_field, held_by_element}
 use Rattle.fir_leaf_types.proofs.StandingWidths.{Present, Absent, field_present, field_absent}
 

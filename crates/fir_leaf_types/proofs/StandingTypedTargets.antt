@@ -8,18 +8,18 @@ use Rattle.fir_base.specs.Lists.{In}
 use Rattle.fir_base.proofs.Members.{in_flat_map, in_flat_map_from}
 use Rattle.fir_ast.specs.declared.place.Place.{Place}
 use Rattle.fir_ast.specs.Types.{DataType}
-use Rattle.fir_meaning.specs.FieldSizes.{leaves_before}
+use Rattle.fir_meaning.specs.working.FieldSizes.{leaves_before}
 use Rattle.fir_meaning.specs.Reaching.{field_of_type, vector_of_type}
 use Rattle.fir_meaning.specs.TypeKinds.{bare, FieldFound}
 use Rattle.fir_meaning.specs.TypeLeaves.{TypeLeaf, type_leaves, leaf_count}
 use Rattle.fir_meaning.specs.WidthExpressions.{Widths}
 use Rattle.fir_meaning.specs.SizedTypes.{Sized, bare_type, sized_named, sized_found, fields_in, element_in}
-use Rattle.fir_meaning.specs.Terms.{Term, Picks, no_picks, pick}
-use Rattle.fir_meaning.specs.TermReads.{multiples, reached}
-use Rattle.fir_meaning.specs.Targets.{Target, stride_from, field_target, element_target, picked_target, further}
-use Rattle.fir_meaning.specs.Leafed.{leaf_term, leaf_terms, target_terms}
-use Rattle.fir_meaning.specs.LeafModules.{LeafType, number}
-use Rattle.fir_meaning.specs.LeafedModules.{held_types}
+use Rattle.fir_meaning.specs.working.Terms.{Term, Picks, no_picks, pick}
+use Rattle.fir_meaning.specs.working.TermReads.{multiples, reached}
+use Rattle.fir_meaning.specs.working.Targets.{Target, stride_from, field_target, element_target, picked_target, further}
+use Rattle.fir_meaning.specs.working.Leafed.{leaf_term, leaf_terms, target_terms}
+use Rattle.fir_meaning.specs.LeafTypes.{LeafType, number}
+use Rattle.fir_meaning.specs.HeldTypes.{held_types}
 use Rattle.fir_leaf.proofs.LeafPlaces.{leaves_counted}
 use Rattle.fir_leaf.proofs.PickedLeaves.{in_multiples}
 use Rattle.fir_leaf_types.specs.working.TypedTerms.{AreAlike, AreIndices, HasType, IsNarrow}

@@ -10,7 +10,8 @@ use Rattle.fir_meaning.specs.WidthExpressions.{Widths}
 use Rattle.fir_meaning.specs.WidthRules.{rules, AreWidths}
 use Rattle.fir_meaning.specs.OverFaults.{over_faults}
 use Rattle.fir_meaning.specs.LegalFaults.{legal_faults}
-use Rattle.fir_meaning.specs.WidthGroups.{under_widths, over_group, legal_group, IsInferred}
+use Rattle.fir_meaning.specs.WidthGroups.{under_widths, over_group, legal_group}
+use Rattle.fir_meaning.specs.working.WidthGroups.{IsInferred}
 use Rattle.fir_meaning.specs.working.WidthLaws.{FitsAll, InferredExactly}
 use Rattle.fir_meaning.proofs.LeastRules.{has_least, one_least}
 

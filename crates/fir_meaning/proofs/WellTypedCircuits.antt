@@ -4,7 +4,8 @@ use Rattle.fir_base.specs.Lists.{In}
 use Rattle.fir_ast.specs.Circuits.{ModuleTree, CircuitTree}
 use Rattle.fir_meaning.specs.Visibility.{behind_ports, at_head}
 use Rattle.fir_meaning.specs.Mentions.{ports_mentions, block_mentions, module_names, circuit_mentions}
-use Rattle.fir_meaning.specs.NameGroups.{HasNames, faults_in}
+use Rattle.fir_meaning.specs.working.NameGroups.{HasNames}
+use Rattle.fir_meaning.specs.NameGroups.{faults_in}
 use Rattle.fir_meaning.specs.TypeGroup.{module_type_faults, type_faults}
 use Rattle.fir_meaning.specs.working.WellTyped.{IsWellTyped}
 use Rattle.fir_meaning.specs.working.TypeLaws.{FaultlessIsWellTyped}

@@ -2,9 +2,7 @@
 -- Each module is taken with the circuit's widths and resets. The main module is the one that has the circuit's name.
 use Rattle.std.specs.Prelude.{◌≡◌, ℕ, List, map, Some, slice_get}
 use Rattle.fir_ast.specs.Circuits.{CircuitTree}
-use Rattle.fir_meaning.specs.Designs.{Design, IsDesignOf}
-use Rattle.fir_meaning.specs.LeafModules.{LeafModule}
-use Rattle.fir_meaning.specs.LeafedModules.{Scene, leafed_module}
+use Rattle.fir_meaning.specs.ModuleScenes.{Scene}
 use Rattle.fir_meaning.specs.ResetJoins.{numbered_module}
 use Rattle.fir_meaning.specs.Scenes.{IsSceneOf}
 use Rattle.fir_meaning.specs.SizedDeclarations.{numbered_modules}
@@ -13,10 +11,6 @@ use Rattle.fir_meaning.specs.SourceDesigns.{IsSourceDesignOf, SourceDesign, scen
 -- a scene for each module of a circuit, in their order
 abbrev pub AreScenes : CircuitTree → List Scene → Type 0
 AreScenes c scenes = map (λ (s : Scene). s.own) scenes ≡ numbered_modules c
-
--- the same modules over their ground leaves
-abbrev pub views : List Scene → List LeafModule
-views scenes = map leafed_module scenes
 
 -- the scenes of the modules, and that of the main module
 pub record HasMain (c : CircuitTree) (scenes : List Scene) (main : Scene) : Type 0 where
@@ -30,10 +24,3 @@ pub record IsSourceOf (c : CircuitTree) (t : SourceDesign) : Type 0 where
   pub main : Scene
   pub has : HasMain c scenes main
   pub is : IsSourceDesignOf scenes main t
-
--- the same over ground leaves
-pub record IsLeafDesignOf (c : CircuitTree) (d : Design) : Type 0 where
-  pub scenes : List Scene
-  pub main : Scene
-  pub has : HasMain c scenes main
-  pub is : IsDesignOf (views scenes) (leafed_module main) d

@@ -6,7 +6,7 @@ use Rattle.fir_ast.specs.Texts.{place_text, separated}
 use Rattle.fir_ast.specs.Statements.{PlacedName}
 use Rattle.fir_ast.specs.Circuits.{CircuitTree}
 use Rattle.fir_pass.specs.Faults.{Fault, E08, E09, E10, E11}
-use Rattle.fir_pass.specs.Groups.{Group, in_order, any_of, IsClear}
+use Rattle.fir_pass.specs.Groups.{Group, in_order, any_of}
 use Rattle.fir_meaning.specs.Components.{Declaration, find, find_name}
 use Rattle.fir_meaning.specs.Mentions.{Mention, declares, uses, instantiates, circuit_mentions, module_names}
 use Rattle.fir_meaning.specs.Hierarchy.{IsClosedWalk}
@@ -63,9 +63,3 @@ main_group c = in_order (no_main_faults c)
 
 abbrev pub hierarchy_group : CircuitTree → Group
 hierarchy_group c = any_of (IsRecursive c)
-
--- no fault of names stands in the circuit
-pub record HasNames (c : CircuitTree) : Type 0 where
-  pub names : IsClear (name_group c)
-  pub main : IsClear (main_group c)
-  pub hierarchy : IsClear (hierarchy_group c)

@@ -1,12 +1,12 @@
 -- A module of a circuit with the circuit's widths, and with which of its Resets are asynchronous (FIRRTL spec, "Width Inference", "Reset Inference").
-use Rattle.std.specs.Prelude.{◌≡◌, ◌↔◌, ℕ, ◌<◌, length, Bool, true, Some, slice_get}
+use Rattle.std.specs.Prelude.{◌≡◌, ◌↔◌, ℕ, Bool, true, Some, slice_get}
 use Rattle.fir_ast.specs.Circuits.{CircuitTree}
 use Rattle.fir_meaning.specs.LeafPaths.{LeafPath}
 use Rattle.fir_meaning.specs.ResetItems.{End, leaf_item}
 use Rattle.fir_meaning.specs.ResetWalks.{IsAsynchronous, IsLeafOf}
 use Rattle.fir_meaning.specs.SizedDeclarations.{numbered_modules}
 use Rattle.fir_meaning.specs.WidthRules.{AreWidths}
-use Rattle.fir_meaning.specs.LeafedModules.{Scene}
+use Rattle.fir_meaning.specs.ModuleScenes.{Scene}
 
 -- at the path of the module of that number stands a Reset that is asynchronous
 pub record IsAsynchronousAt (c : CircuitTree) (module_number : ℕ) (path : LeafPath) : Type 0 where
@@ -22,7 +22,3 @@ pub record IsSceneOf (c : CircuitTree) (module_number : ℕ) (s : Scene) : Type 
   pub own : slice_get (numbered_modules c) module_number ≡ Some s.own
   pub widths : AreWidths c s.widths
   pub resets : AreResets c module_number s.is_async
-
--- each module has a scene
-abbrev pub HasScenes : CircuitTree → Type 0
-HasScenes c = (module_number : ℕ) → module_number < length c.modules → (s : Scene) × IsSceneOf c module_number s

@@ -8,9 +8,10 @@ use Rattle.fir_base.specs.Ticks.{Allowance, HasShape, Tick}
 use Rattle.fir_ast.specs.declared.statements.ReadUnderWrite.{ReadUnderWrite}
 use Rattle.fir_ast.specs.declared.statements.ReadUnderWrite.TheVariants.{New, Old, Undefined}
 use Rattle.fir_meaning.specs.LeafPaths.{LeafPath}
-use Rattle.fir_meaning.specs.LeafModules.{LeafType, a_clock, number}
-use Rattle.fir_meaning.specs.Memories.{addresses, has_edge}
-use Rattle.fir_meaning.specs.TreeStores.{same_path}
+use Rattle.fir_meaning.specs.LeafTypes.{LeafType, a_clock, number}
+use Rattle.fir_meaning.specs.MemoryWords.{addresses}
+use Rattle.fir_meaning.specs.ClockEdges.{has_edge}
+use Rattle.fir_meaning.specs.SamePaths.{same_path}
 use Rattle.fir_meaning.specs.SourceCircuits.{PlacedArray, PlacedLeaf, all_arrays, all_leaves, array_path, clock_outputs, leaf_path, outputs, paths_of, source_shape, state_arrays, state_words}
 use Rattle.fir_meaning.specs.SourceDesigns.{SourceDesign}
 use Rattle.fir_meaning.specs.SourceRoles.{PathReading, PathWriting, SourceReset, SourceRole, pipe, register}

@@ -3,10 +3,10 @@
 -- own declaration inward. The last drive that reaches the leaf is live.
 use Rattle.std.specs.Prelude.{◌≡◌, ℕ, List, [], ◌∷◌, ◌++◌, drop, flat_map, Bool, true, false, not, ◌&&◌, ◌||◌, if◌then◌else◌, Option, Some, None}
 use Rattle.fir_meaning.specs.LeafPaths.{LeafPath}
-use Rattle.fir_meaning.specs.LeafedModules.{Scene, scope_before}
+use Rattle.fir_meaning.specs.ModuleScenes.{Scene, scope_before}
 use Rattle.fir_meaning.specs.SourceDrives.{Drive}
 use Rattle.fir_meaning.specs.SourceReads.{reads}
-use Rattle.fir_meaning.specs.TreeStores.{same_path}
+use Rattle.fir_meaning.specs.SamePaths.{same_path}
 use Rattle.fir_meaning.specs.Visits.{Branch}
 
 -- by the ways of whens and drives: whether the first block is taken, and whether the indices pick the leaf

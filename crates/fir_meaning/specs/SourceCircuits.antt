@@ -7,10 +7,8 @@ use Rattle.fir_base.specs.Ticks.{Shape}
 use Rattle.fir_ast.specs.Statements.{Block, Statement, done, instance, then, when}
 use Rattle.fir_meaning.specs.LeafPaths.{LeafPath, named}
 use Rattle.fir_meaning.specs.Visibility.{Before, at_head, behind, behind_block, opened, reopened}
-use Rattle.fir_meaning.specs.Flattened.{is_clock}
-use Rattle.fir_meaning.specs.LeafModules.{LeafType, number_type}
-use Rattle.fir_meaning.specs.LeafedModules.{Scene, behind_all_ports}
-use Rattle.fir_meaning.specs.StateWalks.{has_bits}
+use Rattle.fir_meaning.specs.LeafTypes.{is_clock, LeafType, number_type, has_bits}
+use Rattle.fir_meaning.specs.ModuleScenes.{Scene, behind_all_ports}
 use Rattle.fir_meaning.specs.SourceDesigns.{Instances, SourceDesign, held, made_of, no_instances}
 use Rattle.fir_meaning.specs.SourceRoles.{SourceArray, SourceLeaf, SourceRole, pipe, register, sink, source, source_arrays, source_arrays_in, sources_in, sources_in_block, sources_of_ports}
 

@@ -13,7 +13,7 @@ use Rattle.fir_pass.specs.Faults.{Fault, fault_of}
 use Rattle.fir_pass.specs.Groups.{Group}
 use Rattle.fir_meaning.specs.Elaborated.{IsSourceOf}
 use Rattle.fir_meaning.specs.Lack.{is_before}
-use Rattle.fir_meaning.specs.LeafModules.{LeafType, a_clock, number}
+use Rattle.fir_meaning.specs.LeafTypes.{LeafType, a_clock, number}
 use Rattle.fir_meaning.specs.LeafPaths.{LeafPath, path_text}
 use Rattle.fir_meaning.specs.SourceChoices.{IsLive}
 use Rattle.fir_meaning.specs.SourceCircuits.{PlacedLeaf, all_leaves, leaf_path}

@@ -3,7 +3,7 @@ use Rattle.std.specs.Prelude.{◌≡◌, ℕ, List, [], ◌∷◌, ◌++◌, Opt
 use Rattle.fir_ast.specs.Circuits.{ModuleTree}
 use Rattle.fir_ast.specs.Statements.{PlacedName, Statement, instance, when, Block, done, then}
 use Rattle.fir_meaning.specs.ResetJoins.{numbered_module}
-use Rattle.fir_meaning.specs.LeafedModules.{Scene}
+use Rattle.fir_meaning.specs.ModuleScenes.{Scene}
 
 mutual
   pub data SourceDesign : Type 0 where

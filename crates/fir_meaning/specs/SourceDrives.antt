@@ -9,14 +9,14 @@ use Rattle.fir_ast.specs.Statements.{Statement, connect, invalid, partial_connec
 use Rattle.fir_meaning.specs.ConnectPairs.{Pair, pairs, partial_pairs}
 use Rattle.fir_meaning.specs.ExpressionTypes.{expression_type}
 use Rattle.fir_meaning.specs.LeafPaths.{LeafPath}
-use Rattle.fir_meaning.specs.LeafedBlocks.{type_where}
-use Rattle.fir_meaning.specs.LeafedModules.{Scene, scope_before}
+use Rattle.fir_meaning.specs.FoundTypes.{type_where}
+use Rattle.fir_meaning.specs.ModuleScenes.{Scene, scope_before}
 use Rattle.fir_meaning.specs.MemoryTypes.{first_one}
 use Rattle.fir_meaning.specs.ResetItems.{has_access}
 use Rattle.fir_meaning.specs.SizedScopes.{sink_expression}
 use Rattle.fir_meaning.specs.SourceFacts.{source_may_drive}
 use Rattle.fir_meaning.specs.SourceReads.{index_places, index_reads, leaves_named, reads}
-use Rattle.fir_meaning.specs.TreeStores.{may_be_driven}
+use Rattle.fir_meaning.specs.SamePaths.{may_be_driven}
 use Rattle.fir_meaning.specs.TypeLeaves.{TypeLeaf, type_leaves}
 use Rattle.fir_meaning.specs.TypedScopes.{TypedScope}
 use Rattle.fir_meaning.specs.Visits.{Branch, Visit, module_visits}

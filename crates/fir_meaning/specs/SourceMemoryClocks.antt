@@ -12,9 +12,9 @@ use Rattle.fir_ast.specs.Expressions.{Expression, reference}
 use Rattle.fir_ast.specs.Statements.{MemoryPart, PlacedName, memory}
 use Rattle.fir_pass.specs.Groups.{Group}
 use Rattle.fir_meaning.specs.Lack.{is_before}
-use Rattle.fir_meaning.specs.LeafModules.{a_clock}
+use Rattle.fir_meaning.specs.LeafTypes.{a_clock}
 use Rattle.fir_meaning.specs.LeafPaths.{LeafPath, named, path_text}
-use Rattle.fir_meaning.specs.LeafedModules.{Scene}
+use Rattle.fir_meaning.specs.ModuleScenes.{Scene}
 use Rattle.fir_meaning.specs.SourceChoices.{IsLive}
 use Rattle.fir_meaning.specs.SourceClocks.{IsOfSource}
 use Rattle.fir_meaning.specs.SourceDependence.{PlacedModule, all_modules}

@@ -19,9 +19,12 @@ use Rattle.fir_meaning.specs.SizedMemories.{sized_array}
 use Rattle.fir_meaning.specs.TypeLeaves.{TypeLeaf}
 use Rattle.fir_meaning.specs.TypedScopes.{TypedScope}
 use Rattle.fir_meaning.specs.Visibility.{Before, at_head, behind, behind_block, opened, reopened, with_declaration}
-use Rattle.fir_meaning.specs.LeafMemories.{PortKind, leaves_of_data, reads, reads_and_writes, writes}
-use Rattle.fir_meaning.specs.LeafModules.{LeafType}
-use Rattle.fir_meaning.specs.LeafedModules.{Scene, behind_all_ports, held_by_declared, held_types, is_async_reset, scope_before, type_of_declared}
+use Rattle.fir_meaning.specs.MemoryPorts.{PortKind, reads, reads_and_writes, writes}
+use Rattle.fir_meaning.specs.FoundTypes.{leaves_of_data}
+use Rattle.fir_meaning.specs.LeafTypes.{LeafType}
+use Rattle.fir_meaning.specs.ModuleScenes.{Scene, behind_all_ports, held_by_declared, scope_before, type_of_declared}
+use Rattle.fir_meaning.specs.HeldTypes.{held_types}
+use Rattle.fir_meaning.specs.AsyncResets.{is_async_reset}
 
 -- a leaf that has to be 1 or 0
 pub record PathNeed : Type 0 where

@@ -7,7 +7,7 @@ use Rattle.fir_ast.specs.declared.fault.Outcome.{Outcome}
 use Rattle.fir_ast.specs.declared.fault.Outcome.TheVariants as outcome
 use Rattle.fir_ast.specs.Statements.{Statement, when}
 use Rattle.fir_meaning.specs.LeafPaths.{LeafPath}
-use Rattle.fir_meaning.specs.LeafedModules.{Scene}
+use Rattle.fir_meaning.specs.ModuleScenes.{Scene}
 use Rattle.fir_meaning.specs.Outcomes.{ComesFirst, told_once, write_told}
 use Rattle.fir_meaning.specs.SourceChoices.{Choice, are_taken, last, may_drive}
 use Rattle.fir_meaning.specs.SourceDrives.{Drive, drives}

@@ -7,10 +7,10 @@ use Rattle.fir_ast.specs.Expressions.{Expression}
 use Rattle.fir_meaning.specs.Values.{is_high, fit}
 use Rattle.fir_meaning.specs.LeafPaths.{LeafPath}
 use Rattle.fir_meaning.specs.TypedScopes.{TypedScope}
-use Rattle.fir_meaning.specs.DesignStores.{nothing_kept}
-use Rattle.fir_meaning.specs.LeafModules.{LeafType, no_bits, number, number_type}
-use Rattle.fir_meaning.specs.Memories.{word_behind}
-use Rattle.fir_meaning.specs.TreeStores.{same_path}
+use Rattle.fir_meaning.specs.PathStores.{nothing_kept}
+use Rattle.fir_meaning.specs.LeafTypes.{LeafType, no_bits, number, number_type}
+use Rattle.fir_meaning.specs.MemoryWords.{word_behind}
+use Rattle.fir_meaning.specs.SamePaths.{same_path}
 use Rattle.fir_meaning.specs.TreeValues.{TypesByPath, aim_read, leaf_where, value}
 use Rattle.fir_meaning.specs.SourceCircuits.{PlacedArray, PlacedLeaf, all_arrays, all_leaves, array_path, clock_inputs, inputs, leaf_path, paths_of, state_arrays, state_words}
 use Rattle.fir_meaning.specs.SourceDesigns.{SourceDesign}

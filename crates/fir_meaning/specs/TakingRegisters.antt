@@ -3,12 +3,12 @@
 use Rattle.std.specs.Prelude.{List, filter, map, Bool, true, false, ◌&&◌, ◌||◌, Option, Some, None}
 use Rattle.std.specs.List.{list_any}
 use Rattle.fir_meaning.specs.LeafPaths.{LeafPath}
-use Rattle.fir_meaning.specs.LeafedModules.{Scene}
+use Rattle.fir_meaning.specs.ModuleScenes.{Scene}
 use Rattle.fir_meaning.specs.SourceChoices.{has_path}
 use Rattle.fir_meaning.specs.SourceCircuits.{is_state}
 use Rattle.fir_meaning.specs.SourceDrives.{Drive, module_drives}
 use Rattle.fir_meaning.specs.SourceRoles.{SourceLeaf, SourceReset, SourceRole, register, source_leaves}
-use Rattle.fir_meaning.specs.StateWalks.{has_bits}
+use Rattle.fir_meaning.specs.LeafTypes.{has_bits}
 
 abbrev pub has_reset : Option SourceReset → Bool
 has_reset None = false

@@ -7,7 +7,7 @@ use Rattle.fir_meaning.specs.TypeKinds.{FieldFound}
 use Rattle.fir_meaning.specs.TypedScopes.{TypedScope, known}
 use Rattle.fir_meaning.specs.Reaching.{field_of_type, vector_of_type}
 use Rattle.fir_meaning.specs.ResetJoins.{type_of_known}
-use Rattle.fir_meaning.specs.Targets.{no_leaves}
+use Rattle.fir_meaning.specs.FoundTypes.{no_leaves}
 
 -- the path that the indices pick, if they are in range; that of the first elements, which has the type of all, if there are any; and the type
 pub record Aim : Type 0 where

@@ -1,6 +1,6 @@
 -- The values of an expression's leaves, by paths (FIRRTL spec, "Expressions", "Primitive Operations", "Multiplexers", "Sub-accesses").
 -- A leaf of a mux is that of the arm which the condition picks. An index that is out of range reads zero.
-use Rattle.std.specs.Prelude.{ℕ, List, [], ◌∷◌, ◌++◌, map, Option, Some, None}
+use Rattle.std.specs.Prelude.{ℕ, List, [], ◌∷◌, ◌++◌, Option, Some, None}
 use Rattle.fir_bits.specs.declared.types.NumTy.{NumTy}
 use Rattle.fir_bits.specs.declared.values.Num.{Num}
 use Rattle.fir_bits.specs.Operators.{outcome}
@@ -8,10 +8,9 @@ use Rattle.fir_ast.specs.Types.{DataType}
 use Rattle.fir_ast.specs.Expressions.{Expression, reference, literal, operation, mux, validif, Parts, no_parts, subfield, subindex, subaccess, Expressions, no_expressions, expression}
 use Rattle.fir_ast.specs.Statements.{Sink}
 use Rattle.fir_meaning.specs.LeafPaths.{LeafPath}
-use Rattle.fir_meaning.specs.TypeLeaves.{type_leaves}
 use Rattle.fir_meaning.specs.TypedScopes.{TypedScope}
 use Rattle.fir_meaning.specs.Values.{number_of, literal_value, is_high, choice, value_or_zero}
-use Rattle.fir_meaning.specs.Leafed.{absent_type}
+use Rattle.fir_meaning.specs.FoundTypes.{absent_type}
 use Rattle.fir_meaning.specs.TreeAims.{Aim, named_aim, field_aim, element_aim, picked_aim}
 use Rattle.fir_meaning.specs.TypeParts.{ground_at}
 
@@ -58,10 +57,6 @@ module _ (scope : TypedScope) (holds : TypesByPath) (env : ValuesByPath) where
     pub operand_values : Expressions → List Num
     operand_values no_expressions = []
     operand_values (expression e es) = value e [] ∷ operand_values es
-
-  -- those of all leaves of a type, in its order
-  abbrev pub values : DataType → Expression → List Num
-  values t e = map (λ l. value e l.path) (type_leaves t)
 
   abbrev pub aim_of : Sink → Aim
   aim_of s = aim_along (named_aim scope s.name) s.parts

@@ -3,7 +3,7 @@ use Rattle.std.specs.Prelude.{ℕ, List, ◌∷◌, if◌then◌else◌}
 use Rattle.std.specs.Str.{bytes_eq}
 use Rattle.fir_ast.specs.Types.{DataType, bundle, vector, Fields, no_fields, field}
 use Rattle.fir_meaning.specs.LeafPaths.{LeafPath, named, element}
-use Rattle.fir_meaning.specs.Targets.{no_leaves}
+use Rattle.fir_meaning.specs.FoundTypes.{no_leaves}
 
 abbrev mutual
   pub ground_at : DataType → LeafPath → DataType

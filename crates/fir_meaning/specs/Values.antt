@@ -1,6 +1,6 @@
 -- The values of leaves and literals, and what a condition picks (FIRRTL spec, "Expressions", "Literals", "Multiplexers", "Connects").
 -- A mux is the first arm where its condition is 1, else the second, at the greater one of their widths; a validif is its value where the condition is 1, else zero.
-use Rattle.std.specs.Prelude.{ℕ, List, [], ◌∷◌, Option, Some, None, max, min, Bool, ◌==◌, if◌then◌else◌}
+use Rattle.std.specs.Prelude.{ℕ, List, Option, Some, None, max, min, Bool, ◌==◌, if◌then◌else◌}
 use Rattle.fir_bits.specs.declared.types.NumTy.{NumTy}
 use Rattle.fir_bits.specs.declared.values.Num.{Num}
 use Rattle.fir_bits.specs.Values.{fitted}
@@ -39,11 +39,6 @@ abbrev pub choice : Bool → Num → Num → Num
 choice high a b =
     let width = max a.value.width b.value.width in
     record { signed = a.signed; value = record { width = width; number = if high then at_width a width else at_width b width } }
-
--- leaf by leaf
-abbrev pub choices : Bool → List Num → List Num → List Num
-choices high (a ∷ more_a) (b ∷ more_b) = choice high a b ∷ choices high more_a more_b
-choices high _ _ = []
 
 abbrev pub value_or_zero : Bool → Num → Num
 value_or_zero high v = record { signed = v.signed; value = record { width = v.value.width; number = if high then v.value.number else 0 } }

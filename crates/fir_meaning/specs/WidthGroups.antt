@@ -1,15 +1,13 @@
--- The groups of widths: E19; and E20 to E22, each in the order of the text (FIRRTL spec, "Width Inference"); and a circuit in which no fault of resets or
--- widths stands.
+-- The groups of widths: E19; and E20 to E22, each in the order of the text (FIRRTL spec, "Width Inference").
 use Rattle.std.specs.Prelude.{◌≡◌, List, Some}
 use Rattle.fir_base.specs.Lists.{In}
 use Rattle.fir_ast.specs.Circuits.{CircuitTree}
 use Rattle.fir_pass.specs.Faults.{Fault}
-use Rattle.fir_pass.specs.Groups.{Group, first_of, IsClear}
+use Rattle.fir_pass.specs.Groups.{Group, first_of}
 use Rattle.fir_meaning.specs.WidthExpressions.{Widths}
 use Rattle.fir_meaning.specs.WidthRules.{AreWidths}
 use Rattle.fir_meaning.specs.OverFaults.{over_faults}
 use Rattle.fir_meaning.specs.LegalFaults.{legal_faults}
-use Rattle.fir_meaning.specs.ResetWalks.{reset_group}
 
 -- what stands in a circuit under its widths
 abbrev pub under_widths : CircuitTree → (Widths → List Fault) → Group
@@ -23,9 +21,3 @@ over_group c = under_widths c (over_faults c)
 
 abbrev pub legal_group : CircuitTree → Group
 legal_group c = under_widths c (legal_faults c)
-
--- no fault of resets or widths stands in the circuit
-pub record IsInferred (c : CircuitTree) : Type 0 where
-  pub resets : IsClear (reset_group c)
-  pub over : IsClear (over_group c)
-  pub legal : IsClear (legal_group c)

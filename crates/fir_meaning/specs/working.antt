@@ -1,4 +1,41 @@
 -- What no clause of `run` reads: contracts between layers, laws, views of the code and its states.
+pub mod Values
+pub mod NameGroups
+pub mod WidthGroups
+pub mod Scenes
+-- What the statements of a module's tree store, by paths.
+pub mod TreeValues
+pub mod TreeStores
+-- The same over numbered leaves, which the code is proved against.
+pub mod Terms
+pub mod TermValues
+pub mod TermReads
+pub mod LeafBlocks
+pub mod FieldSizes
+pub mod Targets
+pub mod LeafPairs
+pub mod Leafed
+pub mod LeafedBlocks
+pub mod LeafModules
+pub mod LeafMemories
+pub mod LeafedModules
+pub mod Choices
+pub mod LeafCircuits
+pub mod LeafStates
+pub mod Designs
+pub mod DesignPaths
+pub mod DesignStores
+pub mod Numberings
+pub mod FlatDesigns
+pub mod FlatLeaves
+pub mod StateWalks
+pub mod Flattened
+pub mod Memories
+pub mod LeafSettled
+pub mod LeafNext
+pub mod LeafAllows
+pub mod Elaborated
+-- Laws of names, types and widths.
 pub mod NameLaws
 pub mod TypeNumbers
 pub mod WellTyped

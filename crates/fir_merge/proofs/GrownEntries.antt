@@ -1,8 +1,8 @@
 -- What bounds of nodes, indices and elements stand for while nodes are added.
 use Rattle.std.proofs.Common.{List, [], ◌∷◌, length}
 use Rattle.fir_leaf.specs.working.Nodes.{Entry, a_term, some_picks}
-use Rattle.fir_meaning.specs.TermValues.{Holds}
-use Rattle.fir_meaning.specs.Terms.{Picks, no_picks, pick}
+use Rattle.fir_meaning.specs.working.TermValues.{Holds}
+use Rattle.fir_meaning.specs.working.Terms.{Picks, no_picks, pick}
 use Rattle.fir_net.specs.declared.node.Node.{Node}
 use Rattle.fir_connect.specs.working.Lowered.{Candidate}
 use Rattle.fir_merge.specs.declared.bound.Bound.{Bound}

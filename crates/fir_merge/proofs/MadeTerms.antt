@@ -13,10 +13,10 @@ use Rattle.fir_bits.specs.declared.types.OpFault.TheVariants.{Kinds, Over, Legal
 use Rattle.fir_bits.proofs.Typing.{typed_at-width}
 use Rattle.fir_ast.specs.declared.place.Place.{Place}
 use Rattle.fir_meaning.specs.Values.{literal_type}
-use Rattle.fir_meaning.specs.LeafModules.{LeafType, number}
-use Rattle.fir_meaning.specs.TermReads.{multiples, reached}
-use Rattle.fir_meaning.specs.TermValues.{Holds}
-use Rattle.fir_meaning.specs.Terms.{Term, Picks, Terms, zeros, absent, literal, read, operation, mux, validif, no_picks, pick, no_terms, term}
+use Rattle.fir_meaning.specs.LeafTypes.{LeafType, number}
+use Rattle.fir_meaning.specs.working.TermReads.{multiples, reached}
+use Rattle.fir_meaning.specs.working.TermValues.{Holds}
+use Rattle.fir_meaning.specs.working.Terms.{Term, Picks, Terms, zeros, absent, literal, read, operation, mux, validif, no_picks, pick, no_terms, term}
 use Rattle.fir_leaf_types.specs.working.TypedTerms.{AreIndices, HasType, HaveTypes, IsNarrow, one_bit}
 use Rattle.fir_connect.specs.working.Lowered.{Candidate, both, candidates, conditions, first_met, is_number, lowered, lowered_each, numbers_from, result, unpicked, without, zero_of}
 use Rattle.fir_connect.specs.working.LoweredLaws.{LoweredHasType, types_of}

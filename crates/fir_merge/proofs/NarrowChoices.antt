@@ -3,7 +3,7 @@ use Rattle.std.proofs.Common.{◌≡◌, ◌<◌, ◌≤◌, List, nat_le, false
 use Rattle.std.proofs.lemmas.Bool.Decides.{nat_tests}
 use Rattle.fir_bits.specs.Forms.{no_type}
 use Rattle.fir_bits.specs.declared.types.NumTy.{NumTy}
-use Rattle.fir_meaning.specs.TermValues.{Holds}
+use Rattle.fir_meaning.specs.working.TermValues.{Holds}
 use Rattle.fir_net.specs.declared.node.Node.{Node}
 use Rattle.fir_connect.specs.working.Lowered.{zero_of}
 use Rattle.fir_connect.specs.working.NetTerms.{NetTerm}

@@ -5,7 +5,7 @@ use Rattle.fir_bits.specs.Literals.{holds_number, least_width}
 use Rattle.fir_bits.specs.Values.{BitVector}
 use Rattle.fir_bits.specs.working.Laws.{LeastWidthIsLeast}
 use Rattle.fir_bits.specs.declared.operators.PrimOp.TheVariants.{And, Eq}
-use Rattle.fir_meaning.specs.TermValues.{Holds}
+use Rattle.fir_meaning.specs.working.TermValues.{Holds}
 use Rattle.fir_net.specs.declared.node.Node.{Node}
 use Rattle.fir_connect.specs.working.Lowered.{both, is_number, unsigned_value}
 use Rattle.fir_connect.specs.working.NetTerms.{NetTerm, value}

@@ -5,8 +5,8 @@ use Rattle.fir_bits.specs.Forms.{no_type}
 use Rattle.fir_leaf.specs.declared.node.Node.{Node as LeafNode}
 use Rattle.fir_leaf.specs.declared.node.Node.TheVariants as node
 use Rattle.fir_leaf.specs.working.Nodes.{Entry, entries, entries_from, entry_at, entry_of, node_term, term_in}
-use Rattle.fir_meaning.specs.TermValues.{Holds}
-use Rattle.fir_meaning.specs.Terms.{zeros, terms_of}
+use Rattle.fir_meaning.specs.working.TermValues.{Holds}
+use Rattle.fir_meaning.specs.working.Terms.{zeros, terms_of}
 use Rattle.fir_driven.proofs.IndexEntries.{length-entries}
 use Rattle.fir_net.specs.declared.node.Node.{Node}
 use Rattle.fir_connect.specs.working.Lowered.{zero_of}

@@ -3,8 +3,8 @@ use Rattle.std.proofs.Common.{◌≡◌, ℕ, ◌<◌, ◌≤◌, List, [], ◌�
 use Rattle.fir_leaf.specs.declared.node.Node.{Node as LeafNode}
 use Rattle.fir_leaf.specs.declared.node.Pick.{Pick}
 use Rattle.fir_leaf.specs.working.Nodes.{Entry, a_term, entries, entry_at, picks_in, some_picks}
-use Rattle.fir_meaning.specs.TermValues.{Holds}
-use Rattle.fir_meaning.specs.Terms.{Picks}
+use Rattle.fir_meaning.specs.working.TermValues.{Holds}
+use Rattle.fir_meaning.specs.working.Terms.{Picks}
 use Rattle.fir_driven.specs.working.Indices.{IsIndex}
 use Rattle.fir_driven.proofs.IndexEntries.{past_picks}
 use Rattle.fir_net.specs.declared.node.Node.{Node}

@@ -1,8 +1,8 @@
 //! The elements that dynamic indices may pick, with their conditions (FIRRTL spec, "Sub-accesses").
 
 ghost use Rattle.std.specs.Prelude.{IfOk, IfSome, OnOk, length};
-ghost use Rattle.fir_meaning.specs.TermValues.{Holds};
-ghost use Rattle.fir_meaning.specs.Terms.{Picks};
+ghost use Rattle.fir_meaning.specs.working.TermValues.{Holds};
+ghost use Rattle.fir_meaning.specs.working.Terms.{Picks};
 ghost use Rattle.fir_merge.specs.working.Elements.{AddsElements, AddsFurther, ElementsBelow, ElementsStand};
 ghost use Rattle.fir_merge.specs.working.Entries.{IndicesBelow, IndicesStand};
 ghost use Rattle.fir_merge.specs.working.Made.{elements};

@@ -2,7 +2,7 @@
 
 ghost use Rattle.std.specs.Prelude.{ℕ, IfNone, IfOk, IfSome, List};
 ghost use Rattle.fir_leaf.specs.working.Nodes.{entries, picks_at};
-ghost use Rattle.fir_meaning.specs.TermValues.{Holds};
+ghost use Rattle.fir_meaning.specs.working.TermValues.{Holds};
 ghost use Rattle.fir_net.specs.declared.node.Node.{Node as NetNode};
 ghost use Rattle.fir_merge.specs.working.Entries.{BoundsBelow, EntriesStand, IndicesBelow, IndicesStand};
 ghost use Rattle.fir_merge.specs.working.Steps.{IsNoStep, IsStep};

@@ -4,7 +4,7 @@ ghost use Rattle.std.specs.Prelude.{◌≡◌, IsSomeAnd, Some, option_copied, o
 ghost use Rattle.fir_ast.specs.Circuits.{ModuleTree};
 ghost use Rattle.fir_ast.specs.working.Views.{circuit_of, port_of};
 ghost use Rattle.fir_meaning.specs.Mentions.{module_names};
-ghost use Rattle.fir_meaning.specs.NameGroups.{HasNames};
+ghost use Rattle.fir_meaning.specs.working.NameGroups.{HasNames};
 ghost use Rattle.fir_meaning.specs.Visibility.{declarations};
 ghost use Rattle.fir_names.specs.working.ModuleOrder.{IsModuleOrder};
 ghost use Rattle.fir_names.specs.working.PortNames.{find_port};

@@ -10,7 +10,7 @@ use Rattle.ver_ast.specs.Nets.{shape as v_shape}
 use Rattle.ver_ast.specs.Allows.{VOne, VAllows, VRun}
 use Rattle.fir_ast.specs.Circuits.{CircuitTree}
 use Rattle.fir_meaning.specs.Elaborated.{IsSourceOf}
-use Rattle.fir_meaning.specs.LeafedModules.{Scene}
+use Rattle.fir_meaning.specs.ModuleScenes.{Scene}
 use Rattle.fir_meaning.specs.Scenes.{IsSceneOf}
 use Rattle.fir_meaning.specs.SourceAllows.{Allows}
 use Rattle.fir_meaning.specs.SourceCircuits.{source_shape}

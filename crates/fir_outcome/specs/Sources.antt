@@ -4,7 +4,7 @@ use Rattle.fir_base.specs.Ticks.{IsRun, Tick, TickResult}
 use Rattle.fir_meaning.specs.SourceAllows.{Allows}
 use Rattle.fir_meaning.specs.SourceCircuits.{is_sink, ports_where, widths_of}
 use Rattle.fir_meaning.specs.SourceDesigns.{SourceDesign}
-use Rattle.fir_meaning.specs.StateWalks.{has_bits}
+use Rattle.fir_meaning.specs.LeafTypes.{has_bits}
 
 abbrev pub SourceRun : SourceDesign → List ℕ → List Tick → List TickResult → Type 0
 SourceRun t = IsRun (Allows t)

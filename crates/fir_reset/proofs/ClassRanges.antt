@@ -9,7 +9,7 @@ use Rattle.fir_meaning.specs.Components.{Component, Declaration, Declarations, p
 use Rattle.fir_meaning.specs.Visibility.{declarations}
 use Rattle.fir_meaning.specs.TypedScopes.{Known, TypedScope}
 use Rattle.fir_meaning.specs.ComponentTypes.{instance_bundle, component_type, find_module, typed_scope}
-use Rattle.fir_meaning.specs.NameGroups.{HasNames}
+use Rattle.fir_meaning.specs.working.NameGroups.{HasNames}
 use Rattle.fir_meaning.specs.SharedLeaves.{shared_count}
 use Rattle.fir_meaning.specs.SizedDeclarations.{port_numbers, all_port_numbers}
 use Rattle.fir_types.specs.working.LeafNumbers.{numbers_taken, first_leaf}

@@ -13,7 +13,8 @@ use Rattle.fir_meaning.specs.TypedScopes.{Known, TypedScope}
 use Rattle.fir_meaning.specs.TypeGroup.{scope_at}
 use Rattle.fir_meaning.specs.ComponentTypes.{port_fields, find_module, instance_bundle, instance_type, component_type, known_as, typed_scope}
 use Rattle.fir_meaning.specs.Mentions.{Mention, declares, names_declared, type_mentions, expression_mentions, reset_mentions, mentions, block_mentions, memory_mentions, ports_mentions, module_mentions, module_names, circuit_mentions}
-use Rattle.fir_meaning.specs.NameGroups.{HasNames, faults_in, mention_faults}
+use Rattle.fir_meaning.specs.working.NameGroups.{HasNames}
+use Rattle.fir_meaning.specs.NameGroups.{faults_in, mention_faults}
 use Rattle.fir_meaning.proofs.KnownNames.{typed_more}
 use Rattle.fir_meaning.proofs.FoundDeclarations.{Once}
 use Rattle.fir_meaning.proofs.FreshFields.{field_names, HasFreshFields, AreFresh, fresh_fields}

@@ -12,7 +12,7 @@ use Rattle.fir_meaning.specs.Components.{Declaration, find, instance}
 use Rattle.fir_meaning.specs.Visibility.{declarations}
 use Rattle.fir_meaning.specs.TypedScopes.{Known, TypedScope}
 use Rattle.fir_meaning.specs.ComponentTypes.{instance_bundle, component_type, typed_scope}
-use Rattle.fir_meaning.specs.NameGroups.{HasNames}
+use Rattle.fir_meaning.specs.working.NameGroups.{HasNames}
 use Rattle.fir_meaning.proofs.FoundDeclarations.{Once, once_found}
 use Rattle.fir_meaning.proofs.FreshFields.{HasFreshFields}
 use Rattle.fir_meaning.specs.ResetItems.{End, leaf_item, declared_at}

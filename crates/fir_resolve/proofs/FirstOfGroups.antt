@@ -17,7 +17,8 @@ use Rattle.fir_pass.specs.Law.{IsFirst}
 use Rattle.fir_pass.specs.working.Law.{Keeps}
 use Rattle.fir_meaning.specs.Components.{Declaration, find, find_name}
 use Rattle.fir_meaning.specs.Mentions.{Mention, declares, uses, instantiates, circuit_mentions, module_names}
-use Rattle.fir_meaning.specs.NameGroups.{second_faults, hidden_faults, missing_faults, mention_faults, faults_in, absent_faults, no_main_faults, IsRecursive, HasNames, name_group}
+use Rattle.fir_meaning.specs.NameGroups.{second_faults, hidden_faults, missing_faults, mention_faults, faults_in, absent_faults, no_main_faults, IsRecursive, name_group}
+use Rattle.fir_meaning.specs.working.NameGroups.{HasNames}
 use Rattle.fir_meaning.specs.SourceMeaning.{circuit_meaning}
 use Rattle.fir_meaning.proofs.KeptTrees.{first_in, none_clear, first_at, keeps_tree}
 use Rattle.fir_names.specs.declared.names.Names.{Names}

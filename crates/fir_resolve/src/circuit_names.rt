@@ -5,7 +5,7 @@ ghost use Rattle.fir_ast.specs.working.Views.{circuit_of};
 ghost use Rattle.fir_pass.specs.Faults.{fault_of};
 ghost use Rattle.fir_pass.specs.working.Law.{IfFault};
 ghost use Rattle.fir_pass.specs.Law.{IsFirst};
-ghost use Rattle.fir_meaning.specs.NameGroups.{HasNames};
+ghost use Rattle.fir_meaning.specs.working.NameGroups.{HasNames};
 ghost use Rattle.fir_meaning.specs.SourceMeaning.{circuit_meaning};
 ghost use Rattle.fir_names.specs.working.IsNamed.{Judges};
 

@@ -10,20 +10,21 @@ use Rattle.fir_ast.specs.Statements.{Statement, wire, register, node, instance, 
 use Rattle.fir_ast.specs.Circuits.{ModuleTree}
 use Rattle.fir_meaning.specs.ConnectPairs.{pairs, partial_pairs}
 use Rattle.fir_meaning.specs.Equivalence.{is_connectable, is_partly_connectable}
-use Rattle.fir_meaning.specs.LeafBlocks.{LeafBlock}
-use Rattle.fir_meaning.specs.LeafBlocks as over
-use Rattle.fir_meaning.specs.LeafPairs.{leaf_pairs, partial_leaf_pairs}
+use Rattle.fir_meaning.specs.working.LeafBlocks.{LeafBlock}
+use Rattle.fir_meaning.specs.working.LeafBlocks as over
+use Rattle.fir_meaning.specs.working.LeafPairs.{leaf_pairs, partial_leaf_pairs}
 use Rattle.fir_meaning.specs.LeafPaths.{LeafPath}
-use Rattle.fir_meaning.specs.Leafed.{first_term, terms}
-use Rattle.fir_meaning.specs.LeafedBlocks.{instance_block, leafed, leafed_all, term_at}
-use Rattle.fir_meaning.specs.LeafedModules.{Scene, driven_leaves, module_leaves}
+use Rattle.fir_meaning.specs.working.Leafed.{first_term, terms}
+use Rattle.fir_meaning.specs.working.LeafedBlocks.{instance_block, leafed, leafed_all, term_at}
+use Rattle.fir_meaning.specs.ModuleScenes.{Scene}
+use Rattle.fir_meaning.specs.working.LeafedModules.{driven_leaves, module_leaves}
 use Rattle.fir_meaning.specs.ResetJoins.{numbered_module}
 use Rattle.fir_meaning.specs.SourceChoices.{Choice, are_taken, may_drive}
 use Rattle.fir_meaning.specs.SourceDrives.{Drive, drives}
 use Rattle.fir_meaning.specs.SourceReads as tree
 use Rattle.fir_meaning.specs.SourceUndriven.{holds_drive, told}
-use Rattle.fir_meaning.specs.TermReads as by_number
-use Rattle.fir_meaning.specs.Terms.{Term}
+use Rattle.fir_meaning.specs.working.TermReads as by_number
+use Rattle.fir_meaning.specs.working.Terms.{Term}
 use Rattle.fir_meaning.specs.TypeGroup.{scope_at}
 use Rattle.fir_meaning.specs.TypedScopes.{TypedScope}
 use Rattle.fir_meaning.specs.Visibility.{Before, behind, behind_block, opened, reopened}

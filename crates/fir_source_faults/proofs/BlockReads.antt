@@ -13,12 +13,12 @@ use Rattle.fir_meaning.specs.working.Dependence as over
 use Rattle.fir_meaning.specs.Equivalence.{alike, same_ground}
 use Rattle.fir_meaning.specs.Flows.{flow_under, is_source, port_flow}
 use Rattle.fir_meaning.specs.LeafPaths.{LeafPath}
-use Rattle.fir_meaning.specs.NameGroups.{HasNames}
+use Rattle.fir_meaning.specs.working.NameGroups.{HasNames}
 use Rattle.fir_meaning.specs.ResetJoins.{numbered_module}
 use Rattle.fir_meaning.specs.SizedDeclarations.{numbered_modules}
 use Rattle.fir_meaning.specs.SourceDependence as tree
 use Rattle.fir_meaning.specs.SourceReads as by_path
-use Rattle.fir_meaning.specs.TermReads.{reads}
+use Rattle.fir_meaning.specs.working.TermReads.{reads}
 use Rattle.fir_meaning.specs.TypeGroup.{type_faults}
 use Rattle.fir_meaning.specs.TypeLeaves.{TypeLeaf, ground_leaf, type_leaves}
 use Rattle.fir_meaning.specs.TypedScopes.{TypedScope}
@@ -26,15 +26,18 @@ use Rattle.fir_meaning.specs.Visibility.{Before, at_head, behind, behind_block, 
 use Rattle.fir_meaning.specs.working.WellTyped.{AreLegal, HasType, IsLegal, MayReset, ResetIsLegal}
 use Rattle.fir_meaning.proofs.FoundTypes.{found_type}
 use Rattle.fir_meaning.proofs.LeafSteps.{path_of}
-use Rattle.fir_meaning.specs.LeafMemories.{leaves_of_data}
-use Rattle.fir_meaning.specs.Leafed.{first_term, terms}
-use Rattle.fir_meaning.specs.LeafedBlocks.{term_at}
-use Rattle.fir_meaning.specs.LeafModules.{LeafDeclared, LeafType, Role, sink, source}
-use Rattle.fir_meaning.specs.LeafModules as role
-use Rattle.fir_meaning.specs.LeafedModules.{Declared, Scene, arrays_in, arrays_in_block, behind_all_ports, declared_leaves, held_by_declared, instance_place, instance_role, is_async_reset, leaf_reset, leaves_from, leaves_in, leaves_in_block, leaves_of_ports, module_leaves, port_role, register_role, scope_before, type_of_declared}
+use Rattle.fir_meaning.specs.FoundTypes.{leaves_of_data}
+use Rattle.fir_meaning.specs.working.Leafed.{first_term, terms}
+use Rattle.fir_meaning.specs.working.LeafedBlocks.{term_at}
+use Rattle.fir_meaning.specs.working.LeafModules.{LeafDeclared, Role, sink, source}
+use Rattle.fir_meaning.specs.LeafTypes.{LeafType}
+use Rattle.fir_meaning.specs.working.LeafModules as role
+use Rattle.fir_meaning.specs.ModuleScenes.{Declared, Scene, behind_all_ports, held_by_declared, scope_before, type_of_declared}
+use Rattle.fir_meaning.specs.working.LeafedModules.{arrays_in, arrays_in_block, declared_leaves, instance_place, instance_role, leaf_reset, leaves_from, leaves_in, leaves_in_block, leaves_of_ports, module_leaves, port_role, register_role}
+use Rattle.fir_meaning.specs.AsyncResets.{is_async_reset}
 use Rattle.fir_meaning.specs.SourceRoles as sources
 use Rattle.fir_meaning.specs.SourceRoles.{SourceLeaf, SourceRole, declared_sources, source_leaves, source_leaves_of, source_port_role, source_reset, sources_in, sources_in_block, sources_of_ports}
-use Rattle.fir_meaning.specs.Terms.{Term}
+use Rattle.fir_meaning.specs.working.Terms.{Term}
 use Rattle.fir_leaf.specs.working.LeafLaws.{Begins}
 use Rattle.fir_leaf.proofs.AlikeTypes.{alike_types}
 use Rattle.fir_leaf.proofs.DeclaredLeaves.{own_module}

@@ -5,11 +5,13 @@ use Rattle.fir_ast.specs.Expressions.{Expression}
 use Rattle.fir_ast.specs.Statements.{Sink, Statement}
 use Rattle.fir_ast.specs.Types.{DataType}
 use Rattle.fir_meaning.specs.ConnectPairs.{Pair}
-use Rattle.fir_meaning.specs.LeafBlocks as over
-use Rattle.fir_meaning.specs.LeafPairs.{LeafPair}
-use Rattle.fir_meaning.specs.Leafed.{target_of}
-use Rattle.fir_meaning.specs.LeafedBlocks.{Sides, connect_block, driven_where, pair_block, pairs_block, sides, term_at, type_where}
-use Rattle.fir_meaning.specs.LeafedModules.{Scene, module_leaves, scope_before}
+use Rattle.fir_meaning.specs.working.LeafBlocks as over
+use Rattle.fir_meaning.specs.working.LeafPairs.{LeafPair}
+use Rattle.fir_meaning.specs.working.Leafed.{target_of}
+use Rattle.fir_meaning.specs.working.LeafedBlocks.{Sides, connect_block, driven_where, pair_block, pairs_block, sides, term_at}
+use Rattle.fir_meaning.specs.FoundTypes.{type_where}
+use Rattle.fir_meaning.specs.ModuleScenes.{Scene, scope_before}
+use Rattle.fir_meaning.specs.working.LeafedModules.{module_leaves}
 use Rattle.fir_meaning.specs.Reaching.{Reached}
 use Rattle.fir_meaning.specs.SizedScopes.{sink_expression}
 use Rattle.fir_meaning.specs.SourceDrives.{connect_drives, pair_drive, pair_drives, side, type_here}

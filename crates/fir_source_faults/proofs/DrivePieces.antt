@@ -6,19 +6,19 @@ use Rattle.std.proofs.lemmas.Grind.{flat_map-append}
 use Rattle.std.proofs.lemmas.List.{map-append}
 use Rattle.fir_ast.specs.declared.fault.Outcome.{Outcome}
 use Rattle.fir_ast.specs.declared.place.Place.{Place}
-use Rattle.fir_meaning.specs.Choices as over
-use Rattle.fir_meaning.specs.Choices.{Live, driving, last_all}
-use Rattle.fir_meaning.specs.LeafBlocks.{LeafBlock, joined}
-use Rattle.fir_meaning.specs.LeafBlocks as leafed
+use Rattle.fir_meaning.specs.working.Choices as over
+use Rattle.fir_meaning.specs.working.Choices.{Live, driving, last_all}
+use Rattle.fir_meaning.specs.working.LeafBlocks.{LeafBlock, joined}
+use Rattle.fir_meaning.specs.working.LeafBlocks as leafed
 use Rattle.fir_meaning.specs.LeafPaths.{LeafPath}
-use Rattle.fir_meaning.specs.LeafedBlocks.{alone}
-use Rattle.fir_meaning.specs.LeafedModules.{Scene}
+use Rattle.fir_meaning.specs.working.LeafedBlocks.{alone}
+use Rattle.fir_meaning.specs.ModuleScenes.{Scene}
 use Rattle.fir_meaning.specs.SourceChoices.{Choice, are_taken, has_path, last, may_drive}
 use Rattle.fir_meaning.specs.SourceDrives.{Drive, Side}
 use Rattle.fir_meaning.specs.SourceUndriven.{told_drive}
-use Rattle.fir_meaning.specs.TermReads as by_number
-use Rattle.fir_meaning.specs.TermReads.{is_among}
-use Rattle.fir_meaning.specs.Terms.{Picks, Term}
+use Rattle.fir_meaning.specs.working.TermReads as by_number
+use Rattle.fir_meaning.specs.working.TermReads.{is_among}
+use Rattle.fir_meaning.specs.working.Terms.{Picks, Term}
 use Rattle.fir_meaning.specs.working.UndrivenChoices as numbered
 use Rattle.fir_meaning.specs.working.UndrivenChoices.{drives_any}
 use Rattle.fir_meaning.specs.Visits.{Branch}

@@ -4,20 +4,21 @@ use Rattle.std.specs.List.{AllByRecursion}
 use Rattle.std.proofs.lemmas.Bool.{and_right}
 use Rattle.fir_ast.specs.declared.place.Place.{Place}
 use Rattle.fir_ast.specs.Statements.{Sink, Statement}
-use Rattle.fir_meaning.specs.LeafBlocks.{LeafBlock}
-use Rattle.fir_meaning.specs.LeafBlocks as over
-use Rattle.fir_meaning.specs.Leafed.{target_of}
-use Rattle.fir_meaning.specs.LeafedBlocks.{alone, invalid_block, invalid_leaf, invalid_leaves}
-use Rattle.fir_meaning.specs.LeafedModules.{Scene, driven_leaves, module_leaves, scope_before}
+use Rattle.fir_meaning.specs.working.LeafBlocks.{LeafBlock}
+use Rattle.fir_meaning.specs.working.LeafBlocks as over
+use Rattle.fir_meaning.specs.working.Leafed.{target_of}
+use Rattle.fir_meaning.specs.working.LeafedBlocks.{alone, invalid_block, invalid_leaf, invalid_leaves}
+use Rattle.fir_meaning.specs.ModuleScenes.{Scene, scope_before}
+use Rattle.fir_meaning.specs.working.LeafedModules.{driven_leaves, module_leaves}
 use Rattle.fir_meaning.specs.MemoryTypes.{first_one}
 use Rattle.fir_meaning.specs.Reaching.{Reached}
 use Rattle.fir_meaning.specs.SizedScopes.{sink_expression}
 use Rattle.fir_meaning.specs.SourceDrives.{Drive, Side, invalid_drive, invalid_drives, nothing_given, side, type_here}
 use Rattle.fir_meaning.specs.SourceFacts.{source_may_drive}
-use Rattle.fir_meaning.specs.Targets.{Target}
-use Rattle.fir_meaning.specs.TermReads.{is_picked, multiples, picks_read, reached}
-use Rattle.fir_meaning.specs.Terms.{Picks, no_picks, pick, zeros}
-use Rattle.fir_meaning.specs.TreeStores.{may_be_driven}
+use Rattle.fir_meaning.specs.working.Targets.{Target}
+use Rattle.fir_meaning.specs.working.TermReads.{is_picked, multiples, picks_read, reached}
+use Rattle.fir_meaning.specs.working.Terms.{Picks, no_picks, pick, zeros}
+use Rattle.fir_meaning.specs.SamePaths.{may_be_driven}
 use Rattle.fir_meaning.specs.TypeLeaves.{TypeLeaf, type_leaves}
 use Rattle.fir_meaning.specs.TypedScopes.{TypedScope}
 use Rattle.fir_meaning.specs.Visibility.{Before}

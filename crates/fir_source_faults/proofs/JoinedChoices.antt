@@ -2,11 +2,11 @@
 use Rattle.std.proofs.Common.{◌≡◌, ℕ, ◌+◌, List, [], ◌∷◌, ◌++◌, Bool, true, false, ◌&&◌, ◌||◌, nat_lt, if◌then◌else◌, Option, Some, None, refl, sym, ap, ap₂, ◌∙◌, append_assoc}
 use Rattle.std.proofs.lemmas.Bool.{or_parts}
 use Rattle.fir_ast.specs.declared.fault.Outcome.{Outcome}
-use Rattle.fir_meaning.specs.Choices.{Choice, Live, first_part, last, last_all, later, second_part}
-use Rattle.fir_meaning.specs.LeafBlocks.{LeafBlock, LeafStatement, done, drive, instance, joined, then, when}
+use Rattle.fir_meaning.specs.working.Choices.{Choice, Live, first_part, last, last_all, later, second_part}
+use Rattle.fir_meaning.specs.working.LeafBlocks.{LeafBlock, LeafStatement, done, drive, instance, joined, then, when}
 use Rattle.fir_meaning.specs.SourceChoices as tree
 use Rattle.fir_meaning.specs.SourceDrives.{Drive}
-use Rattle.fir_meaning.specs.TermReads.{is_picked}
+use Rattle.fir_meaning.specs.working.TermReads.{is_picked}
 use Rattle.fir_meaning.specs.Outcomes.{write_told}
 use Rattle.fir_ast.specs.declared.fault.Outcome.TheVariants as outcome
 use Rattle.fir_meaning.specs.LeafPaths.{LeafPath}

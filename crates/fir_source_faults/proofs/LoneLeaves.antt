@@ -2,12 +2,12 @@
 use Rattle.std.proofs.Common.{◌≡◌, ℕ, ◌+◌, ◌-◌, ◌<◌, ◌≤◌, List, [], length, Bool, true, false, nat_lt, refl, sym, ap, ◌∙◌, subst, arith, length-append}
 use Rattle.std.proofs.lemmas.Bool.{ltb-true, ltb-false}
 use Rattle.std.proofs.lemmas.List.{get_or_append_left, get_or_past, get_or-take, length-drop, length-take}
-use Rattle.fir_meaning.specs.Designs.{Items, made_of}
-use Rattle.fir_meaning.specs.FlatDesigns.{inner_leaves}
-use Rattle.fir_meaning.specs.FlatLeaves.{all_leaves_in, leaves_below, placed_leaf}
-use Rattle.fir_meaning.specs.Flattened.{flattened, port_leaves}
-use Rattle.fir_meaning.specs.LeafModules.{LeafDeclared, LeafModule, leaf_at, no_leaf}
-use Rattle.fir_meaning.specs.Numberings.{Numbering, numbering}
+use Rattle.fir_meaning.specs.working.Designs.{Items, made_of}
+use Rattle.fir_meaning.specs.working.FlatDesigns.{inner_leaves}
+use Rattle.fir_meaning.specs.working.FlatLeaves.{all_leaves_in, leaves_below, placed_leaf}
+use Rattle.fir_meaning.specs.working.Flattened.{flattened, port_leaves}
+use Rattle.fir_meaning.specs.working.LeafModules.{LeafDeclared, LeafModule, leaf_at, no_leaf}
+use Rattle.fir_meaning.specs.working.Numberings.{Numbering, numbering}
 use Rattle.fir_leaf.proofs.FlatMeaning.{main_at}
 use Rattle.fir_leaf.proofs.FlatPlaces.{count_below_is, placed_at}
 use Rattle.fir_source_faults.proofs.LoneNumbers.{HaveNoInstances, counts_none, lone_number, role_reads_same}

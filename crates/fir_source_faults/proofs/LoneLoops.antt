@@ -16,17 +16,18 @@ use Rattle.fir_base.specs.Lists.{In}
 use Rattle.fir_base.proofs.Elements.{there, get_in, number_of}
 use Rattle.fir_base.proofs.Members.{in_map, in_map_from}
 use Rattle.fir_ast.specs.Circuits.{CircuitTree}
-use Rattle.fir_meaning.specs.Choices as over
-use Rattle.fir_meaning.specs.Designs.{Items, block_of, made_of}
-use Rattle.fir_meaning.specs.FlatDesigns.{inner_leaves}
-use Rattle.fir_meaning.specs.Flattened.{flattened}
-use Rattle.fir_meaning.specs.LeafBlocks.{LeafBlock}
-use Rattle.fir_meaning.specs.LeafCircuits.{LeafCircuit, depth_of, role_of}
-use Rattle.fir_meaning.specs.LeafModules as role
-use Rattle.fir_meaning.specs.LeafModules.{LeafDeclared, LeafModule, Role, depth_at, leaf_at, no_leaf}
+use Rattle.fir_meaning.specs.working.Choices as over
+use Rattle.fir_meaning.specs.working.Designs.{Items, block_of, made_of}
+use Rattle.fir_meaning.specs.working.FlatDesigns.{inner_leaves}
+use Rattle.fir_meaning.specs.working.Flattened.{flattened}
+use Rattle.fir_meaning.specs.working.LeafBlocks.{LeafBlock}
+use Rattle.fir_meaning.specs.working.LeafCircuits.{LeafCircuit, depth_of, role_of}
+use Rattle.fir_meaning.specs.working.LeafModules as role
+use Rattle.fir_meaning.specs.working.LeafModules.{LeafDeclared, LeafModule, Role, depth_at, leaf_at, no_leaf}
 use Rattle.fir_meaning.specs.LeafPaths.{LeafPath}
-use Rattle.fir_meaning.specs.LeafedModules.{Scene, behind_all_ports, leafed_module, leaves_in_block, leaves_of_ports, module_leaves}
-use Rattle.fir_meaning.specs.Numberings.{numbering}
+use Rattle.fir_meaning.specs.ModuleScenes.{Scene, behind_all_ports}
+use Rattle.fir_meaning.specs.working.LeafedModules.{leafed_module, leaves_in_block, leaves_of_ports, module_leaves}
+use Rattle.fir_meaning.specs.working.Numberings.{numbering}
 use Rattle.fir_meaning.specs.SourceChoices.{IsLive, live_reads}
 use Rattle.fir_meaning.specs.SourceCircuits as source
 use Rattle.fir_meaning.specs.SourceCircuits.{PlacedLeaf, all_leaves, leaf_path, placed, port_leaves, role_within, within}

@@ -2,15 +2,15 @@
 use Rattle.std.proofs.Common.{◌≡◌, ℕ, ◌+◌, List, [], ◌∷◌, ◌++◌, map, Bool, true, false, nat_lt, Option, Some, None, option_map, refl, ap, ap₂, arith}
 use Rattle.std.proofs.lemmas.Bool.{ltb-true, ltb-false}
 use Rattle.fir_meaning.specs.working.Dependence.{reads_if, reset_reads}
-use Rattle.fir_meaning.specs.LeafBlocks.{joined}
-use Rattle.fir_meaning.specs.LeafBlocks as over
-use Rattle.fir_meaning.specs.LeafModules as role
-use Rattle.fir_meaning.specs.LeafModules.{LeafModule, LeafReset, Need, Reading, Role}
-use Rattle.fir_meaning.specs.TermReads.{reads}
-use Rattle.fir_meaning.specs.Terms.{Term, zeros, absent, literal, read, operation, mux, validif, Picks, no_picks, pick, Terms, no_terms, term}
-use Rattle.fir_meaning.specs.Designs.{Item, drive, when, instance, Items, done, then, block_of, statement_of}
-use Rattle.fir_meaning.specs.FlatDesigns.{count, count_all, flat, flat_all}
-use Rattle.fir_meaning.specs.Numberings.{Numbering, moved, moved_need, moved_picks, moved_reset, moved_role, moved_terms, number, numbering}
+use Rattle.fir_meaning.specs.working.LeafBlocks.{joined}
+use Rattle.fir_meaning.specs.working.LeafBlocks as over
+use Rattle.fir_meaning.specs.working.LeafModules as role
+use Rattle.fir_meaning.specs.working.LeafModules.{LeafModule, LeafReset, Need, Reading, Role}
+use Rattle.fir_meaning.specs.working.TermReads.{reads}
+use Rattle.fir_meaning.specs.working.Terms.{Term, zeros, absent, literal, read, operation, mux, validif, Picks, no_picks, pick, Terms, no_terms, term}
+use Rattle.fir_meaning.specs.working.Designs.{Item, drive, when, instance, Items, done, then, block_of, statement_of}
+use Rattle.fir_meaning.specs.working.FlatDesigns.{count, count_all, flat, flat_all}
+use Rattle.fir_meaning.specs.working.Numberings.{Numbering, moved, moved_need, moved_picks, moved_reset, moved_role, moved_terms, number, numbering}
 use Rattle.fir_leaf.proofs.MovedTerms.{number_own, number_port}
 use Rattle.fir_design.proofs.HeldInstances.{all_held_in, held_in}
 use Rattle.fir_source_faults.proofs.RoleReads.{role_reads}

@@ -5,7 +5,7 @@ use Rattle.std.specs.Str.{bytes_eq}
 use Rattle.std.proofs.lemmas.Option.{none-some}
 use Rattle.fir_ast.specs.Circuits.{CircuitTree, ModuleTree}
 use Rattle.fir_meaning.specs.Elaborated.{HasMain}
-use Rattle.fir_meaning.specs.LeafedModules.{Scene}
+use Rattle.fir_meaning.specs.ModuleScenes.{Scene}
 use Rattle.fir_meaning.specs.ResetJoins.{numbered_module}
 use Rattle.fir_meaning.specs.Scenes.{IsSceneOf}
 use Rattle.fir_meaning.specs.SourceDesigns.{AreInstances, InstanceOf, Instances, IsSourceDesignOf, SourceDesign, held, instances_of_block, made_of, no_instances, scene_where}

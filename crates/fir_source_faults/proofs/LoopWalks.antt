@@ -9,7 +9,7 @@ use Rattle.fir_ast.specs.declared.fault.FirFault.TheVariants.{Loop}
 use Rattle.fir_ast.specs.declared.place.Place.{Place}
 use Rattle.fir_meaning.specs.working.CircuitDependence as over
 use Rattle.fir_meaning.specs.working.CircuitDependence.{CircuitDepends}
-use Rattle.fir_meaning.specs.LeafCircuits.{LeafCircuit}
+use Rattle.fir_meaning.specs.working.LeafCircuits.{LeafCircuit}
 use Rattle.fir_meaning.specs.working.LeafNames.{path_of_leaf, place_of_leaf}
 use Rattle.fir_meaning.specs.LeafPaths.{LeafPath, path_text}
 use Rattle.fir_meaning.specs.working.LoopFaults as numbered

@@ -6,11 +6,13 @@ use Rattle.std.specs.Str.{bytes_eq}
 use Rattle.fir_ast.specs.declared.statements.ReadUnderWrite.{ReadUnderWrite}
 use Rattle.fir_ast.specs.Statements.{MemoryPart}
 use Rattle.fir_meaning.specs.working.Dependence as over
-use Rattle.fir_meaning.specs.LeafMemories.{PortKind, reads, reads_and_writes, writes}
-use Rattle.fir_meaning.specs.LeafModules as role
-use Rattle.fir_meaning.specs.LeafModules.{LeafArray, LeafDeclared, LeafType, Need, Reading, Role}
+use Rattle.fir_meaning.specs.MemoryPorts.{PortKind, reads, reads_and_writes, writes}
+use Rattle.fir_meaning.specs.working.LeafModules as role
+use Rattle.fir_meaning.specs.working.LeafModules.{LeafArray, LeafDeclared, Need, Reading, Role}
+use Rattle.fir_meaning.specs.LeafTypes.{LeafType}
 use Rattle.fir_meaning.specs.LeafPaths.{LeafPath, element, named}
-use Rattle.fir_meaning.specs.LeafedModules.{Scene, leafed_module, module_leaves}
+use Rattle.fir_meaning.specs.ModuleScenes.{Scene}
+use Rattle.fir_meaning.specs.working.LeafedModules.{leafed_module, module_leaves}
 use Rattle.fir_meaning.specs.SourceDependence as tree
 use Rattle.fir_meaning.specs.SourceRoles as sources
 use Rattle.fir_meaning.specs.SourceRoles.{PathNeed, PathReading, SourceLeaf, SourceRole, kind_of, latency_of, memory_role, port_role, ports_of_part, read_by, source_leaves_of}

@@ -1,12 +1,13 @@
 -- Over the numbered leaves of a module the same drives are live as by paths, with the same reads, and the same choices leave a leaf undriven.
 use Rattle.std.proofs.Common.{◌≡◌, ℕ, ◌<◌, List, [], true, drop, flat_map, length, Option, Some, None, refl, sym, ap, ◌∙◌, subst, append-nil}
 use Rattle.std.specs.Prelude.{unwrap_or}
-use Rattle.fir_meaning.specs.Choices as over
-use Rattle.fir_meaning.specs.Choices.{Live}
-use Rattle.fir_meaning.specs.LeafBlocks.{LeafBlock}
-use Rattle.fir_meaning.specs.LeafModules.{depth_at}
+use Rattle.fir_meaning.specs.working.Choices as over
+use Rattle.fir_meaning.specs.working.Choices.{Live}
+use Rattle.fir_meaning.specs.working.LeafBlocks.{LeafBlock}
+use Rattle.fir_meaning.specs.working.LeafModules.{depth_at}
 use Rattle.fir_meaning.specs.LeafPaths.{LeafPath}
-use Rattle.fir_meaning.specs.LeafedModules.{Scene, behind_all_ports, leafed_module, module_leaves}
+use Rattle.fir_meaning.specs.ModuleScenes.{Scene, behind_all_ports}
+use Rattle.fir_meaning.specs.working.LeafedModules.{leafed_module, module_leaves}
 use Rattle.fir_meaning.specs.SourceChoices.{Choice, are_taken, last}
 use Rattle.fir_meaning.specs.SourceDrives.{Drive, module_drives}
 use Rattle.fir_meaning.specs.SourceFacts.{source_depth}

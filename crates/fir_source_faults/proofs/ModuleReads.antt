@@ -8,14 +8,15 @@ use Rattle.fir_ast.specs.Expressions.{Expression}
 use Rattle.fir_ast.specs.Statements.{Sink}
 use Rattle.fir_ast.specs.Types.{DataType}
 use Rattle.fir_meaning.specs.LeafPaths.{LeafPath}
-use Rattle.fir_meaning.specs.Leafed.{target_of, terms}
-use Rattle.fir_meaning.specs.LeafedBlocks.{term_at}
-use Rattle.fir_meaning.specs.LeafedModules.{Scene, module_leaves}
+use Rattle.fir_meaning.specs.working.Leafed.{target_of, terms}
+use Rattle.fir_meaning.specs.working.LeafedBlocks.{term_at}
+use Rattle.fir_meaning.specs.ModuleScenes.{Scene}
+use Rattle.fir_meaning.specs.working.LeafedModules.{module_leaves}
 use Rattle.fir_meaning.specs.Reaching.{Reached}
 use Rattle.fir_meaning.specs.SourceReads as tree
-use Rattle.fir_meaning.specs.Targets.{Target}
-use Rattle.fir_meaning.specs.TermReads.{reads}
-use Rattle.fir_meaning.specs.Terms.{zeros}
+use Rattle.fir_meaning.specs.working.Targets.{Target}
+use Rattle.fir_meaning.specs.working.TermReads.{reads}
+use Rattle.fir_meaning.specs.working.Terms.{zeros}
 use Rattle.fir_meaning.specs.TypeLeaves.{TypeLeaf, type_leaves, leaf_count}
 use Rattle.fir_meaning.specs.TypedScopes.{TypedScope}
 use Rattle.fir_meaning.specs.working.WellTyped.{HasType, Reaches}

@@ -1,7 +1,7 @@
 -- The leaf of a number in a list has the type and the role of the leaf of that number in a list that goes in step with it.
 use Rattle.std.proofs.Common.{◌≡◌, ℕ, zero, suc, ◌<◌, List, [], ◌∷◌, length, slice_get, Some, ap, subst, ◌∙◌, arith}
 use Rattle.std.proofs.lemmas.Option.{none-some, same_Some}
-use Rattle.fir_meaning.specs.LeafModules.{LeafArray, LeafDeclared, leaf_at}
+use Rattle.fir_meaning.specs.working.LeafModules.{LeafArray, LeafDeclared, leaf_at}
 use Rattle.fir_meaning.specs.SourceRoles.{SourceLeaf}
 use Rattle.fir_design.specs.working.SameRoles.{SameLeaves, SameRole}
 

@@ -4,11 +4,11 @@ use Rattle.std.proofs.Common.{◌≡◌, ℕ, List, [], ◌∷◌, ◌++◌, Boo
 use Rattle.std.specs.List.{list_any}
 use Rattle.std.proofs.lemmas.List.Folds.{list_any-append}
 use Rattle.fir_ast.specs.declared.fault.Outcome.{Outcome}
-use Rattle.fir_meaning.specs.Choices as over
-use Rattle.fir_meaning.specs.Choices.{Live, first_part, last_all, second_part}
-use Rattle.fir_meaning.specs.LeafBlocks.{LeafBlock, joined}
+use Rattle.fir_meaning.specs.working.Choices as over
+use Rattle.fir_meaning.specs.working.Choices.{Live, first_part, last_all, second_part}
+use Rattle.fir_meaning.specs.working.LeafBlocks.{LeafBlock, joined}
 use Rattle.fir_meaning.specs.LeafPaths.{LeafPath}
-use Rattle.fir_meaning.specs.LeafedModules.{Scene, scope_before}
+use Rattle.fir_meaning.specs.ModuleScenes.{Scene, scope_before}
 use Rattle.fir_meaning.specs.SourceChoices.{Choice, are_taken, last, later, live_reads, may_drive}
 use Rattle.fir_meaning.specs.SourceDrives.{Drive}
 use Rattle.fir_meaning.specs.SourceReads as tree

@@ -3,9 +3,10 @@ use Rattle.std.proofs.Common.{◌≡◌, [], ◌++◌, ◌⊎◌, Option, ap, su
 use Rattle.fir_base.specs.Lists.{In}
 use Rattle.fir_base.proofs.Members.{in_either, in_left, in_map_from, in_right}
 use Rattle.fir_ast.specs.Expressions.{Expression}
-use Rattle.fir_meaning.specs.LeafModules.{a_clock}
+use Rattle.fir_meaning.specs.LeafTypes.{a_clock}
 use Rattle.fir_meaning.specs.LeafPaths.{LeafPath}
-use Rattle.fir_meaning.specs.LeafedModules.{Scene, behind_all_ports, leafed_module}
+use Rattle.fir_meaning.specs.ModuleScenes.{Scene, behind_all_ports}
+use Rattle.fir_meaning.specs.working.LeafedModules.{leafed_module}
 use Rattle.fir_meaning.specs.SourceCircuits.{PlacedLeaf, all_leaves, inner_leaves, placed, port_leaves, role_within, within}
 use Rattle.fir_meaning.specs.SourceClocks.{picking_places}
 use Rattle.fir_meaning.specs.SourceRoles.{SourceLeaf, SourceReset, SourceRole, register, source, source_leaves}

@@ -5,8 +5,9 @@ use Rattle.fir_ast.specs.declared.fault.FirFault.{FirFault}
 use Rattle.fir_ast.specs.Circuits.{CircuitTree}
 use Rattle.fir_pass.specs.Faults.{Fault}
 use Rattle.fir_meaning.specs.Elaborated.{IsSourceOf}
-use Rattle.fir_meaning.specs.LeafedModules.{Scene, leafed_module}
-use Rattle.fir_meaning.specs.NameGroups.{HasNames}
+use Rattle.fir_meaning.specs.ModuleScenes.{Scene}
+use Rattle.fir_meaning.specs.working.LeafedModules.{leafed_module}
+use Rattle.fir_meaning.specs.working.NameGroups.{HasNames}
 use Rattle.fir_meaning.specs.Scenes.{IsSceneOf}
 use Rattle.fir_meaning.specs.SizedDeclarations.{numbered_modules}
 use Rattle.fir_meaning.specs.SourceClocks.{IsOfSource, ShowsClockFault}

@@ -4,10 +4,12 @@ use Rattle.std.proofs.Common.{◌≡◌, ℕ, ◌+◌, ◌<◌, List, length, sl
 use Rattle.fir_base.specs.Lists.{In}
 use Rattle.fir_base.proofs.Elements.{number_of}
 use Rattle.fir_ast.specs.Expressions.{Expression}
-use Rattle.fir_meaning.specs.LeafModules as over
-use Rattle.fir_meaning.specs.LeafModules.{LeafArray, LeafDeclared, Role, a_clock, role_at}
+use Rattle.fir_meaning.specs.working.LeafModules as over
+use Rattle.fir_meaning.specs.working.LeafModules.{LeafArray, LeafDeclared, Role, role_at}
+use Rattle.fir_meaning.specs.LeafTypes.{a_clock}
 use Rattle.fir_meaning.specs.LeafPaths.{LeafPath}
-use Rattle.fir_meaning.specs.LeafedModules.{Scene, behind_all_ports, leafed_module}
+use Rattle.fir_meaning.specs.ModuleScenes.{Scene, behind_all_ports}
+use Rattle.fir_meaning.specs.working.LeafedModules.{leafed_module}
 use Rattle.fir_meaning.specs.SourceCircuits.{port_leaves}
 use Rattle.fir_meaning.specs.SourceRoles.{SourceLeaf, SourceReset, SourceRole, register, source, source_leaves, sources_in_block}
 use Rattle.fir_meaning.specs.TypedScopes.{TypedScope}

@@ -10,10 +10,10 @@ use Rattle.fir_ast.specs.Statements as statement
 use Rattle.fir_meaning.specs.Components as component
 use Rattle.fir_meaning.specs.Components.{Component}
 use Rattle.fir_meaning.specs.Flows.{flow_under, is_source, port_flow}
-use Rattle.fir_meaning.specs.LeafMemories.{leaves_of_data}
-use Rattle.fir_meaning.specs.LeafModules.{LeafType}
+use Rattle.fir_meaning.specs.FoundTypes.{leaves_of_data}
+use Rattle.fir_meaning.specs.LeafTypes.{LeafType}
 use Rattle.fir_meaning.specs.LeafPaths.{LeafPath}
-use Rattle.fir_meaning.specs.LeafedModules.{Scene, held_by_declared, scope_before, type_of_declared}
+use Rattle.fir_meaning.specs.ModuleScenes.{Scene, held_by_declared, scope_before, type_of_declared}
 use Rattle.fir_meaning.specs.SourceClocks.{picking_places}
 use Rattle.fir_meaning.specs.SourceRoles.{SourceLeaf, SourceReset, SourceRole, computed, declared_sources, register, sink, source, source_leaves_of, source_port_role, source_reset, sources_in, sources_in_block, sources_of_ports}
 use Rattle.fir_meaning.specs.TypeLeaves.{TypeLeaf}

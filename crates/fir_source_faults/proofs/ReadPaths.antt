@@ -9,16 +9,16 @@ use Rattle.fir_ast.specs.Statements.{Sink}
 use Rattle.fir_meaning.specs.Equivalence.{same_ground}
 use Rattle.fir_meaning.specs.ExpressionPlaces.{place_of}
 use Rattle.fir_meaning.specs.LeafPaths.{LeafPath, named, element}
-use Rattle.fir_meaning.specs.Leafed.{leaf_term, leaf_terms, first_term, muxes, terms, target_along, operands, target_of}
+use Rattle.fir_meaning.specs.working.Leafed.{leaf_term, leaf_terms, first_term, muxes, terms, target_along, operands, target_of}
 use Rattle.fir_meaning.specs.OperationTypes.{operand_kinds, is_conversion}
 use Rattle.fir_meaning.specs.Reaching.{Reached, known_reached, at_field, at_element, at_any, field_of_type, vector_of_type}
 use Rattle.fir_meaning.specs.ResetItems.{has_access, paths_along}
 use Rattle.fir_meaning.specs.SourceReads as tree
 use Rattle.fir_meaning.specs.SourceReads.{leaves_named}
-use Rattle.fir_meaning.specs.Targets.{Target, named_target, field_target, field_target_at, element_target, element_target_at, picked_target, picked_target_at}
-use Rattle.fir_meaning.specs.TermReads.{each_read, is_picked, picks_read, reached, reads}
-use Rattle.fir_meaning.specs.Terms as over
-use Rattle.fir_meaning.specs.Terms.{Term, Picks, terms_of}
+use Rattle.fir_meaning.specs.working.Targets.{Target, named_target, field_target, field_target_at, element_target, element_target_at, picked_target, picked_target_at}
+use Rattle.fir_meaning.specs.working.TermReads.{each_read, is_picked, picks_read, reached, reads}
+use Rattle.fir_meaning.specs.working.Terms as over
+use Rattle.fir_meaning.specs.working.Terms.{Term, Picks, terms_of}
 use Rattle.fir_meaning.specs.TypeLeaves.{TypeLeaf, type_leaves}
 use Rattle.fir_meaning.specs.TypedScopes.{TypedScope, known}
 use Rattle.fir_meaning.specs.working.WellTyped.{HasType, HaveTypes, Leads, Reaches}

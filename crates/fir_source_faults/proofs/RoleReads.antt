@@ -2,9 +2,9 @@
 use Rattle.std.proofs.Common.{◌≡◌, ℕ, List, [], true, false}
 use Rattle.fir_base.specs.Lists.{In}
 use Rattle.fir_meaning.specs.working.Dependence as over
-use Rattle.fir_meaning.specs.LeafBlocks.{LeafBlock}
-use Rattle.fir_meaning.specs.LeafModules as role
-use Rattle.fir_meaning.specs.LeafModules.{LeafArray, LeafDeclared, LeafReset, Need, Reading, Role, is_sink}
+use Rattle.fir_meaning.specs.working.LeafBlocks.{LeafBlock}
+use Rattle.fir_meaning.specs.working.LeafModules as role
+use Rattle.fir_meaning.specs.working.LeafModules.{LeafArray, LeafDeclared, LeafReset, Need, Reading, Role, is_sink}
 use Rattle.fir_meaning.specs.LeafPaths.{LeafPath}
 use Rattle.fir_meaning.specs.SourceCircuits as source
 use Rattle.fir_meaning.specs.SourceDependence as tree
@@ -13,8 +13,8 @@ use Rattle.fir_meaning.specs.SourceDesigns.{SourceDesign}
 use Rattle.fir_meaning.specs.SourceReads as by_path
 use Rattle.fir_meaning.specs.SourceRoles as sources
 use Rattle.fir_meaning.specs.SourceRoles.{PathNeed, PathReading, SourceRole}
-use Rattle.fir_meaning.specs.TermReads.{reads}
-use Rattle.fir_meaning.specs.Choices.{LiveReads}
+use Rattle.fir_meaning.specs.working.TermReads.{reads}
+use Rattle.fir_meaning.specs.working.Choices.{LiveReads}
 
 abbrev pub role_reads : Role → List ℕ
 role_reads (role.computed t) = reads t

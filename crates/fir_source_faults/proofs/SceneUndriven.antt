@@ -7,11 +7,12 @@ use Rattle.fir_ast.specs.declared.fault.FirFault.{FirFault}
 use Rattle.fir_ast.specs.declared.fault.FirFault.TheVariants.{Undriven}
 use Rattle.fir_ast.specs.declared.fault.Outcome.{Outcome}
 use Rattle.fir_ast.specs.Circuits.{CircuitTree}
-use Rattle.fir_meaning.specs.LeafModules.{LeafArray, LeafDeclared, depth_at, leaf_at, role_at}
-use Rattle.fir_meaning.specs.LeafModules as by_number
+use Rattle.fir_meaning.specs.working.LeafModules.{LeafArray, LeafDeclared, depth_at, leaf_at, role_at}
+use Rattle.fir_meaning.specs.working.LeafModules as by_number
 use Rattle.fir_meaning.specs.LeafPaths.{LeafPath, path_text}
-use Rattle.fir_meaning.specs.LeafedModules.{Scene, leafed_module, module_leaves}
-use Rattle.fir_meaning.specs.NameGroups.{HasNames}
+use Rattle.fir_meaning.specs.ModuleScenes.{Scene}
+use Rattle.fir_meaning.specs.working.LeafedModules.{leafed_module, module_leaves}
+use Rattle.fir_meaning.specs.working.NameGroups.{HasNames}
 use Rattle.fir_meaning.specs.Outcomes.{ComesFirst, told_once}
 use Rattle.fir_meaning.specs.SizedDeclarations.{numbered_modules}
 use Rattle.fir_meaning.specs.SourceCircuits.{is_sink}

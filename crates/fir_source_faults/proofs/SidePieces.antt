@@ -5,19 +5,20 @@ use Rattle.fir_ast.specs.declared.place.Place.{Place}
 use Rattle.fir_ast.specs.Expressions.{Expression, reference, literal, operation, mux, validif}
 use Rattle.fir_ast.specs.Statements.{Sink}
 use Rattle.fir_ast.specs.Types.{DataType}
-use Rattle.fir_meaning.specs.LeafBlocks as over
+use Rattle.fir_meaning.specs.working.LeafBlocks as over
 use Rattle.fir_meaning.specs.LeafPaths.{LeafPath}
-use Rattle.fir_meaning.specs.Leafed.{target_of, target_read}
-use Rattle.fir_meaning.specs.LeafedBlocks.{driven_from, driven_where}
-use Rattle.fir_meaning.specs.LeafedModules.{Scene, module_leaves}
+use Rattle.fir_meaning.specs.working.Leafed.{target_of, target_read}
+use Rattle.fir_meaning.specs.working.LeafedBlocks.{driven_from, driven_where}
+use Rattle.fir_meaning.specs.ModuleScenes.{Scene}
+use Rattle.fir_meaning.specs.working.LeafedModules.{module_leaves}
 use Rattle.fir_meaning.specs.Reaching.{Reached}
 use Rattle.fir_meaning.specs.SizedScopes.{sink_expression}
 use Rattle.fir_meaning.specs.SourceChoices.{has_path}
 use Rattle.fir_meaning.specs.SourceDrives.{Drive, Side, side}
 use Rattle.fir_meaning.specs.SourceReads as tree
-use Rattle.fir_meaning.specs.Targets.{Target}
-use Rattle.fir_meaning.specs.TermReads as by_number
-use Rattle.fir_meaning.specs.Terms.{Term}
+use Rattle.fir_meaning.specs.working.Targets.{Target}
+use Rattle.fir_meaning.specs.working.TermReads as by_number
+use Rattle.fir_meaning.specs.working.Terms.{Term}
 use Rattle.fir_meaning.specs.TypeLeaves.{TypeLeaf, type_leaves}
 use Rattle.fir_meaning.specs.TypedScopes.{TypedScope}
 use Rattle.fir_meaning.specs.Visits.{Branch}

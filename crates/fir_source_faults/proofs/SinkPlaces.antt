@@ -9,13 +9,16 @@ use Rattle.fir_ast.specs.Statements.{Block, PlacedName, Statement, connect, done
 use Rattle.fir_ast.specs.Circuits.{ModuleTree, PortTree}
 use Rattle.fir_meaning.specs.Components.{Component, Declaration, Declarations}
 use Rattle.fir_meaning.specs.Components as component
-use Rattle.fir_meaning.specs.LeafMemories.{leaves_of_data, memory_roles}
-use Rattle.fir_meaning.specs.LeafModules.{LeafDeclared, LeafType, Role, is_sink, leaf_at, may_drive, no_leaf, sink, source}
-use Rattle.fir_meaning.specs.LeafModules as role
+use Rattle.fir_meaning.specs.FoundTypes.{leaves_of_data}
+use Rattle.fir_meaning.specs.working.LeafMemories.{memory_roles}
+use Rattle.fir_meaning.specs.working.LeafModules.{LeafDeclared, Role, is_sink, leaf_at, may_drive, no_leaf, sink, source}
+use Rattle.fir_meaning.specs.LeafTypes.{LeafType}
+use Rattle.fir_meaning.specs.working.LeafModules as role
 use Rattle.fir_meaning.specs.LeafPaths.{LeafPath, named}
-use Rattle.fir_meaning.specs.Leafed.{terms}
-use Rattle.fir_meaning.specs.LeafedBlocks.{term_at}
-use Rattle.fir_meaning.specs.LeafedModules.{Scene, behind_all_ports, held_by_declared, instance_place, instance_role, leaves_from, leaves_in, leaves_in_block, leaves_of_ports, memory_before, module_leaves, own_leaves, port_role, register_role, role_in, scope_before, type_of_declared}
+use Rattle.fir_meaning.specs.working.Leafed.{terms}
+use Rattle.fir_meaning.specs.working.LeafedBlocks.{term_at}
+use Rattle.fir_meaning.specs.ModuleScenes.{Scene, behind_all_ports, held_by_declared, scope_before, type_of_declared}
+use Rattle.fir_meaning.specs.working.LeafedModules.{instance_place, instance_role, leaves_from, leaves_in, leaves_in_block, leaves_of_ports, memory_before, module_leaves, own_leaves, port_role, register_role, role_in}
 use Rattle.fir_meaning.specs.ResetJoins.{numbered_module, port_place}
 use Rattle.fir_meaning.specs.SourceFacts.{place_of_leaf, place_where, source_may_drive, source_place}
 use Rattle.fir_meaning.specs.TypeLeaves.{TypeLeaf}

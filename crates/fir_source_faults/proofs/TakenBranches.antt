@@ -2,14 +2,14 @@
 use Rattle.std.proofs.Common.{◌≡◌, ℕ, zero, suc, ◌≤◌, List, [], ◌∷◌, ◌++◌, Bool, true, false, not, ◌&&◌, ◌||◌, drop, flat_map, length, if◌then◌else◌, Option, Some, None, option_map, refl, sym, ap, ap₂, ◌∙◌, append_assoc, append-nil, arith}
 use Rattle.std.proofs.lemmas.List.{map-append}
 use Rattle.fir_ast.specs.declared.fault.Outcome.{Outcome}
-use Rattle.fir_meaning.specs.Choices as over
-use Rattle.fir_meaning.specs.Choices.{Live, below, first_part, last_all, second_part}
+use Rattle.fir_meaning.specs.working.Choices as over
+use Rattle.fir_meaning.specs.working.Choices.{Live, below, first_part, last_all, second_part}
 use Rattle.fir_meaning.specs.LeafPaths.{LeafPath}
-use Rattle.fir_meaning.specs.LeafedModules.{Scene}
+use Rattle.fir_meaning.specs.ModuleScenes.{Scene}
 use Rattle.fir_meaning.specs.SourceChoices.{Choice, are_taken}
 use Rattle.fir_meaning.specs.SourceDrives.{Drive}
-use Rattle.fir_meaning.specs.TermReads as by_number
-use Rattle.fir_meaning.specs.Terms.{Term}
+use Rattle.fir_meaning.specs.working.TermReads as by_number
+use Rattle.fir_meaning.specs.working.Terms.{Term}
 use Rattle.fir_meaning.specs.Visits.{Branch}
 use Rattle.fir_source_faults.specs.working.ReadsByPath.{path_in, paths_in}
 use Rattle.fir_source_faults.proofs.Pieces.{SameLast}

@@ -1,14 +1,16 @@
 -- The registers of a module that take values by the numbers of its leaves are those that take them by paths, in one order.
 use Rattle.std.proofs.Common.{◌≡◌, ℕ, suc, ◌+◌, ◌<◌, List, [], ◌∷◌, filter, map, length, slice_get, Bool, true, false, ◌&&◌, ◌||◌, if◌then◌else◌, Option, Some, None, refl, sym, ap, ap₂, ◌∙◌, arith, append-nil}
 use Rattle.std.proofs.lemmas.Option.{get_or_from_slice_get, slice_get_within}
-use Rattle.fir_meaning.specs.LeafModules as over
-use Rattle.fir_meaning.specs.LeafModules.{LeafArray, LeafDeclared, LeafReset, Role, leaf_at, no_leaf, role_at}
+use Rattle.fir_meaning.specs.working.LeafModules as over
+use Rattle.fir_meaning.specs.working.LeafModules.{LeafArray, LeafDeclared, LeafReset, Role, leaf_at, no_leaf, role_at}
 use Rattle.fir_meaning.specs.LeafPaths.{LeafPath}
-use Rattle.fir_meaning.specs.LeafedModules.{Scene, behind_all_ports, leafed_module, module_leaves}
+use Rattle.fir_meaning.specs.ModuleScenes.{Scene, behind_all_ports}
+use Rattle.fir_meaning.specs.working.LeafedModules.{leafed_module, module_leaves}
 use Rattle.fir_meaning.specs.SourceCircuits as source
 use Rattle.fir_meaning.specs.SourceRoles as tree
 use Rattle.fir_meaning.specs.SourceRoles.{SourceLeaf, SourceReset, SourceRole, source_leaves}
-use Rattle.fir_meaning.specs.StateWalks.{has_bits, is_state, numbers_where}
+use Rattle.fir_meaning.specs.LeafTypes.{has_bits}
+use Rattle.fir_meaning.specs.working.StateWalks.{is_state, numbers_where}
 use Rattle.fir_meaning.specs.working.UndrivenChoices.{drives_any}
 use Rattle.fir_design.specs.working.SameRoles.{MaySameReset, SameLeaves, SameRole}
 use Rattle.fir_design.proofs.FineScenes.{IsFineScene, fine_scene}

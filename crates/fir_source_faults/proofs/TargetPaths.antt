@@ -5,13 +5,13 @@ use Rattle.std.proofs.lemmas.List.{map-append}
 use Rattle.std.proofs.Math.Nat.{suc-mul}
 use Rattle.fir_ast.specs.declared.place.Place.{Place}
 use Rattle.fir_ast.specs.Types.{DataType, bundle, vector}
-use Rattle.fir_meaning.specs.FieldSizes.{leaves_before}
+use Rattle.fir_meaning.specs.working.FieldSizes.{leaves_before}
 use Rattle.fir_meaning.specs.LeafPaths.{LeafPath, Step, named, element}
 use Rattle.fir_meaning.specs.Reaching.{field_of_type, vector_of_type}
 use Rattle.fir_meaning.specs.ResetJoins.{type_of_known}
-use Rattle.fir_meaning.specs.Targets.{Target, named_target, stride_from, field_target, element_target, picked_target, further}
-use Rattle.fir_meaning.specs.TermReads.{multiples, reached}
-use Rattle.fir_meaning.specs.Terms.{Term, Picks, no_picks, pick}
+use Rattle.fir_meaning.specs.working.Targets.{Target, named_target, stride_from, field_target, element_target, picked_target, further}
+use Rattle.fir_meaning.specs.working.TermReads.{multiples, reached}
+use Rattle.fir_meaning.specs.working.Terms.{Term, Picks, no_picks, pick}
 use Rattle.fir_meaning.specs.TypeKinds.{FieldFound}
 use Rattle.fir_meaning.specs.TypeLeaves.{TypeLeaf, under, type_leaves, leaf_count}
 use Rattle.fir_meaning.specs.TypedScopes.{TypedScope, known}

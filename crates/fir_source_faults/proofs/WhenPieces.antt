@@ -9,18 +9,18 @@ use Rattle.fir_ast.specs.declared.fault.Outcome.{Outcome}
 use Rattle.fir_ast.specs.declared.fault.Outcome.TheVariants as outcome
 use Rattle.fir_ast.specs.declared.place.Place.{Place}
 use Rattle.fir_ast.specs.Expressions.{Expression}
-use Rattle.fir_meaning.specs.Choices as over
-use Rattle.fir_meaning.specs.Choices.{Live, below, first_part, last_all, second_part}
-use Rattle.fir_meaning.specs.LeafBlocks.{LeafBlock}
-use Rattle.fir_meaning.specs.LeafBlocks as leafed
+use Rattle.fir_meaning.specs.working.Choices as over
+use Rattle.fir_meaning.specs.working.Choices.{Live, below, first_part, last_all, second_part}
+use Rattle.fir_meaning.specs.working.LeafBlocks.{LeafBlock}
+use Rattle.fir_meaning.specs.working.LeafBlocks as leafed
 use Rattle.fir_meaning.specs.LeafPaths.{LeafPath}
-use Rattle.fir_meaning.specs.LeafedBlocks.{alone}
-use Rattle.fir_meaning.specs.LeafedModules.{Scene, scope_before}
+use Rattle.fir_meaning.specs.working.LeafedBlocks.{alone}
+use Rattle.fir_meaning.specs.ModuleScenes.{Scene, scope_before}
 use Rattle.fir_meaning.specs.SourceChoices.{Choice, are_taken, last, later, may_drive}
 use Rattle.fir_meaning.specs.SourceDrives.{Drive}
 use Rattle.fir_meaning.specs.SourceReads as tree
-use Rattle.fir_meaning.specs.TermReads as by_number
-use Rattle.fir_meaning.specs.Terms.{Term}
+use Rattle.fir_meaning.specs.working.TermReads as by_number
+use Rattle.fir_meaning.specs.working.Terms.{Term}
 use Rattle.fir_meaning.specs.working.UndrivenChoices as numbered
 use Rattle.fir_meaning.specs.working.UndrivenChoices.{drives_any}
 use Rattle.fir_meaning.specs.Visibility.{Before}

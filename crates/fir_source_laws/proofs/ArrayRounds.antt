@@ -4,12 +4,12 @@ use Rattle.std.specs.Prelude.{slice_index}
 use Rattle.std.proofs.lemmas.List.{get_or-append-add, get_or_append_left, length-map}
 use Rattle.fir_base.specs.Lists.{Distinct, In}
 use Rattle.fir_base.proofs.Members.{in_map}
-use Rattle.fir_meaning.specs.Memories.{addresses, word_behind}
+use Rattle.fir_meaning.specs.MemoryWords.{addresses, word_behind}
 use Rattle.fir_meaning.specs.SourceAllows.{array_next, word_after, word_next, word_written, word_written_in, words_next}
 use Rattle.fir_meaning.specs.SourceCircuits.{PlacedArray, PlacedLeaf, all_arrays, array_path, leaf_path, state_arrays, state_words}
 use Rattle.fir_meaning.specs.SourceDesigns.{SourceDesign}
 use Rattle.fir_meaning.specs.SourceValues.{PathEnv, begins_on, word_before, words_on}
-use Rattle.fir_meaning.specs.TreeStores.{same_path}
+use Rattle.fir_meaning.specs.SamePaths.{same_path}
 use Rattle.fir_source_laws.specs.working.StateWords.{array_behind_tick}
 use Rattle.fir_source_laws.proofs.StatePaths.{path_equal, path_other}
 

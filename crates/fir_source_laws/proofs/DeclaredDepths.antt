@@ -8,7 +8,7 @@ use Rattle.fir_meaning.specs.Components.{Component, Declaration, Declarations, f
 use Rattle.fir_meaning.specs.Components as component
 use Rattle.fir_meaning.specs.LeafPaths.{LeafPath, named}
 use Rattle.fir_meaning.specs.Visibility.{Before, at_head, behind, behind_block, behind_ports, declaration_at, declarations, opened, reopened, with_declaration}
-use Rattle.fir_meaning.specs.LeafedModules.{Scene, behind_all_ports}
+use Rattle.fir_meaning.specs.ModuleScenes.{Scene, behind_all_ports}
 use Rattle.fir_meaning.specs.SourceFacts.{depth_of, source_depth}
 use Rattle.fir_meaning.proofs.FoundDeclarations.{Once, once_found}
 use Rattle.fir_meaning.proofs.GrownDeclarations.{Included, grows_block, grows_ports}

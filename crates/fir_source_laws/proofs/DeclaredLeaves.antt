@@ -5,10 +5,10 @@ use Rattle.fir_base.specs.Lists.{In}
 use Rattle.fir_ast.specs.Statements.{PlacedName, Reset}
 use Rattle.fir_ast.specs.Types.{DataType}
 use Rattle.fir_meaning.specs.Components as component
-use Rattle.fir_meaning.specs.LeafMemories.{leaves_of_data}
-use Rattle.fir_meaning.specs.LeafModules.{LeafType}
+use Rattle.fir_meaning.specs.FoundTypes.{leaves_of_data}
+use Rattle.fir_meaning.specs.LeafTypes.{LeafType}
 use Rattle.fir_meaning.specs.LeafPaths.{named}
-use Rattle.fir_meaning.specs.LeafedModules.{Scene, held_by_declared, scope_before, type_of_declared}
+use Rattle.fir_meaning.specs.ModuleScenes.{Scene, held_by_declared, scope_before, type_of_declared}
 use Rattle.fir_meaning.specs.SourceRoles.{SourceLeaf, SourceReset, SourceRole, register, source_leaves_of, source_reset}
 use Rattle.fir_meaning.specs.TypeLeaves.{TypeLeaf}
 use Rattle.fir_meaning.specs.Visibility.{Before, with_declaration}

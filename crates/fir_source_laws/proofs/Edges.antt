@@ -5,7 +5,7 @@ use Rattle.fir_base.specs.Lists.{In}
 use Rattle.fir_base.specs.Ticks.{rises}
 use Rattle.fir_ast.specs.Expressions.{Expression}
 use Rattle.fir_meaning.specs.LeafPaths.{LeafPath}
-use Rattle.fir_meaning.specs.Memories.{has_edge}
+use Rattle.fir_meaning.specs.ClockEdges.{has_edge}
 use Rattle.fir_meaning.specs.SourceDesigns.{SourceDesign}
 use Rattle.fir_meaning.specs.SourceValues.{PathEnv, is_true_at, value_at}
 use Rattle.fir_meaning.specs.TypedScopes.{TypedScope}

@@ -3,7 +3,7 @@ use Rattle.std.proofs.Common.{◌≡◌, ℕ, List, [], Bool, true, false, not, 
 use Rattle.std.proofs.lemmas.Bool.{and_from}
 use Rattle.fir_ast.specs.Expressions.{Expression}
 use Rattle.fir_meaning.specs.LeafPaths.{LeafPath}
-use Rattle.fir_meaning.specs.Memories.{has_edge}
+use Rattle.fir_meaning.specs.ClockEdges.{has_edge}
 use Rattle.fir_meaning.specs.SourceAllows.{register_next, stored_or_shown, taken_at_edge, word_next}
 use Rattle.fir_meaning.specs.SourceCircuits.{PlacedLeaf, leaf_path}
 use Rattle.fir_meaning.specs.SourceDesigns.{SourceDesign}

@@ -6,8 +6,8 @@ use Rattle.fir_ast.specs.Statements.{Statement, wire, register, node, instance, 
 use Rattle.fir_meaning.specs.LeafPaths.{LeafPath, named}
 use Rattle.fir_meaning.specs.TypeGroup.{scope_at}
 use Rattle.fir_meaning.specs.Visibility.{Before, behind, behind_block, opened, reopened}
-use Rattle.fir_meaning.specs.DesignStores.{DesignStore}
-use Rattle.fir_meaning.specs.LeafedModules.{Scene, behind_all_ports}
+use Rattle.fir_meaning.specs.PathStores.{DesignStore}
+use Rattle.fir_meaning.specs.ModuleScenes.{Scene, behind_all_ports}
 use Rattle.fir_meaning.specs.TreeValues.{TypesByPath, ValuesByPath, aim_of, leaf_where}
 use Rattle.fir_meaning.specs.SourceDesigns.{Instances, SourceDesign, held, made_of, no_instances}
 use Rattle.fir_meaning.specs.SourceStores.{Gifts, below, exec_design, exec_instances}

@@ -7,11 +7,11 @@ use Rattle.fir_ast.specs.Statements.{invalid}
 use Rattle.fir_meaning.specs.LeafPaths.{LeafPath}
 use Rattle.fir_meaning.specs.TypeGroup.{scope_at}
 use Rattle.fir_meaning.specs.TypeLeaves.{TypeLeaf, type_leaves}
-use Rattle.fir_meaning.specs.DesignStores.{DesignStore, kept_at}
-use Rattle.fir_meaning.specs.LeafBlocks.{counts}
-use Rattle.fir_meaning.specs.LeafedModules.{Scene}
+use Rattle.fir_meaning.specs.PathStores.{DesignStore, kept_at}
+use Rattle.fir_meaning.specs.CountedWhens.{counts}
+use Rattle.fir_meaning.specs.ModuleScenes.{Scene}
 use Rattle.fir_meaning.specs.TreeAims.{Aim}
-use Rattle.fir_meaning.specs.TreeStores.{may_be_driven, same_path}
+use Rattle.fir_meaning.specs.SamePaths.{may_be_driven, same_path}
 use Rattle.fir_meaning.specs.TreeValues.{TypesByPath, ValuesByPath, aim_of, leaf_where}
 use Rattle.fir_meaning.specs.SourceFacts.{source_depth, source_may_drive}
 use Rattle.fir_meaning.specs.SourceStores.{Gifts, source_invalid, source_invalidated, source_kept}

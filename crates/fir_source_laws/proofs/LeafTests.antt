@@ -3,9 +3,9 @@ use Rattle.std.proofs.Common.{◌≡◌, [], ◌∷◌, true, Some, refl, ap}
 use Rattle.std.proofs.lemmas.Bool.{eq-eqb, eqb-true, false_from_ne_true}
 use Rattle.fir_base.proofs.SameNames.{name_is, name_same}
 use Rattle.fir_base.proofs.Tests.{both}
-use Rattle.fir_meaning.specs.DesignStores.{DesignStore, kept_at}
+use Rattle.fir_meaning.specs.PathStores.{DesignStore, kept_at}
 use Rattle.fir_meaning.specs.LeafPaths.{LeafPath, Step, named, element}
-use Rattle.fir_meaning.specs.TreeStores.{same_path, same_step}
+use Rattle.fir_meaning.specs.SamePaths.{same_path, same_step}
 
 step_is : (s r : Step) → same_step s r ≡ true → s ≡ r
 step_is (named x) (named y) h = ap named (name_is x y h)

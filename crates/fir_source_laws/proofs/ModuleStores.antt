@@ -5,8 +5,8 @@ use Rattle.std.proofs.lemmas.List.{append-nil}
 use Rattle.fir_meaning.specs.LeafPaths.{LeafPath, named}
 use Rattle.fir_meaning.specs.TypeGroup.{scope_at}
 use Rattle.fir_meaning.specs.TreeValues.{TypesByPath, ValuesByPath, aim_of, leaf_where}
-use Rattle.fir_meaning.specs.DesignStores.{DesignStore, nothing_kept}
-use Rattle.fir_meaning.specs.LeafedModules.{behind_all_ports}
+use Rattle.fir_meaning.specs.PathStores.{DesignStore, nothing_kept}
+use Rattle.fir_meaning.specs.ModuleScenes.{behind_all_ports}
 use Rattle.fir_meaning.specs.SourceDesigns.{Instances, SourceDesign, held, made_of, no_instances}
 use Rattle.fir_meaning.specs.SourceStores.{Gifts, below, exec_design, exec_instances, exec_source_all, number_gifts}
 use Rattle.fir_meaning.specs.SourceValues.{number_stored, source_holds}

@@ -7,7 +7,7 @@ use Rattle.fir_base.proofs.Members.{in_either, in_map_from}
 use Rattle.fir_ast.specs.Statements.{Statement, wire, register, node, instance, memory, when, connect, partial_connect, invalid, skip, Block, done, then}
 use Rattle.fir_meaning.specs.LeafPaths.{LeafPath, named}
 use Rattle.fir_meaning.specs.Visibility.{Before, behind, behind_block, opened, reopened}
-use Rattle.fir_meaning.specs.LeafedModules.{Scene, behind_all_ports}
+use Rattle.fir_meaning.specs.ModuleScenes.{Scene, behind_all_ports}
 use Rattle.fir_meaning.specs.SourceCircuits.{PlacedArray, PlacedLeaf, array_order_in, array_order_in_block, array_order_of_design, array_order_of_instance, arrays_of_design, arrays_of_instances, inner_leaves, is_stored_array, is_word, leaves_of_design, leaves_of_instances, placed, placed_arrays, words_in, words_in_block, words_of_design, words_of_instance}
 use Rattle.fir_meaning.specs.SourceDesigns.{Instances, SourceDesign, held, made_of, no_instances}
 use Rattle.fir_meaning.specs.SourceRoles.{SourceArray, SourceLeaf, source_arrays, source_arrays_in, sources_in}

@@ -11,7 +11,7 @@ use Rattle.fir_meaning.specs.TypeGroup.{scope_at}
 use Rattle.fir_meaning.specs.TypeKinds.{FieldFound, field_named}
 use Rattle.fir_meaning.specs.TypedScopes.{Known, TypedScope, known}
 use Rattle.fir_meaning.specs.Visibility.{Before, at_head, behind_ports, declaration_at, with_declaration}
-use Rattle.fir_meaning.specs.LeafedModules.{behind_all_ports}
+use Rattle.fir_meaning.specs.ModuleScenes.{behind_all_ports}
 use Rattle.fir_meaning.proofs.KnownNames.{known_front}
 use Rattle.fir_source_laws.specs.working.PortLaws.{IsPortOf, port_named}
 

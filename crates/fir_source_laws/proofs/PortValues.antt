@@ -14,7 +14,7 @@ use Rattle.fir_meaning.specs.Values.{number_of}
 use Rattle.fir_meaning.specs.Visibility.{Before}
 use Rattle.fir_meaning.specs.TreeAims.{Aim, behind, element_aim, element_aim_at, field_aim, field_aim_at, named_aim, step_aim, whole_aim}
 use Rattle.fir_meaning.specs.TreeValues.{TypesByPath, ValuesByPath, aim_along, aim_value, leaf_where, type_where, value, value_where}
-use Rattle.fir_meaning.specs.LeafModules.{number}
+use Rattle.fir_meaning.specs.LeafTypes.{number}
 use Rattle.fir_meaning.specs.SourceAllows.{Shows}
 use Rattle.fir_meaning.specs.SourceCircuits.{leaf_path}
 use Rattle.fir_meaning.specs.SourceStores.{below}

@@ -6,9 +6,10 @@ use Rattle.fir_base.specs.Lists.{Distinct, In}
 use Rattle.fir_base.proofs.Members.{in_map}
 use Rattle.fir_base.proofs.SameNames.{name_other, name_same}
 use Rattle.fir_meaning.specs.Components as component
-use Rattle.fir_meaning.specs.LeafMemories.{PortKind, leaves_of_data, reads, reads_and_writes, writes}
+use Rattle.fir_meaning.specs.MemoryPorts.{PortKind, reads, reads_and_writes, writes}
+use Rattle.fir_meaning.specs.FoundTypes.{leaves_of_data}
 use Rattle.fir_meaning.specs.LeafPaths.{LeafPath, named}
-use Rattle.fir_meaning.specs.LeafedModules.{held_by_declared, type_of_declared}
+use Rattle.fir_meaning.specs.ModuleScenes.{held_by_declared, type_of_declared}
 use Rattle.fir_meaning.specs.MemoryTypes.{first_one}
 use Rattle.fir_meaning.specs.SourceCircuits.{PlacedLeaf}
 use Rattle.fir_meaning.specs.SourceRoles.{NamedPort, PathNeed, PathReading, SourceLeaf, SourceRole, kind_of, latency_of, memory_role, needed, port_field, port_role, read_by, sink, sources_in, under_write_of}

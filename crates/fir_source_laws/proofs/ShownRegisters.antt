@@ -4,7 +4,7 @@ use Rattle.fir_base.specs.Lists.{In}
 use Rattle.fir_base.specs.Ticks.{Tick}
 use Rattle.fir_ast.specs.Expressions.{Expression}
 use Rattle.fir_bits.specs.declared.types.NumTy.{NumTy}
-use Rattle.fir_meaning.specs.LeafModules.{LeafType, number, number_type}
+use Rattle.fir_meaning.specs.LeafTypes.{LeafType, number, number_type}
 use Rattle.fir_meaning.specs.LeafPaths.{LeafPath}
 use Rattle.fir_meaning.specs.SourceAllows.{Settled, Shows, next}
 use Rattle.fir_meaning.specs.SourceCircuits.{PlacedLeaf, all_leaves, leaf_path}

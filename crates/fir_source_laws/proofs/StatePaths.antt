@@ -3,7 +3,7 @@ use Rattle.std.proofs.Common.{◌≡◌, [], ◌∷◌, true, false, refl, ap}
 use Rattle.std.proofs.lemmas.Bool.{and_from, and_parts, eq-eqb, eqb-true, false_from_ne_true}
 use Rattle.std.proofs.lemmas.Slice.Eq.{bytes_eq-Decides}
 use Rattle.fir_meaning.specs.LeafPaths.{LeafPath, Step, element, named}
-use Rattle.fir_meaning.specs.TreeStores.{same_path, same_step}
+use Rattle.fir_meaning.specs.SamePaths.{same_path, same_step}
 
 step_is : (s r : Step) → same_step s r ≡ true → s ≡ r
 step_is (named x) (named y) h = ap named ((bytes_eq-Decides x y).0 h)

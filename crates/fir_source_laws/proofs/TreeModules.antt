@@ -10,7 +10,7 @@ use Rattle.fir_ast.specs.Circuits.{CircuitTree, ModuleTree}
 use Rattle.fir_meaning.specs.ComponentTypes.{find_module}
 use Rattle.fir_meaning.specs.Elaborated.{AreScenes}
 use Rattle.fir_meaning.specs.LeafPaths.{LeafPath, named}
-use Rattle.fir_meaning.specs.LeafedModules.{Scene, behind_all_ports}
+use Rattle.fir_meaning.specs.ModuleScenes.{Scene, behind_all_ports}
 use Rattle.fir_meaning.specs.ResetJoins.{numbered_module}
 use Rattle.fir_meaning.specs.SizedDeclarations.{Numbering, NumberedModule, behind_module, first_numbers, modules_from}
 use Rattle.fir_meaning.specs.SourceCircuits.{PlacedLeaf, inner_leaves, leaves_of_design, leaves_of_instances, placed, role_within, within}

@@ -9,10 +9,10 @@ use Rattle.fir_ast.specs.Expressions.{Expression}
 use Rattle.fir_ast.specs.Statements.{Block, Statement, connect, done, instance, invalid, memory, node, partial_connect, register, skip, then, when, wire}
 use Rattle.fir_meaning.specs.ComponentTypes.{instance_bundle}
 use Rattle.fir_meaning.specs.Components as component
-use Rattle.fir_meaning.specs.LeafMemories.{leaves_of_data}
-use Rattle.fir_meaning.specs.LeafModules.{LeafType}
+use Rattle.fir_meaning.specs.FoundTypes.{leaves_of_data}
+use Rattle.fir_meaning.specs.LeafTypes.{LeafType}
 use Rattle.fir_meaning.specs.LeafPaths.{LeafPath, named}
-use Rattle.fir_meaning.specs.LeafedModules.{behind_all_ports, held_by_declared}
+use Rattle.fir_meaning.specs.ModuleScenes.{behind_all_ports, held_by_declared}
 use Rattle.fir_meaning.specs.SourceCircuits.{array_order_in, array_order_in_block, array_order_of_design, array_order_of_instance, arrays_of_design, arrays_of_instances, inner_leaves, leaves_of_design, leaves_of_instances, placed, placed_arrays, within, words_in, words_in_block, words_of_design, words_of_instance}
 use Rattle.fir_meaning.specs.SourceDesigns.{Instances, SourceDesign, held, no_instances}
 use Rattle.fir_meaning.specs.SourceRoles.{SourceLeaf, SourceRole, sink, source, source_arrays, source_leaves_of, sources_in, sources_in_block}

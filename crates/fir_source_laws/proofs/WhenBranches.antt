@@ -9,8 +9,8 @@ use Rattle.fir_ast.specs.Statements.{Block, when}
 use Rattle.fir_meaning.specs.LeafPaths.{LeafPath, named}
 use Rattle.fir_meaning.specs.TypeGroup.{scope_at}
 use Rattle.fir_meaning.specs.Visibility.{Before, opened, reopened, behind_block}
-use Rattle.fir_meaning.specs.DesignStores.{DesignStore}
-use Rattle.fir_meaning.specs.LeafedModules.{Scene}
+use Rattle.fir_meaning.specs.PathStores.{DesignStore}
+use Rattle.fir_meaning.specs.ModuleScenes.{Scene}
 use Rattle.fir_meaning.specs.TreeValues.{TypesByPath, ValuesByPath}
 use Rattle.fir_meaning.specs.SourceDesigns.{InstanceOf, instances_of, instances_of_block}
 use Rattle.fir_meaning.specs.SourceFacts.{source_depth}

@@ -6,7 +6,7 @@ use Rattle.fir_meaning.specs.SourceAllows.{arrays_next, word_next}
 use Rattle.fir_meaning.specs.SourceCircuits.{PlacedLeaf, leaf_path, paths_of, state_words}
 use Rattle.fir_meaning.specs.SourceDesigns.{SourceDesign}
 use Rattle.fir_meaning.specs.SourceValues.{PathEnv, holds_on, look_on}
-use Rattle.fir_meaning.specs.TreeStores.{same_path}
+use Rattle.fir_meaning.specs.SamePaths.{same_path}
 use Rattle.fir_source_laws.specs.working.StateWords.{word_behind_tick}
 use Rattle.fir_source_laws.proofs.StatePaths.{path_equal, path_other}
 

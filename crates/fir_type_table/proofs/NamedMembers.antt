@@ -16,7 +16,7 @@ use Rattle.fir_type_table.specs.declared.kind.Kind.TheVariants as kind
 use Rattle.fir_type_table.specs.declared.entry.Member.{Member}
 use Rattle.fir_type_table.specs.declared.entry.Entry.{Entry}
 use Rattle.fir_type_table.specs.working.Saturated.{saturated}
-use Rattle.fir_meaning.specs.FieldSizes.{leaves_before, leaves_before_field, shared_before, shared_before_field}
+use Rattle.fir_meaning.specs.working.FieldSizes.{leaves_before, leaves_before_field, shared_before, shared_before_field}
 use Rattle.fir_type_table.specs.working.Tables.{type_at, member_fields, made_of, types_of}
 use Rattle.fir_type_table.specs.working.Fits.{HasOffsets, first_member}
 use Rattle.fir_type_table.specs.working.Found.{IsFieldFound, IsMemberNamed, HasNoField}

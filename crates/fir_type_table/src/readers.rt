@@ -12,7 +12,7 @@ ghost use Rattle.fir_type_table.specs.working.Fits.{IsMadeBelow};
 ghost use Rattle.fir_type_table.specs.working.Reads.{IsPast, IsReadAt};
 ghost use Rattle.fir_type_table.specs.working.Saturated.{saturated};
 ghost use Rattle.fir_type_table.specs.working.Found.{IsFieldFound, found_of};
-ghost use Rattle.fir_meaning.specs.FieldSizes.{leaves_before, shared_before};
+ghost use Rattle.fir_meaning.specs.working.FieldSizes.{leaves_before, shared_before};
 ghost use Rattle.fir_type_table.specs.working.Tables.{made_of, members_at, type_at, types_of};
 
 use crate::entry::{Entry, Member};

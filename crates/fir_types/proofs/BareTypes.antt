@@ -7,7 +7,7 @@ use Rattle.fir_meaning.specs.TypeKinds.{is_passive, are_passive, is_numeric, are
 use Rattle.fir_meaning.specs.Reaching.{field_of_type}
 use Rattle.fir_meaning.specs.TypeLeaves.{field_count, leaf_count}
 use Rattle.fir_meaning.specs.SharedLeaves.{shared_count, shared_field_count}
-use Rattle.fir_meaning.specs.FieldSizes.{leaves_before, leaves_before_field, shared_before, shared_before_field}
+use Rattle.fir_meaning.specs.working.FieldSizes.{leaves_before, leaves_before_field, shared_before, shared_before_field}
 use Rattle.fir_type_table.specs.working.Tables.{shown}
 
 mutual

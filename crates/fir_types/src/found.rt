@@ -9,7 +9,7 @@ ghost use Rattle.fir_meaning.specs.ExpressionTypes.{number_type};
 ghost use Rattle.fir_meaning.specs.TypeLeaves.{leaf_count};
 ghost use Rattle.fir_meaning.specs.SharedLeaves.{shared_count};
 ghost use Rattle.fir_type_table.specs.working.Saturated.{saturated};
-ghost use Rattle.fir_meaning.specs.FieldSizes.{leaves_before, shared_before};
+ghost use Rattle.fir_meaning.specs.working.FieldSizes.{leaves_before, shared_before};
 ghost use Rattle.fir_type_table.specs.declared.entry.Member.{Member};
 ghost use Rattle.fir_type_table.specs.working.Tables.{made_of, types_of};
 ghost use Rattle.fir_types.specs.working.Seen.{field_seen, found_type};

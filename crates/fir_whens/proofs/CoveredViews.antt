@@ -2,8 +2,8 @@
 use Rattle.std.proofs.Common.{◌≡◌, ℕ, length, refl, ap, sym, ◌∙◌}
 use Rattle.std.proofs.lemmas.List.{length-map}
 use Rattle.std.proofs.Math.ListN.{get_or-map}
-use Rattle.fir_meaning.specs.Choices.{covers_all}
-use Rattle.fir_meaning.specs.LeafModules.{LeafDeclared, LeafModule as View, depth_at, is_sink, leaf_at, no_leaf, role_at}
+use Rattle.fir_meaning.specs.working.Choices.{covers_all}
+use Rattle.fir_meaning.specs.working.LeafModules.{LeafDeclared, LeafModule as View, depth_at, is_sink, leaf_at, no_leaf, role_at}
 use Rattle.fir_meaning.specs.working.UndrivenLeaves.{AreDrivenBefore}
 use Rattle.fir_leaf_circuit.specs.declared.leaf_module.LeafModule.{LeafModule}
 use Rattle.fir_leaf_circuit.specs.working.Seen.{HasView, leaf_seen, unnamed}

@@ -17,9 +17,10 @@ use Rattle.fir_leaf_circuit.specs.declared.leaf_module.LeafModule.{LeafModule}
 use Rattle.fir_leaf_circuit.specs.working.Seen.{HasView, leaf_seen, leaves_seen, role_seen, type_seen}
 use Rattle.fir_leaf_types.specs.working.TypedBlocks.{AreTyped}
 use Rattle.fir_leaf_types.specs.working.TypedModules.{IsModuleTyped, IsRoleTyped, held_in}
-use Rattle.fir_meaning.specs.LeafBlocks.{LeafBlock}
-use Rattle.fir_meaning.specs.LeafModules.{LeafDeclared, LeafModule as View, Role, depth_at, leaf_at, no_leaf, number_type, role_at}
-use Rattle.fir_meaning.specs.TermValues.{Holds}
+use Rattle.fir_meaning.specs.working.LeafBlocks.{LeafBlock}
+use Rattle.fir_meaning.specs.working.LeafModules.{LeafDeclared, LeafModule as View, Role, depth_at, leaf_at, no_leaf, role_at}
+use Rattle.fir_meaning.specs.LeafTypes.{number_type}
+use Rattle.fir_meaning.specs.working.TermValues.{Holds}
 use Rattle.fir_net.specs.declared.node.Node.{Node}
 use Rattle.fir_connect.specs.working.Drivers.{driver_of}
 use Rattle.fir_connect.specs.working.Lowered.{zero_of}

@@ -15,8 +15,8 @@ use Rattle.fir_leaf_circuit.specs.working.Seen.{reset_seen}
 use Rattle.fir_leaf_types.specs.working.TypedBlocks.{MayGive}
 use Rattle.fir_leaf_types.specs.working.TypedModules.{IsResetTyped}
 use Rattle.fir_leaf_types.specs.working.TypedTerms.{HasType, one_bit}
-use Rattle.fir_meaning.specs.LeafModules.{LeafType, a_clock}
-use Rattle.fir_meaning.specs.Terms.{zeros}
+use Rattle.fir_meaning.specs.LeafTypes.{LeafType, a_clock}
+use Rattle.fir_meaning.specs.working.Terms.{zeros}
 use Rattle.fir_net.specs.declared.node.Node.{Node}
 use Rattle.fir_connect.specs.working.Lowered.{lowered, zero_of}
 use Rattle.fir_connect.specs.working.LoweredLaws.{types_of}

@@ -31,9 +31,9 @@ use Rattle.std.specs.Option.{option_map}
 use Rattle.std.proofs.lemmas.Bool.{cases_lt}
 use Rattle.std.proofs.lemmas.List.{length-map}
 use Rattle.std.proofs.lemmas.Option.{get_or_from_slice_get, slice_get-map, slice_get_read}
-use Rattle.fir_meaning.specs.Choices.{covers_all}
-use Rattle.fir_meaning.specs.LeafBlocks.{LeafBlock}
-use Rattle.fir_meaning.specs.LeafModules.{LeafDeclared, is_sink, leaf_at, no_leaf}
+use Rattle.fir_meaning.specs.working.Choices.{covers_all}
+use Rattle.fir_meaning.specs.working.LeafBlocks.{LeafBlock}
+use Rattle.fir_meaning.specs.working.LeafModules.{LeafDeclared, is_sink, leaf_at, no_leaf}
 use Rattle.fir_leaf.specs.declared.node.Node.{Node}
 use Rattle.fir_leaf.specs.working.NodeBlocks.{block_in}
 use Rattle.fir_leaf_circuit.specs.declared.leaf.Leaf.{Leaf}

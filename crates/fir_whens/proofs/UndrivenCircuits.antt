@@ -9,7 +9,8 @@ use Rattle.fir_pass.specs.Faults.{Fault, code_of, fault_of}
 use Rattle.fir_pass.specs.Groups.{IsClear, group_of}
 use Rattle.fir_pass.specs.working.Groups.{SameGroup}
 use Rattle.fir_pass.specs.Law.{IsFirst}
-use Rattle.fir_meaning.specs.LeafedModules.{Scene, leafed_module}
+use Rattle.fir_meaning.specs.ModuleScenes.{Scene}
+use Rattle.fir_meaning.specs.working.LeafedModules.{leafed_module}
 use Rattle.fir_meaning.specs.Scenes.{IsSceneOf}
 use Rattle.fir_meaning.specs.SizedDeclarations.{NumberedModule, Numbering, behind_module, first_numbers, modules_from}
 use Rattle.fir_meaning.specs.SourceMeaning.{circuit_meaning}

@@ -4,9 +4,9 @@ use Rattle.std.specs.Prelude.{slice_get}
 use Rattle.fir_ast.specs.declared.fault.FirFault.TheVariants.{Undriven}
 use Rattle.fir_ast.specs.declared.fault.Outcome.{Outcome}
 use Rattle.fir_ast.specs.Circuits.{CircuitTree}
-use Rattle.fir_meaning.specs.LeafModules.{depth_at}
-use Rattle.fir_meaning.specs.LeafedModules.{leafed_module}
-use Rattle.fir_meaning.specs.Scenes.{HasScenes}
+use Rattle.fir_meaning.specs.working.LeafModules.{depth_at}
+use Rattle.fir_meaning.specs.working.LeafedModules.{leafed_module}
+use Rattle.fir_meaning.specs.working.Scenes.{HasScenes}
 use Rattle.fir_meaning.specs.working.UndrivenChoices.{IsFirstUndriven}
 use Rattle.fir_meaning.specs.Outcomes.{told_once}
 use Rattle.fir_meaning.specs.working.UndrivenLeaves.{AreDrivenBefore}

@@ -5,7 +5,7 @@ ghost use Rattle.fir_drivers.specs.working.Drivers.{AreDrivers};
 ghost use Rattle.fir_leaf.specs.working.NodeBlocks.{block_in};
 ghost use Rattle.fir_leaf_circuit.specs.working.Seen.{HasView};
 ghost use Rattle.fir_leaf_types.specs.working.TypedModules.{IsModuleTyped};
-ghost use Rattle.fir_meaning.specs.LeafModules.{LeafModule as Viewed};
+ghost use Rattle.fir_meaning.specs.working.LeafModules.{LeafModule as Viewed};
 ghost use Rattle.fir_merge.specs.working.Entries.{BoundsBelow};
 ghost use Rattle.fir_merge.specs.working.NodeTerms.{Grows};
 ghost use Rattle.fir_whens.specs.working.CoveredModules.{depths_of};

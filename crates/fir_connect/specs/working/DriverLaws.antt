@@ -2,10 +2,10 @@
 use Rattle.std.specs.Prelude.{◌≡◌, ◌↔◌, ℕ, ◌^◌, ◌<◌, [], Bool, false, Option, unwrap_or}
 use Rattle.fir_base.specs.Lists.{In}
 use Rattle.fir_meaning.specs.Values.{fit}
-use Rattle.fir_meaning.specs.Choices.{LiveReads}
-use Rattle.fir_meaning.specs.LeafBlocks.{LeafBlock, exec_all, nothing_stored}
-use Rattle.fir_meaning.specs.LeafModules.{LeafType, a_clock, number}
-use Rattle.fir_meaning.specs.TermValues.{Holds, clock_of}
+use Rattle.fir_meaning.specs.working.Choices.{LiveReads}
+use Rattle.fir_meaning.specs.working.LeafBlocks.{LeafBlock, exec_all, nothing_stored}
+use Rattle.fir_meaning.specs.LeafTypes.{LeafType, a_clock, number}
+use Rattle.fir_meaning.specs.working.TermValues.{Holds, clock_of}
 use Rattle.fir_leaf.specs.working.ChoiceLaws.{fitted_at}
 use Rattle.fir_leaf_types.specs.working.TypedBlocks.{AreTyped}
 use Rattle.fir_connect.specs.working.NetReads.{net_reads}

@@ -2,10 +2,10 @@
 -- A later statement takes the place of what stood before; a when that holds a statement for the leaf, and not its declaration, chooses between what its
 -- blocks leave, also where both are the same; a statement through indices chooses between what it gives and what stood before.
 use Rattle.std.specs.Prelude.{ℕ, ◌+◌, List, [], ◌∷◌, Bool, ◌||◌, nat_eq, nat_lt, if◌then◌else◌}
-use Rattle.fir_meaning.specs.Terms.{Term, Picks, zeros, no_picks, pick}
-use Rattle.fir_meaning.specs.TermReads.{reached}
-use Rattle.fir_meaning.specs.TermValues.{Holds}
-use Rattle.fir_meaning.specs.LeafBlocks.{LeafStatement, LeafBlock, drive, when, instance, done, then}
+use Rattle.fir_meaning.specs.working.Terms.{Term, Picks, zeros, no_picks, pick}
+use Rattle.fir_meaning.specs.working.TermReads.{reached}
+use Rattle.fir_meaning.specs.working.TermValues.{Holds}
+use Rattle.fir_meaning.specs.working.LeafBlocks.{LeafStatement, LeafBlock, drive, when, instance, done, then}
 use Rattle.fir_meaning.specs.working.UndrivenChoices.{drives_any}
 use Rattle.fir_connect.specs.working.NetTerms.{NetTerm, leaf, choice}
 use Rattle.fir_connect.specs.working.Lowered.{Candidate, candidates, conditions, lowered, zero_of}

@@ -9,10 +9,10 @@ use Rattle.fir_bits.specs.declared.operators.PrimOp.TheVariants.{And, Eq, Orr}
 use Rattle.fir_bits.specs.declared.types.NumTy.{NumTy}
 use Rattle.fir_bits.specs.declared.types.OpFault.{OpFault}
 use Rattle.fir_meaning.specs.Values.{literal_value, number_of}
-use Rattle.fir_meaning.specs.TermReads.{reached}
-use Rattle.fir_meaning.specs.TermValues.{Holds}
-use Rattle.fir_meaning.specs.Terms.{Term, Picks, Terms, zeros, absent, literal, read, no_picks, pick, validif}
-use Rattle.fir_meaning.specs.Terms as over
+use Rattle.fir_meaning.specs.working.TermReads.{reached}
+use Rattle.fir_meaning.specs.working.TermValues.{Holds}
+use Rattle.fir_meaning.specs.working.Terms.{Term, Picks, Terms, zeros, absent, literal, read, no_picks, pick, validif}
+use Rattle.fir_meaning.specs.working.Terms as over
 use Rattle.fir_connect.specs.working.NetTerms.{NetTerm, NetTerms, value, leaf, operation, mux, no_terms, term, choice, term_type, term_types}
 
 abbrev pub one_bit : NumTy

@@ -2,10 +2,10 @@
 use Rattle.std.specs.Prelude.{◌≡◌, ◌↔◌, ℕ, Option}
 use Rattle.fir_base.specs.Lists.{In}
 use Rattle.fir_bits.specs.declared.types.NumTy.{NumTy}
-use Rattle.fir_meaning.specs.LeafModules.{LeafType, a_clock, number, number_type}
-use Rattle.fir_meaning.specs.TermReads.{reads}
-use Rattle.fir_meaning.specs.TermValues.{Holds, clock_of, eval}
-use Rattle.fir_meaning.specs.Terms.{Term, zeros}
+use Rattle.fir_meaning.specs.LeafTypes.{LeafType, a_clock, number, number_type}
+use Rattle.fir_meaning.specs.working.TermReads.{reads}
+use Rattle.fir_meaning.specs.working.TermValues.{Holds, clock_of, eval}
+use Rattle.fir_meaning.specs.working.Terms.{Term, zeros}
 use Rattle.fir_leaf_types.specs.working.TypedTerms.{HasType}
 use Rattle.fir_connect.specs.working.NetTerms.{term_type}
 use Rattle.fir_connect.specs.working.NetReads.{net_reads}

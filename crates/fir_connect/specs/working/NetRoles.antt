@@ -2,10 +2,10 @@
 -- Statements are gone: what they give to a leaf is one term, its driver.
 use Rattle.std.specs.Prelude.{ℕ, Bool, true, false, Option, option_map}
 use Rattle.fir_ast.specs.declared.statements.ReadUnderWrite.{ReadUnderWrite}
-use Rattle.fir_meaning.specs.LeafBlocks.{LeafBlock}
-use Rattle.fir_meaning.specs.LeafModules.{LeafModule, LeafReset, Reading, Role, depth_at, role_at}
-use Rattle.fir_meaning.specs.LeafModules as leafed
-use Rattle.fir_meaning.specs.TermValues.{Holds}
+use Rattle.fir_meaning.specs.working.LeafBlocks.{LeafBlock}
+use Rattle.fir_meaning.specs.working.LeafModules.{LeafModule, LeafReset, Reading, Role, depth_at, role_at}
+use Rattle.fir_meaning.specs.working.LeafModules as leafed
+use Rattle.fir_meaning.specs.working.TermValues.{Holds}
 use Rattle.fir_leaf_types.specs.working.TypedModules.{held_in}
 use Rattle.fir_connect.specs.working.Drivers.{driver_of}
 use Rattle.fir_connect.specs.working.Lowered.{lowered}

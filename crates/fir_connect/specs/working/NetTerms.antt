@@ -4,7 +4,7 @@ use Rattle.fir_bits.specs.working.Operators.{type_of}
 use Rattle.fir_bits.specs.declared.operators.PrimOp.{PrimOp}
 use Rattle.fir_bits.specs.declared.types.NumTy.{NumTy}
 use Rattle.fir_bits.specs.declared.values.Num.{Num}
-use Rattle.fir_meaning.specs.TermValues.{Holds}
+use Rattle.fir_meaning.specs.working.TermValues.{Holds}
 
 mutual
   pub data NetTerm : Type 0 where

@@ -3,7 +3,7 @@ use Rattle.std.specs.Prelude.{ℕ, List, [], ◌∷◌, if◌then◌else◌, Opt
 use Rattle.fir_bits.specs.Operators.{outcome}
 use Rattle.fir_bits.specs.declared.values.Num.{Num}
 use Rattle.fir_meaning.specs.Values.{at_width, is_high, number_of}
-use Rattle.fir_meaning.specs.TermValues.{Holds}
+use Rattle.fir_meaning.specs.working.TermValues.{Holds}
 use Rattle.fir_connect.specs.working.NetTerms.{NetTerm, NetTerms, value, leaf, operation, mux, no_terms, term}
 
 module _ (holds : Holds) (numbers : ℕ → ℕ) where

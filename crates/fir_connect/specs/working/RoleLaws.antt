@@ -1,14 +1,15 @@
 -- What the roles of a net are worth: for all values of the leaves within their widths each gives what the leaf's role in the module gives.
 use Rattle.std.specs.Prelude.{◌≡◌, ◌↔◌, ℕ, ◌^◌, ◌<◌, [], ◌∷◌, length, Option, Some, None, unwrap_or}
 use Rattle.fir_base.specs.Lists.{In}
-use Rattle.fir_meaning.specs.Choices.{LiveReads}
+use Rattle.fir_meaning.specs.working.Choices.{LiveReads}
 use Rattle.fir_meaning.specs.Values.{fit, is_high}
-use Rattle.fir_meaning.specs.LeafBlocks.{exec_all, nothing_stored}
-use Rattle.fir_meaning.specs.LeafModules.{LeafModule, LeafReset, LeafType, Role, a_clock, depth_at, number, role_at}
-use Rattle.fir_meaning.specs.LeafModules as leafed
-use Rattle.fir_meaning.specs.TermReads.{reads}
-use Rattle.fir_meaning.specs.Terms.{Term}
-use Rattle.fir_meaning.specs.TermValues.{clock_of, eval, is_true}
+use Rattle.fir_meaning.specs.working.LeafBlocks.{exec_all, nothing_stored}
+use Rattle.fir_meaning.specs.working.LeafModules.{LeafModule, LeafReset, Role, depth_at, role_at}
+use Rattle.fir_meaning.specs.LeafTypes.{LeafType, a_clock, number}
+use Rattle.fir_meaning.specs.working.LeafModules as leafed
+use Rattle.fir_meaning.specs.working.TermReads.{reads}
+use Rattle.fir_meaning.specs.working.Terms.{Term}
+use Rattle.fir_meaning.specs.working.TermValues.{clock_of, eval, is_true}
 use Rattle.fir_meaning.specs.working.UndrivenLeaves.{AreDriven}
 use Rattle.fir_leaf.specs.working.ChoiceLaws.{fitted_at}
 use Rattle.fir_leaf_types.specs.working.TypedModules.{IsModuleTyped, held_in}

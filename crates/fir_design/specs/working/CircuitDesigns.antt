@@ -2,12 +2,14 @@
 use Rattle.std.specs.Prelude.{◌≡◌, ℕ, List, []}
 use Rattle.fir_base.specs.Lists.{In}
 use Rattle.fir_ast.specs.Circuits.{CircuitTree}
-use Rattle.fir_meaning.specs.Elaborated.{AreScenes, views}
-use Rattle.fir_meaning.specs.NameGroups.{HasNames}
+use Rattle.fir_meaning.specs.Elaborated.{AreScenes}
+use Rattle.fir_meaning.specs.working.Elaborated.{views}
+use Rattle.fir_meaning.specs.working.NameGroups.{HasNames}
 use Rattle.fir_meaning.specs.TypeGroup.{type_faults}
 use Rattle.fir_names.specs.working.ModuleOrder.{IsModuleOrder}
-use Rattle.fir_meaning.specs.Designs.{Design, IsDesignOf}
-use Rattle.fir_meaning.specs.LeafedModules.{Scene, leafed_module}
+use Rattle.fir_meaning.specs.working.Designs.{Design, IsDesignOf}
+use Rattle.fir_meaning.specs.ModuleScenes.{Scene}
+use Rattle.fir_meaning.specs.working.LeafedModules.{leafed_module}
 use Rattle.fir_leaf.specs.working.NamedDesigns.{IsNamed}
 use Rattle.fir_leaf.specs.working.SoundDesigns.{IsMain, IsSound}
 

@@ -3,13 +3,13 @@ use Rattle.std.specs.Prelude.{◌≡◌, ◌↔◌, ℕ, List, [], Option}
 use Rattle.fir_base.specs.Lists.{In}
 use Rattle.fir_base.specs.Ticks.{Tick}
 use Rattle.fir_ast.specs.Circuits.{CircuitTree}
-use Rattle.fir_meaning.specs.NameGroups.{HasNames}
+use Rattle.fir_meaning.specs.working.NameGroups.{HasNames}
 use Rattle.fir_meaning.specs.TypeGroup.{type_faults}
-use Rattle.fir_meaning.specs.Designs.{Design}
-use Rattle.fir_meaning.specs.Flattened.{flattened}
-use Rattle.fir_meaning.specs.LeafAllows as over
-use Rattle.fir_meaning.specs.LeafStates.{shape}
-use Rattle.fir_meaning.specs.LeafedModules.{Scene}
+use Rattle.fir_meaning.specs.working.Designs.{Design}
+use Rattle.fir_meaning.specs.working.Flattened.{flattened}
+use Rattle.fir_meaning.specs.working.LeafAllows as over
+use Rattle.fir_meaning.specs.working.LeafStates.{shape}
+use Rattle.fir_meaning.specs.ModuleScenes.{Scene}
 use Rattle.fir_meaning.specs.Elaborated.{AreScenes}
 use Rattle.fir_design.specs.working.CircuitDesigns.{IsSoundDesign}
 use Rattle.fir_meaning.specs.SourceAllows.{Allows}

@@ -4,16 +4,18 @@ use Rattle.fir_base.specs.Lists.{In}
 use Rattle.fir_ast.specs.Circuits.{CircuitTree}
 use Rattle.fir_ast.specs.Expressions.{Expression}
 use Rattle.fir_meaning.specs.LeafPaths.{LeafPath}
-use Rattle.fir_meaning.specs.NameGroups.{HasNames}
+use Rattle.fir_meaning.specs.working.NameGroups.{HasNames}
 use Rattle.fir_meaning.specs.SizedDeclarations.{numbered_modules}
 use Rattle.fir_meaning.specs.TypeGroup.{type_faults}
 use Rattle.fir_meaning.specs.TypedScopes.{TypedScope}
 use Rattle.fir_leaf.specs.working.DesignStates.{array_at}
-use Rattle.fir_meaning.specs.LeafModules as over
-use Rattle.fir_meaning.specs.LeafModules.{LeafArray, LeafDeclared, LeafReset, LeafType, Need, Reading, Role, Writing, leaf_at}
-use Rattle.fir_meaning.specs.LeafedModules.{Scene, leafed_module}
-use Rattle.fir_meaning.specs.TermValues.{clock_of, eval}
-use Rattle.fir_meaning.specs.Terms.{Term}
+use Rattle.fir_meaning.specs.working.LeafModules as over
+use Rattle.fir_meaning.specs.working.LeafModules.{LeafArray, LeafDeclared, LeafReset, Need, Reading, Role, Writing, leaf_at}
+use Rattle.fir_meaning.specs.LeafTypes.{LeafType}
+use Rattle.fir_meaning.specs.ModuleScenes.{Scene}
+use Rattle.fir_meaning.specs.working.LeafedModules.{leafed_module}
+use Rattle.fir_meaning.specs.working.TermValues.{clock_of, eval}
+use Rattle.fir_meaning.specs.working.Terms.{Term}
 use Rattle.fir_meaning.specs.TreeValues.{TypesByPath, ValuesByPath, aim_read, leaf_where, value}
 use Rattle.fir_meaning.specs.SourceRoles as tree
 use Rattle.fir_meaning.specs.SourceRoles.{PathNeed, PathReading, PathWriting, SourceArray, SourceLeaf, SourceReset, SourceRole, source_arrays, source_leaves}

@@ -3,13 +3,16 @@ use Rattle.std.specs.Prelude.{◌≡◌, ℕ, List, [], Option}
 use Rattle.fir_base.specs.Lists.{In}
 use Rattle.fir_ast.specs.Circuits.{CircuitTree}
 use Rattle.fir_meaning.specs.LeafPaths.{LeafPath}
-use Rattle.fir_meaning.specs.NameGroups.{HasNames}
+use Rattle.fir_meaning.specs.working.NameGroups.{HasNames}
 use Rattle.fir_meaning.specs.TypeGroup.{type_faults}
-use Rattle.fir_meaning.specs.DesignStores.{clock_given, exec_below, nothing_kept, number_given}
-use Rattle.fir_meaning.specs.Designs.{Design, IsDesignOf}
-use Rattle.fir_meaning.specs.LeafedModules.{Scene, leafed_module}
+use Rattle.fir_meaning.specs.working.DesignStores.{clock_given, exec_below, number_given}
+use Rattle.fir_meaning.specs.PathStores.{nothing_kept}
+use Rattle.fir_meaning.specs.working.Designs.{Design, IsDesignOf}
+use Rattle.fir_meaning.specs.ModuleScenes.{Scene}
+use Rattle.fir_meaning.specs.working.LeafedModules.{leafed_module}
 use Rattle.fir_meaning.specs.TreeValues.{TypesByPath, ValuesByPath}
-use Rattle.fir_meaning.specs.Elaborated.{AreScenes, views}
+use Rattle.fir_meaning.specs.Elaborated.{AreScenes}
+use Rattle.fir_meaning.specs.working.Elaborated.{views}
 use Rattle.fir_meaning.specs.SourceDesigns.{IsSourceDesignOf, SourceDesign}
 use Rattle.fir_meaning.specs.SourceStores.{clock_gifts, exec_design, number_gifts}
 

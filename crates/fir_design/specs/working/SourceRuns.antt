@@ -2,9 +2,9 @@
 use Rattle.std.specs.Prelude.{◌≡◌, ◌↔◌, ℕ, List, [], ◌∷◌}
 use Rattle.fir_base.specs.Ticks.{AreClocks, FitEach, IsRun, Tick, TickResult}
 use Rattle.fir_ast.specs.Circuits.{CircuitTree}
-use Rattle.fir_meaning.specs.Designs.{Design}
-use Rattle.fir_meaning.specs.Flattened.{flattened}
-use Rattle.fir_meaning.specs.LeafAllows as over
+use Rattle.fir_meaning.specs.working.Designs.{Design}
+use Rattle.fir_meaning.specs.working.Flattened.{flattened}
+use Rattle.fir_meaning.specs.working.LeafAllows as over
 use Rattle.fir_design.specs.working.MeaningLaws.{AreDesigns}
 use Rattle.fir_meaning.specs.SourceAllows.{Allows, Settled, next}
 use Rattle.fir_meaning.specs.SourceCircuits.{source_shape}

@@ -2,7 +2,7 @@
 use Rattle.std.specs.Prelude.{map}
 use Rattle.fir_base.specs.Lists.{Distinct, In}
 use Rattle.fir_ast.specs.Circuits.{CircuitTree}
-use Rattle.fir_meaning.specs.Designs.{Design}
+use Rattle.fir_meaning.specs.working.Designs.{Design}
 use Rattle.fir_meaning.specs.SourceCircuits.{PlacedArray, PlacedLeaf, all_arrays, all_leaves, array_path, paths_of, state_arrays, state_words}
 use Rattle.fir_meaning.specs.SourceDesigns.{SourceDesign}
 use Rattle.fir_design.specs.working.MeaningLaws.{AreDesigns}

@@ -1,7 +1,7 @@
 -- What the told choice is worth: it is the first that leaves the leaf undriven, and a leaf that is covered has none.
 use Rattle.std.specs.Prelude.{◌≡◌, ℕ, true, false}
-use Rattle.fir_meaning.specs.LeafBlocks.{LeafBlock}
-use Rattle.fir_meaning.specs.Choices.{Choice, covers_all}
+use Rattle.fir_meaning.specs.working.LeafBlocks.{LeafBlock}
+use Rattle.fir_meaning.specs.working.Choices.{Choice, covers_all}
 use Rattle.fir_meaning.specs.working.UndrivenChoices.{IsFirstUndriven, IsUndriven}
 use Rattle.fir_meaning.specs.Outcomes.{told_once}
 use Rattle.fir_driven.specs.working.Missed.{missed_all}

@@ -1,8 +1,8 @@
 -- The walk that finds the leaves that are covered: what it has of each leaf, and what a statement within so many whens adds.
 use Rattle.std.specs.Prelude.{◌≡◌, ℕ, ◌<◌, ◌≤◌, List, length, Bool, false, not, ◌&&◌, ◌||◌, nat_lt}
-use Rattle.fir_meaning.specs.TermReads.{is_among}
-use Rattle.fir_meaning.specs.LeafBlocks.{LeafStatement, LeafBlock}
-use Rattle.fir_meaning.specs.Choices.{covers, covers_all}
+use Rattle.fir_meaning.specs.working.TermReads.{is_among}
+use Rattle.fir_meaning.specs.working.LeafBlocks.{LeafStatement, LeafBlock}
+use Rattle.fir_meaning.specs.working.Choices.{covers, covers_all}
 use Rattle.fir_driven.specs.working.Covering.{depth_in, flag_at}
 use Rattle.fir_driven.specs.working.FlagChanges.{FlagsBecome}
 use Rattle.fir_driven.specs.declared.covered.Covering.{Covering}

@@ -1,7 +1,7 @@
 -- Leaves that statements reach under every choice.
 use Rattle.std.specs.Prelude.{◌≡◌, ℕ, ◌<◌, List, length, Bool, false, slice_index_or}
-use Rattle.fir_meaning.specs.LeafBlocks.{LeafBlock}
-use Rattle.fir_meaning.specs.Choices.{covers_all}
+use Rattle.fir_meaning.specs.working.LeafBlocks.{LeafBlock}
+use Rattle.fir_meaning.specs.working.Choices.{covers_all}
 
 -- how many whens stand round the declaration of a leaf
 abbrev pub depth_in : List ℕ → ℕ → ℕ

@@ -1,6 +1,6 @@
 -- Leaves that some statement may drive.
 use Rattle.std.specs.Prelude.{◌≡◌, ℕ, ◌<◌, List, length, Bool}
-use Rattle.fir_meaning.specs.LeafBlocks.{LeafBlock}
+use Rattle.fir_meaning.specs.working.LeafBlocks.{LeafBlock}
 use Rattle.fir_meaning.specs.working.UndrivenChoices.{drives_any}
 use Rattle.fir_driven.specs.working.Covering.{flag_at}
 

@@ -3,8 +3,8 @@ use Rattle.std.specs.Prelude.{◌≡◌, ℕ, ◌+◌, ◌<◌, List, [], ◌∷
 use Rattle.fir_leaf.specs.declared.node.Node.{Node}
 use Rattle.fir_leaf.specs.declared.node.Pick.{Pick}
 use Rattle.fir_leaf.specs.working.Nodes.{entries, picks_at}
-use Rattle.fir_meaning.specs.Terms.{Term, pick}
-use Rattle.fir_meaning.specs.TermReads.{multiples}
+use Rattle.fir_meaning.specs.working.Terms.{Term, pick}
+use Rattle.fir_meaning.specs.working.TermReads.{multiples}
 
 -- a node counts on earlier ones alone
 abbrev pub earlier : ℕ → Option ℕ → Option ℕ

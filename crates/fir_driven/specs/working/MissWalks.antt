@@ -1,8 +1,8 @@
 -- The walk that finds the told choice of a leaf: what it tells of the leaf, and the outcomes that it puts behind others.
 use Rattle.std.specs.Prelude.{◌≡◌, ℕ, List, ◌++◌, Bool, false}
 use Rattle.fir_ast.specs.declared.fault.Outcome.{Outcome}
-use Rattle.fir_meaning.specs.LeafBlocks.{LeafStatement, LeafBlock}
-use Rattle.fir_meaning.specs.Choices.{covers, covers_all}
+use Rattle.fir_meaning.specs.working.LeafBlocks.{LeafStatement, LeafBlock}
+use Rattle.fir_meaning.specs.working.Choices.{covers, covers_all}
 use Rattle.fir_meaning.specs.working.UndrivenChoices.{drives, drives_any}
 use Rattle.fir_driven.specs.working.Missed.{missed, missed_all}
 use Rattle.fir_driven.specs.declared.choice.Asked.{Asked}

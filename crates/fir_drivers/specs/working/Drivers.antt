@@ -1,8 +1,8 @@
 -- What drives each leaf of a module.
 use Rattle.std.specs.Prelude.{◌≡◌, ℕ, ◌<◌, ◌≤◌, List, length, Bool}
 use Rattle.fir_bits.specs.declared.types.NumTy.{NumTy}
-use Rattle.fir_meaning.specs.LeafBlocks.{LeafBlock}
-use Rattle.fir_meaning.specs.LeafModules.{LeafType}
+use Rattle.fir_meaning.specs.working.LeafBlocks.{LeafBlock}
+use Rattle.fir_meaning.specs.LeafTypes.{LeafType}
 use Rattle.fir_leaf.specs.declared.node.Node.{Node as LeafNode}
 use Rattle.fir_leaf.specs.working.Nodes.{entries}
 use Rattle.fir_leaf_types.specs.working.TypedBlocks.{AreTyped}

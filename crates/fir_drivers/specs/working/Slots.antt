@@ -1,7 +1,7 @@
 -- Where the value of each leaf is so far, and what changes of that.
 use Rattle.std.specs.Prelude.{◌≡◌, ℕ, ◌<◌, List, length, if◌then◌else◌, slice_get, unwrap_or, true, false, Some}
-use Rattle.fir_meaning.specs.TermReads.{is_among}
-use Rattle.fir_meaning.specs.TermValues.{Holds}
+use Rattle.fir_meaning.specs.working.TermReads.{is_among}
+use Rattle.fir_meaning.specs.working.TermValues.{Holds}
 use Rattle.fir_net.specs.declared.node.Node.{Node}
 use Rattle.fir_connect.specs.working.NetTerms.{NetTerm, choice}
 use Rattle.fir_merge.specs.declared.bound.Bound.{Bound}

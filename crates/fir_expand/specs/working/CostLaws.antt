@@ -1,7 +1,7 @@
 -- Laws about costs.
 use Rattle.std.specs.Prelude.{◌≡◌, ℕ}
 use Rattle.fir_ast.specs.Circuits.{CircuitTree}
-use Rattle.fir_meaning.specs.NameGroups.{HasNames}
+use Rattle.fir_meaning.specs.working.NameGroups.{HasNames}
 use Rattle.fir_meaning.specs.Costs.{HasCost}
 
 -- a circuit whose names stand has one cost at most

@@ -2,9 +2,10 @@
 -- its value is a read that stands for the term of its role in a net; a synchronous reset is a choice in what its register takes. So far there are no memories,
 -- and the clocks are inputs.
 use Rattle.std.specs.Prelude.{◌≡◌, ◌⊎◌, ℕ, [], length, if◌then◌else◌, Option, Some, None, slice_get}
-use Rattle.fir_meaning.specs.LeafModules.{LeafModule, LeafType, a_clock, leaf_at, no_leaf, number}
-use Rattle.fir_meaning.specs.LeafCircuits.{LeafCircuit}
-use Rattle.fir_meaning.specs.TermValues.{Holds}
+use Rattle.fir_meaning.specs.working.LeafModules.{LeafModule, leaf_at, no_leaf}
+use Rattle.fir_meaning.specs.LeafTypes.{LeafType, a_clock, number}
+use Rattle.fir_meaning.specs.working.LeafCircuits.{LeafCircuit}
+use Rattle.fir_meaning.specs.working.TermValues.{Holds}
 use Rattle.fir_net.specs.declared.leaf.Leaf.{Leaf}
 use Rattle.fir_net.specs.declared.leaf.Reset.{Reset}
 use Rattle.fir_net.specs.declared.leaf.ResetKind.TheVariants.{Asynchronous}

@@ -2,8 +2,8 @@
 use Rattle.std.specs.Prelude.{◌↔◌, ℕ, List, Option}
 use Rattle.fir_base.specs.Ticks.{Tick}
 use Rattle.fir_meaning.specs.working.UndrivenLeaves.{AreDriven}
-use Rattle.fir_meaning.specs.LeafAllows as leafed
-use Rattle.fir_meaning.specs.LeafCircuits.{LeafCircuit}
+use Rattle.fir_meaning.specs.working.LeafAllows as leafed
+use Rattle.fir_meaning.specs.working.LeafCircuits.{LeafCircuit}
 use Rattle.fir_leaf_types.specs.working.TypedModules.{IsModuleTyped}
 use Rattle.fir_net.specs.declared.net.FlatNet.{FlatNet}
 use Rattle.fir_net.specs.working.Allows.{Allows}

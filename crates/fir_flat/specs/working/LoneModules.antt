@@ -1,9 +1,10 @@
 -- A design without instances and memories is its module alone (FIRRTL spec, "Modules", "Circuits").
 use Rattle.std.specs.Prelude.{◌≡◌, ℕ, ◌<◌, ◌≤◌, [], length, ◌&&◌}
-use Rattle.fir_meaning.specs.LeafModules.{LeafDeclared, LeafModule, leaf_at, role_at, source}
-use Rattle.fir_meaning.specs.Designs.{Item, drive, when, instance, Items, done, then, block_of, made_of}
-use Rattle.fir_meaning.specs.Flattened.{flattened}
-use Rattle.fir_meaning.specs.StateWalks.{has_bits, is_state, numbers_where}
+use Rattle.fir_meaning.specs.working.LeafModules.{LeafDeclared, LeafModule, leaf_at, role_at, source}
+use Rattle.fir_meaning.specs.working.Designs.{Item, drive, when, instance, Items, done, then, block_of, made_of}
+use Rattle.fir_meaning.specs.working.Flattened.{flattened}
+use Rattle.fir_meaning.specs.LeafTypes.{has_bits}
+use Rattle.fir_meaning.specs.working.StateWalks.{is_state, numbers_where}
 
 abbrev mutual
   pub HasNoInstance : Item → Type 0

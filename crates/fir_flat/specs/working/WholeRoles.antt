@@ -1,8 +1,9 @@
 -- The roles of a module's leaves in its net are made of whole terms (FIRRTL spec, "Connects", "Nodes", "Registers").
 use Rattle.std.specs.Prelude.{◌≡◌, ℕ, ◌<◌, length, Option, Some, None}
 use Rattle.fir_bits.specs.declared.types.NumTy.{NumTy}
-use Rattle.fir_meaning.specs.LeafModules.{LeafModule, LeafReset, LeafType, Role, number, role_at}
-use Rattle.fir_meaning.specs.LeafModules as leafed
+use Rattle.fir_meaning.specs.working.LeafModules.{LeafModule, LeafReset, Role, role_at}
+use Rattle.fir_meaning.specs.LeafTypes.{LeafType, number}
+use Rattle.fir_meaning.specs.working.LeafModules as leafed
 use Rattle.fir_leaf.specs.working.LeafNumbers.{BlockWithin, TermWithin}
 use Rattle.fir_leaf_types.specs.working.TypedModules.{IsModuleTyped, held_in}
 use Rattle.fir_connect.specs.working.Lowered.{one_bit}

@@ -3,7 +3,7 @@ use Rattle.std.specs.Prelude.{◌≡◌, ℕ, ◌<◌, ◌≤◌, List, [], ◌�
 use Rattle.std.specs.List.{AllByRecursion}
 use Rattle.fir_bits.specs.working.Types.{typed}
 use Rattle.fir_bits.specs.declared.types.NumTy.{NumTy}
-use Rattle.fir_meaning.specs.LeafModules.{LeafType, number}
+use Rattle.fir_meaning.specs.LeafTypes.{LeafType, number}
 use Rattle.fir_connect.specs.working.LoweredLaws.{types_of}
 use Rattle.fir_connect.specs.working.NetTerms.{NetTerm, NetTerms, leaf, mux, no_terms, operation, term, term_type, term_types, value}
 use Rattle.fir_net.specs.working.IsNet.{IsChoice}

@@ -3,9 +3,9 @@ use Rattle.std.specs.Prelude.{◌≡◌, ℕ, List, ◌++◌, map}
 use Rattle.fir_ast.specs.Types.{DataType, Fields}
 use Rattle.fir_meaning.specs.TypeLeaves.{TypeLeaf, element_leaves, field_leaves, type_leaves}
 use Rattle.fir_leaf.specs.declared.node.Node.{Node}
-use Rattle.fir_meaning.specs.Leafed.{absent_type}
+use Rattle.fir_meaning.specs.FoundTypes.{absent_type}
 use Rattle.fir_leaf.specs.working.Nodes.{Gives}
-use Rattle.fir_meaning.specs.Terms.{Picks, Term, absent}
+use Rattle.fir_meaning.specs.working.Terms.{Picks, Term, absent}
 
 abbrev pub absent_leaf : Picks → TypeLeaf → Term
 absent_leaf ps l = absent (absent_type l.ground_type) ps

@@ -7,9 +7,9 @@ use Rattle.fir_meaning.specs.TypedScopes.{TypedScope}
 use Rattle.fir_meaning.specs.TypeGroup.{scope_at}
 use Rattle.fir_meaning.specs.Visibility.{Before, with_declaration, opened, reopened, behind, behind_block}
 use Rattle.fir_leaf.specs.declared.node.Node.{Node as NodeOfCode}
-use Rattle.fir_meaning.specs.Leafed.{first_term, terms}
+use Rattle.fir_meaning.specs.working.Leafed.{first_term, terms}
 use Rattle.fir_leaf.specs.working.Nodes.{Grows, node_term}
-use Rattle.fir_meaning.specs.Terms.{Term}
+use Rattle.fir_meaning.specs.working.Terms.{Term}
 use Rattle.fir_ground.specs.declared.driver.Driver.{Driver}
 use Rattle.fir_ground.specs.declared.driver.Driver.TheVariants.{Others, Node, Register}
 use Rattle.fir_ground.specs.declared.driver.ResetDriver.{ResetDriver}

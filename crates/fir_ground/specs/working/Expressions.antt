@@ -4,8 +4,8 @@ use Rattle.fir_ast.specs.Types.{DataType}
 use Rattle.fir_types.specs.working.Notes.{Note}
 use Rattle.fir_leaf.specs.declared.node.Node.{Node}
 use Rattle.fir_leaf.specs.working.Nodes.{Shows}
-use Rattle.fir_meaning.specs.Targets as over
-use Rattle.fir_meaning.specs.Terms.{Term}
+use Rattle.fir_meaning.specs.working.Targets as over
+use Rattle.fir_meaning.specs.working.Terms.{Term}
 use Rattle.fir_ground.specs.declared.ground.Ground.{Ground}
 use Rattle.fir_ground.specs.declared.source.Source.{Source}
 use Rattle.fir_leaf_pairs.specs.declared.target.Target.{Target}

@@ -7,9 +7,9 @@ use Rattle.fir_type_table.specs.working.Tables.{types_of}
 use Rattle.fir_types.specs.declared.note.Note.{Note as NoteOfCode}
 use Rattle.fir_types.specs.working.Notes.{Note, position_of}
 use Rattle.fir_types.specs.working.Noted.{note_seen, saturated_note}
-use Rattle.fir_meaning.specs.Terms.{Term}
-use Rattle.fir_meaning.specs.Targets as over
-use Rattle.fir_meaning.specs.Targets.{leaves_ahead, leaves_so_far}
+use Rattle.fir_meaning.specs.working.Terms.{Term}
+use Rattle.fir_meaning.specs.working.Targets as over
+use Rattle.fir_meaning.specs.working.Targets.{leaves_ahead, leaves_so_far}
 use Rattle.fir_leaf.specs.working.Nodes.{Gives, Grows}
 use Rattle.fir_ground.specs.declared.ground.Ground.{Ground}
 use Rattle.fir_leaf_pairs.specs.declared.target.Target.{Target}

@@ -9,9 +9,9 @@ use Rattle.fir_types.specs.declared.note.LeafRange.{LeafRange as RangeOfCode}
 use Rattle.fir_types.specs.working.Notes.{Note, Pick, part_notes}
 use Rattle.fir_types.specs.working.Noted.{pick_seen}
 use Rattle.fir_leaf.specs.declared.node.Node.{Node}
-use Rattle.fir_meaning.specs.Leafed.{first_term, terms}
+use Rattle.fir_meaning.specs.working.Leafed.{first_term, terms}
 use Rattle.fir_leaf.specs.working.Nodes.{AllBelow, Grows, entries, node_term, picks_at}
-use Rattle.fir_meaning.specs.Terms.{Picks, Term, no_picks, pick}
+use Rattle.fir_meaning.specs.working.Terms.{Picks, Term, no_picks, pick}
 use Rattle.fir_ground.specs.declared.ground.Ground.{Ground}
 use Rattle.fir_ground.specs.declared.references.Chain.{Chain}
 use Rattle.fir_ground.specs.declared.references.Index.{Index as IndexOfCode}

@@ -14,11 +14,11 @@ use Rattle.fir_types.specs.working.Notes.{Note}
 use Rattle.fir_types.specs.working.Walked.{Begins, IsOfModule}
 use Rattle.fir_leaf.specs.declared.statement.LeafInstance.{LeafInstance}
 use Rattle.fir_leaf.specs.declared.statement.LeafStmt.{LeafStmt}
-use Rattle.fir_meaning.specs.LeafBlocks.{LeafBlock}
-use Rattle.fir_meaning.specs.LeafedBlocks.{leafed, leafed_all}
+use Rattle.fir_meaning.specs.working.LeafBlocks.{LeafBlock}
+use Rattle.fir_meaning.specs.working.LeafedBlocks.{leafed, leafed_all}
 use Rattle.fir_leaf.specs.working.NodeBlocks.{Emitted}
 use Rattle.fir_leaf.specs.working.Nodes.{Grows}
-use Rattle.fir_meaning.specs.Targets.{leaves_so_far}
+use Rattle.fir_meaning.specs.working.Targets.{leaves_so_far}
 use Rattle.fir_ground.specs.declared.frame.Frame.{Frame}
 use Rattle.fir_ground.specs.declared.walk.Walk.{Walk}
 use Rattle.fir_ground.specs.working.DeclarationDrivers.{DriverMeant, Driven, drivers_in, drivers_in_block}

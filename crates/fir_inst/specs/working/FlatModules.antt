@@ -1,7 +1,8 @@
 -- A module alone as a flat net: each leaf has its path, its place, its type and its role, leaves of ports stand as ports, and the net is whole.
 use Rattle.std.specs.Prelude.{◌≡◌, ℕ, ◌<◌, ◌≤◌, List, length, map, Bool, true, false, IsTrue, Option, Some, None, slice_get}
 use Rattle.std.specs.List.{AllByRecursion}
-use Rattle.fir_meaning.specs.LeafModules.{LeafDeclared, LeafModule, LeafType, a_clock, leaf_at, number}
+use Rattle.fir_meaning.specs.working.LeafModules.{LeafDeclared, LeafModule, leaf_at}
+use Rattle.fir_meaning.specs.LeafTypes.{LeafType, a_clock, number}
 use Rattle.fir_meaning.specs.LeafPaths.{path_text}
 use Rattle.ver_words.specs.Names.{is_word}
 use Rattle.fir_leaf_circuit.specs.declared.leaf_module.LeafModule.{LeafModule as ModuleOfCode}

@@ -2,7 +2,7 @@
 -- has the types that the terms have.
 use Rattle.std.specs.Prelude.{◌≡◌, ℕ, ◌≤◌, List, [], ◌∷◌, ◌++◌, length, map, Bool, true, false, slice_get, slice_set, nat_lt, if◌then◌else◌, Option, Some, None}
 use Rattle.fir_bits.specs.Values.{IsBitVector}
-use Rattle.fir_meaning.specs.LeafModules.{LeafType, number}
+use Rattle.fir_meaning.specs.LeafTypes.{LeafType, number}
 use Rattle.fir_net.specs.declared.leaf.Leaf.{Leaf}
 use Rattle.fir_net.specs.declared.node.Node.{Node}
 use Rattle.fir_net.specs.declared.node.Node.TheVariants as node

@@ -1,9 +1,11 @@
 -- A circuit of one module means what the flat net of that module means (FIRRTL spec, "Circuits", "Modules").
 use Rattle.std.specs.Prelude.{◌≡◌, ℕ, List, []}
 use Rattle.fir_ast.specs.Circuits.{CircuitTree}
-use Rattle.fir_meaning.specs.LeafedModules.{Scene, leafed_module}
-use Rattle.fir_meaning.specs.NameGroups.{HasNames}
-use Rattle.fir_meaning.specs.Scenes.{HasScenes, IsSceneOf}
+use Rattle.fir_meaning.specs.ModuleScenes.{Scene}
+use Rattle.fir_meaning.specs.working.LeafedModules.{leafed_module}
+use Rattle.fir_meaning.specs.working.NameGroups.{HasNames}
+use Rattle.fir_meaning.specs.working.Scenes.{HasScenes}
+use Rattle.fir_meaning.specs.Scenes.{IsSceneOf}
 use Rattle.fir_meaning.specs.TypeGroup.{type_faults}
 use Rattle.fir_meaning.specs.working.UndrivenLeaves.{AreDriven}
 use Rattle.fir_leaf_types.specs.working.TypedModules.{IsModuleTyped}

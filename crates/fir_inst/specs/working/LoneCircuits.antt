@@ -2,11 +2,13 @@
 -- of clocks (FIRRTL spec, "Clock Type", "Registers", "Reset Type").
 use Rattle.std.specs.Prelude.{◌≡◌, ℕ, ◌<◌, ◌≤◌, [], length, false, Option, Some, None}
 use Rattle.fir_ast.specs.Circuits.{CircuitTree}
-use Rattle.fir_meaning.specs.LeafBlocks.{LeafBlock, LeafStatement, done, drive, instance, then, when}
-use Rattle.fir_meaning.specs.LeafModules.{LeafModule, LeafReset, LeafType, Role, a_clock, number, pipe, reading, register, role_at, sink, source}
-use Rattle.fir_meaning.specs.LeafedModules.{Scene, leafed_module}
+use Rattle.fir_meaning.specs.working.LeafBlocks.{LeafBlock, LeafStatement, done, drive, instance, then, when}
+use Rattle.fir_meaning.specs.working.LeafModules.{LeafModule, LeafReset, Role, pipe, reading, register, role_at, sink, source}
+use Rattle.fir_meaning.specs.LeafTypes.{LeafType, a_clock, number}
+use Rattle.fir_meaning.specs.ModuleScenes.{Scene}
+use Rattle.fir_meaning.specs.working.LeafedModules.{leafed_module}
 use Rattle.fir_meaning.specs.Scenes.{IsSceneOf}
-use Rattle.fir_meaning.specs.Terms.{Term, no_picks, read}
+use Rattle.fir_meaning.specs.working.Terms.{Term, no_picks, read}
 use Rattle.fir_leaf_types.specs.working.TypedModules.{held_in}
 
 abbrev mutual

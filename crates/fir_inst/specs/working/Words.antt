@@ -7,10 +7,11 @@ use Rattle.ver_words.specs.Names.{is_word}
 use Rattle.fir_ast.specs.Types.{DataType, Fields, bundle, field, no_fields, vector}
 use Rattle.fir_ast.specs.Statements.{PlacedName, Statement, MemoryPart, data_type, reader, writer, readwriter, wire, register, node, instance, memory, when, Block, done, then}
 use Rattle.fir_ast.specs.Circuits.{CircuitTree, ModuleTree}
-use Rattle.fir_meaning.specs.LeafModules.{LeafDeclared}
+use Rattle.fir_meaning.specs.working.LeafModules.{LeafDeclared}
 use Rattle.fir_meaning.specs.LeafPaths.{path_text}
-use Rattle.fir_meaning.specs.LeafedModules.{Scene, module_leaves}
-use Rattle.fir_meaning.specs.NameGroups.{HasNames}
+use Rattle.fir_meaning.specs.ModuleScenes.{Scene}
+use Rattle.fir_meaning.specs.working.LeafedModules.{module_leaves}
+use Rattle.fir_meaning.specs.working.NameGroups.{HasNames}
 use Rattle.fir_meaning.specs.Scenes.{IsSceneOf}
 use Rattle.fir_meaning.specs.TypeGroup.{type_faults}
 use Rattle.fir_net.specs.Paths.{base_name}

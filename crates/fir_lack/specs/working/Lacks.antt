@@ -3,7 +3,7 @@
 use Rattle.std.specs.Prelude.{◌≡◌, Option, Some, None, option_map}
 use Rattle.fir_ast.specs.Circuits.{CircuitTree}
 use Rattle.fir_meaning.specs.Lack.{Lack}
-use Rattle.fir_meaning.specs.LeafedModules.{Scene}
+use Rattle.fir_meaning.specs.ModuleScenes.{Scene}
 use Rattle.fir_pass.specs.Groups.{IsClear}
 use Rattle.fir_meaning.specs.Scenes.{IsSceneOf}
 use Rattle.fir_meaning.specs.SourceClocks.{clock_group}

@@ -5,11 +5,12 @@ use Rattle.std.specs.List.{list_any}
 use Rattle.std.specs.Option.{option_or}
 use Rattle.fir_ast.specs.Statements.{Reset, Statement, wire, register, node, instance, memory, when, Block, done, then}
 use Rattle.fir_ast.specs.Circuits.{PortTree, CircuitTree}
-use Rattle.fir_meaning.specs.Flattened.{is_clock}
+use Rattle.fir_meaning.specs.LeafTypes.{is_clock}
 use Rattle.fir_meaning.specs.Lack.{Lack, lack}
-use Rattle.fir_meaning.specs.LeafModules.{LeafDeclared, LeafReset, Role}
-use Rattle.fir_meaning.specs.LeafModules as role
-use Rattle.fir_meaning.specs.LeafedModules.{Scene, module_leaves}
+use Rattle.fir_meaning.specs.working.LeafModules.{LeafDeclared, LeafReset, Role}
+use Rattle.fir_meaning.specs.working.LeafModules as role
+use Rattle.fir_meaning.specs.ModuleScenes.{Scene}
+use Rattle.fir_meaning.specs.working.LeafedModules.{module_leaves}
 use Rattle.fir_lack.specs.Lacking.{is_clock_input, lack_if, lacking_behind, lacking_clock, type_word}
 
 -- how many names are declared in a statement and its blocks

@@ -2,8 +2,8 @@
 -- number exactly where its path begins with the name that is declared there.
 use Rattle.std.specs.Prelude.{◌≡◌, []}
 use Rattle.fir_ast.specs.Circuits.{CircuitTree}
-use Rattle.fir_meaning.specs.LeafedModules.{Scene}
-use Rattle.fir_meaning.specs.NameGroups.{HasNames}
+use Rattle.fir_meaning.specs.ModuleScenes.{Scene}
+use Rattle.fir_meaning.specs.working.NameGroups.{HasNames}
 use Rattle.fir_meaning.specs.Scenes.{IsSceneOf}
 use Rattle.fir_meaning.specs.TypeGroup.{type_faults}
 use Rattle.fir_lack.specs.Lacking.{lacking}

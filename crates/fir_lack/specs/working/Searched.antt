@@ -7,7 +7,7 @@ use Rattle.fir_ast.specs.Circuits.{CircuitTree, ModuleTree, PortTree}
 use Rattle.fir_ast.specs.Expressions.{Expression}
 use Rattle.fir_ast.specs.Statements.{Block, Reset, Statement}
 use Rattle.fir_meaning.specs.Lack.{Lack}
-use Rattle.fir_meaning.specs.LeafedModules.{Scene}
+use Rattle.fir_meaning.specs.ModuleScenes.{Scene}
 use Rattle.fir_lack.specs.declared.lack.Lack.{Lack as LackOfCode}
 use Rattle.fir_lack.specs.declared.marks.Mark.{Mark}
 use Rattle.fir_lack.specs.declared.walk.Walk.{Walk}

@@ -1,10 +1,10 @@
 -- Laws about choices, on the statements of a module over its leaves.
 use Rattle.std.specs.Prelude.{◌≡◌, ◌↔◌, ℕ, [], None, option_map}
 use Rattle.fir_base.specs.Lists.{In}
-use Rattle.fir_meaning.specs.Terms.{Term}
-use Rattle.fir_meaning.specs.TermValues.{Holds, eval}
-use Rattle.fir_meaning.specs.LeafBlocks.{LeafBlock, exec_all, nothing_stored}
-use Rattle.fir_meaning.specs.Choices.{Live, IsLive, LiveReads, last_all, lives_all}
+use Rattle.fir_meaning.specs.working.Terms.{Term}
+use Rattle.fir_meaning.specs.working.TermValues.{Holds, eval}
+use Rattle.fir_meaning.specs.working.LeafBlocks.{LeafBlock, exec_all, nothing_stored}
+use Rattle.fir_meaning.specs.working.Choices.{Live, IsLive, LiveReads, last_all, lives_all}
 use Rattle.fir_meaning.specs.working.UndrivenChoices.{IsUndriven}
 use Rattle.fir_leaf.specs.working.ValueChoices.{choice_of_all}
 use Rattle.fir_meaning.specs.Values.{fit}

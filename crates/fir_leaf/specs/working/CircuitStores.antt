@@ -3,16 +3,18 @@
 use Rattle.std.specs.Prelude.{◌≡◌, ℕ, suc, ◌<◌, ◌≤◌, List, [], ◌∷◌, length, if◌then◌else◌, Option, Some, None}
 use Rattle.fir_bits.specs.declared.types.NumTy.{NumTy}
 use Rattle.fir_meaning.specs.LeafPaths.{LeafPath}
-use Rattle.fir_meaning.specs.TermValues.{Env, clock_at, clock_of, value_at}
-use Rattle.fir_meaning.specs.LeafBlocks.{exec_all, nothing_stored}
-use Rattle.fir_meaning.specs.LeafModules.{LeafDeclared, no_bits}
-use Rattle.fir_meaning.specs.LeafCircuits.{LeafCircuit, depth_of, type_of_leaf}
+use Rattle.fir_meaning.specs.working.TermValues.{Env, clock_at, clock_of, value_at}
+use Rattle.fir_meaning.specs.working.LeafBlocks.{exec_all, nothing_stored}
+use Rattle.fir_meaning.specs.working.LeafModules.{LeafDeclared}
+use Rattle.fir_meaning.specs.LeafTypes.{no_bits}
+use Rattle.fir_meaning.specs.working.LeafCircuits.{LeafCircuit, depth_of, type_of_leaf}
 use Rattle.fir_leaf.specs.working.ChoiceLaws.{fitted_at}
 use Rattle.fir_meaning.specs.TreeValues.{TypesByPath, ValuesByPath}
-use Rattle.fir_meaning.specs.TreeStores.{same_path}
-use Rattle.fir_meaning.specs.Designs.{Design}
-use Rattle.fir_meaning.specs.DesignStores.{clock_given, exec_below, nothing_kept, number_given}
-use Rattle.fir_meaning.specs.Flattened.{flattened}
+use Rattle.fir_meaning.specs.SamePaths.{same_path}
+use Rattle.fir_meaning.specs.working.Designs.{Design}
+use Rattle.fir_meaning.specs.working.DesignStores.{clock_given, exec_below, number_given}
+use Rattle.fir_meaning.specs.PathStores.{nothing_kept}
+use Rattle.fir_meaning.specs.working.Flattened.{flattened}
 use Rattle.fir_leaf.specs.working.SoundDesigns.{IsMain, circuit_path}
 use Rattle.fir_leaf.specs.working.NamedDesigns.{IsNamed}
 

@@ -8,10 +8,11 @@ use Rattle.fir_ast.specs.declared.place.Place.{Place}
 use Rattle.fir_ast.specs.declared.fault.FirFault.{FirFault}
 use Rattle.fir_ast.specs.declared.fault.FirFault.TheVariants.{Clock}
 use Rattle.fir_meaning.specs.Lack.{is_before}
-use Rattle.fir_meaning.specs.Terms.{Term, Picks, absent, no_picks, pick, read}
-use Rattle.fir_meaning.specs.Choices.{Live}
-use Rattle.fir_meaning.specs.LeafModules.{LeafType, Role, a_clock, computed, leaf_at, number, register, sink}
-use Rattle.fir_meaning.specs.LeafCircuits.{LeafCircuit, role_of}
+use Rattle.fir_meaning.specs.working.Terms.{Term, Picks, absent, no_picks, pick, read}
+use Rattle.fir_meaning.specs.working.Choices.{Live}
+use Rattle.fir_meaning.specs.LeafTypes.{LeafType, a_clock, number}
+use Rattle.fir_meaning.specs.working.LeafModules.{Role, computed, leaf_at, register, sink}
+use Rattle.fir_meaning.specs.working.LeafCircuits.{LeafCircuit, role_of}
 use Rattle.fir_meaning.specs.working.LeafNames.{component_of_leaf, path_of_leaf, place_of_leaf}
 use Rattle.fir_leaf.specs.working.ClockRoots.{lives_of}
 

@@ -2,11 +2,12 @@
 -- A clock leaf with one live statement, or a node, takes what that names. The chain ends at a clock input, or at an invalid, or never ends.
 -- No value stands in these definitions.
 use Rattle.std.specs.Prelude.{◌≡◌, ℕ, ◌<◌, List, [], ◌∷◌, length, Option, Some, None, ◌⊎◌}
-use Rattle.fir_meaning.specs.Terms.{Term, no_picks, read, zeros}
-use Rattle.fir_meaning.specs.Choices.{Live, lives_all}
-use Rattle.fir_meaning.specs.LeafModules.{Role, a_clock, computed, leaf_at, sink, source}
-use Rattle.fir_meaning.specs.LeafCircuits.{LeafCircuit, depth_of, role_of}
-use Rattle.fir_meaning.specs.LeafStates.{place_in}
+use Rattle.fir_meaning.specs.working.Terms.{Term, no_picks, read, zeros}
+use Rattle.fir_meaning.specs.working.Choices.{Live, lives_all}
+use Rattle.fir_meaning.specs.working.LeafModules.{Role, computed, leaf_at, sink, source}
+use Rattle.fir_meaning.specs.LeafTypes.{a_clock}
+use Rattle.fir_meaning.specs.working.LeafCircuits.{LeafCircuit, depth_of, role_of}
+use Rattle.fir_meaning.specs.working.LeafStates.{place_in}
 
 pub record IsClockLeaf (c : LeafCircuit) (x : ℕ) : Type 0 where
   pub within : x < length c.leaves

@@ -4,17 +4,19 @@ use Rattle.fir_meaning.specs.LeafPaths.{LeafPath}
 use Rattle.fir_meaning.specs.TypeLeaves.{type_leaves}
 use Rattle.fir_meaning.specs.ComponentTypes.{instance_bundle}
 use Rattle.fir_meaning.specs.Visibility.{at_head}
-use Rattle.fir_meaning.specs.TermValues.{clock_of}
-use Rattle.fir_meaning.specs.LeafBlocks.{exec_all, nothing_stored}
-use Rattle.fir_meaning.specs.LeafModules.{LeafModule}
-use Rattle.fir_meaning.specs.LeafedModules.{Scene, leaves_of_ports}
-use Rattle.fir_meaning.specs.LeafCircuits.{LeafCircuit, depth_of}
+use Rattle.fir_meaning.specs.working.TermValues.{clock_of}
+use Rattle.fir_meaning.specs.working.LeafBlocks.{exec_all, nothing_stored}
+use Rattle.fir_meaning.specs.working.LeafModules.{LeafModule}
+use Rattle.fir_meaning.specs.ModuleScenes.{Scene}
+use Rattle.fir_meaning.specs.working.LeafedModules.{leaves_of_ports}
+use Rattle.fir_meaning.specs.working.LeafCircuits.{LeafCircuit, depth_of}
 use Rattle.fir_leaf.specs.working.ChoiceLaws.{fitted_at}
 use Rattle.fir_meaning.specs.TreeValues.{TypesByPath, ValuesByPath}
-use Rattle.fir_meaning.specs.Designs.{Design, IsDesignOf, elaborated, AllInstances, IsRanked}
-use Rattle.fir_meaning.specs.DesignStores.{clock_given, exec_below, nothing_kept, number_given}
+use Rattle.fir_meaning.specs.working.Designs.{Design, IsDesignOf, elaborated, AllInstances, IsRanked}
+use Rattle.fir_meaning.specs.working.DesignStores.{clock_given, exec_below, number_given}
+use Rattle.fir_meaning.specs.PathStores.{nothing_kept}
 use Rattle.fir_leaf.specs.working.DesignStates.{array_at, array_paths_below, word_paths_below}
-use Rattle.fir_meaning.specs.Flattened.{flattened}
+use Rattle.fir_meaning.specs.working.Flattened.{flattened}
 use Rattle.fir_leaf.specs.working.SoundDesigns.{IsMain, IsSound, circuit_path}
 use Rattle.fir_leaf.specs.working.NamedDesigns.{IsNamed}
 

@@ -2,10 +2,11 @@
 -- A walk through the declarations of the module, in the order of the text, with the state of an instance in the place of its declaration.
 use Rattle.std.specs.Prelude.{ℕ, List, [], ◌++◌, map, nat_eq, if◌then◌else◌, slice_index_or}
 use Rattle.fir_meaning.specs.LeafPaths.{LeafPath}
-use Rattle.fir_meaning.specs.LeafModules.{LeafArray, LeafModule, no_bits, number}
-use Rattle.fir_meaning.specs.Designs.{Item, drive, when, instance, Items, done, then, Design, made_of}
-use Rattle.fir_meaning.specs.DesignPaths.{instance_path, leaf_path}
-use Rattle.fir_meaning.specs.StateWalks.{own_arrays, own_words, walk}
+use Rattle.fir_meaning.specs.working.LeafModules.{LeafArray, LeafModule}
+use Rattle.fir_meaning.specs.LeafTypes.{no_bits, number}
+use Rattle.fir_meaning.specs.working.Designs.{Item, drive, when, instance, Items, done, then, Design, made_of}
+use Rattle.fir_meaning.specs.working.DesignPaths.{instance_path, leaf_path}
+use Rattle.fir_meaning.specs.working.StateWalks.{own_arrays, own_words, walk}
 
 -- the words of the instance that is declaration k, if one is
 abbrev mutual

@@ -2,12 +2,12 @@
 use Rattle.std.specs.Prelude.{◌≡◌, ℕ, List, ◌∷◌, IsTrue}
 use Rattle.fir_base.specs.Lists.{In}
 use Rattle.fir_ast.specs.declared.fault.FirFault.{FirFault}
-use Rattle.fir_meaning.specs.Terms.{Term, absent, no_picks, read, zeros}
-use Rattle.fir_meaning.specs.TermReads.{is_picked}
-use Rattle.fir_meaning.specs.Choices.{Choice, Live}
+use Rattle.fir_meaning.specs.working.Terms.{Term, absent, no_picks, read, zeros}
+use Rattle.fir_meaning.specs.working.TermReads.{is_picked}
+use Rattle.fir_meaning.specs.working.Choices.{Choice, Live}
 use Rattle.fir_meaning.specs.working.UndrivenChoices.{IsUndriven}
-use Rattle.fir_meaning.specs.LeafModules.{Role, computed, sink}
-use Rattle.fir_meaning.specs.LeafCircuits.{LeafCircuit, depth_of, role_of}
+use Rattle.fir_meaning.specs.working.LeafModules.{Role, computed, sink}
+use Rattle.fir_meaning.specs.working.LeafCircuits.{LeafCircuit, depth_of, role_of}
 use Rattle.fir_leaf.specs.working.ClockRoots.{GivesClock, IsChain, IsClockLeaf, lives_of}
 use Rattle.fir_meaning.specs.working.CircuitDependence.{IsWalk}
 use Rattle.fir_leaf.specs.working.ClockFaults.{ShowsClockFault}

@@ -5,10 +5,10 @@ use Rattle.std.specs.Prelude.{◌≡◌, ℕ, ◌<◌, List, ◌∷◌, map, len
 use Rattle.fir_base.specs.Lists.{In, Distinct}
 use Rattle.fir_ast.specs.declared.fault.FirFault.{FirFault}
 use Rattle.fir_ast.specs.declared.fault.FirFault.TheVariants.{AsyncInit}
-use Rattle.fir_meaning.specs.Terms.{Term}
-use Rattle.fir_meaning.specs.TermReads.{reads}
-use Rattle.fir_meaning.specs.LeafModules.{LeafReset, Role, computed, register, sink}
-use Rattle.fir_meaning.specs.LeafCircuits.{LeafCircuit, role_of}
+use Rattle.fir_meaning.specs.working.Terms.{Term}
+use Rattle.fir_meaning.specs.working.TermReads.{reads}
+use Rattle.fir_meaning.specs.working.LeafModules.{LeafReset, Role, computed, register, sink}
+use Rattle.fir_meaning.specs.working.LeafCircuits.{LeafCircuit, role_of}
 use Rattle.fir_meaning.specs.working.LeafNames.{path_of_leaf, place_of_leaf}
 use Rattle.fir_meaning.specs.working.CircuitDependence.{IsWalk}
 

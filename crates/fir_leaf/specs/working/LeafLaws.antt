@@ -7,21 +7,23 @@ use Rattle.fir_ast.specs.Statements.{Block}
 use Rattle.fir_ast.specs.Circuits.{ModuleTree, CircuitTree}
 use Rattle.fir_meaning.specs.LeafPaths.{LeafPath, named}
 use Rattle.fir_meaning.specs.Mentions.{type_mentions}
-use Rattle.fir_meaning.specs.NameGroups.{faults_in, HasNames}
+use Rattle.fir_meaning.specs.NameGroups.{faults_in}
+use Rattle.fir_meaning.specs.working.NameGroups.{HasNames}
 use Rattle.fir_meaning.specs.Visibility.{Before, behind_block, behind_ports, at_head, declarations}
 use Rattle.fir_meaning.specs.TypedScopes.{Known, TypedScope}
 use Rattle.fir_meaning.specs.ComponentTypes.{typed_scope}
 use Rattle.fir_meaning.specs.TypeGroup.{scope_at, type_faults}
 use Rattle.fir_meaning.specs.Values.{fit}
 use Rattle.fir_meaning.specs.working.WellTyped.{HasType, AreLegal}
-use Rattle.fir_meaning.specs.TermValues.{eval}
-use Rattle.fir_meaning.specs.Terms.{Term}
-use Rattle.fir_meaning.specs.LeafBlocks.{LeafStore, exec_all, nothing_stored}
-use Rattle.fir_meaning.specs.Leafed.{terms}
-use Rattle.fir_meaning.specs.LeafedBlocks.{leafed_all}
-use Rattle.fir_meaning.specs.LeafMemories.{leaves_of_data}
-use Rattle.fir_meaning.specs.TreeValues.{TypesByPath, ValuesByPath, values}
-use Rattle.fir_meaning.specs.TreeStores.{LeafFacts, PathStore, exec_tree_all}
+use Rattle.fir_meaning.specs.working.TermValues.{eval}
+use Rattle.fir_meaning.specs.working.Terms.{Term}
+use Rattle.fir_meaning.specs.working.LeafBlocks.{LeafStore, exec_all, nothing_stored}
+use Rattle.fir_meaning.specs.working.Leafed.{terms}
+use Rattle.fir_meaning.specs.working.LeafedBlocks.{leafed_all}
+use Rattle.fir_meaning.specs.FoundTypes.{leaves_of_data}
+use Rattle.fir_meaning.specs.TreeValues.{TypesByPath, ValuesByPath}
+use Rattle.fir_meaning.specs.working.TreeValues.{values}
+use Rattle.fir_meaning.specs.working.TreeStores.{LeafFacts, PathStore, exec_tree_all}
 
 -- the paths of all leaves that are declared, in order
 abbrev pub known_paths : Known → List LeafPath

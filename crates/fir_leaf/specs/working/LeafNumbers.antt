@@ -1,9 +1,9 @@
 -- Terms and statements in which each leaf number is below a bound, also each that indices may pick.
 use Rattle.std.specs.Prelude.{ℕ, ◌<◌, ◌≤◌, List}
 use Rattle.fir_base.specs.Lists.{In}
-use Rattle.fir_meaning.specs.Terms.{Term, Picks, Terms, zeros, absent, literal, read, operation, mux, validif, no_picks, pick, no_terms, term}
-use Rattle.fir_meaning.specs.TermReads.{reached}
-use Rattle.fir_meaning.specs.LeafBlocks.{LeafStatement, LeafBlock, drive, when, instance, done, then}
+use Rattle.fir_meaning.specs.working.Terms.{Term, Picks, Terms, zeros, absent, literal, read, operation, mux, validif, no_picks, pick, no_terms, term}
+use Rattle.fir_meaning.specs.working.TermReads.{reached}
+use Rattle.fir_meaning.specs.working.LeafBlocks.{LeafStatement, LeafBlock, drive, when, instance, done, then}
 
 abbrev pub AllBelow : ℕ → List ℕ → Type 0
 AllBelow n ks = (k : ℕ) → In ks k → k < n

@@ -7,7 +7,7 @@ use Rattle.fir_ast.specs.declared.fault.FirFault.{FirFault}
 use Rattle.fir_ast.specs.declared.fault.FirFault.TheVariants.{MemoryClocks}
 use Rattle.fir_ast.specs.Statements.{PlacedName}
 use Rattle.fir_meaning.specs.LeafPaths.{LeafPath, named, path_text}
-use Rattle.fir_meaning.specs.LeafModules.{LeafModule, MemoryDeclared, leaf_at}
+use Rattle.fir_meaning.specs.working.LeafModules.{LeafModule, MemoryDeclared, leaf_at}
 use Rattle.fir_leaf.specs.working.ModuleCircuits.{module_circuit}
 use Rattle.fir_leaf.specs.working.ClockRoots.{HasRoot}
 

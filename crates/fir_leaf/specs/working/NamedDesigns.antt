@@ -5,10 +5,10 @@ use Rattle.std.specs.Prelude.{◌≡◌, ℕ, ◌+◌, ◌<◌, List, [], ◌∷
 use Rattle.fir_base.specs.Lists.{Distinct}
 use Rattle.fir_ast.specs.Statements.{PlacedName}
 use Rattle.fir_meaning.specs.LeafPaths.{LeafPath, named}
-use Rattle.fir_meaning.specs.LeafBlocks.{HeldInstance}
-use Rattle.fir_meaning.specs.LeafModules.{LeafDeclared, LeafModule, leaf_at}
-use Rattle.fir_meaning.specs.Designs.{Item, drive, when, instance, Items, done, then, Design, made_of}
-use Rattle.fir_meaning.specs.DesignPaths.{no_name}
+use Rattle.fir_meaning.specs.working.LeafBlocks.{HeldInstance}
+use Rattle.fir_meaning.specs.working.LeafModules.{LeafDeclared, LeafModule, leaf_at}
+use Rattle.fir_meaning.specs.working.Designs.{Item, drive, when, instance, Items, done, then, Design, made_of}
+use Rattle.fir_meaning.specs.working.DesignPaths.{no_name}
 use Rattle.fir_leaf.specs.working.DesignStates.{array_at}
 
 abbrev pub declared_name : LeafModule → ℕ → List ℕ

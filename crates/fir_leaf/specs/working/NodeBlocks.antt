@@ -3,7 +3,7 @@ use Rattle.std.specs.Prelude.{◌≡◌, List, [], ◌∷◌, ◌++◌, map}
 use Rattle.fir_leaf.specs.declared.node.Node.{Node}
 use Rattle.fir_leaf.specs.declared.statement.LeafStmt.{LeafStmt, fold-LeafStmt}
 use Rattle.fir_leaf.specs.declared.statement.LeafStmt.TheOpen.{LeafStmt-F, LeafWhen-F}
-use Rattle.fir_meaning.specs.LeafBlocks.{LeafStatement, LeafBlock, drive, when, instance, done, then}
+use Rattle.fir_meaning.specs.working.LeafBlocks.{LeafStatement, LeafBlock, drive, when, instance, done, then}
 use Rattle.fir_leaf.specs.working.Nodes.{Entry, Grows, entries, entry_at, picks_at, term_in}
 
 abbrev pub block_of : List LeafStatement → LeafBlock

@@ -2,8 +2,8 @@
 use Rattle.std.specs.Prelude.{◌≡◌, ℕ, ◌<◌, List, [], ◌∷◌, ◌++◌, map, length, Option, Some, None, slice_index_or}
 use Rattle.fir_leaf.specs.declared.node.Node.{Node}
 use Rattle.fir_leaf.specs.declared.node.Node.TheVariants as node
-use Rattle.fir_meaning.specs.Terms.{Term, Picks, no_picks, pick, terms_of}
-use Rattle.fir_meaning.specs.Terms as over
+use Rattle.fir_meaning.specs.working.Terms.{Term, Picks, no_picks, pick, terms_of}
+use Rattle.fir_meaning.specs.working.Terms as over
 
 pub data Entry : Type 0 where
   a_term : Term → Entry

@@ -4,15 +4,16 @@ use Rattle.fir_base.specs.Lists.{In}
 use Rattle.fir_base.specs.Ticks.{Tick, FitEach}
 use Rattle.fir_bits.specs.Values.{IsBitVector}
 use Rattle.fir_ast.specs.declared.statements.ReadUnderWrite.{ReadUnderWrite}
-use Rattle.fir_meaning.specs.Terms.{Term, no_picks, read}
-use Rattle.fir_meaning.specs.TermValues.{Env, eval}
-use Rattle.fir_meaning.specs.Choices.{Live}
-use Rattle.fir_meaning.specs.LeafModules.{LeafReset, LeafType, Reading, Writing, a_clock, leaf_at, number, pipe, register}
-use Rattle.fir_meaning.specs.LeafCircuits.{LeafCircuit, role_of, type_of_leaf}
-use Rattle.fir_meaning.specs.LeafStates.{array_of, array_width, shape}
-use Rattle.fir_meaning.specs.LeafSettled.{Settled}
-use Rattle.fir_meaning.specs.LeafNext.{next}
-use Rattle.fir_meaning.specs.LeafAllows.{AreTicks, HasRun, One}
+use Rattle.fir_meaning.specs.working.Terms.{Term, no_picks, read}
+use Rattle.fir_meaning.specs.working.TermValues.{Env, eval}
+use Rattle.fir_meaning.specs.working.Choices.{Live}
+use Rattle.fir_meaning.specs.working.LeafModules.{LeafReset, Reading, Writing, leaf_at, pipe, register}
+use Rattle.fir_meaning.specs.LeafTypes.{LeafType, a_clock, number}
+use Rattle.fir_meaning.specs.working.LeafCircuits.{LeafCircuit, role_of, type_of_leaf}
+use Rattle.fir_meaning.specs.working.LeafStates.{array_of, array_width, shape}
+use Rattle.fir_meaning.specs.working.LeafSettled.{Settled}
+use Rattle.fir_meaning.specs.working.LeafNext.{next}
+use Rattle.fir_meaning.specs.working.LeafAllows.{AreTicks, HasRun, One}
 use Rattle.fir_leaf.specs.working.ClockRoots.{GivesClock, HasRoot, IsChain, IsClockLeaf, IsRootOf, NeverEnds, lives_of, root_clock}
 
 -- the state after a tick has the circuit's shape

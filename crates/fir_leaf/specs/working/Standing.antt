@@ -2,9 +2,9 @@
 use Rattle.std.specs.Prelude.{◌≡◌, ℕ, ◌+◌, ◌<◌, length, Option, Some, None, option_map, slice_get}
 use Rattle.fir_meaning.specs.TypeLeaves.{TypeLeaf, type_leaves, leaf_count}
 use Rattle.fir_meaning.specs.TypedScopes.{TypedScope}
-use Rattle.fir_meaning.specs.Terms.{Picks}
-use Rattle.fir_meaning.specs.TermValues.{Holds, leaf_of}
-use Rattle.fir_meaning.specs.Targets.{Target}
+use Rattle.fir_meaning.specs.working.Terms.{Picks}
+use Rattle.fir_meaning.specs.working.TermValues.{Holds, leaf_of}
+use Rattle.fir_meaning.specs.working.Targets.{Target}
 use Rattle.fir_meaning.specs.TreeAims.{Aim}
 use Rattle.fir_meaning.specs.TreeValues.{TypesByPath, ValuesByPath, leaf_where}
 use Rattle.fir_leaf.specs.working.LeafLaws.{numbered, path_at, scope_paths}

@@ -1,13 +1,15 @@
 -- Laws of the order of a design's state: nothing that shows state is left out of it, and nothing stands in it twice (FIRRTL spec, "Registers", "Memories").
 use Rattle.std.specs.Prelude.{◌≡◌, ℕ, ◌<◌, ◌≤◌, List, map, length, true, false}
 use Rattle.fir_base.specs.Lists.{In, Distinct}
-use Rattle.fir_meaning.specs.LeafModules.{LeafModule, leaf_at}
-use Rattle.fir_meaning.specs.LeafedModules.{Scene, leafed_module}
-use Rattle.fir_meaning.specs.LeafCircuits.{LeafCircuit, role_of}
-use Rattle.fir_meaning.specs.Designs.{IsDesignOf, Item, drive, when, instance, Items, done, then, Design, made_of}
+use Rattle.fir_meaning.specs.working.LeafModules.{LeafModule, leaf_at}
+use Rattle.fir_meaning.specs.ModuleScenes.{Scene}
+use Rattle.fir_meaning.specs.working.LeafedModules.{leafed_module}
+use Rattle.fir_meaning.specs.working.LeafCircuits.{LeafCircuit, role_of}
+use Rattle.fir_meaning.specs.working.Designs.{IsDesignOf, Item, drive, when, instance, Items, done, then, Design, made_of}
 use Rattle.fir_leaf.specs.working.DesignStates.{array_at}
-use Rattle.fir_meaning.specs.StateWalks.{has_bits, is_state}
-use Rattle.fir_meaning.specs.Flattened.{flattened}
+use Rattle.fir_meaning.specs.LeafTypes.{has_bits}
+use Rattle.fir_meaning.specs.working.StateWalks.{is_state}
+use Rattle.fir_meaning.specs.working.Flattened.{flattened}
 use Rattle.fir_leaf.specs.working.NamedDesigns.{IsNamed}
 
 -- the main module has the leaves of its ports

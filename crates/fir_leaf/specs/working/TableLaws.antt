@@ -8,20 +8,23 @@ use Rattle.fir_meaning.specs.Flows.{flow_under, is_source}
 use Rattle.fir_meaning.specs.Components as component
 use Rattle.fir_meaning.specs.Components.{Component, Declaration, Declarations}
 use Rattle.fir_meaning.specs.TypedScopes.{Known, TypedScope}
-use Rattle.fir_meaning.specs.NameGroups.{HasNames}
+use Rattle.fir_meaning.specs.working.NameGroups.{HasNames}
 use Rattle.fir_meaning.specs.TypeGroup.{type_faults}
 use Rattle.fir_meaning.specs.ComponentTypes.{typed_scope}
 use Rattle.fir_meaning.specs.Visibility.{declarations}
 use Rattle.fir_meaning.specs.SizedDeclarations.{numbered_modules}
-use Rattle.fir_meaning.specs.TermValues.{Holds}
-use Rattle.fir_meaning.specs.LeafBlocks.{exec_all, nothing_stored}
+use Rattle.fir_meaning.specs.working.TermValues.{Holds}
+use Rattle.fir_meaning.specs.working.LeafBlocks.{exec_all, nothing_stored}
 use Rattle.fir_leaf.specs.working.ChoiceLaws.{fitted_at}
-use Rattle.fir_meaning.specs.LeafModules.{LeafDeclared, LeafModule, depth_at, is_sink, leaf_at, may_drive, no_leaf, number_type}
-use Rattle.fir_meaning.specs.LeafedModules.{Scene, behind_all_ports, leafed_module, module_leaves}
-use Rattle.fir_meaning.specs.LeafMemories.{leaves_of_data}
+use Rattle.fir_meaning.specs.working.LeafModules.{LeafDeclared, LeafModule, depth_at, is_sink, leaf_at, may_drive, no_leaf}
+use Rattle.fir_meaning.specs.LeafTypes.{number_type}
+use Rattle.fir_meaning.specs.ModuleScenes.{Scene, behind_all_ports}
+use Rattle.fir_meaning.specs.working.LeafedModules.{leafed_module, module_leaves}
+use Rattle.fir_meaning.specs.FoundTypes.{leaves_of_data}
 use Rattle.fir_leaf.specs.working.LeafNumbers.{BlockWithin}
 use Rattle.fir_meaning.specs.TreeValues.{ValuesByPath}
-use Rattle.fir_meaning.specs.TreeStores.{LeafFacts, exec_tree_all, same_path}
+use Rattle.fir_meaning.specs.working.TreeStores.{LeafFacts, exec_tree_all}
+use Rattle.fir_meaning.specs.SamePaths.{same_path}
 use Rattle.fir_leaf.specs.working.LeafLaws.{scope_paths}
 
 -- the leaves of a module have the paths of all leaves that it declares, in order

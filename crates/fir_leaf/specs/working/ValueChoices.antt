@@ -1,8 +1,8 @@
 -- The choice that values make for a leaf: each when by its condition, each statement through indices by whether it hits the leaf.
 use Rattle.std.specs.Prelude.{ℕ, [], ◌∷◌, Bool, true, false, Option, Some, None, nat_eq}
-use Rattle.fir_meaning.specs.TermValues.{Holds, is_true, leaf_of}
-use Rattle.fir_meaning.specs.LeafBlocks.{LeafStatement, LeafBlock, drive, when, instance, done, then}
-use Rattle.fir_meaning.specs.Choices.{Choice}
+use Rattle.fir_meaning.specs.working.TermValues.{Holds, is_true, leaf_of}
+use Rattle.fir_meaning.specs.working.LeafBlocks.{LeafStatement, LeafBlock, drive, when, instance, done, then}
+use Rattle.fir_meaning.specs.working.Choices.{Choice}
 
 abbrev pub hits : Option ℕ → ℕ → Bool
 hits None x = false

@@ -2,13 +2,15 @@
 use Rattle.std.specs.Prelude.{◌≡◌, ℕ, ◌<◌, List, [], length, Some, None, slice_get}
 use Rattle.fir_ast.specs.Circuits.{CircuitTree}
 use Rattle.fir_leaf.specs.working.ChoiceLaws.{fitted_at}
-use Rattle.fir_meaning.specs.LeafBlocks.{exec_all, nothing_stored}
-use Rattle.fir_meaning.specs.LeafModules.{LeafDeclared, leaf_at, number_type}
-use Rattle.fir_meaning.specs.LeafedModules.{Scene, behind_all_ports, module_leaves}
+use Rattle.fir_meaning.specs.working.LeafBlocks.{exec_all, nothing_stored}
+use Rattle.fir_meaning.specs.working.LeafModules.{LeafDeclared, leaf_at}
+use Rattle.fir_meaning.specs.LeafTypes.{number_type}
+use Rattle.fir_meaning.specs.ModuleScenes.{Scene, behind_all_ports}
+use Rattle.fir_meaning.specs.working.LeafedModules.{module_leaves}
 use Rattle.fir_leaf.specs.working.NodeBlocks.{block_in}
 use Rattle.fir_leaf.specs.working.TableLaws.{table_facts}
-use Rattle.fir_meaning.specs.TermValues.{Holds}
-use Rattle.fir_meaning.specs.TreeStores.{exec_tree_all}
+use Rattle.fir_meaning.specs.working.TermValues.{Holds}
+use Rattle.fir_meaning.specs.working.TreeStores.{exec_tree_all}
 use Rattle.fir_meaning.specs.TreeValues.{ValuesByPath}
 use Rattle.fir_leaf_circuit.specs.declared.leaf_module.LeafModule.{LeafModule}
 use Rattle.fir_meaning.specs.Scenes.{IsSceneOf}

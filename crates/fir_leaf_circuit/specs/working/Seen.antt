@@ -2,8 +2,9 @@
 -- declaration of a leaf and its place among the leaves of that declaration tell its path.
 use Rattle.std.specs.Prelude.{◌≡◌, ℕ, List, [], ◌∷◌, map, Bool, true, false, Option, Some, None, option_map}
 use Rattle.fir_leaf.specs.declared.node.Node.{Node}
-use Rattle.fir_meaning.specs.LeafModules as view
-use Rattle.fir_meaning.specs.LeafModules.{LeafReset, LeafType, MemoryDeclared, Need, Role, a_clock, computed, number, pipe, reading, register, sink, source}
+use Rattle.fir_meaning.specs.working.LeafModules as view
+use Rattle.fir_meaning.specs.working.LeafModules.{LeafReset, MemoryDeclared, Need, Role, computed, pipe, reading, register, sink, source}
+use Rattle.fir_meaning.specs.LeafTypes.{LeafType, a_clock, number}
 use Rattle.fir_leaf.specs.working.NodeBlocks.{block_in}
 use Rattle.fir_leaf.specs.working.Nodes.{node_term}
 use Rattle.fir_leaf_circuit.specs.declared.array.LeafArray.{LeafArray}

@@ -5,12 +5,12 @@ use Rattle.fir_ast.specs.Types.{DataType}
 use Rattle.fir_meaning.specs.TypeLeaves.{leaf_count}
 use Rattle.fir_leaf.specs.declared.node.Node.{Node}
 use Rattle.fir_leaf.specs.declared.statement.LeafStmt.{LeafStmt}
-use Rattle.fir_meaning.specs.LeafedBlocks.{Sides, driven, driven_where, term_at, invalid_block, invalid_leaf, pair_block, pairs_block}
-use Rattle.fir_meaning.specs.LeafPairs.{LeafPair}
+use Rattle.fir_meaning.specs.working.LeafedBlocks.{Sides, driven, driven_where, term_at, invalid_block, invalid_leaf, pair_block, pairs_block}
+use Rattle.fir_meaning.specs.working.LeafPairs.{LeafPair}
 use Rattle.fir_leaf.specs.working.Nodes.{AllBelow, node_term}
 use Rattle.fir_leaf.specs.working.NodeBlocks.{Emitted}
-use Rattle.fir_meaning.specs.Targets as over
-use Rattle.fir_meaning.specs.Terms.{Term, zeros}
+use Rattle.fir_meaning.specs.working.Targets as over
+use Rattle.fir_meaning.specs.working.Terms.{Term, zeros}
 use Rattle.fir_leaf_pairs.specs.declared.pairs.LeafPair.{LeafPair as PairOfCode}
 use Rattle.fir_leaf_pairs.specs.declared.target.Target.{Target}
 use Rattle.fir_leaf_pairs.specs.working.TargetNames.{Names}

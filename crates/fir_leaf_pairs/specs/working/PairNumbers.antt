@@ -1,6 +1,6 @@
 -- The numbers of the leaves in pairs are below those of two types.
 use Rattle.std.specs.Prelude.{ℕ, ◌<◌, List, [], ◌∷◌}
-use Rattle.fir_meaning.specs.LeafPairs.{LeafPair}
+use Rattle.fir_meaning.specs.working.LeafPairs.{LeafPair}
 
 abbrev pub AreWithin : ℕ → ℕ → List LeafPair → Type 0
 AreWithin n m [] = Unit {0}

@@ -4,10 +4,10 @@ use Rattle.fir_ast.specs.Types.{DataType, bundle, vector, Fields}
 use Rattle.fir_meaning.specs.TypeLeaves.{turned, leaf_count}
 use Rattle.fir_meaning.specs.TypeKinds.{field_named}
 use Rattle.fir_meaning.specs.Equivalence.{is_connectable, met}
-use Rattle.fir_meaning.specs.LeafPairs.{LeafPair, past, turned_pair, element_leaf_pairs, leaf_pairs, field_leaf_pairs, partial_leaf_pairs, partial_field_leaf_pairs}
+use Rattle.fir_meaning.specs.working.LeafPairs.{LeafPair, past, turned_pair, element_leaf_pairs, leaf_pairs, field_leaf_pairs, partial_leaf_pairs, partial_field_leaf_pairs}
 use Rattle.fir_type_table.specs.declared.entry.Member.{Member}
 use Rattle.fir_type_table.specs.working.Saturated.{saturated}
-use Rattle.fir_meaning.specs.FieldSizes.{leaves_before_field}
+use Rattle.fir_meaning.specs.working.FieldSizes.{leaves_before_field}
 use Rattle.fir_type_table.specs.working.Tables.{type_at, member_fields}
 use Rattle.fir_types.specs.declared.found.Found.{Found}
 use Rattle.fir_types.specs.working.Seen.{found_type}

@@ -2,8 +2,8 @@
 use Rattle.std.specs.Prelude.{◌+◌, ℕ, zero, suc, ◌≤◌, List, [], ◌∷◌, Option, Some, None}
 use Rattle.fir_meaning.specs.CostGroup.{cost_limit}
 use Rattle.fir_meaning.specs.TypeLeaves.{leaf_count}
-use Rattle.fir_meaning.specs.Targets.{Target}
-use Rattle.fir_meaning.specs.Terms.{Picks, Term, read}
+use Rattle.fir_meaning.specs.working.Targets.{Target}
+use Rattle.fir_meaning.specs.working.Terms.{Picks, Term, read}
 
 abbrev pub IsWithin : Option ℕ → ℕ → Type 0
 IsWithin None n = Unit {0}

@@ -3,7 +3,7 @@ use Rattle.std.specs.Prelude.{◌≡◌, ℕ, ◌<◌, List, Option, Some, None,
 use Rattle.fir_ast.specs.Types.{DataType}
 use Rattle.fir_types.specs.working.Seen.{found_type}
 use Rattle.fir_leaf.specs.declared.node.Node.{Node}
-use Rattle.fir_meaning.specs.Targets as over
+use Rattle.fir_meaning.specs.working.Targets as over
 use Rattle.fir_leaf.specs.working.Nodes.{entries, picks_at}
 use Rattle.fir_leaf_pairs.specs.declared.target.Target.{Target}
 

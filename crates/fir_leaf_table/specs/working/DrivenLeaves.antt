@@ -3,7 +3,7 @@ use Rattle.std.specs.Prelude.{List, map, flat_map, not, Bool}
 use Rattle.fir_meaning.specs.Flows.{Flow, flow_under, is_source}
 use Rattle.fir_meaning.specs.TypeLeaves.{TypeLeaf}
 use Rattle.fir_meaning.specs.TypedScopes.{Known, TypedScope}
-use Rattle.fir_meaning.specs.LeafMemories.{leaves_of_data}
+use Rattle.fir_meaning.specs.FoundTypes.{leaves_of_data}
 
 abbrev pub may_be_driven : Flow → Bool → Bool
 may_be_driven flow flip = not (is_source (flow_under flip flow))

@@ -4,8 +4,8 @@ use Rattle.fir_base.specs.declared.direction.Direction.{Direction}
 use Rattle.fir_ast.specs.declared.place.Place.{Place}
 use Rattle.fir_meaning.specs.Flows.{flow_under, is_source, port_flow}
 use Rattle.fir_leaf.specs.declared.node.Node.{Node}
-use Rattle.fir_meaning.specs.LeafedBlocks.{term_at}
-use Rattle.fir_meaning.specs.LeafModules.{LeafDeclared, LeafReset, Role, computed, register, sink, source}
+use Rattle.fir_meaning.specs.working.LeafedBlocks.{term_at}
+use Rattle.fir_meaning.specs.working.LeafModules.{LeafDeclared, LeafReset, Role, computed, register, sink, source}
 use Rattle.fir_leaf.specs.working.Nodes.{node_term}
 use Rattle.fir_leaf_table.specs.declared.giver.Giver.{Giver}
 use Rattle.fir_leaf_table.specs.declared.giver.Giver.TheVariants as giver

@@ -7,9 +7,10 @@ use Rattle.fir_meaning.specs.CostGroup.{cost_limit}
 use Rattle.fir_meaning.specs.Costs.{ModuleCosts, cost_of_block}
 use Rattle.fir_meaning.specs.Visibility.{declarations}
 use Rattle.fir_ground.specs.working.DeclarationDrivers.{drivers_in_block, drivers_seen}
-use Rattle.fir_meaning.specs.LeafedModules.{Scene, behind_all_ports, leafed_module}
+use Rattle.fir_meaning.specs.ModuleScenes.{Scene, behind_all_ports}
+use Rattle.fir_meaning.specs.working.LeafedModules.{leafed_module}
 use Rattle.fir_leaf.specs.working.NodeBlocks.{block_in}
-use Rattle.fir_meaning.specs.Targets.{leaves_so_far}
+use Rattle.fir_meaning.specs.working.Targets.{leaves_so_far}
 use Rattle.fir_leaf_table.specs.declared.ground_body.GroundBody.{GroundBody}
 
 -- the module has no more leaves than a circuit may cost, and its statements cost no more

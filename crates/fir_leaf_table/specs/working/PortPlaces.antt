@@ -9,7 +9,7 @@ use Rattle.fir_meaning.specs.ResetJoins.{numbered_module}
 use Rattle.fir_meaning.specs.Visibility.{Before}
 use Rattle.fir_types.specs.declared.found.Found.{Found}
 use Rattle.fir_types.specs.working.Seen.{seen}
-use Rattle.fir_meaning.specs.LeafedModules.{Scene}
+use Rattle.fir_meaning.specs.ModuleScenes.{Scene}
 use Rattle.fir_leaf_table.specs.declared.frame.Frame.{Frame}
 use Rattle.fir_leaf_table.specs.working.Frames.{Frames, IsDeclaredAt}
 use Rattle.fir_leaf_table.specs.working.ModulePlaces.{places_of}

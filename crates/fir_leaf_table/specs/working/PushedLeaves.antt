@@ -5,7 +5,7 @@ use Rattle.fir_ast.specs.Statements.{PlacedName}
 use Rattle.fir_meaning.specs.Components.{Component}
 use Rattle.fir_meaning.specs.Visibility.{Before}
 use Rattle.fir_leaf.specs.declared.node.Node.{Node}
-use Rattle.fir_meaning.specs.LeafedModules.{Scene, held_by_declared, type_of_declared}
+use Rattle.fir_meaning.specs.ModuleScenes.{Scene, held_by_declared, type_of_declared}
 use Rattle.fir_leaf_table.specs.declared.frame.Frame.{Frame}
 use Rattle.fir_leaf_table.specs.declared.giver.Giver.{Giver}
 use Rattle.fir_leaf_table.specs.declared.places.Places.{Places}

@@ -10,7 +10,7 @@ use Rattle.fir_meaning.specs.WidthRules.{AreWidths}
 use Rattle.fir_width.specs.working.DeclaredWidths.{leaf_widths}
 use Rattle.fir_width.specs.working.FlatWidths.{flat}
 use Rattle.fir_width.specs.working.StandingWidths.{Stands}
-use Rattle.fir_meaning.specs.LeafedModules.{held_types}
+use Rattle.fir_meaning.specs.HeldTypes.{held_types}
 use Rattle.fir_leaf_table.specs.declared.type_leaves.TypeLeaf.{TypeLeaf as LeafOfCode}
 use Rattle.fir_leaf_table.specs.working.TypedLeaves.{flips_of, flips_seen, holds_seen}
 

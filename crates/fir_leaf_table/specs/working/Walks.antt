@@ -8,10 +8,11 @@ use Rattle.fir_meaning.specs.Visibility.{Before, behind, behind_block, behind_po
 use Rattle.fir_types.specs.working.Walked.{Begins}
 use Rattle.fir_ground.specs.working.DeclarationDrivers.{DriverMeant, drivers_in, drivers_in_block, drivers_seen}
 use Rattle.fir_leaf.specs.declared.node.Node.{Node}
-use Rattle.fir_meaning.specs.LeafedModules.{Scene, arrays_in, arrays_in_block, leaves_in, leaves_in_block, leaves_of_ports, memories_in, memories_in_block, scope_before}
-use Rattle.fir_meaning.specs.LeafMemories.{arrays_of}
-use Rattle.fir_meaning.specs.LeafModules.{LeafArray, LeafDeclared, MemoryDeclared}
-use Rattle.fir_meaning.specs.Targets.{leaves_so_far}
+use Rattle.fir_meaning.specs.ModuleScenes.{Scene, scope_before}
+use Rattle.fir_meaning.specs.working.LeafedModules.{arrays_in, arrays_in_block, leaves_in, leaves_in_block, leaves_of_ports, memories_in, memories_in_block}
+use Rattle.fir_meaning.specs.working.LeafMemories.{arrays_of}
+use Rattle.fir_meaning.specs.working.LeafModules.{LeafArray, LeafDeclared, MemoryDeclared}
+use Rattle.fir_meaning.specs.working.Targets.{leaves_so_far}
 use Rattle.fir_leaf_table.specs.declared.frame.Frame.{Frame}
 use Rattle.fir_leaf_table.specs.declared.walk.Walk.{Walk}
 use Rattle.fir_leaf_table.specs.working.Frames.{Frames}

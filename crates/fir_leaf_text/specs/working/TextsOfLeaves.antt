@@ -1,9 +1,10 @@
 -- The texts of the paths of the leaves of a module, as lines print them (FIRRTL spec, "References").
 use Rattle.std.specs.Prelude.{◌≡◌, ℕ, ◌<◌, List, length, map}
 use Rattle.fir_ast.specs.Circuits.{CircuitTree}
-use Rattle.fir_meaning.specs.LeafedModules.{Scene, module_leaves}
-use Rattle.fir_meaning.specs.LeafMemories.{leaves_of_data}
-use Rattle.fir_meaning.specs.LeafModules.{LeafDeclared, leaf_at}
+use Rattle.fir_meaning.specs.ModuleScenes.{Scene}
+use Rattle.fir_meaning.specs.working.LeafedModules.{module_leaves}
+use Rattle.fir_meaning.specs.FoundTypes.{leaves_of_data}
+use Rattle.fir_meaning.specs.working.LeafModules.{LeafDeclared, leaf_at}
 use Rattle.fir_meaning.specs.LeafPaths.{path_text}
 use Rattle.fir_meaning.specs.Scenes.{IsSceneOf}
 use Rattle.fir_types.specs.working.TypedModules.{type_declared}

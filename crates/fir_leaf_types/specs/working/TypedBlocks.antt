@@ -1,9 +1,9 @@
 -- The types of what statements drive over leaves (FIRRTL spec, "Connects", "Conditionals").
 use Rattle.std.specs.Prelude.{◌≡◌, ◌⊎◌, ℕ}
-use Rattle.fir_meaning.specs.Terms.{Term, zeros}
-use Rattle.fir_meaning.specs.TermReads.{reached}
-use Rattle.fir_meaning.specs.LeafBlocks.{LeafStatement, LeafBlock, drive, when, instance, done, then}
-use Rattle.fir_meaning.specs.LeafModules.{LeafType, number, a_clock}
+use Rattle.fir_meaning.specs.working.Terms.{Term, zeros}
+use Rattle.fir_meaning.specs.working.TermReads.{reached}
+use Rattle.fir_meaning.specs.working.LeafBlocks.{LeafStatement, LeafBlock, drive, when, instance, done, then}
+use Rattle.fir_meaning.specs.LeafTypes.{LeafType, number, a_clock}
 use Rattle.fir_leaf_types.specs.working.TypedTerms.{AreAlike, AreIndices, HasType, one_bit}
 
 -- numbers of one signedness, or clocks

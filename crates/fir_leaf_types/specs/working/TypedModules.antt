@@ -2,14 +2,16 @@
 use Rattle.std.specs.Prelude.{◌≡◌, ℕ, ◌<◌, [], length, Option, Some, None}
 use Rattle.fir_bits.specs.declared.types.NumTy.{NumTy}
 use Rattle.fir_ast.specs.Circuits.{CircuitTree}
-use Rattle.fir_meaning.specs.NameGroups.{HasNames}
+use Rattle.fir_meaning.specs.working.NameGroups.{HasNames}
 use Rattle.fir_meaning.specs.TypeGroup.{type_faults}
 use Rattle.fir_meaning.specs.OverFaults.{over_faults}
 use Rattle.fir_meaning.specs.LegalFaults.{legal_faults}
-use Rattle.fir_meaning.specs.LeafModules.{LeafModule, LeafReset, LeafType, Role, a_clock, computed, leaf_at, number, pipe, reading, register, role_at, sink, source}
-use Rattle.fir_meaning.specs.LeafedModules.{Scene, leafed_module}
+use Rattle.fir_meaning.specs.working.LeafModules.{LeafModule, LeafReset, Role, computed, leaf_at, pipe, reading, register, role_at, sink, source}
+use Rattle.fir_meaning.specs.LeafTypes.{LeafType, a_clock, number}
+use Rattle.fir_meaning.specs.ModuleScenes.{Scene}
+use Rattle.fir_meaning.specs.working.LeafedModules.{leafed_module}
 use Rattle.fir_meaning.specs.Scenes.{IsSceneOf}
-use Rattle.fir_meaning.specs.Terms.{zeros}
+use Rattle.fir_meaning.specs.working.Terms.{zeros}
 use Rattle.fir_leaf_types.specs.working.TypedTerms.{HasType, IsNarrow, one_bit}
 use Rattle.fir_leaf_types.specs.working.TypedBlocks.{AreTyped, MayGive}
 

@@ -4,9 +4,9 @@ use Rattle.fir_base.specs.Lists.{In}
 use Rattle.fir_bits.specs.working.Types.{typed}
 use Rattle.fir_bits.specs.declared.types.NumTy.{NumTy}
 use Rattle.fir_meaning.specs.Values.{literal_type}
-use Rattle.fir_meaning.specs.TermReads.{reached}
-use Rattle.fir_meaning.specs.Terms.{Term, Picks, Terms, zeros, absent, literal, read, operation, mux, validif, no_picks, pick, no_terms, term}
-use Rattle.fir_meaning.specs.LeafModules.{LeafType, number, number_type}
+use Rattle.fir_meaning.specs.working.TermReads.{reached}
+use Rattle.fir_meaning.specs.working.Terms.{Term, Picks, Terms, zeros, absent, literal, read, operation, mux, validif, no_picks, pick, no_terms, term}
+use Rattle.fir_meaning.specs.LeafTypes.{LeafType, number, number_type}
 
 abbrev pub one_bit : LeafType
 one_bit = number (record { signed = false; width = 1 })

@@ -1,7 +1,7 @@
 -- What a leaf of a whole design depends on within a tick, and walks of dependence (FIRRTL spec, "Last Connect Semantics", "Registers", "Memories").
 -- A leaf depends on what one of its role does in a module. On a walk each leaf depends on the one behind it.
 use Rattle.std.specs.Prelude.{◌≡◌, ℕ, List, [], ◌∷◌}
-use Rattle.fir_meaning.specs.LeafCircuits.{LeafCircuit, depth_of, role_of}
+use Rattle.fir_meaning.specs.working.LeafCircuits.{LeafCircuit, depth_of, role_of}
 use Rattle.fir_meaning.specs.working.Dependence.{RoleDepends}
 
 abbrev pub CircuitDepends : LeafCircuit → ℕ → ℕ → Type 0

@@ -3,10 +3,10 @@
 -- init; a read at once on its address and enables. Other state and what instances give depend on nothing in the module.
 use Rattle.std.specs.Prelude.{ℕ, List, [], ◌∷◌, ◌++◌, map, Bool, true, false, Option, Some, None}
 use Rattle.fir_base.specs.Lists.{In}
-use Rattle.fir_meaning.specs.TermReads.{reads}
-use Rattle.fir_meaning.specs.LeafBlocks.{LeafBlock}
-use Rattle.fir_meaning.specs.Choices.{LiveReads}
-use Rattle.fir_meaning.specs.LeafModules.{LeafReset, Reading, Role, computed, pipe, reading, register, sink, source}
+use Rattle.fir_meaning.specs.working.TermReads.{reads}
+use Rattle.fir_meaning.specs.working.LeafBlocks.{LeafBlock}
+use Rattle.fir_meaning.specs.working.Choices.{LiveReads}
+use Rattle.fir_meaning.specs.working.LeafModules.{LeafReset, Reading, Role, computed, pipe, reading, register, sink, source}
 
 abbrev pub reads_if : Bool → LeafReset → List ℕ
 reads_if true r = reads r.condition ++ reads r.init

@@ -3,8 +3,8 @@
 use Rattle.std.specs.Prelude.{ℕ, ◌+◌, List, take}
 use Rattle.fir_ast.specs.declared.place.Place.{Place}
 use Rattle.fir_meaning.specs.LeafPaths.{path_text}
-use Rattle.fir_meaning.specs.LeafModules.{leaf_at}
-use Rattle.fir_meaning.specs.LeafCircuits.{LeafCircuit}
+use Rattle.fir_meaning.specs.working.LeafModules.{leaf_at}
+use Rattle.fir_meaning.specs.working.LeafCircuits.{LeafCircuit}
 
 abbrev pub place_of_leaf : LeafCircuit → ℕ → Place
 place_of_leaf c x = (leaf_at c.leaves x).place

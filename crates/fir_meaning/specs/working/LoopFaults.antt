@@ -4,7 +4,7 @@ use Rattle.std.specs.Prelude.{◌≡◌, ℕ, List, [], ◌∷◌, ◌++◌, map
 use Rattle.fir_base.specs.Lists.{Distinct}
 use Rattle.fir_ast.specs.declared.fault.FirFault.{FirFault}
 use Rattle.fir_ast.specs.declared.fault.FirFault.TheVariants.{Loop}
-use Rattle.fir_meaning.specs.LeafCircuits.{LeafCircuit}
+use Rattle.fir_meaning.specs.working.LeafCircuits.{LeafCircuit}
 use Rattle.fir_meaning.specs.working.LeafNames.{path_of_leaf, place_of_leaf}
 use Rattle.fir_meaning.specs.working.CircuitDependence.{IsWalk}
 

@@ -8,7 +8,8 @@ use Rattle.fir_meaning.specs.working.TypeNumbers.{leaf_number}
 use Rattle.fir_meaning.specs.Equivalence.{fitting_ground, is_connectable, is_partly_connectable}
 use Rattle.fir_meaning.specs.ConnectPairs.{Pair, pairs, partial_pairs}
 use Rattle.fir_meaning.specs.Mentions.{type_mentions}
-use Rattle.fir_meaning.specs.NameGroups.{HasNames, faults_in}
+use Rattle.fir_meaning.specs.working.NameGroups.{HasNames}
+use Rattle.fir_meaning.specs.NameGroups.{faults_in}
 use Rattle.fir_meaning.specs.TypeGroup.{type_faults}
 use Rattle.fir_meaning.specs.working.WellTyped.{IsWellTyped}
 

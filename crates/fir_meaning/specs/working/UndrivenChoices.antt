@@ -5,9 +5,9 @@ use Rattle.std.specs.Prelude.{◌≡◌, ℕ, ◌+◌, List, [], ◌∷◌, ◌+
 use Rattle.fir_ast.specs.declared.fault.Outcome.{Outcome}
 use Rattle.fir_ast.specs.declared.fault.Outcome.TheVariants as outcome
 use Rattle.fir_meaning.specs.Outcomes.{ComesFirst, told_once, write_told}
-use Rattle.fir_meaning.specs.TermReads.{reached, is_picked, is_among}
-use Rattle.fir_meaning.specs.LeafBlocks.{LeafStatement, LeafBlock, drive, when, instance, done, then}
-use Rattle.fir_meaning.specs.Choices.{Choice, first_part, second_part, last_all}
+use Rattle.fir_meaning.specs.working.TermReads.{reached, is_picked, is_among}
+use Rattle.fir_meaning.specs.working.LeafBlocks.{LeafStatement, LeafBlock, drive, when, instance, done, then}
+use Rattle.fir_meaning.specs.working.Choices.{Choice, first_part, second_part, last_all}
 
 -- whether some statement in it drives the leaf
 abbrev mutual

@@ -5,9 +5,9 @@ use Rattle.fir_ast.specs.declared.fault.FirFault.{FirFault}
 use Rattle.fir_ast.specs.declared.fault.FirFault.TheVariants.{Undriven}
 use Rattle.fir_ast.specs.declared.fault.Outcome.{Outcome}
 use Rattle.fir_meaning.specs.LeafPaths.{path_text}
-use Rattle.fir_meaning.specs.Choices.{Choice}
+use Rattle.fir_meaning.specs.working.Choices.{Choice}
 use Rattle.fir_meaning.specs.working.UndrivenChoices.{IsFirstUndriven, IsUndriven}
-use Rattle.fir_meaning.specs.LeafModules.{LeafModule, depth_at, is_sink, leaf_at, role_at}
+use Rattle.fir_meaning.specs.working.LeafModules.{LeafModule, depth_at, is_sink, leaf_at, role_at}
 
 -- the fault of the leaf of a number
 pub record ShowsUndriven (m : LeafModule) (leaf : ℕ) (f : FirFault) : Type 0 where

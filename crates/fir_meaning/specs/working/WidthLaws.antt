@@ -17,7 +17,7 @@ use Rattle.fir_meaning.specs.WidthRules.{rules, AreWidths}
 use Rattle.fir_meaning.specs.OverFaults.{over_faults}
 use Rattle.fir_meaning.specs.LegalFaults.{legal_faults}
 use Rattle.fir_meaning.specs.ResetWalks.{ShowsResets}
-use Rattle.fir_meaning.specs.WidthGroups.{IsInferred}
+use Rattle.fir_meaning.specs.working.WidthGroups.{IsInferred}
 use Rattle.fir_meaning.specs.working.InferredTypes.{inferred}
 
 -- wider unknowns never make an expression narrower

@@ -1,6 +1,6 @@
 -- What bounds of conditions stand for: that an index is a number, and that an earlier condition is met.
 use Rattle.std.specs.Prelude.{ℕ, List, Option, Some, None}
-use Rattle.fir_meaning.specs.TermValues.{Holds}
+use Rattle.fir_meaning.specs.working.TermValues.{Holds}
 use Rattle.fir_net.specs.declared.node.Node.{Node}
 use Rattle.fir_connect.specs.working.Lowered.{both, is_number, unsigned_value}
 use Rattle.fir_connect.specs.working.NetTerms.{NetTerm}

@@ -1,6 +1,6 @@
 -- What bounds of elements stand for that dynamic indices may pick.
 use Rattle.std.specs.Prelude.{◌≡◌, ℕ, List, [], ◌∷◌, ◌++◌, length, Option}
-use Rattle.fir_meaning.specs.TermValues.{Holds}
+use Rattle.fir_meaning.specs.working.TermValues.{Holds}
 use Rattle.fir_net.specs.declared.node.Node.{Node}
 use Rattle.fir_connect.specs.working.Lowered.{Candidate}
 use Rattle.fir_connect.specs.working.NetTerms.{NetTerm}

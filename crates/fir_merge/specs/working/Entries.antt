@@ -1,7 +1,7 @@
 -- What the bounds of a module's nodes stand for: that of a term for what the term makes, and that of an index for what its expression makes.
 use Rattle.std.specs.Prelude.{◌≡◌, ℕ, List, [], ◌∷◌, slice_get, Option, Some}
-use Rattle.fir_meaning.specs.TermValues.{Holds}
-use Rattle.fir_meaning.specs.Terms.{Picks, no_picks, pick}
+use Rattle.fir_meaning.specs.working.TermValues.{Holds}
+use Rattle.fir_meaning.specs.working.Terms.{Picks, no_picks, pick}
 use Rattle.fir_leaf.specs.declared.node.Node.{Node as LeafNode}
 use Rattle.fir_leaf.specs.declared.node.Node.TheVariants as node
 use Rattle.fir_leaf.specs.working.Nodes.{Entry, a_term, some_picks}

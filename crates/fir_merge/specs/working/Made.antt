@@ -5,9 +5,9 @@ use Rattle.fir_bits.specs.Forms.{no_type}
 use Rattle.fir_bits.specs.declared.operators.PrimOp.TheVariants.{Orr}
 use Rattle.fir_bits.specs.declared.types.NumTy.{NumTy}
 use Rattle.fir_meaning.specs.Values.{literal_value, literal_type}
-use Rattle.fir_meaning.specs.TermValues.{Holds}
-use Rattle.fir_meaning.specs.Terms.{Term, Picks, Terms, zeros, absent, literal, read, no_picks, pick, validif}
-use Rattle.fir_meaning.specs.Terms as over
+use Rattle.fir_meaning.specs.working.TermValues.{Holds}
+use Rattle.fir_meaning.specs.working.Terms.{Term, Picks, Terms, zeros, absent, literal, read, no_picks, pick, validif}
+use Rattle.fir_meaning.specs.working.Terms as over
 use Rattle.fir_connect.specs.working.Lowered.{Candidate, both, is_number, result, without, zero_of}
 use Rattle.fir_connect.specs.working.NetTerms.{NetTerm, NetTerms, value, leaf, mux, no_terms, term, choice, term_type}
 

@@ -3,7 +3,7 @@ use Rattle.std.specs.Prelude.{List}
 use Rattle.fir_bits.specs.Forms.{no_type}
 use Rattle.fir_ast.specs.declared.expressions.Literal.{Literal}
 use Rattle.fir_meaning.specs.Values.{literal_value, literal_type}
-use Rattle.fir_meaning.specs.TermValues.{Holds}
+use Rattle.fir_meaning.specs.working.TermValues.{Holds}
 use Rattle.fir_net.specs.declared.node.Node.{Node}
 use Rattle.fir_connect.specs.working.Lowered.{zero_of}
 use Rattle.fir_connect.specs.working.NetTerms.{NetTerm, choice, term_type, value}

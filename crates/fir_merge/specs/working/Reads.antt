@@ -3,8 +3,8 @@ use Rattle.std.specs.Prelude.{ℕ, Bool, List, []}
 use Rattle.fir_bits.specs.Forms.{no_type}
 use Rattle.fir_bits.specs.declared.operators.PrimOp.TheVariants.{Orr}
 use Rattle.fir_bits.specs.declared.types.NumTy.{NumTy}
-use Rattle.fir_meaning.specs.TermValues.{Holds}
-use Rattle.fir_meaning.specs.Terms.{Picks, absent, read}
+use Rattle.fir_meaning.specs.working.TermValues.{Holds}
+use Rattle.fir_meaning.specs.working.Terms.{Picks, absent, read}
 use Rattle.fir_net.specs.declared.node.Node.{Node}
 use Rattle.fir_connect.specs.working.Lowered.{Candidate, result, without, zero_of}
 use Rattle.fir_connect.specs.working.NetTerms.{NetTerm, no_terms, term}

@@ -2,8 +2,8 @@
 use Rattle.std.specs.Prelude.{◌≡◌, ℕ, ◌<◌, List, ◌∷◌, Option}
 use Rattle.fir_leaf.specs.declared.node.Node.{Node as LeafNode}
 use Rattle.fir_leaf.specs.working.Nodes.{entries, picks_at}
-use Rattle.fir_meaning.specs.TermValues.{Holds}
-use Rattle.fir_meaning.specs.Terms.{no_picks}
+use Rattle.fir_meaning.specs.working.TermValues.{Holds}
+use Rattle.fir_meaning.specs.working.Terms.{no_picks}
 use Rattle.fir_driven.specs.working.Indices.{nodes_up_to}
 use Rattle.fir_net.specs.declared.node.Node.{Node}
 use Rattle.fir_merge.specs.declared.bound.Bound.{Bound}

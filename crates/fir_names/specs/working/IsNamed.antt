@@ -8,7 +8,7 @@ use Rattle.fir_ast.specs.Circuits.{CircuitTree}
 use Rattle.fir_pass.specs.Faults.{fault_of}
 use Rattle.fir_pass.specs.Law.{IsFirst}
 use Rattle.fir_meaning.specs.Mentions.{module_names}
-use Rattle.fir_meaning.specs.NameGroups.{HasNames}
+use Rattle.fir_meaning.specs.working.NameGroups.{HasNames}
 use Rattle.fir_meaning.specs.SourceMeaning.{circuit_meaning}
 use Rattle.fir_names.specs.working.ModuleOrder.{IsModuleOrder}
 use Rattle.fir_names.specs.declared.names.Names.{Names}

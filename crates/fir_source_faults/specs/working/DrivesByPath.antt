@@ -3,11 +3,12 @@
 use Rattle.std.specs.Prelude.{◌≡◌, ℕ, ◌<◌, [], length}
 use Rattle.fir_base.specs.Lists.{In}
 use Rattle.fir_ast.specs.Circuits.{CircuitTree}
-use Rattle.fir_meaning.specs.Choices as over
-use Rattle.fir_meaning.specs.Choices.{Live}
-use Rattle.fir_meaning.specs.LeafModules.{depth_at}
-use Rattle.fir_meaning.specs.LeafedModules.{Scene, leafed_module, module_leaves}
-use Rattle.fir_meaning.specs.NameGroups.{HasNames}
+use Rattle.fir_meaning.specs.working.Choices as over
+use Rattle.fir_meaning.specs.working.Choices.{Live}
+use Rattle.fir_meaning.specs.working.LeafModules.{depth_at}
+use Rattle.fir_meaning.specs.ModuleScenes.{Scene}
+use Rattle.fir_meaning.specs.working.LeafedModules.{leafed_module, module_leaves}
+use Rattle.fir_meaning.specs.working.NameGroups.{HasNames}
 use Rattle.fir_meaning.specs.SizedDeclarations.{numbered_modules}
 use Rattle.fir_meaning.specs.SourceChoices.{Choice, IsLive, live_reads}
 use Rattle.fir_meaning.specs.SourceDrives.{Drive, module_drives}

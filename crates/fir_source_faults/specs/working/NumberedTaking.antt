@@ -3,11 +3,13 @@
 use Rattle.std.specs.Prelude.{◌≡◌, ℕ, List, [], map, Bool, true, false, ◌&&◌, ◌||◌, Option, Some, None}
 use Rattle.fir_base.specs.Lists.{In}
 use Rattle.fir_ast.specs.Circuits.{CircuitTree}
-use Rattle.fir_meaning.specs.LeafModules.{LeafDeclared, LeafModule, LeafReset, Role, register, role_at}
-use Rattle.fir_meaning.specs.LeafedModules.{Scene, leafed_module}
-use Rattle.fir_meaning.specs.NameGroups.{HasNames}
+use Rattle.fir_meaning.specs.working.LeafModules.{LeafDeclared, LeafModule, LeafReset, Role, register, role_at}
+use Rattle.fir_meaning.specs.ModuleScenes.{Scene}
+use Rattle.fir_meaning.specs.working.LeafedModules.{leafed_module}
+use Rattle.fir_meaning.specs.working.NameGroups.{HasNames}
 use Rattle.fir_meaning.specs.SizedDeclarations.{numbered_modules}
-use Rattle.fir_meaning.specs.StateWalks.{has_bits, is_state, numbers_where}
+use Rattle.fir_meaning.specs.LeafTypes.{has_bits}
+use Rattle.fir_meaning.specs.working.StateWalks.{is_state, numbers_where}
 use Rattle.fir_meaning.specs.TypeGroup.{type_faults}
 use Rattle.fir_meaning.specs.working.UndrivenChoices.{drives_any}
 use Rattle.fir_meaning.specs.TakingRegisters as tree

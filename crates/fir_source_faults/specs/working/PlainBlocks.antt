@@ -5,17 +5,19 @@ use Rattle.fir_base.specs.Lists.{In}
 use Rattle.fir_ast.specs.Circuits.{CircuitTree}
 use Rattle.fir_ast.specs.Statements.{Block, Statement, done, instance, memory, register, then, when}
 use Rattle.fir_pass.specs.Groups.{IsClear}
-use Rattle.fir_meaning.specs.LeafModules.{LeafModule, LeafReset, a_clock, leaf_at, role_at, source}
-use Rattle.fir_meaning.specs.LeafModules as over
-use Rattle.fir_meaning.specs.LeafedModules.{Scene, leafed_module}
-use Rattle.fir_meaning.specs.NameGroups.{HasNames}
+use Rattle.fir_meaning.specs.working.LeafModules.{LeafModule, LeafReset, leaf_at, role_at, source}
+use Rattle.fir_meaning.specs.LeafTypes.{a_clock}
+use Rattle.fir_meaning.specs.working.LeafModules as over
+use Rattle.fir_meaning.specs.ModuleScenes.{Scene}
+use Rattle.fir_meaning.specs.working.LeafedModules.{leafed_module}
+use Rattle.fir_meaning.specs.working.NameGroups.{HasNames}
 use Rattle.fir_meaning.specs.Scenes.{IsSceneOf}
 use Rattle.fir_meaning.specs.SizedDeclarations.{numbered_modules}
 use Rattle.fir_meaning.specs.SourceClocks.{clock_group, picking_places}
 use Rattle.fir_meaning.specs.SourceDesigns.{instances_of_block}
 use Rattle.fir_meaning.specs.SourceInits.{init_group}
 use Rattle.fir_meaning.specs.SourceMemoryClocks.{memory_clock_group}
-use Rattle.fir_meaning.specs.Terms.{Term}
+use Rattle.fir_meaning.specs.working.Terms.{Term}
 use Rattle.fir_meaning.specs.TypeGroup.{type_faults}
 use Rattle.fir_source_faults.specs.working.PlainScenes.{IsPlainScene}
 

@@ -6,9 +6,9 @@ use Rattle.fir_ast.specs.declared.fault.FirFault.{FirFault}
 use Rattle.fir_ast.specs.declared.place.Place.{Place}
 use Rattle.fir_ast.specs.Expressions.{Expression}
 use Rattle.fir_ast.specs.Statements.{MemoryPart, PlacedName, memory}
-use Rattle.fir_meaning.specs.LeafModules.{a_clock}
+use Rattle.fir_meaning.specs.LeafTypes.{a_clock}
 use Rattle.fir_meaning.specs.LeafPaths.{LeafPath}
-use Rattle.fir_meaning.specs.LeafedModules.{Scene}
+use Rattle.fir_meaning.specs.ModuleScenes.{Scene}
 use Rattle.fir_meaning.specs.SourceCircuits.{PlacedLeaf, all_leaves}
 use Rattle.fir_meaning.specs.SourceClocks.{ShowsClockFault, picking_places}
 use Rattle.fir_meaning.specs.SourceDesigns.{SourceDesign, made_of, no_instances}

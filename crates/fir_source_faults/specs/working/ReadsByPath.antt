@@ -8,20 +8,21 @@ use Rattle.fir_ast.specs.Expressions.{Expression}
 use Rattle.fir_ast.specs.Statements.{Sink}
 use Rattle.fir_ast.specs.Types.{DataType}
 use Rattle.fir_meaning.specs.ComponentTypes.{typed_scope}
-use Rattle.fir_meaning.specs.LeafModules.{leaf_at}
+use Rattle.fir_meaning.specs.working.LeafModules.{leaf_at}
 use Rattle.fir_meaning.specs.LeafPaths.{LeafPath}
-use Rattle.fir_meaning.specs.Leafed.{target_of, terms}
-use Rattle.fir_meaning.specs.LeafedBlocks.{term_at}
-use Rattle.fir_meaning.specs.LeafedModules.{Scene, module_leaves}
-use Rattle.fir_meaning.specs.NameGroups.{HasNames}
+use Rattle.fir_meaning.specs.working.Leafed.{target_of, terms}
+use Rattle.fir_meaning.specs.working.LeafedBlocks.{term_at}
+use Rattle.fir_meaning.specs.ModuleScenes.{Scene}
+use Rattle.fir_meaning.specs.working.LeafedModules.{module_leaves}
+use Rattle.fir_meaning.specs.working.NameGroups.{HasNames}
 use Rattle.fir_meaning.specs.Reaching.{Reached}
 use Rattle.fir_meaning.specs.ResetItems.{has_access}
 use Rattle.fir_meaning.specs.SizedDeclarations.{numbered_modules}
 use Rattle.fir_meaning.specs.SourceReads as tree
 use Rattle.fir_meaning.specs.SourceReads.{leaves_named}
-use Rattle.fir_meaning.specs.Targets.{Target}
-use Rattle.fir_meaning.specs.TermReads.{is_picked, picks_read, reached, reads}
-use Rattle.fir_meaning.specs.Terms.{Picks}
+use Rattle.fir_meaning.specs.working.Targets.{Target}
+use Rattle.fir_meaning.specs.working.TermReads.{is_picked, picks_read, reached, reads}
+use Rattle.fir_meaning.specs.working.Terms.{Picks}
 use Rattle.fir_meaning.specs.TypeGroup.{type_faults}
 use Rattle.fir_meaning.specs.TypeLeaves.{TypeLeaf, type_leaves}
 use Rattle.fir_meaning.specs.TypedScopes.{TypedScope}

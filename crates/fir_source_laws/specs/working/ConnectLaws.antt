@@ -10,8 +10,8 @@ use Rattle.fir_meaning.specs.LeafPaths.{LeafPath}
 use Rattle.fir_meaning.specs.TypeGroup.{scope_at}
 use Rattle.fir_meaning.specs.Values.{fit}
 use Rattle.fir_meaning.specs.Visibility.{Before, behind, behind_block}
-use Rattle.fir_meaning.specs.DesignStores.{DesignStore}
-use Rattle.fir_meaning.specs.LeafedModules.{Scene, behind_all_ports}
+use Rattle.fir_meaning.specs.PathStores.{DesignStore}
+use Rattle.fir_meaning.specs.ModuleScenes.{Scene, behind_all_ports}
 use Rattle.fir_meaning.specs.TreeValues.{TypesByPath, ValuesByPath, aim_of, value}
 use Rattle.fir_meaning.specs.SourceAllows.{stored_or_shown}
 use Rattle.fir_meaning.specs.SourceDesigns.{Instances, SourceDesign, made_of}

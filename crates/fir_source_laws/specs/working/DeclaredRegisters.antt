@@ -10,7 +10,8 @@ use Rattle.fir_ast.specs.Statements.{PlacedName, Reset}
 use Rattle.fir_ast.specs.Types.{DataType}
 use Rattle.fir_meaning.specs.Components as component
 use Rattle.fir_meaning.specs.LeafPaths.{LeafPath, named}
-use Rattle.fir_meaning.specs.LeafedModules.{Scene, is_async_reset, scope_before}
+use Rattle.fir_meaning.specs.ModuleScenes.{Scene, scope_before}
+use Rattle.fir_meaning.specs.AsyncResets.{is_async_reset}
 use Rattle.fir_meaning.specs.SourceRoles.{SourceLeaf, SourceReset, register, sources_in}
 use Rattle.fir_meaning.specs.Visibility.{Before, with_declaration}
 

@@ -8,8 +8,8 @@ use Rattle.fir_ast.specs.declared.place.Place.{Place}
 use Rattle.fir_ast.specs.Statements.{PlacedName, instance}
 use Rattle.fir_meaning.specs.LeafPaths.{LeafPath, named}
 use Rattle.fir_meaning.specs.Visibility.{Before}
-use Rattle.fir_meaning.specs.DesignStores.{DesignStore}
-use Rattle.fir_meaning.specs.LeafedModules.{Scene}
+use Rattle.fir_meaning.specs.PathStores.{DesignStore}
+use Rattle.fir_meaning.specs.ModuleScenes.{Scene}
 use Rattle.fir_meaning.specs.SourceCircuits.{PlacedArray, PlacedLeaf, array_order_of_design, array_path, arrays_of_design, leaf_path, leaves_of_design, words_of_design}
 use Rattle.fir_meaning.specs.SourceDesigns.{Instances, SourceDesign, held, no_instances}
 use Rattle.fir_meaning.specs.SourceStores.{Gifts, exec_design, exec_instances}

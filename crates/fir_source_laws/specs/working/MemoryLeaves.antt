@@ -4,10 +4,10 @@ use Rattle.fir_base.specs.Lists.{Distinct, In}
 use Rattle.fir_bits.specs.declared.types.NumTy.{NumTy}
 use Rattle.fir_ast.specs.declared.place.Place.{Place}
 use Rattle.fir_ast.specs.Statements.{MemoryPart, PlacedName, memory}
-use Rattle.fir_meaning.specs.LeafMemories.{PortKind, reads, reads_and_writes, writes}
-use Rattle.fir_meaning.specs.LeafModules.{number}
+use Rattle.fir_meaning.specs.MemoryPorts.{PortKind, reads, reads_and_writes, writes}
+use Rattle.fir_meaning.specs.LeafTypes.{number}
 use Rattle.fir_meaning.specs.LeafPaths.{LeafPath, named}
-use Rattle.fir_meaning.specs.LeafedModules.{Scene}
+use Rattle.fir_meaning.specs.ModuleScenes.{Scene}
 use Rattle.fir_meaning.specs.MemoryFaults.{read_latency_of_part}
 use Rattle.fir_meaning.specs.MemoryTypes.{depth_of_part}
 use Rattle.fir_meaning.specs.SourceCircuits.{PlacedArray, PlacedLeaf, all_arrays, all_leaves, array_path, paths_of, state_arrays, state_words}

@@ -3,7 +3,7 @@
 -- and a readwriter's mode is 0, at an address below the depth.
 use Rattle.std.specs.Prelude.{◌≡◌, ℕ, ◌<◌, ◌≤◌, List, [], ◌∷◌, ◌++◌, codes, ◌⊎◌, Option}
 use Rattle.fir_base.specs.Lists.{In}
-use Rattle.fir_meaning.specs.LeafMemories.{PortKind, reads, reads_and_writes, writes}
+use Rattle.fir_meaning.specs.MemoryPorts.{PortKind, reads, reads_and_writes, writes}
 use Rattle.fir_meaning.specs.LeafPaths.{LeafPath, named}
 use Rattle.fir_meaning.specs.SourceRoles.{NamedPort}
 use Rattle.fir_meaning.specs.SourceValues.{PathEnv}

@@ -7,7 +7,7 @@ use Rattle.fir_ast.specs.Circuits.{CircuitTree, ModuleTree}
 use Rattle.fir_meaning.specs.ComponentTypes.{find_module}
 use Rattle.fir_meaning.specs.Elaborated.{AreScenes, IsSourceOf}
 use Rattle.fir_meaning.specs.LeafPaths.{LeafPath}
-use Rattle.fir_meaning.specs.LeafedModules.{Scene}
+use Rattle.fir_meaning.specs.ModuleScenes.{Scene}
 use Rattle.fir_meaning.specs.SourceCircuits.{PlacedLeaf, leaves_of_design}
 use Rattle.fir_meaning.specs.SourceDesigns.{InstanceOf, Instances, IsSourceDesignOf, SourceDesign, instances_of_block, made_of}
 use Rattle.fir_meaning.specs.SourceRoles.{source}

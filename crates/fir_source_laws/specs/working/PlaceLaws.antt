@@ -3,7 +3,7 @@
 -- below that path, and by what was stored there; and it is the same for every instance of the module.
 use Rattle.std.specs.Prelude.{◌≡◌, ℕ, ◌++◌, Option}
 use Rattle.fir_meaning.specs.LeafPaths.{LeafPath}
-use Rattle.fir_meaning.specs.DesignStores.{DesignStore}
+use Rattle.fir_meaning.specs.PathStores.{DesignStore}
 use Rattle.fir_meaning.specs.SourceDesigns.{SourceDesign}
 use Rattle.fir_meaning.specs.SourceStores.{clock_gifts, exec_design, number_gifts}
 use Rattle.fir_meaning.specs.TreeValues.{TypesByPath, ValuesByPath}

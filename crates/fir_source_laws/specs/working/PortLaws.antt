@@ -17,8 +17,8 @@ use Rattle.fir_meaning.specs.LeafPaths.{LeafPath, named}
 use Rattle.fir_meaning.specs.TypeGroup.{scope_at}
 use Rattle.fir_meaning.specs.TypedScopes.{TypedScope}
 use Rattle.fir_meaning.specs.Visibility.{Before}
-use Rattle.fir_meaning.specs.LeafModules.{number}
-use Rattle.fir_meaning.specs.LeafedModules.{behind_all_ports}
+use Rattle.fir_meaning.specs.LeafTypes.{number}
+use Rattle.fir_meaning.specs.ModuleScenes.{behind_all_ports}
 use Rattle.fir_meaning.specs.TreeValues.{TypesByPath, ValuesByPath, aim_of, leaf_where, value}
 use Rattle.fir_meaning.specs.SourceAllows.{Settled}
 use Rattle.fir_meaning.specs.SourceCircuits.{PlacedLeaf, all_leaves, leaf_path}

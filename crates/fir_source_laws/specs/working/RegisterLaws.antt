@@ -6,7 +6,7 @@ use Rattle.fir_base.specs.Lists.{Distinct, In}
 use Rattle.fir_base.specs.Ticks.{Tick}
 use Rattle.fir_bits.specs.declared.types.NumTy.{NumTy}
 use Rattle.fir_ast.specs.Expressions.{Expression}
-use Rattle.fir_meaning.specs.LeafModules.{number}
+use Rattle.fir_meaning.specs.LeafTypes.{number}
 use Rattle.fir_meaning.specs.LeafPaths.{LeafPath}
 use Rattle.fir_meaning.specs.TypedScopes.{TypedScope}
 use Rattle.fir_meaning.specs.Values.{fit}

@@ -16,12 +16,12 @@ use Rattle.fir_meaning.specs.TypeLeaves.{TypeLeaf, type_leaves}
 use Rattle.fir_meaning.specs.TypedScopes.{TypedScope}
 use Rattle.fir_meaning.specs.Values.{is_high}
 use Rattle.fir_meaning.specs.Visibility.{Before, opened, reopened, behind, behind_block}
-use Rattle.fir_meaning.specs.DesignStores.{DesignStore}
-use Rattle.fir_meaning.specs.LeafBlocks.{counts}
-use Rattle.fir_meaning.specs.LeafedBlocks.{type_where}
-use Rattle.fir_meaning.specs.LeafedModules.{Scene, behind_all_ports}
+use Rattle.fir_meaning.specs.PathStores.{DesignStore}
+use Rattle.fir_meaning.specs.CountedWhens.{counts}
+use Rattle.fir_meaning.specs.FoundTypes.{type_where}
+use Rattle.fir_meaning.specs.ModuleScenes.{Scene, behind_all_ports}
 use Rattle.fir_meaning.specs.TreeAims.{Aim}
-use Rattle.fir_meaning.specs.TreeStores.{may_be_driven}
+use Rattle.fir_meaning.specs.SamePaths.{may_be_driven}
 use Rattle.fir_meaning.specs.TreeValues.{TypesByPath, ValuesByPath, aim_of, aim_read, leaf_where, value}
 use Rattle.fir_meaning.specs.SourceDesigns.{Instances, SourceDesign, held, made_of, no_instances}
 use Rattle.fir_meaning.specs.SourceFacts.{source_depth, source_may_drive}

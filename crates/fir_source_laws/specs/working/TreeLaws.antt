@@ -8,9 +8,9 @@ use Rattle.fir_ast.specs.Circuits.{ModuleTree}
 use Rattle.fir_ast.specs.Statements.{Block, PlacedName, Statement, done, instance, then, when}
 use Rattle.fir_meaning.specs.ComponentTypes.{find_module, instance_bundle}
 use Rattle.fir_meaning.specs.Components as component
-use Rattle.fir_meaning.specs.LeafModules.{LeafType}
+use Rattle.fir_meaning.specs.LeafTypes.{LeafType}
 use Rattle.fir_meaning.specs.LeafPaths.{LeafPath, named}
-use Rattle.fir_meaning.specs.LeafedModules.{Scene, behind_all_ports, held_by_declared}
+use Rattle.fir_meaning.specs.ModuleScenes.{Scene, behind_all_ports, held_by_declared}
 use Rattle.fir_meaning.specs.SourceCircuits.{PlacedArray, PlacedLeaf, array_order_of_design, arrays_of_design, leaves_of_design, words_of_design}
 use Rattle.fir_meaning.specs.SourceDesigns.{Instances, SourceDesign, made_of}
 use Rattle.fir_meaning.specs.SourceRoles.{sink}

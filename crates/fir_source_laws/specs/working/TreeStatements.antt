@@ -4,8 +4,8 @@ use Rattle.std.specs.Prelude.{◌≡◌, List, ◌++◌, Bool}
 use Rattle.fir_ast.specs.Statements.{Block, Statement}
 use Rattle.fir_meaning.specs.LeafPaths.{LeafPath}
 use Rattle.fir_meaning.specs.Visibility.{Before}
-use Rattle.fir_meaning.specs.DesignStores.{DesignStore}
-use Rattle.fir_meaning.specs.LeafedModules.{Scene}
+use Rattle.fir_meaning.specs.PathStores.{DesignStore}
+use Rattle.fir_meaning.specs.ModuleScenes.{Scene}
 use Rattle.fir_meaning.specs.SourceDesigns.{Instances}
 use Rattle.fir_meaning.specs.SourceStores.{Gifts, below, exec_instances, exec_source, exec_source_all}
 use Rattle.fir_meaning.specs.TreeValues.{TypesByPath, ValuesByPath}

@@ -7,7 +7,7 @@ use Rattle.fir_type_table.specs.declared.entry.Member.{Member}
 use Rattle.fir_type_table.specs.declared.entry.Entry.{Entry}
 use Rattle.fir_type_table.specs.declared.readers.FieldFound.{FieldFound as FoundByCode}
 use Rattle.fir_type_table.specs.working.Saturated.{saturated}
-use Rattle.fir_meaning.specs.FieldSizes.{leaves_before, shared_before}
+use Rattle.fir_meaning.specs.working.FieldSizes.{leaves_before, shared_before}
 use Rattle.fir_type_table.specs.working.Tables.{type_at, types_of}
 
 abbrev pub found_of : List DataType → FoundByCode → FieldFound

@@ -10,7 +10,7 @@ use Rattle.fir_meaning.specs.TypeLeaves.{leaf_count}
 use Rattle.fir_meaning.specs.TypedScopes.{Known, TypedScope, known}
 use Rattle.fir_meaning.specs.Reaching.{Reached, field_of_type, vector_of_type}
 use Rattle.fir_meaning.specs.ExpressionTypes.{expression_type, reaching}
-use Rattle.fir_meaning.specs.FieldSizes.{leaves_before, shared_before}
+use Rattle.fir_meaning.specs.working.FieldSizes.{leaves_before, shared_before}
 
 -- elements of which an index picks one: how many leaves each has, and how many there are
 pub record Pick : Type 0 where

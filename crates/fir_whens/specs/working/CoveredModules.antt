@@ -1,7 +1,7 @@
 -- The leaves of a module of the code that statements must drive, and those that are covered.
 use Rattle.std.specs.Prelude.{◌≡◌, ℕ, ◌<◌, List, map, length, Bool, true, false, Option, Some, None}
-use Rattle.fir_meaning.specs.Choices.{covers_all}
-use Rattle.fir_meaning.specs.LeafModules.{is_sink}
+use Rattle.fir_meaning.specs.working.Choices.{covers_all}
+use Rattle.fir_meaning.specs.working.LeafModules.{is_sink}
 use Rattle.fir_leaf.specs.working.NodeBlocks.{block_in}
 use Rattle.fir_leaf_circuit.specs.declared.leaf.Leaf.{Leaf}
 use Rattle.fir_leaf_circuit.specs.declared.leaf.LeafRole.{LeafRole}

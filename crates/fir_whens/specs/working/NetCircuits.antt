@@ -1,8 +1,9 @@
 -- The nets of the modules of a circuit, and what they give its leaves.
 use Rattle.std.specs.Prelude.{◌≡◌, ℕ, ◌^◌, ◌<◌, List, length, Option, Some, slice_get}
 use Rattle.fir_ast.specs.Circuits.{CircuitTree}
-use Rattle.fir_meaning.specs.LeafModules.{role_at}
-use Rattle.fir_meaning.specs.LeafedModules.{Scene, leafed_module}
+use Rattle.fir_meaning.specs.working.LeafModules.{role_at}
+use Rattle.fir_meaning.specs.ModuleScenes.{Scene}
+use Rattle.fir_meaning.specs.working.LeafedModules.{leafed_module}
 use Rattle.fir_meaning.specs.Scenes.{IsSceneOf}
 use Rattle.fir_connect.specs.working.NetRoles.{net_role_at, net_types}
 use Rattle.fir_connect.specs.working.RoleLaws.{ReadsTheSame, RolesGive}

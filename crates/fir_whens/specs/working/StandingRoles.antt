@@ -9,9 +9,9 @@ use Rattle.fir_leaf_circuit.specs.declared.leaf.LeafRole.TheVariants as leafed
 use Rattle.fir_leaf_circuit.specs.declared.leaf.ResetRole.{ResetRole}
 use Rattle.fir_leaf_circuit.specs.working.Seen.{reading_seen, role_seen}
 use Rattle.fir_leaf_types.specs.working.TypedModules.{IsRoleTyped}
-use Rattle.fir_meaning.specs.LeafBlocks.{LeafBlock}
-use Rattle.fir_meaning.specs.LeafModules.{LeafType}
-use Rattle.fir_meaning.specs.TermValues.{Holds}
+use Rattle.fir_meaning.specs.working.LeafBlocks.{LeafBlock}
+use Rattle.fir_meaning.specs.LeafTypes.{LeafType}
+use Rattle.fir_meaning.specs.working.TermValues.{Holds}
 use Rattle.fir_net.specs.declared.node.Node.{Node}
 use Rattle.fir_connect.specs.working.Drivers.{driver_of}
 use Rattle.fir_connect.specs.working.Lowered.{zero_of}

@@ -1,6 +1,6 @@
 use Rattle.std.proofs.Common.{Some, None, subst}
 use Rattle.fir_ast.specs.working.Views.{circuit_of}
-use Rattle.fir_meaning.specs.Scenes.{HasScenes}
+use Rattle.fir_meaning.specs.working.Scenes.{HasScenes}
 use Rattle.fir_lack.specs.working.Lacks.{AreClocksClear, IsLack}
 use Rattle.fir_outcome.specs.Refusals.{RefusedFor}
 use Rattle.fir_compile.proofs.Taken.{lacks_form, shows_later, compiles}

@@ -1,7 +1,7 @@
 use Rattle.std.proofs.Common.{◌≡◌, ℕ, List, ◌||◌, nat_eq, refl, sym, ap, ◌∙◌}
 use Rattle.std.specs.List.{list_any}
 use Rattle.std.proofs.lemmas.List.Recursion.{same_from_clauses}
-use Rattle.fir_meaning.specs.TermReads.{is_among}
+use Rattle.fir_meaning.specs.working.TermReads.{is_among}
 use Rattle.fir_meaning.specs.working.UndrivenChoices.{drives}
 use Rattle.fir_driven.proofs.LeafViews.{drive_view}
 use Rattle.fir_driven.proofs.choice.may_drive.Goals as goal

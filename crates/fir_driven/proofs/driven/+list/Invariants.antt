@@ -1,5 +1,5 @@
 use Rattle.std.proofs.Common.{◌≡◌, ℕ, ◌||◌, take}
-use Rattle.fir_meaning.specs.TermReads.{is_among}
+use Rattle.fir_meaning.specs.working.TermReads.{is_among}
 use Rattle.fir_meaning.specs.working.UndrivenChoices.{drives_any}
 use Rattle.fir_leaf.specs.working.NodeBlocks.{block_in}
 use Rattle.fir_driven.proofs.driven.+list.Given as goal

@@ -1,5 +1,5 @@
 use Rattle.std.proofs.Common.{◌&&◌, ◌||◌, nat_lt, take}
-use Rattle.fir_meaning.specs.TermReads.{is_among}
+use Rattle.fir_meaning.specs.working.TermReads.{is_among}
 use Rattle.fir_driven.specs.working.Covering.{depth_in}
 use Rattle.fir_driven.specs.working.FlagChanges.{FlagsBecome}
 use Rattle.fir_driven.proofs.flags.flag_inner.Given as goal

@@ -1,5 +1,5 @@
 use Rattle.std.proofs.Common.{◌≡◌, ℕ, ◌+◌, ◌++◌}
-use Rattle.fir_meaning.specs.TermReads.{multiples}
+use Rattle.fir_meaning.specs.working.TermReads.{multiples}
 use Rattle.fir_driven.proofs.reached.push_elements.Given as goal
 
 abbrev pub invariant-loop : goal.invariant-loop

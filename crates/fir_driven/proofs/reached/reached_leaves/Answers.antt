@@ -1,6 +1,6 @@
 use Rattle.std.proofs.Common.{sym, ap, ◌∙◌}
 use Rattle.fir_leaf.specs.working.Nodes.{entries, picks_at}
-use Rattle.fir_meaning.specs.TermReads.{reached}
+use Rattle.fir_meaning.specs.working.TermReads.{reached}
 use Rattle.fir_driven.specs.working.Indices.{elements_behind, leaves_behind}
 use Rattle.fir_driven.proofs.IndexElements.{behind_index, reached_behind}
 use Rattle.fir_driven.proofs.reached.reached_leaves.Goals as goal

@@ -1,5 +1,5 @@
 use Rattle.std.proofs.Common.{◌≡◌, length}
-use Rattle.fir_meaning.specs.TermReads.{reached}
+use Rattle.fir_meaning.specs.working.TermReads.{reached}
 use Rattle.fir_leaf.specs.working.Nodes.{entries, picks_at}
 use Rattle.fir_driven.specs.working.Indices.{leaves_behind, nodes_up_to}
 use Rattle.fir_driven.proofs.reached.reached_leaves.Given as goal

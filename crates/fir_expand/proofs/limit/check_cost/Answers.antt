@@ -3,7 +3,7 @@ use Rattle.fir_ast.specs.declared.fault.FirFault.TheVariants as fault
 use Rattle.fir_ast.specs.working.Views.{circuit_of}
 use Rattle.fir_pass.specs.Faults.{fault_of}
 use Rattle.fir_pass.specs.Law.{IsFirst}
-use Rattle.fir_meaning.specs.NameGroups.{HasNames}
+use Rattle.fir_meaning.specs.working.NameGroups.{HasNames}
 use Rattle.fir_meaning.specs.SourceMeaning.{circuit_meaning}
 use Rattle.fir_expand.proofs.CostLimit.{is_within, past_limit, within_limit}
 use Rattle.fir_expand.proofs.OneCost.{one_cost}

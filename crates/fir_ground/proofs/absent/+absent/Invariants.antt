@@ -1,7 +1,7 @@
 use Rattle.std.proofs.Common.{◌≡◌, ◌+◌, ◌*◌, ◌-◌, length}
 use Rattle.fir_type_table.specs.working.Tables.{member_fields, shown, shown_fields, type_at, types_of}
 use Rattle.fir_leaf.specs.working.Nodes.{entries, picks_at}
-use Rattle.fir_meaning.specs.Terms.{Picks}
+use Rattle.fir_meaning.specs.working.Terms.{Picks}
 use Rattle.fir_ground.specs.working.Absent.{absent_element_terms, absent_field_terms}
 use Rattle.fir_leaf_pairs.specs.working.TargetNames.{PicksWithin}
 use Rattle.fir_ground.proofs.Absents.{AddsSoFar, fields_left}

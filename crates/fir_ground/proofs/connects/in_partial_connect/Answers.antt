@@ -2,7 +2,7 @@ use Rattle.std.proofs.Common.{◌≡◌, ◌<◌, ◌^◌, map, ap, ◌∙◌, s
 use Rattle.std.proofs.lemmas.Result.{on_ok_weaker}
 use Rattle.fir_ast.specs.working.Views.{expr_of, sink_of}
 use Rattle.fir_meaning.specs.TypeLeaves.{leaf_count}
-use Rattle.fir_meaning.specs.LeafPairs.{partial_leaf_pairs}
+use Rattle.fir_meaning.specs.working.LeafPairs.{partial_leaf_pairs}
 use Rattle.fir_types.specs.working.Seen.{found_type}
 use Rattle.fir_ground.specs.working.Connects.{MayDriveSides}
 use Rattle.fir_ground.specs.working.Grounds.{types_in}

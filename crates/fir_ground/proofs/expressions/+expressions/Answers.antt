@@ -11,7 +11,7 @@ use Rattle.fir_names.specs.working.Parts.{part_of}
 use Rattle.fir_names.proofs.FirstMentions.{views_left}
 use Rattle.fir_types.specs.working.Notes.{expression_note, part_notes, reference_note, reference_notes}
 use Rattle.fir_types.proofs.PartViews.{access_view, literal_view, parts_left, sink_view}
-use Rattle.fir_meaning.specs.Leafed.{target_of, target_terms, terms}
+use Rattle.fir_meaning.specs.working.Leafed.{target_of, target_terms, terms}
 use Rattle.fir_ground.specs.working.Grounds.{Enters}
 use Rattle.fir_ground.proofs.Coming.{come_then, expands_first, expands_nodes}
 use Rattle.fir_ground.proofs.FormsCome.{mux_comes, operation_comes, validif_comes}

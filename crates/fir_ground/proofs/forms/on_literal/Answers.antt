@@ -1,7 +1,7 @@
 use Rattle.std.proofs.Common.{refl, ap, Vec, Global}
 use Rattle.fir_leaf.specs.declared.node.Node.{Node}
 use Rattle.fir_leaf.specs.declared.node.Node.TheVariants as node
-use Rattle.fir_meaning.specs.Terms.{literal}
+use Rattle.fir_meaning.specs.working.Terms.{literal}
 use Rattle.fir_ground.specs.working.Grounds.{types_in}
 use Rattle.fir_ground.proofs.Coming.{form_expands}
 use Rattle.fir_leaf_pairs.proofs.Giving.{gives_one, shows_new}

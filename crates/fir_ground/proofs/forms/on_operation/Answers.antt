@@ -2,7 +2,7 @@ use Rattle.std.proofs.Common.{map, ap, Vec, Global}
 use Rattle.fir_leaf.specs.declared.node.Node.{Node}
 use Rattle.fir_leaf.specs.declared.node.Node.TheVariants as node
 use Rattle.fir_leaf.specs.working.Nodes.{node_term}
-use Rattle.fir_meaning.specs.Terms.{operation, terms_of}
+use Rattle.fir_meaning.specs.working.Terms.{operation, terms_of}
 use Rattle.fir_ground.specs.working.Grounds.{types_in}
 use Rattle.fir_ground.proofs.Coming.{form_expands}
 use Rattle.fir_leaf_pairs.proofs.Giving.{gives_one, shows_new}

@@ -1,5 +1,5 @@
 use Rattle.std.proofs.Common.{◌<◌, length, map, take}
-use Rattle.fir_meaning.specs.Leafed.{muxes}
+use Rattle.fir_meaning.specs.working.Leafed.{muxes}
 use Rattle.fir_leaf.specs.working.Nodes.{AllBelow, Gives, node_term}
 use Rattle.fir_ground.proofs.leafwise.mux_all.Given as goal
 

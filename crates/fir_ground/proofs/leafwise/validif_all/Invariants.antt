@@ -1,6 +1,6 @@
 use Rattle.std.proofs.Common.{◌<◌, length, map, take}
 use Rattle.fir_leaf.specs.working.Nodes.{AllBelow, Gives, node_term}
-use Rattle.fir_meaning.specs.Terms.{validif}
+use Rattle.fir_meaning.specs.working.Terms.{validif}
 use Rattle.fir_ground.proofs.leafwise.validif_all.Given as goal
 
 abbrev pub invariant-loop-value : goal.invariant-loop-value

@@ -1,6 +1,6 @@
 use Rattle.std.proofs.Common.{◌≡◌, ◌+◌, ◌-◌, ◌^◌, ◌≤◌, length}
 use Rattle.fir_leaf.specs.working.Nodes.{Gives, entries, picks_at}
-use Rattle.fir_meaning.specs.Terms.{Picks}
+use Rattle.fir_meaning.specs.working.Terms.{Picks}
 use Rattle.fir_leaf_pairs.specs.working.TargetNames.{PicksWithin}
 use Rattle.fir_leaf_pairs.specs.working.Reads.{reads_from}
 use Rattle.fir_ground.proofs.reads.read_from.Given as goal

@@ -2,7 +2,7 @@ use Rattle.std.proofs.Common.{◌≡◌, ◌++◌, append_assoc, ap, subst, ◌�
 use Rattle.fir_ast.specs.working.Views.{expr_of, sink_of}
 use Rattle.fir_types.specs.working.Notes.{expression_notes, reference_notes}
 use Rattle.fir_types.specs.working.Seen.{found_type}
-use Rattle.fir_meaning.specs.Leafed.{target_read}
+use Rattle.fir_meaning.specs.working.Leafed.{target_read}
 use Rattle.fir_ground.specs.working.Grounds.{Enters, types_in}
 use Rattle.fir_ground.proofs.Connecting.{no_source, sides_shown, source_found}
 use Rattle.fir_ground.proofs.sides.in_sides.Goals as goal

@@ -3,7 +3,7 @@ use Rattle.fir_ast.specs.Expressions.{reference}
 use Rattle.fir_ast.specs.working.Views.{expr_of, sink_of}
 use Rattle.fir_meaning.specs.working.WellTyped.{HasType, Reaches as ReachesThere}
 use Rattle.fir_types.specs.working.Notes.{reference_notes}
-use Rattle.fir_meaning.specs.Leafed.{target_of}
+use Rattle.fir_meaning.specs.working.Leafed.{target_of}
 use Rattle.fir_ground.specs.working.Grounds.{Enters, types_in}
 use Rattle.fir_ground.proofs.Coming.{names_stay, reference_expands}
 use Rattle.fir_ground.proofs.NamedTargets.{within_cost}

@@ -5,7 +5,7 @@ use Rattle.fir_meaning.specs.Components.{instance}
 use Rattle.fir_meaning.specs.ResetJoins.{numbered_module}
 use Rattle.fir_meaning.specs.TypeGroup.{scope_at}
 use Rattle.fir_meaning.specs.Visibility.{declaration_at, with_declaration}
-use Rattle.fir_meaning.specs.LeafedBlocks.{instance_block}
+use Rattle.fir_meaning.specs.working.LeafedBlocks.{instance_block}
 use Rattle.fir_ground.specs.declared.driver.Driver.TheVariants.{Others}
 use Rattle.fir_ground.specs.working.DeclarationDrivers.{others}
 use Rattle.fir_ground.proofs.PlaceWalks.{comes_none, passed_behind}

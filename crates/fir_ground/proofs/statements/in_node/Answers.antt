@@ -6,7 +6,7 @@ use Rattle.fir_meaning.specs.TypeGroup.{scope_at}
 use Rattle.fir_meaning.specs.Visibility.{declaration_at}
 use Rattle.fir_types.specs.working.Notes.{expression_notes}
 use Rattle.fir_types.proofs.KnownScopes.{begins_before}
-use Rattle.fir_meaning.specs.Leafed.{terms}
+use Rattle.fir_meaning.specs.working.Leafed.{terms}
 use Rattle.fir_ground.specs.declared.driver.Driver.TheVariants.{Node}
 use Rattle.fir_ground.specs.working.DeclarationDrivers.{node_terms}
 use Rattle.fir_leaf_pairs.proofs.Giving.{all_keep}

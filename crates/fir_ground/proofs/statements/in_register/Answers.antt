@@ -10,7 +10,7 @@ use Rattle.fir_meaning.specs.Visibility.{declaration_at, with_declaration}
 use Rattle.fir_types.specs.working.ModuleNotes.{register_notes, reset_notes}
 use Rattle.fir_types.specs.working.Notes.{expression_notes}
 use Rattle.fir_types.proofs.KnownScopes.{begins_before}
-use Rattle.fir_meaning.specs.Leafed.{first_term, terms}
+use Rattle.fir_meaning.specs.working.Leafed.{first_term, terms}
 use Rattle.fir_ground.specs.declared.driver.Driver.TheVariants.{Register}
 use Rattle.fir_ground.specs.working.DeclarationDrivers.{register_terms, reset_seen, reset_terms}
 use Rattle.fir_ground.specs.working.Grounds.{Enters}

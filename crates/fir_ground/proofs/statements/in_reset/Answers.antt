@@ -2,9 +2,9 @@ use Rattle.std.proofs.Common.{◌≡◌, ◌++◌, List, map, Option, Some, appe
 use Rattle.std.specs.Prelude.{option_map}
 use Rattle.fir_ast.specs.working.Views.{expr_of, reset_of}
 use Rattle.fir_types.specs.working.Notes.{expression_notes}
-use Rattle.fir_meaning.specs.Leafed.{first_term, terms}
+use Rattle.fir_meaning.specs.working.Leafed.{first_term, terms}
 use Rattle.fir_leaf.specs.working.Nodes.{node_term}
-use Rattle.fir_meaning.specs.Terms.{Term}
+use Rattle.fir_meaning.specs.working.Terms.{Term}
 use Rattle.fir_ground.specs.working.DeclarationDrivers.{ResetMeant}
 use Rattle.fir_ground.specs.working.Grounds.{Enters, types_in}
 use Rattle.fir_ground.specs.working.ResetKinds.{KindMeant, kind_of_reset, kind_seen}

@@ -4,8 +4,8 @@ use Rattle.std.proofs.lemmas.Result.{IfOk-weaker}
 use Rattle.fir_ast.specs.declared.circuit.Circuit.{Circuit}
 use Rattle.fir_ast.specs.working.Views.{circuit_of}
 use Rattle.fir_ast.specs.Circuits.{CircuitTree}
-use Rattle.fir_meaning.specs.NameGroups.{HasNames}
-use Rattle.fir_meaning.specs.Scenes.{HasScenes}
+use Rattle.fir_meaning.specs.working.NameGroups.{HasNames}
+use Rattle.fir_meaning.specs.working.Scenes.{HasScenes}
 use Rattle.fir_meaning.specs.TypeGroup.{type_faults}
 use Rattle.fir_names.specs.working.ModuleOrder.{IsModuleOrder}
 use Rattle.fir_leaf_circuit.specs.working.Leafed.{AreLeafed}

@@ -1,6 +1,6 @@
 use Rattle.std.proofs.Common.{ℕ, ◌+◌, drop, length, map}
 use Rattle.fir_ast.specs.working.Views.{port_of}
-use Rattle.fir_meaning.specs.LeafedModules.{Scene}
+use Rattle.fir_meaning.specs.ModuleScenes.{Scene}
 use Rattle.fir_lack.specs.working.NumberedLacks.{lacking_ports}
 use Rattle.fir_lack.specs.working.Searched.{IsAt}
 use Rattle.fir_lack.proofs.Searches as parts

@@ -1,6 +1,6 @@
 use Rattle.std.proofs.Common.{ℕ, ◌+◌, drop, map}
 use Rattle.fir_ast.specs.working.Views.{block_of, stmt_of}
-use Rattle.fir_meaning.specs.LeafedModules.{Scene}
+use Rattle.fir_meaning.specs.ModuleScenes.{Scene}
 use Rattle.fir_lack.specs.working.NumberedLacks.{declares_in, lacking_block}
 use Rattle.fir_lack.specs.working.Searched.{IsAt}
 use Rattle.fir_lack.proofs.Searches.{IsLeft, statements}

@@ -1,6 +1,6 @@
 use Rattle.std.proofs.Common.{◌≡◌, [], ◌∙◌, subst}
 use Rattle.fir_ast.specs.working.Views.{circuit_of}
-use Rattle.fir_meaning.specs.NameGroups.{HasNames}
+use Rattle.fir_meaning.specs.working.NameGroups.{HasNames}
 use Rattle.fir_meaning.specs.TypeGroup.{type_faults}
 use Rattle.fir_leaf_circuit.proofs.ModuleScenes.{module_scenes}
 use Rattle.fir_leaf_circuit.proofs.scenes.has_scenes.Goals as goal

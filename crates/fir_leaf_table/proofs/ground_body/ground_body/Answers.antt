@@ -6,7 +6,7 @@ use Rattle.fir_meaning.specs.Visibility.{declarations}
 use Rattle.fir_types.specs.declared.note.Note.{Note}
 use Rattle.fir_types.proofs.InstanceWalks.{length_of_map}
 use Rattle.fir_width.proofs.FoundModules.{read_is}
-use Rattle.fir_meaning.specs.LeafedModules.{behind_all_ports}
+use Rattle.fir_meaning.specs.ModuleScenes.{behind_all_ports}
 use Rattle.fir_leaf_table.proofs.GroundBodies.{found, ground_begins, ground_cost, ground_enters, ground_legal, ground_made}
 use Rattle.fir_leaf_table.proofs.ground_body.ground_body.Goals as goal
 

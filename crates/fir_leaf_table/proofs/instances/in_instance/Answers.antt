@@ -7,8 +7,8 @@ use Rattle.fir_meaning.specs.ComponentTypes.{instance_type}
 use Rattle.fir_meaning.specs.ResetJoins.{numbered_module}
 use Rattle.fir_meaning.specs.TypeLeaves.{TypeLeaf}
 use Rattle.fir_ground.specs.working.DeclarationDrivers.{others}
-use Rattle.fir_meaning.specs.LeafedModules.{instance_place, instance_role}
-use Rattle.fir_meaning.specs.LeafMemories.{leaves_of_data}
+use Rattle.fir_meaning.specs.working.LeafedModules.{instance_place, instance_role}
+use Rattle.fir_meaning.specs.FoundTypes.{leaves_of_data}
 use Rattle.fir_leaf_table.specs.declared.giver.Giver.TheVariants as giver
 use Rattle.fir_leaf_table.specs.declared.places.Places.TheVariants as places
 use Rattle.fir_leaf_table.proofs.DeclarationWalks.{leaves_come, ready_by}

@@ -4,7 +4,7 @@ use Rattle.std.proofs.lemmas.Option.{same_Some}
 use Rattle.fir_ast.specs.Circuits.{ModuleTree}
 use Rattle.fir_ast.specs.working.Views.{block_of, circuit_of, module_of, port_of, stmt_of}
 use Rattle.fir_meaning.specs.Visibility.{at_head}
-use Rattle.fir_meaning.specs.LeafedModules.{behind_all_ports}
+use Rattle.fir_meaning.specs.ModuleScenes.{behind_all_ports}
 use Rattle.fir_leaf_table.specs.declared.walk.Walk.{Walk}
 use Rattle.fir_leaf_table.proofs.ModuleViews.{IsFresh, block_begins, block_enters, ports_begin, ports_enter, rest, viewed}
 use Rattle.fir_leaf_table.proofs.leafed.numbered_module.Goals as goal

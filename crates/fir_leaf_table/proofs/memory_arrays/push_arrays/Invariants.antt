@@ -1,7 +1,7 @@
 use Rattle.std.proofs.Common.{◌≡◌, ◌++◌, List, length, map}
 use Rattle.fir_meaning.specs.TypeLeaves.{TypeLeaf}
-use Rattle.fir_meaning.specs.LeafMemories.{LeafMemory, arrays_from}
-use Rattle.fir_meaning.specs.LeafModules.{LeafType}
+use Rattle.fir_meaning.specs.working.LeafMemories.{LeafMemory, arrays_from}
+use Rattle.fir_meaning.specs.LeafTypes.{LeafType}
 use Rattle.fir_leaf_table.specs.working.Memories.{IsMemory}
 use Rattle.fir_leaf_circuit.specs.working.Seen.{array_seen, unnamed_array}
 use Rattle.fir_leaf_table.proofs.ArraysLeft.{arrays_left}

@@ -1,5 +1,5 @@
 use Rattle.std.proofs.Common.{length, map}
-use Rattle.fir_meaning.specs.LeafMemories.{writings_from}
+use Rattle.fir_meaning.specs.working.LeafMemories.{writings_from}
 use Rattle.fir_leaf_circuit.specs.working.Seen.{writing_seen}
 use Rattle.fir_leaf_table.proofs.PortsLeft.{PortsLeft}
 use Rattle.fir_leaf_table.proofs.memory_arrays.writings.Given as goal

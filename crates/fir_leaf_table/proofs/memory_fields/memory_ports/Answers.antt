@@ -1,5 +1,5 @@
 use Rattle.std.proofs.Common.{map, sym}
-use Rattle.fir_meaning.specs.LeafMemories.{port_kinds_of}
+use Rattle.fir_meaning.specs.working.LeafMemories.{port_kinds_of}
 use Rattle.fir_leaf_table.specs.working.Memories.{port_seen}
 use Rattle.fir_types.proofs.FieldsLeft.{left_next, left_none}
 use Rattle.fir_leaf_table.proofs.memory_fields.memory_ports.Goals as goal

@@ -8,9 +8,11 @@ use Rattle.fir_meaning.specs.Costs.{sum_of}
 use Rattle.fir_meaning.specs.MemoryTypes.{data_of_part, first_one}
 use Rattle.fir_meaning.specs.SizedMemories.{sized_array}
 use Rattle.fir_ground.specs.working.DeclarationDrivers.{others}
-use Rattle.fir_meaning.specs.LeafedModules.{held_types, memory_arrays, memory_before, role_in}
-use Rattle.fir_meaning.specs.LeafMemories.{arrays_of, leaves_of_data, memory_behind, memory_declared, memory_roles}
-use Rattle.fir_meaning.specs.LeafModules.{source}
+use Rattle.fir_meaning.specs.HeldTypes.{held_types}
+use Rattle.fir_meaning.specs.working.LeafedModules.{memory_arrays, memory_before, role_in}
+use Rattle.fir_meaning.specs.working.LeafMemories.{arrays_of, memory_behind, memory_declared, memory_roles}
+use Rattle.fir_meaning.specs.FoundTypes.{leaves_of_data}
+use Rattle.fir_meaning.specs.working.LeafModules.{source}
 use Rattle.fir_leaf_table.specs.declared.giver.Giver.TheVariants as giver
 use Rattle.fir_leaf_table.specs.declared.places.Places.TheVariants as places
 use Rattle.fir_leaf_table.specs.declared.walk.Walk.{Walk}

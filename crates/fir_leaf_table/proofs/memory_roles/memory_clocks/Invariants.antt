@@ -1,5 +1,5 @@
 use Rattle.std.proofs.Common.{length}
-use Rattle.fir_meaning.specs.LeafMemories.{clocks_from}
+use Rattle.fir_meaning.specs.working.LeafMemories.{clocks_from}
 use Rattle.fir_leaf_table.proofs.PortsLeft.{PortsLeft}
 use Rattle.fir_leaf_table.proofs.memory_roles.memory_clocks.Given as goal
 

@@ -1,5 +1,5 @@
 use Rattle.std.proofs.Common.{◌+◌, ◌<◌, ◌≤◌, map, get_or, length, refl, ap, ◌∙◌}
-use Rattle.fir_meaning.specs.LeafMemories.{port_roles, port_size, roles_from}
+use Rattle.fir_meaning.specs.working.LeafMemories.{port_roles, port_size, roles_from}
 use Rattle.fir_leaf_table.specs.declared.memory.MemoryPort.TheVariants.{Reads}
 use Rattle.fir_leaf_table.specs.working.Memories.{port_seen}
 use Rattle.fir_leaf_circuit.specs.working.Seen.{role_seen}

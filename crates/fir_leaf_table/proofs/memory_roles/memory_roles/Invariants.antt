@@ -1,7 +1,7 @@
 use Rattle.std.proofs.Common.{List, map}
 use Rattle.fir_leaf.specs.declared.node.Node.{Node}
-use Rattle.fir_meaning.specs.LeafMemories.{LeafMemory, roles_from}
-use Rattle.fir_meaning.specs.LeafModules.{LeafType}
+use Rattle.fir_meaning.specs.working.LeafMemories.{LeafMemory, roles_from}
+use Rattle.fir_meaning.specs.LeafTypes.{LeafType}
 use Rattle.fir_leaf_table.specs.working.Memories.{IsMemory}
 use Rattle.fir_leaf_circuit.specs.working.Seen.{role_seen}
 use Rattle.fir_leaf_table.proofs.PortsLeft.{PortsLeft}

@@ -1,6 +1,6 @@
 use Rattle.std.proofs.Common.{List, ◌∷◌, ◌++◌, [], map, ap, ◌∙◌}
 use Rattle.std.proofs.lemmas.List.{map-append}
-use Rattle.fir_meaning.specs.LeafModules.{MemoryDeclared}
+use Rattle.fir_meaning.specs.working.LeafModules.{MemoryDeclared}
 use Rattle.fir_leaf_circuit.specs.declared.leaf_module.MemoryClocks.{MemoryClocks}
 use Rattle.fir_leaf_circuit.specs.working.Seen.{memory_seen}
 use Rattle.fir_leaf_table.proofs.memory_roles.push_clocks.Goals as goal

@@ -1,6 +1,6 @@
 use Rattle.std.proofs.Common.{◌≡◌, ◌+◌, ◌*◌, ◌++◌, map, ap, ◌∙◌, arith}
 use Rattle.std.proofs.lemmas.Result.{on_ok_weaker}
-use Rattle.fir_meaning.specs.LeafMemories.{sinks}
+use Rattle.fir_meaning.specs.working.LeafMemories.{sinks}
 use Rattle.fir_leaf_circuit.specs.working.Seen.{role_seen}
 use Rattle.fir_leaf_table.proofs.port_roles.put_given.Goals as goal
 

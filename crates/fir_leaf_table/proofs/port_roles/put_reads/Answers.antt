@@ -1,5 +1,5 @@
 use Rattle.std.proofs.Common.{◌≡◌, ◌+◌, [], ◌∷◌, ◌++◌, false, map, ap, sym, ◌∙◌, arith}
-use Rattle.fir_meaning.specs.LeafMemories.{enable, read_role, read_roles}
+use Rattle.fir_meaning.specs.working.LeafMemories.{enable, read_role, read_roles}
 use Rattle.fir_leaf_circuit.specs.working.Seen.{mode_need, role_seen}
 use Rattle.fir_leaf_table.proofs.ReadLeaves.{put_more, reads_more}
 use Rattle.fir_leaf_table.proofs.port_roles.put_reads.Goals as goal

@@ -1,7 +1,7 @@
 use Rattle.std.proofs.Common.{◌≡◌, ◌++◌, ◌∷◌, List, false, map}
 use Rattle.fir_leaf.specs.declared.node.Node.{Node}
-use Rattle.fir_meaning.specs.LeafMemories.{LeafMemory, enable, read_roles}
-use Rattle.fir_meaning.specs.LeafModules.{LeafType}
+use Rattle.fir_meaning.specs.working.LeafMemories.{LeafMemory, enable, read_roles}
+use Rattle.fir_meaning.specs.LeafTypes.{LeafType}
 use Rattle.fir_leaf_table.specs.working.Memories.{IsMemory}
 use Rattle.fir_leaf_circuit.specs.working.Seen.{mode_need, role_seen}
 use Rattle.fir_leaf_table.proofs.port_roles.put_reads.Given as goal

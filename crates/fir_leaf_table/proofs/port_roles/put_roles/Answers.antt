@@ -1,6 +1,6 @@
 use Rattle.std.proofs.Common.{◌≡◌, ℕ, ◌+◌, ◌*◌, List, [], ◌∷◌, ◌++◌, false, map, ap, sym, ◌∙◌, arith}
 use Rattle.std.proofs.lemmas.Result.{on_ok_weaker}
-use Rattle.fir_meaning.specs.LeafMemories.{enable, mode, read_roles, sinks}
+use Rattle.fir_meaning.specs.working.LeafMemories.{enable, mode, read_roles, sinks}
 use Rattle.fir_leaf_circuit.specs.working.Seen.{role_seen}
 use Rattle.fir_leaf_table.proofs.ReadLeaves.{put_twice, sinks_add}
 use Rattle.fir_leaf_table.proofs.port_roles.put_roles.Goals as goal

@@ -1,5 +1,5 @@
 use Rattle.std.proofs.Common.{◌≡◌, ◌+◌, ◌++◌, map, ap, ◌∙◌, arith}
-use Rattle.fir_meaning.specs.LeafMemories.{sinks}
+use Rattle.fir_meaning.specs.working.LeafMemories.{sinks}
 use Rattle.fir_leaf_circuit.specs.declared.leaf.LeafRole.TheVariants.{Sink}
 use Rattle.fir_leaf_circuit.specs.working.Seen.{role_seen}
 use Rattle.fir_leaf_table.proofs.ReadLeaves.{put_more, sinks_more}

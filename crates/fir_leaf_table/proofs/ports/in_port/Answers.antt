@@ -3,7 +3,7 @@ use Rattle.std.proofs.lemmas.Result.{on_ok_weaker}
 use Rattle.fir_ast.specs.working.Views.{port_of}
 use Rattle.fir_meaning.specs.Components as component
 use Rattle.fir_meaning.specs.Visibility.{with_declaration}
-use Rattle.fir_meaning.specs.LeafedModules.{own_leaves, port_role}
+use Rattle.fir_meaning.specs.working.LeafedModules.{own_leaves, port_role}
 use Rattle.fir_leaf_table.specs.declared.giver.Giver.TheVariants as giver
 use Rattle.fir_leaf_table.specs.declared.places.Places.TheVariants as places
 use Rattle.fir_leaf_table.specs.working.Walks.{ComesBehind}

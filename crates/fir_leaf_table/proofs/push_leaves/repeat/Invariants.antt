@@ -1,5 +1,5 @@
 use Rattle.std.proofs.Common.{◌≡◌, ◌-◌, ◌≤◌, ◌++◌, drop}
-use Rattle.fir_meaning.specs.LeafedModules.{repeated}
+use Rattle.fir_meaning.specs.HeldTypes.{repeated}
 use Rattle.fir_leaf_table.proofs.push_leaves.repeat.Given as goal
 
 abbrev pub invariant-loop : goal.invariant-loop

@@ -6,9 +6,10 @@ use Rattle.fir_meaning.specs.Components as component
 use Rattle.fir_meaning.specs.TypeGroup.{scope_at}
 use Rattle.fir_meaning.specs.Visibility.{with_declaration}
 use Rattle.fir_ground.specs.working.DeclarationDrivers.{driver_seen, register_terms, reset_seen, reset_terms}
-use Rattle.fir_meaning.specs.Leafed.{first_term, terms}
-use Rattle.fir_meaning.specs.LeafedModules.{register_role, scope_before}
-use Rattle.fir_meaning.specs.LeafModules.{register}
+use Rattle.fir_meaning.specs.working.Leafed.{first_term, terms}
+use Rattle.fir_meaning.specs.working.LeafedModules.{register_role}
+use Rattle.fir_meaning.specs.ModuleScenes.{scope_before}
+use Rattle.fir_meaning.specs.working.LeafModules.{register}
 use Rattle.fir_leaf.specs.working.Nodes.{node_term}
 use Rattle.fir_leaf_table.specs.declared.giver.Giver.TheVariants as giver
 use Rattle.fir_leaf_table.specs.declared.places.Places.TheVariants as places

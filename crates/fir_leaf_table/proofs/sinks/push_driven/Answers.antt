@@ -3,7 +3,7 @@ use Rattle.std.proofs.lemmas.Result.{on_ok_weaker}
 use Rattle.fir_meaning.specs.TypeLeaves.{type_leaves}
 use Rattle.fir_type_table.specs.working.Tables.{types_of}
 use Rattle.fir_types.specs.working.Seen.{flow_seen, found_type, seen}
-use Rattle.fir_meaning.specs.LeafMemories.{leaves_of_data}
+use Rattle.fir_meaning.specs.FoundTypes.{leaves_of_data}
 use Rattle.fir_leaf_table.specs.working.TypedLeaves.{flips_seen}
 use Rattle.fir_leaf_table.proofs.DrivenWalks.{driven_by, driven_found}
 use Rattle.fir_leaf_table.proofs.sinks.push_driven.Goals as goal

@@ -5,7 +5,7 @@ use Rattle.fir_meaning.specs.Visibility.{Before, behind_block, declarations}
 use Rattle.fir_types.specs.working.Walked.{Begins}
 use Rattle.fir_ground.specs.working.DeclarationDrivers.{DriverMeant, drivers_in_block}
 use Rattle.fir_leaf.specs.declared.node.Node.{Node}
-use Rattle.fir_meaning.specs.LeafedModules.{Scene}
+use Rattle.fir_meaning.specs.ModuleScenes.{Scene}
 use Rattle.fir_leaf_table.specs.working.Walks.{EntersAt}
 use Rattle.fir_leaf_table.proofs.BlockWalks.{AtBlock}
 use Rattle.fir_leaf_table.proofs.statements.+statements.Given as goal

@@ -5,10 +5,10 @@ use Rattle.fir_ast.specs.working.Views.{named_of}
 use Rattle.fir_meaning.specs.Components as component
 use Rattle.fir_meaning.specs.TypeGroup.{scope_at}
 use Rattle.fir_ground.specs.working.DeclarationDrivers.{driver_seen, node_terms}
-use Rattle.fir_meaning.specs.Leafed.{terms}
-use Rattle.fir_meaning.specs.LeafedBlocks.{term_at}
-use Rattle.fir_meaning.specs.LeafedModules.{scope_before}
-use Rattle.fir_meaning.specs.LeafModules.{computed}
+use Rattle.fir_meaning.specs.working.Leafed.{terms}
+use Rattle.fir_meaning.specs.working.LeafedBlocks.{term_at}
+use Rattle.fir_meaning.specs.ModuleScenes.{scope_before}
+use Rattle.fir_meaning.specs.working.LeafModules.{computed}
 use Rattle.fir_leaf.specs.working.Nodes.{node_term}
 use Rattle.fir_leaf_table.specs.declared.giver.Giver.TheVariants as giver
 use Rattle.fir_leaf_table.specs.declared.places.Places.TheVariants as places

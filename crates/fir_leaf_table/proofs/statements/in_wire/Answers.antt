@@ -3,7 +3,7 @@ use Rattle.std.proofs.lemmas.Result.{on_ok_weaker}
 use Rattle.fir_ast.specs.working.Views.{named_of}
 use Rattle.fir_meaning.specs.Components as component
 use Rattle.fir_ground.specs.working.DeclarationDrivers.{others}
-use Rattle.fir_meaning.specs.LeafModules.{sink}
+use Rattle.fir_meaning.specs.working.LeafModules.{sink}
 use Rattle.fir_leaf_table.specs.declared.giver.Giver.TheVariants as giver
 use Rattle.fir_leaf_table.specs.declared.places.Places.TheVariants as places
 use Rattle.fir_leaf_table.proofs.DeclarationWalks.{leaves_come, ready_by}

@@ -1,7 +1,7 @@
 use Rattle.std.proofs.Common.{◌≡◌, suc, ◌++◌, None, length, ap, sym, ◌∙◌, arith}
 use Rattle.fir_ast.specs.View.{type_of}
 use Rattle.fir_meaning.specs.SizedTypes.{numbered}
-use Rattle.fir_meaning.specs.LeafedModules.{held_types}
+use Rattle.fir_meaning.specs.HeldTypes.{held_types}
 use Rattle.fir_leaf_table.specs.working.TypedLeaves.{types_seen}
 use Rattle.fir_leaf_table.proofs.WordLeaves.{fields_done, fields_next, pushed_held, reset_held, vector_held, vector_view}
 use Rattle.fir_leaf_table.proofs.word_types.+words.Goals as goal

@@ -1,6 +1,6 @@
 use Rattle.std.proofs.Common.{List, [], ◌∷◌, ◌++◌, sym, subst, append_assoc, append-nil}
 use Rattle.fir_leaf.specs.working.Nodes.{entries, picks_at}
-use Rattle.fir_meaning.specs.Terms.{Picks}
+use Rattle.fir_meaning.specs.working.Terms.{Picks}
 use Rattle.fir_merge.specs.declared.index.Index.{Index}
 use Rattle.fir_merge.specs.working.Entries.{IndicesBelow, IndicesStand}
 use Rattle.fir_merge.proofs.StandingIndices.{indices_below_push}

@@ -1,6 +1,6 @@
 use Rattle.std.proofs.Common.{ℕ, List, ◌++◌}
 use Rattle.fir_leaf.specs.working.Nodes.{entries, picks_at}
-use Rattle.fir_meaning.specs.TermValues.{Holds}
+use Rattle.fir_meaning.specs.working.TermValues.{Holds}
 use Rattle.fir_driven.specs.working.Indices.{nodes_up_to}
 use Rattle.fir_net.specs.declared.node.Node.{Node}
 use Rattle.fir_merge.specs.declared.index.Index.{Index}

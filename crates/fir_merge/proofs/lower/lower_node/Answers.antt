@@ -1,7 +1,7 @@
 use Rattle.std.proofs.Common.{ℕ, List, length, map, sym, ap, ◌∙◌, subst}
 use Rattle.std.proofs.lemmas.Result.{IfOk-weaker}
 use Rattle.fir_leaf.specs.working.Nodes.{entries, entry_at, picks_at, term_in}
-use Rattle.fir_meaning.specs.Terms.{terms_of}
+use Rattle.fir_meaning.specs.working.Terms.{terms_of}
 use Rattle.fir_merge.specs.declared.bound.Bound.{Bound}
 use Rattle.fir_merge.specs.declared.index.Index.{Index}
 use Rattle.fir_merge.specs.working.Bounds.{EachBelow, OperationStands, types_in}

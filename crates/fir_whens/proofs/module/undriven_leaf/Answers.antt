@@ -4,8 +4,8 @@ use Rattle.std.proofs.lemmas.Bool.{ltb-true}
 use Rattle.std.proofs.lemmas.Option.{slice_get_read, slice_get_within}
 use Rattle.fir_ast.specs.declared.fault.FirFault.TheVariants.{Undriven}
 use Rattle.fir_ast.specs.working.Views.{circuit_of}
-use Rattle.fir_meaning.specs.Choices.{covers_all}
-use Rattle.fir_meaning.specs.LeafModules.{LeafDeclared}
+use Rattle.fir_meaning.specs.working.Choices.{covers_all}
+use Rattle.fir_meaning.specs.working.LeafModules.{LeafDeclared}
 use Rattle.fir_meaning.specs.Outcomes.{told_once}
 use Rattle.fir_leaf.specs.working.NodeBlocks.{block_in}
 use Rattle.fir_leaf_circuit.specs.working.LeafStores.{depth_in}

@@ -1,9 +1,9 @@
 use Rattle.std.proofs.Common.{◌≡◌, [], subst, ◌∙◌}
 use Rattle.fir_ast.specs.working.Views.{circuit_of}
-use Rattle.fir_meaning.specs.NameGroups.{HasNames}
+use Rattle.fir_meaning.specs.working.NameGroups.{HasNames}
 use Rattle.fir_meaning.specs.TypeGroup.{type_faults}
 use Rattle.fir_leaf_circuit.specs.working.Leafed.{AreLeafed}
-use Rattle.fir_meaning.specs.Scenes.{HasScenes}
+use Rattle.fir_meaning.specs.working.Scenes.{HasScenes}
 use Rattle.fir_leaf_circuit.proofs.CodeStores.{stores_of_code}
 use Rattle.fir_leaf_circuit.proofs.leaf_circuit.LeafCircuit.modules.Goals as goal
 
