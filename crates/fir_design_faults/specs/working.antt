@@ -1,0 +1,2 @@
+-- What no clause of `run` reads: laws of the faults of whole designs.
+pub mod SameDesignFaults
