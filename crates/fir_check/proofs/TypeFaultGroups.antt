@@ -29,9 +29,9 @@ use Rattle.fir_meaning.specs.Reaching.{Reached, any_element, at_element, element
 use Rattle.fir_meaning.specs.OperationTypes.{is_conversion, operand_kinds, operation_on, result_of, type_of_operation}
 use Rattle.fir_meaning.specs.ExpressionTypes.{access_form, along_parts, condition_form, expression_type, expression_types, field_form, index_form, passive_at, passive_form, reached_by, reaching, type_of_mux, type_of_validif, unsigned_at}
 use Rattle.fir_meaning.specs.MemoryTypes.{data_of_part, depth_of_part, first_one}
-use Rattle.fir_meaning.specs.MemoryFaults.{flipped_data, is_at_most_one, is_one, memory_faults, read_latency_of_part, read_under_write_of_part, unless, write_latency_of_part}
+use Rattle.fir_meaning.specs.MemoryFaults.{field_faults_unless, flipped_data, is_at_most_one, is_one, memory_faults, read_latency_of_part, read_under_write_of_part, write_latency_of_part}
 use Rattle.fir_meaning.specs.ConnectFaults.{connect_faults, driven_faults, driven_leaf, driven_of_pair, flow_at, partial_connect_faults}
-use Rattle.fir_meaning.specs.TypeGroup.{clock_at, clock_faults, flipped_faults, init_at, module_type_faults, register_type_faults, reset_at, reset_faults, scope_at, sides, type_faults, type_faults_in, type_faults_in_block}
+use Rattle.fir_meaning.specs.TypeGroup.{clock_faults, flipped_faults, init_at, module_type_faults, register_clock_at, register_type_faults, reset_at, reset_faults, scope_at, sides, type_faults, type_faults_in, type_faults_in_block}
 
 abbrev pub IsOfTypes : Fault → Type 0
 IsOfTypes f = group_of f.code ≡ 4
@@ -196,7 +196,7 @@ partial_told p left right t =
     (driven_told p (Some left) right (partial_pairs left.data_type t)) (refl, tt)
 
 -- registers
-clock_told : (p : Place) (t : DataType) → Told (clock_at p t)
+clock_told : (p : Place) (t : DataType) → Told (register_clock_at p t)
 clock_told p clock = tt
 clock_told p t = refl
 
@@ -225,7 +225,7 @@ own_told n t =
     (either (is_numeric t) [] (wrong_kinds n.place (t ∷ []) ∷ []) tt (refl, tt)) (flipped_told n t)
 
 -- memories
-unless_told : (b : Bool) (n : PlacedName) (word : List ℕ) → AreOfTypes (unless b n word)
+unless_told : (b : Bool) (n : PlacedName) (word : List ℕ) → AreOfTypes (field_faults_unless b n word)
 unless_told b n word = either b [] (memory_field n.place n.name word ∷ []) tt (refl, tt)
 
 data_told : (n : PlacedName) (t : Option DataType) → AreOfTypes (flipped_data n t)
@@ -235,11 +235,11 @@ data_told n (Some t) = either (is_passive t) [] (not_passive n.place t ∷ []) t
 memory_told : (n : PlacedName) (parts : List MemoryPart) → AreOfTypes (memory_faults n parts)
 memory_told n parts =
     let a = flipped_data n (first_one (flat_map data_of_part parts)) in
-    let b = unless (is_one is_sized (flat_map data_of_part parts)) n (codes "data-type") in
-    let c = unless (is_one (λ words. nat_le 1 words) (flat_map depth_of_part parts)) n (codes "depth") in
-    let d = unless (is_one (λ l. nat_le l 1) (flat_map read_latency_of_part parts)) n (codes "read-latency") in
-    let e = unless (is_one (λ l. l == 1) (flat_map write_latency_of_part parts)) n (codes "write-latency") in
-    let f = unless (is_at_most_one (flat_map read_under_write_of_part parts)) n (codes "read-under-write") in
+    let b = field_faults_unless (is_one is_sized (flat_map data_of_part parts)) n (codes "data-type") in
+    let c = field_faults_unless (is_one (λ words. nat_le 1 words) (flat_map depth_of_part parts)) n (codes "depth") in
+    let d = field_faults_unless (is_one (λ l. nat_le l 1) (flat_map read_latency_of_part parts)) n (codes "read-latency") in
+    let e = field_faults_unless (is_one (λ l. l == 1) (flat_map write_latency_of_part parts)) n (codes "write-latency") in
+    let f = field_faults_unless (is_at_most_one (flat_map read_under_write_of_part parts)) n (codes "read-under-write") in
     both ((((a ++ b) ++ c) ++ d) ++ e) f
     (both (((a ++ b) ++ c) ++ d) e
     (both ((a ++ b) ++ c) d
@@ -259,7 +259,7 @@ mutual
       let inside = scope_at modules (with_declaration before n (component.register t)) in
       both (register_type_faults n t ++ clock_faults scope c) (reset_faults inside t r)
       (both (register_type_faults n t) (clock_faults scope c) (own_told n t)
-      (after_told (expression_type scope c) (clock_at (place_of c)) (expression_told scope c) (clock_told (place_of c))))
+      (after_told (expression_type scope c) (register_clock_at (place_of c)) (expression_told scope c) (clock_told (place_of c))))
       (resets_told inside t r)
   in_told modules before (node p n e) =
       statement_told (expression_type (scope_at modules before) e) (flipped_faults n) (expression_told (scope_at modules before) e) (flipped_told n)

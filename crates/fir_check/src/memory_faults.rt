@@ -2,7 +2,7 @@
 
 ghost use Rattle.std.specs.Prelude.{◌≡◌, ◌==◌, flat_map, if◌then◌else◌, map, nat_le, option_map};
 ghost use Rattle.fir_ast.specs.working.Views.{memory_part_of, named_of};
-ghost use Rattle.fir_meaning.specs.MemoryFaults.{flipped_data, is_one, memory_faults, read_latency_of_part, unless, write_latency_of_part};
+ghost use Rattle.fir_meaning.specs.MemoryFaults.{field_faults_unless, flipped_data, is_one, memory_faults, read_latency_of_part, write_latency_of_part};
 ghost use Rattle.fir_meaning.specs.MemoryTypes.{data_of_part, depth_of_part, first_one};
 ghost use Rattle.fir_meaning.specs.TypeKinds.{is_sized};
 ghost use Rattle.fir_type_table.specs.working.Tables.{type_at, types_of};
@@ -117,7 +117,7 @@ fn has_write_latency(fields: &[MemoryField]) -> bool
 
 /// E17 of a field, where it does not stand as it is to.
 fn unless(alloc: Global, holds: bool, ident: &Ident, word: &[u8]) -> Result<(), Refused<FirFault>>
-    ensures { Judges (unless holds (named_of ident.now) word.now) result }
+    ensures { Judges (field_faults_unless holds (named_of ident.now) word.now) result }
 {
     if holds {
         return Ok(());

@@ -13,7 +13,7 @@ use Rattle.fir_meaning.specs.working.StateWalks as over
 use Rattle.fir_leaf.proofs.FlatPlaces.{At, at_right}
 use Rattle.fir_leaf.proofs.MovedTerms.{number_own}
 use Rattle.fir_design.specs.working.SameRoles.{SameLeaves}
-use Rattle.fir_meaning.specs.SourceCircuits.{PlacedLeaf, is_state, is_word, placed, role_within, within}
+use Rattle.fir_meaning.specs.SourceCircuits.{PlacedLeaf, is_state, is_state_word, placed, role_within, within}
 use Rattle.fir_meaning.specs.SourceRoles.{SourceLeaf, SourceRole, computed, pipe, reading, register, sink, source}
 use Rattle.fir_design.proofs.ChosenNumbers.{AreChosen, chosen_same}
 use Rattle.fir_design.proofs.DeclaredRuns.{StandsAlone, own_numbers}
@@ -40,7 +40,7 @@ is_word_leaf l = over.is_state l.role && has_bits l.holds
 module _ (leaves : List LeafDeclared) (arrays : List LeafArray) (all : List PlacedLeaf) (at : LeafPath) (n : Numbering) where
   words_chosen : (xs : List LeafDeclared) (us : List SourceLeaf) (b g : ℕ) → SameLeaves leaves arrays xs us → n.ports ≤ b → g ≡ n.own +
       (b - n.ports)
-      → At all g (placed at (map within us)) → AreChosen is_word_leaf is_word (λ x. slice_get all (number n x)) Some b xs (placed at us)
+      → At all g (placed at (map within us)) → AreChosen is_word_leaf is_state_word (λ x. slice_get all (number n x)) Some b xs (placed at us)
   words_chosen [] [] b g h le e a = tt
   words_chosen [] (u ∷ us) b g h le e a = absurd h
   words_chosen (x ∷ xs) [] b g h le e a = absurd h
@@ -63,13 +63,13 @@ module _ (leaves : List LeafDeclared) (arrays : List LeafArray) (all : List Plac
       → StandsAlone declaration_of m.leaves from (from + 1) b xs
       → ((l : LeafDeclared) → In xs l → l.declaration ≡ from) → SameLeaves leaves arrays xs us → n.ports ≤ b
       → At all (n.own + (b - n.ports)) (placed at (map within us))
-      → map (slice_get all) (map (number n) (own_words m from)) ≡ map Some (filter is_word (placed at us))
+      → map (slice_get all) (map (number n) (own_words m from)) ≡ map Some (filter is_state_word (placed at us))
   own_words_are m from b xs us alone own same le a =
       map-map (slice_get all) (number n) (own_words m from)
       ∙ ap (map (λ x. slice_get all (number n x)))
       (own_numbers declaration_of m.leaves (λ (l : LeafDeclared). nat_eq l.declaration from && over.is_state l.role && has_bits l.holds) is_word_leaf
       from b xs alone other mine own)
-      ∙ chosen_same is_word_leaf is_word (λ x. slice_get all (number n x)) Some b xs (placed at us)
+      ∙ chosen_same is_word_leaf is_state_word (λ x. slice_get all (number n x)) Some b xs (placed at us)
       (words_chosen xs us b (n.own + (b - n.ports)) same le refl a)
     where
       mine : (l : LeafDeclared) → l.declaration ≡ from

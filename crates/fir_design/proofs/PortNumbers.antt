@@ -18,7 +18,7 @@ use Rattle.fir_leaf.proofs.FlatMeaning.{main_table}
 use Rattle.fir_meaning.specs.working.Elaborated.{views}
 use Rattle.fir_design.specs.working.MeaningLaws.{AreDesigns}
 use Rattle.fir_design.specs.working.SameRoles.{SameLeaves, SameRole, ViewsHaveRoles}
-use Rattle.fir_meaning.specs.SourceCircuits.{PlacedLeaf, clock_inputs, clock_outputs, inputs, is_source, leaf_path, outputs, paths_of, placed}
+use Rattle.fir_meaning.specs.SourceCircuits.{PlacedLeaf, clock_inputs, clock_outputs, inputs, is_source_role, leaf_path, outputs, paths_of, placed}
 use Rattle.fir_meaning.specs.SourceCircuits as tree
 use Rattle.fir_meaning.specs.SourceDesigns.{IsSourceDesignOf, SourceDesign}
 use Rattle.fir_meaning.specs.SourceDesigns as source
@@ -110,10 +110,10 @@ ports_of s scenes (made_of m is) (source.made_of o trees) same e h =
     let view : m ≡ leafed_module s = e.0 in
     let own : o ≡ s = h.0 in
     rw (view, own) (record {
-      inputs_are = paths_are s same is trees is_input is_source has_bits (same_source (leafed_module s).leaves (leafed_module s).arrays);
-      clock_inputs_are = paths_are s same is trees is_input is_source is_clock (same_source (leafed_module s).leaves (leafed_module s).arrays);
-      outputs_are = paths_are s same is trees is_sink tree.is_sink has_bits (same_sink (leafed_module s).leaves (leafed_module s).arrays);
-      clock_outputs_are = paths_are s same is trees is_sink tree.is_sink is_clock (same_sink (leafed_module s).leaves (leafed_module s).arrays);
+      inputs_are = paths_are s same is trees is_input is_source_role has_bits (same_source (leafed_module s).leaves (leafed_module s).arrays);
+      clock_inputs_are = paths_are s same is trees is_input is_source_role is_clock (same_source (leafed_module s).leaves (leafed_module s).arrays);
+      outputs_are = paths_are s same is trees is_sink tree.is_sink_role has_bits (same_sink (leafed_module s).leaves (leafed_module s).arrays);
+      clock_outputs_are = paths_are s same is trees is_sink tree.is_sink_role is_clock (same_sink (leafed_module s).leaves (leafed_module s).arrays);
     })
 
 pub ports_agree : (roles : ViewsHaveRoles) (c : CircuitTree) (d : Design) (t : SourceDesign) → AreDesigns c d t → PortsAgree d t

@@ -5,12 +5,12 @@ use Rattle.fir_meaning.specs.working.LeafModules as over
 use Rattle.fir_meaning.specs.working.LeafModules.{LeafArray, LeafDeclared, Role}
 use Rattle.fir_meaning.specs.working.StateWalks as over_state
 use Rattle.fir_design.specs.working.SameRoles.{SameRole}
-use Rattle.fir_meaning.specs.SourceCircuits.{is_sink, is_source, is_state}
+use Rattle.fir_meaning.specs.SourceCircuits.{is_sink_role, is_source_role, is_state}
 use Rattle.fir_meaning.specs.SourceRoles as tree
 use Rattle.fir_meaning.specs.SourceRoles.{SourceRole}
 
 module _ (leaves : List LeafDeclared) (arrays : List LeafArray) where
-  pub same_source : (r : Role) (q : SourceRole) → SameRole leaves arrays r q → is_input r ≡ is_source q
+  pub same_source : (r : Role) (q : SourceRole) → SameRole leaves arrays r q → is_input r ≡ is_source_role q
   same_source over.source tree.source h = refl
   same_source over.sink tree.sink h = refl
   same_source (over.computed t) (tree.computed scope e p) h = refl
@@ -19,7 +19,7 @@ module _ (leaves : List LeafDeclared) (arrays : List LeafArray) where
   same_source (over.pipe r x u) (tree.pipe p clock kept) h = refl
   same_source _ _ h = absurd h
 
-  pub same_sink : (r : Role) (q : SourceRole) → SameRole leaves arrays r q → over.is_sink r ≡ is_sink q
+  pub same_sink : (r : Role) (q : SourceRole) → SameRole leaves arrays r q → over.is_sink r ≡ is_sink_role q
   same_sink over.source tree.source h = refl
   same_sink over.sink tree.sink h = refl
   same_sink (over.computed t) (tree.computed scope e p) h = refl

@@ -44,12 +44,12 @@ module _ (c : LeafCircuit) (t : SourceDesign) (s : InStep c t) (state : List ℕ
         clock_by_role c t s env p.at x (leaf_within c t s x p e) (role_of c x) p.leaf.role (s.each x p e).role
         ∙ ap (λ y. clock_shown t env p.at y p.leaf.role) (s.each x p e).path
 
-    to_number : tree.Shows t state tick.inputs env p p.leaf.holds → over.Shows c state tick.inputs (by_number c env) x (leaf_at c.leaves x).holds
+    to_number : tree.LeafShows t state tick.inputs env p p.leaf.holds → over.Shows c state tick.inputs (by_number c env) x (leaf_at c.leaves x).holds
     to_number =
         shown_moved _ _ _ _ _ _ _ _ p.leaf.holds (leaf_at c.leaves x).holds (sym number_is) (sym clock_is) (ap env.numbers (sym (s.each x p e).path))
         (ap env.clocks (sym (s.each x p e).path)) (sym (s.each x p e).holds)
 
-    to_path : over.Shows c state tick.inputs (by_number c env) x (leaf_at c.leaves x).holds → tree.Shows t state tick.inputs env p p.leaf.holds
+    to_path : over.Shows c state tick.inputs (by_number c env) x (leaf_at c.leaves x).holds → tree.LeafShows t state tick.inputs env p p.leaf.holds
     to_path =
         shown_moved _ _ _ _ _ _ _ _ (leaf_at c.leaves x).holds p.leaf.holds number_is clock_is (ap env.numbers (s.each x p e).path)
         (ap env.clocks (s.each x p e).path) (s.each x p e).holds

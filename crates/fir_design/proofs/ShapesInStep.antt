@@ -11,7 +11,7 @@ use Rattle.fir_meaning.specs.LeafTypes.{LeafType, number_type, has_bits}
 use Rattle.fir_meaning.specs.working.LeafStates as over
 use Rattle.fir_meaning.specs.working.LeafStates.{shape}
 use Rattle.fir_leaf.specs.working.SoundDesigns.{circuit_path}
-use Rattle.fir_meaning.specs.SourceCircuits.{PlacedLeaf, all_arrays, all_leaves, is_source, leaf_path, leaves_of_design, main_ports, ports_where, source_shape, state_arrays, state_words, widths_in, widths_of}
+use Rattle.fir_meaning.specs.SourceCircuits.{PlacedLeaf, all_arrays, all_leaves, is_source_role, leaf_path, leaves_of_design, main_ports, ports_where, source_shape, state_arrays, state_words, widths_in, widths_of_leaves}
 use Rattle.fir_meaning.specs.SourceDesigns.{SourceDesign}
 use Rattle.fir_meaning.specs.SourceValues.{source_holds}
 use Rattle.fir_design.proofs.InStep.{InStep}
@@ -22,16 +22,16 @@ module _ (c : LeafCircuit) (t : SourceDesign) (s : InStep c t) where
   abbrev width_on : LeafPath → ℕ
   width_on x = (source_holds t x).width
 
-  input_widths : over.widths_of c c.inputs ≡ widths_of (ports_where is_source has_bits t)
+  input_widths : over.widths_of c c.inputs ≡ widths_of_leaves (ports_where is_source_role has_bits t)
   input_widths =
       ap (λ (holds : ℕ → NumTy). map (λ x. (holds x).width) c.inputs) (types_are c t s) ∙ sym (map-map width_on (circuit_path c) c.inputs)
-      ∙ ap (map width_on) s.inputs_are ∙ map-map width_on leaf_path (ports_where is_source has_bits t)
-      ∙ map_same _ _ (ports_where is_source has_bits t)
+      ∙ ap (map width_on) s.inputs_are ∙ map-map width_on leaf_path (ports_where is_source_role has_bits t)
+      ∙ map_same _ _ (ports_where is_source_role has_bits t)
       (λ (p : PlacedLeaf) m.
       ap (λ (h : LeafType). (number_type h).width)
       (holds_there c t s p (in_left (main_ports t) (leaves_of_design [] t) p (in_filter _ (main_ports t) p m))))
 
-  word_widths : over.widths_of c c.words ≡ widths_of (state_words t)
+  word_widths : over.widths_of c c.words ≡ widths_of_leaves (state_words t)
   word_widths =
       mapped_same (slice_get (all_leaves t)) (λ x. (type_of_leaf c x).width) (λ (p : PlacedLeaf). (number_type p.leaf.holds).width) c.words
       (state_words t) s.words

@@ -7,7 +7,7 @@ use Rattle.fir_ast.specs.Circuits.{CircuitTree}
 use Rattle.fir_meaning.specs.Elaborated.{IsSourceOf}
 use Rattle.fir_meaning.specs.LeafPaths.{LeafPath}
 use Rattle.fir_meaning.specs.LeafTypes.{LeafType, a_clock, number}
-use Rattle.fir_meaning.specs.SourceAllows.{Settled, Shows, next}
+use Rattle.fir_meaning.specs.SourceAllows.{LeafShows, Settled, next}
 use Rattle.fir_meaning.specs.SourceCircuits.{PlacedLeaf, all_leaves, clock_outputs, leaf_path, outputs, paths_of, source_shape}
 use Rattle.fir_meaning.specs.SourceDesigns.{SourceDesign}
 use Rattle.fir_meaning.specs.SourceMeaning.{circuit_meaning}
@@ -86,7 +86,7 @@ not_listed ys (p ∷ ps) x e absent =
     (not_listed ys ps x (right (is_on ys p.0) (are_on ys ps) e) absent)
 
 module _ (t : SourceDesign) (state given : List ℕ) (env : PathEnv) where
-  one_shows : (p : PlacedLeaf) (h : LeafType) → shows t state given env p h ≡ true → Shows t state given env p h
+  one_shows : (p : PlacedLeaf) (h : LeafType) → shows t state given env p h ≡ true → LeafShows t state given env p h
   one_shows p (number h) e =
       let rest = right (number_shows t state given env p) _ e in
       let below = left (nat_lt (env.numbers (leaf_path p)) (2 ^ h.width)) _ rest in (
@@ -98,10 +98,10 @@ module _ (t : SourceDesign) (state given : List ℕ) (env : PathEnv) where
       let zero_is = right (clock_shows t env p) _ e in
       (clock_is _ _ (left (clock_shows t env p) _ e), (grind arith))
 
-  all_show : (ps : List PlacedLeaf) → shows_each t state given env ps ≡ true → (p : PlacedLeaf) → In ps p → Shows t state given env p p.leaf.holds
+  all_show : (ps : List PlacedLeaf) → shows_each t state given env ps ≡ true → (p : PlacedLeaf) → In ps p → LeafShows t state given env p p.leaf.holds
   all_show [] e p m = absurd m
   all_show (q ∷ ps) e p (inl is) =
-      subst (λ (r : PlacedLeaf). Shows t state given env r r.leaf.holds) is
+      subst (λ (r : PlacedLeaf). LeafShows t state given env r r.leaf.holds) is
       (one_shows q q.leaf.holds (left (shows t state given env q q.leaf.holds) _ e))
   all_show (q ∷ ps) e p (inr m) = all_show ps (right (shows t state given env q q.leaf.holds) _ e) p m
 

@@ -16,7 +16,7 @@ use Rattle.fir_meaning.specs.ModuleScenes.{Scene, held_by_declared, type_of_decl
 use Rattle.fir_meaning.specs.working.LeafedModules.{leafed_module, leaves_in, leaves_in_block}
 use Rattle.fir_meaning.specs.working.Numberings.{number, numbering}
 use Rattle.fir_meaning.specs.working.StateWalks.{own_words}
-use Rattle.fir_meaning.specs.SourceCircuits.{PlacedLeaf, is_word, placed, words_in, words_in_block}
+use Rattle.fir_meaning.specs.SourceCircuits.{PlacedLeaf, is_state_word, placed, words_in, words_in_block}
 use Rattle.fir_meaning.specs.SourceRoles.{SourceLeaf, sink, source, source_leaves_of, sources_in, sources_in_block}
 use Rattle.fir_design.proofs.DeclaredInstances.{Grows}
 use Rattle.fir_design.proofs.DeclaredRuns.{StandsAlone}
@@ -35,13 +35,13 @@ of_instance child name _ = []
 
 -- an instance has no words of its own
 no_words : (at : LeafPath) (name : List ℕ) (ls : List TypeLeaf) (hs : List LeafType)
-    → filter is_word (placed at (source_leaves_of name (λ l. if l.flip then sink else source) ls hs)) ≡ []
+    → filter is_state_word (placed at (source_leaves_of name (λ l. if l.flip then sink else source) ls hs)) ≡ []
 no_words at name [] hs = refl
 no_words at name (l ∷ ls) [] = refl
 no_words at name (l ∷ ls) (h ∷ hs) = go l.flip (no_words at name ls hs)
   where
-    go : (b : Bool) → filter is_word (placed at (source_leaves_of name (λ l. if l.flip then sink else source) ls hs)) ≡ []
-        → filter is_word (placed at (record { path = named name ∷ l.path; holds = h; role = if b then sink else source }
+    go : (b : Bool) → filter is_state_word (placed at (source_leaves_of name (λ l. if l.flip then sink else source) ls hs)) ≡ []
+        → filter is_state_word (placed at (record { path = named name ∷ l.path; holds = h; role = if b then sink else source }
         ∷ source_leaves_of name (λ l. if l.flip then sink else source) ls hs)) ≡ []
     go true rest = rest
     go false rest = rest
@@ -58,7 +58,7 @@ module _ (s : Scene) (all : List PlacedLeaf) (at : LeafPath) (first free : ℕ) 
       → IsPlaced (leafed_module s) all at free (length before.declared) (length (with_declaration before n c).declared) b xs us
       → ((l : LeafDeclared) → In xs l → l.declaration ≡ length before.declared)
       → IsWalk gives (length before.declared) (length (with_declaration before n c).declared)
-      (map Some (filter is_word (placed at us) ++ of_instance child n.name c))
+      (map Some (filter is_state_word (placed at us) ++ of_instance child n.name c))
   one_declared before n c b xs us g p own =
       let k = length before.declared in
       let d = declaration_at before n c in
@@ -69,17 +69,17 @@ module _ (s : Scene) (all : List PlacedLeaf) (at : LeafPath) (first free : ℕ) 
       (own_words_are (leafed_module s).leaves (leafed_module s).arrays all at (numbering (leafed_module s) first free) (leafed_module s) k b xs us
       (subst (λ z. StandsAlone declaration_of (leafed_module s).leaves k z b xs) (sym next) p.alone) own p.same p.inner p.there)
       (inside_are k d (declared_there (declarations s.own.inside) before n c g))
-      ∙ sym (map-append Some (filter is_word (placed at us)) (of_instance child n.name c)))
+      ∙ sym (map-append Some (filter is_state_word (placed at us)) (of_instance child n.name c)))
 
   -- where it is no instance
   alone_declared : (before : Before) (n : PlacedName) (c : Component) (b : ℕ) (xs : List LeafDeclared) (us : List SourceLeaf)
       → of_instance child n.name c ≡ [] → Grows (with_declaration before n c).declared (declarations s.own.inside)
       → IsPlaced (leafed_module s) all at free (length before.declared) (length (with_declaration before n c).declared) b xs us
       → ((l : LeafDeclared) → In xs l → l.declaration ≡ length before.declared)
-      → IsWalk gives (length before.declared) (length (with_declaration before n c).declared) (map Some (filter is_word (placed at us)))
+      → IsWalk gives (length before.declared) (length (with_declaration before n c).declared) (map Some (filter is_state_word (placed at us)))
   alone_declared before n c b xs us none g p own =
       subst (λ ws. IsWalk gives (length before.declared) (length (with_declaration before n c).declared) (map Some ws))
-      (ap (λ ws. filter is_word (placed at us) ++ ws) none ∙ append-nil (filter is_word (placed at us))) (one_declared before n c b xs us g p own)
+      (ap (λ ws. filter is_state_word (placed at us) ++ ws) none ∙ append-nil (filter is_state_word (placed at us))) (one_declared before n c b xs us g p own)
 
   mutual
     statement_words : (x : Statement) (before : Before) (b : ℕ) → Grows (behind before x).declared (declarations s.own.inside)

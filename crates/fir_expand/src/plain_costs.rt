@@ -6,7 +6,7 @@ ghost use Rattle.fir_ast.specs.declared.place.Place.{Place};
 ghost use Rattle.fir_ast.specs.working.Views.{block_of, memory_part_of, stmt_of};
 ghost use Rattle.fir_names.specs.working.Parts.{when_view};
 ghost use Rattle.fir_type_table.specs.working.Saturated.{saturated};
-ghost use Rattle.fir_meaning.specs.Costs.{words_of};
+ghost use Rattle.fir_meaning.specs.Costs.{memory_words_of};
 ghost use Rattle.fir_expand.specs.working.OwnSums.{plain_cost, plain_cost_of_block};
 
 use crate::written_leaves::leaves_of_type;
@@ -51,7 +51,7 @@ fn plain_cost_of_when(when: &When) -> u64
 
 /// The leaves of all words of a memory; at most 2^64 - 1.
 fn words(fields: &[MemoryField]) -> u64
-    ensures { result ≡ saturated (words_of (map memory_part_of fields.now)) }
+    ensures { result ≡ saturated (memory_words_of (map memory_part_of fields.now)) }
 {
     match (first_depth(fields), first_word_type(fields)) {
         (Some(depth), Some(ty)) => times(depth, leaves_of_type(ty)),

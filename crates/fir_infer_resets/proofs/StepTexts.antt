@@ -10,19 +10,19 @@ use Rattle.fir_ast.specs.Texts.{reset_step_text, separated}
 use Rattle.fir_pass.specs.Faults.{Fault, fault_of, E18}
 use Rattle.fir_infer_resets.specs.declared.item.End.{End as EndOfCode}
 use Rattle.fir_meaning.specs.ResetItems.{End}
-use Rattle.fir_meaning.specs.ResetWalks.{item_text, items_text, items_of}
+use Rattle.fir_meaning.specs.ResetWalks.{reset_item_text, items_text, items_of}
 use Rattle.fir_infer_resets.specs.working.FoundKinds.{HasEnds, TellsWalk}
 use Rattle.fir_infer_resets.specs.working.Holding.{AreEnds, IsEnd, item_of}
 use Rattle.fir_infer_resets.specs.working.StepTexts.{text_at, text_where}
 use Rattle.fir_infer_resets.proofs.NumberedEnds.{number_at}
 
 -- the text of the end of a number, as the code reads it
-pub text_here : (owns : List EndOfCode) (x : ℕ) (d : EndOfCode) → x < length owns → item_text (item_of (get_or owns x d).item) ≡ text_at owns x
+pub text_here : (owns : List EndOfCode) (x : ℕ) (d : EndOfCode) → x < length owns → reset_item_text (item_of (get_or owns x d).item) ≡ text_at owns x
 text_here owns x d within = ap text_where (sym (slice_get-get_or owns x d within))
 
 -- one step more is taken
 pub one_more : (owns : List EndOfCode) (walk : List ℕ) (i x : ℕ) (d : EndOfCode) (steps longer : List ResetStep) (step : ResetStep) → slice_get walk i ≡ Some x → x < length owns
-    → d ≡ get_or owns x d → reset_step_text step ≡ item_text (item_of d.item) → longer ≡ steps ++ step ∷ []
+    → d ≡ get_or owns x d → reset_step_text step ≡ reset_item_text (item_of d.item) → longer ≡ steps ++ step ∷ []
     → map reset_step_text steps ++ map (text_at owns) (drop i walk) ≡ map (text_at owns) walk
     → map reset_step_text longer ++ map (text_at owns) (drop (i + 1) walk) ≡ map (text_at owns) walk
 one_more owns walk i x d steps longer step is there end text pushed before =
@@ -31,7 +31,7 @@ one_more owns walk i x d steps longer step is there end text pushed before =
     ap (λ ss. map reset_step_text ss ++ rest) pushed
     ∙ ap (λ ts. ts ++ rest) (map-append reset_step_text steps (step ∷ []))
     ∙ append_assoc (map reset_step_text steps) (reset_step_text step ∷ []) rest
-    ∙ ap (λ t. map reset_step_text steps ++ t ∷ rest) (text ∙ ap (λ o. item_text (item_of o.item)) end ∙ text_here owns x d there)
+    ∙ ap (λ t. map reset_step_text steps ++ t ∷ rest) (text ∙ ap (λ o. reset_item_text (item_of o.item)) end ∙ text_here owns x d there)
     ∙ ap (λ xs. map reset_step_text steps ++ map (text_at owns) xs) (sym left)
     ∙ before
 
@@ -47,7 +47,7 @@ end_beside (own ∷ owns) (f ∷ es) h zero e is = (own, refl, (by (same_Some f 
 end_beside (own ∷ owns) (f ∷ es) h (suc x) e is = end_beside owns es h.1 x e is
 
 abbrev end_text : End → List ℕ
-end_text e = item_text e.item
+end_text e = reset_item_text e.item
 
 -- the texts of the ends of numbers
 texts_beside : (owns : List EndOfCode) (ends : List End) → AreEnds owns ends → (walk : List ℕ) (es : List End) → HasEnds ends walk es → map (text_at owns) walk ≡ map end_text es
@@ -56,7 +56,7 @@ texts_beside owns ends are [] (e ∷ es) h = absurd h
 texts_beside owns ends are (x ∷ xs) [] h = absurd h
 texts_beside owns ends are (x ∷ xs) (e ∷ es) h =
     let own = end_beside owns ends are x e h.0 in
-    let here : text_at owns x ≡ end_text e = ap text_where own.1 ∙ ap item_text own.2.item in
+    let here : text_at owns x ≡ end_text e = ap text_where own.1 ∙ ap reset_item_text own.2.item in
     ap (λ t. t ∷ map (text_at owns) xs) here ∙ ap (λ ts. end_text e ∷ ts) (texts_beside owns ends are xs es h.1)
 
 -- with separators, told in the two ways

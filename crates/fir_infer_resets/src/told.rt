@@ -7,7 +7,7 @@ ghost use Rattle.fir_infer_resets.specs.working.FoundKinds.{TellsWalk};
 ghost use Rattle.fir_infer_resets.specs.working.Holding.{AreEnds, item_of};
 ghost use Rattle.fir_infer_resets.specs.working.ResetGraphs.{AllBelow};
 ghost use Rattle.fir_meaning.specs.ResetItems.{End as Meant};
-ghost use Rattle.fir_meaning.specs.ResetWalks.{item_text};
+ghost use Rattle.fir_meaning.specs.ResetWalks.{reset_item_text};
 ghost use Rattle.fir_infer_resets.specs.working.StepTexts.{text_at};
 
 use crate::item::{End, Item};
@@ -42,7 +42,7 @@ fn steps_of(alloc: Global, ends: &[End], walk: &[usize]) -> Result<Vec<ResetStep
 
 /// The step that an end is.
 fn step_of(alloc: Global, end: &End) -> Result<ResetStep, MemoryOut>
-    ensures { IfOk result (λ step. reset_step_text step ≡ item_text (item_of end.now.item)) }
+    ensures { IfOk result (λ step. reset_step_text step ≡ reset_item_text (item_of end.now.item)) }
 {
     match &end.item {
         Item::Leaf(_, path) => Ok(ResetStep::Leaf(path_name(alloc, path)?)),

@@ -7,7 +7,7 @@ use Rattle.std.proofs.lemmas.Option.{slice_get_within}
 use Rattle.fir_base.specs.Lists.{In}
 use Rattle.fir_base.proofs.Elements.{get_in, number_of}
 use Rattle.fir_bits.specs.working.Laws.{Monotone}
-use Rattle.fir_meaning.specs.WidthExpressions.{Widths, Width, known, unknown, single, pair, greater, guarded, width_of, Rule, Meets, IsLeastOf}
+use Rattle.fir_meaning.specs.WidthExpressions.{Widths, Width, known, unknown, single, pair, greater, guarded, width_of, Rule, MeetsRules, IsLeastOf}
 use Rattle.fir_meaning.proofs.LeastRules.{width_le, width_grows}
 use Rattle.fir_least_widths.specs.declared.bound.Term.{Term}
 use Rattle.fir_least_widths.specs.declared.bound.Term.TheVariants.{Known, Same, Single, Pair, Greater, Guarded}
@@ -44,7 +44,7 @@ made_le meant w (guarded c a) t (i, j, is, one, other) =
     rw (is, at_number meant w i c one, at_number meant w j a other) (guarded_le (width_of c w) (width_of a w) (width_le a w))
 
 -- the widths of expressions meet the bounds
-expressions_meet : (meant : List Width) (rules : List Rule) (bounds : List Bound) (w : Widths) → AreBoundsOf meant rules bounds → Meets rules w
+expressions_meet : (meant : List Width) (rules : List Rule) (bounds : List Bound) (w : Widths) → AreBoundsOf meant rules bounds → MeetsRules rules w
     → MeetsBounds bounds (widths_at meant w)
 expressions_meet meant rules bounds w are m = record { each = λ i b at. by b (are.only b (get_in bounds i b at)) }
   where
@@ -93,7 +93,7 @@ module _ (law : Monotone) (meant : List Width) (rules : List Rule) (bounds : Lis
       le_trans (guarded_grows (width_of c u) (u term.0) (width_of a u) (u term.1) (under c term.0 term.3) (under a term.1 term.4) (width_le a u))
       (held made.0 number (Guarded term.0 term.1) made.1 made.2 term.2)
 
-  rules_met : Meets rules u
+  rules_met : MeetsRules rules u
   rules_met = record { each = λ r at. asked r at }
     where
       asked : (r : Rule) → In rules r → width_of r.at_least u ≤ u r.number

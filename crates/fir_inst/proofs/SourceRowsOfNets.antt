@@ -11,7 +11,7 @@ use Rattle.fir_meaning.specs.LeafTypes.{LeafType, a_clock, number, number_type, 
 use Rattle.fir_meaning.specs.working.LeafModules.{Role, computed, leaf_at, register, sink, source}
 use Rattle.fir_meaning.specs.LeafPaths.{LeafPath, path_text}
 use Rattle.fir_meaning.specs.working.LeafStates as over
-use Rattle.fir_meaning.specs.SourceCircuits.{PlacedLeaf, all_arrays, all_leaves, is_sink, leaf_path, leaves_of_design, main_ports, ports_where, state_arrays, state_words}
+use Rattle.fir_meaning.specs.SourceCircuits.{PlacedLeaf, all_arrays, all_leaves, is_sink_role, leaf_path, leaves_of_design, main_ports, ports_where, state_arrays, state_words}
 use Rattle.fir_meaning.specs.SourceDesigns.{SourceDesign}
 use Rattle.fir_meaning.specs.SourceRoles as tree
 use Rattle.fir_meaning.specs.SourceRoles.{SourceRole}
@@ -148,8 +148,8 @@ module _ (c : LeafCircuit) (ports : ℕ) (net : FlatNet) (lone : IsLoneNet c por
       (λ x l at plain. width_at net.leaves x l at ∙ ap (λ (h : NumTy). h.width) (type_at c net lone.flat x l at plain))
       ∙ ap (over.widths_of c) lone.flat.outputs ∙ ap (λ (holds : ℕ → NumTy). map (λ x. (holds x).width) c.outputs) (types_are c t step)
       ∙ sym (map-map width_on (circuit_path c) c.outputs) ∙ ap (map width_on) step.outputs_are
-      ∙ map-map width_on leaf_path (ports_where is_sink has_bits t)
-      ∙ map_same _ _ (ports_where is_sink has_bits t)
+      ∙ map-map width_on leaf_path (ports_where is_sink_role has_bits t)
+      ∙ map_same _ _ (ports_where is_sink_role has_bits t)
       (λ (p : PlacedLeaf) m.
       ap (λ (h : LeafType). (number_type h).width)
       (holds_there c t step p (in_left (main_ports t) (leaves_of_design [] t) p (in_filter _ (main_ports t) p m))))

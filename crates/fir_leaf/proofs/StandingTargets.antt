@@ -15,7 +15,7 @@ use Rattle.fir_leaf.specs.working.Standing.{Stands, leaf_from}
 use Rattle.fir_meaning.specs.working.Targets.{Target, leaves_ahead, named_target, stride_from, field_target, element_target, picked_target, further}
 use Rattle.fir_meaning.specs.working.Terms.{Term, Picks, no_picks, pick}
 use Rattle.fir_meaning.specs.working.TermValues.{Holds, eval, leaf_of}
-use Rattle.fir_meaning.specs.TreeAims.{Aim, behind, named_aim, step_aim, field_aim, element_aim, picked_aim}
+use Rattle.fir_meaning.specs.TreeAims.{Aim, one_step_further, named_aim, step_aim, field_aim, element_aim, picked_aim}
 use Rattle.fir_meaning.specs.TreeValues.{TypesByPath, ValuesByPath, leaf_where}
 use Rattle.fir_leaf.proofs.LeafPlaces.{StandsFrom, field_stands_from, field_within, element_stands_from, element_within}
 use Rattle.fir_leaf.proofs.NamedPlaces.{path_of_named, named_in_whole}
@@ -46,7 +46,7 @@ first_further : {A : Type 0} (f : ℕ → A) (o : Option ℕ) (n k : ℕ) → op
 first_further f None n k = refl
 first_further f (Some b) n k = let same : (b + n) + k ≡ b + (n + k) = omega arith in rw same refl
 
-where_behind : (o : Option LeafPath) (s : Step) (q : LeafPath) → leaf_where (behind o s) q ≡ leaf_where o (s ∷ q)
+where_behind : (o : Option LeafPath) (s : Step) (q : LeafPath) → leaf_where (one_step_further o s) q ≡ leaf_where o (s ∷ q)
 where_behind None s q = refl
 where_behind (Some p) s q = ap Some (append_assoc p (s ∷ []) q)
 
@@ -161,7 +161,7 @@ module _ (whole : TypedScope) (holds : TypesByPath) (env : ValuesByPath) where
 
       -- what the index picks
       reached : (t : Bool) → nat_lt number n ≡ t → (k : ℕ) (l : TypeLeaf) → slice_get (type_leaves u) k ≡ Some l
-          → leaf_where (if t then behind a.at (element number) else None) l.path
+          → leaf_where (if t then one_step_further a.at (element number) else None) l.path
           ≡ option_map (path_at whole) (if t then leaf_from (numbered whole holds) (numbered whole env) r.base r.picks (number * leaf_count u + k) else None)
       reached true lt k l e =
           where_behind a.at (element number) l.path
@@ -176,7 +176,7 @@ module _ (whole : TypedScope) (holds : TypesByPath) (env : ValuesByPath) where
       reached_within false lt k y less e = absurd (cc)
 
       none_reached : (t : Bool) → nat_lt number n ≡ t → nat_lt 0 n ≡ false → (q : LeafPath)
-          → leaf_where (if t then behind a.at (element number) else None) q ≡ None
+          → leaf_where (if t then one_step_further a.at (element number) else None) q ≡ None
       none_reached true lt none q = let less : number < n = ltb-true number n lt in let some : nat_lt 0 n ≡ true = lt-ltb 0 n (omega arith) in absurd (cc)
       none_reached false lt none q = refl
 
@@ -188,8 +188,8 @@ module _ (whole : TypedScope) (holds : TypesByPath) (env : ValuesByPath) where
             data_type = u;
           })
           (record {
-            at = if nat_lt number n then behind a.at (element number) else None;
-            first = if t then behind a.first (element 0) else None;
+            at = if nat_lt number n then one_step_further a.at (element number) else None;
+            first = if t then one_step_further a.first (element 0) else None;
             data_type = u;
           })
       by true some =

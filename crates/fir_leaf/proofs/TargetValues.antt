@@ -18,7 +18,7 @@ use Rattle.fir_meaning.specs.working.Terms as over
 use Rattle.fir_meaning.specs.working.Terms.{Term, Picks}
 use Rattle.fir_meaning.specs.working.TermValues.{eval, leaf_of, value_at}
 use Rattle.fir_meaning.specs.TreeAims.{Aim}
-use Rattle.fir_meaning.specs.TreeValues.{TypesByPath, ValuesByPath, value_where, type_where, leaf_where, aim_value}
+use Rattle.fir_meaning.specs.TreeValues.{TypesByPath, ValuesByPath, value_where, leaf_type_where, leaf_where, aim_value}
 use Rattle.fir_meaning.specs.TypeParts.{ground_at}
 use Rattle.fir_leaf.proofs.AlikeTypes.{leaf_paths}
 use Rattle.fir_leaf.proofs.GroundParts.{ground_of_leaf}
@@ -52,11 +52,11 @@ module _ (whole : TypedScope) (holds : TypesByPath) (env : ValuesByPath) where
   number_value = eval (numbered whole holds) (numbered whole env)
 
   -- one leaf of what is named
-  type_there : (o : Option LeafPath) (t : DataType) (q p : LeafPath) → leaf_where o q ≡ Some p → type_where o t holds q ≡ holds p
+  type_there : (o : Option LeafPath) (t : DataType) (q p : LeafPath) → leaf_where o q ≡ Some p → leaf_type_where o t holds q ≡ holds p
   type_there None t q p h = absurd (cc)
   type_there (Some first) t q p h = ap holds (cc)
 
-  type_absent : (o : Option LeafPath) (t : DataType) (q : LeafPath) → leaf_where o q ≡ None → type_where o t holds q ≡ absent_type (ground_at t q)
+  type_absent : (o : Option LeafPath) (t : DataType) (q : LeafPath) → leaf_where o q ≡ None → leaf_type_where o t holds q ≡ absent_type (ground_at t q)
   type_absent None t q h = refl
   type_absent (Some first) t q h = absurd (cc)
 
@@ -68,7 +68,7 @@ module _ (whole : TypedScope) (holds : TypesByPath) (env : ValuesByPath) where
       → leaf_where at q ≡ option_map (path_at whole) (leaf_from (numbered whole holds) (numbered whole env) base ps k)
       → leaf_where first q ≡ option_map (λ b. path_at whole (b + k)) base
       → ground_at t q ≡ ground
-      → number_value (leaf_term base ps k ground) ≡ number_of (type_where first t holds q) (value_where (leaf_where at q) env)
+      → number_value (leaf_term base ps k ground) ≡ number_of (leaf_type_where first t holds q) (value_where (leaf_where at q) env)
   leaf_same None ps k ground at first t q a f e = rw (a, type_absent first t q f, e) refl
   leaf_same (Some b) ps k ground at first t q a f e =
       rw (a, type_there first t q (path_at whole (b + k)) f, value_there (leaf_of (numbered whole holds) (numbered whole env) (b + k) ps)) refl

@@ -21,7 +21,7 @@ use Rattle.fir_meaning.specs.TypeGroup.{scope_at, type_faults}
 use Rattle.fir_meaning.specs.TypeKinds.{is_passive}
 use Rattle.fir_meaning.specs.TypedScopes.{TypedScope}
 use Rattle.fir_meaning.specs.Visibility.{Before, at_head, behind_ports, with_declaration, declarations}
-use Rattle.fir_meaning.specs.WidthExpressions.{Width, Widths, Rule, Meets, unknown, width_of}
+use Rattle.fir_meaning.specs.WidthExpressions.{Width, Widths, Rule, MeetsRules, unknown, width_of}
 use Rattle.fir_meaning.specs.WidthRules.{AreWidths, rules, rules_in_block}
 use Rattle.fir_meaning.specs.working.WellTyped.{AreLegal}
 use Rattle.fir_meaning.specs.working.WidthLaws.{WidthsGrow}
@@ -148,7 +148,7 @@ module _ (grow : WidthsGrow) (c : CircuitTree) (names : HasNames c) (types : typ
             → ((d : Width)
             → In (matches false (renumbered (numbers_at s.own before).next (sized_type (sized_at s.own before) e)) (sized_type (sized_at s.own before) e))
             (record { driven = unknown j; driver = d }) → width_of d s.widths ≤ m)
-            → Meets (rules c) (lowered s.widths j m)
+            → MeetsRules (rules c) (lowered s.widths j m)
         lowered_meets j m within all = record {
           each = λ r i.
               let own = own_module c s.own is_in in

@@ -22,7 +22,7 @@ use Rattle.fir_meaning.specs.TypedScopes.{Known, TypedScope, known}
 use Rattle.fir_meaning.specs.Reaching.{Reached, known_reached}
 use Rattle.fir_meaning.specs.ExpressionTypes.{unsigned_at, condition_form, expression_type, reaching, reached_by}
 use Rattle.fir_meaning.specs.ComponentTypes.{instance_bundle, instance_type, component_type, known_as}
-use Rattle.fir_meaning.specs.TypeGroup.{clock_at, reset_at, init_at, clock_faults, reset_faults, flipped_faults, register_type_faults, sides, scope_at, type_faults_in, type_faults_in_block}
+use Rattle.fir_meaning.specs.TypeGroup.{register_clock_at, reset_at, init_at, clock_faults, reset_faults, flipped_faults, register_type_faults, sides, scope_at, type_faults_in, type_faults_in_block}
 use Rattle.fir_meaning.specs.working.WellTyped.{HasType, Reaches, MayReset, ResetIsLegal, ConnectIsLegal, IsLegal, AreLegal}
 use Rattle.fir_base.proofs.Empty.{empty_left, empty_right}
 use Rattle.fir_meaning.proofs.PassedTests.{passes}
@@ -52,7 +52,7 @@ reached_at : (k : Known) (t : DataType) → k.data_type ≡ Some t → known_rea
 reached_at k t e = rw e refl
 
 -- what a register's clock and its reset tell by an answer
-clock_type : (p : Place) (t y : DataType) → clock_at p t ≡ Ok y → t ≡ clock
+clock_type : (p : Place) (t y : DataType) → register_clock_at p t ≡ Ok y → t ≡ clock
 clock_type p clock y h = refl
 clock_type p t y h = cc
 
@@ -77,7 +77,7 @@ instance_there (m ∷ ms) n h = by (bytes_eq m.named.name n.name) refl h (λ k. 
 module _ (scope : TypedScope) (visible : Declarations) (knows : Knows scope visible) where
   clear_clock : (e : Expression) → faults_in (expression_mentions visible e) ≡ [] → clock_faults scope e ≡ [] → HasType scope e clock
   clear_clock e m h =
-      let own = clock_at (place_of e) in
+      let own = register_clock_at (place_of e) in
       let t = clear_type scope visible knows e m (operand_clear scope e own h) in
       let told = answer_after (expression_type scope e) t.type own (found_type scope e t.type t.has) h in
       subst (HasType scope e) (clock_type (place_of e) t.type told.0 told.1) t.has

@@ -3,7 +3,7 @@ use Rattle.std.proofs.Common.{◌≡◌, ℕ, ◌+◌, ◌≤◌, [], ◌∷◌,
 use Rattle.std.proofs.lemmas.Bool.Decides.{nat_tests}
 use Rattle.std.proofs.lemmas.Bool.{cases_eq}
 use Rattle.fir_base.specs.Lists.{In}
-use Rattle.fir_meaning.specs.WidthExpressions.{Widths, known, Rule, Meets, IsLeastOf, width_of}
+use Rattle.fir_meaning.specs.WidthExpressions.{Widths, known, Rule, MeetsRules, IsLeastOf, width_of}
 use Rattle.fir_meaning.specs.WidthRules.{rules, AreWidths}
 use Rattle.fir_meaning.proofs.WidthRows.{growing, shared, empty}
 
@@ -28,7 +28,7 @@ one_rule n width = record { meets = record { each = met }; least = least }
     met r (inl e) = subst (λ (x : Rule). width_of x.at_least (only n width) ≤ only n width x.number) e (at_it n (min width 129))
     met r (inr f) = absurd f
 
-    least : (v : Widths) → Meets (record { number = n; at_least = known width } ∷ []) v → (k : ℕ) → only n width k ≤ v k
+    least : (v : Widths) → MeetsRules (record { number = n; at_least = known width } ∷ []) v → (k : ℕ) → only n width k ≤ v k
     least v m k = below k n (min width 129) (v k) (λ e. rw e (m.each _ (inl refl)))
 
 pub empty_widths : AreWidths empty (only 2 0)
@@ -62,7 +62,7 @@ shared_widths = record { meets = record { each = met }; least = λ v m. least v 
     met r (inr (inr (inr (inr (inl e))))) = subst (λ (x : Rule). width_of x.at_least five ≤ five x.number) e (omega arith)
     met r (inr (inr (inr (inr (inr f))))) = absurd f
 
-    least : (v : Widths) → Meets (rules shared) v → (k : ℕ) → five k ≤ v k
+    least : (v : Widths) → MeetsRules (rules shared) v → (k : ℕ) → five k ≤ v k
     least v m =
         let x : 5 ≤ v 0 = m.each _ (inr (inr (inl refl))) in
         let y : min (v 0) 129 ≤ v 1 = m.each _ (inl refl) in
@@ -84,7 +84,7 @@ growing_widths = record { meets = record { each = met }; least = least }
     met r (inl e) = subst (λ (x : Rule). width_of x.at_least grown ≤ grown x.number) e (omega arith)
     met r (inr f) = absurd f
 
-    least : (v : Widths) → Meets (rules growing) v → (k : ℕ) → grown k ≤ v k
+    least : (v : Widths) → MeetsRules (rules growing) v → (k : ℕ) → grown k ≤ v k
     least v m k = by (cases_eq k 2)
       where
         two : 129 ≤ v 2

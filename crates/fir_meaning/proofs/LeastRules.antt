@@ -6,7 +6,7 @@ use Rattle.fir_base.specs.Lists.{In}
 use Rattle.fir_bits.specs.declared.operators.PrimOp.{PrimOp}
 use Rattle.fir_bits.specs.Widths.{width_of as operation_width_of, counted_width}
 use Rattle.fir_bits.specs.working.Laws.{Monotone}
-use Rattle.fir_meaning.specs.WidthExpressions.{Widths, Width, known, unknown, single, pair, greater, guarded, width_of, Rule, Meets, IsLeastOf}
+use Rattle.fir_meaning.specs.WidthExpressions.{Widths, Width, known, unknown, single, pair, greater, guarded, width_of, Rule, MeetsRules, IsLeastOf}
 use Rattle.fir_meaning.specs.working.WidthLaws.{WidthsGrow, HasLeast, OneLeast, LeastIsWithin}
 
 narrow_le : (a b : Bool) (x : ℕ) → (if a && b && nat_le x 128 then x else 129) ≤ 129
@@ -95,11 +95,11 @@ record Broken (rules : List Rule) (w : Widths) : Type 0 where
   is : In rules rule
   less : w rule.number < width_of rule.at_least w
 
-met_or_not : (rs : List Rule) (w : Widths) → Meets rs w ⊎ Broken rs w
+met_or_not : (rs : List Rule) (w : Widths) → MeetsRules rs w ⊎ Broken rs w
 met_or_not [] w = inl (record { each = λ r at. absurd at })
 met_or_not (r ∷ rs) w = by (cases_lt (w r.number) (width_of r.at_least w)) (met_or_not rs w)
   where
-    by : (w r.number < width_of r.at_least w) ⊎ (width_of r.at_least w ≤ w r.number) → Meets rs w ⊎ Broken rs w → Meets (r ∷ rs) w ⊎ Broken (r ∷ rs) w
+    by : (w r.number < width_of r.at_least w) ⊎ (width_of r.at_least w ≤ w r.number) → MeetsRules rs w ⊎ Broken rs w → MeetsRules (r ∷ rs) w ⊎ Broken (r ∷ rs) w
     by (inl l) m = inr (record { rule = r; is = inl refl; less = l })
     by (inr g) (inr b) = inr (record { rule = b.rule; is = inr b.is; less = b.less })
     by (inr g) (inl m) = inl (record { each = each })
@@ -109,7 +109,7 @@ met_or_not (r ∷ rs) w = by (cases_lt (w r.number) (width_of r.at_least w)) (me
         each s (inr at) = m.each s at
 
 abbrev Under : List Rule → Widths → Type 0
-Under rules w = (v : Widths) → Meets rules v → (k : ℕ) → w k ≤ v k
+Under rules w = (v : Widths) → MeetsRules rules v → (k : ℕ) → w k ≤ v k
 
 -- what the raise of a broken rule does
 record Climbs (rules : List Rule) (w v : Widths) : Type 0 where
@@ -131,12 +131,12 @@ climbs law rules w top under b =
 climbed : Monotone → (rules : List Rule) (fuel : ℕ) (w : Widths) → room rules w ≤ fuel → ((k : ℕ) → w k ≤ 129) → Under rules w → (v : Widths) × IsLeastOf rules v
 climbed law rules zero w enough top under =
     ⊎_elim
-    (λ (m : Meets rules w). (w, record { meets = m; least = under }))
+    (λ (m : MeetsRules rules w). (w, record { meets = m; least = under }))
     (λ (b : Broken rules w). absurd (omega (arith, (climbs law rules w top under b).less)))
     (met_or_not rules w)
 climbed law rules (suc n) w enough top under =
     ⊎_elim
-    (λ (m : Meets rules w). (w, record { meets = m; least = under }))
+    (λ (m : MeetsRules rules w). (w, record { meets = m; least = under }))
     (λ (b : Broken rules w).
     let c : Climbs rules w (raise w b.rule) = climbs law rules w top under b in
     climbed law rules n (raise w b.rule) (omega (arith, c.less)) c.top c.under)

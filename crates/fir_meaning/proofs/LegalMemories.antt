@@ -7,7 +7,7 @@ use Rattle.fir_ast.specs.Statements.{PlacedName, MemoryPart}
 use Rattle.fir_meaning.specs.TypeKinds.{is_passive, is_sized}
 use Rattle.fir_meaning.specs.KindFaults.{not_passive, memory_field}
 use Rattle.fir_meaning.specs.MemoryTypes.{data_of_part, depth_of_part, first_one, memory_bundle, memory_type}
-use Rattle.fir_meaning.specs.MemoryFaults.{read_latency_of_part, write_latency_of_part, read_under_write_of_part, is_one, is_at_most_one, unless, flipped_data, memory_faults}
+use Rattle.fir_meaning.specs.MemoryFaults.{read_latency_of_part, write_latency_of_part, read_under_write_of_part, is_one, is_at_most_one, field_faults_unless, flipped_data, memory_faults}
 use Rattle.fir_meaning.specs.working.WellTyped.{MemoryIsLegal}
 use Rattle.fir_meaning.proofs.PassedTests.{passes}
 use Rattle.fir_base.proofs.Empty.{empty_left, empty_right}
@@ -31,11 +31,11 @@ clear_memory n parts h =
     let writes = flat_map write_latency_of_part parts in
     let rules = flat_map read_under_write_of_part parts in
     let flips = flipped_data n (first_one types) in
-    let of_data = unless (is_one is_sized types) n (codes "data-type") in
-    let of_depth = unless (is_one (λ words. nat_le 1 words) depths) n (codes "depth") in
-    let of_read = unless (is_one (λ l. nat_le l 1) reads) n (codes "read-latency") in
-    let of_write = unless (is_one (λ l. l == 1) writes) n (codes "write-latency") in
-    let of_rule = unless (is_at_most_one rules) n (codes "read-under-write") in
+    let of_data = field_faults_unless (is_one is_sized types) n (codes "data-type") in
+    let of_depth = field_faults_unless (is_one (λ words. nat_le 1 words) depths) n (codes "depth") in
+    let of_read = field_faults_unless (is_one (λ l. nat_le l 1) reads) n (codes "read-latency") in
+    let of_write = field_faults_unless (is_one (λ l. l == 1) writes) n (codes "write-latency") in
+    let of_rule = field_faults_unless (is_at_most_one rules) n (codes "read-under-write") in
     let before_rule = empty_left ((((flips ++ of_data) ++ of_depth) ++ of_read) ++ of_write) of_rule h in
     let before_write = empty_left (((flips ++ of_data) ++ of_depth) ++ of_read) of_write before_rule in
     let before_read = empty_left ((flips ++ of_data) ++ of_depth) of_read before_write in

@@ -14,7 +14,7 @@ use Rattle.fir_meaning.specs.Checked.{is_found, shown_after}
 use Rattle.fir_meaning.specs.TypedScopes.{TypedScope}
 use Rattle.fir_meaning.specs.Reaching.{Reached}
 use Rattle.fir_meaning.specs.ExpressionTypes.{expression_type, reaching, reached_by}
-use Rattle.fir_meaning.specs.TypeGroup.{clock_at, reset_at, init_at, clock_faults, reset_faults, flipped_faults, sides, scope_at, type_faults_in, type_faults_in_block}
+use Rattle.fir_meaning.specs.TypeGroup.{register_clock_at, reset_at, init_at, clock_faults, reset_faults, flipped_faults, sides, scope_at, type_faults_in, type_faults_in_block}
 use Rattle.fir_meaning.specs.working.WellTyped.{HasType, Reaches, MayReset, ResetIsLegal, ConnectIsLegal, IsLegal, AreLegal}
 use Rattle.fir_meaning.proofs.FoundTypes.{after_found, together_found, found_condition, found_type, found_sink}
 use Rattle.fir_meaning.proofs.LegalConnects.{faults_of_sides, legal_connect}
@@ -28,7 +28,7 @@ may_reset p t h = cc
 
 module _ (scope : TypedScope) where
   legal_clock : (e : Expression) → HasType scope e clock → clock_faults scope e ≡ []
-  legal_clock e h = ap (λ c. c.shows) (after_found (expression_type scope e) clock clock (clock_at (place_of e)) (found_type scope e clock h) refl)
+  legal_clock e h = ap (λ c. c.shows) (after_found (expression_type scope e) clock clock (register_clock_at (place_of e)) (found_type scope e clock h) refl)
 
   legal_reset : (t : DataType) (r : Option Reset) → ResetIsLegal scope t r → reset_faults scope t r ≡ []
   legal_reset t None h = refl

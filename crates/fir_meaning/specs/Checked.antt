@@ -11,15 +11,15 @@ abbrev pub is_found : {A : Type 0} → A → Checked A
 is_found x = record { has = Some x; shows = [] }
 
 -- what names nothing: a fault of another group
-abbrev pub nothing : {A : Type 0} → Checked A
-nothing = record { has = None; shows = [] }
+abbrev pub nothing_found : {A : Type 0} → Checked A
+nothing_found = record { has = None; shows = [] }
 
 abbrev pub answered : {A : Type 0} → Result A Fault → Checked A
 answered (Ok x) = is_found x
 answered (Err f) = record { has = None; shows = f ∷ [] }
 
 abbrev pub answer_on : {A B : Type 0} → Option A → (A → Result B Fault) → Checked B
-answer_on None own = nothing
+answer_on None own = nothing_found
 answer_on (Some x) own = answered (own x)
 
 -- a form on an operand, from what it says itself of what its operand is

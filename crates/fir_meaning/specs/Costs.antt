@@ -72,8 +72,8 @@ size_of_reset scope None = 0
 size_of_reset scope (Some r) = size scope r.condition + size scope r.init
 
 -- the words of a memory, each with its leaves
-abbrev pub words_of : List MemoryPart → ℕ
-words_of parts = unwrap_or (first_one (flat_map depth_of_part parts)) 0 * leaves_where (first_one (flat_map data_of_part parts))
+abbrev pub memory_words_of : List MemoryPart → ℕ
+memory_words_of parts = unwrap_or (first_one (flat_map depth_of_part parts)) 0 * leaves_where (first_one (flat_map data_of_part parts))
 
 -- a sink, with the expressions in its dynamic indices
 abbrev pub size_of_sink : TypedScope → Sink → ℕ
@@ -91,7 +91,7 @@ abbrev mutual
       leaf_count t + size (scope_at modules before) c + size_of_reset (scope_at modules (with_declaration before n (component.register t))) r
   cost_of modules costs before (node p n e) = typed_leaves (scope_at modules before) e + size (scope_at modules before) e
   cost_of modules costs before (instance p n other) = 1 + leaves_where (instance_type modules other.name) + costs other.name
-  cost_of modules costs before (memory p n parts) = words_of parts + leaves_where (memory_type n.place parts)
+  cost_of modules costs before (memory p n parts) = memory_words_of parts + leaves_where (memory_type n.place parts)
   cost_of modules costs before (when p c a b) =
       1 + size (scope_at modules before) c + cost_of_block modules costs (opened before) a
       + cost_of_block modules costs (reopened before (behind_block (opened before) a)) b

@@ -32,8 +32,8 @@ is_at_most_one [] = true
 is_at_most_one (x ∷ []) = true
 is_at_most_one _ = false
 
-abbrev pub unless : Bool → PlacedName → List ℕ → List Fault
-unless holds n word = if holds then [] else memory_field n.place n.name word ∷ []
+abbrev pub field_faults_unless : Bool → PlacedName → List ℕ → List Fault
+field_faults_unless holds n word = if holds then [] else memory_field n.place n.name word ∷ []
 
 abbrev pub flipped_data : PlacedName → Option DataType → List Fault
 flipped_data n None = []
@@ -42,8 +42,8 @@ flipped_data n (Some t) = if is_passive t then [] else not_passive n.place t ∷
 abbrev pub memory_faults : PlacedName → List MemoryPart → List Fault
 memory_faults n parts =
     flipped_data n (first_one (flat_map data_of_part parts))
-    ++ unless (is_one is_sized (flat_map data_of_part parts)) n (codes "data-type")
-    ++ unless (is_one (λ words. nat_le 1 words) (flat_map depth_of_part parts)) n (codes "depth")
-    ++ unless (is_one (λ l. nat_le l 1) (flat_map read_latency_of_part parts)) n (codes "read-latency")
-    ++ unless (is_one (λ l. l == 1) (flat_map write_latency_of_part parts)) n (codes "write-latency")
-    ++ unless (is_at_most_one (flat_map read_under_write_of_part parts)) n (codes "read-under-write")
+    ++ field_faults_unless (is_one is_sized (flat_map data_of_part parts)) n (codes "data-type")
+    ++ field_faults_unless (is_one (λ words. nat_le 1 words) (flat_map depth_of_part parts)) n (codes "depth")
+    ++ field_faults_unless (is_one (λ l. nat_le l 1) (flat_map read_latency_of_part parts)) n (codes "read-latency")
+    ++ field_faults_unless (is_one (λ l. l == 1) (flat_map write_latency_of_part parts)) n (codes "write-latency")
+    ++ field_faults_unless (is_at_most_one (flat_map read_under_write_of_part parts)) n (codes "read-under-write")

@@ -11,8 +11,8 @@ use Rattle.fir_meaning.specs.Components.{Declaration, find, find_name}
 use Rattle.fir_meaning.specs.Mentions.{Mention, declares, uses, instantiates, circuit_mentions, module_names}
 use Rattle.fir_meaning.specs.Hierarchy.{IsClosedWalk}
 
-abbrev pub unknown : Place → List ℕ → Fault
-unknown p name = record { code = E08; place = p; evidence = codes "unknown " ++ name }
+abbrev pub unknown_name : Place → List ℕ → Fault
+unknown_name p name = record { code = E08; place = p; evidence = codes "unknown " ++ name }
 
 abbrev pub twice : Place → List ℕ → Place → Fault
 twice p name first = record { code = E09; place = p; evidence = codes "twice " ++ name ++ codes " " ++ place_text first }
@@ -28,11 +28,11 @@ second_faults None n = []
 second_faults (Some first) n = twice n.place n.name first.place ∷ []
 
 abbrev pub hidden_faults : Option Declaration → Place → List ℕ → List Fault
-hidden_faults None p name = unknown p name ∷ []
+hidden_faults None p name = unknown_name p name ∷ []
 hidden_faults (Some d) p name = []
 
 abbrev pub missing_faults : Option PlacedName → PlacedName → List Fault
-missing_faults None m = unknown m.place m.name ∷ []
+missing_faults None m = unknown_name m.place m.name ∷ []
 missing_faults (Some found) m = []
 
 abbrev pub mention_faults : Mention → List Fault

@@ -69,14 +69,14 @@ pub record IsResetWalk (c : CircuitTree) (begins first : End) (others : List End
   pub chain : IsChain c begins (first ∷ others ++ ends ∷ [])
   pub once : Distinct (begins ∷ first ∷ others ++ ends ∷ [])
 
-abbrev pub item_text : Item → List ℕ
-item_text (leaf_item number path) = path_text path
-item_text (value_item p) = place_text p
+abbrev pub reset_item_text : Item → List ℕ
+reset_item_text (leaf_item number path) = path_text path
+reset_item_text (value_item p) = place_text p
 
 abbrev pub items_text : List Item → List ℕ
 items_text [] = []
-items_text (x ∷ []) = item_text x
-items_text (x ∷ xs) = item_text x ++ codes " - " ++ items_text xs
+items_text (x ∷ []) = reset_item_text x
+items_text (x ∷ xs) = reset_item_text x ++ codes " - " ++ items_text xs
 
 abbrev pub reset_fault : End → End → List End → End → Fault
 reset_fault begins first others ends =

@@ -19,17 +19,17 @@ use Rattle.fir_meaning.specs.SourceValues.{PathEnv, are_met, clock_at, clock_sho
 
 module _ (t : SourceDesign) where
   -- by what the leaf holds
-  abbrev pub Shows : List ℕ → List ℕ → PathEnv → PlacedLeaf → LeafType → Type 0
-  Shows state given env p (number h) =
+  abbrev pub LeafShows : List ℕ → List ℕ → PathEnv → PlacedLeaf → LeafType → Type 0
+  LeafShows state given env p (number h) =
       (number_shown t env state given p.at (leaf_path p) p.leaf.role ≡ Some (env.numbers (leaf_path p)))
       × (env.numbers (leaf_path p) < 2 ^ h.width) × (env.clocks (leaf_path p) ≡ None)
-  Shows state given env p a_clock =
+  LeafShows state given env p a_clock =
       (clock_shown t env p.at (leaf_path p) p.leaf.role ≡ Some (env.clocks (leaf_path p))) × (env.numbers (leaf_path p) ≡ 0)
 
   pub record Settled (state : List ℕ) (tick : Tick) (env : PathEnv) : Type 0 where
     -- the state and the tick have the shape of the design
     pub shaped : HasShape (source_shape t) state tick
-    pub each : (p : PlacedLeaf) → In (all_leaves t) p → Shows state tick.inputs env p p.leaf.holds
+    pub each : (p : PlacedLeaf) → In (all_leaves t) p → LeafShows state tick.inputs env p p.leaf.holds
     pub no_more_numbers : (x : LeafPath) → (In (paths_of (all_leaves t)) x → ⊥) → env.numbers x ≡ 0
     pub no_more_clocks : (x : LeafPath) → (In (paths_of (all_leaves t)) x → ⊥) → env.clocks x ≡ None
 

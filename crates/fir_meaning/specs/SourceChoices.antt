@@ -34,14 +34,14 @@ module _ (depth : ℕ) (x : LeafPath) where
   reaches f d = are_taken f (drop depth d.under) && may_drive d && (not d.driven.is_picked || f d.way)
 
   -- the last of the drives that reach the leaf
-  abbrev pub last : Choice → List Drive → Option Drive
-  last f [] = None
-  last f (d ∷ ds) = later (last f ds) (if reaches f d then Some d else None)
+  abbrev pub last_reaching : Choice → List Drive → Option Drive
+  last_reaching f [] = None
+  last_reaching f (d ∷ ds) = later (last_reaching f ds) (if reaches f d then Some d else None)
 
   -- a drive is live under some choice
   pub record IsLive (ds : List Drive) (d : Drive) : Type 0 where
     pub choice : Choice
-    pub last : last choice ds ≡ Some d
+    pub last : last_reaching choice ds ≡ Some d
 
   -- what it reads for the leaf: the conditions from the leaf's declaration inward, the indices on the leaf's side, and what is given
   abbrev pub live_reads : Scene → Drive → List LeafPath

@@ -80,8 +80,8 @@ is_state (register scope clock reset q) = true
 is_state (pipe r clock under_write) = true
 is_state _ = false
 
-abbrev pub is_word : PlacedLeaf → Bool
-is_word p = is_state p.leaf.role && has_bits p.leaf.holds
+abbrev pub is_state_word : PlacedLeaf → Bool
+is_state_word p = is_state p.leaf.role && has_bits p.leaf.holds
 
 abbrev pub is_stored_array : PlacedArray → Bool
 is_stored_array p = has_bits p.array.holds
@@ -92,7 +92,7 @@ module _ (at : LeafPath) (s : Scene) (child : List ℕ → List PlacedLeaf) wher
     pub words_in : Before → Statement → List PlacedLeaf
     words_in before (instance p n other) = child n.name
     words_in before (when p c a b) = words_in_block (opened before) a ++ words_in_block (reopened before (behind_block (opened before) a)) b
-    words_in before x = filter is_word (placed at (sources_in s before x))
+    words_in before x = filter is_state_word (placed at (sources_in s before x))
 
     pub words_in_block : Before → Block → List PlacedLeaf
     words_in_block before done = []
@@ -134,13 +134,13 @@ abbrev pub state_arrays : SourceDesign → List PlacedArray
 state_arrays t = array_order_of_design [] t
 
 -- a source among the main module's ports is an input, a sink an output; clocks are told apart from numbers
-abbrev pub is_source : SourceRole → Bool
-is_source source = true
-is_source _ = false
+abbrev pub is_source_role : SourceRole → Bool
+is_source_role source = true
+is_source_role _ = false
 
-abbrev pub is_sink : SourceRole → Bool
-is_sink sink = true
-is_sink _ = false
+abbrev pub is_sink_role : SourceRole → Bool
+is_sink_role sink = true
+is_sink_role _ = false
 
 abbrev pub ports_where : (SourceRole → Bool) → (LeafType → Bool) → SourceDesign → List PlacedLeaf
 ports_where has_role holds t = filter (λ (p : PlacedLeaf). has_role p.leaf.role && holds p.leaf.holds) (main_ports t)
@@ -149,26 +149,26 @@ abbrev pub paths_of : List PlacedLeaf → List LeafPath
 paths_of ps = map leaf_path ps
 
 abbrev pub inputs : SourceDesign → List LeafPath
-inputs t = paths_of (ports_where is_source has_bits t)
+inputs t = paths_of (ports_where is_source_role has_bits t)
 
 abbrev pub clock_inputs : SourceDesign → List LeafPath
-clock_inputs t = paths_of (ports_where is_source is_clock t)
+clock_inputs t = paths_of (ports_where is_source_role is_clock t)
 
 abbrev pub outputs : SourceDesign → List LeafPath
-outputs t = paths_of (ports_where is_sink has_bits t)
+outputs t = paths_of (ports_where is_sink_role has_bits t)
 
 abbrev pub clock_outputs : SourceDesign → List LeafPath
-clock_outputs t = paths_of (ports_where is_sink is_clock t)
+clock_outputs t = paths_of (ports_where is_sink_role is_clock t)
 
-abbrev pub widths_of : List PlacedLeaf → List ℕ
-widths_of ps = map (λ (p : PlacedLeaf). (number_type p.leaf.holds).width) ps
+abbrev pub widths_of_leaves : List PlacedLeaf → List ℕ
+widths_of_leaves ps = map (λ (p : PlacedLeaf). (number_type p.leaf.holds).width) ps
 
 abbrev pub widths_in : PlacedArray → List ℕ
 widths_in p = replicate p.array.words (number_type p.array.holds).width
 
 abbrev pub source_shape : SourceDesign → Shape
 source_shape t = record {
-  inputs = widths_of (ports_where is_source has_bits t);
+  inputs = widths_of_leaves (ports_where is_source_role has_bits t);
   clocks = length (clock_inputs t);
-  state = widths_of (state_words t) ++ flat_map widths_in (state_arrays t);
+  state = widths_of_leaves (state_words t) ++ flat_map widths_in (state_arrays t);
 }

@@ -73,6 +73,6 @@ module _ (t : SourceDesign) where
   Depends x y = (p : PlacedLeaf) × In (all_leaves t) p × (leaf_path p ≡ x) × LeafDepends p y
 
   -- from a leaf through these, each of which the one before it depends on; the last one is named
-  abbrev pub IsWalk : LeafPath → List LeafPath → LeafPath → Type 0
-  IsWalk x [] final = x ≡ final
-  IsWalk x (y ∷ ys) final = Depends x y × IsWalk y ys final
+  abbrev pub IsDependenceWalk : LeafPath → List LeafPath → LeafPath → Type 0
+  IsDependenceWalk x [] final = x ≡ final
+  IsDependenceWalk x (y ∷ ys) final = Depends x y × IsDependenceWalk y ys final

@@ -40,14 +40,14 @@ abbrev pub source_may_drive : Scene → LeafPath → Bool
 source_may_drive s (named x ∷ path) = driven_of (known (typed_scope s.own.modules (declarations s.own.inside)) x) path
 source_may_drive s _ = false
 
-abbrev pub ports_where : Option (ℕ × ModuleTree) → List PortTree
-ports_where None = []
-ports_where (Some child) = child.1.ports
+abbrev pub ports_of_child : Option (ℕ × ModuleTree) → List PortTree
+ports_of_child None = []
+ports_of_child (Some child) = child.1.ports
 
 -- a leaf of an instance that is driven within it stands at the port of its module, any other at its declaration
 abbrev pub place_of_leaf : List ModuleTree → Bool → Place → Component → LeafPath → Place
 place_of_leaf modules is_driven p (instance other) path =
-    if is_driven then p else port_place p (ports_where (numbered_module 0 modules other)) path
+    if is_driven then p else port_place p (ports_of_child (numbered_module 0 modules other)) path
 place_of_leaf modules is_driven p c path = p
 
 abbrev pub no_place : Place

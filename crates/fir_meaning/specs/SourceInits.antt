@@ -12,7 +12,7 @@ use Rattle.fir_pass.specs.Groups.{Group, any_of}
 use Rattle.fir_meaning.specs.LeafPaths.{LeafPath, path_text}
 use Rattle.fir_meaning.specs.SourceCircuits.{PlacedLeaf, all_leaves, leaf_path}
 use Rattle.fir_meaning.specs.SourceClocks.{IsOfSource}
-use Rattle.fir_meaning.specs.SourceDependence.{IsWalk, from_main}
+use Rattle.fir_meaning.specs.SourceDependence.{IsDependenceWalk, from_main}
 use Rattle.fir_meaning.specs.SourceDesigns.{SourceDesign}
 use Rattle.fir_meaning.specs.SourceLoops.{StandsAt}
 use Rattle.fir_meaning.specs.SourceReads.{reads}
@@ -38,7 +38,7 @@ module _ (t : SourceDesign) where
     pub read : In (from_main leaf.at (reads reset.scope reset.init within)) first
     pub rest : List LeafPath
     pub final : PlacedLeaf
-    pub walk : IsWalk t first rest (leaf_path final)
+    pub walk : IsDependenceWalk t first rest (leaf_path final)
     pub is_final : In (all_leaves t) final
     pub ends : IsTrue (is_input_or_state final.leaf.role)
     pub distinct : Distinct (first ∷ rest)

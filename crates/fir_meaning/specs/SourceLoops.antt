@@ -12,7 +12,7 @@ use Rattle.fir_pass.specs.Groups.{Group, any_of}
 use Rattle.fir_meaning.specs.Elaborated.{IsSourceOf}
 use Rattle.fir_meaning.specs.LeafPaths.{LeafPath, path_text}
 use Rattle.fir_meaning.specs.SourceCircuits.{PlacedLeaf, all_leaves, leaf_path}
-use Rattle.fir_meaning.specs.SourceDependence.{IsWalk, PlacedModule, all_modules}
+use Rattle.fir_meaning.specs.SourceDependence.{IsDependenceWalk, PlacedModule, all_modules}
 use Rattle.fir_meaning.specs.SourceDesigns.{SourceDesign}
 use Rattle.fir_meaning.specs.SourceFacts.{source_place}
 
@@ -30,7 +30,7 @@ module _ (t : SourceDesign) where
   pub record ShowsLoop (f : FirFault) : Type 0 where
     pub first : LeafPath
     pub between : List LeafPath
-    pub walk : IsWalk t first (between ++ first ∷ []) first
+    pub walk : IsDependenceWalk t first (between ++ first ∷ []) first
     pub distinct : Distinct (first ∷ between)
     pub place : Place
     pub stands : StandsAt first place

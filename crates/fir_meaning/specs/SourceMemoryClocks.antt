@@ -49,14 +49,14 @@ module _ (s : Scene) where
   TakesClockOf x y = (l : SourceLeaf) × In (source_leaves s) l × (l.path ≡ x) × (l.holds ≡ a_clock) × RoleNames x l.role y
 
   -- a chain leads from the one through these to the other
-  abbrev pub IsChain : LeafPath → List LeafPath → LeafPath → Type 0
-  IsChain x [] final = x ≡ final
-  IsChain x (y ∷ ys) final = TakesClockOf x y × IsChain y ys final
+  abbrev pub IsClockChain : LeafPath → List LeafPath → LeafPath → Type 0
+  IsClockChain x [] final = x ≡ final
+  IsClockChain x (y ∷ ys) final = TakesClockOf x y × IsClockChain y ys final
 
   -- the chain of a clock leaf ends at an input, or at what an instance gives
   pub record HasClock (x root : LeafPath) : Type 0 where
     pub through : List LeafPath
-    pub chain : IsChain x through root
+    pub chain : IsClockChain x through root
     pub leaf : SourceLeaf
     pub among : In (source_leaves s) leaf
     pub is : leaf.path ≡ root

@@ -4,7 +4,7 @@ use Rattle.std.specs.Prelude.{◌≡◌, ℕ, ◌++◌, Bool, true, false, ◌&&
 use Rattle.fir_ast.specs.declared.place.Place.{Place}
 use Rattle.fir_meaning.specs.Lack.{is_before}
 use Rattle.fir_meaning.specs.LeafPaths.{LeafPath}
-use Rattle.fir_meaning.specs.SourceCircuits.{PlacedLeaf, all_leaves, is_sink, leaf_path}
+use Rattle.fir_meaning.specs.SourceCircuits.{PlacedLeaf, all_leaves, is_sink_role, leaf_path}
 use Rattle.fir_meaning.specs.SourceDependence.{PlacedModule, all_modules}
 use Rattle.fir_meaning.specs.SourceDesigns.{SourceDesign}
 use Rattle.fir_meaning.specs.SourceFacts.{source_may_drive}
@@ -30,5 +30,5 @@ pub record HasRank (t : SourceDesign) (p : PlacedLeaf) (r : Rank) : Type 0 where
   pub stands : StandsAt t (leaf_path p) r.place
   pub giver : PlacedModule
   pub is_giver : slice_get (all_modules t) r.holder ≡ Some giver
-  pub given : IsGivenIn (is_sink p.leaf.role) p giver
+  pub given : IsGivenIn (is_sink_role p.leaf.role) p giver
   pub is_leaf : slice_get (all_leaves t) r.leaf ≡ Some p

@@ -9,7 +9,7 @@ use Rattle.fir_ast.specs.Statements.{Statement, when}
 use Rattle.fir_meaning.specs.LeafPaths.{LeafPath}
 use Rattle.fir_meaning.specs.ModuleScenes.{Scene}
 use Rattle.fir_meaning.specs.Outcomes.{ComesFirst, told_once, write_told}
-use Rattle.fir_meaning.specs.SourceChoices.{Choice, are_taken, last, may_drive}
+use Rattle.fir_meaning.specs.SourceChoices.{Choice, are_taken, last_reaching, may_drive}
 use Rattle.fir_meaning.specs.SourceDrives.{Drive, drives}
 use Rattle.fir_meaning.specs.Visits.{Visit, visits}
 
@@ -32,7 +32,7 @@ module _ (s : Scene) (depth : ℕ) (x : LeafPath) where
 
   module _ (vs : List Visit) where
     abbrev pub IsUndriven : Choice → Type 0
-    IsUndriven f = last depth x f (flat_map (drives s) vs) ≡ None
+    IsUndriven f = last_reaching depth x f (flat_map (drives s) vs) ≡ None
 
     abbrev pub told_all : Choice → List Outcome
     told_all f = flat_map (told f) vs

@@ -11,7 +11,7 @@ use Rattle.fir_meaning.specs.LeafPaths.{path_text}
 use Rattle.fir_meaning.specs.ModuleScenes.{Scene}
 use Rattle.fir_meaning.specs.Scenes.{IsSceneOf}
 use Rattle.fir_meaning.specs.SourceChoices.{Choice}
-use Rattle.fir_meaning.specs.SourceCircuits.{is_sink}
+use Rattle.fir_meaning.specs.SourceCircuits.{is_sink_role}
 use Rattle.fir_meaning.specs.SourceFacts.{source_depth, source_place}
 use Rattle.fir_meaning.specs.SourceRoles.{SourceLeaf, source_leaves}
 use Rattle.fir_meaning.specs.SourceUndriven.{IsFirstUndriven, IsUndriven}
@@ -21,13 +21,13 @@ use Rattle.fir_meaning.specs.Visits.{module_visits}
 module _ (s : Scene) where
   pub record ShowsUndriven (l : SourceLeaf) (f : FirFault) : Type 0 where
     pub outcomes : List Outcome
-    pub is_sink : IsTrue (is_sink l.role)
+    pub is_sink : IsTrue (is_sink_role l.role)
     pub first : IsFirstUndriven s (source_depth s l.path) l.path (module_visits s.own.inside) outcomes
     pub is : f ≡ Undriven (source_place s l.path) (path_text l.path) outcomes
 
   -- no choice leaves a leaf undriven that statements must drive
   abbrev pub IsDriven : SourceLeaf → Type 0
-  IsDriven l = IsTrue (is_sink l.role) → (f : Choice) → IsUndriven s (source_depth s l.path) l.path (module_visits s.own.inside) f → ⊥
+  IsDriven l = IsTrue (is_sink_role l.role) → (f : Choice) → IsUndriven s (source_depth s l.path) l.path (module_visits s.own.inside) f → ⊥
 
   -- so it is for the leaves before the one of a number
   abbrev pub AreDrivenBefore : ℕ → Type 0

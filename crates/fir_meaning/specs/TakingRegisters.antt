@@ -19,16 +19,16 @@ abbrev pub takes_by : Bool → SourceRole → Bool
 takes_by is_driven (register scope clock reset q) = is_driven || has_reset reset
 takes_by is_driven _ = false
 
-abbrev pub is_word : SourceLeaf → Bool
-is_word l = is_state l.role && has_bits l.holds
+abbrev pub is_register_word : SourceLeaf → Bool
+is_register_word l = is_state l.role && has_bits l.holds
 
 module _ (s : Scene) where
   abbrev pub is_driven : LeafPath → Bool
   is_driven path = list_any (λ (d : Drive). has_path d.driven.leaves path) (module_drives s)
 
-  abbrev pub takes : SourceLeaf → Bool
-  takes l = takes_by (is_driven l.path) l.role
+  abbrev pub takes_value : SourceLeaf → Bool
+  takes_value l = takes_by (is_driven l.path) l.role
 
   -- the words of its state, in their order
   abbrev pub taking_words : List Bool
-  taking_words = map takes (filter is_word (source_leaves s))
+  taking_words = map takes_value (filter is_register_word (source_leaves s))

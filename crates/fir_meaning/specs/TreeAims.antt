@@ -18,8 +18,8 @@ pub record Aim : Type 0 where
 abbrev pub at_nothing : Aim
 at_nothing = record { at = None; first = None; data_type = no_leaves }
 
-abbrev pub behind : Option LeafPath → Step → Option LeafPath
-behind path s = option_map (λ p. p ++ s ∷ []) path
+abbrev pub one_step_further : Option LeafPath → Step → Option LeafPath
+one_step_further path s = option_map (λ p. p ++ s ∷ []) path
 
 abbrev pub whole_aim : List ℕ → Option DataType → Aim
 whole_aim name None = at_nothing
@@ -29,7 +29,7 @@ abbrev pub named_aim : TypedScope → List ℕ → Aim
 named_aim scope name = whole_aim name (type_of_known (known scope name))
 
 abbrev pub step_aim : Step → DataType → Aim → Aim
-step_aim s t a = record { at = behind a.at s; first = behind a.first s; data_type = t }
+step_aim s t a = record { at = one_step_further a.at s; first = one_step_further a.first s; data_type = t }
 
 abbrev pub field_aim_at : List ℕ → Aim → Option FieldFound → Aim
 field_aim_at x a None = at_nothing
@@ -49,8 +49,8 @@ element_aim i a = element_aim_at i a (vector_of_type a.data_type)
 abbrev pub picked_aim_at : ℕ → Aim → Option (DataType × ℕ) → Aim
 picked_aim_at i a None = at_nothing
 picked_aim_at i a (Some v) = record {
-  at = if nat_lt i v.1 then behind a.at (element i) else None;
-  first = if nat_lt 0 v.1 then behind a.first (element 0) else None;
+  at = if nat_lt i v.1 then one_step_further a.at (element i) else None;
+  first = if nat_lt 0 v.1 then one_step_further a.first (element 0) else None;
   data_type = v.0;
 }
 

@@ -26,9 +26,9 @@ value_where None env = 0
 value_where (Some p) env = env p
 
 -- the type of a leaf behind a path; one that is not there has the type that is written
-abbrev pub type_where : Option LeafPath → DataType → TypesByPath → LeafPath → NumTy
-type_where (Some first) t holds q = holds (first ++ q)
-type_where None t holds q = absent_type (ground_at t q)
+abbrev pub leaf_type_where : Option LeafPath → DataType → TypesByPath → LeafPath → NumTy
+leaf_type_where (Some first) t holds q = holds (first ++ q)
+leaf_type_where None t holds q = absent_type (ground_at t q)
 
 abbrev pub leaf_where : Option LeafPath → LeafPath → Option LeafPath
 leaf_where None q = None
@@ -36,7 +36,7 @@ leaf_where (Some p) q = Some (p ++ q)
 
 -- the value of a leaf of what is named
 abbrev pub aim_value : TypesByPath → ValuesByPath → Aim → LeafPath → Num
-aim_value holds env a q = number_of (type_where a.first a.data_type holds q) (value_where (leaf_where a.at q) env)
+aim_value holds env a q = number_of (leaf_type_where a.first a.data_type holds q) (value_where (leaf_where a.at q) env)
 
 module _ (scope : TypedScope) (holds : TypesByPath) (env : ValuesByPath) where
   abbrev mutual

@@ -25,9 +25,9 @@ use Rattle.fir_meaning.specs.MemoryFaults.{memory_faults}
 use Rattle.fir_meaning.specs.ConnectFaults.{connect_faults, partial_connect_faults}
 
 -- a register's clock
-abbrev pub clock_at : Place → DataType → Result DataType Fault
-clock_at p clock = Ok clock
-clock_at p t = Err (wrong_kinds p (t ∷ []))
+abbrev pub register_clock_at : Place → DataType → Result DataType Fault
+register_clock_at p clock = Ok clock
+register_clock_at p t = Err (wrong_kinds p (t ∷ []))
 
 -- the condition of its reset
 abbrev pub reset_at : Place → DataType → Result DataType Fault
@@ -41,7 +41,7 @@ abbrev pub init_at : Place → DataType → DataType → Result DataType Fault
 init_at p t u = if is_equivalent t u then Ok u else Err (wrong_types p t u)
 
 abbrev pub clock_faults : TypedScope → Expression → List Fault
-clock_faults scope e = (after (expression_type scope e) (clock_at (place_of e))).shows
+clock_faults scope e = (after (expression_type scope e) (register_clock_at (place_of e))).shows
 
 abbrev pub reset_faults : TypedScope → DataType → Option Reset → List Fault
 reset_faults scope t None = []

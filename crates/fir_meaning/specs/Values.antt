@@ -13,12 +13,12 @@ abbrev pub number_of : NumTy → ℕ → Num
 number_of t n = record { signed = t.signed; value = record { width = t.width; number = n } }
 
 -- without a written width a literal has the least that holds it; 129 stands for all that is over 128 bits
-abbrev pub literal_width : Option ℕ → Bool → Bool → ℕ → ℕ
-literal_width None signed negative magnitude = least_width signed negative magnitude
-literal_width (Some width) signed negative magnitude = min width 129
+abbrev pub counted_literal_width : Option ℕ → Bool → Bool → ℕ → ℕ
+counted_literal_width None signed negative magnitude = least_width signed negative magnitude
+counted_literal_width (Some width) signed negative magnitude = min width 129
 
 abbrev pub literal_type : Literal → NumTy
-literal_type l = record { signed = l.signed; width = literal_width l.width l.signed l.negative l.magnitude }
+literal_type l = record { signed = l.signed; width = counted_literal_width l.width l.signed l.negative l.magnitude }
 
 abbrev pub literal_value : Literal → Num
 literal_value l = number_of (literal_type l) (bits_of (literal_type l).width (of_sign l.negative l.magnitude))

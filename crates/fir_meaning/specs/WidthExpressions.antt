@@ -32,10 +32,10 @@ pub record Rule : Type 0 where
   pub number : ℕ
   pub at_least : Width
 
-pub record Meets (rules : List Rule) (w : Widths) : Type 0 where
+pub record MeetsRules (rules : List Rule) (w : Widths) : Type 0 where
   pub each : (r : Rule) → In rules r → width_of r.at_least w ≤ w r.number
 
 -- the least assignment that meets all rules, unknown by unknown; one without a rule is 0
 pub record IsLeastOf (rules : List Rule) (w : Widths) : Type 0 where
-  pub meets : Meets rules w
-  pub least : (v : Widths) → Meets rules v → (k : ℕ) → w k ≤ v k
+  pub meets : MeetsRules rules w
+  pub least : (v : Widths) → MeetsRules rules v → (k : ℕ) → w k ≤ v k

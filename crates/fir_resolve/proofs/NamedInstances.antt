@@ -3,7 +3,7 @@ use Rattle.std.proofs.Common.{◌≡◌, ℕ, List, [], ◌∷◌, Some, None, i
 use Rattle.std.specs.Prelude.{Option}
 use Rattle.fir_ast.specs.Statements.{PlacedName}
 use Rattle.fir_meaning.specs.Components.{find_name}
-use Rattle.fir_meaning.specs.NameGroups.{missing_faults, unknown}
+use Rattle.fir_meaning.specs.NameGroups.{missing_faults, unknown_name}
 use Rattle.fir_names.specs.working.ModuleOrder.{find_number}
 use Rattle.fir_names.specs.working.Numbered.{number_of}
 use Rattle.fir_resolve.proofs.NumberedModules.{has_number}
@@ -15,7 +15,7 @@ not_missing : (o : Option PlacedName) (m : PlacedName) → is_some o ≡ true �
 not_missing None m there = absurd (cc)
 not_missing (Some x) m there = refl
 
-is_missing : (o : Option PlacedName) (m : PlacedName) → is_some o ≡ false → missing_faults o m ≡ unknown m.place m.name ∷ []
+is_missing : (o : Option PlacedName) (m : PlacedName) → is_some o ≡ false → missing_faults o m ≡ unknown_name m.place m.name ∷ []
 is_missing None m absent = refl
 is_missing (Some x) m absent = absurd (cc)
 
@@ -24,5 +24,5 @@ pub module_there : (modules : List PlacedName) (m : PlacedName) (k : ℕ) → So
 module_there modules m k is = not_missing (find_name modules m.name) m (sym (has_number modules m.name) ∙ ap is_some (sym is))
 
 pub module_absent : (modules : List PlacedName) (m : PlacedName) → None ≡ find_number modules m.name
-    → missing_faults (find_name modules m.name) m ≡ unknown m.place m.name ∷ []
+    → missing_faults (find_name modules m.name) m ≡ unknown_name m.place m.name ∷ []
 module_absent modules m is = is_missing (find_name modules m.name) m (sym (has_number modules m.name) ∙ ap is_some (sym is))

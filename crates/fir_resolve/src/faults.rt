@@ -10,7 +10,7 @@ use std::alloc::Global;
 
 /// E08: a name or a module that is not visible.
 pub fn unknown(alloc: Global, place: Place, name: &Name) -> Result<FirFault, MemoryOut>
-    ensures { IfOk result (λ f. fault_of f ≡ group.unknown place name.now) }
+    ensures { IfOk result (λ f. fault_of f ≡ group.unknown_name place name.now) }
 {
     Ok(FirFault::Unknown(place, name.copy(alloc)?))
 }

@@ -20,7 +20,7 @@ use Rattle.fir_meaning.specs.LeafPaths.{LeafPath, named}
 use Rattle.fir_meaning.specs.ModuleScenes.{Declared, Scene, behind_all_ports, held_by_declared, scope_before, type_of_declared}
 use Rattle.fir_meaning.specs.working.LeafedModules.{declared_leaves, instance_place, instance_role, leaves_from, leaves_in, leaves_in_block, leaves_of_ports, memory_before, module_leaves, port_role, register_role, role_in}
 use Rattle.fir_meaning.specs.ResetJoins.{numbered_module, port_place}
-use Rattle.fir_meaning.specs.SourceFacts.{place_of_leaf, ports_where, place_where, source_may_drive, source_place}
+use Rattle.fir_meaning.specs.SourceFacts.{place_of_leaf, ports_of_child, place_where, source_may_drive, source_place}
 use Rattle.fir_meaning.specs.TypeLeaves.{TypeLeaf}
 use Rattle.fir_meaning.specs.Visibility.{Before, at_head, behind, behind_block, behind_ports, declaration_at, declarations, opened, reopened, with_declaration}
 use Rattle.fir_meaning.proofs.FoundDeclarations.{Once, once_found}
@@ -58,7 +58,7 @@ module _ (modules : List ModuleTree) (all : Declarations) where
     where
       by : (o : Option (ℕ × ModuleTree)) (flip test : Bool) → test ≡ may_drive (if flip then sink else source)
           → instance_place n o (record { path = l.path; flip = flip; ground_type = l.ground_type })
-          ≡ (if test then n.place else port_place n.place (ports_where o) l.path)
+          ≡ (if test then n.place else port_place n.place (ports_of_child o) l.path)
       by None flip true h = refl
       by None flip false h = refl
       by (Some child) true true h = refl

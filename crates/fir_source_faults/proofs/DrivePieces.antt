@@ -13,7 +13,7 @@ use Rattle.fir_meaning.specs.working.LeafBlocks as leafed
 use Rattle.fir_meaning.specs.LeafPaths.{LeafPath}
 use Rattle.fir_meaning.specs.working.LeafedBlocks.{alone}
 use Rattle.fir_meaning.specs.ModuleScenes.{Scene}
-use Rattle.fir_meaning.specs.SourceChoices.{Choice, are_taken, has_path, last, may_drive}
+use Rattle.fir_meaning.specs.SourceChoices.{Choice, are_taken, has_path, last_reaching, may_drive}
 use Rattle.fir_meaning.specs.SourceDrives.{Drive, Side}
 use Rattle.fir_meaning.specs.SourceUndriven.{told_drive}
 use Rattle.fir_meaning.specs.working.TermReads as by_number
@@ -49,7 +49,7 @@ module _ (s : Scene) (depth x : ℕ) (under : List Branch) (k : ℕ) where
       by h false = refl
 
   -- drives that may not drive the leaf
-  nothing_last : (h : Choice) (ds : List Drive) → list_any (may_drive depth path) ds ≡ false → last depth path h ds ≡ None
+  nothing_last : (h : Choice) (ds : List Drive) → list_any (may_drive depth path) ds ≡ false → last_reaching depth path h ds ≡ None
   nothing_last h [] e = refl
   nothing_last h (d ∷ ds) e =
       let both = or_parts (may_drive depth path d) (list_any (may_drive depth path) ds) e in
@@ -118,7 +118,7 @@ module _ (s : Scene) (depth x : ℕ) (under : List Branch) (k : ℕ) where
           chosen false = tt
 
           agree : (f : over.Choice) (h : Choice) → are_taken h (drop depth under) ≡ true → h way ≡ f (false ∷ [])
-              → SameLast s depth x (outer_reads s depth under) (last_all depth x the_block k f) (last depth path h (the_drive ∷ []))
+              → SameLast s depth x (outer_reads s depth under) (last_all depth x the_block k f) (last_reaching depth path h (the_drive ∷ []))
               × (numbered.told_all depth x the_block k f ≡ told_by (the_drive ∷ []) h)
           agree f h taken e =
               (rw (among, picked, taken, e) (chosen (has_path driven.leaves path && (not driven.is_picked || f (false ∷ [])))), rw (among, picked, taken, e) refl)

@@ -110,8 +110,8 @@ module _ (depth x : ℕ) where
 
 -- drives by paths behind others
 pub last_behind : (depth : ℕ) (x : LeafPath) (f : tree.Choice) (ds es : List Drive)
-    → tree.last depth x f (ds ++ es) ≡ tree.later (tree.last depth x f es) (tree.last depth x f ds)
-last_behind depth x f [] es = sym (nothing_later (tree.last depth x f es))
+    → tree.last_reaching depth x f (ds ++ es) ≡ tree.later (tree.last_reaching depth x f es) (tree.last_reaching depth x f ds)
+last_behind depth x f [] es = sym (nothing_later (tree.last_reaching depth x f es))
 last_behind depth x f (d ∷ ds) es =
     ap (λ (o : Option Drive). tree.later o (if tree.reaches depth x f d then Some d else None)) (last_behind depth x f ds es)
-    ∙ tree_thrice (tree.last depth x f es) (tree.last depth x f ds) (if tree.reaches depth x f d then Some d else None)
+    ∙ tree_thrice (tree.last_reaching depth x f es) (tree.last_reaching depth x f ds) (if tree.reaches depth x f d then Some d else None)

@@ -54,7 +54,7 @@ use Rattle.fir_source_faults.proofs.LoneNumbers.{HaveNoInstances, body_same, lon
 use Rattle.fir_source_faults.proofs.RoleReads.{path_reads, role_reads, by_role, by_sink, of_role, of_sink, path_by_role, path_by_sink, path_of_role, path_of_sink}
 
 -- roles are sinks in both
-sink_below : (c : LeafCircuit) (at : LeafPath) (r : Role) (q : SourceRole) → SameRoleBelow c at r q → role.is_sink r ≡ source.is_sink q
+sink_below : (c : LeafCircuit) (at : LeafPath) (r : Role) (q : SourceRole) → SameRoleBelow c at r q → role.is_sink r ≡ source.is_sink_role q
 sink_below c at role.source sources.source h = refl
 sink_below c at role.sink sources.sink h = refl
 sink_below c at (role.computed t) (sources.computed scope e p) h = refl
@@ -146,7 +146,7 @@ module _ (circuit : CircuitTree) (roles : ViewsHaveRoles) (s : Scene) (is : Item
   record TreeLeaf (x : ℕ) (leaf : PlacedLeaf) : Type 0 where
     at : leaf.at ≡ []
     path : leaf_path leaf ≡ circuit_path c x
-    sink : role.is_sink (role_of c x) ≡ source.is_sink leaf.leaf.role
+    sink : role.is_sink (role_of c x) ≡ source.is_sink_role leaf.leaf.role
     reads : paths_in s (role_reads (role_of c x)) ≡ path_reads leaf.leaf.role
 
   leaf_by : (x : ℕ) (p : PlacedLeaf) → slice_get (all_leaves t) x ≡ Some p → TreeLeaf x p

@@ -13,7 +13,7 @@ use Rattle.fir_meaning.specs.working.LeafCircuits.{LeafCircuit}
 use Rattle.fir_meaning.specs.working.LeafNames.{path_of_leaf, place_of_leaf}
 use Rattle.fir_meaning.specs.LeafPaths.{LeafPath, path_text}
 use Rattle.fir_meaning.specs.working.LoopFaults as numbered
-use Rattle.fir_meaning.specs.SourceDependence.{Depends, IsWalk}
+use Rattle.fir_meaning.specs.SourceDependence.{Depends, IsDependenceWalk}
 use Rattle.fir_meaning.specs.SourceDesigns.{SourceDesign}
 use Rattle.fir_meaning.specs.SourceLoops.{ShowsLoop, StandsAt}
 use Rattle.fir_leaf.specs.working.SoundDesigns.{circuit_path}
@@ -37,7 +37,7 @@ module _ (c : LeafCircuit) (t : SourceDesign) (s : SameDependence c t) where
   AreWithin = AllByRecursion (λ x. x < length c.leaves)
 
   -- from numbers to paths
-  walk_by_path : (x : ℕ) (ys : List ℕ) (final : ℕ) → over.IsWalk c x ys final → IsWalk t (path x) (map path ys) (path final)
+  walk_by_path : (x : ℕ) (ys : List ℕ) (final : ℕ) → over.IsWalk c x ys final → IsDependenceWalk t (path x) (map path ys) (path final)
   walk_by_path x [] final h = ap path h
   walk_by_path x (y ∷ ys) final h = (s.by_path x y h.0, walk_by_path y ys final h.1)
 
@@ -73,7 +73,7 @@ module _ (c : LeafCircuit) (t : SourceDesign) (s : SameDependence c t) where
         first = path h.first;
         between = map path h.between;
         walk =
-            subst (λ ps. IsWalk t (path h.first) ps (path h.first)) (map-append path h.between (h.first ∷ []))
+            subst (λ ps. IsDependenceWalk t (path h.first) ps (path h.first)) (map-append path h.between (h.first ∷ []))
             (walk_by_path h.first (h.between ++ h.first ∷ []) h.first h.walk);
         distinct = distinct_by_path (h.first ∷ h.between) within h.distinct;
         place = place_of_leaf c h.first;
@@ -90,7 +90,7 @@ module _ (c : LeafCircuit) (t : SourceDesign) (s : SameDependence c t) where
     first_is : path first ≡ p
     rest_is : map path rest ≡ qs
 
-  numbers_of : (p : LeafPath) (qs : List LeafPath) (last final : LeafPath) → IsWalk t p (qs ++ last ∷ []) final → Numbers p qs
+  numbers_of : (p : LeafPath) (qs : List LeafPath) (last final : LeafPath) → IsDependenceWalk t p (qs ++ last ∷ []) final → Numbers p qs
   numbers_of p [] last final h =
       let x = s.numbered p last h.0 in
       record { first = x.0; rest = []; first_within = x.1; rest_within = tt; first_is = x.2; rest_is = refl }
@@ -107,7 +107,7 @@ module _ (c : LeafCircuit) (t : SourceDesign) (s : SameDependence c t) where
       }
 
   walk_by_number : (x : ℕ) (ys : List ℕ) (final : ℕ) → x < length c.leaves → AreWithin ys → final < length c.leaves
-      → IsWalk t (path x) (map path ys ++ path final ∷ []) (path final) → over.IsWalk c x (ys ++ final ∷ []) final
+      → IsDependenceWalk t (path x) (map path ys ++ path final ∷ []) (path final) → over.IsWalk c x (ys ++ final ∷ []) final
   walk_by_number x [] final lt within less h = (s.by_number x final lt less h.0, refl)
   walk_by_number x (y ∷ ys) final lt within less h =
       (s.by_number x y lt within.0 h.0, walk_by_number y ys final within.0 within.1 less h.1)
@@ -117,7 +117,7 @@ module _ (c : LeafCircuit) (t : SourceDesign) (s : SameDependence c t) where
   distinct_by_number (x ∷ xs) h = (λ m. h.0 (in_map path xs x m), distinct_by_number xs h.1)
 
   shown_at : (f : FirFault) (x : ℕ) (ys : List ℕ) (place : Place) → x < length c.leaves → AreWithin ys
-      → IsWalk t (path x) (map path ys ++ path x ∷ []) (path x) → Distinct (path x ∷ map path ys) → StandsAt t (path x) place
+      → IsDependenceWalk t (path x) (map path ys ++ path x ∷ []) (path x) → Distinct (path x ∷ map path ys) → StandsAt t (path x) place
       → f ≡ Loop place (map path_text (path x ∷ map path ys ++ path x ∷ [])) → numbered.ShowsLoop c f
   shown_at f x ys place lt within walk distinct stands is = record {
     first = x;
@@ -133,12 +133,12 @@ module _ (c : LeafCircuit) (t : SourceDesign) (s : SameDependence c t) where
       go h.first h.between n.first n.rest n.first_is n.rest_is n.first_within n.rest_within h.walk h.distinct h.stands h.is
     where
       go : (p : LeafPath) (qs : List LeafPath) (x : ℕ) (ys : List ℕ) → path x ≡ p → map path ys ≡ qs → x < length c.leaves → AreWithin ys
-          → IsWalk t p (qs ++ p ∷ []) p → Distinct (p ∷ qs) → StandsAt t p h.place
+          → IsDependenceWalk t p (qs ++ p ∷ []) p → Distinct (p ∷ qs) → StandsAt t p h.place
           → f ≡ Loop h.place (map path_text (p ∷ qs ++ p ∷ [])) → numbered.ShowsLoop c f
       go p qs x ys e es =
-          subst (λ rs. x < length c.leaves → AreWithin ys → IsWalk t p (rs ++ p ∷ []) p → Distinct (p ∷ rs) → StandsAt t p h.place
+          subst (λ rs. x < length c.leaves → AreWithin ys → IsDependenceWalk t p (rs ++ p ∷ []) p → Distinct (p ∷ rs) → StandsAt t p h.place
           → f ≡ Loop h.place (map path_text (p ∷ rs ++ p ∷ [])) → numbered.ShowsLoop c f) es
-          (subst (λ r. x < length c.leaves → AreWithin ys → IsWalk t r (map path ys ++ r ∷ []) r → Distinct (r ∷ map path ys) → StandsAt t r h.place
+          (subst (λ r. x < length c.leaves → AreWithin ys → IsDependenceWalk t r (map path ys ++ r ∷ []) r → Distinct (r ∷ map path ys) → StandsAt t r h.place
           → f ≡ Loop h.place (map path_text (r ∷ map path ys ++ r ∷ [])) → numbered.ShowsLoop c f) e
           (shown_at f x ys h.place))
 

@@ -8,7 +8,7 @@ use Rattle.fir_meaning.specs.working.LeafModules.{depth_at}
 use Rattle.fir_meaning.specs.LeafPaths.{LeafPath}
 use Rattle.fir_meaning.specs.ModuleScenes.{Scene, behind_all_ports}
 use Rattle.fir_meaning.specs.working.LeafedModules.{leafed_module, module_leaves}
-use Rattle.fir_meaning.specs.SourceChoices.{Choice, are_taken, last}
+use Rattle.fir_meaning.specs.SourceChoices.{Choice, are_taken, last_reaching}
 use Rattle.fir_meaning.specs.SourceDrives.{Drive, module_drives}
 use Rattle.fir_meaning.specs.SourceFacts.{source_depth}
 use Rattle.fir_meaning.specs.SourceUndriven.{told_all}
@@ -52,15 +52,15 @@ module _ (s : Scene) (fine : IsFineScene s) (x : ℕ) (reading : ReadsByPath s) 
 
   Agreeing : over.Choice → Choice → Type 0
   Agreeing f g =
-      SameLast s depth x [] (over.last_all depth x body 0 f) (last depth path g (module_drives s))
+      SameLast s depth x [] (over.last_all depth x body 0 f) (last_reaching depth path g (module_drives s))
       × (numbered.told_all depth x body 0 f ≡ told_all s depth path vs g)
 
   agreeing : (f : over.Choice) (g : Choice) → Agree s depth x [] [] 0 body (module_drives s) (told_all s depth path vs) f g
-      → SameLast s depth x [] (over.last_all depth x body 0 f) (last depth path g (module_drives s))
+      → SameLast s depth x [] (over.last_all depth x body 0 f) (last_reaching depth path g (module_drives s))
       × (numbered.told_all depth x body 0 f ≡ told_all s depth path vs g)
   agreeing f g agree =
       let both = agree g (λ w. refl) (none_round g) in
-      (subst (λ (o : List LeafPath). SameLast s depth x o (over.last_all depth x body 0 f) (last depth path g (module_drives s))) no_reads both.0, both.1)
+      (subst (λ (o : List LeafPath). SameLast s depth x o (over.last_all depth x body 0 f) (last_reaching depth path g (module_drives s))) no_reads both.0, both.1)
 
   live_of : (o : Option Live) (p : Option Drive) (l : Live) → SameLast s depth x [] o p → o ≡ Some l → (d : Drive) × (p ≡ Some d) × SameLive s x l d
   live_of None p l h e = absurd (cc)
@@ -86,9 +86,9 @@ module _ (s : Scene) (fine : IsFineScene s) (x : ℕ) (reading : ReadsByPath s) 
   none_back (Some l) None h e = absurd h
   none_back o (Some d) h e = absurd (cc)
 
-  undriven_same : (f : over.Choice) (g : Choice) → SameLast s depth x [] (over.last_all depth x body 0 f) (last depth path g (module_drives s))
+  undriven_same : (f : over.Choice) (g : Choice) → SameLast s depth x [] (over.last_all depth x body 0 f) (last_reaching depth path g (module_drives s))
       → numbered.told_all depth x body 0 f ≡ told_all s depth path vs g → over.last_all depth x body 0 f ≡ None
-      → last depth path g (module_drives s) ≡ None → SameUndriven s x f g
+      → last_reaching depth path g (module_drives s) ≡ None → SameUndriven s x f g
   undriven_same f g same told_same by_number by_path = record {
     by_number = subst (λ n. numbered.IsUndriven n x body f) (sym depth_is) by_number;
     by_path = by_path;
@@ -102,12 +102,12 @@ module _ (s : Scene) (fine : IsFineScene s) (x : ℕ) (reading : ReadsByPath s) 
         let there = subst (λ n. over.IsLive n x body l) depth_is is in
         let to = whole.forth there.choice in
         let both = agreeing there.choice to.0 to.1 in
-        let found = live_of (over.last_all depth x body 0 there.choice) (last depth path to.0 (module_drives s)) l both.0 there.last in
+        let found = live_of (over.last_all depth x body 0 there.choice) (last_reaching depth path to.0 (module_drives s)) l both.0 there.last in
         (found.0, record { choice = to.0; last = found.1 }, found.2);
     live_back = λ d is.
         let to = whole.back is.choice in
         let both = agreeing to.0 is.choice to.1 in
-        let found = drive_of (over.last_all depth x body 0 to.0) (last depth path is.choice (module_drives s)) d both.0 is.last in
+        let found = drive_of (over.last_all depth x body 0 to.0) (last_reaching depth path is.choice (module_drives s)) d both.0 is.last in
         let there : over.IsLive depth x body found.0 = record { choice = to.0; last = found.1 } in
         (found.0, subst (λ n. over.IsLive n x body found.0) (sym depth_is) there, found.2);
     undriven = λ f none.
@@ -116,14 +116,14 @@ module _ (s : Scene) (fine : IsFineScene s) (x : ℕ) (reading : ReadsByPath s) 
         let both = agreeing f to.0 to.1 in (
           to.0,
           undriven_same f to.0 both.0 both.1 there
-              (none_of (over.last_all depth x body 0 f) (last depth path to.0 (module_drives s)) both.0 there),
+              (none_of (over.last_all depth x body 0 f) (last_reaching depth path to.0 (module_drives s)) both.0 there),
         );
     undriven_back = λ g none.
         let to = whole.back g in
         let both = agreeing to.0 g to.1 in (
           to.0,
           undriven_same to.0 g both.0 both.1
-              (none_back (over.last_all depth x body 0 to.0) (last depth path g (module_drives s)) both.0 none) none,
+              (none_back (over.last_all depth x body 0 to.0) (last_reaching depth path g (module_drives s)) both.0 none) none,
         );
   }
 

@@ -9,7 +9,7 @@ use Rattle.fir_meaning.specs.working.Choices.{Live, first_part, last_all, second
 use Rattle.fir_meaning.specs.working.LeafBlocks.{LeafBlock, joined}
 use Rattle.fir_meaning.specs.LeafPaths.{LeafPath}
 use Rattle.fir_meaning.specs.ModuleScenes.{Scene, scope_before}
-use Rattle.fir_meaning.specs.SourceChoices.{Choice, are_taken, last, later, live_reads, may_drive}
+use Rattle.fir_meaning.specs.SourceChoices.{Choice, are_taken, last_reaching, later, live_reads, may_drive}
 use Rattle.fir_meaning.specs.SourceDrives.{Drive}
 use Rattle.fir_meaning.specs.SourceReads as tree
 use Rattle.fir_meaning.specs.working.UndrivenChoices as numbered
@@ -54,13 +54,13 @@ module _ (s : Scene) (depth x : ℕ) where
     abbrev pub Agree : LeafBlock → List Drive → (Choice → List Outcome) → over.Choice → Choice → Type 0
     Agree b ds told f g =
         (h : Choice) → ((w : List Bool) → h (way ++ w) ≡ g w) → are_taken h (drop depth under) ≡ true
-        → SameLast (outer_reads s depth under) (last_all depth x b k f) (last depth (path_in s x) h ds)
+        → SameLast (outer_reads s depth under) (last_all depth x b k f) (last_reaching depth (path_in s x) h ds)
         × (numbered.told_all depth x b k f ≡ told h)
 
     pub record Piece (b : LeafBlock) (ds : List Drive) (told : Choice → List Outcome) : Type 0 where
       pub forth : (f : over.Choice) → (g : Choice) × Agree b ds told f g
       pub back : (g : Choice) → (f : over.Choice) × Agree b ds told f g
-      pub unreached : (h : Choice) → are_taken h (drop depth under) ≡ false → (last depth (path_in s x) h ds ≡ None) × (told h ≡ [])
+      pub unreached : (h : Choice) → are_taken h (drop depth under) ≡ false → (last_reaching depth (path_in s x) h ds ≡ None) × (told h ≡ [])
       pub holds : drives_any x b ≡ list_any (may_drive depth (path_in s x)) ds
 
     pub retold : (b : LeafBlock) (ds : List Drive) (told other : Choice → List Outcome) → ((h : Choice) → told h ≡ other h) → Piece b ds told
@@ -91,8 +91,8 @@ module _ (s : Scene) (depth x : ℕ) where
         let two = second h (inside way true h g g₂ agrees is₂) taken in
         let path = path_in s x in
         let all : SameLast (outer_reads s depth under) (over.later (last_all depth x b k f₂) (last_all depth x a k f₁))
-        (later (last depth path h es) (last depth path h ds)) =
-        same_later (outer_reads s depth under) (last_all depth x b k f₂) (last_all depth x a k f₁) (last depth path h es) (last depth path h ds) two.0 one.0 in
+        (later (last_reaching depth path h es) (last_reaching depth path h ds)) =
+        same_later (outer_reads s depth under) (last_all depth x b k f₂) (last_all depth x a k f₁) (last_reaching depth path h es) (last_reaching depth path h ds) two.0 one.0 in
         (rw (is_last, last_behind depth path h ds es) all, is_told ∙ ap₂ (λ (os ps : List Outcome). os ++ ps) one.1 two.1)
 
     -- one behind the other

@@ -63,7 +63,7 @@ by_sink body depth x (role.pipe r c u) y e h = cc
 
 -- the same by paths
 module _ (t : SourceDesign) (at x : LeafPath) where
-  pub path_of_role : (r : SourceRole) (y : LeafPath) → source.is_sink r ≡ false → tree.RoleDepends t at x r y → In (from_main at (path_reads r)) y
+  pub path_of_role : (r : SourceRole) (y : LeafPath) → source.is_sink_role r ≡ false → tree.RoleDepends t at x r y → In (from_main at (path_reads r)) y
   path_of_role sources.source y e h = absurd h
   path_of_role sources.sink y e h = cc
   path_of_role (sources.computed scope c q) y e h = h
@@ -71,7 +71,7 @@ module _ (t : SourceDesign) (at x : LeafPath) where
   path_of_role (sources.reading r) y e h = h
   path_of_role (sources.pipe r c u) y e h = absurd h
 
-  pub path_by_role : (r : SourceRole) (y : LeafPath) → source.is_sink r ≡ false → In (from_main at (path_reads r)) y → tree.RoleDepends t at x r y
+  pub path_by_role : (r : SourceRole) (y : LeafPath) → source.is_sink_role r ≡ false → In (from_main at (path_reads r)) y → tree.RoleDepends t at x r y
   path_by_role sources.source y e h = absurd h
   path_by_role sources.sink y e h = cc
   path_by_role (sources.computed scope c q) y e h = h
@@ -79,7 +79,7 @@ module _ (t : SourceDesign) (at x : LeafPath) where
   path_by_role (sources.reading r) y e h = h
   path_by_role (sources.pipe r c u) y e h = absurd h
 
-  pub path_of_sink : (r : SourceRole) (y : LeafPath) → source.is_sink r ≡ true → tree.RoleDepends t at x r y → DriveReads t x y
+  pub path_of_sink : (r : SourceRole) (y : LeafPath) → source.is_sink_role r ≡ true → tree.RoleDepends t at x r y → DriveReads t x y
   path_of_sink sources.source y e h = cc
   path_of_sink sources.sink y e h = h
   path_of_sink (sources.computed scope c q) y e h = cc
@@ -87,7 +87,7 @@ module _ (t : SourceDesign) (at x : LeafPath) where
   path_of_sink (sources.reading r) y e h = cc
   path_of_sink (sources.pipe r c u) y e h = cc
 
-  pub path_by_sink : (r : SourceRole) (y : LeafPath) → source.is_sink r ≡ true → DriveReads t x y → tree.RoleDepends t at x r y
+  pub path_by_sink : (r : SourceRole) (y : LeafPath) → source.is_sink_role r ≡ true → DriveReads t x y → tree.RoleDepends t at x r y
   path_by_sink sources.source y e h = cc
   path_by_sink sources.sink y e h = h
   path_by_sink (sources.computed scope c q) y e h = cc

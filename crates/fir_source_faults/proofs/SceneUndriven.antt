@@ -15,7 +15,7 @@ use Rattle.fir_meaning.specs.working.LeafedModules.{leafed_module, module_leaves
 use Rattle.fir_meaning.specs.working.NameGroups.{HasNames}
 use Rattle.fir_meaning.specs.Outcomes.{ComesFirst, told_once}
 use Rattle.fir_meaning.specs.SizedDeclarations.{numbered_modules}
-use Rattle.fir_meaning.specs.SourceCircuits.{is_sink}
+use Rattle.fir_meaning.specs.SourceCircuits.{is_sink_role}
 use Rattle.fir_meaning.specs.SourceFacts.{source_depth, source_place}
 use Rattle.fir_meaning.specs.SourceRoles.{SourceLeaf, source_leaves}
 use Rattle.fir_meaning.specs.SourceUndriven.{IsFirstUndriven, IsUndriven}
@@ -82,7 +82,7 @@ module _ (c : CircuitTree) (names : HasNames c) (types : type_faults c ≡ []) (
     path_is : path_in s x ≡ t.path
     path_is = (there x t is).1.path
 
-    sinks : by_number.is_sink (role_at (leafed_module s) x) ≡ is_sink t.role
+    sinks : by_number.is_sink (role_at (leafed_module s) x) ≡ is_sink_role t.role
     sinks = same_sink (module_leaves s) (leafed_module s).arrays (leaf_at (module_leaves s) x).role t.role (there x t is).1.role
 
     drives : DrivesByPath s x

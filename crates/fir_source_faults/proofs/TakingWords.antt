@@ -54,7 +54,7 @@ module _ (s : Scene) (fine : IsFineScene s) (reading : ReadsByPath s) where
 
   -- a leaf by its number
   one_takes : (x : ℕ) (l : LeafDeclared) (t : SourceLeaf) → slice_get (module_leaves s) x ≡ Some l → l.path ≡ t.path
-      → SameRole (module_leaves s) (leafed_module s).arrays l.role t.role → numbered.takes (leafed_module s) x ≡ by_path.takes s t
+      → SameRole (module_leaves s) (leafed_module s).arrays l.role t.role → numbered.takes (leafed_module s) x ≡ by_path.takes_value s t
   one_takes x l t at path role =
       let is : leaf_at (module_leaves s) x ≡ l = get_or_from_slice_get (module_leaves s) x l no_leaf at in
       ap₂ numbered.takes_by (driven_same x (slice_get_within (module_leaves s) x l at)) (ap (λ (y : LeafDeclared). y.role) is)
@@ -64,23 +64,23 @@ module _ (s : Scene) (fine : IsFineScene s) (reading : ReadsByPath s) where
   -- of all from a number on
   words_from : (k : ℕ) (ls : List LeafDeclared) (ts : List SourceLeaf) → ((j : ℕ) → slice_get (module_leaves s) (k + j) ≡ slice_get ls j)
       → SameLeaves (module_leaves s) (leafed_module s).arrays ls ts
-      → map (numbered.takes (leafed_module s)) (numbers_where is_word k ls) ≡ map (by_path.takes s) (filter by_path.is_word ts)
+      → map (numbered.takes (leafed_module s)) (numbers_where is_word k ls) ≡ map (by_path.takes_value s) (filter by_path.is_register_word ts)
   words_from k [] [] there same = refl
   words_from k [] (t ∷ ts) there same = absurd same
   words_from k (l ∷ ls) [] there same = absurd same
   words_from k (l ∷ ls) (t ∷ ts) there same =
       let none : k + 0 ≡ k = omega arith in
       let at : slice_get (module_leaves s) k ≡ Some l = ap (slice_get (module_leaves s)) (sym none) ∙ there 0 in
-      let word : is_word l ≡ by_path.is_word t =
+      let word : is_word l ≡ by_path.is_register_word t =
       ap₂ (λ a b. a && b) (role_state (module_leaves s) (leafed_module s).arrays l.role t.role same.0.2) (ap has_bits same.0.1) in
-      by (is_word l) (by_path.is_word t) word (one_takes k l t at same.0.0 same.0.2)
+      by (is_word l) (by_path.is_register_word t) word (one_takes k l t at same.0.0 same.0.2)
       (words_from (suc k) ls ts
       (λ j. let next : suc k + j ≡ k + suc j = omega arith in ap (slice_get (module_leaves s)) next ∙ there (suc j)) same.1)
     where
-      by : (a b : Bool) → a ≡ b → numbered.takes (leafed_module s) k ≡ by_path.takes s t
-          → map (numbered.takes (leafed_module s)) (numbers_where is_word (suc k) ls) ≡ map (by_path.takes s) (filter by_path.is_word ts)
+      by : (a b : Bool) → a ≡ b → numbered.takes (leafed_module s) k ≡ by_path.takes_value s t
+          → map (numbered.takes (leafed_module s)) (numbers_where is_word (suc k) ls) ≡ map (by_path.takes_value s) (filter by_path.is_register_word ts)
           → map (numbered.takes (leafed_module s)) (if a then k ∷ numbers_where is_word (suc k) ls else numbers_where is_word (suc k) ls)
-          ≡ map (by_path.takes s) (if b then t ∷ filter by_path.is_word ts else filter by_path.is_word ts)
+          ≡ map (by_path.takes_value s) (if b then t ∷ filter by_path.is_register_word ts else filter by_path.is_register_word ts)
       by true true e here rest = ap₂ (λ (z : Bool) (zs : List Bool). z ∷ zs) here rest
       by false false e here rest = rest
       by true false e here rest = absurd (cc)

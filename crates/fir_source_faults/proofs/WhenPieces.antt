@@ -16,7 +16,7 @@ use Rattle.fir_meaning.specs.working.LeafBlocks as leafed
 use Rattle.fir_meaning.specs.LeafPaths.{LeafPath}
 use Rattle.fir_meaning.specs.working.LeafedBlocks.{alone}
 use Rattle.fir_meaning.specs.ModuleScenes.{Scene, scope_before}
-use Rattle.fir_meaning.specs.SourceChoices.{Choice, are_taken, last, later, may_drive}
+use Rattle.fir_meaning.specs.SourceChoices.{Choice, are_taken, last_reaching, later, may_drive}
 use Rattle.fir_meaning.specs.SourceDrives.{Drive}
 use Rattle.fir_meaning.specs.SourceReads as tree
 use Rattle.fir_meaning.specs.working.TermReads as by_number
@@ -97,17 +97,17 @@ module _ (s : Scene) (depth x : ℕ) (way : List Bool) (under : List Branch) (k 
       here = ap h (sym (append-nil way)) ∙ agrees [] ∙ same
 
       in_a : are_taken h (drop depth (under ++ first ∷ [])) ≡ true
-          → SameLast s depth x (outer_reads s depth (under ++ first ∷ [])) (last_all depth x a (k + 1) (first_part (first_part f))) (last depth path h ds)
+          → SameLast s depth x (outer_reads s depth (under ++ first ∷ [])) (last_all depth x a (k + 1) (first_part (first_part f))) (last_reaching depth path h ds)
           × (numbered.told_all depth x a (k + 1) (first_part (first_part f)) ≡ told_a h)
       in_a = one h (inside way false h g (first_part g) agrees (λ w. refl))
 
       in_b : are_taken h (drop depth (under ++ second ∷ [])) ≡ true
-          → SameLast s depth x (outer_reads s depth (under ++ second ∷ [])) (last_all depth x b (k + 1) (second_part (first_part f))) (last depth path h es)
+          → SameLast s depth x (outer_reads s depth (under ++ second ∷ [])) (last_all depth x b (k + 1) (second_part (first_part f))) (last_reaching depth path h es)
           × (numbered.told_all depth x b (k + 1) (second_part (first_part f)) ≡ told_b h)
       in_b = two h (inside way true h g (second_part g) agrees (λ w. refl))
 
       abbrev Goal : Type 0
-      Goal = SameLast s depth x (outer_reads s depth under) (last_all depth x when_block k f) (last depth path h (ds ++ es))
+      Goal = SameLast s depth x (outer_reads s depth under) (last_all depth x when_block k f) (last_reaching depth path h (ds ++ es))
           × (numbered.told_all depth x when_block k f ≡ when_told h)
 
       -- the leaf is declared in the when
@@ -119,9 +119,9 @@ module _ (s : Scene) (depth x : ℕ) (way : List Bool) (under : List Branch) (k 
           let right = in_b (ap (are_taken h) (beyond lt second)) in
           let lasts =
           same_later s depth x (outer_reads s depth under) (last_all depth x b (k + 1) (second_part (first_part f)))
-          (last_all depth x a (k + 1) (first_part (first_part f))) (last depth path h es) (last depth path h ds)
-          (subst (λ (o : List LeafPath). SameLast s depth x o (last_all depth x b (k + 1) (second_part (first_part f))) (last depth path h es)) (none second) right.0)
-          (subst (λ (o : List LeafPath). SameLast s depth x o (last_all depth x a (k + 1) (first_part (first_part f))) (last depth path h ds)) (none first) left.0)
+          (last_all depth x a (k + 1) (first_part (first_part f))) (last_reaching depth path h es) (last_reaching depth path h ds)
+          (subst (λ (o : List LeafPath). SameLast s depth x o (last_all depth x b (k + 1) (second_part (first_part f))) (last_reaching depth path h es)) (none second) right.0)
+          (subst (λ (o : List LeafPath). SameLast s depth x o (last_all depth x a (k + 1) (first_part (first_part f))) (last_reaching depth path h ds)) (none first) left.0)
           in
           let itself : when_itself h ≡ [] = rw (taken, long, lt) refl in (
             rw (lt, last_behind depth path h ds es) lasts,
@@ -145,8 +145,8 @@ module _ (s : Scene) (depth x : ℕ) (way : List Bool) (under : List Branch) (k 
           let left = in_a first_taken in
           let none = at_b.unreached h second_not in
           let inner = last_all depth x a (k + 1) (first_part (first_part f)) in
-          let lasts = moved_in s depth x (outer_reads s depth under) t (condition_reads s first) inner (last depth path h ds) reads
-          (subst (λ (o : List LeafPath). SameLast s depth x o inner (last depth path h ds)) (outer_within lt first) left.0) in (
+          let lasts = moved_in s depth x (outer_reads s depth under) t (condition_reads s first) inner (last_reaching depth path h ds) reads
+          (subst (λ (o : List LeafPath). SameLast s depth x o inner (last_reaching depth path h ds)) (outer_within lt first) left.0) in (
             rw (lt, is, last_behind depth path h ds es, none.0) lasts,
             rw (lt, itself_within lt, is, when_holds)
                 (told_first holds (outcome.When p true) (numbered.told_all depth x a (k + 1) (first_part (first_part f))) (told_a h) (told_b h) left.1 none.1
@@ -160,9 +160,9 @@ module _ (s : Scene) (depth x : ℕ) (way : List Bool) (under : List Branch) (k 
           let right = in_b second_taken in
           let none = at_a.unreached h first_not in
           let inner = last_all depth x b (k + 1) (second_part (first_part f)) in
-          let lasts = moved_in s depth x (outer_reads s depth under) t (condition_reads s second) inner (last depth path h es) reads
-          (subst (λ (o : List LeafPath). SameLast s depth x o inner (last depth path h es)) (outer_within lt second) right.0) in (
-            rw (lt, is, last_behind depth path h ds es, none.0, nothing_later (last depth path h es)) lasts,
+          let lasts = moved_in s depth x (outer_reads s depth under) t (condition_reads s second) inner (last_reaching depth path h es) reads
+          (subst (λ (o : List LeafPath). SameLast s depth x o inner (last_reaching depth path h es)) (outer_within lt second) right.0) in (
+            rw (lt, is, last_behind depth path h ds es, none.0, nothing_later (last_reaching depth path h es)) lasts,
             rw (lt, itself_within lt, is, when_holds)
                 (told_second holds (outcome.When p false) (numbered.told_all depth x b (k + 1) (second_part (first_part f))) (told_a h) (told_b h) right.1 none.1
                 (λ e. nothing_told depth x b (k + 1) (second_part (first_part f)) (nothing_held e).1)),

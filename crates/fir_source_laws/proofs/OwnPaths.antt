@@ -8,7 +8,7 @@ use Rattle.fir_ast.specs.Statements.{Statement, wire, register, node, instance, 
 use Rattle.fir_meaning.specs.LeafPaths.{LeafPath, named}
 use Rattle.fir_meaning.specs.Visibility.{Before, behind, behind_block, opened, reopened}
 use Rattle.fir_meaning.specs.ModuleScenes.{Scene, behind_all_ports}
-use Rattle.fir_meaning.specs.SourceCircuits.{PlacedArray, PlacedLeaf, array_order_in, array_order_in_block, array_order_of_design, array_order_of_instance, arrays_of_design, arrays_of_instances, inner_leaves, is_stored_array, is_word, leaves_of_design, leaves_of_instances, placed, placed_arrays, words_in, words_in_block, words_of_design, words_of_instance}
+use Rattle.fir_meaning.specs.SourceCircuits.{PlacedArray, PlacedLeaf, array_order_in, array_order_in_block, array_order_of_design, array_order_of_instance, arrays_of_design, arrays_of_instances, inner_leaves, is_state_word, is_stored_array, leaves_of_design, leaves_of_instances, placed, placed_arrays, words_in, words_in_block, words_of_design, words_of_instance}
 use Rattle.fir_meaning.specs.SourceDesigns.{Instances, SourceDesign, held, made_of, no_instances}
 use Rattle.fir_meaning.specs.SourceRoles.{SourceArray, SourceLeaf, source_arrays, source_arrays_in, sources_in}
 use Rattle.fir_source_laws.specs.working.InstanceLaws.{HasPath, of_leaf, of_word, of_array, of_stored_array, InstancesShareNothing}
@@ -85,8 +85,8 @@ mutual
 
 -- the words of the state, where those of each instance stand below the path
 module _ (at : LeafPath) (s : Scene) (child : List ℕ → List PlacedLeaf) (inside : (name : List ℕ) → LeavesBelow at (child name)) where
-  own_words : (ls : List SourceLeaf) → LeavesBelow at (filter is_word (placed at ls))
-  own_words ls p m = placed_below at ls p (in_filter is_word (placed at ls) p m)
+  own_words : (ls : List SourceLeaf) → LeavesBelow at (filter is_state_word (placed at ls))
+  own_words ls p m = placed_below at ls p (in_filter is_state_word (placed at ls) p m)
 
   mutual
     words_below_in : (x : Statement) (before : Before) → LeavesBelow at (words_in at s child before x)

@@ -7,7 +7,7 @@ use Rattle.fir_meaning.specs.LeafPaths.{LeafPath, element, named}
 use Rattle.fir_meaning.specs.Reaching.{field_of_type, vector_of_type}
 use Rattle.fir_meaning.specs.TypeKinds.{FieldFound}
 use Rattle.fir_meaning.specs.TypedScopes.{TypedScope}
-use Rattle.fir_meaning.specs.TreeAims.{Aim, behind, element_aim, element_aim_at, field_aim, field_aim_at, named_aim, picked_aim, picked_aim_at}
+use Rattle.fir_meaning.specs.TreeAims.{Aim, element_aim, element_aim_at, field_aim, field_aim_at, named_aim, one_step_further, picked_aim, picked_aim_at}
 use Rattle.fir_meaning.specs.TreeValues.{TypesByPath, ValuesByPath, aim_along, leaf_where, value, value_where}
 use Rattle.fir_source_laws.specs.working.PickLaws.{SubaccessesPick, further_parts}
 
@@ -22,7 +22,7 @@ field_one x a b h =
   where
     by : (found : Option FieldFound) → AreAtOne (field_aim_at x a found) (field_aim_at x b found)
     by None = record { at = refl; data_type = refl }
-    by (Some f) = record { at = ap (λ o. behind o (named x)) h.at; data_type = refl }
+    by (Some f) = record { at = ap (λ o. one_step_further o (named x)) h.at; data_type = refl }
 
 element_one : (i : ℕ) (a b : Aim) → AreAtOne a b → AreAtOne (element_aim i a) (element_aim i b)
 element_one i a b h =
@@ -30,7 +30,7 @@ element_one i a b h =
   where
     by : (found : Option (DataType × ℕ)) → AreAtOne (element_aim_at i a found) (element_aim_at i b found)
     by None = record { at = refl; data_type = refl }
-    by (Some v) = record { at = ap (λ o. behind o (element i)) h.at; data_type = refl }
+    by (Some v) = record { at = ap (λ o. one_step_further o (element i)) h.at; data_type = refl }
 
 picked_one : (i : ℕ) (a b : Aim) → AreAtOne a b → AreAtOne (picked_aim i a) (picked_aim i b)
 picked_one i a b h =
@@ -38,7 +38,7 @@ picked_one i a b h =
   where
     by : (found : Option (DataType × ℕ)) → AreAtOne (picked_aim_at i a found) (picked_aim_at i b found)
     by None = record { at = refl; data_type = refl }
-    by (Some v) = record { at = ap (λ o. if nat_lt i v.1 then behind o (element i) else None) h.at; data_type = refl }
+    by (Some v) = record { at = ap (λ o. if nat_lt i v.1 then one_step_further o (element i) else None) h.at; data_type = refl }
 
 module _ (scope : TypedScope) (holds : TypesByPath) (env : ValuesByPath) where
   along_one : (ps : Parts) (a b : Aim) → AreAtOne a b → AreAtOne (aim_along scope holds env a ps) (aim_along scope holds env b ps)
@@ -59,18 +59,18 @@ module _ (scope : TypedScope) (holds : TypesByPath) (env : ValuesByPath) where
   -- from no path no parts lead on
   none_field : (x : List ℕ) (a : Aim) (found : Option FieldFound) → a.at ≡ None → (field_aim_at x a found).at ≡ None
   none_field x a None h = refl
-  none_field x a (Some f) h = ap (λ o. behind o (named x)) h
+  none_field x a (Some f) h = ap (λ o. one_step_further o (named x)) h
 
   none_element : (i : ℕ) (a : Aim) (found : Option (DataType × ℕ)) → a.at ≡ None → (element_aim_at i a found).at ≡ None
   none_element i a None h = refl
-  none_element i a (Some v) h = ap (λ o. behind o (element i)) h
+  none_element i a (Some v) h = ap (λ o. one_step_further o (element i)) h
 
   none_picked : (i : ℕ) (a : Aim) (found : Option (DataType × ℕ)) → a.at ≡ None → (picked_aim_at i a found).at ≡ None
   none_picked i a None h = refl
   none_picked i a (Some v) h = by (nat_lt i v.1)
     where
-      by : (b : Bool) → (if b then behind a.at (element i) else None) ≡ None
-      by true = ap (λ o. behind o (element i)) h
+      by : (b : Bool) → (if b then one_step_further a.at (element i) else None) ≡ None
+      by true = ap (λ o. one_step_further o (element i)) h
       by false = refl
 
   along_none : (ps : Parts) (a : Aim) → a.at ≡ None → (aim_along scope holds env a ps).at ≡ None

@@ -12,10 +12,10 @@ use Rattle.fir_meaning.specs.TypeKinds.{FieldFound}
 use Rattle.fir_meaning.specs.TypedScopes.{TypedScope}
 use Rattle.fir_meaning.specs.Values.{number_of}
 use Rattle.fir_meaning.specs.Visibility.{Before}
-use Rattle.fir_meaning.specs.TreeAims.{Aim, behind, element_aim, element_aim_at, field_aim, field_aim_at, named_aim, step_aim, whole_aim}
-use Rattle.fir_meaning.specs.TreeValues.{TypesByPath, ValuesByPath, aim_along, aim_value, leaf_where, type_where, value, value_where}
+use Rattle.fir_meaning.specs.TreeAims.{Aim, element_aim, element_aim_at, field_aim, field_aim_at, named_aim, one_step_further, step_aim, whole_aim}
+use Rattle.fir_meaning.specs.TreeValues.{TypesByPath, ValuesByPath, aim_along, aim_value, leaf_type_where, leaf_where, value, value_where}
 use Rattle.fir_meaning.specs.LeafTypes.{number}
-use Rattle.fir_meaning.specs.SourceAllows.{Shows}
+use Rattle.fir_meaning.specs.SourceAllows.{LeafShows}
 use Rattle.fir_meaning.specs.SourceCircuits.{leaf_path}
 use Rattle.fir_meaning.specs.SourceStores.{below}
 use Rattle.fir_meaning.specs.SourceValues.{number_shown, number_stored, source_holds}
@@ -34,12 +34,12 @@ module _ (i : List ℕ) where
 
   step_shifted : (s : Step) (t : DataType) (a b : Aim) → IsShifted a b → IsShifted (step_aim s t a) (step_aim s t b)
   step_shifted s t a b h = record {
-    at = ap (λ o. behind o s) h.at ∙ by a.at;
-    first = ap (λ o. behind o s) h.first ∙ by a.first;
+    at = ap (λ o. one_step_further o s) h.at ∙ by a.at;
+    first = ap (λ o. one_step_further o s) h.first ∙ by a.first;
     data_type = refl;
   }
     where
-      by : (o : Option LeafPath) → behind (inward o) s ≡ inward (behind o s)
+      by : (o : Option LeafPath) → one_step_further (inward o) s ≡ inward (one_step_further o s)
       by None = refl
       by (Some q) = refl
 
@@ -70,7 +70,7 @@ module _ (i : List ℕ) where
   -- with the values below the instance, and with those below the module that holds it
   module _ (holds : TypesByPath) (env : ValuesByPath) (at : LeafPath) (q : LeafPath) where
     type_shifted : (o : Option LeafPath) (t : DataType)
-        → type_where o t (below (at ++ named i ∷ []) holds) q ≡ type_where (inward o) t (below at holds) q
+        → leaf_type_where o t (below (at ++ named i ∷ []) holds) q ≡ leaf_type_where (inward o) t (below at holds) q
     type_shifted None t = refl
     type_shifted (Some f) t = ap holds (append_assoc at (named i ∷ []) (f ++ q))
 
@@ -89,7 +89,7 @@ module _ (i : List ℕ) where
     aim_shifted a b h =
         ap₂ number_of (type_shifted a.first a.data_type) (value_shifted a.at)
         ∙ ap₂ number_of
-        (ap₂ (λ o t. type_where o t (below at holds) q) (sym h.first) (sym h.data_type))
+        (ap₂ (λ o t. leaf_type_where o t (below at holds) q) (sym h.first) (sym h.data_type))
         (ap (λ o. value_where (leaf_where o q) (below at env)) (sym h.at))
 
 port_shifted : (modules : List ModuleTree) (outside within : Before) (i p : List ℕ) → IsPortOf modules outside within i p
@@ -119,7 +119,7 @@ port_read modules outside within i p holds env at here q is =
 
 pub ports_read_as_stored : PortsReadAsStored
 ports_read_as_stored t state tick env leaf h modules outside within i p at here there dot stands q settled among role holds path is =
-    let shows : Shows t state tick.inputs env leaf (number h) = subst (Shows t state tick.inputs env leaf) holds (settled.each leaf among) in
+    let shows : LeafShows t state tick.inputs env leaf (number h) = subst (LeafShows t state tick.inputs env leaf) holds (settled.each leaf among) in
     let sunk : number_stored t env (leaf_path leaf) ≡ Some (env.numbers (leaf_path leaf)) =
     sym (ap (number_shown t env state tick.inputs leaf.at (leaf_path leaf)) role) ∙ shows.0 in
     let stored : number_stored t env (at ++ named i ∷ named p ∷ q) ≡ Some (env.numbers (at ++ named i ∷ named p ∷ q)) =

@@ -6,7 +6,7 @@ use Rattle.fir_ast.specs.Expressions.{Expression}
 use Rattle.fir_bits.specs.declared.types.NumTy.{NumTy}
 use Rattle.fir_meaning.specs.LeafTypes.{LeafType, number, number_type}
 use Rattle.fir_meaning.specs.LeafPaths.{LeafPath}
-use Rattle.fir_meaning.specs.SourceAllows.{Settled, Shows, next}
+use Rattle.fir_meaning.specs.SourceAllows.{LeafShows, Settled, next}
 use Rattle.fir_meaning.specs.SourceCircuits.{PlacedLeaf, all_leaves, leaf_path}
 use Rattle.fir_meaning.specs.SourceDesigns.{SourceDesign}
 use Rattle.fir_meaning.specs.SourceRoles.{SourceReset}
@@ -22,7 +22,7 @@ pub has_number : (t : SourceDesign) (state : List ℕ) (tick : Tick) (env : Path
     → In (all_leaves t) p → p.leaf.holds ≡ number width
     → number_shown t env state tick.inputs p.at (leaf_path p) p.leaf.role ≡ Some (env.numbers (leaf_path p))
 has_number t state tick env p width s among holds =
-    let h : Shows t state tick.inputs env p (number width) = subst (Shows t state tick.inputs env p) holds (s.each p among) in h.0
+    let h : LeafShows t state tick.inputs env p (number width) = subst (LeafShows t state tick.inputs env p) holds (s.each p among) in h.0
 
 module _ (t : SourceDesign) (p : PlacedLeaf) (scope : TypedScope) (clock : Expression) (q : LeafPath) where
   module _ (state : List ℕ) (tick : Tick) (env : PathEnv) where

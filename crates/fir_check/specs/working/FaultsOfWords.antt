@@ -2,12 +2,12 @@
 use Rattle.std.specs.Prelude.{List, ◌++◌, flat_map, codes, nat_le}
 use Rattle.fir_ast.specs.Statements.{PlacedName, MemoryPart}
 use Rattle.fir_pass.specs.Faults.{Fault}
-use Rattle.fir_meaning.specs.MemoryFaults.{flipped_data, is_one, unless}
+use Rattle.fir_meaning.specs.MemoryFaults.{field_faults_unless, flipped_data, is_one}
 use Rattle.fir_meaning.specs.MemoryTypes.{data_of_part, depth_of_part, first_one}
 use Rattle.fir_meaning.specs.TypeKinds.{is_sized}
 
 abbrev pub faults_of_words : PlacedName → List MemoryPart → List Fault
 faults_of_words n parts =
     flipped_data n (first_one (flat_map data_of_part parts))
-    ++ unless (is_one is_sized (flat_map data_of_part parts)) n (codes "data-type")
-    ++ unless (is_one (λ words. nat_le 1 words) (flat_map depth_of_part parts)) n (codes "depth")
+    ++ field_faults_unless (is_one is_sized (flat_map data_of_part parts)) n (codes "data-type")
+    ++ field_faults_unless (is_one (λ words. nat_le 1 words) (flat_map depth_of_part parts)) n (codes "depth")

@@ -9,7 +9,7 @@ use Rattle.fir_meaning.specs.ComponentTypes.{typed_scope}
 use Rattle.fir_meaning.specs.TypedScopes.{TypedScope}
 use Rattle.fir_types.specs.working.Notes.{LeafRange, Note, of_expression, of_reference, Pick}
 use Rattle.fir_types.specs.working.ModuleNotes.{module_notes}
-use Rattle.fir_meaning.specs.Costs.{leaves_where, sum_of, words_of}
+use Rattle.fir_meaning.specs.Costs.{leaves_where, memory_words_of, sum_of}
 
 -- how many elements dynamic indices may pick
 abbrev pub picked : List Pick → ℕ
@@ -32,7 +32,7 @@ leaves_known scope = sum_of (map (λ k. leaves_where k.data_type) scope)
 abbrev mutual
   pub plain_cost : Statement → ℕ
   plain_cost (instance p n other) = 1
-  plain_cost (memory p n parts) = words_of parts
+  plain_cost (memory p n parts) = memory_words_of parts
   plain_cost (when p c a b) = 1 + plain_cost_of_block a + plain_cost_of_block b
   plain_cost _ = 0
 

@@ -12,7 +12,7 @@ use Rattle.fir_meaning.specs.ModuleScenes.{Scene}
 use Rattle.fir_meaning.specs.SourceLoops.{loop_group}
 use Rattle.fir_meaning.specs.Scenes.{IsSceneOf}
 use Rattle.fir_meaning.specs.SourceAllows.{Allows}
-use Rattle.fir_meaning.specs.SourceCircuits.{is_sink, ports_where, source_shape, widths_of}
+use Rattle.fir_meaning.specs.SourceCircuits.{is_sink_role, ports_where, source_shape, widths_of_leaves}
 use Rattle.fir_meaning.specs.SourceDesigns.{SourceDesign}
 use Rattle.fir_meaning.specs.SourceOne.{One}
 use Rattle.fir_meaning.specs.LeafTypes.{has_bits}
@@ -31,7 +31,7 @@ use Rattle.fir_inst.specs.working.TakenRegisters.{IsClocked, taken_words}
 
 -- the widths of the outputs, in their order
 abbrev pub output_widths : SourceDesign → List ℕ
-output_widths t = widths_of (ports_where is_sink has_bits t)
+output_widths t = widths_of_leaves (ports_where is_sink_role has_bits t)
 
 pub record MeansSource (t : SourceDesign) (net : FlatNet) : Type 0 where
   pub ports : net_rows net ≡ source_rows t

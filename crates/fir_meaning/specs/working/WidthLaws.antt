@@ -9,7 +9,7 @@ use Rattle.fir_meaning.specs.Components.{Declarations}
 use Rattle.fir_meaning.specs.TypeKinds.{bare}
 use Rattle.fir_meaning.specs.ExpressionTypes.{expression_type}
 use Rattle.fir_meaning.specs.ComponentTypes.{typed_scope}
-use Rattle.fir_meaning.specs.WidthExpressions.{Widths, Width, width_of, Rule, Meets, IsLeastOf}
+use Rattle.fir_meaning.specs.WidthExpressions.{Widths, Width, width_of, Rule, MeetsRules, IsLeastOf}
 use Rattle.fir_meaning.specs.SizedTypes.{bare_type, numbered, renumbered}
 use Rattle.fir_meaning.specs.SizedScopes.{sized_type}
 use Rattle.fir_meaning.specs.SizedDeclarations.{Numbering, numbered_behind}
@@ -38,12 +38,12 @@ AllWithin es w = (e : Width) → In es e → width_of e w ≤ 128
 
 -- some assignment that meets all rules keeps these expressions within 128 bits exactly where the least one does
 abbrev pub LeastIsWithin : Type 0
-LeastIsWithin = (rules : List Rule) (es : List Width) (w : Widths) → IsLeastOf rules w → ((v : Widths) × Meets rules v × AllWithin es v) ↔ AllWithin es w
+LeastIsWithin = (rules : List Rule) (es : List Width) (w : Widths) → IsLeastOf rules w → ((v : Widths) × MeetsRules rules v × AllWithin es v) ↔ AllWithin es w
 
 -- under the least assignment nothing is over exactly where under some assignment that meets the rules nothing is
 abbrev pub OverIsExact : Type 0
 OverIsExact =
-    (c : CircuitTree) (w : Widths) → AreWidths c w → ((v : Widths) × Meets (rules c) v × (over_faults c v ≡ [])) ↔ (over_faults c w ≡ [])
+    (c : CircuitTree) (w : Widths) → AreWidths c w → ((v : Widths) × MeetsRules (rules c) v × (over_faults c v ≡ [])) ↔ (over_faults c w ≡ [])
 
 -- where an expression has a type, its sized type is the same without widths, in the scopes of the same declarations
 abbrev pub SizedAsTyped : Type 0
