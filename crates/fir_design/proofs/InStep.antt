@@ -13,7 +13,6 @@ use Rattle.fir_meaning.specs.working.LeafBlocks.{exec_all, nothing_stored}
 use Rattle.fir_meaning.specs.working.LeafCircuits.{LeafCircuit, depth_of}
 use Rattle.fir_meaning.specs.working.LeafModules as over
 use Rattle.fir_meaning.specs.working.LeafModules.{LeafArray, LeafReset, Need, Reading, Role, Writing, leaf_at}
-use Rattle.fir_meaning.specs.LeafTypes.{LeafType}
 use Rattle.fir_leaf.specs.working.SoundDesigns.{circuit_path}
 use Rattle.fir_meaning.specs.working.TermValues.{clock_of, eval}
 use Rattle.fir_meaning.specs.working.Terms.{Term}

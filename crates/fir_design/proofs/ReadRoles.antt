@@ -20,7 +20,6 @@ use Rattle.fir_meaning.specs.FoundTypes.{leaves_of_data}
 use Rattle.fir_meaning.specs.working.LeafMemories.{memory_roles}
 use Rattle.fir_meaning.specs.working.LeafModules as over
 use Rattle.fir_meaning.specs.working.LeafModules.{LeafDeclared, LeafModule, Need, Role}
-use Rattle.fir_meaning.specs.LeafTypes.{LeafType}
 use Rattle.fir_meaning.specs.working.Targets.{leaves_ahead, leaves_so_far}
 use Rattle.fir_leaf.proofs.NamedPlaces.{named_in_whole}
 use Rattle.fir_leaf.proofs.ScopesBegin.{begins_all, begins_behind, begins_block, begins_through}

@@ -5,7 +5,6 @@ use Rattle.fir_meaning.specs.LeafPaths.{LeafPath}
 use Rattle.fir_meaning.specs.working.LeafCircuits.{LeafCircuit}
 use Rattle.fir_meaning.specs.working.LeafModules as role
 use Rattle.fir_meaning.specs.working.LeafModules.{Role}
-use Rattle.fir_meaning.specs.LeafTypes.{number}
 use Rattle.fir_meaning.specs.working.LeafSettled as over
 use Rattle.fir_meaning.specs.working.LeafStates.{look}
 use Rattle.fir_leaf.specs.working.SoundDesigns.{circuit_path}

@@ -4,7 +4,7 @@ use Rattle.std.specs.Prelude.{drop, not, if◌then◌else◌}
 use Rattle.std.proofs.lemmas.Bool.{cases_eq, eq-eqb, ne_eqb, false_from_ne_true, and_parts, and_from, eqb-true}
 use Rattle.std.proofs.lemmas.Slice.Eq.{bytes_eq-Decides}
 use Rattle.fir_meaning.specs.LeafPaths.{LeafPath, Step, named, element}
-use Rattle.fir_meaning.specs.CountedWhens.{all_true, counts}
+use Rattle.fir_meaning.specs.CountedWhens.{all_true}
 use Rattle.fir_meaning.specs.working.LeafBlocks.{HeldInstance, LeafBlock, LeafStore, joined, stored_at}
 use Rattle.fir_meaning.specs.working.Terms.{Term}
 use Rattle.fir_meaning.specs.working.TermValues.{Holds, is_true}

@@ -11,7 +11,6 @@ use Rattle.fir_meaning.specs.TypedScopes.{TypedScope}
 use Rattle.fir_leaf.specs.working.DesignStates.{array_at}
 use Rattle.fir_meaning.specs.working.LeafModules as over
 use Rattle.fir_meaning.specs.working.LeafModules.{LeafArray, LeafDeclared, LeafReset, Need, Reading, Role, Writing, leaf_at}
-use Rattle.fir_meaning.specs.LeafTypes.{LeafType}
 use Rattle.fir_meaning.specs.ModuleScenes.{Scene}
 use Rattle.fir_meaning.specs.working.LeafedModules.{leafed_module}
 use Rattle.fir_meaning.specs.working.TermValues.{clock_of, eval}
