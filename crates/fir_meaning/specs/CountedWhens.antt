@@ -1,4 +1,5 @@
--- Which whens round a statement count for a leaf: those from its own declaration inward (FIRRTL spec, "Conditional Last Connect Semantics").
+-- Which whens round a statement count for a leaf: those from its own declaration inward, a choice of this project (FIRRTL spec, "Conditional Last Connect
+-- Semantics").
 use Rattle.std.specs.Prelude.{ℕ, List, [], ◌∷◌, drop, Bool, true, ◌&&◌}
 
 abbrev pub all_true : List Bool → Bool

@@ -1,4 +1,5 @@
 -- Which types are equivalent, and which a connect and a partial connect may join (FIRRTL spec, "Type Equivalence", "Connects", "Partial Connects").
+-- That a Reset fits a UInt and an AsyncReset there is a choice of this project.
 use Rattle.std.specs.Prelude.{Bool, true, false, ◌&&◌, ◌==◌, Option, Some, None}
 use Rattle.std.specs.Bool.{beq}
 use Rattle.std.specs.Str.{bytes_eq}

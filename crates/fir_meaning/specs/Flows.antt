@@ -1,6 +1,6 @@
 -- What may drive a component, and what a component may drive (FIRRTL spec, "Flow").
 -- An input port is a source and an output port a sink; flip turns it. An instance and a memory are bundles of sources, whose inputs and port fields are
--- flipped. Wires and registers are both, nodes are sources.
+-- flipped. Wires and registers are both, nodes are sources. All leaves may be read, own outputs and inputs of instances too: a choice of this project.
 use Rattle.std.specs.Prelude.{Bool, true, false}
 use Rattle.fir_base.specs.declared.direction.Direction.{Direction}
 use Rattle.fir_base.specs.declared.direction.Direction.TheVariants as direction

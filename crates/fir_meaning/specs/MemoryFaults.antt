@@ -1,6 +1,6 @@
 -- E15 and E17 of a memory, which stand at its name (FIRRTL spec, "Memories").
 -- Data with flips comes first; then the fields, in the order data-type, depth, read-latency, write-latency, read-under-write: each of the first four
--- stands once and in its range, and the last at most once.
+-- stands once and in its range, and the last at most once. That a read latency is 0 or 1, and a write latency 1, is a choice of this project.
 use Rattle.std.specs.Prelude.{ℕ, List, [], ◌∷◌, ◌++◌, flat_map, codes, nat_le, Bool, true, false, ◌==◌, if◌then◌else◌, Option, Some, None}
 use Rattle.fir_ast.specs.declared.statements.ReadUnderWrite.{ReadUnderWrite}
 use Rattle.fir_ast.specs.Types.{DataType}

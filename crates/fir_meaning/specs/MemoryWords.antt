@@ -1,4 +1,4 @@
--- The words of a memory by their addresses (FIRRTL spec, "Memories"). There are none past the depth.
+-- The words of a memory by their addresses (FIRRTL spec, "Memories"). There are none past the depth: a write there does nothing, a choice of this project.
 use Rattle.std.specs.Prelude.{ℕ, zero, suc, ◌+◌, List, [], ◌∷◌, Option, Some, None, slice_index}
 
 abbrev pub word_behind : List ℕ → Option ℕ → ℕ → ℕ

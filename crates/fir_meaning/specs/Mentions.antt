@@ -1,5 +1,6 @@
 -- Where the text declares a name and where it uses one, in the order of the text (FIRRTL spec, "Namespaces").
--- The names of a namespace are those of a circuit's modules, of a module's components over all blocks, of a bundle's fields, or of a memory's ports.
+-- The names of a namespace are those of a circuit's modules, of a module's components over all blocks (a choice of this project), of a bundle's fields, or of
+-- a memory's ports.
 use Rattle.std.specs.Prelude.{ℕ, List, [], ◌∷◌, ◌++◌, map, Option, Some, None}
 use Rattle.fir_ast.specs.declared.place.Place.{Place}
 use Rattle.fir_ast.specs.Types.{DataType, bundle, vector, Fields, no_fields, field}

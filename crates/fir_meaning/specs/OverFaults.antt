@@ -1,4 +1,4 @@
--- E19, a leaf or an expression that is over 128 bits (FIRRTL spec, "Width Inference"), under an assignment.
+-- E19, a leaf or an expression that is over 128 bits, a choice of this project (FIRRTL spec, "Width Inference"), under an assignment.
 -- A leaf counts at its declaration, and that of an instance at the instance too. A reference is over by its own leaf alone.
 use Rattle.std.specs.Prelude.{ℕ, List, [], ◌∷◌, ◌++◌, flat_map, Bool, false, ◌||◌, nat_lt, if◌then◌else◌, codes}
 use Rattle.fir_bits.specs.OperatorWords.{operator_word}

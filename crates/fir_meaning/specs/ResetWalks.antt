@@ -1,6 +1,6 @@
 -- Walks along joins, and which Resets are asynchronous (FIRRTL spec, "Reset Inference").
--- A Reset is an AsyncReset where a walk through Resets leads from it to an AsyncReset, else a UInt of one bit. A circuit in which a walk through Resets leads
--- from a UInt to an AsyncReset shows E18; each such walk that repeats no item may be told.
+-- A Reset is an AsyncReset where a walk through Resets leads from it to an AsyncReset, else a UInt of one bit, also where nothing fixes it, a choice of this
+-- project. A circuit in which a walk through Resets leads from a UInt to an AsyncReset shows E18; each such walk that repeats no item may be told.
 use Rattle.std.specs.Prelude.{◌≡◌, ℕ, ◌⊎◌, List, [], ◌∷◌, ◌++◌, map, Option, Some, slice_get, codes}
 use Rattle.std.specs.List.{AllByRecursion}
 use Rattle.fir_base.specs.Lists.{In, Distinct}

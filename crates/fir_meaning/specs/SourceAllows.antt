@@ -1,7 +1,8 @@
 -- What a tree of designs allows at a tick (FIRRTL spec, "Circuits", "Registers", "Memories", "Clock Type").
 -- The values are guessed whole and then tested: each leaf has what it shows. What is no leaf has the number 0 and no clock. Behind a tick, a register with an
 -- asynchronous reset at 1 takes its init; else, at an edge of its clock, its init where a synchronous reset is 1, else what the statements store, else what it
--- shows; else it keeps its state. A pipe and the arrays follow their clocks. Of two writes to one address that of the later port wins.
+-- shows; else it keeps its state. A pipe and the arrays follow their clocks. Of two writes to one address that of the later port of the text wins, and where
+-- `read-under-write` is undefined a read gives the old word: each is a choice of this project.
 use Rattle.std.specs.Prelude.{◌≡◌, ℕ, ◌^◌, ◌<◌, List, [], ◌∷◌, ◌++◌, flat_map, map, Bool, not, ◌&&◌, nat_eq, if◌then◌else◌, Option, Some, None, unwrap_or}
 use Rattle.fir_base.specs.Lists.{In}
 use Rattle.fir_base.specs.Ticks.{Allowance, HasShape, Tick}

@@ -1,6 +1,7 @@
 -- Choices, and which drive of a leaf is live under one (FIRRTL spec, "Last Connect Semantics", "Conditional Last Connect Semantics").
 -- A choice gives each when and each drive through dynamic indices an outcome, independently, whatever their conditions say. A leaf counts the whens from its
--- own declaration inward. The last drive that reaches the leaf is live.
+-- own declaration inward. The last drive that reaches the leaf is live. One through dynamic indices reaches it only where they pick it, a choice of this
+-- project.
 use Rattle.std.specs.Prelude.{◌≡◌, ℕ, List, [], ◌∷◌, ◌++◌, drop, flat_map, Bool, true, false, not, ◌&&◌, ◌||◌, if◌then◌else◌, Option, Some, None}
 use Rattle.fir_meaning.specs.LeafPaths.{LeafPath}
 use Rattle.fir_meaning.specs.ModuleScenes.{Scene, scope_before}

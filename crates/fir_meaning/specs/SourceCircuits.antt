@@ -1,6 +1,7 @@
 -- The leaves and arrays of a tree of designs by their paths, with the order of its state (FIRRTL spec, "Ports", "Instances", "Registers", "Memories").
--- An instance's port is the leaf of the module that holds the instance. What an instance gives is driven within it. The state is in the order of the text, that of
--- an instance's module in the place of the instance; behind the words come the arrays, in that order too. What has no bits is in no list.
+-- An instance's port is the leaf of the module that holds the instance. What an instance gives is driven within it. The state is in the order of the text, that
+-- of an instance's module in the place of the instance; behind the words come the arrays, in that order too. That order is a choice of this project. What has
+-- no bits is in no list.
 use Rattle.std.specs.Prelude.{ℕ, List, [], ◌∷◌, ◌++◌, filter, flat_map, length, map, replicate, Bool, true, false, ◌&&◌, if◌then◌else◌}
 use Rattle.std.specs.Str.{bytes_eq}
 use Rattle.fir_base.specs.Ticks.{Shape}

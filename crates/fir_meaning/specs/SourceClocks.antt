@@ -1,7 +1,7 @@
 -- E25 in a circuit (FIRRTL spec, "Clock Type", "Last Connect Semantics"): a clock leaf with two live drives, or a clock that a dynamic index picks.
--- It stands at the leaf's declaration; for a register's own clock at the register, by its path. The evidence is the first in the text of the dynamic indices that
--- pick a clock in a live drive, in the node or in the register's clock, its place twice; else the first two live drives, of which an invalid is one. Told is the
--- fault of the first leaf.
+-- It stands at the leaf's declaration; for a register's own clock at the register, by its path. The evidence is the first in the text of the dynamic indices
+-- that pick a clock in a live drive, in the node or in the register's clock, its place twice; else the first two live drives, of which an invalid is one. Told
+-- is the fault of the first leaf. So a clock is known by the input at which its chain of drives ends, a choice of this project.
 use Rattle.std.specs.Prelude.{◌≡◌, List, [], ◌∷◌, ◌++◌, false, take, length, ◌+◌, ◌⊎◌}
 use Rattle.fir_base.specs.Lists.{In}
 use Rattle.fir_ast.specs.declared.fault.FirFault.{FirFault}

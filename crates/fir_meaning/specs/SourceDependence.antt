@@ -1,6 +1,7 @@
 -- What a leaf of a whole design depends on within a tick, by paths, and walks of dependence (FIRRTL spec, "Last Connect Semantics", "Registers", "Memories").
 -- A sink depends on what the drives read that are live for it, in the module whose statements drive it; a node on its expression; a register with an
--- asynchronous reset on that reset and its init; a read at once on its address and enables. What shows state otherwise, and an input, depend on nothing.
+-- asynchronous reset on that reset and its init, at once, a choice of this project; a read at once on its address and enables. What shows state otherwise, and
+-- an input, depend on nothing.
 use Rattle.std.specs.Prelude.{◌≡◌, List, [], ◌∷◌, ◌++◌, map, Bool, true, false, Option, Some, None}
 use Rattle.fir_base.specs.Lists.{In}
 use Rattle.fir_meaning.specs.LeafPaths.{LeafPath, named}

@@ -1,6 +1,7 @@
--- E27 in a circuit (FIRRTL spec, "Registers"): what gives a register with an asynchronous reset its init reaches an input or state.
--- It stands at the register's declaration. The walk of dependence begins with a leaf that the init reads, and ends with an input of the main module or a leaf that
--- shows state: a register, or what a memory gives. No leaf stands on it twice. Any such walk may be told.
+-- E27 in a circuit (FIRRTL spec, "Registers"): what gives a register with an asynchronous reset its init reaches an input or state. That it must not is a
+-- choice of this project.
+-- It stands at the register's declaration. The walk of dependence begins with a leaf that the init reads, and ends with an input of the main module or a leaf
+-- that shows state: a register, or what a memory gives. No leaf stands on it twice. Any such walk may be told.
 use Rattle.std.specs.Prelude.{◌≡◌, List, ◌∷◌, map, Bool, true, false, Some, IsTrue}
 use Rattle.fir_base.specs.Lists.{Distinct, In}
 use Rattle.fir_ast.specs.declared.fault.FirFault.{FirFault}

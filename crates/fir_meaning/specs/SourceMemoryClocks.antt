@@ -1,7 +1,7 @@
 -- E26 in a circuit (FIRRTL spec, "Memories", "Clock Type"): two ports of a memory on different clocks.
--- The clock of a port is the leaf at which its chain of connects ends in the module that holds the memory: an input, or what an instance gives. It stands at the
--- memory. The evidence is the clock of the first port that has one, and the first that differs from it. Before each path stands that of the module's instance.
--- Told is the fault of the first memory.
+-- The clock of a port is the leaf at which its chain of connects ends in the module that holds the memory: an input, or what an instance gives. It stands at
+-- the memory. The evidence is the clock of the first port that has one, and the first that differs from it. Before each path stands that of the module's
+-- instance. Told is the fault of the first memory. That clocks are known by where their chains end is a choice of this project.
 use Rattle.std.specs.Prelude.{Some, ◌≡◌, ℕ, ◌≤◌, List, [], ◌∷◌, ◌++◌, codes, flat_map, map, slice_get, false}
 use Rattle.fir_base.specs.Lists.{In}
 use Rattle.fir_ast.specs.declared.fault.FirFault.{FirFault}

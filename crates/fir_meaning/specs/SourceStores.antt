@@ -2,7 +2,8 @@
 -- "Invalidates", "Conditional Last Connect Semantics", "Instances").
 -- The statements of a module go in order, and a connect overwrites what stands at the leaves that it drives. `taken` has the truth of each when round the
 -- statement in its module, outermost first; a leaf counts those from its own declaration inward. The statements of an instance's module stand in the place of
--- the instance, and the whens round that condition nothing in it. All values are read from the settled ones.
+-- the instance, and the whens round that condition nothing in it. All values are read from the settled ones. An invalid stores zero, or no clock, and an index
+-- that is out of range writes nothing: each is a choice of this project.
 use Rattle.std.specs.Prelude.{ℕ, List, [], ◌∷◌, ◌++◌, Bool, not, if◌then◌else◌, Option, Some, None}
 use Rattle.std.specs.Str.{bytes_eq}
 use Rattle.fir_ast.specs.Types.{DataType}

@@ -1,6 +1,6 @@
 -- What the leaves of a tree of designs show, by paths (FIRRTL spec, "Nodes", "Registers", "Connects", "Memories").
 -- A register shows its word of the state, or its init while an asynchronous reset is 1. A read without its enable, for which its port writes, or past the depth
--- gives zero.
+-- gives zero. Each is a choice of this project.
 use Rattle.std.specs.Prelude.{ℕ, ◌+◌, List, [], ◌∷◌, ◌++◌, length, Bool, true, ◌&&◌, nat_eq, nat_lt, if◌then◌else◌, Option, Some, None}
 use Rattle.fir_bits.specs.declared.values.Num.{Num}
 use Rattle.fir_ast.specs.Expressions.{Expression}

@@ -1,5 +1,5 @@
 -- What a reference names under given values, by paths (FIRRTL spec, "References", "Sub-accesses").
--- Behind dynamic indices it is the leaves of one element, or of none where an index is out of range.
+-- Behind dynamic indices it is the leaves of one element, or of none where an index is out of range, a choice of this project.
 use Rattle.std.specs.Prelude.{ℕ, List, [], ◌∷◌, ◌++◌, nat_lt, if◌then◌else◌, Option, Some, None, option_map}
 use Rattle.fir_ast.specs.Types.{DataType}
 use Rattle.fir_meaning.specs.LeafPaths.{LeafPath, Step, named, element}

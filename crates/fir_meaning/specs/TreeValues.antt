@@ -1,5 +1,5 @@
 -- The values of an expression's leaves, by paths (FIRRTL spec, "Expressions", "Primitive Operations", "Multiplexers", "Sub-accesses").
--- A leaf of a mux is that of the arm which the condition picks. An index that is out of range reads zero.
+-- A leaf of a mux is that of the arm which the condition picks. An index that is out of range reads zero, a choice of this project.
 use Rattle.std.specs.Prelude.{ℕ, List, [], ◌∷◌, ◌++◌, Option, Some, None}
 use Rattle.fir_bits.specs.declared.types.NumTy.{NumTy}
 use Rattle.fir_bits.specs.declared.values.Num.{Num}

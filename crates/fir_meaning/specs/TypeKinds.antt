@@ -1,4 +1,5 @@
 -- What a type may be used for: passive, numeric (FIRRTL spec, "Passive Types", "Registers", "Memories", "Multiplexers"); and a type without its widths.
+-- That registers, the operands of mux and validif, and the data of memories have UInt and SInt leaves alone is a choice of this project.
 use Rattle.std.specs.Prelude.{ℕ, List, Bool, true, false, not, ◌&&◌, ◌||◌, ◌==◌, if◌then◌else◌, Option, Some, None}
 use Rattle.std.specs.Str.{bytes_eq}
 use Rattle.fir_ast.specs.Types.{DataType, uint, sint, bundle, vector, Fields, no_fields, field}

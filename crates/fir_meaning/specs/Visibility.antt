@@ -1,5 +1,5 @@
 -- What is declared and what is visible before a place of a module (FIRRTL spec, "Namespaces", "Conditionals").
--- A declaration is visible behind itself, in its block and in the blocks inside; names are declared over all blocks.
+-- A declaration is visible behind itself, in its block and in the blocks inside; names are declared over all blocks, a choice of this project.
 use Rattle.std.specs.Prelude.{ℕ, ◌+◌, List, [], ◌∷◌, ◌++◌}
 use Rattle.fir_ast.specs.Statements.{PlacedName, Statement, wire, register, node, instance, memory, when, Block, done, then}
 use Rattle.fir_ast.specs.Circuits.{PortTree, ModuleTree}

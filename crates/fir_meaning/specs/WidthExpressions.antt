@@ -1,5 +1,6 @@
 -- Width expressions, and rules for widths that are not written (FIRRTL spec, "Width Inference"): an unknown is at least as wide as what is connected to it,
 -- and all unknowns are the least that satisfy all rules. Widths count in the numbers 0 to 128 and one value above them, 129, that stands for all that is over.
+-- That widths end at 128, and that an unknown without a rule is 0, are each a choice of this project.
 use Rattle.std.specs.Prelude.{ℕ, ◌≤◌, min, max, nat_lt, Bool, if◌then◌else◌, List}
 use Rattle.fir_base.specs.Lists.{In}
 use Rattle.fir_bits.specs.declared.operators.PrimOp.{PrimOp}
