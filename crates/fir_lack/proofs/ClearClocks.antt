@@ -1,5 +1,5 @@
 -- A circuit that lacks nothing shows no fault of clocks, of the clocks of memories or of asynchronous inits.
-use Rattle.std.proofs.Common.{◌≡◌, ℕ, ◌<◌, [], length, Option, Some, None, refl, sym}
+use Rattle.std.proofs.Common.{◌≡◌, ℕ, ◌<◌, [], length, Option, Some, None, false, refl, subst, sym}
 use Rattle.std.proofs.lemmas.Option.{none-some}
 use Rattle.fir_ast.specs.Circuits.{CircuitTree}
 use Rattle.fir_ast.specs.Expressions.{Expression, reference, literal, operation, mux, validif, no_parts, subfield, subindex, subaccess}
