@@ -1,0 +1,11 @@
+pub mod AllTerms
+pub mod ReadTargets
+pub mod ReadParts
+pub mod ReadTerms
+pub mod ReadStatements
+pub mod ReadBlocks
+pub mod SceneReads
+pub mod RoleTerms
+pub mod ReadRoles
+pub mod MovedReads
+pub mod FlatLives
