@@ -9,3 +9,6 @@ pub mod RoleTerms
 pub mod ReadRoles
 pub mod MovedReads
 pub mod FlatLives
+pub mod OwnNumbers
+pub mod FlatDrives
+pub mod DrivenParts
