@@ -12,3 +12,4 @@ pub mod FlatLives
 pub mod OwnNumbers
 pub mod FlatDrives
 pub mod DrivenParts
+pub mod DesignDrives
