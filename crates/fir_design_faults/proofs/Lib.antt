@@ -13,3 +13,5 @@ pub mod OwnNumbers
 pub mod FlatDrives
 pub mod DrivenParts
 pub mod DesignDrives
+pub mod TargetFlows
+pub mod DrivenPaths

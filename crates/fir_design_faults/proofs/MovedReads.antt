@@ -13,7 +13,7 @@ use Rattle.fir_design_faults.proofs.AllTerms.{AllPicksIn, AllTermIn, AllTermsIn}
 use Rattle.fir_leaf.proofs.MovedTerms.{number_more, shorter}
 
 -- what an index may pick is one of the elements
-from_multiples : (k n each y : ℕ) → In (multiples k n each) y → (i : ℕ) × (i < n) × (y ≡ k + i * each)
+pub from_multiples : (k n each y : ℕ) → In (multiples k n each) y → (i : ℕ) × (i < n) × (y ≡ k + i * each)
 unfolding multiples
 from_multiples k zero each y m = absurd m
 from_multiples k (suc n) each y (inl e) = (0, omega arith, omega (arith, e))
