@@ -15,3 +15,4 @@ pub mod DrivenParts
 pub mod DesignDrives
 pub mod TargetFlows
 pub mod DrivenPaths
+pub mod PortTurns

@@ -38,7 +38,7 @@ use Rattle.fir_source_faults.specs.working.ReadsByPath.{leaves_from, leaves_of_t
 use Rattle.fir_design_faults.proofs.MovedReads.{from_multiples}
 
 -- where no path stands twice, each leaf is found by its path
-flip_alone : (ls : List TypeLeaf) → Distinct (map (λ (l : TypeLeaf). l.path) ls) → (l : TypeLeaf) → In ls l
+pub flip_alone : (ls : List TypeLeaf) → Distinct (map (λ (l : TypeLeaf). l.path) ls) → (l : TypeLeaf) → In ls l
     → flip_on ls l.path ≡ Some l.flip
 flip_alone [] d l m = absurd m
 flip_alone (x ∷ ls) d l (inl e) = subst (λ (y : TypeLeaf). flip_on (x ∷ ls) y.path ≡ Some y.flip) e (rw (path_same x.path) refl)
