@@ -16,3 +16,4 @@ pub mod DesignDrives
 pub mod TargetFlows
 pub mod DrivenPaths
 pub mod PortTurns
+pub mod DesignReads

@@ -77,7 +77,7 @@ module _ (n : Numbering) (m : LeafModule) (ports : n.ports ≡ m.port_leaves) wh
     mapped [] h = refl
     mapped (y ∷ ys) h = ap₂ (λ (q : LeafPath) (qs : List LeafPath). q ∷ qs) (same y (h y (inl refl))) (mapped ys (λ z i. h z (inr i)))
 
-    joined_paths : (xs ys zs ws : List ℕ) → map outer xs ≡ map inner zs → map outer ys ≡ map inner ws → map outer (xs ++ ys) ≡ map inner (zs ++ ws)
+    pub joined_paths : (xs ys zs ws : List ℕ) → map outer xs ≡ map inner zs → map outer ys ≡ map inner ws → map outer (xs ++ ys) ≡ map inner (zs ++ ws)
     joined_paths xs ys zs ws h k = map-append outer xs ys ∙ ap₂ (λ (ps qs : List LeafPath). ps ++ qs) h k ∙ sym (map-append inner zs ws)
 
     pub reached_paths : (b : ℕ) (ps : Picks) → IsRead m b ps → map outer (reached (number n b) (moved_picks n ps)) ≡ map inner (reached b ps)
