@@ -17,3 +17,5 @@ pub mod TargetFlows
 pub mod DrivenPaths
 pub mod PortTurns
 pub mod DesignReads
+pub mod LastDrives
+pub mod MovedLives
