@@ -19,3 +19,4 @@ pub mod PortTurns
 pub mod DesignReads
 pub mod LastDrives
 pub mod MovedLives
+pub mod CircuitReads
