@@ -41,7 +41,7 @@ use Rattle.fir_design_faults.proofs.MovedReads.{joined_paths, picks_moved, reads
 use Rattle.fir_design_faults.proofs.ReadStatements.{AreReading, IsReading}
 
 -- by paths: what is live is a drive, and drives the leaf
-in_paths : (qs : List LeafPath) (q : LeafPath) → has_path qs q ≡ true → In qs q
+pub in_paths : (qs : List LeafPath) (q : LeafPath) → has_path qs q ≡ true → In qs q
 in_paths [] q e = absurd (cc)
 in_paths (p ∷ qs) q e = by (same_path p q) refl e (in_paths qs q)
   where

@@ -20,3 +20,4 @@ pub mod DesignReads
 pub mod LastDrives
 pub mod MovedLives
 pub mod CircuitReads
+pub mod WholeReads
