@@ -1,47 +1,34 @@
 -- A leaf of a design is read by a live statement of the whole exactly where by a live drive of one of its modules, by path.
-use Rattle.std.proofs.Common.{◌≡◌, ◌↔◌, ℕ, ◌+◌, ◌<◌, ◌≤◌, List, [], ◌∷◌, ◌++◌, map, flat_map, drop, Bool, true, false, ◌&&◌, ◌||◌, not, nat_lt, if◌then◌else◌, length, Option, Some, None, refl, sym, ap, ap₂, ◌∙◌, subst, inl, inr, ⊎_elim, arith}
-use Rattle.std.specs.List.{AllByRecursion}
-use Rattle.std.proofs.lemmas.Bool.{and_parts, ltb-false, ltb-true}
-use Rattle.std.proofs.lemmas.List.{get_or_past, map-append}
-use Rattle.std.proofs.lemmas.Option.{same_Some}
+use Rattle.std.proofs.Common.{◌≡◌, ℕ, ◌<◌, List, [], ◌∷◌, ◌++◌, map, Bool, true, false, nat_lt, length, refl, sym, ap, ◌∙◌, subst}
+use Rattle.std.proofs.lemmas.Bool.{ltb-false, ltb-true}
+use Rattle.std.proofs.lemmas.List.{get_or_past}
 use Rattle.fir_base.specs.Lists.{In}
-use Rattle.fir_base.proofs.Members.{in_either, in_map, in_map_from}
-use Rattle.fir_ast.specs.Circuits.{CircuitTree}
+use Rattle.fir_base.proofs.Members.{in_map, in_map_from}
 use Rattle.fir_meaning.specs.LeafPaths.{LeafPath}
 use Rattle.fir_meaning.specs.ModuleScenes.{Scene}
-use Rattle.fir_meaning.specs.SamePaths.{same_path}
 use Rattle.fir_meaning.specs.SourceChoices as tree
 use Rattle.fir_meaning.specs.SourceChoices.{IsLive}
 use Rattle.fir_meaning.specs.SourceDependence.{DriveReads, PlacedModule, all_modules, from_main}
 use Rattle.fir_meaning.specs.SourceDesigns.{SourceDesign}
-use Rattle.fir_meaning.specs.SourceDrives.{Drive, module_drives}
+use Rattle.fir_meaning.specs.SourceDrives.{module_drives}
 use Rattle.fir_meaning.specs.SourceFacts.{source_depth}
-use Rattle.fir_meaning.specs.working.Choices as over
-use Rattle.fir_meaning.specs.working.Choices.{Live, LiveReads, below, live_reads, lives, lives_all, unless}
-use Rattle.fir_meaning.specs.working.LeafBlocks.{LeafBlock, LeafStatement, done, drive, instance, then, when}
+use Rattle.fir_meaning.specs.working.Choices.{Live, LiveReads, live_reads, lives_all}
 use Rattle.fir_meaning.specs.working.LeafCircuits.{LeafCircuit, depth_of}
-use Rattle.fir_meaning.specs.working.LeafModules.{LeafDeclared, LeafModule, depth_at, leaf_at, no_leaf}
+use Rattle.fir_meaning.specs.working.LeafModules.{LeafDeclared, LeafModule, depth_at, no_leaf}
 use Rattle.fir_meaning.specs.working.LeafedModules.{leafed_module, module_leaves}
-use Rattle.fir_meaning.specs.working.Numberings.{Numbering, moved, moved_picks, number}
-use Rattle.fir_meaning.specs.working.TermReads.{is_among, picks_read, reached, reads}
-use Rattle.fir_meaning.specs.working.Terms.{Term}
-use Rattle.fir_meaning.specs.working.UndrivenChoices.{drives_any}
+use Rattle.fir_meaning.specs.working.Numberings.{Numbering, number}
 use Rattle.fir_leaf.specs.working.SoundDesigns.{circuit_path}
-use Rattle.fir_leaf.proofs.FlatStores.{same_path_is}
 use Rattle.fir_leaf.proofs.LiveStatements.{lives_are_live}
-use Rattle.fir_leaf.proofs.MovedTerms.{Stands}
 use Rattle.fir_source_faults.specs.working.DrivesByPath.{DrivesByPath}
 use Rattle.fir_source_faults.specs.working.ReadsByPath.{path_in, paths_in}
-use Rattle.fir_design_faults.proofs.AllTerms.{AllPicksIn, AllTermIn}
 use Rattle.fir_design_faults.proofs.DesignDrives.{DrivesBelow, InRegion}
-use Rattle.fir_design_faults.proofs.DrivenPaths.{DriveLeaves, IsDriven}
-use Rattle.fir_design_faults.proofs.DesignReads.{LiveIn, block_live, live_drives}
+use Rattle.fir_design_faults.proofs.DrivenPaths.{DriveLeaves}
+use Rattle.fir_design_faults.proofs.DesignReads.{block_live, live_drives}
 use Rattle.fir_design_faults.proofs.LastDrives.{last_among}
 use Rattle.fir_design_faults.proofs.MovedLives.{live_moved}
-use Rattle.fir_design_faults.proofs.FlatDrives.{Agrees, Driver, Member, not_true}
-use Rattle.fir_design_faults.proofs.FlatLives.{moved_live, quiet}
-use Rattle.fir_design_faults.proofs.MovedReads.{joined_paths, picks_moved, reads_moved}
-use Rattle.fir_design_faults.proofs.ReadStatements.{AreReading, IsReading}
+use Rattle.fir_design_faults.proofs.FlatDrives.{Member}
+use Rattle.fir_design_faults.proofs.FlatLives.{moved_live}
+use Rattle.fir_design_faults.proofs.ReadStatements.{AreReading}
 
 -- what is known of the module of each instance
 pub record HolderFacts (s : Scene) : Type 0 where

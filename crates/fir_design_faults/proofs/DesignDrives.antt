@@ -36,7 +36,7 @@ use Rattle.fir_design_faults.proofs.DrivenParts.{Drives, MayDrive, joined_drives
 use Rattle.fir_design_faults.proofs.FlatDrives.{Driver, IsTurned, Member, driver_within, left_true, modules_by_trees, modules_of_trees, not_true, right_true}
 use Rattle.fir_meaning.specs.working.Choices.{lives_all}
 use Rattle.fir_design_faults.proofs.FlatLives.{moved_live, quiet}
-use Rattle.fir_design_faults.proofs.OwnNumbers.{HasRoom, IsInst, IsPortAt, OwnDrives, distinct_left, distinct_right, own_apart}
+use Rattle.fir_design_faults.proofs.OwnNumbers.{HasRoom, IsInst, OwnDrives, distinct_left, distinct_right, own_apart}
 
 -- a leaf that a design may drive: one of its module's ports, or one of its own
 abbrev pub InRegion : LeafModule → ℕ → ℕ → ℕ → ℕ → Type 0

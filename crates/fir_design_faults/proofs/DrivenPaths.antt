@@ -1,5 +1,5 @@
 -- The drives of a module drive leaves of the module that statements may drive, by paths.
-use Rattle.std.proofs.Common.{◌≡◌, ℕ, zero, suc, ◌+◌, ◌<◌, List, [], ◌∷◌, ◌++◌, map, flat_map, Bool, true, false, not, if◌then◌else◌, length, slice_get, Option, Some, None, option_map, refl, sym, ap, ◌∙◌, subst, inl, inr, ⊎_elim, arith, ◌⊎◌}
+use Rattle.std.proofs.Common.{◌≡◌, ℕ, suc, ◌+◌, ◌<◌, List, [], ◌∷◌, ◌++◌, flat_map, Bool, true, false, not, if◌then◌else◌, length, slice_get, Option, Some, None, option_map, refl, sym, ap, ◌∙◌, subst, inl, inr, ⊎_elim, arith}
 use Rattle.std.proofs.lemmas.Grind.{flat_map-append}
 use Rattle.std.specs.List.{All}
 use Rattle.std.proofs.lemmas.List.Elements.{All-head, All-tail}
@@ -17,17 +17,17 @@ use Rattle.fir_meaning.specs.Flows.{flow_under, is_source}
 use Rattle.fir_meaning.specs.LeafPaths.{LeafPath}
 use Rattle.fir_meaning.specs.MemoryTypes.{first_one}
 use Rattle.fir_meaning.specs.ModuleScenes.{Scene, behind_all_ports, scope_before}
-use Rattle.fir_meaning.specs.Reaching.{Reached, further}
+use Rattle.fir_meaning.specs.Reaching.{Reached}
 use Rattle.fir_meaning.specs.SamePaths.{may_be_driven}
 use Rattle.fir_meaning.specs.SizedScopes.{sink_expression}
-use Rattle.fir_meaning.specs.SourceDrives.{Drive, Side, drives, invalid_drive, invalid_drives, module_drives, pair_drive, pair_drives, side, type_here}
+use Rattle.fir_meaning.specs.SourceDrives.{Drive, drives, invalid_drive, invalid_drives, module_drives, pair_drive, pair_drives, side, type_here}
 use Rattle.fir_meaning.specs.SourceFacts.{source_may_drive}
 use Rattle.fir_meaning.specs.SourceReads.{leaves_named}
 use Rattle.fir_meaning.specs.TypeGroup.{scope_at}
 use Rattle.fir_meaning.specs.TypeLeaves.{TypeLeaf, type_leaves}
 use Rattle.fir_meaning.specs.TypedScopes.{TypedScope}
 use Rattle.fir_meaning.specs.Visibility.{Before, behind, behind_block, opened, reopened}
-use Rattle.fir_meaning.specs.Visits.{Branch, Visit, branch, module_visits, visit, visits, visits_in}
+use Rattle.fir_meaning.specs.Visits.{Branch, Visit, branch, visit, visits, visits_in}
 use Rattle.fir_meaning.specs.working.LeafModules.{leaf_at, may_drive}
 use Rattle.fir_meaning.specs.working.LeafPairs.{LeafPair, leaf_pairs, partial_leaf_pairs}
 use Rattle.fir_meaning.specs.working.Leafed.{target_of}
@@ -36,12 +36,12 @@ use Rattle.fir_meaning.specs.working.WellTyped.{AreLegal, ConnectIsLegal, FlowsT
 use Rattle.fir_meaning.proofs.FoundTypes.{found_sink}
 use Rattle.fir_leaf.specs.working.LeafLaws.{Begins}
 use Rattle.fir_leaf.proofs.PairsByNumber.{ArePairs, IsPair, pairs_numbered, partial_numbered}
-use Rattle.fir_leaf.proofs.ScopesBegin.{begins_all, begins_behind, begins_block, begins_through}
+use Rattle.fir_leaf.proofs.ScopesBegin.{begins_all, begins_block, begins_through}
 use Rattle.fir_design.proofs.FineScenes.{IsFineScene, leaf_path, whole_scope}
 use Rattle.fir_design.proofs.SourceLeaves.{source_may_drive_is}
 use Rattle.fir_source_faults.specs.working.ReadsByPath.{ReadsByPath, leaves_from, leaves_of_target, path_in}
 use Rattle.fir_source_faults.proofs.ConnectPieces.{found_here, sink_has_type}
-use Rattle.fir_design_faults.proofs.TargetFlows.{Flows, sink_flows}
+use Rattle.fir_design_faults.proofs.TargetFlows.{sink_flows}
 
 -- a leaf of the module that statements may drive
 pub record IsDriven (s : Scene) (q : LeafPath) : Type 0 where
@@ -55,7 +55,6 @@ DriveLeaves s ds = (d : Drive) → In ds d → (q : LeafPath) → In d.driven.le
 
 joined_leaves : (s : Scene) (ds es : List Drive) → DriveLeaves s ds → DriveLeaves s es → DriveLeaves s (ds ++ es)
 joined_leaves s ds es h k d i q j = ⊎_elim (λ (l : In ds d). h d l q j) (λ (r : In es d). k d r q j) (in_either ds es d i)
-
 
 single : (s : Scene) (c : Drive) → ((q : LeafPath) → In c.driven.leaves q → IsDriven s q) → DriveLeaves s (c ∷ [])
 single s c h d (inl e) q j = h q (subst (λ (x : Drive). In x.driven.leaves q) (sym e) j)

@@ -1,48 +1,26 @@
 -- What the statements of a design drive: each leaf is driven by the statements of one of its modules, and what is live for it in the whole is what is live in
 -- that module, moved.
-use Rattle.std.proofs.Common.{◌≡◌, ℕ, ◌+◌, ◌-◌, ◌<◌, ◌≤◌, List, [], ◌∷◌, ◌++◌, map, flat_map, Bool, true, false, not, ◌||◌, nat_lt, length, slice_get, Some, refl, sym, ap, ap₂, ◌∙◌, subst, inl, inr, ⊎_elim, arith, ◌⊎◌, append-nil}
-use Rattle.std.proofs.lemmas.Bool.{false_from_ne_true, lt-ltb}
-use Rattle.std.proofs.lemmas.Grind.{flat_map-append}
-use Rattle.std.proofs.lemmas.List.{length-drop, length-map}
-use Rattle.fir_base.specs.Lists.{Distinct, In}
-use Rattle.fir_base.proofs.Elements.{get_in}
-use Rattle.fir_base.proofs.Members.{in_either, in_left, in_map_from, in_right}
+use Rattle.std.proofs.Common.{◌≡◌, ℕ, ◌+◌, ◌<◌, ◌≤◌, List, [], ◌∷◌, ◌++◌, map, flat_map, Bool, true, false, not, ◌||◌, length, refl, ap, ◌∙◌, inl, inr, arith, ◌⊎◌}
+use Rattle.std.proofs.lemmas.Bool.{false_from_ne_true}
+use Rattle.fir_base.specs.Lists.{In}
 use Rattle.fir_ast.specs.declared.place.Place.{Place}
-use Rattle.fir_ast.specs.Circuits.{CircuitTree}
 use Rattle.fir_meaning.specs.working.Terms.{Term}
-use Rattle.fir_meaning.specs.Elaborated.{AreScenes}
 use Rattle.fir_meaning.specs.LeafPaths.{LeafPath, named}
-use Rattle.fir_meaning.specs.ModuleScenes.{Scene}
 use Rattle.fir_meaning.specs.SourceDependence.{PlacedModule, modules_of_design, modules_of_instances}
-use Rattle.fir_meaning.specs.SourceDesigns.{Instances, IsSourceDesignOf, SourceDesign, held, no_instances}
-use Rattle.fir_meaning.specs.SourceDesigns as source
-use Rattle.fir_meaning.specs.working.Choices.{Live, covers, covers_all, lives, lives_all}
-use Rattle.fir_meaning.specs.working.DesignPaths.{instance_path}
-use Rattle.fir_meaning.specs.working.Designs.{AreItemsIn, Design, IsDesignOf, IsItemIn, Item, Items, block_of, done, drive, instance, made_of, statement_of, then, when}
-use Rattle.fir_meaning.specs.working.FlatDesigns.{array_count, array_count_all, count, count_all, count_below, flat, flat_all, flat_below, inner_leaves}
-use Rattle.fir_meaning.specs.working.FlatLeaves.{all_leaves_in, leaves_below, leaves_in}
+use Rattle.fir_meaning.specs.SourceDesigns.{Instances, held, no_instances}
+use Rattle.fir_meaning.specs.working.Choices.{lives_all}
 use Rattle.fir_meaning.specs.working.LeafBlocks.{HeldInstance, LeafBlock, LeafStatement, joined}
 use Rattle.fir_meaning.specs.working.LeafBlocks as over
 use Rattle.fir_meaning.specs.working.LeafModules.{LeafDeclared, LeafModule, depth_at, leaf_at, may_drive, role_at}
 use Rattle.fir_meaning.specs.working.LeafedModules.{leafed_module, module_leaves}
-use Rattle.fir_meaning.specs.working.NameGroups.{HasNames}
-use Rattle.fir_meaning.specs.working.Numberings.{Numbering, moved, moved_picks, number, numbering}
-use Rattle.fir_meaning.specs.working.TermReads.{is_among, is_picked, reached}
-use Rattle.fir_meaning.specs.working.UndrivenChoices.{drives, drives_any}
-use Rattle.fir_leaf.specs.working.NamedDesigns.{all_instances_in, instances_in}
-use Rattle.fir_leaf.specs.working.SoundDesigns.{AreWired, IsWired}
-use Rattle.fir_leaf.proofs.FlatPlaces.{At, at_left, at_right, count_is, counts_are, held_stands, inner_at}
+use Rattle.fir_meaning.specs.working.Numberings.{Numbering, number}
+use Rattle.fir_meaning.specs.working.UndrivenChoices.{drives_any}
 use Rattle.fir_leaf.proofs.FlatStores.{depths}
-use Rattle.fir_leaf.proofs.MovedTerms.{Stands, number_more, number_own, number_port}
-use Rattle.fir_design.proofs.HeldInstances.{Held, all_held_in, held_in}
-use Rattle.fir_design.proofs.InstanceTrees.{IsTreeOf, NamedTree, trees_in, trees_of_module}
-use Rattle.fir_design.proofs.ListsInStep.{AreInStep, step_parts}
-use Rattle.fir_design.proofs.NumberedScenes.{scene_own, view_at}
+use Rattle.fir_leaf.proofs.MovedTerms.{Stands}
+use Rattle.fir_design.proofs.InstanceTrees.{NamedTree, trees_in}
 use Rattle.fir_source_faults.specs.working.ReadsByPath.{path_in}
 use Rattle.fir_source_faults.proofs.JoinedChoices.{drives_joined}
-use Rattle.fir_design_faults.proofs.FlatLives.{AreMoved, before_quiet, behind_quiet, covers_joined, first_of_when, lives_joined, moved_alone, moved_drive, moved_joined, moved_live, moved_when, quiet, second_of_when}
-use Rattle.fir_design_faults.proofs.MovedReads.{reached_moved, same_picked, within_read}
-use Rattle.fir_design_faults.proofs.OwnNumbers.{HasRoom, IsInst, IsPortAt, OwnDrives, among_moved, among_there, distinct_left, distinct_right, inst_apart, inst_within, own_apart}
+use Rattle.fir_design_faults.proofs.FlatLives.{before_quiet, behind_quiet, first_of_when, moved_live, second_of_when}
 
 -- a leaf of an instance's port, in the module that holds the instance and in its own
 pub record IsTurned (m c : LeafModule) (i : HeldInstance) (z : ℕ) : Type 0 where

@@ -1,12 +1,11 @@
 -- What is live for a leaf in blocks over leaves: behind one another, where some drive nothing, and where all are moved.
-use Rattle.std.proofs.Common.{◌≡◌, ℕ, ◌+◌, ◌<◌, List, [], ◌∷◌, ◌++◌, map, Bool, true, false, ◌&&◌, ◌||◌, not, nat_lt, if◌then◌else◌, refl, sym, ap, ap₂, ◌∙◌, append_assoc, append-nil, arith}
+use Rattle.std.proofs.Common.{◌≡◌, ℕ, ◌+◌, ◌<◌, List, [], ◌∷◌, ◌++◌, map, Bool, true, false, ◌&&◌, ◌||◌, not, nat_lt, if◌then◌else◌, refl, sym, ap, ap₂, ◌∙◌, append_assoc, append-nil}
 use Rattle.std.proofs.lemmas.Bool.{lt-ltb, or_parts}
 use Rattle.fir_ast.specs.declared.place.Place.{Place}
 use Rattle.std.proofs.lemmas.List.{map-append}
-use Rattle.fir_meaning.specs.working.Choices.{Live, below, covers, covers_all, driving, lives, lives_all, live_reads, unless}
+use Rattle.fir_meaning.specs.working.Choices.{Live, below, covers, covers_all, lives, lives_all, unless}
 use Rattle.fir_meaning.specs.working.LeafBlocks.{LeafBlock, LeafStatement, done, drive, instance, joined, then, when}
 use Rattle.fir_meaning.specs.working.Numberings.{Numbering, moved, moved_picks}
-use Rattle.fir_meaning.specs.working.TermReads.{is_among, is_picked, reached}
 use Rattle.fir_meaning.specs.working.Terms.{Term}
 use Rattle.fir_meaning.specs.working.UndrivenChoices.{drives, drives_any}
 

@@ -1,5 +1,5 @@
 -- Which leaves of a design the statements of a module may drive: its own, by their numbers; and those that stand with its instances.
-use Rattle.std.proofs.Common.{◌≡◌, ℕ, ◌+◌, ◌-◌, ◌<◌, ◌≤◌, List, [], ◌∷◌, ◌++◌, map, Bool, true, false, ◌||◌, nat_lt, nat_eq, length, refl, sym, ap, ap₂, ◌∙◌, inl, inr, ⊎_elim, arith, ◌⊎◌}
+use Rattle.std.proofs.Common.{◌≡◌, ℕ, ◌+◌, ◌-◌, ◌<◌, ◌≤◌, List, [], ◌∷◌, ◌++◌, map, Bool, true, false, ◌||◌, nat_lt, nat_eq, length, refl, sym, ap, ap₂, ◌∙◌, inl, inr, arith, ◌⊎◌}
 use Rattle.std.proofs.lemmas.Bool.{eqb-true, ltb-false, ltb-true}
 use Rattle.fir_base.specs.Lists.{Distinct, In}
 use Rattle.fir_base.proofs.Members.{in_left, in_right}

@@ -1,16 +1,16 @@
 -- A port of an instance may be driven in the module that holds the instance exactly where it may not be in the instance's own module.
-use Rattle.std.proofs.Common.{◌≡◌, ℕ, zero, suc, ◌+◌, ◌<◌, ◌≤◌, List, [], ◌∷◌, ◌++◌, map, length, refl, sym, ap, ap₂, ◌∙◌, subst, arith, length-append, Bool, true, false, not, Option, Some, None, option_map, slice_get}
+use Rattle.std.proofs.Common.{◌≡◌, ℕ, zero, suc, ◌+◌, ◌<◌, List, [], ◌∷◌, ◌++◌, map, length, refl, sym, ap, ap₂, ◌∙◌, subst, arith, length-append, Bool, true, false, not, Option, Some, None, option_map, slice_get}
 use Rattle.std.specs.Prelude.{◌==◌, if◌then◌else◌}
 use Rattle.std.proofs.lemmas.List.{get_or_append_left, length-map, map-append}
-use Rattle.std.proofs.lemmas.Option.{get_or_from_slice_get, same_Some, slice_get_within}
-use Rattle.fir_base.specs.Lists.{Distinct, In}
+use Rattle.std.proofs.lemmas.Option.{get_or_from_slice_get, same_Some}
+use Rattle.fir_base.specs.Lists.{In}
 use Rattle.fir_base.proofs.Elements.{beside, get_behind, get_in, there}
 use Rattle.fir_base.specs.declared.direction.Direction.{Direction}
 use Rattle.fir_base.specs.declared.direction.Direction.TheVariants as direction
 use Rattle.fir_ast.specs.declared.place.Place.{Place}
 use Rattle.fir_ast.specs.Statements.{PlacedName}
 use Rattle.fir_ast.specs.Types.{DataType, uint, sint, clock, reset, async_reset, bundle, vector, Fields, no_fields, field}
-use Rattle.fir_ast.specs.Circuits.{CircuitTree, ModuleTree, PortTree}
+use Rattle.fir_ast.specs.Circuits.{CircuitTree, PortTree}
 use Rattle.fir_meaning.specs.LeafPaths.{LeafPath, named, element}
 use Rattle.fir_meaning.specs.TypeLeaves.{TypeLeaf, element_leaves, field_leaves, turned, type_leaves, under}
 use Rattle.fir_meaning.specs.Components as component
@@ -26,22 +26,19 @@ use Rattle.fir_meaning.specs.SizedTypes.{numbered, numbered_fields, past}
 use Rattle.fir_meaning.specs.SizedDeclarations.{numbers_at}
 use Rattle.fir_meaning.specs.SourceFacts.{flip_on}
 use Rattle.fir_meaning.specs.TypeGroup.{type_faults}
-use Rattle.fir_meaning.specs.TypedScopes.{Known, TypedScope}
+use Rattle.fir_meaning.specs.TypedScopes.{Known}
 use Rattle.fir_meaning.specs.Visibility.{Before, at_head, declarations, with_declaration}
 use Rattle.fir_meaning.specs.WidthExpressions.{Widths}
 use Rattle.fir_meaning.specs.LeafTypes.{LeafType}
-use Rattle.fir_meaning.specs.working.LeafModules.{LeafDeclared, LeafModule, Role, leaf_at, may_drive, no_leaf, role_at, sink, source}
-use Rattle.fir_meaning.specs.working.LeafModules as role
+use Rattle.fir_meaning.specs.working.LeafModules.{LeafDeclared, leaf_at, may_drive, no_leaf, role_at, sink, source}
 use Rattle.fir_meaning.specs.ModuleScenes.{Declared, Scene}
 use Rattle.fir_meaning.specs.HeldTypes.{held_field_types, held_types, repeated}
 use Rattle.fir_meaning.specs.working.LeafedModules.{leafed_module, leaves_from, leaves_of_ports, module_leaves, port_role}
 use Rattle.fir_meaning.specs.working.DesignPaths.{instance_name, no_name}
 use Rattle.fir_meaning.specs.working.NameGroups.{HasNames}
 use Rattle.fir_meaning.proofs.DistinctLeaves.{paths_distinct}
-use Rattle.fir_leaf.specs.working.NamedDesigns.{HasOwnNames, IsOwnInstance, declared_name}
-use Rattle.fir_leaf.specs.working.SoundDesigns.{IsHeld}
+use Rattle.fir_leaf.specs.working.NamedDesigns.{declared_name}
 use Rattle.fir_leaf.specs.working.TableLaws.{IsLeafOf}
-use Rattle.fir_leaf.specs.working.LeafLaws.{IsFine}
 use Rattle.fir_design.proofs.DeclaredInstances.{IsDeclared, instance_within}
 use Rattle.fir_design.proofs.DistinctElements.{once_numbered}
 use Rattle.fir_design.proofs.FineScenes.{IsFineScene, fine_scene, leaf_is, whole_scope}

@@ -1,14 +1,14 @@
 -- The terms of the roles of a module's leaves read its leaves, through indices either of ports alone or of none.
-use Rattle.std.proofs.Common.{◌≡◌, ℕ, ◌+◌, ◌≤◌, List, ◌++◌, Option, Some, None, option_map, ap, ◌∙◌, subst, ◌⊎◌, inl, inr, arith}
+use Rattle.std.proofs.Common.{ℕ, Option, Some, None, option_map}
 use Rattle.fir_base.proofs.Each.{all_joined}
 use Rattle.fir_ast.specs.declared.place.Place.{Place}
 use Rattle.fir_ast.specs.Types.{DataType, clock}
 use Rattle.fir_ast.specs.Statements.{Reset, Statement, wire, register, node, instance, memory, when, connect, partial_connect, invalid, skip, Block, done, then}
 use Rattle.fir_meaning.specs.Components as component
-use Rattle.fir_meaning.specs.ResetJoins.{numbered_module, type_of_known}
-use Rattle.fir_meaning.specs.TypedScopes.{TypedScope, known}
+use Rattle.fir_meaning.specs.ResetJoins.{numbered_module}
+use Rattle.fir_meaning.specs.TypedScopes.{TypedScope}
 use Rattle.fir_meaning.specs.TypeGroup.{scope_at}
-use Rattle.fir_meaning.specs.TypeLeaves.{TypeLeaf, leaf_count}
+use Rattle.fir_meaning.specs.TypeLeaves.{TypeLeaf}
 use Rattle.fir_meaning.specs.Visibility.{Before, behind, behind_block, opened, reopened, with_declaration}
 use Rattle.fir_meaning.specs.working.WellTyped.{AreLegal, IsLegal, ResetIsLegal}
 use Rattle.fir_meaning.specs.working.Leafed.{terms}
@@ -20,12 +20,9 @@ use Rattle.fir_meaning.specs.FoundTypes.{leaves_of_data}
 use Rattle.fir_meaning.specs.working.LeafMemories.{memory_roles}
 use Rattle.fir_meaning.specs.working.LeafModules as over
 use Rattle.fir_meaning.specs.working.LeafModules.{LeafDeclared, LeafModule, Need, Role}
-use Rattle.fir_meaning.specs.LeafTypes.{LeafType}
-use Rattle.fir_meaning.specs.working.Targets.{leaves_ahead, leaves_so_far}
-use Rattle.fir_leaf.proofs.NamedPlaces.{named_in_whole}
 use Rattle.fir_leaf.proofs.ScopesBegin.{begins_all, begins_behind, begins_block, begins_through}
-use Rattle.fir_design.proofs.FineScenes.{IsFineScene, leaves_long, whole_scope}
-use Rattle.fir_design.proofs.PortLeaves.{port_far, port_scope}
+use Rattle.fir_design.proofs.FineScenes.{IsFineScene, whole_scope}
+use Rattle.fir_design.proofs.PortLeaves.{port_scope}
 use Rattle.fir_design_faults.proofs.ReadTargets.{AreNamesIn}
 use Rattle.fir_design_faults.proofs.SceneReads.{names_in}
 use Rattle.fir_design_faults.proofs.ReadTerms.{at_in, condition_in, terms_in}

@@ -1,5 +1,5 @@
 -- Each leaf that a target names may be driven exactly where the flow that its reference reaches is no source there.
-use Rattle.std.proofs.Common.{◌≡◌, ℕ, zero, suc, ◌+◌, ◌*◌, ◌<◌, List, [], ◌∷◌, ◌++◌, map, flat_map, Bool, true, false, not, nat_lt, if◌then◌else◌, length, slice_get, Option, Some, None, option_map, refl, sym, ap, ap₂, ◌∙◌, subst, inl, inr, arith}
+use Rattle.std.proofs.Common.{◌≡◌, ℕ, zero, suc, ◌+◌, ◌*◌, ◌<◌, List, [], ◌∷◌, ◌++◌, map, Bool, true, false, not, nat_lt, if◌then◌else◌, slice_get, Option, Some, None, option_map, refl, sym, ap, ◌∙◌, subst, inl, inr, arith}
 use Rattle.std.specs.Str.{bytes_eq}
 use Rattle.std.proofs.lemmas.Bool.{false_from_ne_true}
 use Rattle.std.proofs.lemmas.Option.{none-some, same_Some}
@@ -24,7 +24,7 @@ use Rattle.fir_meaning.specs.TypeLeaves.{TypeLeaf, leaf_count, turned, type_leav
 use Rattle.fir_meaning.specs.TypedScopes.{Known, TypedScope, known}
 use Rattle.fir_meaning.specs.working.FieldSizes.{leaves_before}
 use Rattle.fir_meaning.specs.working.Leafed.{first_term, target_along, target_of, terms}
-use Rattle.fir_meaning.specs.working.Targets.{Target, element_target, leaves_ahead, element_target_at, field_target, field_target_at, further, named_target, picked_target, picked_target_at, stride_from}
+use Rattle.fir_meaning.specs.working.Targets.{Target, element_target, leaves_ahead, field_target, further, named_target, picked_target, stride_from}
 use Rattle.fir_meaning.specs.working.TermReads.{multiples, reached}
 use Rattle.fir_meaning.specs.working.Terms.{Picks, Term, no_picks, pick}
 use Rattle.fir_meaning.specs.working.WellTyped.{Leads, Reaches}

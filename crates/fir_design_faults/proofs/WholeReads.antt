@@ -1,37 +1,36 @@
 -- In each sound design of a circuit without a fault of names or types live reads by number are live reads by path.
-use Rattle.std.proofs.Common.{◌≡◌, ◌↔◌, ℕ, ◌+◌, ◌<◌, ◌≤◌, List, [], ◌∷◌, ◌++◌, Bool, true, false, ◌||◌, length, slice_get, Option, Some, None, refl, sym, ap, ◌∙◌, subst, append-nil, inl, inr, ⊎_elim, arith}
+use Rattle.std.proofs.Common.{◌≡◌, ℕ, ◌<◌, List, [], ◌∷◌, ◌++◌, Bool, true, false, ◌||◌, length, Option, Some, None, refl, sym, ap, ◌∙◌, subst, append-nil, inl, inr, ⊎_elim, arith}
 use Rattle.std.specs.List.{list_any}
 use Rattle.std.proofs.lemmas.Option.{none-some}
 use Rattle.fir_base.specs.Lists.{In}
 use Rattle.fir_base.proofs.Elements.{get_in}
 use Rattle.fir_base.proofs.Members.{in_either}
-use Rattle.fir_ast.specs.Circuits.{CircuitTree, ModuleTree}
+use Rattle.fir_ast.specs.Circuits.{ModuleTree}
 use Rattle.fir_meaning.specs.LeafPaths.{LeafPath, named}
 use Rattle.fir_meaning.specs.ModuleScenes.{Scene, behind_all_ports}
 use Rattle.fir_meaning.specs.SourceChoices as tree
-use Rattle.fir_meaning.specs.SourceDependence.{DriveReads, PlacedModule, all_modules, modules_of_design, modules_of_instances}
+use Rattle.fir_meaning.specs.SourceDependence.{PlacedModule, all_modules, modules_of_design, modules_of_instances}
 use Rattle.fir_meaning.specs.SourceDesigns.{AreInstances, InstanceOf, Instances, IsSourceDesignOf, SourceDesign, held, instances_of_block, no_instances, scene_where}
 use Rattle.fir_meaning.specs.SourceDesigns as source
 use Rattle.fir_meaning.specs.SourceDrives.{Drive, module_drives}
 use Rattle.fir_meaning.specs.SourceFacts.{source_depth}
-use Rattle.fir_meaning.specs.working.Designs.{Design, made_of}
+use Rattle.fir_meaning.specs.working.Designs.{made_of}
 use Rattle.fir_meaning.specs.working.Flattened.{flattened}
-use Rattle.fir_meaning.specs.working.LeafModules.{leaf_at, may_drive, role_at}
+use Rattle.fir_meaning.specs.working.LeafModules.{may_drive, role_at}
 use Rattle.fir_meaning.specs.working.LeafedModules.{leafed_module, module_leaves}
 use Rattle.fir_meaning.specs.working.UndrivenChoices.{drives_any}
 use Rattle.fir_leaf.proofs.FlatMeaning.{main_at, main_stands}
-use Rattle.fir_design.specs.working.MeaningLaws.{AreDesigns}
 use Rattle.fir_design.proofs.FineScenes.{IsFineScene, fine_scene}
 use Rattle.fir_design.proofs.FlatInStep.{leaves_named}
 use Rattle.fir_design.proofs.NumberedScenes.{scene_numbered}
 use Rattle.fir_design.proofs.ViewRoles.{views_same}
-use Rattle.fir_source_faults.specs.working.ReadsByPath.{ReadsByPath, path_in, scope_of_module}
+use Rattle.fir_source_faults.specs.working.ReadsByPath.{path_in, scope_of_module}
 use Rattle.fir_source_faults.proofs.BlockPieces.{block_piece}
 use Rattle.fir_source_faults.proofs.ModuleDrives.{drives_by_path}
 use Rattle.fir_source_faults.proofs.ModuleReads.{scene_reads}
 use Rattle.fir_design_faults.specs.working.SameDriveReads.{SameDriveReads}
 use Rattle.fir_design_faults.proofs.CircuitReads.{HolderFacts, reads_by_number, reads_by_path}
-use Rattle.fir_design_faults.proofs.DesignDrives.{DrivesBelow, design_drives}
+use Rattle.fir_design_faults.proofs.DesignDrives.{design_drives}
 use Rattle.fir_design_faults.proofs.DrivenPaths.{module_driven}
 use Rattle.fir_design_faults.proofs.LastDrives.{in_paths}
 use Rattle.fir_design_faults.proofs.PortTurns.{ports_turn}
