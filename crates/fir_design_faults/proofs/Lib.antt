@@ -21,3 +21,4 @@ pub mod LastDrives
 pub mod MovedLives
 pub mod CircuitReads
 pub mod WholeReads
+pub mod MovedRoles
