@@ -22,3 +22,4 @@ pub mod MovedLives
 pub mod CircuitReads
 pub mod WholeReads
 pub mod MovedRoles
+pub mod HeldLeaves
