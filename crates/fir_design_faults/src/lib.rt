@@ -2,3 +2,7 @@
 //! with instances: what definitions over numbered leaves say of them is what those by paths say (FIRRTL spec,
 //! "Instances", "Clock Type", "Last Connect Semantics"). Each law is the contract of a function that does nothing.
 #![tactic(auto)]
+
+mod drive_laws;
+
+pub use drive_laws::live_reads_stand_by_path;
