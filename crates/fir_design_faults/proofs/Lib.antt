@@ -6,3 +6,5 @@ pub mod MarkedConnects
 pub mod MarkedInvalids
 pub mod MarkedWhens
 pub mod MarkedBlocks
+pub mod MarkedModules
+pub mod ClockGifts
