@@ -45,6 +45,7 @@ GivesSame s _ _ = Unit {0}
 
 pub record HaveGifts (s : Scene) (l : LeafDeclared) (t : SourceLeaf) : Type 0 where
   pub gives : GivesSame s l.role t.role
+  pub instances : l.instances ≡ 0
 
 -- without expressions
 abbrev IsPlain : SourceRole → Type 0
@@ -100,7 +101,7 @@ module _ (s : Scene) where
   from_gifts d place role_of tree_role k (l ∷ ls) (t ∷ hs) h =
       let first : k + 0 ≡ k = omega arith in
       let own : GivesSame s (role_of k l) (tree_role l) = rw first at (h 0 l refl) in (
-        record { gives = own },
+        record { gives = own; instances = refl },
         from_gifts d place role_of tree_role (suc k) ls hs (λ j x e. let next : suc k + j ≡ k + suc j = omega arith in rw next (h (suc j) x e)),
       )
 
@@ -111,7 +112,7 @@ module _ (s : Scene) where
       from_gifts d place role_of source_of 0 (leaves_of_data (type_of_declared s d)) (held_by_declared s d)
       (λ k l e. let none : 0 + k ≡ k = omega arith in rw none (h k l e))
 
-  ports_gifts : (ps : List PortTree) (before : Before) → AreInStep (HaveGifts s) (leaves_of_ports s before ps) (sources_of_ports s before ps)
+  pub ports_gifts : (ps : List PortTree) (before : Before) → AreInStep (HaveGifts s) (leaves_of_ports s before ps) (sources_of_ports s before ps)
   ports_gifts [] before = tt
   ports_gifts (p ∷ ps) before =
       let c = component.port p.direction p.data_type in
@@ -184,9 +185,14 @@ module _ (s : Scene) where
           step_joined (HaveGifts s) (leaves_in s before x) (leaves_in_block s next z) (sources_in s before x) (sources_in_block s next z)
           (statement_gifts x before here h.0) (block_gifts z next b h.1)
 
+    pub inner_gifts : IsFineScene s
+        → AreInStep (HaveGifts s) (leaves_in_block s (behind_all_ports s.own.inside) s.own.inside.body)
+        (sources_in_block s (behind_all_ports s.own.inside) s.own.inside.body)
+    inner_gifts fine =
+        block_gifts s.own.inside.body (behind_all_ports s.own.inside) ([], append-nil (scope_of_module s)) fine.legal
+
     pub module_gifts : IsFineScene s → AreInStep (HaveGifts s) (module_leaves s) (source_leaves s)
     module_gifts fine =
         step_joined (HaveGifts s) (leaves_of_ports s at_head s.own.inside.ports)
         (leaves_in_block s (behind_all_ports s.own.inside) s.own.inside.body) (sources_of_ports s at_head s.own.inside.ports)
-        (sources_in_block s (behind_all_ports s.own.inside) s.own.inside.body) (ports_gifts s.own.inside.ports at_head)
-        (block_gifts s.own.inside.body (behind_all_ports s.own.inside) ([], append-nil (scope_of_module s)) fine.legal)
+        (sources_in_block s (behind_all_ports s.own.inside) s.own.inside.body) (ports_gifts s.own.inside.ports at_head) (inner_gifts fine)

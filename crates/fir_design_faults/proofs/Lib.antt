@@ -8,3 +8,6 @@ pub mod MarkedWhens
 pub mod MarkedBlocks
 pub mod MarkedModules
 pub mod ClockGifts
+pub mod LoneClockLeaves
+pub mod LoneClocks
+pub mod LoneClockDesigns

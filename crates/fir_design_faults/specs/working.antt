@@ -1,2 +1,3 @@
 -- What no clause of `run` reads: laws of the faults of whole designs.
 pub mod SameDesignFaults
+pub mod LoneClocks

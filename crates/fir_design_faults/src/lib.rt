@@ -2,3 +2,7 @@
 //! with instances: what definitions over numbered leaves say of them is what those by paths say (FIRRTL spec,
 //! "Instances", "Clock Type", "Last Connect Semantics"). Each law is the contract of a function that does nothing.
 #![tactic(auto)]
+
+mod clock_laws;
+
+pub use clock_laws::lone_clock_faults_stand_by_path;

@@ -1,0 +1,16 @@
+//! Faults of clocks and of the clocks of memories, by number and by path.
+
+ghost use Rattle.fir_design_faults.specs.working.LoneClocks.{SameLoneClockFaults};
+
+use fir_design::views_have_roles;
+use fir_source_faults::terms_read_as_expressions;
+
+/// Below a module without instances, of a circuit that shows no fault of names or types, a clock is driven by two live
+/// drives, or picked by an index, over numbered leaves exactly where it is by paths, and the fault is told alike
+/// (FIRRTL spec, "Clock Type", "Last Connect Semantics").
+pub fn lone_clock_faults_stand_by_path()
+    ensures { SameLoneClockFaults }
+{
+    views_have_roles();
+    terms_read_as_expressions();
+}
