@@ -11,3 +11,4 @@ pub mod ClockGifts
 pub mod LoneClockLeaves
 pub mod LoneClocks
 pub mod LoneClockDesigns
+pub mod ClockChains

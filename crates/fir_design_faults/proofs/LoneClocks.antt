@@ -475,22 +475,22 @@ module _ (circuit : CircuitTree) (roles : ViewsHaveRoles) (s : Scene) (is : Item
   pub lone_clocks_same : (f : FirFault) → numbered.ShowsClockFault (flattened (over.made_of (leafed_module s) is)) f ↔ tree.ShowsClockFault (made_of s no_instances) f
   lone_clocks_same f = (
     (λ h.
-    let p = leaf_of h.leaf h.within in
-    record {
-      leaf = p.0;
-      among = get_in (all_leaves t) h.leaf p.0 p.1;
-      shows =
-          ⊎_elim (λ (k : numbered.ShowsPickedClock c h.leaf f). inl (picked_by_path h.leaf h.within p.0 p.1 f k))
-          (λ (k : numbered.ShowsTwoLive c h.leaf f). inr (two_by_path h.leaf h.within p.0 p.1 f k)) h.shows;
-    }),
+        let p = leaf_of h.leaf h.within in
+        record {
+          leaf = p.0;
+          among = get_in (all_leaves t) h.leaf p.0 p.1;
+          shows =
+              ⊎_elim (λ (k : numbered.ShowsPickedClock c h.leaf f). inl (picked_by_path h.leaf h.within p.0 p.1 f k))
+              (λ (k : numbered.ShowsTwoLive c h.leaf f). inr (two_by_path h.leaf h.within p.0 p.1 f k)) h.shows;
+        }),
     (λ h.
-    let x = number_of (all_leaves t) h.leaf h.among in
-    let lt = leaf_within x.0 h.leaf x.1 in
-    record {
-      leaf = x.0;
-      within = lt;
-      shows =
-          ⊎_elim (λ (k : tree.ShowsPickedClock t h.leaf f). inl (picked_by_number x.0 lt h.leaf x.1 f k))
-          (λ (k : tree.ShowsTwoLive t h.leaf f). inr (two_by_number x.0 lt h.leaf x.1 f k)) h.shows;
-    }),
+        let x = number_of (all_leaves t) h.leaf h.among in
+        let lt = leaf_within x.0 h.leaf x.1 in
+        record {
+          leaf = x.0;
+          within = lt;
+          shows =
+              ⊎_elim (λ (k : tree.ShowsPickedClock t h.leaf f). inl (picked_by_number x.0 lt h.leaf x.1 f k))
+              (λ (k : tree.ShowsTwoLive t h.leaf f). inr (two_by_number x.0 lt h.leaf x.1 f k)) h.shows;
+        }),
   )

@@ -149,10 +149,12 @@ module _ (s : Scene) (depth x : ℕ) where
           (none_back (pieces.outer_reads s depth under) (last_all depth x b k to.0) (last depth (path_in s x) h ds) both.0 none);
       maybe = λ c.
           let miss = missed_all depth x b k c in
-          let to = piece.forth miss.0 in
-          (to.0, λ h agrees taken.
-          let both = to.1 h agrees taken in
-          none_by (pieces.outer_reads s depth under) (last_all depth x b k miss.0) (last depth (path_in s x) h ds) both.0 miss.1);
+          let to = piece.forth miss.0 in (
+            to.0,
+            λ h agrees taken.
+                let both = to.1 h agrees taken in
+                none_by (pieces.outer_reads s depth under) (last_all depth x b k miss.0) (last depth (path_in s x) h ds) both.0 miss.1,
+          );
     }
 
   pub retold : (way : List Bool) (under : List Branch) (k : ℕ) (b : LeafBlock) (ds : List Drive) (told other : Choice → List Outcome)
@@ -230,9 +232,12 @@ module _ (s : Scene) (depth x : ℕ) where
                   driving p ps t,
                   [],
                   refl,
-                  (λ w. true, λ h agrees taken.
-                  let here : h way ≡ true = ap h (sym (append-nil way)) ∙ agrees [] in
-                  rw (taken, e, here, or-true (not driven.is_picked)) refl),
+                  (
+                    λ w. true,
+                    λ h agrees taken.
+                        let here : h way ≡ true = ap h (sym (append-nil way)) ∙ agrees [] in
+                        rw (taken, e, here, or-true (not driven.is_picked)) refl,
+                  ),
                   record { place = refl; through = through; given = gives },
                   refl,
                 )

@@ -1,6 +1,7 @@
 //! Faults of clocks and of the clocks of memories, by number and by path.
 
 ghost use Rattle.fir_design_faults.specs.working.LoneClocks.{SameLoneClockFaults};
+ghost use Rattle.fir_design_faults.specs.working.SameNamedClocks.{SameNamedClocks};
 
 use fir_design::views_have_roles;
 use fir_source_faults::terms_read_as_expressions;
@@ -10,6 +11,15 @@ use fir_source_faults::terms_read_as_expressions;
 /// (FIRRTL spec, "Clock Type", "Last Connect Semantics").
 pub fn lone_clock_faults_stand_by_path()
     ensures { SameLoneClockFaults }
+{
+    views_have_roles();
+    terms_read_as_expressions();
+}
+
+/// In each module of a circuit that shows no fault of names or types, the chain of a clock leaf ends over numbered
+/// leaves at the input, or at what an instance gives, at which it ends by paths (FIRRTL spec, "Clock Type").
+pub fn clocks_have_names_by_path()
+    ensures { SameNamedClocks }
 {
     views_have_roles();
     terms_read_as_expressions();
