@@ -12,3 +12,4 @@ pub mod LoneClockLeaves
 pub mod LoneClocks
 pub mod LoneClockDesigns
 pub mod ClockChains
+pub mod PortClocks
