@@ -13,3 +13,5 @@ pub mod LoneClocks
 pub mod LoneClockDesigns
 pub mod ClockChains
 pub mod PortClocks
+pub mod MemoryMatches
+pub mod MemoryVisits

@@ -86,7 +86,7 @@ module _ (w : Widths) (p : Place) (t : DataType) (words : ℕ) (counted : (u : D
       by m h = h
 
 -- a leaf of a declaration holds what its type does
-held_there : (d : Declared) (place : TypeLeaf → Place) (role_of : ℕ → TypeLeaf → Role) (k : ℕ) (ls : List TypeLeaf) (hs : List LeafType)
+pub held_there : (d : Declared) (place : TypeLeaf → Place) (role_of : ℕ → TypeLeaf → Role) (k : ℕ) (ls : List TypeLeaf) (hs : List LeafType)
     (j : ℕ) (l : TypeLeaf) (h : LeafType) → slice_get ls j ≡ Some l → slice_get hs j ≡ Some h
     → (x : LeafDeclared) × (slice_get (leaves_from d place role_of k ls hs) j ≡ Some x) × (x.holds ≡ h)
 held_there d place role_of k [] hs j l h e f = absurd (none-some l e)
