@@ -229,6 +229,11 @@ module _ (s : Scene) (fine : IsFineScene s) (reading : ReadsByPath s)
         is_source = source_by_path (role_of c h.final) t.0.role t.1.role ends.0;
       })
 
+  pub root_within : (x root : ℕ) → IsClockLeaf c x → HasRoot c x (Some root) → root < length (module_leaves s)
+  root_within x root k h =
+      let ends = end_is h.final root (role_of c h.final) h.ends in
+      subst (λ z. z < length (module_leaves s)) (sym ends.1) (chain_by_path x h.walk h.final k h.chain).1.within
+
   -- what leads to a clock leaf is one
   clock_here : (qs : List LeafPath) (y z : ℕ) → y < length (module_leaves s) → IsClockLeaf c z → tree.IsChain s (path_in s y) qs (path_in s z) → IsClockLeaf c y
   clock_here [] y z lt k h = subst (IsClockLeaf c) (sym (reading.once y z lt k.within h)) k

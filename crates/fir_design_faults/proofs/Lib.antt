@@ -15,3 +15,4 @@ pub mod ClockChains
 pub mod PortClocks
 pub mod MemoryMatches
 pub mod MemoryVisits
+pub mod MemoryFaults
