@@ -1,10 +1,10 @@
 -- The ports of a memory of a module are on different clocks by number exactly where they are by path, where an index names no clock.
-use Rattle.std.proofs.Common.{◌≡◌, ℕ, List, [], ◌∷◌, ◌++◌, map, refl, sym, ap, ap₂, ◌∙◌, subst, inl, inr}
+use Rattle.std.proofs.Common.{◌≡◌, ◌↔◌, ℕ, List, [], ◌∷◌, ◌++◌, map, refl, sym, ap, ap₂, ◌∙◌, subst, inl, inr}
 use Rattle.std.specs.List.{AllByRecursion}
 use Rattle.std.proofs.lemmas.List.{map-append}
 use Rattle.std.proofs.lemmas.Option.{same_Some}
 use Rattle.fir_base.specs.Lists.{In}
-use Rattle.fir_base.proofs.Members.{in_left, in_map_from, in_right}
+use Rattle.fir_base.proofs.Members.{in_left, in_map, in_map_from, in_right}
 use Rattle.fir_ast.specs.Circuits.{CircuitTree}
 use Rattle.fir_ast.specs.declared.fault.FirFault.{FirFault}
 use Rattle.fir_ast.specs.declared.fault.FirFault.TheVariants.{MemoryClocks}
@@ -120,3 +120,53 @@ module _ (c : CircuitTree) (s : Scene) (names : HasNames c) (types : type_faults
             MemoryClocks n.place (path_text (at ++ named n.name ∷ [])) (path_text (at ++ path_in s h.clock)) (path_text (at ++ path_in s h.other_clock)))
             (sym named_is);
       }
+
+  shown_by_number : (at : LeafPath) (f : FirFault) → ShowsMemoryClocks (record { at = at; scene = s }) f → numbered.ShowsMemoryClocks (leafed_module s) at f
+  shown_by_number at f h =
+      let o = (module_match c s names types i).back h.visit h.place h.name h.parts h.among h.is_memory in
+      let two = parted (path_in s) o.0.port_clocks (h.before ++ h.one ∷ h.between) h.other h.after (o.2.clocks ∙ h.ports) in
+      let one = parted (path_in s) two.first h.before h.one h.between two.before_is in
+      let ports = two.are ∙ ap (λ ys. ys ++ two.here ∷ two.rest) one.are in
+      let front = one.first ++ one.here ∷ one.rest in
+      let all = subst (AllByRecursion IsLeaf) ports o.2.are in
+      let leaf : (x : ℕ) → In (one.first ++ one.here ∷ one.rest ++ two.here ∷ two.rest) x → IsLeaf x =
+      λ x j. all_in IsLeaf (one.first ++ one.here ∷ one.rest ++ two.here ∷ two.rest) x all j in
+      let at_one = leaf one.here (in_left front (two.here ∷ two.rest) one.here (in_right one.first (one.here ∷ one.rest) one.here (inl refl))) in
+      let at_two = leaf two.here (in_right front (two.here ∷ two.rest) two.here (inl refl)) in
+      let r = has_by_number s fine reading roles one.here h.clock at_one.within (subst (λ z. HasClock s z h.clock) (sym one.here_is) h.one_has) in
+      let q = has_by_number s fine reading roles two.here h.other_clock at_two.within (subst (λ z. HasClock s z h.other_clock) (sym two.here_is) h.other_has) in
+      record {
+        memory = o.0;
+        declared = o.1;
+        name = h.name;
+        is_name = o.2.declared;
+        before = one.first;
+        one = one.here;
+        between = one.rest;
+        other = two.here;
+        after = two.rest;
+        ports = ports;
+        clock = r.0;
+        other_clock = q.0;
+        none_before = λ x root j k.
+            let own = leaf x (in_left front (two.here ∷ two.rest) x (in_left one.first (one.here ∷ one.rest) x j)) in
+            h.none_before (path_in s x) (path_in s root) (subst (λ ys. In ys (path_in s x)) one.before_is (in_map (path_in s) one.first x j))
+            (has_by_path s fine reading roles x root own k);
+        one_has = r.2;
+        same_between = λ x root j k.
+            let own = leaf x (in_left front (two.here ∷ two.rest) x (in_right one.first (one.here ∷ one.rest) x (inr j))) in
+            let same = h.same_between (path_in s x) (path_in s root) (subst (λ ys. In ys (path_in s x)) one.after_is (in_map (path_in s) one.rest x j))
+            (has_by_path s fine reading roles x root own k) in
+            reading.once root r.0 (root_within s fine reading roles x root own k) (root_within s fine reading roles one.here r.0 at_one r.2)
+            (same ∙ sym r.1);
+        other_has = q.2;
+        differ = λ e. h.differ (sym r.1 ∙ ap (path_in s) e ∙ q.1);
+        is =
+            h.is
+            ∙ ap₂ (λ (a b : LeafPath).
+            MemoryClocks h.name.place (path_text (at ++ named h.name.name ∷ [])) (path_text (at ++ a)) (path_text (at ++ b))) (sym r.1) (sym q.1);
+      }
+
+  pub memory_faults_same : (at : LeafPath) (f : FirFault)
+      → numbered.ShowsMemoryClocks (leafed_module s) at f ↔ ShowsMemoryClocks (record { at = at; scene = s }) f
+  memory_faults_same at f = (shown_by_path at f, shown_by_number at f)

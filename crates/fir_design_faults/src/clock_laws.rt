@@ -1,7 +1,7 @@
 //! Faults of clocks and of the clocks of memories, by number and by path.
 
 ghost use Rattle.fir_design_faults.specs.working.LoneClocks.{SameLoneClockFaults};
-ghost use Rattle.fir_design_faults.specs.working.SameNamedClocks.{SameNamedClocks};
+ghost use Rattle.fir_design_faults.specs.working.SameNamedClocks.{SameNamedClocks, SameNamedMemoryClocks};
 
 use fir_design::views_have_roles;
 use fir_source_faults::terms_read_as_expressions;
@@ -20,6 +20,15 @@ pub fn lone_clock_faults_stand_by_path()
 /// leaves at the input, or at what an instance gives, at which it ends by paths (FIRRTL spec, "Clock Type").
 pub fn clocks_have_names_by_path()
     ensures { SameNamedClocks }
+{
+    views_have_roles();
+    terms_read_as_expressions();
+}
+
+/// In each module of a circuit that shows no fault of names or types, two ports of a memory are on different clocks
+/// over numbered leaves exactly where they are by paths, where an index names no clock (FIRRTL spec, "Memories").
+pub fn memory_clocks_stand_by_path()
+    ensures { SameNamedMemoryClocks }
 {
     views_have_roles();
     terms_read_as_expressions();

@@ -5,4 +5,6 @@
 
 mod clock_laws;
 
-pub use clock_laws::{clocks_have_names_by_path, lone_clock_faults_stand_by_path};
+pub use clock_laws::{
+    clocks_have_names_by_path, lone_clock_faults_stand_by_path, memory_clocks_stand_by_path,
+};

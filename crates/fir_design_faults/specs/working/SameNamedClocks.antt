@@ -1,7 +1,8 @@
 -- In each module a clock leaf has over numbered leaves the clock that it has by paths, where an index names no clock (FIRRTL spec, "Clock Type").
-use Rattle.std.specs.Prelude.{◌≡◌, ℕ, [], Some}
+use Rattle.std.specs.Prelude.{◌≡◌, ◌↔◌, ℕ, [], Some}
 use Rattle.fir_base.specs.Lists.{In}
 use Rattle.fir_ast.specs.Circuits.{CircuitTree}
+use Rattle.fir_ast.specs.declared.fault.FirFault.{FirFault}
 use Rattle.fir_meaning.specs.LeafPaths.{LeafPath}
 use Rattle.fir_meaning.specs.ModuleScenes.{Scene}
 use Rattle.fir_meaning.specs.SizedDeclarations.{numbered_modules}
@@ -9,9 +10,10 @@ use Rattle.fir_meaning.specs.TypeGroup.{type_faults}
 use Rattle.fir_meaning.specs.working.LeafedModules.{leafed_module}
 use Rattle.fir_meaning.specs.working.NameGroups.{HasNames}
 use Rattle.fir_leaf.specs.working.ClockRoots.{HasRoot, IsClockLeaf}
+use Rattle.fir_leaf.specs.working.MemoryClockFaults as numbered
 use Rattle.fir_leaf.specs.working.ModuleCircuits.{module_circuit}
 use Rattle.fir_source_faults.specs.working.ReadsByPath.{path_in}
-use Rattle.fir_design_faults.specs.working.NamedClocks.{HasClock}
+use Rattle.fir_design_faults.specs.working.NamedClocks.{HasClock, ShowsMemoryClocks}
 
 pub record HasSameClock (s : Scene) (x : ℕ) : Type 0 where
   pub by_path : (root : ℕ) → HasRoot (module_circuit (leafed_module s)) x (Some root) → HasClock s (path_in s x) (path_in s root)
@@ -22,3 +24,9 @@ abbrev pub SameNamedClocks : Type 0
 SameNamedClocks =
     (c : CircuitTree) (s : Scene) (x : ℕ) → HasNames c → type_faults c ≡ [] → In (numbered_modules c) s.own
     → IsClockLeaf (module_circuit (leafed_module s)) x → HasSameClock s x
+
+-- and so it is of the clocks of the ports of a memory
+abbrev pub SameNamedMemoryClocks : Type 0
+SameNamedMemoryClocks =
+    (c : CircuitTree) (s : Scene) (at : LeafPath) (f : FirFault) → HasNames c → type_faults c ≡ [] → In (numbered_modules c) s.own
+    → numbered.ShowsMemoryClocks (leafed_module s) at f ↔ ShowsMemoryClocks (record { at = at; scene = s }) f
