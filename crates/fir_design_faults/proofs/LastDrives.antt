@@ -20,12 +20,12 @@ in_paths (p ∷ qs) q e = by (same_path p q) refl e (in_paths qs q)
     by false h k more = inr (more k)
 
 module _ (depth : ℕ) (q : LeafPath) (g : Choice) where
-  pub last_among : (ds : List Drive) (d : Drive) → tree.last depth q g ds ≡ Some d → In ds d × In d.driven.leaves q
+  pub last_among : (ds : List Drive) (d : Drive) → tree.last_reaching depth q g ds ≡ Some d → In ds d × In d.driven.leaves q
   last_among [] d e = absurd (cc)
-  last_among (c ∷ ds) d e = by (tree.last depth q g ds) refl (reaches depth q g c) refl e (last_among ds d)
+  last_among (c ∷ ds) d e = by (tree.last_reaching depth q g ds) refl (reaches depth q g c) refl e (last_among ds d)
     where
-      by : (o : Option Drive) → tree.last depth q g ds ≡ o → (b : Bool) → reaches depth q g c ≡ b → later o (if b then Some c else None) ≡ Some d
-          → (tree.last depth q g ds ≡ Some d → In ds d × In d.driven.leaves q) → In (c ∷ ds) d × In d.driven.leaves q
+      by : (o : Option Drive) → tree.last_reaching depth q g ds ≡ o → (b : Bool) → reaches depth q g c ≡ b → later o (if b then Some c else None) ≡ Some d
+          → (tree.last_reaching depth q g ds ≡ Some d → In ds d × In d.driven.leaves q) → In (c ∷ ds) d × In d.driven.leaves q
       by (Some x) h b r k more = let both = more (h ∙ k) in (inr both.0, both.1)
       by None h false r k more = absurd (cc)
       by None h true r k more =

@@ -1,6 +1,6 @@
 -- E26 in a circuit (FIRRTL spec, "Memories", "Clock Type"): two ports of a memory on different clocks.
--- The clock of a port is the leaf at which its chain of connects ends in the module that holds the memory: an input, or what an instance gives. It stands at
--- the memory. The evidence is the clock of the first port that has one, and the first that differs from it. Before each path stands that of the module's
+-- The clock of a port is the leaf at which its chain of connects ends in the module that holds the memory: an input, or what an instance gives. No chain goes
+-- on through an index that picks a clock, which is E25. It stands at the memory. The evidence is the clock of the first port that has one, and the first that differs from it. Before each path stands that of the module's
 -- instance. Told is the fault of the first memory. That clocks are known by where their chains end is a choice of this project.
 use Rattle.std.specs.Prelude.{Some, ◌≡◌, ℕ, ◌≤◌, List, [], ◌∷◌, ◌++◌, codes, flat_map, map, slice_get, false}
 use Rattle.fir_base.specs.Lists.{In}
@@ -16,7 +16,7 @@ use Rattle.fir_meaning.specs.LeafTypes.{a_clock}
 use Rattle.fir_meaning.specs.LeafPaths.{LeafPath, named, path_text}
 use Rattle.fir_meaning.specs.ModuleScenes.{Scene}
 use Rattle.fir_meaning.specs.SourceChoices.{IsLive}
-use Rattle.fir_meaning.specs.SourceClocks.{IsOfSource}
+use Rattle.fir_meaning.specs.SourceClocks.{IsOfSource, picking_places}
 use Rattle.fir_meaning.specs.SourceDependence.{PlacedModule, all_modules}
 use Rattle.fir_meaning.specs.SourceDesigns.{SourceDesign}
 use Rattle.fir_meaning.specs.SourceDrives.{Drive, module_drives}
@@ -38,10 +38,11 @@ module _ (s : Scene) where
     pub live : IsLive (source_depth s x) x (module_drives s) drive
     pub only : (other : Drive) → IsLive (source_depth s x) x (module_drives s) other → other ≡ drive
     pub is : drive.given.leaves ≡ y ∷ []
+    pub plain : drive.given.index_places ≡ []
 
   abbrev pub RoleNames : LeafPath → SourceRole → LeafPath → Type 0
   RoleNames x sink y = DriveNames x y
-  RoleNames x (computed scope e q) y = leaves_read scope e q ≡ y ∷ []
+  RoleNames x (computed scope e q) y = (leaves_read scope e q ≡ y ∷ []) × (picking_places e ≡ [])
   RoleNames x _ y = ⊥
 
   -- a clock leaf takes the clock of another

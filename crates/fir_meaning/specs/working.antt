@@ -43,6 +43,7 @@ pub mod TypeLaws
 pub mod InferredTypes
 pub mod WidthLaws
 pub mod AssignedWidths
+-- The leaves that nothing drives, over numbered leaves (E24).
 pub mod UndrivenChoices
 pub mod UndrivenLeaves
 pub mod UndrivenGroup

@@ -6,7 +6,7 @@ pub mod TreeStatements
 pub mod ConnectLaws
 pub mod WhenLaws
 pub mod PickLaws
--- Instances.
+-- Narrower and wider values, and how deep in whens a leaf is declared.
 pub mod FitLaws
 pub mod DepthLaws
 -- Instances.
