@@ -1,4 +1,4 @@
--- The ports of a memory of a module are on different clocks by number exactly where they are by path, where an index names no clock.
+-- The ports of a memory of a module are on different clocks by number exactly where they are by path.
 use Rattle.std.proofs.Common.{◌≡◌, ◌↔◌, ℕ, List, [], ◌∷◌, ◌++◌, map, refl, sym, ap, ap₂, ◌∙◌, subst, inl, inr}
 use Rattle.std.specs.List.{AllByRecursion}
 use Rattle.std.proofs.lemmas.List.{map-append}

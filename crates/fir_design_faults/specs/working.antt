@@ -1,4 +1,4 @@
--- What no clause of `run` reads: laws of the faults of whole designs.
+-- What no clause of `run` reads: laws of clocks, of the clocks of memories, and of what live statements of designs read.
 pub mod SameDriveReads
 pub mod LoneClocks
 pub mod SameMemoryClocks

@@ -1,4 +1,4 @@
-//! Faults of clocks and of the clocks of memories, by number and by path.
+//! Faults of clocks, and of the clocks of memories, by number and by path.
 
 ghost use Rattle.fir_design_faults.specs.working.LoneClocks.{SameLoneClockFaults};
 ghost use Rattle.fir_design_faults.specs.working.SameMemoryClocks.{SameClocks, SameMemoryClocks};

@@ -1,6 +1,6 @@
-//! The faults of clocks, of the clocks of memories, of asynchronous inits and of loops (E25 to E28) in whole designs,
-//! with instances: what definitions over numbered leaves say of them is what those by paths say (FIRRTL spec,
-//! "Instances", "Clock Type", "Last Connect Semantics"). Each law is the contract of a function that does nothing.
+//! What faults of clocks (E25), of the clocks of memories (E26) and of loops (E28) are made of: what definitions over
+//! numbered leaves say of them is what those by paths say (FIRRTL spec, "Clock Type", "Memories", "Instances", "Last
+//! Connect Semantics"). Each law is the contract of a function that does nothing.
 #![tactic(auto)]
 
 mod clock_laws;
