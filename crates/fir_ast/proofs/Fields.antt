@@ -4,7 +4,8 @@ use Rattle.std.specs.Prelude.{codes}
 use Rattle.std.proofs.lemmas.List.{append-nil, take_more}
 use Rattle.fir_ast.specs.declared.types.Field.{Field, fold_out-Field}
 use Rattle.fir_ast.specs.Types.{DataType, Fields, no_fields, field}
-use Rattle.fir_ast.specs.View.{type_step, field_step, fields_of, type_of}
+use Rattle.fir_ast.specs.View.{fields_of}
+use Rattle.fir_ast.specs.working.TypeViews.{type_step, field_step, type_of}
 use Rattle.fir_ast.specs.Texts.{flip_text, type_text, next_fields_text}
 use Rattle.fir_ast.specs.working.BundleText.{bundle_text, field_of}
 

@@ -13,18 +13,18 @@ use Rattle.fir_ast.specs.declared.statements.Stmt.{fold-roll-Stmt}
 use Rattle.fir_ast.specs.declared.statements.Stmt.TheVariants as code
 use Rattle.fir_ast.specs.declared.statements.Stmt.TheOpen as layer
 use Rattle.fir_ast.specs.Expressions.{Expression, Parts, operation, mux, validif}
-use Rattle.fir_ast.specs.Statements.{Sink, Statement, register, node, connect}
-use Rattle.fir_ast.specs.View.{type_of}
+use Rattle.fir_ast.specs.Statements.{SinkReference, Statement, register, node, connect}
+use Rattle.fir_ast.specs.working.TypeViews.{type_of}
 use Rattle.fir_ast.specs.working.Views.{expr_of, expressions_of, sink_of, named_of, reset_of, stmt_of, expr_step, part_step, reference_step, stmt_step, when_step}
 
 pub operation_view : (p : Place) (op : PrimOp) (es : Vec Expr Global) (ks : Vec ℕ Global) → expr_of (code_expr.Op p op es ks) ≡ operation p op (expressions_of (map expr_of es.items)) ks.items
-operation_view p op es ks = ap expr_of (sym (code_expr.rolls-Op p op es ks)) ∙ fold-roll-Expr Expression (Parts → Parts) Sink expr_step part_step reference_step (expr_layer.Op p op es ks)
+operation_view p op es ks = ap expr_of (sym (code_expr.rolls-Op p op es ks)) ∙ fold-roll-Expr Expression (Parts → Parts) SinkReference expr_step part_step reference_step (expr_layer.Op p op es ks)
 
 pub mux_view : (p : Place) (c a b : Box Expr Global) → expr_of (code_expr.Mux p c a b) ≡ mux p (expr_of c.value) (expr_of a.value) (expr_of b.value)
-mux_view p c a b = ap expr_of (sym (code_expr.rolls-Mux p c a b)) ∙ fold-roll-Expr Expression (Parts → Parts) Sink expr_step part_step reference_step (expr_layer.Mux p c a b)
+mux_view p c a b = ap expr_of (sym (code_expr.rolls-Mux p c a b)) ∙ fold-roll-Expr Expression (Parts → Parts) SinkReference expr_step part_step reference_step (expr_layer.Mux p c a b)
 
 pub validif_view : (p : Place) (c a : Box Expr Global) → expr_of (code_expr.Validif p c a) ≡ validif p (expr_of c.value) (expr_of a.value)
-validif_view p c a = ap expr_of (sym (code_expr.rolls-Validif p c a)) ∙ fold-roll-Expr Expression (Parts → Parts) Sink expr_step part_step reference_step (expr_layer.Validif p c a)
+validif_view p c a = ap expr_of (sym (code_expr.rolls-Validif p c a)) ∙ fold-roll-Expr Expression (Parts → Parts) SinkReference expr_step part_step reference_step (expr_layer.Validif p c a)
 
 abbrev pub tree_of_register : Place → Register → Statement
 tree_of_register p r = register p (named_of r.ident) r.type_place (type_of r.ty) (expr_of r.clock) (option_map reset_of r.reset)
@@ -41,4 +41,4 @@ pub connect_view : (p : Place) (r : Reference) (e : Expr) → stmt_of (code.Conn
 connect_view p r e = ap stmt_of (sym (code.rolls-Connect p r e)) ∙ fold-roll-Stmt Statement (Place → Statement) stmt_step when_step (layer.Connect p r e)
 
 pub sink_name : (r : Reference) → (sink_of r).name ≡ r.name
-sink_name r = ap (λ (s : Sink). s.name) (fold_out-Reference Expression (Parts → Parts) Sink expr_step part_step reference_step r)
+sink_name r = ap (λ (s : SinkReference). s.name) (fold_out-Reference Expression (Parts → Parts) SinkReference expr_step part_step reference_step r)

@@ -4,5 +4,5 @@ pub mod Statements
 pub mod Circuits
 pub mod View
 pub mod Texts
-pub mod FaultLines
+pub mod Faults
 pub mod working

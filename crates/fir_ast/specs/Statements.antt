@@ -11,7 +11,7 @@ pub record PlacedName : Type 0 where
   pub name : List ℕ
 
 -- a name and what follows it, as a sink
-pub record Sink : Type 0 where
+pub record SinkReference : Type 0 where
   pub place : Place
   pub name : List ℕ
   pub parts : Parts
@@ -41,9 +41,9 @@ mutual
     instance : Place → PlacedName → PlacedName → Statement
     memory : Place → PlacedName → List MemoryPart → Statement
     when : Place → Expression → Block → Block → Statement
-    connect : Place → Sink → Expression → Statement
-    partial_connect : Place → Sink → Expression → Statement
-    invalid : Place → Sink → Statement
+    connect : Place → SinkReference → Expression → Statement
+    partial_connect : Place → SinkReference → Expression → Statement
+    invalid : Place → SinkReference → Statement
     skip : Place → Statement
 
   pub data Block : Type 0 where

@@ -5,8 +5,6 @@ use Rattle.std.specs.Fmt.{digit_glyph}
 use Rattle.fir_ast.specs.declared.place.Place.{Place}
 use Rattle.fir_ast.specs.declared.fault.Outcome.{Outcome}
 use Rattle.fir_ast.specs.declared.fault.Outcome.TheVariants as outcome
-use Rattle.fir_ast.specs.declared.fault.ResetStep.{ResetStep}
-use Rattle.fir_ast.specs.declared.fault.ResetStep.TheVariants as step
 use Rattle.fir_ast.specs.Types.{DataType, uint, sint, clock, reset, async_reset, bundle, vector, Fields, no_fields, field}
 
 abbrev pub place_text : Place → List ℕ
@@ -46,10 +44,6 @@ outcome_text (outcome.When p true) = codes " when@" ++ place_text p ++ codes "=1
 outcome_text (outcome.When p false) = codes " when@" ++ place_text p ++ codes "=0"
 outcome_text (outcome.Index p true) = codes " index@" ++ place_text p ++ codes "=hit"
 outcome_text (outcome.Index p false) = codes " index@" ++ place_text p ++ codes "=miss"
-
-abbrev pub reset_step_text : ResetStep → List ℕ
-reset_step_text (step.Leaf name) = name
-reset_step_text (step.At p) = place_text p
 
 abbrev pub sign_text : Bool → List ℕ
 sign_text true = codes "-"

@@ -1,3 +1,5 @@
 -- What no clause of `run` reads: contracts between layers, laws, views of the code and its states.
 pub mod BundleText
 pub mod Views
+pub mod CodeFaults
+pub mod TypeViews

@@ -128,7 +128,7 @@ impl Drop for FirFault {
 
 impl FirFault {
     ghost use Rattle.std.specs.Prelude.{◌≡◌};
-    ghost use Rattle.fir_ast.specs.FaultLines.{fault_place};
+    ghost use Rattle.fir_ast.specs.working.CodeFaults.{fault_place};
 
     /// Where the fault stands.
     pub fn place(&self) -> Place

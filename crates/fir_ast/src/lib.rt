@@ -1,7 +1,7 @@
 //! The tree of a circuit as the text spells it, with a place wherever a fault may stand, and the faults
 //! E01 to E28; and the numbers of leaves and nodes. The definitions see the tree as plain data without
 //! addresses (`specs/`: Types, Expressions, Statements, Circuits and View), and say what line is printed for
-//! a fault (FaultLines, Texts).
+//! a fault (Faults, Texts).
 #![tactic(auto)]
 
 mod circuit;

@@ -2,7 +2,7 @@
 
 ghost use Rattle.std.specs.Prelude.{◌≡◌, []};
 ghost use Rattle.fir_ast.specs.declared.fault.FirFault.TheVariants.{NoModule, Recursive};
-ghost use Rattle.fir_pass.specs.Faults.{fault_of};
+ghost use Rattle.fir_ast.specs.working.CodeFaults.{fault_of};
 ghost use Rattle.fir_pass.specs.working.Sketches.{origin, sketch_meaning};
 
 use fir_base::Refused;

@@ -5,8 +5,8 @@ use Rattle.fir_base.specs.declared.refused.Refused.{Refused}
 use Rattle.fir_ast.specs.declared.fault.FirFault.{FirFault}
 use Rattle.fir_ast.specs.Types.{DataType}
 use Rattle.fir_ast.specs.Expressions.{Expression, reference, literal, operation, mux, validif}
-use Rattle.fir_ast.specs.Statements.{Sink}
-use Rattle.fir_pass.specs.Faults.{Fault}
+use Rattle.fir_ast.specs.Statements.{SinkReference}
+use Rattle.fir_ast.specs.Faults.{Fault}
 use Rattle.fir_meaning.specs.Checked.{shown_after}
 use Rattle.fir_meaning.specs.Reaching.{Reached}
 use Rattle.fir_meaning.specs.TypeGroup.{sides}
@@ -22,7 +22,7 @@ use Rattle.fir_check.proofs.CheckedForms.{first_left, first_right, together_is}
 use Rattle.fir_check.proofs.PartWalks.{reference_found}
 use Rattle.fir_check.proofs.StatementFaults.{expression_fails, statement_clear, statement_fails}
 
-module _ (typed : TypedScope) (s : Sink) (e : Expression) (own : Reached × DataType → List Fault) where
+module _ (typed : TypedScope) (s : SinkReference) (e : Expression) (own : Reached × DataType → List Fault) where
   pub left_fails : (r : Refused FirFault) → IsFirstOf (reaching typed s).shows r → IsFirstOf (shown_after (sides typed s e) own) r
   left_fails r h = expression_fails (sides typed s e) own r (first_left (reaching typed s).shows (expression_type typed e).shows r h)
 
@@ -50,7 +50,7 @@ by_reference ts typed (mux p c a b) right h = nothing _ right.reach h
 by_reference ts typed (validif p c a) right h = nothing _ right.reach h
 
 -- a right side that is a reference
-pub source_reached : (ts : List DataType) (typed : TypedScope) (s : Sink) (o : Option Reach) (r : Reach) → o ≡ Some r
+pub source_reached : (ts : List DataType) (typed : TypedScope) (s : SinkReference) (o : Option Reach) (r : Reach) → o ≡ Some r
     → Is (reaching typed s) (option_map (reached_as ts (sink_path s)) o)
     → Is (expression_type typed (reference s.place s.name s.parts)) (Some (found_type ts r.found))
     × ((reaching typed s).has ≡ option_map (reached_as ts (sink_path s)) (Some r))

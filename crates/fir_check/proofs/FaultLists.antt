@@ -2,7 +2,7 @@
 use Rattle.std.proofs.Common.{◌≡◌, List, [], ◌++◌, Result, sym, subst}
 use Rattle.fir_base.specs.declared.refused.Refused.{Refused}
 use Rattle.fir_ast.specs.declared.fault.FirFault.{FirFault}
-use Rattle.fir_pass.specs.Faults.{Fault}
+use Rattle.fir_ast.specs.Faults.{Fault}
 use Rattle.fir_types.specs.working.Judged.{IsFirstOf}
 use Rattle.fir_types.specs.working.Walked.{Judges}
 use Rattle.fir_check.proofs.CheckedForms.{first_left, first_right}

@@ -6,8 +6,8 @@ use Rattle.fir_base.proofs.Tests.{chosen}
 use Rattle.fir_ast.specs.declared.place.Place.{Place}
 use Rattle.fir_ast.specs.Types.{DataType}
 use Rattle.fir_ast.specs.Expressions.{Expression, reference}
-use Rattle.fir_ast.specs.Statements.{Sink}
-use Rattle.fir_pass.specs.Faults.{Fault}
+use Rattle.fir_ast.specs.Statements.{SinkReference}
+use Rattle.fir_ast.specs.Faults.{Fault}
 use Rattle.fir_meaning.specs.LeafPaths.{LeafPath, step_text}
 use Rattle.fir_meaning.specs.TypeLeaves.{TypeLeaf, type_leaves}
 use Rattle.fir_meaning.specs.Equivalence.{is_connectable, is_partly_connectable}
@@ -138,7 +138,7 @@ right_shown ts p (reference q n ps) (Some r) steps rest by = one_shown ts p (sin
 right_shown ts p e (Some r) steps rest by = absurd (none-some r (sym by))
 
 -- the first that is shown is that of the first leaf
-module _ (ts : List DataType) (p : Place) (sink : Sink) (e : Expression) (l : Reach) (r : Option Reach) (by : IsByReference e r) (sides : Sides)
+module _ (ts : List DataType) (p : Place) (sink : SinkReference) (e : Expression) (l : Reach) (r : Option Reach) (by : IsByReference e r) (sides : Sides)
     (straight : sides.straight ≡ is_source_at false l) (flipped : sides.flipped ≡ is_source_on_right r) where
   told : (b : Bool) (s : Spot) (o : Option Spot)
       → (if b then flow_faults p sink e (Some s) else flow_faults p sink e o) ≡ flow_faults p sink e (if b then Some s else o)

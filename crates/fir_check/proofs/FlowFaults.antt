@@ -7,8 +7,8 @@ use Rattle.fir_base.specs.declared.refused.Refused.TheVariants as refused
 use Rattle.fir_ast.specs.declared.fault.FirFault.{FirFault}
 use Rattle.fir_ast.specs.declared.place.Place.{Place}
 use Rattle.fir_ast.specs.Expressions.{Expression, reference}
-use Rattle.fir_ast.specs.Statements.{Sink}
-use Rattle.fir_pass.specs.Faults.{Fault}
+use Rattle.fir_ast.specs.Statements.{SinkReference}
+use Rattle.fir_ast.specs.Faults.{Fault}
 use Rattle.fir_meaning.specs.LeafPaths.{LeafPath, step_text}
 use Rattle.fir_meaning.specs.KindFaults.{wrong_flow}
 use Rattle.fir_check.specs.declared.drives.SourceLeaf.{SourceLeaf}
@@ -25,7 +25,7 @@ alone g refused.Memory h = tt
 abbrev pub TellsAt : Place → LeafPath → List ℕ → Refused FirFault → Type 0
 TellsAt p base text r = (path : LeafPath) → flat_map step_text path ≡ text → IsFault (wrong_flow p (base ++ path)) r
 
-pub told_on_left : (p : Place) (sink : Sink) (e : Expression) (leaf : SourceLeaf) (spot : Option Spot) (r : Refused FirFault)
+pub told_on_left : (p : Place) (sink : SinkReference) (e : Expression) (leaf : SourceLeaf) (spot : Option Spot) (r : Refused FirFault)
     → Some (leaf_text leaf) ≡ option_map spot_text spot → leaf.flip ≡ false → TellsAt p (sink_path sink) leaf.steps.items r
     → IsFirstOf (flow_faults p sink e spot) r
 told_on_left p sink e leaf None r same straight tells = absurd (none-some (leaf_text leaf) (sym same))
@@ -34,7 +34,7 @@ told_on_left p sink e leaf (Some s) r same straight tells =
     let flip : s.0 ≡ false = ap (λ (x : Bool × List ℕ). x.0) (sym alike) ∙ straight in
     rw flip (alone (wrong_flow p (sink_path sink ++ s.1)) r (tells s.1 (ap (λ (x : Bool × List ℕ). x.1) (sym alike))))
 
-pub told_on_right : (p : Place) (sink source : Sink) (leaf : SourceLeaf) (spot : Option Spot) (r : Refused FirFault)
+pub told_on_right : (p : Place) (sink source : SinkReference) (leaf : SourceLeaf) (spot : Option Spot) (r : Refused FirFault)
     → Some (leaf_text leaf) ≡ option_map spot_text spot → leaf.flip ≡ true → TellsAt p (sink_path source) leaf.steps.items r
     → IsFirstOf (flow_faults p sink (reference source.place source.name source.parts) spot) r
 told_on_right p sink source leaf None r same flipped tells = absurd (none-some (leaf_text leaf) (sym same))

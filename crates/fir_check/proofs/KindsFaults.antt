@@ -6,8 +6,9 @@ use Rattle.fir_ast.specs.declared.types.Ty.{Ty}
 use Rattle.fir_ast.specs.declared.fault.FirFault.TheVariants.{Kinds}
 use Rattle.fir_ast.specs.Texts.{separated, type_text}
 use Rattle.fir_ast.specs.Types.{DataType}
-use Rattle.fir_ast.specs.View.{type_of}
-use Rattle.fir_pass.specs.Faults.{E12, fault_of}
+use Rattle.fir_ast.specs.working.TypeViews.{type_of}
+use Rattle.fir_ast.specs.Faults.{E12}
+use Rattle.fir_ast.specs.working.CodeFaults.{fault_of}
 use Rattle.fir_meaning.specs.KindFaults.{wrong_kinds}
 
 texts : (ts : List Ty) → map (λ t. type_text (type_of t)) ts ≡ map type_text (map type_of ts)

@@ -7,7 +7,7 @@ use Rattle.fir_ast.specs.declared.fault.FirFault.{FirFault}
 use Rattle.fir_ast.specs.Statements.{Block}
 use Rattle.fir_ast.specs.Circuits.{ModuleTree, PortTree}
 use Rattle.fir_ast.specs.working.Views.{port_of}
-use Rattle.fir_ast.specs.View.{type_of}
+use Rattle.fir_ast.specs.working.TypeViews.{type_of}
 use Rattle.fir_meaning.specs.Components.{Declarations}
 use Rattle.fir_meaning.specs.Components as component
 use Rattle.fir_meaning.specs.Visibility.{Before, at_head, behind_block, behind_ports, declarations, with_declaration}

@@ -8,7 +8,7 @@ use Rattle.fir_ast.specs.declared.expressions.Part.{Part}
 use Rattle.fir_ast.specs.declared.expressions.Reference.{Reference}
 use Rattle.fir_ast.specs.Types.{DataType}
 use Rattle.fir_ast.specs.Expressions.{Parts, no_parts, reference}
-use Rattle.fir_ast.specs.Statements.{Sink}
+use Rattle.fir_ast.specs.Statements.{SinkReference}
 use Rattle.fir_ast.specs.working.Views.{parts_of, sink_of}
 use Rattle.fir_meaning.specs.Checked.{Checked}
 use Rattle.fir_meaning.specs.LeafPaths.{Step, LeafPath, named}
@@ -83,7 +83,7 @@ reached_done ts typed r left y walked none =
     rw (whole, path) walked.reached
 
 -- the type of what a reference reaches
-pub reference_found : (ts : List DataType) (typed : TypedScope) (s : Sink) (path : LeafPath) (o x : Option Reach) → o ≡ x
+pub reference_found : (ts : List DataType) (typed : TypedScope) (s : SinkReference) (path : LeafPath) (o x : Option Reach) → o ≡ x
     → Is (reaching typed s) (option_map (reached_as ts path) o) → Is (expression_type typed (reference s.place s.name s.parts)) (option_map (λ r. found_type ts r.found) x)
 reference_found ts typed s path o None same is =
     record { has = ap (option_map (λ y. y.data_type)) (is.has ∙ ap (option_map (reached_as ts path)) same); none = is.none }

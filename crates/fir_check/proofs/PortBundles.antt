@@ -9,7 +9,8 @@ use Rattle.fir_ast.specs.declared.circuit.Module.{Module}
 use Rattle.fir_ast.specs.declared.circuit.Port.{Port}
 use Rattle.fir_ast.specs.Types.{DataType, Fields, bundle, field}
 use Rattle.fir_ast.specs.Circuits.{ModuleTree, PortTree}
-use Rattle.fir_ast.specs.View.{fields_of, type_of}
+use Rattle.fir_ast.specs.View.{fields_of}
+use Rattle.fir_ast.specs.working.TypeViews.{type_of}
 use Rattle.fir_ast.specs.working.Views.{module_of, port_of}
 use Rattle.fir_meaning.specs.ComponentTypes.{instance_bundle, is_input, port_fields}
 use Rattle.fir_type_table.specs.declared.entry.Entry.{Entry}

@@ -6,7 +6,7 @@ use Rattle.fir_ast.specs.Types.{DataType}
 use Rattle.fir_ast.specs.Expressions.{Expression}
 use Rattle.fir_ast.specs.Statements.{PlacedName, Reset}
 use Rattle.fir_ast.specs.Circuits.{ModuleTree}
-use Rattle.fir_pass.specs.Faults.{Fault}
+use Rattle.fir_ast.specs.Faults.{Fault}
 use Rattle.fir_meaning.specs.Components as component
 use Rattle.fir_meaning.specs.Visibility.{Before, with_declaration}
 use Rattle.fir_meaning.specs.TypeGroup.{register_type_faults, clock_faults, reset_faults, scope_at}

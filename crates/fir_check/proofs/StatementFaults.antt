@@ -2,7 +2,7 @@
 use Rattle.std.proofs.Common.{◌≡◌, List, [], ◌++◌, Option, ap, ◌∙◌}
 use Rattle.fir_base.specs.declared.refused.Refused.{Refused}
 use Rattle.fir_ast.specs.declared.fault.FirFault.{FirFault}
-use Rattle.fir_pass.specs.Faults.{Fault}
+use Rattle.fir_ast.specs.Faults.{Fault}
 use Rattle.fir_meaning.specs.Checked.{Checked, shown_on, shown_after}
 use Rattle.fir_types.specs.working.Judged.{Is, IsFirstOf}
 use Rattle.fir_check.proofs.CheckedForms.{first_left, first_right}

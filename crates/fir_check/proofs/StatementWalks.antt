@@ -8,7 +8,7 @@ use Rattle.fir_ast.specs.Types.{DataType}
 use Rattle.fir_ast.specs.Expressions.{Expression}
 use Rattle.fir_ast.specs.Statements.{Statement, when, Block, done, then}
 use Rattle.fir_ast.specs.Circuits.{ModuleTree}
-use Rattle.fir_pass.specs.Faults.{Fault}
+use Rattle.fir_ast.specs.Faults.{Fault}
 use Rattle.fir_meaning.specs.Components.{Declarations}
 use Rattle.fir_meaning.specs.Visibility.{Before, opened, reopened, behind, behind_block}
 use Rattle.fir_meaning.specs.ExpressionPlaces.{place_of}

@@ -6,12 +6,12 @@ use Rattle.fir_base.proofs.Each.{all_joined}
 use Rattle.fir_ast.specs.declared.place.Place.{Place}
 use Rattle.fir_ast.specs.Types.{DataType, uint, clock, reset, async_reset}
 use Rattle.fir_ast.specs.Expressions.{Expression, reference, literal, operation, mux, validif, Parts, no_parts, subfield, subindex, subaccess, Expressions, no_expressions, expression}
-use Rattle.fir_ast.specs.Statements.{PlacedName, MemoryPart, Sink, Reset, Statement, wire, register, node, instance, memory, when, connect, partial_connect, invalid, skip, Block, done, then}
+use Rattle.fir_ast.specs.Statements.{PlacedName, MemoryPart, SinkReference, Reset, Statement, wire, register, node, instance, memory, when, connect, partial_connect, invalid, skip, Block, done, then}
 use Rattle.fir_ast.specs.Circuits.{ModuleTree, CircuitTree}
 use Rattle.fir_bits.specs.declared.operators.PrimOp.{PrimOp}
 use Rattle.fir_bits.specs.declared.types.NumTy.{NumTy}
 use Rattle.fir_bits.specs.Forms.{form_of, takes}
-use Rattle.fir_pass.specs.Faults.{Fault}
+use Rattle.fir_ast.specs.Faults.{Fault}
 use Rattle.fir_pass.specs.Groups.{group_of, first_of}
 use Rattle.fir_meaning.specs.Components as component
 use Rattle.fir_meaning.specs.Visibility.{Before, with_declaration, opened, reopened, behind, behind_block, behind_ports, at_head}
@@ -164,10 +164,10 @@ mutual
   expressions_told scope no_expressions = tt
   expressions_told scope (expression e es) = both (expression_type scope e).shows (expression_types scope es).shows (expression_told scope e) (expressions_told scope es)
 
-reaching_told : (scope : TypedScope) (s : Sink) → AreOfTypes (reaching scope s).shows
+reaching_told : (scope : TypedScope) (s : SinkReference) → AreOfTypes (reaching scope s).shows
 reaching_told scope s = parts_told scope s.place (root scope s.name) s.parts tt
 
-sides_told : (scope : TypedScope) (s : Sink) (e : Expression) → AreOfTypes (sides scope s e).shows
+sides_told : (scope : TypedScope) (s : SinkReference) (e : Expression) → AreOfTypes (sides scope s e).shows
 sides_told scope s e = both (reaching scope s).shows (expression_type scope e).shows (reaching_told scope s) (expression_told scope e)
 
 -- connects

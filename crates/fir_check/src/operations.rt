@@ -3,7 +3,7 @@
 ghost use Rattle.std.specs.Prelude.{◌≡◌, List, IfOk, map, option_map};
 ghost use Rattle.fir_bits.specs.Forms.{form_of, takes};
 ghost use Rattle.fir_ast.specs.Types.{DataType};
-ghost use Rattle.fir_meaning.specs.OperationTypes.{is_conversion, of_sign, operand_kind, operand_kinds, result_of, type_of_operation};
+ghost use Rattle.fir_meaning.specs.OperationTypes.{is_conversion, type_of_sign, operand_kind, operand_kinds, result_of, type_of_operation};
 ghost use Rattle.fir_type_table.specs.working.Tables.{types_of};
 ghost use Rattle.fir_types.specs.working.Judged.{Says};
 ghost use Rattle.fir_types.specs.working.Seen.{found_type};
@@ -65,15 +65,15 @@ fn operand_kind(resets: bool, sort: Sort) -> Option<NumTy>
     ensures { (t : DataType) → sort ≡ sort_of t → result ≡ operand_kind resets t }
 {
     match sort {
-        Sort::UInt => Some(of_sign(false)),
-        Sort::SInt => Some(of_sign(true)),
-        Sort::Reset | Sort::AsyncReset if resets => Some(of_sign(false)),
+        Sort::UInt => Some(type_of_sign(false)),
+        Sort::SInt => Some(type_of_sign(true)),
+        Sort::Reset | Sort::AsyncReset if resets => Some(type_of_sign(false)),
         _ => None,
     }
 }
 
-fn of_sign(signed: bool) -> NumTy
-    ensures { result ≡ of_sign signed }
+fn type_of_sign(signed: bool) -> NumTy
+    ensures { result ≡ type_of_sign signed }
 {
     NumTy { signed, width: 0 }
 }

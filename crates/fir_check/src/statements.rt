@@ -5,7 +5,7 @@ ghost use Rattle.fir_ast.specs.declared.place.Place.{Place};
 ghost use Rattle.fir_ast.specs.Circuits.{ModuleTree};
 ghost use Rattle.fir_ast.specs.Statements.{PlacedName};
 ghost use Rattle.fir_ast.specs.working.Views.{block_of, expr_of, memory_part_of, named_of, reset_of, sink_of, stmt_of};
-ghost use Rattle.fir_ast.specs.View.{type_of};
+ghost use Rattle.fir_ast.specs.working.TypeViews.{type_of};
 ghost use Rattle.fir_meaning.specs.Components as component;
 ghost use Rattle.fir_meaning.specs.Components.{Declarations};
 ghost use Rattle.fir_meaning.specs.ExpressionTypes.{reaching};

@@ -2,7 +2,8 @@
 
 ghost use Rattle.std.specs.Prelude.{◌≡◌, ◌++◌, IfOk, List, ℕ, codes};
 ghost use Rattle.fir_base.specs.Ticks.{Tick};
-ghost use Rattle.fir_ast.specs.FaultLines.{fault_line};
+ghost use Rattle.fir_ast.specs.Faults.{fault_line};
+ghost use Rattle.fir_ast.specs.working.CodeFaults.{fault_of};
 ghost use Rattle.fir_io.specs.Ports.{SinkSeen};
 ghost use Rattle.fir_outcome.specs.declared.status.Status.TheVariants as status;
 ghost use Rattle.trace_text.specs.Shapes.{TraceShape};
@@ -64,7 +65,7 @@ fn line_of(alloc: Global, words: &[u8], name: &str) -> Result<Vec<u8>, MemoryOut
 
 /// Puts the line of the fault of a text, and ends with `Refused` where that succeeds.
 pub fn say_fault<T: Sink>(alloc: Global, err: &mut T, fault: &FirFault) -> Status
-    ensures { Complained (fault_line fault.now) status.Refused (T.seen err.old) (T.seen err.new) result }
+    ensures { Complained (fault_line (fault_of fault.now)) status.Refused (T.seen err.old) (T.seen err.new) result }
 {
     let mut line = Vec::new(alloc);
     match put_fault_line(fault, alloc, &mut line) {

@@ -1,8 +1,7 @@
 -- A text that is refused is not taken.
 use Rattle.std.proofs.Common.{◌≡◌, ℕ, List, Some, None, sym, ap, ◌∙◌, inl, inr, subst}
-use Rattle.fir_ast.specs.declared.fault.FirFault.{FirFault}
+use Rattle.fir_ast.specs.Faults.{Fault}
 use Rattle.fir_ast.specs.Circuits.{CircuitTree}
-use Rattle.fir_pass.specs.Faults.{fault_of}
 use Rattle.fir_pass.specs.Law.{IsFirst}
 use Rattle.fir_parse.specs.working.Laws.{SpellsOneTree, HasTreeOrFault}
 use Rattle.fir_meaning.specs.Lack.{Lack}
@@ -23,7 +22,7 @@ one_lack c l (s, p, first) (t, q, none) =
 
 module _ (one : SpellsOneTree) (tree_or_fault : HasTreeOrFault) (bytes : List ℕ) (c : CircuitTree) (taken : Takes bytes c) where
   -- a text that is taken has no fault
-  taken_has_no_fault : (f : FirFault) → RefusedFor bytes f → ⊥
+  taken_has_no_fault : (f : Fault) → RefusedFor bytes f → ⊥
   taken_has_no_fault f (inl bad) = (tree_or_fault bytes).1 (c, taken.spelled) (f, bad)
   taken_has_no_fault f (inr (inl shows)) =
       let same : shows.circuit ≡ c = one bytes shows.circuit c shows.spelled taken.spelled in
@@ -33,7 +32,7 @@ module _ (one : SpellsOneTree) (tree_or_fault : HasTreeOrFault) (bytes : List �
       one_lack c lacks.lack (subst (λ t. LacksFirst t lacks.lack) same lacks.first) taken.in_language
   taken_has_no_fault f (inr (inr (inr later))) =
       let same : later.circuit ≡ c = one bytes later.circuit c later.spelled taken.spelled in
-      none_first c 10 13 f taken.faultless (subst (λ t. IsFirst 10 13 (circuit_meaning t) (fault_of f)) same later.first)
+      none_first c 10 13 f taken.faultless (subst (λ t. IsFirst 10 13 (circuit_meaning t) f) same later.first)
 
   pub refused_is_not_taken : (line : List ℕ) → Refuses bytes line → ⊥
   refused_is_not_taken line why = taken_has_no_fault why.0 why.1

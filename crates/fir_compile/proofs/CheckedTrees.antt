@@ -4,7 +4,7 @@ use Rattle.fir_base.specs.declared.refused.Refused.TheVariants.{Fault}
 use Rattle.fir_ast.specs.declared.fault.FirFault.{FirFault}
 use Rattle.fir_ast.specs.Circuits.{CircuitTree}
 use Rattle.fir_parse.specs.Spells.{Spells}
-use Rattle.fir_pass.specs.Faults.{fault_of}
+use Rattle.fir_ast.specs.working.CodeFaults.{fault_of}
 use Rattle.fir_pass.specs.Groups.{IsClear}
 use Rattle.fir_pass.specs.Law.{IsFirst}
 use Rattle.fir_meaning.specs.working.NameGroups.{HasNames}
@@ -24,7 +24,7 @@ module _ (bytes : List ℕ) (c : CircuitTree) where
 
   pub misnamed : Spells bytes c → (f : FirFault) → IsFirst 1 3 (circuit_meaning c) (fault_of f) → IsCheckedTree 3 bytes (Err (Fault f))
   misnamed spelled f first =
-      inr (record { circuit = c; spelled = spelled; first = first_behind c 0 1 3 9 f (clear_text c) (omega arith) (omega arith) (omega arith) first })
+      inr (record { circuit = c; spelled = spelled; first = first_behind c 0 1 3 9 (fault_of f) (clear_text c) (omega arith) (omega arith) (omega arith) first })
 
   -- of types
   pub typed : Spells bytes c × IsClearUpTo 3 c → type_faults c ≡ [] → Spells bytes c × IsClearUpTo 4 c
@@ -32,7 +32,7 @@ module _ (bytes : List ℕ) (c : CircuitTree) where
 
   pub mistyped : Spells bytes c × IsClearUpTo 3 c → (f : FirFault) → IsFirst 4 4 (circuit_meaning c) (fault_of f) → IsCheckedTree 4 bytes (Err (Fault f))
   mistyped read f first =
-      inr (record { circuit = c; spelled = read.0; first = first_behind c 3 4 4 9 f read.1 (omega arith) (omega arith) (omega arith) first })
+      inr (record { circuit = c; spelled = read.0; first = first_behind c 3 4 4 9 (fault_of f) read.1 (omega arith) (omega arith) (omega arith) first })
 
   -- of resets and widths
   pub inferred : Spells bytes c × IsClearUpTo 4 c → IsInferred c → Spells bytes c × IsClearUpTo 7 c
@@ -40,7 +40,7 @@ module _ (bytes : List ℕ) (c : CircuitTree) where
 
   pub not_inferred : Spells bytes c × IsClearUpTo 4 c → (f : FirFault) → IsFirst 5 7 (circuit_meaning c) (fault_of f) → IsCheckedTree 7 bytes (Err (Fault f))
   not_inferred read f first =
-      inr (record { circuit = c; spelled = read.0; first = first_behind c 4 5 7 9 f read.1 (omega arith) (omega arith) (omega arith) first })
+      inr (record { circuit = c; spelled = read.0; first = first_behind c 4 5 7 9 (fault_of f) read.1 (omega arith) (omega arith) (omega arith) first })
 
   -- over its ground leaves
   pub within_cost : Spells bytes c × IsClearUpTo 7 c → IsClear (cost_group c) → Spells bytes c × IsClearUpTo 8 c
@@ -48,7 +48,7 @@ module _ (bytes : List ℕ) (c : CircuitTree) where
 
   pub costly : Spells bytes c × IsClearUpTo 7 c → (f : FirFault) → IsFirst 8 8 (circuit_meaning c) (fault_of f) → IsCheckedTree 8 bytes (Err (Fault f))
   costly read f first =
-      inr (record { circuit = c; spelled = read.0; first = first_behind c 7 8 8 9 f read.1 (omega arith) (omega arith) (omega arith) first })
+      inr (record { circuit = c; spelled = read.0; first = first_behind c 7 8 8 9 (fault_of f) read.1 (omega arith) (omega arith) (omega arith) first })
 
   -- with every leaf driven
   pub all_driven : Spells bytes c × IsClearUpTo 8 c → IsClear (undriven_group c) → Spells bytes c × IsClearUpTo 9 c
@@ -56,4 +56,4 @@ module _ (bytes : List ℕ) (c : CircuitTree) where
 
   pub not_driven : Spells bytes c × IsClearUpTo 8 c → (f : FirFault) → IsFirst 9 9 (circuit_meaning c) (fault_of f) → IsCheckedTree 9 bytes (Err (Fault f))
   not_driven read f first =
-      inr (record { circuit = c; spelled = read.0; first = first_behind c 8 9 9 9 f read.1 (omega arith) (omega arith) (omega arith) first })
+      inr (record { circuit = c; spelled = read.0; first = first_behind c 8 9 9 9 (fault_of f) read.1 (omega arith) (omega arith) (omega arith) first })

@@ -1,10 +1,9 @@
 -- The groups of faults one behind the other: which are clear behind each pass, and that a later fault is the first where those before it are.
 use Rattle.std.proofs.Common.{◌≡◌, ℕ, zero, suc, ◌+◌, ◌<◌, ◌≤◌, List, [], ◌∷◌, length, map, refl, subst, inl, arith, ⊎_elim}
 use Rattle.std.proofs.lemmas.Bool.{cases_lt}
-use Rattle.fir_ast.specs.declared.fault.FirFault.{FirFault}
+use Rattle.fir_ast.specs.Faults.{Fault}
 use Rattle.fir_ast.specs.Statements.{PlacedName}
 use Rattle.fir_ast.specs.Circuits.{CircuitTree, ModuleTree}
-use Rattle.fir_pass.specs.Faults.{fault_of}
 use Rattle.fir_pass.specs.Groups.{Group, group_of, in_order, IsClear}
 use Rattle.fir_pass.specs.Law.{IsFirst}
 use Rattle.fir_meaning.specs.Components.{find_name}
@@ -101,17 +100,17 @@ module _ (c : CircuitTree) where
       (λ (within : k ≤ 9). clear k within)
       (cases_lt 9 k)
 
-  pub first_loop : (f : FirFault) → group_of (fault_of f).code ≡ 13 → AreClocksClear c → (loop_group c).shows (fault_of f)
-      → IsFirst 10 13 (circuit_meaning c) (fault_of f)
+  pub first_loop : (f : Fault) → group_of f.code ≡ 13 → AreClocksClear c → (loop_group c).shows f
+      → IsFirst 10 13 (circuit_meaning c) f
   unfolding circuit_meaning
   first_loop f e clocks shows =
-      first_at 10 13 13 (circuit_meaning c) (fault_of f) e (omega arith) (omega arith) shows shows
+      first_at 10 13 13 (circuit_meaning c) f e (omega arith) (omega arith) shows shows
       (λ k low high.
       behind_undriven c (λ j group. j < 13 → IsClear group) (λ j below. nothing) (λ below. clocks.0) (λ below. clocks.1) (λ below. clocks.2)
       (λ below. absurd (omega (arith, below))) k (omega (arith, low)) high)
 
   -- the first of some groups behind E24 is the first of all that are behind it
-  pub later_first : (f : FirFault) → IsFirst 10 12 (circuit_meaning c) (fault_of f) → IsFirst 10 13 (circuit_meaning c) (fault_of f)
+  pub later_first : (f : Fault) → IsFirst 10 12 (circuit_meaning c) f → IsFirst 10 13 (circuit_meaning c) f
   later_first f first = record {
     low = first.low;
     high = omega (arith, first.high);
@@ -121,8 +120,8 @@ module _ (c : CircuitTree) where
   }
 
   -- the first of later groups is the first of all
-  pub first_behind : (before from upto last : ℕ) (f : FirFault) → IsClearUpTo before c → from ≤ before + 1 → 1 ≤ from → upto ≤ last
-      → IsFirst from upto (circuit_meaning c) (fault_of f) → IsFirstUpTo last c f
+  pub first_behind : (before from upto last : ℕ) (f : Fault) → IsClearUpTo before c → from ≤ before + 1 → 1 ≤ from → upto ≤ last
+      → IsFirst from upto (circuit_meaning c) f → IsFirstUpTo last c f
   first_behind before from upto last f clear meets low high first = record {
     low = omega (arith, first.low, low);
     high = omega (arith, first.high, high);
@@ -132,5 +131,5 @@ module _ (c : CircuitTree) where
         ⊎_elim (λ (lt : before < k). first.clear k (omega (arith, lt, meets)) below) (λ (le : k ≤ before). clear k le) (cases_lt before k);
   }
 
-  pub none_first : (from upto : ℕ) (f : FirFault) → ShowsNone c → IsFirst from upto (circuit_meaning c) (fault_of f) → ⊥
-  none_first from upto f clear first = clear _ (fault_of f) first.stands
+  pub none_first : (from upto : ℕ) (f : Fault) → ShowsNone c → IsFirst from upto (circuit_meaning c) f → ⊥
+  none_first from upto f clear first = clear _ f first.stands

@@ -13,10 +13,10 @@ use Rattle.fir_ast.specs.Circuits.{PortTree, ModuleTree, CircuitTree}
 use Rattle.fir_parse.specs.declared.lexeme.Mark.TheVariants.{Colon, OpenCurly}
 use Rattle.fir_parse.specs.Lexemes.{Terminal, word, mark}
 use Rattle.fir_parse.specs.Limits.{everywhere}
-use Rattle.fir_parse.specs.Pieces.{◌▸◌, At, IsNextAt, LineEnd, Name, Sign, Token, Word}
+use Rattle.fir_parse.specs.Pieces.{◌▸◌, At, IsNextAt, LineEnd, NameToken, Sign, TokenAt, WordToken}
 use Rattle.fir_parse.specs.TypeForms.{IsType}
 use Rattle.fir_parse.specs.ExpressionForms.{IsExpression}
-use Rattle.fir_parse.specs.StatementForms.{AreStatements, IsBlock, IsElse, IsReset, IsStatement}
+use Rattle.fir_parse.specs.StatementForms.{AreStatements, IsBlock, IsElse, IsRegisterReset, IsStatement}
 use Rattle.fir_parse.specs.CircuitForms.{direction_word, AreModules, ArePorts, AreSomeModules, IsBody, IsModule, IsPort, IsSpelled}
 use Rattle.fir_meaning.specs.Lack.{Lack, lack}
 use Rattle.fir_meaning.specs.ModuleScenes.{Scene}
@@ -41,10 +41,10 @@ later : {P : List Terminal → List Terminal → Type 0} → KeepsWords P → (a
 later piece a b x l h = let taken = piece.front a b x in subst (λ ts. NamesItsToken ts l) (sym taken.1) (stands_behind taken.0 b l h)
 
 -- a word at the front
-word_stands : (w : List ℕ) (p : Place) (a b : List Terminal) → Token (word w) p a b → NamesItsToken a (record { place = p; word = w })
+word_stands : (w : List ℕ) (p : Place) (a b : List Terminal) → TokenAt (word w) p a b → NamesItsToken a (record { place = p; word = w })
 word_stands w p a b e = subst (λ ts. NamesItsToken ts (record { place = p; word = w })) (sym e) (inl (inl refl))
 
-word_at_place : (w : List ℕ) (q : Place) (a b : List Terminal) → IsNextAt q a → Word w a b → NamesItsToken a (record { place = q; word = w })
+word_at_place : (w : List ℕ) (q : Place) (a b : List Terminal) → IsNextAt q a → WordToken w a b → NamesItsToken a (record { place = q; word = w })
 word_at_place w q a b there (p, e) =
     let same : p ≡ q = subst (IsNextAt q) e there in
     subst (λ x. NamesItsToken a (record { place = x; word = w })) same (word_stands w p a b e)
@@ -87,12 +87,12 @@ type_stands d (vector t n) q a b there (m, x, rest) = type_stands d t q a m ther
 -- the type of something declared, behind a first piece
 declared_stands : (First Rest : List Terminal → List Terminal → Type 0) → KeepsWords First → (n : PlacedName) (d : ℕ) (q : Place) (t : DataType)
     (l : Lack) (a b : List Terminal) → record { place = q; word = type_word t } ≡ l
-    → (First ▸ Name n ▸ Sign Colon ▸ (At q ▸ IsType everywhere d t) ▸ Rest) a b → NamesItsToken a l
+    → (First ▸ NameToken n ▸ Sign Colon ▸ (At q ▸ IsType everywhere d t) ▸ Rest) a b → NamesItsToken a l
 declared_stands First Rest first n d q t l a b same (m1, x, (m2, name, (m3, colon, (m4, (m5, there, is), rest)))) =
     later (next first (next token (next somewhere at))) a m5 (m1, x, (m2, name, (m3, colon, there))) l
     (subst (NamesItsToken m5) same (type_stands d t q m5 m4 (subst (IsNextAt q) there.1 there.0) is))
 
-named_stands : (w : List ℕ) (p : Place) (l : Lack) (a b : List Terminal) → record { place = p; word = w } ≡ l → Token (word w) p a b → NamesItsToken a l
+named_stands : (w : List ℕ) (p : Place) (l : Lack) (a b : List Terminal) → record { place = p; word = w } ≡ l → TokenAt (word w) p a b → NamesItsToken a l
 named_stands w p l a b same x = subst (NamesItsToken a) same (word_stands w p a b x)
 
 clock_parts : (p : Place) (n : List ℕ) (ps : Parts) (l : Lack) → lacking_clock (reference p n ps) ≡ Some l → record { place = p; word = n } ≡ l
@@ -109,7 +109,7 @@ clock_stands d (mux p c x y) l a b e is = none_is_no_lack l e
 clock_stands d (validif p c x) l a b e is = none_is_no_lack l e
 
 module _ (s : Scene) (l : Lack) where
-  reset_stands : (name : List ℕ) (d : ℕ) (r : Option Reset) (a b : List Terminal) → lacking_reset s name r ≡ Some l → IsReset everywhere d r a b → NamesItsToken a l
+  reset_stands : (name : List ℕ) (d : ℕ) (r : Option Reset) (a b : List Terminal) → lacking_reset s name r ≡ Some l → IsRegisterReset everywhere d r a b → NamesItsToken a l
   reset_stands name d None a b e is = none_is_no_lack l e
   reset_stands name d (Some r) a b e (m, x, rest) =
       named_stands (codes "with") r.place l a m (lack_if_is (some_leaf s (λ x. is_reset_at_once x.role) name) r.place (codes "with") l e) x
@@ -117,7 +117,7 @@ module _ (s : Scene) (l : Lack) where
   port_stands : (p : PortTree) (a b : List Terminal) → lacking_port s p ≡ Some l → IsPort everywhere p a b → NamesItsToken a l
   port_stands p a b e is =
       let same = lack_unless_is (is_clock_input p.direction p.data_type) (holds_clock s p.named.name) p.type_place (type_word p.data_type) l e in
-      declared_stands (Word (direction_word p.direction)) LineEnd somewhere p.named 0 p.type_place p.data_type l a b same is
+      declared_stands (WordToken (direction_word p.direction)) LineEnd somewhere p.named 0 p.type_place p.data_type l a b same is
 
   ports_stand : (ps : List PortTree) (a b : List Terminal) → lacking_ports s ps ≡ Some l → ArePorts everywhere ps a b → NamesItsToken a l
   ports_stand [] a b e is = none_is_no_lack l e
@@ -141,7 +141,7 @@ module _ (s : Scene) (l : Lack) where
     statement_stands : (d : ℕ) (x : Statement) (a b : List Terminal) → lacking_statement s x ≡ Some l → IsStatement everywhere d x a b
         → NamesItsToken a l
     statement_stands d (wire p n q t) a b e is =
-        declared_stands (Token (word (codes "wire")) p) LineEnd token n d q t l a b (lack_if_is (holds_clock s n.name) q (type_word t) l e) is
+        declared_stands (TokenAt (word (codes "wire")) p) LineEnd token n d q t l a b (lack_if_is (holds_clock s n.name) q (type_word t) l e) is
     statement_stands d (register p n q t c r) a b e (m1, w, (m2, name, (m3, colon, (m4, type_there, (m5, comma, (m6, x, y)))))) =
         later (next token (next token (next somewhere (next (next at (type_keeps d t)) somewhere)))) a m5
         (m1, w, (m2, name, (m3, colon, (m4, type_there, comma)))) l

@@ -4,7 +4,7 @@ use Rattle.fir_base.specs.declared.refused.Refused.{Refused}
 use Rattle.fir_base.specs.declared.refused.Refused.TheVariants.{Fault, Memory}
 use Rattle.fir_ast.specs.declared.fault.FirFault.{FirFault}
 use Rattle.fir_ast.specs.Circuits.{CircuitTree}
-use Rattle.fir_pass.specs.Faults.{fault_of}
+use Rattle.fir_ast.specs.working.CodeFaults.{fault_of}
 use Rattle.fir_pass.specs.Groups.{group_of}
 use Rattle.fir_pass.specs.Law.{IsFirst}
 use Rattle.fir_parse.specs.Spells.{Spells, terminals}
@@ -46,7 +46,7 @@ module _ (bytes : List ℕ) (t : CircuitTree) (spelled : Spells bytes t) (clear 
         tokens = spelled.0;
         of_text = spelled.1;
         at_its_token = lack_names_its_token t s.0 (lack_of l) (terminals spelled.0) s.1 first spelled.2;
-        stands = stands;
+        stands = ap fault_of stands;
       })))
   lacks_form l Memory is stands = tt
 
@@ -62,7 +62,7 @@ module _ (bytes : List ℕ) (t : CircuitTree) (spelled : Spells bytes t) (clear 
 
     module _ (clocks : AreClocksClear t) (net : FlatNet) (flat : FlattensTo t net) where
       shows_loop : (f : FirFault) → ShowsLoop net f → IsCompiled bytes (Err (Fault f))
-      shows_loop f shown = shows_later f (first_loop t f (ap (λ x. group_of (fault_of x).code) shown.is) clocks (flat.loops f shown))
+      shows_loop f shown = shows_later f (first_loop t (fault_of f) (ap (λ x. group_of (fault_of x).code) shown.is) clocks (flat.loops f shown))
 
       -- the net has an order, or a closed walk
       pub compiles : (r : Result Compiled (Refused FirFault)) → OrdersNet net r → IsCompiled bytes r

@@ -3,7 +3,7 @@ use Rattle.std.proofs.Common.{◌≡◌, ℕ, zero, suc, ◌+◌, List, [], ◌�
 use Rattle.std.proofs.lemmas.Option.{none-some, same_Some}
 use Rattle.fir_ast.specs.Types.{DataType}
 use Rattle.fir_ast.specs.Expressions.{Expression, reference, literal, operation, mux, validif}
-use Rattle.fir_ast.specs.Statements.{Sink}
+use Rattle.fir_ast.specs.Statements.{SinkReference}
 use Rattle.fir_meaning.specs.LeafPaths.{LeafPath}
 use Rattle.fir_meaning.specs.Reaching.{Reached}
 use Rattle.fir_meaning.specs.TypeLeaves.{TypeLeaf, type_leaves}
@@ -55,7 +55,7 @@ module _ (holds : TypesByPath) (env : ValuesByPath) (clocks : LeafPath → Optio
   leaf_clock None ps k ground = refl
   leaf_clock (Some b) ps k ground = clock_there (leaf_of (seen path (leafed_module s) holds) (seen path (leafed_module s) env) (b + k) ps)
 
-  sink_clock : (scope : TypedScope) (sink : Sink) (r : Reached) (k : ℕ) (l : TypeLeaf) → Begins scope (whole_scope s) → Reaches scope sink r
+  sink_clock : (scope : TypedScope) (sink : SinkReference) (r : Reached) (k : ℕ) (l : TypeLeaf) → Begins scope (whole_scope s) → Reaches scope sink r
       → slice_get (type_leaves r.data_type) k ≡ Some l
       → gives_clock (term_at (target_terms (target_of scope sink)) k)
       ≡ clock_where (below path clocks) (leaf_where (aim_of scope (below path holds) (below path env) sink).at l.path)

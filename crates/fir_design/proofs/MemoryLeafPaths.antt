@@ -10,7 +10,7 @@ use Rattle.fir_meaning.specs.LeafPaths.{LeafPath, named}
 use Rattle.fir_meaning.specs.MemoryTypes.{flipped_fields, mask_type, port_fields_of, reader_type, readwriter_type, writer_type}
 use Rattle.fir_meaning.specs.TypeLeaves.{field_leaves, type_leaves, under}
 use Rattle.fir_meaning.proofs.LeafSteps.{behind_step, path_of, paths_joined}
-use Rattle.fir_meaning.specs.MemoryPorts.{PortKind, reads, reads_and_writes, writes}
+use Rattle.fir_meaning.specs.MemoryPorts.{MemoryPortKind, reads, reads_and_writes, writes}
 use Rattle.fir_meaning.specs.SourceRoles.{ports_of_part}
 use Rattle.fir_design.proofs.MaskLeaves.{mask_paths}
 use Rattle.fir_design.proofs.MemoryPortPaths.{behind_field, control_paths, kind_paths, port_paths}
@@ -45,7 +45,7 @@ module _ (p : Place) (t : DataType) (words : ℕ) where
       ∙ ap (λ ps. behind_field (codes "wdata") qs ++ ps) (masked (codes "wmask"))))
 
   -- of ports of one kind, and of fields behind them
-  ports_same : (u : DataType) (k : PortKind) → map path_of (type_leaves u) ≡ kind_paths qs k
+  ports_same : (u : DataType) (k : MemoryPortKind) → map path_of (type_leaves u) ≡ kind_paths qs k
       → (ns : List PlacedName) (more : List (Fields → Fields))
       → map path_of (field_leaves (fields_of (flipped_fields u ns ++ more)))
       ≡ flat_map (port_paths qs) (map (λ (n : PlacedName). record { name = n.name; kind = k }) ns) ++ map path_of (field_leaves (fields_of more))

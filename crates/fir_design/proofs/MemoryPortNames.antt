@@ -12,7 +12,7 @@ use Rattle.fir_meaning.specs.MemoryTypes.{flipped_fields, memory_bundle, port_fi
 use Rattle.fir_meaning.specs.Mentions.{type_mentions}
 use Rattle.fir_meaning.specs.NameGroups.{faults_in}
 use Rattle.fir_meaning.proofs.FreshFields.{AreFresh, field_names, fresh_fields}
-use Rattle.fir_meaning.specs.MemoryPorts.{PortKind, reads, reads_and_writes, writes}
+use Rattle.fir_meaning.specs.MemoryPorts.{MemoryPortKind, reads, reads_and_writes, writes}
 use Rattle.fir_meaning.specs.SourceRoles.{NamedPort, kind_of, ports_of_part}
 
 abbrev port_name : NamedPort → List ℕ
@@ -32,7 +32,7 @@ fresh_names (field p flip x b t rest) h = (h.0, fresh_names rest h.2)
 
 module _ (p : Place) (t : DataType) (words : ℕ) where
   -- the fields of the memory's type have the names of its ports
-  names_of : (u : DataType) (k : PortKind) (ns : List PlacedName) (more : List (Fields → Fields))
+  names_of : (u : DataType) (k : MemoryPortKind) (ns : List PlacedName) (more : List (Fields → Fields))
       → field_names (fields_of (flipped_fields u ns ++ more))
       ≡ map port_name (map (λ (n : PlacedName). record { name = n.name; kind = k }) ns) ++ field_names (fields_of more)
   names_of u k [] more = refl

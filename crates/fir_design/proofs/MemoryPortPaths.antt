@@ -5,7 +5,7 @@ use Rattle.std.proofs.lemmas.List.{length-map, map-append}
 use Rattle.fir_ast.specs.Statements.{PlacedName, MemoryPart, reader, writer, readwriter}
 use Rattle.fir_meaning.specs.LeafPaths.{LeafPath, named}
 use Rattle.fir_meaning.proofs.LeafSteps.{behind_step}
-use Rattle.fir_meaning.specs.MemoryPorts.{PortKind, reads, reads_and_writes, writes}
+use Rattle.fir_meaning.specs.MemoryPorts.{MemoryPortKind, reads, reads_and_writes, writes}
 use Rattle.fir_meaning.specs.working.LeafMemories.{port_kinds_of, port_size}
 use Rattle.fir_meaning.specs.SourceRoles.{NamedPort, ports_of_part}
 
@@ -17,14 +17,14 @@ abbrev pub control_paths : List LeafPath
 control_paths = (named (codes "addr") ∷ []) ∷ (named (codes "en") ∷ []) ∷ (named (codes "clk") ∷ []) ∷ []
 
 -- behind the controls of a port
-abbrev pub data_paths : List LeafPath → PortKind → List LeafPath
+abbrev pub data_paths : List LeafPath → MemoryPortKind → List LeafPath
 data_paths qs reads = behind_field (codes "data") qs
 data_paths qs writes = behind_field (codes "data") qs ++ behind_field (codes "mask") qs
 data_paths qs reads_and_writes =
     behind_field (codes "rdata") qs
     ++ ((named (codes "wmode") ∷ []) ∷ (behind_field (codes "wdata") qs ++ behind_field (codes "wmask") qs))
 
-abbrev pub kind_paths : List LeafPath → PortKind → List LeafPath
+abbrev pub kind_paths : List LeafPath → MemoryPortKind → List LeafPath
 kind_paths qs kind = control_paths ++ data_paths qs kind
 
 abbrev pub port_paths : List LeafPath → NamedPort → List LeafPath
@@ -37,7 +37,7 @@ port_long qs d long p = length-map (kind_paths qs p.kind) (behind_step (named p.
     one : (x : List ℕ) → length (behind_field x qs) ≡ d
     one x = length-map qs (behind_step (named x)) ∙ long
 
-    by : (kind : PortKind) → length (kind_paths qs kind) ≡ port_size d kind
+    by : (kind : MemoryPortKind) → length (kind_paths qs kind) ≡ port_size d kind
     by reads = omega (arith, one (codes "data"))
     by writes =
         omega (
@@ -59,7 +59,7 @@ port_long qs d long p = length-map (kind_paths qs p.kind) (behind_step (named p.
         )
 
 -- the kinds and the names of ports go in step
-kinds_same : (k : PortKind) (ns : List PlacedName)
+kinds_same : (k : MemoryPortKind) (ns : List PlacedName)
     → map (λ (n : PlacedName). k) ns ≡ map (λ (p : NamedPort). p.kind) (map (λ (n : PlacedName). record { name = n.name; kind = k }) ns)
 kinds_same k [] = refl
 kinds_same k (n ∷ ns) = ap (λ ks. k ∷ ks) (kinds_same k ns)

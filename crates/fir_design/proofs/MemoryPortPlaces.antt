@@ -4,7 +4,7 @@ use Rattle.std.specs.Prelude.{codes}
 use Rattle.std.proofs.lemmas.List.{length-map}
 use Rattle.fir_meaning.specs.LeafPaths.{LeafPath, named}
 use Rattle.fir_meaning.proofs.LeafSteps.{behind_step}
-use Rattle.fir_meaning.specs.MemoryPorts.{PortKind, reads_and_writes}
+use Rattle.fir_meaning.specs.MemoryPorts.{MemoryPortKind, reads_and_writes}
 use Rattle.fir_meaning.specs.working.LeafMemories.{mode}
 use Rattle.fir_meaning.specs.working.LeafModules.{LeafDeclared}
 use Rattle.fir_leaf.proofs.LeafPlaces.{get_mapped}
@@ -22,7 +22,7 @@ module _ (leaves : List LeafDeclared) (name port : List ℕ) where
   AtPort b ps = Stands (path_at leaves) of_port b ps
 
   module _ (qs : List LeafPath) (d : ℕ) (long : length qs ≡ d) where
-    module _ (kind : PortKind) (b : ℕ) (h : AtPort b (kind_paths qs kind)) where
+    module _ (kind : MemoryPortKind) (b : ℕ) (h : AtPort b (kind_paths qs kind)) where
       pub address_there : path_at leaves b ≡ port_field name port (codes "addr")
       address_there = stands_first (path_at leaves) of_port b (named (codes "addr") ∷ []) _ h
 

@@ -7,7 +7,7 @@ use Rattle.fir_ast.specs.Statements.{MemoryPart}
 use Rattle.fir_meaning.specs.LeafPaths.{LeafPath, element, named}
 use Rattle.fir_meaning.proofs.LeafSteps.{behind_step}
 use Rattle.fir_meaning.specs.working.LeafMemories.{LeafMemory, enable, mode, port_roles, port_size, read_roles, roles_from, sinks}
-use Rattle.fir_meaning.specs.MemoryPorts.{PortKind, reads, reads_and_writes, writes}
+use Rattle.fir_meaning.specs.MemoryPorts.{MemoryPortKind, reads, reads_and_writes, writes}
 use Rattle.fir_meaning.specs.working.LeafModules.{LeafArray, LeafDeclared, Need, Role, sink}
 use Rattle.fir_design.specs.working.SameRoles.{path_at}
 use Rattle.fir_meaning.specs.SourceRoles as tree
@@ -25,7 +25,7 @@ module _ (leaves : List LeafDeclared) (arrays : List LeafArray) (name : List ℕ
   Same = SameInOrder leaves arrays
 
   -- of a port that is found by its name
-  abbrev known_role : List ℕ → PortKind → LeafPath → SourceRole
+  abbrev known_role : List ℕ → MemoryPortKind → LeafPath → SourceRole
   known_role port kind (named x ∷ q) = tree.port_role name parts port x q (Some kind)
   known_role port kind _ = tree.source
 
@@ -77,7 +77,7 @@ module _ (leaves : List LeafDeclared) (arrays : List LeafArray) (name : List ℕ
         (reads_same leaves arrays name parts m qs is port b needs more address clock (rw (enabled, moded) refl) f (codes "rdata") (λ q. refl))
         (tt, two_sinks leaves arrays f (codes "wdata") (codes "wmask") qs d is.data_leaves (λ q. refl) (λ q. refl)))))
 
-    port_same : (kind : PortKind) → AtPort leaves name port b (kind_paths qs kind)
+    port_same : (kind : MemoryPortKind) → AtPort leaves name port b (kind_paths qs kind)
         → Same (port_roles m b kind) (map (known_role port kind) (kind_paths qs kind))
     port_same reads h = reader_same h
     port_same writes h = writer_same

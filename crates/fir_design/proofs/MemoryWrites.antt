@@ -4,7 +4,7 @@ use Rattle.std.specs.Prelude.{codes}
 use Rattle.std.proofs.lemmas.List.{map-append}
 use Rattle.fir_meaning.specs.LeafPaths.{LeafPath, named}
 use Rattle.fir_meaning.proofs.LeafSteps.{behind_step}
-use Rattle.fir_meaning.specs.MemoryPorts.{PortKind, reads, reads_and_writes, writes}
+use Rattle.fir_meaning.specs.MemoryPorts.{MemoryPortKind, reads, reads_and_writes, writes}
 use Rattle.fir_meaning.specs.working.LeafMemories.{port_size, port_writings, writings_from}
 use Rattle.fir_meaning.specs.working.LeafModules.{LeafDeclared}
 use Rattle.fir_design.specs.working.SameRoles.{path_at, writing_on}
@@ -14,7 +14,7 @@ use Rattle.fir_design.proofs.MemoryPortPlaces.{AtPort, address_there, clock_ther
 use Rattle.fir_design.proofs.StandingLists.{Stands, stands_left, stands_right, stands_unmapped}
 
 module _ (leaves : List LeafDeclared) (name : List ℕ) (qs : List LeafPath) (d : ℕ) (long : length qs ≡ d) where
-  abbrev on : ℕ → ℕ → PortKind → List PathWriting
+  abbrev on : ℕ → ℕ → MemoryPortKind → List PathWriting
   on i b kind = map (writing_on leaves) (port_writings d i b kind)
 
   -- the array of the data leaf of a number, which has the path
@@ -51,7 +51,7 @@ module _ (leaves : List LeafDeclared) (name : List ℕ) (qs : List LeafPath) (d 
           let masked = rw mask_at at (field_there leaves name port qs d long (codes "wmask") (start + d) second i q there) in
           rw (address, enabled, clock, moded, given, masked) refl
 
-      port_writes : (kind : PortKind) → AtPort leaves name port b (kind_paths qs kind) → on i b kind ≡ port_writing name q port kind
+      port_writes : (kind : MemoryPortKind) → AtPort leaves name port b (kind_paths qs kind) → on i b kind ≡ port_writing name q port kind
       port_writes reads h = refl
       port_writes writes h = writer_writes h
       port_writes reads_and_writes h = readwriter_writes h

@@ -7,7 +7,7 @@ use Rattle.fir_ast.specs.declared.statements.ReadUnderWrite.{ReadUnderWrite}
 use Rattle.fir_ast.specs.Statements.{MemoryPart}
 use Rattle.fir_meaning.specs.LeafPaths.{LeafPath, Step, element, named}
 use Rattle.fir_meaning.specs.TypeLeaves.{TypeLeaf}
-use Rattle.fir_meaning.specs.MemoryPorts.{PortKind, reads, reads_and_writes, writes}
+use Rattle.fir_meaning.specs.MemoryPorts.{MemoryPortKind, reads, reads_and_writes, writes}
 use Rattle.fir_meaning.specs.LeafTypes.{LeafType}
 use Rattle.fir_meaning.specs.SourceRoles as tree
 use Rattle.fir_meaning.specs.SourceRoles.{NamedPort, PathNeed, PathReading, PathWriting, SourceArray, SourceLeaf, SourceRole, arrays_of_data, kind_of, latency_of, memory_role, port_field, port_role, port_writing, ports_of_part, read_by, read_role, source_arrays, source_arrays_in, source_arrays_in_block, source_leaves_of, source_reset, sources_in, sources_in_block, under_write_of, writings_at}
@@ -40,7 +40,7 @@ module _ (memory_name : List ℕ) (parts : List MemoryPart) where
   read_if true port needs q h = read_named port needs q h
   read_if false port needs q h = tt
 
-  port_named : (port field : List ℕ) (q : LeafPath) (o : Option PortKind) → RoleHasNames (port_role memory_name parts port field q o)
+  port_named : (port field : List ℕ) (q : LeafPath) (o : Option MemoryPortKind) → RoleHasNames (port_role memory_name parts port field q o)
   port_named port field q None = tt
   port_named port field q (Some reads) = read_if (bytes_eq field (codes "data")) port [] q tt
   port_named port field q (Some writes) = tt
@@ -55,7 +55,7 @@ module _ (memory_name : List ℕ) (parts : List MemoryPart) where
   memory_named (named port ∷ element i ∷ q) = tt
   memory_named (named port ∷ named field ∷ q) = port_named port field q (kind_of (flat_map ports_of_part parts) port)
 
-  writing_named : (q : LeafPath) (port : List ℕ) (kind : PortKind) → AllByRecursion WritingHasNames (port_writing memory_name q port kind)
+  writing_named : (q : LeafPath) (port : List ℕ) (kind : MemoryPortKind) → AllByRecursion WritingHasNames (port_writing memory_name q port kind)
   writing_named q port reads = tt
   writing_named q port writes = (
     record {

@@ -3,7 +3,7 @@ use Rattle.std.proofs.Common.{◌≡◌, ℕ, List, Bool, true, Option, Some, No
 use Rattle.fir_ast.specs.declared.place.Place.{Place}
 use Rattle.fir_ast.specs.Types.{DataType, uint}
 use Rattle.fir_ast.specs.Expressions.{Expression, reference, literal, operation, mux, validif}
-use Rattle.fir_ast.specs.Statements.{Sink, Statement, wire, register, node, instance, memory, when, connect, partial_connect, invalid, skip, Block, done, then}
+use Rattle.fir_ast.specs.Statements.{SinkReference, Statement, wire, register, node, instance, memory, when, connect, partial_connect, invalid, skip, Block, done, then}
 use Rattle.fir_ast.specs.Circuits.{ModuleTree}
 use Rattle.fir_meaning.specs.TypeLeaves.{type_leaves, leaf_count}
 use Rattle.fir_meaning.specs.Visibility.{Before, opened, reopened, behind, behind_block}
@@ -31,7 +31,7 @@ module _ (m : LeafModule) where
   module _ (scope : TypedScope) (names : AreNamesIn m scope) where
     source_reading : (e : Expression) (t : DataType) → HasType scope e t → IsSide m (target_read scope e) t
     source_reading (reference p n ps) t h =
-        let s : Sink = record { place = p; name = n; parts = ps } in
+        let s : SinkReference = record { place = p; name = n; parts = ps } in
         let met = sink_in m scope names s h.1 (h.0, h.2, h.3) in
         record { inside = met.inside; data_type = met.data_type ∙ sym h.4 }
     source_reading (literal l) t h = tt
@@ -42,7 +42,7 @@ module _ (m : LeafModule) where
     connect_reading : (fits : DataType → DataType → Bool) (numbers_of : DataType → DataType → List LeafPair)
         (pairs_of : DataType → DataType → List Pair)
         → ((t u : DataType) → fits t u ≡ true → ArePairs (IsPair (type_leaves t) (type_leaves u)) (numbers_of t u) (pairs_of t u))
-        → (p : Place) (s : Sink) (e : Expression) → ConnectIsLegal fits pairs_of scope s e → AreReading m (connect_block numbers_of scope p s e)
+        → (p : Place) (s : SinkReference) (e : Expression) → ConnectIsLegal fits pairs_of scope s e → AreReading m (connect_block numbers_of scope p s e)
     connect_reading fits numbers_of pairs_of alike p s e h =
         let met = sink_in m scope names s h.0 h.2 in
         let target = target_of scope s in

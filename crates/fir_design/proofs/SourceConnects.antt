@@ -3,7 +3,7 @@ use Rattle.std.proofs.Common.{◌≡◌, ℕ, List, Bool, true, slice_get, Some,
 use Rattle.fir_ast.specs.declared.place.Place.{Place}
 use Rattle.fir_ast.specs.Types.{DataType}
 use Rattle.fir_ast.specs.Expressions.{Expression, reference, literal, operation, mux, validif}
-use Rattle.fir_ast.specs.Statements.{Sink}
+use Rattle.fir_ast.specs.Statements.{SinkReference}
 use Rattle.fir_meaning.specs.ConnectPairs.{Pair}
 use Rattle.fir_meaning.specs.ExpressionTypes.{expression_type}
 use Rattle.fir_meaning.specs.LeafPaths.{LeafPath}
@@ -36,7 +36,7 @@ pub record Gives {V : Type 0} (s : Scene) (given : LeafPath → LeafModule → �
   pub expression : (scope : TypedScope) (e : Expression) (t : DataType) (k : ℕ) (l : TypeLeaf) (y : ℕ) → Begins scope (whole_scope s)
       → HasType scope e t → slice_get (type_leaves t) k ≡ Some l
       → given path (leafed_module s) y (term_at (terms scope e) k) ≡ gifts.of_expression scope e l.path (path_at (whole_scope s) y)
-  pub sink : (scope : TypedScope) (sink : Sink) (r : Reached) (k : ℕ) (l : TypeLeaf) (y : ℕ) → Begins scope (whole_scope s)
+  pub sink : (scope : TypedScope) (sink : SinkReference) (r : Reached) (k : ℕ) (l : TypeLeaf) (y : ℕ) → Begins scope (whole_scope s)
       → Reaches scope sink r → slice_get (type_leaves r.data_type) k ≡ Some l
       → given path (leafed_module s) y (term_at (target_terms (target_of scope sink)) k)
       ≡ gifts.of_sink scope sink l.path (path_at (whole_scope s) y)
@@ -50,7 +50,7 @@ module _ {V : Type 0} (s : Scene) (f : IsFineScene s) (holds : TypesByPath) (env
     source_named : (e : Expression) (t : DataType) → HasType scope e t
         → NameSame s path holds env (type_leaves t) (target_read scope e) (aim_read scope (below path holds) (below path env) e)
     source_named (reference p n ps) t h =
-        let sink : Sink = record { place = p; name = n; parts = ps } in
+        let sink : SinkReference = record { place = p; name = n; parts = ps } in
         let met = reaches_stands scope (whole_scope s) (below path holds) (below path env) begins sink h.1 (h.0, h.2, h.3) in
         let aim = aim_of scope (below path holds) (below path env) sink in
         subst (λ (u : DataType). NameSame s path holds env (type_leaves u) (Some (target_of scope sink)) aim.at)
@@ -63,7 +63,7 @@ module _ {V : Type 0} (s : Scene) (f : IsFineScene s) (holds : TypesByPath) (env
     pub connect_kept : (fits : DataType → DataType → Bool) (numbers_of : DataType → DataType → List LeafPair)
         (pairs_of : DataType → DataType → List Pair)
         → ((t u : DataType) → fits t u ≡ true → ArePairs (IsPair (type_leaves t) (type_leaves u)) (numbers_of t u) (pairs_of t u))
-        → (p : Place) (sink : Sink) (e : Expression) (taken : List Bool) (store : DesignStore V) → ConnectIsLegal fits pairs_of scope sink e
+        → (p : Place) (sink : SinkReference) (e : Expression) (taken : List Bool) (store : DesignStore V) → ConnectIsLegal fits pairs_of scope sink e
         → run holds env given path (leafed_module s) child (connect_block numbers_of scope p sink e) taken store
         ≡ source_connect s (below path holds) (below path env) gifts path child pairs_of scope sink e taken store
     connect_kept fits numbers_of pairs_of alike p sink e taken store h =

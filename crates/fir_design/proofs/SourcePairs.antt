@@ -2,7 +2,7 @@
 use Rattle.std.proofs.Common.{◌≡◌, ℕ, List, [], ◌∷◌, Bool, true, false, if◌then◌else◌, slice_get, Some, refl, ap, ◌∙◌}
 use Rattle.fir_ast.specs.declared.place.Place.{Place}
 use Rattle.fir_ast.specs.Expressions.{Expression}
-use Rattle.fir_ast.specs.Statements.{Sink}
+use Rattle.fir_ast.specs.Statements.{SinkReference}
 use Rattle.fir_meaning.specs.ConnectPairs.{Pair}
 use Rattle.fir_meaning.specs.LeafPaths.{LeafPath}
 use Rattle.fir_meaning.specs.TypeLeaves.{TypeLeaf}
@@ -27,7 +27,7 @@ module _ {V : Type 0} (s : Scene) (f : IsFineScene s) (holds : TypesByPath) (env
     (given : LeafPath → LeafModule → ℕ → Term → V)
     (path : LeafPath) (gifts : Gifts V) (child : List ℕ → DesignStore V → DesignStore V) where
   -- both sides name leaves, and what they give is the same
-  pub record SameSides (scope : TypedScope) (sink : Sink) (e : Expression) (lefts rights : List TypeLeaf) : Type 0 where
+  pub record SameSides (scope : TypedScope) (sink : SinkReference) (e : Expression) (lefts rights : List TypeLeaf) : Type 0 where
     pub left : NameSame s path holds env lefts (Some (target_of scope sink)) (aim_of scope (below path holds) (below path env) sink).at
     pub right : NameSame s path holds env rights (target_read scope e) (aim_read scope (below path holds) (below path env) e)
     pub gives : (k : ℕ) (l : TypeLeaf) (y : ℕ) → slice_get rights k ≡ Some l
@@ -36,7 +36,7 @@ module _ {V : Type 0} (s : Scene) (f : IsFineScene s) (holds : TypesByPath) (env
         → given path (leafed_module s) y (term_at (target_terms (target_of scope sink)) k)
         ≡ gifts.of_sink scope sink l.path (path_at (whole_scope s) y)
 
-  module _ (scope : TypedScope) (sink : Sink) (e : Expression) (lefts rights : List TypeLeaf) (same : SameSides scope sink e lefts rights) (p : Place)
+  module _ (scope : TypedScope) (sink : SinkReference) (e : Expression) (lefts rights : List TypeLeaf) (same : SameSides scope sink e lefts rights) (p : Place)
       (taken : List Bool) where
     abbrev both : Sides
     both = sides scope sink e

@@ -1,7 +1,5 @@
 -- A leaf of a design is read by a live statement of the whole exactly where by a live drive of one of its modules, by path.
-use Rattle.std.proofs.Common.{◌≡◌, ℕ, ◌<◌, List, [], ◌∷◌, ◌++◌, map, Bool, true, false, nat_lt, length, refl, sym, ap, ◌∙◌, subst}
-use Rattle.std.proofs.lemmas.Bool.{ltb-false, ltb-true}
-use Rattle.std.proofs.lemmas.List.{get_or_past}
+use Rattle.std.proofs.Common.{◌≡◌, ℕ, ◌<◌, List, [], ◌∷◌, ◌++◌, map, length, refl, sym, ap, ◌∙◌, subst}
 use Rattle.fir_base.specs.Lists.{In}
 use Rattle.fir_base.proofs.Members.{in_map, in_map_from}
 use Rattle.fir_meaning.specs.LeafPaths.{LeafPath}
@@ -14,13 +12,14 @@ use Rattle.fir_meaning.specs.SourceDrives.{module_drives}
 use Rattle.fir_meaning.specs.SourceFacts.{source_depth}
 use Rattle.fir_meaning.specs.working.Choices.{Live, LiveReads, live_reads, lives_all}
 use Rattle.fir_meaning.specs.working.LeafCircuits.{LeafCircuit, depth_of}
-use Rattle.fir_meaning.specs.working.LeafModules.{LeafDeclared, LeafModule, depth_at, no_leaf}
+use Rattle.fir_meaning.specs.working.LeafModules.{LeafModule, depth_at}
 use Rattle.fir_meaning.specs.working.LeafedModules.{leafed_module, module_leaves}
 use Rattle.fir_meaning.specs.working.Numberings.{Numbering, number}
 use Rattle.fir_leaf.specs.working.SoundDesigns.{circuit_path}
 use Rattle.fir_leaf.proofs.LiveStatements.{lives_are_live}
 use Rattle.fir_source_faults.specs.working.DrivesByPath.{DrivesByPath}
 use Rattle.fir_source_faults.specs.working.ReadsByPath.{path_in, paths_in}
+use Rattle.fir_source_faults.proofs.CircuitLeaves.{one_number}
 use Rattle.fir_design_faults.proofs.DesignDrives.{DrivesBelow, InRegion}
 use Rattle.fir_design_faults.proofs.DrivenPaths.{DriveLeaves}
 use Rattle.fir_design_faults.proofs.DesignReads.{block_live, live_drives}
@@ -36,7 +35,7 @@ pub record HolderFacts (s : Scene) : Type 0 where
   pub drives : (x : ℕ) → x < length (module_leaves s) → DrivesByPath s x
   pub leaves : DriveLeaves s (module_drives s)
 
-mapped_twice : (s : Scene) (at : LeafPath) (xs : List ℕ) → map (λ y. at ++ path_in s y) xs ≡ from_main at (paths_in s xs)
+pub mapped_twice : (s : Scene) (at : LeafPath) (xs : List ℕ) → map (λ y. at ++ path_in s y) xs ≡ from_main at (paths_in s xs)
 mapped_twice s at [] = refl
 mapped_twice s at (x ∷ xs) = ap (λ (qs : List LeafPath). (at ++ path_in s x) ∷ qs) (mapped_twice s at xs)
 
@@ -45,15 +44,6 @@ module _ (g : LeafCircuit) (t : SourceDesign) (m : LeafModule) (first low high :
     (once : (x y : ℕ) → x < length g.leaves → y < length g.leaves → circuit_path g x ≡ circuit_path g y → x ≡ y)
     (named : (x : ℕ) → x < length g.leaves → circuit_path g x ≡ [] → ⊥)
     (facts : (h : PlacedModule) → In (all_modules t) h → HolderFacts h.scene) where
-  -- what has the path of a leaf is that leaf
-  one_number : (z y : ℕ) → y < length g.leaves → circuit_path g z ≡ circuit_path g y → z ≡ y
-  one_number z y lt e = by (nat_lt z (length g.leaves)) refl
-    where
-      by : (b : Bool) → nat_lt z (length g.leaves) ≡ b → z ≡ y
-      by true h = once z y (ltb-true z (length g.leaves) h) lt e
-      by false h =
-          absurd (named y lt (sym e ∙ ap (λ (l : LeafDeclared). l.path) (get_or_past g.leaves z no_leaf (ltb-false z (length g.leaves) h))))
-
   module _ (h : PlacedModule) (among : In (all_modules t) h) where
     abbrev member : Member g.leaves g.body 0 (InRegion m first low high) h
     member = below.member h among
@@ -126,5 +116,5 @@ module _ (g : LeafCircuit) (t : SourceDesign) (m : LeafModule) (first low high :
       record {
         live = moved_live mem.numbers l.0;
         is_live = (lives_are_live (depth_of g x) x g.body (moved_live mem.numbers l.0)).0 here;
-        read = subst (In (live_reads (moved_live mem.numbers l.0))) (one_number w.0 y less w.2) w.1;
+        read = subst (In (live_reads (moved_live mem.numbers l.0))) (one_number g once named w.0 y less w.2) w.1;
       }

@@ -21,7 +21,7 @@ use Rattle.fir_meaning.specs.working.LeafCircuits.{LeafCircuit, role_of}
 use Rattle.fir_meaning.specs.working.LeafModules as role
 use Rattle.fir_meaning.specs.working.LeafModules.{LeafArray, LeafDeclared, Role, leaf_at, no_leaf}
 use Rattle.fir_meaning.specs.working.LeafedModules.{leafed_module, module_leaves}
-use Rattle.fir_meaning.specs.working.Terms.{Picks, Term, absent, no_picks, pick, read, zeros}
+use Rattle.fir_meaning.specs.working.Terms.{Term, absent, no_picks, pick, read, zeros}
 use Rattle.fir_meaning.specs.working.Terms as term
 use Rattle.fir_leaf.specs.working.ClockFaults.{index_places, picking_places}
 use Rattle.fir_leaf.specs.working.ClockRoots as numbered
@@ -34,7 +34,7 @@ use Rattle.fir_source_faults.specs.working.ReadsByPath.{ReadsByPath, path_in, pa
 use Rattle.fir_source_faults.proofs.NumberedRoles.{same_at}
 use Rattle.fir_design_faults.proofs.ClockGifts.{GivesSame, HaveGifts, module_gifts}
 use Rattle.fir_design_faults.proofs.ClockMarks.{Marked, leaves_given}
-use Rattle.fir_design_faults.proofs.LoneClocks.{side_places}
+use Rattle.fir_design_faults.proofs.ClockRoles.{side_places}
 use Rattle.fir_design_faults.proofs.MarkedModules.{drives_marked, drives_once, live_in, one_back, one_of}
 
 side_leaves : (scope : TypedScope) (e : Expression) (q : LeafPath) → (side scope e q).leaves ≡ leaves_read scope e q
@@ -75,8 +75,9 @@ module _ (s : Scene) (fine : IsFineScene s) (reading : ReadsByPath s)
     pub holds : (leaf_at (module_leaves s) x).holds ≡ t.holds
     pub role : SameRole (module_leaves s) (leafed_module s).arrays (leaf_at (module_leaves s) x).role t.role
     pub gives : GivesSame s (leaf_at (module_leaves s) x).role t.role
+    pub instances : (leaf_at (module_leaves s) x).instances ≡ 0
 
-  at_get : (x : ℕ) (t : SourceLeaf) → slice_get (source_leaves s) x ≡ Some t → AtNumber x t
+  pub at_get : (x : ℕ) (t : SourceLeaf) → slice_get (source_leaves s) x ≡ Some t → AtNumber x t
   at_get x t e =
       let same = same_at leaves arrays leaves (source_leaves s) roles x t e in
       let own = step_at (HaveGifts s) leaves (source_leaves s) (module_gifts s reading fine) x t e in
@@ -88,6 +89,7 @@ module _ (s : Scene) (fine : IsFineScene s) (reading : ReadsByPath s)
         holds = same.holds;
         role = same.role;
         gives = subst (λ (l : LeafDeclared). GivesSame s l.role t.role) (sym here) own.2.gives;
+        instances = ap (λ (l : LeafDeclared). l.instances) here ∙ own.2.instances;
       }
 
   pub at_number : (x : ℕ) → x < length (module_leaves s) → (t : SourceLeaf) × AtNumber x t

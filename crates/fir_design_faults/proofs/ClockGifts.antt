@@ -12,9 +12,10 @@ use Rattle.fir_meaning.specs.Flows.{flow_under, is_source, port_flow}
 use Rattle.fir_meaning.specs.FoundTypes.{leaves_of_data}
 use Rattle.fir_meaning.specs.LeafPaths.{LeafPath, element, named}
 use Rattle.fir_meaning.specs.LeafTypes.{LeafType}
-use Rattle.fir_meaning.specs.MemoryPorts.{PortKind, reads, reads_and_writes, writes}
+use Rattle.fir_meaning.specs.MemoryPorts.{MemoryPortKind, reads, reads_and_writes, writes}
 use Rattle.fir_meaning.specs.ModuleScenes.{Declared, Scene, behind_all_ports, held_by_declared, scope_before, type_of_declared}
 use Rattle.fir_meaning.specs.ResetJoins.{numbered_module}
+use Rattle.fir_meaning.specs.SourceCircuits.{role_within}
 use Rattle.fir_meaning.specs.SourceDrives.{side}
 use Rattle.fir_meaning.specs.SourceRoles as sources
 use Rattle.fir_meaning.specs.SourceRoles.{PathReading, SourceLeaf, SourceRole, declared_sources, kind_of, latency_of, memory_role, ports_of_part, read_by, source_leaves, source_leaves_of, source_port_role, source_reset, sources_in, sources_in_block, sources_of_ports}
@@ -68,7 +69,7 @@ read_by_plain : (n : ℕ) (r : PathReading) (k : LeafPath) (u : ReadUnderWrite) 
 read_by_plain zero r k u = tt
 read_by_plain (suc n) r k u = tt
 
-port_plain : (name : List ℕ) (parts : List MemoryPart) (port field : List ℕ) (q : LeafPath) (k : Option PortKind)
+port_plain : (name : List ℕ) (parts : List MemoryPart) (port field : List ℕ) (q : LeafPath) (k : Option MemoryPortKind)
     → IsPlain (sources.port_role name parts port field q k)
 port_plain name parts port field q None = tt
 port_plain name parts port field q (Some reads) =
@@ -86,6 +87,14 @@ memory_plain name parts (named port ∷ []) = tt
 memory_plain name parts (named port ∷ element i ∷ q) = tt
 memory_plain name parts (named port ∷ named field ∷ q) =
     port_plain name parts port field q (kind_of (flat_map ports_of_part parts) port)
+
+-- what an instance gives is driven within it
+pub within_gives : (s : Scene) (r : Role) (u : SourceRole) → GivesSame s r u → GivesSame s r (role_within u)
+within_gives s (role.computed t) (sources.computed scope e q) h = h
+within_gives s (role.computed t) u h = tt
+within_gives s (role.register t r) (sources.register scope e reset q) h = h
+within_gives s (role.register t r) u h = tt
+within_gives s r u h = tt
 
 first_there : (ts : List Term) → term_at ts 0 ≡ first_term ts
 first_there [] = refl
@@ -185,7 +194,7 @@ module _ (s : Scene) where
           step_joined (HaveGifts s) (leaves_in s before x) (leaves_in_block s next z) (sources_in s before x) (sources_in_block s next z)
           (statement_gifts x before here h.0) (block_gifts z next b h.1)
 
-    pub inner_gifts : IsFineScene s
+    inner_gifts : IsFineScene s
         → AreInStep (HaveGifts s) (leaves_in_block s (behind_all_ports s.own.inside) s.own.inside.body)
         (sources_in_block s (behind_all_ports s.own.inside) s.own.inside.body)
     inner_gifts fine =

@@ -16,7 +16,7 @@ use Rattle.fir_meaning.specs.working.DesignPaths.{instance_path}
 use Rattle.fir_meaning.specs.working.Designs.{AreItemsIn, Design, IsDesignOf, IsItemIn, Item, Items, block_of, done, drive, instance, made_of, statement_of, then, when}
 use Rattle.fir_meaning.specs.working.Elaborated.{views}
 use Rattle.fir_meaning.specs.working.FlatDesigns.{array_count, array_count_all, count, count_all, count_below, flat, flat_all, flat_below, inner_leaves}
-use Rattle.fir_meaning.specs.working.FlatLeaves.{all_leaves_in, leaves_below, leaves_in}
+use Rattle.fir_meaning.specs.working.FlatLeaves.{all_leaves_in, leaves_below, leaves_in, placed_leaf}
 use Rattle.fir_meaning.specs.working.LeafBlocks.{HeldInstance, LeafBlock}
 use Rattle.fir_meaning.specs.working.LeafBlocks as over
 use Rattle.fir_meaning.specs.working.LeafModules.{LeafDeclared, LeafModule, depth_at, leaf_at, may_drive, role_at}
@@ -26,7 +26,7 @@ use Rattle.fir_meaning.specs.working.Numberings.{Numbering, number, numbering}
 use Rattle.fir_meaning.specs.working.UndrivenChoices.{drives, drives_any}
 use Rattle.fir_leaf.specs.working.NamedDesigns.{AreNamedItems, IsNamedItem, all_instances_in, instances_in}
 use Rattle.fir_leaf.specs.working.SoundDesigns.{AreWired, IsWired}
-use Rattle.fir_leaf.proofs.FlatPlaces.{At, at_left, at_right, count_is, counts_are, held_stands, inner_at}
+use Rattle.fir_leaf.proofs.FlatPlaces.{At, at_left, at_right, count_is, counts_are, held_stands, inner_at, placed_at}
 use Rattle.fir_leaf.proofs.MovedTerms.{Stands, number_more, number_own, number_port}
 use Rattle.fir_design.proofs.HeldInstances.{Held, all_held_in, held_in}
 use Rattle.fir_design.proofs.InstanceTrees.{IsTreeOf, NamedTree, trees_in, trees_of_module}
@@ -56,6 +56,7 @@ moved_member table b level W V h f p = record {
   whens = p.whens;
   deep = p.deep;
   stands = p.stands;
+  placed = p.placed;
   agrees = λ y lt e. let both = p.agrees y lt e in (both.0, f (number p.numbers y) both.1);
 }
 
@@ -142,6 +143,9 @@ module _ (circuit : CircuitTree) (names : HasNames circuit) (scenes : List Scene
   module _ (s : Scene) (trees : source.Instances) (path : LeafPath) (k first free : ℕ) (is : Items)
       (st : Stands table (numbering (leafed_module s) first free) path k (leafed_module s))
       (room : HasRoom (numbering (leafed_module s) first free) (leafed_module s) (free + length (inner_leaves (leafed_module s))))
+      (placed : (x : ℕ) → (leafed_module s).port_leaves ≤ x → x < length (module_leaves s)
+      → (array : ℕ) × (leaf_at table (number (numbering (leafed_module s) first free) x)
+      ≡ placed_leaf path k (numbering (leafed_module s) first free) array (leaf_at (module_leaves s) x)))
       (body : block_of is ≡ (leafed_module s).body)
       (may : MayDrive table (numbering (leafed_module s) first free) (leafed_module s) path k st (block_of is))
       (all : Drives table (numbering (leafed_module s) first free) (leafed_module s) path k st (all_instances_in is)
@@ -199,6 +203,7 @@ module _ (circuit : CircuitTree) (names : HasNames circuit) (scenes : List Scene
       whens = k;
       deep = omega arith;
       stands = st;
+      placed = placed;
       agrees = λ y lt e.
           let own : drives_any y (block_of is) ≡ true = ap (drives_any y) body ∙ e in
           let still = all.moved y lt (own_apart n m low room (all_instances_in is) low high y lt (may y lt own) (omega arith)) in (
@@ -344,4 +349,8 @@ module _ (circuit : CircuitTree) (names : HasNames circuit) (scenes : List Scene
         let all = items_drives is s path n k 0 k (free + own) (array + length m.arrays) (free + own) (trees_in trees) st room (omega arith) (omega arith) e.2 w
         called once may (λ q j. turned s i q (subst (λ b. In (all_held_in 0 b) q) body j)) (inner_at table path k first free array m is at)
         (subst (λ b. AreInStep (IsTreeOf scenes s) (all_held_in 0 b) (trees_in trees)) (sym body) beside) in
-        made_drives s trees path k first free is st room body may all))
+        let rest = all_leaves_in path k m n (free + own) (array + length m.arrays) is in
+        let placed : (x : ℕ) → m.port_leaves ≤ x → x < length (module_leaves s)
+        → (z : ℕ) × (leaf_at table (number n x) ≡ placed_leaf path k n z (leaf_at (module_leaves s) x)) =
+        λ x le lt. (array, ap (leaf_at table) (number_own n x le) ∙ (placed_at table path k first free array m rest x at le lt).1) in
+        made_drives s trees path k first free is st room placed body may all))

@@ -8,7 +8,7 @@ use Rattle.fir_base.proofs.Each.{all_at}
 use Rattle.fir_base.proofs.Members.{in_either, in_map_from}
 use Rattle.fir_ast.specs.declared.place.Place.{Place}
 use Rattle.fir_ast.specs.Expressions.{Expression, literal, mux, operation, reference, validif}
-use Rattle.fir_ast.specs.Statements.{Block, Sink, Statement, connect, done, instance, invalid, memory, node, partial_connect, register, skip, then, when, wire}
+use Rattle.fir_ast.specs.Statements.{Block, SinkReference, Statement, connect, done, instance, invalid, memory, node, partial_connect, register, skip, then, when, wire}
 use Rattle.fir_ast.specs.Types.{DataType}
 use Rattle.fir_meaning.specs.ConnectPairs.{Pair, pairs, partial_pairs}
 use Rattle.fir_meaning.specs.Equivalence.{is_connectable, is_partly_connectable}
@@ -61,7 +61,7 @@ single s c h d (inl e) q j = h q (subst (λ (x : Drive). In x.driven.leaves q) (
 single s c h d (inr i) q j = absurd i
 
 module _ (s : Scene) (f : IsFineScene s) (reading : ReadsByPath s) where
-  module _ (scope : TypedScope) (front : Begins scope (whole_scope s)) (x : Sink) (z : Reached) (h : Reaches scope x z) (k : ℕ) (l : TypeLeaf)
+  module _ (scope : TypedScope) (front : Begins scope (whole_scope s)) (x : SinkReference) (z : Reached) (h : Reaches scope x z) (k : ℕ) (l : TypeLeaf)
       (is : slice_get (type_leaves z.data_type) k ≡ Some l) where
     -- a leaf that the reference names, by its number
     record IsNamed (q : LeafPath) : Type 0 where
@@ -118,7 +118,7 @@ module _ (s : Scene) (f : IsFineScene s) (reading : ReadsByPath s) where
     right_driven : (e : Expression) (t : DataType) (k : ℕ) (l : TypeLeaf) → HasType scope e t → slice_get (type_leaves t) k ≡ Some l
         → MayBeDrivenIn (reached_by scope e) l → (q : LeafPath) → In (side scope e l.path).leaves q → IsDriven s q
     right_driven (reference p n ps) t k l h is may q i =
-        let x : Sink = record { place = p; name = n; parts = ps } in
+        let x : SinkReference = record { place = p; name = n; parts = ps } in
         let reaches : Reaches scope x h.1 = (h.0, h.2, h.3) in
         let found : reached_by scope (reference p n ps) ≡ Some h.1 = ap (λ c. c.has) (found_sink scope x h.1 reaches) in
         named_driven scope front x h.1 reaches k l (subst (λ u. slice_get (type_leaves u) k ≡ Some l) h.4 is)
@@ -128,7 +128,7 @@ module _ (s : Scene) (f : IsFineScene s) (reading : ReadsByPath s) where
     right_driven (mux p c a b) t k l h is may q i = absurd i
     right_driven (validif p c a) t k l h is may q i = absurd i
 
-    module _ (p : Place) (x : Sink) (e : Expression) (left : Reached) (t : DataType) (reaches : Reaches (scope_before s v.before) x left)
+    module _ (p : Place) (x : SinkReference) (e : Expression) (left : Reached) (t : DataType) (reaches : Reaches (scope_before s v.before) x left)
         (has : HasType (scope_before s v.before) e t) where
       pair_driven : (way : List Bool) (n : LeafPair) (pair : Pair) → IsPair (type_leaves left.data_type) (type_leaves t) n pair
           → PairFlows left (reached_by scope e) pair → (q : LeafPath) → In (pair_drive s v way p (sink_expression x) e pair).driven.leaves q → IsDriven s q
@@ -161,7 +161,7 @@ module _ (s : Scene) (f : IsFineScene s) (reading : ReadsByPath s) where
 
     connect_driven : (fits : DataType → DataType → Bool) (numbers_of : DataType → DataType → List LeafPair) (pairs_of : DataType → DataType → List Pair)
         → ((t u : DataType) → fits t u ≡ true → ArePairs (IsPair (type_leaves t) (type_leaves u)) (numbers_of t u) (pairs_of t u)) → (p : Place)
-        (x : Sink) (e : Expression) → ConnectIsLegal fits pairs_of scope x e
+        (x : SinkReference) (e : Expression) → ConnectIsLegal fits pairs_of scope x e
         → DriveLeaves s (pair_drives s v v.way p (sink_expression x) e (pairs_of (type_here scope (sink_expression x)) (type_here scope e)))
     connect_driven fits numbers_of pairs_of alike p x e h =
         let left : type_here scope (sink_expression x) ≡ h.0.data_type = found_here scope (sink_expression x) h.0.data_type (sink_has_type scope x h.0 h.2) in
@@ -169,7 +169,7 @@ module _ (s : Scene) (f : IsFineScene s) (reading : ReadsByPath s) where
         rw (left, right)
         (pairs_driven p x e h.0 h.1 h.2 h.3 v.way (numbers_of h.0.data_type h.1) (pairs_of h.0.data_type h.1) (alike h.0.data_type h.1 h.4) h.5)
 
-    invalid_driven : (p : Place) (x : Sink) (z : Reached) → Reaches scope x z → (way : List Bool) (ls : List TypeLeaf) (n : ℕ)
+    invalid_driven : (p : Place) (x : SinkReference) (z : Reached) → Reaches scope x z → (way : List Bool) (ls : List TypeLeaf) (n : ℕ)
         → ((i : ℕ) (l : TypeLeaf) → slice_get ls i ≡ Some l → slice_get (type_leaves z.data_type) (n + i) ≡ Some l)
         → DriveLeaves s (invalid_drives s v way p (sink_expression x) ls)
     invalid_driven p x z h way [] n stand = λ d i. absurd i

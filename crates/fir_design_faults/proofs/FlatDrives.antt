@@ -9,7 +9,8 @@ use Rattle.fir_meaning.specs.LeafPaths.{LeafPath, named}
 use Rattle.fir_meaning.specs.SourceDependence.{PlacedModule, modules_of_design, modules_of_instances}
 use Rattle.fir_meaning.specs.SourceDesigns.{Instances, held, no_instances}
 use Rattle.fir_meaning.specs.working.Choices.{lives_all}
-use Rattle.fir_meaning.specs.working.LeafBlocks.{HeldInstance, LeafBlock, LeafStatement, joined}
+use Rattle.fir_meaning.specs.working.FlatLeaves.{placed_leaf}
+use Rattle.fir_meaning.specs.working.LeafBlocks.{HeldInstance, LeafBlock, joined}
 use Rattle.fir_meaning.specs.working.LeafBlocks as over
 use Rattle.fir_meaning.specs.working.LeafModules.{LeafDeclared, LeafModule, depth_at, leaf_at, may_drive, role_at}
 use Rattle.fir_meaning.specs.working.LeafedModules.{leafed_module, module_leaves}
@@ -82,6 +83,10 @@ module _ (table : List LeafDeclared) where
     pub whens : ℕ
     pub deep : level ≤ whens
     pub stands : Stands table numbers h.at whens (leafed_module h.scene)
+    -- its leaves that are no ports
+    pub placed :
+        (x : ℕ) → (leafed_module h.scene).port_leaves ≤ x → x < length (module_leaves h.scene)
+        → (array : ℕ) × (leaf_at table (number numbers x) ≡ placed_leaf h.at whens numbers array (leaf_at (module_leaves h.scene) x))
     pub agrees :
         (y : ℕ) → y < length (module_leaves h.scene) → drives_any y (leafed_module h.scene).body ≡ true
         → Agrees b level numbers (leafed_module h.scene) y × Where (number numbers y)
@@ -94,6 +99,7 @@ module _ (table : List LeafDeclared) where
     whens = p.whens;
     deep = p.deep;
     stands = p.stands;
+    placed = p.placed;
     agrees = λ y lt e.
         let both = p.agrees y lt e in
         let x = number p.numbers y in
@@ -113,6 +119,7 @@ module _ (table : List LeafDeclared) where
     whens = p.whens;
     deep = p.deep;
     stands = p.stands;
+    placed = p.placed;
     agrees = λ y lt e.
         let both = p.agrees y lt e in
         let x = number p.numbers y in
@@ -134,6 +141,7 @@ module _ (table : List LeafDeclared) where
     whens = q.whens;
     deep = omega (arith, q.deep);
     stands = q.stands;
+    placed = q.placed;
     agrees = λ y lt e.
         let both = q.agrees y lt e in
         let x = number q.numbers y in
@@ -155,6 +163,7 @@ module _ (table : List LeafDeclared) where
     whens = q.whens;
     deep = omega (arith, q.deep);
     stands = q.stands;
+    placed = q.placed;
     agrees = λ y lt e.
         let both = q.agrees y lt e in
         let x = number q.numbers y in

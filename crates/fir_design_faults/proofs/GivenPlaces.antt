@@ -3,7 +3,7 @@ use Rattle.std.proofs.Common.{◌≡◌, ℕ, zero, suc, ◌+◌, ◌<◌, List,
 use Rattle.std.specs.List.{AllByRecursion}
 use Rattle.std.proofs.lemmas.Option.{get_or_from_slice_get, none-some}
 use Rattle.fir_ast.specs.Expressions.{Expression, reference, literal, operation, mux, validif, Parts, no_parts, subfield, subindex, subaccess}
-use Rattle.fir_ast.specs.Statements.{Sink}
+use Rattle.fir_ast.specs.Statements.{SinkReference}
 use Rattle.fir_ast.specs.Types.{DataType}
 use Rattle.fir_meaning.specs.ExpressionPlaces.{place_of}
 use Rattle.fir_meaning.specs.ModuleScenes.{Scene}
@@ -59,7 +59,7 @@ module _ (scope : TypedScope) where
       → (named_target scope name).data_type ≡ begins.data_type
   name_typed name begins h = let is = reached_type (known scope name) begins h in rw is refl
 
-  pub sink_places : (sink : Sink) (r : Reached) → Reaches scope sink r → index_places (target_of scope sink).picks ≡ tree.index_places sink.parts
+  pub sink_places : (sink : SinkReference) (r : Reached) → Reaches scope sink r → index_places (target_of scope sink).picks ≡ tree.index_places sink.parts
   sink_places sink r h =
       places_along sink.parts h.0 r (named_target scope sink.name) h.2 (name_typed sink.name h.0 h.1)
       ∙ ap (λ ps. ps ++ tree.index_places sink.parts) (whole_places (leaves_ahead scope sink.name) (type_of_known (known scope sink.name)))
@@ -115,7 +115,7 @@ module _ (s : Scene) (reading : ReadsByPath s) (scope : TypedScope) (begins : Be
   leaf_given None ps k t g leaves within picked places = record { leaves = leaves; within = within; picked = picked; places = places }
   leaf_given (Some b) ps k t g leaves within picked places = record { leaves = leaves; within = within; picked = picked; places = places }
 
-  reference_given : (sink : Sink) (r : Reached) (k : ℕ) (l : TypeLeaf) (g : Side) → Reaches scope sink r → slice_get (type_leaves r.data_type) k ≡ Some l
+  reference_given : (sink : SinkReference) (r : Reached) (k : ℕ) (l : TypeLeaf) (g : Side) → Reaches scope sink r → slice_get (type_leaves r.data_type) k ≡ Some l
       → leaves_named scope sink.name sink.parts l.path ≡ g.leaves → has_access sink.parts ≡ g.is_picked → tree.index_places sink.parts ≡ g.index_places
       → SameGiven s (term_at (leaf_terms (target_of scope sink) 0 (type_leaves (target_of scope sink).data_type)) k) g
   reference_given sink r k l g h i leaves picked places =

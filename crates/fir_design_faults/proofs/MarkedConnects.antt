@@ -2,7 +2,7 @@
 use Rattle.std.proofs.Common.{◌≡◌, ℕ, ◌<◌, List, [], ◌∷◌, ◌++◌, Bool, true, false, if◌then◌else◌, length, Some, refl, sym, ap₂, ◌∙◌}
 use Rattle.fir_ast.specs.declared.place.Place.{Place}
 use Rattle.fir_ast.specs.Expressions.{Expression}
-use Rattle.fir_ast.specs.Statements.{Sink, Statement}
+use Rattle.fir_ast.specs.Statements.{SinkReference, Statement}
 use Rattle.fir_ast.specs.Types.{DataType}
 use Rattle.fir_meaning.specs.ConnectPairs.{Pair}
 use Rattle.fir_meaning.specs.working.LeafBlocks as over
@@ -37,7 +37,7 @@ module _ (s : Scene) (depth x : ℕ) (reading : ReadsByPath s) (lt : x < length 
   abbrev scope : TypedScope
   scope = scope_before s before
 
-  module _ (p : Place) (sink : Sink) (e : Expression) (left : Reached) (t : DataType) (reaches : Reaches (scope_before s before) sink left)
+  module _ (p : Place) (sink : SinkReference) (e : Expression) (left : Reached) (t : DataType) (reaches : Reaches (scope_before s before) sink left)
       (has : HasType (scope_before s before) e t) where
     abbrev both : Sides
     both = sides scope sink e
@@ -93,7 +93,7 @@ module _ (s : Scene) (depth x : ℕ) (reading : ReadsByPath s) (lt : x < length 
 
   pub connect_beside : (fits : DataType → DataType → Bool) (numbers_of : DataType → DataType → List LeafPair) (pairs_of : DataType → DataType → List Pair)
       → ((t u : DataType) → fits t u ≡ true → ArePairs (IsPair (type_leaves t) (type_leaves u)) (numbers_of t u) (pairs_of t u)) → (p : Place)
-      (sink : Sink) (e : Expression) → ConnectIsLegal fits pairs_of (scope_before s before) sink e
+      (sink : SinkReference) (e : Expression) → ConnectIsLegal fits pairs_of (scope_before s before) sink e
       → Beside s depth x under k own (connect_block numbers_of (scope_before s before) p sink e)
       (connect_drives s (visit own before under statement) pairs_of p (sink_expression sink) e)
   connect_beside fits numbers_of pairs_of alike p sink e h =

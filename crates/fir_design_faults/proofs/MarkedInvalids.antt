@@ -3,7 +3,7 @@ use Rattle.std.proofs.Common.{◌≡◌, ℕ, zero, suc, ◌+◌, ◌<◌, List,
 use Rattle.std.specs.List.{AllByRecursion}
 use Rattle.std.proofs.lemmas.Bool.{and_right}
 use Rattle.fir_ast.specs.declared.place.Place.{Place}
-use Rattle.fir_ast.specs.Statements.{Sink, Statement}
+use Rattle.fir_ast.specs.Statements.{SinkReference, Statement}
 use Rattle.fir_meaning.specs.working.LeafBlocks.{LeafBlock}
 use Rattle.fir_meaning.specs.working.LeafBlocks as over
 use Rattle.fir_meaning.specs.working.Leafed.{target_of}
@@ -61,7 +61,7 @@ first_reached b (pick ps p i n each) = by n (first_reached b ps)
     )
 
 module _ (s : Scene) (fine : IsFineScene s) (depth x : ℕ) (reading : ReadsByPath s) (lt : x < length (module_leaves s)) (under : List Branch) (k : ℕ)
-    (before : Before) (own : List Bool) (statement : Statement) (begins : Begins (scope_before s before) (scope_of_module s)) (p : Place) (sink : Sink)
+    (before : Before) (own : List Bool) (statement : Statement) (begins : Begins (scope_before s before) (scope_of_module s)) (p : Place) (sink : SinkReference)
     (r : Reached) (reaches : Reaches (scope_before s before) sink r) where
   abbrev here : Visit
   here = visit own before under statement

@@ -6,13 +6,12 @@ use Rattle.std.proofs.lemmas.Option.{same_Some}
 use Rattle.fir_base.specs.Lists.{In}
 use Rattle.fir_base.proofs.Members.{in_left, in_map, in_map_from, in_right}
 use Rattle.fir_ast.specs.Circuits.{CircuitTree}
-use Rattle.fir_ast.specs.declared.fault.FirFault.{FirFault}
-use Rattle.fir_ast.specs.declared.fault.FirFault.TheVariants.{MemoryClocks}
+use Rattle.fir_ast.specs.Faults.{Fault}
 use Rattle.fir_ast.specs.Statements.{PlacedName}
 use Rattle.fir_meaning.specs.LeafPaths.{LeafPath, named, path_text}
 use Rattle.fir_meaning.specs.ModuleScenes.{Scene}
 use Rattle.fir_meaning.specs.SizedDeclarations.{numbered_modules}
-use Rattle.fir_meaning.specs.SourceMemoryClocks.{HasClock, ShowsMemoryClocks}
+use Rattle.fir_meaning.specs.SourceMemoryClocks.{HasClock, ShowsMemoryClocks, memory_clocks_fault}
 use Rattle.fir_meaning.specs.SourceRoles.{source_leaves}
 use Rattle.fir_meaning.specs.TypeGroup.{type_faults}
 use Rattle.fir_meaning.specs.working.LeafedModules.{leafed_module}
@@ -71,7 +70,7 @@ module _ (c : CircuitTree) (s : Scene) (names : HasNames c) (types : type_faults
   abbrev IsLeaf : ℕ → Type 0
   IsLeaf = IsClockLeaf (module_circuit (leafed_module s))
 
-  shown_by_path : (at : LeafPath) (f : FirFault) → numbered.ShowsMemoryClocks (leafed_module s) at f → ShowsMemoryClocks (record { at = at; scene = s }) f
+  shown_by_path : (at : LeafPath) (f : Fault) → numbered.ShowsMemoryClocks (leafed_module s) at f → ShowsMemoryClocks (record { at = at; scene = s }) f
   shown_by_path at f h =
       let o = (module_match c s names types i).to h.memory h.declared in
       let named_is : o.name ≡ h.name = same_Some o.name h.name (sym o.match.declared ∙ h.is_name) in
@@ -117,11 +116,11 @@ module _ (c : CircuitTree) (s : Scene) (names : HasNames c) (types : type_faults
         is =
             h.is
             ∙ ap (λ (n : PlacedName).
-            MemoryClocks n.place (path_text (at ++ named n.name ∷ [])) (path_text (at ++ path_in s h.clock)) (path_text (at ++ path_in s h.other_clock)))
+            memory_clocks_fault n.place (path_text (at ++ named n.name ∷ [])) (path_text (at ++ path_in s h.clock)) (path_text (at ++ path_in s h.other_clock)))
             (sym named_is);
       }
 
-  shown_by_number : (at : LeafPath) (f : FirFault) → ShowsMemoryClocks (record { at = at; scene = s }) f → numbered.ShowsMemoryClocks (leafed_module s) at f
+  shown_by_number : (at : LeafPath) (f : Fault) → ShowsMemoryClocks (record { at = at; scene = s }) f → numbered.ShowsMemoryClocks (leafed_module s) at f
   shown_by_number at f h =
       let o = (module_match c s names types i).back h.visit h.place h.name h.parts h.among h.is_memory in
       let two = parted (path_in s) o.0.port_clocks (h.before ++ h.one ∷ h.between) h.other h.after (o.2.clocks ∙ h.ports) in
@@ -164,9 +163,9 @@ module _ (c : CircuitTree) (s : Scene) (names : HasNames c) (types : type_faults
         is =
             h.is
             ∙ ap₂ (λ (a b : LeafPath).
-            MemoryClocks h.name.place (path_text (at ++ named h.name.name ∷ [])) (path_text (at ++ a)) (path_text (at ++ b))) (sym r.1) (sym q.1);
+            memory_clocks_fault h.name.place (path_text (at ++ named h.name.name ∷ [])) (path_text (at ++ a)) (path_text (at ++ b))) (sym r.1) (sym q.1);
       }
 
-  pub memory_faults_same : (at : LeafPath) (f : FirFault)
+  pub memory_faults_same : (at : LeafPath) (f : Fault)
       → numbered.ShowsMemoryClocks (leafed_module s) at f ↔ ShowsMemoryClocks (record { at = at; scene = s }) f
   memory_faults_same at f = (shown_by_path at f, shown_by_number at f)

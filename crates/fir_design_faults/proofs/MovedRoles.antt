@@ -22,7 +22,7 @@ module _ (n : Numbering) (m : LeafModule) (ports : n.ports ≡ m.port_leaves) (o
       (reads_moved n m ports outer inner same i k)
   if_moved false c i h k = refl
 
-  reset_moved : (r : Option LeafReset) → MayResetReads m r → map outer (reset_reads (option_map (moved_reset n) r)) ≡ map inner (reset_reads r)
+  pub reset_moved : (r : Option LeafReset) → MayResetReads m r → map outer (reset_reads (option_map (moved_reset n) r)) ≡ map inner (reset_reads r)
   reset_moved None h = refl
   reset_moved (Some r) h = if_moved r.is_async r.condition r.init h.condition h.init
 

@@ -10,7 +10,7 @@ use Rattle.fir_ast.specs.View.{fields_of}
 use Rattle.fir_meaning.specs.HeldTypes.{held_field_types, held_types}
 use Rattle.fir_meaning.specs.LeafPaths.{LeafPath, named}
 use Rattle.fir_meaning.specs.LeafTypes.{LeafType, a_clock}
-use Rattle.fir_meaning.specs.MemoryPorts.{PortKind, reads, reads_and_writes, writes}
+use Rattle.fir_meaning.specs.MemoryPorts.{MemoryPortKind, reads, reads_and_writes, writes}
 use Rattle.fir_meaning.specs.MemoryTypes.{flipped_fields, mask_type, port_fields_of, reader_type, readwriter_type, writer_type}
 use Rattle.fir_meaning.specs.ModuleScenes.{Declared, Scene}
 use Rattle.fir_meaning.specs.SizedTypes.{numbered, numbered_fields}
@@ -33,7 +33,7 @@ use Rattle.fir_design.proofs.StandingLists.{Stands, stands_left, stands_right, s
 use Rattle.fir_source_faults.specs.working.ReadsByPath.{path_in}
 
 -- what the ports of these kinds hold, of data with so many leaves: the third leaf of each is a clock
-abbrev pub ClocksIn : ℕ → List PortKind → List LeafType → Type 0
+abbrev pub ClocksIn : ℕ → List MemoryPortKind → List LeafType → Type 0
 ClocksIn d [] hs = Unit {0}
 ClocksIn d (k ∷ ks) hs =
     (one : List LeafType) × (rest : List LeafType) × (hs ≡ one ++ rest) × (length one ≡ port_size d k) × (slice_get one 2 ≡ Some a_clock) × ClocksIn d ks rest
@@ -63,8 +63,8 @@ module _ (w : Widths) (p : Place) (t : DataType) (words : ℕ) (counted : (u : D
   readwriter_long : length (held_types w (numbered None (readwriter_type p t words))) ≡ port_size (leaf_count t) reads_and_writes
   readwriter_long = let e = counted (readwriter_type p t words) in omega (arith, e, mask_counted t)
 
-  part_clocks : (u : DataType) (k : PortKind) → length (held_types w (numbered None u)) ≡ port_size (leaf_count t) k
-      → slice_get (held_types w (numbered None u)) 2 ≡ Some a_clock → (ns : List PlacedName) (more : List (Fields → Fields)) (ks : List PortKind)
+  part_clocks : (u : DataType) (k : MemoryPortKind) → length (held_types w (numbered None u)) ≡ port_size (leaf_count t) k
+      → slice_get (held_types w (numbered None u)) 2 ≡ Some a_clock → (ns : List PlacedName) (more : List (Fields → Fields)) (ks : List MemoryPortKind)
       → ClocksIn (leaf_count t) ks (held_of more) → ClocksIn (leaf_count t) (map (λ n. k) ns ++ ks) (held_of (flipped_fields u ns ++ more))
   part_clocks u k long third [] more ks h = h
   part_clocks u k long third (n ∷ ns) more ks h =
@@ -100,7 +100,7 @@ module _ (s : Scene) where
   HoldFrom b hs =
       (j : ℕ) (h : LeafType) → slice_get hs j ≡ Some h → (b + j < length (module_leaves s)) × ((leaf_at (module_leaves s) (b + j)).holds ≡ h)
 
-  pub are_clocks : (d b : ℕ) (ks : List PortKind) (hs : List LeafType) → HoldFrom b hs → ClocksIn d ks hs
+  pub are_clocks : (d b : ℕ) (ks : List MemoryPortKind) (hs : List LeafType) → HoldFrom b hs → ClocksIn d ks hs
       → AllByRecursion (IsClockLeaf (module_circuit (leafed_module s))) (clocks_from d b ks)
   are_clocks d b [] hs held h = tt
   are_clocks d b (k ∷ ks) hs held h =

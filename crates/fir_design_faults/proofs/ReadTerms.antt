@@ -3,7 +3,7 @@ use Rattle.std.proofs.Common.{◌≡◌, ℕ, zero, suc, ◌+◌, ◌≤◌, Lis
 use Rattle.std.specs.List.{AllByRecursion}
 use Rattle.fir_ast.specs.Types.{DataType, uint}
 use Rattle.fir_ast.specs.Expressions.{Expression, reference, literal, operation, mux, validif, Parts, no_parts, subfield, subindex, subaccess, Expressions, no_expressions, expression}
-use Rattle.fir_ast.specs.Statements.{Sink}
+use Rattle.fir_ast.specs.Statements.{SinkReference}
 use Rattle.fir_meaning.specs.ExpressionPlaces.{place_of}
 use Rattle.fir_meaning.specs.Reaching.{Reached, known_reached, at_field, at_element, at_any, field_of_type, vector_of_type}
 use Rattle.fir_meaning.specs.TypeLeaves.{TypeLeaf, type_leaves, leaf_count}
@@ -109,5 +109,5 @@ module _ (m : LeafModule) where
     pub condition_in : (e : Expression) (t : DataType) → HasType scope e t → AllTermIn m (first_term (terms scope e))
     condition_in e t h = first_in (terms scope e) (terms_in e t h)
 
-    pub sink_in : (s : Sink) (r : Reached) → Reaches scope s r → IsTyped m (target_of scope s) r.data_type
+    pub sink_in : (s : SinkReference) (r : Reached) → Reaches scope s r → IsTyped m (target_of scope s) r.data_type
     sink_in s r h = parts_in s.parts h.0 r (named_target scope s.name) h.2 (name_in s.name h.0 h.1)

@@ -7,7 +7,7 @@ use Rattle.fir_meaning.specs.TypeLeaves.{TypeLeaf}
 use Rattle.fir_meaning.specs.ModuleScenes.{Declared}
 use Rattle.fir_meaning.specs.working.LeafedModules.{leaves_from, role_in}
 use Rattle.fir_meaning.specs.working.LeafMemories.{LeafMemory, enable, mode, port_roles, port_size, read_role, read_roles, roles_from, sinks}
-use Rattle.fir_meaning.specs.MemoryPorts.{PortKind, reads, reads_and_writes, writes}
+use Rattle.fir_meaning.specs.MemoryPorts.{MemoryPortKind, reads, reads_and_writes, writes}
 use Rattle.fir_meaning.specs.working.LeafModules as over
 use Rattle.fir_meaning.specs.working.LeafModules.{LeafDeclared, LeafModule, Need, Role}
 use Rattle.fir_meaning.specs.LeafTypes.{LeafType}
@@ -47,7 +47,7 @@ module _ (m : LeafModule) where
   all_read x needs b i zero = tt
   all_read x needs b i (suc k) = (read_reads x needs b i, all_read x needs b (suc i) k)
 
-  port_reads : (x : LeafMemory) (b : ℕ) (p : PortKind) → NoTerms (port_roles x b p)
+  port_reads : (x : LeafMemory) (b : ℕ) (p : MemoryPortKind) → NoTerms (port_roles x b p)
   port_reads x b reads =
       all_joined (RoleReads m) (sinks 3) (read_roles x (enable b ∷ []) b 0 x.data_leaves) (sinks_read 3)
       (all_read x (enable b ∷ []) b 0 x.data_leaves)
@@ -59,7 +59,7 @@ module _ (m : LeafModule) where
       all_joined (RoleReads m) (sinks 3) (these ++ more) (sinks_read 3)
       (all_joined (RoleReads m) these more (all_read x needs b 0 x.data_leaves) (sinks_read (1 + 2 * x.data_leaves)))
 
-  pub ports_read : (x : LeafMemory) (b : ℕ) (ps : List PortKind) → NoTerms (roles_from x b ps)
+  pub ports_read : (x : LeafMemory) (b : ℕ) (ps : List MemoryPortKind) → NoTerms (roles_from x b ps)
   ports_read x b [] = tt
   ports_read x b (p ∷ ps) =
       let next = b + port_size x.data_leaves p in

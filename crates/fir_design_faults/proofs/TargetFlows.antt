@@ -8,7 +8,7 @@ use Rattle.fir_base.proofs.Elements.{get_in}
 use Rattle.fir_base.proofs.Members.{in_flat_map, in_flat_map_from, in_left, in_map}
 use Rattle.fir_ast.specs.declared.place.Place.{Place}
 use Rattle.fir_ast.specs.Expressions.{Parts, no_parts, subaccess, subfield, subindex}
-use Rattle.fir_ast.specs.Statements.{Sink}
+use Rattle.fir_ast.specs.Statements.{SinkReference}
 use Rattle.fir_ast.specs.Types.{DataType, bundle, vector}
 use Rattle.fir_meaning.specs.ExpressionPlaces.{place_of}
 use Rattle.fir_meaning.specs.Flows.{Flow, both, flow_under, is_source, sink, source}
@@ -246,5 +246,5 @@ module _ (s : Scene) (f : IsFineScene s) where
         let index = first_term (terms scope e) in
         parts_flows rest (at_any begins (h.1, h.2)) z (picked_target (place_of e) index r) h.5 (picked_flows (place_of e) index h.1 h.2 r begins h.4 flows)
 
-    pub sink_flows : (x : Sink) (z : Reached) → Reaches scope x z → Flows (target_of scope x) z
+    pub sink_flows : (x : SinkReference) (z : Reached) → Reaches scope x z → Flows (target_of scope x) z
     sink_flows x z h = parts_flows x.parts h.0 z (named_target scope x.name) h.2 (named_flows scope front x.name h.0 h.1)

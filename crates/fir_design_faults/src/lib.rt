@@ -7,6 +7,7 @@ mod clock_laws;
 mod drive_laws;
 
 pub use clock_laws::{
-    clocks_have_names_by_path, lone_clock_faults_stand_by_path, memory_clocks_stand_by_path,
+    clock_faults_stand_by_path, clocks_have_names_by_path, memory_clocks_stand_by_path,
+    memory_faults_stand_by_path,
 };
 pub use drive_laws::live_reads_stand_by_path;

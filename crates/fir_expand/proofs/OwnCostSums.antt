@@ -1,14 +1,14 @@
 -- What a module costs without its instances' modules is the sum over its notes, over what it declares, and over its statements.
 use Rattle.std.proofs.Common.{◌≡◌, ℕ, ◌+◌, List, [], ◌∷◌, ◌++◌, map, Bool, true, false, Option, Some, None, refl, ap, ◌∙◌, arith}
 use Rattle.fir_ast.specs.Expressions.{Expression, reference, literal, operation, mux, validif, Parts, no_parts, subfield, subindex, subaccess, Expressions, no_expressions, expression}
-use Rattle.fir_ast.specs.Statements.{PlacedName, Sink, Reset, Statement, wire, register, node, instance, memory, when, connect, partial_connect, invalid, skip, Block, done, then}
+use Rattle.fir_ast.specs.Statements.{PlacedName, SinkReference, Reset, Statement, wire, register, node, instance, memory, when, connect, partial_connect, invalid, skip, Block, done, then}
 use Rattle.fir_ast.specs.Circuits.{PortTree, ModuleTree}
 use Rattle.fir_meaning.specs.TypeLeaves.{leaf_count}
 use Rattle.fir_meaning.specs.Components as component
 use Rattle.fir_meaning.specs.Components.{Component}
 use Rattle.fir_meaning.specs.Visibility.{Before, declaration_at, with_declaration, opened, reopened, behind, behind_block, behind_ports, at_head}
 use Rattle.fir_meaning.specs.TypedScopes.{Known, TypedScope}
-use Rattle.fir_meaning.specs.ExpressionTypes.{number_type}
+use Rattle.fir_meaning.specs.ExpressionTypes.{number_data_type}
 use Rattle.fir_meaning.specs.ComponentTypes.{component_type, known_as}
 use Rattle.fir_meaning.specs.TypeGroup.{scope_at}
 use Rattle.fir_types.specs.working.Notes.{Note, expression_note, expression_notes, notes_of_each, part_notes, reference_note, reference_notes}
@@ -30,7 +30,7 @@ noted_joined (n ∷ ns) more = omega (arith, noted_joined ns more)
 noted_then : (ns : List Note) (n : Note) → noted (ns ++ n ∷ []) ≡ noted ns + leaves_noted n
 noted_then ns n = omega (arith, noted_joined ns (n ∷ []))
 
-number_leaves : (signed : Bool) (width : Option ℕ) → leaf_count (number_type signed width) ≡ 1
+number_leaves : (signed : Bool) (width : Option ℕ) → leaf_count (number_data_type signed width) ≡ 1
 number_leaves true width = refl
 number_leaves false width = refl
 
@@ -39,7 +39,7 @@ module _ (scope : TypedScope) where
   mutual
     size_noted : (e : Expression) → noted (expression_notes scope e) ≡ size scope e
     size_noted (reference p n ps) =
-        let s : Sink = record { place = p; name = n; parts = ps } in
+        let s : SinkReference = record { place = p; name = n; parts = ps } in
         omega (arith, noted_then (part_notes scope ps) (reference_note scope s), reference_leaves scope s, parts_noted ps)
     size_noted (literal l) = omega (arith, number_leaves l.signed l.width)
     size_noted (operation p op es ks) =
@@ -78,14 +78,14 @@ module _ (scope : TypedScope) where
     each_noted no_expressions = refl
     each_noted (expression e es) = omega (arith, noted_joined (expression_notes scope e) (notes_of_each scope es), size_noted e, each_noted es)
 
-  sink_noted : (s : Sink) → noted (reference_notes scope s) ≡ size_of_sink scope s
+  sink_noted : (s : SinkReference) → noted (reference_notes scope s) ≡ size_of_sink scope s
   sink_noted s = omega (arith, noted_then (part_notes scope s.parts) (reference_note scope s), reference_leaves scope s, parts_noted s.parts)
 
   reset_noted : (r : Option Reset) → noted (reset_notes scope r) ≡ size_of_reset scope r
   reset_noted None = refl
   reset_noted (Some r) = omega (arith, noted_joined (expression_notes scope r.condition) (expression_notes scope r.init), size_noted r.condition, size_noted r.init)
 
-  connect_noted : (s : Sink) (e : Expression) → noted (reference_notes scope s ++ expression_notes scope e) ≡ size_of_sink scope s + size scope e
+  connect_noted : (s : SinkReference) (e : Expression) → noted (reference_notes scope s ++ expression_notes scope e) ≡ size_of_sink scope s + size scope e
   connect_noted s e = omega (arith, noted_joined (reference_notes scope s) (expression_notes scope e), sink_noted s, size_noted e)
 
 -- what is declared

@@ -6,7 +6,7 @@ use Rattle.std.proofs.lemmas.Option.{none-some, same_Some}
 use Rattle.fir_ast.specs.declared.place.Place.{Place}
 use Rattle.fir_ast.specs.Types.{DataType}
 use Rattle.fir_ast.specs.Expressions.{Parts, no_parts, subfield, subindex, subaccess}
-use Rattle.fir_ast.specs.Statements.{Sink}
+use Rattle.fir_ast.specs.Statements.{SinkReference}
 use Rattle.fir_meaning.specs.ExpressionPlaces.{place_of}
 use Rattle.fir_meaning.specs.KindFaults.{out_of_range}
 use Rattle.fir_meaning.specs.LeafPaths.{named}
@@ -132,7 +132,7 @@ known_typed k t b typed is =
     ap (λ (z : Reached). z.data_type) (same_Some reached b same)
 
 -- of what a name with its parts reaches, if of anything
-module _ (scope : TypedScope) (s : Sink) where
+module _ (scope : TypedScope) (s : SinkReference) where
   of_known : (r : Reached) (k : Known) (t : Option DataType) → k.data_type ≡ t → known scope s.name ≡ Some k → (reaching scope s).has ≡ Some r
       → leaves_noted (of_reference (option_map (λ x. range_behind x s.parts) (option_map (whole_range (position_of scope s.name)) t)))
       ≡ leaf_count r.data_type * picks_where k.data_type s.parts

@@ -1,7 +1,7 @@
 //! The pass to ground leaves.
 
 ghost use Rattle.std.specs.Prelude.{◌≡◌};
-ghost use Rattle.fir_pass.specs.Faults.{fault_of};
+ghost use Rattle.fir_ast.specs.working.CodeFaults.{fault_of};
 
 use crate::expanded::expand;
 use fir_ast::FirFault;

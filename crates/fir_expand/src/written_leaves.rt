@@ -1,7 +1,8 @@
 //! The leaves of types as the text writes them.
 
 ghost use Rattle.std.specs.Prelude.{◌≡◌, map};
-ghost use Rattle.fir_ast.specs.View.{fields_of, type_of};
+ghost use Rattle.fir_ast.specs.View.{fields_of};
+ghost use Rattle.fir_ast.specs.working.TypeViews.{type_of};
 ghost use Rattle.fir_ast.specs.working.BundleText.{field_of};
 ghost use Rattle.fir_meaning.specs.TypeLeaves.{field_count, leaf_count};
 ghost use Rattle.fir_type_table.specs.working.Saturated.{saturated};

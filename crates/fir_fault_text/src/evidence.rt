@@ -1,9 +1,9 @@
 //! What a fault's line says behind the place.
 
 ghost use Rattle.std.specs.Prelude.{◌≡◌, ◌++◌, OnOk, codes, decimal, flat_map, map};
-ghost use Rattle.fir_ast.specs.FaultLines.{evidence_text};
+ghost use Rattle.fir_ast.specs.working.CodeFaults.{evidence_text};
 ghost use Rattle.fir_ast.specs.Texts.{hex_byte, outcome_text, place_text, separated, sign_text, type_text};
-ghost use Rattle.fir_ast.specs.View.{type_of};
+ghost use Rattle.fir_ast.specs.working.TypeViews.{type_of};
 
 use crate::type_text::{put_type, put_word};
 use crate::walk_text::{Text, put_choice, put_numbers, put_place, put_separated};

@@ -1,7 +1,8 @@
 //! The line of a fault.
 
 ghost use Rattle.std.specs.Prelude.{◌≡◌, ◌++◌, IfOk, OnErr, OnOk};
-ghost use Rattle.fir_ast.specs.FaultLines.{code_text, fault_line};
+ghost use Rattle.fir_ast.specs.Faults.{code_word, fault_line};
+ghost use Rattle.fir_ast.specs.working.CodeFaults.{code_of, fault_of};
 
 use crate::evidence::put_evidence;
 use crate::walk_text::put_place;
@@ -12,7 +13,7 @@ use std::alloc::Global;
 /// Appends the line of a fault: its code, its place as line and column from 1, its evidence, parted by single spaces,
 /// and a newline. Where memory is wanting, `out` is as before.
 pub fn put_fault_line(fault: &FirFault, alloc: Global, out: &mut Vec<u8>) -> Result<(), MemoryOut>
-    ensures line { OnOk result (out.new.items ≡ out.old.items ++ fault_line fault.now) }
+    ensures line { OnOk result (out.new.items ≡ out.old.items ++ fault_line (fault_of fault.now)) }
     ensures unchanged { OnErr result (out.new.items ≡ out.old.items) }
 {
     let line = line_of(alloc, fault)?;
@@ -21,7 +22,7 @@ pub fn put_fault_line(fault: &FirFault, alloc: Global, out: &mut Vec<u8>) -> Res
 }
 
 fn line_of(alloc: Global, fault: &FirFault) -> Result<Vec<u8>, MemoryOut>
-    ensures { IfOk result (λ line. line.items ≡ fault_line fault.now) }
+    ensures { IfOk result (λ line. line.items ≡ fault_line (fault_of fault.now)) }
 {
     let mut line = Vec::new(alloc);
     line.extend_from_slice(code_of(fault))?;
@@ -34,7 +35,7 @@ fn line_of(alloc: Global, fault: &FirFault) -> Result<Vec<u8>, MemoryOut>
 }
 
 fn code_of(fault: &FirFault) -> &'static [u8]
-    ensures { result.now ≡ code_text fault.now }
+    ensures { result.now ≡ code_word (code_of fault.now) }
 {
     match fault {
         FirFault::Byte(_, _) => b"E01",

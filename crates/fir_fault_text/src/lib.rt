@@ -1,5 +1,5 @@
 //! The line that is printed for a fault (`fault_line`): its evidence (`evidence`), types (`type_text`), walks, places and
-//! choices (`walk_text`) as text. What the texts are stands in fir_ast (`specs/`: FaultLines, Texts).
+//! choices (`walk_text`) as text. What the texts are stands in fir_ast (`specs/`: Faults, Texts).
 #![tactic(auto)]
 
 mod evidence;

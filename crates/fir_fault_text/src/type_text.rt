@@ -4,7 +4,8 @@ ghost use Rattle.std.specs.Prelude.{◌≡◌, ◌++◌, OnOk, codes, decimal, m
 ghost use Rattle.fir_ast.specs.working.BundleText.{bundle_text, field_of};
 ghost use Rattle.fir_ast.specs.Texts.{flip_text, type_text, width_text};
 ghost use Rattle.fir_ast.specs.Types.{bundle};
-ghost use Rattle.fir_ast.specs.View.{fields_of, type_of};
+ghost use Rattle.fir_ast.specs.View.{fields_of};
+ghost use Rattle.fir_ast.specs.working.TypeViews.{type_of};
 
 use fir_ast::{Field, Ty};
 use fir_base::{MemoryOut, put_decimal};

@@ -1,8 +1,9 @@
 //! Walks, places and choices as text.
 
 ghost use Rattle.std.specs.Prelude.{◌≡◌, ◌++◌, OnOk, codes, decimal, flat_map, map};
-ghost use Rattle.fir_ast.specs.Texts.{outcome_text, place_text, reset_step_text, separated, type_text};
-ghost use Rattle.fir_ast.specs.View.{type_of};
+ghost use Rattle.fir_ast.specs.Texts.{outcome_text, place_text, separated, type_text};
+ghost use Rattle.fir_ast.specs.working.CodeFaults.{reset_step_text};
+ghost use Rattle.fir_ast.specs.working.TypeViews.{type_of};
 
 use crate::type_text::put_type;
 use fir_ast::{Outcome, Place, ResetStep, Ty};

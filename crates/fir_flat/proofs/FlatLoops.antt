@@ -1,5 +1,5 @@
 -- A flat net shows the loops of its circuit, by the same faults, and no others.
-use Rattle.std.proofs.Common.{◌≡◌, ℕ, ◌<◌, ◌≤◌, List, [], ◌∷◌, ◌++◌, length, map, option_map, unwrap_or, Option, Some, sym, ap, ◌∙◌, inl, inr, ◌⊎◌, arith}
+use Rattle.std.proofs.Common.{◌≡◌, ℕ, ◌<◌, ◌≤◌, List, [], ◌∷◌, ◌++◌, length, map, option_map, unwrap_or, Option, Some, refl, subst, sym, ap, ◌∙◌, inl, inr, ◌⊎◌, arith}
 use Rattle.std.specs.Prelude.{slice_get}
 use Rattle.std.proofs.lemmas.Bool.{cases_lt}
 use Rattle.std.proofs.lemmas.List.{get_or_past}
@@ -7,6 +7,8 @@ use Rattle.std.proofs.lemmas.Option.{slice_get_past}
 use Rattle.fir_base.proofs.Elements.{there}
 use Rattle.fir_base.proofs.Members.{map_same}
 use Rattle.fir_ast.specs.declared.fault.FirFault.{FirFault}
+use Rattle.fir_ast.specs.Faults.{Fault}
+use Rattle.fir_ast.specs.working.CodeFaults.{fault_of}
 use Rattle.fir_ast.specs.declared.fault.FirFault.TheVariants.{Loop}
 use Rattle.fir_ast.specs.declared.place.Place.{Place}
 use Rattle.fir_meaning.specs.working.CircuitDependence.{IsWalk}
@@ -21,7 +23,7 @@ use Rattle.fir_net.specs.working.IsNet.{IsNet}
 use Rattle.fir_loop.specs.working.IsLoop.{path_of}
 use Rattle.fir_loop.specs.working.IsLoop as in_net
 use Rattle.fir_flat.specs.working.FlatCircuits.{IsFlatOf}
-use Rattle.fir_flat.specs.working.FlatLoops.{HidesNoLoop, IsNamedAs, ShowsTheSameLoops}
+use Rattle.fir_flat.specs.working.FlatLoops.{HidesNoLoop, IsNamedAs, ShowsLoopAs, ShowsTheSameLoops}
 use Rattle.fir_flat.proofs.LeafDependence.{depends_within}
 use Rattle.fir_flat.proofs.LoopWalks.{loop_of, walk_of}
 
@@ -53,7 +55,7 @@ module _ (c : LeafCircuit) (net : FlatNet) (whole : IsNet net) (flat : IsFlatOf 
         ap (λ (p : Place). Loop p (map (path_of net) walk)) (named.places first l at)
         ∙ ap (λ (names : List (List ℕ)). Loop (place_of_leaf c first) names) (paths_same walk)
 
-    in_circuit : (f : FirFault) → in_net.ShowsLoop net f → ShowsLoop c f
+    in_circuit : (f : FirFault) → in_net.ShowsLoop net f → ShowsLoop c (fault_of f)
     in_circuit f s =
         let w = walk_of c net whole flat s.first s.rest s.loop in
         record {
@@ -62,24 +64,31 @@ module _ (c : LeafCircuit) (net : FlatNet) (whole : IsNet net) (flat : IsFlatOf 
           walk = w.walk;
           distinct = w.distinct;
           is =
-              s.is ∙ fault_same s.first s.leaf (s.first ∷ s.rest) s.at
-              ∙ ap (λ (ks : List ℕ). Loop (place_of_leaf c s.first) (map (path_of_leaf c) (s.first ∷ ks))) w.is;
+              ap fault_of
+              (s.is ∙ fault_same s.first s.leaf (s.first ∷ s.rest) s.at
+              ∙ ap (λ (ks : List ℕ). Loop (place_of_leaf c s.first) (map (path_of_leaf c) (s.first ∷ ks))) w.is);
         }
 
-    in_the_net : (f : FirFault) → ShowsLoop c f → in_net.ShowsLoop net f
+    in_the_net : (f : Fault) → ShowsLoop c f → ShowsLoopAs net f
     in_the_net f s =
         let l = there net.leaves s.first (starts_within s.first s.between s.walk) in
-        record {
+        let walk = s.first ∷ s.between ++ s.first ∷ [] in
+        let g = Loop l.0.place (map (path_of net) walk) in
+        let shown : in_net.ShowsLoop net g = record {
           first = s.first;
           rest = s.between ++ s.first ∷ [];
           leaf = l.0;
           at = l.1;
           loop = loop_of c net whole flat s.first s.between s.walk s.distinct;
-          is = s.is ∙ sym (fault_same s.first l.0 (s.first ∷ s.between ++ s.first ∷ []) l.1);
-        }
+          is = refl;
+        } in
+        (g, shown, s.is ∙ sym (ap fault_of (fault_same s.first l.0 walk l.1)))
 
 pub shows_the_same_loops : ShowsTheSameLoops
-shows_the_same_loops c net f whole flat named = (in_circuit c net whole flat named f, in_the_net c net whole flat named f)
+shows_the_same_loops c net f whole flat named = (
+  (λ shown. subst (ShowsLoop c) (sym shown.2) (in_circuit c net whole flat named shown.0 shown.1)),
+  in_the_net c net whole flat named f,
+)
 
 pub hides_no_loop : HidesNoLoop
 hides_no_loop c net whole flat none f s = none (s.first ∷ s.between ++ s.first ∷ []) (loop_of c net whole flat s.first s.between s.walk s.distinct)

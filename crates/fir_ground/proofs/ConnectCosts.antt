@@ -2,7 +2,7 @@
 use Rattle.std.proofs.Common.{◌≡◌, ℕ, ◌*◌, ◌≤◌, max, Option, Some, None, refl, ap, ◌∙◌, subst, arith}
 use Rattle.fir_ast.specs.Types.{DataType}
 use Rattle.fir_ast.specs.Expressions.{Expression, reference, literal, operation, mux, validif, Parts, no_parts, subfield, subindex, subaccess}
-use Rattle.fir_ast.specs.Statements.{Sink}
+use Rattle.fir_ast.specs.Statements.{SinkReference}
 use Rattle.fir_meaning.specs.Costs.{leaves_where, named_leaves, picks_from, picks_where, size, size_of_sink, typed_leaves}
 use Rattle.fir_meaning.specs.Reaching.{Reached, field_of_type, vector_of_type}
 use Rattle.fir_meaning.specs.ResetItems.{type_of_field, type_of_element, length_of_vector}
@@ -35,7 +35,7 @@ times_some n k h = grind arith
 pub typed_count : (typed : TypedScope) (e : Expression) (t : DataType) → HasType typed e t → typed_leaves typed e ≡ leaf_count t
 typed_count typed e t h = ap (λ c. leaves_where c.has) (found_type typed e t h)
 
-named_count : (typed : TypedScope) (s : Sink) (t : DataType) → HasType typed (sink_expression s) t → leaf_count t ≤ named_leaves typed s
+named_count : (typed : TypedScope) (s : SinkReference) (t : DataType) → HasType typed (sink_expression s) t → leaf_count t ≤ named_leaves typed s
 named_count typed s t h =
     let own : ℕ = typed_leaves typed (sink_expression s) in
     let k : ℕ = picks_where (type_of_known (known typed s.name)) s.parts in
@@ -43,7 +43,7 @@ named_count typed s t h =
     let le : own ≤ own * k = times_some own k (picks_somewhere (type_of_known (known typed s.name)) s.parts) in
     subst (λ n. n ≤ named_leaves typed s) e le
 
-pub sink_count : (typed : TypedScope) (s : Sink) (r : Reached) → Reaches typed s r → leaf_count r.data_type ≤ size_of_sink typed s
+pub sink_count : (typed : TypedScope) (s : SinkReference) (r : Reached) → Reaches typed s r → leaf_count r.data_type ≤ size_of_sink typed s
 sink_count typed s r h = let own = named_count typed s r.data_type (h.0, r, h.1, h.2, refl) in omega arith
 
 pub size_count : (typed : TypedScope) (e : Expression) (t : DataType) → HasType typed e t → leaf_count t ≤ size typed e

@@ -4,7 +4,7 @@ use Rattle.std.proofs.lemmas.List.{length-map}
 use Rattle.fir_ast.specs.declared.place.Place.{Place}
 use Rattle.fir_ast.specs.Types.{DataType}
 use Rattle.fir_ast.specs.Expressions.{Expression}
-use Rattle.fir_ast.specs.Statements.{Sink}
+use Rattle.fir_ast.specs.Statements.{SinkReference}
 use Rattle.fir_meaning.specs.CostGroup.{cost_limit}
 use Rattle.fir_meaning.specs.ExpressionTypes.{expression_type}
 use Rattle.fir_meaning.specs.Reaching.{Reached}
@@ -69,7 +69,7 @@ comes_on g next rest a b c one two = record {
   drivers = two.drivers ∙ one.drivers;
 }
 
-pub sides_shown : (g : Ground) (typed : TypedScope) (sink : Sink) (e : Expression) (t : DataType) (rest : List Note) (old mid new : Walk) (left : Target)
+pub sides_shown : (g : Ground) (typed : TypedScope) (sink : SinkReference) (e : Expression) (t : DataType) (rest : List Note) (old mid new : Walk) (left : Target)
     (source : Source) (found : Found)
     → Reaches g (expression_notes typed e ++ rest) old mid left (target_of typed sink)
     → ExpandsSource g rest mid new source (target_read typed e) (terms typed e)
@@ -110,7 +110,7 @@ sides_driven ts old new before after p s pairs ids backs ids_are back drives = �
     }
 
 -- both sides of a connect that is legal
-pub connect_comes : (pairs_of : DataType → DataType → List LeafPair) (g : Ground) (typed : TypedScope) (sink : Sink) (e : Expression) (r : Reached)
+pub connect_comes : (pairs_of : DataType → DataType → List LeafPair) (g : Ground) (typed : TypedScope) (sink : SinkReference) (e : Expression) (r : Reached)
     (t : DataType) (rest : List Note)
     (old mid : Walk) (nodes : Vec Node Global) (before after : List LeafStmt) (p : Place) (s : SidesOfCode) (pairs : List PairOfCode)
     → leaves_so_far typed ≤ cost_limit
@@ -147,7 +147,7 @@ connect_comes pairs_of g typed sink e r t rest old mid nodes before after p s pa
     }
 
 -- the types of both sides are these
-pub pairs_are : (pairs_of : DataType → DataType → List LeafPair) (g : Ground) (typed : TypedScope) (sink : Sink) (e : Expression) (r : Reached) (t : DataType)
+pub pairs_are : (pairs_of : DataType → DataType → List LeafPair) (g : Ground) (typed : TypedScope) (sink : SinkReference) (e : Expression) (r : Reached) (t : DataType)
     (rest : List Note)
     (old mid : Walk) (s : SidesOfCode) → leaves_so_far typed ≤ cost_limit → ReachesThere typed sink r → ShowsSides g typed rest old mid sink e t s
     → pairs_of (found_type (types_in g) s.left.found) (found_type (types_in g) s.found) ≡ pairs_of r.data_type t
@@ -155,12 +155,12 @@ pairs_are pairs_of g typed sink e r t rest old mid s small reaches shown =
     ap (λ u. pairs_of u (found_type (types_in g) s.found)) (shown.left.data_type ∙ (aims_sink typed sink r small reaches).same)
     ∙ ap (pairs_of r.data_type) shown.found
 
-pub left_is : (g : Ground) (typed : TypedScope) (sink : Sink) (e : Expression) (r : Reached) (t : DataType) (rest : List Note)
+pub left_is : (g : Ground) (typed : TypedScope) (sink : SinkReference) (e : Expression) (r : Reached) (t : DataType) (rest : List Note)
     (old mid : Walk) (s : SidesOfCode) → leaves_so_far typed ≤ cost_limit → ReachesThere typed sink r → ShowsSides g typed rest old mid sink e t s
     → found_type (types_in g) s.left.found ≡ r.data_type
 left_is g typed sink e r t rest old mid s small reaches shown = shown.left.data_type ∙ (aims_sink typed sink r small reaches).same
 
-pub invalid_comes : (g : Ground) (typed : TypedScope) (sink : Sink) (r : Reached) (rest : List Note) (old mid : Walk) (nodes : Vec Node Global)
+pub invalid_comes : (g : Ground) (typed : TypedScope) (sink : SinkReference) (r : Reached) (rest : List Note) (old mid : Walk) (nodes : Vec Node Global)
     (before after : List LeafStmt) (p : Place)
     (t : Target) (id : ℕ) (sinks : List Bool) (may_drive : ℕ → Bool) → leaves_so_far typed ≤ cost_limit → ReachesThere typed sink r
     → Reaches g rest old mid t (target_of typed sink) → id ≡ length mid.nodes.items → nodes.items ≡ mid.nodes.items ++ node.Zeros ∷ []

@@ -3,7 +3,7 @@ use Rattle.std.proofs.Common.{◌≡◌, ℕ, ◌+◌, ◌≤◌, List, [], ◌�
 use Rattle.std.specs.Prelude.{option_map, slice_get}
 use Rattle.std.specs.Str.{bytes_eq}
 use Rattle.fir_ast.specs.Types.{DataType}
-use Rattle.fir_ast.specs.Statements.{Sink}
+use Rattle.fir_ast.specs.Statements.{SinkReference}
 use Rattle.fir_meaning.specs.CostGroup.{cost_limit}
 use Rattle.fir_meaning.specs.Costs.{leaves_where}
 use Rattle.fir_meaning.specs.LeafPaths.{named}
@@ -64,7 +64,7 @@ is_known (Some k) b is = by k.data_type refl is
         record { component = k; is = refl; data_type = e ∙ ap (λ (z : Reached). Some z.data_type) same }
 
 -- what a reference reaches, as a target and as a range
-pub record Ranged (typed : TypedScope) (s : Sink) (r : Reached) : Type 0 where
+pub record Ranged (typed : TypedScope) (s : SinkReference) (r : Reached) : Type 0 where
   pub first : ℕ
   pub total : ℕ
   pub component : Known
@@ -75,7 +75,7 @@ pub record Ranged (typed : TypedScope) (s : Sink) (r : Reached) : Type 0 where
   pub note : reference_note typed s ≡ of_reference (Some range)
   pub along : Along first total true no_picks (position_of typed s.name) [] (indices_in typed s.parts) (target_of typed s) range r.data_type
 
-pub ranged : (typed : TypedScope) (s : Sink) (r : Reached) → leaves_so_far typed ≤ cost_limit → ReachesThere typed s r → Ranged typed s r
+pub ranged : (typed : TypedScope) (s : SinkReference) (r : Reached) → leaves_so_far typed ≤ cost_limit → ReachesThere typed s r → Ranged typed s r
 ranged typed s r small reaches =
     let start = reaches.0 in
     let of = is_known (known typed s.name) start reaches.1 in
@@ -108,7 +108,7 @@ ranged typed s r small reaches =
     }
 
 -- no more leaves up to its last than a circuit may cost
-pub within_cost : (typed : TypedScope) (s : Sink) (r : Reached) → leaves_so_far typed ≤ cost_limit → ReachesThere typed s r → IsWithinCost (target_of typed s)
+pub within_cost : (typed : TypedScope) (s : SinkReference) (r : Reached) → leaves_so_far typed ≤ cost_limit → ReachesThere typed s r → IsWithinCost (target_of typed s)
 within_cost typed s r small reaches =
     let known = ranged typed s r small reaches in
     let way = known.along in
@@ -148,7 +148,7 @@ base_exact true o first offset own n total is saturates room small =
     ap (option_map (λ f. saturated (f + own))) is ∙ ap Some exact
 base_exact false o first offset own n total is saturates room small = refl
 
-named_names : (g : Ground) (typed : TypedScope) (s : Sink) (r : Reached) → Stands g typed → ReachesThere typed s r → (own : RangeOfCode)
+named_names : (g : Ground) (typed : TypedScope) (s : SinkReference) (r : Reached) → Stands g typed → ReachesThere typed s r → (own : RangeOfCode)
     → note_seen (types_in g) (code.Reference (Some own)) ≡ saturated_note (reference_note typed s) → (old new : List Node) (t : Target)
     → IsPicked g.firsts.now own (indices_in typed s.parts) old new t → Names (types_in g) new t (target_of typed s)
 named_names g typed s r stands reaches own seen old new t picked =
@@ -171,7 +171,7 @@ named_names g typed s r stands reaches own seen old new t picked =
     }
 
 -- and None is not the note of a reference that reaches something
-no_nothing : (ts : List DataType) (typed : TypedScope) (s : Sink) (r : Reached) → leaves_so_far typed ≤ cost_limit → ReachesThere typed s r
+no_nothing : (ts : List DataType) (typed : TypedScope) (s : SinkReference) (r : Reached) → leaves_so_far typed ≤ cost_limit → ReachesThere typed s r
     → note_seen ts (code.Reference None) ≡ saturated_note (reference_note typed s) → ⊥
 no_nothing ts typed s r small reaches seen =
     let known = ranged typed s r small reaches in
@@ -185,7 +185,7 @@ first_seen ts [] n rest h x is = cc
 first_seen ts (y ∷ ys) n rest h x is = ap (note_seen ts) is ∙ (cc)
 
 -- in front of the note of a reference
-pub reaches_ahead : (g : Ground) (typed : TypedScope) (s : Sink) (r : Reached) (rest : List Note) (old new : Walk) (x : NoteOfCode) (o : Option RangeOfCode) (t : Target)
+pub reaches_ahead : (g : Ground) (typed : TypedScope) (s : SinkReference) (r : Reached) (rest : List Note) (old new : Walk) (x : NoteOfCode) (o : Option RangeOfCode) (t : Target)
     → Enters g typed (reference_note typed s ∷ rest) old → ReachesThere typed s r → x ≡ get_or old.notes.now 0 x → x ≡ code.Reference o
     → Ahead (types_in g) new.notes.now rest → new.drivers ≡ old.drivers
     → ((own : RangeOfCode) → o ≡ Some own → IsPicked g.firsts.now own (indices_in typed s.parts) old.nodes.items new.nodes.items t) → Reaches g rest old new t (target_of typed s)

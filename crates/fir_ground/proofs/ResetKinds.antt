@@ -3,7 +3,7 @@ use Rattle.std.proofs.Common.{◌≡◌, ◌≤◌, List, [], ◌∷◌, map, na
 use Rattle.std.specs.Prelude.{◌&&◌, option_map}
 use Rattle.fir_ast.specs.Types.{DataType, uint, sint, clock, reset, async_reset, bundle, vector}
 use Rattle.fir_ast.specs.Expressions.{Expression, reference, literal, operation, mux, validif}
-use Rattle.fir_ast.specs.Statements.{Sink}
+use Rattle.fir_ast.specs.Statements.{SinkReference}
 use Rattle.fir_meaning.specs.CostGroup.{cost_limit}
 use Rattle.fir_meaning.specs.ExpressionTypes.{expression_type}
 use Rattle.fir_meaning.specs.TypedScopes.{TypedScope}
@@ -49,7 +49,7 @@ same_range o r is = cc
 pub told : (typed : TypedScope) (e : Expression) (u : DataType) (kind : KindMeant) → leaves_so_far typed ≤ cost_limit → HasType typed e u
     → Tells (saturated_note (own_note typed e)) kind → kind ≡ kind_of_reset typed e
 told typed (reference p n ps) u kind small has tells =
-    let s : Sink = record { place = p; name = n; parts = ps } in
+    let s : SinkReference = record { place = p; name = n; parts = ps } in
     let reaches : Reaches typed s has.1 = (has.0, has.2, has.3) in
     let own = ranged typed s has.1 small reaches in
     let r = own.range in

@@ -5,7 +5,7 @@ use Rattle.std.specs.Str.{bytes_eq}
 use Rattle.fir_ast.specs.declared.place.Place.{Place}
 use Rattle.fir_ast.specs.Types.{DataType, uint, sint, clock, reset, async_reset, bundle, vector}
 use Rattle.fir_ast.specs.Expressions.{Expression, reference, literal, operation, mux, validif, Parts, no_parts, subfield, subindex, subaccess}
-use Rattle.fir_ast.specs.Statements.{Sink}
+use Rattle.fir_ast.specs.Statements.{SinkReference}
 use Rattle.fir_meaning.specs.CostGroup.{cost_limit}
 use Rattle.fir_meaning.specs.Costs.{leaves_where}
 use Rattle.fir_meaning.specs.ExpressionPlaces.{place_of}
@@ -151,7 +151,7 @@ aims_known typed n (Some k) begins found small e = typed_as k.data_type refl e
         let room : leaves_ahead typed n + leaf_count t ≤ cost_limit = let h = ahead_room typed n k t found is in omega arith in
         subst (λ u. Aims (whole_target (leaves_ahead typed n) (Some t)) u) same (record { same = refl; room = room })
 
-pub aims_sink : (typed : TypedScope) (s : Sink) (r : Reached) → leaves_so_far typed ≤ cost_limit → Reaches typed s r → Aims (target_of typed s) r.data_type
+pub aims_sink : (typed : TypedScope) (s : SinkReference) (r : Reached) → leaves_so_far typed ≤ cost_limit → Reaches typed s r → Aims (target_of typed s) r.data_type
 aims_sink typed s r small h =
     aims_along typed s.parts (named_target typed s.name) h.0 r (aims_known typed s.name (known typed s.name) h.0 refl small h.1) h.2
 

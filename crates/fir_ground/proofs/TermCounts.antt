@@ -8,10 +8,10 @@ use Rattle.fir_bits.specs.declared.operators.PrimOp.TheVariants.{AsAsyncReset}
 use Rattle.fir_bits.specs.declared.types.NumTy.{NumTy}
 use Rattle.fir_ast.specs.Types.{DataType, bundle, vector, Fields, no_fields, field}
 use Rattle.fir_ast.specs.Expressions.{Expression, reference, literal, operation, mux, validif}
-use Rattle.fir_ast.specs.Statements.{Sink}
+use Rattle.fir_ast.specs.Statements.{SinkReference}
 use Rattle.fir_meaning.specs.CostGroup.{cost_limit}
 use Rattle.fir_meaning.specs.Equivalence.{same_ground, fields_alike, is_equivalent}
-use Rattle.fir_meaning.specs.ExpressionTypes.{number_type}
+use Rattle.fir_meaning.specs.ExpressionTypes.{number_data_type}
 use Rattle.fir_bits.specs.Forms.{first_type}
 use Rattle.fir_bits.specs.Types.{signed_of}
 use Rattle.fir_meaning.specs.OperationTypes.{ground_of, result_of}
@@ -79,7 +79,7 @@ mutual
       ap (λ k. k + field_count fs) (alike_count t u third.0) ∙ ap (λ k. leaf_count u + k) (fields_alike_count fs gs third.1)
   fields_alike_count _ _ e = absurd (cc)
 
-pub number_count : (signed : Bool) (width : Option ℕ) → leaf_count (number_type signed width) ≡ 1
+pub number_count : (signed : Bool) (width : Option ℕ) → leaf_count (number_data_type signed width) ≡ 1
 number_count true width = refl
 number_count false width = refl
 
@@ -94,7 +94,7 @@ operation_count op kinds = ground_count (signed_of op (first_type kinds).signed)
 module _ (typed : TypedScope) (small : leaves_so_far typed ≤ cost_limit) where
   pub terms_long : (e : Expression) (t : DataType) → HasType typed e t → length (terms typed e) ≡ leaf_count t
   terms_long (reference p n ps) t h =
-      let s : Sink = record { place = p; name = n; parts = ps } in
+      let s : SinkReference = record { place = p; name = n; parts = ps } in
       target_long (target_of typed s) ∙ ap leaf_count ((aims_sink typed s h.1 small (h.0, h.2, h.3)).same ∙ sym h.4)
   terms_long (literal l) t h = sym (ap leaf_count h ∙ number_count l.signed l.width)
   terms_long (operation p op es ks) t h = sym (ap leaf_count h.5 ∙ operation_count op h.1)

@@ -1,7 +1,7 @@
 //! What a reference names, behind the expressions in its indices.
 
 ghost use Rattle.std.specs.Prelude.{◌≡◌, ◌&&◌, ◌∷◌, List, IfOk, length, map, nat_lt, true};
-ghost use Rattle.fir_ast.specs.Statements.{Sink};
+ghost use Rattle.fir_ast.specs.Statements.{SinkReference};
 ghost use Rattle.fir_leaf.specs.working.Nodes.{entries, picks_at};
 ghost use Rattle.fir_meaning.specs.working.Terms.{Picks, no_picks};
 ghost use Rattle.fir_meaning.specs.Reaching.{Reached};
@@ -48,7 +48,7 @@ const NOWHERE: Target = Target {
 
 /// What a reference names, by its note, which is passed, and its dynamic indices, in the order of the text.
 pub fn named(ground: &Ground, walk: &mut Walk, indices: &[Index]) -> Result<Target, MemoryOut>
-    ensures { (typed : TypedScope) (s : Sink) (r : Reached) (rest : List Meant) → Enters ground.now typed (reference_note typed s ∷ rest) walk.old → ReachesThere typed s r → AreIndices walk.old.nodes.items indices.now (indices_in typed s.parts) → IfOk result (λ t. Reaches ground.now rest walk.old walk.new t (target_of typed s)) }
+    ensures { (typed : TypedScope) (s : SinkReference) (r : Reached) (rest : List Meant) → Enters ground.now typed (reference_note typed s ∷ rest) walk.old → ReachesThere typed s r → AreIndices walk.old.nodes.items indices.now (indices_in typed s.parts) → IfOk result (λ t. Reaches ground.now rest walk.old walk.new t (target_of typed s)) }
 {
     let [note, ..] = walk.notes else {
         return Ok(NOWHERE);

@@ -8,7 +8,7 @@ ghost use Rattle.fir_ast.specs.Statements as tree;
 ghost use Rattle.fir_ast.specs.Statements.{PlacedName};
 ghost use Rattle.fir_ast.specs.Types.{DataType};
 ghost use Rattle.fir_ast.specs.working.Views.{block_of, expr_of, named_of, reset_of, stmt_of};
-ghost use Rattle.fir_ast.specs.View.{type_of};
+ghost use Rattle.fir_ast.specs.working.TypeViews.{type_of};
 ghost use Rattle.fir_leaf.specs.declared.node.Node.{Node};
 ghost use Rattle.fir_leaf.specs.declared.statement.LeafStmt.{LeafStmt};
 ghost use Rattle.fir_meaning.specs.working.LeafedBlocks.{instance_block};

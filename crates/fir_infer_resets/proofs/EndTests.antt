@@ -6,7 +6,7 @@ use Rattle.fir_base.specs.Lists.{In, Distinct}
 use Rattle.fir_base.proofs.SameNames.{name_same}
 use Rattle.fir_base.proofs.Tests.{both}
 use Rattle.fir_meaning.specs.LeafPaths.{Step, LeafPath, named, element}
-use Rattle.fir_meaning.specs.ResetItems.{Item, leaf_item, value_item, End}
+use Rattle.fir_meaning.specs.ResetItems.{ResetItem, leaf_item, value_item, End}
 
 abbrev is_step : Step → Step → Bool
 is_step (named x) (named y) = bytes_eq x y
@@ -18,7 +18,7 @@ is_path [] [] = true
 is_path (s ∷ p) (t ∷ q) = is_step s t && is_path p q
 is_path _ _ = false
 
-abbrev is_item : Item → Item → Bool
+abbrev is_item : ResetItem → ResetItem → Bool
 is_item (leaf_item n p) (leaf_item m q) = nat_eq n m && is_path p q
 is_item (value_item p) (value_item q) = nat_eq p.line q.line && nat_eq p.col q.col
 is_item _ _ = false
@@ -34,7 +34,7 @@ path_same : (p : LeafPath) → is_path p p ≡ true
 path_same [] = refl
 path_same (s ∷ p) = rw (step_same s) (path_same p)
 
-item_same : (a : Item) → is_item a a ≡ true
+item_same : (a : ResetItem) → is_item a a ≡ true
 item_same (leaf_item n p) = rw (number_same n) (path_same p)
 item_same (value_item p) = rw (number_same p.line) (number_same p.col)
 

@@ -8,7 +8,7 @@ use Rattle.fir_meaning.specs.LeafPaths.{Step, LeafPath, named, element}
 use Rattle.fir_meaning.specs.working.NameGroups.{HasNames}
 use Rattle.fir_meaning.specs.TypeGroup.{type_faults}
 use Rattle.fir_reset.specs.working.ElementPaths.{any_element, firsts_behind, DifferInElements}
-use Rattle.fir_meaning.specs.ResetItems.{Item, End, leaf_end}
+use Rattle.fir_meaning.specs.ResetItems.{ResetItem, End, leaf_end}
 use Rattle.fir_meaning.specs.ResetWalks.{IsLeafOf}
 use Rattle.fir_infer_resets.specs.working.ResetLaws.{Linked, same, then_joined}
 use Rattle.fir_infer_resets.proofs.FirstsBehind.{all_kept, none_there, kept_same, next_beside}
@@ -52,8 +52,8 @@ module _ (c : CircuitTree) (names : HasNames c) (clear : type_faults c ≡ []) w
       let one = leaf_end d.number e.place d.path e.ground_type in
       let other = leaf_end d.number f.place d.other f.ground_type in
       let first = leaf_end d.number e.place (map any_element d.path) e.ground_type in
-      let one_is : e ≡ one = ap (λ (i : Item). record e { item = i }) d.one_is in
-      let other_is : f ≡ other = ap (λ (i : Item). record f { item = i }) d.other_is in
+      let one_is : e ≡ one = ap (λ (i : ResetItem). record e { item = i }) d.one_is in
+      let other_is : f ≡ other = ap (λ (i : ResetItem). record f { item = i }) d.other_is in
       let first_is : leaf_end d.number f.place (map any_element d.other) f.ground_type ≡ first =
       ap (λ q. leaf_end d.number f.place q f.ground_type) (sym d.same) ∙ ap (λ q. leaf_end d.number q (map any_element d.path) f.ground_type) (sym d.place)
       ∙ ap (λ u. leaf_end d.number e.place (map any_element d.path) u) (sym d.ground_type) in

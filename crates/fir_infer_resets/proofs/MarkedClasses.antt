@@ -2,7 +2,7 @@
 use Rattle.std.proofs.Common.{◌≡◌, ℕ, List, [], ◌∷◌, ◌++◌, Bool, Some, sym, ap, ◌∙◌, subst, inl, inr, ◌⊎◌, Vec, Global}
 use Rattle.std.specs.Prelude.{slice_get}
 use Rattle.fir_ast.specs.Circuits.{CircuitTree}
-use Rattle.fir_pass.specs.Faults.{Fault}
+use Rattle.fir_ast.specs.Faults.{Fault}
 use Rattle.std.specs.List.{AllByRecursion}
 use Rattle.fir_infer_resets.specs.declared.graph.Kind.{Kind}
 use Rattle.fir_infer_resets.specs.declared.graph.Kind.TheVariants.{Reset}

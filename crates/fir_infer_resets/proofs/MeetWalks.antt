@@ -11,9 +11,9 @@ use Rattle.fir_ast.specs.declared.statements.Stmt.TheOpen as layer
 use Rattle.fir_ast.specs.declared.types.Ty.{Ty}
 use Rattle.fir_ast.specs.Types.{DataType}
 use Rattle.fir_ast.specs.Expressions.{Expression}
-use Rattle.fir_ast.specs.Statements.{PlacedName, Sink, Statement, wire, memory, when, invalid, Block, done, then}
+use Rattle.fir_ast.specs.Statements.{PlacedName, SinkReference, Statement, wire, memory, when, invalid, Block, done, then}
 use Rattle.fir_ast.specs.working.Views.{memory_part_of, named_of, stmt_of, stmt_step, when_step}
-use Rattle.fir_ast.specs.View.{type_of}
+use Rattle.fir_ast.specs.working.TypeViews.{type_of}
 use Rattle.fir_names.proofs.StatementViews.{wire_view}
 use Rattle.fir_meaning.specs.Components as component
 use Rattle.fir_meaning.specs.Components.{Component}
@@ -55,7 +55,7 @@ declaration_passed x old new r (inr h) is =
     (λ ts m before. alone_passed (named_of h.1.ident) (component.memory parts) old new r is ts before)
 
 -- what lets nothing meet, and declares nothing
-pub invalid_passed : (p : Place) (s : Sink) (range : Option RangeOfCode) (old new : Walk) (ts : List DataType) (m : ResetModule) (before : Before) (rest : List Note)
+pub invalid_passed : (p : Place) (s : SinkReference) (range : Option RangeOfCode) (old new : Walk) (ts : List DataType) (m : ResetModule) (before : Before) (rest : List Note)
     → PassesRange ts (reference_note (scope_at m.modules before) s) rest range old new → old.declared ≡ length before.declared
     → Meets ts rest (length (behind before (invalid p s)).declared) (meetings_in m before (invalid p s)) old new
 invalid_passed p s range old new ts m before rest h same = meets_none ts rest (length before.declared) old new h.passes same

@@ -11,7 +11,7 @@ use Rattle.fir_base.proofs.Tests.{chosen}
 use Rattle.fir_ast.specs.declared.place.Place.{Place}
 use Rattle.fir_ast.specs.Types.{DataType}
 use Rattle.fir_ast.specs.Expressions.{Expression}
-use Rattle.fir_ast.specs.Statements.{PlacedName, Sink}
+use Rattle.fir_ast.specs.Statements.{PlacedName, SinkReference}
 use Rattle.fir_ast.specs.Circuits.{ModuleTree, CircuitTree}
 use Rattle.fir_meaning.specs.LeafPaths.{LeafPath, named}
 use Rattle.fir_meaning.specs.TypeLeaves.{TypeLeaf}
@@ -98,7 +98,7 @@ module _ (c : CircuitTree) (names : HasNames c) (findings : Findings) (number : 
   abbrev pub scope : TypedScope
   scope = scope_at x.inside.modules x.before
 
-  module _ (sink : Sink) (s : Reached) (h : Reaches scope sink s) (lengths : List ℕ) (same : lengths ≡ lengths_along h.0.data_type sink.parts) (own : Root)
+  module _ (sink : SinkReference) (s : Reached) (h : Reaches scope sink s) (lengths : List ℕ) (same : lengths ≡ lengths_along h.0.data_type sink.parts) (own : Root)
       (is : IsReferenceRoot c number sink lengths own) where
     abbrev begun : DataType
     begun = h.0.data_type

@@ -8,7 +8,7 @@ use Rattle.fir_ast.specs.declared.expressions.Reference.{Reference}
 use Rattle.fir_ast.specs.declared.statements.Ident.{Ident}
 use Rattle.fir_ast.specs.Types.{DataType}
 use Rattle.fir_ast.specs.Expressions.{Expression, reference, literal, operation, mux, validif}
-use Rattle.fir_ast.specs.Statements.{PlacedName, Sink}
+use Rattle.fir_ast.specs.Statements.{PlacedName, SinkReference}
 use Rattle.fir_ast.specs.working.Views.{sink_of, named_of}
 use Rattle.fir_ast.specs.Circuits.{CircuitTree}
 use Rattle.fir_meaning.specs.LeafPaths.{named}
@@ -140,7 +140,7 @@ module _ (c : CircuitTree) (names : HasNames c) (clear : type_faults c ≡ []) (
       record { leaves = λ p i. let w = partial_fit t u h p i in (w.left, w.right); of = of_partial [] t u; all = for_partial [] t u }
 
   module _ (fits : DataType → DataType → Bool) (pairs_of : DataType → DataType → List Pair) (partly : Bool)
-      (paired : (t u : DataType) → fits t u ≡ true → PairsOf partly t u (pairs_of t u)) (sink : Sink) (e : Expression) (legal : ConnectIsLegal fits pairs_of scope sink e) where
+      (paired : (t u : DataType) → fits t u ≡ true → PairsOf partly t u (pairs_of t u)) (sink : SinkReference) (e : Expression) (legal : ConnectIsLegal fits pairs_of scope sink e) where
     abbrev left : Reached
     left = legal.0
 

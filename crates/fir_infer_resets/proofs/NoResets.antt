@@ -16,7 +16,7 @@ use Rattle.fir_meaning.specs.LeafPaths.{named, element}
 use Rattle.fir_meaning.specs.TypeLeaves.{TypeLeaf, under, element_leaves, type_leaves, field_leaves}
 use Rattle.fir_meaning.specs.TypeKinds.{is_numeric, are_numeric, bare}
 use Rattle.fir_meaning.specs.OperationTypes.{ground_of, result_of}
-use Rattle.fir_meaning.specs.ExpressionTypes.{number_type}
+use Rattle.fir_meaning.specs.ExpressionTypes.{number_data_type}
 use Rattle.fir_meaning.specs.TypedScopes.{TypedScope}
 use Rattle.fir_meaning.specs.working.WellTyped.{HasType}
 use Rattle.fir_types.proofs.BareTypes.{shown_numeric}
@@ -31,7 +31,7 @@ one_ground : (t : DataType) → is_reset t ≡ false → NoneIn (record { path =
 one_ground t h l (inl e) = ap (λ (x : TypeLeaf). is_reset x.ground_type) (sym e) ∙ h
 one_ground t h l (inr f) = absurd f
 
-number_none : (signed : Bool) (width : Option ℕ) → NoneIn (type_leaves (number_type signed width))
+number_none : (signed : Bool) (width : Option ℕ) → NoneIn (type_leaves (number_data_type signed width))
 number_none true width = one_ground (sint width) refl
 number_none false width = one_ground (uint width) refl
 
@@ -87,7 +87,7 @@ of_type t u e h = record { none = subst (λ v. NoneIn (type_leaves v)) (sym e) h
 
 pub no_reset_in : (scope : TypedScope) (e : Expression) (t : DataType) → IsNoReference e → HasType scope e t → HasNoReset t
 no_reset_in scope (reference p n ps) t other h = absurd other
-no_reset_in scope (literal l) t other h = of_type t (number_type l.signed l.width) h (number_none l.signed l.width)
+no_reset_in scope (literal l) t other h = of_type t (number_data_type l.signed l.width) h (number_none l.signed l.width)
 no_reset_in scope (operation p op es ks) t other h = of_type t (result_of op h.1) h.5 (result_none op h.1)
 no_reset_in scope (mux p c a b) t other h = of_type t (bare h.1) h.11 (numeric_none (bare h.1) (shown_numeric true h.1 ∙ h.6))
 no_reset_in scope (validif p c a) t other h = of_type t (bare h.1) h.6 (numeric_none (bare h.1) (shown_numeric true h.1 ∙ h.5))

@@ -8,7 +8,7 @@ use Rattle.fir_ast.specs.declared.expressions.Literal.{Literal}
 use Rattle.fir_ast.specs.declared.place.Place.{Place}
 use Rattle.fir_ast.specs.Types.{DataType}
 use Rattle.fir_ast.specs.Expressions.{Expression, Parts, Expressions, expression}
-use Rattle.fir_ast.specs.Statements.{Sink}
+use Rattle.fir_ast.specs.Statements.{SinkReference}
 use Rattle.fir_ast.specs.working.Views.{expr_of, expressions_of}
 use Rattle.fir_names.proofs.FirstMentions.{views_left}
 use Rattle.fir_ast.proofs.TreeViews.{mux_view, operation_view, validif_view}
@@ -41,7 +41,7 @@ value_no_reference x (inr (inr (inl h))) = rw (ap expr_of h.4 ∙ mux_view h.0 h
 value_no_reference x (inr (inr (inr h))) = rw (ap expr_of h.3 ∙ validif_view h.0 h.1 h.2) tt
 
 -- what its note has of a reference
-abbrev pub range_of_reference : TypedScope → Sink → Option LeafRange
+abbrev pub range_of_reference : TypedScope → SinkReference → Option LeafRange
 range_of_reference scope s = range_where (reaching scope s).has (option_map (λ r. range_behind r s.parts) (root_range scope s.name))
 
 -- what is found in a note

@@ -3,7 +3,7 @@ use Rattle.std.proofs.Common.{◌≡◌, ℕ, List, [], ◌∷◌, map, Option, 
 use Rattle.std.specs.Prelude.{option_map}
 use Rattle.std.proofs.lemmas.Option.{same_Some, none-some}
 use Rattle.fir_ast.specs.Types.{DataType}
-use Rattle.fir_ast.specs.Statements.{Sink}
+use Rattle.fir_ast.specs.Statements.{SinkReference}
 use Rattle.fir_meaning.specs.LeafPaths.{named}
 use Rattle.fir_meaning.specs.TypedScopes.{Known, TypedScope, known}
 use Rattle.fir_meaning.specs.Reaching.{Reached, known_reached}
@@ -40,7 +40,7 @@ known_as scope n r h = by (known scope n) refl h
     by (Some k) is e = at k k.data_type refl is e
 
 -- the note of a reference that reaches something
-pub record IsRangeOf (ts : List DataType) (range : Option RangeOfCode) (begins s : Reached) (sink : Sink) : Type 0 where
+pub record IsRangeOf (ts : List DataType) (range : Option RangeOfCode) (begins s : Reached) (sink : SinkReference) : Type 0 where
   pub own : RangeOfCode
   pub is : range ≡ Some own
   pub data_type : found_type ts own.found ≡ s.data_type
@@ -57,7 +57,7 @@ saturated_lengths : (ps : List Pick) → map (λ (p : Pick). p.length) (map satu
 saturated_lengths [] = refl
 saturated_lengths (p ∷ ps) = ap (λ l. p.length ∷ l) (saturated_lengths ps)
 
-pub range_of : (ts : List DataType) (scope : TypedScope) (sink : Sink) (range : Option RangeOfCode) (s : Reached) (h : Reaches scope sink s) → IsRange ts range scope sink
+pub range_of : (ts : List DataType) (scope : TypedScope) (sink : SinkReference) (range : Option RangeOfCode) (s : Reached) (h : Reaches scope sink s) → IsRange ts range scope sink
     → IsRangeOf ts range h.0 s sink
 range_of ts scope sink range s h note =
     let begins = h.0 in

@@ -8,7 +8,7 @@ use Rattle.fir_ast.specs.Types.{DataType, uint, clock, reset, async_reset, bundl
 use Rattle.fir_ast.specs.Expressions.{no_parts, subfield, subindex, subaccess}
 use Rattle.fir_ast.specs.Statements.{register, instance}
 use Rattle.fir_ast.specs.Circuits.{CircuitTree}
-use Rattle.fir_pass.specs.Faults.{E18}
+use Rattle.fir_ast.specs.Faults.{E18}
 use Rattle.fir_meaning.specs.LeafPaths.{LeafPath, named, element}
 use Rattle.fir_meaning.specs.TypeLeaves.{type_leaves}
 use Rattle.fir_meaning.specs.Flows as flow

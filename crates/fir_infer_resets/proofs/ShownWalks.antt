@@ -1,7 +1,7 @@
 -- A walk of the whole graph shows its fault.
 use Rattle.std.proofs.Common.{◌≡◌, ℕ, suc, ◌<◌, ◌≤◌, List, [], ◌∷◌, map, length, refl, sym, ap, ◌∙◌, subst}
 use Rattle.fir_ast.specs.Circuits.{CircuitTree}
-use Rattle.fir_pass.specs.Faults.{Fault}
+use Rattle.fir_ast.specs.Faults.{Fault}
 use Rattle.fir_infer_resets.specs.declared.joined.Joined.{Joined}
 use Rattle.fir_infer_resets.specs.working.DirectWalks.{IsWalkOfEnds, Replaces}
 use Rattle.fir_infer_resets.specs.working.FoundKinds.{TellsWalk}

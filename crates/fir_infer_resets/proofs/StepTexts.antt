@@ -6,8 +6,10 @@ use Rattle.std.proofs.lemmas.Option.{none-some, same_Some, slice_get-get_or, get
 use Rattle.fir_ast.specs.declared.place.Place.{Place}
 use Rattle.fir_ast.specs.declared.fault.FirFault.TheVariants as fault
 use Rattle.fir_ast.specs.declared.fault.ResetStep.{ResetStep}
-use Rattle.fir_ast.specs.Texts.{reset_step_text, separated}
-use Rattle.fir_pass.specs.Faults.{Fault, fault_of, E18}
+use Rattle.fir_ast.specs.Texts.{separated}
+use Rattle.fir_ast.specs.working.CodeFaults.{reset_step_text}
+use Rattle.fir_ast.specs.Faults.{Fault, E18}
+use Rattle.fir_ast.specs.working.CodeFaults.{fault_of}
 use Rattle.fir_infer_resets.specs.declared.item.End.{End as EndOfCode}
 use Rattle.fir_meaning.specs.ResetItems.{End}
 use Rattle.fir_meaning.specs.ResetWalks.{reset_item_text, items_text, items_of}

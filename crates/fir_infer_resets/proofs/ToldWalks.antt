@@ -8,7 +8,7 @@ use Rattle.fir_base.proofs.Elements.{get_left, get_behind, there, number_of}
 use Rattle.fir_base.proofs.Each.{all_from}
 use Rattle.fir_graph.proofs.Positions.{distinct_from}
 use Rattle.fir_ast.specs.Circuits.{CircuitTree}
-use Rattle.fir_pass.specs.Faults.{Fault}
+use Rattle.fir_ast.specs.Faults.{Fault}
 use Rattle.fir_infer_resets.specs.declared.graph.Kind.{Kind}
 use Rattle.fir_infer_resets.specs.declared.graph.Kind.TheVariants.{Unsigned, Asynchronous, Reset}
 use Rattle.fir_meaning.specs.ResetItems.{End}

@@ -6,7 +6,7 @@ ghost use Rattle.fir_ast.specs.Types.{DataType};
 ghost use Rattle.fir_ast.specs.Statements as tree;
 ghost use Rattle.fir_ast.specs.Statements.{PlacedName};
 ghost use Rattle.fir_ast.specs.working.Views.{block_of, expr_of, named_of, reset_of, sink_of, stmt_of};
-ghost use Rattle.fir_ast.specs.View.{type_of};
+ghost use Rattle.fir_ast.specs.working.TypeViews.{type_of};
 ghost use Rattle.fir_meaning.specs.Visibility.{Before, behind, behind_block};
 ghost use Rattle.fir_names.specs.working.Parts.{when_view};
 ghost use Rattle.fir_types.specs.working.ModuleNotes.{block_notes, statement_notes};

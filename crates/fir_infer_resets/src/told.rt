@@ -1,8 +1,9 @@
 //! E18: the fault that a walk from a UInt to an AsyncReset shows (FIRRTL spec, "Reset Inference").
 
 ghost use Rattle.std.specs.Prelude.{◌≡◌, ◌≤◌, IfOk, List, length, map};
-ghost use Rattle.fir_ast.specs.Texts.{reset_step_text};
-ghost use Rattle.fir_pass.specs.Faults.{Fault, fault_of};
+ghost use Rattle.fir_ast.specs.working.CodeFaults.{reset_step_text};
+ghost use Rattle.fir_ast.specs.Faults.{Fault};
+ghost use Rattle.fir_ast.specs.working.CodeFaults.{fault_of};
 ghost use Rattle.fir_infer_resets.specs.working.FoundKinds.{TellsWalk};
 ghost use Rattle.fir_infer_resets.specs.working.Holding.{AreEnds, item_of};
 ghost use Rattle.fir_infer_resets.specs.working.ResetGraphs.{AllBelow};

@@ -8,14 +8,14 @@ use Rattle.fir_ast.specs.declared.types.Ty.{Ty}
 use Rattle.fir_ast.specs.Types.{DataType, uint, sint}
 use Rattle.fir_ast.specs.Statements.{PlacedName, MemoryPart}
 use Rattle.fir_ast.specs.working.Views.{named_of}
-use Rattle.fir_ast.specs.View.{type_of}
+use Rattle.fir_ast.specs.working.TypeViews.{type_of}
 use Rattle.fir_ast.specs.Circuits.{ModuleTree, CircuitTree}
 use Rattle.fir_meaning.specs.Components.{Component, port, memory}
 use Rattle.fir_meaning.specs.ComponentTypes.{is_input}
 use Rattle.fir_meaning.specs.LeafPaths.{LeafPath, named}
 use Rattle.fir_meaning.specs.MemoryTypes.{data_of_part, first_one}
 use Rattle.fir_meaning.specs.TypeLeaves.{turned}
-use Rattle.fir_meaning.specs.WidthExpressions.{Width, Widths, width_of}
+use Rattle.fir_meaning.specs.WidthExpressions.{Width, Widths, width_under}
 use Rattle.fir_meaning.specs.SizedTypes.{Sized, sized_bundle, no_sized_fields, leaf_width, past, numbered}
 use Rattle.fir_meaning.specs.SizedLeaves.{SizedLeaf, sized_leaves}
 use Rattle.fir_meaning.specs.SizedMemories.{as_written}
@@ -96,9 +96,9 @@ none_past n at is = ap (past n) is
 
 module _ (v w : Widths) where
   abbrev HasOneWidth : Fitting
-  HasOneWidth = λ number t width. width_of width v ≡ width_of width w
+  HasOneWidth = λ number t width. width_under width v ≡ width_under width w
 
-  one_width : (k : Option ℕ) → width_of (leaf_width None k) v ≡ width_of (leaf_width None k) w
+  one_width : (k : Option ℕ) → width_under (leaf_width None k) v ≡ width_under (leaf_width None k) w
   one_width None = refl
   one_width (Some k) = refl
 

@@ -13,7 +13,7 @@ use Rattle.fir_ast.specs.Circuits.{CircuitTree}
 use Rattle.fir_meaning.specs.ExpressionPlaces.{place_of}
 use Rattle.fir_meaning.specs.LeafPaths.{named}
 use Rattle.fir_meaning.specs.TypeKinds.{bare}
-use Rattle.fir_meaning.specs.WidthExpressions.{Width, Widths, known, width_of}
+use Rattle.fir_meaning.specs.WidthExpressions.{Width, Widths, known, width_under}
 use Rattle.fir_meaning.specs.SizedTypes.{unsigned, signed, clock_scalar, reset_scalar, async_scalar, Sized, scalar, sized_bundle, sized_vector, bare_type}
 use Rattle.fir_meaning.specs.SizedOperations.{width_in, first_sized, operation_width}
 use Rattle.fir_meaning.specs.SizedScopes.{SizedScope, literal_width, sized_type, sized_types, sink_expression}
@@ -56,7 +56,7 @@ module _ (c : CircuitTree) (ts : List DataType) (meant : List Width) (scope : Si
   literal_spot l number has = record {
     over = λ w u agrees.
         word_told (is_over (u number)) _ l.now.place (codes "literal")
-        (ap is_over (agrees number (known (literal_width l.now)) has) ∙ or_none (is_over (width_of (known (literal_width l.now)) w)));
+        (ap is_over (agrees number (known (literal_width l.now)) has) ∙ or_none (is_over (width_under (known (literal_width l.now)) w)));
     legal = λ w u agrees. refl;
   }
 
@@ -69,7 +69,7 @@ module _ (c : CircuitTree) (ts : List DataType) (meant : List Width) (scope : Si
       let first = width_in (first_sized (sized_types scope es)) in
       record {
         over = λ w u agrees.
-            word_told (is_over (u number)) _ p (operator_word op) (ap is_over (agrees number result has) ∙ or_none (is_over (width_of result w)));
+            word_told (is_over (u number)) _ p (operator_word op) (ap is_over (agrees number result has) ∙ or_none (is_over (width_under result w)));
         legal = λ w u agrees. ap (λ (n : ℕ). operation_faults p op n ks.now) (agrees operand first has_operand);
       }
 

@@ -8,7 +8,8 @@ use Rattle.fir_ast.specs.declared.types.Ty.{Ty, fold-roll-Ty}
 use Rattle.fir_ast.specs.declared.types.Ty.TheVariants as code
 use Rattle.fir_ast.specs.declared.types.Ty.TheOpen as layer
 use Rattle.fir_ast.specs.Types.{DataType, vector, Fields, field}
-use Rattle.fir_ast.specs.View.{type_step, field_step, fields_of, type_of}
+use Rattle.fir_ast.specs.View.{fields_of}
+use Rattle.fir_ast.specs.working.TypeViews.{type_step, field_step, type_of}
 use Rattle.fir_ast.specs.working.BundleText.{field_of}
 use Rattle.fir_ast.proofs.Fields.{field_of-is}
 use Rattle.fir_meaning.specs.LeafPaths.{LeafPath, named}

@@ -8,7 +8,7 @@ use Rattle.fir_ast.specs.declared.types.Ty.{Ty}
 use Rattle.fir_ast.specs.Types.{DataType, uint, sint, clock, reset, async_reset, bundle, vector, Fields, no_fields, field}
 use Rattle.fir_ast.specs.Statements.{MemoryPart}
 use Rattle.fir_ast.specs.working.Views.{named_of}
-use Rattle.fir_ast.specs.View.{type_of}
+use Rattle.fir_ast.specs.working.TypeViews.{type_of}
 use Rattle.fir_ast.specs.Circuits.{CircuitTree, ModuleTree}
 use Rattle.fir_meaning.specs.Checked.{joined}
 use Rattle.fir_meaning.specs.Components.{memory}

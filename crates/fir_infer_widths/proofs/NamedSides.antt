@@ -2,7 +2,7 @@
 use Rattle.std.proofs.Common.{◌≡◌, ℕ, ◌+◌, ◌<◌, ◌^◌, List, ◌∷◌, length, get_or, Option, Some, None, refl, sym, ap, ◌∙◌, arith}
 use Rattle.std.specs.Prelude.{option_map, slice_get}
 use Rattle.fir_ast.specs.Types.{DataType}
-use Rattle.fir_ast.specs.Statements.{Sink}
+use Rattle.fir_ast.specs.Statements.{SinkReference}
 use Rattle.fir_meaning.specs.Reaching.{Reached}
 use Rattle.fir_meaning.specs.TypeKinds.{bare}
 use Rattle.fir_meaning.specs.TypedScopes.{TypedScope}
@@ -29,14 +29,14 @@ use Rattle.fir_infer_widths.proofs.KnownSides.{root_stands}
 use Rattle.fir_infer_widths.proofs.RangeSides.{ReachStands, parts_declare, parts_reached, stands_saturated}
 
 -- what the note of a reference is that reaches something
-record Ranges (meant : List Width) (firsts : List ℕ) (typed : TypedScope) (sized : SizedScope) (s : Sink) (r : Reached) : Type 0 where
+record Ranges (meant : List Width) (firsts : List ℕ) (typed : TypedScope) (sized : SizedScope) (s : SinkReference) (r : Reached) : Type 0 where
   range : LeafRange
   note : reference_note typed s ≡ of_reference (Some range)
   first : ℕ
   begins : slice_get firsts range.declaration ≡ Some first
   leaves : ReachStands meant first range (sized_part (sized_in sized s.name) s.parts) r
 
-ranges : (meant : List Width) (firsts : List ℕ) (typed : TypedScope) (sized : SizedScope) (s : Sink) (r : Reached) → AllStand meant firsts typed sized → Reaches typed s r
+ranges : (meant : List Width) (firsts : List ℕ) (typed : TypedScope) (sized : SizedScope) (s : SinkReference) (r : Reached) → AllStand meant firsts typed sized → Reaches typed s r
     → Ranges meant firsts typed sized s r
 ranges meant firsts typed sized s r stand reaches =
     let root = root_stands meant firsts typed sized stand s.name reaches.0 reaches.1 in
@@ -72,7 +72,7 @@ range_read ts own n range is seen =
       shared_offset = ap (λ (x : LeafRange). x.shared_offset) same;
     }
 
-named_side : (ts : List DataType) (meant : List Width) (firsts : List ℕ) (typed : TypedScope) (sized : SizedScope) (s : Sink) (r : Reached) → AllStand meant firsts typed sized
+named_side : (ts : List DataType) (meant : List Width) (firsts : List ℕ) (typed : TypedScope) (sized : SizedScope) (s : SinkReference) (r : Reached) → AllStand meant firsts typed sized
     → length meant < 2 ^ 64 → Reaches typed s r → (own : RangeOfCode) → note_seen ts (code.Reference (Some own)) ≡ saturated_note (reference_note typed s) → (side : Side)
     → ((first : ℕ) → slice_get firsts own.declaration ≡ Some first → side ≡ record { found = own.found; first = saturated (first + own.shared_offset) })
     → IsSide ts meant side (sized_type sized (sink_expression s))
@@ -88,7 +88,7 @@ named_side ts meant firsts typed sized s r stand small reaches own seen side is 
     }
 
 -- and None is not the note of a reference that reaches something
-no_nothing : (ts : List DataType) (meant : List Width) (firsts : List ℕ) (typed : TypedScope) (sized : SizedScope) (s : Sink) (r : Reached) → AllStand meant firsts typed sized
+no_nothing : (ts : List DataType) (meant : List Width) (firsts : List ℕ) (typed : TypedScope) (sized : SizedScope) (s : SinkReference) (r : Reached) → AllStand meant firsts typed sized
     → Reaches typed s r → note_seen ts (code.Reference None) ≡ saturated_note (reference_note typed s) → ⊥
 no_nothing ts meant firsts typed sized s r stand reaches seen =
     let known = ranges meant firsts typed sized s r stand reaches in
@@ -96,7 +96,7 @@ no_nothing ts meant firsts typed sized s r stand reaches seen =
     cc
 
 -- in front of the note of a reference
-pub side_ahead : (g : Ground) (meant : List Width) (rules : List Rule) (typed : TypedScope) (sized : SizedScope) (s : Sink) (r : Reached) (rest : List Note) (walk : Walk)
+pub side_ahead : (g : Ground) (meant : List Width) (rules : List Rule) (typed : TypedScope) (sized : SizedScope) (s : SinkReference) (r : Reached) (rest : List Note) (walk : Walk)
     → Enters g typed sized meant rules (reference_note typed s ∷ rest) walk → length meant < 2 ^ 64 → Reaches typed s r → (x : NoteOfCode) (o : Option RangeOfCode)
     → x ≡ get_or walk.notes.now 0 x → x ≡ code.Reference o → (side : Side)
     → ((own : RangeOfCode) (first : ℕ) → o ≡ Some own → slice_get g.first_leaves.now own.declaration ≡ Some first

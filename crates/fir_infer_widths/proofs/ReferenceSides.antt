@@ -9,7 +9,7 @@ use Rattle.fir_ast.specs.declared.expressions.Part.{Part, fold_out-Part}
 use Rattle.fir_ast.specs.declared.expressions.Reference.{Reference}
 use Rattle.fir_ast.specs.Circuits.{CircuitTree}
 use Rattle.fir_ast.specs.Expressions.{Expression, Parts, no_parts}
-use Rattle.fir_ast.specs.Statements.{Sink}
+use Rattle.fir_ast.specs.Statements.{SinkReference}
 use Rattle.fir_ast.specs.working.Views.{expr_of, sink_of, expr_step, part_step, reference_step}
 use Rattle.fir_meaning.specs.Reaching.{Reached, at_any, at_element, at_field}
 use Rattle.fir_meaning.specs.TypedScopes.{TypedScope}
@@ -25,20 +25,20 @@ use Rattle.fir_infer_widths.specs.working.Walks.{Comes, ComesPast, Enters}
 use Rattle.fir_infer_widths.proofs.Coming.{come_none, come_then, enters_then}
 
 pub reference_view : (r : Reference) → expr_of (code_expr.Ref r) ≡ sink_expression (sink_of r)
-reference_view r = ap expr_of (sym (code_expr.rolls-Ref r)) ∙ fold-roll-Expr Expression (Parts → Parts) Sink expr_step part_step reference_step (layer.Ref r)
+reference_view r = ap expr_of (sym (code_expr.rolls-Ref r)) ∙ fold-roll-Expr Expression (Parts → Parts) SinkReference expr_step part_step reference_step (layer.Ref r)
 
 -- behind a part the others lead on
 abbrev LeadsBehind : TypedScope → Reached → Parts → Reached → Type 0
 LeadsBehind typed r rest s = (b : Reached) × Leads typed b rest s
 
-step_leads : (typed : TypedScope) (r s : Reached) (q : Part-F Expression (Parts → Parts) Sink) (rest : Parts) → Leads typed r (part_step q rest) s → LeadsBehind typed r rest s
+step_leads : (typed : TypedScope) (r s : Reached) (q : Part-F Expression (Parts → Parts) SinkReference) (rest : Parts) → Leads typed r (part_step q rest) s → LeadsBehind typed r rest s
 step_leads typed r s (layer.Field first p x) rest h = (at_field x r h.0, h.2)
 step_leads typed r s (layer.Index first p i) rest h = (at_element i r h.0, h.4)
 step_leads typed r s (layer.Access first e) rest h = (at_any r (h.1, h.2), h.5)
 
 part_leads : (typed : TypedScope) (r s : Reached) (q : Part) (rest : Parts) → Leads typed r (part_of q rest) s → LeadsBehind typed r rest s
 part_leads typed r s q rest h =
-    let view = fold_out-Part Expression (Parts → Parts) Sink expr_step part_step reference_step q in
+    let view = fold_out-Part Expression (Parts → Parts) SinkReference expr_step part_step reference_step q in
     step_leads typed r s _ rest (subst (λ (f : Parts → Parts). Leads typed r (f rest) s) view h)
 
 -- those that are passed so far

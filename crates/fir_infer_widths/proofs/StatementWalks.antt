@@ -8,7 +8,7 @@ use Rattle.fir_ast.specs.declared.statements.Memory.{Memory}
 use Rattle.fir_ast.specs.declared.statements.Stmt.{fold-roll-Stmt}
 use Rattle.fir_ast.specs.declared.statements.Stmt.TheVariants as code
 use Rattle.fir_ast.specs.declared.statements.Stmt.TheOpen as layer
-use Rattle.fir_ast.specs.Statements.{Sink, Statement, memory, Block, done, then}
+use Rattle.fir_ast.specs.Statements.{SinkReference, Statement, memory, Block, done, then}
 use Rattle.fir_ast.specs.Expressions.{Expression}
 use Rattle.fir_ast.specs.working.Views.{memory_part_of, named_of, stmt_of, stmt_step, when_step}
 use Rattle.fir_ast.specs.Circuits.{CircuitTree}
@@ -110,7 +110,7 @@ pub memory_view : (p : Place) (m : Memory) → stmt_of (code.Mem p m) ≡ memory
 memory_view p m = ap stmt_of (sym (code.rolls-Mem p m)) ∙ fold-roll-Stmt Statement (Place → Statement) stmt_step when_step (layer.Mem p m)
 
 -- a connect, whole or partial
-pub connect_passed : {A E : Type 0} (c : CircuitTree) (g : Ground) (m : NumberedModule) (before : Before) (sink : Sink) (e : Expression)
+pub connect_passed : {A E : Type 0} (c : CircuitTree) (g : Ground) (m : NumberedModule) (before : Before) (sink : SinkReference) (e : Expression)
     (meant : List Width) (rules : List Rule) (rest : List Note) (old new : Walk) (r : Result A E)
     → EntersAt c g m before meant rules (connect_notes (scope_at m.modules before) sink e ++ rest) old → Begins before.declared (declarations m.inside)
     → (Enters g (scope_at m.modules before) (sized_at m before) meant rules (connect_notes (scope_at m.modules before) sink e ++ rest) old

@@ -8,13 +8,14 @@ use Rattle.std.specs.Prelude.{◌&&◌, ◌||◌, min, option_map}
 use Rattle.fir_ast.specs.declared.place.Place.{Place}
 use Rattle.fir_ast.specs.Types.{DataType, uint, sint, clock, reset, async_reset, bundle, vector}
 use Rattle.fir_ast.specs.Expressions.{Parts, no_parts, subfield, subindex, subaccess}
-use Rattle.fir_ast.specs.Statements.{PlacedName, Sink}
+use Rattle.fir_ast.specs.Statements.{PlacedName, SinkReference}
 use Rattle.fir_ast.specs.declared.fault.FirFault.TheVariants as fault
-use Rattle.fir_pass.specs.Faults.{Fault, fault_of}
+use Rattle.fir_ast.specs.Faults.{Fault}
+use Rattle.fir_ast.specs.working.CodeFaults.{fault_of}
 use Rattle.fir_pass.specs.Groups.{first_of}
 use Rattle.fir_meaning.specs.LeafPaths.{LeafPath, named, element, step_text, path_text}
 use Rattle.fir_meaning.specs.TypeLeaves.{turned}
-use Rattle.fir_meaning.specs.WidthExpressions.{Widths, width_of}
+use Rattle.fir_meaning.specs.WidthExpressions.{Widths, width_under}
 use Rattle.fir_meaning.specs.SizedTypes.{leaf_width, past, numbered}
 use Rattle.fir_meaning.specs.SizedLeaves.{SizedLeaf, sized_leaves}
 use Rattle.fir_meaning.specs.SizeFaults.{leaf_over, word_over, no_port_width}
@@ -101,10 +102,10 @@ path_grown path (subfield first q x rest) = path_grown (path ++ named x ∷ []) 
 path_grown path (subindex first q i rest) = path_grown (path ++ element i ∷ []) rest ∙ append_assoc path (element i ∷ []) (steps_of rest)
 path_grown path (subaccess first e rest) = path_grown (path ++ element 0 ∷ []) rest ∙ append_assoc path (element 0 ∷ []) (steps_of rest)
 
-pub none_in_sink : (u : Widths) (s : Sink) (ls : List NumberedLeaf) → None ≡ option_map (flat_map step_text) (first_where (leaf_is_over u) ls) → sink_over u s ls ≡ []
+pub none_in_sink : (u : Widths) (s : SinkReference) (ls : List NumberedLeaf) → None ≡ option_map (flat_map step_text) (first_where (leaf_is_over u) ls) → sink_over u s ls ≡ []
 none_in_sink u s ls e = none_over u s.place (first_path (named s.name ∷ []) s.parts) ls e
 
-pub first_in_sink : (u : Widths) (s : Sink) (ls : List NumberedLeaf) (steps leaf : List ℕ) → Some steps ≡ option_map (flat_map step_text) (first_where (leaf_is_over u) ls)
+pub first_in_sink : (u : Widths) (s : SinkReference) (ls : List NumberedLeaf) (steps leaf : List ℕ) → Some steps ≡ option_map (flat_map step_text) (first_where (leaf_is_over u) ls)
     → leaf ≡ path_text (sink_path s) ++ steps → first_of (sink_over u s ls) ≡ Some (word_over s.place leaf)
 first_in_sink u s ls steps leaf e text =
     ap (λ path. first_of (numbers_over u s.place path ls)) (path_grown (named s.name ∷ []) s.parts)
@@ -140,16 +141,16 @@ module _ (n : PlacedName) (inward : Bool) where
 
 -- a type that is written, and its widths
 abbrev SaysOver : Fitting
-SaysOver = λ number t w. says_over t ≡ nat_lt 128 (width_of w (λ k. 0))
+SaysOver = λ number t w. says_over t ≡ nat_lt 128 (width_under w (λ k. 0))
 
 over_capped : (w : ℕ) → nat_lt 128 w ≡ nat_lt 128 (min w 129)
 over_capped w = grind (arith, nat_tests)
 
-says_uint : (w : Option ℕ) → says_over (uint w) ≡ nat_lt 128 (width_of (leaf_width None w) (λ k. 0))
+says_uint : (w : Option ℕ) → says_over (uint w) ≡ nat_lt 128 (width_under (leaf_width None w) (λ k. 0))
 says_uint None = refl
 says_uint (Some w) = over_capped w
 
-says_sint : (w : Option ℕ) → says_over (sint w) ≡ nat_lt 128 (width_of (leaf_width None w) (λ k. 0))
+says_sint : (w : Option ℕ) → says_over (sint w) ≡ nat_lt 128 (width_under (leaf_width None w) (λ k. 0))
 says_sint None = refl
 says_sint (Some w) = over_capped w
 

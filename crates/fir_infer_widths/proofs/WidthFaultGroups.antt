@@ -12,14 +12,14 @@ use Rattle.fir_ast.specs.declared.expressions.Literal.{Literal}
 use Rattle.fir_ast.specs.Expressions.{Expression, reference, literal, operation, mux, validif}
 use Rattle.fir_ast.specs.Statements.{PlacedName}
 use Rattle.fir_ast.specs.Circuits.{CircuitTree}
-use Rattle.fir_pass.specs.Faults.{Fault}
+use Rattle.fir_ast.specs.Faults.{Fault}
 use Rattle.fir_pass.specs.Groups.{group_of}
 use Rattle.fir_meaning.specs.LeafPaths.{LeafPath, named}
 use Rattle.fir_meaning.specs.TypeLeaves.{turned}
 use Rattle.fir_meaning.specs.Components.{port, wire, register, node, instance, memory}
 use Rattle.fir_meaning.specs.ComponentTypes.{is_input}
 use Rattle.fir_meaning.specs.ExpressionPlaces.{place_of}
-use Rattle.fir_meaning.specs.WidthExpressions.{Width, known, unknown, single, pair, greater, guarded, Widths, width_of}
+use Rattle.fir_meaning.specs.WidthExpressions.{Width, known, unknown, single, pair, greater, guarded, Widths, width_under}
 use Rattle.fir_meaning.specs.SizedTypes.{unsigned, signed, clock_scalar, reset_scalar, async_scalar, Sized, scalar, sized_bundle, sized_vector}
 use Rattle.fir_meaning.specs.SizedLeaves.{SizedLeaf, sized_leaves}
 use Rattle.fir_meaning.specs.SizedOperations.{width_in, first_sized}
@@ -98,7 +98,7 @@ module _ (w : Widths) where
   legal_form_of scope (reference p n ps) = none_of 7
   legal_form_of scope (literal l) = literal_of l l.width
   legal_form_of scope (operation p op es ks) =
-      let width = width_of (width_in (first_sized (sized_types scope es))) w in
+      let width = width_under (width_in (first_sized (sized_types scope es))) w in
       either_of 7 (is_legal op width (slice_index ks 0) (slice_index ks 1)) [] (wrong_integers p op (width ∷ ks) ∷ []) (none_of 7)
       (one_of 7 (wrong_integers p op (width ∷ ks)) refl)
   legal_form_of scope (mux p c a b) = none_of 7
@@ -106,7 +106,7 @@ module _ (w : Widths) where
 
   condition_of : (p : Place) (t : Sized) → AreOf 7 (condition_faults w p t)
   condition_of p (scalar unsigned width) =
-      either_of 7 (width_of width w == 1) [] (wrong_condition p (width_of width w) ∷ []) (none_of 7) (one_of 7 (wrong_condition p (width_of width w)) refl)
+      either_of 7 (width_under width w == 1) [] (wrong_condition p (width_under width w) ∷ []) (none_of 7) (one_of 7 (wrong_condition p (width_under width w)) refl)
   condition_of p (scalar signed width) = none_of 7
   condition_of p (scalar clock_scalar width) = none_of 7
   condition_of p (scalar reset_scalar width) = none_of 7

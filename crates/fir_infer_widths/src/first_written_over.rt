@@ -2,7 +2,8 @@
 
 ghost use Rattle.std.specs.Prelude.{◌≡◌, IfOk, flat_map, map, option_map};
 ghost use Rattle.fir_ast.specs.Types.{sint, uint};
-ghost use Rattle.fir_ast.specs.View.{fields_of, type_of};
+ghost use Rattle.fir_ast.specs.View.{fields_of};
+ghost use Rattle.fir_ast.specs.working.TypeViews.{type_of};
 ghost use Rattle.fir_ast.specs.working.BundleText.{field_of};
 ghost use Rattle.fir_meaning.specs.LeafPaths.{named, step_text};
 ghost use Rattle.fir_type_table.specs.working.Wanted.{IsPathFound};

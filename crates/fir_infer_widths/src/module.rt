@@ -3,7 +3,7 @@
 ghost use Rattle.std.specs.Prelude.{◌≡◌, ◌++◌, List, [], ◌∷◌, map, OnOk};
 ghost use Rattle.fir_ast.specs.Circuits.{CircuitTree};
 ghost use Rattle.fir_ast.specs.working.Views.{module_of, named_of, port_of};
-ghost use Rattle.fir_ast.specs.View.{type_of};
+ghost use Rattle.fir_ast.specs.working.TypeViews.{type_of};
 ghost use Rattle.fir_meaning.specs.Components as component;
 ghost use Rattle.fir_meaning.specs.Visibility.{Before, at_head, behind_ports, declarations, with_declaration};
 ghost use Rattle.fir_meaning.specs.SizedDeclarations.{NumberedModule};

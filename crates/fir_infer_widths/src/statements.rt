@@ -6,7 +6,7 @@ ghost use Rattle.fir_ast.specs.Circuits.{CircuitTree, ModuleTree};
 ghost use Rattle.fir_ast.specs.Statements as tree;
 ghost use Rattle.fir_ast.specs.Types.{DataType};
 ghost use Rattle.fir_ast.specs.working.Views.{block_of, expr_of, memory_part_of, named_of, reset_of, stmt_of};
-ghost use Rattle.fir_ast.specs.View.{type_of};
+ghost use Rattle.fir_ast.specs.working.TypeViews.{type_of};
 ghost use Rattle.fir_meaning.specs.Components as component;
 ghost use Rattle.fir_meaning.specs.Components.{Component};
 ghost use Rattle.fir_meaning.specs.MemoryTypes.{memory_type};

@@ -1,7 +1,7 @@
 //! How far the walk over a module has come.
 
 ghost use Rattle.std.specs.Prelude.{◌≡◌, ◌+◌, ℕ, List, ◌∷◌, Some, slice_get};
-ghost use Rattle.fir_ast.specs.Statements.{Sink};
+ghost use Rattle.fir_ast.specs.Statements.{SinkReference};
 ghost use Rattle.fir_ast.specs.Types.{DataType};
 ghost use Rattle.fir_meaning.specs.Reaching.{Reached};
 ghost use Rattle.fir_meaning.specs.TypedScopes.{TypedScope};
@@ -45,7 +45,7 @@ impl<'a> Walk<'a> {
 
     /// What a reference names, by its note, which is passed.
     pub fn named(&mut self, ground: &Ground<'a>) -> Side
-        ensures side { (typed : TypedScope) (sized : SizedScope) (s : Sink) (r : Reached) (meant : List Width) (rules : List Rule) (rest : List Meant) → Enters ground.now typed sized meant rules (reference_note typed s ∷ rest) self.old → Reaches typed s r → IsSide (types_in ground.now) meant result (sized_type sized (sink_expression s)) }
+        ensures side { (typed : TypedScope) (sized : SizedScope) (s : SinkReference) (r : Reached) (meant : List Width) (rules : List Rule) (rest : List Meant) → Enters ground.now typed sized meant rules (reference_note typed s ∷ rest) self.old → Reaches typed s r → IsSide (types_in ground.now) meant result (sized_type sized (sink_expression s)) }
         ensures ahead { (ts : List DataType) (note : Meant) (rest : List Meant) → Ahead ts self.old.notes.now (note ∷ rest) → Ahead ts self.new.notes.now rest }
         ensures stays { self.new ≡ record self.old { notes = self.new.notes } }
     {

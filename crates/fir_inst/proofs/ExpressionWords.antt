@@ -21,7 +21,7 @@ use Rattle.fir_meaning.specs.Checked.{Checked, joined}
 use Rattle.fir_meaning.specs.OperationTypes.{operand_kinds, operation_on, result_of, ground_of, is_conversion, type_of_operation}
 use Rattle.fir_meaning.specs.TypedScopes.{Known, TypedScope, known}
 use Rattle.fir_meaning.specs.Reaching.{Reached, at_element, any_element, element_at, field_of_type, known_reached, reached_field, root, to_any, to_field, to_index, vector_of_type}
-use Rattle.fir_meaning.specs.ExpressionTypes.{number_type, passive_at, type_of_mux, type_of_validif, condition_form, passive_form, mux_form, validif_form, field_form, index_form, access_form, expression_type, expression_types, along_parts}
+use Rattle.fir_meaning.specs.ExpressionTypes.{number_data_type, passive_at, type_of_mux, type_of_validif, condition_form, passive_form, mux_form, validif_form, field_form, index_form, access_form, expression_type, expression_types, along_parts}
 use Rattle.fir_inst.specs.working.Words.{TypeHasWords}
 use Rattle.fir_inst.proofs.TypeWords.{bare_words, field_has_words, element_has_words}
 use Rattle.fir_inst.proofs.HeldForms.{mapped_holds, after_holds, left_holds, right_holds, ok_either}
@@ -76,7 +76,7 @@ along_words scope p (subaccess first e rest) c h =
     (λ r k. any_reached p r (vector_of_type r.data_type) (element_has_words r.data_type k)))
 
 -- the other forms
-number_words : (signed : Bool) (width : Option ℕ) → TypeHasWords (number_type signed width)
+number_words : (signed : Bool) (width : Option ℕ) → TypeHasWords (number_data_type signed width)
 number_words true width = tt
 number_words false width = tt
 

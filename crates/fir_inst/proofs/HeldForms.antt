@@ -1,7 +1,7 @@
 -- What a form is found to be: what holds of it, where the like holds of an operand.
 use Rattle.std.proofs.Common.{Bool, true, false, Option, Some, None, Result, Ok, Err}
 use Rattle.std.specs.Prelude.{IfSome, IfOk, if◌then◌else◌, option_map}
-use Rattle.fir_pass.specs.Faults.{Fault}
+use Rattle.fir_ast.specs.Faults.{Fault}
 use Rattle.fir_meaning.specs.Checked.{answered, answer_on, joined}
 
 pub mapped_holds : {A B : Type 0} → (P : A → Type 0) (Q : B → Type 0) (f : A → B) (o : Option A) → IfSome o P → ((x : A) → P x → Q (f x))

@@ -2,6 +2,8 @@
 use Rattle.std.proofs.Common.{◌≡◌, ◌↔◌, ℕ, ◌+◌, List, [], ◌++◌, refl, ap₂, ◌∙◌}
 use Rattle.fir_base.proofs.Elements.{get_in}
 use Rattle.fir_ast.specs.declared.fault.FirFault.{FirFault}
+use Rattle.fir_ast.specs.Faults.{Fault}
+use Rattle.fir_ast.specs.working.CodeFaults.{fault_of}
 use Rattle.fir_ast.specs.Circuits.{CircuitTree}
 use Rattle.fir_pass.specs.Groups.{IsClear}
 use Rattle.fir_meaning.specs.Elaborated.{HasMain, IsSourceOf}
@@ -60,7 +62,7 @@ module _ (laws : LawsBelow) (trees : HasOneTree) (taking : SameRegistersTakeValu
   }
 
   -- closed walks stand in a tree below the main module where they stand in its design
-  walks_by_path : (t : SourceDesign) (src : IsSourceOf c t) (h : HasDesign laws c order net given src.scenes src.main) (f : FirFault)
+  walks_by_path : (t : SourceDesign) (src : IsSourceOf c t) (h : HasDesign laws c order net given src.scenes src.main) (f : Fault)
       → LeafShowsLoop (flattened h.design) f ↔ ShowsLoop t f
   walks_by_path t src h f =
       let both : AreDesigns c h.design t = record {
@@ -82,8 +84,7 @@ module _ (laws : LawsBelow) (trees : HasOneTree) (taking : SameRegistersTakeValu
       let src = shown.is_source in
       let h = has_design laws c order net given src.scenes src.main src.has in
       let lone = net_of laws c order net given src.main h.first.scene (views src.scenes) h.design h.sound.is in
-      hidden (flattened h.design) net (whole_by src.scenes src.main src.has) lone.flat none shown.fault
-      ((walks_by_path shown.source src h shown.fault).1 shown.shows)
+      hidden (flattened h.design) net (whole_by src.scenes src.main src.has) lone.flat none f ((walks_by_path shown.source src h f).1 shown.shows)
 
   flattens : net.name ≡ c.named.name → FlattensTo c net
   flattens named =
@@ -107,9 +108,9 @@ module _ (laws : LawsBelow) (trees : HasOneTree) (taking : SameRegistersTakeValu
         loops = λ f shown. record {
           source = tree.0;
           is_source = source;
-          fault = f;
-          shows = (walks_by_path tree.0 source h f).0 ((same_loops (flattened h.design) net f whole lone.flat lone.named).0 shown);
-          is = refl;
+          shows =
+              (walks_by_path tree.0 source h (fault_of f)).0
+              ((same_loops (flattened h.design) net (fault_of f) whole lone.flat lone.named).0 (f, shown, refl));
         };
         no_loop = no_loop;
       }

@@ -2,7 +2,7 @@
 
 ghost use Rattle.std.specs.Prelude.{◌≡◌, map};
 ghost use Rattle.fir_ast.specs.working.Views.{port_of};
-ghost use Rattle.fir_ast.specs.View.{type_of};
+ghost use Rattle.fir_ast.specs.working.TypeViews.{type_of};
 ghost use Rattle.fir_lack.specs.Lacking.{is_clock_input};
 ghost use Rattle.fir_lack.specs.working.Searched.{SearchesPort, SearchesPorts};
 

@@ -3,7 +3,7 @@
 ghost use Rattle.std.specs.Prelude.{◌≡◌, ℕ, map, option_map};
 ghost use Rattle.fir_ast.specs.declared.place.Place.{Place};
 ghost use Rattle.fir_ast.specs.working.Views.{block_of, expr_of, reset_of, sink_of, stmt_of};
-ghost use Rattle.fir_ast.specs.View.{type_of};
+ghost use Rattle.fir_ast.specs.working.TypeViews.{type_of};
 ghost use Rattle.fir_meaning.specs.ModuleScenes.{Scene};
 ghost use Rattle.fir_meaning.specs.working.LeafedModules.{module_leaves};
 ghost use Rattle.fir_names.specs.working.Parts.{when_view};

@@ -1,7 +1,7 @@
 //! The first token of a type (FIRRTL spec, "Types").
 
 ghost use Rattle.std.specs.Prelude.{◌≡◌};
-ghost use Rattle.fir_ast.specs.View.{type_of};
+ghost use Rattle.fir_ast.specs.working.TypeViews.{type_of};
 ghost use Rattle.fir_lack.specs.Lacking.{type_word};
 
 use fir_ast::Ty;

@@ -5,7 +5,7 @@ use Rattle.std.proofs.lemmas.Option.{slice_get_within}
 use Rattle.fir_ast.specs.declared.place.Place.{Place}
 use Rattle.fir_ast.specs.Types.{DataType, uint}
 use Rattle.fir_ast.specs.Expressions.{Expression, reference, literal, operation, mux, validif}
-use Rattle.fir_ast.specs.Statements.{Sink, Statement, wire, register, node, instance, memory, when, connect, partial_connect, invalid, skip, Block, done, then}
+use Rattle.fir_ast.specs.Statements.{SinkReference, Statement, wire, register, node, instance, memory, when, connect, partial_connect, invalid, skip, Block, done, then}
 use Rattle.fir_ast.specs.Circuits.{ModuleTree}
 use Rattle.fir_meaning.specs.TypeLeaves.{type_leaves, leaf_count}
 use Rattle.fir_meaning.specs.Visibility.{Before, opened, reopened, behind, behind_block}
@@ -119,7 +119,7 @@ module _ (modules : List ModuleTree) (whole : TypedScope) where
   module _ (scope : TypedScope) (begins : Begins scope whole) where
     source_within : (e : Expression) (t : DataType) → HasType scope e t → SideWithin (length (scope_paths whole)) (target_read scope e) t
     source_within (reference p n ps) t h =
-        let s : Sink = record { place = p; name = n; parts = ps } in
+        let s : SinkReference = record { place = p; name = n; parts = ps } in
         let met = sink_within scope whole begins s h.1 (h.0, h.2, h.3) in
         record { within = met.within; data_type = met.data_type ∙ sym h.4 }
     source_within (literal l) t h = tt
@@ -129,7 +129,7 @@ module _ (modules : List ModuleTree) (whole : TypedScope) where
 
     connect_within : (fits : DataType → DataType → Bool) (numbers_of : DataType → DataType → List LeafPair) (pairs_of : DataType → DataType → List Pair)
         → ((t u : DataType) → fits t u ≡ true → ArePairs (IsPair (type_leaves t) (type_leaves u)) (numbers_of t u) (pairs_of t u))
-        → (p : Place) (s : Sink) (e : Expression) → ConnectIsLegal fits pairs_of scope s e
+        → (p : Place) (s : SinkReference) (e : Expression) → ConnectIsLegal fits pairs_of scope s e
         → BlockWithin (length (scope_paths whole)) (connect_block numbers_of scope p s e)
     connect_within fits numbers_of pairs_of alike p s e h =
         let met = sink_within scope whole begins s h.0 h.2 in

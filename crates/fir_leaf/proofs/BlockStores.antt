@@ -3,7 +3,7 @@ use Rattle.std.proofs.Common.{◌≡◌, ℕ, List, [], ◌∷◌, ◌++◌, Boo
 use Rattle.fir_ast.specs.declared.place.Place.{Place}
 use Rattle.fir_ast.specs.Types.{DataType, uint}
 use Rattle.fir_ast.specs.Expressions.{Expression, reference, literal, operation, mux, validif}
-use Rattle.fir_ast.specs.Statements.{Sink, Statement, wire, register, node, instance, memory, when, connect, partial_connect, invalid, skip, Block, done, then}
+use Rattle.fir_ast.specs.Statements.{SinkReference, Statement, wire, register, node, instance, memory, when, connect, partial_connect, invalid, skip, Block, done, then}
 use Rattle.fir_ast.specs.Circuits.{ModuleTree}
 use Rattle.fir_meaning.specs.TypeLeaves.{type_leaves}
 use Rattle.fir_meaning.specs.Visibility.{Before, opened, reopened, behind, behind_block}
@@ -38,7 +38,7 @@ module _ (modules : List ModuleTree) (whole : TypedScope) (fine : IsFine whole) 
     source_named : (e : Expression) (t : DataType) → HasType scope e t
         → NameSame whole fine facts env (type_leaves t) (target_read scope e) (aim_read scope facts.holds env e)
     source_named (reference p n ps) t h =
-        let s : Sink = record { place = p; name = n; parts = ps } in
+        let s : SinkReference = record { place = p; name = n; parts = ps } in
         let met = reaches_stands scope whole facts.holds env begins s h.1 (h.0, h.2, h.3) in
         subst (λ (u : DataType). NameSame whole fine facts env (type_leaves u) (Some (target_of scope s)) (aim_of scope facts.holds env s).at)
         (met.data_type ∙ sym h.4) (standing_named whole fine facts env (target_of scope s) (aim_of scope facts.holds env s) met.stands)
@@ -49,7 +49,7 @@ module _ (modules : List ModuleTree) (whole : TypedScope) (fine : IsFine whole) 
 
     connect_same : (fits : DataType → DataType → Bool) (numbers_of : DataType → DataType → List LeafPair) (pairs_of : DataType → DataType → List Pair)
         → ((t u : DataType) → fits t u ≡ true → ArePairs (IsPair (type_leaves t) (type_leaves u)) (numbers_of t u) (pairs_of t u))
-        → (p : Place) (s : Sink) (e : Expression) (taken : List Bool) (ns : LeafStore ℕ) (ps : PathStore) → ConnectIsLegal fits pairs_of scope s e
+        → (p : Place) (s : SinkReference) (e : Expression) (taken : List Bool) (ns : LeafStore ℕ) (ps : PathStore) → ConnectIsLegal fits pairs_of scope s e
         → IsSameStore whole ns ps
         → IsSameStore whole (run whole fine facts env (connect_block numbers_of scope p s e) taken ns) (exec_connect facts env pairs_of scope s e taken ps)
     connect_same fits numbers_of pairs_of alike p s e taken ns ps h same =

@@ -14,7 +14,7 @@ use Rattle.fir_ast.specs.View.{fields_of}
 use Rattle.fir_meaning.specs.Components.{find_name}
 use Rattle.fir_meaning.specs.Checked.{joined}
 use Rattle.fir_meaning.specs.MemoryTypes.{mask_type, mask_fields, reader_type, writer_type, readwriter_type, flipped_fields, port_fields_of, data_of_part, depth_of_part, first_one, memory_bundle, memory_type}
-use Rattle.fir_meaning.specs.Mentions.{Mention, declares, placed, type_mentions, field_mentions, port_mentions, ports_of, data_mentions, memory_mentions}
+use Rattle.fir_meaning.specs.Mentions.{Mention, declares, placed_name, type_mentions, field_mentions, port_mentions, ports_of, data_mentions, memory_mentions}
 use Rattle.fir_meaning.specs.NameGroups.{faults_in, mention_faults, second_faults}
 use Rattle.fir_meaning.proofs.FreshFields.{field_names, HasFreshFields, AreFresh}
 use Rattle.fir_meaning.proofs.OnceDeclared.{faults_joined, clear_left, clear_right}
@@ -36,20 +36,20 @@ record OnceFirst (before : List PlacedName) (n : PlacedName) (t : DataType) (res
   later : AreOnce (before ++ n ∷ []) rest
 
 first_from : (before : List PlacedName) (p : Place) (flip : Bool) (x : List ℕ) (b : Place) (t : DataType) (rest : Fields)
-    → AreOnce before (field p flip x b t rest) → OnceFirst before (placed p x) t rest
+    → AreOnce before (field p flip x b t rest) → OnceFirst before (placed_name p x) t rest
 first_from before p flip x b t rest h =
     let own = type_mentions t in
-    let later = field_mentions (before ++ placed p x ∷ []) rest in
-    let inside = empty_right (mention_faults (declares before (placed p x))) (faults_in (own ++ later)) h in
+    let later = field_mentions (before ++ placed_name p x ∷ []) rest in
+    let inside = empty_right (mention_faults (declares before (placed_name p x))) (faults_in (own ++ later)) h in
     record {
-      new = empty_left (mention_faults (declares before (placed p x))) (faults_in (own ++ later)) h;
+      new = empty_left (mention_faults (declares before (placed_name p x))) (faults_in (own ++ later)) h;
       own = clear_left own later inside;
       later = clear_right own later inside;
     }
 
-first_to : (before : List PlacedName) (p : Place) (flip : Bool) (x : List ℕ) (b : Place) (t : DataType) (rest : Fields) → OnceFirst before (placed p x) t rest
+first_to : (before : List PlacedName) (p : Place) (flip : Bool) (x : List ℕ) (b : Place) (t : DataType) (rest : Fields) → OnceFirst before (placed_name p x) t rest
     → AreOnce before (field p flip x b t rest)
-first_to before p flip x b t rest h = rw (h.new, joined_clear (type_mentions t) (field_mentions (before ++ placed p x ∷ []) rest) h.own h.later) refl
+first_to before p flip x b t rest h = rw (h.new, joined_clear (type_mentions t) (field_mentions (before ++ placed_name p x ∷ []) rest) h.own h.later) refl
 
 -- a type is such where its fields are fresh
 not_found : (ns : List PlacedName) (x : List ℕ) → ((n : PlacedName) → In ns n → n.name ≡ x → ⊥) → find_name ns x ≡ None
@@ -66,7 +66,7 @@ mutual
       → AreOnce before fs
   fields_from_fresh before no_fields new h = refl
   fields_from_fresh before (field p flip x b t rest) new h =
-      let this = placed p x in
+      let this = placed_name p x in
       first_to before p flip x b t rest
       (record {
         new = ap (λ o. second_faults o this) (not_found before x (λ n m e. new n m (inl (sym e))));
@@ -93,7 +93,7 @@ mutual
   mask_fields_once before (field p flip x b t rest) h =
       let f = first_from before p flip x b t rest h in
       first_to before p flip x b (mask_type t) (mask_fields rest)
-      (record { new = f.new; own = mask_once t f.own; later = mask_fields_once (before ++ placed p x ∷ []) rest f.later })
+      (record { new = f.new; own = mask_once t f.own; later = mask_fields_once (before ++ placed_name p x ∷ []) rest f.later })
 
 -- the ports of a memory
 module _ (p : Place) (t : DataType) (words : ℕ) (h : IsOnce t) where
@@ -102,16 +102,16 @@ module _ (p : Place) (t : DataType) (words : ℕ) (h : IsOnce t) where
 
   writer_once : IsOnce (writer_type p t words)
   writer_once =
-      joined_clear (type_mentions t) (declares _ (placed p (codes "mask")) ∷ (type_mentions (mask_type t) ++ [])) h
+      joined_clear (type_mentions t) (declares _ (placed_name p (codes "mask")) ∷ (type_mentions (mask_type t) ++ [])) h
       (joined_clear (type_mentions (mask_type t)) [] (mask_once t h) refl)
 
   readwriter_once : IsOnce (readwriter_type p t words)
   readwriter_once =
       joined_clear (type_mentions t)
-      (declares _ (placed p (codes "wmode"))
-      ∷ declares _ (placed p (codes "wdata")) ∷ (type_mentions t ++ declares _ (placed p (codes "wmask")) ∷ (type_mentions (mask_type t) ++ [])))
+      (declares _ (placed_name p (codes "wmode"))
+      ∷ declares _ (placed_name p (codes "wdata")) ∷ (type_mentions t ++ declares _ (placed_name p (codes "wmask")) ∷ (type_mentions (mask_type t) ++ [])))
       h
-      (joined_clear (type_mentions t) (declares _ (placed p (codes "wmask")) ∷ (type_mentions (mask_type t) ++ [])) h
+      (joined_clear (type_mentions t) (declares _ (placed_name p (codes "wmask")) ∷ (type_mentions (mask_type t) ++ [])) h
       (joined_clear (type_mentions (mask_type t)) [] (mask_once t h) refl))
 
   -- of some ports, and of fields behind them

@@ -4,8 +4,10 @@ use Rattle.std.proofs.lemmas.Option.{same_Some}
 use Rattle.std.specs.Prelude.{codes}
 use Rattle.fir_base.specs.Lists.{In}
 use Rattle.fir_ast.specs.declared.place.Place.{Place}
-use Rattle.fir_ast.specs.declared.fault.FirFault.{FirFault}
-use Rattle.fir_ast.specs.declared.fault.FirFault.TheVariants.{Clock, Loop, MemoryClocks}
+use Rattle.fir_ast.specs.Faults.{Fault}
+use Rattle.fir_meaning.specs.SourceClocks.{clock_fault}
+use Rattle.fir_meaning.specs.SourceLoops.{loop_fault}
+use Rattle.fir_meaning.specs.SourceMemoryClocks.{memory_clocks_fault}
 use Rattle.fir_bits.specs.Literals.{least_width}
 use Rattle.fir_meaning.specs.Lack.{is_before}
 use Rattle.fir_meaning.specs.LeafPaths.{element, named, path_text}
@@ -24,7 +26,7 @@ use Rattle.fir_leaf.proofs.RowTrees.{modules_of, over_leaves}
 use Rattle.fir_leaf.proofs.TextTrees as text
 
 -- w is invalid, and in a when of s, w <= c: the invalid is one of the two; the leaves are c, s and w
-invalid_first_shows : ShowsClockFault (over_leaves text.invalid_first) (Clock (at 5 10) (codes "w") (at 6 5) (at 8 7))
+invalid_first_shows : ShowsClockFault (over_leaves text.invalid_first) (clock_fault (at 5 10) (codes "w") (at 6 5) (at 8 7))
 unfolding elaborated
 invalid_first_shows = record {
   leaf = 2;
@@ -33,21 +35,21 @@ invalid_first_shows = record {
 }
 
 -- w is invalid, and behind it w <= c: only the connect is live, and no E25 stands
-none_picked : (x : ℕ) (f : FirFault) → ShowsPickedClock (over_leaves text.invalid_covered) x f → ⊥
+none_picked : (x : ℕ) (f : Fault) → ShowsPickedClock (over_leaves text.invalid_covered) x f → ⊥
 unfolding elaborated
 none_picked zero f h = h.first.among
 none_picked (suc zero) f h = h.first.among
 none_picked (suc (suc zero)) f h = h.first.among
 none_picked (suc (suc (suc x))) f h = h.first.among
 
-none_has_two : (x : ℕ) (f : FirFault) → ShowsTwoLive (over_leaves text.invalid_covered) x f → ⊥
+none_has_two : (x : ℕ) (f : Fault) → ShowsTwoLive (over_leaves text.invalid_covered) x f → ⊥
 unfolding elaborated
 none_has_two zero f h = let e = h.is_sink in absurd cc
 none_has_two (suc zero) f h = let e = h.is_sink in absurd cc
 none_has_two (suc (suc zero)) f h = let e = h.lives in absurd cc
 none_has_two (suc (suc (suc x))) f h = let e = h.is_sink in absurd cc
 
-invalid_covered_shows_none : (f : FirFault) → ShowsClockFault (over_leaves text.invalid_covered) f → ⊥
+invalid_covered_shows_none : (f : Fault) → ShowsClockFault (over_leaves text.invalid_covered) f → ⊥
 unfolding elaborated
 invalid_covered_shows_none f h = go h.shows
   where
@@ -58,7 +60,7 @@ invalid_covered_shows_none f h = go h.shows
 -- z[j] <= v[i], where the elements are flipped clocks: the leaves of v are driven, yet the index of z stands first in the text. The leaves are i, j, z[0].c,
 -- z[1].c, v[0].c and v[1].c
 flipped_clocks_shows : ShowsClockFault (over_leaves text.flipped_clocks)
-    (Clock (at 6 10) (path_text (named (codes "v") ∷ element 1 ∷ named (codes "c") ∷ [])) (at 7 7) (at 7 7))
+    (clock_fault (at 6 10) (path_text (named (codes "v") ∷ element 1 ∷ named (codes "c") ∷ [])) (at 7 7) (at 7 7))
 unfolding elaborated multiples
 flipped_clocks_shows = record {
   leaf = 5;
@@ -71,7 +73,7 @@ flipped_clocks_shows = record {
     behind q (inr m) = only_place (at 7 7) refl q m
 
 -- a register r with a field x, of an instance u, with v[i] as its clock, is told as u.r; the leaves are v[0], v[1], i, u.v[0], u.v[1], u.i and u.r.x
-picked_register_shows : ShowsClockFault (over_leaves text.picked_register) (Clock (at 11 9) (codes "u.r") (at 11 30) (at 11 30))
+picked_register_shows : ShowsClockFault (over_leaves text.picked_register) (clock_fault (at 11 9) (codes "u.r") (at 11 30) (at 11 30))
 unfolding elaborated
 picked_register_shows = record {
   leaf = 6;
@@ -99,7 +101,7 @@ third_has = record {
 
 -- of an instance i
 memory_clocks_shows
-    : ShowsMemoryClocks with_memory (named (codes "i") ∷ []) (MemoryClocks (at 10 9) (codes "i.m") (codes "i.c") (codes "i.u.k"))
+    : ShowsMemoryClocks with_memory (named (codes "i") ∷ []) (memory_clocks_fault (at 10 9) (codes "i.m") (codes "i.c") (codes "i.u.k"))
 unfolding least_width
 memory_clocks_shows = record {
   memory = _;
@@ -150,7 +152,7 @@ memory_clocks_shows = record {
     same x root (inr n) h = absurd n
 
 -- w <= x and x <= w, of clocks
-ring_is_loop : ShowsLoop (over_leaves text.clock_ring) (Loop (at 3 10) (codes "w" ∷ codes "x" ∷ codes "w" ∷ []))
+ring_is_loop : ShowsLoop (over_leaves text.clock_ring) (loop_fault (at 3 10) (codes "w" ∷ codes "x" ∷ codes "w" ∷ []))
 unfolding elaborated
 ring_is_loop = record {
   first = 0;

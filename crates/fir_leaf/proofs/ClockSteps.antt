@@ -2,7 +2,7 @@
 use Rattle.std.proofs.Common.{◌≡◌, ℕ, List, [], ◌∷◌, ◌++◌, flat_map, true, Option, Some, None, refl, sym, ap, ◌∙◌, subst, inl, inr}
 use Rattle.fir_base.specs.Lists.{In}
 use Rattle.fir_ast.specs.declared.place.Place.{Place}
-use Rattle.fir_ast.specs.declared.fault.FirFault.{FirFault}
+use Rattle.fir_ast.specs.Faults.{Fault}
 use Rattle.fir_meaning.specs.working.Terms.{Term, absent, literal, mux, no_picks, operation, pick, read, validif, zeros}
 use Rattle.fir_meaning.specs.working.Choices.{Live, last_all}
 use Rattle.fir_meaning.specs.working.LeafModules.{Role, computed, leaf_at, pipe, reading, register, sink, source}
@@ -40,7 +40,7 @@ plain (operation op ts ks) k e = k
 plain (mux c a b) k e = k
 plain (validif c a) k e = k
 
-module _ (c : LeafCircuit) (x : ℕ) (faultless : (f : FirFault) → ShowsClockFault c f → ⊥) (is : IsClockLeaf c x) where
+module _ (c : LeafCircuit) (x : ℕ) (faultless : (f : Fault) → ShowsClockFault c f → ⊥) (is : IsClockLeaf c x) where
   -- no index picks the leaf's clock
   none_pick : clock_places c x (leaf_at c.leaves x).holds (role_of c x) ≡ []
   none_pick = go (clock_places c x (leaf_at c.leaves x).holds (role_of c x)) refl

@@ -3,7 +3,7 @@ use Rattle.std.proofs.Common.{◌≡◌, ℕ, List, [], ◌∷◌, ◌++◌, fla
 use Rattle.fir_base.specs.Lists.{In, Distinct}
 use Rattle.fir_base.proofs.Members.{in_right}
 use Rattle.fir_base.proofs.Twins.{apart, distinct_left}
-use Rattle.fir_ast.specs.declared.fault.FirFault.{FirFault}
+use Rattle.fir_ast.specs.Faults.{Fault}
 use Rattle.fir_meaning.specs.working.Terms.{Term, no_picks, read}
 use Rattle.fir_meaning.specs.working.TermReads.{picks_read, reads}
 use Rattle.fir_meaning.specs.working.Choices.{Live}
@@ -49,7 +49,7 @@ module _ (c : LeafCircuit) where
   final_is_last (z ∷ ys) x y final a = inr (final_is_last ys y z final a.1)
 
   abbrev HasLoop : Type 0
-  HasLoop = (f : FirFault) × ShowsLoop c f
+  HasLoop = (f : Fault) × ShowsLoop c f
 
   loop_at : (x : ℕ) (v w : List ℕ) (final : ℕ) → IsWalk c x (v ++ x ∷ w) final → Distinct (v ++ x ∷ w) → HasLoop
   loop_at x v w final a d = (

@@ -17,7 +17,7 @@ use Rattle.fir_meaning.specs.TypeLeaves.{turned, TypeLeaf, under, element_leaves
 use Rattle.fir_meaning.specs.TypeKinds.{is_passive, are_passive}
 use Rattle.fir_meaning.specs.MemoryTypes.{mask_type, mask_fields, reader_type, writer_type, readwriter_type, flipped_fields, port_fields_of}
 use Rattle.fir_meaning.specs.working.LeafModules.{Need, Reading, Role, sink, source, reading, pipe}
-use Rattle.fir_meaning.specs.MemoryPorts.{PortKind, reads, writes, reads_and_writes}
+use Rattle.fir_meaning.specs.MemoryPorts.{MemoryPortKind, reads, writes, reads_and_writes}
 use Rattle.fir_meaning.specs.working.LeafMemories.{port_kinds_of, LeafMemory, enable, mode, port_size, read_role, read_roles, sinks, port_roles, roles_from}
 
 abbrev pub flips : List TypeLeaf → List Bool
@@ -102,7 +102,7 @@ mutual
       refl
 
 -- the leaves of a port that statements drive, where its data has so many leaves
-abbrev kind_flips : ℕ → PortKind → List Bool
+abbrev kind_flips : ℕ → MemoryPortKind → List Bool
 kind_flips d reads = replicate 3 true ++ replicate d false
 kind_flips d writes = replicate (3 + 2 * d) true
 kind_flips d reads_and_writes = replicate 3 true ++ replicate d false ++ replicate (1 + 2 * d) true
@@ -125,7 +125,7 @@ module _ (f : Role → Bool) (on_sink : f sink ≡ true) (on_reading : (r : Read
   reads_fail m needs b i zero = refl
   reads_fail m needs b i (suc n) = rw (read_fails m needs b i, reads_fail m needs b (suc i) n) refl
 
-  port_passes : (m : LeafMemory) (b : ℕ) (k : PortKind) → map f (port_roles m b k) ≡ kind_flips m.data_leaves k
+  port_passes : (m : LeafMemory) (b : ℕ) (k : MemoryPortKind) → map f (port_roles m b k) ≡ kind_flips m.data_leaves k
   port_passes m b reads = rw (on_sink, reads_fail m (enable b ∷ []) b 0 m.data_leaves) refl
   port_passes m b writes = sinks_pass (3 + 2 * m.data_leaves)
   port_passes m b reads_and_writes =
@@ -139,7 +139,7 @@ module _ (f : Role → Bool) (on_sink : f sink ≡ true) (on_reading : (r : Read
       )
       refl
 
-  pub roles_pass : (m : LeafMemory) (b : ℕ) (ks : List PortKind) → map f (roles_from m b ks) ≡ flat_map (kind_flips m.data_leaves) ks
+  pub roles_pass : (m : LeafMemory) (b : ℕ) (ks : List MemoryPortKind) → map f (roles_from m b ks) ≡ flat_map (kind_flips m.data_leaves) ks
   roles_pass m b [] = refl
   roles_pass m b (k ∷ ks) =
       map-append f (port_roles m b k) (roles_from m (b + port_size m.data_leaves k) ks)
@@ -208,7 +208,7 @@ module _ (p : Place) (t : DataType) (words : ℕ) (passive : is_passive t ≡ tr
       ∙ ap (λ k. true ∷ true ∷ true ∷ (replicate (leaf_count t) false ++ replicate k true))
       (let e : suc (2 * leaf_count t) ≡ 1 + 2 * leaf_count t = omega arith in e)
 
-  ports_flips : (u : DataType) (k : PortKind) → ((s : Step) → flips (map (under true s) (type_leaves u)) ≡ kind_flips (leaf_count t) k)
+  ports_flips : (u : DataType) (k : MemoryPortKind) → ((s : Step) → flips (map (under true s) (type_leaves u)) ≡ kind_flips (leaf_count t) k)
       → (ns : List PlacedName) (more : List (Fields → Fields))
       → flips (field_leaves (fields_of (flipped_fields u ns ++ more)))
       ≡ flat_map (kind_flips (leaf_count t)) (map (λ n. k) ns) ++ flips (field_leaves (fields_of more))

@@ -6,8 +6,10 @@ use Rattle.std.specs.Prelude.{codes}
 use Rattle.std.specs.Fmt.{digits}
 use Rattle.fir_base.specs.Lists.{In, Distinct}
 use Rattle.fir_ast.specs.declared.place.Place.{Place}
-use Rattle.fir_ast.specs.declared.fault.FirFault.{FirFault}
-use Rattle.fir_ast.specs.declared.fault.FirFault.TheVariants.{AsyncInit, Clock, Loop}
+use Rattle.fir_ast.specs.Faults.{Fault}
+use Rattle.fir_meaning.specs.SourceClocks.{clock_fault}
+use Rattle.fir_meaning.specs.SourceInits.{init_fault}
+use Rattle.fir_meaning.specs.SourceLoops.{loop_fault}
 use Rattle.fir_bits.specs.Literals.{least_width}
 use Rattle.fir_meaning.specs.Lack.{is_before}
 use Rattle.fir_meaning.specs.working.TermReads.{multiples}
@@ -67,11 +69,11 @@ no_loop : (x : ℕ) (between : List ℕ) → IsWalk (over_leaves text.overwritte
 no_loop x [] h = none_closes x x [] h
 no_loop x (y ∷ ys) h = none_closes x y (ys ++ x ∷ []) h
 
-overwritten_shows_no_loop : (f : FirFault) → ShowsLoop (over_leaves text.overwritten) f → ⊥
+overwritten_shows_no_loop : (f : Fault) → ShowsLoop (over_leaves text.overwritten) f → ⊥
 overwritten_shows_no_loop f h = no_loop h.first h.between h.walk
 
 -- w <= not(w) and o <= w; the leaves are a, o and w
-inverted_shows_loop : ShowsLoop (over_leaves text.inverted) (Loop (at 5 10) (codes "w" ∷ codes "w" ∷ []))
+inverted_shows_loop : ShowsLoop (over_leaves text.inverted) (loop_fault (at 5 10) (codes "w" ∷ codes "w" ∷ []))
 unfolding elaborated
 inverted_shows_loop = record {
   first = 2;
@@ -83,7 +85,7 @@ inverted_shows_loop = record {
 
 -- b.i takes x.d, which shows at once what stands in a memory of x at the address x.a, and that is b.o, which is not(b.i)
 memory_shows_loop : ShowsLoop (over_leaves text.memory_loop)
-    (Loop (at 23 10)
+    (loop_fault (at 23 10)
     (codes "b.i" ∷ codes "x.d" ∷ codes "x.m.r.data" ∷ codes "x.m.r.addr" ∷ codes "x.a" ∷ codes "b.o" ∷ codes "b.i" ∷ []))
 unfolding elaborated least_width
 memory_shows_loop = record {
@@ -111,7 +113,7 @@ memory_shows_loop = record {
 
 -- v is invalid, v[0].b <= v[0].x.b, and v[i] <- v[j].x, by which first v[j].x.b takes v[i].b, and then v[i].x.b takes v[j].x.x.b; the leaves are i, j, v[0].b,
 -- v[0].x.b and v[0].x.x.b. Each of the two has an outcome of its own: where the first hits and the second misses, v[0].x.b hangs on v[0].b
-either_side_shows_loop : ShowsLoop (over_leaves text.either_side) (Loop (at 5 10) (codes "v[0].b" ∷ codes "v[0].x.b" ∷ codes "v[0].b" ∷ []))
+either_side_shows_loop : ShowsLoop (over_leaves text.either_side) (loop_fault (at 5 10) (codes "v[0].b" ∷ codes "v[0].x.b" ∷ codes "v[0].b" ∷ []))
 unfolding elaborated multiples digits
 either_side_shows_loop = record {
   first = 2;
@@ -125,7 +127,7 @@ either_side_shows_loop = record {
 }
 
 -- in a when of s, w <= c, and else w <= d; the leaves are c, d, s and w
-in_both_blocks_shows : ShowsClockFault (over_leaves text.in_both_blocks) (Clock (at 6 10) (codes "w") (at 8 7) (at 10 7))
+in_both_blocks_shows : ShowsClockFault (over_leaves text.in_both_blocks) (clock_fault (at 6 10) (codes "w") (at 8 7) (at 10 7))
 unfolding elaborated
 in_both_blocks_shows = record {
   leaf = 3;
@@ -139,7 +141,7 @@ only_place p e q (inl s) = rw (← s) e
 only_place p e q (inr n) = absurd n
 
 -- a node n = v[i] of clocks; the leaves are v[0], v[1], i and n
-picked_node_shows : ShowsClockFault (over_leaves text.picked_node) (Clock (at 5 10) (codes "n") (at 5 16) (at 5 16))
+picked_node_shows : ShowsClockFault (over_leaves text.picked_node) (clock_fault (at 5 10) (codes "n") (at 5 16) (at 5 16))
 unfolding elaborated
 picked_node_shows = record {
   leaf = 3;
@@ -148,7 +150,7 @@ picked_node_shows = record {
 }
 
 -- the init of r reads a wire w <= a; the leaves are clock, a, rst, w and r
-init_by_input_shows : ShowsAsyncInit (over_leaves text.init_by_input) (AsyncInit (at 7 9) (codes "w" ∷ codes "a" ∷ []))
+init_by_input_shows : ShowsAsyncInit (over_leaves text.init_by_input) (init_fault (at 7 9) (codes "w" ∷ codes "a" ∷ []))
 unfolding elaborated
 init_by_input_shows = record {
   leaf = 4;

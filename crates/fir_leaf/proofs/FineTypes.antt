@@ -4,7 +4,7 @@ use Rattle.std.specs.Str.{bytes_eq}
 use Rattle.fir_base.specs.Lists.{In}
 use Rattle.fir_ast.specs.Types.{DataType, bundle, vector, Fields, no_fields, field}
 use Rattle.fir_ast.specs.Expressions.{Expression, reference, literal, operation, mux, validif, Parts, no_parts, subfield, subindex, subaccess}
-use Rattle.fir_ast.specs.Statements.{Sink}
+use Rattle.fir_ast.specs.Statements.{SinkReference}
 use Rattle.fir_meaning.specs.Reaching.{Reached, known_reached, at_field, at_element, at_any, field_of_type, vector_of_type}
 use Rattle.fir_meaning.specs.ResetJoins.{type_of_known}
 use Rattle.fir_meaning.specs.TypeKinds.{FieldFound, field_named}
@@ -70,7 +70,7 @@ module _ (scope whole : TypedScope) (fine : IsFine whole) (front : Begins scope 
       by None e t = absurd (cc)
       by (Some k) e t = fresh_known k begins.data_type (known_in scope name k e) t
 
-  pub fine_reached : (s : Sink) (r : Reached) → Reaches scope s r → HasFreshFields r.data_type
+  pub fine_reached : (s : SinkReference) (r : Reached) → Reaches scope s r → HasFreshFields r.data_type
   fine_reached s r h = fresh_along scope s.parts h.0 r h.2 (fresh_name s.name h.0 h.1)
 
   pub fine_type : (e : Expression) (t : DataType) → HasType scope e t → HasFreshFields t

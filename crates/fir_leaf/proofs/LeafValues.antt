@@ -6,7 +6,7 @@ use Rattle.fir_bits.specs.declared.values.Num.{Num}
 use Rattle.fir_bits.specs.Operators.{outcome}
 use Rattle.fir_ast.specs.Types.{DataType, uint}
 use Rattle.fir_ast.specs.Expressions.{Expression, reference, literal, operation, mux, validif, Parts, no_parts, subfield, subindex, subaccess, Expressions, no_expressions, expression}
-use Rattle.fir_ast.specs.Statements.{Sink}
+use Rattle.fir_ast.specs.Statements.{SinkReference}
 use Rattle.fir_meaning.specs.Equivalence.{same_ground}
 use Rattle.fir_meaning.specs.Values.{is_high}
 use Rattle.fir_meaning.specs.ExpressionPlaces.{place_of}
@@ -125,7 +125,7 @@ module _ (scope whole : TypedScope) (holds : TypesByPath) (env : ValuesByPath) (
         rw (operand, operands_same es h.1 resets apart.more h.3 apart.are_more) refl
 
   -- what a sink or a reference reaches
-  pub reaches_stands : (s : Sink) (r : Reached) → Reaches scope s r → Arrives whole holds env (target_of scope s) (aim_of scope holds env s) r.data_type
+  pub reaches_stands : (s : SinkReference) (r : Reached) → Reaches scope s r → Arrives whole holds env (target_of scope s) (aim_of scope holds env s) r.data_type
   reaches_stands s r h = parts_stand s.parts h.0 r (named_target scope s.name) (named_aim scope s.name) h.2 (name_arrives s.name h.0 h.1)
 
   -- in a module without a fault of names every expression that has a type has these values

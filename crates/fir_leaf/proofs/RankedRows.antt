@@ -4,7 +4,7 @@ use Rattle.std.specs.Prelude.{slice_index_or}
 use Rattle.std.proofs.lemmas.Bool.{cases_lt}
 use Rattle.fir_base.specs.Lists.{In}
 use Rattle.fir_base.proofs.Members.{in_flat_map}
-use Rattle.fir_ast.specs.declared.fault.FirFault.{FirFault}
+use Rattle.fir_ast.specs.Faults.{Fault}
 use Rattle.fir_bits.specs.Literals.{least_width}
 use Rattle.fir_meaning.specs.working.TermReads.{reads}
 use Rattle.fir_meaning.specs.working.Choices.{live_reads, lives_all}
@@ -102,11 +102,11 @@ module _ (c : LeafCircuit) (ranks : List ℕ) where
       let rest = walks_down e y (ys ++ x ∷ []) x h.1 in
       omega (arith, first, rest)
 
-  pub no_loop_by : is_ranked c ranks ≡ true → (f : FirFault) → ShowsLoop c f → ⊥
+  pub no_loop_by : is_ranked c ranks ≡ true → (f : Fault) → ShowsLoop c f → ⊥
   no_loop_by e f h = none_closes e h.first h.between h.walk
 
 -- the ring of memory_loop with a memory that is read a tick later: the pipe depends on nothing. The leaves are clock, o, b.i, b.o, x.clock, x.a, x.d, and the
 -- addr, en, clk and data of the port
-pipe_shows_no_loop : (f : FirFault) → ShowsLoop (over_leaves text.pipe_in_a_ring) f → ⊥
+pipe_shows_no_loop : (f : Fault) → ShowsLoop (over_leaves text.pipe_in_a_ring) f → ⊥
 unfolding elaborated least_width
 pipe_shows_no_loop = no_loop_by (over_leaves text.pipe_in_a_ring) (0 ∷ 2 ∷ 2 ∷ 3 ∷ 1 ∷ 4 ∷ 1 ∷ 5 ∷ 0 ∷ 2 ∷ 0 ∷ []) refl

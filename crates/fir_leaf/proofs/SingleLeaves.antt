@@ -7,7 +7,7 @@ use Rattle.fir_bits.specs.Forms.{first_type}
 use Rattle.fir_bits.specs.Types.{signed_of}
 use Rattle.fir_ast.specs.Types.{DataType, bundle, vector}
 use Rattle.fir_meaning.specs.Checked.{joined}
-use Rattle.fir_meaning.specs.ExpressionTypes.{number_type}
+use Rattle.fir_meaning.specs.ExpressionTypes.{number_data_type}
 use Rattle.fir_meaning.specs.OperationTypes.{operand_kind, operand_kinds, ground_of, result_of}
 use Rattle.fir_meaning.proofs.FreshFields.{HasFreshFields}
 use Rattle.fir_leaf.proofs.AlikeTypes.{leaf_paths}
@@ -16,7 +16,7 @@ pub record IsOneLeaf (t : DataType) : Type 0 where
   pub path : leaf_paths t ≡ [] ∷ []
   pub fresh : HasFreshFields t
 
-pub number_one : (signed : Bool) (width : Option ℕ) → IsOneLeaf (number_type signed width)
+pub number_one : (signed : Bool) (width : Option ℕ) → IsOneLeaf (number_data_type signed width)
 number_one true width = record { path = refl; fresh = tt }
 number_one false width = record { path = refl; fresh = tt }
 

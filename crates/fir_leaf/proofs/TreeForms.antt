@@ -4,7 +4,7 @@ use Rattle.fir_base.specs.declared.direction.Direction.{Direction}
 use Rattle.fir_ast.specs.declared.place.Place.{Place}
 use Rattle.fir_ast.specs.Types.{DataType}
 use Rattle.fir_ast.specs.Expressions.{Expression, literal, Parts}
-use Rattle.fir_ast.specs.Statements.{PlacedName, Sink, Reset, Statement}
+use Rattle.fir_ast.specs.Statements.{PlacedName, SinkReference, Reset, Statement}
 use Rattle.fir_ast.specs.Circuits.{PortTree, ModuleTree, CircuitTree}
 use Rattle.fir_meaning.proofs.SmallTrees.{block}
 
@@ -17,7 +17,7 @@ module_tree place name ports body = record { place = place; named = name; ports 
 abbrev pub port_tree : Direction → PlacedName → Place → DataType → PortTree
 port_tree direction name type_place t = record { direction = direction; named = name; type_place = type_place; data_type = t }
 
-abbrev pub sink : Place → List ℕ → Parts → Sink
+abbrev pub sink : Place → List ℕ → Parts → SinkReference
 sink place name parts = record { place = place; name = name; parts = parts }
 
 abbrev pub with_reset : Place → Expression → Expression → Option Reset

@@ -3,8 +3,8 @@
 use Rattle.std.proofs.Common.{◌≡◌, ℕ, zero, suc, List, [], ◌∷◌, map, Bool, true, false, Some, refl, subst, arith, ap}
 use Rattle.std.proofs.lemmas.Option.{same_Some}
 use Rattle.std.specs.Prelude.{codes, slice_get}
-use Rattle.fir_ast.specs.declared.fault.FirFault.{FirFault}
-use Rattle.fir_ast.specs.declared.fault.FirFault.TheVariants.{Undriven}
+use Rattle.fir_ast.specs.Faults.{Fault}
+use Rattle.fir_meaning.specs.SourceUndrivenGroup.{undriven_fault}
 use Rattle.fir_ast.specs.declared.fault.Outcome.TheVariants as outcome
 use Rattle.fir_ast.specs.Circuits.{CircuitTree}
 use Rattle.fir_meaning.specs.LeafPaths.{LeafPath, element, named, path_text}
@@ -24,14 +24,14 @@ use Rattle.fir_leaf.proofs.TextTrees as text
 use Rattle.fir_leaf.proofs.RowTrees.{modules_with}
 
 -- the leaf of that number is the first of a module that is not driven
-abbrev Tells : LeafModule → ℕ → FirFault → Type 0
+abbrev Tells : LeafModule → ℕ → Fault → Type 0
 Tells m leaf f = ShowsUndriven m leaf f × AreDrivenBefore m leaf
 
 abbrev first_module : (ℕ → ℕ) → (LeafPath → Bool) → CircuitTree → LeafModule
 first_module widths is_async c = module_of (modules_with widths is_async c) 0
 
 -- so it is in the first module of a circuit
-abbrev IsTold : CircuitTree → ℕ → FirFault → Type 0
+abbrev IsTold : CircuitTree → ℕ → Fault → Type 0
 IsTold c leaf f = (widths : ℕ → ℕ) (is_async : LeafPath → Bool) → Tells (first_module widths is_async c) leaf f
 
 first_is_own : (f : NumberedModule → LeafModule) (ms : List NumberedModule) (own : NumberedModule)
@@ -40,14 +40,14 @@ first_is_own f [] own e = absurd cc
 first_is_own f (m ∷ ms) own e = ap f (same_Some m own e)
 
 -- then it is so with the widths and the resets of the circuit
-told_in_scene : (c : CircuitTree) (leaf : ℕ) (f : FirFault) → IsTold c leaf f → (s : Scene) → IsSceneOf c 0 s → Tells (leafed_module s) leaf f
+told_in_scene : (c : CircuitTree) (leaf : ℕ) (f : Fault) → IsTold c leaf f → (s : Scene) → IsSceneOf c 0 s → Tells (leafed_module s) leaf f
 told_in_scene c leaf f h s is =
     subst (λ m. Tells m leaf f)
     (first_is_own (λ own. leafed_module (record { own = own; widths = s.widths; is_async = s.is_async })) (numbered_modules c) s.own is.own)
     (h s.widths s.is_async)
 
 -- in a when of c, and nowhere else, o <= a: the first choice that leaves o undriven is the one in which c is 0; the leaves are a, c and o
-in_a_when_told : IsTold text.in_a_when 2 (Undriven (at 5 12) (codes "o") (outcome.When (at 6 5) false ∷ []))
+in_a_when_told : IsTold text.in_a_when 2 (undriven_fault (at 5 12) (codes "o") (outcome.When (at 6 5) false ∷ []))
 in_a_when_told widths is_async = (
   record {
     outcomes = _;
@@ -70,7 +70,7 @@ in_a_when_told widths is_async = (
     before (suc (suc x)) lt is = absurd (omega (arith, lt))
 
 -- o <- a, where a has the fields a and b, and o has b and c: no choice drives o.c; the leaves are a.a, a.b, o.b and o.c
-shared_field_told : IsTold text.shared_field_alone 3 (Undriven (at 4 12) (codes "o.c") [])
+shared_field_told : IsTold text.shared_field_alone 3 (undriven_fault (at 4 12) (codes "o.c") [])
 shared_field_told widths is_async = (
   record {
     outcomes = _;
@@ -89,7 +89,7 @@ shared_field_told widths is_async = (
     before (suc (suc (suc x))) lt is = absurd (omega (arith, lt))
 
 -- when a, and in it when c, o <= b; the leaves are a, b, c and o. Two choices leave o undriven, and the one in which a is 0 is told: c is not reached there
-two_whens_told : IsTold text.two_whens 3 (Undriven (at 6 12) (codes "o") (outcome.When (at 7 5) false ∷ []))
+two_whens_told : IsTold text.two_whens 3 (undriven_fault (at 6 12) (codes "o") (outcome.When (at 7 5) false ∷ []))
 two_whens_told widths is_async = (
   record {
     outcomes = _;
@@ -124,7 +124,7 @@ second_is_not_first widths is_async h = go (h.choice (false ∷ [])) refl h.are 
     go true q are first = rw q at first
 
 -- o[i] <= x alone, where o has two elements; the leaves are i, x, o[0] and o[1]
-by_index_told : IsTold text.by_index 2 (Undriven (at 5 12) (path_text (named (codes "o") ∷ element 0 ∷ [])) (outcome.Index (at 6 5) false ∷ []))
+by_index_told : IsTold text.by_index 2 (undriven_fault (at 5 12) (path_text (named (codes "o") ∷ element 0 ∷ [])) (outcome.Index (at 6 5) false ∷ []))
 unfolding multiples
 by_index_told widths is_async = (
   record {

@@ -4,11 +4,11 @@ use Rattle.std.specs.Prelude.{slice_get}
 use Rattle.std.proofs.lemmas.List.{append-nil, drop_at}
 use Rattle.fir_ast.specs.Circuits.{CircuitTree}
 use Rattle.fir_ast.specs.Types.{DataType, uint, sint, clock, reset, async_reset, vector}
-use Rattle.fir_meaning.specs.ExpressionTypes.{number_type}
+use Rattle.fir_meaning.specs.ExpressionTypes.{number_data_type}
 use Rattle.fir_meaning.specs.SizedTypes.{Sized, bare_type}
 use Rattle.fir_meaning.specs.TypeKinds.{bare}
 use Rattle.fir_meaning.specs.TypeLeaves.{leaf_count, turned, type_leaves}
-use Rattle.fir_meaning.specs.WidthExpressions.{Width, Widths, width_of}
+use Rattle.fir_meaning.specs.WidthExpressions.{Width, Widths, width_under}
 use Rattle.fir_meaning.specs.WidthRules.{AreWidths}
 use Rattle.fir_type_table.specs.working.Saturated.{saturated}
 use Rattle.fir_type_table.specs.working.Tables.{shown}
@@ -46,9 +46,9 @@ module _ (c : CircuitTree) (flip : Bool) (first : ℕ) (old new : List LeafOfCod
 
   -- a number whose width is that of its leaf
   pub pushes_number : (is_signed : Bool) (width : ℕ)
-      → ((e : Width) (w : Widths) → slice_get (leaf_widths c) first ≡ Some e → AreWidths c w → width ≡ width_of e w)
+      → ((e : Width) (w : Widths) → slice_get (leaf_widths c) first ≡ Some e → AreWidths c w → width ≡ width_under e w)
       → new ≡ old ++ record { flip = flip; holds = Number (record { signed = is_signed; width = width }) } ∷ []
-      → (written : Option ℕ) → Pushes c flip (number_type is_signed written) first old new
+      → (written : Option ℕ) → Pushes c flip (number_data_type is_signed written) first old new
   pushes_number true width is grown written =
       pushes_one (sint written) (Number (record { signed = true; width = width })) refl
       (λ s w shape stands are.

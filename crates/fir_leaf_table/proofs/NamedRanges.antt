@@ -7,7 +7,7 @@ use Rattle.fir_base.proofs.Tests.{both}
 use Rattle.fir_ast.specs.declared.place.Place.{Place}
 use Rattle.fir_ast.specs.Types.{DataType}
 use Rattle.fir_ast.specs.Expressions.{Parts, no_parts, subfield, subindex, subaccess}
-use Rattle.fir_ast.specs.Statements.{Sink}
+use Rattle.fir_ast.specs.Statements.{SinkReference}
 use Rattle.fir_meaning.specs.Checked.{Checked}
 use Rattle.fir_meaning.specs.ExpressionTypes.{access_form, along_parts, condition_form, expression_type, field_form, index_form, reaching}
 use Rattle.fir_meaning.specs.ExpressionPlaces.{place_of}
@@ -124,7 +124,7 @@ module _ (t : DataType) (n : List ℕ) (declaration : ℕ) where
         h
 
 -- what a reference reaches and what it names
-pub record Names (scope : TypedScope) (s : Sink) (r : Reached) : Type 0 where
+pub record Names (scope : TypedScope) (s : SinkReference) (r : Reached) : Type 0 where
   pub found : Known
   pub is_known : known scope s.name ≡ Some found
   pub data_type : DataType
@@ -133,7 +133,7 @@ pub record Names (scope : TypedScope) (s : Sink) (r : Reached) : Type 0 where
   pub is_range : sink_range scope s ≡ Some range
   pub leads : IsNamed data_type found.name (position_of scope s.name) range r
 
-pub names : (scope : TypedScope) (s : Sink) (r : Reached) → (reaching scope s).has ≡ Some r → Names scope s r
+pub names : (scope : TypedScope) (s : SinkReference) (r : Reached) → (reaching scope s).has ≡ Some r → Names scope s r
 names scope s r h =
     let b = begins_with scope s.place (root scope s.name) s.parts r h in
     let k = root_from scope s.name b.0 b.1 in

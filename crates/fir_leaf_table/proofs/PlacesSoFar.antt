@@ -7,7 +7,7 @@ use Rattle.fir_ast.specs.declared.place.Place.{Place}
 use Rattle.fir_ast.specs.Circuits.{PortTree}
 use Rattle.fir_ast.specs.Types.{DataType}
 use Rattle.fir_ast.specs.working.Views.{port_of}
-use Rattle.fir_ast.specs.View.{type_of}
+use Rattle.fir_ast.specs.working.TypeViews.{type_of}
 use Rattle.fir_meaning.specs.Costs.{leaves_where}
 use Rattle.fir_meaning.specs.TypeLeaves.{leaf_count}
 use Rattle.fir_type_table.specs.working.Saturated.{saturated}

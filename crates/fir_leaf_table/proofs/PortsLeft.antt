@@ -2,20 +2,20 @@
 use Rattle.std.proofs.Common.{◌≡◌, ℕ, ◌+◌, ◌<◌, ◌≤◌, List, [], ◌∷◌, ◌++◌, map, drop, length, get_or, sym, ap, ◌∙◌, append_assoc}
 use Rattle.std.proofs.lemmas.List.{append-nil, drop_more, drop_all}
 use Rattle.fir_meaning.specs.working.LeafMemories.{LeafMemory, port_size}
-use Rattle.fir_meaning.specs.MemoryPorts.{PortKind}
+use Rattle.fir_meaning.specs.MemoryPorts.{MemoryPortKind}
 use Rattle.fir_meaning.specs.LeafTypes.{LeafType}
 use Rattle.fir_leaf_table.specs.declared.memory.Memory.{Memory}
 use Rattle.fir_leaf_table.specs.declared.memory.MemoryPort.{MemoryPort}
 use Rattle.fir_leaf_table.specs.working.Memories.{IsMemory, port_seen}
 
 -- what is given so far, and what those give that are left
-pub record PortsLeft {A : Type 0} (give : ℕ → List PortKind → List A) (ports : List MemoryPort) (first i begins : ℕ) (so_far : List A) :
+pub record PortsLeft {A : Type 0} (give : ℕ → List MemoryPortKind → List A) (ports : List MemoryPort) (first i begins : ℕ) (so_far : List A) :
     Type 0 where
   pub are : so_far ++ give begins (map port_seen (drop i ports)) ≡ give first (map port_seen ports)
 
-module _ {A : Type 0} (give : ℕ → List PortKind → List A) (one : ℕ → PortKind → List A) (data_leaves : ℕ)
+module _ {A : Type 0} (give : ℕ → List MemoryPortKind → List A) (one : ℕ → MemoryPortKind → List A) (data_leaves : ℕ)
     (none : (b : ℕ) → give b [] ≡ [])
-    (more : (b : ℕ) (p : PortKind) (ps : List PortKind) → give b (p ∷ ps) ≡ one b p ++ give (b + port_size data_leaves p) ps) where
+    (more : (b : ℕ) (p : MemoryPortKind) (ps : List MemoryPortKind) → give b (p ∷ ps) ≡ one b p ++ give (b + port_size data_leaves p) ps) where
   pub ports_next : (ports : List MemoryPort) (first i begins next : ℕ) (so_far new : List A) (p other : MemoryPort)
       → PortsLeft give ports first i begins so_far → i < length ports → p ≡ get_or ports i other
       → next ≡ begins + port_size data_leaves (port_seen p) → new ≡ so_far ++ one begins (port_seen p)
@@ -40,7 +40,7 @@ module _ {A : Type 0} (give : ℕ → List PortKind → List A) (one : ℕ → P
       sym (append-nil so_far) ∙ ap (λ xs. so_far ++ xs) (sym nothing) ∙ left.are
 
 -- the code's memory has the ports, the data leaves and the first leaf of the one that it stands for
-pub same_ports : {A : Type 0} (give : ℕ → ℕ → List PortKind → List A) (m : Memory) (meant : LeafMemory) (holds : List LeafType)
+pub same_ports : {A : Type 0} (give : ℕ → ℕ → List MemoryPortKind → List A) (m : Memory) (meant : LeafMemory) (holds : List LeafType)
     → IsMemory m meant holds
     → give (length m.data.items) m.first (map port_seen m.ports.items) ≡ give meant.data_leaves meant.first meant.ports
 same_ports give m meant holds is =

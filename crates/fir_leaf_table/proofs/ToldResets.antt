@@ -4,7 +4,7 @@ use Rattle.std.specs.Prelude.{◌↔◌, IsTrue, option_map, slice_get}
 use Rattle.fir_ast.specs.Types.{DataType, async_reset, bundle, clock, reset, sint, uint, vector}
 use Rattle.fir_ast.specs.Circuits.{CircuitTree, ModuleTree}
 use Rattle.fir_ast.specs.Expressions.{Expression, literal, mux, operation, reference, validif}
-use Rattle.fir_ast.specs.Statements.{Sink}
+use Rattle.fir_ast.specs.Statements.{SinkReference}
 use Rattle.fir_meaning.specs.ComponentTypes.{typed_scope}
 use Rattle.fir_meaning.specs.ExpressionTypes.{expression_type, reached_by, reaching}
 use Rattle.fir_meaning.specs.LeafPaths.{LeafPath}
@@ -67,7 +67,7 @@ module _ (c : CircuitTree) (has : HasNames c) (clear : type_faults c ≡ []) (nu
           told.0 (own.1 a.asynchronous)
 
   -- of one that a reference reaches
-  of_reached : (s : Sink) (r : Reached) (h : Names scope s r) → r.data_type ≡ reset → Answers c number (inferred_by (Some h.range)) answer
+  of_reached : (s : SinkReference) (r : Reached) (h : Names scope s r) → r.data_type ≡ reset → Answers c number (inferred_by (Some h.range)) answer
       → answer ≡ async_where is_async r.path
   of_reached s r h is = by (all_there h.range.picks) refl
     where
@@ -87,7 +87,7 @@ module _ (c : CircuitTree) (has : HasNames c) (clear : type_faults c ≡ []) (nu
       → answer ≡ async_reached is_async (reached_by scope e)
   of_reset (reference p n ps) h answers = by (reaching scope s).has refl h answers
     where
-      s : Sink
+      s : SinkReference
       s = record { place = p; name = n; parts = ps }
 
       by : (o : Option Reached) → (reaching scope s).has ≡ o → option_map (λ (r : Reached). r.data_type) o ≡ Some reset

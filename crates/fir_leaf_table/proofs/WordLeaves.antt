@@ -7,7 +7,8 @@ use Rattle.fir_ast.specs.declared.types.Ty.{Ty, fold-roll-Ty}
 use Rattle.fir_ast.specs.declared.types.Ty.TheOpen.{Ty-F}
 use Rattle.fir_ast.specs.declared.types.Ty.TheVariants.{AsyncReset, Reset, Vector, rolls-AsyncReset, rolls-Reset, rolls-Vector}
 use Rattle.fir_ast.specs.Types.{DataType, uint, sint, clock, reset, async_reset, bundle, vector, Fields, no_fields, field}
-use Rattle.fir_ast.specs.View.{field_step, fields_of, type_of, type_step}
+use Rattle.fir_ast.specs.View.{fields_of}
+use Rattle.fir_ast.specs.working.TypeViews.{field_step, type_of, type_step}
 use Rattle.fir_ast.specs.working.BundleText.{field_of}
 use Rattle.fir_ast.proofs.Fields.{field_of-is}
 use Rattle.fir_meaning.specs.SizedTypes.{numbered, numbered_fields, past}

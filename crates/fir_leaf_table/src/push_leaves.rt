@@ -4,7 +4,7 @@
 ghost use Rattle.std.specs.Prelude.{◌≡◌, ℕ, ◌+◌, ◌-◌, ◌<◌, ◌≤◌, [], ◌∷◌, ◌++◌, false, drop, length as long, IfOk, OnOk, Option};
 ghost use Rattle.fir_ast.specs.Types.{bundle, vector};
 ghost use Rattle.fir_ast.specs.working.Views.{circuit_of};
-ghost use Rattle.fir_meaning.specs.ExpressionTypes.{number_type};
+ghost use Rattle.fir_meaning.specs.ExpressionTypes.{number_data_type};
 ghost use Rattle.fir_meaning.specs.TypeLeaves.{turned};
 ghost use Rattle.fir_type_table.specs.working.Saturated.{saturated};
 ghost use Rattle.fir_type_table.specs.working.Tables.{member_fields, members_at, type_at, types_of};
@@ -54,7 +54,7 @@ fn push_number(
     number: usize,
     leaves: &mut Vec<TypeLeaf>,
 ) -> Result<(), MemoryOut>
-    ensures { OnOk result ((width : Option ℕ) → Pushes (circuit_of fitted.now) flip (number_type signed width) number leaves.old.items leaves.new.items) }
+    ensures { OnOk result ((width : Option ℕ) → Pushes (circuit_of fitted.now) flip (number_data_type signed width) number leaves.old.items leaves.new.items) }
 {
     let width = Widths::of(fitted, LeafId::new(number));
     push_leaf(flip, LeafType::Number(NumTy { signed, width }), leaves)

@@ -1,10 +1,11 @@
 //! What the leaves of a memory's words hold, as the text writes their type (FIRRTL spec, "Memories").
 
 ghost use Rattle.std.specs.Prelude.{◌≡◌, ◌++◌, IfOk, OnOk, None, drop, map};
-ghost use Rattle.fir_ast.specs.View.{fields_of, type_of};
+ghost use Rattle.fir_ast.specs.View.{fields_of};
+ghost use Rattle.fir_ast.specs.working.TypeViews.{type_of};
 ghost use Rattle.fir_ast.specs.working.BundleText.{field_of};
 ghost use Rattle.fir_meaning.specs.SizedTypes.{leaf_width, numbered, numbered_fields};
-ghost use Rattle.fir_meaning.specs.WidthExpressions.{Widths as Assignment, width_of};
+ghost use Rattle.fir_meaning.specs.WidthExpressions.{Widths as Assignment, width_under};
 ghost use Rattle.fir_meaning.specs.LeafTypes.{number};
 ghost use Rattle.fir_meaning.specs.HeldTypes.{held_field_types, held_types, repeated};
 ghost use Rattle.fir_leaf_circuit.specs.working.Seen.{type_seen};
@@ -27,7 +28,7 @@ pub fn word_types(alloc: Global, ty: &Ty) -> Result<Vec<LeafType>, MemoryOut>
 
 /// A number of a width in bits, or of none where no width is written. A width over 128 counts as 129.
 fn number_of_width(signed: bool, width: Option<u128>) -> LeafType
-    ensures { (w : Assignment) → type_seen result ≡ number (record { signed = signed; width = width_of (leaf_width None width) w }) }
+    ensures { (w : Assignment) → type_seen result ≡ number (record { signed = signed; width = width_under (leaf_width None width) w }) }
 {
     let width = width.unwrap_or(0).min(129) as u32;
     LeafType::Number(NumTy { signed, width })

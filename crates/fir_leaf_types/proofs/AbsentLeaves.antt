@@ -5,7 +5,7 @@ use Rattle.fir_bits.specs.declared.types.NumTy.{NumTy}
 use Rattle.fir_ast.specs.Types.{DataType, uint, sint, clock, reset, async_reset, bundle, vector, Fields, no_fields, field}
 use Rattle.fir_meaning.specs.LeafPaths.{Step, named, element}
 use Rattle.fir_meaning.specs.TypeLeaves.{TypeLeaf, under, element_leaves, type_leaves, field_leaves}
-use Rattle.fir_meaning.specs.WidthExpressions.{Widths, width_of}
+use Rattle.fir_meaning.specs.WidthExpressions.{Widths, width_under}
 use Rattle.fir_meaning.specs.SizedTypes.{Sized, SizedFields, unsigned, signed, clock_scalar, reset_scalar, async_scalar, scalar, sized_bundle, sized_vector, no_sized_fields, sized_field}
 use Rattle.fir_meaning.specs.FoundTypes.{absent_type}
 use Rattle.fir_meaning.specs.LeafTypes.{LeafType, number_type}
@@ -44,8 +44,8 @@ sign_only is a n e = rw e refl
 module _ (w : Widths) where
   mutual
     pub absent_leaves : (t : DataType) (s : Sized) → Absent w t s → AreAbsent (type_leaves t) (held_types w s)
-    absent_leaves (uint a) (scalar unsigned e) h = (λ k. sign_only false a (width_of e w) (h k), tt)
-    absent_leaves (sint a) (scalar signed e) h = (λ k. sign_only true a (width_of e w) (h k), tt)
+    absent_leaves (uint a) (scalar unsigned e) h = (λ k. sign_only false a (width_under e w) (h k), tt)
+    absent_leaves (sint a) (scalar signed e) h = (λ k. sign_only true a (width_under e w) (h k), tt)
     absent_leaves clock (scalar clock_scalar e) h = (λ k. refl, tt)
     absent_leaves reset (scalar reset_scalar e) h = (λ k. refl, tt)
     absent_leaves async_reset (scalar async_scalar e) h = (λ k. refl, tt)

@@ -6,7 +6,7 @@ use Rattle.fir_base.proofs.Empty.{empty_left, empty_right}
 use Rattle.fir_ast.specs.declared.place.Place.{Place}
 use Rattle.fir_ast.specs.Types.{DataType, uint}
 use Rattle.fir_ast.specs.Expressions.{Expression, reference, literal, operation, mux, validif}
-use Rattle.fir_ast.specs.Statements.{Sink, Statement, wire, register, node, instance, memory, when, connect, partial_connect, invalid, skip, Block, done, then}
+use Rattle.fir_ast.specs.Statements.{SinkReference, Statement, wire, register, node, instance, memory, when, connect, partial_connect, invalid, skip, Block, done, then}
 use Rattle.fir_ast.specs.Circuits.{ModuleTree, CircuitTree}
 use Rattle.fir_meaning.specs.ExpressionPlaces.{place_of}
 use Rattle.fir_meaning.specs.TypeKinds.{bare}
@@ -52,7 +52,7 @@ module _ (c : CircuitTree) (held : ℕ → LeafType) (w : Widths) (scope : Typed
   source_typed : (e : Expression) (t : DataType) → HasType scope e t → shown_within (over_rule w) sized e ≡ [] → shown_within (legal_rule c w) sized e ≡ []
       → (r : Target) → target_read scope e ≡ Some r → StandsTyped held w r (sized_type sized e)
   source_typed (reference p n ps) t h within legal r e =
-      let s : Sink = record { place = p; name = n; parts = ps } in
+      let s : SinkReference = record { place = p; name = n; parts = ps } in
       let is : target_of scope s ≡ r = cc in
       subst (λ x. StandsTyped held w x (sized_type sized (reference p n ps))) is
       (sink_typed c held w scope sized knows s h.1 (h.0, h.2, h.3) within legal).stands
@@ -64,7 +64,7 @@ module _ (c : CircuitTree) (held : ℕ → LeafType) (w : Widths) (scope : Typed
   connect_typed : (fits : DataType → DataType → Bool) (numbers_of : DataType → DataType → List LeafPair) (pairs_of : DataType → DataType → List Pair)
       → ((t u : DataType) → fits t u ≡ true → ArePairs (IsPair (type_leaves t) (type_leaves u)) (numbers_of t u) (pairs_of t u))
       → ((t u : DataType) → fits t u ≡ true → AllByRecursion Fits (pairs_of t u))
-      → (p : Place) (s : Sink) (e : Expression) → ConnectIsLegal fits pairs_of scope s e
+      → (p : Place) (s : SinkReference) (e : Expression) → ConnectIsLegal fits pairs_of scope s e
       → shown_within (over_rule w) sized (sink_expression s) ++ shown_within (over_rule w) sized e ≡ []
       → shown_within (legal_rule c w) sized (sink_expression s) ++ shown_within (legal_rule c w) sized e ≡ []
       → AreTyped held (connect_block numbers_of scope p s e)

@@ -9,7 +9,7 @@ use Rattle.fir_base.proofs.Tests.{both}
 use Rattle.fir_ast.specs.Types.{DataType, uint, sint, clock, reset, async_reset, bundle, vector, Fields, no_fields, field}
 use Rattle.fir_meaning.specs.TypeKinds.{bare, bare_fields, is_numeric, are_numeric}
 use Rattle.fir_meaning.specs.Equivalence.{alike, fields_alike, same_ground}
-use Rattle.fir_meaning.specs.WidthExpressions.{Width, Widths, width_of}
+use Rattle.fir_meaning.specs.WidthExpressions.{Width, Widths, width_under}
 use Rattle.fir_meaning.specs.SizedTypes.{Scalar, Sized, SizedFields, unsigned, signed, clock_scalar, reset_scalar, async_scalar, scalar, sized_bundle, sized_vector, no_sized_fields, sized_field, bare_type, bare_type_fields}
 use Rattle.fir_meaning.specs.SizedOperations.{greater_of, greater_fields, guarded_by, guarded_fields}
 use Rattle.fir_meaning.specs.working.Terms.{Term}
@@ -86,15 +86,15 @@ by_kinds [] (u ∷ us) e = absurd (cc)
 by_kinds (x ∷ xs) [] e = absurd (cc)
 by_kinds (x ∷ xs) (u ∷ us) e = let rest : kinds xs ≡ kinds us = cc in ap suc (by_kinds xs us rest)
 
-module _ (w : Widths) (c : Width) (within : width_of c w ≤ 128) where
-  guard_passes : (n : ℕ) → (if nat_lt (width_of c w) 129 then n else 129) ≡ n
-  guard_passes n = let less : nat_lt (width_of c w) 129 ≡ true = grind (arith, nat_tests, within) in rw less refl
+module _ (w : Widths) (c : Width) (within : width_under c w ≤ 128) where
+  guard_passes : (n : ℕ) → (if nat_lt (width_under c w) 129 then n else 129) ≡ n
+  guard_passes n = let less : nat_lt (width_under c w) 129 ≡ true = grind (arith, nat_tests, within) in rw less refl
 
   -- what is guarded holds the same
   mutual
     pub guarded_holds : (s : Sized) → held_types w (guarded_by c s) ≡ held_types w s
-    guarded_holds (scalar unsigned e) = ap (λ n. number (record { signed = false; width = n }) ∷ []) (guard_passes (width_of e w))
-    guarded_holds (scalar signed e) = ap (λ n. number (record { signed = true; width = n }) ∷ []) (guard_passes (width_of e w))
+    guarded_holds (scalar unsigned e) = ap (λ n. number (record { signed = false; width = n }) ∷ []) (guard_passes (width_under e w))
+    guarded_holds (scalar signed e) = ap (λ n. number (record { signed = true; width = n }) ∷ []) (guard_passes (width_under e w))
     guarded_holds (scalar clock_scalar e) = refl
     guarded_holds (scalar reset_scalar e) = refl
     guarded_holds (scalar async_scalar e) = refl
@@ -186,7 +186,7 @@ module _ (held : ℕ → LeafType) where
   validifs_typed c (t ∷ ts) (a_clock ∷ hs) one f numbers = absurd numbers.0
 
   -- a mux of two arms, whose types are equivalent and numeric
-  pub arms_typed : (w : Widths) (guard : Width) (c : Term) (firsts seconds : List Term) (s t : Sized) (u v : DataType) → width_of guard w ≤ 128
+  pub arms_typed : (w : Widths) (guard : Width) (c : Term) (firsts seconds : List Term) (s t : Sized) (u v : DataType) → width_under guard w ≤ 128
       → HasType held c one_bit → HaveEach held firsts (held_types w s) → HaveEach held seconds (held_types w t) → bare_type s ≡ bare u → bare_type t ≡ bare v
       → alike same_ground u v ≡ true → AllByRecursion IsNumber (held_types w s) → is_numeric u ≡ true
       → HaveEach held (muxes c firsts seconds) (held_types w (guarded_by guard (greater_of s t)))

@@ -13,7 +13,7 @@ use Rattle.fir_ast.specs.declared.expressions.Literal.{Literal}
 use Rattle.fir_ast.specs.declared.place.Place.{Place}
 use Rattle.fir_ast.specs.Types.{DataType, uint, sint, clock, reset, async_reset, bundle, vector}
 use Rattle.fir_ast.specs.Expressions.{Expression, reference, literal, operation, mux, validif, Parts, no_parts, subfield, subindex, subaccess, Expressions, no_expressions, expression}
-use Rattle.fir_ast.specs.Statements.{Sink}
+use Rattle.fir_ast.specs.Statements.{SinkReference}
 use Rattle.fir_ast.specs.Circuits.{CircuitTree}
 use Rattle.fir_meaning.specs.LeafPaths.{named}
 use Rattle.fir_meaning.specs.ExpressionPlaces.{place_of}
@@ -23,7 +23,7 @@ use Rattle.fir_meaning.specs.Values.{literal_type}
 use Rattle.fir_meaning.specs.SizeFaults.{wrong_condition, wrong_integers}
 use Rattle.fir_meaning.specs.TypeKinds.{bare, is_numeric}
 use Rattle.fir_meaning.specs.TypedScopes.{TypedScope, known}
-use Rattle.fir_meaning.specs.WidthExpressions.{Width, Widths, width_of}
+use Rattle.fir_meaning.specs.WidthExpressions.{Width, Widths, width_under}
 use Rattle.fir_meaning.specs.WidthExpressions as width
 use Rattle.fir_meaning.specs.SizedTypes.{Sized, unsigned, signed, clock_scalar, reset_scalar, async_scalar, scalar, sized_bundle, sized_vector, bare_type, sized_named, sized_found, fields_in, element_in}
 use Rattle.fir_meaning.specs.SizedOperations.{number_scalar, width_in, first_sized, operation_width, result_scalar, is_signed}
@@ -87,11 +87,11 @@ numeric_resets w (sized_bundle fs) t e h = tt
 numeric_resets w (sized_vector u n) t e h = tt
 
 -- a condition that shows no fault has one bit
-one_wide : (w : Widths) (p : Place) (x : Width) → condition_faults w p (scalar unsigned x) ≡ [] → width_of x w ≡ 1
-one_wide w p x h = by (width_of x w == 1) refl h
+one_wide : (w : Widths) (p : Place) (x : Width) → condition_faults w p (scalar unsigned x) ≡ [] → width_under x w ≡ 1
+one_wide w p x h = by (width_under x w == 1) refl h
   where
-    by : (b : Bool) → (width_of x w == 1) ≡ b → (if b then [] else wrong_condition p (width_of x w) ∷ []) ≡ [] → width_of x w ≡ 1
-    by true e k = eqb-true (width_of x w) 1 e
+    by : (b : Bool) → (width_under x w == 1) ≡ b → (if b then [] else wrong_condition p (width_under x w) ∷ []) ≡ [] → width_under x w ≡ 1
+    by true e k = eqb-true (width_under x w) 1 e
     by false e k = absurd (cc)
 
 -- an operation that shows no fault is legal
@@ -133,7 +133,7 @@ module _ (c : CircuitTree) (held : ℕ → LeafType) (w : Widths) (scope : Typed
   pub record IsUnsigned (e : Expression) : Type 0 where
     pub width : Width
     pub is : sized_type sized e ≡ scalar unsigned width
-    pub first : typed.HasType held (first_term (terms scope e)) (number (record { signed = false; width = width_of width w }))
+    pub first : typed.HasType held (first_term (terms scope e)) (number (record { signed = false; width = width_under width w }))
 
   pub unsigned_termed : (e : Expression) (width : Option ℕ) → HasType scope e (uint width) → IsTermed e → IsUnsigned e
   unsigned_termed e width h t =
@@ -142,11 +142,11 @@ module _ (c : CircuitTree) (held : ℕ → LeafType) (w : Widths) (scope : Typed
         width = u.0;
         is = u.1;
         first =
-            first_has held (terms scope e) (number (record { signed = false; width = width_of u.0 w })) []
+            first_has held (terms scope e) (number (record { signed = false; width = width_under u.0 w })) []
             (subst (λ s. HaveEach held (terms scope e) (held_types w s)) u.1 t.terms);
       }
 
-  pub one_bit_wide : (e : Expression) (u : IsUnsigned e) → condition_faults w (place_of e) (sized_type sized e) ≡ [] → width_of u.width w ≡ 1
+  pub one_bit_wide : (e : Expression) (u : IsUnsigned e) → condition_faults w (place_of e) (sized_type sized e) ≡ [] → width_under u.width w ≡ 1
   one_bit_wide e u h = one_wide w (place_of e) u.width (subst (λ s. condition_faults w (place_of e) s ≡ []) u.is h)
 
   pub condition_termed : (e : Expression) (u : IsUnsigned e) → condition_faults w (place_of e) (sized_type sized e) ≡ []
@@ -155,7 +155,7 @@ module _ (c : CircuitTree) (held : ℕ → LeafType) (w : Widths) (scope : Typed
       subst (λ n. typed.HasType held (first_term (terms scope e)) (number (record { signed = false; width = n }))) (one_bit_wide e u h) u.first
 
   guard_within : (e : Expression) (u : IsUnsigned e) → condition_faults w (place_of e) (sized_type sized e) ≡ []
-      → width_of (width_in (sized_type sized e)) w ≤ 128
+      → width_under (width_in (sized_type sized e)) w ≤ 128
   guard_within e u h = let one = one_bit_wide e u h in rw u.is (omega (arith, one))
 
   name_typed : (name : List ℕ) (begins : Reached) → known_reached (known scope name) ≡ Some begins
@@ -234,7 +234,7 @@ module _ (c : CircuitTree) (held : ℕ → LeafType) (w : Widths) (scope : Typed
         let holds =
         operation_holds w op (sized_types sized es) ks each.types h.1 each.holds each.signs h.4
         (form_within w p own (result_scalar op (is_signed (first_sized (sized_types sized es)))) (operation_width op (sized_types sized es) ks) over_own)
-        (legal_integers p op (width_of (width_in (first_sized (sized_types sized es))) w) ks legal_own) in
+        (legal_integers p op (width_under (width_in (first_sized (sized_types sized es))) w) ks legal_own) in
         record {
           terms =
               subst (HaveEach held (over.operation op (terms_of (operands scope es)) ks ∷ [])) (sym holds.holds)
@@ -315,7 +315,7 @@ module _ (c : CircuitTree) (held : ℕ → LeafType) (w : Widths) (scope : Typed
         (empty_right (shown_within (over_rule w) sized e) (shown_within_parts (over_rule w) sized rest) within)
         (empty_right (shown_within (legal_rule c w) sized e) (shown_within_parts (legal_rule c w) sized rest) legal)
         (record {
-          stands = picked_typed held w (place_of e) index (width_of u.width w) h.1 h.2 r s found u.first k.stands;
+          stands = picked_typed held w (place_of e) index (width_under u.width w) h.1 h.2 r s found u.first k.stands;
           data_type = ap (λ o. (picked_target_at (place_of e) index r o).data_type) found;
         })
 
@@ -348,7 +348,7 @@ module _ (c : CircuitTree) (held : ℕ → LeafType) (w : Widths) (scope : Typed
         }
 
   -- a sink, with what its terms give back
-  pub sink_typed : (s : Sink) (r : Reached) → Reaches scope s r → shown_within (over_rule w) sized (sink_expression s) ≡ []
+  pub sink_typed : (s : SinkReference) (r : Reached) → Reaches scope s r → shown_within (over_rule w) sized (sink_expression s) ≡ []
       → shown_within (legal_rule c w) sized (sink_expression s) ≡ []
       → TargetTyped (target_of scope s) (sized_type sized (sink_expression s)) r.data_type
   sink_typed s r h within legal =
@@ -358,6 +358,6 @@ module _ (c : CircuitTree) (held : ℕ → LeafType) (w : Widths) (scope : Typed
       (empty_left (shown_within_parts (legal_rule c w) sized s.parts) [] legal)
       (record { stands = name_typed s.name h.0 h.1; data_type = rw begins refl })
 
-  pub sink_termed : (s : Sink) (r : Reached) → Reaches scope s r → shown_within (over_rule w) sized (sink_expression s) ≡ []
+  pub sink_termed : (s : SinkReference) (r : Reached) → Reaches scope s r → shown_within (over_rule w) sized (sink_expression s) ≡ []
       → shown_within (legal_rule c w) sized (sink_expression s) ≡ [] → IsTermed (sink_expression s)
   sink_termed s r h within legal = expression_typed (sink_expression s) r.data_type (h.0, r, h.1, h.2, refl) within legal

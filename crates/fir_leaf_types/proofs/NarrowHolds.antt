@@ -6,7 +6,7 @@ use Rattle.std.proofs.lemmas.Bool.Decides.{nat_tests}
 use Rattle.fir_base.proofs.Each.{all_joined, all_left, all_right}
 use Rattle.fir_ast.specs.declared.place.Place.{Place}
 use Rattle.fir_meaning.specs.LeafPaths.{LeafPath, Step, named, element}
-use Rattle.fir_meaning.specs.WidthExpressions.{Width, Widths, width_of}
+use Rattle.fir_meaning.specs.WidthExpressions.{Width, Widths, width_under}
 use Rattle.fir_meaning.specs.SizedTypes.{Scalar, Sized, SizedFields, unsigned, signed, clock_scalar, reset_scalar, async_scalar, scalar, sized_bundle, sized_vector, no_sized_fields, sized_field}
 use Rattle.fir_meaning.specs.SizedLeaves.{SizedLeaf, sized_under, sized_leaves, sized_field_leaves}
 use Rattle.fir_meaning.specs.SizedMemories.{ports_or_array}
@@ -18,17 +18,17 @@ use Rattle.fir_leaf_types.proofs.HeldKinds.{all_repeated, not_zero}
 
 module _ (w : Widths) where
   abbrev IsWithin : SizedLeaf → Type 0
-  IsWithin l = width_of l.width w ≤ 128
+  IsWithin l = width_under l.width w ≤ 128
 
   none_over : (p : Place) (path : LeafPath) (ls : List SizedLeaf)
       → flat_map (λ l. if is_leaf_over w l then leaf_over p (path ++ l.path) ∷ [] else []) ls ≡ [] → AllByRecursion IsWithin ls
   none_over p path [] h = tt
   none_over p path (l ∷ ls) h = by (is_leaf_over w l) refl h (none_over p path ls)
     where
-      by : (b : Bool) → nat_lt 128 (width_of l.width w) ≡ b
+      by : (b : Bool) → nat_lt 128 (width_under l.width w) ≡ b
           → (if b then leaf_over p (path ++ l.path) ∷ [] else []) ++ flat_map (λ l. if is_leaf_over w l then leaf_over p (path ++ l.path) ∷ [] else []) ls ≡ []
           → (flat_map (λ l. if is_leaf_over w l then leaf_over p (path ++ l.path) ∷ [] else []) ls ≡ [] → AllByRecursion IsWithin ls)
-          → (width_of l.width w ≤ 128) × AllByRecursion IsWithin ls
+          → (width_under l.width w ≤ 128) × AllByRecursion IsWithin ls
       by true e k later = absurd (cc)
       by false e k later = (grind (arith, nat_tests, e), later k)
 
@@ -71,9 +71,9 @@ module _ (w : Widths) where
   narrow_ports p path (sized_vector t n) array h = narrow_by_faults p path (sized_vector t n) h
 
   -- a form of one leaf
-  pub form_within : (p : Place) (word : List ℕ) (k : Scalar) (e : Width) → form_over w p word (scalar k e) ≡ [] → width_of e w ≤ 128
-  form_within p word k e h = by (nat_lt 128 (width_of e w)) refl h
+  pub form_within : (p : Place) (word : List ℕ) (k : Scalar) (e : Width) → form_over w p word (scalar k e) ≡ [] → width_under e w ≤ 128
+  form_within p word k e h = by (nat_lt 128 (width_under e w)) refl h
     where
-      by : (b : Bool) → nat_lt 128 (width_of e w) ≡ b → (if b || false then word_over p word ∷ [] else []) ≡ [] → width_of e w ≤ 128
+      by : (b : Bool) → nat_lt 128 (width_under e w) ≡ b → (if b || false then word_over p word ∷ [] else []) ≡ [] → width_under e w ≤ 128
       by true g k = absurd (cc)
       by false g k = grind (arith, nat_tests, g)

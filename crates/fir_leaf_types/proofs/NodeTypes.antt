@@ -11,7 +11,7 @@ use Rattle.fir_meaning.proofs.LeastRules.{width_le}
 use Rattle.fir_meaning.proofs.SizedShapes.{numbered_bare, node_bare}
 use Rattle.fir_meaning.specs.SharedLeaves.{shared_count, shared_field_count}
 use Rattle.fir_meaning.specs.TypeKinds.{is_passive, are_passive}
-use Rattle.fir_meaning.specs.WidthExpressions.{Width, Widths, unknown, width_of}
+use Rattle.fir_meaning.specs.WidthExpressions.{Width, Widths, unknown, width_under}
 use Rattle.fir_meaning.specs.SizedTypes.{Sized, SizedFields, unsigned, signed, clock_scalar, reset_scalar, async_scalar, scalar, sized_bundle, sized_vector, no_sized_fields, sized_field, numbered, numbered_fields, bare_type, bare_type_fields, written_type, node_type, node_fields, renumbered, sized_named}
 use Rattle.fir_meaning.specs.SizedMatches.{Match, where_met, matches, field_matches}
 use Rattle.fir_meaning.specs.LeafTypes.{number}
@@ -46,17 +46,17 @@ passive_node k s h = ap is_passive (numbered_bare (Some k) (node_type s) ∙ nod
 module _ (w : Widths) where
   -- unknowns that are the least that these matches ask for
   pub record Solved (ms : List Match) (k n : ℕ) : Type 0 where
-    pub above : (j : ℕ) (e : Width) → In ms (record { driven = unknown j; driver = e }) → width_of e w ≤ w j
-    pub least : (j m : ℕ) → Within k n j → ((e : Width) → In ms (record { driven = unknown j; driver = e }) → width_of e w ≤ m) → w j ≤ m
+    pub above : (j : ℕ) (e : Width) → In ms (record { driven = unknown j; driver = e }) → width_under e w ≤ w j
+    pub least : (j m : ℕ) → Within k n j → ((e : Width) → In ms (record { driven = unknown j; driver = e }) → width_under e w ≤ m) → w j ≤ m
 
-  scalar_width : (k : ℕ) (e : Width) → Solved (record { driven = unknown k; driver = e } ∷ []) k 1 → min (w k) 129 ≡ width_of e w
+  scalar_width : (k : ℕ) (e : Width) → Solved (record { driven = unknown k; driver = e } ∷ []) k 1 → min (w k) 129 ≡ width_under e w
   scalar_width k e h =
       let above = h.above k e (inl refl) in
-      let below = h.least k (width_of e w) (omega arith, omega arith) one in
+      let below = h.least k (width_under e w) (omega arith, omega arith) one in
       omega (arith, above, below, width_le e w)
     where
       one : (d : Width) → In {A = Match} (record { driven = unknown k; driver = e } ∷ []) (record { driven = unknown k; driver = d })
-          → width_of d w ≤ width_of e w
+          → width_under d w ≤ width_under e w
       one d (inl same) = let is : e ≡ d = ap (λ (x : Match). x.driver) same in rw is (omega arith)
       one d (inr m) = absurd m
 

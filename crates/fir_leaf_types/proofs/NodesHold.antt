@@ -21,7 +21,7 @@ use Rattle.fir_meaning.specs.TypeGroup.{scope_at, type_faults}
 use Rattle.fir_meaning.specs.TypeKinds.{is_passive}
 use Rattle.fir_meaning.specs.TypedScopes.{TypedScope}
 use Rattle.fir_meaning.specs.Visibility.{Before, at_head, behind_ports, with_declaration, declarations}
-use Rattle.fir_meaning.specs.WidthExpressions.{Width, Widths, Rule, MeetsRules, unknown, width_of}
+use Rattle.fir_meaning.specs.WidthExpressions.{Width, Widths, Rule, MeetsRules, unknown, width_under}
 use Rattle.fir_meaning.specs.WidthRules.{AreWidths, rules, rules_in_block}
 use Rattle.fir_meaning.specs.working.WellTyped.{AreLegal}
 use Rattle.fir_meaning.specs.working.WidthLaws.{WidthsGrow}
@@ -122,7 +122,7 @@ module _ (grow : WidthsGrow) (c : CircuitTree) (names : HasNames c) (types : typ
     -- where the rules of a node are met, its unknowns are the least that they ask for
     node_solved : (before : Before) (p : Place) (n : PlacedName) (e : Expression)
         → Grows (with_declaration before n (component.node e)).declared (declarations s.own.inside)
-        → ((r : Rule) → In (node_rules s.own before.declared e) r → width_of r.at_least s.widths ≤ s.widths r.number)
+        → ((r : Rule) → In (node_rules s.own before.declared e) r → width_under r.at_least s.widths ≤ s.widths r.number)
         → Solved s.widths
         (matches false (renumbered (numbers_at s.own before).next (sized_type (sized_at s.own before) e)) (sized_type (sized_at s.own before) e))
         (numbers_at s.own before).next (shared_count (bare_type (sized_type (sized_at s.own before) e)))
@@ -147,13 +147,13 @@ module _ (grow : WidthsGrow) (c : CircuitTree) (names : HasNames c) (types : typ
         lowered_meets : (j m : ℕ) → Within (numbers_at s.own before).next (shared_count (bare_type (sized_type (sized_at s.own before) e))) j
             → ((d : Width)
             → In (matches false (renumbered (numbers_at s.own before).next (sized_type (sized_at s.own before) e)) (sized_type (sized_at s.own before) e))
-            (record { driven = unknown j; driver = d }) → width_of d s.widths ≤ m)
+            (record { driven = unknown j; driver = d }) → width_under d s.widths ≤ m)
             → MeetsRules (rules c) (lowered s.widths j m)
         lowered_meets j m within all = record {
           each = λ r i.
               let own = own_module c s.own is_in in
               le_trans (grow r.at_least (lowered w j m) w (lowered_below w j m))
-              (lowered_from w j m r.number (width_of r.at_least w) (are.meets.each r i)
+              (lowered_from w j m r.number (width_under r.at_least w) (are.meets.each r i)
               (λ same.
               let here = subst (Within k (shared_count (bare_type b))) (sym same) within in
               let taken = node_taken c s.own is_in own.modules own.start before p n e r.number g here in

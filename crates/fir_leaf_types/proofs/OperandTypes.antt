@@ -17,7 +17,7 @@ use Rattle.fir_bits.specs.Widths.{width_of as result_width}
 use Rattle.fir_ast.specs.Types.{DataType, uint, sint, clock, reset, async_reset, bundle, vector}
 use Rattle.fir_meaning.specs.OperationTypes.{operand_kind}
 use Rattle.fir_meaning.specs.TypeKinds.{bare}
-use Rattle.fir_meaning.specs.WidthExpressions.{Width, Widths, width_of}
+use Rattle.fir_meaning.specs.WidthExpressions.{Width, Widths, width_under}
 use Rattle.fir_meaning.specs.SizedTypes.{Sized, unsigned, signed, clock_scalar, reset_scalar, async_scalar, scalar, sized_bundle, sized_vector, bare_type}
 use Rattle.fir_meaning.specs.SizedOperations.{number_scalar, is_signed, width_in, first_sized, result_scalar, operation_width, sized_operation}
 use Rattle.fir_meaning.proofs.SizedShapes.{operand_signed}
@@ -44,15 +44,15 @@ kind_operand resets (vector t n) k e = absurd (cc)
 module _ (w : Widths) where
   -- a reset has one bit
   abbrev pub ResetIsOne : Sized → Type 0
-  ResetIsOne (scalar reset_scalar e) = width_of e w ≡ 1
-  ResetIsOne (scalar async_scalar e) = width_of e w ≡ 1
+  ResetIsOne (scalar reset_scalar e) = width_under e w ≡ 1
+  ResetIsOne (scalar async_scalar e) = width_under e w ≡ 1
   ResetIsOne _ = Unit {0}
 
   -- an operand holds one number, of its kind
   pub record OperandHolds (s : Sized) (kind u : NumTy) : Type 0 where
     pub holds : held_types w s ≡ number u ∷ []
     pub sign : u.signed ≡ is_signed s
-    pub width : u.width ≡ width_of (width_in s) w
+    pub width : u.width ≡ width_under (width_in s) w
     pub of_kind : u.signed ≡ kind.signed
 
   pub operand_holds : (resets : Bool) (s : Sized) (t : DataType) (kind : NumTy) → bare_type s ≡ bare t → operand_kind resets t ≡ Some kind → ResetIsOne s
@@ -61,9 +61,9 @@ module _ (w : Widths) where
     where
       by : (s : Sized) → ResetIsOne s → IsOperand (bare_type s) → is_signed s ≡ kind.signed → (u : NumTy) × OperandHolds s kind u
       by (scalar unsigned e) one is sign =
-          (record { signed = false; width = width_of e w }, record { holds = refl; sign = refl; width = refl; of_kind = sign })
+          (record { signed = false; width = width_under e w }, record { holds = refl; sign = refl; width = refl; of_kind = sign })
       by (scalar signed e) one is sign =
-          (record { signed = true; width = width_of e w }, record { holds = refl; sign = refl; width = refl; of_kind = sign })
+          (record { signed = true; width = width_under e w }, record { holds = refl; sign = refl; width = refl; of_kind = sign })
       by (scalar clock_scalar e) one is sign = absurd is
       by (scalar reset_scalar e) one is sign =
           (record { signed = false; width = 1 }, record { holds = refl; sign = refl; width = sym one; of_kind = sign })
@@ -140,7 +140,7 @@ type_is : (op : PrimOp) (us : List NumTy) (is : List ℕ) → takes (form_of op)
 type_is op us is h narrow legal = rw (h, narrow, legal) refl
 
 module _ (w : Widths) where
-  pub number_holds : (is : Bool) (e : Width) → scalar_type w (number_scalar is) e ≡ number (record { signed = is; width = width_of e w })
+  pub number_holds : (is : Bool) (e : Width) → scalar_type w (number_scalar is) e ≡ number (record { signed = is; width = width_under e w })
   number_holds true e = refl
   number_holds false e = refl
 
@@ -148,13 +148,13 @@ module _ (w : Widths) where
   number_resets true e = tt
   number_resets false e = tt
 
-  result_holds : (op : PrimOp) (is : Bool) (e : Width) (a b n m : ℕ) → width_of e w ≡ result_width op is a b n m
+  result_holds : (op : PrimOp) (is : Bool) (e : Width) (a b n m : ℕ) → width_under e w ≡ result_width op is a b n m
       → scalar_type w (result_scalar op is) e ≡ number (record { signed = signed_of op is; width = result_width op is a b n m })
   result_holds AsAsyncReset is e a b n m h = refl
   result_holds op is e a b n m h =
       number_holds (signed_of op is) e ∙ ap (λ x. number (record { signed = signed_of op is; width = x })) h
 
-  result_resets : (op : PrimOp) (is : Bool) (e : Width) (a b n m : ℕ) → width_of e w ≡ result_width op is a b n m
+  result_resets : (op : PrimOp) (is : Bool) (e : Width) (a b n m : ℕ) → width_under e w ≡ result_width op is a b n m
       → ResetIsOne w (scalar (result_scalar op is) e)
   result_resets AsAsyncReset is e a b n m h = h
   result_resets op is e a b n m h = number_resets (signed_of op is) e
@@ -162,7 +162,7 @@ module _ (w : Widths) where
   -- operands beside what they hold
   abbrev pub OperandsHold : List Sized → List NumTy → Type 0
   OperandsHold [] [] = Unit {0}
-  OperandsHold (s ∷ ss) (u ∷ us) = (u.signed ≡ is_signed s) × (u.width ≡ width_of (width_in s) w) × OperandsHold ss us
+  OperandsHold (s ∷ ss) (u ∷ us) = (u.signed ≡ is_signed s) × (u.width ≡ width_under (width_in s) w) × OperandsHold ss us
   OperandsHold _ _ = ⊥
 
   pub record OperationHolds (op : PrimOp) (ss : List Sized) (is : List ℕ) (us : List NumTy) : Type 0 where
@@ -174,9 +174,9 @@ module _ (w : Widths) where
   -- by what the sized type of the operation is, with the width of the second operand
   holds_by : (op : PrimOp) (ss : List Sized) (is : List ℕ) (us : List NumTy) → (first_type us).signed ≡ is_signed (first_sized ss)
       → takes (form_of op) us is ≡ true
-      → width_of (operation_width op ss is) w
+      → width_under (operation_width op ss is) w
       ≡ counted_width op (first_type us).signed (first_type us).width (second_type us).width (slice_index is 0) (slice_index is 1)
-      → width_of (operation_width op ss is) w ≤ 128 → is_legal op (first_type us).width (slice_index is 0) (slice_index is 1) ≡ true
+      → width_under (operation_width op ss is) w ≤ 128 → is_legal op (first_type us).width (slice_index is 0) (slice_index is 1) ≡ true
       → OperationHolds op ss is us
   holds_by op ss is us sign taken counted within legal =
       let a = first_type us in
@@ -187,7 +187,7 @@ module _ (w : Widths) where
       let test = is_narrow op a.signed a.width b.width n m in
       let bound : (if test then whole else 129) ≤ 128 = subst (λ x. x ≤ 128) counted within in
       let narrow = counted_narrow test whole bound in
-      let wide : width_of (operation_width op ss is) w ≡ whole = counted ∙ narrow.1 in
+      let wide : width_under (operation_width op ss is) w ≡ whole = counted ∙ narrow.1 in
       record {
         result = record { signed = signed_of op a.signed; width = whole };
         typed = type_is op us is taken narrow.0 legal;
@@ -200,8 +200,8 @@ module _ (w : Widths) where
       }
 
   pub operation_holds : (op : PrimOp) (ss : List Sized) (is : List ℕ) (us kinds : List NumTy) → OperandsHold ss us → signs us ≡ signs kinds
-      → takes (form_of op) kinds is ≡ true → width_of (operation_width op ss is) w ≤ 128
-      → is_legal op (width_of (width_in (first_sized ss)) w) (slice_index is 0) (slice_index is 1) ≡ true → OperationHolds op ss is us
+      → takes (form_of op) kinds is ≡ true → width_under (operation_width op ss is) w ≤ 128
+      → is_legal op (width_under (width_in (first_sized ss)) w) (slice_index is 0) (slice_index is 1) ≡ true → OperationHolds op ss is us
   operation_holds op [] is [] kinds h same taken within legal =
       let few = counts (form_of op) [] is (taken_by_signs (form_of op) [] kinds is same ∙ taken) in
       absurd (omega (arith, few.some))

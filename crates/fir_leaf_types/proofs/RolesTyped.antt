@@ -26,7 +26,7 @@ use Rattle.fir_meaning.specs.Visibility.{Before, with_declaration, opened, reope
 use Rattle.fir_meaning.specs.TypedScopes.{TypedScope}
 use Rattle.fir_meaning.specs.TypeGroup.{scope_at}
 use Rattle.fir_meaning.specs.ResetJoins.{numbered_module}
-use Rattle.fir_meaning.specs.WidthExpressions.{Width, Widths, Rule, width_of}
+use Rattle.fir_meaning.specs.WidthExpressions.{Width, Widths, Rule, width_under}
 use Rattle.fir_meaning.specs.SizedTypes.{Sized, unsigned, signed, clock_scalar, reset_scalar, async_scalar, scalar, sized_bundle, sized_vector, bare_type}
 use Rattle.fir_meaning.specs.SizedScopes.{SizedScope, sized_type}
 use Rattle.fir_meaning.specs.SizedDeclarations.{numbers_at, sized_at, sized_declared}
@@ -40,7 +40,7 @@ use Rattle.fir_meaning.proofs.SizedShapes.{numbered_bare}
 use Rattle.fir_meaning.specs.working.Leafed.{first_term, terms}
 use Rattle.fir_meaning.specs.working.LeafedBlocks.{term_at}
 use Rattle.fir_meaning.specs.working.LeafMemories.{LeafMemory, enable, memory_roles, mode, port_roles, port_size, read_role, read_roles, roles_from, sinks}
-use Rattle.fir_meaning.specs.MemoryPorts.{PortKind, reads, writes, reads_and_writes}
+use Rattle.fir_meaning.specs.MemoryPorts.{MemoryPortKind, reads, writes, reads_and_writes}
 use Rattle.fir_meaning.specs.FoundTypes.{leaves_of_data}
 use Rattle.fir_meaning.specs.working.LeafModules.{LeafDeclared, Need, Role, computed, pipe, reading, sink, source}
 use Rattle.fir_meaning.specs.LeafTypes.{LeafType, a_clock, number}
@@ -108,7 +108,7 @@ reads_free : (m : LeafMemory) (needs : List Need) (b i n : ℕ) → AllByRecursi
 reads_free m needs b i zero = tt
 reads_free m needs b i (suc n) = (read_free m needs b i, reads_free m needs b (suc i) n)
 
-port_roles_free : (m : LeafMemory) (b : ℕ) (k : PortKind) → AllByRecursion IsFree (port_roles m b k)
+port_roles_free : (m : LeafMemory) (b : ℕ) (k : MemoryPortKind) → AllByRecursion IsFree (port_roles m b k)
 port_roles_free m b reads =
     all_joined IsFree (sinks 3) (read_roles m (enable b ∷ []) b 0 m.data_leaves) (sinks_free 3) (reads_free m (enable b ∷ []) b 0 m.data_leaves)
 port_roles_free m b writes = sinks_free (3 + 2 * m.data_leaves)
@@ -119,7 +119,7 @@ port_roles_free m b reads_and_writes =
     (all_joined IsFree (sinks 3) (read_roles m needs b 0 m.data_leaves) (sinks_free 3) (reads_free m needs b 0 m.data_leaves))
     (sinks_free (1 + 2 * m.data_leaves))
 
-roles_free : (m : LeafMemory) (b : ℕ) (ks : List PortKind) → AllByRecursion IsFree (roles_from m b ks)
+roles_free : (m : LeafMemory) (b : ℕ) (ks : List MemoryPortKind) → AllByRecursion IsFree (roles_from m b ks)
 roles_free m b [] = tt
 roles_free m b (k ∷ ks) =
     all_joined IsFree (port_roles m b k) (roles_from m (b + port_size m.data_leaves k) ks) (port_roles_free m b k)
@@ -242,7 +242,7 @@ module _ (c : CircuitTree) (held : ℕ → LeafType) (w : Widths) (scope : Typed
 
 -- widths meet these rules
 abbrev pub MeetsEach : Widths → List Rule → Type 0
-MeetsEach w rules = (r : Rule) → In rules r → width_of r.at_least w ≤ w r.number
+MeetsEach w rules = (r : Rule) → In rules r → width_under r.at_least w ≤ w r.number
 
 -- each node of a module whose rules are met holds what its expression does
 abbrev pub NodesHold : Scene → Type 0

@@ -9,7 +9,7 @@ use Rattle.fir_bits.specs.declared.operators.PrimOp.{PrimOp}
 use Rattle.fir_ast.specs.declared.place.Place.{Place}
 use Rattle.fir_ast.specs.Types.{DataType}
 use Rattle.fir_ast.specs.Expressions.{Expression, reference, literal, operation, mux, validif}
-use Rattle.fir_ast.specs.Statements.{PlacedName, Sink, Reset, Statement, wire, register, node, instance, memory, when, connect, partial_connect, invalid, skip, Block, done, then}
+use Rattle.fir_ast.specs.Statements.{PlacedName, SinkReference, Reset, Statement, wire, register, node, instance, memory, when, connect, partial_connect, invalid, skip, Block, done, then}
 use Rattle.fir_ast.specs.Circuits.{CircuitTree}
 use Rattle.fir_meaning.specs.LeafPaths.{LeafPath}
 use Rattle.fir_meaning.specs.Flows.{flow_under, is_source, source}
@@ -137,7 +137,7 @@ flows_nowhere left right p path straight flow reached h =
 
 module _ (Q : ℕ → Type 0) (scope : TypedScope) (sized : SizedScope) (owned : ScopeOwned Q scope sized)
     (shape : (e : Expression) (t : DataType) → HasType scope e t → bare_type (sized_type sized e) ≡ bare t) where
-  sink_owned : (s : Sink) (r : Reached) → Reaches scope s r → RefOwned Q r (sized_type sized (sink_expression s))
+  sink_owned : (s : SinkReference) (r : Reached) → Reaches scope s r → RefOwned Q r (sized_type sized (sink_expression s))
   sink_owned s r h = leads_owned Q scope s.parts h.0 r (sized_in sized s.name) h.2 (name_owned Q scope sized s.name h.0 owned h.1)
 
   -- what drives is owned, or has no flips
@@ -152,7 +152,7 @@ module _ (Q : ℕ → Type 0) (scope : TypedScope) (sized : SizedScope) (owned :
   source_owned (mux p x a b) t h = inl (guarded_owned Q (width_in (sized_type sized x)) (greater_of (sized_type sized a) (sized_type sized b)))
   source_owned (validif p x a) t h = inl (guarded_owned Q (width_in (sized_type sized x)) (sized_type sized a))
 
-  connect_owned : (fits : DataType → DataType → Bool) (pairs_of : DataType → DataType → List Pair) → IsConnect fits pairs_of → (s : Sink) (e : Expression)
+  connect_owned : (fits : DataType → DataType → Bool) (pairs_of : DataType → DataType → List Pair) → IsConnect fits pairs_of → (s : SinkReference) (e : Expression)
       → ConnectIsLegal fits pairs_of scope s e → (r : Rule) → In (connect_rules (sized_type sized (sink_expression s)) (sized_type sized e)) r → Q r.number
   connect_owned fits pairs_of is s e h r i =
       ⊎_elim

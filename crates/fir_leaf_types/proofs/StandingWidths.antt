@@ -5,7 +5,7 @@ use Rattle.std.specs.Str.{bytes_eq}
 use Rattle.fir_ast.specs.Types.{DataType, uint, sint, clock, reset, async_reset, bundle, vector, Fields, no_fields, field}
 use Rattle.fir_meaning.specs.SharedLeaves.{shared_count}
 use Rattle.fir_meaning.specs.TypeKinds.{FieldFound, field_named}
-use Rattle.fir_meaning.specs.WidthExpressions.{Widths, width_of}
+use Rattle.fir_meaning.specs.WidthExpressions.{Widths, width_under}
 use Rattle.fir_meaning.specs.SizedTypes.{Sized, SizedFields, unsigned, signed, clock_scalar, reset_scalar, async_scalar, scalar, sized_bundle, sized_vector, no_sized_fields, sized_field, past, numbered, numbered_fields, sized_named}
 use Rattle.fir_meaning.specs.working.InferredTypes.{inferred, inferred_fields}
 use Rattle.fir_leaf_types.proofs.HeldKinds.{not_zero}
@@ -14,11 +14,11 @@ module _ (w : Widths) where
   -- below a vector of length 0
   abbrev mutual
     pub Absent : DataType → Sized → Type 0
-    Absent (uint a) (scalar unsigned e) = width_of e w ≤ 128 → unwrap_or a 0 ≡ width_of e w
-    Absent (sint a) (scalar signed e) = width_of e w ≤ 128 → unwrap_or a 0 ≡ width_of e w
+    Absent (uint a) (scalar unsigned e) = width_under e w ≤ 128 → unwrap_or a 0 ≡ width_under e w
+    Absent (sint a) (scalar signed e) = width_under e w ≤ 128 → unwrap_or a 0 ≡ width_under e w
     Absent clock (scalar clock_scalar e) = Unit {0}
-    Absent reset (scalar reset_scalar e) = width_of e w ≡ 1
-    Absent async_reset (scalar async_scalar e) = width_of e w ≡ 1
+    Absent reset (scalar reset_scalar e) = width_under e w ≡ 1
+    Absent async_reset (scalar async_scalar e) = width_under e w ≡ 1
     Absent (bundle fs) (sized_bundle gs) = FieldsAbsent fs gs
     Absent (vector t n) (sized_vector s m) = (n ≡ m) × Absent t s
     Absent _ _ = ⊥
@@ -33,8 +33,8 @@ module _ (w : Widths) where
     Present (uint a) (scalar unsigned e) = Unit {0}
     Present (sint a) (scalar signed e) = Unit {0}
     Present clock (scalar clock_scalar e) = Unit {0}
-    Present reset (scalar reset_scalar e) = width_of e w ≡ 1
-    Present async_reset (scalar async_scalar e) = width_of e w ≡ 1
+    Present reset (scalar reset_scalar e) = width_under e w ≡ 1
+    Present async_reset (scalar async_scalar e) = width_under e w ≡ 1
     Present (bundle fs) (sized_bundle gs) = FieldsPresent fs gs
     Present (vector t n) (sized_vector s m) = (n ≡ m) × (n ≡ 0 → Absent t s) × Present t s
     Present _ _ = ⊥

@@ -6,12 +6,14 @@ use Rattle.std.proofs.lemmas.List.Elements.{All-from_recursion}
 use Rattle.fir_base.proofs.Each.{all_left, all_right}
 use Rattle.fir_ast.specs.declared.fault.FirFault.{FirFault}
 use Rattle.fir_ast.specs.declared.fault.FirFault.TheVariants as fault
+use Rattle.fir_ast.specs.Faults.{Fault}
+use Rattle.fir_ast.specs.working.CodeFaults.{fault_of}
 use Rattle.fir_lex.specs.working.Levels.{Move, move_to}
 use Rattle.fir_lex.specs.working.Lexed.{is_idle, unmet, lexed}
 use Rattle.fir_lex.specs.Pieces.{Piece, blank, information, spelled, IsBlank, bytes_of_pieces, ArePieces}
 use Rattle.fir_lex.specs.Lines.{idle, full, line_bytes, text_of, EndsLine}
 use Rattle.fir_lex.specs.TokensOf.{place_after}
-use Rattle.fir_lex.specs.TokenFaults.{MayBeginLine, IsWithinLine, LineFault, TokenFault}
+use Rattle.fir_lex.specs.TokenFaults.{MayBeginLine, LineFault, TokenFault}
 use Rattle.fir_lex.proofs.Way.{blanks_of}
 use Rattle.fir_lex.proofs.Positions.{none_passes}
 use Rattle.fir_lex.proofs.FirstPlaces.{FirstAt, first_at}
@@ -23,7 +25,7 @@ use Rattle.fir_lex.proofs.IndentFaults.{not_idle, tab_over, unmet_over, unmet_fa
 use Rattle.fir_lex.proofs.LineFaultsFound.{LinesFault, LineHas, FailsInLine, FailsAtLine, ShorterFailsAtLine, fails_behind, same_fault, nothing_fails, in_line_fails}
 
 -- the fault of the first line
-at_once : (levels before bytes : List ℕ) (f : FirFault) → LineFault before (with_base levels) bytes f → LinesFault levels before bytes f
+at_once : (levels before bytes : List ℕ) (f : Fault) → LineFault before (with_base levels) bytes f → LinesFault levels before bytes f
 at_once levels before bytes f h = record {
   lines = [];
   after = with_base levels;
@@ -51,8 +53,8 @@ idle_more blanks behind bytes all parts some t shorter levels before f h =
         let fewer = t.shorter (λ none. let off : b ∷ bs ≡ [] = sym e ∙ none in absurd (cc)) in
         omega (arith, ap length parts, length-append blanks behind)
 
-    lines_more : bytes ≡ ((blanks ++ t.comment) ++ t.end) ++ t.behind → LinesFault levels (before ++ ((blanks ++ t.comment) ++ t.end)) t.behind f
-        → LinesFault levels before bytes f
+    lines_more : bytes ≡ ((blanks ++ t.comment) ++ t.end) ++ t.behind → LinesFault levels (before ++ ((blanks ++ t.comment) ++ t.end)) t.behind (fault_of f)
+        → LinesFault levels before bytes (fault_of f)
     lines_more whole a =
         let line : List ℕ = (blanks ++ t.comment) ++ t.end in record {
           lines = idle blanks t.comment t.end ∷ a.lines;
@@ -61,7 +63,7 @@ idle_more blanks behind bytes all parts some t shorter levels before f h =
           parts = whole ∙ ap (λ (x : List ℕ). line ++ x) a.parts ∙ sym (append_assoc line (text_of a.lines) a.behind);
           are = ((All-from_recursion IsBlank blanks all, t.is_comment, subst (EndsLine t.comment t.end) a.parts t.ends), a.are);
           levels_are = a.levels_are;
-          fault = subst (λ (x : List ℕ). LineFault x a.after a.behind f) (append_assoc before line (text_of a.lines)) a.fault;
+          fault = subst (λ (x : List ℕ). LineFault x a.after a.behind (fault_of f)) (append_assoc before line (text_of a.lines)) a.fault;
         }
 
 -- ---- spaces that meet a level
@@ -72,16 +74,11 @@ may_begin (blank b ∷ ps) behind met are = met.no_blank are.0
 may_begin (information content ∷ ps) behind met are = tt
 may_begin (spelled t s ∷ ps) behind met are = tt
 
-within : (before levels bytes : List ℕ) (f : FirFault) → IsWithinLine before levels bytes f → LineFault before levels bytes f
-within before levels bytes (fault.Tab p) w = absurd w.8
-within before levels bytes (fault.Indent p n) w = absurd w.8
-within before levels bytes f w = inr w
-
-full_more : (n : ℕ) (behind bytes levels before : List ℕ) (m : Move) (f : FirFault) → bytes ≡ replicate n 32 ++ behind → Met behind
+full_more : (n : ℕ) (behind bytes levels before : List ℕ) (m : Move) (f : Fault) → bytes ≡ replicate n 32 ++ behind → Met behind
     → move_to n levels ≡ Some m → LineHas m.levels (before ++ replicate n 32) behind f → LinesFault levels before bytes f
 full_more n behind bytes levels before m f parts met moves (inl l) =
     let spaces : List ℕ = replicate n 32 in
-    at_once levels before bytes f (within before (with_base levels) bytes f (
+    at_once levels before bytes f (inr (inr (inr (
       n,
       l.pieces,
       l.behind,
@@ -91,7 +88,7 @@ full_more n behind bytes levels before m f parts met moves (inl l) =
       may_begin l.pieces l.behind (subst Met l.parts met) l.are,
       l.are,
       l.fault,
-    ))
+    ))))
 full_more n behind bytes levels before m f parts met moves (inr l) =
     let spaces : List ℕ = replicate n 32 in
     let own : List ℕ = bytes_of_pieces l.pieces in
@@ -124,7 +121,7 @@ full_more n behind bytes levels before m f parts met moves (inr l) =
 
 by_move : (b : ℕ) (bs : List ℕ) (r : Blanks (b ∷ bs)) (o : Option Move) → is_idle r.behind ≡ false → position (λ c. eqb c 9) (blanks_of (b ∷ bs)) ≡ None
     → (levels before : List ℕ) (f : FirFault) → move_to (length (blanks_of (b ∷ bs))) levels ≡ o → FailsInLine r.behind
-    → at_line_after levels before (b ∷ bs) ≡ Err f → LinesFault levels before (b ∷ bs) f
+    → at_line_after levels before (b ∷ bs) ≡ Err f → LinesFault levels before (b ∷ bs) (fault_of f)
 by_move b bs r o busy tab levels before f e deeper h =
     let n = length (blanks_of (b ∷ bs)) in
     let spaces = spaces_of (blanks_of (b ∷ bs)) r.all (none_passes (λ c. eqb c 9) (blanks_of (b ∷ bs)) tab) in
@@ -132,16 +129,16 @@ by_move b bs r o busy tab levels before f e deeper h =
     by_levels n o parts e (ap (at_line_after levels before) (sym parts) ∙ h)
   where
     by_levels : (n : ℕ) (o : Option Move) → b ∷ bs ≡ replicate n 32 ++ r.behind → move_to n levels ≡ o
-        → at_line_after levels before (replicate n 32 ++ r.behind) ≡ Err f → LinesFault levels before (b ∷ bs) f
+        → at_line_after levels before (replicate n 32 ++ r.behind) ≡ Err f → LinesFault levels before (b ∷ bs) (fault_of f)
     by_levels n None parts e h =
         let same = same_fault (unmet (place_after (before ++ replicate n 32)) n r.behind) f (at_line_after levels before (replicate n 32 ++ r.behind))
         (unmet_over n levels before r.behind (r.met busy) e) h in
-        at_once levels before (b ∷ bs) f (subst (LineFault before (with_base levels) (b ∷ bs)) same
-        (subst (λ (x : List ℕ). LineFault before (with_base levels) x (unmet (place_after (before ++ replicate n 32)) n r.behind)) (sym parts)
+        at_once levels before (b ∷ bs) (fault_of f) (subst (λ g. LineFault before (with_base levels) (b ∷ bs) (fault_of g)) same
+        (subst (λ (x : List ℕ). LineFault before (with_base levels) x (fault_of (unmet (place_after (before ++ replicate n 32)) n r.behind))) (sym parts)
         (unmet_fault n before r.behind levels (r.met busy) e)))
     by_levels n (Some m) parts e h =
         let first : List ℕ = before ++ replicate n 32 in
-        full_more n r.behind (b ∷ bs) levels before m f parts (r.met busy) e
+        full_more n r.behind (b ∷ bs) levels before m (fault_of f) parts (r.met busy) e
         (deeper m.levels first f (fails_behind (place_after first) m.tokens (in_line_after m.levels first r.behind) f
         (sym (spaces_over n levels before r.behind m (r.met busy) e) ∙ h)))
 
@@ -158,8 +155,10 @@ at_tab b bs r k busy t levels before f h =
     let parts : b ∷ bs ≡ (replicate n 32 ++ 9 ∷ t.back) ++ r.behind = r.parts ∙ ap (λ (x : List ℕ). x ++ r.behind) are in
     let same = same_fault (fault.Tab (place_after (before ++ replicate n 32))) f (at_line_after levels before (b ∷ bs))
     (ap (at_line_after levels before) parts ∙ tab_over n levels before t.back r.behind behind (r.met busy)) h in
-    at_once levels before (b ∷ bs) f (subst (LineFault before (with_base levels) (b ∷ bs)) same
-    (n, t.back, r.behind, parts, All-from_recursion IsBlank t.back behind, not_idle r.behind (r.met busy), refl))
+    let q = place_after (before ++ replicate n 32) in
+    at_once levels before (b ∷ bs) (fault_of f)
+    (inl
+    (q, sym (ap fault_of same), (n, t.back, r.behind, parts, All-from_recursion IsBlank t.back behind, not_idle r.behind (r.met busy), refl)))
 
 by_tab : (b : ℕ) (bs : List ℕ) (r : Blanks (b ∷ bs)) (o : Option ℕ) → is_idle r.behind ≡ false → position (λ c. eqb c 9) (blanks_of (b ∷ bs)) ≡ o
     → FailsInLine r.behind → FailsAtLine (b ∷ bs)
@@ -188,7 +187,7 @@ mutual
   fails_at_line zero bytes lt = absurd (omega arith)
   fails_at_line (suc fuel) bytes lt = at_line_fails bytes (λ bs le. fails_in_line fuel bs (omega arith)) (λ bs less. fails_at_line fuel bs (omega arith))
 
-pub fault_found : (bytes : List ℕ) (f : FirFault) → lexed bytes ≡ Err f → TokenFault bytes f
+pub fault_found : (bytes : List ℕ) (f : FirFault) → lexed bytes ≡ Err f → TokenFault bytes (fault_of f)
 fault_found bytes f h =
     let a = fails_at_line (2 * length bytes + 2) bytes (omega arith) [] [] f h in
     (a.lines, a.after, a.behind, a.parts, a.are, a.levels_are, a.fault)

@@ -1,8 +1,10 @@
 -- What is wrong where a token should begin is told there, and what is told there is wrong.
-use Rattle.std.proofs.Common.{◌≡◌, ℕ, ◌+◌, ◌<◌, List, [], ◌∷◌, ◌++◌, length, take, Err, refl, sym, ap, ◌∙◌, inl, inr, subst, append_assoc, length-append, take_at, arith}
+use Rattle.std.proofs.Common.{◌≡◌, ℕ, ◌+◌, ◌<◌, List, [], ◌∷◌, ◌++◌, length, take, Err, refl, sym, ap, ◌∙◌, inl, inr, ◌⊎◌, subst, append_assoc, length-append, take_at, arith}
 use Rattle.fir_ast.specs.declared.place.Place.{Place}
 use Rattle.fir_ast.specs.declared.fault.FirFault.{FirFault}
 use Rattle.fir_ast.specs.declared.fault.FirFault.TheVariants as fault
+use Rattle.fir_ast.specs.Faults.{Fault}
+use Rattle.fir_ast.specs.working.CodeFaults.{fault_of}
 use Rattle.fir_lex.specs.working.Bytes.{place_behind}
 use Rattle.fir_lex.specs.working.Front.{Front, passed, bad_byte, bad_literal}
 use Rattle.fir_lex.specs.working.Lexed.{Lexed}
@@ -31,11 +33,15 @@ past_place before bytes k c p =
     ap (take k) whole ∙ take_at (34 ∷ p.front) ((c ∷ p.back) ++ 34 ∷ p.behind) k (omega (arith, p.far)) in
     ap (place_behind (place_after before)) taken ∙ sym (place_on before (34 ∷ p.front))
 
-pub byte_fault : (before bytes : List ℕ) (k c : ℕ) → GoesOn bytes → front_at bytes ≡ bad_byte k c → Wrong bytes (bad_byte k c)
-    → FrontFault before bytes (fault.Byte (place_behind (place_after before) (take k bytes)) c)
-byte_fault before bytes k c goes e (inl s) = inl (stray_fault before bytes k c goes e s)
-byte_fault before bytes k c goes e (inr p) =
-    inr (p.front, p.back, p.behind, p.parts, p.characters, p.one_line, p.ascii, p.past, past_place before bytes k c p)
+pub byte_found : (before bytes : List ℕ) (k c : ℕ) → GoesOn bytes → front_at bytes ≡ bad_byte k c → Wrong bytes (bad_byte k c)
+    → FrontFault before bytes (fault_of (fault.Byte (place_behind (place_after before) (take k bytes)) c))
+byte_found before bytes k c goes e w = inl (place_behind (place_after before) (take k bytes), c, refl, there w)
+  where
+    there : Wrong bytes (bad_byte k c)
+        → IsInNoToken before bytes (place_behind (place_after before) (take k bytes)) c
+        ⊎ IsPastAscii before bytes (place_behind (place_after before) (take k bytes)) c
+    there (inl s) = inl (stray_fault before bytes k c goes e s)
+    there (inr p) = inr (p.front, p.back, p.behind, p.parts, p.characters, p.one_line, p.ascii, p.past, past_place before bytes k c p)
 
 -- ---- what is wrong is told
 
@@ -77,14 +83,13 @@ past_read before bytes p b h =
     byte_read before bytes (length h.0 + 1) b p (omega (arith, ap length h.3)) (past_ascii_read bytes (length h.0 + 1) b past)
     (h.8 ∙ sym (past_place before bytes (length h.0 + 1) b past))
 
-literal_read : (before bytes : List ℕ) (p : Place) → 0 < length bytes → Reads bytes bad_literal → p ≡ place_after before
-    → FaultRead before bytes (fault.BadLiteral p)
-literal_read before bytes p some r place = record {
+literal_read : (before bytes : List ℕ) → 0 < length bytes → Reads bytes bad_literal → FaultRead before bytes (fault.BadLiteral (place_after before))
+literal_read before bytes some r = record {
   read = bad_literal;
   some = some;
   reads = r;
   stays = λ n e. absurd (cc);
-  told = λ levels. way_bad_literal levels (place_after before) bytes some r.0 r.1 ∙ ap {B = Lexed} (λ (q : Place). Err (fault.BadLiteral q)) (sym place);
+  told = λ levels. way_bad_literal levels (place_after before) bytes some r.0 r.1;
 }
 
 large_some : (bytes : List ℕ) → BeginsTooLarge bytes → 0 < length bytes
@@ -94,10 +99,10 @@ large_some bytes h = by_digits h.1 h.5 (ap length h.3)
     by_digits [] some long = absurd (some refl)
     by_digits (d ∷ ds) some long = omega (arith, length-append (h.0 ++ d ∷ ds) h.2, length-append h.0 (d ∷ ds))
 
-pub fault_read : (before bytes : List ℕ) (f : FirFault) → FrontFault before bytes f → FaultRead before bytes f
-fault_read before bytes (fault.Byte p b) (inl h) = stray_read before bytes p b h
-fault_read before bytes (fault.Byte p b) (inr h) = past_read before bytes p b h
-fault_read before bytes (fault.BadLiteral p) (inl large, place) = literal_read before bytes p (large_some bytes large) (too_large_read bytes large) place
-fault_read before bytes (fault.BadLiteral p) (inr open_quote, place) =
-    literal_read before bytes p (omega (arith, ap length open_quote.1)) (unclosed_read bytes open_quote) place
-fault_read before bytes f h = absurd h
+pub fault_read : (before bytes : List ℕ) (f : Fault) → FrontFault before bytes f → (g : FirFault) × FaultRead before bytes g × (f ≡ fault_of g)
+fault_read before bytes f (inl (p, b, e, inl h)) = (fault.Byte p b, stray_read before bytes p b h, e)
+fault_read before bytes f (inl (p, b, e, inr h)) = (fault.Byte p b, past_read before bytes p b h, e)
+fault_read before bytes f (inr (e, inl large)) =
+    (fault.BadLiteral (place_after before), literal_read before bytes (large_some bytes large) (too_large_read bytes large), e)
+fault_read before bytes f (inr (e, inr open_quote)) =
+    (fault.BadLiteral (place_after before), literal_read before bytes (omega (arith, ap length open_quote.1)) (unclosed_read bytes open_quote), e)

@@ -11,8 +11,8 @@ use Rattle.fir_base.specs.Digits.{decimal_value}
 use Rattle.fir_lex.specs.Tokens.{Token, word, dash_word, integer, text, sign, annotations, line_end, level_opens, level_closes}
 use Rattle.fir_lex.specs.working.Bytes.{starts_with_byte, ends_line, is_blank}
 use Rattle.fir_lex.specs.working.Front.{Front, found, passed, dash_or_word, word_front, integer_front, closed_string, string_front, string_length, information_length, in_brackets, block_length, information_front, annotations_front}
-use Rattle.fir_lex.specs.Enclosed.{IsCharacter, AreCharacters, nested_bytes, IsBlock}
-use Rattle.fir_lex.specs.Spelled.{IsDigit, BeginsWord, ContinuesWord, IsInteger, IsOnOneLine, IsString, IsSpelled, dash_words, signs}
+use Rattle.fir_lex.specs.Enclosed.{IsCharacter, AreCharacters, nested_bytes, IsAnnotationBlock}
+use Rattle.fir_lex.specs.Spelled.{IsDigit, BeginsWord, ContinuesWord, IsIntegerText, IsOnOneLine, IsString, IsSpelledToken, dash_words, signs}
 use Rattle.fir_lex.specs.Longest.{BeginsWithNo, BeginsWithNoDashWord, IsLongest}
 use Rattle.fir_lex.specs.Pieces.{IsBlank, IsInformation}
 use Rattle.fir_lex.proofs.Way.{front_at}
@@ -106,7 +106,7 @@ digits_read plus_or_minus (d ∷ ds) behind is_sign some all within ends =
     (sym (append_assoc plus_or_minus (d ∷ ds) behind))
     (reads.0, reads.1 ∙ digits_front plus_or_minus (d ∷ ds) behind all within ends)
 
-integer_read : (i behind : List ℕ) → IsInteger i → BeginsWithNo IsDigit behind → Reads (i ++ behind) (found (integer i) (length i))
+integer_read : (i behind : List ℕ) → IsIntegerText i → BeginsWithNo IsDigit behind → Reads (i ++ behind) (found (integer i) (length i))
 integer_read i behind h ends = subst (IsRead integer behind) (sym h.2) (digits_read h.0 h.1 behind h.3 h.4 h.5 h.6 ends)
 
 -- ---- strings and annotation blocks
@@ -137,7 +137,7 @@ string_read content behind h =
           ∙ ap (closed_string content) (ascii content h.2) ∙ ap (found (text content)) size,
     )
 
-pub annotations_read : (s behind : List ℕ) → IsBlock s → Reads (s ++ behind) (found annotations (length s))
+pub annotations_read : (s behind : List ℕ) → IsAnnotationBlock s → Reads (s ++ behind) (found annotations (length s))
 annotations_read s behind h =
     subst (λ (x : List ℕ). Reads (x ++ behind) (found annotations (length x))) (sym h.2) (
       refl,
@@ -188,7 +188,7 @@ sign_read w behind (inr (inr (inr (inr (inr m))))) = single_read w behind m
 
 -- ---- tokens
 
-pub token_read : (t : Token) (s behind : List ℕ) → IsSpelled t s → IsLongest t behind → Reads (s ++ behind) (found t (length s))
+pub token_read : (t : Token) (s behind : List ℕ) → IsSpelledToken t s → IsLongest t behind → Reads (s ++ behind) (found t (length s))
 token_read (word []) s behind h longest = absurd h.0
 token_read (word (b ∷ bs)) s behind h longest =
     subst (λ (x : List ℕ). Reads (x ++ behind) (found (word (b ∷ bs)) (length x))) (sym h.1) (word_read b bs behind h.0.0 h.0.1 longest.0 longest.1)
@@ -215,7 +215,7 @@ digits_some : (plus_or_minus digits : List ℕ) → digits ≢ [] → 1 ≤ leng
 digits_some plus_or_minus [] some = absurd (some refl)
 digits_some plus_or_minus (d ∷ ds) some = omega (arith, length-append plus_or_minus (d ∷ ds))
 
-pub token_some : (t : Token) (s : List ℕ) → IsSpelled t s → 1 ≤ length s
+pub token_some : (t : Token) (s : List ℕ) → IsSpelledToken t s → 1 ≤ length s
 token_some (word []) s h = absurd h.0
 token_some (word (b ∷ bs)) s h = omega (arith, ap length h.1)
 token_some (dash_word w) s h = omega (arith, ap length h.1, all_at (λ w. 1 ≤ length w) dash_words dash_some w h.0)

@@ -5,6 +5,7 @@ use Rattle.fir_base.proofs.Each.{all_joined}
 use Rattle.fir_ast.specs.declared.place.Place.{Place}
 use Rattle.fir_ast.specs.declared.fault.FirFault.{FirFault}
 use Rattle.fir_ast.specs.declared.fault.FirFault.TheVariants as fault
+use Rattle.fir_ast.specs.working.CodeFaults.{fault_of}
 use Rattle.fir_lex.specs.working.Bytes.{place_behind}
 use Rattle.fir_lex.specs.working.Front.{Front, found, passed, bad_byte, bad_literal, front}
 use Rattle.fir_lex.specs.working.Levels.{Move, move_to}
@@ -90,7 +91,7 @@ is_stray (bad_byte (suc k) d) = inr (λ x e. let off : suc k ≡ 0 = cc in absur
 is_stray bad_literal = inr (λ d e. absurd (cc))
 
 pub unmet_fault : (n : ℕ) (before behind levels : List ℕ) → Met behind → move_to n levels ≡ None
-    → LineFault before (with_base levels) (replicate n 32 ++ behind) (unmet (place_after (before ++ replicate n 32)) n behind)
+    → LineFault before (with_base levels) (replicate n 32 ++ behind) (fault_of (unmet (place_after (before ++ replicate n 32)) n behind))
 unmet_fault n before [] levels met none = let off = met.busy in absurd (cc)
 unmet_fault n before (c ∷ cs) levels met none =
     let meets : MeetsNone (with_base levels) n (replicate n 32 ++ c ∷ cs) (c ∷ cs) =
@@ -104,13 +105,15 @@ unmet_fault n before (c ∷ cs) levels met none =
 
     by_front : MeetsNone (with_base levels) n (replicate n 32 ++ c ∷ cs) (c ∷ cs)
         → ((d : ℕ) × (front c cs ≡ bad_byte zero d)) ⊎ ((d : ℕ) → front c cs ≡ bad_byte zero d → ⊥)
-        → LineFault before (with_base levels) (replicate n 32 ++ c ∷ cs) (unmet (place_after (before ++ replicate n 32)) n (c ∷ cs))
+        → LineFault before (with_base levels) (replicate n 32 ++ c ∷ cs) (fault_of (unmet (place_after (before ++ replicate n 32)) n (c ∷ cs)))
     by_front meets (inl (d, e)) =
-        subst (LineFault before (with_base levels) (replicate n 32 ++ c ∷ cs)) (sym (unmet_stray (place_after (before ++ replicate n 32)) n c cs d e))
-        (inl (n, c ∷ cs, meets, stray_there d e (subst (Wrong (c ∷ cs)) e (front_wrong c cs))))
+        let q = place_after (before ++ replicate n 32) in
+        inr (inr (inl (q, d, ap fault_of (unmet_stray q n c cs d e), (n, c ∷ cs, meets, stray_there d e (subst (Wrong (c ∷ cs)) e (front_wrong c cs))))))
     by_front meets (inr other) =
-        subst (LineFault before (with_base levels) (replicate n 32 ++ c ∷ cs)) (sym (unmet_other (place_after (before ++ replicate n 32)) n c cs other))
-        (c ∷ cs, meets, refl, (λ b bs same badly. other b (ap front_at same ∙ badly_read b bs badly)))
+        let q = place_after (before ++ replicate n 32) in
+        inr
+        (inl
+        (q, n, ap fault_of (unmet_other q n c cs other), (c ∷ cs, meets, refl, (λ b bs same badly. other b (ap front_at same ∙ badly_read b bs badly)))))
 
 -- ---- what is wrong is told
 
@@ -133,9 +136,9 @@ indent_told before levels bytes p n h =
     ∙ ap {B = Lexed} (λ (f : FirFault). Err f) (indent_there (place_after (before ++ replicate n 32)) n h.0 meets.1 h.3)
     ∙ ap {B = Lexed} (λ (q : Place). Err (fault.Indent q n)) (sym h.2)
 
-pub bad_behind_told : (before levels bytes : List ℕ) (f : FirFault) → IsBadBehindIndent before (with_base levels) bytes f
-    → at_line_after levels before bytes ≡ Err f
-bad_behind_told before levels bytes (fault.Byte p b) h =
+pub bad_behind_told : (before levels bytes : List ℕ) (p : Place) (b : ℕ) → IsBadBehindIndent before (with_base levels) bytes p b
+    → at_line_after levels before bytes ≡ Err (fault.Byte p b)
+bad_behind_told before levels bytes p b h =
     let n = h.0 in
     let meets = h.2 in
     let there = h.3 in
@@ -143,4 +146,3 @@ bad_behind_told before levels bytes (fault.Byte p b) h =
     ap (at_line_after levels before) meets.0 ∙ unmet_over n levels before h.1 (met_there h.1 meets.1) (no_move n levels meets.2)
     ∙ ap {B = Lexed} (λ (f : FirFault). Err f) (ap (unmet q n) there.1 ∙ unmet_stray q n b there.0 b (badly_read b there.0 there.2))
     ∙ ap {B = Lexed} (λ (x : Place). Err (fault.Byte x b)) (sym there.3)
-bad_behind_told before levels bytes f h = absurd h

@@ -7,7 +7,7 @@ use Rattle.std.proofs.lemmas.List.Elements.{All-nil, All-cons, recursion_from_Al
 use Rattle.fir_base.proofs.Empty.{empty_right}
 use Rattle.fir_lex.specs.Tokens.{Token, level_opens, level_closes}
 use Rattle.fir_lex.specs.working.Levels.{Move, closing, move_out, innermost, move_to}
-use Rattle.fir_lex.specs.TokensOf.{Opens, Closes}
+use Rattle.fir_lex.specs.TokensOf.{OpensLevel, ClosesLevels}
 
 -- the open levels, and the base
 abbrev pub with_base : List ℕ → List ℕ
@@ -17,7 +17,7 @@ abbrev closings : List ℕ → List Token
 closings = map (λ level. level_closes)
 
 abbrev pub Moves : ℕ → List ℕ → Move → Type 0
-Moves n levels m = Opens n (with_base levels) m.tokens (with_base m.levels) ⊎ Closes n (with_base levels) m.tokens (with_base m.levels)
+Moves n levels m = OpensLevel n (with_base levels) m.tokens (with_base m.levels) ⊎ ClosesLevels n (with_base levels) m.tokens (with_base m.levels)
 
 -- ---- what a move is
 
@@ -34,7 +34,7 @@ closed None m e = absurd (cc)
 closed (Some x) m e = record { inner = x; found = refl; is = same_some (closing x) m e }
 
 abbrev MovesOut : ℕ → List ℕ → Move → Type 0
-MovesOut n levels m = Closes n (with_base levels) m.tokens (with_base m.levels)
+MovesOut n levels m = ClosesLevels n (with_base levels) m.tokens (with_base m.levels)
 
 stays_at : (n : ℕ) (levels outer : List ℕ) (m : Move) → with_base levels ≡ n ∷ outer → record { tokens = []; levels = levels } ≡ m → MovesOut n levels m
 stays_at n levels outer m e same =
@@ -137,7 +137,7 @@ out_taken n (x ∷ xs) (c ∷ cs) outer e all =
     }
 
 pub move_taken : (n : ℕ) (levels : List ℕ) (tokens : List Token) (after : List ℕ)
-    → Opens n (with_base levels) tokens after ⊎ Closes n (with_base levels) tokens after → Taken n levels tokens after
+    → OpensLevel n (with_base levels) tokens after ⊎ ClosesLevels n (with_base levels) tokens after → Taken n levels tokens after
 move_taken n levels tokens after (inl o) =
     let first = inner_first levels in
     let same = same_head (innermost levels) o.0 first.0 o.1 (sym first.1 ∙ o.2) in

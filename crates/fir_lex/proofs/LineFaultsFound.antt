@@ -5,6 +5,8 @@ use Rattle.std.proofs.lemmas.List.{nil_from_length}
 use Rattle.fir_ast.specs.declared.place.Place.{Place}
 use Rattle.fir_ast.specs.declared.fault.FirFault.{FirFault}
 use Rattle.fir_ast.specs.declared.fault.FirFault.TheVariants as fault
+use Rattle.fir_ast.specs.Faults.{Fault}
+use Rattle.fir_ast.specs.working.CodeFaults.{fault_of}
 use Rattle.fir_lex.specs.Tokens.{Token, line_end}
 use Rattle.fir_lex.specs.working.Bytes.{place_behind, ends_line}
 use Rattle.fir_lex.specs.working.Front.{Front, found, passed, bad_byte, bad_literal, front}
@@ -21,12 +23,12 @@ use Rattle.fir_lex.proofs.LineEndsFound.{TailFound, no_comment, semicolon}
 use Rattle.fir_lex.proofs.LineSteps.{in_line_after, at_line_after, token_over, blank_over, information_over, closes_at_line, tail_over}
 use Rattle.fir_lex.proofs.BusyBytes.{goes_on_there}
 use Rattle.fir_lex.proofs.FrontsWrong.{Wrong, front_wrong}
-use Rattle.fir_lex.proofs.FrontFaults.{byte_fault}
+use Rattle.fir_lex.proofs.FrontFaults.{byte_found}
 
 -- ---- what is found
 
 -- at the beginning of a line: the lines up to that of the fault, and the fault of that line
-pub record LinesFault (levels before bytes : List ℕ) (f : FirFault) : Type 0 where
+pub record LinesFault (levels before bytes : List ℕ) (f : Fault) : Type 0 where
   pub lines : List Line
   pub after : List ℕ
   pub behind : List ℕ
@@ -36,7 +38,7 @@ pub record LinesFault (levels before bytes : List ℕ) (f : FirFault) : Type 0 w
   pub fault : LineFault (before ++ text_of lines) after behind f
 
 -- within a line: behind pieces of it
-pub record Here (before bytes : List ℕ) (f : FirFault) : Type 0 where
+pub record Here (before bytes : List ℕ) (f : Fault) : Type 0 where
   pub pieces : List Piece
   pub behind : List ℕ
   pub parts : bytes ≡ bytes_of_pieces pieces ++ behind
@@ -44,7 +46,7 @@ pub record Here (before bytes : List ℕ) (f : FirFault) : Type 0 where
   pub fault : FrontFault (before ++ bytes_of_pieces pieces) behind f
 
 -- or behind its end
-pub record Later (levels before bytes : List ℕ) (f : FirFault) : Type 0 where
+pub record Later (levels before bytes : List ℕ) (f : Fault) : Type 0 where
   pub pieces : List Piece
   pub comment : List ℕ
   pub end : List ℕ
@@ -55,14 +57,14 @@ pub record Later (levels before bytes : List ℕ) (f : FirFault) : Type 0 where
   pub ends : EndsLine comment end behind
   pub deep : LinesFault levels (((before ++ bytes_of_pieces pieces) ++ comment) ++ end) behind f
 
-abbrev pub LineHas : List ℕ → List ℕ → List ℕ → FirFault → Type 0
+abbrev pub LineHas : List ℕ → List ℕ → List ℕ → Fault → Type 0
 LineHas levels before bytes f = Here before bytes f ⊎ Later levels before bytes f
 
 abbrev pub FailsInLine : List ℕ → Type 0
-FailsInLine bytes = (levels before : List ℕ) (f : FirFault) → in_line_after levels before bytes ≡ Err f → LineHas levels before bytes f
+FailsInLine bytes = (levels before : List ℕ) (f : FirFault) → in_line_after levels before bytes ≡ Err f → LineHas levels before bytes (fault_of f)
 
 abbrev pub FailsAtLine : List ℕ → Type 0
-FailsAtLine bytes = (levels before : List ℕ) (f : FirFault) → at_line_after levels before bytes ≡ Err f → LinesFault levels before bytes f
+FailsAtLine bytes = (levels before : List ℕ) (f : FirFault) → at_line_after levels before bytes ≡ Err f → LinesFault levels before bytes (fault_of f)
 
 abbrev pub ShorterFailsInLine : List ℕ → Type 0
 ShorterFailsInLine bytes = (bs : List ℕ) → length bs < length bytes → FailsInLine bs
@@ -107,12 +109,12 @@ line_ends bytes t deeper levels before f h =
       are = tt;
       is_comment = t.is_comment;
       ends = t.ends;
-      deep = subst (λ (x : List ℕ). LinesFault levels ((x ++ t.comment) ++ t.end) t.behind f) (sym (append-nil before)) a;
+      deep = subst (λ (x : List ℕ). LinesFault levels ((x ++ t.comment) ++ t.end) t.behind (fault_of f)) (sym (append-nil before)) a;
     }
 
 -- ---- pieces
 
-here : (before bytes : List ℕ) (f : FirFault) → FrontFault before bytes f → Here before bytes f
+here : (before bytes : List ℕ) (f : Fault) → FrontFault before bytes f → Here before bytes f
 here before bytes f h = record {
   pieces = [];
   behind = bytes;
@@ -121,7 +123,7 @@ here before bytes f h = record {
   fault = subst (λ (x : List ℕ). FrontFault x bytes f) (sym (append-nil before)) h;
 }
 
-piece_more : (p : Piece) (levels before behind bytes : List ℕ) (f : FirFault) → bytes ≡ piece_bytes p ++ behind → IsPiece p behind
+piece_more : (p : Piece) (levels before behind bytes : List ℕ) (f : Fault) → bytes ≡ piece_bytes p ++ behind → IsPiece p behind
     → LineHas levels (before ++ piece_bytes p) behind f → LineHas levels before bytes f
 piece_more p levels before behind bytes f parts is (inl l) =
     inl record {
@@ -152,27 +154,27 @@ by_front : (b : ℕ) (bs : List ℕ) (g : Front) → ends_line (b ∷ bs) ≡ fa
     → ShorterFailsInLine (b ∷ bs) → FailsInLine (b ∷ bs)
 by_front b bs (found t n) e no_comment is (s, a) wrong shorter levels before f h =
     let over = sym (token_over t s a.behind before levels a.piece.0 a.piece.1) ∙ ap (in_line_after levels before) (sym a.parts) ∙ h in
-    piece_more (spelled t s) levels before a.behind (b ∷ bs) f a.parts a.piece
+    piece_more (spelled t s) levels before a.behind (b ∷ bs) (fault_of f) a.parts a.piece
     (shorter a.behind (omega (arith, ap length a.parts, length-append s a.behind, token_some t s a.piece.0)) levels (before ++ s) f
     (fails_behind (place_after before) (t ∷ []) (in_line_after levels (before ++ s) a.behind) f over))
 by_front b bs (passed n) e no_comment is (inl (c, a)) wrong shorter levels before f h =
-    piece_more (blank c) levels before a.behind (b ∷ bs) f a.parts a.piece
+    piece_more (blank c) levels before a.behind (b ∷ bs) (fault_of f) a.parts a.piece
     (shorter a.behind (omega (arith, ap length a.parts)) levels (before ++ c ∷ []) f (sym (blank_over c a.behind before levels a.piece)
     ∙ ap (in_line_after levels before) (sym a.parts) ∙ h))
 by_front b bs (passed n) e no_comment is (inr (content, a)) wrong shorter levels before f h =
-    piece_more (information content) levels before a.behind (b ∷ bs) f a.parts a.piece
+    piece_more (information content) levels before a.behind (b ∷ bs) (fault_of f) a.parts a.piece
     (shorter a.behind (omega (arith, ap length a.parts, length-append ((64 ∷ 91 ∷ content) ++ 93 ∷ []) a.behind, length-append content (93 ∷ []))) levels
     (before ++ ((64 ∷ 91 ∷ content) ++ 93 ∷ [])) f
     (sym (information_over content a.behind before levels a.piece) ∙ ap (in_line_after levels before) (sym a.parts) ∙ h))
 by_front b bs (bad_byte k c) e no_comment is has wrong shorter levels before f h =
     let same = same_fault (fault.Byte (place_behind (place_after before) (take k (b ∷ bs))) c) f (in_line_after levels before (b ∷ bs))
     (way_bad_byte levels (place_after before) (b ∷ bs) k c (omega arith) e is) h in
-    inl (here before (b ∷ bs) f (subst (FrontFault before (b ∷ bs)) same
-    (byte_fault before (b ∷ bs) k c (goes_on_there (b ∷ bs) (or_from (ends_line (b ∷ bs)) (eqb b 59) e no_comment)) is wrong)))
+    inl (here before (b ∷ bs) (fault_of f) (subst (λ g. FrontFault before (b ∷ bs) (fault_of g)) same
+    (byte_found before (b ∷ bs) k c (goes_on_there (b ∷ bs) (or_from (ends_line (b ∷ bs)) (eqb b 59) e no_comment)) is wrong)))
 by_front b bs bad_literal e no_comment is has wrong shorter levels before f h =
     let same = same_fault (fault.BadLiteral (place_after before)) f (in_line_after levels before (b ∷ bs))
     (way_bad_literal levels (place_after before) (b ∷ bs) (omega arith) e is) h in
-    inl (here before (b ∷ bs) f (subst (FrontFault before (b ∷ bs)) same (wrong, refl)))
+    inl (here before (b ∷ bs) (fault_of f) (subst (λ g. FrontFault before (b ∷ bs) (fault_of g)) same (inr (refl, wrong))))
 
 by_byte : (b : ℕ) (bs : List ℕ) (t u : Bool) → ends_line (b ∷ bs) ≡ t → eqb b 59 ≡ u → ShorterFailsInLine (b ∷ bs) → ShorterFailsAtLine (b ∷ bs)
     → FailsInLine (b ∷ bs)

@@ -12,7 +12,7 @@ use Rattle.fir_lex.specs.working.Bytes.{place_behind, ends_line, is_blank}
 use Rattle.fir_lex.specs.working.Front.{Front, found, passed, comment_length}
 use Rattle.fir_lex.specs.working.Levels.{Move, move_to}
 use Rattle.fir_lex.specs.working.Lexed.{Lexed, with_tokens, is_idle, idle_length, closed_at, lexed_from}
-use Rattle.fir_lex.specs.Spelled.{IsSpelled}
+use Rattle.fir_lex.specs.Spelled.{IsSpelledToken}
 use Rattle.fir_lex.specs.Longest.{BeginsWithNo, IsLongest}
 use Rattle.fir_lex.specs.Pieces.{Piece, blank, information, spelled, IsBlank, IsInformation, bytes_of_pieces, ArePieces}
 use Rattle.fir_lex.specs.Lines.{IsComment, EndsLine, BeginsLine}
@@ -44,7 +44,7 @@ arrives levels start before s behind =
 some_bytes : (s behind : List ℕ) → 1 ≤ length s → (0 < length (s ++ behind)) × (length s ≤ length (s ++ behind))
 some_bytes s behind some = (omega (arith, length-append s behind), omega (arith, length-append s behind))
 
-pub token_over : (t : Token) (s behind before levels : List ℕ) → IsSpelled t s → IsLongest t behind
+pub token_over : (t : Token) (s behind before levels : List ℕ) → IsSpelledToken t s → IsLongest t behind
     → in_line_after levels before (s ++ behind) ≡ with_tokens (place_after before) (t ∷ []) (in_line_after levels (before ++ s) behind)
 token_over t s behind before levels is longest =
     let some = token_some t s is in

@@ -12,7 +12,7 @@ use Rattle.fir_base.specs.Digits.{decimal_value}
 use Rattle.fir_lex.specs.Tokens.{Token, word, dash_word, integer, text, sign, annotations, line_end, level_opens, level_closes}
 use Rattle.fir_lex.specs.working.Bytes.{starts_with_byte}
 use Rattle.fir_lex.specs.working.Front.{Front, found, passed, bad_byte, bad_literal, dash_word_at, dash_or_word, integer_front}
-use Rattle.fir_lex.specs.Spelled.{IsDigit, BeginsWord, ContinuesWord, IsSpelled, dash_words, signs}
+use Rattle.fir_lex.specs.Spelled.{IsDigit, BeginsWord, ContinuesWord, IsSpelledToken, dash_words, signs}
 use Rattle.fir_lex.specs.Longest.{IsLongest}
 use Rattle.fir_lex.proofs.Way.{front_at}
 use Rattle.fir_lex.proofs.Runs.{Kind, word_kind, digit_kind}
@@ -126,7 +126,7 @@ sign_least w more (inr (inr (inr (inr (inr m))))) = single_least w more m
 abbrev Least : List ℕ → List ℕ → Type 0
 Least more s = AtLeast (length s) (front_at (s ++ more))
 
-token_least : (t : Token) (s more : List ℕ) → IsSpelled t s → Least more s
+token_least : (t : Token) (s more : List ℕ) → IsSpelledToken t s → Least more s
 token_least (word []) s more h = absurd h.0
 token_least (word (b ∷ bs)) s more h = subst (Least more) (sym h.1) (word_least b bs more h.0.0 h.0.1)
 token_least (dash_word w) s more h = subst (Least more) (sym h.1) (read_whole (w ++ more) (dash_word w) (length w) (dash_read w more h.0))
@@ -140,7 +140,7 @@ token_least line_end s more h = absurd h
 token_least level_opens s more h = absurd h
 token_least level_closes s more h = absurd h
 
-pub no_longer_begins : (t : Token) (s behind : List ℕ) (other : Token) (r more : List ℕ) → IsSpelled t s → IsLongest t behind → IsSpelled other r
+pub no_longer_begins : (t : Token) (s behind : List ℕ) (other : Token) (r more : List ℕ) → IsSpelledToken t s → IsLongest t behind → IsSpelledToken other r
     → s ++ behind ≡ r ++ more
     → length r ≤ length s
 no_longer_begins t s behind other r more is longest is_other same =

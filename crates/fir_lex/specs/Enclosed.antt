@@ -41,5 +41,5 @@ IsNested (string_then content rest) = AreCharacters content × IsNested rest
 IsNested (brackets_then inner rest) = IsNested inner × IsNested rest
 
 -- the block with its own brackets
-abbrev pub IsBlock : List ℕ → Type 0
-IsBlock s = (inner : Nested) × IsNested inner × (s ≡ codes "%[" ++ nested_bytes inner ++ codes "]")
+abbrev pub IsAnnotationBlock : List ℕ → Type 0
+IsAnnotationBlock s = (inner : Nested) × IsNested inner × (s ≡ codes "%[" ++ nested_bytes inner ++ codes "]")

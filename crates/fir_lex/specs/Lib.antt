@@ -7,4 +7,3 @@ pub mod Lines
 pub mod TokensOf
 pub mod TokenFaults
 pub mod working
-pub use Rattle.fir_ast.specs.FaultLines

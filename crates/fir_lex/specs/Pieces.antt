@@ -3,7 +3,7 @@
 -- else are tokens, the longest that begin there. A comment, `;` and what follows it on its line, ends the line and is no piece.
 use Rattle.std.specs.Prelude.{◌≡◌, ◌⊎◌, ℕ, List, [], ◌∷◌, ◌++◌, flat_map, codes}
 use Rattle.fir_lex.specs.Tokens.{Token}
-use Rattle.fir_lex.specs.Spelled.{IsOnOneLine, IsSpelled}
+use Rattle.fir_lex.specs.Spelled.{IsOnOneLine, IsSpelledToken}
 use Rattle.fir_lex.specs.Longest.{IsLongest}
 
 -- a blank; file information by what stands within it; a token with the bytes that spell it
@@ -33,7 +33,7 @@ IsInformation content =
 abbrev pub IsPiece : Piece → List ℕ → Type 0
 IsPiece (blank b) behind = IsBlank b
 IsPiece (information content) behind = IsInformation content
-IsPiece (spelled t s) behind = IsSpelled t s × IsLongest t behind
+IsPiece (spelled t s) behind = IsSpelledToken t s × IsLongest t behind
 
 abbrev pub bytes_of_pieces : List Piece → List ℕ
 bytes_of_pieces = flat_map piece_bytes

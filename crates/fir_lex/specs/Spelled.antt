@@ -5,7 +5,7 @@ use Rattle.std.specs.Prelude.{◌≡◌, ◌≢◌, ◌⊎◌, ℕ, ◌<◌, ◌
 use Rattle.fir_base.specs.Lists.{In}
 use Rattle.fir_base.specs.Digits.{decimal_value}
 use Rattle.fir_lex.specs.Tokens.{Token, word, dash_word, integer, text, sign, annotations, line_end, level_opens, level_closes}
-use Rattle.fir_lex.specs.Enclosed.{AreCharacters, IsBlock}
+use Rattle.fir_lex.specs.Enclosed.{AreCharacters, IsAnnotationBlock}
 
 -- 0 to 9
 abbrev pub IsDigit : ℕ → Type 0
@@ -27,8 +27,8 @@ abbrev pub dash_words : List (List ℕ)
 dash_words = codes "data-type" ∷ codes "read-latency" ∷ codes "write-latency" ∷ codes "read-under-write" ∷ []
 
 -- its digits spell less than 2^128
-abbrev pub IsInteger : List ℕ → Type 0
-IsInteger s =
+abbrev pub IsIntegerText : List ℕ → Type 0
+IsIntegerText s =
     (plus_or_minus : List ℕ) × (digits : List ℕ) × (s ≡ plus_or_minus ++ digits)
     × ((plus_or_minus ≡ []) ⊎ (plus_or_minus ≡ codes "+") ⊎ (plus_or_minus ≡ codes "-"))
     × (digits ≢ []) × All IsDigit digits × (decimal_value digits < 2 ^ 128)
@@ -46,13 +46,13 @@ signs =
     ∷ codes "," ∷ codes ":" ∷ codes "." ∷ []
 
 -- line ends and levels have no bytes of their own
-abbrev pub IsSpelled : Token → List ℕ → Type 0
-IsSpelled (word w) s = IsWord w × (s ≡ w)
-IsSpelled (dash_word w) s = In dash_words w × (s ≡ w)
-IsSpelled (integer i) s = IsInteger i × (s ≡ i)
-IsSpelled (text content) s = IsString content × (s ≡ codes "\"" ++ content ++ codes "\"")
-IsSpelled (sign w) s = In signs w × (s ≡ w)
-IsSpelled annotations s = IsBlock s
-IsSpelled line_end s = ⊥
-IsSpelled level_opens s = ⊥
-IsSpelled level_closes s = ⊥
+abbrev pub IsSpelledToken : Token → List ℕ → Type 0
+IsSpelledToken (word w) s = IsWord w × (s ≡ w)
+IsSpelledToken (dash_word w) s = In dash_words w × (s ≡ w)
+IsSpelledToken (integer i) s = IsIntegerText i × (s ≡ i)
+IsSpelledToken (text content) s = IsString content × (s ≡ codes "\"" ++ content ++ codes "\"")
+IsSpelledToken (sign w) s = In signs w × (s ≡ w)
+IsSpelledToken annotations s = IsAnnotationBlock s
+IsSpelledToken line_end s = ⊥
+IsSpelledToken level_opens s = ⊥
+IsSpelledToken level_closes s = ⊥

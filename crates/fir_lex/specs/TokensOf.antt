@@ -17,12 +17,12 @@ abbrev pub stands_after : List ℕ → Token → Placed
 stands_after before t = record { token = t; place = place_after before }
 
 -- at a line of so many spaces; the innermost open level stands first
-abbrev pub Opens : ℕ → List ℕ → List Token → List ℕ → Type 0
-Opens spaces levels tokens after =
+abbrev pub OpensLevel : ℕ → List ℕ → List Token → List ℕ → Type 0
+OpensLevel spaces levels tokens after =
     (innermost : ℕ) × (outer : List ℕ) × (levels ≡ innermost ∷ outer) × (innermost < spaces) × (tokens ≡ level_opens ∷ []) × (after ≡ spaces ∷ levels)
 
-abbrev pub Closes : ℕ → List ℕ → List Token → List ℕ → Type 0
-Closes spaces levels tokens after =
+abbrev pub ClosesLevels : ℕ → List ℕ → List Token → List ℕ → Type 0
+ClosesLevels spaces levels tokens after =
     (closed : List ℕ) × (outer : List ℕ) × (levels ≡ closed ++ spaces ∷ outer) × All (λ level. spaces < level) closed
     × (tokens ≡ map (λ level. level_closes) closed) × (after ≡ spaces ∷ outer)
 
@@ -39,7 +39,7 @@ HaveTokens before levels [] ts = (closed : List ℕ) × (levels ≡ closed ++ 0 
 HaveTokens before levels (idle blanks comment end ∷ ls) ts = HaveTokens (before ++ line_bytes (idle blanks comment end)) levels ls ts
 HaveTokens before levels (full spaces pieces comment end ∷ ls) ts =
     let first = before ++ replicate spaces 32 in
-    (moves : List Token) × (after : List ℕ) × (rest : List Placed) × (Opens spaces levels moves after ⊎ Closes spaces levels moves after)
+    (moves : List Token) × (after : List ℕ) × (rest : List Placed) × (OpensLevel spaces levels moves after ⊎ ClosesLevels spaces levels moves after)
     × (ts ≡ map (stands_after first) moves ++ tokens_of_pieces first pieces ++ stands_after (first ++ bytes_of_pieces pieces ++ comment) line_end ∷ rest)
     × HaveTokens (before ++ line_bytes (full spaces pieces comment end)) after ls rest
 

@@ -4,7 +4,7 @@ use Rattle.std.specs.Str.{bytes_eq}
 use Rattle.fir_ast.specs.declared.place.Place.{Place}
 use Rattle.fir_ast.specs.Types.{DataType, uint, clock, reset, async_reset}
 use Rattle.fir_ast.specs.Expressions.{Expression}
-use Rattle.fir_ast.specs.Statements.{PlacedName, Sink, Reset, Statement, wire, register, node, instance, memory, when, connect, partial_connect, invalid, skip, Block, done, then}
+use Rattle.fir_ast.specs.Statements.{PlacedName, SinkReference, Reset, Statement, wire, register, node, instance, memory, when, connect, partial_connect, invalid, skip, Block, done, then}
 use Rattle.fir_ast.specs.Circuits.{PortTree, ModuleTree}
 use Rattle.fir_meaning.specs.Components.{Component, Declarations, find_name}
 use Rattle.fir_meaning.specs.Components as component
@@ -101,14 +101,14 @@ module _ (scope : TypedScope) (visible : Declarations) (knows : Knows scope visi
       (c.type, i.type, c.has, reset_type (place_of r.condition) c.type told_c.0 told_c.1, i.has, fits)
 
   -- both sides of a connect
-  record SidesAre (s : Sink) (e : Expression) : Type 0 where
+  record SidesAre (s : SinkReference) (e : Expression) : Type 0 where
     left : Reached
     type : DataType
     reaches : Reaches scope s left
     has : HasType scope e type
     found : sides scope s e ≡ is_found (left, type)
 
-  clear_sides : (s : Sink) (e : Expression) → faults_in (sink_mentions visible s ++ expression_mentions visible e) ≡ [] → (sides scope s e).shows ≡ [] → SidesAre s e
+  clear_sides : (s : SinkReference) (e : Expression) → faults_in (sink_mentions visible s ++ expression_mentions visible e) ≡ [] → (sides scope s e).shows ≡ [] → SidesAre s e
   clear_sides s e m h =
       let mentioned_s = sink_mentions visible s in
       let mentioned_e = expression_mentions visible e in
@@ -124,7 +124,7 @@ module _ (scope : TypedScope) (visible : Declarations) (knows : Knows scope visi
         found = together_found (λ x y. (x, y)) r c one.0 two.type (found_sink scope s one.0 one.1) (found_type scope e two.type two.has);
       }
 
-  clear_pairs : (fits : DataType → DataType → Bool) (pairs_of : DataType → DataType → List Pair) (p : Place) (s : Sink) (e : Expression)
+  clear_pairs : (fits : DataType → DataType → Bool) (pairs_of : DataType → DataType → List Pair) (p : Place) (s : SinkReference) (e : Expression)
       → faults_in (sink_mentions visible s ++ expression_mentions visible e) ≡ []
       → shown_after (sides scope s e) (faults_of_sides fits pairs_of p (reached_by scope e)) ≡ [] → ConnectIsLegal fits pairs_of scope s e
   clear_pairs fits pairs_of p s e m f =

@@ -8,8 +8,8 @@ use Rattle.fir_bits.specs.Forms.{form_of, takes}
 use Rattle.fir_ast.specs.declared.place.Place.{Place}
 use Rattle.fir_ast.specs.Types.{DataType, uint}
 use Rattle.fir_ast.specs.Expressions.{Expression, reference, literal, operation, mux, validif, Parts, no_parts, subfield, subindex, subaccess, Expressions, no_expressions, expression}
-use Rattle.fir_ast.specs.Statements.{Sink}
-use Rattle.fir_pass.specs.Faults.{Fault}
+use Rattle.fir_ast.specs.Statements.{SinkReference}
+use Rattle.fir_ast.specs.Faults.{Fault}
 use Rattle.fir_meaning.specs.Components.{Declaration, Declarations, find}
 use Rattle.fir_meaning.specs.Mentions.{expression_mentions, part_mentions, operand_mentions, sink_mentions}
 use Rattle.fir_meaning.specs.NameGroups.{faults_in, hidden_faults}
@@ -21,7 +21,7 @@ use Rattle.fir_meaning.specs.Checked.{Checked, is_found, answered, answer_on, af
 use Rattle.fir_meaning.specs.OperationTypes.{is_conversion, operand_kinds, result_of, operation_on, type_of_operation}
 use Rattle.fir_meaning.specs.TypedScopes.{TypedScope, known}
 use Rattle.fir_meaning.specs.Reaching.{Reached, reached_field, to_field, element_at, to_index, any_element, to_any, at_field, at_element, at_any, field_of_type, vector_of_type, known_reached}
-use Rattle.fir_meaning.specs.ExpressionTypes.{number_type, unsigned_at, passive_at, type_of_mux, type_of_validif, condition_form, passive_form, field_form, index_form, access_form, expression_type, expression_types, along_parts, reaching}
+use Rattle.fir_meaning.specs.ExpressionTypes.{number_data_type, unsigned_at, passive_at, type_of_mux, type_of_validif, condition_form, passive_form, field_form, index_form, access_form, expression_type, expression_types, along_parts, reaching}
 use Rattle.fir_meaning.specs.working.WellTyped.{HasType, HaveTypes, Leads, Reaches}
 use Rattle.fir_base.proofs.Empty.{empty_left, empty_right}
 use Rattle.fir_base.proofs.Tests.{both}
@@ -169,7 +169,7 @@ module _ (scope : TypedScope) (visible : Declarations) (knows : Knows scope visi
         let on = clear_parts p begins.0 ps (empty_right hidden (faults_in (part_mentions visible ps)) m)
         (subst (λ (c : Checked Reached). (along_parts scope p c ps).shows ≡ []) (found_root scope n begins.0 begins.1) h) in
         record { type = on.reached.data_type; has = (begins.0, on.reached, begins.1, on.leads, refl) }
-    clear_type (literal l) m h = record { type = number_type l.signed l.width; has = refl }
+    clear_type (literal l) m h = record { type = number_data_type l.signed l.width; has = refl }
     clear_type (operation p op es ks) m h =
         let c = expression_types scope es in
         let inside = clear_types es m (empty_left c.shows (answer_on c.has (type_of_operation p op ks)).shows h) in
@@ -280,7 +280,7 @@ module _ (scope : TypedScope) (visible : Declarations) (knows : Knows scope visi
         record { reached = on.reached; leads = (one.width, v.0.0, v.0.1, one.has, v.1, on.leads) }
 
   -- what a sink reaches
-  pub clear_sink : (s : Sink) → faults_in (sink_mentions visible s) ≡ [] → (reaching scope s).shows ≡ [] → (r : Reached) × Reaches scope s r
+  pub clear_sink : (s : SinkReference) → faults_in (sink_mentions visible s) ≡ [] → (reaching scope s).shows ≡ [] → (r : Reached) × Reaches scope s r
   clear_sink s m h =
       let hidden = hidden_faults (find visible s.name) s.place s.name in
       let begins = known_root s.place s.name (empty_left hidden (faults_in (part_mentions visible s.parts)) m) in

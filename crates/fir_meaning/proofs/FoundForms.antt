@@ -6,7 +6,7 @@ use Rattle.fir_bits.specs.Forms.{form_of, takes}
 use Rattle.fir_ast.specs.declared.place.Place.{Place}
 use Rattle.fir_ast.specs.Types.{DataType}
 use Rattle.fir_ast.specs.Expressions.{Expression}
-use Rattle.fir_pass.specs.Faults.{Fault}
+use Rattle.fir_ast.specs.Faults.{Fault}
 use Rattle.fir_meaning.specs.TypeKinds.{bare, is_passive, is_numeric}
 use Rattle.fir_meaning.specs.Equivalence.{is_equivalent}
 use Rattle.fir_meaning.specs.ExpressionPlaces.{place_of}

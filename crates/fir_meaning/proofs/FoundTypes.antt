@@ -7,8 +7,8 @@ use Rattle.fir_bits.specs.Forms.{form_of, takes}
 use Rattle.fir_ast.specs.declared.place.Place.{Place}
 use Rattle.fir_ast.specs.Types.{DataType, uint}
 use Rattle.fir_ast.specs.Expressions.{Expression, reference, literal, operation, mux, validif, Parts, no_parts, subfield, subindex, subaccess, Expressions, no_expressions, expression}
-use Rattle.fir_ast.specs.Statements.{Sink}
-use Rattle.fir_pass.specs.Faults.{Fault}
+use Rattle.fir_ast.specs.Statements.{SinkReference}
+use Rattle.fir_ast.specs.Faults.{Fault}
 use Rattle.fir_meaning.specs.TypeKinds.{FieldFound, is_passive, is_numeric, bare}
 use Rattle.fir_meaning.specs.Equivalence.{is_equivalent}
 use Rattle.fir_meaning.specs.ExpressionPlaces.{place_of}
@@ -104,5 +104,5 @@ module _ (scope : TypedScope) where
         ap (λ c. along_parts scope p c rest) (after_found (together (λ u v. u) (is_found r) index) r (at_any r (h.1, h.2)) (to_any p) both (any_says p r (h.1, h.2) h.4))
         ∙ found_parts p (at_any r (h.1, h.2)) s rest h.5
 
-  pub found_sink : (s : Sink) (r : Reached) → Reaches scope s r → reaching scope s ≡ is_found r
+  pub found_sink : (s : SinkReference) (r : Reached) → Reaches scope s r → reaching scope s ≡ is_found r
   found_sink s r h = ap (λ c. along_parts scope s.place c s.parts) (found_root s.name h.0 h.1) ∙ found_parts s.place h.0 r s.parts h.2

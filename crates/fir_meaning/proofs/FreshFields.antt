@@ -4,7 +4,7 @@ use Rattle.fir_base.specs.Lists.{In}
 use Rattle.fir_ast.specs.Types.{DataType, bundle, vector, Fields, no_fields, field}
 use Rattle.fir_ast.specs.Statements.{PlacedName}
 use Rattle.fir_meaning.specs.Components.{find_name}
-use Rattle.fir_meaning.specs.Mentions.{declares, placed, type_mentions, field_mentions}
+use Rattle.fir_meaning.specs.Mentions.{declares, placed_name, type_mentions, field_mentions}
 use Rattle.fir_meaning.specs.NameGroups.{faults_in, mention_faults}
 use Rattle.fir_base.proofs.Empty.{empty_left, empty_right}
 use Rattle.fir_base.proofs.Members.{in_left, in_right, in_map}
@@ -39,7 +39,7 @@ mutual
   fresh_behind : (before : List PlacedName) (fs : Fields) → faults_in (field_mentions before fs) ≡ [] → FreshBehind before fs
   fresh_behind before no_fields h = record { new = λ n m i. i; fresh = tt }
   fresh_behind before (field p flip x begins t rest) h =
-      let this = placed p x in
+      let this = placed_name p x in
       let later = field_mentions (before ++ this ∷ []) rest in
       let here = not_second (find_name before x) this (empty_left (mention_faults (declares before this)) (faults_in (type_mentions t ++ later)) h) in
       let behind = empty_right (mention_faults (declares before this)) (faults_in (type_mentions t ++ later)) h in

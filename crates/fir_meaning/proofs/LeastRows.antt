@@ -3,7 +3,7 @@ use Rattle.std.proofs.Common.{◌≡◌, ℕ, ◌+◌, ◌≤◌, [], ◌∷◌,
 use Rattle.std.proofs.lemmas.Bool.Decides.{nat_tests}
 use Rattle.std.proofs.lemmas.Bool.{cases_eq}
 use Rattle.fir_base.specs.Lists.{In}
-use Rattle.fir_meaning.specs.WidthExpressions.{Widths, known, Rule, MeetsRules, IsLeastOf, width_of}
+use Rattle.fir_meaning.specs.WidthExpressions.{Widths, known, Rule, MeetsRules, IsLeastOf, width_under}
 use Rattle.fir_meaning.specs.WidthRules.{rules, AreWidths}
 use Rattle.fir_meaning.proofs.WidthRows.{growing, shared, empty}
 
@@ -24,8 +24,8 @@ one_rule n width = record { meets = record { each = met }; least = least }
     below : (k m x y : ℕ) → (k ≡ m → x ≤ y) → (if nat_eq k m then x else 0) ≤ y
     below k m x y h = grind (arith, nat_tests)
 
-    met : (r : Rule) → In (record { number = n; at_least = known width } ∷ []) r → width_of r.at_least (only n width) ≤ only n width r.number
-    met r (inl e) = subst (λ (x : Rule). width_of x.at_least (only n width) ≤ only n width x.number) e (at_it n (min width 129))
+    met : (r : Rule) → In (record { number = n; at_least = known width } ∷ []) r → width_under r.at_least (only n width) ≤ only n width r.number
+    met r (inl e) = subst (λ (x : Rule). width_under x.at_least (only n width) ≤ only n width x.number) e (at_it n (min width 129))
     met r (inr f) = absurd f
 
     least : (v : Widths) → MeetsRules (record { number = n; at_least = known width } ∷ []) v → (k : ℕ) → only n width k ≤ v k
@@ -54,12 +54,12 @@ five_below v a b c d k = by (cases_eq k 0) (cases_eq k 1) (cases_eq k 4) (cases_
 pub shared_widths : AreWidths shared five
 shared_widths = record { meets = record { each = met }; least = λ v m. least v m }
   where
-    met : (r : Rule) → In (rules shared) r → width_of r.at_least five ≤ five r.number
-    met r (inl e) = subst (λ (x : Rule). width_of x.at_least five ≤ five x.number) e (omega arith)
-    met r (inr (inl e)) = subst (λ (x : Rule). width_of x.at_least five ≤ five x.number) e (omega arith)
-    met r (inr (inr (inl e))) = subst (λ (x : Rule). width_of x.at_least five ≤ five x.number) e (omega arith)
-    met r (inr (inr (inr (inl e)))) = subst (λ (x : Rule). width_of x.at_least five ≤ five x.number) e (omega arith)
-    met r (inr (inr (inr (inr (inl e))))) = subst (λ (x : Rule). width_of x.at_least five ≤ five x.number) e (omega arith)
+    met : (r : Rule) → In (rules shared) r → width_under r.at_least five ≤ five r.number
+    met r (inl e) = subst (λ (x : Rule). width_under x.at_least five ≤ five x.number) e (omega arith)
+    met r (inr (inl e)) = subst (λ (x : Rule). width_under x.at_least five ≤ five x.number) e (omega arith)
+    met r (inr (inr (inl e))) = subst (λ (x : Rule). width_under x.at_least five ≤ five x.number) e (omega arith)
+    met r (inr (inr (inr (inl e)))) = subst (λ (x : Rule). width_under x.at_least five ≤ five x.number) e (omega arith)
+    met r (inr (inr (inr (inr (inl e))))) = subst (λ (x : Rule). width_under x.at_least five ≤ five x.number) e (omega arith)
     met r (inr (inr (inr (inr (inr f))))) = absurd f
 
     least : (v : Widths) → MeetsRules (rules shared) v → (k : ℕ) → five k ≤ v k
@@ -80,8 +80,8 @@ over_at_least x h = grind (arith, nat_tests)
 pub growing_widths : AreWidths growing grown
 growing_widths = record { meets = record { each = met }; least = least }
   where
-    met : (r : Rule) → In (rules growing) r → width_of r.at_least grown ≤ grown r.number
-    met r (inl e) = subst (λ (x : Rule). width_of x.at_least grown ≤ grown x.number) e (omega arith)
+    met : (r : Rule) → In (rules growing) r → width_under r.at_least grown ≤ grown r.number
+    met r (inl e) = subst (λ (x : Rule). width_under x.at_least grown ≤ grown x.number) e (omega arith)
     met r (inr f) = absurd f
 
     least : (v : Widths) → MeetsRules (rules growing) v → (k : ℕ) → grown k ≤ v k

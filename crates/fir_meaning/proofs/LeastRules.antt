@@ -6,7 +6,7 @@ use Rattle.fir_base.specs.Lists.{In}
 use Rattle.fir_bits.specs.declared.operators.PrimOp.{PrimOp}
 use Rattle.fir_bits.specs.Widths.{width_of as operation_width_of, counted_width}
 use Rattle.fir_bits.specs.working.Laws.{Monotone}
-use Rattle.fir_meaning.specs.WidthExpressions.{Widths, Width, known, unknown, single, pair, greater, guarded, width_of, Rule, MeetsRules, IsLeastOf}
+use Rattle.fir_meaning.specs.WidthExpressions.{Widths, Width, known, unknown, single, pair, greater, guarded, width_under, Rule, MeetsRules, IsLeastOf}
 use Rattle.fir_meaning.specs.working.WidthLaws.{WidthsGrow, HasLeast, OneLeast, LeastIsWithin}
 
 narrow_le : (a b : Bool) (x : ℕ) → (if a && b && nat_le x 128 then x else 129) ≤ 129
@@ -21,24 +21,24 @@ guarded_grows c d a b p q r = grind (arith, nat_tests)
 guarded_le : (c a : ℕ) → a ≤ 129 → (if nat_lt c 129 then a else 129) ≤ 129
 guarded_le c a h = grind (arith, nat_tests)
 
-pub width_le : (e : Width) (w : Widths) → width_of e w ≤ 129
+pub width_le : (e : Width) (w : Widths) → width_under e w ≤ 129
 width_le (known n) w = omega arith
 width_le (unknown k) w = omega arith
-width_le (single op signed a n m) w = counted_le op signed (width_of a w) 0 n m
-width_le (pair op signed a b) w = counted_le op signed (width_of a w) (width_of b w) 0 0
+width_le (single op signed a n m) w = counted_le op signed (width_under a w) 0 n m
+width_le (pair op signed a b) w = counted_le op signed (width_under a w) (width_under b w) 0 0
 width_le (greater a b) w = omega (arith, width_le a w, width_le b w)
-width_le (guarded c a) w = guarded_le (width_of c w) (width_of a w) (width_le a w)
+width_le (guarded c a) w = guarded_le (width_under c w) (width_under a w) (width_le a w)
 
 pub width_grows : Monotone → WidthsGrow
 width_grows law (known n) w v h = omega arith
 width_grows law (unknown k) w v h = omega (arith, h k)
 width_grows law (single op signed a n m) w v h =
-    law op signed (width_of a w) 0 n m (width_of a v) 0 (width_grows law a w v h) (omega arith)
+    law op signed (width_under a w) 0 n m (width_under a v) 0 (width_grows law a w v h) (omega arith)
 width_grows law (pair op signed a b) w v h =
-    law op signed (width_of a w) (width_of b w) 0 0 (width_of a v) (width_of b v) (width_grows law a w v h) (width_grows law b w v h)
+    law op signed (width_under a w) (width_under b w) 0 0 (width_under a v) (width_under b v) (width_grows law a w v h) (width_grows law b w v h)
 width_grows law (greater a b) w v h = omega (arith, width_grows law a w v h, width_grows law b w v h)
 width_grows law (guarded c a) w v h =
-    guarded_grows (width_of c w) (width_of c v) (width_of a w) (width_of a v) (width_grows law c w v h) (width_grows law a w v h) (width_le a v)
+    guarded_grows (width_under c w) (width_under c v) (width_under a w) (width_under a v) (width_grows law c w v h) (width_grows law a w v h) (width_le a v)
 
 pub one_least : OneLeast
 one_least rules w v p q k = omega (arith, p.least v q.meets k, q.least w p.meets k)
@@ -48,23 +48,23 @@ least_within law rules es w p = (λ s e at. le_trans (width_grows law e w s.0 (p
 
 -- one rule is raised to what it asks for
 abbrev raise : Widths → Rule → Widths
-raise w r = λ k. if nat_eq k r.number then max (w k) (width_of r.at_least w) else w k
+raise w r = λ k. if nat_eq k r.number then max (w k) (width_under r.at_least w) else w k
 
 raise_more : (w : Widths) (r : Rule) (k : ℕ) → w k ≤ raise w r k
-raise_more w r k = grows (nat_eq k r.number) (w k) (width_of r.at_least w)
+raise_more w r k = grows (nat_eq k r.number) (w k) (width_under r.at_least w)
   where
     grows : (b : Bool) (x y : ℕ) → x ≤ (if b then max x y else x)
     grows true x y = omega arith
     grows false x y = omega arith
 
-raise_at : (w : Widths) (r : Rule) → width_of r.at_least w ≤ raise w r r.number
-raise_at w r = here r.number (w r.number) (width_of r.at_least w)
+raise_at : (w : Widths) (r : Rule) → width_under r.at_least w ≤ raise w r r.number
+raise_at w r = here r.number (w r.number) (width_under r.at_least w)
   where
     here : (k x y : ℕ) → y ≤ (if nat_eq k k then max x y else x)
     here k x y = grind (arith, nat_tests)
 
-raise_below : (w : Widths) (r : Rule) (k n : ℕ) → w k ≤ n → (k ≡ r.number → width_of r.at_least w ≤ n) → raise w r k ≤ n
-raise_below w r k n h g = under k r.number (w k) (width_of r.at_least w) h g
+raise_below : (w : Widths) (r : Rule) (k n : ℕ) → w k ≤ n → (k ≡ r.number → width_under r.at_least w ≤ n) → raise w r k ≤ n
+raise_below w r k n h g = under k r.number (w k) (width_under r.at_least w) h g
   where
     under : (k j x y : ℕ) → x ≤ n → (k ≡ j → y ≤ n) → (if nat_eq k j then max x y else x) ≤ n
     under k j x y p q = grind (arith, nat_tests)
@@ -93,19 +93,19 @@ room_falls (s ∷ rs) w v r (inr at) h less le = omega (arith, h s.number, room_
 record Broken (rules : List Rule) (w : Widths) : Type 0 where
   rule : Rule
   is : In rules rule
-  less : w rule.number < width_of rule.at_least w
+  less : w rule.number < width_under rule.at_least w
 
 met_or_not : (rs : List Rule) (w : Widths) → MeetsRules rs w ⊎ Broken rs w
 met_or_not [] w = inl (record { each = λ r at. absurd at })
-met_or_not (r ∷ rs) w = by (cases_lt (w r.number) (width_of r.at_least w)) (met_or_not rs w)
+met_or_not (r ∷ rs) w = by (cases_lt (w r.number) (width_under r.at_least w)) (met_or_not rs w)
   where
-    by : (w r.number < width_of r.at_least w) ⊎ (width_of r.at_least w ≤ w r.number) → MeetsRules rs w ⊎ Broken rs w → MeetsRules (r ∷ rs) w ⊎ Broken (r ∷ rs) w
+    by : (w r.number < width_under r.at_least w) ⊎ (width_under r.at_least w ≤ w r.number) → MeetsRules rs w ⊎ Broken rs w → MeetsRules (r ∷ rs) w ⊎ Broken (r ∷ rs) w
     by (inl l) m = inr (record { rule = r; is = inl refl; less = l })
     by (inr g) (inr b) = inr (record { rule = b.rule; is = inr b.is; less = b.less })
     by (inr g) (inl m) = inl (record { each = each })
       where
-        each : (s : Rule) → In (r ∷ rs) s → width_of s.at_least w ≤ w s.number
-        each s (inl e) = subst (λ (x : Rule). width_of x.at_least w ≤ w x.number) e g
+        each : (s : Rule) → In (r ∷ rs) s → width_under s.at_least w ≤ w s.number
+        each s (inl e) = subst (λ (x : Rule). width_under x.at_least w ≤ w x.number) e g
         each s (inr at) = m.each s at
 
 abbrev Under : List Rule → Widths → Type 0

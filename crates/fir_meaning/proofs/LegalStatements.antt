@@ -3,7 +3,7 @@ use Rattle.std.proofs.Common.{◌≡◌, List, [], Bool, Option, Some, None, Ok,
 use Rattle.fir_ast.specs.declared.place.Place.{Place}
 use Rattle.fir_ast.specs.Types.{DataType, uint, clock, reset, async_reset}
 use Rattle.fir_ast.specs.Expressions.{Expression}
-use Rattle.fir_ast.specs.Statements.{Sink, Reset, Statement, wire, register, node, instance, memory, when, connect, partial_connect, invalid, skip, Block, done, then}
+use Rattle.fir_ast.specs.Statements.{SinkReference, Reset, Statement, wire, register, node, instance, memory, when, connect, partial_connect, invalid, skip, Block, done, then}
 use Rattle.fir_ast.specs.Circuits.{ModuleTree}
 use Rattle.fir_meaning.specs.Components as component
 use Rattle.fir_meaning.specs.Visibility.{Before, with_declaration, opened, reopened, behind, behind_block}
@@ -40,10 +40,10 @@ module _ (scope : TypedScope) where
       let two = ap (λ c. c.shows) init in
       rw (one, two) refl
 
-  legal_sides : (s : Sink) (e : Expression) (r : Reached) (t : DataType) → Reaches scope s r → HasType scope e t → sides scope s e ≡ is_found (r, t)
+  legal_sides : (s : SinkReference) (e : Expression) (r : Reached) (t : DataType) → Reaches scope s r → HasType scope e t → sides scope s e ≡ is_found (r, t)
   legal_sides s e r t h i = together_found (λ x y. (x, y)) (reaching scope s) (expression_type scope e) r t (found_sink scope s r h) (found_type scope e t i)
 
-  legal_pairs : (fits : DataType → DataType → Bool) (pairs_of : DataType → DataType → List Pair) (p : Place) (s : Sink) (e : Expression)
+  legal_pairs : (fits : DataType → DataType → Bool) (pairs_of : DataType → DataType → List Pair) (p : Place) (s : SinkReference) (e : Expression)
       → ConnectIsLegal fits pairs_of scope s e → shown_after (sides scope s e) (faults_of_sides fits pairs_of p (reached_by scope e)) ≡ []
   legal_pairs fits pairs_of p s e h =
       let right = reached_by scope e in

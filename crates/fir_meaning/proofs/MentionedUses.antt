@@ -5,12 +5,12 @@ use Rattle.fir_base.specs.Lists.{In}
 use Rattle.fir_ast.specs.declared.place.Place.{Place}
 use Rattle.fir_ast.specs.Types.{DataType, uint, sint, clock, reset, async_reset, bundle, vector, Fields, no_fields, field}
 use Rattle.fir_ast.specs.Expressions.{Expression, reference, literal, operation, mux, validif, Parts, no_parts, subfield, subindex, subaccess, Expressions, no_expressions, expression}
-use Rattle.fir_ast.specs.Statements.{PlacedName, Sink, Reset, MemoryPart, data_type, depth, read_latency, write_latency, reader, writer, readwriter, read_under_write, Statement, wire, register, node, instance, memory, when, connect, partial_connect, invalid, skip, Block, done, then}
+use Rattle.fir_ast.specs.Statements.{PlacedName, SinkReference, Reset, MemoryPart, data_type, depth, read_latency, write_latency, reader, writer, readwriter, read_under_write, Statement, wire, register, node, instance, memory, when, connect, partial_connect, invalid, skip, Block, done, then}
 use Rattle.fir_ast.specs.Circuits.{PortTree}
 use Rattle.fir_meaning.specs.Components.{Declarations}
 use Rattle.fir_meaning.specs.Components as component
 use Rattle.fir_meaning.specs.Visibility.{Before, with_declaration, opened, reopened, behind, behind_block}
-use Rattle.fir_meaning.specs.Mentions.{Mention, declares, uses, instantiates, placed, type_mentions, field_mentions, expression_mentions, part_mentions, operand_mentions, sink_mentions, reset_mentions, port_mentions, ports_of, data_mentions, memory_mentions, mentions, block_mentions, ports_mentions}
+use Rattle.fir_meaning.specs.Mentions.{Mention, declares, uses, instantiates, placed_name, type_mentions, field_mentions, expression_mentions, part_mentions, operand_mentions, sink_mentions, reset_mentions, port_mentions, ports_of, data_mentions, memory_mentions, mentions, block_mentions, ports_mentions}
 use Rattle.fir_meaning.proofs.GrownDeclarations.{Included, included_through, grows, grows_block, Declared, declared_more, declared_opened, declared_reopened, declared_behind}
 
 -- what is visible where the mention uses a name is among these
@@ -49,7 +49,7 @@ mutual
   in_fields : (ds : Declarations) (before : List PlacedName) (fs : Fields) → AllAmong ds (field_mentions before fs)
   in_fields ds before no_fields = tt
   in_fields ds before (field p flip n begins t rest) =
-      (tt, both_among ds (type_mentions t) (field_mentions (before ++ placed p n ∷ []) rest) (in_type ds t) (in_fields ds (before ++ placed p n ∷ []) rest))
+      (tt, both_among ds (type_mentions t) (field_mentions (before ++ placed_name p n ∷ []) rest) (in_type ds t) (in_fields ds (before ++ placed_name p n ∷ []) rest))
 
 module _ (ds visible : Declarations) (h : Included visible ds) where
   mutual
@@ -72,7 +72,7 @@ module _ (ds visible : Declarations) (h : Included visible ds) where
     in_operands no_expressions = tt
     in_operands (expression e es) = both_among ds (expression_mentions visible e) (operand_mentions visible es) (in_expression e) (in_operands es)
 
-  in_sink : (sink : Sink) → AllAmong ds (sink_mentions visible sink)
+  in_sink : (sink : SinkReference) → AllAmong ds (sink_mentions visible sink)
   in_sink sink = (h, in_parts sink.parts)
 
   in_reset : (r : Option Reset) → AllAmong ds (reset_mentions visible r)

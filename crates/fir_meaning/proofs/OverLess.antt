@@ -13,7 +13,7 @@ use Rattle.fir_meaning.specs.LeafPaths.{LeafPath, named}
 use Rattle.fir_meaning.specs.Components.{Component}
 use Rattle.fir_meaning.specs.Components as component
 use Rattle.fir_meaning.specs.Visibility.{Before, with_declaration, opened, reopened, behind, behind_block, behind_ports, at_head}
-use Rattle.fir_meaning.specs.WidthExpressions.{Widths, width_of}
+use Rattle.fir_meaning.specs.WidthExpressions.{Widths, width_under}
 use Rattle.fir_meaning.specs.SizedTypes.{Sized}
 use Rattle.fir_meaning.specs.SizedLeaves.{SizedLeaf, sized_leaves}
 use Rattle.fir_meaning.specs.SizedScopes.{SizedScope, sized_type, sink_expression}
@@ -127,7 +127,7 @@ over_less x y h e = grind (arith, nat_tests)
 
 module _ (law : Monotone) (v w : Widths) (h : (k : ℕ) → w k ≤ v k) where
   leaf_less : (l : SizedLeaf) → is_leaf_over w l ≡ true → is_leaf_over v l ≡ true
-  leaf_less l e = over_less (width_of l.width w) (width_of l.width v) (width_grows law l.width w v h) e
+  leaf_less l e = over_less (width_under l.width w) (width_under l.width v) (width_grows law l.width w v h) e
 
   leaves_less : (p : Place) (path : LeafPath) (t : Sized) → leaves_over v p path t ≡ [] → leaves_over w p path t ≡ []
   leaves_less p path t e =

@@ -8,7 +8,7 @@ use Rattle.fir_ast.specs.Expressions.{Expression, no_parts, subaccess, mux, vali
 use Rattle.fir_ast.specs.Statements.{Statement, MemoryPart, instance, memory, when, invalid, data_type, depth, reader}
 use Rattle.fir_ast.specs.Circuits.{PortTree, CircuitTree}
 use Rattle.fir_meaning.specs.LeafPaths.{named, element}
-use Rattle.fir_meaning.specs.WidthExpressions.{known, pair, guarded as guarded_width, width_of}
+use Rattle.fir_meaning.specs.WidthExpressions.{known, pair, guarded as guarded_width, width_under}
 use Rattle.fir_meaning.specs.WidthRules.{rules, AreWidths}
 use Rattle.fir_meaning.specs.SizeFaults.{word_over, leaf_over}
 use Rattle.fir_meaning.specs.OverFaults.{over_faults}
@@ -165,7 +165,7 @@ pub guarded_node_rules : rules guarded_node
     ∷ record { number = 7; at_least = guarded_width (pair op.Cat false (known 128) (known 128)) (known 1) } ∷ []
 guarded_node_rules = refl
 
-pub guarded_width_over : width_of (guarded_width (pair op.Cat false (known 128) (known 128)) (known 1)) (λ k. 0) ≡ 129
+pub guarded_width_over : width_under (guarded_width (pair op.Cat false (known 128) (known 128)) (known 1)) (λ k. 0) ≡ 129
 guarded_width_over = refl
 
 pub guarded_node_over : over_faults guarded_node (λ k. 129)

@@ -10,7 +10,7 @@ use Rattle.fir_meaning.specs.ExpressionPlaces.{place_of}
 use Rattle.fir_meaning.specs.Checked.{together}
 use Rattle.fir_meaning.specs.OperationTypes.{is_conversion, operand_kind, operand_kinds, type_of_operation}
 use Rattle.fir_meaning.specs.TypedScopes.{TypedScope}
-use Rattle.fir_meaning.specs.ExpressionTypes.{number_type, type_of_mux, type_of_validif, condition_form, passive_form, expression_type, expression_types}
+use Rattle.fir_meaning.specs.ExpressionTypes.{number_data_type, type_of_mux, type_of_validif, condition_form, passive_form, expression_type, expression_types}
 use Rattle.fir_meaning.specs.WidthExpressions.{known as known_width}
 use Rattle.fir_meaning.specs.SizedTypes.{Sized, bare_type}
 use Rattle.fir_meaning.specs.SizedOperations.{is_signed, width_in, first_sized, operation_width, greater_of}
@@ -45,7 +45,7 @@ module _ (typed : TypedScope) (sized : SizedScope) (beside : Beside SameShape ty
     pub type_bare : (e : Expression) (t : DataType) → (expression_type typed e).has ≡ Some t → bare_type (sized_type sized e) ≡ bare t
     type_bare (reference p n ps) t h = reference_same SameShape shapes_to_parts typed sized beside p n ps t h
     type_bare (literal l) t h =
-        let same : number_type l.signed l.width ≡ t = cc in
+        let same : number_data_type l.signed l.width ≡ t = cc in
         number_bare l.signed l.width (known_width (literal_width l)) ∙ ap bare same
     type_bare (operation p op es ks) t h =
         let a = after_has (expression_types typed es) (type_of_operation p op ks) t h in

@@ -9,7 +9,7 @@ use Rattle.fir_bits.specs.Types.{signed_of}
 use Rattle.fir_ast.specs.Types.{DataType, uint, sint, clock, reset, async_reset, bundle, vector, Fields, no_fields, field}
 use Rattle.fir_meaning.specs.TypeKinds.{bare, bare_fields, FieldFound, field_named}
 use Rattle.fir_meaning.specs.OperationTypes.{operand_kind, ground_of, result_of}
-use Rattle.fir_meaning.specs.ExpressionTypes.{number_type}
+use Rattle.fir_meaning.specs.ExpressionTypes.{number_data_type}
 use Rattle.fir_meaning.specs.Reaching.{field_of_type, vector_of_type}
 use Rattle.fir_meaning.specs.SharedLeaves.{shared_count}
 use Rattle.fir_meaning.specs.WidthExpressions.{Width}
@@ -119,7 +119,7 @@ mutual
   guarded_fields_bare c (sized_field p flip x begins t rest) = rw (guarded_bare c t, guarded_fields_bare c rest) refl
 
 -- numbers, and results of operations
-pub number_bare : (is : Bool) (width : Option ℕ) (w : Width) → bare_type (scalar (number_scalar is) w) ≡ bare (number_type is width)
+pub number_bare : (is : Bool) (width : Option ℕ) (w : Width) → bare_type (scalar (number_scalar is) w) ≡ bare (number_data_type is width)
 number_bare true width w = refl
 number_bare false width w = refl
 

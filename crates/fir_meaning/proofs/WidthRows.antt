@@ -7,7 +7,7 @@ use Rattle.fir_ast.specs.Types.{uint, sint, clock, reset, bundle, vector, no_fie
 use Rattle.fir_ast.specs.Expressions.{reference, no_parts, subfield, subindex, subaccess, mux}
 use Rattle.fir_ast.specs.Statements.{register, instance, memory, partial_connect, when, data_type, depth, reader}
 use Rattle.fir_ast.specs.Circuits.{CircuitTree}
-use Rattle.fir_meaning.specs.WidthExpressions.{known, unknown, single, pair, greater, guarded, width_of}
+use Rattle.fir_meaning.specs.WidthExpressions.{known, unknown, single, pair, greater, guarded, width_under}
 use Rattle.fir_meaning.specs.WidthRules.{rules}
 use Rattle.fir_meaning.proofs.SmallTrees.{at, name_at, input, output, part_of, ref, element_of, picked_of, field_of, uint_literal, one, two, wire_at, node_at, assign_to, assign, block, module_at, circuit, main_only}
 
@@ -50,7 +50,7 @@ shift =
 pub shift_rules : rules shift ≡ record { number = 2; at_least = pair op.Dshl false (known 4) (known 2) } ∷ []
 shift_rules = refl
 
-pub shift_width : width_of (pair op.Dshl false (known 4) (known 2)) (λ k. 0) ≡ 7
+pub shift_width : width_under (pair op.Dshl false (known 4) (known 2)) (λ k. 0) ≡ 7
 shift_width = refl
 
 -- all elements of a vector share one leaf, and a dynamic index names it too

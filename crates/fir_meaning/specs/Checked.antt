@@ -1,7 +1,7 @@
 -- What a form is found to be, and the faults that it shows: those of its operands, each in its order, and then its own.
 -- A form that shows a fault of its own is nothing, and neither is one whose operands are not all something; its own fault is shown only where they are.
 use Rattle.std.specs.Prelude.{List, [], ◌∷◌, ◌++◌, Option, Some, None, Result, Ok, Err}
-use Rattle.fir_pass.specs.Faults.{Fault}
+use Rattle.fir_ast.specs.Faults.{Fault}
 
 pub record Checked (A : Type 0) : Type 0 where
   pub has : Option A

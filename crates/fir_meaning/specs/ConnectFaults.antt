@@ -3,7 +3,7 @@
 use Rattle.std.specs.Prelude.{List, [], ◌∷◌, take, flat_map, if◌then◌else◌, Option, Some, None}
 use Rattle.fir_ast.specs.declared.place.Place.{Place}
 use Rattle.fir_ast.specs.Types.{DataType}
-use Rattle.fir_pass.specs.Faults.{Fault}
+use Rattle.fir_ast.specs.Faults.{Fault}
 use Rattle.fir_meaning.specs.LeafPaths.{LeafPath}
 use Rattle.fir_meaning.specs.TypeLeaves.{TypeLeaf}
 use Rattle.fir_meaning.specs.Equivalence.{is_connectable, is_partly_connectable}

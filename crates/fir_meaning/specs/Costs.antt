@@ -5,7 +5,7 @@ use Rattle.std.specs.Prelude.{◌≡◌, ℕ, ◌+◌, ◌*◌, max, List, [], �
 use Rattle.fir_base.specs.Lists.{In}
 use Rattle.fir_ast.specs.Types.{DataType}
 use Rattle.fir_ast.specs.Expressions.{Expression, reference, literal, operation, mux, validif, Parts, no_parts, subfield, subindex, subaccess, Expressions, no_expressions, expression}
-use Rattle.fir_ast.specs.Statements.{Sink, Reset, MemoryPart, Statement, wire, register, node, instance, memory, when, connect, partial_connect, invalid, skip, Block, done, then}
+use Rattle.fir_ast.specs.Statements.{SinkReference, Reset, MemoryPart, Statement, wire, register, node, instance, memory, when, connect, partial_connect, invalid, skip, Block, done, then}
 use Rattle.fir_ast.specs.Circuits.{PortTree, ModuleTree, CircuitTree}
 use Rattle.fir_meaning.specs.TypeLeaves.{leaf_count}
 use Rattle.fir_meaning.specs.Components as component
@@ -44,7 +44,7 @@ abbrev pub typed_leaves : TypedScope → Expression → ℕ
 typed_leaves scope e = leaves_where (expression_type scope e).has
 
 -- the leaves that a reference may name
-abbrev pub named_leaves : TypedScope → Sink → ℕ
+abbrev pub named_leaves : TypedScope → SinkReference → ℕ
 named_leaves scope s = typed_leaves scope (sink_expression s) * picks_where (type_of_known (known scope s.name)) s.parts
 
 -- an expression, with its operands
@@ -76,7 +76,7 @@ abbrev pub memory_words_of : List MemoryPart → ℕ
 memory_words_of parts = unwrap_or (first_one (flat_map depth_of_part parts)) 0 * leaves_where (first_one (flat_map data_of_part parts))
 
 -- a sink, with the expressions in its dynamic indices
-abbrev pub size_of_sink : TypedScope → Sink → ℕ
+abbrev pub size_of_sink : TypedScope → SinkReference → ℕ
 size_of_sink scope s = named_leaves scope s + size_of_parts scope s.parts
 
 -- what each module costs, by its name

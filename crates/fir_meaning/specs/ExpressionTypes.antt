@@ -6,8 +6,8 @@ use Rattle.fir_bits.specs.declared.operators.PrimOp.{PrimOp}
 use Rattle.fir_ast.specs.declared.place.Place.{Place}
 use Rattle.fir_ast.specs.Types.{DataType, uint, sint}
 use Rattle.fir_ast.specs.Expressions.{Expression, reference, literal, operation, mux, validif, Parts, no_parts, subfield, subindex, subaccess, Expressions, no_expressions, expression}
-use Rattle.fir_ast.specs.Statements.{Sink}
-use Rattle.fir_pass.specs.Faults.{Fault}
+use Rattle.fir_ast.specs.Statements.{SinkReference}
+use Rattle.fir_ast.specs.Faults.{Fault}
 use Rattle.fir_meaning.specs.TypeKinds.{is_passive, is_numeric, bare}
 use Rattle.fir_meaning.specs.Equivalence.{is_equivalent}
 use Rattle.fir_meaning.specs.ExpressionPlaces.{place_of}
@@ -17,9 +17,9 @@ use Rattle.fir_meaning.specs.OperationTypes.{type_of_operation}
 use Rattle.fir_meaning.specs.TypedScopes.{TypedScope}
 use Rattle.fir_meaning.specs.Reaching.{Reached, to_field, to_index, to_any, root}
 
-abbrev pub number_type : Bool → Option ℕ → DataType
-number_type true width = sint width
-number_type false width = uint width
+abbrev pub number_data_type : Bool → Option ℕ → DataType
+number_data_type true width = sint width
+number_data_type false width = uint width
 
 -- a condition and an index are a UInt
 abbrev pub unsigned_at : Place → DataType → Result DataType Fault
@@ -69,7 +69,7 @@ access_form p c index = after (together (λ r t. r) c index) (to_any p)
 abbrev mutual
   pub expression_type : TypedScope → Expression → Checked DataType
   expression_type scope (reference p n ps) = type_reached (along_parts scope p (root scope n) ps)
-  expression_type scope (literal l) = is_found (number_type l.signed l.width)
+  expression_type scope (literal l) = is_found (number_data_type l.signed l.width)
   expression_type scope (operation p op es ks) = operation_form p op ks (expression_types scope es)
   expression_type scope (mux p c a b) =
       mux_form
@@ -93,7 +93,7 @@ abbrev mutual
   expression_types scope (expression e es) = together (λ t ts. t ∷ ts) (expression_type scope e) (expression_types scope es)
 
 -- what a name with its parts reaches
-abbrev pub reaching : TypedScope → Sink → Checked Reached
+abbrev pub reaching : TypedScope → SinkReference → Checked Reached
 reaching scope s = along_parts scope s.place (root scope s.name) s.parts
 
 -- what an expression reaches that is a reference

@@ -3,7 +3,7 @@ use Rattle.std.specs.Prelude.{ℕ, List, ◌++◌, map, codes, decimal}
 use Rattle.fir_ast.specs.declared.place.Place.{Place}
 use Rattle.fir_ast.specs.Types.{DataType}
 use Rattle.fir_ast.specs.Texts.{separated, type_text}
-use Rattle.fir_pass.specs.Faults.{Fault, E12, E13, E14, E15, E16, E17}
+use Rattle.fir_ast.specs.Faults.{Fault, E12, E13, E14, E15, E16, E17}
 use Rattle.fir_meaning.specs.LeafPaths.{LeafPath, path_text}
 
 -- operands, or one type, of kinds that may not stand there

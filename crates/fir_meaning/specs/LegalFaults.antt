@@ -10,13 +10,13 @@ use Rattle.fir_ast.specs.declared.expressions.Literal.{Literal}
 use Rattle.fir_ast.specs.Expressions.{Expression, literal, operation}
 use Rattle.fir_ast.specs.Statements.{PlacedName}
 use Rattle.fir_ast.specs.Circuits.{ModuleTree, CircuitTree}
-use Rattle.fir_pass.specs.Faults.{Fault}
+use Rattle.fir_ast.specs.Faults.{Fault}
 use Rattle.fir_meaning.specs.LeafPaths.{LeafPath, named}
 use Rattle.fir_meaning.specs.TypeLeaves.{turned}
 use Rattle.fir_meaning.specs.Components.{Component, port}
 use Rattle.fir_meaning.specs.ComponentTypes.{is_input}
 use Rattle.fir_meaning.specs.ExpressionPlaces.{place_of}
-use Rattle.fir_meaning.specs.WidthExpressions.{Width, unknown, Widths, width_of}
+use Rattle.fir_meaning.specs.WidthExpressions.{Width, unknown, Widths, width_under}
 use Rattle.fir_meaning.specs.SizedTypes.{unsigned, Sized, scalar}
 use Rattle.fir_meaning.specs.SizedLeaves.{sized_leaves}
 use Rattle.fir_meaning.specs.SizedOperations.{width_in, first_sized}
@@ -49,12 +49,12 @@ operation_faults p op width ks = if is_legal op width (slice_index ks 0) (slice_
 
 abbrev pub form_faults : Widths → SizedScope → Expression → List Fault
 form_faults w scope (literal l) = written_literal_faults l l.width
-form_faults w scope (operation p op es ks) = operation_faults p op (width_of (width_in (first_sized (sized_types scope es))) w) ks
+form_faults w scope (operation p op es ks) = operation_faults p op (width_under (width_in (first_sized (sized_types scope es))) w) ks
 form_faults w scope _ = []
 
 -- a reset that is no UInt has no width
 abbrev pub condition_faults : Widths → Place → Sized → List Fault
-condition_faults w p (scalar unsigned width) = if width_of width w == 1 then [] else wrong_condition p (width_of width w) ∷ []
+condition_faults w p (scalar unsigned width) = if width_under width w == 1 then [] else wrong_condition p (width_under width w) ∷ []
 condition_faults w p _ = []
 
 abbrev pub legal_rule : CircuitTree → Widths → FaultRule

@@ -5,7 +5,7 @@ use Rattle.std.specs.Prelude.{ℕ, List, [], ◌∷◌, ◌++◌, flat_map, code
 use Rattle.fir_ast.specs.declared.statements.ReadUnderWrite.{ReadUnderWrite}
 use Rattle.fir_ast.specs.Types.{DataType}
 use Rattle.fir_ast.specs.Statements.{PlacedName, MemoryPart, read_latency, write_latency, read_under_write}
-use Rattle.fir_pass.specs.Faults.{Fault}
+use Rattle.fir_ast.specs.Faults.{Fault}
 use Rattle.fir_meaning.specs.TypeKinds.{is_passive, is_sized}
 use Rattle.fir_meaning.specs.KindFaults.{not_passive, memory_field}
 use Rattle.fir_meaning.specs.MemoryTypes.{data_of_part, depth_of_part, first_one}

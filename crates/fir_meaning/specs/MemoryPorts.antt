@@ -1,6 +1,6 @@
 -- The kinds of the ports of a memory (FIRRTL spec, "Memories").
 
-pub data PortKind : Type 0 where
-  reads : PortKind
-  writes : PortKind
-  reads_and_writes : PortKind
+pub data MemoryPortKind : Type 0 where
+  reads : MemoryPortKind
+  writes : MemoryPortKind
+  reads_and_writes : MemoryPortKind

@@ -5,7 +5,7 @@ use Rattle.std.specs.Prelude.{ℕ, List, [], ◌∷◌, ◌++◌, map, Option, S
 use Rattle.fir_ast.specs.declared.place.Place.{Place}
 use Rattle.fir_ast.specs.Types.{DataType, bundle, vector, Fields, no_fields, field}
 use Rattle.fir_ast.specs.Expressions.{Expression, reference, literal, operation, mux, validif, Parts, no_parts, subfield, subindex, subaccess, Expressions, no_expressions, expression}
-use Rattle.fir_ast.specs.Statements.{PlacedName, Sink, Reset, MemoryPart, data_type, reader, writer, readwriter, Statement, wire, register, node, instance, memory, when, connect, partial_connect, invalid, Block, done, then}
+use Rattle.fir_ast.specs.Statements.{PlacedName, SinkReference, Reset, MemoryPart, data_type, reader, writer, readwriter, Statement, wire, register, node, instance, memory, when, connect, partial_connect, invalid, Block, done, then}
 use Rattle.fir_ast.specs.Circuits.{PortTree, ModuleTree, CircuitTree}
 use Rattle.fir_meaning.specs.Components.{Declarations}
 use Rattle.fir_meaning.specs.Components as component
@@ -19,8 +19,8 @@ pub data Mention : Type 0 where
   -- a module is named, where these are the circuit's
   instantiates : List PlacedName → PlacedName → Mention
 
-abbrev pub placed : Place → List ℕ → PlacedName
-placed p n = record { place = p; name = n }
+abbrev pub placed_name : Place → List ℕ → PlacedName
+placed_name p n = record { place = p; name = n }
 
 abbrev mutual
   pub type_mentions : DataType → List Mention
@@ -31,7 +31,7 @@ abbrev mutual
   pub field_mentions : List PlacedName → Fields → List Mention
   field_mentions before no_fields = []
   field_mentions before (field p flip n begins t rest) =
-      declares before (placed p n) ∷ (type_mentions t ++ field_mentions (before ++ placed p n ∷ []) rest)
+      declares before (placed_name p n) ∷ (type_mentions t ++ field_mentions (before ++ placed_name p n ∷ []) rest)
 
 abbrev mutual
   pub expression_mentions : Declarations → Expression → List Mention
@@ -51,7 +51,7 @@ abbrev mutual
   operand_mentions visible no_expressions = []
   operand_mentions visible (expression e es) = expression_mentions visible e ++ operand_mentions visible es
 
-abbrev pub sink_mentions : Declarations → Sink → List Mention
+abbrev pub sink_mentions : Declarations → SinkReference → List Mention
 sink_mentions visible sink = uses visible sink.place sink.name ∷ part_mentions visible sink.parts
 
 abbrev pub reset_mentions : Declarations → Option Reset → List Mention

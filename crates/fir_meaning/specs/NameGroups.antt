@@ -5,7 +5,7 @@ use Rattle.fir_ast.specs.declared.place.Place.{Place}
 use Rattle.fir_ast.specs.Texts.{place_text, separated}
 use Rattle.fir_ast.specs.Statements.{PlacedName}
 use Rattle.fir_ast.specs.Circuits.{CircuitTree}
-use Rattle.fir_pass.specs.Faults.{Fault, E08, E09, E10, E11}
+use Rattle.fir_ast.specs.Faults.{Fault, E08, E09, E10, E11}
 use Rattle.fir_pass.specs.Groups.{Group, in_order, any_of}
 use Rattle.fir_meaning.specs.Components.{Declaration, find, find_name}
 use Rattle.fir_meaning.specs.Mentions.{Mention, declares, uses, instantiates, circuit_mentions, module_names}

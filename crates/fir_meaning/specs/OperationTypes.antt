@@ -8,7 +8,7 @@ use Rattle.fir_bits.specs.Forms.{form_of, takes, first_type}
 use Rattle.fir_bits.specs.Types.{signed_of}
 use Rattle.fir_ast.specs.declared.place.Place.{Place}
 use Rattle.fir_ast.specs.Types.{DataType, uint, sint, reset, async_reset}
-use Rattle.fir_pass.specs.Faults.{Fault}
+use Rattle.fir_ast.specs.Faults.{Fault}
 use Rattle.fir_meaning.specs.KindFaults.{wrong_kinds}
 use Rattle.fir_meaning.specs.Checked.{joined}
 
@@ -18,15 +18,15 @@ is_conversion AsSInt = true
 is_conversion AsAsyncReset = true
 is_conversion _ = false
 
-abbrev pub of_sign : Bool → NumTy
-of_sign signed = record { signed = signed; width = 0 }
+abbrev pub type_of_sign : Bool → NumTy
+type_of_sign signed = record { signed = signed; width = 0 }
 
 -- an operand's signedness, where its kind may stand there
 abbrev pub operand_kind : Bool → DataType → Option NumTy
-operand_kind resets (uint width) = Some (of_sign false)
-operand_kind resets (sint width) = Some (of_sign true)
-operand_kind true reset = Some (of_sign false)
-operand_kind true async_reset = Some (of_sign false)
+operand_kind resets (uint width) = Some (type_of_sign false)
+operand_kind resets (sint width) = Some (type_of_sign true)
+operand_kind true reset = Some (type_of_sign false)
+operand_kind true async_reset = Some (type_of_sign false)
 operand_kind _ _ = None
 
 abbrev pub operand_kinds : Bool → List DataType → Option (List NumTy)

@@ -6,10 +6,10 @@ use Rattle.fir_ast.specs.declared.place.Place.{Place}
 use Rattle.fir_ast.specs.Expressions.{Expression, reference, literal, operation, mux, validif, Parts, no_parts, subfield, subindex, subaccess}
 use Rattle.fir_ast.specs.Statements.{PlacedName}
 use Rattle.fir_ast.specs.Circuits.{ModuleTree, CircuitTree}
-use Rattle.fir_pass.specs.Faults.{Fault}
+use Rattle.fir_ast.specs.Faults.{Fault}
 use Rattle.fir_meaning.specs.LeafPaths.{LeafPath, named, element}
 use Rattle.fir_meaning.specs.Components.{Component, memory}
-use Rattle.fir_meaning.specs.WidthExpressions.{Widths, width_of}
+use Rattle.fir_meaning.specs.WidthExpressions.{Widths, width_under}
 use Rattle.fir_meaning.specs.SizedTypes.{Sized}
 use Rattle.fir_meaning.specs.SizedLeaves.{SizedLeaf, sized_leaves}
 use Rattle.fir_meaning.specs.SizedScopes.{SizedScope, sized_type}
@@ -18,7 +18,7 @@ use Rattle.fir_meaning.specs.SizeFaults.{word_over, leaf_over}
 use Rattle.fir_meaning.specs.WidthWalk.{FaultRule, shown_in_circuit}
 
 abbrev pub is_leaf_over : Widths → SizedLeaf → Bool
-is_leaf_over w l = nat_lt 128 (width_of l.width w)
+is_leaf_over w l = nat_lt 128 (width_under l.width w)
 
 -- each leaf of what the path leads to that is over
 abbrev pub leaves_over : Widths → Place → LeafPath → Sized → List Fault

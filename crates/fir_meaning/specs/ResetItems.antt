@@ -9,13 +9,13 @@ use Rattle.fir_meaning.specs.Components.{Declaration}
 use Rattle.fir_meaning.specs.Reaching.{field_of_type, vector_of_type}
 
 -- a leaf of the module of that number, or an expression that is no leaf, by its place
-pub data Item : Type 0 where
-  leaf_item : ℕ → LeafPath → Item
-  value_item : Place → Item
+pub data ResetItem : Type 0 where
+  leaf_item : ℕ → LeafPath → ResetItem
+  value_item : Place → ResetItem
 
 -- with its ground type, and where a fault of it stands: at its declaration
 pub record End : Type 0 where
-  pub item : Item
+  pub item : ResetItem
   pub ground_type : DataType
   pub place : Place
 

@@ -4,7 +4,7 @@ use Rattle.std.specs.Str.{bytes_eq}
 use Rattle.fir_ast.specs.declared.place.Place.{Place}
 use Rattle.fir_ast.specs.Types.{DataType}
 use Rattle.fir_ast.specs.Expressions.{Expression, reference}
-use Rattle.fir_ast.specs.Statements.{PlacedName, Sink, Statement, node, instance, when, connect, partial_connect, Block, done, then}
+use Rattle.fir_ast.specs.Statements.{PlacedName, SinkReference, Statement, node, instance, when, connect, partial_connect, Block, done, then}
 use Rattle.fir_ast.specs.Circuits.{PortTree, ModuleTree, CircuitTree}
 use Rattle.fir_meaning.specs.LeafPaths.{LeafPath, named, element}
 use Rattle.fir_meaning.specs.TypeLeaves.{TypeLeaf, type_leaves}
@@ -49,7 +49,7 @@ ends_of m before e l = value_end (place_of e) l.ground_type ∷ []
 abbrev pub each_with_each : List End → List End → List Join
 each_with_each ones others = flat_map (λ a. map (λ b. record { one = a; other = b }) others) ones
 
-abbrev pub connect_joins : (DataType → DataType → List Pair) → ResetModule → Before → Sink → Expression → Option DataType → Option DataType → List Join
+abbrev pub connect_joins : (DataType → DataType → List Pair) → ResetModule → Before → SinkReference → Expression → Option DataType → Option DataType → List Join
 connect_joins pairs_of m before sink e (Some t) (Some u) =
     flat_map (λ p. each_with_each (ends_of m before (sink_expression sink) p.left) (ends_of m before e p.right)) (pairs_of t u)
 connect_joins pairs_of m before sink e _ _ = []

@@ -7,7 +7,7 @@ use Rattle.fir_base.specs.Lists.{In, Distinct}
 use Rattle.fir_ast.specs.Types.{DataType, uint, reset, async_reset}
 use Rattle.fir_ast.specs.Circuits.{ModuleTree, CircuitTree}
 use Rattle.fir_ast.specs.Texts.{place_text}
-use Rattle.fir_pass.specs.Faults.{Fault, E18}
+use Rattle.fir_ast.specs.Faults.{Fault, E18}
 use Rattle.fir_pass.specs.Groups.{Group, any_of}
 use Rattle.fir_meaning.specs.LeafPaths.{named, path_text}
 use Rattle.fir_meaning.specs.TypeLeaves.{TypeLeaf, type_leaves}
@@ -15,7 +15,7 @@ use Rattle.fir_meaning.specs.TypedScopes.{Known}
 use Rattle.fir_meaning.specs.Components.{find}
 use Rattle.fir_meaning.specs.Visibility.{declarations}
 use Rattle.fir_meaning.specs.ComponentTypes.{typed_scope}
-use Rattle.fir_meaning.specs.ResetItems.{Item, leaf_item, value_item, End, declared_at}
+use Rattle.fir_meaning.specs.ResetItems.{ResetItem, leaf_item, value_item, End, declared_at}
 use Rattle.fir_meaning.specs.ResetJoins.{joins, AreElements}
 
 -- a leaf of what a module declares
@@ -58,7 +58,7 @@ abbrev pub IsChain : CircuitTree → End → List End → Type 0
 IsChain c e [] = Unit {0}
 IsChain c e (f ∷ fs) = Joined c e f × IsChain c f fs
 
-abbrev pub items_of : List End → List Item
+abbrev pub items_of : List End → List ResetItem
 items_of es = map (λ e. e.item) es
 
 -- from a UInt through Resets, of which the first stands in front of the others, to an AsyncReset
@@ -69,11 +69,11 @@ pub record IsResetWalk (c : CircuitTree) (begins first : End) (others : List End
   pub chain : IsChain c begins (first ∷ others ++ ends ∷ [])
   pub once : Distinct (begins ∷ first ∷ others ++ ends ∷ [])
 
-abbrev pub reset_item_text : Item → List ℕ
+abbrev pub reset_item_text : ResetItem → List ℕ
 reset_item_text (leaf_item number path) = path_text path
 reset_item_text (value_item p) = place_text p
 
-abbrev pub items_text : List Item → List ℕ
+abbrev pub items_text : List ResetItem → List ℕ
 items_text [] = []
 items_text (x ∷ []) = reset_item_text x
 items_text (x ∷ xs) = reset_item_text x ++ codes " - " ++ items_text xs

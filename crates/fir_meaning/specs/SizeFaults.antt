@@ -4,7 +4,7 @@ use Rattle.fir_bits.specs.declared.operators.PrimOp.{PrimOp}
 use Rattle.fir_bits.specs.OperatorWords.{operator_word}
 use Rattle.fir_ast.specs.declared.place.Place.{Place}
 use Rattle.fir_ast.specs.Texts.{sign_text}
-use Rattle.fir_pass.specs.Faults.{Fault, E19, E20, E21, E22}
+use Rattle.fir_ast.specs.Faults.{Fault, E19, E20, E21, E22}
 use Rattle.fir_meaning.specs.LeafPaths.{LeafPath, path_text}
 
 -- an operator, a mux, a validif or a literal by its word, or a leaf by its path

@@ -4,7 +4,7 @@ use Rattle.std.specs.Str.{bytes_eq}
 use Rattle.fir_bits.specs.Literals.{least_width}
 use Rattle.fir_ast.specs.declared.expressions.Literal.{Literal}
 use Rattle.fir_ast.specs.Expressions.{Expression, reference, literal, operation, mux, validif, Parts, no_parts, subfield, subindex, subaccess, Expressions, no_expressions, expression}
-use Rattle.fir_ast.specs.Statements.{Sink}
+use Rattle.fir_ast.specs.Statements.{SinkReference}
 use Rattle.fir_meaning.specs.WidthExpressions.{known}
 use Rattle.fir_meaning.specs.SizedTypes.{Sized, scalar, untyped, sized_named, sized_found, fields_in, element_in}
 use Rattle.fir_meaning.specs.SizedOperations.{number_scalar, width_in, sized_operation, greater_of, guarded_by}
@@ -45,5 +45,5 @@ abbrev mutual
   sized_types scope no_expressions = []
   sized_types scope (expression e es) = sized_type scope e ∷ sized_types scope es
 
-abbrev pub sink_expression : Sink → Expression
+abbrev pub sink_expression : SinkReference → Expression
 sink_expression s = reference s.place s.name s.parts

@@ -2,14 +2,13 @@
 -- It stands at the leaf's declaration; for a register's own clock at the register, by its path. The evidence is the first in the text of the dynamic indices
 -- that pick a clock in a live drive, in the node or in the register's clock, its place twice; else the first two live drives, of which an invalid is one. Told
 -- is the fault of the first leaf. So a clock is known by the input at which its chain of drives ends, a choice of this project.
-use Rattle.std.specs.Prelude.{◌≡◌, List, [], ◌∷◌, ◌++◌, false, take, length, ◌+◌, ◌⊎◌}
+use Rattle.std.specs.Prelude.{◌≡◌, List, [], ◌∷◌, ◌++◌, false, take, length, ◌+◌, ◌⊎◌, ℕ, codes}
 use Rattle.fir_base.specs.Lists.{In}
-use Rattle.fir_ast.specs.declared.fault.FirFault.{FirFault}
-use Rattle.fir_ast.specs.declared.fault.FirFault.TheVariants.{Clock}
 use Rattle.fir_ast.specs.declared.place.Place.{Place}
 use Rattle.fir_ast.specs.Circuits.{CircuitTree}
 use Rattle.fir_ast.specs.Expressions.{Expression, reference}
-use Rattle.fir_pass.specs.Faults.{Fault, fault_of}
+use Rattle.fir_ast.specs.Texts.{place_text}
+use Rattle.fir_ast.specs.Faults.{E25, Fault}
 use Rattle.fir_pass.specs.Groups.{Group}
 use Rattle.fir_meaning.specs.Elaborated.{IsSourceOf}
 use Rattle.fir_meaning.specs.Lack.{is_before}
@@ -25,6 +24,10 @@ use Rattle.fir_meaning.specs.SourceLoops.{StandsAt}
 use Rattle.fir_meaning.specs.SourceRanks.{HasRank, Rank, comes_before}
 use Rattle.fir_meaning.specs.SourceReads.{index_places}
 use Rattle.fir_meaning.specs.SourceRoles.{SourceRole, computed, register, sink}
+
+-- at a leaf, with the places of two statements, or of an index twice
+abbrev pub clock_fault : Place → List ℕ → Place → Place → Fault
+clock_fault p leaf a b = record { code = E25; place = p; evidence = codes "clock " ++ leaf ++ codes " " ++ place_text a ++ codes " " ++ place_text b }
 
 -- where the dynamic indices of a reference stand; no other expression picks a clock
 abbrev pub picking_places : Expression → List Place
@@ -65,15 +68,15 @@ module _ (t : SourceDesign) where
   told_path p a_clock = leaf_path p
   told_path p (number h) = take (length p.at + 1) (leaf_path p)
 
-  pub record ShowsPickedClock (p : PlacedLeaf) (f : FirFault) : Type 0 where
+  pub record ShowsPickedClock (p : PlacedLeaf) (f : Fault) : Type 0 where
     pub index : Place
     pub picks : PicksClock p index
     pub none_before : (other : Place) → PicksClock p other → is_before other index ≡ false
     pub place : Place
     pub stands : StandsAt t (leaf_path p) place
-    pub is : f ≡ Clock place (path_text (told_path p p.leaf.holds)) index index
+    pub is : f ≡ clock_fault place (path_text (told_path p p.leaf.holds)) index index
 
-  pub record ShowsTwoLive (p : PlacedLeaf) (f : FirFault) : Type 0 where
+  pub record ShowsTwoLive (p : PlacedLeaf) (f : Fault) : Type 0 where
     pub is_clock : p.leaf.holds ≡ a_clock
     pub is_sink : p.leaf.role ≡ sink
     pub none_picks : (place : Place) → PicksClock p place → ⊥
@@ -93,34 +96,31 @@ module _ (t : SourceDesign) where
     pub none_between : (d : Drive) → In between d → IsLiveIn holder leaf d → ⊥
     pub place : Place
     pub stands : StandsAt t (leaf_path p) place
-    pub is : f ≡ Clock place (path_text (leaf_path p)) first.place second.place
+    pub is : f ≡ clock_fault place (path_text (leaf_path p)) first.place second.place
 
-  abbrev pub ShowsAt : PlacedLeaf → FirFault → Type 0
+  abbrev pub ShowsAt : PlacedLeaf → Fault → Type 0
   ShowsAt p f = ShowsPickedClock p f ⊎ ShowsTwoLive p f
 
-  pub record ShowsClockFault (f : FirFault) : Type 0 where
+  pub record ShowsClockFault (f : Fault) : Type 0 where
     pub leaf : PlacedLeaf
     pub among : In (all_leaves t) leaf
     pub shows : ShowsAt leaf f
 
   -- at a leaf before which no other shows one
-  pub record TellsClockFault (f : FirFault) : Type 0 where
+  pub record TellsClockFault (f : Fault) : Type 0 where
     pub leaf : PlacedLeaf
     pub rank : Rank
     pub has_rank : HasRank t leaf rank
     pub shows : ShowsAt leaf f
     pub first :
-        (other : PlacedLeaf) (its_rank : Rank) (its_fault : FirFault) → HasRank t other its_rank → ShowsAt other its_fault
+        (other : PlacedLeaf) (its_rank : Rank) (its_fault : Fault) → HasRank t other its_rank → ShowsAt other its_fault
         → comes_before its_rank rank ≡ false
 
 -- in the source of a circuit
-module _ (Holds : SourceDesign → FirFault → Type 0) (c : CircuitTree) (f : Fault) where
-  pub record IsOfSource : Type 0 where
-    pub source : SourceDesign
-    pub is_source : IsSourceOf c source
-    pub fault : FirFault
-    pub holds : Holds source fault
-    pub is : f ≡ fault_of fault
+pub record IsOfSource (Holds : SourceDesign → Fault → Type 0) (c : CircuitTree) (f : Fault) : Type 0 where
+  pub source : SourceDesign
+  pub is_source : IsSourceOf c source
+  pub holds : Holds source f
 
 abbrev pub clock_group : CircuitTree → Group
 clock_group c = record { shows = IsOfSource ShowsClockFault c; tells = IsOfSource TellsClockFault c }

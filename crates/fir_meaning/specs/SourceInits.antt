@@ -2,13 +2,13 @@
 -- choice of this project.
 -- It stands at the register's declaration. The walk of dependence begins with a leaf that the init reads, and ends with an input of the main module or a leaf
 -- that shows state: a register, or what a memory gives. No leaf stands on it twice. Any such walk may be told.
-use Rattle.std.specs.Prelude.{◌≡◌, List, ◌∷◌, map, Bool, true, false, Some, IsTrue}
+use Rattle.std.specs.Prelude.{◌≡◌, ℕ, List, ◌∷◌, ◌++◌, codes, map, Bool, true, false, Some, IsTrue}
 use Rattle.fir_base.specs.Lists.{Distinct, In}
-use Rattle.fir_ast.specs.declared.fault.FirFault.{FirFault}
-use Rattle.fir_ast.specs.declared.fault.FirFault.TheVariants.{AsyncInit}
 use Rattle.fir_ast.specs.declared.place.Place.{Place}
 use Rattle.fir_ast.specs.Circuits.{CircuitTree}
 use Rattle.fir_ast.specs.Expressions.{Expression}
+use Rattle.fir_ast.specs.Texts.{separated}
+use Rattle.fir_ast.specs.Faults.{E27, Fault}
 use Rattle.fir_pass.specs.Groups.{Group, any_of}
 use Rattle.fir_meaning.specs.LeafPaths.{LeafPath, path_text}
 use Rattle.fir_meaning.specs.SourceCircuits.{PlacedLeaf, all_leaves, leaf_path}
@@ -25,8 +25,11 @@ is_input_or_state sink = false
 is_input_or_state (computed scope e q) = false
 is_input_or_state _ = true
 
+abbrev pub init_fault : Place → List (List ℕ) → Fault
+init_fault p walk = record { code = E27; place = p; evidence = codes "async init " ++ separated (codes " <- ") walk }
+
 module _ (t : SourceDesign) where
-  pub record ShowsAsyncInit (f : FirFault) : Type 0 where
+  pub record ShowsAsyncInit (f : Fault) : Type 0 where
     pub leaf : PlacedLeaf
     pub among : In (all_leaves t) leaf
     pub scope : TypedScope
@@ -45,7 +48,7 @@ module _ (t : SourceDesign) where
     pub distinct : Distinct (first ∷ rest)
     pub place : Place
     pub stands : StandsAt t (leaf_path leaf) place
-    pub is : f ≡ AsyncInit place (map path_text (first ∷ rest))
+    pub is : f ≡ init_fault place (map path_text (first ∷ rest))
 
 abbrev pub init_group : CircuitTree → Group
 init_group c = any_of (IsOfSource ShowsAsyncInit c)

@@ -1,6 +1,5 @@
 -- What a circuit means, as the law of passes sees it: what the source below its main module allows at each tick, and the faults of the circuit.
--- Of the faults of clocks (E25 to E27) none is said yet.
-use Rattle.std.specs.Prelude.{◌≡◌, [], Bool, true, false, filter, length, map}
+use Rattle.std.specs.Prelude.{◌≡◌, [], ◌++◌, Bool, true, false, filter, length, map}
 use Rattle.fir_ast.specs.Circuits.{CircuitTree}
 use Rattle.fir_pass.specs.Groups.{Groups, no_groups, then_group, in_order, group_at}
 use Rattle.fir_pass.specs.Meaning.{Meaning, ShapeNames, Counts}
@@ -15,7 +14,7 @@ use Rattle.fir_meaning.specs.SourceInits.{init_group}
 use Rattle.fir_meaning.specs.SourceLoops.{loop_group}
 use Rattle.fir_meaning.specs.SourceMemoryClocks.{memory_clock_group}
 use Rattle.fir_meaning.specs.SourceUndrivenGroup.{undriven_group}
-use Rattle.fir_meaning.specs.SourceCircuits.{all_arrays, all_leaves, clock_inputs, inputs, outputs, paths_of, source_shape, state_words}
+use Rattle.fir_meaning.specs.SourceCircuits.{all_arrays, all_leaves, array_path, clock_inputs, inputs, outputs, paths_of, source_shape, state_arrays, state_words}
 use Rattle.fir_meaning.specs.SourceDesigns.{SourceDesign}
 use Rattle.fir_meaning.specs.SourceOne.{One}
 use Rattle.fir_meaning.specs.SourceRoles.{SourceRole, register}
@@ -36,7 +35,7 @@ source_names c t = record {
   inputs = map path_text (inputs t);
   clocks = map path_text (clock_inputs t);
   outputs = map path_text (outputs t);
-  state = map path_text (paths_of (state_words t));
+  state = map path_text (paths_of (state_words t) ++ map array_path (state_arrays t));
 }
 
 -- a register that is declared; a pipe is none

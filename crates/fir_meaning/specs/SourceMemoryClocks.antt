@@ -4,8 +4,7 @@
 -- instance. Told is the fault of the first memory. That clocks are known by where their chains end is a choice of this project.
 use Rattle.std.specs.Prelude.{Some, ◌≡◌, ℕ, ◌≤◌, List, [], ◌∷◌, ◌++◌, codes, flat_map, map, slice_get, false}
 use Rattle.fir_base.specs.Lists.{In}
-use Rattle.fir_ast.specs.declared.fault.FirFault.{FirFault}
-use Rattle.fir_ast.specs.declared.fault.FirFault.TheVariants.{MemoryClocks}
+use Rattle.fir_ast.specs.Faults.{E26, Fault}
 use Rattle.fir_ast.specs.declared.place.Place.{Place}
 use Rattle.fir_ast.specs.Circuits.{CircuitTree}
 use Rattle.fir_ast.specs.Expressions.{Expression, reference}
@@ -71,7 +70,12 @@ clock_of_port n p = port_field n.name p.name (codes "clk")
 abbrev pub port_clocks : PlacedName → List MemoryPart → List LeafPath
 port_clocks n parts = map (clock_of_port n) (flat_map ports_of_part parts)
 
-pub record ShowsMemoryClocks (m : PlacedModule) (f : FirFault) : Type 0 where
+-- at a memory, with the clocks of two ports
+abbrev pub memory_clocks_fault : Place → List ℕ → List ℕ → List ℕ → Fault
+memory_clocks_fault p leaf a b =
+    record { code = E26; place = p; evidence = codes "memory clocks " ++ leaf ++ codes " " ++ a ++ codes " " ++ b }
+
+pub record ShowsMemoryClocks (m : PlacedModule) (f : Fault) : Type 0 where
   pub visit : Visit
   pub among : In (module_visits m.scene.own.inside) visit
   pub place : Place
@@ -93,22 +97,22 @@ pub record ShowsMemoryClocks (m : PlacedModule) (f : FirFault) : Type 0 where
   pub other_has : HasClock m.scene other other_clock
   pub differ : clock ≡ other_clock → ⊥
   pub is :
-      f ≡ MemoryClocks name.place (path_text (m.at ++ named name.name ∷ [])) (path_text (m.at ++ clock)) (path_text (m.at ++ other_clock))
+      f ≡ memory_clocks_fault name.place (path_text (m.at ++ named name.name ∷ [])) (path_text (m.at ++ clock)) (path_text (m.at ++ other_clock))
 
 -- in the module of the instance of a number
-pub record ShowsMemoryFault (t : SourceDesign) (f : FirFault) : Type 0 where
+pub record ShowsMemoryFault (t : SourceDesign) (f : Fault) : Type 0 where
   pub number : ℕ
   pub holder : PlacedModule
   pub is_holder : slice_get (all_modules t) number ≡ Some holder
   pub shows : ShowsMemoryClocks holder f
 
 -- at a memory before which no other shows one: by its place in the text, and then by its instance
-pub record TellsMemoryFault (t : SourceDesign) (f : FirFault) : Type 0 where
+pub record TellsMemoryFault (t : SourceDesign) (f : Fault) : Type 0 where
   pub told : ShowsMemoryFault t f
   pub first :
-      (other : FirFault) (shown : ShowsMemoryFault t other) → is_before shown.shows.name.place told.shows.name.place ≡ false
+      (other : Fault) (shown : ShowsMemoryFault t other) → is_before shown.shows.name.place told.shows.name.place ≡ false
   pub first_instance :
-      (other : FirFault) (shown : ShowsMemoryFault t other) → shown.shows.name.place ≡ told.shows.name.place → told.number ≤ shown.number
+      (other : Fault) (shown : ShowsMemoryFault t other) → shown.shows.name.place ≡ told.shows.name.place → told.number ≤ shown.number
 
 abbrev pub memory_clock_group : CircuitTree → Group
 memory_clock_group c = record { shows = IsOfSource ShowsMemoryFault c; tells = IsOfSource TellsMemoryFault c }

@@ -19,7 +19,7 @@ use Rattle.fir_meaning.specs.SizedMemories.{sized_array}
 use Rattle.fir_meaning.specs.TypeLeaves.{TypeLeaf}
 use Rattle.fir_meaning.specs.TypedScopes.{TypedScope}
 use Rattle.fir_meaning.specs.Visibility.{Before, at_head, behind, behind_block, opened, reopened, with_declaration}
-use Rattle.fir_meaning.specs.MemoryPorts.{PortKind, reads, reads_and_writes, writes}
+use Rattle.fir_meaning.specs.MemoryPorts.{MemoryPortKind, reads, reads_and_writes, writes}
 use Rattle.fir_meaning.specs.FoundTypes.{leaves_of_data}
 use Rattle.fir_meaning.specs.LeafTypes.{LeafType}
 use Rattle.fir_meaning.specs.ModuleScenes.{Scene, behind_all_ports, held_by_declared, scope_before, type_of_declared}
@@ -75,7 +75,7 @@ pub record SourceArray : Type 0 where
 -- the ports of a memory, by their names
 pub record NamedPort : Type 0 where
   pub name : List ℕ
-  pub kind : PortKind
+  pub kind : MemoryPortKind
 
 abbrev pub ports_of_part : MemoryPart → List NamedPort
 ports_of_part (reader q names) = map (λ n. record { name = n.name; kind = reads }) names
@@ -83,7 +83,7 @@ ports_of_part (writer q names) = map (λ n. record { name = n.name; kind = write
 ports_of_part (readwriter q names) = map (λ n. record { name = n.name; kind = reads_and_writes }) names
 ports_of_part _ = []
 
-abbrev pub kind_of : List NamedPort → List ℕ → Option PortKind
+abbrev pub kind_of : List NamedPort → List ℕ → Option MemoryPortKind
 kind_of [] name = None
 kind_of (p ∷ ps) name = if bytes_eq p.name name then Some p.kind else kind_of ps name
 
@@ -115,7 +115,7 @@ read_role memory_name parts port needs q =
       needs = needed (port_field memory_name port (codes "en")) ∷ needs;
     }) (port_field memory_name port (codes "clk")) (under_write_of parts)
 
-abbrev pub port_role : List ℕ → List MemoryPart → List ℕ → List ℕ → LeafPath → Option PortKind → SourceRole
+abbrev pub port_role : List ℕ → List MemoryPart → List ℕ → List ℕ → LeafPath → Option MemoryPortKind → SourceRole
 port_role memory_name parts port field q None = source
 port_role memory_name parts port field q (Some reads) = if bytes_eq field (codes "data") then read_role memory_name parts port [] q else sink
 port_role memory_name parts port field q (Some writes) = sink
@@ -130,7 +130,7 @@ memory_role memory_name parts (named port ∷ named field ∷ q) = port_role mem
 memory_role memory_name parts _ = source
 
 -- what a port writes into the array of the data at a path
-abbrev pub port_writing : List ℕ → LeafPath → List ℕ → PortKind → List PathWriting
+abbrev pub port_writing : List ℕ → LeafPath → List ℕ → MemoryPortKind → List PathWriting
 port_writing memory_name q port reads = []
 port_writing memory_name q port writes = record {
   address = port_field memory_name port (codes "addr");

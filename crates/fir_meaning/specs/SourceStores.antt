@@ -8,7 +8,7 @@ use Rattle.std.specs.Prelude.{ℕ, List, [], ◌∷◌, ◌++◌, Bool, not, if�
 use Rattle.std.specs.Str.{bytes_eq}
 use Rattle.fir_ast.specs.Types.{DataType}
 use Rattle.fir_ast.specs.Expressions.{Expression}
-use Rattle.fir_ast.specs.Statements.{Sink, Statement, instance, when, connect, partial_connect, invalid, Block, done, then}
+use Rattle.fir_ast.specs.Statements.{SinkReference, Statement, instance, when, connect, partial_connect, invalid, Block, done, then}
 use Rattle.fir_bits.specs.Operators.{no_operand}
 use Rattle.fir_meaning.specs.ConnectPairs.{Pair, pairs, partial_pairs}
 use Rattle.fir_meaning.specs.Values.{is_high, fit}
@@ -35,7 +35,7 @@ below path f q = f (path ++ q)
 -- what an expression, what a sink names, and an invalid give to a leaf, all by paths in one module
 pub record Gifts (V : Type 0) : Type 0 where
   pub of_expression : TypedScope → Expression → LeafPath → LeafPath → V
-  pub of_sink : TypedScope → Sink → LeafPath → LeafPath → V
+  pub of_sink : TypedScope → SinkReference → LeafPath → LeafPath → V
   pub of_invalid : LeafPath → V
 
 -- of one module: its scene, the types and values of its leaves, what it gives, its path, and what the instance of a name stores
@@ -46,17 +46,17 @@ module _ {V : Type 0} (s : Scene) (holds : TypesByPath) (env : ValuesByPath) (gi
   source_kept (Some x) give taken store = if counts (source_depth s x) taken then kept_at (path ++ x) (give x) store else store
 
   -- a flipped leaf is driven on the right side, from the left
-  abbrev pub source_pair : TypedScope → Sink → Expression → List Bool → Pair → DesignStore V → DesignStore V
+  abbrev pub source_pair : TypedScope → SinkReference → Expression → List Bool → Pair → DesignStore V → DesignStore V
   source_pair scope sink e taken pair store =
       if pair.left.flip
       then source_kept (leaf_where (aim_read scope holds env e) pair.right.path) (gifts.of_sink scope sink pair.left.path) taken store
       else source_kept (leaf_where (aim_of scope holds env sink).at pair.left.path) (gifts.of_expression scope e pair.right.path) taken store
 
-  abbrev pub source_pairs : TypedScope → Sink → Expression → List Bool → List Pair → DesignStore V → DesignStore V
+  abbrev pub source_pairs : TypedScope → SinkReference → Expression → List Bool → List Pair → DesignStore V → DesignStore V
   source_pairs scope sink e taken [] store = store
   source_pairs scope sink e taken (pair ∷ rest) store = source_pairs scope sink e taken rest (source_pair scope sink e taken pair store)
 
-  abbrev pub source_connect : (DataType → DataType → List Pair) → TypedScope → Sink → Expression → List Bool → DesignStore V → DesignStore V
+  abbrev pub source_connect : (DataType → DataType → List Pair) → TypedScope → SinkReference → Expression → List Bool → DesignStore V → DesignStore V
   source_connect pairs_of scope sink e taken store =
       source_pairs scope sink e taken (pairs_of (aim_of scope holds env sink).data_type (type_where (expression_type scope e).has)) store
 

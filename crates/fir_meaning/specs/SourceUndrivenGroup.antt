@@ -1,11 +1,11 @@
 -- E24 in a circuit (FIRRTL spec, "Initialization of Components"): a leaf that statements must drive and that some choice leaves undriven.
 -- It stands at the leaf's declaration. Told is the first of these leaves in the order of the modules and of their leaves, with the first such choice.
-use Rattle.std.specs.Prelude.{◌≡◌, ℕ, ◌<◌, List, Some, slice_get, IsTrue}
-use Rattle.fir_ast.specs.declared.fault.FirFault.{FirFault}
-use Rattle.fir_ast.specs.declared.fault.FirFault.TheVariants.{Undriven}
+use Rattle.std.specs.Prelude.{◌≡◌, ℕ, ◌<◌, List, ◌++◌, codes, flat_map, Some, slice_get, IsTrue}
 use Rattle.fir_ast.specs.declared.fault.Outcome.{Outcome}
+use Rattle.fir_ast.specs.declared.place.Place.{Place}
+use Rattle.fir_ast.specs.Texts.{outcome_text}
 use Rattle.fir_ast.specs.Circuits.{CircuitTree}
-use Rattle.fir_pass.specs.Faults.{Fault, fault_of}
+use Rattle.fir_ast.specs.Faults.{E24, Fault}
 use Rattle.fir_pass.specs.Groups.{Group}
 use Rattle.fir_meaning.specs.LeafPaths.{path_text}
 use Rattle.fir_meaning.specs.ModuleScenes.{Scene}
@@ -17,13 +17,16 @@ use Rattle.fir_meaning.specs.SourceRoles.{SourceLeaf, source_leaves}
 use Rattle.fir_meaning.specs.SourceUndriven.{IsFirstUndriven, IsUndriven}
 use Rattle.fir_meaning.specs.Visits.{module_visits}
 
+abbrev pub undriven_fault : Place → List ℕ → List Outcome → Fault
+undriven_fault p leaf outcomes = record { code = E24; place = p; evidence = codes "undriven " ++ leaf ++ flat_map outcome_text outcomes }
+
 -- in the module of a scene
 module _ (s : Scene) where
-  pub record ShowsUndriven (l : SourceLeaf) (f : FirFault) : Type 0 where
+  pub record ShowsUndriven (l : SourceLeaf) (f : Fault) : Type 0 where
     pub outcomes : List Outcome
     pub is_sink : IsTrue (is_sink_role l.role)
     pub first : IsFirstUndriven s (source_depth s l.path) l.path (module_visits s.own.inside) outcomes
-    pub is : f ≡ Undriven (source_place s l.path) (path_text l.path) outcomes
+    pub is : f ≡ undriven_fault (source_place s l.path) (path_text l.path) outcomes
 
   -- no choice leaves a leaf undriven that statements must drive
   abbrev pub IsDriven : SourceLeaf → Type 0
@@ -42,9 +45,7 @@ pub record IsFaultOf (c : CircuitTree) (module_number number : ℕ) (f : Fault) 
   pub is_scene : IsSceneOf c module_number scene
   pub leaf : SourceLeaf
   pub is_leaf : slice_get (source_leaves scene) number ≡ Some leaf
-  pub fault : FirFault
-  pub shows : ShowsUndriven scene leaf fault
-  pub is : f ≡ fault_of fault
+  pub shows : ShowsUndriven scene leaf f
 
 pub record IsShown (c : CircuitTree) (f : Fault) : Type 0 where
   pub module_number : ℕ

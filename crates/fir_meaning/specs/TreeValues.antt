@@ -6,7 +6,7 @@ use Rattle.fir_bits.specs.declared.values.Num.{Num}
 use Rattle.fir_bits.specs.Operators.{outcome}
 use Rattle.fir_ast.specs.Types.{DataType}
 use Rattle.fir_ast.specs.Expressions.{Expression, reference, literal, operation, mux, validif, Parts, no_parts, subfield, subindex, subaccess, Expressions, no_expressions, expression}
-use Rattle.fir_ast.specs.Statements.{Sink}
+use Rattle.fir_ast.specs.Statements.{SinkReference}
 use Rattle.fir_meaning.specs.LeafPaths.{LeafPath}
 use Rattle.fir_meaning.specs.TypedScopes.{TypedScope}
 use Rattle.fir_meaning.specs.Values.{number_of, literal_value, is_high, choice, value_or_zero}
@@ -58,7 +58,7 @@ module _ (scope : TypedScope) (holds : TypesByPath) (env : ValuesByPath) where
     operand_values no_expressions = []
     operand_values (expression e es) = value e [] ∷ operand_values es
 
-  abbrev pub aim_of : Sink → Aim
+  abbrev pub aim_of : SinkReference → Aim
   aim_of s = aim_along (named_aim scope s.name) s.parts
 
   -- of an expression that is a reference

@@ -6,9 +6,9 @@ use Rattle.std.specs.Prelude.{List, [], ◌∷◌, ◌++◌, flat_map, if◌then
 use Rattle.fir_ast.specs.declared.place.Place.{Place}
 use Rattle.fir_ast.specs.Types.{DataType, uint, clock, reset, async_reset}
 use Rattle.fir_ast.specs.Expressions.{Expression}
-use Rattle.fir_ast.specs.Statements.{PlacedName, Sink, Reset, Statement, register, node, memory, when, connect, partial_connect, invalid, Block, done, then}
+use Rattle.fir_ast.specs.Statements.{PlacedName, SinkReference, Reset, Statement, register, node, memory, when, connect, partial_connect, invalid, Block, done, then}
 use Rattle.fir_ast.specs.Circuits.{ModuleTree, CircuitTree}
-use Rattle.fir_pass.specs.Faults.{Fault}
+use Rattle.fir_ast.specs.Faults.{Fault}
 use Rattle.fir_pass.specs.Groups.{Group, in_order}
 use Rattle.fir_meaning.specs.Components as component
 use Rattle.fir_meaning.specs.Visibility.{Before, with_declaration, opened, reopened, behind, behind_block, behind_ports, at_head}
@@ -56,7 +56,7 @@ flipped_faults n t = if is_passive t then [] else not_passive n.place t ∷ []
 abbrev pub register_type_faults : PlacedName → DataType → List Fault
 register_type_faults n t = (if is_numeric t then [] else wrong_kinds n.place (t ∷ []) ∷ []) ++ flipped_faults n t
 
-abbrev pub sides : TypedScope → Sink → Expression → Checked (Reached × DataType)
+abbrev pub sides : TypedScope → SinkReference → Expression → Checked (Reached × DataType)
 sides scope sink e = together (λ r t. (r, t)) (reaching scope sink) (expression_type scope e)
 
 -- what is declared so far, with its types

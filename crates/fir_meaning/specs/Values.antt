@@ -1,7 +1,6 @@
 -- The values of leaves and literals, and what a condition picks (FIRRTL spec, "Expressions", "Literals", "Multiplexers", "Connects").
--- A mux is the first arm where its condition is 1, else the second, at the greater one of their widths; a validif is its value where the condition is 1, else
--- zero.
--- A source that is wider than its sink is cut, in `<=` too, a choice of this project.
+-- A mux is the first arm where its condition is 1, else the second, at the greater one of their widths; a validif is its value where the condition is 1.
+-- That it is zero where the condition is 0, and that a source that is wider than its sink is cut, in `<=` too, are choices of this project.
 use Rattle.std.specs.Prelude.{ℕ, List, Option, Some, None, max, min, Bool, ◌==◌, if◌then◌else◌}
 use Rattle.fir_bits.specs.declared.types.NumTy.{NumTy}
 use Rattle.fir_bits.specs.declared.values.Num.{Num}

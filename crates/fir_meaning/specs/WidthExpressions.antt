@@ -20,13 +20,13 @@ pub data Width : Type 0 where
   greater : Width → Width → Width
   guarded : Width → Width → Width
 
-abbrev pub width_of : Width → Widths → ℕ
-width_of (known n) w = min n 129
-width_of (unknown k) w = min (w k) 129
-width_of (single op signed a n m) w = counted_width op signed (width_of a w) 0 n m
-width_of (pair op signed a b) w = counted_width op signed (width_of a w) (width_of b w) 0 0
-width_of (greater a b) w = max (width_of a w) (width_of b w)
-width_of (guarded c a) w = if nat_lt (width_of c w) 129 then width_of a w else 129
+abbrev pub width_under : Width → Widths → ℕ
+width_under (known n) w = min n 129
+width_under (unknown k) w = min (w k) 129
+width_under (single op signed a n m) w = counted_width op signed (width_under a w) 0 n m
+width_under (pair op signed a b) w = counted_width op signed (width_under a w) (width_under b w) 0 0
+width_under (greater a b) w = max (width_under a w) (width_under b w)
+width_under (guarded c a) w = if nat_lt (width_under c w) 129 then width_under a w else 129
 
 -- an unknown is at least as wide as an expression
 pub record Rule : Type 0 where
@@ -34,7 +34,7 @@ pub record Rule : Type 0 where
   pub at_least : Width
 
 pub record MeetsRules (rules : List Rule) (w : Widths) : Type 0 where
-  pub each : (r : Rule) → In rules r → width_of r.at_least w ≤ w r.number
+  pub each : (r : Rule) → In rules r → width_under r.at_least w ≤ w r.number
 
 -- the least assignment that meets all rules, unknown by unknown; one without a rule is 0
 pub record IsLeastOf (rules : List Rule) (w : Widths) : Type 0 where

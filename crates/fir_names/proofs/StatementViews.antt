@@ -11,7 +11,7 @@ use Rattle.fir_ast.specs.declared.statements.Stmt.TheOpen as layer
 use Rattle.fir_ast.specs.declared.statements.When.{When, fold_out-When}
 use Rattle.fir_ast.specs.Statements.{Statement, wire, when, partial_connect, invalid}
 use Rattle.fir_ast.specs.working.Views.{block_of, expr_of, named_of, sink_of, stmt_of, stmt_step, when_step}
-use Rattle.fir_ast.specs.View.{type_of}
+use Rattle.fir_ast.specs.working.TypeViews.{type_of}
 use Rattle.fir_names.specs.working.Parts.{when_view}
 
 pub wire_view : (p : Place) (i : Ident) (begins : Place) (t : Ty) → stmt_of (code.Wire p i begins t) ≡ wire p (named_of i) begins (type_of t)

@@ -5,7 +5,7 @@ use Rattle.std.specs.Str.{bytes_eq}
 use Rattle.fir_base.specs.Lists.{In}
 use Rattle.fir_base.proofs.SameNames.{name_same}
 use Rattle.fir_ast.specs.Statements.{PlacedName}
-use Rattle.fir_pass.specs.Faults.{Fault}
+use Rattle.fir_ast.specs.Faults.{Fault}
 use Rattle.fir_pass.specs.Groups.{first_of}
 use Rattle.fir_meaning.specs.Components.{Declaration, Declarations, find, find_name}
 use Rattle.fir_meaning.specs.NameGroups.{twice, second_faults}

@@ -2,24 +2,21 @@
 -- dependence.
 use Rattle.std.specs.Prelude.{◌≡◌, ℕ, List, ◌⊎◌, codes}
 use Rattle.fir_base.specs.Lists.{In}
-use Rattle.fir_ast.specs.declared.fault.FirFault.{FirFault}
-use Rattle.fir_ast.specs.declared.fault.FirFault.TheVariants.{Unsupported}
-use Rattle.fir_ast.specs.FaultLines.{fault_line}
+use Rattle.fir_ast.specs.Faults.{Fault, fault_line}
 use Rattle.fir_ast.specs.Circuits.{CircuitTree}
-use Rattle.fir_pass.specs.Faults.{fault_of}
 use Rattle.fir_pass.specs.Law.{IsFirst}
 use Rattle.fir_lex.specs.Tokens.{Placed}
 use Rattle.fir_lex.specs.TokensOf.{AreTokensOf}
 use Rattle.fir_parse.specs.declared.lexeme.Mark.TheVariants.{OpenCurly}
 use Rattle.fir_parse.specs.Lexemes.{Terminal, mark, word}
 use Rattle.fir_parse.specs.Spells.{Spells, terminals}
-use Rattle.fir_parse.specs.TextFaults.{TextFault}
+use Rattle.fir_parse.specs.TextFaults.{TextFault, unsupported_fault}
 use Rattle.fir_meaning.specs.Lack.{Lack}
 use Rattle.fir_meaning.specs.SourceMeaning.{circuit_meaning}
 use Rattle.fir_outcome.specs.CircuitFaults.{IsClearUpTo, IsFirstUpTo, LacksFirst, LacksNone}
 
 -- of the faults in the circuit of the text (E08 to E24), this one is told
-pub record ShowsFault (bytes : List ℕ) (f : FirFault) : Type 0 where
+pub record ShowsFault (bytes : List ℕ) (f : Fault) : Type 0 where
   pub circuit : CircuitTree
   pub spelled : Spells bytes circuit
   pub first : IsFirstUpTo 9 circuit f
@@ -31,7 +28,7 @@ NamesItsToken ts l =
     ⊎ (l.word ≡ codes "{") × In ts (record { lexeme = mark OpenCurly; place = l.place })
 
 -- none of these stands in the circuit of the text, and this is the first form that is lacking
-pub record Lacks (bytes : List ℕ) (f : FirFault) : Type 0 where
+pub record Lacks (bytes : List ℕ) (f : Fault) : Type 0 where
   pub circuit : CircuitTree
   pub spelled : Spells bytes circuit
   pub clear : IsClearUpTo 9 circuit
@@ -40,19 +37,19 @@ pub record Lacks (bytes : List ℕ) (f : FirFault) : Type 0 where
   pub tokens : List Placed
   pub of_text : AreTokensOf bytes tokens
   pub at_its_token : NamesItsToken (terminals tokens) lack
-  pub stands : f ≡ Unsupported lack.place lack.word
+  pub stands : f ≡ unsupported_fault lack.place lack.word
 
 -- and none is lacking, but of the faults behind these (E25 to E28) this one is told
-pub record ShowsLater (bytes : List ℕ) (f : FirFault) : Type 0 where
+pub record ShowsLater (bytes : List ℕ) (f : Fault) : Type 0 where
   pub circuit : CircuitTree
   pub spelled : Spells bytes circuit
   pub clear : IsClearUpTo 9 circuit
   pub in_language : LacksNone circuit
-  pub first : IsFirst 10 13 (circuit_meaning circuit) (fault_of f)
+  pub first : IsFirst 10 13 (circuit_meaning circuit) f
 
-abbrev pub RefusedFor : List ℕ → FirFault → Type 0
+abbrev pub RefusedFor : List ℕ → Fault → Type 0
 RefusedFor bytes f = TextFault bytes f ⊎ ShowsFault bytes f ⊎ Lacks bytes f ⊎ ShowsLater bytes f
 
 -- the line of that fault
 abbrev pub Refuses : List ℕ → List ℕ → Type 0
-Refuses bytes line = (f : FirFault) × RefusedFor bytes f × (line ≡ fault_line f)
+Refuses bytes line = (f : Fault) × RefusedFor bytes f × (line ≡ fault_line f)

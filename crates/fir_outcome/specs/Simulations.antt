@@ -9,7 +9,7 @@ use Rattle.fir_meaning.specs.SourceCircuits.{source_shape}
 use Rattle.fir_meaning.specs.SourceDesigns.{SourceDesign}
 use Rattle.fir_meaning.specs.SourceOne.{One}
 use Rattle.trace_text.specs.declared.fault.TraceFault.{TraceFault}
-use Rattle.trace_text.specs.Lines.{AreLines}
+use Rattle.trace_text.specs.Lines.{AreTraceLines}
 use Rattle.trace_text.specs.Shapes.{TraceShape}
 use Rattle.trace_text.specs.TraceSpells.{LinesSpell, TraceSpells}
 use Rattle.trace_text.specs.BadLine.{BadLine}
@@ -55,7 +55,7 @@ PrintsBadly text trace with_state line printed = Prints text with_state (SaysBad
 
 -- the lines at the front of the trace say this
 abbrev pub SaysFront : List ℕ → TraceShape → List ℕ → List Tick → Type 0
-SaysFront trace s init ticks = (lines : List (List ℕ)) × AreLines trace lines × LinesSpell s lines init ticks
+SaysFront trace s init ticks = (lines : List (List ℕ)) × AreTraceLines trace lines × LinesSpell s lines init ticks
 
 abbrev pub PrintsFront : List ℕ → List ℕ → Bool → List ℕ → Type 0
 PrintsFront text trace with_state printed = Prints text with_state (SaysFront trace) printed

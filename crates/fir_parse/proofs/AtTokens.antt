@@ -5,7 +5,7 @@ use Rattle.fir_ast.specs.declared.fault.FirFault.TheVariants.{Syntax, Unsupporte
 use Rattle.fir_ast.specs.Circuits.{CircuitTree}
 use Rattle.fir_parse.specs.Lexemes.{Terminal}
 use Rattle.fir_parse.specs.Limits.{Limit}
-use Rattle.fir_parse.specs.working.States.{State, Bound, done, limit, wants, Step, takes, without, refuses, unsupported, fault_of, limit_of}
+use Rattle.fir_parse.specs.working.States.{State, Bound, done, limit, wants, Step, takes, without, refuses, unsupported, bound_fault, limit_of}
 use Rattle.fir_parse.specs.working.Reading.{Outcome, step, goes_on, at_token, at_end}
 use Rattle.fir_parse.specs.working.Reaching.{Verdict, continues, unexpected, missing, judge, verdict_by, passed_limit}
 use Rattle.fir_parse.proofs.Guards.{Guard, unlimited, firm, guard_of, Meets, Guarded}
@@ -62,14 +62,14 @@ within_limits counts (wants s k) t behind h e =
     (λ x empty. within_limits counts (k x) t behind (h x).0 (kept_behind counts (guard_of s x) (k x) empty (h x).1))
 
 -- a limit is passed
-pub past_limit : (counts : Limit → Bool) (st : State) (l : Bound) (t : Terminal) (behind : State → Outcome) → passed_limit st ≡ Some l → counts (limit_of l) ≡ true → at_token counts st t behind ≡ Err (fault_of l)
+pub past_limit : (counts : Limit → Bool) (st : State) (l : Bound) (t : Terminal) (behind : State → Outcome) → passed_limit st ≡ Some l → counts (limit_of l) ≡ true → at_token counts st t behind ≡ Err (bound_fault l)
 past_limit counts (done c) l t behind e h = absurd (cc)
 past_limit counts (limit true m st) l t behind e h = let same : m ≡ l = cc in rw same (rw h refl)
 past_limit counts (limit false m st) l t behind e h = rw (not_both (counts (limit_of m)) false (λ c. refl)) (past_limit counts st l t behind e h)
 past_limit counts (wants s k) l t behind e h = absurd (cc)
 
 -- at the end
-pub end_past_limit : (counts : Limit → Bool) (end : Place) (st : State) (l : Bound) → passed_limit st ≡ Some l → counts (limit_of l) ≡ true → at_end counts end st ≡ Err (fault_of l)
+pub end_past_limit : (counts : Limit → Bool) (end : Place) (st : State) (l : Bound) → passed_limit st ≡ Some l → counts (limit_of l) ≡ true → at_end counts end st ≡ Err (bound_fault l)
 end_past_limit counts end (done c) l e h = absurd (cc)
 end_past_limit counts end (limit true m st) l e h = let same : m ≡ l = cc in rw same (rw h refl)
 end_past_limit counts end (limit false m st) l e h = rw (not_both (counts (limit_of m)) false (λ c. refl)) (end_past_limit counts end st l e h)

@@ -6,7 +6,8 @@ use Rattle.fir_ast.specs.declared.place.Place.{Place}
 use Rattle.fir_ast.specs.declared.types.Field.{Field}
 use Rattle.fir_ast.specs.Types.{Fields, no_fields, field}
 use Rattle.fir_ast.specs.working.BundleText.{field_of}
-use Rattle.fir_ast.specs.View.{type_of, fields_of}
+use Rattle.fir_ast.specs.View.{fields_of}
+use Rattle.fir_ast.specs.working.TypeViews.{type_of}
 use Rattle.fir_ast.proofs.Fields.{field_of-is}
 use Rattle.fir_parse.specs.working.BundlePlans.{some_fields, before}
 use Rattle.fir_parse.specs.Heights.{type_height, fields_height}

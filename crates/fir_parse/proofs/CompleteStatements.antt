@@ -2,7 +2,7 @@
 use Rattle.std.proofs.Common.{ℕ, ◌+◌, List, codes, refl}
 use Rattle.fir_base.specs.declared.direction.Direction.{Direction}
 use Rattle.fir_ast.specs.declared.place.Place.{Place}
-use Rattle.fir_ast.specs.Statements.{Sink, Reset}
+use Rattle.fir_ast.specs.Statements.{SinkReference, Reset}
 use Rattle.fir_parse.specs.declared.lexeme.Mark.TheVariants.{Connect, Arrow, OpenRound, CloseRound, Comma, Colon}
 use Rattle.fir_parse.specs.Lexemes.{word, mark, annotations, line_end, level_opens, level_closes}
 use Rattle.fir_parse.specs.working.Symbols.{OpenWhen, Tree, statements, behind_first, behind_is, behind_else, behind_sink, an_indented_block, a_reset, behind_with, a_memory_body, a_memory_field, more_memory_fields, more_names, an_under_write, a_text, some_annotations, first_module, more_modules, a_body, ports_and_statements, behind_direction, behind_port_is}
@@ -23,7 +23,7 @@ complete_is d p w q k h = taken (behind_is d p w q) k (word (codes "invalid")) _
 pub complete_else : (d n : ℕ) (p : Place) (k : Tree (behind_else d n p) → State) → ((x : Tree (behind_else d n p)) → Completion (k x)) → Completion (wants (behind_else d n p) k)
 complete_else d n p k h = taken (behind_else d n p) k (mark Connect) _ refl (complete_expression d _ (λ e. (complete_line_end _ (λ q. h _), refl)))
 
-pub complete_sink : (d : ℕ) (s : Sink) (k : Tree (behind_sink d s) → State) → ((x : Tree (behind_sink d s)) → Completion (k x)) → Completion (wants (behind_sink d s) k)
+pub complete_sink : (d : ℕ) (s : SinkReference) (k : Tree (behind_sink d s) → State) → ((x : Tree (behind_sink d s)) → Completion (k x)) → Completion (wants (behind_sink d s) k)
 complete_sink d s k h = taken (behind_sink d s) k (mark Connect) _ refl (complete_expression d _ (λ e. (complete_line_end _ (λ q. h _), refl)))
 
 pub complete_block : (d : ℕ) (k : Tree (an_indented_block d) → State) → ((x : Tree (an_indented_block d)) → Completion (k x)) → Completion (wants (an_indented_block d) k)

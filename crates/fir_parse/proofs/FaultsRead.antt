@@ -3,14 +3,16 @@ use Rattle.std.proofs.Common.{◌≡◌, ℕ, true, false, List, [], ◌∷◌, 
 use Rattle.fir_ast.specs.declared.place.Place.{Place}
 use Rattle.fir_ast.specs.declared.fault.FirFault.{FirFault}
 use Rattle.fir_ast.specs.declared.fault.FirFault.TheVariants as fault
+use Rattle.fir_ast.specs.Faults.{Fault}
+use Rattle.fir_ast.specs.working.CodeFaults.{fault_of}
 use Rattle.fir_ast.specs.Circuits.{CircuitTree}
 use Rattle.fir_parse.specs.Lexemes.{Terminal}
 use Rattle.fir_parse.specs.Limits.{everywhere}
 use Rattle.fir_parse.specs.CircuitForms.{IsSpelled}
 use Rattle.fir_parse.specs.Fronts.{IsText, IsFront, StopsAt, all_limits, no_limit, only_numbers, only_nesting, only_versions}
-use Rattle.fir_parse.specs.TextFaults.{place_at, NoneIsMissing, IsInteger, Shows, IsFirst}
-use Rattle.fir_parse.specs.working.States.{State, Bound, number_at, nesting_at, version_at, fault_of}
-use Rattle.fir_parse.specs.working.Reading.{at_end, read_on, read, whole}
+use Rattle.fir_parse.specs.TextFaults.{version_fault, place_at, NoneIsMissing, IsInteger, ShowsUnexpected, ShowsUnsupported, ShowsLimit, Shows, IsFirstTextFault}
+use Rattle.fir_parse.specs.working.States.{State, Bound, number_at, nesting_at, version_at, bound_fault}
+use Rattle.fir_parse.specs.working.Reading.{Outcome, at_end, read_on, read, whole}
 use Rattle.fir_parse.specs.working.Reaching.{Verdict, continues, unexpected, missing, judge, passed_limit, Reaches}
 use Rattle.fir_parse.proofs.Guards.{Guarded}
 use Rattle.fir_parse.proofs.AtTokens.{outcome_of, within_limits, past_limit, end_past_limit, end_within_limits, none_is_kept, kept_is_none, ends_so}
@@ -27,7 +29,7 @@ use Rattle.fir_parse.proofs.MissingStatements.{Ends}
 use Rattle.fir_parse.proofs.FormsReadCircuits.{forms_read}
 
 -- a limit that is passed is shown at once
-limit_reads : (end : Place) (last : State) (back : List Terminal) (l : Bound) → passed_limit last ≡ Some l → read_on everywhere end last back ≡ Err (fault_of l)
+limit_reads : (end : Place) (last : State) (back : List Terminal) (l : Bound) → passed_limit last ≡ Some l → read_on everywhere end last back ≡ Err (bound_fault l)
 unfolding read_on
 limit_reads end last [] l e = end_past_limit (λ x. true) end last l e refl
 limit_reads end last (t ∷ back) l e = past_limit (λ x. true) last l t _ e refl
@@ -73,8 +75,8 @@ unexpected_reads end front (t ∷ back) last r g none stops not_missing = by_ver
 read_to : (end : Place) (front back : List Terminal) (last : State) (f : FirFault) → Reaches whole front last → read_on everywhere end last back ≡ Err f → read end (front ++ back) ≡ Err f
 read_to end front back last f r h = along_within_limits everywhere front whole last end back whole_guarded r ∙ h
 
-read_past : (end : Place) (front back : List Terminal) (t : Terminal) (last : State) (l : Bound) → Reaches whole (front ++ t ∷ []) last → passed_limit last ≡ Some l → read end (front ++ t ∷ back) ≡ Err (fault_of l)
-read_past end front back t last l r e = ap (read end) (sym (append_assoc front (t ∷ []) back)) ∙ read_to end (front ++ t ∷ []) back last (fault_of l) r (limit_reads end last back l e)
+read_past : (end : Place) (front back : List Terminal) (t : Terminal) (last : State) (l : Bound) → Reaches whole (front ++ t ∷ []) last → passed_limit last ≡ Some l → read end (front ++ t ∷ back) ≡ Err (bound_fault l)
+read_past end front back t last l r e = ap (read end) (sym (append_assoc front (t ∷ []) back)) ∙ read_to end (front ++ t ∷ []) back last (bound_fault l) r (limit_reads end last back l e)
 
 -- what the token is to the state behind it
 behind : (front : List Terminal) (t : Terminal) (last : State) → Reaches whole (front ++ t ∷ []) last → (kind : Kind) × Follows kind t last
@@ -83,42 +85,58 @@ behind front t last r = let parts = reaches_split front t whole last r in token_
 same_number : (t : Terminal) (n m : ℕ) → IsInteger n t → IsInteger m t → n ≡ m
 same_number t n m (s, e, v) (u, f, w) = let same : s ≡ u = cc in cc
 
-shown_reads : (end : Place) (front back : List Terminal) (f : FirFault) → Shows end front back f → read end (front ++ back) ≡ Err f
-shown_reads end front back (fault.Syntax p) (e, within, stops, not_missing) =
+-- reading ends with this fault
+abbrev pub EndsWith : Outcome → Fault → Type 0
+EndsWith o f = (g : FirFault) × (o ≡ Err g) × (f ≡ fault_of g)
+
+unexpected_shown : (end : Place) (front back : List Terminal) (f : Fault) → ShowsUnexpected end front back f → EndsWith (read end (front ++ back)) f
+unexpected_shown end front back f (e, within, stops, not_missing) =
     let x = reached_within all_limits front within in
     let g = guarded_along front whole x.0 whole_guarded x.1 in
-    read_to end front back x.0 (fault.Syntax p) x.1 (unexpected_reads end front back x.0 x.1 g (kept_is_none x.0 x.2) stops not_missing ∙ ap (λ q. Err (fault.Syntax q)) (sym e))
-shown_reads end front [] (fault.Unsupported p w) h = absurd h
-shown_reads end front (t ∷ back) (fault.Unsupported p w) (within, stops, m) =
+    let reads = unexpected_reads end front back x.0 x.1 g (kept_is_none x.0 x.2) stops not_missing in
+    (fault.Syntax (place_at end back), read_to end front back x.0 (fault.Syntax (place_at end back)) x.1 reads, e)
+
+unsupported_shown : (end : Place) (front back : List Terminal) (t : Terminal) (f : Fault) → ShowsUnsupported front t back f → EndsWith (read end (front ++ t ∷ back)) f
+unsupported_shown end front back t f (p, w, e, within, stops, m) =
     let x = reached_within all_limits front within in
     let g = guarded_along front whole x.0 whole_guarded x.1 in
     let none = kept_is_none x.0 x.2 in
-    read_to end front (t ∷ back) x.0 (fault.Unsupported p w) x.1
-    (verdict_reads end x.0 t back (missing p w) g none (missing_told front x.0 t p w x.1 m (stops_ends front back t x.0 x.1 none stops)))
-shown_reads end front [] (fault.BadLiteral p) h = absurd h
-shown_reads end front (t ∷ back) (fault.BadLiteral p) (e, (within, passed)) =
+    let reads =
+    verdict_reads end x.0 t back (missing p w) g none (missing_told front x.0 t p w x.1 m (stops_ends front back t x.0 x.1 none stops)) in
+    (fault.Unsupported p w, read_to end front (t ∷ back) x.0 (fault.Unsupported p w) x.1 reads, e)
+
+limit_shown : (end : Place) (front back : List Terminal) (t : Terminal) (f : Fault) → ShowsLimit front t f → EndsWith (read end (front ++ t ∷ back)) f
+limit_shown end front back t f (inl (e, (within, passed))) =
     let x = reached_within no_limit (front ++ t ∷ []) within in
-    let f = behind front t x.0 x.1 in
-    read_past end front back t x.0 (number_at t.place) x.1 (passes_number f.0 t x.0 f.1 (λ k. passed (front_within only_numbers (front ++ t ∷ []) x.0 x.1 k))) ∙ ap (λ q. Err (fault.BadLiteral q)) (sym e)
-shown_reads end front [] (fault.Depth p) h = absurd h
-shown_reads end front (t ∷ back) (fault.Depth p) (e, (within, passed)) =
+    let kind = behind front t x.0 x.1 in
+    let past = passes_number kind.0 t x.0 kind.1 (λ k. passed (front_within only_numbers (front ++ t ∷ []) x.0 x.1 k)) in
+    (fault.BadLiteral t.place, read_past end front back t x.0 (number_at t.place) x.1 past, e)
+limit_shown end front back t f (inr (inl (e, (within, passed)))) =
     let x = reached_within no_limit (front ++ t ∷ []) within in
-    let f = behind front t x.0 x.1 in
-    read_past end front back t x.0 (nesting_at t.place) x.1 (passes_nesting f.0 t x.0 f.1 (λ k. passed (front_within only_nesting (front ++ t ∷ []) x.0 x.1 k))) ∙ ap (λ q. Err (fault.Depth q)) (sym e)
-shown_reads end front [] (fault.Version p n) h = absurd h
-shown_reads end front (t ∷ back) (fault.Version p n) (e, i, (within, passed)) =
+    let kind = behind front t x.0 x.1 in
+    let past = passes_nesting kind.0 t x.0 kind.1 (λ k. passed (front_within only_nesting (front ++ t ∷ []) x.0 x.1 k)) in
+    (fault.Depth t.place, read_past end front back t x.0 (nesting_at t.place) x.1 past, e)
+limit_shown end front back t f (inr (inr (n, e, i, (within, passed)))) =
     let x = reached_within only_numbers (front ++ t ∷ []) within in
-    let f = behind front t x.0 x.1 in
-    let v = passes_version f.0 t x.0 f.1 x.2 (λ k. passed (front_within only_versions (front ++ t ∷ []) x.0 x.1 k)) in
-    let number : v.0 ≡ n = same_number t v.0 n v.1 i in
-    read_past end front back t x.0 (version_at t.place v.0) x.1 v.2 ∙ ap (λ m. Err (fault.Version t.place m)) number ∙ ap (λ q. Err (fault.Version q n)) (sym e)
-shown_reads end front back f h = absurd h
+    let kind = behind front t x.0 x.1 in
+    let v = passes_version kind.0 t x.0 kind.1 x.2 (λ k. passed (front_within only_versions (front ++ t ∷ []) x.0 x.1 k)) in
+    let number : n ≡ v.0 = same_number t n v.0 i v.1 in
+    (fault.Version t.place v.0, read_past end front back t x.0 (version_at t.place v.0) x.1 v.2, e ∙ ap (version_fault t.place) number)
 
-pub first_reads : (end : Place) (ts : List Terminal) (f : FirFault) → IsFirst end ts f → read end ts ≡ Err f
-first_reads end ts f (front, back, parts, shows) = ap (read end) parts ∙ shown_reads end front back f shows
+shown_reads : (end : Place) (front back : List Terminal) (f : Fault) → Shows end front back f → EndsWith (read end (front ++ back)) f
+shown_reads end front [] f h = unexpected_shown end front [] f h
+shown_reads end front (t ∷ back) f (inl h) = unexpected_shown end front (t ∷ back) f h
+shown_reads end front (t ∷ back) f (inr (inl h)) = unsupported_shown end front back t f h
+shown_reads end front (t ∷ back) f (inr (inr h)) = limit_shown end front back t f h
 
-pub one_fault : (end : Place) (ts : List Terminal) (f g : FirFault) → IsFirst end ts f → IsFirst end ts g → f ≡ g
-one_fault end ts f g p q = let one = first_reads end ts f p in let other = first_reads end ts g q in cc
+pub first_reads : (end : Place) (ts : List Terminal) (f : Fault) → IsFirstTextFault end ts f → EndsWith (read end ts) f
+first_reads end ts f (front, back, parts, shows) = let h = shown_reads end front back f shows in (h.0, ap (read end) parts ∙ h.1, h.2)
 
-pub no_tree : (end : Place) (ts : List Terminal) (f : FirFault) (c : CircuitTree) → IsFirst end ts f → IsSpelled everywhere c ts → ⊥
-no_tree end ts f c p s = let fails = first_reads end ts f p in let ends = forms_read everywhere end ts c s in absurd (cc)
+same_end : (o : Outcome) (f g : Fault) → EndsWith o f → EndsWith o g → f ≡ g
+same_end o f g (a, is_a, e) (b, is_b, d) = let same : a ≡ b = cc in e ∙ ap fault_of same ∙ sym d
+
+pub one_fault : (end : Place) (ts : List Terminal) (f g : Fault) → IsFirstTextFault end ts f → IsFirstTextFault end ts g → f ≡ g
+one_fault end ts f g p q = same_end (read end ts) f g (first_reads end ts f p) (first_reads end ts g q)
+
+pub no_tree : (end : Place) (ts : List Terminal) (f : Fault) (c : CircuitTree) → IsFirstTextFault end ts f → IsSpelled everywhere c ts → ⊥
+no_tree end ts f c p s = let fails = (first_reads end ts f p).1 in let ends = forms_read everywhere end ts c s in absurd (cc)

@@ -3,11 +3,13 @@ use Rattle.std.proofs.Common.{◌≡◌, ℕ, Bool, true, false, List, [], ◌�
 use Rattle.fir_ast.specs.declared.place.Place.{Place}
 use Rattle.fir_ast.specs.declared.fault.FirFault.{FirFault}
 use Rattle.fir_ast.specs.declared.fault.FirFault.TheVariants as fault
+use Rattle.fir_ast.specs.working.CodeFaults.{fault_of}
+use Rattle.fir_lex.specs.TokenFaults.{literal_fault}
 use Rattle.fir_parse.specs.Lexemes.{Terminal}
 use Rattle.fir_parse.specs.Limits.{Limit}
 use Rattle.fir_parse.specs.Fronts.{IsText, StopsAt, IsFrontWithin, all_limits, no_limit, only_numbers, only_nesting, only_versions}
-use Rattle.fir_parse.specs.TextFaults.{place_at, Shows, IsFirst}
-use Rattle.fir_parse.specs.working.States.{State, Bound, number_at, nesting_at, version_at, fault_of, limit_of}
+use Rattle.fir_parse.specs.TextFaults.{place_at, depth_fault, version_fault, Shows, IsFirstTextFault}
+use Rattle.fir_parse.specs.working.States.{State, Bound, number_at, nesting_at, version_at, bound_fault, limit_of}
 use Rattle.fir_parse.specs.working.Reading.{at_end, read_on, read, whole}
 use Rattle.fir_parse.specs.working.Reaching.{Verdict, unexpected, missing, judge, passed_limit, Reaches, next_verdict}
 use Rattle.fir_parse.proofs.AtTokens.{Kept, none_is_kept}
@@ -19,7 +21,7 @@ use Rattle.fir_parse.proofs.PassedLimits.{token_follows, nothing_kept, IsPassedA
 use Rattle.fir_parse.proofs.MissingTells.{stands, missing_told}
 use Rattle.fir_parse.proofs.MissingFound.{missing_found}
 use Rattle.fir_parse.proofs.MissingStatements.{Ends}
-use Rattle.fir_parse.proofs.Halting.{IsOpen, PassesLimit, IsUnexpected, Halts, halts_in}
+use Rattle.fir_parse.proofs.Halting.{IsOpen, PassesLimit, StopsUnexpected, Halts, halts_in}
 
 -- ---- no text goes on
 
@@ -43,7 +45,7 @@ missing_ends u p w e next h = absurd (cc)
 -- ---- a limit that is passed
 
 abbrev ShownAt : Place → List Terminal → List Terminal → Terminal → Bound → Type 0
-ShownAt end before back t l = Shows end before (t ∷ back) (fault_of l)
+ShownAt end before back t l = Shows end before (t ∷ back) (fault_of (bound_fault l))
 
 not_within : (asked : Limit → Bool) (front : List Terminal) (last : State) (l : Bound) → Reaches whole front last → passed_limit last ≡ Some l → asked (limit_of l) ≡ true → IsFrontWithin asked front → ⊥
 not_within asked front last l r e h x =
@@ -52,13 +54,13 @@ not_within asked front last l r e h x =
 
 shown_limit : (end : Place) (before back : List Terminal) (t : Terminal) (last : State) (l : Bound) → Reaches whole (before ++ t ∷ []) last → passed_limit last ≡ Some l → IsPassedAt t last l → ShownAt end before back t l
 shown_limit end before back t last (number_at p) r e h =
-    (h, (front_within no_limit (before ++ t ∷ []) last r (nothing_kept last), not_within only_numbers (before ++ t ∷ []) last (number_at p) r e refl))
+    inr (inr (inl (ap literal_fault h, (front_within no_limit (before ++ t ∷ []) last r (nothing_kept last), not_within only_numbers (before ++ t ∷ []) last (number_at p) r e refl))))
 shown_limit end before back t last (nesting_at p) r e h =
-    (h, (front_within no_limit (before ++ t ∷ []) last r (nothing_kept last), not_within only_nesting (before ++ t ∷ []) last (nesting_at p) r e refl))
+    inr (inr (inr (inl (ap depth_fault h, (front_within no_limit (before ++ t ∷ []) last r (nothing_kept last), not_within only_nesting (before ++ t ∷ []) last (nesting_at p) r e refl)))))
 shown_limit end before back t last (version_at p n) r e h =
-    (h.0, h.1, (front_within only_numbers (before ++ t ∷ []) last r h.2, not_within only_versions (before ++ t ∷ []) last (version_at p n) r e refl))
+    inr (inr (inr (inr (n, ap (λ q. version_fault q n) h.0, h.1, (front_within only_numbers (before ++ t ∷ []) last r h.2, not_within only_versions (before ++ t ∷ []) last (version_at p n) r e refl)))))
 
-first_limit : (end : Place) (front back : List Terminal) (last : State) (f : FirFault) → Reaches whole front last → PassesLimit last f → ((front ≡ []) × (whole ≡ last)) ⊎ Last whole front last → IsFirst end (front ++ back) f
+first_limit : (end : Place) (front back : List Terminal) (last : State) (f : FirFault) → Reaches whole front last → PassesLimit last f → ((front ≡ []) × (whole ≡ last)) ⊎ Last whole front last → IsFirstTextFault end (front ++ back) (fault_of f)
 first_limit end front back last f r (l, e, same) (inl h) = let none : passed_limit whole ≡ Some l = ap passed_limit h.1 ∙ e in absurd (cc)
 first_limit end front back last f r (l, e, same) (inr h) =
     let g = guarded_along h.before whole h.state whole_guarded h.reaches in
@@ -66,27 +68,27 @@ first_limit end front back last f r (l, e, same) (inr h) =
     let reaches : Reaches whole (h.before ++ h.token ∷ []) last = subst (λ ts. Reaches whole ts last) h.parts r in
     let parts : front ++ back ≡ h.before ++ h.token ∷ back = ap (λ ts. ts ++ back) h.parts ∙ append_assoc h.before (h.token ∷ []) back in
     let shown = shown_limit end h.before back h.token last l reaches e (passed_at follows.0 h.token last l follows.1 e) in
-    (h.before, h.token ∷ back, parts, subst (Shows end h.before (h.token ∷ back)) (sym same) shown)
+    (h.before, h.token ∷ back, parts, subst (λ g. Shows end h.before (h.token ∷ back) (fault_of g)) (sym same) shown)
 
 -- ---- a token that is not expected, and a form that is not in the language
 
-first_unexpected : (end : Place) (front back : List Terminal) (last : State) (f : FirFault) → Reaches whole front last → IsUnexpected end last back f → Shows end front back (fault.Syntax (place_at end back))
-first_unexpected end front [] last f r (none, e, ends_open, same) = (refl, front_within all_limits front last r (none_is_kept all_limits last none), stops_at_open front last r ends_open, tt)
+first_unexpected : (end : Place) (front back : List Terminal) (last : State) (f : FirFault) → Reaches whole front last → StopsUnexpected end last back f → Shows end front back (fault_of f)
+first_unexpected end front [] last f r (none, e, ends_open, same) = (ap fault_of same, front_within all_limits front last r (none_is_kept all_limits last none), stops_at_open front last r ends_open, tt)
 first_unexpected end front (t ∷ back) last f r (none, e, ends_open, same) =
     let ends : Ends (judge last t) = unexpected_ends (judge last t) e in
-    (refl, front_within all_limits front last r (none_is_kept all_limits last none), stops_at_token front back t last r ends, λ p w m. let told = missing_told front last t p w r m ends in absurd (cc))
+    inl (ap fault_of same, front_within all_limits front last r (none_is_kept all_limits last none), stops_at_token front back t last r ends, λ p w m. let told = missing_told front last t p w r m ends in absurd (cc))
 
-first_missing : (end : Place) (front back : List Terminal) (last : State) (f : FirFault) (p : Place) (w : List ℕ) → Reaches whole front last → passed_limit last ≡ None → next_verdict last back ≡ missing p w → Shows end front back (fault.Unsupported p w)
-first_missing end front [] last f p w r none e = absurd (cc)
-first_missing end front (t ∷ back) last f p w r none e =
-    (front_within all_limits front last r (none_is_kept all_limits last none), stops_at_token front back t last r (missing_ends (judge last t) p w e), missing_found front last t p w r e)
+first_missing : (end : Place) (front back : List Terminal) (last : State) (p : Place) (w : List ℕ) → Reaches whole front last → passed_limit last ≡ None → next_verdict last back ≡ missing p w → Shows end front back (fault_of (fault.Unsupported p w))
+first_missing end front [] last p w r none e = absurd (cc)
+first_missing end front (t ∷ back) last p w r none e =
+    inr (inl (p, w, refl, front_within all_limits front last r (none_is_kept all_limits last none), stops_at_token front back t last r (missing_ends (judge last t) p w e), missing_found front last t p w r e))
 
-first : (end : Place) (front back : List Terminal) (last : State) (f : FirFault) → Reaches whole front last → Halts end last back f → IsFirst end (front ++ back) f
+first : (end : Place) (front back : List Terminal) (last : State) (f : FirFault) → Reaches whole front last → Halts end last back f → IsFirstTextFault end (front ++ back) (fault_of f)
 first end front back last f r (inl h) = first_limit end front back last f r h (by_last front whole last r)
-first end front back last f r (inr (inl h)) = (front, back, refl, subst (Shows end front back) (sym h.3) (first_unexpected end front back last f r h))
-first end front back last f r (inr (inr h)) = (front, back, refl, subst (Shows end front back) (sym h.4) (first_missing end front back last f h.0 h.1 r h.2 h.3))
+first end front back last f r (inr (inl h)) = (front, back, refl, first_unexpected end front back last f r h)
+first end front back last f r (inr (inr h)) = (front, back, refl, subst (λ g. Shows end front back (fault_of g)) (sym h.4) (first_missing end front back last h.0 h.1 r h.2 h.3))
 
-pub first_fault : (end : Place) (ts : List Terminal) (f : FirFault) → read end ts ≡ Err f → IsFirst end ts f
+pub first_fault : (end : Place) (ts : List Terminal) (f : FirFault) → read end ts ≡ Err f → IsFirstTextFault end ts (fault_of f)
 first_fault end ts f e =
     let h = halts_in ts end whole f whole_guarded e in
-    subst (λ us. IsFirst end us f) (sym h.parts) (first end h.front h.back h.last f h.reaches h.halts)
+    subst (λ us. IsFirstTextFault end us (fault_of f)) (sym h.parts) (first end h.front h.back h.last f h.reaches h.halts)

@@ -9,7 +9,7 @@ use Rattle.fir_ast.specs.Circuits.{ModuleTree}
 use Rattle.fir_parse.specs.declared.lexeme.Mark.TheVariants.{OpenCurly}
 use Rattle.fir_parse.specs.Lexemes.{Lexeme, word, mark, level_closes, Terminal}
 use Rattle.fir_parse.specs.Limits.{Limits}
-use Rattle.fir_parse.specs.Pieces.{◌▸◌, Closes, Token}
+use Rattle.fir_parse.specs.Pieces.{◌▸◌, Closes, TokenAt}
 use Rattle.fir_parse.specs.TypeForms.{IsType}
 use Rattle.fir_parse.specs.ExpressionForms.{literal_word, IsExpression}
 use Rattle.fir_parse.specs.StatementForms.{IsStatement, AreStatements}
@@ -19,7 +19,7 @@ use Rattle.fir_parse.proofs.Peeled.{passes}
 abbrev pub Begun : List Terminal → Type 0
 Begun a = (t : Terminal) × (ts : List Terminal) × (a ≡ t ∷ ts) × (passes t.lexeme ≡ true)
 
-begun : (l : Lexeme) (p : Place) (a b : List Terminal) → passes l ≡ true → Token l p a b → Begun a
+begun : (l : Lexeme) (p : Place) (a b : List Terminal) → passes l ≡ true → TokenAt l p a b → Begun a
 begun l p a b h e = (record { lexeme = l; place = p }, b, e, h)
 
 module _ (limits : Limits) where

@@ -11,10 +11,10 @@ use Rattle.fir_base.specs.declared.direction.Direction.{Direction}
 use Rattle.fir_parse.specs.declared.lexeme.Mark.TheVariants.{OpenRound, CloseRound, CloseCurly, Colon}
 use Rattle.fir_parse.specs.Lexemes.{Lexeme, Terminal, word, mark, line_end, level_opens, level_closes}
 use Rattle.fir_parse.specs.Numbers.{Numeral, is_allowed, literal_of}
-use Rattle.fir_parse.specs.Pieces.{◌▸◌, At, Either, Given, Nothing, Token, Sign, Word, LineEnd, Opens, Closes, Annotations, Name, FieldName, IntAt}
+use Rattle.fir_parse.specs.Pieces.{◌▸◌, At, Either, Given, Nothing, TokenAt, Sign, WordToken, LineEnd, Opens, Closes, Annotations, NameToken, FieldName, IntAt}
 use Rattle.fir_parse.specs.TypeForms.{IsWidth, IsFlip, IsType, AreFields, AreMoreFields}
 use Rattle.fir_parse.specs.ExpressionForms.{IsNumeral, IsExpression, AreParts, IsSink}
-use Rattle.fir_parse.specs.StatementForms.{IsResetPair, IsReset, AreNames, under_write_word, IsMemoryPart, AreMemoryParts, IsMemoryBody, IsStatement, AreStatements, IsBlock, IsElse}
+use Rattle.fir_parse.specs.StatementForms.{IsResetPair, IsRegisterReset, AreNames, under_write_word, IsMemoryPart, AreMemoryParts, IsMemoryBody, IsStatement, AreStatements, IsBlock, IsElse}
 use Rattle.fir_parse.specs.CircuitForms.{direction_word, IsPort, ArePorts, IsBody, AreModules, AreSomeModules, IsVersion}
 use Rattle.fir_parse.specs.working.Symbols.{Sym, Tree, FieldTree, IndexTree, plain_index, computed_index, OpenWhen, Begun, statement, open_when, Otherwise, else_block, else_when, no_else, PortOr, port, no_port, a_mark, a_word, a_name, a_field_name, a_natural, a_line_end, an_opening, a_closing, a_type, a_width, dimensions, fields, more_fields, a_field, behind_flip, an_expression, behind_word, parts, an_index, a_literal, statements, behind_first, behind_is, behind_else, behind_sink, an_indented_block, a_reset, behind_with, a_memory_body, a_memory_field, more_memory_fields, more_names, an_under_write, a_text, some_annotations, first_module, more_modules, a_body, ports_and_statements, behind_direction, behind_port_is}
 use Rattle.fir_parse.specs.working.States.{State, done, limit_of, limit, wants, Step, takes, without, refuses, unsupported}
@@ -45,7 +45,7 @@ module _ (limits : Limits) where
 
   -- a when as far as its block
   abbrev pub IsOpenWhen : ℕ → OpenWhen → List Terminal → List Terminal → Type 0
-  IsOpenWhen d o = Token (word (codes "when")) o.place ▸ IsExpression limits d o.condition ▸ Sign Colon ▸ LineEnd ▸ Within limits nesting (d < 256) ▸ IsBlock limits (d + 1) o.block
+  IsOpenWhen d o = TokenAt (word (codes "when")) o.place ▸ IsExpression limits d o.condition ▸ Sign Colon ▸ LineEnd ▸ Within limits nesting (d < 256) ▸ IsBlock limits (d + 1) o.block
 
   abbrev pub IsBegun : ℕ → Begun → List Terminal → List Terminal → Type 0
   IsBegun d (statement s) = IsStatement limits d s
@@ -69,7 +69,7 @@ module _ (limits : Limits) where
 
   abbrev pub IsWholeText : CircuitTree → List Terminal → List Terminal → Type 0
   IsWholeText c =
-      Either Nothing (IsVersion limits) ▸ Word (codes "circuit") ▸ Name c.named ▸ Sign Colon ▸ Either Nothing Annotations ▸ LineEnd ▸ Opens ▸ AreSomeModules limits c.modules ▸ Closes
+      Either Nothing (IsVersion limits) ▸ WordToken (codes "circuit") ▸ NameToken c.named ▸ Sign Colon ▸ Either Nothing Annotations ▸ LineEnd ▸ Opens ▸ AreSomeModules limits c.modules ▸ Closes
 
   -- with the word of a direction
   abbrev pub IsPortOr : Direction → List ℕ → PortOr → List Terminal → List Terminal → Type 0
@@ -78,19 +78,19 @@ module _ (limits : Limits) where
 
   -- the tokens from the first list to the second are those of a symbol with this tree; a symbol behind a word is taken with that word
   abbrev pub Is : (s : Sym) → Tree s → List Terminal → List Terminal → Type 0
-  Is (a_mark m) q a z = Token (mark m) q a z
-  Is (a_word w) q a z = Token (word w) q a z
-  Is a_name n a z = Name n a z
+  Is (a_mark m) q a z = TokenAt (mark m) q a z
+  Is (a_word w) q a z = TokenAt (word w) q a z
+  Is a_name n a z = NameToken n a z
   Is a_field_name n a z = FieldName n a z
   Is a_natural n a z = IntAt limits n.number n.place a z
-  Is a_line_end q a z = Token line_end q a z
-  Is an_opening q a z = Token level_opens q a z
-  Is a_closing q a z = Token level_closes q a z
+  Is a_line_end q a z = TokenAt line_end q a z
+  Is an_opening q a z = TokenAt level_opens q a z
+  Is a_closing q a z = TokenAt level_closes q a z
   Is (a_type d) t a z = (At t.place ▸ IsType limits d t.data_type) a z
   Is a_width w a z = IsWidth limits w a z
   Is (dimensions d t) x a z = (before : List Terminal) → IsType limits d t before a → IsType limits d x before z
-  Is (fields d) fs a z = (AreFields limits d fs.fields ▸ Token (mark CloseCurly) fs.close) a z
-  Is (more_fields d) fs a z = (AreMoreFields limits d fs.fields ▸ Token (mark CloseCurly) fs.close) a z
+  Is (fields d) fs a z = (AreFields limits d fs.fields ▸ TokenAt (mark CloseCurly) fs.close) a z
+  Is (more_fields d) fs a z = (AreMoreFields limits d fs.fields ▸ TokenAt (mark CloseCurly) fs.close) a z
   Is (a_field d) f a z = IsField d f a z
   Is (behind_flip d p) f a z = IsField d f (token_at (word (codes "flip")) p ∷ a) z
   Is (an_expression d) e a z = IsExpression limits d e a z
@@ -105,13 +105,13 @@ module _ (limits : Limits) where
   Is (behind_else d n p) x a z = IsOtherwise d n p x a z
   Is (behind_sink d s) t a z = (before : List Terminal) → IsSink limits d s before a → IsStatement limits d t before z
   Is (an_indented_block d) b a z = IsBlock limits d b a z
-  Is (a_reset d) r a z = IsReset limits d r a z
+  Is (a_reset d) r a z = IsRegisterReset limits d r a z
   Is (behind_with d p) r a z = IsBehindWith d p r a z
   Is (a_memory_body d) fs a z = IsMemoryBody limits d fs a z
   Is (a_memory_field d) f a z = IsMemoryPart limits d f a z
   Is (more_memory_fields d) fs a z = (AreMemoryParts limits d fs ▸ Closes) a z
   Is more_names ns a z = (AreNames ns ▸ LineEnd) a z
-  Is an_under_write u a z = Word (under_write_word u) a z
+  Is an_under_write u a z = WordToken (under_write_word u) a z
   Is a_text c a z = IsWholeText c a z
   Is some_annotations u a z = Either Nothing Annotations a z
   Is first_module ms a z = (AreSomeModules limits ms ▸ Closes) a z

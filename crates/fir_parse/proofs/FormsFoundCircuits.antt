@@ -9,7 +9,7 @@ use Rattle.fir_parse.specs.declared.words.ModuleWord.{ModuleWord}
 use Rattle.fir_parse.specs.declared.words.ModuleWord.TheVariants as modules
 use Rattle.fir_parse.specs.Lexemes.{Lexeme, Terminal, word, mark, annotations, level_opens, level_closes}
 use Rattle.fir_parse.specs.working.Words.{direction_of, module_word_of}
-use Rattle.fir_parse.specs.Pieces.{Either, Nothing, Annotations, Word, Name, Sign}
+use Rattle.fir_parse.specs.Pieces.{Either, Nothing, Annotations, WordToken, NameToken, Sign}
 use Rattle.fir_parse.specs.CircuitForms.{direction_word, IsBody, IsVersion}
 use Rattle.fir_parse.specs.working.Symbols.{statement, PortOr, port, no_port, BodyTree, a_mark, behind_first, behind_direction, behind_port_is, ports_and_statements, first_module, more_modules}
 use Rattle.fir_parse.specs.working.States.{State, Step, wants, mapped}
@@ -40,7 +40,7 @@ known_by n h c = is_known n (holds (is_known_version n) h c)
 
 module _ (limits : Limits) where
   -- ports
-  found_port : (r : Direction) (n : PlacedName) (w : List ℕ) (p : Place) (m1 m2 m3 : List Terminal) → Name n m1 m2 → Sign Colon m2 m3 → (k : PortOr → State) (c : CircuitTree) → Derives limits (port_rest r n k) c m3 → Found limits (IsPortOr limits r w) k c (token_at (word w) p ∷ m1)
+  found_port : (r : Direction) (n : PlacedName) (w : List ℕ) (p : Place) (m1 m2 m3 : List Terminal) → NameToken n m1 m2 → Sign Colon m2 m3 → (k : PortOr → State) (c : CircuitTree) → Derives limits (port_rest r n k) c m3 → Found limits (IsPortOr limits r w) k c (token_at (word w) p ∷ m1)
   found_port r n w p m1 m2 m3 x s k c (t, m, y, (q, rest, l, more)) =
       (port (record { direction = r; named = n; type_place = t.place; data_type = t.data_type }), rest, (λ h. (m1, (p, token_of (direction_word r) w p m1 h), (m2, x, (m3, s, (m, y, (q, l)))))), more)
 
@@ -134,7 +134,7 @@ module _ (limits : Limits) where
   extends_annotations _ p ts = inl refl
 
   -- circuits
-  found_circuit : (a m0 m : List Terminal) → Either Nothing (IsVersion limits) a m0 → Word (codes "circuit") m0 m → (k : CircuitTree → State) (c : CircuitTree) → Derives limits (circuit_rest k) c m → Found limits (IsWholeText limits) k c a
+  found_circuit : (a m0 m : List Terminal) → Either Nothing (IsVersion limits) a m0 → WordToken (codes "circuit") m0 m → (k : CircuitTree → State) (c : CircuitTree) → Derives limits (circuit_rest k) c m → Found limits (IsWholeText limits) k c a
   found_circuit a m0 m v w k c (n, m1, x, (p1, m2, s, (u, m3, y, (p2, m4, l, (p3, m5, o, (ms, z, (m6, t, e), more)))))) =
       (record { named = n; modules = ms }, z, (m0, v, (m, w, (m1, x, (m2, (p1, s), (m3, y, (m4, (p2, l), (m5, (p3, o), (m6, t, e)))))))), more)
 

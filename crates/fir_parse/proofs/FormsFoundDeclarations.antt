@@ -12,7 +12,7 @@ use Rattle.fir_parse.specs.declared.words.Lead.{Lead}
 use Rattle.fir_parse.specs.declared.words.Lead.TheVariants as lead
 use Rattle.fir_parse.specs.Lexemes.{Lexeme, Terminal, word, mark, line_end}
 use Rattle.fir_parse.specs.working.Words.{lead_of}
-use Rattle.fir_parse.specs.Pieces.{Token, Name, Sign, Word}
+use Rattle.fir_parse.specs.Pieces.{TokenAt, NameToken, Sign, WordToken}
 use Rattle.fir_parse.specs.ExpressionForms.{IsExpression, AreParts}
 use Rattle.fir_parse.specs.working.Symbols.{OpenWhen, Begun, statement, open_when, behind_first, behind_is}
 use Rattle.fir_parse.specs.working.States.{State, Step, wants, refuses, unsupported}
@@ -27,26 +27,26 @@ use Rattle.fir_parse.specs.Limits.{Limits}
 
 module _ (limits : Limits) where
   -- behind the name and the sign of a declaration
-  found_wire : (d : ℕ) (p : Place) (n : PlacedName) (a m1 m2 m3 : List Terminal) → Token (word (codes "wire")) p a m1 → Name n m1 m2 → Sign Colon m2 m3 → (k : Begun → State) (c : CircuitTree) → Derives limits (wire_rest d p n (begun k)) c m3 → Found limits (IsBegun limits d) k c a
+  found_wire : (d : ℕ) (p : Place) (n : PlacedName) (a m1 m2 m3 : List Terminal) → TokenAt (word (codes "wire")) p a m1 → NameToken n m1 m2 → Sign Colon m2 m3 → (k : Begun → State) (c : CircuitTree) → Derives limits (wire_rest d p n (begun k)) c m3 → Found limits (IsBegun limits d) k c a
   found_wire d p n a m1 m2 m3 t x s k c (y, m, z, (q, rest, l, more)) = (statement (wire p n y.place y.data_type), rest, (m1, t, (m2, x, (m3, s, (m, z, (q, l))))), more)
 
-  found_register : (d : ℕ) (p : Place) (n : PlacedName) (a m1 m2 m3 : List Terminal) → Token (word (codes "reg")) p a m1 → Name n m1 m2 → Sign Colon m2 m3 → (k : Begun → State) (c : CircuitTree) → Derives limits (register_rest d p n (begun k)) c m3 → Found limits (IsBegun limits d) k c a
+  found_register : (d : ℕ) (p : Place) (n : PlacedName) (a m1 m2 m3 : List Terminal) → TokenAt (word (codes "reg")) p a m1 → NameToken n m1 m2 → Sign Colon m2 m3 → (k : Begun → State) (c : CircuitTree) → Derives limits (register_rest d p n (begun k)) c m3 → Found limits (IsBegun limits d) k c a
   found_register d p n a m1 m2 m3 t x s k c (y, m4, z, (q, m5, u, (e, m6, v, (r, rest, w, more)))) = (statement (register p n y.place y.data_type e r), rest, (m1, t, (m2, x, (m3, s, (m4, z, (m5, (q, u), (m6, v, w)))))), more)
 
-  found_node : (d : ℕ) (p : Place) (n : PlacedName) (a m1 m2 m3 : List Terminal) → Token (word (codes "node")) p a m1 → Name n m1 m2 → Sign Equals m2 m3 → (k : Begun → State) (c : CircuitTree) → Derives limits (node_rest d p n (begun k)) c m3 → Found limits (IsBegun limits d) k c a
+  found_node : (d : ℕ) (p : Place) (n : PlacedName) (a m1 m2 m3 : List Terminal) → TokenAt (word (codes "node")) p a m1 → NameToken n m1 m2 → Sign Equals m2 m3 → (k : Begun → State) (c : CircuitTree) → Derives limits (node_rest d p n (begun k)) c m3 → Found limits (IsBegun limits d) k c a
   found_node d p n a m1 m2 m3 t x s k c (y, m, z, (q, rest, l, more)) = (statement (node p n y), rest, (m1, t, (m2, x, (m3, s, (m, z, (q, l))))), more)
 
-  found_instance : (d : ℕ) (p : Place) (n : PlacedName) (a m1 m2 m3 : List Terminal) → Token (word (codes "inst")) p a m1 → Name n m1 m2 → Word (codes "of") m2 m3 → (k : Begun → State) (c : CircuitTree) → Derives limits (instance_rest p n (begun k)) c m3 → Found limits (IsBegun limits d) k c a
+  found_instance : (d : ℕ) (p : Place) (n : PlacedName) (a m1 m2 m3 : List Terminal) → TokenAt (word (codes "inst")) p a m1 → NameToken n m1 m2 → WordToken (codes "of") m2 m3 → (k : Begun → State) (c : CircuitTree) → Derives limits (instance_rest p n (begun k)) c m3 → Found limits (IsBegun limits d) k c a
   found_instance d p n a m1 m2 m3 t x s k c (y, m, z, (q, rest, l, more)) = (statement (instance p n y), rest, (m1, t, (m2, x, (m3, s, (m, z, (q, l))))), more)
 
-  found_memory : (d : ℕ) (p : Place) (n : PlacedName) (a m1 m2 m3 : List Terminal) → Token (word (codes "mem")) p a m1 → Name n m1 m2 → Sign Colon m2 m3 → (k : Begun → State) (c : CircuitTree) → Derives limits (memory_rest d p n (begun k)) c m3 → Found limits (IsBegun limits d) k c a
+  found_memory : (d : ℕ) (p : Place) (n : PlacedName) (a m1 m2 m3 : List Terminal) → TokenAt (word (codes "mem")) p a m1 → NameToken n m1 m2 → Sign Colon m2 m3 → (k : Begun → State) (c : CircuitTree) → Derives limits (memory_rest d p n (begun k)) c m3 → Found limits (IsBegun limits d) k c a
   found_memory d p n a m1 m2 m3 t x s k c (q, m, l, (fs, rest, y, more)) = (statement (memory p n fs), rest, (m1, t, (m2, x, (m3, s, (m, (q, l), y)))), more)
 
   -- behind the colon of a when
-  pub found_when_block : (d : ℕ) (p : Place) (e : Expression) (a m1 m2 m3 : List Terminal) → Token (word (codes "when")) p a m1 → IsExpression limits d e m1 m2 → Sign Colon m2 m3 → (k : OpenWhen → State) (c : CircuitTree) → Derives limits (when_block d p e k) c m3 → Found limits (IsOpenWhen limits d) k c a
+  pub found_when_block : (d : ℕ) (p : Place) (e : Expression) (a m1 m2 m3 : List Terminal) → TokenAt (word (codes "when")) p a m1 → IsExpression limits d e m1 m2 → Sign Colon m2 m3 → (k : OpenWhen → State) (c : CircuitTree) → Derives limits (when_block d p e k) c m3 → Found limits (IsOpenWhen limits d) k c a
   found_when_block d p e a m1 m2 m3 t x s k c (q, m, l, (lt, (b, rest, y, more))) = (record { place = p; condition = e; block = b }, rest, (m1, t, (m2, x, (m3, s, (m, (q, l), (m, (within d lt, refl), y))))), more)
 
-  pub found_when_rest : (d : ℕ) (p : Place) (e : Expression) (a m1 m2 : List Terminal) → Token (word (codes "when")) p a m1 → IsExpression limits d e m1 m2 → (k : OpenWhen → State) (c : CircuitTree) → Derives limits (when_rest d p e k) c m2 → Found limits (IsOpenWhen limits d) k c a
+  pub found_when_rest : (d : ℕ) (p : Place) (e : Expression) (a m1 m2 : List Terminal) → TokenAt (word (codes "when")) p a m1 → IsExpression limits d e m1 m2 → (k : OpenWhen → State) (c : CircuitTree) → Derives limits (when_rest d p e k) c m2 → Found limits (IsOpenWhen limits d) k c a
   found_when_rest d p e a m1 m2 t x k c (q, m, s, more) = found_when_block d p e a m1 m2 m t x (q, s) k c more
 
   begun_when : (d : ℕ) (a : List Terminal) (k : Begun → State) (c : CircuitTree) → Found limits (IsOpenWhen limits d) (λ s. k (open_when s)) c a → Found limits (IsBegun limits d) k c a

@@ -9,8 +9,8 @@ use Rattle.fir_parse.specs.declared.words.FieldWord.{FieldWord}
 use Rattle.fir_parse.specs.declared.words.FieldWord.TheVariants as memory
 use Rattle.fir_parse.specs.Lexemes.{Lexeme, Terminal, word, dash_word, mark, line_end, level_opens, level_closes}
 use Rattle.fir_parse.specs.working.Words.{plain_field_word, dash_field_word, under_write_of}
-use Rattle.fir_parse.specs.Pieces.{◌▸◌, Sign, Word, Int, LineEnd, Token, Either, Opens, Closes}
-use Rattle.fir_parse.specs.StatementForms.{IsResetPair, IsReset, IsNames, under_write_word, IsMemoryPart, IsMemoryBody}
+use Rattle.fir_parse.specs.Pieces.{◌▸◌, Sign, WordToken, Int, LineEnd, TokenAt, Either, Opens, Closes}
+use Rattle.fir_parse.specs.StatementForms.{IsResetPair, IsRegisterReset, IsNames, under_write_word, IsMemoryPart, IsMemoryBody}
 use Rattle.fir_parse.specs.working.Symbols.{a_mark, an_opening, a_closing, a_type, an_under_write, behind_with, a_memory_field, more_memory_fields, more_names}
 use Rattle.fir_parse.specs.working.States.{State, wants, Step, takes, without, refuses, unsupported, opens}
 use Rattle.fir_parse.specs.working.StatementRules.{ends_line, reset_rest, reset_step, with_step}
@@ -33,10 +33,10 @@ module _ (limits : Limits) where
   found_names : (d : ℕ) (make : Place → List PlacedName → MemoryPart) (p : Place) (a ts : List Terminal) → ((ns : List PlacedName) (m : List Terminal) → IsNames ns ts m → IsMemoryPart limits d (make p ns) a m) → (k : MemoryPart → State) (c : CircuitTree) → Derives limits (names_field make p k) c ts → Found limits (IsMemoryPart limits d) k c a
   found_names d make p a ts h k c (q, m1, s, (n, m2, x, (ns, rest, (m3, y, l), more))) = (make p (n ∷ ns), rest, h (n ∷ ns) rest (m1, (q, s), (m2, x, (m3, y, l))), more)
 
-  found_data_type : (d : ℕ) (p : Place) (a ts : List Terminal) → Token (dash_word (codes "data-type")) p a ts → (k : MemoryPart → State) (c : CircuitTree) → Derives limits (wants (a_mark Arrow) (λ q. wants (a_type d) (λ t. ends_line (data_type p t.place t.data_type) k))) c ts → Found limits (IsMemoryPart limits d) k c a
+  found_data_type : (d : ℕ) (p : Place) (a ts : List Terminal) → TokenAt (dash_word (codes "data-type")) p a ts → (k : MemoryPart → State) (c : CircuitTree) → Derives limits (wants (a_mark Arrow) (λ q. wants (a_type d) (λ t. ends_line (data_type p t.place t.data_type) k))) c ts → Found limits (IsMemoryPart limits d) k c a
   found_data_type d p a ts e k c (q, m1, s, (t, m2, x, (r, rest, l, more))) = (data_type p t.place t.data_type, rest, (ts, e, (m1, (q, s), (m2, x, (r, l)))), more)
 
-  found_rule : (d : ℕ) (p : Place) (a ts : List Terminal) → Token (dash_word (codes "read-under-write")) p a ts → (k : MemoryPart → State) (c : CircuitTree) → Derives limits (wants (a_mark Arrow) (λ q. wants an_under_write (λ u. ends_line (read_under_write p u) k))) c ts → Found limits (IsMemoryPart limits d) k c a
+  found_rule : (d : ℕ) (p : Place) (a ts : List Terminal) → TokenAt (dash_word (codes "read-under-write")) p a ts → (k : MemoryPart → State) (c : CircuitTree) → Derives limits (wants (a_mark Arrow) (λ q. wants an_under_write (λ u. ends_line (read_under_write p u) k))) c ts → Found limits (IsMemoryPart limits d) k c a
   found_rule d p a ts e k c (q, m1, s, (u, m2, x, (r, rest, l, more))) = (read_under_write p u, rest, (ts, e, (m1, (q, s), (m2, x, (r, l)))), more)
 
   by_plain : (f : FieldWord) (d : ℕ) (w : List ℕ) (p : Place) (ts : List Terminal) → IsPlainField w f → Extends limits (IsMemoryPart limits d) (token_at (word w) p) ts (by_field_word f d p)
@@ -104,11 +104,11 @@ module _ (limits : Limits) where
   extends_more_names (word w) p ts = found_name w p ts
   extends_more_names _ p ts = tt
 
-  by_rule : (u : Option ReadUnderWrite) (w : List ℕ) (p : Place) (ts : List Terminal) → IfSome u (λ v. w ≡ under_write_word v) → Extends limits (λ v. Word (under_write_word v)) (token_at (word w) p) ts (under_write u)
+  by_rule : (u : Option ReadUnderWrite) (w : List ℕ) (p : Place) (ts : List Terminal) → IfSome u (λ v. w ≡ under_write_word v) → Extends limits (λ v. WordToken (under_write_word v)) (token_at (word w) p) ts (under_write u)
   by_rule (Some u) w p ts e = λ k c more. (u, ts, (p, token_of (under_write_word u) w p ts e), more)
   by_rule None w p ts e = tt
 
-  pub extends_under_write : (l : Lexeme) (p : Place) (ts : List Terminal) → Extends limits (λ v. Word (under_write_word v)) (token_at l p) ts (under_write_step l)
+  pub extends_under_write : (l : Lexeme) (p : Place) (ts : List Terminal) → Extends limits (λ v. WordToken (under_write_word v)) (token_at l p) ts (under_write_step l)
   extends_under_write (word w) p ts = by_rule (under_write_of w) w p ts (under_write_found w)
   extends_under_write _ p ts = tt
 
@@ -135,17 +135,17 @@ module _ (limits : Limits) where
   extends_with d at line_end p ts = found_lines d at p ts
   extends_with d at _ p ts = tt
 
-  found_no_reset : (d : ℕ) (p : Place) (ts : List Terminal) (k : Option Reset → State) (c : CircuitTree) → Derives limits (k None) c ts → Found limits (IsReset limits d) k c (token_at line_end p ∷ ts)
+  found_no_reset : (d : ℕ) (p : Place) (ts : List Terminal) (k : Option Reset → State) (c : CircuitTree) → Derives limits (k None) c ts → Found limits (IsRegisterReset limits d) k c (token_at line_end p ∷ ts)
   found_no_reset d p ts k c more = (None, ts, (p, refl), more)
 
-  found_reset : (d : ℕ) (w : List ℕ) (p : Place) (ts : List Terminal) → w ≡ codes "with" → (k : Option Reset → State) (c : CircuitTree) → Derives limits (wants (a_mark Colon) (λ q. wants (behind_with d p) (λ r. k (Some r)))) c ts → Found limits (IsReset limits d) k c (token_at (word w) p ∷ ts)
+  found_reset : (d : ℕ) (w : List ℕ) (p : Place) (ts : List Terminal) → w ≡ codes "with" → (k : Option Reset → State) (c : CircuitTree) → Derives limits (wants (a_mark Colon) (λ q. wants (behind_with d p) (λ r. k (Some r)))) c ts → Found limits (IsRegisterReset limits d) k c (token_at (word w) p ∷ ts)
   found_reset d w p ts e k c (q, m1, s, (r, rest, (m2, (same, here), x), more)) =
       let P : Place → Type 0 = λ at. token_at (word w) p ∷ ts ≡ token_at (word (codes "with")) at ∷ ts in
       let Q : List Terminal → Type 0 = λ y.
       Either (Sign OpenRound ▸ Within limits nesting (d < 256) ▸ IsResetPair limits (d + 1) r ▸ Sign CloseRound ▸ LineEnd) (LineEnd ▸ Opens ▸ IsResetPair limits d r ▸ LineEnd ▸ Closes) y rest in
       (Some r, rest, (ts, subst P same (token_of (codes "with") w p ts e), (m1, (q, s), subst Q (sym here) x)), more)
 
-  pub extends_reset : (d : ℕ) (l : Lexeme) (p : Place) (ts : List Terminal) → Extends limits (IsReset limits d) (token_at l p) ts (reset_step d l p)
+  pub extends_reset : (d : ℕ) (l : Lexeme) (p : Place) (ts : List Terminal) → Extends limits (IsRegisterReset limits d) (token_at l p) ts (reset_step d l p)
   extends_reset d line_end p ts = found_no_reset d p ts
-  extends_reset d (word w) p ts = by_word (Extends limits (IsReset limits d) (token_at (word w) p) ts) w (codes "with") _ _ (found_reset d w p ts) tt
+  extends_reset d (word w) p ts = by_word (Extends limits (IsRegisterReset limits d) (token_at (word w) p) ts) w (codes "with") _ _ (found_reset d w p ts) tt
   extends_reset d _ p ts = tt

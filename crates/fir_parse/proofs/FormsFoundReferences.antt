@@ -8,7 +8,7 @@ use Rattle.fir_ast.specs.Circuits.{CircuitTree}
 use Rattle.fir_parse.specs.declared.lexeme.Mark.TheVariants.{Less, OpenRound, CloseRound, OpenSquare, Dot}
 use Rattle.fir_parse.specs.Lexemes.{Lexeme, Terminal, word, mark, integer, text}
 use Rattle.fir_parse.specs.Numbers.{Numeral, is_in_range, is_allowed, integer_value, text_value, literal_of}
-use Rattle.fir_parse.specs.Pieces.{◌▸◌, Token, Sign}
+use Rattle.fir_parse.specs.Pieces.{◌▸◌, TokenAt, Sign}
 use Rattle.fir_parse.specs.TypeForms.{IsWidth}
 use Rattle.fir_parse.specs.ExpressionForms.{literal_word, IsNumeral, IsLiteral, IsExpression, AreParts}
 use Rattle.fir_parse.specs.working.Symbols.{plain_index, computed_index, a_literal}
@@ -46,7 +46,7 @@ module _ (limits : Limits) where
   found_reference d p w a k c (ps, rest, x, more) = (reference p w ps, rest, (a, refl, x), more)
 
   -- literals
-  literal_spelled : (d : ℕ) (p : Place) (signed : Bool) (width : Option ℕ) (n : Option Numeral) (l : Literal) (a m1 m2 m3 m4 b : List Terminal) → Token (word (literal_word signed)) p a m1 → IsWidth limits width m1 m2 → Sign OpenRound m2 m3 → (limits nesting m3 ≡ true → d < 256) → l ≡ literal_of p signed width n → (IsNumeral n ▸ Within limits numbers (is_allowed signed n ≡ true)) m3 m4 → Sign CloseRound m4 b → IsLiteral limits d l a b
+  literal_spelled : (d : ℕ) (p : Place) (signed : Bool) (width : Option ℕ) (n : Option Numeral) (l : Literal) (a m1 m2 m3 m4 b : List Terminal) → TokenAt (word (literal_word signed)) p a m1 → IsWidth limits width m1 m2 → Sign OpenRound m2 m3 → (limits nesting m3 ≡ true → d < 256) → l ≡ literal_of p signed width n → (IsNumeral n ▸ Within limits numbers (is_allowed signed n ≡ true)) m3 m4 → Sign CloseRound m4 b → IsLiteral limits d l a b
   literal_spelled d p signed width None l a m1 m2 m3 m4 b t w o lt same x s =
       let P : Literal → Type 0 = λ y. IsLiteral limits d y a b in
       subst P (sym same) (m1, t, (m2, w, (m3, o, (m3, (lt, refl), (m4, (None, refl, x), s)))))
@@ -54,16 +54,16 @@ module _ (limits : Limits) where
       let P : Literal → Type 0 = λ y. IsLiteral limits d y a b in
       subst P (sym same) (m1, t, (m2, w, (m3, o, (m3, (lt, refl), (m4, (Some n, refl, x), s)))))
 
-  found_literal : (d : ℕ) (p : Place) (signed : Bool) (width : Option ℕ) (a m1 m2 m3 : List Terminal) → Token (word (literal_word signed)) p a m1 → IsWidth limits width m1 m2 → Sign OpenRound m2 m3 → (limits nesting m3 ≡ true → d < 256) → (k : Expression → State) (c : CircuitTree) → Derives limits (literal_rest p signed width k) c m3 → Found limits (IsExpression limits d) k c a
+  found_literal : (d : ℕ) (p : Place) (signed : Bool) (width : Option ℕ) (a m1 m2 m3 : List Terminal) → TokenAt (word (literal_word signed)) p a m1 → IsWidth limits width m1 m2 → Sign OpenRound m2 m3 → (limits nesting m3 ≡ true → d < 256) → (k : Expression → State) (c : CircuitTree) → Derives limits (literal_rest p signed width k) c m3 → Found limits (IsExpression limits d) k c a
   found_literal d p signed width a m1 m2 m3 t w o lt k c (l, m4, (n, same, x), (q, rest, s, more)) =
       (literal l, rest, literal_spelled d p signed width n l a m1 m2 m3 m4 rest t w o lt same x (q, s), more)
 
   -- behind its word and a parenthesis
-  pub found_plain_literal : (d : ℕ) (p q : Place) (signed : Bool) (a ts : List Terminal) → Token (word (literal_word signed)) p a (token_at (mark OpenRound) q ∷ ts) → (k : Expression → State) (c : CircuitTree) → Derives limits (opens d q (literal_rest p signed None k)) c ts → Found limits (IsExpression limits d) k c a
+  pub found_plain_literal : (d : ℕ) (p q : Place) (signed : Bool) (a ts : List Terminal) → TokenAt (word (literal_word signed)) p a (token_at (mark OpenRound) q ∷ ts) → (k : Expression → State) (c : CircuitTree) → Derives limits (opens d q (literal_rest p signed None k)) c ts → Found limits (IsExpression limits d) k c a
   found_plain_literal d p q signed a ts t k c (lt, more) = found_literal d p signed None a (token_at (mark OpenRound) q ∷ ts) (token_at (mark OpenRound) q ∷ ts) ts t refl (q, refl) (within d lt) k c more
 
   -- behind its word and a sign
-  pub found_sized_literal : (d : ℕ) (p q : Place) (signed : Bool) (a ts : List Terminal) → Token (word (literal_word signed)) p a (token_at (mark Less) q ∷ ts) → Extends limits (λ e b z. IsExpression limits d e a z) (token_at (mark Less) q) ts (sized_rest signed d p)
+  pub found_sized_literal : (d : ℕ) (p q : Place) (signed : Bool) (a ts : List Terminal) → TokenAt (word (literal_word signed)) p a (token_at (mark Less) q ∷ ts) → Extends limits (λ e b z. IsExpression limits d e a z) (token_at (mark Less) q) ts (sized_rest signed d p)
   found_sized_literal d p q signed a ts t k c (n, m, i, (r, m2, s, (o, m3, x, (lt, more)))) =
       found_literal d p signed (Some n.number) a (token_at (mark Less) q ∷ ts) m2 m3 t (ts, (q, refl), (m, (n.place, i), (r, s))) (o, x) (within d lt) k c more
 

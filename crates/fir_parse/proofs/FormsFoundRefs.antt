@@ -1,7 +1,7 @@
 -- Tokens that are read as a statement that begins with a reference spell it.
 use Rattle.std.proofs.Common.{◌≡◌, ℕ, List, ◌∷◌, Option, Some, None, codes, refl}
 use Rattle.fir_ast.specs.declared.place.Place.{Place}
-use Rattle.fir_ast.specs.Statements.{Sink, Statement, connect, partial_connect, invalid}
+use Rattle.fir_ast.specs.Statements.{SinkReference, Statement, connect, partial_connect, invalid}
 use Rattle.fir_ast.specs.Circuits.{CircuitTree}
 use Rattle.fir_parse.specs.declared.lexeme.Mark.{Mark}
 use Rattle.fir_parse.specs.declared.lexeme.Mark.TheVariants.{Connect, PartialConnect, OpenSquare, Dot}
@@ -24,19 +24,19 @@ module _ (limits : Limits) where
   extends_mapped P Q f t ts (unsupported p w) h r = tt
 
   -- behind a sink
-  found_connect : (d : ℕ) (s : Sink) (p : Place) (ts : List Terminal) (k : Statement → State) (c : CircuitTree) → Derives limits (connect_rest d s k) c ts → Found limits (Is limits (behind_sink d s)) k c (token_at (mark Connect) p ∷ ts)
+  found_connect : (d : ℕ) (s : SinkReference) (p : Place) (ts : List Terminal) (k : Statement → State) (c : CircuitTree) → Derives limits (connect_rest d s k) c ts → Found limits (Is limits (behind_sink d s)) k c (token_at (mark Connect) p ∷ ts)
   found_connect d s p ts k c (e, m, x, (q, rest, l, more)) =
       (connect s.place s e, rest, (λ before y. (token_at (mark Connect) p ∷ ts, y, (ts, (p, refl), (m, x, (rest, (q, l), (refl, refl)))))), more)
 
-  found_partial_connect : (d : ℕ) (s : Sink) (p : Place) (ts : List Terminal) (k : Statement → State) (c : CircuitTree) → Derives limits (partial_connect_rest d s k) c ts → Found limits (Is limits (behind_sink d s)) k c (token_at (mark PartialConnect) p ∷ ts)
+  found_partial_connect : (d : ℕ) (s : SinkReference) (p : Place) (ts : List Terminal) (k : Statement → State) (c : CircuitTree) → Derives limits (partial_connect_rest d s k) c ts → Found limits (Is limits (behind_sink d s)) k c (token_at (mark PartialConnect) p ∷ ts)
   found_partial_connect d s p ts k c (e, m, x, (q, rest, l, more)) =
       (partial_connect s.place s e, rest, (λ before y. (token_at (mark PartialConnect) p ∷ ts, y, (ts, (p, refl), (m, x, (rest, (q, l), (refl, refl)))))), more)
 
-  found_invalid : (d : ℕ) (s : Sink) (w : List ℕ) (p : Place) (ts : List Terminal) → w ≡ codes "is" → (k : Statement → State) (c : CircuitTree) → Derives limits (wants (a_word (codes "invalid")) (λ q. ends_line (invalid s.place s) k)) c ts → Found limits (Is limits (behind_sink d s)) k c (token_at (word w) p ∷ ts)
+  found_invalid : (d : ℕ) (s : SinkReference) (w : List ℕ) (p : Place) (ts : List Terminal) → w ≡ codes "is" → (k : Statement → State) (c : CircuitTree) → Derives limits (wants (a_word (codes "invalid")) (λ q. ends_line (invalid s.place s) k)) c ts → Found limits (Is limits (behind_sink d s)) k c (token_at (word w) p ∷ ts)
   found_invalid d s w p ts e k c (q, m, x, (r, rest, l, more)) =
       (invalid s.place s, rest, (λ before y. (token_at (word w) p ∷ ts, y, (ts, (p, token_of (codes "is") w p ts e), (m, (q, x), (rest, (r, l), (refl, refl)))))), more)
 
-  pub extends_sink : (d : ℕ) (s : Sink) (l : Lexeme) (p : Place) (ts : List Terminal) → Extends limits (Is limits (behind_sink d s)) (token_at l p) ts (sink_step d s l p)
+  pub extends_sink : (d : ℕ) (s : SinkReference) (l : Lexeme) (p : Place) (ts : List Terminal) → Extends limits (Is limits (behind_sink d s)) (token_at l p) ts (sink_step d s l p)
   extends_sink d s (mark Connect) p ts = found_connect d s p ts
   extends_sink d s (mark PartialConnect) p ts = found_partial_connect d s p ts
   extends_sink d s (word w) p ts = by_word (Extends limits (Is limits (behind_sink d s)) (token_at (word w) p) ts) w (codes "is") _ _ (found_invalid d s w p ts) tt

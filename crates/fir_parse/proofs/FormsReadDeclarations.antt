@@ -11,7 +11,7 @@ use Rattle.fir_parse.specs.declared.words.Declaration.TheVariants as declares
 use Rattle.fir_parse.specs.declared.words.Lead.TheVariants as lead
 use Rattle.fir_parse.specs.Lexemes.{Lexeme, Terminal, word, mark, line_end, level_opens}
 use Rattle.fir_parse.specs.working.Words.{lead_of, direction_of}
-use Rattle.fir_parse.specs.Pieces.{Token, Name, Sign, Word}
+use Rattle.fir_parse.specs.Pieces.{TokenAt, NameToken, Sign, WordToken}
 use Rattle.fir_parse.specs.StatementForms.{IsStatement}
 use Rattle.fir_parse.specs.working.Symbols.{Begun, statement, a_mark, behind_first, behind_is, a_memory_body}
 use Rattle.fir_parse.specs.working.States.{State, wants, takes, without}
@@ -38,7 +38,7 @@ module _ (limits : Limits) where
   NoLevel [] = ⊥
   NoLevel (t ∷ ts) = opens_level t.lexeme ≡ false
 
-  pub no_level_at : (l : Lexeme) (p : Place) (a b : List Terminal) → Token l p a b → opens_level l ≡ false → NoLevel a
+  pub no_level_at : (l : Lexeme) (p : Place) (a b : List Terminal) → TokenAt l p a b → opens_level l ≡ false → NoLevel a
   no_level_at l p a b e h = rw e h
 
   memory_stays_at : (d : ℕ) (l : Lexeme) → opens_level l ≡ false → memory_body_step d l ≡ without []
@@ -57,14 +57,14 @@ module _ (limits : Limits) where
 
   -- these tokens are read as a statement, by what stands behind its first word
   abbrev pub StatementRead : ℕ → Statement → List Terminal → List Terminal → Type 0
-  StatementRead d s a b = (p : Place) × (w : List ℕ) × (m : List Terminal) × Token (word w) p a m × (RefRead limits d p w s m b ⊎ DeclarationRead d p w s m b)
+  StatementRead d s a b = (p : Place) × (w : List ℕ) × (m : List Terminal) × TokenAt (word w) p a m × (RefRead limits d p w s m b ⊎ DeclarationRead d p w s m b)
 
   -- the name `is`
   pub named_is : (n : PlacedName) → bytes_eq n.name (codes "is") ≡ true → is_named n.place ≡ n
   named_is n h = ap (λ y. record { place = n.place; name = y }) (sym ((bytes_eq-Decides n.name (codes "is")).0 h))
 
   -- behind the name of a declaration a sign, and what follows it
-  named_by : (c : Bool) (w : List ℕ) (l : Declaration) (d : ℕ) (p : Place) (s : Mark) (rest : PlacedName → (Begun → State) → State) (n : PlacedName) (a m b : List Terminal) → bytes_eq n.name (codes "is") ≡ c → lead_of w ≡ lead.Declares l → ((k : Begun → State) → declared l d p n k ≡ wants (a_mark s) (λ r. rest n k)) → ((q r : Place) → is_step d p w q (mark s) r ≡ takes (λ k. rest (is_named q) k)) → Name n a m → Sign s m b → (end : Place) (k : Begun → State) → read_on limits end (wants (behind_first d p w) k) a ≡ read_on limits end (rest n k) b
+  named_by : (c : Bool) (w : List ℕ) (l : Declaration) (d : ℕ) (p : Place) (s : Mark) (rest : PlacedName → (Begun → State) → State) (n : PlacedName) (a m b : List Terminal) → bytes_eq n.name (codes "is") ≡ c → lead_of w ≡ lead.Declares l → ((k : Begun → State) → declared l d p n k ≡ wants (a_mark s) (λ r. rest n k)) → ((q r : Place) → is_step d p w q (mark s) r ≡ takes (λ k. rest (is_named q) k)) → NameToken n a m → Sign s m b → (end : Place) (k : Begun → State) → read_on limits end (wants (behind_first d p w) k) a ≡ read_on limits end (rest n k) b
   named_by true w l d p s rest n a m b c h1 h2 h3 e (q, x) end k =
       takes_token limits (behind_first d p w) (λ f. wants (behind_is d p w n.place) f) (word n.name) n.place a m e (rw c refl) end k
       ∙ takes_token limits (behind_is d p w n.place) (λ f. rest (is_named n.place) f) (mark s) q m b x (h3 n.place q) end k
@@ -73,7 +73,7 @@ module _ (limits : Limits) where
       takes_token limits (behind_first d p w) (λ f. declared l d p n f) (word n.name) n.place a m e (rw c (ap (λ v. declaration_step v d p w n.name n.place) h1)) end k
       ∙ ap (λ st. read_on limits end st m) (h2 k) ∙ read_sign limits s m b x end _
 
-  instance_by : (c : Bool) (d : ℕ) (p : Place) (n : PlacedName) (a m b : List Terminal) → bytes_eq n.name (codes "is") ≡ c → Name n a m → Word (codes "of") m b → (end : Place) (k : Begun → State) → read_on limits end (wants (behind_first d p (codes "inst")) k) a ≡ read_on limits end (instance_rest p n (begun k)) b
+  instance_by : (c : Bool) (d : ℕ) (p : Place) (n : PlacedName) (a m b : List Terminal) → bytes_eq n.name (codes "is") ≡ c → NameToken n a m → WordToken (codes "of") m b → (end : Place) (k : Begun → State) → read_on limits end (wants (behind_first d p (codes "inst")) k) a ≡ read_on limits end (instance_rest p n (begun k)) b
   instance_by true d p n a m b c e (q, x) end k =
       takes_token limits (behind_first d p (codes "inst")) (λ f. wants (behind_is d p (codes "inst") n.place) f) (word n.name) n.place a m e (rw c refl) end k
       ∙ takes_token limits (behind_is d p (codes "inst") n.place) (λ f. instance_rest p (is_named n.place) (begun f)) (word (codes "of")) q m b x refl end k
@@ -91,7 +91,7 @@ module _ (limits : Limits) where
   partial_ends : (a b : List Terminal) → Sign PartialConnect a b → TailEnds a
   partial_ends a b (p, e) = tail_ends_at limits (mark PartialConnect) p a b e refl
 
-  word_ends : (a b : List Terminal) → Word (codes "is") a b → TailEnds a
+  word_ends : (a b : List Terminal) → WordToken (codes "is") a b → TailEnds a
   word_ends a b (p, e) = tail_ends_at limits (word (codes "is")) p a b e refl
 
   along : (d : ℕ) (p : Place) (w : List ℕ) (s : Statement) (a b c : List Terminal) → b ≡ c → RefRead limits d p w s a b → RefRead limits d p w s a c

@@ -6,7 +6,7 @@ use Rattle.fir_ast.specs.Expressions.{Expression, literal}
 use Rattle.fir_parse.specs.declared.lexeme.Mark.TheVariants.{Less, Greater, OpenRound, CloseRound}
 use Rattle.fir_parse.specs.Lexemes.{Terminal, Lexeme, integer, text, mark}
 use Rattle.fir_parse.specs.Numbers.{Numeral, integer_value, text_value, is_allowed, literal_of}
-use Rattle.fir_parse.specs.Pieces.{Sign, Token}
+use Rattle.fir_parse.specs.Pieces.{Sign, TokenAt}
 use Rattle.fir_parse.specs.TypeForms.{IsWidth}
 use Rattle.fir_parse.specs.ExpressionForms.{literal_word, IsNumeral, IsNumber}
 use Rattle.fir_parse.specs.working.Symbols.{behind_word, a_literal}
@@ -28,7 +28,7 @@ module _ (limits : Limits) where
       takes_token limits (behind_word d p (literal_word true)) _ (mark Less) r a m1 x refl end k ∙ read_natural limits z t m1 m2 i end _ ∙ read_sign limits Greater m2 m s end _ ∙ read_sign limits OpenRound m n (q, e) end _ ∙ read_opens limits d q _ n b g end
 
   -- a number that the literal may have
-  read_number : (p : Place) (signed : Bool) (width : Option ℕ) (l : Lexeme) (q : Place) (n o : Option Numeral) (a b : List Terminal) → Token l q a b → literal_step p signed width l q ≡ numbered p signed width o q → n ≡ o → (limits numbers b ≡ true → is_allowed signed n ≡ true) → (end : Place) (k : Literal → State) → read_on limits end (wants (a_literal p signed width) k) a ≡ read_on limits end (k (literal_of p signed width n)) b
+  read_number : (p : Place) (signed : Bool) (width : Option ℕ) (l : Lexeme) (q : Place) (n o : Option Numeral) (a b : List Terminal) → TokenAt l q a b → literal_step p signed width l q ≡ numbered p signed width o q → n ≡ o → (limits numbers b ≡ true → is_allowed signed n ≡ true) → (end : Place) (k : Literal → State) → read_on limits end (wants (a_literal p signed width) k) a ≡ read_on limits end (k (literal_of p signed width n)) b
   read_number p signed width l q n o a b e h same ok end k =
       takes_token limits (a_literal p signed width) (λ f. limit (not (is_allowed signed o)) (number_at q) (f (literal_of p signed width o))) l q a b e h end k
       ∙ limit_kept limits (not (is_allowed signed o)) (number_at q) _ end b (λ c. ap (λ x. not (is_allowed signed x)) (sym same) ∙ ap not (ok c))

@@ -8,7 +8,7 @@ use Rattle.fir_parse.specs.declared.words.FieldWord.TheVariants as memory_word
 use Rattle.fir_parse.specs.declared.lexeme.Mark.TheVariants.{Arrow}
 use Rattle.fir_parse.specs.Lexemes.{Lexeme, Terminal, word, dash_word, line_end, level_opens, level_closes}
 use Rattle.fir_parse.specs.working.Words.{field_word_of}
-use Rattle.fir_parse.specs.Pieces.{Token, Sign, Word, LineEnd, Closes, Int}
+use Rattle.fir_parse.specs.Pieces.{TokenAt, Sign, WordToken, LineEnd, Closes, Int}
 use Rattle.fir_parse.specs.StatementForms.{AreNames, IsNames, under_write_word, IsMemoryPart, AreMemoryParts, IsMemoryBody}
 use Rattle.fir_parse.specs.working.Symbols.{a_memory_body, a_memory_field, more_memory_fields, more_names, an_under_write}
 use Rattle.fir_parse.specs.working.States.{State, wants}
@@ -35,7 +35,7 @@ module _ (limits : Limits) where
   read_names [] a b x end k = absurd x
   read_names (n ∷ ns) a b (m1, s, (m2, e, (m3, x, l))) end k = read_sign limits Arrow a m1 s end _ ∙ read_name limits n m1 m2 e end _ ∙ read_more_names ns m2 m3 b x l end _
 
-  read_rule : (u : ReadUnderWrite) (a b : List Terminal) → Word (under_write_word u) a b → (end : Place) (k : ReadUnderWrite → State) → read_on limits end (wants an_under_write k) a ≡ read_on limits end (k u) b
+  read_rule : (u : ReadUnderWrite) (a b : List Terminal) → WordToken (under_write_word u) a b → (end : Place) (k : ReadUnderWrite → State) → read_on limits end (wants an_under_write k) a ≡ read_on limits end (k u) b
   read_rule u a b (p, e) end k = takes_token limits an_under_write (λ f. f u) (word (under_write_word u)) p a b e (ap under_write (under_write_read u)) end k
 
   -- one field
@@ -64,7 +64,7 @@ module _ (limits : Limits) where
   same_field memory_word.Readwriter d p k behind v w = refl
   same_field memory_word.ReadUnderWrite d p k behind v w = refl
 
-  begins_at : (d : ℕ) (l : Lexeme) (p : Place) (a b : List Terminal) → Token l p a b → more_memory_fields_step d l p ≡ then_fields d (memory_field_step d l p) → (end : Place) (k : List MemoryPart → State) → read_on limits end (wants (more_memory_fields d) k) a ≡ read_on limits end (wants (a_memory_field d) (then_parts d k)) a
+  begins_at : (d : ℕ) (l : Lexeme) (p : Place) (a b : List Terminal) → TokenAt l p a b → more_memory_fields_step d l p ≡ then_fields d (memory_field_step d l p) → (end : Place) (k : List MemoryPart → State) → read_on limits end (wants (more_memory_fields d) k) a ≡ read_on limits end (wants (a_memory_field d) (then_parts d k)) a
   unfolding read_on
   begins_at d l p a b e h end k = rw e (rw h (same_field (field_word_of l) d p k _ _ _))
 

@@ -7,7 +7,7 @@ use Rattle.fir_ast.specs.Statements.{PlacedName}
 use Rattle.fir_parse.specs.declared.lexeme.Mark.{Mark}
 use Rattle.fir_parse.specs.Lexemes.{Terminal, Lexeme, word, integer, mark, line_end, level_opens, level_closes}
 use Rattle.fir_parse.specs.Numbers.{is_in_range}
-use Rattle.fir_parse.specs.Pieces.{IsNextAt, Token, Sign, Word, LineEnd, Opens, Closes, Name, FieldName, IntAt}
+use Rattle.fir_parse.specs.Pieces.{IsNextAt, TokenAt, Sign, WordToken, LineEnd, Opens, Closes, NameToken, FieldName, IntAt}
 use Rattle.fir_parse.specs.working.States.{State, wants, takes, without, opens, ends_form}
 use Rattle.fir_parse.specs.working.Symbols.{Sym, Tree, Natural, a_mark, a_word, a_name, a_field_name, a_natural, a_line_end, an_opening, a_closing}
 use Rattle.fir_parse.specs.working.Reading.{one, step, goes_on, at_token, read_on}
@@ -20,7 +20,7 @@ use Rattle.fir_parse.specs.Limits.{Limits, nesting, Within}
 module _ (limits : Limits) where
   -- a token that is taken
   -- the next token stands where it is said to stand
-  pub token_next : (q : Place) (l : Lexeme) (p : Place) (a b : List Terminal) → IsNextAt q a → Token l p a b → Token l q a b
+  pub token_next : (q : Place) (l : Lexeme) (p : Place) (a b : List Terminal) → IsNextAt q a → TokenAt l p a b → TokenAt l q a b
   token_next q l p a b at e = e ∙ ap (λ (r : Place). record { lexeme = l; place = r } ∷ b) (subst (IsNextAt q) e at)
 
   pub takes_token : (s : Sym) (g : (Tree s → State) → State) (l : Lexeme) (p : Place) (a b : List Terminal) → a ≡ record { lexeme = l; place = p } ∷ b → step s l p ≡ takes g → (end : Place) (k : Tree s → State) → read_on limits end (wants s k) a ≡ read_on limits end (g k) b
@@ -46,7 +46,7 @@ module _ (limits : Limits) where
   pub read_sign : (m : Mark) (a b : List Terminal) (x : Sign m a b) (end : Place) (k : Place → State) → read_on limits end (wants (a_mark m) k) a ≡ read_on limits end (k x.0) b
   read_sign m a b (p, e) end k = takes_token (a_mark m) (λ f. f p) (mark m) p a b e (ap (λ c. one c p) (same_mark_self m)) end k
 
-  pub read_word : (w : List ℕ) (a b : List Terminal) (x : Word w a b) (end : Place) (k : Place → State) → read_on limits end (wants (a_word w) k) a ≡ read_on limits end (k x.0) b
+  pub read_word : (w : List ℕ) (a b : List Terminal) (x : WordToken w a b) (end : Place) (k : Place → State) → read_on limits end (wants (a_word w) k) a ≡ read_on limits end (k x.0) b
   read_word w a b (p, e) end k = takes_token (a_word w) (λ f. f p) (word w) p a b e (ap (λ c. one c p) ((bytes_eq-Decides w w).1 refl)) end k
 
   pub read_line_end : (a b : List Terminal) (x : LineEnd a b) (end : Place) (k : Place → State) → read_on limits end (wants a_line_end k) a ≡ read_on limits end (k x.0) b
@@ -58,7 +58,7 @@ module _ (limits : Limits) where
   pub read_closing : (a b : List Terminal) (x : Closes a b) (end : Place) (k : Place → State) → read_on limits end (wants a_closing k) a ≡ read_on limits end (k x.0) b
   read_closing a b (p, e) end k = takes_token a_closing _ level_closes p a b e refl end k
 
-  pub read_name : (n : PlacedName) (a b : List Terminal) → Name n a b → (end : Place) (k : PlacedName → State) → read_on limits end (wants a_name k) a ≡ read_on limits end (k n) b
+  pub read_name : (n : PlacedName) (a b : List Terminal) → NameToken n a b → (end : Place) (k : PlacedName → State) → read_on limits end (wants a_name k) a ≡ read_on limits end (k n) b
   read_name n a b e end k = takes_token a_name _ (word n.name) n.place a b e refl end k
 
   pub read_field_name : (n : PlacedName) (a b : List Terminal) → FieldName n a b → (end : Place) (k : PlacedName → State) → read_on limits end (wants a_field_name k) a ≡ read_on limits end (k n) b

@@ -8,7 +8,7 @@ use Rattle.fir_ast.specs.Circuits.{PortTree}
 use Rattle.fir_parse.specs.declared.lexeme.Mark.TheVariants.{Colon}
 use Rattle.fir_parse.specs.Lexemes.{Lexeme, Terminal, word, mark, level_opens, level_closes}
 use Rattle.fir_parse.specs.working.Words.{direction_of}
-use Rattle.fir_parse.specs.Pieces.{Token, Name, Sign, Closes}
+use Rattle.fir_parse.specs.Pieces.{TokenAt, NameToken, Sign, Closes}
 use Rattle.fir_parse.specs.StatementForms.{AreStatements}
 use Rattle.fir_parse.specs.CircuitForms.{direction_word, ArePorts, IsBody}
 use Rattle.fir_parse.specs.working.Symbols.{BodyTree, PortOr, a_mark, statements, behind_first, behind_direction, behind_port_is, ports_and_statements, a_body}
@@ -36,12 +36,12 @@ module _ (limits : Limits) where
   no_ports k b = k (record { ports = []; block = b })
 
   -- where no port begins
-  same_level : (w : List ℕ) (p : Place) (a m : List Terminal) → direction_of w ≡ None → Token (word w) p a m → (end : Place) (k : BodyTree → State) → read_on limits end (wants ports_and_statements k) a ≡ read_on limits end (wants (statements 0 []) (no_ports k)) a
+  same_level : (w : List ℕ) (p : Place) (a m : List Terminal) → direction_of w ≡ None → TokenAt (word w) p a m → (end : Place) (k : BodyTree → State) → read_on limits end (wants ports_and_statements k) a ≡ read_on limits end (wants (statements 0 []) (no_ports k)) a
   same_level w p a m h e end k =
       takes_token limits ports_and_statements (λ f. wants (behind_first 0 p w) (λ s. statements_only s f)) (word w) p a m e (ap (λ o. body_by_word o p w) h) end k
       ∙ sym (takes_token limits (statements 0 []) (λ f. wants (behind_first 0 p w) (λ s. behind_statement 0 s (λ rest. f rest))) (word w) p a m e refl end (no_ports k))
 
-  level_by : (o : Option Direction) (p : Place) (w : List ℕ) (s : Statement) (rest : Block) (a n m z : List Terminal) → direction_of w ≡ o → Token (word w) p a n → RefRead limits 0 p w s n m ⊎ DeclarationRead limits 0 p w s n m → StatementsRead limits 0 rest m z → LevelRead [] ((then) s rest) a z
+  level_by : (o : Option Direction) (p : Place) (w : List ℕ) (s : Statement) (rest : Block) (a n m z : List Terminal) → direction_of w ≡ o → TokenAt (word w) p a n → RefRead limits 0 p w s n m ⊎ DeclarationRead limits 0 p w s n m → StatementsRead limits 0 rest m z → LevelRead [] ((then) s rest) a z
   level_by None p w s rest a n m z h t x r end k = same_level w p a n h t end k ∙ (another limits 0 s rest a m z (p, w, n, t, x) r).1 [] end (no_ports k)
   level_by (Some v) p w s rest a n m z h t (inl x) r end k =
       takes_token limits ports_and_statements (λ f. wants (behind_direction v p w) (λ y. behind_port y f)) (word w) p a n t (ap (λ o. body_by_word o p w) h) end k
@@ -59,7 +59,7 @@ module _ (limits : Limits) where
   statements_level ((then) s rest) a m z (m1, x, y) c end k = let r : StatementsRead limits 0 rest m1 z = statements_read limits 0 rest m1 m z y c in level_first s rest a m1 z (statement_read limits 0 s a m1 tt x r.0) r end k
 
   -- a port, behind the word of its direction
-  port_by : (c : Bool) (v : Direction) (p : Place) (w : List ℕ) (n : PlacedName) (a m b : List Terminal) → bytes_eq n.name (codes "is") ≡ c → Name n a m → Sign Colon m b → (end : Place) (k : PortOr → State) → read_on limits end (wants (behind_direction v p w) k) a ≡ read_on limits end (port_rest v n k) b
+  port_by : (c : Bool) (v : Direction) (p : Place) (w : List ℕ) (n : PlacedName) (a m b : List Terminal) → bytes_eq n.name (codes "is") ≡ c → NameToken n a m → Sign Colon m b → (end : Place) (k : PortOr → State) → read_on limits end (wants (behind_direction v p w) k) a ≡ read_on limits end (port_rest v n k) b
   port_by true v p w n a m b c e (q, x) end k =
       takes_token limits (behind_direction v p w) (λ f. wants (behind_port_is v p w n.place) f) (word n.name) n.place a m e (rw c refl) end k
       ∙ takes_token limits (behind_port_is v p w n.place) (λ f. port_rest v (is_named n.place) f) (mark Colon) q m b x refl end k ∙ ap (λ y. read_on limits end (port_rest v y k) b) (named_is limits n c)

@@ -7,7 +7,7 @@ use Rattle.fir_parse.specs.declared.lexeme.Mark.TheVariants.{Dot, OpenSquare}
 use Rattle.fir_parse.specs.Lexemes.{Lexeme, Terminal, word, integer, mark}
 use Rattle.fir_base.specs.Digits.{decimal_value}
 use Rattle.fir_parse.specs.Numbers.{is_in_range}
-use Rattle.fir_parse.specs.Pieces.{IntAt, Token}
+use Rattle.fir_parse.specs.Pieces.{IntAt, TokenAt}
 use Rattle.fir_parse.specs.working.Symbols.{IndexTree, plain_index, computed_index, an_expression, behind_word, parts, an_index}
 use Rattle.fir_parse.specs.working.States.{State, wants, limit, number_at}
 use Rattle.fir_parse.specs.working.ExpressionRules.{dot_rest, index_rest}
@@ -32,7 +32,7 @@ module _ (limits : Limits) where
   BeginsWithMark [] = ⊥
   BeginsWithMark (t ∷ ts) = is_mark t.lexeme ≡ true
 
-  pub mark_begins : (n : Mark) (p : Place) (a b : List Terminal) → Token (mark n) p a b → BeginsWithMark a
+  pub mark_begins : (n : Mark) (p : Place) (a b : List Terminal) → TokenAt (mark n) p a b → BeginsWithMark a
   mark_begins n p a b e = rw e refl
 
   -- and so are those behind the first, which is a word; a sign stands there if one stands behind the expression
@@ -48,10 +48,10 @@ module _ (limits : Limits) where
   NoParts ps a b = (ps ≡ no_parts) × (a ≡ b)
 
   abbrev pub DotRead : ℕ → ℕ → Parts → List Terminal → List Terminal → Type 0
-  DotRead d h ps a b = (p : Place) × (m : List Terminal) × Token (mark Dot) p a m × ((end : Place) (k : Parts → State) → read_on limits end (dot_rest d h p k) m ≡ read_on limits end (k ps) b)
+  DotRead d h ps a b = (p : Place) × (m : List Terminal) × TokenAt (mark Dot) p a m × ((end : Place) (k : Parts → State) → read_on limits end (dot_rest d h p k) m ≡ read_on limits end (k ps) b)
 
   abbrev pub IndexRead : ℕ → ℕ → Parts → List Terminal → List Terminal → Type 0
-  IndexRead d h ps a b = (p : Place) × (m : List Terminal) × Token (mark OpenSquare) p a m × ((end : Place) (k : Parts → State) → read_on limits end (index_rest d h p k) m ≡ read_on limits end (k ps) b)
+  IndexRead d h ps a b = (p : Place) × (m : List Terminal) × TokenAt (mark OpenSquare) p a m × ((end : Place) (k : Parts → State) → read_on limits end (index_rest d h p k) m ≡ read_on limits end (k ps) b)
 
   -- these tokens are read as what follows a name: nothing, a dot or a bracket first
   abbrev pub PartsRead : ℕ → ℕ → Parts → List Terminal → List Terminal → Type 0

@@ -3,12 +3,12 @@ use Rattle.std.proofs.Common.{◌≡◌, ℕ, List, Option, Some, codes, refl, s
 use Rattle.fir_base.specs.declared.direction.Direction.{Direction}
 use Rattle.fir_ast.specs.declared.place.Place.{Place}
 use Rattle.fir_ast.specs.Expressions.{Expression, no_parts}
-use Rattle.fir_ast.specs.Statements.{Sink, Statement, connect, partial_connect, invalid}
+use Rattle.fir_ast.specs.Statements.{SinkReference, Statement, connect, partial_connect, invalid}
 use Rattle.fir_parse.specs.declared.lexeme.Mark.{Mark}
 use Rattle.fir_parse.specs.declared.lexeme.Mark.TheVariants.{Connect, PartialConnect, OpenSquare, Colon, Dot}
 use Rattle.fir_parse.specs.Lexemes.{Terminal, word, mark}
 use Rattle.fir_parse.specs.working.Words.{lead_of}
-use Rattle.fir_parse.specs.Pieces.{Token, Sign, Word, LineEnd}
+use Rattle.fir_parse.specs.Pieces.{TokenAt, Sign, WordToken, LineEnd}
 use Rattle.fir_parse.specs.ExpressionForms.{IsExpression}
 use Rattle.fir_parse.specs.working.Symbols.{Begun, statement, Otherwise, no_else, PortOr, no_port, a_word, behind_sink, behind_first, behind_is, behind_else, behind_direction, behind_port_is}
 use Rattle.fir_parse.specs.working.States.{State, Step, wants, takes, mapped}
@@ -25,13 +25,13 @@ module _ (limits : Limits) where
   -- a sign behind the name, with which the statement goes on
   abbrev pub SignRead : ℕ → Place → List ℕ → Statement → List Terminal → List Terminal → Type 0
   SignRead d p w s a b =
-      (n : Mark) × (q : Place) × (m : List Terminal) × (g : (Statement → State) → State) × Token (mark n) q a m × (ref_step d p w n q ≡ Some (takes g))
+      (n : Mark) × (q : Place) × (m : List Terminal) × (g : (Statement → State) → State) × TokenAt (mark n) q a m × (ref_step d p w n q ≡ Some (takes g))
       × ((end : Place) (k : Statement → State) → read_on limits end (g k) m ≡ read_on limits end (k s) b)
 
   -- `is` and `invalid`
   abbrev pub InvalidRead : Place → List ℕ → Statement → List Terminal → List Terminal → Type 0
   InvalidRead p w s a b =
-      (q : Place) × (r : Place) × (m : List Terminal) × (n : List Terminal) × Token (word (codes "is")) q a m × Token (word (codes "invalid")) r m n × LineEnd n b
+      (q : Place) × (r : Place) × (m : List Terminal) × (n : List Terminal) × TokenAt (word (codes "is")) q a m × TokenAt (word (codes "invalid")) r m n × LineEnd n b
       × (invalid p (bare p w) ≡ s)
 
   abbrev pub RefRead : ℕ → Place → List ℕ → Statement → List Terminal → List Terminal → Type 0
@@ -72,17 +72,17 @@ module _ (limits : Limits) where
       ∙ read_line_end limits t b l end _ ∙ ap (λ z. read_on limits end (k (no_port (statement z))) b) same
 
   -- a reference with what follows it, and then its statement
-  same_sink : (s : Sink) → s.parts ≡ no_parts → s ≡ bare s.place s.name
+  same_sink : (s : SinkReference) → s.parts ≡ no_parts → s ≡ bare s.place s.name
   same_sink s h = ap (λ x. record { place = s.place; name = s.name; parts = x }) h
 
-  behind_parts : (d : ℕ) (s : Sink) (t : Statement) (a m b : List Terminal) → PartsRead limits d 1 s.parts a m → ((end : Place) (k : Statement → State) → read_on limits end (wants (behind_sink d s) k) m ≡ read_on limits end (k t) b) → (s.parts ≡ no_parts → RefRead d s.place s.name t m b) → RefRead d s.place s.name t a b
+  behind_parts : (d : ℕ) (s : SinkReference) (t : Statement) (a m b : List Terminal) → PartsRead limits d 1 s.parts a m → ((end : Place) (k : Statement → State) → read_on limits end (wants (behind_sink d s) k) m ≡ read_on limits end (k t) b) → (s.parts ≡ no_parts → RefRead d s.place s.name t m b) → RefRead d s.place s.name t a b
   behind_parts d s t a m b (inl (none, e)) r plain = let P : List Terminal → Type 0 = λ x. RefRead d s.place s.name t x b in subst P (sym e) (plain none)
   behind_parts d s t a m b (inr (inl (q, n, e, x))) r plain =
       inl (Dot, q, n, λ f. dot_rest d 1 q (λ ps. wants (behind_sink d (record { place = s.place; name = s.name; parts = ps })) f), e, refl, λ end k. x end (λ ps. wants (behind_sink d (record { place = s.place; name = s.name; parts = ps })) k) ∙ r end k)
   behind_parts d s t a m b (inr (inr (q, n, e, x))) r plain =
       inl (OpenSquare, q, n, λ f. index_rest d 1 q (λ ps. wants (behind_sink d (record { place = s.place; name = s.name; parts = ps })) f), e, refl, λ end k. x end (λ ps. wants (behind_sink d (record { place = s.place; name = s.name; parts = ps })) k) ∙ r end k)
 
-  pub read_connect : (d : ℕ) (s : Sink) (p : Place) (e : Expression) (a m n o b : List Terminal) → PartsRead limits d 1 s.parts a m → Sign Connect m n → IsExpression limits d e n o → LineEnd o b → p ≡ s.place → RefRead d s.place s.name (connect p s e) a b
+  pub read_connect : (d : ℕ) (s : SinkReference) (p : Place) (e : Expression) (a m n o b : List Terminal) → PartsRead limits d 1 s.parts a m → Sign Connect m n → IsExpression limits d e n o → LineEnd o b → p ≡ s.place → RefRead d s.place s.name (connect p s e) a b
   read_connect d s p e a m n o b ps (q, c) x l same =
       behind_parts d s (connect p s e) a m b ps (λ end k. takes_token limits (behind_sink d s) (λ f. connect_rest d s f) (mark Connect) q m n c refl end k ∙ rest end k)
       (λ none. inl (Connect, q, n, λ f. connect_rest d (bare s.place s.name) f, c, refl, λ end k. ap (λ y. read_on limits end (connect_rest d y k) n) (sym (same_sink s none)) ∙ rest end k))
@@ -90,7 +90,7 @@ module _ (limits : Limits) where
       rest : (end : Place) (k : Statement → State) → read_on limits end (connect_rest d s k) n ≡ read_on limits end (k (connect p s e)) b
       rest end k = read_whole_expression limits d e n o x (line_ends limits o b l) end _ ∙ read_line_end limits o b l end _ ∙ ap (λ y. read_on limits end (k (connect y s e)) b) (sym same)
 
-  pub read_partial_connect : (d : ℕ) (s : Sink) (p : Place) (e : Expression) (a m n o b : List Terminal) → PartsRead limits d 1 s.parts a m → Sign PartialConnect m n → IsExpression limits d e n o → LineEnd o b → p ≡ s.place → RefRead d s.place s.name (partial_connect p s e) a b
+  pub read_partial_connect : (d : ℕ) (s : SinkReference) (p : Place) (e : Expression) (a m n o b : List Terminal) → PartsRead limits d 1 s.parts a m → Sign PartialConnect m n → IsExpression limits d e n o → LineEnd o b → p ≡ s.place → RefRead d s.place s.name (partial_connect p s e) a b
   read_partial_connect d s p e a m n o b ps (q, c) x l same =
       behind_parts d s (partial_connect p s e) a m b ps (λ end k. takes_token limits (behind_sink d s) (λ f. partial_connect_rest d s f) (mark PartialConnect) q m n c refl end k ∙ rest end k)
       (λ none. inl (PartialConnect, q, n, λ f. partial_connect_rest d (bare s.place s.name) f, c, refl, λ end k. ap (λ y. read_on limits end (partial_connect_rest d y k) n) (sym (same_sink s none)) ∙ rest end k))
@@ -98,7 +98,7 @@ module _ (limits : Limits) where
       rest : (end : Place) (k : Statement → State) → read_on limits end (partial_connect_rest d s k) n ≡ read_on limits end (k (partial_connect p s e)) b
       rest end k = read_whole_expression limits d e n o x (line_ends limits o b l) end _ ∙ read_line_end limits o b l end _ ∙ ap (λ y. read_on limits end (k (partial_connect y s e)) b) (sym same)
 
-  pub read_invalid : (d : ℕ) (s : Sink) (p : Place) (a m n o b : List Terminal) → PartsRead limits d 1 s.parts a m → Word (codes "is") m n → Word (codes "invalid") n o → LineEnd o b → p ≡ s.place → RefRead d s.place s.name (invalid p s) a b
+  pub read_invalid : (d : ℕ) (s : SinkReference) (p : Place) (a m n o b : List Terminal) → PartsRead limits d 1 s.parts a m → WordToken (codes "is") m n → WordToken (codes "invalid") n o → LineEnd o b → p ≡ s.place → RefRead d s.place s.name (invalid p s) a b
   read_invalid d s p a m n o b ps (q, x) (r, y) l same =
       behind_parts d s (invalid p s) a m b ps
       (λ end k. takes_token limits (behind_sink d s) (λ f. wants (a_word (codes "invalid")) (λ q. ends_line (invalid s.place s) f)) (word (codes "is")) q m n x refl end k

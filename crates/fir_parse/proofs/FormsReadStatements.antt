@@ -3,7 +3,7 @@ use Rattle.std.proofs.Common.{◌≡◌, ℕ, ◌+◌, List, [], ◌∷◌, ◌+
 use Rattle.fir_ast.specs.Statements.{Statement, wire, when, Block, done, then}
 use Rattle.fir_parse.specs.declared.lexeme.Mark.TheVariants.{Colon}
 use Rattle.fir_parse.specs.Lexemes.{Terminal, word, mark}
-use Rattle.fir_parse.specs.Pieces.{Sign, Word, Closes}
+use Rattle.fir_parse.specs.Pieces.{Sign, WordToken, Closes}
 use Rattle.fir_parse.specs.StatementForms.{IsWhen, IsStatement, AreStatements, IsBlock, IsElse}
 use Rattle.fir_parse.specs.working.Symbols.{OpenWhen}
 use Rattle.fir_parse.proofs.Completions.{TailEnds}
@@ -62,7 +62,7 @@ module _ (limits : Limits) where
         let behind : Block → Type 0 = λ b. ElseRead limits n o ws ((then) s b) rest a z in
         subst behind (sym same) (else_when_read d n o ws s rest a m1 m2 m z e w g h x r)
 
-    else_when_read : (d n : ℕ) (o : OpenWhen) (ws : List OpenWhen) (s : Statement) (rest : Block) (a m1 m2 m z : List Terminal) → d + 1 ≡ n + length (o ∷ ws) → Word (codes "else") a m1 → m1 ≡ m2 → IsWhen s → IsStatement limits (d + 1) s m2 m → StatementsRead limits n rest m z → ElseRead limits n o ws ((then) s done) rest a z
+    else_when_read : (d n : ℕ) (o : OpenWhen) (ws : List OpenWhen) (s : Statement) (rest : Block) (a m1 m2 m z : List Terminal) → d + 1 ≡ n + length (o ∷ ws) → WordToken (codes "else") a m1 → m1 ≡ m2 → IsWhen s → IsStatement limits (d + 1) s m2 m → StatementsRead limits n rest m z → ElseRead limits n o ws ((then) s done) rest a z
     else_when_read d n o ws (when p c b f) rest a m1 m2 m z e w g h (m3, t, (m4, x, (m5, k, (m6, l, (m7, lt, (m8, y, v)))))) r =
         let within : ℕ → Type 0 = λ i. WhenRead limits i p c b m3 m8 in
         read_else_when limits n o ws p c b f rest a m1 m3 m8 z w (g ∙ t)

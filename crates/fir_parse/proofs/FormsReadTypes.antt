@@ -7,7 +7,7 @@ use Rattle.fir_ast.specs.Types.{DataType, uint, sint, clock, reset, async_reset,
 use Rattle.fir_parse.specs.declared.lexeme.Mark.TheVariants.{Less, Greater, OpenSquare, CloseSquare, OpenCurly, CloseCurly, Comma, Colon}
 use Rattle.fir_parse.specs.Lexemes.{Lexeme, Terminal, word, integer, mark}
 use Rattle.fir_parse.specs.Numbers.{has_sign}
-use Rattle.fir_parse.specs.Pieces.{◌▸◌, At, IsNextAt, Sign, FieldName, Token}
+use Rattle.fir_parse.specs.Pieces.{◌▸◌, At, IsNextAt, Sign, FieldName, TokenAt}
 use Rattle.fir_parse.specs.TypeForms.{IsWidth, IsFlip, IsType, AreFields, AreMoreFields}
 use Rattle.fir_parse.specs.working.Symbols.{TypeTree, FieldTree, FieldsTree, a_width, a_type, dimensions, fields, more_fields, a_field, behind_flip}
 use Rattle.fir_parse.specs.working.States.{State, wants, Step, takes, without, refuses, unsupported}
@@ -41,7 +41,7 @@ module _ (limits : Limits) where
   TypeRead d s t a b = (end : Place) (k : TypeTree → State) → read_on limits end (wants (a_type d) k) a ≡ read_on limits end (k (type_at s t)) b
 
   -- a name that may be `flip`
-  plain_word : (d : ℕ) (p : Place) (n : List ℕ) (s : Place) (t : DataType) (a m c e : List Terminal) → Token (word n) p a m → Sign Colon m c → TypeRead d s t c e → (b : Bool) → bytes_eq n (codes "flip") ≡ b → (end : Place) (k : FieldTree → State) → read_on limits end (wants (a_field d) k) a ≡ read_on limits end (k (record { place = p; flip = false; name = n; type_place = s; data_type = t })) e
+  plain_word : (d : ℕ) (p : Place) (n : List ℕ) (s : Place) (t : DataType) (a m c e : List Terminal) → TokenAt (word n) p a m → Sign Colon m c → TypeRead d s t c e → (b : Bool) → bytes_eq n (codes "flip") ≡ b → (end : Place) (k : FieldTree → State) → read_on limits end (wants (a_field d) k) a ≡ read_on limits end (k (record { place = p; flip = false; name = n; type_place = s; data_type = t })) e
   plain_word d p n s t a m c e x (q, y) ty true h end k =
       takes_token limits (a_field d) (λ f. wants (behind_flip d p) f) (word n) p a m x (rw h refl) end k
       ∙ takes_token limits (behind_flip d p) _ (mark Colon) q m c y refl end k
@@ -75,12 +75,12 @@ module _ (limits : Limits) where
   same_beginning refuses d p k behind v w h = refl
   same_beginning (unsupported q x) d p k behind v w h = refl
 
-  begins_with_word : (d : ℕ) (n : List ℕ) (p : Place) (a b : List Terminal) → Token (word n) p a b → (end : Place) (k : FieldsTree → State) → read_on limits end (wants (fields d) k) a ≡ read_on limits end (wants (a_field d) (then_fields d k)) a
+  begins_with_word : (d : ℕ) (n : List ℕ) (p : Place) (a b : List Terminal) → TokenAt (word n) p a b → (end : Place) (k : FieldsTree → State) → read_on limits end (wants (fields d) k) a ≡ read_on limits end (wants (a_field d) (then_fields d k)) a
   unfolding read_on
   begins_with_word d n p a b e end k =
       rw e (same_beginning (field_step d (word n) p) d p k _ _ _ (not_without_if (bytes_eq n (codes "flip")) (takes (λ f. wants (behind_flip d p) f)) (field_behind_name d p false n) tt tt))
 
-  begins_with_digits : (d : ℕ) (n : List ℕ) (p : Place) (a b : List Terminal) → Token (integer n) p a b → (end : Place) (k : FieldsTree → State) → read_on limits end (wants (fields d) k) a ≡ read_on limits end (wants (a_field d) (then_fields d k)) a
+  begins_with_digits : (d : ℕ) (n : List ℕ) (p : Place) (a b : List Terminal) → TokenAt (integer n) p a b → (end : Place) (k : FieldsTree → State) → read_on limits end (wants (fields d) k) a ≡ read_on limits end (wants (a_field d) (then_fields d k)) a
   unfolding read_on
   begins_with_digits d n p a b e end k =
       rw e (same_beginning (field_step d (integer n) p) d p k _ _ _ (not_without_if (has_sign n) refuses (field_behind_name d p false n) tt tt))
@@ -91,7 +91,7 @@ module _ (limits : Limits) where
   begins_field d p false n a m b g (inr (c, (u, h), e)) end k = begins_with_digits d n p a b (g ∙ h ∙ e) end k
 
   -- a field ends before a comma or the end of its bundle
-  field_ends : (d : ℕ) (fs : Fields) (q : Place) (a b c : List Terminal) → AreMoreFields limits d fs a b → Token (mark CloseCurly) q b c → TailEnds a
+  field_ends : (d : ℕ) (fs : Fields) (q : Place) (a b c : List Terminal) → AreMoreFields limits d fs a b → TokenAt (mark CloseCurly) q b c → TailEnds a
   field_ends d no_fields q a b c x e = tail_ends_at limits (mark CloseCurly) q a c (x ∙ e) refl
   field_ends d (field p flip n s t rest) q a b c (m, (r, x), y) e = tail_ends_at limits (mark Comma) r a m x refl
 
@@ -114,7 +114,7 @@ module _ (limits : Limits) where
         ∙ takes_token limits (dimensions d t) _ (mark OpenSquare) p m1 m2 e refl end (λ u. k (type_at s u)) ∙ read_opens limits d p _ m2 m3 g end
         ∙ read_natural limits n q m3 m4 i end _ ∙ read_sign limits CloseSquare m4 m5 (r, c) end _ ∙ read_ends limits _ r _ m5 b h end
 
-    read_fields : (d : ℕ) (fs : Fields) (q : Place) (a b c : List Terminal) → AreFields limits d fs a b → Token (mark CloseCurly) q b c → (end : Place) (k : FieldsTree → State) → read_on limits end (wants (fields d) k) a ≡ read_on limits end (k (record { fields = fs; close = q })) c
+    read_fields : (d : ℕ) (fs : Fields) (q : Place) (a b c : List Terminal) → AreFields limits d fs a b → TokenAt (mark CloseCurly) q b c → (end : Place) (k : FieldsTree → State) → read_on limits end (wants (fields d) k) a ≡ read_on limits end (k (record { fields = fs; close = q })) c
     read_fields d no_fields q a b c x e end k = takes_token limits (fields d) _ (mark CloseCurly) q a c (x ∙ e) refl end k
     read_fields d (field p flip n s t rest) q a b c (m1, fl, (m2, name, (m3, colon, (m4, (m5, (at, same), ty), more)))) e end k =
         let ends : TailEnds m4 = field_ends d rest q m4 b c more e in
@@ -123,7 +123,7 @@ module _ (limits : Limits) where
         (λ x f. read_type d s t m3 m4 at (subst (λ z. IsType limits d t z m4) (sym same) ty) (width_stays m4 ends) x f ∙ leaves_token limits (dimensions d t) t m4 (dimensions_skip d t m4 ends) x _) end _
         ∙ read_more_fields d rest q m4 b c more e end _
 
-    read_more_fields : (d : ℕ) (fs : Fields) (q : Place) (a b c : List Terminal) → AreMoreFields limits d fs a b → Token (mark CloseCurly) q b c → (end : Place) (k : FieldsTree → State) → read_on limits end (wants (more_fields d) k) a ≡ read_on limits end (k (record { fields = fs; close = q })) c
+    read_more_fields : (d : ℕ) (fs : Fields) (q : Place) (a b c : List Terminal) → AreMoreFields limits d fs a b → TokenAt (mark CloseCurly) q b c → (end : Place) (k : FieldsTree → State) → read_on limits end (wants (more_fields d) k) a ≡ read_on limits end (k (record { fields = fs; close = q })) c
     read_more_fields d no_fields q a b c x e end k = takes_token limits (more_fields d) _ (mark CloseCurly) q a c (x ∙ e) refl end k
     read_more_fields d (field p flip n s t rest) q a b c (m, (r, y), (m1, fl, (m2, name, (m3, colon, (m4, (m5, (at, same), ty), more))))) e end k =
         let ends : TailEnds m4 = field_ends d rest q m4 b c more e in

@@ -8,7 +8,7 @@ use Rattle.fir_ast.specs.Statements.{Statement, when, Block, done, then}
 use Rattle.fir_parse.specs.declared.lexeme.Mark.TheVariants.{Colon, Dot, OpenSquare}
 use Rattle.fir_parse.specs.declared.words.Declaration.TheVariants as declares
 use Rattle.fir_parse.specs.Lexemes.{Lexeme, Terminal, word, mark, level_opens, level_closes}
-use Rattle.fir_parse.specs.Pieces.{Token, Sign, Word, LineEnd, Opens, Closes}
+use Rattle.fir_parse.specs.Pieces.{TokenAt, Sign, WordToken, LineEnd, Opens, Closes}
 use Rattle.fir_parse.specs.working.Symbols.{OpenWhen, Begun, statement, open_when, else_block, else_when, a_line_end, an_expression, behind_word, statements, behind_first, behind_is, behind_else, an_indented_block}
 use Rattle.fir_parse.specs.working.States.{State, wants, takes, without}
 use Rattle.fir_parse.specs.working.StatementRules.{declared, when_block, when_rest, behind_statement, behind_otherwise, closed_before, chain, may_be_else, statements_step, block_step}
@@ -64,7 +64,7 @@ module _ (limits : Limits) where
   read_is_condition d p q [] h end k = absurd h
   read_is_condition d p q (t ∷ ts) h end k = is_condition (λ l. limits l (t ∷ ts)) d p q t.lexeme t.place k _ _ h
 
-  condition_by : (c : Bool) (d : ℕ) (p q : Place) (w : List ℕ) (a m : List Terminal) → bytes_eq w (codes "is") ≡ c → Token (word w) q a m → BeginsWithMark limits m → (end : Place) (k : Begun → State) → read_on limits end (wants (behind_first d p (codes "when")) k) a ≡ read_on limits end (wants (behind_word d q w) (λ e. when_rest d p e (opened k))) m
+  condition_by : (c : Bool) (d : ℕ) (p q : Place) (w : List ℕ) (a m : List Terminal) → bytes_eq w (codes "is") ≡ c → TokenAt (word w) q a m → BeginsWithMark limits m → (end : Place) (k : Begun → State) → read_on limits end (wants (behind_first d p (codes "when")) k) a ≡ read_on limits end (wants (behind_word d q w) (λ e. when_rest d p e (opened k))) m
   condition_by true d p q w a m c e h end k =
       takes_token limits (behind_first d p (codes "when")) (λ f. wants (behind_is d p (codes "when") q) f) (word w) q a m e (rw c refl) end k ∙ read_is_condition d p q m h end k
       ∙ ap (λ v. read_on limits end (wants (behind_word d q v) (λ e. when_rest d p e (opened k))) m) (sym ((bytes_eq-Decides w (codes "is")).0 c))
@@ -84,7 +84,7 @@ module _ (limits : Limits) where
   when_first d (o ∷ ws) p = refl
 
   -- a when, its else and the statements behind
-  pub whole_when : (d : ℕ) (p : Place) (e : Expression) (b f rest : Block) (a m0 m m1 m2 m3 m4 z : List Terminal) → Token (word (codes "when")) p a m0 → WordRead limits d e m0 m → Sign Colon m m1 → LineEnd m1 m2 → Within limits nesting (d < 256) m2 m3 → BlockRead (d + 1) b m3 m4 → ((o : OpenWhen) → ElseRead d o [] f rest m4 z) → StatementsRead d ((then) (when p e b f) rest) a z
+  pub whole_when : (d : ℕ) (p : Place) (e : Expression) (b f rest : Block) (a m0 m m1 m2 m3 m4 z : List Terminal) → TokenAt (word (codes "when")) p a m0 → WordRead limits d e m0 m → Sign Colon m m1 → LineEnd m1 m2 → Within limits nesting (d < 256) m2 m3 → BlockRead (d + 1) b m3 m4 → ((o : OpenWhen) → ElseRead d o [] f rest m4 z) → StatementsRead d ((then) (when p e b f) rest) a z
   whole_when d p e b f rest a m0 m m1 m2 m3 m4 z t x c l g y r = (
     no_level_at limits (word (codes "when")) p a m0 t refl,
     λ ws end k.
@@ -98,13 +98,13 @@ module _ (limits : Limits) where
   read_behind d p w s a b (inl r) end k = read_ref limits d p w s a b r end k
   read_behind d p w s a b (inr (x, y, r)) end k = r end k
 
-  not_else : (d : ℕ) (p : Place) (w : List ℕ) (s : Statement) (rest : Block) (a n m z : List Terminal) → Token (word w) p a n → RefRead limits d p w s n m ⊎ DeclarationRead limits d p w s n m → StatementsRead d rest m z → (ws : List OpenWhen) → may_be_else ws w ≡ false → (end : Place) (k : Block → State) → read_on limits end (wants (statements d ws) k) a ≡ read_on limits end (k (closed_before ws done ((then) s rest))) z
+  not_else : (d : ℕ) (p : Place) (w : List ℕ) (s : Statement) (rest : Block) (a n m z : List Terminal) → TokenAt (word w) p a n → RefRead limits d p w s n m ⊎ DeclarationRead limits d p w s n m → StatementsRead d rest m z → (ws : List OpenWhen) → may_be_else ws w ≡ false → (end : Place) (k : Block → State) → read_on limits end (wants (statements d ws) k) a ≡ read_on limits end (k (closed_before ws done ((then) s rest))) z
   not_else d p w s rest a n m z t x r ws h end k =
       takes_token limits (statements d ws) (λ f. wants (behind_first d p w) (λ s. behind_statement d s (λ rest. f (closed_before ws done rest)))) (word w) p a n t (rw h refl) end k
       ∙ read_behind d p w s n m x end (λ s. behind_statement d s (λ rest. k (closed_before ws done rest)))
       ∙ r.1 [] end (λ y. k (closed_before ws done ((then) s y)))
 
-  is_else : (d : ℕ) (p : Place) (w : List ℕ) (s : Statement) (rest : Block) (a n m z : List Terminal) → Token (word w) p a n → RefRead limits d p w s n m ⊎ DeclarationRead limits d p w s n m → StatementsRead d rest m z → (o : OpenWhen) (ws : List OpenWhen) → bytes_eq w (codes "else") ≡ true → (end : Place) (k : Block → State) → read_on limits end (wants (statements d (o ∷ ws)) k) a ≡ read_on limits end (k (closed_before (o ∷ ws) done ((then) s rest))) z
+  is_else : (d : ℕ) (p : Place) (w : List ℕ) (s : Statement) (rest : Block) (a n m z : List Terminal) → TokenAt (word w) p a n → RefRead limits d p w s n m ⊎ DeclarationRead limits d p w s n m → StatementsRead d rest m z → (o : OpenWhen) (ws : List OpenWhen) → bytes_eq w (codes "else") ≡ true → (end : Place) (k : Block → State) → read_on limits end (wants (statements d (o ∷ ws)) k) a ≡ read_on limits end (k (closed_before (o ∷ ws) done ((then) s rest))) z
   is_else d p w s rest a n m z t (inl x) r o ws h end k =
       let named : RefRead limits d p (codes "else") s n m = (let P : List ℕ → Type 0 = λ v. RefRead limits d p v s n m in subst P ((bytes_eq-Decides w (codes "else")).0 h) x) in
       takes_token limits (statements d (o ∷ ws)) (λ f. wants (behind_else d (length (o ∷ ws)) p) (λ x. behind_otherwise d (o ∷ ws) x f)) (word w) p a n t (rw h refl) end k
@@ -145,7 +145,7 @@ module _ (limits : Limits) where
   level_block d s a m b (p, e) r end k = takes_token limits (an_indented_block d) (λ f. wants (statements d []) f) level_opens p a m e refl end k ∙ r.1 [] end k
 
   -- `else` and a block
-  pub read_else_block : (d : ℕ) (o : OpenWhen) (ws : List OpenWhen) (f rest : Block) (a m1 m2 m3 m z : List Terminal) → Word (codes "else") a m1 → Sign Colon m1 m2 → LineEnd m2 m3 → BlockRead (d + length (o ∷ ws)) f m3 m → StatementsRead d rest m z → ElseRead d o ws f rest a z
+  pub read_else_block : (d : ℕ) (o : OpenWhen) (ws : List OpenWhen) (f rest : Block) (a m1 m2 m3 m z : List Terminal) → WordToken (codes "else") a m1 → Sign Colon m1 m2 → LineEnd m2 m3 → BlockRead (d + length (o ∷ ws)) f m3 m → StatementsRead d rest m z → ElseRead d o ws f rest a z
   read_else_block d o ws f rest a m1 m2 m3 m z (p, w) (q, c) l b r end k =
       takes_token limits (statements d (o ∷ ws)) (λ f. wants (behind_else d (length (o ∷ ws)) p) (λ x. behind_otherwise d (o ∷ ws) x f)) (word (codes "else")) p a m1 w refl end k
       ∙ takes_token limits (behind_else d (length (o ∷ ws)) p) (λ f. wants a_line_end (λ r. wants (an_indented_block (d + length (o ∷ ws))) (λ b. f (else_block b)))) (mark Colon) q m1 m2 c refl end (λ x. behind_otherwise d (o ∷ ws) x k)
@@ -156,7 +156,7 @@ module _ (limits : Limits) where
   chain_more [] w last = refl
   chain_more (o ∷ ws) w last = ap (λ x. (then) (when o.place o.condition o.block x) done) (chain_more ws w last)
 
-  pub read_else_when : (d : ℕ) (o : OpenWhen) (ws : List OpenWhen) (p : Place) (e : Expression) (b f rest : Block) (a m1 m2 m3 z : List Terminal) → Word (codes "else") a m1 → Token (word (codes "when")) p m1 m2 → WhenRead (d + length (o ∷ ws)) p e b m2 m3 → ElseRead d o (ws ++ record { place = p; condition = e; block = b } ∷ []) f rest m3 z → ElseRead d o ws ((then) (when p e b f) done) rest a z
+  pub read_else_when : (d : ℕ) (o : OpenWhen) (ws : List OpenWhen) (p : Place) (e : Expression) (b f rest : Block) (a m1 m2 m3 z : List Terminal) → WordToken (codes "else") a m1 → TokenAt (word (codes "when")) p m1 m2 → WhenRead (d + length (o ∷ ws)) p e b m2 m3 → ElseRead d o (ws ++ record { place = p; condition = e; block = b } ∷ []) f rest m3 z → ElseRead d o ws ((then) (when p e b f) done) rest a z
   read_else_when d o ws p e b f rest a m1 m2 m3 z (q, w) t x r end k =
       takes_token limits (statements d (o ∷ ws)) (λ f. wants (behind_else d (length (o ∷ ws)) q) (λ x. behind_otherwise d (o ∷ ws) x f)) (word (codes "else")) q a m1 w refl end k
       ∙ takes_token limits (behind_else d (length (o ∷ ws)) q) (λ f. wants (an_expression (d + length (o ∷ ws))) (λ e. when_rest (d + length (o ∷ ws)) p e (λ s. f (else_when s)))) (word (codes "when")) p m1 m2 t refl end (λ x. behind_otherwise d (o ∷ ws) x k)

@@ -4,7 +4,7 @@ use Rattle.fir_ast.specs.declared.place.Place.{Place}
 use Rattle.fir_ast.specs.Circuits.{CircuitTree}
 use Rattle.fir_parse.specs.Lexemes.{Terminal}
 use Rattle.fir_parse.specs.CircuitForms.{IsSpelled}
-use Rattle.fir_parse.specs.working.States.{State, done, fault_of, limit_of, limit, wants, Step, takes, without, refuses, unsupported}
+use Rattle.fir_parse.specs.working.States.{State, done, bound_fault, limit_of, limit, wants, Step, takes, without, refuses, unsupported}
 use Rattle.fir_parse.specs.working.Reading.{Outcome, step, goes_on, at_token, at_end, read_on, whole}
 use Rattle.fir_parse.proofs.Limiting.{not_passed}
 use Rattle.fir_parse.proofs.FormsFound.{IsWholeText, Is, Derives, Found, Extends}
@@ -20,13 +20,13 @@ module _ (limits : Limits) where
 
   derived_at_end : (end : Place) (st : State) (c : CircuitTree) → at_end (λ l. limits l []) end st ≡ Ok c → Derives limits st c []
   derived_at_end end (done x) c h = let same : x ≡ c = cc in (same, refl)
-  derived_at_end end (limit b l st) c h = let kept = not_passed (limits (limit_of l) []) b (fault_of l) (at_end (λ x. limits x []) end st) c h in (kept.0, derived_at_end end st c kept.1)
+  derived_at_end end (limit b l st) c h = let kept = not_passed (limits (limit_of l) []) b (bound_fault l) (at_end (λ x. limits x []) end st) c h in (kept.0, derived_at_end end st c kept.1)
   derived_at_end end (wants s k) c h = absurd (cc)
 
   derived_at_token : (st : State) (t : Terminal) (ts : List Terminal) (c : CircuitTree) (behind : State → Outcome) → ((next : State) → behind next ≡ Ok c → Derives limits next c ts) → at_token (λ l. limits l (t ∷ ts)) st t behind ≡ Ok c → Derives limits st c (t ∷ ts)
   derived_at_token (done x) t ts c behind later h = absurd (cc)
   derived_at_token (limit b l st) t ts c behind later h =
-      let kept = not_passed (limits (limit_of l) (t ∷ ts)) b (fault_of l) (at_token (λ x. limits x (t ∷ ts)) st t behind) c h in
+      let kept = not_passed (limits (limit_of l) (t ∷ ts)) b (bound_fault l) (at_token (λ x. limits x (t ∷ ts)) st t behind) c h in
       (kept.0, derived_at_token st t ts c behind later kept.1)
   derived_at_token (wants s k) t ts c behind later h =
       by_step (Is limits s) t ts (step s t.lexeme t.place) k c behind _ (extends limits s t.lexeme t.place ts) later (λ x e. derived_at_token (k x) t ts c behind later e) h

@@ -4,7 +4,7 @@ use Rattle.fir_ast.specs.declared.place.Place.{Place}
 use Rattle.fir_ast.specs.declared.fault.FirFault.{FirFault}
 use Rattle.fir_ast.specs.declared.fault.FirFault.TheVariants.{Syntax, Unsupported}
 use Rattle.fir_parse.specs.Lexemes.{Terminal}
-use Rattle.fir_parse.specs.working.States.{State, Bound, fault_of}
+use Rattle.fir_parse.specs.working.States.{State, Bound, bound_fault}
 use Rattle.fir_parse.specs.working.Reading.{Outcome, at_token, at_end, read_on}
 use Rattle.fir_parse.specs.TextFaults.{place_at}
 use Rattle.fir_parse.specs.working.Reaching.{Verdict, continues, unexpected, missing, judge, passed_limit, Reaches, next_verdict}
@@ -23,17 +23,17 @@ OpenAtEnd st [] = IsOpen st
 OpenAtEnd st (t ∷ back) = Unit {0}
 
 abbrev pub PassesLimit : State → FirFault → Type 0
-PassesLimit st f = (l : Bound) × (passed_limit st ≡ Some l) × (f ≡ fault_of l)
+PassesLimit st f = (l : Bound) × (passed_limit st ≡ Some l) × (f ≡ bound_fault l)
 
-abbrev pub IsUnexpected : Place → State → List Terminal → FirFault → Type 0
-IsUnexpected end st back f = (passed_limit st ≡ None) × (next_verdict st back ≡ unexpected) × OpenAtEnd st back × (f ≡ Syntax (place_at end back))
+abbrev pub StopsUnexpected : Place → State → List Terminal → FirFault → Type 0
+StopsUnexpected end st back f = (passed_limit st ≡ None) × (next_verdict st back ≡ unexpected) × OpenAtEnd st back × (f ≡ Syntax (place_at end back))
 
-abbrev pub IsMissing : State → List Terminal → FirFault → Type 0
-IsMissing st back f = (p : Place) × (w : List ℕ) × (passed_limit st ≡ None) × (next_verdict st back ≡ missing p w) × (f ≡ Unsupported p w)
+abbrev pub StopsMissing : State → List Terminal → FirFault → Type 0
+StopsMissing st back f = (p : Place) × (w : List ℕ) × (passed_limit st ≡ None) × (next_verdict st back ≡ missing p w) × (f ≡ Unsupported p w)
 
 -- reading stops in this state, before these tokens
 abbrev pub Halts : Place → State → List Terminal → FirFault → Type 0
-Halts end st back f = PassesLimit st f ⊎ IsUnexpected end st back f ⊎ IsMissing st back f
+Halts end st back f = PassesLimit st f ⊎ StopsUnexpected end st back f ⊎ StopsMissing st back f
 
 -- reading stops behind some of the tokens
 pub record HaltsIn (end : Place) (st : State) (ts : List Terminal) (f : FirFault) : Type 0 where

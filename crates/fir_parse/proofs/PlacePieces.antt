@@ -5,7 +5,7 @@ use Rattle.fir_ast.specs.declared.place.Place.{Place}
 use Rattle.fir_ast.specs.Statements.{PlacedName}
 use Rattle.fir_parse.specs.Lexemes.{Terminal, Lexeme, word, integer}
 use Rattle.fir_parse.specs.Limits.{everywhere}
-use Rattle.fir_parse.specs.Pieces.{◌▸◌, Either, Given, Nothing, Token, Somewhere, Name, FieldName, Digits, Int, IntAt}
+use Rattle.fir_parse.specs.Pieces.{◌▸◌, Either, Given, Nothing, TokenAt, Somewhere, NameToken, FieldName, Digits, Int, IntAt}
 use Rattle.fir_parse.specs.working.TreePlaces.{IsBefore, Rise}
 use Rattle.fir_parse.specs.working.TokenPlaces.{has_place, token_places}
 
@@ -46,17 +46,17 @@ Between qs a b = (rs : List Place) × (token_places a ≡ rs ++ token_places b) 
 pub record Has (P : List Terminal → List Terminal → Type 0) (qs : List Place) : Type 0 where
   pub holds : (a b : List Terminal) → P a b → Between qs a b
 
-places_at : (l : Lexeme) (p : Place) (a b : List Terminal) → has_place l ≡ true → Token l p a b → token_places a ≡ p ∷ token_places b
+places_at : (l : Lexeme) (p : Place) (a b : List Terminal) → has_place l ≡ true → TokenAt l p a b → token_places a ≡ p ∷ token_places b
 places_at l p a b h e = rw e (rw h refl)
 
-pub token : {l : Lexeme} {p : Place} → has_place l ≡ true → Has (Token l p) (p ∷ [])
+pub token : {l : Lexeme} {p : Place} → has_place l ≡ true → Has (TokenAt l p) (p ∷ [])
 token {l} {p} h = record { holds = λ a b e. (p ∷ [], places_at l p a b h e, inl (refl, tt)) }
 
-passed_by : (l : Lexeme) (p : Place) (a b : List Terminal) (c : Bool) → has_place l ≡ c → Token l p a b → Between [] a b
+passed_by : (l : Lexeme) (p : Place) (a b : List Terminal) (c : Bool) → has_place l ≡ c → TokenAt l p a b → Between [] a b
 passed_by l p a b true h e = (p ∷ [], places_at l p a b h e, tt)
 passed_by l p a b false h e = ([], rw e (rw h refl), tt)
 
-pub passed : {l : Lexeme} {p : Place} → Has (Token l p) []
+pub passed : {l : Lexeme} {p : Place} → Has (TokenAt l p) []
 passed {l} {p} = record { holds = λ a b e. passed_by l p a b (has_place l) refl e }
 
 pub somewhere : {l : Lexeme} → Has (Somewhere l) []
@@ -88,7 +88,7 @@ behind {qs = qs} p q = record { holds = λ a b x. joined [] qs a x.0 b (p.holds 
 pub either : {P Q : List Terminal → List Terminal → Type 0} {qs : List Place} → Has P qs → Has Q qs → Has (Either P Q) qs
 either p q = record { holds = λ a b x. elim x [ inl y ↦ p.holds a b y | inr y ↦ q.holds a b y ] }
 
-pub name : (n : PlacedName) → Has (Name n) (n.place ∷ [])
+pub name : (n : PlacedName) → Has (NameToken n) (n.place ∷ [])
 name n = token {l = word n.name} refl
 
 pub field_name : (n : PlacedName) → Has (FieldName n) (n.place ∷ [])

@@ -12,7 +12,7 @@ use Rattle.fir_parse.specs.working.AtHand.{StandsFirst, IsAtHand, stop_at}
 use Rattle.fir_parse.specs.declared.parser.Next.{Next}
 use Rattle.fir_parse.specs.Lexemes.{Lexeme, Terminal}
 use Rattle.fir_parse.specs.working.Seen.{seen}
-use Rattle.fir_parse.specs.working.States.{State, Bound, fault_of, limit, wants, takes, without, refuses, unsupported, opens, ends_form}
+use Rattle.fir_parse.specs.working.States.{State, Bound, bound_fault, limit, wants, takes, without, refuses, unsupported, opens, ends_form}
 use Rattle.fir_parse.specs.working.Symbols.{Sym, Tree}
 use Rattle.fir_parse.specs.working.Reading.{read_on, at_token, goes_on, step}
 use Rattle.fir_parse.specs.working.Reads.{Plan, Stops, Gives, Reads, Leads}
@@ -77,7 +77,7 @@ limit_kept b l st end [] e = rw e refl
 limit_kept b l st end (t ∷ ts) e = rw e refl
 
 -- a limit that is passed
-pub limit_passed : (b : Bool) (l : Bound) (st : State) (end : Place) (ts : List Terminal) → b ≡ true → read_on everywhere end (limit b l st) ts ≡ Err (fault_of l)
+pub limit_passed : (b : Bool) (l : Bound) (st : State) (end : Place) (ts : List Terminal) → b ≡ true → read_on everywhere end (limit b l st) ts ≡ Err (bound_fault l)
 unfolding read_on
 limit_passed b l st end [] e = rw e refl
 limit_passed b l st end (t ∷ ts) e = rw e refl

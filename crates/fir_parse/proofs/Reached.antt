@@ -4,7 +4,7 @@ use Rattle.fir_ast.specs.Circuits.{CircuitTree}
 use Rattle.fir_parse.specs.Lexemes.{Terminal}
 use Rattle.fir_parse.specs.Limits.{Limit, Limits, nowhere}
 use Rattle.fir_parse.specs.Fronts.{IsText, up_to, IsFrontWithin}
-use Rattle.fir_parse.specs.working.States.{State, Bound, done, limit, wants, limit_of, fault_of}
+use Rattle.fir_parse.specs.working.States.{State, Bound, done, limit, wants, limit_of, bound_fault}
 use Rattle.fir_parse.specs.working.Reading.{Outcome, at_token, at_end, read_on, whole}
 use Rattle.fir_parse.specs.working.Reaching.{Verdict, continues, unexpected, missing, judge, passed_limit, Reaches}
 use Rattle.fir_parse.proofs.Guards.{Guarded}
@@ -22,14 +22,14 @@ use Rattle.fir_parse.proofs.FormsSpelled.{forms_found}
 kept_at_token : (counts : Limit → Bool) (st : State) (t : Terminal) (f : State → Outcome) (c : CircuitTree) → at_token counts st t f ≡ Ok c → Kept counts st
 kept_at_token counts (done x) t f c h = tt
 kept_at_token counts (limit passed l st) t f c h =
-    let kept = not_passed (counts (limit_of l)) passed (fault_of l) (at_token counts st t f) c h in
+    let kept = not_passed (counts (limit_of l)) passed (bound_fault l) (at_token counts st t f) c h in
     (kept.0, kept_at_token counts st t f c kept.1)
 kept_at_token counts (wants s k) t f c h = tt
 
 kept_at_end : (counts : Limit → Bool) (st : State) (c : CircuitTree) → at_end counts origin st ≡ Ok c → Kept counts st
 kept_at_end counts (done x) c h = tt
 kept_at_end counts (limit passed l st) c h =
-    let kept = not_passed (counts (limit_of l)) passed (fault_of l) (at_end counts origin st) c h in
+    let kept = not_passed (counts (limit_of l)) passed (bound_fault l) (at_end counts origin st) c h in
     (kept.0, kept_at_end counts st c kept.1)
 kept_at_end counts (wants s k) c h = tt
 

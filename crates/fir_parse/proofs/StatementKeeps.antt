@@ -4,7 +4,7 @@ use Rattle.std.specs.Str.{bytes_eq}
 use Rattle.fir_base.specs.Lists.{In}
 use Rattle.fir_ast.specs.declared.place.Place.{Place}
 use Rattle.fir_ast.specs.Expressions.{Expression, reference}
-use Rattle.fir_ast.specs.Statements.{PlacedName, Sink, Statement, Block, done, invalid}
+use Rattle.fir_ast.specs.Statements.{PlacedName, SinkReference, Statement, Block, done, invalid}
 use Rattle.fir_parse.specs.declared.lexeme.Mark.{Mark}
 use Rattle.fir_parse.specs.declared.lexeme.Mark.TheVariants.{Connect, PartialConnect, Equals, OpenSquare, Colon, Dot}
 use Rattle.fir_parse.specs.declared.words.Declaration.{Declaration}
@@ -35,7 +35,7 @@ first_spot v q t = record {
   misses = λ p w. (word_at v q ≡ word_at w p) × (In missing_statements w ⊎ (In missing_ports w × (t.lexeme ≡ word (codes "mport"))));
 }
 
-pub keeps_sink : (d : ℕ) (s : Sink) (l : Lexeme) (p : Place) → Keeps (always unlimited) elsewhere (at l p) (sink_step d s l p)
+pub keeps_sink : (d : ℕ) (s : SinkReference) (l : Lexeme) (p : Place) → Keeps (always unlimited) elsewhere (at l p) (sink_step d s l p)
 keeps_sink d s (mark Connect) p = λ k after. (λ e. (λ q. loosened q _ (after _), refl), tt)
 keeps_sink d s (mark PartialConnect) p = λ k after. (λ e. (λ q. loosened q _ (after _), refl), tt)
 keeps_sink d s (word w) p =
@@ -125,7 +125,7 @@ keeps_declaration_of_is (lead.Declares declares.When) d p q (mark OpenSquare) r 
     λ k after. (guarded_index d 1 r (λ ps. when_rest d p (reference q (codes "is") ps) (opened k)) (λ ps. guarded_when d p (reference q (codes "is") ps) (opened k) (λ s. after (open_when s))), inl (refl, tt))
 keeps_declaration_of_is _ d p q _ r = tt
 
-keeps_invalid_or : (l : Lexeme) (r : Place) (s : Sink) (otherwise : Step Begun) → Keeps (always unlimited) elsewhere (at l r) otherwise → Keeps (always unlimited) elsewhere (at l r) (invalid_or l s otherwise)
+keeps_invalid_or : (l : Lexeme) (r : Place) (s : SinkReference) (otherwise : Step Begun) → Keeps (always unlimited) elsewhere (at l r) otherwise → Keeps (always unlimited) elsewhere (at l r) (invalid_or l s otherwise)
 keeps_invalid_or (word x) r s otherwise h =
     keeps_if (always unlimited) elsewhere (at (word x) r) (bytes_eq x (codes "invalid")) (takes (λ k. ends_line (invalid s.place s) (begun k))) otherwise (λ k after. (λ e. loosened e _ (after _), tt)) h
 keeps_invalid_or _ r s otherwise h = h

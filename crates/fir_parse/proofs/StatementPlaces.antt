@@ -3,16 +3,16 @@ use Rattle.std.proofs.Common.{◌≡◌, ℕ, ◌+◌, List, [], ◌∷◌, ◌+
 use Rattle.std.specs.Prelude.{flat_map}
 use Rattle.fir_ast.specs.declared.place.Place.{Place}
 use Rattle.fir_ast.specs.Expressions.{Expression}
-use Rattle.fir_ast.specs.Statements.{PlacedName, Sink, Reset, MemoryPart, data_type, depth, read_latency, write_latency, reader, writer, readwriter, read_under_write, Statement, wire, register, node, instance, memory, when, connect, partial_connect, invalid, skip, Block, done, then}
+use Rattle.fir_ast.specs.Statements.{PlacedName, SinkReference, Reset, MemoryPart, data_type, depth, read_latency, write_latency, reader, writer, readwriter, read_under_write, Statement, wire, register, node, instance, memory, when, connect, partial_connect, invalid, skip, Block, done, then}
 use Rattle.fir_ast.specs.Circuits.{PortTree, ModuleTree, CircuitTree}
 use Rattle.fir_parse.specs.declared.lexeme.Mark.{Mark}
 use Rattle.fir_parse.specs.declared.lexeme.Mark.TheVariants.{Connect, PartialConnect}
 use Rattle.fir_parse.specs.Lexemes.{Terminal}
 use Rattle.fir_lex.specs.working.Laws.{LexedFormByForm}
 use Rattle.fir_parse.specs.Limits.{everywhere}
-use Rattle.fir_parse.specs.Pieces.{◌▸◌, Given, Sign, Word, LineEnd}
+use Rattle.fir_parse.specs.Pieces.{◌▸◌, Given, Sign, WordToken, LineEnd}
 use Rattle.fir_parse.specs.ExpressionForms.{IsExpression, IsSink}
-use Rattle.fir_parse.specs.StatementForms.{IsResetPair, IsReset, AreNames, IsNames, IsWhen, IsMemoryPart, AreMemoryParts, IsMemoryBody, IsStatement, AreStatements, IsBlock, IsElse}
+use Rattle.fir_parse.specs.StatementForms.{IsResetPair, IsRegisterReset, AreNames, IsNames, IsWhen, IsMemoryPart, AreMemoryParts, IsMemoryBody, IsStatement, AreStatements, IsBlock, IsElse}
 use Rattle.fir_parse.specs.CircuitForms.{IsPort, ArePorts, IsBody, IsModule, AreModules, AreSomeModules, IsVersion, IsSpelled}
 use Rattle.fir_parse.specs.Spells.{Spells, terminals}
 use Rattle.fir_parse.specs.working.TreePlaces.{Rise, parts_places, expression_places, reset_places, name_places, memory_part_places, memory_places, statement_places, block_places, port_places, module_places, circuit_places}
@@ -25,7 +25,7 @@ pair : (d : ℕ) (r : Reset) → Has (IsResetPair everywhere d r) (expression_pl
 pair d r =
     behind somewhere (behind somewhere (behind somewhere (behind given (next (expression_has (d + 1) r.condition) (behind somewhere (ended (expression_has (d + 1) r.init) somewhere))))))
 
-reset : (d : ℕ) (r : Option Reset) → Has (IsReset everywhere d r) (reset_places r)
+reset : (d : ℕ) (r : Option Reset) → Has (IsRegisterReset everywhere d r) (reset_places r)
 reset d None = somewhere
 reset d (Some r) =
     next (token refl)
@@ -61,19 +61,19 @@ memory_body d (f ∷ fs) = behind somewhere (next (part d f) (ended (parts d fs)
 
 -- ---- statements
 
-sink : (d : ℕ) (s : Sink) → Has (IsSink everywhere d s) (s.place ∷ parts_places s.parts)
+sink : (d : ℕ) (s : SinkReference) → Has (IsSink everywhere d s) (s.place ∷ parts_places s.parts)
 sink d s = next (token refl) (parts_have d 1 s.parts)
 
 -- a statement stands where its sink does
 at_sink : {Q : List Terminal → List Terminal → Type 0} {qs : List Place} (p q : Place) → Has Q (q ∷ qs) → ((a b : List Terminal) → Q a b → p ≡ q) → Has Q (p ∷ qs)
 at_sink {Q} {qs} p q h e = record { holds = λ a b x. subst (λ r. Between (r ∷ qs) a b) (sym (e a b x)) (h.holds a b x) }
 
-driven : (d : ℕ) (m : Mark) (p : Place) (s : Sink) (e : Expression) → Has (IsSink everywhere d s ▸ Sign m ▸ IsExpression everywhere d e ▸ LineEnd ▸ Given (p ≡ s.place)) (p ∷ parts_places s.parts ++ expression_places e)
+driven : (d : ℕ) (m : Mark) (p : Place) (s : SinkReference) (e : Expression) → Has (IsSink everywhere d s ▸ Sign m ▸ IsExpression everywhere d e ▸ LineEnd ▸ Given (p ≡ s.place)) (p ∷ parts_places s.parts ++ expression_places e)
 driven d m p s e =
     at_sink p s.place (next (sink d s) (behind somewhere (ended (expression_has d e) (behind somewhere given)))) (λ a b x. x.2.2.2.2.0)
 
 -- a when that is all of an else
-alone : (d : ℕ) (s : Statement) (rest : Block) → Has (IsStatement everywhere (d + 1) s) (statement_places s) → Has (Word (codes "else") ▸ Given (IsWhen s × (rest ≡ done)) ▸ IsStatement everywhere (d + 1) s) (statement_places s ++ block_places rest)
+alone : (d : ℕ) (s : Statement) (rest : Block) → Has (IsStatement everywhere (d + 1) s) (statement_places s) → Has (WordToken (codes "else") ▸ Given (IsWhen s × (rest ≡ done)) ▸ IsStatement everywhere (d + 1) s) (statement_places s ++ block_places rest)
 alone d s rest h = record {
   holds = λ a b x.
       let none : statement_places s ≡ statement_places s ++ block_places rest = (let empty : rest ≡ done = x.2.1.0.1 in sym (append-nil (statement_places s)) ∙ ap (λ r. statement_places s ++ block_places r) (sym empty)) in

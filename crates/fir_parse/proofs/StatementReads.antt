@@ -3,7 +3,7 @@ use Rattle.std.proofs.Common.{◌≡◌, ℕ, ◌+◌, List, [], ◌∷◌, drop
 use Rattle.std.specs.Str.{bytes_eq}
 use Rattle.fir_ast.specs.declared.place.Place.{Place}
 use Rattle.fir_ast.specs.declared.fault.FirFault.TheVariants.{Syntax}
-use Rattle.fir_ast.specs.Statements.{PlacedName, Sink, Statement, invalid, skip, done}
+use Rattle.fir_ast.specs.Statements.{PlacedName, SinkReference, Statement, invalid, skip, done}
 use Rattle.fir_parse.specs.declared.lexeme.Mark.TheVariants.{Connect, PartialConnect, Dot, OpenSquare, Colon, Equals}
 use Rattle.fir_parse.specs.declared.lexeme.Lexeme.{Lexeme as LexemeRef}
 use Rattle.fir_parse.specs.declared.lexeme.Lexeme.TheVariants as code
@@ -39,7 +39,7 @@ both_by_test true p g k h m behind u v e = ap behind e
 both_by_test false p g k h m behind u v e = refl
 
 -- behind a sink
-pub is_behind_sink : (d : ℕ) (s : Sink) (k : Statement → State) (l : LexemeRef) (p : Place) → (l ≡ code.Mark Connect → ⊥) → (l ≡ code.Mark PartialConnect → ⊥) → (behind : State → Outcome) → at_token (λ l. true) (wants (behind_sink d s) k) (record { lexeme = seen l; place = p }) behind ≡ at_token (λ l. true) (wants (a_word (codes "is")) (λ q. wants (a_word (codes "invalid")) (λ r. ends_line (invalid s.place s) k))) (record { lexeme = seen l; place = p }) behind
+pub is_behind_sink : (d : ℕ) (s : SinkReference) (k : Statement → State) (l : LexemeRef) (p : Place) → (l ≡ code.Mark Connect → ⊥) → (l ≡ code.Mark PartialConnect → ⊥) → (behind : State → Outcome) → at_token (λ l. true) (wants (behind_sink d s) k) (record { lexeme = seen l; place = p }) behind ≡ at_token (λ l. true) (wants (a_word (codes "is")) (λ q. wants (a_word (codes "invalid")) (λ r. ends_line (invalid s.place s) k))) (record { lexeme = seen l; place = p }) behind
 is_behind_sink d s k (code.Mark Connect) p h g behind = absurd (h refl)
 is_behind_sink d s k (code.Mark PartialConnect) p h g behind = absurd (g refl)
 is_behind_sink d s k (code.Word x) p h g behind = by_test (bytes_eq x.now (codes "is")) p (λ j. wants (a_word (codes "invalid")) (λ r. ends_line (invalid s.place s) j)) k p (λ q. wants (a_word (codes "invalid")) (λ r. ends_line (invalid s.place s) k)) behind _ _ refl
@@ -108,7 +108,7 @@ pub second_is_is : (d : ℕ) (p : Place) (w x : List ℕ) (q : Place) → bytes_
 second_is_is d p w x q e = rw e refl
 
 -- behind the word `is`, where no `invalid` stands
-not_invalid : (s : Sink) (otherwise : Step Begun) (l : LexemeRef) → ((x : Bor (List ℕ)) → l ≡ code.Word x → bytes_eq x.now (codes "invalid") ≡ false) → invalid_or (seen l) s otherwise ≡ otherwise
+not_invalid : (s : SinkReference) (otherwise : Step Begun) (l : LexemeRef) → ((x : Bor (List ℕ)) → l ≡ code.Word x → bytes_eq x.now (codes "invalid") ≡ false) → invalid_or (seen l) s otherwise ≡ otherwise
 not_invalid s o (code.Word x) h = rw (h x refl) refl
 not_invalid s o _ h = refl
 

@@ -12,7 +12,7 @@ use Rattle.fir_ast.specs.declared.statements.When.{When, fold_out-When}
 use Rattle.fir_ast.specs.declared.types.Ty.{Ty}
 use Rattle.fir_ast.specs.Statements.{Statement, wire, register, node, when, connect, partial_connect, invalid}
 use Rattle.fir_ast.specs.working.Views.{stmt_of, block_of, expr_of, named_of, reset_of, sink_of, stmt_step, when_step}
-use Rattle.fir_ast.specs.View.{type_of}
+use Rattle.fir_ast.specs.working.TypeViews.{type_of}
 
 pub wire_view : (p : Place) (n : Ident) (q : Place) (t : Ty) → stmt_of (code.Wire p n q t) ≡ wire p (named_of n) q (type_of t)
 wire_view p n q t = ap stmt_of (sym (code.rolls-Wire p n q t)) ∙ fold-roll-Stmt Statement (Place → Statement) stmt_step when_step (layer.Wire p n q t)

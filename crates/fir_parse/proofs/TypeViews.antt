@@ -6,7 +6,8 @@ use Rattle.fir_ast.specs.declared.types.Ty.TheVariants as code
 use Rattle.fir_ast.specs.declared.types.Ty.TheOpen as layer
 use Rattle.fir_ast.specs.Types.{DataType, uint, sint, clock, reset, async_reset, bundle, vector, Fields}
 use Rattle.fir_ast.specs.working.BundleText.{field_of}
-use Rattle.fir_ast.specs.View.{type_of, fields_of, type_step, field_step}
+use Rattle.fir_ast.specs.View.{fields_of}
+use Rattle.fir_ast.specs.working.TypeViews.{type_of, type_step, field_step}
 
 pub uint_view : (w : Option ℕ) → type_of (code.UInt w) ≡ uint w
 uint_view w = ap type_of (sym (code.rolls-UInt w)) ∙ fold-roll-Ty DataType (Fields → Fields) type_step field_step (layer.UInt w)

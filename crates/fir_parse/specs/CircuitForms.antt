@@ -10,7 +10,7 @@ use Rattle.fir_ast.specs.Circuits.{PortTree, ModuleTree, CircuitTree}
 use Rattle.fir_parse.specs.declared.lexeme.Mark.TheVariants.{Colon, Dot}
 use Rattle.fir_parse.specs.Lexemes.{Terminal, word}
 use Rattle.fir_parse.specs.Limits.{Limits, versions, Within}
-use Rattle.fir_parse.specs.Pieces.{◌▸◌, At, Either, Given, Nothing, Token, Sign, Word, LineEnd, Opens, Closes, Annotations, Name, Int}
+use Rattle.fir_parse.specs.Pieces.{◌▸◌, At, Either, Given, Nothing, TokenAt, Sign, WordToken, LineEnd, Opens, Closes, Annotations, NameToken, Int}
 use Rattle.fir_parse.specs.TypeForms.{IsType}
 use Rattle.fir_parse.specs.StatementForms.{AreStatements}
 
@@ -19,7 +19,7 @@ direction_word Input = codes "input"
 direction_word Output = codes "output"
 
 abbrev pub IsPort : Limits → PortTree → List Terminal → List Terminal → Type 0
-IsPort limits p = Word (direction_word p.direction) ▸ Name p.named ▸ Sign Colon ▸ (At p.type_place ▸ IsType limits 0 p.data_type) ▸ LineEnd
+IsPort limits p = WordToken (direction_word p.direction) ▸ NameToken p.named ▸ Sign Colon ▸ (At p.type_place ▸ IsType limits 0 p.data_type) ▸ LineEnd
 
 abbrev pub ArePorts : Limits → List PortTree → List Terminal → List Terminal → Type 0
 ArePorts limits [] = Nothing
@@ -30,7 +30,7 @@ abbrev pub IsBody : Limits → List PortTree → Block → List Terminal → Lis
 IsBody limits ps b = Either (Given ((ps ≡ []) × (b ≡ done))) (Opens ▸ ArePorts limits ps ▸ AreStatements limits 0 b ▸ Closes)
 
 abbrev pub IsModule : Limits → ModuleTree → List Terminal → List Terminal → Type 0
-IsModule limits m = Token (word (codes "module")) m.place ▸ Name m.named ▸ Sign Colon ▸ LineEnd ▸ IsBody limits m.ports m.body
+IsModule limits m = TokenAt (word (codes "module")) m.place ▸ NameToken m.named ▸ Sign Colon ▸ LineEnd ▸ IsBody limits m.ports m.body
 
 abbrev pub AreModules : Limits → List ModuleTree → List Terminal → List Terminal → Type 0
 AreModules limits [] = Nothing
@@ -44,11 +44,11 @@ AreSomeModules limits (m ∷ ms) before behind = (IsModule limits m ▸ AreModul
 abbrev pub IsVersion : Limits → List Terminal → List Terminal → Type 0
 IsVersion limits before behind =
     (major : ℕ) × (minor : ℕ) × (patch : ℕ)
-    × (Word (codes "FIRRTL") ▸ Word (codes "version") ▸ Int limits major ▸ Within limits versions ((major ≡ 1) ⊎ (major ≡ 2)) ▸ Sign Dot ▸ Int limits minor
+    × (WordToken (codes "FIRRTL") ▸ WordToken (codes "version") ▸ Int limits major ▸ Within limits versions ((major ≡ 1) ⊎ (major ≡ 2)) ▸ Sign Dot ▸ Int limits minor
     ▸ Sign Dot ▸ Int limits patch ▸ LineEnd) before behind
 
 -- all tokens are those of the circuit
 abbrev pub IsSpelled : Limits → CircuitTree → List Terminal → Type 0
 IsSpelled limits c ts =
-    (Either Nothing (IsVersion limits) ▸ Word (codes "circuit") ▸ Name c.named ▸ Sign Colon ▸ Either Nothing Annotations ▸ LineEnd ▸ Opens
+    (Either Nothing (IsVersion limits) ▸ WordToken (codes "circuit") ▸ NameToken c.named ▸ Sign Colon ▸ Either Nothing Annotations ▸ LineEnd ▸ Opens
     ▸ AreSomeModules limits c.modules ▸ Closes) ts []

@@ -34,17 +34,17 @@ abbrev pub At : Place → List Terminal → List Terminal → Type 0
 At p before behind = IsNextAt p before × (before ≡ behind)
 
 -- one token
-abbrev pub Token : Lexeme → Place → List Terminal → List Terminal → Type 0
-Token l p before behind = before ≡ record { lexeme = l; place = p } ∷ behind
+abbrev pub TokenAt : Lexeme → Place → List Terminal → List Terminal → Type 0
+TokenAt l p before behind = before ≡ record { lexeme = l; place = p } ∷ behind
 
 abbrev pub Somewhere : Lexeme → List Terminal → List Terminal → Type 0
-Somewhere l before behind = (p : Place) × Token l p before behind
+Somewhere l before behind = (p : Place) × TokenAt l p before behind
 
 abbrev pub Sign : Mark → List Terminal → List Terminal → Type 0
 Sign m = Somewhere (mark m)
 
-abbrev pub Word : List ℕ → List Terminal → List Terminal → Type 0
-Word w = Somewhere (word w)
+abbrev pub WordToken : List ℕ → List Terminal → List Terminal → Type 0
+WordToken w = Somewhere (word w)
 
 abbrev pub LineEnd : List Terminal → List Terminal → Type 0
 LineEnd = Somewhere line_end
@@ -58,16 +58,16 @@ Closes = Somewhere level_closes
 abbrev pub Annotations : List Terminal → List Terminal → Type 0
 Annotations = Somewhere annotations
 
-abbrev pub Name : PlacedName → List Terminal → List Terminal → Type 0
-Name n = Token (word n.name) n.place
+abbrev pub NameToken : PlacedName → List Terminal → List Terminal → Type 0
+NameToken n = TokenAt (word n.name) n.place
 
 -- a word, or a run of digits
 abbrev pub FieldName : PlacedName → List Terminal → List Terminal → Type 0
-FieldName n = Either (Name n) (Given (has_sign n.name ≡ false) ▸ Token (integer n.name) n.place)
+FieldName n = Either (NameToken n) (Given (has_sign n.name ≡ false) ▸ TokenAt (integer n.name) n.place)
 
 -- an integer without a sign
 abbrev pub Digits : ℕ → Place → List Terminal → List Terminal → Type 0
-Digits n p before behind = (s : List ℕ) × (has_sign s ≡ false) × (decimal_value s ≡ n) × Token (integer s) p before behind
+Digits n p before behind = (s : List ℕ) × (has_sign s ≡ false) × (decimal_value s ≡ n) × TokenAt (integer s) p before behind
 
 abbrev pub IntAt : Limits → ℕ → Place → List Terminal → List Terminal → Type 0
 IntAt limits n p = Digits n p ▸ Within limits numbers (n < 2 ^ 128)

@@ -7,7 +7,7 @@ use Rattle.fir_parse.specs.declared.lexeme.Mark.TheVariants.{Less, Greater, Open
 use Rattle.fir_parse.specs.Lexemes.{Terminal}
 use Rattle.fir_parse.specs.Heights.{type_height}
 use Rattle.fir_parse.specs.Limits.{Limits, nesting, Within}
-use Rattle.fir_parse.specs.Pieces.{◌▸◌, At, Nothing, Sign, Word, FieldName, Int}
+use Rattle.fir_parse.specs.Pieces.{◌▸◌, At, Nothing, Sign, WordToken, FieldName, Int}
 
 abbrev pub IsWidth : Limits → Option ℕ → List Terminal → List Terminal → Type 0
 IsWidth limits None = Nothing
@@ -15,15 +15,15 @@ IsWidth limits (Some n) = Sign Less ▸ Int limits n ▸ Sign Greater
 
 abbrev pub IsFlip : Bool → List Terminal → List Terminal → Type 0
 IsFlip false = Nothing
-IsFlip true = Word (codes "flip")
+IsFlip true = WordToken (codes "flip")
 
 abbrev mutual
   pub IsType : Limits → ℕ → DataType → List Terminal → List Terminal → Type 0
-  IsType limits d (uint w) = Word (codes "UInt") ▸ IsWidth limits w
-  IsType limits d (sint w) = Word (codes "SInt") ▸ IsWidth limits w
-  IsType limits d clock = Word (codes "Clock")
-  IsType limits d reset = Word (codes "Reset")
-  IsType limits d async_reset = Word (codes "AsyncReset")
+  IsType limits d (uint w) = WordToken (codes "UInt") ▸ IsWidth limits w
+  IsType limits d (sint w) = WordToken (codes "SInt") ▸ IsWidth limits w
+  IsType limits d clock = WordToken (codes "Clock")
+  IsType limits d reset = WordToken (codes "Reset")
+  IsType limits d async_reset = WordToken (codes "AsyncReset")
   IsType limits d (bundle fs) =
       Sign OpenCurly ▸ Within limits nesting (d < 256) ▸ AreFields limits (d + 1) fs ▸ Sign CloseCurly ▸ Within limits nesting (type_height (bundle fs) ≤ 256)
   IsType limits d (vector t n) =

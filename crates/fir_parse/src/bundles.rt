@@ -16,7 +16,7 @@ pub struct BundleFields {
 
 impl<'t> Parser<'t> {
     ghost use Rattle.std.specs.Prelude.{◌≡◌, ℕ, ◌<◌, ◌≤◌, ◌∷◌, IfOk, OnOk, codes, drop};
-    ghost use Rattle.fir_ast.specs.View.{type_of};
+    ghost use Rattle.fir_ast.specs.working.TypeViews.{type_of};
     ghost use Rattle.fir_parse.specs.working.BundlePlans.{some_fields, behind_field};
     ghost use Rattle.fir_parse.specs.Heights.{type_height, fields_height};
     ghost use Rattle.fir_parse.specs.Lexemes.{mark, word};

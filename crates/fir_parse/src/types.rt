@@ -16,7 +16,7 @@ pub struct WrittenType {
 
 impl<'t> Parser<'t> {
     ghost use Rattle.std.specs.Prelude.{◌≡◌, ◌<◌, ◌≤◌, ◌∷◌, IfOk, OnOk, drop};
-    ghost use Rattle.fir_ast.specs.View.{type_of};
+    ghost use Rattle.fir_ast.specs.working.TypeViews.{type_of};
     ghost use Rattle.fir_parse.specs.Heights.{type_height};
     ghost use Rattle.fir_parse.specs.Lexemes.{mark, word};
     ghost use Rattle.fir_parse.specs.working.Reads.{left, rest, HasHeight, Leads, Reads};

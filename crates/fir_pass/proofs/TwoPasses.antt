@@ -1,7 +1,7 @@
 -- Two passes in a row keep what each keeps, and tell the first fault of both.
 use Rattle.std.proofs.Common.{ℕ, ◌<◌, ◌≤◌, arith, ⊎_elim}
 use Rattle.std.proofs.lemmas.Bool.{cases_lt}
-use Rattle.fir_pass.specs.Faults.{Fault}
+use Rattle.fir_ast.specs.Faults.{Fault}
 use Rattle.fir_pass.specs.Groups.{group_of, IsClear}
 use Rattle.fir_pass.specs.Meaning.{Meaning}
 use Rattle.fir_pass.specs.working.Law.{Keeps, Follows}

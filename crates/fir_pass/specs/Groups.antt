@@ -2,7 +2,7 @@
 -- Faults of the text come before all groups. A group lists its faults in the order of the text, or any of them may be told.
 use Rattle.std.specs.Prelude.{◌≡◌, ℕ, zero, suc, List, [], ◌∷◌, Option, Some, None}
 use Rattle.fir_base.specs.Lists.{In}
-use Rattle.fir_pass.specs.Faults.{Code, E01, E02, E03, E04, E05, E06, E07, E08, E09, E10, E11, E12, E13, E14, E15, E16, E17, E18, E19, E20, E21, E22, E23, E24, E25, E26, E27, E28, Fault}
+use Rattle.fir_ast.specs.Faults.{Code, E01, E02, E03, E04, E05, E06, E07, E08, E09, E10, E11, E12, E13, E14, E15, E16, E17, E18, E19, E20, E21, E22, E23, E24, E25, E26, E27, E28, Fault}
 
 abbrev pub group_of : Code → ℕ
 group_of E01 = 0

@@ -1,7 +1,7 @@
 -- What a pass keeps, and what its fault shows.
 -- A pass looks for the faults of the groups from one number up to another.
 use Rattle.std.specs.Prelude.{ℕ, ◌<◌, ◌≤◌}
-use Rattle.fir_pass.specs.Faults.{Fault as ToldFault}
+use Rattle.fir_ast.specs.Faults.{Fault as ToldFault}
 use Rattle.fir_pass.specs.Groups.{group_of, IsClear}
 use Rattle.fir_pass.specs.Meaning.{Meaning}
 

@@ -1,4 +1,3 @@
-pub mod Faults
 pub mod Groups
 pub mod Meaning
 pub mod Law

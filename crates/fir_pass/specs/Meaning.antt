@@ -3,7 +3,8 @@ use Rattle.std.specs.Prelude.{ℕ, List}
 use Rattle.fir_base.specs.Ticks.{Allowance, Shape}
 use Rattle.fir_pass.specs.Groups.{Group}
 
--- the names of the inputs, the clocks, the outputs and the words of the state, each the path of a leaf as it is printed, in the order of the shape
+-- the names of the inputs, the clocks, the outputs and of what keeps the state, its words and behind them its arrays: each a path as it is printed, in the order
+-- of the shape
 pub record ShapeNames : Type 0 where
   pub circuit : List ℕ
   pub inputs : List (List ℕ)

@@ -1,7 +1,7 @@
 //! A tree with a meaning, and a pass that keeps it.
 
 ghost use Rattle.std.specs.Prelude.{ℕ, IfOk};
-ghost use Rattle.fir_pass.specs.Faults.{Fault};
+ghost use Rattle.fir_ast.specs.Faults.{Fault};
 ghost use Rattle.fir_pass.specs.Meaning.{Meaning};
 ghost use Rattle.fir_pass.specs.working.Law.{Keeps, IfFault};
 ghost use Rattle.fir_pass.specs.Law.{IsFirst};

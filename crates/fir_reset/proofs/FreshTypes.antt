@@ -13,7 +13,7 @@ use Rattle.fir_bits.specs.Types.{signed_of}
 use Rattle.fir_ast.specs.declared.place.Place.{Place}
 use Rattle.fir_ast.specs.Types.{DataType, uint, sint, clock, reset, async_reset, bundle, vector, Fields, no_fields, field}
 use Rattle.fir_ast.specs.Expressions.{Expression, reference, literal, operation, mux, validif, Parts, no_parts, subfield, subindex, subaccess}
-use Rattle.fir_pass.specs.Faults.{Fault}
+use Rattle.fir_ast.specs.Faults.{Fault}
 use Rattle.fir_meaning.specs.TypeKinds.{FieldFound, field_named, bare, bare_fields, is_numeric, is_passive}
 use Rattle.fir_meaning.specs.Equivalence.{is_equivalent}
 use Rattle.fir_meaning.specs.KindFaults.{wrong_kinds, wrong_types, not_passive, out_of_range}
@@ -23,7 +23,7 @@ use Rattle.fir_meaning.specs.Checked.{Checked, answered, answer_on, joined}
 use Rattle.fir_meaning.specs.OperationTypes.{is_conversion, operand_kinds, result_of, ground_of, operation_on, type_of_operation}
 use Rattle.fir_meaning.specs.TypedScopes.{Known, TypedScope, known}
 use Rattle.fir_meaning.specs.Reaching.{Reached, reached_field, to_field, element_at, at_element, to_index, any_element, to_any, field_of_type, vector_of_type, known_reached, root}
-use Rattle.fir_meaning.specs.ExpressionTypes.{number_type, passive_at, type_of_mux, type_of_validif, passive_form, condition_form, field_form, index_form, access_form, expression_type, expression_types, along_parts}
+use Rattle.fir_meaning.specs.ExpressionTypes.{number_data_type, passive_at, type_of_mux, type_of_validif, passive_form, condition_form, field_form, index_form, access_form, expression_type, expression_types, along_parts}
 use Rattle.fir_meaning.proofs.FreshFields.{field_names, HasFreshFields, AreFresh}
 
 -- a type that is found has fresh fields
@@ -158,7 +158,7 @@ only_arm (Some c) (Some a) t h e = subst HasFreshFields (same_Some a t e) h
 only_arm None a t h e = absurd (none-some t e)
 only_arm (Some c) None t h e = absurd (none-some t e)
 
-number_fresh : (signed : Bool) (width : Option ℕ) → HasFreshFields (number_type signed width)
+number_fresh : (signed : Bool) (width : Option ℕ) → HasFreshFields (number_data_type signed width)
 number_fresh true width = tt
 number_fresh false width = tt
 

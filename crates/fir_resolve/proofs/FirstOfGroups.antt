@@ -11,7 +11,8 @@ use Rattle.fir_ast.specs.Statements.{PlacedName}
 use Rattle.fir_ast.specs.declared.circuit.Circuit.{Circuit}
 use Rattle.fir_ast.specs.Circuits.{CircuitTree}
 use Rattle.fir_ast.specs.working.Views.{circuit_of}
-use Rattle.fir_pass.specs.Faults.{Fault as ToldFault, fault_of}
+use Rattle.fir_ast.specs.Faults.{Fault as ToldFault}
+use Rattle.fir_ast.specs.working.CodeFaults.{fault_of}
 use Rattle.fir_pass.specs.Groups.{group_of, first_of, IsClear}
 use Rattle.fir_pass.specs.Law.{IsFirst}
 use Rattle.fir_pass.specs.working.Law.{Keeps}

@@ -12,7 +12,7 @@ use Rattle.fir_base.proofs.SameNames.{name_is}
 use Rattle.fir_ast.specs.declared.place.Place.{Place}
 use Rattle.fir_ast.specs.Statements.{PlacedName}
 use Rattle.fir_meaning.specs.Components.{find_name}
-use Rattle.fir_meaning.specs.Mentions.{placed}
+use Rattle.fir_meaning.specs.Mentions.{placed_name}
 use Rattle.fir_resolve.specs.declared.namespace.Namespace.{Namespace}
 use Rattle.fir_resolve.specs.working.Namespaces.{Holds}
 use Rattle.fir_names.proofs.LookUps.{found_last, map_last, or_cond}
@@ -26,7 +26,7 @@ find_name_last (x ∷ ns) n name =
 
 pub holds_more : (old new : Namespace) (before : List PlacedName) (p : Place) (name : List ℕ)
     → tree.Updates (slice_cmp nat_cmp) old.first new.first name (Some p) → None ≡ get (slice_cmp nat_cmp) old.first name → Holds old before
-    → Holds new (before ++ placed p name ∷ [])
+    → Holds new (before ++ placed_name p name ∷ [])
 holds_more old new before p name u none held = record {
   each = λ n.
       let under : Option Place = get (slice_cmp nat_cmp) old.first n in
@@ -34,6 +34,6 @@ holds_more old new before p name u none held = record {
       let missing : bytes_eq name n ≡ true → None ≡ under = λ e. none ∙ ap (get (slice_cmp nat_cmp) old.first) (name_is name n e) in
       u.0 n ∙ ap (λ b. cond b (Some p) under) (is_eq-slice_cmp name n)
       ∙ found_last (bytes_eq name n) p under (option_map place_of (find_name before n)) missing (held.each n)
-      ∙ sym (map_last place_of (bytes_eq name n) (placed p name) (find_name before n))
-      ∙ ap (option_map place_of) (sym (find_name_last before (placed p name) n));
+      ∙ sym (map_last place_of (bytes_eq name n) (placed_name p name) (find_name before n))
+      ∙ ap (option_map place_of) (sym (find_name_last before (placed_name p name) n));
 }

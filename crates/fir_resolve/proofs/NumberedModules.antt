@@ -14,7 +14,7 @@ use Rattle.fir_ast.specs.declared.circuit.Module.{Module}
 use Rattle.fir_ast.specs.Circuits.{ModuleTree}
 use Rattle.fir_ast.specs.working.Views.{module_of, named_of}
 use Rattle.fir_ast.specs.Statements.{PlacedName}
-use Rattle.fir_pass.specs.Faults.{Fault}
+use Rattle.fir_ast.specs.Faults.{Fault}
 use Rattle.fir_pass.specs.Groups.{first_of}
 use Rattle.fir_meaning.specs.Components.{find_name}
 use Rattle.fir_meaning.specs.NameGroups.{absent_faults, no_module}

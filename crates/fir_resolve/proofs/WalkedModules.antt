@@ -6,7 +6,7 @@ use Rattle.std.proofs.lemmas.List.{map-append}
 use Rattle.fir_ast.specs.declared.fault.FirFault.{FirFault}
 use Rattle.fir_ast.specs.Statements.{PlacedName, Block}
 use Rattle.fir_ast.specs.Circuits.{PortTree, ModuleTree}
-use Rattle.fir_pass.specs.Faults.{fault_of}
+use Rattle.fir_ast.specs.working.CodeFaults.{fault_of}
 use Rattle.fir_pass.specs.Groups.{first_of}
 use Rattle.fir_meaning.specs.Visibility.{behind_block, behind_ports, at_head, declarations}
 use Rattle.fir_meaning.specs.Mentions.{declares, block_mentions, ports_mentions, module_mentions, modules_mentions}

@@ -6,13 +6,14 @@ use Rattle.fir_ast.specs.declared.types.Field.{Field}
 use Rattle.fir_ast.specs.declared.statements.Ident.{Ident}
 use Rattle.fir_ast.specs.declared.statements.MemoryField.{MemoryField}
 use Rattle.fir_ast.specs.Statements.{MemoryPart, PlacedName}
-use Rattle.fir_ast.specs.View.{fields_of, type_of}
+use Rattle.fir_ast.specs.View.{fields_of}
+use Rattle.fir_ast.specs.working.TypeViews.{type_of}
 use Rattle.fir_ast.specs.working.Views.{memory_part_of, named_of}
 use Rattle.fir_ast.specs.working.BundleText.{field_of}
 use Rattle.fir_ast.proofs.Fields.{field_of-is}
-use Rattle.fir_pass.specs.Faults.{Fault}
+use Rattle.fir_ast.specs.Faults.{Fault}
 use Rattle.fir_pass.specs.Groups.{first_of}
-use Rattle.fir_meaning.specs.Mentions.{Mention, data_mentions, declares, field_mentions, memory_mentions, placed, port_mentions, ports_of, type_mentions}
+use Rattle.fir_meaning.specs.Mentions.{Mention, data_mentions, declares, field_mentions, memory_mentions, placed_name, port_mentions, ports_of, type_mentions}
 use Rattle.fir_meaning.specs.NameGroups.{faults_in}
 use Rattle.fir_resolve.specs.declared.namespace.Namespace.{Namespace}
 use Rattle.fir_resolve.specs.working.Namespaces.{Holds}
@@ -52,10 +53,10 @@ at_found walk namespace start whole left rest step more x next found a =
 
 -- a bundle's field, a memory's field and a port stand next
 abbrev pub field_step : Field → List PlacedName → List Mention
-field_step f before = declares before (placed f.place f.name) ∷ type_mentions (type_of f.ty)
+field_step f before = declares before (placed_name f.place f.name) ∷ type_mentions (type_of f.ty)
 
 pub fields_next : (fields : List Field) (i : ℕ) (f : Field) → i < length fields → f ≡ get_or fields i f
-    → Next field_mentions (fields_of (map field_of (drop i fields))) (fields_of (map field_of (drop (i + 1) fields))) (field_step f) (placed f.place f.name ∷ [])
+    → Next field_mentions (fields_of (map field_of (drop i fields))) (fields_of (map field_of (drop (i + 1) fields))) (field_step f) (placed_name f.place f.name ∷ [])
 fields_next fields i f within at = record {
   is = λ before.
       ap (λ l. field_mentions before (fields_of l)) (views_left field_of fields i f within at)

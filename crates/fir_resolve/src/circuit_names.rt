@@ -2,7 +2,7 @@
 
 ghost use Rattle.std.specs.Prelude.{◌≡◌, IfOk};
 ghost use Rattle.fir_ast.specs.working.Views.{circuit_of};
-ghost use Rattle.fir_pass.specs.Faults.{fault_of};
+ghost use Rattle.fir_ast.specs.working.CodeFaults.{fault_of};
 ghost use Rattle.fir_pass.specs.working.Law.{IfFault};
 ghost use Rattle.fir_pass.specs.Law.{IsFirst};
 ghost use Rattle.fir_meaning.specs.working.NameGroups.{HasNames};

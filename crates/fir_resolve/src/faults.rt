@@ -1,7 +1,7 @@
 //! The faults of names.
 
 ghost use Rattle.std.specs.Prelude.{◌≡◌, IfOk};
-ghost use Rattle.fir_pass.specs.Faults.{fault_of};
+ghost use Rattle.fir_ast.specs.working.CodeFaults.{fault_of};
 ghost use Rattle.fir_meaning.specs.NameGroups as group;
 
 use fir_ast::{FirFault, Place};

@@ -1,9 +1,10 @@
 //! The fields of bundles: no two of one bundle have one name (E09). They are compared as text.
 
 ghost use Rattle.std.specs.Prelude.{◌≡◌, [], IfOk, map, option_map};
-ghost use Rattle.fir_ast.specs.View.{fields_of, type_of};
+ghost use Rattle.fir_ast.specs.View.{fields_of};
+ghost use Rattle.fir_ast.specs.working.TypeViews.{type_of};
 ghost use Rattle.fir_ast.specs.working.BundleText.{field_of};
-ghost use Rattle.fir_pass.specs.Faults.{fault_of};
+ghost use Rattle.fir_ast.specs.working.CodeFaults.{fault_of};
 ghost use Rattle.fir_pass.specs.Groups.{first_of};
 ghost use Rattle.fir_meaning.specs.Mentions.{field_mentions, type_mentions};
 ghost use Rattle.fir_meaning.specs.NameGroups.{faults_in};

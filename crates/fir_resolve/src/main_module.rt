@@ -2,7 +2,7 @@
 
 ghost use Rattle.std.specs.Prelude.{◌≡◌, IfOk, option_map};
 ghost use Rattle.fir_ast.specs.working.Views.{circuit_of};
-ghost use Rattle.fir_pass.specs.Faults.{fault_of};
+ghost use Rattle.fir_ast.specs.working.CodeFaults.{fault_of};
 ghost use Rattle.fir_pass.specs.Groups.{first_of};
 ghost use Rattle.fir_meaning.specs.Mentions.{module_names};
 ghost use Rattle.fir_meaning.specs.NameGroups.{no_main_faults};

@@ -3,7 +3,7 @@
 ghost use Rattle.std.specs.Prelude.{◌≡◌, List, None, [], ◌++◌, IfOk, map, option_map};
 ghost use Rattle.fir_ast.specs.Statements.{PlacedName};
 ghost use Rattle.fir_ast.specs.working.Views.{memory_part_of, named_of};
-ghost use Rattle.fir_pass.specs.Faults.{fault_of};
+ghost use Rattle.fir_ast.specs.working.CodeFaults.{fault_of};
 ghost use Rattle.fir_pass.specs.Groups.{first_of};
 ghost use Rattle.fir_meaning.specs.Mentions.{data_mentions, memory_mentions, port_mentions, ports_of};
 ghost use Rattle.fir_meaning.specs.NameGroups.{faults_in};

@@ -2,9 +2,9 @@
 
 ghost use Rattle.std.specs.Prelude.{◌≡◌, List, None, [], ◌∷◌, ◌++◌, IfOk, option_map};
 ghost use Rattle.fir_ast.specs.Statements.{PlacedName};
-ghost use Rattle.fir_pass.specs.Faults.{fault_of};
+ghost use Rattle.fir_ast.specs.working.CodeFaults.{fault_of};
 ghost use Rattle.fir_pass.specs.Groups.{first_of};
-ghost use Rattle.fir_meaning.specs.Mentions.{declares, placed};
+ghost use Rattle.fir_meaning.specs.Mentions.{declares, placed_name};
 ghost use Rattle.fir_meaning.specs.NameGroups.{mention_faults};
 ghost use Rattle.fir_resolve.specs.working.Namespaces.{Holds};
 
@@ -37,8 +37,8 @@ impl Namespace {
         place: Place,
         name: &Name,
     ) -> Result<Option<FirFault>, MemoryOut>
-        ensures fault { IfOk result (λ f. (before : List PlacedName) → Holds self.old before → option_map fault_of f ≡ first_of (mention_faults (declares before (placed place name.now)))) }
-        ensures held { IfOk result (λ f. f ≡ None → (before : List PlacedName) → Holds self.old before → Holds self.new (before ++ placed place name.now ∷ [])) }
+        ensures fault { IfOk result (λ f. (before : List PlacedName) → Holds self.old before → option_map fault_of f ≡ first_of (mention_faults (declares before (placed_name place name.now)))) }
+        ensures held { IfOk result (λ f. f ≡ None → (before : List PlacedName) → Holds self.old before → Holds self.new (before ++ placed_name place name.now ∷ [])) }
     {
         if let Some(first) = self.first.get(name) {
             let first = *first;

@@ -1,7 +1,7 @@
 //! The pass of names.
 
 ghost use Rattle.std.specs.Prelude.{◌≡◌};
-ghost use Rattle.fir_pass.specs.Faults.{fault_of};
+ghost use Rattle.fir_ast.specs.working.CodeFaults.{fault_of};
 
 use crate::circuit_names::resolve;
 use fir_ast::{Circuit, FirFault};

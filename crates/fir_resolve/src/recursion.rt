@@ -5,7 +5,7 @@ ghost use Rattle.std.specs.Prelude.{◌≡◌, ◌<◌, IfOk, Some, length, map,
 ghost use Rattle.std.specs.List.{AllByRecursion};
 ghost use Rattle.fir_ast.specs.working.Views.{circuit_of, module_of};
 ghost use Rattle.fir_graph.specs.working.IsCircle.{IsCircle};
-ghost use Rattle.fir_pass.specs.Faults.{fault_of};
+ghost use Rattle.fir_ast.specs.working.CodeFaults.{fault_of};
 ghost use Rattle.fir_pass.specs.Groups.{IsClear};
 ghost use Rattle.fir_meaning.specs.Mentions.{module_names};
 ghost use Rattle.fir_meaning.specs.NameGroups.{IsRecursive, name_group};

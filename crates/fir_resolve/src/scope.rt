@@ -3,7 +3,7 @@
 ghost use Rattle.std.specs.Prelude.{◌≡◌, ◌+◌, List, Some, None, [], ◌∷◌, IfOk, OnOk, IfSome, is_some, option_map};
 ghost use Rattle.fir_ast.specs.Statements.{PlacedName};
 ghost use Rattle.fir_ast.specs.working.Views.{named_of};
-ghost use Rattle.fir_pass.specs.Faults.{fault_of};
+ghost use Rattle.fir_ast.specs.working.CodeFaults.{fault_of};
 ghost use Rattle.fir_pass.specs.Groups.{first_of};
 ghost use Rattle.fir_meaning.specs.Components as meant;
 ghost use Rattle.fir_meaning.specs.Components.{Declarations, find_name};

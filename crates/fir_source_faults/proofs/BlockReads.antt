@@ -50,7 +50,7 @@ use Rattle.fir_design.proofs.PlacedBlocks.{IsPlaced, body_placed, first_placed, 
 use Rattle.fir_design.proofs.SourceInstances.{grows_before}
 use Rattle.fir_source_faults.specs.working.ReadsByPath.{ReadsByPath, paths_in, scope_of_module}
 use Rattle.fir_source_faults.proofs.MemoryKinds.{SameLeafReads, memory_reads}
-use Rattle.fir_source_faults.proofs.RoleReads.{path_reads, role_reads}
+use Rattle.fir_source_faults.proofs.RoleReads.{init_reads, path_inits, path_reads, path_reset_inits, reset_inits, role_reads}
 
 first_there : (ts : List Term) → term_at ts 0 ≡ first_term ts
 first_there [] = refl
@@ -73,23 +73,28 @@ module _ (s : Scene) where
   from_read : (d : Declared) (place : TypeLeaf → Place) (role_of : ℕ → TypeLeaf → Role) (tree_role : TypeLeaf → SourceRole)
       (k : ℕ) (ls : List TypeLeaf) (hs : List LeafType)
       → ((j : ℕ) (l : TypeLeaf) → slice_get ls j ≡ Some l → paths_in s (role_reads (role_of (k + j) l)) ≡ path_reads (tree_role l))
+      → ((j : ℕ) (l : TypeLeaf) → slice_get ls j ≡ Some l → paths_in s (init_reads (role_of (k + j) l)) ≡ path_inits (tree_role l))
       → AreRead (leaves_from d place role_of k ls hs) (source_leaves_of d.named.name tree_role ls hs)
-  from_read d place role_of tree_role k [] hs h = tt
-  from_read d place role_of tree_role k (l ∷ ls) [] h = tt
-  from_read d place role_of tree_role k (l ∷ ls) (t ∷ hs) h =
+  from_read d place role_of tree_role k [] hs h g = tt
+  from_read d place role_of tree_role k (l ∷ ls) [] h g = tt
+  from_read d place role_of tree_role k (l ∷ ls) (t ∷ hs) h g =
       let first : k + 0 ≡ k = omega arith in
-      let own : paths_in s (role_reads (role_of k l)) ≡ path_reads (tree_role l) = rw first at (h 0 l refl) in (
-        record { reads = own },
-        from_read d place role_of tree_role (suc k) ls hs (λ j x e. let next : suc k + j ≡ k + suc j = omega arith in rw next (h (suc j) x e)),
+      let own : paths_in s (role_reads (role_of k l)) ≡ path_reads (tree_role l) = rw first at (h 0 l refl) in
+      let start : paths_in s (init_reads (role_of k l)) ≡ path_inits (tree_role l) = rw first at (g 0 l refl) in (
+        record { reads = own; inits = start },
+        from_read d place role_of tree_role (suc k) ls hs (λ j x e. let next : suc k + j ≡ k + suc j = omega arith in rw next (h (suc j) x e))
+            (λ j x e. let next : suc k + j ≡ k + suc j = omega arith in rw next (g (suc j) x e)),
       )
 
   declared_read : (d : Declared) (place : TypeLeaf → Place) (role_of : ℕ → TypeLeaf → Role) (source_of : TypeLeaf → SourceRole)
       → ((k : ℕ) (l : TypeLeaf) → slice_get (leaves_of_data (type_of_declared s d)) k ≡ Some l
       → paths_in s (role_reads (role_of k l)) ≡ path_reads (source_of l))
+      → ((k : ℕ) (l : TypeLeaf) → slice_get (leaves_of_data (type_of_declared s d)) k ≡ Some l
+      → paths_in s (init_reads (role_of k l)) ≡ path_inits (source_of l))
       → AreRead (declared_leaves s d place role_of) (declared_sources s d.before d.named d.component source_of)
-  declared_read d place role_of source_of h =
+  declared_read d place role_of source_of h g =
       from_read d place role_of source_of 0 (leaves_of_data (type_of_declared s d)) (held_by_declared s d)
-      (λ k l e. let none : 0 + k ≡ k = omega arith in rw none (h k l e))
+      (λ k l e. let none : 0 + k ≡ k = omega arith in rw none (h k l e)) (λ k l e. let none : 0 + k ≡ k = omega arith in rw none (g k l e))
 
   source_or_sink : (b : Bool) → paths_in s (role_reads (if b then source else sink)) ≡ path_reads (if b then sources.source else sources.sink)
   source_or_sink true = refl
@@ -98,6 +103,14 @@ module _ (s : Scene) where
   sink_or_source : (b : Bool) → paths_in s (role_reads (if b then sink else source)) ≡ path_reads (if b then sources.sink else sources.source)
   sink_or_source true = refl
   sink_or_source false = refl
+
+  source_or_sink_init : (b : Bool) → paths_in s (init_reads (if b then source else sink)) ≡ path_inits (if b then sources.source else sources.sink)
+  source_or_sink_init true = refl
+  source_or_sink_init false = refl
+
+  sink_or_source_init : (b : Bool) → paths_in s (init_reads (if b then sink else source)) ≡ path_inits (if b then sources.sink else sources.source)
+  sink_or_source_init true = refl
+  sink_or_source_init false = refl
 
   pub ports_read : (ps : List PortTree) (before : Before) → AreRead (leaves_of_ports s before ps) (sources_of_ports s before ps)
   ports_read [] before = tt
@@ -108,7 +121,8 @@ module _ (s : Scene) where
       step_joined (SameLeafReads s) (declared_leaves s d (λ l. p.named.place) (λ k l. port_role p.direction l)) (leaves_of_ports s next ps)
       (declared_sources s before p.named c (source_port_role s p.direction)) (sources_of_ports s next ps)
       (declared_read d (λ l. p.named.place) (λ k l. port_role p.direction l) (source_port_role s p.direction)
-      (λ k l e. source_or_sink (is_source (flow_under l.flip (port_flow p.direction)))))
+      (λ k l e. source_or_sink (is_source (flow_under l.flip (port_flow p.direction))))
+      (λ k l e. source_or_sink_init (is_source (flow_under l.flip (port_flow p.direction)))))
       (ports_read ps next)
 
   module _ (by : ReadsByPath s) (scope : TypedScope) (begins : Begins scope (scope_of_module s)) where
@@ -143,6 +157,11 @@ module _ (s : Scene) where
         async_read (is_async_reset s.is_async scope r.condition) (first_term (terms scope r.condition)) (term_at (terms scope r.init) k) r.condition r.init
         l.path (one_read r.condition h.0 h.2 (reset_leaf h.0 h.3)) (init_read r.init t h.1 k l h.4 h.5 i)
 
+    reset_init : (t : DataType) (r : Option Reset) (k : ℕ) (l : TypeLeaf) → ResetIsLegal scope t r → slice_get (type_leaves t) k ≡ Some l
+        → paths_in s (reset_inits (option_map (leaf_reset s.is_async scope k) r)) ≡ path_reset_inits (option_map (source_reset s scope) r) l.path
+    reset_init t None k l h i = refl
+    reset_init t (Some r) k l h i = init_read r.init t h.1 k l h.4 h.5 i
+
 module _ (c : CircuitTree) (s : Scene) (names : HasNames c) (types : type_faults c ≡ []) (i : In (numbered_modules c) s.own) (by : ReadsByPath s) where
   abbrev none : s.own.start.scope ≡ []
   none = (own_module c s.own i).start
@@ -153,7 +172,7 @@ module _ (c : CircuitTree) (s : Scene) (names : HasNames c) (types : type_faults
         → IsLegal s.own.modules before x → AreRead s (leaves_in s before x) (sources_in s before x)
     statement_read (wire p n begins t) before placed h =
         declared_read s (record { named = n; component = component.wire t; before = before }) (λ l. n.place) (λ k l. sink) (λ l. sources.sink)
-        (λ k l e. refl)
+        (λ k l e. refl) (λ k l e. refl)
     statement_read (register p n begins t e r) before placed h =
         let d : Declared = record { named = n; component = component.register t; before = before } in
         let scope = scope_before s before in
@@ -161,6 +180,7 @@ module _ (c : CircuitTree) (s : Scene) (names : HasNames c) (types : type_faults
         declared_read s d (λ l. n.place) (register_role s before n t e r)
         (λ l. sources.register scope e (option_map (source_reset s (scope_before s inside)) r) l.path)
         (λ k l is. reset_read s by (scope_before s inside) placed.begins t r k l h.3 is)
+        (λ k l is. reset_init s by (scope_before s inside) placed.begins t r k l h.3 is)
     statement_read (node p n e) before placed h =
         let d : Declared = record { named = n; component = component.node e; before = before } in
         let scope = scope_before s before in
@@ -169,11 +189,11 @@ module _ (c : CircuitTree) (s : Scene) (names : HasNames c) (types : type_faults
         declared_read s d (λ l. n.place) (λ k l. role.computed (term_at (terms scope e) k)) (λ l. sources.computed scope e l.path)
         (λ k l is.
         by.expression scope e h.0 k l first h.1
-        (ap (λ o. slice_get (leaves_of_data o) k) (sym (ap (λ x. x.has) (found_type scope e h.0 h.1))) ∙ is))
+        (ap (λ o. slice_get (leaves_of_data o) k) (sym (ap (λ x. x.has) (found_type scope e h.0 h.1))) ∙ is)) (λ k l is. refl)
     statement_read (instance p n other) before placed h =
         declared_read s (record { named = n; component = component.instance other.name; before = before })
         (instance_place n (numbered_module 0 s.own.modules other.name)) instance_role (λ l. if l.flip then sources.sink else sources.source)
-        (λ k l e. sink_or_source s l.flip)
+        (λ k l e. sink_or_source s l.flip) (λ k l e. sink_or_source_init s l.flip)
     statement_read (memory p n parts) before placed h =
         let d : Declared = record { named = n; component = component.memory parts; before = before } in
         memory_reads s n.name parts (leaves_of_data (type_of_declared s d)) (held_by_declared s d) (leaves_in s before (memory p n parts))

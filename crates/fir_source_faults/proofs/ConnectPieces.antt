@@ -2,7 +2,7 @@
 use Rattle.std.proofs.Common.{◌≡◌, ℕ, ◌<◌, List, [], ◌∷◌, ◌++◌, Bool, true, false, if◌then◌else◌, length, Some, refl, sym, ap, ap₂, ◌∙◌}
 use Rattle.fir_ast.specs.declared.place.Place.{Place}
 use Rattle.fir_ast.specs.Expressions.{Expression}
-use Rattle.fir_ast.specs.Statements.{Sink, Statement}
+use Rattle.fir_ast.specs.Statements.{SinkReference, Statement}
 use Rattle.fir_ast.specs.Types.{DataType}
 use Rattle.fir_meaning.specs.ConnectPairs.{Pair}
 use Rattle.fir_meaning.specs.working.LeafBlocks as over
@@ -36,12 +36,12 @@ any_types path = record { signed = false; width = 0 }
 any_values : ValuesByPath
 any_values path = 0
 
-pub target_type : (scope whole : TypedScope) → Begins scope whole → (sink : Sink) (r : Reached) → Reaches scope sink r
+pub target_type : (scope whole : TypedScope) → Begins scope whole → (sink : SinkReference) (r : Reached) → Reaches scope sink r
     → (target_of scope sink).data_type ≡ r.data_type
 target_type scope whole begins sink r h = (reaches_stands scope whole any_types any_values begins sink r h).data_type
 
 -- and of the reference as an expression
-pub sink_has_type : (scope : TypedScope) (sink : Sink) (r : Reached) → Reaches scope sink r → HasType scope (sink_expression sink) r.data_type
+pub sink_has_type : (scope : TypedScope) (sink : SinkReference) (r : Reached) → Reaches scope sink r → HasType scope (sink_expression sink) r.data_type
 sink_has_type scope sink r h = (h.0, r, h.1, h.2, refl)
 
 pub found_here : (scope : TypedScope) (e : Expression) (t : DataType) → HasType scope e t → type_here scope e ≡ t
@@ -55,7 +55,7 @@ module _ (s : Scene) (depth x : ℕ) (reading : ReadsByPath s) (lt : x < length 
   abbrev scope : TypedScope
   scope = scope_before s before
 
-  module _ (p : Place) (sink : Sink) (e : Expression) (left : Reached) (t : DataType) (reaches : Reaches (scope_before s before) sink left)
+  module _ (p : Place) (sink : SinkReference) (e : Expression) (left : Reached) (t : DataType) (reaches : Reaches (scope_before s before) sink left)
       (has : HasType (scope_before s before) e t) where
     abbrev both : Sides
     both = sides scope sink e
@@ -109,7 +109,7 @@ module _ (s : Scene) (depth x : ℕ) (reading : ReadsByPath s) (lt : x < length 
 
   pub connect_beside : (fits : DataType → DataType → Bool) (numbers_of : DataType → DataType → List LeafPair) (pairs_of : DataType → DataType → List Pair)
       → ((t u : DataType) → fits t u ≡ true → ArePairs (IsPair (type_leaves t) (type_leaves u)) (numbers_of t u) (pairs_of t u)) → (p : Place)
-      (sink : Sink) (e : Expression) → ConnectIsLegal fits pairs_of (scope_before s before) sink e
+      (sink : SinkReference) (e : Expression) → ConnectIsLegal fits pairs_of (scope_before s before) sink e
       → Beside s depth x under k own (connect_block numbers_of (scope_before s before) p sink e)
       (connect_drives s (visit own before under statement) pairs_of p (sink_expression sink) e)
   connect_beside fits numbers_of pairs_of alike p sink e h =

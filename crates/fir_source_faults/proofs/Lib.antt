@@ -25,6 +25,7 @@ pub mod PlainCircuits
 pub mod RoleReads
 pub mod MemoryKinds
 pub mod BlockReads
+pub mod CircuitLeaves
 pub mod LoopWalks
 pub mod DeclaredPlaces
 pub mod LoneNumbers

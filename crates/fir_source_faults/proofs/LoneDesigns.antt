@@ -1,7 +1,7 @@
 -- A module without instances has one design and one tree, which show the same closed walks.
 use Rattle.std.proofs.Common.{◌≡◌, ◌↔◌, ◌≤◌, List, [], ◌∷◌, length, refl, sym, ap, ◌∙◌, subst}
 use Rattle.fir_base.specs.Lists.{In}
-use Rattle.fir_ast.specs.declared.fault.FirFault.{FirFault}
+use Rattle.fir_ast.specs.Faults.{Fault}
 use Rattle.fir_ast.specs.Circuits.{CircuitTree}
 use Rattle.fir_meaning.specs.working.Designs.{Design, Items, made_of}
 use Rattle.fir_meaning.specs.working.Flattened.{flattened}
@@ -62,7 +62,7 @@ none_by_body c d (tree.made_of u trees) a e =
 
 module _ (roles : ViewsHaveRoles) (reads : ModulesReadByPath) (drives : ModulesDriveByPath) where
   -- at the module and the tree that the design has
-  abbrev Same : (m : LeafModule) (is : Items) (s : Scene) (trees : Instances) → CircuitTree → FirFault → Type 0
+  abbrev Same : (m : LeafModule) (is : Items) (s : Scene) (trees : Instances) → CircuitTree → Fault → Type 0
   Same m is s trees c f =
       AreDesigns c (made_of m is) (tree.made_of s trees)
       → numbered.ShowsLoop (flattened (made_of m is)) f ↔ ShowsLoop (tree.made_of s trees) f

@@ -1,14 +1,12 @@
 -- A design without instances depends on itself by number where its tree does by path.
-use Rattle.std.proofs.Common.{◌≡◌, ◌↔◌, ℕ, ◌<◌, ◌≤◌, List, [], ◌∷◌, ◌++◌, map, length, nat_lt, ◌+◌, Bool, true, false, slice_get, Some, refl, sym, ap, ◌∙◌, subst, append-nil, arith, inl, ⊎_elim}
-use Rattle.std.proofs.lemmas.Bool.{ltb-true, ltb-false}
-use Rattle.std.proofs.lemmas.List.{get_or_past}
+use Rattle.std.proofs.Common.{◌≡◌, ◌↔◌, ℕ, ◌<◌, ◌≤◌, List, [], ◌∷◌, ◌++◌, map, length, ◌+◌, slice_get, Some, refl, sym, ap, ◌∙◌, subst, append-nil, arith, inl, ⊎_elim}
 use Rattle.std.proofs.lemmas.Option.{get_or_from_slice_get, slice_get_within}
 use Rattle.fir_meaning.specs.working.LeafNames.{place_of_leaf}
 use Rattle.fir_ast.specs.declared.place.Place.{Place}
-use Rattle.fir_ast.specs.declared.fault.FirFault.{FirFault}
+use Rattle.fir_ast.specs.Faults.{Fault}
+use Rattle.fir_source_faults.proofs.CircuitLeaves.{depends_within, either_way, one_number}
 use Rattle.fir_source_faults.proofs.DeclaredPlaces.{source_place_is}
 use Rattle.fir_meaning.specs.working.CircuitDependence.{CircuitDepends}
-use Rattle.fir_meaning.specs.working.Dependence.{RoleDepends}
 use Rattle.fir_meaning.specs.SourceLoops.{ShowsLoop, StandsAt}
 use Rattle.fir_source_faults.proofs.LoopWalks.{SameDependence, same_loops}
 use Rattle.fir_meaning.specs.working.LoopFaults as numbered
@@ -54,7 +52,7 @@ use Rattle.fir_source_faults.proofs.LoneNumbers.{HaveNoInstances, body_same, lon
 use Rattle.fir_source_faults.proofs.RoleReads.{path_reads, role_reads, by_role, by_sink, of_role, of_sink, path_by_role, path_by_sink, path_of_role, path_of_sink}
 
 -- roles are sinks in both
-sink_below : (c : LeafCircuit) (at : LeafPath) (r : Role) (q : SourceRole) → SameRoleBelow c at r q → role.is_sink r ≡ source.is_sink_role q
+pub sink_below : (c : LeafCircuit) (at : LeafPath) (r : Role) (q : SourceRole) → SameRoleBelow c at r q → role.is_sink r ≡ source.is_sink_role q
 sink_below c at role.source sources.source h = refl
 sink_below c at role.sink sources.sink h = refl
 sink_below c at (role.computed t) (sources.computed scope e p) h = refl
@@ -63,7 +61,7 @@ sink_below c at (role.reading r) (sources.reading p) h = refl
 sink_below c at (role.pipe r x u) (sources.pipe p clock kept) h = refl
 sink_below c at _ _ h = absurd h
 
-within_reads : (r : SourceRole) → path_reads (role_within r) ≡ path_reads r
+pub within_reads : (r : SourceRole) → path_reads (role_within r) ≡ path_reads r
 within_reads sources.source = refl
 within_reads sources.sink = refl
 within_reads (sources.computed scope e p) = refl
@@ -172,15 +170,8 @@ module _ (circuit : CircuitTree) (roles : ViewsHaveRoles) (s : Scene) (is : Item
   once = leaves_once circuit roles (made_of m is) t a
 
   -- what has the path of a leaf is that leaf
-  one_number : (z y : ℕ) → y < length c.leaves → path_in s z ≡ circuit_path c y → z ≡ y
-  one_number z y lt e = by (nat_lt z (length c.leaves)) refl
-    where
-      by : (b : Bool) → nat_lt z (length c.leaves) ≡ b → z ≡ y
-      by true h = once z y (ltb-true z (length c.leaves) h) lt (path_is z ∙ e)
-      by false h =
-          absurd
-          (leaves_named circuit roles (made_of m is) t a y lt
-          (sym e ∙ sym (path_is z) ∙ ap (λ (l : LeafDeclared). l.path) (get_or_past c.leaves z no_leaf (ltb-false z (length c.leaves) h))))
+  number_is : (z y : ℕ) → y < length c.leaves → path_in s z ≡ circuit_path c y → z ≡ y
+  number_is z y lt e = one_number c once (leaves_named circuit roles (made_of m is) t a) z y lt (path_is z ∙ e)
 
   -- what is read by number is read by path
   read_path : (xs : List ℕ) (ps : List LeafPath) (y : ℕ) → paths_in s xs ≡ ps → In xs y → In (from_main [] ps) (circuit_path c y)
@@ -193,7 +184,7 @@ module _ (circuit : CircuitTree) (roles : ViewsHaveRoles) (s : Scene) (is : Item
   read_number xs ps y lt e among =
       let q = in_map_from (λ (p : LeafPath). [] ++ p) ps (circuit_path c y) among in
       let z = in_map_from (path_in s) xs q.0 (subst (λ qs. In qs q.0) (sym e) q.1) in
-      subst (In xs) (one_number z.0 y lt (z.2 ∙ q.2)) z.1
+      subst (In xs) (number_is z.0 y lt (z.2 ∙ q.2)) z.1
 
   -- statements
   live_in : (x : ℕ) → (l : over.Live) → over.IsLive (depth_of c x) x c.body l ↔ over.IsLive (depth_at m x) x m.body l
@@ -254,11 +245,6 @@ module _ (circuit : CircuitTree) (roles : ViewsHaveRoles) (s : Scene) (is : Item
           → over.LiveReads (depth_of c x) x c.body y) e
           (λ q e. at_leaf q (sym (path_is x) ∙ sym e))
 
-  -- whether a leaf is a sink decides on what it depends
-  either_way : {P : Type 0} → (b : Bool) → (b ≡ true → P) → (b ≡ false → P) → P
-  either_way true f g = f refl
-  either_way false f g = g refl
-
   depends_by_path : (x y : ℕ) → x < length c.leaves → CircuitDepends c x y → Depends t (circuit_path c x) (circuit_path c y)
   depends_by_path x y lt h =
       let found = leaf_of x lt in
@@ -311,16 +297,6 @@ module _ (circuit : CircuitTree) (roles : ViewsHaveRoles) (s : Scene) (is : Item
       let same : n.number ≡ x = once n.number x n.inside lt (n.path ∙ h.2) in
       role_by_number x y lt less h.0 (subst (λ z. slice_get (all_leaves t) z ≡ Some h.0) same n.get) h.3
 
-  -- what depends on a leaf is a leaf
-  depends_within : (x y : ℕ) → CircuitDepends c x y → x < length c.leaves
-  depends_within x y h = by (nat_lt x (length c.leaves)) refl
-    where
-      by : (b : Bool) → nat_lt x (length c.leaves) ≡ b → x < length c.leaves
-      by true e = ltb-true x (length c.leaves) e
-      by false e =
-          let none : leaf_at c.leaves x ≡ no_leaf = get_or_past c.leaves x no_leaf (ltb-false x (length c.leaves) e) in
-          absurd (subst (λ (l : LeafDeclared). RoleDepends c.body l.depth x l.role y) none h)
-
   -- places
   own_place : (x : ℕ) → x < length c.leaves → (p : PlacedLeaf) → p.at ≡ [] → leaf_path p ≡ circuit_path c x
       → source_place s p.leaf.path ≡ place_of_leaf c x
@@ -354,13 +330,13 @@ module _ (circuit : CircuitTree) (roles : ViewsHaveRoles) (s : Scene) (is : Item
   lone_dependence : SameDependence c t
   lone_dependence = record {
     once = once;
-    within = depends_within;
+    within = depends_within c;
     numbered = λ p q h. let n = has_number h.0 h.1 in (n.number, n.inside, n.path ∙ h.2);
-    by_path = λ x y h. depends_by_path x y (depends_within x y h) h;
+    by_path = λ x y less h. depends_by_path x y (depends_within c x y h) h;
     by_number = depends_by_number;
     stands = stands;
     one_place = one_place;
   }
 
-  pub lone_same : (f : FirFault) → numbered.ShowsLoop (flattened (made_of (leafed_module s) is)) f ↔ ShowsLoop (tree.made_of s no_instances) f
+  pub lone_same : (f : Fault) → numbered.ShowsLoop (flattened (made_of (leafed_module s) is)) f ↔ ShowsLoop (tree.made_of s no_instances) f
   lone_same = same_loops c t lone_dependence

@@ -3,9 +3,9 @@ use Rattle.std.proofs.Common.{◌≡◌, ◌↔◌, ℕ, ◌<◌, List, [], ◌�
 use Rattle.std.specs.List.{AllByRecursion}
 use Rattle.std.proofs.lemmas.List.{map-append}
 use Rattle.fir_base.specs.Lists.{Distinct, In}
+use Rattle.fir_base.proofs.Each.{all_joined}
 use Rattle.fir_base.proofs.Members.{in_map, in_map_from}
-use Rattle.fir_ast.specs.declared.fault.FirFault.{FirFault}
-use Rattle.fir_ast.specs.declared.fault.FirFault.TheVariants.{Loop}
+use Rattle.fir_ast.specs.Faults.{Fault}
 use Rattle.fir_ast.specs.declared.place.Place.{Place}
 use Rattle.fir_meaning.specs.working.CircuitDependence as over
 use Rattle.fir_meaning.specs.working.CircuitDependence.{CircuitDepends}
@@ -15,7 +15,7 @@ use Rattle.fir_meaning.specs.LeafPaths.{LeafPath, path_text}
 use Rattle.fir_meaning.specs.working.LoopFaults as numbered
 use Rattle.fir_meaning.specs.SourceDependence.{Depends, IsDependenceWalk}
 use Rattle.fir_meaning.specs.SourceDesigns.{SourceDesign}
-use Rattle.fir_meaning.specs.SourceLoops.{ShowsLoop, StandsAt}
+use Rattle.fir_meaning.specs.SourceLoops.{ShowsLoop, StandsAt, loop_fault}
 use Rattle.fir_leaf.specs.working.SoundDesigns.{circuit_path}
 
 pub record SameDependence (c : LeafCircuit) (t : SourceDesign) : Type 0 where
@@ -23,7 +23,7 @@ pub record SameDependence (c : LeafCircuit) (t : SourceDesign) : Type 0 where
   -- what depends on a leaf is a leaf
   pub within : (x y : ℕ) → CircuitDepends c x y → x < length c.leaves
   pub numbered : (p q : LeafPath) → Depends t p q → (x : ℕ) × (x < length c.leaves) × (circuit_path c x ≡ p)
-  pub by_path : (x y : ℕ) → CircuitDepends c x y → Depends t (circuit_path c x) (circuit_path c y)
+  pub by_path : (x y : ℕ) → y < length c.leaves → CircuitDepends c x y → Depends t (circuit_path c x) (circuit_path c y)
   pub by_number :
       (x y : ℕ) → x < length c.leaves → y < length c.leaves → Depends t (circuit_path c x) (circuit_path c y) → CircuitDepends c x y
   pub stands : (x : ℕ) → x < length c.leaves → StandsAt t (circuit_path c x) (place_of_leaf c x)
@@ -33,13 +33,14 @@ module _ (c : LeafCircuit) (t : SourceDesign) (s : SameDependence c t) where
   abbrev path : ℕ → LeafPath
   path = circuit_path c
 
-  abbrev AreWithin : List ℕ → Type 0
+  abbrev pub AreWithin : List ℕ → Type 0
   AreWithin = AllByRecursion (λ x. x < length c.leaves)
 
   -- from numbers to paths
-  walk_by_path : (x : ℕ) (ys : List ℕ) (final : ℕ) → over.IsWalk c x ys final → IsDependenceWalk t (path x) (map path ys) (path final)
-  walk_by_path x [] final h = ap path h
-  walk_by_path x (y ∷ ys) final h = (s.by_path x y h.0, walk_by_path y ys final h.1)
+  pub walk_by_path : (x : ℕ) (ys : List ℕ) (final : ℕ) → AllByRecursion (λ x. x < length c.leaves) ys → over.IsWalk c x ys final
+      → IsDependenceWalk t (path x) (map path ys) (path final)
+  walk_by_path x [] final within h = ap path h
+  walk_by_path x (y ∷ ys) final within h = (s.by_path x y within.0 h.0, walk_by_path y ys final within.1 h.1)
 
   all_within : (x : ℕ) (ys : List ℕ) (last final : ℕ) → over.IsWalk c x (ys ++ last ∷ []) final → AreWithin (x ∷ ys)
   all_within x [] last final h = (s.within x last h.0, tt)
@@ -55,11 +56,11 @@ module _ (c : LeafCircuit) (t : SourceDesign) (s : SameDependence c t) where
       inside (w ∷ zs) z h (inl e) = subst (λ v. v < length c.leaves) e h.0
       inside (w ∷ zs) z h (inr m) = inside zs z h.1 m
 
-  distinct_by_path : (xs : List ℕ) → AreWithin xs → Distinct xs → Distinct (map path xs)
+  pub distinct_by_path : (xs : List ℕ) → AreWithin xs → Distinct xs → Distinct (map path xs)
   distinct_by_path [] within h = tt
   distinct_by_path (x ∷ xs) within h = (λ m. h.0 (none_again x xs within.0 within.1 m), distinct_by_path xs within.1 h.1)
 
-  texts : (xs : List ℕ) → map (path_of_leaf c) xs ≡ map path_text (map path xs)
+  pub texts : (xs : List ℕ) → map (path_of_leaf c) xs ≡ map path_text (map path xs)
   texts [] = refl
   texts (x ∷ xs) = ap (λ ts. path_of_leaf c x ∷ ts) (texts xs)
 
@@ -67,18 +68,19 @@ module _ (c : LeafCircuit) (t : SourceDesign) (s : SameDependence c t) where
       ≡ map path_text (path first ∷ map path between ++ path first ∷ [])
   told first between = texts (first ∷ between ++ first ∷ []) ∙ ap (λ ps. map path_text (path first ∷ ps)) (map-append path between (first ∷ []))
 
-  shown_by_path : (f : FirFault) → numbered.ShowsLoop c f → ShowsLoop t f
+  shown_by_path : (f : Fault) → numbered.ShowsLoop c f → ShowsLoop t f
   shown_by_path f h =
       let within = all_within h.first h.between h.first h.first h.walk in record {
         first = path h.first;
         between = map path h.between;
         walk =
             subst (λ ps. IsDependenceWalk t (path h.first) ps (path h.first)) (map-append path h.between (h.first ∷ []))
-            (walk_by_path h.first (h.between ++ h.first ∷ []) h.first h.walk);
+            (walk_by_path h.first (h.between ++ h.first ∷ []) h.first
+            (all_joined (λ x. x < length c.leaves) h.between (h.first ∷ []) within.1 (within.0, tt)) h.walk);
         distinct = distinct_by_path (h.first ∷ h.between) within h.distinct;
         place = place_of_leaf c h.first;
         stands = s.stands h.first within.0;
-        is = h.is ∙ ap (Loop (place_of_leaf c h.first)) (told h.first h.between);
+        is = h.is ∙ ap (loop_fault (place_of_leaf c h.first)) (told h.first h.between);
       }
 
   -- from paths to numbers
@@ -112,35 +114,35 @@ module _ (c : LeafCircuit) (t : SourceDesign) (s : SameDependence c t) where
   walk_by_number x (y ∷ ys) final lt within less h =
       (s.by_number x y lt within.0 h.0, walk_by_number y ys final within.0 within.1 less h.1)
 
-  distinct_by_number : (xs : List ℕ) → Distinct (map path xs) → Distinct xs
+  pub distinct_by_number : (xs : List ℕ) → Distinct (map path xs) → Distinct xs
   distinct_by_number [] h = tt
   distinct_by_number (x ∷ xs) h = (λ m. h.0 (in_map path xs x m), distinct_by_number xs h.1)
 
-  shown_at : (f : FirFault) (x : ℕ) (ys : List ℕ) (place : Place) → x < length c.leaves → AreWithin ys
+  shown_at : (f : Fault) (x : ℕ) (ys : List ℕ) (place : Place) → x < length c.leaves → AreWithin ys
       → IsDependenceWalk t (path x) (map path ys ++ path x ∷ []) (path x) → Distinct (path x ∷ map path ys) → StandsAt t (path x) place
-      → f ≡ Loop place (map path_text (path x ∷ map path ys ++ path x ∷ [])) → numbered.ShowsLoop c f
+      → f ≡ loop_fault place (map path_text (path x ∷ map path ys ++ path x ∷ [])) → numbered.ShowsLoop c f
   shown_at f x ys place lt within walk distinct stands is = record {
     first = x;
     between = ys;
     walk = walk_by_number x ys x lt within lt walk;
     distinct = distinct_by_number (x ∷ ys) distinct;
-    is = is ∙ ap₂ Loop (s.one_place x place lt stands) (sym (told x ys));
+    is = is ∙ ap₂ loop_fault (s.one_place x place lt stands) (sym (told x ys));
   }
 
-  shown_by_number : (f : FirFault) → ShowsLoop t f → numbered.ShowsLoop c f
+  shown_by_number : (f : Fault) → ShowsLoop t f → numbered.ShowsLoop c f
   shown_by_number f h =
       let n = numbers_of h.first h.between h.first h.first h.walk in
       go h.first h.between n.first n.rest n.first_is n.rest_is n.first_within n.rest_within h.walk h.distinct h.stands h.is
     where
       go : (p : LeafPath) (qs : List LeafPath) (x : ℕ) (ys : List ℕ) → path x ≡ p → map path ys ≡ qs → x < length c.leaves → AreWithin ys
           → IsDependenceWalk t p (qs ++ p ∷ []) p → Distinct (p ∷ qs) → StandsAt t p h.place
-          → f ≡ Loop h.place (map path_text (p ∷ qs ++ p ∷ [])) → numbered.ShowsLoop c f
+          → f ≡ loop_fault h.place (map path_text (p ∷ qs ++ p ∷ [])) → numbered.ShowsLoop c f
       go p qs x ys e es =
           subst (λ rs. x < length c.leaves → AreWithin ys → IsDependenceWalk t p (rs ++ p ∷ []) p → Distinct (p ∷ rs) → StandsAt t p h.place
-          → f ≡ Loop h.place (map path_text (p ∷ rs ++ p ∷ [])) → numbered.ShowsLoop c f) es
+          → f ≡ loop_fault h.place (map path_text (p ∷ rs ++ p ∷ [])) → numbered.ShowsLoop c f) es
           (subst (λ r. x < length c.leaves → AreWithin ys → IsDependenceWalk t r (map path ys ++ r ∷ []) r → Distinct (r ∷ map path ys) → StandsAt t r h.place
-          → f ≡ Loop h.place (map path_text (r ∷ map path ys ++ r ∷ [])) → numbered.ShowsLoop c f) e
+          → f ≡ loop_fault h.place (map path_text (r ∷ map path ys ++ r ∷ [])) → numbered.ShowsLoop c f) e
           (shown_at f x ys h.place))
 
-  pub same_loops : (f : FirFault) → numbered.ShowsLoop c f ↔ ShowsLoop t f
+  pub same_loops : (f : Fault) → numbered.ShowsLoop c f ↔ ShowsLoop t f
   same_loops f = (shown_by_path f, shown_by_number f)

@@ -6,7 +6,7 @@ use Rattle.std.specs.Str.{bytes_eq}
 use Rattle.fir_ast.specs.declared.statements.ReadUnderWrite.{ReadUnderWrite}
 use Rattle.fir_ast.specs.Statements.{MemoryPart}
 use Rattle.fir_meaning.specs.working.Dependence as over
-use Rattle.fir_meaning.specs.MemoryPorts.{PortKind, reads, reads_and_writes, writes}
+use Rattle.fir_meaning.specs.MemoryPorts.{MemoryPortKind, reads, reads_and_writes, writes}
 use Rattle.fir_meaning.specs.working.LeafModules as role
 use Rattle.fir_meaning.specs.working.LeafModules.{LeafArray, LeafDeclared, Need, Reading, Role}
 use Rattle.fir_meaning.specs.LeafTypes.{LeafType}
@@ -20,10 +20,11 @@ use Rattle.fir_meaning.specs.TypeLeaves.{TypeLeaf}
 use Rattle.fir_design.proofs.ListsInStep.{AreInStep}
 use Rattle.fir_design.specs.working.SameRoles.{SameLeaves, SameRole, need_on, reading_on}
 use Rattle.fir_source_faults.specs.working.ReadsByPath.{path_in, paths_in}
-use Rattle.fir_source_faults.proofs.RoleReads.{path_reads, role_reads}
+use Rattle.fir_source_faults.proofs.RoleReads.{init_reads, path_inits, path_reads, role_reads}
 
 pub record SameLeafReads (s : Scene) (l : LeafDeclared) (t : SourceLeaf) : Type 0 where
   pub reads : paths_in s (role_reads l.role) ≡ path_reads t.role
+  pub inits : paths_in s (init_reads l.role) ≡ path_inits t.role
 
 -- without expressions
 abbrev IsPlain : SourceRole → Type 0
@@ -39,7 +40,7 @@ read_by_plain : (n : ℕ) (r : PathReading) (clock : LeafPath) (u : ReadUnderWri
 read_by_plain zero r clock u = tt
 read_by_plain (suc n) r clock u = tt
 
-port_plain : (name : List ℕ) (parts : List MemoryPart) (port field : List ℕ) (q : LeafPath) (k : Option PortKind) → IsPlain (port_role name parts port field q k)
+port_plain : (name : List ℕ) (parts : List MemoryPart) (port field : List ℕ) (q : LeafPath) (k : Option MemoryPortKind) → IsPlain (port_role name parts port field q k)
 port_plain name parts port field q None = tt
 port_plain name parts port field q (Some reads) =
     if_plain (bytes_eq field (codes "data")) (sources.read_role name parts port [] q) (read_by_plain (latency_of parts) _ _ _)
@@ -82,12 +83,28 @@ module _ (s : Scene) where
   plain_read arrays (role.pipe r x u) (sources.pipe q clock kept) h p = refl
   plain_read arrays _ _ h p = absurd h
 
+  plain_init : (arrays : List LeafArray) (r : Role) (t : SourceRole) → SameRole (module_leaves s) arrays r t → IsPlain t
+      → paths_in s (init_reads r) ≡ path_inits t
+  plain_init arrays role.source sources.source h p = refl
+  plain_init arrays role.sink sources.sink h p = refl
+  plain_init arrays (role.computed t) (sources.computed scope e q) h p = absurd p
+  plain_init arrays (role.register c r) (sources.register scope clock reset q) h p = absurd p
+  plain_init arrays (role.reading r) (sources.reading q) h p = refl
+  plain_init arrays (role.pipe r x u) (sources.pipe q clock kept) h p = refl
+  plain_init arrays _ _ h p = absurd h
+
   all_read : (ls : List LeafDeclared) (ts : List SourceLeaf) → SameLeaves (module_leaves s) (leafed_module s).arrays ls ts
       → AllByRecursion (λ (t : SourceLeaf). IsPlain t.role) ts → AreInStep (SameLeafReads s) ls ts
   all_read [] [] h p = tt
   all_read [] (t ∷ ts) h p = absurd h
   all_read (l ∷ ls) [] h p = absurd h
-  all_read (l ∷ ls) (t ∷ ts) h p = (record { reads = plain_read (leafed_module s).arrays l.role t.role h.0.2 p.0 }, all_read ls ts h.1 p.1)
+  all_read (l ∷ ls) (t ∷ ts) h p = (
+    record {
+      reads = plain_read (leafed_module s).arrays l.role t.role h.0.2 p.0;
+      inits = plain_init (leafed_module s).arrays l.role t.role h.0.2 p.0;
+    },
+    all_read ls ts h.1 p.1,
+  )
 
   pub memory_reads : (name : List ℕ) (parts : List MemoryPart) (ks : List TypeLeaf) (hs : List LeafType) (ls : List LeafDeclared)
       → SameLeaves (module_leaves s) (leafed_module s).arrays ls (source_leaves_of name (λ l. memory_role name parts l.path) ks hs)

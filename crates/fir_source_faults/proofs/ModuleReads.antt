@@ -5,7 +5,7 @@ use Rattle.std.specs.List.{AllByRecursion}
 use Rattle.std.proofs.lemmas.Option.{get_or_from_slice_get, slice_get_within}
 use Rattle.fir_base.proofs.Elements.{beside}
 use Rattle.fir_ast.specs.Expressions.{Expression}
-use Rattle.fir_ast.specs.Statements.{Sink}
+use Rattle.fir_ast.specs.Statements.{SinkReference}
 use Rattle.fir_ast.specs.Types.{DataType}
 use Rattle.fir_meaning.specs.LeafPaths.{LeafPath}
 use Rattle.fir_meaning.specs.working.Leafed.{target_of, terms}
@@ -58,7 +58,7 @@ module _ (s : Scene) (f : IsFineScene s) where
       same_paths (reads (term_at (terms scope e) k))
       ∙ ap (term_reads (whole_scope s)) (get_or_from_slice_get (terms scope e) k one.0 zeros one.1) ∙ one.2
 
-  target_names : (scope : TypedScope) (sink : Sink) (r : Reached) (k : ℕ) (l : TypeLeaf) → Begins scope (whole_scope s) → Reaches scope sink r
+  target_names : (scope : TypedScope) (sink : SinkReference) (r : Reached) (k : ℕ) (l : TypeLeaf) → Begins scope (whole_scope s) → Reaches scope sink r
       → slice_get (type_leaves r.data_type) k ≡ Some l → NamesByPath s scope sink k l
   target_names scope sink r k l front h at =
       let to = sink_reads (whole_scope s) scope front sink r h in

@@ -1,9 +1,8 @@
 -- A circuit of one plain module shows no fault of clocks, of the clocks of memories or of asynchronous inits.
 use Rattle.std.proofs.Common.{◌≡◌, [], length, subst}
 use Rattle.fir_base.proofs.Elements.{get_in}
-use Rattle.fir_ast.specs.declared.fault.FirFault.{FirFault}
 use Rattle.fir_ast.specs.Circuits.{CircuitTree}
-use Rattle.fir_pass.specs.Faults.{Fault}
+use Rattle.fir_ast.specs.Faults.{Fault}
 use Rattle.fir_meaning.specs.Elaborated.{IsSourceOf}
 use Rattle.fir_meaning.specs.ModuleScenes.{Scene}
 use Rattle.fir_meaning.specs.working.LeafedModules.{leafed_module}
@@ -36,11 +35,11 @@ module _ (c : CircuitTree) (names : HasNames c) (types : type_faults c ≡ []) (
       record { main = of.main; is_plain = both.0; is = is_alone of.scenes of.main t of.is both.1 }
 
   -- what no source of a plain module shows, the circuit does not show
-  none_of_source : (Holds : SourceDesign → FirFault → Type 0) → ((s : Scene) (f : FirFault) → IsPlainScene s → Holds (alone s) f → ⊥)
+  none_of_source : (Holds : SourceDesign → Fault → Type 0) → ((s : Scene) (f : Fault) → IsPlainScene s → Holds (alone s) f → ⊥)
       → (f : Fault) → IsOfSource Holds c f → ⊥
   none_of_source Holds none f shown =
       let main = one_plain shown.source shown.is_source in
-      none main.main shown.fault main.is_plain (subst (λ (t : SourceDesign). Holds t shown.fault) main.is shown.holds)
+      none main.main f main.is_plain (subst (λ (t : SourceDesign). Holds t f) main.is shown.holds)
 
 pub circuits_show_none : PlainCircuitsShowNone
 circuits_show_none c names types one plain = (

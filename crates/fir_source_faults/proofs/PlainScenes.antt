@@ -3,7 +3,7 @@ use Rattle.std.proofs.Common.{◌≡◌, ℕ, zero, suc, [], true, false, Some, 
 use Rattle.std.specs.Prelude.{slice_get}
 use Rattle.std.proofs.lemmas.Option.{none-some, same_Some}
 use Rattle.fir_base.specs.Lists.{In}
-use Rattle.fir_ast.specs.declared.fault.FirFault.{FirFault}
+use Rattle.fir_ast.specs.Faults.{Fault}
 use Rattle.fir_ast.specs.declared.place.Place.{Place}
 use Rattle.fir_meaning.specs.LeafTypes.{LeafType, a_clock, number}
 use Rattle.fir_meaning.specs.ModuleScenes.{Scene}
@@ -38,7 +38,7 @@ module _ (s : Scene) (plain : IsPlainScene s) where
       subst (λ places. In places place) (plain.named p scope clock reset q i er) picks
   none_picks p place i h r eh er picks = absurd picks
 
-  no_clock_fault : (f : FirFault) → ShowsClockFault (alone s) f → ⊥
+  no_clock_fault : (f : Fault) → ShowsClockFault (alone s) f → ⊥
   no_clock_fault f shown = by shown.shows
     where
       by : ShowsAt (alone s) shown.leaf f → ⊥
@@ -53,13 +53,13 @@ module _ (s : Scene) (plain : IsPlainScene s) where
       same_some h = same_Some _ m h
   the_module (suc k) m e = absurd (none-some m e)
 
-  no_memory_fault : (f : FirFault) → ShowsMemoryFault (alone s) f → ⊥
+  no_memory_fault : (f : Fault) → ShowsMemoryFault (alone s) f → ⊥
   no_memory_fault f shown =
       let same = the_module shown.number shown.holder shown.is_holder in
       plain.no_memory shown.shows.visit shown.shows.place shown.shows.name shown.shows.parts
       (subst (λ (x : Scene). In (module_visits x.own.inside) shown.shows.visit) same shown.shows.among) shown.shows.is_memory
 
-  no_async_init : (f : FirFault) → ShowsAsyncInit (alone s) f → ⊥
+  no_async_init : (f : Fault) → ShowsAsyncInit (alone s) f → ⊥
   no_async_init f shown =
       let waits = plain.resets shown.leaf shown.scope shown.clock shown.reset shown.within shown.among shown.is_register in
       let same : false ≡ true = sym waits ∙ shown.is_async in

@@ -5,7 +5,7 @@ use Rattle.std.proofs.Math.Bool.{or-false, or-true}
 use Rattle.fir_bits.specs.declared.types.NumTy.{NumTy}
 use Rattle.fir_ast.specs.Types.{DataType, uint}
 use Rattle.fir_ast.specs.Expressions.{Expression, reference, literal, operation, mux, validif, Parts, no_parts, subfield, subindex, subaccess, Expressions, no_expressions, expression}
-use Rattle.fir_ast.specs.Statements.{Sink}
+use Rattle.fir_ast.specs.Statements.{SinkReference}
 use Rattle.fir_meaning.specs.Equivalence.{same_ground}
 use Rattle.fir_meaning.specs.ExpressionPlaces.{place_of}
 use Rattle.fir_meaning.specs.LeafPaths.{LeafPath, named, element}
@@ -211,11 +211,11 @@ module _ (whole : TypedScope) where
           ∙ ap₂ (λ (xs ys : List LeafPath). xs ++ ys) operand (operands_read es h.1 resets apart.more h.3 apart.are_more)
 
     -- what a sink or a reference reaches, from its name on
-    abbrev pub SinkReads : Sink → Reached → DataType → Type 0
+    abbrev pub SinkReads : SinkReference → Reached → DataType → Type 0
     SinkReads sink begins t =
         ReadsAs (target_of scope sink) (all_along ((named sink.name ∷ []) ∷ []) begins.data_type sink.parts) (tree.index_reads scope sink.parts)
         (has_access sink.parts) t
 
-    pub sink_reads : (sink : Sink) (r : Reached) (h : Reaches scope sink r) → SinkReads sink h.0 r.data_type
+    pub sink_reads : (sink : SinkReference) (r : Reached) (h : Reaches scope sink r) → SinkReads sink h.0 r.data_type
     sink_reads sink r h =
         parts_read sink.parts h.0 r (named_target scope sink.name) ((named sink.name ∷ []) ∷ []) [] false h.2 (name_reads sink.name h.0 h.1)

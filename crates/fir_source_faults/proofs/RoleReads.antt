@@ -1,5 +1,5 @@
--- What a role reads within a tick, as one list, by numbers and by paths; and on what a leaf of the role depends.
-use Rattle.std.proofs.Common.{◌≡◌, ℕ, List, [], true, false}
+-- What a role reads within a tick, as one list, by numbers and by paths, and what its init alone reads; and on what a leaf of the role depends.
+use Rattle.std.proofs.Common.{◌≡◌, ℕ, List, [], true, false, Option, Some, None}
 use Rattle.fir_base.specs.Lists.{In}
 use Rattle.fir_meaning.specs.working.Dependence as over
 use Rattle.fir_meaning.specs.working.LeafBlocks.{LeafBlock}
@@ -12,7 +12,7 @@ use Rattle.fir_meaning.specs.SourceDependence.{DriveReads, from_main}
 use Rattle.fir_meaning.specs.SourceDesigns.{SourceDesign}
 use Rattle.fir_meaning.specs.SourceReads as by_path
 use Rattle.fir_meaning.specs.SourceRoles as sources
-use Rattle.fir_meaning.specs.SourceRoles.{PathNeed, PathReading, SourceRole}
+use Rattle.fir_meaning.specs.SourceRoles.{PathNeed, PathReading, SourceReset, SourceRole}
 use Rattle.fir_meaning.specs.working.TermReads.{reads}
 use Rattle.fir_meaning.specs.working.Choices.{LiveReads}
 
@@ -27,6 +27,23 @@ path_reads (sources.computed scope e q) = by_path.reads scope e q
 path_reads (sources.register scope clock reset q) = tree.reset_reads reset q
 path_reads (sources.reading r) = tree.reading_reads r
 path_reads _ = []
+
+-- the init of a register
+abbrev pub reset_inits : Option LeafReset → List ℕ
+reset_inits None = []
+reset_inits (Some r) = reads r.init
+
+abbrev pub init_reads : Role → List ℕ
+init_reads (role.register c r) = reset_inits r
+init_reads _ = []
+
+abbrev pub path_reset_inits : Option SourceReset → LeafPath → List LeafPath
+path_reset_inits None q = []
+path_reset_inits (Some r) q = by_path.reads r.scope r.init q
+
+abbrev pub path_inits : SourceRole → List LeafPath
+path_inits (sources.register scope clock reset q) = path_reset_inits reset q
+path_inits _ = []
 
 -- what a leaf depends on is read by statements that are live for it, where it is a sink, and by its role, where it is none
 pub of_role : (body : LeafBlock) (depth x : ℕ) (r : Role) (y : ℕ) → is_sink r ≡ false → over.RoleDepends body depth x r y → In (role_reads r) y

@@ -4,7 +4,7 @@ use Rattle.std.proofs.lemmas.Bool.{cases_lt}
 use Rattle.fir_base.specs.Lists.{In}
 use Rattle.fir_base.proofs.Elements.{get_in}
 use Rattle.fir_ast.specs.Circuits.{CircuitTree}
-use Rattle.fir_pass.specs.Faults.{Fault}
+use Rattle.fir_ast.specs.Faults.{Fault}
 use Rattle.fir_meaning.specs.working.LeafModules.{LeafDeclared, is_sink, leaf_at, no_leaf}
 use Rattle.fir_meaning.specs.ModuleScenes.{Scene}
 use Rattle.fir_meaning.specs.working.LeafedModules.{leafed_module, module_leaves}
@@ -38,18 +38,14 @@ module _ (c : CircuitTree) (names : HasNames c) (types : type_faults c ≡ []) w
         is_scene = h.is_scene;
         leaf = t.0;
         is_leaf = t.1;
-        fault = h.fault;
-        shows = shows_forth c names types s among x t.0 t.1 h.fault h.shows;
-        is = h.is;
+        shows = shows_forth c names types s among x t.0 t.1 f h.shows;
       }
 
   fault_back : (n x : ℕ) (f : Fault) → IsFaultOf c n x f → numbered.IsFaultOf c n x f
   fault_back n x f h = record {
     scene = h.scene;
     is_scene = h.is_scene;
-    fault = h.fault;
-    shows = shows_back c names types h.scene (own_among n h.scene h.is_scene) x h.leaf h.is_leaf h.fault h.shows;
-    is = h.is;
+    shows = shows_back c names types h.scene (own_among n h.scene h.is_scene) x h.leaf h.is_leaf f h.shows;
   }
 
   module _ (n : ℕ) (s : Scene) (is : IsSceneOf c n s) where

@@ -3,8 +3,7 @@ use Rattle.std.proofs.Common.{◌≡◌, ℕ, zero, suc, ◌<◌, List, [], ◌�
 use Rattle.std.specs.Prelude.{unwrap_or}
 use Rattle.std.proofs.lemmas.Option.{none-some}
 use Rattle.fir_base.specs.Lists.{In}
-use Rattle.fir_ast.specs.declared.fault.FirFault.{FirFault}
-use Rattle.fir_ast.specs.declared.fault.FirFault.TheVariants.{Undriven}
+use Rattle.fir_ast.specs.Faults.{Fault}
 use Rattle.fir_ast.specs.declared.fault.Outcome.{Outcome}
 use Rattle.fir_ast.specs.Circuits.{CircuitTree}
 use Rattle.fir_meaning.specs.working.LeafModules.{LeafArray, LeafDeclared, depth_at, leaf_at, role_at}
@@ -19,7 +18,7 @@ use Rattle.fir_meaning.specs.SourceCircuits.{is_sink_role}
 use Rattle.fir_meaning.specs.SourceFacts.{source_depth, source_place}
 use Rattle.fir_meaning.specs.SourceRoles.{SourceLeaf, source_leaves}
 use Rattle.fir_meaning.specs.SourceUndriven.{IsFirstUndriven, IsUndriven}
-use Rattle.fir_meaning.specs.SourceUndrivenGroup.{IsDriven, ShowsUndriven}
+use Rattle.fir_meaning.specs.SourceUndrivenGroup.{IsDriven, ShowsUndriven, undriven_fault}
 use Rattle.fir_meaning.specs.TypeGroup.{type_faults}
 use Rattle.fir_meaning.specs.working.UndrivenChoices as numbered
 use Rattle.fir_meaning.specs.working.UndrivenLeaves as leafed
@@ -120,11 +119,11 @@ module _ (c : CircuitTree) (names : HasNames c) (types : type_faults c ≡ []) (
     place_is sink = ap (source_place s) (sym path_is) ∙ sink_place s (fine_scene c s names types among) x lt sink
 
     fault_is : by_number.is_sink (role_at (leafed_module s) x) ≡ true → (outcomes : List Outcome)
-        → Undriven (leaf_at (module_leaves s) x).place (path_text (leaf_at (module_leaves s) x).path) outcomes
-        ≡ Undriven (source_place s t.path) (path_text t.path) outcomes
-    fault_is sink outcomes = ap₂ (λ p q. Undriven p (path_text q) outcomes) (sym (place_is sink)) path_is
+        → undriven_fault (leaf_at (module_leaves s) x).place (path_text (leaf_at (module_leaves s) x).path) outcomes
+        ≡ undriven_fault (source_place s t.path) (path_text t.path) outcomes
+    fault_is sink outcomes = ap₂ (λ p q. undriven_fault p (path_text q) outcomes) (sym (place_is sink)) path_is
 
-    pub shows_forth : (f : FirFault) → leafed.ShowsUndriven (leafed_module s) x f → ShowsUndriven s t f
+    pub shows_forth : (f : Fault) → leafed.ShowsUndriven (leafed_module s) x f → ShowsUndriven s t f
     shows_forth f h = record {
       outcomes = h.outcomes;
       is_sink = sym sinks ∙ h.is_sink;
@@ -132,7 +131,7 @@ module _ (c : CircuitTree) (names : HasNames c) (types : type_faults c ≡ []) (
       is = h.is ∙ fault_is h.is_sink h.outcomes;
     }
 
-    pub shows_back : (f : FirFault) → ShowsUndriven s t f → leafed.ShowsUndriven (leafed_module s) x f
+    pub shows_back : (f : Fault) → ShowsUndriven s t f → leafed.ShowsUndriven (leafed_module s) x f
     shows_back f h =
         let sink : by_number.is_sink (role_at (leafed_module s) x) ≡ true = sinks ∙ h.is_sink in
         record {

@@ -3,7 +3,7 @@ use Rattle.std.proofs.Common.{◌≡◌, ℕ, ◌+◌, ◌<◌, List, [], ◌∷
 use Rattle.std.specs.List.{AllByRecursion}
 use Rattle.fir_ast.specs.declared.place.Place.{Place}
 use Rattle.fir_ast.specs.Expressions.{Expression, reference, literal, operation, mux, validif}
-use Rattle.fir_ast.specs.Statements.{Sink}
+use Rattle.fir_ast.specs.Statements.{SinkReference}
 use Rattle.fir_ast.specs.Types.{DataType}
 use Rattle.fir_meaning.specs.working.LeafBlocks as over
 use Rattle.fir_meaning.specs.LeafPaths.{LeafPath}
@@ -64,7 +64,7 @@ module _ (s : Scene) (depth x : ℕ) (reading : ReadsByPath s) (lt : x < length 
 
   module _ (scope : TypedScope) (begins : Begins scope (scope_of_module s)) where
     -- of a reference
-    pub sink_driven : (sink : Sink) (r : Reached) (n : ℕ) (l : TypeLeaf) (t : Term) (given : Side) → Reaches scope sink r
+    pub sink_driven : (sink : SinkReference) (r : Reached) (n : ℕ) (l : TypeLeaf) (t : Term) (given : Side) → Reaches scope sink r
         → slice_get (type_leaves r.data_type) n ≡ Some l → paths_in s (by_number.reads t) ≡ given.reads
         → Beside s depth x under k way (driven_from p (target_of scope sink).base (target_of scope sink) n t)
         (record { way = way; place = p; under = under; driven = side scope (sink_expression sink) l.path; given = given } ∷ [])

@@ -3,7 +3,7 @@ use Rattle.std.proofs.Common.{◌≡◌, ℕ, zero, suc, ◌≤◌, List, [], �
 use Rattle.fir_ast.specs.declared.place.Place.{Place}
 use Rattle.fir_ast.specs.Types.{DataType}
 use Rattle.fir_ast.specs.Expressions.{Expression}
-use Rattle.fir_ast.specs.Statements.{Sink, Statement, connect, partial_connect, Block, done, then}
+use Rattle.fir_ast.specs.Statements.{SinkReference, Statement, connect, partial_connect, Block, done, then}
 use Rattle.fir_meaning.specs.ConnectPairs.{Pair, pairs, partial_pairs}
 use Rattle.fir_meaning.specs.LeafPaths.{LeafPath}
 use Rattle.fir_meaning.specs.TypeGroup.{scope_at}
@@ -35,9 +35,9 @@ module _ {V : Type 0} (s : Scene) (holds : TypesByPath) (env : ValuesByPath) (gi
   followed_run ((then) y a) b before taken store =
       followed_run a b (behind before y) taken (exec_source s holds env gifts path child before y taken store)
 
-last_of : {V : Type 0} (statement : Place → Sink → Expression → Statement) (pairs_of : DataType → DataType → List Pair)
+last_of : {V : Type 0} (statement : Place → SinkReference → Expression → Statement) (pairs_of : DataType → DataType → List Pair)
     → ((s : Scene) (holds : TypesByPath) (env : ValuesByPath) (gifts : Gifts V) (path : LeafPath) (child : List ℕ → DesignStore V → DesignStore V)
-    (place : Before) (p : Place) (sink : Sink) (e : Expression) (taken : List Bool) (store : DesignStore V)
+    (place : Before) (p : Place) (sink : SinkReference) (e : Expression) (taken : List Bool) (store : DesignStore V)
     → exec_source s holds env gifts path child place (statement p sink e) taken store
     ≡ source_pairs s holds env gifts path child (scope_at s.own.modules place) sink e taken
     (pairs_between holds env pairs_of (scope_at s.own.modules place) sink e) store)

@@ -6,7 +6,7 @@ use Rattle.std.proofs.Math.Path.{fun_ext}
 use Rattle.fir_bits.specs.Operators.{no_operand}
 use Rattle.fir_base.proofs.SameNames.{name_apart, name_is}
 use Rattle.fir_ast.specs.Expressions.{Expression}
-use Rattle.fir_ast.specs.Statements.{Sink, Statement, wire, register, node, instance, memory, when, connect, partial_connect, invalid, skip, Block, done, then}
+use Rattle.fir_ast.specs.Statements.{SinkReference, Statement, wire, register, node, instance, memory, when, connect, partial_connect, invalid, skip, Block, done, then}
 use Rattle.fir_meaning.specs.ConnectPairs.{Pair, pairs, partial_pairs}
 use Rattle.fir_meaning.specs.LeafPaths.{LeafPath, Step, element, named}
 use Rattle.fir_meaning.specs.TypeGroup.{scope_at}
@@ -50,7 +50,7 @@ module _ {V : Type 0} (s : Scene) (holds : TypesByPath) (env : ValuesByPath) (gi
         by false = h x
         by true = rw (front_same one y x, front_same two y x) (ap (λ o. if same_path y x then Some (give y) else o) (h x))
 
-    moved_pairs : (scope : TypedScope) (sink : Sink) (e : Expression) (taken : List Bool) (ps : List Pair) (store other : DesignStore V)
+    moved_pairs : (scope : TypedScope) (sink : SinkReference) (e : Expression) (taken : List Bool) (ps : List Pair) (store other : DesignStore V)
         → AreSameBelow one two store other
         → AreSameBelow one two (source_pairs s holds env gifts one child scope sink e taken ps store)
         (source_pairs s holds env gifts two others scope sink e taken ps other)

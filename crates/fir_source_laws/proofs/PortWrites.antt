@@ -1,7 +1,7 @@
 -- What the ports of a memory leave at an address.
 use Rattle.std.proofs.Common.{◌≡◌, ℕ, List, [], ◌∷◌, ◌++◌, Bool, true, ◌&&◌, nat_eq, if◌then◌else◌, refl, sym, ap, subst, ◌∙◌, inl, inr}
 use Rattle.std.proofs.lemmas.Bool.{and_from, and_parts, eq-eqb, eqb-true, false_from_ne_true}
-use Rattle.fir_meaning.specs.MemoryPorts.{PortKind, reads, reads_and_writes, writes}
+use Rattle.fir_meaning.specs.MemoryPorts.{MemoryPortKind, reads, reads_and_writes, writes}
 use Rattle.fir_meaning.specs.LeafPaths.{LeafPath}
 use Rattle.fir_meaning.specs.ClockEdges.{has_edge}
 use Rattle.fir_meaning.specs.SourceAllows.{word_after, writes_at}
@@ -45,7 +45,7 @@ module _ (m : Memory) (state edges : List ℕ) (env : PathEnv) (q : LeafPath) (a
     abbrev addressed : Bool
     addressed = nat_eq (address_of m env port) address
 
-    abbrev unmasked : PortKind → Bool
+    abbrev unmasked : MemoryPortKind → Bool
     unmasked k = nat_eq (mask_of m env k port.name q) 1
 
     abbrev may : Bool
@@ -57,7 +57,7 @@ module _ (m : Memory) (state edges : List ℕ) (env : PathEnv) (q : LeafPath) (a
         edge : clocked ≡ true
         edge = with_edge edges (clock_on m env port.name) w.edge
 
-        go : (k : PortKind) → MayWrite m env k (mode m env port) → mask_of m env k port.name q ≡ 1
+        go : (k : MemoryPortKind) → MayWrite m env k (mode m env port) → mask_of m env k port.name q ≡ 1
             → after (port_writing m.named.name q port.name k) word ≡ data_of m env k port.name q
         go reads allowed mask = absurd allowed
         go writes allowed mask =
@@ -83,7 +83,7 @@ module _ (m : Memory) (state edges : List ℕ) (env : PathEnv) (q : LeafPath) (a
     pub port_idle : (word : ℕ) → (Writes m env edges q port address → ⊥) → by_port port word ≡ word
     port_idle word none = go port.kind refl
       where
-        with_all : (k : PortKind) → port.kind ≡ k → clocked ≡ true → enabled ≡ true → MayWrite m env k (mode m env port) → unmasked k ≡ true
+        with_all : (k : MemoryPortKind) → port.kind ≡ k → clocked ≡ true → enabled ≡ true → MayWrite m env k (mode m env port) → unmasked k ≡ true
             → addressed ≡ true → ⊥
         with_all k e edge on allowed mask at =
             none (record {
@@ -94,7 +94,7 @@ module _ (m : Memory) (state edges : List ℕ) (env : PathEnv) (q : LeafPath) (a
               addressed = eqb-true (address_of m env port) address at;
             })
 
-        go : (k : PortKind) → port.kind ≡ k → after (port_writing m.named.name q port.name k) word ≡ word
+        go : (k : MemoryPortKind) → port.kind ≡ k → after (port_writing m.named.name q port.name k) word ≡ word
         go reads e = refl
         go writes e =
             ap (λ (b : Bool). if b then data_of m env writes port.name q else word)

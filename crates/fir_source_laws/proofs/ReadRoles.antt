@@ -6,7 +6,7 @@ use Rattle.fir_base.specs.Lists.{Distinct, In}
 use Rattle.fir_base.proofs.Members.{in_map}
 use Rattle.fir_base.proofs.SameNames.{name_other, name_same}
 use Rattle.fir_meaning.specs.Components as component
-use Rattle.fir_meaning.specs.MemoryPorts.{PortKind, reads, reads_and_writes, writes}
+use Rattle.fir_meaning.specs.MemoryPorts.{MemoryPortKind, reads, reads_and_writes, writes}
 use Rattle.fir_meaning.specs.FoundTypes.{leaves_of_data}
 use Rattle.fir_meaning.specs.LeafPaths.{LeafPath, named}
 use Rattle.fir_meaning.specs.ModuleScenes.{held_by_declared, type_of_declared}
@@ -31,7 +31,7 @@ kind_found (o ∷ ps) port (inr m) once =
     rw other (kind_found ps port m once.1)
 
 -- what a port needs besides its enable
-abbrev pub needs_of : Memory → List ℕ → PortKind → List PathNeed
+abbrev pub needs_of : Memory → List ℕ → MemoryPortKind → List PathNeed
 needs_of m port reads = []
 needs_of m port writes = []
 needs_of m port reads_and_writes = record { leaf = port_field m.named.name port (codes "wmode"); high = false } ∷ []
@@ -47,7 +47,7 @@ module _ (m : Memory) (port : NamedPort) (q : LeafPath) where
   abbrev pub role_at : ℕ → SourceRole
   role_at latency = read_by latency (reading_of m port q) (port_field m.named.name port.name (codes "clk")) (under_write_of m.parts)
 
-  shown_role : (kind : PortKind) (field : List ℕ) → port.kind ≡ kind → IsShown kind field
+  shown_role : (kind : MemoryPortKind) (field : List ℕ) → port.kind ≡ kind → IsShown kind field
       → port_role m.named.name m.parts port.name field q (Some kind) ≡ role_at (latency_of m.parts)
   shown_role reads field e shown =
       let test : bytes_eq field (codes "data") ≡ true = ap (λ x. bytes_eq x (codes "data")) shown ∙ name_same (codes "data") in
@@ -77,7 +77,7 @@ module _ (m : Memory) (port : NamedPort) (q : LeafPath) where
   pub role_late : (p : PlacedLeaf) (latency : ℕ) → IsRead m port q p → HasLatency m latency → p.leaf.role ≡ role_at latency
   role_late p latency h late = role_is p h ∙ ap role_at (ap (λ (ns : List ℕ). unwrap_or (first_one ns) 0) late)
 
-  other_role : (kind : PortKind) (field : List ℕ) → (IsShown kind field → ⊥) → port_role m.named.name m.parts port.name field q (Some kind) ≡ sink
+  other_role : (kind : MemoryPortKind) (field : List ℕ) → (IsShown kind field → ⊥) → port_role m.named.name m.parts port.name field q (Some kind) ≡ sink
   other_role reads field other = let test : bytes_eq field (codes "data") ≡ false = name_other field (codes "data") other in rw test refl
   other_role writes field other = refl
   other_role reads_and_writes field other = let test : bytes_eq field (codes "rdata") ≡ false = name_other field (codes "rdata") other in rw test refl

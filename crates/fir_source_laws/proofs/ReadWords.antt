@@ -1,7 +1,7 @@
 -- What a port of a memory reads.
 use Rattle.std.proofs.Common.{◌≡◌, ℕ, ◌<◌, ◌∷◌, ◌++◌, Bool, true, ◌&&◌, nat_eq, nat_lt, if◌then◌else◌, refl, ap, ◌∙◌, inl, inr, arith}
 use Rattle.std.proofs.lemmas.Bool.{and_from, and_parts, eq-eqb, eqb-true, false_from_ne_true, lt-ltb, ltb-true}
-use Rattle.fir_meaning.specs.MemoryPorts.{PortKind, reads, reads_and_writes, writes}
+use Rattle.fir_meaning.specs.MemoryPorts.{MemoryPortKind, reads, reads_and_writes, writes}
 use Rattle.fir_meaning.specs.LeafPaths.{LeafPath, named}
 use Rattle.fir_meaning.specs.SourceCircuits.{PlacedArray, all_arrays}
 use Rattle.fir_meaning.specs.SourceRoles.{NamedPort}
@@ -25,10 +25,10 @@ module _ (m : Memory) (env : PathEnv) (depth : ℕ) (port : NamedPort) (q : Leaf
   abbrev within : Bool
   within = nat_lt (address_of m env port) words
 
-  abbrev allowed : PortKind → Bool
+  abbrev allowed : MemoryPortKind → Bool
   allowed kind = are_met m.design env m.at (needs_of m port.name kind)
 
-  allowed_is : (kind : PortKind) → MayRead m env kind (mode m env port) → allowed kind ≡ true
+  allowed_is : (kind : MemoryPortKind) → MayRead m env kind (mode m env port) → allowed kind ≡ true
   allowed_is reads may = refl
   allowed_is writes may = refl
   allowed_is reads_and_writes may = and_from (nat_eq (mode m env port) 0) true (eq-eqb (mode m env port) 0 may) refl
@@ -42,7 +42,7 @@ module _ (m : Memory) (env : PathEnv) (depth : ℕ) (port : NamedPort) (q : Leaf
       (lt-ltb (address_of m env port) words lt) in
       ap (λ (b : Bool). if b then word (address_of m env port) else 0) all
 
-  mode_is : (kind : PortKind) → kind ≡ reads_and_writes → allowed kind ≡ true → mode m env port ≡ 0
+  mode_is : (kind : MemoryPortKind) → kind ≡ reads_and_writes → allowed kind ≡ true → mode m env port ≡ 0
   mode_is reads is met = cc
   mode_is writes is met = cc
   mode_is reads_and_writes is met = eqb-true (mode m env port) 0 (and_parts (nat_eq (mode m env port) 0) true met).0

@@ -4,7 +4,7 @@ use Rattle.std.proofs.lemmas.List.{append-nil, append_cancel_left}
 use Rattle.fir_base.specs.Lists.{In}
 use Rattle.fir_base.proofs.Members.{in_left, in_right}
 use Rattle.fir_ast.specs.Expressions.{Expression}
-use Rattle.fir_ast.specs.Statements.{Sink, Statement, wire, register, node, instance, memory, when, connect, partial_connect, invalid, skip, Block, done, then}
+use Rattle.fir_ast.specs.Statements.{SinkReference, Statement, wire, register, node, instance, memory, when, connect, partial_connect, invalid, skip, Block, done, then}
 use Rattle.fir_meaning.specs.ConnectPairs.{Pair, pairs, partial_pairs}
 use Rattle.fir_meaning.specs.LeafPaths.{LeafPath}
 use Rattle.fir_meaning.specs.TypeGroup.{scope_at}
@@ -162,7 +162,7 @@ module _ {V : Type 0} (s : Scene) (holds : TypesByPath) (env : ValuesByPath) (gi
       by false false true same p q = rw same e
       by false false false same p q = e
 
-  alike_pairs : (scope : TypedScope) (sink : Sink) (c : Expression) (ps : List Pair) (taken others : List Bool) (one other : DesignStore V)
+  alike_pairs : (scope : TypedScope) (sink : SinkReference) (c : Expression) (ps : List Pair) (taken others : List Bool) (one other : DesignStore V)
       → AlikeAt taken others → one x ≡ other x
       → source_pairs s holds env gifts path child scope sink c taken ps one x
       ≡ source_pairs s holds env gifts path child scope sink c others ps other x

@@ -1,7 +1,7 @@
 -- What statements that spare a leaf leave there.
 use Rattle.std.proofs.Common.{◌≡◌, ℕ, List, [], ◌∷◌, ◌++◌, Bool, true, false, not, if◌then◌else◌, Option, Some, None, refl, ◌∙◌, inl, inr}
 use Rattle.fir_ast.specs.Expressions.{Expression}
-use Rattle.fir_ast.specs.Statements.{Sink, Statement, wire, register, node, instance, memory, when, connect, partial_connect, invalid, skip, Block, done, then}
+use Rattle.fir_ast.specs.Statements.{SinkReference, Statement, wire, register, node, instance, memory, when, connect, partial_connect, invalid, skip, Block, done, then}
 use Rattle.fir_meaning.specs.ConnectPairs.{Pair, pairs, partial_pairs}
 use Rattle.fir_meaning.specs.LeafPaths.{LeafPath}
 use Rattle.fir_meaning.specs.TypeGroup.{scope_at}
@@ -22,7 +22,7 @@ use Rattle.fir_source_laws.proofs.LeafTests.{kept_elsewhere, kept_there}
 module _ {V : Type 0} (s : Scene) (holds : TypesByPath) (env : ValuesByPath) (gifts : Gifts V) (path : LeafPath)
     (child : List ℕ → DesignStore V → DesignStore V) where
   -- a pair keeps what it gives at the leaf that it drives
-  pub pair_kept : (scope : TypedScope) (sink : Sink) (e : Expression) (taken : List Bool) (pair : Pair) (store : DesignStore V)
+  pub pair_kept : (scope : TypedScope) (sink : SinkReference) (e : Expression) (taken : List Bool) (pair : Pair) (store : DesignStore V)
       → source_pair s holds env gifts path child scope sink e taken pair store
       ≡ source_kept s holds env gifts path child (driven holds env scope sink e pair) (gift gifts scope sink e pair) taken store
   pair_kept scope sink e taken pair store = by pair.left.flip
@@ -39,7 +39,7 @@ module _ {V : Type 0} (s : Scene) (holds : TypesByPath) (env : ValuesByPath) (gi
       by true = refl
       by false = refl
 
-  pub pairs_joined : (scope : TypedScope) (sink : Sink) (e : Expression) (taken : List Bool) (ps qs : List Pair) (store : DesignStore V)
+  pub pairs_joined : (scope : TypedScope) (sink : SinkReference) (e : Expression) (taken : List Bool) (ps qs : List Pair) (store : DesignStore V)
       → source_pairs s holds env gifts path child scope sink e taken (ps ++ qs) store
       ≡ source_pairs s holds env gifts path child scope sink e taken qs (source_pairs s holds env gifts path child scope sink e taken ps store)
   pairs_joined scope sink e taken [] qs store = refl
@@ -62,7 +62,7 @@ module _ {V : Type 0} (s : Scene) (holds : TypesByPath) (env : ValuesByPath) (gi
         by false e = refl
         by true e = kept_elsewhere (give y) store (path ++ y) x (λ same. let no = h same in cc)
 
-    pub spared_pairs : (scope : TypedScope) (sink : Sink) (e : Expression) (taken : List Bool) (ps : List Pair) (store : DesignStore V)
+    pub spared_pairs : (scope : TypedScope) (sink : SinkReference) (e : Expression) (taken : List Bool) (ps : List Pair) (store : DesignStore V)
         → SparesPairs s holds env path x scope sink e taken ps
         → source_pairs s holds env gifts path child scope sink e taken ps store x ≡ store x
     spared_pairs scope sink e taken [] store h = refl

@@ -7,7 +7,7 @@ use Rattle.fir_ast.specs.Statements.{Block}
 use Rattle.fir_ast.specs.Circuits.{PortTree, ModuleTree, CircuitTree}
 use Rattle.fir_parse.specs.Limits.{everywhere}
 use Rattle.fir_parse.specs.Lexemes.{Terminal}
-use Rattle.fir_parse.specs.Pieces.{LineEnd, Word}
+use Rattle.fir_parse.specs.Pieces.{LineEnd, WordToken}
 use Rattle.fir_parse.specs.CircuitForms.{direction_word, IsPort, ArePorts, IsBody, IsModule, AreModules, AreSomeModules, IsVersion, IsSpelled}
 use Rattle.fir_inst.specs.working.Words.{BlockHasWords, HasWords, ModuleHasWords, TypeHasWords}
 use Rattle.fir_spelled.proofs.WordPieces.{AreSpelledWell, KeepsWords, keeps, token, somewhere, nothing, given, at, next, either, name_is_word}
@@ -29,7 +29,7 @@ ports_keep (p ∷ ps) = next (port_keeps p) (ports_keep ps)
 ports_words : (ps : List PortTree) (a b : List Terminal) → ArePorts everywhere ps a b → AreSpelledWell a → AllByRecursion PortHasWords ps
 ports_words [] a b e h = tt
 ports_words (p ∷ ps) a b (m, x, y) h =
-    (declared_words (Word (direction_word p.direction)) LineEnd somewhere p.named 0 p.type_place p.data_type a m x h, ports_words ps m b y ((port_keeps p).behind a m x h))
+    (declared_words (WordToken (direction_word p.direction)) LineEnd somewhere p.named 0 p.type_place p.data_type a m x h, ports_words ps m b y ((port_keeps p).behind a m x h))
 
 body_keeps : (ps : List PortTree) (body : Block) → KeepsWords (IsBody everywhere ps body)
 body_keeps ps body = either given (next somewhere (next (ports_keep ps) (next (statements_keep 0 body) somewhere)))

@@ -2,7 +2,7 @@
 use Rattle.std.proofs.Common.{ℕ, ◌+◌, max, List, [], ◌∷◌, Option, inl, inr}
 use Rattle.fir_ast.specs.declared.expressions.Literal.{Literal}
 use Rattle.fir_ast.specs.Expressions.{Expression, reference, literal, operation, mux, validif, Parts, no_parts, subfield, subindex, subaccess, Expressions, no_expressions, expression}
-use Rattle.fir_ast.specs.Statements.{Sink}
+use Rattle.fir_ast.specs.Statements.{SinkReference}
 use Rattle.fir_parse.specs.Limits.{everywhere}
 use Rattle.fir_parse.specs.Numbers.{Numeral}
 use Rattle.fir_parse.specs.Heights.{height}
@@ -49,5 +49,5 @@ mutual
   more_operands_keep d no_expressions = nothing
   more_operands_keep d (expression e rest) = next somewhere (next (expression_keeps d e) (more_operands_keep d rest))
 
-pub sink_keeps : (d : ℕ) (s : Sink) → KeepsWords (IsSink everywhere d s)
+pub sink_keeps : (d : ℕ) (s : SinkReference) → KeepsWords (IsSink everywhere d s)
 sink_keeps d s = next token (parts_keep d 1 s.parts)

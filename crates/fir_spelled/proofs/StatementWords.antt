@@ -8,8 +8,8 @@ use Rattle.fir_parse.specs.Limits.{everywhere}
 use Rattle.fir_parse.specs.declared.lexeme.Mark.TheVariants.{Comma}
 use Rattle.fir_parse.specs.Lexemes.{Lexeme, Terminal, word}
 use Rattle.fir_parse.specs.ExpressionForms.{IsExpression}
-use Rattle.fir_parse.specs.Pieces.{◌▸◌, LineEnd, Sign, Token}
-use Rattle.fir_parse.specs.StatementForms.{AreMemoryParts, AreNames, AreStatements, IsBlock, IsElse, IsMemoryBody, IsMemoryPart, IsNames, IsReset, IsStatement}
+use Rattle.fir_parse.specs.Pieces.{◌▸◌, LineEnd, Sign, TokenAt}
+use Rattle.fir_parse.specs.StatementForms.{AreMemoryParts, AreNames, AreStatements, IsBlock, IsElse, IsMemoryBody, IsMemoryPart, IsNames, IsRegisterReset, IsStatement}
 use Rattle.fir_inst.specs.working.Words.{BlockHasWords, NamesAreWords, PartHasWords, StatementHasWords}
 use Rattle.fir_spelled.proofs.WordPieces.{AreSpelledWell, token, somewhere, given, at, next, name_is_word}
 use Rattle.fir_spelled.proofs.TypeWords.{declared_words, type_words}
@@ -21,7 +21,7 @@ names_words [] a b e h = tt
 names_words (n ∷ ns) a b (m, name, rest) h = (name_is_word n a m name h, names_words ns m b rest ((token).behind a m name h))
 
 -- the names behind a word and an arrow
-port_names_words : (l : Lexeme) (p : Place) (ns : List PlacedName) (a b : List Terminal) → (Token l p ▸ IsNames ns) a b → AreSpelledWell a → NamesAreWords ns
+port_names_words : (l : Lexeme) (p : Place) (ns : List PlacedName) (a b : List Terminal) → (TokenAt l p ▸ IsNames ns) a b → AreSpelledWell a → NamesAreWords ns
 port_names_words l p [] a b (m, w, x) h = absurd x
 port_names_words l p (n ∷ ns) a b (m1, w, (m2, arrow, (m3, name, (m4, names, end)))) h =
     let well : AreSpelledWell m2 = (next token somewhere).behind a m2 (m1, w, arrow) h in
@@ -50,9 +50,9 @@ memory_words d (f ∷ fs) a b (m, opens, (n, x, (k, y, closes))) h =
 
 mutual
   statement_words : (d : ℕ) (s : Statement) (a b : List Terminal) → IsStatement everywhere d s a b → AreSpelledWell a → StatementHasWords s
-  statement_words d (wire p n q t) a b x h = declared_words (Token (word (codes "wire")) p) LineEnd token n d q t a b x h
+  statement_words d (wire p n q t) a b x h = declared_words (TokenAt (word (codes "wire")) p) LineEnd token n d q t a b x h
   statement_words d (register p n q t c r) a b x h =
-      declared_words (Token (word (codes "reg")) p) (Sign Comma ▸ IsExpression everywhere d c ▸ IsReset everywhere d r) token n d q t a b x h
+      declared_words (TokenAt (word (codes "reg")) p) (Sign Comma ▸ IsExpression everywhere d c ▸ IsRegisterReset everywhere d r) token n d q t a b x h
   statement_words d (node p n e) a b (m, w, (k, name, rest)) h = name_is_word n m k name ((token).behind a m w h)
   statement_words d (instance p n other) a b (m, w, (k, name, rest)) h = name_is_word n m k name ((token).behind a m w h)
   statement_words d (memory p n fs) a b (m1, w, (m2, name, (m3, colon, (m4, end, body)))) h =

@@ -2,7 +2,7 @@
 use Rattle.std.proofs.Common.{ℕ, ◌+◌, List, [], ◌∷◌, Option, Some, None}
 use Rattle.fir_ast.specs.Statements.{PlacedName, Reset, MemoryPart, data_type, depth, read_latency, write_latency, reader, writer, readwriter, read_under_write, Statement, wire, register, node, instance, memory, when, connect, partial_connect, invalid, skip, Block, done, then}
 use Rattle.fir_parse.specs.Limits.{everywhere}
-use Rattle.fir_parse.specs.StatementForms.{IsResetPair, IsReset, AreNames, IsNames, IsMemoryPart, AreMemoryParts, IsMemoryBody, IsStatement, AreStatements, IsBlock, IsElse}
+use Rattle.fir_parse.specs.StatementForms.{IsResetPair, IsRegisterReset, AreNames, IsNames, IsMemoryPart, AreMemoryParts, IsMemoryBody, IsStatement, AreStatements, IsBlock, IsElse}
 use Rattle.fir_spelled.proofs.WordPieces.{KeepsWords, keeps, token, somewhere, nothing, given, at, next, either}
 use Rattle.fir_spelled.proofs.TypesKeepWords.{int, type_keeps}
 use Rattle.fir_spelled.proofs.ExpressionsKeepWords.{expression_keeps, sink_keeps}
@@ -11,7 +11,7 @@ reset_pair : (d : ℕ) (r : Reset) → KeepsWords (IsResetPair everywhere d r)
 reset_pair d r =
     next somewhere (next somewhere (next somewhere (next given (next (expression_keeps (d + 1) r.condition) (next somewhere (next (expression_keeps (d + 1) r.init) somewhere))))))
 
-reset_keeps : (d : ℕ) (r : Option Reset) → KeepsWords (IsReset everywhere d r)
+reset_keeps : (d : ℕ) (r : Option Reset) → KeepsWords (IsRegisterReset everywhere d r)
 reset_keeps d None = somewhere
 reset_keeps d (Some r) =
     next token (next somewhere (either (next somewhere (next given (next (reset_pair (d + 1) r) (next somewhere somewhere)))) (next somewhere (next somewhere (next (reset_pair d r) (next somewhere somewhere))))))

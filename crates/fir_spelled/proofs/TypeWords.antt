@@ -10,7 +10,7 @@ use Rattle.fir_ast.specs.Types.{DataType, uint, sint, clock, reset, async_reset,
 use Rattle.fir_parse.specs.Limits.{everywhere}
 use Rattle.fir_parse.specs.declared.lexeme.Mark.TheVariants.{Colon}
 use Rattle.fir_parse.specs.Lexemes.{Terminal}
-use Rattle.fir_parse.specs.Pieces.{◌▸◌, At, FieldName, Name, Sign}
+use Rattle.fir_parse.specs.Pieces.{◌▸◌, At, FieldName, NameToken, Sign}
 use Rattle.fir_parse.specs.TypeForms.{IsFlip, IsType, AreFields, AreMoreFields}
 use Rattle.fir_inst.specs.working.Words.{FieldsHaveWords, TypeHasWords}
 use Rattle.fir_spelled.proofs.WordPieces.{AreSpelledWell, KeepsWords, token, somewhere, given, at, next, name_is_word, field_name_bytes}
@@ -66,7 +66,7 @@ mutual
 
 -- a name with a type, behind a first piece
 pub declared_words : (First Rest : List Terminal → List Terminal → Type 0) → KeepsWords First → (n : PlacedName) (d : ℕ) (q : Place) (t : DataType) (a b : List Terminal)
-    → (First ▸ Name n ▸ Sign Colon ▸ (At q ▸ IsType everywhere d t) ▸ Rest) a b → AreSpelledWell a → IsTrue (is_word n.name) × TypeHasWords t
+    → (First ▸ NameToken n ▸ Sign Colon ▸ (At q ▸ IsType everywhere d t) ▸ Rest) a b → AreSpelledWell a → IsTrue (is_word n.name) × TypeHasWords t
 declared_words First Rest first n d q t a b (m1, x, (m2, name, (m3, colon, (m4, (m5, there, is), rest)))) h =
     let well : AreSpelledWell m1 = first.behind a m1 x h in
     (name_is_word n m1 m2 name well, type_words d t m5 m4 is ((next token (next somewhere at)).behind m1 m5 (m2, name, (m3, colon, there)) well))

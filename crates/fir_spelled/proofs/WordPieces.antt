@@ -9,7 +9,7 @@ use Rattle.fir_ast.specs.declared.place.Place.{Place}
 use Rattle.fir_ast.specs.Statements.{PlacedName}
 use Rattle.fir_parse.specs.Lexemes.{Terminal, Lexeme, word, integer}
 use Rattle.fir_parse.specs.Numbers.{has_sign}
-use Rattle.fir_parse.specs.Pieces.{◌▸◌, At, Either, FieldName, Given, Nothing, Token, Somewhere, Name}
+use Rattle.fir_parse.specs.Pieces.{◌▸◌, At, Either, FieldName, Given, Nothing, TokenAt, Somewhere, NameToken}
 
 abbrev pub IsSpelledWell : Lexeme → Type 0
 IsSpelledWell (word w) = IsTrue (is_word w)
@@ -41,7 +41,7 @@ keeps takes = record {
 first_of : (t : Terminal) (a b : List Terminal) → a ≡ t ∷ b → AreSpelledWell a → IsSpelledWell t.lexeme
 first_of t a b e h = (subst AreSpelledWell e h).0
 
-pub token : {l : Lexeme} {p : Place} → KeepsWords (Token l p)
+pub token : {l : Lexeme} {p : Place} → KeepsWords (TokenAt l p)
 token {l} {p} = keeps (λ a b e. (record { lexeme = l; place = p } ∷ [], e))
 
 pub somewhere : {l : Lexeme} → KeepsWords (Somewhere l)
@@ -66,7 +66,7 @@ pub either : {P Q : List Terminal → List Terminal → Type 0} → KeepsWords P
 either p q = keeps (λ a b x. elim x [ inl y ↦ p.front a b y | inr y ↦ q.front a b y ])
 
 -- a name is a word
-pub name_is_word : (n : PlacedName) (a b : List Terminal) → Name n a b → AreSpelledWell a → IsTrue (is_word n.name)
+pub name_is_word : (n : PlacedName) (a b : List Terminal) → NameToken n a b → AreSpelledWell a → IsTrue (is_word n.name)
 name_is_word n a b e h = first_of (record { lexeme = word n.name; place = n.place }) a b e h
 
 -- what begins a word can stand in one

@@ -6,7 +6,8 @@ use Rattle.std.proofs.lemmas.List.{map-append}
 use Rattle.std.proofs.lemmas.List.Elements.{All-push}
 use Rattle.std.proofs.lemmas.Option.{slice_get_within}
 use Rattle.fir_ast.specs.Types.{DataType, uint, Fields, field}
-use Rattle.fir_ast.specs.View.{type_step, field_step, fields_of, type_of}
+use Rattle.fir_ast.specs.View.{fields_of}
+use Rattle.fir_ast.specs.working.TypeViews.{type_step, field_step, type_of}
 use Rattle.fir_ast.specs.working.BundleText.{field_of}
 use Rattle.fir_ast.specs.declared.types.Field.{Field, fold_out-Field}
 use Rattle.fir_meaning.specs.MemoryTypes.{mask_type, mask_fields}

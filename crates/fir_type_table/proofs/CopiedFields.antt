@@ -2,7 +2,8 @@
 use Rattle.std.proofs.Common.{◌≡◌, List, [], ◌∷◌, Bool, true, false, map, refl, ap, ◌∙◌}
 use Rattle.fir_ast.specs.declared.types.Field.{Field, fold_out-Field}
 use Rattle.fir_ast.specs.Types.{DataType, Fields, field}
-use Rattle.fir_ast.specs.View.{type_step, field_step, fields_of, type_of}
+use Rattle.fir_ast.specs.View.{fields_of}
+use Rattle.fir_ast.specs.working.TypeViews.{type_step, field_step, type_of}
 use Rattle.fir_ast.specs.working.BundleText.{field_of}
 use Rattle.fir_meaning.specs.TypeKinds.{bare}
 use Rattle.fir_type_table.specs.declared.entry.Member.{Member}

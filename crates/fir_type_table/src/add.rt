@@ -3,7 +3,8 @@
 ghost use Rattle.std.specs.Prelude.{◌≡◌, ◌<◌, Some, [], IfOk, IfSome, length, map, slice_get};
 ghost use Rattle.std.specs.List.{All};
 ghost use Rattle.fir_ast.specs.Types.{bundle, uint, vector};
-ghost use Rattle.fir_ast.specs.View.{fields_of, type_of};
+ghost use Rattle.fir_ast.specs.View.{fields_of};
+ghost use Rattle.fir_ast.specs.working.TypeViews.{type_of};
 ghost use Rattle.fir_ast.specs.working.BundleText.{field_of};
 ghost use Rattle.fir_meaning.specs.MemoryTypes.{mask_fields, mask_type};
 ghost use Rattle.fir_type_table.specs.working.Fits.{FitsAt, IsScalar, grounds};

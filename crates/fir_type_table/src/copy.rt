@@ -1,7 +1,8 @@
 //! A type as the text writes it.
 
 ghost use Rattle.std.specs.Prelude.{◌≡◌, IfOk, map};
-ghost use Rattle.fir_ast.specs.View.{fields_of, type_of};
+ghost use Rattle.fir_ast.specs.View.{fields_of};
+ghost use Rattle.fir_ast.specs.working.TypeViews.{type_of};
 ghost use Rattle.fir_ast.specs.working.BundleText.{field_of};
 ghost use Rattle.fir_type_table.specs.working.Tables.{member_fields, members_at, shown, shown_fields, type_at, types_of};
 

@@ -4,7 +4,7 @@ use Rattle.std.specs.Prelude.{IfOk, Result, Ok, Err, option_map, slice_get}
 use Rattle.fir_ast.specs.declared.place.Place.{Place}
 use Rattle.fir_ast.specs.Types.{DataType}
 use Rattle.fir_ast.specs.Expressions.{Parts, no_parts, subfield, subindex}
-use Rattle.fir_ast.specs.Statements.{Sink}
+use Rattle.fir_ast.specs.Statements.{SinkReference}
 use Rattle.fir_meaning.specs.LeafPaths.{LeafPath}
 use Rattle.fir_meaning.specs.TypedScopes.{TypedScope, known}
 use Rattle.fir_meaning.specs.Reaching.{field_of_type, vector_of_type}
@@ -45,7 +45,7 @@ range_next ts root all rest part (Some r) (Some s) old new so_far step =
     let next = step so_far.now so_far.has in record { now = next.next; has = next.has; same = so_far.same ∙ ap Some (next.same rest) }
 
 -- the note of a reference that reaches this
-pub reference_noted : (ts : List DataType) (typed : TypedScope) (s : Sink) (path : LeafPath) (y : Option Reach) (picks : List PickOfCode) (old new : List NoteOfCode)
+pub reference_noted : (ts : List DataType) (typed : TypedScope) (s : SinkReference) (path : LeafPath) (y : Option Reach) (picks : List PickOfCode) (old new : List NoteOfCode)
     → (reaching typed s).has ≡ option_map (reached_as ts path) y → RangeSoFar ts (root_range typed s.name) s.parts no_parts y picks
     → IsReferenceNote ts y picks old new → Noted ts old new (reference_note typed s ∷ [])
 reference_noted ts typed s path None picks old new has so_far noted =

@@ -1,11 +1,11 @@
 //! What an expression is found to be.
 
 ghost use Rattle.std.specs.Prelude.{◌≡◌, ℕ, List, Option, IfOk, IfSome, option_map};
-ghost use Rattle.fir_ast.specs.View.{type_of};
+ghost use Rattle.fir_ast.specs.working.TypeViews.{type_of};
 ghost use Rattle.fir_meaning.specs.Reaching.{field_of_type, vector_of_type};
 ghost use Rattle.fir_ast.specs.Types.{DataType};
 ghost use Rattle.fir_meaning.specs.TypeKinds.{bare, is_numeric, is_passive};
-ghost use Rattle.fir_meaning.specs.ExpressionTypes.{number_type};
+ghost use Rattle.fir_meaning.specs.ExpressionTypes.{number_data_type};
 ghost use Rattle.fir_meaning.specs.TypeLeaves.{leaf_count};
 ghost use Rattle.fir_meaning.specs.SharedLeaves.{shared_count};
 ghost use Rattle.fir_type_table.specs.working.Saturated.{saturated};
@@ -57,7 +57,7 @@ pub fn sort(table: &TypeTable, found: Found) -> Sort
 }
 
 fn number_sort(signed: bool) -> Sort
-    ensures { (width : Option ℕ) → result ≡ sort_of (number_type signed width) }
+    ensures { (width : Option ℕ) → result ≡ sort_of (number_data_type signed width) }
 {
     if signed { Sort::SInt } else { Sort::UInt }
 }

@@ -2,7 +2,7 @@
 
 ghost use Rattle.std.specs.Prelude.{◌≡◌, true, flat_map, map, option_map, option_to_list};
 ghost use Rattle.fir_ast.specs.working.Views.{memory_part_of};
-ghost use Rattle.fir_ast.specs.View.{type_of};
+ghost use Rattle.fir_ast.specs.working.TypeViews.{type_of};
 ghost use Rattle.fir_meaning.specs.MemoryFaults.{is_at_most_one, is_one, read_under_write_of_part};
 ghost use Rattle.fir_meaning.specs.MemoryTypes.{data_of_part, depth_of_part, first_one};
 ghost use Rattle.fir_types.specs.working.MemoryFields.{number_of_part, only};

@@ -1,7 +1,7 @@
 //! What is declared so far in a module.
 
 ghost use Rattle.std.specs.Prelude.{◌≡◌, Some, [], ◌∷◌, IfOk, option_map};
-ghost use Rattle.fir_ast.specs.View.{type_of};
+ghost use Rattle.fir_ast.specs.working.TypeViews.{type_of};
 ghost use Rattle.fir_meaning.specs.LeafPaths.{named};
 ghost use Rattle.fir_meaning.specs.Reaching.{root};
 ghost use Rattle.fir_meaning.specs.TypedScopes.{TypedScope};

@@ -5,7 +5,8 @@ use Rattle.std.proofs.lemmas.Bool.{cases_lt}
 use Rattle.std.proofs.lemmas.Option.{none-some}
 use Rattle.fir_ast.specs.declared.fault.FirFault.{FirFault}
 use Rattle.fir_ast.specs.Circuits.{CircuitTree, ModuleTree}
-use Rattle.fir_pass.specs.Faults.{Fault, code_of, fault_of}
+use Rattle.fir_ast.specs.Faults.{Fault}
+use Rattle.fir_ast.specs.working.CodeFaults.{code_of, fault_of}
 use Rattle.fir_pass.specs.Groups.{IsClear, group_of}
 use Rattle.fir_pass.specs.working.Groups.{SameGroup}
 use Rattle.fir_pass.specs.Law.{IsFirst}
@@ -55,7 +56,7 @@ module _ (c : CircuitTree) where
       → IsFirst 9 9 (circuit_meaning c) (fault_of f)
   unfolding circuit_meaning
   first_fault same k f driven found =
-      let group : group_of (code_of f) ≡ 9 = ap (λ (g : Fault). group_of g.code) found.stands.is ∙ ap (λ g. group_of (code_of g)) found.stands.shows.is in
+      let group : group_of (code_of f) ≡ 9 = ap (λ (g : Fault). group_of g.code) found.stands.shows.is in
       let told : numbered.IsTold c (fault_of f) = record {
         module_number = k;
         leaf = found.leaf;

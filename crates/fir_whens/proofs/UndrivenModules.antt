@@ -48,7 +48,6 @@ module _ (c : CircuitTree) (ms : List LeafModule) (leafed : AreLeafed c ms) (k :
         stands = record {
           scene = s;
           is_scene = scene;
-          fault = Undriven (leaf_of_code m x).place text outcomes;
           shows = record {
             outcomes = outcomes;
             within = inside;
@@ -56,7 +55,6 @@ module _ (c : CircuitTree) (ms : List LeafModule) (leafed : AreLeafed c ms) (k :
             first = subst (λ os. IsFirstUndriven (depth_at view x) x view.body os) same_outcomes first;
             is = rw (same_leaf m view has x, is_text s scene inside) refl;
           };
-          is = refl;
         };
         before = λ t of. driven_before m (leafed_module t) (leafed.each k m t at of) covered_driven x found.before;
       }

@@ -1,7 +1,7 @@
 //! The pass to nets.
 
 ghost use Rattle.std.specs.Prelude.{◌≡◌};
-ghost use Rattle.fir_pass.specs.Faults.{fault_of};
+ghost use Rattle.fir_ast.specs.working.CodeFaults.{fault_of};
 
 use crate::lowered::lower_whens;
 use crate::net_circuit::NetCircuit;

@@ -2,7 +2,7 @@
 
 ghost use Rattle.std.specs.Prelude.{◌≡◌, Some, IfOk, slice_get};
 ghost use Rattle.fir_ast.specs.working.Views.{circuit_of};
-ghost use Rattle.fir_meaning.specs.WidthExpressions.{Width, Widths as Assignment, width_of};
+ghost use Rattle.fir_meaning.specs.WidthExpressions.{Width, Widths as Assignment, width_under};
 ghost use Rattle.fir_meaning.specs.WidthRules.{AreWidths};
 ghost use Rattle.fir_width.specs.working.DeclaredWidths.{leaf_widths};
 ghost use Rattle.fir_meaning.specs.working.WidthLaws.{FitsAll};
@@ -98,7 +98,7 @@ impl Widths {
     /// (FIRRTL spec, "Width Inference"). A Reset and an AsyncReset have 1, a Clock 0; behind the last leaf
     /// it is 0.
     pub fn of(fitted: &Fitted, leaf: LeafId) -> u32
-        ensures { (e : Width) (w : Assignment) → slice_get (leaf_widths (circuit_of fitted.now)) leaf ≡ Some e → AreWidths (circuit_of fitted.now) w → result ≡ width_of e w }
+        ensures { (e : Width) (w : Assignment) → slice_get (leaf_widths (circuit_of fitted.now)) leaf ≡ Some e → AreWidths (circuit_of fitted.now) w → result ≡ width_under e w }
     {
         monotone();
         width_at(fitted.widths.as_slice(), leaf.number())

@@ -3,7 +3,7 @@ use Rattle.std.proofs.Common.{◌≡◌, ℕ, ◌+◌, ◌-◌, List, [], ◌∷
 use Rattle.fir_base.specs.Ticks.{Tick}
 use Rattle.trace_text.specs.declared.fault.Cause.{Cause}
 use Rattle.trace_text.specs.declared.fault.TraceFault.{TraceFault}
-use Rattle.trace_text.specs.Lines.{behind}
+use Rattle.trace_text.specs.Lines.{bytes_behind}
 use Rattle.trace_text.specs.Shapes.{TraceShape}
 use Rattle.trace_text.specs.LineFaults.{line_faults}
 use Rattle.trace_text.specs.TraceSpells.{zeros, LinesSpell}
@@ -53,7 +53,7 @@ module _ (bytes : List ℕ) (shape : TraceShape) (init other : List ℕ) (ticks 
       let faults : fault.cause ∷ b.later ≡ another.cause ∷ c.later = sym b.first ∙ ap (λ ts. line_faults shape (are_some ts) b.bad) e.1 ∙ ap (λ l. line_faults shape (are_some others) l) s.ends ∙ c.first in
       let cause : fault.cause ≡ another.cause = cc in
       let number = b.number ∙ ap (λ ls. length ls + 1) s.lines ∙ sym c.number in
-      let start = b.start ∙ ap (λ ls. length bytes - length (behind bytes ls)) s.lines ∙ sym c.start in
+      let start = b.start ∙ ap (λ ls. length bytes - length (bytes_behind bytes ls)) s.lines ∙ sym c.start in
       (e.0, e.1, same_fault fault.line another.line fault.start another.start fault.cause another.cause number start cause)
 
 pub one_bad_line : ShowsOneBadLine

@@ -5,7 +5,7 @@ use Rattle.std.specs.Prelude.{slice_set}
 use Rattle.fir_base.specs.Ticks.{Tick}
 use Rattle.trace_text.specs.declared.fault.Cause.{Cause}
 use Rattle.trace_text.specs.declared.fault.TraceFault.{TraceFault}
-use Rattle.trace_text.specs.Lines.{IsSkipped, AreLines, behind, AreAllLines}
+use Rattle.trace_text.specs.Lines.{IsSkipped, AreTraceLines, bytes_behind, AreAllLines}
 use Rattle.trace_text.specs.Shapes.{TraceShape}
 use Rattle.trace_text.specs.SpelledLines.{IsInitLine, IsTickLine}
 use Rattle.trace_text.specs.LineFaults.{line_faults}
@@ -114,13 +114,13 @@ lines_judged shape (line ∷ lines) after before =
 
 module _ (bytes : List ℕ) (shape : TraceShape) (lines : List (List ℕ)) (all : AreAllLines bytes lines) where
   abbrev told : BadBehind shape false lines (zeros shape) → TraceFault
-  told b = record { line = length b.front + 1; start = length bytes - length (behind bytes b.front); cause = b.cause }
+  told b = record { line = length b.front + 1; start = length bytes - length (bytes_behind bytes b.front); cause = b.cause }
 
   shown : (b : BadBehind shape false lines (zeros shape)) → BadLine bytes shape b.init b.ticks (told b)
   shown b = record {
     before = b.front;
     bad = b.bad;
-    lines = front_lines bytes (b.front ++ b.bad ∷ []) b.back (subst (AreLines bytes) b.lines_are all.lines_are);
+    lines = front_lines bytes (b.front ++ b.bad ∷ []) b.back (subst (AreTraceLines bytes) b.lines_are all.lines_are);
     spelled = read_spelled shape b.front b.init b.ticks b.read;
     later = b.later;
     first = subst (λ a. line_faults shape a b.bad ≡ b.cause ∷ b.later) (before_all b.ticks) b.first;

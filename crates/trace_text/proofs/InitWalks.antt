@@ -7,7 +7,7 @@ use Rattle.fir_base.specs.declared.refused.Refused.{Refused}
 use Rattle.fir_base.specs.declared.refused.Refused.TheVariants.{Fault, Memory}
 use Rattle.trace_text.specs.declared.fault.Cause.{Cause}
 use Rattle.trace_text.specs.declared.lines.Line.{Line}
-use Rattle.trace_text.specs.Lines.{AreLines, behind, first_line, later_lines}
+use Rattle.trace_text.specs.Lines.{AreTraceLines, bytes_behind, first_line, later_lines}
 use Rattle.trace_text.specs.Shapes.{TraceShape}
 use Rattle.trace_text.specs.LineFaults.{line_faults}
 use Rattle.trace_text.specs.TraceSpells.{AreInits, zeros}
@@ -34,17 +34,17 @@ module _ (bytes : List ℕ) (shape : TraceShape) (place : ℕ) (words : List ℕ
     abbrev text : List ℕ
     text = line.text.now
 
-    left : drop line.place bytes ≡ behind bytes to.lines
+    left : drop line.place bytes ≡ bytes_behind bytes to.lines
     left = ap (λ n. drop n bytes) at ∙ to.rest.left
 
-    reached : AreLines bytes (to.lines ++ text ∷ [])
+    reached : AreTraceLines bytes (to.lines ++ text ∷ [])
     reached =
         let before : place < length bytes = let b = here.before in omega arith in
-        lines_grow bytes to.lines text to.lines_are (filled_at bytes place (behind bytes to.lines) to.rest before) (here.text ∙ ap first_line left)
+        lines_grow bytes to.lines text to.lines_are (filled_at bytes place (bytes_behind bytes to.lines) to.rest before) (here.text ∙ ap first_line left)
 
-    left_behind : IsPlace bytes line.behind (behind bytes (to.lines ++ text ∷ []))
+    left_behind : IsPlace bytes line.behind (bytes_behind bytes (to.lines ++ text ∷ []))
     left_behind =
-        place_moves bytes line.behind (later_lines (drop line.place bytes)) here.rest (behind bytes (to.lines ++ text ∷ [])) (ap later_lines left ∙ sym (behind_grows bytes to.lines text))
+        place_moves bytes line.behind (later_lines (drop line.place bytes)) here.rest (bytes_behind bytes (to.lines ++ text ∷ [])) (ap later_lines left ∙ sym (behind_grows bytes to.lines text))
 
     -- a line more
     pub one_taken : (new : List ℕ) → AreInits shape (text ∷ []) words new → length new ≡ length words → InitsTo bytes shape line.behind new
@@ -73,12 +73,12 @@ module _ (bytes : List ℕ) (shape : TraceShape) (place : ℕ) (words : List ℕ
     init_refused new (Fault cause) h = init_is_bad cause h.0 h.1
     init_refused new Memory h = tt
 
-  stops_at : goes_on bytes place ≡ false → InitsStop (behind bytes to.lines)
+  stops_at : goes_on bytes place ≡ false → InitsStop (bytes_behind bytes to.lines)
   stops_at stops filled =
       elim (one_false (nat_lt place (length bytes)) (is_before_ticks (first_line (drop place bytes))) stops) [
-        | inl end ↦ absurd (filled (empty_at bytes place (behind bytes to.lines) to.rest (ltb-false place (length bytes) end)))
+        | inl end ↦ absurd (filled (empty_at bytes place (bytes_behind bytes to.lines) to.rest (ltb-false place (length bytes) end)))
         | inr line ↦
-            let first = first_line (behind bytes to.lines) in
+            let first = first_line (bytes_behind bytes to.lines) in
             let none : is_before_ticks first ≡ false = ap (λ rest. is_before_ticks (first_line rest)) (sym to.rest.left) ∙ line in
             let p = both_false (is_skipped first) (is_init_line first) none in
             (p.1, λ s. let e = skipped_is first s in let f = p.0 in cc)

@@ -4,17 +4,17 @@ use Rattle.std.proofs.Common.{◌≡◌, ℕ, List, [], ◌∷◌, ◌++◌, ref
 use Rattle.std.proofs.lemmas.List.{append-nil}
 use Rattle.std.specs.List.{AllByRecursion}
 use Rattle.fir_base.specs.Ticks.{Tick}
-use Rattle.trace_text.specs.Lines.{later_lines, AreLines, behind, IsSkipped}
+use Rattle.trace_text.specs.Lines.{later_lines, AreTraceLines, bytes_behind, IsSkipped}
 use Rattle.trace_text.specs.Shapes.{TraceShape}
 use Rattle.trace_text.specs.SpelledLines.{IsTickLine}
 use Rattle.trace_text.specs.TraceSpells.{AreInits, AreTicks, zeros, LinesSpell}
 
 -- lines at the front of what stands behind other lines
-pub lines_behind : (bytes : List ℕ) (xs ys : List (List ℕ)) → AreLines bytes xs → AreLines (behind bytes xs) ys → AreLines bytes (xs ++ ys)
+pub lines_behind : (bytes : List ℕ) (xs ys : List (List ℕ)) → AreTraceLines bytes xs → AreTraceLines (bytes_behind bytes xs) ys → AreTraceLines bytes (xs ++ ys)
 lines_behind bytes [] ys h k = k
 lines_behind bytes (x ∷ xs) ys h k = (h.0, h.1, lines_behind (later_lines bytes) xs ys h.2 k)
 
-pub behind-append : (bytes : List ℕ) (xs ys : List (List ℕ)) → behind bytes (xs ++ ys) ≡ behind (behind bytes xs) ys
+pub behind-append : (bytes : List ℕ) (xs ys : List (List ℕ)) → bytes_behind bytes (xs ++ ys) ≡ bytes_behind (bytes_behind bytes xs) ys
 behind-append bytes [] ys = refl
 behind-append bytes (x ∷ xs) ys = behind-append (later_lines bytes) xs ys
 

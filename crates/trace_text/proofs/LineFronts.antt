@@ -2,24 +2,24 @@
 -- Of two lists of lines that stand there one is a front of the other, and all lines have each such list at their front.
 use Rattle.std.proofs.Common.{◌≡◌, ◌≢◌, ℕ, zero, suc, ◌+◌, ◌≤◌, List, [], ◌∷◌, ◌++◌, length, drop, length-drop, refl, ◌⊎◌, inl, inr, ap, sym, ◌∙◌, arith}
 use Rattle.std.specs.List.{position_or_len}
-use Rattle.trace_text.specs.Lines.{first_line, later_lines, is_newline, AreLines, behind, AreAllLines}
+use Rattle.trace_text.specs.Lines.{first_line, later_lines, is_newline, AreTraceLines, bytes_behind, AreAllLines}
 
 -- where lines stand, so does each front of them
-pub front_lines : (bytes : List ℕ) (xs ys : List (List ℕ)) → AreLines bytes (xs ++ ys) → AreLines bytes xs
+pub front_lines : (bytes : List ℕ) (xs ys : List (List ℕ)) → AreTraceLines bytes (xs ++ ys) → AreTraceLines bytes xs
 front_lines bytes [] ys h = tt
 front_lines bytes (x ∷ xs) ys h = (h.0, h.1, front_lines (later_lines bytes) xs ys h.2)
 
 -- the last of lines stands behind the others
-pub last_there : (bytes : List ℕ) (lines : List (List ℕ)) (last : List ℕ) → AreLines bytes (lines ++ last ∷ []) → behind bytes lines ≢ []
+pub last_there : (bytes : List ℕ) (lines : List (List ℕ)) (last : List ℕ) → AreTraceLines bytes (lines ++ last ∷ []) → bytes_behind bytes lines ≢ []
 last_there bytes [] last h = h.0
 last_there bytes (line ∷ lines) last h = last_there (later_lines bytes) lines last h.2
 
-pub last_is : (bytes : List ℕ) (lines : List (List ℕ)) (last : List ℕ) → AreLines bytes (lines ++ last ∷ []) → last ≡ first_line (behind bytes lines)
+pub last_is : (bytes : List ℕ) (lines : List (List ℕ)) (last : List ℕ) → AreTraceLines bytes (lines ++ last ∷ []) → last ≡ first_line (bytes_behind bytes lines)
 last_is bytes [] last h = h.1
 last_is bytes (line ∷ lines) last h = last_is (later_lines bytes) lines last h.2
 
 -- a list of lines is a front of all lines
-pub front_of_all : (bytes : List ℕ) (xs ys : List (List ℕ)) → AreLines bytes xs → behind bytes xs ≡ [] → AreLines bytes ys → (more : List (List ℕ)) × (xs ≡ ys ++ more)
+pub front_of_all : (bytes : List ℕ) (xs ys : List (List ℕ)) → AreTraceLines bytes xs → bytes_behind bytes xs ≡ [] → AreTraceLines bytes ys → (more : List (List ℕ)) × (xs ≡ ys ++ more)
 front_of_all bytes xs [] h whole k = (xs, refl)
 front_of_all bytes [] (y ∷ ys) h whole k = absurd (k.0 whole)
 front_of_all bytes (x ∷ xs) (y ∷ ys) h whole k =
@@ -45,7 +45,7 @@ pub record SameEnd (xs ys : List (List ℕ)) (a b : List ℕ) : Type 0 where
 abbrev pub Behind : List (List ℕ) → List ℕ → List (List ℕ) → Type 0
 Behind xs a ys = (more : List (List ℕ)) × (ys ≡ (xs ++ a ∷ []) ++ more)
 
-pub compare_ends : (bytes : List ℕ) (xs ys : List (List ℕ)) (a b : List ℕ) → AreLines bytes (xs ++ a ∷ []) → AreLines bytes (ys ++ b ∷ []) → SameEnd xs ys a b ⊎ (Behind xs a ys ⊎ Behind ys b xs)
+pub compare_ends : (bytes : List ℕ) (xs ys : List (List ℕ)) (a b : List ℕ) → AreTraceLines bytes (xs ++ a ∷ []) → AreTraceLines bytes (ys ++ b ∷ []) → SameEnd xs ys a b ⊎ (Behind xs a ys ⊎ Behind ys b xs)
 compare_ends bytes [] [] a b h k = inl (record { lines = refl; ends = h.1 ∙ sym k.1 })
 compare_ends bytes [] (y ∷ ys) a b h k = inr (inl (ys, ap (λ l. l ∷ ys) (k.1 ∙ sym h.1)))
 compare_ends bytes (x ∷ xs) [] a b h k = inr (inr (xs, ap (λ l. l ∷ xs) (h.1 ∙ sym k.1)))
@@ -72,7 +72,7 @@ later_shorter : (k : ℕ) (bytes : List ℕ) → length (drop k bytes) ≤ lengt
 later_shorter k bytes = omega (arith, length-drop k bytes)
 
 -- no more is left behind lines than before them
-pub behind_within : (bytes : List ℕ) (lines : List (List ℕ)) → length (behind bytes lines) ≤ length bytes
+pub behind_within : (bytes : List ℕ) (lines : List (List ℕ)) → length (bytes_behind bytes lines) ≤ length bytes
 behind_within bytes [] = omega arith
 behind_within bytes (line ∷ lines) =
     let first : length (later_lines bytes) ≤ length bytes = later_shorter (position_or_len is_newline bytes + 1) bytes in

@@ -4,7 +4,7 @@ use Rattle.std.proofs.Common.{◌≡◌, ◌≢◌, ℕ, ◌<◌, ◌≤◌, Lis
 use Rattle.std.specs.List.{AllByRecursion}
 use Rattle.std.proofs.lemmas.Bool.{leb-true, le-leb}
 use Rattle.std.proofs.lemmas.List.{drop_all}
-use Rattle.trace_text.specs.Lines.{line_limit, AreLines, behind, first_line, later_lines, is_remark, IsSkipped}
+use Rattle.trace_text.specs.Lines.{line_limit, AreTraceLines, bytes_behind, first_line, later_lines, is_remark, IsSkipped}
 use Rattle.trace_text.specs.working.Readings.{IsPlace, is_skipped, first_cause, IsBad}
 use Rattle.trace_text.specs.declared.fault.Cause.{Cause}
 use Rattle.trace_text.specs.Shapes.{TraceShape}
@@ -22,11 +22,11 @@ both_true false b h k = cc
 pub skipped_is : (line : List ℕ) → IsSkipped line → is_skipped line ≡ true
 skipped_is line s = both_true (nat_le (length line) line_limit) (is_remark line) (le-leb (length line) line_limit s.short) s.remark
 
-pub lines_grow : (bytes : List ℕ) (xs : List (List ℕ)) (line : List ℕ) → AreLines bytes xs → behind bytes xs ≢ [] → line ≡ first_line (behind bytes xs) → AreLines bytes (xs ++ line ∷ [])
+pub lines_grow : (bytes : List ℕ) (xs : List (List ℕ)) (line : List ℕ) → AreTraceLines bytes xs → bytes_behind bytes xs ≢ [] → line ≡ first_line (bytes_behind bytes xs) → AreTraceLines bytes (xs ++ line ∷ [])
 lines_grow bytes [] line h filled first = (filled, first, tt)
 lines_grow bytes (x ∷ xs) line h filled first = (h.0, h.1, lines_grow (later_lines bytes) xs line h.2 filled first)
 
-pub behind_grows : (bytes : List ℕ) (xs : List (List ℕ)) (line : List ℕ) → behind bytes (xs ++ line ∷ []) ≡ later_lines (behind bytes xs)
+pub behind_grows : (bytes : List ℕ) (xs : List (List ℕ)) (line : List ℕ) → bytes_behind bytes (xs ++ line ∷ []) ≡ later_lines (bytes_behind bytes xs)
 behind_grows bytes [] line = refl
 behind_grows bytes (x ∷ xs) line = behind_grows (later_lines bytes) xs line
 

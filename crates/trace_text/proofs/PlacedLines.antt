@@ -6,7 +6,7 @@ use Rattle.std.specs.Prelude.{count_by}
 use Rattle.std.specs.List.{position_or_len}
 use Rattle.std.proofs.Math.Seq.{take-append_seam, drop-append_seam}
 use Rattle.std.proofs.lemmas.List.Sums.{sum_by-append, sum_by-cons}
-use Rattle.trace_text.specs.Lines.{is_newline, first_line, later_lines, AreLines, behind}
+use Rattle.trace_text.specs.Lines.{is_newline, first_line, later_lines, AreTraceLines, bytes_behind}
 use Rattle.trace_text.specs.working.Readings.{IsPlace}
 use Rattle.fir_base.proofs.Empty.{empty_right}
 use Rattle.trace_text.proofs.LineFronts.{front_lines, last_is, last_there}
@@ -50,10 +50,10 @@ line_before : (bytes : List ℕ) → later_lines bytes ≢ [] → Before bytes (
 line_before [] filled = absurd (filled refl)
 line_before (b ∷ bs) filled = byte_before (is_newline b) b bs refl (line_before bs) filled
 
-lines_before : (bytes : List ℕ) (lines : List (List ℕ)) → AreLines bytes lines → behind bytes lines ≢ [] → Before bytes (behind bytes lines) (length lines)
+lines_before : (bytes : List ℕ) (lines : List (List ℕ)) → AreTraceLines bytes lines → bytes_behind bytes lines ≢ [] → Before bytes (bytes_behind bytes lines) (length lines)
 lines_before bytes [] h filled = record { front = []; parts = refl; newlines = refl }
 lines_before bytes (line ∷ lines) h filled =
-    let rest = behind (later_lines bytes) lines in
+    let rest = bytes_behind (later_lines bytes) lines in
     let r = lines_before (later_lines bytes) lines h.2 filled in
     let first = line_before bytes (λ none. filled (empty_right r.front rest (sym r.parts ∙ none))) in
     record {
@@ -65,25 +65,25 @@ lines_before bytes (line ∷ lines) h filled =
 pub place_is : (bytes : List ℕ) (place : ℕ) (rest : List ℕ) → IsPlace bytes place rest → place ≡ length bytes - length rest
 place_is bytes place rest p = let e = ap length p.left in let within = p.within in omega (arith, length-drop place bytes)
 
-pub newlines_before : (bytes : List ℕ) (place : ℕ) (lines : List (List ℕ)) → AreLines bytes lines → behind bytes lines ≢ [] → IsPlace bytes place (behind bytes lines)
+pub newlines_before : (bytes : List ℕ) (place : ℕ) (lines : List (List ℕ)) → AreTraceLines bytes lines → bytes_behind bytes lines ≢ [] → IsPlace bytes place (bytes_behind bytes lines)
     → count_by is_newline (take place bytes) ≡ length lines
 newlines_before bytes place lines h filled p =
     let b = lines_before bytes lines h filled in
-    let at = place_is bytes place (behind bytes lines) p in
+    let at = place_is bytes place (bytes_behind bytes lines) p in
     let long = ap length b.parts in
-    let same : place ≡ length b.front = omega (arith, length-append b.front (behind bytes lines)) in
-    let front : take place bytes ≡ b.front = ap (λ n. take n bytes) same ∙ ap (take (length b.front)) b.parts ∙ take-append_seam b.front (behind bytes lines) in
+    let same : place ≡ length b.front = omega (arith, length-append b.front (bytes_behind bytes lines)) in
+    let front : take place bytes ≡ b.front = ap (λ n. take n bytes) same ∙ ap (take (length b.front)) b.parts ∙ take-append_seam b.front (bytes_behind bytes lines) in
     ap (count_by is_newline) front ∙ b.newlines
 
-left_at : (bytes : List ℕ) (lines : List (List ℕ)) → AreLines bytes lines → behind bytes lines ≢ [] → drop (length bytes - length (behind bytes lines)) bytes ≡ behind bytes lines
+left_at : (bytes : List ℕ) (lines : List (List ℕ)) → AreTraceLines bytes lines → bytes_behind bytes lines ≢ [] → drop (length bytes - length (bytes_behind bytes lines)) bytes ≡ bytes_behind bytes lines
 left_at bytes lines h filled =
-    let rest = behind bytes lines in
+    let rest = bytes_behind bytes lines in
     let b = lines_before bytes lines h filled in
     let long = ap length b.parts in
     let same : length bytes - length rest ≡ length b.front = omega (arith, length-append b.front rest) in
     ap (λ n. drop n bytes) same ∙ ap (drop (length b.front)) b.parts ∙ drop-append_seam b.front rest
 
 -- the last of lines begins so far from the end
-pub last_at : (bytes : List ℕ) (lines : List (List ℕ)) (last : List ℕ) → AreLines bytes (lines ++ last ∷ []) → first_line (drop (length bytes - length (behind bytes lines)) bytes) ≡ last
+pub last_at : (bytes : List ℕ) (lines : List (List ℕ)) (last : List ℕ) → AreTraceLines bytes (lines ++ last ∷ []) → first_line (drop (length bytes - length (bytes_behind bytes lines)) bytes) ≡ last
 last_at bytes lines last h =
     ap first_line (left_at bytes lines (front_lines bytes lines (last ∷ []) h) (last_there bytes lines last h)) ∙ sym (last_is bytes lines last h)

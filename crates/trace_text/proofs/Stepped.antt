@@ -3,7 +3,7 @@ use Rattle.std.proofs.Common.{◌≡◌, ℕ, List, [], ◌∷◌, ◌++◌, dro
 use Rattle.std.specs.List.{AllByRecursion}
 use Rattle.fir_base.specs.Ticks.{Tick}
 use Rattle.trace_text.specs.declared.fault.TraceFault.{TraceFault}
-use Rattle.trace_text.specs.Lines.{words_of, AreLines, behind, IsSkipped}
+use Rattle.trace_text.specs.Lines.{words_of, AreTraceLines, bytes_behind, IsSkipped}
 use Rattle.trace_text.specs.Shapes.{TraceShape}
 use Rattle.trace_text.specs.LineFaults.{word_faults, line_faults}
 use Rattle.trace_text.specs.TraceSpells.{LinesSpell, TraceSpells}
@@ -24,7 +24,7 @@ judged_alike : (shape : TraceShape) (line : List ℕ) → is_init_line line ≡ 
 judged_alike shape line h = rw (words_alike shape (words_of line) h) refl
 
 -- the first line of the next ones is neither skipped nor begins with `init`, so it is the bad one
-bad_no_init : (rest : List ℕ) (skipped : List (List ℕ)) (bad : List ℕ) → InitsStop rest → AreLines rest (skipped ++ bad ∷ [])
+bad_no_init : (rest : List ℕ) (skipped : List (List ℕ)) (bad : List ℕ) → InitsStop rest → AreTraceLines rest (skipped ++ bad ∷ [])
     → AllByRecursion IsSkipped skipped → is_init_line bad ≡ false
 bad_no_init rest [] bad stops lines are_skipped = subst (λ l. is_init_line l ≡ false) (sym lines.1) (stops lines.0).0
 bad_no_init rest (line ∷ skipped) bad stops lines are_skipped = absurd ((stops lines.0).1 (subst IsSkipped lines.1 are_skipped.0))
@@ -40,7 +40,7 @@ some_tick ticks tick none = let e : tick ∷ [] ≡ [] = empty_right ticks (tick
 
 module _ (bytes : List ℕ) (shape : TraceShape) where
   bad_behind : (init : List ℕ) (ticks : List Tick) (fault : TraceFault) (after : Bool) (before : List (List ℕ)) (bad : List ℕ) (place : ℕ)
-      → AreLines bytes (before ++ bad ∷ []) → LinesSpell shape before init ticks → IsPlace bytes place (behind bytes before) → IsBad bytes shape after bad place fault
+      → AreTraceLines bytes (before ++ bad ∷ []) → LinesSpell shape before init ticks → IsPlace bytes place (bytes_behind bytes before) → IsBad bytes shape after bad place fault
       → line_faults shape (are_some ticks) bad ≡ line_faults shape after bad → BadLine bytes shape init ticks fault
   bad_behind init ticks fault after before bad place lines spelled rest is alike =
       let newlines = newlines_before bytes place before (front_lines bytes before (bad ∷ []) lines) (last_there bytes before bad lines) rest in record {
@@ -51,7 +51,7 @@ module _ (bytes : List ℕ) (shape : TraceShape) where
         later = is.later;
         first = alike ∙ is.first;
         number = let n = is.number in omega arith;
-        start = is.start ∙ place_is bytes place (behind bytes before) rest;
+        start = is.start ∙ place_is bytes place (bytes_behind bytes before) rest;
       }
 
   begun : (init : List ℕ) (place : ℕ) → InitsRead bytes shape init place → IsReadTo bytes shape init [] place
@@ -68,11 +68,11 @@ module _ (bytes : List ℕ) (shape : TraceShape) where
 
   module _ (init : List ℕ) (ticks : List Tick) (from : ℕ) (r : IsReadTo bytes shape init ticks from) where
     -- lines from the place on stand behind the lines that are read
-    next_lines : (more : List (List ℕ)) → AreLines (drop from bytes) more → AreLines bytes (r.lines ++ more)
-    next_lines more h = lines_behind bytes r.lines more r.lines_are (subst (λ bs. AreLines bs more) r.rest.left h)
+    next_lines : (more : List (List ℕ)) → AreTraceLines (drop from bytes) more → AreTraceLines bytes (r.lines ++ more)
+    next_lines more h = lines_behind bytes r.lines more r.lines_are (subst (λ bs. AreTraceLines bs more) r.rest.left h)
 
-    next_behind : (more : List (List ℕ)) → behind (drop from bytes) more ≡ behind bytes (r.lines ++ more)
-    next_behind more = ap (λ bs. behind bs more) r.rest.left ∙ sym (behind-append bytes r.lines more)
+    next_behind : (more : List (List ℕ)) → bytes_behind (drop from bytes) more ≡ bytes_behind bytes (r.lines ++ more)
+    next_behind more = ap (λ bs. bytes_behind bs more) r.rest.left ∙ sym (behind-append bytes r.lines more)
 
     gone_on : (to : ℕ) (tick : Tick) → TickRead bytes shape from to tick → IsReadTo bytes shape init (ticks ++ tick ∷ []) to
     gone_on to tick t =
@@ -94,10 +94,10 @@ module _ (bytes : List ℕ) (shape : TraceShape) where
     tick_bad : (to : ℕ) (fault : TraceFault) → TickIsBad bytes shape from to fault → BadLine bytes shape init ticks fault
     tick_bad to fault b =
         let more = b.skipped ++ b.bad ∷ [] in
-        let lines = subst (AreLines bytes) (sym (append_assoc r.lines b.skipped (b.bad ∷ []))) (next_lines more b.lines_are) in
+        let lines = subst (AreTraceLines bytes) (sym (append_assoc r.lines b.skipped (b.bad ∷ []))) (next_lines more b.lines_are) in
         let spelled = spelled_skipped shape r.lines b.skipped init ticks r.spelled b.are_skipped in
-        let front = subst (λ bs. AreLines bs more) r.rest.left b.lines_are in
-        let no_init = λ (none : ticks ≡ []). bad_no_init (behind bytes r.lines) b.skipped b.bad (r.stops none) front b.are_skipped in
+        let front = subst (λ bs. AreTraceLines bs more) r.rest.left b.lines_are in
+        let no_init = λ (none : ticks ≡ []). bad_no_init (bytes_behind bytes r.lines) b.skipped b.bad (r.stops none) front b.are_skipped in
         let rest = subst (IsPlace bytes to) (next_behind b.skipped) b.rest in
         bad_behind init ticks fault true (r.lines ++ b.skipped) b.bad to lines spelled rest b.is_bad (alike_behind shape ticks b.bad no_init)
 

@@ -5,7 +5,7 @@ use Rattle.fir_base.specs.Ticks.{Tick}
 use Rattle.std.specs.Prelude.{Some}
 use Rattle.trace_text.specs.declared.fault.Cause.{Cause}
 use Rattle.trace_text.specs.declared.lines.Line.{Line}
-use Rattle.trace_text.specs.Lines.{AreLines, behind, first_line, later_lines, IsSkipped}
+use Rattle.trace_text.specs.Lines.{AreTraceLines, bytes_behind, first_line, later_lines, IsSkipped}
 use Rattle.trace_text.specs.Shapes.{TraceShape}
 use Rattle.trace_text.specs.SpelledLines.{IsTickLine}
 use Rattle.trace_text.specs.LineFaults.{line_faults}
@@ -18,14 +18,14 @@ module _ (bytes : List ℕ) (from : ℕ) (line : Line) (past : IsPast bytes from
   abbrev text : List ℕ
   text = line.text.now
 
-  reached : AreLines (drop from bytes) (past.skipped ++ text ∷ [])
+  reached : AreTraceLines (drop from bytes) (past.skipped ++ text ∷ [])
   reached =
-      lines_grow (drop from bytes) past.skipped text past.lines_are (filled_at bytes line.place (behind (drop from bytes) past.skipped) past.rest here.before)
+      lines_grow (drop from bytes) past.skipped text past.lines_are (filled_at bytes line.place (bytes_behind (drop from bytes) past.skipped) past.rest here.before)
       (here.text ∙ ap first_line past.rest.left)
 
-  left_behind : IsPlace bytes line.behind (behind (drop from bytes) (past.skipped ++ text ∷ []))
+  left_behind : IsPlace bytes line.behind (bytes_behind (drop from bytes) (past.skipped ++ text ∷ []))
   left_behind =
-      place_moves bytes line.behind (later_lines (drop line.place bytes)) here.rest (behind (drop from bytes) (past.skipped ++ text ∷ []))
+      place_moves bytes line.behind (later_lines (drop line.place bytes)) here.rest (bytes_behind (drop from bytes) (past.skipped ++ text ∷ []))
       (ap later_lines past.rest.left ∙ sym (behind_grows (drop from bytes) past.skipped text))
 
   pub one_passed : is_skipped text ≡ true → IsPast bytes from line.behind

@@ -4,7 +4,7 @@ use Rattle.std.specs.Prelude.{slice_set}
 use Rattle.std.proofs.lemmas.List.{append-nil}
 use Rattle.fir_base.specs.Ticks.{Tick}
 use Rattle.trace_text.specs.declared.fault.TraceFault.{TraceFault}
-use Rattle.trace_text.specs.Lines.{later_lines, AreLines}
+use Rattle.trace_text.specs.Lines.{later_lines, AreTraceLines}
 use Rattle.trace_text.specs.Shapes.{TraceShape}
 use Rattle.trace_text.specs.TraceSpells.{LinesSpell, zeros}
 use Rattle.trace_text.specs.BadLine.{BadLine}
@@ -44,7 +44,7 @@ module _ (shape : TraceShape) where
       (spelled_read shape lines init ticks s)
 
 -- of two lists of lines that stand there one is a front of the other
-one_in_front : (bytes : List ℕ) (xs ys : List (List ℕ)) → AreLines bytes xs → AreLines bytes ys
+one_in_front : (bytes : List ℕ) (xs ys : List (List ℕ)) → AreTraceLines bytes xs → AreTraceLines bytes ys
     → ((more : List (List ℕ)) × (ys ≡ xs ++ more)) ⊎ ((more : List (List ℕ)) × (xs ≡ ys ++ more))
 one_in_front bytes [] ys h k = inl (ys, refl)
 one_in_front bytes (x ∷ xs) [] h k = inr (x ∷ xs, refl)
@@ -55,7 +55,7 @@ one_in_front bytes (x ∷ xs) (y ∷ ys) h k =
       | inr m ↦ let e = m.1 in inr (m.0, (cc))
     ]
 
-module _ (bytes : List ℕ) (shape : TraceShape) (lines : List (List ℕ)) (init whole_init : List ℕ) (ticks whole : List Tick) (there : AreLines bytes lines)
+module _ (bytes : List ℕ) (shape : TraceShape) (lines : List (List ℕ)) (init whole_init : List ℕ) (ticks whole : List Tick) (there : AreTraceLines bytes lines)
     (spelled : LinesSpell shape lines init ticks) where
   -- no more lines are spelled than stand before a bad one
   within_bad : (fault : TraceFault) (b : BadLine bytes shape whole_init whole fault) (more : List (List ℕ)) → lines ≡ b.before ++ more
@@ -64,7 +64,7 @@ module _ (bytes : List ℕ) (shape : TraceShape) (lines : List (List ℕ)) (init
       first_spelled shape lines [] b.before init whole_init ticks whole (sym (append-nil b.before) ∙ sym e ∙ sym (append-nil lines)) spelled b.spelled
   within_bad fault b (line ∷ more) e =
       let joined : lines ≡ (b.before ++ line ∷ []) ++ more = e ∙ sym (append_assoc b.before (line ∷ []) more) in
-      let stand : AreLines bytes (b.before ++ line ∷ []) = front_lines bytes (b.before ++ line ∷ []) more (subst (AreLines bytes) joined there) in
+      let stand : AreTraceLines bytes (b.before ++ line ∷ []) = front_lines bytes (b.before ++ line ∷ []) more (subst (AreTraceLines bytes) joined there) in
       let bad : line ≡ b.bad = last_is bytes b.before line stand ∙ sym (last_is bytes b.before b.bad b.lines) in
       absurd
       (read_not_bad shape lines b.before b.bad more init whole_init ticks whole fault.cause b.later spelled

@@ -4,7 +4,7 @@ use Rattle.std.specs.Prelude.{◌≡◌, ℕ, ◌+◌, ◌-◌, List, [], ◌∷
 use Rattle.fir_base.specs.Ticks.{Tick}
 use Rattle.trace_text.specs.declared.fault.Cause.{Cause}
 use Rattle.trace_text.specs.declared.fault.TraceFault.{TraceFault}
-use Rattle.trace_text.specs.Lines.{AreLines, behind}
+use Rattle.trace_text.specs.Lines.{AreTraceLines, bytes_behind}
 use Rattle.trace_text.specs.Shapes.{TraceShape}
 use Rattle.trace_text.specs.LineFaults.{line_faults}
 use Rattle.trace_text.specs.TraceSpells.{LinesSpell}
@@ -16,9 +16,9 @@ are_some (tick ∷ ticks) = true
 pub record BadLine (bytes : List ℕ) (shape : TraceShape) (init : List ℕ) (ticks : List Tick) (fault : TraceFault) : Type 0 where
   pub before : List (List ℕ)
   pub bad : List ℕ
-  pub lines : AreLines bytes (before ++ bad ∷ [])
+  pub lines : AreTraceLines bytes (before ++ bad ∷ [])
   pub spelled : LinesSpell shape before init ticks
   pub later : List Cause
   pub first : line_faults shape (are_some ticks) bad ≡ fault.cause ∷ later
   pub number : fault.line ≡ length before + 1
-  pub start : fault.start ≡ length bytes - length (behind bytes before)
+  pub start : fault.start ≡ length bytes - length (bytes_behind bytes before)

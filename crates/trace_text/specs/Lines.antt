@@ -19,19 +19,19 @@ abbrev pub later_lines : List ℕ → List ℕ
 later_lines = after_first is_newline
 
 -- these lines stand at the front, one after the other
-abbrev pub AreLines : List ℕ → List (List ℕ) → Type 0
-AreLines bytes [] = Unit {0}
-AreLines bytes (line ∷ lines) = (bytes ≢ []) × (line ≡ first_line bytes) × AreLines (later_lines bytes) lines
+abbrev pub AreTraceLines : List ℕ → List (List ℕ) → Type 0
+AreTraceLines bytes [] = Unit {0}
+AreTraceLines bytes (line ∷ lines) = (bytes ≢ []) × (line ≡ first_line bytes) × AreTraceLines (later_lines bytes) lines
 
 -- what stands behind so many lines
-abbrev pub behind : List ℕ → List (List ℕ) → List ℕ
-behind bytes [] = bytes
-behind bytes (line ∷ lines) = behind (later_lines bytes) lines
+abbrev pub bytes_behind : List ℕ → List (List ℕ) → List ℕ
+bytes_behind bytes [] = bytes
+bytes_behind bytes (line ∷ lines) = bytes_behind (later_lines bytes) lines
 
 -- the lines are all that stands there
 pub record AreAllLines (bytes : List ℕ) (lines : List (List ℕ)) : Type 0 where
-  pub lines_are : AreLines bytes lines
-  pub whole : behind bytes lines ≡ []
+  pub lines_are : AreTraceLines bytes lines
+  pub whole : bytes_behind bytes lines ≡ []
 
 abbrev pub words_of : List ℕ → List (List ℕ)
 words_of = slice_split (λ b. nat_eq b 32)

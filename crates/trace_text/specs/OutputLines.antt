@@ -15,16 +15,16 @@ padded count ds = replicate (count - length ds) 48 ++ ds
 abbrev pub value_text : BitVector → List ℕ
 value_text v = padded (digit_count v.width) (digits 16 false v.number)
 
-abbrev pub state_words : Option (List BitVector) → List (List ℕ)
-state_words None = []
-state_words (Some state) = codes "|" ∷ map value_text state
+abbrev pub words_of_state : Option (List BitVector) → List (List ℕ)
+words_of_state None = []
+words_of_state (Some state) = codes "|" ∷ map value_text state
 
 abbrev pub round_words : Option ℕ → List (List ℕ)
 round_words None = []
 round_words (Some rounds) = codes ";" ∷ decimal rounds ∷ []
 
 abbrev pub line_words : List BitVector → Option (List BitVector) → Option ℕ → List (List ℕ)
-line_words outputs state rounds = map value_text outputs ++ state_words state ++ round_words rounds
+line_words outputs state rounds = map value_text outputs ++ words_of_state state ++ round_words rounds
 
 -- words parted by single spaces
 abbrev pub spaced : List (List ℕ) → List ℕ

@@ -1,7 +1,7 @@
 //! The line of a tick.
 
 ghost use Rattle.std.specs.Prelude.{◌≡◌, ◌++◌, IfOk, OnErr, OnOk, map, option_map};
-ghost use Rattle.trace_text.specs.OutputLines.{line_text, round_words, state_words, value_text};
+ghost use Rattle.trace_text.specs.OutputLines.{line_text, round_words, words_of_state, value_text};
 ghost use Rattle.trace_text.specs.working.ClosedWords.{closed};
 
 use crate::hexadecimal::put_padded;
@@ -47,7 +47,7 @@ fn line_of(
 
 fn put_state(line: &mut Vec<u8>, state: Option<&[Bits]>) -> Result<(), MemoryOut>
     ensures { OnOk result
-        (line.new.items ≡ line.old.items ++ closed (state_words (option_map (λ s. s.now) state.entry))) }
+        (line.new.items ≡ line.old.items ++ closed (words_of_state (option_map (λ s. s.now) state.entry))) }
 {
     match state {
         None => Ok(()),

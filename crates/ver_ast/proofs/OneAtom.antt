@@ -4,25 +4,25 @@ use Rattle.std.proofs.Common.{◌≡◌, ℕ, List, ◌∷◌, ◌++◌, Bool, t
 use Rattle.std.specs.Prelude.{if◌then◌else◌, ◌≢◌}
 use Rattle.std.proofs.lemmas.Bool.Decides.{eqb_tells}
 use Rattle.ver_ast.specs.Atoms.{AtomTree, net, constant, bit_select, part_select, concat, repeat, AtomTrees, no_atoms, atom_before}
-use Rattle.ver_ast.specs.Tokens.{Token, word, digit_zero, number, sign}
+use Rattle.ver_ast.specs.Tokens.{VToken, word, digit_zero, number, sign}
 use Rattle.ver_ast.specs.Grammar.{plain_number, atom_tokens, next_atom_tokens}
 use Rattle.ver_ast.proofs.Operators.{operand, plain, front_of}
 
 -- the sign, or the first letter of the word, at the front
-abbrev pub front : List Token → ℕ
+abbrev pub front : List VToken → ℕ
 front (sign b ∷ ts) = b
 front (word (c ∷ cs) ∷ ts) = c
 front _ = 0
 
 -- a plain number where it is known whether it is 0
-abbrev number_at : Bool → ℕ → Token
+abbrev number_at : Bool → ℕ → VToken
 number_at zero n = if zero then digit_zero else number n
 
-number_begins : (b : Bool) (n : ℕ) (r : List Token) → front_of (number_at b n ∷ r) ≡ plain
+pub number_begins : (b : Bool) (n : ℕ) (r : List VToken) → front_of (number_at b n ∷ r) ≡ plain
 number_begins true n r = refl
 number_begins false n r = refl
 
-split_at : (b c : Bool) (i j : ℕ) (r s : List Token) → number_at b i ∷ r ≡ number_at c j ∷ s → (b ≡ c) × (b ≡ false → i ≡ j) × (r ≡ s)
+split_at : (b c : Bool) (i j : ℕ) (r s : List VToken) → number_at b i ∷ r ≡ number_at c j ∷ s → (b ≡ c) × (b ≡ false → i ≡ j) × (r ≡ s)
 split_at true true i j r s e = (refl, λ h. absurd (cc), (cc))
 split_at true false i j r s e = absurd (cc)
 split_at false true i j r s e = absurd (cc)
@@ -42,24 +42,24 @@ same_apart_from k i j e h =
     (eqb_tells j k))
     (eqb_tells i k)
 
-split_number : (i j : ℕ) (r s : List Token) → plain_number i ∷ r ≡ plain_number j ∷ s → (i ≡ j) × (r ≡ s)
+pub split_number : (i j : ℕ) (r s : List VToken) → plain_number i ∷ r ≡ plain_number j ∷ s → (i ≡ j) × (r ≡ s)
 split_number i j r s e = let t = split_at (eqb i 0) (eqb j 0) i j r s e in (same_apart_from 0 i j t.0 (λ f _ _. t.1 f), t.2)
 
 -- the tokens in groups from the right
-concat_grouped : (a : AtomTree) (more : AtomTrees) (r : List Token)
+concat_grouped : (a : AtomTree) (more : AtomTrees) (r : List VToken)
     → atom_tokens (concat a more) ++ r ≡ sign 123 ∷ (atom_tokens a ++ (next_atom_tokens more ++ sign 125 ∷ r))
 concat_grouped a more r = simp append_assoc
 
-repeat_grouped : (count : ℕ) (a : AtomTree) (r : List Token)
+repeat_grouped : (count : ℕ) (a : AtomTree) (r : List VToken)
     → atom_tokens (repeat count a) ++ r ≡ sign 123 ∷ plain_number count ∷ sign 123 ∷ (atom_tokens a ++ sign 125 ∷ sign 125 ∷ r)
 repeat_grouped count a r = simp append_assoc
 
-next_grouped : (a : AtomTree) (more : AtomTrees) (r : List Token)
+next_grouped : (a : AtomTree) (more : AtomTrees) (r : List VToken)
     → next_atom_tokens (atom_before a more) ++ r ≡ sign 44 ∷ (atom_tokens a ++ (next_atom_tokens more ++ r))
 next_grouped a more r = simp append_assoc
 
 -- an operand begins with no number, and with no sign in front of an operand
-pub operand_front : (a : AtomTree) (r : List Token) → front_of (atom_tokens a ++ r) ≡ operand
+pub operand_front : (a : AtomTree) (r : List VToken) → front_of (atom_tokens a ++ r) ≡ operand
 operand_front (net n) r = refl
 operand_front (constant width value) r = refl
 operand_front (bit_select n i) r = refl
@@ -67,7 +67,7 @@ operand_front (part_select n hi lo) r = refl
 operand_front (concat a more) r = refl
 operand_front (repeat count a) r = refl
 
-concat_is_no_repeat : (a : AtomTree) (more : AtomTrees) (count : ℕ) (b : AtomTree) (r s : List Token)
+concat_is_no_repeat : (a : AtomTree) (more : AtomTrees) (count : ℕ) (b : AtomTree) (r s : List VToken)
     → atom_tokens (concat a more) ++ r ≡ atom_tokens (repeat count b) ++ s → ⊥
 concat_is_no_repeat a more count b r s e =
     let whole = sym (concat_grouped a more r) ∙ e ∙ repeat_grouped count b s in
@@ -76,12 +76,12 @@ concat_is_no_repeat a more count b r s e =
     let no : operand ≡ plain = sym (operand_front a _) ∙ ap front_of inside ∙ number_begins (eqb count 0) count _ in
     absurd (cc)
 
-next_is_no_bracket : (more : AtomTrees) (r : List Token) → front (next_atom_tokens more ++ sign 125 ∷ r) ≢ 91
+next_is_no_bracket : (more : AtomTrees) (r : List VToken) → front (next_atom_tokens more ++ sign 125 ∷ r) ≢ 91
 next_is_no_bracket no_atoms r e = omega arith
 next_is_no_bracket (atom_before a more) r e = omega arith
 
 mutual
-  pub split_atom : (a b : AtomTree) (r s : List Token) → front r ≢ 91 → front s ≢ 91 → atom_tokens a ++ r ≡ atom_tokens b ++ s → (a ≡ b) × (r ≡ s)
+  pub split_atom : (a b : AtomTree) (r s : List VToken) → front r ≢ 91 → front s ≢ 91 → atom_tokens a ++ r ≡ atom_tokens b ++ s → (a ≡ b) × (r ≡ s)
   split_atom (net n) (net m) r s h k e = ((cc), (cc))
   split_atom (net n) (bit_select m j) r s h k e =
       let t : r ≡ sign 91 ∷ plain_number j ∷ sign 93 ∷ s = cc in absurd (h (ap front t))
@@ -135,7 +135,7 @@ mutual
   split_atom a b r s h k e = absurd (cc)
 
   -- the operands behind the first, up to the closing brace
-  split_next : (more others : AtomTrees) (r s : List Token) → next_atom_tokens more ++ sign 125 ∷ r ≡ next_atom_tokens others ++ sign 125 ∷ s
+  split_next : (more others : AtomTrees) (r s : List VToken) → next_atom_tokens more ++ sign 125 ∷ r ≡ next_atom_tokens others ++ sign 125 ∷ s
       → (more ≡ others) × (r ≡ s)
   split_next no_atoms no_atoms r s e = (refl, (cc))
   split_next no_atoms (atom_before b others) r s e = absurd (omega (arith, ap front e))

@@ -1,6 +1,6 @@
 -- No two trees have the same tokens.
-use Rattle.std.proofs.Common.{◌≡◌, ℕ, ◌-◌, List, [], ◌∷◌, ◌++◌, Bool, true, false, refl, sym, ap, ◌∙◌, arith, append_assoc, eqb}
-use Rattle.std.specs.Prelude.{flat_map, codes, if◌then◌else◌}
+use Rattle.std.proofs.Common.{◌≡◌, ℕ, ◌-◌, List, [], ◌∷◌, ◌++◌, Bool, true, false, refl, sym, ap, ◌∙◌, arith, append_assoc, eqb, inl, inr, ◌⊎◌, ⊎_elim}
+use Rattle.std.specs.Prelude.{flat_map, codes, if◌then◌else◌, Option, Some, None}
 use Rattle.fir_base.specs.declared.direction.Direction.{Direction}
 use Rattle.fir_base.specs.declared.direction.Direction.TheVariants.{Input, Output}
 use Rattle.ver_ast.specs.declared.tree.Verilog.{Verilog}
@@ -8,18 +8,24 @@ use Rattle.ver_ast.specs.declared.tree.Port.{Port}
 use Rattle.ver_words.specs.declared.signal.Signal.{Signal}
 use Rattle.ver_words.specs.declared.signal.Signal.TheVariants.{Bits, Clock}
 use Rattle.ver_ast.specs.declared.tree.Net.{Net}
+use Rattle.ver_ast.specs.declared.tree.Array.{Array}
+use Rattle.ver_ast.specs.declared.tree.Always.{Always}
+use Rattle.ver_ast.specs.declared.tree.Edge.{Edge}
+use Rattle.ver_ast.specs.declared.tree.Resetting.{Resetting}
+use Rattle.ver_ast.specs.declared.tree.Write.{Write}
+use Rattle.ver_ast.specs.declared.tree.Writing.{Writing}
 use Rattle.ver_ast.specs.declared.tree.Item.{Item}
 use Rattle.ver_ast.specs.declared.tree.Item.TheVariants as item
-use Rattle.ver_ast.specs.Tokens.{Token, word, digit_zero, number, sign}
-use Rattle.ver_ast.specs.Grammar.{direction_word, range_tokens, signal_tokens, port_tokens, next_port_tokens, ports_tokens, atom_tokens, rhs_tokens, item_tokens, module_tokens}
-use Rattle.ver_ast.proofs.OneAtom.{front, same_apart_from}
+use Rattle.ver_ast.specs.Tokens.{VToken, word, digit_zero, number, constant, sign, double}
+use Rattle.ver_ast.specs.Grammar.{plain_number, edge_tokens, else_tokens, write_tokens, direction_keyword, range_tokens, signal_tokens, port_tokens, next_port_tokens, ports_tokens, atom_tokens, rhs_tokens, item_tokens, module_tokens}
+use Rattle.ver_ast.proofs.OneAtom.{front, same_apart_from, split_number, split_atom}
 use Rattle.ver_ast.proofs.OneRhs.{split_rhs, split_last}
 
 -- the tokens of a range where it is known whether the width is 1
-abbrev range_at : Bool → ℕ → List Token
+abbrev range_at : Bool → ℕ → List VToken
 range_at one width = if one then [] else (sign 91 ∷ number (width - 1) ∷ sign 58 ∷ digit_zero ∷ sign 93 ∷ [])
 
-split_at : (b c : Bool) (w u : ℕ) (n m : List ℕ) (r s : List Token) → range_at b w ++ word n ∷ r ≡ range_at c u ++ word m ∷ s
+split_at : (b c : Bool) (w u : ℕ) (n m : List ℕ) (r s : List VToken) → range_at b w ++ word n ∷ r ≡ range_at c u ++ word m ∷ s
     → (b ≡ c) × (b ≡ false → w - 1 ≡ u - 1) × (n ≡ m) × (r ≡ s)
 split_at true true w u n m r s e = (refl, λ h. absurd (cc), (cc), (cc))
 split_at true false w u n m r s e = absurd (cc)
@@ -30,17 +36,17 @@ same_width : (w u : ℕ) → eqb w 1 ≡ eqb u 1 → (eqb w 1 ≡ false → w - 
 same_width w u e h = same_apart_from 1 w u e (λ f p q. let same : w - 1 ≡ u - 1 = h f in omega arith)
 
 -- a range and a name
-split_sized : (w u : ℕ) (n m : List ℕ) (r s : List Token) → range_tokens w ++ word n ∷ r ≡ range_tokens u ++ word m ∷ s → (w ≡ u) × (n ≡ m) × (r ≡ s)
+split_sized : (w u : ℕ) (n m : List ℕ) (r s : List VToken) → range_tokens w ++ word n ∷ r ≡ range_tokens u ++ word m ∷ s → (w ≡ u) × (n ≡ m) × (r ≡ s)
 split_sized w u n m r s e = let t = split_at (eqb w 1) (eqb u 1) w u n m r s e in (same_width w u t.0 t.1, t.2, t.3)
 
-split_direction : (d e : Direction) (r s : List Token) → word (direction_word d) ∷ r ≡ word (direction_word e) ∷ s → (d ≡ e) × (r ≡ s)
+split_direction : (d e : Direction) (r s : List VToken) → word (direction_keyword d) ∷ r ≡ word (direction_keyword e) ∷ s → (d ≡ e) × (r ≡ s)
 split_direction Input Input r s h = (refl, (cc))
 split_direction Input Output r s h = absurd (omega (arith, ap front h))
 split_direction Output Input r s h = absurd (omega (arith, ap front h))
 split_direction Output Output r s h = (refl, (cc))
 
 -- a port's direction and what it carries, and its name
-split_signal : (x y : Signal) (d f : Direction) (n m : List ℕ) (r s : List Token) → signal_tokens x d ++ word n ∷ r ≡ signal_tokens y f ++ word m ∷ s
+split_signal : (x y : Signal) (d f : Direction) (n m : List ℕ) (r s : List VToken) → signal_tokens x d ++ word n ∷ r ≡ signal_tokens y f ++ word m ∷ s
     → (x ≡ y) × (d ≡ f) × (n ≡ m) × (r ≡ s)
 split_signal (Bits w) (Bits u) d f n m r s e =
     let t = split_direction d f _ _ e in
@@ -49,16 +55,16 @@ split_signal (Bits w) (Bits u) d f n m r s e =
 split_signal (Bits w) Clock d f n m r s e = absurd (cc)
 split_signal Clock (Bits u) d f n m r s e = absurd (cc)
 split_signal Clock Clock d f n m r s e =
-    let tails : word (direction_word d) ∷ word n ∷ r ≡ word (direction_word f) ∷ word m ∷ s = cc in
+    let tails : word (direction_keyword d) ∷ word n ∷ r ≡ word (direction_keyword f) ∷ word m ∷ s = cc in
     let t = split_direction d f _ _ tails in
     let ends : word n ∷ r ≡ word m ∷ s = t.1 in
     (refl, t.0, (cc), (cc))
 
-signal_is_no_end : (x : Signal) (d : Direction) (r s : List Token) → signal_tokens x d ++ r ≡ sign 41 ∷ s → ⊥
+signal_is_no_end : (x : Signal) (d : Direction) (r s : List VToken) → signal_tokens x d ++ r ≡ sign 41 ∷ s → ⊥
 signal_is_no_end (Bits w) d r s e = cc
 signal_is_no_end Clock d r s e = cc
 
-split_port : (p q : Port) (r s : List Token) → port_tokens p ++ r ≡ port_tokens q ++ s → (p ≡ q) × (r ≡ s)
+split_port : (p q : Port) (r s : List VToken) → port_tokens p ++ r ≡ port_tokens q ++ s → (p ≡ q) × (r ≡ s)
 split_port p q r s e =
     let grouped_p = append_assoc (signal_tokens p.signal p.direction) (word p.name ∷ []) r in
     let grouped_q = append_assoc (signal_tokens q.signal q.direction) (word q.name ∷ []) s in
@@ -66,11 +72,11 @@ split_port p q r s e =
     let same : p ≡ q = rw (t.0, t.1, t.2) refl in
     (same, t.3)
 
-port_is_no_end : (p : Port) (r s : List Token) → port_tokens p ++ r ≡ sign 41 ∷ s → ⊥
+port_is_no_end : (p : Port) (r s : List VToken) → port_tokens p ++ r ≡ sign 41 ∷ s → ⊥
 port_is_no_end p r s e = signal_is_no_end p.signal p.direction _ s (sym (append_assoc (signal_tokens p.signal p.direction) (word p.name ∷ []) r) ∙ e)
 
 -- the ports behind the first, up to the closing parenthesis
-split_next_ports : (ps qs : List Port) (r s : List Token) → flat_map next_port_tokens ps ++ sign 41 ∷ r ≡ flat_map next_port_tokens qs ++ sign 41 ∷ s
+split_next_ports : (ps qs : List Port) (r s : List VToken) → flat_map next_port_tokens ps ++ sign 41 ∷ r ≡ flat_map next_port_tokens qs ++ sign 41 ∷ s
     → (ps ≡ qs) × (r ≡ s)
 split_next_ports [] [] r s e = (refl, (cc))
 split_next_ports [] (q ∷ qs) r s e = absurd (omega (arith, ap front e))
@@ -84,7 +90,7 @@ split_next_ports (p ∷ ps) (q ∷ qs) r s e =
     let rest = split_next_ports ps qs r s t.1 in
     (rw (t.0, rest.0) refl, rest.1)
 
-split_ports : (ps qs : List Port) (r s : List Token) → ports_tokens ps ++ sign 41 ∷ r ≡ ports_tokens qs ++ sign 41 ∷ s → (ps ≡ qs) × (r ≡ s)
+split_ports : (ps qs : List Port) (r s : List VToken) → ports_tokens ps ++ sign 41 ∷ r ≡ ports_tokens qs ++ sign 41 ∷ s → (ps ≡ qs) × (r ≡ s)
 split_ports [] [] r s e = (refl, (cc))
 split_ports [] (q ∷ qs) r s e = absurd (port_is_no_end q _ r (sym (e ∙ append_assoc (port_tokens q) (flat_map next_port_tokens qs) (sign 41 ∷ s))))
 split_ports (p ∷ ps) [] r s e = absurd (port_is_no_end p _ s (sym (append_assoc (port_tokens p) (flat_map next_port_tokens ps) (sign 41 ∷ r)) ∙ e))
@@ -96,7 +102,7 @@ split_ports (p ∷ ps) (q ∷ qs) r s e =
     (rw (t.0, rest.0) refl, rest.1)
 
 -- what is declared, up to the semicolon
-split_net : (n m : Net) (r s : List Token)
+split_net : (n m : Net) (r s : List VToken)
     → (range_tokens n.width ++ word n.name ∷ sign 59 ∷ []) ++ r ≡ (range_tokens m.width ++ word m.name ∷ sign 59 ∷ []) ++ s → (n ≡ m) × (r ≡ s)
 split_net n m r s e =
     let grouped_n = append_assoc (range_tokens n.width) (word n.name ∷ sign 59 ∷ []) r in
@@ -106,7 +112,156 @@ split_net n m r s e =
     let rest : sign 59 ∷ r ≡ sign 59 ∷ s = t.2 in
     (same, (cc))
 
-split_item : (i j : Item) (r s : List Token) → item_tokens i ++ r ≡ item_tokens j ++ s → (i ≡ j) × (r ≡ s)
+split_array : (a b : Array) (r s : List VToken)
+    → (range_tokens a.width ++ word a.name ∷ sign 91 ∷ digit_zero ∷ sign 58 ∷ plain_number a.last ∷ sign 93 ∷ sign 59 ∷ []) ++ r
+    ≡ (range_tokens b.width ++ word b.name ∷ sign 91 ∷ digit_zero ∷ sign 58 ∷ plain_number b.last ∷ sign 93 ∷ sign 59 ∷ []) ++ s → (a ≡ b) × (r ≡ s)
+split_array a b r s e =
+    let t = split_sized a.width b.width a.name b.name _ _ (sym (append_assoc (range_tokens a.width) _ r) ∙ e ∙ append_assoc (range_tokens b.width) _ s) in
+    let ends : plain_number a.last ∷ sign 93 ∷ sign 59 ∷ r ≡ plain_number b.last ∷ sign 93 ∷ sign 59 ∷ s = behind_brackets _ _ t.2 in
+    let u = split_number a.last b.last _ _ ends in
+    let last : a.last ≡ b.last = u.0 in
+    let same : a ≡ b = rw (t.0, t.1, last) refl in
+    let rest : sign 93 ∷ sign 59 ∷ r ≡ sign 93 ∷ sign 59 ∷ s = u.1 in
+    (same, (cc))
+  where
+    behind_brackets : (x y : List VToken) → sign 91 ∷ digit_zero ∷ sign 58 ∷ x ≡ sign 91 ∷ digit_zero ∷ sign 58 ∷ y → x ≡ y
+    behind_brackets x y h = cc
+
+reg_is_no_array : (n : Net) (b : Array) (r s : List VToken)
+    → (range_tokens n.width ++ word n.name ∷ sign 59 ∷ []) ++ r
+    ≡ (range_tokens b.width ++ word b.name ∷ sign 91 ∷ digit_zero ∷ sign 58 ∷ plain_number b.last ∷ sign 93 ∷ sign 59 ∷ []) ++ s → ⊥
+reg_is_no_array n b r s e =
+    let t = split_sized n.width b.width n.name b.name _ _ (sym (append_assoc (range_tokens n.width) _ r) ∙ e ∙ append_assoc (range_tokens b.width) _ s) in
+    omega (arith, ap front t.2)
+
+-- a write
+write_grouped : (w : Write) (r : List VToken) → write_tokens w ++ r ≡ word (codes "if") ∷ sign 40 ∷ (atom_tokens w.condition
+    ++ sign 41 ∷ word w.array ∷ sign 91 ∷ (atom_tokens w.index ++ sign 93 ∷ double 60 61 ∷ (atom_tokens w.source ++ sign 59 ∷ r)))
+write_grouped w r = simp append_assoc
+
+split_write : (w u : Write) (r s : List VToken) → write_tokens w ++ r ≡ write_tokens u ++ s → (w ≡ u) × (r ≡ s)
+split_write w u r s e =
+    let whole = sym (write_grouped w r) ∙ e ∙ write_grouped u s in
+    let inside : atom_tokens w.condition ++ sign 41 ∷ word w.array ∷ sign 91 ∷ (atom_tokens w.index ++ sign 93 ∷ double 60 61 ∷ (atom_tokens w.source ++ sign 59 ∷ r))
+    ≡ atom_tokens u.condition ++ sign 41 ∷ word u.array ∷ sign 91 ∷ (atom_tokens u.index ++ sign 93 ∷ double 60 61 ∷ (atom_tokens u.source ++ sign 59 ∷ s)) = cc in
+    let c = split_atom w.condition u.condition _ _ (λ h. omega arith) (λ h. omega arith) inside in
+    let ends : sign 41 ∷ word w.array ∷ sign 91 ∷ (atom_tokens w.index ++ sign 93 ∷ double 60 61 ∷ (atom_tokens w.source ++ sign 59 ∷ r))
+    ≡ sign 41 ∷ word u.array ∷ sign 91 ∷ (atom_tokens u.index ++ sign 93 ∷ double 60 61 ∷ (atom_tokens u.source ++ sign 59 ∷ s)) = c.1 in
+    let array : w.array ≡ u.array = cc in
+    let indices : atom_tokens w.index ++ sign 93 ∷ double 60 61 ∷ (atom_tokens w.source ++ sign 59 ∷ r)
+    ≡ atom_tokens u.index ++ sign 93 ∷ double 60 61 ∷ (atom_tokens u.source ++ sign 59 ∷ s) = cc in
+    let i = split_atom w.index u.index _ _ (λ h. omega arith) (λ h. omega arith) indices in
+    let tails : sign 93 ∷ double 60 61 ∷ (atom_tokens w.source ++ sign 59 ∷ r) ≡ sign 93 ∷ double 60 61 ∷ (atom_tokens u.source ++ sign 59 ∷ s) = i.1 in
+    let sources : atom_tokens w.source ++ sign 59 ∷ r ≡ atom_tokens u.source ++ sign 59 ∷ s = cc in
+    let t = split_last w.source u.source r s sources in
+    (rw (c.0, array, i.0, t.0) refl, t.1)
+
+-- writes, up to the end
+abbrev writes_tokens : List Write → List VToken → List VToken
+writes_tokens ws r = flat_map write_tokens ws ++ word (codes "end") ∷ r
+
+split_writes : (ws us : List Write) (r s : List VToken) → writes_tokens ws r ≡ writes_tokens us s → (ws ≡ us) × (r ≡ s)
+split_writes [] [] r s e = (refl, (cc))
+split_writes [] (u ∷ us) r s e = absurd (cc)
+split_writes (w ∷ ws) [] r s e = absurd (cc)
+split_writes (w ∷ ws) (u ∷ us) r s e =
+    let t = split_write w u _ _ (sym (append_assoc (write_tokens w) (flat_map write_tokens ws) _) ∙ e ∙ append_assoc (write_tokens u) (flat_map write_tokens us) _) in
+    let rest = split_writes ws us r s t.1 in
+    (rw (t.0, rest.0) refl, rest.1)
+
+-- what stands behind `begin` is no arrow
+writes_front : (ws : List Write) (r : List VToken) → (front (writes_tokens ws r) ≡ 101) ⊎ (front (writes_tokens ws r) ≡ 105)
+writes_front [] r = inl refl
+writes_front (w ∷ ws) r = inr refl
+
+writing_grouped : (b : Writing) (r : List VToken) → item_tokens (item.Writing b) ++ r
+    ≡ word (codes "always") ∷ sign 64 ∷ sign 40 ∷ word (codes "posedge") ∷ word b.clock ∷ sign 41 ∷ word (codes "begin") ∷ writes_tokens b.writes r
+writing_grouped b r = simp append_assoc
+
+split_writing : (a b : Writing) (r s : List VToken) → item_tokens (item.Writing a) ++ r ≡ item_tokens (item.Writing b) ++ s → (a ≡ b) × (r ≡ s)
+split_writing a b r s e =
+    let whole = sym (writing_grouped a r) ∙ e ∙ writing_grouped b s in
+    let clock : a.clock ≡ b.clock = cc in
+    let tails : writes_tokens a.writes r ≡ writes_tokens b.writes s = cc in
+    let t = split_writes a.writes b.writes r s tails in
+    let same : a ≡ b = rw (clock, t.0) refl in
+    (same, t.1)
+
+-- an asynchronous block, with and without a clock
+abbrev reset_tokens : List ℕ → List ℕ → ℕ → ℕ → Option Edge → List VToken → List VToken
+reset_tokens reset target width value edge r =
+    edge_tokens edge ++ word (codes "posedge") ∷ word reset ∷ sign 41 ∷ word (codes "if") ∷ sign 40 ∷ word reset ∷ sign 41 ∷ word target ∷ double 60 61
+    ∷ constant width value ∷ sign 59 ∷ (else_tokens target edge ++ r)
+
+resetting_grouped : (b : Resetting) (r : List VToken)
+    → item_tokens (item.Resetting b) ++ r ≡ word (codes "always") ∷ sign 64 ∷ sign 40 ∷ reset_tokens b.reset b.target b.width b.value b.edge r
+resetting_grouped b r = simp append_assoc
+
+record SameReset (n m t u : List ℕ) (w p x q : ℕ) (e f : Option Edge) (r s : List VToken) : Type 0 where
+  reset : n ≡ m
+  target : t ≡ u
+  width : w ≡ p
+  value : x ≡ q
+  edge : e ≡ f
+  rest : r ≡ s
+
+split_reset : (n m t u : List ℕ) (w p x q : ℕ) (e f : Option Edge) (r s : List VToken) → reset_tokens n t w x e r ≡ reset_tokens m u p q f s
+    → SameReset n m t u w p x q e f r s
+split_reset n m t u w p x q None None r s h = record { reset = (cc); target = (cc); width = (cc); value = (cc); edge = refl; rest = (cc) }
+split_reset n m t u w p x q None (Some f) r s h = absurd (cc)
+split_reset n m t u w p x q (Some e) None r s h = absurd (cc)
+split_reset n m t u w p x q (Some e) (Some f) r s h =
+    let clock : e.clock ≡ f.clock = cc in
+    let tails : (atom_tokens e.source ++ sign 59 ∷ []) ++ r ≡ (atom_tokens f.source ++ sign 59 ∷ []) ++ s = cc in
+    let v = split_last e.source f.source r s (sym (append_assoc (atom_tokens e.source) (sign 59 ∷ []) r) ∙ tails ∙ append_assoc (atom_tokens f.source) (sign 59 ∷ []) s) in
+    let same : e ≡ f = rw (clock, v.0) refl in
+    record { reset = (cc); target = (cc); width = (cc); value = (cc); edge = ap Some same; rest = v.1 }
+
+split_resetting : (a b : Resetting) (r s : List VToken) → item_tokens (item.Resetting a) ++ r ≡ item_tokens (item.Resetting b) ++ s → (a ≡ b) × (r ≡ s)
+split_resetting a b r s e =
+    let whole = sym (resetting_grouped a r) ∙ e ∙ resetting_grouped b s in
+    let tails : reset_tokens a.reset a.target a.width a.value a.edge r ≡ reset_tokens b.reset b.target b.width b.value b.edge s = cc in
+    let t = split_reset a.reset b.reset a.target b.target a.width b.width a.value b.value a.edge b.edge r s tails in
+    let same : a ≡ b = rw (t.reset, t.target, t.width, t.value, t.edge) refl in
+    (same, t.rest)
+
+-- behind the edges of a block: an arrow, `if` or `begin`
+always_is_no_reset : (c t : List ℕ) (n u : List ℕ) (w x : ℕ) (e : Option Edge) (r s : List VToken)
+    → word (codes "posedge") ∷ word c ∷ sign 41 ∷ word t ∷ double 60 61 ∷ r ≡ reset_tokens n u w x e s → ⊥
+always_is_no_reset c t n u w x None r s h = cc
+always_is_no_reset c t n u w x (Some e) r s h = cc
+
+begin_is_no_reset : (c : List ℕ) (n u : List ℕ) (w x : ℕ) (e : Option Edge) (r s : List VToken)
+    → word (codes "posedge") ∷ word c ∷ sign 41 ∷ word (codes "begin") ∷ r ≡ reset_tokens n u w x e s → ⊥
+begin_is_no_reset c n u w x None r s h =
+    let words : word (codes "begin") ∷ r ≡ word (codes "if") ∷ sign 40 ∷ word n ∷ sign 41 ∷ word u ∷ double 60 61 ∷ constant w x ∷ sign 59 ∷ s = cc in
+    omega (arith, ap front words)
+begin_is_no_reset c n u w x (Some e) r s h = cc
+
+arrow_is_no_begin : (ws : List Write) (r s : List VToken) → double 60 61 ∷ r ≡ writes_tokens ws s → ⊥
+arrow_is_no_begin ws r s e = ⊎_elim (λ (h : front (writes_tokens ws s) ≡ 101). omega (arith, ap front e, h)) (λ (h : front (writes_tokens ws s) ≡ 105). omega (arith, ap front e, h)) (writes_front ws s)
+
+always_is_no_resetting : (a : Always) (b : Resetting) (r s : List VToken) → item_tokens (item.Always a) ++ r ≡ item_tokens (item.Resetting b) ++ s → ⊥
+always_is_no_resetting a b r s e =
+    let whole = e ∙ resetting_grouped b s in
+    let tails : word (codes "posedge") ∷ word a.clock ∷ sign 41 ∷ word a.target ∷ double 60 61 ∷ ((atom_tokens a.source ++ sign 59 ∷ []) ++ r)
+    ≡ reset_tokens b.reset b.target b.width b.value b.edge s = cc in
+    always_is_no_reset a.clock a.target b.reset b.target b.width b.value b.edge _ s tails
+
+writing_is_no_resetting : (a : Writing) (b : Resetting) (r s : List VToken) → item_tokens (item.Writing a) ++ r ≡ item_tokens (item.Resetting b) ++ s → ⊥
+writing_is_no_resetting a b r s e =
+    let whole = sym (writing_grouped a r) ∙ e ∙ resetting_grouped b s in
+    let tails : word (codes "posedge") ∷ word a.clock ∷ sign 41 ∷ word (codes "begin") ∷ writes_tokens a.writes r
+    ≡ reset_tokens b.reset b.target b.width b.value b.edge s = cc in
+    begin_is_no_reset a.clock b.reset b.target b.width b.value b.edge _ s tails
+
+always_is_no_writing : (a : Always) (b : Writing) (r s : List VToken) → item_tokens (item.Always a) ++ r ≡ item_tokens (item.Writing b) ++ s → ⊥
+always_is_no_writing a b r s e =
+    let whole = e ∙ writing_grouped b s in
+    let tails : double 60 61 ∷ ((atom_tokens a.source ++ sign 59 ∷ []) ++ r) ≡ writes_tokens b.writes s = cc in
+    arrow_is_no_begin b.writes _ s tails
+
+split_item : (i j : Item) (r s : List VToken) → item_tokens i ++ r ≡ item_tokens j ++ s → (i ≡ j) × (r ≡ s)
 split_item (item.Wire n) (item.Wire m) r s e =
     let tails : (range_tokens n.width ++ word n.name ∷ sign 59 ∷ []) ++ r ≡ (range_tokens m.width ++ word m.name ∷ sign 59 ∷ []) ++ s = cc in
     let t = split_net n m r s tails in
@@ -132,19 +287,41 @@ split_item (item.Always a) (item.Always b) r s e =
     let t = split_last a.source b.source r s (sym grouped_a ∙ tails ∙ grouped_b) in
     let same : a ≡ b = rw (clock, target, t.0) refl in
     (ap item.Always same, t.1)
+split_item (item.Array a) (item.Array b) r s e =
+    let tails : (range_tokens a.width ++ word a.name ∷ sign 91 ∷ digit_zero ∷ sign 58 ∷ plain_number a.last ∷ sign 93 ∷ sign 59 ∷ []) ++ r
+    ≡ (range_tokens b.width ++ word b.name ∷ sign 91 ∷ digit_zero ∷ sign 58 ∷ plain_number b.last ∷ sign 93 ∷ sign 59 ∷ []) ++ s = cc in
+    let t = split_array a b r s tails in
+    (ap item.Array t.0, t.1)
+split_item (item.Reg n) (item.Array b) r s e = absurd (reg_is_no_array n b r s (cc))
+split_item (item.Array a) (item.Reg m) r s e = absurd (reg_is_no_array m a s r (cc))
+split_item (item.Resetting a) (item.Resetting b) r s e = let t = split_resetting a b r s e in (ap item.Resetting t.0, t.1)
+split_item (item.Writing a) (item.Writing b) r s e = let t = split_writing a b r s e in (ap item.Writing t.0, t.1)
+split_item (item.Always a) (item.Resetting b) r s e = absurd (always_is_no_resetting a b r s e)
+split_item (item.Resetting b) (item.Always a) r s e = absurd (always_is_no_resetting a b s r (sym e))
+split_item (item.Writing a) (item.Resetting b) r s e = absurd (writing_is_no_resetting a b r s e)
+split_item (item.Resetting b) (item.Writing a) r s e = absurd (writing_is_no_resetting a b s r (sym e))
+split_item (item.Always a) (item.Writing b) r s e = absurd (always_is_no_writing a b r s e)
+split_item (item.Writing b) (item.Always a) r s e = absurd (always_is_no_writing a b s r (sym e))
 split_item (item.Assign a) (item.Always b) r s e = absurd (cc)
 split_item (item.Always a) (item.Assign b) r s e = absurd (cc)
+split_item (item.Assign a) (item.Resetting b) r s e = absurd (cc)
+split_item (item.Resetting a) (item.Assign b) r s e = absurd (cc)
+split_item (item.Assign a) (item.Writing b) r s e = absurd (cc)
+split_item (item.Writing a) (item.Assign b) r s e = absurd (cc)
 split_item i j r s e = absurd (omega (arith, ap front e))
 
 -- the items, up to the end
-abbrev body_tokens : List Item → List Token
+abbrev body_tokens : List Item → List VToken
 body_tokens is = flat_map item_tokens is ++ word (codes "endmodule") ∷ []
 
-item_is_no_end : (i : Item) (r : List Token) → item_tokens i ++ r ≡ body_tokens [] → ⊥
+item_is_no_end : (i : Item) (r : List VToken) → item_tokens i ++ r ≡ body_tokens [] → ⊥
 item_is_no_end (item.Wire n) r e = omega (arith, ap front e)
 item_is_no_end (item.Reg n) r e = omega (arith, ap front e)
 item_is_no_end (item.Assign a) r e = omega (arith, ap front e)
 item_is_no_end (item.Always b) r e = omega (arith, ap front e)
+item_is_no_end (item.Array a) r e = omega (arith, ap front e)
+item_is_no_end (item.Resetting b) r e = omega (arith, ap front e)
+item_is_no_end (item.Writing b) r e = omega (arith, ap front e)
 
 body_grouped : (i : Item) (is : List Item) → body_tokens (i ∷ is) ≡ item_tokens i ++ body_tokens is
 body_grouped i is = append_assoc (item_tokens i) (flat_map item_tokens is) (word (codes "endmodule") ∷ [])

@@ -1,7 +1,7 @@
 -- What right sides evaluate to.
 -- A value of the target's width, which hangs on the nets that are read alone.
-use Rattle.std.proofs.Common.{◌≡◌, ℕ, ◌+◌, ◌-◌, ◌/◌, ◌%◌, ◌^◌, ◌<◌, List, [], ◌∷◌, ◌++◌, Bool, refl, ap, inl, cond, ℤ, arith, lit<}
-use Rattle.std.specs.Prelude.{flat_map, Option, Some, None, unwrap_or, count_ones, ◌==◌, pos, int_div, int_rem}
+use Rattle.std.proofs.Common.{◌≡◌, ℕ, ◌+◌, ◌-◌, ◌/◌, ◌%◌, ◌^◌, ◌<◌, List, [], ◌∷◌, ◌++◌, ◌∙◌, Bool, refl, ap, inl, subst, cond, ℤ, arith, lit<}
+use Rattle.std.specs.Prelude.{flat_map, slice_get, Option, Some, None, unwrap_or, count_ones, ◌==◌, pos, int_div, int_rem}
 use Rattle.fir_bits.specs.Integers.{bits_of}
 use Rattle.std.specs.List.{AllByRecursion}
 use Rattle.std.specs.Int.Bits.{and_lt}
@@ -22,17 +22,26 @@ use Rattle.ver_ast.specs.declared.tree.BinaryOp.TheVariants as binary
 use Rattle.ver_ast.specs.declared.tree.SignedOp.{SignedOp}
 use Rattle.ver_ast.specs.declared.tree.SignedOp.TheVariants as signed
 use Rattle.ver_ast.specs.Atoms.{AtomTree, net, constant, bit_select, part_select, concat, repeat, AtomTrees, no_atoms, atom_before}
-use Rattle.ver_ast.specs.Nets.{Sized}
+use Rattle.ver_ast.specs.Nets.{SizedNet, Variable}
+use Rattle.ver_ast.specs.Stores.{Store}
 use Rattle.ver_ast.specs.AtomWidths.{atom_width}
 use Rattle.ver_ast.specs.AtomValues.{copies, atom_value, joined_value}
 use Rattle.ver_ast.specs.SideValues.{unary_value, binary_value, fits_signed, signed_quotient, signed_value, rhs_value}
 use Rattle.ver_ast.specs.SoundSides.{IsOperand, KeepsRule, binary_rule, signed_rule, KeepsUnary, IsSoundSide}
-use Rattle.ver_ast.specs.Spells.{atom_names, joined_names, rhs_names}
+use Rattle.ver_ast.specs.Names.{atom_names, joined_names, rhs_names}
 use Rattle.ver_ast.proofs.Widths.{FitNames, fit_left, fit_right, atom_fits}
 
 -- the value of a right side, or else 0
-abbrev pub side_value : List Sized → Env → ℕ → Rhs → ℕ
-side_value ns env w r = unwrap_or (rhs_value ns env w r) 0
+abbrev pub side_value : List SizedNet → Store → Env → ℕ → Rhs → ℕ
+side_value ns store env w r = unwrap_or (rhs_value ns store env w r) 0
+
+-- each array has words of its width
+pub record FitWords (arrays : List Variable) (store : Store) : Type 0 where
+  pub each : (k : Variable) → In arrays k → (i x : ℕ) → slice_get (store k.name) i ≡ Some x → x < 2 ^ k.width
+
+word_or_zero : (x : Option ℕ) (limit : ℕ) → 0 < limit → ((y : ℕ) → x ≡ Some y → y < limit) → unwrap_or x 0 < limit
+word_or_zero None limit z h = z
+word_or_zero (Some y) limit z h = h y refl
 
 -- a value, or 0 in its place, where it may be missing
 or_zero_below : (missing : Bool) (x : Option ℕ) (limit : ℕ) → unwrap_or x 0 < limit → unwrap_or (cond missing None x) 0 < limit
@@ -78,7 +87,7 @@ signed_fits signed.Gt w u v x y k = rw k.0 (flag_below _)
 signed_fits signed.Geq w u v x y k = rw k.0 (flag_below _)
 
 -- each operand of a list has a value of its width
-all_fit : (ns : List Sized) (env : Env) (atoms : List AtomTree) → AllByRecursion (IsOperand ns) atoms → FitNames ns env (flat_map atom_names atoms)
+all_fit : (ns : List SizedNet) (env : Env) (atoms : List AtomTree) → AllByRecursion (IsOperand ns) atoms → FitNames ns env (flat_map atom_names atoms)
     → AllByRecursion (λ a. atom_value ns env a < 2 ^ atom_width ns a) atoms
 all_fit ns env [] s h = tt
 all_fit ns env (a ∷ more) s h = (
@@ -87,22 +96,28 @@ all_fit ns env (a ∷ more) s h = (
 )
 
 -- a sound right side has a value of its target's width
-pub rhs_fits : (ns : List Sized) (env : Env) (w : ℕ) (r : Rhs) → IsSoundSide ns w r → FitNames ns env (rhs_names r) → side_value ns env w r < 2 ^ w
-rhs_fits ns env w (rhs.Atom a) s h =
+pub rhs_fits : (ns : List SizedNet) (ks : List Variable) (store : Store) (env : Env) (w : ℕ) (r : Rhs) → IsSoundSide ns ks w r → FitWords ks store
+    → FitNames ns env (rhs_names r) → side_value ns store env w r < 2 ^ w
+rhs_fits ns ks store env w (rhs.Atom a) s f h =
     let fit = all_fit ns env (a ∷ []) s.operands h in
     rw (← s.widths) fit.0
-rhs_fits ns env w (rhs.Unary op a) s h =
+rhs_fits ns ks store env w (rhs.Unary op a) s f h =
     let fit = all_fit ns env (a ∷ []) s.operands h in
     unary_fits op w (atom_width ns a) (atom_value ns env a) s.widths fit.0
-rhs_fits ns env w (rhs.Binary a op b) s h =
+rhs_fits ns ks store env w (rhs.Binary a op b) s f h =
     let fit = all_fit ns env (a ∷ b ∷ []) s.operands h in
     binary_fits op w (atom_width ns a) (atom_width ns b) (atom_value ns env a) (atom_value ns env b) s.widths fit.0 fit.1.0
-rhs_fits ns env w (rhs.Signed a op b) s h = signed_fits op w (atom_width ns a) (atom_width ns b) _ _ s.widths
-rhs_fits ns env w (rhs.SignedShift a b) s h = bits_of-below w _
-rhs_fits ns env w (rhs.Conditional c a b) s h =
+rhs_fits ns ks store env w (rhs.Signed a op b) s f h = signed_fits op w (atom_width ns a) (atom_width ns b) _ _ s.widths
+rhs_fits ns ks store env w (rhs.SignedShift a b) s f h = bits_of-below w _
+rhs_fits ns ks store env w (rhs.Conditional c a b) s f h =
     let fit = all_fit ns env (c ∷ a ∷ b ∷ []) s.operands h in
     cond_both (atom_value ns env c == 1) (atom_value ns env a) (atom_value ns env b) (λ (x : ℕ). x < 2 ^ w)
     (λ _. rw (← s.widths.1) fit.1.0) (λ _. rw (← s.widths.2) fit.1.1.0)
+rhs_fits ns ks store env w (rhs.Word m a) s f h =
+    let k = s.widths.0 in
+    let i = atom_value ns env a in
+    word_or_zero (slice_get (store m) i) (2 ^ w) (pow_pos w)
+    (λ y e. subst (λ (u : ℕ). y < 2 ^ u) s.widths.3 (f.each k s.widths.1 i y (ap (λ (n : List ℕ). slice_get (store n) i) s.widths.2 ∙ e)))
 
 -- two choices that agree on the names
 pub record Agree (e f : Env) (names : List (List ℕ)) : Type 0 where
@@ -115,7 +130,7 @@ agree_right : (e f : Env) (front back : List (List ℕ)) → Agree e f (front ++
 agree_right e f front back h = record { each = λ n m. h.each n (in_right front back n m) }
 
 mutual
-  same_atom : (ns : List Sized) (e f : Env) (a : AtomTree) → Agree e f (atom_names a) → atom_value ns e a ≡ atom_value ns f a
+  pub same_atom : (ns : List SizedNet) (e f : Env) (a : AtomTree) → Agree e f (atom_names a) → atom_value ns e a ≡ atom_value ns f a
   same_atom ns e f (net n) h = h.each n (inl refl)
   same_atom ns e f (constant width value) h = refl
   same_atom ns e f (bit_select n i) h = ap (λ (x : ℕ). x / 2 ^ i % 2) (h.each n (inl refl))
@@ -126,14 +141,14 @@ mutual
       cc
   same_atom ns e f (repeat count a) h = ap (copies count (atom_width ns a)) (same_atom ns e f a h)
 
-  same_joined : (ns : List Sized) (e f : Env) (more : AtomTrees) → Agree e f (joined_names more) → joined_value ns e more ≡ joined_value ns f more
+  same_joined : (ns : List SizedNet) (e f : Env) (more : AtomTrees) → Agree e f (joined_names more) → joined_value ns e more ≡ joined_value ns f more
   same_joined ns e f no_atoms h = refl
   same_joined ns e f (atom_before a more) h =
       let head = same_atom ns e f a (agree_left e f (atom_names a) (joined_names more) h) in
       let tail = same_joined ns e f more (agree_right e f (atom_names a) (joined_names more) h) in
       cc
 
-all_same : (ns : List Sized) (e f : Env) (atoms : List AtomTree) → Agree e f (flat_map atom_names atoms)
+all_same : (ns : List SizedNet) (e f : Env) (atoms : List AtomTree) → Agree e f (flat_map atom_names atoms)
     → AllByRecursion (λ a. atom_value ns e a ≡ atom_value ns f a) atoms
 all_same ns e f [] h = tt
 all_same ns e f (a ∷ more) h = (
@@ -142,27 +157,28 @@ all_same ns e f (a ∷ more) h = (
 )
 
 -- the value hangs on what is read alone
-pub same_rhs : (ns : List Sized) (e f : Env) (w : ℕ) (r : Rhs) → Agree e f (rhs_names r) → side_value ns e w r ≡ side_value ns f w r
-same_rhs ns e f w (rhs.Atom a) h = (all_same ns e f (a ∷ []) h).0
-same_rhs ns e f w (rhs.Unary op a) h = ap (unary_value op (atom_width ns a)) (all_same ns e f (a ∷ []) h).0
-same_rhs ns e f w (rhs.Binary a op b) h =
+pub same_rhs : (ns : List SizedNet) (store : Store) (e f : Env) (w : ℕ) (r : Rhs) → Agree e f (rhs_names r) → rhs_value ns store e w r ≡ rhs_value ns store f w r
+same_rhs ns store e f w (rhs.Atom a) h = ap Some (all_same ns e f (a ∷ []) h).0
+same_rhs ns store e f w (rhs.Unary op a) h = ap (λ (x : ℕ). Some (unary_value op (atom_width ns a) x)) (all_same ns e f (a ∷ []) h).0
+same_rhs ns store e f w (rhs.Binary a op b) h =
     let same = all_same ns e f (a ∷ b ∷ []) h in
     let first : atom_value ns e a ≡ atom_value ns f a = same.0 in
     let second : atom_value ns e b ≡ atom_value ns f b = same.1.0 in
     rw (first, second) refl
-same_rhs ns e f w (rhs.Signed a op b) h =
+same_rhs ns store e f w (rhs.Signed a op b) h =
     let same = all_same ns e f (a ∷ b ∷ []) h in
     let first : atom_value ns e a ≡ atom_value ns f a = same.0 in
     let second : atom_value ns e b ≡ atom_value ns f b = same.1.0 in
     rw (first, second) refl
-same_rhs ns e f w (rhs.SignedShift a b) h =
+same_rhs ns store e f w (rhs.SignedShift a b) h =
     let same = all_same ns e f (a ∷ b ∷ []) h in
     let first : atom_value ns e a ≡ atom_value ns f a = same.0 in
     let second : atom_value ns e b ≡ atom_value ns f b = same.1.0 in
     rw (first, second) refl
-same_rhs ns e f w (rhs.Conditional c a b) h =
+same_rhs ns store e f w (rhs.Conditional c a b) h =
     let same = all_same ns e f (c ∷ a ∷ b ∷ []) h in
     let condition : atom_value ns e c ≡ atom_value ns f c = same.0 in
     let first : atom_value ns e a ≡ atom_value ns f a = same.1.0 in
     let second : atom_value ns e b ≡ atom_value ns f b = same.1.1.0 in
     rw (condition, first, second) refl
+same_rhs ns store e f w (rhs.Word m a) h = ap (slice_get (store m)) (all_same ns e f (a ∷ []) h).0

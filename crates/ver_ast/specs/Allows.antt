@@ -1,16 +1,17 @@
--- What a tree allows at a tick, and over a run. A tree has no outputs that are clocks yet, so the list of their clocks is empty.
-use Rattle.std.specs.Prelude.{◌≡◌, ℕ, List, [], map}
+-- What a tree allows at a tick, and over a run.
+use Rattle.std.specs.Prelude.{◌≡◌, ℕ, List, map, Some}
 use Rattle.fir_base.specs.Lists.{In}
 use Rattle.fir_base.specs.Ticks.{Env, Tick, TickResult, HasShape, Allowance, IsRun}
 use Rattle.ver_ast.specs.declared.tree.Verilog.{Verilog}
-use Rattle.ver_ast.specs.Nets.{outputs, nets, clocks, names_of, shape}
+use Rattle.ver_ast.specs.Nets.{output_nets, nets, clocks, names_of, shape}
 use Rattle.ver_ast.specs.Settled.{VSettled}
+use Rattle.ver_ast.specs.ClockOutputs.{clocks_shown}
 use Rattle.ver_ast.specs.Next.{v_next}
 
--- some settled values show the outputs, and the next state follows from them
+-- some settled values show the outputs, and the next state follows from them; the clock outputs show what the tree says
 abbrev pub VAllows : Verilog → Allowance
 VAllows v state tick shown clocks next =
-    (env : Env) × VSettled v state tick env × (map env (names_of (outputs v)) ≡ shown) × (clocks ≡ []) × (v_next v env tick ≡ next)
+    (env : Env) × VSettled v state tick env × (map env (names_of (output_nets v)) ≡ shown) × (clocks_shown v ≡ clocks) × (v_next v state tick env ≡ Some next)
 
 abbrev pub VRun : Verilog → List ℕ → List Tick → List TickResult → Type 0
 VRun v = IsRun (VAllows v)

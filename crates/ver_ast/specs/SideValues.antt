@@ -1,7 +1,7 @@
 -- The values of right sides (IEEE 1364-2005, 5.1.5 to 5.1.13, 5.5).
 -- Arithmetic is modulo 2 ^ w; signed operators read two's complement, divide towards zero, and the remainder has the sign of the first operand. A zero
--- divisor, and a signed quotient that does not fit, have no value.
-use Rattle.std.specs.Prelude.{ℕ, ◌+◌, ◌-◌, ◌*◌, ◌/◌, ◌%◌, ◌^◌, List, Bool, true, not, ◌&&◌, ◌==◌, if◌then◌else◌, nat_lt, nat_le, Option, Some, None, ℤ, pos, neg_ℤ, int_lt, int_le, int_div, int_rem, bit_and, bit_or, bit_xor, count_ones}
+-- divisor, a signed quotient that does not fit, and a word past the end of its array have no value.
+use Rattle.std.specs.Prelude.{ℕ, ◌+◌, ◌-◌, ◌*◌, ◌/◌, ◌%◌, ◌^◌, List, Bool, true, not, ◌&&◌, ◌==◌, if◌then◌else◌, slice_get, nat_lt, nat_le, Option, Some, None, ℤ, pos, neg_ℤ, int_lt, int_le, int_div, int_rem, bit_and, bit_or, bit_xor, count_ones}
 use Rattle.std.specs.Ordering.{int_eq}
 use Rattle.fir_bits.specs.Values.{complement}
 use Rattle.fir_bits.specs.Integers.{reading, bits_of, shifted_down}
@@ -16,7 +16,8 @@ use Rattle.ver_ast.specs.declared.tree.BinaryOp.TheVariants as binary
 use Rattle.ver_ast.specs.declared.tree.SignedOp.{SignedOp}
 use Rattle.ver_ast.specs.declared.tree.SignedOp.TheVariants as signed
 use Rattle.ver_ast.specs.Atoms.{AtomTree}
-use Rattle.ver_ast.specs.Nets.{Sized}
+use Rattle.ver_ast.specs.Nets.{SizedNet}
+use Rattle.ver_ast.specs.Stores.{Store}
 use Rattle.ver_ast.specs.AtomWidths.{atom_width}
 use Rattle.ver_ast.specs.AtomValues.{atom_value}
 
@@ -67,14 +68,15 @@ signed_value signed.Gt u x y = Some (flag (int_lt y x))
 signed_value signed.Geq u x y = Some (flag (int_le y x))
 
 -- the number of an operand that is read as signed
-abbrev pub signed_number : List Sized → Env → AtomTree → ℤ
+abbrev pub signed_number : List SizedNet → Env → AtomTree → ℤ
 signed_number nets env a = reading true (atom_width nets a) (atom_value nets env a)
 
 -- the value of a right side whose target has w bits
-abbrev pub rhs_value : List Sized → Env → ℕ → Rhs → Option ℕ
-rhs_value nets env w (rhs.Atom a) = Some (atom_value nets env a)
-rhs_value nets env w (rhs.Unary op a) = Some (unary_value op (atom_width nets a) (atom_value nets env a))
-rhs_value nets env w (rhs.Binary a op b) = binary_value op w (atom_value nets env a) (atom_value nets env b)
-rhs_value nets env w (rhs.Signed a op b) = signed_value op (atom_width nets a) (signed_number nets env a) (signed_number nets env b)
-rhs_value nets env w (rhs.SignedShift a b) = Some (bits_of w (shifted_down (signed_number nets env a) (atom_value nets env b)))
-rhs_value nets env w (rhs.Conditional c a b) = Some (if atom_value nets env c == 1 then atom_value nets env a else atom_value nets env b)
+abbrev pub rhs_value : List SizedNet → Store → Env → ℕ → Rhs → Option ℕ
+rhs_value nets store env w (rhs.Atom a) = Some (atom_value nets env a)
+rhs_value nets store env w (rhs.Unary op a) = Some (unary_value op (atom_width nets a) (atom_value nets env a))
+rhs_value nets store env w (rhs.Binary a op b) = binary_value op w (atom_value nets env a) (atom_value nets env b)
+rhs_value nets store env w (rhs.Signed a op b) = signed_value op (atom_width nets a) (signed_number nets env a) (signed_number nets env b)
+rhs_value nets store env w (rhs.SignedShift a b) = Some (bits_of w (shifted_down (signed_number nets env a) (atom_value nets env b)))
+rhs_value nets store env w (rhs.Conditional c a b) = Some (if atom_value nets env c == 1 then atom_value nets env a else atom_value nets env b)
+rhs_value nets store env w (rhs.Word m a) = slice_get (store m) (atom_value nets env a)

@@ -4,6 +4,7 @@
 -- and of a reduction, and a condition, have one bit.
 use Rattle.std.specs.Prelude.{◌≡◌, ℕ, ◌+◌, ◌*◌, ◌^◌, ◌<◌, ◌≤◌, max, List}
 use Rattle.std.specs.List.{AllByRecursion}
+use Rattle.fir_base.specs.Lists.{In}
 use Rattle.ver_ast.specs.declared.tree.Rhs.{Rhs}
 use Rattle.ver_ast.specs.declared.tree.Rhs.TheVariants as rhs
 use Rattle.ver_ast.specs.declared.tree.UnaryOp.{UnaryOp}
@@ -13,20 +14,20 @@ use Rattle.ver_ast.specs.declared.tree.BinaryOp.TheVariants as binary
 use Rattle.ver_ast.specs.declared.tree.SignedOp.{SignedOp}
 use Rattle.ver_ast.specs.declared.tree.SignedOp.TheVariants as signed
 use Rattle.ver_ast.specs.Atoms.{AtomTree, net, constant, bit_select, part_select, concat, repeat, AtomTrees, no_atoms, atom_before}
-use Rattle.ver_ast.specs.Spells.{rhs_atoms}
+use Rattle.ver_ast.specs.Names.{rhs_atoms}
 use Rattle.ver_ast.specs.AtomWidths.{atom_width, joined_width}
-use Rattle.ver_ast.specs.Nets.{Sized, width_in}
+use Rattle.ver_ast.specs.Nets.{SizedNet, Variable, width_among}
 
 abbrev mutual
-  pub IsSound : List Sized → AtomTree → Type 0
-  IsSound nets (net n) = 1 ≤ width_in nets n
+  pub IsSound : List SizedNet → AtomTree → Type 0
+  IsSound nets (net n) = 1 ≤ width_among nets n
   IsSound nets (constant width value) = (1 ≤ width) × (width ≤ 128) × (value < 2 ^ width)
-  IsSound nets (bit_select n i) = (2 ≤ width_in nets n) × (i < width_in nets n)
-  IsSound nets (part_select n hi lo) = (2 ≤ width_in nets n) × (lo ≤ hi) × (hi < width_in nets n)
+  IsSound nets (bit_select n i) = (2 ≤ width_among nets n) × (i < width_among nets n)
+  IsSound nets (part_select n hi lo) = (2 ≤ width_among nets n) × (lo ≤ hi) × (hi < width_among nets n)
   IsSound nets (concat a more) = IsSound nets a × AreSound nets more × (atom_width nets a + joined_width nets more ≤ 128)
   IsSound nets (repeat count a) = IsSound nets a × (1 ≤ count) × (count * atom_width nets a ≤ 128)
 
-  pub AreSound : List Sized → AtomTrees → Type 0
+  pub AreSound : List SizedNet → AtomTrees → Type 0
   AreSound nets no_atoms = Unit {0}
   AreSound nets (atom_before a more) = IsSound nets a × AreSound nets more
 
@@ -44,12 +45,12 @@ abbrev mutual
   joined_depth no_atoms = 0
   joined_depth (atom_before a more) = max (atom_depth a) (joined_depth more)
 
-pub record IsOperand (nets : List Sized) (a : AtomTree) : Type 0 where
+pub record IsOperand (nets : List SizedNet) (a : AtomTree) : Type 0 where
   pub sound : IsSound nets a
   pub shallow : atom_depth a ≤ 256
 
 -- an operand of w bits
-pub record HasWidth (nets : List Sized) (w : ℕ) (a : AtomTree) : Type 0 where
+pub record HasWidth (nets : List SizedNet) (w : ℕ) (a : AtomTree) : Type 0 where
   pub operand : IsOperand nets a
   pub wide : atom_width nets a ≡ w
 
@@ -97,14 +98,15 @@ KeepsUnary unary.Or w u = w ≡ 1
 KeepsUnary unary.Xor w u = w ≡ 1
 
 -- the operands' widths beside a target of width w
-abbrev pub HasSideWidths : List Sized → ℕ → Rhs → Type 0
-HasSideWidths nets w (rhs.Atom a) = atom_width nets a ≡ w
-HasSideWidths nets w (rhs.Unary op a) = KeepsUnary op w (atom_width nets a)
-HasSideWidths nets w (rhs.Binary a op b) = KeepsRule (binary_rule op) w (atom_width nets a) (atom_width nets b)
-HasSideWidths nets w (rhs.Signed a op b) = KeepsRule (signed_rule op) w (atom_width nets a) (atom_width nets b)
-HasSideWidths nets w (rhs.SignedShift a b) = KeepsRule shift w (atom_width nets a) (atom_width nets b)
-HasSideWidths nets w (rhs.Conditional c a b) = (atom_width nets c ≡ 1) × (atom_width nets a ≡ w) × (atom_width nets b ≡ w)
+abbrev pub HasSideWidths : List SizedNet → List Variable → ℕ → Rhs → Type 0
+HasSideWidths nets arrays w (rhs.Atom a) = atom_width nets a ≡ w
+HasSideWidths nets arrays w (rhs.Unary op a) = KeepsUnary op w (atom_width nets a)
+HasSideWidths nets arrays w (rhs.Binary a op b) = KeepsRule (binary_rule op) w (atom_width nets a) (atom_width nets b)
+HasSideWidths nets arrays w (rhs.Signed a op b) = KeepsRule (signed_rule op) w (atom_width nets a) (atom_width nets b)
+HasSideWidths nets arrays w (rhs.SignedShift a b) = KeepsRule shift w (atom_width nets a) (atom_width nets b)
+HasSideWidths nets arrays w (rhs.Conditional c a b) = (atom_width nets c ≡ 1) × (atom_width nets a ≡ w) × (atom_width nets b ≡ w)
+HasSideWidths nets arrays w (rhs.Word m a) = (k : Variable) × In arrays k × (k.name ≡ m) × (k.width ≡ w)
 
-pub record IsSoundSide (nets : List Sized) (w : ℕ) (r : Rhs) : Type 0 where
+pub record IsSoundSide (nets : List SizedNet) (arrays : List Variable) (w : ℕ) (r : Rhs) : Type 0 where
   pub operands : AllByRecursion (IsOperand nets) (rhs_atoms r)
-  pub widths : HasSideWidths nets w r
+  pub widths : HasSideWidths nets arrays w r

@@ -1,13 +1,18 @@
 //! The tree of the Verilog subset, and what it means: which bytes spell a tree, when a tree is valid,
 //! which values its nets take, and which words its registers hold after a tick (a subset of IEEE
-//! 1364-2005). The definitions stand in specs/; here are the types, and two laws: a text spells one tree at
-//! most, and a valid tree has exactly one choice of values.
+//! 1364-2005). The definitions stand in specs/; here are the types, and laws: the tokens of a text are those
+//! that are read of it byte by byte, a text spells one tree at most, and a valid tree has exactly one choice of
+//! values, one next state where its writes are in range, and one run at most.
 #![tactic(auto)]
 
 mod laws;
 mod tree;
 
-pub use laws::{spells_one_tree, valid_has_one_rest};
+pub use laws::{
+    allows_one, runs_at_most_once, settled_has_one_next, spells_one_tree,
+    tokens_are_read_step_by_step, valid_has_one_rest,
+};
 pub use tree::{
-    Always, Assign, Atom, AtomForm, BinaryOp, Item, Net, Port, Rhs, SignedOp, UnaryOp, Verilog,
+    Always, Array, Assign, Atom, AtomForm, BinaryOp, Edge, Item, Net, Port, Resetting, Rhs,
+    SignedOp, UnaryOp, Verilog, Write, Writing,
 };

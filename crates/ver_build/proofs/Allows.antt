@@ -1,9 +1,9 @@
 -- The tree of a net has one choice of values at every state and tick, and allows what the net allows.
 -- Its values at rest are settled, and so are those of the net's leaves that they hold. As the net has one choice too, that choice shows the same outputs, and the
 -- same state follows from it.
-use Rattle.std.proofs.Common.{◌≡◌, ℕ, ◌≤◌, List, map, true, false, length, sym, ap, ◌∙◌, subst, arith, Option, Some}
+use Rattle.std.proofs.Common.{◌≡◌, ℕ, ◌≤◌, List, [], map, true, false, length, sym, ap, ◌∙◌, subst, arith, Option, Some}
 use Rattle.std.specs.Prelude.{◌↔◌, slice_get}
-use Rattle.std.proofs.lemmas.Option.{slice_get_within}
+use Rattle.std.proofs.lemmas.Option.{same_Some, slice_get_within}
 use Rattle.fir_base.specs.Ticks.{Env, Tick, Shape, HasShape}
 use Rattle.fir_net.specs.declared.reads.Read.{Read}
 use Rattle.fir_net.specs.declared.leaf.Leaf.{Leaf}
@@ -18,17 +18,19 @@ use Rattle.fir_net.specs.working.Allows.{Allows as NetAllows}
 use Rattle.fir_net.proofs.AlongOrder.{SameBefore}
 use Rattle.fir_net.proofs.ValuesAlong.{IsPlain, values_agree}
 use Rattle.ver_ast.specs.Valid.{Valid}
-use Rattle.ver_ast.specs.Nets.{Sized, nets, regs, blocks, shape as v_shape}
+use Rattle.ver_ast.specs.Nets.{SizedNet, clocks, clock_assigns, nets, regs, shape as v_shape}
+use Rattle.ver_ast.specs.ClockOutputs.{driven_clock, clocks_shown}
 use Rattle.ver_ast.specs.AtomValues.{atom_value}
 use Rattle.ver_ast.specs.Settled.{Rest}
-use Rattle.ver_ast.specs.Next.{written}
+use Rattle.ver_build.proofs.Written.{written}
 use Rattle.ver_ast.specs.Allows.{VAllows, VOne}
 use Rattle.ver_build.specs.declared.places.Places.{Places}
 use Rattle.ver_build.specs.working.Operands.{atom_at}
 use Rattle.ver_build.specs.working.Places.{held_of}
 use Rattle.ver_build.proofs.Premises.{Premises}
-use Rattle.ver_build.proofs.Parts.{in_parts}
-use Rattle.ver_build.proofs.Nets.{sizes, nets_sized}
+use Rattle.ver_build.proofs.Parts.{blocks_of, in_parts}
+use Rattle.ver_build.proofs.Nets.{sizes, nets_sized, no_output_clocks}
+use Rattle.ver_build.proofs.Resting.{next_is}
 use Rattle.ver_build.proofs.ReadsStand.{read_of}
 use Rattle.ver_build.proofs.LeafValues.{AgreesLeaves, outputs_same}
 use Rattle.ver_build.proofs.NextStates.{states_same}
@@ -47,13 +49,17 @@ module _ (net : FlatNet) (t : NameTable) (p : Places) (order : List Read) (is : 
         same_clocks = λ e f a b. one.same_clocks e f a.rest b.rest;
       }
 
+  no_clocks_shown : clocks_shown (in_parts net t p order) ≡ []
+  no_clocks_shown =
+      ap (map (driven_clock (clocks (in_parts net t p order)) (clock_assigns (in_parts net t p order)))) (no_output_clocks net t p order)
+
   module _ (state : List ℕ) (tick : Tick) where
     -- the words that registers take, over the nets as they stand in the tree
-    abbrev words : List Sized → Env → List ℕ
-    words ns f = map (λ (r : Sized). written ns f tick.clocks (blocks (in_parts net t p order)) r.0) (regs (in_parts net t p order))
+    abbrev words : List SizedNet → Env → List ℕ
+    words ns f = map (λ (r : SizedNet). written ns f tick.clocks (blocks_of net t p order) r.0) (regs (in_parts net t p order))
 
     stored : (f : Env) → words (nets (in_parts net t p order)) f ≡ words (sizes net t p order) f
-    stored f = ap (λ (ns : List Sized). words ns f) (nets_sized net t p order is)
+    stored f = ap (λ (ns : List SizedNet). words ns f) (nets_sized net t p order is)
 
     to_net : (shown : List ℕ) (clocks : List (Option ℕ)) (after : List ℕ) → VAllows (in_parts net t p order) state tick shown clocks after
         → NetAllows net state tick shown clocks after
@@ -64,8 +70,8 @@ module _ (net : FlatNet) (t : NameTable) (p : Places) (order : List Read) (is : 
           leaf_clocks t p f,
           net_settled net t p order is state tick f rest shapes,
           sym (outputs_same net t p order is (leaf_values p f) (leaf_clocks t p f) f (agrees net t p order is state tick f rest)) ∙ a.2,
-          a.3,
-          sym (next_state net t p order is state tick f rest) ∙ sym (stored f) ∙ a.4,
+          sym a.3 ∙ no_clocks_shown,
+          sym (next_state net t p order is state tick f rest) ∙ sym (stored f) ∙ same_Some _ _ (sym (next_is net t p order is state tick f rest) ∙ a.4),
         )
 
     -- a choice of the net, beside the tree's
@@ -116,8 +122,8 @@ module _ (net : FlatNet) (t : NameTable) (p : Places) (order : List Read) (is : 
           f,
           tree_settled net t p order is state tick f at_rest.rest,
           outputs_same net t p order is a.0 a.1 f (agrees_too a.0 a.1 a.2 f at_rest.rest) ∙ a.3,
-          a.4,
-          stored f ∙ next_too a.0 a.1 a.2 f at_rest.rest ∙ a.5,
+          no_clocks_shown ∙ sym a.4,
+          next_is net t p order is state tick f at_rest.rest ∙ ap Some (stored f ∙ next_too a.0 a.1 a.2 f at_rest.rest ∙ a.5),
         )
 
   pub parts_allow : (state : List ℕ) (tick : Tick) (shown : List ℕ) (clocks : List (Option ℕ)) (after : List ℕ)

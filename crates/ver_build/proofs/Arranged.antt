@@ -9,13 +9,14 @@ use Rattle.ver_ast.specs.declared.tree.Net.{Net}
 use Rattle.ver_ast.specs.declared.tree.Item.TheVariants as item
 use Rattle.ver_ast.specs.declared.tree.Assign.{Assign}
 use Rattle.ver_ast.specs.declared.tree.Always.{Always}
-use Rattle.ver_ast.specs.Nets.{wires, regs, assigns, blocks}
+use Rattle.ver_ast.specs.Nets.{wires, regs, assigns}
 use Rattle.ver_build.specs.declared.places.Places.{Places}
 use Rattle.ver_build.specs.Arranged.{reg_item, wire_item, IsArranged}
 use Rattle.ver_build.specs.working.DrivenRegisters.{net_registers, AreMarked}
 use Rattle.ver_build.proofs.Premises.{Premises}
 use Rattle.ver_build.proofs.Parts.{registers_of, wires_of, assigns_of, blocks_of, in_parts}
-use Rattle.ver_build.proofs.ItemLists.{net_sized, registers_among, wires_among, assigns_among, blocks_among}
+use Rattle.ver_build.proofs.ItemLists.{net_sized, registers_among, wires_among}
+use Rattle.ver_build.proofs.Nets.{assigns_are}
 use Rattle.ver_build.proofs.Valid.{all_driven, ordered}
 use Rattle.ver_build.proofs.BlockMarks.{marks, marks_driven, blocks_marked}
 
@@ -29,16 +30,18 @@ module _ (net : FlatNet) (t : NameTable) (p : Places) (order : List Read) (is : 
   abbrev v : Verilog
   v = in_parts net t p order
 
-  parts_by_kind : v.items ≡ map reg_item (regs v) ++ (map wire_item (wires v) ++ (map item.Assign (assigns v) ++ map item.Always (blocks v)))
+  parts_by_kind : v.items ≡ map reg_item (regs v) ++ (map wire_item (wires v) ++ (map item.Assign (assigns v) ++ map item.Always (blocks_of net t p order)))
   parts_by_kind =
       let rs = registers_of net t p order in
       let ws = wires_of net t p order in
       let xs = assigns_of net t p order in
       let bs = blocks_of net t p order in
-      rw (registers_among rs ws xs bs, wires_among rs ws xs bs, assigns_among rs ws xs bs, blocks_among rs ws xs bs) (items_sized rs ws xs bs)
+      let same = assigns_are net t p order in
+      rw (registers_among rs ws xs bs, wires_among rs ws xs bs, same) (items_sized rs ws xs bs)
 
   pub parts_arranged : IsArranged v
   parts_arranged = record {
+    always = blocks_of net t p order;
     by_kind = parts_by_kind;
     assigns_in_order = sym (all_driven net t p order is);
     after_what_is_read = ordered net t p order is;

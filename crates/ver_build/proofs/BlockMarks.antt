@@ -18,10 +18,10 @@ use Rattle.ver_build.specs.working.DrivenRegisters.{role_register, net_registers
 use Rattle.ver_build.proofs.Choices.{no_bits_none, some_bits_one}
 use Rattle.ver_build.proofs.Names.{NameList, Each, zipped}
 use Rattle.ver_build.proofs.Premises.{Premises, RoleNamed, role_named, bits_named, Whole, leaves_whole}
-use Rattle.ver_build.proofs.Parts.{in_parts}
+use Rattle.ver_build.proofs.Parts.{blocks_of, in_parts}
 use Rattle.ver_build.proofs.LeafKinds.{is_register, is_clocked, is_written, name_if, no_name, picked, picked_names}
 use Rattle.ver_build.proofs.Nets.{registers_sized, blocks_are}
-use Rattle.ver_build.proofs.Driven.{block_targets_are}
+use Rattle.ver_build.proofs.Driven.{plain_targets, block_targets_are}
 use Rattle.ver_build.proofs.Blocks.{ends_at, has_clock}
 
 -- whether something drives a register that has a name on a clock
@@ -103,5 +103,5 @@ module _ (net : FlatNet) (t : NameTable) (p : Places) (order : List Read) (is : 
 
   pub blocks_marked : block_targets (blocks (in_parts net t p order)) ≡ marked marks (names_of (regs (in_parts net t p order)))
   blocks_marked =
-      ap block_targets (blocks_are net t p order) ∙ block_targets_are net t p order ∙ sym (names_marked clock t.leaves net.leaves)
+      ap block_targets (blocks_are net t p order) ∙ plain_targets (blocks_of net t p order) ∙ block_targets_are net t p order ∙ sym (names_marked clock t.leaves net.leaves)
       ∙ ap (marked marks) (sym (ap names_of (registers_sized net t p order) ∙ picked_names is_register t.leaves net.leaves))

@@ -17,9 +17,9 @@ use Rattle.fir_net.specs.working.Dependence.{IsOf, Reads}
 use Rattle.fir_net.specs.working.IsNet.{CanBeDriven, IsRole}
 use Rattle.fir_net_names.specs.working.LeafNamed.{is_wire}
 use Rattle.fir_net.specs.working.Settled.{clock_driver}
-use Rattle.ver_ast.specs.Nets.{Sized, clocks}
+use Rattle.ver_ast.specs.Nets.{SizedNet, clocks}
 use Rattle.ver_ast.specs.SoundSides.{HasWidth}
-use Rattle.ver_ast.specs.Valid.{IsBlock}
+use Rattle.ver_ast.specs.Valid.{IsPlain}
 use Rattle.ver_build.specs.declared.places.Places.{Places}
 use Rattle.ver_build.specs.working.Operands.{atom_at}
 use Rattle.ver_build.specs.working.Places.{name_at, held_of, clock_in, place_clock, placed, driven_clock_in}
@@ -124,16 +124,16 @@ module _ (net : FlatNet) (t : NameTable) (p : Places) (order : List Read) (is : 
 
   given_sound : (clock : Option ℕ) (s : Bool) (w : ℕ) (next : Option Read) (name : List ℕ) → IsSized (sizes net t p order) name w → Registered name w
       → ((k : ℕ) → clock ≡ Some k → IsClockInput net t k) → CanBeDriven net.leaves net.nodes s next
-      → AllByRecursion (IsBlock (in_parts net t p order)) (block_on t p clock w next name)
+      → AllByRecursion (IsPlain (in_parts net t p order)) (block_on t p clock w next name)
   given_sound None s w next name size m c k = tt
   given_sound (Some i) s w None name size m c k = tt
   given_sound (Some i) s w (Some r) name size m c k = (
     record {
       clocked = clock_is_port i (c i refl);
       width = w;
-      register = subst (λ (ns : List Sized). In ns (name, w)) (sym (registers_sized net t p order)) m;
+      register = subst (λ (ns : List SizedNet). In ns (name, w)) (sym (registers_sized net t p order)) m;
       wide =
-          subst (λ (ns : List Sized). HasWidth ns w (atom_at w (held_of p r))) (sym (nets_sized net t p order is))
+          subst (λ (ns : List SizedNet). HasWidth ns w (atom_at w (held_of p r))) (sym (nets_sized net t p order is))
           (atom_fits (sizes net t p order) w (held_of p r) (read_stands net t p order is r k.can).stands size.one size.narrow);
     },
     tt,
@@ -141,22 +141,22 @@ module _ (net : FlatNet) (t : NameTable) (p : Places) (order : List Read) (is : 
 
   role_sound : (s : Bool) (r : Role) (w : ℕ) (n : Option (List ℕ))
       → (is_net r ≡ true → (name : List ℕ) → n ≡ Some name → IsSized (sizes net t p order) name w)
-      → ((y : Sized) → In (sized_if (is_register r) w n) y → In (picked_sized is_register t.leaves net.leaves) y) → IsRole net.leaves net.nodes s w r
-      → AllByRecursion (IsBlock (in_parts net t p order)) (role_block t p r w n)
+      → ((y : SizedNet) → In (sized_if (is_register r) w n) y → In (picked_sized is_register t.leaves net.leaves) y) → IsRole net.leaves net.nodes s w r
+      → AllByRecursion (IsPlain (in_parts net t p order)) (role_block t p r w n)
   role_sound s (role.Register r) w None h m k = tt
   role_sound s (role.Register r) w (Some name) h m k =
       given_sound (clock_in p.leaves r.clock) s w r.next name (h refl name refl) (m (name, w) (inl refl))
       (λ c e. let clock = k.0 in (ends_at r.clock clock.0 c clock.1 e).clock) k.2
   role_sound s _ w n h m k = tt
 
-  pub blocks_sound : AllByRecursion (IsBlock (in_parts net t p order)) (blocks_of net t p order)
+  pub blocks_sound : AllByRecursion (IsPlain (in_parts net t p order)) (blocks_of net t p order)
   blocks_sound =
       let part = λ (l : Leaf) (n : Option (List ℕ)). sized_if (is_register l.role) l.width n in
       let F = LeafFact net (sizes net t p order) in
-      let M = λ (l : Leaf) (n : Option (List ℕ)). (y : Sized) → In (part l n) y → In (picked_sized is_register t.leaves net.leaves) y in
+      let M = λ (l : Leaf) (n : Option (List ℕ)). (y : SizedNet) → In (part l n) y → In (picked_sized is_register t.leaves net.leaves) y in
       let Q = λ (l : Leaf) (n : Option (List ℕ)). F l n × M l n in
       let facts = leaf_facts net t p order is in
       let parts = each_part F part (picked_sized is_register t.leaves net.leaves) t.leaves net.leaves facts (λ y m. m) in
-      all_zipped Q (IsBlock (in_parts net t p order)) (leaf_block t p)
+      all_zipped Q (IsPlain (in_parts net t p order)) (leaf_block t p)
       (λ l n h. role_sound l.signed l.role l.width n (leaf_is_sized (sizes net t p order) l n h.0.0) h.1 h.0.1.driven) t.leaves net.leaves
       (each_and F M Q (λ l n h k. (h, k)) t.leaves net.leaves facts parts)

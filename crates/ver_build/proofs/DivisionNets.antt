@@ -1,6 +1,6 @@
 -- What the four nets of a division mean.
 -- They are whether the divisor is zero, the divisor or else 1, the quotient or remainder, and that or else 0.
-use Rattle.std.proofs.Common.{◌≡◌, ℕ, ◌<◌, ◌≤◌, ◌^◌, Bool, true, false, ◌==◌, if◌then◌else◌, List, refl, sym, ap, ◌∙◌, subst, arith}
+use Rattle.std.proofs.Common.{◌≡◌, ℕ, ◌<◌, ◌≤◌, ◌^◌, Bool, true, false, ◌==◌, if◌then◌else◌, List, [], refl, sym, ap, ◌∙◌, subst, arith}
 use Rattle.std.specs.Prelude.{Option, Some, IsSome, unwrap_or}
 use Rattle.std.specs.List.{AllByRecursion}
 use Rattle.std.proofs.lemmas.Nat.{pow_pos}
@@ -12,11 +12,11 @@ use Rattle.fir_bits.proofs.Powers.{pow_le}
 use Rattle.fir_bits.specs.declared.operators.PrimOp.{PrimOp}
 use Rattle.fir_net.specs.working.Values.{at_width}
 use Rattle.ver_ast.specs.Atoms.{net, constant}
-use Rattle.ver_ast.specs.Nets.{Sized}
+use Rattle.ver_ast.specs.Nets.{SizedNet}
 use Rattle.ver_ast.specs.declared.tree.BinaryOp.{BinaryOp}
 use Rattle.ver_ast.specs.declared.tree.BinaryOp.TheVariants as binary
 use Rattle.ver_ast.specs.declared.tree.SignedOp.{SignedOp}
-use Rattle.ver_ast.specs.SideValues.{rhs_value}
+use Rattle.ver_build.proofs.SideValues.{side_value}
 use Rattle.ver_ast.specs.SoundSides as sides
 use Rattle.ver_ast.specs.SoundSides.{IsSoundSide, binary_rule, signed_rule}
 use Rattle.ver_build.specs.declared.held.Held.{Held}
@@ -34,7 +34,7 @@ use Rattle.ver_build.proofs.OperatorValues.{IsOfKind, division, is_div, is_rem, 
 pub settled : (v : Option ℕ) (x n : ℕ) → v ≡ Some n → x ≡ unwrap_or v 0 → IsSome v × (x ≡ n)
 settled v x n is e = (subst IsSome (sym is) refl, e ∙ ap (λ w. unwrap_or w 0) is)
 
-module _ (nets : List Sized) (a b : Held) (is_a : Stands nets a) (is_b : Stands nets b) (o : PrimOp) (h : IsOfKind o division)
+module _ (nets : List SizedNet) (a b : Held) (is_a : Stands nets a) (is_b : Stands nets b) (o : PrimOp) (h : IsOfKind o division)
     (helpers : List (List ℕ)) (name : List ℕ) (r : ℕ) (some : 1 ≤ r) (narrow : r ≤ 128) where
   abbrev s : SignedOp
   s = signed_operator o
@@ -92,7 +92,7 @@ module _ (nets : List Sized) (a b : Held) (is_a : Stands nets a) (is_b : Stands 
           let one = constant_gives nets env w 1 w_some w_narrow (omega (arith, pow_le 1 w w_some)) in
           choice_side nets env w (env zero) 1 _ (net zero) (constant w 1) (atom_at w b) is_zero one at_b
 
-      value_sound : IsSoundSide nets w (between s p w a (net by))
+      value_sound : IsSoundSide nets [] w (between s p w a (net by))
       value_sound =
           let both = rules o h in
           let signed_rule_is = both.0 in
@@ -100,7 +100,7 @@ module _ (nets : List Sized) (a b : Held) (is_a : Stands nets a) (is_b : Stands 
           between_sound nets env s p w w _ _ (atom_at w a) (net by) at_a divided_by (rw signed_rule_is (refl, refl)) (rw plain_rule_is (refl, refl))
           a.signed
 
-      value_is : rhs_value nets env w (between s p w a (net by)) ≡ between_value a.signed s p w w (at_width (held_as env a) w) (env by)
+      value_is : side_value nets env w (between s p w a (net by)) ≡ between_value a.signed s p w w (at_width (held_as env a) w) (env by)
       value_is = between_is nets env s p w w _ _ (atom_at w a) (net by) at_a divided_by a.signed
 
       guarded_means : env value < 2 ^ w → Means nets env r (if env zero == 1 then 0 else fitted a.signed w (env value) r)

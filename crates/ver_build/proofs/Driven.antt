@@ -1,6 +1,6 @@
 -- What is driven, by name: the targets of the assigns are the names of operations and then those of outputs.
 -- The targets of the blocks are the names of the registers that something drives on a clock.
-use Rattle.std.proofs.Common.{◌≡◌, ℕ, List, ◌++◌, map, refl, sym, ◌∙◌}
+use Rattle.std.proofs.Common.{◌≡◌, ℕ, List, [], ◌∷◌, ◌++◌, map, refl, sym, ap, ◌∙◌}
 use Rattle.std.specs.Prelude.{Option, Some, None}
 use Rattle.std.proofs.lemmas.List.{map-append}
 use Rattle.std.proofs.lemmas.Simd.{map-map}
@@ -11,7 +11,7 @@ use Rattle.fir_net.specs.declared.net.FlatNet.{FlatNet}
 use Rattle.fir_net_names.specs.declared.name_table.NameTable.{NameTable}
 use Rattle.ver_ast.specs.declared.tree.Assign.{Assign}
 use Rattle.ver_ast.specs.declared.tree.Always.{Always}
-use Rattle.ver_ast.specs.Nets.{targets, block_targets}
+use Rattle.ver_ast.specs.Nets.{targets, plain_block, block_targets}
 use Rattle.ver_build.specs.declared.places.Places.{Places}
 use Rattle.ver_build.specs.working.Places.{clock_in}
 use Rattle.ver_build.specs.working.Built.{inners, inner_assign, leaf_assign, role_assign, leaf_block, role_block, block_on}
@@ -20,19 +20,26 @@ use Rattle.ver_build.proofs.Parts.{assigns_of, blocks_of}
 use Rattle.ver_build.proofs.Nets.{inner_name}
 use Rattle.ver_build.proofs.LeafKinds.{is_output, is_clocked, is_written, name_if, picked, no_name}
 
+abbrev pub always_targets : List Always → List (List ℕ)
+always_targets = map (λ b. b.target)
+
+pub plain_targets : (bs : List Always) → block_targets (map plain_block bs) ≡ always_targets bs
+plain_targets [] = refl
+plain_targets (b ∷ bs) = ap (λ ns. b.target ∷ ns) (plain_targets bs)
+
 output_target : (p : Places) (r : Role) (w : ℕ) (n : Option (List ℕ)) → targets (role_assign p r w n) ≡ name_if (is_output r) n
 output_target p (role.Output r) w None = refl
 output_target p (role.Output r) w (Some name) = refl
 output_target p _ w n = refl
 
 given_target : (t : NameTable) (p : Places) (clock : Option ℕ) (w : ℕ) (next : Option Read) (name : List ℕ)
-    → block_targets (block_on t p clock w next name) ≡ name_if (is_clocked clock next) (Some name)
+    → always_targets (block_on t p clock w next name) ≡ name_if (is_clocked clock next) (Some name)
 given_target t p None w next name = refl
 given_target t p (Some k) w None name = refl
 given_target t p (Some k) w (Some r) name = refl
 
 block_target : (t : NameTable) (p : Places) (r : Role) (w : ℕ) (n : Option (List ℕ))
-    → block_targets (role_block t p r w n) ≡ name_if (is_written (clock_in p.leaves) r) n
+    → always_targets (role_block t p r w n) ≡ name_if (is_written (clock_in p.leaves) r) n
 block_target t p (role.Register r) w None = sym (no_name (is_clocked (clock_in p.leaves r.clock) r.next))
 block_target t p (role.Register r) w (Some name) = given_target t p (clock_in p.leaves r.clock) w r.next name
 block_target t p _ w n = refl
@@ -47,7 +54,7 @@ module _ (net : FlatNet) (t : NameTable) (p : Places) (order : List Read) where
       map_zipped target (leaf_assign p) (λ l n. name_if (is_output l.role) n) (λ l n. output_target p l.role l.width n) t.leaves net.leaves in
       map-append target (map inner_assign (inners net p order)) (zipped (leaf_assign p) t.leaves net.leaves) ∙ rw (first, second) refl
 
-  pub block_targets_are : block_targets (blocks_of net t p order) ≡ picked (is_written (clock_in p.leaves)) t.leaves net.leaves
+  pub block_targets_are : always_targets (blocks_of net t p order) ≡ picked (is_written (clock_in p.leaves)) t.leaves net.leaves
   block_targets_are =
       map_zipped (λ (b : Always). b.target) (leaf_block t p) (λ l n. name_if (is_written (clock_in p.leaves) l.role) n)
       (λ l n. block_target t p l.role l.width n) t.leaves net.leaves

@@ -3,7 +3,7 @@
 use Rattle.std.proofs.Common.{◌≡◌, ℕ, ◌+◌, ◌-◌, ◌/◌, ◌%◌, ◌^◌, ◌<◌, ◌≤◌, min, Bool, List, [], ◌∷◌, ◌++◌, arith}
 use Rattle.std.proofs.lemmas.Nat.{pow_pos, mod_below}
 use Rattle.fir_base.specs.Ticks.{Env}
-use Rattle.ver_ast.specs.Nets.{Sized}
+use Rattle.ver_ast.specs.Nets.{SizedNet}
 use Rattle.ver_build.specs.declared.held.Part.{Part}
 use Rattle.ver_build.specs.declared.held.Source.{Source}
 use Rattle.ver_build.specs.declared.held.Source.TheVariants as source
@@ -15,7 +15,7 @@ use Rattle.ver_build.proofs.Fields.{fill, extended-split, field_past, field_acro
 use Rattle.ver_build.proofs.Standing.{IsPart, IsSource, Stands, FitsSource}
 use Rattle.ver_build.proofs.OperandAtoms.{AreBits, both_bits, constant_bits, sign, net_bits, extension_bits}
 
-module _ (nets : List Sized) (env : Env) where
+module _ (nets : List SizedNet) (env : Env) where
   module _ (signed : Bool) (u : ℕ) (p : Part) (is : IsPart nets u p) (below : env p.name < 2 ^ p.own) (w hi lo : ℕ) where
     part_field : w ≤ 128 → lo ≤ hi → hi < u → w ≡ hi + 1 - lo
         → AreBits nets env w (source_number env signed u (source.Net p) / 2 ^ lo % 2 ^ w) (net_field signed w hi lo p)

@@ -8,7 +8,7 @@ use Rattle.fir_bits.specs.Values.{BitVector, IsBitVector, extended, fitted}
 use Rattle.fir_bits.specs.Operators.{no_operand}
 use Rattle.fir_bits.specs.declared.values.Num.{Num}
 use Rattle.fir_net.specs.working.Values.{number_of, at_width}
-use Rattle.ver_ast.specs.Nets.{Sized, width_in}
+use Rattle.ver_ast.specs.Nets.{SizedNet, width_among}
 use Rattle.ver_build.specs.declared.held.Part.{Part}
 use Rattle.ver_build.specs.declared.held.Source.{Source}
 use Rattle.ver_build.specs.declared.held.Source.TheVariants as source
@@ -48,11 +48,11 @@ cut_number signed k n w =
     ap (λ (x : ℕ). extended signed x (n % 2 ^ x) w) least ∙ sym (fitted-wider signed k (n % 2 ^ k) w h))
     (cases_lt w k)
 
-module _ (nets : List Sized) where
+module _ (nets : List SizedNet) where
   pub none_stands : Stands nets no_bits
   none_stands = record { narrow = omega arith; source = record { wide = refl; below = omega arith } }
 
-  pub whole_stands : (name : List ℕ) (signed : Bool) (w : ℕ) → 1 ≤ w → w ≤ 128 → width_in nets name ≡ w → Stands nets (whole_net name signed w)
+  pub whole_stands : (name : List ℕ) (signed : Bool) (w : ℕ) → 1 ≤ w → w ≤ 128 → width_among nets name ≡ w → Stands nets (whole_net name signed w)
   whole_stands name signed w some narrow declared =
       record { narrow = narrow; source = record { some = some; within = omega arith; below = omega arith; declared = declared } }
 
@@ -137,7 +137,7 @@ module _ (nets : List Sized) where
     }
 
     -- a net holds its own value
-    pub whole_holds : (name : List ℕ) (signed : Bool) (w : ℕ) → 1 ≤ w → w ≤ 128 → width_in nets name ≡ w → env name < 2 ^ w
+    pub whole_holds : (name : List ℕ) (signed : Bool) (w : ℕ) → 1 ≤ w → w ≤ 128 → width_among nets name ≡ w → env name < 2 ^ w
         → Holds nets env (whole_net name signed w) (number_of (record { signed = signed; width = w }) (env name))
     whole_holds name signed w some narrow declared below = record {
       standing = record { stands = whole_stands name signed w some narrow declared; signed = refl; width = refl };

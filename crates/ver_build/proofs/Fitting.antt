@@ -1,6 +1,6 @@
 -- Each assign of the tree is sound beside its target's width, and assigns and blocks name only nets.
 -- An inner net has the width of its value, and what drives an output is taken at the width of its leaf.
-use Rattle.std.proofs.Common.{◌≡◌, ℕ, ◌≤◌, List, [], ◌∷◌, map, Bool, true, false, refl, ap, inl, inr, ⊎_elim, subst, arith}
+use Rattle.std.proofs.Common.{◌≡◌, ℕ, ◌≤◌, List, [], ◌∷◌, ◌++◌, map, Bool, true, false, refl, ap, inl, inr, ⊎_elim, subst, arith}
 use Rattle.std.specs.Prelude.{Option, Some, None, if◌then◌else◌}
 use Rattle.std.specs.List.{AllByRecursion}
 use Rattle.std.specs.Str.{bytes_eq}
@@ -19,9 +19,11 @@ use Rattle.fir_net.specs.working.Dependence.{support_of}
 use Rattle.fir_net.specs.working.IsNet.{CanRead, CanBeDriven, IsRole, IsNode}
 use Rattle.ver_ast.specs.declared.tree.Assign.{Assign}
 use Rattle.ver_ast.specs.declared.tree.Always.{Always}
-use Rattle.ver_ast.specs.Spells.{atom_names, rhs_names}
-use Rattle.ver_ast.specs.Valid.{IsSoundAssign}
-use Rattle.ver_ast.specs.Nets.{Sized, width_in, names_of}
+use Rattle.ver_ast.specs.Names.{atom_names, rhs_names}
+use Rattle.ver_ast.specs.ItemNames.{rhs_arrays}
+use Rattle.ver_build.proofs.SideValues.{reads_no_array}
+use Rattle.ver_ast.specs.SoundSides.{IsSoundSide}
+use Rattle.ver_ast.specs.Nets.{SizedNet, width_among, names_of}
 use Rattle.ver_build.specs.declared.held.Part.{Part}
 use Rattle.ver_build.specs.declared.held.Source.{Source}
 use Rattle.ver_build.specs.declared.held.Source.TheVariants as source
@@ -50,33 +52,37 @@ pub record Among (all : List (List ℕ)) (name : List ℕ) (reads : List (List �
   pub sources : EachIn reads all
 
 abbrev pub AssignAmong : List (List ℕ) → Assign → Type 0
-AssignAmong all a = Among all a.target (rhs_names a.rhs)
+AssignAmong all a = Among all a.target (rhs_arrays a.rhs ++ rhs_names a.rhs)
 
 abbrev pub BlockAmong : List (List ℕ) → Always → Type 0
 BlockAmong all b = Among all b.target (atom_names b.source)
 
+-- the target has a width, and the right side is sound beside it in a tree without arrays
+abbrev pub FitsTarget : List SizedNet → Assign → Type 0
+FitsTarget ns a = (w : ℕ) × In ns (a.target, w) × IsSoundSide ns [] w a.rhs
+
 -- a sound assign, among these nets
-abbrev Fits : List Sized → Assign → Type 0
-Fits ns a = IsSoundAssign ns a × AssignAmong (names_of ns) a
+abbrev Fits : List SizedNet → Assign → Type 0
+Fits ns a = FitsTarget ns a × AssignAmong (names_of ns) a
 
 -- what has a width is a net of it
-pub declared_among : (ns : List Sized) (name : List ℕ) → 1 ≤ width_in ns name → In ns (name, width_in ns name)
+pub declared_among : (ns : List SizedNet) (name : List ℕ) → 1 ≤ width_among ns name → In ns (name, width_among ns name)
 declared_among [] name some = absurd (omega arith)
 declared_among (s ∷ ns) name some = by_test (declared_among ns name) (bytes_eq s.0 name) refl some
   where
-    by_test : (1 ≤ width_in ns name → In ns (name, width_in ns name)) → (b : Bool) → bytes_eq s.0 name ≡ b → 1 ≤ (if b then s.1 else width_in ns name)
-        → In (s ∷ ns) (name, if b then s.1 else width_in ns name)
+    by_test : (1 ≤ width_among ns name → In ns (name, width_among ns name)) → (b : Bool) → bytes_eq s.0 name ≡ b → 1 ≤ (if b then s.1 else width_among ns name)
+        → In (s ∷ ns) (name, if b then s.1 else width_among ns name)
     by_test behind true e one = inl (ap (λ (n : List ℕ). (n, s.1)) ((bytes_eq-Decides s.0 name).0 e))
     by_test behind false e one = inr (behind one)
 
 -- the net of a value, with its width
-pub part_among : (ns : List Sized) (w : ℕ) (p : Part) → IsPart ns w p → In ns (p.name, p.own)
+pub part_among : (ns : List SizedNet) (w : ℕ) (p : Part) → IsPart ns w p → In ns (p.name, p.own)
 part_among ns w p is =
     subst (λ (v : ℕ). In ns (p.name, v)) is.declared (declared_among ns p.name (omega (arith, is.some, is.within, is.declared)))
 
-source_known : (ns : List Sized) (w : ℕ) (s : Source) → IsSource ns w s → EachIn (source_name s) (names_of ns)
+source_known : (ns : List SizedNet) (w : ℕ) (s : Source) → IsSource ns w s → EachIn (source_name s) (names_of ns)
 source_known ns w (source.Number n) is = tt
-source_known ns w (source.Net p) is = (in_map (λ (s : Sized). s.0) ns (p.name, p.own) (part_among ns w p is), tt)
+source_known ns w (source.Net p) is = (in_map (λ (s : SizedNet). s.0) ns (p.name, p.own) (part_among ns w p is), tt)
 
 first_of : {A : Type 0} → (P Q : A → Type 0) (xs : List A) → AllByRecursion (λ x. P x × Q x) xs → AllByRecursion P xs
 first_of P Q [] h = tt
@@ -119,11 +125,11 @@ support_can net (node.Operation o) whole = whole.reads
 support_can net (node.Mux m) whole = whole.reads
 
 module _ (net : FlatNet) (t : NameTable) (p : Places) (order : List Read) (is : Premises net t p order) where
-  abbrev ns : List Sized
+  abbrev ns : List SizedNet
   ns = sizes net t p order
 
   named : (name : List ℕ) (w : ℕ) → IsSized ns name w → In (names_of ns) name
-  named name w size = in_map (λ (s : Sized). s.0) ns (name, w) size.among
+  named name w size = in_map (λ (s : SizedNet). s.0) ns (name, w) size.among
 
   read_known : (r : Read) → CanRead net.leaves net.nodes r → IsKnown (names_of ns) (held_of p r)
   read_known r can =
@@ -149,7 +155,8 @@ module _ (net : FlatNet) (t : NameTable) (p : Places) (order : List Read) (is : 
   inner_fits i m =
       let size = inner_size net t p order is i m in
       let sound = inner_sound net t p order is i m in
-      ((i.width, size.among, sound.side), record { target = named i.name i.width size; sources = inner_reads i m })
+      let no_array = reads_no_array ns i.width i.rhs sound.side in
+      ((i.width, size.among, sound.side), record { target = named i.name i.width size; sources = rw no_array (inner_reads i m) })
 
   atom_among : (w : ℕ) (r : Read) → CanRead net.leaves net.nodes r → EachIn (atom_names (atom_at w (held_of p r))) (names_of ns)
   atom_among w r can = atom_known (names_of ns) w (held_of p r) (read_known r can)
@@ -176,11 +183,11 @@ module _ (net : FlatNet) (t : NameTable) (p : Places) (order : List Read) (is : 
       (all_zipped (LeafFact net ns) (Fits ns) (leaf_assign p) (λ l n h. role_fits l.signed l.role l.width n (leaf_is_sized ns l n h.0) h.1.driven)
       t.leaves net.leaves (leaf_facts net t p order is))
 
-  pub assigns_sound : AllByRecursion (IsSoundAssign ns) (assigns_of net t p order)
-  assigns_sound = first_of (IsSoundAssign ns) (AssignAmong (names_of ns)) (assigns_of net t p order) all_fit
+  pub assigns_sound : AllByRecursion (FitsTarget ns) (assigns_of net t p order)
+  assigns_sound = first_of (FitsTarget ns) (AssignAmong (names_of ns)) (assigns_of net t p order) all_fit
 
   pub assigns_name_nets : AllByRecursion (AssignAmong (names_of ns)) (assigns_of net t p order)
-  assigns_name_nets = second_of (IsSoundAssign ns) (AssignAmong (names_of ns)) (assigns_of net t p order) all_fit
+  assigns_name_nets = second_of (FitsTarget ns) (AssignAmong (names_of ns)) (assigns_of net t p order) all_fit
 
   given_among : (clock : Option ℕ) (s : Bool) (w : ℕ) (next : Option Read) (name : List ℕ) → IsSized ns name w
       → CanBeDriven net.leaves net.nodes s next → AllByRecursion (BlockAmong (names_of ns)) (block_on t p clock w next name)

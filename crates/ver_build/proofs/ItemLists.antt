@@ -7,10 +7,10 @@ use Rattle.ver_ast.specs.declared.tree.Assign.{Assign}
 use Rattle.ver_ast.specs.declared.tree.Always.{Always}
 use Rattle.ver_ast.specs.declared.tree.Item.{Item}
 use Rattle.ver_ast.specs.declared.tree.Item.TheVariants as item
-use Rattle.ver_ast.specs.Nets.{Sized, wire_net, reg_net, item_net, item_assign, item_block}
+use Rattle.ver_ast.specs.Nets.{SizedNet, plain_block, wire_net, reg_net, item_net, item_array, item_assign, item_block}
 use Rattle.ver_build.specs.working.Built.{items}
 
-abbrev pub net_sized : Net → Sized
+abbrev pub net_sized : Net → SizedNet
 net_sized n = (n.name, n.width)
 
 none_of : {A C : Type 0} → (f : Item → List C) (c : A → Item) → ((x : A) → f (c x) ≡ []) → (xs : List A) → flat_map f (map c xs) ≡ []
@@ -63,17 +63,28 @@ module _ (rs ws : List Net) (xs : List Assign) (bs : List Always) where
       )
       (ap (λ ns. map net_sized rs ++ ns) (append-nil (map net_sized ws)))
 
-  pub assigns_among : flat_map item_assign (items rs ws xs bs) ≡ xs
+  -- in a tree without clock outputs
+  pub assigns_among : flat_map (item_assign []) (items rs ws xs bs) ≡ xs
   assigns_among =
-      by_parts item_assign ∙ rw (
-        none_of item_assign item.Reg (λ x. refl) rs,
-        none_of item_assign item.Wire
+      by_parts (item_assign []) ∙ rw (
+        none_of (item_assign []) item.Reg (λ x. refl) rs,
+        none_of (item_assign []) item.Wire
             (λ x. refl) ws,
-        none_of item_assign item.Always (λ x. refl) bs,
+        none_of (item_assign []) item.Always (λ x. refl) bs,
       )
-      (append-nil (flat_map item_assign (map item.Assign xs)) ∙ each_of item_assign item.Assign (λ x. x) (λ x. refl) xs ∙ same_map xs)
+      (append-nil (flat_map (item_assign []) (map item.Assign xs)) ∙ each_of (item_assign []) item.Assign (λ x. x) (λ x. refl) xs ∙ same_map xs)
 
-  pub blocks_among : flat_map item_block (items rs ws xs bs) ≡ bs
+  pub arrays_among : flat_map item_array (items rs ws xs bs) ≡ []
+  arrays_among =
+      by_parts item_array ∙ rw (
+        none_of item_array item.Reg (λ x. refl) rs,
+        none_of item_array item.Wire (λ x. refl) ws,
+        none_of item_array item.Assign (λ x. refl) xs,
+        none_of item_array item.Always (λ x. refl) bs,
+      )
+      refl
+
+  pub blocks_among : flat_map item_block (items rs ws xs bs) ≡ map plain_block bs
   blocks_among =
       by_parts item_block ∙ rw (
         none_of item_block item.Reg (λ x. refl) rs,
@@ -81,4 +92,4 @@ module _ (rs ws : List Net) (xs : List Assign) (bs : List Always) where
             (λ x. refl) ws,
         none_of item_block item.Assign (λ x. refl) xs,
       )
-      (each_of item_block item.Always (λ x. x) (λ x. refl) bs ∙ same_map bs)
+      (each_of item_block item.Always plain_block (λ x. refl) bs)

@@ -8,7 +8,7 @@ use Rattle.fir_net.specs.declared.leaf.Role.TheVariants as role
 use Rattle.fir_net.specs.declared.leaf.Leaf.{Leaf}
 use Rattle.fir_net.specs.working.IsNet.{is_port, AreInside, ArePortsFirst}
 use Rattle.fir_net_names.specs.working.LeafNamed.{with_some}
-use Rattle.ver_ast.specs.Nets.{Sized, names_of}
+use Rattle.ver_ast.specs.Nets.{SizedNet, names_of}
 use Rattle.ver_build.proofs.Names.{NameList, Each, zipped, map_zipped}
 
 abbrev pub is_input : Role → Bool
@@ -53,11 +53,11 @@ abbrev pub name_if : Bool → Option (List ℕ) → List (List ℕ)
 name_if false n = []
 name_if true n = with_some n []
 
-abbrev pub sized : ℕ → Option (List ℕ) → List Sized
+abbrev pub sized : ℕ → Option (List ℕ) → List SizedNet
 sized w None = []
 sized w (Some name) = (name, w) ∷ []
 
-abbrev pub sized_if : Bool → ℕ → Option (List ℕ) → List Sized
+abbrev pub sized_if : Bool → ℕ → Option (List ℕ) → List SizedNet
 sized_if false w n = []
 sized_if true w n = sized w n
 
@@ -66,7 +66,7 @@ abbrev pub picked : (Role → Bool) → NameList → List Leaf → List (List �
 picked p names ls = zipped (λ l n. name_if (p l.role) n) names ls
 
 -- these with their widths
-abbrev pub picked_sized : (Role → Bool) → NameList → List Leaf → List Sized
+abbrev pub picked_sized : (Role → Bool) → NameList → List Leaf → List SizedNet
 picked_sized p names ls = zipped (λ l n. sized_if (p l.role) l.width n) names ls
 
 sized_names : (b : Bool) (w : ℕ) (n : Option (List ℕ)) → names_of (sized_if b w n) ≡ name_if b n
@@ -76,7 +76,7 @@ sized_names true w (Some name) = refl
 
 pub picked_names : (p : Role → Bool) (names : NameList) (ls : List Leaf) → names_of (picked_sized p names ls) ≡ picked p names ls
 picked_names p names ls =
-    map_zipped (λ (s : Sized). s.0) (λ (l : Leaf) n. sized_if (p l.role) l.width n) (λ (l : Leaf) n. name_if (p l.role) n)
+    map_zipped (λ (s : SizedNet). s.0) (λ (l : Leaf) n. sized_if (p l.role) l.width n) (λ (l : Leaf) n. name_if (p l.role) n)
     (λ l n. sized_names (p l.role) l.width n) names ls
 
 pub no_size : (b : Bool) (w : ℕ) → sized_if b w None ≡ []

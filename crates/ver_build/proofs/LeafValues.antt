@@ -13,7 +13,7 @@ use Rattle.fir_net_names.specs.declared.name_table.NameTable.{NameTable}
 use Rattle.fir_net.specs.working.IsNet.{IsRole}
 use Rattle.fir_net_names.specs.working.LeafNamed.{is_wire}
 use Rattle.fir_net.specs.working.Settled.{is_clock, input_number, clock_number, output_number, register_number, numbers_by, inputs, clocks, outputs, registers}
-use Rattle.ver_ast.specs.Nets.{Sized, names_of, inputs as v_inputs, outputs as v_outputs, clocks as v_clocks, regs}
+use Rattle.ver_ast.specs.Nets.{SizedNet, names_of, input_nets as v_inputs, output_nets as v_outputs, clocks as v_clocks, regs}
 use Rattle.ver_build.specs.declared.places.Places.{Places}
 use Rattle.ver_build.specs.working.Places.{name_at}
 use Rattle.ver_build.proofs.Names.{along_zipped, each_at}
@@ -76,18 +76,18 @@ module _ (net : FlatNet) (t : NameTable) (p : Places) (order : List Read) (is : 
 
     pub registers_same : Same is_register → map f (names_of (regs (in_parts net t p order))) ≡ map e (registers net)
     registers_same same =
-        ap (λ (s : List Sized). map f (names_of s)) (registers_sized net t p order) ∙ ap (map f) (picked_names is_register t.leaves net.leaves)
+        ap (λ (s : List SizedNet). map f (names_of s)) (registers_sized net t p order) ∙ ap (map f) (picked_names is_register t.leaves net.leaves)
         ∙ values_same is_register register_number register_is register_plain same
 
   module _ (e : ℕ → ℕ) (clock : ℕ → Option ℕ) (f : Env) (agrees : AgreesLeaves net t e clock f) where
     pub inputs_same : map f (names_of (v_inputs (in_parts net t p order))) ≡ map e (inputs net)
     inputs_same =
-        ap (λ (s : List Sized). map f (names_of s)) (inputs_sized net t p order) ∙ ap (map f) (picked_names is_input t.leaves net.leaves)
+        ap (λ (s : List SizedNet). map f (names_of s)) (inputs_sized net t p order) ∙ ap (map f) (picked_names is_input t.leaves net.leaves)
         ∙ values_same e f is_input input_number input_is input_plain (λ k l n at q. agrees.value k l n at (plain_input l.role q))
 
     pub outputs_same : map f (names_of (v_outputs (in_parts net t p order))) ≡ map e (outputs net)
     outputs_same =
-        ap (λ (s : List Sized). map f (names_of s)) (outputs_sized net t p order) ∙ ap (map f) (picked_names is_output t.leaves net.leaves)
+        ap (λ (s : List SizedNet). map f (names_of s)) (outputs_sized net t p order) ∙ ap (map f) (picked_names is_output t.leaves net.leaves)
         ∙ values_same e f is_output output_number output_is output_plain (λ k l n at q. agrees.value k l n at (plain_output l.role q))
 
     pub words_same : map f (names_of (regs (in_parts net t p order))) ≡ map e (registers net)

@@ -2,6 +2,7 @@ pub mod Choices
 pub mod Residues
 pub mod SignedNumbers
 pub mod OperatorValues
+pub mod SideValues
 pub mod Standing
 pub mod Fields
 pub mod Fitted
@@ -28,6 +29,7 @@ pub mod Shapes
 pub mod Rowed
 pub mod Driven
 pub mod Written
+pub mod PlainTrees
 pub mod Walk
 pub mod NodeNames
 pub mod LeafWalk
@@ -42,6 +44,7 @@ pub mod Assigns
 pub mod LeafValues
 pub mod NamePlaces
 pub mod NextStates
+pub mod Resting
 pub mod NodeValues
 pub mod NetSettled
 pub mod TextOrder

@@ -18,9 +18,11 @@ use Rattle.ver_ast.specs.declared.tree.Net.{Net}
 use Rattle.ver_ast.specs.declared.tree.Assign.{Assign}
 use Rattle.ver_ast.specs.declared.tree.Always.{Always}
 use Rattle.ver_ast.specs.declared.tree.Item.TheVariants as item
-use Rattle.ver_ast.specs.Nets.{Sized, names_of, widths_of, port_nets, regs, wires}
-use Rattle.ver_ast.specs.Spells.{HasItemNames, HasNames, atom_names, rhs_names}
-use Rattle.ver_ast.specs.Valid.{IsBlock}
+use Rattle.ver_ast.specs.Nets.{SizedNet, Variable, variable_names, names_of, widths_of, port_nets, regs, wires}
+use Rattle.ver_ast.specs.Names.{atom_names, rhs_names}
+use Rattle.ver_ast.specs.ItemNames.{rhs_arrays}
+use Rattle.ver_ast.specs.Spells.{HasItemNames, HasNames}
+use Rattle.ver_ast.specs.Valid.{IsPlain}
 use Rattle.fir_net.specs.Rows.{array_names, row_names, word_names}
 use Rattle.fir_net.specs.working.Rows.{net_arrays, net_rows, net_words}
 use Rattle.ver_build.specs.declared.places.Places.{Places}
@@ -32,7 +34,7 @@ use Rattle.ver_build.proofs.Premises.{Premises, leaves_named, leaves_whole, leav
 use Rattle.ver_build.proofs.Parts.{registers_of, wires_of, assigns_of, blocks_of, in_parts}
 use Rattle.ver_build.proofs.LeafKinds.{is_clock_input, is_net, picked}
 use Rattle.ver_build.proofs.Picked.{picked_named}
-use Rattle.ver_build.proofs.Nets.{inner_name, inner_sized, sizes, clocks_are, registers_sized, wires_sized, nets_by_part, sizes_named, leaf_names_are}
+use Rattle.ver_build.proofs.Nets.{inner_name, inner_sized, sizes, clocks_are, registers_sized, wires_sized, no_arrays, nets_by_part, sizes_named, leaf_names_are}
 use Rattle.ver_build.proofs.InnerNames.{are_inner}
 use Rattle.ver_build.proofs.NodeNets.{inners_named}
 use Rattle.ver_build.proofs.Fitting.{AssignAmong, BlockAmong, assigns_name_nets, blocks_name_nets}
@@ -90,16 +92,18 @@ module _ (net : FlatNet) (t : NameTable) (p : Places) (order : List Read) (is : 
   assign_names : (a : Assign) → In (assigns_of net t p order) a → HasItemNames (item.Assign a)
   assign_names a m =
       let among = all_at (AssignAmong all_names) (assigns_of net t p order) (assigns_name_nets net t p order is) a m in
-      (net_is_name a.target among.target, all_among IsName (rhs_names a.rhs) all_names nets_are_names among.sources)
+      (tt, (net_is_name a.target among.target, all_among IsName (rhs_arrays a.rhs ++ rhs_names a.rhs) all_names nets_are_names among.sources))
 
   block_names : (b : Always) → In (blocks_of net t p order) b → HasItemNames (item.Always b)
   block_names b m =
       let among = all_at (BlockAmong all_names) (blocks_of net t p order) (blocks_name_nets net t p order is) b m in
-      let sound = all_at (IsBlock (in_parts net t p order)) (blocks_of net t p order) (blocks_sound net t p order is) b m in
+      let sound = all_at (IsPlain (in_parts net t p order)) (blocks_of net t p order) (blocks_sound net t p order is) b m in
       let clock = subst (λ (ns : List (List ℕ)). In ns b.clock) (clocks_are net t p order) sound.clocked in (
-        leaf_is_name b.clock (picked_named is_clock_input t.leaves net.leaves b.clock clock),
-        net_is_name b.target among.target,
-        all_among IsName (atom_names b.source) all_names nets_are_names among.sources,
+        tt,
+        (
+          leaf_is_name b.clock (picked_named is_clock_input t.leaves net.leaves b.clock clock),
+          (net_is_name b.target among.target, all_among IsName (atom_names b.source) all_names nets_are_names among.sources),
+        ),
       )
 
   has_names : HasNames (in_parts net t p order)
@@ -113,9 +117,9 @@ module _ (net : FlatNet) (t : NameTable) (p : Places) (order : List Read) (is : 
         of_ports = all_from (λ (q : Port). IsName q.name) (in_parts net t p order).ports port_name;
         of_items =
             all_joined HasItemNames (map item.Reg rs) (map item.Wire ws ++ (map item.Assign xs ++ map item.Always bs))
-            (all_mapped HasItemNames item.Reg rs (all_from (λ w. HasItemNames (item.Reg w)) rs register_name))
+            (all_mapped HasItemNames item.Reg rs (all_from (λ w. HasItemNames (item.Reg w)) rs (λ w m. ((register_name w m, tt), tt))))
             (all_joined HasItemNames (map item.Wire ws) (map item.Assign xs ++ map item.Always bs)
-            (all_mapped HasItemNames item.Wire ws (all_from (λ w. HasItemNames (item.Wire w)) ws wire_name))
+            (all_mapped HasItemNames item.Wire ws (all_from (λ w. HasItemNames (item.Wire w)) ws (λ w m. ((wire_name w m, tt), tt))))
             (all_joined HasItemNames (map item.Assign xs) (map item.Always bs)
             (all_mapped HasItemNames item.Assign xs (all_from (λ a. HasItemNames (item.Assign a)) xs assign_names))
             (all_mapped HasItemNames item.Always bs (all_from (λ b. HasItemNames (item.Always b)) bs block_names))));
@@ -123,11 +127,12 @@ module _ (net : FlatNet) (t : NameTable) (p : Places) (order : List Read) (is : 
 
   all_names_are : leaf_names (in_parts net t p order) ≡ somes t.leaves
   all_names_are =
-      append-nil (port_names (in_parts net t p order) ++ names_of (regs (in_parts net t p order))) ∙ leaf_names_are net t p order is
+      ap (λ (ks : List Variable). port_names (in_parts net t p order) ++ names_of (regs (in_parts net t p order)) ++ variable_names ks) (no_arrays net t p order)
+      ∙ append-nil (port_names (in_parts net t p order) ++ names_of (regs (in_parts net t p order))) ∙ leaf_names_are net t p order is
 
   wires_inner : AreInner (leaf_names (in_parts net t p order)) 0 (names_of (wires (in_parts net t p order)))
   wires_inner =
-      rw (all_names_are, wires_sized net t p order, map-map (λ (s : Sized). s.0) inner_sized (inners net p order))
+      rw (all_names_are, wires_sized net t p order, map-map (λ (s : SizedNet). s.0) inner_sized (inners net p order))
       (let nodes = is.places.nodes in rw (inners_named net p nodes.held order)
       (are_inner (somes t.leaves) 0 nodes.last (inner_names net p.nodes order) nodes.named))
 
@@ -136,6 +141,7 @@ module _ (net : FlatNet) (t : NameTable) (p : Places) (order : List Read) (is : 
     circuit = is.table.circuit;
     ports = kinds_along net t.leaves net.leaves (leaves_known net t p order is);
     state = ap widths_of (registers_sized net t p order) ∙ widths_along net t.leaves net.leaves (leaves_named net t is.table);
+    array_state = ap (map (λ (k : Variable). (k.width, k.depth))) (no_arrays net t p order);
     named_leaves =
         subst (λ (ns : List (List ℕ)). AreNamed [] (row_names (net_rows net) ++ word_names (net_words net) ++ array_names (net_arrays net)) ns)
         (sym all_names_are)

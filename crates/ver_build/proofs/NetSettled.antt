@@ -5,6 +5,7 @@ use Rattle.std.specs.Prelude.{slice_get, IsSome}
 use Rattle.fir_base.specs.Lists.{In}
 use Rattle.fir_base.specs.Ticks.{Env, Tick, Shape, HasShape}
 use Rattle.fir_base.proofs.Each.{all_at}
+use Rattle.fir_base.proofs.Members.{in_map_from}
 use Rattle.fir_base.proofs.Elements.{beside}
 use Rattle.fir_net.specs.declared.reads.Read.{Read}
 use Rattle.fir_net.specs.declared.leaf.Register.{Register}
@@ -24,11 +25,13 @@ use Rattle.ver_ast.specs.declared.tree.Assign.{Assign}
 use Rattle.ver_ast.specs.declared.tree.Rhs.{Rhs}
 use Rattle.ver_ast.specs.declared.tree.Rhs.TheVariants as rhs
 use Rattle.ver_ast.specs.Atoms.{AtomTree}
-use Rattle.ver_ast.specs.Nets.{Sized, regs, blocks, assigns, clocks as v_clocks, shape as v_shape}
+use Rattle.ver_ast.specs.Nets.{SizedNet, variables, regs, assigns, clocks as v_clocks, shape as v_shape}
+use Rattle.ver_ast.specs.Stores.{store_of}
+use Rattle.ver_ast.specs.Processes.{Process, assigning, processes, wanted}
 use Rattle.ver_ast.specs.AtomValues.{atom_value}
-use Rattle.ver_ast.specs.SideValues.{rhs_value}
+use Rattle.ver_build.proofs.SideValues.{side_value}
 use Rattle.ver_ast.specs.Settled.{Rest, VSettled}
-use Rattle.ver_ast.specs.Next.{written}
+use Rattle.ver_build.proofs.Written.{written}
 use Rattle.ver_ast.proofs.Widths.{declared_width}
 use Rattle.ver_build.specs.declared.places.Places.{Places}
 use Rattle.ver_build.specs.declared.right_sides.Inner.{Inner}
@@ -38,9 +41,10 @@ use Rattle.ver_build.specs.working.Places.{name_at, place_value, place_clock, pl
 use Rattle.ver_build.specs.working.Built.{inners, node_inners, inner_assign}
 use Rattle.ver_build.proofs.Names.{each_at}
 use Rattle.ver_build.proofs.Premises.{Premises, LeafNamed, leaves_named}
-use Rattle.ver_build.proofs.Parts.{in_parts}
+use Rattle.ver_build.proofs.Parts.{blocks_of, in_parts}
 use Rattle.ver_build.proofs.LeafKinds.{is_net}
-use Rattle.ver_build.proofs.Nets.{sizes, nets_sized}
+use Rattle.ver_build.proofs.Nets.{sizes}
+use Rattle.ver_build.proofs.Resting.{only_assigns, fits_target, side_is, registers_hold}
 use Rattle.ver_build.proofs.Fitted.{fit_holds, whole_holds}
 use Rattle.ver_build.proofs.OperandAtoms.{atom_means}
 use Rattle.ver_build.proofs.Sizes.{IsSized, leaf_is_sized, inner_of, inner_declared, sizes_once}
@@ -54,15 +58,15 @@ use Rattle.ver_build.proofs.NodeValues.{leaf_values, nets_below, equation, leave
 abbrev pub leaf_clocks : NameTable → Places → Env → ℕ → Option ℕ
 leaf_clocks t p f k = shown_clock t f (clock_in p.leaves k)
 
-some_atom : (ns : List Sized) (f : Env) (w : ℕ) (a : AtomTree) (r : Rhs) → rhs.Atom a ≡ r → IsSome (rhs_value ns f w r)
-some_atom ns f w a r same = subst (λ (x : Rhs). IsSome (rhs_value ns f w x)) same refl
+some_atom : (ns : List SizedNet) (f : Env) (w : ℕ) (a : AtomTree) (r : Rhs) → rhs.Atom a ≡ r → IsSome (side_value ns f w r)
+some_atom ns f w a r same = subst (λ (x : Rhs). IsSome (side_value ns f w x)) same refl
 
 module _ (net : FlatNet) (t : NameTable) (p : Places) (order : List Read) (is : Premises net t p order) (state : List ℕ) (tick : Tick) (f : Env)
     (rest : Rest (in_parts net t p order) state tick f) where
   abbrev e : ℕ → ℕ
   e = leaf_values p f
 
-  abbrev ns : List Sized
+  abbrev ns : List SizedNet
   ns = sizes net t p order
 
   value_is : (k : ℕ) (l : Leaf) → slice_get net.leaves k ≡ Some l
@@ -155,7 +159,7 @@ module _ (net : FlatNet) (t : NameTable) (p : Places) (order : List Read) (is : 
       let c =
       beside (λ m. Some (f m)) (leaf_clocks t p f) (v_clocks (in_parts net t p order)) (clocks net)
       (clocks_same net t p order is (leaf_values p f) (leaf_clocks t p f) f agrees) n k at in
-      sym c.2 ∙ ap Some (rest.clock_values n c.0 c.1)
+      sym c.2 ∙ ap Some (rest.begins.clock_values n c.0 c.1)
 
   driven_shown : (c : Option ℕ) → shown_clock t f (driven_clock_in p.leaves c) ≡ driven_clock (leaf_clocks t p f) c
   driven_shown None = refl
@@ -177,48 +181,55 @@ module _ (net : FlatNet) (t : NameTable) (p : Places) (order : List Read) (is : 
   registers_show n k l r at leaf same =
       let plain : IsWritableRole (role.Register r) = subst IsWritableRole same (is.writable.leaves k l leaf) in
       let words : map (leaf_values p f) (registers net) ≡ state =
-      sym (words_same net t p order is (leaf_values p f) (leaf_clocks t p f) f agrees) ∙ rest.state_values in
+      sym (words_same net t p order is (leaf_values p f) (leaf_clocks t p f) f agrees) ∙ registers_hold net t p order is state tick f rest in
       value_at_place (leaf_values p f) (registers net) state words n k at
       ∙ sym (ap (λ reset. shown net (leaf_values p f) l.width reset (slice_index state n)) plain)
 
   -- the states after the tick
-  pub next_state : map (λ (r : Sized). written ns f tick.clocks (blocks (in_parts net t p order)) r.0) (regs (in_parts net t p order)) ≡ map
+  pub next_state : map (λ (r : SizedNet). written ns f tick.clocks (blocks_of net t p order) r.0) (regs (in_parts net t p order)) ≡ map
       (next_word net (leaf_values p f) (leaf_clocks t p f) tick.clocks) (registers net)
   next_state = states_same net t p order is (leaf_values p f) (leaf_clocks t p f) f agrees (λ k l at c. refl) source_value tick.clocks
 
   pub net_settled : v_shape (in_parts net t p order) ≡ net_shape net → Settled net state tick (leaf_values p f) (leaf_clocks t p f)
   net_settled shapes = record {
-    shaped = subst (λ (s : Shape). HasShape s state tick) shapes rest.shaped;
+    shaped = subst (λ (s : Shape). HasShape s state tick) shapes rest.begins.shaped;
     fits = (leaves_fit net t p order is state tick f rest).each;
-    input_values = sym (inputs_same net t p order is (leaf_values p f) (leaf_clocks t p f) f agrees) ∙ rest.input_values;
+    input_values = sym (inputs_same net t p order is (leaf_values p f) (leaf_clocks t p f) f agrees) ∙ rest.begins.input_values;
     registers_show = registers_show;
     driven = driven;
     clock_inputs = clock_inputs;
     clocks_driven = clocks_driven;
   }
 
-  inner_valued : (i : Inner) (w : ℕ) → In (inners net p order) i → In ns (i.name, w) → IsSome (rhs_value ns f w i.rhs)
+  inner_valued : (i : Inner) (w : ℕ) → In (inners net p order) i → In ns (i.name, w) → IsSome (side_value ns f w i.rhs)
   inner_valued i w m n =
       let o = inner_of net t p order is i m in
       let xs = node_inners p o.node (node_at p.nodes o.number).helpers o.netted.name in
       let once = sizes_once net t p order is in
       let width : i.width ≡ w = sym (inner_declared net t p order is i m) ∙ declared_width ns once i.name w n in
-      subst (λ (v : ℕ). IsSome (rhs_value ns f v i.rhs)) width
-      (all_at (λ (j : Inner). IsSome (rhs_value ns f j.width j.rhs)) xs
+      subst (λ (v : ℕ). IsSome (side_value ns f v i.rhs)) width
+      (all_at (λ (j : Inner). IsSome (side_value ns f j.width j.rhs)) xs
       (node_valued net t p order is state tick f rest o.number o.node o.netted o.at) i o.inside)
 
-  valued : (a : Assign) (w : ℕ) → In (assigns (in_parts net t p order)) a → In ns (a.target, w) → IsSome (rhs_value ns f w a.rhs)
+  valued : (a : Assign) (w : ℕ) → In (assigns (in_parts net t p order)) a → In ns (a.target, w) → IsSome (side_value ns f w a.rhs)
   valued a w m n =
       ⊎_elim
       (λ (x : (i : Inner) × In (inners net p order) i × (inner_assign i ≡ a)).
-      subst (λ (b : Assign). In ns (b.target, w) → IsSome (rhs_value ns f w b.rhs)) x.2 (λ j. inner_valued x.0 w x.1 j) n)
+      subst (λ (b : Assign). In ns (b.target, w) → IsSome (side_value ns f w b.rhs)) x.2 (λ j. inner_valued x.0 w x.1 j) n)
       (λ (o : OutputAssign net t p a). some_atom ns f w (atom_at o.leaf.width (held_of p o.source)) a.rhs o.right)
       (assign_from net t p order is a m)
+
+  process_valued : (q : Process) → In (processes (in_parts net t p order)) q
+      → IsSome (wanted (in_parts net t p order) (store_of (variables (in_parts net t p order)) state) f q)
+  process_valued q m =
+      let a = in_map_from assigning (assigns (in_parts net t p order)) q
+      (subst (λ (qs : List Process). In qs q) (only_assigns net t p order is state tick f rest) m) in
+      let sized = fits_target net t p order is state tick f rest a.0 a.1 in
+      subst (λ (q : Process). IsSome (wanted (in_parts net t p order) (store_of (variables (in_parts net t p order)) state) f q)) a.2
+      (subst IsSome (sym (side_is net t p order is state tick f rest a.0 sized.0 a.1 sized.1)) (valued a.0 sized.0 a.1 sized.1))
 
   pub tree_settled : VSettled (in_parts net t p order) state tick f
   tree_settled = record {
     rest = rest;
-    values = λ a w m n.
-        subst (λ (xs : List Sized). IsSome (rhs_value xs f w a.rhs)) (sym (nets_sized net t p order is))
-        (valued a w m (subst (λ (xs : List Sized). In xs (a.target, w)) (nets_sized net t p order is) n));
+    values = process_valued;
   }

@@ -15,7 +15,7 @@ use Rattle.fir_net.specs.working.IsWritable.{IsWritableRole}
 use Rattle.fir_net_names.specs.working.LeafNamed.{somes, with_some}
 use Rattle.ver_ast.specs.declared.tree.Net.{Net}
 use Rattle.ver_ast.specs.declared.tree.Port.{Port}
-use Rattle.ver_ast.specs.Nets.{Sized, port_net, port_clock, input_net, output_net, item_net, inputs, outputs, clocks, port_nets, wires, regs, nets, assigns, blocks, names_of}
+use Rattle.ver_ast.specs.Nets.{SizedNet, plain_block, port_net, input_net, output_net, input_clock, output_clock, output_clocks, item_net, item_assign, input_nets, output_nets, clocks, port_nets, wires, regs, nets, arrays, assigns, blocks, names_of}
 use Rattle.ver_build.specs.declared.places.Places.{Places}
 use Rattle.ver_build.specs.declared.right_sides.Inner.{Inner}
 use Rattle.ver_build.specs.working.Built.{inners, leaf_port, port_of, leaf_reg, role_reg, inner_wire}
@@ -23,17 +23,17 @@ use Rattle.ver_build.specs.Ports.{port_names}
 use Rattle.ver_build.proofs.Names.{NameList, Each, zipped, map_zipped, flat_zipped}
 use Rattle.ver_build.proofs.Premises.{Premises, LeafNamed, RoleNamed, role_named, leaves_named, Known, leaves_known}
 use Rattle.ver_build.proofs.Parts.{registers_of, wires_of, assigns_of, blocks_of, in_parts}
-use Rattle.ver_build.proofs.ItemLists.{net_sized, registers_among, wires_among, nets_among, assigns_among, blocks_among}
+use Rattle.ver_build.proofs.ItemLists.{net_sized, registers_among, wires_among, nets_among, assigns_among, arrays_among, blocks_among}
 use Rattle.ver_build.proofs.LeafKinds.{is_input, is_clock_input, is_output, is_register, is_signal, is_net, name_if, sized_if, picked, picked_sized, picked_names, no_size, no_name, ports_then_inside}
 
-abbrev pub inner_sized : Inner → Sized
+abbrev pub inner_sized : Inner → SizedNet
 inner_sized i = (i.name, i.width)
 
 abbrev pub inner_name : Inner → List ℕ
 inner_name i = i.name
 
 -- the nets of the tree
-abbrev pub sizes : FlatNet → NameTable → Places → List Read → List Sized
+abbrev pub sizes : FlatNet → NameTable → Places → List Read → List SizedNet
 sizes net t p order = picked_sized is_net t.leaves net.leaves ++ map inner_sized (inners net p order)
 
 -- a port that the tree has
@@ -66,7 +66,7 @@ output_part role.Clock w name = refl
 output_part (role.Output r) w name = refl
 output_part _ w name = refl
 
-clock_part : (r : Role) (w : ℕ) (name : List ℕ) → flat_map port_clock (port_of r w name) ≡ name_if (is_clock_input r) (Some name)
+clock_part : (r : Role) (w : ℕ) (name : List ℕ) → flat_map (λ p. input_clock p.direction p) (port_of r w name) ≡ name_if (is_clock_input r) (Some name)
 clock_part role.Input w name = refl
 clock_part role.Clock w name = refl
 clock_part (role.Output r) w name = refl
@@ -78,9 +78,28 @@ name_part role.Clock w name = refl
 name_part (role.Output r) w name = refl
 name_part _ w name = refl
 
-clocked : (l : Leaf) (n : Option (List ℕ)) → flat_map port_clock (leaf_port l n) ≡ name_if (is_clock_input l.role) n
+clocked : (l : Leaf) (n : Option (List ℕ)) → flat_map (λ p. input_clock p.direction p) (leaf_port l n) ≡ name_if (is_clock_input l.role) n
 clocked l None = sym (no_name (is_clock_input l.role))
 clocked l (Some name) = clock_part l.role l.width name
+
+output_part_clock : (r : Role) (w : ℕ) (name : List ℕ) → flat_map (λ p. output_clock p.direction p) (port_of r w name) ≡ []
+output_part_clock role.Input w name = refl
+output_part_clock role.Clock w name = refl
+output_part_clock (role.Output r) w name = refl
+output_part_clock _ w name = refl
+
+no_clock_output : (l : Leaf) (n : Option (List ℕ)) → flat_map (λ p. output_clock p.direction p) (leaf_port l n) ≡ []
+no_clock_output l None = refl
+no_clock_output l (Some name) = output_part_clock l.role l.width name
+
+abbrev no_names : Leaf → Option (List ℕ) → List (List ℕ)
+no_names l n = []
+
+none_zipped : (names : NameList) (ls : List Leaf) → zipped no_names names ls ≡ []
+unfolding zipped
+none_zipped [] xs = refl
+none_zipped (n ∷ names) [] = refl
+none_zipped (n ∷ names) (x ∷ xs) = none_zipped names xs
 
 named : (l : Leaf) (n : Option (List ℕ)) → map (λ (p : Port). p.name) (leaf_port l n) ≡ name_if (is_drawn l.role) n
 named l None = sym (no_name (is_drawn l.role))
@@ -135,7 +154,7 @@ inside_name (role.ClockWire c) w (Some name) h e = absurd (cc)
 inside_name _ w n h e = absurd (cc)
 
 module _ (net : FlatNet) (t : NameTable) (p : Places) (order : List Read) where
-  sized_ports : (q : Role → Bool) (f : Port → List Sized)
+  sized_ports : (q : Role → Bool) (f : Port → List SizedNet)
       → ((r : Role) (w : ℕ) (name : List ℕ) → flat_map f (port_of r w name) ≡ sized_if (q r) w (Some name))
       → flat_map f (in_parts net t p order).ports ≡ picked_sized q t.leaves net.leaves
   sized_ports q f e = flat_zipped f leaf_port (λ l n. sized_if (q l.role) l.width n) part t.leaves net.leaves
@@ -147,14 +166,19 @@ module _ (net : FlatNet) (t : NameTable) (p : Places) (order : List Read) where
   pub signals_sized : port_nets (in_parts net t p order) ≡ picked_sized is_signal t.leaves net.leaves
   signals_sized = sized_ports is_signal port_net signal_part
 
-  pub inputs_sized : inputs (in_parts net t p order) ≡ picked_sized is_input t.leaves net.leaves
+  pub inputs_sized : input_nets (in_parts net t p order) ≡ picked_sized is_input t.leaves net.leaves
   inputs_sized = sized_ports is_input (λ p. input_net p.direction p) input_part
 
-  pub outputs_sized : outputs (in_parts net t p order) ≡ picked_sized is_output t.leaves net.leaves
+  pub outputs_sized : output_nets (in_parts net t p order) ≡ picked_sized is_output t.leaves net.leaves
   outputs_sized = sized_ports is_output (λ p. output_net p.direction p) output_part
 
   pub clocks_are : clocks (in_parts net t p order) ≡ picked is_clock_input t.leaves net.leaves
-  clocks_are = flat_zipped port_clock leaf_port (λ l n. name_if (is_clock_input l.role) n) clocked t.leaves net.leaves
+  clocks_are = flat_zipped (λ (p : Port). input_clock p.direction p) leaf_port (λ l n. name_if (is_clock_input l.role) n) clocked t.leaves net.leaves
+
+  -- no port is a clock output
+  pub no_output_clocks : output_clocks (in_parts net t p order) ≡ []
+  no_output_clocks =
+      flat_zipped (λ (p : Port). output_clock p.direction p) leaf_port no_names no_clock_output t.leaves net.leaves ∙ none_zipped t.leaves net.leaves
 
   port_names_are : port_names (in_parts net t p order) ≡ picked is_drawn t.leaves net.leaves
   port_names_are = map_zipped (λ (p : Port). p.name) leaf_port (λ l n. name_if (is_drawn l.role) n) named t.leaves net.leaves
@@ -170,16 +194,21 @@ module _ (net : FlatNet) (t : NameTable) (p : Places) (order : List Read) where
       ∙ map-map net_sized inner_wire (inners net p order)
 
   pub assigns_are : assigns (in_parts net t p order) ≡ assigns_of net t p order
-  assigns_are = assigns_among (registers_of net t p order) (wires_of net t p order) (assigns_of net t p order) (blocks_of net t p order)
+  assigns_are =
+      ap (λ (outs : List (List ℕ)). flat_map (item_assign outs) (in_parts net t p order).items) no_output_clocks
+      ∙ assigns_among (registers_of net t p order) (wires_of net t p order) (assigns_of net t p order) (blocks_of net t p order)
 
-  pub blocks_are : blocks (in_parts net t p order) ≡ blocks_of net t p order
+  pub no_arrays : arrays (in_parts net t p order) ≡ []
+  no_arrays = arrays_among (registers_of net t p order) (wires_of net t p order) (assigns_of net t p order) (blocks_of net t p order)
+
+  pub blocks_are : blocks (in_parts net t p order) ≡ map plain_block (blocks_of net t p order)
   blocks_are = blocks_among (registers_of net t p order) (wires_of net t p order) (assigns_of net t p order) (blocks_of net t p order)
 
   -- the names of the nets
   pub sizes_named : names_of (sizes net t p order) ≡ picked is_net t.leaves net.leaves ++ map inner_name (inners net p order)
   sizes_named =
-      map-append (λ (s : Sized). s.0) (picked_sized is_net t.leaves net.leaves) (map inner_sized (inners net p order))
-      ∙ rw (picked_names is_net t.leaves net.leaves, map-map (λ (s : Sized). s.0) inner_sized (inners net p order)) refl
+      map-append (λ (s : SizedNet). s.0) (picked_sized is_net t.leaves net.leaves) (map inner_sized (inners net p order))
+      ∙ rw (picked_names is_net t.leaves net.leaves, map-map (λ (s : SizedNet). s.0) inner_sized (inners net p order)) refl
 
   module _ (is : Premises net t p order) where
     nets_together : picked_sized is_signal t.leaves net.leaves ++ picked_sized is_register t.leaves net.leaves ≡ picked_sized is_net t.leaves net.leaves
@@ -213,7 +242,7 @@ module _ (net : FlatNet) (t : NameTable) (p : Places) (order : List Read) where
     pub nets_by_part : names_of (sizes net t p order) ≡ names_of (port_nets (in_parts net t p order)) ++
         (map (λ (n : Net). n.name) (registers_of net t p order) ++ map (λ (n : Net). n.name) (wires_of net t p order))
     nets_by_part =
-        let name = λ (s : Sized). s.0 in
+        let name = λ (s : SizedNet). s.0 in
         let rs = map net_sized (registers_of net t p order) in
         let ws = map net_sized (wires_of net t p order) in
         ap names_of (sym nets_sized)

@@ -20,18 +20,18 @@ use Rattle.fir_net.specs.working.Next.{taken, taken_with, ticks, next_by, next_w
 use Rattle.fir_net.specs.working.Settled.{value_at, is_clock, registers}
 use Rattle.fir_net.specs.working.Values.{at_width}
 use Rattle.ver_ast.specs.declared.tree.Always.{Always}
-use Rattle.ver_ast.specs.Nets.{Sized, regs, blocks}
+use Rattle.ver_ast.specs.Nets.{SizedNet, regs}
 use Rattle.ver_ast.specs.AtomValues.{atom_value}
-use Rattle.ver_ast.specs.Next.{written}
+use Rattle.ver_build.proofs.Written.{written}
 use Rattle.ver_build.specs.declared.places.Places.{Places}
 use Rattle.ver_build.specs.working.Operands.{atom_at}
 use Rattle.ver_build.specs.working.Places.{name_at, held_of, clock_in}
 use Rattle.ver_build.specs.working.Built.{along, block_on, role_block, leaf_block}
 use Rattle.ver_build.proofs.Names.{along_zipped, each_at}
 use Rattle.ver_build.proofs.Premises.{Premises, LeafNamed, leaves_named}
-use Rattle.ver_build.proofs.Parts.{in_parts}
+use Rattle.ver_build.proofs.Parts.{blocks_of, in_parts}
 use Rattle.ver_build.proofs.LeafKinds.{is_register}
-use Rattle.ver_build.proofs.Nets.{sizes, blocks_are}
+use Rattle.ver_build.proofs.Nets.{sizes}
 use Rattle.ver_build.proofs.Sizes.{named_bits}
 use Rattle.ver_build.proofs.NamePlaces.{same_place}
 use Rattle.ver_build.proofs.Written.{OnlyGives, written_by}
@@ -60,7 +60,7 @@ module _ (net : FlatNet) (t : NameTable) (p : Places) (order : List Read) (is : 
     (agrees : AgreesLeaves net t e clock f)
     (clocks : (k : ℕ) (l : Leaf) → slice_get net.leaves k ≡ Some l → is_clock l.role ≡ true → clock k ≡ shown_clock t f (clock_in p.leaves k))
     (right : (r : Read) → CanRead net.leaves net.nodes r → (w : ℕ) → 1 ≤ w → w ≤ 128 → atom_value (sizes net t p order) f (atom_at w (held_of p r)) ≡ at_width (value_at net e r) w) (named : List ℕ) where
-  abbrev ns : List Sized
+  abbrev ns : List SizedNet
   ns = sizes net t p order
 
   -- what a block gives, where its clock ends there
@@ -96,12 +96,12 @@ module _ (net : FlatNet) (t : NameTable) (p : Places) (order : List Read) (is : 
     };
   }
 
-  blocks_along : blocks (in_parts net t p order) ≡ along (leaf_block t p) t.leaves 0 net.leaves
-  blocks_along = blocks_are net t p order ∙ sym (along_zipped LeafNamed (leaf_block t p) t.leaves net.leaves (leaves_named net t is.table))
+  blocks_along : blocks_of net t p order ≡ along (leaf_block t p) t.leaves 0 net.leaves
+  blocks_along = sym (along_zipped LeafNamed (leaf_block t p) t.leaves net.leaves (leaves_named net t is.table))
 
   -- each register that has a name has its next value there
   next_value : (k : ℕ) (l : Leaf) (n : List ℕ) → slice_get net.leaves k ≡ Some l → is_register l.role ≡ true → name_at t.leaves k ≡ Some n
-      → written ns f named (blocks (in_parts net t p order)) n ≡ next_word net e clock named k
+      → written ns f named (blocks_of net t p order) n ≡ next_word net e clock named k
   next_value k l n at kind name =
       let leaf = leaf_at net t p order is k l at in
       let here = written_by ns f named n (leaf_block t p) t.leaves net.leaves k l at (only k n name) in
@@ -111,8 +111,8 @@ module _ (net : FlatNet) (t : NameTable) (p : Places) (order : List Read) (is : 
       (named_bits l (rw name at (each_at LeafNamed t.leaves net.leaves (leaves_named net t is.table) k l at))) leaf.narrow
       (agrees.value k l n at (plain_register l.role kind) name))
 
-  pub states_same : map (λ (r : Sized). written ns f named (blocks (in_parts net t p order)) r.0) (regs (in_parts net t p order)) ≡ map
+  pub states_same : map (λ (r : SizedNet). written ns f named (blocks_of net t p order) r.0) (regs (in_parts net t p order)) ≡ map
       (next_word net e clock named) (registers net)
   states_same =
-      sym (map-map (λ (n : List ℕ). written ns f named (blocks (in_parts net t p order)) n) (λ (r : Sized). r.0) (regs (in_parts net t p order)))
-      ∙ registers_same net t p order is (next_word net e clock named) (λ n. written ns f named (blocks (in_parts net t p order)) n) next_value
+      sym (map-map (λ (n : List ℕ). written ns f named (blocks_of net t p order) n) (λ (r : SizedNet). r.0) (regs (in_parts net t p order)))
+      ∙ registers_same net t p order is (next_word net e clock named) (λ n. written ns f named (blocks_of net t p order) n) next_value

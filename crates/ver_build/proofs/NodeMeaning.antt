@@ -17,7 +17,7 @@ use Rattle.fir_bits.specs.declared.values.Num.{Num}
 use Rattle.fir_net.specs.working.Values.{at_width, chosen}
 use Rattle.fir_net.specs.working.IsNet.{IsChoice}
 use Rattle.ver_ast.specs.Atoms.{net}
-use Rattle.ver_ast.specs.Nets.{Sized}
+use Rattle.ver_ast.specs.Nets.{SizedNet}
 use Rattle.ver_build.specs.declared.held.Held.{Held}
 use Rattle.ver_build.specs.declared.right_sides.Inner.{Inner}
 use Rattle.ver_build.specs.working.Held.{whole_net}
@@ -76,7 +76,7 @@ division_reads known a b is_a is_b o r helpers name =
     )
 
 -- an operation with one net, at the width of its type
-one_at : (nets : List Sized) (env : Env) (o : PrimOp) (a b : Held) (n m : ℕ) (t : NumTy) → (IsOfKind o division → ⊥) → IsTyped o a b n m t → 1 ≤ t.width
+one_at : (nets : List SizedNet) (env : Env) (o : PrimOp) (a b : Held) (n m : ℕ) (t : NumTy) → (IsOfKind o division → ⊥) → IsTyped o a b n m t → 1 ≤ t.width
     → Stands nets a → Stands nets b → FitsSource env a.source → FitsSource env b.source
     → Means nets env t.width (operation_value o t.width (held_as env a) (held_as env b) n m) (one_rhs o t.width a b n m)
 one_at nets env o a b n m t h is some is_a is_b below_a below_b =
@@ -121,7 +121,7 @@ module _ (o : PrimOp) (ks : List ℕ) (hs : List Held) (helpers : List (List ℕ
       (λ h. division_reads known a b known_a known_b o r helpers name)
       (λ h. (side_names known (one_rhs o r a b n m) (one_known known r a b n m known_a known_b o), tt))
 
-  pub operation_sound : (nets : List Sized) (ts : List NumTy) (t : NumTy) → typed o ts ks ≡ Ok t → 1 ≤ t.width → AllStand nets hs ts
+  pub operation_sound : (nets : List SizedNet) (ts : List NumTy) (t : NumTy) → typed o ts ks ≡ Ok t → 1 ≤ t.width → AllStand nets hs ts
       → DeclaresInners nets (operation_nets t.width) → AllByRecursion (IsSoundInner nets) (operation_nets t.width)
   operation_sound nets ts t is some stand =
       let a = first_held hs in
@@ -137,7 +137,7 @@ module _ (o : PrimOp) (ks : List ℕ) (hs : List Held) (helpers : List (List ℕ
       let means = one_at nets zero_env o a b n m t h rule some there_a there_b (zero_fits a.source) (zero_fits b.source) in
       (record { side = means.sound; some = some; narrow = rule.narrow }, tt))
 
-  pub operation_means : (nets : List Sized) (env : Env) (vs : List Num) (t : NumTy) → typed o (map type_of vs) ks ≡ Ok t → 1 ≤ t.width
+  pub operation_means : (nets : List SizedNet) (env : Env) (vs : List Num) (t : NumTy) → typed o (map type_of vs) ks ≡ Ok t → 1 ≤ t.width
       → AllHold nets env hs vs → DeclaresInners nets (operation_nets t.width) → FitsInners env (operation_nets t.width)
       → RestInners nets env (operation_nets t.width)
       → HaveValues nets env (operation_nets t.width) × (env name ≡ (applied o vs ks).number)
@@ -170,7 +170,7 @@ module _ (o : PrimOp) (ks : List ℕ) (hs : List Held) (helpers : List (List ℕ
       )
 
 -- a choice between two values, from values or types one after the other
-choice_mean : (nets : List Sized) (env : Env) (hs : List Held) (vs : List Num) (t : NumTy) → IsChoice t (map type_of vs) → 1 ≤ t.width
+choice_mean : (nets : List SizedNet) (env : Env) (hs : List Held) (vs : List Num) (t : NumTy) → IsChoice t (map type_of vs) → 1 ≤ t.width
     → AllHold nets env hs vs
     → Means nets env t.width (chosen t vs).value.number (mux_rhs t.width hs) × (t.width ≤ 128)
 choice_mean nets env (h ∷ k ∷ l ∷ []) (c ∷ a ∷ b ∷ []) t rule some hold =
@@ -209,14 +209,14 @@ module _ (hs : List Held) (name : List ℕ) where
     tt,
   )
 
-  pub choice_sound : (nets : List Sized) (ts : List NumTy) (t : NumTy) → IsChoice t ts → 1 ≤ t.width → AllStand nets hs ts
+  pub choice_sound : (nets : List SizedNet) (ts : List NumTy) (t : NumTy) → IsChoice t ts → 1 ≤ t.width → AllStand nets hs ts
       → AllByRecursion (IsSoundInner nets) (choice_nets t.width)
   choice_sound nets ts t is some stand =
       let there = all_hold nets hs ts stand in
       let means = choice_mean nets zero_env hs (map (held_as zero_env) hs) t (subst (IsChoice t) (sym there.1) is) some there.0 in
       (record { side = means.0.sound; some = some; narrow = means.1 }, tt)
 
-  pub choice_means : (nets : List Sized) (env : Env) (vs : List Num) (t : NumTy) → IsChoice t (map type_of vs) → 1 ≤ t.width
+  pub choice_means : (nets : List SizedNet) (env : Env) (vs : List Num) (t : NumTy) → IsChoice t (map type_of vs) → 1 ≤ t.width
       → AllHold nets env hs vs → RestInners nets env (choice_nets t.width)
       → HaveValues nets env (choice_nets t.width) × (env name ≡ (chosen t vs).value.number)
   choice_means nets env vs t is some hold rest =

@@ -25,8 +25,8 @@ use Rattle.fir_net.specs.working.Dependence.{support_of, IsOf, Reads}
 use Rattle.fir_net.specs.working.IsNet.{node_type, read_type, CanRead, IsNode, IsChoice}
 use Rattle.fir_net.specs.working.Laws.{LeavesFit}
 use Rattle.ver_ast.specs.declared.tree.Assign.{Assign}
-use Rattle.ver_ast.specs.Nets.{Sized, assigns}
-use Rattle.ver_ast.specs.SideValues.{rhs_value}
+use Rattle.ver_ast.specs.Nets.{SizedNet, assigns}
+use Rattle.ver_build.proofs.SideValues.{side_value}
 use Rattle.ver_ast.specs.Settled.{Rest}
 use Rattle.ver_build.specs.declared.held.Source.{Source}
 use Rattle.ver_build.specs.declared.held.Source.TheVariants as source
@@ -47,6 +47,7 @@ use Rattle.ver_build.proofs.Sizes.{inner_among, inners_among, node_declared, own
 use Rattle.ver_build.proofs.ReadsStand.{whole_at, node_narrow, leaf_type_at, node_type_at, read_of, read_stands}
 use Rattle.ver_build.proofs.Fitting.{part_among, support_can}
 use Rattle.ver_build.proofs.Assigns.{inner_assign_in}
+use Rattle.ver_build.proofs.Resting.{assign_equation}
 
 -- the values by number
 abbrev pub leaf_values : Places → Env → ℕ → ℕ
@@ -57,7 +58,7 @@ nothing n w below none = let h : n < 2 ^ 0 = subst (λ (x : ℕ). n < 2 ^ x) non
 
 module _ (net : FlatNet) (t : NameTable) (p : Places) (order : List Read) (is : Premises net t p order) (state : List ℕ) (tick : Tick) (f : Env)
     (rest : Rest (in_parts net t p order) state tick f) where
-  abbrev ns : List Sized
+  abbrev ns : List SizedNet
   ns = sizes net t p order
 
   abbrev e : ℕ → ℕ
@@ -67,13 +68,11 @@ module _ (net : FlatNet) (t : NameTable) (p : Places) (order : List Read) (is : 
   value r = value_at net (leaf_values p f) r
 
   pub nets_below : (n : List ℕ) (w : ℕ) → In (sizes net t p order) (n, w) → f n < 2 ^ w
-  nets_below n w m = rest.fits n w (subst (λ (xs : List Sized). In xs (n, w)) (sym (nets_sized net t p order is)) m)
+  nets_below n w m = rest.fits n w (subst (λ (xs : List SizedNet). In xs (n, w)) (sym (nets_sized net t p order is)) m)
 
   pub equation : (a : Assign) (w : ℕ) → In (assigns (in_parts net t p order)) a → In (sizes net t p order) (a.target, w)
-      → f a.target ≡ unwrap_or (rhs_value (sizes net t p order) f w a.rhs) 0
-  equation a w m n =
-      subst (λ (xs : List Sized). f a.target ≡ unwrap_or (rhs_value xs f w a.rhs) 0) (nets_sized net t p order is)
-      (rest.equations a w m (subst (λ (xs : List Sized). In xs (a.target, w)) (sym (nets_sized net t p order is)) n))
+      → f a.target ≡ unwrap_or (side_value (sizes net t p order) f w a.rhs) 0
+  equation a w m n = assign_equation net t p order is state tick f rest a w m n
 
   source_fits : (w : ℕ) (s : Source) → IsSource ns w s → FitsSource f s
   source_fits w (source.Number n) stands = tt
@@ -149,7 +148,7 @@ module _ (net : FlatNet) (t : NameTable) (p : Places) (order : List Read) (is : 
 
     node_rests : RestInners ns f xs
     node_rests =
-        all_from (λ (i : Inner). f i.name ≡ unwrap_or (rhs_value ns f i.width i.rhs) 0) xs
+        all_from (λ (i : Inner). f i.name ≡ unwrap_or (side_value ns f i.width i.rhs) 0) xs
         (λ i m. equation (inner_assign i) i.width (inner_assign_in net t p order i (inners_among net t p order is k n h at i m)) (among i m))
 
     pub node_means : AllByRecursion There (support_of n) → HaveValues ns f xs × (f h.name ≡ (node_value net.leaves e (values net e) n).value.number)

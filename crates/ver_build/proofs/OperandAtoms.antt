@@ -8,7 +8,7 @@ use Rattle.fir_bits.specs.Operators.{flag}
 use Rattle.fir_bits.specs.declared.values.Num.{Num}
 use Rattle.fir_net.specs.working.Values.{at_width}
 use Rattle.ver_ast.specs.Atoms.{AtomTree, net, constant, bit_select, part_select, repeat, atoms_of}
-use Rattle.ver_ast.specs.Nets.{Sized, width_in}
+use Rattle.ver_ast.specs.Nets.{SizedNet, width_among}
 use Rattle.ver_ast.specs.AtomWidths.{atom_width, joined_width}
 use Rattle.ver_ast.specs.AtomValues.{copies, atom_value, joined_value}
 use Rattle.ver_ast.specs.SoundSides.{IsSound, AreSound, atom_depth, joined_depth, HasWidth}
@@ -23,7 +23,7 @@ use Rattle.ver_build.proofs.Fields.{wide, fill, fill-none, fill-one, copies-flag
 use Rattle.ver_build.proofs.Standing.{IsPart, IsSource, Stands, FitsSource, Holds}
 use Rattle.ver_build.proofs.Fitted.{zero_env, zero_fits, held_below, held_as, holds_itself, fit_holds}
 
-module _ (nets : List Sized) (env : Env) where
+module _ (nets : List SizedNet) (env : Env) where
   -- an operand of w bits with that value
   pub record Gives (w n : ℕ) (a : AtomTree) : Type 0 where
     pub fits : HasWidth nets w a
@@ -103,14 +103,14 @@ module _ (nets : List Sized) (env : Env) where
   pub constant_gives : (w n : ℕ) → 1 ≤ w → w ≤ 128 → n < 2 ^ w → Gives w n (constant w n)
   constant_gives w n some narrow below = side_gives w n (constant w n ∷ []) some narrow (constant_bits w n some narrow below)
 
-  pub net_gives : (name : List ℕ) (w : ℕ) → 1 ≤ w → width_in nets name ≡ w → Gives w (env name) (net name)
+  pub net_gives : (name : List ℕ) (w : ℕ) → 1 ≤ w → width_among nets name ≡ w → Gives w (env name) (net name)
   net_gives name w some declared = record {
     fits = record { operand = record { sound = omega arith; shallow = omega arith }; wide = declared };
     value = refl;
   }
 
   -- a select within a net of more bits than one
-  selected_bits : (v : ℕ) (name : List ℕ) (hi lo : ℕ) → width_in nets name ≡ v → 2 ≤ v → lo ≤ hi → hi < v
+  selected_bits : (v : ℕ) (name : List ℕ) (hi lo : ℕ) → width_among nets name ≡ v → 2 ≤ v → lo ≤ hi → hi < v
       → AreBits (hi + 1 - lo) (env name / 2 ^ lo % 2 ^ (hi + 1 - lo)) (selected name hi lo ∷ [])
   selected_bits v name hi lo declared two low high =
       if_equal (λ a. AreBits (hi + 1 - lo) (env name / 2 ^ lo % 2 ^ (hi + 1 - lo)) (a ∷ [])) hi lo (bit_select name lo) (part_select name hi lo)
@@ -120,7 +120,7 @@ module _ (nets : List Sized) (env : Env) where
       one_part (hi + 1 - lo) (env name / 2 ^ lo % 2 ^ (hi + 1 - lo)) (part_select name hi lo) (omega arith, low, omega arith) (omega arith) refl refl)
 
   -- the low bits of a whole net
-  all_bits : (name : List ℕ) (own : ℕ) → width_in nets name ≡ own → 1 ≤ own → env name < 2 ^ own → AreBits own (env name % 2 ^ own) (net name ∷ [])
+  all_bits : (name : List ℕ) (own : ℕ) → width_among nets name ≡ own → 1 ≤ own → env name < 2 ^ own → AreBits own (env name % 2 ^ own) (net name ∷ [])
   all_bits name own declared some below =
       one_part own (env name % 2 ^ own) (net name) (omega arith) (omega arith) declared (sym (wide (env name) own own below (omega arith)))
 
@@ -218,11 +218,11 @@ module _ (nets : List Sized) (env : Env) where
   amount_gives h v is = let narrow = is.standing.stands.narrow in atom_gives (max 1 h.width) h v is (omega arith) (omega arith)
 
 -- a value that stands gives an operand, whatever the nets have
-pub atom_fits : (nets : List Sized) (w : ℕ) (h : Held) → Stands nets h → 1 ≤ w → w ≤ 128 → HasWidth nets w (atom_at w h)
+pub atom_fits : (nets : List SizedNet) (w : ℕ) (h : Held) → Stands nets h → 1 ≤ w → w ≤ 128 → HasWidth nets w (atom_at w h)
 atom_fits nets w h is some narrow =
     let there = holds_itself nets zero_env h is (zero_fits h.source) in
     (atom_gives nets zero_env w h (held_as zero_env h) there some narrow).fits
 
-pub atom_means : (nets : List Sized) (env : Env) (w : ℕ) (h : Held) (v : Num) → Holds nets env h v → 1 ≤ w → w ≤ 128
+pub atom_means : (nets : List SizedNet) (env : Env) (w : ℕ) (h : Held) (v : Num) → Holds nets env h v → 1 ≤ w → w ≤ 128
     → atom_value nets env (atom_at w h) ≡ at_width v w
 atom_means nets env w h v is some narrow = (atom_gives nets env w h v is some narrow).value

@@ -17,39 +17,39 @@ use Rattle.fir_bits.specs.declared.operators.Form.TheVariants as form
 use Rattle.fir_bits.specs.declared.types.NumTy.{NumTy}
 use Rattle.fir_bits.specs.declared.types.OpFault.TheVariants.{Kinds, Over, Legality}
 use Rattle.fir_bits.specs.declared.values.Num.{Num}
-use Rattle.ver_ast.specs.Nets.{Sized}
+use Rattle.ver_ast.specs.Nets.{SizedNet}
 use Rattle.ver_build.specs.declared.held.Held.{Held}
 use Rattle.ver_build.specs.working.Texts.{first_held, second_held, third_held}
 use Rattle.ver_build.proofs.Standing.{StandsAs, Holds, AllStand, AllHold, IsKnown}
 use Rattle.ver_build.proofs.Fitted.{none_stands, none_holds, zero_env, zero_fits, held_as, holds_itself}
 use Rattle.ver_build.proofs.OperationSides.{HasKinds}
 
-pub first_stands : (nets : List Sized) (hs : List Held) (ts : List NumTy) → AllStand nets hs ts → StandsAs nets (first_held hs) (first_type ts)
+pub first_stands : (nets : List SizedNet) (hs : List Held) (ts : List NumTy) → AllStand nets hs ts → StandsAs nets (first_held hs) (first_type ts)
 first_stands nets [] [] is = record { stands = none_stands nets; signed = refl; width = refl }
 first_stands nets (h ∷ hs) (t ∷ ts) is = is.0
 first_stands nets [] (t ∷ ts) is = absurd is
 first_stands nets (h ∷ hs) [] is = absurd is
 
-pub second_stands : (nets : List Sized) (hs : List Held) (ts : List NumTy) → AllStand nets hs ts → StandsAs nets (second_held hs) (second_type ts)
+pub second_stands : (nets : List SizedNet) (hs : List Held) (ts : List NumTy) → AllStand nets hs ts → StandsAs nets (second_held hs) (second_type ts)
 second_stands nets [] [] is = record { stands = none_stands nets; signed = refl; width = refl }
 second_stands nets (h ∷ hs) (t ∷ ts) is = first_stands nets hs ts is.1
 second_stands nets [] (t ∷ ts) is = absurd is
 second_stands nets (h ∷ hs) [] is = absurd is
 
-pub all_stand : (nets : List Sized) (env : Env) (hs : List Held) (vs : List Num) → AllHold nets env hs vs → AllStand nets hs (map type_of vs)
+pub all_stand : (nets : List SizedNet) (env : Env) (hs : List Held) (vs : List Num) → AllHold nets env hs vs → AllStand nets hs (map type_of vs)
 all_stand nets env [] [] is = tt
 all_stand nets env (h ∷ hs) (v ∷ vs) is = (is.0.standing, all_stand nets env hs vs is.1)
 all_stand nets env [] (v ∷ vs) is = absurd is
 all_stand nets env (h ∷ hs) [] is = absurd is
 
-pub first_holds : (nets : List Sized) (env : Env) (hs : List Held) (vs : List Num) → AllHold nets env hs vs
+pub first_holds : (nets : List SizedNet) (env : Env) (hs : List Held) (vs : List Num) → AllHold nets env hs vs
     → Holds nets env (first_held hs) (first_operand vs)
 first_holds nets env [] [] is = none_holds nets env
 first_holds nets env (h ∷ hs) (v ∷ vs) is = is.0
 first_holds nets env [] (v ∷ vs) is = absurd is
 first_holds nets env (h ∷ hs) [] is = absurd is
 
-pub second_holds : (nets : List Sized) (env : Env) (hs : List Held) (vs : List Num) → AllHold nets env hs vs
+pub second_holds : (nets : List SizedNet) (env : Env) (hs : List Held) (vs : List Num) → AllHold nets env hs vs
     → Holds nets env (second_held hs) (second_operand vs)
 second_holds nets env [] [] is = none_holds nets env
 second_holds nets env (h ∷ hs) (v ∷ vs) is = first_holds nets env hs vs is.1
@@ -69,7 +69,7 @@ third_known known [] is = tt
 third_known known (h ∷ hs) is = second_known known hs is.1
 
 -- values that stand hold numbers of their types, where each net is 0
-pub all_hold : (nets : List Sized) (hs : List Held) (ts : List NumTy) → AllStand nets hs ts
+pub all_hold : (nets : List SizedNet) (hs : List Held) (ts : List NumTy) → AllStand nets hs ts
     → AllHold nets zero_env hs (map (held_as zero_env) hs) × (map type_of (map (held_as zero_env) hs) ≡ ts)
 all_hold nets [] [] is = (tt, refl)
 all_hold nets (h ∷ hs) (t ∷ ts) is =
@@ -114,7 +114,7 @@ kinds_are form.Pair ts e = same_kinds (first_type ts).signed (second_type ts).si
 kinds_are form.Shift ts e = not-true (second_type ts).signed e
 kinds_are _ ts e = tt
 
-pub typed_as : (nets : List Sized) (o : PrimOp) (hs : List Held) (ts : List NumTy) (ks : List ℕ) (t : NumTy) → typed o ts ks ≡ Ok t
+pub typed_as : (nets : List SizedNet) (o : PrimOp) (hs : List Held) (ts : List NumTy) (ks : List ℕ) (t : NumTy) → typed o ts ks ≡ Ok t
     → AllStand nets hs ts
     → IsTyped o (first_held hs) (second_held hs) (slice_index ks 0) (slice_index ks 1) t
 typed_as nets o hs ts ks t is stand =

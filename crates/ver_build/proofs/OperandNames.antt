@@ -17,7 +17,7 @@ use Rattle.ver_ast.specs.declared.tree.BinaryOp.TheVariants as binary
 use Rattle.ver_ast.specs.declared.tree.SignedOp.{SignedOp}
 use Rattle.ver_ast.specs.declared.tree.SignedOp.TheVariants as signed
 use Rattle.ver_ast.specs.Atoms.{AtomTree, net, constant, bit_select, part_select, repeat, atoms_of}
-use Rattle.ver_ast.specs.Spells.{atom_names, joined_names, rhs_atoms, rhs_names}
+use Rattle.ver_ast.specs.Names.{atom_names, joined_names, rhs_atoms, rhs_names}
 use Rattle.ver_build.specs.declared.held.Part.{Part}
 use Rattle.ver_build.specs.declared.held.Source.{Source}
 use Rattle.ver_build.specs.declared.held.Source.TheVariants as source

@@ -21,7 +21,7 @@ use Rattle.ver_ast.specs.declared.tree.Rhs.TheVariants as rhs
 use Rattle.ver_ast.specs.declared.tree.UnaryOp.TheVariants as unary
 use Rattle.ver_ast.specs.declared.tree.BinaryOp.TheVariants as binary
 use Rattle.ver_ast.specs.Atoms.{constant}
-use Rattle.ver_ast.specs.Nets.{Sized}
+use Rattle.ver_ast.specs.Nets.{SizedNet}
 use Rattle.ver_ast.specs.SideValues.{binary_value}
 use Rattle.ver_ast.specs.SoundSides as sides
 use Rattle.ver_ast.specs.SoundSides.{IsSoundSide, KeepsRule, KeepsUnary, binary_rule, signed_rule}
@@ -50,7 +50,7 @@ order_between o is_leq false r w x y = refl
 order_between o is_gt false r w x y = refl
 order_between o is_geq false r w x y = refl
 
-module _ (nets : List Sized) (env : Env) (a b : Held) (is_a : Stands nets a) (is_b : Stands nets b) (below_a : FitsSource env a.source)
+module _ (nets : List SizedNet) (env : Env) (a b : Held) (is_a : Stands nets a) (is_b : Stands nets b) (below_a : FitsSource env a.source)
     (below_b : FitsSource env b.source) (n m : ℕ) where
   abbrev A : Num
   A = held_as env a

@@ -19,7 +19,8 @@ use Rattle.fir_net.specs.declared.node.Node.{Node}
 use Rattle.fir_net.specs.working.Dependence.{Reads, IsOf, support_of}
 use Rattle.fir_net.specs.working.IsNet.{IsRole, IsLeaf}
 use Rattle.ver_ast.specs.declared.tree.Assign.{Assign}
-use Rattle.ver_ast.specs.Spells.{atom_names}
+use Rattle.ver_ast.specs.Names.{atom_names}
+use Rattle.ver_ast.specs.Processes.{assigning}
 use Rattle.ver_ast.specs.Valid.{ReadsBefore}
 use Rattle.ver_build.specs.declared.held.Held.{Held}
 use Rattle.ver_build.specs.declared.places.Places.{Places}
@@ -38,6 +39,10 @@ use Rattle.ver_build.proofs.OperandNames.{fit_known, atom_known}
 use Rattle.ver_build.proofs.NodeNets.{IsLiteral, IsEmpty, IsNetted, node_view, given_inners, no_inners, empty_inners, netted_inners}
 use Rattle.ver_build.proofs.ReadsStand.{leaf_read, read_of}
 use Rattle.ver_build.proofs.Fitting.{node_reads}
+
+-- each assign reads only what is known before it
+abbrev pub AssignsBefore : List (List ℕ) → List Assign → Type 0
+AssignsBefore known xs = ReadsBefore known (map assigning xs)
 
 more_held : (known more : List (List ℕ)) (h : Held) → ((x : List ℕ) → In known x → In more x) → IsKnown known h → IsKnown more h
 more_held known more h f m = each_more (source_name h.source) known more f m
@@ -114,8 +119,8 @@ module _ (net : FlatNet) (t : NameTable) (p : Places) (order : List Read) (is : 
 
   -- inner nets that read in turn, with what is behind them
   in_turn : (known : List (List ℕ)) (xs : List Inner) (more : List Assign) → ReadsInTurn known xs
-      → ((after : List (List ℕ)) → ((x : List ℕ) → In known x → In after x) → ((i : Inner) → In xs i → In after i.name) → ReadsBefore after more)
-      → ReadsBefore known (map inner_assign xs ++ more)
+      → ((after : List (List ℕ)) → ((x : List ℕ) → In known x → In after x) → ((i : Inner) → In xs i → In after i.name) → AssignsBefore after more)
+      → AssignsBefore known (map inner_assign xs ++ more)
   in_turn known [] more turn go = go known (λ x m. m) (λ i m. absurd m)
   in_turn known (i ∷ xs) more turn go = (
     turn.0,
@@ -128,8 +133,8 @@ module _ (net : FlatNet) (t : NameTable) (p : Places) (order : List Read) (is : 
   netted_after : (known : List (List ℕ)) (before : List Read) (k : ℕ) (n : Node) (more : List Assign) → slice_get net.nodes k ≡ Some n
       → (h : IsNetted p n (node_at p.nodes k)) → Knows known before
       → ((w : Read) → Reads net (read.Node k) w → IsKnown known (held_of p w))
-      → ((after : List (List ℕ)) → Knows after (before ++ read.Node k ∷ []) → ReadsBefore after more)
-      → ReadsBefore known (map inner_assign (given_inners p n (node_at p.nodes k)) ++ more)
+      → ((after : List (List ℕ)) → Knows after (before ++ read.Node k ∷ []) → AssignsBefore after more)
+      → AssignsBefore known (map inner_assign (given_inners p n (node_at p.nodes k)) ++ more)
   netted_after known before k n more at h knows below go =
       let here = node_at p.nodes k in
       rw (netted_inners p n here h)
@@ -140,8 +145,8 @@ module _ (net : FlatNet) (t : NameTable) (p : Places) (order : List Read) (is : 
   node_after : (known : List (List ℕ)) (before : List Read) (k : ℕ) (n : Node) (more : List Assign) → slice_get net.nodes k ≡ Some n
       → Knows known before
       → ((w : Read) → Reads net (read.Node k) w → IsKnown known (held_of p w))
-      → ((after : List (List ℕ)) → Knows after (before ++ read.Node k ∷ []) → ReadsBefore after more)
-      → ReadsBefore known (map inner_assign (given_inners p n (node_at p.nodes k)) ++ more)
+      → ((after : List (List ℕ)) → Knows after (before ++ read.Node k ∷ []) → AssignsBefore after more)
+      → AssignsBefore known (map inner_assign (given_inners p n (node_at p.nodes k)) ++ more)
   node_after known before k n more at knows below go =
       let here = node_at p.nodes k in
       ⊎_elim
@@ -153,10 +158,10 @@ module _ (net : FlatNet) (t : NameTable) (p : Places) (order : List Read) (is : 
       o)
       (node_view p n here (is.places.nodes.held.each k n at))
 
-  module _ (rest_of : List Assign) (last : (known : List (List ℕ)) → Knows known order → ReadsBefore known rest_of) where
+  module _ (rest_of : List Assign) (last : (known : List (List ℕ)) → Knows known order → AssignsBefore known rest_of) where
     entry_after : (known : List (List ℕ)) (before : List Read) (r : Read) (rest : List Read) (more : List Assign) → order ≡ before ++ r ∷ rest
-        → Knows known before → ((after : List (List ℕ)) → Knows after (before ++ r ∷ []) → ReadsBefore after more)
-        → ReadsBefore known (map inner_assign (read_inners net p r) ++ more)
+        → Knows known before → ((after : List (List ℕ)) → Knows after (before ++ r ∷ []) → AssignsBefore after more)
+        → AssignsBefore known (map inner_assign (read_inners net p r) ++ more)
     entry_after known before (read.Leaf k) rest more whole knows go =
         let l =
         there net.leaves k (is.ordered.only (length before) (read.Leaf k)
@@ -174,7 +179,7 @@ module _ (net : FlatNet) (t : NameTable) (p : Places) (order : List Read) (is : 
         rw n.1 (node_after known before k n.0 more n.1 knows below go)
 
     along : (before rest : List Read) (known : List (List ℕ)) → order ≡ before ++ rest → Knows known before
-        → ReadsBefore known (map inner_assign (flat_map (read_inners net p) rest) ++ rest_of)
+        → AssignsBefore known (map inner_assign (flat_map (read_inners net p) rest) ++ rest_of)
     along before [] known whole knows = last known (subst (Knows known) (sym (whole ∙ append-nil before)) knows)
     along before (r ∷ rest) known whole knows =
         let parts : map inner_assign (read_inners net p r ++ flat_map (read_inners net p) rest) ++ rest_of
@@ -189,8 +194,8 @@ module _ (net : FlatNet) (t : NameTable) (p : Places) (order : List Read) (is : 
   read_known known k r of = let i = is.ordered.all r of in k.passed i.0 r i.1
 
   role_after : (s : Bool) (r : Role) (w : ℕ) (m : Option (List ℕ)) (more : List Assign) (known : List (List ℕ)) → IsRole net.leaves net.nodes s w r
-      → Knows known order → ((after : List (List ℕ)) → Knows after order → ReadsBefore after more)
-      → ReadsBefore known (role_assign p r w m ++ more)
+      → Knows known order → ((after : List (List ℕ)) → Knows after order → AssignsBefore after more)
+      → AssignsBefore known (role_assign p r w m ++ more)
   role_after s (role.Output r) w None more known can k go = go known k
   role_after s (role.Output r) w (Some name) more known can k go = (
     each_joined (atom_names (atom_at w (held_of p r))) [] known (atom_known known w (held_of p r) (read_known known k r (read_of net r can.can))) tt,
@@ -199,14 +204,14 @@ module _ (net : FlatNet) (t : NameTable) (p : Places) (order : List Read) (is : 
   role_after s _ w m more known can k go = go known k
 
   leaves_after : (names : NameList) (ls : List Leaf) (known : List (List ℕ)) → AllByRecursion (IsLeaf net.leaves net.nodes) ls → Knows known order
-      → ReadsBefore known (zipped (leaf_assign p) names ls)
+      → AssignsBefore known (zipped (leaf_assign p) names ls)
   unfolding zipped
   leaves_after [] ls known are k = tt
   leaves_after (m ∷ names) [] known are k = tt
   leaves_after (m ∷ names) (l ∷ ls) known are k =
       role_after l.signed l.role l.width m (zipped (leaf_assign p) names ls) known are.0.driven k (λ after h. leaves_after names ls after are.1 h)
 
-  pub assigns_ordered : ReadsBefore sources (assigns_of net t p order)
+  pub assigns_ordered : AssignsBefore sources (assigns_of net t p order)
   assigns_ordered =
       along (zipped (leaf_assign p) t.leaves net.leaves) (λ known k. leaves_after t.leaves net.leaves known is.whole.leaves k) [] order sources refl
       (record { start = λ x m. m; passed = λ j r e. absurd (cc) })

@@ -21,7 +21,7 @@ use Rattle.fir_net.specs.working.Dependence.{IsOf, Reads, role_reads}
 use Rattle.fir_net.specs.working.IsNet.{node_type, read_type, CanRead, IsNode, IsLeaf, IsRole, CanDrive}
 use Rattle.fir_net_names.specs.working.LeafNamed.{is_wire}
 use Rattle.fir_net.specs.working.Settled.{is_clock}
-use Rattle.ver_ast.specs.Nets.{Sized, width_in}
+use Rattle.ver_ast.specs.Nets.{SizedNet, width_among}
 use Rattle.ver_build.specs.declared.places.Places.{Places}
 use Rattle.ver_build.specs.working.Held.{whole_net, own_held, held_literal, fit}
 use Rattle.ver_build.specs.working.Places.{name_at, place_value, placed, held_of, node_at}
@@ -53,16 +53,16 @@ pub read_of : (net : FlatNet) (r : Read) → CanRead net.leaves net.nodes r → 
 read_of net (read.Leaf k) can = slice_get_within net.leaves k can.0 can.1
 read_of net (read.Node k) can = can
 
-net_stands : (nets : List Sized) (name : List ℕ) (t : NumTy) → 1 ≤ t.width → t.width ≤ 128 → width_in nets name ≡ t.width
+net_stands : (nets : List SizedNet) (name : List ℕ) (t : NumTy) → 1 ≤ t.width → t.width ≤ 128 → width_among nets name ≡ t.width
     → StandsAs nets (whole_net name t.signed t.width) t
 net_stands nets name t some narrow wide = record { stands = whole_stands nets name t.signed t.width some narrow wide; signed = refl; width = refl }
 
-none_stands : (nets : List Sized) (t : NumTy) → t.width ≡ 0 → StandsAs nets (own_held t.signed t.width None) t
+none_stands : (nets : List SizedNet) (t : NumTy) → t.width ≡ 0 → StandsAs nets (own_held t.signed t.width None) t
 none_stands nets t none =
     record { stands = record { source = record { wide = sym none; below = pow_pos t.width }; narrow = omega arith }; signed = refl; width = refl }
 
 module _ (net : FlatNet) (t : NameTable) (p : Places) (order : List Read) (is : Premises net t p order) where
-  abbrev ns : List Sized
+  abbrev ns : List SizedNet
   ns = sizes net t p order
 
   abbrev type : Read → NumTy

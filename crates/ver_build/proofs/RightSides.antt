@@ -1,6 +1,6 @@
 -- What right sides mean, from what their operands are.
 -- A right side is sound where its operands are and have the widths that the operator asks for, and it has the operator's value.
-use Rattle.std.proofs.Common.{◌≡◌, ℕ, Bool, true, false, ◌==◌, if◌then◌else◌, List, refl, sym, ap, ◌∙◌, subst}
+use Rattle.std.proofs.Common.{◌≡◌, ℕ, Bool, true, false, ◌==◌, if◌then◌else◌, List, [], refl, sym, ap, ◌∙◌, subst}
 use Rattle.std.specs.Prelude.{Option, Some}
 use Rattle.fir_base.specs.Ticks.{Env}
 use Rattle.fir_bits.specs.Integers.{reading, bits_of, shifted_down}
@@ -10,8 +10,9 @@ use Rattle.ver_ast.specs.declared.tree.UnaryOp.{UnaryOp}
 use Rattle.ver_ast.specs.declared.tree.BinaryOp.{BinaryOp}
 use Rattle.ver_ast.specs.declared.tree.SignedOp.{SignedOp}
 use Rattle.ver_ast.specs.Atoms.{AtomTree}
-use Rattle.ver_ast.specs.Nets.{Sized}
-use Rattle.ver_ast.specs.SideValues.{unary_value, binary_value, signed_value, rhs_value}
+use Rattle.ver_ast.specs.Nets.{SizedNet}
+use Rattle.ver_ast.specs.SideValues.{unary_value, binary_value, signed_value}
+use Rattle.ver_build.proofs.SideValues.{side_value}
 use Rattle.ver_ast.specs.SoundSides.{IsSoundSide, KeepsRule, KeepsUnary, binary_rule, signed_rule}
 use Rattle.ver_build.proofs.OperandAtoms.{Gives}
 
@@ -20,11 +21,11 @@ abbrev pub between_value : Bool → SignedOp → BinaryOp → ℕ → ℕ → �
 between_value true s o r w x y = signed_value s w (reading true w x) (reading true w y)
 between_value false s o r w x y = binary_value o r x y
 
-module _ (nets : List Sized) (env : Env) where
+module _ (nets : List SizedNet) (env : Env) where
   -- a sound right side of a net of w bits, with that value
   pub record Means (w n : ℕ) (r : Rhs) : Type 0 where
-    pub sound : IsSoundSide nets w r
-    pub value : rhs_value nets env w r ≡ Some n
+    pub sound : IsSoundSide nets [] w r
+    pub value : side_value nets env w r ≡ Some n
 
   pub atom_side : (w n : ℕ) (a : AtomTree) → Gives nets env w n a → Means w n (rhs.Atom a)
   atom_side w n a is = record {
@@ -40,22 +41,22 @@ module _ (nets : List Sized) (env : Env) where
   }
 
   module _ (w u v x y : ℕ) (a b : AtomTree) (is_a : Gives nets env u x a) (is_b : Gives nets env v y b) where
-    binary_sound : (o : BinaryOp) → KeepsRule (binary_rule o) w u v → IsSoundSide nets w (rhs.Binary a o b)
+    binary_sound : (o : BinaryOp) → KeepsRule (binary_rule o) w u v → IsSoundSide nets [] w (rhs.Binary a o b)
     binary_sound o rule = record {
       operands = (is_a.fits.operand, (is_b.fits.operand, tt));
       widths = let wide_a = is_a.fits.wide in let wide_b = is_b.fits.wide in rw (wide_a, wide_b) rule;
     }
 
-    signed_sound : (s : SignedOp) → KeepsRule (signed_rule s) w u v → IsSoundSide nets w (rhs.Signed a s b)
+    signed_sound : (s : SignedOp) → KeepsRule (signed_rule s) w u v → IsSoundSide nets [] w (rhs.Signed a s b)
     signed_sound s rule = record {
       operands = (is_a.fits.operand, (is_b.fits.operand, tt));
       widths = let wide_a = is_a.fits.wide in let wide_b = is_b.fits.wide in rw (wide_a, wide_b) rule;
     }
 
-    binary_is : (o : BinaryOp) → rhs_value nets env w (rhs.Binary a o b) ≡ binary_value o w x y
+    binary_is : (o : BinaryOp) → side_value nets env w (rhs.Binary a o b) ≡ binary_value o w x y
     binary_is o = let same_a = is_a.value in let same_b = is_b.value in rw (same_a, same_b) refl
 
-    signed_is : (s : SignedOp) → rhs_value nets env w (rhs.Signed a s b) ≡ signed_value s u (reading true u x) (reading true v y)
+    signed_is : (s : SignedOp) → side_value nets env w (rhs.Signed a s b) ≡ signed_value s u (reading true u x) (reading true v y)
     signed_is s =
         let wide_a = is_a.fits.wide in
         let wide_b = is_b.fits.wide in
@@ -79,11 +80,11 @@ module _ (nets : List Sized) (env : Env) where
   -- an operator between operands of w bits, read as signed or not, for a target of r bits
   module _ (s : SignedOp) (o : BinaryOp) (r w x y : ℕ) (a b : AtomTree) (is_a : Gives nets env w x a) (is_b : Gives nets env w y b) where
     pub between_sound : KeepsRule (signed_rule s) r w w → KeepsRule (binary_rule o) r w w → (t : Bool)
-        → IsSoundSide nets r (if t then rhs.Signed a s b else rhs.Binary a o b)
+        → IsSoundSide nets [] r (if t then rhs.Signed a s b else rhs.Binary a o b)
     between_sound rule plain true = signed_sound r w w x y a b is_a is_b s rule
     between_sound rule plain false = binary_sound r w w x y a b is_a is_b o plain
 
-    pub between_is : (t : Bool) → rhs_value nets env r (if t then rhs.Signed a s b else rhs.Binary a o b) ≡ between_value t s o r w x y
+    pub between_is : (t : Bool) → side_value nets env r (if t then rhs.Signed a s b else rhs.Binary a o b) ≡ between_value t s o r w x y
     between_is true = signed_is r w w x y a b is_a is_b s
     between_is false = binary_is r w w x y a b is_a is_b o
 

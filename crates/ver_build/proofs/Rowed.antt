@@ -13,7 +13,7 @@ use Rattle.fir_net.specs.Paths.{base_name}
 use Rattle.fir_net_names.specs.Names.{AreNamed}
 use Rattle.ver_words.specs.declared.signal.Signal.TheVariants.{Bits}
 use Rattle.ver_ast.specs.declared.tree.Port.{Port}
-use Rattle.ver_ast.specs.Nets.{Sized, widths_of}
+use Rattle.ver_ast.specs.Nets.{SizedNet, widths_of}
 use Rattle.ver_build.specs.working.Built.{leaf_port, port_of}
 use Rattle.fir_net.specs.Rows.{Row, row, Word, word, row_names, row_kinds, word_names, word_widths, PortKind}
 use Rattle.fir_net.specs.working.Rows.{role_row, role_word}
@@ -118,7 +118,7 @@ module _ (net : FlatNet) where
   pub widths_along : (names : NameList) (ls : List Leaf) → Each LeafNamed names ls
       → widths_of (picked_sized is_register names ls) ≡ word_widths (flat_map words ls)
   widths_along names ls h =
-      map_zipped (λ (s : Sized). s.1) (λ (l : Leaf) n. sized_if (is_register l.role) l.width n)
+      map_zipped (λ (s : SizedNet). s.1) (λ (l : Leaf) n. sized_if (is_register l.role) l.width n)
       (λ l n. widths_of (sized_if (is_register l.role) l.width n)) (λ l n. refl) names ls
       ∙ same_zipped LeafNamed (λ l n. widths_of (sized_if (is_register l.role) l.width n)) (λ l n. word_widths (words l))
       (λ l n k. role_width l.role (base_name l.path) l.width n (role_named l n k)) names ls h

@@ -14,13 +14,14 @@ use Rattle.fir_net.specs.working.Values.{leaf_width}
 use Rattle.fir_net.specs.working.Settled.{with_bits, input_number, clock_number, output_number, register_number, numbers_by, shape as net_shape}
 use Rattle.fir_net.specs.working.IsNet.{IsRole}
 use Rattle.fir_net_names.specs.working.LeafNamed.{is_wire}
-use Rattle.ver_ast.specs.Nets.{Sized, inputs, clocks, regs, widths_of, shape as v_shape}
+use Rattle.ver_ast.specs.Nets.{SizedNet, variables, variable_widths, input_nets, clocks, widths_of, shape as v_shape}
 use Rattle.ver_build.specs.declared.places.Places.{Places}
 use Rattle.ver_build.proofs.Names.{NameList, Each, zipped}
 use Rattle.ver_build.proofs.Premises.{Premises, BitsNamed, LeafNamed, RoleNamed, role_named, bits_named, leaves_named, Whole, leaves_whole}
-use Rattle.ver_build.proofs.Parts.{in_parts}
+use Rattle.ver_build.proofs.Parts.{blocks_of, in_parts}
 use Rattle.ver_build.proofs.LeafKinds.{is_input, is_clock_input, is_output, is_register, name_if, sized_if, picked, picked_sized}
-use Rattle.ver_build.proofs.Nets.{inputs_sized, clocks_are, registers_sized}
+use Rattle.ver_build.proofs.Nets.{inputs_sized, clocks_are, registers_sized, no_output_clocks, no_arrays, blocks_are}
+use Rattle.ver_build.proofs.PlainTrees.{words_wide}
 use Rattle.ver_build.proofs.Choices.{if_equal}
 
 -- the number of a leaf with bits, where it is of a kind
@@ -75,7 +76,7 @@ module _ (p : Role → Bool) (number : Role → ℕ → ℕ → List ℕ) (is : 
       let here : widths_of (sized_if (p l.role) l.width n) ≡ map (leaf_width (l ∷ ls)) (number l.role l.width 0) =
       one_width (p l.role) l.width n (leaf_width (l ∷ ls)) refl (λ e. bits_named l.role l.width n (plain l.role e) (role_named l n h.0))
       ∙ ap (map (leaf_width (l ∷ ls))) (sym (is l.role l.width 0)) in
-      map-append (λ (s : Sized). s.1) (sized_if (p l.role) l.width n) (picked_sized p names ls)
+      map-append (λ (s : SizedNet). s.1) (sized_if (p l.role) l.width n) (picked_sized p names ls)
       ∙ rw (here, widths_along names ls h.1 ∙ sym (numbers_behind l ls 0 ls)) refl
       ∙ sym (map-append (leaf_width (l ∷ ls)) (number l.role l.width 0) (numbers_by number 1 ls))
 
@@ -128,10 +129,11 @@ pub built_shape : (net : FlatNet) (t : NameTable) (p : Places) (order : List Rea
     → v_shape (in_parts net t p order) ≡ net_shape net
 built_shape net t p order is =
     let named = leaves_named net t is.table in
-    let ins : widths_of (inputs (in_parts net t p order)) ≡ map (leaf_width net.leaves) (numbers_by input_number 0 net.leaves) =
+    let ins : widths_of (input_nets (in_parts net t p order)) ≡ map (leaf_width net.leaves) (numbers_by input_number 0 net.leaves) =
     ap widths_of (inputs_sized net t p order) ∙ widths_along is_input input_number input_is input_plain t.leaves net.leaves named in
-    let state : widths_of (regs (in_parts net t p order)) ≡ map (leaf_width net.leaves) (numbers_by register_number 0 net.leaves) =
-    ap widths_of (registers_sized net t p order) ∙ widths_along is_register register_number register_is register_plain t.leaves net.leaves named in
+    let state : variable_widths (variables (in_parts net t p order)) ≡ map (leaf_width net.leaves) (numbers_by register_number 0 net.leaves) =
+    words_wide (in_parts net t p order) (no_output_clocks net t p order) (no_arrays net t p order) (blocks_of net t p order) (blocks_are net t p order)
+    ∙ ap widths_of (registers_sized net t p order) ∙ widths_along is_register register_number register_is register_plain t.leaves net.leaves named in
     let count : length (clocks (in_parts net t p order)) ≡ length (numbers_by clock_number 0 net.leaves) =
     ap length (clocks_are net t p order) ∙ clocks_along net t.leaves net.leaves 0 (leaves_whole net t is.whole is.table) in
     rw (ins, state, count) refl

@@ -18,7 +18,7 @@ use Rattle.fir_net_names.specs.declared.name_table.NameTable.{NameTable}
 use Rattle.fir_net.specs.working.IsNet.{node_type, IsLeaf}
 use Rattle.fir_net.specs.working.IsWritable.{IsWritableRole}
 use Rattle.fir_net_names.specs.working.LeafNamed.{somes, has_name, is_wire}
-use Rattle.ver_ast.specs.Nets.{Sized, width_in, names_of}
+use Rattle.ver_ast.specs.Nets.{SizedNet, width_among, names_of}
 use Rattle.ver_ast.proofs.Widths.{declared_width}
 use Rattle.ver_build.specs.declared.places.Places.{Places}
 use Rattle.ver_build.specs.declared.right_sides.Inner.{Inner}
@@ -34,20 +34,20 @@ use Rattle.ver_build.proofs.NodeNets.{IsLiteral, IsEmpty, IsNetted, node_view, g
 use Rattle.ver_build.proofs.InnerNames.{all_once}
 
 -- a net of that name and width, from 1 to 128
-pub record IsSized (nets : List Sized) (name : List ℕ) (w : ℕ) : Type 0 where
+pub record IsSized (nets : List SizedNet) (name : List ℕ) (w : ℕ) : Type 0 where
   pub one : 1 ≤ w
   pub narrow : w ≤ 128
   pub among : In nets (name, w)
-  pub wide : width_in nets name ≡ w
+  pub wide : width_among nets name ≡ w
 
-abbrev pub LeafSized : List Sized → Leaf → Option (List ℕ) → Type 0
+abbrev pub LeafSized : List SizedNet → Leaf → Option (List ℕ) → Type 0
 LeafSized nets l None = has_name l ≡ false
 LeafSized nets l (Some name) = is_net l.role ≡ true → IsSized nets name l.width
 
-abbrev PartIn : {A : Type 0} → (A → Option (List ℕ) → List Sized) → List Sized → A → Option (List ℕ) → Type 0
-PartIn f nets x n = (y : Sized) → In (f x n) y → In nets y
+abbrev PartIn : {A : Type 0} → (A → Option (List ℕ) → List SizedNet) → List SizedNet → A → Option (List ℕ) → Type 0
+PartIn f nets x n = (y : SizedNet) → In (f x n) y → In nets y
 
-abbrev leaf_part : Leaf → Option (List ℕ) → List Sized
+abbrev leaf_part : Leaf → Option (List ℕ) → List SizedNet
 leaf_part l n = sized_if (is_net l.role) l.width n
 
 -- what has a name has bits
@@ -59,7 +59,7 @@ pub unnamed_bits : (l : Leaf) → is_wire l.role ≡ false → has_name l ≡ fa
 unnamed_bits l plain h = bits_named l.role l.width None plain h
 
 -- a leaf with a name that is a net
-pub leaf_is_sized : (nets : List Sized) (l : Leaf) (n : Option (List ℕ)) → LeafSized nets l n → is_net l.role ≡ true → (name : List ℕ)
+pub leaf_is_sized : (nets : List SizedNet) (l : Leaf) (n : Option (List ℕ)) → LeafSized nets l n → is_net l.role ≡ true → (name : List ℕ)
     → n ≡ Some name → IsSized nets name l.width
 leaf_is_sized nets l None h k name e = absurd (cc)
 leaf_is_sized nets l (Some other) h k name e =
@@ -74,7 +74,7 @@ pub record InnerOf (net : FlatNet) (p : Places) (i : Inner) : Type 0 where
   pub netted : IsNetted p node (node_at p.nodes number)
   pub inside : In (node_inners p node (node_at p.nodes number).helpers netted.name) i
 
-abbrev pub LeafFact : FlatNet → List Sized → Leaf → Option (List ℕ) → Type 0
+abbrev pub LeafFact : FlatNet → List SizedNet → Leaf → Option (List ℕ) → Type 0
 LeafFact net nets l n = LeafSized nets l n × IsLeaf net.leaves net.nodes l × IsWritableRole l.role
 
 module _ (net : FlatNet) (t : NameTable) (p : Places) (order : List Read) (is : Premises net t p order) where
@@ -155,7 +155,7 @@ module _ (net : FlatNet) (t : NameTable) (p : Places) (order : List Read) (is : 
   inner_among i m =
       in_right (picked_sized is_net t.leaves net.leaves) (map inner_sized all_inners) (inner_sized i) (in_map inner_sized all_inners i m)
 
-  pub inner_declared : (i : Inner) → In all_inners i → width_in (sizes net t p order) i.name ≡ i.width
+  pub inner_declared : (i : Inner) → In all_inners i → width_among (sizes net t p order) i.name ≡ i.width
   inner_declared i m = declared_width (sizes net t p order) sizes_once i.name i.width (inner_among i m)
 
   -- the nets of a node are declared
@@ -163,8 +163,8 @@ module _ (net : FlatNet) (t : NameTable) (p : Places) (order : List Read) (is : 
       → DeclaresInners (sizes net t p order) (node_inners p n (node_at p.nodes k).helpers h.name)
   node_declared k n h at =
       let here = node_inners p n (node_at p.nodes k).helpers h.name in
-      all_from (λ i. width_in (sizes net t p order) i.name ≡ i.width) here (λ i m. inner_declared i (inners_among k n h at i m))
+      all_from (λ i. width_among (sizes net t p order) i.name ≡ i.width) here (λ i m. inner_declared i (inners_among k n h at i m))
 
   pub own_declared : (k : ℕ) (n : Node) (h : IsNetted p n (node_at p.nodes k)) → slice_get net.nodes k ≡ Some n
-      → width_in (sizes net t p order) h.name ≡ (node_type n).width
+      → width_among (sizes net t p order) h.name ≡ (node_type n).width
   own_declared k n h at = inner_declared _ (inners_among k n h at _ h.inside)

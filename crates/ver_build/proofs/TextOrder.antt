@@ -1,5 +1,5 @@
 -- Registers and wires stand before all assigns and blocks, so each of these names nets that are declared before it.
-use Rattle.std.proofs.Common.{◌≡◌, ℕ, List, [], ◌∷◌, ◌++◌, sym, inl, inr, ⊎_elim, subst, append_assoc}
+use Rattle.std.proofs.Common.{◌≡◌, ℕ, List, [], ◌∷◌, ◌++◌, refl, sym, inl, inr, ⊎_elim, subst, append_assoc}
 use Rattle.std.specs.Prelude.{map}
 use Rattle.std.specs.List.{AllByRecursion}
 use Rattle.fir_base.specs.Lists.{In}
@@ -10,13 +10,18 @@ use Rattle.ver_ast.specs.declared.tree.Assign.{Assign}
 use Rattle.ver_ast.specs.declared.tree.Always.{Always}
 use Rattle.ver_ast.specs.declared.tree.Item.{Item}
 use Rattle.ver_ast.specs.declared.tree.Item.TheVariants as item
-use Rattle.ver_ast.specs.Spells.{atom_names, rhs_names}
+use Rattle.ver_ast.specs.Names.{atom_names, rhs_names}
+use Rattle.ver_ast.specs.ItemNames.{rhs_arrays}
 use Rattle.ver_ast.specs.Valid.{DeclaredBefore}
 use Rattle.ver_build.specs.working.Built.{items}
 use Rattle.ver_build.proofs.Fitting.{AssignAmong, BlockAmong}
 
 abbrev Within : List (List ℕ) → List (List ℕ) → Type 0
 Within xs ys = (x : List ℕ) → In xs x → In ys x
+
+-- the clock of each block is known
+abbrev pub Clocked : List (List ℕ) → List Always → Type 0
+Clocked known bs = (b : Always) → In bs b → In known b.clock
 
 abbrev pub net_name : Net → List ℕ
 net_name n = n.name
@@ -25,13 +30,15 @@ assigns_declared : (known all : List (List ℕ)) (xs : List Assign) (rest : List
     → DeclaredBefore known rest → DeclaredBefore known (map item.Assign xs ++ rest)
 assigns_declared known all [] rest h a d = d
 assigns_declared known all (b ∷ xs) rest h a d =
-    (h b.target a.0.target, each_more (rhs_names b.rhs) all known h a.0.sources, assigns_declared known all xs rest h a.1 d)
+    ((h b.target a.0.target, each_more (rhs_arrays b.rhs ++ rhs_names b.rhs) all known h a.0.sources), assigns_declared known all xs rest h a.1 d)
 
-blocks_declared : (known all : List (List ℕ)) (bs : List Always) → Within all known → AllByRecursion (BlockAmong all) bs
+blocks_declared : (known all : List (List ℕ)) (bs : List Always) → Within all known → AllByRecursion (BlockAmong all) bs → Clocked known bs
     → DeclaredBefore known (map item.Always bs)
-blocks_declared known all [] h a = tt
-blocks_declared known all (b ∷ bs) h a =
-    (h b.target a.0.target, each_more (atom_names b.source) all known h a.0.sources, blocks_declared known all bs h a.1)
+blocks_declared known all [] h a c = tt
+blocks_declared known all (b ∷ bs) h a c = (
+  (c b (inl refl), (h b.target a.0.target, each_more (atom_names b.source) all known h a.0.sources)),
+  blocks_declared known all bs h a.1 (λ d m. c d (inr m)),
+)
 
 -- declarations, with the names that are known behind them
 nets_declared : (c : Net → Item)
@@ -52,11 +59,12 @@ nets_declared c step known (n ∷ ns) rest go =
 
 pub items_declared : (known all : List (List ℕ)) (rs ws : List Net) (xs : List Assign) (bs : List Always)
     → ((x : List ℕ) → In all x → In (known ++ (map net_name rs ++ map net_name ws)) x)
-    → AllByRecursion (AssignAmong all) xs → AllByRecursion (BlockAmong all) bs → DeclaredBefore known (items rs ws xs bs)
-items_declared known all rs ws xs bs among assigned blocked =
-    nets_declared item.Reg (λ k n rest d. d) known rs (map item.Wire ws ++ (map item.Assign xs ++ map item.Always bs))
-    (λ after h. nets_declared item.Wire (λ k n rest d. d) after ws (map item.Assign xs ++ map item.Always bs)
-    (λ last k. driven last (λ x m. k x (within after h x (among x m)))))
+    → AllByRecursion (AssignAmong all) xs → AllByRecursion (BlockAmong all) bs → Clocked known bs → DeclaredBefore known (items rs ws xs bs)
+items_declared known all rs ws xs bs among assigned blocked clocked =
+    nets_declared item.Reg (λ k n rest d. (tt, d)) known rs (map item.Wire ws ++ (map item.Assign xs ++ map item.Always bs))
+    (λ after h. nets_declared item.Wire (λ k n rest d. (tt, d)) after ws (map item.Assign xs ++ map item.Always bs)
+    (λ last k. driven last (λ x m. k x (within after h x (among x m)))
+    (λ b m. k b.clock (in_left after (map net_name ws) b.clock (h b.clock (in_left known (map net_name rs) b.clock (clocked b m)))))))
   where
     within : (after : List (List ℕ)) → Within (known ++ map net_name rs) after
         → Within (known ++ (map net_name rs ++ map net_name ws)) (after ++ map net_name ws)
@@ -67,5 +75,5 @@ items_declared known all rs ws xs bs among assigned blocked =
         (in_either (known ++ map net_name rs) (map net_name ws) x
         (subst (λ (ns : List (List ℕ)). In ns x) (sym (append_assoc known (map net_name rs) (map net_name ws))) m))
 
-    driven : (last : List (List ℕ)) → Within all last → DeclaredBefore last (map item.Assign xs ++ map item.Always bs)
-    driven last h = assigns_declared last all xs (map item.Always bs) h assigned (blocks_declared last all bs h blocked)
+    driven : (last : List (List ℕ)) → Within all last → Clocked last bs → DeclaredBefore last (map item.Assign xs ++ map item.Always bs)
+    driven last h c = assigns_declared last all xs (map item.Always bs) h assigned (blocks_declared last all bs h blocked c)

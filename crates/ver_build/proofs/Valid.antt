@@ -1,66 +1,58 @@
 -- The tree of a whole net is valid.
 -- Names are distinct, so each net is declared once and driven once, and widths and order are those of the net.
-use Rattle.std.proofs.Common.{◌≡◌, ℕ, ◌≤◌, List, ◌++◌, map, Bool, true, false, refl, sym, ap, ◌∙◌, ⊎_elim, subst}
-use Rattle.std.specs.Prelude.{Option, Some, None}
-use Rattle.std.specs.List.{AllByRecursion}
+use Rattle.std.proofs.Common.{◌≡◌, ℕ, ◌≤◌, List, [], ◌∷◌, ◌++◌, map, Bool, true, false, refl, sym, ap, ◌∙◌, inl, inr, ⊎_elim, subst, append-nil, arith}
+use Rattle.std.specs.Prelude.{flat_map, Option, Some, None}
+use Rattle.std.specs.List.{AllByRecursion, sum_by}
 use Rattle.std.proofs.lemmas.List.{map-append}
 use Rattle.std.proofs.lemmas.Simd.{map-map}
-use Rattle.fir_base.specs.declared.direction.Direction.TheVariants.{Input}
+use Rattle.fir_base.specs.declared.direction.Direction.{Direction}
+use Rattle.fir_base.specs.declared.direction.Direction.TheVariants.{Input, Output}
 use Rattle.fir_base.specs.Lists.{In, Distinct}
 use Rattle.fir_base.proofs.Each.{all_at, all_from, all_joined, all_mapped}
-use Rattle.fir_base.proofs.Members.{in_either}
+use Rattle.fir_base.proofs.Members.{in_map, in_map_from, in_left, in_right, in_either, in_flat_map_from}
 use Rattle.fir_base.proofs.Twins.{distinct_right, distinct_joined, apart}
 use Rattle.fir_net.specs.declared.reads.Read.{Read}
 use Rattle.fir_net.specs.declared.leaf.Role.{Role}
 use Rattle.fir_net.specs.declared.leaf.Role.TheVariants as role
-use Rattle.fir_net.specs.declared.leaf.Leaf.{Leaf}
 use Rattle.fir_net.specs.declared.net.FlatNet.{FlatNet}
 use Rattle.fir_net_names.specs.declared.name_table.NameTable.{NameTable}
 use Rattle.fir_net_names.specs.working.LeafNamed.{somes}
 use Rattle.ver_ast.specs.declared.tree.Port.{Port}
-use Rattle.ver_words.specs.declared.signal.Signal.TheVariants.{Clock}
+use Rattle.ver_words.specs.declared.signal.Signal.{Signal}
+use Rattle.ver_words.specs.declared.signal.Signal.TheVariants.{Bits, Clock}
+use Rattle.ver_ast.specs.declared.tree.Verilog.{Verilog}
 use Rattle.ver_ast.specs.declared.tree.Assign.{Assign}
-use Rattle.ver_ast.specs.declared.tree.Always.{Always}
-use Rattle.ver_ast.specs.Nets.{Sized, inputs, outputs, clocks, wires, regs, port_nets, nets, assigns, targets, blocks, block_targets, names_of}
-use Rattle.ver_ast.specs.Valid.{Valid, DeclaredBefore, IsSoundAssign, ReadsBefore, IsBlock}
+use Rattle.ver_ast.specs.Nets.{SizedNet, Variable, variable_names, AlwaysBlock, plain_block, signal_net, signal_clock, port_net, input_clock, output_clocks, input_nets, output_nets, clocks, wires, regs, plain_regs, port_nets, nets, arrays, assigns, clock_assigns, targets, blocks, block_targets, names_of}
+use Rattle.ver_ast.specs.Processes.{Process, assigning, processes, target, process_targets}
+use Rattle.ver_ast.specs.SoundSides.{IsSoundSide}
+use Rattle.ver_ast.specs.Valid.{Valid, DeclaredBefore, IsSoundAssign, IsOrder, ReadsBefore, IsPlain, IsSoundBlock}
 use Rattle.ver_build.specs.declared.places.Places.{Places}
 use Rattle.ver_build.specs.working.Places.{clock_in}
-use Rattle.ver_build.specs.working.Built.{inners, port_of, leaf_port}
+use Rattle.ver_build.specs.working.Built.{inners}
+use Rattle.ver_build.specs.Ports.{port_names}
 use Rattle.ver_build.proofs.Names.{all_zipped}
-use Rattle.ver_build.proofs.Premises.{Premises, LeafNamed, leaves_named}
+use Rattle.ver_build.proofs.Premises.{Premises}
 use Rattle.ver_build.proofs.Parts.{registers_of, wires_of, assigns_of, blocks_of, in_parts}
 use Rattle.ver_build.proofs.LeafKinds.{is_input, is_clock_input, is_output, is_register, is_net, is_written, sized_if, picked, picked_sized, picked_names}
 use Rattle.ver_build.proofs.Picked.{picked_named, picked_once, picked_apart}
-use Rattle.ver_build.proofs.Nets.{inner_name, inner_sized, sizes, inputs_sized, outputs_sized, clocks_are, registers_sized, wires_sized, assigns_are, blocks_are, nets_sized, nets_by_part, sizes_named}
+use Rattle.ver_build.proofs.Nets.{inner_name, inner_sized, sizes, inputs_sized, outputs_sized, clocks_are, registers_sized, wires_sized, assigns_are, blocks_are, no_output_clocks, no_arrays, nets_sized, nets_by_part, sizes_named}
+use Rattle.ver_build.proofs.PlainTrees.{plain_regs_are, processes_are, clock_assigns_none}
 use Rattle.ver_build.proofs.Sizes.{IsSized, LeafSized, leaf_is_sized, leaf_sizes, names_once, sizes_once}
 use Rattle.ver_build.proofs.InnersSound.{inner_size}
-use Rattle.ver_build.proofs.Fitting.{assigns_sound, assigns_name_nets, blocks_name_nets}
-use Rattle.ver_build.proofs.Driven.{targets_are, block_targets_are}
-use Rattle.ver_build.proofs.TextOrder.{items_declared}
-use Rattle.ver_build.proofs.Placed.{assigns_ordered}
+use Rattle.ver_build.proofs.Fitting.{FitsTarget, assigns_sound, assigns_name_nets, blocks_name_nets}
+use Rattle.ver_build.proofs.Driven.{targets_are, plain_targets, block_targets_are}
+use Rattle.ver_build.proofs.TextOrder.{net_name, items_declared}
+use Rattle.ver_build.proofs.Placed.{AssignsBefore, assigns_ordered}
 use Rattle.ver_build.proofs.Blocks.{blocks_sound}
 
-abbrev IsNarrow : Sized → Type 0
+abbrev IsNarrow : SizedNet → Type 0
 IsNarrow s = (1 ≤ s.1) × (s.1 ≤ 128)
 
-leaf_narrow : (ns : List Sized) (b : Bool) (w : ℕ) (n : Option (List ℕ)) → (b ≡ true → (name : List ℕ) → n ≡ Some name → IsSized ns name w)
+leaf_narrow : (ns : List SizedNet) (b : Bool) (w : ℕ) (n : Option (List ℕ)) → (b ≡ true → (name : List ℕ) → n ≡ Some name → IsSized ns name w)
     → AllByRecursion IsNarrow (sized_if b w n)
 leaf_narrow ns false w n h = tt
 leaf_narrow ns true w None h = tt
 leaf_narrow ns true w (Some name) h = let size = h refl name refl in ((size.one, size.narrow), tt)
-
-abbrev ClockIn : Port → Type 0
-ClockIn p = p.signal ≡ Clock → p.direction ≡ Input
-
-clock_in_port : (r : Role) (w : ℕ) (name : List ℕ) → AllByRecursion ClockIn (port_of r w name)
-clock_in_port role.Input w name = ((λ e. refl), tt)
-clock_in_port role.Clock w name = ((λ e. refl), tt)
-clock_in_port (role.Output r) w name = ((λ e. absurd (cc)), tt)
-clock_in_port _ w name = tt
-
-leaf_clock_in : (l : Leaf) (n : Option (List ℕ)) → AllByRecursion ClockIn (leaf_port l n)
-leaf_clock_in l None = tt
-leaf_clock_in l (Some name) = clock_in_port l.role l.width name
 
 no_net : (r : Role) → is_clock_input r ≡ true → is_net r ≡ true → ⊥
 no_net role.Clock a b = cc
@@ -74,8 +66,32 @@ register_not_driven : (r : Role) → is_register r ≡ true → is_output r ≡ 
 register_not_driven (role.Register r) a b = cc
 register_not_driven _ a b = cc
 
+-- a net or a clock of a port has the port's name
+one_net : (s : Signal) (n : List ℕ) (x : SizedNet) → In (signal_net s n) x → n ≡ x.0
+one_net (Bits w) n x (inl e) = ap (λ (y : SizedNet). y.0) e
+one_net (Bits w) n x (inr m) = absurd m
+one_net Clock n x m = absurd m
+
+one_clock : (d : Direction) (s : Signal) (q : Port) (n : List ℕ) → q.signal ≡ s → In (input_clock d q) n → q.name ≡ n
+one_clock Input (Bits w) q n e m = absurd (let here : In (signal_clock (Bits w) q.name) n = subst (λ (s : Signal). In (signal_clock s q.name) n) e m in here)
+one_clock Input Clock q n e m =
+    let here : In (q.name ∷ []) n = subst (λ (s : Signal). In (signal_clock s q.name) n) e m in
+    ⊎_elim (λ (k : q.name ≡ n). k) (λ (o : ⊥). absurd o) here
+one_clock Output s q n e m = absurd m
+
+net_is_named : (qs : List Port) (n : List ℕ) → In (names_of (flat_map port_net qs)) n → In (map (λ (q : Port). q.name) qs) n
+net_is_named qs n m =
+    let x = in_map_from (λ (s : SizedNet). s.0) (flat_map port_net qs) n m in
+    let q = in_flat_map_from port_net qs x.0 x.1 in
+    subst (In (map (λ (q : Port). q.name) qs)) (one_net q.0.signal q.0.name x.0 q.2 ∙ x.2) (in_map (λ (q : Port). q.name) qs q.0 q.1)
+
+clock_is_named : (qs : List Port) (n : List ℕ) → In (flat_map (λ q. input_clock q.direction q) qs) n → In (map (λ (q : Port). q.name) qs) n
+clock_is_named qs n m =
+    let q = in_flat_map_from (λ (q : Port). input_clock q.direction q) qs n m in
+    subst (In (map (λ (q : Port). q.name) qs)) (one_clock q.0.direction q.0.signal q.0 n refl q.2) (in_map (λ (q : Port). q.name) qs q.0 q.1)
+
 module _ (net : FlatNet) (t : NameTable) (p : Places) (order : List Read) (is : Premises net t p order) where
-  abbrev tree_sizes : List Sized
+  abbrev tree_sizes : List SizedNet
   tree_sizes = sizes net t p order
 
   abbrev inside : List (List ℕ)
@@ -87,7 +103,7 @@ module _ (net : FlatNet) (t : NameTable) (p : Places) (order : List Read) (is : 
 
   all_once : Distinct (clocks (in_parts net t p order) ++ names_of (nets (in_parts net t p order)))
   all_once =
-      let names = λ (ns : List Sized). names_of ns in
+      let names = λ (ns : List SizedNet). names_of ns in
       rw (clocks_are net t p order, nets_sized net t p order is)
       (distinct_joined (picked is_clock_input t.leaves net.leaves) (names tree_sizes) (picked_once is_clock_input t.leaves net.leaves is.once)
       (sizes_once net t p order is)
@@ -97,12 +113,24 @@ module _ (net : FlatNet) (t : NameTable) (p : Places) (order : List Read) (is : 
       (λ (k : In inside x). no_inner is_clock_input x m k)
       (in_either (picked is_net t.leaves net.leaves) inside x (subst (λ (ns : List (List ℕ)). In ns x) (sizes_named net t p order) n))))
 
-  declared : DeclaredBefore (names_of (port_nets (in_parts net t p order))) (in_parts net t p order).items
+  declared : DeclaredBefore (port_names (in_parts net t p order)) (in_parts net t p order).items
   declared =
-      items_declared (names_of (port_nets (in_parts net t p order))) (names_of tree_sizes) (registers_of net t p order) (wires_of net t p order)
-      (assigns_of net t p order) (blocks_of net t p order)
-      (λ x m. subst (λ (ns : List (List ℕ)). In ns x) (nets_by_part net t p order is) m) (assigns_name_nets net t p order is)
-      (blocks_name_nets net t p order is)
+      items_declared (port_names (in_parts net t p order)) (names_of tree_sizes) (registers_of net t p order) (wires_of net t p order)
+      (assigns_of net t p order) (blocks_of net t p order) among (assigns_name_nets net t p order is) (blocks_name_nets net t p order is)
+      (λ b m. clock_is_named (in_parts net t p order).ports b.clock (all_at (IsPlain (in_parts net t p order)) (blocks_of net t p order)
+      (blocks_sound net t p order is) b m).clocked)
+    where
+      inner : List (List ℕ)
+      inner = map net_name (registers_of net t p order) ++ map net_name (wires_of net t p order)
+
+      among : (x : List ℕ) → In (names_of tree_sizes) x → In (port_names (in_parts net t p order) ++ inner) x
+      among x m =
+          ⊎_elim
+          (λ (k : In (names_of (port_nets (in_parts net t p order))) x). in_left (port_names (in_parts net t p order)) inner x
+          (net_is_named (in_parts net t p order).ports x k))
+          (λ (k : In inner x). in_right (port_names (in_parts net t p order)) inner x k)
+          (in_either (names_of (port_nets (in_parts net t p order))) inner x
+          (subst (λ (ns : List (List ℕ)). In ns x) (nets_by_part net t p order is) m))
 
   all_narrow : AllByRecursion IsNarrow tree_sizes
   all_narrow =
@@ -112,14 +140,13 @@ module _ (net : FlatNet) (t : NameTable) (p : Places) (order : List Read) (is : 
       (all_mapped IsNarrow inner_sized (inners net p order)
       (all_from (λ x. IsNarrow (inner_sized x)) (inners net p order) (λ x m. let size = inner_size net t p order is x m in (size.one, size.narrow))))
 
-  clocks_in : AllByRecursion ClockIn (in_parts net t p order).ports
-  clocks_in = all_zipped LeafNamed ClockIn leaf_port (λ l n h. leaf_clock_in l n) t.leaves net.leaves (leaves_named net t is.table)
-
-  fits : (a : Assign) → In (assigns (in_parts net t p order)) a → IsSoundAssign (nets (in_parts net t p order)) a
+  fits : (a : Assign) → In (assigns (in_parts net t p order)) a → IsSoundAssign (in_parts net t p order) a
   fits a m =
-      subst (λ (ns : List Sized). IsSoundAssign ns a) (sym (nets_sized net t p order is))
-      (all_at (IsSoundAssign tree_sizes) (assigns_of net t p order) (assigns_sound net t p order is) a
-      (subst (λ (xs : List Assign). In xs a) (assigns_are net t p order) m))
+      subst (λ (ks : List Variable). (w : ℕ) × In (nets (in_parts net t p order)) (a.target, w) × IsSoundSide (nets (in_parts net t p order)) ks w a.rhs)
+      (sym (no_arrays net t p order))
+      (subst (λ (ns : List SizedNet). FitsTarget ns a) (sym (nets_sized net t p order is))
+      (all_at (FitsTarget tree_sizes) (assigns_of net t p order) (assigns_sound net t p order is) a
+      (subst (λ (xs : List Assign). In xs a) (assigns_are net t p order) m)))
 
   all_targets : targets (assigns (in_parts net t p order)) ≡ inside ++ picked is_output t.leaves net.leaves
   all_targets = ap targets (assigns_are net t p order) ∙ targets_are net t p order
@@ -131,22 +158,22 @@ module _ (net : FlatNet) (t : NameTable) (p : Places) (order : List Read) (is : 
       (picked_once is_output t.leaves net.leaves is.once)
       (λ x m n. no_inner is_output x n m))
 
-  pub all_driven : names_of (wires (in_parts net t p order) ++ outputs (in_parts net t p order)) ≡ targets (assigns (in_parts net t p order))
+  pub all_driven : names_of (wires (in_parts net t p order) ++ output_nets (in_parts net t p order)) ≡ targets (assigns (in_parts net t p order))
   all_driven =
-      map-append (λ (s : Sized). s.0) (wires (in_parts net t p order)) (outputs (in_parts net t p order))
+      map-append (λ (s : SizedNet). s.0) (wires (in_parts net t p order)) (output_nets (in_parts net t p order))
       ∙ rw (
         wires_sized net t p order,
         outputs_sized net t p order,
-        map-map (λ (s : Sized). s.0) inner_sized
+        map-map (λ (s : SizedNet). s.0) inner_sized
             (inners net p order),
         picked_names is_output t.leaves net.leaves,
       ) (sym all_targets)
 
   sources_are : names_of
-      (inputs (in_parts net t p order) ++ regs (in_parts net t p order))
+      (input_nets (in_parts net t p order) ++ regs (in_parts net t p order))
       ≡ picked is_input t.leaves net.leaves ++ picked is_register t.leaves net.leaves
   sources_are =
-      map-append (λ (s : Sized). s.0) (inputs (in_parts net t p order)) (regs (in_parts net t p order))
+      map-append (λ (s : SizedNet). s.0) (input_nets (in_parts net t p order)) (regs (in_parts net t p order))
       ∙ rw (
         inputs_sized net t p order,
         registers_sized net t p order,
@@ -163,7 +190,7 @@ module _ (net : FlatNet) (t : NameTable) (p : Places) (order : List Read) (is : 
       (λ (k : In (picked is_output t.leaves net.leaves) n). picked_apart q is_output none t.leaves net.leaves is.once n m k)
       (in_either inside (picked is_output t.leaves net.leaves) n (subst (λ (ns : List (List ℕ)). In ns n) all_targets d))
 
-  sources_not_driven : (n : List ℕ) → In (names_of (inputs (in_parts net t p order) ++ regs (in_parts net t p order))) n
+  sources_not_driven : (n : List ℕ) → In (names_of (input_nets (in_parts net t p order) ++ regs (in_parts net t p order))) n
       → In (targets (assigns (in_parts net t p order))) n → ⊥
   sources_not_driven n m d =
       ⊎_elim
@@ -174,28 +201,71 @@ module _ (net : FlatNet) (t : NameTable) (p : Places) (order : List Read) (is : 
 
   written : Distinct (block_targets (blocks (in_parts net t p order)))
   written =
-      subst Distinct (sym (ap block_targets (blocks_are net t p order) ∙ block_targets_are net t p order))
+      subst Distinct (sym (ap block_targets (blocks_are net t p order) ∙ plain_targets (blocks_of net t p order) ∙ block_targets_are net t p order))
       (picked_once (is_written (clock_in p.leaves)) t.leaves net.leaves is.once)
 
-  pub ordered : ReadsBefore (names_of (inputs (in_parts net t p order) ++ regs (in_parts net t p order))) (assigns (in_parts net t p order))
+  pub ordered : AssignsBefore (names_of (input_nets (in_parts net t p order) ++ regs (in_parts net t p order))) (assigns (in_parts net t p order))
   ordered =
-      subst (λ (xs : List Assign). ReadsBefore (names_of (inputs (in_parts net t p order) ++ regs (in_parts net t p order))) xs)
+      subst (λ (xs : List Assign). AssignsBefore (names_of (input_nets (in_parts net t p order) ++ regs (in_parts net t p order))) xs)
       (sym (assigns_are net t p order))
-      (subst (λ (ns : List (List ℕ)). ReadsBefore ns (assigns_of net t p order)) (sym sources_are) (assigns_ordered net t p order is))
+      (subst (λ (ns : List (List ℕ)). AssignsBefore ns (assigns_of net t p order)) (sym sources_are) (assigns_ordered net t p order is))
+
+  -- what holds in a tree without arrays and clock outputs
+  abbrev tree : Verilog
+  tree = in_parts net t p order
+
+  processes_plain : processes (in_parts net t p order) ≡ map assigning (assigns (in_parts net t p order))
+  processes_plain = processes_are tree (no_output_clocks net t p order) (no_arrays net t p order) (blocks_of net t p order) (blocks_are net t p order)
+
+  no_clock_assigns : clock_assigns (in_parts net t p order) ≡ []
+  no_clock_assigns = clock_assigns_none tree (no_output_clocks net t p order) (no_arrays net t p order) (blocks_of net t p order) (blocks_are net t p order)
+
+  in_order : IsOrder (in_parts net t p order) (processes (in_parts net t p order))
+  in_order = record {
+    each = λ q m. m;
+    only = λ q m. m;
+    once =
+        subst (λ (qs : List Process). Distinct (process_targets qs)) (sym processes_plain)
+        (subst Distinct (sym (map-map target assigning (assigns (in_parts net t p order)))) targets_once);
+    after =
+        subst (λ (qs : List Process). ReadsBefore (names_of (input_nets (in_parts net t p order) ++ plain_regs (in_parts net t p order))) qs) (sym processes_plain)
+        (subst
+        (λ (rs : List SizedNet). AssignsBefore (names_of (input_nets (in_parts net t p order) ++ rs)) (assigns (in_parts net t p order)))
+        (sym (plain_regs_are tree (no_output_clocks net t p order) (no_arrays net t p order) (blocks_of net t p order) (blocks_are net t p order))) ordered);
+  }
+
+  all_declared_once : Distinct ((clocks (in_parts net t p order) ++ names_of (nets (in_parts net t p order)))
+      ++ (variable_names (arrays (in_parts net t p order)) ++ output_clocks (in_parts net t p order)))
+  all_declared_once =
+      let here = clocks (in_parts net t p order) ++ names_of (nets (in_parts net t p order)) in
+      subst (λ (ks : List Variable). Distinct (here ++ (variable_names ks ++ output_clocks (in_parts net t p order)))) (sym (no_arrays net t p order))
+      (subst (λ (ns : List (List ℕ)). Distinct (here ++ ns)) (sym (no_output_clocks net t p order)) (subst Distinct (sym (append-nil here)) all_once))
+
+  block_sound : (b : AlwaysBlock) → In (blocks (in_parts net t p order)) b → IsSoundBlock (in_parts net t p order) b
+  block_sound b m =
+      let from = in_map_from plain_block (blocks_of net t p order) b (subst (λ (bs : List AlwaysBlock). In bs b) (blocks_are net t p order) m) in
+      subst (IsSoundBlock (in_parts net t p order)) from.2
+      (all_at (IsPlain (in_parts net t p order)) (blocks_of net t p order) (blocks_sound net t p order is) from.0 from.1)
+
+  no_array_in : (k : Variable) → In (arrays (in_parts net t p order)) k → ⊥
+  no_array_in k m = subst (λ (ks : List Variable). In ks k) (no_arrays net t p order) m
 
   pub parts_valid : Valid (in_parts net t p order)
   parts_valid = record {
-    declared_once = all_once;
+    declared_once = all_declared_once;
     declared_before = declared;
-    clock_inputs = λ q m e. all_at ClockIn (in_parts net t p order).ports clocks_in q m e;
-    narrow = λ n w m. all_at IsNarrow tree_sizes all_narrow (n, w) (subst (λ (ns : List Sized). In ns (n, w)) (nets_sized net t p order is) m);
+    narrow = λ n w m. all_at IsNarrow tree_sizes all_narrow (n, w) (subst (λ (ns : List SizedNet). In ns (n, w)) (nets_sized net t p order is) m);
+    narrow_words = λ k m. absurd (no_array_in k m);
+    few_words = subst (λ (ks : List Variable). sum_by (λ (k : Variable). k.depth) ks ≤ 4194304) (sym (no_arrays net t p order)) (omega arith);
     sound_assigns = fits;
-    driven_once = targets_once;
+    driven_once =
+        subst (λ (xs : List Assign). Distinct (targets (assigns (in_parts net t p order) ++ xs))) (sym no_clock_assigns)
+        (subst (λ (xs : List Assign). Distinct (targets xs)) (sym (append-nil (assigns (in_parts net t p order)))) targets_once);
     driven = λ n m. subst (λ ns. In ns n) all_driven m;
+    driven_clocks = λ n m. absurd (subst (λ (ns : List (List ℕ)). In ns n) (no_output_clocks net t p order) m);
+    clock_sides = λ a m. absurd (subst (λ (xs : List Assign). In xs a) no_clock_assigns m);
     undriven_sources = sources_not_driven;
-    sound_blocks =
-        λ b m. all_at (IsBlock (in_parts net t p order)) (blocks_of net t p order) (blocks_sound net t p order is) b
-        (subst (λ (bs : List Always). In bs b) (blocks_are net t p order) m);
+    sound_blocks = block_sound;
     written_once = written;
-    ordered = (assigns (in_parts net t p order), record { each = λ a m. m; only = λ a m. m; once = targets_once; after = ordered });
+    ordered = (processes (in_parts net t p order), in_order);
   }

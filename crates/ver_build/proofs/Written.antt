@@ -9,19 +9,24 @@ use Rattle.fir_base.specs.Ticks.{Env, rises}
 use Rattle.fir_base.proofs.Members.{in_either}
 use Rattle.fir_net.specs.declared.leaf.Leaf.{Leaf}
 use Rattle.ver_ast.specs.declared.tree.Always.{Always}
-use Rattle.ver_ast.specs.Nets.{Sized}
+use Rattle.ver_ast.specs.Nets.{SizedNet}
 use Rattle.ver_ast.specs.AtomValues.{atom_value}
-use Rattle.ver_ast.specs.Next.{written}
 use Rattle.ver_build.specs.working.Places.{name_at}
 use Rattle.ver_build.specs.working.Built.{along}
 use Rattle.std.proofs.lemmas.Bool.{cond_both}
 use Rattle.fir_base.proofs.Tests.{both}
 
+-- what a register shows, or what the block of a named clock writes to it
+abbrev pub written : List SizedNet → Env → List ℕ → List Always → List ℕ → ℕ
+written nets env named [] name = env name
+written nets env named (b ∷ bs) name =
+    if bytes_eq b.target name && rises named (env b.clock) then atom_value nets env b.source else written nets env named bs name
+
 -- none of the blocks has that target
 pub record NoTarget (n : List ℕ) (bs : List Always) : Type 0 where
   pub each : (b : Always) → In bs b → b.target ≡ n → ⊥
 
-module _ (ns : List Sized) (f : Env) (named : List ℕ) (n : List ℕ) where
+module _ (ns : List SizedNet) (f : Env) (named : List ℕ) (n : List ℕ) where
   other_target : (b : Always) (bs : List Always) → (b.target ≡ n → ⊥) → written ns f named (b ∷ bs) n ≡ written ns f named bs n
   other_target b bs other =
       cond_both (bytes_eq b.target n && rises named (f b.clock)) (atom_value ns f b.source) (written ns f named bs n)

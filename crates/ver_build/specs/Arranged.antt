@@ -3,15 +3,17 @@
 -- in port order, each after the assigns of all that it reads; then the blocks, one for each of some registers, in the order of these. Nothing else is there.
 use Rattle.std.specs.Prelude.{◌≡◌, List, [], ◌∷◌, ◌++◌, map, Bool, true, false}
 use Rattle.ver_ast.specs.declared.tree.Verilog.{Verilog}
+use Rattle.ver_ast.specs.declared.tree.Always.{Always}
 use Rattle.ver_ast.specs.declared.tree.Item.{Item}
 use Rattle.ver_ast.specs.declared.tree.Item.TheVariants as item
-use Rattle.ver_ast.specs.Nets.{Sized, inputs, outputs, wires, regs, assigns, targets, blocks, block_targets, names_of}
+use Rattle.ver_ast.specs.Nets.{SizedNet, input_nets, output_nets, wires, regs, assigns, targets, blocks, block_targets, names_of}
+use Rattle.ver_ast.specs.Processes.{assigning}
 use Rattle.ver_ast.specs.Valid.{ReadsBefore}
 
-abbrev pub reg_item : Sized → Item
+abbrev pub reg_item : SizedNet → Item
 reg_item n = item.Reg (record { width = n.1; name = n.0 })
 
-abbrev pub wire_item : Sized → Item
+abbrev pub wire_item : SizedNet → Item
 wire_item n = item.Wire (record { width = n.1; name = n.0 })
 
 -- those of a list beside which true stands, in the order of the list
@@ -22,9 +24,10 @@ marked (true ∷ ms) (x ∷ xs) = x ∷ marked ms xs
 marked (false ∷ ms) (x ∷ xs) = marked ms xs
 
 pub record IsArranged (v : Verilog) : Type 0 where
-  pub by_kind : v.items ≡ map reg_item (regs v) ++ (map wire_item (wires v) ++ (map item.Assign (assigns v) ++ map item.Always (blocks v)))
-  pub assigns_in_order : targets (assigns v) ≡ names_of (wires v ++ outputs v)
-  pub after_what_is_read : ReadsBefore (names_of (inputs v ++ regs v)) (assigns v)
+  pub always : List Always
+  pub by_kind : v.items ≡ map reg_item (regs v) ++ (map wire_item (wires v) ++ (map item.Assign (assigns v) ++ map item.Always always))
+  pub assigns_in_order : targets (assigns v) ≡ names_of (wires v ++ output_nets v)
+  pub after_what_is_read : ReadsBefore (names_of (input_nets v ++ regs v)) (map assigning (assigns v))
   -- for each register whether it has a block
   pub driven : List Bool
   pub blocks_in_order : block_targets (blocks v) ≡ marked driven (names_of (regs v))

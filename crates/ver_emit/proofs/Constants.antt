@@ -6,7 +6,8 @@ use Rattle.std.specs.Fmt.{digit_glyph}
 use Rattle.std.proofs.lemmas.Bool.{cases_lt, or_parts}
 use Rattle.std.proofs.lemmas.Bool.Decides.{nat_tests}
 use Rattle.fir_base.specs.Bytes.{is_digit, is_word_byte}
-use Rattle.ver_ast.specs.Tokens.{Token, constant, hexadecimal, in_number, at_digits, in_constant, digit_in, begin, close_and_begin, step, go_on, tokens_from, tokens}
+use Rattle.ver_ast.specs.Tokens.{VToken, constant, hexadecimal}
+use Rattle.ver_ast.specs.working.TokenSteps.{in_number, at_digits, in_constant, digit_in, begin, close_and_begin, step, go_on, tokens_from, tokens}
 use Rattle.fir_base.specs.Digits as digits
 use Rattle.ver_emit.proofs.Words.{Closes, closed_behind}
 use Rattle.ver_emit.proofs.Numbers.{number_read}
@@ -14,7 +15,7 @@ use Rattle.fir_base.proofs.Digits.{hexadecimal_by_steps}
 
 -- behind the base, the digits are read as this number, whatever stands behind them
 abbrev ReadsAs : ℕ → List ℕ → Type 0
-ReadsAs n ds = (w : ℕ) (rest : List ℕ) (ts : List Token) → tokens_from (in_constant w hexadecimal n) rest ≡ Some ts
+ReadsAs n ds = (w : ℕ) (rest : List ℕ) (ts : List VToken) → tokens_from (in_constant w hexadecimal n) rest ≡ Some ts
     → tokens_from (at_digits w hexadecimal) (ds ++ rest) ≡ Some ts
 
 -- a digit from 0 to 9
@@ -70,7 +71,7 @@ close_step : (w n b : ℕ) → digit_in hexadecimal b ≡ None → nat_eq b 63 �
 close_step w n b d q = rw (d, q) refl
 
 -- and the token stands before those behind it
-close_constant : (w n : ℕ) (rest : List ℕ) (ts : List Token) → Closes rest → tokens rest ≡ Some ts
+close_constant : (w n : ℕ) (rest : List ℕ) (ts : List VToken) → Closes rest → tokens rest ≡ Some ts
     → tokens_from (in_constant w hexadecimal n) rest ≡ Some (constant w n ∷ ts)
 unfolding tokens_from
 close_constant w n [] ts c e = absurd c
@@ -80,13 +81,13 @@ close_constant w n (b ∷ bs) ts c e =
     ∙ closed_behind (constant w n) (begin b) (λ next. tokens_from next bs) ts e
 
 -- what stands behind the width
-quote_read : (w : ℕ) (rest : List ℕ) (ts : List Token) → tokens_from (at_digits w hexadecimal) rest ≡ Some ts
+quote_read : (w : ℕ) (rest : List ℕ) (ts : List VToken) → tokens_from (at_digits w hexadecimal) rest ≡ Some ts
     → tokens_from (in_number false w) (codes "'h" ++ rest) ≡ Some ts
 unfolding tokens_from
 quote_read w rest ts e = rw e refl
 
 -- a constant before what closes it
-pub constant_spelled : (w n : ℕ) (rest : List ℕ) (ts : List Token) → 1 ≤ w → w ≤ 128 → n < 2 ^ 128 → Closes rest
+pub constant_spelled : (w n : ℕ) (rest : List ℕ) (ts : List VToken) → 1 ≤ w → w ≤ 128 → n < 2 ^ 128 → Closes rest
     → tokens rest ≡ Some ts → tokens (decimal w ++ (codes "'h" ++ (digits.hexadecimal n ++ rest))) ≡ Some (constant w n ∷ ts)
 constant_spelled w n rest ts low high small c e =
     let read = hexadecimal_by_steps ReadsAs one_digit more_digits n small w rest _ (close_constant w n rest ts c e) in

@@ -8,6 +8,7 @@ pub mod Narrow
 pub mod Operands
 pub mod Sides
 pub mod Ports
+pub mod Blocks
 pub mod Items
 pub mod Spelled
 pub mod Slashes

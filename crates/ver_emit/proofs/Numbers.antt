@@ -5,13 +5,14 @@ use Rattle.std.specs.Prelude.{decimal, nat_eq}
 use Rattle.std.proofs.lemmas.Fmt.{decimal_by_steps, decimal_digit}
 use Rattle.std.proofs.lemmas.Bool.Decides.{nat_tests}
 use Rattle.fir_base.specs.Bytes.{is_digit, is_word_start}
-use Rattle.ver_ast.specs.Tokens.{Token, is_double, number, in_number, number_token, begin, close_and_begin, step, go_on, tokens_from, tokens}
+use Rattle.ver_ast.specs.Tokens.{VToken, number}
+use Rattle.ver_ast.specs.working.TokenSteps.{is_double, in_number, number_token, begin, close_and_begin, step, go_on, tokens_from, tokens}
 use Rattle.ver_ast.specs.Grammar.{plain_number}
 use Rattle.ver_emit.proofs.Words.{OpensNoMark, closed_behind}
 
 -- the digits are read as this number, whatever stands behind them
 abbrev ReadsAs : ℕ → List ℕ → Type 0
-ReadsAs n ds = 1 ≤ n → (rest : List ℕ) (ts : List Token) → tokens_from (in_number false n) rest ≡ Some ts → tokens (ds ++ rest) ≡ Some ts
+ReadsAs n ds = 1 ≤ n → (rest : List ℕ) (ts : List VToken) → tokens_from (in_number false n) rest ≡ Some ts → tokens (ds ++ rest) ≡ Some ts
 
 -- a decimal digit is one
 digit_read : (d : ℕ) → d < 10 → is_digit (48 + d) ≡ true
@@ -45,7 +46,7 @@ more_digits n ds h front low rest ts e =
     ap tokens (append_assoc ds ((48 + n % 10) ∷ []) rest) ∙ front (omega arith) _ ts last
 
 -- the digits of a number above 0
-pub number_read : (n : ℕ) (rest : List ℕ) (ts : List Token) → 1 ≤ n → n < 2 ^ 64 → tokens_from (in_number false n) rest ≡ Some ts
+pub number_read : (n : ℕ) (rest : List ℕ) (ts : List VToken) → 1 ≤ n → n < 2 ^ 64 → tokens_from (in_number false n) rest ≡ Some ts
     → tokens (decimal n ++ rest) ≡ Some ts
 number_read n rest ts low high e = decimal_by_steps ReadsAs one_digit more_digits n high low rest ts e
 
@@ -55,7 +56,7 @@ close_step : (one_zero : Bool) (n b : ℕ) → is_digit b ≡ false → nat_eq b
 close_step one_zero n b d q = rw (d, q) refl
 
 -- and the token stands before those behind it
-close_number : (one_zero : Bool) (n b : ℕ) (rest : List ℕ) (ts : List Token) → is_digit b ≡ false → nat_eq b 39 ≡ false
+close_number : (one_zero : Bool) (n b : ℕ) (rest : List ℕ) (ts : List VToken) → is_digit b ≡ false → nat_eq b 39 ≡ false
     → tokens (b ∷ rest) ≡ Some ts → tokens_from (in_number one_zero n) (b ∷ rest) ≡ Some (number_token one_zero n ∷ ts)
 unfolding tokens_from
 close_number one_zero n b rest ts d q e =
@@ -63,12 +64,12 @@ close_number one_zero n b rest ts d q e =
     ∙ closed_behind (number_token one_zero n) (begin b) (λ next. tokens_from next rest) ts e
 
 -- a number above 0 before such a byte
-pub number_spelled : (n b : ℕ) (rest : List ℕ) (ts : List Token) → 1 ≤ n → n < 2 ^ 64 → is_digit b ≡ false → nat_eq b 39 ≡ false
+pub number_spelled : (n b : ℕ) (rest : List ℕ) (ts : List VToken) → 1 ≤ n → n < 2 ^ 64 → is_digit b ≡ false → nat_eq b 39 ≡ false
     → tokens (b ∷ rest) ≡ Some ts → tokens (decimal n ++ b ∷ rest) ≡ Some (number n ∷ ts)
 number_spelled n b rest ts low high d q e = number_read n (b ∷ rest) _ low high (close_number false n b rest ts d q e)
 
 -- any number before such a byte
-pub plain_spelled : (n b : ℕ) (rest : List ℕ) (ts : List Token) → n < 2 ^ 64 → is_digit b ≡ false → nat_eq b 39 ≡ false
+pub plain_spelled : (n b : ℕ) (rest : List ℕ) (ts : List VToken) → n < 2 ^ 64 → is_digit b ≡ false → nat_eq b 39 ≡ false
     → tokens (b ∷ rest) ≡ Some ts → tokens (decimal n ++ b ∷ rest) ≡ Some (plain_number n ∷ ts)
 unfolding tokens_from
 plain_spelled zero b rest ts high d q e = rw (decimal_digit 0 (omega arith), close_number true 0 b rest ts d q e) refl

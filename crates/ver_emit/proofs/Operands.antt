@@ -9,10 +9,11 @@ use Rattle.fir_base.proofs.Each.{all_left, all_right}
 use Rattle.ver_words.specs.Names.{IsName}
 use Rattle.ver_ast.specs.Atoms.{AtomTree, net, constant, bit_select, part_select, concat, repeat, AtomTrees, no_atoms, atom_before}
 use Rattle.ver_ast.specs.AtomWidths.{atom_width}
-use Rattle.ver_ast.specs.Nets.{Sized}
+use Rattle.ver_ast.specs.Nets.{SizedNet}
 use Rattle.ver_ast.specs.SoundSides.{IsSound, AreSound, IsOperand}
-use Rattle.ver_ast.specs.Spells.{atom_names, joined_names}
-use Rattle.ver_ast.specs.Tokens.{Token, sign, tokens}
+use Rattle.ver_ast.specs.Names.{atom_names, joined_names}
+use Rattle.ver_ast.specs.Tokens.{VToken, sign}
+use Rattle.ver_ast.specs.working.TokenSteps.{tokens}
 use Rattle.ver_ast.specs.Grammar.{plain_number, atom_tokens, next_atom_tokens}
 use Rattle.ver_emit.specs.Layout.{atom_text, next_atom_text}
 use Rattle.ver_emit.proofs.Fixed.{fixed_spelled}
@@ -27,7 +28,7 @@ closed_by_atoms no_atoms rest = refl
 closed_by_atoms (atom_before a more) rest = refl
 
 -- a sound operand has a bit
-has_a_bit : (nets : List Sized) (a : AtomTree) → IsSound nets a → 1 ≤ atom_width nets a
+has_a_bit : (nets : List SizedNet) (a : AtomTree) → IsSound nets a → 1 ≤ atom_width nets a
 has_a_bit nets (net n) sound = sound
 has_a_bit nets (constant width value) sound = sound.0
 has_a_bit nets (bit_select n i) sound = omega arith
@@ -37,11 +38,11 @@ has_a_bit nets (repeat count a) sound =
     omega (arith, mul-le-mul_left count (has_a_bit nets a sound.0), sound.1)
 
 -- so there are no more copies of it than bits
-few_copies : (nets : List Sized) (count : ℕ) (a : AtomTree) → IsSound nets (repeat count a) → count ≤ 128
+few_copies : (nets : List SizedNet) (count : ℕ) (a : AtomTree) → IsSound nets (repeat count a) → count ≤ 128
 few_copies nets count a sound = omega (arith, mul-le-mul_left count (has_a_bit nets a sound.0), sound.2)
 
 mutual
-  atom_spelled : (nets : List Sized) (a : AtomTree) (rest : List ℕ) (ts : List Token) → AllNarrow nets → IsSound nets a
+  atom_spelled : (nets : List SizedNet) (a : AtomTree) (rest : List ℕ) (ts : List VToken) → AllNarrow nets → IsSound nets a
       → AllByRecursion IsName (atom_names a) → Closes rest → tokens rest ≡ Some ts → tokens (atom_text a ++ rest) ≡ Some (atom_tokens a ++ ts)
   atom_spelled nets (net n) rest ts narrow sound named c e = word_spelled n rest ts named.0.spelled c e
   atom_spelled nets (constant w value) rest ts narrow sound named c e =
@@ -78,7 +79,7 @@ mutual
       ap tokens grouped ∙ fixed_spelled (codes "{") _ _ _ refl number ∙ ap Some same
 
   -- the operands behind the first
-  next_atoms_spelled : (nets : List Sized) (more : AtomTrees) (rest : List ℕ) (ts : List Token) → AllNarrow nets → AreSound nets more
+  next_atoms_spelled : (nets : List SizedNet) (more : AtomTrees) (rest : List ℕ) (ts : List VToken) → AllNarrow nets → AreSound nets more
       → AllByRecursion IsName (joined_names more) → tokens rest ≡ Some ts
       → tokens (next_atom_text more ++ 125 ∷ rest) ≡ Some (next_atom_tokens more ++ sign 125 ∷ ts)
   next_atoms_spelled nets no_atoms rest ts narrow sound named e = fixed_spelled (codes "}") rest _ ts refl e
@@ -92,7 +93,7 @@ mutual
       ap tokens grouped ∙ fixed_spelled (codes ", ") _ _ _ refl first ∙ ap Some same
 
 -- the first byte of an operand makes no mark with a parenthesis before it
-opens_no_mark : (nets : List Sized) (a : AtomTree) (rest : List ℕ) → IsSound nets a → AllByRecursion IsName (atom_names a)
+opens_no_mark : (nets : List SizedNet) (a : AtomTree) (rest : List ℕ) → IsSound nets a → AllByRecursion IsName (atom_names a)
     → OpensNoMark (atom_text a ++ rest)
 opens_no_mark nets (net n) rest sound named = word_opens_no_mark n rest named.0.spelled
 opens_no_mark nets (constant w value) rest sound named =
@@ -109,17 +110,21 @@ opens_no_mark nets (repeat count a) rest sound named = refl
 
 -- the text of the operand is read as its tokens, before whatever closes it
 pub record IsSpelled (a : AtomTree) : Type 0 where
-  pub before : (rest : List ℕ) (ts : List Token) → Closes rest → tokens rest ≡ Some ts → tokens (atom_text a ++ rest) ≡ Some (atom_tokens a ++ ts)
+  pub before : (rest : List ℕ) (ts : List VToken) → Closes rest → tokens rest ≡ Some ts → tokens (atom_text a ++ rest) ≡ Some (atom_tokens a ++ ts)
   pub no_mark : (rest : List ℕ) → OpensNoMark (atom_text a ++ rest)
 
-pub operand_spelled : (nets : List Sized) (a : AtomTree) → AllNarrow nets → IsOperand nets a → AllByRecursion IsName (atom_names a) → IsSpelled a
+pub operand_spelled : (nets : List SizedNet) (a : AtomTree) → AllNarrow nets → IsOperand nets a → AllByRecursion IsName (atom_names a) → IsSpelled a
 operand_spelled nets a narrow operand named = record {
   before = λ rest ts c e. atom_spelled nets a rest ts narrow operand.sound named c e;
   no_mark = λ rest. opens_no_mark nets a rest operand.sound named;
 }
 
+-- a name, whatever it is declared as
+pub name_spelled : (n : List ℕ) → IsName n → IsSpelled (net n)
+name_spelled n named = record { before = λ rest ts c e. word_spelled n rest ts named.spelled c e; no_mark = λ rest. word_opens_no_mark n rest named.spelled }
+
 -- each operand of a list
-pub operands_spelled : (nets : List Sized) (atoms : List AtomTree) → AllNarrow nets → AllByRecursion (IsOperand nets) atoms
+pub operands_spelled : (nets : List SizedNet) (atoms : List AtomTree) → AllNarrow nets → AllByRecursion (IsOperand nets) atoms
     → AllByRecursion IsName (flat_map atom_names atoms) → AllByRecursion IsSpelled atoms
 operands_spelled nets [] narrow operands named = tt
 operands_spelled nets (a ∷ more) narrow operands named = (

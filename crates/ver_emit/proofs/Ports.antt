@@ -10,8 +10,9 @@ use Rattle.ver_words.specs.declared.signal.Signal.{Signal}
 use Rattle.ver_words.specs.declared.signal.Signal.TheVariants.{Bits, Clock}
 use Rattle.ver_words.specs.Names.{IsName}
 use Rattle.ver_ast.specs.Nets.{port_net}
-use Rattle.ver_ast.specs.Tokens.{Token, word, sign, between, tokens}
-use Rattle.ver_ast.specs.Grammar.{direction_word, signal_tokens, port_tokens, next_port_tokens, ports_tokens}
+use Rattle.ver_ast.specs.Tokens.{VToken, word, sign}
+use Rattle.ver_ast.specs.working.TokenSteps.{between, tokens}
+use Rattle.ver_ast.specs.Grammar.{direction_keyword, signal_tokens, port_tokens, next_port_tokens, ports_tokens}
 use Rattle.ver_emit.specs.Layout.{range_text, signal_text, port_text, next_port_text, ports_text}
 use Rattle.ver_emit.proofs.Grouping.{three_joined}
 use Rattle.ver_emit.proofs.Fixed.{run, fixed_spelled}
@@ -24,7 +25,7 @@ abbrev pub AreNamed : List Port → Type 0
 AreNamed = AllByRecursion (λ p. IsName p.name)
 
 -- the word of a direction, and the space behind it
-direction_read : (d : Direction) → run between (direction_word d ++ codes " ") ≡ Some (word (direction_word d) ∷ [], between)
+direction_read : (d : Direction) → run between (direction_keyword d ++ codes " ") ≡ Some (word (direction_keyword d) ∷ [], between)
 direction_read Input = refl
 direction_read Output = refl
 
@@ -34,15 +35,15 @@ clock_read Input = refl
 clock_read Output = refl
 
 -- what stands before the name of a port
-signal_spelled : (s : Signal) (d : Direction) (rest : List ℕ) (ts : List Token) → IsNarrow s → tokens rest ≡ Some ts
+signal_spelled : (s : Signal) (d : Direction) (rest : List ℕ) (ts : List VToken) → IsNarrow s → tokens rest ≡ Some ts
     → tokens (signal_text s d ++ rest) ≡ Some (signal_tokens s d ++ ts)
 signal_spelled (Bits w) d rest ts narrow e =
-    let grouped : signal_text (Bits w) d ++ rest ≡ (direction_word d ++ codes " ") ++ (range_text w ++ rest) = simp append_assoc in
-    ap tokens grouped ∙ fixed_spelled (direction_word d ++ codes " ") _ _ _ (direction_read d) (range_spelled w rest ts narrow.0 narrow.1 e)
+    let grouped : signal_text (Bits w) d ++ rest ≡ (direction_keyword d ++ codes " ") ++ (range_text w ++ rest) = simp append_assoc in
+    ap tokens grouped ∙ fixed_spelled (direction_keyword d ++ codes " ") _ _ _ (direction_read d) (range_spelled w rest ts narrow.0 narrow.1 e)
 signal_spelled Clock d rest ts narrow e = fixed_spelled (signal_text Clock d) rest (signal_tokens Clock d) ts (clock_read d) e
 
 -- a port before what closes its name
-port_spelled : (p : Port) (rest : List ℕ) (ts : List Token) → IsNarrow p.signal → IsName p.name → Closes rest → tokens rest ≡ Some ts
+port_spelled : (p : Port) (rest : List ℕ) (ts : List VToken) → IsNarrow p.signal → IsName p.name → Closes rest → tokens rest ≡ Some ts
     → tokens (port_text p ++ rest) ≡ Some (port_tokens p ++ ts)
 port_spelled p rest ts narrow named c e =
     let name = word_spelled p.name rest ts named.spelled c e in
@@ -59,7 +60,7 @@ closed_by_ports [] rest = refl
 closed_by_ports (p ∷ ps) rest = refl
 
 -- the ports behind the first
-next_ports_spelled : (ps : List Port) (rest : List ℕ) (ts : List Token) → AllNarrow (flat_map port_net ps) → AreNamed ps → tokens rest ≡ Some ts
+next_ports_spelled : (ps : List Port) (rest : List ℕ) (ts : List VToken) → AllNarrow (flat_map port_net ps) → AreNamed ps → tokens rest ≡ Some ts
     → tokens (flat_map next_port_text ps ++ 10 ∷ rest) ≡ Some (flat_map next_port_tokens ps ++ ts)
 next_ports_spelled [] rest ts narrow named e = fixed_spelled (codes "\n") rest [] ts refl e
 next_ports_spelled (p ∷ ps) rest ts narrow named e =
@@ -72,7 +73,7 @@ next_ports_spelled (p ∷ ps) rest ts narrow named e =
     ap tokens grouped ∙ fixed_spelled (codes ",") _ _ _ refl port ∙ ap Some same
 
 -- the ports before what closes their list
-pub ports_spelled : (ps : List Port) (rest : List ℕ) (ts : List Token) → AllNarrow (flat_map port_net ps) → AreNamed ps → tokens rest ≡ Some ts
+pub ports_spelled : (ps : List Port) (rest : List ℕ) (ts : List VToken) → AllNarrow (flat_map port_net ps) → AreNamed ps → tokens rest ≡ Some ts
     → tokens (ports_text ps ++ rest) ≡ Some (ports_tokens ps ++ ts)
 ports_spelled [] rest ts narrow named e = e
 ports_spelled (p ∷ ps) rest ts narrow named e =

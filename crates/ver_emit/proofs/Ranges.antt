@@ -3,14 +3,15 @@
 use Rattle.std.proofs.Common.{◌≡◌, ℕ, ◌-◌, ◌≤◌, List, ◌++◌, Bool, true, false, Some, refl, ap, ◌∙◌, append_assoc, arith}
 use Rattle.std.specs.Prelude.{codes, decimal, nat_eq}
 use Rattle.std.proofs.lemmas.Bool.Decides.{nat_tests}
-use Rattle.ver_ast.specs.Tokens.{Token, tokens}
+use Rattle.ver_ast.specs.Tokens.{VToken}
+use Rattle.ver_ast.specs.working.TokenSteps.{tokens}
 use Rattle.ver_ast.specs.Grammar.{range_tokens}
 use Rattle.ver_emit.specs.Layout.{range_text}
 use Rattle.ver_emit.proofs.Fixed.{fixed_spelled}
 use Rattle.ver_emit.proofs.Numbers.{number_spelled}
 
 -- where the test for a width of 1 has this answer
-range_by_test : (w : ℕ) (one : Bool) (rest : List ℕ) (ts : List Token) → nat_eq w 1 ≡ one → 1 ≤ w → w ≤ 128 → tokens rest ≡ Some ts
+range_by_test : (w : ℕ) (one : Bool) (rest : List ℕ) (ts : List VToken) → nat_eq w 1 ≡ one → 1 ≤ w → w ≤ 128 → tokens rest ≡ Some ts
     → tokens (range_text w ++ rest) ≡ Some (range_tokens w ++ ts)
 range_by_test w true rest ts test low high e = rw test e
 range_by_test w false rest ts test low high e =
@@ -22,6 +23,6 @@ range_by_test w false rest ts test low high e =
     rw test (ap tokens grouped ∙ fixed_spelled (codes "[") _ _ _ refl digits)
 
 -- the range of a width, where one stands, before the rest
-pub range_spelled : (w : ℕ) (rest : List ℕ) (ts : List Token) → 1 ≤ w → w ≤ 128 → tokens rest ≡ Some ts
+pub range_spelled : (w : ℕ) (rest : List ℕ) (ts : List VToken) → 1 ≤ w → w ≤ 128 → tokens rest ≡ Some ts
     → tokens (range_text w ++ rest) ≡ Some (range_tokens w ++ ts)
 range_spelled w rest ts low high e = range_by_test w (nat_eq w 1) rest ts refl low high e

@@ -10,13 +10,16 @@ use Rattle.ver_ast.specs.declared.tree.UnaryOp.TheVariants as unary
 use Rattle.ver_ast.specs.declared.tree.BinaryOp.{BinaryOp}
 use Rattle.ver_ast.specs.declared.tree.BinaryOp.TheVariants as binary
 use Rattle.ver_ast.specs.Atoms.{AtomTree}
-use Rattle.ver_ast.specs.Spells.{rhs_atoms}
-use Rattle.ver_ast.specs.Tokens.{Token, sign, signed_shift, signed_word, between, tokens}
+use Rattle.ver_ast.specs.Names.{rhs_atoms}
+use Rattle.ver_ast.specs.ItemNames.{rhs_arrays}
+use Rattle.ver_ast.specs.Spells.{AreVerilogNames}
+use Rattle.ver_ast.specs.Tokens.{VToken, word, sign, signed_shift, signed_word}
+use Rattle.ver_ast.specs.working.TokenSteps.{between, tokens}
 use Rattle.ver_ast.specs.Grammar.{atom_tokens, unary_sign, binary_token, unsigned_op, signed_tokens, rhs_tokens}
 use Rattle.ver_emit.specs.Layout.{atom_text, between_text, signed_text, rhs_text}
 use Rattle.ver_emit.proofs.Grouping.{three_joined}
 use Rattle.ver_emit.proofs.Fixed.{run, fixed_spelled}
-use Rattle.ver_emit.proofs.Words.{Closes, parenthesis_spelled}
+use Rattle.ver_emit.proofs.Words.{Closes, word_spelled, parenthesis_spelled}
 use Rattle.ver_emit.proofs.Operands.{IsSpelled}
 
 -- an operator before its operand
@@ -46,7 +49,7 @@ binary_read binary.Gt = refl
 binary_read binary.Geq = refl
 
 -- an operand that is read as a signed number
-signed_spelled : (a : AtomTree) (rest : List ℕ) (ts : List Token) → IsSpelled a → tokens rest ≡ Some ts
+signed_spelled : (a : AtomTree) (rest : List ℕ) (ts : List VToken) → IsSpelled a → tokens rest ≡ Some ts
     → tokens (signed_text a ++ rest) ≡ Some (signed_tokens a ++ ts)
 signed_spelled a rest ts spelled e =
     let inner = spelled.before _ _ refl (fixed_spelled (codes ")") rest _ ts refl e) in
@@ -55,30 +58,30 @@ signed_spelled a rest ts spelled e =
     ap tokens grouped ∙ fixed_spelled (codes "$signed") _ _ _ refl (parenthesis_spelled _ _ (spelled.no_mark _) inner) ∙ ap Some same
 
 -- a right side before what closes it
-pub rhs_spelled : (r : Rhs) (rest : List ℕ) (ts : List Token) → AllByRecursion IsSpelled (rhs_atoms r) → Closes rest → tokens rest ≡ Some ts
-    → tokens (rhs_text r ++ rest) ≡ Some (rhs_tokens r ++ ts)
-rhs_spelled (rhs.Atom a) rest ts spelled c e = spelled.0.before rest ts c e
-rhs_spelled (rhs.Unary op a) rest ts spelled c e =
+pub rhs_spelled : (r : Rhs) (rest : List ℕ) (ts : List VToken) → AreVerilogNames (rhs_arrays r) → AllByRecursion IsSpelled (rhs_atoms r) → Closes rest
+    → tokens rest ≡ Some ts → tokens (rhs_text r ++ rest) ≡ Some (rhs_tokens r ++ ts)
+rhs_spelled (rhs.Atom a) rest ts arrays spelled c e = spelled.0.before rest ts c e
+rhs_spelled (rhs.Unary op a) rest ts arrays spelled c e =
     fixed_spelled (unary_sign op ∷ []) _ _ _ (unary_read op) (spelled.0.before rest ts c e)
-rhs_spelled (rhs.Binary a op b) rest ts spelled c e =
+rhs_spelled (rhs.Binary a op b) rest ts arrays spelled c e =
     let right = spelled.1.0.before rest ts c e in
     let left = spelled.0.before _ _ refl (fixed_spelled (between_text op) _ _ _ (binary_read op) right) in
     let grouped : rhs_text (rhs.Binary a op b) ++ rest ≡ atom_text a ++ (between_text op ++ (atom_text b ++ rest)) =
     three_joined (atom_text a) (between_text op) (atom_text b) rest in
     ap tokens grouped ∙ left ∙ ap Some (sym (append_assoc (atom_tokens a) (binary_token op ∷ atom_tokens b) ts))
-rhs_spelled (rhs.Signed a op b) rest ts spelled c e =
+rhs_spelled (rhs.Signed a op b) rest ts arrays spelled c e =
     let right = signed_spelled b rest ts spelled.1.0 e in
     let left = signed_spelled a _ _ spelled.0 (fixed_spelled (between_text (unsigned_op op)) _ _ _ (binary_read (unsigned_op op)) right) in
     let grouped : rhs_text (rhs.Signed a op b) ++ rest ≡ signed_text a ++ (between_text (unsigned_op op) ++ (signed_text b ++ rest)) =
     three_joined (signed_text a) (between_text (unsigned_op op)) (signed_text b) rest in
     ap tokens grouped ∙ left ∙ ap Some (sym (append_assoc (signed_tokens a) (binary_token (unsigned_op op) ∷ signed_tokens b) ts))
-rhs_spelled (rhs.SignedShift a b) rest ts spelled c e =
+rhs_spelled (rhs.SignedShift a b) rest ts arrays spelled c e =
     let right = spelled.1.0.before rest ts c e in
     let left = signed_spelled a _ _ spelled.0 (fixed_spelled (codes " >>> ") _ _ _ refl right) in
     let grouped : rhs_text (rhs.SignedShift a b) ++ rest ≡ signed_text a ++ (codes " >>> " ++ (atom_text b ++ rest)) =
     three_joined (signed_text a) (codes " >>> ") (atom_text b) rest in
     ap tokens grouped ∙ left ∙ ap Some (sym (append_assoc (signed_tokens a) (signed_shift ∷ atom_tokens b) ts))
-rhs_spelled (rhs.Conditional p a b) rest ts spelled c e =
+rhs_spelled (rhs.Conditional p a b) rest ts arrays spelled c e =
     let other = spelled.1.1.0.before rest ts c e in
     let one = spelled.1.0.before _ _ refl (fixed_spelled (codes " : ") _ _ _ refl other) in
     let condition = spelled.0.before _ _ refl (fixed_spelled (codes " ? ") _ _ _ refl one) in
@@ -87,3 +90,9 @@ rhs_spelled (rhs.Conditional p a b) rest ts spelled c e =
     let same : atom_tokens p ++ (sign 63 ∷ (atom_tokens a ++ (sign 58 ∷ (atom_tokens b ++ ts)))) ≡ rhs_tokens (rhs.Conditional p a b) ++ ts =
     simp append_assoc in
     ap tokens grouped ∙ condition ∙ ap Some same
+rhs_spelled (rhs.Word m a) rest ts arrays spelled c e =
+    let address = spelled.0.before _ _ refl (fixed_spelled (codes "]") rest _ ts refl e) in
+    let array = word_spelled m _ _ arrays.0.spelled refl (fixed_spelled (codes "[") _ _ _ refl address) in
+    let grouped : rhs_text (rhs.Word m a) ++ rest ≡ m ++ (codes "[" ++ (atom_text a ++ (codes "]" ++ rest))) = simp append_assoc in
+    let same : word m ∷ sign 91 ∷ (atom_tokens a ++ sign 93 ∷ ts) ≡ rhs_tokens (rhs.Word m a) ++ ts = simp append_assoc in
+    ap tokens grouped ∙ array ∙ ap Some same

@@ -1,7 +1,7 @@
 -- In the layout of a tree whose names are names a space stands behind each slash.
 -- A slash stands there as an operator between its operands alone.
 use Rattle.std.proofs.Common.{ℕ, ◌-◌, List, [], ◌∷◌, ◌++◌, if◌then◌else◌, true, false, refl}
-use Rattle.std.specs.Prelude.{codes, decimal, flat_map, nat_eq}
+use Rattle.std.specs.Prelude.{codes, decimal, flat_map, nat_eq, Option, Some, None}
 use Rattle.std.specs.List.{AllByRecursion}
 use Rattle.fir_base.specs.Digits.{hexadecimal}
 use Rattle.fir_base.specs.declared.direction.Direction.{Direction}
@@ -12,6 +12,8 @@ use Rattle.ver_words.specs.declared.signal.Signal.{Signal}
 use Rattle.ver_words.specs.declared.signal.Signal.TheVariants.{Bits, Clock}
 use Rattle.ver_ast.specs.declared.tree.Verilog.{Verilog}
 use Rattle.ver_ast.specs.declared.tree.Port.{Port}
+use Rattle.ver_ast.specs.declared.tree.Edge.{Edge}
+use Rattle.ver_ast.specs.declared.tree.Write.{Write}
 use Rattle.ver_ast.specs.declared.tree.Item.{Item}
 use Rattle.ver_ast.specs.declared.tree.Item.TheVariants as item
 use Rattle.ver_ast.specs.declared.tree.Rhs.{Rhs}
@@ -21,9 +23,11 @@ use Rattle.ver_ast.specs.declared.tree.UnaryOp.TheVariants as unary
 use Rattle.ver_ast.specs.declared.tree.BinaryOp.{BinaryOp}
 use Rattle.ver_ast.specs.declared.tree.BinaryOp.TheVariants as binary
 use Rattle.ver_ast.specs.Atoms.{AtomTree, net, constant, bit_select, part_select, concat, repeat, AtomTrees, no_atoms, atom_before}
-use Rattle.ver_ast.specs.Grammar.{direction_word, unary_sign, unsigned_op}
-use Rattle.ver_ast.specs.Spells.{atom_names, joined_names, rhs_atoms, HasItemNames, HasNames}
-use Rattle.ver_emit.specs.Layout.{range_text, signal_text, port_text, next_port_text, ports_text, atom_text, next_atom_text, between_text, signed_text, rhs_text, item_text, layout}
+use Rattle.ver_ast.specs.Grammar.{direction_keyword, unary_sign, unsigned_op}
+use Rattle.ver_ast.specs.Names.{atom_names, joined_names, rhs_atoms, rhs_names}
+use Rattle.ver_ast.specs.ItemNames.{rhs_arrays, edge_names, write_names}
+use Rattle.ver_ast.specs.Spells.{AreVerilogNames, HasItemNames, HasNames}
+use Rattle.ver_emit.specs.Layout.{range_text, signal_text, port_text, next_port_text, ports_text, atom_text, next_atom_text, between_text, signed_text, rhs_text, edge_text, else_text, write_text, item_text, layout}
 use Rattle.ver_emit.proofs.Slashes.{IsSpaced, spaced, spaced_joined, three_spaced, spaced_parts, name_spaced, decimal_spaced, hexadecimal_spaced}
 
 range_spaced : (width : ℕ) → IsSpaced (range_text width)
@@ -33,15 +37,15 @@ range_spaced width =
       | false ↦ three_spaced (codes "[") (decimal (width - 1)) (codes ":0] ") (spaced _ refl) (decimal_spaced (width - 1)) (spaced _ refl)
     ]
 
-direction_spaced : (d : Direction) → IsSpaced (direction_word d)
+direction_spaced : (d : Direction) → IsSpaced (direction_keyword d)
 direction_spaced Input = spaced _ refl
 direction_spaced Output = spaced _ refl
 
 signal_spaced : (s : Signal) (d : Direction) → IsSpaced (signal_text s d)
 signal_spaced (Bits width) d =
-    three_spaced (direction_word d) (codes " ") (range_text width) (direction_spaced d) (spaced _ refl) (range_spaced width)
+    three_spaced (direction_keyword d) (codes " ") (range_text width) (direction_spaced d) (spaced _ refl) (range_spaced width)
 signal_spaced Clock d =
-    three_spaced (codes "(* clock *) ") (direction_word d) (codes " ") (spaced _ refl) (direction_spaced d) (spaced _ refl)
+    three_spaced (codes "(* clock *) ") (direction_keyword d) (codes " ") (spaced _ refl) (direction_spaced d) (spaced _ refl)
 
 port_spaced : (p : Port) → IsName p.name → IsSpaced (port_text p)
 port_spaced p named =
@@ -102,17 +106,19 @@ binary_spaced _ = spaced _ refl
 signed_spaced : (a : AtomTree) → IsSpaced (atom_text a) → IsSpaced (signed_text a)
 signed_spaced a h = three_spaced (codes "$signed(") (atom_text a) (codes ")") (spaced _ refl) h (spaced _ refl)
 
-side_spaced : (r : Rhs) → AllByRecursion (λ a. IsSpaced (atom_text a)) (rhs_atoms r) → IsSpaced (rhs_text r)
-side_spaced (rhs.Atom a) h = h.0
-side_spaced (rhs.Unary op a) h = spaced_joined (unary_sign op ∷ []) (atom_text a) (unary_spaced op) h.0
-side_spaced (rhs.Binary a op b) h = three_spaced (atom_text a) (between_text op) (atom_text b) h.0 (binary_spaced op) h.1.0
-side_spaced (rhs.Signed a op b) h =
+side_spaced : (r : Rhs) → AreVerilogNames (rhs_arrays r) → AllByRecursion (λ a. IsSpaced (atom_text a)) (rhs_atoms r) → IsSpaced (rhs_text r)
+side_spaced (rhs.Atom a) arrays h = h.0
+side_spaced (rhs.Unary op a) arrays h = spaced_joined (unary_sign op ∷ []) (atom_text a) (unary_spaced op) h.0
+side_spaced (rhs.Binary a op b) arrays h = three_spaced (atom_text a) (between_text op) (atom_text b) h.0 (binary_spaced op) h.1.0
+side_spaced (rhs.Signed a op b) arrays h =
     three_spaced (signed_text a) (between_text (unsigned_op op)) (signed_text b) (signed_spaced a h.0) (binary_spaced (unsigned_op op))
     (signed_spaced b h.1.0)
-side_spaced (rhs.SignedShift a b) h = three_spaced (signed_text a) (codes " >>> ") (atom_text b) (signed_spaced a h.0) (spaced _ refl) h.1.0
-side_spaced (rhs.Conditional c a b) h =
+side_spaced (rhs.SignedShift a b) arrays h = three_spaced (signed_text a) (codes " >>> ") (atom_text b) (signed_spaced a h.0) (spaced _ refl) h.1.0
+side_spaced (rhs.Conditional c a b) arrays h =
     three_spaced (atom_text c ++ codes " ? " ++ atom_text a) (codes " : ") (atom_text b)
     (three_spaced (atom_text c) (codes " ? ") (atom_text a) h.0 (spaced _ refl) h.1.0) (spaced _ refl) h.1.1.0
+side_spaced (rhs.Word m a) arrays h =
+    three_spaced (m ++ codes "[") (atom_text a) (codes "]") (spaced_joined m (codes "[") (name_spaced m arrays.0) (spaced _ refl)) h.0 (spaced _ refl)
 
 -- a net behind the word that declares it
 net_spaced : (word n : List ℕ) (width : ℕ) → IsSpaced word → IsName n → IsSpaced (word ++ range_text width ++ n ++ codes ";\n")
@@ -120,18 +126,67 @@ net_spaced word n width h named =
     spaced_joined (word ++ range_text width ++ n) (codes ";\n") (three_spaced word (range_text width) n h (range_spaced width) (name_spaced n named))
     (spaced _ refl)
 
+edge_spaced : (o : Option Edge) → AreVerilogNames (edge_names o) → IsSpaced (edge_text o)
+edge_spaced None named = spaced [] refl
+edge_spaced (Some e) named = three_spaced (codes "posedge ") e.clock (codes " or ") (spaced _ refl) (name_spaced e.clock named.0) (spaced _ refl)
+
+else_spaced : (n : List ℕ) (o : Option Edge) → IsName n → AreVerilogNames (edge_names o) → IsSpaced (else_text n o)
+else_spaced n None target named = spaced [] refl
+else_spaced n (Some e) target named =
+    three_spaced (codes " else " ++ n ++ codes " <= ") (atom_text e.source) (codes ";")
+    (three_spaced (codes " else ") n (codes " <= ") (spaced _ refl) (name_spaced n target) (spaced _ refl)) (atom_spaced e.source named.1) (spaced _ refl)
+
+write_spaced : (w : Write) → AreVerilogNames (write_names w) → IsSpaced (write_text w)
+write_spaced w named =
+    let front : AreVerilogNames (atom_names w.condition ++ atom_names w.index) = all_left IsName (atom_names w.condition ++ atom_names w.index) (atom_names w.source) named.1 in
+    let condition = atom_spaced w.condition (all_left IsName (atom_names w.condition) (atom_names w.index) front) in
+    let index = atom_spaced w.index (all_right IsName (atom_names w.condition) (atom_names w.index) front) in
+    let source = atom_spaced w.source (all_right IsName (atom_names w.condition ++ atom_names w.index) (atom_names w.source) named.1) in
+    three_spaced (codes " if (" ++ atom_text w.condition ++ codes ") " ++ w.array ++ codes "[" ++ atom_text w.index ++ codes "] <= ") (atom_text w.source) (codes ";")
+    (three_spaced (codes " if (" ++ atom_text w.condition ++ codes ") " ++ w.array ++ codes "[") (atom_text w.index) (codes "] <= ")
+    (three_spaced (codes " if (" ++ atom_text w.condition ++ codes ") ") w.array (codes "[")
+    (three_spaced (codes " if (") (atom_text w.condition) (codes ") ") (spaced _ refl) condition (spaced _ refl)) (name_spaced w.array named.0) (spaced _ refl))
+    index (spaced _ refl)) source (spaced _ refl)
+
+writes_spaced : (ws : List Write) → AreVerilogNames (flat_map write_names ws) → AllByRecursion (λ w. IsSpaced (write_text w)) ws
+writes_spaced [] named = tt
+writes_spaced (w ∷ ws) named = (write_spaced w (all_left IsName (write_names w) (flat_map write_names ws) named), writes_spaced ws (all_right IsName (write_names w) (flat_map write_names ws) named))
+
 item_spaced : (i : Item) → HasItemNames i → IsSpaced (item_text i)
-item_spaced (item.Wire n) named = net_spaced (codes "  wire ") n.name n.width (spaced _ refl) named
-item_spaced (item.Reg n) named = net_spaced (codes "  reg ") n.name n.width (spaced _ refl) named
+item_spaced (item.Wire n) named = net_spaced (codes "  wire ") n.name n.width (spaced _ refl) named.0.0
+item_spaced (item.Reg n) named = net_spaced (codes "  reg ") n.name n.width (spaced _ refl) named.0.0
+item_spaced (item.Array a) named =
+    three_spaced (codes "  reg " ++ range_text a.width ++ a.name ++ codes " [0:") (decimal a.last) (codes "];\n")
+    (spaced_joined (codes "  reg " ++ range_text a.width ++ a.name) (codes " [0:")
+    (three_spaced (codes "  reg ") (range_text a.width) a.name (spaced _ refl) (range_spaced a.width) (name_spaced a.name named.0.0)) (spaced _ refl))
+    (decimal_spaced a.last) (spaced _ refl)
 item_spaced (item.Assign a) named =
     three_spaced (codes "  assign " ++ a.target ++ codes " = ") (rhs_text a.rhs) (codes ";\n")
-    (three_spaced (codes "  assign ") a.target (codes " = ") (spaced _ refl) (name_spaced a.target named.0) (spaced _ refl))
-    (side_spaced a.rhs (atoms_spaced (rhs_atoms a.rhs) named.1)) (spaced _ refl)
+    (three_spaced (codes "  assign ") a.target (codes " = ") (spaced _ refl) (name_spaced a.target named.1.0) (spaced _ refl))
+    (side_spaced a.rhs (all_left IsName (rhs_arrays a.rhs) (rhs_names a.rhs) named.1.1) (atoms_spaced (rhs_atoms a.rhs) (all_right IsName (rhs_arrays a.rhs) (rhs_names a.rhs) named.1.1))) (spaced _ refl)
 item_spaced (item.Always b) named =
     three_spaced (codes "  always @(posedge " ++ b.clock ++ codes ") " ++ b.target ++ codes " <= ") (atom_text b.source) (codes ";\n")
     (three_spaced (codes "  always @(posedge " ++ b.clock ++ codes ") ") b.target (codes " <= ")
-    (three_spaced (codes "  always @(posedge ") b.clock (codes ") ") (spaced _ refl) (name_spaced b.clock named.0) (spaced _ refl))
-    (name_spaced b.target named.1) (spaced _ refl)) (atom_spaced b.source named.2) (spaced _ refl)
+    (three_spaced (codes "  always @(posedge ") b.clock (codes ") ") (spaced _ refl) (name_spaced b.clock named.1.0) (spaced _ refl))
+    (name_spaced b.target named.1.1.0) (spaced _ refl)) (atom_spaced b.source named.1.1.1) (spaced _ refl)
+item_spaced (item.Resetting b) named =
+    let reset = name_spaced b.reset named.1.0 in
+    let edges = three_spaced (codes "  always @(" ++ edge_text b.edge ++ codes "posedge ") b.reset (codes ") if (")
+    (three_spaced (codes "  always @(") (edge_text b.edge) (codes "posedge ") (spaced _ refl) (edge_spaced b.edge named.1.1.1) (spaced _ refl)) reset (spaced _ refl) in
+    let written = three_spaced (codes "  always @(" ++ edge_text b.edge ++ codes "posedge " ++ b.reset ++ codes ") if (" ++ b.reset ++ codes ") ") b.target (codes " <= ")
+    (three_spaced (codes "  always @(" ++ edge_text b.edge ++ codes "posedge " ++ b.reset ++ codes ") if (") b.reset (codes ") ") edges reset (spaced _ refl))
+    (name_spaced b.target named.1.1.0) (spaced _ refl) in
+    let value = three_spaced (decimal b.width) (codes "'h") (hexadecimal b.value) (decimal_spaced b.width) (spaced _ refl) (hexadecimal_spaced b.value) in
+    three_spaced
+    (codes "  always @(" ++ edge_text b.edge ++ codes "posedge " ++ b.reset ++ codes ") if (" ++ b.reset ++ codes ") " ++ b.target ++ codes " <= "
+    ++ atom_text (constant b.width b.value) ++ codes ";") (else_text b.target b.edge) (codes "\n")
+    (three_spaced
+    (codes "  always @(" ++ edge_text b.edge ++ codes "posedge " ++ b.reset ++ codes ") if (" ++ b.reset ++ codes ") " ++ b.target ++ codes " <= ")
+    (atom_text (constant b.width b.value)) (codes ";") written value (spaced _ refl)) (else_spaced b.target b.edge named.1.1.0 named.1.1.1) (spaced _ refl)
+item_spaced (item.Writing b) named =
+    three_spaced (codes "  always @(posedge " ++ b.clock ++ codes ") begin") (flat_map write_text b.writes) (codes " end\n")
+    (three_spaced (codes "  always @(posedge ") b.clock (codes ") begin") (spaced _ refl) (name_spaced b.clock named.1.0) (spaced _ refl))
+    (spaced_parts write_text b.writes (writes_spaced b.writes named.1.1)) (spaced _ refl)
 
 items_spaced : (is : List Item) → AllByRecursion HasItemNames is → AllByRecursion (λ i. IsSpaced (item_text i)) is
 items_spaced [] named = tt

@@ -4,13 +4,14 @@ use Rattle.std.specs.Prelude.{codes, flat_map}
 use Rattle.ver_ast.specs.declared.tree.Verilog.{Verilog}
 use Rattle.ver_ast.specs.Spells.{HasNames}
 use Rattle.ver_ast.specs.Valid.{Valid}
-use Rattle.ver_ast.specs.Nets.{port_nets, item_net, nets}
-use Rattle.ver_ast.specs.Tokens.{word, sign, tokens_from, tokens}
+use Rattle.ver_ast.specs.Nets.{port_nets, item_net}
+use Rattle.ver_ast.specs.Tokens.{word, sign}
+use Rattle.ver_ast.specs.working.TokenSteps.{tokens_from, tokens}
 use Rattle.ver_ast.specs.Grammar.{ports_tokens, item_tokens, module_tokens}
 use Rattle.ver_emit.specs.Layout.{ports_text, item_text, layout}
 use Rattle.ver_emit.proofs.Fixed.{fixed_spelled}
 use Rattle.ver_emit.proofs.Words.{word_spelled, parenthesis_spelled}
-use Rattle.ver_emit.proofs.Narrow.{narrow_front, narrow_rest}
+use Rattle.ver_emit.proofs.Narrow.{narrow_front}
 use Rattle.ver_emit.proofs.Ports.{ports_spelled, ports_open_no_mark}
 use Rattle.ver_emit.proofs.Items.{items_spelled}
 
@@ -21,10 +22,8 @@ end_spelled = refl
 pub layout_tokens : (v : Verilog) → Valid v → HasNames v → tokens (layout v) ≡ Some (module_tokens v)
 unfolding layout
 layout_tokens v valid named =
-    let narrow_items = narrow_rest (port_nets v) (flat_map item_net v.items) valid.narrow in
     let narrow_ports = narrow_front (port_nets v) (flat_map item_net v.items) valid.narrow in
-    let items = items_spelled v.items (nets v) _ _ narrow_items valid.narrow valid.sound_assigns (λ b i. (valid.sound_blocks b i).wide.operand)
-    named.of_items end_spelled in
+    let items = items_spelled v valid v.items _ _ (λ i m. m) named.of_items end_spelled in
     let ports = ports_spelled v.ports _ _ narrow_ports named.of_ports (fixed_spelled (codes ");\n") _ _ _ refl items) in
     let name = word_spelled v.name _ _ named.of_module.spelled refl (parenthesis_spelled _ _ (ports_open_no_mark v.ports _) ports) in
     let grouped : layout v ≡ codes "module "

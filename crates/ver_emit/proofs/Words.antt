@@ -7,7 +7,8 @@ use Rattle.std.proofs.lemmas.Bool.{and_parts, or_parts}
 use Rattle.std.proofs.lemmas.Bool.Decides.{nat_tests}
 use Rattle.ver_words.specs.Names.{is_word}
 use Rattle.fir_base.specs.Bytes.{is_word_start, is_word_byte}
-use Rattle.ver_ast.specs.Tokens.{Token, word, Pending, in_word, in_sign, sign, Step, is_double, go_on, begin, tokens_from, tokens}
+use Rattle.ver_ast.specs.Tokens.{VToken, word, sign}
+use Rattle.ver_ast.specs.working.TokenSteps.{Pending, in_word, in_sign, TokenStep, is_double, go_on, begin, tokens_from, tokens}
 
 -- a text whose first byte goes on with no word and with no constant
 abbrev pub Closes : List ℕ → Type 0
@@ -15,7 +16,7 @@ Closes [] = ⊥
 Closes (b ∷ bs) = (is_word_byte b || nat_eq b 63) ≡ false
 
 -- the bytes of a word go on with the pending one
-word_run : (w begun rest : List ℕ) (ts : List Token) → list_all is_word_byte w ≡ true → tokens_from (in_word (begun ++ w)) rest ≡ Some ts
+word_run : (w begun rest : List ℕ) (ts : List VToken) → list_all is_word_byte w ≡ true → tokens_from (in_word (begun ++ w)) rest ≡ Some ts
     → tokens_from (in_word begun) (w ++ rest) ≡ Some ts
 unfolding tokens_from
 word_run [] begun rest ts h e = ap (λ p. tokens_from (in_word p) rest) (sym (append-nil begun)) ∙ e
@@ -26,19 +27,19 @@ word_run (b ∷ bs) begun rest ts h e =
     rw (p.0, go) refl
 
 -- a token before the closed ones, where there is a rest
-behind : (t : Token) (closed : List Token) (o : Option (List Token)) (ts : List Token) → option_map (λ r. closed ++ r) o ≡ Some ts
+behind : (t : VToken) (closed : List VToken) (o : Option (List VToken)) (ts : List VToken) → option_map (λ r. closed ++ r) o ≡ Some ts
     → option_map (λ r. (t ∷ closed) ++ r) o ≡ Some (t ∷ ts)
 behind t closed None ts e = absurd cc
 behind t closed (Some r) ts e = cc
 
 -- a closed token stands before those of the byte that closes it
-pub closed_behind : (t : Token) (s : Step) (rest : Pending → Option (List Token)) (ts : List Token) → go_on s rest ≡ Some ts
+pub closed_behind : (t : VToken) (s : TokenStep) (rest : Pending → Option (List VToken)) (ts : List VToken) → go_on s rest ≡ Some ts
     → go_on (option_map (λ p. (t ∷ p.0, p.1)) s) rest ≡ Some (t ∷ ts)
 closed_behind t None rest ts e = absurd cc
 closed_behind t (Some s) rest ts e = behind t s.0 (rest s.1) ts e
 
 -- a pending word is closed
-close_word : (w rest : List ℕ) (ts : List Token) → Closes rest → tokens rest ≡ Some ts → tokens_from (in_word w) rest ≡ Some (word w ∷ ts)
+close_word : (w rest : List ℕ) (ts : List VToken) → Closes rest → tokens rest ≡ Some ts → tokens_from (in_word w) rest ≡ Some (word w ∷ ts)
 unfolding tokens_from
 close_word w [] ts c e = absurd c
 close_word w (b ∷ bs) ts c e =
@@ -46,7 +47,7 @@ close_word w (b ∷ bs) ts c e =
     rw p.0 (closed_behind (word w) (begin b) (λ next. tokens_from next bs) ts e)
 
 -- a word before a text that closes it
-pub word_spelled : (w rest : List ℕ) (ts : List Token) → IsTrue (is_word w) → Closes rest → tokens rest ≡ Some ts
+pub word_spelled : (w rest : List ℕ) (ts : List VToken) → IsTrue (is_word w) → Closes rest → tokens rest ≡ Some ts
     → tokens (w ++ rest) ≡ Some (word w ∷ ts)
 unfolding tokens_from
 word_spelled [] rest ts h c e = absurd cc
@@ -69,12 +70,12 @@ word_opens_no_mark (b ∷ bs) rest h =
     grind (arith, nat_tests)
 
 -- a pending opening parenthesis is closed
-close_parenthesis : (rest : List ℕ) (ts : List Token) → OpensNoMark rest → tokens rest ≡ Some ts → tokens_from (in_sign 40) rest ≡ Some (sign 40 ∷ ts)
+close_parenthesis : (rest : List ℕ) (ts : List VToken) → OpensNoMark rest → tokens rest ≡ Some ts → tokens_from (in_sign 40) rest ≡ Some (sign 40 ∷ ts)
 unfolding tokens_from
 close_parenthesis [] ts o e = absurd o
 close_parenthesis (b ∷ bs) ts o e = rw o (closed_behind (sign 40) (begin b) (λ next. tokens_from next bs) ts e)
 
 -- an opening parenthesis before a text that makes no mark with it
-pub parenthesis_spelled : (rest : List ℕ) (ts : List Token) → OpensNoMark rest → tokens rest ≡ Some ts → tokens (40 ∷ rest) ≡ Some (sign 40 ∷ ts)
+pub parenthesis_spelled : (rest : List ℕ) (ts : List VToken) → OpensNoMark rest → tokens rest ≡ Some ts → tokens (40 ∷ rest) ≡ Some (sign 40 ∷ ts)
 unfolding tokens_from
 parenthesis_spelled rest ts o e = rw (close_parenthesis rest ts o e) refl

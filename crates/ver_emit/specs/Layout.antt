@@ -1,13 +1,15 @@
 -- The layout of the emitted text, as a function of the tree.
 -- A port a line with two spaces, then an item a line with two spaces; single spaces between words and behind each comma of a concatenation, none
--- inside a range, a select or a constant, before or behind a brace, or before a semicolon.
-use Rattle.std.specs.Prelude.{ℕ, ◌-◌, List, [], ◌∷◌, ◌++◌, flat_map, codes, decimal, nat_eq, if◌then◌else◌}
+-- inside a range, a select or a constant, before or behind a brace, or before a semicolon; a block of writes stands on one line.
+use Rattle.std.specs.Prelude.{ℕ, ◌-◌, List, [], ◌∷◌, ◌++◌, flat_map, codes, decimal, nat_eq, if◌then◌else◌, Option, Some, None}
 use Rattle.ver_ast.specs.declared.tree.Verilog.{Verilog}
 use Rattle.fir_base.specs.Digits.{hexadecimal}
 use Rattle.fir_base.specs.declared.direction.Direction.{Direction}
 use Rattle.ver_ast.specs.declared.tree.Port.{Port}
 use Rattle.ver_words.specs.declared.signal.Signal.{Signal}
 use Rattle.ver_words.specs.declared.signal.Signal.TheVariants.{Bits, Clock}
+use Rattle.ver_ast.specs.declared.tree.Edge.{Edge}
+use Rattle.ver_ast.specs.declared.tree.Write.{Write}
 use Rattle.ver_ast.specs.declared.tree.Item.{Item}
 use Rattle.ver_ast.specs.declared.tree.Item.TheVariants as item
 use Rattle.ver_ast.specs.declared.tree.Rhs.{Rhs}
@@ -15,7 +17,7 @@ use Rattle.ver_ast.specs.declared.tree.Rhs.TheVariants as rhs
 use Rattle.ver_ast.specs.declared.tree.BinaryOp.{BinaryOp}
 use Rattle.ver_ast.specs.declared.tree.BinaryOp.TheVariants as binary
 use Rattle.ver_ast.specs.Atoms.{AtomTree, net, constant, bit_select, part_select, concat, repeat, AtomTrees, no_atoms, atom_before}
-use Rattle.ver_ast.specs.Grammar.{direction_word, unary_sign, unsigned_op}
+use Rattle.ver_ast.specs.Grammar.{direction_keyword, unary_sign, unsigned_op}
 
 -- the range of a width, with the space behind it; a width of 1 has none
 abbrev pub range_text : ℕ → List ℕ
@@ -23,8 +25,8 @@ range_text width = if nat_eq width 1 then [] else codes "[" ++ decimal (width - 
 
 -- a clock is marked, and has no range
 abbrev pub signal_text : Signal → Direction → List ℕ
-signal_text (Bits width) d = direction_word d ++ codes " " ++ range_text width
-signal_text Clock d = codes "(* clock *) " ++ direction_word d ++ codes " "
+signal_text (Bits width) d = direction_keyword d ++ codes " " ++ range_text width
+signal_text Clock d = codes "(* clock *) " ++ direction_keyword d ++ codes " "
 
 abbrev pub port_text : Port → List ℕ
 port_text p = codes "\n  " ++ signal_text p.signal p.direction ++ p.name
@@ -83,12 +85,31 @@ rhs_text (rhs.Binary a op b) = atom_text a ++ between_text op ++ atom_text b
 rhs_text (rhs.Signed a op b) = signed_text a ++ between_text (unsigned_op op) ++ signed_text b
 rhs_text (rhs.SignedShift a b) = signed_text a ++ codes " >>> " ++ atom_text b
 rhs_text (rhs.Conditional c a b) = atom_text c ++ codes " ? " ++ atom_text a ++ codes " : " ++ atom_text b
+rhs_text (rhs.Word m a) = m ++ codes "[" ++ atom_text a ++ codes "]"
+
+-- the clock before the reset
+abbrev pub edge_text : Option Edge → List ℕ
+edge_text None = []
+edge_text (Some e) = codes "posedge " ++ e.clock ++ codes " or "
+
+-- what is written where the reset is not 1
+abbrev pub else_text : List ℕ → Option Edge → List ℕ
+else_text target None = []
+else_text target (Some e) = codes " else " ++ target ++ codes " <= " ++ atom_text e.source ++ codes ";"
+
+abbrev pub write_text : Write → List ℕ
+write_text w = codes " if (" ++ atom_text w.condition ++ codes ") " ++ w.array ++ codes "[" ++ atom_text w.index ++ codes "] <= " ++ atom_text w.source ++ codes ";"
 
 abbrev pub item_text : Item → List ℕ
 item_text (item.Wire n) = codes "  wire " ++ range_text n.width ++ n.name ++ codes ";\n"
 item_text (item.Reg n) = codes "  reg " ++ range_text n.width ++ n.name ++ codes ";\n"
 item_text (item.Assign a) = codes "  assign " ++ a.target ++ codes " = " ++ rhs_text a.rhs ++ codes ";\n"
 item_text (item.Always b) = codes "  always @(posedge " ++ b.clock ++ codes ") " ++ b.target ++ codes " <= " ++ atom_text b.source ++ codes ";\n"
+item_text (item.Array a) = codes "  reg " ++ range_text a.width ++ a.name ++ codes " [0:" ++ decimal a.last ++ codes "];\n"
+item_text (item.Resetting b) =
+    codes "  always @(" ++ edge_text b.edge ++ codes "posedge " ++ b.reset ++ codes ") if (" ++ b.reset ++ codes ") " ++ b.target ++ codes " <= "
+    ++ atom_text (constant b.width b.value) ++ codes ";" ++ else_text b.target b.edge ++ codes "\n"
+item_text (item.Writing b) = codes "  always @(posedge " ++ b.clock ++ codes ") begin" ++ flat_map write_text b.writes ++ codes " end\n"
 
 unfoldable pub layout : Verilog → List ℕ
 layout v = codes "module " ++ v.name ++ codes "(" ++ ports_text v.ports ++ codes ");\n" ++ flat_map item_text v.items ++ codes "endmodule\n"

@@ -50,7 +50,8 @@ fn put_next_atoms(out: &mut Vec<u8>, atoms: &[Atom]) -> Result<(), MemoryOut>
     Ok(())
 }
 
-fn put_constant(out: &mut Vec<u8>, width: u32, value: u128) -> Result<(), MemoryOut>
+/// Appends a constant: its width in bits, and its number.
+pub fn put_constant(out: &mut Vec<u8>, width: u32, value: u128) -> Result<(), MemoryOut>
     ensures { OnOk result (out.new.items ≡ out.old.items ++ atom_text (constant width value)) }
 {
     put_decimal(out, u128::from(width))?;

@@ -3,6 +3,7 @@
 #![tactic(auto)]
 
 mod atom;
+mod block;
 mod item;
 mod laws;
 mod operator;

@@ -6,7 +6,7 @@ ghost use Rattle.ver_emit.specs.Layout.{rhs_text, signed_text};
 
 use crate::atom::put_atom;
 use crate::operator::{put_between, unary_byte, unsigned_op};
-use fir_base::MemoryOut;
+use fir_base::{MemoryOut, Name};
 use ver_ast::{Atom, BinaryOp, Rhs, SignedOp, UnaryOp};
 
 /// Appends a right side.
@@ -20,6 +20,7 @@ pub fn put_rhs(out: &mut Vec<u8>, rhs: &Rhs) -> Result<(), MemoryOut>
         Rhs::Signed(left, op, right) => put_signed(out, left, *op, right),
         Rhs::SignedShift(shifted, distance) => put_signed_shift(out, shifted, distance),
         Rhs::Conditional(condition, one, other) => put_conditional(out, condition, one, other),
+        Rhs::Word(array, address) => put_word(out, array, address),
     }
 }
 
@@ -67,6 +68,17 @@ fn put_conditional(
     put_atom(out, one)?;
     out.extend_from_slice(b" : ")?;
     put_atom(out, other)
+}
+
+/// A word of an array (IEEE 1364-2005, 5.2.2).
+fn put_word(out: &mut Vec<u8>, array: &Name, address: &Atom) -> Result<(), MemoryOut>
+    ensures { OnOk result (out.new.items ≡ out.old.items ++ rhs_text (rhs.Word array.now address.now)) }
+{
+    out.extend_from_slice(array.as_bytes())?;
+    out.extend_from_slice(b"[")?;
+    put_atom(out, address)?;
+    out.extend_from_slice(b"]")?;
+    Ok(())
 }
 
 /// An operand that is read as a signed number (IEEE 1364-2005, 5.5).

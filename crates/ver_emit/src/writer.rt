@@ -1,7 +1,7 @@
 //! The writer of a module.
 
 ghost use Rattle.std.specs.Prelude.{◌≡◌, ◌++◌, IfOk, OnOk, codes, flat_map};
-ghost use Rattle.ver_ast.specs.Grammar.{direction_word};
+ghost use Rattle.ver_ast.specs.Grammar.{direction_keyword};
 ghost use Rattle.ver_emit.specs.Layout.{layout, next_port_text, port_text, ports_text, signal_text};
 
 use crate::item::put_items;
@@ -88,7 +88,7 @@ fn put_clock(out: &mut Vec<u8>, direction: Direction) -> Result<(), MemoryOut>
 }
 
 fn word_of(direction: Direction) -> &'static [u8]
-    ensures { result.now ≡ direction_word direction }
+    ensures { result.now ≡ direction_keyword direction }
 {
     match direction {
         Direction::Input => b"input",

@@ -2,7 +2,7 @@
 use Rattle.std.specs.Prelude.{ℕ, List, [], ◌++◌, codes}
 use Rattle.fir_ast.specs.declared.types.Field.{Field, fold-Field}
 use Rattle.fir_ast.specs.Types.{DataType, Fields, no_fields, field}
-use Rattle.fir_ast.specs.View.{type_step, field_step}
+use Rattle.fir_ast.specs.working.TypeViews.{type_step, field_step}
 use Rattle.fir_ast.specs.Texts.{flip_text, type_text, next_fields_text}
 
 -- what a field puts before the fields behind it

@@ -14,9 +14,9 @@ use Rattle.fir_ast.specs.declared.circuit.Circuit.{Circuit}
 use Rattle.fir_ast.specs.declared.circuit.Module.{Module}
 use Rattle.fir_ast.specs.declared.circuit.Port.{Port}
 use Rattle.fir_ast.specs.Expressions.{Expression, reference, literal, operation, mux, validif, Parts, no_parts, subfield, subindex, subaccess, Expressions, no_expressions, expression}
-use Rattle.fir_ast.specs.Statements.{PlacedName, Sink, Reset, MemoryPart, data_type, depth, read_latency, write_latency, reader, writer, readwriter, read_under_write, Statement, wire, register, node, instance, memory, when, connect, partial_connect, invalid, skip, Block, done, then}
+use Rattle.fir_ast.specs.Statements.{PlacedName, SinkReference, Reset, MemoryPart, data_type, depth, read_latency, write_latency, reader, writer, readwriter, read_under_write, Statement, wire, register, node, instance, memory, when, connect, partial_connect, invalid, skip, Block, done, then}
 use Rattle.fir_ast.specs.Circuits.{PortTree, ModuleTree, CircuitTree}
-use Rattle.fir_ast.specs.View.{type_of}
+use Rattle.fir_ast.specs.working.TypeViews.{type_of}
 
 -- a part of a reference is what it puts before the parts behind it
 abbrev pub parts_of : List (Parts → Parts) → Parts
@@ -27,26 +27,26 @@ abbrev pub expressions_of : List Expression → Expressions
 expressions_of [] = no_expressions
 expressions_of (e ∷ es) = expression e (expressions_of es)
 
-abbrev pub expr_step : Expr-F Expression (Parts → Parts) Sink → Expression
+abbrev pub expr_step : Expr-F Expression (Parts → Parts) SinkReference → Expression
 expr_step (Expr-F.Ref r) = reference r.place r.name r.parts
 expr_step (Expr-F.Literal l) = literal l
 expr_step (Expr-F.Op place op es ks) = operation place op (expressions_of es.items) ks.items
 expr_step (Expr-F.Mux place c a b) = mux place c.value a.value b.value
 expr_step (Expr-F.Validif place c a) = validif place c.value a.value
 
-abbrev pub reference_step : Reference-F Expression (Parts → Parts) Sink → Sink
+abbrev pub reference_step : Reference-F Expression (Parts → Parts) SinkReference → SinkReference
 reference_step r = record { place = r.place; name = r.name; parts = parts_of r.parts.items }
 
-abbrev pub part_step : Part-F Expression (Parts → Parts) Sink → Parts → Parts
+abbrev pub part_step : Part-F Expression (Parts → Parts) SinkReference → Parts → Parts
 part_step (Part-F.Field first place name) rest = subfield first place name rest
 part_step (Part-F.Index first place index) rest = subindex first place index rest
 part_step (Part-F.Access first e) rest = subaccess first e.value rest
 
 abbrev pub expr_of : Expr → Expression
-expr_of = fold-Expr Expression (Parts → Parts) Sink expr_step part_step reference_step
+expr_of = fold-Expr Expression (Parts → Parts) SinkReference expr_step part_step reference_step
 
-abbrev pub sink_of : Reference → Sink
-sink_of = fold-Reference Expression (Parts → Parts) Sink expr_step part_step reference_step
+abbrev pub sink_of : Reference → SinkReference
+sink_of = fold-Reference Expression (Parts → Parts) SinkReference expr_step part_step reference_step
 
 abbrev pub named_of : Ident → PlacedName
 named_of i = record { place = i.place; name = i.name }

@@ -2,8 +2,8 @@
 use Rattle.std.specs.Prelude.{ℕ, List, [], ◌∷◌, ◌++◌, flat_map, Bool, true, false, ◌&&◌, if◌then◌else◌, Option, Some, None}
 use Rattle.fir_ast.specs.declared.place.Place.{Place}
 use Rattle.fir_ast.specs.Expressions.{Expression, reference}
-use Rattle.fir_ast.specs.Statements.{Sink}
-use Rattle.fir_pass.specs.Faults.{Fault}
+use Rattle.fir_ast.specs.Statements.{SinkReference}
+use Rattle.fir_ast.specs.Faults.{Fault}
 use Rattle.fir_meaning.specs.LeafPaths.{LeafPath, step_text}
 use Rattle.fir_meaning.specs.TypeLeaves.{TypeLeaf}
 use Rattle.fir_meaning.specs.ConnectPairs.{Pair}
@@ -45,6 +45,6 @@ on_right p (reference q n ps) steps = wrong_flow p (sink_path (record { place = 
 on_right p e steps = []
 
 -- E14 at such a leaf of either side
-abbrev pub flow_faults : Place → Sink → Expression → Option Spot → List Fault
+abbrev pub flow_faults : Place → SinkReference → Expression → Option Spot → List Fault
 flow_faults p sink e None = []
 flow_faults p sink e (Some s) = if s.0 then on_right p e s.1 else wrong_flow p (sink_path sink ++ s.1) ∷ []

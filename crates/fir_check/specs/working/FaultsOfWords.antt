@@ -1,7 +1,7 @@
 -- The faults of a memory's words, of their type and of how many they are, which come before those of its other fields.
 use Rattle.std.specs.Prelude.{List, ◌++◌, flat_map, codes, nat_le}
 use Rattle.fir_ast.specs.Statements.{PlacedName, MemoryPart}
-use Rattle.fir_pass.specs.Faults.{Fault}
+use Rattle.fir_ast.specs.Faults.{Fault}
 use Rattle.fir_meaning.specs.MemoryFaults.{field_faults_unless, flipped_data, is_one}
 use Rattle.fir_meaning.specs.MemoryTypes.{data_of_part, depth_of_part, first_one}
 use Rattle.fir_meaning.specs.TypeKinds.{is_sized}

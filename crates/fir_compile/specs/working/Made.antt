@@ -4,6 +4,7 @@ use Rattle.std.specs.Prelude.{◌≡◌, ℕ, List, Result, Ok, Err}
 use Rattle.fir_base.specs.declared.refused.Refused.{Refused}
 use Rattle.fir_base.specs.declared.refused.Refused.TheVariants.{Fault, Memory}
 use Rattle.fir_ast.specs.declared.fault.FirFault.{FirFault}
+use Rattle.fir_ast.specs.working.CodeFaults.{fault_of}
 use Rattle.fir_ast.specs.Circuits.{CircuitTree}
 use Rattle.fir_parse.specs.Spells.{Spells}
 use Rattle.fir_net.specs.declared.net.FlatNet.{FlatNet}
@@ -27,5 +28,5 @@ pub record IsMadeOf (text : List ℕ) (net : FlatNet) (s : TraceShape) : Type 0 
 
 abbrev pub Makes : List ℕ → Result (Compiled × TraceShape) (Refused FirFault) → Type 0
 Makes text (Ok (compiled, s)) = IsMadeOf text compiled.net s
-Makes text (Err (Fault f)) = RefusedFor text f
+Makes text (Err (Fault f)) = RefusedFor text (fault_of f)
 Makes text (Err Memory) = Unit {0}

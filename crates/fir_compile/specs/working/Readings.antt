@@ -3,6 +3,7 @@ use Rattle.std.specs.Prelude.{◌≡◌, ℕ, List, ◌⊎◌, Result, Ok, Err}
 use Rattle.fir_base.specs.declared.refused.Refused.{Refused}
 use Rattle.fir_base.specs.declared.refused.Refused.TheVariants as refused
 use Rattle.fir_ast.specs.declared.fault.FirFault.{FirFault}
+use Rattle.fir_ast.specs.working.CodeFaults.{fault_of}
 use Rattle.fir_ast.specs.declared.fault.FirFault.TheVariants.{Unsupported}
 use Rattle.fir_ast.specs.declared.circuit.Circuit.{Circuit}
 use Rattle.fir_ast.specs.Circuits.{CircuitTree}
@@ -23,7 +24,7 @@ use Rattle.fir_outcome.specs.Refusals.{RefusedFor, ShowsFault}
 -- the tree that the text spells, or its fault, unless memory ran out
 abbrev pub IsTree : List ℕ → Result Circuit (Refused FirFault) → Type 0
 IsTree bytes (Ok t) = Spells bytes (circuit_of t)
-IsTree bytes (Err (refused.Fault f)) = TextFault bytes f
+IsTree bytes (Err (refused.Fault f)) = TextFault bytes (fault_of f)
 IsTree bytes (Err refused.Memory) = Unit {0}
 
 -- the fault of a form that is lacking, unless memory ran out
@@ -34,7 +35,7 @@ IsUnsupported l refused.Memory = Unit {0}
 -- the tree that the text spells, in which no fault stands of the groups up to the last that was looked for; or the fault for which it is refused
 abbrev pub IsCheckedTree : ℕ → List ℕ → Result Circuit (Refused FirFault) → Type 0
 IsCheckedTree last bytes (Ok t) = Spells bytes (circuit_of t) × IsClearUpTo last (circuit_of t)
-IsCheckedTree last bytes (Err (refused.Fault f)) = TextFault bytes f ⊎ ShowsFault bytes f
+IsCheckedTree last bytes (Err (refused.Fault f)) = TextFault bytes (fault_of f) ⊎ ShowsFault bytes (fault_of f)
 IsCheckedTree last bytes (Err refused.Memory) = Unit {0}
 
 -- a whole net with an order, or a closed walk of dependence in it
@@ -53,11 +54,11 @@ pub record CompilesText (bytes : List ℕ) (net : FlatNet) : Type 0 where
 -- so is a compiled net, or this is the fault for which the text is refused
 abbrev pub IsCompiled : List ℕ → Result Compiled (Refused FirFault) → Type 0
 IsCompiled bytes (Ok compiled) = CompilesText bytes compiled.net
-IsCompiled bytes (Err (refused.Fault f)) = RefusedFor bytes f
+IsCompiled bytes (Err (refused.Fault f)) = RefusedFor bytes (fault_of f)
 IsCompiled bytes (Err refused.Memory) = Unit {0}
 
 -- what is emitted for the text, or the fault for which it is refused
 abbrev pub IsEmitted : List ℕ → {A : Type 0} → (A → List ℕ) → Result A (Refused FirFault) → Type 0
 IsEmitted bytes view (Ok text) = Emits bytes (view text)
-IsEmitted bytes view (Err (refused.Fault f)) = RefusedFor bytes f
+IsEmitted bytes view (Err (refused.Fault f)) = RefusedFor bytes (fault_of f)
 IsEmitted bytes view (Err refused.Memory) = Unit {0}

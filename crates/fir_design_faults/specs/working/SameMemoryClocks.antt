@@ -3,7 +3,7 @@
 use Rattle.std.specs.Prelude.{◌≡◌, ◌↔◌, ℕ, [], Some}
 use Rattle.fir_base.specs.Lists.{In}
 use Rattle.fir_ast.specs.Circuits.{CircuitTree}
-use Rattle.fir_ast.specs.declared.fault.FirFault.{FirFault}
+use Rattle.fir_ast.specs.Faults.{Fault}
 use Rattle.fir_meaning.specs.LeafPaths.{LeafPath}
 use Rattle.fir_meaning.specs.ModuleScenes.{Scene}
 use Rattle.fir_meaning.specs.SizedDeclarations.{numbered_modules}
@@ -28,5 +28,5 @@ SameClocks =
 
 abbrev pub SameMemoryClocks : Type 0
 SameMemoryClocks =
-    (c : CircuitTree) (s : Scene) (at : LeafPath) (f : FirFault) → HasNames c → type_faults c ≡ [] → In (numbered_modules c) s.own
+    (c : CircuitTree) (s : Scene) (at : LeafPath) (f : Fault) → HasNames c → type_faults c ≡ [] → In (numbered_modules c) s.own
     → numbered.ShowsMemoryClocks (leafed_module s) at f ↔ ShowsMemoryClocks (record { at = at; scene = s }) f

@@ -3,7 +3,7 @@ use Rattle.std.specs.Prelude.{◌≡◌, ℕ, ◌+◌, ◌≤◌, List, ◌++◌
 use Rattle.fir_ast.specs.declared.place.Place.{Place}
 use Rattle.fir_ast.specs.Types.{DataType}
 use Rattle.fir_ast.specs.Expressions.{Expression}
-use Rattle.fir_ast.specs.Statements.{Sink}
+use Rattle.fir_ast.specs.Statements.{SinkReference}
 use Rattle.fir_meaning.specs.CostGroup.{cost_limit}
 use Rattle.fir_meaning.specs.Costs.{size, size_of_sink}
 use Rattle.fir_meaning.specs.Reaching.{Reached}
@@ -36,7 +36,7 @@ use Rattle.fir_leaf_pairs.specs.working.Pairing.{pair_seen}
 use Rattle.fir_leaf_pairs.specs.working.Reads.{IsWithinCost}
 
 -- both sides of a connect have come, the right one of that type
-pub record ShowsSides (ground : Ground) (typed : TypedScope) (rest : List Note) (old new : Walk) (sink : Sink) (e : Expression) (t : DataType)
+pub record ShowsSides (ground : Ground) (typed : TypedScope) (rest : List Note) (old new : Walk) (sink : SinkReference) (e : Expression) (t : DataType)
     (s : SidesOfCode) : Type 0 where
   pub comes : Comes ground rest old new
   pub left : Names (types_in ground) new.nodes.items s.left (target_of typed sink)
@@ -66,13 +66,13 @@ pub record ComesStill (ground : Ground) (rest : List Note) (old new : Walk) (bef
   pub emitted : Emitted new.nodes.items before after b
 
 abbrev pub Connects : {A E : Type 0} → (DataType → DataType → List LeafPair)
-    → ((typed : TypedScope) → Sink → Expression → Type 0) → Ground → Place → Sink → Expression → Walk → Walk → List LeafStmt → List LeafStmt → Result A E
+    → ((typed : TypedScope) → SinkReference → Expression → Type 0) → Ground → Place → SinkReference → Expression → Walk → Walk → List LeafStmt → List LeafStmt → Result A E
     → Type 0
 Connects pairs_of IsLegal ground p sink e old new before after result =
     (typed : TypedScope) (rest : List Note) → Enters ground typed (connect_notes typed sink e ++ rest) old → IsLegal typed sink e
     → size_of_sink typed sink + size typed e ≤ cost_limit → OnOk result (ComesStill ground rest old new before after (connect_block pairs_of typed p sink e))
 
-abbrev pub Invalidates : {A E : Type 0} → Ground → List Bool → Place → Sink → Walk → Walk → List LeafStmt → List LeafStmt → Result A E → Type 0
+abbrev pub Invalidates : {A E : Type 0} → Ground → List Bool → Place → SinkReference → Walk → Walk → List LeafStmt → List LeafStmt → Result A E → Type 0
 Invalidates ground sinks p sink old new before after result =
     (typed : TypedScope) (r : Reached) (rest : List Note) → Enters ground typed (reference_notes typed sink ++ rest) old → ReachesThere typed sink r
     → OnOk result (ComesStill ground rest old new before after (invalid_block (sinks_in sinks) p (target_of typed sink)))

@@ -2,7 +2,7 @@
 use Rattle.std.specs.Prelude.{ℕ, nat_lt, ◌&&◌, List, [], ◌∷◌, Bool, true, if◌then◌else◌, Option, Some, None, option_map}
 use Rattle.fir_ast.specs.Types.{DataType, reset, async_reset}
 use Rattle.fir_ast.specs.Expressions.{Expression, reference}
-use Rattle.fir_ast.specs.Statements.{Sink}
+use Rattle.fir_ast.specs.Statements.{SinkReference}
 use Rattle.fir_meaning.specs.TypedScopes.{TypedScope}
 use Rattle.fir_meaning.specs.ExpressionTypes.{expression_type, reaching}
 use Rattle.fir_type_table.specs.working.Saturated.{saturated}
@@ -18,7 +18,7 @@ pub data KindMeant : Type 0 where
   inferred_kind : ℕ → ℕ → KindMeant
 
 -- the leaves that a reference names
-abbrev pub sink_range : TypedScope → Sink → Option LeafRange
+abbrev pub sink_range : TypedScope → SinkReference → Option LeafRange
 sink_range scope s = range_where (reaching scope s).has (option_map (λ r. range_behind r s.parts) (root_range scope s.name))
 
 -- those of an expression that is one

@@ -5,7 +5,7 @@ use Rattle.std.specs.declared.alloc.Global.{Global}
 use Rattle.fir_base.specs.Lists.{In}
 use Rattle.fir_ast.specs.declared.place.Place.{Place}
 use Rattle.fir_ast.specs.Types.{DataType}
-use Rattle.fir_ast.specs.Statements.{PlacedName, Sink}
+use Rattle.fir_ast.specs.Statements.{PlacedName, SinkReference}
 use Rattle.fir_ast.specs.Circuits.{ModuleTree, CircuitTree}
 use Rattle.fir_meaning.specs.LeafPaths.{LeafPath, named}
 use Rattle.fir_meaning.specs.Components.{find}
@@ -31,7 +31,7 @@ access_behind p a (zero ∷ ns) = access.Empty p
 access_behind p a (suc n ∷ ns) = access_behind p (access.Picks p) ns
 
 -- the root of a reference that picks so in the module of that number
-pub record IsReferenceRoot (c : CircuitTree) (number : ℕ) (s : Sink) (lengths : List ℕ) (own : Root) : Type 0 where
+pub record IsReferenceRoot (c : CircuitTree) (number : ℕ) (s : SinkReference) (lengths : List ℕ) (own : Root) : Type 0 where
   pub path : Vec Step Global
   pub place : Place
   pub is : own ≡ root.Leaf path place (access_behind s.place access.Fixed lengths)

@@ -2,7 +2,7 @@
 use Rattle.std.specs.Prelude.{◌≡◌, ◌↔◌, ◌⊎◌, ℕ, List, [], ◌∷◌, ◌++◌, Bool, true, Some, slice_get}
 use Rattle.fir_base.specs.Lists.{In}
 use Rattle.fir_ast.specs.Circuits.{CircuitTree}
-use Rattle.fir_pass.specs.Faults.{Fault}
+use Rattle.fir_ast.specs.Faults.{Fault}
 use Rattle.fir_meaning.specs.ResetItems.{End}
 use Rattle.fir_meaning.specs.ResetJoins.{Join, joins}
 use Rattle.fir_meaning.specs.ResetWalks.{IsReset, IsLeafOf, IsAsynchronous, ShowsResets, reset_fault}

@@ -20,7 +20,7 @@ use Rattle.fir_reset.specs.working.DeclaredLeaves.{IsNoInstance}
 use Rattle.fir_reset.specs.working.LeafClasses.{Class, class_of}
 use Rattle.fir_infer_resets.specs.working.PathKeys.{path_key}
 use Rattle.fir_infer_resets.specs.working.ResetGraphs.{IsJoined}
-use Rattle.fir_meaning.specs.ResetItems.{Item, leaf_item, value_item, End}
+use Rattle.fir_meaning.specs.ResetItems.{ResetItem, leaf_item, value_item, End}
 use Rattle.fir_meaning.specs.ResetJoins.{Join}
 use Rattle.fir_meaning.specs.ResetWalks.{IsReset}
 
@@ -31,7 +31,7 @@ step_of (step.Element i) = path.element i
 abbrev pub path_of : List Step → LeafPath
 path_of steps = map step_of steps
 
-abbrev pub item_of : ItemOfCode → Item
+abbrev pub item_of : ItemOfCode → ResetItem
 item_of (code.Leaf number steps) = leaf_item number (path_of steps.items)
 item_of (code.Value p) = value_item p
 

@@ -1,7 +1,7 @@
 -- What has been joined of a connect, and of a node.
 use Rattle.std.specs.Prelude.{◌≡◌, ℕ, List, [], map, Bool, false, Option, Some, None}
 use Rattle.fir_ast.specs.Types.{DataType}
-use Rattle.fir_ast.specs.Statements.{PlacedName, Sink}
+use Rattle.fir_ast.specs.Statements.{PlacedName, SinkReference}
 use Rattle.fir_ast.specs.working.Views.{sink_of}
 use Rattle.fir_ast.specs.Circuits.{CircuitTree}
 use Rattle.fir_types.specs.declared.found.Found.{Found}
@@ -31,14 +31,14 @@ abbrev pub SidesJoined : CircuitTree → ℕ → List DataType → Bool → Root
 SidesJoined c number ts partly left one None old new = new ≡ old
 SidesJoined c number ts partly left one (Some x) old new = JoinsMet c number left x.0 (met_pairs partly [] (found_type ts one) (found_type ts x.1)) old new
 
-pub record OfConnect (c : CircuitTree) (number : ℕ) (ts : List DataType) (partly : Bool) (sink : Sink) (range : LeafRange) (given : Source) (old new : Joined) : Type 0 where
+pub record OfConnect (c : CircuitTree) (number : ℕ) (ts : List DataType) (partly : Bool) (sink : SinkReference) (range : LeafRange) (given : Source) (old new : Joined) : Type 0 where
   pub left : Root
   pub right : Option (Root × Found)
   pub left_is : IsReferenceRoot c number sink (pick_lengths range) left
   pub right_is : IsSourceRoot c number given right
   pub joined : SidesJoined c number ts partly left range.found right old new
 
-abbrev pub ConnectJoined : CircuitTree → ℕ → List DataType → Bool → Sink → Option LeafRange → Source → Joined → Joined → Type 0
+abbrev pub ConnectJoined : CircuitTree → ℕ → List DataType → Bool → SinkReference → Option LeafRange → Source → Joined → Joined → Type 0
 ConnectJoined c number ts partly sink None given old new = new ≡ old
 ConnectJoined c number ts partly sink (Some range) given old new = OfConnect c number ts partly sink range given old new
 

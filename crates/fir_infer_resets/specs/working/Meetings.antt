@@ -2,7 +2,7 @@
 -- and of instances.
 use Rattle.std.specs.Prelude.{ℕ, List, [], ◌∷◌, ◌++◌, flat_map}
 use Rattle.fir_ast.specs.Expressions.{Expression}
-use Rattle.fir_ast.specs.Statements.{PlacedName, Sink, Statement, node, instance, when, connect, partial_connect, Block, done, then}
+use Rattle.fir_ast.specs.Statements.{PlacedName, SinkReference, Statement, node, instance, when, connect, partial_connect, Block, done, then}
 use Rattle.fir_ast.specs.Circuits.{CircuitTree}
 use Rattle.fir_meaning.specs.ConnectPairs.{pairs, partial_pairs}
 use Rattle.fir_meaning.specs.Visibility.{Before, opened, reopened, behind, behind_block, behind_ports, at_head}
@@ -10,8 +10,8 @@ use Rattle.fir_meaning.specs.SizedScopes.{sink_expression}
 use Rattle.fir_meaning.specs.ResetJoins.{Join, ResetModule, reset_modules, connect_joins, node_joins, instance_joins, type_at_place, numbered_module}
 
 pub data Sides : Type 0 where
-  connected : Sink → Expression → Sides
-  partly_connected : Sink → Expression → Sides
+  connected : SinkReference → Expression → Sides
+  partly_connected : SinkReference → Expression → Sides
   named_by : PlacedName → Expression → Sides
   instanced : PlacedName → List ℕ → Sides
 

@@ -2,7 +2,7 @@
 use Rattle.std.specs.Prelude.{◌≡◌, ℕ, List, [], ◌∷◌, ◌++◌, true, false, map, length, Option, option_map}
 use Rattle.fir_ast.specs.Types.{DataType}
 use Rattle.fir_ast.specs.Expressions.{Expression, reference}
-use Rattle.fir_ast.specs.Statements.{Sink}
+use Rattle.fir_ast.specs.Statements.{SinkReference}
 use Rattle.fir_ast.specs.working.Views.{named_of, sink_of}
 use Rattle.fir_meaning.specs.ExpressionPlaces.{place_of}
 use Rattle.fir_meaning.specs.TypedScopes.{TypedScope}
@@ -26,7 +26,7 @@ abbrev pub Ahead : List DataType → List NoteOfCode → List Note → Type 0
 Ahead ts notes meant = map (note_seen ts) notes ≡ map saturated_note meant
 
 -- what a reference names, by its note
-abbrev pub IsRange : List DataType → Option RangeOfCode → TypedScope → Sink → Type 0
+abbrev pub IsRange : List DataType → Option RangeOfCode → TypedScope → SinkReference → Type 0
 IsRange ts range scope sink = of_reference (option_map (range_seen ts) range) ≡ saturated_note (reference_note scope sink)
 
 abbrev pub IsNoReference : Expression → Type 0

@@ -3,7 +3,7 @@ use Rattle.std.specs.Prelude.{◌≡◌, List, ◌++◌, length, Bool, true, fal
 use Rattle.fir_ast.specs.declared.place.Place.{Place}
 use Rattle.fir_ast.specs.Types.{DataType}
 use Rattle.fir_ast.specs.Expressions.{Expression}
-use Rattle.fir_ast.specs.Statements.{Sink, Statement, connect, partial_connect}
+use Rattle.fir_ast.specs.Statements.{SinkReference, Statement, connect, partial_connect}
 use Rattle.fir_meaning.specs.Visibility.{Before, behind}
 use Rattle.fir_meaning.specs.TypedScopes.{TypedScope}
 use Rattle.fir_meaning.specs.ExpressionTypes.{expression_type}
@@ -58,6 +58,6 @@ PassesStatement s old new result =
     → OnOk result (Meets ts rest (length (behind before s).declared) (meetings_in m before s) old new)
 
 -- a connect, or else a partial connect
-abbrev pub connect_by : Bool → Place → Sink → Expression → Statement
+abbrev pub connect_by : Bool → Place → SinkReference → Expression → Statement
 connect_by true = connect
 connect_by false = partial_connect

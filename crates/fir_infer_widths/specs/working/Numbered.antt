@@ -3,7 +3,7 @@
 -- that number. An expression that is made of others has a bound of one operation on their numbers, and each rule for an unknown is a bound that says `Same`.
 use Rattle.std.specs.Prelude.{◌≡◌, ℕ, ◌⊎◌, min, map, List, Bool, true, false}
 use Rattle.fir_base.specs.Lists.{In}
-use Rattle.fir_meaning.specs.WidthExpressions.{Width, known, unknown, single, pair, greater, guarded, Widths, width_of, Rule}
+use Rattle.fir_meaning.specs.WidthExpressions.{Width, known, unknown, single, pair, greater, guarded, Widths, width_under, Rule}
 use Rattle.fir_width.specs.working.StandingWidths.{Has}
 use Rattle.fir_least_widths.specs.declared.bound.Term.{Term}
 use Rattle.fir_least_widths.specs.declared.bound.Term.TheVariants.{Known, Same, Single, Pair, Greater, Guarded}
@@ -62,4 +62,4 @@ pub record Keeps (meant : List Width) (rules : List Rule) (arena : Arena) : Type
 
 -- each number has the width of its expression
 abbrev pub Agrees : List Width → Widths → Widths → Type 0
-Agrees meant w u = (number : ℕ) (e : Width) → Has meant number e → u number ≡ width_of e w
+Agrees meant w u = (number : ℕ) (e : Width) → Has meant number e → u number ≡ width_under e w

@@ -3,11 +3,11 @@ use Rattle.std.specs.Prelude.{◌≡◌, ℕ, List, [], ◌∷◌, ◌++◌, fla
 use Rattle.fir_bits.specs.OperatorWords.{operator_word}
 use Rattle.fir_ast.specs.declared.place.Place.{Place}
 use Rattle.fir_ast.specs.Types.{DataType, uint, sint}
-use Rattle.fir_ast.specs.Statements.{PlacedName, Sink}
+use Rattle.fir_ast.specs.Statements.{PlacedName, SinkReference}
 use Rattle.fir_ast.specs.working.Views.{named_of, sink_of}
-use Rattle.fir_ast.specs.View.{type_of}
+use Rattle.fir_ast.specs.working.TypeViews.{type_of}
 use Rattle.fir_ast.specs.Circuits.{CircuitTree}
-use Rattle.fir_pass.specs.Faults.{Fault}
+use Rattle.fir_ast.specs.Faults.{Fault}
 use Rattle.fir_meaning.specs.LeafPaths.{LeafPath, named}
 use Rattle.fir_meaning.specs.TypeLeaves.{turned}
 use Rattle.fir_meaning.specs.ComponentTypes.{is_input}
@@ -50,7 +50,7 @@ choice_word false = codes "validif"
 abbrev pub named_over : Widths → PlacedName → List NumberedLeaf → List Fault
 named_over u n ls = numbers_over u n.place (named n.name ∷ []) ls
 
-abbrev pub sink_over : Widths → Sink → List NumberedLeaf → List Fault
+abbrev pub sink_over : Widths → SinkReference → List NumberedLeaf → List Fault
 sink_over u s ls = numbers_over u s.place (first_path (named s.name ∷ []) s.parts) ls
 
 -- a type that is written, and has no numbers

@@ -2,9 +2,9 @@
 -- of a circuit is what it shows at each.
 use Rattle.std.specs.Prelude.{List, [], ◌∷◌, ◌++◌, flat_map, Option, Some, None}
 use Rattle.fir_ast.specs.Expressions.{Expression, reference, literal, operation, mux, validif, Parts, no_parts, subfield, subindex, subaccess, Expressions, no_expressions, expression}
-use Rattle.fir_ast.specs.Statements.{PlacedName, Sink, Reset, Statement, wire, register, node, instance, memory, when, connect, partial_connect, invalid, skip, Block, done, then}
+use Rattle.fir_ast.specs.Statements.{PlacedName, SinkReference, Reset, Statement, wire, register, node, instance, memory, when, connect, partial_connect, invalid, skip, Block, done, then}
 use Rattle.fir_ast.specs.Circuits.{PortTree, ModuleTree, CircuitTree}
-use Rattle.fir_pass.specs.Faults.{Fault}
+use Rattle.fir_ast.specs.Faults.{Fault}
 use Rattle.fir_meaning.specs.Components.{Component}
 use Rattle.fir_meaning.specs.Components as component
 use Rattle.fir_meaning.specs.Visibility.{Before, with_declaration, opened, reopened, behind, behind_block, behind_ports, at_head}
@@ -46,7 +46,7 @@ abbrev mutual
 abbrev pub spots_of_condition : SizedScope → Expression → List Spot
 spots_of_condition scope c = spots_within scope c ++ of_condition scope c ∷ []
 
-abbrev pub spots_of_sink : SizedScope → Sink → List Spot
+abbrev pub spots_of_sink : SizedScope → SinkReference → List Spot
 spots_of_sink scope sink = spots_within scope (sink_expression sink)
 
 abbrev pub spots_of_reset : SizedScope → Option Reset → List Spot

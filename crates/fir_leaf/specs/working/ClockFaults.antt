@@ -5,8 +5,8 @@
 use Rattle.std.specs.Prelude.{◌≡◌, ℕ, ◌<◌, List, [], ◌∷◌, ◌++◌, flat_map, length, false, ◌⊎◌}
 use Rattle.fir_base.specs.Lists.{In}
 use Rattle.fir_ast.specs.declared.place.Place.{Place}
-use Rattle.fir_ast.specs.declared.fault.FirFault.{FirFault}
-use Rattle.fir_ast.specs.declared.fault.FirFault.TheVariants.{Clock}
+use Rattle.fir_ast.specs.Faults.{Fault}
+use Rattle.fir_meaning.specs.SourceClocks.{clock_fault}
 use Rattle.fir_meaning.specs.Lack.{is_before}
 use Rattle.fir_meaning.specs.working.Terms.{Term, Picks, absent, no_picks, pick, read}
 use Rattle.fir_meaning.specs.working.Choices.{Live}
@@ -48,12 +48,12 @@ pub record IsFirstPlace (p : Place) (ps : List Place) : Type 0 where
   pub among : In ps p
   pub none_before : (q : Place) → In ps q → is_before q p ≡ false
 
-pub record ShowsPickedClock (c : LeafCircuit) (x : ℕ) (f : FirFault) : Type 0 where
+pub record ShowsPickedClock (c : LeafCircuit) (x : ℕ) (f : Fault) : Type 0 where
   pub index : Place
   pub first : IsFirstPlace index (clock_places c x (leaf_at c.leaves x).holds (role_of c x))
-  pub is : f ≡ Clock (place_of_leaf c x) (clock_path c x (leaf_at c.leaves x).holds) index index
+  pub is : f ≡ clock_fault (place_of_leaf c x) (clock_path c x (leaf_at c.leaves x).holds) index index
 
-pub record ShowsTwoLive (c : LeafCircuit) (x : ℕ) (f : FirFault) : Type 0 where
+pub record ShowsTwoLive (c : LeafCircuit) (x : ℕ) (f : Fault) : Type 0 where
   pub is_clock : (leaf_at c.leaves x).holds ≡ a_clock
   pub is_sink : role_of c x ≡ sink
   pub none_picks : flat_map live_places (lives_of c x) ≡ []
@@ -61,10 +61,10 @@ pub record ShowsTwoLive (c : LeafCircuit) (x : ℕ) (f : FirFault) : Type 0 wher
   pub second : Live
   pub rest : List Live
   pub lives : lives_of c x ≡ first ∷ second ∷ rest
-  pub is : f ≡ Clock (place_of_leaf c x) (path_of_leaf c x) first.place second.place
+  pub is : f ≡ clock_fault (place_of_leaf c x) (path_of_leaf c x) first.place second.place
 
 -- one of the two at some leaf
-pub record ShowsClockFault (c : LeafCircuit) (f : FirFault) : Type 0 where
+pub record ShowsClockFault (c : LeafCircuit) (f : Fault) : Type 0 where
   pub leaf : ℕ
   pub within : leaf < length c.leaves
   pub shows : ShowsPickedClock c leaf f ⊎ ShowsTwoLive c leaf f

@@ -1,7 +1,7 @@
 -- Laws about the faults of leaf circuits: chains of clocks are walks of dependence, and where no E25 stands a clock comes from one term.
 use Rattle.std.specs.Prelude.{◌≡◌, ℕ, List, ◌∷◌, IsTrue}
 use Rattle.fir_base.specs.Lists.{In}
-use Rattle.fir_ast.specs.declared.fault.FirFault.{FirFault}
+use Rattle.fir_ast.specs.Faults.{Fault}
 use Rattle.fir_meaning.specs.working.Terms.{Term, absent, no_picks, read, zeros}
 use Rattle.fir_meaning.specs.working.TermReads.{is_picked}
 use Rattle.fir_meaning.specs.working.Choices.{Choice, Live}
@@ -19,11 +19,11 @@ ChainIsWalk = (c : LeafCircuit) (x : ℕ) (ys : List ℕ) (final : ℕ) → IsCh
 
 -- where some walk of dependence comes back, E28 stands
 abbrev pub ClosedWalkShowsLoop : Type 0
-ClosedWalkShowsLoop = (c : LeafCircuit) (x y : ℕ) (ys : List ℕ) → IsWalk c x (y ∷ ys) x → (f : FirFault) × ShowsLoop c f
+ClosedWalkShowsLoop = (c : LeafCircuit) (x y : ℕ) (ys : List ℕ) → IsWalk c x (y ∷ ys) x → (f : Fault) × ShowsLoop c f
 
 -- so it does where a chain of clocks comes back
 abbrev pub RingShowsLoop : Type 0
-RingShowsLoop = (c : LeafCircuit) (x y : ℕ) (ys : List ℕ) → IsChain c x (y ∷ ys) x → (f : FirFault) × ShowsLoop c f
+RingShowsLoop = (c : LeafCircuit) (x y : ℕ) (ys : List ℕ) → IsChain c x (y ∷ ys) x → (f : Fault) × ShowsLoop c f
 
 -- what may give a clock: an invalid, a leaf, or one that is not there, behind an index
 abbrev pub IsClockTerm : Term → Type 0
@@ -54,4 +54,4 @@ pub record HasStep (c : LeafCircuit) (x : ℕ) : Type 0 where
 -- where no E25 stands, a clock leaf that is given a clock under every choice is given it by one term
 abbrev pub FaultlessHasStep : Type 0
 FaultlessHasStep =
-    (c : LeafCircuit) (x : ℕ) → ((f : FirFault) → ShowsClockFault c f → ⊥) → IsClockLeaf c x → IsGiven c x (role_of c x) → HasStep c x
+    (c : LeafCircuit) (x : ℕ) → ((f : Fault) → ShowsClockFault c f → ⊥) → IsClockLeaf c x → IsGiven c x (role_of c x) → HasStep c x

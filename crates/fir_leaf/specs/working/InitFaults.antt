@@ -3,8 +3,8 @@
 -- leaf stands on it twice.
 use Rattle.std.specs.Prelude.{◌≡◌, ℕ, ◌<◌, List, ◌∷◌, map, length, Bool, true, false, Some, IsTrue}
 use Rattle.fir_base.specs.Lists.{In, Distinct}
-use Rattle.fir_ast.specs.declared.fault.FirFault.{FirFault}
-use Rattle.fir_ast.specs.declared.fault.FirFault.TheVariants.{AsyncInit}
+use Rattle.fir_ast.specs.Faults.{Fault}
+use Rattle.fir_meaning.specs.SourceInits.{init_fault}
 use Rattle.fir_meaning.specs.working.Terms.{Term}
 use Rattle.fir_meaning.specs.working.TermReads.{reads}
 use Rattle.fir_meaning.specs.working.LeafModules.{LeafReset, Role, computed, register, sink}
@@ -18,7 +18,7 @@ ends_init sink = false
 ends_init (computed t) = false
 ends_init _ = true
 
-pub record ShowsAsyncInit (c : LeafCircuit) (f : FirFault) : Type 0 where
+pub record ShowsAsyncInit (c : LeafCircuit) (f : Fault) : Type 0 where
   pub leaf : ℕ
   pub within : leaf < length c.leaves
   pub clock : Term
@@ -33,4 +33,4 @@ pub record ShowsAsyncInit (c : LeafCircuit) (f : FirFault) : Type 0 where
   pub final_within : final < length c.leaves
   pub ends : IsTrue (ends_init (role_of c final))
   pub distinct : Distinct (first ∷ rest)
-  pub is : f ≡ AsyncInit (place_of_leaf c leaf) (map (path_of_leaf c) (first ∷ rest))
+  pub is : f ≡ init_fault (place_of_leaf c leaf) (map (path_of_leaf c) (first ∷ rest))

@@ -3,8 +3,8 @@
 -- the first port that has one, and the first that differs from it. Before each path stands that of the instance of the module.
 use Rattle.std.specs.Prelude.{◌≡◌, ℕ, List, [], ◌∷◌, ◌++◌, Some, slice_get}
 use Rattle.fir_base.specs.Lists.{In}
-use Rattle.fir_ast.specs.declared.fault.FirFault.{FirFault}
-use Rattle.fir_ast.specs.declared.fault.FirFault.TheVariants.{MemoryClocks}
+use Rattle.fir_ast.specs.Faults.{Fault}
+use Rattle.fir_meaning.specs.SourceMemoryClocks.{memory_clocks_fault}
 use Rattle.fir_ast.specs.Statements.{PlacedName}
 use Rattle.fir_meaning.specs.LeafPaths.{LeafPath, named, path_text}
 use Rattle.fir_meaning.specs.working.LeafModules.{LeafModule, MemoryDeclared, leaf_at}
@@ -19,7 +19,7 @@ HasClock m x root = HasRoot (module_circuit m) x (Some root)
 abbrev pub path_within : LeafPath → LeafModule → ℕ → List ℕ
 path_within instance m x = path_text (instance ++ (leaf_at m.leaves x).path)
 
-pub record ShowsMemoryClocks (m : LeafModule) (instance : LeafPath) (f : FirFault) : Type 0 where
+pub record ShowsMemoryClocks (m : LeafModule) (instance : LeafPath) (f : Fault) : Type 0 where
   pub memory : MemoryDeclared
   pub declared : In m.memories memory
   pub name : PlacedName
@@ -38,4 +38,4 @@ pub record ShowsMemoryClocks (m : LeafModule) (instance : LeafPath) (f : FirFaul
   pub same_between : (x root : ℕ) → In between x → HasClock m x root → root ≡ clock
   pub other_has : HasClock m other other_clock
   pub differ : clock ≡ other_clock → ⊥
-  pub is : f ≡ MemoryClocks name.place (path_text (instance ++ named name.name ∷ [])) (path_within instance m clock) (path_within instance m other_clock)
+  pub is : f ≡ memory_clocks_fault name.place (path_text (instance ++ named name.name ∷ [])) (path_within instance m clock) (path_within instance m other_clock)

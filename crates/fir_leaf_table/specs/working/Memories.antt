@@ -1,14 +1,14 @@
 -- The code's memories, and what they stand for (FIRRTL spec, "Memories").
 use Rattle.std.specs.Prelude.{◌≡◌, ℕ, zero, suc, List, map, length, Bool, true, false}
 use Rattle.fir_meaning.specs.working.LeafMemories.{LeafMemory}
-use Rattle.fir_meaning.specs.MemoryPorts.{PortKind, reads, writes, reads_and_writes}
+use Rattle.fir_meaning.specs.MemoryPorts.{MemoryPortKind, reads, writes, reads_and_writes}
 use Rattle.fir_meaning.specs.LeafTypes.{LeafType}
 use Rattle.fir_leaf_table.specs.declared.memory.Memory.{Memory}
 use Rattle.fir_leaf_table.specs.declared.memory.MemoryPort.{MemoryPort}
 use Rattle.fir_leaf_table.specs.declared.memory.MemoryPort.TheVariants as port
 use Rattle.fir_leaf_table.specs.working.TypedLeaves.{types_seen}
 
-abbrev pub port_seen : MemoryPort → PortKind
+abbrev pub port_seen : MemoryPort → MemoryPortKind
 port_seen port.Reads = reads
 port_seen port.Writes = writes
 port_seen port.ReadsAndWrites = reads_and_writes

@@ -15,9 +15,9 @@ use Rattle.fir_meaning.specs.MemoryTypes.{data_of_part, depth_of_part, first_one
 use Rattle.fir_meaning.specs.MemoryFaults.{read_latency_of_part, read_under_write_of_part}
 use Rattle.fir_meaning.specs.LeafTypes.{LeafType}
 use Rattle.fir_meaning.specs.working.LeafModules.{LeafArray, MemoryDeclared, Need, Reading, Role, Writing, sink, reading, pipe}
-use Rattle.fir_meaning.specs.MemoryPorts.{PortKind, reads, writes, reads_and_writes}
+use Rattle.fir_meaning.specs.MemoryPorts.{MemoryPortKind, reads, writes, reads_and_writes}
 
-abbrev pub port_kinds_of : MemoryPart → List PortKind
+abbrev pub port_kinds_of : MemoryPart → List MemoryPortKind
 port_kinds_of (reader q names) = map (λ n. reads) names
 port_kinds_of (writer q names) = map (λ n. writes) names
 port_kinds_of (readwriter q names) = map (λ n. reads_and_writes) names
@@ -32,7 +32,7 @@ pub record LeafMemory : Type 0 where
   pub words : ℕ
   pub read_latency : ℕ
   pub under_write : ReadUnderWrite
-  pub ports : List PortKind
+  pub ports : List MemoryPortKind
   pub first : ℕ
   pub first_array : ℕ
 
@@ -63,7 +63,7 @@ memory_behind ds first n parts = record {
 }
 
 -- of a port of a memory whose data has so many leaves
-abbrev pub port_size : ℕ → PortKind → ℕ
+abbrev pub port_size : ℕ → MemoryPortKind → ℕ
 port_size d reads = 3 + d
 port_size d writes = 3 + 2 * d
 port_size d reads_and_writes = 4 + 3 * d
@@ -94,13 +94,13 @@ abbrev pub sinks : ℕ → List Role
 sinks zero = []
 sinks (suc n) = sink ∷ sinks n
 
-abbrev pub port_roles : LeafMemory → ℕ → PortKind → List Role
+abbrev pub port_roles : LeafMemory → ℕ → MemoryPortKind → List Role
 port_roles m b reads = sinks 3 ++ read_roles m (enable b ∷ []) b 0 m.data_leaves
 port_roles m b writes = sinks (3 + 2 * m.data_leaves)
 port_roles m b reads_and_writes =
     sinks 3 ++ read_roles m (enable b ∷ record { leaf = mode m.data_leaves b; high = false } ∷ []) b 0 m.data_leaves ++ sinks (1 + 2 * m.data_leaves)
 
-abbrev pub roles_from : LeafMemory → ℕ → List PortKind → List Role
+abbrev pub roles_from : LeafMemory → ℕ → List MemoryPortKind → List Role
 roles_from m b [] = []
 roles_from m b (p ∷ ps) = port_roles m b p ++ roles_from m (b + port_size m.data_leaves p) ps
 
@@ -108,7 +108,7 @@ abbrev pub memory_roles : LeafMemory → List Role
 memory_roles m = roles_from m m.first m.ports
 
 -- what a port writes into the array of a data leaf
-abbrev pub port_writings : ℕ → ℕ → ℕ → PortKind → List Writing
+abbrev pub port_writings : ℕ → ℕ → ℕ → MemoryPortKind → List Writing
 port_writings d i b reads = []
 port_writings d i b writes = record {
   address = b;
@@ -123,7 +123,7 @@ port_writings d i b reads_and_writes = record {
   given = b + 4 + d + i;
 } ∷ []
 
-abbrev pub writings_from : ℕ → ℕ → ℕ → List PortKind → List Writing
+abbrev pub writings_from : ℕ → ℕ → ℕ → List MemoryPortKind → List Writing
 writings_from d i b [] = []
 writings_from d i b (p ∷ ps) = port_writings d i b p ++ writings_from d i (b + port_size d p) ps
 
@@ -138,7 +138,7 @@ arrays_from m i (l ∷ ls) (h ∷ hs) = record {
 } ∷ arrays_from m (suc i) ls hs
 arrays_from m i _ _ = []
 
-abbrev pub clocks_from : ℕ → ℕ → List PortKind → List ℕ
+abbrev pub clocks_from : ℕ → ℕ → List MemoryPortKind → List ℕ
 clocks_from d b [] = []
 clocks_from d b (p ∷ ps) = (b + 2) ∷ clocks_from d (b + port_size d p) ps
 

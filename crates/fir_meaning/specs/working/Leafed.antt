@@ -3,7 +3,7 @@
 use Rattle.std.specs.Prelude.{ℕ, suc, ◌+◌, List, [], ◌∷◌, map, Option, Some, None}
 use Rattle.fir_ast.specs.Types.{DataType}
 use Rattle.fir_ast.specs.Expressions.{Expression, reference, literal, operation, mux, validif, Parts, no_parts, subfield, subindex, subaccess, Expressions, no_expressions, expression}
-use Rattle.fir_ast.specs.Statements.{Sink}
+use Rattle.fir_ast.specs.Statements.{SinkReference}
 use Rattle.fir_meaning.specs.ExpressionPlaces.{place_of}
 use Rattle.fir_meaning.specs.TypeLeaves.{TypeLeaf, type_leaves}
 use Rattle.fir_meaning.specs.TypedScopes.{TypedScope}
@@ -53,7 +53,7 @@ module _ (scope : TypedScope) where
     operands no_expressions = []
     operands (expression e es) = first_term (terms e) ∷ operands es
 
-  abbrev pub target_of : Sink → Target
+  abbrev pub target_of : SinkReference → Target
   target_of s = target_along (named_target scope s.name) s.parts
 
   -- of an expression that is a reference

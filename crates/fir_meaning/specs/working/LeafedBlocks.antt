@@ -4,7 +4,7 @@ use Rattle.std.specs.Prelude.{ℕ, zero, suc, ◌+◌, List, [], ◌∷◌, leng
 use Rattle.fir_ast.specs.declared.place.Place.{Place}
 use Rattle.fir_ast.specs.Types.{DataType}
 use Rattle.fir_ast.specs.Expressions.{Expression}
-use Rattle.fir_ast.specs.Statements.{Sink, Statement, instance, when, connect, partial_connect, invalid, Block, done, then}
+use Rattle.fir_ast.specs.Statements.{SinkReference, Statement, instance, when, connect, partial_connect, invalid, Block, done, then}
 use Rattle.fir_ast.specs.Circuits.{ModuleTree}
 use Rattle.fir_meaning.specs.TypeLeaves.{leaf_count}
 use Rattle.fir_meaning.specs.Visibility.{Before, opened, reopened, behind, behind_block}
@@ -70,7 +70,7 @@ instance_block scope None = over.done
 instance_block scope (Some child) =
     alone (over.instance (record { declaration = length scope; module_number = child.0; first = leaves_so_far scope }))
 
-abbrev pub sides : TypedScope → Sink → Expression → Sides
+abbrev pub sides : TypedScope → SinkReference → Expression → Sides
 sides scope s e = record {
   left = target_of scope s;
   right = target_read scope e;
@@ -78,7 +78,7 @@ sides scope s e = record {
   gives_back = target_terms (target_of scope s);
 }
 
-abbrev pub connect_block : (DataType → DataType → List LeafPair) → TypedScope → Place → Sink → Expression → LeafBlock
+abbrev pub connect_block : (DataType → DataType → List LeafPair) → TypedScope → Place → SinkReference → Expression → LeafBlock
 connect_block pairs_of scope p s e =
     pairs_block p (sides scope s e) (pairs_of (target_of scope s).data_type (type_where (expression_type scope e).has))
 

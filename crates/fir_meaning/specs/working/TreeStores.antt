@@ -6,7 +6,7 @@ use Rattle.fir_bits.specs.declared.values.Num.{Num}
 use Rattle.fir_bits.specs.Operators.{no_operand}
 use Rattle.fir_ast.specs.Types.{DataType}
 use Rattle.fir_ast.specs.Expressions.{Expression}
-use Rattle.fir_ast.specs.Statements.{Sink, Statement, when, connect, partial_connect, invalid, Block, done, then}
+use Rattle.fir_ast.specs.Statements.{SinkReference, Statement, when, connect, partial_connect, invalid, Block, done, then}
 use Rattle.fir_ast.specs.Circuits.{ModuleTree}
 use Rattle.fir_meaning.specs.LeafPaths.{LeafPath}
 use Rattle.fir_meaning.specs.TypeLeaves.{TypeLeaf, type_leaves}
@@ -41,18 +41,18 @@ module _ (facts : LeafFacts) (env : ValuesByPath) where
   path_stored (Some x) v taken store = if counts (facts.depth x) taken then path_stored_at x (fit v (facts.holds x)) store else store
 
   -- a flipped leaf is driven on the right side, from the left
-  abbrev pub exec_pair : TypedScope → Sink → Expression → List Bool → Pair → PathStore → PathStore
+  abbrev pub exec_pair : TypedScope → SinkReference → Expression → List Bool → Pair → PathStore → PathStore
   exec_pair scope sink e taken pair store =
       if pair.left.flip
       then path_stored (leaf_where (aim_read scope facts.holds env e) pair.right.path)
       (aim_value facts.holds env (aim_of scope facts.holds env sink) pair.left.path) taken store
       else path_stored (leaf_where (aim_of scope facts.holds env sink).at pair.left.path) (value scope facts.holds env e pair.right.path) taken store
 
-  abbrev pub exec_pairs : TypedScope → Sink → Expression → List Bool → List Pair → PathStore → PathStore
+  abbrev pub exec_pairs : TypedScope → SinkReference → Expression → List Bool → List Pair → PathStore → PathStore
   exec_pairs scope sink e taken [] store = store
   exec_pairs scope sink e taken (pair ∷ rest) store = exec_pairs scope sink e taken rest (exec_pair scope sink e taken pair store)
 
-  abbrev pub exec_connect : (DataType → DataType → List Pair) → TypedScope → Sink → Expression → List Bool → PathStore → PathStore
+  abbrev pub exec_connect : (DataType → DataType → List Pair) → TypedScope → SinkReference → Expression → List Bool → PathStore → PathStore
   exec_connect pairs_of scope sink e taken store =
       exec_pairs scope sink e taken (pairs_of (aim_of scope facts.holds env sink).data_type (type_where (expression_type scope e).has)) store
 

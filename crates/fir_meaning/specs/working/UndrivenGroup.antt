@@ -1,9 +1,8 @@
 -- E24 in a circuit (FIRRTL spec, "Initialization of Components"): the leaves of all modules that some choice leaves undriven.
 -- Told is the first of them in the order of the modules and of their leaves.
-use Rattle.std.specs.Prelude.{◌≡◌, ℕ, ◌<◌}
-use Rattle.fir_ast.specs.declared.fault.FirFault.{FirFault}
+use Rattle.std.specs.Prelude.{ℕ, ◌<◌}
 use Rattle.fir_ast.specs.Circuits.{CircuitTree}
-use Rattle.fir_pass.specs.Faults.{Fault, fault_of}
+use Rattle.fir_ast.specs.Faults.{Fault}
 use Rattle.fir_pass.specs.Groups.{Group}
 use Rattle.fir_meaning.specs.ModuleScenes.{Scene}
 use Rattle.fir_meaning.specs.working.LeafedModules.{leafed_module}
@@ -14,9 +13,7 @@ use Rattle.fir_meaning.specs.working.UndrivenLeaves.{AreDriven, AreDrivenBefore,
 pub record IsFaultOf (c : CircuitTree) (module_number leaf : ℕ) (f : Fault) : Type 0 where
   pub scene : Scene
   pub is_scene : IsSceneOf c module_number scene
-  pub fault : FirFault
-  pub shows : ShowsUndriven (leafed_module scene) leaf fault
-  pub is : f ≡ fault_of fault
+  pub shows : ShowsUndriven (leafed_module scene) leaf f
 
 pub record IsShown (c : CircuitTree) (f : Fault) : Type 0 where
   pub module_number : ℕ

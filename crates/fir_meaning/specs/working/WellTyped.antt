@@ -7,7 +7,7 @@ use Rattle.fir_bits.specs.Forms.{form_of, takes}
 use Rattle.fir_base.specs.Lists.{In}
 use Rattle.fir_ast.specs.Types.{DataType, uint, clock, reset, async_reset}
 use Rattle.fir_ast.specs.Expressions.{Expression, reference, literal, operation, mux, validif, Parts, no_parts, subfield, subindex, subaccess, Expressions, no_expressions, expression}
-use Rattle.fir_ast.specs.Statements.{Sink, Reset, MemoryPart, Statement, register, node, memory, when, connect, partial_connect, invalid, Block, done, then}
+use Rattle.fir_ast.specs.Statements.{SinkReference, Reset, MemoryPart, Statement, register, node, memory, when, connect, partial_connect, invalid, Block, done, then}
 use Rattle.fir_ast.specs.Circuits.{ModuleTree, CircuitTree}
 use Rattle.fir_meaning.specs.Components as component
 use Rattle.fir_meaning.specs.Visibility.{Before, with_declaration, opened, reopened, behind, behind_block, behind_ports, at_head}
@@ -20,7 +20,7 @@ use Rattle.fir_meaning.specs.Flows.{flow_under, is_source}
 use Rattle.fir_meaning.specs.TypedScopes.{TypedScope, known}
 use Rattle.fir_meaning.specs.Reaching.{Reached, further, at_field, at_element, at_any, field_of_type, vector_of_type, known_reached}
 use Rattle.fir_meaning.specs.OperationTypes.{is_conversion, operand_kinds, result_of}
-use Rattle.fir_meaning.specs.ExpressionTypes.{number_type, reached_by}
+use Rattle.fir_meaning.specs.ExpressionTypes.{number_data_type, reached_by}
 use Rattle.fir_meaning.specs.MemoryTypes.{data_of_part, depth_of_part}
 use Rattle.fir_meaning.specs.MemoryFaults.{read_latency_of_part, write_latency_of_part, read_under_write_of_part, is_at_most_one}
 use Rattle.fir_meaning.specs.TypeGroup.{scope_at}
@@ -30,7 +30,7 @@ abbrev mutual
   pub HasType : TypedScope → Expression → DataType → Type 0
   HasType scope (reference p n ps) t =
       (begins : Reached) × (r : Reached) × (known_reached (known scope n) ≡ Some begins) × Leads scope begins ps r × (t ≡ r.data_type)
-  HasType scope (literal l) t = t ≡ number_type l.signed l.width
+  HasType scope (literal l) t = t ≡ number_data_type l.signed l.width
   HasType scope (operation p op es ks) t =
       (ts : List DataType) × (kinds : List NumTy) × HaveTypes scope es ts × (operand_kinds (is_conversion op) ts ≡ Some kinds)
       × IsTrue (takes (form_of op) kinds ks) × (t ≡ result_of op kinds)
@@ -56,7 +56,7 @@ abbrev mutual
       (width : Option ℕ) × (t : DataType) × (n : ℕ) × HasType scope e (uint width) × (vector_of_type r.data_type ≡ Some (t, n))
       × Leads scope (at_any r (t, n)) rest s
 
-abbrev pub Reaches : TypedScope → Sink → Reached → Type 0
+abbrev pub Reaches : TypedScope → SinkReference → Reached → Type 0
 Reaches scope s r = (begins : Reached) × (known_reached (known scope s.name) ≡ Some begins) × Leads scope begins s.parts r
 
 abbrev pub MayReset : DataType → Type 0
@@ -86,7 +86,7 @@ FlowsTo false left right p = MayBeDriven left p.left
 abbrev pub PairFlows : Reached → Option Reached → Pair → Type 0
 PairFlows left right p = FlowsTo p.left.flip left right p
 
-abbrev pub ConnectIsLegal : (DataType → DataType → Bool) → (DataType → DataType → List Pair) → TypedScope → Sink → Expression → Type 0
+abbrev pub ConnectIsLegal : (DataType → DataType → Bool) → (DataType → DataType → List Pair) → TypedScope → SinkReference → Expression → Type 0
 ConnectIsLegal fits pairs_of scope sink e =
     (left : Reached) × (t : DataType) × Reaches scope sink left × HasType scope e t × IsTrue (fits left.data_type t)
     × All (PairFlows left (reached_by scope e)) (pairs_of left.data_type t)

@@ -4,12 +4,12 @@ use Rattle.fir_base.specs.Lists.{In}
 use Rattle.fir_ast.specs.Types.{DataType}
 use Rattle.fir_ast.specs.Expressions.{Expression}
 use Rattle.fir_ast.specs.Circuits.{ModuleTree, CircuitTree}
-use Rattle.fir_pass.specs.Faults.{Fault}
+use Rattle.fir_ast.specs.Faults.{Fault}
 use Rattle.fir_meaning.specs.Components.{Declarations}
 use Rattle.fir_meaning.specs.TypeKinds.{bare}
 use Rattle.fir_meaning.specs.ExpressionTypes.{expression_type}
 use Rattle.fir_meaning.specs.ComponentTypes.{typed_scope}
-use Rattle.fir_meaning.specs.WidthExpressions.{Widths, Width, width_of, Rule, MeetsRules, IsLeastOf}
+use Rattle.fir_meaning.specs.WidthExpressions.{Widths, Width, width_under, Rule, MeetsRules, IsLeastOf}
 use Rattle.fir_meaning.specs.SizedTypes.{bare_type, numbered, renumbered}
 use Rattle.fir_meaning.specs.SizedScopes.{sized_type}
 use Rattle.fir_meaning.specs.SizedDeclarations.{Numbering, numbered_behind}
@@ -22,7 +22,7 @@ use Rattle.fir_meaning.specs.working.InferredTypes.{inferred}
 
 -- wider unknowns never make an expression narrower
 abbrev pub WidthsGrow : Type 0
-WidthsGrow = (e : Width) (w v : Widths) → ((k : ℕ) → w k ≤ v k) → width_of e w ≤ width_of e v
+WidthsGrow = (e : Width) (w v : Widths) → ((k : ℕ) → w k ≤ v k) → width_under e w ≤ width_under e v
 
 -- rules have a least assignment
 abbrev pub HasLeast : Type 0
@@ -34,7 +34,7 @@ OneLeast = (rules : List Rule) (w v : Widths) → IsLeastOf rules w → IsLeastO
 
 -- each of these expressions is within 128 bits
 abbrev pub AllWithin : List Width → Widths → Type 0
-AllWithin es w = (e : Width) → In es e → width_of e w ≤ 128
+AllWithin es w = (e : Width) → In es e → width_under e w ≤ 128
 
 -- some assignment that meets all rules keeps these expressions within 128 bits exactly where the least one does
 abbrev pub LeastIsWithin : Type 0

@@ -5,7 +5,7 @@ use Rattle.fir_base.specs.declared.refused.Refused.{Refused}
 use Rattle.fir_base.specs.declared.refused.Refused.TheVariants.{Fault, Memory}
 use Rattle.fir_ast.specs.declared.fault.FirFault.{FirFault}
 use Rattle.fir_ast.specs.Circuits.{CircuitTree}
-use Rattle.fir_pass.specs.Faults.{fault_of}
+use Rattle.fir_ast.specs.working.CodeFaults.{fault_of}
 use Rattle.fir_pass.specs.Law.{IsFirst}
 use Rattle.fir_meaning.specs.Mentions.{module_names}
 use Rattle.fir_meaning.specs.working.NameGroups.{HasNames}

@@ -6,7 +6,7 @@ use Rattle.fir_base.specs.declared.refused.Refused.TheVariants.{Fault, Memory}
 use Rattle.fir_ast.specs.declared.fault.FirFault.{FirFault}
 use Rattle.fir_ast.specs.Statements.{PlacedName}
 use Rattle.fir_ast.specs.Circuits.{ModuleTree}
-use Rattle.fir_pass.specs.Faults.{fault_of}
+use Rattle.fir_ast.specs.working.CodeFaults.{fault_of}
 use Rattle.fir_pass.specs.Groups.{first_of}
 use Rattle.fir_meaning.specs.Visibility.{declarations}
 use Rattle.fir_meaning.specs.Mentions.{module_mentions, modules_mentions}

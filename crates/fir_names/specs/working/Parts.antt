@@ -5,7 +5,7 @@ use Rattle.fir_ast.specs.declared.expressions.Part.{Part, fold-Part}
 use Rattle.fir_ast.specs.declared.statements.When.{When, fold-When}
 use Rattle.fir_ast.specs.Types.{DataType}
 use Rattle.fir_ast.specs.Expressions.{Expression, Parts, no_parts}
-use Rattle.fir_ast.specs.Statements.{PlacedName, Sink, Reset, Statement}
+use Rattle.fir_ast.specs.Statements.{PlacedName, SinkReference, Reset, Statement}
 use Rattle.fir_ast.specs.working.Views.{expr_step, part_step, reference_step, stmt_step, when_step}
 use Rattle.fir_meaning.specs.Components as component
 use Rattle.fir_meaning.specs.Visibility.{Before, with_declaration}
@@ -13,7 +13,7 @@ use Rattle.fir_meaning.specs.Mentions.{Mention, declares, names_declared, type_m
 
 -- what a part puts before those behind it
 abbrev pub part_of : Part → Parts → Parts
-part_of = fold-Part Expression (Parts → Parts) Sink expr_step part_step reference_step
+part_of = fold-Part Expression (Parts → Parts) SinkReference expr_step part_step reference_step
 
 -- a part with none behind it
 abbrev pub part_view : Part → Parts

@@ -11,7 +11,7 @@ use Rattle.fir_bits.specs.Forms.{form_of}
 use Rattle.fir_ast.specs.declared.place.Place.{Place}
 use Rattle.fir_ast.specs.declared.expressions.Literal.{Literal}
 use Rattle.fir_ast.specs.Expressions.{Expression, reference, literal, operation, mux, validif, Parts, no_parts, subfield, subindex, subaccess, Expressions, no_expressions, expression}
-use Rattle.fir_ast.specs.Statements.{Sink}
+use Rattle.fir_ast.specs.Statements.{SinkReference}
 use Rattle.fir_parse.specs.declared.lexeme.Mark.TheVariants.{Less, Greater, OpenRound, CloseRound, OpenSquare, CloseSquare, Comma, Dot}
 use Rattle.fir_parse.specs.declared.words.Applied.{Applied}
 use Rattle.fir_parse.specs.declared.words.Applied.TheVariants as applied
@@ -104,7 +104,7 @@ index_rest d h p k =
     opens d p (wants (an_index (d + 1)) (λ i. wants (a_mark CloseSquare) (λ q. ends_form (indexed_height h i) q (wants (parts d (indexed_height h i)) (λ ps. k (indexed p i ps))))))
 
 -- a name and what follows it
-abbrev pub reference_rest : ℕ → Place → List ℕ → (Sink → State) → State
+abbrev pub reference_rest : ℕ → Place → List ℕ → (SinkReference → State) → State
 reference_rest d p w k = wants (parts d 1) (λ ps. k (record { place = p; name = w; parts = ps }))
 
 abbrev pub parts_step : ℕ → ℕ → Lexeme → Place → Step Parts

@@ -1,8 +1,7 @@
 -- Laws about the definitions.
 use Rattle.std.specs.Prelude.{◌≡◌, ◌↔◌, ℕ, List, [], ◌∷◌, ◌++◌, ◌⊎◌, Ok}
 use Rattle.fir_ast.specs.declared.place.Place.{Place}
-use Rattle.fir_ast.specs.declared.fault.FirFault.{FirFault}
-use Rattle.fir_ast.specs.declared.fault.FirFault.TheVariants.{Unsupported}
+use Rattle.fir_ast.specs.Faults.{Fault}
 use Rattle.fir_ast.specs.Circuits.{CircuitTree}
 use Rattle.fir_lex.specs.Tokens.{Placed}
 use Rattle.fir_lex.specs.working.Lexed.{lexed}
@@ -11,7 +10,7 @@ use Rattle.fir_parse.specs.Limits.{Limits}
 use Rattle.fir_parse.specs.CircuitForms.{IsSpelled}
 use Rattle.fir_parse.specs.Spells.{terminals, Spells}
 use Rattle.fir_parse.specs.MissingForms.{word_at}
-use Rattle.fir_parse.specs.TextFaults.{Shows, TextFault}
+use Rattle.fir_parse.specs.TextFaults.{unsupported_fault, Shows, TextFault}
 use Rattle.fir_parse.specs.working.Reading.{whole, read_on}
 use Rattle.fir_parse.specs.working.TreePlaces.{Rise, circuit_places}
 use Rattle.fir_parse.specs.working.TokenPlaces.{token_places}
@@ -24,7 +23,7 @@ abbrev pub HasTree : List ℕ → Type 0
 HasTree bytes = (c : CircuitTree) × Spells bytes c
 
 abbrev pub HasFault : List ℕ → Type 0
-HasFault bytes = (f : FirFault) × TextFault bytes f
+HasFault bytes = (f : Fault) × TextFault bytes f
 
 -- a text spells a tree, or it has a fault, and not both
 abbrev pub HasTreeOrFault : Type 0
@@ -32,7 +31,7 @@ HasTreeOrFault = (bytes : List ℕ) → (HasTree bytes ⊎ HasFault bytes) × (H
 
 -- a text shows one fault at most
 abbrev pub ShowsOneFault : Type 0
-ShowsOneFault = (bytes : List ℕ) (f g : FirFault) → TextFault bytes f → TextFault bytes g → f ≡ g
+ShowsOneFault = (bytes : List ℕ) (f g : Fault) → TextFault bytes f → TextFault bytes g → f ≡ g
 
 abbrev pub EndsIn : List Terminal → Terminal → Type 0
 EndsIn ts t = (before : List Terminal) × (ts ≡ before ++ t ∷ [])
@@ -41,7 +40,7 @@ EndsIn ts t = (before : List Terminal) × (ts ≡ before ++ t ∷ [])
 abbrev pub UnsupportedNamesItsWord : Type 0
 UnsupportedNamesItsWord =
     (end : Place) (front back : List Terminal) (t : Terminal) (p : Place) (w : List ℕ) →
-    Shows end front (t ∷ back) (Unsupported p w) → (t ≡ word_at w p) ⊎ EndsIn front (word_at w p)
+    Shows end front (t ∷ back) (unsupported_fault p w) → (t ≡ word_at w p) ⊎ EndsIn front (word_at w p)
 
 -- the tree that the tokens spell, form by form, is the tree that is read from the left, wherever limits count
 abbrev pub SpelledFormByForm : Type 0

@@ -13,7 +13,7 @@ use Rattle.fir_parse.specs.working.Marks.{same_mark}
 use Rattle.fir_base.specs.Digits.{decimal_value}
 use Rattle.fir_parse.specs.Numbers.{has_sign, is_in_range}
 use Rattle.fir_parse.specs.working.Symbols.{Sym, Tree, Natural, a_mark, a_word, a_name, a_field_name, a_natural, a_line_end, an_opening, a_closing, a_type, a_width, dimensions, fields, more_fields, a_field, behind_flip, an_expression, behind_word, parts, an_index, a_literal, statements, behind_first, behind_is, behind_else, behind_sink, an_indented_block, a_reset, behind_with, a_memory_body, a_memory_field, more_memory_fields, more_names, an_under_write, a_text, some_annotations, first_module, more_modules, a_body, ports_and_statements, behind_direction, behind_port_is}
-use Rattle.fir_parse.specs.working.States.{State, done, number_at, fault_of, limit_of, limit, wants, Step, takes, without, refuses, unsupported, mapped}
+use Rattle.fir_parse.specs.working.States.{State, done, number_at, bound_fault, limit_of, limit, wants, Step, takes, without, refuses, unsupported, mapped}
 use Rattle.fir_parse.specs.working.TypeRules.{type_at, type_step, width_step, dimensions_step, field_step, flip_step, fields_step, more_fields_step}
 use Rattle.fir_parse.specs.working.ExpressionRules.{expression_step, behind_word_step, parts_step, index_step, literal_step}
 use Rattle.fir_parse.specs.working.StatementRules.{statements_step, first_step, is_step, else_step, sink_step, block_step, reset_step, with_step}
@@ -118,12 +118,12 @@ goes_on (unsupported q w) p k behind with_it = Err (Unsupported q w)
 -- at a token, where some limits count
 abbrev pub at_token : (Limit → Bool) → State → Terminal → (State → Outcome) → Outcome
 at_token counts (done c) t behind = Err (Syntax t.place)
-at_token counts (limit passed b st) t behind = if counts (limit_of b) && passed then Err (fault_of b) else at_token counts st t behind
+at_token counts (limit passed b st) t behind = if counts (limit_of b) && passed then Err (bound_fault b) else at_token counts st t behind
 at_token counts (wants s k) t behind = goes_on (step s t.lexeme t.place) t.place k behind (λ x. at_token counts (k x) t behind)
 
 abbrev pub at_end : (Limit → Bool) → Place → State → Outcome
 at_end counts end (done c) = Ok c
-at_end counts end (limit passed b st) = if counts (limit_of b) && passed then Err (fault_of b) else at_end counts end st
+at_end counts end (limit passed b st) = if counts (limit_of b) && passed then Err (bound_fault b) else at_end counts end st
 at_end counts end (wants s k) = Err (Syntax end)
 
 -- the text goes on with these tokens, up to its end at a place

@@ -10,7 +10,7 @@ use Rattle.std.specs.Prelude.{ℕ, ◌+◌, List, [], ◌∷◌, ◌++◌, lengt
 use Rattle.std.specs.Str.{bytes_eq}
 use Rattle.fir_ast.specs.declared.place.Place.{Place}
 use Rattle.fir_ast.specs.Expressions.{Expression, reference, no_parts}
-use Rattle.fir_ast.specs.Statements.{PlacedName, Sink, Reset, Statement, wire, register, node, instance, memory, when, connect, partial_connect, invalid, skip, Block, done, then}
+use Rattle.fir_ast.specs.Statements.{PlacedName, SinkReference, Reset, Statement, wire, register, node, instance, memory, when, connect, partial_connect, invalid, skip, Block, done, then}
 use Rattle.fir_parse.specs.declared.lexeme.Mark.{Mark}
 use Rattle.fir_parse.specs.declared.lexeme.Mark.TheVariants.{Connect, PartialConnect, Arrow, Equals, OpenRound, CloseRound, OpenSquare, Comma, Colon, Dot}
 use Rattle.fir_parse.specs.declared.words.Declaration.{Declaration}
@@ -28,17 +28,17 @@ abbrev pub ends_line : {T : Type 0} → T → (T → State) → State
 ends_line x k = wants a_line_end (λ p. k x)
 
 -- a name without parts, as a sink
-abbrev pub bare : Place → List ℕ → Sink
+abbrev pub bare : Place → List ℕ → SinkReference
 bare p w = record { place = p; name = w; parts = no_parts }
 
-abbrev pub connect_rest : ℕ → Sink → (Statement → State) → State
+abbrev pub connect_rest : ℕ → SinkReference → (Statement → State) → State
 connect_rest d s k = wants (an_expression d) (λ e. ends_line (connect s.place s e) k)
 
-abbrev pub partial_connect_rest : ℕ → Sink → (Statement → State) → State
+abbrev pub partial_connect_rest : ℕ → SinkReference → (Statement → State) → State
 partial_connect_rest d s k = wants (an_expression d) (λ e. ends_line (partial_connect s.place s e) k)
 
 -- behind a sink
-abbrev pub sink_step : ℕ → Sink → Lexeme → Place → Step Statement
+abbrev pub sink_step : ℕ → SinkReference → Lexeme → Place → Step Statement
 sink_step d s (mark Connect) p = takes (λ k. connect_rest d s k)
 sink_step d s (mark PartialConnect) p = takes (λ k. partial_connect_rest d s k)
 sink_step d s (word w) p = if bytes_eq w (codes "is") then takes (λ k. wants (a_word (codes "invalid")) (λ q. ends_line (invalid s.place s) k)) else refuses
@@ -142,7 +142,7 @@ declaration_of_is (lead.Declares declares.When) d p q (mark Dot) r = takes (λ k
 declaration_of_is (lead.Declares declares.When) d p q (mark OpenSquare) r = takes (λ k. index_rest d 1 r (λ ps. when_rest d p (reference q (codes "is") ps) (λ s. k (open_when s))))
 declaration_of_is _ d p q _ r = refuses
 
-abbrev pub invalid_or : Lexeme → Sink → Step Begun → Step Begun
+abbrev pub invalid_or : Lexeme → SinkReference → Step Begun → Step Begun
 invalid_or (word x) s otherwise = if bytes_eq x (codes "invalid") then takes (λ k. ends_line (invalid s.place s) (begun k)) else otherwise
 invalid_or _ s otherwise = otherwise
 

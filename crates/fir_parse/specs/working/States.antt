@@ -14,10 +14,10 @@ pub data Bound : Type 0 where
   version_at : Place → ℕ → Bound
 
 -- the fault where it is passed
-abbrev pub fault_of : Bound → FirFault
-fault_of (number_at p) = BadLiteral p
-fault_of (nesting_at p) = Depth p
-fault_of (version_at p n) = Version p n
+abbrev pub bound_fault : Bound → FirFault
+bound_fault (number_at p) = BadLiteral p
+bound_fault (nesting_at p) = Depth p
+bound_fault (version_at p n) = Version p n
 
 abbrev pub limit_of : Bound → Limit
 limit_of (number_at p) = numbers

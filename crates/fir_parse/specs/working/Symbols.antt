@@ -8,7 +8,7 @@ use Rattle.fir_ast.specs.declared.expressions.Literal.{Literal}
 use Rattle.fir_ast.specs.declared.statements.ReadUnderWrite.{ReadUnderWrite}
 use Rattle.fir_ast.specs.Types.{DataType, Fields}
 use Rattle.fir_ast.specs.Expressions.{Expression, Parts}
-use Rattle.fir_ast.specs.Statements.{PlacedName, Sink, Reset, MemoryPart, Statement, Block}
+use Rattle.fir_ast.specs.Statements.{PlacedName, SinkReference, Reset, MemoryPart, Statement, Block}
 use Rattle.fir_ast.specs.Circuits.{PortTree, ModuleTree, CircuitTree}
 use Rattle.fir_parse.specs.declared.lexeme.Mark.{Mark}
 
@@ -93,7 +93,7 @@ pub data Sym : Type 0 where
   behind_first : ℕ → Place → List ℕ → Sym
   behind_is : ℕ → Place → List ℕ → Place → Sym
   behind_else : ℕ → ℕ → Place → Sym
-  behind_sink : ℕ → Sink → Sym
+  behind_sink : ℕ → SinkReference → Sym
   an_indented_block : ℕ → Sym
   a_reset : ℕ → Sym
   behind_with : ℕ → Place → Sym

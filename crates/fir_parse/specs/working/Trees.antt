@@ -10,8 +10,9 @@ use Rattle.fir_ast.specs.declared.expressions.Reference.{Reference}
 use Rattle.fir_ast.specs.declared.fault.FirFault.TheVariants.{Unsupported, Depth}
 use Rattle.fir_ast.specs.Types.{DataType}
 use Rattle.fir_ast.specs.Expressions.{Expression, Parts}
-use Rattle.fir_ast.specs.Statements.{Sink}
-use Rattle.fir_ast.specs.View.{type_of, fields_of}
+use Rattle.fir_ast.specs.Statements.{SinkReference}
+use Rattle.fir_ast.specs.View.{fields_of}
+use Rattle.fir_ast.specs.working.TypeViews.{type_of}
 use Rattle.fir_ast.specs.working.Views.{expr_of, sink_of, expr_step, part_step, reference_step}
 use Rattle.fir_ast.specs.working.BundleText.{field_of}
 use Rattle.fir_parse.specs.declared.parser.Tall.{Tall}
@@ -70,10 +71,10 @@ boxed_expr_of e = expr_of e.value
 abbrev pub tall_boxed : Tall (Box Expr Global) → Expression
 tall_boxed t = boxed_expr_of t.tree
 
-abbrev pub tall_sink : Tall Reference → Sink
+abbrev pub tall_sink : Tall Reference → SinkReference
 tall_sink t = sink_of t.tree
 
-abbrev pub sink_height : Sink → ℕ
+abbrev pub sink_height : SinkReference → ℕ
 sink_height s = height_with s.parts 1
 
 -- a field before those behind it
@@ -96,7 +97,7 @@ index_tree (index.Computed e) = computed_index (expr_of e)
 
 -- parts before those behind them
 abbrev pub part_of : Part → Parts → Parts
-part_of = fold-Part Expression (Parts → Parts) Sink expr_step part_step reference_step
+part_of = fold-Part Expression (Parts → Parts) SinkReference expr_step part_step reference_step
 
 abbrev pub onto : {A : Type 0} → List (A → A) → A → A
 onto [] rest = rest

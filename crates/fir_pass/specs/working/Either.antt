@@ -1,6 +1,6 @@
 -- A fault of one of two passes.
 use Rattle.std.specs.Prelude.{ℕ}
-use Rattle.fir_pass.specs.Faults.{Fault}
+use Rattle.fir_ast.specs.Faults.{Fault}
 use Rattle.fir_pass.specs.Meaning.{Meaning}
 use Rattle.fir_pass.specs.working.Law.{Keeps}
 use Rattle.fir_pass.specs.declared.alternative.Either.{Either}

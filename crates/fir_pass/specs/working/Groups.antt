@@ -1,6 +1,6 @@
 -- Two groups of faults that show and tell the same.
 use Rattle.std.specs.Prelude.{◌↔◌}
-use Rattle.fir_pass.specs.Faults.{Fault}
+use Rattle.fir_ast.specs.Faults.{Fault}
 use Rattle.fir_pass.specs.Groups.{Group}
 
 -- the groups show and tell the same

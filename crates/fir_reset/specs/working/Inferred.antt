@@ -1,14 +1,14 @@
 -- What is inferred of a circuit: which of its Resets are asynchronous, by the numbers of leaves.
 use Rattle.std.specs.Prelude.{◌≡◌, ◌↔◌, ℕ, ◌+◌, List, [], ◌∷◌, Bool, true, Option, Some, None, option_map, slice_get, unwrap_or}
 use Rattle.fir_ast.specs.Circuits.{ModuleTree, CircuitTree}
-use Rattle.fir_pass.specs.Faults.{Fault}
+use Rattle.fir_ast.specs.Faults.{Fault}
 use Rattle.fir_meaning.specs.LeafPaths.{LeafPath, named}
 use Rattle.fir_meaning.specs.Visibility.{declarations}
 use Rattle.fir_meaning.specs.TypedScopes.{known}
 use Rattle.fir_meaning.specs.ComponentTypes.{typed_scope}
 use Rattle.fir_types.specs.working.Notes.{position_of}
 use Rattle.fir_types.specs.working.LeafNumbers.{first_leaves}
-use Rattle.fir_meaning.specs.ResetItems.{Item, leaf_item, value_item, End}
+use Rattle.fir_meaning.specs.ResetItems.{ResetItem, leaf_item, value_item, End}
 use Rattle.fir_meaning.specs.ResetJoins.{type_of_known}
 use Rattle.fir_meaning.specs.ResetWalks.{IsReset, IsLeafOf, IsAsynchronous, ShowsResets}
 use Rattle.fir_reset.specs.working.LeafClasses.{offset_where}
@@ -29,7 +29,7 @@ number_in c number (Some m) (named x ∷ path) =
 number_in c number _ _ = None
 
 -- all elements of a vector share their numbers, and an instance has those of its module's ports
-abbrev pub leaf_number : CircuitTree → Item → Option ℕ
+abbrev pub leaf_number : CircuitTree → ResetItem → Option ℕ
 leaf_number c (leaf_item number path) = number_in c number (slice_get c.modules number) path
 leaf_number c (value_item p) = None
 

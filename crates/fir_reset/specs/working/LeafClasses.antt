@@ -9,7 +9,7 @@ use Rattle.fir_meaning.specs.Visibility.{declarations}
 use Rattle.fir_meaning.specs.TypedScopes.{TypedScope}
 use Rattle.fir_meaning.specs.ComponentTypes.{typed_scope}
 use Rattle.fir_meaning.specs.SharedLeaves.{shared_count}
-use Rattle.fir_meaning.specs.ResetItems.{Item, leaf_item, value_item}
+use Rattle.fir_meaning.specs.ResetItems.{ResetItem, leaf_item, value_item}
 use Rattle.fir_meaning.specs.ResetJoins.{numbered_module}
 
 -- the ports of a module, or what is declared behind so many declarations; with how many leaves stand before the leaf, those of a vector's elements counted once
@@ -72,6 +72,6 @@ abbrev pub class_in : ℕ → List ModuleTree → Option ModuleTree → LeafPath
 class_in number modules (Some m) (named x ∷ path) = class_among number modules 0 0 (declarations m) (typed_scope modules (declarations m)) x path
 class_in number modules _ _ = None
 
-abbrev pub class_of : CircuitTree → Item → Option Class
+abbrev pub class_of : CircuitTree → ResetItem → Option Class
 class_of c (leaf_item number path) = class_in number c.modules (slice_get c.modules number) path
 class_of c (value_item p) = None

@@ -2,7 +2,7 @@
 use Rattle.std.specs.Prelude.{◌≡◌, ℕ, ◌≤◌, List, Bool, false, Option, Some, None, is_some, length, option_map, slice_get}
 use Rattle.fir_ast.specs.declared.fault.FirFault.{FirFault}
 use Rattle.fir_ast.specs.Statements.{PlacedName}
-use Rattle.fir_pass.specs.Faults.{fault_of}
+use Rattle.fir_ast.specs.working.CodeFaults.{fault_of}
 use Rattle.fir_pass.specs.Groups.{first_of}
 use Rattle.fir_meaning.specs.Components.{Declarations, find}
 use Rattle.fir_meaning.specs.Visibility.{Before}

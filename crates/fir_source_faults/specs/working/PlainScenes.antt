@@ -2,7 +2,7 @@
 -- such module shows no fault of clocks, of the clocks of memories or of asynchronous inits (FIRRTL spec, "Clock Type", "Registers", "Memories").
 use Rattle.std.specs.Prelude.{◌≡◌, List, [], Option, Some, false}
 use Rattle.fir_base.specs.Lists.{In}
-use Rattle.fir_ast.specs.declared.fault.FirFault.{FirFault}
+use Rattle.fir_ast.specs.Faults.{Fault}
 use Rattle.fir_ast.specs.declared.place.Place.{Place}
 use Rattle.fir_ast.specs.Expressions.{Expression}
 use Rattle.fir_ast.specs.Statements.{MemoryPart, PlacedName, memory}
@@ -36,5 +36,5 @@ pub record IsPlainScene (s : Scene) : Type 0 where
 
 abbrev pub PlainShowNone : Type 0
 PlainShowNone =
-    (s : Scene) (f : FirFault) → IsPlainScene s
+    (s : Scene) (f : Fault) → IsPlainScene s
     → (ShowsClockFault (alone s) f → ⊥) × (ShowsMemoryFault (alone s) f → ⊥) × (ShowsAsyncInit (alone s) f → ⊥)

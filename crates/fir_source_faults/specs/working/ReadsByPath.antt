@@ -5,7 +5,7 @@ use Rattle.std.specs.List.{AllByRecursion}
 use Rattle.fir_base.specs.Lists.{In}
 use Rattle.fir_ast.specs.Circuits.{CircuitTree}
 use Rattle.fir_ast.specs.Expressions.{Expression}
-use Rattle.fir_ast.specs.Statements.{Sink}
+use Rattle.fir_ast.specs.Statements.{SinkReference}
 use Rattle.fir_ast.specs.Types.{DataType}
 use Rattle.fir_meaning.specs.ComponentTypes.{typed_scope}
 use Rattle.fir_meaning.specs.working.LeafModules.{leaf_at}
@@ -49,7 +49,7 @@ leaves_from (Some b) picks k = reached (b + k) picks
 abbrev pub leaves_of_target : Target → ℕ → List ℕ
 leaves_of_target r k = leaves_from r.base r.picks k
 
-pub record NamesByPath (s : Scene) (scope : TypedScope) (sink : Sink) (k : ℕ) (l : TypeLeaf) : Type 0 where
+pub record NamesByPath (s : Scene) (scope : TypedScope) (sink : SinkReference) (k : ℕ) (l : TypeLeaf) : Type 0 where
   pub leaves : paths_in s (leaves_of_target (target_of scope sink) k) ≡ leaves_named scope sink.name sink.parts l.path
   pub within : AllByRecursion (λ x. x < length (module_leaves s)) (leaves_of_target (target_of scope sink) k)
   pub picked : is_picked (target_of scope sink).picks ≡ has_access sink.parts
@@ -61,7 +61,7 @@ pub record ReadsByPath (s : Scene) : Type 0 where
       (scope : TypedScope) (e : Expression) (t : DataType) (k : ℕ) (l : TypeLeaf) → Begins scope (scope_of_module s) → HasType scope e t
       → slice_get (type_leaves t) k ≡ Some l → paths_in s (reads (term_at (terms scope e) k)) ≡ tree.reads scope e l.path
   pub target :
-      (scope : TypedScope) (sink : Sink) (r : Reached) (k : ℕ) (l : TypeLeaf) → Begins scope (scope_of_module s) → Reaches scope sink r
+      (scope : TypedScope) (sink : SinkReference) (r : Reached) (k : ℕ) (l : TypeLeaf) → Begins scope (scope_of_module s) → Reaches scope sink r
       → slice_get (type_leaves r.data_type) k ≡ Some l → NamesByPath s scope sink k l
   -- no path is that of two leaves
   pub once : (x y : ℕ) → x < length (module_leaves s) → y < length (module_leaves s) → path_in s x ≡ path_in s y → x ≡ y

@@ -1,7 +1,7 @@
 -- The faults E24 and E28 stand over numbered leaves exactly where they stand by paths (FIRRTL spec, "Initialization of Components", "Last Connect Semantics").
 use Rattle.std.specs.Prelude.{◌≡◌, ◌↔◌, []}
 use Rattle.fir_ast.specs.Circuits.{CircuitTree}
-use Rattle.fir_ast.specs.declared.fault.FirFault.{FirFault}
+use Rattle.fir_ast.specs.Faults.{Fault}
 use Rattle.fir_pass.specs.working.Groups.{SameGroup}
 use Rattle.fir_meaning.specs.working.Designs.{Design}
 use Rattle.fir_meaning.specs.working.Flattened.{flattened}
@@ -18,12 +18,8 @@ use Rattle.fir_design.specs.working.MeaningLaws.{AreDesigns}
 abbrev pub SameUndrivenGroups : Type 0
 SameUndrivenGroups = (c : CircuitTree) → HasNames c → type_faults c ≡ [] → SameGroup (leafed.undriven_group c) (undriven_group c)
 
--- closed walks of dependence
-abbrev pub SameLoops : Type 0
-SameLoops = (c : CircuitTree) (d : Design) (t : SourceDesign) (f : FirFault) → AreDesigns c d t → numbered.ShowsLoop (flattened d) f ↔ ShowsLoop t f
-
--- so far those of a module without instances
+-- closed walks of dependence of a module without instances
 abbrev pub SameLoneLoops : Type 0
 SameLoneLoops =
-    (c : CircuitTree) (d : Design) (t : SourceDesign) (f : FirFault) (a : AreDesigns c d t) → instances_of_block a.main.own.inside.body ≡ []
+    (c : CircuitTree) (d : Design) (t : SourceDesign) (f : Fault) (a : AreDesigns c d t) → instances_of_block a.main.own.inside.body ≡ []
     → numbered.ShowsLoop (flattened d) f ↔ ShowsLoop t f

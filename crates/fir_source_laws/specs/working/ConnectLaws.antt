@@ -4,7 +4,7 @@ use Rattle.std.specs.Prelude.{◌≡◌, ℕ, ◌≤◌, List, [], ◌∷◌, �
 use Rattle.fir_ast.specs.declared.place.Place.{Place}
 use Rattle.fir_ast.specs.Types.{DataType}
 use Rattle.fir_ast.specs.Expressions.{Expression}
-use Rattle.fir_ast.specs.Statements.{Sink, Statement, connect, partial_connect, Block, then}
+use Rattle.fir_ast.specs.Statements.{SinkReference, Statement, connect, partial_connect, Block, then}
 use Rattle.fir_meaning.specs.ConnectPairs.{Pair, ground_pair, pairs, partial_pairs}
 use Rattle.fir_meaning.specs.LeafPaths.{LeafPath}
 use Rattle.fir_meaning.specs.TypeGroup.{scope_at}
@@ -22,10 +22,10 @@ use Rattle.fir_source_laws.specs.working.SparedLeaves.{InstanceSpares, SparedBy,
 
 -- a pair of a statement that connects by pairs gives what is stored, where no later pair and no later statement drives its leaf, and the leaf is declared within
 -- all whens round the statement: at a leaf of the module's head, where there are none
-abbrev pub LastConnectOf : (V : Type 0) → (Place → Sink → Expression → Statement) → (DataType → DataType → List Pair) → Type 0
+abbrev pub LastConnectOf : (V : Type 0) → (Place → SinkReference → Expression → Statement) → (DataType → DataType → List Pair) → Type 0
 LastConnectOf V statement pairs_of =
     (s : Scene) (holds : TypesByPath) (env : ValuesByPath) (gifts : Gifts V) (path : LeafPath) (child : List ℕ → DesignStore V → DesignStore V)
-    (before place : Before) (earlier later : Block) (p : Place) (sink : Sink) (e : Expression) (taken : List Bool) (store : DesignStore V)
+    (before place : Before) (earlier later : Block) (p : Place) (sink : SinkReference) (e : Expression) (taken : List Bool) (store : DesignStore V)
     (first rest : List Pair) (pair : Pair) (x : LeafPath)
     → place ≡ behind_block before earlier
     → pairs_between holds env pairs_of (scope_at s.own.modules place) sink e ≡ first ++ pair ∷ rest
@@ -47,7 +47,7 @@ LastPartialConnect = LastConnectOf ℕ partial_connect partial_pairs × LastConn
 abbrev pub LastGroundConnect : Type 0
 LastGroundConnect =
     (holds : TypesByPath) (env : ValuesByPath) (path : LeafPath) (s : Scene) (is : Instances) (store : DesignStore ℕ)
-    (place : Before) (earlier later : Block) (p : Place) (sink : Sink) (e : Expression) (t u : DataType) (x : LeafPath)
+    (place : Before) (earlier later : Block) (p : Place) (sink : SinkReference) (e : Expression) (t u : DataType) (x : LeafPath)
     → s.own.inside.body ≡ followed earlier ((then) (connect p sink e) later)
     → place ≡ behind_block (behind_all_ports s.own.inside) earlier
     → pairs_between (below path holds) (below path env) pairs (scope_at s.own.modules place) sink e ≡ ground_pair t u

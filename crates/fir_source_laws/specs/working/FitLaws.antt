@@ -8,7 +8,7 @@ use Rattle.fir_bits.specs.Integers.{reading}
 use Rattle.fir_bits.specs.Values.{IsBitVector}
 use Rattle.fir_ast.specs.declared.place.Place.{Place}
 use Rattle.fir_ast.specs.Expressions.{Expression}
-use Rattle.fir_ast.specs.Statements.{Sink, invalid}
+use Rattle.fir_ast.specs.Statements.{SinkReference, invalid}
 use Rattle.fir_meaning.specs.LeafPaths.{LeafPath}
 use Rattle.fir_meaning.specs.TypeGroup.{scope_at}
 use Rattle.fir_meaning.specs.TypeLeaves.{TypeLeaf, type_leaves}
@@ -33,7 +33,7 @@ ConnectsFit =
     (holds : TypesByPath) (env : ValuesByPath) (path : LeafPath) (scope : TypedScope) (q x : LeafPath)
     → ((e : Expression) → IsBitVector (value scope (below path holds) (below path env) e q).value
     → IsFit (value scope (below path holds) (below path env) e q) (holds (path ++ x)) ((number_gifts holds env path).of_expression scope e q x))
-    × ((sink : Sink)
+    × ((sink : SinkReference)
     → IsBitVector (aim_value (below path holds) (below path env) (aim_of scope (below path holds) (below path env) sink) q).value
     → IsFit (aim_value (below path holds) (below path env) (aim_of scope (below path holds) (below path env) sink) q) (holds (path ++ x))
     ((number_gifts holds env path).of_sink scope sink q x))
@@ -42,7 +42,7 @@ ConnectsFit =
 abbrev pub InvalidStoresOf : (V : Type 0) → Type 0
 InvalidStoresOf V =
     (s : Scene) (holds : TypesByPath) (env : ValuesByPath) (gifts : Gifts V) (path : LeafPath) (child : List ℕ → DesignStore V → DesignStore V)
-    (before : Before) (p : Place) (sink : Sink) (taken : List Bool) (store : DesignStore V) (l : TypeLeaf) (x : LeafPath)
+    (before : Before) (p : Place) (sink : SinkReference) (taken : List Bool) (store : DesignStore V) (l : TypeLeaf) (x : LeafPath)
     → In (type_leaves (aim_of (scope_at s.own.modules before) holds env sink).data_type) l
     → may_be_driven (source_may_drive s) (leaf_where (aim_of (scope_at s.own.modules before) holds env sink).first l.path) ≡ true
     → leaf_where (aim_of (scope_at s.own.modules before) holds env sink).at l.path ≡ Some x
@@ -61,7 +61,7 @@ InvalidStores = InvalidStoresOf ℕ × InvalidStoresOf (Option ℕ) × InvalidGi
 abbrev pub InvalidSparesSourcesOf : Type 0 → Type 0
 InvalidSparesSourcesOf V =
     (s : Scene) (holds : TypesByPath) (env : ValuesByPath) (gifts : Gifts V) (path : LeafPath) (child : List ℕ → DesignStore V → DesignStore V)
-    (before : Before) (p : Place) (sink : Sink) (taken : List Bool) (store : DesignStore V) (x : LeafPath)
+    (before : Before) (p : Place) (sink : SinkReference) (taken : List Bool) (store : DesignStore V) (x : LeafPath)
     → (aim_of (scope_at s.own.modules before) holds env sink).at ≡ (aim_of (scope_at s.own.modules before) holds env sink).first
     → source_may_drive s x ≡ false
     → exec_source s holds env gifts path child before (invalid p sink) taken store (path ++ x) ≡ store (path ++ x)

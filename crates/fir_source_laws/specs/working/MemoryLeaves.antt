@@ -4,7 +4,7 @@ use Rattle.fir_base.specs.Lists.{Distinct, In}
 use Rattle.fir_bits.specs.declared.types.NumTy.{NumTy}
 use Rattle.fir_ast.specs.declared.place.Place.{Place}
 use Rattle.fir_ast.specs.Statements.{MemoryPart, PlacedName, memory}
-use Rattle.fir_meaning.specs.MemoryPorts.{PortKind, reads, reads_and_writes, writes}
+use Rattle.fir_meaning.specs.MemoryPorts.{MemoryPortKind, reads, reads_and_writes, writes}
 use Rattle.fir_meaning.specs.LeafTypes.{number}
 use Rattle.fir_meaning.specs.LeafPaths.{LeafPath, named}
 use Rattle.fir_meaning.specs.ModuleScenes.{Scene}
@@ -45,7 +45,7 @@ pub record IsArray (m : Memory) (q : LeafPath) (a : PlacedArray) : Type 0 where
   pub once_stored : Distinct (map array_path (state_arrays m.design))
 
 -- the field of a port that shows what is read
-abbrev pub IsShown : PortKind → List ℕ → Type 0
+abbrev pub IsShown : MemoryPortKind → List ℕ → Type 0
 IsShown reads field = field ≡ codes "data"
 IsShown writes field = ⊥
 IsShown reads_and_writes field = field ≡ codes "rdata"

@@ -3,7 +3,7 @@
 -- and a readwriter's mode is 0, at an address below the depth.
 use Rattle.std.specs.Prelude.{◌≡◌, ℕ, ◌<◌, ◌≤◌, List, [], ◌∷◌, ◌++◌, codes, ◌⊎◌, Option}
 use Rattle.fir_base.specs.Lists.{In}
-use Rattle.fir_meaning.specs.MemoryPorts.{PortKind, reads, reads_and_writes, writes}
+use Rattle.fir_meaning.specs.MemoryPorts.{MemoryPortKind, reads, reads_and_writes, writes}
 use Rattle.fir_meaning.specs.LeafPaths.{LeafPath, named}
 use Rattle.fir_meaning.specs.SourceRoles.{NamedPort}
 use Rattle.fir_meaning.specs.SourceValues.{PathEnv}
@@ -28,22 +28,22 @@ module _ (m : Memory) (env : PathEnv) where
   mode port = number_on port.name (codes "wmode") []
 
   -- the mask and the data of the leaf at a path, by the kind of the port
-  abbrev pub mask_of : PortKind → List ℕ → LeafPath → ℕ
+  abbrev pub mask_of : MemoryPortKind → List ℕ → LeafPath → ℕ
   mask_of reads port q = 0
   mask_of writes port q = number_on port (codes "mask") q
   mask_of reads_and_writes port q = number_on port (codes "wmask") q
 
-  abbrev pub data_of : PortKind → List ℕ → LeafPath → ℕ
+  abbrev pub data_of : MemoryPortKind → List ℕ → LeafPath → ℕ
   data_of reads port q = 0
   data_of writes port q = number_on port (codes "data") q
   data_of reads_and_writes port q = number_on port (codes "wdata") q
 
-  abbrev pub MayWrite : PortKind → ℕ → Type 0
+  abbrev pub MayWrite : MemoryPortKind → ℕ → Type 0
   MayWrite reads mode = ⊥
   MayWrite writes mode = Unit {0}
   MayWrite reads_and_writes mode = mode ≡ 1
 
-  abbrev pub MayRead : PortKind → ℕ → Type 0
+  abbrev pub MayRead : MemoryPortKind → ℕ → Type 0
   MayRead reads mode = Unit {0}
   MayRead writes mode = ⊥
   MayRead reads_and_writes mode = mode ≡ 0

@@ -9,7 +9,7 @@ use Rattle.fir_bits.specs.declared.types.NumTy.{NumTy}
 use Rattle.fir_ast.specs.declared.place.Place.{Place}
 use Rattle.fir_ast.specs.Circuits.{ModuleTree, PortTree}
 use Rattle.fir_ast.specs.Expressions.{Parts, no_parts, reference, subaccess, subfield, subindex}
-use Rattle.fir_ast.specs.Statements.{Sink}
+use Rattle.fir_ast.specs.Statements.{SinkReference}
 use Rattle.fir_meaning.specs.Components as component
 use Rattle.fir_meaning.specs.Components.{Declaration, Declarations, find}
 use Rattle.fir_meaning.specs.ComponentTypes.{find_module}
@@ -52,7 +52,7 @@ IsStatic (subindex first p i rest) = IsStatic rest
 IsStatic (subaccess first e rest) = ⊥
 
 -- the leaf that a sink names in the module of the instance at a path, by its path from the main module on
-abbrev pub leaf_named : LeafPath → TypedScope → TypesByPath → ValuesByPath → Sink → LeafPath → Option LeafPath
+abbrev pub leaf_named : LeafPath → TypedScope → TypesByPath → ValuesByPath → SinkReference → LeafPath → Option LeafPath
 leaf_named at scope holds env d q = option_map (λ x. at ++ x) (leaf_where (aim_of scope (below at holds) (below at env) d).at q)
 
 abbrev pub PortsAreOne : Type 0

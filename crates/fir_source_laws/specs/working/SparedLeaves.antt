@@ -7,7 +7,7 @@ use Rattle.std.specs.Str.{bytes_eq}
 use Rattle.fir_base.specs.Lists.{In}
 use Rattle.fir_ast.specs.Types.{DataType}
 use Rattle.fir_ast.specs.Expressions.{Expression}
-use Rattle.fir_ast.specs.Statements.{Sink, Statement, instance, when, connect, partial_connect, invalid, Block, done, then}
+use Rattle.fir_ast.specs.Statements.{SinkReference, Statement, instance, when, connect, partial_connect, invalid, Block, done, then}
 use Rattle.fir_meaning.specs.ConnectPairs.{Pair, pairs, partial_pairs}
 use Rattle.fir_meaning.specs.ExpressionTypes.{expression_type}
 use Rattle.fir_meaning.specs.LeafPaths.{LeafPath, named}
@@ -33,19 +33,19 @@ followed done b = b
 followed ((then) x a) b = (then) x (followed a b)
 
 -- what a pair gives to the leaf that it drives
-abbrev pub gift : {V : Type 0} → Gifts V → TypedScope → Sink → Expression → Pair → LeafPath → V
+abbrev pub gift : {V : Type 0} → Gifts V → TypedScope → SinkReference → Expression → Pair → LeafPath → V
 gift gifts scope sink e pair =
     if pair.left.flip then gifts.of_sink scope sink pair.left.path else gifts.of_expression scope e pair.right.path
 
 -- by the types and values of a module's leaves
 module _ (holds : TypesByPath) (env : ValuesByPath) where
-  abbrev pub driven : TypedScope → Sink → Expression → Pair → Option LeafPath
+  abbrev pub driven : TypedScope → SinkReference → Expression → Pair → Option LeafPath
   driven scope sink e pair =
       if pair.left.flip
       then leaf_where (aim_read scope holds env e) pair.right.path
       else leaf_where (aim_of scope holds env sink).at pair.left.path
 
-  abbrev pub pairs_between : (DataType → DataType → List Pair) → TypedScope → Sink → Expression → List Pair
+  abbrev pub pairs_between : (DataType → DataType → List Pair) → TypedScope → SinkReference → Expression → List Pair
   pairs_between pairs_of scope sink e = pairs_of (aim_of scope holds env sink).data_type (type_where (expression_type scope e).has)
 
   -- whether a condition is 1
@@ -62,7 +62,7 @@ module _ (s : Scene) (holds : TypesByPath) (env : ValuesByPath) (path x : LeafPa
   SparesAt taken None = Unit {0}
   SparesAt taken (Some y) = path ++ y ≡ x → counts (source_depth s y) taken ≡ false
 
-  abbrev pub SparesPairs : TypedScope → Sink → Expression → List Bool → List Pair → Type 0
+  abbrev pub SparesPairs : TypedScope → SinkReference → Expression → List Bool → List Pair → Type 0
   SparesPairs scope sink e taken ps = (pair : Pair) → In ps pair → SparesAt taken (driven holds env scope sink e pair)
 
   -- of the leaves that an invalid names those that may be driven

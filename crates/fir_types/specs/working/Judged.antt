@@ -6,7 +6,8 @@ use Rattle.fir_ast.specs.declared.place.Place.{Place}
 use Rattle.fir_ast.specs.declared.fault.FirFault.{FirFault}
 use Rattle.fir_ast.specs.Types.{DataType}
 use Rattle.fir_ast.specs.Expressions.{Parts, no_parts}
-use Rattle.fir_pass.specs.Faults.{Fault, fault_of}
+use Rattle.fir_ast.specs.Faults.{Fault}
+use Rattle.fir_ast.specs.working.CodeFaults.{fault_of}
 use Rattle.fir_pass.specs.Groups.{first_of}
 use Rattle.fir_meaning.specs.Checked.{Checked}
 use Rattle.fir_meaning.specs.TypedScopes.{TypedScope}

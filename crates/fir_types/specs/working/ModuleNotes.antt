@@ -1,7 +1,7 @@
 -- What is found of the expressions of a module, in the order of the text: in each statement as they stand there.
 use Rattle.std.specs.Prelude.{List, [], ◌++◌, map, Option, Some, None}
 use Rattle.fir_ast.specs.Expressions.{Expression}
-use Rattle.fir_ast.specs.Statements.{PlacedName, Sink, Reset, Statement, register, node, when, connect, partial_connect, invalid, Block, done, then}
+use Rattle.fir_ast.specs.Statements.{PlacedName, SinkReference, Reset, Statement, register, node, when, connect, partial_connect, invalid, Block, done, then}
 use Rattle.fir_ast.specs.Circuits.{ModuleTree, CircuitTree}
 use Rattle.fir_ast.specs.Types.{DataType}
 use Rattle.fir_meaning.specs.Components as component
@@ -19,7 +19,7 @@ abbrev pub register_notes : List ModuleTree → Before → PlacedName → DataTy
 register_notes modules before n t c r =
     expression_notes (scope_at modules before) c ++ reset_notes (scope_at modules (with_declaration before n (component.register t))) r
 
-abbrev pub connect_notes : TypedScope → Sink → Expression → List Note
+abbrev pub connect_notes : TypedScope → SinkReference → Expression → List Note
 connect_notes scope sink e = reference_notes scope sink ++ expression_notes scope e
 
 abbrev mutual

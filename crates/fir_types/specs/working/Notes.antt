@@ -4,7 +4,7 @@ use Rattle.std.specs.Prelude.{ℕ, zero, suc, ◌+◌, ◌*◌, List, [], ◌∷
 use Rattle.std.specs.Str.{bytes_eq}
 use Rattle.fir_ast.specs.Types.{DataType}
 use Rattle.fir_ast.specs.Expressions.{Expression, reference, literal, operation, mux, validif, Parts, no_parts, subfield, subindex, subaccess, Expressions, no_expressions, expression}
-use Rattle.fir_ast.specs.Statements.{Sink}
+use Rattle.fir_ast.specs.Statements.{SinkReference}
 use Rattle.fir_meaning.specs.TypeKinds.{FieldFound}
 use Rattle.fir_meaning.specs.TypeLeaves.{leaf_count}
 use Rattle.fir_meaning.specs.TypedScopes.{Known, TypedScope, known}
@@ -92,7 +92,7 @@ abbrev pub range_where : Option Reached → Option LeafRange → Option LeafRang
 range_where None r = None
 range_where (Some reached) r = r
 
-abbrev pub reference_note : TypedScope → Sink → Note
+abbrev pub reference_note : TypedScope → SinkReference → Note
 reference_note scope s = of_reference (range_where (reaching scope s).has (option_map (λ r. range_behind r s.parts) (root_range scope s.name)))
 
 abbrev pub expression_note : TypedScope → Expression → Note
@@ -117,5 +117,5 @@ abbrev mutual
   notes_of_each scope no_expressions = []
   notes_of_each scope (expression e es) = expression_notes scope e ++ notes_of_each scope es
 
-abbrev pub reference_notes : TypedScope → Sink → List Note
+abbrev pub reference_notes : TypedScope → SinkReference → List Note
 reference_notes scope s = part_notes scope s.parts ++ reference_note scope s ∷ []

@@ -2,12 +2,12 @@
 use Rattle.std.specs.Prelude.{List, [], ◌∷◌, if◌then◌else◌, Option, Some, None, option_map}
 use Rattle.fir_ast.specs.Types.{DataType, async_reset}
 use Rattle.fir_ast.specs.Expressions.{Parts, no_parts, subfield, subindex, subaccess}
-use Rattle.fir_ast.specs.Statements.{Sink}
+use Rattle.fir_ast.specs.Statements.{SinkReference}
 use Rattle.fir_meaning.specs.LeafPaths.{LeafPath, named, element}
 use Rattle.fir_meaning.specs.TypeKinds.{FieldFound}
 use Rattle.fir_meaning.specs.Flows.{Flow, source, sink, both}
 use Rattle.fir_meaning.specs.Reaching.{Reached}
-use Rattle.fir_meaning.specs.ExpressionTypes.{number_type}
+use Rattle.fir_meaning.specs.ExpressionTypes.{number_data_type}
 use Rattle.fir_type_table.specs.working.Tables.{type_at, shown}
 use Rattle.fir_types.specs.declared.found.Found.{Found}
 use Rattle.fir_types.specs.declared.found.Found.TheVariants as found
@@ -17,7 +17,7 @@ use Rattle.fir_types.specs.declared.flow.Flow.TheVariants as flow
 use Rattle.fir_types.specs.declared.reach.Reach.{Reach}
 
 abbrev pub found_type : List DataType → Found → DataType
-found_type ts (found.Number signed width) = number_type signed width
+found_type ts (found.Number signed width) = number_data_type signed width
 found_type ts found.AsyncReset = async_reset
 found_type ts (found.Type id is_bare) = shown is_bare (type_at ts id.number)
 
@@ -44,5 +44,5 @@ steps_of (subindex first p i rest) = element i ∷ steps_of rest
 steps_of (subaccess first e rest) = element 0 ∷ steps_of rest
 
 -- the path of a reference
-abbrev pub sink_path : Sink → LeafPath
+abbrev pub sink_path : SinkReference → LeafPath
 sink_path s = named s.name ∷ steps_of s.parts

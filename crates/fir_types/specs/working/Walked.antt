@@ -6,7 +6,7 @@ use Rattle.fir_base.specs.declared.refused.Refused.{Refused}
 use Rattle.fir_ast.specs.declared.fault.FirFault.{FirFault}
 use Rattle.fir_ast.specs.Types.{DataType}
 use Rattle.fir_ast.specs.Circuits.{ModuleTree, PortTree}
-use Rattle.fir_pass.specs.Faults.{Fault}
+use Rattle.fir_ast.specs.Faults.{Fault}
 use Rattle.fir_meaning.specs.Components.{Declaration, Declarations, instance}
 use Rattle.fir_meaning.specs.Visibility.{Before, behind_ports}
 use Rattle.fir_meaning.specs.ComponentTypes.{instance_bundle}

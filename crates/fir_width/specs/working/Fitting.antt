@@ -5,10 +5,11 @@ use Rattle.std.specs.declared.alloc.Global.{Global}
 use Rattle.fir_base.specs.declared.refused.Refused.{Refused}
 use Rattle.fir_ast.specs.declared.fault.FirFault.{FirFault}
 use Rattle.fir_ast.specs.Circuits.{CircuitTree}
-use Rattle.fir_pass.specs.Faults.{Fault, fault_of}
+use Rattle.fir_ast.specs.Faults.{Fault}
+use Rattle.fir_ast.specs.working.CodeFaults.{fault_of}
 use Rattle.fir_pass.specs.Groups.{first_of}
 use Rattle.fir_pass.specs.working.Law.{IfFaulty}
-use Rattle.fir_meaning.specs.WidthExpressions.{Width, Widths, width_of}
+use Rattle.fir_meaning.specs.WidthExpressions.{Width, Widths, width_under}
 use Rattle.fir_meaning.specs.WidthRules.{AreWidths}
 use Rattle.fir_meaning.specs.OverFaults.{over_faults}
 use Rattle.fir_meaning.specs.LegalFaults.{legal_faults}
@@ -19,7 +20,7 @@ use Rattle.fir_width.specs.working.DeclaredWidths.{leaf_widths}
 -- the widths of a circuit fit, and the code has that of each leaf that is declared
 pub record HasWidths (c : CircuitTree) (found : List ℕ) : Type 0 where
   pub fits : FitsAll c
-  pub each : (number : ℕ) (e : Width) → slice_get (leaf_widths c) number ≡ Some e → assigned found number ≡ width_of e fits.widths
+  pub each : (number : ℕ) (e : Width) → slice_get (leaf_widths c) number ≡ Some e → assigned found number ≡ width_under e fits.widths
 
 -- what is over comes before what is not legal
 pub record IsFirstWidthFault (c : CircuitTree) (f : Fault) : Type 0 where

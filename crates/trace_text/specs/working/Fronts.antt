@@ -4,7 +4,7 @@
 use Rattle.std.specs.Prelude.{◌≡◌, ◌≢◌, ℕ, List, [], ◌++◌, Bool, ◌⊎◌}
 use Rattle.fir_base.specs.Ticks.{Tick, TickResult, Allowance, IsRun}
 use Rattle.trace_text.specs.declared.fault.TraceFault.{TraceFault}
-use Rattle.trace_text.specs.Lines.{AreLines}
+use Rattle.trace_text.specs.Lines.{AreTraceLines}
 use Rattle.trace_text.specs.Shapes.{TraceShape}
 use Rattle.trace_text.specs.TraceSpells.{LinesSpell, TraceSpells}
 use Rattle.trace_text.specs.BadLine.{BadLine}
@@ -28,7 +28,7 @@ pub record IsFirstOf (init : List ℕ) (ticks : List Tick) (whole_init : List �
 abbrev pub FrontSpellsFirst : Type 0
 FrontSpellsFirst =
     (bytes : List ℕ) (shape : TraceShape) (lines : List (List ℕ)) (init whole_init : List ℕ) (ticks whole : List Tick)
-    → AreLines bytes lines → LinesSpell shape lines init ticks → Says bytes shape whole_init whole → IsFirstOf init ticks whole_init whole
+    → AreTraceLines bytes lines → LinesSpell shape lines init ticks → Says bytes shape whole_init whole → IsFirstOf init ticks whole_init whole
 
 -- a state and a tick allow one result at most
 abbrev pub AllowsOne : Allowance → Type 0
@@ -57,5 +57,5 @@ abbrev pub FrontLinesBegin : Allowance → Type 0
 FrontLinesBegin allows =
     (outputs state : List ℕ) (with_state : Bool) (bytes : List ℕ) (shape : TraceShape) (lines : List (List ℕ)) (init whole_init : List ℕ)
     (ticks whole : List Tick) (shown all : List TickResult)
-    → AreLines bytes lines → LinesSpell shape lines init ticks → IsOnlyRun allows init ticks shown → Says bytes shape whole_init whole
+    → AreTraceLines bytes lines → LinesSpell shape lines init ticks → IsOnlyRun allows init ticks shown → Says bytes shape whole_init whole
     → IsRun allows whole_init whole all → IsFrontOf (run_text outputs state with_state shown) (run_text outputs state with_state all)

@@ -8,7 +8,7 @@ use Rattle.fir_base.specs.declared.refused.Refused.TheVariants.{Fault, Memory}
 use Rattle.trace_text.specs.declared.fault.Cause.{Cause}
 use Rattle.trace_text.specs.declared.fault.TraceFault.{TraceFault}
 use Rattle.trace_text.specs.declared.init_line.InitWord.{InitWord}
-use Rattle.trace_text.specs.Lines.{line_limit, is_remark, is_newline, AreLines, behind, first_line, words_of, IsSkipped}
+use Rattle.trace_text.specs.Lines.{line_limit, is_remark, is_newline, AreTraceLines, bytes_behind, first_line, words_of, IsSkipped}
 use Rattle.trace_text.specs.Shapes.{TraceShape, state_widths}
 use Rattle.trace_text.specs.SpelledLines.{IsInitLine, IsTickLine}
 use Rattle.trace_text.specs.LineFaults.{line_faults}
@@ -60,10 +60,10 @@ InitsStop rest = rest ≢ [] → (is_init_line (first_line rest) ≡ false) × (
 -- the init lines, up to the first line that is neither skipped nor begins with `init`, or up to the end
 pub record InitsRead (bytes : List ℕ) (shape : TraceShape) (init : List ℕ) (place : ℕ) : Type 0 where
   pub lines : List (List ℕ)
-  pub lines_are : AreLines bytes lines
+  pub lines_are : AreTraceLines bytes lines
   pub spelled : AreInits shape lines (zeros shape) init
-  pub rest : IsPlace bytes place (behind bytes lines)
-  pub stops : InitsStop (behind bytes lines)
+  pub rest : IsPlace bytes place (bytes_behind bytes lines)
+  pub stops : InitsStop (bytes_behind bytes lines)
 
 -- an init line that is bad stands behind init lines
 pub record InitIsBad (bytes : List ℕ) (shape : TraceShape) (fault : TraceFault) : Type 0 where
@@ -71,37 +71,37 @@ pub record InitIsBad (bytes : List ℕ) (shape : TraceShape) (fault : TraceFault
   pub init : List ℕ
   pub bad : List ℕ
   pub place : ℕ
-  pub lines_are : AreLines bytes (lines ++ bad ∷ [])
+  pub lines_are : AreTraceLines bytes (lines ++ bad ∷ [])
   pub spelled : AreInits shape lines (zeros shape) init
   pub begins : is_init_line bad ≡ true
-  pub rest : IsPlace bytes place (behind bytes lines)
+  pub rest : IsPlace bytes place (bytes_behind bytes lines)
   pub is_bad : IsBad bytes shape false bad place fault
 
 -- a tick's line stands behind skipped lines; the place behind it
 pub record TickRead (bytes : List ℕ) (shape : TraceShape) (from to : ℕ) (tick : Tick) : Type 0 where
   pub skipped : List (List ℕ)
   pub line : List ℕ
-  pub lines_are : AreLines (drop from bytes) (skipped ++ line ∷ [])
+  pub lines_are : AreTraceLines (drop from bytes) (skipped ++ line ∷ [])
   pub are_skipped : AllByRecursion IsSkipped skipped
   pub spelled : IsTickLine shape line tick
-  pub rest : IsPlace bytes to (behind (drop from bytes) (skipped ++ line ∷ []))
+  pub rest : IsPlace bytes to (bytes_behind (drop from bytes) (skipped ++ line ∷ []))
 
 -- only skipped lines stand from the place on
 pub record NoTick (bytes : List ℕ) (from to : ℕ) : Type 0 where
   pub skipped : List (List ℕ)
-  pub lines_are : AreLines (drop from bytes) skipped
+  pub lines_are : AreTraceLines (drop from bytes) skipped
   pub are_skipped : AllByRecursion IsSkipped skipped
-  pub whole : behind (drop from bytes) skipped ≡ []
+  pub whole : bytes_behind (drop from bytes) skipped ≡ []
   pub end : to ≡ length bytes
 
 -- a bad line stands behind skipped lines; its place
 pub record TickIsBad (bytes : List ℕ) (shape : TraceShape) (from to : ℕ) (fault : TraceFault) : Type 0 where
   pub skipped : List (List ℕ)
   pub bad : List ℕ
-  pub lines_are : AreLines (drop from bytes) (skipped ++ bad ∷ [])
+  pub lines_are : AreTraceLines (drop from bytes) (skipped ++ bad ∷ [])
   pub are_skipped : AllByRecursion IsSkipped skipped
   pub not_skipped : IsSkipped bad → ⊥
-  pub rest : IsPlace bytes to (behind (drop from bytes) skipped)
+  pub rest : IsPlace bytes to (bytes_behind (drop from bytes) skipped)
   pub is_bad : IsBad bytes shape true bad to fault
 
 -- what `next_tick` does: the tick is changed only where one is read

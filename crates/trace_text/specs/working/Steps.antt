@@ -4,7 +4,7 @@
 use Rattle.std.specs.Prelude.{◌≡◌, ℕ, List, [], ◌∷◌, ◌++◌}
 use Rattle.fir_base.specs.Ticks.{Tick}
 use Rattle.trace_text.specs.declared.fault.TraceFault.{TraceFault}
-use Rattle.trace_text.specs.Lines.{AreLines, behind}
+use Rattle.trace_text.specs.Lines.{AreTraceLines, bytes_behind}
 use Rattle.trace_text.specs.Shapes.{TraceShape}
 use Rattle.trace_text.specs.TraceSpells.{LinesSpell, TraceSpells}
 use Rattle.trace_text.specs.BadLine.{BadLine}
@@ -13,11 +13,11 @@ use Rattle.trace_text.specs.working.Readings.{IsPlace, InitsStop, InitsRead, Ini
 -- the lines up to the place spell the initial state and these ticks
 pub record IsReadTo (bytes : List ℕ) (shape : TraceShape) (init : List ℕ) (ticks : List Tick) (place : ℕ) : Type 0 where
   pub lines : List (List ℕ)
-  pub lines_are : AreLines bytes lines
+  pub lines_are : AreTraceLines bytes lines
   pub spelled : LinesSpell shape lines init ticks
-  pub rest : IsPlace bytes place (behind bytes lines)
+  pub rest : IsPlace bytes place (bytes_behind bytes lines)
   -- before the first tick all init lines are read
-  pub stops : ticks ≡ [] → InitsStop (behind bytes lines)
+  pub stops : ticks ≡ [] → InitsStop (bytes_behind bytes lines)
 
 pub record ReadsInSteps (bytes : List ℕ) (shape : TraceShape) : Type 0 where
   pub begins : (init : List ℕ) (place : ℕ) → InitsRead bytes shape init place → IsReadTo bytes shape init [] place

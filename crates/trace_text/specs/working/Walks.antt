@@ -6,7 +6,7 @@ use Rattle.fir_base.specs.declared.refused.Refused.TheVariants.{Fault, Memory}
 use Rattle.trace_text.specs.declared.fault.Cause.{Cause}
 use Rattle.trace_text.specs.declared.fault.TraceFault.{TraceFault}
 use Rattle.trace_text.specs.declared.lines.Line.{Line}
-use Rattle.trace_text.specs.Lines.{is_newline, AreLines, behind, first_line, later_lines, IsSkipped}
+use Rattle.trace_text.specs.Lines.{is_newline, AreTraceLines, bytes_behind, first_line, later_lines, IsSkipped}
 use Rattle.trace_text.specs.Shapes.{TraceShape}
 use Rattle.trace_text.specs.LineFaults.{line_faults}
 use Rattle.trace_text.specs.TraceSpells.{AreInits, zeros}
@@ -15,9 +15,9 @@ use Rattle.trace_text.specs.working.Readings.{IsPlace, is_skipped, is_init_line,
 -- a place behind skipped lines
 pub record IsPast (bytes : List ℕ) (from to : ℕ) : Type 0 where
   pub skipped : List (List ℕ)
-  pub lines_are : AreLines (drop from bytes) skipped
+  pub lines_are : AreTraceLines (drop from bytes) skipped
   pub are_skipped : AllByRecursion IsSkipped skipped
-  pub rest : IsPlace bytes to (behind (drop from bytes) skipped)
+  pub rest : IsPlace bytes to (bytes_behind (drop from bytes) skipped)
 
 -- the line at a place, and the place behind it
 pub record IsLine (bytes : List ℕ) (line : Line) : Type 0 where
@@ -35,9 +35,9 @@ pub record IsCounting (bytes : List ℕ) (from : ℕ) (line : Line) : Type 0 whe
 -- a place behind lines that give this state
 pub record InitsTo (bytes : List ℕ) (shape : TraceShape) (place : ℕ) (words : List ℕ) : Type 0 where
   pub lines : List (List ℕ)
-  pub lines_are : AreLines bytes lines
+  pub lines_are : AreTraceLines bytes lines
   pub spelled : AreInits shape lines (zeros shape) words
-  pub rest : IsPlace bytes place (behind bytes lines)
+  pub rest : IsPlace bytes place (bytes_behind bytes lines)
   pub room : length words ≡ length (zeros shape)
 
 -- the line may stand before the ticks, as far as its first byte or word shows

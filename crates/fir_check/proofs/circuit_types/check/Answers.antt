@@ -1,5 +1,5 @@
 use Rattle.fir_ast.specs.working.Views.{circuit_of}
-use Rattle.fir_pass.specs.Faults.{fault_of}
+use Rattle.fir_ast.specs.working.CodeFaults.{fault_of}
 use Rattle.fir_check.proofs.TypePass.{types_first}
 use Rattle.fir_check.proofs.circuit_types.check.Goals as goal
 

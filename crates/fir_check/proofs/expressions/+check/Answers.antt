@@ -4,7 +4,7 @@ use Rattle.std.proofs.lemmas.List.{drop_all}
 use Rattle.std.proofs.lemmas.Result.{err_from_is_err_and}
 use Rattle.fir_ast.specs.Expressions.{subfield, subindex, subaccess, literal}
 use Rattle.fir_ast.specs.working.Views.{expr_of, expressions_of, parts_of, sink_of}
-use Rattle.fir_ast.specs.Statements.{Sink}
+use Rattle.fir_ast.specs.Statements.{SinkReference}
 use Rattle.fir_ast.proofs.TreeViews.{operation_view, mux_view, sink_name, validif_view}
 use Rattle.fir_meaning.specs.LeafPaths.{named, element}
 use Rattle.fir_meaning.specs.ExpressionTypes.{access_form, expression_type, expression_types, field_form, index_form, mux_form, operation_form, reaching, validif_form}
@@ -309,7 +309,7 @@ in_reference-loop-part-init t c =
     let r = c.args.reference.now in
     let s = sink_of r in
     let parts = ap (λ xs. parts_of (map part_of xs)) c.deref-part-items.ensures.value in
-    let same = ap (λ (x : Sink). x.parts) (sink_view r) ∙ sym parts in
+    let same = ap (λ (x : SinkReference). x.parts) (sink_view r) ∙ sym parts in
     λ typed knows. (
       reached_first ts typed r c.deref-part-items.result.now c.root-reached.result c.deref-part-items.ensures.value (c.root-reached.ensures.reached typed knows),
       subst (λ ps. NotesSoFar ts c.args.notes.now.items c.args.notes.now.items (part_notes typed s.parts) (part_notes typed ps)) same

@@ -1,5 +1,5 @@
 use Rattle.std.proofs.Common.{◌≡◌, map, take}
-use Rattle.fir_ast.specs.View.{type_of}
+use Rattle.fir_ast.specs.working.TypeViews.{type_of}
 use Rattle.fir_type_table.specs.working.Tables.{types_of}
 use Rattle.fir_types.specs.working.Seen.{found_type}
 use Rattle.fir_check.proofs.faults.kinds_of.Given as goal

@@ -1,5 +1,5 @@
 use Rattle.std.proofs.Common.{refl}
-use Rattle.fir_ast.specs.View.{type_of}
+use Rattle.fir_ast.specs.working.TypeViews.{type_of}
 use Rattle.fir_meaning.specs.Components.{wire}
 use Rattle.fir_types.proofs.GrownScopes.{walks_declared}
 use Rattle.fir_check.proofs.statements.in_wire.Goals as goal

@@ -1,4 +1,5 @@
 use Rattle.std.proofs.Common.{Some, None, subst}
+use Rattle.fir_ast.specs.working.CodeFaults.{fault_of}
 use Rattle.fir_ast.specs.working.Views.{circuit_of}
 use Rattle.fir_meaning.specs.working.Scenes.{HasScenes}
 use Rattle.fir_lack.specs.working.Lacks.{AreClocksClear, IsLack}
@@ -29,7 +30,7 @@ pub returns-in-Err-Fault-clause-compiled : goal.returns-in-Err-Fault-clause-comp
 returns-in-Err-Fault-clause-compiled c =
     let scenes = subst (λ t. HasScenes (circuit_of t)) c.leafed.ensures.tree c.modules-modules.ensures.scenes in
     let without = subst (λ t. IsLack (circuit_of t) None) c.leafed-2.ensures.tree (rw c.in_default.is at c.in_ok-lack.ensures.lack) in
-    let told : RefusedFor c.args.bytes.now c.in-Err-Fault.fault =
+    let told : RefusedFor c.args.bytes.now (fault_of c.in-Err-Fault.fault) =
     shows_later c.args.bytes.now (circuit_of c.in_ok-nets.nets) c.in_ok-nets.ensures.0 c.in_ok-nets.ensures.1 scenes without c.in-Err-Fault.fault
-    (later_first (circuit_of c.in_ok-nets.nets) c.in-Err-Fault.fault (rw c.in-Err-Fault.field-0-is at c.in-Err-Fault.ensures.fault)) in
+    (later_first (circuit_of c.in_ok-nets.nets) (fault_of c.in-Err-Fault.fault) (rw c.in-Err-Fault.field-0-is at c.in-Err-Fault.ensures.fault)) in
     rw c.in-Err-Fault.field-0-is told

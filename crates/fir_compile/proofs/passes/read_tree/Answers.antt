@@ -1,4 +1,5 @@
 use Rattle.std.proofs.lemmas.Result.{err_from_is_err_and}
+use Rattle.fir_ast.specs.working.CodeFaults.{fault_of}
 use Rattle.fir_ast.specs.working.Views.{circuit_of}
 use Rattle.fir_compile.proofs.ReadTrees.{fault_read, tree_read, without_tokens}
 use Rattle.fir_compile.proofs.passes.read_tree.Goals as goal
@@ -17,4 +18,4 @@ pub returns-in-Err-Fault : goal.returns-in-Err-Fault
 returns-in-Err-Fault c =
     let first = rw c.in-Err-Fault.field-0-is at c.in-Err-Fault.ensures in
     fault_read c.lexed_form_by_form.ensures c.args.bytes.now c.in_ok-tokens.tokens.tokens c.in_ok-tokens.ensures.tokens c.in_ok-tokens.tokens.text
-    c.in_ok-tokens.ensures.text c.in-Err-Fault.fault first.0
+    c.in_ok-tokens.ensures.text (fault_of c.in-Err-Fault.fault) first.0

@@ -2,7 +2,7 @@ use Rattle.std.proofs.Common.{◌+◌, [], ◌∷◌, ◌++◌, map, drop, refl,
 use Rattle.std.proofs.lemmas.List.{drop_all}
 use Rattle.std.proofs.lemmas.Result.{IfOk-weaker}
 use Rattle.fir_ast.specs.Expressions.{literal, mux, operation, reference, subaccess, validif}
-use Rattle.fir_ast.specs.Statements.{Sink}
+use Rattle.fir_ast.specs.Statements.{SinkReference}
 use Rattle.fir_ast.specs.working.Views.{expr_of, expressions_of, parts_of, sink_of}
 use Rattle.fir_ast.proofs.TreeViews.{mux_view, operation_view, validif_view}
 use Rattle.fir_meaning.specs.ExpressionPlaces.{place_of}
@@ -151,7 +151,7 @@ pub in_reference-loop-part-init : goal.in_reference-loop-part-init
 in_reference-loop-part-init t c =
     let r = c.args.reference.now in
     let parts = ap (λ xs. parts_of (map part_of xs)) c.deref-part-items.ensures.value in
-    let same = ap (λ (x : Sink). x.parts) (sink_view r) ∙ sym parts in
+    let same = ap (λ (x : SinkReference). x.parts) (sink_view r) ∙ sym parts in
     λ typed end rest enters reaches.
     subst (λ ps. PartsSoFar c.args.ground.now typed rest end (sink_of r).parts ps c.args.walk.now c.args.walk.now c.new-indices.result.items) same
     (parts_first c.args.ground.now typed rest end (sink_of r).parts c.args.walk.now enters reaches.0 c.new-indices.result.items reaches.2 c.new-indices.ensures.items)

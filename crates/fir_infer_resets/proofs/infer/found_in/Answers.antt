@@ -1,6 +1,6 @@
 use Rattle.std.proofs.Common.{sym, ◌∙◌, ap, length}
 use Rattle.fir_ast.specs.working.Views.{circuit_of}
-use Rattle.fir_pass.specs.Faults.{fault_of}
+use Rattle.fir_ast.specs.working.CodeFaults.{fault_of}
 use Rattle.fir_infer_resets.specs.working.DirectWalks.{Replaces}
 use Rattle.fir_infer_resets.specs.working.ResetGraphs.{IsResetWalk}
 use Rattle.fir_infer_resets.proofs.InferredResets.{inferred}

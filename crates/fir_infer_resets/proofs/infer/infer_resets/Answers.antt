@@ -1,7 +1,7 @@
 use Rattle.std.proofs.Common.{◌≡◌, [], subst}
 use Rattle.std.specs.Prelude.{IfOk}
 use Rattle.fir_ast.specs.working.Views.{circuit_of}
-use Rattle.fir_pass.specs.Faults.{fault_of}
+use Rattle.fir_ast.specs.working.CodeFaults.{fault_of}
 use Rattle.fir_pass.specs.working.Law.{IfFault}
 use Rattle.fir_meaning.specs.ResetWalks.{ShowsResets}
 use Rattle.fir_meaning.specs.TypeGroup.{type_faults}

@@ -4,7 +4,7 @@ use Rattle.std.proofs.lemmas.List.{drop_all}
 use Rattle.fir_ast.specs.Statements.{done, then, when}
 use Rattle.fir_ast.specs.Statements as tree
 use Rattle.fir_ast.specs.working.Views.{block_of, expr_of, named_of, reset_of, sink_of, stmt_of}
-use Rattle.fir_ast.specs.View.{type_of}
+use Rattle.fir_ast.specs.working.TypeViews.{type_of}
 use Rattle.fir_ast.proofs.TreeViews.{connect_view, node_view, register_view}
 use Rattle.fir_meaning.specs.TypeGroup.{scope_at}
 use Rattle.fir_meaning.specs.Visibility.{behind, opened}

@@ -1,7 +1,7 @@
 use Rattle.std.proofs.Common.{[], ◌++◌, length}
 use Rattle.std.specs.Prelude.{option_map}
 use Rattle.fir_ast.specs.working.Views.{expr_of, named_of, reset_of}
-use Rattle.fir_ast.specs.View.{type_of}
+use Rattle.fir_ast.specs.working.TypeViews.{type_of}
 use Rattle.fir_meaning.specs.Components as component
 use Rattle.fir_meaning.specs.TypeGroup.{scope_at}
 use Rattle.fir_meaning.specs.Visibility.{with_declaration}

@@ -1,5 +1,5 @@
 use Rattle.std.proofs.Common.{None, Some, ap, sym, ◌∙◌}
-use Rattle.fir_ast.specs.Statements.{Sink}
+use Rattle.fir_ast.specs.Statements.{SinkReference}
 use Rattle.fir_ast.specs.working.Views.{circuit_of}
 use Rattle.fir_meaning.specs.Components.{find}
 use Rattle.fir_meaning.specs.Mentions.{module_names}
@@ -14,11 +14,11 @@ returns-in-Some-find_near c = λ m there.
     let r = c.args.reference.now in
     place_found (module_names (circuit_of c.args.named.now)) c.in-Some.names.now (declarations m) r.name r.place (Some c.in-Some-find_near.declaration.now)
     (c.in-Some.ensures m there) c.in-Some-find_near.ensures
-    ∙ ap (λ (s : Sink). declared_at s.place (find (declarations m) s.name)) (sym (sink_view r))
+    ∙ ap (λ (s : SinkReference). declared_at s.place (find (declarations m) s.name)) (sym (sink_view r))
 
 pub returns-in-None : goal.returns-in-None
 returns-in-None c = λ m there.
     let r = c.args.reference.now in
     place_found (module_names (circuit_of c.args.named.now)) c.in-Some.names.now (declarations m) r.name r.place None
     (c.in-Some.ensures m there) c.in-None.ensures
-    ∙ ap (λ (s : Sink). declared_at s.place (find (declarations m) s.name)) (sym (sink_view r))
+    ∙ ap (λ (s : SinkReference). declared_at s.place (find (declarations m) s.name)) (sym (sink_view r))

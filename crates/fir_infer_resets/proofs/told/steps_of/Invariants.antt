@@ -1,5 +1,5 @@
 use Rattle.std.proofs.Common.{◌≡◌, ◌++◌, drop, map}
-use Rattle.fir_ast.specs.Texts.{reset_step_text}
+use Rattle.fir_ast.specs.working.CodeFaults.{reset_step_text}
 use Rattle.fir_infer_resets.specs.working.StepTexts.{text_at}
 use Rattle.fir_infer_resets.proofs.told.steps_of.Given as goal
 

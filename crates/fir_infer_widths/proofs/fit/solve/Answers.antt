@@ -1,5 +1,5 @@
 use Rattle.fir_ast.specs.working.Views.{circuit_of}
-use Rattle.fir_pass.specs.Faults.{fault_of}
+use Rattle.fir_ast.specs.working.CodeFaults.{fault_of}
 use Rattle.fir_infer_widths.proofs.FirstWidthFaults.{widths_first}
 use Rattle.fir_infer_widths.proofs.fit.solve.Goals as goal
 

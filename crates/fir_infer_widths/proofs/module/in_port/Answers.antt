@@ -1,6 +1,6 @@
 use Rattle.std.proofs.lemmas.Result.{on_ok_weaker}
 use Rattle.fir_ast.specs.working.Views.{named_of}
-use Rattle.fir_ast.specs.View.{type_of}
+use Rattle.fir_ast.specs.working.TypeViews.{type_of}
 use Rattle.fir_meaning.specs.Components as component
 use Rattle.fir_infer_widths.proofs.DeclarationWalks.{main_port_comes, own_side, port_shows}
 use Rattle.fir_infer_widths.proofs.module.in_port.Goals as goal

@@ -1,6 +1,6 @@
 use Rattle.std.proofs.Common.{◌++◌, ap, ◌∙◌}
 use Rattle.fir_ast.specs.working.Views.{named_of}
-use Rattle.fir_ast.specs.View.{type_of}
+use Rattle.fir_ast.specs.working.TypeViews.{type_of}
 use Rattle.fir_infer_widths.proofs.ToldLeaves.{none_written, first_written}
 use Rattle.fir_infer_widths.proofs.over.array.Goals as goal
 

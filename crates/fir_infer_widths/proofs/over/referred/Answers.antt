@@ -1,5 +1,5 @@
 use Rattle.std.proofs.Common.{◌++◌, Some, ap, ◌∙◌}
-use Rattle.fir_ast.specs.Statements.{Sink}
+use Rattle.fir_ast.specs.Statements.{SinkReference}
 use Rattle.fir_ast.specs.working.Views.{sink_of}
 use Rattle.fir_meaning.specs.LeafPaths.{path_text}
 use Rattle.fir_meaning.specs.SizeFaults.{word_over}
@@ -21,4 +21,4 @@ returns c =
     first_in_sink (assigned c.args.widths.now) (sink_of c.args.reference.now) (leaves_of_side (types_of c.args.table.now) c.args.side) c.in-Some.steps.items
     c.in_ok-leaf.leaf (rw c.in-Some.is at c.in_ok-steps.ensures)
     (c.in_ok-leaf.ensures ∙ ap (λ x. path_text (sink_path (sink_of c.args.reference.now)) ++ x) c.deref.ensures.value)
-    ∙ ap (λ (s : Sink). Some (word_over s.place c.in_ok-leaf.leaf)) (sink_view c.args.reference.now)
+    ∙ ap (λ (s : SinkReference). Some (word_over s.place c.in_ok-leaf.leaf)) (sink_view c.args.reference.now)

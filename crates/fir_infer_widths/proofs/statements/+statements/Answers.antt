@@ -7,7 +7,7 @@ use Rattle.fir_ast.specs.declared.statements.Stmt.TheVariants as code
 use Rattle.fir_ast.specs.declared.types.Ty.{Ty}
 use Rattle.fir_meaning.specs.Components as component
 use Rattle.fir_ast.specs.working.Views.{block_of, expr_of, memory_part_of, named_of, sink_of, stmt_of}
-use Rattle.fir_ast.specs.View.{type_of}
+use Rattle.fir_ast.specs.working.TypeViews.{type_of}
 use Rattle.fir_ast.specs.Statements.{connect, done, memory, node, partial_connect, then}
 use Rattle.fir_ast.proofs.TreeViews.{connect_view, node_view, register_view, tree_of_register}
 use Rattle.fir_ast.specs.Types.{uint}

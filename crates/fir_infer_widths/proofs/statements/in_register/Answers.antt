@@ -3,7 +3,7 @@ use Rattle.std.specs.Prelude.{option_map}
 use Rattle.std.proofs.lemmas.Result.{on_ok_weaker}
 use Rattle.fir_ast.specs.Types.{clock}
 use Rattle.fir_ast.specs.working.Views.{expr_of, named_of, reset_of}
-use Rattle.fir_ast.specs.View.{type_of}
+use Rattle.fir_ast.specs.working.TypeViews.{type_of}
 use Rattle.fir_meaning.specs.Components.{register}
 use Rattle.fir_meaning.specs.TypeGroup.{scope_at}
 use Rattle.fir_meaning.specs.Visibility.{declarations, with_declaration}

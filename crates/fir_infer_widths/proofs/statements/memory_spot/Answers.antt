@@ -1,7 +1,7 @@
 use Rattle.std.proofs.Common.{map, flat_map, ap, sym, ◌∙◌}
 use Rattle.std.specs.Prelude.{option_map}
 use Rattle.fir_ast.specs.working.Views.{memory_part_of}
-use Rattle.fir_ast.specs.View.{type_of}
+use Rattle.fir_ast.specs.working.TypeViews.{type_of}
 use Rattle.fir_meaning.specs.MemoryTypes.{data_of_part, first_one}
 use Rattle.fir_type_table.specs.working.Tables.{types_of}
 use Rattle.fir_infer_widths.specs.working.Ports.{has_fields}

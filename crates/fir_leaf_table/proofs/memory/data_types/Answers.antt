@@ -1,7 +1,7 @@
 use Rattle.std.proofs.Common.{None, length, sym, ap, ◌∙◌}
 use Rattle.std.proofs.lemmas.List.{length-map}
 use Rattle.std.proofs.lemmas.Result.{IfOk-weaker}
-use Rattle.fir_ast.specs.View.{type_of}
+use Rattle.fir_ast.specs.working.TypeViews.{type_of}
 use Rattle.fir_meaning.specs.WidthExpressions.{Widths}
 use Rattle.fir_meaning.specs.working.LeafMemories.{count_of_data}
 use Rattle.fir_leaf_circuit.specs.working.Seen.{type_seen}

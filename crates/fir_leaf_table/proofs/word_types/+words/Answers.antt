@@ -1,5 +1,5 @@
 use Rattle.std.proofs.Common.{◌≡◌, suc, ◌++◌, None, length, ap, sym, ◌∙◌, arith}
-use Rattle.fir_ast.specs.View.{type_of}
+use Rattle.fir_ast.specs.working.TypeViews.{type_of}
 use Rattle.fir_meaning.specs.SizedTypes.{numbered}
 use Rattle.fir_meaning.specs.HeldTypes.{held_types}
 use Rattle.fir_leaf_table.specs.working.TypedLeaves.{types_seen}

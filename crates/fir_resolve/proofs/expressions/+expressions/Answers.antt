@@ -5,7 +5,7 @@ use Rattle.std.proofs.lemmas.List.{drop_all}
 use Rattle.fir_ast.specs.Expressions.{mux, operation, validif}
 use Rattle.fir_ast.specs.working.Views.{expr_of, expressions_of, parts_of}
 use Rattle.fir_ast.proofs.TreeViews.{mux_view, operation_view, validif_view}
-use Rattle.fir_pass.specs.Faults.{fault_of}
+use Rattle.fir_ast.specs.working.CodeFaults.{fault_of}
 use Rattle.fir_pass.specs.Groups.{first_of}
 use Rattle.fir_meaning.specs.Mentions.{expression_mentions, operand_mentions, part_mentions}
 use Rattle.fir_meaning.specs.NameGroups.{faults_in}

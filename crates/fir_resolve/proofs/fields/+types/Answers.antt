@@ -1,9 +1,10 @@
 use Rattle.std.proofs.Common.{◌∙◌, ◌+◌, [], ◌∷◌, map, drop, sym}
-use Rattle.fir_ast.specs.View.{fields_of, type_of}
+use Rattle.fir_ast.specs.View.{fields_of}
+use Rattle.fir_ast.specs.working.TypeViews.{type_of}
 use Rattle.fir_ast.specs.working.BundleText.{field_of}
-use Rattle.fir_pass.specs.Faults.{fault_of}
+use Rattle.fir_ast.specs.working.CodeFaults.{fault_of}
 use Rattle.fir_pass.specs.Groups.{first_of}
-use Rattle.fir_meaning.specs.Mentions.{declares, field_mentions, placed, type_mentions}
+use Rattle.fir_meaning.specs.Mentions.{declares, field_mentions, placed_name, type_mentions}
 use Rattle.fir_meaning.specs.NameGroups.{faults_in}
 use Rattle.fir_names.proofs.FirstMentions.{head_silent, silent, told}
 use Rattle.fir_resolve.proofs.WalkedNames.{at_found, at_next, field_step, fields_next}
@@ -14,7 +15,7 @@ in_fields-returns-in-Some-2 t c =
     let fields = c.args.fields.now in
     let i = c.loop-field.field-index in
     let f = c.field-item.result in
-    let name = placed f.place f.name in
+    let name = placed_name f.place f.name in
     let types = type_mentions (type_of f.ty) in
     at_found field_mentions c.loop-field.namespace [] (fields_of (map field_of fields)) (fields_of (map field_of (drop i fields)))
     (fields_of (map field_of (drop (i + 1) fields))) (field_step f) (name ∷ []) (fault_of c.in-Some-2.fault)
@@ -28,7 +29,7 @@ in_fields-loop-field-preserved t c =
     let fields = c.args.fields.now in
     let i = c.loop-field.field-index in
     let f = c.field-item.result in
-    let name = placed f.place f.name in
+    let name = placed_name f.place f.name in
     let types = type_mentions (type_of f.ty) in
     at_next field_mentions c.loop-field.namespace c.declare.new.self [] (fields_of (map field_of fields)) (fields_of (map field_of (drop i fields)))
     (fields_of (map field_of (drop (i + 1) fields))) (field_step f) (name ∷ [])

@@ -1,6 +1,6 @@
 use Rattle.std.proofs.Common.{◌∙◌, ◌+◌, [], map, drop, sym}
 use Rattle.fir_ast.specs.working.Views.{memory_part_of}
-use Rattle.fir_pass.specs.Faults.{fault_of}
+use Rattle.fir_ast.specs.working.CodeFaults.{fault_of}
 use Rattle.fir_pass.specs.Groups.{first_of}
 use Rattle.fir_meaning.specs.Mentions.{data_mentions, memory_mentions, port_mentions, ports_of}
 use Rattle.fir_meaning.specs.NameGroups.{faults_in}

@@ -1,6 +1,6 @@
 use Rattle.std.proofs.Common.{◌+◌, map, drop, refl}
 use Rattle.fir_ast.specs.working.Views.{port_of}
-use Rattle.fir_ast.specs.View.{type_of}
+use Rattle.fir_ast.specs.working.TypeViews.{type_of}
 use Rattle.fir_meaning.specs.Components.{port}
 use Rattle.fir_names.proofs.FirstMentions.{views_left}
 use Rattle.fir_resolve.proofs.WalkedBlocks.{ports_found, ports_next}

@@ -2,7 +2,7 @@ use Rattle.std.proofs.Common.{◌+◌, Some, None, map, drop, refl, ap, ◌∙�
 use Rattle.std.proofs.lemmas.Result.{IfOk-weaker}
 use Rattle.std.proofs.lemmas.List.{drop_all}
 use Rattle.fir_ast.specs.working.Views.{block_of, expr_of, named_of, sink_of, stmt_of}
-use Rattle.fir_ast.specs.View.{type_of}
+use Rattle.fir_ast.specs.working.TypeViews.{type_of}
 use Rattle.fir_ast.specs.Statements.{wire, when, connect, partial_connect, invalid}
 use Rattle.fir_meaning.specs.Components as component
 use Rattle.fir_names.specs.working.Parts.{when_view}

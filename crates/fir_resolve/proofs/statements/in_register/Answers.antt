@@ -1,7 +1,7 @@
 use Rattle.std.proofs.Common.{option_map, refl}
 use Rattle.std.proofs.lemmas.Result.{IfOk-weaker}
 use Rattle.fir_ast.specs.working.Views.{expr_of, named_of, reset_of}
-use Rattle.fir_ast.specs.View.{type_of}
+use Rattle.fir_ast.specs.working.TypeViews.{type_of}
 use Rattle.fir_meaning.specs.Components as component
 use Rattle.fir_meaning.specs.Visibility.{with_declaration}
 use Rattle.fir_resolve.proofs.PassedMentions.{is_new, passes_told}

@@ -1,7 +1,7 @@
 use Rattle.std.proofs.Common.{[], ◌∷◌}
 use Rattle.std.proofs.lemmas.Result.{IfOk-weaker}
 use Rattle.fir_ast.specs.working.Views.{named_of}
-use Rattle.fir_ast.specs.View.{type_of}
+use Rattle.fir_ast.specs.working.TypeViews.{type_of}
 use Rattle.fir_meaning.specs.Visibility.{with_declaration}
 use Rattle.fir_meaning.specs.Mentions.{declares, names_declared, type_mentions}
 use Rattle.fir_names.proofs.FirstMentions.{front_told}

@@ -1,6 +1,6 @@
 use Rattle.std.proofs.Common.{refl, map, take}
 use Rattle.std.proofs.lemmas.List.{map_more}
-use Rattle.fir_ast.specs.View.{type_of}
+use Rattle.fir_ast.specs.working.TypeViews.{type_of}
 use Rattle.fir_ast.specs.working.BundleText.{field_of}
 use Rattle.fir_type_table.specs.declared.entry.Part.{Part}
 use Rattle.fir_type_table.proofs.AddedParts.{adds_part, field_made}

@@ -1,7 +1,7 @@
 use Rattle.std.proofs.Common.{[], ◌∷◌, ◌++◌, ◌+◌, map, drop, sym, ap, subst, ◌∙◌}
 use Rattle.std.proofs.lemmas.List.{drop_all}
 use Rattle.fir_ast.specs.Expressions.{literal, mux, operation, validif}
-use Rattle.fir_ast.specs.Statements.{Sink}
+use Rattle.fir_ast.specs.Statements.{SinkReference}
 use Rattle.fir_ast.specs.working.Views.{expr_of, expressions_of, parts_of, sink_of}
 use Rattle.fir_ast.proofs.TreeViews.{mux_view, operation_view, validif_view}
 use Rattle.fir_meaning.specs.ExpressionTypes.{expression_type}
@@ -116,7 +116,7 @@ pub reference-loop-part-init : goal.reference-loop-part-init
 reference-loop-part-init t c =
     let r = c.args.reference.now in
     let parts = ap (λ xs. parts_of (map part_of xs)) c.deref-part-items.ensures.value in
-    let same = ap (λ (x : Sink). x.parts) (sink_view r) ∙ sym parts in
+    let same = ap (λ (x : SinkReference). x.parts) (sink_view r) ∙ sym parts in
     λ ts scope rest ahead.
     subst (λ ps. Passes ts (part_notes scope ps ++ rest) c.args.self.now c.args.self.now) same
     (passes_none ts (part_notes scope (sink_of r).parts ++ rest) c.args.self.now ahead)

@@ -1,5 +1,5 @@
 use Rattle.std.proofs.Common.{List, ℕ, map, sym, ap, ◌∙◌}
-use Rattle.fir_ast.specs.Statements.{Sink}
+use Rattle.fir_ast.specs.Statements.{SinkReference}
 use Rattle.fir_types.specs.declared.note.Pick.{Pick}
 use Rattle.fir_types.proofs.PartViews.{sink_view}
 use Rattle.fir_infer_resets.specs.declared.root.Access.TheVariants.{Fixed}
@@ -17,7 +17,7 @@ returns c =
       is =
           ap (Leaf c.in_ok-path.path c.place_declared-place.result)
           (c.picked-access.ensures ∙ ap (λ l. access_behind r.place Fixed (lengths l)) c.as_slice.ensures.value
-          ∙ ap (λ (s : Sink). access_behind s.place Fixed (lengths c.args.range.now.picks.items)) (sym (sink_view r)));
+          ∙ ap (λ (s : SinkReference). access_behind s.place Fixed (lengths c.args.range.now.picks.items)) (sym (sink_view r)));
       steps = c.in_ok-path.ensures;
       declared = c.place_declared-place.ensures;
     }

@@ -1,6 +1,6 @@
 use Rattle.std.proofs.Common.{◌≡◌, ◌+◌, true, false, None, refl, sym, ap, ◌∙◌, le_trans, le_of_lt, rules}
 use Rattle.fir_ast.specs.Expressions.{Parts, no_parts, reference}
-use Rattle.fir_ast.specs.Statements.{Sink}
+use Rattle.fir_ast.specs.Statements.{SinkReference}
 use Rattle.fir_parse.specs.working.AtHand.{stop_at}
 use Rattle.fir_parse.specs.declared.lexeme.Lexeme.TheVariants.{Word, End}
 use Rattle.fir_parse.specs.declared.stop.Stop.TheVariants as stop
@@ -159,7 +159,7 @@ reference-returns-in_default-clause-reads t c = λ end k.
     (elim c.in_default.branch [ reference-in_default-via-in-Mark+in_default w ↦ λ h. search rules | reference-in_default-via-in_default w ↦ λ h. search rules ])
     (elim c.in_default.branch [ reference-in_default-via-in-Mark+in_default w ↦ λ h. search rules | reference-in_default-via-in_default w ↦ λ h. search rules ]))
     end _
-    ∙ ap (λ (s : Sink). read_on everywhere end (k s) (rest c.loop-parts.self)) (sym (sink_of_parts c.args.place c.loop-parts.name c.args.name.now c.loop-parts.parts (c.loop-parts.invariant.same_name ∙ c.in_ok-name.ensures)))
+    ∙ ap (λ (s : SinkReference). read_on everywhere end (k s) (rest c.loop-parts.self)) (sym (sink_of_parts c.args.place c.loop-parts.name c.args.name.now c.loop-parts.parts (c.loop-parts.invariant.same_name ∙ c.in_ok-name.ensures)))
 
 pub reference-returns-in_default-clause-high : goal.reference-returns-in_default-clause-high
 reference-returns-in_default-clause-high t c =

@@ -1,7 +1,7 @@
 -- One length behind a type.
 use Rattle.std.proofs.Common.{ap, sym, ◌∙◌, ◌+◌}
 use Rattle.fir_ast.specs.Types.{vector}
-use Rattle.fir_ast.specs.View.{type_of}
+use Rattle.fir_ast.specs.working.TypeViews.{type_of}
 use Rattle.fir_parse.specs.working.Symbols.{dimensions}
 use Rattle.fir_parse.specs.working.States.{wants, opens}
 use Rattle.fir_parse.specs.working.Reads.{rest}

@@ -1,6 +1,6 @@
 -- The lengths behind a type.
 use Rattle.std.proofs.Common.{refl, ◌∙◌, rules, arith}
-use Rattle.fir_ast.specs.View.{type_of}
+use Rattle.fir_ast.specs.working.TypeViews.{type_of}
 use Rattle.fir_parse.specs.working.Symbols.{dimensions}
 use Rattle.fir_parse.proofs.Plans.{stays_before, exits_behind, stops_behind, stands_there}
 use Rattle.fir_parse.proofs.TypeReads.{ends_there, not_dimension}

@@ -1,5 +1,5 @@
 use Rattle.std.proofs.Common.{refl, sym, ap, ◌∙◌}
-use Rattle.fir_ast.specs.Statements.{Sink, partial_connect}
+use Rattle.fir_ast.specs.Statements.{SinkReference, partial_connect}
 use Rattle.fir_ast.specs.working.Views.{expr_of, sink_of}
 use Rattle.fir_parse.specs.Limits.{everywhere}
 use Rattle.fir_parse.specs.working.Reading.{read_on}
@@ -21,4 +21,4 @@ pub returns-clause-reads : goal.returns-clause-reads
 returns-clause-reads c = λ end k.
     c.in_ok-source.ensures.reads end (λ e. k (partial_connect (sink_of c.args.sink).place (sink_of c.args.sink) e))
     ∙ ap (λ s. read_on everywhere end (k s) (rest c.expression_line.new.self))
-    (ap (λ (s : Sink). partial_connect s.place (sink_of c.args.sink) (expr_of c.in_ok-source.source)) (sink_view c.args.sink) ∙ sym (partial_connect_view c.args.sink.place c.args.sink c.in_ok-source.source))
+    (ap (λ (s : SinkReference). partial_connect s.place (sink_of c.args.sink) (expr_of c.in_ok-source.source)) (sink_view c.args.sink) ∙ sym (partial_connect_view c.args.sink.place c.args.sink c.in_ok-source.source))

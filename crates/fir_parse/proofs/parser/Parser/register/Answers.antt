@@ -2,7 +2,7 @@ use Rattle.std.proofs.Common.{option_map, sym, ap, ◌∙◌}
 use Rattle.fir_ast.specs.declared.statements.Register.{Register}
 use Rattle.fir_ast.specs.Statements.{Statement, register}
 use Rattle.fir_ast.specs.working.Views.{expr_of, named_of, reset_of}
-use Rattle.fir_ast.specs.View.{type_of}
+use Rattle.fir_ast.specs.working.TypeViews.{type_of}
 use Rattle.fir_parse.specs.Limits.{everywhere}
 use Rattle.fir_parse.specs.working.PartPlans.{timing_plan, TimingTree}
 use Rattle.fir_parse.specs.working.Reading.{read_on}

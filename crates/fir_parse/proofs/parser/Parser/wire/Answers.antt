@@ -1,6 +1,6 @@
 use Rattle.std.proofs.Common.{sym, ap, ◌∙◌}
 use Rattle.fir_ast.specs.Statements.{wire}
-use Rattle.fir_ast.specs.View.{type_of}
+use Rattle.fir_ast.specs.working.TypeViews.{type_of}
 use Rattle.fir_parse.specs.Limits.{everywhere}
 use Rattle.fir_parse.specs.working.Reading.{read_on}
 use Rattle.fir_parse.specs.working.Reads.{rest}

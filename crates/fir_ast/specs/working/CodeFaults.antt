@@ -1,43 +1,46 @@
--- The line of a fault: its code, its place, its evidence, parted by single spaces, and a newline.
-use Rattle.std.specs.Prelude.{ℕ, List, [], ◌∷◌, ◌++◌, map, flat_map, codes, decimal}
+-- What a fault of the code says: its code, its place and its evidence.
+use Rattle.std.specs.Prelude.{ℕ, List, ◌++◌, map, flat_map, codes, decimal}
 use Rattle.fir_ast.specs.declared.place.Place.{Place}
 use Rattle.fir_ast.specs.declared.fault.FirFault.{FirFault}
 use Rattle.fir_ast.specs.declared.fault.FirFault.TheVariants as fault
-use Rattle.fir_ast.specs.View.{type_of}
-use Rattle.fir_ast.specs.Texts.{place_text, type_text, separated, outcome_text, reset_step_text, sign_text, hex_byte}
+use Rattle.fir_ast.specs.declared.fault.ResetStep.{ResetStep}
+use Rattle.fir_ast.specs.declared.fault.ResetStep.TheVariants as step
+use Rattle.fir_ast.specs.Faults.{Code, E01, E02, E03, E04, E05, E06, E07, E08, E09, E10, E11, E12, E13, E14, E15, E16, E17, E18, E19, E20, E21, E22, E23, E24, E25, E26, E27, E28, Fault}
+use Rattle.fir_ast.specs.working.TypeViews.{type_of}
+use Rattle.fir_ast.specs.Texts.{place_text, type_text, separated, outcome_text, sign_text, hex_byte}
 
-abbrev pub code_text : FirFault → List ℕ
-code_text (fault.Byte p b) = codes "E01"
-code_text (fault.Indent p n) = codes "E02"
-code_text (fault.Tab p) = codes "E02"
-code_text (fault.BadLiteral p) = codes "E03"
-code_text (fault.Syntax p) = codes "E04"
-code_text (fault.Unsupported p word) = codes "E05"
-code_text (fault.Depth p) = codes "E06"
-code_text (fault.Version p n) = codes "E07"
-code_text (fault.Unknown p name) = codes "E08"
-code_text (fault.Twice p name first) = codes "E09"
-code_text (fault.NoModule p name) = codes "E10"
-code_text (fault.Recursive p walk) = codes "E11"
-code_text (fault.Kinds p ts) = codes "E12"
-code_text (fault.NoField p name) = codes "E12"
-code_text (fault.Types p a b) = codes "E13"
-code_text (fault.Flow p leaf) = codes "E14"
-code_text (fault.NotPassive p t) = codes "E15"
-code_text (fault.OutOfRange p index length) = codes "E16"
-code_text (fault.MemoryField p name part) = codes "E17"
-code_text (fault.Resets p walk) = codes "E18"
-code_text (fault.Over p what) = codes "E19"
-code_text (fault.PortWidth p leaf) = codes "E20"
-code_text (fault.Legality p word numbers) = codes "E21"
-code_text (fault.LiteralLegality p width negative size) = codes "E21"
-code_text (fault.Condition p width) = codes "E22"
-code_text (fault.Cost p n) = codes "E23"
-code_text (fault.Undriven p leaf choice) = codes "E24"
-code_text (fault.Clock p leaf a b) = codes "E25"
-code_text (fault.MemoryClocks p leaf a b) = codes "E26"
-code_text (fault.AsyncInit p walk) = codes "E27"
-code_text (fault.Loop p walk) = codes "E28"
+abbrev pub code_of : FirFault → Code
+code_of (fault.Byte p b) = E01
+code_of (fault.Indent p n) = E02
+code_of (fault.Tab p) = E02
+code_of (fault.BadLiteral p) = E03
+code_of (fault.Syntax p) = E04
+code_of (fault.Unsupported p word) = E05
+code_of (fault.Depth p) = E06
+code_of (fault.Version p n) = E07
+code_of (fault.Unknown p name) = E08
+code_of (fault.Twice p name first) = E09
+code_of (fault.NoModule p name) = E10
+code_of (fault.Recursive p walk) = E11
+code_of (fault.Kinds p ts) = E12
+code_of (fault.NoField p name) = E12
+code_of (fault.Types p a b) = E13
+code_of (fault.Flow p leaf) = E14
+code_of (fault.NotPassive p t) = E15
+code_of (fault.OutOfRange p index length) = E16
+code_of (fault.MemoryField p name part) = E17
+code_of (fault.Resets p walk) = E18
+code_of (fault.Over p what) = E19
+code_of (fault.PortWidth p leaf) = E20
+code_of (fault.Legality p word numbers) = E21
+code_of (fault.LiteralLegality p width negative size) = E21
+code_of (fault.Condition p width) = E22
+code_of (fault.Cost p n) = E23
+code_of (fault.Undriven p leaf choice) = E24
+code_of (fault.Clock p leaf a b) = E25
+code_of (fault.MemoryClocks p leaf a b) = E26
+code_of (fault.AsyncInit p walk) = E27
+code_of (fault.Loop p walk) = E28
 
 abbrev pub fault_place : FirFault → Place
 fault_place (fault.Byte p b) = p
@@ -72,6 +75,10 @@ fault_place (fault.MemoryClocks p leaf a b) = p
 fault_place (fault.AsyncInit p walk) = p
 fault_place (fault.Loop p walk) = p
 
+abbrev pub reset_step_text : ResetStep → List ℕ
+reset_step_text (step.Leaf name) = name
+reset_step_text (step.At p) = place_text p
+
 abbrev pub evidence_text : FirFault → List ℕ
 evidence_text (fault.Byte p b) = codes "byte " ++ hex_byte b
 evidence_text (fault.Indent p n) = codes "indent " ++ decimal n
@@ -105,5 +112,6 @@ evidence_text (fault.MemoryClocks p leaf a b) = codes "memory clocks " ++ leaf +
 evidence_text (fault.AsyncInit p walk) = codes "async init " ++ separated (codes " <- ") walk
 evidence_text (fault.Loop p walk) = codes "loop " ++ separated (codes " <- ") walk
 
-abbrev pub fault_line : FirFault → List ℕ
-fault_line f = code_text f ++ codes " " ++ place_text (fault_place f) ++ codes " " ++ evidence_text f ++ codes "\n"
+-- the fault of the definitions
+abbrev pub fault_of : FirFault → Fault
+fault_of f = record { code = code_of f; place = fault_place f; evidence = evidence_text f }

@@ -1,0 +1,5 @@
+use Rattle.std.proofs.Common.{append_assoc}
+use Rattle.ver_emit.proofs.block.put_always.Goals as goal
+
+pub returns : goal.returns
+returns c = simp (c.in_ok-extend_from_slice.ensures.items, c.as_bytes.ensures, c.in_ok-extend_from_slice-2.ensures.items, c.in_ok-extend_from_slice-3.ensures.items, c.in_ok-put_write_to.ensures, c.in_ok-extend_from_slice-4.ensures.items, append_assoc)
