@@ -1,5 +1,5 @@
 -- What the one chain of passes says of the circuit of a text: that it is taken, or why the text is refused.
-use Rattle.std.proofs.Common.{◌≡◌, ℕ, List, inl, inr, arith}
+use Rattle.std.proofs.Common.{ℕ, List, inl, inr, arith}
 use Rattle.fir_ast.specs.declared.circuit.Circuit.{Circuit}
 use Rattle.fir_ast.specs.declared.fault.FirFault.{FirFault}
 use Rattle.fir_ast.specs.working.CodeFaults.{fault_of}
