@@ -1,14 +1,15 @@
 -- From the faults of types to the first fault of the circuit, and to what the pass keeps.
-use Rattle.std.proofs.Common.{◌≡◌, ℕ, ◌≤◌, [], Some, Result, Ok, Err, IfOk, ap, subst, arith}
+use Rattle.std.proofs.Common.{◌≡◌, ℕ, ◌≤◌, [], Some, Result, Ok, Err, IfOk, subst, arith}
 use Rattle.fir_ast.specs.declared.circuit.Circuit.{Circuit}
 use Rattle.fir_ast.specs.Circuits.{CircuitTree}
 use Rattle.fir_ast.specs.working.Views.{circuit_of}
 use Rattle.fir_ast.specs.Faults.{Fault}
 use Rattle.fir_pass.specs.Groups.{first_of, IsClear}
 use Rattle.fir_pass.specs.Law.{IsFirst}
-use Rattle.fir_pass.specs.working.Law.{Keeps}
+use Rattle.fir_pass.specs.working.Law.{Passes}
 use Rattle.fir_meaning.specs.TypeGroup.{type_faults}
 use Rattle.fir_meaning.specs.SourceMeaning.{circuit_meaning}
+use Rattle.fir_meaning.specs.working.Stages.{IsClearOf, IsTreeOf}
 use Rattle.fir_meaning.proofs.KeptTrees.{first_in, none_clear, first_at, keeps_tree}
 use Rattle.fir_check.proofs.TypeFaultGroups.{circuit_told, first_group}
 
@@ -26,8 +27,8 @@ module _ (c : CircuitTree) where
       let e : 4 ≡ k = omega arith in
       subst (λ (j : ℕ). IsClear ((circuit_meaning c).group j)) e (none_clear (type_faults c) h)
 
--- what comes out with the same tree means the same
-pub keeps_typed : {E : Type 0} → (c : Circuit) (r : Result Circuit E) → IfOk r (λ t. t ≡ c) → IfOk r (λ t. type_faults (circuit_of c) ≡ [])
-    → IfOk r (λ t. Keeps 4 4 (circuit_meaning (circuit_of c)) (circuit_meaning (circuit_of t)))
-keeps_typed c (Ok t) same clear = keeps_tree 4 4 (circuit_of c) (circuit_of t) (ap circuit_of same) (clear_at (circuit_of c) clear)
-keeps_typed c (Err e) same clear = tt
+-- what comes out with the same tree is a stage of the same circuit
+pub keeps_typed : {E : Type 0} → (t : Circuit) (r : Result Circuit E) → IfOk r (λ n. n ≡ t) → IfOk r (λ n. type_faults (circuit_of t) ≡ [])
+    → IfOk r (Passes IsTreeOf IsTreeOf (IsClearOf 4 4) t)
+keeps_typed t (Ok n) same clear = keeps_tree 4 4 t (Ok n) same (clear_at (circuit_of t) clear)
+keeps_typed t (Err e) same clear = tt

@@ -2,6 +2,8 @@
 
 ghost use Rattle.std.specs.Prelude.{◌≡◌};
 ghost use Rattle.fir_ast.specs.working.CodeFaults.{fault_of};
+ghost use Rattle.fir_pass.specs.Groups.{of_types};
+ghost use Rattle.fir_meaning.specs.working.Stages.{IsClearOf, IsFirstOf};
 
 use crate::circuit_types::check;
 use fir_ast::FirFault;
@@ -22,11 +24,9 @@ impl Pass for CheckTypes {
 
     type Fault = (FirFault, Named);
 
-    ghost from = { 4 };
+    ghost clear = { IsClearOf of_types of_types };
 
-    ghost upto = { 4 };
-
-    ghost told = { λ f. fault_of f.0 };
+    ghost reports = { λ c f. IsFirstOf of_types of_types c (fault_of f.0) };
 
     ghost hands_back = { λ x f. f.1 ≡ x };
 

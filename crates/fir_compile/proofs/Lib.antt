@@ -1,8 +1,8 @@
-pub mod ClearGroups
-pub mod CheckedTrees
-pub mod Taken
-pub mod TakenBlocks
+pub mod ChainGroups
+pub mod NetPasses
 pub mod LackTokens
+pub mod ChainFaults
+pub mod TakenBlocks
 pub mod KeptShapes
 pub mod AllRuns
 pub mod SourceRuns

@@ -2,6 +2,8 @@
 
 ghost use Rattle.std.specs.Prelude.{◌≡◌};
 ghost use Rattle.fir_ast.specs.working.CodeFaults.{fault_of};
+ghost use Rattle.fir_pass.specs.Groups.{of_cost};
+ghost use Rattle.fir_meaning.specs.working.Stages.{IsClearOf, IsFirstOf};
 
 use crate::expanded::expand;
 use fir_ast::FirFault;
@@ -22,11 +24,9 @@ impl Pass for Expand {
 
     type Fault = (FirFault, Fitted);
 
-    ghost from = { 8 };
+    ghost clear = { IsClearOf of_cost of_cost };
 
-    ghost upto = { 8 };
-
-    ghost told = { λ f. fault_of f.0 };
+    ghost reports = { λ c f. IsFirstOf of_cost of_cost c (fault_of f.0) };
 
     ghost hands_back = { λ x f. f.1 ≡ x };
 

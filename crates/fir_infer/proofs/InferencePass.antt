@@ -7,10 +7,11 @@ use Rattle.fir_ast.specs.working.Views.{circuit_of}
 use Rattle.fir_ast.specs.Faults.{Fault}
 use Rattle.fir_pass.specs.Groups.{group_of, IsClear}
 use Rattle.fir_pass.specs.Law.{IsFirst}
-use Rattle.fir_pass.specs.working.Law.{Keeps}
+use Rattle.fir_pass.specs.working.Law.{Passes}
 use Rattle.fir_meaning.specs.ResetWalks.{ShowsResets}
 use Rattle.fir_meaning.specs.working.WidthGroups.{IsInferred}
 use Rattle.fir_meaning.specs.SourceMeaning.{circuit_meaning}
+use Rattle.fir_meaning.specs.working.Stages.{IsClearOf, IsTreeOf}
 use Rattle.fir_meaning.specs.working.WidthLaws.{FitsAll}
 use Rattle.fir_meaning.proofs.InferredCircuits.{over_clear, legal_clear}
 use Rattle.fir_meaning.proofs.KeptTrees.{first_at, keeps_tree}
@@ -53,8 +54,8 @@ module _ (c : CircuitTree) where
   clear_at h (suc (suc (suc (suc (suc (suc (suc zero))))))) low high = h.legal
   clear_at h (suc (suc (suc (suc (suc (suc (suc (suc k)))))))) low high = absurd (omega arith)
 
--- what comes out with the same tree means the same
-pub keeps_fitted : {E : Type 0} → (c : Circuit) (r : Result Circuit E) → IfOk r (λ f. f ≡ c) → IfOk r (λ f. IsInferred (circuit_of c))
-    → IfOk r (λ f. Keeps 5 7 (circuit_meaning (circuit_of c)) (circuit_meaning (circuit_of f)))
-keeps_fitted c (Ok f) same clear = keeps_tree 5 7 (circuit_of c) (circuit_of f) (ap circuit_of same) (clear_at (circuit_of c) clear)
-keeps_fitted c (Err e) same clear = tt
+-- what comes out with the same tree is a stage of the same circuit
+pub keeps_fitted : {E : Type 0} → (t : Circuit) (r : Result Circuit E) → IfOk r (λ n. n ≡ t) → IfOk r (λ n. IsInferred (circuit_of t))
+    → IfOk r (Passes IsTreeOf IsTreeOf (IsClearOf 5 7) t)
+keeps_fitted t (Ok n) same clear = keeps_tree 5 7 t (Ok n) same (clear_at (circuit_of t) clear)
+keeps_fitted t (Err e) same clear = tt

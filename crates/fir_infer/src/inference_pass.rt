@@ -2,6 +2,8 @@
 
 ghost use Rattle.std.specs.Prelude.{◌≡◌};
 ghost use Rattle.fir_ast.specs.working.CodeFaults.{fault_of};
+ghost use Rattle.fir_pass.specs.Groups.{of_resets, of_widths};
+ghost use Rattle.fir_meaning.specs.working.Stages.{IsClearOf, IsFirstOf};
 
 use crate::inference::infer;
 use fir_ast::FirFault;
@@ -22,11 +24,9 @@ impl Pass for Infer {
 
     type Fault = (FirFault, Typed);
 
-    ghost from = { 5 };
+    ghost clear = { IsClearOf of_resets of_widths };
 
-    ghost upto = { 7 };
-
-    ghost told = { λ f. fault_of f.0 };
+    ghost reports = { λ c f. IsFirstOf of_resets of_widths c (fault_of f.0) };
 
     ghost hands_back = { λ x f. f.1 ≡ x };
 

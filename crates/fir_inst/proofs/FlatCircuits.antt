@@ -1,26 +1,20 @@
 -- The flat net of the first module of a circuit is the flat net of the circuit: the module has types, is driven, and is flat in it, whatever its scene.
-use Rattle.std.proofs.Common.{◌≡◌, ℕ, List, [], map, Some, slice_get, sym, subst}
-use Rattle.std.specs.Prelude.{IfOk, IsTrue, Result, Ok, Err}
-use Rattle.std.specs.List.{AllByRecursion}
-use Rattle.fir_base.proofs.Each.{all_mapped}
+use Rattle.std.proofs.Common.{◌≡◌, ℕ, List, [], Some, slice_get}
+use Rattle.std.specs.Prelude.{IfOk, Result, Ok, Err}
 use Rattle.fir_base.proofs.Elements.{get_in}
 use Rattle.fir_ast.specs.Circuits.{CircuitTree}
-use Rattle.fir_meaning.specs.working.LeafModules.{LeafDeclared}
-use Rattle.fir_meaning.specs.LeafPaths.{path_text}
 use Rattle.fir_meaning.specs.ModuleScenes.{Scene}
-use Rattle.fir_meaning.specs.working.LeafedModules.{leafed_module, module_leaves}
+use Rattle.fir_meaning.specs.working.LeafedModules.{leafed_module}
 use Rattle.fir_meaning.specs.working.NameGroups.{HasNames}
 use Rattle.fir_meaning.specs.working.Scenes.{HasScenes}
 use Rattle.fir_meaning.specs.Scenes.{IsSceneOf}
 use Rattle.fir_meaning.specs.SizedDeclarations.{numbered_modules}
 use Rattle.fir_meaning.specs.TypeGroup.{type_faults}
-use Rattle.ver_words.specs.Names.{is_word}
 use Rattle.fir_names.specs.working.ModuleOrder.{IsModuleOrder}
 use Rattle.fir_leaf_circuit.specs.declared.leaf_module.LeafModule.{LeafModule as ModuleOfCode}
 use Rattle.fir_leaf_circuit.specs.working.Leafed.{AreLeafed}
 use Rattle.fir_leaf_text.specs.working.TextsOfLeaves.{AreTextsOf}
 use Rattle.fir_net.specs.declared.net.FlatNet.{FlatNet}
-use Rattle.fir_net.specs.Paths.{base_name}
 use Rattle.fir_flat.specs.working.ModulesWithin.{ModulesAreWithin}
 use Rattle.fir_whens.specs.declared.module_net.ModuleNet.{ModuleNet}
 use Rattle.fir_whens.specs.working.ModuleFaults.{AreAllDriven}
@@ -30,7 +24,6 @@ use Rattle.fir_inst.specs.working.FlatModules.{FlattensModule, IsFlattened}
 use Rattle.fir_inst.specs.working.FlattensTo.{FlattensTo}
 use Rattle.fir_inst.specs.working.Laws.{IsModuleOf, LoneModulesFlatten}
 use Rattle.fir_inst.specs.working.LoneCircuits.{IsLone}
-use Rattle.fir_inst.specs.working.Words.{HasWords, IsWordLeaf, LeavesHaveWords}
 
 -- what is known of a circuit, and of the parts of its first module
 pub record IsHeld (c : CircuitTree) (names : List (List ℕ)) (part : ModuleOfCode) (module_net : ModuleNet) : Type 0 where
@@ -40,7 +33,6 @@ pub record IsHeld (c : CircuitTree) (names : List (List ℕ)) (part : ModuleOfCo
   pub typed : AreAllTyped c
   pub driven : AreAllDriven c
   pub lone : IsLone c
-  pub words : HasWords c
   pub texts : AreTextsOf c 0 names
   pub modules : List ModuleOfCode
   pub leafed : AreLeafed c modules
@@ -49,22 +41,16 @@ pub record IsHeld (c : CircuitTree) (names : List (List ℕ)) (part : ModuleOfCo
   pub are_nets : AreNets c nets
   pub is_net : slice_get nets 0 ≡ Some module_net
 
-module _ (c : CircuitTree) (names : List (List ℕ)) (part : ModuleOfCode) (module_net : ModuleNet) (held : IsHeld c names part module_net) (within : ModulesAreWithin)
-    (leaves_have_words : LeavesHaveWords) where
+module _ (c : CircuitTree) (names : List (List ℕ)) (part : ModuleOfCode) (module_net : ModuleNet) (held : IsHeld c names part module_net) (within : ModulesAreWithin) where
   flattened : (s : Scene) → IsSceneOf c 0 s → IsFlattened names part module_net (leafed_module s)
   flattened s scene =
-      let are_names : names ≡ map (λ (l : LeafDeclared). path_text l.path) (module_leaves s) = held.texts s scene in
-      let are_words : AllByRecursion IsWordLeaf (module_leaves s) = leaves_have_words c 0 s held.words held.named held.types scene in
       record {
         view = held.leafed.each 0 part s held.is_part scene;
         is_net = held.are_nets.each 0 module_net s held.is_net scene;
         typed = held.typed 0 s scene;
         within = within c s held.named held.types (get_in (numbered_modules c) 0 s.own scene.own);
         lone = held.lone.each s scene;
-        are_names = are_names;
-        words =
-            subst (λ ns. AllByRecursion (λ name. IsTrue (is_word (base_name name))) ns) (sym are_names)
-            (all_mapped (λ name. IsTrue (is_word (base_name name))) (λ (l : LeafDeclared). path_text l.path) (module_leaves s) are_words);
+        are_names = held.texts s scene;
       }
 
   pub flat_circuit : LoneModulesFlatten → (order : List ℕ) → IsModuleOrder c order → (flat : FlatNet) → FlattensModule names part module_net flat

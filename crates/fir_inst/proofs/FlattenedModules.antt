@@ -1,12 +1,11 @@
 -- A module alone is flattened: each leaf of the net is that of the module, and the net is whole.
 use Rattle.std.proofs.Common.{◌≡◌, ℕ, ◌<◌, ◌≤◌, List, [], ◌++◌, length, map, Bool, true, false, slice_get, Some, sym, ap, ◌∙◌, subst, arith}
-use Rattle.std.specs.Prelude.{IsTrue, nat_lt}
+use Rattle.std.specs.Prelude.{nat_lt}
 use Rattle.std.proofs.lemmas.Bool.{le-ltb, lt-ltb}
 use Rattle.std.proofs.lemmas.List.{length-map}
 use Rattle.std.proofs.lemmas.Option.{get_or_from_slice_get, slice_get_within}
-use Rattle.ver_words.specs.Names.{is_word}
 use Rattle.fir_base.proofs.Each.{all_from}
-use Rattle.fir_base.proofs.Elements.{all_there, number_of, there}
+use Rattle.fir_base.proofs.Elements.{number_of, there}
 use Rattle.fir_leaf.proofs.LeafPlaces.{get_mapped}
 use Rattle.fir_leaf.specs.working.NodeBlocks.{block_in}
 use Rattle.fir_driven.specs.working.Covering.{flag_at}
@@ -26,7 +25,6 @@ use Rattle.fir_connect.specs.working.NetRoles.{net_role, net_role_at, net_types}
 use Rattle.fir_connect.specs.working.NetTerms.{leaf}
 use Rattle.fir_drivers.proofs.QuietStatements.{quiet_all}
 use Rattle.fir_leaf_circuit.specs.working.LeafStores.{leaf_of_code}
-use Rattle.fir_net.specs.Paths.{base_name}
 use Rattle.fir_net.specs.declared.leaf.Leaf.{Leaf}
 use Rattle.fir_net.specs.declared.net.FlatNet.{FlatNet}
 use Rattle.fir_net.specs.declared.node.Node.{Node}
@@ -245,9 +243,6 @@ module _
         let p = placed x l at in
         let held = (leaf_is_seen x p.declared p.declared_at).held in
         record {
-          word =
-              subst (λ (k : Leaf). IsTrue (is_word (base_name k.path))) (sym p.is)
-              (all_there (λ name. IsTrue (is_word (base_name name))) names so.words x p.path p.path_at);
           narrow = is_narrow places (Outer x) (Flag x) p.count l p.role p.declared.holds (ap (λ (k : Leaf). k.width) p.is) (narrow_at x p.declared.holds (inside_at x l at) held);
           driven =
               subst (λ (k : Leaf). IsRole net.leaves net.nodes k.signed k.width k.role) (sym p.is)
@@ -255,12 +250,11 @@ module _
               (own_at x (inside_at x l at)) clocks);
         }
 
-    pub module_flat : IsTrue (is_word net.name) → IsFlatModule m net
-    module_flat word = record {
+    pub module_flat : IsFlatModule m net
+    module_flat = record {
       count = count;
       each = each;
       whole = record {
-        word = word;
         leaves =
             all_from (IsLeaf net.leaves net.nodes) net.leaves
             (λ l among. let n = number_of net.leaves l among in leaf_whole n.0 l n.1);

@@ -5,6 +5,7 @@ pub mod ExpressionWords
 pub mod MemoryWords
 pub mod ScopeWords
 pub mod LeafWords
+pub mod FlatWords
 pub mod LoneSources
 pub mod RisingLeaves
 pub mod LoneDesigns

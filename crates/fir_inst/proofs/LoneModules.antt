@@ -33,6 +33,7 @@ use Rattle.fir_inst.specs.working.FlattensTo.{FlattensTo}
 use Rattle.fir_inst.specs.working.Laws.{LoneModulesFlatten}
 use Rattle.fir_inst.specs.working.LoneCircuits.{HasNoInstance, HaveNoInstances}
 use Rattle.fir_inst.proofs.FlatLones.{IsLoneNet}
+use Rattle.fir_inst.proofs.FlatWords.{flat_words}
 use Rattle.fir_inst.proofs.LoneMeanings.{HasDesign, IsGiven, LawsBelow, has_design, means, net_of}
 use Rattle.fir_inst.proofs.LoneRoles.{shaped_writable}
 use Rattle.fir_inst.proofs.LoneSources.{has_scene, is_first}
@@ -96,6 +97,7 @@ module _ (laws : LawsBelow) (trees : HasOneTree) (taking : SameRegistersTakeValu
       let whole = whole_by s.scenes s.main s.has in
       record {
         whole = whole;
+        words = flat_words laws.follow c s.main net given.names given.types h.first.scene (given.of.flat s.main h.first.scene) named;
         writable = writable_by (flattened h.design) (leafed_module s.main).port_leaves lone;
         named = named;
         source = tree.0;

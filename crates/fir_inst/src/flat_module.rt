@@ -1,7 +1,6 @@
 //! A module alone as a flat net.
 
-ghost use Rattle.std.specs.Prelude.{◌≡◌, IfOk, IsTrue};
-ghost use Rattle.ver_words.specs.Names.{is_word};
+ghost use Rattle.std.specs.Prelude.{◌≡◌, IfOk};
 ghost use Rattle.fir_inst.specs.working.FlatModules.{FlattensModule};
 
 use crate::flat_leaves::flat_leaves;
@@ -22,7 +21,6 @@ pub fn flat_module(
     part: &LeafModule,
     net: &ModuleNet,
 ) -> Result<FlatNet, MemoryOut>
-    requires { IsTrue (is_word name) }
     ensures flat { IfOk result (FlattensModule names.items part.now net.now) }
     ensures named { IfOk result (λ flat. flat.name ≡ name) }
 {

@@ -4,14 +4,13 @@ ghost use Rattle.std.specs.Prelude.{◌≡◌, IfOk};
 ghost use Rattle.fir_ast.specs.working.Views.{circuit_of};
 ghost use Rattle.fir_ast.specs.working.CodeFaults.{fault_of};
 ghost use Rattle.fir_pass.specs.working.Law.{IfFault};
-ghost use Rattle.fir_pass.specs.Law.{IsFirst};
-ghost use Rattle.fir_meaning.specs.SourceMeaning.{circuit_meaning};
+ghost use Rattle.fir_pass.specs.Groups.{of_clocks, of_inits};
+ghost use Rattle.fir_meaning.specs.working.Stages.{IsFirstOf};
 ghost use Rattle.fir_inst.specs.working.FlattensTo.{FlattensTo};
 ghost use Rattle.fir_inst.specs.working.LoneCircuits.{IsLone};
-ghost use Rattle.fir_inst.specs.working.Words.{HasWords};
 
 use crate::flat_module::flat_module;
-use crate::laws::{leaves_have_words, lone_modules_flatten};
+use crate::laws::lone_modules_flatten;
 use fir_ast::FirFault;
 use fir_base::{MemoryOut, Refused};
 use fir_flat::modules_are_within;
@@ -26,10 +25,9 @@ pub fn flatten(
     alloc: Global,
     circuit: NetCircuit,
 ) -> Result<FlatNet, Refused<(FirFault, NetCircuit)>>
-    requires lone { IsLone (circuit_of circuit) }
-    requires words { HasWords (circuit_of circuit) }
+    requires { IsLone (circuit_of circuit) }
     ensures flat { IfOk result (FlattensTo (circuit_of circuit)) }
-    ensures fault { IfFault result (λ f. IsFirst 10 12 (circuit_meaning (circuit_of circuit)) (fault_of f.0)) }
+    ensures fault { IfFault result (λ f. IsFirstOf of_clocks of_inits (circuit_of circuit) (fault_of f.0)) }
     ensures back { IfFault result (λ f. f.1 ≡ circuit) }
 {
     Ok(flat_net(alloc, &circuit)?)
@@ -37,12 +35,10 @@ pub fn flatten(
 
 /// The flat net of the first module.
 fn flat_net(alloc: Global, circuit: &NetCircuit) -> Result<FlatNet, MemoryOut>
-    requires lone { IsLone (circuit_of circuit.now) }
-    requires words { HasWords (circuit_of circuit.now) }
+    requires { IsLone (circuit_of circuit.now) }
     ensures { IfOk result (FlattensTo (circuit_of circuit.now)) }
 {
     lone_modules_flatten();
-    leaves_have_words();
     modules_are_within();
     let leafed = circuit.leafed();
     modules_are_typed(leafed);

@@ -1,6 +1,5 @@
 //! Laws about the definitions, each the contract of a function that does nothing.
 
-ghost use Rattle.fir_inst.specs.working.Words.{LeavesHaveWords};
 ghost use Rattle.fir_inst.specs.working.Laws.{LoneModulesFlatten};
 
 use fir_design::{
@@ -32,13 +31,5 @@ pub fn lone_modules_flatten()
     lone_loops_stand_by_path();
     flat_nets_show_the_same_loops();
     flat_nets_hide_no_loop();
-    leaves_follow_types();
-}
-
-/// Where the names of a circuit can be written in Verilog, so can those of the leaves of its modules, which are made
-/// from their paths (FIRRTL spec, "Details about Syntax").
-pub fn leaves_have_words()
-    ensures { LeavesHaveWords }
-{
     leaves_follow_types();
 }

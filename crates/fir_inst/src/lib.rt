@@ -13,4 +13,4 @@ mod kept_nodes;
 mod laws;
 
 pub use flattened::flatten;
-pub use laws::{leaves_have_words, lone_modules_flatten};
+pub use laws::lone_modules_flatten;

@@ -51,10 +51,9 @@ impl Model for LeafCircuit {
 }
 
 impl Meant for LeafCircuit {
-    ghost use Rattle.fir_ast.specs.working.Views.{circuit_of};
-    ghost use Rattle.fir_meaning.specs.SourceMeaning.{circuit_meaning};
+    ghost use Rattle.fir_meaning.specs.working.Stages.{IsTreeOf};
 
-    ghost meaning = { λ l. circuit_meaning (circuit_of l) };
+    ghost is_of = { IsTreeOf };
 }
 
 impl LeafCircuit {

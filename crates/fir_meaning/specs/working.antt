@@ -3,6 +3,8 @@ pub mod Values
 pub mod NameGroups
 pub mod WidthGroups
 pub mod Scenes
+-- The stages of a circuit that have its tree.
+pub mod Stages
 -- What the statements of a module's tree store, by paths.
 pub mod TreeValues
 pub mod TreeStores

@@ -54,10 +54,9 @@ impl Model for Named {
 }
 
 impl Meant for Named {
-    ghost use Rattle.fir_ast.specs.working.Views.{circuit_of};
-    ghost use Rattle.fir_meaning.specs.SourceMeaning.{circuit_meaning};
+    ghost use Rattle.fir_meaning.specs.working.Stages.{IsTreeOf};
 
-    ghost meaning = { λ n. circuit_meaning (circuit_of n) };
+    ghost is_of = { IsTreeOf };
 }
 
 impl Named {

@@ -8,6 +8,7 @@ pub mod Dependence
 pub mod IsOrder
 pub mod HasHeights
 pub mod IsNet
+pub mod WordNames
 pub mod IsWritable
 pub mod Counted
 pub mod Laws

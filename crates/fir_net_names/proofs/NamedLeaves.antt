@@ -17,6 +17,7 @@ use Rattle.ver_words.specs.Reserved.{is_reserved}
 use Rattle.fir_net.specs.declared.leaf.Leaf.{Leaf}
 use Rattle.fir_net_names.specs.Names.{is_free, IsFirstFree, IsNameFor}
 use Rattle.fir_net.specs.Paths.{base_name}
+use Rattle.fir_net.specs.working.WordNames.{AreWordLeaves}
 use Rattle.fir_net_names.specs.working.LeafNamed.{somes, with_some, has_name, AreLeafNames}
 use Rattle.fir_net_names.specs.working.NameSets.{Holds, TakesName}
 use Rattle.fir_net_names.proofs.HeldNames.{among_last, holds_none, holds_first, holds_same}
@@ -104,7 +105,7 @@ leaves_distinct taken (l ∷ leaves) (None ∷ names) h = leaves_distinct taken 
 leaves_distinct taken (l ∷ leaves) (Some name ∷ names) h =
     (λ m. both_ways (bytes_eq name name) (or_parts (bytes_eq name name) (is_among taken name) (leaves_new (name ∷ taken) leaves names h.1 name m)).0 ((bytes_eq-Decides name name).1 refl), leaves_distinct (name ∷ taken) leaves names h.1)
 
-pub leaves_spelled : (taken : List (List ℕ)) (leaves : List Leaf) (names : List (Option (List ℕ))) → AllByRecursion (λ l. IsTrue (is_word (base_name l.path))) leaves → AreLeafNames taken leaves names → AllByRecursion IsName (somes names)
+pub leaves_spelled : (taken : List (List ℕ)) (leaves : List Leaf) (names : List (Option (List ℕ))) → AreWordLeaves leaves → AreLeafNames taken leaves names → AllByRecursion IsName (somes names)
 leaves_spelled taken [] [] w h = tt
 leaves_spelled taken [] (name ∷ names) w h = absurd h
 leaves_spelled taken (l ∷ leaves) [] w h = absurd h

@@ -1,5 +1,4 @@
--- What no clause of `run` reads: the fault of one of two passes, and the trees of the tests.
+-- What no clause of `run` reads: what a pass keeps, and the fault of one of two passes.
 pub mod Groups
 pub mod Law
 pub mod Either
-pub mod Sketches

@@ -1,17 +1,17 @@
-//! A tree with a meaning, and a pass that keeps it.
+//! A stage of a circuit, and a pass from one stage to the next.
 
-ghost use Rattle.std.specs.Prelude.{ℕ, IfOk};
-ghost use Rattle.fir_ast.specs.Faults.{Fault};
-ghost use Rattle.fir_pass.specs.Meaning.{Meaning};
-ghost use Rattle.fir_pass.specs.working.Law.{Keeps, IfFault};
-ghost use Rattle.fir_pass.specs.Law.{IsFirst};
+ghost use Rattle.std.specs.Prelude.{IfOk};
+ghost use Rattle.fir_ast.specs.Circuits.{CircuitTree};
+ghost use Rattle.fir_pass.specs.working.Law.{IfFault, Passes, Reports};
 
 use fir_base::Refused;
 use std::alloc::Global;
 
-/// A tree with a meaning: what it allows at each tick, which faults stand in it, its shape and counts.
+/// A stage on the way of a circuit.
 pub trait Meant {
-    ghost meaning: { Self → Meaning };
+    /// Whether it is a stage of that circuit: then it has all that the circuit means and that later passes read, which is
+    /// what it allows at each tick, whether that is settled in one way, its faults, its shape with its names, and its counts.
+    ghost is_of: { CircuitTree → Self → Type 0 };
 }
 
 /// A step on the way of a circuit.
@@ -23,20 +23,18 @@ pub trait Pass {
     /// A fault, and what the pass was given.
     type Fault;
 
-    /// The first and the last of the groups of faults that it looks for.
-    ghost from: { ℕ };
+    /// That none of the faults that it looks for stands in the circuit.
+    ghost clear: { CircuitTree → Type 0 };
 
-    ghost upto: { ℕ };
-
-    /// The fault that is told.
-    ghost told: { Self.Fault → Fault };
+    /// That this fault of the circuit is reported, where none stands of those that earlier passes look for.
+    ghost reports: { CircuitTree → Self.Fault → Type 0 };
 
     /// What it was given comes back with the fault, unchanged.
     ghost hands_back: { Self.In → Self.Fault → Type 0 };
 
-    /// Takes a tree to the next stage, or tells its first fault of the groups.
+    /// Takes a circuit to the next stage, or reports its first fault of those that the pass looks for.
     fn run(&self, alloc: Global, x: Self::In) -> Result<Self::Out, Refused<Self::Fault>>
-        ensures ok { IfOk result (λ y. Keeps from upto (Self.In.meaning x) (Self.Out.meaning y)) }
-        ensures fault { IfFault result (λ f. IsFirst from upto (Self.In.meaning x) (told f)) }
+        ensures ok { IfOk result (Passes Self.In.is_of Self.Out.is_of clear x) }
+        ensures fault { IfFault result (Reports Self.In.is_of reports x) }
         ensures back { IfFault result (λ f. hands_back x f) };
 }

@@ -15,12 +15,13 @@ use Rattle.fir_ast.specs.Faults.{Fault as ToldFault}
 use Rattle.fir_ast.specs.working.CodeFaults.{fault_of}
 use Rattle.fir_pass.specs.Groups.{group_of, first_of, IsClear}
 use Rattle.fir_pass.specs.Law.{IsFirst}
-use Rattle.fir_pass.specs.working.Law.{Keeps}
+use Rattle.fir_pass.specs.working.Law.{Passes}
 use Rattle.fir_meaning.specs.Components.{Declaration, find, find_name}
 use Rattle.fir_meaning.specs.Mentions.{Mention, declares, uses, instantiates, circuit_mentions, module_names}
 use Rattle.fir_meaning.specs.NameGroups.{second_faults, hidden_faults, missing_faults, mention_faults, faults_in, absent_faults, no_main_faults, IsRecursive, name_group}
 use Rattle.fir_meaning.specs.working.NameGroups.{HasNames}
 use Rattle.fir_meaning.specs.SourceMeaning.{circuit_meaning}
+use Rattle.fir_meaning.specs.working.Stages.{IsClearOf, IsTreeOf}
 use Rattle.fir_meaning.proofs.KeptTrees.{first_in, none_clear, first_at, keeps_tree}
 use Rattle.fir_names.specs.declared.names.Names.{Names}
 use Rattle.fir_names.specs.working.Judged.{JudgesModules}
@@ -124,8 +125,8 @@ module _ (c : CircuitTree) where
   pub names_clear : (ok : faults_in (circuit_mentions c) ≡ []) → IsClear (name_group c)
   names_clear ok = none_clear (faults_in (circuit_mentions c)) ok
 
--- what comes out with the same tree means the same
-pub keeps_resolved : {E : Type 0} → (c : Circuit) (r : Result Circuit E) → IfOk r (λ n. n ≡ c) → IfOk r (λ n. HasNames (circuit_of c))
-    → IfOk r (λ n. Keeps 1 3 (circuit_meaning (circuit_of c)) (circuit_meaning (circuit_of n)))
-keeps_resolved c (Ok n) same named = keeps_tree 1 3 (circuit_of c) (circuit_of n) (ap circuit_of same) (clear_at (circuit_of c) named)
-keeps_resolved c (Err e) same named = tt
+-- what comes out with the same tree is a stage of the same circuit
+pub keeps_resolved : {E : Type 0} → (t : Circuit) (r : Result Circuit E) → IfOk r (λ n. n ≡ t) → IfOk r (λ n. HasNames (circuit_of t))
+    → IfOk r (Passes IsTreeOf IsTreeOf (IsClearOf 1 3) t)
+keeps_resolved t (Ok n) same clear = keeps_tree 1 3 t (Ok n) same (clear_at (circuit_of t) clear)
+keeps_resolved t (Err e) same clear = tt

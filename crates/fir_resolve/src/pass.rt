@@ -2,6 +2,8 @@
 
 ghost use Rattle.std.specs.Prelude.{◌≡◌};
 ghost use Rattle.fir_ast.specs.working.CodeFaults.{fault_of};
+ghost use Rattle.fir_pass.specs.Groups.{of_hierarchy, of_names};
+ghost use Rattle.fir_meaning.specs.working.Stages.{IsClearOf, IsFirstOf};
 
 use crate::circuit_names::resolve;
 use fir_ast::{Circuit, FirFault};
@@ -17,10 +19,9 @@ pub struct Parsed {
 }
 
 impl Meant for Parsed {
-    ghost use Rattle.fir_ast.specs.working.Views.{circuit_of};
-    ghost use Rattle.fir_meaning.specs.SourceMeaning.{circuit_meaning};
+    ghost use Rattle.fir_meaning.specs.working.Stages.{IsTreeOf};
 
-    ghost meaning = { λ p. circuit_meaning (circuit_of p.circuit) };
+    ghost is_of = { λ c p. IsTreeOf c p.circuit };
 }
 
 /// Resolves names: the faults of the first three groups, E08 to E11.
@@ -34,11 +35,9 @@ impl Pass for Resolve {
 
     type Fault = (FirFault, Circuit);
 
-    ghost from = { 1 };
+    ghost clear = { IsClearOf of_names of_hierarchy };
 
-    ghost upto = { 3 };
-
-    ghost told = { λ f. fault_of f.0 };
+    ghost reports = { λ c f. IsFirstOf of_names of_hierarchy c (fault_of f.0) };
 
     ghost hands_back = { λ x f. f.1 ≡ x.circuit };
 

@@ -1,5 +1,5 @@
 -- What is made of a net's leaves is a shape, and it is the shape of the net's states and ticks.
-use Rattle.std.proofs.Common.{◌≡◌, ℕ, ◌≤◌, List, [], ◌∷◌, ◌++◌, Bool, true, false, IsTrue, map, refl, sym, ap₂, ◌∙◌, subst, arith, Option, Some, None}
+use Rattle.std.proofs.Common.{◌≡◌, ℕ, ◌≤◌, List, [], ◌∷◌, ◌++◌, Bool, true, false, map, refl, sym, ap₂, ◌∙◌, subst, arith, Option, Some, None}
 use Rattle.std.specs.Prelude.{not, ◌&&◌, flat_map, nat_eq, count_by, sum_by, replicate}
 use Rattle.std.specs.List.{AllByRecursion}
 use Rattle.std.proofs.lemmas.Bool.{eqb-false}
@@ -8,7 +8,7 @@ use Rattle.std.proofs.lemmas.List.Concat.{flat_map-append}
 use Rattle.std.proofs.lemmas.List.Sums.{sum_by-cons}
 use Rattle.fir_base.specs.Ticks.{Shape}
 use Rattle.fir_base.specs.Lists.{Distinct}
-use Rattle.ver_words.specs.Names.{is_word, IsName}
+use Rattle.ver_words.specs.Names.{IsName}
 use Rattle.fir_net.specs.declared.leaf.Role.{Role}
 use Rattle.fir_net.specs.declared.leaf.Role.TheVariants as role
 use Rattle.fir_net.specs.declared.leaf.Leaf.{Leaf}
@@ -189,8 +189,3 @@ module _ (net : FlatNet) (table : NameTable) where
         ports = before.ports;
         names = before.is;
       }
-
--- the words of leaves, as the table of names wants them
-pub leaf_words : (leaves : List Leaf) (nodes : List Node) (ls : List Leaf) → AllByRecursion (IsLeaf leaves nodes) ls → AllByRecursion (λ l. IsTrue (is_word (base_name l.path))) ls
-leaf_words leaves nodes [] are = tt
-leaf_words leaves nodes (l ∷ ls) are = (are.0.word, leaf_words leaves nodes ls are.1)

@@ -3,6 +3,7 @@
 ghost use Rattle.std.specs.Prelude.{◌≡◌, ◌++◌, IfOk, OnOk, option_map, count_by};
 ghost use Rattle.std.specs.Option.{option_to_list};
 ghost use Rattle.fir_net.specs.working.IsNet.{IsNet};
+ghost use Rattle.fir_net.specs.working.WordNames.{HasWordNames};
 ghost use Rattle.fir_tick.specs.working.Shapes.{IsShapeOf};
 ghost use Rattle.fir_tick.specs.working.StateWords.{input_width, input_widths, is_clock, state_word, state_words};
 
@@ -16,7 +17,8 @@ use trace_text::{Shape, StateWord};
 /// The shape of the traces of a net: its inputs and clocks in port order, and its registers, which are the
 /// words of the state, under their names in the emitted text. Only memory can be wanting.
 pub fn shape(alloc: Global, net: &FlatNet) -> Result<Shape, MemoryOut>
-    requires { IsNet net.now }
+    requires whole { IsNet net.now }
+    requires words { HasWordNames net.now }
     ensures { IfOk result (λ s. IsShapeOf net.now s) }
 {
     let table = names(alloc, net)?;

@@ -53,10 +53,9 @@ impl Model for Typed {
 }
 
 impl Meant for Typed {
-    ghost use Rattle.fir_ast.specs.working.Views.{circuit_of};
-    ghost use Rattle.fir_meaning.specs.SourceMeaning.{circuit_meaning};
+    ghost use Rattle.fir_meaning.specs.working.Stages.{IsTreeOf};
 
-    ghost meaning = { λ t. circuit_meaning (circuit_of t) };
+    ghost is_of = { IsTreeOf };
 }
 
 impl Typed {

@@ -4,8 +4,9 @@ use Rattle.fir_ast.specs.declared.circuit.Circuit.{Circuit}
 use Rattle.fir_ast.specs.Circuits.{CircuitTree}
 use Rattle.fir_ast.specs.working.Views.{circuit_of}
 use Rattle.fir_pass.specs.Groups.{IsClear}
-use Rattle.fir_pass.specs.working.Law.{Keeps}
+use Rattle.fir_pass.specs.working.Law.{Passes}
 use Rattle.fir_meaning.specs.SourceMeaning.{circuit_meaning}
+use Rattle.fir_meaning.specs.working.Stages.{IsClearOf, IsTreeOf}
 use Rattle.fir_meaning.specs.SourceUndrivenGroup.{undriven_group}
 use Rattle.fir_meaning.proofs.KeptTrees.{keeps_tree}
 
@@ -13,7 +14,8 @@ clear_at : (c : CircuitTree) → IsClear (undriven_group c) → (k : ℕ) → 9 
 unfolding circuit_meaning
 clear_at c h k low high = let e : 9 ≡ k = omega (arith, low, high) in subst (λ (j : ℕ). IsClear ((circuit_meaning c).group j)) e h
 
-pub keeps_lowered : {E : Type 0} → (c : Circuit) (r : Result Circuit E) → IfOk r (λ n. n ≡ c) → IfOk r (λ n. IsClear (undriven_group (circuit_of c)))
-    → IfOk r (λ n. Keeps 9 9 (circuit_meaning (circuit_of c)) (circuit_meaning (circuit_of n)))
-keeps_lowered c (Ok n) same clear = keeps_tree 9 9 (circuit_of c) (circuit_of n) (ap circuit_of same) (clear_at (circuit_of c) clear)
-keeps_lowered c (Err e) same clear = tt
+-- what comes out with the same tree is a stage of the same circuit
+pub keeps_lowered : {E : Type 0} → (t : Circuit) (r : Result Circuit E) → IfOk r (λ n. n ≡ t) → IfOk r (λ n. IsClear (undriven_group (circuit_of t)))
+    → IfOk r (Passes IsTreeOf IsTreeOf (IsClearOf 9 9) t)
+keeps_lowered t (Ok n) same clear = keeps_tree 9 9 t (Ok n) same (clear_at (circuit_of t) clear)
+keeps_lowered t (Err e) same clear = tt

@@ -2,6 +2,8 @@
 
 ghost use Rattle.std.specs.Prelude.{◌≡◌};
 ghost use Rattle.fir_ast.specs.working.CodeFaults.{fault_of};
+ghost use Rattle.fir_pass.specs.Groups.{of_drivers};
+ghost use Rattle.fir_meaning.specs.working.Stages.{IsClearOf, IsFirstOf};
 
 use crate::lowered::lower_whens;
 use crate::net_circuit::NetCircuit;
@@ -12,10 +14,9 @@ use fir_pass::{Meant, Pass};
 use std::alloc::Global;
 
 impl Meant for NetCircuit {
-    ghost use Rattle.fir_ast.specs.working.Views.{circuit_of};
-    ghost use Rattle.fir_meaning.specs.SourceMeaning.{circuit_meaning};
+    ghost use Rattle.fir_meaning.specs.working.Stages.{IsTreeOf};
 
-    ghost meaning = { λ n. circuit_meaning (circuit_of n) };
+    ghost is_of = { IsTreeOf };
 }
 
 /// Puts nets in the place of statements: the fault of the ninth group, E24.
@@ -29,11 +30,9 @@ impl Pass for LowerWhens {
 
     type Fault = (FirFault, LeafCircuit);
 
-    ghost from = { 9 };
+    ghost clear = { IsClearOf of_drivers of_drivers };
 
-    ghost upto = { 9 };
-
-    ghost told = { λ f. fault_of f.0 };
+    ghost reports = { λ c f. IsFirstOf of_drivers of_drivers c (fault_of f.0) };
 
     ghost hands_back = { λ x f. f.1 ≡ x };
 

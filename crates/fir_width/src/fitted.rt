@@ -54,10 +54,9 @@ impl Model for Fitted {
 }
 
 impl Meant for Fitted {
-    ghost use Rattle.fir_ast.specs.working.Views.{circuit_of};
-    ghost use Rattle.fir_meaning.specs.SourceMeaning.{circuit_meaning};
+    ghost use Rattle.fir_meaning.specs.working.Stages.{IsTreeOf};
 
-    ghost meaning = { λ f. circuit_meaning (circuit_of f) };
+    ghost is_of = { IsTreeOf };
 }
 
 impl Fitted {

@@ -2,6 +2,7 @@
 
 ghost use Rattle.std.specs.Prelude.{◌≡◌, IfOk};
 ghost use Rattle.fir_net.specs.working.IsNet.{IsNet};
+ghost use Rattle.fir_net.specs.working.WordNames.{HasWordNames};
 ghost use Rattle.fir_net.specs.working.IsOrder.{IsOrder};
 ghost use Rattle.fir_net.specs.working.IsWritable.{IsWritable};
 ghost use Rattle.ver_build.specs.working.Built.{built};
@@ -68,6 +69,7 @@ fn items_of(
 #[tactic(auto, using(crate::proofs::Means::builds))]
 pub fn build(alloc: Global, net: &FlatNet, order: &Order) -> Result<Verilog, MemoryOut>
     requires whole { IsNet net.now }
+    requires words { HasWordNames net.now }
     requires writable { IsWritable net.now }
     requires ordered { IsOrder net.now order.now }
     ensures { IfOk result (λ v. Builds net.now v) }

@@ -1,48 +1,26 @@
 -- What comes of a text.
-use Rattle.std.specs.Prelude.{◌≡◌, ℕ, List, ◌⊎◌, Result, Ok, Err}
+use Rattle.std.specs.Prelude.{ℕ, List, Result, Ok, Err}
 use Rattle.fir_base.specs.declared.refused.Refused.{Refused}
 use Rattle.fir_base.specs.declared.refused.Refused.TheVariants as refused
 use Rattle.fir_ast.specs.declared.fault.FirFault.{FirFault}
 use Rattle.fir_ast.specs.working.CodeFaults.{fault_of}
-use Rattle.fir_ast.specs.declared.fault.FirFault.TheVariants.{Unsupported}
 use Rattle.fir_ast.specs.declared.circuit.Circuit.{Circuit}
 use Rattle.fir_ast.specs.Circuits.{CircuitTree}
 use Rattle.fir_ast.specs.working.Views.{circuit_of}
 use Rattle.fir_parse.specs.Spells.{Spells}
 use Rattle.fir_parse.specs.TextFaults.{TextFault}
-use Rattle.fir_meaning.specs.Lack.{Lack}
 use Rattle.fir_net.specs.declared.net.FlatNet.{FlatNet}
 use Rattle.fir_net.specs.working.One.{One}
-use Rattle.fir_loop.specs.working.IsLoop.{ShowsLoop}
-use Rattle.fir_loop.specs.working.Orders.{IsOrdered}
 use Rattle.fir_inst.specs.working.FlattensTo.{FlattensTo}
 use Rattle.fir_compile.specs.declared.compiled.Compiled.{Compiled}
-use Rattle.fir_outcome.specs.CircuitFaults.{IsClearUpTo}
 use Rattle.fir_outcome.specs.Emits.{Emits, Takes}
-use Rattle.fir_outcome.specs.Refusals.{RefusedFor, ShowsFault}
+use Rattle.fir_outcome.specs.Refusals.{RefusedFor}
 
 -- the tree that the text spells, or its fault, unless memory ran out
 abbrev pub IsTree : List ℕ → Result Circuit (Refused FirFault) → Type 0
 IsTree bytes (Ok t) = Spells bytes (circuit_of t)
 IsTree bytes (Err (refused.Fault f)) = TextFault bytes (fault_of f)
 IsTree bytes (Err refused.Memory) = Unit {0}
-
--- the fault of a form that is lacking, unless memory ran out
-abbrev pub IsUnsupported : Lack → Refused FirFault → Type 0
-IsUnsupported l (refused.Fault f) = f ≡ Unsupported l.place l.word
-IsUnsupported l refused.Memory = Unit {0}
-
--- the tree that the text spells, in which no fault stands of the groups up to the last that was looked for; or the fault for which it is refused
-abbrev pub IsCheckedTree : ℕ → List ℕ → Result Circuit (Refused FirFault) → Type 0
-IsCheckedTree last bytes (Ok t) = Spells bytes (circuit_of t) × IsClearUpTo last (circuit_of t)
-IsCheckedTree last bytes (Err (refused.Fault f)) = TextFault bytes (fault_of f) ⊎ ShowsFault bytes (fault_of f)
-IsCheckedTree last bytes (Err refused.Memory) = Unit {0}
-
--- a whole net with an order, or a closed walk of dependence in it
-abbrev pub OrdersNet : FlatNet → Result Compiled (Refused FirFault) → Type 0
-OrdersNet net (Ok compiled) = (compiled.net ≡ net) × IsOrdered net compiled.order
-OrdersNet net (Err (refused.Fault f)) = ShowsLoop net f
-OrdersNet net (Err refused.Memory) = Unit {0}
 
 -- the net is the flat net of a circuit that the text spells and that is taken, and has one choice of values at every tick
 pub record CompilesText (bytes : List ℕ) (net : FlatNet) : Type 0 where

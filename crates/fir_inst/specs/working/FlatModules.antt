@@ -1,10 +1,8 @@
 -- A module alone as a flat net: each leaf has its path, its place, its type and its role, leaves of ports stand as ports, and the net is whole.
-use Rattle.std.specs.Prelude.{◌≡◌, ℕ, ◌<◌, ◌≤◌, List, length, map, Bool, true, false, IsTrue, Option, Some, None, slice_get}
-use Rattle.std.specs.List.{AllByRecursion}
+use Rattle.std.specs.Prelude.{◌≡◌, ℕ, ◌<◌, ◌≤◌, List, length, map, Bool, true, false, Option, Some, None, slice_get}
 use Rattle.fir_meaning.specs.working.LeafModules.{LeafDeclared, LeafModule, leaf_at}
 use Rattle.fir_meaning.specs.LeafTypes.{LeafType, a_clock, number}
 use Rattle.fir_meaning.specs.LeafPaths.{path_text}
-use Rattle.ver_words.specs.Names.{is_word}
 use Rattle.fir_leaf_circuit.specs.declared.leaf_module.LeafModule.{LeafModule as ModuleOfCode}
 use Rattle.fir_leaf_circuit.specs.working.Seen.{HasView}
 use Rattle.fir_leaf_types.specs.working.TypedModules.{IsModuleTyped, held_in}
@@ -15,7 +13,6 @@ use Rattle.fir_net.specs.declared.leaf.Role.TheVariants as role
 use Rattle.fir_net.specs.declared.net.FlatNet.{FlatNet}
 use Rattle.fir_net.specs.declared.reads.Read.{Read}
 use Rattle.fir_net.specs.working.IsNet.{IsNet, is_port}
-use Rattle.fir_net.specs.Paths.{base_name}
 use Rattle.fir_flat.specs.working.FlatCircuits.{IsRoleOf}
 use Rattle.fir_flat.specs.working.WholeRoles.{IsModuleWithin}
 use Rattle.fir_whens.specs.declared.module_net.ModuleNet.{ModuleNet}
@@ -52,7 +49,7 @@ pub record IsFlatModule (m : LeafModule) (net : FlatNet) : Type 0 where
   pub whole : IsNet net
 
 -- so it is for each module that the code's module and net stand for, which has types, speaks of its own leaves, and is flattened so far; the names are the texts of
--- the paths of its leaves, and can be written
+-- the paths of its leaves
 pub record IsFlattened (names : List (List ℕ)) (part : ModuleOfCode) (module_net : ModuleNet) (m : LeafModule) : Type 0 where
   pub view : HasView part m
   pub is_net : IsNetOf m module_net
@@ -60,7 +57,6 @@ pub record IsFlattened (names : List (List ℕ)) (part : ModuleOfCode) (module_n
   pub within : IsModuleWithin m
   pub lone : IsLoneModule m
   pub are_names : names ≡ map (λ (l : LeafDeclared). path_text l.path) m.leaves
-  pub words : AllByRecursion (λ name. IsTrue (is_word (base_name name))) names
 
 abbrev pub FlattensModule : List (List ℕ) → ModuleOfCode → ModuleNet → FlatNet → Type 0
 FlattensModule names part net flat = (m : LeafModule) → IsFlattened names part net m → IsFlatModule m flat

@@ -23,10 +23,12 @@ use Rattle.fir_net.specs.working.Allows.{Allows as NetAllows}
 use Rattle.fir_net.specs.working.IsNet.{IsNet}
 use Rattle.fir_net.specs.working.IsWritable.{IsWritable}
 use Rattle.fir_net.specs.working.One.{One as NetOne}
+use Rattle.fir_net.specs.working.WordNames.{HasWordNames}
 use Rattle.fir_net.specs.working.Settled.{outputs as net_outputs, shape as net_shape}
 use Rattle.fir_net.specs.working.Values.{leaf_width}
 use Rattle.fir_loop.specs.working.IsLoop.{IsLoop, ShowsLoop}
 use Rattle.fir_inst.specs.SourceRows.{source_array_rows, source_rows, source_words}
+use Rattle.fir_inst.specs.working.Words.{HasWords}
 use Rattle.fir_inst.specs.working.TakenRegisters.{IsClocked, taken_words}
 
 -- the widths of the outputs, in their order
@@ -46,6 +48,8 @@ pub record MeansSource (t : SourceDesign) (net : FlatNet) : Type 0 where
 
 pub record FlattensTo (c : CircuitTree) (net : FlatNet) : Type 0 where
   pub whole : IsNet net
+  -- its names can be written where those of the circuit can
+  pub words : HasWords c → HasWordNames net
   pub writable : IsWritable net
   pub named : net.name ≡ c.named.name
   pub source : SourceDesign

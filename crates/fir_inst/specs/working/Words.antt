@@ -1,20 +1,12 @@
 -- A circuit whose names can be written in Verilog: its own and those that it declares are words, and the names of fields have the bytes of words (FIRRTL spec,
 -- "Details about Syntax").
-use Rattle.std.specs.Prelude.{◌≡◌, ℕ, List, [], IsTrue}
+use Rattle.std.specs.Prelude.{List, IsTrue}
 use Rattle.std.specs.List.{AllByRecursion, list_all}
 use Rattle.fir_base.specs.Bytes.{is_word_byte}
 use Rattle.ver_words.specs.Names.{is_word}
 use Rattle.fir_ast.specs.Types.{DataType, Fields, bundle, field, no_fields, vector}
 use Rattle.fir_ast.specs.Statements.{PlacedName, Statement, MemoryPart, data_type, reader, writer, readwriter, wire, register, node, instance, memory, when, Block, done, then}
 use Rattle.fir_ast.specs.Circuits.{CircuitTree, ModuleTree}
-use Rattle.fir_meaning.specs.working.LeafModules.{LeafDeclared}
-use Rattle.fir_meaning.specs.LeafPaths.{path_text}
-use Rattle.fir_meaning.specs.ModuleScenes.{Scene}
-use Rattle.fir_meaning.specs.working.LeafedModules.{module_leaves}
-use Rattle.fir_meaning.specs.working.NameGroups.{HasNames}
-use Rattle.fir_meaning.specs.Scenes.{IsSceneOf}
-use Rattle.fir_meaning.specs.TypeGroup.{type_faults}
-use Rattle.fir_net.specs.Paths.{base_name}
 
 abbrev mutual
   pub TypeHasWords : DataType → Type 0
@@ -58,13 +50,3 @@ pub record ModuleHasWords (m : ModuleTree) : Type 0 where
 pub record HasWords (c : CircuitTree) : Type 0 where
   pub own : IsTrue (is_word c.named.name)
   pub modules : AllByRecursion ModuleHasWords c.modules
-
--- the name of a leaf can be written
-abbrev pub IsWordLeaf : LeafDeclared → Type 0
-IsWordLeaf l = IsTrue (is_word (base_name (path_text l.path)))
-
--- so it is for all leaves of a module, where no fault of names or types stands
-abbrev pub LeavesHaveWords : Type 0
-LeavesHaveWords =
-    (c : CircuitTree) (module_number : ℕ) (s : Scene) → HasWords c → HasNames c → type_faults c ≡ [] → IsSceneOf c module_number s
-    → AllByRecursion IsWordLeaf (module_leaves s)

@@ -1,16 +1,14 @@
 -- Which nets are whole.
 -- Each node reads leaves and nodes before it and has the type of its operation; what drives a leaf is a value of the net and of the leaf's signedness,
 -- and what drives a clock leaf a clock leaf or none; a register is clocked by a clock leaf, and the condition of its reset is one bit; a clock is one bit
--- wide; the ports stand before the other leaves; all widths are at most 128, and all names are words.
-use Rattle.std.specs.Prelude.{◌≡◌, ℕ, ◌<◌, ◌≤◌, max, List, [], ◌∷◌, ◌++◌, length, map, slice_get, Bool, true, false, Option, Some, None, unwrap_or, option_map, Ok, IsTrue, MatchBool}
+-- wide; the ports stand before the other leaves; and all widths are at most 128.
+use Rattle.std.specs.Prelude.{◌≡◌, ℕ, ◌<◌, ◌≤◌, max, List, [], ◌∷◌, ◌++◌, length, map, slice_get, Bool, true, false, Option, Some, None, unwrap_or, option_map, Ok, MatchBool}
 use Rattle.std.specs.List.{AllByRecursion}
-use Rattle.ver_words.specs.Names.{is_word}
 use Rattle.fir_bits.specs.Values.{IsBitVector}
 use Rattle.fir_bits.specs.Forms.{no_type}
 use Rattle.fir_bits.specs.working.Types.{typed}
 use Rattle.fir_bits.specs.working.Operators.{type_of}
 use Rattle.fir_bits.specs.declared.types.NumTy.{NumTy}
-use Rattle.fir_net.specs.Paths.{base_name}
 use Rattle.fir_net.specs.declared.reads.Read.{Read}
 use Rattle.fir_net.specs.declared.reads.Read.TheVariants as read
 use Rattle.fir_net.specs.declared.leaf.Reset.{Reset}
@@ -101,7 +99,6 @@ IsRole leaves nodes signed width (role.ClockOutput c) = (width ≡ 1) × CanBeCl
 IsRole leaves nodes signed width (role.ClockWire c) = (width ≡ 1) × CanBeClock leaves c
 
 pub record IsLeaf (leaves : List Leaf) (nodes : List Node) (l : Leaf) : Type 0 where
-  pub word : IsTrue (is_word (base_name l.path))
   pub narrow : l.width ≤ 128
   pub driven : IsRole leaves nodes l.signed l.width l.role
 
@@ -120,7 +117,6 @@ ArePortsFirst [] = Unit {0}
 ArePortsFirst (l ∷ ls) = MatchBool (is_port l.role) (ArePortsFirst ls) (AreInside ls)
 
 pub record IsNet (net : FlatNet) : Type 0 where
-  pub word : IsTrue (is_word net.name)
   pub leaves : AllByRecursion (IsLeaf net.leaves net.nodes) net.leaves
   pub ports_first : ArePortsFirst net.leaves
   pub nodes : AreNodes net.leaves [] net.nodes

@@ -1,10 +1,10 @@
 //! From a net to the table of its names.
 
-ghost use Rattle.std.specs.Prelude.{IsTrue, IfOk};
+ghost use Rattle.std.specs.Prelude.{IfOk};
 ghost use Rattle.std.specs.List.{AllByRecursion};
 ghost use Rattle.fir_base.specs.Lists.{Distinct};
-ghost use Rattle.ver_words.specs.Names.{is_word, IsName};
-ghost use Rattle.fir_net.specs.Paths.{base_name};
+ghost use Rattle.ver_words.specs.Names.{IsName};
+ghost use Rattle.fir_net.specs.working.WordNames.{HasWordNames};
 ghost use Rattle.fir_net_names.specs.working.IsTable.{IsTable};
 ghost use Rattle.fir_net_names.specs.working.LeafNamed.{somes};
 
@@ -19,8 +19,7 @@ use ver_words::module_name;
 /// first free of that with `_0`, `_1` and so on behind it. No two are the same, and none is reserved (IEEE
 /// 1364-2005, 3.7). Only memory can be wanting.
 pub fn names(alloc: Global, net: &FlatNet) -> Result<NameTable, MemoryOut>
-    requires word { IsTrue (is_word net.now.name) }
-    requires words { AllByRecursion (λ l. IsTrue (is_word (base_name l.path))) net.now.leaves }
+    requires { HasWordNames net.now }
     ensures table { IfOk result (λ t. IsTable net.now t) }
     ensures distinct { IfOk result (λ t. Distinct (somes t.leaves)) }
     ensures spelled { IfOk result (λ t. AllByRecursion IsName (somes t.leaves)) }

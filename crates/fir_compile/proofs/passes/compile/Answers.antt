@@ -1,36 +1,21 @@
-use Rattle.std.proofs.Common.{Some, None, subst}
-use Rattle.fir_ast.specs.working.CodeFaults.{fault_of}
+use Rattle.std.proofs.Common.{refl, sym, subst}
 use Rattle.fir_ast.specs.working.Views.{circuit_of}
-use Rattle.fir_meaning.specs.working.Scenes.{HasScenes}
-use Rattle.fir_lack.specs.working.Lacks.{AreClocksClear, IsLack}
 use Rattle.fir_outcome.specs.Refusals.{RefusedFor}
-use Rattle.fir_compile.proofs.Taken.{lacks_form, shows_later, compiles}
-use Rattle.fir_compile.proofs.ClearGroups.{later_first}
+use Rattle.fir_compile.proofs.ChainFaults.{refused, takes}
 use Rattle.fir_compile.proofs.passes.compile.Goals as goal
-
-pub returns-in-Some-clause-compiled : goal.returns-in-Some-clause-compiled
-returns-in-Some-clause-compiled c =
-    let scenes = subst (λ t. HasScenes (circuit_of t)) c.leafed.ensures.tree c.modules-modules.ensures.scenes in
-    let lack = subst (λ t. IsLack (circuit_of t) (Some c.in-Some.lack)) c.leafed-2.ensures.tree (rw c.in-Some.is at c.in_ok-lack.ensures.lack) in
-    lacks_form c.args.bytes.now (circuit_of c.in_ok-nets.nets) c.in_ok-nets.ensures.0 c.in_ok-nets.ensures.1 scenes c.in-Some.lack c.unsupported.result
-    lack c.unsupported.ensures
-
-pub flatten-requires-clause-words : goal.flatten-requires-clause-words
-flatten-requires-clause-words c = c.spelled_names_are_words.ensures c.args.bytes.now (circuit_of c.in_ok-nets.nets) c.in_ok-nets.ensures.0
 
 pub returns-in-Ok-clause-compiled : goal.returns-in-Ok-clause-compiled
 returns-in-Ok-clause-compiled c =
-    let scenes = subst (λ t. HasScenes (circuit_of t)) c.leafed.ensures.tree c.modules-modules.ensures.scenes in
-    let without = subst (λ t. IsLack (circuit_of t) None) c.leafed-2.ensures.tree (rw c.in_default.is at c.in_ok-lack.ensures.lack) in
-    let clocks = subst (λ t. AreClocksClear (circuit_of t)) c.leafed-2.ensures.tree (rw c.in_default.is at c.in_ok-lack.ensures.clocks) in
-    compiles c.args.bytes.now (circuit_of c.in_ok-nets.nets) c.in_ok-nets.ensures.0 c.in_ok-nets.ensures.1 scenes without clocks c.in-Ok.net c.in-Ok.ensures.flat
-    c.in_order.result c.in_order.ensures
+    let circuit = circuit_of c.in_ok-circuit.circuit in
+    let made = c.in-Ok.ensures.ok circuit refl in
+    record { circuit = circuit; taken = takes c.args.bytes.now circuit c.in_ok-circuit.ensures made.1; flattened = made.0.0; one = made.0.1.one }
+
+pub returns-in-Ok-clause-in_order : goal.returns-in-Ok-clause-in_order
+returns-in-Ok-clause-in_order c = let made = c.in-Ok.ensures.ok (circuit_of c.in_ok-circuit.circuit) refl in made.0.1.order
 
 pub returns-in-Err-Fault-clause-compiled : goal.returns-in-Err-Fault-clause-compiled
 returns-in-Err-Fault-clause-compiled c =
-    let scenes = subst (λ t. HasScenes (circuit_of t)) c.leafed.ensures.tree c.modules-modules.ensures.scenes in
-    let without = subst (λ t. IsLack (circuit_of t) None) c.leafed-2.ensures.tree (rw c.in_default.is at c.in_ok-lack.ensures.lack) in
-    let told : RefusedFor c.args.bytes.now (fault_of c.in-Err-Fault.fault) =
-    shows_later c.args.bytes.now (circuit_of c.in_ok-nets.nets) c.in_ok-nets.ensures.0 c.in_ok-nets.ensures.1 scenes without c.in-Err-Fault.fault
-    (later_first (circuit_of c.in_ok-nets.nets) (fault_of c.in-Err-Fault.fault) (rw c.in-Err-Fault.field-0-is at c.in-Err-Fault.ensures.fault)) in
-    rw c.in-Err-Fault.field-0-is told
+    let circuit = circuit_of c.in_ok-circuit.circuit in
+    let reported = rw c.in-Err-Fault.field-0-is at c.in-Err-Fault.ensures.fault in
+    subst (RefusedFor c.args.bytes.now) (sym c.into_fault.ensures)
+    (refused c.args.bytes.now circuit c.in_ok-circuit.ensures c.in-Err-Fault.fault (reported circuit refl))

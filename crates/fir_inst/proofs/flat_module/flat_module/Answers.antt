@@ -39,4 +39,4 @@ returns-clause-flat c =
     let nodes : c.from_vec-2.result ≡ kept.nodes.items ++ choices_behind places names part.leaves.items net.roles.items =
     c.from_vec-2.ensures ∙ c.in_ok-leaves.ensures.nodes
     ∙ ap (λ (rs : List NetRole). kept.nodes.items ++ choices_behind places names part.leaves.items rs) roles_again in
-    λ m so. module_flat c.roles_are_whole.ensures names part net c.as_slice.ensures.before m so kept keeps driven are_driven flat leaves nodes c.requires
+    λ m so. module_flat c.roles_are_whole.ensures names part net c.as_slice.ensures.before m so kept keeps driven are_driven flat leaves nodes

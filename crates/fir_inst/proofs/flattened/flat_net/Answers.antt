@@ -26,16 +26,15 @@ returns c =
     let modules = c.modules-modules.result.now in
     let nets = c.nets-nets.result.now in
     let are_leafed : AreLeafed circuit modules = subst (λ t. AreLeafed (circuit_of t) modules) leafed c.modules-modules.ensures.leafed in
-    let some_module : 0 < length modules = subst (λ n. 0 < n) (sym (are_leafed.count ∙ c.requires.lone.one_module)) (omega arith) in
-    let some_net : 0 < length nets = subst (λ n. 0 < n) (sym (c.nets-nets.ensures.nets.count ∙ c.requires.lone.one_module)) (omega arith) in
+    let some_module : 0 < length modules = subst (λ n. 0 < n) (sym (are_leafed.count ∙ c.requires.one_module)) (omega arith) in
+    let some_net : 0 < length nets = subst (λ n. 0 < n) (sym (c.nets-nets.ensures.nets.count ∙ c.requires.one_module)) (omega arith) in
     let held : IsHeld circuit c.in_ok-names.names.items c.index-modules-0.result c.index-nets-0.result = record {
       named = subst (λ t. HasNames (circuit_of t)) named c.circuit-tree.ensures.named;
       types = subst (λ t. type_faults (circuit_of t) ≡ []) typed c.named-named.ensures.clear;
       scenes = subst (λ t. HasScenes (circuit_of t)) leafed c.modules-modules.ensures.scenes;
       typed = subst (λ t. AreAllTyped (circuit_of t)) leafed c.modules_are_typed.ensures;
       driven = c.leafed-leafed.ensures.driven;
-      lone = c.requires.lone;
-      words = c.requires.words;
+      lone = c.requires;
       texts = subst (λ t. AreTextsOf (circuit_of t) 0 c.in_ok-names.names.items) leafed c.in_ok-names.ensures;
       modules = modules;
       leafed = are_leafed;
@@ -47,6 +46,6 @@ returns c =
     let order : IsModuleOrder circuit c.module_order-order.result.now =
     subst (λ t. IsModuleOrder (circuit_of t) c.module_order-order.result.now) named c.module_order-order.ensures
     in
-    flat_of circuit c.in_ok-names.names.items c.index-modules-0.result c.index-nets-0.result held c.modules_are_within.ensures c.leaves_have_words.ensures
+    flat_of circuit c.in_ok-names.names.items c.index-modules-0.result c.index-nets-0.result held c.modules_are_within.ensures
     c.lone_modules_flatten.ensures c.module_order-order.result.now order c.flat_module.result c.flat_module.ensures.flat
     (IfOk-weaker c.flat_module.result _ _ (λ flat is. is ∙ c.in_ok-name.ensures ∙ ap (λ (t : Circuit). (circuit_of t).named.name) given) c.flat_module.ensures.named)

@@ -49,8 +49,7 @@ net = record {
 
 whole : IsNet net
 whole = record {
-  word = refl;
-  leaves = (record { word = refl; narrow = lit≤ tt; driven = refl }, (record { word = refl; narrow = lit≤ tt; driven = tt }, (record { word = refl; narrow = lit≤ tt; driven = tt }, (record { word = refl; narrow = lit≤ tt; driven = record { can = (x, refl, refl); kind = refl } }, (record { word = refl; narrow = lit≤ tt; driven = record { can = (y, refl, refl); kind = refl } }, (record { word = refl; narrow = lit≤ tt; driven = record { can = (z, refl, refl); kind = refl } }, (record { word = refl; narrow = lit≤ tt; driven = ((l, refl, refl), record { condition = (r, refl, refl); has_one_bit = refl; init = record { can = lit< tt; kind = refl } }, record { can = (a, refl, refl); kind = refl }) }, (record { word = refl; narrow = lit≤ tt; driven = ((k, refl, refl), record { condition = (r, refl, refl); has_one_bit = refl; init = record { can = lit< tt; kind = refl } }, record { can = (a, refl, refl); kind = refl }) }, (record { word = refl; narrow = lit≤ tt; driven = ((m, refl, refl), tt, record { can = (a, refl, refl); kind = refl }) }, (record { word = refl; narrow = lit≤ tt; driven = (refl, (k, refl, refl)) }, (record { word = refl; narrow = lit≤ tt; driven = (refl, tt) }, tt)))))))))));
+  leaves = (record { narrow = lit≤ tt; driven = refl }, (record { narrow = lit≤ tt; driven = tt }, (record { narrow = lit≤ tt; driven = tt }, (record { narrow = lit≤ tt; driven = record { can = (x, refl, refl); kind = refl } }, (record { narrow = lit≤ tt; driven = record { can = (y, refl, refl); kind = refl } }, (record { narrow = lit≤ tt; driven = record { can = (z, refl, refl); kind = refl } }, (record { narrow = lit≤ tt; driven = ((l, refl, refl), record { condition = (r, refl, refl); has_one_bit = refl; init = record { can = lit< tt; kind = refl } }, record { can = (a, refl, refl); kind = refl }) }, (record { narrow = lit≤ tt; driven = ((k, refl, refl), record { condition = (r, refl, refl); has_one_bit = refl; init = record { can = lit< tt; kind = refl } }, record { can = (a, refl, refl); kind = refl }) }, (record { narrow = lit≤ tt; driven = ((m, refl, refl), tt, record { can = (a, refl, refl); kind = refl }) }, (record { narrow = lit≤ tt; driven = (refl, (k, refl, refl)) }, (record { narrow = lit≤ tt; driven = (refl, tt) }, tt)))))))))));
   ports_first = (refl, (refl, (refl, (refl, tt))));
   nodes = (record { narrow = lit≤ tt; below = lit< tt }, tt);
 }

@@ -13,7 +13,7 @@ returns-clause-spelled c =
     let names = c.in_ok-names.field-0.names in
     let leaves = c.args.net.now.leaves in
     let named : AreLeafNames [] leaves names = subst (λ ls. AreLeafNames [] ls names) c.as_slice.ensures c.in_ok-names.ensures.table in
-    leaves_spelled [] leaves names c.requires.words named
+    leaves_spelled [] leaves names c.requires.leaves named
 
 pub returns-clause-module_spelled : goal.returns-clause-module_spelled
 returns-clause-module_spelled c = subst IsName (sym c.in_ok-circuit.ensures) (module_is_name c.args.net.now.name c.requires.word)
