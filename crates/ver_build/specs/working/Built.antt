@@ -1,7 +1,7 @@
 -- The Verilog tree of a net, as a function of the net, its names, where its values are, and an order.
 -- The registers come first, then the wires of the inner nets and their assigns, both in the order, the assigns of the outputs in port order, and the blocks of the
 -- registers that something drives on a clock.
-use Rattle.std.specs.Prelude.{ℕ, ◌+◌, List, [], ◌∷◌, ◌++◌, map, flat_map, slice_get, slice_index, Option, Some, None, unwrap_or}
+use Rattle.std.specs.Prelude.{ℕ, ◌+◌, true, false, List, [], ◌∷◌, ◌++◌, map, flat_map, slice_get, slice_index, Option, Some, None, unwrap_or}
 use Rattle.fir_base.specs.declared.direction.Direction.TheVariants as direction
 use Rattle.fir_net.specs.declared.reads.Read.{Read}
 use Rattle.fir_net.specs.declared.reads.Read.TheVariants as read
