@@ -15,6 +15,7 @@ pub mod Reach
 pub mod TokenPieces
 pub mod TokensFound
 pub mod TokensTaken
+pub mod OnePlace
 pub mod NextFits
 pub mod OneTick
 pub mod Rows
