@@ -1,10 +1,11 @@
 -- Which bytes spell which tree.
 -- The tokens of the bytes are those of the tree: a num of the tree is digits, also with zeros in front. The tree has the places of the text's words, numbers,
 -- constants, `$signed`, `[` and `{`. Each name in it is spelled as a name and not reserved.
-use Rattle.std.specs.Prelude.{◌≡◌, ℕ, ◌^◌, ◌||◌, List, [], ◌∷◌, map, filter, min, Bool, true, false, nat_eq}
+use Rattle.std.specs.Prelude.{◌≡◌, ℕ, ◌<◌, ◌^◌, ◌||◌, Option, Some, None, List, [], ◌∷◌, map, filter, min, Bool, true, false, nat_eq}
 use Rattle.std.specs.List.{AllByRecursion}
 use Rattle.ver_ast.specs.declared.tree.Verilog.{Verilog}
 use Rattle.ver_ast.specs.declared.tree.Item.{Item}
+use Rattle.ver_ast.specs.declared.tree.Item.TheVariants as item
 use Rattle.ver_ast.specs.declared.place.VPlace.{VPlace}
 use Rattle.ver_ast.specs.ItemNames.{declared, item_names}
 use Rattle.ver_words.specs.Names.{IsName}
@@ -61,9 +62,19 @@ pub record HasNames (v : Verilog) : Type 0 where
   pub of_ports : AllByRecursion (λ p. IsName p.name) v.ports
   pub of_items : AllByRecursion HasItemNames v.items
 
+-- an asynchronous block's number is in its type: a larger one is none
+abbrev pub IsInType : Option ℕ → Type 0
+IsInType None = Unit {0}
+IsInType (Some x) = x < 2 ^ 128
+
+abbrev pub HasNumberInType : Item → Type 0
+HasNumberInType (item.Resetting b) = IsInType b.value.number
+HasNumberInType _ = Unit {0}
+
 pub record VSpells (bytes : List ℕ) (v : Verilog) : Type 0 where
   pub tokens : List PlacedToken
   pub of_text : HasTokens bytes tokens
   pub tokens_are : AreAlike (module_tokens v) tokens
   pub places_are : v.places ≡ places_of tokens
   pub names : HasNames v
+  pub numbers : AllByRecursion HasNumberInType v.items
