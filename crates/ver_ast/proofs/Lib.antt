@@ -22,3 +22,4 @@ pub mod NextFits
 pub mod OneTick
 pub mod Rows
 pub mod TokenRows
+pub mod SpellingRows
