@@ -14,6 +14,7 @@ pub mod Loosened
 pub mod OneTree
 pub mod Reach
 pub mod TokenPieces
+pub mod Alike
 pub mod TokensFound
 pub mod TokensTaken
 pub mod OnePlace

@@ -13,10 +13,11 @@ use Rattle.ver_ast.specs.Atoms as atom
 use Rattle.ver_ast.specs.Tokens.{VToken, word, digit_zero, number, constant, sign, question_digit, hexadecimal}
 use Rattle.ver_ast.specs.Pieces.{PlacedToken, blank, line_comment, spelled, questioned, HasTokens}
 use Rattle.ver_ast.specs.Grammar.{port_tokens, atom_tokens, item_tokens}
-use Rattle.ver_ast.specs.Spells.{IsAlike, AreAlike}
+use Rattle.ver_ast.specs.Spells.{AreAlike}
 use Rattle.ver_ast.specs.Nets.{resetting_block}
 use Rattle.ver_ast.specs.Valid.{Valid}
 use Rattle.ver_ast.specs.working.TokenSteps.{tokens, tokens_from}
+use Rattle.ver_ast.proofs.Alike.{AlikeEach, alike_with_places, alike_without_places}
 use Rattle.ver_ast.proofs.OneAtom.{front}
 use Rattle.ver_ast.proofs.TokenPieces.{plain_of, word_piece, lone_piece, no_comment}
 use Rattle.ver_ast.proofs.TokensFound.{tokens_found}
@@ -30,26 +31,9 @@ record Spells (gs : List VToken) (bytes : List ℕ) : Type 0 where
   of_text : HasTokens bytes placed
   alike : AreAlike gs placed
 
-abbrev AlikePlain : List VToken → List VToken → Type 0
-AlikePlain [] [] = Unit {0}
-AlikePlain (g ∷ gs) (t ∷ ts) = IsAlike g t × AlikePlain gs ts
-AlikePlain _ _ = ⊥
-
-with_places : (gs : List VToken) (placed : List PlacedToken) → AlikePlain gs (plain_of placed) → AreAlike gs placed
-with_places [] [] h = h
-with_places [] (p ∷ ps) h = h
-with_places (g ∷ gs) [] h = h
-with_places (g ∷ gs) (p ∷ ps) h = (h.0, with_places gs ps h.1)
-
-without_places : (gs : List VToken) (placed : List PlacedToken) → AreAlike gs placed → AlikePlain gs (plain_of placed)
-without_places [] [] h = h
-without_places [] (p ∷ ps) h = h
-without_places (g ∷ gs) [] h = h
-without_places (g ∷ gs) (p ∷ ps) h = (h.0, without_places gs ps h.1)
-
 abbrev AlikeRead : List VToken → Option (List VToken) → Type 0
 AlikeRead gs None = ⊥
-AlikeRead gs (Some ts) = AlikePlain gs ts
+AlikeRead gs (Some ts) = AlikeEach gs ts
 
 spells : (gs : List VToken) (bytes : List ℕ) → AlikeRead gs (tokens bytes) → Spells gs bytes
 spells gs bytes h = by (tokens bytes) refl h
@@ -58,12 +42,12 @@ spells gs bytes h = by (tokens bytes) refl h
     by None e k = absurd k
     by (Some ts) e k =
         let found = tokens_found bytes ts e in
-        record { placed = found.0; of_text = found.1; alike = with_places gs found.0 (subst (AlikePlain gs) (sym found.2) k) }
+        record { placed = found.0; of_text = found.1; alike = alike_with_places gs found.0 (subst (AlikeEach gs) (sym found.2) k) }
 
-read : (gs : List VToken) (bytes : List ℕ) (ts : List VToken) → tokens bytes ≡ Some ts → Spells gs bytes → AlikePlain gs ts
+read : (gs : List VToken) (bytes : List ℕ) (ts : List VToken) → tokens bytes ≡ Some ts → Spells gs bytes → AlikeEach gs ts
 read gs bytes ts e h =
     let same : plain_of h.placed ≡ ts = let k = sym (spelled_tokens bytes h.placed h.of_text) ∙ e in cc in
-    subst (AlikePlain gs) same (without_places gs h.placed h.alike)
+    subst (AlikeEach gs) same (alike_without_places gs h.placed h.alike)
 
 abbrev wire : ℕ → Item
 wire width = item.Wire (record { width = width; name = codes "a" })
@@ -85,12 +69,12 @@ no_range_with_two_zeros i h = by_form i (read _ _ two_zeros refl h)
     two_zeros = word (codes "wire") ∷ sign 91 ∷ number 3 ∷ sign 58 ∷ number 0 ∷ sign 93 ∷ word (codes "a") ∷ sign 59 ∷ []
 
     by_width : (one : Bool) (width : ℕ) (n : List ℕ)
-        → AlikePlain ((if one then [] else (sign 91 ∷ number (width - 1) ∷ sign 58 ∷ digit_zero ∷ sign 93 ∷ [])) ++ word n ∷ sign 59 ∷ [])
+        → AlikeEach ((if one then [] else (sign 91 ∷ number (width - 1) ∷ sign 58 ∷ digit_zero ∷ sign 93 ∷ [])) ++ word n ∷ sign 59 ∷ [])
         (sign 91 ∷ number 3 ∷ sign 58 ∷ number 0 ∷ sign 93 ∷ word (codes "a") ∷ sign 59 ∷ []) → ⊥
     by_width true width n k = let no = k.0 in cc
     by_width false width n k = let no = k.1.1.1.0 in cc
 
-    by_form : (i : Item) → AlikePlain (item_tokens i) two_zeros → ⊥
+    by_form : (i : Item) → AlikeEach (item_tokens i) two_zeros → ⊥
     by_form (item.Wire n) k = by_width (nat_eq n.width 1) n.width n.name k.1
     by_form (item.Reg n) k = omega (arith, ap (λ (t : VToken). front (t ∷ [])) k.0)
     by_form (item.Array a) k = omega (arith, ap (λ (t : VToken). front (t ∷ [])) k.0)
