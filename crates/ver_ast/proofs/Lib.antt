@@ -14,6 +14,7 @@ pub mod Loosened
 pub mod OneTree
 pub mod Reach
 pub mod TokenPieces
+pub mod Alike
 pub mod TokensFound
 pub mod TokensTaken
 pub mod OnePlace
@@ -22,3 +23,4 @@ pub mod NextFits
 pub mod OneTick
 pub mod Rows
 pub mod TokenRows
+pub mod SpellingRows

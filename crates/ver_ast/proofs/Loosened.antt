@@ -1,5 +1,5 @@
 -- The tokens of a tree where the one digit 0 is a number like others, and those of a text that are alike to them.
-use Rattle.std.proofs.Common.{◌≡◌, ℕ, ◌-◌, ◌^◌, List, [], ◌∷◌, ◌++◌, map, min, refl, sym, ap, ◌∙◌, Option, Some, None}
+use Rattle.std.proofs.Common.{◌≡◌, ℕ, ◌-◌, ◌^◌, List, [], ◌∷◌, ◌++◌, map, min, refl, ap, ◌∙◌, Option, Some, None}
 use Rattle.std.specs.Prelude.{flat_map, codes, nat_eq, Bool, true, false, if◌then◌else◌}
 use Rattle.std.proofs.lemmas.List.{map-append}
 use Rattle.ver_ast.specs.declared.tree.Verilog.{Verilog}

@@ -1,10 +1,10 @@
 -- No two operands have the same tokens.
 -- Behind an operand stands no bracket, so that a name alone differs from a name with a select.
-use Rattle.std.proofs.Common.{◌≡◌, ℕ, List, ◌∷◌, ◌++◌, Bool, true, false, refl, sym, ap, ◌∙◌, ⊎_elim, arith, append_assoc, eqb}
-use Rattle.std.specs.Prelude.{if◌then◌else◌, ◌≢◌}
+use Rattle.std.proofs.Common.{◌≡◌, ℕ, List, ◌∷◌, ◌++◌, true, false, refl, sym, ap, ◌∙◌, ⊎_elim, arith, append_assoc, eqb}
+use Rattle.std.specs.Prelude.{◌≢◌}
 use Rattle.std.proofs.lemmas.Bool.Decides.{eqb_tells}
 use Rattle.ver_ast.specs.Atoms.{AtomTree, net, constant, bit_select, part_select, concat, repeat, AtomTrees, no_atoms, atom_before}
-use Rattle.ver_ast.specs.Tokens.{VToken, word, digit_zero, number, sign}
+use Rattle.ver_ast.specs.Tokens.{VToken, word, number, sign}
 use Rattle.ver_ast.specs.Grammar.{atom_tokens, next_atom_tokens}
 use Rattle.ver_ast.proofs.Operators.{operand, plain, front_of}
 

@@ -1,6 +1,6 @@
 -- A text has its tokens at one place each: there is one way at most to cut it into pieces.
 use Rattle.std.proofs.Common.{◌≡◌, ◌≢◌, ℕ, Bool, true, false, ◌||◌, List, [], ◌∷◌, ◌++◌, length, codes, flat_map, refl, sym, ap, ◌∙◌, inl, inr, ◌⊎◌, subst, append_assoc, arith}
-use Rattle.std.specs.Prelude.{Some, IsTrue, nat_eq, not}
+use Rattle.std.specs.Prelude.{IsTrue, nat_eq, not}
 use Rattle.std.specs.List.{AllByRecursion, list_all}
 use Rattle.std.proofs.lemmas.Bool.{and_parts}
 use Rattle.std.proofs.lemmas.List.{append_cancel_left}

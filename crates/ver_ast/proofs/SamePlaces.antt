@@ -1,7 +1,7 @@
 -- Places count for nothing: what is said of a tree is said of it with other places.
 use Rattle.std.proofs.Common.{ℕ, List, [], ◌∷◌, Option, Some, None}
 use Rattle.std.specs.List.{AllByRecursion}
-use Rattle.fir_base.specs.Ticks.{Env, Tick, HasShape}
+use Rattle.fir_base.specs.Ticks.{Env, Tick}
 use Rattle.ver_ast.specs.declared.tree.Verilog.{Verilog}
 use Rattle.ver_ast.specs.declared.tree.Write.{Write}
 use Rattle.ver_ast.specs.declared.tree.Edge.{Edge}
@@ -9,10 +9,10 @@ use Rattle.ver_ast.specs.declared.tree.Rhs.{Rhs}
 use Rattle.ver_ast.specs.declared.tree.Rhs.TheVariants as rhs
 use Rattle.ver_ast.specs.declared.place.VPlace.{VPlace}
 use Rattle.ver_ast.specs.Atoms.{net, constant}
-use Rattle.ver_ast.specs.Nets.{shape, AlwaysBlock, plain_block, resetting_block, writing_block}
+use Rattle.ver_ast.specs.Nets.{AlwaysBlock, plain_block, resetting_block, writing_block}
 use Rattle.ver_ast.specs.Valid.{Valid, IsSoundBlock, IsClockSide, IsEdge, IsWrite, AreWrites}
-use Rattle.ver_ast.specs.Settled.{SourcesShown, Rest, VSettled}
-use Rattle.ver_ast.specs.Allows.{VAllows, VHasOne, VOne}
+use Rattle.ver_ast.specs.Settled.{Rest, VSettled}
+use Rattle.ver_ast.specs.Allows.{VAllows, VOne}
 use Rattle.ver_ast.specs.working.Laws.{with_places}
 
 module _ (v : Verilog) (places : List VPlace) where

@@ -15,6 +15,6 @@ pub use laws::{
 };
 pub use place::VPlace;
 pub use tree::{
-    Always, Array, Assign, Atom, AtomForm, BinaryOp, Constant, Edge, Item, Net, Port, Resetting, Rhs,
-    SignedOp, UnaryOp, Verilog, Write, Writing,
+    Always, Array, Assign, Atom, AtomForm, BinaryOp, Constant, Edge, Item, Net, Port, Resetting,
+    Rhs, SignedOp, UnaryOp, Verilog, Write, Writing,
 };

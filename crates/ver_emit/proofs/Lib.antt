@@ -1,4 +1,5 @@
 pub mod Grouping
+pub mod ReadText
 pub mod Fixed
 pub mod Words
 pub mod Numbers
