@@ -14,3 +14,4 @@ pub mod Items
 pub mod Spelled
 pub mod Slashes
 pub mod Spaces
+pub mod LayoutRows
