@@ -145,4 +145,5 @@ module _ (v : Verilog) (valid : Valid v) where
   items_spelled [] rest ts within named e = e
   items_spelled (i ∷ is) rest ts within named e =
       let others = items_spelled is rest ts (λ j m. within j (inr m)) named.1 e in
-      moved _ _ _ _ (append_assoc (item_text i) (flat_map item_text is) rest) (item_spelled i _ _ (within i (inl refl)) named.0 others) (sym (append_assoc (item_tokens i) (flat_map item_tokens is) ts))
+      moved _ _ _ _ (append_assoc (item_text i) (flat_map item_text is) rest) (item_spelled i _ _ (within i (inl refl)) named.0 others)
+      (sym (append_assoc (item_tokens i) (flat_map item_tokens is) ts))
