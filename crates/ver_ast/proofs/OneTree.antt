@@ -260,7 +260,8 @@ split_resetting : (a b : Resetting) (r s : List VToken) → IsInType a.value.num
 split_resetting a b r s h k e =
     let whole = sym (resetting_grouped a r) ∙ e ∙ resetting_grouped b s in
     let tails : block_tokens a r ≡ block_tokens b s = cc in
-    let t = split_reset a.reset b.reset a.tested b.tested a.target b.target a.value.width b.value.width (constant_number a.value) (constant_number b.value) a.edge b.edge r s tails in
+    let t = split_reset a.reset b.reset a.tested b.tested a.target b.target a.value.width b.value.width (constant_number a.value) (constant_number b.value)
+    a.edge b.edge r s tails in
     let number = same_number a.value.number b.value.number h k t.head.value in
     let value : a.value ≡ b.value = rw (t.head.width, number) refl in
     let same : a ≡ b = rw (t.head.reset, t.head.tested, t.head.target, value, t.edge) refl in

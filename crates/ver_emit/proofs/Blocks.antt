@@ -1,6 +1,6 @@
 -- Always blocks, as text and as tokens.
 -- A parenthesis opens the edges and the condition, and no star stands behind it.
-use Rattle.std.proofs.Common.{◌≡◌, ℕ, List, [], ◌∷◌, ◌++◌, Some, refl, sym, ap, ◌∙◌, append_assoc}
+use Rattle.std.proofs.Common.{◌≡◌, ℕ, List, [], ◌∷◌, ◌++◌, Some, refl, sym, append_assoc}
 use Rattle.std.specs.Prelude.{codes, flat_map, Option, None}
 use Rattle.std.specs.List.{AllByRecursion}
 use Rattle.fir_base.proofs.Each.{all_left, all_right}
@@ -22,7 +22,6 @@ use Rattle.ver_ast.specs.Nets.{nets}
 use Rattle.ver_ast.specs.Valid.{IsPlain, IsEdge, IsResetting, IsWrite, AreWrites}
 use Rattle.ver_ast.specs.Tokens as token
 use Rattle.ver_ast.specs.Tokens.{VToken, word, sign, double}
-use Rattle.ver_ast.specs.working.TokenSteps.{tokens}
 use Rattle.ver_ast.specs.Grammar.{atom_tokens, edge_tokens, else_tokens, write_tokens, item_tokens}
 use Rattle.ver_emit.specs.Layout.{atom_text, edge_text, else_text, write_text, item_text}
 use Rattle.ver_emit.proofs.Grouping.{thirteen_joined}

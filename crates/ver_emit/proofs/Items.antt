@@ -1,6 +1,6 @@
 -- The items of a module, as text and as tokens.
 -- A semicolon and the end of the line close an item.
-use Rattle.std.proofs.Common.{◌≡◌, ℕ, ◌+◌, ◌^◌, ◌<◌, ◌≤◌, List, [], ◌∷◌, ◌++◌, Some, true, false, inl, inr, refl, sym, ap, ◌∙◌, subst, append_assoc, arith}
+use Rattle.std.proofs.Common.{◌≡◌, ℕ, ◌+◌, ◌^◌, ◌<◌, ◌≤◌, List, [], ◌∷◌, ◌++◌, Some, true, false, inl, inr, refl, sym, subst, append_assoc, arith}
 use Rattle.std.specs.Prelude.{codes, flat_map, decimal, Bool}
 use Rattle.std.specs.List.{AllByRecursion, sum_by}
 use Rattle.std.proofs.lemmas.List.Sums.{sum_by-cons}
@@ -25,7 +25,7 @@ use Rattle.ver_ast.specs.Spells.{AreVerilogNames, HasItemNames}
 use Rattle.ver_ast.specs.Valid.{Valid, IsResetting, IsClockSide}
 use Rattle.ver_ast.specs.Nets.{Variable, port_nets, item_net, nets, item_array, arrays, item_assign, item_clock_assign, output_clocks, item_block, plain_block, resetting_block, writing_block}
 use Rattle.ver_ast.specs.Tokens.{VToken, word, digit_zero, number, sign}
-use Rattle.ver_ast.specs.working.TokenSteps.{between, tokens}
+use Rattle.ver_ast.specs.working.TokenSteps.{between}
 use Rattle.ver_ast.specs.Grammar.{range_tokens, rhs_tokens, item_tokens}
 use Rattle.ver_ast.proofs.Nets.{reg_is_net}
 use Rattle.ver_emit.specs.Layout.{range_text, rhs_text, item_text}
@@ -145,4 +145,5 @@ module _ (v : Verilog) (valid : Valid v) where
   items_spelled [] rest ts within named e = e
   items_spelled (i ∷ is) rest ts within named e =
       let others = items_spelled is rest ts (λ j m. within j (inr m)) named.1 e in
-      moved _ _ _ _ (append_assoc (item_text i) (flat_map item_text is) rest) (item_spelled i _ _ (within i (inl refl)) named.0 others) (sym (append_assoc (item_tokens i) (flat_map item_tokens is) ts))
+      moved _ _ _ _ (append_assoc (item_text i) (flat_map item_text is) rest) (item_spelled i _ _ (within i (inl refl)) named.0 others)
+      (sym (append_assoc (item_tokens i) (flat_map item_tokens is) ts))

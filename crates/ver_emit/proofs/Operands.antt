@@ -1,6 +1,6 @@
 -- Operands, as text and as tokens.
 -- The text of a sound operand is read as its tokens, before whatever closes it.
-use Rattle.std.proofs.Common.{◌≡◌, ℕ, ◌^◌, ◌≤◌, List, [], ◌∷◌, ◌++◌, Some, refl, ap, ◌∙◌, append_assoc, arith}
+use Rattle.std.proofs.Common.{◌≡◌, ℕ, ◌^◌, ◌≤◌, List, [], ◌∷◌, ◌++◌, refl, append_assoc, arith}
 use Rattle.std.specs.Prelude.{codes, decimal, flat_map}
 use Rattle.std.specs.List.{AllByRecursion}
 use Rattle.std.proofs.Math.Nat.{pow-le-pow_right, mul-le-mul_left}
@@ -13,7 +13,6 @@ use Rattle.ver_ast.specs.Nets.{SizedNet}
 use Rattle.ver_ast.specs.SoundSides.{IsSound, AreSound, IsOperand}
 use Rattle.ver_ast.specs.Names.{atom_names, joined_names}
 use Rattle.ver_ast.specs.Tokens.{VToken, number, sign}
-use Rattle.ver_ast.specs.working.TokenSteps.{tokens}
 use Rattle.ver_ast.specs.Grammar.{atom_tokens, next_atom_tokens}
 use Rattle.ver_emit.specs.Layout.{atom_text, next_atom_text}
 use Rattle.ver_emit.proofs.ReadText.{Reads, moved}

@@ -1,6 +1,6 @@
 -- The ports of a module, as text and as tokens.
 -- A comma or the end of the line closes a port.
-use Rattle.std.proofs.Common.{◌≡◌, ℕ, List, [], ◌∷◌, ◌++◌, Some, refl, sym, ap, ◌∙◌, append_assoc}
+use Rattle.std.proofs.Common.{◌≡◌, ℕ, List, [], ◌∷◌, ◌++◌, Some, refl, sym, append_assoc}
 use Rattle.std.specs.Prelude.{◌≤◌, Bool, true, false, codes, flat_map}
 use Rattle.std.specs.List.{AllByRecursion}
 use Rattle.fir_base.specs.declared.direction.Direction.{Direction}
@@ -8,7 +8,7 @@ use Rattle.fir_base.specs.declared.direction.Direction.TheVariants.{Input, Outpu
 use Rattle.ver_ast.specs.declared.tree.Port.{Port}
 use Rattle.ver_words.specs.Names.{IsName}
 use Rattle.ver_ast.specs.Tokens.{VToken, word, sign}
-use Rattle.ver_ast.specs.working.TokenSteps.{between, tokens}
+use Rattle.ver_ast.specs.working.TokenSteps.{between}
 use Rattle.ver_ast.specs.Grammar.{direction_keyword, range_tokens, mark_tokens, port_tokens, next_port_tokens, ports_tokens}
 use Rattle.ver_emit.specs.Layout.{range_text, mark_text, port_text, next_port_text, ports_text}
 use Rattle.ver_emit.proofs.Grouping.{three_joined, six_joined}

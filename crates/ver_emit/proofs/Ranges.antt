@@ -1,10 +1,8 @@
 -- Ranges, as text and as tokens.
 -- A width of 1 has none.
-use Rattle.std.proofs.Common.{◌≡◌, ℕ, ◌-◌, ◌≤◌, List, ◌++◌, Bool, true, false, Some, refl, ap, ◌∙◌, append_assoc, arith}
+use Rattle.std.proofs.Common.{◌≡◌, ℕ, ◌-◌, ◌≤◌, List, ◌++◌, Bool, true, false, refl, append_assoc, arith}
 use Rattle.std.specs.Prelude.{codes, decimal, nat_eq}
-use Rattle.std.proofs.lemmas.Bool.Decides.{nat_tests}
 use Rattle.ver_ast.specs.Tokens.{VToken}
-use Rattle.ver_ast.specs.working.TokenSteps.{tokens}
 use Rattle.ver_ast.specs.Grammar.{range_tokens}
 use Rattle.ver_emit.specs.Layout.{range_text}
 use Rattle.ver_emit.proofs.ReadText.{Reads, moved}

@@ -1,6 +1,6 @@
 -- Right sides, as text and as tokens.
 -- An operator of one byte or more stands between spaces, and a space closes it.
-use Rattle.std.proofs.Common.{◌≡◌, ℕ, List, [], ◌∷◌, ◌++◌, Some, refl, sym, ap, ◌∙◌, append_assoc, true}
+use Rattle.std.proofs.Common.{◌≡◌, ℕ, List, [], ◌∷◌, ◌++◌, Some, refl, sym, append_assoc, true}
 use Rattle.std.specs.Prelude.{codes}
 use Rattle.std.specs.List.{AllByRecursion, list_all}
 use Rattle.ver_ast.specs.declared.tree.Rhs.{Rhs}
@@ -14,7 +14,7 @@ use Rattle.ver_ast.specs.Names.{rhs_atoms}
 use Rattle.ver_ast.specs.ItemNames.{rhs_arrays}
 use Rattle.ver_ast.specs.Spells.{AreVerilogNames}
 use Rattle.ver_ast.specs.Tokens.{VToken, word, sign, signed_shift, signed_word}
-use Rattle.ver_ast.specs.working.TokenSteps.{between, tokens}
+use Rattle.ver_ast.specs.working.TokenSteps.{between}
 use Rattle.ver_ast.specs.Grammar.{atom_tokens, unary_sign, binary_token, unsigned_op, signed_tokens, rhs_tokens}
 use Rattle.ver_emit.specs.Layout.{atom_text, between_text, signed_text, rhs_text}
 use Rattle.ver_emit.proofs.Grouping.{three_joined}

@@ -4,7 +4,6 @@
 use Rattle.std.specs.Prelude.{ℕ, ◌-◌, Bool, List, [], ◌∷◌, ◌++◌, flat_map, codes, decimal, nat_eq, if◌then◌else◌, Option, Some, None}
 use Rattle.ver_ast.specs.declared.tree.Verilog.{Verilog}
 use Rattle.fir_base.specs.Digits.{hexadecimal}
-use Rattle.fir_base.specs.declared.direction.Direction.{Direction}
 use Rattle.ver_ast.specs.declared.tree.Port.{Port}
 use Rattle.ver_ast.specs.declared.tree.Edge.{Edge}
 use Rattle.ver_ast.specs.declared.tree.Write.{Write}
