@@ -87,7 +87,8 @@ mutual
   atom_loosened (bit_select n i) = refl
   atom_loosened (part_select n hi lo) = refl
   atom_loosened (concat a more) =
-      ap (λ z. sign 123 ∷ z) (before (atom_tokens a ++ next_atom_tokens more) _ (sign 125 ∷ []) (joined (atom_tokens a) _ _ _ (atom_loosened a) (next_loosened more)))
+      ap (λ z. sign 123 ∷ z)
+      (before (atom_tokens a ++ next_atom_tokens more) _ (sign 125 ∷ []) (joined (atom_tokens a) _ _ _ (atom_loosened a) (next_loosened more)))
   atom_loosened (repeat count a) = ap (λ z. sign 123 ∷ number count ∷ sign 123 ∷ z) (before (atom_tokens a) _ (sign 125 ∷ sign 125 ∷ []) (atom_loosened a))
 
   next_loosened : (more : AtomTrees) → map loose (next_atom_tokens more) ≡ next_atom_tokens more

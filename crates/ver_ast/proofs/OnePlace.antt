@@ -225,7 +225,8 @@ both_questioned w x s u y r rest more ts us is os e k =
     let width : w ≡ u = cc in
     let value : x ≡ y = cc in
     let whole = sym (question_text w x s rest) ∙ e ∙ question_text u y r more in
-    let bytes : s ≡ r = one_longest (constant w x) (constant u y) s r (63 ∷ rest) (63 ∷ more) is os (before_question w x s rest is) (before_question u y r more os) whole in
+    let bytes : s ≡ r = one_longest (constant w x) (constant u y) s r (63 ∷ rest) (63 ∷ more) is os (before_question w x s rest is)
+    (before_question u y r more os) whole in
     rw (width, value, bytes) refl
 
 same_first : (p q : VPiece) → SameFirst p q

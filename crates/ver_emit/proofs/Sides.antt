@@ -76,7 +76,8 @@ rhs_spelled (rhs.Binary a op b) rest ts arrays spelled c e =
     moved _ _ _ _ grouped left (sym (append_assoc (atom_tokens a) (binary_token op ∷ atom_tokens b) ts))
 rhs_spelled (rhs.Signed a op b) rest ts arrays spelled c e =
     let right = signed_spelled b rest ts spelled.1.0 e in
-    let left = signed_spelled a _ _ spelled.0 (fixed_spelled (between_text (unsigned_op op)) _ _ _ (binary_read (unsigned_op op)) (binary_fixed (unsigned_op op)) right) in
+    let behind = fixed_spelled (between_text (unsigned_op op)) _ _ _ (binary_read (unsigned_op op)) (binary_fixed (unsigned_op op)) right in
+    let left = signed_spelled a _ _ spelled.0 behind in
     let grouped : rhs_text (rhs.Signed a op b) ++ rest ≡ signed_text a ++ (between_text (unsigned_op op) ++ (signed_text b ++ rest)) =
     three_joined (signed_text a) (between_text (unsigned_op op)) (signed_text b) rest in
     moved _ _ _ _ grouped left (sym (append_assoc (signed_tokens a) (binary_token (unsigned_op op) ∷ signed_tokens b) ts))

@@ -1,7 +1,8 @@
 //! Operands.
 
 ghost use Rattle.std.specs.Prelude.{◌≡◌, ◌++◌, OnOk};
-ghost use Rattle.ver_ast.specs.AtomForms.{constant_number};
+ghost use Rattle.fir_base.specs.Digits.{hexadecimal};
+ghost use Rattle.ver_ast.specs.AtomForms.{constant_number, number_of};
 ghost use Rattle.ver_ast.specs.Atoms as tree;
 ghost use Rattle.ver_ast.specs.Atoms.{atoms_of, bit_select, part_select};
 ghost use Rattle.ver_emit.specs.Layout.{atom_text, next_atom_text};
@@ -58,7 +59,14 @@ pub fn put_constant(out: &mut Vec<u8>, constant: Constant) -> Result<(), MemoryO
 {
     put_decimal(out, u128::from(constant.width))?;
     out.extend_from_slice(b"'h")?;
-    match constant.number {
+    put_number(out, constant.number)
+}
+
+/// Appends the number of a constant.
+fn put_number(out: &mut Vec<u8>, number: Option<u128>) -> Result<(), MemoryOut>
+    ensures { OnOk result (out.new.items ≡ out.old.items ++ hexadecimal (number_of number)) }
+{
+    match number {
         Some(number) => put_hexadecimal(out, number),
         // No valid tree has it: 2 ^ 128.
         None => {
