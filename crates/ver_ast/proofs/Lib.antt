@@ -7,15 +7,8 @@ pub mod Stores
 pub mod Chosen
 pub mod Processes
 pub mod OneRest
-pub mod OneAtom
 pub mod Operators
-pub mod OneRhs
-pub mod OneTree
 pub mod Reach
-pub mod TokenPieces
-pub mod TokensFound
-pub mod TokensTaken
 pub mod NextFits
 pub mod OneTick
 pub mod Rows
-pub mod TokenRows

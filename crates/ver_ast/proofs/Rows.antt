@@ -1,12 +1,10 @@
 -- Small trees, and values at the edges of right sides, computed by the checker.
 use Rattle.std.proofs.Common.{◌≡◌, ℕ, List, [], ◌∷◌, Option, Some, None, refl}
-use Rattle.std.specs.Prelude.{codes, if◌then◌else◌}
+use Rattle.std.specs.Prelude.{codes, true, false, if◌then◌else◌}
 use Rattle.std.specs.Str.{bytes_eq}
 use Rattle.fir_base.specs.Ticks.{Env}
 use Rattle.fir_base.specs.declared.direction.Direction.{Direction}
 use Rattle.fir_base.specs.declared.direction.Direction.TheVariants.{Input, Output}
-use Rattle.ver_words.specs.declared.signal.Signal.{Signal}
-use Rattle.ver_words.specs.declared.signal.Signal.TheVariants.{Bits, Clock}
 use Rattle.ver_ast.specs.declared.tree.Verilog.{Verilog}
 use Rattle.ver_ast.specs.declared.tree.Port.{Port}
 use Rattle.ver_ast.specs.declared.tree.Write.{Write}
@@ -113,23 +111,27 @@ no_word_past_the_last = refl
 
 -- ---- an asynchronous block: r is 9 while n is 1, and takes 5 at an edge of c
 
-abbrev port : Direction → Signal → List ℕ → Port
-port d s n = record { direction = d; signal = s; name = n }
+abbrev clock : Direction → List ℕ → Port
+clock d n = record { is_clock = true; direction = d; width = 1; name = n }
+
+abbrev bit : List ℕ → Port
+bit n = record { is_clock = false; direction = Input; width = 1; name = n }
 
 abbrev reset_tree : Verilog
 reset_tree = record {
   name = codes "T";
-  ports = port Input Clock (codes "c") ∷ port Input (Bits 1) (codes "n") ∷ [];
+  ports = clock Input (codes "c") ∷ bit (codes "n") ∷ [];
   items =
       item.Reg (record { width = 4; name = codes "r" })
       ∷ item.Resetting (record {
         reset = codes "n";
+        tested = codes "n";
         target = codes "r";
-        width = 4;
-        value = 9;
-        edge = Some (record { clock = codes "c"; source = constant 4 5 });
+        value = record { width = 4; number = Some 9 };
+        edge = Some (record { clock = codes "c"; target = codes "r"; source = constant 4 5 });
       })
       ∷ [];
+  places = [];
 }
 
 -- the clock has the number 0
@@ -159,8 +161,9 @@ write condition index source = record { condition = constant 1 condition; array 
 abbrev writing_tree : Write → Write → Verilog
 writing_tree first second = record {
   name = codes "T";
-  ports = port Input Clock (codes "c") ∷ [];
+  ports = clock Input (codes "c") ∷ [];
   items = item.Array (record { width = 4; last = 2; name = codes "m" }) ∷ item.Writing (record { clock = codes "c"; writes = first ∷ second ∷ [] }) ∷ [];
+  places = [];
 }
 
 abbrev words_after : List ℕ → Write → Write → Option (List ℕ)
@@ -187,11 +190,12 @@ abbrev clock_tree : Verilog
 clock_tree = record {
   name = codes "T";
   ports =
-      port Input Clock (codes "c") ∷ port Output Clock (codes "o") ∷ port Input Clock (codes "d") ∷ port Output Clock (codes "q") ∷ [];
+      clock Input (codes "c") ∷ clock Output (codes "o") ∷ clock Input (codes "d") ∷ clock Output (codes "q") ∷ [];
   items =
       item.Assign (record { target = codes "q"; rhs = rhs.Atom (constant 1 0) })
       ∷ item.Assign (record { target = codes "o"; rhs = rhs.Atom (net (codes "d")) })
       ∷ [];
+  places = [];
 }
 
 clocks_are_shown : clocks_shown clock_tree ≡ Some 1 ∷ None ∷ []
