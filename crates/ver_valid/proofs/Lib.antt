@@ -1,0 +1,6 @@
+pub mod Judging
+pub mod Entries
+pub mod EntryKinds
+pub mod Told
+pub mod GrownScopes
+pub mod OperandForms

@@ -2,3 +2,8 @@
 //! whether it is valid. The answer is exact, as `specs/Valid` of ver_ast has it: no tree that is not valid passes, and
 //! none that is valid is turned away.
 #![tactic(auto)]
+
+mod declared;
+mod misfit;
+mod operand;
+mod scope;

@@ -1,0 +1,5 @@
+pub mod Judgement
+pub mod Declarations
+pub mod Kinds
+pub mod Scopes
+pub mod Operands
