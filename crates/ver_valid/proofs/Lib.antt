@@ -4,3 +4,5 @@ pub mod EntryKinds
 pub mod Told
 pub mod GrownScopes
 pub mod OperandForms
+pub mod BlockForms
+pub mod Runs

@@ -3,3 +3,4 @@ pub mod Declarations
 pub mod Kinds
 pub mod Scopes
 pub mod Operands
+pub mod Rules

@@ -3,7 +3,9 @@
 //! none that is valid is turned away.
 #![tactic(auto)]
 
+mod block;
 mod declared;
 mod misfit;
 mod operand;
 mod scope;
+mod side;
