@@ -6,3 +6,5 @@ pub mod GrownScopes
 pub mod OperandForms
 pub mod BlockForms
 pub mod Runs
+pub mod GrownDrivers
+pub mod Steps

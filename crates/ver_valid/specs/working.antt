@@ -4,3 +4,5 @@ pub mod Kinds
 pub mod Scopes
 pub mod Operands
 pub mod Rules
+pub mod Drivers
+pub mod Walks

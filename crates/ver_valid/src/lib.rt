@@ -5,7 +5,9 @@
 
 mod block;
 mod declared;
+mod driver;
 mod misfit;
 mod operand;
 mod scope;
 mod side;
+mod walk;
