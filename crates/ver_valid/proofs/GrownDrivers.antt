@@ -7,6 +7,7 @@ use Rattle.std.specs.Str.{bytes_eq}
 use Rattle.indexmap.specs.IndexSet.{insert_key}
 use Rattle.fir_base.specs.Lists.{In}
 use Rattle.fir_base.proofs.Members.{in_left, in_right, in_either}
+use Rattle.fir_base.proofs.Twins.{distinct_more}
 use Rattle.fir_base.proofs.SameNames.{name_is, name_same}
 use Rattle.ver_valid.specs.declared.driver.Driven.{Driven}
 use Rattle.ver_valid.specs.working.Drivers.{has, Drives}
@@ -67,4 +68,5 @@ drives_more old new ns n key inserted named free d =
           (λ (e : n ≡ m). or_right (has old m) (bytes_eq m key.items) (ap (bytes_eq m) (named ∙ e) ∙ name_same m))
           (λ (o : ⊥). absurd o) j)
           (in_either ns (n ∷ []) m i);
+      once = distinct_more ns n d.once (undriven old ns n d free);
     }

@@ -8,3 +8,4 @@ pub mod BlockForms
 pub mod Runs
 pub mod GrownDrivers
 pub mod Steps
+pub mod Times

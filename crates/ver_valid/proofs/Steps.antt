@@ -1,5 +1,5 @@
 -- What the walk knows behind one port or item more.
-use Rattle.std.proofs.Common.{◌≡◌, ℕ, suc, ◌+◌, ◌<◌, ◌≤◌, List, [], ◌∷◌, ◌++◌, map, flat_map, length, take, drop, get_or, refl, sym, ap, ◌∙◌, subst, append_assoc, append-nil, add-one, arith}
+use Rattle.std.proofs.Common.{◌≡◌, ℕ, suc, ◌+◌, ◌<◌, ◌≤◌, List, [], ◌∷◌, ◌++◌, map, flat_map, length, take, drop, get_or, refl, sym, ap, ◌∙◌, subst, append_assoc, append-nil, add-one, add-zero, inl, inr, ⊎_elim, slice_get, Some, arith}
 use Rattle.std.specs.Prelude.{Result, Ok, Err, OnOk, ◌↔◌}
 use Rattle.std.specs.Result.{IsErrAnd}
 use Rattle.std.proofs.lemmas.Result.{err_from_is_err_and}
@@ -13,7 +13,9 @@ use Rattle.fir_base.specs.declared.refused.Refused.{Refused}
 use Rattle.ver_ast.specs.declared.tree.Verilog.{Verilog}
 use Rattle.ver_ast.specs.declared.tree.Port.{Port}
 use Rattle.ver_ast.specs.declared.tree.Item.{Item}
-use Rattle.ver_ast.specs.Nets.{AlwaysBlock, Variable, item_block, item_array, block_target, block_targets, blocks, arrays}
+use Rattle.ver_ast.specs.Nets.{AlwaysBlock, Variable, item_block, item_array, block_target, block_targets, blocks, first_array, arrays}
+use Rattle.ver_ast.specs.declared.tree.Write.{Write}
+use Rattle.ver_ast.specs.Valid.{IsSoundBlock}
 use Rattle.ver_valid.specs.declared.driver.Driven.{Driven}
 use Rattle.ver_valid.specs.declared.misfit.Misfit.{Misfit}
 use Rattle.ver_valid.specs.declared.scope.Scope.{Scope}
@@ -22,9 +24,9 @@ use Rattle.ver_valid.specs.working.Judgement.{Denies, Judges}
 use Rattle.ver_valid.specs.working.Declarations.{Entry, entries, port_entry, item_entries}
 use Rattle.ver_valid.specs.working.Scopes.{TellsOf}
 use Rattle.ver_valid.specs.working.Drivers.{Drives}
-use Rattle.ver_valid.specs.working.Walks.{AreNextItems, AreNextPorts, IsNextItem, IsNextPort, Reflects, Steps, assigned_names, written_names, item_target, item_written, words_of, with_items, with_ports}
+use Rattle.ver_valid.specs.working.Walks.{AreNextItems, AreNextPorts, IsNextBlock, IsNextItem, IsNextPort, Reflects, Steps, assigned_names, written_names, item_target, item_written, words_of, with_items, with_ports}
 use Rattle.ver_valid.proofs.Entries.{flat_append}
-use Rattle.ver_valid.proofs.Judging.{denied_more}
+use Rattle.ver_valid.proofs.Judging.{denied_more, judged_same}
 
 flat_more : {X A : Type 0} → (f : X → List A) (xs : List X) (x : X) → flat_map f (xs ++ x ∷ []) ≡ flat_map f xs ++ f x
 flat_more f xs x = flat_append f xs (x ∷ []) ∙ ap (λ ys. flat_map f xs ++ ys) (append-nil (f x))
@@ -98,6 +100,34 @@ if_ok (Err e) P Q to h = tt
 pub steps_declared : (r : Result Unit (Refused Misfit)) (P N X Q : Type 0) → N → Judges r P → (X → Q) → OnOk r X → Steps r (P × N) Q
 steps_declared (Ok x) P N X Q n h more q = ((h, n), more q)
 steps_declared (Err e) P N X Q n h more q = denied_more e P (P × N) (λ b. b.0) h
+
+pub steps_driven : (r : Result Unit (Refused Misfit)) (P F X Q : Type 0) → P → Judges r F → (X → Q) → OnOk r X → Steps r (P × F) Q
+steps_driven (Ok x) P F X Q p h more q = ((p, h), more q)
+steps_driven (Err e) P F X Q p h more q = denied_more e F (P × F) (λ b. b.1) h
+
+pub first_is : (ws : List Write) (x : Write) → Some x ≡ slice_get ws 0 → first_array ws ≡ x.array ∷ []
+first_is [] x e = absurd (cc)
+first_is (w ∷ ws) x e = let same : x ≡ w = cc in ap (λ (y : Write). y.array ∷ []) (sym same)
+
+-- what a block writes is driven with the block
+pub block_step : (old : Walk) (written : Driven) (v : Verilog) (i : Item) (b : AlwaysBlock) (n : List ℕ) (r : Result Unit (Refused Misfit)) → Reflects old v
+    → item_entries i ≡ [] → item_target i ≡ [] → item_block i ≡ b ∷ [] → item_array i ≡ [] → block_target b ≡ n ∷ [] → IsSoundBlock v b
+    → Judges r (In (written_names v) n → ⊥) → OnOk r ((ns : List (List ℕ)) → Drives old.written ns → Drives written (ns ++ n ∷ []))
+    → Steps r (IsNextBlock v b) (Reflects (record old { written = written }) (with_items v (i ∷ [])))
+block_step old written v i b n r known entry target block array own sound fresh driven =
+    let new = record old { written = written } in
+    let writes : item_written i ≡ n ∷ [] = ap block_targets block ∙ append-nil (block_target b) ∙ own in
+    steps_driven r (IsSoundBlock v b) ((m : List ℕ) → In (block_target b) m → In (written_names v) m → ⊥)
+    ((ns : List (List ℕ)) → Drives old.written ns → Drives written (ns ++ n ∷ [])) (Reflects new (with_items v (i ∷ []))) sound
+    (judged_same r (In (written_names v) n → ⊥) ((m : List ℕ) → In (block_target b) m → In (written_names v) m → ⊥)
+    (λ h m j k. ⊎_elim (λ (e : n ≡ m). h (subst (In (written_names v)) (sym e) k)) (λ (o : ⊥). o) (subst (λ (ns : List (List ℕ)). In ns m) own j))
+    (λ h k. h n (subst (λ (ns : List (List ℕ)). In ns n) (sym own) (inl refl)) k) fresh)
+    (λ more. reflects_item old new v i known
+    (subst (λ (es : List Entry). TellsOf old.scope (entries v ++ es)) (sym entry) (none_more (TellsOf old.scope) (entries v) known.tells))
+    (subst (λ (ns : List (List ℕ)). Drives old.assigned (assigned_names v ++ ns)) (sym target) (none_more (Drives old.assigned) (assigned_names v) known.assigned))
+    (subst (λ (ns : List (List ℕ)). Drives written (written_names v ++ ns)) (sym writes) (more (written_names v) known.written))
+    (ap (λ ks. old.room + words_of ks) array ∙ add-zero old.room))
+    driven
 
 -- in the midst of the ports: the walk knows those before, and all are sound where the rest is
 pub record AmidPorts (walk : Walk) (v : Verilog) (ps : List Port) (k : ℕ) : Type 0 where

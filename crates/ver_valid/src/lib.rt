@@ -6,6 +6,7 @@
 mod block;
 mod declared;
 mod driver;
+mod judge;
 mod misfit;
 mod operand;
 mod scope;

@@ -27,6 +27,11 @@ pub record TellsOf (scope : Scope) (es : List Entry) : Type 0 where
 abbrev pub Tells : Scope → Verilog → Type 0
 Tells scope v = TellsOf scope (entries v)
 
+-- each name is declared once, with a width that it can have
+pub record IsFine (v : Verilog) : Type 0 where
+  pub once : Distinct (entry_names (entries v))
+  pub narrow : (e : Entry) → In (entries v) e → IsNarrowKind e.1
+
 -- an array of that name, with words of so many bits
 abbrev pub HasArray : Verilog → List ℕ → ℕ → Type 0
 HasArray v name w = (k : Variable) × In (arrays v) k × (k.name ≡ name) × (k.width ≡ w)

@@ -1,7 +1,7 @@
 -- What a port and an item of a valid tree are behind those before them.
 use Rattle.std.specs.Prelude.{◌≡◌, ℕ, ◌+◌, ◌≤◌, List, [], ◌∷◌, ◌++◌, flat_map, IsTrue, Result, Ok, Err, ◌⊎◌}
 use Rattle.std.specs.List.{AllByRecursion, sum_by}
-use Rattle.fir_base.specs.Lists.{In}
+use Rattle.fir_base.specs.Lists.{In, Distinct}
 use Rattle.fir_base.specs.declared.direction.Direction.{Direction}
 use Rattle.fir_base.specs.declared.direction.Direction.TheVariants.{Input, Output}
 use Rattle.fir_base.specs.declared.refused.Refused.{Refused}
@@ -17,7 +17,7 @@ use Rattle.ver_valid.specs.declared.misfit.Misfit.{Misfit}
 use Rattle.ver_valid.specs.declared.walk.Walk.{Walk}
 use Rattle.ver_valid.specs.working.Judgement.{Denies}
 use Rattle.ver_valid.specs.working.Declarations.{entries, entry_names, port_kind, IsNarrow, IsNarrowKind}
-use Rattle.ver_valid.specs.working.Scopes.{Tells, driven_nets}
+use Rattle.ver_valid.specs.working.Scopes.{IsFine, Tells, driven_nets}
 use Rattle.ver_valid.specs.working.Drivers.{Drives}
 
 abbrev pub with_ports : Verilog → List Port → Verilog
@@ -110,6 +110,10 @@ no_items v = record v { items = [] }
 
 -- all that a valid tree is but an order of its processes
 pub record IsWalked (v : Verilog) : Type 0 where
+  pub fine : IsFine v
+  pub few : words_of (arrays v) ≤ 4194304
+  pub assigned_once : Distinct (assigned_names v)
+  pub written_once : Distinct (written_names v)
   pub ports : AreNextPorts (no_ports v) v.ports
   pub items : AreNextItems (no_items v) v.items
   pub outputs : AllByRecursion (IsPortDriven (assigned_names v)) v.ports
