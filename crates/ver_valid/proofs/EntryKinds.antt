@@ -7,10 +7,11 @@ use Rattle.fir_base.specs.Lists.{In, Distinct}
 use Rattle.fir_base.proofs.Members.{in_map, in_flat_map, in_flat_map_from}
 use Rattle.fir_base.proofs.SameNames.{name_is, name_same, name_other}
 use Rattle.fir_base.proofs.Tests.{chosen as which}
-use Rattle.ver_ast.specs.Nets.{SizedNet}
+use Rattle.ver_ast.specs.Nets.{SizedNet, Variable}
 use Rattle.ver_valid.specs.declared.declared.Declared.{Declared}
+use Rattle.ver_valid.specs.declared.declared.Declared.TheVariants.{Array}
 use Rattle.ver_valid.specs.working.Declarations.{Entry, entry_names, kind_among}
-use Rattle.ver_valid.specs.working.Kinds.{sized_as, sized, chosen}
+use Rattle.ver_valid.specs.working.Kinds.{sized_as, sized, chosen, array_of}
 
 
 -- an entry is found under its name, and what is found is an entry
@@ -48,7 +49,7 @@ known_or_not (e ∷ es) n (inr m) h =
     (which (bytes_eq n e.0) (Some e.1) (kind_among es n) None h)
 
 -- the one name of an entry that has a width
-in_sized : (n : List ℕ) (o : Option ℕ) (m : List ℕ) (w : ℕ) → In (sized_as n o) (m, w) → (n ≡ m) × (o ≡ Some w)
+pub in_sized : (n : List ℕ) (o : Option ℕ) (m : List ℕ) (w : ℕ) → In (sized_as n o) (m, w) → (n ≡ m) × (o ≡ Some w)
 in_sized n None m w i = absurd i
 in_sized n (Some x) m w (inl e) = (ap (λ (y : SizedNet). y.0) e, ap (λ (y : SizedNet). Some y.1) e)
 in_sized n (Some x) m w (inr i) = absurd i
@@ -87,7 +88,7 @@ module _ (width : Declared → Option ℕ) (es : List Entry) (once : Distinct (e
   pub not_known : kind_among es n ≡ None → (w : ℕ) → Sized w → ⊥
   not_known k w m = let r = sized_kind w m in none-some r.0 (sym k ∙ r.1)
 
-in_chosen : (n : List ℕ) (b : Bool) (m : List ℕ) → In (if b then n ∷ [] else []) m → (n ≡ m) × (b ≡ true)
+pub in_chosen : (n : List ℕ) (b : Bool) (m : List ℕ) → In (if b then n ∷ [] else []) m → (n ≡ m) × (b ≡ true)
 in_chosen n true m (inl e) = (e, refl)
 in_chosen n true m (inr i) = absurd i
 in_chosen n false m i = absurd i
@@ -114,3 +115,9 @@ module _ (test : Declared → Bool) (es : List Entry) (once : Distinct (entry_na
 
   pub not_chosen : kind_among es n ≡ None → Chosen → ⊥
   not_chosen k m = let r = chosen_kind m in none-some r.0 (sym k ∙ r.1)
+
+-- an array has the name of its entry
+pub in_array : (n : List ℕ) (d : Declared) (k : Variable) → In (array_of n d) k → k.name ≡ n
+in_array n (Array x last) k (inl e) = ap (λ (y : Variable). y.name) (sym e)
+in_array n (Array x last) k (inr i) = absurd i
+in_array n _ k i = absurd i

@@ -3,9 +3,11 @@ pub mod Entries
 pub mod EntryKinds
 pub mod Told
 pub mod GrownScopes
+pub mod Fine
 pub mod OperandForms
 pub mod BlockForms
 pub mod Runs
 pub mod GrownDrivers
 pub mod Steps
 pub mod Times
+pub mod Keeps

@@ -52,13 +52,13 @@ at_most_one false = omega arith
 
 pub once_at_most : (xs : List (List ℕ)) → Distinct xs → (n : List ℕ) → times n xs ≤ 1
 once_at_most [] d n = omega arith
-once_at_most (x ∷ xs) d n = by (bytes_eq x n) refl
+once_at_most (x ∷ xs) d n = by (bytes_eq x n) refl (once_at_most xs d.1 n)
   where
-    by : (b : Bool) → bytes_eq x n ≡ b → here b + times n xs ≤ 1
-    by true e =
+    by : (b : Bool) → bytes_eq x n ≡ b → times n xs ≤ 1 → here b + times n xs ≤ 1
+    by true e rest =
         let none : times n xs ≡ 0 = none_times n xs (λ m. d.0 (subst (In xs) (sym (name_is x n e)) m)) in
         omega arith
-    by false e = omega (arith, once_at_most xs d.1 n)
+    by false e rest = omega arith
 
 pub distinct_by_times : (xs : List (List ℕ)) → ((n : List ℕ) → times n xs ≤ 1) → Distinct xs
 distinct_by_times [] h = tt
@@ -90,18 +90,18 @@ four_is n es =
     let d = flat_map (chosen is_clock_output) es in
     omega (arith, times_joined n (a ++ b) (c ++ d), times_joined n a b, times_joined n c d)
 
+one_more : (n m : List ℕ) (k : Declared) (es : List Entry) → four n es ≡ times n (entry_names es) → four n ((m, k) ∷ es) ≡ here (bytes_eq m n) + times n (entry_names es)
+one_more n m ClockInput es h = omega arith
+one_more n m ClockOutput es h = omega arith
+one_more n m (Input w) es h = omega arith
+one_more n m (Output w) es h = omega arith
+one_more n m (Wire w) es h = omega arith
+one_more n m (Register w) es h = omega arith
+one_more n m (Array w last) es h = omega arith
+
 four_times : (n : List ℕ) (es : List Entry) → four n es ≡ times n (entry_names es)
 four_times n [] = refl
-four_times n ((m, k) ∷ es) = by k
-  where
-    by : (k : Declared) → four n ((m, k) ∷ es) ≡ here (bytes_eq m n) + times n (entry_names es)
-    by ClockInput = omega (arith, four_times n es)
-    by ClockOutput = omega (arith, four_times n es)
-    by (Input w) = omega (arith, four_times n es)
-    by (Output w) = omega (arith, four_times n es)
-    by (Wire w) = omega (arith, four_times n es)
-    by (Register w) = omega (arith, four_times n es)
-    by (Array w last) = omega (arith, four_times n es)
+four_times n (e ∷ es) = one_more n e.0 e.1 es (four_times n es)
 
 abbrev pub all_names : Verilog → List (List ℕ)
 all_names v = (clocks v ++ names_of (nets v)) ++ (variable_names (arrays v) ++ output_clocks v)
@@ -130,16 +130,17 @@ kinds_once v d =
 assigned_times : (outs : List (List ℕ)) (n : List ℕ) (is : List Item)
     → times n (targets (flat_map (item_assign outs) is)) + times n (targets (flat_map (item_clock_assign outs) is)) ≡ times n (flat_map item_target is)
 assigned_times outs n [] = refl
-assigned_times outs n ((item.Assign a) ∷ is) = by (is_among outs a.target)
+assigned_times outs n ((item.Assign a) ∷ is) = by (is_among outs a.target) (assigned_times outs n is)
   where
     both : Bool → ℕ
     both b =
         times n (targets ((if b then [] else (a ∷ [])) ++ flat_map (item_assign outs) is))
         + times n (targets ((if b then (a ∷ []) else []) ++ flat_map (item_clock_assign outs) is))
 
-    by : (b : Bool) → both b ≡ here (bytes_eq a.target n) + times n (flat_map item_target is)
-    by true = omega (arith, assigned_times outs n is)
-    by false = omega (arith, assigned_times outs n is)
+    by : (b : Bool) → times n (targets (flat_map (item_assign outs) is)) + times n (targets (flat_map (item_clock_assign outs) is)) ≡ times n (flat_map item_target is)
+        → both b ≡ here (bytes_eq a.target n) + times n (flat_map item_target is)
+    by true h = omega arith
+    by false h = omega arith
 assigned_times outs n (i ∷ is) = assigned_times outs n is
 
 same_targets : (v : Verilog) (n : List ℕ) → times n (targets (assigns v ++ clock_assigns v)) ≡ times n (assigned_names v)

@@ -1,8 +1,8 @@
-use Rattle.std.proofs.Common.{◌≡◌, ℕ, ◌+◌, List, refl, sym, ap, subst, arith}
+use Rattle.std.proofs.Common.{List, refl, sym, subst, arith}
 use Rattle.std.specs.List.{AllByRecursion}
 use Rattle.ver_ast.specs.declared.tree.Port.{Port}
 use Rattle.ver_ast.specs.declared.tree.Item.{Item}
-use Rattle.ver_valid.specs.working.Walks.{AreNextItems, AreNextPorts, IsItemDriven, IsPortDriven, IsWalked, Reflects, Steps, assigned_names, no_items, no_ports, with_items, with_ports}
+use Rattle.ver_valid.specs.working.Walks.{AreNextItems, AreNextPorts, IsItemDriven, IsPortDriven, IsWalked, Reflects, assigned_names, no_items, no_ports, with_items, with_ports}
 use Rattle.ver_valid.proofs.Judging.{judged_err, judged_same, denied_more}
 use Rattle.ver_valid.proofs.judge.all_but_order.Goals as goal
 

@@ -4,7 +4,8 @@ use Rattle.fir_base.specs.Lists.{In}
 use Rattle.ver_ast.specs.Nets.{nets, width_among}
 use Rattle.ver_valid.specs.working.Operands.{IsPart}
 use Rattle.ver_valid.proofs.Judging.{denied_more}
-use Rattle.ver_valid.proofs.OperandForms.{known_width, width_of_net}
+use Rattle.ver_valid.proofs.Fine.{width_of_net}
+use Rattle.ver_valid.proofs.OperandForms.{known_width}
 use Rattle.ver_valid.proofs.operand.part_width.Goals as goal
 use Rattle.ver_valid.proofs.operand.part_width.Goals.{else-width-ge2-via-then-width-ge2+then-low-high+else-high-width, else-width-ge2-via-then-width-ge2+else-low-high, else-width-ge2-via-else-width-ge2}
 

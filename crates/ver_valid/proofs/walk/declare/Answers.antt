@@ -1,4 +1,4 @@
-use Rattle.std.proofs.Common.{◌≡◌, List, [], ◌∷◌, ◌++◌}
+use Rattle.std.proofs.Common.{List, [], ◌∷◌, ◌++◌}
 use Rattle.fir_base.specs.Lists.{In}
 use Rattle.ver_valid.specs.working.Declarations.{Entry, entry_names, IsNarrow, IsNarrowKind}
 use Rattle.ver_valid.specs.working.Scopes.{TellsOf}

@@ -1,6 +1,6 @@
-use Rattle.std.proofs.Common.{◌≡◌, ◌+◌, ◌-◌, ◌≤◌, List, [], ◌∷◌, ◌++◌, refl, arith}
+use Rattle.std.proofs.Common.{◌≡◌, ◌+◌, ◌-◌, [], ◌∷◌, ◌++◌, refl, arith}
 use Rattle.ver_ast.specs.declared.tree.Item.TheVariants as item
-use Rattle.ver_ast.specs.Nets.{arrays, item_array}
+use Rattle.ver_ast.specs.Nets.{item_array}
 use Rattle.ver_valid.specs.working.Declarations.{entries, item_entries}
 use Rattle.ver_valid.specs.working.Scopes.{TellsOf}
 use Rattle.ver_valid.specs.working.Drivers.{Drives}

@@ -1,4 +1,4 @@
-use Rattle.std.proofs.Common.{◌≡◌, ℕ, List, [], ◌∷◌, ◌++◌, add-zero}
+use Rattle.std.proofs.Common.{ℕ, List, [], ◌∷◌, ◌++◌, add-zero}
 use Rattle.fir_base.specs.Lists.{In}
 use Rattle.ver_ast.specs.declared.tree.Item.TheVariants as item
 use Rattle.ver_valid.specs.working.Declarations.{entries}

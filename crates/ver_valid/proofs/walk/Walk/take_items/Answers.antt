@@ -1,9 +1,8 @@
-use Rattle.std.proofs.Common.{◌≡◌, [], ◌∷◌, arith}
-use Rattle.ver_ast.specs.declared.tree.Verilog.{Verilog}
+use Rattle.std.proofs.Common.{arith}
 use Rattle.std.proofs.Common.{take}
 use Rattle.ver_valid.specs.working.Walks.{AreNextItems, IsNextItem, Reflects, with_items}
 use Rattle.ver_valid.proofs.Judging.{denied_more}
-use Rattle.ver_valid.proofs.Steps.{steps_err, AmidItems, amid_first_item, item_next, item_more, items_done}
+use Rattle.ver_valid.proofs.Steps.{steps_err, amid_first_item, item_next, item_more, items_done}
 use Rattle.ver_valid.proofs.walk.Walk.take_items.Goals as goal
 
 pub loop-item-init : goal.loop-item-init

@@ -1,4 +1,3 @@
-use Rattle.std.proofs.Common.{◌≡◌, []}
 use Rattle.ver_ast.specs.declared.tree.Verilog.{Verilog}
 use Rattle.ver_valid.specs.working.Walks.{Reflects}
 use Rattle.ver_valid.proofs.Steps.{AmidItems}

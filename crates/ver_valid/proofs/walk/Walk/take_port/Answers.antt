@@ -1,7 +1,6 @@
-use Rattle.std.proofs.Common.{◌≡◌, List, [], ◌∷◌, ◌++◌, refl, sym, subst}
-use Rattle.fir_base.specs.Lists.{In}
+use Rattle.std.proofs.Common.{List, [], ◌∷◌, ◌++◌, refl, sym, subst}
 use Rattle.ver_valid.specs.declared.declared.Declared.{Declared}
-use Rattle.ver_valid.specs.working.Declarations.{Entry, entries, entry_names, port_entry, IsNarrowKind}
+use Rattle.ver_valid.specs.working.Declarations.{Entry, entries, IsNarrowKind}
 use Rattle.ver_valid.specs.working.Scopes.{TellsOf}
 use Rattle.ver_valid.specs.working.Walks.{IsFresh, IsNextPort, Reflects, with_ports}
 use Rattle.ver_valid.proofs.Steps.{steps_judged, reflects_port, if_ok}

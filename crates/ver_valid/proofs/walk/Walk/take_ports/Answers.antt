@@ -1,9 +1,8 @@
-use Rattle.std.proofs.Common.{◌≡◌, [], ◌∷◌, arith}
-use Rattle.ver_ast.specs.declared.tree.Verilog.{Verilog}
+use Rattle.std.proofs.Common.{arith}
 use Rattle.std.proofs.Common.{take}
 use Rattle.ver_valid.specs.working.Walks.{AreNextPorts, IsNextPort, Reflects, with_ports}
 use Rattle.ver_valid.proofs.Judging.{denied_more}
-use Rattle.ver_valid.proofs.Steps.{steps_err, AmidPorts, amid_first_port, port_next, port_more, ports_done}
+use Rattle.ver_valid.proofs.Steps.{steps_err, amid_first_port, port_next, port_more, ports_done}
 use Rattle.ver_valid.proofs.walk.Walk.take_ports.Goals as goal
 
 pub loop-port-init : goal.loop-port-init

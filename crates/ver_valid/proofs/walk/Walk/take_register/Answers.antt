@@ -1,4 +1,4 @@
-use Rattle.std.proofs.Common.{◌≡◌, List, [], ◌∷◌, ◌++◌, add-zero}
+use Rattle.std.proofs.Common.{[], ◌∷◌, ◌++◌, add-zero}
 use Rattle.ver_ast.specs.declared.tree.Item.TheVariants as item
 use Rattle.ver_valid.specs.working.Declarations.{entries, item_entries}
 use Rattle.ver_valid.specs.working.Scopes.{TellsOf}

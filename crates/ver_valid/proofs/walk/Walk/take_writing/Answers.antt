@@ -1,4 +1,4 @@
-use Rattle.std.proofs.Common.{refl, sym, ap, ◌∙◌, slice_get}
+use Rattle.std.proofs.Common.{refl, ap, ◌∙◌, slice_get}
 use Rattle.ver_ast.specs.declared.tree.Item.TheVariants as item
 use Rattle.ver_ast.specs.declared.tree.Write.{Write}
 use Rattle.std.proofs.Common.{List}
