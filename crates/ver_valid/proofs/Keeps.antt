@@ -34,6 +34,12 @@ Keeps v u n = (d : Declared) → In (entries v) (n, d) → In (entries u) (n, d)
 pub record KeepsAll (v u : Verilog) (ns : List (List ℕ)) : Type 0 where
   pub each : (n : List ℕ) → In ns n → Keeps v u n
 
+-- the names that a block uses
+abbrev pub block_names : AlwaysBlock → List (List ℕ)
+block_names (plain_block b) = b.clock ∷ b.target ∷ atom_names b.source
+block_names (resetting_block b) = b.reset ∷ b.tested ∷ b.target ∷ edge_names b.edge
+block_names (writing_block b) = b.clock ∷ flat_map write_names b.writes
+
 module _ (v u : Verilog) where
   pub keeps_left : (xs ys : List (List ℕ)) → KeepsAll v u (xs ++ ys) → KeepsAll v u xs
   keeps_left xs ys k = record { each = λ n m. k.each n (in_left xs ys n m) }
@@ -214,12 +220,6 @@ module _ (v u : Verilog) where
     kept_writes : (xs : List Write) → KeepsAll v u (flat_map write_names xs) → AreWrites v xs → AreWrites u xs
     kept_writes [] k h = tt
     kept_writes (x ∷ xs) k h = kept_each x.array (x ∷ xs) k h
-
-    -- the names that a block uses
-    abbrev pub block_names : AlwaysBlock → List (List ℕ)
-    block_names (plain_block b) = b.clock ∷ b.target ∷ atom_names b.source
-    block_names (resetting_block b) = b.reset ∷ b.tested ∷ b.target ∷ edge_names b.edge
-    block_names (writing_block b) = b.clock ∷ flat_map write_names b.writes
 
     pub kept_block : (b : AlwaysBlock) → KeepsAll v u (block_names b) → IsSoundBlock v b → IsSoundBlock u b
     kept_block (plain_block b) k h = record {

@@ -11,3 +11,8 @@ pub mod GrownDrivers
 pub mod Steps
 pub mod Times
 pub mod Keeps
+pub mod KnownNames
+pub mod Behind
+pub mod BehindPorts
+pub mod TreeMembers
+pub mod FromWalk
