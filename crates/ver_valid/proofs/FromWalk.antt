@@ -165,7 +165,7 @@ module _ (v : Verilog) (is : IsWalked v) where
       let own : is_among (output_clocks v) r.0.target ≡ true = is_named (output_clocks v) r.0.target (subst (In (output_clocks v)) (sym r.2) m) in
       subst (In (targets (clock_assigns v))) r.2 (in_map (λ (a : Assign). a.target) (clock_assigns v) r.0 (in_clock_assigns v r.0 r.1 own))
 
-  sources_undriven : (n : List ℕ) → In (names_of (input_nets v ++ regs v)) n → In (targets (assigns v)) n → ⊥
+  pub sources_undriven : (n : List ℕ) → In (names_of (input_nets v ++ regs v)) n → In (targets (assigns v)) n → ⊥
   sources_undriven n m k =
       let s = in_map_from (λ (s : SizedNet). s.0) (input_nets v ++ regs v) n m in
       let a = in_map_from (λ (a : Assign). a.target) (assigns v) n k in
@@ -181,7 +181,7 @@ module _ (v : Verilog) (is : IsWalked v) where
   block_of (item.Writing x) b (inr m) h = absurd m
   block_of _ b m h = absurd m
 
-  all_blocks : (b : AlwaysBlock) → In (blocks v) b → IsSoundBlock v b
+  pub all_blocks : (b : AlwaysBlock) → In (blocks v) b → IsSoundBlock v b
   all_blocks b m = let r = in_flat_map_from item_block v.items b m in block_of r.0 b r.2 (sound_at r.0 r.1)
 
   narrow_words : (k : Variable) → In (arrays v) k → IsNarrow k.width

@@ -27,6 +27,25 @@ use Rattle.ver_valid.proofs.EntryKinds.{in_sized, in_chosen, in_array}
 use Rattle.ver_valid.proofs.Fine.{width_of_net}
 use Rattle.ver_valid.proofs.Keeps.{block_names}
 
+-- a sound operand reads nets: names of which each net is one are its names
+module _ (ns : List SizedNet) (names : List (List ℕ)) (wide : (n : List ℕ) → 1 ≤ width_among ns n → In names n) where
+  mutual
+    pub atom_among : (a : AtomTree) → IsSound ns a → EachIn (atom_names a) names
+    atom_among (net n) s = (wide n s, tt)
+    atom_among (constant width value) s = tt
+    atom_among (bit_select n i) s = let two = s.0 in (wide n (omega arith), tt)
+    atom_among (part_select n hi lo) s = let two = s.0 in (wide n (omega arith), tt)
+    atom_among (concat a more) s = each_joined (atom_names a) (joined_names more) names (atom_among a s.0) (joined_among more s.1)
+    atom_among (repeat count a) s = atom_among a s.0
+
+    joined_among : (more : AtomTrees) → AreSound ns more → EachIn (joined_names more) names
+    joined_among no_atoms s = tt
+    joined_among (atom_before a more) s = each_joined (atom_names a) (joined_names more) names (atom_among a s.0) (joined_among more s.1)
+
+  pub atoms_among : (atoms : List AtomTree) → AllByRecursion (IsOperand ns) atoms → EachIn (flat_map atom_names atoms) names
+  atoms_among [] h = tt
+  atoms_among (a ∷ atoms) h = each_joined (atom_names a) (flat_map atom_names atoms) names (atom_among a h.0.sound) (atoms_among atoms h.1)
+
 module _ (v : Verilog) where
   abbrev pub Known : List ℕ → Type 0
   Known n = In (entry_names (entries v)) n
@@ -73,23 +92,8 @@ module _ (v : Verilog) where
   wide_known : (n : List ℕ) → 1 ≤ width_among (nets v) n → Known n
   wide_known n h = net_known n (width_among (nets v) n) (width_of_net (nets v) n h)
 
-  mutual
-    atom_known : (a : AtomTree) → IsSound (nets v) a → all_known (atom_names a)
-    atom_known (net n) s = (wide_known n s, tt)
-    atom_known (constant width value) s = tt
-    atom_known (bit_select n i) s = let two = s.0 in (wide_known n (omega arith), tt)
-    atom_known (part_select n hi lo) s = let two = s.0 in (wide_known n (omega arith), tt)
-    atom_known (concat a more) s = each_joined (atom_names a) (joined_names more) (entry_names (entries v)) (atom_known a s.0) (joined_known more s.1)
-    atom_known (repeat count a) s = atom_known a s.0
-
-    joined_known : (more : AtomTrees) → AreSound (nets v) more → all_known (joined_names more)
-    joined_known no_atoms s = tt
-    joined_known (atom_before a more) s = each_joined (atom_names a) (joined_names more) (entry_names (entries v)) (atom_known a s.0) (joined_known more s.1)
-
-  atoms_known : (atoms : List AtomTree) → AllByRecursion (IsOperand (nets v)) atoms → all_known (flat_map atom_names atoms)
-  atoms_known [] h = tt
-  atoms_known (a ∷ atoms) h =
-      each_joined (atom_names a) (flat_map atom_names atoms) (entry_names (entries v)) (atom_known a h.0.sound) (atoms_known atoms h.1)
+  atom_known : (a : AtomTree) → IsSound (nets v) a → all_known (atom_names a)
+  atom_known a s = atom_among (nets v) (entry_names (entries v)) wide_known a s
 
   side_arrays : (w : ℕ) (r : Rhs) → HasSideWidths (nets v) (arrays v) w r → all_known (rhs_arrays r)
   side_arrays w (rhs.Word m a) h = (array_known m h.0 h.2 h.1, tt)
@@ -101,7 +105,7 @@ module _ (v : Verilog) where
   side_arrays w (rhs.Conditional c a b) h = tt
 
   side_known : (w : ℕ) (r : Rhs) → IsSoundSide (nets v) (arrays v) w r → all_known (rhs_arrays r ++ rhs_names r)
-  side_known w r s = each_joined (rhs_arrays r) (rhs_names r) (entry_names (entries v)) (side_arrays w r s.widths) (atoms_known (rhs_atoms r) s.operands)
+  side_known w r s = each_joined (rhs_arrays r) (rhs_names r) (entry_names (entries v)) (side_arrays w r s.widths) (atoms_among (nets v) (entry_names (entries v)) wide_known (rhs_atoms r) s.operands)
 
   clock_side_known : (r : Rhs) → IsClockSide v r → all_known (rhs_arrays r ++ rhs_names r)
   clock_side_known (rhs.Atom (net n)) h = (clock_known n h, tt)

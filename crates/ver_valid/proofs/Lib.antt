@@ -16,3 +16,5 @@ pub mod Behind
 pub mod BehindPorts
 pub mod TreeMembers
 pub mod FromWalk
+pub mod ToWalk
+pub mod Ready
