@@ -1,0 +1,4 @@
+pub mod Numbering
+pub mod AtomItems
+pub mod DrivenNets
+pub mod ProcessReads

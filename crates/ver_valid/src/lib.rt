@@ -2,3 +2,11 @@
 //! whether it is valid. The answer is exact, as `specs/Valid` of ver_ast has it: no tree that is not valid passes, and
 //! none that is valid is turned away.
 #![tactic(auto)]
+
+mod declared;
+mod drivers;
+mod numbers;
+mod ordered;
+mod reads;
+
+pub use ordered::has_order;
