@@ -73,18 +73,17 @@ module _ (v : Verilog) (d : Drivers) (t : AreDrivers v d) where
   -- what a process drives
   pub driven : (n : List ℕ) (k : ℕ) → driver_in d n ≡ Some k → (In (source_names v) n → ⊥) × (slice_get (process_targets (processes v)) k ≡ Some n)
   driven n k e =
-      let r = by_process (is_some (number_in d.inputs n)) (is_some (number_in d.registers n)) (is_some (number_in d.blocks n)) (number_in d.processes n) k e in
-      (
+      let r = by_process (is_some (number_in d.inputs n)) (is_some (number_in d.registers n)) (is_some (number_in d.blocks n)) (number_in d.processes n) k e in (
         λ m.
-          ⊎_elim
-          (λ (o : In (names_of (input_nets v)) n).
-          let yes : is_some (number_in d.inputs n) ≡ true = is_input n ∙ is_named (names_of (input_nets v)) n o in
-          let no : true ≡ false = sym yes ∙ r.0 in
-          cc)
-          (λ (o : In (names_of (plain_regs v)) n).
-          let no : true ≡ false = sym (plain_number n o) ∙ r.1 in
-          cc)
-          (named_either (input_nets v) (plain_regs v) n m),
+            ⊎_elim
+            (λ (o : In (names_of (input_nets v)) n).
+            let yes : is_some (number_in d.inputs n) ≡ true = is_input n ∙ is_named (names_of (input_nets v)) n o in
+            let no : true ≡ false = sym yes ∙ r.0 in
+            cc)
+            (λ (o : In (names_of (plain_regs v)) n).
+            let no : true ≡ false = sym (plain_number n o) ∙ r.1 in
+            cc)
+            (named_either (input_nets v) (plain_regs v) n m),
         t.processes.found n k r.2,
       )
 

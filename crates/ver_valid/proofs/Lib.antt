@@ -2,3 +2,4 @@ pub mod Numbering
 pub mod AtomItems
 pub mod DrivenNets
 pub mod ProcessReads
+pub mod ProcessOrders

@@ -1,11 +1,9 @@
 -- Names that have numbers: one more of them, and which have none.
-use Rattle.std.proofs.Common.{◌≡◌, ℕ, suc, List, [], ◌∷◌, ◌++◌, Bool, true, false, cond, length, refl, sym, ap, ◌∙◌, inl, inr, ◌⊎◌, ⊎_elim, subst}
+use Rattle.std.proofs.Common.{◌≡◌, ℕ, List, [], ◌∷◌, ◌++◌, Bool, true, false, cond, length, refl, sym, ap, ◌∙◌, inl, inr, ◌⊎◌, ⊎_elim}
 use Rattle.std.specs.Prelude.{Vec, slice_get, Option, Some, None, is_some}
 use Rattle.std.specs.declared.alloc.Global.{Global}
-use Rattle.std.specs.Cmp.Lexicographic.{nat_list_eq_equiv}
 use Rattle.std.specs.Map.{lookup}
 use Rattle.std.specs.Str.{bytes_eq}
-use Rattle.std.proofs.lemmas.Option.{none-some}
 use Rattle.indexmap.specs.IndexMap.{insert_entry}
 use Rattle.fir_base.specs.Lists.{In}
 use Rattle.fir_base.specs.Words.{is_among}
@@ -13,7 +11,7 @@ use Rattle.fir_base.proofs.Elements.{get_in}
 use Rattle.fir_base.proofs.Members.{in_either}
 use Rattle.fir_base.proofs.SameNames.{name_is, name_same}
 use Rattle.fir_base.proofs.Writes.{push_left, push_end}
-use Rattle.ver_ast.proofs.Chosen.{in_or_not, true_or_false, is_named}
+use Rattle.ver_ast.proofs.Chosen.{in_or_not, is_named}
 use Rattle.ver_valid.specs.declared.numbers.Numbers.{Numbers}
 use Rattle.ver_valid.specs.working.Numbered.{number_in, IsNumbering}
 

@@ -1,14 +1,18 @@
 -- The graph of the processes: each has an edge to each process that drives what it reads.
-use Rattle.std.proofs.Common.{◌≡◌, ℕ, ◌<◌, List, [], ◌∷◌, ◌++◌, length, refl, sym, ap, ◌∙◌, inl, inr, ◌⊎◌, ⊎_elim, subst}
-use Rattle.std.specs.Prelude.{slice_get, Option, Some, None, map, option_to_list, option_map, unwrap_or}
-use Rattle.std.proofs.lemmas.List.{length-map, map-id}
+use Rattle.std.proofs.Common.{◌≡◌, ℕ, ◌<◌, List, [], ◌∷◌, ◌++◌, length, refl, sym, ap, ◌∙◌, inl, inr, ◌⊎◌, subst, Bor}
+use Rattle.std.specs.Prelude.{slice_get, Option, Some, None, IfSome, map, option_to_list, option_map, unwrap_or}
+use Rattle.std.proofs.lemmas.List.{length-map, map-id, map-append}
 use Rattle.std.proofs.lemmas.Option.{none-some, slice_get-map, slice_get_within}
 use Rattle.fir_base.specs.Lists.{In}
 use Rattle.fir_base.proofs.Elements.{beside, get_in, number_of, there}
 use Rattle.fir_base.proofs.Members.{in_flat_map, in_flat_map_from}
 use Rattle.fir_graph.specs.working.HasTarget.{HasTarget}
 use Rattle.ver_ast.specs.declared.tree.Verilog.{Verilog}
-use Rattle.ver_ast.specs.Processes.{Process, target, processes, process_targets, process_reads}
+use Rattle.ver_ast.specs.declared.tree.Assign.{Assign}
+use Rattle.ver_ast.specs.declared.tree.Resetting.{Resetting}
+use Rattle.ver_ast.specs.Names.{rhs_names}
+use Rattle.ver_ast.specs.Nets.{assigns, resets}
+use Rattle.ver_ast.specs.Processes.{Process, assigning, showing, target, processes, process_targets, process_reads}
 use Rattle.ver_valid.specs.declared.drivers.Drivers.{Drivers}
 use Rattle.ver_valid.specs.working.Driven.{driver_in, drivers_of, IsProcessGraph, targets_of}
 use Rattle.ver_valid.proofs.DrivenNets.{source_names, driven, undriven}
@@ -93,3 +97,28 @@ target_within v graph g i place w e =
     let d = g.right i w p.0 p.1 h in
     let q = from_map target (processes v) w d.net d.is_target in
     subst (λ (k : ℕ). w < k) (sym g.sized) (slice_get_within (processes v) w q.0 q.1)
+
+-- what drives the reads of assigns and of asynchronous blocks drives those of the processes
+pub process_drivers : (v : Verilog) (d : Drivers) (assigned : List (Bor Assign)) (shown : List (Bor Resetting)) (found graph : List (List ℕ))
+    → map (λ a. a.now) assigned ≡ assigns v → map (λ b. b.now) shown ≡ resets v → found ≡ map (λ a. drivers_of d (rhs_names a.now.rhs)) assigned
+    → graph ≡ found ++ map (λ b. drivers_of d (b.now.reset ∷ [])) shown → graph ≡ map (λ p. drivers_of d (process_reads p)) (processes v)
+process_drivers v d assigned shown found graph a b before all =
+    let drivers : List Process → List (List ℕ) = map (λ p. drivers_of d (process_reads p)) in
+    all
+    ∙ ap (λ (ts : List (List ℕ)). ts ++ map (λ (b : Bor Resetting). drivers_of d (b.now.reset ∷ [])) shown)
+    (before ∙ of_assigns assigned ∙ ap (λ (xs : List Assign). drivers (map assigning xs)) a)
+    ∙ ap (λ (ts : List (List ℕ)). drivers (map assigning (assigns v)) ++ ts) (of_blocks shown ∙ ap (λ (ys : List Resetting). drivers (map showing ys)) b)
+    ∙ sym (map-append (λ (p : Process). drivers_of d (process_reads p)) (map assigning (assigns v)) (map showing (resets v)))
+  where
+    of_assigns : (xs : List (Bor Assign)) → map (λ a. drivers_of d (rhs_names a.now.rhs)) xs ≡ map (λ p. drivers_of d (process_reads p)) (map assigning (map (λ a. a.now) xs))
+    of_assigns [] = refl
+    of_assigns (x ∷ xs) = ap (λ (ts : List (List ℕ)). drivers_of d (rhs_names x.now.rhs) ∷ ts) (of_assigns xs)
+
+    of_blocks : (ys : List (Bor Resetting)) → map (λ b. drivers_of d (b.now.reset ∷ [])) ys ≡ map (λ p. drivers_of d (process_reads p)) (map showing (map (λ b. b.now) ys))
+    of_blocks [] = refl
+    of_blocks (y ∷ ys) = ap (λ (ts : List (List ℕ)). drivers_of d (y.now.reset ∷ []) ∷ ts) (of_blocks ys)
+
+-- what holds of each that may be there
+pub if_some : (P : ℕ → Type 0) (o : Option ℕ) → ((t : ℕ) → o ≡ Some t → P t) → IfSome o P
+if_some P None h = tt
+if_some P (Some t) h = h t refl

@@ -3,10 +3,10 @@
 //! none that is valid is turned away.
 #![tactic(auto)]
 
-mod declared;
 mod drivers;
 mod numbers;
 mod ordered;
+mod processes;
 mod reads;
 
 pub use ordered::has_order;

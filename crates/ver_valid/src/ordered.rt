@@ -1,6 +1,6 @@
 //! Whether the processes of a tree can be put in an order.
 
-ghost use Rattle.std.specs.Prelude.{◌≡◌, ℕ, ◌<◌, ◌++◌, ◌∷◌, [], List, IfOk, OnOk, IsTrue, Some, length, map, slice_get, ◌↔◌};
+ghost use Rattle.std.specs.Prelude.{◌≡◌, ℕ, ◌+◌, ◌^◌, ◌<◌, ◌++◌, ◌∷◌, [], List, IfOk, OnOk, OnSome, IsTrue, Some, length, map, slice_get, ◌↔◌};
 ghost use Rattle.fir_base.specs.Lists.{In, Distinct, EachIn};
 ghost use Rattle.ver_ast.specs.Names.{rhs_names};
 ghost use Rattle.ver_ast.specs.Nets.{input_nets, plain_regs, names_of};
@@ -8,7 +8,7 @@ ghost use Rattle.ver_ast.specs.Processes.{Process, processes, process_targets, p
 ghost use Rattle.ver_ast.specs.Valid.{IsOrder};
 ghost use Rattle.ver_valid.specs.working.Driven.{drivers_of, IsProcessGraph, targets_of};
 
-use crate::declared::{asynchronous_blocks, net_assigns};
+use crate::processes::{asynchronous_blocks, net_assigns};
 use crate::drivers::Drivers;
 use crate::reads::{net_drivers, rhs_drivers};
 use fir_base::{MemoryOut, Refused, Seq};
@@ -43,12 +43,9 @@ impl ProcessGraph {
     fn new(alloc: Global, v: &Verilog) -> Result<ProcessGraph, MemoryOut>
         ensures { IfOk result (λ g. IsProcessGraph v.now g.targets.items) }
     {
-        let assigns = net_assigns(alloc, v)?;
-        let blocks = asynchronous_blocks(alloc, v)?;
-        let drivers = Drivers::new(alloc, v, assigns.as_slice(), blocks.as_slice())?;
-        let mut targets = assign_drivers(alloc, &drivers, assigns.as_slice())?;
-        put_block_drivers(&mut targets, alloc, &drivers, blocks.as_slice())?;
-        Ok(ProcessGraph { targets })
+        Ok(ProcessGraph {
+            targets: process_drivers(alloc, v)?,
+        })
     }
 }
 
@@ -62,9 +59,27 @@ impl Graph for ProcessGraph {
     }
 
     fn target(&self, vertex: usize, place: usize) -> Option<usize> {
-        let targets = self.targets.get(vertex)?;
-        targets.as_slice().get(place).copied()
+        target_at(self.targets.as_slice(), vertex, place)
     }
+}
+
+fn target_at(targets: &[Seq<usize>], vertex: usize, place: usize) -> Option<usize>
+    ensures found { result ≡ slice_get (targets_of targets.now vertex) place }
+    ensures room { OnSome result (place + 1 < 2 ^ 64) }
+{
+    targets.get(vertex)?.as_slice().get(place).copied()
+}
+
+/// For each process the processes that drive what it reads.
+fn process_drivers(alloc: Global, v: &Verilog) -> Result<Vec<Seq<usize>>, MemoryOut>
+    ensures { IfOk result (λ found. IsProcessGraph v.now found.items) }
+{
+    let assigns = net_assigns(alloc, v)?;
+    let blocks = asynchronous_blocks(alloc, v)?;
+    let drivers = Drivers::new(alloc, v, assigns.as_slice(), blocks.as_slice())?;
+    let mut found = assign_drivers(alloc, &drivers, assigns.as_slice())?;
+    put_block_drivers(&mut found, alloc, &drivers, blocks.as_slice())?;
+    Ok(found)
 }
 
 /// For each assign the processes that drive what it reads.

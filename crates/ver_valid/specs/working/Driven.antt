@@ -1,5 +1,5 @@
 -- What drives each net of a tree, by the numbers of the processes.
-use Rattle.std.specs.Prelude.{◌≡◌, ℕ, List, [], map, flat_map, slice_get, Option, Some, None, is_some, unwrap_or, not, ◌||◌, ◌&&◌, if◌then◌else◌}
+use Rattle.std.specs.Prelude.{◌≡◌, ℕ, List, [], map, flat_map, slice_get, Option, None, is_some, unwrap_or, not, ◌||◌, ◌&&◌, if◌then◌else◌}
 use Rattle.std.specs.Option.{option_to_list}
 use Rattle.ver_ast.specs.declared.tree.Verilog.{Verilog}
 use Rattle.ver_ast.specs.Nets.{input_nets, regs, names_of, reset_targets}

@@ -5,7 +5,7 @@ use Rattle.fir_base.specs.Words.{is_among}
 use Rattle.ver_ast.specs.Nets.{output_clocks}
 use Rattle.ver_valid.specs.working.Numbered.{number_in}
 use Rattle.ver_valid.proofs.Numbering.{has_among}
-use Rattle.ver_valid.proofs.declared.assigns_of_nets.Goals as goal
+use Rattle.ver_valid.proofs.processes.assigns_of_nets.Goals as goal
 
 pub loop-item-preserved : goal.loop-item-preserved
 loop-item-preserved c =

@@ -95,10 +95,7 @@ pub fn asynchronous_blocks(alloc: Global, v: &Verilog) -> Result<Vec<&Resetting>
 }
 
 /// The targets of the assigns.
-pub fn assign_targets<'a>(
-    alloc: Global,
-    assigns: &[&'a Assign],
-) -> Result<Vec<&'a Name>, MemoryOut>
+pub fn assign_targets<'a>(alloc: Global, assigns: &[&'a Assign]) -> Result<Vec<&'a Name>, MemoryOut>
     ensures { IfOk result (λ names. map (λ n. n.now) names.items ≡ targets (map (λ a. a.now) assigns.now)) }
 {
     let mut names = Vec::new(alloc);
