@@ -99,14 +99,14 @@ target_within v graph g i place w e =
     subst (λ (k : ℕ). w < k) (sym g.sized) (slice_get_within (processes v) w q.0 q.1)
 
 -- what drives the reads of assigns and of asynchronous blocks drives those of the processes
-pub process_drivers : (v : Verilog) (d : Drivers) (assigned : List (Bor Assign)) (shown : List (Bor Resetting)) (found graph : List (List ℕ))
-    → map (λ a. a.now) assigned ≡ assigns v → map (λ b. b.now) shown ≡ resets v → found ≡ map (λ a. drivers_of d (rhs_names a.now.rhs)) assigned
-    → graph ≡ found ++ map (λ b. drivers_of d (b.now.reset ∷ [])) shown → graph ≡ map (λ p. drivers_of d (process_reads p)) (processes v)
-process_drivers v d assigned shown found graph a b before all =
+pub process_drivers : (v : Verilog) (d : Drivers) (assigned : List (Bor Assign)) (shown : List (Bor Resetting)) (graph : List (List ℕ))
+    → map (λ a. a.now) assigned ≡ assigns v → map (λ b. b.now) shown ≡ resets v
+    → graph ≡ map (λ a. drivers_of d (rhs_names a.now.rhs)) assigned ++ map (λ b. drivers_of d (b.now.reset ∷ [])) shown → graph ≡ map (λ p. drivers_of d (process_reads p)) (processes v)
+process_drivers v d assigned shown graph a b all =
     let drivers : List Process → List (List ℕ) = map (λ p. drivers_of d (process_reads p)) in
     all
     ∙ ap (λ (ts : List (List ℕ)). ts ++ map (λ (b : Bor Resetting). drivers_of d (b.now.reset ∷ [])) shown)
-    (before ∙ of_assigns assigned ∙ ap (λ (xs : List Assign). drivers (map assigning xs)) a)
+    (of_assigns assigned ∙ ap (λ (xs : List Assign). drivers (map assigning xs)) a)
     ∙ ap (λ (ts : List (List ℕ)). drivers (map assigning (assigns v)) ++ ts) (of_blocks shown ∙ ap (λ (ys : List Resetting). drivers (map showing ys)) b)
     ∙ sym (map-append (λ (p : Process). drivers_of d (process_reads p)) (map assigning (assigns v)) (map showing (resets v)))
   where

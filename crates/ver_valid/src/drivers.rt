@@ -6,8 +6,8 @@ ghost use Rattle.ver_ast.specs.Nets.{input_nets, regs, names_of};
 ghost use Rattle.ver_valid.specs.working.Driven.{driver_in, AreDrivers};
 ghost use Rattle.ver_valid.specs.working.Numbered.{IsNumbering};
 
-use crate::processes::{assign_targets, block_targets, input_names, register_names};
 use crate::numbers::Numbers;
+use crate::processes::{assign_targets, block_targets, input_names, register_names};
 use fir_base::{MemoryOut, Name};
 use std::alloc::Global;
 use ver_ast::{Assign, Resetting, Verilog};

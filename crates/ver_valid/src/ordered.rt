@@ -3,13 +3,14 @@
 ghost use Rattle.std.specs.Prelude.{◌≡◌, ℕ, ◌+◌, ◌^◌, ◌<◌, ◌++◌, ◌∷◌, [], List, IfOk, OnOk, OnSome, IsTrue, Some, length, map, slice_get, ◌↔◌};
 ghost use Rattle.fir_base.specs.Lists.{In, Distinct, EachIn};
 ghost use Rattle.ver_ast.specs.Names.{rhs_names};
+ghost use Rattle.ver_ast.specs.Nets as tree;
 ghost use Rattle.ver_ast.specs.Nets.{input_nets, plain_regs, names_of};
 ghost use Rattle.ver_ast.specs.Processes.{Process, processes, process_targets, process_reads};
 ghost use Rattle.ver_ast.specs.Valid.{IsOrder};
 ghost use Rattle.ver_valid.specs.working.Driven.{drivers_of, IsProcessGraph, targets_of};
 
-use crate::processes::{asynchronous_blocks, net_assigns};
 use crate::drivers::Drivers;
+use crate::processes::{asynchronous_blocks, net_assigns};
 use crate::reads::{net_drivers, rhs_drivers};
 use fir_base::{MemoryOut, Refused, Seq};
 use fir_graph::{Graph, order};
@@ -75,10 +76,48 @@ fn process_drivers(alloc: Global, v: &Verilog) -> Result<Vec<Seq<usize>>, Memory
     ensures { IfOk result (λ found. IsProcessGraph v.now found.items) }
 {
     let assigns = net_assigns(alloc, v)?;
+    drivers_beside(alloc, v, assigns.as_slice())
+}
+
+/// The same, where these are the assigns of nets.
+fn drivers_beside<'a>(
+    alloc: Global,
+    v: &'a Verilog,
+    assigns: &[&'a Assign],
+) -> Result<Vec<Seq<usize>>, MemoryOut>
+    requires { map (λ a. a.now) assigns.now ≡ tree.assigns v.now }
+    ensures { IfOk result (λ found. IsProcessGraph v.now found.items) }
+{
     let blocks = asynchronous_blocks(alloc, v)?;
-    let drivers = Drivers::new(alloc, v, assigns.as_slice(), blocks.as_slice())?;
-    let mut found = assign_drivers(alloc, &drivers, assigns.as_slice())?;
-    put_block_drivers(&mut found, alloc, &drivers, blocks.as_slice())?;
+    drivers_of_all(alloc, v, assigns, blocks.as_slice())
+}
+
+/// The same, where these are the assigns of nets and the asynchronous blocks.
+fn drivers_of_all<'a>(
+    alloc: Global,
+    v: &'a Verilog,
+    assigns: &[&'a Assign],
+    blocks: &[&'a Resetting],
+) -> Result<Vec<Seq<usize>>, MemoryOut>
+    requires assigns { map (λ a. a.now) assigns.now ≡ tree.assigns v.now }
+    requires blocks { map (λ b. b.now) blocks.now ≡ tree.resets v.now }
+    ensures { IfOk result (λ found. IsProcessGraph v.now found.items) }
+{
+    let drivers = Drivers::new(alloc, v, assigns, blocks)?;
+    drivers_by(alloc, &drivers, assigns, blocks)
+}
+
+/// For each assign, and behind them for each block, the processes that drive what it reads.
+fn drivers_by<'a>(
+    alloc: Global,
+    drivers: &Drivers,
+    assigns: &[&'a Assign],
+    blocks: &[&'a Resetting],
+) -> Result<Vec<Seq<usize>>, MemoryOut>
+    ensures { IfOk result (λ found. found.items ≡ map (λ a. drivers_of drivers.now (rhs_names a.now.rhs)) assigns.now ++ map (λ b. drivers_of drivers.now (b.now.reset ∷ [])) blocks.now) }
+{
+    let mut found = assign_drivers(alloc, drivers, assigns)?;
+    put_block_drivers(&mut found, alloc, drivers, blocks)?;
     Ok(found)
 }
 
