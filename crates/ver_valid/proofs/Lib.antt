@@ -18,3 +18,8 @@ pub mod TreeMembers
 pub mod FromWalk
 pub mod ToWalk
 pub mod Ready
+pub mod Numbering
+pub mod AtomItems
+pub mod DrivenNets
+pub mod ProcessReads
+pub mod ProcessOrders

@@ -6,3 +6,6 @@ pub mod Operands
 pub mod Rules
 pub mod Drivers
 pub mod Walks
+-- What no clause of `run` reads: views of the code and its states.
+pub mod Numbered
+pub mod Driven
