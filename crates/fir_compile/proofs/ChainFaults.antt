@@ -12,10 +12,10 @@ use Rattle.fir_pass.specs.declared.alternative.Either.TheVariants.{One, Two}
 use Rattle.fir_pass.specs.working.Either.{clear_of_both, reported_by}
 use Rattle.fir_meaning.specs.SourceMeaning.{circuit_meaning}
 use Rattle.fir_meaning.specs.working.Stages.{IsClearOf, IsFirstOf}
+use Rattle.fir_net.specs.declared.net.FlatNet.{FlatNet}
 use Rattle.fir_outcome.specs.CircuitFaults.{LacksNone}
 use Rattle.fir_outcome.specs.Emits.{Takes}
 use Rattle.fir_outcome.specs.Refusals.{Lacks, RefusedFor}
-use Rattle.fir_compile.specs.declared.flat.WholeNet.{WholeNet}
 use Rattle.fir_compile.specs.working.Lacks.{ShowsLack}
 use Rattle.fir_compile.specs.working.Told.{told_by}
 use Rattle.fir_compile.proofs.ChainGroups.{both_clear, clear_all, first_of_both}
@@ -57,7 +57,7 @@ told_tree = told_by told (told_by told (told_by told (told_by told told)))
 
 -- those behind the nets
 abbrev NetFault : Type 0
-NetFault = Either Given (FirFault × WholeNet)
+NetFault = Either Given (FirFault × FlatNet)
 
 abbrev FromClocks : CircuitTree → NetFault → Type 0
 FromClocks = reported_by (IsClearOf of_clocks of_inits) (ReportsFirst of_clocks of_inits) (ReportsFirst of_loops of_loops)

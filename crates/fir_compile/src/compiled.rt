@@ -48,8 +48,11 @@ impl Pass for FindOrder {
         alloc: Global,
         x: WholeNet,
     ) -> Result<Compiled, Refused<(FirFault, WholeNet)>> {
-        match order(alloc, &x.net) {
-            Ok(order) => Ok(Compiled { net: x.net, order }),
+        match order(alloc, x.net()) {
+            Ok(order) => Ok(Compiled {
+                net: x.into_net(),
+                order,
+            }),
             Err(Refused::Fault(fault)) => Err(Refused::Fault((fault, x))),
             Err(Refused::Memory) => Err(Refused::Memory),
         }

@@ -5,7 +5,6 @@ ghost use Rattle.fir_ast.specs.working.CodeFaults.{fault_of};
 ghost use Rattle.fir_pass.specs.Groups.{of_clocks, of_inits};
 ghost use Rattle.fir_meaning.specs.working.Stages.{IsClearOf, IsFirstOf};
 ghost use Rattle.fir_net.specs.working.IsNet.{IsNet};
-ghost use Rattle.fir_inst.specs.working.FlattensTo.{FlattensTo};
 
 use crate::supported::Supported;
 use fir_ast::FirFault;
@@ -15,16 +14,55 @@ use fir_net::FlatNet;
 use fir_pass::{Meant, Pass};
 use fir_whens::NetCircuit;
 use std::alloc::Global;
+use std::marker::Model;
 
-/// A flat net that is whole.
+/// A flat net that is whole. Contracts see the net.
 #[derive(Drop)]
 pub struct WholeNet {
-    pub net: FlatNet,
-    ghost whole: { IsNet net },
+    net: FlatNet,
+}
+
+impl Model for WholeNet {
+    ghost use Rattle.fir_net.specs.declared.net.FlatNet as flat;
+    ghost use Rattle.fir_net.specs.contracts.net.FlatNet as contract;
+
+    ghost Value = { flat.FlatNet };
+
+    ghost coded = { contract.the_row.coded };
+
+    ghost use Rattle.fir_net.specs.working.IsNet.{IsNet};
+
+    ghost view = { λ w. w.net };
+
+    ghost invariant = { λ w. IsNet w.net };
 }
 
 impl Meant for WholeNet {
-    ghost is_of = { λ c w. FlattensTo c w.net };
+    ghost use Rattle.fir_inst.specs.working.FlattensTo.{FlattensTo};
+
+    ghost is_of = { FlattensTo };
+}
+
+impl WholeNet {
+    fn new(net: FlatNet) -> WholeNet
+        requires { IsNet net }
+        ensures { result ≡ net }
+    {
+        WholeNet { net }
+    }
+
+    pub fn net(&self) -> &FlatNet
+        ensures value { result.now ≡ self.now }
+        ensures whole { IsNet self.now }
+    {
+        &self.net
+    }
+
+    pub fn into_net(self) -> FlatNet
+        ensures { result ≡ self }
+    {
+        self.net
+    }
 }
 
 /// Flattens the nets of modules into one: the faults of the tenth to twelfth groups, E25 to E27.
@@ -42,14 +80,16 @@ impl Pass for Flatten {
 
     ghost reports = { λ c f. IsFirstOf of_clocks of_inits c (fault_of f.0) };
 
-    ghost hands_back = { λ x f. f.1 ≡ x.circuit };
+    ghost hands_back = { λ x f. f.1 ≡ x };
 
     fn run(
         &self,
         alloc: Global,
         x: Supported,
     ) -> Result<WholeNet, Refused<(FirFault, NetCircuit)>> {
-        let net = flatten(alloc, x.circuit)?;
-        Ok(WholeNet { net })
+        match flatten(alloc, x.into_circuit()) {
+            Ok(net) => Ok(WholeNet::new(net)),
+            Err(refused) => Err(refused),
+        }
     }
 }

@@ -4,7 +4,6 @@ ghost use Rattle.std.specs.Prelude.{◌≡◌, IfOk};
 ghost use Rattle.fir_ast.specs.working.Views.{circuit_of};
 ghost use Rattle.fir_ast.specs.working.CodeFaults.{fault_of};
 ghost use Rattle.fir_ast.specs.declared.fault.FirFault.TheVariants.{Unsupported};
-ghost use Rattle.fir_meaning.specs.working.Stages.{IsTreeOf};
 ghost use Rattle.fir_inst.specs.working.LoneCircuits.{IsLone};
 ghost use Rattle.fir_lack.specs.working.Lacks.{AreClocksClear};
 ghost use Rattle.fir_outcome.specs.CircuitFaults.{LacksNone};
@@ -16,17 +15,54 @@ use fir_lack::{Lack, lacking};
 use fir_pass::{Meant, Pass};
 use fir_whens::NetCircuit;
 use std::alloc::Global;
+use std::marker::Model;
 
-/// A circuit with its nets, which has only forms that are taken so far.
+/// A circuit with its nets, which has only forms that are taken so far. Contracts see its tree.
 #[derive(Drop)]
 pub struct Supported {
-    pub circuit: NetCircuit,
-    ghost lone: { IsLone (circuit_of circuit) },
-    ghost clocks: { AreClocksClear (circuit_of circuit) },
+    circuit: NetCircuit,
+}
+
+impl Model for Supported {
+    ghost use Rattle.fir_ast.specs.declared.circuit.Circuit as tree;
+    ghost use Rattle.fir_ast.specs.contracts.circuit.Circuit as contract;
+
+    ghost Value = { tree.Circuit };
+
+    ghost coded = { contract.the_row.coded };
+
+    ghost use Rattle.fir_ast.specs.working.Views.{circuit_of};
+    ghost use Rattle.fir_inst.specs.working.LoneCircuits.{IsLone};
+    ghost use Rattle.fir_lack.specs.working.Lacks.{AreClocksClear};
+
+    ghost view = { λ s. s.circuit };
+
+    ghost invariant = { λ s. IsLone (circuit_of s.circuit) × AreClocksClear (circuit_of s.circuit) };
 }
 
 impl Meant for Supported {
-    ghost is_of = { λ c s. IsTreeOf c s.circuit };
+    ghost use Rattle.fir_meaning.specs.working.Stages.{IsTreeOf};
+
+    ghost is_of = { IsTreeOf };
+}
+
+impl Supported {
+    fn new(circuit: NetCircuit) -> Supported
+        requires lone { IsLone (circuit_of circuit) }
+        requires clocks { AreClocksClear (circuit_of circuit) }
+        ensures { result ≡ circuit }
+    {
+        Supported { circuit }
+    }
+
+    /// The circuit with its nets. It can be flattened, and its clocks show no fault.
+    pub fn into_circuit(self) -> NetCircuit
+        ensures tree { result ≡ self }
+        ensures lone { IsLone (circuit_of result) }
+        ensures clocks { AreClocksClear (circuit_of result) }
+    {
+        self.circuit
+    }
 }
 
 /// Looks for forms that are lacking so far: E05 of the first one.
@@ -53,7 +89,7 @@ impl Pass for TakeForms {
     ) -> Result<Supported, Refused<(FirFault, NetCircuit)>> {
         match first_lack(alloc, &x)? {
             Some(fault) => Err(Refused::Fault((fault, x))),
-            None => Ok(Supported { circuit: x }),
+            None => Ok(Supported::new(x)),
         }
     }
 }
@@ -66,10 +102,11 @@ fn first_lack(alloc: Global, circuit: &NetCircuit) -> Result<Option<FirFault>, M
     // Its modules have scenes, of which the lack is told, and it has a main one.
     let _modules = leafed.modules();
     let _tree = leafed.fitted().typed().named().circuit();
-    match lacking(alloc, leafed)? {
-        Some(lack) => Ok(Some(unsupported(alloc, lack)?)),
-        None => Ok(None),
+    if let Some(lack) = lacking(alloc, leafed)? {
+        let fault = unsupported(alloc, lack)?;
+        return Ok(Some(fault));
     }
+    Ok(None)
 }
 
 /// The fault of a form that is lacking so far.

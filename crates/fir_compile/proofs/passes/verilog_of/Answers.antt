@@ -3,6 +3,11 @@ use Rattle.fir_compile.proofs.Compiles.{compiles}
 use Rattle.fir_compile.proofs.Emitted.{emits}
 use Rattle.fir_compile.proofs.passes.verilog_of.Goals as goal
 
+pub build-requires-clause-words : goal.build-requires-clause-words
+build-requires-clause-words c =
+    let h = c.in_ok-compiled.ensures.compiled in
+    h.flattened.words (c.spelled_names_are_words.ensures c.args.bytes.now h.circuit h.taken.spelled)
+
 pub returns : goal.returns
 returns c =
     let h = c.in_ok-compiled.ensures.compiled in
