@@ -124,7 +124,11 @@ forms = record {
         edge = Some (record { clock = codes "clock"; target = codes "s"; source = net (codes "_n5") });
       }) ∷
       item.Resetting (record {
-        reset = codes "rst"; tested = codes "rst"; target = codes "t"; value = record { width = 4; number = Some 6 }; edge = None;
+        reset = codes "rst";
+        tested = codes "rst";
+        target = codes "t";
+        value = record { width = 4; number = Some 6 };
+        edge = None;
       }) ∷
       item.Writing (record {
         clock = codes "clock";

@@ -72,7 +72,6 @@ one_more_item : (w : Verilog) (i : Item) (is : List Item) → with_items (with_i
 one_more_item w i is = ap (λ (xs : List Item). record w { items = xs }) (append_assoc w.items (i ∷ []) is)
 
 module _ (w : Verilog) (is : List Item) (fine : IsFine (with_items w is)) where
-
   split_names : entry_names (entries (with_items w is)) ≡ entry_names (entries w) ++ entry_names (flat_map item_entries is)
   split_names = ap entry_names (entries_split w is) ∙ map-append (λ (e : Entry). e.0) (entries w) (flat_map item_entries is)
 
@@ -132,8 +131,7 @@ walked_items w (i ∷ is) known sub fine h =
     (λ n m. ⊎_elim
     (λ (j : In (entry_names (entries w)) n). in_right (declared i) known n (sub n j))
     (λ (j : In (declared i) n). in_left (declared i) known n j) (known_more w i n m))
-    (subst IsFine (sym same) fine) h.1 in
-    (
+    (subst IsFine (sym same) fine) h.1 in (
       (each_more (item_names i) (entry_names (entries w)) known sub names, rest.0),
       (
         kept_item w v fine i (record { each = λ n m. keeps_ahead w (i ∷ is) fine n }) here,
@@ -213,15 +211,14 @@ items_walked w (i ∷ is) known sup fine few assigned written before h =
     let v = with_items w (i ∷ is) in
     let same = one_more_item w i is in
     let names = each_in (item_names i) known before.0 in
-    let here = kept_item v w (fine_before w (i ∷ is) fine) i (record { each = λ n m. keeps_back w (i ∷ is) fine n (sup n (names n m)) }) h.0 in
-    (
+    let here = kept_item v w (fine_before w (i ∷ is) fine) i (record { each = λ n m. keeps_back w (i ∷ is) fine n (sup n (names n m)) }) h.0 in (
       next_item w i is fine few assigned written here,
       items_walked (with_items w (i ∷ [])) is (declared i ++ known)
-      (λ n m. more_known w i n (⊎_elim
-      (λ (j : In (declared i) n). inr j)
-      (λ (j : In known n). inl (sup n j)) (in_either (declared i) known n m)))
-      (subst IsFine (sym same) fine) (subst (λ (t : Verilog). words_of (arrays t) ≤ 4194304) (sym same) few)
-      (subst (λ (t : Verilog). Distinct (assigned_names t)) (sym same) assigned)
-      (subst (λ (t : Verilog). Distinct (written_names t)) (sym same) written)
-      before.1 (subst (λ (t : Verilog). AllByRecursion (IsSoundItem t) is) (sym same) h.1),
+          (λ n m. more_known w i n (⊎_elim
+          (λ (j : In (declared i) n). inr j)
+          (λ (j : In known n). inl (sup n j)) (in_either (declared i) known n m)))
+          (subst IsFine (sym same) fine) (subst (λ (t : Verilog). words_of (arrays t) ≤ 4194304) (sym same) few)
+          (subst (λ (t : Verilog). Distinct (assigned_names t)) (sym same) assigned)
+          (subst (λ (t : Verilog). Distinct (written_names t)) (sym same) written)
+          before.1 (subst (λ (t : Verilog). AllByRecursion (IsSoundItem t) is) (sym same) h.1),
     )

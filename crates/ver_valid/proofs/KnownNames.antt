@@ -124,9 +124,9 @@ module _ (v : Verilog) where
   write_known name x h = (
     array_known x.array h.array (h.named ∙ sym h.one_array) h.is_array,
     each_joined (atom_names x.condition ++ atom_names x.index) (atom_names x.source) (entry_names (entries v))
-    (each_joined (atom_names x.condition) (atom_names x.index) (entry_names (entries v)) (atom_known x.condition h.condition_wide.operand.sound)
-    (atom_known x.index h.index_sound.sound))
-    (atom_known x.source h.source_wide.operand.sound),
+        (each_joined (atom_names x.condition) (atom_names x.index) (entry_names (entries v)) (atom_known x.condition h.condition_wide.operand.sound)
+        (atom_known x.index h.index_sound.sound))
+        (atom_known x.source h.source_wide.operand.sound),
   )
 
   each_known : (name : List ℕ) (xs : List Write) → AllByRecursion (IsWrite v name) xs → all_known (flat_map write_names xs)

@@ -130,8 +130,7 @@ module _ (nets : List SizedNet) (braces : ℕ) (all : AtomTrees) where
   joined_none rest width e b small =
       let none : joined_width nets rest ≡ 0 = ap (joined_width nets) e in
       let sum = b.sum in
-      let here : AreWithin nets braces no_atoms = (tt, omega arith) in
-      (
+      let here : AreWithin nets braces no_atoms = (tt, omega arith) in (
         (b.ahead (subst (AreWithin nets braces) (sym e) here), omega arith, small),
         λ u j. let other = j.1 in omega arith,
       )

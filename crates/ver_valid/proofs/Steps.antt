@@ -162,9 +162,9 @@ module _ (old new : Walk) (v : Verilog) (ps : List Port) (k : ℕ) (amid : AmidP
       known = subst (Reflects new) (sym more_ports) known;
       same = (
         λ rest. amid.same.0 (subst (AreNextPorts port_tree) (sym (back_one ps k p within is))
-        (next, subst (λ (t : Verilog). AreNextPorts t (drop (k + 1) ps)) more_ports rest)),
+            (next, subst (λ (t : Verilog). AreNextPorts t (drop (k + 1) ps)) more_ports rest)),
         λ all. subst (λ (t : Verilog). AreNextPorts t (drop (k + 1) ps)) (sym more_ports)
-        (subst (AreNextPorts port_tree) (back_one ps k p within is) (amid.same.1 all)).1,
+            (subst (AreNextPorts port_tree) (back_one ps k p within is) (amid.same.1 all)).1,
       );
     }
 
@@ -190,9 +190,9 @@ module _ (old new : Walk) (v : Verilog) (is : List Item) (k : ℕ) (amid : AmidI
       known = subst (Reflects new) (sym more_items) known;
       same = (
         λ rest. amid.same.0 (subst (AreNextItems item_tree) (sym (back_one is k i within at))
-        (next, subst (λ (t : Verilog). AreNextItems t (drop (k + 1) is)) more_items rest)),
+            (next, subst (λ (t : Verilog). AreNextItems t (drop (k + 1) is)) more_items rest)),
         λ all. subst (λ (t : Verilog). AreNextItems t (drop (k + 1) is)) (sym more_items)
-        (subst (AreNextItems item_tree) (back_one is k i within at) (amid.same.1 all)).1,
+            (subst (AreNextItems item_tree) (back_one is k i within at) (amid.same.1 all)).1,
       );
     }
 

@@ -64,10 +64,10 @@ pub distinct_by_times : (xs : List (List ℕ)) → ((n : List ℕ) → times n x
 distinct_by_times [] h = tt
 distinct_by_times (x ∷ xs) h = (
   λ m.
-  let one : here (bytes_eq x x) ≡ 1 = ap here (name_same x) in
-  let more = in_times x xs m in
-  let most = h x in
-  omega arith,
+      let one : here (bytes_eq x x) ≡ 1 = ap here (name_same x) in
+      let more = in_times x xs m in
+      let most = h x in
+      omega arith,
   distinct_by_times xs (λ n. omega (arith, h n)),
 )
 
