@@ -1,7 +1,6 @@
 -- The items of a tree, each behind those before it: they are sound there where they are in the whole tree, and the other way round.
-use Rattle.std.proofs.Common.{◌≡◌, ℕ, ◌+◌, ◌<◌, ◌≤◌, List, [], ◌∷◌, ◌++◌, map, flat_map, refl, sym, ap, ◌∙◌, inl, inr, ◌⊎◌, ⊎_elim, subst, append_assoc, append-nil, arith}
-use Rattle.std.specs.Prelude.{IsTrue}
-use Rattle.std.specs.List.{AllByRecursion, sum_by}
+use Rattle.std.proofs.Common.{◌≡◌, ℕ, ◌+◌, ◌≤◌, List, [], ◌∷◌, ◌++◌, map, flat_map, refl, sym, ap, ◌∙◌, inl, inr, ◌⊎◌, ⊎_elim, subst, append_assoc, arith}
+use Rattle.std.specs.List.{AllByRecursion}
 use Rattle.std.proofs.lemmas.List.{map-append}
 use Rattle.std.proofs.lemmas.List.Sums.{sum_by-append}
 use Rattle.fir_base.specs.Lists.{In, Distinct, EachIn}
@@ -9,18 +8,16 @@ use Rattle.fir_base.proofs.Each.{each_more}
 use Rattle.fir_base.proofs.Members.{in_map, in_left, in_right, in_either, each_in}
 use Rattle.fir_base.proofs.Twins.{distinct_left, apart}
 use Rattle.ver_ast.specs.declared.tree.Verilog.{Verilog}
-use Rattle.ver_ast.specs.declared.tree.Port.{Port}
 use Rattle.ver_ast.specs.declared.tree.Item.{Item}
 use Rattle.ver_ast.specs.declared.tree.Item.TheVariants as item
 use Rattle.ver_ast.specs.ItemNames.{declared, item_names}
-use Rattle.ver_ast.specs.Nets.{Variable, AlwaysBlock, plain_block, resetting_block, writing_block, item_block, item_array, block_target, block_targets, blocks, arrays}
+use Rattle.ver_ast.specs.Nets.{Variable, plain_block, resetting_block, writing_block, item_block, item_array, block_target, block_targets, arrays}
 use Rattle.ver_ast.specs.Valid.{DeclaredBefore, IsSoundBlock}
-use Rattle.ver_valid.specs.declared.declared.Declared.{Declared}
-use Rattle.ver_valid.specs.working.Declarations.{Entry, entries, entry_names, item_entries, port_entry, port_kind, IsNarrowKind}
+use Rattle.ver_valid.specs.working.Declarations.{Entry, entries, entry_names, item_entries, port_entry, IsNarrowKind}
 use Rattle.ver_valid.specs.working.Scopes.{IsFine}
-use Rattle.ver_valid.specs.working.Walks.{AreNextItems, IsNextItem, IsNextAssign, IsNextBlock, IsFresh, assigned_names, written_names, item_target, item_written, words_of, with_items}
+use Rattle.ver_valid.specs.working.Walks.{AreNextItems, IsNextItem, IsNextAssign, IsFresh, assigned_names, written_names, item_target, item_written, words_of, with_items}
 use Rattle.ver_valid.proofs.Entries.{flat_append}
-use Rattle.ver_valid.proofs.Keeps.{Keeps, KeepsAll, kept_assign, kept_block, block_names}
+use Rattle.ver_valid.proofs.Keeps.{Keeps, KeepsAll, kept_assign, kept_block}
 use Rattle.ver_valid.proofs.KnownNames.{assign_known, block_known}
 use Rattle.ver_valid.proofs.Steps.{entries_more}
 
@@ -72,7 +69,6 @@ one_more_item : (w : Verilog) (i : Item) (is : List Item) → with_items (with_i
 one_more_item w i is = ap (λ (xs : List Item). record w { items = xs }) (append_assoc w.items (i ∷ []) is)
 
 module _ (w : Verilog) (is : List Item) (fine : IsFine (with_items w is)) where
-
   split_names : entry_names (entries (with_items w is)) ≡ entry_names (entries w) ++ entry_names (flat_map item_entries is)
   split_names = ap entry_names (entries_split w is) ∙ map-append (λ (e : Entry). e.0) (entries w) (flat_map item_entries is)
 
@@ -132,8 +128,7 @@ walked_items w (i ∷ is) known sub fine h =
     (λ n m. ⊎_elim
     (λ (j : In (entry_names (entries w)) n). in_right (declared i) known n (sub n j))
     (λ (j : In (declared i) n). in_left (declared i) known n j) (known_more w i n m))
-    (subst IsFine (sym same) fine) h.1 in
-    (
+    (subst IsFine (sym same) fine) h.1 in (
       (each_more (item_names i) (entry_names (entries w)) known sub names, rest.0),
       (
         kept_item w v fine i (record { each = λ n m. keeps_ahead w (i ∷ is) fine n }) here,
@@ -213,15 +208,14 @@ items_walked w (i ∷ is) known sup fine few assigned written before h =
     let v = with_items w (i ∷ is) in
     let same = one_more_item w i is in
     let names = each_in (item_names i) known before.0 in
-    let here = kept_item v w (fine_before w (i ∷ is) fine) i (record { each = λ n m. keeps_back w (i ∷ is) fine n (sup n (names n m)) }) h.0 in
-    (
+    let here = kept_item v w (fine_before w (i ∷ is) fine) i (record { each = λ n m. keeps_back w (i ∷ is) fine n (sup n (names n m)) }) h.0 in (
       next_item w i is fine few assigned written here,
       items_walked (with_items w (i ∷ [])) is (declared i ++ known)
-      (λ n m. more_known w i n (⊎_elim
-      (λ (j : In (declared i) n). inr j)
-      (λ (j : In known n). inl (sup n j)) (in_either (declared i) known n m)))
-      (subst IsFine (sym same) fine) (subst (λ (t : Verilog). words_of (arrays t) ≤ 4194304) (sym same) few)
-      (subst (λ (t : Verilog). Distinct (assigned_names t)) (sym same) assigned)
-      (subst (λ (t : Verilog). Distinct (written_names t)) (sym same) written)
-      before.1 (subst (λ (t : Verilog). AllByRecursion (IsSoundItem t) is) (sym same) h.1),
+          (λ n m. more_known w i n (⊎_elim
+          (λ (j : In (declared i) n). inr j)
+          (λ (j : In known n). inl (sup n j)) (in_either (declared i) known n m)))
+          (subst IsFine (sym same) fine) (subst (λ (t : Verilog). words_of (arrays t) ≤ 4194304) (sym same) few)
+          (subst (λ (t : Verilog). Distinct (assigned_names t)) (sym same) assigned)
+          (subst (λ (t : Verilog). Distinct (written_names t)) (sym same) written)
+          before.1 (subst (λ (t : Verilog). AllByRecursion (IsSoundItem t) is) (sym same) h.1),
     )

@@ -13,7 +13,6 @@ use Rattle.ver_valid.specs.declared.declared.Declared.TheVariants.{Array}
 use Rattle.ver_valid.specs.working.Declarations.{Entry, entry_names, kind_among}
 use Rattle.ver_valid.specs.working.Kinds.{sized_as, sized, chosen, array_of}
 
-
 -- an entry is found under its name, and what is found is an entry
 pub kind_in : (es : List Entry) (n : List ℕ) (d : Declared) → kind_among es n ≡ Some d → In es (n, d)
 kind_in [] n d h = absurd (none-some d h)

@@ -1,31 +1,29 @@
 -- What the walk has judged is all that a valid tree is but an order; and with it the processes are such as the search for an order asks.
-use Rattle.std.proofs.Common.{◌≡◌, ℕ, ◌+◌, ◌<◌, ◌≤◌, List, [], ◌∷◌, ◌++◌, map, flat_map, Bool, true, false, refl, sym, ap, ◌∙◌, inl, inr, ◌⊎◌, ⊎_elim, subst}
-use Rattle.std.specs.Prelude.{IsTrue, Option, Some, None}
+use Rattle.std.proofs.Common.{◌≡◌, ℕ, List, ◌++◌, flat_map, true, false, sym, ap, ◌∙◌, inl, inr, ⊎_elim, subst}
+use Rattle.std.specs.Prelude.{Option, Some}
 use Rattle.std.specs.List.{AllByRecursion}
-use Rattle.std.proofs.lemmas.List.{map-append}
 use Rattle.std.proofs.lemmas.Bool.{false_from_ne_true}
-use Rattle.fir_base.specs.Lists.{In, Distinct, EachIn}
+use Rattle.fir_base.specs.Lists.{In}
 use Rattle.fir_base.specs.Words.{is_among}
 use Rattle.fir_base.specs.declared.direction.Direction.{Direction}
 use Rattle.fir_base.specs.declared.direction.Direction.TheVariants.{Input as InputPort, Output as OutputPort}
-use Rattle.fir_base.proofs.Each.{all_at, each_more}
-use Rattle.fir_base.proofs.Members.{in_map, in_map_from, in_left, in_right, in_either, in_flat_map_from}
+use Rattle.fir_base.proofs.Each.{all_at}
+use Rattle.fir_base.proofs.Members.{in_map, in_map_from, in_either, in_flat_map_from}
 use Rattle.ver_ast.specs.declared.tree.Verilog.{Verilog}
-use Rattle.ver_ast.specs.declared.tree.Port.{Port}
 use Rattle.ver_ast.specs.declared.tree.Assign.{Assign}
 use Rattle.ver_ast.specs.declared.tree.Item.{Item}
 use Rattle.ver_ast.specs.declared.tree.Item.TheVariants as item
-use Rattle.ver_ast.specs.Nets.{SizedNet, Variable, AlwaysBlock, plain_block, resetting_block, writing_block, input_nets, output_nets, clocks, output_clocks, wires, regs, nets, arrays, assigns, clock_assigns, targets, blocks, item_block, names_of}
-use Rattle.ver_ast.specs.Processes.{Process, processes}
-use Rattle.ver_ast.specs.Valid.{Valid, DeclaredBefore, IsSoundAssign, IsSoundBlock, IsClockSide, IsOrder}
+use Rattle.ver_ast.specs.Nets.{SizedNet, Variable, AlwaysBlock, input_nets, output_nets, output_clocks, wires, regs, nets, arrays, assigns, clock_assigns, targets, blocks, item_block, names_of}
+use Rattle.ver_ast.specs.Processes.{Process}
+use Rattle.ver_ast.specs.Valid.{Valid, DeclaredBefore, IsSoundBlock, IsClockSide, IsOrder}
 use Rattle.ver_ast.specs.SoundSides.{IsSoundSide}
 use Rattle.ver_ast.proofs.Chosen.{among, is_named}
 use Rattle.ver_valid.specs.declared.declared.Declared.{Declared}
-use Rattle.ver_valid.specs.declared.declared.Declared.TheVariants.{ClockInput, ClockOutput, Input, Output, Wire, Register, Array}
-use Rattle.ver_valid.specs.working.Declarations.{Entry, entries, entry_names, kind_among, IsNarrow, IsNarrowKind}
-use Rattle.ver_valid.specs.working.Kinds.{net_width, register_width, driven_width, input_width, output_width, wire_width, is_clock_output, sized, chosen, array_of, array_entry}
+use Rattle.ver_valid.specs.declared.declared.Declared.TheVariants.{ClockOutput, Input, Output, Wire, Register, Array}
+use Rattle.ver_valid.specs.working.Declarations.{entries, kind_among, IsNarrow, IsNarrowKind}
+use Rattle.ver_valid.specs.working.Kinds.{net_width, register_width, driven_width, input_width, output_width, wire_width, is_clock_output, sized, array_of, array_entry}
 use Rattle.ver_valid.specs.working.Scopes.{IsFine, driven_nets}
-use Rattle.ver_valid.specs.working.Walks.{AreNextItems, AreNextPorts, IsNextAssign, IsPortDriven, IsItemDriven, IsOutputDriven, IsWalked, assigned_names, no_items, no_ports}
+use Rattle.ver_valid.specs.working.Walks.{IsPortDriven, IsItemDriven, IsOutputDriven, IsWalked, assigned_names, no_items, no_ports}
 use Rattle.ver_valid.proofs.Entries.{nets_are, inputs_are, outputs_are, wires_are, regs_are, arrays_are, output_clocks_are}
 use Rattle.ver_valid.proofs.EntryKinds.{sized_kind, kind_sized, chosen_kind}
 use Rattle.ver_valid.proofs.Fine.{fine_narrow}

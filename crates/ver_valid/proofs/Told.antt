@@ -16,7 +16,6 @@ use Rattle.ver_valid.specs.working.Scopes.{found, Tells, HasArray, driven_nets, 
 use Rattle.ver_valid.proofs.Entries.{nets_are, regs_are, wires_are, outputs_are, clocks_are, output_clocks_are, arrays_are}
 use Rattle.ver_valid.proofs.EntryKinds.{Sized, sized_kind, kind_sized, one_size, not_sized, not_known, Chosen, kind_chosen, chosen_by, not_chosen, kind_in, kind_of_entry}
 
-
 module _ (scope : Scope) (n : List ℕ) (v : Verilog) (t : Tells scope v) where
   among : (o : Option Declared) → found scope n ≡ o → kind_among (entries v) n ≡ o
   among o k = sym (t.by_name n) ∙ k
@@ -90,8 +89,7 @@ module _ (scope : Scope) (n : List ℕ) (v : Verilog) (t : Tells scope v) where
   pub array_size : (d : Declared) (w : ℕ) → found scope n ≡ Some d → word_width d ≡ Some w → HasArray v n w × ((u : ℕ) → HasArray v n u → u ≡ w)
   array_size d w k e =
       let r = has_array n d w e in
-      let entry = kind_in (entries v) n d (among (Some d) k) in
-      (
+      let entry = kind_in (entries v) n d (among (Some d) k) in (
         (r.0, subst (λ (xs : List Variable). In xs r.0) (sym (arrays_are v)) (in_flat_map array_entry (entries v) (n, d) r.0 entry r.1), r.2, r.3),
         λ u h. let q = array_kind u h in let same : q.0 ≡ d = let here = among (Some d) k in cc in let other = ap word_width same in cc,
       )
@@ -167,7 +165,7 @@ module _ (scope : Scope) (n : List ℕ) (v : Verilog) (t : Tells scope v) where
   pub clock_target : found scope n ≡ Some ClockOutput → GivesTarget (Ok Clock) v n
   clock_target k = (
     subst (λ (xs : List (List ℕ)). In xs n) (sym (output_clocks_are v))
-    (kind_chosen is_clock_output (entries v) t.once n ClockOutput (among (Some ClockOutput) k) refl),
+        (kind_chosen is_clock_output (entries v) t.once n ClockOutput (among (Some ClockOutput) k) refl),
     λ w m. none-some w (driven_by ClockOutput w k m),
   )
 

@@ -44,12 +44,7 @@ pub fn side(scope: &Scope, width: u32, rhs: &Rhs) -> Result<(), Refused<Misfit>>
     }
 }
 
-fn unary_side(
-    scope: &Scope,
-    width: u32,
-    op: UnaryOp,
-    atom: &Atom,
-) -> Result<(), Refused<Misfit>>
+fn unary_side(scope: &Scope, width: u32, op: UnaryOp, atom: &Atom) -> Result<(), Refused<Misfit>>
     ensures { (v : Verilog) → Tells scope.now v → Judges result (IsSoundSide (nets v) (arrays v) width (rhs_form.Unary op atom.now)) }
 {
     let own = operand(scope, atom)?;

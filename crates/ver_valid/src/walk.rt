@@ -104,7 +104,13 @@ impl Walk {
     fn take_wire(&mut self, alloc: Global, net: &Net) -> Result<(), Refused<Misfit>>
         ensures { (v : Verilog) → Reflects self.old v → Steps result (IsNextItem v (item_form.Wire net.now)) (Reflects self.new (with_items v (item_form.Wire net.now ∷ []))) }
     {
-        declare(alloc, &mut self.scope, &net.name, net.width, Declared::Wire(net.width))
+        declare(
+            alloc,
+            &mut self.scope,
+            &net.name,
+            net.width,
+            Declared::Wire(net.width),
+        )
     }
 
     fn take_register(&mut self, alloc: Global, net: &Net) -> Result<(), Refused<Misfit>>

@@ -102,9 +102,9 @@ pub joined_width-loop-atom-preserved : goal.joined_width-loop-atom-preserved
 joined_width-loop-atom-preserved t c = (
   c.in_ok-width.ensures.0.1,
   λ v told. joined_more (nets v) c.args.braces (atoms_of c.args.atoms.now) c.atom-item.result (atoms_of (drop (c.loop-atom.atom-index + 1) c.args.atoms.now))
-  (atoms_of (drop c.loop-atom.atom-index c.args.atoms.now)) c.loop-atom.width
-  (next_atoms c.args.atoms.now c.loop-atom.atom-index c.atom-item.result c.loop-atom-test.true c.atom-item.is)
-  (c.loop-atom.invariant.1 v told) c.in_ok-next.next _ (c.in_ok-next.ensures v told).0 c.in_ok-width.ensures.0.0,
+      (atoms_of (drop c.loop-atom.atom-index c.args.atoms.now)) c.loop-atom.width
+      (next_atoms c.args.atoms.now c.loop-atom.atom-index c.atom-item.result c.loop-atom-test.true c.atom-item.is)
+      (c.loop-atom.invariant.1 v told) c.in_ok-next.next _ (c.in_ok-next.ensures v told).0 c.in_ok-width.ensures.0.0,
 )
 
 pub joined_width-returns : goal.joined_width-returns

@@ -27,7 +27,7 @@ returns-else-width-ge2 c =
     let is = known_width c.args.scope.now v t c.args.name.now c.in_ok-width.width (c.in_ok-width.ensures v t).0 in
     let two = q.1.0 in let order = q.1.1 in let within = q.1.2 in
     elim c.else-width-ge2.branch [
-      else-width-ge2-via-then-width-ge2+then-low-high+else-high-width w ↦ omega arith
+      | else-width-ge2-via-then-width-ge2+then-low-high+else-high-width w ↦ omega arith
       | else-width-ge2-via-then-width-ge2+else-low-high w ↦ omega arith
       | else-width-ge2-via-else-width-ge2 w ↦ omega arith
     ]
