@@ -26,7 +26,7 @@ use Rattle.ver_valid.proofs.Fine.{fine_width}
 use Rattle.ver_valid.proofs.Times.{entries_once, assigned_once}
 use Rattle.ver_valid.proofs.Behind.{IsSoundItem, items_walked, fine_before}
 use Rattle.ver_valid.proofs.BehindPorts.{port_names, IsPlainPort, port_names_are, ports_walked}
-use Rattle.ver_valid.proofs.FromWalk.{driven_is_net}
+use Rattle.ver_valid.proofs.DrivenKinds.{driven_is_net}
 use Rattle.ver_valid.proofs.TreeMembers.{assign_at, clock_assign_at, in_assigns, in_clock_assigns, target_in, wire_in, output_in, clock_output_in}
 
 module _ (v : Verilog) (h : Valid v) where
@@ -67,7 +67,7 @@ module _ (v : Verilog) (h : Valid v) where
       let s = in_map_from (λ (s : SizedNet). s.0) (driven_nets v) a.target i in
       let own : In (driven_nets v) (a.target, s.0.1) = subst (λ (x : List ℕ). In (driven_nets v) (x, s.0.1)) s.2 s.1 in
       let one = fine_width v fine a.target w net in
-      let two = fine_width v fine a.target s.0.1 (driven_is_net v fine a.target s.0.1 own) in
+      let two = fine_width v fine a.target s.0.1 (driven_is_net v fine.once a.target s.0.1 own) in
       subst (λ (x : ℕ). In (driven_nets v) (a.target, x)) (sym two ∙ one) own)
       (net_is_source_or_driven v (a.target, w) net)
 
