@@ -1,7 +1,6 @@
 -- The items of a tree, each behind those before it: they are sound there where they are in the whole tree, and the other way round.
-use Rattle.std.proofs.Common.{◌≡◌, ℕ, ◌+◌, ◌<◌, ◌≤◌, List, [], ◌∷◌, ◌++◌, map, flat_map, refl, sym, ap, ◌∙◌, inl, inr, ◌⊎◌, ⊎_elim, subst, append_assoc, append-nil, arith}
-use Rattle.std.specs.Prelude.{IsTrue}
-use Rattle.std.specs.List.{AllByRecursion, sum_by}
+use Rattle.std.proofs.Common.{◌≡◌, ℕ, ◌+◌, ◌≤◌, List, [], ◌∷◌, ◌++◌, map, flat_map, refl, sym, ap, ◌∙◌, inl, inr, ◌⊎◌, ⊎_elim, subst, append_assoc, arith}
+use Rattle.std.specs.List.{AllByRecursion}
 use Rattle.std.proofs.lemmas.List.{map-append}
 use Rattle.std.proofs.lemmas.List.Sums.{sum_by-append}
 use Rattle.fir_base.specs.Lists.{In, Distinct, EachIn}
@@ -9,18 +8,16 @@ use Rattle.fir_base.proofs.Each.{each_more}
 use Rattle.fir_base.proofs.Members.{in_map, in_left, in_right, in_either, each_in}
 use Rattle.fir_base.proofs.Twins.{distinct_left, apart}
 use Rattle.ver_ast.specs.declared.tree.Verilog.{Verilog}
-use Rattle.ver_ast.specs.declared.tree.Port.{Port}
 use Rattle.ver_ast.specs.declared.tree.Item.{Item}
 use Rattle.ver_ast.specs.declared.tree.Item.TheVariants as item
 use Rattle.ver_ast.specs.ItemNames.{declared, item_names}
-use Rattle.ver_ast.specs.Nets.{Variable, AlwaysBlock, plain_block, resetting_block, writing_block, item_block, item_array, block_target, block_targets, blocks, arrays}
+use Rattle.ver_ast.specs.Nets.{Variable, plain_block, resetting_block, writing_block, item_block, item_array, block_target, block_targets, arrays}
 use Rattle.ver_ast.specs.Valid.{DeclaredBefore, IsSoundBlock}
-use Rattle.ver_valid.specs.declared.declared.Declared.{Declared}
-use Rattle.ver_valid.specs.working.Declarations.{Entry, entries, entry_names, item_entries, port_entry, port_kind, IsNarrowKind}
+use Rattle.ver_valid.specs.working.Declarations.{Entry, entries, entry_names, item_entries, port_entry, IsNarrowKind}
 use Rattle.ver_valid.specs.working.Scopes.{IsFine}
-use Rattle.ver_valid.specs.working.Walks.{AreNextItems, IsNextItem, IsNextAssign, IsNextBlock, IsFresh, assigned_names, written_names, item_target, item_written, words_of, with_items}
+use Rattle.ver_valid.specs.working.Walks.{AreNextItems, IsNextItem, IsNextAssign, IsFresh, assigned_names, written_names, item_target, item_written, words_of, with_items}
 use Rattle.ver_valid.proofs.Entries.{flat_append}
-use Rattle.ver_valid.proofs.Keeps.{Keeps, KeepsAll, kept_assign, kept_block, block_names}
+use Rattle.ver_valid.proofs.Keeps.{Keeps, KeepsAll, kept_assign, kept_block}
 use Rattle.ver_valid.proofs.KnownNames.{assign_known, block_known}
 use Rattle.ver_valid.proofs.Steps.{entries_more}
 

@@ -1,5 +1,5 @@
 -- The ports of a tree, each behind those before it.
-use Rattle.std.proofs.Common.{◌≡◌, ℕ, List, [], ◌∷◌, ◌++◌, map, flat_map, refl, sym, ap, ◌∙◌, inl, inr, ⊎_elim, subst, append_assoc, append-nil}
+use Rattle.std.proofs.Common.{◌≡◌, ℕ, List, [], ◌∷◌, ◌++◌, map, refl, sym, ap, ◌∙◌, inl, subst, append_assoc, append-nil}
 use Rattle.std.specs.Prelude.{IsTrue}
 use Rattle.std.specs.List.{AllByRecursion}
 use Rattle.std.proofs.lemmas.List.{map-append}
@@ -7,8 +7,8 @@ use Rattle.fir_base.specs.Lists.{In, Distinct}
 use Rattle.fir_base.proofs.Twins.{apart}
 use Rattle.ver_ast.specs.declared.tree.Verilog.{Verilog}
 use Rattle.ver_ast.specs.declared.tree.Port.{Port}
-use Rattle.ver_valid.specs.working.Declarations.{Entry, entries, entry_names, port_entry, port_kind, IsNarrowKind}
-use Rattle.ver_valid.specs.working.Walks.{AreNextPorts, IsNextPort, with_ports, no_items}
+use Rattle.ver_valid.specs.working.Declarations.{entries, entry_names, port_entry, port_kind, IsNarrowKind}
+use Rattle.ver_valid.specs.working.Walks.{AreNextPorts, with_ports, no_items}
 
 abbrev pub port_names : List Port → List (List ℕ)
 port_names = map (λ p. p.name)

@@ -1,5 +1,5 @@
 -- Blocks, writes and words of arrays are judged by their parts.
-use Rattle.std.proofs.Common.{◌≡◌, ℕ, ◌<◌, ◌≤◌, ◌^◌, List, refl, sym, ◌∙◌, subst}
+use Rattle.std.proofs.Common.{◌≡◌, ℕ, List, refl, sym, subst}
 use Rattle.std.specs.Prelude.{Result}
 use Rattle.fir_base.specs.Lists.{In}
 use Rattle.fir_base.specs.declared.refused.Refused.{Refused}
@@ -9,8 +9,8 @@ use Rattle.ver_ast.specs.declared.tree.Resetting.{Resetting}
 use Rattle.ver_ast.specs.declared.tree.Write.{Write}
 use Rattle.ver_ast.specs.declared.tree.Rhs.TheVariants as rhs
 use Rattle.ver_ast.specs.Atoms.{AtomTree}
-use Rattle.ver_ast.specs.Nets.{Variable, nets, regs, clocks, arrays}
-use Rattle.ver_ast.specs.SoundSides.{HasWidth, IsOperand, IsSoundSide}
+use Rattle.ver_ast.specs.Nets.{nets, regs, clocks, arrays}
+use Rattle.ver_ast.specs.SoundSides.{HasWidth, IsSoundSide}
 use Rattle.ver_ast.specs.Valid.{IsPlain, IsResetting, IsWrite}
 use Rattle.ver_ast.proofs.Nets.{reg_is_net}
 use Rattle.ver_valid.specs.declared.misfit.Misfit.{Misfit}

@@ -1,6 +1,6 @@
 -- The nets of a tree whose names are declared once, with widths that they can have.
-use Rattle.std.proofs.Common.{◌≡◌, ℕ, ◌<◌, ◌≤◌, List, [], ◌∷◌, flat_map, Bool, true, false, refl, sym, ap, ◌∙◌, inl, inr, ⊎_elim, subst, arith}
-use Rattle.std.specs.Prelude.{Option, Some, None}
+use Rattle.std.proofs.Common.{◌≡◌, ℕ, ◌≤◌, List, [], ◌∷◌, true, false, refl, sym, ap, ◌∙◌, inl, inr, ⊎_elim, subst, arith}
+use Rattle.std.specs.Prelude.{Some}
 use Rattle.std.specs.Str.{bytes_eq}
 use Rattle.fir_base.specs.Lists.{In}
 use Rattle.fir_base.proofs.SameNames.{name_is, name_same}
@@ -8,9 +8,9 @@ use Rattle.fir_base.proofs.Tests.{chosen as which}
 use Rattle.ver_ast.specs.declared.tree.Verilog.{Verilog}
 use Rattle.ver_ast.specs.Nets.{SizedNet, nets, width_among}
 use Rattle.ver_valid.specs.declared.declared.Declared.{Declared}
-use Rattle.ver_valid.specs.declared.declared.Declared.TheVariants.{ClockInput, ClockOutput, Input, Output, Wire, Register, Array}
-use Rattle.ver_valid.specs.working.Declarations.{Entry, entries, IsNarrow, IsNarrowKind}
-use Rattle.ver_valid.specs.working.Kinds.{net_width, sized}
+use Rattle.ver_valid.specs.declared.declared.Declared.TheVariants.{Input, Output, Wire, Register}
+use Rattle.ver_valid.specs.working.Declarations.{entries, IsNarrow, IsNarrowKind}
+use Rattle.ver_valid.specs.working.Kinds.{net_width}
 use Rattle.ver_valid.specs.working.Scopes.{IsFine}
 use Rattle.ver_valid.proofs.Entries.{nets_are}
 use Rattle.ver_valid.proofs.EntryKinds.{sized_kind, kind_in}

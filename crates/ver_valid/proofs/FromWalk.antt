@@ -1,34 +1,31 @@
 -- What the walk has judged is all that a valid tree is but an order; and with it the processes are such as the search for an order asks.
-use Rattle.std.proofs.Common.{◌≡◌, ℕ, ◌+◌, ◌<◌, ◌≤◌, List, [], ◌∷◌, ◌++◌, map, flat_map, Bool, true, false, refl, sym, ap, ◌∙◌, inl, inr, ◌⊎◌, ⊎_elim, subst}
-use Rattle.std.specs.Prelude.{IsTrue, Option, Some, None}
+use Rattle.std.proofs.Common.{◌≡◌, ℕ, List, ◌++◌, true, false, sym, ◌∙◌, inl, inr, ⊎_elim, subst}
 use Rattle.std.specs.List.{AllByRecursion}
-use Rattle.std.proofs.lemmas.List.{map-append}
 use Rattle.std.proofs.lemmas.Bool.{false_from_ne_true}
-use Rattle.fir_base.specs.Lists.{In, Distinct, EachIn}
+use Rattle.fir_base.specs.Lists.{In}
 use Rattle.fir_base.specs.Words.{is_among}
 use Rattle.fir_base.specs.declared.direction.Direction.{Direction}
 use Rattle.fir_base.specs.declared.direction.Direction.TheVariants.{Input as InputPort, Output as OutputPort}
-use Rattle.fir_base.proofs.Each.{all_at, each_more}
-use Rattle.fir_base.proofs.Members.{in_map, in_map_from, in_left, in_right, in_either, in_flat_map_from}
+use Rattle.fir_base.proofs.Each.{all_at}
+use Rattle.fir_base.proofs.Members.{in_map, in_map_from, in_either, in_flat_map_from}
 use Rattle.ver_ast.specs.declared.tree.Verilog.{Verilog}
-use Rattle.ver_ast.specs.declared.tree.Port.{Port}
 use Rattle.ver_ast.specs.declared.tree.Assign.{Assign}
 use Rattle.ver_ast.specs.declared.tree.Item.{Item}
 use Rattle.ver_ast.specs.declared.tree.Item.TheVariants as item
-use Rattle.ver_ast.specs.Nets.{SizedNet, Variable, AlwaysBlock, plain_block, resetting_block, writing_block, input_nets, output_nets, clocks, output_clocks, wires, regs, nets, arrays, assigns, clock_assigns, targets, blocks, item_block, names_of}
-use Rattle.ver_ast.specs.Processes.{Process, processes}
-use Rattle.ver_ast.specs.Valid.{Valid, DeclaredBefore, IsSoundAssign, IsSoundBlock, IsClockSide, IsOrder}
+use Rattle.ver_ast.specs.Nets.{SizedNet, Variable, AlwaysBlock, input_nets, output_nets, output_clocks, wires, regs, nets, arrays, assigns, clock_assigns, targets, blocks, item_block, names_of}
+use Rattle.ver_ast.specs.Processes.{Process}
+use Rattle.ver_ast.specs.Valid.{Valid, DeclaredBefore, IsSoundBlock, IsClockSide, IsOrder}
 use Rattle.ver_ast.specs.SoundSides.{IsSoundSide}
 use Rattle.ver_ast.proofs.Chosen.{among, is_named}
 use Rattle.ver_valid.specs.declared.declared.Declared.{Declared}
-use Rattle.ver_valid.specs.declared.declared.Declared.TheVariants.{ClockInput, ClockOutput, Input, Output, Wire, Register, Array}
-use Rattle.ver_valid.specs.working.Declarations.{Entry, entries, entry_names, kind_among, IsNarrow, IsNarrowKind}
-use Rattle.ver_valid.specs.working.Kinds.{net_width, register_width, driven_width, input_width, output_width, wire_width, is_clock_output, sized, chosen, array_of, array_entry}
-use Rattle.ver_valid.specs.working.Scopes.{IsFine, driven_nets}
-use Rattle.ver_valid.specs.working.Walks.{AreNextItems, AreNextPorts, IsNextAssign, IsPortDriven, IsItemDriven, IsOutputDriven, IsWalked, assigned_names, no_items, no_ports}
-use Rattle.ver_valid.proofs.Entries.{nets_are, inputs_are, outputs_are, wires_are, regs_are, arrays_are, output_clocks_are}
-use Rattle.ver_valid.proofs.EntryKinds.{sized_kind, kind_sized, chosen_kind}
+use Rattle.ver_valid.specs.declared.declared.Declared.TheVariants.{Array}
+use Rattle.ver_valid.specs.working.Declarations.{entries, IsNarrow, IsNarrowKind}
+use Rattle.ver_valid.specs.working.Kinds.{array_of, array_entry}
+use Rattle.ver_valid.specs.working.Scopes.{driven_nets}
+use Rattle.ver_valid.specs.working.Walks.{IsPortDriven, IsItemDriven, IsOutputDriven, IsWalked, assigned_names, no_items, no_ports}
+use Rattle.ver_valid.proofs.Entries.{arrays_are}
 use Rattle.ver_valid.proofs.Fine.{fine_narrow}
+use Rattle.ver_valid.proofs.DrivenKinds.{driven_is_net, not_both, not_source}
 use Rattle.ver_valid.proofs.Times.{kinds_once, targets_once}
 use Rattle.ver_valid.proofs.Behind.{IsSoundItem, walked_items}
 use Rattle.ver_valid.proofs.BehindPorts.{port_names, IsPlainPort, port_names_are, plain_ports}
@@ -38,71 +35,6 @@ narrow_array : (n : List ℕ) (d : Declared) (k : Variable) → In (array_of n d
 narrow_array n (Array x last) k (inl e) h = subst (λ (y : Variable). IsNarrow y.width) e h
 narrow_array n (Array x last) k (inr i) h = absurd i
 narrow_array n _ k i h = absurd i
-
--- the kinds of what is driven, of what is not, and of clock outputs
-driven_wire : (d : Declared) (w : ℕ) → wire_width d ≡ Some w → driven_width d ≡ Some w
-driven_wire (Wire x) w e = e
-driven_wire _ w e = cc
-
-driven_output : (d : Declared) (w : ℕ) → output_width d ≡ Some w → driven_width d ≡ Some w
-driven_output (Output x) w e = e
-driven_output _ w e = cc
-
-net_driven : (d : Declared) (w : ℕ) → driven_width d ≡ Some w → net_width d ≡ Some w
-net_driven (Wire x) w e = e
-net_driven (Output x) w e = e
-net_driven _ w e = cc
-
-no_input : (d : Declared) (w u : ℕ) → driven_width d ≡ Some w → input_width d ≡ Some u → ⊥
-no_input (Input x) w u e f = cc
-no_input _ w u e f = cc
-
-no_register : (d : Declared) (w u : ℕ) → driven_width d ≡ Some w → register_width d ≡ Some u → ⊥
-no_register (Register x) w u e f = cc
-no_register _ w u e f = cc
-
-no_clock : (d : Declared) (w : ℕ) → driven_width d ≡ Some w → is_clock_output d ≡ true → ⊥
-no_clock ClockOutput w e f = cc
-no_clock _ w e f = cc
-
-module _ (v : Verilog) (fine : IsFine v) where
-  kind_of_size : (width : Declared → Option ℕ) (ns : List SizedNet) → ns ≡ flat_map (sized width) (entries v) → (n : List ℕ) (w : ℕ) → In ns (n, w)
-      → (d : Declared) × (kind_among (entries v) n ≡ Some d) × (width d ≡ Some w)
-  kind_of_size width ns are n w m = sized_kind width (entries v) fine.once n w (subst (λ (xs : List SizedNet). In xs (n, w)) are m)
-
-  driven_kind : (n : List ℕ) (w : ℕ) → In (driven_nets v) (n, w) → (d : Declared) × (kind_among (entries v) n ≡ Some d) × (driven_width d ≡ Some w)
-  driven_kind n w m =
-      ⊎_elim
-      (λ (i : In (wires v) (n, w)). let r = kind_of_size wire_width (wires v) (wires_are v) n w i in (r.0, r.1, driven_wire r.0 w r.2))
-      (λ (i : In (output_nets v) (n, w)). let r = kind_of_size output_width (output_nets v) (outputs_are v) n w i in (r.0, r.1, driven_output r.0 w r.2))
-      (in_either (wires v) (output_nets v) (n, w) m)
-
-  pub driven_is_net : (n : List ℕ) (w : ℕ) → In (driven_nets v) (n, w) → In (nets v) (n, w)
-  driven_is_net n w m =
-      let r = driven_kind n w m in
-      subst (λ (xs : List SizedNet). In xs (n, w)) (sym (nets_are v))
-      (kind_sized net_width (entries v) fine.once n r.0 w r.1 (net_driven r.0 w r.2))
-
-  pub not_both : (n : List ℕ) (w : ℕ) → In (driven_nets v) (n, w) → In (output_clocks v) n → ⊥
-  not_both n w m k =
-      let r = driven_kind n w m in
-      let s = chosen_kind is_clock_output (entries v) fine.once n (subst (λ (xs : List (List ℕ)). In xs n) (output_clocks_are v) k) in
-      let same : s.0 ≡ r.0 = let a = r.1 in let b = s.1 in cc in
-      no_clock r.0 w r.2 (ap is_clock_output (sym same) ∙ s.2)
-
-  not_source : (s : SizedNet) (w : ℕ) → In (driven_nets v) (s.0, w) → In (input_nets v ++ regs v) s → ⊥
-  not_source s w m k =
-      let r = driven_kind s.0 w m in
-      ⊎_elim
-      (λ (i : In (input_nets v) s).
-      let q = kind_of_size input_width (input_nets v) (inputs_are v) s.0 s.1 i in
-      let same : q.0 ≡ r.0 = let a = r.1 in let b = q.1 in cc in
-      no_input r.0 w s.1 r.2 (ap input_width (sym same) ∙ q.2))
-      (λ (i : In (regs v) s).
-      let q = kind_of_size register_width (regs v) (regs_are v) s.0 s.1 i in
-      let same : q.0 ≡ r.0 = let a = r.1 in let b = q.1 in cc in
-      no_register r.0 w s.1 r.2 (ap register_width (sym same) ∙ q.2))
-      (in_either (input_nets v) (regs v) s k)
 
 module _ (v : Verilog) (is : IsWalked v) where
   judged : DeclaredBefore (port_names v.ports) v.items × AllByRecursion (IsSoundItem v) v.items
@@ -127,7 +59,7 @@ module _ (v : Verilog) (is : IsWalked v) where
       ⊎_elim
       (λ (h : In (output_clocks v) a.target × IsClockSide v a.rhs). h.1)
       (λ (h : (w : ℕ) × In (driven_nets v) (a.target, w) × IsSoundSide (nets v) (arrays v) w a.rhs).
-      absurd (not_both v is.fine a.target h.0 h.1 (among (output_clocks v) a.target r.1)))
+      absurd (not_both v is.fine.once a.target h.0 h.1 (among (output_clocks v) a.target r.1)))
       (sound_at (item.Assign a) r.0)
 
   driven_name : (n : List ℕ) → (w : ℕ) × In (driven_nets v) (n, w) → In (assigned_names v) n → In (targets (assigns v)) n
@@ -135,7 +67,7 @@ module _ (v : Verilog) (is : IsWalked v) where
       let r = assigned_at v n m in
       let other : is_among (output_clocks v) r.0.target ≡ false =
       false_from_ne_true (is_among (output_clocks v) r.0.target)
-      (λ t. not_both v is.fine n net.0 net.1 (subst (In (output_clocks v)) r.2 (among (output_clocks v) r.0.target t))) in
+      (λ t. not_both v is.fine.once n net.0 net.1 (subst (In (output_clocks v)) r.2 (among (output_clocks v) r.0.target t))) in
       subst (In (targets (assigns v))) r.2 (in_map (λ (a : Assign). a.target) (assigns v) r.0 (in_assigns v r.0 r.1 other))
 
   output_assigned : (d : Direction) (n : List ℕ) → d ≡ OutputPort → IsOutputDriven (assigned_names v) d n → In (assigned_names v) n
@@ -170,7 +102,7 @@ module _ (v : Verilog) (is : IsWalked v) where
       let s = in_map_from (λ (s : SizedNet). s.0) (input_nets v ++ regs v) n m in
       let a = in_map_from (λ (a : Assign). a.target) (assigns v) n k in
       let r = net_assign a.0 a.1 in
-      not_source v is.fine s.0 r.0 (subst (λ (x : List ℕ). In (driven_nets v) (x, r.0)) (a.2 ∙ sym s.2) r.1) s.1
+      not_source v is.fine.once s.0 r.0 (subst (λ (x : List ℕ). In (driven_nets v) (x, r.0)) (a.2 ∙ sym s.2) r.1) s.1
 
   block_of : (i : Item) (b : AlwaysBlock) → In (item_block i) b → IsSoundItem v i → IsSoundBlock v b
   block_of (item.Always x) b (inl e) h = subst (IsSoundBlock v) e h
@@ -197,7 +129,7 @@ module _ (v : Verilog) (is : IsWalked v) where
     narrow = λ n w m. fine_narrow v is.fine n w m;
     narrow_words = narrow_words;
     few_words = is.few;
-    sound_assigns = λ a m. let r = net_assign a m in (r.0, driven_is_net v is.fine a.target r.0 r.1, r.2);
+    sound_assigns = λ a m. let r = net_assign a m in (r.0, driven_is_net v is.fine.once a.target r.0 r.1, r.2);
     driven_once = targets_once v is.assigned_once;
     driven = all_driven;
     driven_clocks = clocks_driven;

@@ -1,9 +1,8 @@
 -- A tree keeps what a name is declared atoms in another: then what is sound there by these names is sound here.
-use Rattle.std.proofs.Common.{◌≡◌, ℕ, ◌+◌, ◌*◌, ◌-◌, ◌<◌, ◌≤◌, List, [], ◌∷◌, ◌++◌, map, flat_map, Bool, refl, sym, ap, ◌∙◌, inl, inr, ◌⊎◌, ⊎_elim, subst, arith}
+use Rattle.std.proofs.Common.{◌≡◌, ℕ, ◌*◌, ◌≤◌, List, [], ◌∷◌, ◌++◌, flat_map, Bool, refl, sym, ap, ◌∙◌, inl, inr, ⊎_elim, subst, arith}
 use Rattle.std.specs.Prelude.{Option, Some, None}
 use Rattle.std.specs.List.{AllByRecursion}
-use Rattle.fir_base.specs.Lists.{In, Distinct}
-use Rattle.fir_base.proofs.Each.{all_at, all_from}
+use Rattle.fir_base.specs.Lists.{In}
 use Rattle.fir_base.proofs.Members.{in_left, in_right, in_either, in_flat_map, in_flat_map_from}
 use Rattle.ver_ast.specs.declared.tree.Verilog.{Verilog}
 use Rattle.ver_ast.specs.declared.tree.Edge.{Edge}
@@ -16,10 +15,10 @@ use Rattle.ver_ast.specs.AtomWidths.{atom_width, joined_width}
 use Rattle.ver_ast.specs.Names.{atom_names, joined_names, rhs_atoms, rhs_names}
 use Rattle.ver_ast.specs.ItemNames.{rhs_arrays, edge_names, write_names}
 use Rattle.ver_ast.specs.Nets.{SizedNet, Variable, AlwaysBlock, plain_block, resetting_block, writing_block, nets, regs, clocks, output_clocks, wires, output_nets, arrays, width_among}
-use Rattle.ver_ast.specs.SoundSides.{IsSound, AreSound, IsOperand, HasWidth, IsSoundSide, HasSideWidths, KeepsRule, KeepsUnary, binary_rule, signed_rule, arithmetic, shift, comparison, OperandRule}
-use Rattle.ver_ast.specs.Valid.{IsPlain, IsEdge, IsResetting, IsWrite, AreWrites, IsSoundBlock, IsClockSide}
+use Rattle.ver_ast.specs.SoundSides.{IsSound, AreSound, IsOperand, HasWidth, IsSoundSide, HasSideWidths, KeepsRule, KeepsUnary, binary_rule, signed_rule}
+use Rattle.ver_ast.specs.Valid.{IsEdge, IsWrite, AreWrites, IsSoundBlock, IsClockSide}
 use Rattle.ver_valid.specs.declared.declared.Declared.{Declared}
-use Rattle.ver_valid.specs.working.Declarations.{Entry, entries}
+use Rattle.ver_valid.specs.working.Declarations.{entries}
 use Rattle.ver_valid.specs.working.Kinds.{net_width, register_width, wire_width, output_width, is_clock_input, is_clock_output, sized, chosen, array_of, array_entry}
 use Rattle.ver_valid.specs.working.Scopes.{IsFine, driven_nets}
 use Rattle.ver_valid.specs.working.Walks.{IsNextAssign}

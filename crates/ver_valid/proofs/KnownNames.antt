@@ -1,8 +1,8 @@
 -- What is sound names only what is declared.
-use Rattle.std.proofs.Common.{◌≡◌, ℕ, ◌<◌, ◌≤◌, List, [], ◌∷◌, ◌++◌, map, flat_map, Bool, refl, sym, ap, ◌∙◌, inl, inr, ⊎_elim, subst, arith}
+use Rattle.std.proofs.Common.{◌≡◌, ℕ, ◌≤◌, List, [], ◌∷◌, ◌++◌, flat_map, Bool, sym, ◌∙◌, inl, inr, ⊎_elim, subst, arith}
 use Rattle.std.specs.Prelude.{Option, Some, None}
 use Rattle.std.specs.List.{AllByRecursion}
-use Rattle.fir_base.specs.Lists.{In, Distinct, EachIn}
+use Rattle.fir_base.specs.Lists.{In, EachIn}
 use Rattle.fir_base.proofs.Each.{each_joined}
 use Rattle.fir_base.proofs.Members.{in_map, in_either, in_flat_map_from}
 use Rattle.ver_ast.specs.declared.tree.Verilog.{Verilog}
@@ -15,8 +15,8 @@ use Rattle.ver_ast.specs.Atoms.{AtomTree, net, constant, bit_select, part_select
 use Rattle.ver_ast.specs.Names.{atom_names, joined_names, rhs_atoms, rhs_names}
 use Rattle.ver_ast.specs.ItemNames.{rhs_arrays, edge_names, write_names}
 use Rattle.ver_ast.specs.Nets.{SizedNet, Variable, AlwaysBlock, plain_block, resetting_block, writing_block, nets, regs, clocks, output_clocks, wires, output_nets, arrays, width_among}
-use Rattle.ver_ast.specs.SoundSides.{IsSound, AreSound, IsOperand, HasWidth, IsSoundSide, HasSideWidths}
-use Rattle.ver_ast.specs.Valid.{IsPlain, IsEdge, IsResetting, IsWrite, AreWrites, IsSoundBlock, IsClockSide}
+use Rattle.ver_ast.specs.SoundSides.{IsSound, AreSound, IsOperand, IsSoundSide, HasSideWidths}
+use Rattle.ver_ast.specs.Valid.{IsEdge, IsWrite, AreWrites, IsSoundBlock, IsClockSide}
 use Rattle.ver_valid.specs.declared.declared.Declared.{Declared}
 use Rattle.ver_valid.specs.working.Declarations.{Entry, entries, entry_names}
 use Rattle.ver_valid.specs.working.Kinds.{net_width, register_width, wire_width, output_width, is_clock_input, is_clock_output, sized, chosen, array_entry}

@@ -1,6 +1,7 @@
 pub mod Judging
 pub mod Entries
 pub mod EntryKinds
+pub mod DrivenKinds
 pub mod Told
 pub mod GrownScopes
 pub mod Fine

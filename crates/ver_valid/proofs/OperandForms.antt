@@ -1,28 +1,20 @@
 -- Each form of an operand is judged by its parts.
-use Rattle.std.proofs.Common.{◌≡◌, ℕ, ◌+◌, ◌-◌, ◌*◌, ◌≤◌, List, [], ◌∷◌, true, false, refl, sym, ap, ◌∙◌, inl, inr, ⊎_elim, subst, arith}
-use Rattle.std.specs.Prelude.{Some, Result}
-use Rattle.std.specs.Str.{bytes_eq}
+use Rattle.std.proofs.Common.{◌≡◌, ℕ, ◌+◌, ◌-◌, ◌*◌, ◌≤◌, List, refl, sym, ap, ◌∙◌, subst, arith}
+use Rattle.std.specs.Prelude.{Result}
 use Rattle.fir_base.specs.Lists.{In}
 use Rattle.fir_base.specs.declared.refused.Refused.{Refused}
-use Rattle.fir_base.proofs.SameNames.{name_is, name_same}
-use Rattle.fir_base.proofs.Tests.{chosen as which}
 use Rattle.ver_ast.specs.declared.tree.Verilog.{Verilog}
 use Rattle.ver_ast.specs.declared.tree.Constant.{Constant}
 use Rattle.ver_ast.specs.Atoms.{AtomTree, net, constant, bit_select, part_select, concat, repeat, AtomTrees, no_atoms, atom_before}
 use Rattle.ver_ast.specs.AtomForms.{constant_number}
 use Rattle.ver_ast.specs.AtomWidths.{atom_width, joined_width}
 use Rattle.ver_ast.specs.Nets.{SizedNet, nets, width_among}
-use Rattle.ver_valid.specs.declared.declared.Declared.{Declared}
-use Rattle.ver_valid.specs.declared.declared.Declared.TheVariants.{Input, Output, Wire, Register}
 use Rattle.ver_valid.specs.declared.misfit.Misfit.{Misfit}
 use Rattle.ver_valid.specs.declared.scope.Scope.{Scope}
 use Rattle.ver_valid.specs.working.Judgement.{Denies, Gives}
-use Rattle.ver_valid.specs.working.Declarations.{entries, IsNarrow, IsNarrowKind}
-use Rattle.ver_valid.specs.working.Kinds.{net_width}
+use Rattle.ver_valid.specs.working.Declarations.{IsNarrow}
 use Rattle.ver_valid.specs.working.Scopes.{IsFine, Tells}
 use Rattle.ver_valid.specs.working.Operands.{IsWithin, AreWithin, AreJoined, IsBefore, IsPart, IsCopied, IsSoundConstant}
-use Rattle.ver_valid.proofs.Entries.{nets_are}
-use Rattle.ver_valid.proofs.EntryKinds.{sized_kind, kind_in}
 use Rattle.ver_valid.proofs.Fine.{fine_narrow, fine_width, width_of_net}
 use Rattle.ver_valid.proofs.Judging.{denied_more, given_same}
 

@@ -1,9 +1,8 @@
 -- What the walk knows behind one port or item more.
-use Rattle.std.proofs.Common.{◌≡◌, ℕ, suc, ◌+◌, ◌<◌, ◌≤◌, List, [], ◌∷◌, ◌++◌, map, flat_map, length, take, drop, get_or, refl, sym, ap, ◌∙◌, subst, append_assoc, append-nil, add-one, add-zero, inl, inr, ⊎_elim, slice_get, Some, arith}
+use Rattle.std.proofs.Common.{◌≡◌, ℕ, ◌+◌, ◌<◌, ◌≤◌, List, [], ◌∷◌, ◌++◌, map, flat_map, length, take, drop, get_or, refl, sym, ap, ◌∙◌, subst, append_assoc, append-nil, add-one, add-zero, inl, ⊎_elim, slice_get, Some, arith}
 use Rattle.std.specs.Prelude.{Result, Ok, Err, OnOk, ◌↔◌}
 use Rattle.std.specs.Result.{IsErrAnd}
 use Rattle.std.proofs.lemmas.Result.{err_from_is_err_and}
-use Rattle.std.specs.List.{sum_by}
 use Rattle.std.proofs.lemmas.List.{map-append, take_all}
 use Rattle.std.proofs.lemmas.List.Sums.{sum_by-append}
 use Rattle.std.proofs.Math.Seq.{drop-cons, take-suc}
@@ -18,7 +17,6 @@ use Rattle.ver_ast.specs.declared.tree.Write.{Write}
 use Rattle.ver_ast.specs.Valid.{IsSoundBlock}
 use Rattle.ver_valid.specs.declared.driver.Driven.{Driven}
 use Rattle.ver_valid.specs.declared.misfit.Misfit.{Misfit}
-use Rattle.ver_valid.specs.declared.scope.Scope.{Scope}
 use Rattle.ver_valid.specs.declared.walk.Walk.{Walk}
 use Rattle.ver_valid.specs.working.Judgement.{Denies, Judges}
 use Rattle.ver_valid.specs.working.Declarations.{Entry, entries, port_entry, item_entries}

@@ -1,5 +1,5 @@
 -- How often a name stands in a list: no name stands twice where each does once at most.
-use Rattle.std.proofs.Common.{◌≡◌, ℕ, zero, suc, ◌+◌, ◌<◌, ◌≤◌, List, [], ◌∷◌, ◌++◌, map, flat_map, Bool, true, false, cond, if◌then◌else◌, refl, sym, ap, ◌∙◌, inl, inr, ◌⊎◌, ⊎_elim, subst, arith}
+use Rattle.std.proofs.Common.{◌≡◌, ℕ, ◌+◌, ◌≤◌, List, [], ◌∷◌, ◌++◌, flat_map, Bool, true, false, if◌then◌else◌, refl, sym, ap, ◌∙◌, inl, inr, subst, arith}
 use Rattle.std.specs.Str.{bytes_eq}
 use Rattle.std.proofs.lemmas.List.{map-append}
 use Rattle.fir_base.specs.Lists.{In, Distinct}
@@ -8,11 +8,11 @@ use Rattle.ver_ast.specs.declared.tree.Item.{Item}
 use Rattle.ver_ast.specs.declared.tree.Item.TheVariants as item
 use Rattle.ver_ast.specs.declared.tree.Verilog.{Verilog}
 use Rattle.fir_base.specs.Words.{is_among}
-use Rattle.ver_ast.specs.Nets.{SizedNet, names_of, variable_names, clocks, output_clocks, nets, arrays, item_assign, item_clock_assign, assigns, clock_assigns, targets}
+use Rattle.ver_ast.specs.Nets.{names_of, variable_names, clocks, output_clocks, nets, arrays, item_assign, item_clock_assign, assigns, clock_assigns, targets}
 use Rattle.ver_valid.specs.declared.declared.Declared.{Declared}
 use Rattle.ver_valid.specs.declared.declared.Declared.TheVariants.{ClockInput, ClockOutput, Input, Output, Wire, Register, Array}
 use Rattle.ver_valid.specs.working.Declarations.{Entry, entries, entry_names}
-use Rattle.ver_valid.specs.working.Kinds.{net_width, is_clock_input, is_clock_output, sized, chosen, array_of, array_entry}
+use Rattle.ver_valid.specs.working.Kinds.{net_width, is_clock_input, is_clock_output, sized, chosen, array_entry}
 use Rattle.ver_valid.specs.working.Walks.{item_target, assigned_names}
 use Rattle.ver_valid.proofs.Entries.{nets_are, clocks_are, output_clocks_are, arrays_are}
 

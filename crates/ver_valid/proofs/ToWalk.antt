@@ -1,7 +1,5 @@
 -- A valid tree is judged so by the walk.
-use Rattle.std.proofs.Common.{◌≡◌, ℕ, ◌+◌, ◌<◌, ◌≤◌, List, [], ◌∷◌, ◌++◌, map, flat_map, Bool, true, false, refl, sym, ap, ◌∙◌, inl, inr, ◌⊎◌, ⊎_elim, subst}
-use Rattle.std.specs.Prelude.{Option, Some, None}
-use Rattle.std.specs.List.{AllByRecursion}
+use Rattle.std.proofs.Common.{◌≡◌, ℕ, ◌+◌, List, [], ◌++◌, map, flat_map, Bool, true, false, refl, sym, ◌∙◌, inl, inr, ⊎_elim, subst}
 use Rattle.fir_base.specs.Lists.{In, Distinct}
 use Rattle.fir_base.specs.Words.{is_among}
 use Rattle.fir_base.specs.declared.direction.Direction.{Direction}
@@ -13,13 +11,13 @@ use Rattle.ver_ast.specs.declared.tree.Port.{Port}
 use Rattle.ver_ast.specs.declared.tree.Assign.{Assign}
 use Rattle.ver_ast.specs.declared.tree.Item.{Item}
 use Rattle.ver_ast.specs.declared.tree.Item.TheVariants as item
-use Rattle.ver_ast.specs.Nets.{SizedNet, Variable, AlwaysBlock, plain_block, resetting_block, writing_block, item_block, input_nets, output_nets, output_clocks, wires, regs, nets, arrays, assigns, clock_assigns, targets, names_of}
+use Rattle.ver_ast.specs.Nets.{SizedNet, Variable, plain_block, resetting_block, writing_block, item_block, input_nets, output_nets, output_clocks, wires, regs, nets, assigns, clock_assigns, targets, names_of}
 use Rattle.ver_ast.specs.Valid.{Valid}
 use Rattle.ver_ast.proofs.Chosen.{among}
 use Rattle.ver_ast.proofs.Nets.{net_is_source_or_driven}
 use Rattle.ver_valid.specs.declared.declared.Declared.{Declared}
 use Rattle.ver_valid.specs.declared.declared.Declared.TheVariants.{ClockInput, ClockOutput, Input, Output, Wire, Register, Array}
-use Rattle.ver_valid.specs.working.Declarations.{Entry, entries, port_entry, port_kind, item_entries, IsNarrow, IsNarrowKind}
+use Rattle.ver_valid.specs.working.Declarations.{entries, port_entry, port_kind, item_entries, IsNarrow, IsNarrowKind}
 use Rattle.ver_valid.specs.working.Kinds.{net_width, sized, array_entry}
 use Rattle.ver_valid.specs.working.Scopes.{IsFine, driven_nets}
 use Rattle.ver_valid.specs.working.Walks.{IsNextAssign, IsPortDriven, IsItemDriven, IsOutputDriven, IsWalked, assigned_names, no_items}
@@ -28,7 +26,7 @@ use Rattle.ver_valid.proofs.Fine.{fine_width}
 use Rattle.ver_valid.proofs.Times.{entries_once, assigned_once}
 use Rattle.ver_valid.proofs.Behind.{IsSoundItem, items_walked, fine_before}
 use Rattle.ver_valid.proofs.BehindPorts.{port_names, IsPlainPort, port_names_are, ports_walked}
-use Rattle.ver_valid.proofs.FromWalk.{driven_is_net}
+use Rattle.ver_valid.proofs.DrivenKinds.{driven_is_net}
 use Rattle.ver_valid.proofs.TreeMembers.{assign_at, clock_assign_at, in_assigns, in_clock_assigns, target_in, wire_in, output_in, clock_output_in}
 
 module _ (v : Verilog) (h : Valid v) where
@@ -69,7 +67,7 @@ module _ (v : Verilog) (h : Valid v) where
       let s = in_map_from (λ (s : SizedNet). s.0) (driven_nets v) a.target i in
       let own : In (driven_nets v) (a.target, s.0.1) = subst (λ (x : List ℕ). In (driven_nets v) (x, s.0.1)) s.2 s.1 in
       let one = fine_width v fine a.target w net in
-      let two = fine_width v fine a.target s.0.1 (driven_is_net v fine a.target s.0.1 own) in
+      let two = fine_width v fine a.target s.0.1 (driven_is_net v fine.once a.target s.0.1 own) in
       subst (λ (x : ℕ). In (driven_nets v) (a.target, x)) (sym two ∙ one) own)
       (net_is_source_or_driven v (a.target, w) net)
 

@@ -3,7 +3,7 @@ use Rattle.std.proofs.Common.{◌≡◌, ℕ, ◌+◌, List, flat_map, true, ref
 use Rattle.std.specs.Prelude.{Option, Some, None, Ok}
 use Rattle.std.proofs.lemmas.Option.{none-some}
 use Rattle.fir_base.specs.Lists.{In}
-use Rattle.fir_base.proofs.Members.{in_left, in_right, in_either, in_flat_map, in_flat_map_from}
+use Rattle.fir_base.proofs.Members.{in_left, in_right, in_flat_map, in_flat_map_from}
 use Rattle.ver_ast.specs.declared.tree.Verilog.{Verilog}
 use Rattle.ver_ast.specs.Nets.{SizedNet, Variable, clocks, output_clocks, nets, regs, wires, output_nets}
 use Rattle.ver_valid.specs.declared.declared.Declared.{Declared}
@@ -14,7 +14,8 @@ use Rattle.ver_valid.specs.working.Declarations.{entries, kind_among}
 use Rattle.ver_valid.specs.working.Kinds.{net_width, register_width, driven_width, output_width, wire_width, word_width, is_clock_input, is_clock_output, sized, array_of, array_entry}
 use Rattle.ver_valid.specs.working.Scopes.{found, Tells, HasArray, driven_nets, GivesTarget}
 use Rattle.ver_valid.proofs.Entries.{nets_are, regs_are, wires_are, outputs_are, clocks_are, output_clocks_are, arrays_are}
-use Rattle.ver_valid.proofs.EntryKinds.{Sized, sized_kind, kind_sized, one_size, not_sized, not_known, Chosen, kind_chosen, chosen_by, not_chosen, kind_in, kind_of_entry}
+use Rattle.ver_valid.proofs.DrivenKinds.{driven_kind}
+use Rattle.ver_valid.proofs.EntryKinds.{Sized, kind_sized, one_size, not_sized, not_known, Chosen, kind_chosen, chosen_by, not_chosen, kind_in, kind_of_entry}
 
 module _ (scope : Scope) (n : List ℕ) (v : Verilog) (t : Tells scope v) where
   among : (o : Option Declared) → found scope n ≡ o → kind_among (entries v) n ≡ o
@@ -128,26 +129,10 @@ module _ (scope : Scope) (n : List ℕ) (v : Verilog) (t : Tells scope v) where
   is_output_test ClockOutput e = refl
   is_output_test _ e = cc
 
-  wire_driven : (d : Declared) (w : ℕ) → wire_width d ≡ Some w → driven_width d ≡ Some w
-  wire_driven (Wire x) w e = e
-  wire_driven _ w e = cc
-
-  output_driven : (d : Declared) (w : ℕ) → output_width d ≡ Some w → driven_width d ≡ Some w
-  output_driven (Output x) w e = e
-  output_driven _ w e = cc
-
   driven_either : (d : Declared) (w : ℕ) → driven_width d ≡ Some w → (wire_width d ≡ Some w) ⊎ (output_width d ≡ Some w)
   driven_either (Wire x) w e = inl e
   driven_either (Output x) w e = inr e
   driven_either _ w e = cc
-
-  driven_kind : (w : ℕ) → In (driven_nets v) (n, w) → (d : Declared) × (kind_among (entries v) n ≡ Some d) × (driven_width d ≡ Some w)
-  driven_kind w m =
-      ⊎_elim
-      (λ (i : In (wires v) (n, w)). let r = sized_kind wire_width (entries v) t.once n w (to wire_width (wires v) (wires_are v) w i) in (r.0, r.1, wire_driven r.0 w r.2))
-      (λ (i : In (output_nets v) (n, w)).
-      let r = sized_kind output_width (entries v) t.once n w (to output_width (output_nets v) (outputs_are v) w i) in (r.0, r.1, output_driven r.0 w r.2))
-      (in_either (wires v) (output_nets v) (n, w) m)
 
   kind_driven : (d : Declared) (w : ℕ) → found scope n ≡ Some d → driven_width d ≡ Some w → In (driven_nets v) (n, w)
   kind_driven d w k e =
@@ -158,7 +143,7 @@ module _ (scope : Scope) (n : List ℕ) (v : Verilog) (t : Tells scope v) where
 
   driven_by : (d : Declared) (w : ℕ) → found scope n ≡ Some d → In (driven_nets v) (n, w) → driven_width d ≡ Some w
   driven_by d w k m =
-      let q = driven_kind w m in
+      let q = driven_kind v t.once n w m in
       let same : q.0 ≡ d = let here = among (Some d) k in cc in
       ap driven_width (sym same) ∙ q.2
 
@@ -185,4 +170,4 @@ module _ (scope : Scope) (n : List ℕ) (v : Verilog) (t : Tells scope v) where
 
   pub not_a_target : found scope n ≡ None → (In (output_clocks v) n ⊎ ((w : ℕ) × In (driven_nets v) (n, w))) → ⊥
   not_a_target k (inl m) = not_chosen is_clock_output (entries v) t.once n (among None k) (to_clock m)
-  not_a_target k (inr m) = let q = driven_kind m.0 m.1 in none-some q.0 (sym (among None k) ∙ q.1)
+  not_a_target k (inr m) = let q = driven_kind v t.once n m.0 m.1 in none-some q.0 (sym (among None k) ∙ q.1)

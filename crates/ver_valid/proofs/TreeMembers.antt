@@ -1,5 +1,5 @@
 -- Where the parts of a tree's lists stand among its ports and items.
-use Rattle.std.proofs.Common.{◌≡◌, ℕ, List, [], ◌∷◌, ◌++◌, map, flat_map, Bool, true, false, if◌then◌else◌, refl, sym, ap, ◌∙◌, inl, inr, ⊎_elim, subst}
+use Rattle.std.proofs.Common.{◌≡◌, ℕ, List, [], ◌∷◌, Bool, true, false, if◌then◌else◌, refl, sym, ap, ◌∙◌, inl, inr, subst}
 use Rattle.fir_base.specs.Lists.{In}
 use Rattle.fir_base.specs.Words.{is_among}
 use Rattle.fir_base.specs.declared.direction.Direction.{Direction}
@@ -11,7 +11,7 @@ use Rattle.ver_ast.specs.declared.tree.Net.{Net}
 use Rattle.ver_ast.specs.declared.tree.Assign.{Assign}
 use Rattle.ver_ast.specs.declared.tree.Item.{Item}
 use Rattle.ver_ast.specs.declared.tree.Item.TheVariants as item
-use Rattle.ver_ast.specs.Nets.{SizedNet, AlwaysBlock, plain_block, resetting_block, writing_block, port_net, port_clock, output_net, output_clock, wire_net, item_assign, item_clock_assign, item_block, wires, output_nets, output_clocks, assigns, clock_assigns, blocks}
+use Rattle.ver_ast.specs.Nets.{SizedNet, output_net, output_clock, wire_net, item_assign, item_clock_assign, wires, output_nets, output_clocks, assigns, clock_assigns}
 use Rattle.ver_valid.specs.working.Walks.{item_target, assigned_names}
 
 chosen_assign : (b : Bool) (a c : Assign) → In (if b then [] else (a ∷ [])) c → (a ≡ c) × (b ≡ false)

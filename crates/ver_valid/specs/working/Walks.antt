@@ -10,7 +10,7 @@ use Rattle.ver_ast.specs.declared.tree.Port.{Port}
 use Rattle.ver_ast.specs.declared.tree.Assign.{Assign}
 use Rattle.ver_ast.specs.declared.tree.Item.{Item}
 use Rattle.ver_ast.specs.declared.tree.Item.TheVariants as item
-use Rattle.ver_ast.specs.Nets.{AlwaysBlock, plain_block, resetting_block, writing_block, Variable, item_block, item_array, block_target, block_targets, blocks, arrays, nets, output_clocks}
+use Rattle.ver_ast.specs.Nets.{AlwaysBlock, plain_block, resetting_block, writing_block, Variable, item_block, block_target, block_targets, blocks, arrays, nets, output_clocks}
 use Rattle.ver_ast.specs.SoundSides.{IsSoundSide}
 use Rattle.ver_ast.specs.Valid.{IsClockSide, IsSoundBlock}
 use Rattle.ver_valid.specs.declared.misfit.Misfit.{Misfit}
