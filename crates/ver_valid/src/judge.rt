@@ -12,7 +12,7 @@ use fir_base::{MemoryOut, Refused};
 use std::alloc::Global;
 use ver_ast::Verilog;
 
-/// Whether a tree is valid. (IEEE 1364-2005 sections as in specs/Valid) Only memory can be wanting.
+/// Whether a tree is valid (IEEE 1364-2005, 3.7, 4.2, 4.9, 5.2.1, 5.4, 6.1). Only memory can be wanting.
 pub fn valid(alloc: Global, v: &Verilog) -> Result<bool, MemoryOut>
     ensures { IfOk result (λ b. IsTrue b ↔ Valid v.now) }
 {
