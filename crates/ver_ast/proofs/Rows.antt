@@ -1,6 +1,6 @@
 -- Small trees, and values at the edges of right sides, computed by the checker.
 use Rattle.std.proofs.Common.{◌≡◌, ℕ, List, [], ◌∷◌, Option, Some, None, refl}
-use Rattle.std.specs.Prelude.{codes, true, false, if◌then◌else◌}
+use Rattle.std.specs.Prelude.{codes, map, true, false, if◌then◌else◌}
 use Rattle.std.specs.Str.{bytes_eq}
 use Rattle.fir_base.specs.Ticks.{Env}
 use Rattle.fir_base.specs.declared.direction.Direction.{Direction}
@@ -17,10 +17,11 @@ use Rattle.ver_ast.specs.declared.tree.SignedOp.{SignedOp}
 use Rattle.ver_ast.specs.declared.tree.BinaryOp.TheVariants as binary
 use Rattle.ver_ast.specs.declared.tree.SignedOp.TheVariants as signed
 use Rattle.ver_ast.specs.Atoms.{net, constant}
-use Rattle.ver_ast.specs.Nets.{SizedNet}
-use Rattle.ver_ast.specs.Stores.{Store}
+use Rattle.ver_ast.specs.Nets.{SizedNet, variables}
+use Rattle.ver_ast.specs.Stores.{Store, store_of}
 use Rattle.ver_ast.specs.SideValues.{rhs_value}
 use Rattle.ver_ast.specs.Next.{v_next}
+use Rattle.ver_ast.specs.Processes.{processes, wanted}
 use Rattle.ver_ast.specs.ClockOutputs.{clocks_shown}
 
 -- ---- right sides, with a and b of 4 bits, and an array m of three words
@@ -140,6 +141,16 @@ reset_env n name = if bytes_eq name (codes "n") then n else 0
 
 abbrev after_tick : ℕ → List ℕ → Option (List ℕ)
 after_tick n rising = v_next reset_tree (3 ∷ []) (record { inputs = n ∷ []; clocks = rising }) (reset_env n)
+
+-- what r shows, whose word is 3: the constant as soon as n is 1, before any edge
+abbrev shown : ℕ → List (Option ℕ)
+shown n = map (wanted reset_tree (store_of (variables reset_tree) (3 ∷ [])) (reset_env n)) (processes reset_tree)
+
+shown_at_once : shown 1 ≡ Some 9 ∷ []
+shown_at_once = refl
+
+shown_while_idle : shown 0 ≡ Some 3 ∷ []
+shown_while_idle = refl
 
 reset_at_an_edge : after_tick 1 (0 ∷ []) ≡ Some (9 ∷ [])
 reset_at_an_edge = refl
