@@ -1,4 +1,7 @@
-use Rattle.std.proofs.Common.{Err, subst}
+use Rattle.std.proofs.Common.{Result, Err, subst}
+use Rattle.fir_base.specs.declared.refused.Refused.{Refused}
+use Rattle.fir_ast.specs.declared.circuit.Circuit.{Circuit}
+use Rattle.fir_ast.specs.declared.fault.FirFault.{FirFault}
 use Rattle.fir_ast.specs.working.CodeFaults.{fault_of}
 use Rattle.fir_ast.specs.working.Views.{circuit_of}
 use Rattle.fir_pass.specs.working.Law.{IfFaulty, Passes}
@@ -16,5 +19,6 @@ returns-in-Ok-clause-ok c =
 
 pub returns-in-Err-clause-fault : goal.returns-in-Err-clause-fault
 returns-in-Err-clause-fault c =
-    reports_first 10 12 c.args.x (λ f. fault_of f.0) (Err {A = FlatNet} c.in-Err.refused)
+    let refused : Result FlatNet (Refused (FirFault × Circuit)) = Err c.in-Err.refused in
+    reports_first 10 12 c.args.x (λ f. fault_of f.0) refused
     (subst (λ t. IfFaulty c.in-Err.refused (λ f. IsFirstOf 10 12 (circuit_of t) (fault_of f.0))) c.into_circuit.ensures.tree c.in-Err.ensures.fault)
