@@ -1,3 +1,4 @@
+FIRRTL version 1.1.0
 circuit BcdCounter :
   module BcdCounter :
     input clock : Clock

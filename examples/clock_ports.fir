@@ -1,3 +1,4 @@
+FIRRTL version 1.1.0
 circuit ClockPorts :
   module ClockPorts :
     input a : UInt<3>

@@ -1,3 +1,4 @@
+FIRRTL version 1.1.0
 circuit ConnectsToNarrowerOutputs :
   module ConnectsToNarrowerOutputs :
     input a : UInt<8>

@@ -1,3 +1,4 @@
+FIRRTL version 1.1.0
 circuit Crc8 :
   module Crc8 :
     input clock : Clock

@@ -1,3 +1,4 @@
+FIRRTL version 1.1.0
 ;buildInfoPackage: chisel3, version: 3.4.3, scalaVersion: 2.12.12, sbtVersion: 1.3.10
 circuit GrayCounter :
   module GrayCounter :

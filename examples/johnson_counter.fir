@@ -1,3 +1,4 @@
+FIRRTL version 1.1.0
 circuit JohnsonCounter :
   module JohnsonCounter :
     input clock : Clock

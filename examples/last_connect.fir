@@ -1,3 +1,4 @@
+FIRRTL version 1.1.0
 circuit LastConnect :
   module LastConnect :
     input a : UInt<4>

@@ -1,3 +1,4 @@
+FIRRTL version 1.1.0
 circuit Literals :
   module Literals :
     input a : UInt<8>

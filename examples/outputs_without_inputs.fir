@@ -1,3 +1,4 @@
+FIRRTL version 1.1.0
 circuit OutputsWithoutInputs :
   module OutputsWithoutInputs :
     output magic : UInt<32>

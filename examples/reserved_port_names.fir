@@ -1,3 +1,4 @@
+FIRRTL version 1.1.0
 circuit table :
   module table :
     input wire : UInt<4>

@@ -1,3 +1,4 @@
+FIRRTL version 1.1.0
 circuit TwoClocks :
   module TwoClocks :
     input fast : Clock

@@ -1,3 +1,4 @@
+FIRRTL version 1.1.0
 circuit Watchdog :
   module Watchdog :
     input clock : Clock

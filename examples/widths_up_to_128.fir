@@ -1,3 +1,4 @@
+FIRRTL version 1.1.0
 circuit WidthsUpTo128 :
   module WidthsUpTo128 :
     input left : UInt<128>

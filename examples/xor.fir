@@ -1,3 +1,4 @@
+FIRRTL version 1.1.0
 circuit T :
   module T :
     input a : UInt<4>

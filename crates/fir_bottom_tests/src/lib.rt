@@ -1,6 +1,6 @@
 //! Tests of crates at the bottom, of what only code can show: a crate with tests of its own is proved twice. Files and
-//! sinks that fail (`outside`), a graph of one concrete type (`graphs`), and the lines of faults that no text shows yet
-//! (`fault_lines`). What a text and the lines for it can say stands in checks/rows.
+//! sinks that fail (`outside`), a graph of one concrete type (`graphs`), the lines of faults that no text shows yet
+//! (`fault_lines`), and the judge of Verilog trees (`trees`). What a text and the lines for it can say stands in checks/rows.
 #![tactic(auto)]
 
 #[cfg(test)]
@@ -9,3 +9,5 @@ mod fault_lines;
 mod graphs;
 #[cfg(test)]
 mod outside;
+#[cfg(test)]
+mod trees;

@@ -30,5 +30,5 @@ module _ (c : CircuitTree) where
 -- what comes out with the same tree is a stage of the same circuit
 pub keeps_typed : {E : Type 0} → (t : Circuit) (r : Result Circuit E) → IfOk r (λ n. n ≡ t) → IfOk r (λ n. type_faults (circuit_of t) ≡ [])
     → IfOk r (Passes IsTreeOf IsTreeOf (IsClearOf 4 4) t)
-keeps_typed t (Ok n) same clear = keeps_tree 4 4 t (Ok n) same (clear_at (circuit_of t) clear)
+keeps_typed {E = E} t (Ok n) same clear = keeps_tree {E = E} 4 4 t (Ok n) same (clear_at (circuit_of t) clear)
 keeps_typed t (Err e) same clear = tt

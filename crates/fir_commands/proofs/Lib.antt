@@ -1,5 +1,6 @@
 pub mod OneScene
 pub mod Refused
-pub mod EmitEnded
+pub mod TextEnded
+pub mod EmitComplete
 pub mod SimulationEnded
 pub mod TraceEnded

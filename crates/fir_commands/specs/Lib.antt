@@ -1,4 +1,5 @@
-pub mod EmitsFile
-pub mod EmitAnswers
+pub mod TextCommands
+pub mod TextAnswers
+pub mod Emit
 pub mod Simulates
 pub mod working

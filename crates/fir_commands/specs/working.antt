@@ -1,3 +1,3 @@
 -- What no clause of `run` reads: views of the code, its tables and its walks.
-pub mod EmitEndings
+pub mod TextEndings
 pub mod SimulationEndings

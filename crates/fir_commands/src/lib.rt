@@ -1,9 +1,12 @@
-//! The two commands: `emit` the Verilog of a circuit, or a `simulation` of it on a trace, or say why not. Both go the way
-//! of the passes (fir_compile). `specs/` has what each does: EmitsFile and EmitAnswers for `emit`; Simulates for `sim`.
+//! What each command does. A command that writes one text of one file (`text_command`) says which text that is: `emit`.
+//! `simulation` runs the circuit of one file on the trace of another. All go the way of the passes (fir_compile). `specs/`
+//! has what is done: TextCommands and TextAnswers for the first, with Emit; Simulates for `sim`.
 #![tactic(auto)]
 
 mod emit;
 mod simulation;
+mod text_command;
 
-pub use emit::emit_file;
+pub use emit::Emit;
 pub use simulation::simulate;
+pub use text_command::{TextCommand, put_text_of};

@@ -18,7 +18,7 @@ use Rattle.fir_outcome.specs.Emits.{Takes}
 use Rattle.fir_outcome.specs.Refusals.{Lacks, RefusedFor}
 use Rattle.fir_compile.specs.working.Lacks.{ShowsLack}
 use Rattle.fir_compile.specs.working.Told.{told_by}
-use Rattle.fir_compile.proofs.ChainGroups.{both_clear, clear_all, clear_upto, first_of_both}
+use Rattle.fir_compile.proofs.ChainGroups.{both_clear, clear_all, first_of_both}
 use Rattle.fir_compile.proofs.LackTokens.{lack_names_its_token}
 
 -- a fault with what the pass was given
@@ -106,7 +106,7 @@ module _ (bytes : List ℕ) (c : CircuitTree) (spelled : Spells bytes c) where
   lacks f clear (lack, first, stands) = record {
     circuit = c;
     spelled = spelled;
-    clear = clear_upto c 9 (tree_clear c clear);
+    clear = tree_clear c clear;
     lack = lack;
     first = first;
     tokens = spelled.0;
@@ -125,7 +125,7 @@ module _ (bytes : List ℕ) (c : CircuitTree) (spelled : Spells bytes c) where
       (record {
         circuit = c;
         spelled = spelled;
-        clear = clear_upto c 9 (tree_clear c h.0);
+        clear = tree_clear c h.0;
         in_language = h.1.0;
         first = net_first c f h.1.1;
       })))

@@ -57,7 +57,7 @@ module _ (c : CircuitTree) where
   unfolding circuit_meaning
   clear_text = one_clear 0 (circuit_meaning c) nothing
 
-  pub clear_upto : (last : ℕ) → IsClearOf 1 last c → (k : ℕ) → k ≤ last → IsClear ((circuit_meaning c).group k)
+  clear_upto : (last : ℕ) → IsClearOf 1 last c → (k : ℕ) → k ≤ last → IsClear ((circuit_meaning c).group k)
   clear_upto last clear k high = both_clear 0 0 last (circuit_meaning c) clear_text clear k (omega arith) high
 
   pub clear_all : IsClearOf 1 13 c → (k : ℕ) → IsClear ((circuit_meaning c).group k)

@@ -43,11 +43,7 @@ impl Pass for FindOrder {
 
     ghost hands_back = { λ x f. f.1 ≡ x };
 
-    fn run(
-        &self,
-        alloc: Global,
-        x: WholeNet,
-    ) -> Result<Compiled, Refused<(FirFault, WholeNet)>> {
+    fn run(&self, alloc: Global, x: WholeNet) -> Result<Compiled, Refused<(FirFault, WholeNet)>> {
         match order(alloc, x.net()) {
             Ok(order) => Ok(Compiled {
                 net: x.into_net(),

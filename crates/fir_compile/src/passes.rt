@@ -29,7 +29,7 @@ use fir_tick::shape;
 use fir_whens::LowerWhens;
 use std::alloc::Global;
 use trace_text::Shape;
-use ver_build::{build, names_are_for_rows};
+use ver_build::{build, built_has_any_places, names_are_for_rows};
 use ver_emit::{layout_has_no_comment, layout_is_spelled, write_verilog};
 
 /// The passes over the tree, for the faults E08 to E24.
@@ -93,6 +93,7 @@ pub fn verilog_of(alloc: Global, bytes: &[u8]) -> Result<Vec<u8>, Refused<FirFau
     layout_is_spelled();
     layout_has_no_comment();
     nodes_have_their_types();
+    built_has_any_places();
     spelled_names_are_words();
     let compiled = compile(alloc, bytes)?;
     let verilog = build(alloc, &compiled.net, &compiled.order)?;

@@ -113,8 +113,5 @@ fn first_lack(alloc: Global, circuit: &NetCircuit) -> Result<Option<FirFault>, M
 fn unsupported(alloc: Global, lack: Lack) -> Result<FirFault, MemoryOut>
     ensures { IfOk result (λ f. f ≡ Unsupported lack.entry.place lack.entry.word.now) }
 {
-    Ok(FirFault::Unsupported(
-        lack.place,
-        Name::new(alloc, lack.word)?,
-    ))
+    Ok(FirFault::Unsupported(lack.place, Name::new(alloc, lack.word)?))
 }

@@ -19,7 +19,7 @@ use Rattle.fir_driver.specs.SimulationAnswers.{SimulationAnswers, SimulationComp
 use Rattle.fir_driver.specs.Program.{NotTaken, Does, DoesFor, Answers, AnswersFor}
 use Rattle.fir_commands.proofs.Refused.{refused_is_not_taken}
 use Rattle.fir_runner.proofs.Told.{IsTooLong, not_short, read_is, not_too_much}
-use Rattle.fir_commands.proofs.EmitEnded.{emit_complete}
+use Rattle.fir_commands.proofs.EmitComplete.{emit_complete}
 use Rattle.fir_runner.proofs.TraceShapes.{one_shape}
 
 module _ (s : Simulated) (before : Outside) (text : List ℕ) (read_text : IsRead s.circuit before text) where

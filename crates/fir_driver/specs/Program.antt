@@ -7,8 +7,9 @@ use Rattle.fir_outcome.specs.declared.status.Status.TheVariants as status
 use Rattle.fir_cli.specs.Command.{Command, emit, sim, command_of}
 use Rattle.fir_outcome.specs.Messages.{usage_line}
 use Rattle.fir_outcome.specs.Outside.{Outside, Kept, GrewByFront, NoneFailed}
-use Rattle.fir_commands.specs.EmitsFile.{EmitsFile}
-use Rattle.fir_commands.specs.EmitAnswers.{EmitComplete}
+use Rattle.fir_commands.specs.TextCommands.{PutsText}
+use Rattle.fir_commands.specs.TextAnswers.{TextComplete}
+use Rattle.fir_commands.specs.Emit.{emit_meaning}
 use Rattle.fir_commands.specs.Simulates.{Simulates}
 use Rattle.fir_driver.specs.SimulationAnswers.{SimulationComplete}
 
@@ -30,7 +31,7 @@ NotTaken before after _ = ⊥
 
 abbrev pub DoesFor : Option Command → Outside → Outside → Status → Type 0
 DoesFor None before after ending = NotTaken before after ending
-DoesFor (Some (emit name)) before after ending = EmitsFile name before after ending
+DoesFor (Some (emit name)) before after ending = PutsText emit_meaning name before after ending
 DoesFor (Some (sim s)) before after ending = Simulates s before after ending
 
 abbrev pub Does : List (String Global) → Outside → Outside → Status → Type 0
@@ -39,7 +40,7 @@ Does words = DoesFor (command_of words)
 -- which status comes, where memory is there and no read or write fails
 abbrev pub AnswersFor : Option Command → Outside → Outside → ℕ → Type 0
 AnswersFor None before after answer = answer ≢ 5 → NoneFailed before after → answer ≡ 2
-AnswersFor (Some (emit name)) before after answer = EmitComplete name before after answer
+AnswersFor (Some (emit name)) before after answer = TextComplete emit_meaning name before after answer
 AnswersFor (Some (sim s)) before after answer = SimulationComplete s before after answer
 
 abbrev pub Answers : List (String Global) → Outside → Outside → ℕ → Type 0

@@ -5,7 +5,7 @@ ghost use Rattle.fir_outcome.specs.Outside.{outside, code};
 ghost use Rattle.fir_driver.specs.Program.{MayAsk, Does, Answers};
 
 use fir_cli::{Command, USAGE_LINE, command_of, say};
-use fir_commands::{emit_file, simulate};
+use fir_commands::{Emit, put_text_of, simulate};
 use fir_io::{Files, Sink};
 use fir_outcome::Status;
 use fir_parse::laws::{has_tree_or_fault, spells_one_tree};
@@ -42,7 +42,7 @@ fn ending<F: Files, S: Sink, T: Sink>(
 {
     match command_of(words) {
         None => say(err, USAGE_LINE, Status::Usage),
-        Some(Command::Emit(name)) => emit_file(alloc, name, files, out, err),
+        Some(Command::Emit(name)) => put_text_of(alloc, &Emit, name, files, out, err),
         Some(Command::Sim(simulation)) => simulate(alloc, &simulation, files, out, err),
     }
 }

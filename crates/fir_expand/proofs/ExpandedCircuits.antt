@@ -17,5 +17,5 @@ clear_at c h k low high = let e : 8 ≡ k = omega (arith, low, high) in subst (�
 -- what comes out with the same tree is a stage of the same circuit
 pub keeps_expanded : {E : Type 0} → (t : Circuit) (r : Result Circuit E) → IfOk r (λ n. n ≡ t) → IfOk r (λ n. IsClear (cost_group (circuit_of t)))
     → IfOk r (Passes IsTreeOf IsTreeOf (IsClearOf 8 8) t)
-keeps_expanded t (Ok n) same clear = keeps_tree 8 8 t (Ok n) same (clear_at (circuit_of t) clear)
+keeps_expanded {E = E} t (Ok n) same clear = keeps_tree {E = E} 8 8 t (Ok n) same (clear_at (circuit_of t) clear)
 keeps_expanded t (Err e) same clear = tt

@@ -57,5 +57,5 @@ module _ (c : CircuitTree) where
 -- what comes out with the same tree is a stage of the same circuit
 pub keeps_fitted : {E : Type 0} → (t : Circuit) (r : Result Circuit E) → IfOk r (λ n. n ≡ t) → IfOk r (λ n. IsInferred (circuit_of t))
     → IfOk r (Passes IsTreeOf IsTreeOf (IsClearOf 5 7) t)
-keeps_fitted t (Ok n) same clear = keeps_tree 5 7 t (Ok n) same (clear_at (circuit_of t) clear)
+keeps_fitted {E = E} t (Ok n) same clear = keeps_tree {E = E} 5 7 t (Ok n) same (clear_at (circuit_of t) clear)
 keeps_fitted t (Err e) same clear = tt

@@ -4,6 +4,7 @@ use Rattle.std.specs.Prelude.{◌≡◌, ℕ, List, ◌⊎◌, codes}
 use Rattle.fir_base.specs.Lists.{In}
 use Rattle.fir_ast.specs.Faults.{Fault, fault_line}
 use Rattle.fir_ast.specs.Circuits.{CircuitTree}
+use Rattle.fir_pass.specs.Groups.{of_drivers, of_clocks, of_loops}
 use Rattle.fir_pass.specs.Law.{IsFirst}
 use Rattle.fir_lex.specs.Tokens.{Placed}
 use Rattle.fir_lex.specs.TokensOf.{AreTokensOf}
@@ -19,7 +20,7 @@ use Rattle.fir_outcome.specs.CircuitFaults.{IsClearUpTo, IsFirstUpTo, LacksFirst
 pub record ShowsFault (bytes : List ℕ) (f : Fault) : Type 0 where
   pub circuit : CircuitTree
   pub spelled : Spells bytes circuit
-  pub first : IsFirstUpTo 9 circuit f
+  pub first : IsFirstUpTo of_drivers circuit f
 
 -- the token at the place of a form that is lacking is spelled as the form's word
 abbrev pub NamesItsToken : List Terminal → Lack → Type 0
@@ -31,7 +32,7 @@ NamesItsToken ts l =
 pub record Lacks (bytes : List ℕ) (f : Fault) : Type 0 where
   pub circuit : CircuitTree
   pub spelled : Spells bytes circuit
-  pub clear : IsClearUpTo 9 circuit
+  pub clear : IsClearUpTo of_drivers circuit
   pub lack : Lack
   pub first : LacksFirst circuit lack
   pub tokens : List Placed
@@ -43,9 +44,9 @@ pub record Lacks (bytes : List ℕ) (f : Fault) : Type 0 where
 pub record ShowsLater (bytes : List ℕ) (f : Fault) : Type 0 where
   pub circuit : CircuitTree
   pub spelled : Spells bytes circuit
-  pub clear : IsClearUpTo 9 circuit
+  pub clear : IsClearUpTo of_drivers circuit
   pub in_language : LacksNone circuit
-  pub first : IsFirst 10 13 (circuit_meaning circuit) f
+  pub first : IsFirst of_clocks of_loops (circuit_meaning circuit) f
 
 abbrev pub RefusedFor : List ℕ → Fault → Type 0
 RefusedFor bytes f = TextFault bytes f ⊎ ShowsFault bytes f ⊎ Lacks bytes f ⊎ ShowsLater bytes f

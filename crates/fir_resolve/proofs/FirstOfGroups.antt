@@ -128,5 +128,5 @@ module _ (c : CircuitTree) where
 -- what comes out with the same tree is a stage of the same circuit
 pub keeps_resolved : {E : Type 0} → (t : Circuit) (r : Result Circuit E) → IfOk r (λ n. n ≡ t) → IfOk r (λ n. HasNames (circuit_of t))
     → IfOk r (Passes IsTreeOf IsTreeOf (IsClearOf 1 3) t)
-keeps_resolved t (Ok n) same clear = keeps_tree 1 3 t (Ok n) same (clear_at (circuit_of t) clear)
+keeps_resolved {E = E} t (Ok n) same clear = keeps_tree {E = E} 1 3 t (Ok n) same (clear_at (circuit_of t) clear)
 keeps_resolved t (Err e) same clear = tt

@@ -17,5 +17,5 @@ clear_at c h k low high = let e : 9 ≡ k = omega (arith, low, high) in subst (�
 -- what comes out with the same tree is a stage of the same circuit
 pub keeps_lowered : {E : Type 0} → (t : Circuit) (r : Result Circuit E) → IfOk r (λ n. n ≡ t) → IfOk r (λ n. IsClear (undriven_group (circuit_of t)))
     → IfOk r (Passes IsTreeOf IsTreeOf (IsClearOf 9 9) t)
-keeps_lowered t (Ok n) same clear = keeps_tree 9 9 t (Ok n) same (clear_at (circuit_of t) clear)
+keeps_lowered {E = E} t (Ok n) same clear = keeps_tree {E = E} 9 9 t (Ok n) same (clear_at (circuit_of t) clear)
 keeps_lowered t (Err e) same clear = tt

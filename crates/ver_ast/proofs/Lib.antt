@@ -10,12 +10,17 @@ pub mod OneRest
 pub mod OneAtom
 pub mod Operators
 pub mod OneRhs
+pub mod Loosened
 pub mod OneTree
 pub mod Reach
 pub mod TokenPieces
+pub mod Alike
 pub mod TokensFound
 pub mod TokensTaken
+pub mod OnePlace
+pub mod SamePlaces
 pub mod NextFits
 pub mod OneTick
 pub mod Rows
 pub mod TokenRows
+pub mod SpellingRows

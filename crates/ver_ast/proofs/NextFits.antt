@@ -13,6 +13,7 @@ use Rattle.ver_ast.specs.declared.tree.Verilog.{Verilog}
 use Rattle.ver_ast.specs.declared.tree.Edge.{Edge}
 use Rattle.ver_ast.specs.declared.tree.Write.{Write}
 use Rattle.ver_ast.specs.Atoms.{AtomTree, net, constant, bit_select, part_select, concat, repeat, AtomTrees, no_atoms, atom_before}
+use Rattle.ver_ast.specs.AtomForms.{constant_number}
 use Rattle.ver_ast.specs.AtomValues.{atom_value}
 use Rattle.ver_ast.specs.Names.{atom_names, joined_names, rhs_atoms}
 use Rattle.ver_ast.specs.SoundSides.{IsSound, AreSound, IsOperand, HasWidth}
@@ -158,10 +159,10 @@ module _ (v : Verilog) (valid : Valid v) (env : Env) (fits : (n : List ℕ) (w :
       subst (λ (z : Put). z.word < 2 ^ k.width) q (reg_wide name w m k i (ap (λ (z : Put). z.name) q ∙ e) x h)
   one_word name w x m h p (inr n) k i e = absurd n
 
-  edge_word : (name : List ℕ) (w : ℕ) (o : Option Edge) → In (regs v) (name, w) → IsEdge v w o → (p : Put) → In (edge_put (nets v) env name o) p
+  edge_word : (name : List ℕ) (w : ℕ) (o : Option Edge) → In (regs v) (name, w) → IsEdge v name w o → (p : Put) → In (edge_put (nets v) env name o) p
       → (k : Variable) → In (variables v) k → p.name ≡ k.name → p.word < 2 ^ k.width
   edge_word name w None m h p n k i e = absurd n
-  edge_word name w (Some o) m h p n k i e = one_word name w (atom_value (nets v) env o.source) m (operand_fits (nets v) env fits w o.source h.1) p n k i e
+  edge_word name w (Some o) m h p n k i e = one_word name w (atom_value (nets v) env o.source) m (operand_fits (nets v) env fits w o.source h.2) p n k i e
 
   write_word : (name : List ℕ) (w : Write) → IsWrite v name w → (p : Put) → In (write_put (nets v) env w) p → (k : Variable) → In (variables v) k → p.name ≡ k.name
       → p.word < 2 ^ k.width
@@ -191,9 +192,9 @@ module _ (v : Verilog) (valid : Valid v) (env : Env) (fits : (n : List ℕ) (w :
   block_word (plain_block b) h p m k i e = one_word b.target h.width (atom_value (nets v) env b.source) h.register (operand_fits (nets v) env fits h.width b.source h.wide) p m k i e
   block_word (resetting_block b) h p m k i e = by (env b.reset == 1) m
     where
-      by : (c : Bool) → In (cond c (record { name = b.target; place = 0; word = b.value } ∷ []) (edge_put (nets v) env b.target b.edge)) p → p.word < 2 ^ k.width
-      by true n = one_word b.target b.width b.value h.register h.constant_fits p n k i e
-      by false n = edge_word b.target b.width b.edge h.register h.clocked p n k i e
+      by : (c : Bool) → In (cond c (record { name = b.target; place = 0; word = constant_number b.value } ∷ []) (edge_put (nets v) env b.target b.edge)) p → p.word < 2 ^ k.width
+      by true n = one_word b.target b.value.width (constant_number b.value) h.register h.constant_fits p n k i e
+      by false n = edge_word b.target b.value.width b.edge h.register h.clocked p n k i e
   block_word (writing_block b) h p m k i e = writes_word b.writes h.1 p m k i e
 
   -- the state after the writes of an edge has the shape

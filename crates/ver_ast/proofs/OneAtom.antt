@@ -1,11 +1,11 @@
 -- No two operands have the same tokens.
 -- Behind an operand stands no bracket, so that a name alone differs from a name with a select.
-use Rattle.std.proofs.Common.{◌≡◌, ℕ, List, ◌∷◌, ◌++◌, Bool, true, false, refl, sym, ap, ◌∙◌, ⊎_elim, arith, append_assoc, eqb}
-use Rattle.std.specs.Prelude.{if◌then◌else◌, ◌≢◌}
+use Rattle.std.proofs.Common.{◌≡◌, ℕ, List, ◌∷◌, ◌++◌, true, false, refl, sym, ap, ◌∙◌, ⊎_elim, arith, append_assoc, eqb}
+use Rattle.std.specs.Prelude.{◌≢◌}
 use Rattle.std.proofs.lemmas.Bool.Decides.{eqb_tells}
 use Rattle.ver_ast.specs.Atoms.{AtomTree, net, constant, bit_select, part_select, concat, repeat, AtomTrees, no_atoms, atom_before}
-use Rattle.ver_ast.specs.Tokens.{VToken, word, digit_zero, number, sign}
-use Rattle.ver_ast.specs.Grammar.{plain_number, atom_tokens, next_atom_tokens}
+use Rattle.ver_ast.specs.Tokens.{VToken, word, number, sign}
+use Rattle.ver_ast.specs.Grammar.{atom_tokens, next_atom_tokens}
 use Rattle.ver_ast.proofs.Operators.{operand, plain, front_of}
 
 -- the sign, or the first letter of the word, at the front
@@ -13,20 +13,6 @@ abbrev pub front : List VToken → ℕ
 front (sign b ∷ ts) = b
 front (word (c ∷ cs) ∷ ts) = c
 front _ = 0
-
--- a plain number where it is known whether it is 0
-abbrev number_at : Bool → ℕ → VToken
-number_at zero n = if zero then digit_zero else number n
-
-pub number_begins : (b : Bool) (n : ℕ) (r : List VToken) → front_of (number_at b n ∷ r) ≡ plain
-number_begins true n r = refl
-number_begins false n r = refl
-
-split_at : (b c : Bool) (i j : ℕ) (r s : List VToken) → number_at b i ∷ r ≡ number_at c j ∷ s → (b ≡ c) × (b ≡ false → i ≡ j) × (r ≡ s)
-split_at true true i j r s e = (refl, λ h. absurd (cc), (cc))
-split_at true false i j r s e = absurd (cc)
-split_at false true i j r s e = absurd (cc)
-split_at false false i j r s e = (refl, λ h. (cc), (cc))
 
 -- two numbers of which both or neither are k
 pub same_apart_from : (k i j : ℕ) → eqb i k ≡ eqb j k → (eqb i k ≡ false → i ≢ k → j ≢ k → i ≡ j) → i ≡ j
@@ -42,16 +28,13 @@ same_apart_from k i j e h =
     (eqb_tells j k))
     (eqb_tells i k)
 
-pub split_number : (i j : ℕ) (r s : List VToken) → plain_number i ∷ r ≡ plain_number j ∷ s → (i ≡ j) × (r ≡ s)
-split_number i j r s e = let t = split_at (eqb i 0) (eqb j 0) i j r s e in (same_apart_from 0 i j t.0 (λ f _ _. t.1 f), t.2)
-
 -- the tokens in groups from the right
 concat_grouped : (a : AtomTree) (more : AtomTrees) (r : List VToken)
     → atom_tokens (concat a more) ++ r ≡ sign 123 ∷ (atom_tokens a ++ (next_atom_tokens more ++ sign 125 ∷ r))
 concat_grouped a more r = simp append_assoc
 
 repeat_grouped : (count : ℕ) (a : AtomTree) (r : List VToken)
-    → atom_tokens (repeat count a) ++ r ≡ sign 123 ∷ plain_number count ∷ sign 123 ∷ (atom_tokens a ++ sign 125 ∷ sign 125 ∷ r)
+    → atom_tokens (repeat count a) ++ r ≡ sign 123 ∷ number count ∷ sign 123 ∷ (atom_tokens a ++ sign 125 ∷ sign 125 ∷ r)
 repeat_grouped count a r = simp append_assoc
 
 next_grouped : (a : AtomTree) (more : AtomTrees) (r : List VToken)
@@ -71,9 +54,9 @@ concat_is_no_repeat : (a : AtomTree) (more : AtomTrees) (count : ℕ) (b : AtomT
     → atom_tokens (concat a more) ++ r ≡ atom_tokens (repeat count b) ++ s → ⊥
 concat_is_no_repeat a more count b r s e =
     let whole = sym (concat_grouped a more r) ∙ e ∙ repeat_grouped count b s in
-    let inside : atom_tokens a ++ (next_atom_tokens more ++ sign 125 ∷ r) ≡ plain_number count ∷ sign 123 ∷ (atom_tokens b ++ sign 125 ∷ sign 125 ∷ s) =
+    let inside : atom_tokens a ++ (next_atom_tokens more ++ sign 125 ∷ r) ≡ number count ∷ sign 123 ∷ (atom_tokens b ++ sign 125 ∷ sign 125 ∷ s) =
     cc in
-    let no : operand ≡ plain = sym (operand_front a _) ∙ ap front_of inside ∙ number_begins (eqb count 0) count _ in
+    let no : operand ≡ plain = sym (operand_front a _) ∙ ap front_of inside in
     absurd (cc)
 
 next_is_no_bracket : (more : AtomTrees) (r : List VToken) → front (next_atom_tokens more ++ sign 125 ∷ r) ≢ 91
@@ -84,35 +67,33 @@ mutual
   pub split_atom : (a b : AtomTree) (r s : List VToken) → front r ≢ 91 → front s ≢ 91 → atom_tokens a ++ r ≡ atom_tokens b ++ s → (a ≡ b) × (r ≡ s)
   split_atom (net n) (net m) r s h k e = ((cc), (cc))
   split_atom (net n) (bit_select m j) r s h k e =
-      let t : r ≡ sign 91 ∷ plain_number j ∷ sign 93 ∷ s = cc in absurd (h (ap front t))
+      let t : r ≡ sign 91 ∷ number j ∷ sign 93 ∷ s = cc in absurd (h (ap front t))
   split_atom (net n) (part_select m j l) r s h k e =
-      let t : r ≡ sign 91 ∷ plain_number j ∷ sign 58 ∷ plain_number l ∷ sign 93 ∷ s = cc in absurd (h (ap front t))
+      let t : r ≡ sign 91 ∷ number j ∷ sign 58 ∷ number l ∷ sign 93 ∷ s = cc in absurd (h (ap front t))
   split_atom (bit_select n i) (net m) r s h k e =
-      let t : s ≡ sign 91 ∷ plain_number i ∷ sign 93 ∷ r = cc in absurd (k (ap front t))
+      let t : s ≡ sign 91 ∷ number i ∷ sign 93 ∷ r = cc in absurd (k (ap front t))
   split_atom (part_select n i o) (net m) r s h k e =
-      let t : s ≡ sign 91 ∷ plain_number i ∷ sign 58 ∷ plain_number o ∷ sign 93 ∷ r = cc in absurd (k (ap front t))
+      let t : s ≡ sign 91 ∷ number i ∷ sign 58 ∷ number o ∷ sign 93 ∷ r = cc in absurd (k (ap front t))
   split_atom (constant w x) (constant u y) r s h k e = ((cc), (cc))
   split_atom (bit_select n i) (bit_select m j) r s h k e =
       let name : n ≡ m = cc in
-      let tails : plain_number i ∷ sign 93 ∷ r ≡ plain_number j ∷ sign 93 ∷ s = cc in
-      let t = split_number i j _ _ tails in
-      let rest : sign 93 ∷ r ≡ sign 93 ∷ s = t.1 in
-      (rw (name, t.0) refl, (cc))
+      let tails : number i ∷ sign 93 ∷ r ≡ number j ∷ sign 93 ∷ s = cc in
+      let index : i ≡ j = cc in
+      (rw (name, index) refl, (cc))
   split_atom (bit_select n i) (part_select m j l) r s h k e =
-      let tails : plain_number i ∷ sign 93 ∷ r ≡ plain_number j ∷ sign 58 ∷ plain_number l ∷ sign 93 ∷ s = cc in
-      absurd (omega (arith, ap front (split_number i j _ _ tails).1))
+      let tails : number i ∷ sign 93 ∷ r ≡ number j ∷ sign 58 ∷ number l ∷ sign 93 ∷ s = cc in
+      let more : sign 93 ∷ r ≡ sign 58 ∷ number l ∷ sign 93 ∷ s = cc in
+      absurd (omega (arith, ap front more))
   split_atom (part_select n i o) (bit_select m j) r s h k e =
-      let tails : plain_number i ∷ sign 58 ∷ plain_number o ∷ sign 93 ∷ r ≡ plain_number j ∷ sign 93 ∷ s = cc in
-      absurd (omega (arith, ap front (split_number i j _ _ tails).1))
+      let tails : number i ∷ sign 58 ∷ number o ∷ sign 93 ∷ r ≡ number j ∷ sign 93 ∷ s = cc in
+      let more : sign 58 ∷ number o ∷ sign 93 ∷ r ≡ sign 93 ∷ s = cc in
+      absurd (omega (arith, ap front more))
   split_atom (part_select n i o) (part_select m j l) r s h k e =
       let name : n ≡ m = cc in
-      let tails : plain_number i ∷ sign 58 ∷ plain_number o ∷ sign 93 ∷ r ≡ plain_number j ∷ sign 58 ∷ plain_number l ∷ sign 93 ∷ s = cc in
-      let t = split_number i j _ _ tails in
-      let more : sign 58 ∷ plain_number o ∷ sign 93 ∷ r ≡ sign 58 ∷ plain_number l ∷ sign 93 ∷ s = t.1 in
-      let lows : plain_number o ∷ sign 93 ∷ r ≡ plain_number l ∷ sign 93 ∷ s = cc in
-      let u = split_number o l _ _ lows in
-      let rest : sign 93 ∷ r ≡ sign 93 ∷ s = u.1 in
-      (rw (name, t.0, u.0) refl, (cc))
+      let tails : number i ∷ sign 58 ∷ number o ∷ sign 93 ∷ r ≡ number j ∷ sign 58 ∷ number l ∷ sign 93 ∷ s = cc in
+      let high : i ≡ j = cc in
+      let low : o ≡ l = cc in
+      (rw (name, high, low) refl, (cc))
   split_atom (concat a more) (concat b others) r s h k e =
       let whole = sym (concat_grouped a more r) ∙ e ∙ concat_grouped b others s in
       let behind : atom_tokens a ++ (next_atom_tokens more ++ sign 125 ∷ r) ≡ atom_tokens b ++ (next_atom_tokens others ++ sign 125 ∷ s) = cc in
@@ -123,13 +104,13 @@ mutual
       let whole = sym (repeat_grouped count a r) ∙ e ∙ repeat_grouped times b s in
       let braced_a = sign 123 ∷ (atom_tokens a ++ sign 125 ∷ sign 125 ∷ r) in
       let braced_b = sign 123 ∷ (atom_tokens b ++ sign 125 ∷ sign 125 ∷ s) in
-      let numbers : plain_number count ∷ braced_a ≡ plain_number times ∷ braced_b = cc in
-      let t = split_number count times _ _ numbers in
-      let braced : braced_a ≡ braced_b = t.1 in
+      let numbers : number count ∷ braced_a ≡ number times ∷ braced_b = cc in
+      let copies : count ≡ times = cc in
+      let braced : braced_a ≡ braced_b = cc in
       let behind : atom_tokens a ++ sign 125 ∷ sign 125 ∷ r ≡ atom_tokens b ++ sign 125 ∷ sign 125 ∷ s = cc in
       let u = split_atom a b _ _ (λ p. omega arith) (λ p. omega arith) behind in
       let rest : sign 125 ∷ sign 125 ∷ r ≡ sign 125 ∷ sign 125 ∷ s = u.1 in
-      (rw (t.0, u.0) refl, (cc))
+      (rw (copies, u.0) refl, (cc))
   split_atom (concat a more) (repeat count b) r s h k e = absurd (concat_is_no_repeat a more count b r s e)
   split_atom (repeat count a) (concat b more) r s h k e = absurd (concat_is_no_repeat b more count a s r (sym e))
   split_atom a b r s h k e = absurd (cc)

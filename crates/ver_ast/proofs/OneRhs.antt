@@ -1,5 +1,5 @@
 -- No two right sides have the same tokens up to the semicolon.
-use Rattle.std.proofs.Common.{◌≡◌, ℕ, eqb, List, [], ◌∷◌, ◌++◌, refl, sym, ap, ◌∙◌, arith, append_assoc}
+use Rattle.std.proofs.Common.{◌≡◌, ℕ, List, [], ◌∷◌, ◌++◌, refl, sym, ap, ◌∙◌, arith, append_assoc}
 use Rattle.std.specs.Prelude.{◌≢◌, Some}
 use Rattle.ver_ast.specs.declared.tree.Rhs.{Rhs}
 use Rattle.ver_ast.specs.declared.tree.Rhs.TheVariants as rhs
@@ -8,9 +8,9 @@ use Rattle.ver_ast.specs.declared.tree.BinaryOp.{BinaryOp}
 use Rattle.ver_ast.specs.declared.tree.BinaryOp.TheVariants as binary
 use Rattle.ver_ast.specs.declared.tree.SignedOp.{SignedOp}
 use Rattle.ver_ast.specs.Atoms.{AtomTree, net, bit_select, part_select}
-use Rattle.ver_ast.specs.Tokens.{VToken, word, sign, signed_shift}
-use Rattle.ver_ast.specs.Grammar.{plain_number, atom_tokens, binary_token, unsigned_op, signed_tokens, rhs_tokens, unary_sign}
-use Rattle.ver_ast.proofs.OneAtom.{front, number_begins, operand_front, split_atom}
+use Rattle.ver_ast.specs.Tokens.{VToken, word, number, sign, signed_shift}
+use Rattle.ver_ast.specs.Grammar.{atom_tokens, binary_token, unsigned_op, signed_tokens, rhs_tokens, unary_sign}
+use Rattle.ver_ast.proofs.OneAtom.{front, operand_front, split_atom}
 use Rattle.ver_ast.proofs.Operators.{operator, shift, behind, behind_binary, signed_op, signed_unsigned, Front, operand, plain, prefix, signed_operand, front_of, front_unary}
 
 no_bracket : (op : BinaryOp) (r : List VToken) → front (binary_token op ∷ r) ≢ 91
@@ -107,12 +107,12 @@ signed_is_no_shift a op f b d r s e =
 word_is_no_operand : (m : List ℕ) (a b : AtomTree) (r s : List VToken) → front s ≢ 91 → word m ∷ sign 91 ∷ (atom_tokens a ++ sign 93 ∷ r) ≡ atom_tokens b ++ s → ⊥
 word_is_no_operand m a (net n) r s h e = let tails : sign 91 ∷ (atom_tokens a ++ sign 93 ∷ r) ≡ s = cc in h (ap front (sym tails))
 word_is_no_operand m a (bit_select n i) r s h e =
-    let tails : atom_tokens a ++ sign 93 ∷ r ≡ plain_number i ∷ sign 93 ∷ s = cc in
-    let told : operand ≡ plain = sym (operand_front a _) ∙ ap front_of tails ∙ number_begins (eqb i 0) i _ in
+    let tails : atom_tokens a ++ sign 93 ∷ r ≡ number i ∷ sign 93 ∷ s = cc in
+    let told : operand ≡ plain = sym (operand_front a _) ∙ ap front_of tails in
     cc
 word_is_no_operand m a (part_select n hi lo) r s h e =
-    let tails : atom_tokens a ++ sign 93 ∷ r ≡ plain_number hi ∷ sign 58 ∷ plain_number lo ∷ sign 93 ∷ s = cc in
-    let told : operand ≡ plain = sym (operand_front a _) ∙ ap front_of tails ∙ number_begins (eqb hi 0) hi _ in
+    let tails : atom_tokens a ++ sign 93 ∷ r ≡ number hi ∷ sign 58 ∷ number lo ∷ sign 93 ∷ s = cc in
+    let told : operand ≡ plain = sym (operand_front a _) ∙ ap front_of tails in
     cc
 word_is_no_operand m a b r s h e = cc
 

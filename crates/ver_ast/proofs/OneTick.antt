@@ -14,6 +14,7 @@ use Rattle.ver_ast.specs.declared.tree.Port.{Port}
 use Rattle.ver_ast.specs.declared.tree.Edge.{Edge}
 use Rattle.ver_ast.specs.declared.tree.Write.{Write}
 use Rattle.ver_ast.specs.Atoms.{AtomTree, net, constant, bit_select, part_select, concat, repeat, AtomTrees, no_atoms, atom_before}
+use Rattle.ver_ast.specs.AtomForms.{constant_number}
 use Rattle.ver_ast.specs.AtomValues.{atom_value}
 use Rattle.ver_ast.specs.Names.{atom_names, joined_names}
 use Rattle.ver_ast.specs.SoundSides.{IsSound, AreSound}
@@ -82,17 +83,17 @@ module _ (v : Verilog) (valid : Valid v) (e f : Env) (on_nets : (n : List ℕ) (
       let source = same_operand 1 w.source s.source_wide.operand.sound in
       rw (condition, index, source) refl
 
-  same_edge : (name : List ℕ) (w : ℕ) (o : Option Edge) → IsEdge v w o → edge_put (nets v) e name o ≡ edge_put (nets v) f name o
+  same_edge : (name : List ℕ) (w : ℕ) (o : Option Edge) → IsEdge v name w o → edge_put (nets v) e name o ≡ edge_put (nets v) f name o
   same_edge name w None h = refl
-  same_edge name w (Some o) h = let source = same_operand w o.source h.1.operand.sound in rw source refl
+  same_edge name w (Some o) h = let source = same_operand w o.source h.2.operand.sound in rw source refl
 
   same_puts_of : (b : AlwaysBlock) → IsSoundBlock v b → puts (nets v) e b ≡ puts (nets v) f b
   same_puts_of (plain_block b) h = let source = same_operand 1 b.source h.wide.operand.sound in rw source refl
   same_puts_of (resetting_block b) h =
       let reset = on_nets b.reset 1 h.bit in
-      let edge = same_edge b.target b.width b.edge h.clocked in
-      ap (λ (x : ℕ). if x == 1 then (record { name = b.target; place = 0; word = b.value } ∷ []) else edge_put (nets v) e b.target b.edge) reset
-      ∙ ap (λ (ps : List Put). if f b.reset == 1 then (record { name = b.target; place = 0; word = b.value } ∷ []) else ps) edge
+      let edge = same_edge b.target b.value.width b.edge h.clocked in
+      ap (λ (x : ℕ). if x == 1 then (record { name = b.target; place = 0; word = constant_number b.value } ∷ []) else edge_put (nets v) e b.target b.edge) reset
+      ∙ ap (λ (ps : List Put). if f b.reset == 1 then (record { name = b.target; place = 0; word = constant_number b.value } ∷ []) else ps) edge
   same_puts_of (writing_block b) h = flat_same (write_put (nets v) e) (write_put (nets v) f) b.writes (each b.writes h.1)
     where
       at : (name : List ℕ) (us : List Write) → AllByRecursion (IsWrite v name) us → (u : Write) → In us u → write_put (nets v) e u ≡ write_put (nets v) f u
@@ -104,14 +105,14 @@ module _ (v : Verilog) (valid : Valid v) (e f : Env) (on_nets : (n : List ℕ) (
       each [] k u i = absurd i
       each (w ∷ ws) k u i = at w.array (w ∷ ws) k u i
 
-  same_rise : (named : List ℕ) (w : ℕ) (o : Option Edge) → IsEdge v w o → edge_rises named e o ≡ edge_rises named f o
-  same_rise named w None h = refl
-  same_rise named w (Some o) h = ap (rises named) (on_clocks o.clock h.0)
+  same_rise : (named name : List ℕ) (w : ℕ) (o : Option Edge) → IsEdge v name w o → edge_rises named e o ≡ edge_rises named f o
+  same_rise named name w None h = refl
+  same_rise named name w (Some o) h = ap (rises named) (on_clocks o.clock h.0)
 
   same_acts : (named : List ℕ) (b : AlwaysBlock) → IsSoundBlock v b → acts named e b ≡ acts named f b
   same_acts named (plain_block b) h = ap (rises named) (on_clocks b.clock h.clocked)
   same_acts named (resetting_block b) h =
-      ap (λ (x : ℕ). x == 1 || edge_rises named e b.edge) (on_nets b.reset 1 h.bit) ∙ ap (λ (c : Bool). f b.reset == 1 || c) (same_rise named b.width b.edge h.clocked)
+      ap (λ (x : ℕ). x == 1 || edge_rises named e b.edge) (on_nets b.reset 1 h.bit) ∙ ap (λ (c : Bool). f b.reset == 1 || c) (same_rise named b.target b.value.width b.edge h.clocked)
   same_acts named (writing_block b) h = ap (rises named) (on_clocks b.clock h.0)
 
   same_all : (tick : Tick) → all_puts v tick e ≡ all_puts v tick f

@@ -12,6 +12,7 @@ use Rattle.ver_ast.specs.declared.tree.Verilog.{Verilog}
 use Rattle.ver_ast.specs.declared.tree.Assign.{Assign}
 use Rattle.ver_ast.specs.declared.tree.Resetting.{Resetting}
 use Rattle.ver_ast.specs.Nets.{SizedNet, width_among, input_nets, output_nets, clocks, output_clocks, wires, regs, plain_regs, nets, assigns, targets, AlwaysBlock, plain_block, resetting_block, writing_block, block_reset, blocks, resets, reset_targets, Variable, reg_variable, variables, variable_names, variable_widths, arrays, names_of}
+use Rattle.ver_ast.specs.AtomForms.{constant_number}
 use Rattle.ver_ast.specs.Valid.{Valid, IsSoundBlock, IsResetting}
 use Rattle.ver_ast.specs.Stores.{Store, store_of, stored}
 use Rattle.ver_ast.specs.Processes.{Process, assigning, showing, processes, target, process_targets, process_reads, wanted, given}
@@ -25,7 +26,7 @@ use Rattle.ver_ast.proofs.Nets.{reg_is_net, source_is_net, sources_distinct, net
 -- the value hangs on what is read alone
 pub same_wanted : (v : Verilog) (store : Store) (e f : Env) (p : Process) → Agree e f (process_reads p) → wanted v store e p ≡ wanted v store f p
 same_wanted v store e f (assigning a) h = same_rhs (nets v) store e f (width_among (nets v) a.target) a.rhs h
-same_wanted v store e f (showing b) h = ap (λ (x : ℕ). Some (if x == 1 then b.value else stored store b.target)) (h.each b.reset (inl refl))
+same_wanted v store e f (showing b) h = ap (λ (x : ℕ). Some (if x == 1 then constant_number b.value else stored store b.target)) (h.each b.reset (inl refl))
 
 pub same_given : (v : Verilog) (store : Store) (e f : Env) (p : Process) → Agree e f (process_reads p) → given v store e p ≡ given v store f p
 same_given v store e f p h = ap (λ (o : Option ℕ). unwrap_or o 0) (same_wanted v store e f p h)
@@ -141,15 +142,15 @@ module _ (v : Verilog) (valid : Valid v) where
             → given v words env (showing b) < 2 ^ width_among (nets v) b.target
         of_reset b m env h =
             let r = is_resetting b m in
-            rw (width_is b.target b.width (reg_is_net v (b.target, b.width) r.register))
-            (cond_both (env b.reset == 1) b.value (stored words b.target) (λ (x : ℕ). x < 2 ^ b.width)
-            (λ _. r.constant_fits) (λ _. reg_fits b.target b.width r.register))
+            rw (width_is b.target b.value.width (reg_is_net v (b.target, b.value.width) r.register))
+            (cond_both (env b.reset == 1) (constant_number b.value) (stored words b.target) (λ (x : ℕ). x < 2 ^ b.value.width)
+            (λ _. r.constant_fits) (λ _. reg_fits b.target b.value.width r.register))
 
   pub target_is_net : (p : Process) → In (processes v) p → In (names_of (nets v)) (target p)
   target_is_net =
       by_kind v (λ p. In (names_of (nets v)) (target p))
       (λ a m. let s = valid.sound_assigns a m in in_map (λ (s : SizedNet). s.0) (nets v) (a.target, s.0) s.1)
-      (λ b m. in_map (λ (s : SizedNet). s.0) (nets v) (b.target, b.width) (reg_is_net v (b.target, b.width) (is_resetting b m).register))
+      (λ b m. in_map (λ (s : SizedNet). s.0) (nets v) (b.target, b.value.width) (reg_is_net v (b.target, b.value.width) (is_resetting b m).register))
 
   -- a net is drawn from the tick and the state, or driven by a process
   pub drawn_or_driven : (s : SizedNet) → In (nets v) s → In (sources v) s ⊎ In (process_targets (processes v)) s.0
@@ -186,7 +187,7 @@ module _ (v : Verilog) (valid : Valid v) where
       of_reset : (b : Resetting) → In (resets v) b → b.target ≡ n → ⊥
       of_reset b o e =
           let r = is_resetting b o in
-          let reg : In (names_of (regs v)) n = subst (In (names_of (regs v))) e (in_map (λ (s : SizedNet). s.0) (regs v) (b.target, b.width) r.register) in
+          let reg : In (names_of (regs v)) n = subst (In (names_of (regs v))) e (in_map (λ (s : SizedNet). s.0) (regs v) (b.target, b.value.width) r.register) in
           ⊎_elim
           (λ (i : In (names_of (input_nets v)) n). apart (names_of (input_nets v)) (names_of (regs v)) split_once n i reg)
           (λ (i : In (names_of (plain_regs v)) n).

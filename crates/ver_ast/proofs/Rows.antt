@@ -1,12 +1,10 @@
 -- Small trees, and values at the edges of right sides, computed by the checker.
 use Rattle.std.proofs.Common.{◌≡◌, ℕ, List, [], ◌∷◌, Option, Some, None, refl}
-use Rattle.std.specs.Prelude.{codes, if◌then◌else◌}
+use Rattle.std.specs.Prelude.{codes, map, true, false, if◌then◌else◌}
 use Rattle.std.specs.Str.{bytes_eq}
 use Rattle.fir_base.specs.Ticks.{Env}
 use Rattle.fir_base.specs.declared.direction.Direction.{Direction}
 use Rattle.fir_base.specs.declared.direction.Direction.TheVariants.{Input, Output}
-use Rattle.ver_words.specs.declared.signal.Signal.{Signal}
-use Rattle.ver_words.specs.declared.signal.Signal.TheVariants.{Bits, Clock}
 use Rattle.ver_ast.specs.declared.tree.Verilog.{Verilog}
 use Rattle.ver_ast.specs.declared.tree.Port.{Port}
 use Rattle.ver_ast.specs.declared.tree.Write.{Write}
@@ -19,10 +17,11 @@ use Rattle.ver_ast.specs.declared.tree.SignedOp.{SignedOp}
 use Rattle.ver_ast.specs.declared.tree.BinaryOp.TheVariants as binary
 use Rattle.ver_ast.specs.declared.tree.SignedOp.TheVariants as signed
 use Rattle.ver_ast.specs.Atoms.{net, constant}
-use Rattle.ver_ast.specs.Nets.{SizedNet}
-use Rattle.ver_ast.specs.Stores.{Store}
+use Rattle.ver_ast.specs.Nets.{SizedNet, variables}
+use Rattle.ver_ast.specs.Stores.{Store, store_of}
 use Rattle.ver_ast.specs.SideValues.{rhs_value}
 use Rattle.ver_ast.specs.Next.{v_next}
+use Rattle.ver_ast.specs.Processes.{processes, wanted}
 use Rattle.ver_ast.specs.ClockOutputs.{clocks_shown}
 
 -- ---- right sides, with a and b of 4 bits, and an array m of three words
@@ -113,23 +112,27 @@ no_word_past_the_last = refl
 
 -- ---- an asynchronous block: r is 9 while n is 1, and takes 5 at an edge of c
 
-abbrev port : Direction → Signal → List ℕ → Port
-port d s n = record { direction = d; signal = s; name = n }
+abbrev clock : Direction → List ℕ → Port
+clock d n = record { is_clock = true; direction = d; width = 1; name = n }
+
+abbrev bit : List ℕ → Port
+bit n = record { is_clock = false; direction = Input; width = 1; name = n }
 
 abbrev reset_tree : Verilog
 reset_tree = record {
   name = codes "T";
-  ports = port Input Clock (codes "c") ∷ port Input (Bits 1) (codes "n") ∷ [];
+  ports = clock Input (codes "c") ∷ bit (codes "n") ∷ [];
   items =
       item.Reg (record { width = 4; name = codes "r" })
       ∷ item.Resetting (record {
         reset = codes "n";
+        tested = codes "n";
         target = codes "r";
-        width = 4;
-        value = 9;
-        edge = Some (record { clock = codes "c"; source = constant 4 5 });
+        value = record { width = 4; number = Some 9 };
+        edge = Some (record { clock = codes "c"; target = codes "r"; source = constant 4 5 });
       })
       ∷ [];
+  places = [];
 }
 
 -- the clock has the number 0
@@ -138,6 +141,16 @@ reset_env n name = if bytes_eq name (codes "n") then n else 0
 
 abbrev after_tick : ℕ → List ℕ → Option (List ℕ)
 after_tick n rising = v_next reset_tree (3 ∷ []) (record { inputs = n ∷ []; clocks = rising }) (reset_env n)
+
+-- what r shows, whose word is 3: the constant as soon as n is 1, before any edge
+abbrev shown : ℕ → List (Option ℕ)
+shown n = map (wanted reset_tree (store_of (variables reset_tree) (3 ∷ [])) (reset_env n)) (processes reset_tree)
+
+shown_at_once : shown 1 ≡ Some 9 ∷ []
+shown_at_once = refl
+
+shown_while_idle : shown 0 ≡ Some 3 ∷ []
+shown_while_idle = refl
 
 reset_at_an_edge : after_tick 1 (0 ∷ []) ≡ Some (9 ∷ [])
 reset_at_an_edge = refl
@@ -159,8 +172,9 @@ write condition index source = record { condition = constant 1 condition; array 
 abbrev writing_tree : Write → Write → Verilog
 writing_tree first second = record {
   name = codes "T";
-  ports = port Input Clock (codes "c") ∷ [];
+  ports = clock Input (codes "c") ∷ [];
   items = item.Array (record { width = 4; last = 2; name = codes "m" }) ∷ item.Writing (record { clock = codes "c"; writes = first ∷ second ∷ [] }) ∷ [];
+  places = [];
 }
 
 abbrev words_after : List ℕ → Write → Write → Option (List ℕ)
@@ -187,11 +201,12 @@ abbrev clock_tree : Verilog
 clock_tree = record {
   name = codes "T";
   ports =
-      port Input Clock (codes "c") ∷ port Output Clock (codes "o") ∷ port Input Clock (codes "d") ∷ port Output Clock (codes "q") ∷ [];
+      clock Input (codes "c") ∷ clock Output (codes "o") ∷ clock Input (codes "d") ∷ clock Output (codes "q") ∷ [];
   items =
       item.Assign (record { target = codes "q"; rhs = rhs.Atom (constant 1 0) })
       ∷ item.Assign (record { target = codes "o"; rhs = rhs.Atom (net (codes "d")) })
       ∷ [];
+  places = [];
 }
 
 clocks_are_shown : clocks_shown clock_tree ≡ Some 1 ∷ None ∷ []

@@ -1,5 +1,5 @@
 -- Tokens as pieces of a text, by what stands directly behind them.
-use Rattle.std.proofs.Common.{◌≡◌, ◌≢◌, ℕ, Bool, true, false, ◌||◌, List, [], ◌∷◌, ◌++◌, codes, refl, sym, ap, ◌∙◌, inl, inr, subst, append_assoc, arith}
+use Rattle.std.proofs.Common.{◌≡◌, ◌≢◌, ℕ, Bool, true, false, ◌||◌, List, [], ◌∷◌, ◌++◌, codes, flat_map, map, refl, sym, ap, ◌∙◌, inl, inr, subst, append_assoc, arith}
 use Rattle.std.specs.Prelude.{IsTrue, nat_eq}
 use Rattle.std.specs.List.{list_all}
 use Rattle.std.proofs.lemmas.Bool.{and_parts, or_parts}
@@ -9,22 +9,55 @@ use Rattle.fir_base.specs.Bytes.{is_word_start, is_word_byte, is_digit}
 use Rattle.fir_base.specs.Digits.{decimal_value}
 use Rattle.fir_base.proofs.Each.{all_at}
 use Rattle.ver_words.specs.Names.{is_word}
-use Rattle.ver_ast.specs.Tokens.{VToken, word, constant, sign, double, signed_shift, signed_word, letter, lone_signs, doubles, AreDigits, IsConstant, IsSpelledAs}
-use Rattle.ver_ast.specs.Pieces.{VPiece, spelled, bytes_of_piece, tokens_of_piece, BeginsWith, BeginsNoComment, IsVPiece, HasTokens}
+use Rattle.ver_ast.specs.Tokens.{VToken, word, constant, sign, double, signed_shift, signed_word, question_digit, letter, lone_signs, doubles, AreDigits, IsConstant, IsSpelledAs}
+use Rattle.ver_ast.specs.Pieces.{VPiece, blank, line_comment, block_comment, spelled, questioned, bytes_of_piece, PlacedToken, tokens_of_pieces, BeginsWith, BeginsNoComment, IsVPiece, AreVPieces, HasTokens}
 use Rattle.ver_ast.specs.working.TokenSteps.{is_double, number_token}
 use Rattle.ver_ast.proofs.Reach.{NotNext, goes_on_number, in_base, IsWhole, word_longest, digits_longest, constant_longest, sign_longest, shift_longest, double_longest, signed_shift_longest, signed_word_longest}
 
+-- the tokens of a piece, without their places
+abbrev pub plain_tokens : VPiece → List VToken
+plain_tokens (blank b) = []
+plain_tokens (line_comment content) = []
+plain_tokens (block_comment content) = []
+plain_tokens (spelled t s) = t ∷ []
+plain_tokens (questioned width value s) = constant width value ∷ question_digit ∷ []
+
+-- the bytes are those of pieces, and these are the tokens among them, without their places
+pub record HasPlainTokens (bytes : List ℕ) (ts : List VToken) : Type 0 where
+  pub pieces : List VPiece
+  pub bytes_are : bytes ≡ flat_map bytes_of_piece pieces
+  pub each : AreVPieces pieces
+  pub tokens_are : ts ≡ flat_map plain_tokens pieces
+
+abbrev pub plain_of : List PlacedToken → List VToken
+plain_of = map (λ t. t.token)
+
+pub without_places : (before : List ℕ) (ps : List VPiece) → plain_of (tokens_of_pieces before ps) ≡ flat_map plain_tokens ps
+without_places before [] = refl
+without_places before (blank b ∷ ps) = without_places _ ps
+without_places before (line_comment content ∷ ps) = without_places _ ps
+without_places before (block_comment content ∷ ps) = without_places _ ps
+without_places before (spelled t s ∷ ps) = ap (λ ts. t ∷ ts) (without_places _ ps)
+without_places before (questioned width value s ∷ ps) = ap (λ ts. constant width value ∷ question_digit ∷ ts) (without_places _ ps)
+
+pub with_places : (bytes : List ℕ) (ts : List VToken) → HasPlainTokens bytes ts → (placed : List PlacedToken) × HasTokens bytes placed × (plain_of placed ≡ ts)
+with_places bytes ts h = (
+  tokens_of_pieces [] h.pieces,
+  record { pieces = h.pieces; bytes_are = h.bytes_are; each = h.each; tokens_are = refl },
+  without_places [] h.pieces ∙ sym h.tokens_are,
+)
+
 -- a piece before a text
-pub piece_first : (p : VPiece) (rest : List ℕ) (ts : List VToken) → IsVPiece p rest → HasTokens rest ts
-    → HasTokens (bytes_of_piece p ++ rest) (tokens_of_piece p ++ ts)
+pub piece_first : (p : VPiece) (rest : List ℕ) (ts : List VToken) → IsVPiece p rest → HasPlainTokens rest ts
+    → HasPlainTokens (bytes_of_piece p ++ rest) (plain_tokens p ++ ts)
 piece_first p rest ts is k = record {
   pieces = p ∷ k.pieces;
   bytes_are = ap (λ x. bytes_of_piece p ++ x) k.bytes_are;
   each = (subst (IsVPiece p) k.bytes_are is, k.each);
-  tokens_are = ap (λ x. tokens_of_piece p ++ x) k.tokens_are;
+  tokens_are = ap (λ x. plain_tokens p ++ x) k.tokens_are;
 }
 
-pub no_pieces : HasTokens [] []
+pub no_pieces : HasPlainTokens [] []
 no_pieces = record { pieces = []; bytes_are = refl; each = tt; tokens_are = refl }
 
 -- ---- where no comment begins
@@ -91,7 +124,7 @@ number_piece false s behind h e n = (number_spelled false s h e, digits_longest 
 
 -- ---- constants
 
-constant_no_comment : (width value : ℕ) (s behind : List ℕ) → IsConstant width value s → BeginsNoComment (s ++ behind)
+pub constant_no_comment : (width value : ℕ) (s behind : List ℕ) → IsConstant width value s → BeginsNoComment (s ++ behind)
 constant_no_comment width value s behind c =
     let grouped = append_assoc c.size (39 ∷ letter c.base ∷ c.digits) behind in
     let begins = digits_no_comment c.size (39 ∷ letter c.base ∷ c.digits ++ behind) c.is_size in

@@ -14,10 +14,10 @@ use Rattle.fir_base.specs.Digits.{digit_value, decimal_value}
 use Rattle.fir_base.proofs.Each.{all_joined}
 use Rattle.ver_words.specs.Names.{is_word}
 use Rattle.ver_ast.specs.Tokens.{VToken, word, constant, sign, double, signed_shift, signed_word, Base, binary, decimal, hexadecimal, radix, letter, lone_signs, doubles, AreDigits, IsConstant}
-use Rattle.ver_ast.specs.Pieces.{VPiece, blank, line_comment, block_comment, spelled, questioned, bytes_of_piece, tokens_of_piece, white_space, HasNoEnd, BeginsNoComment, IsVPiece, HasTokens}
+use Rattle.ver_ast.specs.Pieces.{VPiece, blank, line_comment, block_comment, spelled, questioned, bytes_of_piece, PlacedToken, white_space, HasNoEnd, BeginsNoComment, IsVPiece, HasTokens}
 use Rattle.ver_ast.specs.working.TokenSteps.{Pending, between, in_word, in_sign, in_shift, in_signed, in_number, at_base, at_digits, in_constant, in_line_comment, in_block_comment, in_block_star, TokenStep, is_sign, is_double, is_start, is_blank, number_token, begin, close_and_begin, base_of, digit_in, digit_below, with_base, with_digit, with_next, with_second, with_signed, signed_bytes, step, last, go_on, tokens_from, tokens}
 use Rattle.ver_ast.proofs.Reach.{NotNext, in_base}
-use Rattle.ver_ast.proofs.TokenPieces.{piece_first, no_pieces, no_comment, one_zero, word_piece, number_piece, constant_piece, lone_piece, double_piece, shift_piece, signed_shift_piece, signed_word_piece}
+use Rattle.ver_ast.proofs.TokenPieces.{plain_tokens, HasPlainTokens, plain_of, with_places, piece_first, no_pieces, no_comment, one_zero, word_piece, number_piece, constant_piece, lone_piece, double_piece, shift_piece, signed_shift_piece, signed_word_piece}
 
 -- `*` is not the last byte
 abbrev EndsInNoStar : List ℕ → Type 0
@@ -43,11 +43,11 @@ IsPending in_block_star s = (content : List ℕ) × (s ≡ 47 ∷ 42 ∷ (conten
 
 -- the rest of a text is read so, whatever is pending
 abbrev Reads : List ℕ → Type 0
-Reads bs = (p : Pending) (s : List ℕ) (ts : List VToken) → IsPending p s → tokens_from p bs ≡ Some ts → HasTokens (s ++ bs) ts
+Reads bs = (p : Pending) (s : List ℕ) (ts : List VToken) → IsPending p s → tokens_from p bs ≡ Some ts → HasPlainTokens (s ++ bs) ts
 
 -- where nothing is
 abbrev Begins : List ℕ → Type 0
-Begins bs = (ts : List VToken) → tokens bs ≡ Some ts → HasTokens bs ts
+Begins bs = (ts : List VToken) → tokens bs ≡ Some ts → HasPlainTokens bs ts
 
 abbrev rest_of : List ℕ → Pending → Option (List VToken)
 rest_of bs next = tokens_from next bs
@@ -81,27 +81,27 @@ closed_before t (Some s) rest ts e = one_closed t s.0 (rest s.1) ts e
 -- a byte more of what is pending
 further : (next : Pending) (s : List ℕ) (b : ℕ) (bs : List ℕ) (ts : List VToken) → Reads bs → IsPending next (s ++ b ∷ [])
     → go_on (Some ([], next)) (rest_of bs) ≡ Some ts
-    → HasTokens (s ++ b ∷ bs) ts
+    → HasPlainTokens (s ++ b ∷ bs) ts
 further next s b bs ts ih is e =
-    subst (λ x. HasTokens x ts) (append_assoc s (b ∷ []) bs) (ih next (s ++ b ∷ []) ts is (none_closed (tokens_from next bs) ts e))
+    subst (λ x. HasPlainTokens x ts) (append_assoc s (b ∷ []) bs) (ih next (s ++ b ∷ []) ts is (none_closed (tokens_from next bs) ts e))
 
 -- the last byte of a piece
 ended : (p : VPiece) (s : List ℕ) (b : ℕ) (bs : List ℕ) (ts : List VToken) → Reads bs → bytes_of_piece p ≡ s ++ b ∷ [] → IsVPiece p bs
-    → go_on (Some (tokens_of_piece p, between)) (rest_of bs) ≡ Some ts
-    → HasTokens (s ++ b ∷ bs) ts
+    → go_on (Some (plain_tokens p, between)) (rest_of bs) ≡ Some ts
+    → HasPlainTokens (s ++ b ∷ bs) ts
 ended p s b bs ts ih same is e =
-    let o = some_closed (tokens_of_piece p) (tokens bs) ts e in
+    let o = some_closed (plain_tokens p) (tokens bs) ts e in
     let first = piece_first p bs o.0 is (ih between [] o.0 refl o.1) in
-    subst (λ x. HasTokens x ts) (ap (λ x. x ++ bs) same ∙ append_assoc s (b ∷ []) bs) (subst (HasTokens (bytes_of_piece p ++ bs)) (sym o.2) first)
+    subst (λ x. HasPlainTokens x ts) (ap (λ x. x ++ bs) same ∙ append_assoc s (b ∷ []) bs) (subst (HasPlainTokens (bytes_of_piece p ++ bs)) (sym o.2) first)
 
 -- a byte behind a token
 closed : (t : VToken) (s : List ℕ) (b : ℕ) (bs : List ℕ) (ts : List VToken) → Begins (b ∷ bs) → IsVPiece (spelled t s) (b ∷ bs)
     → go_on (close_and_begin t b) (rest_of bs) ≡ Some ts
-    → HasTokens (s ++ b ∷ bs) ts
+    → HasPlainTokens (s ++ b ∷ bs) ts
 unfolding tokens_from
 closed t s b bs ts begins is e =
     let o = closed_before t (begin b) (rest_of bs) ts e in
-    subst (HasTokens (s ++ b ∷ bs)) (sym o.2) (piece_first (spelled t s) (b ∷ bs) o.0 is (begins o.0 o.1))
+    subst (HasPlainTokens (s ++ b ∷ bs)) (sym o.2) (piece_first (spelled t s) (b ∷ bs) o.0 is (begins o.0 o.1))
 
 -- ---- where nothing is pending
 
@@ -157,7 +157,7 @@ word_more (c ∷ cs) b h k =
 
 in_a_word : (w : List ℕ) (b : ℕ) (bs : List ℕ) (ts : List VToken) → Reads bs → Begins (b ∷ bs) → IsTrue (is_word w)
     → go_on (step (in_word w) b) (rest_of bs) ≡ Some ts
-    → HasTokens (w ++ b ∷ bs) ts
+    → HasPlainTokens (w ++ b ∷ bs) ts
 in_a_word w b bs ts ih begin_here is e =
     by_test (is_word_byte b) _ _ (rest_of bs) ts e (λ h f. further (in_word (w ++ b ∷ [])) w b bs ts ih (refl, word_more w b is h) f)
     (λ h f. closed (word w) w b bs ts begin_here (word_piece w (b ∷ bs) is h) f)
@@ -202,7 +202,7 @@ no_star_in_none [] e = cc
 no_star_in_none (f ∷ fs) e = cc
 
 in_a_sign : (a b : ℕ) (bs : List ℕ) (ts : List VToken) → Reads bs → Begins (b ∷ bs) → go_on (with_second a b) (rest_of bs) ≡ Some ts
-    → HasTokens (a ∷ b ∷ bs) ts
+    → HasPlainTokens (a ∷ b ∷ bs) ts
 in_a_sign a b bs ts ih begin_here e =
     by_test (nat_eq a 62 && nat_eq b 62) _ _ (rest_of bs) ts e (λ h f. further in_shift (a ∷ []) b bs ts ih (two_bytes a b 62 62 h) f)
     (λ whole f. by_test (is_double a b) _ _ (rest_of bs) ts f
@@ -217,7 +217,7 @@ in_a_sign a b bs ts ih begin_here e =
     (λ h f. absurd cc)))))
 
 in_a_shift : (b : ℕ) (bs : List ℕ) (ts : List VToken) → Reads bs → Begins (b ∷ bs) → go_on (step in_shift b) (rest_of bs) ≡ Some ts
-    → HasTokens (62 ∷ 62 ∷ b ∷ bs) ts
+    → HasPlainTokens (62 ∷ 62 ∷ b ∷ bs) ts
 in_a_shift b bs ts ih begin_here e =
     by_test (nat_eq b 62) _ _ (rest_of bs) ts e
     (λ h f. ended (spelled signed_shift (codes ">>>")) (62 ∷ 62 ∷ []) b bs ts ih (ap (λ x. 62 ∷ 62 ∷ x ∷ []) (sym (is_byte b 62 h))) (signed_shift_piece bs) f)
@@ -229,7 +229,7 @@ one_more k b h e =
     ap (λ x. take k signed_bytes ++ x ∷ []) e ∙ sym (take-suc signed_bytes k 0 h) ∙ ap (λ n. take n signed_bytes) (sym one)
 
 in_signed_bytes : (k b : ℕ) (bs : List ℕ) (ts : List VToken) → Reads bs → k < 7 → go_on (with_signed k b) (rest_of bs) ≡ Some ts
-    → HasTokens (take k signed_bytes ++ b ∷ bs) ts
+    → HasPlainTokens (take k signed_bytes ++ b ∷ bs) ts
 in_signed_bytes k b bs ts ih below e =
     by_test (nat_eq b (slice_index signed_bytes k)) _ _ (rest_of bs) ts e
     (λ h f. by_test (nat_eq (k + 1) (length signed_bytes)) _ _ (rest_of bs) ts f
@@ -258,7 +258,7 @@ no_zero_more (c ∷ d ∷ s) b h = refl
 
 in_a_number : (z : Bool) (s : List ℕ) (b : ℕ) (bs : List ℕ) (ts : List VToken) → Reads bs → Begins (b ∷ bs) → AreDigits s → z ≡ one_zero s
     → go_on (step (in_number z (decimal_value s)) b) (rest_of bs) ≡ Some ts
-    → HasTokens (s ++ b ∷ bs) ts
+    → HasPlainTokens (s ++ b ∷ bs) ts
 in_a_number z s b bs ts ih begin_here is zero_is e =
     by_test (is_digit b) _ _ (rest_of bs) ts e
     (λ h f. further (in_number false (10 * decimal_value s + (b - 48))) s b bs ts ih
@@ -295,7 +295,7 @@ is_letter_of b base e = by_letter (nat_eq b 104) refl
 
 at_a_base : (size : List ℕ) (b : ℕ) (bs : List ℕ) (ts : List VToken) (base : Option Base) → base_of b ≡ base → Reads bs → AreDigits size
     → go_on (with_base (decimal_value size) base) (rest_of bs) ≡ Some ts
-    → HasTokens ((size ++ 39 ∷ []) ++ b ∷ bs) ts
+    → HasPlainTokens ((size ++ 39 ∷ []) ++ b ∷ bs) ts
 at_a_base size b bs ts None h ih is e = absurd cc
 at_a_base size b bs ts (Some base) h ih is e =
     further (at_digits (decimal_value size) base) (size ++ 39 ∷ []) b bs ts ih
@@ -335,7 +335,7 @@ first_digit size base b d s is e same =
 
 at_the_digits : (size : List ℕ) (base : Base) (b : ℕ) (bs : List ℕ) (ts : List VToken) (d : Option ℕ) → digit_in base b ≡ d → Reads bs → AreDigits size
     → go_on (with_digit (decimal_value size) base d) (rest_of bs) ≡ Some ts
-    → HasTokens ((size ++ 39 ∷ letter base ∷ []) ++ b ∷ bs) ts
+    → HasPlainTokens ((size ++ 39 ∷ letter base ∷ []) ++ b ∷ bs) ts
 at_the_digits size base b bs ts None h ih is e = absurd cc
 at_the_digits size base b bs ts (Some d) h ih is e =
     let grouped = append_assoc size (39 ∷ letter base ∷ []) (b ∷ []) in
@@ -371,7 +371,7 @@ no_digit_of base b h = rw h refl
 in_a_constant : (width value : ℕ) (s : List ℕ) (c : IsConstant width value s) (b : ℕ) (bs : List ℕ) (ts : List VToken) (d : Option ℕ) → digit_in c.base b ≡ d
     → Reads bs → Begins (b ∷ bs)
     → go_on (with_next width c.base value d b) (rest_of bs) ≡ Some ts
-    → HasTokens (s ++ b ∷ bs) ts
+    → HasPlainTokens (s ++ b ∷ bs) ts
 in_a_constant width value s c b bs ts (Some d) h ih begin_here e =
     further (in_constant width c.base (radix c.base * value + d)) s b bs ts ih (next_digit width value s b d c h) e
 in_a_constant width value s c b bs ts None h ih begin_here e =
@@ -383,14 +383,14 @@ in_a_constant width value s c b bs ts None h ih begin_here e =
 
 line_more : (content : List ℕ) (b : ℕ) (bs : List ℕ) (ts : List VToken) → Reads bs → Begins (b ∷ bs) → AllByRecursion (λ b. b ≢ 10) content
     → go_on (step in_line_comment b) (rest_of bs) ≡ Some ts
-    → HasTokens ((47 ∷ 47 ∷ content) ++ b ∷ bs) ts
+    → HasPlainTokens ((47 ∷ 47 ∷ content) ++ b ∷ bs) ts
 unfolding tokens_from
 line_more content b bs ts ih begin_here is e = by_end (nat_eq b 10) refl
   where
     other : (b : ℕ) → nat_eq b 10 ≡ false → b ≢ 10
     other b h k = grind (arith, nat_tests)
 
-    by_end : (t : Bool) → nat_eq b 10 ≡ t → HasTokens ((47 ∷ 47 ∷ content) ++ b ∷ bs) ts
+    by_end : (t : Bool) → nat_eq b 10 ≡ t → HasPlainTokens ((47 ∷ 47 ∷ content) ++ b ∷ bs) ts
     by_end false h =
         let f : go_on (Some ([], in_line_comment)) (rest_of bs) ≡ Some ts = rw h at e in
         further in_line_comment (47 ∷ 47 ∷ content) b bs ts ih (content ++ b ∷ [], refl, all_joined (λ b. b ≢ 10) content (b ∷ []) is (other b h, tt)) f
@@ -434,10 +434,10 @@ other_last content b h front e =
 
 block_more : (content : List ℕ) (b : ℕ) (bs : List ℕ) (ts : List VToken) → Reads bs → HasNoEnd content → EndsInNoStar content
     → go_on (step in_block_comment b) (rest_of bs) ≡ Some ts
-    → HasTokens ((47 ∷ 42 ∷ content) ++ b ∷ bs) ts
+    → HasPlainTokens ((47 ∷ 42 ∷ content) ++ b ∷ bs) ts
 block_more content b bs ts ih none quiet e = by_star (nat_eq b 42) refl
   where
-    by_star : (t : Bool) → nat_eq b 42 ≡ t → HasTokens ((47 ∷ 42 ∷ content) ++ b ∷ bs) ts
+    by_star : (t : Bool) → nat_eq b 42 ≡ t → HasPlainTokens ((47 ∷ 42 ∷ content) ++ b ∷ bs) ts
     by_star true h =
         let f : go_on (Some ([], in_block_star)) (rest_of bs) ≡ Some ts = rw h at e in
         further in_block_star (47 ∷ 42 ∷ content) b bs ts ih (content, ap (λ x. 47 ∷ 42 ∷ (content ++ x ∷ [])) (is_byte b 42 h), none) f
@@ -451,7 +451,7 @@ star_is_no_slash b star slash = omega arith
 
 star_more : (content : List ℕ) (b : ℕ) (bs : List ℕ) (ts : List VToken) → Reads bs → HasNoEnd content
     → go_on (step in_block_star b) (rest_of bs) ≡ Some ts
-    → HasTokens ((47 ∷ 42 ∷ (content ++ 42 ∷ [])) ++ b ∷ bs) ts
+    → HasPlainTokens ((47 ∷ 42 ∷ (content ++ 42 ∷ [])) ++ b ∷ bs) ts
 star_more content b bs ts ih none e = by_slash (nat_eq b 47) refl
   where
     starred : HasNoEnd (content ++ 42 ∷ [])
@@ -460,7 +460,7 @@ star_more content b bs ts ih none e = by_slash (nat_eq b 47) refl
     not_slash : (b : ℕ) → nat_eq b 47 ≡ false → b ≡ 47 → ⊥
     not_slash b h k = grind (arith, nat_tests)
 
-    by_star : (t : Bool) → nat_eq b 42 ≡ t → nat_eq b 47 ≡ false → HasTokens ((47 ∷ 42 ∷ (content ++ 42 ∷ [])) ++ b ∷ bs) ts
+    by_star : (t : Bool) → nat_eq b 42 ≡ t → nat_eq b 47 ≡ false → HasPlainTokens ((47 ∷ 42 ∷ (content ++ 42 ∷ [])) ++ b ∷ bs) ts
     by_star true h k =
         let f : go_on (Some ([], in_block_star)) (rest_of bs) ≡ Some ts = rw (k, h) at e in
         further in_block_star (47 ∷ 42 ∷ (content ++ 42 ∷ [])) b bs ts ih
@@ -470,7 +470,7 @@ star_more content b bs ts ih none e = by_slash (nat_eq b 47) refl
         further in_block_comment (47 ∷ 42 ∷ (content ++ 42 ∷ [])) b bs ts ih
         ((content ++ 42 ∷ []) ++ b ∷ [], refl, no_end_more (content ++ 42 ∷ []) b starred (λ s. absurd (not_slash b k s)), other_last (content ++ 42 ∷ []) b h) f
 
-    by_slash : (t : Bool) → nat_eq b 47 ≡ t → HasTokens ((47 ∷ 42 ∷ (content ++ 42 ∷ [])) ++ b ∷ bs) ts
+    by_slash : (t : Bool) → nat_eq b 47 ≡ t → HasPlainTokens ((47 ∷ 42 ∷ (content ++ 42 ∷ [])) ++ b ∷ bs) ts
     by_slash true h =
         let f : go_on (Some ([], between)) (rest_of bs) ≡ Some ts = rw h at e in
         let same : bytes_of_piece (block_comment content) ≡ (47 ∷ 42 ∷ (content ++ 42 ∷ [])) ++ b ∷ [] =
@@ -480,25 +480,25 @@ star_more content b bs ts ih none e = by_slash (nat_eq b 47) refl
 
 -- ---- the end of a text
 
-last_token : (t : VToken) (s : List ℕ) (ts : List VToken) → IsVPiece (spelled t s) [] → Some (t ∷ []) ≡ Some ts → HasTokens (s ++ []) ts
+last_token : (t : VToken) (s : List ℕ) (ts : List VToken) → IsVPiece (spelled t s) [] → Some (t ∷ []) ≡ Some ts → HasPlainTokens (s ++ []) ts
 last_token t s ts is e =
     let same : ts ≡ t ∷ [] = cc in
-    subst (HasTokens (s ++ [])) (sym same) (piece_first (spelled t s) [] [] is no_pieces)
+    subst (HasPlainTokens (s ++ [])) (sym same) (piece_first (spelled t s) [] [] is no_pieces)
 
-at_end : (p : Pending) (s : List ℕ) (ts : List VToken) → IsPending p s → last p ≡ Some ts → HasTokens (s ++ []) ts
+at_end : (p : Pending) (s : List ℕ) (ts : List VToken) → IsPending p s → last p ≡ Some ts → HasPlainTokens (s ++ []) ts
 at_end between s ts is e = let same : ts ≡ [] = cc in rw (is, same) no_pieces
-at_end (in_word w) s ts is e = subst (λ x. HasTokens (x ++ []) ts) (sym is.0) (last_token (word w) w ts (word_piece w [] is.1 tt) e)
-at_end (in_sign a) s ts is e = subst (λ x. HasTokens (x ++ []) ts) (sym is.0) (by_sign (is_sign a) refl)
+at_end (in_word w) s ts is e = subst (λ x. HasPlainTokens (x ++ []) ts) (sym is.0) (last_token (word w) w ts (word_piece w [] is.1 tt) e)
+at_end (in_sign a) s ts is e = subst (λ x. HasPlainTokens (x ++ []) ts) (sym is.0) (by_sign (is_sign a) refl)
   where
     only : (a : ℕ) → BeginsNoComment (a ∷ [])
     only a = ((λ h. absurd cc), (λ h. absurd cc))
 
-    by_sign : (t : Bool) → is_sign a ≡ t → HasTokens (a ∷ []) ts
+    by_sign : (t : Bool) → is_sign a ≡ t → HasPlainTokens (a ∷ []) ts
     by_sign true h =
         let f : Some (sign a ∷ []) ≡ Some ts = rw h at e in
         last_token (sign a) (a ∷ []) ts (lone_piece a [] (any_in lone_signs a h) tt (only a)) f
     by_sign false h = let f : None ≡ Some ts = rw h at e in absurd cc
-at_end in_shift s ts is e = subst (λ x. HasTokens (x ++ []) ts) (sym is) (last_token (double 62 62) (62 ∷ 62 ∷ []) ts (shift_piece [] tt) e)
+at_end in_shift s ts is e = subst (λ x. HasPlainTokens (x ++ []) ts) (sym is) (last_token (double 62 62) (62 ∷ 62 ∷ []) ts (shift_piece [] tt) e)
 at_end (in_signed k) s ts is e = absurd cc
 at_end (in_number z n) s ts is e =
     let f : Some (number_token z (decimal_value s) ∷ []) ≡ Some ts = subst (λ n. Some (number_token z n ∷ []) ≡ Some ts) is.2 e in
@@ -508,39 +508,39 @@ at_end (at_digits width base) s ts is e = absurd cc
 at_end (in_constant width base value) s ts is e = last_token (constant width value) s ts (constant_piece width value s [] is.0 tt tt) e
 at_end in_line_comment s ts is e =
     let same : ts ≡ [] = cc in
-    subst (λ x. HasTokens (x ++ []) ts) (sym is.1) (subst (HasTokens ((47 ∷ 47 ∷ is.0) ++ [])) (sym same) (piece_first (line_comment is.0) [] [] (is.2, inl refl) no_pieces))
+    subst (λ x. HasPlainTokens (x ++ []) ts) (sym is.1) (subst (HasPlainTokens ((47 ∷ 47 ∷ is.0) ++ [])) (sym same) (piece_first (line_comment is.0) [] [] (is.2, inl refl) no_pieces))
 at_end in_block_comment s ts is e = absurd cc
 at_end in_block_star s ts is e = absurd cc
 
 -- ---- all together
 
 one_byte : (p : Pending) (s : List ℕ) (b : ℕ) (bs : List ℕ) (ts : List VToken) → Reads bs → Begins (b ∷ bs) → IsPending p s
-    → go_on (step p b) (rest_of bs) ≡ Some ts → HasTokens (s ++ b ∷ bs) ts
+    → go_on (step p b) (rest_of bs) ≡ Some ts → HasPlainTokens (s ++ b ∷ bs) ts
 unfolding tokens_from
-one_byte between s b bs ts ih begin_here is e = subst (λ x. HasTokens (x ++ b ∷ bs) ts) (sym is) (begin_here ts e)
+one_byte between s b bs ts ih begin_here is e = subst (λ x. HasPlainTokens (x ++ b ∷ bs) ts) (sym is) (begin_here ts e)
 one_byte (in_word w) s b bs ts ih begin_here is e =
-    subst (λ x. HasTokens (x ++ b ∷ bs) ts) (sym is.0) (in_a_word w b bs ts ih begin_here is.1 e)
-one_byte (in_sign a) s b bs ts ih begin_here is e = subst (λ x. HasTokens (x ++ b ∷ bs) ts) (sym is.0) (in_a_sign a b bs ts ih begin_here e)
-one_byte in_shift s b bs ts ih begin_here is e = subst (λ x. HasTokens (x ++ b ∷ bs) ts) (sym is) (in_a_shift b bs ts ih begin_here e)
+    subst (λ x. HasPlainTokens (x ++ b ∷ bs) ts) (sym is.0) (in_a_word w b bs ts ih begin_here is.1 e)
+one_byte (in_sign a) s b bs ts ih begin_here is e = subst (λ x. HasPlainTokens (x ++ b ∷ bs) ts) (sym is.0) (in_a_sign a b bs ts ih begin_here e)
+one_byte in_shift s b bs ts ih begin_here is e = subst (λ x. HasPlainTokens (x ++ b ∷ bs) ts) (sym is) (in_a_shift b bs ts ih begin_here e)
 one_byte (in_signed k) s b bs ts ih begin_here is e =
-    subst (λ x. HasTokens (x ++ b ∷ bs) ts) (sym is.0) (in_signed_bytes k b bs ts ih is.1 e)
+    subst (λ x. HasPlainTokens (x ++ b ∷ bs) ts) (sym is.0) (in_signed_bytes k b bs ts ih is.1 e)
 one_byte (in_number z n) s b bs ts ih begin_here is e =
     in_a_number z s b bs ts ih begin_here is.0 is.1 (subst (λ n. go_on (step (in_number z n) b) (rest_of bs) ≡ Some ts) is.2 e)
 one_byte (at_base width) s b bs ts ih begin_here is e =
-    subst (λ x. HasTokens (x ++ b ∷ bs) ts) (sym is.1)
+    subst (λ x. HasPlainTokens (x ++ b ∷ bs) ts) (sym is.1)
     (at_a_base is.0 b bs ts (base_of b) refl ih is.2 (subst (λ n. go_on (step (at_base n) b) (rest_of bs) ≡ Some ts) is.3 e))
 one_byte (at_digits width base) s b bs ts ih begin_here is e =
-    subst (λ x. HasTokens (x ++ b ∷ bs) ts) (sym is.1)
+    subst (λ x. HasPlainTokens (x ++ b ∷ bs) ts) (sym is.1)
     (at_the_digits is.0 base b bs ts (digit_in base b) refl ih is.2 (subst (λ n. go_on (step (at_digits n base) b) (rest_of bs) ≡ Some ts) is.3 e))
 one_byte (in_constant width base value) s b bs ts ih begin_here is e =
     in_a_constant width value s is.0 b bs ts (digit_in is.0.base b) refl ih begin_here
     (subst (λ r. go_on (step (in_constant width r value) b) (rest_of bs) ≡ Some ts) (sym is.1) e)
 one_byte in_line_comment s b bs ts ih begin_here is e =
-    subst (λ x. HasTokens (x ++ b ∷ bs) ts) (sym is.1) (line_more is.0 b bs ts ih begin_here is.2 e)
+    subst (λ x. HasPlainTokens (x ++ b ∷ bs) ts) (sym is.1) (line_more is.0 b bs ts ih begin_here is.2 e)
 one_byte in_block_comment s b bs ts ih begin_here is e =
-    subst (λ x. HasTokens (x ++ b ∷ bs) ts) (sym is.1) (block_more is.0 b bs ts ih is.2 is.3 e)
+    subst (λ x. HasPlainTokens (x ++ b ∷ bs) ts) (sym is.1) (block_more is.0 b bs ts ih is.2 is.3 e)
 one_byte in_block_star s b bs ts ih begin_here is e =
-    subst (λ x. HasTokens (x ++ b ∷ bs) ts) (sym is.1) (star_more is.0 b bs ts ih is.2 e)
+    subst (λ x. HasPlainTokens (x ++ b ∷ bs) ts) (sym is.1) (star_more is.0 b bs ts ih is.2 e)
 
 reads : (bs : List ℕ) → Reads bs
 unfolding tokens_from
@@ -548,5 +548,5 @@ reads [] p s ts is e = at_end p s ts is e
 reads (b ∷ bs) p s ts is e = one_byte p s b bs ts (reads bs) (begins b bs (reads bs)) is e
 
 -- what is read stands there
-pub tokens_found : (bytes : List ℕ) (ts : List VToken) → tokens bytes ≡ Some ts → HasTokens bytes ts
-tokens_found bytes ts e = reads bytes between [] ts refl e
+pub tokens_found : (bytes : List ℕ) (ts : List VToken) → tokens bytes ≡ Some ts → (placed : List PlacedToken) × HasTokens bytes placed × (plain_of placed ≡ ts)
+tokens_found bytes ts e = with_places bytes ts (reads bytes between [] ts refl e)

@@ -10,10 +10,10 @@ use Rattle.fir_base.specs.Digits.{digit_value, decimal_value}
 use Rattle.fir_base.proofs.Each.{all_at}
 use Rattle.ver_words.specs.Names.{is_word}
 use Rattle.ver_ast.specs.Tokens.{VToken, word, digit_zero, number, constant, sign, double, signed_shift, signed_word, question_digit, Base, binary, decimal, hexadecimal, radix, letter, lone_signs, doubles, AreDigits, IsConstant, IsSpelledAs}
-use Rattle.ver_ast.specs.Pieces.{VPiece, blank, line_comment, block_comment, spelled, questioned, bytes_of_piece, tokens_of_piece, white_space, BeginsWith, HasNoEnd, IsLongestToken, BeginsNoComment, IsVPiece, AreVPieces, HasTokens}
+use Rattle.ver_ast.specs.Pieces.{VPiece, blank, line_comment, block_comment, spelled, questioned, bytes_of_piece, PlacedToken, white_space, BeginsWith, HasNoEnd, IsLongestToken, BeginsNoComment, IsVPiece, AreVPieces, HasTokens}
 use Rattle.ver_ast.specs.working.TokenSteps.{Pending, between, in_word, in_sign, in_shift, in_number, at_base, at_digits, in_constant, in_line_comment, in_block_comment, in_block_star, TokenStep, is_sign, is_double, is_start, number_token, begin, close_and_begin, digit_in, with_digit, with_next, step, last, go_on, tokens_from, tokens}
 use Rattle.ver_ast.proofs.Reach.{NotNext, in_base, digit_is_in, digit_begins_no_word, all_tested, begins_other, sign_begins, not_true}
-use Rattle.ver_ast.proofs.TokenPieces.{one_zero, is_no_zero}
+use Rattle.ver_ast.proofs.TokenPieces.{plain_tokens, plain_of, without_places, one_zero, is_no_zero}
 use Rattle.ver_ast.proofs.TokensFound.{word_more, digits_more, no_zero_more, next_digit, double_in, is_byte}
 
 -- ---- behind the longest token nothing goes on with it
@@ -353,7 +353,7 @@ line_taken content behind ts h end e =
     step_on between (in_sign 47) 47 (47 ∷ (content ++ behind)) refl ∙ step_on (in_sign 47) in_line_comment 47 (content ++ behind) refl
     ∙ in_line content behind h ∙ line_ends behind ts end e
 
-no_end_behind : (b : ℕ) (bs : List ℕ) → HasNoEnd (b ∷ bs) → HasNoEnd bs
+pub no_end_behind : (b : ℕ) (bs : List ℕ) → HasNoEnd (b ∷ bs) → HasNoEnd bs
 no_end_behind b bs h front back e = h (b ∷ front) back (ap (λ x. b ∷ x) e)
 
 abbrev inside : Bool → Pending
@@ -416,17 +416,18 @@ token_taken signed_word s behind ts is e = subst (λ x. tokens (x ++ behind) ≡
 token_taken question_digit s behind ts is e = absurd is.0
 
 piece_taken : (p : VPiece) (behind : List ℕ) (ts : List VToken) → IsVPiece p behind → tokens behind ≡ Some ts
-    → tokens (bytes_of_piece p ++ behind) ≡ Some (tokens_of_piece p ++ ts)
+    → tokens (bytes_of_piece p ++ behind) ≡ Some (plain_tokens p ++ ts)
 piece_taken (blank b) behind ts is e = blank_taken b behind ts is e
 piece_taken (line_comment content) behind ts is e = line_taken content behind ts is.0 is.1 e
 piece_taken (block_comment content) behind ts is e = block_taken content behind ts is e
 piece_taken (spelled t s) behind ts is e = token_taken t s behind ts is e
 piece_taken (questioned width value s) behind ts is e = questioned_taken width value s behind ts is e
 
-pieces_taken : (ps : List VPiece) → AreVPieces ps → tokens (flat_map bytes_of_piece ps) ≡ Some (flat_map tokens_of_piece ps)
+pub pieces_taken : (ps : List VPiece) → AreVPieces ps → tokens (flat_map bytes_of_piece ps) ≡ Some (flat_map plain_tokens ps)
 unfolding tokens_from
 pieces_taken [] h = refl
-pieces_taken (p ∷ ps) h = piece_taken p (flat_map bytes_of_piece ps) (flat_map tokens_of_piece ps) h.0 (pieces_taken ps h.1)
+pieces_taken (p ∷ ps) h = piece_taken p (flat_map bytes_of_piece ps) (flat_map plain_tokens ps) h.0 (pieces_taken ps h.1)
 
-pub spelled_tokens : (bytes : List ℕ) (ts : List VToken) → HasTokens bytes ts → tokens bytes ≡ Some ts
-spelled_tokens bytes ts h = ap tokens h.bytes_are ∙ pieces_taken h.pieces h.each ∙ ap Some (sym h.tokens_are)
+pub spelled_tokens : (bytes : List ℕ) (placed : List PlacedToken) → HasTokens bytes placed → tokens bytes ≡ Some (plain_of placed)
+spelled_tokens bytes placed h =
+    ap tokens h.bytes_are ∙ pieces_taken h.pieces h.each ∙ ap Some (sym (ap plain_of h.tokens_are ∙ without_places [] h.pieces))

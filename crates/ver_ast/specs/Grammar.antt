@@ -1,6 +1,6 @@
 -- The grammar: the tokens of a tree (IEEE 1364-2005, Annex A.1 to A.8, cut to the written subset).
 --   module = "module" name "(" [ port { "," port } ] ")" ";" item* "endmodule"
---   port   = ("input" | "output") [range] name | "(*" "clock" "*)" ("input" | "output") name
+--   port   = [ "(*" "clock" "*)" ] ("input" | "output") [range] name
 --   item   = "wire" [range] name ";" | "reg" [range] name [ "[" "0" ":" num "]" ] ";" | "assign" name "=" rhs ";"
 --          | "always" "@" "(" "posedge" name ")" name "<=" atom ";"
 --          | "always" "@" "(" "posedge" name "or" "posedge" name ")" "if" "(" name ")" name "<=" constant ";" "else" name "<=" atom ";"
@@ -11,14 +11,12 @@
 --   bin    = "+" | "-" | "*" | "/" | "%" | "&" | "|" | "^" | "<<" | ">>" | "==" | "!=" | "<" | "<=" | ">" | ">="
 --   signed = "$signed" "(" atom ")"          sbin = "/" | "%" | "<" | "<=" | ">" | ">="
 --   atom   = name | constant | name "[" num "]" | name "[" num ":" num "]" | "{" atom { "," atom } "}" | "{" num "{" atom "}" "}"
--- The number 0 is written as the one digit here, in a range, in a select and before copies.
-use Rattle.std.specs.Prelude.{ℕ, ◌-◌, List, [], ◌∷◌, ◌++◌, flat_map, codes, nat_eq, if◌then◌else◌, Option, Some, None}
+-- The 0 of a range and of a depth is the one digit; a num is any digits.
+use Rattle.std.specs.Prelude.{ℕ, ◌-◌, Bool, List, [], ◌∷◌, ◌++◌, flat_map, codes, nat_eq, if◌then◌else◌, Option, Some, None}
 use Rattle.fir_base.specs.declared.direction.Direction.{Direction}
 use Rattle.fir_base.specs.declared.direction.Direction.TheVariants.{Input, Output}
 use Rattle.ver_ast.specs.declared.tree.Verilog.{Verilog}
 use Rattle.ver_ast.specs.declared.tree.Port.{Port}
-use Rattle.ver_words.specs.declared.signal.Signal.{Signal}
-use Rattle.ver_words.specs.declared.signal.Signal.TheVariants.{Bits, Clock}
 use Rattle.ver_ast.specs.declared.tree.Edge.{Edge}
 use Rattle.ver_ast.specs.declared.tree.Write.{Write}
 use Rattle.ver_ast.specs.declared.tree.Item.{Item}
@@ -31,6 +29,7 @@ use Rattle.ver_ast.specs.declared.tree.BinaryOp.{BinaryOp}
 use Rattle.ver_ast.specs.declared.tree.BinaryOp.TheVariants as binary
 use Rattle.ver_ast.specs.declared.tree.SignedOp.{SignedOp}
 use Rattle.ver_ast.specs.declared.tree.SignedOp.TheVariants as signed
+use Rattle.ver_ast.specs.AtomForms.{constant_number}
 use Rattle.ver_ast.specs.Atoms as atom
 use Rattle.ver_ast.specs.Atoms.{AtomTree, AtomTrees}
 use Rattle.ver_ast.specs.Tokens.{VToken, word, digit_zero, number, constant, sign, double, signed_shift, signed_word}
@@ -42,12 +41,11 @@ direction_keyword Output = codes "output"
 abbrev pub range_tokens : ℕ → List VToken
 range_tokens width = if nat_eq width 1 then [] else (sign 91 ∷ number (width - 1) ∷ sign 58 ∷ digit_zero ∷ sign 93 ∷ [])
 
-abbrev pub signal_tokens : Signal → Direction → List VToken
-signal_tokens (Bits width) d = word (direction_keyword d) ∷ range_tokens width
-signal_tokens Clock d = double 40 42 ∷ word (codes "clock") ∷ double 42 41 ∷ word (direction_keyword d) ∷ []
+abbrev pub mark_tokens : Bool → List VToken
+mark_tokens is_clock = if is_clock then (double 40 42 ∷ word (codes "clock") ∷ double 42 41 ∷ []) else []
 
 abbrev pub port_tokens : Port → List VToken
-port_tokens p = signal_tokens p.signal p.direction ++ word p.name ∷ []
+port_tokens p = mark_tokens p.is_clock ++ word (direction_keyword p.direction) ∷ range_tokens p.width ++ word p.name ∷ []
 
 -- a port behind another
 abbrev pub next_port_tokens : Port → List VToken
@@ -57,17 +55,14 @@ abbrev pub ports_tokens : List Port → List VToken
 ports_tokens [] = []
 ports_tokens (p ∷ ps) = port_tokens p ++ flat_map next_port_tokens ps
 
-abbrev pub plain_number : ℕ → VToken
-plain_number n = if nat_eq n 0 then digit_zero else number n
-
 abbrev mutual
   pub atom_tokens : AtomTree → List VToken
   atom_tokens (atom.net n) = word n ∷ []
   atom_tokens (atom.constant width value) = constant width value ∷ []
-  atom_tokens (atom.bit_select n i) = word n ∷ sign 91 ∷ plain_number i ∷ sign 93 ∷ []
-  atom_tokens (atom.part_select n hi lo) = word n ∷ sign 91 ∷ plain_number hi ∷ sign 58 ∷ plain_number lo ∷ sign 93 ∷ []
+  atom_tokens (atom.bit_select n i) = word n ∷ sign 91 ∷ number i ∷ sign 93 ∷ []
+  atom_tokens (atom.part_select n hi lo) = word n ∷ sign 91 ∷ number hi ∷ sign 58 ∷ number lo ∷ sign 93 ∷ []
   atom_tokens (atom.concat a more) = sign 123 ∷ atom_tokens a ++ next_atom_tokens more ++ sign 125 ∷ []
-  atom_tokens (atom.repeat count a) = sign 123 ∷ plain_number count ∷ sign 123 ∷ atom_tokens a ++ sign 125 ∷ sign 125 ∷ []
+  atom_tokens (atom.repeat count a) = sign 123 ∷ number count ∷ sign 123 ∷ atom_tokens a ++ sign 125 ∷ sign 125 ∷ []
 
   -- operands behind another
   pub next_atom_tokens : AtomTrees → List VToken
@@ -124,9 +119,9 @@ edge_tokens None = []
 edge_tokens (Some e) = word (codes "posedge") ∷ word e.clock ∷ word (codes "or") ∷ []
 
 -- what is written where the reset is not 1
-abbrev pub else_tokens : List ℕ → Option Edge → List VToken
-else_tokens target None = []
-else_tokens target (Some e) = word (codes "else") ∷ word target ∷ double 60 61 ∷ atom_tokens e.source ++ sign 59 ∷ []
+abbrev pub else_tokens : Option Edge → List VToken
+else_tokens None = []
+else_tokens (Some e) = word (codes "else") ∷ word e.target ∷ double 60 61 ∷ atom_tokens e.source ++ sign 59 ∷ []
 
 abbrev pub write_tokens : Write → List VToken
 write_tokens w =
@@ -141,10 +136,10 @@ item_tokens (item.Always b) =
     word (codes "always") ∷ sign 64 ∷ sign 40 ∷ word (codes "posedge") ∷ word b.clock ∷ sign 41 ∷ word b.target ∷ double 60 61
     ∷ atom_tokens b.source ++ sign 59 ∷ []
 item_tokens (item.Array a) =
-    word (codes "reg") ∷ range_tokens a.width ++ word a.name ∷ sign 91 ∷ digit_zero ∷ sign 58 ∷ plain_number a.last ∷ sign 93 ∷ sign 59 ∷ []
+    word (codes "reg") ∷ range_tokens a.width ++ word a.name ∷ sign 91 ∷ digit_zero ∷ sign 58 ∷ number a.last ∷ sign 93 ∷ sign 59 ∷ []
 item_tokens (item.Resetting b) =
     word (codes "always") ∷ sign 64 ∷ sign 40 ∷ edge_tokens b.edge ++ word (codes "posedge") ∷ word b.reset ∷ sign 41 ∷ word (codes "if") ∷ sign 40
-    ∷ word b.reset ∷ sign 41 ∷ word b.target ∷ double 60 61 ∷ constant b.width b.value ∷ sign 59 ∷ else_tokens b.target b.edge
+    ∷ word b.tested ∷ sign 41 ∷ word b.target ∷ double 60 61 ∷ constant b.value.width (constant_number b.value) ∷ sign 59 ∷ else_tokens b.edge
 item_tokens (item.Writing b) =
     word (codes "always") ∷ sign 64 ∷ sign 40 ∷ word (codes "posedge") ∷ word b.clock ∷ sign 41 ∷ word (codes "begin") ∷ flat_map write_tokens b.writes
     ++ word (codes "end") ∷ []

@@ -7,8 +7,6 @@ use Rattle.fir_base.specs.Words.{is_among}
 use Rattle.fir_base.specs.Ticks.{Shape}
 use Rattle.ver_ast.specs.declared.tree.Verilog.{Verilog}
 use Rattle.ver_ast.specs.declared.tree.Port.{Port}
-use Rattle.ver_words.specs.declared.signal.Signal.{Signal}
-use Rattle.ver_words.specs.declared.signal.Signal.TheVariants.{Bits, Clock}
 use Rattle.ver_ast.specs.declared.tree.Assign.{Assign}
 use Rattle.ver_ast.specs.declared.tree.Always.{Always}
 use Rattle.ver_ast.specs.declared.tree.Resetting.{Resetting}
@@ -22,19 +20,11 @@ abbrev pub SizedNet : Type 0
 SizedNet = List ℕ × ℕ
 
 -- a port of bits is a net; a clock is none
-abbrev pub signal_net : Signal → List ℕ → List SizedNet
-signal_net (Bits width) name = (name, width) ∷ []
-signal_net Clock name = []
-
-abbrev pub signal_clock : Signal → List ℕ → List (List ℕ)
-signal_clock (Bits width) name = []
-signal_clock Clock name = name ∷ []
-
 abbrev pub port_net : Port → List SizedNet
-port_net p = signal_net p.signal p.name
+port_net p = if p.is_clock then [] else ((p.name, p.width) ∷ [])
 
 abbrev pub port_clock : Port → List (List ℕ)
-port_clock p = signal_clock p.signal p.name
+port_clock p = if p.is_clock then (p.name ∷ []) else []
 
 abbrev pub input_net : Direction → Port → List SizedNet
 input_net Input p = port_net p

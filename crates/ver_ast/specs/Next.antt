@@ -10,6 +10,7 @@ use Rattle.ver_ast.specs.declared.tree.Edge.{Edge}
 use Rattle.ver_ast.specs.declared.tree.Write.{Write}
 use Rattle.ver_ast.specs.Nets.{SizedNet, nets, variables, AlwaysBlock, plain_block, resetting_block, writing_block, blocks}
 use Rattle.ver_ast.specs.Stores.{Store, store_of, state_of}
+use Rattle.ver_ast.specs.AtomForms.{constant_number}
 use Rattle.ver_ast.specs.AtomValues.{atom_value}
 
 abbrev pub edge_rises : List ℕ → Env → Option Edge → Bool
@@ -42,7 +43,7 @@ write_put nets env w =
 -- what a block that acts writes, in its order
 abbrev pub puts : List SizedNet → Env → AlwaysBlock → List Put
 puts nets env (plain_block b) = record { name = b.target; place = 0; word = atom_value nets env b.source } ∷ []
-puts nets env (resetting_block b) = if env b.reset == 1 then (record { name = b.target; place = 0; word = b.value } ∷ []) else edge_put nets env b.target b.edge
+puts nets env (resetting_block b) = if env b.reset == 1 then (record { name = b.target; place = 0; word = constant_number b.value } ∷ []) else edge_put nets env b.target b.edge
 puts nets env (writing_block b) = flat_map (write_put nets env) b.writes
 
 -- the blocks that act, and all that they write

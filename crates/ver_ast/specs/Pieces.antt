@@ -1,8 +1,10 @@
--- The tokens of a text: those among its pieces (IEEE 1364-2005, 3.1 to 3.3).
--- White space and comments stand freely between tokens. A comment begins wherever its two bytes stand outside of comments. The longest token is taken.
-use Rattle.std.specs.Prelude.{◌≡◌, ◌≢◌, ◌⊎◌, ℕ, ◌≤◌, List, [], ◌∷◌, ◌++◌, length, flat_map, codes}
-use Rattle.std.specs.List.{AllByRecursion}
+-- The tokens of a text: those among its pieces, each with its place (IEEE 1364-2005, 3.1 to 3.3).
+-- White space and comments stand freely between tokens. A comment begins wherever its two bytes stand outside of comments. The longest token is taken. Lines and
+-- columns count from 1, columns in bytes.
+use Rattle.std.specs.Prelude.{◌≡◌, ◌≢◌, ◌⊎◌, ℕ, ◌+◌, ◌≤◌, List, [], ◌∷◌, ◌++◌, length, flat_map, codes, count_by, nat_eq, not}
+use Rattle.std.specs.List.{AllByRecursion, suffix_len}
 use Rattle.fir_base.specs.Lists.{In}
+use Rattle.ver_ast.specs.declared.place.VPlace.{VPlace}
 use Rattle.ver_ast.specs.Tokens.{VToken, constant, question_digit, IsSpelledAs}
 
 -- a byte of white space; a comment by what stands within it; a token with the bytes that spell it; a constant with the bytes that spell it, and a `?`
@@ -21,13 +23,28 @@ bytes_of_piece (block_comment content) = codes "/*" ++ content ++ codes "*/"
 bytes_of_piece (spelled t s) = s
 bytes_of_piece (questioned width value s) = s ++ codes "?"
 
--- a question digit is no sign
-abbrev pub tokens_of_piece : VPiece → List VToken
-tokens_of_piece (blank b) = []
-tokens_of_piece (line_comment content) = []
-tokens_of_piece (block_comment content) = []
-tokens_of_piece (spelled t s) = t ∷ []
-tokens_of_piece (questioned width value s) = constant width value ∷ question_digit ∷ []
+pub record PlacedToken : Type 0 where
+  pub token : VToken
+  pub place : VPlace
+
+-- behind these bytes: one more than the newlines in them, and one more than the bytes behind the last newline
+abbrev pub place_after : List ℕ → VPlace
+place_after before = record { line = 1 + count_by (λ b. nat_eq b 10) before; col = 1 + suffix_len (λ b. not (nat_eq b 10)) before }
+
+abbrev pub stands_after : List ℕ → VToken → PlacedToken
+stands_after before t = record { token = t; place = place_after before }
+
+-- behind the bytes before it
+abbrev pub tokens_of_piece : List ℕ → VPiece → List PlacedToken
+tokens_of_piece before (blank b) = []
+tokens_of_piece before (line_comment content) = []
+tokens_of_piece before (block_comment content) = []
+tokens_of_piece before (spelled t s) = stands_after before t ∷ []
+tokens_of_piece before (questioned width value s) = stands_after before (constant width value) ∷ stands_after (before ++ s) question_digit ∷ []
+
+abbrev pub tokens_of_pieces : List ℕ → List VPiece → List PlacedToken
+tokens_of_pieces before [] = []
+tokens_of_pieces before (p ∷ ps) = tokens_of_piece before p ++ tokens_of_pieces (before ++ bytes_of_piece p) ps
 
 abbrev pub BeginsWith : List ℕ → List ℕ → Type 0
 BeginsWith text front = (rest : List ℕ) × (text ≡ front ++ rest)
@@ -66,8 +83,8 @@ AreVPieces [] = Unit {0}
 AreVPieces (p ∷ ps) = IsVPiece p (flat_map bytes_of_piece ps) × AreVPieces ps
 
 -- the bytes are those of pieces, and these are the tokens among them
-pub record HasTokens (bytes : List ℕ) (ts : List VToken) : Type 0 where
+pub record HasTokens (bytes : List ℕ) (ts : List PlacedToken) : Type 0 where
   pub pieces : List VPiece
   pub bytes_are : bytes ≡ flat_map bytes_of_piece pieces
   pub each : AreVPieces pieces
-  pub tokens_are : ts ≡ flat_map tokens_of_piece pieces
+  pub tokens_are : ts ≡ tokens_of_pieces [] pieces

@@ -5,6 +5,7 @@ use Rattle.fir_base.specs.Ticks.{Env}
 use Rattle.ver_ast.specs.declared.tree.Verilog.{Verilog}
 use Rattle.ver_ast.specs.declared.tree.Assign.{Assign}
 use Rattle.ver_ast.specs.declared.tree.Resetting.{Resetting}
+use Rattle.ver_ast.specs.AtomForms.{constant_number}
 use Rattle.ver_ast.specs.Names.{rhs_names}
 use Rattle.ver_ast.specs.Nets.{nets, width_among, assigns, resets}
 use Rattle.ver_ast.specs.Stores.{Store, stored}
@@ -33,7 +34,7 @@ process_reads (showing b) = b.reset ∷ []
 -- the value of the right side
 abbrev pub wanted : Verilog → Store → Env → Process → Option ℕ
 wanted v store env (assigning a) = rhs_value (nets v) store env (width_among (nets v) a.target) a.rhs
-wanted v store env (showing b) = Some (if env b.reset == 1 then b.value else stored store b.target)
+wanted v store env (showing b) = Some (if env b.reset == 1 then constant_number b.value else stored store b.target)
 
 -- the same, with 0 where there is none
 abbrev pub given : Verilog → Store → Env → Process → ℕ

@@ -1,12 +1,13 @@
 -- Which trees are valid (IEEE 1364-2005, 3.7, 4.2, 4.9, 5.2.1, 5.4, 6.1).
--- Each name is declared once, before it is used, with a width from 1 to 128; all arrays together have at most 4194304 words; right sides are sound beside
+-- Each name is declared once, before it is used, with a width from 1 to 128, and a clock without a range; all arrays together have at most 4194304 words; right sides are sound beside
 -- their targets' widths; each wire, output and clock output has exactly one assign, an input and a register none; a register and an array have at most one
 -- block, on a clock input, which stands in no operand; and no closed walk of processes exists, which is said as: some order of the processes has each once,
 -- after all that it reads.
-use Rattle.std.specs.Prelude.{◌≡◌, ℕ, ◌<◌, ◌^◌, ◌≤◌, List, [], ◌∷◌, ◌++◌, map, Option, Some, None}
+use Rattle.std.specs.Prelude.{◌≡◌, ℕ, ◌<◌, ◌^◌, ◌≤◌, IsTrue, List, [], ◌∷◌, ◌++◌, map, Option, Some, None}
 use Rattle.std.specs.List.{AllByRecursion, sum_by}
 use Rattle.fir_base.specs.Lists.{In, Distinct, EachIn}
 use Rattle.ver_ast.specs.declared.tree.Verilog.{Verilog}
+use Rattle.ver_ast.specs.declared.tree.Port.{Port}
 use Rattle.ver_ast.specs.declared.tree.Assign.{Assign}
 use Rattle.ver_ast.specs.declared.tree.Always.{Always}
 use Rattle.ver_ast.specs.declared.tree.Edge.{Edge}
@@ -16,6 +17,7 @@ use Rattle.ver_ast.specs.declared.tree.Rhs.{Rhs}
 use Rattle.ver_ast.specs.declared.tree.Rhs.TheVariants as rhs
 use Rattle.ver_ast.specs.declared.tree.Item.{Item}
 use Rattle.ver_ast.specs.Atoms.{net, constant}
+use Rattle.ver_ast.specs.AtomForms.{constant_number}
 use Rattle.ver_ast.specs.ItemNames.{declared, item_names}
 use Rattle.ver_ast.specs.SoundSides.{IsOperand, HasWidth, IsSoundSide}
 use Rattle.ver_ast.specs.Nets.{Variable, input_nets, output_nets, clocks, output_clocks, wires, regs, plain_regs, arrays, variable_names, nets, assigns, clock_assigns, targets, AlwaysBlock, plain_block, resetting_block, writing_block, blocks, block_targets, names_of}
@@ -43,16 +45,18 @@ pub record IsPlain (v : Verilog) (b : Always) : Type 0 where
   pub register : In (regs v) (b.target, width)
   pub wide : HasWidth (nets v) width b.source
 
-abbrev pub IsEdge : Verilog → ℕ → Option Edge → Type 0
-IsEdge v w None = Unit {0}
-IsEdge v w (Some e) = In (clocks v) e.clock × HasWidth (nets v) w e.source
+-- of a register of w bits
+abbrev pub IsEdge : Verilog → List ℕ → ℕ → Option Edge → Type 0
+IsEdge v name w None = Unit {0}
+IsEdge v name w (Some e) = In (clocks v) e.clock × (e.target ≡ name) × HasWidth (nets v) w e.source
 
--- the reset is a net of one bit, and the constant fits the register
+-- the reset is a net of one bit, which is tested, and the constant fits the register
 pub record IsResetting (v : Verilog) (b : Resetting) : Type 0 where
   pub bit : In (nets v) (b.reset, 1)
-  pub register : In (regs v) (b.target, b.width)
-  pub constant_fits : b.value < 2 ^ b.width
-  pub clocked : IsEdge v b.width b.edge
+  pub one_reset : b.tested ≡ b.reset
+  pub register : In (regs v) (b.target, b.value.width)
+  pub constant_fits : constant_number b.value < 2 ^ b.value.width
+  pub clocked : IsEdge v b.target b.value.width b.edge
 
 -- a write of that array
 pub record IsWrite (v : Verilog) (name : List ℕ) (w : Write) : Type 0 where
@@ -89,6 +93,7 @@ pub record IsOrder (v : Verilog) (order : List Process) : Type 0 where
 pub record Valid (v : Verilog) : Type 0 where
   pub declared_once : Distinct ((clocks v ++ names_of (nets v)) ++ (variable_names (arrays v) ++ output_clocks v))
   pub declared_before : DeclaredBefore (map (λ p. p.name) v.ports) v.items
+  pub plain_clocks : (p : Port) → In v.ports p → IsTrue p.is_clock → p.width ≡ 1
   pub narrow : (n : List ℕ) (w : ℕ) → In (nets v) (n, w) → (1 ≤ w) × (w ≤ 128)
   pub narrow_words : (k : Variable) → In (arrays v) k → (1 ≤ k.width) × (k.width ≤ 128)
   pub few_words : sum_by (λ k. k.depth) (arrays v) ≤ 4194304

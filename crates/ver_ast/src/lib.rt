@@ -6,13 +6,15 @@
 #![tactic(auto)]
 
 mod laws;
+mod place;
 mod tree;
 
 pub use laws::{
-    allows_one, runs_at_most_once, settled_has_one_next, spells_one_tree,
-    tokens_are_read_step_by_step, valid_has_one_rest,
+    allows_one, places_count_for_nothing, runs_at_most_once, settled_has_one_next, spells_one_tree,
+    tokens_are_read_step_by_step, tokens_have_one_place, valid_has_one_rest,
 };
+pub use place::VPlace;
 pub use tree::{
-    Always, Array, Assign, Atom, AtomForm, BinaryOp, Edge, Item, Net, Port, Resetting, Rhs,
-    SignedOp, UnaryOp, Verilog, Write, Writing,
+    Always, Array, Assign, Atom, AtomForm, BinaryOp, Constant, Edge, Item, Net, Port, Resetting,
+    Rhs, SignedOp, UnaryOp, Verilog, Write, Writing,
 };

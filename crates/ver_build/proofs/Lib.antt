@@ -55,3 +55,4 @@ pub mod Named
 pub mod Tree
 pub mod Allows
 pub mod Means
+pub mod OtherPlaces

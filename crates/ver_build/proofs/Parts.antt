@@ -1,5 +1,5 @@
 -- The tree of a net in parts: ports, then registers, wires, assigns and blocks, those of leaves along their names.
-use Rattle.std.proofs.Common.{◌≡◌, List, ◌++◌, map, refl}
+use Rattle.std.proofs.Common.{◌≡◌, List, [], ◌++◌, map, refl}
 use Rattle.fir_net.specs.declared.reads.Read.{Read}
 use Rattle.fir_net.specs.declared.net.FlatNet.{FlatNet}
 use Rattle.fir_net_names.specs.declared.name_table.NameTable.{NameTable}
@@ -38,7 +38,7 @@ module _ (net : FlatNet) (t : NameTable) (p : Places) (order : List Read) where
   blocks_of = zipped (leaf_block t p) t.leaves net.leaves
 
   abbrev pub in_parts : Verilog
-  in_parts = record { name = t.circuit; ports = ports_of; items = items registers_of wires_of assigns_of blocks_of }
+  in_parts = record { name = t.circuit; ports = ports_of; items = items registers_of wires_of assigns_of blocks_of; places = [] }
 
   pub built_in_parts : IsTable net t → built net t p order ≡ in_parts
   unfolding built

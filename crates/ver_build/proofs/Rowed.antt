@@ -14,6 +14,7 @@ use Rattle.fir_net_names.specs.Names.{AreNamed}
 use Rattle.ver_words.specs.declared.signal.Signal.TheVariants.{Bits}
 use Rattle.ver_ast.specs.declared.tree.Port.{Port}
 use Rattle.ver_ast.specs.Nets.{SizedNet, widths_of}
+use Rattle.ver_build.specs.Ports.{port_signal}
 use Rattle.ver_build.specs.working.Built.{leaf_port, port_of}
 use Rattle.fir_net.specs.Rows.{Row, row, Word, word, row_names, row_kinds, word_names, word_widths, PortKind}
 use Rattle.fir_net.specs.working.Rows.{role_row, role_word}
@@ -37,7 +38,7 @@ one_word : (base : List ℕ) (w : ℕ) → 1 ≤ w → word base w ≡ record { 
 one_word base w h = some_bits_one (record { name = base; width = w }) w h
 
 abbrev kind : Port → PortKind
-kind p = (p.direction, p.signal)
+kind p = (p.direction, port_signal p)
 
 abbrev rows : Leaf → List Row
 rows l = role_row l.role (base_name l.path) l.width

@@ -1,4 +1,4 @@
--- A tree with the name, the ports and the items of a net is the tree of the net.
+-- A tree with the name, the ports and the items of a net, and no places, is the tree of the net.
 use Rattle.std.proofs.Common.{◌≡◌, List, [], ◌++◌, map, refl, append_assoc}
 use Rattle.std.proofs.lemmas.List.{map-append}
 use Rattle.std.proofs.lemmas.Simd.{map-map}
@@ -64,6 +64,6 @@ unfolding built
 items_built net t p order all put = in_parts net t p order all put
 
 pub tree_built : (net : FlatNet) (t : NameTable) (p : Places) (order : List Read) (v : Verilog) → v.name ≡ t.circuit
-    → v.ports ≡ along leaf_port t.leaves 0 net.leaves → v.items ≡ (built net t p order).items → v ≡ built net t p order
+    → v.ports ≡ along leaf_port t.leaves 0 net.leaves → v.items ≡ (built net t p order).items → v.places ≡ [] → v ≡ built net t p order
 unfolding built
-tree_built net t p order v name ports items = rw (name, ports, items) refl
+tree_built net t p order v name ports items places = rw (name, ports, items, places) refl

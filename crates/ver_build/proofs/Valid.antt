@@ -1,7 +1,7 @@
 -- The tree of a whole net is valid.
 -- Names are distinct, so each net is declared once and driven once, and widths and order are those of the net.
-use Rattle.std.proofs.Common.{◌≡◌, ℕ, ◌≤◌, List, [], ◌∷◌, ◌++◌, map, Bool, true, false, refl, sym, ap, ◌∙◌, inl, inr, ⊎_elim, subst, append-nil, arith}
-use Rattle.std.specs.Prelude.{flat_map, Option, Some, None}
+use Rattle.std.proofs.Common.{◌≡◌, ℕ, ◌≤◌, List, [], ◌∷◌, ◌++◌, map, Bool, true, false, cond, refl, sym, ap, ◌∙◌, inl, inr, ⊎_elim, subst, append-nil, arith}
+use Rattle.std.specs.Prelude.{flat_map, Option, Some, None, IsTrue}
 use Rattle.std.specs.List.{AllByRecursion, sum_by}
 use Rattle.std.proofs.lemmas.List.{map-append}
 use Rattle.std.proofs.lemmas.Simd.{map-map}
@@ -14,24 +14,23 @@ use Rattle.fir_base.proofs.Twins.{distinct_right, distinct_joined, apart}
 use Rattle.fir_net.specs.declared.reads.Read.{Read}
 use Rattle.fir_net.specs.declared.leaf.Role.{Role}
 use Rattle.fir_net.specs.declared.leaf.Role.TheVariants as role
+use Rattle.fir_net.specs.declared.leaf.Leaf.{Leaf}
 use Rattle.fir_net.specs.declared.net.FlatNet.{FlatNet}
 use Rattle.fir_net_names.specs.declared.name_table.NameTable.{NameTable}
 use Rattle.fir_net_names.specs.working.LeafNamed.{somes}
 use Rattle.ver_ast.specs.declared.tree.Port.{Port}
-use Rattle.ver_words.specs.declared.signal.Signal.{Signal}
-use Rattle.ver_words.specs.declared.signal.Signal.TheVariants.{Bits, Clock}
 use Rattle.ver_ast.specs.declared.tree.Verilog.{Verilog}
 use Rattle.ver_ast.specs.declared.tree.Assign.{Assign}
-use Rattle.ver_ast.specs.Nets.{SizedNet, Variable, variable_names, AlwaysBlock, plain_block, signal_net, signal_clock, port_net, input_clock, output_clocks, input_nets, output_nets, clocks, wires, regs, plain_regs, port_nets, nets, arrays, assigns, clock_assigns, targets, blocks, block_targets, names_of}
+use Rattle.ver_ast.specs.Nets.{SizedNet, Variable, variable_names, AlwaysBlock, plain_block, port_net, input_clock, output_clocks, input_nets, output_nets, clocks, wires, regs, plain_regs, port_nets, nets, arrays, assigns, clock_assigns, targets, blocks, block_targets, names_of}
 use Rattle.ver_ast.specs.Processes.{Process, assigning, processes, target, process_targets}
 use Rattle.ver_ast.specs.SoundSides.{IsSoundSide}
 use Rattle.ver_ast.specs.Valid.{Valid, DeclaredBefore, IsSoundAssign, IsOrder, ReadsBefore, IsPlain, IsSoundBlock}
 use Rattle.ver_build.specs.declared.places.Places.{Places}
 use Rattle.ver_build.specs.working.Places.{clock_in}
-use Rattle.ver_build.specs.working.Built.{inners}
+use Rattle.ver_build.specs.working.Built.{inners, leaf_port, port_of}
 use Rattle.ver_build.specs.Ports.{port_names}
 use Rattle.ver_build.proofs.Names.{all_zipped}
-use Rattle.ver_build.proofs.Premises.{Premises}
+use Rattle.ver_build.proofs.Premises.{Premises, LeafNamed, leaves_named}
 use Rattle.ver_build.proofs.Parts.{registers_of, wires_of, assigns_of, blocks_of, in_parts}
 use Rattle.ver_build.proofs.LeafKinds.{is_input, is_clock_input, is_output, is_register, is_net, is_written, sized_if, picked, picked_sized, picked_names}
 use Rattle.ver_build.proofs.Picked.{picked_named, picked_once, picked_apart}
@@ -54,6 +53,20 @@ leaf_narrow ns false w n h = tt
 leaf_narrow ns true w None h = tt
 leaf_narrow ns true w (Some name) h = let size = h refl name refl in ((size.one, size.narrow), tt)
 
+-- a clock has no range
+abbrev IsUnranged : Port → Type 0
+IsUnranged q = IsTrue q.is_clock → q.width ≡ 1
+
+role_unranged : (r : Role) (w : ℕ) (name : List ℕ) → AllByRecursion IsUnranged (port_of r w name)
+role_unranged role.Input w name = (λ h. absurd (cc), tt)
+role_unranged role.Clock w name = (λ h. refl, tt)
+role_unranged (role.Output r) w name = (λ h. absurd (cc), tt)
+role_unranged _ w name = tt
+
+leaf_unranged : (l : Leaf) (n : Option (List ℕ)) → AllByRecursion IsUnranged (leaf_port l n)
+leaf_unranged l None = tt
+leaf_unranged l (Some name) = role_unranged l.role l.width name
+
 no_net : (r : Role) → is_clock_input r ≡ true → is_net r ≡ true → ⊥
 no_net role.Clock a b = cc
 no_net _ a b = cc
@@ -67,28 +80,33 @@ register_not_driven (role.Register r) a b = cc
 register_not_driven _ a b = cc
 
 -- a net or a clock of a port has the port's name
-one_net : (s : Signal) (n : List ℕ) (x : SizedNet) → In (signal_net s n) x → n ≡ x.0
-one_net (Bits w) n x (inl e) = ap (λ (y : SizedNet). y.0) e
-one_net (Bits w) n x (inr m) = absurd m
-one_net Clock n x m = absurd m
+one_net : (q : Port) (x : SizedNet) → In (port_net q) x → q.name ≡ x.0
+one_net q x m = by q.is_clock m
+  where
+    by : (c : Bool) → In {A = SizedNet} (cond c [] ((q.name, q.width) ∷ [])) x → q.name ≡ x.0
+    by true o = absurd o
+    by false (inl e) = ap (λ (y : SizedNet). y.0) e
+    by false (inr o) = absurd o
 
-one_clock : (d : Direction) (s : Signal) (q : Port) (n : List ℕ) → q.signal ≡ s → In (input_clock d q) n → q.name ≡ n
-one_clock Input (Bits w) q n e m = absurd (let here : In (signal_clock (Bits w) q.name) n = subst (λ (s : Signal). In (signal_clock s q.name) n) e m in here)
-one_clock Input Clock q n e m =
-    let here : In (q.name ∷ []) n = subst (λ (s : Signal). In (signal_clock s q.name) n) e m in
-    ⊎_elim (λ (k : q.name ≡ n). k) (λ (o : ⊥). absurd o) here
-one_clock Output s q n e m = absurd m
+one_clock : (d : Direction) (q : Port) (n : List ℕ) → In (input_clock d q) n → q.name ≡ n
+one_clock Input q n m = by q.is_clock m
+  where
+    by : (c : Bool) → In {A = List ℕ} (cond c (q.name ∷ []) []) n → q.name ≡ n
+    by true (inl e) = e
+    by true (inr o) = absurd o
+    by false o = absurd o
+one_clock Output q n m = absurd m
 
 net_is_named : (qs : List Port) (n : List ℕ) → In (names_of (flat_map port_net qs)) n → In (map (λ (q : Port). q.name) qs) n
 net_is_named qs n m =
     let x = in_map_from (λ (s : SizedNet). s.0) (flat_map port_net qs) n m in
     let q = in_flat_map_from port_net qs x.0 x.1 in
-    subst (In (map (λ (q : Port). q.name) qs)) (one_net q.0.signal q.0.name x.0 q.2 ∙ x.2) (in_map (λ (q : Port). q.name) qs q.0 q.1)
+    subst (In (map (λ (q : Port). q.name) qs)) (one_net q.0 x.0 q.2 ∙ x.2) (in_map (λ (q : Port). q.name) qs q.0 q.1)
 
 clock_is_named : (qs : List Port) (n : List ℕ) → In (flat_map (λ q. input_clock q.direction q) qs) n → In (map (λ (q : Port). q.name) qs) n
 clock_is_named qs n m =
     let q = in_flat_map_from (λ (q : Port). input_clock q.direction q) qs n m in
-    subst (In (map (λ (q : Port). q.name) qs)) (one_clock q.0.direction q.0.signal q.0 n refl q.2) (in_map (λ (q : Port). q.name) qs q.0 q.1)
+    subst (In (map (λ (q : Port). q.name) qs)) (one_clock q.0.direction q.0 n q.2) (in_map (λ (q : Port). q.name) qs q.0 q.1)
 
 module _ (net : FlatNet) (t : NameTable) (p : Places) (order : List Read) (is : Premises net t p order) where
   abbrev tree_sizes : List SizedNet
@@ -131,6 +149,10 @@ module _ (net : FlatNet) (t : NameTable) (p : Places) (order : List Read) (is : 
           (λ (k : In inner x). in_right (port_names (in_parts net t p order)) inner x k)
           (in_either (names_of (port_nets (in_parts net t p order))) inner x
           (subst (λ (ns : List (List ℕ)). In ns x) (nets_by_part net t p order is) m))
+
+  ports_unranged : AllByRecursion IsUnranged (in_parts net t p order).ports
+  ports_unranged =
+      all_zipped LeafNamed IsUnranged leaf_port (λ l n h. leaf_unranged l n) t.leaves net.leaves (leaves_named net t is.table)
 
   all_narrow : AllByRecursion IsNarrow tree_sizes
   all_narrow =
@@ -254,6 +276,7 @@ module _ (net : FlatNet) (t : NameTable) (p : Places) (order : List Read) (is : 
   parts_valid = record {
     declared_once = all_declared_once;
     declared_before = declared;
+    plain_clocks = all_at IsUnranged (in_parts net t p order).ports ports_unranged;
     narrow = λ n w m. all_at IsNarrow tree_sizes all_narrow (n, w) (subst (λ (ns : List SizedNet). In ns (n, w)) (nets_sized net t p order is) m);
     narrow_words = λ k m. absurd (no_array_in k m);
     few_words = subst (λ (ks : List Variable). sum_by (λ (k : Variable). k.depth) ks ≤ 4194304) (sym (no_arrays net t p order)) (omega arith);

@@ -8,7 +8,7 @@ use crate::held::{Held, Part, Source};
 use fir_base::{MemoryOut, Name};
 use fir_bits::mask;
 use std::alloc::Global;
-use ver_ast::{Atom, AtomForm};
+use ver_ast::{Atom, AtomForm, Constant};
 
 /// A value at a width: extended by its own sign, or its low bits.
 pub fn atom_at(alloc: Global, width: u32, held: Held) -> Result<Atom, MemoryOut>
@@ -286,7 +286,10 @@ pub fn constant(width: u32, number: u128) -> Atom
     ensures { result ≡ tree.constant width number }
 {
     Atom {
-        form: AtomForm::Constant(width, number),
+        form: AtomForm::Constant(Constant {
+            width,
+            number: Some(number),
+        }),
     }
 }
 

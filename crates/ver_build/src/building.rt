@@ -39,6 +39,7 @@ pub fn built_tree(
         name,
         ports: Seq::from_vec(ports),
         items: Seq::from_vec(items),
+        places: Seq::from_vec(Vec::new(alloc)),
     })
 }
 

@@ -16,7 +16,6 @@ use fir_net::{FlatNet, Leaf, Read, Role};
 use fir_net_names::NameTable;
 use std::alloc::Global;
 use ver_ast::{Always, Assign, Atom, Item, Net, Port, Rhs};
-use ver_words::Signal;
 
 /// The ports of the leaves that have a name.
 pub fn ports_of(alloc: Global, net: &FlatNet, table: &NameTable) -> Result<Vec<Port>, MemoryOut>
@@ -39,17 +38,18 @@ fn put_port(
     ensures { OnOk result (ports.new.items ≡ ports.old.items ++ leaf_port leaf.now (option_map (λ n. n.now) name.entry)) }
 {
     if let Some(name) = name {
-        let (direction, signal) = match leaf.role {
-            Role::Input => (Direction::Input, Signal::Bits(leaf.width)),
-            Role::Clock => (Direction::Input, Signal::Clock),
-            Role::Output(_) => (Direction::Output, Signal::Bits(leaf.width)),
+        let (is_clock, direction, width) = match leaf.role {
+            Role::Input => (false, Direction::Input, leaf.width),
+            Role::Clock => (true, Direction::Input, 1),
+            Role::Output(_) => (false, Direction::Output, leaf.width),
             Role::Wire(_) | Role::Register(_) | Role::ClockOutput(_) | Role::ClockWire(_) => {
                 return Ok(());
             }
         };
         ports.push(Port {
+            is_clock,
             direction,
-            signal,
+            width,
             name: name.copy(alloc)?,
         })?;
     }

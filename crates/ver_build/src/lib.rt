@@ -17,4 +17,4 @@ mod places;
 mod right_sides;
 
 pub use building::build;
-pub use laws::names_are_for_rows;
+pub use laws::{built_has_any_places, names_are_for_rows};

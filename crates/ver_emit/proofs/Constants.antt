@@ -9,6 +9,7 @@ use Rattle.fir_base.specs.Bytes.{is_digit, is_word_byte}
 use Rattle.ver_ast.specs.Tokens.{VToken, constant, hexadecimal}
 use Rattle.ver_ast.specs.working.TokenSteps.{in_number, at_digits, in_constant, digit_in, begin, close_and_begin, step, go_on, tokens_from, tokens}
 use Rattle.fir_base.specs.Digits as digits
+use Rattle.ver_emit.proofs.ReadText.{Reads}
 use Rattle.ver_emit.proofs.Words.{Closes, closed_behind}
 use Rattle.ver_emit.proofs.Numbers.{number_read}
 use Rattle.fir_base.proofs.Digits.{hexadecimal_by_steps}
@@ -87,8 +88,12 @@ unfolding tokens_from
 quote_read w rest ts e = rw e refl
 
 -- a constant before what closes it
-pub constant_spelled : (w n : ℕ) (rest : List ℕ) (ts : List VToken) → 1 ≤ w → w ≤ 128 → n < 2 ^ 128 → Closes rest
-    → tokens rest ≡ Some ts → tokens (decimal w ++ (codes "'h" ++ (digits.hexadecimal n ++ rest))) ≡ Some (constant w n ∷ ts)
-constant_spelled w n rest ts low high small c e =
-    let read = hexadecimal_by_steps ReadsAs one_digit more_digits n small w rest _ (close_constant w n rest ts c e) in
-    number_read w _ _ low (omega arith) (quote_read w _ _ read)
+pub constant_spelled : (w n : ℕ) (rest : List ℕ) (gs : List VToken) → 1 ≤ w → w ≤ 128 → n < 2 ^ 128 → Closes rest
+    → Reads rest gs → Reads (decimal w ++ (codes "'h" ++ (digits.hexadecimal n ++ rest))) (constant w n ∷ gs)
+constant_spelled w n rest gs low high small c r =
+    let read = hexadecimal_by_steps ReadsAs one_digit more_digits n small w rest _ (close_constant w n rest r.read c r.is_read) in
+    record {
+      read = constant w n ∷ r.read;
+      is_read = number_read w _ _ low (omega arith) (quote_read w _ _ read);
+      alike = ((omega arith, omega (arith, small)), r.alike);
+    }

@@ -1,9 +1,11 @@
 -- Texts that are written alike in each tree.
 -- Such a text is read by computing, and its tokens stand before those of the rest.
-use Rattle.std.proofs.Common.{◌≡◌, ℕ, List, [], ◌∷◌, ◌++◌, Option, Some, None, refl, sym, ap, ◌∙◌, append_assoc}
+use Rattle.std.proofs.Common.{◌≡◌, ℕ, List, [], ◌∷◌, ◌++◌, Option, Some, None, refl, sym, ap, ◌∙◌, append_assoc, true}
 use Rattle.std.specs.Prelude.{option_map}
+use Rattle.std.specs.List.{list_all}
 use Rattle.ver_ast.specs.Tokens.{VToken}
 use Rattle.ver_ast.specs.working.TokenSteps.{Pending, between, TokenStep, step, go_on, tokens_from, tokens}
+use Rattle.ver_emit.proofs.ReadText.{Reads, is_fixed, alike_behind}
 
 -- the tokens that a text closes, and what is pending behind it
 abbrev run_on : TokenStep → (Pending → TokenStep) → TokenStep
@@ -42,7 +44,12 @@ run_before (b ∷ bs) rest pending =
     (λ next. run_before bs rest next)
 
 -- a text behind which nothing is pending
-pub fixed_spelled : (text rest : List ℕ) (us ts : List VToken) → run between text ≡ Some (us, between) → tokens rest ≡ Some ts
+fixed_read : (text rest : List ℕ) (us ts : List VToken) → run between text ≡ Some (us, between) → tokens rest ≡ Some ts
     → tokens (text ++ rest) ≡ Some (us ++ ts)
-fixed_spelled text rest us ts read e =
+fixed_read text rest us ts read e =
     run_before text rest between ∙ ap (λ s. go_on s (λ next. tokens_from next rest)) read ∙ ap (option_map (λ vs. us ++ vs)) e
+
+pub fixed_spelled : (text rest : List ℕ) (us gs : List VToken) → run between text ≡ Some (us, between) → list_all is_fixed us ≡ true → Reads rest gs
+    → Reads (text ++ rest) (us ++ gs)
+fixed_spelled text rest us gs read fixed r =
+    record { read = us ++ r.read; is_read = fixed_read text rest us r.read read r.is_read; alike = alike_behind us gs r.read fixed r.alike }

@@ -1,4 +1,5 @@
 pub mod Grouping
+pub mod ReadText
 pub mod Fixed
 pub mod Words
 pub mod Numbers
@@ -13,3 +14,4 @@ pub mod Items
 pub mod Spelled
 pub mod Slashes
 pub mod Spaces
+pub mod LayoutRows

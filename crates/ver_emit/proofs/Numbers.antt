@@ -5,9 +5,9 @@ use Rattle.std.specs.Prelude.{decimal, nat_eq}
 use Rattle.std.proofs.lemmas.Fmt.{decimal_by_steps, decimal_digit}
 use Rattle.std.proofs.lemmas.Bool.Decides.{nat_tests}
 use Rattle.fir_base.specs.Bytes.{is_digit, is_word_start}
-use Rattle.ver_ast.specs.Tokens.{VToken, number}
+use Rattle.ver_ast.specs.Tokens.{VToken, digit_zero, number}
 use Rattle.ver_ast.specs.working.TokenSteps.{is_double, in_number, number_token, begin, close_and_begin, step, go_on, tokens_from, tokens}
-use Rattle.ver_ast.specs.Grammar.{plain_number}
+use Rattle.ver_emit.proofs.ReadText.{Reads}
 use Rattle.ver_emit.proofs.Words.{OpensNoMark, closed_behind}
 
 -- the digits are read as this number, whatever stands behind them
@@ -63,19 +63,20 @@ close_number one_zero n b rest ts d q e =
     ap (λ s. go_on s (λ next. tokens_from next rest)) (close_step one_zero n b d q)
     ∙ closed_behind (number_token one_zero n) (begin b) (λ next. tokens_from next rest) ts e
 
--- a number above 0 before such a byte
-pub number_spelled : (n b : ℕ) (rest : List ℕ) (ts : List VToken) → 1 ≤ n → n < 2 ^ 64 → is_digit b ≡ false → nat_eq b 39 ≡ false
-    → tokens (b ∷ rest) ≡ Some ts → tokens (decimal n ++ b ∷ rest) ≡ Some (number n ∷ ts)
-number_spelled n b rest ts low high d q e = number_read n (b ∷ rest) _ low high (close_number false n b rest ts d q e)
-
--- any number before such a byte
-pub plain_spelled : (n b : ℕ) (rest : List ℕ) (ts : List VToken) → n < 2 ^ 64 → is_digit b ≡ false → nat_eq b 39 ≡ false
-    → tokens (b ∷ rest) ≡ Some ts → tokens (decimal n ++ b ∷ rest) ≡ Some (plain_number n ∷ ts)
+-- a number before such a byte; 0 is the one digit
+pub number_spelled : (n b : ℕ) (rest : List ℕ) (gs : List VToken) → n ≤ 4294967294 → is_digit b ≡ false → nat_eq b 39 ≡ false
+    → Reads (b ∷ rest) gs → Reads (decimal n ++ b ∷ rest) (number n ∷ gs)
 unfolding tokens_from
-plain_spelled zero b rest ts high d q e = rw (decimal_digit 0 (omega arith), close_number true 0 b rest ts d q e) refl
-plain_spelled (suc n) b rest ts high d q e =
-    let some : nat_eq (suc n) 0 ≡ false = grind (arith, nat_tests) in
-    rw some (number_spelled (suc n) b rest ts (omega arith) high d q e)
+number_spelled zero b rest gs high d q r = record {
+  read = digit_zero ∷ r.read;
+  is_read = rw (decimal_digit 0 (omega arith), close_number true 0 b rest r.read d q r.is_read) refl;
+  alike = (refl, r.alike);
+}
+number_spelled (suc n) b rest gs high d q r = record {
+  read = number (suc n) ∷ r.read;
+  is_read = number_read (suc n) (b ∷ rest) _ (omega arith) (omega arith) (close_number false (suc n) b rest r.read d q r.is_read);
+  alike = (omega arith, r.alike);
+}
 
 -- a digit makes no mark with an opening parenthesis before it
 digit_opens_no_mark : (n : ℕ) → n < 10 → is_double 40 (48 + n) ≡ false

@@ -1,15 +1,13 @@
 -- In the layout of a tree whose names are names a space stands behind each slash.
 -- A slash stands there as an operator between its operands alone.
 use Rattle.std.proofs.Common.{ℕ, ◌-◌, List, [], ◌∷◌, ◌++◌, if◌then◌else◌, true, false, refl}
-use Rattle.std.specs.Prelude.{codes, decimal, flat_map, nat_eq, Option, Some, None}
+use Rattle.std.specs.Prelude.{Bool, codes, decimal, flat_map, nat_eq, Option, Some, None}
 use Rattle.std.specs.List.{AllByRecursion}
 use Rattle.fir_base.specs.Digits.{hexadecimal}
 use Rattle.fir_base.specs.declared.direction.Direction.{Direction}
 use Rattle.fir_base.specs.declared.direction.Direction.TheVariants.{Input, Output}
 use Rattle.fir_base.proofs.Each.{all_left, all_right}
 use Rattle.ver_words.specs.Names.{IsName}
-use Rattle.ver_words.specs.declared.signal.Signal.{Signal}
-use Rattle.ver_words.specs.declared.signal.Signal.TheVariants.{Bits, Clock}
 use Rattle.ver_ast.specs.declared.tree.Verilog.{Verilog}
 use Rattle.ver_ast.specs.declared.tree.Port.{Port}
 use Rattle.ver_ast.specs.declared.tree.Edge.{Edge}
@@ -22,12 +20,13 @@ use Rattle.ver_ast.specs.declared.tree.UnaryOp.{UnaryOp}
 use Rattle.ver_ast.specs.declared.tree.UnaryOp.TheVariants as unary
 use Rattle.ver_ast.specs.declared.tree.BinaryOp.{BinaryOp}
 use Rattle.ver_ast.specs.declared.tree.BinaryOp.TheVariants as binary
+use Rattle.ver_ast.specs.AtomForms.{constant_number}
 use Rattle.ver_ast.specs.Atoms.{AtomTree, net, constant, bit_select, part_select, concat, repeat, AtomTrees, no_atoms, atom_before}
 use Rattle.ver_ast.specs.Grammar.{direction_keyword, unary_sign, unsigned_op}
 use Rattle.ver_ast.specs.Names.{atom_names, joined_names, rhs_atoms, rhs_names}
 use Rattle.ver_ast.specs.ItemNames.{rhs_arrays, edge_names, write_names}
 use Rattle.ver_ast.specs.Spells.{AreVerilogNames, HasItemNames, HasNames}
-use Rattle.ver_emit.specs.Layout.{range_text, signal_text, port_text, next_port_text, ports_text, atom_text, next_atom_text, between_text, signed_text, rhs_text, edge_text, else_text, write_text, item_text, layout}
+use Rattle.ver_emit.specs.Layout.{range_text, mark_text, port_text, next_port_text, ports_text, atom_text, next_atom_text, between_text, signed_text, rhs_text, edge_text, else_text, write_text, item_text, layout}
 use Rattle.ver_emit.proofs.Slashes.{IsSpaced, spaced, spaced_joined, three_spaced, spaced_parts, name_spaced, decimal_spaced, hexadecimal_spaced}
 
 range_spaced : (width : ℕ) → IsSpaced (range_text width)
@@ -41,15 +40,16 @@ direction_spaced : (d : Direction) → IsSpaced (direction_keyword d)
 direction_spaced Input = spaced _ refl
 direction_spaced Output = spaced _ refl
 
-signal_spaced : (s : Signal) (d : Direction) → IsSpaced (signal_text s d)
-signal_spaced (Bits width) d =
-    three_spaced (direction_keyword d) (codes " ") (range_text width) (direction_spaced d) (spaced _ refl) (range_spaced width)
-signal_spaced Clock d =
-    three_spaced (codes "(* clock *) ") (direction_keyword d) (codes " ") (spaced _ refl) (direction_spaced d) (spaced _ refl)
+mark_spaced : (is_clock : Bool) → IsSpaced (mark_text is_clock)
+mark_spaced true = spaced _ refl
+mark_spaced false = spaced _ refl
 
 port_spaced : (p : Port) → IsName p.name → IsSpaced (port_text p)
 port_spaced p named =
-    three_spaced (codes "\n  ") (signal_text p.signal p.direction) p.name (spaced _ refl) (signal_spaced p.signal p.direction) (name_spaced p.name named)
+    three_spaced (codes "\n  " ++ mark_text p.is_clock ++ direction_keyword p.direction ++ codes " ") (range_text p.width) p.name
+    (three_spaced (codes "\n  " ++ mark_text p.is_clock) (direction_keyword p.direction) (codes " ")
+    (spaced_joined (codes "\n  ") (mark_text p.is_clock) (spaced _ refl) (mark_spaced p.is_clock)) (direction_spaced p.direction) (spaced _ refl))
+    (range_spaced p.width) (name_spaced p.name named)
 
 next_ports_spaced : (ps : List Port) → AllByRecursion (λ p. IsName p.name) ps → AllByRecursion (λ p. IsSpaced (next_port_text p)) ps
 next_ports_spaced [] named = tt
@@ -130,11 +130,12 @@ edge_spaced : (o : Option Edge) → AreVerilogNames (edge_names o) → IsSpaced 
 edge_spaced None named = spaced [] refl
 edge_spaced (Some e) named = three_spaced (codes "posedge ") e.clock (codes " or ") (spaced _ refl) (name_spaced e.clock named.0) (spaced _ refl)
 
-else_spaced : (n : List ℕ) (o : Option Edge) → IsName n → AreVerilogNames (edge_names o) → IsSpaced (else_text n o)
-else_spaced n None target named = spaced [] refl
-else_spaced n (Some e) target named =
-    three_spaced (codes " else " ++ n ++ codes " <= ") (atom_text e.source) (codes ";")
-    (three_spaced (codes " else ") n (codes " <= ") (spaced _ refl) (name_spaced n target) (spaced _ refl)) (atom_spaced e.source named.1) (spaced _ refl)
+else_spaced : (o : Option Edge) → AreVerilogNames (edge_names o) → IsSpaced (else_text o)
+else_spaced None named = spaced [] refl
+else_spaced (Some e) named =
+    three_spaced (codes " else " ++ e.target ++ codes " <= ") (atom_text e.source) (codes ";")
+    (three_spaced (codes " else ") e.target (codes " <= ") (spaced _ refl) (name_spaced e.target named.1.0) (spaced _ refl)) (atom_spaced e.source named.1.1)
+    (spaced _ refl)
 
 write_spaced : (w : Write) → AreVerilogNames (write_names w) → IsSpaced (write_text w)
 write_spaced w named =
@@ -171,18 +172,19 @@ item_spaced (item.Always b) named =
     (name_spaced b.target named.1.1.0) (spaced _ refl)) (atom_spaced b.source named.1.1.1) (spaced _ refl)
 item_spaced (item.Resetting b) named =
     let reset = name_spaced b.reset named.1.0 in
+    let tested = name_spaced b.tested named.1.1.0 in
     let edges = three_spaced (codes "  always @(" ++ edge_text b.edge ++ codes "posedge ") b.reset (codes ") if (")
-    (three_spaced (codes "  always @(") (edge_text b.edge) (codes "posedge ") (spaced _ refl) (edge_spaced b.edge named.1.1.1) (spaced _ refl)) reset (spaced _ refl) in
-    let written = three_spaced (codes "  always @(" ++ edge_text b.edge ++ codes "posedge " ++ b.reset ++ codes ") if (" ++ b.reset ++ codes ") ") b.target (codes " <= ")
-    (three_spaced (codes "  always @(" ++ edge_text b.edge ++ codes "posedge " ++ b.reset ++ codes ") if (") b.reset (codes ") ") edges reset (spaced _ refl))
-    (name_spaced b.target named.1.1.0) (spaced _ refl) in
-    let value = three_spaced (decimal b.width) (codes "'h") (hexadecimal b.value) (decimal_spaced b.width) (spaced _ refl) (hexadecimal_spaced b.value) in
+    (three_spaced (codes "  always @(") (edge_text b.edge) (codes "posedge ") (spaced _ refl) (edge_spaced b.edge named.1.1.1.1) (spaced _ refl)) reset (spaced _ refl) in
+    let written = three_spaced (codes "  always @(" ++ edge_text b.edge ++ codes "posedge " ++ b.reset ++ codes ") if (" ++ b.tested ++ codes ") ") b.target (codes " <= ")
+    (three_spaced (codes "  always @(" ++ edge_text b.edge ++ codes "posedge " ++ b.reset ++ codes ") if (") b.tested (codes ") ") edges tested (spaced _ refl))
+    (name_spaced b.target named.1.1.1.0) (spaced _ refl) in
+    let value = atom_spaced (constant b.value.width (constant_number b.value)) tt in
     three_spaced
-    (codes "  always @(" ++ edge_text b.edge ++ codes "posedge " ++ b.reset ++ codes ") if (" ++ b.reset ++ codes ") " ++ b.target ++ codes " <= "
-    ++ atom_text (constant b.width b.value) ++ codes ";") (else_text b.target b.edge) (codes "\n")
+    (codes "  always @(" ++ edge_text b.edge ++ codes "posedge " ++ b.reset ++ codes ") if (" ++ b.tested ++ codes ") " ++ b.target ++ codes " <= "
+    ++ atom_text (constant b.value.width (constant_number b.value)) ++ codes ";") (else_text b.edge) (codes "\n")
     (three_spaced
-    (codes "  always @(" ++ edge_text b.edge ++ codes "posedge " ++ b.reset ++ codes ") if (" ++ b.reset ++ codes ") " ++ b.target ++ codes " <= ")
-    (atom_text (constant b.width b.value)) (codes ";") written value (spaced _ refl)) (else_spaced b.target b.edge named.1.1.0 named.1.1.1) (spaced _ refl)
+    (codes "  always @(" ++ edge_text b.edge ++ codes "posedge " ++ b.reset ++ codes ") if (" ++ b.tested ++ codes ") " ++ b.target ++ codes " <= ")
+    (atom_text (constant b.value.width (constant_number b.value))) (codes ";") written value (spaced _ refl)) (else_spaced b.edge named.1.1.1.1) (spaced _ refl)
 item_spaced (item.Writing b) named =
     three_spaced (codes "  always @(posedge " ++ b.clock ++ codes ") begin") (flat_map write_text b.writes) (codes " end\n")
     (three_spaced (codes "  always @(posedge ") b.clock (codes ") begin") (spaced _ refl) (name_spaced b.clock named.1.0) (spaced _ refl))

@@ -9,6 +9,7 @@ use Rattle.ver_words.specs.Names.{is_word}
 use Rattle.fir_base.specs.Bytes.{is_word_start, is_word_byte}
 use Rattle.ver_ast.specs.Tokens.{VToken, word, sign}
 use Rattle.ver_ast.specs.working.TokenSteps.{Pending, in_word, in_sign, TokenStep, is_double, go_on, begin, tokens_from, tokens}
+use Rattle.ver_emit.proofs.ReadText.{Reads}
 
 -- a text whose first byte goes on with no word and with no constant
 abbrev pub Closes : List ℕ → Type 0
@@ -47,15 +48,18 @@ close_word w (b ∷ bs) ts c e =
     rw p.0 (closed_behind (word w) (begin b) (λ next. tokens_from next bs) ts e)
 
 -- a word before a text that closes it
-pub word_spelled : (w rest : List ℕ) (ts : List VToken) → IsTrue (is_word w) → Closes rest → tokens rest ≡ Some ts
+word_read : (w rest : List ℕ) (ts : List VToken) → IsTrue (is_word w) → Closes rest → tokens rest ≡ Some ts
     → tokens (w ++ rest) ≡ Some (word w ∷ ts)
 unfolding tokens_from
-word_spelled [] rest ts h c e = absurd cc
-word_spelled (b ∷ bs) rest ts h c e =
+word_read [] rest ts h c e = absurd cc
+word_read (b ∷ bs) rest ts h c e =
     let p = and_parts (is_word_start b) (list_all is_word_byte bs) h in
     let close = close_word (b ∷ bs) rest ts c e in
     let run : tokens_from (in_word (b ∷ [])) (bs ++ rest) ≡ Some (word (b ∷ bs) ∷ ts) = word_run bs (b ∷ []) rest _ p.1 close in
     rw (p.0, run) refl
+
+pub word_spelled : (w rest : List ℕ) (gs : List VToken) → IsTrue (is_word w) → Closes rest → Reads rest gs → Reads (w ++ rest) (word w ∷ gs)
+word_spelled w rest gs h c r = record { read = word w ∷ r.read; is_read = word_read w rest r.read h c r.is_read; alike = (refl, r.alike) }
 
 -- a text whose first byte makes no mark with an opening parenthesis before it
 abbrev pub OpensNoMark : List ℕ → Type 0
@@ -76,6 +80,9 @@ close_parenthesis [] ts o e = absurd o
 close_parenthesis (b ∷ bs) ts o e = rw o (closed_behind (sign 40) (begin b) (λ next. tokens_from next bs) ts e)
 
 -- an opening parenthesis before a text that makes no mark with it
-pub parenthesis_spelled : (rest : List ℕ) (ts : List VToken) → OpensNoMark rest → tokens rest ≡ Some ts → tokens (40 ∷ rest) ≡ Some (sign 40 ∷ ts)
+parenthesis_read : (rest : List ℕ) (ts : List VToken) → OpensNoMark rest → tokens rest ≡ Some ts → tokens (40 ∷ rest) ≡ Some (sign 40 ∷ ts)
 unfolding tokens_from
-parenthesis_spelled rest ts o e = rw (close_parenthesis rest ts o e) refl
+parenthesis_read rest ts o e = rw (close_parenthesis rest ts o e) refl
+
+pub parenthesis_spelled : (rest : List ℕ) (gs : List VToken) → OpensNoMark rest → Reads rest gs → Reads (40 ∷ rest) (sign 40 ∷ gs)
+parenthesis_spelled rest gs o r = record { read = sign 40 ∷ r.read; is_read = parenthesis_read rest r.read o r.is_read; alike = (refl, r.alike) }

@@ -1,13 +1,10 @@
 -- The layout of the emitted text, as a function of the tree.
 -- A port a line with two spaces, then an item a line with two spaces; single spaces between words and behind each comma of a concatenation, none
 -- inside a range, a select or a constant, before or behind a brace, or before a semicolon; a block of writes stands on one line.
-use Rattle.std.specs.Prelude.{ℕ, ◌-◌, List, [], ◌∷◌, ◌++◌, flat_map, codes, decimal, nat_eq, if◌then◌else◌, Option, Some, None}
+use Rattle.std.specs.Prelude.{ℕ, ◌-◌, Bool, List, [], ◌∷◌, ◌++◌, flat_map, codes, decimal, nat_eq, if◌then◌else◌, Option, Some, None}
 use Rattle.ver_ast.specs.declared.tree.Verilog.{Verilog}
 use Rattle.fir_base.specs.Digits.{hexadecimal}
-use Rattle.fir_base.specs.declared.direction.Direction.{Direction}
 use Rattle.ver_ast.specs.declared.tree.Port.{Port}
-use Rattle.ver_words.specs.declared.signal.Signal.{Signal}
-use Rattle.ver_words.specs.declared.signal.Signal.TheVariants.{Bits, Clock}
 use Rattle.ver_ast.specs.declared.tree.Edge.{Edge}
 use Rattle.ver_ast.specs.declared.tree.Write.{Write}
 use Rattle.ver_ast.specs.declared.tree.Item.{Item}
@@ -16,6 +13,7 @@ use Rattle.ver_ast.specs.declared.tree.Rhs.{Rhs}
 use Rattle.ver_ast.specs.declared.tree.Rhs.TheVariants as rhs
 use Rattle.ver_ast.specs.declared.tree.BinaryOp.{BinaryOp}
 use Rattle.ver_ast.specs.declared.tree.BinaryOp.TheVariants as binary
+use Rattle.ver_ast.specs.AtomForms.{constant_number}
 use Rattle.ver_ast.specs.Atoms.{AtomTree, net, constant, bit_select, part_select, concat, repeat, AtomTrees, no_atoms, atom_before}
 use Rattle.ver_ast.specs.Grammar.{direction_keyword, unary_sign, unsigned_op}
 
@@ -23,13 +21,12 @@ use Rattle.ver_ast.specs.Grammar.{direction_keyword, unary_sign, unsigned_op}
 abbrev pub range_text : ℕ → List ℕ
 range_text width = if nat_eq width 1 then [] else codes "[" ++ decimal (width - 1) ++ codes ":0] "
 
--- a clock is marked, and has no range
-abbrev pub signal_text : Signal → Direction → List ℕ
-signal_text (Bits width) d = direction_keyword d ++ codes " " ++ range_text width
-signal_text Clock d = codes "(* clock *) " ++ direction_keyword d ++ codes " "
+-- a clock is marked
+abbrev pub mark_text : Bool → List ℕ
+mark_text is_clock = if is_clock then codes "(* clock *) " else []
 
 abbrev pub port_text : Port → List ℕ
-port_text p = codes "\n  " ++ signal_text p.signal p.direction ++ p.name
+port_text p = codes "\n  " ++ mark_text p.is_clock ++ direction_keyword p.direction ++ codes " " ++ range_text p.width ++ p.name
 
 -- a port behind another
 abbrev pub next_port_text : Port → List ℕ
@@ -93,9 +90,9 @@ edge_text None = []
 edge_text (Some e) = codes "posedge " ++ e.clock ++ codes " or "
 
 -- what is written where the reset is not 1
-abbrev pub else_text : List ℕ → Option Edge → List ℕ
-else_text target None = []
-else_text target (Some e) = codes " else " ++ target ++ codes " <= " ++ atom_text e.source ++ codes ";"
+abbrev pub else_text : Option Edge → List ℕ
+else_text None = []
+else_text (Some e) = codes " else " ++ e.target ++ codes " <= " ++ atom_text e.source ++ codes ";"
 
 abbrev pub write_text : Write → List ℕ
 write_text w = codes " if (" ++ atom_text w.condition ++ codes ") " ++ w.array ++ codes "[" ++ atom_text w.index ++ codes "] <= " ++ atom_text w.source ++ codes ";"
@@ -107,8 +104,8 @@ item_text (item.Assign a) = codes "  assign " ++ a.target ++ codes " = " ++ rhs_
 item_text (item.Always b) = codes "  always @(posedge " ++ b.clock ++ codes ") " ++ b.target ++ codes " <= " ++ atom_text b.source ++ codes ";\n"
 item_text (item.Array a) = codes "  reg " ++ range_text a.width ++ a.name ++ codes " [0:" ++ decimal a.last ++ codes "];\n"
 item_text (item.Resetting b) =
-    codes "  always @(" ++ edge_text b.edge ++ codes "posedge " ++ b.reset ++ codes ") if (" ++ b.reset ++ codes ") " ++ b.target ++ codes " <= "
-    ++ atom_text (constant b.width b.value) ++ codes ";" ++ else_text b.target b.edge ++ codes "\n"
+    codes "  always @(" ++ edge_text b.edge ++ codes "posedge " ++ b.reset ++ codes ") if (" ++ b.tested ++ codes ") " ++ b.target ++ codes " <= "
+    ++ atom_text (constant b.value.width (constant_number b.value)) ++ codes ";" ++ else_text b.edge ++ codes "\n"
 item_text (item.Writing b) = codes "  always @(posedge " ++ b.clock ++ codes ") begin" ++ flat_map write_text b.writes ++ codes " end\n"
 
 unfoldable pub layout : Verilog → List ℕ

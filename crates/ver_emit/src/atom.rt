@@ -1,11 +1,14 @@
 //! Operands.
 
 ghost use Rattle.std.specs.Prelude.{◌≡◌, ◌++◌, OnOk};
-ghost use Rattle.ver_ast.specs.Atoms.{atoms_of, bit_select, constant, part_select};
+ghost use Rattle.fir_base.specs.Digits.{hexadecimal};
+ghost use Rattle.ver_ast.specs.AtomForms.{constant_number, number_of};
+ghost use Rattle.ver_ast.specs.Atoms as tree;
+ghost use Rattle.ver_ast.specs.Atoms.{atoms_of, bit_select, part_select};
 ghost use Rattle.ver_emit.specs.Layout.{atom_text, next_atom_text};
 
 use fir_base::{MemoryOut, Name, put_decimal, put_hexadecimal};
-use ver_ast::{Atom, AtomForm};
+use ver_ast::{Atom, AtomForm, Constant};
 
 /// Appends an operand.
 #[cycle(atoms)]
@@ -17,7 +20,7 @@ pub fn put_atom(out: &mut Vec<u8>, atom: &Atom) -> Result<(), MemoryOut>
             out.extend_from_slice(name.as_bytes())?;
             Ok(())
         }
-        AtomForm::Constant(width, value) => put_constant(out, *width, *value),
+        AtomForm::Constant(constant) => put_constant(out, *constant),
         AtomForm::BitSelect(name, index) => put_bit_select(out, name, *index),
         AtomForm::PartSelect(name, high, low) => put_part_select(out, name, *high, *low),
         AtomForm::Concat(first, rest) => {
@@ -50,13 +53,27 @@ fn put_next_atoms(out: &mut Vec<u8>, atoms: &[Atom]) -> Result<(), MemoryOut>
     Ok(())
 }
 
-/// Appends a constant: its width in bits, and its number.
-pub fn put_constant(out: &mut Vec<u8>, width: u32, value: u128) -> Result<(), MemoryOut>
-    ensures { OnOk result (out.new.items ≡ out.old.items ++ atom_text (constant width value)) }
+/// Appends a constant.
+pub fn put_constant(out: &mut Vec<u8>, constant: Constant) -> Result<(), MemoryOut>
+    ensures { OnOk result (out.new.items ≡ out.old.items ++ atom_text (tree.constant constant.width (constant_number constant))) }
 {
-    put_decimal(out, u128::from(width))?;
+    put_decimal(out, u128::from(constant.width))?;
     out.extend_from_slice(b"'h")?;
-    put_hexadecimal(out, value)
+    put_number(out, constant.number)
+}
+
+/// Appends the number of a constant.
+fn put_number(out: &mut Vec<u8>, number: Option<u128>) -> Result<(), MemoryOut>
+    ensures { OnOk result (out.new.items ≡ out.old.items ++ hexadecimal (number_of number)) }
+{
+    match number {
+        Some(number) => put_hexadecimal(out, number),
+        // No valid tree has it: 2 ^ 128.
+        None => {
+            out.extend_from_slice(b"100000000000000000000000000000000")?;
+            Ok(())
+        }
+    }
 }
 
 fn put_bit_select(out: &mut Vec<u8>, name: &Name, index: u32) -> Result<(), MemoryOut>

@@ -1,6 +1,7 @@
 //! Always blocks.
 
 ghost use Rattle.std.specs.Prelude.{◌≡◌, ◌++◌, OnOk, codes, flat_map};
+ghost use Rattle.ver_ast.specs.AtomForms.{constant_number};
 ghost use Rattle.ver_ast.specs.Atoms.{constant};
 ghost use Rattle.ver_ast.specs.declared.tree.Item.TheVariants as item;
 ghost use Rattle.ver_emit.specs.Layout.{atom_text, edge_text, else_text, item_text, write_text};
@@ -27,7 +28,7 @@ pub fn put_resetting(out: &mut Vec<u8>, block: &Resetting) -> Result<(), MemoryO
 {
     put_edges(out, &block.edge, &block.reset)?;
     put_reset_write(out, block)?;
-    put_else(out, &block.target, &block.edge)?;
+    put_else(out, &block.edge)?;
     out.extend_from_slice(b"\n")?;
     Ok(())
 }
@@ -59,28 +60,28 @@ fn put_edge(out: &mut Vec<u8>, edge: &Option<Edge>) -> Result<(), MemoryOut>
     }
 }
 
-/// The reset as condition, and what the block writes while it is 1.
+/// The condition, and what the block writes while it is 1.
 fn put_reset_write(out: &mut Vec<u8>, block: &Resetting) -> Result<(), MemoryOut>
-    ensures { OnOk result (out.new.items ≡ out.old.items ++ (block.now.reset ++ codes ") " ++ block.now.target ++ codes " <= " ++ atom_text (constant block.now.width block.now.value) ++ codes ";")) }
+    ensures { OnOk result (out.new.items ≡ out.old.items ++ (block.now.tested ++ codes ") " ++ block.now.target ++ codes " <= " ++ atom_text (constant block.now.value.width (constant_number block.now.value)) ++ codes ";")) }
 {
-    out.extend_from_slice(block.reset.as_bytes())?;
+    out.extend_from_slice(block.tested.as_bytes())?;
     out.extend_from_slice(b") ")?;
     out.extend_from_slice(block.target.as_bytes())?;
     out.extend_from_slice(b" <= ")?;
-    put_constant(out, block.width, block.value)?;
+    put_constant(out, block.value)?;
     out.extend_from_slice(b";")?;
     Ok(())
 }
 
 /// What it writes at an edge of its clock otherwise.
-fn put_else(out: &mut Vec<u8>, target: &Name, edge: &Option<Edge>) -> Result<(), MemoryOut>
-    ensures { OnOk result (out.new.items ≡ out.old.items ++ else_text target.now edge.now) }
+fn put_else(out: &mut Vec<u8>, edge: &Option<Edge>) -> Result<(), MemoryOut>
+    ensures { OnOk result (out.new.items ≡ out.old.items ++ else_text edge.now) }
 {
     match edge {
         None => Ok(()),
         Some(edge) => {
             out.extend_from_slice(b" else ")?;
-            put_write_to(out, target, &edge.source)
+            put_write_to(out, &edge.target, &edge.source)
         }
     }
 }

@@ -2,14 +2,13 @@
 
 ghost use Rattle.std.specs.Prelude.{◌≡◌, ◌++◌, IfOk, OnOk, codes, flat_map};
 ghost use Rattle.ver_ast.specs.Grammar.{direction_keyword};
-ghost use Rattle.ver_emit.specs.Layout.{layout, next_port_text, port_text, ports_text, signal_text};
+ghost use Rattle.ver_emit.specs.Layout.{layout, mark_text, next_port_text, port_text, ports_text};
 
 use crate::item::put_items;
 use crate::range::put_range;
 use fir_base::{Direction, MemoryOut};
 use std::alloc::Global;
 use ver_ast::{Port, Verilog};
-use ver_words::Signal;
 
 /// The text of a module, without a comment (IEEE 1364-2005, 12.1). Only memory can be wanting.
 #[tactic(auto, unfolding(crate::specs::Layout::layout))]
@@ -55,35 +54,21 @@ fn put_port(out: &mut Vec<u8>, port: &Port) -> Result<(), MemoryOut>
     ensures { OnOk result (out.new.items ≡ out.old.items ++ port_text port.now) }
 {
     out.extend_from_slice(b"\n  ")?;
-    put_signal(out, port.signal, port.direction)?;
+    put_mark(out, port.is_clock)?;
+    out.extend_from_slice(word_of(port.direction))?;
+    out.extend_from_slice(b" ")?;
+    put_range(out, port.width)?;
     out.extend_from_slice(port.name.as_bytes())?;
     Ok(())
 }
 
-/// What stands before a port's name. A clock is marked by an attribute (IEEE 1364-2005, 3.8).
-fn put_signal(out: &mut Vec<u8>, signal: Signal, direction: Direction) -> Result<(), MemoryOut>
-    ensures { OnOk result (out.new.items ≡ out.old.items ++ signal_text signal direction) }
+/// The attribute by which a clock is marked (IEEE 1364-2005, 3.8).
+fn put_mark(out: &mut Vec<u8>, is_clock: bool) -> Result<(), MemoryOut>
+    ensures { OnOk result (out.new.items ≡ out.old.items ++ mark_text is_clock) }
 {
-    match signal {
-        Signal::Bits(width) => put_bits(out, width, direction),
-        Signal::Clock => put_clock(out, direction),
+    if is_clock {
+        out.extend_from_slice(b"(* clock *) ")?;
     }
-}
-
-fn put_bits(out: &mut Vec<u8>, width: u32, direction: Direction) -> Result<(), MemoryOut>
-    ensures { OnOk result (out.new.items ≡ out.old.items ++ signal_text (Signal.Bits width) direction) }
-{
-    out.extend_from_slice(word_of(direction))?;
-    out.extend_from_slice(b" ")?;
-    put_range(out, width)
-}
-
-fn put_clock(out: &mut Vec<u8>, direction: Direction) -> Result<(), MemoryOut>
-    ensures { OnOk result (out.new.items ≡ out.old.items ++ signal_text Signal.Clock direction) }
-{
-    out.extend_from_slice(b"(* clock *) ")?;
-    out.extend_from_slice(word_of(direction))?;
-    out.extend_from_slice(b" ")?;
     Ok(())
 }
 

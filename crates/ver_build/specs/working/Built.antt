@@ -1,7 +1,7 @@
 -- The Verilog tree of a net, as a function of the net, its names, where its values are, and an order.
 -- The registers come first, then the wires of the inner nets and their assigns, both in the order, the assigns of the outputs in port order, and the blocks of the
 -- registers that something drives on a clock.
-use Rattle.std.specs.Prelude.{ℕ, ◌+◌, List, [], ◌∷◌, ◌++◌, map, flat_map, slice_get, slice_index, Option, Some, None, unwrap_or}
+use Rattle.std.specs.Prelude.{ℕ, ◌+◌, true, false, List, [], ◌∷◌, ◌++◌, map, flat_map, slice_get, slice_index, Option, Some, None, unwrap_or}
 use Rattle.fir_base.specs.declared.direction.Direction.TheVariants as direction
 use Rattle.fir_net.specs.declared.reads.Read.{Read}
 use Rattle.fir_net.specs.declared.reads.Read.TheVariants as read
@@ -14,7 +14,6 @@ use Rattle.fir_net.specs.declared.net.FlatNet.{FlatNet}
 use Rattle.fir_net_names.specs.declared.name_table.NameTable.{NameTable}
 use Rattle.ver_ast.specs.declared.tree.Verilog.{Verilog}
 use Rattle.ver_ast.specs.declared.tree.Port.{Port}
-use Rattle.ver_words.specs.declared.signal.Signal.TheVariants.{Bits, Clock}
 use Rattle.ver_ast.specs.declared.tree.Net.{Net}
 use Rattle.ver_ast.specs.declared.tree.Assign.{Assign}
 use Rattle.ver_ast.specs.declared.tree.Always.{Always}
@@ -56,9 +55,9 @@ abbrev pub inners : FlatNet → Places → List Read → List Inner
 inners net p order = flat_map (read_inners net p) order
 
 abbrev pub port_of : Role → ℕ → List ℕ → List Port
-port_of role.Input width name = record { direction = direction.Input; signal = Bits width; name = name } ∷ []
-port_of role.Clock width name = record { direction = direction.Input; signal = Clock; name = name } ∷ []
-port_of (role.Output r) width name = record { direction = direction.Output; signal = Bits width; name = name } ∷ []
+port_of role.Input width name = record { is_clock = false; direction = direction.Input; width = width; name = name } ∷ []
+port_of role.Clock width name = record { is_clock = true; direction = direction.Input; width = 1; name = name } ∷ []
+port_of (role.Output r) width name = record { is_clock = false; direction = direction.Output; width = width; name = name } ∷ []
 port_of _ width name = []
 
 abbrev pub leaf_port : Leaf → Option (List ℕ) → List Port
@@ -120,4 +119,5 @@ built net t p order =
           items (along leaf_reg t.leaves 0 net.leaves) (map inner_wire (inners net p order))
           (map inner_assign (inners net p order) ++ along (leaf_assign p) t.leaves 0 net.leaves)
           (along (leaf_block t p) t.leaves 0 net.leaves);
+      places = [];
     }

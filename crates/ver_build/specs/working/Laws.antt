@@ -1,5 +1,5 @@
 -- Laws about the definitions.
-use Rattle.std.specs.Prelude.{[], ◌++◌}
+use Rattle.std.specs.Prelude.{List, [], ◌++◌}
 use Rattle.fir_net.specs.declared.net.FlatNet.{FlatNet}
 use Rattle.fir_net_names.specs.declared.name_table.NameTable.{NameTable}
 use Rattle.fir_net.specs.working.IsNet.{IsNet}
@@ -8,8 +8,16 @@ use Rattle.fir_net_names.specs.working.LeafNamed.{somes}
 use Rattle.fir_net_names.specs.Names.{AreNamed}
 use Rattle.fir_net.specs.working.Rows.{net_rows, net_words}
 use Rattle.fir_net.specs.Rows.{row_names, word_names}
+use Rattle.ver_ast.specs.declared.place.VPlace.{VPlace}
+use Rattle.ver_ast.specs.declared.tree.Verilog.{Verilog}
+use Rattle.ver_ast.specs.working.Laws.{with_places}
+use Rattle.ver_build.specs.working.Builds.{Builds}
 
 -- in the table of a whole net the names of leaves are those for its ports and then for the words of its state
 abbrev pub NamesAreForRows : Type 0
 NamesAreForRows =
     (net : FlatNet) (t : NameTable) → IsNet net → IsTable net t → AreNamed [] (row_names (net_rows net) ++ word_names (net_words net)) (somes t.leaves)
+
+-- a tree that is built for a net is built for it with other places too
+abbrev pub BuiltHasAnyPlaces : Type 0
+BuiltHasAnyPlaces = (net : FlatNet) (v : Verilog) (places : List VPlace) → Builds net v → Builds net (with_places v places)

@@ -1,3 +1,4 @@
+use Rattle.ver_ast.specs.working.Laws.{with_places}
 use Rattle.fir_compile.proofs.Compiles.{compiles}
 use Rattle.fir_compile.proofs.Emitted.{emits}
 use Rattle.fir_compile.proofs.passes.verilog_of.Goals as goal
@@ -10,6 +11,9 @@ build-requires-clause-words c =
 pub returns : goal.returns
 returns c =
     let h = c.in_ok-compiled.ensures.compiled in
-    emits c.spells_one_tree.ensures c.spells_one_tree-2.ensures c.layout_is_spelled.ensures c.layout_has_no_comment.ensures c.args.bytes.now _ h.circuit c.in_ok-verilog.verilog h.taken
-    (compiles c.nodes_have_their_types.ensures h.circuit c.in_ok-compiled.compiled.net h.flattened h.one c.in_ok-verilog.verilog c.in_ok-verilog.ensures)
-    c.in_ok-write_verilog.ensures
+    let net = c.in_ok-compiled.compiled.net in
+    let verilog = c.in_ok-verilog.verilog in
+    let built = c.in_ok-verilog.ensures in
+    emits c.spells_one_tree.ensures c.spells_one_tree-2.ensures c.layout_is_spelled.ensures c.layout_has_no_comment.ensures c.args.bytes.now _ h.circuit verilog h.taken
+    (λ places. compiles c.nodes_have_their_types.ensures h.circuit net h.flattened h.one (with_places verilog places) (c.built_has_any_places.ensures net verilog places built))
+    built.valid built.named.spelled c.in_ok-write_verilog.ensures

@@ -1,9 +1,0 @@
-use Rattle.std.proofs.Common.{refl}
-use Rattle.fir_commands.proofs.EmitEnded.{refused_told, memory_said}
-use Rattle.fir_commands.proofs.emit.emit_text.Goals as goal
-
-pub returns-in-Err-Fault : goal.returns-in-Err-Fault
-returns-in-Err-Fault g c = refused_told _ _ _ _ _ _ (_, rw c.in-Err-Fault.field-0-is at c.in-Err-Fault.ensures, refl) c.say_fault.ensures
-
-pub returns-in-Err-Memory : goal.returns-in-Err-Memory
-returns-in-Err-Memory g c = memory_said _ _ _ _ _ c.say.ensures

@@ -1,0 +1,18 @@
+use Rattle.std.proofs.Common.{ℕ, sym, ◌∙◌}
+use Rattle.std.proofs.lemmas.Result.{err_from_is_err_and}
+use Rattle.fir_base.specs.Lists.{In}
+use Rattle.ver_ast.specs.Nets.{regs}
+use Rattle.ver_valid.proofs.Judging.{denied}
+use Rattle.ver_valid.proofs.Told.{register_size, no_register, not_a_register}
+use Rattle.ver_valid.proofs.scope.Scope.register.Goals as goal
+
+pub returns-in_err-find : goal.returns-in_err-find
+returns-in_err-find c =
+    λ v t. let p = err_from_is_err_and c.from_residual.result c.from_residual.ensures.1 in rw (p.1, p.2)
+    (denied _ ((u : ℕ) × In (regs v) (c.args.name.now, u)) (not_a_register c.args.self.now c.args.name.now v t c.in_err-find.ensures))
+
+pub returns-in-Some : goal.returns-in-Some
+returns-in-Some c = λ v t. register_size c.args.self.now c.args.name.now v t _ _ c.in_ok-find.ensures (sym c.register_width.ensures ∙ c.in-Some.is)
+
+pub returns-in-None : goal.returns-in-None
+returns-in-None c = λ v t. no_register c.args.self.now c.args.name.now v t _ c.in_ok-find.ensures (sym c.register_width.ensures ∙ c.in-None.is)

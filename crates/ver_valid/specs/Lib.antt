@@ -1,0 +1,2 @@
+pub mod working
+pub use Rattle.ver_ast.specs.Valid
