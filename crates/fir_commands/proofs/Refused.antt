@@ -8,10 +8,9 @@ use Rattle.fir_meaning.specs.Lack.{Lack}
 use Rattle.fir_meaning.specs.ModuleScenes.{Scene}
 use Rattle.fir_meaning.specs.SourceMeaning.{circuit_meaning}
 use Rattle.fir_lack.specs.Lacking.{lacking}
-use Rattle.fir_outcome.specs.CircuitFaults.{IsFirstUpTo, LacksFirst, LacksNone}
+use Rattle.fir_outcome.specs.CircuitFaults.{IsFirstUpTo, LacksFirst, LacksNone, ShowsNone}
 use Rattle.fir_outcome.specs.Emits.{Takes}
 use Rattle.fir_outcome.specs.Refusals.{RefusedFor, Refuses}
-use Rattle.fir_compile.proofs.ClearGroups.{none_first}
 use Rattle.fir_commands.proofs.OneScene.{one_scene}
 
 -- a circuit lacks a form or none
@@ -19,6 +18,10 @@ one_lack : (c : CircuitTree) (l : Lack) → LacksFirst c l → LacksNone c → �
 one_lack c l (s, p, first) (t, q, none) =
     let e : Some l ≡ None = sym first ∙ ap (λ (x : Scene). lacking c x) (one_scene c 0 s t p q) ∙ none in
     cc
+
+-- a circuit without faults has no first one
+none_first : (c : CircuitTree) (from upto : ℕ) (f : Fault) → ShowsNone c → IsFirst from upto (circuit_meaning c) f → ⊥
+none_first c from upto f clear first = clear _ f first.stands
 
 module _ (one : SpellsOneTree) (tree_or_fault : HasTreeOrFault) (bytes : List ℕ) (c : CircuitTree) (taken : Takes bytes c) where
   -- a text that is taken has no fault
