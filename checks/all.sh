@@ -66,6 +66,7 @@ else
   skipped=" (python3 is not installed)"
   echo "checks: python3 is not installed; of the checks all but interop are skipped"
 fi
+part forms checks/verilog_forms.sh
 part interop checks/interop.sh
 count interop 'interop: \([0-9]*\) examples passed'
 
