@@ -14,7 +14,7 @@ use Rattle.ver_ast.proofs.Chosen.{chosen, choose, among, is_named}
 use Rattle.ver_ast.proofs.Parts.{named_left, named_right, named_either}
 use Rattle.ver_valid.specs.declared.drivers.Drivers.{Drivers}
 use Rattle.ver_valid.specs.working.Numbered.{number_in}
-use Rattle.ver_valid.specs.working.Driven.{driver_in, AreDrivers}
+use Rattle.ver_valid.specs.working.Drivers.{driver_in, AreDrivers}
 use Rattle.ver_valid.proofs.Numbering.{has_among}
 
 assign_targets_are : (all : List Assign) → map target (map assigning all) ≡ targets all

@@ -9,8 +9,8 @@ use Rattle.fir_base.specs.Lists.{In}
 use Rattle.fir_base.proofs.Members.{in_left, in_right, in_either}
 use Rattle.fir_base.proofs.Twins.{distinct_more}
 use Rattle.fir_base.proofs.SameNames.{name_is, name_same}
-use Rattle.ver_valid.specs.declared.driver.Driven.{Driven}
-use Rattle.ver_valid.specs.working.Drivers.{has, Drives}
+use Rattle.ver_valid.specs.declared.driven.Driven.{Driven}
+use Rattle.ver_valid.specs.working.Driven.{has, Drives}
 
 abbrev same_key : Vec ℕ Global → Vec ℕ Global → Bool
 same_key a b = bytes_eq a.items b.items

@@ -12,7 +12,7 @@ use Rattle.fir_graph.proofs.Positions.{distinct_from, distinct_at}
 use Rattle.ver_ast.specs.declared.tree.Verilog.{Verilog}
 use Rattle.ver_ast.specs.Processes.{Process, target, processes, process_targets, process_reads}
 use Rattle.ver_ast.specs.Valid.{IsOrder, ReadsBefore}
-use Rattle.ver_valid.specs.working.Driven.{targets_of}
+use Rattle.ver_valid.specs.working.Drivers.{targets_of}
 use Rattle.ver_valid.proofs.DrivenNets.{source_names}
 use Rattle.ver_valid.proofs.ProcessReads.{get_mapped, from_map, Edges, has_place}
 

@@ -14,7 +14,7 @@ use Rattle.ver_ast.specs.Names.{rhs_names}
 use Rattle.ver_ast.specs.Nets.{assigns, resets}
 use Rattle.ver_ast.specs.Processes.{Process, assigning, showing, target, processes, process_targets, process_reads}
 use Rattle.ver_valid.specs.declared.drivers.Drivers.{Drivers}
-use Rattle.ver_valid.specs.working.Driven.{driver_in, drivers_of, IsProcessGraph, targets_of}
+use Rattle.ver_valid.specs.working.Drivers.{driver_in, drivers_of, IsProcessGraph, targets_of}
 use Rattle.ver_valid.proofs.DrivenNets.{source_names, driven, undriven}
 
 pub get_mapped : {A B : Type 0} (f : A → B) (xs : List A) (k : ℕ) (x : A) → slice_get xs k ≡ Some x → slice_get (map f xs) k ≡ Some (f x)

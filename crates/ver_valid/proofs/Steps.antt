@@ -15,13 +15,13 @@ use Rattle.ver_ast.specs.declared.tree.Item.{Item}
 use Rattle.ver_ast.specs.Nets.{AlwaysBlock, Variable, item_block, item_array, block_target, block_targets, blocks, first_array, arrays}
 use Rattle.ver_ast.specs.declared.tree.Write.{Write}
 use Rattle.ver_ast.specs.Valid.{IsSoundBlock}
-use Rattle.ver_valid.specs.declared.driver.Driven.{Driven}
+use Rattle.ver_valid.specs.declared.driven.Driven.{Driven}
 use Rattle.ver_valid.specs.declared.misfit.Misfit.{Misfit}
 use Rattle.ver_valid.specs.declared.walk.Walk.{Walk}
 use Rattle.ver_valid.specs.working.Judgement.{Denies, Judges}
 use Rattle.ver_valid.specs.working.Declarations.{Entry, entries, port_entry, item_entries}
 use Rattle.ver_valid.specs.working.Scopes.{TellsOf}
-use Rattle.ver_valid.specs.working.Drivers.{Drives}
+use Rattle.ver_valid.specs.working.Driven.{Drives}
 use Rattle.ver_valid.specs.working.Walks.{AreNextItems, AreNextPorts, IsNextBlock, IsNextItem, IsNextPort, Reflects, Steps, assigned_names, written_names, item_target, item_written, words_of, with_items, with_ports}
 use Rattle.ver_valid.proofs.Entries.{flat_append}
 use Rattle.ver_valid.proofs.Judging.{denied_more, judged_same}

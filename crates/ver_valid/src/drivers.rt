@@ -3,7 +3,7 @@
 ghost use Rattle.std.specs.Prelude.{◌≡◌, ◌++◌, IfOk, map};
 ghost use Rattle.ver_ast.specs.Nets as tree;
 ghost use Rattle.ver_ast.specs.Nets.{input_nets, regs, names_of};
-ghost use Rattle.ver_valid.specs.working.Driven.{driver_in, AreDrivers};
+ghost use Rattle.ver_valid.specs.working.Drivers.{driver_in, AreDrivers};
 ghost use Rattle.ver_valid.specs.working.Numbered.{IsNumbering};
 
 use crate::numbers::Numbers;

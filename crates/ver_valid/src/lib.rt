@@ -2,13 +2,13 @@
 //! whether it is valid. The answer is exact, as `specs/Valid` of ver_ast has it: no tree that is not valid passes, and
 //! none that is valid is turned away.
 //! One walk goes over the ports and the items in the order of the text (`walk`), and judges each against what is
-//! declared before it (`scope`, `operand`, `side`, `block`) and driven (`driver`); then every wire and output has to be
+//! declared before it (`scope`, `operand`, `side`, `block`) and driven (`driven`); then every wire and output has to be
 //! driven, and the processes have to have an order (`ordered`).
 #![tactic(auto)]
 
 mod block;
 mod declared;
-mod driver;
+mod driven;
 mod drivers;
 mod judge;
 mod misfit;

@@ -7,7 +7,7 @@ ghost use Rattle.ver_ast.specs.Nets as tree;
 ghost use Rattle.ver_ast.specs.Nets.{input_nets, plain_regs, names_of};
 ghost use Rattle.ver_ast.specs.Processes.{Process, processes, process_targets, process_reads};
 ghost use Rattle.ver_ast.specs.Valid.{IsOrder};
-ghost use Rattle.ver_valid.specs.working.Driven.{drivers_of, IsProcessGraph, targets_of};
+ghost use Rattle.ver_valid.specs.working.Drivers.{drivers_of, IsProcessGraph, targets_of};
 
 use crate::drivers::Drivers;
 use crate::processes::{asynchronous_blocks, net_assigns};

@@ -3,7 +3,7 @@
 ghost use Rattle.std.specs.Prelude.{◌≡◌, ◌++◌, [], ◌∷◌, IfOk, OnOk};
 ghost use Rattle.ver_ast.specs.Atoms.{atoms_of};
 ghost use Rattle.ver_ast.specs.Names.{atom_names, joined_names, rhs_names};
-ghost use Rattle.ver_valid.specs.working.Driven.{drivers_of};
+ghost use Rattle.ver_valid.specs.working.Drivers.{drivers_of};
 
 use crate::drivers::Drivers;
 use fir_base::{MemoryOut, Name, Seq};

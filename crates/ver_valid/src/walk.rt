@@ -8,12 +8,12 @@ ghost use Rattle.ver_ast.specs.declared.tree.Item.TheVariants as item_form;
 ghost use Rattle.ver_valid.specs.working.Judgement.{Judges};
 ghost use Rattle.ver_valid.specs.working.Declarations.{Entry, IsNarrow, IsNarrowKind, entry_names, port_kind};
 ghost use Rattle.ver_valid.specs.working.Scopes.{Tells, TellsOf};
-ghost use Rattle.ver_valid.specs.working.Drivers.{Drives};
+ghost use Rattle.ver_valid.specs.working.Driven.{Drives};
 ghost use Rattle.ver_valid.specs.working.Walks.{AreNextItems, AreNextPorts, IsItemDriven, IsNextAssign, IsNextItem, IsNextPort, IsOutputDriven, IsPortDriven, Reflects, Steps, with_items, with_ports};
 
 use crate::block::{plain_block, resetting_block, writing_block};
 use crate::declared::Declared;
-use crate::driver::Driven;
+use crate::driven::Driven;
 use crate::misfit::Misfit;
 use crate::operand::is_narrow;
 use crate::scope::{Scope, Target};

@@ -18,7 +18,7 @@ use Rattle.ver_valid.specs.declared.walk.Walk.{Walk}
 use Rattle.ver_valid.specs.working.Judgement.{Denies}
 use Rattle.ver_valid.specs.working.Declarations.{entries, entry_names, port_kind, IsNarrow, IsNarrowKind}
 use Rattle.ver_valid.specs.working.Scopes.{IsFine, Tells, driven_nets}
-use Rattle.ver_valid.specs.working.Drivers.{Drives}
+use Rattle.ver_valid.specs.working.Driven.{Drives}
 
 abbrev pub with_ports : Verilog → List Port → Verilog
 with_ports v ps = record v { ports = v.ports ++ ps }

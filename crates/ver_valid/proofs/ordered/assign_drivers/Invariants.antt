@@ -1,6 +1,6 @@
 use Rattle.std.proofs.Common.{◌≡◌, ◌++◌, map, drop}
 use Rattle.ver_ast.specs.Names.{rhs_names}
-use Rattle.ver_valid.specs.working.Driven.{drivers_of}
+use Rattle.ver_valid.specs.working.Drivers.{drivers_of}
 use Rattle.ver_valid.proofs.ordered.assign_drivers.Given as goal
 
 abbrev pub invariant-loop-assign : goal.invariant-loop-assign

@@ -2,7 +2,7 @@ use Rattle.std.proofs.Common.{ℕ, List}
 use Rattle.std.specs.Prelude.{Vec}
 use Rattle.std.specs.declared.alloc.Global.{Global}
 use Rattle.std.proofs.lemmas.Result.{IfOk-weaker}
-use Rattle.ver_valid.specs.working.Driven.{IsProcessGraph}
+use Rattle.ver_valid.specs.working.Drivers.{IsProcessGraph}
 use Rattle.ver_valid.proofs.ProcessReads.{process_drivers}
 use Rattle.ver_valid.proofs.ordered.drivers_of_all.Goals as goal
 

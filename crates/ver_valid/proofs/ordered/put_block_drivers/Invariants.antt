@@ -1,5 +1,5 @@
 use Rattle.std.proofs.Common.{◌≡◌, [], ◌∷◌, ◌++◌, map, drop}
-use Rattle.ver_valid.specs.working.Driven.{drivers_of}
+use Rattle.ver_valid.specs.working.Drivers.{drivers_of}
 use Rattle.ver_valid.proofs.ordered.put_block_drivers.Given as goal
 
 abbrev pub invariant-loop-block : goal.invariant-loop-block

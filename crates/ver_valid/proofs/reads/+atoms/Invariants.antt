@@ -2,7 +2,7 @@ use Rattle.std.proofs.Common.{◌≡◌, ◌+◌, ◌*◌, ◌++◌, drop}
 use Rattle.ver_ast.specs.Atoms.{atoms_of}
 use Rattle.ver_ast.specs.Names.{joined_names}
 use Rattle.ver_ast.specs.working.AtomSizes.{atom_size, atoms_size}
-use Rattle.ver_valid.specs.working.Driven.{drivers_of}
+use Rattle.ver_valid.specs.working.Drivers.{drivers_of}
 use Rattle.ver_valid.proofs.reads.+atoms.Given as goal
 
 -- an operand of a list is no larger than the list, so the list counts for one more

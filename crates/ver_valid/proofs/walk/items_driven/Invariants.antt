@@ -1,7 +1,7 @@
 use Rattle.std.proofs.Common.{ℕ, List, drop}
 use Rattle.std.specs.Prelude.{◌↔◌}
 use Rattle.std.specs.List.{AllByRecursion}
-use Rattle.ver_valid.specs.working.Drivers.{Drives}
+use Rattle.ver_valid.specs.working.Driven.{Drives}
 use Rattle.ver_valid.specs.working.Walks.{IsItemDriven}
 use Rattle.ver_valid.proofs.walk.items_driven.Given as goal
 

@@ -1,6 +1,6 @@
 use Rattle.std.proofs.Common.{◌≡◌, ℕ, ◌<◌, List, length, sym, ap, ◌∙◌}
 use Rattle.std.specs.Prelude.{slice_get}
-use Rattle.ver_valid.specs.working.Driven.{targets_of}
+use Rattle.ver_valid.specs.working.Drivers.{targets_of}
 use Rattle.ver_valid.proofs.ProcessReads.{if_some}
 use Rattle.ver_valid.proofs.ordered.ProcessGraphGraph.target.Goals as goal
 

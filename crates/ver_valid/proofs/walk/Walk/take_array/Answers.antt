@@ -3,7 +3,7 @@ use Rattle.ver_ast.specs.declared.tree.Item.TheVariants as item
 use Rattle.ver_ast.specs.Nets.{item_array}
 use Rattle.ver_valid.specs.working.Declarations.{entries, item_entries}
 use Rattle.ver_valid.specs.working.Scopes.{TellsOf}
-use Rattle.ver_valid.specs.working.Drivers.{Drives}
+use Rattle.ver_valid.specs.working.Driven.{Drives}
 use Rattle.ver_valid.specs.working.Walks.{IsNextItem, IsNextNet, Reflects, assigned_names, written_names, with_items, words_of}
 use Rattle.ver_valid.proofs.Steps.{steps_same, reflects_item, none_more}
 use Rattle.ver_valid.proofs.walk.Walk.take_array.Goals as goal

@@ -3,7 +3,7 @@ use Rattle.fir_base.specs.Lists.{In}
 use Rattle.ver_ast.specs.declared.tree.Item.TheVariants as item
 use Rattle.ver_valid.specs.working.Declarations.{entries}
 use Rattle.ver_valid.specs.working.Scopes.{TellsOf}
-use Rattle.ver_valid.specs.working.Drivers.{Drives}
+use Rattle.ver_valid.specs.working.Driven.{Drives}
 use Rattle.ver_valid.specs.working.Walks.{IsNextAssign, Reflects, assigned_names, written_names, with_items}
 use Rattle.ver_valid.proofs.Steps.{steps_driven, reflects_item, none_more}
 use Rattle.ver_valid.proofs.walk.Walk.take_assign.Goals as goal

@@ -3,7 +3,7 @@
 ghost use Rattle.std.specs.Prelude.{◌≡◌, List, ℕ, [], ◌∷◌, ◌++◌, OnOk};
 ghost use Rattle.fir_base.specs.Lists.{In};
 ghost use Rattle.ver_valid.specs.working.Judgement.{Judges};
-ghost use Rattle.ver_valid.specs.working.Drivers.{Drives, has};
+ghost use Rattle.ver_valid.specs.working.Driven.{Drives, has};
 
 use crate::misfit::Misfit;
 use fir_base::{Name, Refused};

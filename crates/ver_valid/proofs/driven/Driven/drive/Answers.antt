@@ -1,6 +1,6 @@
 use Rattle.std.proofs.Common.{◌∙◌, sym}
 use Rattle.ver_valid.proofs.GrownDrivers.{drives_more}
-use Rattle.ver_valid.proofs.driver.Driven.drive.Goals as goal
+use Rattle.ver_valid.proofs.driven.Driven.drive.Goals as goal
 
 pub returns-clause-driven : goal.returns-clause-driven
 returns-clause-driven c =
