@@ -55,7 +55,7 @@ ROWS = [
     Row(texts.dots, "1 E06"),
     # names
     Row(texts.modules, "1 E10"),
-    Row(texts.instances, "1 E05"),
+    Row(texts.instances),
     Row(texts.chain_of_modules, "1 E23"),
     Row(texts.ring_of_modules, "1 E11"),
     Row(texts.ports_of_one_memory, "1 E05"),
@@ -64,6 +64,11 @@ ROWS = [
     Row(texts.nodes_that_stand_for_a_long_name, "0", 16000, 32000),
     Row(texts.elements_of_a_wire_of_a_long_name, "0", 16000, 32000),
     Row(texts.leaves_of_one_base, "0", 4096, 8192),
+    # designs
+    Row(texts.instances_of_a_register, "0", 50000, 100000),
+    Row(texts.levels_of_two_instances, "0", 16, 17),
+    Row(texts.levels_of_one_instance, "0", 400, 800),
+    Row(texts.instances_of_1000_registers, "0", 2000, 4000),
     # nodes, registers and ports
     Row(texts.chain, "0", 20000, 200000),
     Row(texts.chain_of_nodes),

@@ -120,6 +120,46 @@ def leaves_of_one_base(count):
     return HEAD + f"    input p : {ways((count - 1).bit_length() + 1, count)[0]}\n" + TAIL
 
 
+# Designs
+
+FACE = "    input clock : Clock\n    input d : UInt<1>\n    output q : UInt<1>\n"
+
+
+def module_of_instances(name, of, count):
+    """A module with so many instances of another in a row."""
+    lines = "".join(f"    inst i{k} of {of}\n    i{k}.clock <= clock\n"
+                    f"    i{k}.d <= {f'i{k - 1}.q' if k else 'd'}\n" for k in range(count))
+    return f"  module {name} :\n{FACE}{lines}    q <= i{count - 1}.q\n"
+
+
+def register_module(name):
+    return f"  module {name} :\n{FACE}    reg r : UInt<1>, clock\n    r <= d\n    q <= r\n"
+
+
+def instances_of_a_register(count):
+    return "circuit T :\n" + register_module("R") + module_of_instances("T", "R", count)
+
+
+def instances_in_instances(levels, each):
+    """Modules with so many instances each of the one before, the first with a register."""
+    below = "".join(module_of_instances(f"M{k}", f"M{k - 1}", each) for k in range(1, levels))
+    top = module_of_instances("T", f"M{levels - 1}", each)
+    return "circuit T :\n" + register_module("M0") + below + top
+
+
+def levels_of_two_instances(levels):
+    return instances_in_instances(levels, 2)
+
+
+def levels_of_one_instance(levels):
+    return instances_in_instances(levels, 1)
+
+
+def instances_of_1000_registers(count):
+    lines = "    reg r : UInt<1>[1000], clock\n    r[0] <= d\n    q <= r[0]\n"
+    return f"circuit T :\n  module R :\n{FACE}{lines}" + module_of_instances("T", "R", count)
+
+
 # Nodes, registers and ports
 
 def chain(count):

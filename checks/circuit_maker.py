@@ -1,6 +1,7 @@
-"""Makes circuits of one module at random, of which firc takes most. Outputs and registers hang on
-inputs and on the state. Some circuits have a flaw: a leaf that hangs on itself, a form that firc
-lacks, a leaf that is not driven, or widths that do not fit."""
+"""Makes circuits at random, of which firc takes most; many have instances. Outputs and registers
+hang on inputs and on the state. Some circuits have a flaw: a leaf that hangs on itself, a form that
+firc lacks, a leaf that is not driven, clocks that statements or indices pick, or widths that do not
+fit."""
 from cost_rules import leaf_count
 from driven_maker import DEPTH, FORGETS
 from inference_maker import RATES
@@ -10,12 +11,12 @@ from ranked_maker import LAST, RankedMaker
 from type_forms import NUMBERS, Ground, alike, fits, is_passive, same_kind, without_widths
 from type_maker import called
 
-FLAWS = ["none"] * 30 + ["loop"] * 4 + """module memory clock reset forgotten forgotten widths
+FLAWS = ["none"] * 30 + ["loop"] * 4 + """memory clock clock clock reset forgotten forgotten widths
 widths""".split()
 WORDS = """wire wire node node node reg reg reg reg reg reg connect connect connect connect partial
 invalid""".split()
-# what is made more often where one of these is wanted
-LACKING = {"memory": ["mem"] * 5, "module": ["inst"] * 5}
+# what is made more often where it is wanted
+LACKING = {"memory": ["mem"] * 5}
 KINDS = ["UInt"] * 5 + ["SInt"] * 3
 MIXING = {"UInt": "add sub mul xor cat not or and".split(),
           "SInt": "add sub mul neg cvt asSInt dshl".split()}
@@ -33,7 +34,7 @@ class CircuitMaker(RankedMaker):
 
     def __init__(self, chance):
         self.flaw = chance.choice(FLAWS)
-        self.words = WORDS + LACKING.get(self.flaw, [])
+        self.own_words = WORDS + LACKING.get(self.flaw, [])
         self.slips_of_rank = chance.choice([0.05, 0.3]) if self.flaw == "loop" else 0
         # whether all widths of what has been read lately are written
         self.is_known = True
@@ -66,7 +67,17 @@ class CircuitMaker(RankedMaker):
     # Modules, ports and names.
 
     def module_count(self):
-        return 2 if self.flaw == "module" else 1
+        return self.chance.choice([1, 1, 1, 2, 2, 3, 4])
+
+    def port(self, head, direction=None, given=None):
+        """The main module is the first of those that may have instances."""
+        self.main = self.order[0]
+        return super().port(head, direction, given)
+
+    def module(self, head):
+        later = self.order[self.order.index(head) + 1:]
+        self.words = self.own_words + ["inst"] * (3 * bool(later))
+        return super().module(head)
 
     def ports(self, head):
         chance, clocks = self.chance, self.chance.choice([0, 1, 1, 1, 1, 2, 3])

@@ -45,7 +45,7 @@ PURPOSES = {
     "fir_pass": "The groups of faults, of which the first that shows one is told; and meanings.",
     "fir_meaning": "Which faults a circuit shows, group by group, and what a circuit allows.",
     "fir_net": "The names of ports and registers in Verilog, and the rows in which these stand.",
-    "fir_inst": "The rows of a circuit, and which of its registers take values.",
+    "fir_flatten": "The rows of a circuit, and which of its registers take values.",
     "fir_lack": "Which forms of the language firc does not take yet.",
     "ver_build": "How the tree that is written is named and arranged.",
     "fir_outcome": "What each status says of the text, of a trace, and of both outputs.",

@@ -1,12 +1,10 @@
 """The names of the emitted text, worked out once more from the rule.
 
-The leaves of the ports take the names of their paths, joined by `_`, and then those of the
+The leaves of the main module's ports take the names of their paths, joined by `_`, and then those of the
 registers: a name that is reserved in Verilog or taken before gets the first free of `_0`, `_1` and
 so on behind it. What has no bits takes no name, and neither do wires and nodes. A module whose name
 is reserved gets `_0` behind it.
 """
-from tick_rules import spelled
-
 RESERVED = """always and assign automatic begin buf bufif0 bufif1 case casex casez cell cmos config
 deassign default defparam design disable edge else end endcase endconfig endfunction endgenerate
 endmodule endprimitive endspecify endtable endtask event for force forever fork function generate
@@ -19,6 +17,11 @@ supply1 table task time tran tranif0 tranif1 tri tri0 tri1 triand trior trireg u
 vectored wait wand weak0 weak1 while wire wor xnor xor""".split()
 
 
+def spelled(path):
+    """The path with its parts joined as names of Verilog are."""
+    return path.replace(".", "_").replace("[", "_").replace("]", "")
+
+
 def free(name, taken):
     """The name, or the first free one with a number behind it."""
     if name not in RESERVED and name not in taken:
@@ -28,10 +31,9 @@ def free(name, taken):
 
 def emitted_names(source):
     """The emitted name of each leaf of a port and of a register, by its path in the source; in port
-    order, then in that of the registers."""
-    ports = [path for path, leaf in source.leaves.items() if leaf.word in ("input", "output")]
+    order, then in that of the state."""
     names, taken = {}, set()
-    for path in ports + source.words:
+    for path in source.ports + source.words:
         if source.leaves[path].is_clock() or source.leaves[path].type().width:
             names[path] = free(spelled(path), taken)
             taken.add(names[path])

@@ -19,7 +19,8 @@ import pathlib
 import sys
 
 from emitted_names import emitted_names
-from tick_rules import Source, tick
+from source_rules import Source
+from tick_rules import tick
 
 EXAMPLES = pathlib.Path(__file__).resolve().parent.parent / "examples"
 TICKS = 64

@@ -18,7 +18,7 @@ import expected
 import operators
 from operators import Type
 from readings import Reading
-from tick_rules import Source
+from source_rules import Source
 
 FOLDER = pathlib.Path(__file__).resolve().parent / "rows" / "operators"
 HEAD = "circuit T :\n  module T :\n"

@@ -11,6 +11,8 @@ from type_maker import Spot, is_legal, within
 
 # the ranks of what all may read, and of what may read all; and one above all
 FIRST, LAST, ABOVE = -1, 2, 3
+# how much more than the rank of an instance's inputs its outputs have
+HIGHER = 0.001
 # between 0 and 1: the least rank of a port's leaf, and below which rank stands what a condition of
 # a when, or a node, reads
 PORTS, CONDITIONS, NODES = 0.7, [0, 0, 0.5, ABOVE], [0, 0.5, 0.8, ABOVE]
@@ -28,8 +30,9 @@ class RankedMaker(DrivenMaker):
         # what is read now has less rank than `limit`; the conditions of whens around have read
         # `floor` at most, and all that has been read lately `read`
         self.limit, self.floor, self.read = ABOVE, FIRST, FIRST
-        # whether a register is declared; of a vector that is driven in turn the elements before
-        self.is_register, self.before = False, []
+        # whether a register is declared; the rank of the inputs of an instance that is declared; of
+        # a vector that is driven in turn the elements before
+        self.is_register, self.inputs, self.before = False, None, []
         super().__init__(chance, *rates)
 
     # Ranks.
@@ -58,6 +61,9 @@ class RankedMaker(DrivenMaker):
     def ranks_of_leaf(self, flow, least):
         if self.is_register:
             return LAST, FIRST
+        if self.inputs is not None:
+            is_input = flow == "sink"
+            return (self.inputs, self.inputs) if is_input else (ABOVE, self.inputs + HIGHER)
         if flow == "source":
             return ABOVE, self.read
         rank = self.chance.uniform(least, min(self.limit, 1))
@@ -105,6 +111,13 @@ class RankedMaker(DrivenMaker):
         self.is_register = True
         lines = super().reg()
         self.is_register = False
+        return lines
+
+    def inst(self):
+        """An output of an instance may hang on each of its inputs."""
+        self.inputs = self.chance.uniform(0, min(self.limit, 0.9))
+        lines = super().inst()
+        self.inputs = None
         return lines
 
     def is_ordered(self, one, other):
@@ -156,7 +169,7 @@ class RankedMaker(DrivenMaker):
         if is_passive(spot.type):
             is_long = isinstance(spot.type, Vector) and spot.type.length > 1
             return ways + [self.drive_in_turn] * (4 * is_long)
-        return [way for way in ways if way != self.drive_by_wire or spot.flow != "both"]
+        return [way for way in ways if way != self.drive_by_wire or spot.flow == "sink"]
 
     def drive_by_wire(self, spot, depth):
         """What is driven and read alike does not drive the wire."""

@@ -1,20 +1,22 @@
 """What the second readings say of a text of the grammar, in the order in which firc tells faults:
 those of names, of modules that instantiate each other, of types and flows, of resets and widths,
-of costs, of leaves that a choice leaves undriven, then the first form that firc lacks, then a walk
-on which a leaf hangs on itself."""
+of costs, of leaves that a choice leaves undriven, then the first form that firc lacks, then those of
+clocks, then a walk on which a leaf hangs on itself."""
 import math
 import re
 
+from clock_rules import clock_fault
 from cost_rules import cost_fault
 from driven_rules import driven_fault
 from inference_rules import Inferred
 from lacking_rules import first_lacking
 from name_rules import Names
-from tick_rules import Source, Walks
+from source_rules import Source
 from type_rules import Types
+from walk_rules import Walks
 
 OF_WIDTHS = "|E1[89] .*|E2[0-2] .*"
-OF_LEAVES = "|E24 .*|E05 .*|E28 .*"
+OF_LEAVES = "|E24 .*|E05 .*|E25 .*|E28 .*"
 # The readings of resets, widths and leaves list each element of each vector.
 MOST_ELEMENTS = 10000
 
@@ -56,12 +58,17 @@ class Reading:
                 or first_lacking(text))
         if line is None:
             source = Source(text)
-            walks = Walks(source)
-            if walks.has_walk():
-                self.walks = walks
-            else:
-                self.source = source
+            line = clock_fault(source)
+            if line is None:
+                self.judge_walks(source)
         return line
+
+    def judge_walks(self, source):
+        walks = Walks(source)
+        if walks.has_walk():
+            self.walks = walks
+        else:
+            self.source = source
 
     def pattern(self):
         """The line as a pattern, which is empty where there is no fault."""

@@ -4,7 +4,8 @@
 It sets the words of the state at time 0. At each tick it puts the inputs and shows the outputs,
 raises the clocks of the tick at one time, at which registers sample their resets, shows the state,
 and lowers the clocks later. The state is shown while the clocks are high, so that what the falling
-edge changes is seen at this tick or the next.
+edge changes is seen at this tick or the next. A clock output that is not at the level of its clock
+before or behind the rise gives a line of its own, with the levels of all.
 
 usage: test_bench.py SOURCE.fir SOURCE.trace
 """
@@ -13,7 +14,8 @@ import sys
 
 from emitted_names import emitted_module, emitted_names
 from expected import read_trace
-from tick_rules import Source
+from source_rules import Source
+from tick_rules import Tick
 
 
 def variables(kind, letter, widths):
@@ -24,7 +26,8 @@ def variables(kind, letter, widths):
 
 def connections(source, names):
     """The leaves of the ports, each at the variable of the bench that stands for it."""
-    for letter, paths in (("i", source.inputs), ("o", source.outputs), ("c", source.clocks)):
+    for letter, paths in (("i", source.inputs), ("o", source.outputs), ("c", source.clocks),
+                          ("k", source.clock_outputs)):
         for k, path in enumerate(paths):
             yield f".{names[path]}({letter}{k})"
 
@@ -33,17 +36,36 @@ def shows(task, shape, values):
     return f"{task}({', '.join([chr(34) + shape + chr(34)] + values)});"
 
 
-def tick(source, words, rising, inputs):
+def clocks_of_outputs(source):
+    """The numbers of the clocks that the clock outputs have, or None of one without a clock. They
+    are the same at all ticks."""
+    now = Tick(source, [0] * len(source.words), [0] * len(source.inputs))
+    return [now.clock(path) for path in source.clock_outputs]
+
+
+def judges(given, rising):
+    """A statement that shows the levels of the clock outputs if they are not those of their clocks,
+    where there are any."""
+    shown = "{" + ", ".join(f"k{k}" for k in range(len(given))) + "}"
+    levels = "".join("1" if number in rising else "0" for number in given)
+    if given:
+        yield f"if ({shown} !== {len(levels)}'b{levels}) {shows('$display', 'clocks %b', [shown])}"
+
+
+def tick(source, words, given, rising, inputs):
     """The statements of a tick; all clocks are set by one assignment."""
     outputs = [f"o{k}" for k in range(len(source.outputs))]
     for k, (width, value) in enumerate(zip(source.widths(source.inputs), inputs)):
         yield f"i{k} = {width}'h{value:x};"
-    yield "#1 " + shows("$write", "%h " * len(outputs) + "|", outputs)
+    yield "#1"
+    yield from judges(given, [])
+    yield shows("$write", "%h " * len(outputs) + "|", outputs)
     clocks = "{" + ", ".join(f"c{k}" for k in range(len(source.clocks))) + "}"
     levels = "".join("1" if k in rising else "0" for k in range(len(source.clocks)))
     if rising:
         yield f"#1 {clocks} = {len(levels)}'b{levels};"
     yield "#1 " + shows("$display", " %h" * len(words), words)
+    yield from judges(given, rising)
     if rising:
         yield f"#1 {clocks} = 0;"
 
@@ -51,18 +73,20 @@ def tick(source, words, rising, inputs):
 def test_bench(source, init, ticks):
     """The lines of the bench, for an initial state and ticks as `read_trace` gives them."""
     names, module = emitted_names(source), emitted_module(source)
-    words = [names[path] for path in source.words]
+    words, given = [names[path] for path in source.words], clocks_of_outputs(source)
     yield f"module {'bench_0' if module == 'bench' else 'bench'};"
     yield from variables("reg", "i", source.widths(source.inputs))
     yield from variables("reg", "c", [1] * len(source.clocks))
     yield from variables("wire", "o", source.widths(source.outputs))
+    yield from variables("wire", "k", [1] * len(given))
     yield f"  {module} dut({', '.join(connections(source, names))});"
     yield "  initial begin"
     yield from (f"    c{k} = 0;" for k in range(len(source.clocks)))
     for word, width, value in zip(words, source.widths(source.words), init):
         yield f"    dut.{word} = {width}'h{value:x};"
     for rising, inputs in ticks:
-        yield "    " + " ".join(tick(source, [f"dut.{word}" for word in words], rising, inputs))
+        held = [f"dut.{word}" for word in words]
+        yield "    " + " ".join(tick(source, held, given, rising, inputs))
     yield "  end"
     yield "endmodule"
 

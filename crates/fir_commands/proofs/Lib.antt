@@ -1,4 +1,3 @@
-pub mod OneScene
 pub mod Refused
 pub mod TextEnded
 pub mod EmitComplete

@@ -5,18 +5,17 @@ use Rattle.fir_ast.specs.Circuits.{CircuitTree}
 use Rattle.fir_pass.specs.Law.{IsFirst}
 use Rattle.fir_parse.specs.working.Laws.{SpellsOneTree, HasTreeOrFault}
 use Rattle.fir_meaning.specs.Lack.{Lack}
-use Rattle.fir_meaning.specs.ModuleScenes.{Scene}
 use Rattle.fir_meaning.specs.SourceMeaning.{circuit_meaning}
 use Rattle.fir_lack.specs.Lacking.{lacking}
+use Rattle.fir_flatten.proofs.OneScene.{scenes_once}
 use Rattle.fir_outcome.specs.CircuitFaults.{IsFirstUpTo, LacksFirst, LacksNone, ShowsNone}
 use Rattle.fir_outcome.specs.Emits.{Takes}
 use Rattle.fir_outcome.specs.Refusals.{RefusedFor, Refuses}
-use Rattle.fir_commands.proofs.OneScene.{one_scene}
 
 -- a circuit lacks a form or none
 one_lack : (c : CircuitTree) (l : Lack) → LacksFirst c l → LacksNone c → ⊥
 one_lack c l (s, p, first) (t, q, none) =
-    let e : Some l ≡ None = sym first ∙ ap (λ (x : Scene). lacking c x) (one_scene c 0 s t p q) ∙ none in
+    let e : Some l ≡ None = sym first ∙ ap lacking (scenes_once c s t p.are q.are p.each q.each) ∙ none in
     cc
 
 -- a circuit without faults has no first one

@@ -11,7 +11,7 @@ use Rattle.fir_net.specs.declared.net.FlatNet.{FlatNet}
 use Rattle.fir_net.specs.working.Settled.{shape as net_shape}
 use Rattle.fir_net.specs.working.Allows.{Allows as NetAllows}
 use Rattle.fir_net.specs.working.One.{One as NetOne}
-use Rattle.fir_inst.specs.working.FlattensTo.{FlattensTo, MeansSource}
+use Rattle.fir_flatten.specs.working.FlattensTo.{FlattensTo, MeansSource}
 use Rattle.fir_tick.specs.working.Views.{output_widths as net_widths}
 use Rattle.trace_text.specs.Shapes.{TraceShape}
 use Rattle.trace_text.specs.RunLines.{run_text}

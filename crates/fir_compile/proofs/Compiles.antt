@@ -1,16 +1,18 @@
 -- What a circuit compiles to, by way of its net.
-use Rattle.std.proofs.Common.{◌≡◌, ℕ, List, ◌∙◌, subst}
+use Rattle.std.proofs.Common.{◌≡◌, List, ◌∙◌, subst}
 use Rattle.fir_ast.specs.Circuits.{CircuitTree}
 use Rattle.fir_meaning.specs.Elaborated.{IsSourceOf}
 use Rattle.fir_meaning.specs.SourceAllows.{Allows}
 use Rattle.fir_meaning.specs.SourceCircuits.{source_shape}
 use Rattle.fir_meaning.specs.SourceDesigns.{SourceDesign}
 use Rattle.fir_net.specs.declared.net.FlatNet.{FlatNet}
+use Rattle.fir_net.specs.declared.reads.Read.{Read}
+use Rattle.fir_net.specs.working.IsOrder.{IsOrder}
 use Rattle.fir_net.specs.working.Rows.{net_arrays, net_rows, net_words}
 use Rattle.fir_net.specs.working.Laws.{NodesHaveTheirTypes}
 use Rattle.fir_net.specs.working.One.{One as NetOne}
-use Rattle.fir_inst.specs.SourceRows.{source_rows, source_words}
-use Rattle.fir_inst.specs.working.FlattensTo.{FlattensTo, MeansSource}
+use Rattle.fir_flatten.specs.SourceRows.{source_rows, source_words}
+use Rattle.fir_flatten.specs.working.FlattensTo.{FlattensTo, MeansSource}
 use Rattle.ver_ast.specs.declared.tree.Verilog.{Verilog}
 use Rattle.ver_ast.specs.Allows.{VAllows}
 use Rattle.ver_ast.specs.Nets.{shape as v_shape}
@@ -20,9 +22,10 @@ use Rattle.fir_outcome.specs.Compiles.{Compiles, CompilesTo}
 use Rattle.fir_outcome.specs.Runs.{RunsOnce}
 use Rattle.fir_compile.proofs.AllRuns.{Includes, same_once, same_runs}
 use Rattle.fir_compile.proofs.SourceRuns.{from_net, source_one, source_runs_once, to_net}
-use Rattle.fir_compile.proofs.TakenBlocks.{blocks_are}
+use Rattle.fir_compile.proofs.TakenBlocks.{blocks_take}
 
-module _ (types : NodesHaveTheirTypes) (c : CircuitTree) (net : FlatNet) (flat : FlattensTo c net) (one : NetOne net) (v : Verilog) (made : Builds net v) where
+module _ (types : NodesHaveTheirTypes) (c : CircuitTree) (net : FlatNet) (order : List Read) (flat : FlattensTo c net) (is_order : IsOrder net order) (one : NetOne net)
+    (v : Verilog) (made : Builds net v) where
   module _ (t : SourceDesign) (is : IsSourceOf c t) where
     means : MeansSource t net
     means = flat.each t is
@@ -61,7 +64,7 @@ module _ (types : NodesHaveTheirTypes) (c : CircuitTree) (net : FlatNet) (flat :
   pub compiles : Compiles c v
   compiles = record {
     arranged = made.arranged;
-    driven = λ s scene. blocks_are net flat.clocked made.arranged.driven made.driven ∙ flat.taken s scene;
+    driven = λ t is. blocks_take t net (flat.each t is) flat.whole order is_order one made.arranged.driven made.driven;
     valid = made.valid;
     v_one = made.one;
     v_runs_once = v_runs_once flat.source flat.is_source;

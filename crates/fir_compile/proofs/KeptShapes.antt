@@ -1,5 +1,5 @@
 -- The state after a tick has the net's shape.
-use Rattle.std.proofs.Common.{◌≡◌, ℕ, ◌^◌, ◌<◌, List, [], ◌∷◌, map, Bool, true, false, Option, Some, None, if◌then◌else◌, refl, sym, subst, inl, inr}
+use Rattle.std.proofs.Common.{ℕ, ◌^◌, ◌<◌, List, [], ◌∷◌, map, Bool, true, false, Option, Some, None, if◌then◌else◌, refl, sym, ap, subst, inl, inr}
 use Rattle.std.specs.Prelude.{unwrap_or, option_map}
 use Rattle.fir_base.specs.Lists.{In}
 use Rattle.fir_base.specs.Ticks.{Tick, FitEach}
@@ -15,9 +15,9 @@ use Rattle.fir_net.specs.declared.net.FlatNet.{FlatNet}
 use Rattle.fir_net.specs.working.IsNet.{CanRead, CanBeDriven, CanBeReset, IsRole, IsLeaf, IsNet}
 use Rattle.fir_net.specs.working.Laws.{LeavesFit, NodesHaveTheirTypes}
 use Rattle.fir_net.specs.working.Next.{taken, taken_under, taken_with, ticks, next_by, next_of, next_word, next}
-use Rattle.fir_net.specs.working.Settled.{Settled, shape, registers, register_number, value_at, is_high, is_clock}
+use Rattle.fir_net.specs.working.Settled.{Settled, shape, registers, value_at, is_high, is_clock}
 use Rattle.fir_net.specs.working.Values.{at_width, leaf_width}
-use Rattle.fir_net.proofs.NumberedLeaves.{registers_own, leaf_at}
+use Rattle.fir_net.proofs.StateWords.{register_at}
 use Rattle.fir_net.proofs.WholeValues.{fit_below}
 
 -- where each value fits, all do
@@ -28,16 +28,6 @@ fit_map w v (k ∷ ks) h = (h k (inl refl), fit_map w v ks (λ j m. h j (inr m))
 either : (b : Bool) (x y n : ℕ) → x < n → y < n → (if b then x else y) < n
 either true x y n h k = h
 either false x y n h k = k
-
--- a leaf that gives its number as a register is no clock
-no_clock : (r : Role) (w k : ℕ) → register_number r w k ≡ k ∷ [] → is_clock r ≡ false
-no_clock role.Input w k e = refl
-no_clock role.Clock w k e = cc
-no_clock (role.Output r) w k e = refl
-no_clock (role.Wire r) w k e = refl
-no_clock (role.Register r) w k e = refl
-no_clock (role.ClockOutput c) w k e = cc
-no_clock (role.ClockWire c) w k e = cc
 
 module _ (types : NodesHaveTheirTypes) (net : FlatNet) (whole : IsNet net) (state : List ℕ) (tick : Tick) (env : ℕ → ℕ) (clock : ℕ → Option ℕ)
     (settled : Settled net state tick env clock) where
@@ -75,11 +65,11 @@ module _ (types : NodesHaveTheirTypes) (net : FlatNet) (whole : IsNet net) (stat
   word_fits : (k : ℕ) → In (registers net) k → next_word net env clock tick.clocks k < 2 ^ leaf_width net.leaves k
   word_fits k m =
       let place = number_of (registers net) k m in
-      let there = leaf_at register_number registers_own net.leaves place.0 k place.1 in
-      let l : Leaf = there.0 in
-      let is : IsLeaf net.leaves net.nodes l = all_there (IsLeaf net.leaves net.nodes) net.leaves whole.leaves k l there.1 in
-      let shows : env k < 2 ^ l.width = settled.fits k l there.1 (no_clock l.role l.width k there.2) in
-      subst (λ (o : Option Leaf). next_of net env clock tick.clocks (env k) o < 2 ^ unwrap_or (option_map (λ (x : Leaf). x.width) o) 0) (sym there.1)
+      let there = register_at whole.state place.0 k place.1 in
+      let l : Leaf = there.leaf in
+      let is : IsLeaf net.leaves net.nodes l = all_there (IsLeaf net.leaves net.nodes) net.leaves whole.leaves k l there.at in
+      let shows : env k < 2 ^ l.width = settled.fits k l there.at (ap is_clock there.is) in
+      subst (λ (o : Option Leaf). next_of net env clock tick.clocks (env k) o < 2 ^ unwrap_or (option_map (λ (x : Leaf). x.width) o) 0) (sym there.at)
       (role_fits l.width (env k) shows l.signed l.role is.driven)
 
   pub next_fits : FitEach (shape net).state (next net env clock tick)

@@ -2,6 +2,7 @@ pub mod ChainGroups
 pub mod NetPasses
 pub mod LackTokens
 pub mod ChainFaults
+pub mod ClockEnds
 pub mod TakenBlocks
 pub mod KeptShapes
 pub mod AllRuns

@@ -8,8 +8,8 @@ use Rattle.fir_net.specs.declared.net.FlatNet.{FlatNet}
 use Rattle.fir_net_names.specs.Names.{AreNamed}
 use Rattle.fir_net.specs.Rows.{ArrayRow, Row, Word, array_names, row_names, word_names}
 use Rattle.fir_net.specs.working.Rows.{net_arrays, net_rows, net_words}
-use Rattle.fir_inst.specs.SourceRows.{source_rows, source_words}
-use Rattle.fir_inst.specs.working.FlattensTo.{FlattensTo, MeansSource}
+use Rattle.fir_flatten.specs.SourceRows.{source_rows, source_words}
+use Rattle.fir_flatten.specs.working.FlattensTo.{FlattensTo, MeansSource}
 use Rattle.ver_build.specs.working.Laws.{NamesAreForRows}
 use Rattle.trace_text.specs.Shapes.{TraceShape, WordKind}
 use Rattle.fir_tick.specs.working.Shapes.{IsShapeOf}

@@ -1,6 +1,6 @@
 -- How the source of a circuit runs, by way of the circuit's flat net.
-use Rattle.std.proofs.Common.{◌≡◌, ℕ, List, [], map, refl, sym, ap, ◌∙◌, subst}
-use Rattle.fir_base.specs.Ticks.{Tick, Shape, FitEach, HasShape}
+use Rattle.std.proofs.Common.{◌≡◌, ℕ, List, Option, map, refl, sym, ap, ◌∙◌, subst}
+use Rattle.fir_base.specs.Ticks.{Shape, FitEach, HasShape}
 use Rattle.fir_ast.specs.Circuits.{CircuitTree}
 use Rattle.fir_meaning.specs.Elaborated.{IsSourceOf}
 use Rattle.fir_meaning.specs.LeafPaths.{LeafPath}
@@ -14,8 +14,8 @@ use Rattle.fir_net.specs.working.Allows.{Allows as NetAllows}
 use Rattle.fir_net.specs.working.Laws.{NodesHaveTheirTypes}
 use Rattle.fir_net.specs.working.Next.{next}
 use Rattle.fir_net.specs.working.One.{HasOne as NetHasOne, One as NetOne}
-use Rattle.fir_net.specs.working.Settled.{outputs, shape}
-use Rattle.fir_inst.specs.working.FlattensTo.{FlattensTo, MeansSource}
+use Rattle.fir_net.specs.working.Settled.{clock_outputs as net_clock_outputs, outputs, shape}
+use Rattle.fir_flatten.specs.working.FlattensTo.{FlattensTo, MeansSource}
 use Rattle.fir_outcome.specs.Runs.{RunsOnce}
 use Rattle.fir_compile.proofs.AllRuns.{AllowsOne, AllowsSome, Includes, KeepsShape, runs_once}
 use Rattle.fir_compile.proofs.KeptShapes.{next_fits}
@@ -51,7 +51,8 @@ module _ (c : CircuitTree) (net : FlatNet) (flat : FlattensTo c net) (net_one : 
       let h : NetHasOne net state tick = net_one state tick (subst (λ (s : Shape). HasShape s state tick) (sym means.shapes) shaped) in
       let shown : List ℕ = map h.env (outputs net) in
       let after : List ℕ = next net h.env h.clock tick in
-      (shown, [], after, from_net state tick shown [] after (h.env, h.clock, h.settled, refl, refl, refl))
+      let clocks : List (Option ℕ) = map h.clock (net_clock_outputs net) in
+      (shown, clocks, after, from_net state tick shown clocks after (h.env, h.clock, h.settled, refl, refl, refl))
 
   module _ (types : NodesHaveTheirTypes) where
     keeps_shape : KeepsShape (source_shape t) (Allows t)

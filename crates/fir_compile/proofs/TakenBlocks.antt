@@ -1,62 +1,77 @@
--- The tree of a flat net has a block for just those registers that take a value.
-use Rattle.std.proofs.Common.{◌≡◌, ◌↔◌, ℕ, suc, ◌+◌, List, [], ◌∷◌, ◌++◌, map, flat_map, nat_eq, Bool, true, false, if◌then◌else◌, Option, Some, None, slice_get, refl, sym, ap, ap₂, ◌∙◌, subst, arith, true≢false}
-use Rattle.std.specs.Prelude.{IsSome, IsTrue}
+-- The tree of a flat net has a block for just those words of the state that take a value at the edges of a clock.
+use Rattle.std.proofs.Common.{◌≡◌, ◌↔◌, ℕ, suc, List, [], ◌∷◌, ◌++◌, length, map, flat_map, Bool, Some, append-nil, refl, sym, ap, ◌∙◌, subst, arith}
+use Rattle.std.specs.Prelude.{slice_get}
+use Rattle.std.proofs.lemmas.List.{length-map}
+use Rattle.fir_meaning.specs.SourceCircuits.{PlacedArray, PlacedLeaf, state_arrays, state_words, widths_in, widths_of_leaves}
+use Rattle.fir_meaning.specs.LeafTypes.{number_type}
+use Rattle.fir_meaning.specs.SourceDesigns.{SourceDesign}
 use Rattle.fir_net.specs.declared.leaf.Leaf.{Leaf}
 use Rattle.fir_net.specs.declared.leaf.Register.{Register}
-use Rattle.fir_net.specs.declared.leaf.Role.{Role}
 use Rattle.fir_net.specs.declared.leaf.Role.TheVariants as role
 use Rattle.fir_net.specs.declared.net.FlatNet.{FlatNet}
 use Rattle.fir_net.specs.declared.reads.Read.{Read}
-use Rattle.fir_net.specs.working.Settled.{numbers_by, register_number}
-use Rattle.fir_inst.specs.working.FlatModules.{has_next, has_read}
-use Rattle.fir_inst.specs.working.TakenRegisters.{IsClocked, takes_as, takes_in, taken_words}
-use Rattle.ver_build.specs.working.DrivenRegisters.{AreMarked, IsDriven, input, net_registers, role_register}
+use Rattle.fir_net.specs.working.IsNet.{IsNet}
+use Rattle.fir_net.specs.working.IsOrder.{IsOrder}
+use Rattle.fir_net.specs.working.One.{One as NetOne}
+use Rattle.fir_net.specs.working.Values.{leaf_width}
+use Rattle.fir_net.proofs.LeafEquations.{driven_at}
+use Rattle.fir_net.proofs.StateWords.{RegisterAt, register_at}
+use Rattle.fir_flatten.specs.SourceRows.{array_row}
+use Rattle.fir_flatten.specs.TakingWords.{AreTaking, TakesAtEdges}
+use Rattle.fir_flatten.specs.working.FlattensTo.{MeansSource, TakesAs}
+use Rattle.ver_build.specs.working.DrivenRegisters.{AreMarked, IsDriven, net_registers, role_register, word_register}
+use Rattle.fir_compile.proofs.ClockEnds.{ends_where_it_has}
 
-module _ (net : FlatNet) (clocked : IsClocked net) where
-  mark_is : (k : ℕ) (l : Leaf) (r : Register) (b : Bool) → slice_get net.leaves k ≡ Some l → l.role ≡ role.Register r → (IsTrue b ↔ IsDriven net r)
-      → b ≡ has_read r.next
-  mark_is k l r b at is marked = by b r.next refl marked
-    where
-      by : (c : Bool) (o : Option Read) → r.next ≡ o → (IsTrue c ↔ IsDriven net r) → c ≡ has_read o
-      by true (Some x) e m = refl
-      by true None e m = absurd (true≢false (sym (subst (λ (p : Option Read). IsSome p) e (m.0 refl).next)))
-      by false None e m = refl
-      by false (Some x) e m =
-          let clock = clocked k l r at is in
-          let clocked_next : IsDriven net r = record { next = rw e refl; clock = input r.clock clock.0 clock.1 clock.2 } in
-          let none : IsTrue false = m.1 clocked_next in
-          cc
+no_arrays : (arrays : List PlacedArray) → [] ≡ map array_row arrays → arrays ≡ []
+no_arrays [] e = refl
+no_arrays (a ∷ arrays) e = cc
 
-  abbrev of_leaf : Leaf → List Register
-  of_leaf l = role_register l.role l.width
+module _ (t : SourceDesign) (net : FlatNet) (means : MeansSource t net) where
+  -- as many words as in the source
+  as_many : length net.state ≡ length (state_words t)
+  as_many =
+      let none : state_arrays t ≡ [] = no_arrays (state_arrays t) means.arrays in
+      let widths : map (leaf_width net.leaves) net.state ≡ widths_of_leaves (state_words t) ++ flat_map widths_in (state_arrays t) =
+      ap (λ s. s.state) means.shapes in
+      let alone : map (leaf_width net.leaves) net.state ≡ widths_of_leaves (state_words t) =
+      widths ∙ ap (λ (arrays : List PlacedArray). widths_of_leaves (state_words t) ++ flat_map widths_in arrays) none
+      ∙ append-nil (widths_of_leaves (state_words t)) in
+      sym (length-map net.state (leaf_width net.leaves)) ∙ ap length alone
+      ∙ length-map (state_words t) (λ (p : PlacedLeaf). (number_type p.leaf.holds).width)
 
-  -- what a leaf adds to the marks and to the numbers of those behind it
-  one_more : (ls : List Leaf) (l : Leaf) (k : ℕ) (x : Role) (w : ℕ) → slice_get net.leaves k ≡ Some l → l.role ≡ x
-      → ((cs : List Bool) → AreMarked net (flat_map of_leaf ls) cs → cs ≡ map (takes_in net) (numbers_by register_number (k + 1) ls))
-      → (bs : List Bool) → AreMarked net (role_register x w ++ flat_map of_leaf ls) bs
-      → bs ≡ map (takes_in net) (register_number x w k ++ numbers_by register_number (k + 1) ls)
-  one_more ls l k (role.Register r) w here is rest bs marked = go (nat_eq w 0) bs marked
-    where
-      go : (t : Bool) (cs : List Bool) → AreMarked net ((if t then [] else (r ∷ [])) ++ flat_map of_leaf ls) cs
-          → cs ≡ map (takes_in net) ((if t then [] else (k ∷ [])) ++ numbers_by register_number (k + 1) ls)
-      go true cs marked = rest cs marked
-      go false [] marked = absurd marked
-      go false (c ∷ cs) marked =
-          ap₂ (λ first more. first ∷ more) (mark_is k l r c here is marked.0 ∙ sym (ap takes_as here ∙ ap has_next is)) (rest cs marked.1)
-  one_more ls l k _ w here is rest bs marked = rest bs marked
+  module _ (whole : IsNet net) (order : List Read) (is_order : IsOrder net order) (one : NetOne net) where
+    driven_takes : (p : PlacedLeaf) (k : ℕ) (r : RegisterAt net.leaves k) → TakesAs t net p r.register → IsDriven net r.register ↔ TakesAtEdges t p
+    driven_takes p k r takes =
+        let is_clock = (driven_at net whole k r.leaf (role.Register r.register) r.at r.is).0 in
+        let clock = ends_where_it_has net whole order is_order one r.register.clock is_clock in
+        (λ d. (takes.next.0 d.next, takes.clock.0 (clock.0 d.clock)), λ d. record { next = takes.next.1 d.0; clock = clock.1 (takes.clock.1 d.1) })
 
-  -- of the leaves from one of a number on
-  marks_are : (ls : List Leaf) (k : ℕ) (bs : List Bool) → ((j : ℕ) (l : Leaf) → slice_get ls j ≡ Some l → slice_get net.leaves (k + j) ≡ Some l)
-      → AreMarked net (flat_map of_leaf ls) bs → bs ≡ map (takes_in net) (numbers_by register_number k ls)
-  marks_are [] k [] there marked = refl
-  marks_are [] k (b ∷ bs) there marked = absurd marked
-  marks_are (l ∷ ls) k bs there marked =
-      let same : k + 0 ≡ k = omega arith in
-      let here : slice_get net.leaves k ≡ Some l = subst (λ (n : ℕ). slice_get net.leaves n ≡ Some l) same (there 0 l refl) in
-      one_more ls l k l.role l.width here refl
-      (λ cs more. marks_are ls (k + 1) cs
-      (λ j m e. let next : k + suc j ≡ k + 1 + j = omega arith in subst (λ (n : ℕ). slice_get net.leaves n ≡ Some m) next (there (suc j) m e)) more)
-      bs marked
+    abbrev registers_of : List ℕ → List Register
+    registers_of ks = flat_map (λ k. word_register (slice_get net.leaves k)) ks
 
-  pub blocks_are : (bs : List Bool) → AreMarked net (net_registers net) bs → bs ≡ taken_words net
-  blocks_are bs marked = marks_are net.leaves 0 bs (λ j l e. let same : 0 + j ≡ j = omega arith in rw same e) marked
+    one_more : (p : PlacedLeaf) (k : ℕ) (r : RegisterAt net.leaves k) (ks : List ℕ) (ps : List PlacedLeaf) → TakesAs t net p r.register
+        → ((bs : List Bool) → AreMarked net (registers_of ks) bs → AreTaking t bs ps)
+        → (bs : List Bool) → AreMarked net (r.register ∷ registers_of ks) bs → AreTaking t bs (p ∷ ps)
+    one_more p k r ks ps takes rest [] marked = absurd marked
+    one_more p k r ks ps takes rest (b ∷ bs) marked =
+        let same = driven_takes p k r takes in
+        ((λ is. same.0 (marked.0.0 is), λ is. marked.0.1 (same.1 is)), rest bs marked.1)
+
+    words_take : (ks : List ℕ) (ps : List PlacedLeaf) → length ks ≡ length ps
+        → ((n k : ℕ) → slice_get ks n ≡ Some k → RegisterAt net.leaves k)
+        → ((n k : ℕ) (p : PlacedLeaf) (l : Leaf) (r : Register) → slice_get ks n ≡ Some k → slice_get ps n ≡ Some p → slice_get net.leaves k ≡ Some l
+        → l.role ≡ role.Register r → TakesAs t net p r)
+        → (bs : List Bool) → AreMarked net (registers_of ks) bs → AreTaking t bs ps
+    words_take [] [] long registers takes [] marked = tt
+    words_take [] [] long registers takes (b ∷ bs) marked = absurd marked
+    words_take [] (p ∷ ps) long registers takes bs marked = cc
+    words_take (k ∷ ks) [] long registers takes bs marked = cc
+    words_take (k ∷ ks) (p ∷ ps) long registers takes bs marked =
+        let r : RegisterAt net.leaves k = registers 0 k refl in
+        let own : word_register (slice_get net.leaves k) ≡ r.register ∷ [] = ap word_register r.at ∙ ap role_register r.is in
+        one_more p k r ks ps (takes 0 k p r.leaf r.register refl refl r.at r.is)
+        (words_take ks ps (omega arith) (λ n j e. registers (suc n) j e) (λ n j q l d e f. takes (suc n) j q l d e f)) bs
+        (subst (λ (rs : List Register). AreMarked net (rs ++ registers_of ks) bs) own marked)
+
+    pub blocks_take : (bs : List Bool) → AreMarked net (net_registers net) bs → AreTaking t bs (state_words t)
+    blocks_take = words_take net.state (state_words t) as_many (register_at whole.state) means.taken

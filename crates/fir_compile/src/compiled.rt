@@ -5,7 +5,7 @@ ghost use Rattle.fir_ast.specs.working.CodeFaults.{fault_of};
 ghost use Rattle.fir_pass.specs.Groups.{of_loops};
 ghost use Rattle.fir_meaning.specs.working.Stages.{IsClearOf, IsFirstOf};
 ghost use Rattle.fir_loop.specs.working.Orders.{IsOrdered};
-ghost use Rattle.fir_inst.specs.working.FlattensTo.{FlattensTo};
+ghost use Rattle.fir_flatten.specs.working.FlattensTo.{FlattensTo};
 
 use crate::flat::WholeNet;
 use fir_ast::FirFault;

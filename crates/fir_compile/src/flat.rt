@@ -9,7 +9,7 @@ ghost use Rattle.fir_net.specs.working.IsNet.{IsNet};
 use crate::supported::Supported;
 use fir_ast::FirFault;
 use fir_base::Refused;
-use fir_inst::flatten;
+use fir_flatten::flatten;
 use fir_net::FlatNet;
 use fir_pass::{Meant, Pass};
 use fir_whens::NetCircuit;
@@ -38,7 +38,7 @@ impl Model for WholeNet {
 }
 
 impl Meant for WholeNet {
-    ghost use Rattle.fir_inst.specs.working.FlattensTo.{FlattensTo};
+    ghost use Rattle.fir_flatten.specs.working.FlattensTo.{FlattensTo};
 
     ghost is_of = { FlattensTo };
 }

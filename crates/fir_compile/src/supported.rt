@@ -4,8 +4,8 @@ ghost use Rattle.std.specs.Prelude.{◌≡◌, IfOk};
 ghost use Rattle.fir_ast.specs.working.Views.{circuit_of};
 ghost use Rattle.fir_ast.specs.working.CodeFaults.{fault_of};
 ghost use Rattle.fir_ast.specs.declared.fault.FirFault.TheVariants.{Unsupported};
-ghost use Rattle.fir_inst.specs.working.LoneCircuits.{IsLone};
-ghost use Rattle.fir_lack.specs.working.Lacks.{AreClocksClear};
+ghost use Rattle.fir_lack.specs.working.Lacks.{AreMemoriesClear};
+ghost use Rattle.fir_lack.specs.working.TakenCircuits.{IsTaken};
 ghost use Rattle.fir_outcome.specs.CircuitFaults.{LacksNone};
 ghost use Rattle.fir_compile.specs.working.Lacks.{ShowsLack, TellsLack};
 
@@ -32,12 +32,12 @@ impl Model for Supported {
     ghost coded = { contract.the_row.coded };
 
     ghost use Rattle.fir_ast.specs.working.Views.{circuit_of};
-    ghost use Rattle.fir_inst.specs.working.LoneCircuits.{IsLone};
-    ghost use Rattle.fir_lack.specs.working.Lacks.{AreClocksClear};
+    ghost use Rattle.fir_lack.specs.working.Lacks.{AreMemoriesClear};
+    ghost use Rattle.fir_lack.specs.working.TakenCircuits.{IsTaken};
 
     ghost view = { λ s. s.circuit };
 
-    ghost invariant = { λ s. IsLone (circuit_of s.circuit) × AreClocksClear (circuit_of s.circuit) };
+    ghost invariant = { λ s. IsTaken (circuit_of s.circuit) × AreMemoriesClear (circuit_of s.circuit) };
 }
 
 impl Meant for Supported {
@@ -48,18 +48,19 @@ impl Meant for Supported {
 
 impl Supported {
     fn new(circuit: NetCircuit) -> Supported
-        requires lone { IsLone (circuit_of circuit) }
-        requires clocks { AreClocksClear (circuit_of circuit) }
+        requires taken { IsTaken (circuit_of circuit) }
+        requires memories { AreMemoriesClear (circuit_of circuit) }
         ensures { result ≡ circuit }
     {
         Supported { circuit }
     }
 
-    /// The circuit with its nets. It can be flattened, and its clocks show no fault.
+    /// The circuit with its nets. It can be flattened, and shows no fault of the clocks of memories or of asynchronous
+    /// inits.
     pub fn into_circuit(self) -> NetCircuit
         ensures tree { result ≡ self }
-        ensures lone { IsLone (circuit_of result) }
-        ensures clocks { AreClocksClear (circuit_of result) }
+        ensures taken { IsTaken (circuit_of result) }
+        ensures memories { AreMemoriesClear (circuit_of result) }
     {
         self.circuit
     }
@@ -99,9 +100,8 @@ fn first_lack(alloc: Global, circuit: &NetCircuit) -> Result<Option<FirFault>, M
     ensures { IfOk result (TellsLack (circuit_of circuit.now)) }
 {
     let leafed = circuit.leafed();
-    // Its modules have scenes, of which the lack is told, and it has a main one.
+    // Its modules have scenes, of which the lack is told.
     let _modules = leafed.modules();
-    let _tree = leafed.fitted().typed().named().circuit();
     if let Some(lack) = lacking(alloc, leafed)? {
         let fault = unsupported(alloc, lack)?;
         return Ok(Some(fault));

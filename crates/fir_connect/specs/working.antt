@@ -7,4 +7,6 @@ pub mod Drivers
 pub mod LoweredLaws
 pub mod DriverLaws
 pub mod NetRoles
+pub mod MovedTerms
+pub mod CircuitModules
 pub mod RoleLaws

@@ -66,7 +66,7 @@ module _ (g : LeafCircuit) (t : SourceDesign) (m : LeafModule) (first low high :
       let mem = below.member h dv.among in
       let z = dv.leaf in
       let inner = leafed_module h.scene in
-      let agrees = (mem.agrees z dv.within dv.drives).0 in
+      let agrees = (mem.agrees z dv.within (mem.only z dv.within dv.drives)).0 in
       let same : number mem.numbers z ≡ x = once (number mem.numbers z) x (mem.stands.within z dv.within) lt (mem.stands.path z dv.within ∙ sym dv.path) in
       let there : In (lives_all (depth_of g (number mem.numbers z)) (number mem.numbers z) g.body 0) r.live =
       subst (λ v. In (lives_all (depth_of g v) v g.body 0) r.live) (sym same) i in
@@ -100,7 +100,7 @@ module _ (g : LeafCircuit) (t : SourceDesign) (m : LeafModule) (first low high :
       let reads = subst (λ q. In (from_main h.at (tree.live_reads (source_depth h.scene q) q h.scene r.drive)) (circuit_path g y)) (sym z.path) r.reads in
       let l = (own.drives z.leaf z.within).live_back r.drive live in
       let i = (lives_are_live (depth_at inner z.leaf) z.leaf inner.body l.0).1 l.1 in
-      let agrees = (mem.agrees z.leaf z.within (live_drives inner (depth_at inner z.leaf) z.leaf inner.body 0 l.0 i)).0 in
+      let agrees = (mem.agrees z.leaf z.within (mem.only z.leaf z.within (live_drives inner (depth_at inner z.leaf) z.leaf inner.body 0 l.0 i))).0 in
       let xx = number mem.numbers z.leaf in
       let same : xx ≡ x = once xx x (mem.stands.within z.leaf z.within) lt (mem.stands.path z.leaf z.within ∙ ap (λ q. h.at ++ q) z.path ∙ r.is) in
       let moved_in : In (map (moved_live mem.numbers) (lives_all (depth_at inner z.leaf) z.leaf inner.body 0)) (moved_live mem.numbers l.0) =

@@ -51,21 +51,21 @@ pub record SameClockLeaves (g : LeafCircuit) (t : SourceDesign) : Type 0 where
       → AreLives g t x h q
 
 -- live statements that are moved stand where they stood, and so do their indices
-lives_places : (n : Numbering) (ls : List Live) → flat_map live_places (map (moved_live n) ls) ≡ flat_map live_places ls
+pub lives_places : (n : Numbering) (ls : List Live) → flat_map live_places (map (moved_live n) ls) ≡ flat_map live_places ls
 lives_places n [] = refl
 lives_places n (l ∷ ls) =
     ap₂ (λ (ps qs : List Place). ps ++ qs)
     (ap₂ (λ (ps qs : List Place). ps ++ qs) (moved_index_places n l.through) (moved_places n l.given)) (lives_places n ls)
 
-record AreFirstTwo (n : Numbering) (ls : List Live) (one two : Live) : Type 0 where
-  first : Live
-  second : Live
-  rest : List Live
-  are : ls ≡ first ∷ second ∷ rest
-  first_place : one.place ≡ first.place
-  second_place : two.place ≡ second.place
+pub record AreFirstTwo (n : Numbering) (ls : List Live) (one two : Live) : Type 0 where
+  pub first : Live
+  pub second : Live
+  pub rest : List Live
+  pub are : ls ≡ first ∷ second ∷ rest
+  pub first_place : one.place ≡ first.place
+  pub second_place : two.place ≡ second.place
 
-first_two : (n : Numbering) (ls : List Live) (one two : Live) (rest : List Live) → map (moved_live n) ls ≡ one ∷ two ∷ rest → AreFirstTwo n ls one two
+pub first_two : (n : Numbering) (ls : List Live) (one two : Live) (rest : List Live) → map (moved_live n) ls ≡ one ∷ two ∷ rest → AreFirstTwo n ls one two
 first_two n [] one two rest e = absurd (cc)
 first_two n (a ∷ []) one two rest e =
     let none : [] ≡ two ∷ rest = cc in
@@ -141,7 +141,7 @@ module _ (g : LeafCircuit) (t : SourceDesign) (same : SameClockLeaves g t) where
     one_there : (place : Place) → StandsAt t (leaf_path p) place → place ≡ place_of_leaf g x
     one_there place h = same.one_place x place lt (subst (λ path. StandsAt t path place) l.path h)
 
-    picked_by_path : (f : Fault) → numbered.ShowsPickedClock g x f → tree.ShowsPickedClock t p f
+    pub picked_by_path : (f : Fault) → numbered.ShowsPickedClock g x f → tree.ShowsPickedClock t p f
     picked_by_path f h = record {
       index = h.index;
       picks = picks_to h.index h.first.among;
@@ -151,7 +151,7 @@ module _ (g : LeafCircuit) (t : SourceDesign) (same : SameClockLeaves g t) where
       is = h.is ∙ ap (λ told. clock_fault (place_of_leaf g x) told h.index h.index) path_told;
     }
 
-    picked_by_number : (f : Fault) → tree.ShowsPickedClock t p f → numbered.ShowsPickedClock g x f
+    pub picked_by_number : (f : Fault) → tree.ShowsPickedClock t p f → numbered.ShowsPickedClock g x f
     picked_by_number f h = record {
       index = h.index;
       first = record { among = picks_from h.index h.picks; none_before = λ q i. h.none_before q (picks_to q i) };
@@ -163,7 +163,7 @@ module _ (g : LeafCircuit) (t : SourceDesign) (same : SameClockLeaves g t) where
         → clock_places g x (leaf_at g.leaves x).holds (role_of g x) ≡ flat_map live_places (lives_of g x)
     sink_places h r = ap₂ (clock_places g x) h r
 
-    two_by_path : (f : Fault) → numbered.ShowsTwoLive g x f → tree.ShowsTwoLive t p f
+    pub two_by_path : (f : Fault) → numbered.ShowsTwoLive g x f → tree.ShowsTwoLive t p f
     two_by_path f h =
         let o = same.to_module x lt h.first (subst (λ (ls : List Live). In ls h.first) (sym h.lives) (inl refl)) in
         let s = o.holder.scene in
@@ -199,7 +199,7 @@ module _ (g : LeafCircuit) (t : SourceDesign) (same : SameClockLeaves g t) where
               ∙ ap₂ (clock_fault (place_of_leaf g x) (path_text (leaf_path p))) (ls.first_place ∙ one.same.place) (ls.second_place ∙ two.same.place);
         }
 
-    two_by_number : (f : Fault) → tree.ShowsTwoLive t p f → numbered.ShowsTwoLive g x f
+    pub two_by_number : (f : Fault) → tree.ShowsTwoLive t p f → numbered.ShowsTwoLive g x f
     two_by_number f h =
         let s = h.holder.scene in
         let live = LiveFor h.holder h.leaf in

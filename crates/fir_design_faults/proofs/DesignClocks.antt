@@ -1,17 +1,14 @@
 -- Each sound design of a circuit without a fault of names or types shows over numbered leaves the faults of clocks that its tree shows by paths.
-use Rattle.std.proofs.Common.{◌↔◌, sym, subst}
+use Rattle.std.proofs.Common.{sym, subst}
 use Rattle.fir_ast.specs.Circuits.{CircuitTree}
-use Rattle.fir_ast.specs.Faults.{Fault}
 use Rattle.fir_meaning.specs.ModuleScenes.{Scene}
-use Rattle.fir_meaning.specs.SourceClocks as tree
 use Rattle.fir_meaning.specs.SourceDesigns as source
-use Rattle.fir_meaning.specs.SourceDesigns.{Instances}
-use Rattle.fir_meaning.specs.working.Designs.{Items, made_of}
+use Rattle.fir_meaning.specs.SourceDesigns.{Instances, SourceDesign}
+use Rattle.fir_meaning.specs.working.Designs.{Design, Items, made_of}
 use Rattle.fir_meaning.specs.working.Flattened.{flattened}
 use Rattle.fir_meaning.specs.working.LeafModules.{LeafModule, leaf_at}
 use Rattle.fir_meaning.specs.working.LeafCircuits.{role_of}
 use Rattle.fir_meaning.specs.working.LeafedModules.{leafed_module, module_leaves}
-use Rattle.fir_leaf.specs.working.ClockFaults as numbered
 use Rattle.fir_design.specs.working.MeaningLaws.{AreDesigns}
 use Rattle.fir_design.proofs.FlatInStep.{each_leaf, many_leaves}
 use Rattle.fir_design.proofs.ViewRoles.{views_same}
@@ -51,14 +48,14 @@ same_leaves c s is trees a =
     }
 
 -- at the module and the tree that the design has
-abbrev Same : (m : LeafModule) (is : Items) (s : Scene) (trees : Instances) → CircuitTree → Fault → Type 0
-Same m is s trees c f =
-    AreDesigns c (made_of m is) (source.made_of s trees)
-    → numbered.ShowsClockFault (flattened (made_of m is)) f ↔ tree.ShowsClockFault (source.made_of s trees) f
+abbrev Same : (m : LeafModule) (is : Items) (s : Scene) (trees : Instances) → CircuitTree → Type 0
+Same m is s trees c = AreDesigns c (made_of m is) (source.made_of s trees) → SameClockLeaves (flattened (made_of m is)) (source.made_of s trees)
+
+pub clock_leaves : (c : CircuitTree) (d : Design) (t : SourceDesign) → AreDesigns c d t → SameClockLeaves (flattened d) t
+clock_leaves c (made_of m is) (source.made_of u trees) a =
+    let s = a.main in
+    subst (λ (v : LeafModule). Same v is u trees c) (sym a.design.is.0)
+    (subst (λ (z : Scene). Same (leafed_module s) is z trees c) (sym a.tree.0) (λ own. same_leaves c s is trees own)) a
 
 pub clock_faults : SameClockFaults
-clock_faults c (made_of m is) (source.made_of u trees) f a =
-    let s = a.main in
-    subst (λ (v : LeafModule). Same v is u trees c f) (sym a.design.is.0)
-    (subst (λ (z : Scene). Same (leafed_module s) is z trees c f) (sym a.tree.0)
-    (λ own. clocks_same (flattened (made_of (leafed_module s) is)) (source.made_of s trees) (same_leaves c s is trees own) f)) a
+clock_faults c d t f a = clocks_same (flattened d) t (clock_leaves c d t a) f

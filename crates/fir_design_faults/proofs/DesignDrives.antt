@@ -1,4 +1,5 @@
--- In a design each module's statements drive leaves that no other module drives, and what is live for them in the whole is what is live in the module, moved.
+-- In a design each module's statements drive leaves that no other module drives, and what is live for them in the whole is what is live in the module, moved;
+-- so is what drives them in a net.
 use Rattle.std.proofs.Common.{◌≡◌, ℕ, ◌+◌, ◌-◌, ◌<◌, ◌≤◌, List, [], ◌∷◌, ◌++◌, map, Bool, true, false, not, ◌||◌, nat_lt, length, slice_get, Some, refl, sym, ap, ◌∙◌, subst, inl, inr, ⊎_elim, arith, ◌⊎◌}
 use Rattle.std.proofs.lemmas.Bool.{ltb-false, ltb-true}
 use Rattle.std.proofs.lemmas.List.{length-drop}
@@ -27,6 +28,7 @@ use Rattle.fir_meaning.specs.working.UndrivenChoices.{drives, drives_any}
 use Rattle.fir_leaf.specs.working.NamedDesigns.{AreNamedItems, IsNamedItem, all_instances_in, instances_in}
 use Rattle.fir_leaf.specs.working.SoundDesigns.{AreWired, IsWired}
 use Rattle.fir_leaf.proofs.FlatPlaces.{At, at_left, at_right, count_is, counts_are, held_stands, inner_at, placed_at}
+use Rattle.fir_leaf.proofs.FlatStores.{depths}
 use Rattle.fir_leaf.proofs.MovedTerms.{Stands, number_more, number_own, number_port}
 use Rattle.fir_design.proofs.HeldInstances.{Held, all_held_in, held_in}
 use Rattle.fir_design.proofs.InstanceTrees.{IsTreeOf, NamedTree, trees_in, trees_of_module}
@@ -34,8 +36,10 @@ use Rattle.fir_design.proofs.ListsInStep.{AreInStep, step_parts}
 use Rattle.fir_design.proofs.NumberedScenes.{scene_own, view_at}
 use Rattle.fir_design_faults.proofs.DrivenParts.{Drives, MayDrive, joined_drives, no_statements, one_drive, when_drives}
 use Rattle.fir_design_faults.proofs.FlatDrives.{Driver, IsTurned, Member, driver_within, left_true, modules_by_trees, modules_of_trees, not_true, right_true}
-use Rattle.fir_meaning.specs.working.Choices.{lives_all}
+use Rattle.fir_meaning.specs.working.Choices.{covers_all, lives_all}
 use Rattle.fir_design_faults.proofs.FlatLives.{moved_live, quiet}
+use Rattle.fir_design_faults.proofs.MovedDrivers.{DriverMoves, quiet_moves}
+use Rattle.fir_design_faults.proofs.ReadStatements.{AreReading, IsReading}
 use Rattle.fir_design_faults.proofs.OwnNumbers.{HasRoom, IsInst, OwnDrives, distinct_left, distinct_right, own_apart}
 
 -- a leaf that a design may drive: one of its module's ports, or one of its own
@@ -57,6 +61,7 @@ moved_member table b level W V h f p = record {
   deep = p.deep;
   stands = p.stands;
   placed = p.placed;
+  only = p.only;
   agrees = λ y lt e. let both = p.agrees y lt e in (both.0, f (number p.numbers y) both.1);
 }
 
@@ -74,6 +79,7 @@ later_of y s b q = right_true (drives y s) (drives_any y b) q
 module _ (circuit : CircuitTree) (names : HasNames circuit) (scenes : List Scene) (are : AreScenes circuit scenes) (table : List LeafDeclared)
     (only : (s : Scene) → In scenes s → (y : ℕ) → y < length (module_leaves s) → drives_any y (leafed_module s).body ≡ true
     → may_drive (role_at (leafed_module s) y) ≡ true)
+    (reading : (s : Scene) → In scenes s → AreReading (leafed_module s) (leafed_module s).body)
     (turned : (s : Scene) → In scenes s → (h : Held) → In (all_held_in 0 (leafed_module s).body) h → (child : Scene)
     → slice_get scenes h.own.module_number ≡ Some child → (z : ℕ) → z < (leafed_module child).port_leaves
     → IsTurned (leafed_module s) (leafed_module child) h.own z) where
@@ -132,6 +138,10 @@ module _ (circuit : CircuitTree) (names : HasNames circuit) (scenes : List Scene
               let q = quiet (leaf_at table x).depth x (flat_below (number n y.first) free (made_of v is)) level
               (not_true (drives_any x (flat_below (number n y.first) free (made_of v is))) (λ d. none (inside x (below.region x d)))) in
               record { lives = q.lives; covers = q.covers };
+          driver = λ z lt none.
+              quiet_moves n m z (depths table (number n z)) (depth_at m z) (flat_below (number n y.first) free (made_of v is)) level y k
+              (not_true (drives_any (number n z) (flat_below (number n y.first) free (made_of v is)))
+              (λ d. none (inside (number n z) (below.region (number n z) d))));
           member = λ h i.
               ⊎_elim
               (λ (j : In (modules_of_design (path ++ named e.name ∷ []) e.tree) h).
@@ -169,17 +179,18 @@ module _ (circuit : CircuitTree) (names : HasNames circuit) (scenes : List Scene
     abbrev whole : LeafBlock
     whole = flat_below first free (made_of (leafed_module s) is)
 
-    own_region : (x : ℕ) → OwnDrives n m (block_of is) x → InRegion m first free top x
-    own_region x o = by (nat_lt o.leaf m.port_leaves) refl
+    leaf_region : (y : ℕ) → y < length m.leaves → may_drive (role_at m y) ≡ true → InRegion m first free top (number n y)
+    leaf_region y within driven = by (nat_lt y m.port_leaves) refl
       where
-        by : (b : Bool) → nat_lt o.leaf m.port_leaves ≡ b → InRegion m first free top x
-        by true e =
-            let lt = ltb-true o.leaf m.port_leaves e in
-            inl (o.leaf, lt, sym (number_port n o.leaf lt) ∙ o.is, may o.leaf o.within o.drives)
+        by : (b : Bool) → nat_lt y m.port_leaves ≡ b → InRegion m first free top (number n y)
+        by true e = let lt = ltb-true y m.port_leaves e in inl (y, lt, sym (number_port n y lt), driven)
         by false e =
-            let le = ltb-false o.leaf m.port_leaves e in
+            let le = ltb-false y m.port_leaves e in
             let counted : length (inner_leaves m) ≡ length m.leaves - m.port_leaves = length-drop m.port_leaves m.leaves in
-            inr (omega (arith, number_own n o.leaf le, o.is), omega (arith, number_own n o.leaf le, o.is, o.within, le, counted))
+            inr (omega (arith, number_own n y le), omega (arith, number_own n y le, within, le, counted))
+
+    own_region : (x : ℕ) → OwnDrives n m (block_of is) x → InRegion m first free top x
+    own_region x o = subst (InRegion m first free top) o.is (leaf_region o.leaf o.within (may o.leaf o.within o.drives))
 
     inst_region : (x : ℕ) → IsInst n m (all_instances_in is) low high x → InRegion m first free top x
     inst_region x (inl p) =
@@ -204,14 +215,17 @@ module _ (circuit : CircuitTree) (names : HasNames circuit) (scenes : List Scene
       deep = omega arith;
       stands = st;
       placed = placed;
+      only = λ y lt e. may y lt (ap (drives_any y) body ∙ e);
       agrees = λ y lt e.
-          let own : drives_any y (block_of is) ≡ true = ap (drives_any y) body ∙ e in
-          let still = all.moved y lt (own_apart n m low room (all_instances_in is) low high y lt (may y lt own) (omega arith)) in (
+          let apart = own_apart n m low room (all_instances_in is) low high y lt e (omega arith) in
+          let still = all.moved y lt apart in (
             record {
-              drives = all.drives y lt own;
+              drives = λ d. all.drives y lt (ap (drives_any y) body ∙ d);
               lives = still.lives ∙ ap (λ b. map (moved_live n) (lives_all (depth_at m y) y b 0)) body;
+              covers = still.covers ∙ ap (λ b. covers_all (depth_at m y) y b 0) body;
+              driver = subst (λ b. DriverMoves n m y (depths table (number n y)) whole k (depth_at m y) b 0) body (all.driver y lt apart);
             },
-            own_region (number n y) (record { leaf = y; within = lt; is = refl; drives = own }),
+            leaf_region y lt e,
           );
     }
 
@@ -241,16 +255,17 @@ module _ (circuit : CircuitTree) (names : HasNames circuit) (scenes : List Scene
     item_drives : (x : Item) (s : Scene) (path : LeafPath) (n : Numbering) (k0 k d free array first_free : ℕ) (es : List NamedTree)
         (st : Stands table n path k0 (leafed_module s)) → HasRoom n (leafed_module s) first_free → first_free ≤ free → d ≡ k0 + k
         → IsItemIn (views scenes) x → IsWired (leafed_module s) k x → IsNamedItem (leafed_module s) x → Distinct (instances_in x)
-        → MayDrive table n (leafed_module s) path k0 st (over.then (statement_of x) over.done) → AreTurned s (held_in k (statement_of x))
+        → IsReading (leafed_module s) (statement_of x) → MayDrive table n (leafed_module s) path k0 st (over.then (statement_of x) over.done)
+        → AreTurned s (held_in k (statement_of x))
         → At table free (leaves_in path d (leafed_module s) n free array x) → AreInStep (IsTreeOf scenes s) (held_in k (statement_of x)) es
         → Rising s path n k0 st d k free es (instances_in x) (count x) (flat n free x) (over.then (statement_of x) over.done)
-    item_drives (drive p b ps t) s path n k0 k d free array first_free [] st room le e i w called once may turns at h =
+    item_drives (drive p b ps t) s path n k0 k d free array first_free [] st room le e i w called once reads may turns at h =
         let none : free + 0 ≡ free = omega arith in
         subst (λ high. Drives table n (leafed_module s) path k0 st [] free high [] (flat n free (drive p b ps t)) d
         (over.then (over.drive p b ps t) over.done) k) (sym none)
-        (one_drive table n (leafed_module s) path k0 st first_free room free d k p b ps t w.0)
-    item_drives (drive p b ps t) s path n k0 k d free array first_free (x ∷ es) st room le e i w called once may turns at h = absurd h
-    item_drives (when p t a b) s path n k0 k d free array first_free es st room le e i w called once may turns at h =
+        (one_drive table n (leafed_module s) path k0 st first_free room free d k p b ps t reads.0 reads.1 reads.2)
+    item_drives (drive p b ps t) s path n k0 k d free array first_free (x ∷ es) st room le e i w called once reads may turns at h = absurd h
+    item_drives (when p t a b) s path n k0 k d free array first_free es st room le e i w called once reads may turns at h =
         let m = leafed_module s in
         let one = all_leaves_in path (d + 1) m n free array a in
         let two = all_leaves_in path (d + 1) m n (free + count_all a) (array + array_count_all a) b in
@@ -263,10 +278,10 @@ module _ (circuit : CircuitTree) (names : HasNames circuit) (scenes : List Scene
         let may_second : MayDrive table n m path k0 st (block_of b) =
         λ y lt q. may y lt (left_true (drives_any y (block_of a) || drives_any y (block_of b)) false (right_true (drives_any y (block_of a)) (drives_any y (block_of b)) q)) in
         let first = items_drives a s path n k0 (k + 1) (d + 1) free array first_free parts.0 st room le deep i.0 w.1 called.0
-        (distinct_left ds fs once) may_first
+        (distinct_left ds fs once) reads.1 may_first
         (λ q j. turns q (in_left (all_held_in (k + 1) (block_of a)) (all_held_in (k + 1) (block_of b)) q j)) (at_left table one two free at) parts.3 in
         let second = items_drives b s path n k0 (k + 1) (d + 1) (free + count_all a) (array + array_count_all a) first_free parts.1 st room (omega (arith, le)) deep
-        i.1 w.2 called.1 (distinct_right ds fs once) may_second
+        i.1 w.2 called.1 (distinct_right ds fs once) reads.2 may_second
         (λ q j. turns q (in_right (all_held_in (k + 1) (block_of a)) (all_held_in (k + 1) (block_of b)) q j))
         (rw (counts_are path (d + 1) m n free array a) at (at_right table one two free at)) parts.4 in
         let far : (free + count_all a) + count_all b ≡ free + (count_all a + count_all b) = omega arith in
@@ -275,10 +290,10 @@ module _ (circuit : CircuitTree) (names : HasNames circuit) (scenes : List Scene
         (subst (λ gs. Drives table n m path k0 st (ds ++ fs) free ((free + count_all a) + count_all b) gs (flat n free (when p t a b)) d
         (over.then (over.when p t (block_of a) (block_of b)) over.done) k) (sym parts.2)
         (when_drives table n m path k0 st first_free room ds fs free (free + count_all a) ((free + count_all a) + count_all b) parts.0 parts.1 p t
-        (flat_all n free a) (flat_all n (free + count_all a) b) d (block_of a) (block_of b) k once le (omega arith) (omega arith) may_first may_second first second e))
-    item_drives (instance y d') s path n k0 k d free array first_free [] st room le e i w called once may turns at h = absurd h
-    item_drives (instance y d') s path n k0 k d free array first_free (x ∷ z ∷ es) st room le e i w called once may turns at h = absurd h.1
-    item_drives (instance y (made_of v is)) s path n k0 k d free array first_free (x ∷ []) st room le e i w called once may turns at h =
+        (flat_all n free a) (flat_all n (free + count_all a) b) d (block_of a) (block_of b) k once le (omega arith) (omega arith) may_first may_second first second e reads.0))
+    item_drives (instance y d') s path n k0 k d free array first_free [] st room le e i w called once reads may turns at h = absurd h
+    item_drives (instance y d') s path n k0 k d free array first_free (x ∷ z ∷ es) st room le e i w called once reads may turns at h = absurd h.1
+    item_drives (instance y (made_of v is)) s path n k0 k d free array first_free (x ∷ []) st room le e i w called once reads may turns at h =
         let m = leafed_module s in
         let t : IsTreeOf scenes s (record { depth = k; own = y }) x = h.0 in
         let below = instance_path path m y in
@@ -299,15 +314,15 @@ module _ (circuit : CircuitTree) (names : HasNames circuit) (scenes : List Scene
     items_drives : (xs : Items) (s : Scene) (path : LeafPath) (n : Numbering) (k0 k d free array first_free : ℕ) (es : List NamedTree)
         (st : Stands table n path k0 (leafed_module s)) → HasRoom n (leafed_module s) first_free → first_free ≤ free → d ≡ k0 + k
         → AreItemsIn (views scenes) xs → AreWired (leafed_module s) k xs → AreNamedItems (leafed_module s) xs → Distinct (all_instances_in xs)
-        → MayDrive table n (leafed_module s) path k0 st (block_of xs) → AreTurned s (all_held_in k (block_of xs))
+        → AreReading (leafed_module s) (block_of xs) → MayDrive table n (leafed_module s) path k0 st (block_of xs) → AreTurned s (all_held_in k (block_of xs))
         → At table free (all_leaves_in path d (leafed_module s) n free array xs) → AreInStep (IsTreeOf scenes s) (all_held_in k (block_of xs)) es
         → Rising s path n k0 st d k free es (all_instances_in xs) (count_all xs) (flat_all n free xs) (block_of xs)
-    items_drives done s path n k0 k d free array first_free [] st room le e i w called once may turns at h =
+    items_drives done s path n k0 k d free array first_free [] st room le e i w called once reads may turns at h =
         let none : free + 0 ≡ free = omega arith in
         subst (λ high. Drives table n (leafed_module s) path k0 st [] free high [] over.done d over.done k) (sym none)
         (no_statements table n (leafed_module s) path k0 st free d k)
-    items_drives done s path n k0 k d free array first_free (x ∷ es) st room le e i w called once may turns at h = absurd h
-    items_drives ((then) x xs) s path n k0 k d free array first_free es st room le e i w called once may turns at h =
+    items_drives done s path n k0 k d free array first_free (x ∷ es) st room le e i w called once reads may turns at h = absurd h
+    items_drives ((then) x xs) s path n k0 k d free array first_free es st room le e i w called once reads may turns at h =
         let m = leafed_module s in
         let one = leaves_in path d m n free array x in
         let two = all_leaves_in path d m n (free + count x) (array + array_count x) xs in
@@ -319,10 +334,10 @@ module _ (circuit : CircuitTree) (names : HasNames circuit) (scenes : List Scene
         λ y lt q. may y lt (one_of y (statement_of x) (block_of xs) q) in
         let may_second : MayDrive table n m path k0 st (block_of xs) =
         λ y lt q. may y lt (later_of y (statement_of x) (block_of xs) q) in
-        let first = item_drives x s path n k0 k d free array first_free parts.0 st room le e i.0 w.0 called.0 (distinct_left ds fs once) may_first
+        let first = item_drives x s path n k0 k d free array first_free parts.0 st room le e i.0 w.0 called.0 (distinct_left ds fs once) reads.0 may_first
         (λ q j. turns q (in_left (held_in k (statement_of x)) (all_held_in k (block_of xs)) q j)) (at_left table one two free at) parts.3 in
         let second = items_drives xs s path n k0 k d (free + count x) (array + array_count x) first_free parts.1 st room (omega (arith, le)) e i.1 w.1 called.1
-        (distinct_right ds fs once) may_second
+        (distinct_right ds fs once) reads.1 may_second
         (λ q j. turns q (in_right (held_in k (statement_of x)) (all_held_in k (block_of xs)) q j))
         (rw (count_is path d m n free array x) at (at_right table one two free at)) parts.4 in
         let far : (free + count x) + count_all xs ≡ free + (count x + count_all xs) = omega arith in
@@ -347,7 +362,8 @@ module _ (circuit : CircuitTree) (names : HasNames circuit) (scenes : List Scene
         let may : MayDrive table n m path k st (block_of is) = λ y lt q. only s i y lt (ap (drives_any y) (sym body) ∙ q) in
         let beside = trees_of_module scenes s circuit names (scene_own circuit scenes are s i) trees h.1 in
         let all = items_drives is s path n k 0 k (free + own) (array + length m.arrays) (free + own) (trees_in trees) st room (omega arith) (omega arith) e.2 w
-        called once may (λ q j. turned s i q (subst (λ b. In (all_held_in 0 b) q) body j)) (inner_at table path k first free array m is at)
+        called once (subst (AreReading m) (sym body) (reading s i)) may (λ q j. turned s i q (subst (λ b. In (all_held_in 0 b) q) body j))
+        (inner_at table path k first free array m is at)
         (subst (λ b. AreInStep (IsTreeOf scenes s) (all_held_in 0 b) (trees_in trees)) (sym body) beside) in
         let rest = all_leaves_in path k m n (free + own) (array + length m.arrays) is in
         let placed : (x : ℕ) → m.port_leaves ≤ x → x < length (module_leaves s)

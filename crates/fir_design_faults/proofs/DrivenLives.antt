@@ -50,7 +50,7 @@ module _ (g : LeafCircuit) (t : SourceDesign) (m : LeafModule) (first low high :
   lives_there x lt h among z within drives path =
       let inner = leafed_module h.scene in
       let mem = below.member h among in
-      let agrees = (mem.agrees z within drives).0 in
+      let agrees = (mem.agrees z within (mem.only z within drives)).0 in
       let same : number mem.numbers z ≡ x = once (number mem.numbers z) x (mem.stands.within z within) lt (mem.stands.path z within ∙ path) in
       let f = fine h among in
       record {

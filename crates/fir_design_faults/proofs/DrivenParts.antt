@@ -1,4 +1,4 @@
--- Statements of a module with the designs of its instances in place, part by part: what they drive, and what is live in them.
+-- Statements of a module with the designs of its instances in place, part by part: what they drive, what is live in them, and what drives leaves in a net.
 use Rattle.std.proofs.Common.{◌≡◌, ℕ, ◌+◌, ◌<◌, ◌≤◌, List, [], ◌∷◌, ◌++◌, map, Bool, true, false, ◌||◌, nat_lt, length, refl, sym, ap, ap₂, ◌∙◌, subst, inl, inr, ⊎_elim, arith, ◌⊎◌, append-nil}
 use Rattle.std.proofs.lemmas.Bool.{le-ltb, lt-ltb, ltb-false, ltb-true}
 use Rattle.std.proofs.lemmas.Grind.{flat_map-append}
@@ -21,8 +21,10 @@ use Rattle.fir_leaf.proofs.MovedTerms.{Stands}
 use Rattle.fir_design.proofs.InstanceTrees.{NamedTree}
 use Rattle.fir_design_faults.proofs.FlatDrives.{Driver, Member, behind_member, driver_within, either_true, first_member, joined_member, left_true, modules_of_trees, not_true, right_true, second_member}
 use Rattle.fir_design_faults.proofs.FlatLives.{AreMoved, covers_joined, lives_joined, moved_drive, moved_joined, moved_live, moved_when}
+use Rattle.fir_design_faults.proofs.AllTerms.{AllPicksIn, AllTermIn}
+use Rattle.fir_design_faults.proofs.MovedDrivers.{DriverMoves, drive_moves, moves_joined, nothing_moves, when_moves}
 use Rattle.fir_design_faults.proofs.MovedReads.{reached_moved, same_picked, within_read}
-use Rattle.fir_design_faults.proofs.OwnNumbers.{HasRoom, IsInst, OwnDrives, among_moved, among_there, inst_apart, inst_within, own_apart}
+use Rattle.fir_design_faults.proofs.OwnNumbers.{HasRoom, IsInst, OwnDrives, among_moved, among_there, inst_apart, inst_within, number_once, own_apart}
 use Rattle.fir_source_faults.proofs.JoinedChoices.{drives_joined}
 
 pub same_less : (k0 k d : ℕ) → nat_lt (k0 + k) (k0 + d) ≡ nat_lt k d
@@ -45,6 +47,9 @@ module _ (table : List LeafDeclared) (n : Numbering) (m : LeafModule) (path : Le
         (y : ℕ) → y < length m.leaves → (IsInst n m ds low high (number n y) → ⊥)
         → AreMoved n (lives_all (depths table (number n y)) (number n y) whole level) (lives_all (depth_at m y) y own k)
         (covers_all (depths table (number n y)) (number n y) whole level) (covers_all (depth_at m y) y own k)
+    pub driver :
+        (y : ℕ) → y < length m.leaves → (IsInst n m ds low high (number n y) → ⊥)
+        → DriverMoves n m y (depths table (number n y)) whole level (depth_at m y) own k
     pub member : (h : PlacedModule) → In (modules_of_trees path es) h → Member table whole level (IsInst n m ds low high) h
 
   modules_joined : (es fs : List NamedTree) → modules_of_trees path (es ++ fs) ≡ modules_of_trees path es ++ modules_of_trees path fs
@@ -55,14 +60,15 @@ module _ (table : List LeafDeclared) (n : Numbering) (m : LeafModule) (path : Le
     parts = λ x e. absurd (cc);
     drives = λ y lt e. absurd (cc);
     moved = λ y lt none. record { lives = refl; covers = refl };
+    driver = λ y lt none. nothing_moves n m y (depths table (number n y)) (depth_at m y) level k;
     member = λ h i. absurd i;
   }
 
   module _ (first_free : ℕ) (room : HasRoom n m first_free) where
-    pub one_drive : (low level k : ℕ) (p : Place) (b : ℕ) (ps : Picks) (t : Term) → IsRead m b ps
+    pub one_drive : (low level k : ℕ) (p : Place) (b : ℕ) (ps : Picks) (t : Term) → IsRead m b ps → AllPicksIn m ps → AllTermIn m t
         → Drives [] low low [] (over.then (over.drive p (number n b) (moved_picks n ps) (moved n t)) over.done) level
         (over.then (over.drive p b ps t) over.done) k
-    one_drive low level k p b ps t r =
+    one_drive low level k p b ps t r inside given =
         let same : (y : ℕ) → is_among (reached (number n b) (moved_picks n ps)) (number n y) ≡ is_among (reached b ps) y =
         λ y. ap (λ zs. is_among zs (number n y)) (reached_moved n m room.ports b ps r) ∙ among_moved n room.first (reached b ps) y in
         record {
@@ -88,12 +94,30 @@ module _ (table : List LeafDeclared) (n : Numbering) (m : LeafModule) (path : Le
                 lives = append-nil _ ∙ one.lives ∙ ap (map (moved_live n)) (sym (append-nil _));
                 covers = one.covers;
               };
+          driver = λ y lt none. drive_moves n m y room.ports (depths table (number n y)) (depth_at m y) room.first lt p b ps t level k r inside given;
           member = λ h i. absurd i;
         }
       where
         alone_true : (a : Bool) → (a || false) ≡ true → a ≡ true
         alone_true true e = refl
         alone_true false e = absurd (cc)
+
+    -- a leaf that no instance drives is driven where the module drives it
+    same_driven : (ds : List ℕ) (low high : ℕ) (es : List NamedTree) (whole : LeafBlock) (level : ℕ) (own : LeafBlock) (k : ℕ)
+        → Drives ds low high es whole level own k → (y : ℕ) → y < length m.leaves → (IsInst n m ds low high (number n y) → ⊥)
+        → drives_any (number n y) whole ≡ drives_any y own
+    same_driven ds low high es whole level own k d y lt none = by (drives_any y own) refl
+      where
+        by : (b : Bool) → drives_any y own ≡ b → drives_any (number n y) whole ≡ b
+        by true e = d.drives y lt e
+        by false e =
+            not_true (drives_any (number n y) whole)
+            (λ q.
+            ⊎_elim
+            (λ (o : OwnDrives n m own (number n y)).
+            let same : drives_any y own ≡ true = ap (λ z. drives_any z own) (sym (number_once n room.first o.leaf y o.is)) ∙ o.drives in
+            absurd (cc))
+            (λ (i : IsInst n m ds low high (number n y) × Driver table (modules_of_trees path es) (number n y)). none i.0) (d.parts (number n y) q))
 
     module _ (ds fs : List ℕ) (low middle high : ℕ) (es gs : List NamedTree) (a b : LeafBlock) (level : ℕ) (c d : LeafBlock) (k : ℕ)
         (distinct : Distinct (ds ++ fs)) (le : first_free ≤ low) (next : low ≤ middle) (last : middle ≤ high) (may_first : MayDrive c) (may_second : MayDrive d)
@@ -179,6 +203,9 @@ module _ (table : List LeafDeclared) (n : Numbering) (m : LeafModule) (path : Le
               lives = lives_joined depth x a b level ∙ both.lives ∙ ap (map (moved_live n)) (sym (lives_joined inner y c d k));
               covers = covers_joined depth x a b level ∙ both.covers ∙ sym (covers_joined inner y c d k);
             };
+        driver = λ y lt none.
+            moves_joined n m y (depths table (number n y)) (depth_at m y) a b level c d k (first.driver y lt (λ i. none (in_first (number n y) i)))
+            (second.driver y lt (λ i. none (in_second (number n y) i)));
         member = λ h i.
             ⊎_elim
             (λ (j : In (modules_of_trees path es) h).
@@ -191,7 +218,8 @@ module _ (table : List LeafDeclared) (n : Numbering) (m : LeafModule) (path : Le
     -- the blocks of a when
     module _ (ds fs : List ℕ) (low middle high : ℕ) (es gs : List NamedTree) (p : Place) (t : Term) (a b : LeafBlock) (level : ℕ) (c d : LeafBlock) (k : ℕ)
         (distinct : Distinct (ds ++ fs)) (le : first_free ≤ low) (next : low ≤ middle) (last : middle ≤ high) (may_first : MayDrive c) (may_second : MayDrive d)
-        (first : Drives ds low middle es a (level + 1) c (k + 1)) (second : Drives fs middle high gs b (level + 1) d (k + 1)) (round : level ≡ k0 + k) where
+        (first : Drives ds low middle es a (level + 1) c (k + 1)) (second : Drives fs middle high gs b (level + 1) d (k + 1)) (round : level ≡ k0 + k)
+        (reads : AllTermIn m t) where
       abbrev In_first : (x : ℕ) → IsInst n m ds low middle x → IsInst n m (ds ++ fs) low high x
       In_first = in_first ds fs low middle high es gs a b (level + 1) c d (k + 1) distinct le next last may_first may_second first second
 
@@ -248,6 +276,13 @@ module _ (table : List LeafDeclared) (n : Numbering) (m : LeafModule) (path : Le
               lives = append-nil _ ∙ both.lives ∙ ap (map (moved_live n)) (sym (append-nil _));
               covers = both.covers;
             };
+        driver = λ y lt none.
+            let not_first = λ (i : IsInst n m ds low middle (number n y)). none (In_first (number n y) i) in
+            let not_second = λ (i : IsInst n m fs middle high (number n y)). none (In_second (number n y) i) in
+            when_moves n m y room.ports (depths table (number n y)) (depth_at m y) p t a b level c d k reads
+            (ap₂ nat_lt round (st.depth y lt) ∙ same_less k0 k (depth_at m y))
+            (same_driven ds low middle es a (level + 1) c (k + 1) first y lt not_first) (same_driven fs middle high gs b (level + 1) d (k + 1) second y lt not_second)
+            (first.driver y lt not_first) (second.driver y lt not_second);
         member = λ h i.
             ⊎_elim
             (λ (j : In (modules_of_trees path es) h).

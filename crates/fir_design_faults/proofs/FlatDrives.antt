@@ -1,5 +1,5 @@
 -- What the statements of a design drive: each leaf is driven by the statements of one of its modules, and what is live for it in the whole is what is live in
--- that module, moved.
+-- that module, moved; so is what drives it in a net, and whether it is covered.
 use Rattle.std.proofs.Common.{◌≡◌, ℕ, ◌+◌, ◌<◌, ◌≤◌, List, [], ◌∷◌, ◌++◌, map, flat_map, Bool, true, false, not, ◌||◌, length, refl, ap, ◌∙◌, inl, inr, arith, ◌⊎◌}
 use Rattle.std.proofs.lemmas.Bool.{false_from_ne_true}
 use Rattle.fir_base.specs.Lists.{In}
@@ -8,7 +8,7 @@ use Rattle.fir_meaning.specs.working.Terms.{Term}
 use Rattle.fir_meaning.specs.LeafPaths.{LeafPath, named}
 use Rattle.fir_meaning.specs.SourceDependence.{PlacedModule, modules_of_design, modules_of_instances}
 use Rattle.fir_meaning.specs.SourceDesigns.{Instances, held, no_instances}
-use Rattle.fir_meaning.specs.working.Choices.{lives_all}
+use Rattle.fir_meaning.specs.working.Choices.{covers_all, lives_all}
 use Rattle.fir_meaning.specs.working.FlatLeaves.{placed_leaf}
 use Rattle.fir_meaning.specs.working.LeafBlocks.{HeldInstance, LeafBlock, joined}
 use Rattle.fir_meaning.specs.working.LeafBlocks as over
@@ -21,7 +21,8 @@ use Rattle.fir_leaf.proofs.MovedTerms.{Stands}
 use Rattle.fir_design.proofs.InstanceTrees.{NamedTree, trees_in}
 use Rattle.fir_source_faults.specs.working.ReadsByPath.{path_in}
 use Rattle.fir_source_faults.proofs.JoinedChoices.{drives_joined}
-use Rattle.fir_design_faults.proofs.FlatLives.{before_quiet, behind_quiet, first_of_when, moved_live, second_of_when}
+use Rattle.fir_design_faults.proofs.FlatLives.{before_quiet, behind_quiet, covers_before_quiet, covers_behind_quiet, covers_first_of_when, covers_second_of_when, first_of_when, moved_live, second_of_when}
+use Rattle.fir_design_faults.proofs.MovedDrivers.{DriverMoves, moves_before_quiet, moves_behind_quiet, moves_first, moves_second}
 
 -- a leaf of an instance's port, in the module that holds the instance and in its own
 pub record IsTurned (m c : LeafModule) (i : HeldInstance) (z : ℕ) : Type 0 where
@@ -72,11 +73,13 @@ module _ (table : List LeafDeclared) where
     drives = d.drives;
   }
 
-  -- what is live in a block for a leaf that a module drives
+  -- what is live in a block for a leaf that a module may drive, whether it is covered, and what drives it
   pub record Agrees (b : LeafBlock) (level : ℕ) (n : Numbering) (m : LeafModule) (y : ℕ) : Type 0 where
-    pub drives : drives_any (number n y) b ≡ true
+    pub drives : drives_any y m.body ≡ true → drives_any (number n y) b ≡ true
     pub lives :
         lives_all (depths table (number n y)) (number n y) b level ≡ map (moved_live n) (lives_all (depth_at m y) y m.body 0)
+    pub covers : covers_all (depths table (number n y)) (number n y) b level ≡ covers_all (depth_at m y) y m.body 0
+    pub driver : DriverMoves n m y (depths table (number n y)) b level (depth_at m y) m.body 0
 
   pub record Member (b : LeafBlock) (level : ℕ) (Where : ℕ → Type 0) (h : PlacedModule) : Type 0 where
     pub numbers : Numbering
@@ -87,8 +90,11 @@ module _ (table : List LeafDeclared) where
     pub placed :
         (x : ℕ) → (leafed_module h.scene).port_leaves ≤ x → x < length (module_leaves h.scene)
         → (array : ℕ) × (leaf_at table (number numbers x) ≡ placed_leaf h.at whens numbers array (leaf_at (module_leaves h.scene) x))
-    pub agrees :
+    pub only :
         (y : ℕ) → y < length (module_leaves h.scene) → drives_any y (leafed_module h.scene).body ≡ true
+        → may_drive (role_at (leafed_module h.scene) y) ≡ true
+    pub agrees :
+        (y : ℕ) → y < length (module_leaves h.scene) → may_drive (role_at (leafed_module h.scene) y) ≡ true
         → Agrees b level numbers (leafed_module h.scene) y × Where (number numbers y)
 
   -- of a block that is quiet where the other drives
@@ -100,13 +106,17 @@ module _ (table : List LeafDeclared) where
     deep = p.deep;
     stands = p.stands;
     placed = p.placed;
+    only = p.only;
     agrees = λ y lt e.
         let both = p.agrees y lt e in
+        let m = leafed_module h.scene in
         let x = number p.numbers y in
         let still = none x both.1 in (
           record {
-            drives = drives_joined x a b ∙ left_true (drives_any x a) (drives_any x b) both.0.drives;
+            drives = λ d. drives_joined x a b ∙ left_true (drives_any x a) (drives_any x b) (both.0.drives d);
             lives = before_quiet (depths table x) x a b level still ∙ both.0.lives;
+            covers = covers_before_quiet (depths table x) x a b level still ∙ both.0.covers;
+            driver = moves_before_quiet p.numbers m y (depths table x) (depth_at m y) a b level m.body 0 still both.0.driver;
           },
           more x both.1,
         );
@@ -120,13 +130,17 @@ module _ (table : List LeafDeclared) where
     deep = p.deep;
     stands = p.stands;
     placed = p.placed;
+    only = p.only;
     agrees = λ y lt e.
         let both = p.agrees y lt e in
+        let m = leafed_module h.scene in
         let x = number p.numbers y in
         let still = none x both.1 in (
           record {
-            drives = drives_joined x a b ∙ right_true (drives_any x a) (drives_any x b) both.0.drives;
+            drives = λ d. drives_joined x a b ∙ right_true (drives_any x a) (drives_any x b) (both.0.drives d);
             lives = behind_quiet (depths table x) x a b level still ∙ both.0.lives;
+            covers = covers_behind_quiet (depths table x) x a b level still ∙ both.0.covers;
+            driver = moves_behind_quiet p.numbers m y (depths table x) (depth_at m y) a b level m.body 0 still both.0.driver;
           },
           more x both.1,
         );
@@ -142,14 +156,18 @@ module _ (table : List LeafDeclared) where
     deep = omega (arith, q.deep);
     stands = q.stands;
     placed = q.placed;
+    only = q.only;
     agrees = λ y lt e.
         let both = q.agrees y lt e in
+        let m = leafed_module h.scene in
         let x = number q.numbers y in
         let still = none x both.1 in
         let under : level < depths table x = omega (arith, q.deep, q.stands.depth y lt) in (
           record {
-            drives = left_true (drives_any x a || drives_any x b) false (left_true (drives_any x a) (drives_any x b) both.0.drives);
+            drives = λ d. left_true (drives_any x a || drives_any x b) false (left_true (drives_any x a) (drives_any x b) (both.0.drives d));
             lives = first_of_when (depths table x) x p c a b level under still ∙ both.0.lives;
+            covers = covers_first_of_when (depths table x) x p c a b level under still ∙ both.0.covers;
+            driver = moves_first q.numbers m y (depths table x) (depth_at m y) p c a b level m.body 0 under still both.0.driver;
           },
           more x both.1,
         );
@@ -164,14 +182,18 @@ module _ (table : List LeafDeclared) where
     deep = omega (arith, q.deep);
     stands = q.stands;
     placed = q.placed;
+    only = q.only;
     agrees = λ y lt e.
         let both = q.agrees y lt e in
+        let m = leafed_module h.scene in
         let x = number q.numbers y in
         let still = none x both.1 in
         let under : level < depths table x = omega (arith, q.deep, q.stands.depth y lt) in (
           record {
-            drives = left_true (drives_any x a || drives_any x b) false (right_true (drives_any x a) (drives_any x b) both.0.drives);
+            drives = λ d. left_true (drives_any x a || drives_any x b) false (right_true (drives_any x a) (drives_any x b) (both.0.drives d));
             lives = second_of_when (depths table x) x p c a b level under still ∙ both.0.lives;
+            covers = covers_second_of_when (depths table x) x p c a b level under still ∙ both.0.covers;
+            driver = moves_second q.numbers m y (depths table x) (depth_at m y) p c a b level m.body 0 under still both.0.driver;
           },
           more x both.1,
         );

@@ -110,6 +110,22 @@ module _ (depth x : ℕ) where
       rw (lt-ltb k depth lt, q.lives, unless_none (covers_all depth x b (k + 1)))
       (append-nil (lives_all depth x b (k + 1)))
 
+  -- and so with whether it is covered
+  pub covers_before_quiet : (a b : LeafBlock) (k : ℕ) → drives_any x b ≡ false → covers_all depth x (joined a b) k ≡ covers_all depth x a k
+  covers_before_quiet a b k e = covers_joined a b k ∙ ap (λ c. c || covers_all depth x a k) (quiet b k e).covers
+
+  pub covers_behind_quiet : (a b : LeafBlock) (k : ℕ) → drives_any x a ≡ false → covers_all depth x (joined a b) k ≡ covers_all depth x b k
+  covers_behind_quiet a b k e =
+      covers_joined a b k ∙ ap (λ c. covers_all depth x b k || c) (quiet a k e).covers ∙ sym (or_none (covers_all depth x b k))
+
+  pub covers_first_of_when : (p : Place) (c : Term) (a b : LeafBlock) (k : ℕ) → k < depth → drives_any x b ≡ false
+      → covers_all depth x ((then) (when p c a b) done) k ≡ covers_all depth x a (k + 1)
+  covers_first_of_when p c a b k lt e = rw (lt-ltb k depth lt, (quiet b (k + 1) e).covers) refl
+
+  pub covers_second_of_when : (p : Place) (c : Term) (a b : LeafBlock) (k : ℕ) → k < depth → drives_any x a ≡ false
+      → covers_all depth x ((then) (when p c a b) done) k ≡ covers_all depth x b (k + 1)
+  covers_second_of_when p c a b k lt e = rw (lt-ltb k depth lt, (quiet a (k + 1) e).covers) (sym (or_none (covers_all depth x b (k + 1))))
+
 -- moved as a whole
 module _ (n : Numbering) where
   below_moved : (c : Term) (ls : List Live) → map (below (moved n c)) (map (moved_live n) ls) ≡ map (moved_live n) (map (below c) ls)

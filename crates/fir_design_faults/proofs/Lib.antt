@@ -9,7 +9,9 @@ pub mod RoleTerms
 pub mod ReadRoles
 pub mod MovedReads
 pub mod FlatLives
+pub mod RenumberedTerms
 pub mod OwnNumbers
+pub mod MovedDrivers
 pub mod FlatDrives
 pub mod DrivenParts
 pub mod DesignDrives

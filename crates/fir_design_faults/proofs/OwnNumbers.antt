@@ -48,7 +48,7 @@ among_there (y ∷ ys) x e = by (nat_eq y x) refl e (among_there ys x)
     by true h k more = inl (eqb-true y x h)
     by false h k more = inr (more k)
 
-same_number : (n : Numbering) → n.first + n.ports ≤ n.own → (y z : ℕ) → nat_eq (number n y) (number n z) ≡ nat_eq y z
+pub same_number : (n : Numbering) → n.first + n.ports ≤ n.own → (y z : ℕ) → nat_eq (number n y) (number n z) ≡ nat_eq y z
 same_number n room y z = by (nat_eq (number n y) (number n z)) (nat_eq y z) refl refl
   where
     by : (a b : Bool) → nat_eq (number n y) (number n z) ≡ a → nat_eq y z ≡ b → a ≡ b

@@ -1,5 +1,5 @@
 -- In each sound design of a circuit without a fault of names or types the statements of each module drive leaves of their own, and what is live for them in the
--- whole is what is live in the module.
+-- whole is what is live in the module; so is what drives them in a net.
 use Rattle.std.proofs.Common.{◌≡◌, ℕ, ◌+◌, ◌<◌, List, [], ◌∷◌, Bool, true, false, ◌||◌, length, refl, sym, ap, ◌∙◌, append-nil, inl, inr, arith}
 use Rattle.std.specs.List.{list_any}
 use Rattle.fir_base.specs.Lists.{In}
@@ -29,6 +29,7 @@ use Rattle.fir_design_faults.proofs.DesignScenes.{design_scenes}
 use Rattle.fir_design_faults.proofs.DrivenPaths.{module_driven}
 use Rattle.fir_design_faults.proofs.LastDrives.{in_paths}
 use Rattle.fir_design_faults.proofs.PortTurns.{ports_turn}
+use Rattle.fir_design_faults.proofs.SceneReads.{scene_reading}
 
 any_there : (depth : ℕ) (q : LeafPath) (ds : List Drive) → list_any (tree.may_drive depth q) ds ≡ true → (d : Drive) × In ds d × (tree.may_drive depth q d ≡ true)
 any_there depth q [] e = absurd (cc)
@@ -65,5 +66,6 @@ module _ (c : CircuitTree) (m : LeafModule) (is : Items) (t : SourceDesign) (a :
   design_below =
       let room = a.design.main.0 in
       design_drives c a.names a.scenes a.are (flattened (made_of m is)).leaves (λ s i z within e. only_driven s (scene_fine s i) z within e)
+      (λ s i. scene_reading s (scene_fine s i))
       (ports_turn c a.names a.types a.scenes a.are) (made_of m is) a.main t a.among a.design.is a.tree [] 0 0 m.port_leaves 0 (main_stands m is room) room
       (omega arith) a.design.main.1 a.design.named.2 a.design.named.1 (main_at m is room)

@@ -67,8 +67,8 @@ record AreArms (net : FlatNet) (t : NumTy) (a b : NetTerm) : Type 0 where
   second : Read
   can_first : CanRead net.leaves net.nodes first
   can_second : CanRead net.leaves net.nodes second
-  first_stands : stands_for net first ≡ a
-  second_stands : stands_for net second ≡ b
+  first_stands : stands_for net.nodes first ≡ a
+  second_stands : stands_for net.nodes second ≡ b
   first_kind : (read_type net.leaves net.nodes first).signed ≡ t.signed
   second_kind : (read_type net.leaves net.nodes second).signed ≡ t.signed
   greater : t.width ≡ max (read_type net.leaves net.nodes first).width (read_type net.leaves net.nodes second).width
@@ -100,7 +100,7 @@ module _ (net : FlatNet) (whole : IsNet net) (c a b : NetTerm) (t : NumTy) where
   arms_of_node (node.Operation o) e is = absurd cc
   arms_of_node (node.Mux m) e is = arms_among m.reads m.signed m.width e is.reads is.has_type
 
-  arms_of : (r : Read) → CanRead net.leaves net.nodes r → stands_for net r ≡ mux c a b t → AreArms net t a b
+  arms_of : (r : Read) → CanRead net.leaves net.nodes r → stands_for net.nodes r ≡ mux c a b t → AreArms net t a b
   arms_of (read.Leaf k) can is = absurd cc
   arms_of (read.Node k) can is =
       let found = there net.nodes k can in
@@ -114,12 +114,12 @@ module _
   value t = term_value holds numbers t
 
   -- what a read stands for has the value and the type of the read
-  stands_typed : (r : Read) (d : NetTerm) → CanRead net.leaves net.nodes r → stands_for net r ≡ d → IsOfType (read_type net.leaves net.nodes r) (value d)
+  stands_typed : (r : Read) (d : NetTerm) → CanRead net.leaves net.nodes r → stands_for net.nodes r ≡ d → IsOfType (read_type net.leaves net.nodes r) (value d)
   stands_typed r d can is =
       subst (IsOfType (read_type net.leaves net.nodes r)) (read_is_worth net env holds numbers whole agrees r can ∙ ap value is)
       (nodes_have_types law net env r whole fit can)
 
-  pub picked_at_width : (r : Read) (c a b : NetTerm) (t : NumTy) → CanRead net.leaves net.nodes r → stands_for net r ≡ mux c a b t → (w : ℕ)
+  pub picked_at_width : (r : Read) (c a b : NetTerm) (t : NumTy) → CanRead net.leaves net.nodes r → stands_for net.nodes r ≡ mux c a b t → (w : ℕ)
       → at_width (value_at net env r) w ≡ (if over.is_high (value c ∷ []) then at_width (value a) w else at_width (value b) w)
   picked_at_width r c a b t can is w =
       let arms = arms_of net whole c a b t r can is in

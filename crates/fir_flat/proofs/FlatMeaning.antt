@@ -12,9 +12,9 @@ use Rattle.fir_meaning.specs.working.LeafSettled.{Settled, Shows}
 use Rattle.fir_net.specs.declared.net.FlatNet.{FlatNet}
 use Rattle.fir_net.specs.working.Allows.{Allows}
 use Rattle.fir_net.specs.working.One.{HasOne}
-use Rattle.fir_net.specs.working.Settled.{is_clock, output_number}
+use Rattle.fir_net.specs.working.Settled.{clock_outputs, is_clock, outputs}
 use Rattle.fir_flat.specs.working.FlatLaws.{AllowsTheSame, HasOneWhere, IsFaithful}
-use Rattle.fir_flat.proofs.FlatLeaves.{holds_clock, kind_at, leaf_there, outputs_plain, same_list, shape_is}
+use Rattle.fir_flat.proofs.FlatLeaves.{clock_outputs_tick, holds_clock, kind_at, leaf_there, outputs_plain, same_list, shape_is}
 use Rattle.fir_flat.proofs.KeptValues.{kept}
 use Rattle.fir_flat.proofs.NextStates.{next_same}
 use Rattle.fir_flat.proofs.SettledValues.{beside, own_beside, settled_in_circuit, settled_in_net}
@@ -27,7 +27,7 @@ module _ (law : HasItsType) (c : LeafCircuit) (net : FlatNet) (faithful : IsFait
     h.0.clocks,
     settled_in_net c net faithful law state tick h.0 h.1,
     ap (map h.0.numbers) faithful.flat.outputs ∙ h.2,
-    sym h.3 ∙ ap (map h.0.clocks) faithful.flat.no_clock_outputs,
+    ap (map h.0.clocks) faithful.flat.clock_outputs ∙ h.3,
     sym (next_same law c net faithful h.0 h.0.numbers h.0.clocks (own_beside c net faithful law state tick h.0 h.1) state tick h.1) ∙ h.4,
   )
 
@@ -40,8 +40,10 @@ module _ (law : HasItsType) (c : LeafCircuit) (net : FlatNet) (faithful : IsFait
         env,
         settled,
         ap (map env.numbers) (sym faithful.flat.outputs)
-            ∙ same_list c net faithful.flat output_number outputs_plain env.numbers h.0 (λ x l at plain. sym (near.numbers.values x l at plain)) ∙ h.3,
-        ap (map env.clocks) faithful.flat.no_clock_outputs ∙ sym h.4,
+            ∙ same_list net.leaves false (outputs net) (outputs_plain net) env.numbers h.0 (λ x l at plain. sym (near.numbers.values x l at plain)) ∙ h.3,
+        ap (map env.clocks) (sym faithful.flat.clock_outputs)
+            ∙ same_list net.leaves true (clock_outputs net) (clock_outputs_tick net) env.clocks h.1 (λ x l at ticking. sym (near.clocks x l at ticking))
+            ∙ h.4,
         next_same law c net faithful env h.0 h.1 near state tick settled ∙ h.5,
       )
 
@@ -107,7 +109,7 @@ allows_the_same law c net faithful state tick shown clocks after =
 pub has_one_where : HasItsType → HasOneWhere
 has_one_where law c net faithful = (
   λ one state tick shaped.
-      one_in_net law c net faithful state tick (one state tick (subst (λ (z : Shape). HasShape z state tick) (sym (shape_is c net faithful.flat)) shaped)),
+      one_in_net law c net faithful state tick (one state tick (subst (λ (z : Shape). HasShape z state tick) (sym (shape_is c net faithful.flat faithful.whole)) shaped)),
   λ one state tick shaped.
-      one_in_circuit law c net faithful state tick (one state tick (subst (λ (z : Shape). HasShape z state tick) (shape_is c net faithful.flat) shaped)),
+      one_in_circuit law c net faithful state tick (one state tick (subst (λ (z : Shape). HasShape z state tick) (shape_is c net faithful.flat faithful.whole) shaped)),
 )

@@ -6,6 +6,7 @@ use Rattle.std.proofs.lemmas.List.{get_or_past}
 use Rattle.fir_base.specs.Lists.{In}
 use Rattle.fir_base.proofs.Elements.{there}
 use Rattle.fir_base.proofs.Members.{in_either, in_left, in_right}
+use Rattle.fir_bits.specs.declared.types.NumTy.{NumTy}
 use Rattle.fir_meaning.specs.working.Choices.{LiveReads}
 use Rattle.fir_meaning.specs.working.CircuitDependence.{CircuitDepends}
 use Rattle.fir_meaning.specs.working.Dependence.{RoleDepends, reading_reads, reads_if, reset_reads}
@@ -21,9 +22,10 @@ use Rattle.fir_net.specs.declared.leaf.ResetKind.{ResetKind}
 use Rattle.fir_net.specs.declared.leaf.ResetKind.TheVariants.{Asynchronous, Synchronous}
 use Rattle.fir_net.specs.declared.leaf.Role.{Role}
 use Rattle.fir_net.specs.declared.net.FlatNet.{FlatNet}
+use Rattle.fir_net.specs.declared.node.Node.{Node}
 use Rattle.fir_net.specs.declared.reads.Read.{Read}
 use Rattle.fir_net.specs.declared.reads.Read.TheVariants as read
-use Rattle.fir_net.specs.working.Dependence.{kind_reads, leaf_reads, reads_of, role_reads}
+use Rattle.fir_net.specs.working.Dependence.{clock_reads, kind_reads, leaf_reads, reads_of, role_reads}
 use Rattle.fir_net.specs.working.Dependence as in_net
 use Rattle.fir_net.specs.working.IsNet.{IsNet}
 use Rattle.fir_loop.specs.working.IsLoop.{HangsOn, HangsThrough}
@@ -36,7 +38,8 @@ use Rattle.fir_connect.specs.working.NetTerms.{NetTerm, NetTerms, leaf, no_terms
 use Rattle.fir_connect.specs.working.RoleLaws.{ReadsTheSame, ResetReads}
 use Rattle.fir_connect.proofs.RoleReading.{roles_read_the_same}
 use Rattle.fir_merge.specs.working.NodeTerms.{read_terms, terms}
-use Rattle.fir_flat.specs.working.FlatCircuits.{IsDrivenBy, IsFlatOf, IsResetOf, IsRoleOf, as_module, reset_kept, stands_for}
+use Rattle.fir_connect.specs.working.CircuitModules.{as_module}
+use Rattle.fir_flat.specs.working.FlatCircuits.{IsClockedBy, IsDrivenBy, IsFlatOf, IsResetOf, IsRoleOf, NamesClock, reset_kept, stands_for}
 use Rattle.fir_flat.proofs.ReachedLeaves.{hangs_is_read}
 
 -- the terms on which a leaf hangs within a tick, by its role in a net
@@ -60,25 +63,25 @@ hanging (register c reset d) = reset_terms reset
 hanging (reading e) = leaf_terms (reading_reads e)
 hanging (pipe e c u) = no_terms
 
--- what a leaf of the net reads stands for these
-module _ (net : FlatNet) where
+-- what a leaf of the net reads stands for these, and the clock leaf that it reads is the one that they read
+module _ (nodes : List Node) where
   abbrev stand_for : List Read → NetTerms
-  stand_for rs = read_terms (terms net.nodes) rs
+  stand_for rs = read_terms (terms nodes) rs
 
   -- of a register: a reset that is not asynchronous may be gone, and what is left stands for the reset and is of its kind
   abbrev IsKept : Option Reset → Option NetReset → Type 0
   IsKept None None = Unit {0}
   IsKept None (Some m) = m.is_async ≡ false
   IsKept (Some r) (Some m) =
-      (r.kind ≡ (if m.is_async then Asynchronous else Synchronous)) × (stands_for net r.condition ≡ m.condition) × (stands_for net r.init ≡ m.init)
+      (r.kind ≡ (if m.is_async then Asynchronous else Synchronous)) × (stands_for nodes r.condition ≡ m.condition) × (stands_for nodes r.init ≡ m.init)
   IsKept (Some r) None = ⊥
 
-  is_kept : (own : Option Reset) (m : Option NetReset) → IsResetOf net own (reset_kept m) → IsKept own m
+  is_kept : (own : Option Reset) (m : Option NetReset) → IsResetOf nodes own (reset_kept m) → IsKept own m
   is_kept None None is = tt
   is_kept (Some r) None is = absurd is
   is_kept own (Some m) is = by own m.is_async is
     where
-      by : (own : Option Reset) (b : Bool) → IsResetOf net own (if b then Some m else None) → IsKept own (Some (record { is_async = b; condition = m.condition; init = m.init }))
+      by : (own : Option Reset) (b : Bool) → IsResetOf nodes own (if b then Some m else None) → IsKept own (Some (record { is_async = b; condition = m.condition; init = m.init }))
       by None false is = refl
       by None true is = absurd is
       by (Some r) false is = absurd is
@@ -94,20 +97,34 @@ module _ (net : FlatNet) where
       either false = refl
   reset_stands (Some r) None kept = absurd kept
 
-  driven_stands : (x : Role) (r : Read) → IsDrivenBy x r → stand_for (role_reads x) ≡ term (stands_for net r) no_terms
+  driven_stands : (x : Role) (r : Read) → IsDrivenBy x r → stand_for (role_reads x) ≡ term (stands_for nodes r) no_terms
   driven_stands x r (inl e) = ap (λ (y : Role). stand_for (role_reads y)) e
   driven_stands x r (inr e) = ap (λ (y : Role). stand_for (role_reads y)) e
 
-  role_stands : (holds : Holds) (k : ℕ) (x : Role) (h : LeafType) (n : NetRole) → IsRoleOf net holds k x h n → stand_for (role_reads x) ≡ hanging n
-  role_stands holds k x (number t) source is = ap (λ (y : Role). stand_for (role_reads y)) is
-  role_stands holds k x (number t) (driven d) is = driven_stands x is.0 is.1 ∙ ap (λ e. term e no_terms) is.2
-  role_stands holds k x (number t) (computed d) is = driven_stands x is.0 (inr is.1) ∙ ap (λ e. term e no_terms) is.2
-  role_stands holds k x (number t) (register c reset d) is = ap (λ (y : Role). stand_for (role_reads y)) is.3 ∙ reset_stands is.1 reset (is_kept is.1 reset is.5)
-  role_stands holds k x (number t) (reading e) is = absurd is
-  role_stands holds k x (number t) (pipe e c u) is = absurd is
-  role_stands holds k x a_clock source is = ap (λ (y : Role). stand_for (role_reads y)) is
-  role_stands holds k x a_clock (driven d) is = absurd is
-  role_stands holds k x a_clock (computed d) is = absurd is
+  clock_stands : (d : NetTerm) (o : Option ℕ) → NamesClock d o → each_read (stand_for (clock_reads o)) ≡ each_read (term d no_terms)
+  clock_stands d None is = ap (λ e. each_read (term e no_terms)) (sym is.1)
+  clock_stands d (Some y) is = ap (λ e. each_read (term e no_terms)) (sym is)
+
+  clocked_stands : (x : Role) (o : Option ℕ) → IsClockedBy x o → stand_for (role_reads x) ≡ stand_for (clock_reads o)
+  clocked_stands x o (inl e) = ap (λ (y : Role). stand_for (role_reads y)) e
+  clocked_stands x o (inr e) = ap (λ (y : Role). stand_for (role_reads y)) e
+
+  number_stands : (holds : Holds) (k : ℕ) (x : Role) (t : NumTy) (n : NetRole) → IsRoleOf nodes holds k x (number t) n
+      → stand_for (role_reads x) ≡ hanging n
+  number_stands holds k x t source is = ap (λ (y : Role). stand_for (role_reads y)) is
+  number_stands holds k x t (driven d) is = driven_stands x is.0 is.1 ∙ ap (λ e. term e no_terms) is.2
+  number_stands holds k x t (computed d) is = driven_stands x is.0 (inr is.1) ∙ ap (λ e. term e no_terms) is.2
+  number_stands holds k x t (register c reset d) is =
+      ap (λ (y : Role). stand_for (role_reads y)) is.3 ∙ reset_stands is.1 reset (is_kept is.1 reset is.5)
+  number_stands holds k x t (reading e) is = absurd is
+  number_stands holds k x t (pipe e c u) is = absurd is
+
+  role_stands : (holds : Holds) (k : ℕ) (x : Role) (h : LeafType) (n : NetRole) → IsRoleOf nodes holds k x h n
+      → each_read (stand_for (role_reads x)) ≡ each_read (hanging n)
+  role_stands holds k x (number t) n is = ap each_read (number_stands holds k x t n is)
+  role_stands holds k x a_clock source is = ap (λ (y : Role). each_read (stand_for (role_reads y))) is
+  role_stands holds k x a_clock (driven d) is = ap each_read (clocked_stands x is.0 is.1) ∙ clock_stands d is.0 is.2
+  role_stands holds k x a_clock (computed d) is = ap each_read (clocked_stands x is.0 (inr is.1)) ∙ clock_stands d is.0 is.2
   role_stands holds k x a_clock (register c reset d) is = absurd is
   role_stands holds k x a_clock (reading e) is = absurd is
   role_stands holds k x a_clock (pipe e c u) is = absurd is
@@ -163,13 +180,13 @@ module _ (c : LeafCircuit) (net : FlatNet) (whole : IsNet net) (flat : IsFlatOf 
 
   -- both of a leaf that is there
   hangs_there : (l : Leaf) → slice_get net.leaves x ≡ Some l
-      → In (each_read (stand_for net (reads_of net (read.Leaf x)))) y ↔ CircuitDepends c x y
+      → In (each_read (stand_for net.nodes (reads_of net (read.Leaf x)))) y ↔ CircuitDepends c x y
   hangs_there l at =
-      let stands : stand_for net (reads_of net (read.Leaf x)) ≡ hanging (net_role_at (as_module c) x) =
-      ap (λ (o : Option Leaf). stand_for net (leaf_reads o)) at
-      ∙ role_stands net (net_types (as_module c)) x l.role (leaf_at c.leaves x).holds (net_role_at (as_module c) x) (flat.roles x l at)
+      let stands : each_read (stand_for net.nodes (reads_of net (read.Leaf x))) ≡ each_read (hanging (net_role_at (as_module c) x)) =
+      ap (λ (o : Option Leaf). each_read (stand_for net.nodes (leaf_reads o))) at
+      ∙ role_stands net.nodes (net_types (as_module c)) x l.role (leaf_at c.leaves x).holds (net_role_at (as_module c) x) (flat.roles x l at)
       in
-      subst (λ (ts : NetTerms). In (each_read ts) y ↔ CircuitDepends c x y) (sym stands)
+      subst (λ (xs : List ℕ). In xs y ↔ CircuitDepends c x y) (sym stands)
       (role_depends (as_module c) x y (role_of c x) (roles_read_the_same (as_module c) x))
 
   pub depends_the_same : HangsOn net x y ↔ CircuitDepends c x y

@@ -4,13 +4,11 @@ pub mod LeafPlaces
 pub mod FlatLeaves
 pub mod ShownValues
 pub mod KeptValues
+pub mod ShownClocks
 pub mod SettledValues
 pub mod TakenValues
 pub mod NextStates
 pub mod FlatMeaning
-pub mod SameNumbers
-pub mod WalkedWords
-pub mod LoneModules
 pub mod RoleNumbers
 pub mod ReadBefore
 pub mod ReachedLeaves

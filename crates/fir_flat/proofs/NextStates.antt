@@ -1,5 +1,5 @@
 -- The state that follows is the same in a circuit and in its flat net.
-use Rattle.std.proofs.Common.{◌≡◌, ℕ, List, [], ◌∷◌, ◌++◌, map, true, false, inl, inr, Option, Some, None, slice_get, refl, sym, ap, ◌∙◌, subst, append-nil}
+use Rattle.std.proofs.Common.{◌≡◌, ℕ, List, ◌++◌, map, true, false, inl, inr, Option, Some, None, slice_get, refl, sym, ap, ◌∙◌, subst, append-nil}
 use Rattle.std.specs.Prelude.{flat_map}
 use Rattle.std.proofs.lemmas.Option.{same_Some}
 use Rattle.fir_base.specs.Ticks.{Tick}
@@ -23,24 +23,21 @@ use Rattle.fir_net.specs.declared.net.FlatNet.{FlatNet}
 use Rattle.fir_net.specs.declared.reads.Read.{Read}
 use Rattle.fir_net.specs.working.IsNet.{IsRole}
 use Rattle.fir_net.specs.working.Next.{next, next_by, next_of, next_word, taken, ticks}
-use Rattle.fir_net.specs.working.Settled.{is_clock, register_number, registers}
+use Rattle.fir_net.specs.working.Settled.{is_clock, registers}
 use Rattle.fir_net.proofs.LeafEquations.{driven_at}
-use Rattle.fir_net.proofs.NumberedLeaves as numbered
 use Rattle.fir_net.proofs.Places.{map_at}
+use Rattle.fir_net.proofs.StateWords.{register_at}
 use Rattle.fir_connect.specs.working.Drivers.{driver_of}
 use Rattle.fir_connect.specs.working.NetRoles.{net_role, net_types}
 use Rattle.fir_connect.specs.working.NetValues.{term_clock}
 use Rattle.fir_connect.specs.working.RoleLaws.{Gives}
-use Rattle.fir_flat.specs.working.FlatCircuits.{HasType, IsDrivenBy, IsRoleOf, as_module}
+use Rattle.fir_connect.specs.working.CircuitModules.{as_module}
+use Rattle.fir_flat.specs.working.FlatCircuits.{HasType, IsClockedBy, IsDrivenBy, IsRoleOf}
 use Rattle.fir_flat.specs.working.FlatLaws.{IsFaithful}
 use Rattle.fir_flat.proofs.FlatLeaves.{leaf_inside, number_at}
 use Rattle.fir_flat.proofs.KeptValues.{AreBeside}
 use Rattle.fir_flat.proofs.ShownValues.{gives}
 use Rattle.fir_flat.proofs.TakenValues.{follows, word_follows}
-
-register_role : (r : Role) (w k : ℕ) → register_number r w k ≡ k ∷ [] → (d : Register) × (r ≡ role.Register d)
-register_role (role.Register d) w k e = (d, refl)
-register_role _ w k e = cc
 
 edge_is : (named : List ℕ) (o : Option ℕ) → has_edge named o ≡ ticks named o
 edge_is named None = refl
@@ -57,11 +54,15 @@ module _ (law : HasItsType) (c : LeafCircuit) (net : FlatNet) (faithful : IsFait
     module _ (y : Role) (can : IsRole net.leaves net.nodes l.signed l.width y) (d : Register) (is_register : y ≡ role.Register d) where
       follows_by_role : (h : LeafType) → (leaf_at c.leaves x).holds ≡ h → (r : leafed.Role)
           → Gives (as_module c) env.numbers env.clocks x h r (net_role (net_types (as_module c)) (depth_of c x) c.body x r)
-          → IsRoleOf net (net_types (as_module c)) x y h (net_role (net_types (as_module c)) (depth_of c x) c.body x r) → HasType l h → role_of c x ≡ r
+          → IsRoleOf net.nodes (net_types (as_module c)) x y h (net_role (net_types (as_module c)) (depth_of c x) c.body x r) → HasType l h → role_of c x ≡ r
           → word_next c state tick.clocks env x r ≡ next_by net e f tick.clocks l.width (e x) y
       follows_by_role a_clock held leafed.source worths is has named = cc
-      follows_by_role a_clock held leafed.sink worths is has named = absurd is
-      follows_by_role a_clock held (leafed.computed t) worths is has named = absurd is
+      follows_by_role a_clock held leafed.sink worths is has named = no_clock is.0 is.1
+        where
+          no_clock : (o : Option ℕ) → IsClockedBy y o → word_next c state tick.clocks env x leafed.sink ≡ next_by net e f tick.clocks l.width (e x) y
+          no_clock o (inl is) = cc
+          no_clock o (inr is) = cc
+      follows_by_role a_clock held (leafed.computed t) worths is has named = let a = is.1 in cc
       follows_by_role a_clock held (leafed.register clock reset) worths is has named = absurd is
       follows_by_role a_clock held (leafed.reading r) worths is has named = absurd is
       follows_by_role a_clock held (leafed.pipe r clock under) worths is has named = absurd is
@@ -94,13 +95,12 @@ module _ (law : HasItsType) (c : LeafCircuit) (net : FlatNet) (faithful : IsFait
   -- word by word
   word_same : (n x : ℕ) → slice_get (registers net) n ≡ Some x → word_next c state tick.clocks env x (role_of c x) ≡ next_word net e f tick.clocks x
   word_same n x is_in =
-      let found = numbered.leaf_at register_number numbered.registers_own net.leaves n x is_in in
-      let l = found.0 in
-      let d = register_role l.role l.width x found.2 in
-      follows_by_role x l found.1 (ap is_clock d.1) l.role (driven_at net faithful.whole x l l.role found.1 refl) d.0 d.1
-      (leaf_at c.leaves x).holds refl (role_of c x) (gives c net faithful env e beside.numbers x l found.1) (faithful.flat.roles x l found.1)
-      (faithful.flat.types x l found.1) refl
-      ∙ ap (next_of net e f tick.clocks (e x)) (sym found.1)
+      let found = register_at faithful.whole.state n x is_in in
+      let l = found.leaf in
+      follows_by_role x l found.at (ap is_clock found.is) l.role (driven_at net faithful.whole x l l.role found.at refl) found.register found.is
+      (leaf_at c.leaves x).holds refl (role_of c x) (gives c net faithful env e beside.numbers x l found.at) (faithful.flat.roles x l found.at)
+      (faithful.flat.types x l found.at) refl
+      ∙ ap (next_of net e f tick.clocks (e x)) (sym found.at)
 
   pub next_same : leaf_next.next c state tick env ≡ next net e f tick
   next_same =

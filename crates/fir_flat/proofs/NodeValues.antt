@@ -76,7 +76,7 @@ module _ (leaves : List Leaf) (env : ℕ → ℕ) (holds : Holds) (numbers : ℕ
 
 -- what can be read is worth what it stands for
 pub read_is_worth : (net : FlatNet) (env : ℕ → ℕ) (holds : Holds) (numbers : ℕ → ℕ) → IsNet net → AgreesWith net.leaves env holds numbers → (r : Read)
-    → CanRead net.leaves net.nodes r → value_at net env r ≡ term_value holds numbers (stands_for net r)
+    → CanRead net.leaves net.nodes r → value_at net env r ≡ term_value holds numbers (stands_for net.nodes r)
 read_is_worth net env holds numbers whole agrees r can =
     ap (λ (vs : List Num). read_value net.leaves env vs r) (values_are net.leaves env holds numbers agrees [] [] net.nodes whole.nodes)
     ∙ read_is net.leaves env holds numbers agrees net.nodes (terms net.nodes) r can

@@ -97,7 +97,7 @@ module _ (net : FlatNet) where
 
   module _ (whole : IsNet net) where
     node_reads_at : (k : ℕ) (n : Node) → slice_get net.nodes k ≡ Some n
-        → net_reads (stands_for net (read.Node k)) ≡ each_read (read_terms (terms net.nodes) (reads_of net (read.Node k)))
+        → net_reads (stands_for net.nodes (read.Node k)) ≡ each_read (read_terms (terms net.nodes) (reads_of net (read.Node k)))
     node_reads_at k n at =
         ap net_reads (node_stands net whole k n at)
         ∙ node_reads_are net.leaves _ (terms net.nodes) n (node_at net.leaves net.nodes [] whole.nodes k n at)

@@ -35,5 +35,5 @@ module _ (leaves : List Leaf) where
       (support_below before n are.0, subst (λ (k : ℕ). ReadBefore k ns) long (read_before (before ++ n ∷ []) ns are.1))
 
 pub node_stands : (net : FlatNet) → IsNet net → (k : ℕ) (n : Node) → slice_get net.nodes k ≡ Some n
-    → stands_for net (read.Node k) ≡ node_term (terms net.nodes) n
+    → stands_for net.nodes (read.Node k) ≡ node_term (terms net.nodes) n
 node_stands net whole k n at = node_there net.nodes k n (read_before net.leaves [] net.nodes whole.nodes) at

@@ -1,5 +1,5 @@
 -- Settled values of a circuit are settled in its flat net, and those of the net are settled in the circuit.
-use Rattle.std.proofs.Common.{◌≡◌, ℕ, ◌+◌, ◌^◌, ◌<◌, ◌≤◌, List, length, arith, true, false, Option, Some, slice_get, refl, sym, ap, ◌∙◌, ⊎_elim, subst}
+use Rattle.std.proofs.Common.{◌≡◌, ℕ, ◌^◌, ◌<◌, ◌≤◌, List, length, true, false, Option, Some, slice_get, refl, sym, ap, ◌∙◌, ⊎_elim, subst}
 use Rattle.std.proofs.lemmas.Bool.{cases_lt}
 use Rattle.std.proofs.lemmas.Nat.{pow_pos}
 use Rattle.std.proofs.lemmas.Option.{same_Some}
@@ -7,61 +7,24 @@ use Rattle.fir_base.specs.Ticks.{HasShape, Shape, Tick}
 use Rattle.fir_bits.specs.working.Laws.{HasItsType}
 use Rattle.fir_meaning.specs.LeafTypes.{LeafType, a_clock, number, number_type}
 use Rattle.fir_meaning.specs.working.LeafModules.{leaf_at}
-use Rattle.fir_meaning.specs.working.LeafModules as leafed
 use Rattle.fir_meaning.specs.working.TermValues.{Env}
-use Rattle.fir_meaning.specs.working.LeafCircuits.{LeafCircuit, depth_of, role_of, type_of_leaf}
-use Rattle.fir_meaning.specs.working.LeafSettled.{Settled, Shows, clock_shown}
-use Rattle.fir_meaning.specs.working.LeafStates.{place_in}
+use Rattle.fir_meaning.specs.working.LeafCircuits.{LeafCircuit, type_of_leaf}
+use Rattle.fir_meaning.specs.working.LeafSettled.{Settled, Shows}
 use Rattle.fir_net.specs.declared.leaf.Leaf.{Leaf}
-use Rattle.fir_net.specs.declared.leaf.Role.{Role}
-use Rattle.fir_net.specs.declared.leaf.Role.TheVariants as role
 use Rattle.fir_net.specs.declared.net.FlatNet.{FlatNet}
-use Rattle.fir_net.specs.working.Settled.{clock_number, clocks, is_clock, shape}
+use Rattle.fir_net.specs.working.Settled.{is_clock, shape}
 use Rattle.fir_net.specs.working.Settled as net_settled
 use Rattle.fir_net.proofs.ClockEquations.{IsTicking, clock_equation}
-use Rattle.fir_net.proofs.ClockEquations as ticking
 use Rattle.fir_net.proofs.LeafEquations.{value_equation}
-use Rattle.fir_net.proofs.NumberedLeaves.{among, clocks_own}
-use Rattle.fir_net.proofs.Places.{place_of}
 use Rattle.fir_net.proofs.SettledEquations as equations
 use Rattle.fir_net.proofs.ValuesAlong.{IsPlain}
-use Rattle.fir_connect.specs.working.NetRoles.{net_role, net_types}
-use Rattle.fir_flat.specs.working.FlatCircuits.{IsRoleOf, as_module}
 use Rattle.fir_flat.specs.working.FlatLaws.{IsFaithful}
-use Rattle.fir_flat.proofs.FlatLeaves.{clock_at, clock_input_at, holds_clock, kind_at, leaf_inside, leaf_there, number_at, shape_is}
+use Rattle.fir_flat.proofs.FlatLeaves.{clock_at, holds_clock, kind_at, leaf_inside, leaf_there, number_at, shape_is}
 use Rattle.fir_flat.proofs.KeptValues.{AreBeside, clock_behind, clock_has_no_number, kept, kept_beside, number_behind, number_has_no_clock}
-use Rattle.fir_flat.proofs.LeafPlaces.{place_is_in}
+use Rattle.fir_flat.proofs.ShownClocks.{clock_shown_is}
 use Rattle.fir_flat.proofs.ShownValues.{leaves_fit, number_shown_is}
 
--- a leaf that holds a clock is a source
-clock_source : (c : LeafCircuit) (net : FlatNet) (x : ℕ) (y : Role) (r : leafed.Role)
-    → IsRoleOf net (net_types (as_module c)) x y a_clock (net_role (net_types (as_module c)) (depth_of c x) c.body x r) → r ≡ leafed.source
-clock_source c net x y leafed.source is = refl
-clock_source c net x y leafed.sink is = absurd is
-clock_source c net x y (leafed.computed t) is = absurd is
-clock_source c net x y (leafed.register clock reset) is = absurd is
-clock_source c net x y (leafed.reading r) is = absurd is
-clock_source c net x y (leafed.pipe r clock under) is = absurd is
-
 module _ (c : LeafCircuit) (net : FlatNet) (faithful : IsFaithful c net) where
-  source_at : (x : ℕ) (l : Leaf) → slice_get net.leaves x ≡ Some l → (h : LeafType) → (leaf_at c.leaves x).holds ≡ h → h ≡ a_clock → role_of c x ≡ leafed.source
-  source_at x l at h is clock =
-      clock_source c net x l.role (role_of c x)
-      (subst (λ (k : LeafType). IsRoleOf net (net_types (as_module c)) x l.role k (net_role (net_types (as_module c)) (depth_of c x) c.body x (role_of c x)))
-      (is ∙ clock) (faithful.flat.roles x l at))
-
-  -- a clock input shows its number
-  clock_shown_is : (env : Env) (f : ℕ → Option ℕ) (x : ℕ) (l : Leaf) → slice_get net.leaves x ≡ Some l → (leaf_at c.leaves x).holds ≡ a_clock
-      → clock_shown c env x (role_of c x) ≡ Some (clock_equation net f x)
-  clock_shown_is env f x l at is =
-      let clock = clock_input_at c net faithful.flat x l at is in
-      let found = among clock_number clocks_own net.leaves x l at (ap (λ (r : Role). clock_number r l.width x) clock) in
-      let place : 0 + place_of x (clocks net) ≡ place_of x (clocks net) = omega arith in
-      ap (clock_shown c env x) (source_at x l at (leaf_at c.leaves x).holds refl is)
-      ∙ ap (λ (ks : List ℕ). Some (place_in ks 0 x)) (sym faithful.flat.clock_inputs)
-      ∙ ap Some (place_is_in (clocks net) 0 x found.0 found.1 ∙ ap Some place)
-      ∙ ap Some (sym (ticking.clock_at net f x l role.Clock at clock))
-
   module _ (law : HasItsType) (state : List ℕ) (tick : Tick) where
     -- from the circuit
     module _ (env : Env) (s : Settled c state tick env) where
@@ -84,7 +47,7 @@ module _ (c : LeafCircuit) (net : FlatNet) (faithful : IsFaithful c net) where
       }
 
       shaped_net : HasShape (shape net) state tick
-      shaped_net = subst (λ (z : Shape). HasShape z state tick) (shape_is c net faithful.flat) s.shaped
+      shaped_net = subst (λ (z : Shape). HasShape z state tick) (shape_is c net faithful.flat faithful.whole) s.shaped
 
       shows_at : (x : ℕ) (l : Leaf) → slice_get net.leaves x ≡ Some l → (h : LeafType) → (leaf_at c.leaves x).holds ≡ h → Shows c state tick.inputs env x h
       shows_at x l at h is = subst (Shows c state tick.inputs env x) is (s.each x (leaf_inside c net faithful.flat x l at))
@@ -98,7 +61,7 @@ module _ (c : LeafCircuit) (net : FlatNet) (faithful : IsFaithful c net) where
       clock_met : (x : ℕ) → IsTicking net x → env.clocks x ≡ clock_equation net env.clocks x
       clock_met x p =
           let is = clock_at c net faithful.flat x p.leaf p.at p.ticking in
-          same_Some _ _ (sym (shows_at x p.leaf p.at a_clock is).0 ∙ clock_shown_is env env.clocks x p.leaf p.at is)
+          same_Some _ _ (sym (shows_at x p.leaf p.at a_clock is).0 ∙ clock_shown_is c net faithful env env.numbers env.clocks own_beside x p.leaf p.at is)
 
       pub settled_in_net : net_settled.Settled net state tick env.numbers env.clocks
       settled_in_net = equations.settled law net faithful.whole state tick shaped_net env.numbers env.clocks
@@ -126,13 +89,13 @@ module _ (c : LeafCircuit) (net : FlatNet) (faithful : IsFaithful c net) where
           let found = leaf_there c net faithful.flat x inside in
           let ticks : is_clock found.0.role ≡ true = kind_at c net faithful.flat x found.0 found.1 ∙ ap holds_clock is in
           let met = equations.clocks_met law net faithful.whole state tick e f s x (record { leaf = found.0; at = found.1; ticking = ticks }) in (
-            clock_shown_is env f x found.0 found.1 is ∙ ap Some (sym met ∙ beside.clocks x found.0 found.1 ticks),
+            clock_shown_is c net faithful env e f beside x found.0 found.1 is ∙ ap Some (sym met ∙ beside.clocks x found.0 found.1 ticks),
             clock_has_no_number c e f x inside is,
           )
 
       pub settled_in_circuit : Settled c state tick env
       settled_in_circuit = record {
-        shaped = subst (λ (z : Shape). HasShape z state tick) (sym (shape_is c net faithful.flat)) s.shaped;
+        shaped = subst (λ (z : Shape). HasShape z state tick) (sym (shape_is c net faithful.flat faithful.whole)) s.shaped;
         each = λ x inside. shows x inside (leaf_at c.leaves x).holds refl;
         no_more_numbers = number_behind c e f;
         no_more_clocks = clock_behind c e f;

@@ -32,7 +32,8 @@ use Rattle.fir_connect.specs.working.RoleLaws.{Gives, ResetGives, net_fitted}
 use Rattle.fir_connect.proofs.FittedTwice.{fitted_own}
 use Rattle.fir_connect.proofs.RoleValues.{roles_are_worth}
 use Rattle.fir_connect.proofs.TypedValues.{value_type}
-use Rattle.fir_flat.specs.working.FlatCircuits.{HasType, IsDrivenBy, IsResetOf, IsRoleOf, as_module, reset_kept, stands_for}
+use Rattle.fir_connect.specs.working.CircuitModules.{as_module}
+use Rattle.fir_flat.specs.working.FlatCircuits.{HasType, IsDrivenBy, IsResetOf, IsRoleOf, reset_kept, stands_for}
 use Rattle.fir_flat.specs.working.FlatLaws.{IsFaithful}
 use Rattle.fir_flat.proofs.FlatLeaves.{holds_clock, kind_at, leaf_inside, type_at}
 use Rattle.fir_flat.proofs.LeafPlaces.{look_is}
@@ -73,10 +74,10 @@ module _ (c : LeafCircuit) (net : FlatNet) (faithful : IsFaithful c net) (env : 
   abbrev worth : NetTerm → Num
   worth t = term_value (type_of_leaf c) env.numbers t
 
-  read_worth : (r : Read) (d : NetTerm) → CanRead net.leaves net.nodes r → stands_for net r ≡ d → value_at net e r ≡ worth d
+  read_worth : (r : Read) (d : NetTerm) → CanRead net.leaves net.nodes r → stands_for net.nodes r ≡ d → value_at net e r ≡ worth d
   read_worth r d can is = read_is_worth net e (type_of_leaf c) env.numbers faithful.whole agrees r can ∙ ap worth is
 
-  pub high_worth : (r : Read) (d : NetTerm) → CanRead net.leaves net.nodes r → stands_for net r ≡ d → is_high net e r ≡ over.is_high (worth d ∷ [])
+  pub high_worth : (r : Read) (d : NetTerm) → CanRead net.leaves net.nodes r → stands_for net.nodes r ≡ d → is_high net e r ≡ over.is_high (worth d ∷ [])
   high_worth r d can is = ap (λ (v : Num). over.is_high (v ∷ [])) (read_worth r d can is)
 
   module _ (x : ℕ) (l : Leaf) (at : slice_get net.leaves x ≡ Some l) where
@@ -85,12 +86,12 @@ module _ (c : LeafCircuit) (net : FlatNet) (faithful : IsFaithful c net) (env : 
 
     module _ (wide : l.width ≡ (type_of_leaf c x).width) where
       -- what a read gives to the leaf
-      pub given_worth : (r : Read) (d : NetTerm) → CanRead net.leaves net.nodes r → stands_for net r ≡ d
+      pub given_worth : (r : Read) (d : NetTerm) → CanRead net.leaves net.nodes r → stands_for net.nodes r ≡ d
           → net_fitted (as_module c) env.numbers env.clocks d x ≡ at_width (value_at net e r) l.width
       given_worth r d can is = rw (read_worth r d can is, wide) refl
 
       reset_shown : (word : ℕ) (r : LeafReset) (m : NetReset) (own : Reset) → m.is_async ≡ true
-          → ResetGives (as_module c) env.numbers env.clocks x (Some r) (Some m) → IsResetOf net (Some own) (Some m)
+          → ResetGives (as_module c) env.numbers env.clocks x (Some r) (Some m) → IsResetOf net.nodes (Some own) (Some m)
           → CanBeReset net.leaves net.nodes l.signed (Some own) → register_shown c env x (Some r) word ≡ shown net e l.width (Some own) word
       reset_shown word r m own stays worths is can =
           rw (
@@ -106,12 +107,12 @@ module _ (c : LeafCircuit) (net : FlatNet) (faithful : IsFaithful c net) (env : 
 
       -- a register shows the same of the same word, and its word where its reset is merged
       pub word_shown : (word : ℕ) (reset : Option LeafReset) (m : Option NetReset) (own : Option Reset)
-          → ResetGives (as_module c) env.numbers env.clocks x reset m → IsResetOf net own (reset_kept m) → CanBeReset net.leaves net.nodes l.signed own
+          → ResetGives (as_module c) env.numbers env.clocks x reset m → IsResetOf net.nodes own (reset_kept m) → CanBeReset net.leaves net.nodes l.signed own
           → register_shown c env x reset word ≡ shown net e l.width own word
       word_shown word None None None worths is can = refl
       word_shown word (Some r) (Some m) own worths is can = by own m.is_async refl is can
         where
-          by : (own : Option Reset) (b : Bool) → m.is_async ≡ b → IsResetOf net own (if b then Some m else None) → CanBeReset net.leaves net.nodes l.signed own
+          by : (own : Option Reset) (b : Bool) → m.is_async ≡ b → IsResetOf net.nodes own (if b then Some m else None) → CanBeReset net.leaves net.nodes l.signed own
               → register_shown c env x (Some r) word ≡ shown net e l.width own word
           by (Some o) true stays kept can = reset_shown word r m o stays worths kept can
           by None false merged kept can = rw (worths.0, merged) refl
@@ -136,7 +137,7 @@ module _ (c : LeafCircuit) (net : FlatNet) (faithful : IsFaithful c net) (env : 
         -- by what it holds and its role
         shown_by_role : (h : LeafType) → (leaf_at c.leaves x).holds ≡ h → (r : leafed.Role)
             → Gives (as_module c) env.numbers env.clocks x h r (net_role (net_types (as_module c)) (depth_of c x) c.body x r)
-            → IsRoleOf net (net_types (as_module c)) x y h (net_role (net_types (as_module c)) (depth_of c x) c.body x r) → HasType l h
+            → IsRoleOf net.nodes (net_types (as_module c)) x y h (net_role (net_types (as_module c)) (depth_of c x) c.body x r) → HasType l h
             → IsRoleTyped (held_in (as_module c)) h r → holds_clock h ≡ false
             → number_shown c state tick.inputs env x r ≡ Some (role_value net state tick e x l.width y)
         shown_by_role a_clock held r worths is has typed plain = cc

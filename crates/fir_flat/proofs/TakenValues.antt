@@ -18,7 +18,8 @@ use Rattle.fir_connect.specs.working.NetRoles.{NetReset, net_types}
 use Rattle.fir_connect.specs.working.NetTerms.{NetTerm, choice, joined_type, term_type}
 use Rattle.fir_connect.specs.working.RoleLaws.{ResetGives, net_fitted}
 use Rattle.fir_connect.proofs.FittedTwice.{fitted_own}
-use Rattle.fir_flat.specs.working.FlatCircuits.{IsNextOf, IsResetOf, as_module, next_of, reset_kept}
+use Rattle.fir_connect.specs.working.CircuitModules.{as_module}
+use Rattle.fir_flat.specs.working.FlatCircuits.{IsNextOf, IsResetOf, next_of, reset_kept}
 use Rattle.fir_flat.specs.working.FlatLaws.{IsFaithful}
 use Rattle.fir_flat.proofs.ChosenValues.{picked_at_width}
 use Rattle.fir_flat.proofs.ShownValues.{IsBeside, agrees, given_worth, high_worth, leaves_fit}
@@ -49,7 +50,7 @@ module _ (law : HasItsType) (c : LeafCircuit) (net : FlatNet) (faithful : IsFait
     plain_follows now = rw (now, stored_given) refl
 
     reset_follows : (r : LeafReset) (m : NetReset) (own : Reset) → m.is_async ≡ true
-        → ResetGives (as_module c) env.numbers env.clocks x (Some r) (Some m) → IsResetOf net (Some own) (Some m)
+        → ResetGives (as_module c) env.numbers env.clocks x (Some r) (Some m) → IsResetOf net.nodes (Some own) (Some m)
         → CanBeReset net.leaves net.nodes l.signed (Some own) → e x ≡ register_shown c env x (Some r) word
         → register_next c env x (Some r) edge word ≡ after (Some own) given
     reset_follows r m own stays worths is can now =
@@ -67,7 +68,7 @@ module _ (law : HasItsType) (c : LeafCircuit) (net : FlatNet) (faithful : IsFait
         (asynchronous_next (is_high net e own.condition) edge (at_width (value_at net e own.init) l.width) given word)
 
   -- by what is read for its next value, if anything is: a register that reads nothing keeps what it shows
-  stored_given : (following : Option Read) → CanBeDriven net.leaves net.nodes l.signed following → IsNextOf net x following d
+  stored_given : (following : Option Read) → CanBeDriven net.leaves net.nodes l.signed following → IsNextOf net.nodes x following d
       → stored_or_shown c env x ≡ taken net e l.width (e x) following
   stored_given (Some r) can is = stored ∙ given_worth c net faithful env e beside x l at wide r d can.can is
   stored_given None can is =
@@ -76,7 +77,7 @@ module _ (law : HasItsType) (c : LeafCircuit) (net : FlatNet) (faithful : IsFait
 
   choice_follows : (r : LeafReset) (m : NetReset) → m.is_async ≡ false → ResetGives (as_module c) env.numbers env.clocks x (Some r) (Some m)
       → (following : Option Read) → CanBeDriven net.leaves net.nodes l.signed following
-      → IsNextOf net x following (choice (net_types (as_module c)) m.condition m.init d) → e x ≡ register_shown c env x (Some r) word
+      → IsNextOf net.nodes x following (choice (net_types (as_module c)) m.condition m.init d) → e x ≡ register_shown c env x (Some r) word
       → register_next c env x (Some r) edge word ≡ after None (taken net e l.width (e x) following)
   choice_follows r m merged worths None can is now = cc
   choice_follows r m merged worths (Some f) can is now =
@@ -91,14 +92,14 @@ module _ (law : HasItsType) (c : LeafCircuit) (net : FlatNet) (faithful : IsFait
     given = taken net e l.width (e x) following
 
     pub word_follows : (reset : Option LeafReset) (m : Option NetReset) (own : Option Reset)
-        → ResetGives (as_module c) env.numbers env.clocks x reset m → IsResetOf net own (reset_kept m)
-        → IsNextOf net x following (next_of (net_types (as_module c)) m d) → CanBeReset net.leaves net.nodes l.signed own
+        → ResetGives (as_module c) env.numbers env.clocks x reset m → IsResetOf net.nodes own (reset_kept m)
+        → IsNextOf net.nodes x following (next_of (net_types (as_module c)) m d) → CanBeReset net.leaves net.nodes l.signed own
         → e x ≡ register_shown c env x reset word → register_next c env x reset edge word ≡ after own given
     word_follows None None None worths is next_is can now = plain_follows given (stored_given following can_follow next_is) now
     word_follows (Some r) (Some m) own worths is next_is can now = by own m.is_async refl is next_is can
       where
-        by : (own : Option Reset) (b : Bool) → m.is_async ≡ b → IsResetOf net own (if b then Some m else None)
-            → IsNextOf net x following (if b then d else choice (net_types (as_module c)) m.condition m.init d)
+        by : (own : Option Reset) (b : Bool) → m.is_async ≡ b → IsResetOf net.nodes own (if b then Some m else None)
+            → IsNextOf net.nodes x following (if b then d else choice (net_types (as_module c)) m.condition m.init d)
             → CanBeReset net.leaves net.nodes l.signed own → register_next c env x (Some r) edge word ≡ after own given
         by (Some o) true stays kept next_is can = reset_follows given (stored_given following can_follow next_is) r m o stays worths kept can now
         by None false merged kept next_is can = choice_follows r m merged worths following can_follow next_is now

@@ -1,7 +1,6 @@
 -- What no clause of `run` reads yet: flat nets of circuits over their leaves.
 pub mod FlatCircuits
 pub mod FlatLaws
-pub mod LoneModules
 -- The parts of the terms that drive leaves have their types.
 pub mod WholeTerms
 pub mod WholeRoles

@@ -2,7 +2,6 @@
 
 ghost use Rattle.fir_flat.specs.working.FlatLaws.{AllowsTheSame, HasOneWhere};
 ghost use Rattle.fir_flat.specs.working.FlatLoops.{HidesNoLoop, ShowsTheSameLoops};
-ghost use Rattle.fir_flat.specs.working.LoneModules.{LoneIsItself};
 ghost use Rattle.fir_flat.specs.working.ModulesWithin.{ModulesAreWithin};
 ghost use Rattle.fir_flat.specs.working.WholeRoles.{RolesAreWhole};
 
@@ -24,12 +23,6 @@ pub fn flat_nets_have_one()
 {
     has_its_type()
 }
-
-/// The circuit of a design without instances and memories has the leaves and the statements of its module, in their
-/// order (FIRRTL spec, "Modules").
-pub fn lone_modules_are_themselves()
-    ensures { LoneIsItself }
-{}
 
 /// Each leaf number that stands in the statements of a module, in the expression of a node, or in the clock and the
 /// reset of a register, is that of one of the module's leaves, where its circuit shows no fault of names or types

@@ -1,6 +1,6 @@
 -- The forms that are lacking by the numbers of declarations are those by their names: a leaf is of the declaration of a number exactly where its path begins with
 -- the name of that declaration.
-use Rattle.std.proofs.Common.{◌≡◌, ℕ, suc, List, [], ◌∷◌, codes, map, length, slice_get, slice_index_or, Bool, true, false, ◌&&◌, ◌||◌, nat_eq, if◌then◌else◌, Option, Some, None, refl, sym, ap, ap₂, ◌∙◌, subst, inl, inr, arith, append_assoc, append-nil}
+use Rattle.std.proofs.Common.{◌≡◌, ℕ, List, [], ◌∷◌, codes, map, length, slice_get, slice_index_or, Bool, true, false, ◌&&◌, ◌||◌, nat_eq, Option, Some, None, refl, sym, ap, ap₂, ◌∙◌, subst, inl, inr, arith, append-nil}
 use Rattle.std.specs.List.{list_any}
 use Rattle.std.specs.Option.{option_or}
 use Rattle.std.specs.Str.{bytes_eq}
@@ -9,11 +9,10 @@ use Rattle.std.proofs.lemmas.Option.{get_or_from_slice_get, slice_get_within}
 use Rattle.fir_base.specs.Lists.{In, Distinct}
 use Rattle.fir_base.proofs.Elements.{get_in}
 use Rattle.fir_base.proofs.SameNames.{name_other, name_same}
-use Rattle.fir_ast.specs.Circuits.{CircuitTree, PortTree}
+use Rattle.fir_ast.specs.Circuits.{CircuitTree}
 use Rattle.fir_ast.specs.Statements.{PlacedName, Reset, Statement, wire, register, node, instance, memory, when, connect, partial_connect, invalid, skip, Block, done, then}
 use Rattle.fir_meaning.specs.Components.{Component, Declaration, Declarations}
 use Rattle.fir_meaning.specs.Components as component
-use Rattle.fir_meaning.specs.LeafTypes.{is_clock}
 use Rattle.fir_meaning.specs.working.LeafModules as over
 use Rattle.fir_meaning.specs.working.LeafModules.{LeafArray, LeafDeclared, LeafReset, Role}
 use Rattle.fir_meaning.specs.LeafPaths.{LeafPath}
@@ -24,7 +23,7 @@ use Rattle.fir_meaning.specs.SizedDeclarations.{numbered_modules}
 use Rattle.fir_meaning.specs.SourceRoles as tree
 use Rattle.fir_meaning.specs.SourceRoles.{SourceLeaf, SourceReset, SourceRole, source_leaves}
 use Rattle.fir_meaning.specs.TypeGroup.{type_faults}
-use Rattle.fir_meaning.specs.Visibility.{Before, at_head, behind, behind_block, behind_ports, declaration_at, declarations, opened, reopened, with_declaration}
+use Rattle.fir_meaning.specs.Visibility.{Before, at_head, behind, behind_block, declaration_at, declarations, opened, reopened, with_declaration}
 use Rattle.fir_leaf.specs.working.TableLaws.{IsLeafOf}
 use Rattle.fir_design.specs.working.SameRoles.{MaySameReset, SameLeaves, SameRole}
 use Rattle.fir_design.proofs.DeclaredInstances.{Grows}
@@ -35,10 +34,10 @@ use Rattle.fir_design.proofs.PlacedRuns.{declared_there}
 use Rattle.fir_design.proofs.SourceInstances.{grows_before}
 use Rattle.fir_design.proofs.ViewRoles.{views_same}
 use Rattle.fir_lack.specs.Lacking as by_name
-use Rattle.fir_lack.specs.Lacking.{is_clock_input, is_of, lack_if, lacking_behind, lacking_clock, type_word}
+use Rattle.fir_lack.specs.Lacking.{is_of, lack_if}
 use Rattle.fir_lack.specs.working.NumberedLacks as numbered
 use Rattle.fir_lack.specs.working.SameLacks.{SameLacking}
-use Rattle.fir_lack.proofs.UnmarkedLeaves.{more_behind, more_behind_block, more_behind_ports}
+use Rattle.fir_lack.proofs.DeclaredCounts.{more_behind, more_behind_block, more_behind_ports}
 
 module _ (leaves : List LeafDeclared) (arrays : List LeafArray) where
   acts_same : (r : Option LeafReset) (t : Option SourceReset) (q : LeafPath) → MaySameReset leaves r t q → numbered.acts_at_once r ≡ by_name.acts_at_once t
@@ -53,19 +52,16 @@ module _ (leaves : List LeafDeclared) (arrays : List LeafArray) where
   reset_same r (tree.register scope e t q) h = absurd h
   reset_same r t h = refl
 
-  -- some leaf of the declaration of a number is so, where some of a name is
-  some_same : (d : ℕ) (name : List ℕ) (is : LeafDeclared → Bool) (so : SourceLeaf → Bool)
-      → ((l : LeafDeclared) (t : SourceLeaf) → l.holds ≡ t.holds → SameRole leaves arrays l.role t.role → is l ≡ so t)
-      → (ls : List LeafDeclared) (ts : List SourceLeaf) → SameLeaves leaves arrays ls ts
+  -- some leaf of the declaration of a number is reset at once where some of a name is
+  resets_same : (d : ℕ) (name : List ℕ) (ls : List LeafDeclared) (ts : List SourceLeaf) → SameLeaves leaves arrays ls ts
       → ((l : LeafDeclared) → In ls l → nat_eq l.declaration d ≡ is_of name l.path)
-      → numbered.some_leaf is ls d ≡ list_any (λ (t : SourceLeaf). is_of name t.path && so t) ts
-  some_same d name is so alike [] [] same own = refl
-  some_same d name is so alike [] (t ∷ ts) same own = absurd same
-  some_same d name is so alike (l ∷ ls) [] same own = absurd same
-  some_same d name is so alike (l ∷ ls) (t ∷ ts) same own =
+      → numbered.resets_at_once ls d ≡ list_any (λ (t : SourceLeaf). is_of name t.path && by_name.is_reset_at_once t.role) ts
+  resets_same d name [] [] same own = refl
+  resets_same d name [] (t ∷ ts) same own = absurd same
+  resets_same d name (l ∷ ls) [] same own = absurd same
+  resets_same d name (l ∷ ls) (t ∷ ts) same own =
       let here : nat_eq l.declaration d ≡ is_of name t.path = own l (inl refl) ∙ ap (is_of name) same.0.0 in
-      ap₂ (λ a b. a || b) (ap₂ (λ a b. a && b) here (alike l t same.0.1 same.0.2))
-      (some_same d name is so alike ls ts same.1 (λ k i. own k (inr i)))
+      ap₂ (λ a b. a || b) (ap₂ (λ a b. a && b) here (reset_same l.role t.role same.0.2)) (resets_same d name ls ts same.1 (λ k i. own k (inr i)))
 
 module _ (s : Scene) (f : IsFineScene s) where
   abbrev all : Declarations
@@ -104,58 +100,24 @@ module _ (s : Scene) (f : IsFineScene s) where
           (λ same. let t : nat_eq l.declaration d ≡ true = eq-eqb l.declaration d (one_number l.declaration d k e there at same) in cc))
 
   module _ (same : SameLeaves (module_leaves s) (leafed_module s).arrays (module_leaves s) (source_leaves s)) where
-    clock_told : (d : ℕ) (e : Declaration) → slice_get (declarations s.own.inside) d ≡ Some e
-        → numbered.holds_clock s d ≡ by_name.holds_clock s e.named.name
-    clock_told d e at =
-        some_same (module_leaves s) (leafed_module s).arrays d e.named.name (λ l. is_clock l.holds) (λ t. is_clock t.holds) (λ l t h r. ap is_clock h)
-        (module_leaves s) (source_leaves s) same (of_name d e at)
-
     resets_told : (d : ℕ) (e : Declaration) → slice_get (declarations s.own.inside) d ≡ Some e
-        → numbered.resets_at_once s d ≡ by_name.some_leaf s (λ t. by_name.is_reset_at_once t.role) e.named.name
+        → numbered.resets_at_once (module_leaves s) d ≡ by_name.some_leaf s (λ t. by_name.is_reset_at_once t.role) e.named.name
     resets_told d e at =
-        some_same (module_leaves s) (leafed_module s).arrays d e.named.name (λ l. numbered.is_reset_at_once l.role) (λ t. by_name.is_reset_at_once t.role)
-        (λ l t h r. reset_same (module_leaves s) (leafed_module s).arrays l.role t.role r) (module_leaves s) (source_leaves s) same (of_name d e at)
+        resets_same (module_leaves s) (leafed_module s).arrays d e.named.name (module_leaves s) (source_leaves s) same (of_name d e at)
 
     -- what is declared behind so many others
-    clock_here : (before : Before) (n : PlacedName) (c : Component) → Grows (with_declaration before n c).declared (declarations s.own.inside)
-        → numbered.holds_clock s (length before.declared) ≡ by_name.holds_clock s n.name
-    clock_here before n c g = clock_told (length before.declared) (declaration_at before n c) (declared_there all before n c g)
-
     reset_here : (before : Before) (n : PlacedName) (c : Component) → Grows (with_declaration before n c).declared (declarations s.own.inside)
         → (r : Option Reset) → numbered.lacking_reset s (length before.declared) r ≡ by_name.lacking_reset s n.name r
     reset_here before n c g None = refl
     reset_here before n c g (Some r) =
         ap (λ b. lack_if b r.place (codes "with")) (resets_told (length before.declared) (declaration_at before n c) (declared_there all before n c g))
 
-    port_told : (p : PortTree) (d : ℕ) → numbered.holds_clock s d ≡ by_name.holds_clock s p.named.name
-        → numbered.lacking_port s d p ≡ by_name.lacking_port s p
-    port_told p d h =
-        ap (λ (b : Bool). if is_clock_input p.direction p.data_type then None else lack_if b p.type_place (type_word p.data_type)) h
-
-    ports_told : (ps : List PortTree) (before : Before) → Grows (behind_ports before ps).declared (declarations s.own.inside)
-        → numbered.lacking_ports s (length before.declared) ps ≡ by_name.lacking_ports s ps
-    ports_told [] before g = refl
-    ports_told (p ∷ ps) before g =
-        let c = component.port p.direction p.data_type in
-        let next = with_declaration before p.named c in
-        let one : suc (length before.declared) ≡ length next.declared = omega (arith, more_behind_ports (p ∷ []) before) in
-        ap₂ option_or (port_told p (length before.declared) (clock_here before p.named c (grows_ports ps next g)))
-        (ap (λ d. numbered.lacking_ports s d ps) one ∙ ports_told ps next g)
-      where
-        grows_ports : (qs : List PortTree) (b : Before) → Grows (behind_ports b qs).declared (declarations s.own.inside)
-            → Grows b.declared (declarations s.own.inside)
-        grows_ports [] b g = g
-        grows_ports (q ∷ qs) b g =
-            let d = declaration_at b q.named (component.port q.direction q.data_type) in
-            let more = grows_ports qs (with_declaration b q.named (component.port q.direction q.data_type)) g in
-            (d ∷ more.0, sym (append_assoc b.declared (d ∷ []) more.0) ∙ more.1)
-
     mutual
       statement_told : (x : Statement) (before : Before) → Grows (behind before x).declared (declarations s.own.inside)
           → numbered.lacking_statement s (length before.declared) x ≡ by_name.lacking_statement s x
-      statement_told (wire p n begins t) before g = ap (λ b. lack_if b begins (type_word t)) (clock_here before n (component.wire t) g)
-      statement_told (register p n begins t c r) before g = ap (option_or (lacking_clock c)) (reset_here before n (component.register t) g r)
-      statement_told (node p n e) before g = ap (λ b. lack_if b p (codes "node")) (clock_here before n (component.node e) g)
+      statement_told (wire p n begins t) before g = refl
+      statement_told (register p n begins t c r) before g = reset_here before n (component.register t) g r
+      statement_told (node p n e) before g = refl
       statement_told (instance p n other) before g = refl
       statement_told (memory p n parts) before g = refl
       statement_told (when p c a b) before g =
@@ -177,20 +139,23 @@ module _ (s : Scene) (f : IsFineScene s) where
           ap₂ option_or (statement_told x before (grows_before next b all g))
           (ap (λ d. numbered.lacking_block s d b) (sym (more_behind x before)) ∙ block_told b next g)
 
-    module_told : numbered.lacking_module s ≡ by_name.lacking_module s
+    module_told : numbered.lacking_module s ≡ by_name.lacking_block s s.own.inside.body
     module_told =
-        let ports = s.own.inside.ports in
         let head = behind_all_ports s.own.inside in
-        let body : Grows (behind_block head s.own.inside.body).declared (declarations s.own.inside) = ([], append-nil (declarations s.own.inside)) in
-        let behind : length ports ≡ length head.declared = omega (arith, more_behind_ports ports at_head) in
-        ap₂ option_or (ports_told ports at_head (grows_before head s.own.inside.body all body))
-        (ap (λ d. numbered.lacking_block s d s.own.inside.body) behind ∙ block_told s.own.inside.body head body)
+        let behind : length s.own.inside.ports ≡ length head.declared = omega (arith, more_behind_ports s.own.inside.ports at_head) in
+        ap (λ d. numbered.lacking_block s d s.own.inside.body) behind ∙ block_told s.own.inside.body head ([], append-nil (declarations s.own.inside))
 
 -- in each module of a circuit without a fault of names or types
-lacking_in : (c : CircuitTree) (s : Scene) → HasNames c → type_faults c ≡ [] → In (numbered_modules c) s.own → numbered.lacking c s ≡ by_name.lacking c s
-lacking_in c s names types i =
-    ap (λ l. option_or l (lacking_behind c.modules)) (module_told s (fine_scene c s names types i) (views_same c s names types i).0)
+told_in : (c : CircuitTree) (s : Scene) → HasNames c → type_faults c ≡ [] → In (numbered_modules c) s.own
+    → numbered.lacking_module s ≡ by_name.lacking_block s s.own.inside.body
+told_in c s names types i = module_told s (fine_scene c s names types i) (views_same c s names types i).0
 
--- and so in the first
 pub same_lacking : SameLacking
-same_lacking c s names types scene = lacking_in c s names types (get_in (numbered_modules c) 0 s.own scene.own)
+same_lacking c module_number s names types scene = told_in c s names types (get_in (numbered_modules c) module_number s.own scene.own)
+
+-- and so in all of them
+pub same_in_all : (c : CircuitTree) → HasNames c → type_faults c ≡ [] → (scenes : List Scene)
+    → ((s : Scene) → In scenes s → In (numbered_modules c) s.own) → numbered.lacking scenes ≡ by_name.lacking scenes
+same_in_all c names types [] own = refl
+same_in_all c names types (s ∷ ss) own =
+    ap₂ option_or (told_in c s names types (own s (inl refl))) (same_in_all c names types ss (λ t j. own t (inr j)))

@@ -7,8 +7,8 @@ ghost use Rattle.fir_types.specs.working.Seen.{found_type};
 ghost use Rattle.fir_leaf_text.specs.working.TextsOfLeaves.{AreTextsOf, declared_texts};
 ghost use Rattle.fir_leaf_text.specs.working.TypePaths.{texts_behind, type_paths};
 
+use crate::declarations::declared_names;
 use crate::declared_leaf::found_at;
-use crate::declared_names::declared_names;
 use crate::type_texts::{push_text, push_type_texts};
 use fir_base::{MemoryOut, Name};
 use fir_leaf::leaves_are_declared;

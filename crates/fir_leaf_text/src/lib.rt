@@ -5,13 +5,14 @@
 
 mod all_leaves;
 mod bundle_field;
+mod declarations;
 mod declared_leaf;
 mod declared_name;
-mod declared_names;
 mod leaf_step;
 mod one_leaf;
 mod type_path;
 mod type_texts;
 
 pub use all_leaves::leaf_texts;
+pub use declarations::declared_names;
 pub use one_leaf::leaf_text;

@@ -6,6 +6,7 @@ pub mod WholeNodes
 pub mod WholeValues
 pub mod ValuesAlong
 pub mod NumberedLeaves
+pub mod StateWords
 pub mod LeafEquations
 pub mod ClockEquations
 pub mod SettledEquations

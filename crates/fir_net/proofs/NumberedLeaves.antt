@@ -6,7 +6,7 @@ use Rattle.fir_base.proofs.Elements.{number_of}
 use Rattle.fir_net.specs.declared.leaf.Role.{Role}
 use Rattle.fir_net.specs.declared.leaf.Role.TheVariants as role
 use Rattle.fir_net.specs.declared.leaf.Leaf.{Leaf}
-use Rattle.fir_net.specs.working.Settled.{with_bits, input_number, clock_number, register_number, numbers_by}
+use Rattle.fir_net.specs.working.Settled.{with_bits, input_number, clock_number, numbers_by}
 use Rattle.fir_net.proofs.Places.{place_of, place_is}
 
 -- a leaf gives its number once, or not at all
@@ -32,13 +32,6 @@ clocks_own = record { each = own }
   where
     own : (r : Role) (w k : ℕ) → (clock_number r w k ≡ []) ⊎ (clock_number r w k ≡ k ∷ [])
     own role.Clock w k = inr refl
-    own _ w k = inl refl
-
-pub registers_own : GivesOwn register_number
-registers_own = record { each = own }
-  where
-    own : (r : Role) (w k : ℕ) → (register_number r w k ≡ []) ⊎ (register_number r w k ≡ k ∷ [])
-    own (role.Register d) w k = bits_own w k
     own _ w k = inl refl
 
 -- what gives its number is an input, or a clock input

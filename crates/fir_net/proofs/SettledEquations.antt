@@ -12,9 +12,10 @@ use Rattle.fir_net.specs.declared.leaf.Leaf.{Leaf}
 use Rattle.fir_net.specs.declared.net.FlatNet.{FlatNet}
 use Rattle.fir_net.specs.working.IsNet.{IsNet}
 use Rattle.fir_net.specs.working.Values.{at_width, leaf_width}
-use Rattle.fir_net.specs.working.Settled.{with_bits, input_number, register_number, clock_number, inputs, clocks, registers, shape, value_at, is_clock, driver, clock_driver, driven_clock, shown, Settled}
+use Rattle.fir_net.specs.working.Settled.{with_bits, input_number, clock_number, inputs, clocks, registers, shape, value_at, is_clock, driver, clock_driver, driven_clock, shown, Settled}
 use Rattle.fir_net.proofs.Places.{place_of, value_at_place, values_at_places}
-use Rattle.fir_net.proofs.NumberedLeaves.{inputs_own, clocks_own, registers_own, input_role, clock_role, place_among, among, leaf_at}
+use Rattle.fir_net.proofs.NumberedLeaves.{inputs_own, clocks_own, input_role, clock_role, place_among, among, leaf_at}
+use Rattle.fir_net.proofs.StateWords.{word_at, word_place}
 use Rattle.fir_net.specs.working.Laws.{LeavesFit}
 use Rattle.fir_net.proofs.ValuesAlong.{IsPlain}
 use Rattle.fir_net.proofs.LeafEquations.{role_value, value_equation, equation_at, value_below}
@@ -38,8 +39,8 @@ module _ (law : HasItsType) (net : FlatNet) (whole : IsNet net) (state : List �
 
     register_met : (k : ℕ) (l : Leaf) (d : Register) → slice_get net.leaves k ≡ Some l → l.role ≡ role.Register d → nat_eq l.width 0 ≡ false → env k ≡ shown net env l.width d.reset (slice_index state (place_of k (registers net)))
     register_met k l d at is bits =
-        let found = among register_number registers_own net.leaves k l at (ap (λ (r : Role). register_number r l.width k) is ∙ bits_give l.width k bits) in
-        s.registers_show found.0 k l d found.1 at is ∙ ap (λ (n : ℕ). shown net env l.width d.reset (slice_index state n)) (sym (place_among register_number registers_own net.leaves found.0 k found.1))
+        let found = word_at whole.state k l d at is bits in
+        s.registers_show found.0 k l d found.1 at is ∙ ap (λ (n : ℕ). shown net env l.width d.reset (slice_index state n)) (sym (word_place whole.state found.0 k found.1))
 
     role_met : (k : ℕ) (l : Leaf) (r : Role) → slice_get net.leaves k ≡ Some l → l.role ≡ r → is_clock r ≡ false → nat_eq l.width 0 ≡ false → env k ≡ role_value net state tick env k l.width r
     role_met k l role.Input at is plain bits = input_met k l at is bits
@@ -87,7 +88,7 @@ module _ (law : HasItsType) (net : FlatNet) (whole : IsNet net) (state : List �
 
     register_shows : (n k : ℕ) (l : Leaf) (d : Register) → slice_get (registers net) n ≡ Some k → slice_get net.leaves k ≡ Some l → l.role ≡ role.Register d → env k ≡ shown net env l.width d.reset (slice_index state n)
     register_shows n k l d e at is =
-        value_of k l (role.Register d) at is refl ∙ ap (λ (m : ℕ). shown net env l.width d.reset (slice_index state m)) (place_among register_number registers_own net.leaves n k e)
+        value_of k l (role.Register d) at is refl ∙ ap (λ (m : ℕ). shown net env l.width d.reset (slice_index state m)) (word_place whole.state n k e)
 
     clock_given : (n k : ℕ) → slice_get (clocks net) n ≡ Some k → clock k ≡ Some n
     clock_given n k e =

@@ -1,5 +1,5 @@
--- Sets of names, and the lists that they hold.
-use Rattle.std.proofs.Common.{◌≡◌, ℕ, List, [], ◌∷◌, ◌++◌, Bool, true, false, cond, ◌||◌, refl, ap, ◌∙◌}
+-- Sets of names, the lists that they hold, and lists of the same names.
+use Rattle.std.proofs.Common.{◌≡◌, ℕ, List, [], ◌∷◌, ◌++◌, Bool, true, false, cond, ◌||◌, refl, sym, ap, ◌∙◌, inl, inr, ⊎_elim}
 use Rattle.std.specs.BTreeSet.{BTreeSet, contains}
 use Rattle.std.specs.BTreeSet as sorted
 use Rattle.std.specs.BTreeMap.{is_at}
@@ -8,7 +8,10 @@ use Rattle.std.specs.Cmp.Lexicographic.{slice_cmp}
 use Rattle.std.specs.Ordering.{nat_cmp}
 use Rattle.std.specs.Str.{bytes_eq}
 use Rattle.std.proofs.lemmas.Map.Text.{is_eq-slice_cmp}
+use Rattle.std.proofs.lemmas.Bool.{false_from_ne_true, or_cases, or_left, or_right}
 use Rattle.fir_base.specs.Words.{is_among}
+use Rattle.fir_base.specs.Lists.{In}
+use Rattle.fir_base.proofs.SameNames.{name_is, name_same}
 use Rattle.fir_net_names.specs.working.NameSets.{Holds}
 
 -- a choice of two tests, as a condition
@@ -41,3 +44,21 @@ holds_first old new names name u h = record {
 -- a list with the same names
 pub holds_same : (set : BTreeSet (List ℕ)) (names others : List (List ℕ)) → ((n : List ℕ) → is_among names n ≡ is_among others n) → Holds set names → Holds set others
 holds_same set names others same h = record { each = λ n. h.each n ∙ same n }
+
+-- a name is among names, or not
+among : (names : List (List ℕ)) (n : List ℕ) → is_among names n ≡ true → In names n
+among [] n e = absurd (cc)
+among (m ∷ ms) n e =
+    ⊎_elim (λ (t : bytes_eq m n ≡ true). inl (name_is m n t)) (λ (t : is_among ms n ≡ true). inr (among ms n t)) (or_cases (bytes_eq m n) (is_among ms n) e)
+
+is_named : (names : List (List ℕ)) (n : List ℕ) → In names n → is_among names n ≡ true
+is_named [] n m = absurd m
+is_named (k ∷ ks) n (inl e) = or_left (bytes_eq k n) (is_among ks n) (ap (bytes_eq k) (sym e) ∙ name_same k)
+is_named (k ∷ ks) n (inr m) = or_right (bytes_eq k n) (is_among ks n) (is_named ks n m)
+
+pub same_names : (xs ys : List (List ℕ)) → ((n : List ℕ) → In xs n → In ys n) → ((n : List ℕ) → In ys n → In xs n) → (n : List ℕ) → is_among xs n ≡ is_among ys n
+same_names xs ys to from n = by (is_among xs n) refl
+  where
+    by : (b : Bool) → is_among xs n ≡ b → is_among xs n ≡ is_among ys n
+    by true e = e ∙ sym (is_named ys n (to n (among xs n e)))
+    by false e = e ∙ sym (false_from_ne_true (is_among ys n) (λ t. let p : is_among xs n ≡ true = is_named xs n (from n (among ys n t)) in cc))

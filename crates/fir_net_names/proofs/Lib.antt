@@ -4,5 +4,8 @@ pub mod Unreserved
 pub mod PassedNames
 pub mod FreeNames
 pub mod HeldNames
-pub mod Somes
+pub mod NamesInTurn
+pub mod TableNames
+pub mod NumbersNamed
 pub mod NamedLeaves
+pub mod TakenNames

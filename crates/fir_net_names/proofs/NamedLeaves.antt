@@ -1,113 +1,183 @@
--- The names of leaves: how the list of them grows, and that none stands twice and each is spelled as a name.
-use Rattle.std.proofs.Common.{◌≡◌, ℕ, List, [], ◌∷◌, ◌++◌, Bool, true, false, ◌||◌, refl, sym, ap, ◌∙◌, inl, inr, subst, append_assoc}
-use Rattle.std.specs.Prelude.{Option, Some, None, not, IsTrue}
+-- The names of leaves while they are taken: none, one more, and the ports behind each other and the words behind them.
+use Rattle.std.proofs.Common.{◌≡◌, ℕ, zero, suc, ◌+◌, ◌<◌, List, [], ◌∷◌, ◌++◌, length, map, set, Bool, true, false, ◌||◌, refl, sym, ap, ◌∙◌, inl, ⊎_elim, subst, append_assoc, arith}
+use Rattle.std.specs.Prelude.{slice_get, unwrap_or, Option, Some, None, not, nat_eq, ◌&&◌}
+use Rattle.std.proofs.lemmas.Option.{slice_get_within}
+use Rattle.fir_base.proofs.Writes.{push_end, write_same, write_other}
 use Rattle.std.specs.BTreeSet.{BTreeSet}
 use Rattle.std.specs.BTreeSet as sorted
 use Rattle.std.specs.Cmp.Lexicographic.{slice_cmp}
 use Rattle.std.specs.Ordering.{nat_cmp}
-use Rattle.std.specs.List.{AllByRecursion}
-use Rattle.std.specs.Str.{bytes_eq}
-use Rattle.std.proofs.lemmas.Bool.{and_parts, or_parts, both_ways, not-true}
-use Rattle.std.proofs.lemmas.List.{append-nil}
-use Rattle.std.proofs.lemmas.Slice.Eq.{bytes_eq-Decides}
+use Rattle.std.proofs.lemmas.List.{map_push, append-nil, length_push, length-set}
 use Rattle.fir_base.specs.Words.{is_among}
 use Rattle.fir_base.specs.Lists.{In, Distinct}
-use Rattle.ver_words.specs.Names.{is_word, IsName}
-use Rattle.ver_words.specs.Reserved.{is_reserved}
+use Rattle.fir_base.proofs.Members.{in_left, in_right, in_either, map_same}
+use Rattle.fir_base.proofs.Twins.{apart}
 use Rattle.fir_net.specs.declared.leaf.Leaf.{Leaf}
-use Rattle.fir_net_names.specs.Names.{is_free, IsFirstFree, IsNameFor}
+use Rattle.fir_net.specs.declared.net.FlatNet.{FlatNet}
 use Rattle.fir_net.specs.Paths.{base_name}
-use Rattle.fir_net.specs.working.WordNames.{AreWordLeaves}
-use Rattle.fir_net_names.specs.working.LeafNamed.{somes, with_some, has_name, AreLeafNames}
-use Rattle.fir_net_names.specs.working.NameSets.{Holds, TakesName}
+use Rattle.fir_net.specs.working.IsNet.{is_port, IsNet}
+use Rattle.fir_net_names.specs.Names.{AreNamed, IsNameFor}
+use Rattle.fir_net_names.specs.working.LeafNamed.{somes, named_ports, named_leaves, base_at, leaf_base, name_at}
+use Rattle.fir_net_names.specs.working.NameSets.{Holds, TakesName, HasNames}
 use Rattle.fir_net_names.proofs.HeldNames.{among_last, holds_none, holds_first, holds_same}
-use Rattle.fir_net_names.proofs.Somes.{somes_none, somes_more}
-use Rattle.fir_net_names.proofs.Unreserved.{suffixed_word}
+use Rattle.fir_net_names.proofs.NamesInTurn.{named_push}
+use Rattle.fir_net_names.proofs.NumbersNamed.{number_given, number_lacking, ports_distinct, named_once}
+use Rattle.fir_net_names.proofs.TableNames.{somes_more}
 
--- a leaf that has no name
-pub takes_none : (set : BTreeSet (List ℕ)) (leaf : Leaf) → has_name leaf ≡ false → TakesName set set leaf None
-takes_none set leaf e = record { named = λ names h. e; held = λ names h. h }
-
--- a leaf that has one
-pub takes_some : (old new : BTreeSet (List ℕ)) (leaf : Leaf) (name copy : List ℕ) → has_name leaf ≡ true → ((names : List (List ℕ)) → Holds old names → IsNameFor names (base_name leaf.path) name) → copy ≡ name → sorted.Updates (slice_cmp nat_cmp) old new copy true → TakesName old new leaf (Some name)
-takes_some old new leaf name copy has free same u = record {
-  named = λ names h. (has, free names h);
+-- a leaf that takes a name
+pub takes : (old new : BTreeSet (List ℕ)) (base name copy : List ℕ) → ((names : List (List ℕ)) → Holds old names → IsNameFor names base name) → copy ≡ name → sorted.Updates (slice_cmp nat_cmp) old new copy true → TakesName old new base name
+takes old new base name copy free same u = record {
+  named = free;
   held = λ names h. subst (λ n. Holds new (n ∷ names)) same (holds_first old new names copy u h);
 }
 
--- the leaves so far have these names, which the set has, and what is left goes on behind them
-pub record NamedSoFar (leaves left : List Leaf) (names : List (Option (List ℕ))) (set : BTreeSet (List ℕ)) : Type 0 where
-  pub known : List (List ℕ)
-  pub holds : Holds set known
-  pub same : (n : List ℕ) → is_among known n ≡ is_among (somes names) n
-  pub goes_on : (rest : List (Option (List ℕ))) → AreLeafNames known left rest → AreLeafNames [] leaves (names ++ rest)
+or_none : (b : Bool) → b ≡ (b || false)
+or_none true = refl
+or_none false = refl
 
-pub named_none : (leaves : List Leaf) (set : BTreeSet (List ℕ)) → sorted.IsEmpty set → NamedSoFar leaves leaves [] set
-named_none leaves set empty = record { known = []; holds = holds_none set empty; same = λ n. refl; goes_on = λ rest r. r }
+-- one more leaf takes its name
+module _ (net : FlatNet) (order : List ℕ) (names : List (Option (List ℕ))) (old : BTreeSet (List ℕ)) (h : HasNames net order names old) where
+  pub same_table : (later : List (Option (List ℕ))) → ((j : ℕ) → name_at later j ≡ name_at names j) → HasNames net order later old
+  same_table later same =
+      let all : map (name_at later) order ≡ map (name_at names) order = map_same (name_at later) (name_at names) order (λ j m. same j) in
+      record {
+        named = rw all h.named;
+        has = λ k m. let r = h.has k m in (r.0, same k ∙ r.1);
+        only = λ k m. same k ∙ h.only k m;
+        held = rw all h.held;
+      }
 
-same_more : (known : List (List ℕ)) (names : List (Option (List ℕ))) (name : Option (List ℕ)) → ((n : List ℕ) → is_among known n ≡ is_among (somes names) n) → (n : List ℕ) → is_among (with_some name known) n ≡ is_among (somes (names ++ name ∷ [])) n
-same_more known names None same n = same n ∙ ap (λ ns. is_among ns n) (sym (somes_none names))
-same_more known names (Some name) same n =
-    ap (λ b. bytes_eq name n || b) (same n) ∙ sym (among_last (somes names) name n) ∙ ap (λ ns. is_among ns n) (sym (somes_more names name))
+  module _ (k : ℕ) (name : List ℕ) (new : BTreeSet (List ℕ)) (later : List (Option (List ℕ))) (fresh : In order k → ⊥) (t : TakesName old new (base_at net k) name) (here : name_at later k ≡ Some name) (others : (j : ℕ) → (j ≡ k → ⊥) → name_at later j ≡ name_at names j) where
+    abbrev taken : List (List ℕ)
+    taken = somes (map (name_at names) order)
 
-pub named_more : (leaves left : List Leaf) (names : List (Option (List ℕ))) (old new : BTreeSet (List ℕ)) (leaf : Leaf) (name : Option (List ℕ)) → NamedSoFar leaves (leaf ∷ left) names old → TakesName old new leaf name → NamedSoFar leaves left (names ++ name ∷ []) new
-named_more leaves left names old new leaf name s t = record {
-  known = with_some name s.known;
-  holds = t.held s.known s.holds;
-  same = same_more s.known names name s.same;
-  goes_on = λ rest r. subst (AreLeafNames [] leaves) (sym (append_assoc names (name ∷ []) rest)) (s.goes_on (name ∷ rest) (t.named s.known s.holds, r));
+    other : (j : ℕ) → In order j → j ≡ k → ⊥
+    other j m e = fresh (subst (In order) e m)
+
+    taken_now : somes (map (name_at later) (order ++ k ∷ [])) ≡ taken ++ name ∷ []
+    taken_now =
+        ap somes (map_push (name_at later) order k)
+        ∙ ap (λ (ns : List (Option (List ℕ))). somes (ns ++ name_at later k ∷ [])) (map_same (name_at later) (name_at names) order (λ j m. others j (other j m)))
+        ∙ ap (λ (o : Option (List ℕ)). somes (map (name_at names) order ++ o ∷ [])) here
+        ∙ somes_more (map (name_at names) order) name
+
+    named_now : AreNamed [] (map (base_at net) order ++ base_at net k ∷ []) (taken ++ name ∷ [])
+    named_now =
+        named_push [] (map (base_at net) order) taken (base_at net k) name h.named
+        (λ known same. t.named known (holds_same old taken known (λ x. or_none (is_among taken x) ∙ sym (same x)) h.held))
+
+    has_now : (j : ℕ) → In (order ++ k ∷ []) j → (n : List ℕ) × (name_at later j ≡ Some n)
+    has_now j m =
+        ⊎_elim
+        (λ (p : In order j). let r = h.has j p in (r.0, others j (other j p) ∙ r.1))
+        (λ (q : In (k ∷ []) j). ⊎_elim (λ (e : k ≡ j). (name, ap (name_at later) (sym e) ∙ here)) (λ (o : ⊥). absurd o) q)
+        (in_either order (k ∷ []) j m)
+
+    only_now : (j : ℕ) → (In (order ++ k ∷ []) j → ⊥) → name_at later j ≡ None
+    only_now j out = others j (λ e. out (in_right order (k ∷ []) j (inl (sym e)))) ∙ h.only j (λ m. out (in_left order (k ∷ []) j m))
+
+    pub one_more : HasNames net (order ++ k ∷ []) later new
+    one_more = record {
+      named = rw (map_push (base_at net) order k, taken_now) named_now;
+      has = has_now;
+      only = only_now;
+      held = rw taken_now (holds_same new (name ∷ taken) (taken ++ name ∷ []) (λ x. sym (among_last taken name x)) (t.held taken h.held));
+    }
+
+-- some of these leaves have their names, and those that are left take theirs behind them
+pub record NamedSoFar (net : FlatNet) (all left : List ℕ) (names : List (Option (List ℕ))) (set : BTreeSet (List ℕ)) : Type 0 where
+  pub order : List ℕ
+  pub split : order ++ left ≡ all
+  pub have : HasNames net order names set
+
+pub named_none : (net : FlatNet) (all : List ℕ) (set : BTreeSet (List ℕ)) → sorted.IsEmpty set → NamedSoFar net all all [] set
+named_none net all set empty = record {
+  order = [];
+  split = refl;
+  have = record { named = tt; has = λ k m. absurd m; only = λ k m. refl; held = holds_none set empty };
 }
 
-pub named_all : (leaves : List Leaf) (names : List (Option (List ℕ))) (set : BTreeSet (List ℕ)) → NamedSoFar leaves [] names set → AreLeafNames [] leaves names
-named_all leaves names set s = subst (AreLeafNames [] leaves) (append-nil names) (s.goes_on [] tt)
+pub named_more : (net : FlatNet) (all left : List ℕ) (k : ℕ) (names later : List (Option (List ℕ))) (old new : BTreeSet (List ℕ)) (name : List ℕ) → Distinct all → NamedSoFar net all (k ∷ left) names old → TakesName old new (base_at net k) name → name_at later k ≡ Some name → ((j : ℕ) → (j ≡ k → ⊥) → name_at later j ≡ name_at names j) → NamedSoFar net all left later new
+named_more net all left k names later old new name once s t here others =
+    let fresh : In s.order k → ⊥ = λ m. apart s.order (k ∷ left) (subst Distinct (sym s.split) once) k m (inl refl) in
+    record {
+      order = s.order ++ k ∷ [];
+      split = append_assoc s.order (k ∷ []) left ∙ s.split;
+      have = one_more net s.order names old s.have k name new later fresh t here others;
+    }
 
-pub named_held : (leaves left : List Leaf) (names : List (Option (List ℕ))) (set : BTreeSet (List ℕ)) → NamedSoFar leaves left names set → Holds set (somes names)
-named_held leaves left names set s = holds_same set s.known (somes names) s.same s.holds
+pub named_same : (net : FlatNet) (all left : List ℕ) (names later : List (Option (List ℕ))) (set : BTreeSet (List ℕ)) → NamedSoFar net all left names set → ((j : ℕ) → name_at later j ≡ name_at names j) → NamedSoFar net all left later set
+named_same net all left names later set s same = record { order = s.order; split = s.split; have = same_table net s.order names set s.have later same }
 
--- a name that was given was free
-name_free : (taken : List (List ℕ)) (base name : List ℕ) → IsNameFor taken base name → is_free taken name ≡ true
-name_free taken base name h = choose (is_free taken base) refl
-  where
-    choose : (b : Bool) → is_free taken base ≡ b → is_free taken name ≡ true
-    choose true e = let is : name ≡ base = rw e at h in ap (is_free taken) is ∙ e
-    choose false e = let one : IsFirstFree taken base name = rw e at h in one.free
+pub named_all : (net : FlatNet) (all : List ℕ) (names : List (Option (List ℕ))) (set : BTreeSet (List ℕ)) → NamedSoFar net all [] names set → HasNames net all names set
+named_all net all names set s = subst (λ (ks : List ℕ). HasNames net ks names set) (sym (append-nil s.order) ∙ s.split) s.have
 
-name_word : (taken : List (List ℕ)) (base name : List ℕ) → is_word base ≡ true → IsNameFor taken base name → is_word name ≡ true
-name_word taken base name w h = choose (is_free taken base) refl
-  where
-    choose : (b : Bool) → is_free taken base ≡ b → is_word name ≡ true
-    choose true e = let is : name ≡ base = rw e at h in ap is_word is ∙ w
-    choose false e = let one : IsFirstFree taken base name = rw e at h in ap is_word one.is ∙ suffixed_word base one.number w
+-- others take theirs behind all these
+pub named_on : (net : FlatNet) (order left : List ℕ) (names : List (Option (List ℕ))) (set : BTreeSet (List ℕ)) → HasNames net order names set → NamedSoFar net (order ++ left) left names set
+named_on net order left names set h = record { order = order; split = refl; have = h }
 
--- it is no name that was taken
-name_new : (taken : List (List ℕ)) (base name : List ℕ) → IsNameFor taken base name → is_among taken name ≡ false
-name_new taken base name h = not-true _ (and_parts (not (is_reserved name)) (not (is_among taken name)) (name_free taken base name h)).1
+-- a table with one more entry
+pub name_before : (names : List (Option (List ℕ))) (o : Option (List ℕ)) (j : ℕ) → (j ≡ length names → ⊥) → name_at (names ++ o ∷ []) j ≡ name_at names j
+name_before [] o zero n = absurd (n refl)
+name_before [] o (suc j) n = refl
+name_before (x ∷ names) o zero n = refl
+name_before (x ∷ names) o (suc j) n = name_before names o j (λ e. n (ap suc e))
 
-name_is_name : (taken : List (List ℕ)) (base name : List ℕ) → is_word base ≡ true → IsNameFor taken base name → IsName name
-name_is_name taken base name w h = record {
-  spelled = name_word taken base name w h;
-  free = (and_parts (not (is_reserved name)) (not (is_among taken name)) (name_free taken base name h)).0;
-}
+pub none_behind : (names : List (Option (List ℕ))) (j : ℕ) → name_at (names ++ None ∷ []) j ≡ name_at names j
+none_behind [] zero = refl
+none_behind [] (suc j) = refl
+none_behind (x ∷ names) zero = refl
+none_behind (x ∷ names) (suc j) = none_behind names j
 
-leaves_new : (taken : List (List ℕ)) (leaves : List Leaf) (names : List (Option (List ℕ))) → AreLeafNames taken leaves names → (n : List ℕ) → In (somes names) n → is_among taken n ≡ false
-leaves_new taken [] [] h n m = absurd m
-leaves_new taken [] (name ∷ names) h n m = absurd h
-leaves_new taken (l ∷ leaves) [] h n m = absurd h
-leaves_new taken (l ∷ leaves) (None ∷ names) h n m = leaves_new taken leaves names h.1 n m
-leaves_new taken (l ∷ leaves) (Some name ∷ names) h n (inl e) = ap (is_among taken) (sym e) ∙ name_new taken (base_name l.path) name h.0.1
-leaves_new taken (l ∷ leaves) (Some name ∷ names) h n (inr m) = (or_parts (bytes_eq name n) (is_among taken n) (leaves_new (name ∷ taken) leaves names h.1 n m)).1
+-- the ports before a number have their names
+pub record NamedPorts (net : FlatNet) (i : ℕ) (left : List Leaf) (names : List (Option (List ℕ))) (set : BTreeSet (List ℕ)) : Type 0 where
+  pub so_far : NamedSoFar net (named_ports 0 net.leaves) (named_ports i left) names set
+  pub count : length names ≡ i
 
-pub leaves_distinct : (taken : List (List ℕ)) (leaves : List Leaf) (names : List (Option (List ℕ))) → AreLeafNames taken leaves names → Distinct (somes names)
-leaves_distinct taken [] [] h = tt
-leaves_distinct taken [] (name ∷ names) h = absurd h
-leaves_distinct taken (l ∷ leaves) [] h = absurd h
-leaves_distinct taken (l ∷ leaves) (None ∷ names) h = leaves_distinct taken leaves names h.1
-leaves_distinct taken (l ∷ leaves) (Some name ∷ names) h =
-    (λ m. both_ways (bytes_eq name name) (or_parts (bytes_eq name name) (is_among taken name) (leaves_new (name ∷ taken) leaves names h.1 name m)).0 ((bytes_eq-Decides name name).1 refl), leaves_distinct (name ∷ taken) leaves names h.1)
+pub ports_none : (net : FlatNet) (set : BTreeSet (List ℕ)) → sorted.IsEmpty set → NamedPorts net 0 net.leaves [] set
+ports_none net set empty = record { so_far = named_none net (named_ports 0 net.leaves) set empty; count = refl }
 
-pub leaves_spelled : (taken : List (List ℕ)) (leaves : List Leaf) (names : List (Option (List ℕ))) → AreWordLeaves leaves → AreLeafNames taken leaves names → AllByRecursion IsName (somes names)
-leaves_spelled taken [] [] w h = tt
-leaves_spelled taken [] (name ∷ names) w h = absurd h
-leaves_spelled taken (l ∷ leaves) [] w h = absurd h
-leaves_spelled taken (l ∷ leaves) (None ∷ names) w h = leaves_spelled taken leaves names w.1 h.1
-leaves_spelled taken (l ∷ leaves) (Some name ∷ names) w h = (name_is_name taken (base_name l.path) name w.0 h.0.1, leaves_spelled (name ∷ taken) leaves names w.1 h.1)
+module _ (net : FlatNet) (i : ℕ) (l : Leaf) (left : List Leaf) (names : List (Option (List ℕ))) (old : BTreeSet (List ℕ)) (p : NamedPorts net i (l ∷ left) names old) where
+  pub ports_more : (new : BTreeSet (List ℕ)) (name : List ℕ) → slice_get net.leaves i ≡ Some l → (is_port l.role && not (nat_eq l.width 0)) ≡ true → TakesName old new (base_name l.path) name → NamedPorts net (i + 1) left (names ++ Some name ∷ []) new
+  ports_more new name at named t =
+      let all = named_ports 0 net.leaves in
+      let rest = named_ports (i + 1) left in
+      let count = p.count in
+      let so_far : NamedSoFar net all (i ∷ rest) names old = subst (λ (ks : List ℕ). NamedSoFar net all (ks ++ rest) names old) (number_given l.role l.width i named) p.so_far in
+      let taken : TakesName old new (base_at net i) name = subst (λ (o : Option Leaf). TakesName old new (leaf_base o) name) (sym at) t in
+      let here : name_at (names ++ Some name ∷ []) i ≡ Some name = subst (λ (k : ℕ). name_at (names ++ Some name ∷ []) k ≡ Some name) count (ap (λ (o : Option (Option (List ℕ))). unwrap_or o None) (push_end names (Some name))) in
+      record {
+        so_far = named_more net all rest i names (names ++ Some name ∷ []) old new name (ports_distinct net.leaves) so_far taken here (λ j n. name_before names (Some name) j (λ e. n (e ∙ count)));
+        count = length_push names (Some name) ∙ ap (λ (k : ℕ). k + 1) count;
+      }
+
+  pub ports_same : (is_port l.role && not (nat_eq l.width 0)) ≡ false → NamedPorts net (i + 1) left (names ++ None ∷ []) old
+  ports_same none =
+      let all = named_ports 0 net.leaves in
+      let rest = named_ports (i + 1) left in
+      let so_far : NamedSoFar net all rest names old = subst (λ (ks : List ℕ). NamedSoFar net all (ks ++ rest) names old) (number_lacking l.role l.width i none) p.so_far in
+      record {
+        so_far = named_same net all rest names (names ++ None ∷ []) old so_far (none_behind names);
+        count = length_push names None ∙ ap (λ (k : ℕ). k + 1) p.count;
+      }
+
+-- all ports and some words of the state have their names
+pub record NamedWords (net : FlatNet) (left : List ℕ) (names : List (Option (List ℕ))) (set : BTreeSet (List ℕ)) : Type 0 where
+  pub so_far : NamedSoFar net (named_leaves net) left names set
+  pub count : length names ≡ length net.leaves
+
+pub words_none : (net : FlatNet) (names : List (Option (List ℕ))) (set : BTreeSet (List ℕ)) → length names ≡ length net.leaves → HasNames net (named_ports 0 net.leaves) names set → NamedWords net net.state names set
+words_none net names set count h = record { so_far = named_on net (named_ports 0 net.leaves) net.state names set h; count = count }
+
+pub words_more : (net : FlatNet) → IsNet net → (k : ℕ) (l : Leaf) (left : List ℕ) (names : List (Option (List ℕ))) (old new : BTreeSet (List ℕ)) (name : List ℕ) → slice_get net.leaves k ≡ Some l → NamedWords net (k ∷ left) names old → TakesName old new (base_name l.path) name → NamedWords net left (set names k (Some name)) new
+words_more net whole k l left names old new name at w t =
+    let taken : TakesName old new (base_at net k) name = subst (λ (o : Option Leaf). TakesName old new (leaf_base o) name) (sym at) t in
+    let count = w.count in
+    let within : k < length net.leaves = slice_get_within net.leaves k l at in
+    let here : name_at (set names k (Some name)) k ≡ Some name = ap (λ (o : Option (Option (List ℕ))). unwrap_or o None) (write_same names k (Some name) (omega arith)) in
+    record {
+      so_far =
+          named_more net (named_leaves net) left k names (set names k (Some name)) old new name (named_once net whole) w.so_far taken here
+          (λ j n. ap (λ (o : Option (Option (List ℕ))). unwrap_or o None) (write_other names k (Some name) j n));
+      count = length-set names k (Some name) ∙ count;
+    }

@@ -1,6 +1,6 @@
 -- When a Verilog tree is what a circuit compiles to.
--- It is named after the circuit; its items are arranged, with a block for just those registers that a statement of the circuit may drive or that have a reset; it is
--- valid; and at every tick it allows what the circuit's source allows, so that their runs are equal. From each state of their shape, through all ticks of it, each has
+-- It is named after the circuit; its items are arranged, with a block for just those registers that a statement of the circuit may drive or that have a reset, and
+-- that have a clock; it is valid; and at every tick it allows what the circuit's source allows, so that their runs are equal. From each state of their shape, through all ticks of it, each has
 -- exactly one run.
 use Rattle.std.specs.Prelude.{◌≡◌, ◌↔◌, ℕ, List, Option}
 use Rattle.fir_base.specs.Ticks.{Tick, TickResult}
@@ -10,16 +10,14 @@ use Rattle.ver_ast.specs.Nets.{shape as v_shape}
 use Rattle.ver_ast.specs.Allows.{VOne, VAllows, VRun}
 use Rattle.fir_ast.specs.Circuits.{CircuitTree}
 use Rattle.fir_meaning.specs.Elaborated.{IsSourceOf}
-use Rattle.fir_meaning.specs.ModuleScenes.{Scene}
-use Rattle.fir_meaning.specs.Scenes.{IsSceneOf}
 use Rattle.fir_meaning.specs.SourceAllows.{Allows}
-use Rattle.fir_meaning.specs.SourceCircuits.{source_shape}
+use Rattle.fir_meaning.specs.SourceCircuits.{source_shape, state_words}
 use Rattle.fir_meaning.specs.SourceDesigns.{SourceDesign}
 use Rattle.fir_meaning.specs.SourceOne.{One}
-use Rattle.fir_meaning.specs.TakingRegisters.{taking_words}
 use Rattle.ver_build.specs.NamedFor.{IsNamedFor}
 use Rattle.ver_build.specs.Arranged.{IsArranged}
-use Rattle.fir_inst.specs.SourceRows.{source_array_rows, source_rows, source_words}
+use Rattle.fir_flatten.specs.SourceRows.{source_array_rows, source_rows, source_words}
+use Rattle.fir_flatten.specs.TakingWords.{AreTaking}
 use Rattle.fir_outcome.specs.Runs.{RunsOnce}
 use Rattle.fir_outcome.specs.Sources.{SourceRun}
 
@@ -36,8 +34,7 @@ pub record CompilesTo (name : List ℕ) (t : SourceDesign) (v : Verilog) : Type 
 
 pub record Compiles (c : CircuitTree) (v : Verilog) : Type 0 where
   pub arranged : IsArranged v
-  -- of the one module of the circuit
-  pub driven : (s : Scene) → IsSceneOf c 0 s → arranged.driven ≡ taking_words s
+  pub driven : (t : SourceDesign) → IsSourceOf c t → AreTaking t arranged.driven (state_words t)
   pub valid : Valid v
   pub v_one : VOne v
   pub v_runs_once : RunsOnce (v_shape v) (VAllows v)

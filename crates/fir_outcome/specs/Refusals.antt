@@ -1,5 +1,5 @@
--- Why a text is refused: a fault of the text; else the first fault of its circuit, up to E24; else the first form that is lacking so far; else a closed walk of
--- dependence.
+-- Why a text is refused: a fault of the text; else the first fault of its circuit, up to E24; else the first form that is lacking so far; else the first fault
+-- behind these: of clocks, of asynchronous inits, or a closed walk of dependence.
 use Rattle.std.specs.Prelude.{◌≡◌, ℕ, List, ◌⊎◌, codes}
 use Rattle.fir_base.specs.Lists.{In}
 use Rattle.fir_ast.specs.Faults.{Fault, fault_line}

@@ -8,7 +8,7 @@ use Rattle.fir_meaning.specs.SourceCircuits.{source_shape}
 use Rattle.fir_meaning.specs.SourceDesigns.{SourceDesign}
 use Rattle.fir_net_names.specs.Names.{AreNamed}
 use Rattle.fir_net.specs.Rows.{array_names, row_names, word_names}
-use Rattle.fir_inst.specs.SourceRows.{source_array_rows, source_rows, source_words}
+use Rattle.fir_flatten.specs.SourceRows.{source_array_rows, source_rows, source_words}
 use Rattle.trace_text.specs.Shapes.{TraceShape, WordKind, plain, word_kinds}
 
 -- words of no depth, and then the arrays with theirs

@@ -1,5 +1,5 @@
 -- What is printed of the first ticks of a trace begins what the whole trace prints: both are lines of runs of a source of the one circuit of the text.
-use Rattle.std.proofs.Common.{◌≡◌, ℕ, List, ◌++◌, Bool, ◌⊎◌, inl, inr, sym, ap, ◌∙◌, subst}
+use Rattle.std.proofs.Common.{◌≡◌, ℕ, List, ◌++◌, Bool, inl, inr, sym, ap, ◌∙◌, subst}
 use Rattle.fir_base.specs.Ticks.{Tick}
 use Rattle.fir_meaning.specs.Elaborated.{IsSourceOf}
 use Rattle.fir_meaning.specs.SourceAllows.{Allows}
@@ -8,7 +8,7 @@ use Rattle.fir_meaning.specs.SourceDesigns.{SourceDesign}
 use Rattle.trace_text.specs.Shapes.{TraceShape}
 use Rattle.trace_text.specs.TraceSpells.{TraceSpells}
 use Rattle.trace_text.specs.working.Fronts.{FrontLinesBegin, Says}
-use Rattle.fir_outcome.specs.Simulations.{BeginsAll, Prints, PrintsAll, PrintsFront, PrintsRun, SaysBadly}
+use Rattle.fir_outcome.specs.Simulations.{Prints, PrintsAll, PrintsFront, PrintsRun, SaysBadly}
 use Rattle.fir_outcome.specs.Sources.{output_widths}
 use Rattle.fir_outcome.specs.Traces.{IsTraceShape}
 use Rattle.fir_runner.specs.working.Laws.{FrontsBegin}

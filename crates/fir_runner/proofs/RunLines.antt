@@ -1,5 +1,5 @@
 -- A run and its lines grow tick by tick.
-use Rattle.std.proofs.Common.{◌≡◌, ℕ, List, [], ◌∷◌, ◌++◌, Bool, refl, sym, ap, ◌∙◌}
+use Rattle.std.proofs.Common.{◌≡◌, ℕ, List, [], ◌∷◌, ◌++◌, Bool, Option, refl, sym, ap, ◌∙◌}
 use Rattle.std.proofs.lemmas.List.{append-nil, append_assoc}
 use Rattle.fir_base.specs.Ticks.{Tick, TickResult, Allowance, IsRun}
 use Rattle.fir_bits.specs.Values.{BitVector}
@@ -7,9 +7,9 @@ use Rattle.trace_text.specs.RunLines.{with_widths, shown_text, run_text}
 use Rattle.fir_tick.specs.working.Views.{numbers, widths}
 use Rattle.fir_runner.specs.working.Running.{last_state}
 
--- what a net shows, which has no clock outputs
-abbrev pub shows : List ℕ → List ℕ → TickResult
-shows outputs state = record { outputs = outputs; clocks = []; state = state }
+-- what a tick shows
+abbrev pub shows : List ℕ → List (Option ℕ) → List ℕ → TickResult
+shows outputs clocks state = record { outputs = outputs; clocks = clocks; state = state }
 
 module _ (allows : Allowance) (tick : Tick) (last : TickResult) where
   pub run_more : (init : List ℕ) (ticks : List Tick) (shown : List TickResult) → IsRun allows init ticks shown → allows (last_state init shown) tick last.outputs last.clocks last.state → IsRun allows init (ticks ++ tick ∷ []) (shown ++ last ∷ [])

@@ -1,5 +1,5 @@
 -- What a step of a simulation makes of what was there before it.
-use Rattle.std.proofs.Common.{◌≡◌, ℕ, List, [], ◌∷◌, ◌++◌, Bool, if◌then◌else◌, Some, None, sym, ap, ◌∙◌, subst}
+use Rattle.std.proofs.Common.{◌≡◌, ℕ, List, [], ◌∷◌, ◌++◌, Bool, if◌then◌else◌, Option, Some, None, sym, ap, ◌∙◌, subst}
 use Rattle.fir_base.specs.Ticks.{Tick, TickResult, IsRun}
 use Rattle.fir_bits.specs.Values.{BitVector}
 use Rattle.fir_net.specs.working.Settled.{shape}
@@ -56,9 +56,9 @@ module _ (trace : List ℕ) (with_state : Bool) (old new : Runner) (printed : Li
       } in
       rw (stays.net, stays.shape_stays) ran
 
-  module _ (tick : Tick) (read : TickRead trace old.shape old.at new.at tick) (allows : Allows old.sim.net (numbers old.sim.state) tick (numbers new.sim.outputs) [] (numbers new.sim.state)) where
+  module _ (tick : Tick) (read : TickRead trace old.shape old.at new.at tick) (clocks : List (Option ℕ)) (allows : Allows old.sim.net (numbers old.sim.state) tick (numbers new.sim.outputs) clocks (numbers new.sim.state)) where
     abbrev last : TickResult
-    last = shows (numbers new.sim.outputs) (numbers new.sim.state)
+    last = shows (numbers new.sim.outputs) clocks (numbers new.sim.state)
 
     ran_more : IsRun (Allows old.sim.net) h.init (h.ticks ++ tick ∷ []) (h.shown ++ last ∷ [])
     ran_more =

@@ -1,8 +1,10 @@
 -- Numbers in their places: each then stands at its place, and all else is as before.
-use Rattle.std.proofs.Common.{◌≡◌, ℕ, ◌+◌, ◌^◌, ◌<◌, ◌≤◌, List, [], ◌∷◌, length, map, set, refl, sym, ap, ◌∙◌, subst, arith, option_map, unwrap_or, length-set}
+use Rattle.std.proofs.Common.{◌≡◌, ℕ, ◌^◌, ◌<◌, ◌≤◌, List, [], ◌∷◌, length, map, set, refl, sym, ap, ◌∙◌, subst, arith, option_map, unwrap_or, length-set}
 use Rattle.std.specs.Prelude.{slice_get, Option, Some, None}
 use Rattle.std.specs.List.{AllByRecursion}
 use Rattle.fir_base.specs.Ticks.{FitEach}
+use Rattle.fir_base.specs.Lists.{In, Distinct}
+use Rattle.fir_base.proofs.Each.{all_from}
 use Rattle.fir_bits.specs.Values.{BitVector, IsBitVector}
 use Rattle.fir_bits.specs.Forms.{no_type}
 use Rattle.fir_net.specs.declared.reads.Read.TheVariants as read
@@ -21,32 +23,24 @@ use Rattle.fir_tick.proofs.HeldNumbers.{put_same, put_other, still_held}
 abbrev pub Apart : ℕ → List ℕ → Type 0
 Apart k = AllByRecursion (λ n. n ≡ k → ⊥)
 
--- numbers from low on, each above those before it
-abbrev pub AreRising : ℕ → List ℕ → Type 0
-AreRising low [] = Unit {0}
-AreRising low (k ∷ ks) = (low ≤ k) × AreRising (k + 1) ks
-
-pub rising_from : (low from : ℕ) (ks : List ℕ) → low ≤ from → AreRising from ks → AreRising low ks
-rising_from low from [] le h = tt
-rising_from low from (k ∷ ks) le h = let first = h.0 in (omega arith, h.1)
-
-below_apart : (k low : ℕ) (ks : List ℕ) → k < low → AreRising low ks → Apart k ks
-below_apart k low [] lt h = tt
-below_apart k low (n ∷ ns) lt h = let first = h.0 in ((λ e. omega arith), below_apart k (n + 1) ns (omega arith) h.1)
+-- one that is not among them
+apart_from : (k : ℕ) (ks : List ℕ) → (In ks k → ⊥) → Apart k ks
+apart_from k ks new = all_from (λ n. n ≡ k → ⊥) ks (λ n m e. new (subst (In ks) e m))
 
 pub placed_other : (ks vs ns : List ℕ) (k : ℕ) → Apart k ks → number_at (placed ks vs ns) k ≡ number_at ns k
 placed_other [] vs ns k h = refl
 placed_other (n ∷ ks) [] ns k h = refl
 placed_other (n ∷ ks) (v ∷ vs) ns k h = placed_other ks vs (set ns n v) k h.1 ∙ put_other ns n v k h.0
 
-pub placed_here : (low : ℕ) (ks vs ns : List ℕ) → AreRising low ks → AllByRecursion (λ k. k < length ns) ks → length ks ≡ length vs → map (number_at (placed ks vs ns)) ks ≡ vs
-placed_here low [] [] ns rise within long = refl
-placed_here low [] (v ∷ vs) ns rise within long = cc
-placed_here low (k ∷ ks) [] ns rise within long = cc
-placed_here low (k ∷ ks) (v ∷ vs) ns rise within long =
+-- where no place is taken twice
+pub placed_here : (ks vs ns : List ℕ) → Distinct ks → AllByRecursion (λ k. k < length ns) ks → length ks ≡ length vs → map (number_at (placed ks vs ns)) ks ≡ vs
+placed_here [] [] ns once within long = refl
+placed_here [] (v ∷ vs) ns once within long = cc
+placed_here (k ∷ ks) [] ns once within long = cc
+placed_here (k ∷ ks) (v ∷ vs) ns once within long =
     let same : length ns ≡ length (set ns k v) = sym (length-set ns k v) in
-    let here = placed_other ks vs (set ns k v) k (below_apart k (k + 1) ks (omega arith) rise.1) ∙ put_same ns k v within.0 in
-    let rest = placed_here (k + 1) ks vs (set ns k v) rise.1 (subst (λ (n : ℕ). AllByRecursion (λ j. j < n) ks) same within.1) (let e : length ks ≡ length vs = omega arith in e) in
+    let here = placed_other ks vs (set ns k v) k (apart_from k ks once.0) ∙ put_same ns k v within.0 in
+    let rest = placed_here ks vs (set ns k v) once.1 (subst (λ (n : ℕ). AllByRecursion (λ j. j < n) ks) same within.1) (let e : length ks ≡ length vs = omega arith in e) in
     rw (here, rest) refl
 
 -- what stands apart is as before

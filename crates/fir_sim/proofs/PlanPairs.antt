@@ -1,6 +1,6 @@
 -- The plans of a whole net beside the numbers of their leaves.
 -- What each plan says of its leaf gives what the passes ask of it, and the lists that specs of the net speak of.
-use Rattle.std.proofs.Common.{◌≡◌, ℕ, zero, suc, ◌+◌, ◌≤◌, List, [], ◌∷◌, Bool, true, false, refl, ⊎_elim, arith, Some}
+use Rattle.std.proofs.Common.{◌≡◌, ℕ, zero, suc, ◌+◌, ◌≤◌, List, [], ◌∷◌, Bool, true, false, refl, arith, Some}
 use Rattle.std.specs.Prelude.{slice_get, nat_eq, if◌then◌else◌}
 use Rattle.std.specs.List.{AllZip}
 use Rattle.fir_net.specs.declared.leaf.Role.{Role}
@@ -8,15 +8,13 @@ use Rattle.fir_net.specs.declared.leaf.Role.TheVariants as role
 use Rattle.fir_net.specs.declared.leaf.Leaf.{Leaf}
 use Rattle.fir_net.specs.declared.net.FlatNet.{FlatNet}
 use Rattle.fir_net.specs.working.IsNet.{IsLeaf, IsNet}
-use Rattle.fir_net.proofs.NumberedLeaves.{GivesOwn, inputs_own, registers_own}
 use Rattle.fir_base.proofs.Elements.{all_there}
 use Rattle.fir_net.specs.declared.reads.Read.{Read}
-use Rattle.fir_net.specs.working.Settled.{with_bits, input_number, output_number, register_number, numbers_by}
+use Rattle.fir_net.specs.working.Settled.{with_bits, input_number, output_number, numbers_by}
 use Rattle.fir_tick.specs.declared.plan.InputPlan.{InputPlan}
 use Rattle.fir_tick.specs.declared.plan.OutputPlan.{OutputPlan}
 use Rattle.fir_tick.specs.working.Plans.{planned, input_plan, output_plan, plans_by}
 use Rattle.fir_tick.proofs.Lists.{pairs_joined}
-use Rattle.fir_sim.proofs.Placings.{AreRising, rising_from}
 
 -- a plan for each number
 module _ {P : Type 0} (R : P → ℕ → Type 0) (plan : Role → ℕ → ℕ → List P) (number : Role → ℕ → ℕ → List ℕ) where
@@ -75,19 +73,3 @@ module _ (net : FlatNet) (whole : IsNet net) where
   outputs_paired =
       paired (IsOutput net) output_plan output_number net.leaves 0
       (λ k l e. let here : 0 + k ≡ k = omega arith in rw here (one_output k l e l.role refl))
-
--- the numbers of leaves of one kind rise
-rising : (number : Role → ℕ → ℕ → List ℕ) → GivesOwn number → (from : ℕ) (ls : List Leaf) → AreRising from (numbers_by number from ls)
-rising number own from [] = tt
-rising number own from (l ∷ ls) =
-    let rest = rising number own (from + 1) ls in
-    ⊎_elim
-    (λ (e : number l.role l.width from ≡ []). rw e (rising_from from (from + 1) (numbers_by number (from + 1) ls) (omega arith) rest))
-    (λ (e : number l.role l.width from ≡ from ∷ []). rw e (let le : from ≤ from = omega arith in (le, rest)))
-    (own.each l.role l.width from)
-
-pub inputs_rise : (net : FlatNet) → AreRising 0 (numbers_by input_number 0 net.leaves)
-inputs_rise net = rising input_number inputs_own 0 net.leaves
-
-pub registers_rise : (net : FlatNet) → AreRising 0 (numbers_by register_number 0 net.leaves)
-registers_rise net = rising register_number registers_own 0 net.leaves

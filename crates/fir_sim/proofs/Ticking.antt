@@ -3,14 +3,16 @@ use Rattle.std.proofs.Common.{◌≡◌, ℕ, ◌<◌, ◌≤◌, List, [], ◌�
 use Rattle.std.specs.List.{AllByRecursion}
 use Rattle.std.proofs.lemmas.List.{length-map}
 use Rattle.fir_base.specs.Ticks.{Tick, FitEach}
+use Rattle.fir_base.specs.Lists.{Distinct}
 use Rattle.fir_bits.specs.Values.{BitVector, IsBitVector}
 use Rattle.fir_bits.specs.working.Laws.{HasItsType}
 use Rattle.fir_net.specs.declared.net.FlatNet.{FlatNet}
 use Rattle.fir_net.specs.working.Values.{leaf_width}
 use Rattle.fir_net.specs.working.IsNet.{IsNet}
 use Rattle.fir_net.specs.working.Laws.{NodesHaveTheirTypes, NodesHaveTheirValues}
-use Rattle.fir_net.specs.working.Settled.{inputs, registers, shape}
+use Rattle.fir_net.specs.working.Settled.{clock_outputs, input_number, inputs, registers, shape}
 use Rattle.fir_net.specs.working.Allows.{Allows}
+use Rattle.fir_net.proofs.NumberedLeaves.{inputs_own, distinct_numbers}
 use Rattle.fir_work.specs.working.Numbers.{number_at}
 use Rattle.fir_tick.specs.declared.plan.Plan.{Plan}
 use Rattle.fir_tick.specs.declared.steps.Step.{Step}
@@ -23,8 +25,7 @@ use Rattle.fir_tick.specs.working.Settling.{IsSettled}
 use Rattle.fir_sim.specs.working.Running.{IsRunning}
 use Rattle.fir_tick.proofs.Fits.{fit_count}
 use Rattle.fir_tick.proofs.Lists.{map_both}
-use Rattle.fir_sim.proofs.Placings.{AreRising, placed_held, placed_here, placed_elsewhere, inputs_placed, state_placed, whole_fit}
-use Rattle.fir_sim.proofs.PlanPairs.{inputs_rise, registers_rise}
+use Rattle.fir_sim.proofs.Placings.{placed_held, placed_here, placed_elsewhere, inputs_placed, state_placed, whole_fit}
 use Rattle.fir_sim.proofs.PlanFacts.{input_leaves, input_leaves_there, register_leaves, register_leaves_there, shown_widths, state_widths, registers_apart}
 use Rattle.fir_sim.proofs.SettledValues.{settles}
 use Rattle.fir_sim.proofs.Words.{outputs_shown, words_taken}
@@ -34,10 +35,10 @@ all_below n m [] le h = tt
 all_below n m (k ∷ ks) le h = let first = h.0 in (omega arith, all_below n m ks le h.1)
 
 -- numbers that were put at some leaves
-put_here : (net : FlatNet) (ns : List ℕ) → IsHeld net ns → (ks vs : List ℕ) → AllByRecursion (λ k. k < length net.leaves) ks → FitEach (map (leaf_width net.leaves) ks) vs → AreRising 0 ks → map (number_at (placed ks vs ns)) ks ≡ vs
-put_here net ns held ks vs within fit rise =
+put_here : (net : FlatNet) (ns : List ℕ) → IsHeld net ns → (ks vs : List ℕ) → AllByRecursion (λ k. k < length net.leaves) ks → FitEach (map (leaf_width net.leaves) ks) vs → Distinct ks → map (number_at (placed ks vs ns)) ks ≡ vs
+put_here net ns held ks vs within fit once =
     let room = held.room in
-    placed_here 0 ks vs ns rise (all_below (length net.leaves) (length ns) ks (omega (arith, room)) within) (sym (fit_count (leaf_width net.leaves) ks vs fit))
+    placed_here ks vs ns once (all_below (length net.leaves) (length ns) ks (omega (arith, room)) within) (sym (fit_count (leaf_width net.leaves) ks vs fit))
 
 module _ (net : FlatNet) (whole : IsNet net) (p : Plan) (plan : IsPlan net p) (ns : List ℕ) (held : IsHeld net ns) where
   module _ (vs : List ℕ) (fit : FitEach (shape net).inputs vs) where
@@ -48,7 +49,7 @@ module _ (net : FlatNet) (whole : IsNet net) (p : Plan) (plan : IsPlan net p) (n
     inputs_held = subst (IsHeld net) (sym is_placed) (placed_held net (inputs net) vs ns (input_leaves_there net whole p plan) fit held)
 
     pub inputs_given : map (number_at (with_inputs p.inputs.items vs ns)) (inputs net) ≡ vs
-    inputs_given = ap (λ (h : List ℕ). map (number_at h) (inputs net)) is_placed ∙ put_here net ns held (inputs net) vs (input_leaves_there net whole p plan) fit (inputs_rise net)
+    inputs_given = ap (λ (h : List ℕ). map (number_at h) (inputs net)) is_placed ∙ put_here net ns held (inputs net) vs (input_leaves_there net whole p plan) fit (distinct_numbers input_number inputs_own net.leaves 0)
 
     pub state_kept : map (number_at (with_inputs p.inputs.items vs ns)) (registers net) ≡ map (number_at ns) (registers net)
     state_kept = ap (λ (h : List ℕ). map (number_at h) (registers net)) is_placed ∙ placed_elsewhere (inputs net) vs ns (registers net) (registers_apart net whole p plan)
@@ -61,7 +62,7 @@ module _ (net : FlatNet) (whole : IsNet net) (p : Plan) (plan : IsPlan net p) (n
     words_held = subst (IsHeld net) (sym words_placed) (placed_held net (registers net) (numbers words) ns (register_leaves_there net whole p plan) fit held)
 
     pub words_given : map (number_at (with_state p.registers.items words ns)) (registers net) ≡ numbers words
-    words_given = ap (λ (h : List ℕ). map (number_at h) (registers net)) words_placed ∙ put_here net ns held (registers net) (numbers words) (register_leaves_there net whole p plan) fit (registers_rise net)
+    words_given = ap (λ (h : List ℕ). map (number_at h) (registers net)) words_placed ∙ put_here net ns held (registers net) (numbers words) (register_leaves_there net whole p plan) fit whole.state.once
 
 pub numbers_of : {P : Type 0} → (f : P → BitVector) (ps : List P) → numbers (map f ps) ≡ map (λ q. (f q).number) ps
 numbers_of f ps = map_both f (λ v. v.number) ps
@@ -129,7 +130,7 @@ module _ (net : FlatNet) (steps : List Step) (p : Plan) (tick : Tick) (is_tick :
   words_are : map (number_at start) (registers net) ≡ numbers before.state.items
   words_are = ap (λ (h : List ℕ). map (number_at h) (registers net)) t.put ∙ kept net steps p before running tick is_tick
 
-  pub allows : HasItsType → NodesHaveTheirTypes → NodesHaveTheirValues → Allows net (numbers before.state.items) tick (numbers after.outputs.items) [] (numbers after.state.items)
+  pub allows : HasItsType → NodesHaveTheirTypes → NodesHaveTheirValues → Allows net (numbers before.state.items) tick (numbers after.outputs.items) (map (root_at running.plan.roots) (clock_outputs net)) (numbers after.state.items)
   allows has types law =
       let roots = running.plan.roots in
       let ns = after.numbers.items in (

@@ -1,6 +1,6 @@
 //! The simulator of a net.
 
-ghost use Rattle.std.specs.Prelude.{◌≡◌, [], IfOk, length, replicate};
+ghost use Rattle.std.specs.Prelude.{◌≡◌, ℕ, List, Option, IfOk, length, replicate};
 ghost use Rattle.fir_base.specs.Ticks.{FitEach};
 ghost use Rattle.fir_net.specs.working.IsNet.{IsNet};
 ghost use Rattle.fir_net.specs.working.IsOrder.{IsOrder};
@@ -65,12 +65,12 @@ impl Sim {
         })
     }
 
-    /// Takes one tick: the outputs are then those of the tick, and the state the one after it. It takes no
-    /// memory.
+    /// Takes one tick: the outputs are then those of the tick, and the state the one after it. The clocks of
+    /// outputs that are clocks are not shown. It takes no memory.
     pub fn tick(&mut self, tick: &Tick)
         requires { IsTickOf self.old.net tick.now.tick }
         ensures net { self.new.net ≡ self.old.net }
-        ensures allows { Allows self.old.net (numbers self.old.state) tick.now.tick (numbers self.new.outputs) [] (numbers self.new.state) }
+        ensures allows { (clocks : List (Option ℕ)) × Allows self.old.net (numbers self.old.state) tick.now.tick (numbers self.new.outputs) clocks (numbers self.new.state) }
     {
         self.step(tick.inputs(), tick.clocks());
     }
@@ -79,7 +79,7 @@ impl Sim {
     pub fn step(&mut self, inputs: &[u128], clocks: &[usize])
         requires { IsTickOf self.old.net (record { inputs = inputs.now; clocks = clocks.now }) }
         ensures net { self.new.net ≡ self.old.net }
-        ensures allows { Allows self.old.net (numbers self.old.state) (record { inputs = inputs.now; clocks = clocks.now }) (numbers self.new.outputs) [] (numbers self.new.state) }
+        ensures allows { (of_outputs : List (Option ℕ)) × Allows self.old.net (numbers self.old.state) (record { inputs = inputs.now; clocks = clocks.now }) (numbers self.new.outputs) of_outputs (numbers self.new.state) }
     {
         has_its_type();
         nodes_have_their_types();

@@ -52,6 +52,7 @@ pub fn resets(alloc: Global) -> Result<FlatNet, MemoryOut>
             (b'm', false, 1, Role::ClockWire(None)),
         ],
         vec![in alloc; literal]?,
+        vec![in alloc; LeafId::new(6), LeafId::new(7), LeafId::new(8)]?,
     )
 }
 
@@ -88,8 +89,13 @@ fn reset(kind: ResetKind) -> Reset
     }
 }
 
-fn net(alloc: Global, rows: &[Row], nodes: Vec<Node>) -> Result<FlatNet, MemoryOut>
-    ensures { IfOk result (λ n. n ≡ record { name = 110 ∷ []; leaves = map (λ t. record { path = t.0 ∷ []; place = record { line = 1; col = 1 }; signed = t.1; width = t.2; role = t.3 }) rows.now; nodes = nodes.items }) }
+fn net(
+    alloc: Global,
+    rows: &[Row],
+    nodes: Vec<Node>,
+    state: Vec<LeafId>,
+) -> Result<FlatNet, MemoryOut>
+    ensures { IfOk result (λ n. n ≡ record { name = 110 ∷ []; leaves = map (λ t. record { path = t.0 ∷ []; place = record { line = 1; col = 1 }; signed = t.1; width = t.2; role = t.3 }) rows.now; nodes = nodes.items; state = state.items }) }
 {
     let name = Name::new(alloc, b"n")?;
     let mut leaves = Vec::new(alloc);
@@ -108,5 +114,6 @@ fn net(alloc: Global, rows: &[Row], nodes: Vec<Node>) -> Result<FlatNet, MemoryO
         name,
         leaves: Seq::from_vec(leaves),
         nodes: Seq::from_vec(nodes),
+        state: Seq::from_vec(state),
     })
 }

@@ -3,7 +3,6 @@ pub mod TargetPaths
 pub mod ReadPaths
 pub mod ModuleReads
 pub mod AmongPaths
-pub mod PlainScenes
 pub mod JoinedChoices
 pub mod Pieces
 pub mod TakenBranches
@@ -14,14 +13,7 @@ pub mod ConnectPieces
 pub mod InvalidPieces
 pub mod BlockPieces
 pub mod ModuleDrives
-pub mod TakingWords
 pub mod NumberedRoles
-pub mod PlainLeaves
-pub mod PlainRegisters
-pub mod PlainVisits
-pub mod PlainBlocks
-pub mod LoneSources
-pub mod PlainCircuits
 pub mod RoleReads
 pub mod MemoryKinds
 pub mod BlockReads
@@ -31,7 +23,6 @@ pub mod DeclaredPlaces
 pub mod LoneNumbers
 pub mod LoneLeaves
 pub mod LoneLoops
-pub mod LoneDesigns
 pub mod SinkPlaces
 pub mod SceneUndriven
 pub mod SameUndrivenGroups

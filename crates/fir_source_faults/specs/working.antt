@@ -2,5 +2,3 @@ pub mod ReadsByPath
 pub mod DrivesByPath
 pub mod NumberedTaking
 pub mod SameFaults
-pub mod PlainScenes
-pub mod PlainBlocks

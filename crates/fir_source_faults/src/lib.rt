@@ -4,15 +4,9 @@
 #![tactic(auto)]
 
 mod drive_laws;
-mod loop_laws;
-mod plain_laws;
 mod read_laws;
-mod taking_laws;
 mod undriven_laws;
 
 pub use drive_laws::drives_are_live_by_path;
-pub use loop_laws::lone_loops_stand_by_path;
-pub use plain_laws::{plain_circuits_show_none, plain_modules_are_plain, plain_sources_show_none};
 pub use read_laws::terms_read_as_expressions;
-pub use taking_laws::same_registers_take_values;
 pub use undriven_laws::leaves_are_undriven_by_path;

@@ -9,7 +9,7 @@ use Rattle.fir_parse.specs.Limits.{everywhere}
 use Rattle.fir_parse.specs.Lexemes.{Terminal}
 use Rattle.fir_parse.specs.Pieces.{LineEnd, WordToken}
 use Rattle.fir_parse.specs.CircuitForms.{direction_word, IsPort, ArePorts, IsBody, IsModule, AreModules, AreSomeModules, IsVersion, IsSpelled}
-use Rattle.fir_inst.specs.working.Words.{BlockHasWords, HasWords, ModuleHasWords, TypeHasWords}
+use Rattle.fir_flatten.specs.working.Words.{BlockHasWords, HasWords, ModuleHasWords, TypeHasWords}
 use Rattle.fir_spelled.proofs.WordPieces.{AreSpelledWell, KeepsWords, keeps, token, somewhere, nothing, given, at, next, either, name_is_word}
 use Rattle.fir_spelled.proofs.TypesKeepWords.{int, type_keeps}
 use Rattle.fir_spelled.proofs.StatementsKeepWords.{statements_keep}

@@ -10,7 +10,7 @@ use Rattle.fir_parse.specs.Lexemes.{Lexeme, Terminal, word}
 use Rattle.fir_parse.specs.ExpressionForms.{IsExpression}
 use Rattle.fir_parse.specs.Pieces.{◌▸◌, LineEnd, Sign, TokenAt}
 use Rattle.fir_parse.specs.StatementForms.{AreMemoryParts, AreNames, AreStatements, IsBlock, IsElse, IsMemoryBody, IsMemoryPart, IsNames, IsRegisterReset, IsStatement}
-use Rattle.fir_inst.specs.working.Words.{BlockHasWords, NamesAreWords, PartHasWords, StatementHasWords}
+use Rattle.fir_flatten.specs.working.Words.{BlockHasWords, NamesAreWords, PartHasWords, StatementHasWords}
 use Rattle.fir_spelled.proofs.WordPieces.{AreSpelledWell, token, somewhere, given, at, next, name_is_word}
 use Rattle.fir_spelled.proofs.TypeWords.{declared_words, type_words}
 use Rattle.fir_spelled.proofs.ExpressionsKeepWords.{expression_keeps}

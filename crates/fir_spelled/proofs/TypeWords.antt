@@ -12,7 +12,7 @@ use Rattle.fir_parse.specs.declared.lexeme.Mark.TheVariants.{Colon}
 use Rattle.fir_parse.specs.Lexemes.{Terminal}
 use Rattle.fir_parse.specs.Pieces.{◌▸◌, At, FieldName, NameToken, Sign}
 use Rattle.fir_parse.specs.TypeForms.{IsFlip, IsType, AreFields, AreMoreFields}
-use Rattle.fir_inst.specs.working.Words.{FieldsHaveWords, TypeHasWords}
+use Rattle.fir_flatten.specs.working.Words.{FieldsHaveWords, TypeHasWords}
 use Rattle.fir_spelled.proofs.WordPieces.{AreSpelledWell, KeepsWords, token, somewhere, given, at, next, name_is_word, field_name_bytes}
 use Rattle.fir_spelled.proofs.TypesKeepWords.{field_name, flipped, type_keeps}
 

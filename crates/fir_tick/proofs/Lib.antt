@@ -1,3 +1,4 @@
+pub mod WordLeaves
 pub mod ShapeNames
 pub mod ShapeNumbers
 pub mod ShapeWords

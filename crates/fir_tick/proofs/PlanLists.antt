@@ -1,13 +1,9 @@
--- Plans along the first leaves, with one more; and the clocks before each leaf.
-use Rattle.std.proofs.Common.{refl, subst, Option, ◌≡◌, ℕ, ◌+◌, ◌<◌, List, [], ◌∷◌, ◌++◌, take, length, get_or, sym, ap, ◌∙◌, append_assoc, append-nil, arith, length-take}
-use Rattle.std.specs.List.{AllZip}
-use Rattle.std.specs.Option.{option_to_list}
+-- Plans along the first leaves, with one more.
+use Rattle.std.proofs.Common.{◌≡◌, ℕ, ◌+◌, ◌<◌, List, [], ◌∷◌, ◌++◌, take, length, get_or, sym, ap, ◌∙◌, append_assoc, append-nil, arith, length-take}
 use Rattle.std.proofs.lemmas.List.{take_more}
 use Rattle.fir_net.specs.declared.leaf.Role.{Role}
 use Rattle.fir_net.specs.declared.leaf.Leaf.{Leaf}
-use Rattle.fir_net.specs.working.Settled.{numbers_by}
 use Rattle.fir_tick.specs.working.Plans.{plans_by}
-use Rattle.fir_tick.proofs.Lists.{pairs_joined}
 
 plans_push : {P : Type 0} → (plan : Role → ℕ → ℕ → List P) (k : ℕ) (ls : List Leaf) (l : Leaf)
     → plans_by plan k (ls ++ l ∷ []) ≡ plans_by plan k ls ++ plan l.role l.width (k + length ls)
@@ -34,19 +30,3 @@ pub plan_less : {P : Type 0} → (plan : Role → ℕ → ℕ → List P) (ls : 
     → [] ≡ plan l.role l.width i → plans ≡ plans_by plan 0 (take i ls) → plans ≡ plans_by plan 0 (take (i + 1) ls)
 plan_less plan ls i l plans lt is given b =
     sym (append-nil plans) ∙ ap (λ r. plans ++ r) given ∙ ap (λ r. r ++ plan l.role l.width i) b ∙ sym (plans_more plan ls i l lt is)
-
--- plans beside the numbers of their leaves, with those of one more leaf
-numbers_as_plans : (number : Role → ℕ → ℕ → List ℕ) (k : ℕ) (ls : List Leaf) → numbers_by number k ls ≡ plans_by number k ls
-numbers_as_plans number k [] = refl
-numbers_as_plans number k (l ∷ ls) = ap (λ (ns : List ℕ). number l.role l.width k ++ ns) (numbers_as_plans number (k + 1) ls)
-
-numbers_more : (number : Role → ℕ → ℕ → List ℕ) (ls : List Leaf) (i : ℕ) (l : Leaf) → i < length ls → l ≡ get_or ls i l
-    → numbers_by number 0 (take (i + 1) ls) ≡ numbers_by number 0 (take i ls) ++ number l.role l.width i
-numbers_more number ls i l lt is =
-    numbers_as_plans number 0 (take (i + 1) ls) ∙ plans_more number ls i l lt is ∙ sym (ap (λ (ns : List ℕ). ns ++ number l.role l.width i) (numbers_as_plans number 0 (take i ls)))
-
-pub pairs_more : {P : Type 0} → (R : P → ℕ → Type 0) (number : Role → ℕ → ℕ → List ℕ) (ls : List Leaf) (i : ℕ) (l : Leaf) (before : List P) (o : Option P) → i < length ls → l ≡ get_or ls i l
-    → AllZip R (option_to_list o) (number l.role l.width i) → AllZip R before (numbers_by number 0 (take i ls)) → AllZip R (before ++ option_to_list o) (numbers_by number 0 (take (i + 1) ls))
-pairs_more R number ls i l before o lt is one all =
-    subst (AllZip R (before ++ option_to_list o)) (sym (numbers_more number ls i l lt is))
-    (pairs_joined R before (option_to_list o) (numbers_by number 0 (take i ls)) (number l.role l.width i) all one)

@@ -1,70 +1,61 @@
--- The names of the words of the state: they are the last names of leaves in the table, none stands twice, and each is spelled as a name.
-use Rattle.std.proofs.Common.{◌≡◌, ℕ, List, [], ◌∷◌, ◌++◌, Bool, true, false, map, refl, ap, Option, Some, None}
-use Rattle.fir_base.specs.Lists.{Distinct}
-use Rattle.fir_net.specs.declared.leaf.Role.{Role}
-use Rattle.fir_net.specs.declared.leaf.Role.TheVariants as role
-use Rattle.fir_net.specs.declared.leaf.Leaf.{Leaf}
-use Rattle.fir_net.specs.working.IsNet.{is_port, AreInside, ArePortsFirst}
-use Rattle.fir_net_names.specs.working.LeafNamed.{with_some, somes, is_wire, has_name, IsLeafName, AreLeafNames}
+-- The names of the words of the state: they stand behind those of the ports, none stands twice, and each is spelled as a name.
+use Rattle.std.proofs.Common.{◌≡◌, ℕ, zero, suc, List, [], ◌∷◌, ◌++◌, map, refl, sym, ap, ◌∙◌, inl, inr, subst, unwrap_or, Option, Some, None}
+use Rattle.std.specs.List.{AllByRecursion}
+use Rattle.std.proofs.lemmas.List.{map-append}
+use Rattle.fir_base.specs.Lists.{In, Distinct}
+use Rattle.fir_base.proofs.Members.{in_right}
+use Rattle.fir_base.proofs.Twins.{distinct_right}
+use Rattle.ver_words.specs.Names.{IsName}
+use Rattle.fir_net.specs.declared.net.FlatNet.{FlatNet}
+use Rattle.fir_net_names.specs.declared.name_table.NameTable.{NameTable}
+use Rattle.fir_net_names.specs.working.IsTable.{IsTable}
+use Rattle.fir_net_names.specs.working.LeafNamed.{somes, base_at, name_at, named_leaves, named_ports}
+use Rattle.fir_net_names.proofs.NamesInTurn.{names_distinct}
 use Rattle.trace_text.specs.declared.shape.StateWord.{StateWord}
 use Rattle.fir_tick.specs.working.StateWords.{state_word, state_words}
+use Rattle.fir_tick.proofs.Lists.{map_both}
 
 abbrev pub names_of : List StateWord → List (List ℕ)
 names_of = map (λ w. w.name)
 
--- a wire has no name
-wireless : (taken : List (List ℕ)) (l : Leaf) (name : Option (List ℕ)) → IsLeafName taken l name → (n : List ℕ) → name ≡ Some n → is_wire l.role ≡ false
-wireless taken l None is n e = cc
-wireless taken l (Some m) is n e = by (is_wire l.role) refl
-  where
-    by : (b : Bool) → is_wire l.role ≡ b → is_wire l.role ≡ false
-    by true wire = let no : has_name l ≡ false = rw wire refl in cc
-    by false other = other
+somes_joined : (xs ys : List (Option (List ℕ))) → somes (xs ++ ys) ≡ somes xs ++ somes ys
+somes_joined [] ys = refl
+somes_joined (None ∷ xs) ys = somes_joined xs ys
+somes_joined (Some n ∷ xs) ys = ap (λ (ns : List (List ℕ)). n ∷ ns) (somes_joined xs ys)
 
--- a register gives its name to its word
-register_first : (r : Role) (w : ℕ) (name : Option (List ℕ)) (names : List (List ℕ)) (words : List StateWord) → is_port r ≡ false → ((n : List ℕ) → name ≡ Some n → is_wire r ≡ false) → names ≡ names_of words
-    → with_some name names ≡ names_of (state_word r w name ++ words)
-register_first (role.Register r) w None names words is wire e = e
-register_first (role.Register r) w (Some name) names words is wire e = ap (λ ns. name ∷ ns) e
-register_first (role.Wire r) w None names words is wire e = e
-register_first (role.Wire r) w (Some name) names words is wire e = let no : true ≡ false = wire name refl in cc
-register_first (role.ClockWire r) w None names words is wire e = e
-register_first (role.ClockWire r) w (Some name) names words is wire e = let no : true ≡ false = wire name refl in cc
-register_first _ w name names words is wire e = absurd (cc)
+-- the names of numbers that all have one
+all_named : (names : List (Option (List ℕ))) (ks : List ℕ) → ((k : ℕ) → In ks k → (n : List ℕ) × (name_at names k ≡ Some n))
+    → somes (map (name_at names) ks) ≡ map (λ k. unwrap_or (name_at names k) []) ks
+all_named names [] has = refl
+all_named names (k ∷ ks) has =
+    let here = has k (inl refl) in
+    rw here.1 (ap (λ (ns : List (List ℕ)). here.0 ∷ ns) (all_named names ks (λ j m. has j (inr m))))
 
--- a port keeps it
-port_first : (r : Role) (w : ℕ) (name : Option (List ℕ)) (names ports : List (List ℕ)) (words : List StateWord) → is_port r ≡ true → names ≡ ports ++ names_of words
-    → with_some name names ≡ with_some name ports ++ names_of (state_word r w name ++ words)
-port_first (role.Register r) w name names ports words is e = absurd (cc)
-port_first _ w None names ports words is e = e
-port_first _ w (Some name) names ports words is e = ap (λ ns. name ∷ ns) e
+-- what a number has is spelled as a name, where all names are
+pub name_spelled : (names : List (Option (List ℕ))) → AllByRecursion IsName (somes names) → (k : ℕ) (n : List ℕ) → name_at names k ≡ Some n → IsName n
+name_spelled [] spelled k n e = cc
+name_spelled (None ∷ names) spelled zero n e = cc
+name_spelled (None ∷ names) spelled (suc k) n e = name_spelled names spelled k n e
+name_spelled (Some m ∷ names) spelled zero n e = let same : m ≡ n = cc in subst IsName same spelled.0
+name_spelled (Some m ∷ names) spelled (suc k) n e = name_spelled names spelled.1 k n e
 
-registers_named : (taken : List (List ℕ)) (ls : List Leaf) (names : List (Option (List ℕ))) → AreLeafNames taken ls names → AreInside ls → somes names ≡ names_of (state_words names ls)
-registers_named taken [] [] named are = refl
-registers_named taken [] (n ∷ names) named are = absurd named
-registers_named taken (l ∷ ls) [] named are = absurd named
-registers_named taken (l ∷ ls) (n ∷ names) named are =
-    register_first l.role l.width n (somes names) (state_words names ls) are.0 (wireless taken l n named.0) (registers_named (with_some n taken) ls names named.1 are.1)
+module _ (net : FlatNet) (table : NameTable) (is : IsTable net table) where
+  -- each word has a name
+  pub word_named : (k : ℕ) → In net.state k → (n : List ℕ) × (name_at table.leaves k ≡ Some n)
+  word_named k m = is.has k (in_right (named_ports 0 net.leaves) net.state k m)
 
--- names of which those of words are the last
-pub record EndsIn (names : List (List ℕ)) (words : List StateWord) : Type 0 where
-  pub ports : List (List ℕ)
-  pub is : names ≡ ports ++ names_of words
+  abbrev pub port_names : List (List ℕ)
+  port_names = somes (map (name_at table.leaves) (named_ports 0 net.leaves))
 
--- the names of ports stand before those of registers
-pub ports_before : (taken : List (List ℕ)) (ls : List Leaf) (names : List (Option (List ℕ))) → AreLeafNames taken ls names → ArePortsFirst ls
-    → EndsIn (somes names) (state_words names ls)
-ports_before taken [] [] named first = record { ports = []; is = refl }
-ports_before taken [] (n ∷ names) named first = absurd named
-ports_before taken (l ∷ ls) [] named first = absurd named
-ports_before taken (l ∷ ls) (n ∷ names) named first = choose (is_port l.role) refl (λ rest. ports_before (with_some n taken) ls names named.1 rest)
-  where
-    choose : (b : Bool) → is_port l.role ≡ b → (ArePortsFirst ls → EndsIn (somes names) (state_words names ls)) → EndsIn (with_some n (somes names)) (state_word l.role l.width n ++ state_words names ls)
-    choose true e before =
-        let b = before (rw e at first) in
-        record { ports = with_some n b.ports; is = port_first l.role l.width n (somes names) b.ports (state_words names ls) e b.is }
-    choose false e before = let rest : AreInside ls = rw e at first in record { ports = []; is = registers_named taken (l ∷ ls) (n ∷ names) named (e, rest) }
+  -- the names of ports stand before those of words
+  pub ports_before : somes (map (name_at table.leaves) (named_leaves net)) ≡ port_names ++ names_of (state_words net table.leaves)
+  ports_before =
+      ap somes (map-append (name_at table.leaves) (named_ports 0 net.leaves) net.state)
+      ∙ somes_joined (map (name_at table.leaves) (named_ports 0 net.leaves)) (map (name_at table.leaves) net.state)
+      ∙ ap (λ (ns : List (List ℕ)). port_names ++ ns)
+      (all_named table.leaves net.state word_named ∙ sym (map_both (state_word net table.leaves) (λ (w : StateWord). w.name) net.state))
 
-pub distinct_back : {A : Type 0} → (xs ys : List A) → Distinct (xs ++ ys) → Distinct ys
-distinct_back [] ys d = d
-distinct_back (x ∷ xs) ys d = distinct_back xs ys d.1
+  pub words_distinct : Distinct (names_of (state_words net table.leaves))
+  words_distinct =
+      distinct_right port_names (names_of (state_words net table.leaves))
+      (subst Distinct ports_before (names_distinct [] (map (base_at net) (named_leaves net)) (somes (map (name_at table.leaves) (named_leaves net))) is.named))

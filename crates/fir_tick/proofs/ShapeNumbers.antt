@@ -7,16 +7,12 @@ use Rattle.fir_net.specs.declared.leaf.Role.{Role}
 use Rattle.fir_net.specs.declared.leaf.Role.TheVariants as role
 use Rattle.fir_net.specs.declared.leaf.Leaf.{Leaf}
 use Rattle.fir_net.specs.working.Values.{leaf_width}
-use Rattle.fir_net.specs.working.Settled.{with_bits, input_number, clock_number, register_number, numbers_by}
+use Rattle.fir_net.specs.working.Settled.{with_bits, input_number, clock_number, numbers_by}
 use Rattle.fir_tick.specs.working.StateWords.{input_width, input_widths, is_clock}
 
 -- the width of a leaf, where it has bits
-abbrev pub width_with_bits : ℕ → List ℕ
+abbrev width_with_bits : ℕ → List ℕ
 width_with_bits width = if nat_eq width 0 then [] else (width ∷ [])
-
-abbrev pub register_width : Role → ℕ → List ℕ
-register_width (role.Register r) width = width_with_bits width
-register_width _ width = []
 
 -- in place of the number of a leaf stands its width
 record IsWidthOf (number : Role → ℕ → ℕ → List ℕ) (width_of : Role → ℕ → List ℕ) : Type 0 where
@@ -34,13 +30,6 @@ inputs_are = record { each = each }
   where
     each : (f : ℕ → ℕ) (r : Role) (w k : ℕ) → f k ≡ w → map f (input_number r w k) ≡ input_width r w
     each f role.Input w k e = bits_widths f w k e
-    each f r w k e = refl
-
-registers_are : IsWidthOf register_number register_width
-registers_are = record { each = each }
-  where
-    each : (f : ℕ → ℕ) (r : Role) (w k : ℕ) → f k ≡ w → map f (register_number r w k) ≡ register_width r w
-    each f (role.Register r) w k e = bits_widths f w k e
     each f r w k e = refl
 
 -- leaves that are numbered from k on, and whose widths f has by number
@@ -62,9 +51,6 @@ at_front ls i = ap (leaf_width ls) (let s : 0 + i ≡ i = omega arith in s)
 
 pub input_widths_are : (ls : List Leaf) → input_widths ls ≡ map (leaf_width ls) (numbers_by input_number 0 ls)
 input_widths_are ls = sym (numbered input_number input_width inputs_are (leaf_width ls) 0 ls (at_front ls))
-
-pub register_widths_are : (ls : List Leaf) → flat_map (λ l. register_width l.role l.width) ls ≡ map (leaf_width ls) (numbers_by register_number 0 ls)
-register_widths_are ls = sym (numbered register_number register_width registers_are (leaf_width ls) 0 ls (at_front ls))
 
 one_clock : (r : Role) (w k : ℕ) → cond (is_clock r) 1 0 ≡ length (clock_number r w k)
 one_clock role.Clock w k = refl

@@ -1,11 +1,11 @@
 //! What a tick does with the leaves that have bits, worked out once.
 
-ghost use Rattle.std.specs.Prelude.{◌≡◌, ◌≤◌, IfOk, Some, slice_get};
+ghost use Rattle.std.specs.Prelude.{◌≡◌, ◌≤◌, IfOk, Some, slice_get, true};
 ghost use Rattle.std.specs.List.{AllZip};
 ghost use Rattle.std.specs.Option.{option_to_list};
-ghost use Rattle.fir_net.specs.working.IsNet.{CanBeDriven, CanBeReset, IsNet};
+ghost use Rattle.fir_net.specs.working.IsNet.{CanBeDriven, CanBeReset, IsNet, is_word};
 ghost use Rattle.fir_net.specs.working.IsOrder.{IsOrder};
-ghost use Rattle.fir_net.specs.working.Settled.{register_number, registers};
+ghost use Rattle.fir_net.specs.working.Settled.{registers};
 ghost use Rattle.fir_tick.specs.working.Plans.{input_plan, output_plan, plans_by, IsNextPlan, IsPlan, IsRegisterPlan, IsResetPlan};
 
 use crate::roots::{clock_roots, root_at};
@@ -48,7 +48,8 @@ pub struct RegisterPlan {
     pub next: Option<Task>,
 }
 
-/// The inputs, outputs and registers of a net, each in the order of the leaves.
+/// The inputs and outputs of a net, each in the order of the leaves, and the registers in the order of the
+/// state.
 #[derive(Drop)]
 pub struct Plan {
     pub inputs: Vec<InputPlan>,
@@ -126,34 +127,31 @@ fn register_plans(
     ensures { IfOk result (λ v. AllZip (IsRegisterPlan net.now roots.now) v.items (registers net.now)) }
 {
     let leaves = net.leaves.as_slice();
+    let state = net.state.as_slice();
     let mut plans = Vec::new(alloc);
-    for (k, leaf) in leaves.iter().enumerate() {
-        if let Some(plan) = register_plan(net, roots, leaf, k) {
-            plans.push(plan)?;
-        }
+    for word in state {
+        let number = word.number();
+        plans.push(register_plan(net, roots, &leaves[number], number))?;
     }
     Ok(plans)
 }
 
-fn register_plan(
-    net: &FlatNet,
-    roots: &[Option<usize>],
-    leaf: &Leaf,
-    k: usize,
-) -> Option<RegisterPlan>
+/// The plan of a word of the state, whose leaf has that number.
+fn register_plan(net: &FlatNet, roots: &[Option<usize>], leaf: &Leaf, number: usize) -> RegisterPlan
     requires whole { IsNet net.now }
-    requires at { slice_get net.now.leaves k ≡ Some leaf.now }
-    ensures { AllZip (IsRegisterPlan net.now roots.now) (option_to_list result) (register_number leaf.now.role leaf.now.width k) }
+    requires at { slice_get net.now.leaves number ≡ Some leaf.now }
+    requires word { is_word leaf.now ≡ true }
+    ensures { IsRegisterPlan net.now roots.now result number }
 {
-    match leaf.role {
-        Role::Register(register) if leaf.width > 0 => Some(RegisterPlan {
-            leaf: k,
-            width: leaf.width,
-            clock: root_at(roots, register.clock),
-            reset: reset_plan(net, leaf, register.reset),
-            next: next_plan(net, leaf, register.next),
-        }),
-        _ => None,
+    let Role::Register(register) = leaf.role else {
+        unreachable!()
+    };
+    RegisterPlan {
+        leaf: number,
+        width: leaf.width,
+        clock: root_at(roots, register.clock),
+        reset: reset_plan(net, leaf, register.reset),
+        next: next_plan(net, leaf, register.next),
     }
 }
 

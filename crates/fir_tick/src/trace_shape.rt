@@ -1,21 +1,21 @@
 //! The shape of a net's traces.
 
-ghost use Rattle.std.specs.Prelude.{◌≡◌, ◌++◌, IfOk, OnOk, option_map, count_by};
+ghost use Rattle.std.specs.Prelude.{◌≡◌, [], ◌∷◌, ◌++◌, IfOk, None, OnOk, count_by};
 ghost use Rattle.std.specs.Option.{option_to_list};
 ghost use Rattle.fir_net.specs.working.IsNet.{IsNet};
 ghost use Rattle.fir_net.specs.working.WordNames.{HasWordNames};
+ghost use Rattle.fir_net_names.specs.working.IsTable.{IsTable};
 ghost use Rattle.fir_tick.specs.working.Shapes.{IsShapeOf};
-ghost use Rattle.fir_tick.specs.working.StateWords.{input_width, input_widths, is_clock, state_word, state_words};
+ghost use Rattle.fir_tick.specs.working.StateWords.{input_width, input_widths, is_clock, state_words};
 
-use fir_ast::LeafId;
 use fir_base::{MemoryOut, Name};
 use fir_net::{FlatNet, Leaf, Role};
 use fir_net_names::{NameTable, names};
 use std::alloc::Global;
 use trace_text::{Shape, StateWord};
 
-/// The shape of the traces of a net: its inputs and clocks in port order, and its registers, which are the
-/// words of the state, under their names in the emitted text. Only memory can be wanting.
+/// The shape of the traces of a net: its inputs and clocks in port order, and the words of the state in
+/// their order, under their names in the emitted text. Only memory can be wanting.
 pub fn shape(alloc: Global, net: &FlatNet) -> Result<Shape, MemoryOut>
     requires whole { IsNet net.now }
     requires words { HasWordNames net.now }
@@ -25,7 +25,7 @@ pub fn shape(alloc: Global, net: &FlatNet) -> Result<Shape, MemoryOut>
     let leaves = net.leaves.as_slice();
     let inputs = input_widths(alloc, leaves)?;
     let clocks = clock_count(leaves);
-    let state = state_words(alloc, &table, leaves)?;
+    let state = state_words(alloc, &table, net)?;
     // A net's widths are at most 128, and the names of its table are distinct words.
     let Some(shape) = Shape::new(alloc, inputs, clocks, state)? else {
         unreachable!()
@@ -69,36 +69,40 @@ fn is_clock(role: Role) -> bool
     matches!(role, Role::Clock)
 }
 
-/// The words of the state: the registers that have bits, under the names that the table has for them.
-fn state_words(
-    alloc: Global,
-    table: &NameTable,
-    leaves: &[Leaf],
-) -> Result<Vec<StateWord>, MemoryOut>
-    ensures { IfOk result (λ v. v.items ≡ state_words table.now.leaves leaves.now) }
+/// The words of the state in their order, under the names that the table has for them.
+fn state_words(alloc: Global, table: &NameTable, net: &FlatNet) -> Result<Vec<StateWord>, MemoryOut>
+    requires whole { IsNet net.now }
+    requires named { IsTable net.now table.now }
+    ensures { IfOk result (λ v. v.items ≡ state_words net.now table.now.leaves) }
 {
+    let leaves = net.leaves.as_slice();
+    let state = net.state.as_slice();
     let mut words = Vec::new(alloc);
-    for (number, leaf) in leaves.iter().enumerate() {
-        put_state_word(alloc, &mut words, leaf, table.leaf(LeafId::new(number)))?;
+    for word in state {
+        let number = word.number();
+        let leaf = &leaves[number];
+        // Each word of the state has a name.
+        let Some(name) = table.leaf(*word) else {
+            unreachable!()
+        };
+        put_state_word(alloc, &mut words, leaf, name)?;
     }
     Ok(words)
 }
 
-/// Appends the word of a register that has a name. Any other leaf has none.
+/// Appends the word of a register of that name.
 fn put_state_word(
     alloc: Global,
     words: &mut Vec<StateWord>,
     leaf: &Leaf,
-    name: Option<&Name>,
+    name: &Name,
 ) -> Result<(), MemoryOut>
-    ensures { OnOk result (words.new.items ≡ words.old.items ++ state_word leaf.now.role leaf.now.width (option_map (λ n. n.now) name.entry)) }
+    ensures { OnOk result (words.new.items ≡ words.old.items ++ record { name = name.now; width = leaf.now.width; depth = None } ∷ []) }
 {
-    if let (Role::Register(_), Some(name)) = (leaf.role, name) {
-        words.push(StateWord {
-            name: name.copy(alloc)?,
-            width: leaf.width,
-            depth: None,
-        })?;
-    }
+    words.push(StateWord {
+        name: name.copy(alloc)?,
+        width: leaf.width,
+        depth: None,
+    })?;
     Ok(())
 }

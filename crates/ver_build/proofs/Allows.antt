@@ -1,7 +1,7 @@
 -- The tree of a net has one choice of values at every state and tick, and allows what the net allows.
 -- Its values at rest are settled, and so are those of the net's leaves that they hold. As the net has one choice too, that choice shows the same outputs, and the
 -- same state follows from it.
-use Rattle.std.proofs.Common.{◌≡◌, ℕ, ◌≤◌, List, [], map, true, false, length, sym, ap, ◌∙◌, subst, arith, Option, Some}
+use Rattle.std.proofs.Common.{◌≡◌, ℕ, ◌≤◌, List, map, refl, true, false, length, sym, ap, ◌∙◌, subst, arith, Option, Some}
 use Rattle.std.specs.Prelude.{◌↔◌, slice_get}
 use Rattle.std.proofs.lemmas.Option.{same_Some, slice_get_within}
 use Rattle.fir_base.specs.Ticks.{Env, Tick, Shape, HasShape}
@@ -18,8 +18,7 @@ use Rattle.fir_net.specs.working.Allows.{Allows as NetAllows}
 use Rattle.fir_net.proofs.AlongOrder.{SameBefore}
 use Rattle.fir_net.proofs.ValuesAlong.{IsPlain, values_agree}
 use Rattle.ver_ast.specs.Valid.{Valid}
-use Rattle.ver_ast.specs.Nets.{SizedNet, clocks, clock_assigns, nets, regs, shape as v_shape}
-use Rattle.ver_ast.specs.ClockOutputs.{driven_clock, clocks_shown}
+use Rattle.ver_ast.specs.Nets.{SizedNet, nets, regs, shape as v_shape}
 use Rattle.ver_ast.specs.AtomValues.{atom_value}
 use Rattle.ver_ast.specs.Settled.{Rest}
 use Rattle.ver_build.proofs.Written.{written}
@@ -29,11 +28,12 @@ use Rattle.ver_build.specs.working.Operands.{atom_at}
 use Rattle.ver_build.specs.working.Places.{held_of}
 use Rattle.ver_build.proofs.Premises.{Premises}
 use Rattle.ver_build.proofs.Parts.{blocks_of, in_parts}
-use Rattle.ver_build.proofs.Nets.{sizes, nets_sized, no_output_clocks}
+use Rattle.ver_build.proofs.Nets.{sizes, nets_sized}
 use Rattle.ver_build.proofs.Resting.{next_is}
 use Rattle.ver_build.proofs.ReadsStand.{read_of}
 use Rattle.ver_build.proofs.LeafValues.{AgreesLeaves, outputs_same}
 use Rattle.ver_build.proofs.NextStates.{states_same}
+use Rattle.ver_build.proofs.ClocksShown.{outputs_shown}
 use Rattle.ver_build.proofs.NodeValues.{leaf_values}
 use Rattle.ver_build.proofs.NetSettled.{leaf_clocks, agrees, source_value, next_state, net_settled, tree_settled}
 
@@ -48,10 +48,6 @@ module _ (net : FlatNet) (t : NameTable) (p : Places) (order : List Read) (is : 
         same = λ e f a b. one.same e f a.rest b.rest;
         same_clocks = λ e f a b. one.same_clocks e f a.rest b.rest;
       }
-
-  no_clocks_shown : clocks_shown (in_parts net t p order) ≡ []
-  no_clocks_shown =
-      ap (map (driven_clock (clocks (in_parts net t p order)) (clock_assigns (in_parts net t p order)))) (no_output_clocks net t p order)
 
   module _ (state : List ℕ) (tick : Tick) where
     -- the words that registers take, over the nets as they stand in the tree
@@ -70,7 +66,7 @@ module _ (net : FlatNet) (t : NameTable) (p : Places) (order : List Read) (is : 
           leaf_clocks t p f,
           net_settled net t p order is state tick f rest shapes,
           sym (outputs_same net t p order is (leaf_values p f) (leaf_clocks t p f) f (agrees net t p order is state tick f rest)) ∙ a.2,
-          sym a.3 ∙ no_clocks_shown,
+          sym (outputs_shown net t p order is state tick f rest (leaf_clocks t p f) (λ k l at ticking. refl)) ∙ a.3,
           sym (next_state net t p order is state tick f rest) ∙ sym (stored f) ∙ same_Some _ _ (sym (next_is net t p order is state tick f rest) ∙ a.4),
         )
 
@@ -122,7 +118,7 @@ module _ (net : FlatNet) (t : NameTable) (p : Places) (order : List Read) (is : 
           f,
           tree_settled net t p order is state tick f at_rest.rest,
           outputs_same net t p order is a.0 a.1 f (agrees_too a.0 a.1 a.2 f at_rest.rest) ∙ a.3,
-          no_clocks_shown ∙ sym a.4,
+          outputs_shown net t p order is state tick f at_rest.rest a.1 (same_clock a.0 a.1 a.2 f at_rest.rest) ∙ a.4,
           next_is net t p order is state tick f at_rest.rest ∙ ap Some (stored f ∙ next_too a.0 a.1 a.2 f at_rest.rest ∙ a.5),
         )
 

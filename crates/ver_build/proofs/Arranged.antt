@@ -9,35 +9,38 @@ use Rattle.ver_ast.specs.declared.tree.Net.{Net}
 use Rattle.ver_ast.specs.declared.tree.Item.TheVariants as item
 use Rattle.ver_ast.specs.declared.tree.Assign.{Assign}
 use Rattle.ver_ast.specs.declared.tree.Always.{Always}
-use Rattle.ver_ast.specs.Nets.{wires, regs, assigns}
+use Rattle.ver_ast.specs.Nets.{wires, regs, assigns, clock_assigns}
 use Rattle.ver_build.specs.declared.places.Places.{Places}
 use Rattle.ver_build.specs.Arranged.{reg_item, wire_item, IsArranged}
 use Rattle.ver_build.specs.working.DrivenRegisters.{net_registers, AreMarked}
 use Rattle.ver_build.proofs.Premises.{Premises}
-use Rattle.ver_build.proofs.Parts.{registers_of, wires_of, assigns_of, blocks_of, in_parts}
+use Rattle.ver_build.proofs.Parts.{registers_of, wires_of, assigns_of, clock_assigns_of, blocks_of, in_parts}
 use Rattle.ver_build.proofs.ItemLists.{net_sized, registers_among, wires_among}
-use Rattle.ver_build.proofs.Nets.{assigns_are}
+use Rattle.ver_build.proofs.ClockAssigns.{assigns_are, clock_assigns_are, clock_targets}
 use Rattle.ver_build.proofs.Valid.{all_driven, ordered}
 use Rattle.ver_build.proofs.BlockMarks.{marks, marks_driven, blocks_marked}
 
 -- registers and wires are told by their names and widths
-items_sized : (rs ws : List Net) (xs : List Assign) (bs : List Always)
-    → map item.Reg rs ++ (map item.Wire ws ++ (map item.Assign xs ++ map item.Always bs))
-    ≡ map reg_item (map net_sized rs) ++ (map wire_item (map net_sized ws) ++ (map item.Assign xs ++ map item.Always bs))
-items_sized rs ws xs bs = rw (map-map reg_item net_sized rs, map-map wire_item net_sized ws) refl
+items_sized : (rs ws : List Net) (xs cs : List Assign) (bs : List Always)
+    → map item.Reg rs ++ (map item.Wire ws ++ (map item.Assign xs ++ (map item.Assign cs ++ map item.Always bs)))
+    ≡ map reg_item (map net_sized rs) ++ (map wire_item (map net_sized ws) ++ (map item.Assign xs ++ (map item.Assign cs ++ map item.Always bs)))
+items_sized rs ws xs cs bs = rw (map-map reg_item net_sized rs, map-map wire_item net_sized ws) refl
 
 module _ (net : FlatNet) (t : NameTable) (p : Places) (order : List Read) (is : Premises net t p order) where
   abbrev v : Verilog
   v = in_parts net t p order
 
-  parts_by_kind : v.items ≡ map reg_item (regs v) ++ (map wire_item (wires v) ++ (map item.Assign (assigns v) ++ map item.Always (blocks_of net t p order)))
+  parts_by_kind : v.items ≡ map reg_item (regs v) ++ (map wire_item (wires v)
+      ++ (map item.Assign (assigns v) ++ (map item.Assign (clock_assigns v) ++ map item.Always (blocks_of net t p order))))
   parts_by_kind =
       let rs = registers_of net t p order in
       let ws = wires_of net t p order in
       let xs = assigns_of net t p order in
       let bs = blocks_of net t p order in
-      let same = assigns_are net t p order in
-      rw (registers_among rs ws xs bs, wires_among rs ws xs bs, same) (items_sized rs ws xs bs)
+      let cs = clock_assigns_of net t p order in
+      let same = assigns_are net t p order is in
+      let same_clocks = clock_assigns_are net t p order is in
+      rw (registers_among rs ws xs cs bs, wires_among rs ws xs cs bs, same, same_clocks) (items_sized rs ws xs cs bs)
 
   pub parts_arranged : IsArranged v
   parts_arranged = record {
@@ -45,6 +48,7 @@ module _ (net : FlatNet) (t : NameTable) (p : Places) (order : List Read) (is : 
     by_kind = parts_by_kind;
     assigns_in_order = sym (all_driven net t p order is);
     after_what_is_read = ordered net t p order is;
+    clock_assigns_in_order = clock_targets net t p order is;
     driven = marks net t p order is;
     blocks_in_order = blocks_marked net t p order is;
   }

@@ -15,12 +15,14 @@ use Rattle.ver_ast.specs.Nets.{assigns}
 use Rattle.ver_build.specs.declared.places.Places.{Places}
 use Rattle.ver_build.specs.working.Operands.{atom_at}
 use Rattle.ver_build.specs.declared.right_sides.Inner.{Inner}
-use Rattle.ver_build.specs.working.Places.{name_at, held_of}
+use Rattle.fir_net_names.specs.working.LeafNamed.{name_at}
+use Rattle.ver_build.specs.working.Places.{held_of}
 use Rattle.ver_build.specs.working.Built.{inners, inner_assign, leaf_assign, role_assign}
-use Rattle.ver_build.proofs.Names.{NameList, Each, zipped, each_part, each_at}
-use Rattle.ver_build.proofs.Premises.{Premises, LeafNamed, leaves_named}
+use Rattle.ver_build.proofs.Names.{NameList, Each, zipped}
+use Rattle.ver_build.proofs.Premises.{Premises, LeafNamed}
+use Rattle.ver_build.proofs.OrderedLeaves.{ordered_names, ordered_leaves, ordered_named, ordered_part, ordered_from}
 use Rattle.ver_build.proofs.Parts.{in_parts}
-use Rattle.ver_build.proofs.Nets.{assigns_are}
+use Rattle.ver_build.proofs.ClockAssigns.{assigns_are}
 
 -- the assign of an output
 pub record OutputAssign (net : FlatNet) (t : NameTable) (p : Places) (a : Assign) : Type 0 where
@@ -46,46 +48,42 @@ zipped_from P f (n ∷ names) (x ∷ xs) b h m =
     (λ (i : In (zipped f names xs) b). let r = zipped_from P f names xs b h.1 i in (suc r.0, r.1, r.2, r.3))
     (in_either (f x n) (zipped f names xs) b m)
 
-module _ (net : FlatNet) (t : NameTable) (p : Places) (order : List Read) where
+module _ (net : FlatNet) (t : NameTable) (p : Places) (order : List Read) (is : Premises net t p order) where
   pub inner_assign_in : (x : Inner) → In (inners net p order) x → In (assigns (in_parts net t p order)) (inner_assign x)
   inner_assign_in x m =
-      subst (λ (xs : List Assign). In xs (inner_assign x)) (sym (assigns_are net t p order))
-      (in_left (map inner_assign (inners net p order)) (zipped (leaf_assign p) t.leaves net.leaves) (inner_assign x)
+      subst (λ (xs : List Assign). In xs (inner_assign x)) (sym (assigns_are net t p order is))
+      (in_left (map inner_assign (inners net p order)) (zipped (leaf_assign p) (ordered_names net t) (ordered_leaves net)) (inner_assign x)
       (in_map inner_assign (inners net p order) x m))
 
-  module _ (is : Premises net t p order) where
-    abbrev output : Leaf → Read → List ℕ → Assign
-    output l r n = record { target = n; rhs = rhs.Atom (atom_at l.width (held_of p r)) }
+  abbrev output : Leaf → Read → List ℕ → Assign
+  output l r n = record { target = n; rhs = rhs.Atom (atom_at l.width (held_of p r)) }
 
-    pub output_assign_in : (k : ℕ) (l : Leaf) (r : Read) (n : List ℕ) → slice_get net.leaves k ≡ Some l → l.role ≡ role.Output r
-        → name_at t.leaves k ≡ Some n
-        → In (assigns (in_parts net t p order)) (record { target = n; rhs = rhs.Atom (atom_at l.width (held_of p r)) })
-    output_assign_in k l r n at driven named =
-        let Q = λ (x : Leaf) (m : Option (List ℕ)). (y : Assign) → In (leaf_assign p x m) y → In (zipped (leaf_assign p) t.leaves net.leaves) y in
-        let parts =
-        each_part LeafNamed (leaf_assign p) (zipped (leaf_assign p) t.leaves net.leaves) t.leaves net.leaves (leaves_named net t is.table)
-        (λ y m. m) in
-        let given : In (leaf_assign p l (name_at t.leaves k)) (output l r n) = rw (driven, named) (inl refl) in
-        subst (λ (xs : List Assign). In xs (output l r n)) (sym (assigns_are net t p order))
-        (in_right (map inner_assign (inners net p order)) (zipped (leaf_assign p) t.leaves net.leaves) (output l r n)
-        (each_at Q t.leaves net.leaves parts k l at (output l r n) given))
+  pub output_assign_in : (k : ℕ) (l : Leaf) (r : Read) (n : List ℕ) → slice_get net.leaves k ≡ Some l → l.role ≡ role.Output r
+      → name_at t.leaves k ≡ Some n
+      → In (assigns (in_parts net t p order)) (record { target = n; rhs = rhs.Atom (atom_at l.width (held_of p r)) })
+  output_assign_in k l r n at driven named =
+      let given : In (leaf_assign p l (Some n)) (output l r n) = rw driven (inl refl) in
+      subst (λ (xs : List Assign). In xs (output l r n)) (sym (assigns_are net t p order is))
+      (in_right (map inner_assign (inners net p order)) (zipped (leaf_assign p) (ordered_names net t) (ordered_leaves net)) (output l r n)
+      (ordered_part net t is.whole is.table (leaf_assign p) k l n at named (output l r n) given))
 
-    by_role : (k : ℕ) (l : Leaf) (d : Role) (n : Option (List ℕ)) (a : Assign) → slice_get net.leaves k ≡ Some l → l.role ≡ d
-        → name_at t.leaves k ≡ n → In (role_assign p d l.width n) a → OutputAssign net t p a
-    by_role k l (role.Output r) None a at same named m = absurd m
-    by_role k l (role.Output r) (Some n) a at same named (inl e) =
-        record { index = k; leaf = l; source = r; at = at; named = named ∙ ap (λ (x : Assign). Some x.target) e; driven = same; right = ap (λ (x : Assign). x.rhs) e }
-    by_role k l (role.Output r) (Some n) a at same named (inr m) = absurd m
-    by_role k l _ n a at same named m = absurd m
+  by_role : (k : ℕ) (l : Leaf) (d : Role) (n : Option (List ℕ)) (a : Assign) → slice_get net.leaves k ≡ Some l → l.role ≡ d
+      → name_at t.leaves k ≡ n → In (role_assign p d l.width n) a → OutputAssign net t p a
+  by_role k l (role.Output r) None a at same named m = absurd m
+  by_role k l (role.Output r) (Some n) a at same named (inl e) =
+      record { index = k; leaf = l; source = r; at = at; named = named ∙ ap (λ (x : Assign). Some x.target) e; driven = same; right = ap (λ (x : Assign). x.rhs) e }
+  by_role k l (role.Output r) (Some n) a at same named (inr m) = absurd m
+  by_role k l _ n a at same named m = absurd m
 
-    -- an assign is an inner net's or an output's
-    pub assign_from : (a : Assign) → In (assigns (in_parts net t p order)) a
-        → ((x : Inner) × In (inners net p order) x × (inner_assign x ≡ a)) ⊎ OutputAssign net t p a
-    assign_from a m =
-        ⊎_elim
-        (λ (i : In (map inner_assign (inners net p order)) a). inl (in_map_from inner_assign (inners net p order) a i))
-        (λ (o : In (zipped (leaf_assign p) t.leaves net.leaves) a).
-        let z = zipped_from LeafNamed (leaf_assign p) t.leaves net.leaves a (leaves_named net t is.table) o in
-        inr (by_role z.0 z.1 z.1.role (name_at t.leaves z.0) a z.2 refl refl z.3))
-        (in_either (map inner_assign (inners net p order)) (zipped (leaf_assign p) t.leaves net.leaves) a
-        (subst (λ (xs : List Assign). In xs a) (assigns_are net t p order) m))
+  -- an assign is an inner net's or an output's
+  pub assign_from : (a : Assign) → In (assigns (in_parts net t p order)) a
+      → ((x : Inner) × In (inners net p order) x × (inner_assign x ≡ a)) ⊎ OutputAssign net t p a
+  assign_from a m =
+      ⊎_elim
+      (λ (i : In (map inner_assign (inners net p order)) a). inl (in_map_from inner_assign (inners net p order) a i))
+      (λ (o : In (zipped (leaf_assign p) (ordered_names net t) (ordered_leaves net)) a).
+      let z = zipped_from LeafNamed (leaf_assign p) (ordered_names net t) (ordered_leaves net) a (ordered_named net t is.whole is.table) o in
+      let k = ordered_from net t is.whole is.table z.0 z.1 z.2 in
+      inr (by_role k.0 z.1 z.1.role (name_at (ordered_names net t) z.0) a k.1 refl k.2 z.3))
+      (in_either (map inner_assign (inners net p order)) (zipped (leaf_assign p) (ordered_names net t) (ordered_leaves net)) a
+      (subst (λ (xs : List Assign). In xs a) (assigns_are net t p order is) m))

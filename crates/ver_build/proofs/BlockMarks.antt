@@ -1,7 +1,7 @@
 -- For each register of the tree whether it has a block: where something drives it on a clock.
 -- The targets of the blocks are the registers that are so marked, in their order.
-use Rattle.std.proofs.Common.{◌≡◌, ◌↔◌, ℕ, List, [], ◌∷◌, ◌++◌, Bool, true, false, refl, sym, ap, ◌∙◌, Option, Some, None}
-use Rattle.std.specs.Prelude.{flat_map, IsTrue, IsSome}
+use Rattle.std.proofs.Common.{◌≡◌, ◌↔◌, ℕ, List, [], ◌∷◌, ◌++◌, Bool, true, false, refl, sym, ap, ◌∙◌, subst, Option, Some, None}
+use Rattle.std.specs.Prelude.{slice_get, IsTrue, IsSome}
 use Rattle.fir_net.specs.declared.reads.Read.{Read}
 use Rattle.fir_net.specs.declared.leaf.Register.{Register}
 use Rattle.fir_net.specs.declared.leaf.Role.{Role}
@@ -9,17 +9,19 @@ use Rattle.fir_net.specs.declared.leaf.Role.TheVariants as role
 use Rattle.fir_net.specs.declared.leaf.Leaf.{Leaf}
 use Rattle.fir_net.specs.declared.net.FlatNet.{FlatNet}
 use Rattle.fir_net_names.specs.declared.name_table.NameTable.{NameTable}
-use Rattle.fir_net.specs.working.IsNet.{IsRole}
+use Rattle.fir_net.specs.working.IsNet.{is_port, IsRole}
 use Rattle.ver_ast.specs.Nets.{regs, blocks, block_targets, names_of}
 use Rattle.ver_build.specs.declared.places.Places.{Places}
 use Rattle.ver_build.specs.Arranged.{marked}
 use Rattle.ver_build.specs.working.Places.{clock_in}
-use Rattle.ver_build.specs.working.DrivenRegisters.{role_register, net_registers, IsDriven, AreMarked}
-use Rattle.ver_build.proofs.Choices.{no_bits_none, some_bits_one}
+use Rattle.ver_build.specs.working.DrivenRegisters.{role_register, word_register, net_registers, IsDriven, AreMarked}
 use Rattle.ver_build.proofs.Names.{NameList, Each, zipped}
-use Rattle.ver_build.proofs.Premises.{Premises, RoleNamed, role_named, bits_named, Whole, leaves_whole}
+use Rattle.ver_build.proofs.Premises.{Premises, Whole}
+use Rattle.ver_build.proofs.OrderedLeaves.{ordered_names, ordered_leaves, ordered_whole}
+use Rattle.ver_build.proofs.WordLists.{words_given}
 use Rattle.ver_build.proofs.Parts.{blocks_of, in_parts}
-use Rattle.ver_build.proofs.LeafKinds.{is_register, is_clocked, is_written, name_if, no_name, picked, picked_names}
+use Rattle.fir_net.specs.working.Counted.{is_register}
+use Rattle.ver_build.proofs.LeafKinds.{is_clocked, is_written, name_if, no_name, picked, picked_names}
 use Rattle.ver_build.proofs.Nets.{registers_sized, blocks_are}
 use Rattle.ver_build.proofs.Driven.{plain_targets, block_targets_are}
 use Rattle.ver_build.proofs.Blocks.{ends_at, has_clock}
@@ -31,6 +33,22 @@ role_mark clock _ n = []
 
 abbrev marks_along : (ℕ → Option ℕ) → NameList → List Leaf → List Bool
 marks_along clock names ls = zipped (λ l n. role_mark clock l.role n) names ls
+
+-- the registers that have names
+abbrev named_register : Role → Option (List ℕ) → List Register
+named_register (role.Register r) (Some name) = r ∷ []
+named_register _ n = []
+
+abbrev registers_along : NameList → List Leaf → List Register
+registers_along names ls = zipped (λ l n. named_register l.role n) names ls
+
+no_port_register : (r : Role) (n : Option (List ℕ)) → is_port r ≡ true → named_register r n ≡ []
+no_port_register (role.Register r) n e = absurd (cc)
+no_port_register _ n e = refl
+
+register_named : (r : Role) (name : List ℕ) → named_register r (Some name) ≡ role_register r
+register_named (role.Register r) name = refl
+register_named _ name = refl
 
 name_marked : (b : Bool) (name : List ℕ) (ms : List Bool) (xs ys : List (List ℕ)) → marked ms xs ≡ ys
     → marked (b ∷ ms) (name ∷ xs) ≡ name_if b (Some name) ++ ys
@@ -78,30 +96,34 @@ module _ (net : FlatNet) (t : NameTable) (p : Places) (order : List Read) (is : 
         λ d. let k = has_clock net t p order is r.clock d.clock in both_given (clock r.clock) r.next k.0 k.1 d.next,
       )
 
-  role_driven : (s : Bool) (r : Role) (w : ℕ) (n : Option (List ℕ)) (rs : List Register) (ms : List Bool) → RoleNamed r w n
-      → IsRole net.leaves net.nodes s w r → AreMarked net rs ms → AreMarked net (role_register r w ++ rs) (role_mark clock r n ++ ms)
-  role_driven s (role.Register r) w None rs ms named whole rest =
-      let none = no_bits_none r w (bits_named (role.Register r) w None refl named) in rw none rest
-  role_driven s (role.Register r) w (Some name) rs ms named whole rest =
-      let one = some_bits_one r w (bits_named (role.Register r) w (Some name) refl named) in rw one (is_driven s w r whole, rest)
-  role_driven s _ w n rs ms named whole rest = rest
+  role_driven : (s : Bool) (r : Role) (w : ℕ) (n : Option (List ℕ)) (rs : List Register) (ms : List Bool) → IsRole net.leaves net.nodes s w r
+      → AreMarked net rs ms → AreMarked net (named_register r n ++ rs) (role_mark clock r n ++ ms)
+  role_driven s (role.Register r) w None rs ms whole rest = rest
+  role_driven s (role.Register r) w (Some name) rs ms whole rest = (is_driven s w r whole, rest)
+  role_driven s _ w n rs ms whole rest = rest
 
   driven_along : (names : NameList) (ls : List Leaf) → Each (Whole net) names ls
-      → AreMarked net (flat_map (λ l. role_register l.role l.width) ls) (marks_along clock names ls)
+      → AreMarked net (registers_along names ls) (marks_along clock names ls)
   unfolding zipped
   driven_along [] [] h = tt
   driven_along [] (l ∷ ls) h = absurd h
   driven_along (n ∷ names) [] h = absurd h
-  driven_along (n ∷ names) (l ∷ ls) h =
-      role_driven l.signed l.role l.width n _ _ (role_named l n h.0.0) h.0.1.driven (driven_along names ls h.1)
+  driven_along (n ∷ names) (l ∷ ls) h = role_driven l.signed l.role l.width n _ _ h.0.1.driven (driven_along names ls h.1)
+
+  registers_are : registers_along (ordered_names net t) (ordered_leaves net) ≡ net_registers net
+  registers_are =
+      words_given net t is.whole is.table (λ l n. named_register l.role n) (record { ports = λ l n e. no_port_register l.role n e })
+      (λ k. word_register (slice_get net.leaves k)) (λ k l name at kind named. rw at (register_named l.role name))
 
   abbrev pub marks : List Bool
-  marks = marks_along clock t.leaves net.leaves
+  marks = marks_along clock (ordered_names net t) (ordered_leaves net)
 
   pub marks_driven : AreMarked net (net_registers net) marks
-  marks_driven = driven_along t.leaves net.leaves (leaves_whole net t is.whole is.table)
+  marks_driven =
+      subst (λ (rs : List Register). AreMarked net rs marks) registers_are
+      (driven_along (ordered_names net t) (ordered_leaves net) (ordered_whole net t is.whole is.table))
 
   pub blocks_marked : block_targets (blocks (in_parts net t p order)) ≡ marked marks (names_of (regs (in_parts net t p order)))
   blocks_marked =
-      ap block_targets (blocks_are net t p order) ∙ plain_targets (blocks_of net t p order) ∙ block_targets_are net t p order ∙ sym (names_marked clock t.leaves net.leaves)
-      ∙ ap (marked marks) (sym (ap names_of (registers_sized net t p order) ∙ picked_names is_register t.leaves net.leaves))
+      ap block_targets (blocks_are net t p order) ∙ plain_targets (blocks_of net t p order) ∙ block_targets_are net t p order ∙ sym (names_marked clock (ordered_names net t) (ordered_leaves net))
+      ∙ ap (marked marks) (sym (ap names_of (registers_sized net t p order) ∙ picked_names is_register (ordered_names net t) (ordered_leaves net)))

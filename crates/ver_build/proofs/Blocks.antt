@@ -15,22 +15,24 @@ use Rattle.fir_net.specs.declared.net.FlatNet.{FlatNet}
 use Rattle.fir_net_names.specs.declared.name_table.NameTable.{NameTable}
 use Rattle.fir_net.specs.working.Dependence.{IsOf, Reads}
 use Rattle.fir_net.specs.working.IsNet.{CanBeDriven, IsRole}
-use Rattle.fir_net_names.specs.working.LeafNamed.{is_wire}
+use Rattle.fir_net_names.specs.working.LeafNamed.{name_at}
 use Rattle.fir_net.specs.working.Settled.{clock_driver}
 use Rattle.ver_ast.specs.Nets.{SizedNet, clocks}
 use Rattle.ver_ast.specs.SoundSides.{HasWidth}
 use Rattle.ver_ast.specs.Valid.{IsPlain}
 use Rattle.ver_build.specs.declared.places.Places.{Places}
 use Rattle.ver_build.specs.working.Operands.{atom_at}
-use Rattle.ver_build.specs.working.Places.{name_at, held_of, clock_in, place_clock, placed, driven_clock_in}
+use Rattle.ver_build.specs.working.Places.{held_of, clock_in, place_clock, placed, driven_clock_in}
 use Rattle.ver_build.specs.working.Built.{leaf_block, role_block, block_on}
 use Rattle.ver_build.specs.working.DrivenRegisters.{EndsAtInput, input, handed_on}
-use Rattle.ver_build.proofs.Names.{all_zipped, each_and, each_part, each_at}
+use Rattle.ver_build.proofs.Names.{all_zipped, each_and, each_part}
 use Rattle.ver_build.proofs.AlongOrder.{along_order}
-use Rattle.ver_build.proofs.Premises.{Premises, LeafNamed, leaves_named}
+use Rattle.ver_build.proofs.Premises.{Premises, LeafNamed}
+use Rattle.ver_build.proofs.TableLeaves.{leaf_named}
+use Rattle.ver_build.proofs.OrderedLeaves.{ordered_names, ordered_leaves, ordered_picked}
 use Rattle.ver_build.proofs.Parts.{blocks_of, in_parts}
-use Rattle.ver_build.proofs.LeafKinds.{is_clock_input, is_register, is_net, sized_if, picked_sized}
-use Rattle.ver_build.proofs.Picked.{picked_at}
+use Rattle.fir_net.specs.working.Counted.{is_register}
+use Rattle.ver_build.proofs.LeafKinds.{is_wire, is_clock_input, is_net, sized_if, picked_sized}
 use Rattle.ver_build.proofs.Nets.{sizes, clocks_are, registers_sized, nets_sized}
 use Rattle.ver_build.proofs.Sizes.{IsSized, LeafFact, leaf_is_sized, leaf_facts, unnamed_bits}
 use Rattle.ver_build.proofs.OperandAtoms.{atom_fits}
@@ -56,7 +58,7 @@ module _ (net : FlatNet) (t : NameTable) (p : Places) (order : List Read) (is : 
   clock_at k l at = ap place_clock (is.places.leaves.each k l at)
 
   pub clock_input : (k : ℕ) (l : Leaf) → slice_get net.leaves k ≡ Some l → l.role ≡ role.Clock → IsClockInput net t k
-  clock_input k l at e = by_name (name_at t.leaves k) refl (each_at LeafNamed t.leaves net.leaves (leaves_named net t is.table) k l at)
+  clock_input k l at e = by_name (name_at t.leaves k) refl (leaf_named net is.whole t is.table k l at)
     where
       one : l.width ≡ 1
       one = let driven = (leaf_at net t p order is k l at).driven in rw e at driven
@@ -114,13 +116,13 @@ module _ (net : FlatNet) (t : NameTable) (p : Places) (order : List Read) (is : 
       let first = has_clock j ends in
       (first.0, clock_at i l at ∙ handed_to j l.role l.signed l.width i d ∙ first.1)
 
-  clock_is_port : (k : ℕ) → IsClockInput net t k → In (clocks (in_parts net t p order)) (unwrap_or (name_at t.leaves k) [])
+  pub clock_is_port : (k : ℕ) → IsClockInput net t k → In (clocks (in_parts net t p order)) (unwrap_or (name_at t.leaves k) [])
   clock_is_port k c =
       rw c.named (subst (λ (ns : List (List ℕ)). In ns c.name) (sym (clocks_are net t p order))
-      (picked_at LeafNamed is_clock_input t.leaves net.leaves (leaves_named net t is.table) k c.leaf c.name c.at (ap is_clock_input c.input) c.named))
+      (ordered_picked net t is.whole is.table is_clock_input k c.leaf c.name c.at (ap is_clock_input c.input) c.named))
 
   abbrev Registered : List ℕ → ℕ → Type 0
-  Registered name w = In (picked_sized is_register t.leaves net.leaves) (name, w)
+  Registered name w = In (picked_sized is_register (ordered_names net t) (ordered_leaves net)) (name, w)
 
   given_sound : (clock : Option ℕ) (s : Bool) (w : ℕ) (next : Option Read) (name : List ℕ) → IsSized (sizes net t p order) name w → Registered name w
       → ((k : ℕ) → clock ≡ Some k → IsClockInput net t k) → CanBeDriven net.leaves net.nodes s next
@@ -141,7 +143,7 @@ module _ (net : FlatNet) (t : NameTable) (p : Places) (order : List Read) (is : 
 
   role_sound : (s : Bool) (r : Role) (w : ℕ) (n : Option (List ℕ))
       → (is_net r ≡ true → (name : List ℕ) → n ≡ Some name → IsSized (sizes net t p order) name w)
-      → ((y : SizedNet) → In (sized_if (is_register r) w n) y → In (picked_sized is_register t.leaves net.leaves) y) → IsRole net.leaves net.nodes s w r
+      → ((y : SizedNet) → In (sized_if (is_register r) w n) y → In (picked_sized is_register (ordered_names net t) (ordered_leaves net)) y) → IsRole net.leaves net.nodes s w r
       → AllByRecursion (IsPlain (in_parts net t p order)) (role_block t p r w n)
   role_sound s (role.Register r) w None h m k = tt
   role_sound s (role.Register r) w (Some name) h m k =
@@ -153,10 +155,10 @@ module _ (net : FlatNet) (t : NameTable) (p : Places) (order : List Read) (is : 
   blocks_sound =
       let part = λ (l : Leaf) (n : Option (List ℕ)). sized_if (is_register l.role) l.width n in
       let F = LeafFact net (sizes net t p order) in
-      let M = λ (l : Leaf) (n : Option (List ℕ)). (y : SizedNet) → In (part l n) y → In (picked_sized is_register t.leaves net.leaves) y in
+      let M = λ (l : Leaf) (n : Option (List ℕ)). (y : SizedNet) → In (part l n) y → In (picked_sized is_register (ordered_names net t) (ordered_leaves net)) y in
       let Q = λ (l : Leaf) (n : Option (List ℕ)). F l n × M l n in
       let facts = leaf_facts net t p order is in
-      let parts = each_part F part (picked_sized is_register t.leaves net.leaves) t.leaves net.leaves facts (λ y m. m) in
+      let parts = each_part F part (picked_sized is_register (ordered_names net t) (ordered_leaves net)) (ordered_names net t) (ordered_leaves net) facts (λ y m. m) in
       all_zipped Q (IsPlain (in_parts net t p order)) (leaf_block t p)
-      (λ l n h. role_sound l.signed l.role l.width n (leaf_is_sized (sizes net t p order) l n h.0.0) h.1 h.0.1.driven) t.leaves net.leaves
-      (each_and F M Q (λ l n h k. (h, k)) t.leaves net.leaves facts parts)
+      (λ l n h. role_sound l.signed l.role l.width n (leaf_is_sized (sizes net t p order) l n h.0.0) h.1 h.0.1.driven) (ordered_names net t) (ordered_leaves net)
+      (each_and F M Q (λ l n h k. (h, k)) (ordered_names net t) (ordered_leaves net) facts parts)

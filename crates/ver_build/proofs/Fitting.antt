@@ -35,6 +35,7 @@ use Rattle.ver_build.specs.working.Places.{held_of, clock_in, source_name, node_
 use Rattle.ver_build.specs.working.Built.{inners, node_inners, inner_assign, leaf_assign, role_assign, leaf_block, role_block, block_on}
 use Rattle.ver_build.proofs.Names.{zipped, all_zipped}
 use Rattle.ver_build.proofs.Premises.{Premises}
+use Rattle.ver_build.proofs.OrderedLeaves.{ordered_names, ordered_leaves}
 use Rattle.ver_build.proofs.Parts.{assigns_of, blocks_of}
 use Rattle.ver_build.proofs.LeafKinds.{is_net}
 use Rattle.ver_build.proofs.Nets.{sizes}
@@ -178,10 +179,10 @@ module _ (net : FlatNet) (t : NameTable) (p : Places) (order : List Read) (is : 
 
   all_fit : AllByRecursion (Fits ns) (assigns_of net t p order)
   all_fit =
-      all_joined (Fits ns) (map inner_assign (inners net p order)) (zipped (leaf_assign p) t.leaves net.leaves)
+      all_joined (Fits ns) (map inner_assign (inners net p order)) (zipped (leaf_assign p) (ordered_names net t) (ordered_leaves net))
       (all_mapped (Fits ns) inner_assign (inners net p order) (all_from (λ i. Fits ns (inner_assign i)) (inners net p order) inner_fits))
       (all_zipped (LeafFact net ns) (Fits ns) (leaf_assign p) (λ l n h. role_fits l.signed l.role l.width n (leaf_is_sized ns l n h.0) h.1.driven)
-      t.leaves net.leaves (leaf_facts net t p order is))
+      (ordered_names net t) (ordered_leaves net) (leaf_facts net t p order is))
 
   pub assigns_sound : AllByRecursion (FitsTarget ns) (assigns_of net t p order)
   assigns_sound = first_of (FitsTarget ns) (AssignAmong (names_of ns)) (assigns_of net t p order) all_fit
@@ -205,5 +206,5 @@ module _ (net : FlatNet) (t : NameTable) (p : Places) (order : List Read) (is : 
   pub blocks_name_nets : AllByRecursion (BlockAmong (names_of ns)) (blocks_of net t p order)
   blocks_name_nets =
       all_zipped (LeafFact net ns) (BlockAmong (names_of ns)) (leaf_block t p)
-      (λ l n h. block_among l.signed l.role l.width n (leaf_is_sized ns l n h.0) h.1.driven) t.leaves net.leaves
+      (λ l n h. block_among l.signed l.role l.width n (leaf_is_sized ns l n h.0) h.1.driven) (ordered_names net t) (ordered_leaves net)
       (leaf_facts net t p order is)

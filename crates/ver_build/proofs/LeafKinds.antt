@@ -1,6 +1,6 @@
 -- Kinds of leaves, by their roles, and what the leaves of a kind give: their names, and these with their widths.
 -- Where the others stand behind ports, what the ports give and then what the others give is what all leaves give in order.
-use Rattle.std.proofs.Common.{◌≡◌, ℕ, List, [], ◌∷◌, ◌++◌, Bool, true, false, refl, ap, ◌∙◌, append_assoc}
+use Rattle.std.proofs.Common.{◌≡◌, ℕ, List, [], ◌∷◌, ◌++◌, Bool, true, false, not, ◌&&◌, nat_eq, refl, ap, ◌∙◌, append_assoc}
 use Rattle.std.specs.Prelude.{Option, Some, None, MatchBool}
 use Rattle.fir_net.specs.declared.reads.Read.{Read}
 use Rattle.fir_net.specs.declared.leaf.Role.{Role}
@@ -23,9 +23,19 @@ abbrev pub is_output : Role → Bool
 is_output (role.Output r) = true
 is_output _ = false
 
-abbrev pub is_register : Role → Bool
-is_register (role.Register r) = true
-is_register _ = false
+abbrev pub is_clock_output : Role → Bool
+is_clock_output (role.ClockOutput c) = true
+is_clock_output _ = false
+
+-- wires have no name of their own
+abbrev pub is_wire : Role → Bool
+is_wire (role.Wire r) = true
+is_wire (role.ClockWire c) = true
+is_wire _ = false
+
+-- a port or a register that has bits
+abbrev pub has_name : Leaf → Bool
+has_name l = not (is_wire l.role) && not (nat_eq l.width 0)
 
 -- a port of bits
 abbrev pub is_signal : Role → Bool

@@ -6,7 +6,7 @@ use Rattle.std.proofs.lemmas.List.{map-append}
 use Rattle.fir_net.specs.declared.leaf.Role.{Role}
 use Rattle.fir_net.specs.declared.leaf.Leaf.{Leaf}
 use Rattle.fir_net.specs.working.Settled.{numbers_by}
-use Rattle.ver_build.specs.working.Places.{name_at}
+use Rattle.fir_net_names.specs.working.LeafNamed.{name_at}
 use Rattle.ver_build.specs.working.Built.{along}
 
 -- the names that a leaf lists have the values of the numbers that it lists

@@ -10,18 +10,20 @@ use Rattle.fir_net.specs.declared.leaf.Role.TheVariants as role
 use Rattle.fir_net.specs.declared.leaf.Leaf.{Leaf}
 use Rattle.fir_net.specs.declared.net.FlatNet.{FlatNet}
 use Rattle.fir_net_names.specs.declared.name_table.NameTable.{NameTable}
-use Rattle.fir_net.specs.working.IsNet.{IsRole}
-use Rattle.fir_net_names.specs.working.LeafNamed.{is_wire}
-use Rattle.fir_net.specs.working.Settled.{is_clock, input_number, clock_number, output_number, register_number, numbers_by, inputs, clocks, outputs, registers}
+use Rattle.fir_net.specs.working.IsNet.{is_port, IsRole}
+use Rattle.fir_net_names.specs.working.LeafNamed.{name_at}
+use Rattle.fir_net.specs.working.Settled.{is_clock, input_number, clock_number, output_number, numbers_by, inputs, clocks, outputs, registers}
 use Rattle.ver_ast.specs.Nets.{SizedNet, names_of, input_nets as v_inputs, output_nets as v_outputs, clocks as v_clocks, regs}
 use Rattle.ver_build.specs.declared.places.Places.{Places}
-use Rattle.ver_build.specs.working.Places.{name_at}
-use Rattle.ver_build.proofs.Names.{along_zipped, each_at}
-use Rattle.ver_build.proofs.Premises.{Premises, LeafNamed, RoleNamed, BitsNamed, role_named, bits_named, leaves_named}
+use Rattle.ver_build.proofs.Premises.{Premises, LeafNamed, RoleNamed, BitsNamed, role_named, bits_named}
+use Rattle.ver_build.proofs.TableLeaves.{leaf_named}
+use Rattle.ver_build.proofs.OrderedLeaves.{ordered_names, ordered_leaves, names_port, port_given}
+use Rattle.ver_build.proofs.WordLists.{word_names_listed}
 use Rattle.ver_build.proofs.Parts.{in_parts}
-use Rattle.ver_build.proofs.LeafKinds.{is_input, is_clock_input, is_output, is_register, name_if, picked, picked_names}
+use Rattle.fir_net.specs.working.Counted.{is_register}
+use Rattle.ver_build.proofs.LeafKinds.{is_wire, is_input, is_clock_input, is_output, name_if, picked, picked_names}
 use Rattle.ver_build.proofs.Nets.{inputs_sized, outputs_sized, clocks_are, registers_sized}
-use Rattle.ver_build.proofs.Shapes.{number_if, input_is, output_is, register_is, input_plain, output_plain, register_plain}
+use Rattle.ver_build.proofs.Shapes.{number_if, input_is, output_is, input_plain, output_plain, input_port, output_port, clock_port}
 use Rattle.ver_build.proofs.ReadsStand.{leaf_at}
 use Rattle.ver_build.proofs.LeafLists.{same_lists}
 
@@ -53,7 +55,7 @@ one_value e f true w k (Some name) bits same =
 
 module _ (net : FlatNet) (t : NameTable) (p : Places) (order : List Read) (is : Premises net t p order) where
   named_at : (k : ℕ) (l : Leaf) → slice_get net.leaves k ≡ Some l → LeafNamed l (name_at t.leaves k)
-  named_at k l at = each_at LeafNamed t.leaves net.leaves (leaves_named net t is.table) k l at
+  named_at = leaf_named net is.whole t is.table
 
   module _ (e : ℕ → ℕ) (f : Env) where
     -- each leaf of the kind that has a name has its value there
@@ -61,10 +63,10 @@ module _ (net : FlatNet) (t : NameTable) (p : Places) (order : List Read) (is : 
     Same q = (k : ℕ) (l : Leaf) (name : List ℕ) → slice_get net.leaves k ≡ Some l → q l.role ≡ true → name_at t.leaves k ≡ Some name → f name ≡ e k
 
     values_same : (q : Role → Bool) (number : Role → ℕ → ℕ → List ℕ) → ((r : Role) (w k : ℕ) → number r w k ≡ number_if (q r) w k)
-        → ((r : Role) → q r ≡ true → is_wire r ≡ false) → Same q
-        → map f (picked q t.leaves net.leaves) ≡ map e (numbers_by number 0 net.leaves)
-    values_same q number by plain same =
-        ap (map f) (sym (along_zipped LeafNamed (λ (l : Leaf) n. name_if (q l.role) n) t.leaves net.leaves (leaves_named net t is.table)))
+        → ((r : Role) → q r ≡ true → is_wire r ≡ false) → ((r : Role) → is_port r ≡ false → q r ≡ false) → Same q
+        → map f (picked q (ordered_names net t) (ordered_leaves net)) ≡ map e (numbers_by number 0 net.leaves)
+    values_same q number by plain port same =
+        ap (map f) (sym (port_given net t is.whole is.table (λ l n. name_if (q l.role) n) (names_port q port)))
         ∙ same_lists e f (λ l n. name_if (q l.role) n) number t.leaves net.leaves one
       where
         one : (k : ℕ) (l : Leaf) → slice_get net.leaves k ≡ Some l → map f (name_if (q l.role) (name_at t.leaves k)) ≡ map e (number l.role l.width k)
@@ -76,19 +78,19 @@ module _ (net : FlatNet) (t : NameTable) (p : Places) (order : List Read) (is : 
 
     pub registers_same : Same is_register → map f (names_of (regs (in_parts net t p order))) ≡ map e (registers net)
     registers_same same =
-        ap (λ (s : List SizedNet). map f (names_of s)) (registers_sized net t p order) ∙ ap (map f) (picked_names is_register t.leaves net.leaves)
-        ∙ values_same is_register register_number register_is register_plain same
+        ap (λ (s : List SizedNet). map f (names_of s)) (registers_sized net t p order) ∙ ap (map f) (picked_names is_register (ordered_names net t) (ordered_leaves net))
+        ∙ word_names_listed net t is.whole is.table f e same
 
   module _ (e : ℕ → ℕ) (clock : ℕ → Option ℕ) (f : Env) (agrees : AgreesLeaves net t e clock f) where
     pub inputs_same : map f (names_of (v_inputs (in_parts net t p order))) ≡ map e (inputs net)
     inputs_same =
-        ap (λ (s : List SizedNet). map f (names_of s)) (inputs_sized net t p order) ∙ ap (map f) (picked_names is_input t.leaves net.leaves)
-        ∙ values_same e f is_input input_number input_is input_plain (λ k l n at q. agrees.value k l n at (plain_input l.role q))
+        ap (λ (s : List SizedNet). map f (names_of s)) (inputs_sized net t p order) ∙ ap (map f) (picked_names is_input (ordered_names net t) (ordered_leaves net))
+        ∙ values_same e f is_input input_number input_is input_plain input_port (λ k l n at q. agrees.value k l n at (plain_input l.role q))
 
     pub outputs_same : map f (names_of (v_outputs (in_parts net t p order))) ≡ map e (outputs net)
     outputs_same =
-        ap (λ (s : List SizedNet). map f (names_of s)) (outputs_sized net t p order) ∙ ap (map f) (picked_names is_output t.leaves net.leaves)
-        ∙ values_same e f is_output output_number output_is output_plain (λ k l n at q. agrees.value k l n at (plain_output l.role q))
+        ap (λ (s : List SizedNet). map f (names_of s)) (outputs_sized net t p order) ∙ ap (map f) (picked_names is_output (ordered_names net t) (ordered_leaves net))
+        ∙ values_same e f is_output output_number output_is output_plain output_port (λ k l n at q. agrees.value k l n at (plain_output l.role q))
 
     pub words_same : map f (names_of (regs (in_parts net t p order))) ≡ map e (registers net)
     words_same = registers_same e f (λ k l n at q. agrees.value k l n at (plain_register l.role q))
@@ -103,7 +105,7 @@ module _ (net : FlatNet) (t : NameTable) (p : Places) (order : List Read) (is : 
     pub clocks_same : map (λ n. Some (f n)) (v_clocks (in_parts net t p order)) ≡ map clock (clocks net)
     clocks_same =
         ap (map (λ n. Some (f n))) (clocks_are net t p order
-        ∙ sym (along_zipped LeafNamed (λ (l : Leaf) n. name_if (is_clock_input l.role) n) t.leaves net.leaves (leaves_named net t is.table)))
+        ∙ sym (port_given net t is.whole is.table (λ l n. name_if (is_clock_input l.role) n) (names_port is_clock_input clock_port)))
         ∙ same_lists clock (λ n. Some (f n)) (λ l n. name_if (is_clock_input l.role) n) clock_number t.leaves net.leaves
         (λ k l at. one_clock l.signed l.role l.width k (name_at t.leaves k) (role_named l (name_at t.leaves k) (named_at k l at))
         (leaf_at net t p order is k l at).driven (λ c name named. agrees.number k l name at c named))

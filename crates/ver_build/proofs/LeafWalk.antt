@@ -18,7 +18,8 @@ use Rattle.fir_net.specs.working.IsOrder.{IsOrder}
 use Rattle.ver_build.specs.declared.places.NodePlace.{NodePlace}
 use Rattle.ver_build.specs.declared.places.Place.{Place}
 use Rattle.ver_build.specs.declared.places.Place.TheVariants as place
-use Rattle.ver_build.specs.working.Places.{held_in, place_at, place_value, place_clock, placed, driven_clock_in, name_at, ArePlaced}
+use Rattle.fir_net_names.specs.working.LeafNamed.{name_at}
+use Rattle.ver_build.specs.working.Places.{held_in, place_at, place_value, place_clock, placed, driven_clock_in, ArePlaced}
 use Rattle.ver_build.specs.working.Held.{no_bits, fit}
 use Rattle.ver_build.specs.working.Walks.{IsLeafPassed}
 use Rattle.ver_build.proofs.Walk.{at_set, at_other, leaf_below, other_leaf}

@@ -1,9 +1,11 @@
 -- What is built along leaves, or along an order, with one more.
-use Rattle.std.proofs.Common.{◌≡◌, ℕ, ◌+◌, ◌<◌, List, [], ◌∷◌, ◌++◌, Option, take, length, get_or, flat_map, map, refl, sym, ap, ◌∙◌, append_assoc, append-nil, arith, length-take}
+use Rattle.std.proofs.Common.{◌≡◌, ℕ, ◌+◌, ◌<◌, List, [], ◌∷◌, ◌++◌, Option, Some, None, take, length, get_or, flat_map, map, refl, sym, ap, ◌∙◌, append_assoc, append-nil, arith, length-take}
+use Rattle.std.specs.Prelude.{slice_get}
 use Rattle.std.proofs.lemmas.List.{take_more, map-append}
 use Rattle.std.proofs.lemmas.List.Concat.{flat_map-append}
-use Rattle.ver_build.specs.working.Places.{name_at}
-use Rattle.ver_build.specs.working.Built.{along}
+use Rattle.fir_net_names.specs.working.LeafNamed.{name_at}
+use Rattle.fir_net.specs.declared.leaf.Leaf.{Leaf}
+use Rattle.ver_build.specs.working.Built.{along, of_leaf, at_number, at_numbers}
 
 along_push : {A B : Type 0} → (f : A → Option (List ℕ) → List B) (names : List (Option (List ℕ))) (k : ℕ) (xs : List A) (x : A)
     → along f names k (xs ++ x ∷ []) ≡ along f names k xs ++ f x (name_at names (k + length xs))
@@ -46,3 +48,16 @@ mapped_along g f names j [] = refl
 mapped_along {A} {B} {C} g f names j (x ∷ xs) =
     map-append g (f x (name_at names j)) (along f names (j + 1) xs)
     ∙ ap (λ (ys : List C). map g (f x (name_at names j)) ++ ys) (mapped_along g f names (j + 1) xs)
+
+mapped_leaf : {B C : Type 0} → (g : B → C) (f : Leaf → Option (List ℕ) → List B) (o : Option Leaf) (n : Option (List ℕ))
+    → map g (of_leaf f o n) ≡ of_leaf (λ l m. map g (f l m)) o n
+mapped_leaf g f None n = refl
+mapped_leaf g f (Some l) n = refl
+
+pub mapped_numbers : {B C : Type 0} → (g : B → C) (f : Leaf → Option (List ℕ) → List B) (names : List (Option (List ℕ))) (leaves : List Leaf) (ks : List ℕ)
+    → map g (at_numbers f names leaves ks) ≡ at_numbers (λ l n. map g (f l n)) names leaves ks
+mapped_numbers g f names leaves [] = refl
+mapped_numbers {B} {C} g f names leaves (k ∷ ks) =
+    map-append g (at_number f names leaves k) (at_numbers f names leaves ks)
+    ∙ ap (λ (ys : List C). ys ++ map g (at_numbers f names leaves ks)) (mapped_leaf g f (slice_get leaves k) (name_at names k))
+    ∙ ap (λ (ys : List C). at_number (λ l n. map g (f l n)) names leaves k ++ ys) (mapped_numbers g f names leaves ks)

@@ -1,10 +1,9 @@
 -- Where the names of leaves are distinct, each is the name of one leaf.
 use Rattle.std.proofs.Common.{◌≡◌, ℕ, zero, suc, ◌+◌, List, [], ◌∷◌, sym, ap, ◌∙◌, inl, inr, subst, arith, Option, Some, None, refl}
 use Rattle.fir_base.specs.Lists.{In, Distinct}
-use Rattle.fir_net_names.specs.working.LeafNamed.{somes}
+use Rattle.fir_net_names.specs.working.LeafNamed.{somes, name_at}
 use Rattle.ver_ast.specs.Nets.{SizedNet, names_of}
 use Rattle.ver_ast.proofs.Widths.{declared_width}
-use Rattle.ver_build.specs.working.Places.{name_at}
 
 -- the names with their numbers, from k on
 numbered : ℕ → List (Option (List ℕ)) → List SizedNet

@@ -18,7 +18,7 @@ use Rattle.ver_ast.specs.declared.tree.Net.{Net}
 use Rattle.ver_ast.specs.declared.tree.Assign.{Assign}
 use Rattle.ver_ast.specs.declared.tree.Always.{Always}
 use Rattle.ver_ast.specs.declared.tree.Item.TheVariants as item
-use Rattle.ver_ast.specs.Nets.{SizedNet, Variable, variable_names, names_of, widths_of, port_nets, regs, wires}
+use Rattle.ver_ast.specs.Nets.{SizedNet, Variable, variable_names, names_of, widths_of, clocks, port_nets, regs, wires}
 use Rattle.ver_ast.specs.Names.{atom_names, rhs_names}
 use Rattle.ver_ast.specs.ItemNames.{rhs_arrays}
 use Rattle.ver_ast.specs.Spells.{HasItemNames, HasNames}
@@ -27,12 +27,14 @@ use Rattle.fir_net.specs.Rows.{array_names, row_names, word_names}
 use Rattle.fir_net.specs.working.Rows.{net_arrays, net_rows, net_words}
 use Rattle.ver_build.specs.declared.places.Places.{Places}
 use Rattle.ver_build.specs.working.Places.{inner_names}
-use Rattle.ver_build.specs.working.Built.{inners}
+use Rattle.ver_build.specs.working.Built.{inners, leaf_port}
 use Rattle.ver_build.specs.Ports.{port_names}
 use Rattle.ver_build.specs.NamedFor.{IsNamedFor, leaf_names}
-use Rattle.ver_build.proofs.Premises.{Premises, leaves_named, leaves_whole, leaves_known}
-use Rattle.ver_build.proofs.Parts.{registers_of, wires_of, assigns_of, blocks_of, in_parts}
-use Rattle.ver_build.proofs.LeafKinds.{is_clock_input, is_net, picked}
+use Rattle.ver_build.proofs.Premises.{Premises}
+use Rattle.ver_build.proofs.TableLeaves.{leaves_whole}
+use Rattle.ver_build.proofs.OrderedLeaves.{ordered_names, ordered_leaves, same_ports, ordered_spelled, ordered_inner}
+use Rattle.ver_build.proofs.Parts.{ports_port, registers_of, wires_of, assigns_of, clock_assigns_of, blocks_of, in_parts}
+use Rattle.ver_build.proofs.LeafKinds.{is_clock_input, is_clock_output, is_net, picked}
 use Rattle.ver_build.proofs.Picked.{picked_named}
 use Rattle.ver_build.proofs.Nets.{inner_name, inner_sized, sizes, clocks_are, registers_sized, wires_sized, no_arrays, nets_by_part, sizes_named, leaf_names_are}
 use Rattle.ver_build.proofs.InnerNames.{are_inner}
@@ -40,7 +42,10 @@ use Rattle.ver_build.proofs.NodeNets.{inners_named}
 use Rattle.ver_build.proofs.Fitting.{AssignAmong, BlockAmong, assigns_name_nets, blocks_name_nets}
 use Rattle.ver_build.proofs.TextOrder.{net_name}
 use Rattle.ver_build.proofs.Blocks.{blocks_sound}
-use Rattle.ver_build.proofs.Rowed.{kinds_along, widths_along, named_along}
+use Rattle.ver_build.proofs.Driven.{clock_targets_are}
+use Rattle.ver_build.proofs.ClockSides.{ShowsClock, side_names, clocks_shown}
+use Rattle.ver_build.proofs.Shapes.{register_widths}
+use Rattle.ver_build.proofs.Rowed.{kind, kinds_along, words_wide, ordered_for_rows}
 
 module _ (net : FlatNet) (t : NameTable) (p : Places) (order : List Read) (is : Premises net t p order) where
   abbrev inside : List (List ℕ)
@@ -52,15 +57,15 @@ module _ (net : FlatNet) (t : NameTable) (p : Places) (order : List Read) (is : 
   abbrev all_names : List (List ℕ)
   all_names = names_of (sizes net t p order)
 
-  leaf_is_name : (x : List ℕ) → In (somes t.leaves) x → IsName x
-  leaf_is_name x m = all_at IsName (somes t.leaves) is.spelled x m
+  leaf_is_name : (x : List ℕ) → In (somes (ordered_names net t)) x → IsName x
+  leaf_is_name x m = all_at IsName (somes (ordered_names net t)) (ordered_spelled net t is.whole is.table is.spelled) x m
 
   net_is_name : (x : List ℕ) → In all_names x → IsName x
   net_is_name x m =
       ⊎_elim
-      (λ (k : In (picked is_net t.leaves net.leaves) x). leaf_is_name x (picked_named is_net t.leaves net.leaves x k))
+      (λ (k : In (picked is_net (ordered_names net t) (ordered_leaves net)) x). leaf_is_name x (picked_named is_net (ordered_names net t) (ordered_leaves net) x k))
       (λ (k : In inside x). all_at IsName inside spelled x k)
-      (in_either (picked is_net t.leaves net.leaves) inside x (subst (λ (ns : List (List ℕ)). In ns x) (sizes_named net t p order) m))
+      (in_either (picked is_net (ordered_names net t) (ordered_leaves net)) inside x (subst (λ (ns : List (List ℕ)). In ns x) (sizes_named net t p order) m))
 
   nets_are_names : AllByRecursion IsName all_names
   nets_are_names = all_from IsName all_names net_is_name
@@ -101,8 +106,28 @@ module _ (net : FlatNet) (t : NameTable) (p : Places) (order : List Read) (is : 
       let clock = subst (λ (ns : List (List ℕ)). In ns b.clock) (clocks_are net t p order) sound.clocked in (
         tt,
         (
-          leaf_is_name b.clock (picked_named is_clock_input t.leaves net.leaves b.clock clock),
+          leaf_is_name b.clock (picked_named is_clock_input (ordered_names net t) (ordered_leaves net) b.clock clock),
           (net_is_name b.target among.target, all_among IsName (atom_names b.source) all_names nets_are_names among.sources),
+        ),
+      )
+
+  clock_is_name : (x : List ℕ) → In (clocks (in_parts net t p order)) x → IsName x
+  clock_is_name x m =
+      leaf_is_name x
+      (picked_named is_clock_input (ordered_names net t) (ordered_leaves net) x (subst (λ (ns : List (List ℕ)). In ns x) (clocks_are net t p order) m))
+
+  clock_assign_names : (a : Assign) → In (clock_assigns_of net t p order) a → HasItemNames (item.Assign a)
+  clock_assign_names a m =
+      let side = all_at (ShowsClock (in_parts net t p order)) (clock_assigns_of net t p order) (clocks_shown net t p order is) a m in
+      let target : In (picked is_clock_output (ordered_names net t) (ordered_leaves net)) a.target =
+      subst (λ (ns : List (List ℕ)). In ns a.target) (clock_targets_are net t p order)
+      (in_map (λ (x : Assign). x.target) (clock_assigns_of net t p order) a m) in
+      let clocks_of = clocks (in_parts net t p order) in (
+        tt,
+        (
+          leaf_is_name a.target (picked_named is_clock_output (ordered_names net t) (ordered_leaves net) a.target target),
+          all_among IsName (rhs_arrays a.rhs ++ rhs_names a.rhs) clocks_of (all_from IsName clocks_of clock_is_name)
+              (side_names (in_parts net t p order) a.rhs side),
         ),
       )
 
@@ -111,21 +136,24 @@ module _ (net : FlatNet) (t : NameTable) (p : Places) (order : List Read) (is : 
       let rs = registers_of net t p order in
       let ws = wires_of net t p order in
       let xs = assigns_of net t p order in
+      let cs = clock_assigns_of net t p order in
       let bs = blocks_of net t p order in
       record {
         of_module = is.circuit;
         of_ports = all_from (λ (q : Port). IsName q.name) (in_parts net t p order).ports port_name;
         of_items =
-            all_joined HasItemNames (map item.Reg rs) (map item.Wire ws ++ (map item.Assign xs ++ map item.Always bs))
+            all_joined HasItemNames (map item.Reg rs) (map item.Wire ws ++ (map item.Assign xs ++ (map item.Assign cs ++ map item.Always bs)))
             (all_mapped HasItemNames item.Reg rs (all_from (λ w. HasItemNames (item.Reg w)) rs (λ w m. ((register_name w m, tt), tt))))
-            (all_joined HasItemNames (map item.Wire ws) (map item.Assign xs ++ map item.Always bs)
+            (all_joined HasItemNames (map item.Wire ws) (map item.Assign xs ++ (map item.Assign cs ++ map item.Always bs))
             (all_mapped HasItemNames item.Wire ws (all_from (λ w. HasItemNames (item.Wire w)) ws (λ w m. ((wire_name w m, tt), tt))))
-            (all_joined HasItemNames (map item.Assign xs) (map item.Always bs)
+            (all_joined HasItemNames (map item.Assign xs) (map item.Assign cs ++ map item.Always bs)
             (all_mapped HasItemNames item.Assign xs (all_from (λ a. HasItemNames (item.Assign a)) xs assign_names))
-            (all_mapped HasItemNames item.Always bs (all_from (λ b. HasItemNames (item.Always b)) bs block_names))));
+            (all_joined HasItemNames (map item.Assign cs) (map item.Always bs)
+            (all_mapped HasItemNames item.Assign cs (all_from (λ a. HasItemNames (item.Assign a)) cs clock_assign_names))
+            (all_mapped HasItemNames item.Always bs (all_from (λ b. HasItemNames (item.Always b)) bs block_names)))));
       }
 
-  all_names_are : leaf_names (in_parts net t p order) ≡ somes t.leaves
+  all_names_are : leaf_names (in_parts net t p order) ≡ somes (ordered_names net t)
   all_names_are =
       ap (λ (ks : List Variable). port_names (in_parts net t p order) ++ names_of (regs (in_parts net t p order)) ++ variable_names ks) (no_arrays net t p order)
       ∙ append-nil (port_names (in_parts net t p order) ++ names_of (regs (in_parts net t p order))) ∙ leaf_names_are net t p order is
@@ -134,19 +162,20 @@ module _ (net : FlatNet) (t : NameTable) (p : Places) (order : List Read) (is : 
   wires_inner =
       rw (all_names_are, wires_sized net t p order, map-map (λ (s : SizedNet). s.0) inner_sized (inners net p order))
       (let nodes = is.places.nodes in rw (inners_named net p nodes.held order)
-      (are_inner (somes t.leaves) 0 nodes.last (inner_names net p.nodes order) nodes.named))
+      (are_inner (somes (ordered_names net t)) 0 nodes.last (inner_names net p.nodes order)
+      (ordered_inner net t is.whole is.table 0 nodes.last (inner_names net p.nodes order) nodes.named)))
 
   pub parts_named : IsNamedFor net.name (net_rows net) (net_words net) (net_arrays net) (in_parts net t p order)
   parts_named = record {
     circuit = is.table.circuit;
-    ports = kinds_along net t.leaves net.leaves (leaves_known net t p order is);
-    state = ap widths_of (registers_sized net t p order) ∙ widths_along net t.leaves net.leaves (leaves_named net t is.table);
+    ports = ap (map kind) (same_ports net t is.whole is.table leaf_port ports_port) ∙ kinds_along net t.leaves net.leaves (leaves_whole net is.whole t is.table);
+    state = ap widths_of (registers_sized net t p order) ∙ register_widths net t is.whole is.table ∙ sym (words_wide net is.whole);
     array_state = ap (map (λ (k : Variable). (k.width, k.depth))) (no_arrays net t p order);
     named_leaves =
         subst (λ (ns : List (List ℕ)). AreNamed [] (row_names (net_rows net) ++ word_names (net_words net) ++ array_names (net_arrays net)) ns)
         (sym all_names_are)
-        (subst (λ (bases : List (List ℕ)). AreNamed [] bases (somes t.leaves)) (sym (append-nil (row_names (net_rows net) ++ word_names (net_words net))))
-        (named_along net t.leaves net.leaves (leaves_whole net t is.whole is.table) is.whole.ports_first is.table.leaves));
+        (subst (λ (bases : List (List ℕ)). AreNamed [] bases (somes (ordered_names net t))) (sym (append-nil (row_names (net_rows net) ++ word_names (net_words net))))
+        (ordered_for_rows net t is.whole is.table));
     named_wires = wires_inner;
     spelled = has_names;
   }

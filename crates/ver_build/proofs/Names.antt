@@ -1,6 +1,6 @@
 -- A list along its names, which stand in a list beside it.
 -- Looking names up by their numbers is going along both lists at once.
-use Rattle.std.proofs.Common.{◌≡◌, ℕ, zero, suc, ◌+◌, List, [], ◌∷◌, ◌++◌, refl, ap, ◌∙◌, subst}
+use Rattle.std.proofs.Common.{◌≡◌, ℕ, zero, suc, ◌+◌, List, [], ◌∷◌, ◌++◌, length, refl, ap, ◌∙◌, subst, arith}
 use Rattle.std.specs.Prelude.{map, flat_map, slice_get, Option, Some}
 use Rattle.std.specs.List.{AllByRecursion}
 use Rattle.std.proofs.Math.Numerals.{add-one}
@@ -9,7 +9,7 @@ use Rattle.std.proofs.lemmas.List.{map-append}
 use Rattle.fir_base.specs.Lists.{In}
 use Rattle.fir_base.proofs.Each.{all_joined}
 use Rattle.fir_base.proofs.Members.{in_left, in_right}
-use Rattle.ver_build.specs.working.Places.{name_at}
+use Rattle.fir_net_names.specs.working.LeafNamed.{name_at}
 use Rattle.ver_build.specs.working.Built.{along}
 
 abbrev pub NameList : Type 0
@@ -120,3 +120,12 @@ each_at P [] (y ∷ xs) h k x e = absurd h
 each_at P (n ∷ names) [] h k x e = absurd h
 each_at P (n ∷ names) (y ∷ xs) h zero x e = let same : y ≡ x = cc in subst (λ z. P z n) same h.0
 each_at P (n ∷ names) (y ∷ xs) h (suc k) x e = each_at P names xs h.1 k x e
+
+-- what holds of each element with the name of its number holds of each with its name, where there are as many names
+pub each_by_number : {A : Type 0} → (P : A → Option (List ℕ) → Type 0) (names : NameList) (xs : List A) → length names ≡ length xs
+    → ((k : ℕ) (x : A) → slice_get xs k ≡ Some x → P x (name_at names k)) → Each P names xs
+each_by_number P [] [] many h = tt
+each_by_number P [] (x ∷ xs) many h = absurd (omega arith)
+each_by_number P (n ∷ names) [] many h = absurd (omega arith)
+each_by_number P (n ∷ names) (x ∷ xs) many h =
+    (h zero x refl, each_by_number P names xs (omega (arith, many)) (λ k y e. h (suc k) y e))

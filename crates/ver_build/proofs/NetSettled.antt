@@ -17,7 +17,7 @@ use Rattle.fir_net_names.specs.declared.name_table.NameTable.{NameTable}
 use Rattle.fir_net.specs.working.Values.{at_width}
 use Rattle.fir_net.specs.working.IsNet.{CanRead, IsRole}
 use Rattle.fir_net.specs.working.IsWritable.{IsWritableRole}
-use Rattle.fir_net_names.specs.working.LeafNamed.{has_name, is_wire}
+use Rattle.fir_net_names.specs.working.LeafNamed.{name_at}
 use Rattle.fir_net.specs.working.Settled.{value_at, is_clock, driver, clock_driver, driven_clock, shown, Settled, clocks, registers, shape as net_shape}
 use Rattle.fir_net.specs.working.Next.{next_word}
 use Rattle.fir_net.proofs.Places.{value_at_place}
@@ -37,12 +37,12 @@ use Rattle.ver_build.specs.declared.places.Places.{Places}
 use Rattle.ver_build.specs.declared.right_sides.Inner.{Inner}
 use Rattle.ver_build.specs.working.Held.{held_number, own_held, fit}
 use Rattle.ver_build.specs.working.Operands.{atom_at}
-use Rattle.ver_build.specs.working.Places.{name_at, place_value, place_clock, placed, held_of, node_at, clock_in, driven_clock_in}
+use Rattle.ver_build.specs.working.Places.{place_value, place_clock, placed, held_of, node_at, clock_in, driven_clock_in}
 use Rattle.ver_build.specs.working.Built.{inners, node_inners, inner_assign}
-use Rattle.ver_build.proofs.Names.{each_at}
-use Rattle.ver_build.proofs.Premises.{Premises, LeafNamed, leaves_named}
+use Rattle.ver_build.proofs.Premises.{Premises}
+use Rattle.ver_build.proofs.TableLeaves.{leaf_named}
 use Rattle.ver_build.proofs.Parts.{blocks_of, in_parts}
-use Rattle.ver_build.proofs.LeafKinds.{is_net}
+use Rattle.ver_build.proofs.LeafKinds.{is_wire, has_name, is_net}
 use Rattle.ver_build.proofs.Nets.{sizes}
 use Rattle.ver_build.proofs.Resting.{only_assigns, fits_target, side_is, registers_hold}
 use Rattle.ver_build.proofs.Fitted.{fit_holds, whole_holds}
@@ -134,7 +134,7 @@ module _ (net : FlatNet) (t : NameTable) (p : Places) (order : List Read) (is : 
       same)
   agreed_value k l (role.Output r) n at same plain named = output_value k l r n at same named
   agreed_value k l (role.Wire r) n at same plain named =
-      let has : has_name l ≡ true = rw named at (each_at LeafNamed t.leaves net.leaves (leaves_named net t is.table) k l at) in
+      let has : has_name l ≡ true = rw named at (leaf_named net is.whole t is.table k l at) in
       let wire : (not (is_wire (role.Wire r)) && not (nat_eq l.width 0)) ≡ true = rw same at has in
       absurd (cc)
   agreed_value k l _ n at same plain named = absurd (cc)

@@ -11,20 +11,21 @@ use Rattle.fir_net.specs.declared.leaf.Leaf.{Leaf}
 use Rattle.fir_net.specs.declared.net.FlatNet.{FlatNet}
 use Rattle.fir_net_names.specs.declared.name_table.NameTable.{NameTable}
 use Rattle.fir_net.specs.working.IsNet.{is_port}
-use Rattle.fir_net.specs.working.IsWritable.{IsWritableRole}
 use Rattle.fir_net_names.specs.working.LeafNamed.{somes, with_some}
 use Rattle.ver_ast.specs.declared.tree.Net.{Net}
 use Rattle.ver_ast.specs.declared.tree.Port.{Port}
-use Rattle.ver_ast.specs.Nets.{SizedNet, plain_block, port_net, input_net, output_net, input_clock, output_clock, output_clocks, item_net, item_assign, input_nets, output_nets, clocks, port_nets, wires, regs, nets, arrays, assigns, blocks, names_of}
+use Rattle.ver_ast.specs.Nets.{SizedNet, plain_block, port_net, input_net, output_net, input_clock, output_clock, output_clocks, item_net, input_nets, output_nets, clocks, port_nets, wires, regs, nets, arrays, blocks, names_of}
 use Rattle.ver_build.specs.declared.places.Places.{Places}
 use Rattle.ver_build.specs.declared.right_sides.Inner.{Inner}
 use Rattle.ver_build.specs.working.Built.{inners, leaf_port, port_of, leaf_reg, role_reg, inner_wire}
 use Rattle.ver_build.specs.Ports.{port_names}
 use Rattle.ver_build.proofs.Names.{NameList, Each, zipped, map_zipped, flat_zipped}
-use Rattle.ver_build.proofs.Premises.{Premises, LeafNamed, RoleNamed, role_named, leaves_named, Known, leaves_known}
-use Rattle.ver_build.proofs.Parts.{registers_of, wires_of, assigns_of, blocks_of, in_parts}
-use Rattle.ver_build.proofs.ItemLists.{net_sized, registers_among, wires_among, nets_among, assigns_among, arrays_among, blocks_among}
-use Rattle.ver_build.proofs.LeafKinds.{is_input, is_clock_input, is_output, is_register, is_signal, is_net, name_if, sized_if, picked, picked_sized, picked_names, no_size, no_name, ports_then_inside}
+use Rattle.ver_build.proofs.Premises.{Premises, LeafNamed, RoleNamed, role_named}
+use Rattle.ver_build.proofs.OrderedLeaves.{ordered_names, ordered_leaves, ordered_first, ordered_named}
+use Rattle.ver_build.proofs.Parts.{registers_of, wires_of, assigns_of, clock_assigns_of, blocks_of, in_parts}
+use Rattle.ver_build.proofs.ItemLists.{net_sized, registers_among, wires_among, nets_among, arrays_among, blocks_among}
+use Rattle.fir_net.specs.working.Counted.{is_register}
+use Rattle.ver_build.proofs.LeafKinds.{is_input, is_clock_input, is_clock_output, is_output, is_signal, is_net, name_if, sized_if, picked, picked_sized, picked_names, no_size, no_name, ports_then_inside}
 
 abbrev pub inner_sized : Inner → SizedNet
 inner_sized i = (i.name, i.width)
@@ -34,14 +35,7 @@ inner_name i = i.name
 
 -- the nets of the tree
 abbrev pub sizes : FlatNet → NameTable → Places → List Read → List SizedNet
-sizes net t p order = picked_sized is_net t.leaves net.leaves ++ map inner_sized (inners net p order)
-
--- a port that the tree has
-abbrev is_drawn : Role → Bool
-is_drawn role.Input = true
-is_drawn role.Clock = true
-is_drawn (role.Output r) = true
-is_drawn _ = false
+sizes net t p order = picked_sized is_net (ordered_names net t) (ordered_leaves net) ++ map inner_sized (inners net p order)
 
 net_names : (ns : List Net) → names_of (map net_sized ns) ≡ map (λ (n : Net). n.name) ns
 net_names [] = refl
@@ -52,57 +46,55 @@ signal_part : (r : Role) (w : ℕ) (name : List ℕ) → flat_map port_net (port
 signal_part role.Input w name = refl
 signal_part role.Clock w name = refl
 signal_part (role.Output r) w name = refl
+signal_part (role.ClockOutput c) w name = refl
 signal_part _ w name = refl
 
 input_part : (r : Role) (w : ℕ) (name : List ℕ) → flat_map (λ p. input_net p.direction p) (port_of r w name) ≡ sized_if (is_input r) w (Some name)
 input_part role.Input w name = refl
 input_part role.Clock w name = refl
 input_part (role.Output r) w name = refl
+input_part (role.ClockOutput c) w name = refl
 input_part _ w name = refl
 
 output_part : (r : Role) (w : ℕ) (name : List ℕ) → flat_map (λ p. output_net p.direction p) (port_of r w name) ≡ sized_if (is_output r) w (Some name)
 output_part role.Input w name = refl
 output_part role.Clock w name = refl
 output_part (role.Output r) w name = refl
+output_part (role.ClockOutput c) w name = refl
 output_part _ w name = refl
 
 clock_part : (r : Role) (w : ℕ) (name : List ℕ) → flat_map (λ p. input_clock p.direction p) (port_of r w name) ≡ name_if (is_clock_input r) (Some name)
 clock_part role.Input w name = refl
 clock_part role.Clock w name = refl
 clock_part (role.Output r) w name = refl
+clock_part (role.ClockOutput c) w name = refl
 clock_part _ w name = refl
 
-name_part : (r : Role) (w : ℕ) (name : List ℕ) → map (λ (p : Port). p.name) (port_of r w name) ≡ name_if (is_drawn r) (Some name)
+name_part : (r : Role) (w : ℕ) (name : List ℕ) → map (λ (p : Port). p.name) (port_of r w name) ≡ name_if (is_port r) (Some name)
 name_part role.Input w name = refl
 name_part role.Clock w name = refl
 name_part (role.Output r) w name = refl
+name_part (role.ClockOutput c) w name = refl
 name_part _ w name = refl
 
 clocked : (l : Leaf) (n : Option (List ℕ)) → flat_map (λ p. input_clock p.direction p) (leaf_port l n) ≡ name_if (is_clock_input l.role) n
 clocked l None = sym (no_name (is_clock_input l.role))
 clocked l (Some name) = clock_part l.role l.width name
 
-output_part_clock : (r : Role) (w : ℕ) (name : List ℕ) → flat_map (λ p. output_clock p.direction p) (port_of r w name) ≡ []
-output_part_clock role.Input w name = refl
-output_part_clock role.Clock w name = refl
-output_part_clock (role.Output r) w name = refl
-output_part_clock _ w name = refl
+clock_output_part : (r : Role) (w : ℕ) (name : List ℕ)
+    → flat_map (λ p. output_clock p.direction p) (port_of r w name) ≡ name_if (is_clock_output r) (Some name)
+clock_output_part role.Input w name = refl
+clock_output_part role.Clock w name = refl
+clock_output_part (role.Output r) w name = refl
+clock_output_part (role.ClockOutput c) w name = refl
+clock_output_part _ w name = refl
 
-no_clock_output : (l : Leaf) (n : Option (List ℕ)) → flat_map (λ p. output_clock p.direction p) (leaf_port l n) ≡ []
-no_clock_output l None = refl
-no_clock_output l (Some name) = output_part_clock l.role l.width name
+clock_outputs : (l : Leaf) (n : Option (List ℕ)) → flat_map (λ p. output_clock p.direction p) (leaf_port l n) ≡ name_if (is_clock_output l.role) n
+clock_outputs l None = sym (no_name (is_clock_output l.role))
+clock_outputs l (Some name) = clock_output_part l.role l.width name
 
-abbrev no_names : Leaf → Option (List ℕ) → List (List ℕ)
-no_names l n = []
-
-none_zipped : (names : NameList) (ls : List Leaf) → zipped no_names names ls ≡ []
-unfolding zipped
-none_zipped [] xs = refl
-none_zipped (n ∷ names) [] = refl
-none_zipped (n ∷ names) (x ∷ xs) = none_zipped names xs
-
-named : (l : Leaf) (n : Option (List ℕ)) → map (λ (p : Port). p.name) (leaf_port l n) ≡ name_if (is_drawn l.role) n
-named l None = sym (no_name (is_drawn l.role))
+named : (l : Leaf) (n : Option (List ℕ)) → map (λ (p : Port). p.name) (leaf_port l n) ≡ name_if (is_port l.role) n
+named l None = sym (no_name (is_port l.role))
 named l (Some name) = name_part l.role l.width name
 
 register_part : (r : Role) (w : ℕ) (n : Option (List ℕ)) → map net_sized (role_reg r w n) ≡ sized_if (is_register r) w n
@@ -136,16 +128,15 @@ inside_bits (role.Wire r) e = (refl, refl)
 inside_bits (role.ClockWire c) e = (refl, refl)
 inside_bits _ e = absurd (cc)
 
-port_name : (r : Role) (n : Option (List ℕ)) → IsWritableRole r → is_port r ≡ true
-    → (name_if (is_drawn r) n ≡ with_some n []) × (name_if (is_register r) n ≡ [])
-port_name role.Input n is e = (refl, refl)
-port_name role.Clock n is e = (refl, refl)
-port_name (role.Output r) n is e = (refl, refl)
-port_name (role.ClockOutput c) n is e = absurd is
-port_name _ n is e = absurd (cc)
+port_name : (r : Role) (n : Option (List ℕ)) → is_port r ≡ true → (name_if (is_port r) n ≡ with_some n []) × (name_if (is_register r) n ≡ [])
+port_name role.Input n e = (refl, refl)
+port_name role.Clock n e = (refl, refl)
+port_name (role.Output r) n e = (refl, refl)
+port_name (role.ClockOutput c) n e = (refl, refl)
+port_name _ n e = absurd (cc)
 
 inside_name : (r : Role) (w : ℕ) (n : Option (List ℕ)) → RoleNamed r w n → is_port r ≡ false
-    → (name_if (is_drawn r) n ≡ []) × (name_if (is_register r) n ≡ with_some n [])
+    → (name_if (is_port r) n ≡ []) × (name_if (is_register r) n ≡ with_some n [])
 inside_name (role.Register r) w n h e = (refl, refl)
 inside_name (role.Wire r) w None h e = (refl, refl)
 inside_name (role.Wire r) w (Some name) h e = absurd (cc)
@@ -156,85 +147,80 @@ inside_name _ w n h e = absurd (cc)
 module _ (net : FlatNet) (t : NameTable) (p : Places) (order : List Read) where
   sized_ports : (q : Role → Bool) (f : Port → List SizedNet)
       → ((r : Role) (w : ℕ) (name : List ℕ) → flat_map f (port_of r w name) ≡ sized_if (q r) w (Some name))
-      → flat_map f (in_parts net t p order).ports ≡ picked_sized q t.leaves net.leaves
-  sized_ports q f e = flat_zipped f leaf_port (λ l n. sized_if (q l.role) l.width n) part t.leaves net.leaves
+      → flat_map f (in_parts net t p order).ports ≡ picked_sized q (ordered_names net t) (ordered_leaves net)
+  sized_ports q f e = flat_zipped f leaf_port (λ l n. sized_if (q l.role) l.width n) part (ordered_names net t) (ordered_leaves net)
     where
       part : (l : Leaf) (n : Option (List ℕ)) → flat_map f (leaf_port l n) ≡ sized_if (q l.role) l.width n
       part l None = sym (no_size (q l.role) l.width)
       part l (Some name) = e l.role l.width name
 
-  pub signals_sized : port_nets (in_parts net t p order) ≡ picked_sized is_signal t.leaves net.leaves
+  pub signals_sized : port_nets (in_parts net t p order) ≡ picked_sized is_signal (ordered_names net t) (ordered_leaves net)
   signals_sized = sized_ports is_signal port_net signal_part
 
-  pub inputs_sized : input_nets (in_parts net t p order) ≡ picked_sized is_input t.leaves net.leaves
+  pub inputs_sized : input_nets (in_parts net t p order) ≡ picked_sized is_input (ordered_names net t) (ordered_leaves net)
   inputs_sized = sized_ports is_input (λ p. input_net p.direction p) input_part
 
-  pub outputs_sized : output_nets (in_parts net t p order) ≡ picked_sized is_output t.leaves net.leaves
+  pub outputs_sized : output_nets (in_parts net t p order) ≡ picked_sized is_output (ordered_names net t) (ordered_leaves net)
   outputs_sized = sized_ports is_output (λ p. output_net p.direction p) output_part
 
-  pub clocks_are : clocks (in_parts net t p order) ≡ picked is_clock_input t.leaves net.leaves
-  clocks_are = flat_zipped (λ (p : Port). input_clock p.direction p) leaf_port (λ l n. name_if (is_clock_input l.role) n) clocked t.leaves net.leaves
+  pub clocks_are : clocks (in_parts net t p order) ≡ picked is_clock_input (ordered_names net t) (ordered_leaves net)
+  clocks_are = flat_zipped (λ (p : Port). input_clock p.direction p) leaf_port (λ l n. name_if (is_clock_input l.role) n) clocked (ordered_names net t) (ordered_leaves net)
 
-  -- no port is a clock output
-  pub no_output_clocks : output_clocks (in_parts net t p order) ≡ []
-  no_output_clocks =
-      flat_zipped (λ (p : Port). output_clock p.direction p) leaf_port no_names no_clock_output t.leaves net.leaves ∙ none_zipped t.leaves net.leaves
+  pub output_clocks_are : output_clocks (in_parts net t p order) ≡ picked is_clock_output (ordered_names net t) (ordered_leaves net)
+  output_clocks_are =
+      flat_zipped (λ (p : Port). output_clock p.direction p) leaf_port (λ l n. name_if (is_clock_output l.role) n) clock_outputs (ordered_names net t)
+      (ordered_leaves net)
 
-  port_names_are : port_names (in_parts net t p order) ≡ picked is_drawn t.leaves net.leaves
-  port_names_are = map_zipped (λ (p : Port). p.name) leaf_port (λ l n. name_if (is_drawn l.role) n) named t.leaves net.leaves
+  pub port_names_are : port_names (in_parts net t p order) ≡ picked is_port (ordered_names net t) (ordered_leaves net)
+  port_names_are = map_zipped (λ (p : Port). p.name) leaf_port (λ l n. name_if (is_port l.role) n) named (ordered_names net t) (ordered_leaves net)
 
-  pub registers_sized : regs (in_parts net t p order) ≡ picked_sized is_register t.leaves net.leaves
+  pub registers_sized : regs (in_parts net t p order) ≡ picked_sized is_register (ordered_names net t) (ordered_leaves net)
   registers_sized =
-      registers_among (registers_of net t p order) (wires_of net t p order) (assigns_of net t p order) (blocks_of net t p order)
-      ∙ map_zipped net_sized leaf_reg (λ l n. sized_if (is_register l.role) l.width n) (λ l n. register_part l.role l.width n) t.leaves net.leaves
+      registers_among (registers_of net t p order) (wires_of net t p order) (assigns_of net t p order) (clock_assigns_of net t p order) (blocks_of net t p order)
+      ∙ map_zipped net_sized leaf_reg (λ l n. sized_if (is_register l.role) l.width n) (λ l n. register_part l.role l.width n) (ordered_names net t) (ordered_leaves net)
 
   pub wires_sized : wires (in_parts net t p order) ≡ map inner_sized (inners net p order)
   wires_sized =
-      wires_among (registers_of net t p order) (wires_of net t p order) (assigns_of net t p order) (blocks_of net t p order)
+      wires_among (registers_of net t p order) (wires_of net t p order) (assigns_of net t p order) (clock_assigns_of net t p order) (blocks_of net t p order)
       ∙ map-map net_sized inner_wire (inners net p order)
 
-  pub assigns_are : assigns (in_parts net t p order) ≡ assigns_of net t p order
-  assigns_are =
-      ap (λ (outs : List (List ℕ)). flat_map (item_assign outs) (in_parts net t p order).items) no_output_clocks
-      ∙ assigns_among (registers_of net t p order) (wires_of net t p order) (assigns_of net t p order) (blocks_of net t p order)
-
   pub no_arrays : arrays (in_parts net t p order) ≡ []
-  no_arrays = arrays_among (registers_of net t p order) (wires_of net t p order) (assigns_of net t p order) (blocks_of net t p order)
+  no_arrays = arrays_among (registers_of net t p order) (wires_of net t p order) (assigns_of net t p order) (clock_assigns_of net t p order) (blocks_of net t p order)
 
   pub blocks_are : blocks (in_parts net t p order) ≡ map plain_block (blocks_of net t p order)
-  blocks_are = blocks_among (registers_of net t p order) (wires_of net t p order) (assigns_of net t p order) (blocks_of net t p order)
+  blocks_are = blocks_among (registers_of net t p order) (wires_of net t p order) (assigns_of net t p order) (clock_assigns_of net t p order) (blocks_of net t p order)
 
   -- the names of the nets
-  pub sizes_named : names_of (sizes net t p order) ≡ picked is_net t.leaves net.leaves ++ map inner_name (inners net p order)
+  pub sizes_named : names_of (sizes net t p order) ≡ picked is_net (ordered_names net t) (ordered_leaves net) ++ map inner_name (inners net p order)
   sizes_named =
-      map-append (λ (s : SizedNet). s.0) (picked_sized is_net t.leaves net.leaves) (map inner_sized (inners net p order))
-      ∙ rw (picked_names is_net t.leaves net.leaves, map-map (λ (s : SizedNet). s.0) inner_sized (inners net p order)) refl
+      map-append (λ (s : SizedNet). s.0) (picked_sized is_net (ordered_names net t) (ordered_leaves net)) (map inner_sized (inners net p order))
+      ∙ rw (picked_names is_net (ordered_names net t) (ordered_leaves net), map-map (λ (s : SizedNet). s.0) inner_sized (inners net p order)) refl
 
   module _ (is : Premises net t p order) where
-    nets_together : picked_sized is_signal t.leaves net.leaves ++ picked_sized is_register t.leaves net.leaves ≡ picked_sized is_net t.leaves net.leaves
+    nets_together : picked_sized is_signal (ordered_names net t) (ordered_leaves net) ++ picked_sized is_register (ordered_names net t) (ordered_leaves net) ≡ picked_sized is_net (ordered_names net t) (ordered_leaves net)
     nets_together =
         ports_then_inside LeafNamed (λ l n. sized_if (is_signal l.role) l.width n) (λ l n. sized_if (is_register l.role) l.width n)
         (λ l n. sized_if (is_net l.role) l.width n)
         (λ l n h e. let k = port_bits l.role e in (ap (λ b. sized_if b l.width n) k.0, ap (λ b. sized_if b l.width n) k.1))
         (λ l n h e. let k = inside_bits l.role e in (ap (λ b. sized_if b l.width n) k.0, ap (λ b. sized_if b l.width n) k.1))
-        t.leaves net.leaves (leaves_named net t is.table) is.whole.ports_first
+        (ordered_names net t) (ordered_leaves net) (ordered_named net t is.whole is.table) (ordered_first net t is.whole is.table)
 
-    names_together : picked is_drawn t.leaves net.leaves ++ picked is_register t.leaves net.leaves ≡ somes t.leaves
+    names_together : picked is_port (ordered_names net t) (ordered_leaves net) ++ picked is_register (ordered_names net t) (ordered_leaves net) ≡ somes (ordered_names net t)
     names_together =
-        ports_then_inside (Known net) (λ l n. name_if (is_drawn l.role) n) (λ l n. name_if (is_register l.role) n) (λ l n. with_some n [])
-        (λ l n h e. port_name l.role n h.2 e) (λ l n h e. inside_name l.role l.width n (role_named l n h.0) e)
-        t.leaves net.leaves (leaves_known net t p order is) is.whole.ports_first
-        ∙ names_along LeafNamed t.leaves net.leaves (leaves_named net t is.table)
+        ports_then_inside LeafNamed (λ l n. name_if (is_port l.role) n) (λ l n. name_if (is_register l.role) n) (λ l n. with_some n [])
+        (λ l n h e. port_name l.role n e) (λ l n h e. inside_name l.role l.width n (role_named l n h) e)
+        (ordered_names net t) (ordered_leaves net) (ordered_named net t is.whole is.table) (ordered_first net t is.whole is.table)
+        ∙ names_along LeafNamed (ordered_names net t) (ordered_leaves net) (ordered_named net t is.whole is.table)
 
     pub nets_sized : nets (in_parts net t p order) ≡ sizes net t p order
     nets_sized =
-        let rs = registers_among (registers_of net t p order) (wires_of net t p order) (assigns_of net t p order) (blocks_of net t p order) in
-        let ws = wires_among (registers_of net t p order) (wires_of net t p order) (assigns_of net t p order) (blocks_of net t p order) in
+        let rs = registers_among (registers_of net t p order) (wires_of net t p order) (assigns_of net t p order) (clock_assigns_of net t p order) (blocks_of net t p order) in
+        let ws = wires_among (registers_of net t p order) (wires_of net t p order) (assigns_of net t p order) (clock_assigns_of net t p order) (blocks_of net t p order) in
         let inside : flat_map item_net (in_parts net t p order).items ≡ regs (in_parts net t p order) ++ wires (in_parts net t p order) =
-        nets_among (registers_of net t p order) (wires_of net t p order) (assigns_of net t p order) (blocks_of net t p order) ∙ rw (rs, ws) refl in
+        nets_among (registers_of net t p order) (wires_of net t p order) (assigns_of net t p order) (clock_assigns_of net t p order) (blocks_of net t p order) ∙ rw (rs, ws) refl in
         ap (λ ns. port_nets (in_parts net t p order) ++ ns) inside
         ∙ rw (signals_sized, registers_sized, wires_sized)
-        (sym (append_assoc (picked_sized is_signal t.leaves net.leaves) (picked_sized is_register t.leaves net.leaves)
+        (sym (append_assoc (picked_sized is_signal (ordered_names net t) (ordered_leaves net)) (picked_sized is_register (ordered_names net t) (ordered_leaves net))
         (map inner_sized (inners net p order)))
         ∙ ap (λ ns. ns ++ map inner_sized (inners net p order)) nets_together)
 
@@ -247,10 +233,10 @@ module _ (net : FlatNet) (t : NameTable) (p : Places) (order : List Read) where
         let ws = map net_sized (wires_of net t p order) in
         ap names_of (sym nets_sized)
         ∙ ap (λ ns. names_of (port_nets (in_parts net t p order) ++ ns))
-        (nets_among (registers_of net t p order) (wires_of net t p order) (assigns_of net t p order) (blocks_of net t p order))
+        (nets_among (registers_of net t p order) (wires_of net t p order) (assigns_of net t p order) (clock_assigns_of net t p order) (blocks_of net t p order))
         ∙ map-append name (port_nets (in_parts net t p order)) (rs ++ ws)
         ∙ ap (λ ns. names_of (port_nets (in_parts net t p order)) ++ ns)
         (map-append name rs ws ∙ rw (net_names (registers_of net t p order), net_names (wires_of net t p order)) refl)
 
-    pub leaf_names_are : port_names (in_parts net t p order) ++ names_of (regs (in_parts net t p order)) ≡ somes t.leaves
-    leaf_names_are = rw (port_names_are, registers_sized, picked_names is_register t.leaves net.leaves) names_together
+    pub leaf_names_are : port_names (in_parts net t p order) ++ names_of (regs (in_parts net t p order)) ≡ somes (ordered_names net t)
+    leaf_names_are = rw (port_names_are, registers_sized, picked_names is_register (ordered_names net t) (ordered_leaves net)) names_together

@@ -25,12 +25,15 @@ use Rattle.ver_ast.specs.AtomValues.{atom_value}
 use Rattle.ver_build.proofs.Written.{written}
 use Rattle.ver_build.specs.declared.places.Places.{Places}
 use Rattle.ver_build.specs.working.Operands.{atom_at}
-use Rattle.ver_build.specs.working.Places.{name_at, held_of, clock_in}
+use Rattle.fir_net_names.specs.working.LeafNamed.{name_at}
+use Rattle.ver_build.specs.working.Places.{held_of, clock_in}
 use Rattle.ver_build.specs.working.Built.{along, block_on, role_block, leaf_block}
-use Rattle.ver_build.proofs.Names.{along_zipped, each_at}
-use Rattle.ver_build.proofs.Premises.{Premises, LeafNamed, leaves_named}
+use Rattle.ver_build.proofs.Names.{along_zipped}
+use Rattle.ver_build.proofs.Premises.{Premises, LeafNamed}
+use Rattle.ver_build.proofs.TableLeaves.{leaf_named}
+use Rattle.ver_build.proofs.OrderedLeaves.{ordered_names, ordered_leaves, ordered_named, ordered_place, ordered_once}
 use Rattle.ver_build.proofs.Parts.{blocks_of, in_parts}
-use Rattle.ver_build.proofs.LeafKinds.{is_register}
+use Rattle.fir_net.specs.working.Counted.{is_register}
 use Rattle.ver_build.proofs.Nets.{sizes}
 use Rattle.ver_build.proofs.Sizes.{named_bits}
 use Rattle.ver_build.proofs.NamePlaces.{same_place}
@@ -87,28 +90,31 @@ module _ (net : FlatNet) (t : NameTable) (p : Places) (order : List Read) (is : 
   role_next s (role.Register r) w n now kind driven plain one narrow same = register_next s r w n now driven plain one narrow same
   role_next s _ w n now kind driven plain one narrow same = absurd (cc)
 
-  only : (k : ℕ) (n : List ℕ) → name_at t.leaves k ≡ Some n → OnlyGives ns f named n (leaf_block t p) t.leaves net.leaves k
+  only : (k : ℕ) (n : List ℕ) → name_at (ordered_names net t) k ≡ Some n
+      → OnlyGives ns f named n (leaf_block t p) (ordered_names net t) (ordered_leaves net) k
   only k n name = record {
     others = λ i l at other. record {
       each = λ b m target.
-          let theirs : name_at t.leaves i ≡ Some n = block_target t p l.role l.width (name_at t.leaves i) b m ∙ ap Some target in
-          other (same_place t.leaves is.once i k n theirs name);
+          let theirs : name_at (ordered_names net t) i ≡ Some n = block_target t p l.role l.width (name_at (ordered_names net t) i) b m ∙ ap Some target in
+          other (same_place (ordered_names net t) (ordered_once net t is.whole is.table) i k n theirs name);
     };
   }
 
-  blocks_along : blocks_of net t p order ≡ along (leaf_block t p) t.leaves 0 net.leaves
-  blocks_along = sym (along_zipped LeafNamed (leaf_block t p) t.leaves net.leaves (leaves_named net t is.table))
+  blocks_along : blocks_of net t p order ≡ along (leaf_block t p) (ordered_names net t) 0 (ordered_leaves net)
+  blocks_along = sym (along_zipped LeafNamed (leaf_block t p) (ordered_names net t) (ordered_leaves net) (ordered_named net t is.whole is.table))
 
   -- each register that has a name has its next value there
   next_value : (k : ℕ) (l : Leaf) (n : List ℕ) → slice_get net.leaves k ≡ Some l → is_register l.role ≡ true → name_at t.leaves k ≡ Some n
       → written ns f named (blocks_of net t p order) n ≡ next_word net e clock named k
   next_value k l n at kind name =
       let leaf = leaf_at net t p order is k l at in
-      let here = written_by ns f named n (leaf_block t p) t.leaves net.leaves k l at (only k n name) in
+      let there = ordered_place net t is.whole is.table k l n at name in
+      let here =
+      written_by ns f named n (leaf_block t p) (ordered_names net t) (ordered_leaves net) there.place l there.leaf (only there.place n there.named) in
       rw at (rw blocks_along here
-      ∙ ap (λ (o : Option (List ℕ)). written ns f named (leaf_block t p l o) n) name
+      ∙ ap (λ (o : Option (List ℕ)). written ns f named (leaf_block t p l o) n) there.named
       ∙ role_next l.signed l.role l.width n (e k) kind leaf.driven (is.writable.leaves k l at)
-      (named_bits l (rw name at (each_at LeafNamed t.leaves net.leaves (leaves_named net t is.table) k l at))) leaf.narrow
+      (named_bits l (rw name at (leaf_named net is.whole t is.table k l at))) leaf.narrow
       (agrees.value k l n at (plain_register l.role kind) name))
 
   pub states_same : map (λ (r : SizedNet). written ns f named (blocks_of net t p order) r.0) (regs (in_parts net t p order)) ≡ map

@@ -149,7 +149,7 @@ module _ (net : FlatNet) (t : NameTable) (p : Places) (order : List Read) (is : 
     node_rests : RestInners ns f xs
     node_rests =
         all_from (λ (i : Inner). f i.name ≡ unwrap_or (side_value ns f i.width i.rhs) 0) xs
-        (λ i m. equation (inner_assign i) i.width (inner_assign_in net t p order i (inners_among net t p order is k n h at i m)) (among i m))
+        (λ i m. equation (inner_assign i) i.width (inner_assign_in net t p order is i (inners_among net t p order is k n h at i m)) (among i m))
 
     pub node_means : AllByRecursion There (support_of n) → HaveValues ns f xs × (f h.name ≡ (node_value net.leaves e (values net e) n).value.number)
     node_means there =

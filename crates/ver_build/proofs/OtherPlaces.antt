@@ -26,6 +26,7 @@ arranged_too v places h = record {
   by_kind = h.by_kind;
   assigns_in_order = h.assigns_in_order;
   after_what_is_read = h.after_what_is_read;
+  clock_assigns_in_order = h.clock_assigns_in_order;
   driven = h.driven;
   blocks_in_order = h.blocks_in_order;
 }

@@ -6,8 +6,7 @@ use Rattle.fir_base.specs.Lists.{In, Distinct}
 use Rattle.fir_base.proofs.Members.{in_either}
 use Rattle.fir_net.specs.declared.leaf.Role.{Role}
 use Rattle.fir_net.specs.declared.leaf.Leaf.{Leaf}
-use Rattle.fir_net_names.specs.working.LeafNamed.{somes, with_some}
-use Rattle.ver_build.specs.working.Places.{name_at}
+use Rattle.fir_net_names.specs.working.LeafNamed.{somes, with_some, name_at}
 use Rattle.ver_build.proofs.Names.{NameList, Each, zipped, each_part, each_at}
 use Rattle.ver_build.proofs.LeafKinds.{name_if, picked}
 

@@ -17,7 +17,7 @@ use Rattle.fir_net.specs.declared.net.FlatNet.{FlatNet}
 use Rattle.fir_net_names.specs.declared.name_table.NameTable.{NameTable}
 use Rattle.fir_net.specs.declared.node.Node.{Node}
 use Rattle.fir_net.specs.working.Dependence.{Reads, IsOf, support_of}
-use Rattle.fir_net.specs.working.IsNet.{IsRole, IsLeaf}
+use Rattle.fir_net.specs.working.IsNet.{IsRole}
 use Rattle.ver_ast.specs.declared.tree.Assign.{Assign}
 use Rattle.ver_ast.specs.Names.{atom_names}
 use Rattle.ver_ast.specs.Processes.{assigning}
@@ -27,13 +27,15 @@ use Rattle.ver_build.specs.declared.places.Places.{Places}
 use Rattle.ver_build.specs.working.Held.{own_held}
 use Rattle.ver_build.specs.working.Operands.{atom_at}
 use Rattle.ver_build.specs.declared.right_sides.Inner.{Inner}
-use Rattle.ver_build.specs.working.Places.{name_at, held_of, node_at, place_value, placed, source_name}
+use Rattle.fir_net_names.specs.working.LeafNamed.{name_at}
+use Rattle.ver_build.specs.working.Places.{held_of, node_at, place_value, placed, source_name}
 use Rattle.ver_build.specs.working.Built.{inner_assign, node_inners, read_inners, leaf_assign, role_assign}
-use Rattle.ver_build.proofs.Names.{NameList, zipped}
-use Rattle.ver_build.proofs.Premises.{Premises, LeafNamed, leaves_named, all_by_number}
+use Rattle.ver_build.proofs.Names.{NameList, Each, zipped}
+use Rattle.ver_build.proofs.Premises.{Premises, Whole, all_by_number}
+use Rattle.ver_build.proofs.OrderedLeaves.{ordered_names, ordered_leaves, ordered_whole, ordered_picked}
 use Rattle.ver_build.proofs.Parts.{assigns_of}
-use Rattle.ver_build.proofs.LeafKinds.{is_input, is_register, picked}
-use Rattle.ver_build.proofs.Picked.{picked_at}
+use Rattle.fir_net.specs.working.Counted.{is_register}
+use Rattle.ver_build.proofs.LeafKinds.{is_input, picked}
 use Rattle.ver_build.proofs.Standing.{IsKnown, ReadsInTurn}
 use Rattle.ver_build.proofs.OperandNames.{fit_known, atom_known}
 use Rattle.ver_build.proofs.NodeNets.{IsLiteral, IsEmpty, IsNetted, node_view, given_inners, no_inners, empty_inners, netted_inners}
@@ -50,7 +52,7 @@ more_held known more h f m = each_more (source_name h.source) known more f m
 module _ (net : FlatNet) (t : NameTable) (p : Places) (order : List Read) (is : Premises net t p order) where
   -- the names from which all values begin
   abbrev pub sources : List (List ℕ)
-  sources = picked is_input t.leaves net.leaves ++ picked is_register t.leaves net.leaves
+  sources = picked is_input (ordered_names net t) (ordered_leaves net) ++ picked is_register (ordered_names net t) (ordered_leaves net)
 
   -- the sources, and the nets of what has been passed
   record Knows (known : List (List ℕ)) (before : List Read) : Type 0 where
@@ -65,13 +67,13 @@ module _ (net : FlatNet) (t : NameTable) (p : Places) (order : List Read) (is : 
   source_in : (k : ℕ) (l : Leaf) (name : List ℕ) → slice_get net.leaves k ≡ Some l → (is_input l.role ≡ true) ⊎ (is_register l.role ≡ true)
       → name_at t.leaves k ≡ Some name → In sources name
   source_in k l name at kind named =
-      let ins = picked is_input t.leaves net.leaves in
-      let regs = picked is_register t.leaves net.leaves in
+      let ins = picked is_input (ordered_names net t) (ordered_leaves net) in
+      let regs = picked is_register (ordered_names net t) (ordered_leaves net) in
       ⊎_elim
       (λ (i : is_input l.role ≡ true). in_left ins regs name
-      (picked_at LeafNamed is_input t.leaves net.leaves (leaves_named net t is.table) k l name at i named))
+      (ordered_picked net t is.whole is.table is_input k l name at i named))
       (λ (r : is_register l.role ≡ true). in_right ins regs name
-      (picked_at LeafNamed is_register t.leaves net.leaves (leaves_named net t is.table) k l name at r named))
+      (ordered_picked net t is.whole is.table is_register k l name at r named))
       kind
 
   leaf_known : (known : List (List ℕ)) (k : ℕ) (l : Leaf) (r : Role) → slice_get net.leaves k ≡ Some l → l.role ≡ r
@@ -203,15 +205,15 @@ module _ (net : FlatNet) (t : NameTable) (p : Places) (order : List Read) (is : 
   )
   role_after s _ w m more known can k go = go known k
 
-  leaves_after : (names : NameList) (ls : List Leaf) (known : List (List ℕ)) → AllByRecursion (IsLeaf net.leaves net.nodes) ls → Knows known order
+  leaves_after : (names : NameList) (ls : List Leaf) (known : List (List ℕ)) → Each (Whole net) names ls → Knows known order
       → AssignsBefore known (zipped (leaf_assign p) names ls)
   unfolding zipped
   leaves_after [] ls known are k = tt
   leaves_after (m ∷ names) [] known are k = tt
   leaves_after (m ∷ names) (l ∷ ls) known are k =
-      role_after l.signed l.role l.width m (zipped (leaf_assign p) names ls) known are.0.driven k (λ after h. leaves_after names ls after are.1 h)
+      role_after l.signed l.role l.width m (zipped (leaf_assign p) names ls) known are.0.1.driven k (λ after h. leaves_after names ls after are.1 h)
 
   pub assigns_ordered : AssignsBefore sources (assigns_of net t p order)
   assigns_ordered =
-      along (zipped (leaf_assign p) t.leaves net.leaves) (λ known k. leaves_after t.leaves net.leaves known is.whole.leaves k) [] order sources refl
+      along (zipped (leaf_assign p) (ordered_names net t) (ordered_leaves net)) (λ known k. leaves_after (ordered_names net t) (ordered_leaves net) known (ordered_whole net t is.whole is.table) k) [] order sources refl
       (record { start = λ x m. m; passed = λ j r e. absurd (cc) })

@@ -1,4 +1,4 @@
--- A tree without arrays and clock outputs, each of whose blocks writes a register on a clock.
+-- A tree without arrays, each of whose blocks writes a register on a clock.
 -- Its processes are its assigns, and its state is a word for each register.
 use Rattle.std.proofs.Common.{◌≡◌, ℕ, List, [], ◌∷◌, ◌++◌, Bool, true, false, cond, ◌&&◌, if◌then◌else◌, refl, sym, ap, ap₂, ◌∙◌, inl, inr, subst, map, append-nil}
 use Rattle.std.specs.Prelude.{flat_map, filter, not, slice_index, slice_set, Option, Some, None}
@@ -12,12 +12,10 @@ use Rattle.fir_base.specs.Ticks.{Env, Tick, FitEach, rises}
 use Rattle.fir_base.proofs.Members.{in_map, map_same}
 use Rattle.fir_base.proofs.SameNames.{name_is, name_same}
 use Rattle.ver_ast.specs.declared.tree.Verilog.{Verilog}
-use Rattle.ver_ast.specs.declared.tree.Item.{Item}
-use Rattle.ver_ast.specs.declared.tree.Item.TheVariants as item
 use Rattle.ver_ast.specs.declared.tree.Always.{Always}
 use Rattle.ver_ast.specs.declared.tree.Resetting.{Resetting}
 use Rattle.ver_ast.specs.AtomValues.{atom_value}
-use Rattle.ver_ast.specs.Nets.{SizedNet, Variable, AlwaysBlock, plain_block, reg_variable, variables, variable_widths, arrays, output_clocks, item_clock_assign, clock_assigns, block_reset, blocks, resets, plain_regs, regs, nets, assigns, names_of, widths_of}
+use Rattle.ver_ast.specs.Nets.{SizedNet, Variable, AlwaysBlock, plain_block, reg_variable, variables, variable_widths, arrays, block_reset, blocks, resets, plain_regs, regs, nets, assigns, names_of, widths_of}
 use Rattle.ver_ast.specs.Stores.{Store, store_of, state_of, stored}
 use Rattle.ver_ast.specs.Processes.{assigning, showing, processes}
 use Rattle.ver_ast.specs.Next.{Put, acts, puts, put_one, put_all, is_within, v_next}
@@ -34,11 +32,6 @@ all_plain (r ∷ rs) = ap (λ xs. r ∷ xs) (all_plain rs)
 one_word_each : (rs : List SizedNet) → variable_widths (map reg_variable rs) ≡ widths_of rs
 one_word_each [] = refl
 one_word_each (r ∷ rs) = ap (λ ws. r.1 ∷ ws) (one_word_each rs)
-
-pub no_clock_assign : (is : List Item) → flat_map (item_clock_assign []) is ≡ []
-no_clock_assign [] = refl
-no_clock_assign (item.Assign a ∷ is) = no_clock_assign is
-no_clock_assign (i ∷ is) = no_clock_assign is
 
 -- a register has its word of the state
 one_word : (rs : List SizedNet) (state : List ℕ) → Distinct (names_of rs) → FitEach (widths_of rs) state → (r : SizedNet) → In rs r
@@ -143,7 +136,7 @@ module _ (ns : List SizedNet) (f : Env) (named : List ℕ) where
       by false rest = rest
       by true rest = let here = (h b (inl refl)).1 in rw here rest
 
-module _ (v : Verilog) (no_clocks : output_clocks v ≡ []) (no_arrays : arrays v ≡ []) (bs : List Always) (plain : blocks v ≡ map plain_block bs) where
+module _ (v : Verilog) (no_arrays : arrays v ≡ []) (bs : List Always) (plain : blocks v ≡ map plain_block bs) where
   resets_none : resets v ≡ []
   resets_none = ap (flat_map block_reset) plain ∙ none_reset bs
 
@@ -157,9 +150,6 @@ module _ (v : Verilog) (no_clocks : output_clocks v ≡ []) (no_arrays : arrays 
 
   pub variables_are : variables v ≡ map reg_variable (regs v)
   variables_are = ap (λ (xs : List Variable). map reg_variable (regs v) ++ xs) no_arrays ∙ append-nil (map reg_variable (regs v))
-
-  pub clock_assigns_none : clock_assigns v ≡ []
-  clock_assigns_none = ap (λ (names : List (List ℕ)). flat_map (item_clock_assign names) v.items) no_clocks ∙ no_clock_assign v.items
 
   pub words_wide : variable_widths (variables v) ≡ widths_of (regs v)
   words_wide = ap variable_widths variables_are ∙ one_word_each (regs v)

@@ -1,6 +1,6 @@
 -- What a tree is built from: a whole net that can be written, an order of it, a table of its names, and where its values are.
 -- A leaf has a name where it is a port or a register that has bits.
-use Rattle.std.proofs.Common.{◌≡◌, ℕ, ◌≤◌, List, [], ◌∷◌, true, false, not, ◌&&◌, nat_eq, Option, Some, None, arith}
+use Rattle.std.proofs.Common.{◌≡◌, ℕ, ◌≤◌, List, true, false, not, ◌&&◌, nat_eq, Option, Some, None, arith}
 use Rattle.std.proofs.lemmas.Bool.{eqb-true, eqb-false, cond_both}
 use Rattle.std.specs.Prelude.{slice_get}
 use Rattle.std.specs.List.{AllByRecursion}
@@ -17,12 +17,12 @@ use Rattle.fir_net.specs.working.IsOrder.{IsOrder}
 use Rattle.fir_net.specs.working.IsWritable.{IsWritable, IsWritableRole}
 use Rattle.fir_net_names.specs.working.IsTable.{IsTable}
 use Rattle.fir_net.specs.working.Laws.{NodesHaveTheirValues, NodesHaveTheirTypes, OrderedHasOne}
-use Rattle.fir_net_names.specs.working.LeafNamed.{AreLeafNames, has_name, is_wire, somes}
+use Rattle.fir_net_names.specs.working.LeafNamed.{somes}
 use Rattle.ver_words.specs.Names.{IsName}
 use Rattle.ver_ast.specs.working.Laws.{ValidHasOneRest}
 use Rattle.ver_build.specs.declared.places.Places.{Places}
 use Rattle.ver_build.specs.working.Places.{IsPlaces}
-use Rattle.ver_build.proofs.Names.{NameList, Each, each_with}
+use Rattle.ver_build.proofs.LeafKinds.{has_name, is_wire}
 
 -- the laws of nets and trees that are used
 pub record AreLaws : Type 0 where
@@ -72,16 +72,6 @@ pub bits_named : (r : Role) (w : ℕ) (n : Option (List ℕ)) → is_wire r ≡ 
 bits_named r w None plain h = let bits : not (nat_eq w 0) ≡ false = rw plain at h in no_bits w bits
 bits_named r w (Some name) plain h = let bits : not (nat_eq w 0) ≡ true = rw plain at h in some_bits w bits
 
-leaves_along : (taken : List (List ℕ)) (ls : List Leaf) (names : NameList) → AreLeafNames taken ls names → Each LeafNamed names ls
-leaves_along taken [] [] h = tt
-leaves_along taken [] (n ∷ names) h = h
-leaves_along taken (l ∷ ls) [] h = h
-leaves_along taken (l ∷ ls) (None ∷ names) h = (h.0, leaves_along taken ls names h.1)
-leaves_along taken (l ∷ ls) (Some n ∷ names) h = (h.0.0, leaves_along (n ∷ taken) ls names h.1)
-
-pub leaves_named : (net : FlatNet) (t : NameTable) → IsTable net t → Each LeafNamed t.leaves net.leaves
-leaves_named net t table = leaves_along [] net.leaves t.leaves table.leaves
-
 -- each leaf with what is known of it in a whole net, and in one that can be written
 abbrev pub Whole : FlatNet → Leaf → Option (List ℕ) → Type 0
 Whole net l n = LeafNamed l n × IsLeaf net.leaves net.nodes l
@@ -89,16 +79,5 @@ Whole net l n = LeafNamed l n × IsLeaf net.leaves net.nodes l
 abbrev pub Known : FlatNet → Leaf → Option (List ℕ) → Type 0
 Known net l n = LeafNamed l n × IsLeaf net.leaves net.nodes l × IsWritableRole l.role
 
-pub leaves_whole : (net : FlatNet) (t : NameTable) → IsNet net → IsTable net t → Each (Whole net) t.leaves net.leaves
-leaves_whole net t whole table =
-    each_with LeafNamed (Whole net) (IsLeaf net.leaves net.nodes) (λ l n h k. (h, k)) t.leaves net.leaves (leaves_named net t table) whole.leaves
-
 pub all_by_number : {A : Type 0} → (P : A → Type 0) (xs : List A) → ((k : ℕ) (x : A) → slice_get xs k ≡ Some x → P x) → AllByRecursion P xs
 all_by_number P xs h = all_from P xs (λ x m. let n = number_of xs x m in h n.0 x n.1)
-
-module _ (net : FlatNet) (t : NameTable) (p : Places) (order : List Read) (is : Premises net t p order) where
-  pub leaves_known : Each (Known net) t.leaves net.leaves
-  leaves_known =
-      each_with (Whole net) (Known net) (λ l. IsWritableRole l.role) (λ l n h k. (h.0, h.1, k)) t.leaves net.leaves
-      (leaves_whole net t is.whole is.table)
-      (all_by_number (λ l. IsWritableRole l.role) net.leaves (λ k l at. is.writable.leaves k l at))

@@ -19,16 +19,17 @@ use Rattle.fir_net_names.specs.declared.name_table.NameTable.{NameTable}
 use Rattle.fir_net.specs.working.Values.{type_of_leaf}
 use Rattle.fir_net.specs.working.Dependence.{IsOf, Reads, role_reads}
 use Rattle.fir_net.specs.working.IsNet.{node_type, read_type, CanRead, IsNode, IsLeaf, IsRole, CanDrive}
-use Rattle.fir_net_names.specs.working.LeafNamed.{is_wire}
+use Rattle.fir_net_names.specs.working.LeafNamed.{name_at}
 use Rattle.fir_net.specs.working.Settled.{is_clock}
 use Rattle.ver_ast.specs.Nets.{SizedNet, width_among}
 use Rattle.ver_build.specs.declared.places.Places.{Places}
 use Rattle.ver_build.specs.working.Held.{whole_net, own_held, held_literal, fit}
-use Rattle.ver_build.specs.working.Places.{name_at, place_value, placed, held_of, node_at}
-use Rattle.ver_build.proofs.Names.{each_at}
+use Rattle.ver_build.specs.working.Places.{place_value, placed, held_of, node_at}
 use Rattle.ver_build.proofs.AlongOrder.{along_order}
-use Rattle.ver_build.proofs.Premises.{Premises}
-use Rattle.ver_build.proofs.LeafKinds.{is_net}
+use Rattle.ver_build.proofs.Premises.{Premises, LeafNamed}
+use Rattle.ver_build.proofs.TableLeaves.{leaf_named}
+use Rattle.ver_build.proofs.OrderedLeaves.{ordered_at}
+use Rattle.ver_build.proofs.LeafKinds.{is_wire, is_net}
 use Rattle.ver_build.proofs.Nets.{sizes}
 use Rattle.fir_net.proofs.WholeNodes.{all_nodes}
 use Rattle.ver_build.proofs.Standing.{StandsAs, AllStand}
@@ -83,7 +84,11 @@ module _ (net : FlatNet) (t : NameTable) (p : Places) (order : List Read) (is : 
       subst (λ (w : ℕ). w ≤ 128) wide has.bits.narrow
 
   pub size_at : (k : ℕ) (l : Leaf) → slice_get net.leaves k ≡ Some l → LeafSized ns l (name_at t.leaves k)
-  size_at k l at = each_at (LeafSized ns) t.leaves net.leaves (leaf_sizes net t p order is) k l at
+  size_at k l at = by (name_at t.leaves k) refl (leaf_named net is.whole t is.table k l at)
+    where
+      by : (n : Option (List ℕ)) → name_at t.leaves k ≡ n → LeafNamed l n → LeafSized ns l n
+      by None e h = h
+      by (Some name) e h = ordered_at net t is.whole is.table (LeafSized ns) (leaf_sizes net t p order is) k l name at e
 
   own_stands : (l : Leaf) (n : Option (List ℕ)) → LeafSized ns l n → is_net l.role ≡ true → is_wire l.role ≡ false
       → StandsAs ns (own_held l.signed l.width n) (type_of_leaf l)

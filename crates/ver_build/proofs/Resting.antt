@@ -24,12 +24,15 @@ use Rattle.ver_build.specs.working.Places.{clock_in}
 use Rattle.ver_build.proofs.SideValues.{side_value, same_side}
 use Rattle.ver_build.proofs.Written.{written}
 use Rattle.ver_build.proofs.Premises.{Premises}
+use Rattle.ver_build.proofs.OrderedLeaves.{ordered_names, ordered_leaves, ordered_once}
 use Rattle.ver_build.proofs.Parts.{assigns_of, blocks_of, in_parts}
-use Rattle.ver_build.proofs.LeafKinds.{is_register, is_written, picked_names}
+use Rattle.fir_net.specs.working.Counted.{is_register}
+use Rattle.ver_build.proofs.LeafKinds.{is_written, picked_names}
 use Rattle.ver_build.proofs.Picked.{picked_once}
-use Rattle.ver_build.proofs.Nets.{sizes, nets_sized, registers_sized, assigns_are, blocks_are, no_output_clocks, no_arrays}
+use Rattle.ver_build.proofs.Nets.{sizes, nets_sized, registers_sized, blocks_are, no_arrays}
 use Rattle.ver_build.proofs.PlainTrees.{processes_are, state_shown, next_written}
 use Rattle.ver_build.proofs.Sizes.{sizes_once}
+use Rattle.ver_build.proofs.ClockAssigns.{assigns_are}
 use Rattle.ver_build.proofs.Fitting.{FitsTarget, assigns_sound}
 use Rattle.ver_build.proofs.Driven.{block_targets_are}
 use Rattle.ver_build.proofs.Blocks.{blocks_sound}
@@ -40,12 +43,12 @@ module _ (net : FlatNet) (t : NameTable) (p : Places) (order : List Read) (is : 
   v = in_parts net t p order
 
   pub only_assigns : processes (in_parts net t p order) ≡ map assigning (assigns (in_parts net t p order))
-  only_assigns = processes_are v (no_output_clocks net t p order) (no_arrays net t p order) (blocks_of net t p order) (blocks_are net t p order)
+  only_assigns = processes_are v (no_arrays net t p order) (blocks_of net t p order) (blocks_are net t p order)
 
   pub fits_target : (a : Assign) → In (assigns (in_parts net t p order)) a → FitsTarget (sizes net t p order) a
   fits_target a m =
       all_at (FitsTarget (sizes net t p order)) (assigns_of net t p order) (assigns_sound net t p order is) a
-      (subst (λ (xs : List Assign). In xs a) (assigns_are net t p order) m)
+      (subst (λ (xs : List Assign). In xs a) (assigns_are net t p order is) m)
 
   pub side_is : (a : Assign) (w : ℕ) → In (assigns (in_parts net t p order)) a → In (sizes net t p order) (a.target, w)
       → wanted (in_parts net t p order) (store_of (variables (in_parts net t p order)) state) f (assigning a) ≡ side_value (sizes net t p order) f w a.rhs
@@ -63,11 +66,11 @@ module _ (net : FlatNet) (t : NameTable) (p : Places) (order : List Read) (is : 
 
   regs_once : Distinct (names_of (regs (in_parts net t p order)))
   regs_once =
-      subst Distinct (sym (ap names_of (registers_sized net t p order) ∙ picked_names is_register t.leaves net.leaves))
-      (picked_once is_register t.leaves net.leaves is.once)
+      subst Distinct (sym (ap names_of (registers_sized net t p order) ∙ picked_names is_register (ordered_names net t) (ordered_leaves net)))
+      (picked_once is_register (ordered_names net t) (ordered_leaves net) (ordered_once net t is.whole is.table))
 
   targets_once : Distinct (map (λ (b : Always). b.target) (blocks_of net t p order))
-  targets_once = subst Distinct (sym (block_targets_are net t p order)) (picked_once (is_written (clock_in p.leaves)) t.leaves net.leaves is.once)
+  targets_once = subst Distinct (sym (block_targets_are net t p order)) (picked_once (is_written (clock_in p.leaves)) (ordered_names net t) (ordered_leaves net) (ordered_once net t is.whole is.table))
 
   registered : (b : Always) → In (blocks_of net t p order) b → (w : ℕ) × In (regs (in_parts net t p order)) (b.target, w)
   registered b m =
@@ -75,11 +78,11 @@ module _ (net : FlatNet) (t : NameTable) (p : Places) (order : List Read) (is : 
 
   pub registers_hold : map f (names_of (regs (in_parts net t p order))) ≡ state
   registers_hold =
-      state_shown v (no_output_clocks net t p order) (no_arrays net t p order) (blocks_of net t p order) (blocks_are net t p order) state regs_once
+      state_shown v (no_arrays net t p order) (blocks_of net t p order) (blocks_are net t p order) state regs_once
       rest.begins.shaped.state_fits f rest.begins.state_values
 
   pub next_is : v_next (in_parts net t p order) state tick f
       ≡ Some (map (λ (r : SizedNet). written (nets (in_parts net t p order)) f tick.clocks (blocks_of net t p order) r.0) (regs (in_parts net t p order)))
   next_is =
-      next_written v (no_output_clocks net t p order) (no_arrays net t p order) (blocks_of net t p order) (blocks_are net t p order) state regs_once
+      next_written v (no_arrays net t p order) (blocks_of net t p order) (blocks_are net t p order) state regs_once
       rest.begins.shaped.state_fits f rest.begins.state_values tick targets_once registered

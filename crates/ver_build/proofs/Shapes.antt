@@ -11,16 +11,20 @@ use Rattle.fir_net.specs.declared.leaf.Leaf.{Leaf}
 use Rattle.fir_net.specs.declared.net.FlatNet.{FlatNet}
 use Rattle.fir_net_names.specs.declared.name_table.NameTable.{NameTable}
 use Rattle.fir_net.specs.working.Values.{leaf_width}
-use Rattle.fir_net.specs.working.Settled.{with_bits, input_number, clock_number, output_number, register_number, numbers_by, shape as net_shape}
-use Rattle.fir_net.specs.working.IsNet.{IsRole}
-use Rattle.fir_net_names.specs.working.LeafNamed.{is_wire}
+use Rattle.fir_net.specs.working.Settled.{with_bits, input_number, clock_number, output_number, numbers_by, shape as net_shape}
+use Rattle.fir_net.specs.working.IsNet.{is_port, IsRole, IsNet}
+use Rattle.fir_net_names.specs.working.IsTable.{IsTable}
 use Rattle.ver_ast.specs.Nets.{SizedNet, variables, variable_widths, input_nets, clocks, widths_of, shape as v_shape}
 use Rattle.ver_build.specs.declared.places.Places.{Places}
 use Rattle.ver_build.proofs.Names.{NameList, Each, zipped}
-use Rattle.ver_build.proofs.Premises.{Premises, BitsNamed, LeafNamed, RoleNamed, role_named, bits_named, leaves_named, Whole, leaves_whole}
+use Rattle.ver_build.proofs.Premises.{Premises, BitsNamed, LeafNamed, RoleNamed, role_named, bits_named, Whole}
+use Rattle.ver_build.proofs.TableLeaves.{leaves_named, leaves_whole}
+use Rattle.ver_build.proofs.OrderedLeaves.{ordered_names, ordered_leaves, names_port, sizes_port, same_ports}
+use Rattle.ver_build.proofs.WordLists.{word_sizes_listed}
 use Rattle.ver_build.proofs.Parts.{blocks_of, in_parts}
-use Rattle.ver_build.proofs.LeafKinds.{is_input, is_clock_input, is_output, is_register, name_if, sized_if, picked, picked_sized}
-use Rattle.ver_build.proofs.Nets.{inputs_sized, clocks_are, registers_sized, no_output_clocks, no_arrays, blocks_are}
+use Rattle.fir_net.specs.working.Counted.{is_register}
+use Rattle.ver_build.proofs.LeafKinds.{is_wire, is_input, is_clock_input, is_output, name_if, sized_if, picked, picked_sized}
+use Rattle.ver_build.proofs.Nets.{inputs_sized, clocks_are, registers_sized, no_arrays, blocks_are}
 use Rattle.ver_build.proofs.PlainTrees.{words_wide}
 use Rattle.ver_build.proofs.Choices.{if_equal}
 
@@ -88,10 +92,6 @@ pub output_is : (r : Role) (w k : ℕ) → output_number r w k ≡ number_if (is
 output_is (role.Output r) w k = refl
 output_is _ w k = refl
 
-pub register_is : (r : Role) (w k : ℕ) → register_number r w k ≡ number_if (is_register r) w k
-register_is (role.Register r) w k = refl
-register_is _ w k = refl
-
 pub input_plain : (r : Role) → is_input r ≡ true → is_wire r ≡ false
 input_plain role.Input e = refl
 input_plain _ e = absurd (cc)
@@ -100,9 +100,18 @@ pub output_plain : (r : Role) → is_output r ≡ true → is_wire r ≡ false
 output_plain (role.Output r) e = refl
 output_plain _ e = absurd (cc)
 
-pub register_plain : (r : Role) → is_register r ≡ true → is_wire r ≡ false
-register_plain (role.Register r) e = refl
-register_plain _ e = absurd (cc)
+-- inputs, outputs and clock inputs are ports
+pub input_port : (r : Role) → is_port r ≡ false → is_input r ≡ false
+input_port role.Input e = absurd (cc)
+input_port _ e = refl
+
+pub output_port : (r : Role) → is_port r ≡ false → is_output r ≡ false
+output_port (role.Output r) e = absurd (cc)
+output_port _ e = refl
+
+pub clock_port : (r : Role) → is_port r ≡ false → is_clock_input r ≡ false
+clock_port role.Clock e = absurd (cc)
+clock_port _ e = refl
 
 module _ (net : FlatNet) where
   one_clock : (s : Bool) (r : Role) (w : ℕ) (n : Option (List ℕ)) (k : ℕ) → RoleNamed r w n → IsRole net.leaves net.nodes s w r
@@ -125,15 +134,24 @@ module _ (net : FlatNet) where
         clocks_along names ls (k + 1) h.1,
       ) refl
 
+-- the widths of registers are those of the words of the state
+pub register_widths : (net : FlatNet) (t : NameTable) → IsNet net → IsTable net t
+    → widths_of (picked_sized is_register (ordered_names net t) (ordered_leaves net)) ≡ map (leaf_width net.leaves) net.state
+register_widths net t whole table =
+    word_sizes_listed net t whole table (λ (s : SizedNet). s.1) (leaf_width net.leaves) (λ k l name at kind named. rw at refl)
+
 pub built_shape : (net : FlatNet) (t : NameTable) (p : Places) (order : List Read) → Premises net t p order
     → v_shape (in_parts net t p order) ≡ net_shape net
 built_shape net t p order is =
-    let named = leaves_named net t is.table in
     let ins : widths_of (input_nets (in_parts net t p order)) ≡ map (leaf_width net.leaves) (numbers_by input_number 0 net.leaves) =
-    ap widths_of (inputs_sized net t p order) ∙ widths_along is_input input_number input_is input_plain t.leaves net.leaves named in
-    let state : variable_widths (variables (in_parts net t p order)) ≡ map (leaf_width net.leaves) (numbers_by register_number 0 net.leaves) =
-    words_wide (in_parts net t p order) (no_output_clocks net t p order) (no_arrays net t p order) (blocks_of net t p order) (blocks_are net t p order)
-    ∙ ap widths_of (registers_sized net t p order) ∙ widths_along is_register register_number register_is register_plain t.leaves net.leaves named in
+    ap widths_of
+    (inputs_sized net t p order ∙ same_ports net t is.whole is.table (λ l n. sized_if (is_input l.role) l.width n) (sizes_port is_input input_port))
+    ∙ widths_along is_input input_number input_is input_plain t.leaves net.leaves (leaves_named net is.whole t is.table) in
+    let state : variable_widths (variables (in_parts net t p order)) ≡ map (leaf_width net.leaves) net.state =
+    words_wide (in_parts net t p order) (no_arrays net t p order) (blocks_of net t p order) (blocks_are net t p order)
+    ∙ ap widths_of (registers_sized net t p order) ∙ register_widths net t is.whole is.table in
     let count : length (clocks (in_parts net t p order)) ≡ length (numbers_by clock_number 0 net.leaves) =
-    ap length (clocks_are net t p order) ∙ clocks_along net t.leaves net.leaves 0 (leaves_whole net t is.whole is.table) in
+    ap length
+    (clocks_are net t p order ∙ same_ports net t is.whole is.table (λ l n. name_if (is_clock_input l.role) n) (names_port is_clock_input clock_port))
+    ∙ clocks_along net t.leaves net.leaves 0 (leaves_whole net is.whole t is.table) in
     rw (ins, state, count) refl

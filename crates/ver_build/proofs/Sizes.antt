@@ -1,6 +1,6 @@
 -- Each leaf with a name that is no clock, and each inner net, is a net of its width.
 -- Names stand once. The width of a leaf is 1 or more, since it has bits, and at most 128.
-use Rattle.std.proofs.Common.{◌≡◌, ℕ, ◌≤◌, List, ◌++◌, true, false, not, nat_eq, map, refl, sym, inl, ◌⊎◌, ⊎_elim, subst}
+use Rattle.std.proofs.Common.{◌≡◌, ℕ, ◌≤◌, List, ◌++◌, Bool, true, false, not, nat_eq, map, refl, sym, inl, ◌⊎◌, ⊎_elim, subst}
 use Rattle.std.specs.Prelude.{slice_get, Option, Some, None}
 use Rattle.fir_base.specs.Lists.{In, Distinct}
 use Rattle.std.proofs.lemmas.Option.{slice_get_within}
@@ -11,22 +11,24 @@ use Rattle.fir_base.proofs.Twins.{distinct_right, distinct_joined, apart}
 use Rattle.fir_base.proofs.Tests.{both}
 use Rattle.fir_net.specs.declared.reads.Read.{Read}
 use Rattle.fir_net.specs.declared.reads.Read.TheVariants as read
+use Rattle.fir_net.specs.declared.leaf.Role.{Role}
 use Rattle.fir_net.specs.declared.leaf.Leaf.{Leaf}
 use Rattle.fir_net.specs.declared.node.Node.{Node}
 use Rattle.fir_net.specs.declared.net.FlatNet.{FlatNet}
 use Rattle.fir_net_names.specs.declared.name_table.NameTable.{NameTable}
 use Rattle.fir_net.specs.working.IsNet.{node_type, IsLeaf}
 use Rattle.fir_net.specs.working.IsWritable.{IsWritableRole}
-use Rattle.fir_net_names.specs.working.LeafNamed.{somes, has_name, is_wire}
+use Rattle.fir_net_names.specs.working.LeafNamed.{somes}
 use Rattle.ver_ast.specs.Nets.{SizedNet, width_among, names_of}
 use Rattle.ver_ast.proofs.Widths.{declared_width}
 use Rattle.ver_build.specs.declared.places.Places.{Places}
 use Rattle.ver_build.specs.declared.right_sides.Inner.{Inner}
 use Rattle.ver_build.specs.working.Places.{node_at, inner_names}
 use Rattle.ver_build.specs.working.Built.{inners, node_inners, inners_at, read_inners}
-use Rattle.ver_build.proofs.Names.{Each, each_with, each_and, each_part}
-use Rattle.ver_build.proofs.Premises.{Premises, LeafNamed, some_bits, bits_named, leaves_named, Known, leaves_known}
-use Rattle.ver_build.proofs.LeafKinds.{is_net, sized_if, picked, picked_sized}
+use Rattle.ver_build.proofs.Names.{Each, each_and, each_part}
+use Rattle.ver_build.proofs.Premises.{Premises, some_bits, bits_named, Whole, Known}
+use Rattle.ver_build.proofs.OrderedLeaves.{ordered_names, ordered_leaves, ordered_whole, ordered_known, ordered_once, ordered_inner}
+use Rattle.ver_build.proofs.LeafKinds.{is_wire, has_name, is_net, sized_if, picked, picked_sized}
 use Rattle.ver_build.proofs.Picked.{picked_named, picked_once}
 use Rattle.ver_build.proofs.Nets.{inner_name, inner_sized, sizes, sizes_named}
 use Rattle.ver_build.proofs.Standing.{DeclaresInners}
@@ -81,42 +83,51 @@ module _ (net : FlatNet) (t : NameTable) (p : Places) (order : List Read) (is : 
   abbrev all_inners : List Inner
   all_inners = inners net p order
 
+  once : Distinct (somes (ordered_names net t))
+  once = ordered_once net t is.whole is.table
+
   -- the names of all
-  pub names_once : Distinct (somes t.leaves ++ map inner_name all_inners)
+  pub names_once : Distinct (somes (ordered_names net t) ++ map inner_name all_inners)
   names_once =
       let nodes = is.places.nodes in
-      rw (inners_named net p nodes.held order) (all_once (somes t.leaves) nodes.last (inner_names net p.nodes order) is.once nodes.near nodes.named)
+      rw (inners_named net p nodes.held order)
+      (all_once (somes (ordered_names net t)) nodes.last (inner_names net p.nodes order) once nodes.near
+      (ordered_inner net t is.whole is.table 0 nodes.last (inner_names net p.nodes order) nodes.named))
+
+  -- a name of a leaf is none of an inner net
+  pub no_inner : (q : Role → Bool) (x : List ℕ) → In (picked q (ordered_names net t) (ordered_leaves net)) x → In (map inner_name all_inners) x → ⊥
+  no_inner q x m n =
+      apart (somes (ordered_names net t)) (map inner_name all_inners) names_once x
+      (picked_named q (ordered_names net t) (ordered_leaves net) x m) n
 
   pub sizes_once : Distinct (names_of (sizes net t p order))
   sizes_once =
       subst Distinct (sym (sizes_named net t p order))
-      (distinct_joined (picked is_net t.leaves net.leaves) (map inner_name all_inners) (picked_once is_net t.leaves net.leaves is.once)
-      (distinct_right (somes t.leaves) (map inner_name all_inners) names_once)
-      (λ x m n. apart (somes t.leaves) (map inner_name all_inners) names_once x (picked_named is_net t.leaves net.leaves x m) n))
+      (distinct_joined (picked is_net (ordered_names net t) (ordered_leaves net)) (map inner_name all_inners) (picked_once is_net (ordered_names net t) (ordered_leaves net) once)
+      (distinct_right (somes (ordered_names net t)) (map inner_name all_inners) names_once)
+      (λ x m n. apart (somes (ordered_names net t)) (map inner_name all_inners) names_once x (picked_named is_net (ordered_names net t) (ordered_leaves net) x m) n))
 
-  leaf_size : (l : Leaf) (n : Option (List ℕ)) → LeafNamed l n × PartIn leaf_part (sizes net t p order) l n → IsLeaf net.leaves net.nodes l
-      → LeafSized (sizes net t p order) l n
+  leaf_size : (l : Leaf) (n : Option (List ℕ)) → Whole net l n → PartIn leaf_part (sizes net t p order) l n → LeafSized (sizes net t p order) l n
   leaf_size l None h k = h.0
   leaf_size l (Some name) h k =
       λ is.
-      let m : In (sizes net t p order) (name, l.width) = h.1 (name, l.width) (rw is (inl refl)) in
-      record { one = named_bits l h.0; narrow = k.narrow; among = m; wide = declared_width (sizes net t p order) sizes_once name l.width m }
+      let m : In (sizes net t p order) (name, l.width) = k (name, l.width) (rw is (inl refl)) in
+      record { one = named_bits l h.0; narrow = h.1.narrow; among = m; wide = declared_width (sizes net t p order) sizes_once name l.width m }
 
-  pub leaf_sizes : Each (LeafSized (sizes net t p order)) t.leaves net.leaves
+  pub leaf_sizes : Each (LeafSized (sizes net t p order)) (ordered_names net t) (ordered_leaves net)
   leaf_sizes =
-      let named = leaves_named net t is.table in
+      let whole = ordered_whole net t is.whole is.table in
       let parts =
-      each_part LeafNamed leaf_part (sizes net t p order) t.leaves net.leaves named
-      (in_left (picked_sized is_net t.leaves net.leaves) (map inner_sized all_inners)) in
-      let P = λ (l : Leaf) (n : Option (List ℕ)). LeafNamed l n × PartIn leaf_part (sizes net t p order) l n in
-      each_with P (LeafSized (sizes net t p order)) (IsLeaf net.leaves net.nodes) leaf_size t.leaves net.leaves
-      (each_and LeafNamed (PartIn leaf_part (sizes net t p order)) P (λ l n h k. (h, k)) t.leaves net.leaves named parts) is.whole.leaves
+      each_part (Whole net) leaf_part (sizes net t p order) (ordered_names net t) (ordered_leaves net) whole
+      (in_left (picked_sized is_net (ordered_names net t) (ordered_leaves net)) (map inner_sized all_inners)) in
+      each_and (Whole net) (PartIn leaf_part (sizes net t p order)) (LeafSized (sizes net t p order)) leaf_size (ordered_names net t) (ordered_leaves net)
+      whole parts
 
   -- each leaf with what is known of it
-  pub leaf_facts : Each (LeafFact net (sizes net t p order)) t.leaves net.leaves
+  pub leaf_facts : Each (LeafFact net (sizes net t p order)) (ordered_names net t) (ordered_leaves net)
   leaf_facts =
       each_and (LeafSized (sizes net t p order)) (Known net) (LeafFact net (sizes net t p order))
-      (λ l n h k. (h, k.1, k.2)) t.leaves net.leaves leaf_sizes (leaves_known net t p order is)
+      (λ l n h k. (h, k.1, k.2)) (ordered_names net t) (ordered_leaves net) leaf_sizes (ordered_known net t p order is)
 
   -- the inner nets of a node are among all
   pub inners_among : (k : ℕ) (n : Node) (h : IsNetted p n (node_at p.nodes k)) → slice_get net.nodes k ≡ Some n → (i : Inner)
@@ -153,7 +164,7 @@ module _ (net : FlatNet) (t : NameTable) (p : Places) (order : List Read) (is : 
 
   pub inner_among : (i : Inner) → In all_inners i → In (sizes net t p order) (inner_sized i)
   inner_among i m =
-      in_right (picked_sized is_net t.leaves net.leaves) (map inner_sized all_inners) (inner_sized i) (in_map inner_sized all_inners i m)
+      in_right (picked_sized is_net (ordered_names net t) (ordered_leaves net)) (map inner_sized all_inners) (inner_sized i) (in_map inner_sized all_inners i m)
 
   pub inner_declared : (i : Inner) → In all_inners i → width_among (sizes net t p order) i.name ≡ i.width
   inner_declared i m = declared_width (sizes net t p order) sizes_once i.name i.width (inner_among i m)

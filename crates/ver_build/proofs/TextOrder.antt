@@ -1,4 +1,4 @@
--- Registers and wires stand before all assigns and blocks, so each of these names nets that are declared before it.
+-- Registers and wires stand before all assigns and blocks, so each of these names nets that are declared before it; those of clock outputs name ports.
 use Rattle.std.proofs.Common.{◌≡◌, ℕ, List, [], ◌∷◌, ◌++◌, refl, sym, inl, inr, ⊎_elim, subst, append_assoc}
 use Rattle.std.specs.Prelude.{map}
 use Rattle.std.specs.List.{AllByRecursion}
@@ -57,14 +57,15 @@ nets_declared c step known (n ∷ ns) rest go =
         (λ (o : In (map net_name ns) x). inr (in_right known (map net_name ns) x o)) k)
         (in_either known (n.name ∷ map net_name ns) x m)
 
-pub items_declared : (known all : List (List ℕ)) (rs ws : List Net) (xs : List Assign) (bs : List Always)
+pub items_declared : (known all : List (List ℕ)) (rs ws : List Net) (xs cs : List Assign) (bs : List Always)
     → ((x : List ℕ) → In all x → In (known ++ (map net_name rs ++ map net_name ws)) x)
-    → AllByRecursion (AssignAmong all) xs → AllByRecursion (BlockAmong all) bs → Clocked known bs → DeclaredBefore known (items rs ws xs bs)
-items_declared known all rs ws xs bs among assigned blocked clocked =
-    nets_declared item.Reg (λ k n rest d. (tt, d)) known rs (map item.Wire ws ++ (map item.Assign xs ++ map item.Always bs))
-    (λ after h. nets_declared item.Wire (λ k n rest d. (tt, d)) after ws (map item.Assign xs ++ map item.Always bs)
+    → AllByRecursion (AssignAmong all) xs → AllByRecursion (AssignAmong known) cs → AllByRecursion (BlockAmong all) bs → Clocked known bs
+    → DeclaredBefore known (items rs ws xs cs bs)
+items_declared known all rs ws xs cs bs among assigned shown blocked clocked =
+    nets_declared item.Reg (λ k n rest d. (tt, d)) known rs (map item.Wire ws ++ (map item.Assign xs ++ (map item.Assign cs ++ map item.Always bs)))
+    (λ after h. nets_declared item.Wire (λ k n rest d. (tt, d)) after ws (map item.Assign xs ++ (map item.Assign cs ++ map item.Always bs))
     (λ last k. driven last (λ x m. k x (within after h x (among x m)))
-    (λ b m. k b.clock (in_left after (map net_name ws) b.clock (h b.clock (in_left known (map net_name rs) b.clock (clocked b m)))))))
+    (λ x m. k x (in_left after (map net_name ws) x (h x (in_left known (map net_name rs) x m))))))
   where
     within : (after : List (List ℕ)) → Within (known ++ map net_name rs) after
         → Within (known ++ (map net_name rs ++ map net_name ws)) (after ++ map net_name ws)
@@ -75,5 +76,8 @@ items_declared known all rs ws xs bs among assigned blocked clocked =
         (in_either (known ++ map net_name rs) (map net_name ws) x
         (subst (λ (ns : List (List ℕ)). In ns x) (sym (append_assoc known (map net_name rs) (map net_name ws))) m))
 
-    driven : (last : List (List ℕ)) → Within all last → Clocked last bs → DeclaredBefore last (map item.Assign xs ++ map item.Always bs)
-    driven last h c = assigns_declared last all xs (map item.Always bs) h assigned (blocks_declared last all bs h blocked c)
+    driven : (last : List (List ℕ)) → Within all last → Within known last
+        → DeclaredBefore last (map item.Assign xs ++ (map item.Assign cs ++ map item.Always bs))
+    driven last h k =
+        assigns_declared last all xs (map item.Assign cs ++ map item.Always bs) h assigned
+        (assigns_declared last known cs (map item.Always bs) k shown (blocks_declared last all bs h blocked (λ b m. k b.clock (clocked b m))))

@@ -10,8 +10,8 @@ use Rattle.ver_ast.specs.declared.tree.Item.TheVariants as item
 use Rattle.ver_ast.specs.declared.tree.Verilog.{Verilog}
 use Rattle.ver_build.specs.declared.places.Places.{Places}
 use Rattle.ver_build.specs.declared.right_sides.Inner.{Inner}
-use Rattle.ver_build.specs.working.Built.{inners, leaf_port, leaf_reg, leaf_assign, leaf_block, inner_wire, inner_assign, along, given, items, built}
-use Rattle.ver_build.proofs.Lists.{mapped_along}
+use Rattle.ver_build.specs.working.Built.{inners, leaf_port, leaf_reg, leaf_assign, leaf_clock_assign, leaf_block, inner_wire, inner_assign, along, at_numbers, given, items, built}
+use Rattle.ver_build.proofs.Lists.{mapped_along, mapped_numbers}
 
 -- the items as each part is put behind those before it
 pub record PutItems (net : FlatNet) (t : NameTable) (p : Places) (order : List Read) (all : List Item) : Type 0 where
@@ -20,27 +20,32 @@ pub record PutItems (net : FlatNet) (t : NameTable) (p : Places) (order : List R
   pub wires : List Item
   pub inner_assigns : List Item
   pub assigns : List Item
+  pub clock_assigns : List Item
   pub nothing : none ≡ []
-  pub put_regs : regs ≡ none ++ along (given item.Reg leaf_reg) t.leaves 0 net.leaves
+  pub put_regs : regs ≡ none ++ at_numbers (given item.Reg leaf_reg) t.leaves net.leaves net.state
   pub put_wires : wires ≡ regs ++ map (λ (i : Inner). item.Wire (inner_wire i)) (inners net p order)
   pub put_inner_assigns : inner_assigns ≡ wires ++ map (λ (i : Inner). item.Assign (inner_assign i)) (inners net p order)
   pub put_assigns : assigns ≡ inner_assigns ++ along (given item.Assign (leaf_assign p)) t.leaves 0 net.leaves
-  pub put_blocks : all ≡ assigns ++ along (given item.Always (leaf_block t p)) t.leaves 0 net.leaves
+  pub put_clock_assigns : clock_assigns ≡ assigns ++ along (given item.Assign (leaf_clock_assign t p)) t.leaves 0 net.leaves
+  pub put_blocks : all ≡ clock_assigns ++ at_numbers (given item.Always (leaf_block t p)) t.leaves net.leaves net.state
 
-regrouped : (rs ws xs ys bs : List Item) → (((rs ++ ws) ++ xs) ++ ys) ++ bs ≡ rs ++ (ws ++ ((xs ++ ys) ++ bs))
-regrouped rs ws xs ys bs = simp append_assoc
+regrouped : (rs ws xs ys cs bs : List Item) → ((((rs ++ ws) ++ xs) ++ ys) ++ cs) ++ bs ≡ rs ++ (ws ++ ((xs ++ ys) ++ (cs ++ bs)))
+regrouped rs ws xs ys cs bs = simp append_assoc
 
 in_parts : (net : FlatNet) (t : NameTable) (p : Places) (order : List Read) (all : List Item) → PutItems net t p order all
-    → all ≡ items (along leaf_reg t.leaves 0 net.leaves) (map inner_wire (inners net p order))
-    (map inner_assign (inners net p order) ++ along (leaf_assign p) t.leaves 0 net.leaves) (along (leaf_block t p) t.leaves 0 net.leaves)
+    → all ≡ items (at_numbers leaf_reg t.leaves net.leaves net.state) (map inner_wire (inners net p order))
+    (map inner_assign (inners net p order) ++ along (leaf_assign p) t.leaves 0 net.leaves) (along (leaf_clock_assign t p) t.leaves 0 net.leaves)
+    (at_numbers (leaf_block t p) t.leaves net.leaves net.state)
 in_parts net t p order all put =
-    let rs = mapped_along item.Reg leaf_reg t.leaves 0 net.leaves in
+    let rs = mapped_numbers item.Reg leaf_reg t.leaves net.leaves net.state in
     let ws = map-map item.Wire inner_wire (inners net p order) in
     let xs = map-map item.Assign inner_assign (inners net p order) in
     let ys = mapped_along item.Assign (leaf_assign p) t.leaves 0 net.leaves in
-    let bs = mapped_along item.Always (leaf_block t p) t.leaves 0 net.leaves in
+    let cs = mapped_along item.Assign (leaf_clock_assign t p) t.leaves 0 net.leaves in
+    let bs = mapped_numbers item.Always (leaf_block t p) t.leaves net.leaves net.state in
     rw (
       put.put_blocks,
+      put.put_clock_assigns,
       put.put_assigns,
       put.put_inner_assigns,
       put.put_wires,
@@ -52,11 +57,12 @@ in_parts net t p order all put =
       ws,
       xs,
       ys,
+      cs,
       bs,
     )
-    (regrouped (along (given item.Reg leaf_reg) t.leaves 0 net.leaves) (map (λ (i : Inner). item.Wire (inner_wire i)) (inners net p order))
+    (regrouped (at_numbers (given item.Reg leaf_reg) t.leaves net.leaves net.state) (map (λ (i : Inner). item.Wire (inner_wire i)) (inners net p order))
     (map (λ (i : Inner). item.Assign (inner_assign i)) (inners net p order)) (along (given item.Assign (leaf_assign p)) t.leaves 0 net.leaves)
-    (along (given item.Always (leaf_block t p)) t.leaves 0 net.leaves))
+    (along (given item.Assign (leaf_clock_assign t p)) t.leaves 0 net.leaves) (at_numbers (given item.Always (leaf_block t p)) t.leaves net.leaves net.state))
 
 pub items_built : (net : FlatNet) (t : NameTable) (p : Places) (order : List Read) (all : List Item) → PutItems net t p order all
     → all ≡ (built net t p order).items

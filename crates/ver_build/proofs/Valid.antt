@@ -1,6 +1,6 @@
 -- The tree of a whole net is valid.
 -- Names are distinct, so each net is declared once and driven once, and widths and order are those of the net.
-use Rattle.std.proofs.Common.{◌≡◌, ℕ, ◌≤◌, List, [], ◌∷◌, ◌++◌, map, Bool, true, false, cond, refl, sym, ap, ◌∙◌, inl, inr, ⊎_elim, subst, append-nil, arith}
+use Rattle.std.proofs.Common.{◌≡◌, ℕ, ◌≤◌, List, [], ◌∷◌, ◌++◌, map, Bool, true, false, cond, refl, sym, ap, ◌∙◌, inl, inr, ⊎_elim, subst, arith}
 use Rattle.std.specs.Prelude.{flat_map, Option, Some, None, IsTrue}
 use Rattle.std.specs.List.{AllByRecursion, sum_by}
 use Rattle.std.proofs.lemmas.List.{map-append}
@@ -8,9 +8,9 @@ use Rattle.std.proofs.lemmas.Simd.{map-map}
 use Rattle.fir_base.specs.declared.direction.Direction.{Direction}
 use Rattle.fir_base.specs.declared.direction.Direction.TheVariants.{Input, Output}
 use Rattle.fir_base.specs.Lists.{In, Distinct}
-use Rattle.fir_base.proofs.Each.{all_at, all_from, all_joined, all_mapped}
+use Rattle.fir_base.proofs.Each.{all_at, all_from, all_joined, all_mapped, each_more}
 use Rattle.fir_base.proofs.Members.{in_map, in_map_from, in_left, in_right, in_either, in_flat_map_from}
-use Rattle.fir_base.proofs.Twins.{distinct_right, distinct_joined, apart}
+use Rattle.fir_base.proofs.Twins.{distinct_right, distinct_joined}
 use Rattle.fir_net.specs.declared.reads.Read.{Read}
 use Rattle.fir_net.specs.declared.leaf.Role.{Role}
 use Rattle.fir_net.specs.declared.leaf.Role.TheVariants as role
@@ -21,25 +21,31 @@ use Rattle.fir_net_names.specs.working.LeafNamed.{somes}
 use Rattle.ver_ast.specs.declared.tree.Port.{Port}
 use Rattle.ver_ast.specs.declared.tree.Verilog.{Verilog}
 use Rattle.ver_ast.specs.declared.tree.Assign.{Assign}
-use Rattle.ver_ast.specs.Nets.{SizedNet, Variable, variable_names, AlwaysBlock, plain_block, port_net, input_clock, output_clocks, input_nets, output_nets, clocks, wires, regs, plain_regs, port_nets, nets, arrays, assigns, clock_assigns, targets, blocks, block_targets, names_of}
+use Rattle.ver_ast.specs.Nets.{SizedNet, Variable, variable_names, AlwaysBlock, plain_block, port_net, input_clock, output_clock, output_clocks, input_nets, output_nets, clocks, wires, regs, plain_regs, port_nets, nets, arrays, assigns, clock_assigns, targets, blocks, block_targets, names_of}
 use Rattle.ver_ast.specs.Processes.{Process, assigning, processes, target, process_targets}
 use Rattle.ver_ast.specs.SoundSides.{IsSoundSide}
+use Rattle.ver_ast.specs.ItemNames.{rhs_arrays}
+use Rattle.ver_ast.specs.Names.{rhs_names}
 use Rattle.ver_ast.specs.Valid.{Valid, DeclaredBefore, IsSoundAssign, IsOrder, ReadsBefore, IsPlain, IsSoundBlock}
 use Rattle.ver_build.specs.declared.places.Places.{Places}
 use Rattle.ver_build.specs.working.Places.{clock_in}
 use Rattle.ver_build.specs.working.Built.{inners, leaf_port, port_of}
 use Rattle.ver_build.specs.Ports.{port_names}
 use Rattle.ver_build.proofs.Names.{all_zipped}
-use Rattle.ver_build.proofs.Premises.{Premises, LeafNamed, leaves_named}
-use Rattle.ver_build.proofs.Parts.{registers_of, wires_of, assigns_of, blocks_of, in_parts}
-use Rattle.ver_build.proofs.LeafKinds.{is_input, is_clock_input, is_output, is_register, is_net, is_written, sized_if, picked, picked_sized, picked_names}
-use Rattle.ver_build.proofs.Picked.{picked_named, picked_once, picked_apart}
-use Rattle.ver_build.proofs.Nets.{inner_name, inner_sized, sizes, inputs_sized, outputs_sized, clocks_are, registers_sized, wires_sized, assigns_are, blocks_are, no_output_clocks, no_arrays, nets_sized, nets_by_part, sizes_named}
-use Rattle.ver_build.proofs.PlainTrees.{plain_regs_are, processes_are, clock_assigns_none}
-use Rattle.ver_build.proofs.Sizes.{IsSized, LeafSized, leaf_is_sized, leaf_sizes, names_once, sizes_once}
+use Rattle.ver_build.proofs.Premises.{Premises, LeafNamed}
+use Rattle.ver_build.proofs.OrderedLeaves.{ordered_names, ordered_leaves, ordered_named, ordered_once}
+use Rattle.ver_build.proofs.Parts.{registers_of, wires_of, assigns_of, clock_assigns_of, blocks_of, in_parts}
+use Rattle.fir_net.specs.working.Counted.{is_register}
+use Rattle.ver_build.proofs.LeafKinds.{is_input, is_clock_input, is_clock_output, is_output, is_net, is_written, sized_if, picked, picked_sized, picked_names}
+use Rattle.ver_build.proofs.Picked.{picked_once, picked_apart}
+use Rattle.ver_build.proofs.Nets.{inner_name, inner_sized, sizes, inputs_sized, outputs_sized, clocks_are, registers_sized, wires_sized, blocks_are, output_clocks_are, no_arrays, nets_sized, nets_by_part, sizes_named}
+use Rattle.ver_build.proofs.PlainTrees.{plain_regs_are, processes_are}
+use Rattle.ver_build.proofs.Sizes.{IsSized, LeafSized, leaf_is_sized, leaf_sizes, names_once, no_inner, sizes_once}
 use Rattle.ver_build.proofs.InnersSound.{inner_size}
-use Rattle.ver_build.proofs.Fitting.{FitsTarget, assigns_sound, assigns_name_nets, blocks_name_nets}
-use Rattle.ver_build.proofs.Driven.{targets_are, plain_targets, block_targets_are}
+use Rattle.ver_build.proofs.Fitting.{FitsTarget, AssignAmong, assigns_sound, assigns_name_nets, blocks_name_nets}
+use Rattle.ver_build.proofs.ClockAssigns.{assigns_are, clock_assigns_are, clock_targets, clock_targets_once, no_clock_target}
+use Rattle.ver_build.proofs.ClockSides.{ShowsClock, side_names, clocks_shown}
+use Rattle.ver_build.proofs.Driven.{targets_are, clock_targets_are, plain_targets, block_targets_are}
 use Rattle.ver_build.proofs.TextOrder.{net_name, items_declared}
 use Rattle.ver_build.proofs.Placed.{AssignsBefore, assigns_ordered}
 use Rattle.ver_build.proofs.Blocks.{blocks_sound}
@@ -61,11 +67,22 @@ role_unranged : (r : Role) (w : ℕ) (name : List ℕ) → AllByRecursion IsUnra
 role_unranged role.Input w name = (λ h. absurd (cc), tt)
 role_unranged role.Clock w name = (λ h. refl, tt)
 role_unranged (role.Output r) w name = (λ h. absurd (cc), tt)
+role_unranged (role.ClockOutput c) w name = (λ h. refl, tt)
 role_unranged _ w name = tt
 
 leaf_unranged : (l : Leaf) (n : Option (List ℕ)) → AllByRecursion IsUnranged (leaf_port l n)
 leaf_unranged l None = tt
 leaf_unranged l (Some name) = role_unranged l.role l.width name
+
+output_no_input : (r : Role) → is_clock_input r ≡ true → is_clock_output r ≡ true → ⊥
+output_no_input role.Clock a b = cc
+output_no_input _ a b = cc
+
+output_no_net : (r : Role) → is_net r ≡ true → is_clock_output r ≡ true → ⊥
+output_no_net role.Input a b = cc
+output_no_net (role.Output r) a b = cc
+output_no_net (role.Register r) a b = cc
+output_no_net _ a b = cc
 
 no_net : (r : Role) → is_clock_input r ≡ true → is_net r ≡ true → ⊥
 no_net role.Clock a b = cc
@@ -97,6 +114,15 @@ one_clock Input q n m = by q.is_clock m
     by false o = absurd o
 one_clock Output q n m = absurd m
 
+one_clock_output : (d : Direction) (q : Port) (n : List ℕ) → In (output_clock d q) n → q.name ≡ n
+one_clock_output Input q n m = absurd m
+one_clock_output Output q n m = by q.is_clock m
+  where
+    by : (c : Bool) → In {A = List ℕ} (cond c (q.name ∷ []) []) n → q.name ≡ n
+    by true (inl e) = e
+    by true (inr o) = absurd o
+    by false o = absurd o
+
 net_is_named : (qs : List Port) (n : List ℕ) → In (names_of (flat_map port_net qs)) n → In (map (λ (q : Port). q.name) qs) n
 net_is_named qs n m =
     let x = in_map_from (λ (s : SizedNet). s.0) (flat_map port_net qs) n m in
@@ -108,6 +134,11 @@ clock_is_named qs n m =
     let q = in_flat_map_from (λ (q : Port). input_clock q.direction q) qs n m in
     subst (In (map (λ (q : Port). q.name) qs)) (one_clock q.0.direction q.0 n q.2) (in_map (λ (q : Port). q.name) qs q.0 q.1)
 
+clock_output_is_named : (qs : List Port) (n : List ℕ) → In (flat_map (λ q. output_clock q.direction q) qs) n → In (map (λ (q : Port). q.name) qs) n
+clock_output_is_named qs n m =
+    let q = in_flat_map_from (λ (q : Port). output_clock q.direction q) qs n m in
+    subst (In (map (λ (q : Port). q.name) qs)) (one_clock_output q.0.direction q.0 n q.2) (in_map (λ (q : Port). q.name) qs q.0 q.1)
+
 module _ (net : FlatNet) (t : NameTable) (p : Places) (order : List Read) (is : Premises net t p order) where
   abbrev tree_sizes : List SizedNet
   tree_sizes = sizes net t p order
@@ -115,26 +146,44 @@ module _ (net : FlatNet) (t : NameTable) (p : Places) (order : List Read) (is : 
   abbrev inside : List (List ℕ)
   inside = map inner_name (inners net p order)
 
-  -- a name of a leaf is none of an inner net
-  no_inner : (q : Role → Bool) (x : List ℕ) → In (picked q t.leaves net.leaves) x → In inside x → ⊥
-  no_inner q x m n = apart (somes t.leaves) inside (names_once net t p order is) x (picked_named q t.leaves net.leaves x m) n
+  once : Distinct (somes (ordered_names net t))
+  once = ordered_once net t is.whole is.table
 
   all_once : Distinct (clocks (in_parts net t p order) ++ names_of (nets (in_parts net t p order)))
   all_once =
       let names = λ (ns : List SizedNet). names_of ns in
       rw (clocks_are net t p order, nets_sized net t p order is)
-      (distinct_joined (picked is_clock_input t.leaves net.leaves) (names tree_sizes) (picked_once is_clock_input t.leaves net.leaves is.once)
+      (distinct_joined (picked is_clock_input (ordered_names net t) (ordered_leaves net)) (names tree_sizes) (picked_once is_clock_input (ordered_names net t) (ordered_leaves net) once)
       (sizes_once net t p order is)
       (λ x m n.
       ⊎_elim
-      (λ (k : In (picked is_net t.leaves net.leaves) x). picked_apart is_clock_input is_net no_net t.leaves net.leaves is.once x m k)
-      (λ (k : In inside x). no_inner is_clock_input x m k)
-      (in_either (picked is_net t.leaves net.leaves) inside x (subst (λ (ns : List (List ℕ)). In ns x) (sizes_named net t p order) n))))
+      (λ (k : In (picked is_net (ordered_names net t) (ordered_leaves net)) x). picked_apart is_clock_input is_net no_net (ordered_names net t) (ordered_leaves net) once x m k)
+      (λ (k : In inside x). no_inner net t p order is is_clock_input x m k)
+      (in_either (picked is_net (ordered_names net t) (ordered_leaves net)) inside x (subst (λ (ns : List (List ℕ)). In ns x) (sizes_named net t p order) n))))
+
+  -- the assigns of clock outputs name ports
+  clocks_named : AllByRecursion (AssignAmong (port_names (in_parts net t p order))) (clock_assigns_of net t p order)
+  clocks_named = all_from (AssignAmong (port_names (in_parts net t p order))) (clock_assigns_of net t p order) named
+    where
+      named : (a : Assign) → In (clock_assigns_of net t p order) a → AssignAmong (port_names (in_parts net t p order)) a
+      named a m =
+          let ports = (in_parts net t p order).ports in
+          let side = all_at (ShowsClock (in_parts net t p order)) (clock_assigns_of net t p order) (clocks_shown net t p order is) a m in
+          let target : In (output_clocks (in_parts net t p order)) a.target =
+          subst (λ (ns : List (List ℕ)). In ns a.target) (clock_targets_are net t p order ∙ sym (output_clocks_are net t p order))
+          (in_map (λ (x : Assign). x.target) (clock_assigns_of net t p order) a m) in
+          record {
+            target = clock_output_is_named ports a.target target;
+            sources = each_more (rhs_arrays a.rhs ++ rhs_names a.rhs) (clocks (in_parts net t p order)) (port_names (in_parts net t p order))
+                (clock_is_named ports)
+                (side_names (in_parts net t p order) a.rhs side);
+          }
 
   declared : DeclaredBefore (port_names (in_parts net t p order)) (in_parts net t p order).items
   declared =
       items_declared (port_names (in_parts net t p order)) (names_of tree_sizes) (registers_of net t p order) (wires_of net t p order)
-      (assigns_of net t p order) (blocks_of net t p order) among (assigns_name_nets net t p order is) (blocks_name_nets net t p order is)
+      (assigns_of net t p order) (clock_assigns_of net t p order) (blocks_of net t p order) among (assigns_name_nets net t p order is) clocks_named
+      (blocks_name_nets net t p order is)
       (λ b m. clock_is_named (in_parts net t p order).ports b.clock (all_at (IsPlain (in_parts net t p order)) (blocks_of net t p order)
       (blocks_sound net t p order is) b m).clocked)
     where
@@ -152,13 +201,13 @@ module _ (net : FlatNet) (t : NameTable) (p : Places) (order : List Read) (is : 
 
   ports_unranged : AllByRecursion IsUnranged (in_parts net t p order).ports
   ports_unranged =
-      all_zipped LeafNamed IsUnranged leaf_port (λ l n h. leaf_unranged l n) t.leaves net.leaves (leaves_named net t is.table)
+      all_zipped LeafNamed IsUnranged leaf_port (λ l n h. leaf_unranged l n) (ordered_names net t) (ordered_leaves net) (ordered_named net t is.whole is.table)
 
   all_narrow : AllByRecursion IsNarrow tree_sizes
   all_narrow =
-      all_joined IsNarrow (picked_sized is_net t.leaves net.leaves) (map inner_sized (inners net p order))
+      all_joined IsNarrow (picked_sized is_net (ordered_names net t) (ordered_leaves net)) (map inner_sized (inners net p order))
       (all_zipped (LeafSized tree_sizes) IsNarrow (λ l n. sized_if (is_net l.role) l.width n)
-      (λ l n h. leaf_narrow tree_sizes (is_net l.role) l.width n (leaf_is_sized tree_sizes l n h)) t.leaves net.leaves (leaf_sizes net t p order is))
+      (λ l n h. leaf_narrow tree_sizes (is_net l.role) l.width n (leaf_is_sized tree_sizes l n h)) (ordered_names net t) (ordered_leaves net) (leaf_sizes net t p order is))
       (all_mapped IsNarrow inner_sized (inners net p order)
       (all_from (λ x. IsNarrow (inner_sized x)) (inners net p order) (λ x m. let size = inner_size net t p order is x m in (size.one, size.narrow))))
 
@@ -168,17 +217,17 @@ module _ (net : FlatNet) (t : NameTable) (p : Places) (order : List Read) (is : 
       (sym (no_arrays net t p order))
       (subst (λ (ns : List SizedNet). FitsTarget ns a) (sym (nets_sized net t p order is))
       (all_at (FitsTarget tree_sizes) (assigns_of net t p order) (assigns_sound net t p order is) a
-      (subst (λ (xs : List Assign). In xs a) (assigns_are net t p order) m)))
+      (subst (λ (xs : List Assign). In xs a) (assigns_are net t p order is) m)))
 
-  all_targets : targets (assigns (in_parts net t p order)) ≡ inside ++ picked is_output t.leaves net.leaves
-  all_targets = ap targets (assigns_are net t p order) ∙ targets_are net t p order
+  all_targets : targets (assigns (in_parts net t p order)) ≡ inside ++ picked is_output (ordered_names net t) (ordered_leaves net)
+  all_targets = ap targets (assigns_are net t p order is) ∙ targets_are net t p order
 
   targets_once : Distinct (targets (assigns (in_parts net t p order)))
   targets_once =
       subst Distinct (sym all_targets)
-      (distinct_joined inside (picked is_output t.leaves net.leaves) (distinct_right (somes t.leaves) inside (names_once net t p order is))
-      (picked_once is_output t.leaves net.leaves is.once)
-      (λ x m n. no_inner is_output x n m))
+      (distinct_joined inside (picked is_output (ordered_names net t) (ordered_leaves net)) (distinct_right (somes (ordered_names net t)) inside (names_once net t p order is))
+      (picked_once is_output (ordered_names net t) (ordered_leaves net) once)
+      (λ x m n. no_inner net t p order is is_output x n m))
 
   pub all_driven : names_of (wires (in_parts net t p order) ++ output_nets (in_parts net t p order)) ≡ targets (assigns (in_parts net t p order))
   all_driven =
@@ -188,59 +237,55 @@ module _ (net : FlatNet) (t : NameTable) (p : Places) (order : List Read) (is : 
         outputs_sized net t p order,
         map-map (λ (s : SizedNet). s.0) inner_sized
             (inners net p order),
-        picked_names is_output t.leaves net.leaves,
+        picked_names is_output (ordered_names net t) (ordered_leaves net),
       ) (sym all_targets)
 
   sources_are : names_of
       (input_nets (in_parts net t p order) ++ regs (in_parts net t p order))
-      ≡ picked is_input t.leaves net.leaves ++ picked is_register t.leaves net.leaves
+      ≡ picked is_input (ordered_names net t) (ordered_leaves net) ++ picked is_register (ordered_names net t) (ordered_leaves net)
   sources_are =
       map-append (λ (s : SizedNet). s.0) (input_nets (in_parts net t p order)) (regs (in_parts net t p order))
       ∙ rw (
         inputs_sized net t p order,
         registers_sized net t p order,
-        picked_names is_input t.leaves net.leaves,
-        picked_names is_register t.leaves
-            net.leaves,
+        picked_names is_input (ordered_names net t) (ordered_leaves net),
+        picked_names is_register (ordered_names net t) (ordered_leaves net),
       ) refl
 
-  not_driven : (q : Role → Bool) → ((r : Role) → q r ≡ true → is_output r ≡ true → ⊥) → (n : List ℕ) → In (picked q t.leaves net.leaves) n
+  not_driven : (q : Role → Bool) → ((r : Role) → q r ≡ true → is_output r ≡ true → ⊥) → (n : List ℕ) → In (picked q (ordered_names net t) (ordered_leaves net)) n
       → In (targets (assigns (in_parts net t p order))) n → ⊥
   not_driven q none n m d =
       ⊎_elim
-      (λ (k : In inside n). no_inner q n m k)
-      (λ (k : In (picked is_output t.leaves net.leaves) n). picked_apart q is_output none t.leaves net.leaves is.once n m k)
-      (in_either inside (picked is_output t.leaves net.leaves) n (subst (λ (ns : List (List ℕ)). In ns n) all_targets d))
+      (λ (k : In inside n). no_inner net t p order is q n m k)
+      (λ (k : In (picked is_output (ordered_names net t) (ordered_leaves net)) n). picked_apart q is_output none (ordered_names net t) (ordered_leaves net) once n m k)
+      (in_either inside (picked is_output (ordered_names net t) (ordered_leaves net)) n (subst (λ (ns : List (List ℕ)). In ns n) all_targets d))
 
   sources_not_driven : (n : List ℕ) → In (names_of (input_nets (in_parts net t p order) ++ regs (in_parts net t p order))) n
       → In (targets (assigns (in_parts net t p order))) n → ⊥
   sources_not_driven n m d =
       ⊎_elim
-      (λ (k : In (picked is_input t.leaves net.leaves) n). not_driven is_input input_not_driven n k d)
-      (λ (k : In (picked is_register t.leaves net.leaves) n). not_driven is_register register_not_driven n k d)
-      (in_either (picked is_input t.leaves net.leaves) (picked is_register t.leaves net.leaves) n
+      (λ (k : In (picked is_input (ordered_names net t) (ordered_leaves net)) n). not_driven is_input input_not_driven n k d)
+      (λ (k : In (picked is_register (ordered_names net t) (ordered_leaves net)) n). not_driven is_register register_not_driven n k d)
+      (in_either (picked is_input (ordered_names net t) (ordered_leaves net)) (picked is_register (ordered_names net t) (ordered_leaves net)) n
       (subst (λ (ns : List (List ℕ)). In ns n) sources_are m))
 
   written : Distinct (block_targets (blocks (in_parts net t p order)))
   written =
       subst Distinct (sym (ap block_targets (blocks_are net t p order) ∙ plain_targets (blocks_of net t p order) ∙ block_targets_are net t p order))
-      (picked_once (is_written (clock_in p.leaves)) t.leaves net.leaves is.once)
+      (picked_once (is_written (clock_in p.leaves)) (ordered_names net t) (ordered_leaves net) once)
 
   pub ordered : AssignsBefore (names_of (input_nets (in_parts net t p order) ++ regs (in_parts net t p order))) (assigns (in_parts net t p order))
   ordered =
       subst (λ (xs : List Assign). AssignsBefore (names_of (input_nets (in_parts net t p order) ++ regs (in_parts net t p order))) xs)
-      (sym (assigns_are net t p order))
+      (sym (assigns_are net t p order is))
       (subst (λ (ns : List (List ℕ)). AssignsBefore ns (assigns_of net t p order)) (sym sources_are) (assigns_ordered net t p order is))
 
-  -- what holds in a tree without arrays and clock outputs
+  -- what holds in a tree without arrays
   abbrev tree : Verilog
   tree = in_parts net t p order
 
   processes_plain : processes (in_parts net t p order) ≡ map assigning (assigns (in_parts net t p order))
-  processes_plain = processes_are tree (no_output_clocks net t p order) (no_arrays net t p order) (blocks_of net t p order) (blocks_are net t p order)
-
-  no_clock_assigns : clock_assigns (in_parts net t p order) ≡ []
-  no_clock_assigns = clock_assigns_none tree (no_output_clocks net t p order) (no_arrays net t p order) (blocks_of net t p order) (blocks_are net t p order)
+  processes_plain = processes_are tree (no_arrays net t p order) (blocks_of net t p order) (blocks_are net t p order)
 
   in_order : IsOrder (in_parts net t p order) (processes (in_parts net t p order))
   in_order = record {
@@ -253,15 +298,45 @@ module _ (net : FlatNet) (t : NameTable) (p : Places) (order : List Read) (is : 
         subst (λ (qs : List Process). ReadsBefore (names_of (input_nets (in_parts net t p order) ++ plain_regs (in_parts net t p order))) qs) (sym processes_plain)
         (subst
         (λ (rs : List SizedNet). AssignsBefore (names_of (input_nets (in_parts net t p order) ++ rs)) (assigns (in_parts net t p order)))
-        (sym (plain_regs_are tree (no_output_clocks net t p order) (no_arrays net t p order) (blocks_of net t p order) (blocks_are net t p order))) ordered);
+        (sym (plain_regs_are tree (no_arrays net t p order) (blocks_of net t p order) (blocks_are net t p order))) ordered);
   }
+
+  abbrev outs : List (List ℕ)
+  outs = picked is_clock_output (ordered_names net t) (ordered_leaves net)
+
+  -- a clock output is no clock input and no net
+  outputs_apart : (x : List ℕ) → In (clocks (in_parts net t p order) ++ names_of (nets (in_parts net t p order))) x → In outs x → ⊥
+  outputs_apart x m o =
+      let nets_of = picked is_net (ordered_names net t) (ordered_leaves net) in
+      ⊎_elim
+      (λ (k : In (clocks (in_parts net t p order)) x).
+      picked_apart is_clock_input is_clock_output output_no_input (ordered_names net t) (ordered_leaves net) once x
+      (subst (λ (ns : List (List ℕ)). In ns x) (clocks_are net t p order) k) o)
+      (λ (k : In (names_of (nets (in_parts net t p order))) x).
+      ⊎_elim
+      (λ (i : In nets_of x). picked_apart is_net is_clock_output output_no_net (ordered_names net t) (ordered_leaves net) once x i o)
+      (λ (i : In inside x). no_inner net t p order is is_clock_output x o i)
+      (in_either nets_of inside x
+      (subst (λ (ns : List (List ℕ)). In ns x) (ap names_of (nets_sized net t p order is) ∙ sizes_named net t p order) k)))
+      (in_either (clocks (in_parts net t p order)) (names_of (nets (in_parts net t p order))) x m)
 
   all_declared_once : Distinct ((clocks (in_parts net t p order) ++ names_of (nets (in_parts net t p order)))
       ++ (variable_names (arrays (in_parts net t p order)) ++ output_clocks (in_parts net t p order)))
   all_declared_once =
       let here = clocks (in_parts net t p order) ++ names_of (nets (in_parts net t p order)) in
       subst (λ (ks : List Variable). Distinct (here ++ (variable_names ks ++ output_clocks (in_parts net t p order)))) (sym (no_arrays net t p order))
-      (subst (λ (ns : List (List ℕ)). Distinct (here ++ ns)) (sym (no_output_clocks net t p order)) (subst Distinct (sym (append-nil here)) all_once))
+      (subst (λ (ns : List (List ℕ)). Distinct (here ++ ns)) (sym (output_clocks_are net t p order))
+      (distinct_joined here outs all_once (picked_once is_clock_output (ordered_names net t) (ordered_leaves net) once) outputs_apart))
+
+  all_driven_once : Distinct (targets (assigns (in_parts net t p order) ++ clock_assigns (in_parts net t p order)))
+  all_driven_once =
+      subst Distinct
+      (sym (map-append (λ (a : Assign). a.target) (assigns (in_parts net t p order)) (clock_assigns (in_parts net t p order))))
+      (distinct_joined (targets (assigns (in_parts net t p order))) (targets (clock_assigns (in_parts net t p order))) targets_once
+      (clock_targets_once net t p order is)
+      (λ x m o.
+      no_clock_target net t p order is x (subst (λ (xs : List Assign). In (targets xs) x) (assigns_are net t p order is) m)
+      (subst (λ (ns : List (List ℕ)). In ns x) (clock_targets net t p order is ∙ output_clocks_are net t p order) o)))
 
   block_sound : (b : AlwaysBlock) → In (blocks (in_parts net t p order)) b → IsSoundBlock (in_parts net t p order) b
   block_sound b m =
@@ -281,12 +356,12 @@ module _ (net : FlatNet) (t : NameTable) (p : Places) (order : List Read) (is : 
     narrow_words = λ k m. absurd (no_array_in k m);
     few_words = subst (λ (ks : List Variable). sum_by (λ (k : Variable). k.depth) ks ≤ 4194304) (sym (no_arrays net t p order)) (omega arith);
     sound_assigns = fits;
-    driven_once =
-        subst (λ (xs : List Assign). Distinct (targets (assigns (in_parts net t p order) ++ xs))) (sym no_clock_assigns)
-        (subst (λ (xs : List Assign). Distinct (targets xs)) (sym (append-nil (assigns (in_parts net t p order)))) targets_once);
+    driven_once = all_driven_once;
     driven = λ n m. subst (λ ns. In ns n) all_driven m;
-    driven_clocks = λ n m. absurd (subst (λ (ns : List (List ℕ)). In ns n) (no_output_clocks net t p order) m);
-    clock_sides = λ a m. absurd (subst (λ (xs : List Assign). In xs a) no_clock_assigns m);
+    driven_clocks = λ n m. subst (λ (ns : List (List ℕ)). In ns n) (sym (clock_targets net t p order is)) m;
+    clock_sides = λ a m.
+        all_at (ShowsClock (in_parts net t p order)) (clock_assigns_of net t p order) (clocks_shown net t p order is) a
+        (subst (λ (xs : List Assign). In xs a) (clock_assigns_are net t p order is) m);
     undriven_sources = sources_not_driven;
     sound_blocks = block_sound;
     written_once = written;

@@ -11,7 +11,7 @@ use Rattle.fir_net.specs.declared.leaf.Leaf.{Leaf}
 use Rattle.ver_ast.specs.declared.tree.Always.{Always}
 use Rattle.ver_ast.specs.Nets.{SizedNet}
 use Rattle.ver_ast.specs.AtomValues.{atom_value}
-use Rattle.ver_build.specs.working.Places.{name_at}
+use Rattle.fir_net_names.specs.working.LeafNamed.{name_at}
 use Rattle.ver_build.specs.working.Built.{along}
 use Rattle.std.proofs.lemmas.Bool.{cond_both}
 use Rattle.fir_base.proofs.Tests.{both}

@@ -1,12 +1,13 @@
 -- How the items of a Verilog tree are arranged (IEEE 1364-2005, 6.1, 9.2.2, 12.1).
 -- The registers stand first, in the order of the state; behind them the wires; then the assigns of the wires, in the order of these, and those of the outputs
--- in port order, each after the assigns of all that it reads; then the blocks, one for each of some registers, in the order of these. Nothing else is there.
+-- in port order, each after the assigns of all that it reads; then the assigns of the clock outputs in port order; then the blocks, one for each of some
+-- registers, in the order of these. Nothing else is there.
 use Rattle.std.specs.Prelude.{◌≡◌, List, [], ◌∷◌, ◌++◌, map, Bool, true, false}
 use Rattle.ver_ast.specs.declared.tree.Verilog.{Verilog}
 use Rattle.ver_ast.specs.declared.tree.Always.{Always}
 use Rattle.ver_ast.specs.declared.tree.Item.{Item}
 use Rattle.ver_ast.specs.declared.tree.Item.TheVariants as item
-use Rattle.ver_ast.specs.Nets.{SizedNet, input_nets, output_nets, wires, regs, assigns, targets, blocks, block_targets, names_of}
+use Rattle.ver_ast.specs.Nets.{SizedNet, input_nets, output_nets, output_clocks, wires, regs, assigns, clock_assigns, targets, blocks, block_targets, names_of}
 use Rattle.ver_ast.specs.Processes.{assigning}
 use Rattle.ver_ast.specs.Valid.{ReadsBefore}
 
@@ -25,9 +26,10 @@ marked (false ∷ ms) (x ∷ xs) = marked ms xs
 
 pub record IsArranged (v : Verilog) : Type 0 where
   pub always : List Always
-  pub by_kind : v.items ≡ map reg_item (regs v) ++ (map wire_item (wires v) ++ (map item.Assign (assigns v) ++ map item.Always always))
+  pub by_kind : v.items ≡ map reg_item (regs v) ++ (map wire_item (wires v) ++ (map item.Assign (assigns v) ++ (map item.Assign (clock_assigns v) ++ map item.Always always)))
   pub assigns_in_order : targets (assigns v) ≡ names_of (wires v ++ output_nets v)
   pub after_what_is_read : ReadsBefore (names_of (input_nets v ++ regs v)) (map assigning (assigns v))
+  pub clock_assigns_in_order : targets (clock_assigns v) ≡ output_clocks v
   -- for each register whether it has a block
   pub driven : List Bool
   pub blocks_in_order : block_targets (blocks v) ≡ marked driven (names_of (regs v))

@@ -8,6 +8,7 @@ ghost use Rattle.fir_net.specs.working.IsWritable.{IsWritable};
 ghost use Rattle.ver_build.specs.working.Built.{built};
 ghost use Rattle.ver_build.specs.working.Builds.{Builds};
 
+use crate::clock_outputs::put_clock_assigns;
 use crate::items::{
     inners_of, ports_of, put_blocks, put_inner_assigns, put_output_assigns, put_regs, put_wires,
 };
@@ -22,7 +23,7 @@ use std::alloc::Global;
 use ver_ast::{Item, Verilog, valid_has_one_rest};
 
 /// The tree of the net with these names and places: nets for each operation and mux, an assign for each of
-/// these and each output, and a block for each register that something drives on a clock.
+/// these, each output and each clock output, and a block for each register that something drives on a clock.
 pub fn built_tree(
     alloc: Global,
     net: &FlatNet,
@@ -43,7 +44,7 @@ pub fn built_tree(
     })
 }
 
-/// The items of that tree: registers, then wires, then assigns, then blocks.
+/// The items of that tree: registers, then wires, then assigns, those of clock outputs last, then blocks.
 fn items_of(
     alloc: Global,
     net: &FlatNet,
@@ -60,6 +61,7 @@ fn items_of(
     put_wires(alloc, &mut items, inners.as_slice())?;
     put_inner_assigns(&mut items, inners)?;
     put_output_assigns(alloc, &mut items, net, table, places)?;
+    put_clock_assigns(alloc, &mut items, net, table, places)?;
     put_blocks(alloc, &mut items, net, table, places)?;
     Ok(items)
 }

@@ -1,10 +1,11 @@
 //! The ports and items of the tree.
 
-ghost use Rattle.std.specs.Prelude.{◌≡◌, ◌++◌, IfOk, OnOk, option_map, map, unwrap_or, []};
+ghost use Rattle.std.specs.Prelude.{◌≡◌, ◌++◌, IfOk, OnOk, option_map, map, slice_get, unwrap_or, []};
 ghost use Rattle.ver_ast.specs.declared.tree.Item.TheVariants as item;
 ghost use Rattle.ver_build.specs.working.Operands.{atom_at};
-ghost use Rattle.ver_build.specs.working.Places.{held_of, name_at};
-ghost use Rattle.ver_build.specs.working.Built.{inners, read_inners, leaf_port, leaf_reg, leaf_assign, leaf_block, inner_wire, inner_assign, along, given};
+ghost use Rattle.fir_net_names.specs.working.LeafNamed.{name_at};
+ghost use Rattle.ver_build.specs.working.Places.{held_of};
+ghost use Rattle.ver_build.specs.working.Built.{inners, read_inners, leaf_port, leaf_reg, leaf_assign, leaf_block, inner_wire, inner_assign, along, at_numbers, of_leaf, given};
 
 use crate::atoms::atom_at;
 use crate::held::Source;
@@ -42,9 +43,8 @@ fn put_port(
             Role::Input => (false, Direction::Input, leaf.width),
             Role::Clock => (true, Direction::Input, 1),
             Role::Output(_) => (false, Direction::Output, leaf.width),
-            Role::Wire(_) | Role::Register(_) | Role::ClockOutput(_) | Role::ClockWire(_) => {
-                return Ok(());
-            }
+            Role::ClockOutput(_) => (true, Direction::Output, 1),
+            Role::Wire(_) | Role::Register(_) | Role::ClockWire(_) => return Ok(()),
         };
         ports.push(Port {
             is_clock,
@@ -56,18 +56,18 @@ fn put_port(
     Ok(())
 }
 
-/// The registers that have a name.
+/// The registers that are the words of the state, in their order.
 pub fn put_regs(
     alloc: Global,
     items: &mut Vec<Item>,
     net: &FlatNet,
     table: &NameTable,
 ) -> Result<(), MemoryOut>
-    ensures { OnOk result (items.new.items ≡ items.old.items ++ along (given item.Reg leaf_reg) table.now.leaves 0 net.now.leaves) }
+    ensures { OnOk result (items.new.items ≡ items.old.items ++ at_numbers (given item.Reg leaf_reg) table.now.leaves net.now.leaves net.now.state) }
 {
-    let leaves = net.leaves.as_slice();
-    for (k, leaf) in leaves.iter().enumerate() {
-        put_reg(alloc, items, leaf, table.leaf(LeafId::new(k)))?;
+    let words = net.state.as_slice();
+    for word in words {
+        put_reg(alloc, items, leaf_at(net, *word), table.leaf(*word))?;
     }
     Ok(())
 }
@@ -75,11 +75,14 @@ pub fn put_regs(
 fn put_reg(
     alloc: Global,
     items: &mut Vec<Item>,
-    leaf: &Leaf,
+    leaf: Option<&Leaf>,
     name: Option<&Name>,
 ) -> Result<(), MemoryOut>
-    ensures { OnOk result (items.new.items ≡ items.old.items ++ given item.Reg leaf_reg leaf.now (option_map (λ n. n.now) name.entry)) }
+    ensures { OnOk result (items.new.items ≡ items.old.items ++ of_leaf (given item.Reg leaf_reg) (option_map (λ l. l.now) leaf.entry) (option_map (λ n. n.now) name.entry)) }
 {
+    let Some(leaf) = leaf else {
+        return Ok(());
+    };
     match (leaf.role, name) {
         (Role::Register(_), Some(name)) => items.push(Item::Reg(Net {
             width: leaf.width,
@@ -88,6 +91,13 @@ fn put_reg(
         _ => (),
     }
     Ok(())
+}
+
+/// The leaf of a number.
+fn leaf_at(net: &FlatNet, number: LeafId) -> Option<&Leaf>
+    ensures { option_map (λ l. l.now) result ≡ slice_get net.now.leaves number }
+{
+    net.leaves.as_slice().get(number.number())
 }
 
 /// The inner nets of all nodes that have one, in the order.
@@ -192,7 +202,7 @@ fn put_output_assign(
     Ok(())
 }
 
-/// The blocks of the registers that something drives on a clock.
+/// The blocks of the registers that something drives on a clock, in the order of the state.
 pub fn put_blocks(
     alloc: Global,
     items: &mut Vec<Item>,
@@ -200,17 +210,17 @@ pub fn put_blocks(
     table: &NameTable,
     places: &Places,
 ) -> Result<(), MemoryOut>
-    ensures { OnOk result (items.new.items ≡ items.old.items ++ along (given item.Always (leaf_block table.now places.now)) table.now.leaves 0 net.now.leaves) }
+    ensures { OnOk result (items.new.items ≡ items.old.items ++ at_numbers (given item.Always (leaf_block table.now places.now)) table.now.leaves net.now.leaves net.now.state) }
 {
-    let leaves = net.leaves.as_slice();
-    for (k, leaf) in leaves.iter().enumerate() {
+    let words = net.state.as_slice();
+    for word in words {
         put_block(
             alloc,
             items,
             table,
             places,
-            leaf,
-            table.leaf(LeafId::new(k)),
+            leaf_at(net, *word),
+            table.leaf(*word),
         )?;
     }
     Ok(())
@@ -221,11 +231,14 @@ fn put_block(
     items: &mut Vec<Item>,
     table: &NameTable,
     places: &Places,
-    leaf: &Leaf,
+    leaf: Option<&Leaf>,
     name: Option<&Name>,
 ) -> Result<(), MemoryOut>
-    ensures { OnOk result (items.new.items ≡ items.old.items ++ given item.Always (leaf_block table.now places.now) leaf.now (option_map (λ n. n.now) name.entry)) }
+    ensures { OnOk result (items.new.items ≡ items.old.items ++ of_leaf (given item.Always (leaf_block table.now places.now)) (option_map (λ l. l.now) leaf.entry) (option_map (λ n. n.now) name.entry)) }
 {
+    let Some(leaf) = leaf else {
+        return Ok(());
+    };
     let (Role::Register(register), Some(name)) = (leaf.role, name) else {
         return Ok(());
     };
@@ -266,7 +279,7 @@ fn source_at(alloc: Global, places: &Places, width: u32, read: Read) -> Result<A
 }
 
 /// The name of a clock's leaf; a whole net has one for each clock input.
-fn clock_name(alloc: Global, table: &NameTable, clock: LeafId) -> Result<Name, MemoryOut>
+pub fn clock_name(alloc: Global, table: &NameTable, clock: LeafId) -> Result<Name, MemoryOut>
     ensures { IfOk result (λ n. n ≡ unwrap_or (name_at table.now.leaves clock) []) }
 {
     match table.leaf(clock) {

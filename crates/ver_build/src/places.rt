@@ -55,6 +55,13 @@ impl Places {
     {
         clock_in(self.leaves.as_slice(), leaf)
     }
+
+    /// The clock input at which the drivers end that begin with this clock's leaf, or none.
+    pub fn driven_clock(&self, driver: Option<LeafId>) -> Option<LeafId>
+        ensures { result ≡ driven_clock_in self.now.leaves driver }
+    {
+        driven_clock_in(self.leaves.as_slice(), driver)
+    }
 }
 
 /// Where the value of a read is, from where those of leaves and nodes are.

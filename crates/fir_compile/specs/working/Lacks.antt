@@ -6,8 +6,8 @@ use Rattle.fir_ast.specs.Circuits.{CircuitTree}
 use Rattle.fir_ast.specs.Faults.{Fault}
 use Rattle.fir_parse.specs.TextFaults.{unsupported_fault}
 use Rattle.fir_meaning.specs.Lack.{Lack}
-use Rattle.fir_inst.specs.working.LoneCircuits.{IsLone}
-use Rattle.fir_lack.specs.working.Lacks.{AreClocksClear}
+use Rattle.fir_lack.specs.working.Lacks.{AreMemoriesClear}
+use Rattle.fir_lack.specs.working.TakenCircuits.{IsTaken}
 use Rattle.fir_outcome.specs.CircuitFaults.{LacksFirst, LacksNone}
 
 -- the fault is that of the first form that is lacking
@@ -17,4 +17,4 @@ ShowsLack c f = (l : Lack) × LacksFirst c l × (f ≡ unsupported_fault l.place
 -- and where none is, the circuit can be flattened, and shows no fault of clocks
 abbrev pub TellsLack : CircuitTree → Option FirFault → Type 0
 TellsLack c (Some f) = ShowsLack c (fault_of f)
-TellsLack c None = LacksNone c × IsLone c × AreClocksClear c
+TellsLack c None = LacksNone c × IsTaken c × AreMemoriesClear c

@@ -10,7 +10,7 @@ use Rattle.fir_parse.specs.Spells.{Spells}
 use Rattle.fir_net.specs.declared.net.FlatNet.{FlatNet}
 use Rattle.fir_net.specs.working.One.{One}
 use Rattle.fir_net.specs.working.Settled.{shape}
-use Rattle.fir_inst.specs.working.FlattensTo.{FlattensTo}
+use Rattle.fir_flatten.specs.working.FlattensTo.{FlattensTo}
 use Rattle.trace_text.specs.Shapes.{TraceShape, plain}
 use Rattle.fir_compile.specs.declared.compiled.Compiled.{Compiled}
 use Rattle.fir_outcome.specs.Emits.{Takes}

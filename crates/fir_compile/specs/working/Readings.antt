@@ -11,7 +11,7 @@ use Rattle.fir_parse.specs.Spells.{Spells}
 use Rattle.fir_parse.specs.TextFaults.{TextFault}
 use Rattle.fir_net.specs.declared.net.FlatNet.{FlatNet}
 use Rattle.fir_net.specs.working.One.{One}
-use Rattle.fir_inst.specs.working.FlattensTo.{FlattensTo}
+use Rattle.fir_flatten.specs.working.FlattensTo.{FlattensTo}
 use Rattle.fir_compile.specs.declared.compiled.Compiled.{Compiled}
 use Rattle.fir_outcome.specs.Emits.{Emits, Takes}
 use Rattle.fir_outcome.specs.Refusals.{RefusedFor}

@@ -9,7 +9,8 @@ use Rattle.fir_net.specs.declared.net.FlatNet.{FlatNet}
 use Rattle.fir_net.specs.working.Allows.{Allows}
 use Rattle.fir_net.specs.working.IsNet.{IsNet}
 use Rattle.fir_net.specs.working.One.{One}
-use Rattle.fir_flat.specs.working.FlatCircuits.{IsFlatOf, as_module}
+use Rattle.fir_connect.specs.working.CircuitModules.{as_module}
+use Rattle.fir_flat.specs.working.FlatCircuits.{IsFlatOf}
 
 -- a whole net of a circuit that has types and in which each leaf is driven that statements must drive
 pub record IsFaithful (c : LeafCircuit) (net : FlatNet) : Type 0 where

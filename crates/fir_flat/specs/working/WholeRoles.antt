@@ -2,7 +2,7 @@
 use Rattle.std.specs.Prelude.{◌≡◌, ℕ, ◌<◌, length, Option, Some, None}
 use Rattle.fir_bits.specs.declared.types.NumTy.{NumTy}
 use Rattle.fir_meaning.specs.working.LeafModules.{LeafModule, LeafReset, Role, role_at}
-use Rattle.fir_meaning.specs.LeafTypes.{LeafType, number}
+use Rattle.fir_meaning.specs.LeafTypes.{number}
 use Rattle.fir_meaning.specs.working.LeafModules as leafed
 use Rattle.fir_leaf.specs.working.LeafNumbers.{BlockWithin, TermWithin}
 use Rattle.fir_leaf_types.specs.working.TypedModules.{IsModuleTyped, held_in}

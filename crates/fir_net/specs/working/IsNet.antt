@@ -1,9 +1,10 @@
 -- Which nets are whole.
 -- Each node reads leaves and nodes before it and has the type of its operation; what drives a leaf is a value of the net and of the leaf's signedness,
 -- and what drives a clock leaf a clock leaf or none; a register is clocked by a clock leaf, and the condition of its reset is one bit; a clock is one bit
--- wide; the ports stand before the other leaves; and all widths are at most 128.
-use Rattle.std.specs.Prelude.{◌≡◌, ℕ, ◌<◌, ◌≤◌, max, List, [], ◌∷◌, ◌++◌, length, map, slice_get, Bool, true, false, Option, Some, None, unwrap_or, option_map, Ok, MatchBool}
+-- wide; the ports stand before the other leaves; all widths are at most 128; and each register that has bits is a word of the state, once.
+use Rattle.std.specs.Prelude.{◌≡◌, ℕ, ◌<◌, ◌≤◌, max, List, [], ◌∷◌, ◌++◌, length, map, slice_get, Bool, true, false, not, ◌&&◌, nat_eq, Option, Some, None, unwrap_or, option_map, Ok, MatchBool}
 use Rattle.std.specs.List.{AllByRecursion}
+use Rattle.fir_base.specs.Lists.{Distinct}
 use Rattle.fir_bits.specs.Values.{IsBitVector}
 use Rattle.fir_bits.specs.Forms.{no_type}
 use Rattle.fir_bits.specs.working.Types.{typed}
@@ -20,6 +21,7 @@ use Rattle.fir_net.specs.declared.node.Mux.{Mux}
 use Rattle.fir_net.specs.declared.node.Node.{Node}
 use Rattle.fir_net.specs.declared.node.Node.TheVariants as node
 use Rattle.fir_net.specs.declared.net.FlatNet.{FlatNet}
+use Rattle.fir_net.specs.working.Counted.{is_register}
 use Rattle.fir_net.specs.working.Values.{leaf_type}
 use Rattle.fir_net.specs.working.Settled.{is_clock}
 
@@ -116,7 +118,18 @@ abbrev pub ArePortsFirst : List Leaf → Type 0
 ArePortsFirst [] = Unit {0}
 ArePortsFirst (l ∷ ls) = MatchBool (is_port l.role) (ArePortsFirst ls) (AreInside ls)
 
+-- a register that has bits
+abbrev pub is_word : Leaf → Bool
+is_word l = is_register l.role && not (nat_eq l.width 0)
+
+-- the words of the state
+pub record IsState (leaves : List Leaf) (state : List ℕ) : Type 0 where
+  pub only : (n k : ℕ) → slice_get state n ≡ Some k → (l : Leaf) × (slice_get leaves k ≡ Some l) × (is_word l ≡ true)
+  pub all : (k : ℕ) (l : Leaf) → slice_get leaves k ≡ Some l → is_word l ≡ true → (n : ℕ) × (slice_get state n ≡ Some k)
+  pub once : Distinct state
+
 pub record IsNet (net : FlatNet) : Type 0 where
   pub leaves : AllByRecursion (IsLeaf net.leaves net.nodes) net.leaves
   pub ports_first : ArePortsFirst net.leaves
   pub nodes : AreNodes net.leaves [] net.nodes
+  pub state : IsState net.leaves net.state

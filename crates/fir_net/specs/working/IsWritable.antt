@@ -1,4 +1,4 @@
--- Which nets have a Verilog text so far: those without clock outputs and resets.
+-- Which nets have a Verilog text so far: those without resets.
 use Rattle.std.specs.Prelude.{◌≡◌, ℕ, slice_get, Some, None}
 use Rattle.fir_net.specs.declared.leaf.Role.{Role}
 use Rattle.fir_net.specs.declared.leaf.Role.TheVariants as role
@@ -7,7 +7,6 @@ use Rattle.fir_net.specs.declared.net.FlatNet.{FlatNet}
 
 abbrev pub IsWritableRole : Role → Type 0
 IsWritableRole (role.Register r) = r.reset ≡ None
-IsWritableRole (role.ClockOutput c) = ⊥
 IsWritableRole _ = Unit {0}
 
 pub record IsWritable (net : FlatNet) : Type 0 where

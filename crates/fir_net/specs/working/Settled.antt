@@ -33,9 +33,9 @@ abbrev pub output_number : Role → ℕ → ℕ → List ℕ
 output_number (role.Output r) width k = with_bits width k
 output_number _ width k = []
 
-abbrev pub register_number : Role → ℕ → ℕ → List ℕ
-register_number (role.Register r) width k = with_bits width k
-register_number _ width k = []
+abbrev pub clock_output_number : Role → ℕ → ℕ → List ℕ
+clock_output_number (role.ClockOutput c) width k = k ∷ []
+clock_output_number _ width k = []
 
 -- the numbers that each leaf gives, where the leaves are numbered from k on
 abbrev pub numbers_by : (Role → ℕ → ℕ → List ℕ) → ℕ → List Leaf → List ℕ
@@ -53,9 +53,13 @@ clocks net = numbers_by clock_number 0 net.leaves
 abbrev pub outputs : FlatNet → List ℕ
 outputs net = numbers_by output_number 0 net.leaves
 
+-- the outputs that are clocks
+abbrev pub clock_outputs : FlatNet → List ℕ
+clock_outputs net = numbers_by clock_output_number 0 net.leaves
+
 -- the registers, whose words are the state
 abbrev pub registers : FlatNet → List ℕ
-registers net = numbers_by register_number 0 net.leaves
+registers net = net.state
 
 abbrev pub shape : FlatNet → Shape
 shape net =

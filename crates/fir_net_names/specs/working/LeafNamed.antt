@@ -1,10 +1,11 @@
--- The names of leaves: those of ports and registers, one after the other.
-use Rattle.std.specs.Prelude.{◌≡◌, ℕ, List, [], ◌∷◌, Bool, true, false, not, ◌&&◌, nat_eq, Option, Some, None}
+-- The names of leaves: which leaves have names, and in which order they take them: first the ports, then the words of the state.
+use Rattle.std.specs.Prelude.{ℕ, List, [], ◌∷◌, ◌++◌, if◌then◌else◌, slice_get, unwrap_or, Option, Some, None}
 use Rattle.fir_net.specs.declared.leaf.Role.{Role}
-use Rattle.fir_net.specs.declared.leaf.Role.TheVariants as role
 use Rattle.fir_net.specs.declared.leaf.Leaf.{Leaf}
+use Rattle.fir_net.specs.declared.net.FlatNet.{FlatNet}
 use Rattle.fir_net.specs.Paths.{base_name}
-use Rattle.fir_net_names.specs.Names.{IsNameFor}
+use Rattle.fir_net.specs.working.IsNet.{is_port}
+use Rattle.fir_net.specs.working.Settled.{with_bits, numbers_by}
 
 -- a name, where there is one, before others
 abbrev pub with_some : Option (List ℕ) → List (List ℕ) → List (List ℕ)
@@ -16,21 +17,26 @@ abbrev pub somes : List (Option (List ℕ)) → List (List ℕ)
 somes [] = []
 somes (n ∷ ns) = with_some n (somes ns)
 
--- wires have no name of their own
-abbrev pub is_wire : Role → Bool
-is_wire (role.Wire r) = true
-is_wire (role.ClockWire c) = true
-is_wire _ = false
+-- a port that has bits; a clock has one
+abbrev pub port_number : Role → ℕ → ℕ → List ℕ
+port_number r width k = if is_port r then with_bits width k else []
 
--- a port or a register that has bits
-abbrev pub has_name : Leaf → Bool
-has_name l = not (is_wire l.role) && not (nat_eq l.width 0)
+-- the numbers of the ports that have names, where the leaves are numbered from k on
+abbrev pub named_ports : ℕ → List Leaf → List ℕ
+named_ports k leaves = numbers_by port_number k leaves
 
-abbrev pub IsLeafName : List (List ℕ) → Leaf → Option (List ℕ) → Type 0
-IsLeafName taken l None = has_name l ≡ false
-IsLeafName taken l (Some n) = (has_name l ≡ true) × IsNameFor taken (base_name l.path) n
+-- the numbers of the leaves that have names, in the order in which they take them
+abbrev pub named_leaves : FlatNet → List ℕ
+named_leaves net = named_ports 0 net.leaves ++ net.state
 
-abbrev pub AreLeafNames : List (List ℕ) → List Leaf → List (Option (List ℕ)) → Type 0
-AreLeafNames taken [] [] = Unit {0}
-AreLeafNames taken (l ∷ ls) (n ∷ ns) = IsLeafName taken l n × AreLeafNames (with_some n taken) ls ns
-AreLeafNames taken _ _ = ⊥
+abbrev pub leaf_base : Option Leaf → List ℕ
+leaf_base None = []
+leaf_base (Some l) = base_name l.path
+
+-- the base of the name of a leaf
+abbrev pub base_at : FlatNet → ℕ → List ℕ
+base_at net k = leaf_base (slice_get net.leaves k)
+
+-- the name of a number; behind the end there is none
+abbrev pub name_at : List (Option (List ℕ)) → ℕ → Option (List ℕ)
+name_at names k = unwrap_or (slice_get names k) None

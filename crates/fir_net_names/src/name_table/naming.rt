@@ -4,6 +4,7 @@ ghost use Rattle.std.specs.Prelude.{IfOk};
 ghost use Rattle.std.specs.List.{AllByRecursion};
 ghost use Rattle.fir_base.specs.Lists.{Distinct};
 ghost use Rattle.ver_words.specs.Names.{IsName};
+ghost use Rattle.fir_net.specs.working.IsNet.{IsNet};
 ghost use Rattle.fir_net.specs.working.WordNames.{HasWordNames};
 ghost use Rattle.fir_net_names.specs.working.IsTable.{IsTable};
 ghost use Rattle.fir_net_names.specs.working.LeafNamed.{somes};
@@ -15,18 +16,19 @@ use fir_net::FlatNet;
 use std::alloc::Global;
 use ver_words::module_name;
 
-/// The names of the net: in the order of the leaves each port and each register takes its base name, or the
-/// first free of that with `_0`, `_1` and so on behind it. No two are the same, and none is reserved (IEEE
-/// 1364-2005, 3.7). Only memory can be wanting.
+/// The names of the net: the ports in their order and then the words of the state in theirs take their base
+/// names, or the first free of that with `_0`, `_1` and so on behind it. No two are the same, and none is
+/// reserved (IEEE 1364-2005, 3.7). Only memory can be wanting.
 pub fn names(alloc: Global, net: &FlatNet) -> Result<NameTable, MemoryOut>
-    requires { HasWordNames net.now }
+    requires whole { IsNet net.now }
+    requires words { HasWordNames net.now }
     ensures table { IfOk result (λ t. IsTable net.now t) }
     ensures distinct { IfOk result (λ t. Distinct (somes t.leaves)) }
     ensures spelled { IfOk result (λ t. AllByRecursion IsName (somes t.leaves)) }
     ensures module_spelled { IfOk result (λ t. IsName t.circuit) }
 {
     let circuit = module_name(alloc, &net.name)?;
-    let LeafNames { names, taken } = leaf_names(alloc, net.leaves.as_slice())?;
+    let LeafNames { names, taken } = leaf_names(alloc, net)?;
     Ok(NameTable {
         circuit,
         leaves: names,

@@ -6,15 +6,15 @@ use Rattle.fir_net.specs.working.Rows.{net_words}
 use Rattle.fir_net_names.specs.declared.name_table.NameTable.{NameTable}
 use Rattle.fir_net.specs.working.Settled.{shape}
 use Rattle.fir_net_names.specs.working.IsTable.{IsTable}
-use Rattle.fir_net_names.specs.working.LeafNamed.{somes}
+use Rattle.fir_net_names.specs.working.LeafNamed.{named_leaves, name_at, somes}
 use Rattle.trace_text.specs.Shapes.{TraceShape, plain, word_kinds}
 
 pub record IsShapeOf (net : FlatNet) (s : TraceShape) : Type 0 where
   pub values : plain s ≡ shape net
   -- a register has no depth, and a net has no arrays yet
   pub words : word_kinds s.state ≡ map (λ w. (w.width, None)) (net_words net)
-  -- in the table of names the ports' names come first
+  -- the leaves that have names in the table are the ports and then the words of the state, which have theirs
   pub table : NameTable
   pub named : IsTable net table
   pub ports : List (List ℕ)
-  pub names : somes table.leaves ≡ ports ++ map (λ w. w.name) s.state
+  pub names : somes (map (name_at table.leaves) (named_leaves net)) ≡ ports ++ map (λ w. w.name) s.state

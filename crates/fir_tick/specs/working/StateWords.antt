@@ -1,9 +1,11 @@
--- What the shape of a net's traces has for each of the net's leaves: the width of an input, a clock, the word of a register.
--- Leaves of no bits have nothing.
-use Rattle.std.specs.Prelude.{ℕ, List, [], ◌∷◌, ◌++◌, Bool, true, false, Option, Some, None, flat_map, nat_eq, if◌then◌else◌}
+-- What the shape of a net's traces has: the width of each input that has bits, the clocks, and the words of the state.
+use Rattle.std.specs.Prelude.{ℕ, List, [], ◌∷◌, Bool, true, false, Option, None, flat_map, map, nat_eq, if◌then◌else◌, unwrap_or}
 use Rattle.fir_net.specs.declared.leaf.Role.{Role}
 use Rattle.fir_net.specs.declared.leaf.Role.TheVariants as role
 use Rattle.fir_net.specs.declared.leaf.Leaf.{Leaf}
+use Rattle.fir_net.specs.declared.net.FlatNet.{FlatNet}
+use Rattle.fir_net.specs.working.Values.{leaf_width}
+use Rattle.fir_net_names.specs.working.LeafNamed.{name_at}
 use Rattle.trace_text.specs.declared.shape.StateWord.{StateWord}
 
 abbrev pub input_width : Role → ℕ → List ℕ
@@ -17,13 +19,10 @@ abbrev pub is_clock : Role → Bool
 is_clock role.Clock = true
 is_clock _ = false
 
--- the word of a register that has a name
-abbrev pub state_word : Role → ℕ → Option (List ℕ) → List StateWord
-state_word (role.Register r) width (Some name) = record { name = name; width = width; depth = None } ∷ []
-state_word _ width _ = []
+-- the word of the register whose leaf has that number
+abbrev pub state_word : FlatNet → List (Option (List ℕ)) → ℕ → StateWord
+state_word net names k = record { name = unwrap_or (name_at names k) []; width = leaf_width net.leaves k; depth = None }
 
--- where each leaf has the name beside it
-abbrev pub state_words : List (Option (List ℕ)) → List Leaf → List StateWord
-state_words [] ls = []
-state_words (n ∷ names) [] = []
-state_words (n ∷ names) (l ∷ ls) = state_word l.role l.width n ++ state_words names ls
+-- the words of the state in their order
+abbrev pub state_words : FlatNet → List (Option (List ℕ)) → List StateWord
+state_words net names = map (state_word net names) net.state

@@ -1,6 +1,6 @@
 -- The Verilog tree of a net, as a function of the net, its names, where its values are, and an order.
--- The registers come first, then the wires of the inner nets and their assigns, both in the order, the assigns of the outputs in port order, and the blocks of the
--- registers that something drives on a clock.
+-- The registers come first, in the order of the state, then the wires of the inner nets and their assigns, both in the order, the assigns of the outputs in port
+-- order, those of the clock outputs in port order, and the blocks of the registers that something drives on a clock, in the order of the state.
 use Rattle.std.specs.Prelude.{ℕ, ◌+◌, true, false, List, [], ◌∷◌, ◌++◌, map, flat_map, slice_get, slice_index, Option, Some, None, unwrap_or}
 use Rattle.fir_base.specs.declared.direction.Direction.TheVariants as direction
 use Rattle.fir_net.specs.declared.reads.Read.{Read}
@@ -19,6 +19,8 @@ use Rattle.ver_ast.specs.declared.tree.Assign.{Assign}
 use Rattle.ver_ast.specs.declared.tree.Always.{Always}
 use Rattle.ver_ast.specs.declared.tree.Item.{Item}
 use Rattle.ver_ast.specs.declared.tree.Item.TheVariants as item
+use Rattle.ver_ast.specs.Atoms as tree
+use Rattle.ver_ast.specs.declared.tree.Rhs.{Rhs}
 use Rattle.ver_ast.specs.declared.tree.Rhs.TheVariants as rhs
 use Rattle.ver_build.specs.declared.held.Source.{Source}
 use Rattle.ver_build.specs.declared.held.Source.TheVariants as source
@@ -27,7 +29,8 @@ use Rattle.ver_build.specs.declared.places.Places.{Places}
 use Rattle.ver_build.specs.working.Operands.{atom_at}
 use Rattle.ver_build.specs.declared.right_sides.Inner.{Inner}
 use Rattle.ver_build.specs.working.Texts.{operation_inners, first_held, second_held, mux_rhs}
-use Rattle.ver_build.specs.working.Places.{held_of, node_at, clock_in, name_at}
+use Rattle.fir_net_names.specs.working.LeafNamed.{name_at}
+use Rattle.ver_build.specs.working.Places.{held_of, node_at, clock_in, driven_clock_in}
 
 -- the nets of an operation or a mux that has the place
 abbrev pub node_inners : Places → Node → List (List ℕ) → List ℕ → List Inner
@@ -58,6 +61,7 @@ abbrev pub port_of : Role → ℕ → List ℕ → List Port
 port_of role.Input width name = record { is_clock = false; direction = direction.Input; width = width; name = name } ∷ []
 port_of role.Clock width name = record { is_clock = true; direction = direction.Input; width = 1; name = name } ∷ []
 port_of (role.Output r) width name = record { is_clock = false; direction = direction.Output; width = width; name = name } ∷ []
+port_of (role.ClockOutput c) width name = record { is_clock = true; direction = direction.Output; width = 1; name = name } ∷ []
 port_of _ width name = []
 
 abbrev pub leaf_port : Leaf → Option (List ℕ) → List Port
@@ -84,6 +88,18 @@ role_assign p _ width _ = []
 abbrev pub leaf_assign : Places → Leaf → Option (List ℕ) → List Assign
 leaf_assign p l name = role_assign p l.role l.width name
 
+-- what a clock output shows: a clock input, or no clock
+abbrev pub clock_rhs : NameTable → Option ℕ → Rhs
+clock_rhs t None = rhs.Atom (tree.constant 1 0)
+clock_rhs t (Some k) = rhs.Atom (tree.net (unwrap_or (name_at t.leaves k) []))
+
+abbrev pub role_clock_assign : NameTable → Places → Role → Option (List ℕ) → List Assign
+role_clock_assign t p (role.ClockOutput c) (Some name) = record { target = name; rhs = clock_rhs t (driven_clock_in p.leaves c) } ∷ []
+role_clock_assign t p _ name = []
+
+abbrev pub leaf_clock_assign : NameTable → Places → Leaf → Option (List ℕ) → List Assign
+leaf_clock_assign t p l name = role_clock_assign t p l.role name
+
 -- the block of a register that something drives on that clock
 abbrev pub block_on : NameTable → Places → Option ℕ → ℕ → Option Read → List ℕ → List Always
 block_on t p (Some k) width (Some r) name =
@@ -102,13 +118,26 @@ abbrev pub along : {A B : Type 0} → (A → Option (List ℕ) → List B) → L
 along f names k [] = []
 along f names k (x ∷ xs) = f x (name_at names k) ++ along f names (k + 1) xs
 
+-- what is made of a leaf with its name, where there is a leaf
+abbrev pub of_leaf : {B : Type 0} → (Leaf → Option (List ℕ) → List B) → Option Leaf → Option (List ℕ) → List B
+of_leaf f None name = []
+of_leaf f (Some l) name = f l name
+
+-- of the leaf of that number
+abbrev pub at_number : {B : Type 0} → (Leaf → Option (List ℕ) → List B) → List (Option (List ℕ)) → List Leaf → ℕ → List B
+at_number f names leaves k = of_leaf f (slice_get leaves k) (name_at names k)
+
+-- of the leaves of these numbers, in the order of the numbers
+abbrev pub at_numbers : {B : Type 0} → (Leaf → Option (List ℕ) → List B) → List (Option (List ℕ)) → List Leaf → List ℕ → List B
+at_numbers f names leaves ks = flat_map (at_number f names leaves) ks
+
 -- the items of one kind that leaves give
 abbrev pub given : {B : Type 0} → (B → Item) → (Leaf → Option (List ℕ) → List B) → Leaf → Option (List ℕ) → List Item
 given c f l name = map c (f l name)
 
--- registers, then wires, then assigns, then blocks
-abbrev pub items : List Net → List Net → List Assign → List Always → List Item
-items rs ws xs bs = map item.Reg rs ++ (map item.Wire ws ++ (map item.Assign xs ++ map item.Always bs))
+-- registers, then wires, then assigns, then those of clock outputs, then blocks
+abbrev pub items : List Net → List Net → List Assign → List Assign → List Always → List Item
+items rs ws xs cs bs = map item.Reg rs ++ (map item.Wire ws ++ (map item.Assign xs ++ (map item.Assign cs ++ map item.Always bs)))
 
 unfoldable pub built : FlatNet → NameTable → Places → List Read → Verilog
 built net t p order =
@@ -116,8 +145,9 @@ built net t p order =
       name = t.circuit;
       ports = along leaf_port t.leaves 0 net.leaves;
       items =
-          items (along leaf_reg t.leaves 0 net.leaves) (map inner_wire (inners net p order))
+          items (at_numbers leaf_reg t.leaves net.leaves net.state) (map inner_wire (inners net p order))
           (map inner_assign (inners net p order) ++ along (leaf_assign p) t.leaves 0 net.leaves)
-          (along (leaf_block t p) t.leaves 0 net.leaves);
+          (along (leaf_clock_assign t p) t.leaves 0 net.leaves)
+          (at_numbers (leaf_block t p) t.leaves net.leaves net.state);
       places = [];
     }

@@ -1,6 +1,6 @@
 -- Which registers of a net are driven on a clock.
 -- Something drives the register, and the drivers of its clock end at a clock input.
-use Rattle.std.specs.Prelude.{◌≡◌, ◌↔◌, ℕ, List, [], ◌∷◌, flat_map, nat_eq, if◌then◌else◌, Bool, IsTrue, slice_get, Some, IsSome}
+use Rattle.std.specs.Prelude.{◌≡◌, ◌↔◌, ℕ, List, [], ◌∷◌, flat_map, Bool, IsTrue, slice_get, Option, Some, None, IsSome}
 use Rattle.fir_net.specs.declared.leaf.Register.{Register}
 use Rattle.fir_net.specs.declared.leaf.Role.{Role}
 use Rattle.fir_net.specs.declared.leaf.Role.TheVariants as role
@@ -8,13 +8,17 @@ use Rattle.fir_net.specs.declared.leaf.Leaf.{Leaf}
 use Rattle.fir_net.specs.declared.net.FlatNet.{FlatNet}
 use Rattle.fir_net.specs.working.Settled.{clock_driver}
 
-abbrev pub role_register : Role → ℕ → List Register
-role_register (role.Register r) width = if nat_eq width 0 then [] else (r ∷ [])
-role_register _ width = []
+abbrev pub role_register : Role → List Register
+role_register (role.Register r) = r ∷ []
+role_register _ = []
 
--- the registers that have bits, which are the words of the state in order
+abbrev pub word_register : Option Leaf → List Register
+word_register None = []
+word_register (Some l) = role_register l.role
+
+-- the registers that are the words of the state, in order
 abbrev pub net_registers : FlatNet → List Register
-net_registers net = flat_map (λ l. role_register l.role l.width) net.leaves
+net_registers net = flat_map (λ k. word_register (slice_get net.leaves k)) net.state
 
 -- the leaf of that number is a clock input, or is driven by a clock leaf whose drivers end at one
 pub data EndsAtInput (net : FlatNet) : ℕ → Type 0 where

@@ -14,7 +14,7 @@ use Rattle.fir_net.specs.declared.net.FlatNet.{FlatNet}
 use Rattle.fir_net_names.specs.declared.name_table.NameTable.{NameTable}
 use Rattle.ver_words.specs.Names.{IsName}
 use Rattle.fir_net_names.specs.Names.{IsInner, inner_name}
-use Rattle.fir_net_names.specs.working.LeafNamed.{somes}
+use Rattle.fir_net_names.specs.working.LeafNamed.{somes, name_at}
 use Rattle.ver_build.specs.declared.held.Source.{Source}
 use Rattle.ver_build.specs.declared.held.Source.TheVariants as source
 use Rattle.ver_build.specs.declared.held.Held.{Held}
@@ -57,9 +57,6 @@ clock_in leaves k = place_clock (place_at leaves k)
 abbrev pub driven_clock_in : List Place → Option ℕ → Option ℕ
 driven_clock_in leaves None = None
 driven_clock_in leaves (Some k) = clock_in leaves k
-
-abbrev pub name_at : List (Option (List ℕ)) → ℕ → Option (List ℕ)
-name_at names k = unwrap_or (slice_get names k) None
 
 -- where a leaf of that number, signedness, width and role is, from where what drives it is
 abbrev pub placed : List Place → List NodePlace → Option (List ℕ) → ℕ → Bool → ℕ → Role → Place

@@ -8,10 +8,10 @@ use Rattle.fir_net.specs.declared.leaf.Leaf.{Leaf}
 use Rattle.fir_net.specs.declared.node.Node.{Node}
 use Rattle.fir_net.specs.declared.net.FlatNet.{FlatNet}
 use Rattle.fir_net_names.specs.declared.name_table.NameTable.{NameTable}
-use Rattle.fir_net_names.specs.working.LeafNamed.{somes}
+use Rattle.fir_net_names.specs.working.LeafNamed.{somes, name_at}
 use Rattle.ver_build.specs.declared.places.Place.{Place}
 use Rattle.ver_build.specs.declared.places.NodePlace.{NodePlace}
-use Rattle.ver_build.specs.working.Places.{name_at, placed, IsOwn, source_name, IsNodePlace, AreInnerTo, node_names}
+use Rattle.ver_build.specs.working.Places.{placed, IsOwn, source_name, IsNodePlace, AreInnerTo, node_names}
 
 -- where a node is, whose nets have the first free inner names from that number on
 pub record IsNumbered (t : NameTable) (n : Node) (from : ℕ) (p : NodePlace) (to : ℕ) : Type 0 where

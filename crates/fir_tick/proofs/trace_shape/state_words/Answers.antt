@@ -1,17 +1,33 @@
-use Rattle.std.proofs.Common.{◌≡◌, ◌+◌, ◌∷◌, drop, ap, sym, ◌∙◌}
-use Rattle.std.specs.Prelude.{option_map}
-use Rattle.std.proofs.lemmas.List.{drop_more, drop_all}
-use Rattle.fir_tick.proofs.ShapeWords.{words_more, words_all}
+use Rattle.std.proofs.Common.{◌≡◌, ◌+◌, Some, None, take, sym}
+use Rattle.std.specs.Prelude.{slice_get}
+use Rattle.fir_base.proofs.Elements.{get_in}
+use Rattle.fir_net_names.specs.working.LeafNamed.{name_at}
+use Rattle.fir_tick.proofs.ShapeNames.{word_named}
+use Rattle.fir_tick.proofs.ShapeWords.{words_more}
+use Rattle.fir_tick.proofs.WordLeaves.{word_stands, word_next, word_leaf}
 use Rattle.fir_tick.proofs.trace_shape.state_words.Goals as goal
 
-pub loop-number-preserved : goal.loop-number-preserved
-loop-number-preserved c =
-    let leaves = c.args.leaves.now in
-    let i = c.loop-number.number in
-    let leaf = c.index-leaves-number.result in
-    let next : drop i leaves ≡ leaf ∷ drop (i + 1) leaves =
-    drop_more leaves i leaf c.loop-number-test.true ∙ ap (λ l. l ∷ drop (i + 1) leaves) (sym c.index-leaves-number.is) in
-    words_more c.args.table.now.leaves leaves i leaf (option_map (λ n. n.now) c.leaf.result) c.loop-number.words.items c.put_state_word.new.words.items _ next (rw c.new.ensures at c.leaf.ensures) c.in_ok-put_state_word.ensures c.loop-number.invariant
+pub unreachable-requires : goal.unreachable-requires
+unreachable-requires c =
+    let net = c.args.net.now in
+    let table = c.args.table.now in
+    let word = c.word-item.result in
+    let i = c.loop-word.word-index in
+    let stands = word_stands net c.requires.whole c.as_slice-leaves.result.now c.as_slice-leaves.ensures c.as_slice-state.result.now c.as_slice-state.ensures i word c.loop-word-test.true c.word-item.is in
+    let has = word_named net table c.requires.named word (get_in net.state i word stands) in
+    let none : None ≡ name_at table.leaves word = rw c.in_default.is at c.leaf.ensures in
+    let name = has.1 in
+    cc
 
-pub returns : goal.returns
-returns c = words_all _ _ _ _ (drop_all c.loop-number.number c.args.leaves.now c.loop-number-test.false) c.loop-number.invariant
+pub loop-word-preserved : goal.loop-word-preserved
+loop-word-preserved c =
+    let net = c.args.net.now in
+    let table = c.args.table.now in
+    let i = c.loop-word.word-index in
+    let word = c.word-item.result in
+    let leaf = c.index-leaves-number.result in
+    let next = word_next net c.requires.whole c.as_slice-leaves.result.now c.as_slice-leaves.ensures c.as_slice-state.result.now c.as_slice-state.ensures i word c.loop-word-test.true c.word-item.is in
+    let there = word_leaf net c.requires.whole c.as_slice-leaves.result.now c.as_slice-leaves.ensures c.as_slice-state.result.now c.as_slice-state.ensures i word c.loop-word-test.true c.word-item.is c.number-number.result c.number-number.ensures leaf c.index-leaves-number.is in
+    let at : slice_get net.leaves word ≡ Some leaf = rw c.number-number.ensures at there in
+    let named : name_at table.leaves word ≡ Some c.in-Some.name.now = sym (rw c.in-Some.is at c.leaf.ensures) in
+    words_more net table.leaves (take i net.state) (take (i + 1) net.state) word leaf c.in-Some.name.now c.loop-word.words.items c.put_state_word.new.words.items next at named c.in_ok-put_state_word.ensures c.loop-word.invariant

@@ -14,6 +14,7 @@ returns c =
       wires = c.put_wires.new.items.items;
       inner_assigns = c.put_inner_assigns.new.items.items;
       assigns = c.put_output_assigns.new.items.items;
+      clock_assigns = c.put_clock_assigns.new.items.items;
       nothing = c.in_ok-items.ensures.items;
       put_regs = c.in_ok-put_regs.ensures;
       put_wires =
@@ -23,5 +24,6 @@ returns c =
           c.in_ok-put_inner_assigns.ensures ∙ ap (λ xs. c.put_wires.new.items.items ++ map (λ (i : Inner). item.Assign (inner_assign i)) xs)
           c.in_ok-inners.ensures;
       put_assigns = c.in_ok-put_output_assigns.ensures;
+      put_clock_assigns = c.in_ok-put_clock_assigns.ensures;
       put_blocks = c.in_ok-put_blocks.ensures;
     })

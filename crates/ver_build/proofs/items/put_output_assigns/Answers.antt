@@ -1,5 +1,5 @@
 use Rattle.std.proofs.Common.{ap, ◌∙◌}
-use Rattle.ver_build.specs.working.Places.{name_at}
+use Rattle.fir_net_names.specs.working.LeafNamed.{name_at}
 use Rattle.ver_ast.specs.declared.tree.Item.TheVariants as item
 use Rattle.ver_build.specs.working.Built.{given, leaf_assign}
 use Rattle.ver_build.proofs.Lists.{put_more}

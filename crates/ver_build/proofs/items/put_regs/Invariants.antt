@@ -1,7 +1,8 @@
 use Rattle.std.proofs.Common.{◌≡◌, ◌++◌, take}
 use Rattle.ver_ast.specs.declared.tree.Item.TheVariants as item
-use Rattle.ver_build.specs.working.Built.{given, leaf_reg, along}
+use Rattle.ver_build.specs.working.Built.{given, leaf_reg, at_numbers}
 use Rattle.ver_build.proofs.items.put_regs.Given as goal
 
-abbrev pub invariant-loop-k : goal.invariant-loop-k
-invariant-loop-k l = l.items.items ≡ l.initial.items.items ++ along (given item.Reg leaf_reg) l.table.leaves 0 (take l.k l.leaves)
+abbrev pub invariant-loop-word : goal.invariant-loop-word
+invariant-loop-word l =
+    l.items.items ≡ l.initial.items.items ++ at_numbers (given item.Reg leaf_reg) l.table.leaves l.net.leaves (take l.word-index l.words)

@@ -1,7 +1,8 @@
 use Rattle.std.proofs.Common.{◌≡◌, ◌<◌, ◌∙◌, length, option_map, Some, arith, refl, sym, ap}
 use Rattle.std.specs.Prelude.{slice_get, slice_set}
 use Rattle.std.proofs.lemmas.Option.{slice_get_read}
-use Rattle.ver_build.specs.working.Places.{name_at, placed}
+use Rattle.fir_net_names.specs.working.LeafNamed.{name_at}
+use Rattle.ver_build.specs.working.Places.{placed}
 use Rattle.ver_build.proofs.leaf_places.pass.Goals as goal
 
 pub returns-in_ok-place-in-Leaf : goal.returns-in_ok-place-in-Leaf

@@ -10,8 +10,8 @@ returns-in_default-clause-mark c = λ s d marks.
 pub returns-in_default-clause-passed : goal.returns-in_default-clause-passed
 returns-in_default-clause-passed c = λ s d marks.
     let none = no_marks c.args.self.now.marks.now c.in_default.len_below in
-    subst (AreMarks s (d + 1)) (ap (drop 1) none ∙ sym none) (marks_behind s d c.args.self.now.marks.now marks)
+    subst (AreMarks s (d + 1)) (ap (drop 1) none ∙ sym none) (marks_behind s d 1 c.args.self.now.marks.now marks)
 
 pub returns-clause-passed : goal.returns-clause-passed
 returns-clause-passed c = λ s d marks.
-    subst (AreMarks s (d + 1)) (sym (whole_rest c.args.self.now.marks.now)) (marks_behind s d c.args.self.now.marks.now marks)
+    subst (AreMarks s (d + 1)) (sym (whole_rest c.args.self.now.marks.now 1)) (marks_behind s d 1 c.args.self.now.marks.now marks)

@@ -24,7 +24,7 @@ returns-clause-steps c printed h =
       _,
       c.in_ok-write_line.ensures.line,
       tick_ran c.args.trace.now c.args.with_state c.args.self.now new printed (c.trace_reads_in_steps.ensures c.args.trace.now c.args.self.now.shape) h
-          (record { net = c.tick.ensures.net; shape_stays = refl }) c.next_tick.new.tick.tick (rw c.in-Ok-true.field-0-test at c.in-Ok-true.ensures.steps) c.tick.ensures.allows
+          (record { net = c.tick.ensures.net; shape_stays = refl }) c.next_tick.new.tick.tick (rw c.in-Ok-true.field-0-test at c.in-Ok-true.ensures.steps) c.tick.ensures.allows.0 c.tick.ensures.allows.1
           _ (ap widths (sym c.outputs.ensures.value) ∙ c.outputs.ensures.widths ∙ ap output_widths c.tick.ensures.net)
           (rw (c.outputs.ensures.value, c.shown_state.ensures) refl),
     )

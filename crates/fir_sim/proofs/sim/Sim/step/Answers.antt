@@ -1,9 +1,10 @@
-use Rattle.std.proofs.Common.{[], sym, subst}
+use Rattle.std.proofs.Common.{ℕ, List, Option, map, sym, subst}
 use Rattle.fir_base.specs.Ticks.{Tick, FitEach}
 use Rattle.fir_net.specs.working.Allows.{Allows}
-use Rattle.fir_net.specs.working.Settled.{shape}
+use Rattle.fir_net.specs.working.Settled.{clock_outputs, shape}
 use Rattle.fir_tick.specs.working.Views.{SimView, IsTickOf, numbers}
 use Rattle.fir_tick.specs.working.Passes.{input_width}
+use Rattle.fir_tick.specs.working.Plans.{root_at}
 use Rattle.fir_tick.specs.working.Steps.{IsStepped}
 use Rattle.fir_tick.proofs.Fits.{clocks_rise, fit_count}
 use Rattle.fir_sim.proofs.PlanFacts.{input_widths}
@@ -145,5 +146,7 @@ returns-clause-allows c =
     let tick : Tick = record { inputs = c.args.inputs.now; clocks = c.args.clocks.now } in
     let is_tick : IsTickOf net tick = subst (λ (s : SimView). IsTickOf s.net tick) (sym c.self.view_is) c.requires in
     let after = c.take_edges.new.self in
-    subst (λ (s : SimView). Allows s.net (numbers s.state) tick (numbers after.outputs.items) [] (numbers after.state.items)) c.self.view_is
-    (allows net steps p tick is_tick v0 after c.put_inputs.new.self.numbers.items run (ticked net steps p tick is_tick v0 run c.put_state.new.self c.put_state.ensures.numbers c.put_state.ensures.others c.put_inputs.new.self c.put_inputs.ensures.numbers c.put_inputs.ensures.others c.settle.new.self c.settle.ensures.settled c.settle.ensures.others c.show_outputs.new.self c.show_outputs.ensures.others c.take_edges.new.self c.show_outputs.ensures.outputs c.show_outputs.ensures.whole c.take_edges.ensures.state c.take_edges.ensures.whole c.take_edges.ensures.others) c.has_its_type.ensures c.nodes_have_their_types.ensures c.nodes_have_their_values.ensures)
+    subst (λ (s : SimView). (of_outputs : List (Option ℕ)) × Allows s.net (numbers s.state) tick (numbers after.outputs.items) of_outputs (numbers after.state.items)) c.self.view_is (
+      map (root_at run.plan.roots) (clock_outputs net),
+      allows net steps p tick is_tick v0 after c.put_inputs.new.self.numbers.items run (ticked net steps p tick is_tick v0 run c.put_state.new.self c.put_state.ensures.numbers c.put_state.ensures.others c.put_inputs.new.self c.put_inputs.ensures.numbers c.put_inputs.ensures.others c.settle.new.self c.settle.ensures.settled c.settle.ensures.others c.show_outputs.new.self c.show_outputs.ensures.others c.take_edges.new.self c.show_outputs.ensures.outputs c.show_outputs.ensures.whole c.take_edges.ensures.state c.take_edges.ensures.whole c.take_edges.ensures.others) c.has_its_type.ensures c.nodes_have_their_types.ensures c.nodes_have_their_values.ensures,
+    )

@@ -1,0 +1,286 @@
+"""A second reading of which leaves a design has, by which statements they are driven, and in which
+order: that of the main module and of the instances below it, for texts in which no fault stands
+that comes before E24.
+
+Leaves are named by their paths from the main module on, as `core.io.v[2].x`. A port of an instance
+is one leaf: an input is driven in the module that has the instance, an output in the module of it.
+"""
+import re
+from functools import lru_cache
+from typing import NamedTuple
+
+import inference_forms
+from driven_rules import Fork, undriven_by
+from inference_forms import (Asked, Circuit, Declared, Elements, Entered, Reference, Stands, leaves,
+                             matched, type_of)
+from operators import Type
+from type_forms import Ground
+from width_rules import Widths, held
+
+
+class Register(NamedTuple):
+    """Its clock, and the condition and the init of its reset, or None twice."""
+    clock: object
+    condition: object = None
+    init: object = None
+
+
+class When(NamedTuple):
+    """A when and which of its blocks."""
+    at: str
+    condition: object
+    outcome: bool
+
+
+class Drive(NamedTuple):
+    """A side of a statement that may drive leaves: where the statement stands, the whens around it,
+    what is driven, what gives, or None of an invalid, and the paths of the leaves in both."""
+    at: str
+    whens: tuple
+    driven: Reference
+    giving: object
+    paths: dict
+
+
+class Copy:
+    """A module of the design: its number in the order in which a walk through the statements from
+    the main module on meets them, what stands before the paths of its leaves, and the module."""
+
+    def __init__(self, prefix, module):
+        self.number, self.prefix, self.module = None, prefix, module
+
+
+class Leaf(NamedTuple):
+    """A ground leaf: the word of its declaration, its place, the copy in which it is driven or, if
+    nothing drives it, declared; its name there, the path behind that, its type, and how many whens
+    stand round the declaration. The word of an input of an instance is `inst`, that of an output
+    `output`; a flipped leaf of an output of the main module has `input`."""
+    word: str
+    at: str
+    copy: Copy
+    name: str
+    path: str
+    ground: Ground
+    depth: int
+
+    def is_clock(self):
+        return self.ground.kind == "Clock"
+
+    def is_input(self):
+        """Of the main module."""
+        return self.word == "input"
+
+    def is_sink(self):
+        """What statements drive, registers apart."""
+        return self.word in ("inst", "output", "wire")
+
+    def type(self):
+        return Type(self.ground.kind == "SInt", held(self.ground))
+
+    def local(self):
+        """Its path in the module of its copy."""
+        return self.name + self.path
+
+
+class Module(inference_forms.Module):
+    """A module with all that its leaves take their values from."""
+
+    def __init__(self, name, block):
+        # of the block that is read: the whens around it, and those before it of its chain of
+        # `else when`; and of each name how many whens hold its declaration
+        self.whens, self.chain, self.depths = (), (), {}
+        self.nodes, self.registers, self.drives = {}, {}, []
+        super().__init__(name, block)
+
+    def branch(self, line, inner, visible):
+        around = self.whens
+        is_else = line.peek().spelling == "else"
+        chain = self.chain if is_else else ()
+        line.skip(is_else)
+        here = []
+        if line.peek().spelling == "when":
+            at, condition = line.at(), line.skip(1).expression()
+            here = [When(at, condition, True)]
+            self.steps += [Entered(), Asked(condition)]
+        before = tuple(when._replace(outcome=False) for when in chain)
+        self.whens = (*around, *before, *here)
+        self.block(inner, visible)
+        self.whens, self.chain = around, (*chain, *here)
+
+    def declare(self, line, word, at, name, given, data=None):
+        self.depths[name] = len(self.whens)
+        return super().declare(line, word, at, name, given, data)
+
+    def connect(self, line):
+        at, left, how = line.at(), line.reference(), line.take()
+        self.steps.append(Stands(left))
+        if how == "is":
+            both = {path: path for path, _, _ in leaves(left.type)}
+            self.drives.append(Drive(at, self.whens, left, None, both))
+            return
+        right = line.expression()
+        self.steps += [Stands(right), inference_forms.Joined(how, left, right)]
+        forth, back = {}, {}
+        for path, _, _, is_flipped in matched(left.type, type_of(right)):
+            (back if is_flipped else forth)[path] = path
+        self.drives.append(Drive(at, self.whens, left, right, forth))
+        if back:
+            self.drives.append(Drive(at, self.whens, right, left, back))
+
+    def node(self, line, at, name, inner):
+        start = line.i
+        self.nodes[name] = line.skip(1).expression()
+        line.i = start
+        super().node(line, at, name, inner)
+
+    def reg(self, line, at, name, inner):
+        start = line.i
+        line.skip(1).type()
+        clock = line.skip(1).expression()
+        self.registers[name] = Register(clock)
+        line.i = start
+        seen = len(self.steps)
+        super().reg(line, at, name, inner)
+        asked = [step.expression for step in self.steps[seen:] if isinstance(step, Asked)]
+        if asked:
+            init = self.steps[-1].giving
+            self.registers[name] = Register(clock, asked[0], init)
+
+
+def is_input(port, is_flipped):
+    return port.word == ("output" if is_flipped else "input")
+
+
+class Source:
+    """The design of a text."""
+
+    def __init__(self, text):
+        circuit = Circuit(text, Module)
+        Widths(circuit)
+        self.name, self.modules = circuit.main, circuit.modules
+        # leaves by their paths in the order of their numbers; and words in that of the statements
+        self.copies, self.leaves, self.words, self.known_drives = [], {}, [], {}
+        main = Copy("", self.modules[self.name])
+        for port in main.module.ports:
+            for path, ground, is_flipped in leaves(port.type):
+                word = "input" if is_input(port, is_flipped) else "output"
+                self.declare("", Leaf(word, port.at, main, port.name, path, ground, 0))
+        ports = list(self.leaves.items())
+        self.enter(main)
+        self.ports = [path for path, _ in ports]
+        self.inputs = [path for path, leaf in ports
+                       if leaf.is_input() and not leaf.is_clock() and leaf.type().width]
+        self.clocks = [path for path, leaf in ports if leaf.is_input() and leaf.is_clock()]
+        self.outputs = [path for path, leaf in ports
+                        if not leaf.is_input() and not leaf.is_clock() and leaf.type().width]
+        self.clock_outputs = [path for path, leaf in ports
+                              if not leaf.is_input() and leaf.is_clock()]
+
+    def declare(self, prefix, leaf):
+        self.leaves[prefix + leaf.local()] = leaf
+
+    def enter(self, copy):
+        """Lists the leaves of a copy that are no ports of it, and then those of its instances."""
+        copy.number, inside = len(self.copies), {}
+        self.copies.append(copy)
+        declared = [step for step in copy.module.steps[len(copy.module.ports):]
+                    if isinstance(step, Declared)]
+        for step in declared:
+            depth = copy.module.depths[step.name]
+            if step.word == "inst":
+                of = self.modules[copy.module.instances[step.name]]
+                inside[step.name] = Copy(f"{copy.prefix}{step.name}.", of)
+                self.face(copy, step, inside[step.name], depth)
+                continue
+            for path, ground, _ in leaves(step.type):
+                self.declare(copy.prefix,
+                             Leaf(step.word, step.at, copy, step.name, path, ground, depth))
+        for step in declared:
+            if step.word == "inst":
+                self.enter(inside[step.name])
+            elif step.word == "reg":
+                self.words += [copy.prefix + step.name + path for path, ground, _ in
+                               leaves(step.type) if held(ground)]
+
+    def face(self, copy, step, inside, depth):
+        """Declares the leaves of an instance's ports."""
+        for port in inside.module.ports:
+            for path, ground, is_flipped in leaves(port.type):
+                if is_input(port, is_flipped):
+                    given = Leaf("inst", step.at, copy, step.name, f".{port.name}{path}", ground,
+                                 depth)
+                    self.declare(copy.prefix, given)
+                else:
+                    given = Leaf("output", port.at, inside, port.name, path, ground, 0)
+                    self.declare(inside.prefix, given)
+
+    def widths(self, paths):
+        return [self.leaves[path].type().width for path in paths]
+
+    def drives_of(self, leaf):
+        """The sides that may drive a leaf, the last first, each with the path of the leaf that
+        gives in what gives."""
+        known = (leaf.copy.module.name, leaf.local())
+        if known not in self.known_drives:
+            self.known_drives[known] = list(found_drives(leaf))
+        return self.known_drives[known]
+
+    def live_drives_of(self, leaf):
+        """Those that some choice leaves last, in the same order."""
+        later = []
+        for drive, given in self.drives_of(leaf):
+            outcomes = [(fork("when", when.at), when.outcome)
+                        for when in whens_from(drive, leaf)]
+            if drive.driven.indices:
+                outcomes.append((fork("index", drive.at), True))
+            if is_live(outcomes, later):
+                yield drive, given
+            later.append(tuple(outcomes))
+
+
+def found_drives(leaf):
+    for drive in reversed(leaf.copy.module.drives):
+        if drive.driven.steps[0][0] != leaf.name:
+            continue
+        for inner, given in drive.paths.items():
+            if reaches(drive.driven, leaf.local(), inner):
+                yield drive, given
+
+
+def whens_from(drive, leaf):
+    """The whens that count for a leaf: those inside its declaration."""
+    return drive.whens[leaf.depth:]
+
+
+@lru_cache(None)
+def parted(path):
+    """The parts of a path."""
+    return tuple(re.findall(r"\.?[^.\[\]]+|\[\d+\]", path))
+
+
+def reaches(reference, path, inner):
+    """Whether a reference, and behind it an inner path, may name the leaf of a path."""
+    parts, behind = parted(path), parted(inner)
+    count = len(parts) - len(behind)
+    if count != len(reference.steps) or parts[count:] != behind:
+        return False
+    return all(step[0] == part if not isinstance(step, Elements)
+               else int(part[1:-1]) < step.length
+               for step, part in zip(reference.steps, parts))
+
+
+def fork(word, at):
+    return Fork(*map(int, at.split(":")), word)
+
+
+def is_live(outcomes, later):
+    """Whether some choice takes these outcomes, and none of those that come later."""
+    taken = dict(outcomes)
+    if any(taken[one] != outcome for one, outcome in outcomes):
+        return False
+    left = []
+    for one in later:
+        if any(taken.get(key, outcome) != outcome for key, outcome in one):
+            continue
+        left.append(tuple(pair for pair in one if pair[0] not in taken))
+    return () not in left and undriven_by(left) is not None

@@ -1,0 +1,17 @@
+pub mod RisingLeaves
+pub mod PlacedInstances
+pub mod InstancesInTurn
+pub mod OrderedModules
+pub mod HeldBlocks
+pub mod HeldModules
+pub mod ChosenRanges
+pub mod CopyWords
+pub mod StackedParts
+pub mod OwnRanges
+pub mod CopyPrefixes
+pub mod ViewedLeaves
+pub mod OwnInstances
+pub mod InstanceWords
+pub mod ComingParts
+pub mod EnteredCopies
+pub mod WalkSteps

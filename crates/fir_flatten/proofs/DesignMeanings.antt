@@ -1,0 +1,181 @@
+-- Whichever source tree stands below the main module of a circuit, the flat net of its design means what that tree means.
+use Rattle.std.proofs.Common.{◌≡◌, ℕ, ◌≤◌, List, [], length, true, slice_get, Option, Some, None, option_map, refl, sym, ap, ◌∙◌, subst, arith, length-append}
+use Rattle.std.specs.Prelude.{IsSome}
+use Rattle.std.proofs.lemmas.List.{length-map}
+use Rattle.std.proofs.lemmas.Option.{same_Some, slice_get-map}
+use Rattle.fir_ast.specs.Circuits.{CircuitTree}
+use Rattle.fir_bits.specs.working.Laws.{HasItsType}
+use Rattle.fir_meaning.specs.Elaborated.{IsSourceOf}
+use Rattle.fir_meaning.specs.ModuleScenes.{Scene, behind_all_ports}
+use Rattle.fir_meaning.specs.SourceCircuits.{PlacedLeaf, all_leaves, main_ports, port_leaves, state_words}
+use Rattle.fir_meaning.specs.SourceDesigns.{IsSourceDesignOf, SourceDesign, made_of}
+use Rattle.fir_meaning.specs.SourceRoles.{SourceLeaf}
+use Rattle.fir_meaning.specs.Visibility.{at_head}
+use Rattle.fir_meaning.specs.working.Designs.{Design}
+use Rattle.fir_meaning.specs.working.Elaborated.{views}
+use Rattle.fir_meaning.specs.working.Flattened.{flattened}
+use Rattle.fir_meaning.specs.working.LeafCircuits.{role_of}
+use Rattle.fir_meaning.specs.working.LeafModules.{leaf_at}
+use Rattle.fir_meaning.specs.working.LeafedModules.{leafed_module, leaves_in_block, leaves_of_ports}
+use Rattle.fir_leaf.specs.working.TableLaws.{LeavesFollowTypes}
+use Rattle.fir_connect.specs.working.CircuitModules.{as_module}
+use Rattle.fir_design.specs.working.MeaningLaws.{AreDesigns, SameAllows, SameShape}
+use Rattle.fir_design.specs.working.SourceLaws.{HasOneTree}
+use Rattle.fir_design.specs.working.SourceRuns.{SameOne}
+use Rattle.fir_design.proofs.LeavesBeside.{ports_beside}
+use Rattle.fir_design.proofs.SourceMeanings.{in_step}
+use Rattle.fir_design_loops.specs.working.SameLoops.{SameLoops}
+use Rattle.fir_net.specs.declared.leaf.Leaf.{Leaf}
+use Rattle.fir_net.specs.declared.leaf.Register.{Register}
+use Rattle.fir_net.specs.declared.leaf.Role.TheVariants as role
+use Rattle.fir_net.specs.declared.net.FlatNet.{FlatNet}
+use Rattle.fir_net.specs.declared.reads.Read.{Read}
+use Rattle.fir_flat.specs.working.FlatLaws.{AllowsTheSame, HasOneWhere, IsFaithful}
+use Rattle.fir_flat.specs.working.FlatLoops.{HidesNoLoop, ShowsTheSameLoops}
+use Rattle.fir_flat.proofs.FlatLeaves.{shape_is}
+use Rattle.fir_source_faults.specs.working.NumberedTaking.{takes}
+use Rattle.fir_flatten.specs.working.FlatDesigns.{IsFlatDesign, IsPlainDesign, has_next, has_read}
+use Rattle.fir_flatten.specs.working.FlattensTo.{MeansSource, TakesAs}
+use Rattle.fir_flatten.specs.working.Laws.{DesignsArePlain, IsDesigned, IsTakenDesign}
+use Rattle.fir_flatten.proofs.ClockedRegisters.{clocked_same}
+use Rattle.fir_flatten.proofs.DesignPorts.{HasPorts, has_ports, no_arrays}
+use Rattle.fir_flatten.proofs.LeafRoles.{shaped_register}
+use Rattle.fir_flatten.proofs.OneScene.{one_list, one_main}
+use Rattle.fir_flatten.proofs.PlainNets.{IsPlainNet, faithful, plain_net}
+use Rattle.fir_flatten.proofs.SourceRowsOfNets.{arrays_are, rows_are, widths_are, words_are}
+use Rattle.fir_flatten.proofs.TakingRegisters.{same_taking}
+
+-- the laws that it rests on
+pub record LawsBelow : Type 0 where
+  pub plain : DesignsArePlain
+  pub types : HasItsType
+  pub trees : HasOneTree
+  pub shapes : SameShape
+  pub allows : SameAllows
+  pub one : SameOne
+  pub net_allows : AllowsTheSame
+  pub net_one : HasOneWhere
+  pub loops : SameLoops
+  pub net_loops : ShowsTheSameLoops
+  pub hidden : HidesNoLoop
+  pub follow : LeavesFollowTypes
+
+-- a circuit, its design, and the flat net of that
+pub record IsGiven (c : CircuitTree) (scenes : List Scene) (main : Scene) (d : Design) (net : FlatNet) : Type 0 where
+  pub designed : IsDesigned c scenes main d
+  pub taken : IsTakenDesign scenes d
+  pub flat : IsFlatDesign (flattened d) (leafed_module main).port_leaves net
+
+abbrev main_leaf : SourceLeaf → PlacedLeaf
+main_leaf l = record { at = []; leaf = l }
+
+ports_long : (scenes : List Scene) (s : Scene) (t : SourceDesign) → IsSourceDesignOf scenes s t → length (main_ports t) ≡ (leafed_module s).port_leaves
+ports_long scenes s (made_of o is) h =
+    ap (λ (x : Scene). length (main_ports (made_of x is))) h.0 ∙ length-map (port_leaves s) main_leaf ∙ sym (ports_beside s s.own.inside.ports at_head)
+
+ports_within : (s : Scene) → (leafed_module s).port_leaves ≤ length (leafed_module s).leaves
+ports_within s =
+    let long =
+    length-append (leaves_of_ports s at_head s.own.inside.ports) (leaves_in_block s (behind_all_ports s.own.inside) s.own.inside.body) in
+    omega (arith, long)
+
+some_read : (o : Option Read) → IsSome o → has_read o ≡ true
+some_read None some = absurd (cc)
+some_read (Some r) some = refl
+
+read_some : (o : Option Read) → has_read o ≡ true → IsSome o
+read_some None e = absurd (cc)
+read_some (Some r) e = refl
+
+module _ (laws : LawsBelow) (c : CircuitTree) (scenes : List Scene) (main : Scene) (d : Design) (net : FlatNet) (given : IsGiven c scenes main d net) where
+  plain : IsPlainDesign (flattened d) (leafed_module main).port_leaves
+  plain = laws.plain c scenes main d given.designed given.taken
+
+  ports : HasPorts (leafed_module main) (flattened d)
+  ports = has_ports (views scenes) (leafed_module main) d given.designed.sound.is (ports_within main)
+
+  none : (flattened d).array_order ≡ []
+  none =
+      no_arrays scenes (λ s i. (given.taken.taken s i).no_arrays) (leafed_module main) d (given.taken.taken main given.designed.among).no_arrays
+      given.designed.sound.is
+
+  pub net_is : IsPlainNet (flattened d) (leafed_module main).port_leaves net
+  net_is = plain_net (flattened d) (leafed_module main) net plain ports none given.flat
+
+  net_faithful : IsFaithful (flattened d) net
+  net_faithful = faithful (flattened d) (leafed_module main) net plain ports none given.flat
+
+  -- a tree of the scenes below the main module
+  pub are_designs : (t : SourceDesign) → IsSourceDesignOf scenes main t → AreDesigns c d t
+  are_designs t is =
+      let own = given.designed in
+      record {
+        names = own.names;
+        types = own.types;
+        scenes = scenes;
+        are = own.has.are;
+        main = main;
+        among = own.among;
+        design = own.sound;
+        tree = is;
+      }
+
+  -- each tree below the main module of the circuit is one
+  pub tree_is : (t : SourceDesign) → IsSourceOf c t → IsSourceDesignOf scenes main t
+  tree_is t src =
+      let own = given.designed in
+      subst (λ (ss : List Scene). IsSourceDesignOf ss main t) (one_list c src.scenes scenes src.main main src.has own.has)
+      (subst (λ (s : Scene). IsSourceDesignOf src.scenes s t) (one_main c src.scenes scenes src.main main src.has own.has) src.is)
+
+  module _ (t : SourceDesign) (below : IsSourceDesignOf scenes main t) where
+    abbrev a : AreDesigns c d t
+    a = are_designs t below
+
+    takes_as : (n k : ℕ) (p : PlacedLeaf) (l : Leaf) (r : Register) → slice_get net.state n ≡ Some k → slice_get (state_words t) n ≡ Some p
+        → slice_get net.leaves k ≡ Some l → l.role ≡ role.Register r → TakesAs t net p r
+    takes_as n k p l r word source at is =
+        let g = flattened d in
+        let step = in_step c d t a in
+        let number : slice_get g.words n ≡ Some k = ap (λ ks. slice_get ks n) (sym given.flat.state) ∙ word in
+        let get : slice_get (all_leaves t) k ≡ Some p =
+        same_Some _ _
+        (sym (slice_get-map (slice_get (all_leaves t)) g.words n ∙ ap (option_map (slice_get (all_leaves t))) number)
+        ∙ ap (λ os. slice_get os n) step.words ∙ slice_get-map Some (state_words t) n ∙ ap (option_map Some) source) in
+        let register = shaped_register l.role (leaf_at g.leaves k).holds (role_of g k) (net_is.each k l at).shaped r is in
+        let same = same_taking c d t a k p get in
+        let takes_is : has_read r.next ≡ takes (as_module g) k = ap has_next (sym is) ∙ (given.flat.each k l at).takes in
+        record {
+          next = (
+            λ some. record {
+              holder = same.holder;
+              among = same.among;
+              is_at = same.is_at;
+              takes = sym (same.takes same.holder same.among same.is_at) ∙ sym takes_is ∙ some_read r.next some;
+            },
+            λ taking. read_some r.next (takes_is ∙ same.takes taking.holder taking.among taking.is_at ∙ taking.takes),
+          );
+          clock = clocked_same g net net_faithful k l at r is register.0 register.1 register.2 laws.types t step p (step.each k p get).role;
+        }
+
+    pub means : MeansSource t net
+    means =
+        let g = flattened d in
+        let step = in_step c d t a in
+        let whole = given.flat.whole in
+        let many = (leafed_module main).port_leaves in
+        let long = ports_long scenes main t below in
+        let tree_one = laws.one c d t a in
+        let net_one = laws.net_one g net net_faithful in
+        record {
+          ports = rows_are g many net whole net_is t step long;
+          words = words_are g many net whole net_is t step long;
+          arrays = arrays_are g many net whole net_is t step long;
+          shapes = sym (shape_is g net net_is.flat whole) ∙ laws.shapes c d t a;
+          output_widths = widths_are g many net whole net_is t step long;
+          one = (λ o. net_one.0 (tree_one.0 o), λ o. tree_one.1 (net_one.1 o));
+          allows = λ state tick shown clocks after.
+              let tree_allows = laws.allows c d t state tick shown clocks after a in
+              let net_allows = laws.net_allows g net net_faithful state tick shown clocks after in
+              (λ x. tree_allows.1 (net_allows.1 x), λ x. net_allows.0 (tree_allows.0 x));
+          taken = takes_as;
+        }

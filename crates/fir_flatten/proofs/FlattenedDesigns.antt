@@ -1,0 +1,273 @@
+-- A plain design is flattened: each leaf of the net is that of its circuit, the words of the state are the circuit's, and the net is whole.
+use Rattle.std.proofs.Common.{◌≡◌, ℕ, ◌<◌, ◌≤◌, List, [], ◌++◌, length, Bool, true, false, ◌&&◌, slice_get, Some, sym, ap, ◌∙◌, subst, arith, refl}
+use Rattle.std.specs.Prelude.{nat_lt}
+use Rattle.std.proofs.lemmas.Bool.{le-ltb, lt-ltb}
+use Rattle.std.proofs.lemmas.Option.{slice_get_within}
+use Rattle.fir_base.proofs.Each.{all_from}
+use Rattle.fir_base.proofs.Elements.{number_of, there}
+use Rattle.fir_base.proofs.Tests.{both}
+use Rattle.fir_leaf_circuit.specs.declared.leaf.LeafType.{LeafType as TypeOfCode}
+use Rattle.fir_leaf_circuit.specs.declared.leaf.LeafType.TheVariants.{Clock, Number}
+use Rattle.fir_leaf_circuit.specs.working.Seen.{type_seen}
+use Rattle.fir_leaf_types.specs.working.TypedModules.{IsRoleTyped, held_in}
+use Rattle.fir_leaf_types.specs.working.TypedTerms.{IsNarrow}
+use Rattle.fir_meaning.specs.LeafTypes.{LeafType, a_clock, has_bits}
+use Rattle.fir_meaning.specs.working.LeafCircuits.{LeafCircuit, role_of}
+use Rattle.fir_meaning.specs.working.LeafModules.{LeafModule, Role as LeafRole, computed, depth_at, register, role_at}
+use Rattle.fir_meaning.specs.working.StateWalks.{is_state}
+use Rattle.fir_meaning.specs.working.UndrivenChoices.{drives_any}
+use Rattle.fir_connect.specs.working.CircuitModules.{as_module}
+use Rattle.fir_connect.specs.working.NetRoles.{net_role, net_role_at, net_types}
+use Rattle.fir_connect.specs.working.NetTerms.{leaf}
+use Rattle.fir_drivers.proofs.QuietStatements.{quiet_all}
+use Rattle.fir_net.specs.declared.leaf.Leaf.{Leaf}
+use Rattle.fir_net.specs.declared.net.FlatNet.{FlatNet}
+use Rattle.fir_net.specs.declared.node.Node.{Node}
+use Rattle.fir_net.specs.working.IsNet.{AreNodes, IsClock, IsLeaf, IsRole, IsState, is_port, is_word}
+use Rattle.fir_net.specs.working.Settled.{is_clock}
+use Rattle.fir_merge.specs.working.NodeTerms.{Grows}
+use Rattle.fir_flat.specs.working.FlatCircuits.{IsRoleOf}
+use Rattle.fir_flat.specs.working.WholeRoles.{RolesAreWhole}
+use Rattle.fir_whens.specs.declared.net_role.NetRole.{NetRole}
+use Rattle.fir_source_faults.specs.working.NumberedTaking.{takes_by}
+use Rattle.fir_flatten.specs.declared.design_net.DesignLeaf.{DesignLeaf}
+use Rattle.fir_flatten.specs.declared.design_net.DesignNet.{DesignNet}
+use Rattle.fir_flatten.specs.declared.kept_nodes.KeptNodes.{KeptNodes}
+use Rattle.fir_flatten.specs.working.DesignNets.{IsLeafOf, IsNetOfDesign, is_register}
+use Rattle.fir_flatten.specs.working.FlatDesigns.{HasWidth, IsClear, IsFlatDesign, IsFlatLeaf, IsPlainDesign, IsPortRole, IsWord, has_next}
+use Rattle.fir_flatten.specs.working.FlatRoles.{choices_behind, flat_leaves_of, flat_role_of}
+use Rattle.fir_flatten.specs.working.KeptNodes.{IsHeld, Keeps, LeavesHold, ReadWhole}
+use Rattle.fir_flatten.proofs.BuiltNodes.{AreBuilt, built_first}
+use Rattle.fir_flatten.proofs.ChoiceNodes.{all_built, choices_built}
+use Rattle.fir_flatten.proofs.GivenRoles.{IsGiven, IsWholeWhere, role_given}
+use Rattle.fir_flatten.proofs.MovedRoles.{StandsIn, StandsMoved, reads_whole, role_moved}
+use Rattle.fir_flatten.proofs.PlacedLeaves.{IsPlaced, leaf_placed, length-leaves}
+use Rattle.fir_flatten.proofs.PortsFirst.{ports_first}
+use Rattle.fir_flatten.proofs.PortsOfLeaves.{clock_ticks, has_width, inner_port, is_held, is_narrow, outer_port, takes_value, word_is}
+use Rattle.fir_flatten.proofs.RolesOfLeaves.{KeepsOwn, StandsInside, role_can, role_stands}
+
+-- whether a register takes a value, where a statement drives it alike
+takes_alike : (q : LeafRole) (a b : Bool) → (is_register q ≡ true → a ≡ b) → takes_by a q ≡ takes_by b q
+takes_alike (register clock reset) a b same = ap (λ (d : Bool). takes_by d (register clock reset)) (same refl)
+takes_alike q a b same = refl
+
+module _
+    (law : RolesAreWhole) (c : LeafCircuit) (ports : ℕ) (plain : IsPlainDesign c ports) (design : DesignNet) (so : IsNetOfDesign c ports design) where
+  abbrev m : LeafModule
+  m = as_module c
+
+  abbrev nodes : List Node
+  nodes = design.nodes.items
+
+  abbrev roles : List NetRole
+  roles = design.roles.items
+
+  abbrev declared : List DesignLeaf
+  declared = design.leaves.items
+
+  whole_where : (x : ℕ) (holds : TypeOfCode) → x < length c.leaves → type_seen holds ≡ held_in m x → IsWholeWhere m holds (net_role_at m x)
+  whole_where x Clock inside held = tt
+  whole_where x (Number u) inside held = law m x u plain.typed plain.within inside (sym held)
+
+  given : (x : ℕ) (d : DesignLeaf) (r : NetRole) → slice_get declared x ≡ Some d → slice_get roles x ≡ Some r
+      → IsGiven c (StandsIn c nodes) d.holds r (net_role_at m x)
+  given x d r d_at r_at =
+      let within = slice_get_within roles x r r_at in
+      let inside : x < length c.leaves = omega (arith, within, so.roles_count) in
+      let held = (so.leaves x d d_at).held in
+      role_given c nodes so.before (depth_at m x) m.body x d.holds (role_at m x) r (plain.taken x inside)
+      (subst (λ (h : LeafType). IsRoleTyped (held_in m) h (role_at m x)) (sym held) (plain.typed.roles x inside))
+      (subst (λ (h : LeafType). IsClear c h (net_role_at m x)) (sym held) (plain.clear x inside)) (so.roles x r r_at) (whole_where x d.holds inside held)
+
+  leaf_there : (x : ℕ) (r : NetRole) → slice_get roles x ≡ Some r → (d : DesignLeaf) × (slice_get declared x ≡ Some d)
+  leaf_there x r at =
+      let within = slice_get_within roles x r at in
+      there declared x (omega (arith, within, so.roles_count, so.count))
+
+  roles_read_whole : ReadWhole (held_in m) (length c.leaves) nodes roles
+  roles_read_whole x r at = let d = leaf_there x r at in reads_whole c nodes d.0.holds r (net_role_at m x) (given x d.0 r d.1 at)
+
+  narrow_at : (x : ℕ) (holds : TypeOfCode) → x < length c.leaves → type_seen holds ≡ held_in m x → IsNarrow (type_seen holds)
+  narrow_at x holds inside held = subst IsNarrow (sym held) (plain.typed.narrow x inside)
+
+  -- what no statement drives keeps what it shows
+  own_at : (x : ℕ) (d : DesignLeaf) → IsLeafOf c x d → d.is_driven ≡ false → KeepsOwn x (net_role_at m x)
+  own_at x d is none = by (role_at m x) is.driven
+    where
+      by : (q : LeafRole) → (is_register q ≡ true → d.is_driven ≡ drives_any x c.body) → KeepsOwn x (net_role (net_types m) (depth_at m x) m.body x q)
+      by (register clock reset) same = quiet_all (net_types m) (depth_at m x) x m.body 0 (leaf x) (sym (same refl) ∙ none)
+      by q same = tt
+
+  -- what is computed is no port
+  inside_at : (x : ℕ) → StandsInside (nat_lt x design.port_leaves) (net_role_at m x)
+  inside_at x = by (role_at m x) (λ lt. plain.port x (omega (arith, lt, so.ports)))
+    where
+      by : (q : LeafRole) → (x < design.port_leaves → IsPortRole q) → StandsInside (nat_lt x design.port_leaves) (net_role (net_types m) (depth_at m x) m.body x q)
+      by (computed t) port = let none : x < design.port_leaves → ⊥ = port in le-ltb x design.port_leaves (omega (arith, none))
+      by q port = tt
+
+  module _
+      (kept : KeptNodes) (keeps : Keeps nodes roles kept) (net : FlatNet)
+      (leaves_are : net.leaves ≡ flat_leaves_of kept.places.items design.port_leaves 0 declared roles (length kept.nodes.items))
+      (nodes_are : net.nodes ≡ kept.nodes.items ++ choices_behind kept.places.items declared roles) (state_is : net.state ≡ c.words) where
+    abbrev places : List ℕ
+    places = kept.places.items
+
+    count : length net.leaves ≡ length c.leaves
+    count =
+        ap length leaves_are ∙ length-leaves places design.port_leaves (length c.leaves) 0 declared roles (length kept.nodes.items) so.count so.roles_count
+
+    -- a leaf of the net
+    placed : (x : ℕ) (l : Leaf) → slice_get net.leaves x ≡ Some l → IsPlaced places design.port_leaves declared roles net.nodes x l
+    placed x l at =
+        leaf_placed places design.port_leaves declared roles kept.nodes.items net.nodes nodes_are x l
+        (subst (λ (ls : List Leaf). slice_get ls x ≡ Some l) leaves_are at)
+
+    within_at : (x : ℕ) (l : Leaf) → slice_get net.leaves x ≡ Some l → x < length c.leaves
+    within_at x l at = let within = slice_get_within net.leaves x l at in omega (arith, within, count)
+
+    abbrev Outer : ℕ → Bool
+    Outer x = nat_lt x design.port_leaves
+
+    hold : LeavesHold net.leaves (held_in m) (length c.leaves)
+    hold = record { long = count; each = each }
+      where
+        each : (x : ℕ) (l : Leaf) → slice_get net.leaves x ≡ Some l → IsHeld l (held_in m x)
+        each x l at =
+            let p = placed x l at in
+            let held = (so.leaves x p.declared p.declared_at).held in
+            subst (IsHeld l) held
+            (is_held places (Outer x) p.declared.is_driven p.count l p.role p.declared.holds (ap (λ (k : Leaf). k.signed) p.is) (ap (λ (k : Leaf). k.width) p.is)
+            (ap (λ (k : Leaf). k.role) p.is) (narrow_at x p.declared.holds (within_at x l at) held))
+
+    moved_at : (x : ℕ) (r : NetRole) (d : DesignLeaf) → slice_get declared x ≡ Some d → slice_get roles x ≡ Some r → (ns : List Node)
+        → Grows kept.nodes.items ns → IsGiven c (StandsMoved c places ns) d.holds r (net_role_at m x)
+    moved_at x r d d_at r_at ns grows =
+        role_moved c nodes kept ns grows d.holds r (net_role_at m x) (given x d r d_at r_at) (keeps.reads x r r_at)
+
+    kept_are : AreNodes net.leaves [] kept.nodes.items
+    kept_are = keeps.whole net.leaves (held_in m) (length c.leaves) hold roles_read_whole
+
+    built : AreBuilt net.leaves kept.nodes.items net.nodes
+    built =
+        subst (AreBuilt net.leaves kept.nodes.items) (sym nodes_are)
+        (all_built net.leaves places kept.nodes.items declared roles
+        (λ x r at ns so_far.
+        let d = leaf_there x r at in
+        choices_built c net.leaves hold places kept.nodes.items ns so_far d.0.holds r (net_role_at m x) (moved_at x r d.0 d.1 at ns so_far.grows))
+        kept.nodes.items (built_first net.leaves kept.nodes.items keeps.before kept_are))
+
+    given_at : (x : ℕ) (l : Leaf) (at : slice_get net.leaves x ≡ Some l)
+        → IsGiven c (StandsMoved c places net.nodes) (placed x l at).declared.holds (placed x l at).role (net_role_at m x)
+    given_at x l at = let p = placed x l at in moved_at x p.role p.declared p.declared_at p.role_at net.nodes built.grows
+
+    ticks_at : (x : ℕ) (l : Leaf) → slice_get net.leaves x ≡ Some l → held_in m x ≡ a_clock → is_clock l.role ≡ true
+    ticks_at x l at ticks =
+        let p = placed x l at in
+        let held = (so.leaves x p.declared p.declared_at).held in
+        ap (λ (k : Leaf). is_clock k.role) p.is
+        ∙ clock_ticks places (Outer x) p.declared.is_driven p.count c (StandsMoved c places net.nodes) p.declared.holds p.role (net_role_at m x) (held ∙ ticks)
+        (given_at x l at)
+
+    clocks : (y : ℕ) → y < length c.leaves → held_in m y ≡ a_clock → IsClock net.leaves y
+    clocks y inside ticks =
+        let found = there net.leaves y (omega (arith, inside, count)) in
+        (found.0, found.1, ticks_at y found.0 found.1 ticks)
+
+    outer_at : (x : ℕ) (l : Leaf) → slice_get net.leaves x ≡ Some l → x < ports → is_port l.role ≡ true
+    outer_at x l at lt =
+        let p = placed x l at in
+        let test : Outer x ≡ true = lt-ltb x design.port_leaves (omega (arith, lt, so.ports)) in
+        ap (λ (k : Leaf). is_port k.role) p.is
+        ∙ ap (λ (b : Bool). is_port (flat_role_of places b p.declared.is_driven p.declared.holds p.role p.count)) test
+        ∙ outer_port places true p.declared.is_driven p.count c (StandsMoved c places net.nodes) (depth_at m x) m.body x p.declared.holds p.role (role_at m x)
+        (plain.port x lt) (given_at x l at)
+
+    inner_at : (x : ℕ) (l : Leaf) → slice_get net.leaves x ≡ Some l → ports ≤ x → is_port l.role ≡ false
+    inner_at x l at le =
+        let p = placed x l at in
+        let test : Outer x ≡ false = le-ltb x design.port_leaves (omega (arith, le, so.ports)) in
+        ap (λ (k : Leaf). is_port k.role) p.is
+        ∙ ap (λ (b : Bool). is_port (flat_role_of places b p.declared.is_driven p.declared.holds p.role p.count)) test
+        ∙ inner_port places true p.declared.is_driven p.count c (StandsMoved c places net.nodes) (depth_at m x) m.body x p.declared.holds p.role (role_at m x)
+        (plain.inner x le (within_at x l at)) (given_at x l at)
+
+    each : (x : ℕ) (l : Leaf) → slice_get net.leaves x ≡ Some l → IsFlatLeaf c ports net x l
+    each x l at =
+        let p = placed x l at in
+        let seen = so.leaves x p.declared p.declared_at in
+        let signed = ap (λ (k : Leaf). k.signed) p.is in
+        let width = ap (λ (k : Leaf). k.width) p.is in
+        let driven = p.declared.is_driven in
+        record {
+          path = ap (λ (k : Leaf). k.path) p.is ∙ seen.path;
+          place = ap (λ (k : Leaf). k.place) p.is ∙ seen.place;
+          has_width = subst (HasWidth l) seen.held (has_width places (Outer x) driven p.count l p.role p.declared.holds signed width);
+          role =
+              subst (λ (h : LeafType). IsRoleOf net.nodes (net_types m) x l.role h (net_role_at m x)) seen.held
+              (subst (λ (k : Leaf). IsRoleOf net.nodes (net_types m) x k.role (type_seen p.declared.holds) (net_role_at m x)) (sym p.is)
+              (role_stands c net hold places kept.nodes.items built (Outer x) driven x p.count p.declared.holds p.role (net_role_at m x) (given_at x l at) p.choice
+              (own_at x p.declared seen) (inside_at x)));
+          takes =
+              ap (λ (k : Leaf). has_next k.role) p.is
+              ∙ takes_value places (Outer x) driven p.count c (StandsMoved c places net.nodes) (depth_at m x) m.body x p.declared.holds p.role (role_at m x)
+              (given_at x l at)
+              ∙ takes_alike (role_at m x) driven (drives_any x c.body) seen.driven;
+          port = outer_at x l at;
+          inner = inner_at x l at;
+        }
+
+    leaf_whole : (x : ℕ) (l : Leaf) → slice_get net.leaves x ≡ Some l → IsLeaf net.leaves net.nodes l
+    leaf_whole x l at =
+        let p = placed x l at in
+        let seen = so.leaves x p.declared p.declared_at in
+        let driven = p.declared.is_driven in
+        record {
+          narrow =
+              is_narrow places (Outer x) driven p.count l p.role p.declared.holds (ap (λ (k : Leaf). k.width) p.is)
+              (narrow_at x p.declared.holds (within_at x l at) seen.held);
+          driven =
+              subst (λ (k : Leaf). IsRole net.leaves net.nodes k.signed k.width k.role) (sym p.is)
+              (role_can c net hold places kept.nodes.items built (Outer x) driven x p.count clocks p.declared.holds p.role (net_role_at m x) (given_at x l at) p.choice
+              (own_at x p.declared seen));
+        }
+
+    -- words of the state
+    word_at : (x : ℕ) (l : Leaf) → slice_get net.leaves x ≡ Some l → is_word l ≡ (is_state (role_of c x) && has_bits (held_in m x))
+    word_at x l at =
+        let p = placed x l at in
+        let held = (so.leaves x p.declared p.declared_at).held in
+        word_is places (Outer x) p.declared.is_driven p.count c (StandsMoved c places net.nodes) (depth_at m x) m.body x l p.declared.holds p.role (role_at m x)
+        (ap (λ (k : Leaf). k.width) p.is) (ap (λ (k : Leaf). k.role) p.is) (given_at x l at)
+        ∙ ap (λ (h : LeafType). is_state (role_of c x) && has_bits h) held
+
+    and_both : (a b : Bool) → a ≡ true → b ≡ true → (a && b) ≡ true
+    and_both true b e f = f
+    and_both false b e f = cc
+
+    state : IsState net.leaves c.words
+    state = record {
+      only = λ n x at.
+          let word = plain.words n x at in
+          let found = there net.leaves x (omega (arith, word.0, count)) in
+          (found.0, found.1, word_at x found.0 found.1 ∙ and_both (is_state (role_of c x)) (has_bits (held_in m x)) word.1.0 word.1.1);
+      all = λ x l at is.
+          let parts : IsWord c x = both (is_state (role_of c x)) (has_bits (held_in m x)) (sym (word_at x l at) ∙ is) in
+          plain.all_words x (within_at x l at) parts;
+      once = plain.once;
+    }
+
+    pub design_flat : IsFlatDesign c ports net
+    design_flat = record {
+      count = count;
+      each = each;
+      state = state_is;
+      whole = record {
+        leaves =
+            all_from (IsLeaf net.leaves net.nodes) net.leaves
+            (λ l among. let n = number_of net.leaves l among in leaf_whole n.0 l n.1);
+        ports_first = ports_first ports net.leaves outer_at inner_at;
+        nodes = built.are;
+        state = subst (IsState net.leaves) (sym state_is) state;
+      };
+    }

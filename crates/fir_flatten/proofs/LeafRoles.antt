@@ -1,0 +1,93 @@
+-- What a leaf of a flat net is, by what it holds and by its role in the circuit.
+use Rattle.std.proofs.Common.{◌≡◌, ℕ, List, true, Option, Some, None, option_map, refl, sym, ap, ◌∙◌, subst, inl, inr, true≢false}
+use Rattle.fir_meaning.specs.working.LeafBlocks.{LeafBlock}
+use Rattle.fir_meaning.specs.working.LeafModules.{LeafReset, Role, computed, pipe, reading, register, sink, source}
+use Rattle.fir_meaning.specs.LeafTypes.{LeafType, a_clock, number}
+use Rattle.fir_meaning.specs.working.TermValues.{Holds}
+use Rattle.fir_meaning.specs.working.Terms.{Term}
+use Rattle.fir_lack.specs.working.TakenCircuits.{ActsAtEdges, IsTakenRole}
+use Rattle.fir_connect.specs.working.NetRoles.{net_reset, net_role}
+use Rattle.fir_net.specs.declared.leaf.Register.{Register}
+use Rattle.fir_net.specs.declared.leaf.Reset.{Reset}
+use Rattle.fir_net.specs.declared.leaf.Role as net_leaf
+use Rattle.fir_net.specs.declared.leaf.Role.TheVariants as role
+use Rattle.fir_net.specs.declared.node.Node.{Node}
+use Rattle.fir_net.specs.declared.reads.Read.{Read}
+use Rattle.fir_net.specs.working.IsNet.{is_port}
+use Rattle.fir_net.specs.working.IsWritable.{IsWritableRole}
+use Rattle.fir_flat.specs.working.FlatCircuits.{IsClockedBy, IsDrivenBy, IsResetOf, IsRoleOf, reset_kept}
+
+-- an input, what is driven, a node, or a register without a reset; so of clocks, but that no register holds one
+abbrev pub IsShaped : net_leaf.Role → LeafType → Role → Type 0
+IsShaped x (number t) source = x ≡ role.Input
+IsShaped x a_clock source = x ≡ role.Clock
+IsShaped x (number t) sink = (r : Read) × IsDrivenBy x r
+IsShaped x a_clock sink = (c : Option ℕ) × IsClockedBy x c
+IsShaped x (number t) (computed e) = (r : Read) × (x ≡ role.Wire r)
+IsShaped x a_clock (computed e) = (c : Option ℕ) × (x ≡ role.ClockWire c)
+IsShaped x (number t) (register clock reset) = (g : Register) × (x ≡ role.Register g) × (g.reset ≡ None)
+IsShaped x _ _ = ⊥
+
+-- a reset that acts at edges is a choice, and does not stay
+none_kept : (nodes : List Node) (holds : Holds) (own : Option Reset) (reset : Option LeafReset) → ActsAtEdges reset
+    → IsResetOf nodes own (reset_kept (option_map (net_reset holds) reset)) → own ≡ None
+none_kept nodes holds None reset edges is = refl
+none_kept nodes holds (Some r) None edges is = absurd is
+none_kept nodes holds (Some r) (Some q) edges is = absurd (rw edges at is)
+
+pub role_shaped : (nodes : List Node) (holds : Holds) (depth : ℕ) (b : LeafBlock) (k : ℕ) (x : net_leaf.Role) (h : LeafType) (r : Role)
+    → IsRoleOf nodes holds k x h (net_role holds depth b k r) → IsTakenRole r → IsShaped x h r
+role_shaped nodes holds depth b k x (number t) source is taken = is
+role_shaped nodes holds depth b k x (number t) sink is taken = (is.0, is.1)
+role_shaped nodes holds depth b k x (number t) (computed e) is taken = (is.0, is.1)
+role_shaped nodes holds depth b k x (number t) (register clock reset) is taken =
+    (record { clock = is.0; reset = is.1; next = is.2 }, is.3, none_kept nodes holds is.1 reset taken is.5)
+role_shaped nodes holds depth b k x (number t) (reading r) is taken = absurd taken
+role_shaped nodes holds depth b k x (number t) (pipe r clock under) is taken = absurd taken
+role_shaped nodes holds depth b k x a_clock source is taken = is
+role_shaped nodes holds depth b k x a_clock sink is taken = (is.0, is.1)
+role_shaped nodes holds depth b k x a_clock (computed e) is taken = (is.0, is.1)
+role_shaped nodes holds depth b k x a_clock (register clock reset) is taken = absurd is
+role_shaped nodes holds depth b k x a_clock (reading r) is taken = absurd taken
+role_shaped nodes holds depth b k x a_clock (pipe r clock under) is taken = absurd taken
+
+-- a clock is one bit wide
+abbrev pub net_width : LeafType → ℕ
+net_width (number t) = t.width
+net_width a_clock = 1
+
+-- what is driven is an output where it is a port
+pub driven_port : (x : net_leaf.Role) (r : Read) → IsDrivenBy x r → is_port x ≡ true → x ≡ role.Output r
+driven_port x r (inl e) port = e
+driven_port x r (inr e) port = absurd (true≢false (sym port ∙ ap is_port e))
+
+pub clocked_port : (x : net_leaf.Role) (c : Option ℕ) → IsClockedBy x c → is_port x ≡ true → x ≡ role.ClockOutput c
+clocked_port x c (inl e) port = e
+clocked_port x c (inr e) port = absurd (true≢false (sym port ∙ ap is_port e))
+
+-- a register of the net is one of the circuit
+pub shaped_register : (x : net_leaf.Role) (h : LeafType) (r : Role) → IsShaped x h r → (g : Register) → x ≡ role.Register g
+    → (clock : Term) × (reset : Option LeafReset) × (r ≡ register clock reset)
+shaped_register x (number t) source is g at = cc
+shaped_register x a_clock source is g at = cc
+shaped_register x (number t) sink (r, inl e) g at = cc
+shaped_register x (number t) sink (r, inr e) g at = cc
+shaped_register x a_clock sink (c, inl e) g at = cc
+shaped_register x a_clock sink (c, inr e) g at = cc
+shaped_register x (number t) (computed e) is g at = let own = is.1 in cc
+shaped_register x a_clock (computed e) is g at = let own = is.1 in cc
+shaped_register x (number t) (register clock reset) is g at = (clock, reset, refl)
+shaped_register x h r is g at = absurd is
+
+-- such a leaf has a Verilog text
+pub shaped_writable : (x : net_leaf.Role) (h : LeafType) (r : Role) → IsShaped x h r → IsWritableRole x
+shaped_writable x (number t) source is = subst IsWritableRole (sym is) tt
+shaped_writable x a_clock source is = subst IsWritableRole (sym is) tt
+shaped_writable x (number t) sink (r, inl e) = subst IsWritableRole (sym e) tt
+shaped_writable x (number t) sink (r, inr e) = subst IsWritableRole (sym e) tt
+shaped_writable x a_clock sink (c, inl e) = subst IsWritableRole (sym e) tt
+shaped_writable x a_clock sink (c, inr e) = subst IsWritableRole (sym e) tt
+shaped_writable x (number t) (computed e) is = subst IsWritableRole (sym is.1) tt
+shaped_writable x a_clock (computed e) is = subst IsWritableRole (sym is.1) tt
+shaped_writable x (number t) (register clock reset) is = subst IsWritableRole (sym is.1) is.2
+shaped_writable x h r is = absurd is

@@ -1,0 +1,181 @@
+-- The role of a leaf in a flat net: it gives what the role of the leaf in the net of the design gives, and can be driven by what it reads.
+use Rattle.std.proofs.Common.{◌≡◌, ℕ, ◌<◌, max, List, [], ◌∷◌, length, Bool, true, false, if◌then◌else◌, Option, Some, None, slice_get, unwrap_or, option_map, refl, sym, ap, ◌∙◌, subst, inl, inr}
+use Rattle.std.proofs.lemmas.Option.{slice_get_within}
+use Rattle.fir_bits.specs.Forms.{no_type}
+use Rattle.fir_bits.specs.declared.types.NumTy.{NumTy}
+use Rattle.fir_leaf_circuit.specs.declared.leaf.LeafType.{LeafType as TypeOfCode}
+use Rattle.fir_leaf_circuit.specs.declared.leaf.LeafType.TheVariants.{Clock, Number}
+use Rattle.fir_leaf_circuit.specs.working.Seen.{type_seen}
+use Rattle.fir_leaf_types.specs.working.TypedModules.{held_in}
+use Rattle.fir_meaning.specs.LeafTypes.{a_clock}
+use Rattle.fir_meaning.specs.working.LeafCircuits.{LeafCircuit}
+use Rattle.fir_connect.specs.working.CircuitModules.{as_module}
+use Rattle.fir_connect.specs.working.NetRoles.{NetReset as ResetMeant, NetRole as RoleMeant, net_types}
+use Rattle.fir_connect.specs.working.NetRoles as meant
+use Rattle.fir_connect.specs.working.NetTerms.{NetTerm, choice, leaf, mux}
+use Rattle.fir_net.specs.declared.leaf.Reset.{Reset}
+use Rattle.fir_net.specs.declared.net.FlatNet.{FlatNet}
+use Rattle.fir_net.specs.declared.node.Node.{Node}
+use Rattle.fir_net.specs.declared.reads.Read.{Read}
+use Rattle.fir_net.specs.declared.reads.Read.TheVariants as read
+use Rattle.fir_net.specs.working.IsNet.{CanBeClock, CanBeDriven, CanBeReset, CanDrive, IsClock, IsRole, node_type}
+use Rattle.fir_merge.specs.declared.bound.Bound.{Bound}
+use Rattle.fir_merge.proofs.GrownTerms.{node_there}
+use Rattle.fir_flat.specs.working.FlatCircuits.{IsClockedBy, IsDrivenBy, IsNextOf, IsResetOf, IsRoleOf, NamesClock, next_of, reset_kept}
+use Rattle.fir_whens.specs.declared.net_role.NetReset.{NetReset}
+use Rattle.fir_whens.specs.declared.net_role.NetRole.{NetRole}
+use Rattle.fir_whens.specs.declared.net_role.NetRole.TheVariants as code
+use Rattle.fir_flatten.specs.working.FlatDesigns.{IsClockLeaf}
+use Rattle.fir_flatten.specs.working.FlatRoles.{choice_node, choices_of, choices_of_reset, clock_named, clock_of, driven_next, driven_role, flat_role_of, next_read, reset_of, width_of}
+use Rattle.fir_flatten.specs.working.KeptNodes.{LeavesHold, moved}
+use Rattle.fir_flatten.proofs.BuiltNodes.{AreBuilt}
+use Rattle.fir_flatten.proofs.ChoiceNodes.{drive_of, one_choice}
+use Rattle.fir_flatten.proofs.GivenRoles.{Drives, IsGiven, MayReset, Resets}
+use Rattle.fir_flatten.proofs.MovedRoles.{StandsMoved}
+
+driven_by : (places : List ℕ) (outer : Bool) (u : NumTy) (r : Read) → IsDrivenBy (driven_role places outer (Number u) r) (moved places r)
+driven_by places true u r = inl refl
+driven_by places false u r = inr refl
+
+clocked_by : (places : List ℕ) (outer : Bool) (r : Read) → IsClockedBy (driven_role places outer Clock r) (clock_named r)
+clocked_by places true r = inl refl
+clocked_by places false r = inr refl
+
+-- what is computed is no port
+abbrev pub StandsInside : Bool → RoleMeant → Type 0
+StandsInside outer (meant.computed t) = outer ≡ false
+StandsInside outer _ = Unit {0}
+
+-- what drives a register of that number is what it shows
+abbrev pub KeepsOwn : ℕ → RoleMeant → Type 0
+KeepsOwn k (meant.register c p t) = t ≡ leaf k
+KeepsOwn k _ = Unit {0}
+
+module _
+    (c : LeafCircuit) (net : FlatNet) (hold : LeavesHold net.leaves (held_in (as_module c)) (length c.leaves)) (places : List ℕ) (old : List Node)
+    (built : AreBuilt net.leaves old net.nodes) where
+  abbrev Stands : Bound → NetTerm → Type 0
+  Stands = StandsMoved c places net.nodes
+
+  -- what a register takes
+  record IsNext (k : ℕ) (u : NumTy) (r : Option Read) (t : NetTerm) : Type 0 where
+    term : IsNextOf net.nodes k r t
+    can : CanBeDriven net.leaves net.nodes u.signed r
+
+  next_plain : (k : ℕ) (driven : Bool) (u : NumTy) (b : Bound) (t : NetTerm) → Drives c Stands u b t → (driven ≡ false → t ≡ leaf k)
+      → IsNext k u (driven_next places driven b) t
+  next_plain k true u b t d own = record { term = d.stands.term; can = drive_of c net.leaves hold places old net.nodes built u b t d }
+  next_plain k false u b t d own = record { term = own refl; can = tt }
+
+  next_chosen : (k : ℕ) (u : NumTy) (s : NetReset) (p : ResetMeant) (next : Bound) (t : NetTerm) (count : ℕ) → Resets c Stands u s p → Drives c Stands u next t
+      → slice_get net.nodes count ≡ Some (choice_node places s next) → IsNext k u (Some (read.Node count)) (choice (net_types (as_module c)) p.condition p.init t)
+  next_chosen k u s p next t count h d at =
+      let n = choice_node places s next in
+      let condition = h.condition.term in
+      let first = h.init.stands.term in
+      let second = d.stands.term in
+      let first_type = h.init.stands.has_type in
+      let second_type = d.stands.has_type in
+      record {
+        term =
+            node_there net.nodes count n built.before at
+            ∙ (λ j. mux (condition j) (first j) (second j) (record { signed = (first_type j).signed; width = max (first_type j).width (second_type j).width }));
+        can = record {
+          can = slice_get_within net.nodes count n at;
+          kind =
+              ap (λ (o : Option Node). (unwrap_or (option_map node_type o) no_type).signed) at
+              ∙ ap (λ (v : NumTy). v.signed) first_type ∙ h.init.may.kind;
+        };
+      }
+
+  next_is : (k : ℕ) (driven : Bool) (u : NumTy) (s : Option NetReset) (p : Option ResetMeant) (next : Bound) (t : NetTerm) (count : ℕ)
+      → MayReset c Stands u s p → Drives c Stands u next t → (driven ≡ false → t ≡ leaf k)
+      → ((n : Node) → choices_of_reset places s next ≡ n ∷ [] → slice_get net.nodes count ≡ Some n)
+      → IsNext k u (next_read places driven count s next) (next_of (net_types (as_module c)) p t)
+  next_is k driven u None None next t count h d own at = next_plain k driven u next t d own
+  next_is k driven u None (Some p) next t count h d own at = absurd h
+  next_is k driven u (Some s) None next t count h d own at = absurd h
+  next_is k driven u (Some s) (Some p) next t count h d own at = by s.is_async p.is_async h.at_edge h.meant_at_edge
+    where
+      by : (a b : Bool) → a ≡ false → b ≡ false
+          → IsNext k u (if a then driven_next places driven next else Some (read.Node count))
+          (if b then t else choice (net_types (as_module c)) p.condition p.init t)
+      by true b e f = cc
+      by false true e f = cc
+      by false false e f = next_chosen k u s p next t count h d (at (choice_node places s next) (one_choice places s next h.at_edge))
+
+  -- no reset stays
+  record IsGone (own : Option Reset) (signed : Bool) (p : Option ResetMeant) : Type 0 where
+    kept : IsResetOf net.nodes own (reset_kept p)
+    can : CanBeReset net.leaves net.nodes signed own
+
+  reset_gone : (u : NumTy) (s : Option NetReset) (p : Option ResetMeant) → MayReset c Stands u s p → IsGone (reset_of places s) u.signed p
+  reset_gone u None None h = record { kept = tt; can = tt }
+  reset_gone u None (Some p) h = absurd h
+  reset_gone u (Some s) None h = absurd h
+  reset_gone u (Some s) (Some p) h = by s.is_async p.is_async h.at_edge h.meant_at_edge
+    where
+      by : (a b : Bool) → a ≡ false → b ≡ false → IsGone (reset_of places (Some (record s { is_async = a }))) u.signed (Some (record p { is_async = b }))
+      by true b e f = cc
+      by false true e f = cc
+      by false false e f = record { kept = tt; can = tt }
+
+  module _ (outer driven : Bool) (k count : ℕ) where
+    abbrev PutAt : NetRole → Type 0
+    PutAt r = (n : Node) → choices_of places r ≡ n ∷ [] → slice_get net.nodes count ≡ Some n
+
+    pub role_stands : (holds : TypeOfCode) (r : NetRole) (q : RoleMeant) → IsGiven c Stands holds r q → PutAt r → (driven ≡ false → KeepsOwn k q)
+        → StandsInside outer q
+        → IsRoleOf net.nodes (net_types (as_module c)) k (flat_role_of places outer driven holds r count) (type_seen holds) q
+    role_stands Clock code.Source meant.source is at own inside = refl
+    role_stands (Number u) code.Source meant.source is at own inside = refl
+    role_stands Clock (code.Driven b) (meant.driven t) is at own inside =
+        (clock_named b.read, clocked_by places outer b.read, subst (NamesClock t) (sym is.reads) is.names)
+    role_stands Clock (code.Computed b) (meant.computed t) is at own inside =
+        (clock_named b.read, ap (λ (o : Bool). driven_role places o Clock b.read) inside, subst (NamesClock t) (sym is.reads) is.names)
+    role_stands (Number u) (code.Driven b) (meant.driven t) is at own inside = (moved places b.read, driven_by places outer u b.read, is.stands.term)
+    role_stands (Number u) (code.Computed b) (meant.computed t) is at own inside =
+        (moved places b.read, ap (λ (o : Bool). driven_role places o (Number u) b.read) inside, is.stands.term)
+    role_stands (Number u) (code.Register clock s next) (meant.register j p t) is at own inside = (
+      clock_of clock.read,
+      reset_of places s,
+      next_read places driven count s next,
+      refl,
+      is.0.is ∙ ap leaf (ap clock_of (sym is.0.reads)),
+      (reset_gone u s p is.1).kept,
+      (next_is k driven u s p next t count is.1 is.2 own at).term,
+    )
+    role_stands holds r q is at own inside = absurd is
+
+    driven_can : (b : Bool) (u : NumTy) (r : Read) → CanDrive net.leaves net.nodes u.signed (moved places r)
+        → IsRole net.leaves net.nodes u.signed u.width (driven_role places b (Number u) r)
+    driven_can true u r can = can
+    driven_can false u r can = can
+
+    -- the clock leaves are clocks of the net
+    module _ (clocks : (y : ℕ) → y < length c.leaves → held_in (as_module c) y ≡ a_clock → IsClock net.leaves y) where
+      clock_can : (y : Option ℕ) → IsClockLeaf c y → CanBeClock net.leaves y
+      clock_can None is = tt
+      clock_can (Some y) is = clocks y is.0 is.1
+
+      clocked_can : (b : Bool) (r : Read) (y : Option ℕ) → clock_named r ≡ y → IsClockLeaf c y
+          → IsRole net.leaves net.nodes (width_of Clock).signed (width_of Clock).width (driven_role places b Clock r)
+      clocked_can true r y reads is = (refl, subst (CanBeClock net.leaves) (sym reads) (clock_can y is))
+      clocked_can false r y reads is = (refl, subst (CanBeClock net.leaves) (sym reads) (clock_can y is))
+
+      pub role_can : (holds : TypeOfCode) (r : NetRole) (q : RoleMeant) → IsGiven c Stands holds r q → PutAt r → (driven ≡ false → KeepsOwn k q)
+          → IsRole net.leaves net.nodes (width_of holds).signed (width_of holds).width (flat_role_of places outer driven holds r count)
+      role_can Clock code.Source meant.source is at own = refl
+      role_can (Number u) code.Source meant.source is at own = tt
+      role_can Clock (code.Driven b) (meant.driven t) is at own = clocked_can outer b.read is.clock is.reads is.is_leaf
+      role_can Clock (code.Computed b) (meant.computed t) is at own = clocked_can outer b.read is.clock is.reads is.is_leaf
+      role_can (Number u) (code.Driven b) (meant.driven t) is at own =
+          driven_can outer u b.read (drive_of c net.leaves hold places old net.nodes built u b t is)
+      role_can (Number u) (code.Computed b) (meant.computed t) is at own =
+          driven_can outer u b.read (drive_of c net.leaves hold places old net.nodes built u b t is)
+      role_can (Number u) (code.Register clock s next) (meant.register j p t) is at own = (
+        subst (IsClock net.leaves) (ap clock_of (sym is.0.reads)) (clocks is.0.clock is.0.is_leaf.0 is.0.is_leaf.1),
+        (reset_gone u s p is.1).can,
+        (next_is k driven u s p next t count is.1 is.2 own at).can,
+      )
+      role_can holds r q is at own = absurd is

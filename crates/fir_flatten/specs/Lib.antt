@@ -1,0 +1,3 @@
+pub mod SourceRows
+pub mod TakingWords
+pub mod working

@@ -1,0 +1,52 @@
+-- A circuit means what the flat net of its design means (FIRRTL spec, "Circuits", "Modules", "Instances").
+use Rattle.std.specs.Prelude.{◌≡◌, ℕ, List, []}
+use Rattle.fir_base.specs.Lists.{In}
+use Rattle.fir_ast.specs.Circuits.{CircuitTree}
+use Rattle.fir_ast.specs.Faults.{Fault}
+use Rattle.fir_meaning.specs.Elaborated.{HasMain}
+use Rattle.fir_meaning.specs.ModuleScenes.{Scene}
+use Rattle.fir_meaning.specs.TypeGroup.{type_faults}
+use Rattle.fir_meaning.specs.working.Designs.{Design}
+use Rattle.fir_meaning.specs.working.Flattened.{flattened}
+use Rattle.fir_meaning.specs.working.LeafedModules.{leafed_module}
+use Rattle.fir_meaning.specs.working.NameGroups.{HasNames}
+use Rattle.fir_meaning.specs.working.Scenes.{HasScenes}
+use Rattle.fir_meaning.specs.working.UndrivenLeaves.{AreDriven}
+use Rattle.fir_design.specs.working.CircuitDesigns.{IsSoundDesign}
+use Rattle.fir_leaf.specs.working.ClockFaults.{ShowsClockFault}
+use Rattle.fir_leaf_types.specs.working.TypedModules.{IsModuleTyped}
+use Rattle.fir_lack.specs.working.TakenCircuits.{IsTakenModule}
+use Rattle.fir_names.specs.working.ModuleOrder.{IsModuleOrder}
+use Rattle.fir_net.specs.declared.net.FlatNet.{FlatNet}
+use Rattle.fir_flatten.specs.working.FlatDesigns.{IsFlatDesign, IsPlainDesign}
+use Rattle.fir_flatten.specs.working.FlattensTo.{FlattensTo}
+
+-- a circuit whose modules have these scenes, without a fault of names or types, of whose design this is the one over ground leaves
+pub record IsDesigned (c : CircuitTree) (scenes : List Scene) (main : Scene) (d : Design) : Type 0 where
+  pub names : HasNames c
+  pub types : type_faults c ≡ []
+  pub all_scenes : HasScenes c
+  pub order : List ℕ
+  pub in_order : IsModuleOrder c order
+  pub has : HasMain c scenes main
+  pub among : In scenes main
+  pub sound : IsSoundDesign scenes main d
+
+-- each module has types and is driven, and has only forms that are taken so far; and no clock of the design is unclear
+pub record IsTakenDesign (scenes : List Scene) (d : Design) : Type 0 where
+  pub typed : (s : Scene) → In scenes s → IsModuleTyped (leafed_module s)
+  pub driven : (s : Scene) → In scenes s → AreDriven (leafed_module s)
+  pub taken : (s : Scene) → In scenes s → IsTakenModule (leafed_module s)
+  pub clear : (f : Fault) → ShowsClockFault (flattened d) f → ⊥
+
+-- then its circuit is plain
+abbrev pub DesignsArePlain : Type 0
+DesignsArePlain =
+    (c : CircuitTree) (scenes : List Scene) (main : Scene) (d : Design) → IsDesigned c scenes main d → IsTakenDesign scenes d
+    → IsPlainDesign (flattened d) (leafed_module main).port_leaves
+
+-- and the flat net of the design is that of the circuit
+abbrev pub DesignsFlatten : Type 0
+DesignsFlatten =
+    (c : CircuitTree) (scenes : List Scene) (main : Scene) (d : Design) (net : FlatNet) → IsDesigned c scenes main d → IsTakenDesign scenes d
+    → IsFlatDesign (flattened d) (leafed_module main).port_leaves net → net.name ≡ c.named.name → FlattensTo c net

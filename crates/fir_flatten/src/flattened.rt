@@ -1,0 +1,86 @@
+//! From a circuit with the nets of its modules to its flat net.
+
+ghost use Rattle.std.specs.Prelude.{◌≡◌, IfOk};
+ghost use Rattle.fir_ast.specs.working.Views.{circuit_of};
+ghost use Rattle.fir_ast.specs.working.CodeFaults.{fault_of};
+ghost use Rattle.fir_pass.specs.Groups.{IsClear};
+ghost use Rattle.fir_pass.specs.working.Law.{IfFault};
+ghost use Rattle.fir_meaning.specs.SourceClocks.{clock_group};
+ghost use Rattle.fir_lack.specs.working.TakenCircuits.{IsTaken};
+ghost use Rattle.fir_flatten.specs.working.FlattensTo.{FlattensTo};
+
+use crate::clock_faults::clock_fault;
+use crate::design_net::design_net;
+use crate::flat_design::flat_design;
+use crate::laws::designs_flatten;
+use crate::main_number::main_number;
+use crate::module_parts::{declared_by_modules, module_parts};
+use crate::plain_laws::designs_are_plain;
+use crate::told_laws::first_is_told;
+use fir_ast::FirFault;
+use fir_base::Refused;
+use fir_copies::{copies_give_all, copies_stand};
+use fir_design::{has_one_tree, has_sound_designs};
+use fir_design_faults::clock_faults_stand_by_path;
+use fir_elaborate::{elaborate, modules_are_ordered};
+use fir_net::FlatNet;
+use fir_whens::{NetCircuit, modules_are_typed};
+use std::alloc::Global;
+
+/// The flat net of a circuit without memories, whose resets act at the edges of clocks. It allows at every tick what the
+/// circuit's source allows, with its names (FIRRTL spec, "Circuits", "Instances"); or else E25, the first fault of its
+/// clocks, and the circuit as it was given.
+pub fn flatten(
+    alloc: Global,
+    circuit: NetCircuit,
+) -> Result<FlatNet, Refused<(FirFault, NetCircuit)>>
+    requires { IsTaken (circuit_of circuit) }
+    ensures flat { IfOk result (FlattensTo (circuit_of circuit)) }
+    ensures clear { IfOk result (λ n. IsClear (clock_group (circuit_of circuit))) }
+    ensures told { IfFault result (λ f. (clock_group (circuit_of circuit)).tells (fault_of f.0)) }
+    ensures shown { IfFault result (λ f. (clock_group (circuit_of circuit)).shows (fault_of f.0)) }
+    ensures back { IfFault result (λ f. f.1 ≡ circuit) }
+{
+    match flat_net(alloc, &circuit) {
+        Ok(net) => Ok(net),
+        Err(Refused::Fault(fault)) => Err(Refused::Fault((fault, circuit))),
+        Err(Refused::Memory) => Err(Refused::Memory),
+    }
+}
+
+/// The flat net, or the first fault.
+fn flat_net(alloc: Global, circuit: &NetCircuit) -> Result<FlatNet, Refused<FirFault>>
+    requires { IsTaken (circuit_of circuit.now) }
+    ensures flat { IfOk result (FlattensTo (circuit_of circuit.now)) }
+    ensures clear { IfOk result (λ n. IsClear (clock_group (circuit_of circuit.now))) }
+    ensures told { IfFault result (λ f. (clock_group (circuit_of circuit.now)).tells (fault_of f)) }
+    ensures shown { IfFault result (λ f. (clock_group (circuit_of circuit.now)).shows (fault_of f)) }
+{
+    has_sound_designs();
+    has_one_tree();
+    modules_are_ordered();
+    copies_stand();
+    copies_give_all();
+    clock_faults_stand_by_path();
+    first_is_told();
+    designs_are_plain();
+    designs_flatten();
+    let leafed = circuit.leafed();
+    modules_are_typed(leafed);
+    let named = leafed.fitted().typed().named();
+    let _order = named.module_order();
+    let tree = named.circuit();
+    let leafed_modules = leafed.modules();
+    let Some(main) = main_number(tree) else {
+        unreachable!()
+    };
+    let names = declared_by_modules(alloc, tree)?;
+    let modules = module_parts(alloc, circuit)?;
+    let elaborated = elaborate(alloc, leafed_modules, &names, main)?;
+    if let Some(fault) = clock_fault(alloc, &modules, &names, &elaborated.copies)? {
+        return Err(Refused::Fault(fault));
+    }
+    let design = design_net(alloc, &modules, &elaborated.copies)?;
+    let name = tree.ident.name.copy(alloc)?;
+    Ok(flat_design(alloc, name, design, elaborated.state)?)
+}

@@ -1,2 +1,0 @@
-pub mod SourceRows
-pub mod working
