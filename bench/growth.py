@@ -66,7 +66,7 @@ ROWS = [
     Row(texts.leaves_of_one_base, "0", 4096, 8192),
     # designs
     Row(texts.instances_of_a_register, "0", 50000, 100000),
-    Row(texts.levels_of_two_instances, "0", 16, 17),
+    Row(texts.levels_of_two_instances, "0", 15, 16),
     Row(texts.levels_of_one_instance, "0", 400, 800),
     Row(texts.instances_of_1000_registers, "0", 2000, 4000),
     # nodes, registers and ports

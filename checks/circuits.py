@@ -100,11 +100,14 @@ class Comparison:
         return done.stdout + done.stderr
 
     def compare(self, text, chance):
-        """Compares all that is said of a circuit. Gives the code of its fault, or 'emitted'."""
+        """Compares all that is said of a circuit. Gives the code of its fault, or 'emitted'; or
+        'large' where its vectors are too large for the readings."""
         reading = Reading(text)
         verilog, says = self.emitted(text, reading)
         if says:
             return says[:3]
+        if reading.source is None:
+            return "large"
         run = random_run(reading.source, chance)
         trace = "".join(line + "\n" for line in trace_lines(reading.source, *run))
         wanted = "".join(line + "\n" for line in shown_lines(reading.source, *run))
