@@ -9,7 +9,6 @@ pub mod SettledValues
 pub mod TakenValues
 pub mod NextStates
 pub mod FlatMeaning
-pub mod RoleNumbers
 pub mod ReadBefore
 pub mod ReachedLeaves
 pub mod LeafDependence

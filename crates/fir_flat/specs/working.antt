@@ -4,6 +4,5 @@ pub mod FlatLaws
 -- The parts of the terms that drive leaves have their types.
 pub mod WholeTerms
 pub mod WholeRoles
-pub mod ModulesWithin
 -- Closed walks of dependence.
 pub mod FlatLoops

@@ -2,12 +2,9 @@
 
 ghost use Rattle.fir_flat.specs.working.FlatLaws.{AllowsTheSame, HasOneWhere};
 ghost use Rattle.fir_flat.specs.working.FlatLoops.{HidesNoLoop, ShowsTheSameLoops};
-ghost use Rattle.fir_flat.specs.working.ModulesWithin.{ModulesAreWithin};
 ghost use Rattle.fir_flat.specs.working.WholeRoles.{RolesAreWhole};
 
 use fir_bits::laws::has_its_type;
-use fir_leaf::{leaves_are_declared, numbers_are_leaves};
-use fir_meaning::faultless_is_well_typed;
 
 /// A flat net allows at every state and tick what its circuit allows: the same outputs and next states (FIRRTL spec,
 /// "Registers", "Nodes", "Conditional Last Connect Semantics").
@@ -22,17 +19,6 @@ pub fn flat_nets_have_one()
     ensures { HasOneWhere }
 {
     has_its_type()
-}
-
-/// Each leaf number that stands in the statements of a module, in the expression of a node, or in the clock and the
-/// reset of a register, is that of one of the module's leaves, where its circuit shows no fault of names or types
-/// (FIRRTL spec, "Connects", "Nodes", "Registers").
-pub fn modules_are_within()
-    ensures { ModulesAreWithin }
-{
-    faultless_is_well_typed();
-    leaves_are_declared();
-    numbers_are_leaves();
 }
 
 /// A closed walk of dependence stands in a flat net exactly where it stands in its circuit, and tells the same fault

@@ -9,5 +9,5 @@ mod laws;
 
 pub use laws::{
     flat_nets_allow_the_same, flat_nets_have_one, flat_nets_hide_no_loop,
-    flat_nets_show_the_same_loops, modules_are_within, roles_are_whole,
+    flat_nets_show_the_same_loops, roles_are_whole,
 };

@@ -1,5 +1,5 @@
 -- The design of a circuit without a fault of names or types: that of its main module.
-use Rattle.std.proofs.Common.{◌≡◌, ℕ, List, [], slice_get, Some}
+use Rattle.std.proofs.Common.{◌≡◌, ℕ, List, [], Some, None, ◌∙◌}
 use Rattle.fir_base.proofs.Elements.{get_in, number_of}
 use Rattle.fir_ast.specs.Circuits.{CircuitTree}
 use Rattle.fir_ast.specs.Faults.{Fault}
@@ -19,18 +19,9 @@ use Rattle.fir_meaning.specs.working.NameGroups.{HasNames}
 use Rattle.fir_meaning.specs.working.Scenes.{HasScenes}
 use Rattle.fir_names.specs.working.ModuleOrder.{IsModuleOrder}
 use Rattle.fir_flatten.specs.working.CircuitParts.{number_of_main}
+use Rattle.fir_flatten.specs.working.DesignParts.{HasDesign}
 use Rattle.fir_flatten.specs.working.Laws.{IsDesigned, IsTakenDesign}
 use Rattle.fir_flatten.proofs.MainModules.{has_main_scene}
-
--- with the number of its main module
-pub record HasDesign (c : CircuitTree) : Type 0 where
-  pub scenes : List Scene
-  pub main : Scene
-  pub design : Design
-  pub designed : IsDesigned c scenes main design
-  pub number : ℕ
-  pub number_is : number_of_main c ≡ Some number
-  pub at : slice_get scenes number ≡ Some main
 
 pub has_design : HasSoundDesigns → (c : CircuitTree) (order : List ℕ) → HasNames c → type_faults c ≡ [] → HasScenes c → IsModuleOrder c order → HasDesign c
 has_design sound c order names types given is_order =
@@ -83,3 +74,7 @@ module _ (c : CircuitTree) (scenes : List Scene) (main : Scene) (d : Design) (de
     taken = λ s among. let at = number_of scenes s among in taken at.0 s (designed.has.each at.0 s at.1);
     clear = clear;
   }
+
+-- its number is there
+pub some_main : (c : CircuitTree) → HasDesign c → None ≡ number_of_main c → ⊥
+some_main c h none = let is : None ≡ Some h.number = none ∙ h.number_is in absurd (cc)

@@ -1,5 +1,5 @@
 -- What comes of a circuit that is flattened: its flat net, where none of its clocks is unclear, or its first fault of clocks.
-use Rattle.std.proofs.Common.{◌≡◌, ℕ, ◌<◌, List, length, Option, Some, None, option_map, ◌∙◌, subst, slice_get}
+use Rattle.std.proofs.Common.{◌≡◌, ℕ, List, map, Option, Some, None, option_map, subst}
 use Rattle.fir_base.proofs.Elements.{get_in}
 use Rattle.fir_ast.specs.declared.fault.FirFault.{FirFault}
 use Rattle.fir_ast.specs.working.CodeFaults.{fault_of}
@@ -8,48 +8,36 @@ use Rattle.fir_pass.specs.Groups.{IsClear}
 use Rattle.fir_copies.specs.working.CopyLaws.{CopiesGiveAll, CopiesStand}
 use Rattle.fir_design.specs.working.SourceLaws.{HasOneTree}
 use Rattle.fir_design_faults.specs.working.SameClockFaults.{SameClockFaults}
-use Rattle.fir_elaborate.specs.declared.elaborated.Elaborated.{Elaborated}
-use Rattle.fir_elaborate.specs.working.Elaborations.{AreViewed, IsElaborated}
-use Rattle.fir_elaborate.specs.working.Laws.{ModulesAreOrdered}
 use Rattle.fir_lack.specs.working.TakenCircuits.{IsTaken}
-use Rattle.fir_leaf_circuit.specs.declared.leaf_module.LeafModule.{LeafModule as ModuleOfCode}
-use Rattle.fir_leaf_circuit.specs.working.Leafed.{AreLeafed}
 use Rattle.fir_meaning.specs.Elaborated.{IsSourceOf}
 use Rattle.fir_meaning.specs.ModuleScenes.{Scene}
 use Rattle.fir_meaning.specs.SourceClocks as source
 use Rattle.fir_meaning.specs.SourceClocks.{clock_group}
 use Rattle.fir_meaning.specs.SourceDesigns.{IsSourceDesignOf, SourceDesign}
 use Rattle.fir_meaning.specs.SourceCircuits.{all_leaves}
-use Rattle.fir_meaning.specs.working.Designs.{Design, IsDesignOf, module_of}
-use Rattle.fir_meaning.specs.working.Elaborated.{views}
 use Rattle.fir_meaning.specs.working.Flattened.{flattened}
 use Rattle.fir_meaning.specs.working.LeafCircuits.{LeafCircuit}
-use Rattle.fir_meaning.specs.working.LeafModules.{LeafModule}
 use Rattle.fir_meaning.specs.working.LeafedModules.{leafed_module}
 use Rattle.fir_net.specs.declared.net.FlatNet.{FlatNet}
-use Rattle.fir_whens.specs.working.ModuleFaults.{AreAllDriven}
-use Rattle.fir_whens.specs.working.ModuleNets.{AreAllTyped}
 use Rattle.fir_flatten.specs.declared.design_net.DesignNet.{DesignNet}
-use Rattle.fir_flatten.specs.declared.design_net.ModulePart.{ModulePart}
-use Rattle.fir_flatten.specs.working.CircuitParts.{HasParts, names_by_modules, number_of_main}
+use Rattle.fir_flatten.specs.declared.design_parts.DesignParts.{DesignParts}
 use Rattle.fir_flatten.specs.working.ClockTold.{FirstIsTold, IsToldOfSource}
 use Rattle.fir_flatten.specs.working.DesignNets.{IsNetOfDesign, MakesDesign}
+use Rattle.fir_flatten.specs.working.DesignParts.{AreDesignParts, HasDesign}
 use Rattle.fir_flatten.specs.working.FirstSites.{TellsFirst}
 use Rattle.fir_flatten.specs.working.FlatDesigns.{IsFlatDesign, IsPlainDesign}
 use Rattle.fir_flatten.specs.working.FlattensTo.{FlattensTo}
 use Rattle.fir_flatten.specs.working.Laws.{DesignsArePlain, DesignsFlatten, IsTakenDesign}
 use Rattle.fir_flatten.proofs.DesignCopies.{have_widths}
-use Rattle.fir_flatten.proofs.DesignsOfCircuits.{HasDesign, designs_beside, taken_design, tree_of}
-use Rattle.fir_flatten.proofs.MainModules.{main_at}
+use Rattle.fir_flatten.proofs.DesignsOfCircuits.{designs_beside, taken_design, tree_of}
 use Rattle.fir_flatten.proofs.NamedClocks.{all_have_clocks}
 use Rattle.fir_flatten.proofs.NetsOfDesigns.{net_of_design}
 use Rattle.fir_flatten.proofs.OneScene.{one_list, one_main}
-use Rattle.fir_flatten.proofs.ViewedModules.{are_viewed, have_scenes, main_is_design, main_within}
+use Rattle.fir_flatten.proofs.ViewedModules.{have_scenes}
 
 -- the laws that it rests on
 pub record LawsOfDesigns : Type 0 where
   pub one_tree : HasOneTree
-  pub ordered : ModulesAreOrdered
   pub stand : CopiesStand
   pub give : CopiesGiveAll
   pub same : SameClockFaults
@@ -57,41 +45,17 @@ pub record LawsOfDesigns : Type 0 where
   pub plain : DesignsArePlain
   pub flatten : DesignsFlatten
 
--- what the code has of a circuit: the number of its main module, names, modules with their nets, and its copies
-pub record IsHeld (c : CircuitTree) (number : ℕ) (modules : List ModuleOfCode) (names : List (List (List ℕ))) (parts : List ModulePart) (e : Elaborated)
-    : Type 0 where
-  pub design : HasDesign c
-  pub taken : IsTaken c
-  pub typed : AreAllTyped c
-  pub driven : AreAllDriven c
-  pub main : Some number ≡ number_of_main c
-  pub leafed : AreLeafed c modules
-  pub named : names ≡ names_by_modules c
-  pub has_parts : HasParts c parts
-  pub elaborated :
-      (views : List LeafModule) (d : Design) → AreViewed views modules names → number < length views → IsDesignOf views (module_of views number) d
-      → IsElaborated number d e
-
--- the number of the main module is there
-pub some_main : (c : CircuitTree) → HasDesign c → None ≡ number_of_main c → ⊥
-some_main c h none = let is : None ≡ Some h.number = none ∙ h.number_is in absurd (cc)
-
 -- no fault, or the first, of each tree below the main module
 abbrev pub TellsOfSources : CircuitTree → Option FirFault → Type 0
 TellsOfSources c f = (t : SourceDesign) → IsSourceOf c t → IsToldOfSource t (option_map fault_of f)
 
-module _ (laws : LawsOfDesigns) (c : CircuitTree) (number : ℕ) (modules : List ModuleOfCode) (names : List (List (List ℕ))) (parts : List ModulePart)
-    (e : Elaborated) (held : IsHeld c number modules names parts e) where
+module _ (laws : LawsOfDesigns) (c : CircuitTree) (taken : IsTaken c) (p : DesignParts) (held : AreDesignParts c p) where
   abbrev h : HasDesign c
   h = held.design
 
-  at : slice_get h.scenes number ≡ Some h.main
-  at = main_at c h.scenes h.main h.designed.has number held.main
-
-  is_elaborated : IsElaborated number h.design e
-  is_elaborated =
-      held.elaborated (views h.scenes) h.design (are_viewed c h.scenes h.main h.design h.designed laws.ordered modules held.leafed names held.named)
-      (main_within c h.scenes h.main h.design h.designed number at) (main_is_design c h.scenes h.main h.design h.designed number at)
+  -- what is told of the copies of its modules
+  abbrev Tells : Option FirFault → Type 0
+  Tells f = TellsFirst p.modules.items (map (λ ns. ns.items) p.names.items) p.elaborated.copies.items f
 
   tree : (t : SourceDesign) × IsSourceDesignOf h.scenes h.main t
   tree = tree_of c h.scenes h.main h.design h.designed laws.one_tree
@@ -105,19 +69,19 @@ module _ (laws : LawsOfDesigns) (c : CircuitTree) (number : ℕ) (modules : List
   tree_is : IsSourceOf c tree.0
   tree_is = record { scenes = h.scenes; main = h.main; has = h.designed.has; is = tree.1 }
 
-  module _ (f : Option FirFault) (tells : TellsFirst parts names e.copies.items f) where
+  module _ (f : Option FirFault) (tells : Tells f) where
     pub tells_sources : TellsOfSources c f
     tells_sources t src =
-        laws.told c h.design t (designs_beside c h.scenes h.main h.design h.designed t (below t src)) number e.copies.items (option_map fault_of f) at
-        (have_widths c h.scenes h.main h.design h.designed) is_elaborated.copies is_elaborated.prefixes
-        (tells h.scenes (held.has_parts h.scenes (have_scenes c h.scenes h.main h.design h.designed))
-        (all_have_clocks c h.scenes h.main h.design h.designed held.typed held.driven names held.named))
+        laws.told c h.design t (designs_beside c h.scenes h.main h.design h.designed t (below t src)) h.number p.elaborated.copies.items
+        (option_map fault_of f) h.at (have_widths c h.scenes h.main h.design h.designed) held.elaborated.copies held.elaborated.prefixes
+        (tells h.scenes (held.parts h.scenes (have_scenes c h.scenes h.main h.design h.designed))
+        (all_have_clocks c h.scenes h.main h.design h.designed held.typed held.driven (map (λ ns. ns.items) p.names.items) held.named))
 
   -- where a fault is found, it is the first
-  pub tells_fault : (f : FirFault) → TellsFirst parts names e.copies.items (Some f) → (clock_group c).tells (fault_of f)
+  pub tells_fault : (f : FirFault) → Tells (Some f) → (clock_group c).tells (fault_of f)
   tells_fault f tells = record { source = tree.0; is_source = tree_is; holds = tells_sources (Some f) tells tree.0 tree_is }
 
-  pub shows_fault : (f : FirFault) → TellsFirst parts names e.copies.items (Some f) → (clock_group c).shows (fault_of f)
+  pub shows_fault : (f : FirFault) → Tells (Some f) → (clock_group c).shows (fault_of f)
   shows_fault f tells =
       let told : source.TellsClockFault tree.0 (fault_of f) = tells_sources (Some f) tells tree.0 tree_is in
       record {
@@ -131,25 +95,26 @@ module _ (laws : LawsOfDesigns) (c : CircuitTree) (number : ℕ) (modules : List
       }
 
   -- where none is found, none stands in the circuit
-  module _ (tells : TellsFirst parts names e.copies.items None) where
+  module _ (tells : Tells None) where
     pub is_clear : IsClear (clock_group c)
     is_clear f shown = tells_sources None tells shown.source shown.is_source f shown.holds
 
     is_taken_design : IsTakenDesign h.scenes h.design
     is_taken_design =
-        taken_design c h.scenes h.main h.design h.designed held.typed held.driven held.taken
+        taken_design c h.scenes h.main h.design h.designed held.typed held.driven taken
         (λ f shown.
         let same = laws.same c h.design tree.0 f (designs_beside c h.scenes h.main h.design h.designed tree.0 tree.1) in
         tells_sources None tells tree.0 tree_is f (same.0 shown))
 
     -- and the flat net of its design is the circuit's
-    pub is_flat_net : (net : DesignNet) → MakesDesign parts e.copies.items net → (flat : FlatNet)
-        → ((g : LeafCircuit) (ports : ℕ) → IsPlainDesign g ports → IsNetOfDesign g ports net → e.state.items ≡ g.words → IsFlatDesign g ports flat)
+    pub is_flat_net : (net : DesignNet) → MakesDesign p.modules.items p.elaborated.copies.items net → (flat : FlatNet)
+        → ((g : LeafCircuit) (ports : ℕ) → IsPlainDesign g ports → IsNetOfDesign g ports net → p.elaborated.state.items ≡ g.words → IsFlatDesign g ports flat)
         → flat.name ≡ c.named.name → FlattensTo c flat
     is_flat_net net makes flat made named =
         let net_is =
-        net_of_design laws.one_tree laws.stand laws.give c h.scenes h.main h.design h.designed held.taken number at e is_elaborated parts held.has_parts net makes
+        net_of_design laws.one_tree laws.stand laws.give c h.scenes h.main h.design h.designed taken h.number h.at p.elaborated held.elaborated
+        p.modules.items held.parts net makes
         in
         laws.flatten c h.scenes h.main h.design flat h.designed is_taken_design
         (made (flattened h.design) (leafed_module h.main).port_leaves (laws.plain c h.scenes h.main h.design h.designed is_taken_design) net_is
-        is_elaborated.state) named
+        held.elaborated.state) named

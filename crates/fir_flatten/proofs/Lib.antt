@@ -17,6 +17,8 @@ pub mod NeededMarks
 pub mod TypedNodes
 pub mod CopiedNodes
 pub mod ListedLeaves
+pub mod PutInFront
+pub mod KeptInPlace
 pub mod ReadTypes
 pub mod BuiltNodes
 pub mod GivenRoles
@@ -61,6 +63,7 @@ pub mod UnclearFaults
 pub mod UnclearReads
 pub mod PartTerms
 pub mod MainModules
+pub mod NamesOfModules
 pub mod PartsSoFar
 pub mod DesignsOfCircuits
 pub mod ViewedModules

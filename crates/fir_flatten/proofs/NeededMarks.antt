@@ -1,9 +1,10 @@
 -- The marks of needed nodes: first of what the roles read, and then, from the last node back, of what marked nodes read.
-use Rattle.std.proofs.Common.{◌≡◌, ℕ, zero, suc, ◌+◌, ◌<◌, ◌≤◌, List, [], ◌∷◌, ◌++◌, length, Some, Bool, true, false, refl, ap, sym, ◌∙◌, subst, arith, ◌⊎◌, inl, inr, length-append}
+use Rattle.std.proofs.Common.{◌≡◌, ℕ, zero, suc, ◌+◌, ◌<◌, ◌≤◌, List, [], ◌∷◌, length, Some, Bool, true, false, ap, sym, ◌∙◌, subst, arith, ◌⊎◌, inl, inr, replicate}
 use Rattle.std.specs.Prelude.{slice_get}
-use Rattle.std.proofs.lemmas.Bool.{cases_eq}
+use Rattle.std.proofs.lemmas.Bool.{cases_eq, cases_lt}
+use Rattle.std.proofs.lemmas.List.{length-replicate}
 use Rattle.std.proofs.lemmas.Option.{slice_get_within}
-use Rattle.fir_base.proofs.Writes.{PushedOr, push_cases, two_items}
+use Rattle.fir_base.proofs.Writes.{get-replicate, two_items}
 use Rattle.fir_meaning.specs.LeafTypes.{LeafType}
 use Rattle.fir_connect.specs.working.NetTerms.{NetTerm}
 use Rattle.fir_net.specs.declared.node.Node.{Node}
@@ -23,18 +24,15 @@ pub record AreUnset (count : ℕ) (marks : List Bool) : Type 0 where
   pub long : length marks ≡ count
   pub none : (k : ℕ) → slice_get marks k ≡ Some true → ⊥
 
-pub no_marks : AreUnset 0 []
-no_marks = record { long = refl; none = λ k h. cc }
-
-pub unset_more : (count : ℕ) (marks : List Bool) → AreUnset count marks → AreUnset (count + 1) (marks ++ false ∷ [])
-unset_more count marks are = record {
-  long = omega (arith, length-append marks (false ∷ []), are.long);
-  none = λ k h. by k (push_cases marks false k true h);
+pub all_unset : (count : ℕ) → AreUnset count (replicate count false)
+all_unset count = record {
+  long = length-replicate count false;
+  none = λ k h. by k h (cases_lt k count);
 }
   where
-    by : (k : ℕ) → PushedOr marks false k true → ⊥
-    by k (inl e) = are.none k e
-    by k (inr (e, f)) = cc
+    by : (k : ℕ) → slice_get (replicate count false) k ≡ Some true → (k < count) ⊎ (count ≤ k) → ⊥
+    by k h (inl within) = let unset = get-replicate count k false within in cc
+    by k h (inr past) = absurd (omega (arith, slice_get_within (replicate count false) k true h, length-replicate count false))
 
 -- a node reads nodes before it
 below_from : (count : ℕ) (ns : List Node) (k : ℕ) (n : Node) → ReadBefore count ns → slice_get ns k ≡ Some n → AreBelow (count + k) (support_of n)

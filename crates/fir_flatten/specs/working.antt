@@ -22,3 +22,5 @@ pub mod FlatDesigns
 -- What it means.
 pub mod FlattensTo
 pub mod Laws
+-- What it is made of.
+pub mod DesignParts

@@ -98,6 +98,7 @@ fn design_leaves(
     ensures { IfOk result (λ leaves. leaves.items ≡ leaves_of modules.now copies.now) }
 {
     let mut leaves = port_leaves(alloc, modules, copies)?;
+    leaves.reserve(count_inner(modules, copies))?;
     for copy in copies {
         if let Some(module) = modules.get(copy.module_number) {
             let prefix = copy.prefix.as_bytes();
@@ -113,6 +114,22 @@ fn design_leaves(
         }
     }
     Ok(leaves)
+}
+
+/// How many leaves the modules have that are no ports.
+fn count_inner(modules: &[ModulePart], copies: &[ModuleCopy]) -> usize {
+    let mut count: usize = 0;
+    for copy in copies {
+        if let Some(module) = modules.get(copy.module_number) {
+            let inner = module
+                .part
+                .leaves
+                .len()
+                .saturating_sub(module.part.port_leaves);
+            count = count.saturating_add(inner);
+        }
+    }
+    count
 }
 
 /// The leaves of the main module's ports.
@@ -143,6 +160,7 @@ fn put_leaves(
 ) -> Result<(), MemoryOut>
     ensures { OnOk result (leaves.new.items ≡ leaves.old.items ++ part_leaves prefix.now «module».now from to) }
 {
+    leaves.reserve(to.saturating_sub(from))?;
     for leaf in from..to {
         if let Some(declared) = design_leaf(alloc, prefix, module, leaf)? {
             leaves.push(declared)?;
@@ -169,8 +187,10 @@ fn design_leaf(
     let Some(is_driven) = module.driven.get(leaf) else {
         return Ok(None);
     };
-    let mut path = Vec::from_slice(alloc, prefix)?;
-    path.extend_from_slice(text.as_bytes())?;
+    let text = text.as_bytes();
+    let mut path = Vec::with_capacity(alloc, prefix.len().saturating_add(text.len()))?;
+    path.extend_from_slice(prefix)?;
+    path.extend_from_slice(text)?;
     Ok(Some(DesignLeaf {
         path: Name::from_vec(path),
         place: declared.place,
@@ -230,6 +250,7 @@ fn put_nodes(
 ) -> Result<(), MemoryOut>
     ensures { OnOk result (all.new.items ≡ all.old.items ++ map (node_moved at.now) nodes.now) }
 {
+    all.reserve(nodes.len())?;
     for node in nodes {
         let moved = moved_node(alloc, node, at)?;
         all.push(moved)?;

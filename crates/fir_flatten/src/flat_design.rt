@@ -31,7 +31,7 @@ pub fn flat_design(
         nodes,
         roles,
     } = design;
-    let mut kept = keep_nodes(alloc, &nodes, &roles)?;
+    let mut kept = keep_nodes(alloc, nodes, &roles)?;
     let leaves = flat_leaves(alloc, port_leaves, leaves, &roles, &mut kept)?;
     Ok(FlatNet {
         name,

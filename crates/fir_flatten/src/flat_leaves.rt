@@ -24,7 +24,7 @@ pub fn flat_leaves(
     ensures leaves { IfOk result (λ leaves. leaves.items ≡ flat_leaves_of kept.old.places.items port_leaves 0 declared.items roles.now (length kept.old.nodes.items)) }
     ensures nodes { OnOk result (kept.new.nodes.items ≡ kept.old.nodes.items ++ choices_behind kept.old.places.items declared.items roles.now) }
 {
-    let mut leaves = Vec::new(alloc);
+    let mut leaves = Vec::with_capacity(alloc, roles.len())?;
     for (leaf, role) in declared.into_iter().zip(roles) {
         let is_port = leaves.len() < port_leaves;
         leaves.push(flat_leaf(leaf, is_port, *role, kept)?)?;

@@ -11,20 +11,18 @@ ghost use Rattle.fir_flatten.specs.working.FlattensTo.{FlattensTo};
 
 use crate::clock_faults::clock_fault;
 use crate::design_net::design_net;
+use crate::design_parts::{DesignParts, design_parts};
 use crate::flat_design::flat_design;
 use crate::laws::designs_flatten;
-use crate::main_number::main_number;
-use crate::module_parts::{declared_by_modules, module_parts};
 use crate::plain_laws::designs_are_plain;
 use crate::told_laws::first_is_told;
 use fir_ast::FirFault;
 use fir_base::Refused;
 use fir_copies::{copies_give_all, copies_stand};
-use fir_design::{has_one_tree, has_sound_designs};
+use fir_design::has_one_tree;
 use fir_design_faults::clock_faults_stand_by_path;
-use fir_elaborate::{elaborate, modules_are_ordered};
 use fir_net::FlatNet;
-use fir_whens::{NetCircuit, modules_are_typed};
+use fir_whens::NetCircuit;
 use std::alloc::Global;
 
 /// The flat net of a circuit without memories, whose resets act at the edges of clocks. It allows at every tick what the
@@ -56,31 +54,23 @@ fn flat_net(alloc: Global, circuit: &NetCircuit) -> Result<FlatNet, Refused<FirF
     ensures told { IfFault result (λ f. (clock_group (circuit_of circuit.now)).tells (fault_of f)) }
     ensures shown { IfFault result (λ f. (clock_group (circuit_of circuit.now)).shows (fault_of f)) }
 {
-    has_sound_designs();
     has_one_tree();
-    modules_are_ordered();
     copies_stand();
     copies_give_all();
     clock_faults_stand_by_path();
     first_is_told();
     designs_are_plain();
     designs_flatten();
-    let leafed = circuit.leafed();
-    modules_are_typed(leafed);
-    let named = leafed.fitted().typed().named();
-    let _order = named.module_order();
-    let tree = named.circuit();
-    let leafed_modules = leafed.modules();
-    let Some(main) = main_number(tree) else {
-        unreachable!()
-    };
-    let names = declared_by_modules(alloc, tree)?;
-    let modules = module_parts(alloc, circuit)?;
-    let elaborated = elaborate(alloc, leafed_modules, &names, main)?;
+    let DesignParts {
+        names,
+        modules,
+        elaborated,
+    } = design_parts(alloc, circuit)?;
     if let Some(fault) = clock_fault(alloc, &modules, &names, &elaborated.copies)? {
         return Err(Refused::Fault(fault));
     }
     let design = design_net(alloc, &modules, &elaborated.copies)?;
+    let tree = circuit.leafed().fitted().typed().named().circuit();
     let name = tree.ident.name.copy(alloc)?;
     Ok(flat_design(alloc, name, design, elaborated.state)?)
 }

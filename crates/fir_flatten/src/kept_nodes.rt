@@ -1,14 +1,14 @@
 //! The nodes of a net that its leaves need, in a list of their own.
 
-ghost use Rattle.std.specs.Prelude.{◌≡◌, IfOk};
+ghost use Rattle.std.specs.Prelude.{◌≡◌, IfOk, OnOk, length};
 ghost use Rattle.fir_bits.specs.Values.{IsBitVector};
 ghost use Rattle.fir_merge.specs.working.NodeTerms.{ReadBefore};
-ghost use Rattle.fir_flatten.specs.working.KeptNodes.{AreNeeded, HasForm, Keeps, marked, marked_all, moved, moved_node, reset_reads, role_reads};
+ghost use Rattle.fir_flatten.specs.working.KeptNodes.{AreNeeded, HasForm, Keeps, marked, marked_all, moved, moved_all, moved_node, reset_reads, role_reads};
 
 use fir_ast::NodeId;
-use fir_base::{MemoryOut, Seq};
+use fir_base::MemoryOut;
 use fir_bits::Num;
-use fir_net::{Mux, Node, Operation, Read, Reads};
+use fir_net::{Node, Read, Reads};
 use fir_whens::{NetReset, NetRole};
 use std::alloc::Global;
 
@@ -20,26 +20,31 @@ pub struct KeptNodes {
     pub places: Vec<usize>,
 }
 
-/// Copies the nodes that the roles need, in their order. Where each node reads nodes before it, each copy does so too,
-/// and stands for the same as the node.
-pub fn keep_nodes(alloc: Global, nodes: &[Node], roles: &[NetRole]) -> Result<KeptNodes, MemoryOut>
-    ensures { IfOk result (λ kept. ReadBefore 0 nodes.now → Keeps nodes.now roles.now kept) }
+/// Keeps the nodes that the roles need, in their order. Where each node reads nodes before it, each kept one does so
+/// too, and stands for the same as it did.
+pub fn keep_nodes(
+    alloc: Global,
+    nodes: Vec<Node>,
+    roles: &[NetRole],
+) -> Result<KeptNodes, MemoryOut>
+    ensures { IfOk result (λ kept. ReadBefore 0 nodes.items → Keeps nodes.items roles.now kept) }
 {
-    let needed = needed_nodes(alloc, nodes, roles)?;
-    let mut kept = KeptNodes {
-        nodes: Vec::new(alloc),
-        places: Vec::new(alloc),
-    };
-    for (node, is_needed) in nodes.iter().zip(&needed) {
-        let place = kept.nodes.len();
-        if *is_needed {
-            has_form(node);
-            let copy = copied(alloc, node, &kept.places)?;
-            kept.nodes.push(copy)?;
+    let needed = needed_nodes(alloc, &nodes, roles)?;
+    let mut places = Vec::with_capacity(alloc, nodes.len())?;
+    let mut nodes = nodes;
+    let mut count = 0;
+    for number in 0..nodes.len() {
+        let place = count;
+        if needed[number] {
+            has_form(&nodes[number]);
+            renumber(alloc, &mut nodes[number], &places)?;
+            nodes.swap(place, number);
+            count += 1;
         }
-        kept.places.push(place)?;
+        places.push(place)?;
     }
-    Ok(kept)
+    nodes.truncate(count);
+    Ok(KeptNodes { nodes, places })
 }
 
 /// Where the value of a read is among kept nodes with these places.
@@ -55,39 +60,37 @@ pub fn moved(places: &[usize], read: Read) -> Read
     }
 }
 
-/// A node over kept nodes with these places.
-fn copied(alloc: Global, node: &Node, places: &[usize]) -> Result<Node, MemoryOut>
-    ensures { IfOk result (λ copy. copy ≡ moved_node places.now node.now) }
+/// Lets a node read kept nodes with these places.
+fn renumber(alloc: Global, node: &mut Node, places: &[usize]) -> Result<(), MemoryOut>
+    ensures { OnOk result (node.new ≡ moved_node places.now node.old) }
 {
     match node {
-        Node::Literal(value) => Ok(Node::Literal(*value)),
+        Node::Literal(_) => (),
         Node::Operation(operation) => {
-            let mut reads = Reads::new(alloc);
-            for read in operation.reads.as_slice() {
-                reads.push(moved(places, *read))?;
-            }
-            let integers = Vec::from_slice(alloc, operation.integers.as_slice())?;
-            Ok(Node::Operation(Operation {
-                op: operation.op,
-                reads,
-                integers: Seq::from_vec(integers),
-                signed: operation.signed,
-                width: operation.width,
-            }))
+            operation.reads = renumbered(alloc, operation.reads.as_slice(), places)?;
         }
         Node::Mux(mux) => {
             let [condition, first, second] = mux.reads;
-            Ok(Node::Mux(Mux {
-                reads: [
-                    moved(places, condition),
-                    moved(places, first),
-                    moved(places, second),
-                ],
-                signed: mux.signed,
-                width: mux.width,
-            }))
+            let reads = [
+                moved(places, condition),
+                moved(places, first),
+                moved(places, second),
+            ];
+            mux.reads = reads;
         }
     }
+    Ok(())
+}
+
+/// Reads over kept nodes with these places.
+fn renumbered(alloc: Global, reads: &[Read], places: &[usize]) -> Result<Reads, MemoryOut>
+    ensures { IfOk result (λ all. all ≡ moved_all places.now reads.now) }
+{
+    let mut all = Reads::new(alloc);
+    for read in reads {
+        all.push(moved(places, *read))?;
+    }
+    Ok(all)
 }
 
 /// A literal is a value of at most 128 bits, and a mux has three reads.
@@ -112,12 +115,10 @@ fn is_vector(value: &Num)
 
 /// Which nodes the roles need: those that they read, and those that needed nodes read.
 fn needed_nodes(alloc: Global, nodes: &[Node], roles: &[NetRole]) -> Result<Vec<bool>, MemoryOut>
-    ensures { IfOk result (λ needed. ReadBefore 0 nodes.now → AreNeeded nodes.now roles.now needed.items) }
+    ensures needed { IfOk result (λ needed. ReadBefore 0 nodes.now → AreNeeded nodes.now roles.now needed.items) }
+    ensures count { IfOk result (λ needed. length needed.items ≡ length nodes.now) }
 {
-    let mut needed = Vec::new(alloc);
-    for _ in nodes {
-        needed.push(false)?;
-    }
+    let mut needed = vec![in alloc; false; nodes.len()]?;
     for role in roles {
         mark_role(role, &mut needed);
     }

@@ -6,6 +6,7 @@ ghost use Rattle.fir_meaning.specs.ModuleScenes.{Scene};
 ghost use Rattle.fir_meaning.specs.Scenes.{IsSceneOf};
 ghost use Rattle.fir_meaning.specs.working.LeafedModules.{leafed_module};
 ghost use Rattle.fir_leaf_circuit.specs.working.Seen.{HasView};
+ghost use Rattle.fir_leaf_text.specs.working.DeclaredNames.{names_in_module};
 ghost use Rattle.fir_whens.specs.working.ModuleNets.{IsNetOf};
 ghost use Rattle.fir_flatten.specs.working.CircuitParts.{HasParts, names_by_modules};
 ghost use Rattle.fir_flatten.specs.working.DesignNets.{IsPartOf};
@@ -30,29 +31,38 @@ pub fn declared_by_modules(alloc: Global, circuit: &Circuit) -> Result<Vec<Vec<N
     Ok(names)
 }
 
-/// Each module with its net, by their numbers.
-pub fn module_parts(alloc: Global, circuit: &NetCircuit) -> Result<Vec<ModulePart<'_>>, MemoryOut>
+/// Each module with its net, by their numbers. The names are those of what each declares.
+pub fn module_parts<'a>(
+    alloc: Global,
+    circuit: &'a NetCircuit,
+    names: &[Vec<Name>],
+) -> Result<Vec<ModulePart<'a>>, MemoryOut>
+    requires { map (λ ns. ns.items) names.now ≡ names_by_modules (circuit_of circuit.now) }
     ensures { IfOk result (λ parts. HasParts (circuit_of circuit.now) parts.items) }
 {
     let leafed = circuit.leafed();
     let nets = circuit.nets();
     let mut parts = Vec::new(alloc);
     for (number, part) in leafed.modules().iter().enumerate() {
-        parts.push(module_part(alloc, leafed, number, part, &nets[number])?)?;
+        let declared = &names[number];
+        let net = &nets[number];
+        parts.push(module_part(alloc, leafed, number, part, net, declared)?)?;
     }
     Ok(parts)
 }
 
-/// The module of a number with its net.
+/// The module of a number with its net, where it declares these names.
 fn module_part<'a>(
     alloc: Global,
     circuit: &LeafCircuit,
     number: usize,
     part: &'a LeafModule,
     net: &'a ModuleNet,
+    names: &[Name],
 ) -> Result<ModulePart<'a>, MemoryOut>
     requires view { (s : Scene) → IsSceneOf (circuit_of circuit.now) number s → HasView part.now (leafed_module s) }
     requires net { (s : Scene) → IsSceneOf (circuit_of circuit.now) number s → IsNetOf (leafed_module s) net.now }
+    requires names { (s : Scene) → IsSceneOf (circuit_of circuit.now) number s → names.now ≡ names_in_module s.own.inside }
     ensures { IfOk result (λ p. (s : Scene) → IsSceneOf (circuit_of circuit.now) number s → IsPartOf (leafed_module s) p) }
 {
     let named = circuit.fitted().typed().named();
@@ -62,7 +72,7 @@ fn module_part<'a>(
     Ok(ModulePart {
         part,
         net,
-        texts: leaf_texts(alloc, circuit, number)?,
+        texts: leaf_texts(alloc, circuit, number, names)?,
         driven: driven_leaves(alloc, part.leaves.len(), &part.nodes, &part.body)?,
     })
 }

@@ -25,7 +25,7 @@ use Rattle.fir_leaf_text.specs.working.TextsOfLeaves.{AreTextsOf, declared_texts
 use Rattle.fir_leaf_text.specs.working.TypePaths.{paths_of, texts_behind, type_paths}
 use Rattle.fir_leaf_text.proofs.DeclaredTexts.{shown_paths, type_known}
 use Rattle.fir_leaf_text.proofs.NamedDeclarations.{name_of_known, names_are}
-use Rattle.fir_leaf_text.proofs.SceneLeaves.{inside_there, module_there}
+use Rattle.fir_leaf_text.proofs.SceneLeaves.{inside_there}
 
 -- those of what is known
 abbrev scope_texts : TypedScope → List (List ℕ)
@@ -41,10 +41,6 @@ texts_more ks k =
     ∙ map-append path_text (scope_paths ks) (known_paths k) ∙ ap (λ ts. scope_texts ks ++ ts) (texts_of_leaves k.name (leaves_of_data k.data_type))
 
 module _ (c : CircuitTree) (module_number : ℕ) where
-  -- where there is no such module there is no text
-  pub no_module_texts : length c.modules ≤ module_number → (texts : List (List ℕ)) → AreTextsOf c module_number texts
-  no_module_texts past texts = λ s scene. absurd (omega (arith, module_there c module_number s.own scene.own))
-
   -- those of the first declarations
   pub record AreTextsSoFar (position : ℕ) (texts : List (List ℕ)) : Type 0 where
     pub are : (m : ModuleTree) → slice_get c.modules module_number ≡ Some m → texts ≡ scope_texts (take position (typed_scope c.modules (declarations m)))

@@ -1,13 +1,14 @@
 //! The paths of all leaves of a module, in their order.
 
-ghost use Rattle.std.specs.Prelude.{◌≡◌, ◌++◌, IfOk, OnOk};
+ghost use Rattle.std.specs.Prelude.{◌≡◌, ◌++◌, IfOk, OnOk, Some, slice_get};
+ghost use Rattle.fir_ast.specs.Circuits.{ModuleTree};
 ghost use Rattle.fir_ast.specs.working.Views.{circuit_of};
 ghost use Rattle.fir_type_table.specs.working.Tables.{types_of};
 ghost use Rattle.fir_types.specs.working.Seen.{found_type};
+ghost use Rattle.fir_leaf_text.specs.working.DeclaredNames.{names_in_module};
 ghost use Rattle.fir_leaf_text.specs.working.TextsOfLeaves.{AreTextsOf, declared_texts};
 ghost use Rattle.fir_leaf_text.specs.working.TypePaths.{texts_behind, type_paths};
 
-use crate::declarations::declared_names;
 use crate::declared_leaf::found_at;
 use crate::type_texts::{push_text, push_type_texts};
 use fir_base::{MemoryOut, Name};
@@ -17,27 +18,19 @@ use fir_type_table::TypeTable;
 use fir_types::{Found, Typed};
 use std::alloc::Global;
 
-/// The paths of the leaves of the module of that number, as lines print them.
+/// The paths of the leaves of the module of that number, as lines print them. The names are those of what it declares,
+/// in the order of the text.
 pub fn leaf_texts(
     alloc: Global,
     circuit: &LeafCircuit,
     module_number: usize,
+    names: &[Name],
 ) -> Result<Vec<Name>, MemoryOut>
-    ensures { IfOk result (λ texts. AreTextsOf (circuit_of circuit.now) module_number texts.items) }
+    ensures { IfOk result (λ texts. (m : ModuleTree) → slice_get (circuit_of circuit.now).modules module_number ≡ Some m → names.now ≡ names_in_module m → AreTextsOf (circuit_of circuit.now) module_number texts.items) }
 {
     leaves_are_declared();
     let typed = circuit.fitted().typed();
     let mut texts = Vec::new(alloc);
-    let Some(part) = typed
-        .named()
-        .circuit()
-        .modules
-        .as_slice()
-        .get(module_number)
-    else {
-        return Ok(texts);
-    };
-    let names = declared_names(alloc, part)?;
     let mut path = Vec::new(alloc);
     for (position, name) in names.iter().enumerate() {
         push_declared_texts(

@@ -1,4 +1,4 @@
--- The nodes of a net that the roles of its leaves need, copied to a list of their own: what is read there stands for the same terms, and all of it has the types
+-- The nodes of a net that the roles of its leaves need, in a list of their own: what is read there stands for the same terms, and all of it has the types
 -- that the terms have.
 use Rattle.std.specs.Prelude.{◌≡◌, ℕ, ◌≤◌, List, [], ◌∷◌, ◌++◌, length, map, Bool, true, false, slice_get, slice_set, nat_lt, if◌then◌else◌, Option, Some, None}
 use Rattle.fir_bits.specs.Values.{IsBitVector}

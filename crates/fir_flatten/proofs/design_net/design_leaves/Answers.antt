@@ -12,7 +12,7 @@ loop-copy-preserved c =
     let k = c.copy-item.result in
     let now = c.loop-copy.leaves.items in
     let there = sym (item_is parts k.module_number c.get.result c.get.ensures.lookup) in
-    copies_step parts c.args.copies.now c.loop-copy.copy-index k c.in_ok-leaves.leaves.items now c.match-get.leaves.items c.loop-copy-test.true
+    copies_step parts c.args.copies.now c.loop-copy.copy-index k c.reserve.new.self.items now c.match-get.leaves.items c.loop-copy-test.true
     c.copy-item.is c.loop-copy.invariant
     (elim c.match-get.branch [
       | in-Some+in_ok-put_leaves w ↦

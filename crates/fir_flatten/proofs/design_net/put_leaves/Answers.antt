@@ -9,7 +9,7 @@ pub loop-leaf-init : goal.loop-leaf-init
 loop-leaf-init c = record {
   within = omega arith;
   are =
-      sym (append-nil c.args.leaves.now.items)
+      c.reserve.ensures.items ∙ sym (append-nil c.args.leaves.now.items)
       ∙ ap (λ (ls : List DesignLeaf). c.args.leaves.now.items ++ ls)
       (sym (leaves_none c.args.prefix.now c.args.module.now c.args.from c.args.from (omega arith)));
 }
@@ -23,8 +23,8 @@ loop-leaf-preserved c =
     record {
       within = omega arith;
       are =
-          leaves_step prefix p c.args.from x c.args.leaves.now.items now c.match-branch-2.leaves.items c.loop-leaf.auto.leaf c.loop-leaf.invariant.are
-          (elim c.match-branch-2.branch [
+          leaves_step prefix p c.args.from x c.args.leaves.now.items now c.match-branch-3.leaves.items c.loop-leaf.auto.leaf c.loop-leaf.invariant.are
+          (elim c.match-branch-3.branch [
             | in-Some+in_ok-push w ↦
                 ap (λ v. v.items) w.leaves-is ∙ w.in_ok-push.ensures.items
                 ∙ ap (λ o. now ++ listed o) (sym w.in-Some.is ∙ c.in_ok-declared.ensures)

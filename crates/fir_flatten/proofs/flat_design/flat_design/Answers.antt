@@ -1,7 +1,6 @@
 -- The nodes that the roles read are kept, and the choices of resets stand behind them.
 use Rattle.std.proofs.Common.{◌≡◌, ◌++◌, List, length, ap, ◌∙◌, subst}
 use Rattle.fir_net.specs.declared.net.FlatNet.{FlatNet}
-use Rattle.fir_net.specs.declared.node.Node.{Node}
 use Rattle.fir_merge.specs.working.NodeTerms.{ReadBefore}
 use Rattle.fir_whens.specs.declared.net_role.NetRole.{NetRole}
 use Rattle.fir_flatten.specs.working.FlatRoles.{choices_behind, flat_leaves_of}
@@ -14,12 +13,10 @@ returns-clause-flat c =
     let design = c.args.design in
     let kept = c.in_ok-kept.kept in
     let places = kept.places.items in
-    let nodes : c.deref.result.now ≡ design.nodes.items = c.deref.ensures.value in
-    let roles : c.deref-2.result.now ≡ design.roles.items = c.deref-2.ensures.value in
-    let roles_again : c.deref-3.result.now ≡ design.roles.items = c.deref-3.ensures.value in
+    let roles : c.deref.result.now ≡ design.roles.items = c.deref.ensures.value in
+    let roles_again : c.deref-2.result.now ≡ design.roles.items = c.deref-2.ensures.value in
     let keeps : ReadBefore 0 design.nodes.items → Keeps design.nodes.items design.roles.items kept =
-    subst (λ (rs : List NetRole). ReadBefore 0 design.nodes.items → Keeps design.nodes.items rs kept) roles
-    (subst (λ (ns : List Node). ReadBefore 0 ns → Keeps ns c.deref-2.result.now kept) nodes c.in_ok-kept.ensures) in
+    subst (λ (rs : List NetRole). ReadBefore 0 design.nodes.items → Keeps design.nodes.items rs kept) roles c.in_ok-kept.ensures in
     let flat : FlatNet = record { name = c.args.name; leaves = c.from_vec.result; nodes = c.from_vec-2.result; state = c.from_vec-3.result } in
     let leaves : c.from_vec.result ≡ flat_leaves_of places design.port_leaves 0 design.leaves.items design.roles.items (length kept.nodes.items) =
     c.from_vec.ensures ∙ c.in_ok-leaves.ensures.leaves

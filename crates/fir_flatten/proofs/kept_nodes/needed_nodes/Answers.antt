@@ -1,4 +1,4 @@
-use Rattle.std.proofs.Common.{◌≡◌, ◌+◌, ◌-◌, ◌<◌, suc, length, List, Bool, Some, false, Vec, Global, ap, sym, ◌∙◌, refl, subst, arith}
+use Rattle.std.proofs.Common.{◌≡◌, ◌+◌, ◌-◌, ◌<◌, suc, length, List, Bool, Some, false, Vec, Global, ap, sym, ◌∙◌, refl, subst, arith, replicate, rules}
 use Rattle.std.specs.Prelude.{slice_get}
 use Rattle.std.proofs.lemmas.List.{with_items_is}
 use Rattle.std.proofs.lemmas.Option.{slice_get_read}
@@ -7,7 +7,7 @@ use Rattle.fir_net.specs.declared.reads.Read.{Read}
 use Rattle.fir_net.specs.working.Dependence.{support_of}
 use Rattle.fir_flatten.specs.working.KeptNodes.{marked_all, role_reads}
 use Rattle.fir_flatten.proofs.MarkedReads.{more_by_all}
-use Rattle.fir_flatten.proofs.NeededMarks.{AreUnset, NodesMarked, RolesMarked, all_needed, no_nodes, no_roles, one_role, set_node, unset_node}
+use Rattle.fir_flatten.proofs.NeededMarks.{AreUnset, NodesMarked, RolesMarked, all_needed, all_unset, no_nodes, no_roles, one_role, set_node, unset_node}
 use Rattle.fir_flatten.proofs.kept_nodes.needed_nodes.Goals as goal
 
 -- the marks in a vector, with those of reads
@@ -20,8 +20,9 @@ written v rs marks seen same is =
 
 pub loop-role-init : goal.loop-role-init
 loop-role-init c =
-    let all : c.loop.index ≡ length c.args.nodes.now = omega arith in
-    no_roles c.args.nodes.now c.args.roles.now c.loop.needed.items (subst (λ k. AreUnset k c.loop.needed.items) all c.loop.invariant)
+    let nodes = c.args.nodes.now in
+    let unset : c.in_ok-needed.needed.items ≡ replicate (length nodes) false = c.in_ok-needed.ensures.items_if_clones_equal (λ y same. search rules) in
+    no_roles nodes c.args.roles.now c.in_ok-needed.needed.items (subst (AreUnset (length nodes)) (sym unset) (all_unset (length nodes)))
 
 pub loop-role-preserved : goal.loop-role-preserved
 loop-role-preserved c =
@@ -82,8 +83,8 @@ loop-number-preserved c =
       marked = λ before. unset_node nodes roles k marks unset (subst (λ j. NodesMarked nodes roles j marks) above (c.loop-number.invariant.marked before));
     }
 
-pub returns : goal.returns
-returns c =
+pub returns-clause-needed : goal.returns-clause-needed
+returns-clause-needed c =
     let none : c.loop-number.number ≡ 0 = omega arith in
     λ before.
     all_needed c.args.nodes.now c.args.roles.now c.loop-number.needed.items

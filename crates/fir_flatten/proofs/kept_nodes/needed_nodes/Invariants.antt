@@ -1,10 +1,7 @@
 use Rattle.std.proofs.Common.{◌≡◌, length}
 use Rattle.fir_merge.specs.working.NodeTerms.{ReadBefore}
-use Rattle.fir_flatten.proofs.NeededMarks.{AreUnset, NodesMarked, RolesMarked}
+use Rattle.fir_flatten.proofs.NeededMarks.{NodesMarked, RolesMarked}
 use Rattle.fir_flatten.proofs.kept_nodes.needed_nodes.Given as goal
-
-abbrev pub invariant-loop : goal.invariant-loop
-invariant-loop l = AreUnset l.index l.needed.items
 
 abbrev pub invariant-loop-role : goal.invariant-loop-role
 invariant-loop-role l = RolesMarked l.nodes l.roles l.role-index l.needed.items

@@ -6,6 +6,7 @@ use Rattle.fir_design.proofs.FineScenes.{fine_scene}
 use Rattle.fir_driven.specs.working.DrivenFlags.{AreDriven}
 use Rattle.fir_elaborate.proofs.ViewedLeaves.{as_many}
 use Rattle.fir_leaf.specs.working.NodeBlocks.{block_in}
+use Rattle.fir_leaf_text.proofs.SceneLeaves.{inside_there}
 use Rattle.fir_meaning.specs.SizedDeclarations.{numbered_modules}
 use Rattle.fir_meaning.specs.TypeGroup.{type_faults}
 use Rattle.fir_meaning.specs.working.LeafBlocks.{LeafBlock}
@@ -33,7 +34,9 @@ returns c = λ s scene.
       is_net = c.requires.net s scene;
       before = c.as_slice-nodes.ensures.before;
       reads = λ x lt. roles_below s fine x lt;
-      texts = c.in_ok-leaf_texts.ensures s scene;
+      texts =
+          c.in_ok-leaf_texts.ensures s.own.inside (inside_there (circuit_of tree) c.args.number s.own scene.own) (c.requires.names s scene) s
+          scene;
       driven =
           subst (λ n. AreDriven n (leafed_module s).body flags) many
           (subst (λ (b : LeafBlock). AreDriven c.len.result b flags) body c.in_ok-driven_leaves.ensures);

@@ -1,10 +1,11 @@
-use Rattle.std.proofs.Common.{◌+◌, ◌<◌, ◌≤◌, List, length, refl, sym, subst, arith}
+use Rattle.std.proofs.Common.{◌+◌, ◌∙◌, ◌<◌, ◌≤◌, List, length, refl, sym, subst, arith}
 use Rattle.std.proofs.lemmas.Option.{slice_get_read}
 use Rattle.fir_ast.specs.declared.circuit.Circuit.{Circuit}
 use Rattle.fir_ast.specs.working.Views.{circuit_of}
 use Rattle.fir_leaf_circuit.specs.working.Leafed.{AreLeafed}
 use Rattle.fir_meaning.specs.Scenes.{IsSceneOf}
 use Rattle.fir_flatten.specs.declared.design_net.ModulePart.{ModulePart}
+use Rattle.fir_flatten.proofs.NamesOfModules.{as_many_names, names_of_number}
 use Rattle.fir_flatten.proofs.PartsSoFar.{IsPartAt, PartsSoFar, all_parts, one_more_part}
 use Rattle.fir_flatten.proofs.module_parts.module_parts.Goals as goal
 
@@ -25,6 +26,25 @@ module_part-requires-clause-net c = λ s scene.
     let short : k < length nets = omega (arith, c.loop-number-test.true, leafed.count, c.nets-nets.ensures.nets.count) in
     let at = slice_get_read nets (length nets) k c.index-nets-number.result refl short c.index-nets-number.is in
     c.nets-nets.ensures.nets.each k c.index-nets-number.result s at
+    (subst (λ (t : Circuit). IsSceneOf (circuit_of t) k s) c.leafed-leafed.ensures.tree scene)
+
+pub bounds-names-number : goal.bounds-names-number
+bounds-names-number c =
+    let modules = c.modules-part-items.result.now in
+    let leafed = subst (λ (t : Circuit). AreLeafed (circuit_of t) modules) c.leafed-leafed.ensures.tree c.modules-part-items.ensures.leafed in
+    omega (arith, c.loop-number-test.true, leafed.count, as_many_names (circuit_of c.args.circuit.now) c.args.names.now c.requires)
+
+pub module_part-requires-clause-names : goal.module_part-requires-clause-names
+module_part-requires-clause-names c = λ s scene.
+    let tree = c.args.circuit.now in
+    let modules = c.modules-part-items.result.now in
+    let k = c.loop-number.number in
+    let names = c.args.names.now in
+    let own = c.index-names-number.result in
+    let leafed = subst (λ (t : Circuit). AreLeafed (circuit_of t) modules) c.leafed-leafed.ensures.tree c.modules-part-items.ensures.leafed in
+    let short : k < length names = omega (arith, c.loop-number-test.true, leafed.count, as_many_names (circuit_of tree) names c.requires) in
+    c.deref.ensures.value
+    ∙ names_of_number (circuit_of tree) names c.requires k own (slice_get_read names (length names) k own refl short c.index-names-number.is) s
     (subst (λ (t : Circuit). IsSceneOf (circuit_of t) k s) c.leafed-leafed.ensures.tree scene)
 
 pub loop-number-preserved : goal.loop-number-preserved

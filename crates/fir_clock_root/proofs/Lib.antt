@@ -1,0 +1,2 @@
+pub mod RootWalks
+pub mod InputNumbers
