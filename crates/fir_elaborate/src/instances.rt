@@ -1,6 +1,6 @@
 //! The instances of a module.
 
-ghost use Rattle.std.specs.Prelude.{◌≡◌, ◌++◌, IfOk, List, OnOk, map};
+ghost use Rattle.std.specs.Prelude.{◌≡◌, ◌++◌, IfOk, List, OnOk, length, map};
 ghost use Rattle.fir_leaf.specs.declared.node.Node.{Node};
 ghost use Rattle.fir_leaf.specs.working.NodeBlocks.{block_in, statement_in};
 ghost use Rattle.fir_elaborate.specs.working.OrderedModules.{instances_in, instances_of};
@@ -16,7 +16,8 @@ pub fn instances_of_all(
     alloc: Global,
     modules: &[LeafModule],
 ) -> Result<Vec<Vec<LeafInstance>>, MemoryOut>
-    ensures { IfOk result (λ held. AreHeld modules.now (map (λ is. is.items) held.items)) }
+    ensures held { IfOk result (λ held. AreHeld modules.now (map (λ is. is.items) held.items)) }
+    ensures count { IfOk result (λ held. length held.items ≡ length modules.now) }
 {
     let mut held = Vec::new(alloc);
     for module in modules {

@@ -15,7 +15,7 @@ loop-module-preserved c =
           (rw c.deref.ensures.value at c.in_ok-instances_of.ensures)),
     )
 
-pub returns : goal.returns
-returns c =
+pub returns-clause-held : goal.returns-clause-held
+returns-clause-held c =
     subst (λ ms. AreHeld ms (map (λ is. is.items) c.loop-module.held.items))
     (take_all c.loop-module.module-index c.args.modules.now c.loop-module-test.false) c.loop-module.invariant.1

@@ -5,7 +5,7 @@ use Rattle.fir_elaborate.proofs.WalkSteps.{ended}
 use Rattle.fir_elaborate.proofs.walk.elaborate.Goals as goal
 
 pub take-requires : goal.take-requires
-take-requires c = rw c.deref.ensures.value c.in_ok-held.ensures
+take-requires c = rw c.deref.ensures.value c.in_ok-held.ensures.held
 
 pub loop-preserved : goal.loop-preserved
 loop-preserved c = λ views d viewed lt design.
