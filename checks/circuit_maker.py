@@ -1,29 +1,35 @@
 """Makes circuits at random, of which firc takes most; many have instances. Outputs and registers
-hang on inputs and on the state. Some circuits have a flaw: a leaf that hangs on itself, a form that
-firc lacks, a leaf that is not driven, clocks that statements or indices pick, or widths that do not
-fit."""
+hang on inputs and on the state. In many each module has an asynchronous reset, which in most of
+these is handed on from the main module as it is. Some circuits have a flaw: a leaf that hangs on
+itself, a form that firc lacks, a leaf that is not driven, clocks that statements or indices pick,
+inits that are no constants, or widths that do not fit."""
 from cost_rules import leaf_count
 from driven_maker import DEPTH, FORGETS
 from inference_maker import RATES
 from name_maker import FIELDS
 from name_texts import Line
-from ranked_maker import LAST, RankedMaker
+from ranked_maker import ABOVE, FIRST, LAST, NODES, RankedMaker
 from type_forms import NUMBERS, Ground, alike, fits, is_passive, same_kind, without_widths
-from type_maker import called
+from type_maker import called, is_plain, tokens_of
 
-FLAWS = ["none"] * 30 + ["loop"] * 4 + """memory clock clock clock reset forgotten forgotten widths
-widths""".split()
+FLAWS = ["none"] * 30 + ["loop"] * 4 + """memory clock clock clock init init init forgotten
+forgotten widths widths""".split()
 WORDS = """wire wire node node node reg reg reg reg reg reg connect connect connect connect partial
 invalid""".split()
 # what is made more often where it is wanted
 LACKING = {"memory": ["mem"] * 5}
 KINDS = ["UInt"] * 5 + ["SInt"] * 3
+RESETS = ("Reset", "AsyncReset")
 MIXING = {"UInt": "add sub mul xor cat not or and".split(),
           "SInt": "add sub mul neg cvt asSInt dshl".split()}
 STEPS = ["add", "add", "sub", "xor"]
 ENDINGS = FIELDS[-6:] + ["x", "reg"]
 # how many leaves are driven by each block of a when, or in whens and by wires one by one, at most
 FEW = 4
+
+
+def is_reset(given):
+    return isinstance(given, Ground) and given.kind in RESETS
 
 
 class CircuitMaker(RankedMaker):
@@ -50,10 +56,16 @@ class CircuitMaker(RankedMaker):
         self.kinds += ["Clock"] * (4 * (self.flaw == "clock"))
         self.meets = count / 8
         if self.flaw != "widths":
-            self.partners = chance.choice([("UInt",), ("UInt",), ("AsyncReset",)])
-        self.reset_kinds = ["UInt", "UInt"] + ["Reset"] * (self.partners == ("UInt",))
-        if self.flaw == "reset":
-            self.reset_kinds = ["UInt", "AsyncReset", "AsyncReset", "Reset"]
+            self.partners = chance.choice([("UInt",), ("AsyncReset",)])
+        if self.flaw == "init":
+            self.partners = "AsyncReset",
+        is_async = self.partners == ("AsyncReset",)
+        # the kinds of a reset's port, if modules have one; and whether it is handed on as it is
+        self.ports_of_resets = [*RESETS, "AsyncReset"] * is_async
+        self.hands_on = is_async and chance.random() < 0.8
+        self.reset_kinds = ["UInt", *RESETS, *RESETS] if is_async else ["UInt", "UInt", "Reset"]
+        self.node_limits = [*NODES, FIRST] if is_async else NODES
+        self.resets = 0.9 if is_async else 0.7
 
     def new_type(self, depth):
         return super().new_type(min(depth, 2))
@@ -84,6 +96,9 @@ class CircuitMaker(RankedMaker):
         ports = [self.port(head, "input", Ground("Clock")) for _ in range(clocks)]
         ports += [self.port(head, "input", self.ground(NUMBERS)) for _ in range(3)]
         ports.append(self.port(head, "input", Ground("UInt", 1)))
+        if self.ports_of_resets:
+            kind = chance.choice(self.ports_of_resets)
+            ports.append(self.port(head, "input", Ground(kind)))
         ports += [self.port(head, "input") for _ in range(chance.randint(0, 2))]
         ports += [self.port(head, "output") for _ in range(chance.randint(1, 3))]
         chance.shuffle(ports)
@@ -108,8 +123,17 @@ class CircuitMaker(RankedMaker):
         return super().reference(spot, depth)
 
     def expression(self, given, depth, meets=same_kind):
-        """More often an operator than a name, and now and then a literal."""
+        """More often an operator than a name, and now and then a literal; a constant more often a
+        literal. A reset that is handed on is mostly a name that hangs on no more than an input."""
+        if self.hands_on and is_reset(given) and self.chance.random() < 0.9:
+            meets = self.joins if meets is fits else meets
+            inputs = [spot for spot in self.spots() if self.high(spot) <= FIRST
+                      and isinstance(spot.type, Ground) and meets(given, spot.type)]
+            if inputs:
+                return self.reference(self.chance.choice(inputs), depth)
         if isinstance(given, Ground) and given.kind in NUMBERS:
+            if self.limit <= FIRST and self.chance.random() < 0.6:
+                return self.literal(given.kind)
             if depth > 1 and self.chance.random() < 0.5:
                 return self.operation(given.kind, depth)
             if depth < 2 and self.chance.random() < 0.1:
@@ -154,6 +178,50 @@ class CircuitMaker(RankedMaker):
         is_clock = given == Ground("Clock") and self.flaw != "clock"
         return self.ground(KINDS) if is_clock else given
 
+    # Registers.
+
+    def reg(self):
+        """Before one whose reset may be asynchronous stands, now and then, a wire that has a
+        constant of its type."""
+        kinds, lines = self.reset_kinds, []
+        is_seen = any(spot.type == Ground("Reset") for spot in self.spots())
+        self.reset_kinds = [self.chance.choice([kind for kind in kinds
+                                                if is_seen or kind != "Reset"])]
+        self.given = self.chance.choice([self.plain_type(), self.own_type()])
+        if self.may_act_at_once() and self.chance.random() < self.needs_a_wire():
+            lines = self.constant()
+        lines += super().reg()
+        self.reset_kinds, self.given = kinds, None
+        return lines
+
+    def own_type(self):
+        """A bundle or a vector of those that other declarations have, if there is one."""
+        given = self.pick(given for given in self.types if is_plain(given) and leaf_count(given))
+        return given or self.plain_type()
+
+    def register_type(self):
+        return self.given
+
+    def may_act_at_once(self):
+        [kind] = self.reset_kinds
+        return kind == "AsyncReset" or kind == "Reset" and "AsyncReset" in self.partners
+
+    def needs_a_wire(self):
+        return 0.2 if isinstance(self.given, Ground) else 0.7
+
+    def constant(self):
+        """A wire of the register's type that only constants drive."""
+        name, self.limit = self.declare(self.head), FIRST
+        self.show(name, self.given, "both")
+        self.limit = ABOVE
+        return [Line(["wire", name, ":", *tokens_of(self.given)])]
+
+    def init(self, given):
+        """With the flaw, now and then whatever there is."""
+        if self.flaw == "init" and self.chance.random() < 0.5:
+            return self.expression(given, 2)
+        return super().init(given)
+
     # Statements.
 
     def statements(self, most, depth):
@@ -161,8 +229,18 @@ class CircuitMaker(RankedMaker):
         first = self.reg() if len(self.visible) == 2 and self.chance.random() < 0.7 else []
         return first + super().statements(most, depth)
 
+    def is_ordered(self, one, other):
+        """A reset that is handed on is driven by nothing else."""
+        is_driven = self.hands_on and (is_reset(one.type) or is_reset(other.type))
+        return not is_driven and super().is_ordered(one, other)
+
+    def touch(self, spot):
+        return [] if self.hands_on and is_reset(spot.type) else super().touch(spot)
+
     def ways(self, spot, depth):
         """Seldom an invalid, where there is another way."""
+        if self.hands_on and is_reset(spot.type):
+            return [self.drive_by_value] * 3 + [self.drive_by_wire] * (depth > 0)
         ways, no_ways = super().ways(spot, depth), [self.drive_by_invalid]
         if is_passive(spot.type):
             ways += [self.drive_by_value] * 4

@@ -5,8 +5,8 @@ A circuit of circuit_maker.py is either refused with the line of its first fault
 emitted; what is emitted is run by the simulator, and by Icarus Verilog where that is installed,
 from a random state over random ticks, and shows the values that Python's integers give
 (tick_rules.py). Icarus is not asked where a net wider than 64 bits is divided, which Icarus 11.0
-does wrongly. With `faults` texts with faults of every code from E04 to E24 are refused with their
-line (fault_texts.py).
+does wrongly, and where an asynchronous reset is logic (test_bench.py). With `faults` texts with
+faults of every code from E04 to E24 are refused with their line (fault_texts.py).
 
 usage: circuits.py [--program PATH] COUNT [SEED]
        circuits.py [--program PATH] faults COUNT [SEED]
@@ -28,7 +28,7 @@ from expected import shown_lines, trace_lines
 from fault_texts import made_with_fault
 from name_texts import Writer
 from readings import Reading
-from test_bench import test_bench
+from test_bench import resets_follow_inputs, test_bench
 
 ROOT = pathlib.Path(__file__).resolve().parent.parent
 TICKS = 32
@@ -72,13 +72,21 @@ def divides_wide(verilog):
     return any(name in wide for name in DIVIDED.findall(verilog))
 
 
+def why_without_icarus(verilog, source):
+    """What circuits do that Icarus is not asked about, or None."""
+    if divides_wide(verilog):
+        return "divide wide nets"
+    return None if resets_follow_inputs(source) else "have resets that are logic"
+
+
 class Comparison:
     """Compares a program with the readings, in a folder. It ends where the two differ."""
 
     def __init__(self, program, work):
         self.program, self.work = program, work
         self.with_icarus = bool(shutil.which("iverilog") and shutil.which("vvp"))
-        self.without_icarus = 0
+        # why Icarus was not asked, and how often
+        self.without_icarus = {}
 
     def said(self, *words):
         return subprocess.run([self.program, *words], cwd=self.work, capture_output=True, text=True)
@@ -112,11 +120,12 @@ class Comparison:
         trace = "".join(line + "\n" for line in trace_lines(reading.source, *run))
         wanted = "".join(line + "\n" for line in shown_lines(reading.source, *run))
         shows = {"firc sim": self.shown_by_sim(trace)}
-        if self.with_icarus and not divides_wide(verilog):
+        why = why_without_icarus(verilog, reading.source)
+        if why:
+            self.without_icarus[why] = self.without_icarus.get(why, 0) + 1
+        elif self.with_icarus:
             bench = test_bench(reading.source, *run)
             shows["Icarus"] = shown_by_icarus(self.work, verilog, bench)
-        else:
-            self.without_icarus += 1
         for by, shown in shows.items():
             if shown != wanted:
                 shown = f"{by} shows\n{shown}where the source has\n{wanted}"
@@ -145,7 +154,8 @@ def main():
     if not of_faults and not comparison.with_icarus:
         print("circuits: Icarus is not installed, so only the simulator was compared")
     elif comparison.without_icarus:
-        print("circuits: without Icarus, as they divide wide nets:", comparison.without_icarus)
+        told = (f"{count} {why}" for why, count in sorted(comparison.without_icarus.items()))
+        print("circuits: Icarus was not asked about some:", ", ".join(told))
     what = "faults" if of_faults else "circuits"
     print(f"{what}: the same on", sum(said.values()), "circuits:", dict(sorted(said.items())))
 

@@ -27,7 +27,7 @@ def picked_by(places):
 def evidence(source, leaf):
     """The places that are told of a leaf, or None where its clock is clear."""
     if leaf.word == "reg":
-        return picked_by(index_places(leaf.copy.module.registers[leaf.name].clock))
+        return picked_by(index_places(leaf.register().clock))
     if not leaf.is_clock():
         return None
     if leaf.word == "node":

@@ -280,8 +280,13 @@ class InferenceMaker(Maker):
         return super().pair(is_wanted)
 
     def reset(self, given):
+        condition, init = self.reset_condition(), self.init(given)
+        return ["reset", "=>", *called("", [condition, init])[1:]] if condition and init else None
+
+    def reset_condition(self):
         kind = self.chance.choice(self.reset_kinds)
         is_bit = kind == "UInt" and self.chance.random() >= self.loose
-        condition = self.bit(1) if is_bit else self.expression(Ground(kind), 2)
-        init = self.expression(given, 2)
-        return ["reset", "=>", *called("", [condition, init])[1:]] if condition and init else None
+        return self.bit(1) if is_bit else self.expression(Ground(kind), 2)
+
+    def init(self, given):
+        return self.expression(given, 2)

@@ -30,7 +30,8 @@ fi
 
 # Whether each register of the text has a block.
 drives_registers() {
-  awk '$1 == "reg" { held[$NF] } $1 == "always" { delete held[$4 ";"] }
+  awk '$1 == "reg" { held[$NF] }
+    $1 == "always" { for (k = 2; k < NF && $k != "<="; k++) target = $k; delete held[target ";"] }
     END { for (r in held) exit 1 }' "$1"
 }
 

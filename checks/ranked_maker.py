@@ -1,7 +1,9 @@
 """Makes circuits at random in which no leaf hangs on itself within a tick, unless ranks slip.
 
-Each leaf that statements drive has a rank, and is driven by what has less alone. All may read
-inputs and registers, and registers may read all. A node has the rank of what it reads."""
+Each leaf that statements drive has a rank, and is driven by what has less alone. All but constants
+may read inputs and registers, and registers may read all. A node has the rank of what it reads.
+What has less rank than inputs is a constant. A register whose reset may be asynchronous hangs on
+it: what reads the register has more rank than what the reset reads, and its init is a constant."""
 import re
 
 from driven_maker import DEPTH, DrivenMaker, parts
@@ -9,8 +11,9 @@ from name_texts import Line
 from type_forms import Ground, Vector, fits, is_passive, pairs
 from type_maker import Spot, is_legal, within
 
-# the ranks of what all may read, and of what may read all; and one above all
-FIRST, LAST, ABOVE = -1, 2, 3
+# the ranks of what reads nothing, of what all but constants may read, and of what may read all; and
+# one above all
+LEAST, FIRST, LAST, ABOVE = -2, -1, 2, 3
 # how much more than the rank of an instance's inputs its outputs have
 HIGHER = 0.001
 # between 0 and 1: the least rank of a port's leaf, and below which rank stands what a condition of
@@ -21,7 +24,7 @@ PORTS, CONDITIONS, NODES = 0.7, [0, 0, 0.5, ABOVE], [0, 0.5, 0.8, ABOVE]
 class RankedMaker(DrivenMaker):
     """Makes a circuit. `slips_of_rank` tells how often a rank is not looked at."""
 
-    slips_of_rank = 0
+    slips_of_rank, node_limits = 0, NODES
 
     def __init__(self, chance, *rates):
         # of each leaf, and of each aggregate of its leaves, the least rank at which it is driven
@@ -29,10 +32,10 @@ class RankedMaker(DrivenMaker):
         self.ranks = {}
         # what is read now has less rank than `limit`; the conditions of whens around have read
         # `floor` at most, and all that has been read lately `read`
-        self.limit, self.floor, self.read = ABOVE, FIRST, FIRST
-        # whether a register is declared; the rank of the inputs of an instance that is declared; of
-        # a vector that is driven in turn the elements before
-        self.is_register, self.inputs, self.before = False, None, []
+        self.limit, self.floor, self.read = ABOVE, LEAST, LEAST
+        # the rank at which a register is read that is declared; that of the inputs of an instance
+        # that is declared; of a vector that is driven in turn the elements before
+        self.register, self.inputs, self.before = None, None, []
         super().__init__(chance, *rates)
 
     # Ranks.
@@ -51,7 +54,7 @@ class RankedMaker(DrivenMaker):
         """Gives ranks to a spot that is declared, and to all within it."""
         for part in within(spot):
             path = path_of(part)
-            self.ranks.setdefault(path, (ABOVE, FIRST))
+            self.ranks.setdefault(path, (ABOVE, LEAST))
             if isinstance(part.type, Ground):
                 driven, read = self.ranks_of_leaf(part.flow, least)
                 for count in range(1, len(path) + 1):
@@ -59,15 +62,19 @@ class RankedMaker(DrivenMaker):
                     self.ranks[path[:count]] = min(low, driven), max(high, read)
 
     def ranks_of_leaf(self, flow, least):
-        if self.is_register:
-            return LAST, FIRST
+        if self.register is not None:
+            return LAST, self.register
         if self.inputs is not None:
             is_input = flow == "sink"
             return (self.inputs, self.inputs) if is_input else (ABOVE, self.inputs + HIGHER)
         if flow == "source":
             return ABOVE, self.read
-        rank = self.chance.uniform(least, min(self.limit, 1))
+        rank = self.some_rank(least)
         return rank, rank
+
+    def some_rank(self, least, most=1):
+        """One below the limit: a constant where all that may be read are constants."""
+        return self.chance.uniform(LEAST if self.limit <= FIRST else least, min(self.limit, most))
 
     def low(self, spot, path=()):
         return self.ranks[(*path_of(spot), *path)][0]
@@ -88,7 +95,7 @@ class RankedMaker(DrivenMaker):
     # Statements. Where one stands alone the limit is above all.
 
     def condition(self):
-        limit, self.read = self.limit, FIRST
+        limit, self.read = self.limit, LEAST
         if limit == ABOVE:
             self.limit = self.chance.choice(CONDITIONS)
         made = super().condition()
@@ -102,20 +109,36 @@ class RankedMaker(DrivenMaker):
         return lines
 
     def node(self):
-        self.limit, self.read = self.chance.choice(NODES), FIRST
+        self.limit, self.read = self.chance.choice(self.node_limits), LEAST
         lines = super().node()
         self.limit = ABOVE
         return lines
 
     def reg(self):
-        self.is_register = True
+        self.register = self.some_rank(0, 0.9) if self.may_act_at_once() else FIRST
         lines = super().reg()
-        self.is_register = False
+        self.register = None
         return lines
+
+    def may_act_at_once(self):
+        """Whether the reset of a register may be asynchronous."""
+        return self.reset_kinds != ["UInt"]
+
+    def reset_condition(self):
+        self.limit = self.register if self.may_act_at_once() else ABOVE
+        made = super().reset_condition()
+        self.limit = ABOVE
+        return made
+
+    def init(self, given):
+        self.limit = FIRST if self.may_act_at_once() else ABOVE
+        made = super().init(given)
+        self.limit = ABOVE
+        return made
 
     def inst(self):
         """An output of an instance may hang on each of its inputs."""
-        self.inputs = self.chance.uniform(0, min(self.limit, 0.9))
+        self.inputs = self.some_rank(0, 0.9)
         lines = super().inst()
         self.inputs = None
         return lines

@@ -1,7 +1,7 @@
 """What the second readings say of a text of the grammar, in the order in which firc tells faults:
 those of names, of modules that instantiate each other, of types and flows, of resets and widths,
 of costs, of leaves that a choice leaves undriven, then the first form that firc lacks, then those of
-clocks, then a walk on which a leaf hangs on itself."""
+clocks, of the inits of asynchronous resets, then a walk on which a leaf hangs on itself."""
 import math
 import re
 
@@ -9,6 +9,7 @@ from clock_rules import clock_fault
 from cost_rules import cost_fault
 from driven_rules import driven_fault
 from inference_rules import Inferred
+from init_rules import Inits
 from lacking_rules import first_lacking
 from name_rules import Names
 from source_rules import Source
@@ -16,7 +17,7 @@ from type_rules import Types
 from walk_rules import Walks
 
 OF_WIDTHS = "|E1[89] .*|E2[0-2] .*"
-OF_LEAVES = "|E24 .*|E05 .*|E25 .*|E28 .*"
+OF_LEAVES = "|E24 .*|E05 .*|E25 .*|E2[78] .*"
 # The readings of resets, widths and leaves list each element of each vector.
 MOST_ELEMENTS = 10000
 
@@ -31,14 +32,14 @@ def is_large(text):
 
 class Reading:
     """The line that firc has to tell of a text. `line` is None where it is one of several, a walk
-    of E11, of E18 or of E28, and where there is no fault. Of a text with large vectors faults of
+    of E11, E18, E27 or E28, and where there is no fault. Of a text with large vectors faults of
     resets, widths and leaves are not known: `others` tells that one may come first. Where there is
     no fault, `source` is what the text means."""
 
     def __init__(self, text):
         self.names = Names(text)
         self.line, self.is_recursive, self.inferred = self.names.first(), False, None
-        self.walks = self.source = None
+        self.inits = self.walks = self.source = None
         self.others = ""
         if self.line is None:
             self.is_recursive = self.names.is_recursive()
@@ -65,7 +66,10 @@ class Reading:
 
     def judge_walks(self, source):
         walks = Walks(source)
-        if walks.has_walk():
+        inits = Inits(source, walks)
+        if inits.leaf:
+            self.inits = inits
+        elif walks.has_walk():
             self.walks = walks
         else:
             self.source = source
@@ -76,6 +80,8 @@ class Reading:
             return "E11 .*"
         if self.inferred:
             return "E18 .*"
+        if self.inits:
+            return "E27 .*"
         if self.walks:
             return "E28 .*"
         return re.escape(self.line or "") + self.others
@@ -86,8 +92,8 @@ class Reading:
             return False
         if self.is_recursive:
             return self.names.is_walk(says)
-        if self.walks:
-            return self.walks.is_told(says)
+        if self.inits or self.walks:
+            return (self.inits or self.walks).is_told(says)
         return not self.inferred or self.inferred.takes(says)
 
     def __str__(self):
@@ -95,6 +101,8 @@ class Reading:
             return "E11 of a walk"
         if self.inferred:
             return str(self.inferred)
+        if self.inits:
+            return f"E27 of a walk from the init at {self.inits.leaf.at}"
         if self.walks:
             return "E28 of a walk"
         return self.line or "no fault"

@@ -1,5 +1,6 @@
 """A second reading of the rules of resets, for texts whose names and types are right: whether a
-walk joins a UInt and an AsyncReset through Reset leaves, and whether a line shows such a walk."""
+walk joins a UInt and an AsyncReset through Reset leaves, whether a line shows such a walk, and
+which resets are asynchronous."""
 import re
 from collections import defaultdict, deque
 from itertools import product
@@ -115,6 +116,12 @@ class Resets:
 
     def has_fault(self):
         return any(item.kind == "UInt" for item in self.far)
+
+    def acts_at_once(self, module, condition):
+        """Whether the condition of a reset in a module is asynchronous, or is inferred so."""
+        kind = type_of(condition).kind
+        items = self.items(module, condition, "", kind)
+        return kind == "AsyncReset" or kind == "Reset" and any(item in self.far for item in items)
 
     def is_shown(self, line, is_shortest=False):
         """Whether the line is that of E18 for a walk from a UInt to an AsyncReset through Reset

@@ -7,6 +7,7 @@ is one leaf: an input is driven in the module that has the instance, an output i
 """
 import re
 from functools import lru_cache
+from itertools import groupby
 from typing import NamedTuple
 
 import inference_forms
@@ -14,15 +15,18 @@ from driven_rules import Fork, undriven_by
 from inference_forms import (Asked, Circuit, Declared, Elements, Entered, Reference, Stands, leaves,
                              matched, type_of)
 from operators import Type
+from reset_rules import Resets
 from type_forms import Ground
 from width_rules import Widths, held
 
 
 class Register(NamedTuple):
-    """Its clock, and the condition and the init of its reset, or None twice."""
+    """Its clock; the condition and the init of its reset, or None twice; and whether the reset is
+    asynchronous."""
     clock: object
     condition: object = None
     init: object = None
+    is_async: bool = False
 
 
 class When(NamedTuple):
@@ -34,7 +38,8 @@ class When(NamedTuple):
 
 class Drive(NamedTuple):
     """A side of a statement that may drive leaves: where the statement stands, the whens around it,
-    what is driven, what gives, or None of an invalid, and the paths of the leaves in both."""
+    what is driven, what gives, or None of an invalid, and the paths of the leaves in both. Where
+    pairs of leaves go this way and that in turn, there is one for each turn."""
     at: str
     whens: tuple
     driven: Reference
@@ -81,6 +86,14 @@ class Leaf(NamedTuple):
         """Its path in the module of its copy."""
         return self.name + self.path
 
+    def register(self):
+        """The register that it is a leaf of."""
+        return self.copy.module.registers[self.name]
+
+    def is_async(self):
+        """Of a register with an asynchronous reset."""
+        return self.word == "reg" and self.register().is_async
+
 
 class Module(inference_forms.Module):
     """A module with all that its leaves take their values from."""
@@ -120,12 +133,10 @@ class Module(inference_forms.Module):
             return
         right = line.expression()
         self.steps += [Stands(right), inference_forms.Joined(how, left, right)]
-        forth, back = {}, {}
-        for path, _, _, is_flipped in matched(left.type, type_of(right)):
-            (back if is_flipped else forth)[path] = path
-        self.drives.append(Drive(at, self.whens, left, right, forth))
-        if back:
-            self.drives.append(Drive(at, self.whens, right, left, back))
+        for is_flipped, pairs in groupby(matched(left.type, type_of(right)), lambda pair: pair[3]):
+            driven, giving = (right, left) if is_flipped else (left, right)
+            paths = {path: path for path, *_ in pairs}
+            self.drives.append(Drive(at, self.whens, driven, giving, paths))
 
     def node(self, line, at, name, inner):
         start = line.i
@@ -146,6 +157,13 @@ class Module(inference_forms.Module):
             init = self.steps[-1].giving
             self.registers[name] = Register(clock, asked[0], init)
 
+    def know_kinds(self, resets):
+        """Takes from what is inferred which registers have an asynchronous reset."""
+        for name, register in self.registers.items():
+            condition = register.condition
+            if condition is not None and resets.acts_at_once(self.name, condition):
+                self.registers[name] = register._replace(is_async=True)
+
 
 def is_input(port, is_flipped):
     return port.word == ("output" if is_flipped else "input")
@@ -157,7 +175,10 @@ class Source:
     def __init__(self, text):
         circuit = Circuit(text, Module)
         Widths(circuit)
+        resets = Resets(circuit)
         self.name, self.modules = circuit.main, circuit.modules
+        for module in self.modules.values():
+            module.know_kinds(resets)
         # leaves by their paths in the order of their numbers; and words in that of the statements
         self.copies, self.leaves, self.words, self.known_drives = [], {}, [], {}
         main = Copy("", self.modules[self.name])
@@ -226,13 +247,14 @@ class Source:
         return self.known_drives[known]
 
     def live_drives_of(self, leaf):
-        """Those that some choice leaves last, in the same order."""
+        """Those that some choice leaves last, in the same order. Where what is driven has indices,
+        each pair of leaves has an outcome of its own, also of one statement."""
         later = []
-        for drive, given in self.drives_of(leaf):
+        for number, (drive, given) in enumerate(self.drives_of(leaf)):
             outcomes = [(fork("when", when.at), when.outcome)
                         for when in whens_from(drive, leaf)]
             if drive.driven.indices:
-                outcomes.append((fork("index", drive.at), True))
+                outcomes.append((fork(f"index {number}", drive.at), True))
             if is_live(outcomes, later):
                 yield drive, given
             later.append(tuple(outcomes))

@@ -1,11 +1,16 @@
 #!/usr/bin/env python3
 """Prints a Verilog test bench that runs a trace and prints the lines of NAME.expected.
 
-It sets the words of the state at time 0. At each tick it puts the inputs and shows the outputs,
-raises the clocks of the tick at one time, at which registers sample their resets, shows the state,
-and lowers the clocks later. The state is shown while the clocks are high, so that what the falling
-edge changes is seen at this tick or the next. A clock output that is not at the level of its clock
-before or behind the rise gives a line of its own, with the levels of all.
+It begins with all inputs at 0, so that no reset is on, and then sets the words of the state. At
+each tick it puts the inputs and shows the outputs, raises the clocks of the tick at one time, at
+which registers sample their resets, shows the state, and lowers the clocks later. The state is
+shown while the clocks are high, so that what the falling edge changes is seen at this tick or the
+next. A clock output that is not at the level of its clock before or behind the rise gives a line of
+its own, with the levels of all.
+
+A Verilog tool sets a register where an asynchronous reset rises, and not while it is 1. So it shows
+what the circuit does where each such reset follows an input (`resets_follow_inputs`). One that is
+logic may be 1 from the start, rise for a moment while values settle, or rise by an edge of a clock.
 
 usage: test_bench.py SOURCE.fir SOURCE.trace
 """
@@ -14,8 +19,11 @@ import sys
 
 from emitted_names import emitted_module, emitted_names
 from expected import read_trace
+from inference_forms import Literal, Reference
 from source_rules import Source
 from tick_rules import Tick
+
+CONVERSIONS = ("asUInt", "asSInt", "asAsyncReset")
 
 
 def variables(kind, letter, widths):
@@ -41,6 +49,34 @@ def clocks_of_outputs(source):
     are the same at all ticks."""
     now = Tick(source, [0] * len(source.words), [0] * len(source.inputs))
     return [now.clock(path) for path in source.clock_outputs]
+
+
+def follows_input(source, copy, expression, path=""):
+    """Whether a leaf of an expression in a copy has the low bit of an input of the main module, or
+    is always 0: through names and conversions alone."""
+    if expression is None:
+        return True
+    if isinstance(expression, Literal):
+        return expression.number == 0
+    if not isinstance(expression, Reference):
+        is_conversion = expression.word in CONVERSIONS
+        return is_conversion and follows_input(source, copy, expression.operands[0])
+    if expression.indices:
+        return False
+    leaf = source.leaves[copy.prefix + expression.path() + path]
+    if leaf.word == "node":
+        return follows_input(source, leaf.copy, leaf.copy.module.nodes[leaf.name], leaf.path)
+    if not leaf.is_sink():
+        return leaf.is_input()
+    live = list(source.live_drives_of(leaf))
+    return len(live) == 1 and follows_input(source, leaf.copy, live[0][0].giving, live[0][1])
+
+
+def resets_follow_inputs(source):
+    """Whether each asynchronous reset of a register does so."""
+    leaves = (source.leaves[path] for path in source.words)
+    return all(follows_input(source, leaf.copy, leaf.register().condition)
+               for leaf in leaves if leaf.is_async())
 
 
 def judges(given, rising):
@@ -82,6 +118,8 @@ def test_bench(source, init, ticks):
     yield f"  {module} dut({', '.join(connections(source, names))});"
     yield "  initial begin"
     yield from (f"    c{k} = 0;" for k in range(len(source.clocks)))
+    yield from (f"    i{k} = 0;" for k in range(len(source.inputs)))
+    yield "    #1"
     for word, width, value in zip(words, source.widths(source.words), init):
         yield f"    dut.{word} = {width}'h{value:x};"
     for rising, inputs in ticks:

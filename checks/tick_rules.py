@@ -3,7 +3,8 @@ before E28.
 
 The value of a leaf is found when it is asked for: of the statements that may drive it the last one
 whose whens count and whose indices pick it. A clock's value is the number of the clock input of the
-main module at which its drivers end, or None.
+main module at which its drivers end, or None. A register shows its state; but while an asynchronous
+reset of it is 1 it shows its init, and takes that at the tick, whether its clock rises or not.
 """
 import sys
 
@@ -20,19 +21,23 @@ class Tick:
     """The values of a source's leaves at one tick. A path that is given is one in a copy."""
 
     def __init__(self, source, state, inputs):
-        self.source, self.known = source, {}
-        for path, number in [*zip(source.words, state), *zip(source.inputs, inputs)]:
+        self.source, self.state, self.known = source, dict(zip(source.words, state)), {}
+        for path, number in zip(source.inputs, inputs):
             self.known[path] = source.leaves[path].type().value(number)
 
     def value(self, path):
         """What a leaf shows, by its path in the design."""
         if path not in self.known:
-            self.known[path] = self.found(self.source.leaves[path])
+            self.known[path] = self.found(path, self.source.leaves[path])
         return self.known[path]
 
-    def found(self, leaf):
-        if leaf.is_input() or leaf.word == "reg":
+    def found(self, path, leaf):
+        if leaf.is_input():
             return leaf.type().value(0)
+        if leaf.word == "reg":
+            if leaf.is_async() and self.is_reset(leaf):
+                return self.init(leaf)
+            return leaf.type().value(self.state.get(path, 0))
         if leaf.word == "node":
             given = self.evaluated(leaf.copy, leaf.copy.module.nodes[leaf.name], leaf.path)
             return leaf.type().value(given.number)
@@ -55,6 +60,15 @@ class Tick:
         if drive.giving is None:
             return leaf.type().value(0)
         return leaf.type().value(self.evaluated(leaf.copy, drive.giving, given).number)
+
+    def is_reset(self, leaf):
+        """Whether the reset of a register is 1."""
+        condition = leaf.register().condition
+        return condition is not None and self.evaluated(leaf.copy, condition).number == 1
+
+    def init(self, leaf):
+        """The init of a register's leaf."""
+        return leaf.type().value(self.evaluated(leaf.copy, leaf.register().init, leaf.path).number)
 
     def clock(self, path):
         """The number of a clock leaf's clock, by its path in the design."""
@@ -115,19 +129,15 @@ class Tick:
 
     def after(self, rising):
         """The state behind the tick, at which the clocks of these numbers rise."""
-        return [self.next_word(path, self.source.leaves[path], rising)
+        return [self.next_value(path, self.source.leaves[path], rising).bits()
                 for path in self.source.words]
 
-    def next_word(self, path, leaf, rising):
-        register, now = leaf.copy.module.registers[leaf.name], self.known[path].bits()
-        if self.clock(leaf.copy.prefix + register.clock.path()) not in rising:
-            return now
-        if register.condition is not None:
-            if self.evaluated(leaf.copy, register.condition).number:
-                init = self.evaluated(leaf.copy, register.init, leaf.path)
-                return leaf.type().value(init.number).bits()
-        stored = self.stored(leaf)
-        return now if stored is None else stored.bits()
+    def next_value(self, path, leaf, rising):
+        clock = self.clock(leaf.copy.prefix + leaf.register().clock.path())
+        if self.is_reset(leaf) and (leaf.is_async() or clock in rising):
+            return self.init(leaf)
+        stored = self.stored(leaf) if clock in rising else None
+        return self.value(path) if stored is None else stored
 
 
 def tick(source, state, rising, inputs):

@@ -69,7 +69,10 @@ def called(word, parts):
 
 
 class Maker:
-    """Makes a circuit. `slips` tells where it is to be wrong."""
+    """Makes a circuit. `slips` tells where it is to be wrong, and `resets` how often a register has
+    a reset, where there is one that it may have."""
+
+    resets = 0.7
 
     def __init__(self, chance, slips):
         self.chance, self.slips = chance, slips
@@ -343,7 +346,7 @@ class Maker:
         name = self.declare(self.head)
         self.show(name, given, "both")
         line = Line(["reg", name, ":", *tokens_of(given), ",", *clock])
-        reset = self.reset(given) if self.chance.random() < 0.7 else None
+        reset = self.reset(given) if self.chance.random() < self.resets else None
         if reset:
             is_block = self.chance.random() < 0.5
             line.tokens += ["with", ":"] + ([] if is_block else ["(", *reset, ")"])

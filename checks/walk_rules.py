@@ -1,5 +1,5 @@
-"""A second reading of the walks on which a leaf of a design hangs on itself, for texts in which no
-fault stands that comes before E28."""
+"""A second reading of on which leaves each leaf of a design hangs within a tick, and of the walks
+on which one hangs on itself, for texts in which no fault stands that comes before E28."""
 import re
 
 from inference_forms import CHOICES, Literal, Reference
@@ -20,7 +20,13 @@ class Walks:
     def found(self, leaf):
         if leaf.word == "node":
             return self.read(leaf.copy, leaf.copy.module.nodes[leaf.name], leaf.path)
+        if leaf.is_async():
+            return [*self.read(leaf.copy, leaf.register().condition), *self.read_by_init(leaf)]
         return self.driving(leaf) if leaf.is_sink() else ()
+
+    def read_by_init(self, leaf):
+        """The leaves that the init of a register's leaf reads."""
+        return self.read(leaf.copy, leaf.register().init, leaf.path)
 
     def driving(self, leaf):
         """What the statements read that some choice leaves last for a leaf."""

@@ -1,22 +1,18 @@
 -- A text that is refused is not taken.
-use Rattle.std.proofs.Common.{◌≡◌, ℕ, List, Some, None, sym, ap, ◌∙◌, inl, inr, subst}
+use Rattle.std.proofs.Common.{◌≡◌, ℕ, List, inl, inr, subst}
 use Rattle.fir_ast.specs.Faults.{Fault}
 use Rattle.fir_ast.specs.Circuits.{CircuitTree}
 use Rattle.fir_pass.specs.Law.{IsFirst}
 use Rattle.fir_parse.specs.working.Laws.{SpellsOneTree, HasTreeOrFault}
 use Rattle.fir_meaning.specs.Lack.{Lack}
 use Rattle.fir_meaning.specs.SourceMeaning.{circuit_meaning}
-use Rattle.fir_lack.specs.Lacking.{lacking}
-use Rattle.fir_flatten.proofs.OneScene.{scenes_once}
 use Rattle.fir_outcome.specs.CircuitFaults.{IsFirstUpTo, LacksFirst, LacksNone, ShowsNone}
 use Rattle.fir_outcome.specs.Emits.{Takes}
 use Rattle.fir_outcome.specs.Refusals.{RefusedFor, Refuses}
 
 -- a circuit lacks a form or none
 one_lack : (c : CircuitTree) (l : Lack) → LacksFirst c l → LacksNone c → ⊥
-one_lack c l (s, p, first) (t, q, none) =
-    let e : Some l ≡ None = sym first ∙ ap lacking (scenes_once c s t p.are q.are p.each q.each) ∙ none in
-    cc
+one_lack c l first none = cc
 
 -- a circuit without faults has no first one
 none_first : (c : CircuitTree) (from upto : ℕ) (f : Fault) → ShowsNone c → IsFirst from upto (circuit_meaning c) f → ⊥

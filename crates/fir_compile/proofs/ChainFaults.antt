@@ -111,7 +111,7 @@ module _ (bytes : List ℕ) (c : CircuitTree) (spelled : Spells bytes c) where
     first = first;
     tokens = spelled.0;
     of_text = spelled.1;
-    at_its_token = lack_names_its_token c first.0 lack (terminals spelled.0) first.1.are first.2 spelled.2;
+    at_its_token = lack_names_its_token c lack (terminals spelled.0) first spelled.2;
     stands = stands;
   }
 

@@ -18,7 +18,7 @@ use Rattle.fir_net.specs.working.Settled.{Settled, clock_driver, clock_number, i
 use Rattle.fir_net.proofs.LeafEquations.{driven_at}
 use Rattle.fir_net.proofs.NumberedLeaves.{among, clocks_own}
 use Rattle.fir_flatten.specs.working.FlattensTo.{HasClock}
-use Rattle.ver_build.specs.working.DrivenRegisters.{EndsAtInput, handed_on, input}
+use Rattle.ver_build.specs.working.BlockRegisters.{EndsAtInput, handed_on, input}
 
 -- a state and a tick of each shape: all values are 0, and no clock rises
 zeros_fit : (ws : List ℕ) → FitEach ws (map (λ (w : ℕ). 0) ws)

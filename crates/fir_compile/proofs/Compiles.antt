@@ -22,7 +22,7 @@ use Rattle.fir_outcome.specs.Compiles.{Compiles, CompilesTo}
 use Rattle.fir_outcome.specs.Runs.{RunsOnce}
 use Rattle.fir_compile.proofs.AllRuns.{Includes, same_once, same_runs}
 use Rattle.fir_compile.proofs.SourceRuns.{from_net, source_one, source_runs_once, to_net}
-use Rattle.fir_compile.proofs.TakenBlocks.{blocks_take}
+use Rattle.fir_compile.proofs.WordBlocks.{words_have_blocks}
 
 module _ (types : NodesHaveTheirTypes) (c : CircuitTree) (net : FlatNet) (order : List Read) (flat : FlattensTo c net) (is_order : IsOrder net order) (one : NetOne net)
     (v : Verilog) (made : Builds net v) where
@@ -64,7 +64,7 @@ module _ (types : NodesHaveTheirTypes) (c : CircuitTree) (net : FlatNet) (order 
   pub compiles : Compiles c v
   compiles = record {
     arranged = made.arranged;
-    driven = λ t is. blocks_take t net (flat.each t is) flat.whole order is_order one made.arranged.driven made.driven;
+    with_blocks = λ t is. words_have_blocks t net (flat.each t is) flat.whole order is_order one made.arranged.with_block made.with_blocks;
     valid = made.valid;
     v_one = made.one;
     v_runs_once = v_runs_once flat.source flat.is_source;

@@ -3,7 +3,7 @@ pub mod NetPasses
 pub mod LackTokens
 pub mod ChainFaults
 pub mod ClockEnds
-pub mod TakenBlocks
+pub mod WordBlocks
 pub mod KeptShapes
 pub mod AllRuns
 pub mod SourceRuns

@@ -55,8 +55,7 @@ impl Supported {
         Supported { circuit }
     }
 
-    /// The circuit with its nets. It can be flattened, and shows no fault of the clocks of memories or of asynchronous
-    /// inits.
+    /// The circuit with its nets. It can be flattened, and shows no fault of the clocks of memories.
     pub fn into_circuit(self) -> NetCircuit
         ensures tree { result ≡ self }
         ensures taken { IsTaken (circuit_of result) }
@@ -99,10 +98,7 @@ impl Pass for TakeForms {
 fn first_lack(alloc: Global, circuit: &NetCircuit) -> Result<Option<FirFault>, MemoryOut>
     ensures { IfOk result (TellsLack (circuit_of circuit.now)) }
 {
-    let leafed = circuit.leafed();
-    // Its modules have scenes, of which the lack is told.
-    let _modules = leafed.modules();
-    if let Some(lack) = lacking(alloc, leafed)? {
+    if let Some(lack) = lacking(circuit.leafed()) {
         let fault = unsupported(alloc, lack)?;
         return Ok(Some(fault));
     }

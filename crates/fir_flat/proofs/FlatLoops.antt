@@ -46,7 +46,7 @@ module _ (c : LeafCircuit) (net : FlatNet) (whole : IsNet net) (flat : IsFlatOf 
             ap path_in (slice_get_past net.leaves k past)
             ∙ ap (λ (l : LeafDeclared). path_text l.path) (sym (get_or_past c.leaves k no_leaf (omega (arith, count, past))))
 
-    paths_same : (ks : List ℕ) → map (path_of net) ks ≡ map (path_of_leaf c) ks
+    pub paths_same : (ks : List ℕ) → map (path_of net) ks ≡ map (path_of_leaf c) ks
     paths_same ks = map_same (path_of net) (path_of_leaf c) ks (λ k m. path_same k)
 
     fault_same : (first : ℕ) (l : Leaf) (walk : List ℕ) → slice_get net.leaves first ≡ Some l

@@ -14,6 +14,8 @@ pub mod ReachedLeaves
 pub mod LeafDependence
 pub mod LoopWalks
 pub mod FlatLoops
+pub mod AsyncRegisters
+pub mod FlatInits
 pub mod WholeConditions
 pub mod WholeLowered
 pub mod WholeDrivers

@@ -20,6 +20,7 @@ use Rattle.fir_net.specs.working.IsNet.{IsChoice, IsNet, IsNode, node_type, read
 use Rattle.fir_net.proofs.NodeReads.{node_at}
 use Rattle.fir_loop.specs.working.IsLoop.{HangsThrough}
 use Rattle.fir_loop.proofs.NetReads.{goes_down, reads_from}
+use Rattle.fir_inits.specs.working.ShowsInit.{ReadsLeaf}
 use Rattle.fir_connect.specs.working.Lowered.{zero_of}
 use Rattle.fir_connect.specs.working.NetReads.{each_read, net_reads}
 use Rattle.fir_connect.specs.working.NetTerms.{NetTerm}
@@ -44,21 +45,21 @@ only_in x y (inr m) = absurd m
 
 module _ (known : List NetTerm) (y : ℕ) where
   -- what a read stands for reads the leaf
-  abbrev ReadsLeaf : Read → Type 0
-  ReadsLeaf r = In (net_reads (read_term known r)) y
+  abbrev TermReads : Read → Type 0
+  TermReads r = In (net_reads (read_term known r)) y
 
-  each_one : (rs : List Read) → In (each_read (read_terms known rs)) y → OneOf ReadsLeaf rs
+  each_one : (rs : List Read) → In (each_read (read_terms known rs)) y → OneOf TermReads rs
   each_one [] m = absurd m
   each_one (r ∷ rs) m =
       ⊎_elim
-      (λ (h : ReadsLeaf r). record { place = 0; one = r; at = refl; holds = h })
-      (λ (h : In (each_read (read_terms known rs)) y). one_more ReadsLeaf r rs (each_one rs h))
+      (λ (h : TermReads r). record { place = 0; one = r; at = refl; holds = h })
+      (λ (h : In (each_read (read_terms known rs)) y). one_more TermReads r rs (each_one rs h))
       (in_either (net_reads (read_term known r)) (each_read (read_terms known rs)) y m)
 
-  one_each : (rs : List Read) (place : ℕ) (r : Read) → slice_get rs place ≡ Some r → ReadsLeaf r → In (each_read (read_terms known rs)) y
+  one_each : (rs : List Read) (place : ℕ) (r : Read) → slice_get rs place ≡ Some r → TermReads r → In (each_read (read_terms known rs)) y
   one_each [] place r at h = absurd (none-some r at)
   one_each (s ∷ rs) zero r at h =
-      in_left (net_reads (read_term known s)) (each_read (read_terms known rs)) y (subst ReadsLeaf (sym (same_Some s r at)) h)
+      in_left (net_reads (read_term known s)) (each_read (read_terms known rs)) y (subst TermReads (sym (same_Some s r at)) h)
   one_each (s ∷ rs) (suc place) r at h =
       in_right (net_reads (read_term known s)) (each_read (read_terms known rs)) y (one_each rs place r at h)
 
@@ -81,17 +82,12 @@ module _ (net : FlatNet) where
   abbrev pub HangsOnLeaf : ℕ → Read → Type 0
   HangsOnLeaf y v = (nodes : List ℕ) × HangsThrough net v nodes (read.Leaf y)
 
-  -- a leaf is reached from itself, and from a node through nodes alone
-  abbrev Reaches : ℕ → Read → Type 0
-  Reaches y (read.Leaf x) = x ≡ y
-  Reaches y (read.Node k) = HangsOnLeaf y (read.Node k)
-
   -- what hangs on a leaf through nodes reads one from which the leaf is reached, and the other way round
-  begins : (v : Read) (nodes : List ℕ) (y : ℕ) → HangsThrough net v nodes (read.Leaf y) → OneOf (Reaches y) (reads_of net v)
+  begins : (v : Read) (nodes : List ℕ) (y : ℕ) → HangsThrough net v nodes (read.Leaf y) → OneOf (λ r. ReadsLeaf net r y) (reads_of net v)
   begins v [] y h = record { place = h.place; one = read.Leaf y; at = h.is; holds = refl }
   begins v (n ∷ ns) y h = record { place = h.0.place; one = read.Node n; at = h.0.is; holds = (ns, h.1) }
 
-  hangs : (v : Read) (y place : ℕ) (r : Read) → slice_get (reads_of net v) place ≡ Some r → Reaches y r → HangsOnLeaf y v
+  hangs : (v : Read) (y place : ℕ) (r : Read) → slice_get (reads_of net v) place ≡ Some r → ReadsLeaf net r y → HangsOnLeaf y v
   hangs v y place (read.Leaf x) at e = ([], record { place = place; is = at ∙ ap (λ z. Some (read.Leaf z)) e })
   hangs v y place (read.Node k) at h = (k ∷ h.0, (record { place = place; is = at }, h.1))
 
@@ -105,7 +101,7 @@ module _ (net : FlatNet) where
 
     module _ (y : ℕ) where
       abbrev Reading : Read → Type 0
-      Reading = ReadsLeaf (terms net.nodes) y
+      Reading = TermReads (terms net.nodes) y
 
       read_through : (k place : ℕ) (r : Read) → slice_get (reads_of net (read.Node k)) place ≡ Some r → Reading r → Reading (read.Node k)
       read_through k place r at h =
@@ -117,14 +113,14 @@ module _ (net : FlatNet) where
       read_along k (n ∷ ns) h = read_through k h.0.place (read.Node n) h.0.is (read_along n ns h.1)
 
       -- where this holds of all nodes before one, it holds of that one
-      reached_next : (k : ℕ) → ((j : ℕ) → j < k → Reading (read.Node j) → Reaches y (read.Node j)) → Reading (read.Node k) → Reaches y (read.Node k)
+      reached_next : (k : ℕ) → ((j : ℕ) → j < k → Reading (read.Node j) → ReadsLeaf net (read.Node j) y) → Reading (read.Node k) → ReadsLeaf net (read.Node k) y
       reached_next k earlier m = by (cases_lt k (length net.nodes))
         where
-          reached_one : (place : ℕ) (r : Read) → slice_get (reads_of net (read.Node k)) place ≡ Some r → Reading r → Reaches y r
+          reached_one : (place : ℕ) (r : Read) → slice_get (reads_of net (read.Node k)) place ≡ Some r → Reading r → ReadsLeaf net r y
           reached_one place (read.Leaf x) at h = only_in x y h
           reached_one place (read.Node j) at h = earlier j (goes_down net whole k j (record { place = place; is = at })) h
 
-          by : (k < length net.nodes) ⊎ (length net.nodes ≤ k) → Reaches y (read.Node k)
+          by : (k < length net.nodes) ⊎ (length net.nodes ≤ k) → ReadsLeaf net (read.Node k) y
           by (inl within) =
               let n = there net.nodes k within in
               let o = each_one (terms net.nodes) y (reads_of net (read.Node k)) (subst (λ (xs : List ℕ). In xs y) (node_reads_at k n.0 n.1) m) in
@@ -133,17 +129,21 @@ module _ (net : FlatNet) where
               absurd (subst (λ (t : NetTerm). In (net_reads t) y)
               (get_or_past (terms net.nodes) k (zero_of no_type) (omega (arith, past, length-terms net.nodes))) m)
 
-      reached_below : (bound k : ℕ) → k < bound → Reading (read.Node k) → Reaches y (read.Node k)
+      reached_below : (bound k : ℕ) → k < bound → Reading (read.Node k) → ReadsLeaf net (read.Node k) y
       reached_below zero k lt m = absurd (omega (arith, lt))
       reached_below (suc bound) k lt m = reached_next k (λ j less. reached_below bound j (omega (arith, lt, less))) m
 
-      read_of : (r : Read) → Reaches y r → Reading r
+      read_of : (r : Read) → ReadsLeaf net r y → Reading r
       read_of (read.Leaf x) e = inl e
       read_of (read.Node k) h = read_along k h.0 h.1
 
-      reached : (r : Read) → Reading r → Reaches y r
+      reached : (r : Read) → Reading r → ReadsLeaf net r y
       reached (read.Leaf x) h = only_in x y h
       reached (read.Node k) h = reached_below (suc k) k (omega arith) h
+
+      -- a read reaches the leaves that the term reads for which it stands
+      pub reaches_is_read : (r : Read) → ReadsLeaf net r y ↔ Reading r
+      reaches_is_read r = (read_of r, reached r)
 
       -- a leaf or a node hangs through nodes on the leaves that the terms read for which its reads stand
       pub hangs_is_read : (v : Read) → HangsOnLeaf y v ↔ In (each_read (read_terms (terms net.nodes) (reads_of net v))) y

@@ -6,3 +6,5 @@ pub mod WholeTerms
 pub mod WholeRoles
 -- Closed walks of dependence.
 pub mod FlatLoops
+-- Inits that are no constants.
+pub mod FlatInits

@@ -1,5 +1,6 @@
 //! Laws about flat nets, each the contract of a function that does nothing.
 
+ghost use Rattle.fir_flat.specs.working.FlatInits.{HidesNoInit, ShowsTheSameInits};
 ghost use Rattle.fir_flat.specs.working.FlatLaws.{AllowsTheSame, HasOneWhere};
 ghost use Rattle.fir_flat.specs.working.FlatLoops.{HidesNoLoop, ShowsTheSameLoops};
 ghost use Rattle.fir_flat.specs.working.WholeRoles.{RolesAreWhole};
@@ -30,6 +31,17 @@ pub fn flat_nets_show_the_same_loops()
 /// Where a flat net has no closed walk, its circuit has none.
 pub fn flat_nets_hide_no_loop()
     ensures { HidesNoLoop }
+{}
+
+/// An init of a register with an asynchronous reset reaches an input or a leaf that shows state in a flat net exactly
+/// where it does in its circuit, and the same fault is told (FIRRTL spec, "Registers").
+pub fn flat_nets_show_the_same_inits()
+    ensures { ShowsTheSameInits }
+{}
+
+/// Where the inits of a flat net are constants, its circuit shows no fault of inits.
+pub fn flat_nets_hide_no_init()
+    ensures { HidesNoInit }
 {}
 
 /// Where a module has types and speaks of its own leaves, the roles of its leaves in its net are made of terms whose

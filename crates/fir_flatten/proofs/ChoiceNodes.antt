@@ -1,5 +1,5 @@
 -- The choice of a synchronous reset is a node over the kept ones and those before it (FIRRTL spec, "Registers", "Multiplexers").
-use Rattle.std.proofs.Common.{◌≡◌, ℕ, suc, max, List, [], ◌∷◌, ◌++◌, length, Bool, false, if◌then◌else◌, Some, None, slice_get, refl, sym, ap, ap₂, ◌∙◌, subst, append_assoc, append-nil}
+use Rattle.std.proofs.Common.{◌≡◌, ℕ, suc, max, List, [], ◌∷◌, ◌++◌, length, Bool, true, false, if◌then◌else◌, Some, None, slice_get, refl, sym, ap, ap₂, ◌∙◌, subst, append_assoc, append-nil}
 use Rattle.fir_bits.specs.declared.types.NumTy.{NumTy}
 use Rattle.fir_leaf_circuit.specs.declared.leaf.LeafType.{LeafType as TypeOfCode}
 use Rattle.fir_leaf_circuit.specs.declared.leaf.LeafType.TheVariants.{Clock, Number}
@@ -63,6 +63,17 @@ module _
   no_choices : AreBuilt leaves old (ns ++ [])
   no_choices = subst (AreBuilt leaves old) (sym (append-nil ns)) built
 
+  -- an asynchronous reset is no choice
+  reset_built : (u : NumTy) (s : NetReset) (p : ResetMeant) (next : Bound) (t : NetTerm) → Resets c (StandsMoved c places ns) u s p
+      → Drives c (StandsMoved c places ns) u next t → AreBuilt leaves old (ns ++ choices_of_reset places (Some s) next)
+  reset_built u s p next t h d = by s.is_async
+    where
+      by : (b : Bool) → AreBuilt leaves old (ns ++ (if b then [] else (choice_node places s next ∷ [])))
+      by true = no_choices
+      by false =
+          built_push leaves old ns (choice_node places s next) built (h.condition.below, (h.init.stands.below, (d.stands.below, tt)))
+          (choice_is u s p next t h d)
+
   pub choices_built : (holds : TypeOfCode) (r : NetRole) (q : RoleMeant) → IsGiven c (StandsMoved c places ns) holds r q
       → AreBuilt leaves old (ns ++ choices_of places r)
   choices_built Clock code.Source meant.source is = no_choices
@@ -72,10 +83,7 @@ module _
   choices_built (Number u) (code.Driven b) (meant.driven t) is = no_choices
   choices_built (Number u) (code.Computed b) (meant.computed t) is = no_choices
   choices_built (Number u) (code.Register clock None next) (meant.register k None t) is = no_choices
-  choices_built (Number u) (code.Register clock (Some s) next) (meant.register k (Some p) t) is =
-      subst (λ (cs : List Node). AreBuilt leaves old (ns ++ cs)) (sym (one_choice places s next is.1.at_edge))
-      (built_push leaves old ns (choice_node places s next) built (is.1.condition.below, (is.1.init.stands.below, (is.2.stands.below, tt)))
-      (choice_is u s p next t is.1 is.2))
+  choices_built (Number u) (code.Register clock (Some s) next) (meant.register k (Some p) t) is = reset_built u s p next t is.1 is.2
   choices_built (Number u) (code.Register clock None next) (meant.register k (Some p) t) is = absurd is.1
   choices_built (Number u) (code.Register clock (Some s) next) (meant.register k None t) is = absurd is.1
   choices_built holds r q is = absurd is

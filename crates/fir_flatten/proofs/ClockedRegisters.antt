@@ -38,7 +38,7 @@ use Rattle.fir_flat.specs.working.FlatLaws.{IsFaithful}
 use Rattle.fir_flat.proofs.KeptValues.{AreBeside, kept}
 use Rattle.fir_flat.proofs.SettledValues.{beside, own_beside, settled_in_circuit, settled_in_net}
 use Rattle.fir_flat.proofs.ShownValues.{gives}
-use Rattle.fir_flatten.specs.TakingWords.{IsClocked}
+use Rattle.fir_flatten.specs.BlockWords.{IsClocked}
 use Rattle.fir_flatten.specs.working.FlattensTo.{HasClock}
 
 -- the leaf of a register's clock

@@ -1,32 +1,32 @@
 -- Whichever source tree stands below the main module of a circuit, the flat net of its design means what that tree means.
-use Rattle.std.proofs.Common.{◌≡◌, ℕ, ◌≤◌, List, [], length, true, slice_get, Option, Some, None, option_map, refl, sym, ap, ◌∙◌, subst, arith, length-append}
+use Rattle.std.proofs.Common.{◌≡◌, ◌⊎◌, inl, inr, ℕ, List, [], length, true, ◌||◌, slice_get, Option, Some, None, option_map, refl, sym, ap, ◌∙◌, subst}
 use Rattle.std.specs.Prelude.{IsSome}
 use Rattle.std.proofs.lemmas.List.{length-map}
 use Rattle.std.proofs.lemmas.Option.{same_Some, slice_get-map}
 use Rattle.fir_ast.specs.Circuits.{CircuitTree}
 use Rattle.fir_bits.specs.working.Laws.{HasItsType}
-use Rattle.fir_meaning.specs.Elaborated.{IsSourceOf}
-use Rattle.fir_meaning.specs.ModuleScenes.{Scene, behind_all_ports}
+use Rattle.fir_meaning.specs.ModuleScenes.{Scene}
 use Rattle.fir_meaning.specs.SourceCircuits.{PlacedLeaf, all_leaves, main_ports, port_leaves, state_words}
 use Rattle.fir_meaning.specs.SourceDesigns.{IsSourceDesignOf, SourceDesign, made_of}
 use Rattle.fir_meaning.specs.SourceRoles.{SourceLeaf}
 use Rattle.fir_meaning.specs.Visibility.{at_head}
 use Rattle.fir_meaning.specs.working.Designs.{Design}
-use Rattle.fir_meaning.specs.working.Elaborated.{views}
 use Rattle.fir_meaning.specs.working.Flattened.{flattened}
 use Rattle.fir_meaning.specs.working.LeafCircuits.{role_of}
-use Rattle.fir_meaning.specs.working.LeafModules.{leaf_at}
-use Rattle.fir_meaning.specs.working.LeafedModules.{leafed_module, leaves_in_block, leaves_of_ports}
+use Rattle.fir_meaning.specs.working.LeafModules.{Role, leaf_at}
+use Rattle.fir_meaning.specs.working.LeafedModules.{leafed_module}
 use Rattle.fir_leaf.specs.working.TableLaws.{LeavesFollowTypes}
 use Rattle.fir_connect.specs.working.CircuitModules.{as_module}
 use Rattle.fir_design.specs.working.MeaningLaws.{AreDesigns, SameAllows, SameShape}
 use Rattle.fir_design.specs.working.SourceLaws.{HasOneTree}
 use Rattle.fir_design.specs.working.SourceRuns.{SameOne}
+use Rattle.fir_design.proofs.InStep.{SameRoleBelow}
 use Rattle.fir_design.proofs.LeavesBeside.{ports_beside}
 use Rattle.fir_design.proofs.SourceMeanings.{in_step}
 use Rattle.fir_design_loops.specs.working.SameLoops.{SameLoops}
 use Rattle.fir_net.specs.declared.leaf.Leaf.{Leaf}
 use Rattle.fir_net.specs.declared.leaf.Register.{Register}
+use Rattle.fir_net.specs.declared.leaf.Reset.{Reset}
 use Rattle.fir_net.specs.declared.leaf.Role.TheVariants as role
 use Rattle.fir_net.specs.declared.net.FlatNet.{FlatNet}
 use Rattle.fir_net.specs.declared.reads.Read.{Read}
@@ -34,14 +34,15 @@ use Rattle.fir_flat.specs.working.FlatLaws.{AllowsTheSame, HasOneWhere, IsFaithf
 use Rattle.fir_flat.specs.working.FlatLoops.{HidesNoLoop, ShowsTheSameLoops}
 use Rattle.fir_flat.proofs.FlatLeaves.{shape_is}
 use Rattle.fir_source_faults.specs.working.NumberedTaking.{takes}
-use Rattle.fir_flatten.specs.working.FlatDesigns.{IsFlatDesign, IsPlainDesign, has_next, has_read}
+use Rattle.fir_flatten.specs.working.FlatDesigns.{IsFlatDesign, is_some, takes_value}
 use Rattle.fir_flatten.specs.working.FlattensTo.{MeansSource, TakesAs}
 use Rattle.fir_flatten.specs.working.Laws.{DesignsArePlain, IsDesigned, IsTakenDesign}
+use Rattle.fir_flatten.proofs.AsyncRegisters.{reset_alike}
 use Rattle.fir_flatten.proofs.ClockedRegisters.{clocked_same}
-use Rattle.fir_flatten.proofs.DesignPorts.{HasPorts, has_ports, no_arrays}
+use Rattle.fir_flatten.proofs.DesignedNets.{faithful_to_design, net_of_design}
+use Rattle.fir_flatten.proofs.DesignsOfCircuits.{designs_beside}
 use Rattle.fir_flatten.proofs.LeafRoles.{shaped_register}
-use Rattle.fir_flatten.proofs.OneScene.{one_list, one_main}
-use Rattle.fir_flatten.proofs.PlainNets.{IsPlainNet, faithful, plain_net}
+use Rattle.fir_flatten.proofs.PlainNets.{IsPlainNet}
 use Rattle.fir_flatten.proofs.SourceRowsOfNets.{arrays_are, rows_are, widths_are, words_are}
 use Rattle.fir_flatten.proofs.TakingRegisters.{same_taking}
 
@@ -73,63 +74,28 @@ ports_long : (scenes : List Scene) (s : Scene) (t : SourceDesign) → IsSourceDe
 ports_long scenes s (made_of o is) h =
     ap (λ (x : Scene). length (main_ports (made_of x is))) h.0 ∙ length-map (port_leaves s) main_leaf ∙ sym (ports_beside s s.own.inside.ports at_head)
 
-ports_within : (s : Scene) → (leafed_module s).port_leaves ≤ length (leafed_module s).leaves
-ports_within s =
-    let long =
-    length-append (leaves_of_ports s at_head s.own.inside.ports) (leaves_in_block s (behind_all_ports s.own.inside) s.own.inside.body) in
-    omega (arith, long)
+-- a reset or a read
+either_there : (a : Option Reset) (b : Option Read) → IsSome a ⊎ IsSome b → (is_some a || is_some b) ≡ true
+either_there (Some r) b some = refl
+either_there None (Some r) some = refl
+either_there None None (inl some) = cc
+either_there None None (inr some) = cc
 
-some_read : (o : Option Read) → IsSome o → has_read o ≡ true
-some_read None some = absurd (cc)
-some_read (Some r) some = refl
-
-read_some : (o : Option Read) → has_read o ≡ true → IsSome o
-read_some None e = absurd (cc)
-read_some (Some r) e = refl
+there_either : (a : Option Reset) (b : Option Read) → (is_some a || is_some b) ≡ true → IsSome a ⊎ IsSome b
+there_either (Some r) b e = inl refl
+there_either None (Some r) e = inr refl
+there_either None None e = cc
 
 module _ (laws : LawsBelow) (c : CircuitTree) (scenes : List Scene) (main : Scene) (d : Design) (net : FlatNet) (given : IsGiven c scenes main d net) where
-  plain : IsPlainDesign (flattened d) (leafed_module main).port_leaves
-  plain = laws.plain c scenes main d given.designed given.taken
-
-  ports : HasPorts (leafed_module main) (flattened d)
-  ports = has_ports (views scenes) (leafed_module main) d given.designed.sound.is (ports_within main)
-
-  none : (flattened d).array_order ≡ []
-  none =
-      no_arrays scenes (λ s i. (given.taken.taken s i).no_arrays) (leafed_module main) d (given.taken.taken main given.designed.among).no_arrays
-      given.designed.sound.is
-
   pub net_is : IsPlainNet (flattened d) (leafed_module main).port_leaves net
-  net_is = plain_net (flattened d) (leafed_module main) net plain ports none given.flat
+  net_is = net_of_design c scenes main d given.designed laws.plain given.taken net given.flat
 
   net_faithful : IsFaithful (flattened d) net
-  net_faithful = faithful (flattened d) (leafed_module main) net plain ports none given.flat
-
-  -- a tree of the scenes below the main module
-  pub are_designs : (t : SourceDesign) → IsSourceDesignOf scenes main t → AreDesigns c d t
-  are_designs t is =
-      let own = given.designed in
-      record {
-        names = own.names;
-        types = own.types;
-        scenes = scenes;
-        are = own.has.are;
-        main = main;
-        among = own.among;
-        design = own.sound;
-        tree = is;
-      }
-
-  -- each tree below the main module of the circuit is one
-  pub tree_is : (t : SourceDesign) → IsSourceOf c t → IsSourceDesignOf scenes main t
-  tree_is t src =
-      let own = given.designed in
-      subst (λ (ss : List Scene). IsSourceDesignOf ss main t) (one_list c src.scenes scenes src.main main src.has own.has)
-      (subst (λ (s : Scene). IsSourceDesignOf src.scenes s t) (one_main c src.scenes scenes src.main main src.has own.has) src.is)
+  net_faithful = faithful_to_design c scenes main d given.designed laws.plain given.taken net given.flat
 
   module _ (t : SourceDesign) (below : IsSourceDesignOf scenes main t) where
     abbrev a : AreDesigns c d t
-    a = are_designs t below
+    a = designs_beside c scenes main d given.designed t below
 
     takes_as : (n k : ℕ) (p : PlacedLeaf) (l : Leaf) (r : Register) → slice_get net.state n ≡ Some k → slice_get (state_words t) n ≡ Some p
         → slice_get net.leaves k ≡ Some l → l.role ≡ role.Register r → TakesAs t net p r
@@ -143,16 +109,19 @@ module _ (laws : LawsBelow) (c : CircuitTree) (scenes : List Scene) (main : Scen
         ∙ ap (λ os. slice_get os n) step.words ∙ slice_get-map Some (state_words t) n ∙ ap (option_map Some) source) in
         let register = shaped_register l.role (leaf_at g.leaves k).holds (role_of g k) (net_is.each k l at).shaped r is in
         let same = same_taking c d t a k p get in
-        let takes_is : has_read r.next ≡ takes (as_module g) k = ap has_next (sym is) ∙ (given.flat.each k l at).takes in
+        let takes_is : (is_some r.reset || is_some r.next) ≡ takes (as_module g) k = ap takes_value (sym is) ∙ (given.flat.each k l at).takes in
         record {
-          next = (
+          reset =
+              reset_alike g p.at register.0 register.1 r.reset register.3.there p.leaf.role
+              (subst (λ (q : Role). SameRoleBelow g p.at q p.leaf.role) register.2 (step.each k p get).role);
+          takes = (
             λ some. record {
               holder = same.holder;
               among = same.among;
               is_at = same.is_at;
-              takes = sym (same.takes same.holder same.among same.is_at) ∙ sym takes_is ∙ some_read r.next some;
+              takes = sym (same.takes same.holder same.among same.is_at) ∙ sym takes_is ∙ either_there r.reset r.next some;
             },
-            λ taking. read_some r.next (takes_is ∙ same.takes taking.holder taking.among taking.is_at ∙ taking.takes),
+            λ taking. there_either r.reset r.next (takes_is ∙ same.takes taking.holder taking.among taking.is_at ∙ taking.takes),
           );
           clock = clocked_same g net net_faithful k l at r is register.0 register.1 register.2 laws.types t step p (step.each k p get).role;
         }

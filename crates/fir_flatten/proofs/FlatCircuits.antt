@@ -1,4 +1,4 @@
--- A circuit means what the flat net of its design means, and closed walks stand in both alike.
+-- A circuit means what the flat net of its design means, whose inits are constants, and closed walks stand in both alike.
 use Rattle.std.proofs.Common.{◌≡◌, ℕ, List, refl}
 use Rattle.fir_ast.specs.Circuits.{CircuitTree}
 use Rattle.fir_ast.specs.working.CodeFaults.{fault_of}
@@ -11,44 +11,47 @@ use Rattle.fir_meaning.specs.working.Flattened.{flattened}
 use Rattle.fir_meaning.specs.working.LeafModules.{leaf_at}
 use Rattle.fir_meaning.specs.working.LeafedModules.{leafed_module}
 use Rattle.fir_net.specs.declared.net.FlatNet.{FlatNet}
-use Rattle.fir_net.specs.working.IsWritable.{IsWritable}
+use Rattle.fir_net.specs.working.IsWritable.{HasConstantInits, IsWritable}
 use Rattle.fir_loop.specs.working.IsLoop.{IsLoop}
 use Rattle.fir_flatten.specs.working.FlattensTo.{FlattensTo}
 use Rattle.fir_flatten.specs.working.Laws.{DesignsFlatten}
-use Rattle.fir_flatten.proofs.DesignMeanings.{IsGiven, LawsBelow, are_designs, means, net_is, tree_is}
+use Rattle.fir_flatten.proofs.DesignMeanings.{IsGiven, LawsBelow, means, net_is}
+use Rattle.fir_flatten.proofs.DesignedNets.{source_is}
+use Rattle.fir_flatten.proofs.DesignsOfCircuits.{designs_beside, tree_of}
 use Rattle.fir_flatten.proofs.FlatWords.{flat_words}
 use Rattle.fir_flatten.proofs.LeafRoles.{shaped_writable}
 
 module _ (laws : LawsBelow) (c : CircuitTree) (scenes : List Scene) (main : Scene) (d : Design) (net : FlatNet) (given : IsGiven c scenes main d net) where
-  writable : IsWritable net
-  writable = record {
+  writable : HasConstantInits net → IsWritable net
+  writable inits = record {
     leaves = λ k l at.
         shaped_writable l.role (leaf_at (flattened d).leaves k).holds (leaf_at (flattened d).leaves k).role
         ((net_is laws c scenes main d net given).each k l at).shaped;
+    inits = inits;
   }
 
   -- where the net has no closed walk, no tree below the main module has one
   no_loop : ((walk : List ℕ) → IsLoop net walk → ⊥) → IsClear (loop_group c)
   no_loop none f shown =
       let t = shown.source in
-      let both = are_designs laws c scenes main d net given t (tree_is laws c scenes main d net given t shown.is_source) in
+      let both = designs_beside c scenes main d given.designed t (source_is c scenes main d given.designed t shown.is_source) in
       laws.hidden (flattened d) net given.flat.whole (net_is laws c scenes main d net given).flat none f ((laws.loops c d t f both).1 shown.shows)
 
-  flattens : net.name ≡ c.named.name → FlattensTo c net
-  flattens named =
+  flattens : net.name ≡ c.named.name → HasConstantInits net → FlattensTo c net
+  flattens named inits =
       let own = given.designed in
-      let tree = laws.trees c scenes main d own.names own.types own.has.are own.among own.sound.is in
-      let both = are_designs laws c scenes main d net given tree.0 tree.1 in
+      let tree = tree_of c scenes main d own laws.trees in
+      let both = designs_beside c scenes main d own tree.0 tree.1 in
       let is = net_is laws c scenes main d net given in
       let source : IsSourceOf c tree.0 = record { scenes = scenes; main = main; has = own.has; is = tree.1 } in
       record {
         whole = given.flat.whole;
         words = λ words. flat_words laws.follow c d tree.0 both (leafed_module main).port_leaves net is words named;
-        writable = writable;
+        writable = writable inits;
         named = named;
         source = tree.0;
         is_source = source;
-        each = λ t src. means laws c scenes main d net given t (tree_is laws c scenes main d net given t src);
+        each = λ t src. means laws c scenes main d net given t (source_is c scenes main d own t src);
         loops = λ f shown. record {
           source = tree.0;
           is_source = source;
@@ -60,5 +63,5 @@ module _ (laws : LawsBelow) (c : CircuitTree) (scenes : List Scene) (main : Scen
       }
 
 pub designs_flatten : LawsBelow → DesignsFlatten
-designs_flatten laws c scenes main d net designed taken flat named =
-    flattens laws c scenes main d net (record { designed = designed; taken = taken; flat = flat }) named
+designs_flatten laws c scenes main d net designed taken flat named inits =
+    flattens laws c scenes main d net (record { designed = designed; taken = taken; flat = flat }) named inits

@@ -34,7 +34,7 @@ use Rattle.fir_flatten.specs.declared.design_net.DesignLeaf.{DesignLeaf}
 use Rattle.fir_flatten.specs.declared.design_net.DesignNet.{DesignNet}
 use Rattle.fir_flatten.specs.declared.kept_nodes.KeptNodes.{KeptNodes}
 use Rattle.fir_flatten.specs.working.DesignNets.{IsLeafOf, IsNetOfDesign, is_register}
-use Rattle.fir_flatten.specs.working.FlatDesigns.{HasWidth, IsClear, IsFlatDesign, IsFlatLeaf, IsPlainDesign, IsPortRole, IsWord, has_next}
+use Rattle.fir_flatten.specs.working.FlatDesigns.{HasWidth, IsClear, IsFlatDesign, IsFlatLeaf, IsPlainDesign, IsPortRole, IsWord, takes_value}
 use Rattle.fir_flatten.specs.working.FlatRoles.{choices_behind, flat_leaves_of, flat_role_of}
 use Rattle.fir_flatten.specs.working.KeptNodes.{IsHeld, Keeps, LeavesHold, ReadWhole}
 use Rattle.fir_flatten.proofs.BuiltNodes.{AreBuilt, built_first}
@@ -43,10 +43,10 @@ use Rattle.fir_flatten.proofs.GivenRoles.{IsGiven, IsWholeWhere, role_given}
 use Rattle.fir_flatten.proofs.MovedRoles.{StandsIn, StandsMoved, reads_whole, role_moved}
 use Rattle.fir_flatten.proofs.PlacedLeaves.{IsPlaced, leaf_placed, length-leaves}
 use Rattle.fir_flatten.proofs.PortsFirst.{ports_first}
-use Rattle.fir_flatten.proofs.PortsOfLeaves.{clock_ticks, has_width, inner_port, is_held, is_narrow, outer_port, takes_value, word_is}
+use Rattle.fir_flatten.proofs.PortsOfLeaves.{clock_ticks, has_width, inner_port, is_held, is_narrow, outer_port, taken_is, word_is}
 use Rattle.fir_flatten.proofs.RolesOfLeaves.{KeepsOwn, StandsInside, role_can, role_stands}
 
--- whether a register takes a value, where a statement drives it alike
+-- whether something drives or resets a register, where a statement drives it alike
 takes_alike : (q : LeafRole) (a b : Bool) → (is_register q ≡ true → a ≡ b) → takes_by a q ≡ takes_by b q
 takes_alike (register clock reset) a b same = ap (λ (d : Bool). takes_by d (register clock reset)) (same refl)
 takes_alike q a b same = refl
@@ -209,8 +209,8 @@ module _
               (role_stands c net hold places kept.nodes.items built (Outer x) driven x p.count p.declared.holds p.role (net_role_at m x) (given_at x l at) p.choice
               (own_at x p.declared seen) (inside_at x)));
           takes =
-              ap (λ (k : Leaf). has_next k.role) p.is
-              ∙ takes_value places (Outer x) driven p.count c (StandsMoved c places net.nodes) (depth_at m x) m.body x p.declared.holds p.role (role_at m x)
+              ap (λ (k : Leaf). takes_value k.role) p.is
+              ∙ taken_is places (Outer x) driven p.count c (StandsMoved c places net.nodes) (depth_at m x) m.body x p.declared.holds p.role (role_at m x)
               (given_at x l at)
               ∙ takes_alike (role_at m x) driven (drives_any x c.body) seen.driven;
           port = outer_at x l at;

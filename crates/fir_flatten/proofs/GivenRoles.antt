@@ -1,6 +1,6 @@
 -- What gives the leaves of a plain design their values in its net: inputs; for numbers reads that stand for whole terms, which may drive the leaf; and for clocks a
 -- clock leaf that is read as it is, or no clock.
-use Rattle.std.proofs.Common.{◌≡◌, ℕ, List, [], ◌∷◌, length, Bool, false, Option, Some, None, option_map, refl, sym, ap, ◌∙◌}
+use Rattle.std.proofs.Common.{◌≡◌, ℕ, List, [], ◌∷◌, length, Bool, Option, Some, None, option_map, refl, sym, ap, ◌∙◌}
 use Rattle.fir_base.proofs.Elements.{there}
 use Rattle.fir_bits.specs.declared.types.NumTy.{NumTy}
 use Rattle.fir_bits.specs.declared.values.Num.{Num}
@@ -11,7 +11,7 @@ use Rattle.fir_leaf_types.specs.working.TypedModules.{IsRoleTyped, held_in}
 use Rattle.fir_meaning.specs.working.LeafBlocks.{LeafBlock}
 use Rattle.fir_meaning.specs.working.LeafCircuits.{LeafCircuit}
 use Rattle.fir_meaning.specs.working.LeafModules.{LeafModule, LeafReset, Role, computed, pipe, reading, register, sink, source}
-use Rattle.fir_lack.specs.working.TakenCircuits.{ActsAtEdges, IsTakenRole}
+use Rattle.fir_lack.specs.working.TakenCircuits.{IsTakenRole}
 use Rattle.fir_connect.specs.working.CircuitModules.{as_module}
 use Rattle.fir_connect.specs.working.Lowered.{one_bit}
 use Rattle.fir_connect.specs.working.NetRoles.{NetReset as ResetMeant, NetRole as RoleMeant, net_reset, net_role, net_types}
@@ -55,10 +55,9 @@ module _ (c : LeafCircuit) (Stands : Bound → NetTerm → Type 0) where
     pub stands : Stands b t
     pub may : MayDrive (as_module c) u t
 
-  -- it acts at the edges of its clock
+  -- the reset of a register
   pub record Resets (u : NumTy) (r : NetReset) (q : ResetMeant) : Type 0 where
-    pub at_edge : r.is_async ≡ false
-    pub meant_at_edge : q.is_async ≡ false
+    pub alike : r.is_async ≡ q.is_async
     pub condition : Stands r.condition q.condition
     pub whole : IsWholeIn (as_module c) q.condition
     pub has_one_bit : term_type (net_types (as_module c)) q.condition ≡ one_bit
@@ -134,16 +133,15 @@ module _ (c : LeafCircuit) (nodes : List Node) (before : ReadBefore 0 nodes) whe
     is = clear.1;
   }
 
-  reset_given : (u : NumTy) (reset : Option LeafReset) (r : Option NetReset) → ActsAtEdges reset
+  reset_given : (u : NumTy) (reset : Option LeafReset) (r : Option NetReset)
       → ResetStands (net_types (as_module c)) nodes r (option_map (net_reset (net_types (as_module c))) reset)
       → IsResetWhole (as_module c) u (option_map (net_reset (net_types (as_module c))) reset)
       → MayReset c stands u r (option_map (net_reset (net_types (as_module c))) reset)
-  reset_given u None None edges h whole = tt
-  reset_given u None (Some r) edges h whole = absurd h
-  reset_given u (Some s) None edges h whole = absurd h
-  reset_given u (Some s) (Some r) edges h whole = record {
-    at_edge = h.0 ∙ edges;
-    meant_at_edge = edges;
+  reset_given u None None h whole = tt
+  reset_given u None (Some r) h whole = absurd h
+  reset_given u (Some s) None h whole = absurd h
+  reset_given u (Some s) (Some r) h whole = record {
+    alike = h.0;
     condition = h.1;
     whole = whole.0;
     has_one_bit = whole.1;
@@ -177,7 +175,7 @@ module _ (c : LeafCircuit) (nodes : List Node) (before : ReadBefore 0 nodes) whe
     role_given (Number u) (computed t) (code.Computed d) taken typed clear h whole = record { stands = h; may = whole }
     role_given (Number u) (computed t) r taken typed clear h whole = absurd h
     role_given (Number u) (register clock reset) (code.Register k s d) taken typed clear h whole =
-        (register_clock _ k clear h.0, reset_given u reset s taken h.1 whole.0, record { stands = h.2; may = whole.1 })
+        (register_clock _ k clear h.0, reset_given u reset s h.1 whole.0, record { stands = h.2; may = whole.1 })
     role_given (Number u) (register clock reset) r taken typed clear h whole = absurd h
     role_given holds (reading e) r taken typed clear h whole = absurd taken
     role_given holds (pipe e clock under) r taken typed clear h whole = absurd taken

@@ -1,11 +1,11 @@
--- What a leaf of a flat net is, by what it holds and by its role in the circuit.
-use Rattle.std.proofs.Common.{◌≡◌, ℕ, List, true, Option, Some, None, option_map, refl, sym, ap, ◌∙◌, subst, inl, inr, true≢false}
+-- What a leaf of a flat net is, by what it holds and by its role in the circuit: a register has a reset where the circuit's is asynchronous, and no other.
+use Rattle.std.proofs.Common.{◌≡◌, ℕ, List, Bool, true, false, if◌then◌else◌, Option, Some, None, option_map, refl, sym, ap, ◌∙◌, subst, inl, inr, true≢false}
 use Rattle.fir_meaning.specs.working.LeafBlocks.{LeafBlock}
 use Rattle.fir_meaning.specs.working.LeafModules.{LeafReset, Role, computed, pipe, reading, register, sink, source}
 use Rattle.fir_meaning.specs.LeafTypes.{LeafType, a_clock, number}
 use Rattle.fir_meaning.specs.working.TermValues.{Holds}
 use Rattle.fir_meaning.specs.working.Terms.{Term}
-use Rattle.fir_lack.specs.working.TakenCircuits.{ActsAtEdges, IsTakenRole}
+use Rattle.fir_lack.specs.working.TakenCircuits.{IsTakenRole}
 use Rattle.fir_connect.specs.working.NetRoles.{net_reset, net_role}
 use Rattle.fir_net.specs.declared.leaf.Register.{Register}
 use Rattle.fir_net.specs.declared.leaf.Reset.{Reset}
@@ -14,10 +14,21 @@ use Rattle.fir_net.specs.declared.leaf.Role.TheVariants as role
 use Rattle.fir_net.specs.declared.node.Node.{Node}
 use Rattle.fir_net.specs.declared.reads.Read.{Read}
 use Rattle.fir_net.specs.working.IsNet.{is_port}
-use Rattle.fir_net.specs.working.IsWritable.{IsWritableRole}
+use Rattle.fir_net.specs.working.IsWritable.{ActsAtOnce, IsWritableRole}
 use Rattle.fir_flat.specs.working.FlatCircuits.{IsClockedBy, IsDrivenBy, IsResetOf, IsRoleOf, reset_kept}
+use Rattle.fir_flatten.specs.working.FlatDesigns.{is_some}
 
--- an input, what is driven, a node, or a register without a reset; so of clocks, but that no register holds one
+-- a reset that does not wait for its register's clock
+abbrev pub is_reset_async : Option LeafReset → Bool
+is_reset_async None = false
+is_reset_async (Some r) = r.is_async
+
+-- the reset of a register of the net
+pub record IsKept (own : Option Reset) (reset : Option LeafReset) : Type 0 where
+  pub at_once : ActsAtOnce own
+  pub there : is_some own ≡ is_reset_async reset
+
+-- an input, what is driven, a node, or a register; so of clocks, but that no register holds one
 abbrev pub IsShaped : net_leaf.Role → LeafType → Role → Type 0
 IsShaped x (number t) source = x ≡ role.Input
 IsShaped x a_clock source = x ≡ role.Clock
@@ -25,15 +36,21 @@ IsShaped x (number t) sink = (r : Read) × IsDrivenBy x r
 IsShaped x a_clock sink = (c : Option ℕ) × IsClockedBy x c
 IsShaped x (number t) (computed e) = (r : Read) × (x ≡ role.Wire r)
 IsShaped x a_clock (computed e) = (c : Option ℕ) × (x ≡ role.ClockWire c)
-IsShaped x (number t) (register clock reset) = (g : Register) × (x ≡ role.Register g) × (g.reset ≡ None)
+IsShaped x (number t) (register clock reset) = (g : Register) × (x ≡ role.Register g) × IsKept g.reset reset
 IsShaped x _ _ = ⊥
 
--- a reset that acts at edges is a choice, and does not stay
-none_kept : (nodes : List Node) (holds : Holds) (own : Option Reset) (reset : Option LeafReset) → ActsAtEdges reset
-    → IsResetOf nodes own (reset_kept (option_map (net_reset holds) reset)) → own ≡ None
-none_kept nodes holds None reset edges is = refl
-none_kept nodes holds (Some r) None edges is = absurd is
-none_kept nodes holds (Some r) (Some q) edges is = absurd (rw edges at is)
+-- a reset that waits for a clock is a choice, and does not stay
+stays : (nodes : List Node) (holds : Holds) (own : Option Reset) (reset : Option LeafReset)
+    → IsResetOf nodes own (reset_kept (option_map (net_reset holds) reset)) → IsKept own reset
+stays nodes holds None None is = record { at_once = tt; there = refl }
+stays nodes holds (Some r) None is = absurd is
+stays nodes holds own (Some q) is = by own q.is_async is
+  where
+    by : (o : Option Reset) (b : Bool) → IsResetOf nodes o (if b then Some (net_reset holds q) else None) → IsKept o (Some (record q { is_async = b }))
+    by None true h = absurd h
+    by (Some r) true h = record { at_once = h.0; there = refl }
+    by None false h = record { at_once = tt; there = refl }
+    by (Some r) false h = absurd h
 
 pub role_shaped : (nodes : List Node) (holds : Holds) (depth : ℕ) (b : LeafBlock) (k : ℕ) (x : net_leaf.Role) (h : LeafType) (r : Role)
     → IsRoleOf nodes holds k x h (net_role holds depth b k r) → IsTakenRole r → IsShaped x h r
@@ -41,7 +58,7 @@ role_shaped nodes holds depth b k x (number t) source is taken = is
 role_shaped nodes holds depth b k x (number t) sink is taken = (is.0, is.1)
 role_shaped nodes holds depth b k x (number t) (computed e) is taken = (is.0, is.1)
 role_shaped nodes holds depth b k x (number t) (register clock reset) is taken =
-    (record { clock = is.0; reset = is.1; next = is.2 }, is.3, none_kept nodes holds is.1 reset taken is.5)
+    (record { clock = is.0; reset = is.1; next = is.2 }, is.3, stays nodes holds is.1 reset is.5)
 role_shaped nodes holds depth b k x (number t) (reading r) is taken = absurd taken
 role_shaped nodes holds depth b k x (number t) (pipe r clock under) is taken = absurd taken
 role_shaped nodes holds depth b k x a_clock source is taken = is
@@ -67,7 +84,7 @@ clocked_port x c (inr e) port = absurd (true≢false (sym port ∙ ap is_port e)
 
 -- a register of the net is one of the circuit
 pub shaped_register : (x : net_leaf.Role) (h : LeafType) (r : Role) → IsShaped x h r → (g : Register) → x ≡ role.Register g
-    → (clock : Term) × (reset : Option LeafReset) × (r ≡ register clock reset)
+    → (clock : Term) × (reset : Option LeafReset) × (r ≡ register clock reset) × IsKept g.reset reset
 shaped_register x (number t) source is g at = cc
 shaped_register x a_clock source is g at = cc
 shaped_register x (number t) sink (r, inl e) g at = cc
@@ -76,7 +93,9 @@ shaped_register x a_clock sink (c, inl e) g at = cc
 shaped_register x a_clock sink (c, inr e) g at = cc
 shaped_register x (number t) (computed e) is g at = let own = is.1 in cc
 shaped_register x a_clock (computed e) is g at = let own = is.1 in cc
-shaped_register x (number t) (register clock reset) is g at = (clock, reset, refl)
+shaped_register x (number t) (register clock reset) is g at =
+    let same : is.0 ≡ g = cc in
+    (clock, reset, refl, subst (λ (o : Register). IsKept o.reset reset) same is.2)
 shaped_register x h r is g at = absurd is
 
 -- such a leaf has a Verilog text
@@ -89,5 +108,5 @@ shaped_writable x a_clock sink (c, inl e) = subst IsWritableRole (sym e) tt
 shaped_writable x a_clock sink (c, inr e) = subst IsWritableRole (sym e) tt
 shaped_writable x (number t) (computed e) is = subst IsWritableRole (sym is.1) tt
 shaped_writable x a_clock (computed e) is = subst IsWritableRole (sym is.1) tt
-shaped_writable x (number t) (register clock reset) is = subst IsWritableRole (sym is.1) is.2
+shaped_writable x (number t) (register clock reset) is = subst IsWritableRole (sym is.1) is.2.at_once
 shaped_writable x h r is = absurd is

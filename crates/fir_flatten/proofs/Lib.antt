@@ -46,6 +46,7 @@ pub mod SourceRowsOfNets
 pub mod DrivenLeaves
 pub mod TakingRegisters
 pub mod ClockedRegisters
+pub mod AsyncRegisters
 pub mod LeavesOfModules
 pub mod InstanceWords
 pub mod FlatWords
@@ -66,6 +67,8 @@ pub mod MainModules
 pub mod NamesOfModules
 pub mod PartsSoFar
 pub mod DesignsOfCircuits
+pub mod DesignedNets
+pub mod DesignInits
 pub mod ViewedModules
 pub mod MainPorts
 pub mod CopyTexts

@@ -109,8 +109,7 @@ module _ (c : LeafCircuit) where
       reset_moved : (u : NumTy) (s : NetReset) (p : ResetMeant) → Resets c (StandsIn nodes) u s p → Stays s.condition.read → Stays s.init.read
           → Resets c Moved u s p
       reset_moved u s p h condition init = record {
-        at_edge = h.at_edge;
-        meant_at_edge = h.meant_at_edge;
+        alike = h.alike;
         condition = bound_moved s.condition p.condition h.condition condition;
         whole = h.whole;
         has_one_bit = h.has_one_bit;

@@ -1,5 +1,5 @@
 -- The roles of the leaves of a design's circuit: those of the main module's ports, and those that modules give to their other leaves, moved.
-use Rattle.std.proofs.Common.{◌≡◌, ℕ, ◌<◌, ◌≤◌, List, [], Bool, true, false, nat_lt, length, slice_get, Option, Some, None, option_map, refl, sym, ap, ◌∙◌, subst, inl, inr, ◌⊎◌, arith, length-append}
+use Rattle.std.proofs.Common.{◌≡◌, ℕ, ◌<◌, ◌≤◌, List, [], Bool, true, false, nat_lt, length, slice_get, Some, refl, sym, ap, ◌∙◌, subst, inl, inr, ◌⊎◌, arith, length-append}
 use Rattle.std.proofs.lemmas.Bool.{ltb-false, ltb-true}
 use Rattle.std.proofs.lemmas.List.{length-take}
 use Rattle.std.proofs.lemmas.Option.{same_Some}
@@ -14,10 +14,10 @@ use Rattle.fir_meaning.specs.working.FlatLeaves.{leaves_below}
 use Rattle.fir_meaning.specs.working.Flattened.{flattened, port_leaves}
 use Rattle.fir_meaning.specs.working.LeafCircuits.{role_of}
 use Rattle.fir_meaning.specs.working.LeafedModules.{leafed_module, module_leaves}
-use Rattle.fir_meaning.specs.working.LeafModules.{LeafDeclared, LeafModule, LeafReset, Role, computed, leaf_at, pipe, reading, register, role_at, sink, source}
-use Rattle.fir_meaning.specs.working.Numberings.{Numbering, moved, moved_reset, moved_role, number, numbering}
+use Rattle.fir_meaning.specs.working.LeafModules.{LeafDeclared, LeafModule, Role, computed, leaf_at, pipe, reading, register, role_at, sink, source}
+use Rattle.fir_meaning.specs.working.Numberings.{Numbering, moved, moved_role, number, numbering}
 use Rattle.fir_meaning.specs.working.Terms.{Term, absent, literal, mux, operation, read, validif, zeros}
-use Rattle.fir_lack.specs.working.TakenCircuits.{ActsAtEdges, IsTakenModule, IsTakenRole}
+use Rattle.fir_lack.specs.working.TakenCircuits.{IsTakenModule, IsTakenRole}
 use Rattle.fir_design.specs.working.MeaningLaws.{AreDesigns}
 use Rattle.fir_design.proofs.FineScenes.{IsFineScene, fine_scene}
 use Rattle.fir_design.proofs.NumberedScenes.{scene_numbered, view_at}
@@ -47,15 +47,11 @@ record IsMoved (scenes : List Scene) (table : List LeafDeclared) (y : ℕ) : Typ
   stands : (z : ℕ) → z < length (leafed_module scene).leaves → number (numbering (leafed_module scene) copy.first copy.own) z < length table
   role : (leaf_at table y).role ≡ moved_role (numbering (leafed_module scene) copy.first copy.own) array (role_at (leafed_module scene) leaf)
 
-edges_moved : (n : Numbering) (r : Option LeafReset) → ActsAtEdges r → ActsAtEdges (option_map (moved_reset n) r)
-edges_moved n None h = tt
-edges_moved n (Some r) h = h
-
 taken_moved : (n : Numbering) (array : ℕ) (r : Role) → IsTakenRole r → IsTakenRole (moved_role n array r)
 taken_moved n array source h = tt
 taken_moved n array sink h = tt
 taken_moved n array (computed t) h = tt
-taken_moved n array (register c r) h = edges_moved n r h
+taken_moved n array (register c r) h = tt
 taken_moved n array (reading r) h = absurd h
 taken_moved n array (pipe r c under) h = absurd h
 

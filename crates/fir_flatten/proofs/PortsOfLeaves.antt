@@ -1,5 +1,5 @@
 -- What is known of a leaf of a flat net by what it holds and by its role alone: its width, whether it is a clock, whether it is a port, whether it is a word of the
--- state, and whether it takes a value at the edges of a clock.
+-- state, and whether something drives it or resets it.
 use Rattle.std.proofs.Common.{◌≡◌, ℕ, ◌≤◌, Bool, true, false, ◌&&◌, ◌||◌, not, if◌then◌else◌, List, Option, Some, None, option_map, refl, ap, ap₂, ◌∙◌, subst, sym, lit≤, arith}
 use Rattle.std.specs.Prelude.{nat_eq, nat_lt}
 use Rattle.std.proofs.lemmas.Bool.Decides.{nat_tests}
@@ -28,8 +28,8 @@ use Rattle.fir_whens.specs.declared.net_role.NetReset.{NetReset}
 use Rattle.fir_whens.specs.declared.net_role.NetRole.{NetRole}
 use Rattle.fir_whens.specs.declared.net_role.NetRole.TheVariants as code
 use Rattle.fir_source_faults.specs.working.NumberedTaking.{has_reset, takes_by}
-use Rattle.fir_flatten.specs.working.FlatDesigns.{HasWidth, IsPortRole, has_next, has_read}
-use Rattle.fir_flatten.specs.working.FlatRoles.{driven_next, driven_role, flat_role_of, next_read, width_of}
+use Rattle.fir_flatten.specs.working.FlatDesigns.{HasWidth, IsPortRole, is_some, takes_value}
+use Rattle.fir_flatten.specs.working.FlatRoles.{async_reset, driven_next, driven_role, flat_role_of, next_read, reset_of, width_of}
 use Rattle.fir_flatten.specs.working.KeptNodes.{IsHeld}
 use Rattle.fir_flatten.proofs.GivenRoles.{IsGiven, MayReset}
 
@@ -51,7 +51,7 @@ module _ (places : List ℕ) where
   driven_inside (Number u) r = refl
   driven_inside Clock r = refl
 
-  takes_nothing : (outer : Bool) (holds : TypeOfCode) (r : Read) → has_next (driven_role places outer holds r) ≡ false
+  takes_nothing : (outer : Bool) (holds : TypeOfCode) (r : Read) → takes_value (driven_role places outer holds r) ≡ false
   takes_nothing true (Number u) r = refl
   takes_nothing true Clock r = refl
   takes_nothing false (Number u) r = refl
@@ -150,30 +150,32 @@ module _ (places : List ℕ) (outer driven : Bool) (count : ℕ) where
           → l.role ≡ flat_role_of places outer driven holds r count → GivenBy holds r q → is_word l ≡ (is_state q && has_bits (type_seen holds))
       word_is l holds r q width role is = ap₂ (λ o w. is_register o && not (nat_eq w 0)) role width ∙ word_by holds r q is
 
-      -- whether it takes a value at the edges of a clock
-      next_there : (u : NumTy) (s : Option NetReset) (reset : Option LeafReset) (next : Bound)
+      -- whether something drives it or resets it
+      taken_there : (u : NumTy) (s : Option NetReset) (reset : Option LeafReset) (next : Bound)
           → MayReset c Stands u s (option_map (net_reset (net_types (as_module c))) reset)
-          → has_read (next_read places driven count s next) ≡ (driven || has_reset reset)
-      next_there u None None next may = by driven
+          → (is_some (reset_of places s) || is_some (next_read places driven count s next)) ≡ (driven || has_reset reset)
+      taken_there u None None next may = by driven
         where
-          by : (d : Bool) → has_read (driven_next places d next) ≡ (d || false)
+          by : (d : Bool) → is_some (driven_next places d next) ≡ (d || false)
           by true = refl
           by false = refl
-      next_there u None (Some q) next may = absurd may
-      next_there u (Some s) None next may = absurd may
-      next_there u (Some s) (Some q) next may = by s.is_async may.at_edge
+      taken_there u None (Some q) next may = absurd may
+      taken_there u (Some s) None next may = absurd may
+      taken_there u (Some s) (Some q) next may = by s.is_async
         where
-          by : (a : Bool) → a ≡ false → has_read (if a then driven_next places driven next else Some (read.Node count)) ≡ (driven || true)
-          by true e = cc
-          by false e = or_true driven
+          by : (a : Bool)
+              → (is_some (if a then Some (async_reset places s) else None) || is_some (if a then driven_next places driven next else Some (read.Node count)))
+              ≡ (driven || true)
+          by true = or_true driven
+          by false = or_true driven
 
-      pub takes_value : (holds : TypeOfCode) (r : NetRole) (q : LeafRole) → GivenBy holds r q
-          → has_next (flat_role_of places outer driven holds r count) ≡ takes_by driven q
-      takes_value Clock code.Source source is = refl
-      takes_value (Number u) code.Source source is = refl
-      takes_value Clock (code.Driven d) sink is = takes_nothing places outer Clock d.read
-      takes_value Clock (code.Computed d) (computed t) is = takes_nothing places outer Clock d.read
-      takes_value (Number u) (code.Driven d) sink is = takes_nothing places outer (Number u) d.read
-      takes_value (Number u) (code.Computed d) (computed t) is = takes_nothing places outer (Number u) d.read
-      takes_value (Number u) (code.Register clock s next) (register k reset) is = next_there u s reset next is.1
-      takes_value holds r q is = absurd is
+      pub taken_is : (holds : TypeOfCode) (r : NetRole) (q : LeafRole) → GivenBy holds r q
+          → takes_value (flat_role_of places outer driven holds r count) ≡ takes_by driven q
+      taken_is Clock code.Source source is = refl
+      taken_is (Number u) code.Source source is = refl
+      taken_is Clock (code.Driven d) sink is = takes_nothing places outer Clock d.read
+      taken_is Clock (code.Computed d) (computed t) is = takes_nothing places outer Clock d.read
+      taken_is (Number u) (code.Driven d) sink is = takes_nothing places outer (Number u) d.read
+      taken_is (Number u) (code.Computed d) (computed t) is = takes_nothing places outer (Number u) d.read
+      taken_is (Number u) (code.Register clock s next) (register k reset) is = taken_there u s reset next is.1
+      taken_is holds r q is = absurd is

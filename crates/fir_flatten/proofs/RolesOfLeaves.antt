@@ -18,7 +18,7 @@ use Rattle.fir_net.specs.declared.net.FlatNet.{FlatNet}
 use Rattle.fir_net.specs.declared.node.Node.{Node}
 use Rattle.fir_net.specs.declared.reads.Read.{Read}
 use Rattle.fir_net.specs.declared.reads.Read.TheVariants as read
-use Rattle.fir_net.specs.working.IsNet.{CanBeClock, CanBeDriven, CanBeReset, CanDrive, IsClock, IsRole, node_type}
+use Rattle.fir_net.specs.working.IsNet.{CanBeClock, CanBeDriven, CanBeReset, CanDrive, IsClock, IsReset, IsRole, node_type}
 use Rattle.fir_merge.specs.declared.bound.Bound.{Bound}
 use Rattle.fir_merge.proofs.GrownTerms.{node_there}
 use Rattle.fir_flat.specs.working.FlatCircuits.{IsClockedBy, IsDrivenBy, IsNextOf, IsResetOf, IsRoleOf, NamesClock, next_of, reset_kept}
@@ -26,10 +26,10 @@ use Rattle.fir_whens.specs.declared.net_role.NetReset.{NetReset}
 use Rattle.fir_whens.specs.declared.net_role.NetRole.{NetRole}
 use Rattle.fir_whens.specs.declared.net_role.NetRole.TheVariants as code
 use Rattle.fir_flatten.specs.working.FlatDesigns.{IsClockLeaf}
-use Rattle.fir_flatten.specs.working.FlatRoles.{choice_node, choices_of, choices_of_reset, clock_named, clock_of, driven_next, driven_role, flat_role_of, next_read, reset_of, width_of}
+use Rattle.fir_flatten.specs.working.FlatRoles.{async_reset, choice_node, choices_of, choices_of_reset, clock_named, clock_of, driven_next, driven_role, flat_role_of, next_read, reset_of, width_of}
 use Rattle.fir_flatten.specs.working.KeptNodes.{LeavesHold, moved}
 use Rattle.fir_flatten.proofs.BuiltNodes.{AreBuilt}
-use Rattle.fir_flatten.proofs.ChoiceNodes.{drive_of, one_choice}
+use Rattle.fir_flatten.proofs.ChoiceNodes.{drive_of, one_choice, read_of}
 use Rattle.fir_flatten.proofs.GivenRoles.{Drives, IsGiven, MayReset, Resets}
 use Rattle.fir_flatten.proofs.MovedRoles.{StandsMoved}
 
@@ -95,30 +95,41 @@ module _
   next_is k driven u None None next t count h d own at = next_plain k driven u next t d own
   next_is k driven u None (Some p) next t count h d own at = absurd h
   next_is k driven u (Some s) None next t count h d own at = absurd h
-  next_is k driven u (Some s) (Some p) next t count h d own at = by s.is_async p.is_async h.at_edge h.meant_at_edge
+  next_is k driven u (Some s) (Some p) next t count h d own at = by s.is_async p.is_async refl h.alike
     where
-      by : (a b : Bool) → a ≡ false → b ≡ false
+      by : (a b : Bool) → s.is_async ≡ a → a ≡ b
           → IsNext k u (if a then driven_next places driven next else Some (read.Node count))
           (if b then t else choice (net_types (as_module c)) p.condition p.init t)
-      by true b e f = cc
-      by false true e f = cc
-      by false false e f = next_chosen k u s p next t count h d (at (choice_node places s next) (one_choice places s next h.at_edge))
+      by true true e same = next_plain k driven u next t d own
+      by true false e same = cc
+      by false true e same = cc
+      by false false e same = next_chosen k u s p next t count h d (at (choice_node places s next) (one_choice places s next e))
 
-  -- no reset stays
-  record IsGone (own : Option Reset) (signed : Bool) (p : Option ResetMeant) : Type 0 where
+  -- an asynchronous reset stays, and no other
+  record IsKept (own : Option Reset) (signed : Bool) (p : Option ResetMeant) : Type 0 where
     kept : IsResetOf net.nodes own (reset_kept p)
     can : CanBeReset net.leaves net.nodes signed own
 
-  reset_gone : (u : NumTy) (s : Option NetReset) (p : Option ResetMeant) → MayReset c Stands u s p → IsGone (reset_of places s) u.signed p
-  reset_gone u None None h = record { kept = tt; can = tt }
-  reset_gone u None (Some p) h = absurd h
-  reset_gone u (Some s) None h = absurd h
-  reset_gone u (Some s) (Some p) h = by s.is_async p.is_async h.at_edge h.meant_at_edge
+  async_kept : (u : NumTy) (s : NetReset) (p : ResetMeant) → Resets c Stands u s p → IsReset net.leaves net.nodes u.signed (async_reset places s)
+  async_kept u s p h =
+      let condition = read_of c net.leaves hold places old net.nodes built s.condition p.condition h.condition h.whole in
+      record {
+        condition = condition.can;
+        has_one_bit = condition.has_type ∙ h.has_one_bit;
+        init = drive_of c net.leaves hold places old net.nodes built u s.init p.init h.init;
+      }
+
+  reset_is : (u : NumTy) (s : Option NetReset) (p : Option ResetMeant) → MayReset c Stands u s p → IsKept (reset_of places s) u.signed p
+  reset_is u None None h = record { kept = tt; can = tt }
+  reset_is u None (Some p) h = absurd h
+  reset_is u (Some s) None h = absurd h
+  reset_is u (Some s) (Some p) h = by s.is_async p.is_async h.alike
     where
-      by : (a b : Bool) → a ≡ false → b ≡ false → IsGone (reset_of places (Some (record s { is_async = a }))) u.signed (Some (record p { is_async = b }))
-      by true b e f = cc
-      by false true e f = cc
-      by false false e f = record { kept = tt; can = tt }
+      by : (a b : Bool) → a ≡ b → IsKept (if a then Some (async_reset places s) else None) u.signed (Some (record p { is_async = b }))
+      by true true same = record { kept = (refl, h.condition.term, h.init.stands.term); can = async_kept u s p h }
+      by true false same = cc
+      by false true same = cc
+      by false false same = record { kept = tt; can = tt }
 
   module _ (outer driven : Bool) (k count : ℕ) where
     abbrev PutAt : NetRole → Type 0
@@ -142,7 +153,7 @@ module _
       next_read places driven count s next,
       refl,
       is.0.is ∙ ap leaf (ap clock_of (sym is.0.reads)),
-      (reset_gone u s p is.1).kept,
+      (reset_is u s p is.1).kept,
       (next_is k driven u s p next t count is.1 is.2 own at).term,
     )
     role_stands holds r q is at own inside = absurd is
@@ -175,7 +186,7 @@ module _
           driven_can outer u b.read (drive_of c net.leaves hold places old net.nodes built u b t is)
       role_can (Number u) (code.Register clock s next) (meant.register j p t) is at own = (
         subst (IsClock net.leaves) (ap clock_of (sym is.0.reads)) (clocks is.0.clock is.0.is_leaf.0 is.0.is_leaf.1),
-        (reset_gone u s p is.1).can,
+        (reset_is u s p is.1).can,
         (next_is k driven u s p next t count is.1 is.2 own at).can,
       )
       role_can holds r q is at own = absurd is

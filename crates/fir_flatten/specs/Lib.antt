@@ -1,3 +1,3 @@
 pub mod SourceRows
-pub mod TakingWords
+pub mod BlockWords
 pub mod working

@@ -19,8 +19,9 @@ pub mod KeptNodes
 -- The flat net: its leaves and their roles.
 pub mod FlatRoles
 pub mod FlatDesigns
--- What it means.
+-- What it means, and which faults there are in place of it.
 pub mod FlattensTo
+pub mod FlatFaults
 pub mod Laws
 -- What it is made of.
 pub mod DesignParts

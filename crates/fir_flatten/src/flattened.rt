@@ -3,17 +3,16 @@
 ghost use Rattle.std.specs.Prelude.{◌≡◌, IfOk};
 ghost use Rattle.fir_ast.specs.working.Views.{circuit_of};
 ghost use Rattle.fir_ast.specs.working.CodeFaults.{fault_of};
-ghost use Rattle.fir_pass.specs.Groups.{IsClear};
 ghost use Rattle.fir_pass.specs.working.Law.{IfFault};
-ghost use Rattle.fir_meaning.specs.SourceClocks.{clock_group};
 ghost use Rattle.fir_lack.specs.working.TakenCircuits.{IsTaken};
 ghost use Rattle.fir_flatten.specs.working.FlattensTo.{FlattensTo};
+ghost use Rattle.fir_flatten.specs.working.FlatFaults.{ShowsNone, TellsFirst};
 
 use crate::clock_faults::clock_fault;
 use crate::design_net::design_net;
 use crate::design_parts::{DesignParts, design_parts};
 use crate::flat_design::flat_design;
-use crate::laws::designs_flatten;
+use crate::laws::{designs_flatten, designs_tell_inits};
 use crate::plain_laws::designs_are_plain;
 use crate::told_laws::first_is_told;
 use fir_ast::FirFault;
@@ -21,22 +20,22 @@ use fir_base::Refused;
 use fir_copies::{copies_give_all, copies_stand};
 use fir_design::has_one_tree;
 use fir_design_faults::clock_faults_stand_by_path;
+use fir_inits::init_fault;
 use fir_net::FlatNet;
 use fir_whens::NetCircuit;
 use std::alloc::Global;
 
-/// The flat net of a circuit without memories, whose resets act at the edges of clocks. It allows at every tick what the
-/// circuit's source allows, with its names (FIRRTL spec, "Circuits", "Instances"); or else E25, the first fault of its
-/// clocks, and the circuit as it was given.
+/// The flat net of a circuit without memories. It allows at every tick what the circuit's source allows, with its names
+/// (FIRRTL spec, "Circuits", "Instances"); or else E25, the first fault of its clocks, or else E27, of an asynchronous
+/// reset whose init is no constant, and the circuit as it was given.
 pub fn flatten(
     alloc: Global,
     circuit: NetCircuit,
 ) -> Result<FlatNet, Refused<(FirFault, NetCircuit)>>
     requires { IsTaken (circuit_of circuit) }
     ensures flat { IfOk result (FlattensTo (circuit_of circuit)) }
-    ensures clear { IfOk result (λ n. IsClear (clock_group (circuit_of circuit))) }
-    ensures told { IfFault result (λ f. (clock_group (circuit_of circuit)).tells (fault_of f.0)) }
-    ensures shown { IfFault result (λ f. (clock_group (circuit_of circuit)).shows (fault_of f.0)) }
+    ensures clear { IfOk result (λ n. ShowsNone (circuit_of circuit)) }
+    ensures told { IfFault result (λ f. TellsFirst (circuit_of circuit) (fault_of f.0)) }
     ensures back { IfFault result (λ f. f.1 ≡ circuit) }
 {
     match flat_net(alloc, &circuit) {
@@ -50,9 +49,8 @@ pub fn flatten(
 fn flat_net(alloc: Global, circuit: &NetCircuit) -> Result<FlatNet, Refused<FirFault>>
     requires { IsTaken (circuit_of circuit.now) }
     ensures flat { IfOk result (FlattensTo (circuit_of circuit.now)) }
-    ensures clear { IfOk result (λ n. IsClear (clock_group (circuit_of circuit.now))) }
-    ensures told { IfFault result (λ f. (clock_group (circuit_of circuit.now)).tells (fault_of f)) }
-    ensures shown { IfFault result (λ f. (clock_group (circuit_of circuit.now)).shows (fault_of f)) }
+    ensures clear { IfOk result (λ n. ShowsNone (circuit_of circuit.now)) }
+    ensures told { IfFault result (λ f. TellsFirst (circuit_of circuit.now) (fault_of f)) }
 {
     has_one_tree();
     copies_stand();
@@ -61,6 +59,7 @@ fn flat_net(alloc: Global, circuit: &NetCircuit) -> Result<FlatNet, Refused<FirF
     first_is_told();
     designs_are_plain();
     designs_flatten();
+    designs_tell_inits();
     let DesignParts {
         names,
         modules,
@@ -72,5 +71,9 @@ fn flat_net(alloc: Global, circuit: &NetCircuit) -> Result<FlatNet, Refused<FirF
     let design = design_net(alloc, &modules, &elaborated.copies)?;
     let tree = circuit.leafed().fitted().typed().named().circuit();
     let name = tree.ident.name.copy(alloc)?;
-    Ok(flat_design(alloc, name, design, elaborated.state)?)
+    let net = flat_design(alloc, name, design, elaborated.state)?;
+    match init_fault(alloc, &net)? {
+        Some(fault) => Err(Refused::Fault(fault)),
+        None => Ok(net),
+    }
 }

@@ -1,9 +1,10 @@
 //! From the nets of a circuit's modules to one flat net (FIRRTL spec, "Circuits", "Instances"). In comes a circuit with
-//! a net for each of its modules, without memories, whose resets act at the edges of clocks; out comes its flat net
-//! (`flattened`), which allows at every tick what the circuit's source allows, with its names (`specs/`: FlattensTo); or
-//! the first fault of clocks (`clock_faults`). Each module of the design (`design_parts`) has its own net there with
-//! numbers moved (`offsets`, `design_net`). Of its nodes those that some leaf needs are kept (`kept_nodes`), and each
-//! synchronous reset is merged into what its register takes (`flat_role`).
+//! a net for each of its modules, without memories; out comes its flat net (`flattened`), which allows at every tick what
+//! the circuit's source allows, with its names (`specs/`: FlattensTo); or the first fault of clocks (`clock_faults`), or
+//! else one of an asynchronous reset whose init is no constant. Each module of the design (`design_parts`) has its own
+//! net there with numbers moved (`offsets`, `design_net`). Of its nodes those that some leaf needs are kept
+//! (`kept_nodes`); each synchronous reset is merged into what its register takes, and an asynchronous one stays
+//! (`flat_role`).
 #![tactic(auto)]
 
 mod clock_evidence;

@@ -1,11 +1,10 @@
 -- Where a search over parts finds nothing, it finds nothing in each part.
-use Rattle.std.proofs.Common.{◌≡◌, Bool, true, false, List, [], ◌∷◌, ℕ, Option, Some, None, refl, subst, inl, inr}
+use Rattle.std.proofs.Common.{◌≡◌, List, [], ◌∷◌, Option, Some, None, refl, sym, ap, ◌∙◌, inl, inr}
 use Rattle.std.specs.Option.{option_or}
 use Rattle.fir_base.specs.Lists.{In}
-use Rattle.fir_ast.specs.declared.place.Place.{Place}
+use Rattle.fir_ast.specs.Circuits.{ModuleTree}
 use Rattle.fir_meaning.specs.Lack.{Lack}
-use Rattle.fir_meaning.specs.ModuleScenes.{Scene}
-use Rattle.fir_lack.specs.Lacking.{lack_if, lacking, lacking_block}
+use Rattle.fir_lack.specs.Lacking.{lacking_block, lacking_modules}
 
 pub none_first : (a b : Option Lack) → option_or a b ≡ None → a ≡ None
 none_first None b e = refl
@@ -15,13 +14,9 @@ pub none_second : (a b : Option Lack) → option_or a b ≡ None → b ≡ None
 none_second None b e = e
 none_second (Some l) b e = absurd (cc)
 
-pub no_lack_if : (b : Bool) (p : Place) (word : List ℕ) → lack_if b p word ≡ None → b ≡ false
-no_lack_if false p word e = refl
-no_lack_if true p word e = absurd (cc)
-
--- so it is with the modules of a circuit
-pub none_each : (scenes : List Scene) → lacking scenes ≡ None → (s : Scene) → In scenes s → lacking_block s s.own.inside.body ≡ None
-none_each [] none s i = absurd i
-none_each (x ∷ xs) none s (inl e) =
-    subst (λ (y : Scene). lacking_block y y.own.inside.body ≡ None) e (none_first (lacking_block x x.own.inside.body) (lacking xs) none)
-none_each (x ∷ xs) none s (inr i) = none_each xs (none_second (lacking_block x x.own.inside.body) (lacking xs) none) s i
+-- so it is with modules
+pub none_each : (ms : List ModuleTree) → lacking_modules ms ≡ None → (m : ModuleTree) → In ms m → lacking_block m.body ≡ None
+none_each [] none m i = absurd i
+none_each (x ∷ xs) none m (inl e) =
+    ap (λ (y : ModuleTree). lacking_block y.body) (sym e) ∙ none_first (lacking_block x.body) (lacking_modules xs) none
+none_each (x ∷ xs) none m (inr i) = none_each xs (none_second (lacking_block x.body) (lacking_modules xs) none) m i

@@ -1,10 +1,5 @@
 pub mod LackParts
-pub mod MarkSteps
-pub mod Searches
-pub mod DeclaredCounts
-pub mod NamedLacks
 pub mod NoMemories
 pub mod TakenSources
 pub mod TakenCircuits
 pub mod ClearCircuits
-pub mod FoundLacks

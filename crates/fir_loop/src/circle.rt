@@ -37,7 +37,7 @@ fn leaves_of(alloc: Global, circle: &[Read]) -> Result<Vec<LeafId>, MemoryOut>
 }
 
 /// The paths of the leaves.
-fn paths_of(alloc: Global, net: &FlatNet, walk: &[LeafId]) -> Result<Seq<Name>, MemoryOut>
+pub fn paths_of(alloc: Global, net: &FlatNet, walk: &[LeafId]) -> Result<Seq<Name>, MemoryOut>
     requires { AreLeaves net.now walk.now }
     ensures { IfOk result (λ names. names ≡ map (path_of net.now) walk.now) }
 {
@@ -48,7 +48,8 @@ fn paths_of(alloc: Global, net: &FlatNet, walk: &[LeafId]) -> Result<Seq<Name>, 
     Ok(Seq::from_vec(names))
 }
 
-fn leaf_of(net: &FlatNet, leaf: LeafId) -> &Leaf
+/// The leaf of that number.
+pub fn leaf_of(net: &FlatNet, leaf: LeafId) -> &Leaf
     requires { leaf < length net.now.leaves }
     ensures { slice_get net.now.leaves leaf ≡ Some result.now }
 {

@@ -13,5 +13,7 @@ mod net_graph;
 mod ordering;
 mod vertex;
 
+pub use circle::{leaf_of, paths_of};
 pub use entries::Order;
 pub use ordering::order;
+pub use vertex::read_at;

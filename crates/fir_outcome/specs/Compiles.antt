@@ -1,6 +1,6 @@
 -- When a Verilog tree is what a circuit compiles to.
--- It is named after the circuit; its items are arranged, with a block for just those registers that a statement of the circuit may drive or that have a reset, and
--- that have a clock; it is valid; and at every tick it allows what the circuit's source allows, so that their runs are equal. From each state of their shape, through all ticks of it, each has
+-- It is named after the circuit; its items are arranged, with a block for just those registers that have an asynchronous reset, or that have a clock and that a
+-- statement of the circuit may drive or a reset sets; it is valid; and at every tick it allows what the circuit's source allows, so that their runs are equal. From each state of their shape, through all ticks of it, each has
 -- exactly one run.
 use Rattle.std.specs.Prelude.{◌≡◌, ◌↔◌, ℕ, List, Option}
 use Rattle.fir_base.specs.Ticks.{Tick, TickResult}
@@ -17,7 +17,7 @@ use Rattle.fir_meaning.specs.SourceOne.{One}
 use Rattle.ver_build.specs.NamedFor.{IsNamedFor}
 use Rattle.ver_build.specs.Arranged.{IsArranged}
 use Rattle.fir_flatten.specs.SourceRows.{source_array_rows, source_rows, source_words}
-use Rattle.fir_flatten.specs.TakingWords.{AreTaking}
+use Rattle.fir_flatten.specs.BlockWords.{HaveBlocks}
 use Rattle.fir_outcome.specs.Runs.{RunsOnce}
 use Rattle.fir_outcome.specs.Sources.{SourceRun}
 
@@ -34,7 +34,7 @@ pub record CompilesTo (name : List ℕ) (t : SourceDesign) (v : Verilog) : Type 
 
 pub record Compiles (c : CircuitTree) (v : Verilog) : Type 0 where
   pub arranged : IsArranged v
-  pub driven : (t : SourceDesign) → IsSourceOf c t → AreTaking t arranged.driven (state_words t)
+  pub with_blocks : (t : SourceDesign) → IsSourceOf c t → HaveBlocks t arranged.with_block (state_words t)
   pub valid : Valid v
   pub v_one : VOne v
   pub v_runs_once : RunsOnce (v_shape v) (VAllows v)

@@ -16,7 +16,7 @@ use Rattle.fir_net.specs.working.Settled.{value_at}
 use Rattle.fir_net.proofs.NodeReads.{node_at, reads_can, can_more}
 use Rattle.fir_work.specs.working.Numbers.{number_at, value_in}
 use Rattle.fir_work.specs.working.NodeValues.{held_node}
-use Rattle.fir_tick.proofs.HeldValues.{node_same}
+use Rattle.fir_work.proofs.SameNodes.{held_is_value, node_same}
 
 module _ (law : NodesHaveTheirValues) (net : FlatNet) (whole : IsNet net) (ns : List ℕ) where
   abbrev value : Read → Num
@@ -25,18 +25,13 @@ module _ (law : NodesHaveTheirValues) (net : FlatNet) (whole : IsNet net) (ns : 
   abbrev env : ℕ → ℕ
   env = number_at ns
 
-  same_node : (n : Node) → held_node (value_at net env) n ≡ node_value net.leaves env (values net env) n
-  same_node (node.Literal v) = refl
-  same_node (node.Operation o) = refl
-  same_node (node.Mux m) = refl
-
   -- nodes that have what they are worth
   module _ (meets : (k : ℕ) (n : Node) → slice_get net.nodes k ≡ Some n → value (read.Node k) ≡ held_node value n) where
     node_over : (k : ℕ) (n : Node) → slice_get net.nodes k ≡ Some n → ((i : ℕ) → i < k → i < length net.nodes → value (read.Node i) ≡ value_at net env (read.Node i)) → value (read.Node k) ≡ value_at net env (read.Node k)
     node_over k n at before =
         meets k n at
         ∙ node_same value (value_at net env) n (λ j r e. by r (reads_can net.leaves (take k net.nodes) n (node_at net.leaves net.nodes [] whole.nodes k n at) j r e))
-        ∙ same_node n ∙ sym (ap (λ (o : Option Num). unwrap_or o no_operand) (law net env k n whole at))
+        ∙ held_is_value net env n ∙ sym (ap (λ (o : Option Num). unwrap_or o no_operand) (law net env k n whole at))
       where
         by : (r : Read) → CanRead net.leaves (take k net.nodes) r → value r ≡ value_at net env r
         by (read.Leaf i) can = refl

@@ -9,7 +9,7 @@ use Rattle.fir_net.specs.working.Laws.{NodesHaveTheirTypes}
 use Rattle.fir_tick.specs.declared.plan.Plan.{Plan}
 use Rattle.fir_tick.specs.declared.steps.Step.{Step}
 use Rattle.fir_tick.specs.declared.values.Values.{Values}
-use Rattle.fir_tick.specs.working.Held.{IsHeld}
+use Rattle.fir_work.specs.working.Held.{IsHeld}
 use Rattle.fir_tick.specs.working.Views.{IsTickOf}
 use Rattle.fir_tick.specs.working.Settling.{IsSettled}
 use Rattle.fir_tick.specs.working.Passes.{with_inputs, with_state, CanTake, IsPlaced, IsShown, IsWithin, output_value, register_value}

@@ -14,10 +14,10 @@ use Rattle.fir_net.specs.working.Values.{leaf_width, type_of_leaf}
 use Rattle.fir_work.specs.working.Numbers.{number_at}
 use Rattle.fir_tick.specs.declared.plan.InputPlan.{InputPlan}
 use Rattle.fir_tick.specs.declared.plan.RegisterPlan.{RegisterPlan}
-use Rattle.fir_tick.specs.working.Held.{IsHeld}
+use Rattle.fir_work.specs.working.Held.{IsHeld}
 use Rattle.fir_tick.specs.working.Views.{numbers, widths}
 use Rattle.fir_tick.specs.working.Passes.{values_of, placed, with_inputs, with_state, input_leaf, register_leaf}
-use Rattle.fir_tick.proofs.HeldNumbers.{put_same, put_other, still_held}
+use Rattle.fir_work.proofs.HeldNumbers.{put_same, put_other, still_held}
 
 -- a number that is none of these
 abbrev pub Apart : ℕ → List ℕ → Type 0

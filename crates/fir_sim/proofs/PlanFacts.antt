@@ -19,11 +19,11 @@ use Rattle.fir_tick.specs.declared.plan.InputPlan.{InputPlan}
 use Rattle.fir_tick.specs.declared.plan.OutputPlan.{OutputPlan}
 use Rattle.fir_tick.specs.declared.plan.RegisterPlan.{RegisterPlan}
 use Rattle.fir_tick.specs.declared.plan.Plan.{Plan}
-use Rattle.fir_tick.specs.working.Held.{IsHeld}
+use Rattle.fir_work.specs.working.Held.{IsHeld}
 use Rattle.fir_tick.specs.working.Views.{output_widths}
 use Rattle.fir_tick.specs.working.Plans.{IsPlan, IsRegisterPlan}
 use Rattle.fir_tick.specs.working.Passes.{input_leaf, input_width, output_width, register_leaf, register_width, IsWithin, IsPlaced, IsShown, IsNarrowOutput, IsNarrowRegister}
-use Rattle.fir_tick.proofs.HeldNumbers.{place_within}
+use Rattle.fir_work.proofs.HeldNumbers.{place_within}
 use Rattle.fir_tick.proofs.Lists.{pairs_left, pairs_right, pairs_same}
 use Rattle.fir_sim.proofs.Placings.{Apart}
 use Rattle.fir_sim.proofs.PlanPairs.{IsInput, IsOutput, inputs_paired, outputs_paired}

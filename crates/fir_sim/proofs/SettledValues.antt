@@ -33,9 +33,9 @@ use Rattle.fir_tick.specs.working.Settling.{is_one, held_under, held_register, h
 use Rattle.fir_tick.specs.declared.plan.InputPlan.{InputPlan}
 use Rattle.fir_tick.proofs.Lists.{pairs_right}
 use Rattle.fir_sim.proofs.PlanPairs.{IsInput, inputs_paired}
-use Rattle.fir_tick.proofs.HeldNumbers.{leaves_fit}
+use Rattle.fir_work.proofs.HeldNumbers.{leaves_fit}
 use Rattle.fir_sim.proofs.HeldReads.{what_is_read}
-use Rattle.fir_tick.proofs.HeldTypes.{node_is}
+use Rattle.fir_work.proofs.HeldTypes.{node_is}
 
 map_same : {A B : Type 0} → (f g : A → B) (xs : List A) → AllByRecursion (λ x. f x ≡ g x) xs → map f xs ≡ map g xs
 map_same f g [] h = refl

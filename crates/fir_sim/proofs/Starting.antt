@@ -13,13 +13,13 @@ use Rattle.fir_tick.specs.declared.plan.OutputPlan.{OutputPlan}
 use Rattle.fir_tick.specs.declared.plan.RegisterPlan.{RegisterPlan}
 use Rattle.fir_tick.specs.declared.steps.Step.{Step}
 use Rattle.fir_tick.specs.declared.values.Values.{Values}
-use Rattle.fir_tick.specs.working.Held.{IsHeld}
+use Rattle.fir_work.specs.working.Held.{IsHeld}
 use Rattle.fir_tick.specs.working.Views.{numbers, widths, output_widths}
 use Rattle.fir_tick.specs.working.Plans.{IsPlan}
 use Rattle.fir_tick.specs.working.Steps.{IsStepped}
 use Rattle.fir_tick.specs.working.Passes.{zero_of, output_zero, output_width, register_width, values_of, IsNarrowOutput, IsNarrowRegister}
 use Rattle.fir_sim.specs.working.Running.{IsRunning}
-use Rattle.fir_tick.proofs.HeldNumbers.{zeros_held}
+use Rattle.fir_work.proofs.HeldNumbers.{zeros_held}
 use Rattle.fir_tick.proofs.Lists.{all_map}
 use Rattle.fir_sim.proofs.Placings.{values_numbers, values_widths, values_whole}
 use Rattle.fir_sim.proofs.PlanFacts.{shown_widths, state_widths, outputs_narrow, registers_narrow}

@@ -17,7 +17,7 @@ use Rattle.fir_work.specs.working.Numbers.{number_at}
 use Rattle.fir_tick.specs.declared.plan.Plan.{Plan}
 use Rattle.fir_tick.specs.declared.steps.Step.{Step}
 use Rattle.fir_tick.specs.declared.values.Values.{Values}
-use Rattle.fir_tick.specs.working.Held.{IsHeld}
+use Rattle.fir_work.specs.working.Held.{IsHeld}
 use Rattle.fir_tick.specs.working.Views.{numbers, widths, output_widths, IsTickOf}
 use Rattle.fir_tick.specs.working.Plans.{IsPlan, root_at}
 use Rattle.fir_tick.specs.working.Passes.{placed, with_inputs, with_state, output_width, register_width, output_value, register_value}

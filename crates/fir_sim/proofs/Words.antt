@@ -26,14 +26,15 @@ use Rattle.fir_work.specs.working.Numbers.{number_at, place, value_in}
 use Rattle.fir_work.specs.working.Tasks.{IsFitTask, worked}
 use Rattle.fir_tick.specs.declared.plan.RegisterPlan.{RegisterPlan}
 use Rattle.fir_tick.specs.declared.plan.ResetPlan.{ResetPlan}
-use Rattle.fir_tick.specs.working.Held.{IsHeld}
+use Rattle.fir_work.specs.working.Held.{IsHeld}
 use Rattle.fir_tick.specs.working.Plans.{root_at, output_plan, plans_by, IsNextPlan, IsRegisterPlan, IsResetPlan}
 use Rattle.fir_tick.specs.working.Passes.{output_value, next_number, init_number, taken_number, register_value, CanBeTaken, CanReset, CanTake, Gives}
 use Rattle.fir_tick.specs.working.Settling.{IsSettled}
 use Rattle.fir_tick.proofs.Lists.{pairs_left, pairs_same}
 use Rattle.fir_sim.proofs.PlanPairs.{IsOutput, outputs_paired}
-use Rattle.fir_tick.proofs.HeldNumbers.{can_of, place_within}
-use Rattle.fir_tick.proofs.HeldTypes.{read_below}
+use Rattle.fir_work.proofs.HeldNumbers.{place_within}
+use Rattle.fir_work.proofs.WholeReads.{read_of}
+use Rattle.fir_work.proofs.HeldTypes.{read_below}
 use Rattle.fir_sim.proofs.SettledValues.{same_fitted, same_high}
 
 -- the outputs that are shown
@@ -43,7 +44,7 @@ outputs_shown net whole ns = pairs_same (IsOutput net) (λ p. (output_value ns p
 -- each register can take an edge
 module _ (has : HasItsType) (types : NodesHaveTheirTypes) (net : FlatNet) (whole : IsNet net) (ns : List ℕ) (held : IsHeld net ns) where
   fit_gives : (w : ℕ) (r : Read) (t : Task) → CanRead net.leaves net.nodes r → IsFitTask net r w t → Gives net ns w t
-  fit_gives w r t can is = let fit = held.fits r (can_of net r can) in record { runs = is.runs ns fit; below = subst (λ (n : ℕ). n < 2 ^ w) (sym (is.gives ns fit)) (read_below has types net whole ns held w r can) }
+  fit_gives w r t can is = let fit = held.fits r (read_of net r can) in record { runs = is.runs ns fit; below = subst (λ (n : ℕ). n < 2 ^ w) (sym (is.gives ns fit)) (read_below has types net whole ns held w r can) }
 
   next_can : (w : ℕ) (signed : Bool) (o : Option Read) (t : Option Task) → IsNextPlan net w o t → CanBeDriven net.leaves net.nodes signed o → CanBeTaken net ns w t
   next_can w signed None None is can = tt
@@ -56,7 +57,7 @@ module _ (has : HasItsType) (types : NodesHaveTheirTypes) (net : FlatNet) (whole
   reset_can w signed None (Some p) is can = absurd is
   reset_can w signed (Some r) None is can = absurd is
   reset_can w signed (Some r) (Some p) is can =
-      (subst (λ (k : ℕ). k < length ns) (sym is.condition) (place_within net ns held r.condition (can_of net r.condition can.condition)), fit_gives w r.init p.init can.init.can is.init)
+      (subst (λ (k : ℕ). k < length ns) (sym is.condition) (place_within net ns held r.condition (read_of net r.condition can.condition)), fit_gives w r.init p.init can.init.can is.init)
 
   register_can : (roots : List (Option ℕ)) (p : RegisterPlan) (k : ℕ) → IsRegisterPlan net roots p k → CanTake net ns p
   register_can roots p k i =
@@ -83,7 +84,7 @@ module _ (has : HasItsType) (types : NodesHaveTheirTypes) (law : NodesHaveTheirV
   env = number_at ns
 
   fit_is : (w : ℕ) (r : Read) (t : Task) → CanRead net.leaves net.nodes r → IsFitTask net r w t → worked net t ns ≡ at_width (value_at net env r) w
-  fit_is w r t can is = is.gives ns (s.held.fits r (can_of net r can)) ∙ same_fitted has types law net whole start ns s w r can
+  fit_is w r t can is = is.gives ns (s.held.fits r (read_of net r can)) ∙ same_fitted has types law net whole start ns s w r can
 
   next_is : (w : ℕ) (signed : Bool) (now : ℕ) (o : Option Read) (t : Option Task) → IsNextPlan net w o t → CanBeDriven net.leaves net.nodes signed o → next_number net ns now t ≡ taken net env w now o
   next_is w signed now None None is can = refl

@@ -1,1 +1,2 @@
 pub mod TestLeaves
+pub mod TestStates

@@ -1,11 +1,15 @@
 //! A test of the simulator over registers that reset at once and registers without a clock, which no text reaches
-//! yet; and one of the roots of clocks. What texts reach stands in checks/rows.
+//! yet; and some of the roots of clocks and of inits. What texts reach stands in checks/rows.
 #![tactic(auto)]
 
 #[cfg(test)]
 mod clock_nets;
 #[cfg(test)]
 mod clock_roots;
+#[cfg(test)]
+mod init_nets;
+#[cfg(test)]
+mod inits;
 #[cfg(test)]
 mod nets;
 #[cfg(test)]

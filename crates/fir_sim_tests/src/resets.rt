@@ -37,7 +37,8 @@ fn a_reset_wins_and_a_register_without_a_clock_holds(rt: HostRuntime) -> Result<
     Ok(())
 }
 
-fn order_of(alloc: Global, net: &FlatNet) -> Result<Order, MemoryOut>
+/// An order of a net that has one.
+pub fn order_of(alloc: Global, net: &FlatNet) -> Result<Order, MemoryOut>
     requires { IsNet net.now }
     ensures { IfOk result (λ o. IsOrder net.now o) }
 {

@@ -20,14 +20,10 @@ use Rattle.fir_net.specs.working.Dependence.{support_of, node_reads, kind_reads,
 use Rattle.fir_net.specs.working.IsOrder.{IsOrder}
 use Rattle.fir_net.proofs.Places.{map_at}
 use Rattle.fir_work.specs.working.Numbers.{number_at, type_read}
+use Rattle.fir_work.proofs.SameNodes.{node_same}
 use Rattle.fir_work.specs.working.NodeValues.{held_node, held_node_at}
 use Rattle.fir_tick.specs.working.Settling.{held_under, held_register, held_role, held_leaf_at, worth}
 use Rattle.fir_tick.proofs.Walks.{Hangs}
-
-pub node_same : (e f : Read → Num) (n : Node) → ((j : ℕ) (r : Read) → slice_get (support_of n) j ≡ Some r → e r ≡ f r) → held_node e n ≡ held_node f n
-node_same e f (node.Literal v) h = refl
-node_same e f (node.Operation o) h = ap (λ (xs : List Num). outcome o.op xs o.integers) (map_at e f o.reads h)
-node_same e f (node.Mux m) h = ap (chosen (node_type (node.Mux m))) (map_at e f m.reads h)
 
 -- what a leaf of that role reads is the same
 record Agree (rs : List Read) (e f : Read → Num) : Type 0 where

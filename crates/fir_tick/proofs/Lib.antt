@@ -4,9 +4,8 @@ pub mod ShapeNumbers
 pub mod ShapeWords
 pub mod WholeShapes
 pub mod Walks
-pub mod HeldNumbers
 pub mod HeldValues
-pub mod HeldTypes
+pub mod WorthWidths
 pub mod Settling
 pub mod StepTasks
 pub mod ClockRoots

@@ -18,12 +18,12 @@ use Rattle.fir_net.specs.working.Values.{number_of}
 use Rattle.fir_work.specs.working.Numbers.{Fits, number_at, place, type_read, value_in}
 use Rattle.fir_work.specs.working.Tasks.{CanRun, worked}
 use Rattle.fir_tick.specs.declared.steps.Step.{Step}
-use Rattle.fir_tick.specs.working.Held.{IsHeld}
+use Rattle.fir_work.specs.working.Held.{IsHeld}
 use Rattle.fir_tick.specs.working.Settling.{held_leaf_at, worth, IsSettled}
 use Rattle.fir_tick.specs.working.Steps.{AreSteps, IsStepOf, IsStepped, IsWorkOf, Stays}
 use Rattle.fir_tick.proofs.Walks.{Met, none_met, one_more}
-use Rattle.fir_tick.proofs.HeldNumbers.{number_here, number_there, place_within, still_held}
-use Rattle.fir_tick.proofs.HeldTypes.{worth_below}
+use Rattle.fir_work.proofs.HeldNumbers.{number_here, number_there, place_within, still_held}
+use Rattle.fir_tick.proofs.WorthWidths.{worth_below}
 use Rattle.fir_tick.proofs.HeldValues.{value_worth, worth_hangs}
 use Rattle.fir_tick.proofs.Lists.{all_from}
 

@@ -1,5 +1,4 @@
 -- What no clause of `run` reads: views of the code, its tables and its walks.
-pub mod Held
 pub mod Passes
 pub mod Plans
 pub mod Settling

@@ -3,7 +3,7 @@
 ghost use Rattle.std.specs.Prelude.{◌≡◌, ◌<◌, length, slice_set};
 ghost use Rattle.fir_net.specs.working.IsNet.{IsNet};
 ghost use Rattle.fir_work.specs.working.Tasks.{CanRun, worked};
-ghost use Rattle.fir_tick.specs.working.Held.{IsHeld};
+ghost use Rattle.fir_work.specs.working.Held.{IsHeld};
 ghost use Rattle.fir_tick.specs.working.Settling.{IsSettled};
 ghost use Rattle.fir_tick.specs.working.Steps.{IsStepped};
 

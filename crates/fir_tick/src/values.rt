@@ -4,7 +4,7 @@ ghost use Rattle.std.specs.Prelude.{◌≡◌, ◌≤◌, ◌<◌, ℕ, length, 
 ghost use Rattle.std.specs.List.{AllByRecursion};
 ghost use Rattle.fir_bits.specs.Values.{IsBitVector};
 ghost use Rattle.fir_net.specs.working.IsNet.{IsNet};
-ghost use Rattle.fir_tick.specs.working.Held.{IsHeld};
+ghost use Rattle.fir_work.specs.working.Held.{IsHeld};
 ghost use Rattle.fir_tick.specs.working.Settling.{IsSettled};
 ghost use Rattle.fir_tick.specs.working.Steps.{IsStepped};
 ghost use Rattle.fir_tick.specs.working.Passes.{with_inputs, with_state, CanTake, IsPlaced, IsShown, IsWithin, output_value, register_value};

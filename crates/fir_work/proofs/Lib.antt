@@ -12,3 +12,6 @@ pub mod WholeReads
 pub mod Operations
 pub mod GeneralWay
 pub mod Showing
+pub mod HeldNumbers
+pub mod HeldTypes
+pub mod SameNodes

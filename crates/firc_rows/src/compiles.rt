@@ -31,8 +31,8 @@ fn a_text_is_compiled_or_its_fault_is_told(rt: HostRuntime) -> Result<(), Fail> 
     assert!(rt; refused.as_slice() == b"E10 1:9 no module T\n".as_slice());
     let lacking = told(
         rt.alloc(),
-        b"circuit T :\n  module T :\n    input clock : Clock\n    input a : AsyncReset\n    reg r : UInt<2>, clock with : (reset => (a, UInt<2>(1)))\n",
+        b"circuit T :\n  module T :\n    mem m :\n      data-type => UInt<4>\n      depth => 8\n      read-latency => 1\n      write-latency => 1\n",
     )?;
-    assert!(rt; lacking.as_slice() == b"E05 5:28 unsupported with\n".as_slice());
+    assert!(rt; lacking.as_slice() == b"E05 3:5 unsupported mem\n".as_slice());
     Ok(())
 }

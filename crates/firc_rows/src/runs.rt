@@ -104,12 +104,21 @@ const EMITS: &[Run] = &[
     ),
     (
         EMIT,
-        b"circuit T :\n  module Inner :\n    input clock : Clock\n    input a : AsyncReset\n    output o : UInt<2>\n    reg r : UInt<2>, clock with : (reset => (a, UInt<2>(1)))\n    o <= r\n  module T :\n    output o : UInt<1>\n    o <= UInt<1>(0)\n",
+        b"circuit T :\n  module Inner :\n    mem m :\n      data-type => UInt<4>\n      depth => 8\n      read-latency => 1\n      write-latency => 1\n  module T :\n    output o : UInt<1>\n    o <= UInt<1>(0)\n",
         b"",
         Failing::Nothing,
         1,
         b"",
-        b"E05 6:28 unsupported with\n",
+        b"E05 3:5 unsupported mem\n",
+    ),
+    (
+        EMIT,
+        b"circuit T :\n  module T :\n    input clock : Clock\n    input a : AsyncReset\n    output o : UInt<2>\n    reg r : UInt<2>, clock with : (reset => (a, UInt<2>(1)))\n    o <= r\n",
+        b"",
+        Failing::Nothing,
+        0,
+        b"module T(\n  (* clock *) input clock,\n  input a,\n  output [1:0] o\n);\n  reg [1:0] r;\n  assign o = r;\n  always @(posedge a) if (a) r <= 2'h1;\nendmodule\n",
+        b"",
     ),
     (
         EMIT,

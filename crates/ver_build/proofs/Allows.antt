@@ -4,8 +4,11 @@
 use Rattle.std.proofs.Common.{◌≡◌, ℕ, ◌≤◌, List, map, refl, true, false, length, sym, ap, ◌∙◌, subst, arith, Option, Some}
 use Rattle.std.specs.Prelude.{◌↔◌, slice_get}
 use Rattle.std.proofs.lemmas.Option.{same_Some, slice_get_within}
+use Rattle.fir_base.specs.Lists.{In}
 use Rattle.fir_base.specs.Ticks.{Env, Tick, Shape, HasShape}
+use Rattle.fir_bits.specs.declared.values.Num.{Num}
 use Rattle.fir_net.specs.declared.reads.Read.{Read}
+use Rattle.fir_net.specs.declared.leaf.Reset.{Reset}
 use Rattle.fir_net.specs.declared.leaf.Leaf.{Leaf}
 use Rattle.fir_net.specs.declared.net.FlatNet.{FlatNet}
 use Rattle.fir_net_names.specs.declared.name_table.NameTable.{NameTable}
@@ -18,24 +21,26 @@ use Rattle.fir_net.specs.working.Allows.{Allows as NetAllows}
 use Rattle.fir_net.proofs.AlongOrder.{SameBefore}
 use Rattle.fir_net.proofs.ValuesAlong.{IsPlain, values_agree}
 use Rattle.ver_ast.specs.Valid.{Valid}
-use Rattle.ver_ast.specs.Nets.{SizedNet, nets, regs, shape as v_shape}
+use Rattle.ver_ast.specs.Nets.{SizedNet, regs, shape as v_shape}
+use Rattle.ver_ast.specs.Stores.{stored}
 use Rattle.ver_ast.specs.AtomValues.{atom_value}
 use Rattle.ver_ast.specs.Settled.{Rest}
-use Rattle.ver_build.proofs.Written.{written}
 use Rattle.ver_ast.specs.Allows.{VAllows, VOne}
 use Rattle.ver_build.specs.declared.places.Places.{Places}
 use Rattle.ver_build.specs.working.Operands.{atom_at}
 use Rattle.ver_build.specs.working.Places.{held_of}
+use Rattle.ver_build.specs.working.Blocks.{reset_net}
 use Rattle.ver_build.proofs.Premises.{Premises}
-use Rattle.ver_build.proofs.Parts.{blocks_of, in_parts}
-use Rattle.ver_build.proofs.Nets.{sizes, nets_sized}
-use Rattle.ver_build.proofs.Resting.{next_is}
-use Rattle.ver_build.proofs.ReadsStand.{read_of}
+use Rattle.ver_build.proofs.Parts.{in_parts}
+use Rattle.ver_build.proofs.Nets.{sizes}
+use Rattle.ver_build.proofs.Words.{IsWord}
+use Rattle.ver_build.proofs.Resting.{words_after, next_is}
+use Rattle.ver_build.proofs.ReadsStand.{read_of, word_reset}
 use Rattle.ver_build.proofs.LeafValues.{AgreesLeaves, outputs_same}
-use Rattle.ver_build.proofs.NextStates.{states_same}
+use Rattle.ver_build.proofs.NextStates.{Agrees, states_same}
 use Rattle.ver_build.proofs.ClocksShown.{outputs_shown}
 use Rattle.ver_build.proofs.NodeValues.{leaf_values}
-use Rattle.ver_build.proofs.NetSettled.{leaf_clocks, agrees, source_value, next_state, net_settled, tree_settled}
+use Rattle.ver_build.proofs.NetSettled.{leaf_clocks, agrees, source_value, reset_value, next_state, net_settled, tree_settled}
 
 module _ (net : FlatNet) (t : NameTable) (p : Places) (order : List Read) (is : Premises net t p order) (valid : Valid (in_parts net t p order))
     (shapes : v_shape (in_parts net t p order) ≡ net_shape net) where
@@ -50,13 +55,6 @@ module _ (net : FlatNet) (t : NameTable) (p : Places) (order : List Read) (is : 
       }
 
   module _ (state : List ℕ) (tick : Tick) where
-    -- the words that registers take, over the nets as they stand in the tree
-    abbrev words : List SizedNet → Env → List ℕ
-    words ns f = map (λ (r : SizedNet). written ns f tick.clocks (blocks_of net t p order) r.0) (regs (in_parts net t p order))
-
-    stored : (f : Env) → words (nets (in_parts net t p order)) f ≡ words (sizes net t p order) f
-    stored f = ap (λ (ns : List SizedNet). words ns f) (nets_sized net t p order is)
-
     to_net : (shown : List ℕ) (clocks : List (Option ℕ)) (after : List ℕ) → VAllows (in_parts net t p order) state tick shown clocks after
         → NetAllows net state tick shown clocks after
     to_net shown clocks after a =
@@ -67,7 +65,7 @@ module _ (net : FlatNet) (t : NameTable) (p : Places) (order : List Read) (is : 
           net_settled net t p order is state tick f rest shapes,
           sym (outputs_same net t p order is (leaf_values p f) (leaf_clocks t p f) f (agrees net t p order is state tick f rest)) ∙ a.2,
           sym (outputs_shown net t p order is state tick f rest (leaf_clocks t p f) (λ k l at ticking. refl)) ∙ a.3,
-          sym (next_state net t p order is state tick f rest) ∙ sym (stored f) ∙ same_Some _ _ (sym (next_is net t p order is state tick f rest) ∙ a.4),
+          sym (next_state net t p order is state tick f rest) ∙ same_Some _ _ (sym (next_is net t p order is state tick f rest) ∙ a.4),
         )
 
     -- a choice of the net, beside the tree's
@@ -106,8 +104,18 @@ module _ (net : FlatNet) (t : NameTable) (p : Places) (order : List Read) (is : 
           → atom_value (sizes net t p order) f (atom_at w (held_of p r)) ≡ at_width (value_at net e r) w
       source_too r can w some narrow = source_value net t p order is state tick f rest r can w some narrow ∙ ap (λ v. at_width v w) (same_read r can)
 
-      next_too : words (sizes net t p order) f ≡ map (next_word net e clock tick.clocks) (registers net)
-      next_too = states_same net t p order is e clock f agrees_too same_clock source_too tick.clocks
+      reset_too : (k : ℕ) → In net.state k → (w : IsWord net t k) → (r : Reset) → w.own.reset ≡ Some r
+          → f (reset_net p k r) ≡ (value_at net e r.condition).value.number
+      reset_too k m w r has =
+          reset_value net t p order is state tick f rest k m w r has
+          ∙ ap (λ (v : Num). v.value.number) (same_read r.condition (word_reset net t p order is k w r has).condition)
+
+      agree_too : Agrees net t p order e clock f
+      agree_too = record { leaves = agrees_too; clocks = same_clock; sources = source_too; resets = reset_too }
+
+      next_too : map (λ (r : SizedNet). stored (words_after net t p order is state tick f rest) r.0) (regs (in_parts net t p order)) ≡ map
+          (next_word net e clock tick.clocks) (registers net)
+      next_too = states_same net t p order is state tick f rest e clock agree_too
 
     to_tree : (shown : List ℕ) (clocks : List (Option ℕ)) (after : List ℕ) → NetAllows net state tick shown clocks after
         → VAllows (in_parts net t p order) state tick shown clocks after
@@ -119,7 +127,7 @@ module _ (net : FlatNet) (t : NameTable) (p : Places) (order : List Read) (is : 
           tree_settled net t p order is state tick f at_rest.rest,
           outputs_same net t p order is a.0 a.1 f (agrees_too a.0 a.1 a.2 f at_rest.rest) ∙ a.3,
           outputs_shown net t p order is state tick f at_rest.rest a.1 (same_clock a.0 a.1 a.2 f at_rest.rest) ∙ a.4,
-          next_is net t p order is state tick f at_rest.rest ∙ ap Some (stored f ∙ next_too a.0 a.1 a.2 f at_rest.rest ∙ a.5),
+          next_is net t p order is state tick f at_rest.rest ∙ ap Some (next_too a.0 a.1 a.2 f at_rest.rest ∙ a.5),
         )
 
   pub parts_allow : (state : List ℕ) (tick : Tick) (shown : List ℕ) (clocks : List (Option ℕ)) (after : List ℕ)

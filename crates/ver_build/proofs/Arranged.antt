@@ -1,4 +1,4 @@
--- The items of the tree of a whole net are arranged, with a block for each register that is driven on a clock.
+-- The items of the tree of a whole net are arranged, with a block for each register that has a reset, or that something drives on a clock.
 use Rattle.std.proofs.Common.{◌≡◌, List, ◌++◌, map, refl, sym}
 use Rattle.std.proofs.lemmas.Simd.{map-map}
 use Rattle.fir_net.specs.declared.reads.Read.{Read}
@@ -8,22 +8,21 @@ use Rattle.ver_ast.specs.declared.tree.Verilog.{Verilog}
 use Rattle.ver_ast.specs.declared.tree.Net.{Net}
 use Rattle.ver_ast.specs.declared.tree.Item.TheVariants as item
 use Rattle.ver_ast.specs.declared.tree.Assign.{Assign}
-use Rattle.ver_ast.specs.declared.tree.Always.{Always}
-use Rattle.ver_ast.specs.Nets.{wires, regs, assigns, clock_assigns}
+use Rattle.ver_ast.specs.Nets.{AlwaysBlock, wires, regs, assigns, clock_assigns}
 use Rattle.ver_build.specs.declared.places.Places.{Places}
-use Rattle.ver_build.specs.Arranged.{reg_item, wire_item, IsArranged}
-use Rattle.ver_build.specs.working.DrivenRegisters.{net_registers, AreMarked}
+use Rattle.ver_build.specs.Arranged.{reg_item, wire_item, block_item, IsArranged}
+use Rattle.ver_build.specs.working.BlockRegisters.{net_registers, AreMarked}
 use Rattle.ver_build.proofs.Premises.{Premises}
 use Rattle.ver_build.proofs.Parts.{registers_of, wires_of, assigns_of, clock_assigns_of, blocks_of, in_parts}
 use Rattle.ver_build.proofs.ItemLists.{net_sized, registers_among, wires_among}
 use Rattle.ver_build.proofs.ClockAssigns.{assigns_are, clock_assigns_are, clock_targets}
 use Rattle.ver_build.proofs.Valid.{all_driven, ordered}
-use Rattle.ver_build.proofs.BlockMarks.{marks, marks_driven, blocks_marked}
+use Rattle.ver_build.proofs.BlockMarks.{marks, marks_blocks, blocks_marked}
 
 -- registers and wires are told by their names and widths
-items_sized : (rs ws : List Net) (xs cs : List Assign) (bs : List Always)
-    → map item.Reg rs ++ (map item.Wire ws ++ (map item.Assign xs ++ (map item.Assign cs ++ map item.Always bs)))
-    ≡ map reg_item (map net_sized rs) ++ (map wire_item (map net_sized ws) ++ (map item.Assign xs ++ (map item.Assign cs ++ map item.Always bs)))
+items_sized : (rs ws : List Net) (xs cs : List Assign) (bs : List AlwaysBlock)
+    → map item.Reg rs ++ (map item.Wire ws ++ (map item.Assign xs ++ (map item.Assign cs ++ map block_item bs)))
+    ≡ map reg_item (map net_sized rs) ++ (map wire_item (map net_sized ws) ++ (map item.Assign xs ++ (map item.Assign cs ++ map block_item bs)))
 items_sized rs ws xs cs bs = rw (map-map reg_item net_sized rs, map-map wire_item net_sized ws) refl
 
 module _ (net : FlatNet) (t : NameTable) (p : Places) (order : List Read) (is : Premises net t p order) where
@@ -31,7 +30,7 @@ module _ (net : FlatNet) (t : NameTable) (p : Places) (order : List Read) (is : 
   v = in_parts net t p order
 
   parts_by_kind : v.items ≡ map reg_item (regs v) ++ (map wire_item (wires v)
-      ++ (map item.Assign (assigns v) ++ (map item.Assign (clock_assigns v) ++ map item.Always (blocks_of net t p order))))
+      ++ (map item.Assign (assigns v) ++ (map item.Assign (clock_assigns v) ++ map block_item (blocks_of net t p order))))
   parts_by_kind =
       let rs = registers_of net t p order in
       let ws = wires_of net t p order in
@@ -49,10 +48,10 @@ module _ (net : FlatNet) (t : NameTable) (p : Places) (order : List Read) (is : 
     assigns_in_order = sym (all_driven net t p order is);
     after_what_is_read = ordered net t p order is;
     clock_assigns_in_order = clock_targets net t p order is;
-    driven = marks net t p order is;
+    with_block = marks net t p order is;
     blocks_in_order = blocks_marked net t p order is;
   }
 
-  pub parts_driven : AreMarked net (net_registers net) parts_arranged.driven
+  pub parts_marked : AreMarked net (net_registers net) parts_arranged.with_block
   unfolding parts_arranged
-  parts_driven = marks_driven net t p order is
+  parts_marked = marks_blocks net t p order is

@@ -1,164 +1,170 @@
--- Each block of the tree is on a clock and drives a register of its width.
--- Where a clock leaf has a clock, its drivers end at that clock input. This has one bit, so it has a name and is a port.
-use Rattle.std.proofs.Common.{◌≡◌, ℕ, List, [], Bool, true, refl, sym, ap, ◌∙◌, inl, subst, arith}
-use Rattle.std.specs.Prelude.{slice_get, Option, Some, None, unwrap_or}
+-- Each block of the tree is sound: it is of a register of its width, and on a clock or under a reset of one bit, or both.
+-- Its names are those of clocks and of nets.
+use Rattle.std.proofs.Common.{◌≡◌, ℕ, ◌≤◌, List, ◌++◌, Bool, refl, sym, ap, inl, ⊎_elim, subst, Option, Some, None}
 use Rattle.std.specs.List.{AllByRecursion}
-use Rattle.std.proofs.lemmas.Option.{slice_get_within}
-use Rattle.fir_base.specs.Lists.{In}
-use Rattle.fir_base.proofs.Elements.{there}
+use Rattle.fir_base.specs.Lists.{In, EachIn}
+use Rattle.fir_base.proofs.Each.{all_at, each_more}
+use Rattle.fir_base.proofs.Members.{in_map, in_left, in_right}
 use Rattle.fir_net.specs.declared.reads.Read.{Read}
-use Rattle.fir_net.specs.declared.reads.Read.TheVariants as read
-use Rattle.fir_net.specs.declared.leaf.Role.{Role}
-use Rattle.fir_net.specs.declared.leaf.Role.TheVariants as role
-use Rattle.fir_net.specs.declared.leaf.Leaf.{Leaf}
+use Rattle.fir_net.specs.declared.leaf.Reset.{Reset}
 use Rattle.fir_net.specs.declared.net.FlatNet.{FlatNet}
+use Rattle.fir_net.specs.working.Counted.{is_register}
+use Rattle.fir_net.specs.working.IsNet.{CanBeDriven}
 use Rattle.fir_net_names.specs.declared.name_table.NameTable.{NameTable}
-use Rattle.fir_net.specs.working.Dependence.{IsOf, Reads}
-use Rattle.fir_net.specs.working.IsNet.{CanBeDriven, IsRole}
-use Rattle.fir_net_names.specs.working.LeafNamed.{name_at}
-use Rattle.fir_net.specs.working.Settled.{clock_driver}
-use Rattle.ver_ast.specs.Nets.{SizedNet, clocks}
+use Rattle.ver_ast.specs.declared.tree.Edge.{Edge}
+use Rattle.ver_ast.specs.ItemNames.{edge_names}
+use Rattle.ver_ast.specs.Nets.{SizedNet, AlwaysBlock, clocks, regs, names_of}
 use Rattle.ver_ast.specs.SoundSides.{HasWidth}
-use Rattle.ver_ast.specs.Valid.{IsPlain}
+use Rattle.ver_ast.specs.Valid.{IsEdge, IsSoundBlock}
+use Rattle.ver_build.specs.declared.held.Source.{Source}
 use Rattle.ver_build.specs.declared.places.Places.{Places}
 use Rattle.ver_build.specs.working.Operands.{atom_at}
-use Rattle.ver_build.specs.working.Places.{held_of, clock_in, place_clock, placed, driven_clock_in}
-use Rattle.ver_build.specs.working.Built.{leaf_block, role_block, block_on}
-use Rattle.ver_build.specs.working.DrivenRegisters.{EndsAtInput, input, handed_on}
-use Rattle.ver_build.proofs.Names.{all_zipped, each_and, each_part}
-use Rattle.ver_build.proofs.AlongOrder.{along_order}
-use Rattle.ver_build.proofs.Premises.{Premises, LeafNamed}
-use Rattle.ver_build.proofs.TableLeaves.{leaf_named}
-use Rattle.ver_build.proofs.OrderedLeaves.{ordered_names, ordered_leaves, ordered_picked}
+use Rattle.ver_build.specs.working.Places.{bit_net, held_of, clock_in}
+use Rattle.ver_build.specs.working.Blocks.{reset_net, edge_on, plain_on, block_on}
+use Rattle.ver_build.specs.working.Built.{order_inners, reset_inners}
+use Rattle.ver_build.proofs.Premises.{Premises}
+use Rattle.ver_build.proofs.OrderedLeaves.{ordered_part}
 use Rattle.ver_build.proofs.Parts.{blocks_of, in_parts}
-use Rattle.fir_net.specs.working.Counted.{is_register}
-use Rattle.ver_build.proofs.LeafKinds.{is_wire, is_clock_input, is_net, sized_if, picked_sized}
-use Rattle.ver_build.proofs.Nets.{sizes, clocks_are, registers_sized, nets_sized}
-use Rattle.ver_build.proofs.Sizes.{IsSized, LeafFact, leaf_is_sized, leaf_facts, unnamed_bits}
+use Rattle.ver_build.proofs.LeafKinds.{is_net, sized_if}
+use Rattle.ver_build.proofs.Nets.{sizes, registers_sized, nets_sized}
+use Rattle.ver_build.proofs.Standing.{IsSource}
+use Rattle.ver_build.proofs.Words.{IsWord, word_edge, register_block, net_inner, net_in, block_of}
+use Rattle.ver_build.proofs.ResetNames.{IsBit, HasNet, bit_source, reset_view}
+use Rattle.ver_build.proofs.Sizes.{IsSized, leaf_is_sized, inner_among}
 use Rattle.ver_build.proofs.OperandAtoms.{atom_fits}
-use Rattle.ver_build.proofs.ReadsStand.{read_stands, leaf_at, leaf_read}
+use Rattle.ver_build.proofs.ReadsStand.{size_at, leaf_at, word_role, word_reset, read_stands}
+use Rattle.ver_build.proofs.Fitting.{BlockAmong, part_among, atom_among}
+use Rattle.ver_build.proofs.ClockEnds.{IsClockInput, ends_at, clock_is_port}
 
--- a clock input, with its name
-pub record IsClockInput (net : FlatNet) (t : NameTable) (k : ℕ) : Type 0 where
-  pub leaf : Leaf
-  pub at : slice_get net.leaves k ≡ Some leaf
-  pub input : leaf.role ≡ role.Clock
-  pub name : List ℕ
-  pub named : name_at t.leaves k ≡ Some name
-
--- a clock leaf whose drivers end at that clock input
-pub record IsClockedBy (net : FlatNet) (t : NameTable) (j k : ℕ) : Type 0 where
-  pub clock : IsClockInput net t k
-  pub ends : EndsAtInput net j
+-- a net of one bit that a value is all of
+bit_among : (ns : List SizedNet) (w : ℕ) (s : Source) (name : List ℕ) → IsSource ns w s → bit_net s ≡ Some name → In ns (name, 1)
+bit_among ns w s name is e = part_among ns w (record { name = name; own = 1; kept = 1 }) (subst (IsSource ns w) (bit_source s name e) is)
 
 module _ (net : FlatNet) (t : NameTable) (p : Places) (order : List Read) (is : Premises net t p order) where
-  -- what the places say of a clock leaf
-  pub clock_at : (k : ℕ) (l : Leaf) → slice_get net.leaves k ≡ Some l
-      → clock_in p.leaves k ≡ place_clock (placed p.leaves p.nodes (name_at t.leaves k) k l.signed l.width l.role)
-  clock_at k l at = ap place_clock (is.places.leaves.each k l at)
+  abbrev ns : List SizedNet
+  ns = sizes net t p order
 
-  pub clock_input : (k : ℕ) (l : Leaf) → slice_get net.leaves k ≡ Some l → l.role ≡ role.Clock → IsClockInput net t k
-  clock_input k l at e = by_name (name_at t.leaves k) refl (leaf_named net is.whole t is.table k l at)
-    where
-      one : l.width ≡ 1
-      one = let driven = (leaf_at net t p order is k l at).driven in rw e at driven
+  pub word_size : (k : ℕ) (w : IsWord net t k) → IsSized (sizes net t p order) w.name w.leaf.width
+  word_size k w =
+      leaf_is_sized ns w.leaf _ (size_at net t p order is k w.leaf w.at) (ap is_net w.register) w.name w.named
 
-      by_name : (n : Option (List ℕ)) → name_at t.leaves k ≡ n → LeafNamed l n → IsClockInput net t k
-      by_name None named has = let none : l.width ≡ 0 = unnamed_bits l (ap is_wire e) has in absurd (omega (arith, one))
-      by_name (Some name) named has = record { leaf = l; at = at; input = e; name = name; named = named }
+  pub registered : (k : ℕ) (w : IsWord net t k) → In (regs (in_parts net t p order)) (w.name, w.leaf.width)
+  registered k w =
+      let given : In (sized_if (is_register w.leaf.role) w.leaf.width (Some w.name)) (w.name, w.leaf.width) =
+      subst (λ (b : Bool). In (sized_if b w.leaf.width (Some w.name)) (w.name, w.leaf.width)) (sym (ap is_register w.register)) (inl refl) in
+      subst (λ (ss : List SizedNet). In ss (w.name, w.leaf.width)) (sym (registers_sized net t p order))
+      (ordered_part net t is.whole is.table (λ l n. sized_if (is_register l.role) l.width n) k w.leaf w.name w.at w.named (w.name, w.leaf.width) given)
 
-  -- where the drivers of a leaf end
-  abbrev Ends : Read → Type 0
-  Ends r = (j k : ℕ) → r ≡ read.Leaf j → clock_in p.leaves j ≡ Some k → IsClockedBy net t j k
+  -- the net of a reset has one bit
+  pub reset_among : (k : ℕ) → In net.state k → (w : IsWord net t k) → (r : Reset) → w.own.reset ≡ Some r → In (sizes net t p order) (reset_net p k r, 1)
+  reset_among k m w r has =
+      ⊎_elim
+      (λ (b : IsBit p k r).
+      let can = (word_reset net t p order is k w r has).condition in
+      subst (λ (n : List ℕ). In ns (n, 1)) (sym b.is)
+      (bit_among ns (held_of p r.condition).width (held_of p r.condition).source b.name (read_stands net t p order is r.condition can).stands.source b.all_of))
+      (λ (h : HasNet p k r).
+      subst (λ (n : List ℕ). In ns (n, 1)) (sym h.is)
+      (inner_among net t p order is (net_inner p r h.name)
+      (in_right (order_inners net p order) (reset_inners net p) (net_inner p r h.name) (net_in net t p k m w r h.name has h.named))))
+      (reset_view net t p order is k m w r has)
 
-  driven_ends : (j : ℕ) (l : Leaf) (r : Role) (c : Option ℕ) (k : ℕ) → slice_get net.leaves j ≡ Some l → l.role ≡ r → clock_driver r ≡ Some c
-      → ((i : ℕ) → c ≡ Some i → Reads net (read.Leaf j) (read.Leaf i)) → ((w : Read) → Reads net (read.Leaf j) w → Ends w)
-      → driven_clock_in p.leaves c ≡ Some k → IsClockedBy net t j k
-  driven_ends j l r None k at e d reads below ends = absurd (cc)
-  driven_ends j l r (Some i) k at e d reads below ends =
-      let first = below (read.Leaf i) (reads i refl) i k refl ends in
-      record { clock = first.clock; ends = handed_on j i l at (ap clock_driver e ∙ d) first.ends }
-
-  role_ends : (j : ℕ) (l : Leaf) (r : Role) (k : ℕ) → slice_get net.leaves j ≡ Some l → l.role ≡ r
-      → ((w : Read) → Reads net (read.Leaf j) w → Ends w) → place_clock (placed p.leaves p.nodes (name_at t.leaves j) j l.signed l.width r) ≡ Some k
-      → IsClockedBy net t j k
-  role_ends j l role.Clock k at e below ends =
-      let same : j ≡ k = cc in
-      record { clock = subst (IsClockInput net t) same (clock_input j l at e); ends = input j l at e }
-  role_ends j l (role.ClockOutput c) k at e below ends =
-      driven_ends j l (role.ClockOutput c) c k at e refl (λ i same. leaf_read net j l (role.ClockOutput c) 0 (read.Leaf i) at e (rw same refl)) below ends
-  role_ends j l (role.ClockWire c) k at e below ends =
-      driven_ends j l (role.ClockWire c) c k at e refl (λ i same. leaf_read net j l (role.ClockWire c) 0 (read.Leaf i) at e (rw same refl)) below ends
-  role_ends j l _ k at e below ends = absurd (cc)
-
-  ends_step : (v : Read) → IsOf net v → ((w : Read) → Reads net v w → Ends w) → Ends v
-  ends_step (read.Leaf i) of below j k e ends =
-      let same : i ≡ j = cc in
-      let l = there net.leaves i of in
-      subst (λ (x : ℕ). IsClockedBy net t x k) same
-      (role_ends i l.0 l.0.role k l.1 refl below (sym (clock_at i l.0 l.1) ∙ ap (clock_in p.leaves) same ∙ ends))
-  ends_step (read.Node i) of below j k e ends = absurd (cc)
-
-  pub ends_at : (j : ℕ) (l : Leaf) (k : ℕ) → slice_get net.leaves j ≡ Some l → clock_in p.leaves j ≡ Some k → IsClockedBy net t j k
-  ends_at j l k at ends = along_order net order is.ordered Ends ends_step (read.Leaf j) (slice_get_within net.leaves j l at) j k refl ends
-
-  -- a clock leaf whose drivers end at a clock input has a clock
-  handed_to : (j : ℕ) (r : Role) (s : Bool) (w k : ℕ) → clock_driver r ≡ Some (Some j)
-      → place_clock (placed p.leaves p.nodes (name_at t.leaves k) k s w r) ≡ clock_in p.leaves j
-  handed_to j (role.ClockOutput c) s w k d = let c_is : c ≡ Some j = cc in ap (driven_clock_in p.leaves) c_is
-  handed_to j (role.ClockWire c) s w k d = let c_is : c ≡ Some j = cc in ap (driven_clock_in p.leaves) c_is
-  handed_to j _ s w k d = absurd (cc)
-
-  pub has_clock : (k : ℕ) → EndsAtInput net k → (c : ℕ) × (clock_in p.leaves k ≡ Some c)
-  has_clock k (input i l at e) =
-      (i, clock_at i l at ∙ ap (λ (r : Role). place_clock (placed p.leaves p.nodes (name_at t.leaves i) i l.signed l.width r)) e)
-  has_clock k (handed_on i j l at d ends) =
-      let first = has_clock j ends in
-      (first.0, clock_at i l at ∙ handed_to j l.role l.signed l.width i d ∙ first.1)
-
-  pub clock_is_port : (k : ℕ) → IsClockInput net t k → In (clocks (in_parts net t p order)) (unwrap_or (name_at t.leaves k) [])
-  clock_is_port k c =
-      rw c.named (subst (λ (ns : List (List ℕ)). In ns c.name) (sym (clocks_are net t p order))
-      (ordered_picked net t is.whole is.table is_clock_input k c.leaf c.name c.at (ap is_clock_input c.input) c.named))
-
-  abbrev Registered : List ℕ → ℕ → Type 0
-  Registered name w = In (picked_sized is_register (ordered_names net t) (ordered_leaves net)) (name, w)
-
-  given_sound : (clock : Option ℕ) (s : Bool) (w : ℕ) (next : Option Read) (name : List ℕ) → IsSized (sizes net t p order) name w → Registered name w
+  -- the edge of a word
+  edge_sound : (clock : Option ℕ) (s : Bool) (width : ℕ) (next : Option Read) (name : List ℕ) → 1 ≤ width → width ≤ 128
       → ((k : ℕ) → clock ≡ Some k → IsClockInput net t k) → CanBeDriven net.leaves net.nodes s next
-      → AllByRecursion (IsPlain (in_parts net t p order)) (block_on t p clock w next name)
-  given_sound None s w next name size m c k = tt
-  given_sound (Some i) s w None name size m c k = tt
-  given_sound (Some i) s w (Some r) name size m c k = (
+      → IsEdge (in_parts net t p order) name width (edge_on t p clock width next name)
+  edge_sound None s width next name one narrow c can = tt
+  edge_sound (Some i) s width None name one narrow c can = tt
+  edge_sound (Some i) s width (Some r) name one narrow c can = (
+    clock_is_port net t p order is i (c i refl),
+    refl,
+    subst (λ (ss : List SizedNet). HasWidth ss width (atom_at width (held_of p r))) (sym (nets_sized net t p order is))
+        (atom_fits ns width (held_of p r) (read_stands net t p order is r can.can).stands one narrow),
+  )
+
+  word_edge_sound : (k : ℕ) (w : IsWord net t k) → IsEdge (in_parts net t p order) w.name w.leaf.width (word_edge net t p k w)
+  word_edge_sound k w =
+      let driven = word_role net t p order is k w in
+      edge_sound (clock_in p.leaves w.own.clock) w.leaf.signed w.leaf.width w.own.next w.name w.some (leaf_at net t p order is k w.leaf w.at).narrow
+      (λ c e. let clock = driven.0 in (ends_at net t p order is w.own.clock clock.0 c clock.1 e).clock) driven.2
+
+  plain_sound : (name : List ℕ) (width : ℕ) (e : Option Edge) → In (regs (in_parts net t p order)) (name, width) → IsEdge (in_parts net t p order) name width e
+      → AllByRecursion (IsSoundBlock (in_parts net t p order)) (plain_on e)
+  plain_sound name width None m sound = tt
+  plain_sound name width (Some e) m sound = (
     record {
-      clocked = clock_is_port i (c i refl);
-      width = w;
-      register = subst (λ (ns : List SizedNet). In ns (name, w)) (sym (registers_sized net t p order)) m;
-      wide =
-          subst (λ (ns : List SizedNet). HasWidth ns w (atom_at w (held_of p r))) (sym (nets_sized net t p order is))
-          (atom_fits (sizes net t p order) w (held_of p r) (read_stands net t p order is r k.can).stands size.one size.narrow);
+      clocked = sound.0;
+      width = width;
+      register = subst (λ (n : List ℕ). In (regs (in_parts net t p order)) (n, width)) (sym sound.1) m;
+      wide = sound.2;
     },
     tt,
   )
 
-  role_sound : (s : Bool) (r : Role) (w : ℕ) (n : Option (List ℕ))
-      → (is_net r ≡ true → (name : List ℕ) → n ≡ Some name → IsSized (sizes net t p order) name w)
-      → ((y : SizedNet) → In (sized_if (is_register r) w n) y → In (picked_sized is_register (ordered_names net t) (ordered_leaves net)) y) → IsRole net.leaves net.nodes s w r
-      → AllByRecursion (IsPlain (in_parts net t p order)) (role_block t p r w n)
-  role_sound s (role.Register r) w None h m k = tt
-  role_sound s (role.Register r) w (Some name) h m k =
-      given_sound (clock_in p.leaves r.clock) s w r.next name (h refl name refl) (m (name, w) (inl refl))
-      (λ c e. let clock = k.0 in (ends_at r.clock clock.0 c clock.1 e).clock) k.2
-  role_sound s _ w n h m k = tt
+  word_sound : (k : ℕ) → In net.state k → (w : IsWord net t k) → (reset : Option Reset) → w.own.reset ≡ reset
+      → AllByRecursion (IsSoundBlock (in_parts net t p order)) (block_on p k w.leaf.width w.name reset (word_edge net t p k w))
+  word_sound k m w None has = plain_sound w.name w.leaf.width (word_edge net t p k w) (registered k w) (word_edge_sound k w)
+  word_sound k m w (Some r) has = (
+    record {
+      bit = subst (λ (ss : List SizedNet). In ss (reset_net p k r, 1)) (sym (nets_sized net t p order is)) (reset_among k m w r has);
+      one_reset = refl;
+      register = registered k w;
+      constant_fits = is.places.inits.fits k w.leaf w.at;
+      clocked = word_edge_sound k w;
+    },
+    tt,
+  )
 
-  pub blocks_sound : AllByRecursion (IsPlain (in_parts net t p order)) (blocks_of net t p order)
-  blocks_sound =
-      let part = λ (l : Leaf) (n : Option (List ℕ)). sized_if (is_register l.role) l.width n in
-      let F = LeafFact net (sizes net t p order) in
-      let M = λ (l : Leaf) (n : Option (List ℕ)). (y : SizedNet) → In (part l n) y → In (picked_sized is_register (ordered_names net t) (ordered_leaves net)) y in
-      let Q = λ (l : Leaf) (n : Option (List ℕ)). F l n × M l n in
-      let facts = leaf_facts net t p order is in
-      let parts = each_part F part (picked_sized is_register (ordered_names net t) (ordered_leaves net)) (ordered_names net t) (ordered_leaves net) facts (λ y m. m) in
-      all_zipped Q (IsPlain (in_parts net t p order)) (leaf_block t p)
-      (λ l n h. role_sound l.signed l.role l.width n (leaf_is_sized (sizes net t p order) l n h.0.0) h.1 h.0.1.driven) (ordered_names net t) (ordered_leaves net)
-      (each_and F M Q (λ l n h k. (h, k)) (ordered_names net t) (ordered_leaves net) facts parts)
+  pub block_sound : (b : AlwaysBlock) → In (blocks_of net t p order) b → IsSoundBlock (in_parts net t p order) b
+  block_sound b m =
+      let o = block_of net t p is.whole is.table b m in
+      all_at (IsSoundBlock (in_parts net t p order)) (register_block net t p o.number o.word) (word_sound o.number o.among o.word o.word.own.reset refl) b o.inside
+
+  -- the names of clocks and of nets
+  abbrev pub block_names : List (List ℕ)
+  block_names = clocks (in_parts net t p order) ++ names_of (sizes net t p order)
+
+  clock_named : (n : List ℕ) → In (clocks (in_parts net t p order)) n → In block_names n
+  clock_named n m = in_left (clocks (in_parts net t p order)) (names_of ns) n m
+
+  net_named : (n : List ℕ) (w : ℕ) → In ns (n, w) → In block_names n
+  net_named n w m = in_right (clocks (in_parts net t p order)) (names_of ns) n (in_map (λ (s : SizedNet). s.0) ns (n, w) m)
+
+  edge_among : (clock : Option ℕ) (s : Bool) (width : ℕ) (next : Option Read) (name : List ℕ) → In block_names name
+      → ((k : ℕ) → clock ≡ Some k → IsClockInput net t k) → CanBeDriven net.leaves net.nodes s next
+      → EachIn (edge_names (edge_on t p clock width next name)) block_names
+  edge_among None s width next name m c can = tt
+  edge_among (Some i) s width None name m c can = tt
+  edge_among (Some i) s width (Some r) name m c can = (
+    clock_named _ (clock_is_port net t p order is i (c i refl)),
+    (
+      m,
+      each_more _ (names_of ns) block_names (λ x n. in_right (clocks (in_parts net t p order)) (names_of ns) x n)
+          (atom_among net t p order is width r can.can),
+    ),
+  )
+
+  word_named : (k : ℕ) (w : IsWord net t k) → In block_names w.name
+  word_named k w = net_named w.name w.leaf.width (word_size k w).among
+
+  word_edge_among : (k : ℕ) (w : IsWord net t k) → EachIn (edge_names (word_edge net t p k w)) block_names
+  word_edge_among k w =
+      let driven = word_role net t p order is k w in
+      edge_among (clock_in p.leaves w.own.clock) w.leaf.signed w.leaf.width w.own.next w.name (word_named k w)
+      (λ c e. let clock = driven.0 in (ends_at net t p order is w.own.clock clock.0 c clock.1 e).clock) driven.2
+
+  plain_among : (e : Option Edge) → EachIn (edge_names e) block_names → AllByRecursion (BlockAmong block_names) (plain_on e)
+  plain_among None h = tt
+  plain_among (Some e) h = (h, tt)
+
+  word_among : (k : ℕ) → In net.state k → (w : IsWord net t k) → (reset : Option Reset) → w.own.reset ≡ reset
+      → AllByRecursion (BlockAmong block_names) (block_on p k w.leaf.width w.name reset (word_edge net t p k w))
+  word_among k m w None has = plain_among (word_edge net t p k w) (word_edge_among k w)
+  word_among k m w (Some r) has =
+      let reset = net_named (reset_net p k r) 1 (reset_among k m w r has) in
+      ((reset, (reset, (word_named k w, word_edge_among k w))), tt)
+
+  pub block_among : (b : AlwaysBlock) → In (blocks_of net t p order) b → BlockAmong (block_names) b
+  block_among b m =
+      let o = block_of net t p is.whole is.table b m in
+      all_at (BlockAmong block_names) (register_block net t p o.number o.word) (word_among o.number o.among o.word o.word.own.reset refl) b o.inside

@@ -25,7 +25,7 @@ use Rattle.ver_build.proofs.Names.{all_zipped}
 use Rattle.ver_build.proofs.Premises.{Premises, Whole}
 use Rattle.ver_build.proofs.OrderedLeaves.{ordered_names, ordered_leaves, ordered_whole}
 use Rattle.ver_build.proofs.Parts.{clock_assigns_of, in_parts}
-use Rattle.ver_build.proofs.Blocks.{IsClockInput, ends_at, clock_is_port}
+use Rattle.ver_build.proofs.ClockEnds.{IsClockInput, ends_at, clock_is_port}
 
 abbrev pub ShowsClock : Verilog → Assign → Type 0
 ShowsClock v a = IsClockSide v a.rhs

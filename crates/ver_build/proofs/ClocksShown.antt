@@ -32,7 +32,7 @@ use Rattle.ver_build.proofs.LeafKinds.{is_clock_output, name_if}
 use Rattle.ver_build.proofs.LeafLists.{same_lists}
 use Rattle.ver_build.proofs.Nets.{output_clocks_are}
 use Rattle.ver_build.proofs.ReadsStand.{leaf_at}
-use Rattle.ver_build.proofs.Blocks.{IsClockInput, clock_at, clock_is_port}
+use Rattle.ver_build.proofs.ClockEnds.{IsClockInput, clock_at, clock_is_port}
 use Rattle.ver_build.proofs.ClockAssigns.{clock_assigns_are, clock_targets_once}
 use Rattle.ver_build.proofs.ClockSides.{driven_input}
 use Rattle.ver_build.proofs.NextStates.{shown_clock}

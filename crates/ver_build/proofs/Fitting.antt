@@ -1,13 +1,13 @@
--- Each assign of the tree is sound beside its target's width, and assigns and blocks name only nets.
+-- Each assign of the tree is sound beside its target's width, and assigns name only nets.
 -- An inner net has the width of its value, and what drives an output is taken at the width of its leaf.
-use Rattle.std.proofs.Common.{◌≡◌, ℕ, ◌≤◌, List, [], ◌∷◌, ◌++◌, map, Bool, true, false, refl, ap, inl, inr, ⊎_elim, subst, arith}
+use Rattle.std.proofs.Common.{◌≡◌, ℕ, ◌≤◌, List, [], ◌∷◌, ◌++◌, map, Bool, true, false, refl, sym, ap, inl, inr, ⊎_elim, subst, arith}
 use Rattle.std.specs.Prelude.{Option, Some, None, if◌then◌else◌}
 use Rattle.std.specs.List.{AllByRecursion}
 use Rattle.std.specs.Str.{bytes_eq}
 use Rattle.std.proofs.lemmas.Slice.Eq.{bytes_eq-Decides}
 use Rattle.fir_base.specs.Lists.{In, EachIn}
 use Rattle.fir_base.proofs.Each.{all_at, all_from, all_joined, all_mapped, each_joined, each_more}
-use Rattle.fir_base.proofs.Members.{in_map}
+use Rattle.fir_base.proofs.Members.{in_map, in_either}
 use Rattle.fir_net.specs.declared.reads.Read.{Read}
 use Rattle.fir_net.specs.declared.leaf.Role.{Role}
 use Rattle.fir_net.specs.declared.leaf.Role.TheVariants as role
@@ -16,14 +16,14 @@ use Rattle.fir_net.specs.declared.node.Node.TheVariants as node
 use Rattle.fir_net.specs.declared.net.FlatNet.{FlatNet}
 use Rattle.fir_net_names.specs.declared.name_table.NameTable.{NameTable}
 use Rattle.fir_net.specs.working.Dependence.{support_of}
-use Rattle.fir_net.specs.working.IsNet.{CanRead, CanBeDriven, IsRole, IsNode}
+use Rattle.fir_net.specs.working.IsNet.{CanRead, IsRole, IsNode}
 use Rattle.ver_ast.specs.declared.tree.Assign.{Assign}
-use Rattle.ver_ast.specs.declared.tree.Always.{Always}
 use Rattle.ver_ast.specs.Names.{atom_names, rhs_names}
-use Rattle.ver_ast.specs.ItemNames.{rhs_arrays}
+use Rattle.ver_ast.specs.ItemNames.{item_names, rhs_arrays}
 use Rattle.ver_build.proofs.SideValues.{reads_no_array}
 use Rattle.ver_ast.specs.SoundSides.{IsSoundSide}
-use Rattle.ver_ast.specs.Nets.{SizedNet, width_among, names_of}
+use Rattle.ver_ast.specs.Nets.{SizedNet, AlwaysBlock, width_among, names_of}
+use Rattle.ver_build.specs.Arranged.{block_item}
 use Rattle.ver_build.specs.declared.held.Part.{Part}
 use Rattle.ver_build.specs.declared.held.Source.{Source}
 use Rattle.ver_build.specs.declared.held.Source.TheVariants as source
@@ -31,12 +31,12 @@ use Rattle.ver_build.specs.declared.held.Held.{Held}
 use Rattle.ver_build.specs.declared.places.Places.{Places}
 use Rattle.ver_build.specs.working.Operands.{atom_at}
 use Rattle.ver_build.specs.declared.right_sides.Inner.{Inner}
-use Rattle.ver_build.specs.working.Places.{held_of, clock_in, source_name, node_at}
-use Rattle.ver_build.specs.working.Built.{inners, node_inners, inner_assign, leaf_assign, role_assign, leaf_block, role_block, block_on}
+use Rattle.ver_build.specs.working.Places.{held_of, source_name, node_at}
+use Rattle.ver_build.specs.working.Built.{inners, order_inners, reset_inners, node_inners, inner_assign, leaf_assign, role_assign}
 use Rattle.ver_build.proofs.Names.{zipped, all_zipped}
 use Rattle.ver_build.proofs.Premises.{Premises}
 use Rattle.ver_build.proofs.OrderedLeaves.{ordered_names, ordered_leaves}
-use Rattle.ver_build.proofs.Parts.{assigns_of, blocks_of}
+use Rattle.ver_build.proofs.Parts.{assigns_of}
 use Rattle.ver_build.proofs.LeafKinds.{is_net}
 use Rattle.ver_build.proofs.Nets.{sizes}
 use Rattle.ver_build.proofs.Standing.{IsPart, IsSource, IsKnown, ReadsInTurn}
@@ -44,7 +44,8 @@ use Rattle.ver_build.proofs.OperandAtoms.{atom_fits}
 use Rattle.ver_build.proofs.OperandNames.{atom_known}
 use Rattle.ver_build.proofs.NodeMeaning.{operation_reads, choice_reads}
 use Rattle.ver_build.proofs.Sizes.{IsSized, LeafFact, leaf_is_sized, leaf_facts, inner_of, inners_among}
-use Rattle.ver_build.proofs.ReadsStand.{whole_at, read_stands}
+use Rattle.ver_build.proofs.Words.{net_of}
+use Rattle.ver_build.proofs.ReadsStand.{whole_at, word_reset, read_stands}
 use Rattle.ver_build.proofs.InnersSound.{inner_sound, inner_size}
 
 -- target and reads are among these names
@@ -55,8 +56,9 @@ pub record Among (all : List (List ℕ)) (name : List ℕ) (reads : List (List �
 abbrev pub AssignAmong : List (List ℕ) → Assign → Type 0
 AssignAmong all a = Among all a.target (rhs_arrays a.rhs ++ rhs_names a.rhs)
 
-abbrev pub BlockAmong : List (List ℕ) → Always → Type 0
-BlockAmong all b = Among all b.target (atom_names b.source)
+-- each name of a block is among these
+abbrev pub BlockAmong : List (List ℕ) → AlwaysBlock → Type 0
+BlockAmong all b = EachIn (item_names (block_item b)) all
 
 -- the target has a width, and the right side is sound beside it in a tree without arrays
 abbrev pub FitsTarget : List SizedNet → Assign → Type 0
@@ -140,8 +142,11 @@ module _ (net : FlatNet) (t : NameTable) (p : Places) (order : List Read) (is : 
   reads_known [] h = tt
   reads_known (r ∷ rs) h = (read_known r h.0, reads_known rs h.1)
 
-  inner_reads : (i : Inner) → In (inners net p order) i → EachIn (rhs_names i.rhs) (names_of ns)
-  inner_reads i m =
+  pub atom_among : (w : ℕ) (r : Read) → CanRead net.leaves net.nodes r → EachIn (atom_names (atom_at w (held_of p r))) (names_of (sizes net t p order))
+  atom_among w r can = atom_known (names_of ns) w (held_of p r) (read_known r can)
+
+  order_reads : (i : Inner) → In (order_inners net p order) i → EachIn (rhs_names i.rhs) (names_of ns)
+  order_reads i m =
       let o = inner_of net t p order is i m in
       let whole = whole_at net t p order is o.number o.node o.at in
       let xs = node_inners p o.node (node_at p.nodes o.number).helpers o.netted.name in
@@ -152,15 +157,23 @@ module _ (net : FlatNet) (t : NameTable) (p : Places) (order : List Read) (is : 
       (all_reads (names_of ns) (names_of ns) xs (λ x k. k)
       (λ j k. named j.name j.width (inner_size net t p order is j (inners_among net t p order is o.number o.node o.netted o.at j k))) turn) i o.inside
 
+  inner_reads : (i : Inner) → In (inners net p order) i → EachIn (rhs_names i.rhs) (names_of ns)
+  inner_reads i m =
+      ⊎_elim
+      (λ (o : In (order_inners net p order) i). order_reads i o)
+      (λ (r : In (reset_inners net p) i).
+      let o = net_of net t p is.whole is.table i r in
+      let can = (word_reset net t p order is o.number o.word o.reset o.has).condition in
+      subst (λ (j : Inner). EachIn (rhs_names j.rhs) (names_of ns)) (sym o.is)
+      (each_joined (atom_names (atom_at 1 (held_of p o.reset.condition))) [] (names_of ns) (atom_among 1 o.reset.condition can) tt))
+      (in_either (order_inners net p order) (reset_inners net p) i m)
+
   inner_fits : (i : Inner) → In (inners net p order) i → Fits ns (inner_assign i)
   inner_fits i m =
       let size = inner_size net t p order is i m in
       let sound = inner_sound net t p order is i m in
       let no_array = reads_no_array ns i.width i.rhs sound.side in
       ((i.width, size.among, sound.side), record { target = named i.name i.width size; sources = rw no_array (inner_reads i m) })
-
-  atom_among : (w : ℕ) (r : Read) → CanRead net.leaves net.nodes r → EachIn (atom_names (atom_at w (held_of p r))) (names_of ns)
-  atom_among w r can = atom_known (names_of ns) w (held_of p r) (read_known r can)
 
   role_fits : (s : Bool) (r : Role) (w : ℕ) (n : Option (List ℕ)) → (is_net r ≡ true → (name : List ℕ) → n ≡ Some name → IsSized ns name w)
       → IsRole net.leaves net.nodes s w r
@@ -189,22 +202,3 @@ module _ (net : FlatNet) (t : NameTable) (p : Places) (order : List Read) (is : 
 
   pub assigns_name_nets : AllByRecursion (AssignAmong (names_of ns)) (assigns_of net t p order)
   assigns_name_nets = second_of (FitsTarget ns) (AssignAmong (names_of ns)) (assigns_of net t p order) all_fit
-
-  given_among : (clock : Option ℕ) (s : Bool) (w : ℕ) (next : Option Read) (name : List ℕ) → IsSized ns name w
-      → CanBeDriven net.leaves net.nodes s next → AllByRecursion (BlockAmong (names_of ns)) (block_on t p clock w next name)
-  given_among None s w next name size k = tt
-  given_among (Some c) s w None name size k = tt
-  given_among (Some c) s w (Some r) name size k = (record { target = named name w size; sources = atom_among w r k.can }, tt)
-
-  block_among : (s : Bool) (r : Role) (w : ℕ) (n : Option (List ℕ)) → (is_net r ≡ true → (name : List ℕ) → n ≡ Some name → IsSized ns name w)
-      → IsRole net.leaves net.nodes s w r
-      → AllByRecursion (BlockAmong (names_of ns)) (role_block t p r w n)
-  block_among s (role.Register r) w None h k = tt
-  block_among s (role.Register r) w (Some name) h k = given_among (clock_in p.leaves r.clock) s w r.next name (h refl name refl) k.2
-  block_among s _ w n h k = tt
-
-  pub blocks_name_nets : AllByRecursion (BlockAmong (names_of ns)) (blocks_of net t p order)
-  blocks_name_nets =
-      all_zipped (LeafFact net ns) (BlockAmong (names_of ns)) (leaf_block t p)
-      (λ l n h. block_among l.signed l.role l.width n (leaf_is_sized ns l n h.0) h.1.driven) (ordered_names net t) (ordered_leaves net)
-      (leaf_facts net t p order is)

@@ -21,7 +21,7 @@ among (n ∷ names) x (inr m) = or_true (bytes_eq n x) (is_among names x) (among
     or_true true b h = refl
     or_true false b h = h
 
-not_true : (b : Bool) → not b ≡ true → b ≡ true → ⊥
+pub not_true : (b : Bool) → not b ≡ true → b ≡ true → ⊥
 not_true true h k = cc
 not_true false h k = cc
 

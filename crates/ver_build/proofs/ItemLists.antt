@@ -7,10 +7,13 @@ use Rattle.fir_base.specs.Words.{is_among}
 use Rattle.ver_ast.specs.declared.tree.Net.{Net}
 use Rattle.ver_ast.specs.declared.tree.Assign.{Assign}
 use Rattle.ver_ast.specs.declared.tree.Always.{Always}
+use Rattle.ver_ast.specs.declared.tree.Resetting.{Resetting}
+use Rattle.ver_ast.specs.declared.tree.Writing.{Writing}
 use Rattle.ver_ast.specs.declared.tree.Item.{Item}
 use Rattle.ver_ast.specs.declared.tree.Item.TheVariants as item
-use Rattle.ver_ast.specs.Nets.{SizedNet, plain_block, wire_net, reg_net, item_net, item_array, item_assign, item_clock_assign, item_block}
+use Rattle.ver_ast.specs.Nets.{SizedNet, AlwaysBlock, plain_block, resetting_block, writing_block, wire_net, reg_net, item_net, item_array, item_assign, item_clock_assign, item_block}
 use Rattle.ver_ast.proofs.Chosen.{is_named, in_or_not}
+use Rattle.ver_build.specs.Arranged.{block_item}
 use Rattle.ver_build.specs.working.Built.{items}
 
 abbrev pub net_sized : Net → SizedNet
@@ -36,6 +39,18 @@ same_map : {A : Type 0} → (xs : List A) → map (λ (x : A). x) xs ≡ xs
 same_map [] = refl
 same_map (x ∷ xs) = ap (λ ys. x ∷ ys) (same_map xs)
 
+-- what blocks give that no item of a block gives
+block_gives : {C : Type 0} → (f : Item → List C) → ((b : Always) → f (item.Always b) ≡ []) → ((b : Resetting) → f (item.Resetting b) ≡ [])
+    → ((b : Writing) → f (item.Writing b) ≡ []) → (b : AlwaysBlock) → f (block_item b) ≡ []
+block_gives f x y z (plain_block b) = x b
+block_gives f x y z (resetting_block b) = y b
+block_gives f x y z (writing_block b) = z b
+
+one_block : (b : AlwaysBlock) → item_block (block_item b) ≡ b ∷ []
+one_block (plain_block b) = refl
+one_block (resetting_block b) = refl
+one_block (writing_block b) = refl
+
 -- a name that is among others, or is none of them
 one_if : (outs : List (List ℕ)) (a : Assign) → In outs a.target → item_assign outs (item.Assign a) ≡ []
 one_if outs a m = let among : is_among outs a.target ≡ true = is_named outs a.target m in rw among refl
@@ -51,10 +66,10 @@ clock_unless : (outs : List (List ℕ)) (a : Assign) → (In outs a.target → �
 clock_unless outs a n =
     ⊎_elim (λ (m : In outs a.target). absurd (n m)) (λ (e : is_among outs a.target ≡ false). rw e refl) (in_or_not outs a.target)
 
-module _ (rs ws : List Net) (xs cs : List Assign) (bs : List Always) where
+module _ (rs ws : List Net) (xs cs : List Assign) (bs : List AlwaysBlock) where
   by_parts : {C : Type 0} → (f : Item → List C)
       → flat_map f (items rs ws xs cs bs) ≡ flat_map f (map item.Reg rs) ++
-      (flat_map f (map item.Wire ws) ++ (flat_map f (map item.Assign xs) ++ (flat_map f (map item.Assign cs) ++ flat_map f (map item.Always bs))))
+      (flat_map f (map item.Wire ws) ++ (flat_map f (map item.Assign xs) ++ (flat_map f (map item.Assign cs) ++ flat_map f (map block_item bs))))
   by_parts f = simp flat_map-append
 
   pub registers_among : flat_map reg_net (items rs ws xs cs bs) ≡ map net_sized rs
@@ -63,7 +78,7 @@ module _ (rs ws : List Net) (xs cs : List Assign) (bs : List Always) where
         none_of reg_net item.Wire (λ x. refl) ws,
         none_of reg_net item.Assign (λ x. refl) xs,
         none_of reg_net item.Assign (λ x. refl) cs,
-        none_of reg_net item.Always (λ x. refl) bs,
+        none_of reg_net block_item (block_gives reg_net (λ b. refl) (λ b. refl) (λ b. refl)) bs,
       )
       (append-nil (flat_map reg_net (map item.Reg rs)) ∙ each_of reg_net item.Reg net_sized (λ x. refl) rs)
 
@@ -73,7 +88,7 @@ module _ (rs ws : List Net) (xs cs : List Assign) (bs : List Always) where
         none_of wire_net item.Reg (λ x. refl) rs,
         none_of wire_net item.Assign (λ x. refl) xs,
         none_of wire_net item.Assign (λ x. refl) cs,
-        none_of wire_net item.Always (λ x. refl) bs,
+        none_of wire_net block_item (block_gives wire_net (λ b. refl) (λ b. refl) (λ b. refl)) bs,
       )
       (append-nil (flat_map wire_net (map item.Wire ws)) ∙ each_of wire_net item.Wire net_sized (λ x. refl) ws)
 
@@ -82,7 +97,7 @@ module _ (rs ws : List Net) (xs cs : List Assign) (bs : List Always) where
       by_parts item_net ∙ rw (
         none_of item_net item.Assign (λ x. refl) xs,
         none_of item_net item.Assign (λ x. refl) cs,
-        none_of item_net item.Always (λ x. refl) bs,
+        none_of item_net block_item (block_gives item_net (λ b. refl) (λ b. refl) (λ b. refl)) bs,
         each_of item_net item.Reg net_sized (λ x. refl) rs,
         each_of item_net item.Wire net_sized (λ x. refl) ws,
       )
@@ -96,7 +111,7 @@ module _ (rs ws : List Net) (xs cs : List Assign) (bs : List Always) where
           none_of (item_assign outs) item.Reg (λ x. refl) rs,
           none_of (item_assign outs) item.Wire (λ x. refl) ws,
           none_among (item_assign outs) item.Assign cs (λ a m. one_if outs a (own a m)),
-          none_of (item_assign outs) item.Always (λ x. refl) bs,
+          none_of (item_assign outs) block_item (block_gives (item_assign outs) (λ b. refl) (λ b. refl) (λ b. refl)) bs,
         )
         (append-nil (flat_map (item_assign outs) (map item.Assign xs))
         ∙ each_among (item_assign outs) item.Assign (λ x. x) xs (λ a m. one_unless outs a (others a m)) ∙ same_map xs)
@@ -107,7 +122,7 @@ module _ (rs ws : List Net) (xs cs : List Assign) (bs : List Always) where
           none_of (item_clock_assign outs) item.Reg (λ x. refl) rs,
           none_of (item_clock_assign outs) item.Wire (λ x. refl) ws,
           none_among (item_clock_assign outs) item.Assign xs (λ a m. clock_unless outs a (others a m)),
-          none_of (item_clock_assign outs) item.Always (λ x. refl) bs,
+          none_of (item_clock_assign outs) block_item (block_gives (item_clock_assign outs) (λ b. refl) (λ b. refl) (λ b. refl)) bs,
         )
         (append-nil (flat_map (item_clock_assign outs) (map item.Assign cs))
         ∙ each_among (item_clock_assign outs) item.Assign (λ x. x) cs (λ a m. clock_if outs a (own a m)) ∙ same_map cs)
@@ -119,11 +134,11 @@ module _ (rs ws : List Net) (xs cs : List Assign) (bs : List Always) where
         none_of item_array item.Wire (λ x. refl) ws,
         none_of item_array item.Assign (λ x. refl) xs,
         none_of item_array item.Assign (λ x. refl) cs,
-        none_of item_array item.Always (λ x. refl) bs,
+        none_of item_array block_item (block_gives item_array (λ b. refl) (λ b. refl) (λ b. refl)) bs,
       )
       refl
 
-  pub blocks_among : flat_map item_block (items rs ws xs cs bs) ≡ map plain_block bs
+  pub blocks_among : flat_map item_block (items rs ws xs cs bs) ≡ bs
   blocks_among =
       by_parts item_block ∙ rw (
         none_of item_block item.Reg (λ x. refl) rs,
@@ -131,4 +146,4 @@ module _ (rs ws : List Net) (xs cs : List Assign) (bs : List Always) where
         none_of item_block item.Assign (λ x. refl) xs,
         none_of item_block item.Assign (λ x. refl) cs,
       )
-      (each_of item_block item.Always plain_block (λ x. refl) bs)
+      (each_of item_block block_item (λ x. x) one_block bs ∙ same_map bs)

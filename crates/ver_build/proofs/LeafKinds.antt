@@ -1,7 +1,8 @@
 -- Kinds of leaves, by their roles, and what the leaves of a kind give: their names, and these with their widths.
 -- Where the others stand behind ports, what the ports give and then what the others give is what all leaves give in order.
-use Rattle.std.proofs.Common.{◌≡◌, ℕ, List, [], ◌∷◌, ◌++◌, Bool, true, false, not, ◌&&◌, nat_eq, refl, ap, ◌∙◌, append_assoc}
+use Rattle.std.proofs.Common.{◌≡◌, ℕ, List, [], ◌∷◌, ◌++◌, Bool, true, false, not, ◌&&◌, ◌||◌, nat_eq, refl, ap, ◌∙◌, append_assoc}
 use Rattle.std.specs.Prelude.{Option, Some, None, MatchBool}
+use Rattle.std.specs.Option.{is_some}
 use Rattle.fir_net.specs.declared.reads.Read.{Read}
 use Rattle.fir_net.specs.declared.leaf.Role.{Role}
 use Rattle.fir_net.specs.declared.leaf.Role.TheVariants as role
@@ -54,10 +55,15 @@ abbrev pub is_clocked : Option ℕ → Option Read → Bool
 is_clocked (Some k) (Some r) = true
 is_clocked _ _ = false
 
--- a register that something drives on a clock
+-- a register that has a block: one with a reset, or one that something drives on a clock
 abbrev pub is_written : (ℕ → Option ℕ) → Role → Bool
-is_written clock (role.Register r) = is_clocked (clock r.clock) r.next
+is_written clock (role.Register r) = is_some r.reset || is_clocked (clock r.clock) r.next
 is_written clock _ = false
+
+-- a register with a reset
+abbrev pub is_reset : Role → Bool
+is_reset (role.Register r) = is_some r.reset
+is_reset _ = false
 
 abbrev pub name_if : Bool → Option (List ℕ) → List (List ℕ)
 name_if false n = []

@@ -41,10 +41,6 @@ plain_output : (r : Role) → is_output r ≡ true → is_clock r ≡ false
 plain_output (role.Output r) e = refl
 plain_output _ e = absurd (cc)
 
-pub plain_register : (r : Role) → is_register r ≡ true → is_clock r ≡ false
-plain_register (role.Register r) e = refl
-plain_register _ e = absurd (cc)
-
 one_value : (e : ℕ → ℕ) (f : Env) (b : Bool) (w k : ℕ) (n : Option (List ℕ)) → (b ≡ true → BitsNamed w n)
     → (b ≡ true → (name : List ℕ) → n ≡ Some name → f name ≡ e k) → map f (name_if b n) ≡ map e (number_if b w k)
 one_value e f false w k n bits same = refl
@@ -91,9 +87,6 @@ module _ (net : FlatNet) (t : NameTable) (p : Places) (order : List Read) (is : 
     outputs_same =
         ap (λ (s : List SizedNet). map f (names_of s)) (outputs_sized net t p order) ∙ ap (map f) (picked_names is_output (ordered_names net t) (ordered_leaves net))
         ∙ values_same e f is_output output_number output_is output_plain output_port (λ k l n at q. agrees.value k l n at (plain_output l.role q))
-
-    pub words_same : map f (names_of (regs (in_parts net t p order))) ≡ map e (registers net)
-    words_same = registers_same e f (λ k l n at q. agrees.value k l n at (plain_register l.role q))
 
     one_clock : (s : Bool) (r : Role) (w k : ℕ) (n : Option (List ℕ)) → RoleNamed r w n → IsRole net.leaves net.nodes s w r
         → (r ≡ role.Clock → (name : List ℕ) → n ≡ Some name → Some (f name) ≡ clock k)

@@ -1,5 +1,6 @@
 -- What is built along leaves, or along an order, with one more.
-use Rattle.std.proofs.Common.{◌≡◌, ℕ, ◌+◌, ◌<◌, List, [], ◌∷◌, ◌++◌, Option, Some, None, take, length, get_or, flat_map, map, refl, sym, ap, ◌∙◌, append_assoc, append-nil, arith, length-take}
+use Rattle.std.proofs.Common.{◌≡◌, ℕ, ◌+◌, ◌<◌, List, [], ◌∷◌, ◌++◌, Option, Some, None, take, length, get_or, flat_map, map, refl, sym, ap, ◌∙◌, inl, inr, append_assoc, append-nil, arith, length-take}
+use Rattle.fir_base.specs.Lists.{In}
 use Rattle.std.specs.Prelude.{slice_get}
 use Rattle.std.proofs.lemmas.List.{take_more, map-append}
 use Rattle.std.proofs.lemmas.List.Concat.{flat_map-append}
@@ -61,3 +62,21 @@ mapped_numbers {B} {C} g f names leaves (k ∷ ks) =
     map-append g (at_number f names leaves k) (at_numbers f names leaves ks)
     ∙ ap (λ (ys : List C). ys ++ map g (at_numbers f names leaves ks)) (mapped_leaf g f (slice_get leaves k) (name_at names k))
     ∙ ap (λ (ys : List C). at_number (λ l n. map g (f l n)) names leaves k ++ ys) (mapped_numbers g f names leaves ks)
+
+-- what is made of each part
+pub flat_mapped : {A B C : Type 0} → (g : B → C) (f : A → List B) (h : A → List C) → ((x : A) → map g (f x) ≡ h x) → (xs : List A)
+    → map g (flat_map f xs) ≡ flat_map h xs
+flat_mapped g f h e [] = refl
+flat_mapped g f h e (x ∷ xs) =
+    map-append g (f x) (flat_map f xs) ∙ ap (λ ys. ys ++ map g (flat_map f xs)) (e x) ∙ ap (λ ys. h x ++ ys) (flat_mapped g f h e xs)
+
+-- parts that are the same for each member
+pub flat_same : {A B : Type 0} → (f g : A → List B) (xs : List A) → ((x : A) → In xs x → f x ≡ g x) → flat_map f xs ≡ flat_map g xs
+flat_same f g [] e = refl
+flat_same {A} {B} f g (x ∷ xs) e =
+    ap (λ (ys : List B). ys ++ flat_map f xs) (e x (inl refl)) ∙ ap (λ (ys : List B). g x ++ ys) (flat_same f g xs (λ y m. e y (inr m)))
+
+-- parts of parts
+pub flat_parts : {A B C : Type 0} → (g : B → List C) (f : A → List B) (xs : List A) → flat_map g (flat_map f xs) ≡ flat_map (λ x. flat_map g (f x)) xs
+flat_parts g f [] = refl
+flat_parts {A} {B} {C} g f (x ∷ xs) = flat_map-append g (f x) (flat_map f xs) ∙ ap (λ (ys : List C). flat_map g (f x) ++ ys) (flat_parts g f xs)

@@ -22,7 +22,7 @@ use Rattle.ver_build.proofs.Premises.{Premises}
 use Rattle.ver_build.proofs.Parts.{built_in_parts}
 use Rattle.ver_build.proofs.Named.{parts_named}
 use Rattle.ver_build.proofs.Valid.{parts_valid}
-use Rattle.ver_build.proofs.Arranged.{parts_arranged, parts_driven}
+use Rattle.ver_build.proofs.Arranged.{parts_arranged, parts_marked}
 use Rattle.ver_build.proofs.Shapes.{built_shape}
 use Rattle.ver_build.proofs.Allows.{parts_one, parts_allow}
 
@@ -39,7 +39,7 @@ builds values types one_choice one_rest net t p order whole writable ordered tab
     (record {
       named = parts_named net t p order is;
       arranged = parts_arranged net t p order is;
-      driven = parts_driven net t p order is;
+      with_blocks = parts_marked net t p order is;
       valid = valid;
       shapes = shapes;
       one = parts_one net t p order is valid shapes;

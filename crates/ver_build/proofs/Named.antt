@@ -16,17 +16,15 @@ use Rattle.ver_words.specs.Names.{IsName}
 use Rattle.ver_ast.specs.declared.tree.Port.{Port}
 use Rattle.ver_ast.specs.declared.tree.Net.{Net}
 use Rattle.ver_ast.specs.declared.tree.Assign.{Assign}
-use Rattle.ver_ast.specs.declared.tree.Always.{Always}
 use Rattle.ver_ast.specs.declared.tree.Item.TheVariants as item
-use Rattle.ver_ast.specs.Nets.{SizedNet, Variable, variable_names, names_of, widths_of, clocks, port_nets, regs, wires}
-use Rattle.ver_ast.specs.Names.{atom_names, rhs_names}
-use Rattle.ver_ast.specs.ItemNames.{rhs_arrays}
-use Rattle.ver_ast.specs.Spells.{HasItemNames, HasNames}
-use Rattle.ver_ast.specs.Valid.{IsPlain}
+use Rattle.ver_ast.specs.Nets.{SizedNet, AlwaysBlock, plain_block, resetting_block, writing_block, Variable, variable_names, names_of, widths_of, clocks, port_nets, regs, wires}
+use Rattle.ver_ast.specs.Names.{rhs_names}
+use Rattle.ver_ast.specs.ItemNames.{item_names, rhs_arrays}
+use Rattle.ver_ast.specs.Spells.{AreVerilogNames, HasItemNames, HasNames}
 use Rattle.fir_net.specs.Rows.{array_names, row_names, word_names}
 use Rattle.fir_net.specs.working.Rows.{net_arrays, net_rows, net_words}
 use Rattle.ver_build.specs.declared.places.Places.{Places}
-use Rattle.ver_build.specs.working.Places.{inner_names}
+use Rattle.ver_build.specs.Arranged.{block_item}
 use Rattle.ver_build.specs.working.Built.{inners, leaf_port}
 use Rattle.ver_build.specs.Ports.{port_names}
 use Rattle.ver_build.specs.NamedFor.{IsNamedFor, leaf_names}
@@ -38,10 +36,10 @@ use Rattle.ver_build.proofs.LeafKinds.{is_clock_input, is_clock_output, is_net, 
 use Rattle.ver_build.proofs.Picked.{picked_named}
 use Rattle.ver_build.proofs.Nets.{inner_name, inner_sized, sizes, clocks_are, registers_sized, wires_sized, no_arrays, nets_by_part, sizes_named, leaf_names_are}
 use Rattle.ver_build.proofs.InnerNames.{are_inner}
-use Rattle.ver_build.proofs.NodeNets.{inners_named}
-use Rattle.ver_build.proofs.Fitting.{AssignAmong, BlockAmong, assigns_name_nets, blocks_name_nets}
+use Rattle.ver_build.proofs.ResetNames.{inners_numbered, inners_spelled}
+use Rattle.ver_build.proofs.Fitting.{AssignAmong, assigns_name_nets}
 use Rattle.ver_build.proofs.TextOrder.{net_name}
-use Rattle.ver_build.proofs.Blocks.{blocks_sound}
+use Rattle.ver_build.proofs.Blocks.{block_among}
 use Rattle.ver_build.proofs.Driven.{clock_targets_are}
 use Rattle.ver_build.proofs.ClockSides.{ShowsClock, side_names, clocks_shown}
 use Rattle.ver_build.proofs.Shapes.{register_widths}
@@ -52,7 +50,7 @@ module _ (net : FlatNet) (t : NameTable) (p : Places) (order : List Read) (is : 
   inside = map inner_name (inners net p order)
 
   spelled : AllByRecursion IsName (map inner_name (inners net p order))
-  spelled = let nodes = is.places.nodes in rw (inners_named net p nodes.held order) nodes.spelled
+  spelled = inners_spelled net t p order is
 
   abbrev all_names : List (List ℕ)
   all_names = names_of (sizes net t p order)
@@ -99,22 +97,23 @@ module _ (net : FlatNet) (t : NameTable) (p : Places) (order : List Read) (is : 
       let among = all_at (AssignAmong all_names) (assigns_of net t p order) (assigns_name_nets net t p order is) a m in
       (tt, (net_is_name a.target among.target, all_among IsName (rhs_arrays a.rhs ++ rhs_names a.rhs) all_names nets_are_names among.sources))
 
-  block_names : (b : Always) → In (blocks_of net t p order) b → HasItemNames (item.Always b)
-  block_names b m =
-      let among = all_at (BlockAmong all_names) (blocks_of net t p order) (blocks_name_nets net t p order is) b m in
-      let sound = all_at (IsPlain (in_parts net t p order)) (blocks_of net t p order) (blocks_sound net t p order is) b m in
-      let clock = subst (λ (ns : List (List ℕ)). In ns b.clock) (clocks_are net t p order) sound.clocked in (
-        tt,
-        (
-          leaf_is_name b.clock (picked_named is_clock_input (ordered_names net t) (ordered_leaves net) b.clock clock),
-          (net_is_name b.target among.target, all_among IsName (atom_names b.source) all_names nets_are_names among.sources),
-        ),
-      )
-
   clock_is_name : (x : List ℕ) → In (clocks (in_parts net t p order)) x → IsName x
   clock_is_name x m =
       leaf_is_name x
       (picked_named is_clock_input (ordered_names net t) (ordered_leaves net) x (subst (λ (ns : List (List ℕ)). In ns x) (clocks_are net t p order) m))
+
+  -- a block declares nothing
+  block_has : (b : AlwaysBlock) → AreVerilogNames (item_names (block_item b)) → HasItemNames (block_item b)
+  block_has (plain_block b) h = (tt, h)
+  block_has (resetting_block b) h = (tt, h)
+  block_has (writing_block b) h = (tt, h)
+
+  blocks_have : (b : AlwaysBlock) → In (blocks_of net t p order) b → HasItemNames (block_item b)
+  blocks_have b m =
+      let clocks_of = clocks (in_parts net t p order) in
+      block_has b
+      (all_among IsName (item_names (block_item b)) (clocks_of ++ all_names)
+      (all_joined IsName clocks_of all_names (all_from IsName clocks_of clock_is_name) nets_are_names) (block_among net t p order is b m))
 
   clock_assign_names : (a : Assign) → In (clock_assigns_of net t p order) a → HasItemNames (item.Assign a)
   clock_assign_names a m =
@@ -142,15 +141,15 @@ module _ (net : FlatNet) (t : NameTable) (p : Places) (order : List Read) (is : 
         of_module = is.circuit;
         of_ports = all_from (λ (q : Port). IsName q.name) (in_parts net t p order).ports port_name;
         of_items =
-            all_joined HasItemNames (map item.Reg rs) (map item.Wire ws ++ (map item.Assign xs ++ (map item.Assign cs ++ map item.Always bs)))
+            all_joined HasItemNames (map item.Reg rs) (map item.Wire ws ++ (map item.Assign xs ++ (map item.Assign cs ++ map block_item bs)))
             (all_mapped HasItemNames item.Reg rs (all_from (λ w. HasItemNames (item.Reg w)) rs (λ w m. ((register_name w m, tt), tt))))
-            (all_joined HasItemNames (map item.Wire ws) (map item.Assign xs ++ (map item.Assign cs ++ map item.Always bs))
+            (all_joined HasItemNames (map item.Wire ws) (map item.Assign xs ++ (map item.Assign cs ++ map block_item bs))
             (all_mapped HasItemNames item.Wire ws (all_from (λ w. HasItemNames (item.Wire w)) ws (λ w m. ((wire_name w m, tt), tt))))
-            (all_joined HasItemNames (map item.Assign xs) (map item.Assign cs ++ map item.Always bs)
+            (all_joined HasItemNames (map item.Assign xs) (map item.Assign cs ++ map block_item bs)
             (all_mapped HasItemNames item.Assign xs (all_from (λ a. HasItemNames (item.Assign a)) xs assign_names))
-            (all_joined HasItemNames (map item.Assign cs) (map item.Always bs)
+            (all_joined HasItemNames (map item.Assign cs) (map block_item bs)
             (all_mapped HasItemNames item.Assign cs (all_from (λ a. HasItemNames (item.Assign a)) cs clock_assign_names))
-            (all_mapped HasItemNames item.Always bs (all_from (λ b. HasItemNames (item.Always b)) bs block_names)))));
+            (all_mapped HasItemNames block_item bs (all_from (λ b. HasItemNames (block_item b)) bs blocks_have)))));
       }
 
   all_names_are : leaf_names (in_parts net t p order) ≡ somes (ordered_names net t)
@@ -161,9 +160,8 @@ module _ (net : FlatNet) (t : NameTable) (p : Places) (order : List Read) (is : 
   wires_inner : AreInner (leaf_names (in_parts net t p order)) 0 (names_of (wires (in_parts net t p order)))
   wires_inner =
       rw (all_names_are, wires_sized net t p order, map-map (λ (s : SizedNet). s.0) inner_sized (inners net p order))
-      (let nodes = is.places.nodes in rw (inners_named net p nodes.held order)
-      (are_inner (somes (ordered_names net t)) 0 nodes.last (inner_names net p.nodes order)
-      (ordered_inner net t is.whole is.table 0 nodes.last (inner_names net p.nodes order) nodes.named)))
+      (are_inner (somes (ordered_names net t)) 0 is.places.resets.last (map inner_name (inners net p order))
+      (ordered_inner net t is.whole is.table 0 is.places.resets.last (map inner_name (inners net p order)) (inners_numbered net t p order is)))
 
   pub parts_named : IsNamedFor net.name (net_rows net) (net_words net) (net_arrays net) (in_parts net t p order)
   parts_named = record {

@@ -1,65 +1,80 @@
 -- Where values are at rest in a tree, they are settled in its net, and in the tree.
 -- A leaf has the number of where it is, and a clock leaf that of the clock input at which its drivers end.
-use Rattle.std.proofs.Common.{◌≡◌, ℕ, ◌≤◌, List, [], map, Bool, true, false, not, ◌&&◌, nat_eq, refl, sym, ap, ◌∙◌, ⊎_elim, subst, Option, Some, None, unwrap_or, slice_index}
+use Rattle.std.proofs.Common.{◌≡◌, ℕ, ◌≤◌, List, [], map, Bool, true, false, not, ◌&&◌, ◌==◌, nat_eq, if◌then◌else◌, refl, sym, ap, ◌∙◌, ⊎_elim, subst, arith, Option, Some, None, unwrap_or, slice_index}
 use Rattle.std.specs.Prelude.{slice_get, IsSome}
 use Rattle.fir_base.specs.Lists.{In}
 use Rattle.fir_base.specs.Ticks.{Env, Tick, Shape, HasShape}
 use Rattle.fir_base.proofs.Each.{all_at}
-use Rattle.fir_base.proofs.Members.{in_map_from}
-use Rattle.fir_base.proofs.Elements.{beside}
+use Rattle.fir_base.proofs.Members.{in_left, in_right, in_either, in_map_from}
+use Rattle.fir_base.proofs.Elements.{beside, get_in}
 use Rattle.fir_net.specs.declared.reads.Read.{Read}
+use Rattle.fir_net.specs.declared.leaf.Reset.{Reset}
 use Rattle.fir_net.specs.declared.leaf.Register.{Register}
 use Rattle.fir_net.specs.declared.leaf.Role.{Role}
 use Rattle.fir_net.specs.declared.leaf.Role.TheVariants as role
 use Rattle.fir_net.specs.declared.leaf.Leaf.{Leaf}
 use Rattle.fir_net.specs.declared.net.FlatNet.{FlatNet}
 use Rattle.fir_net_names.specs.declared.name_table.NameTable.{NameTable}
+use Rattle.fir_bits.specs.Values.{fitted}
+use Rattle.fir_bits.specs.declared.types.NumTy.{NumTy}
+use Rattle.ver_build.proofs.SignedNumbers.{fitted-own}
+use Rattle.fir_inits.specs.working.InitValues.{init_at}
 use Rattle.fir_net.specs.working.Values.{at_width}
 use Rattle.fir_net.specs.working.IsNet.{CanRead, IsRole}
-use Rattle.fir_net.specs.working.IsWritable.{IsWritableRole}
 use Rattle.fir_net_names.specs.working.LeafNamed.{name_at}
-use Rattle.fir_net.specs.working.Settled.{value_at, is_clock, driver, clock_driver, driven_clock, shown, Settled, clocks, registers, shape as net_shape}
+use Rattle.fir_net.specs.working.Settled.{value_at, is_clock, driver, clock_driver, driven_clock, is_high, shown, shown_by, Settled, clocks, registers, shape as net_shape}
 use Rattle.fir_net.specs.working.Next.{next_word}
-use Rattle.fir_net.proofs.Places.{value_at_place}
 use Rattle.ver_ast.specs.declared.tree.Assign.{Assign}
 use Rattle.ver_ast.specs.declared.tree.Rhs.{Rhs}
 use Rattle.ver_ast.specs.declared.tree.Rhs.TheVariants as rhs
 use Rattle.ver_ast.specs.Atoms.{AtomTree}
-use Rattle.ver_ast.specs.Nets.{SizedNet, variables, regs, assigns, clocks as v_clocks, shape as v_shape}
-use Rattle.ver_ast.specs.Stores.{store_of}
-use Rattle.ver_ast.specs.Processes.{Process, assigning, processes, wanted}
+use Rattle.ver_ast.specs.Nets.{SizedNet, variables, regs, resets, assigns, clocks as v_clocks, shape as v_shape}
+use Rattle.ver_ast.specs.Stores.{store_of, stored}
+use Rattle.ver_ast.specs.Processes.{Process, assigning, showing, processes, wanted}
 use Rattle.ver_ast.specs.AtomValues.{atom_value}
 use Rattle.ver_build.proofs.SideValues.{side_value}
 use Rattle.ver_ast.specs.Settled.{Rest, VSettled}
-use Rattle.ver_build.proofs.Written.{written}
 use Rattle.ver_ast.proofs.Widths.{declared_width}
+use Rattle.ver_build.specs.declared.held.Source.{Source}
+use Rattle.ver_build.specs.declared.held.Held.{Held}
 use Rattle.ver_build.specs.declared.places.Places.{Places}
 use Rattle.ver_build.specs.declared.right_sides.Inner.{Inner}
-use Rattle.ver_build.specs.working.Held.{held_number, own_held, fit}
+use Rattle.ver_build.specs.working.Held.{held_number, own_held, whole_net, fit}
 use Rattle.ver_build.specs.working.Operands.{atom_at}
-use Rattle.ver_build.specs.working.Places.{place_value, place_clock, placed, held_of, node_at, clock_in, driven_clock_in}
-use Rattle.ver_build.specs.working.Built.{inners, node_inners, inner_assign}
+use Rattle.ver_build.specs.working.Places.{bit_net, place_value, place_clock, placed, held_of, node_at, clock_in, driven_clock_in}
+use Rattle.ver_build.specs.working.Blocks.{reset_net}
+use Rattle.ver_build.specs.working.Built.{inners, order_inners, reset_inners, node_inners, inner_assign}
 use Rattle.ver_build.proofs.Premises.{Premises}
 use Rattle.ver_build.proofs.TableLeaves.{leaf_named}
-use Rattle.ver_build.proofs.Parts.{blocks_of, in_parts}
+use Rattle.ver_build.proofs.Parts.{in_parts}
 use Rattle.ver_build.proofs.LeafKinds.{is_wire, has_name, is_net}
 use Rattle.ver_build.proofs.Nets.{sizes}
-use Rattle.ver_build.proofs.Resting.{only_assigns, fits_target, side_is, registers_hold}
+use Rattle.ver_build.proofs.Words.{IsWord, word_at, net_inner, net_in, net_of}
+use Rattle.ver_build.proofs.ResetNames.{IsBit, HasNet, bit_source, reset_view}
+use Rattle.ver_build.proofs.Resting.{words, words_after, fits_target, side_is, word_state, plain_shows, reset_shows}
 use Rattle.ver_build.proofs.Fitted.{fit_holds, whole_holds}
 use Rattle.ver_build.proofs.OperandAtoms.{atom_means}
-use Rattle.ver_build.proofs.Sizes.{IsSized, leaf_is_sized, inner_of, inner_declared, sizes_once}
-use Rattle.ver_build.proofs.ReadsStand.{leaf_at, size_at}
-use Rattle.ver_build.proofs.Blocks.{clock_at}
-use Rattle.ver_build.proofs.Assigns.{OutputAssign, output_assign_in, assign_from}
-use Rattle.ver_build.proofs.LeafValues.{AgreesLeaves, inputs_same, clocks_same, words_same}
-use Rattle.ver_build.proofs.NextStates.{shown_clock, states_same}
-use Rattle.ver_build.proofs.NodeValues.{leaf_values, nets_below, equation, leaves_fit, read_holds, node_valued}
+use Rattle.ver_build.proofs.Sizes.{IsSized, leaf_is_sized, inner_among, inner_of, inner_declared, sizes_once}
+use Rattle.ver_build.proofs.ReadsStand.{leaf_at, size_at, word_kind, word_reset}
+use Rattle.ver_build.proofs.ClockEnds.{clock_at}
+use Rattle.ver_build.proofs.Blocks.{reset_among}
+use Rattle.ver_build.proofs.Assigns.{OutputAssign, inner_assign_in, output_assign_in, assign_from}
+use Rattle.ver_build.proofs.LeafValues.{AgreesLeaves, inputs_same, clocks_same}
+use Rattle.ver_build.proofs.NextStates.{shown_clock, Agrees, states_same}
+use Rattle.ver_build.proofs.SameConstants.{same_constant}
+use Rattle.ver_build.proofs.NodeValues.{leaf_values, nets_below, equation, has_type, leaves_fit, read_holds, node_valued}
 
 abbrev pub leaf_clocks : NameTable → Places → Env → ℕ → Option ℕ
 leaf_clocks t p f k = shown_clock t f (clock_in p.leaves k)
 
 some_atom : (ns : List SizedNet) (f : Env) (w : ℕ) (a : AtomTree) (r : Rhs) → rhs.Atom a ≡ r → IsSome (side_value ns f w r)
 some_atom ns f w a r same = subst (λ (x : Rhs). IsSome (side_value ns f w x)) same refl
+
+-- a value of one bit that is all of a net
+bit_whole : (h : Held) (name : List ℕ) → h.width ≡ 1 → bit_net h.source ≡ Some name → h ≡ whole_net name h.signed 1
+bit_whole h name one e =
+    ap (λ (w : ℕ). record { signed = h.signed; width = w; source = h.source }) one
+    ∙ ap (λ (x : Source). record { signed = h.signed; width = 1; source = x }) (bit_source h.source name e)
 
 module _ (net : FlatNet) (t : NameTable) (p : Places) (order : List Read) (is : Premises net t p order) (state : List ℕ) (tick : Tick) (f : Env)
     (rest : Rest (in_parts net t p order) state tick f) where
@@ -175,41 +190,127 @@ module _ (net : FlatNet) (t : NameTable) (p : Places) (order : List Read) (is : 
       → leaf_clocks t p f k ≡ driven_clock (leaf_clocks t p f) c
   clocks_driven k l c at drives = ap (shown_clock t f) (clock_at net t p order is k l at) ∙ role_clock k l.signed l.width l.role c drives
 
-  registers_show : (n k : ℕ) (l : Leaf) (r : Register) → slice_get (registers net) n ≡ Some k → slice_get net.leaves k ≡ Some l
-      → l.role ≡ role.Register r
-      → leaf_values p f k ≡ shown net (leaf_values p f) l.width r.reset (slice_index state n)
-  registers_show n k l r at leaf same =
-      let plain : IsWritableRole (role.Register r) = subst IsWritableRole same (is.writable.leaves k l leaf) in
-      let words : map (leaf_values p f) (registers net) ≡ state =
-      sym (words_same net t p order is (leaf_values p f) (leaf_clocks t p f) f agrees) ∙ registers_hold net t p order is state tick f rest in
-      value_at_place (leaf_values p f) (registers net) state words n k at
-      ∙ sym (ap (λ reset. shown net (leaf_values p f) l.width reset (slice_index state n)) plain)
+  -- a reset's net has the value of its condition
+  condition_bit : (k : ℕ) (w : IsWord net t k) (r : Reset) → w.own.reset ≡ Some r → (value_at net (leaf_values p f) r.condition).value.width ≡ 1
+  condition_bit k w r has =
+      let reset = word_reset net t p order is k w r has in
+      ap (λ (u : NumTy). u.width) (has_type net t p order is state tick f rest r.condition reset.condition).is ∙ ap (λ (u : NumTy). u.width) reset.has_one_bit
+
+  own_bit : (k : ℕ) → In net.state k → (w : IsWord net t k) → (r : Reset) → w.own.reset ≡ Some r → (name : List ℕ) → name_at p.resets k ≡ Some name
+      → f name ≡ (value_at net (leaf_values p f) r.condition).value.number
+  own_bit k m w r has name named =
+      let i = net_inner p r name in
+      let v = value_at net (leaf_values p f) r.condition in
+      let among =
+      in_right (order_inners net p order) (reset_inners net p) i (net_in net t p k m w r name has named) in
+      equation net t p order is state tick f rest (inner_assign i) 1 (inner_assign_in net t p order is i among) (inner_among net t p order is i among)
+      ∙ source_value r.condition (word_reset net t p order is k w r has).condition 1 (omega arith) (omega arith)
+      ∙ ap (λ (n : ℕ). fitted v.signed n v.value.number 1) (condition_bit k w r has) ∙ fitted-own v.signed 1 v.value.number
+
+  whole_bit : (k : ℕ) → In net.state k → (w : IsWord net t k) → (r : Reset) → w.own.reset ≡ Some r → (b : IsBit p k r)
+      → f b.name ≡ (value_at net (leaf_values p f) r.condition).value.number
+  whole_bit k m w r has b =
+      let h = held_of p r.condition in
+      let holds = read_holds net t p order is state tick f rest r.condition (word_reset net t p order is k w r has).condition in
+      let whole = bit_whole h b.name (holds.standing.width ∙ condition_bit k w r has) b.all_of in
+      let among : In ns (b.name, 1) = subst (λ (n : List ℕ). In ns (n, 1)) b.is (reset_among net t p order is k m w r has) in
+      let own =
+      whole_holds ns f b.name h.signed 1 (omega arith) (omega arith) (declared_width ns (sizes_once net t p order is) b.name 1 among)
+      (nets_below net t p order is state tick f rest b.name 1 among) in
+      sym own.number ∙ ap (held_number f) (sym whole) ∙ holds.number
+
+  pub reset_value : (k : ℕ) → In net.state k → (w : IsWord net t k) → (r : Reset) → w.own.reset ≡ Some r
+      → f (reset_net p k r) ≡ (value_at net (leaf_values p f) r.condition).value.number
+  reset_value k m w r has =
+      ⊎_elim
+      (λ (b : IsBit p k r). ap f b.is ∙ whole_bit k m w r has b)
+      (λ (h : HasNet p k r). ap f h.is ∙ own_bit k m w r has h.name h.named)
+      (reset_view net t p order is k m w r has)
+
+  pub agree : Agrees net t p order (leaf_values p f) (leaf_clocks t p f) f
+  agree = record { leaves = agrees; clocks = λ k l at c. refl; sources = source_value; resets = reset_value }
 
   -- the states after the tick
-  pub next_state : map (λ (r : SizedNet). written ns f tick.clocks (blocks_of net t p order) r.0) (regs (in_parts net t p order)) ≡ map
+  pub next_state : map (λ (r : SizedNet). stored (words_after net t p order is state tick f rest) r.0) (regs (in_parts net t p order)) ≡ map
       (next_word net (leaf_values p f) (leaf_clocks t p f) tick.clocks) (registers net)
-  next_state = states_same net t p order is (leaf_values p f) (leaf_clocks t p f) f agrees (λ k l at c. refl) source_value tick.clocks
+  next_state = states_same net t p order is state tick f rest (leaf_values p f) (leaf_clocks t p f) agree
 
-  pub net_settled : v_shape (in_parts net t p order) ≡ net_shape net → Settled net state tick (leaf_values p f) (leaf_clocks t p f)
-  net_settled shapes = record {
-    shaped = subst (λ (s : Shape). HasShape s state tick) shapes rest.begins.shaped;
-    fits = (leaves_fit net t p order is state tick f rest).each;
-    input_values = sym (inputs_same net t p order is (leaf_values p f) (leaf_clocks t p f) f agrees) ∙ rest.begins.input_values;
-    registers_show = registers_show;
-    driven = driven;
-    clock_inputs = clock_inputs;
-    clocks_driven = clocks_driven;
-  }
+  module _ (shapes : v_shape (in_parts net t p order) ≡ net_shape net) where
+    shaped : HasShape (net_shape net) state tick
+    shaped = subst (λ (s : Shape). HasShape s state tick) shapes rest.begins.shaped
 
-  inner_valued : (i : Inner) (w : ℕ) → In (inners net p order) i → In ns (i.name, w) → IsSome (side_value ns f w i.rhs)
-  inner_valued i w m n =
+    -- the inits are the constants, as those of the net's settled values are
+    init_value : (k : ℕ) (w : IsWord net t k) (r : Reset) → w.own.reset ≡ Some r
+        → at_width (value_at net (leaf_values p f) r.init) w.leaf.width ≡ init_at p.inits k
+    init_value k w r has =
+        let one = is.laws.one_choice net order is.whole is.ordered state tick shaped in
+        let kind = word_kind net t p order is k w r has in
+        let constant = is.writable.inits.each k w.leaf w.own r w.at w.register has kind in
+        ap (λ v. at_width v w.leaf.width)
+        (same_constant net t p order is (leaf_values p f) one.env (record { each = driven }) (record { each = one.settled.driven }) r.init constant
+        (word_reset net t p order is k w r has).init.can)
+        ∙ is.places.inits.each k w.leaf w.own r w.at w.register has kind constant state tick one.env one.clock one.settled
+
+    word_shows : (n k : ℕ) → slice_get (registers net) n ≡ Some k → (m : In net.state k) → (w : IsWord net t k) → (reset : Option Reset) → w.own.reset ≡ reset
+        → leaf_values p f k ≡ shown net (leaf_values p f) w.leaf.width reset (slice_index state n)
+    word_shows n k at m w None none =
+        sym (agrees.value k w.leaf w.name w.at (ap is_clock w.register) w.named) ∙ plain_shows net t p order is state tick f rest k w none
+        ∙ word_state net t p order is state tick f rest n k w.name at w.named
+    word_shows n k at m w (Some r) has =
+        let kind = word_kind net t p order is k w r has in
+        let word = slice_index state n in
+        let either = λ (b : Bool) (x y : ℕ). if b then x else y in
+        sym (agrees.value k w.leaf w.name w.at (ap is_clock w.register) w.named) ∙ reset_shows net t p order is state tick f rest k m w r has
+        ∙ ap (λ (x : ℕ). either (x == 1) (init_at p.inits k) (stored (words net t p order is state tick f rest) w.name)) (reset_value k m w r has)
+        ∙ ap (λ (x : ℕ). either (is_high net (leaf_values p f) r.condition) x (stored (words net t p order is state tick f rest) w.name))
+        (sym (init_value k w r has))
+        ∙ ap (either (is_high net (leaf_values p f) r.condition) (at_width (value_at net (leaf_values p f) r.init) w.leaf.width))
+        (word_state net t p order is state tick f rest n k w.name at w.named)
+        ∙ sym (ap (λ x. shown_by net (leaf_values p f) w.leaf.width x r.condition r.init word) kind)
+
+    registers_show : (n k : ℕ) (l : Leaf) (r : Register) → slice_get (registers net) n ≡ Some k → slice_get net.leaves k ≡ Some l
+        → l.role ≡ role.Register r
+        → leaf_values p f k ≡ shown net (leaf_values p f) l.width r.reset (slice_index state n)
+    registers_show n k l r at leaf same =
+        let m = get_in (registers net) n k at in
+        let w = word_at net t is.whole is.table k m in
+        let there = w.at in
+        let own = w.register in
+        let one_leaf : w.leaf ≡ l = cc in
+        let one : w.own ≡ r = let e : role.Register w.own ≡ role.Register r = sym own ∙ ap (λ (x : Leaf). x.role) one_leaf ∙ same in cc in
+        word_shows n k at m w w.own.reset refl
+        ∙ ap (λ (x : Leaf). shown net (leaf_values p f) x.width w.own.reset (slice_index state n)) one_leaf
+        ∙ ap (λ (x : Register). shown net (leaf_values p f) l.width x.reset (slice_index state n)) one
+
+    pub net_settled : Settled net state tick (leaf_values p f) (leaf_clocks t p f)
+    net_settled = record {
+      shaped = shaped;
+      fits = (leaves_fit net t p order is state tick f rest).each;
+      input_values = sym (inputs_same net t p order is (leaf_values p f) (leaf_clocks t p f) f agrees) ∙ rest.begins.input_values;
+      registers_show = registers_show;
+      driven = driven;
+      clock_inputs = clock_inputs;
+      clocks_driven = clocks_driven;
+    }
+
+  order_valued : (i : Inner) (w : ℕ) → In (order_inners net p order) i → In ns (i.name, w) → IsSome (side_value ns f w i.rhs)
+  order_valued i w m n =
       let o = inner_of net t p order is i m in
       let xs = node_inners p o.node (node_at p.nodes o.number).helpers o.netted.name in
       let once = sizes_once net t p order is in
-      let width : i.width ≡ w = sym (inner_declared net t p order is i m) ∙ declared_width ns once i.name w n in
+      let declared = inner_declared net t p order is i (in_left (order_inners net p order) (reset_inners net p) i m) in
+      let width : i.width ≡ w = sym declared ∙ declared_width ns once i.name w n in
       subst (λ (v : ℕ). IsSome (side_value ns f v i.rhs)) width
       (all_at (λ (j : Inner). IsSome (side_value ns f j.width j.rhs)) xs
       (node_valued net t p order is state tick f rest o.number o.node o.netted o.at) i o.inside)
+
+  inner_valued : (i : Inner) (w : ℕ) → In (inners net p order) i → In ns (i.name, w) → IsSome (side_value ns f w i.rhs)
+  inner_valued i w m n =
+      ⊎_elim
+      (λ (o : In (order_inners net p order) i). order_valued i w o n)
+      (λ (r : In (reset_inners net p) i).
+      let o = net_of net t p is.whole is.table i r in some_atom ns f w (atom_at 1 (held_of p o.reset.condition)) i.rhs (ap (λ (j : Inner). j.rhs) (sym o.is)))
+      (in_either (order_inners net p order) (reset_inners net p) i m)
 
   valued : (a : Assign) (w : ℕ) → In (assigns (in_parts net t p order)) a → In ns (a.target, w) → IsSome (side_value ns f w a.rhs)
   valued a w m n =
@@ -222,11 +323,16 @@ module _ (net : FlatNet) (t : NameTable) (p : Places) (order : List Read) (is : 
   process_valued : (q : Process) → In (processes (in_parts net t p order)) q
       → IsSome (wanted (in_parts net t p order) (store_of (variables (in_parts net t p order)) state) f q)
   process_valued q m =
-      let a = in_map_from assigning (assigns (in_parts net t p order)) q
-      (subst (λ (qs : List Process). In qs q) (only_assigns net t p order is state tick f rest) m) in
+      let xs = assigns (in_parts net t p order) in
+      let bs = resets (in_parts net t p order) in
+      let Valued = λ (q : Process). IsSome (wanted (in_parts net t p order) (store_of (variables (in_parts net t p order)) state) f q) in
+      ⊎_elim
+      (λ (i : In (map assigning xs) q).
+      let a = in_map_from assigning xs q i in
       let sized = fits_target net t p order is state tick f rest a.0 a.1 in
-      subst (λ (q : Process). IsSome (wanted (in_parts net t p order) (store_of (variables (in_parts net t p order)) state) f q)) a.2
-      (subst IsSome (sym (side_is net t p order is state tick f rest a.0 sized.0 a.1 sized.1)) (valued a.0 sized.0 a.1 sized.1))
+      subst Valued a.2 (subst IsSome (sym (side_is net t p order is state tick f rest a.0 sized.0 a.1 sized.1)) (valued a.0 sized.0 a.1 sized.1)))
+      (λ (o : In (map showing bs) q). let b = in_map_from showing bs q o in subst Valued b.2 refl)
+      (in_either (map assigning xs) (map showing bs) q m)
 
   pub tree_settled : VSettled (in_parts net t p order) state tick f
   tree_settled = record {

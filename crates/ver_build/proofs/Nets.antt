@@ -14,7 +14,7 @@ use Rattle.fir_net.specs.working.IsNet.{is_port}
 use Rattle.fir_net_names.specs.working.LeafNamed.{somes, with_some}
 use Rattle.ver_ast.specs.declared.tree.Net.{Net}
 use Rattle.ver_ast.specs.declared.tree.Port.{Port}
-use Rattle.ver_ast.specs.Nets.{SizedNet, plain_block, port_net, input_net, output_net, input_clock, output_clock, output_clocks, item_net, input_nets, output_nets, clocks, port_nets, wires, regs, nets, arrays, blocks, names_of}
+use Rattle.ver_ast.specs.Nets.{SizedNet, port_net, input_net, output_net, input_clock, output_clock, output_clocks, item_net, input_nets, output_nets, clocks, port_nets, wires, regs, nets, arrays, blocks, names_of}
 use Rattle.ver_build.specs.declared.places.Places.{Places}
 use Rattle.ver_build.specs.declared.right_sides.Inner.{Inner}
 use Rattle.ver_build.specs.working.Built.{inners, leaf_port, port_of, leaf_reg, role_reg, inner_wire}
@@ -187,7 +187,7 @@ module _ (net : FlatNet) (t : NameTable) (p : Places) (order : List Read) where
   pub no_arrays : arrays (in_parts net t p order) ≡ []
   no_arrays = arrays_among (registers_of net t p order) (wires_of net t p order) (assigns_of net t p order) (clock_assigns_of net t p order) (blocks_of net t p order)
 
-  pub blocks_are : blocks (in_parts net t p order) ≡ map plain_block (blocks_of net t p order)
+  pub blocks_are : blocks (in_parts net t p order) ≡ blocks_of net t p order
   blocks_are = blocks_among (registers_of net t p order) (wires_of net t p order) (assigns_of net t p order) (clock_assigns_of net t p order) (blocks_of net t p order)
 
   -- the names of the nets

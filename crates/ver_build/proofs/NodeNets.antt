@@ -1,9 +1,8 @@
 -- The nets of a node, from where it is held.
 -- A literal has none, and neither has a node of no bits; every other one has a net of its own, and those before it.
-use Rattle.std.proofs.Common.{◌≡◌, ℕ, ◌≤◌, List, [], ◌∷◌, ◌++◌, map, flat_map, length, Bool, true, false, nat_eq, refl, sym, ap, ◌∙◌, inl, inr, ◌⊎◌, ⊎_elim, arith, Option, Some, None}
+use Rattle.std.proofs.Common.{◌≡◌, ℕ, ◌≤◌, List, [], ◌∷◌, ◌++◌, map, length, Bool, true, false, nat_eq, refl, sym, ap, ◌∙◌, inl, inr, ◌⊎◌, ⊎_elim, arith, Option, Some, None}
 use Rattle.std.specs.Prelude.{slice_get, MatchBool}
 use Rattle.std.proofs.lemmas.Bool.{eqb-true, eqb-false}
-use Rattle.std.proofs.lemmas.List.{map-append}
 use Rattle.fir_base.specs.Lists.{In}
 use Rattle.fir_bits.specs.declared.operators.PrimOp.{PrimOp}
 use Rattle.fir_bits.specs.declared.operators.PrimOp.TheVariants as op
@@ -26,7 +25,8 @@ use Rattle.ver_build.specs.working.Held.{whole_net, own_held, held_literal}
 use Rattle.ver_build.specs.declared.right_sides.Inner.{Inner}
 use Rattle.ver_build.specs.working.Texts.{operation_inners}
 use Rattle.ver_build.specs.working.Places.{held_of, IsNodePlace, AreNodesHeld, inner_names, node_at, node_names, node_names_at, read_names, source_name, node_helpers}
-use Rattle.ver_build.specs.working.Built.{inners, node_inners, placed_inners, inners_at, read_inners}
+use Rattle.ver_build.specs.working.Built.{order_inners, node_inners, placed_inners, inners_at, read_inners}
+use Rattle.ver_build.proofs.Lists.{flat_mapped}
 use Rattle.ver_build.proofs.NodeMeaning.{operation_names}
 use Rattle.ver_build.proofs.Nets.{inner_name}
 
@@ -143,13 +143,6 @@ given_named p n at is =
     o)
     (node_view p n at is)
 
--- what is made of each part
-flat_mapped : {A B C : Type 0} → (g : B → C) (f : A → List B) (h : A → List C) → ((x : A) → map g (f x) ≡ h x) → (xs : List A)
-    → map g (flat_map f xs) ≡ flat_map h xs
-flat_mapped g f h e [] = refl
-flat_mapped g f h e (x ∷ xs) =
-    map-append g (f x) (flat_map f xs) ∙ ap (λ ys. ys ++ map g (flat_map f xs)) (e x) ∙ ap (λ ys. h x ++ ys) (flat_mapped g f h e xs)
-
 module _ (net : FlatNet) (p : Places) (held : AreNodesHeld net p.nodes) where
   read_named : (r : Read) → map inner_name (read_inners net p r) ≡ read_names net p.nodes r
   read_named (read.Leaf k) = refl
@@ -160,6 +153,6 @@ module _ (net : FlatNet) (p : Places) (held : AreNodesHeld net p.nodes) where
       by_node None e = refl
       by_node (Some n) e = given_named p n (node_at p.nodes k) (held.each k n e)
 
-  -- the inner nets have the inner names
-  pub inners_named : (order : List Read) → map inner_name (inners net p order) ≡ inner_names net p.nodes order
-  inners_named order = flat_mapped inner_name (read_inners net p) (read_names net p.nodes) read_named order
+  -- the nets of nodes have the inner names
+  pub order_named : (order : List Read) → map inner_name (order_inners net p order) ≡ inner_names net p.nodes order
+  order_named order = flat_mapped inner_name (read_inners net p) (read_names net p.nodes) read_named order

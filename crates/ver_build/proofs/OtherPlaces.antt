@@ -27,7 +27,7 @@ arranged_too v places h = record {
   assigns_in_order = h.assigns_in_order;
   after_what_is_read = h.after_what_is_read;
   clock_assigns_in_order = h.clock_assigns_in_order;
-  driven = h.driven;
+  with_block = h.with_block;
   blocks_in_order = h.blocks_in_order;
 }
 
@@ -37,7 +37,7 @@ has_any_places same net v places h =
     record {
       named = named_too _ _ _ _ v places h.named;
       arranged = arranged_too v places h.arranged;
-      driven = h.driven;
+      with_blocks = h.with_blocks;
       valid = alike.0.0 h.valid;
       shapes = h.shapes;
       one = alike.1.0 h.one;

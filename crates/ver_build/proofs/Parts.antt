@@ -1,4 +1,4 @@
--- The tree of a net in parts: ports, then registers, wires, assigns and blocks, those of leaves along the names in their order.
+-- The tree of a net in parts: ports, then registers, wires, assigns and blocks, those of leaves along the names in their order, and blocks in that of the state.
 use Rattle.std.proofs.Common.{◌≡◌, ℕ, List, [], ◌++◌, map, true, false, refl}
 use Rattle.std.specs.Prelude.{Option, Some, None}
 use Rattle.fir_net.specs.declared.reads.Read.{Read}
@@ -13,10 +13,10 @@ use Rattle.ver_ast.specs.declared.tree.Verilog.{Verilog}
 use Rattle.ver_ast.specs.declared.tree.Port.{Port}
 use Rattle.ver_ast.specs.declared.tree.Net.{Net}
 use Rattle.ver_ast.specs.declared.tree.Assign.{Assign}
-use Rattle.ver_ast.specs.declared.tree.Always.{Always}
+use Rattle.ver_ast.specs.Nets.{AlwaysBlock}
 use Rattle.ver_build.specs.declared.places.Places.{Places}
 use Rattle.ver_build.specs.declared.right_sides.Inner.{Inner}
-use Rattle.ver_build.specs.working.Built.{built, inners, items, leaf_port, port_of, leaf_reg, role_reg, leaf_assign, role_assign, leaf_clock_assign, role_clock_assign, leaf_block, role_block, inner_wire, inner_assign}
+use Rattle.ver_build.specs.working.Built.{built, inners, items, leaf_port, port_of, leaf_reg, role_reg, leaf_assign, role_assign, leaf_clock_assign, role_clock_assign, word_blocks, inner_wire, inner_assign}
 use Rattle.ver_build.proofs.Names.{zipped}
 use Rattle.ver_build.proofs.OrderedLeaves.{ordered_names, ordered_leaves, OfPorts, OfWords, port_given, word_given}
 
@@ -60,20 +60,13 @@ clock_inside t p _ n e = absurd (cc)
 pub clocks_port : (t : NameTable) (p : Places) → OfPorts (leaf_clock_assign t p)
 clocks_port t p = record { unnamed = λ l. clock_unnamed t p l.role; inside = λ l n e. clock_inside t p l.role n e }
 
--- registers and blocks are of words
+-- registers are of words
 reg_ports : (r : Role) (w : ℕ) (n : Option (List ℕ)) → is_port r ≡ true → role_reg r w n ≡ []
 reg_ports (role.Register d) w n e = absurd (cc)
 reg_ports _ w n e = refl
 
 pub regs_word : OfWords leaf_reg
 regs_word = record { ports = λ l n e. reg_ports l.role l.width n e }
-
-block_ports : (t : NameTable) (p : Places) (r : Role) (w : ℕ) (n : Option (List ℕ)) → is_port r ≡ true → role_block t p r w n ≡ []
-block_ports t p (role.Register d) w n e = absurd (cc)
-block_ports t p _ w n e = refl
-
-pub blocks_word : (t : NameTable) (p : Places) → OfWords (leaf_block t p)
-blocks_word t p = record { ports = λ l n e. block_ports t p l.role l.width n e }
 
 module _ (net : FlatNet) (t : NameTable) (p : Places) (order : List Read) where
   abbrev pub inners_of : List Inner
@@ -97,8 +90,8 @@ module _ (net : FlatNet) (t : NameTable) (p : Places) (order : List Read) where
   abbrev pub clock_assigns_of : List Assign
   clock_assigns_of = zipped (leaf_clock_assign t p) (ordered_names net t) (ordered_leaves net)
 
-  abbrev pub blocks_of : List Always
-  blocks_of = zipped (leaf_block t p) (ordered_names net t) (ordered_leaves net)
+  abbrev pub blocks_of : List AlwaysBlock
+  blocks_of = word_blocks net t p
 
   abbrev pub in_parts : Verilog
   in_parts = record { name = t.circuit; ports = ports_of; items = items registers_of wires_of assigns_of clock_assigns_of blocks_of; places = [] }
@@ -111,5 +104,4 @@ module _ (net : FlatNet) (t : NameTable) (p : Places) (order : List Read) where
         word_given net t whole table leaf_reg regs_word,
         port_given net t whole table (leaf_assign p) (assigns_port p),
         port_given net t whole table (leaf_clock_assign t p) (clocks_port t p),
-        word_given net t whole table (leaf_block t p) (blocks_word t p),
       ) refl

@@ -10,6 +10,7 @@ use Rattle.fir_bits.specs.Forms.{no_type}
 use Rattle.fir_bits.specs.declared.types.NumTy.{NumTy}
 use Rattle.fir_net.specs.declared.reads.Read.{Read}
 use Rattle.fir_net.specs.declared.reads.Read.TheVariants as read
+use Rattle.fir_net.specs.declared.leaf.Reset.{Reset}
 use Rattle.fir_net.specs.declared.leaf.Role.{Role}
 use Rattle.fir_net.specs.declared.leaf.Role.TheVariants as role
 use Rattle.fir_net.specs.declared.leaf.Leaf.{Leaf}
@@ -17,8 +18,10 @@ use Rattle.fir_net.specs.declared.node.Node.{Node}
 use Rattle.fir_net.specs.declared.net.FlatNet.{FlatNet}
 use Rattle.fir_net_names.specs.declared.name_table.NameTable.{NameTable}
 use Rattle.fir_net.specs.working.Values.{type_of_leaf}
-use Rattle.fir_net.specs.working.Dependence.{IsOf, Reads, role_reads}
-use Rattle.fir_net.specs.working.IsNet.{node_type, read_type, CanRead, IsNode, IsLeaf, IsRole, CanDrive}
+use Rattle.fir_net.specs.declared.leaf.ResetKind.TheVariants.{Asynchronous}
+use Rattle.fir_net.specs.working.Dependence.{IsOf, Reads, kind_reads, reset_reads, role_reads}
+use Rattle.fir_net.specs.working.IsWritable.{ActsAtOnce, IsWritableRole}
+use Rattle.fir_net.specs.working.IsNet.{node_type, read_type, CanRead, IsNode, IsLeaf, IsRole, CanDrive, CanBeReset, IsReset}
 use Rattle.fir_net_names.specs.working.LeafNamed.{name_at}
 use Rattle.fir_net.specs.working.Settled.{is_clock}
 use Rattle.ver_ast.specs.Nets.{SizedNet, width_among}
@@ -35,6 +38,7 @@ use Rattle.fir_net.proofs.WholeNodes.{all_nodes}
 use Rattle.ver_build.proofs.Standing.{StandsAs, AllStand}
 use Rattle.ver_build.proofs.Fitted.{whole_stands, fit_stands}
 use Rattle.ver_build.proofs.NodeNets.{IsLiteral, IsEmpty, IsNetted, node_view}
+use Rattle.ver_build.proofs.Words.{IsWord}
 use Rattle.ver_build.proofs.Sizes.{LeafSized, unnamed_bits, leaf_sizes, own_declared}
 
 -- the leaf with a number hangs on what its role reads
@@ -94,6 +98,22 @@ module _ (net : FlatNet) (t : NameTable) (p : Places) (order : List Read) (is : 
       → StandsAs ns (own_held l.signed l.width n) (type_of_leaf l)
   own_stands l None size a b = none_stands ns (type_of_leaf l) (unnamed_bits l b size)
   own_stands l (Some name) size a b = let s = size a in net_stands ns name (type_of_leaf l) s.one s.narrow s.wide
+
+  -- what drives the register of a word, and its reset
+  pub word_role : (k : ℕ) (w : IsWord net t k) → IsRole net.leaves net.nodes w.leaf.signed w.leaf.width (role.Register w.own)
+  word_role k w = subst (IsRole net.leaves net.nodes w.leaf.signed w.leaf.width) w.register (leaf_at k w.leaf w.at).driven
+
+  pub word_reset : (k : ℕ) (w : IsWord net t k) (r : Reset) → w.own.reset ≡ Some r → IsReset net.leaves net.nodes w.leaf.signed r
+  word_reset k w r has = subst (CanBeReset net.leaves net.nodes w.leaf.signed) has (word_role k w).1
+
+  pub word_kind : (k : ℕ) (w : IsWord net t k) (r : Reset) → w.own.reset ≡ Some r → r.kind ≡ Asynchronous
+  word_kind k w r has = subst ActsAtOnce has (subst IsWritableRole w.register (is.writable.leaves k w.leaf w.at))
+
+  -- its value hangs on the condition of its reset
+  pub word_reads : (k : ℕ) (w : IsWord net t k) (r : Reset) → w.own.reset ≡ Some r → Reads net (read.Leaf k) r.condition
+  word_reads k w r has =
+      leaf_read net k w.leaf (role.Register w.own) 0 r.condition w.at w.register
+      (ap (λ o. slice_get (reset_reads o) 0) has ∙ ap (λ kind. slice_get (kind_reads kind r.condition r.init) 0) (word_kind k w r has))
 
   abbrev Stand : Read → Type 0
   Stand r = CanRead net.leaves net.nodes r → StandsAs ns (held_of p r) (type r)

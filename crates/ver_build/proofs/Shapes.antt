@@ -21,11 +21,11 @@ use Rattle.ver_build.proofs.Premises.{Premises, BitsNamed, LeafNamed, RoleNamed,
 use Rattle.ver_build.proofs.TableLeaves.{leaves_named, leaves_whole}
 use Rattle.ver_build.proofs.OrderedLeaves.{ordered_names, ordered_leaves, names_port, sizes_port, same_ports}
 use Rattle.ver_build.proofs.WordLists.{word_sizes_listed}
-use Rattle.ver_build.proofs.Parts.{blocks_of, in_parts}
+use Rattle.ver_build.proofs.Parts.{in_parts}
 use Rattle.fir_net.specs.working.Counted.{is_register}
 use Rattle.ver_build.proofs.LeafKinds.{is_wire, is_input, is_clock_input, is_output, name_if, sized_if, picked, picked_sized}
-use Rattle.ver_build.proofs.Nets.{inputs_sized, clocks_are, registers_sized, no_arrays, blocks_are}
-use Rattle.ver_build.proofs.PlainTrees.{words_wide}
+use Rattle.ver_build.proofs.Nets.{inputs_sized, clocks_are, registers_sized, no_arrays}
+use Rattle.ver_build.proofs.StateWords.{words_wide}
 use Rattle.ver_build.proofs.Choices.{if_equal}
 
 -- the number of a leaf with bits, where it is of a kind
@@ -148,7 +148,7 @@ built_shape net t p order is =
     (inputs_sized net t p order ∙ same_ports net t is.whole is.table (λ l n. sized_if (is_input l.role) l.width n) (sizes_port is_input input_port))
     ∙ widths_along is_input input_number input_is input_plain t.leaves net.leaves (leaves_named net is.whole t is.table) in
     let state : variable_widths (variables (in_parts net t p order)) ≡ map (leaf_width net.leaves) net.state =
-    words_wide (in_parts net t p order) (no_arrays net t p order) (blocks_of net t p order) (blocks_are net t p order)
+    words_wide (in_parts net t p order) (no_arrays net t p order)
     ∙ ap widths_of (registers_sized net t p order) ∙ register_widths net t is.whole is.table in
     let count : length (clocks (in_parts net t p order)) ≡ length (numbers_by clock_number 0 net.leaves) =
     ap length

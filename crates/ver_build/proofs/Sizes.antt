@@ -23,8 +23,8 @@ use Rattle.ver_ast.specs.Nets.{SizedNet, width_among, names_of}
 use Rattle.ver_ast.proofs.Widths.{declared_width}
 use Rattle.ver_build.specs.declared.places.Places.{Places}
 use Rattle.ver_build.specs.declared.right_sides.Inner.{Inner}
-use Rattle.ver_build.specs.working.Places.{node_at, inner_names}
-use Rattle.ver_build.specs.working.Built.{inners, node_inners, inners_at, read_inners}
+use Rattle.ver_build.specs.working.Places.{node_at}
+use Rattle.ver_build.specs.working.Built.{inners, order_inners, reset_inners, node_inners, inners_at, read_inners}
 use Rattle.ver_build.proofs.Names.{Each, each_and, each_part}
 use Rattle.ver_build.proofs.Premises.{Premises, some_bits, bits_named, Whole, Known}
 use Rattle.ver_build.proofs.OrderedLeaves.{ordered_names, ordered_leaves, ordered_whole, ordered_known, ordered_once, ordered_inner}
@@ -32,7 +32,8 @@ use Rattle.ver_build.proofs.LeafKinds.{is_wire, has_name, is_net, sized_if, pick
 use Rattle.ver_build.proofs.Picked.{picked_named, picked_once}
 use Rattle.ver_build.proofs.Nets.{inner_name, inner_sized, sizes, sizes_named}
 use Rattle.ver_build.proofs.Standing.{DeclaresInners}
-use Rattle.ver_build.proofs.NodeNets.{IsLiteral, IsEmpty, IsNetted, node_view, given_inners, no_inners, empty_inners, netted_inners, inners_named}
+use Rattle.ver_build.proofs.NodeNets.{IsLiteral, IsEmpty, IsNetted, node_view, given_inners, no_inners, empty_inners, netted_inners}
+use Rattle.ver_build.proofs.ResetNames.{inners_numbered}
 use Rattle.ver_build.proofs.InnerNames.{all_once}
 
 -- a net of that name and width, from 1 to 128
@@ -89,10 +90,9 @@ module _ (net : FlatNet) (t : NameTable) (p : Places) (order : List Read) (is : 
   -- the names of all
   pub names_once : Distinct (somes (ordered_names net t) ++ map inner_name all_inners)
   names_once =
-      let nodes = is.places.nodes in
-      rw (inners_named net p nodes.held order)
-      (all_once (somes (ordered_names net t)) nodes.last (inner_names net p.nodes order) once nodes.near
-      (ordered_inner net t is.whole is.table 0 nodes.last (inner_names net p.nodes order) nodes.named))
+      let resets = is.places.resets in
+      all_once (somes (ordered_names net t)) resets.last (map inner_name all_inners) once resets.near
+      (ordered_inner net t is.whole is.table 0 resets.last (map inner_name all_inners) (inners_numbered net t p order is))
 
   -- a name of a leaf is none of an inner net
   pub no_inner : (q : Role → Bool) (x : List ℕ) → In (picked q (ordered_names net t) (ordered_leaves net)) x → In (map inner_name all_inners) x → ⊥
@@ -135,7 +135,8 @@ module _ (net : FlatNet) (t : NameTable) (p : Places) (order : List Read) (is : 
   inners_among k n h at i m =
       let place = is.ordered.all (read.Node k) (slice_get_within net.nodes k n at) in
       let given : In (read_inners net p (read.Node k)) i = rw (at, netted_inners p n (node_at p.nodes k) h) m in
-      in_flat_map (read_inners net p) order (read.Node k) i (get_in order place.0 (read.Node k) place.1) given
+      in_left (order_inners net p order) (reset_inners net p) i
+      (in_flat_map (read_inners net p) order (read.Node k) i (get_in order place.0 (read.Node k) place.1) given)
 
   from_node : (k : ℕ) (n : Node) (i : Inner) → slice_get net.nodes k ≡ Some n → In (given_inners p n (node_at p.nodes k)) i → InnerOf net p i
   from_node k n i at m =
@@ -149,7 +150,7 @@ module _ (net : FlatNet) (t : NameTable) (p : Places) (order : List Read) (is : 
       o)
       (node_view p n here (is.places.nodes.held.each k n at))
 
-  pub inner_of : (i : Inner) → In all_inners i → InnerOf net p i
+  pub inner_of : (i : Inner) → In (order_inners net p order) i → InnerOf net p i
   inner_of i m =
       let r = in_flat_map_from (read_inners net p) order i m in
       by_read r.0 r.2

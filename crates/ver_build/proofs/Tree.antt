@@ -1,5 +1,5 @@
 -- A tree with the name, the ports and the items of a net, and no places, is the tree of the net.
-use Rattle.std.proofs.Common.{◌≡◌, List, [], ◌++◌, map, refl, append_assoc}
+use Rattle.std.proofs.Common.{◌≡◌, ℕ, List, [], ◌++◌, map, flat_map, refl, append_assoc}
 use Rattle.std.proofs.lemmas.List.{map-append}
 use Rattle.std.proofs.lemmas.Simd.{map-map}
 use Rattle.fir_net.specs.declared.reads.Read.{Read}
@@ -10,8 +10,9 @@ use Rattle.ver_ast.specs.declared.tree.Item.TheVariants as item
 use Rattle.ver_ast.specs.declared.tree.Verilog.{Verilog}
 use Rattle.ver_build.specs.declared.places.Places.{Places}
 use Rattle.ver_build.specs.declared.right_sides.Inner.{Inner}
-use Rattle.ver_build.specs.working.Built.{inners, leaf_port, leaf_reg, leaf_assign, leaf_clock_assign, leaf_block, inner_wire, inner_assign, along, at_numbers, given, items, built}
-use Rattle.ver_build.proofs.Lists.{mapped_along, mapped_numbers}
+use Rattle.ver_build.specs.working.Built.{inners, leaf_port, leaf_reg, leaf_assign, leaf_clock_assign, word_block, word_blocks, inner_wire, inner_assign, along, at_numbers, given, items, built}
+use Rattle.ver_build.specs.Arranged.{block_item}
+use Rattle.ver_build.proofs.Lists.{mapped_along, mapped_numbers, flat_mapped}
 
 -- the items as each part is put behind those before it
 pub record PutItems (net : FlatNet) (t : NameTable) (p : Places) (order : List Read) (all : List Item) : Type 0 where
@@ -27,7 +28,7 @@ pub record PutItems (net : FlatNet) (t : NameTable) (p : Places) (order : List R
   pub put_inner_assigns : inner_assigns ≡ wires ++ map (λ (i : Inner). item.Assign (inner_assign i)) (inners net p order)
   pub put_assigns : assigns ≡ inner_assigns ++ along (given item.Assign (leaf_assign p)) t.leaves 0 net.leaves
   pub put_clock_assigns : clock_assigns ≡ assigns ++ along (given item.Assign (leaf_clock_assign t p)) t.leaves 0 net.leaves
-  pub put_blocks : all ≡ clock_assigns ++ at_numbers (given item.Always (leaf_block t p)) t.leaves net.leaves net.state
+  pub put_blocks : all ≡ clock_assigns ++ flat_map (λ k. map block_item (word_block net t p k)) net.state
 
 regrouped : (rs ws xs ys cs bs : List Item) → ((((rs ++ ws) ++ xs) ++ ys) ++ cs) ++ bs ≡ rs ++ (ws ++ ((xs ++ ys) ++ (cs ++ bs)))
 regrouped rs ws xs ys cs bs = simp append_assoc
@@ -35,14 +36,14 @@ regrouped rs ws xs ys cs bs = simp append_assoc
 in_parts : (net : FlatNet) (t : NameTable) (p : Places) (order : List Read) (all : List Item) → PutItems net t p order all
     → all ≡ items (at_numbers leaf_reg t.leaves net.leaves net.state) (map inner_wire (inners net p order))
     (map inner_assign (inners net p order) ++ along (leaf_assign p) t.leaves 0 net.leaves) (along (leaf_clock_assign t p) t.leaves 0 net.leaves)
-    (at_numbers (leaf_block t p) t.leaves net.leaves net.state)
+    (word_blocks net t p)
 in_parts net t p order all put =
     let rs = mapped_numbers item.Reg leaf_reg t.leaves net.leaves net.state in
     let ws = map-map item.Wire inner_wire (inners net p order) in
     let xs = map-map item.Assign inner_assign (inners net p order) in
     let ys = mapped_along item.Assign (leaf_assign p) t.leaves 0 net.leaves in
     let cs = mapped_along item.Assign (leaf_clock_assign t p) t.leaves 0 net.leaves in
-    let bs = mapped_numbers item.Always (leaf_block t p) t.leaves net.leaves net.state in
+    let bs = flat_mapped block_item (word_block net t p) (λ (k : ℕ). map block_item (word_block net t p k)) (λ k. refl) net.state in
     rw (
       put.put_blocks,
       put.put_clock_assigns,
@@ -62,7 +63,7 @@ in_parts net t p order all put =
     )
     (regrouped (at_numbers (given item.Reg leaf_reg) t.leaves net.leaves net.state) (map (λ (i : Inner). item.Wire (inner_wire i)) (inners net p order))
     (map (λ (i : Inner). item.Assign (inner_assign i)) (inners net p order)) (along (given item.Assign (leaf_assign p)) t.leaves 0 net.leaves)
-    (along (given item.Assign (leaf_clock_assign t p)) t.leaves 0 net.leaves) (at_numbers (given item.Always (leaf_block t p)) t.leaves net.leaves net.state))
+    (along (given item.Assign (leaf_clock_assign t p)) t.leaves 0 net.leaves) (flat_map (λ (k : ℕ). map block_item (word_block net t p k)) net.state))
 
 pub items_built : (net : FlatNet) (t : NameTable) (p : Places) (order : List Read) (all : List Item) → PutItems net t p order all
     → all ≡ (built net t p order).items

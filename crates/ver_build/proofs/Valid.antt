@@ -19,14 +19,13 @@ use Rattle.fir_net.specs.declared.net.FlatNet.{FlatNet}
 use Rattle.fir_net_names.specs.declared.name_table.NameTable.{NameTable}
 use Rattle.fir_net_names.specs.working.LeafNamed.{somes}
 use Rattle.ver_ast.specs.declared.tree.Port.{Port}
-use Rattle.ver_ast.specs.declared.tree.Verilog.{Verilog}
 use Rattle.ver_ast.specs.declared.tree.Assign.{Assign}
-use Rattle.ver_ast.specs.Nets.{SizedNet, Variable, variable_names, AlwaysBlock, plain_block, port_net, input_clock, output_clock, output_clocks, input_nets, output_nets, clocks, wires, regs, plain_regs, port_nets, nets, arrays, assigns, clock_assigns, targets, blocks, block_targets, names_of}
-use Rattle.ver_ast.specs.Processes.{Process, assigning, processes, target, process_targets}
+use Rattle.ver_ast.specs.Nets.{SizedNet, Variable, variable_names, AlwaysBlock, port_net, input_clock, output_clock, output_clocks, input_nets, output_nets, clocks, wires, regs, port_nets, nets, arrays, assigns, clock_assigns, targets, blocks, block_targets, names_of}
 use Rattle.ver_ast.specs.SoundSides.{IsSoundSide}
-use Rattle.ver_ast.specs.ItemNames.{rhs_arrays}
+use Rattle.ver_ast.specs.ItemNames.{item_names, rhs_arrays}
+use Rattle.ver_build.specs.Arranged.{block_item}
 use Rattle.ver_ast.specs.Names.{rhs_names}
-use Rattle.ver_ast.specs.Valid.{Valid, DeclaredBefore, IsSoundAssign, IsOrder, ReadsBefore, IsPlain, IsSoundBlock}
+use Rattle.ver_ast.specs.Valid.{Valid, DeclaredBefore, IsSoundAssign, IsSoundBlock}
 use Rattle.ver_build.specs.declared.places.Places.{Places}
 use Rattle.ver_build.specs.working.Places.{clock_in}
 use Rattle.ver_build.specs.working.Built.{inners, leaf_port, port_of}
@@ -39,16 +38,17 @@ use Rattle.fir_net.specs.working.Counted.{is_register}
 use Rattle.ver_build.proofs.LeafKinds.{is_input, is_clock_input, is_clock_output, is_output, is_net, is_written, sized_if, picked, picked_sized, picked_names}
 use Rattle.ver_build.proofs.Picked.{picked_once, picked_apart}
 use Rattle.ver_build.proofs.Nets.{inner_name, inner_sized, sizes, inputs_sized, outputs_sized, clocks_are, registers_sized, wires_sized, blocks_are, output_clocks_are, no_arrays, nets_sized, nets_by_part, sizes_named}
-use Rattle.ver_build.proofs.PlainTrees.{plain_regs_are, processes_are}
 use Rattle.ver_build.proofs.Sizes.{IsSized, LeafSized, leaf_is_sized, leaf_sizes, names_once, no_inner, sizes_once}
 use Rattle.ver_build.proofs.InnersSound.{inner_size}
-use Rattle.ver_build.proofs.Fitting.{FitsTarget, AssignAmong, assigns_sound, assigns_name_nets, blocks_name_nets}
+use Rattle.ver_build.proofs.Fitting.{FitsTarget, AssignAmong, BlockAmong, assigns_sound, assigns_name_nets}
 use Rattle.ver_build.proofs.ClockAssigns.{assigns_are, clock_assigns_are, clock_targets, clock_targets_once, no_clock_target}
 use Rattle.ver_build.proofs.ClockSides.{ShowsClock, side_names, clocks_shown}
-use Rattle.ver_build.proofs.Driven.{targets_are, clock_targets_are, plain_targets, block_targets_are}
+use Rattle.ver_build.proofs.Driven.{targets_are, clock_targets_are, block_targets_are}
 use Rattle.ver_build.proofs.TextOrder.{net_name, items_declared}
-use Rattle.ver_build.proofs.Placed.{AssignsBefore, assigns_ordered}
-use Rattle.ver_build.proofs.Blocks.{blocks_sound}
+use Rattle.ver_build.proofs.TextReads.{AssignsBefore, assigns_ordered}
+use Rattle.ver_build.proofs.ProcessOrder.{process_order}
+use Rattle.ver_build.proofs.ProcessesOnce.{is_order}
+use Rattle.ver_build.proofs.Blocks.{block_names, block_sound, block_among}
 
 abbrev IsNarrow : SizedNet → Type 0
 IsNarrow s = (1 ≤ s.1) × (s.1 ≤ 128)
@@ -183,10 +183,18 @@ module _ (net : FlatNet) (t : NameTable) (p : Places) (order : List Read) (is : 
   declared =
       items_declared (port_names (in_parts net t p order)) (names_of tree_sizes) (registers_of net t p order) (wires_of net t p order)
       (assigns_of net t p order) (clock_assigns_of net t p order) (blocks_of net t p order) among (assigns_name_nets net t p order is) clocks_named
-      (blocks_name_nets net t p order is)
-      (λ b m. clock_is_named (in_parts net t p order).ports b.clock (all_at (IsPlain (in_parts net t p order)) (blocks_of net t p order)
-      (blocks_sound net t p order is) b m).clocked)
+      (all_from (BlockAmong (port_names (in_parts net t p order) ++ names_of tree_sizes)) (blocks_of net t p order)
+      (λ b m. each_more (item_names (block_item b)) (block_names net t p order is) (port_names (in_parts net t p order) ++ names_of tree_sizes) from_clocks (block_among net t p order is b m)))
     where
+      -- clocks are ports
+      from_clocks : (x : List ℕ) → In (block_names net t p order is) x → In (port_names (in_parts net t p order) ++ names_of tree_sizes) x
+      from_clocks x m =
+          let ports = port_names (in_parts net t p order) in
+          ⊎_elim
+          (λ (k : In (clocks (in_parts net t p order)) x). in_left ports (names_of tree_sizes) x (clock_is_named (in_parts net t p order).ports x k))
+          (λ (k : In (names_of tree_sizes) x). in_right ports (names_of tree_sizes) x k)
+          (in_either (clocks (in_parts net t p order)) (names_of tree_sizes) x m)
+
       inner : List (List ℕ)
       inner = map net_name (registers_of net t p order) ++ map net_name (wires_of net t p order)
 
@@ -271,7 +279,7 @@ module _ (net : FlatNet) (t : NameTable) (p : Places) (order : List Read) (is : 
 
   written : Distinct (block_targets (blocks (in_parts net t p order)))
   written =
-      subst Distinct (sym (ap block_targets (blocks_are net t p order) ∙ plain_targets (blocks_of net t p order) ∙ block_targets_are net t p order))
+      subst Distinct (sym (ap block_targets (blocks_are net t p order) ∙ block_targets_are net t p order is.whole is.table))
       (picked_once (is_written (clock_in p.leaves)) (ordered_names net t) (ordered_leaves net) once)
 
   pub ordered : AssignsBefore (names_of (input_nets (in_parts net t p order) ++ regs (in_parts net t p order))) (assigns (in_parts net t p order))
@@ -279,27 +287,6 @@ module _ (net : FlatNet) (t : NameTable) (p : Places) (order : List Read) (is : 
       subst (λ (xs : List Assign). AssignsBefore (names_of (input_nets (in_parts net t p order) ++ regs (in_parts net t p order))) xs)
       (sym (assigns_are net t p order is))
       (subst (λ (ns : List (List ℕ)). AssignsBefore ns (assigns_of net t p order)) (sym sources_are) (assigns_ordered net t p order is))
-
-  -- what holds in a tree without arrays
-  abbrev tree : Verilog
-  tree = in_parts net t p order
-
-  processes_plain : processes (in_parts net t p order) ≡ map assigning (assigns (in_parts net t p order))
-  processes_plain = processes_are tree (no_arrays net t p order) (blocks_of net t p order) (blocks_are net t p order)
-
-  in_order : IsOrder (in_parts net t p order) (processes (in_parts net t p order))
-  in_order = record {
-    each = λ q m. m;
-    only = λ q m. m;
-    once =
-        subst (λ (qs : List Process). Distinct (process_targets qs)) (sym processes_plain)
-        (subst Distinct (sym (map-map target assigning (assigns (in_parts net t p order)))) targets_once);
-    after =
-        subst (λ (qs : List Process). ReadsBefore (names_of (input_nets (in_parts net t p order) ++ plain_regs (in_parts net t p order))) qs) (sym processes_plain)
-        (subst
-        (λ (rs : List SizedNet). AssignsBefore (names_of (input_nets (in_parts net t p order) ++ rs)) (assigns (in_parts net t p order)))
-        (sym (plain_regs_are tree (no_arrays net t p order) (blocks_of net t p order) (blocks_are net t p order))) ordered);
-  }
 
   abbrev outs : List (List ℕ)
   outs = picked is_clock_output (ordered_names net t) (ordered_leaves net)
@@ -338,11 +325,8 @@ module _ (net : FlatNet) (t : NameTable) (p : Places) (order : List Read) (is : 
       no_clock_target net t p order is x (subst (λ (xs : List Assign). In (targets xs) x) (assigns_are net t p order is) m)
       (subst (λ (ns : List (List ℕ)). In ns x) (clock_targets net t p order is ∙ output_clocks_are net t p order) o)))
 
-  block_sound : (b : AlwaysBlock) → In (blocks (in_parts net t p order)) b → IsSoundBlock (in_parts net t p order) b
-  block_sound b m =
-      let from = in_map_from plain_block (blocks_of net t p order) b (subst (λ (bs : List AlwaysBlock). In bs b) (blocks_are net t p order) m) in
-      subst (IsSoundBlock (in_parts net t p order)) from.2
-      (all_at (IsPlain (in_parts net t p order)) (blocks_of net t p order) (blocks_sound net t p order is) from.0 from.1)
+  all_sound : (b : AlwaysBlock) → In (blocks (in_parts net t p order)) b → IsSoundBlock (in_parts net t p order) b
+  all_sound b m = block_sound net t p order is b (subst (λ (bs : List AlwaysBlock). In bs b) (blocks_are net t p order) m)
 
   no_array_in : (k : Variable) → In (arrays (in_parts net t p order)) k → ⊥
   no_array_in k m = subst (λ (ks : List Variable). In ks k) (no_arrays net t p order) m
@@ -363,7 +347,7 @@ module _ (net : FlatNet) (t : NameTable) (p : Places) (order : List Read) (is : 
         all_at (ShowsClock (in_parts net t p order)) (clock_assigns_of net t p order) (clocks_shown net t p order is) a
         (subst (λ (xs : List Assign). In xs a) (clock_assigns_are net t p order is) m);
     undriven_sources = sources_not_driven;
-    sound_blocks = block_sound;
+    sound_blocks = all_sound;
     written_once = written;
-    ordered = (processes (in_parts net t p order), in_order);
+    ordered = (process_order net t p order is, is_order net t p order is);
   }

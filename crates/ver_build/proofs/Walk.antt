@@ -148,17 +148,15 @@ module _ (net : FlatNet) (t : NameTable) (order : List Read) (is : IsOrder net o
       rw passed.3 (nodes_next places i from to k passed.0 passed.1 less at passed.2 passed.4 walk)
 
   -- all nodes have been passed
-  pub nodes_end : (places : List NodePlace) (i from : ℕ) → i ≡ length order → from ≤ 2 ^ 127 → NodeWalk net t order places i from
-      → AreNodePlaces net t order places
-  nodes_end places i from end small walk = record {
+  pub nodes_end : (places : List NodePlace) (i from : ℕ) → i ≡ length order → NodeWalk net t order places i from
+      → AreNodePlaces net t order places from
+  nodes_end places i from end walk = record {
     held = record {
       each = λ k n at.
           let place = is.all (read.Node k) (within net.nodes k n at) in
           walk.done place.0 k n (rw end (within order place.0 (read.Node k) place.1)) place.1 at;
     };
-    last = from;
     named = subst (λ rs. AreInnerTo (somes t.leaves) 0 (inner_names net places rs) from) all walk.named;
-    near = small;
     spelled = subst (λ (rs : List Read). AllByRecursion IsName (inner_names net places rs)) all walk.spelled;
   }
     where

@@ -1,104 +1,159 @@
--- What a tick writes to one register, where blocks are given along leaves and only one leaf's have it as their target.
--- Blocks with other targets leave it as it is.
-use Rattle.std.proofs.Common.{◌≡◌, ℕ, zero, suc, ◌+◌, List, [], ◌∷◌, ◌++◌, ◌&&◌, if◌then◌else◌, refl, ap, ◌∙◌, inl, inr, ⊎_elim, arith, Option, Some}
-use Rattle.std.specs.Prelude.{slice_get}
+-- What the blocks of registers write at a tick: each of them a word of its register, or nothing.
+-- Where no two are of one register, a register keeps what its block writes, and else its word.
+use Rattle.std.proofs.Common.{◌≡◌, ℕ, List, [], ◌∷◌, ◌++◌, Bool, true, false, cond, ◌||◌, ◌==◌, if◌then◌else◌, map, flat_map, refl, sym, ap, ◌∙◌, inl, inr, subst, Option, Some, None, unwrap_or}
+use Rattle.std.specs.Prelude.{filter, slice_set}
+use Rattle.std.specs.List.{AllByRecursion, list_all}
 use Rattle.std.specs.Str.{bytes_eq}
-use Rattle.std.proofs.lemmas.Slice.Eq.{bytes_eq-Decides}
-use Rattle.fir_base.specs.Lists.{In}
-use Rattle.fir_base.specs.Ticks.{Env, rises}
-use Rattle.fir_base.proofs.Members.{in_either}
-use Rattle.fir_net.specs.declared.leaf.Leaf.{Leaf}
-use Rattle.ver_ast.specs.declared.tree.Always.{Always}
-use Rattle.ver_ast.specs.Nets.{SizedNet}
-use Rattle.ver_ast.specs.AtomValues.{atom_value}
-use Rattle.fir_net_names.specs.working.LeafNamed.{name_at}
-use Rattle.ver_build.specs.working.Built.{along}
 use Rattle.std.proofs.lemmas.Bool.{cond_both}
-use Rattle.fir_base.proofs.Tests.{both}
+use Rattle.std.proofs.lemmas.List.Folds.{list_all-append}
+use Rattle.fir_base.specs.Lists.{In, Distinct}
+use Rattle.fir_base.specs.Ticks.{Env, rises}
+use Rattle.fir_base.proofs.Members.{in_map}
+use Rattle.fir_base.proofs.SameNames.{name_is, name_same}
+use Rattle.ver_ast.specs.declared.tree.Edge.{Edge}
+use Rattle.ver_ast.specs.AtomForms.{constant_number}
+use Rattle.ver_ast.specs.AtomValues.{atom_value}
+use Rattle.ver_ast.specs.Nets.{SizedNet, AlwaysBlock, plain_block, resetting_block, writing_block, block_targets}
+use Rattle.ver_ast.specs.Next.{Put, acts, edge_rises, edge_put, puts, put_one, put_all, is_within}
+use Rattle.ver_ast.specs.Stores.{Store}
 
--- what a register shows, or what the block of a named clock writes to it
-abbrev pub written : List SizedNet → Env → List ℕ → List Always → List ℕ → ℕ
-written nets env named [] name = env name
-written nets env named (b ∷ bs) name =
-    if bytes_eq b.target name && rises named (env b.clock) then atom_value nets env b.source else written nets env named bs name
+-- a block of a register, and the register's name
+abbrev pub OfRegister : AlwaysBlock → Type 0
+OfRegister (writing_block b) = ⊥
+OfRegister _ = Unit {0}
 
--- none of the blocks has that target
-pub record NoTarget (n : List ℕ) (bs : List Always) : Type 0 where
-  pub each : (b : Always) → In bs b → b.target ≡ n → ⊥
+abbrev pub register_name : AlwaysBlock → List ℕ
+register_name (plain_block b) = b.target
+register_name (resetting_block b) = b.target
+register_name (writing_block b) = []
 
-module _ (ns : List SizedNet) (f : Env) (named : List ℕ) (n : List ℕ) where
-  other_target : (b : Always) (bs : List Always) → (b.target ≡ n → ⊥) → written ns f named (b ∷ bs) n ≡ written ns f named bs n
-  other_target b bs other =
-      cond_both (bytes_eq b.target n && rises named (f b.clock)) (atom_value ns f b.source) (written ns f named bs n)
-      (λ x. x ≡ written ns f named bs n)
-      (λ h. absurd (other ((bytes_eq-Decides b.target n).0 (both _ _ h).0))) (λ h. refl)
+-- a word for a register, where there is one
+abbrev word_put : List ℕ → Option ℕ → List Put
+word_put name None = []
+word_put name (Some x) = record { name = name; place = 0; word = x } ∷ []
 
-  behind : (b : Always) (bs : List Always) → NoTarget n (b ∷ bs) → NoTarget n bs
-  behind b bs lacks = record { each = λ c m. lacks.each c (inr m) }
+module _ (ns : List SizedNet) (f : Env) (named : List ℕ) where
+  abbrev pub edge_word : Option Edge → Option ℕ
+  edge_word None = None
+  edge_word (Some e) = if rises named (f e.clock) then Some (atom_value ns f e.source) else None
 
-  unwritten : (bs : List Always) → NoTarget n bs → written ns f named bs n ≡ f n
-  unwritten [] lacks = refl
-  unwritten (b ∷ bs) lacks = other_target b bs (lacks.each b (inl refl)) ∙ unwritten bs (behind b bs lacks)
+  -- what a block writes at a tick of these clocks
+  abbrev pub block_word : AlwaysBlock → Option ℕ
+  block_word (plain_block b) = if rises named (f b.clock) then Some (atom_value ns f b.source) else None
+  block_word (resetting_block b) = if f b.reset == 1 then Some (constant_number b.value) else edge_word b.edge
+  block_word (writing_block b) = None
 
-  written_first : (bs cs : List Always) → NoTarget n cs → written ns f named (bs ++ cs) n ≡ written ns f named bs n
-  written_first [] cs lacks = unwritten cs lacks
-  written_first (b ∷ bs) cs lacks =
-      ap (λ (x : ℕ). if bytes_eq b.target n && rises named (f b.clock) then atom_value ns f b.source else x) (written_first bs cs lacks)
+  -- what it writes, where it acts
+  abbrev own_puts : AlwaysBlock → List Put
+  own_puts b = if acts named f b then puts ns f b else []
 
-  written_last : (bs cs : List Always) → NoTarget n bs → written ns f named (bs ++ cs) n ≡ written ns f named cs n
-  written_last [] cs lacks = refl
-  written_last (b ∷ bs) cs lacks = other_target b (bs ++ cs) (lacks.each b (inl refl)) ∙ written_last bs cs (behind b bs lacks)
+  edge_puts : (name : List ℕ) (e : Option Edge)
+      → (if edge_rises named f e then edge_put ns f name e else []) ≡ word_put name (edge_word e)
+  edge_puts name None = refl
+  edge_puts name (Some e) = by (rises named (f e.clock))
+    where
+      by : (c : Bool) → (if c then edge_put ns f name (Some e) else []) ≡ word_put name (if c then Some (atom_value ns f e.source) else None)
+      by true = refl
+      by false = refl
 
-  module _ (give : Leaf → Option (List ℕ) → List Always) (names : List (Option (List ℕ))) where
-    -- no leaf gives a block with that target, where they are numbered from j on
-    record NoneGive (j : ℕ) (ls : List Leaf) : Type 0 where
-      each : (i : ℕ) (l : Leaf) → slice_get ls i ≡ Some l → NoTarget n (give l (name_at names (j + i)))
+  puts_are : (b : AlwaysBlock) → OfRegister b → own_puts b ≡ word_put (register_name b) (block_word b)
+  puts_are (plain_block b) of = by (rises named (f b.clock))
+    where
+      by : (c : Bool) → (if c then puts ns f (plain_block b) else []) ≡ word_put b.target (if c then Some (atom_value ns f b.source) else None)
+      by true = refl
+      by false = refl
+  puts_are (resetting_block b) of = by (f b.reset == 1)
+    where
+      by : (c : Bool) → (if c || edge_rises named f b.edge then (if c then (record { name = b.target; place = 0; word = constant_number b.value } ∷ []) else edge_put ns f b.target b.edge) else [])
+          ≡ word_put b.target (if c then Some (constant_number b.value) else edge_word b.edge)
+      by true = refl
+      by false = edge_puts b.target b.edge
+  puts_are (writing_block b) of = absurd of
 
-    -- none but the one with that number
-    record OthersGive (j : ℕ) (ls : List Leaf) (k : ℕ) : Type 0 where
-      each : (i : ℕ) (l : Leaf) → slice_get ls i ≡ Some l → (i ≡ k → ⊥) → NoTarget n (give l (name_at names (j + i)))
+  abbrev pub all_written : List AlwaysBlock → List Put
+  all_written bs = flat_map (puts ns f) (filter (acts named f) bs)
 
-    here : (j : ℕ) (l : Leaf) → NoTarget n (give l (name_at names (j + 0))) → NoTarget n (give l (name_at names j))
-    here j l lacks = let first : j + 0 ≡ j = omega arith in rw first at lacks
+  split : (b : AlwaysBlock) (bs : List AlwaysBlock) → OfRegister b → all_written (b ∷ bs) ≡ word_put (register_name b) (block_word b) ++ all_written bs
+  split b bs of = by (acts named f b) ∙ ap (λ (ps : List Put). ps ++ all_written bs) (puts_are b of)
+    where
+      by : (c : Bool) → flat_map (puts ns f) (cond c (b ∷ filter (acts named f) bs) (filter (acts named f) bs)) ≡ (if c then puts ns f b else []) ++ all_written bs
+      by true = refl
+      by false = refl
 
-    there : (j i : ℕ) (l : Leaf) → NoTarget n (give l (name_at names (j + suc i))) → NoTarget n (give l (name_at names (j + 1 + i)))
-    there j i l lacks = let place : j + suc i ≡ j + 1 + i = omega arith in rw place at lacks
+  put_other : (name : List ℕ) (o : Option ℕ) (s : Store) (n : List ℕ) → (name ≡ n → ⊥) → put_all (word_put name o) s n ≡ s n
+  put_other name None s n other = refl
+  put_other name (Some x) s n other =
+      cond_both (bytes_eq name n) (slice_set (s n) 0 x) (s n) (λ xs. xs ≡ s n) (λ t. absurd (other (name_is name n t))) (λ _. refl)
 
-    no_along : (j : ℕ) (ls : List Leaf) → NoneGive j ls → NoTarget n (along give names j ls)
-    no_along j [] none = record { each = λ b m e. m }
-    no_along j (l ∷ ls) none =
-        let mine = here j l (none.each zero l refl) in
-        let theirs = no_along (j + 1) ls (record { each = λ i m at. there j i m (none.each (suc i) m at) }) in
-        record {
-          each = λ b m e.
-              ⊎_elim (λ (h : In (give l (name_at names j)) b). mine.each b h e) (λ (h : In (along give names (j + 1) ls) b). theirs.each b h e)
-              (in_either (give l (name_at names j)) (along give names (j + 1) ls) b m);
-        }
+  put_own : (name : List ℕ) (o : Option ℕ) (s : Store) (w : ℕ) → s name ≡ w ∷ [] → put_all (word_put name o) s name ≡ unwrap_or o w ∷ []
+  put_own name None s w e = e
+  put_own name (Some x) s w e =
+      ap (λ (t : Bool). cond t (slice_set (s name) 0 x) (s name)) (name_same name) ∙ ap (λ (xs : List ℕ). slice_set xs 0 x) e
 
-    one_written : (j : ℕ) (ls : List Leaf) (k : ℕ) (l : Leaf) → slice_get ls k ≡ Some l → OthersGive j ls k
-        → written ns f named (along give names j ls) n ≡ written ns f named (give l (name_at names (j + k))) n
-    one_written j [] k l at others = cc
-    one_written j (m ∷ ls) zero l at others =
-        let same : m ≡ l = cc in
-        let first : j ≡ j + 0 = omega arith in
-        let none = no_along (j + 1) ls (record { each = λ i x h. there j i x (others.each (suc i) x h (λ e. absurd (omega arith))) }) in
-        written_first (give m (name_at names j)) (along give names (j + 1) ls) none
-        ∙ ap (λ (x : Leaf). written ns f named (give x (name_at names j)) n) same
-        ∙ ap (λ (i : ℕ). written ns f named (give l (name_at names i)) n) first
-    one_written j (m ∷ ls) (suc k) l at others =
-        let place : j + 1 + k ≡ j + suc k = omega arith in
-        let mine = here j m (others.each zero m refl (λ e. absurd (omega arith))) in
-        let rest : OthersGive (j + 1) ls k = record { each = λ i x h other. there j i x (others.each (suc i) x h (λ e. other (omega arith))) } in
-        written_last (give m (name_at names j)) (along give names (j + 1) ls) mine
-        ∙ one_written (j + 1) ls k l at rest ∙ ap (λ (i : ℕ). written ns f named (give l (name_at names i)) n) place
+  put_joined : (ps qs : List Put) (s : Store) (n : List ℕ) → put_all (ps ++ qs) s n ≡ put_all qs (put_all ps s) n
+  put_joined [] qs s n = refl
+  put_joined (p ∷ ps) qs s n = put_joined ps qs (put_one p s) n
 
-    -- only the leaf with that number gives blocks with that target
-    pub record OnlyGives (ls : List Leaf) (k : ℕ) : Type 0 where
-      pub others : (i : ℕ) (l : Leaf) → slice_get ls i ≡ Some l → (i ≡ k → ⊥) → NoTarget n (give l (name_at names i))
+  -- a name that no block writes keeps its words
+  pub untouched : (bs : List AlwaysBlock) → AllByRecursion OfRegister bs → (s : Store) (n : List ℕ) → (In (map register_name bs) n → ⊥)
+      → put_all (all_written bs) s n ≡ s n
+  untouched [] of s n lacks = refl
+  untouched (b ∷ bs) of s n lacks =
+      ap (λ (ps : List Put). put_all ps s n) (split b bs of.0)
+      ∙ put_joined (word_put (register_name b) (block_word b)) (all_written bs) s n
+      ∙ untouched bs of.1 (put_all (word_put (register_name b) (block_word b)) s) n (λ m. lacks (inr m))
+      ∙ put_other (register_name b) (block_word b) s n (λ e. lacks (inl e))
 
-    pub written_by : (ls : List Leaf) (k : ℕ) (l : Leaf) → slice_get ls k ≡ Some l → OnlyGives ls k
-        → written ns f named (along give names 0 ls) n ≡ written ns f named (give l (name_at names k)) n
-    written_by ls k l at only =
-        let start : 0 + k ≡ k = omega arith in
-        one_written 0 ls k l at (record { each = λ i x h other. let begin : i ≡ 0 + i = omega arith in rw begin at (only.others i x h other) })
-        ∙ ap (λ (i : ℕ). written ns f named (give l (name_at names i)) n) start
+  -- a register takes what its block writes, and else keeps its word
+  pub written : (bs : List AlwaysBlock) → AllByRecursion OfRegister bs → Distinct (map register_name bs) → (s : Store) (b : AlwaysBlock) → In bs b
+      → (w : ℕ) → s (register_name b) ≡ w ∷ [] → put_all (all_written bs) s (register_name b) ≡ unwrap_or (block_word b) w ∷ []
+  written [] of once s b m w e = absurd m
+  written (c ∷ bs) of once s b (inl same) w e =
+      let first = word_put (register_name c) (block_word c) in
+      subst (λ (d : AlwaysBlock). put_all (all_written (c ∷ bs)) s (register_name d) ≡ unwrap_or (block_word d) w ∷ []) same
+      (ap (λ (ps : List Put). put_all ps s (register_name c)) (split c bs of.0)
+      ∙ put_joined first (all_written bs) s (register_name c)
+      ∙ untouched bs of.1 (put_all first s) (register_name c) once.0
+      ∙ put_own (register_name c) (block_word c) s w (subst (λ (d : AlwaysBlock). s (register_name d) ≡ w ∷ []) (sym same) e))
+  written (c ∷ bs) of once s b (inr m) w e =
+      let first = word_put (register_name c) (block_word c) in
+      ap (λ (ps : List Put). put_all ps s (register_name b)) (split c bs of.0)
+      ∙ put_joined first (all_written bs) s (register_name b)
+      ∙ written bs of.1 once.1 (put_all first s) b m w
+      (put_other (register_name c) (block_word c) s (register_name b)
+      (λ same. once.0 (subst (In (map register_name bs)) (sym same) (in_map register_name bs b m))) ∙ e)
+
+  word_within : (name : List ℕ) (o : Option ℕ) (s : Store) (y : ℕ) → s name ≡ y ∷ [] → list_all (is_within s) (word_put name o) ≡ true
+  word_within name None s y e = refl
+  word_within name (Some x) s y e = rw e refl
+
+  -- no write is out of range where each register has a word
+  pub all_within : (bs : List AlwaysBlock) → AllByRecursion OfRegister bs → (s : Store)
+      → ((b : AlwaysBlock) → In bs b → (y : ℕ) × (s (register_name b) ≡ y ∷ [])) → list_all (is_within s) (all_written bs) ≡ true
+  all_within [] of s h = refl
+  all_within (b ∷ bs) of s h =
+      let here = h b (inl refl) in
+      ap (list_all (is_within s)) (split b bs of.0)
+      ∙ list_all-append (is_within s) (word_put (register_name b) (block_word b)) (all_written bs)
+      ∙ rw (word_within (register_name b) (block_word b) s here.0 here.1, all_within bs of.1 s (λ c m. h c (inr m))) refl
+
+  put_one_word : (name : List ℕ) (o : Option ℕ) (s : Store) (n : List ℕ) (w : ℕ) → s n ≡ w ∷ [] → (y : ℕ) × (put_all (word_put name o) s n ≡ y ∷ [])
+  put_one_word name None s n w e = (w, e)
+  put_one_word name (Some x) s n w e =
+      cond_both (bytes_eq name n) (slice_set (s n) 0 x) (s n) (λ xs. (y : ℕ) × (xs ≡ y ∷ [])) (λ _. (x, ap (λ (xs : List ℕ). slice_set xs 0 x) e)) (λ _. (w, e))
+
+  -- where there is one word, there is one after all writes
+  pub one_word_still : (bs : List AlwaysBlock) → AllByRecursion OfRegister bs → (s : Store) (n : List ℕ) (w : ℕ) → s n ≡ w ∷ []
+      → (y : ℕ) × (put_all (all_written bs) s n ≡ y ∷ [])
+  one_word_still [] of s n w e = (w, e)
+  one_word_still (b ∷ bs) of s n w e =
+      let first = word_put (register_name b) (block_word b) in
+      let here = put_one_word (register_name b) (block_word b) s n w e in
+      let rest = one_word_still bs of.1 (put_all first s) n here.0 here.1 in
+      (rest.0, ap (λ (ps : List Put). put_all ps s n) (split b bs of.0) ∙ put_joined first (all_written bs) s n ∙ rest.1)
+
+pub register_names : (bs : List AlwaysBlock) → AllByRecursion OfRegister bs → map register_name bs ≡ block_targets bs
+register_names [] of = refl
+register_names (plain_block b ∷ bs) of = ap (λ ns. b.target ∷ ns) (register_names bs of.1)
+register_names (resetting_block b ∷ bs) of = ap (λ ns. b.target ∷ ns) (register_names bs of.1)
+register_names (writing_block b ∷ bs) of = absurd of.0

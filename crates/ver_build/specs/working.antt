@@ -4,7 +4,8 @@ pub mod Operands
 pub mod Texts
 pub mod Places
 pub mod Walks
+pub mod Blocks
 pub mod Built
-pub mod DrivenRegisters
+pub mod BlockRegisters
 pub mod Builds
 pub mod Laws

@@ -10,9 +10,10 @@ ghost use Rattle.ver_build.specs.working.Builds.{Builds};
 
 use crate::clock_outputs::put_clock_assigns;
 use crate::items::{
-    inners_of, ports_of, put_blocks, put_inner_assigns, put_output_assigns, put_regs, put_wires,
+    inners_of, ports_of, put_inner_assigns, put_output_assigns, put_regs, put_wires,
 };
 use crate::places::{Places, places_of};
+use crate::register_blocks::put_blocks;
 use fir_base::{MemoryOut, Seq};
 use fir_bits::laws::has_its_type;
 use fir_loop::Order;
@@ -22,8 +23,9 @@ use fir_net_names::{NameTable, names};
 use std::alloc::Global;
 use ver_ast::{Item, Verilog, valid_has_one_rest};
 
-/// The tree of the net with these names and places: nets for each operation and mux, an assign for each of
-/// these, each output and each clock output, and a block for each register that something drives on a clock.
+/// The tree of the net with these names and places: nets for each operation and mux and for the resets that need
+/// one, an assign for each of these, each output and each clock output, and a block for each register that has a
+/// reset, or that something drives on a clock.
 pub fn built_tree(
     alloc: Global,
     net: &FlatNet,
@@ -67,8 +69,8 @@ fn items_of(
 }
 
 /// The Verilog tree of a whole net: valid, named by the table of names, arranged by kind with a block for each
-/// register that is driven on a clock, and allowing at every tick what the net allows (IEEE 1364-2005, 6.1,
-/// 9.2.2, 12.1). Only memory can be wanting.
+/// register that has a reset or is driven on a clock, and allowing at every tick what the net allows (IEEE
+/// 1364-2005, 6.1, 9.2.2, 9.4, 12.1). Only memory can be wanting.
 #[tactic(auto, using(crate::proofs::Means::builds))]
 pub fn build(alloc: Global, net: &FlatNet, order: &Order) -> Result<Verilog, MemoryOut>
     requires whole { IsNet net.now }

@@ -1,6 +1,7 @@
 //! Where a value is in the tree.
 
 ghost use Rattle.std.specs.Prelude.{◌≡◌, IfOk, option_map};
+ghost use Rattle.ver_build.specs.working.Places.{bit_net};
 ghost use Rattle.ver_build.specs.working.Held.{no_bits, whole_net, cut, fit_source, fit, own_held, held_literal};
 
 use fir_base::{MemoryOut, Name};
@@ -87,6 +88,16 @@ impl Held {
 }
 
 impl Source {
+    /// The net of one bit that a value is all of.
+    pub fn bit_net(&self) -> Option<&Name>
+        ensures { option_map (λ n. n.now) result ≡ bit_net self.now }
+    {
+        match self {
+            Source::Net(part) if part.own == 1 && part.kept == 1 => Some(&part.name),
+            _ => None,
+        }
+    }
+
     fn copy(&self, alloc: Global) -> Result<Source, MemoryOut>
         ensures { IfOk result (λ s. s ≡ self.now) }
     {

@@ -1,11 +1,12 @@
-//! The ports and items of the tree.
+//! The ports of the tree, its registers, its wires and their assigns, and the assigns of outputs.
 
 ghost use Rattle.std.specs.Prelude.{◌≡◌, ◌++◌, IfOk, OnOk, option_map, map, slice_get, unwrap_or, []};
 ghost use Rattle.ver_ast.specs.declared.tree.Item.TheVariants as item;
 ghost use Rattle.ver_build.specs.working.Operands.{atom_at};
 ghost use Rattle.fir_net_names.specs.working.LeafNamed.{name_at};
 ghost use Rattle.ver_build.specs.working.Places.{held_of};
-ghost use Rattle.ver_build.specs.working.Built.{inners, read_inners, leaf_port, leaf_reg, leaf_assign, leaf_block, inner_wire, inner_assign, along, at_numbers, of_leaf, given};
+ghost use Rattle.ver_build.specs.working.Blocks.{leaf_net};
+ghost use Rattle.ver_build.specs.working.Built.{inners, order_inners, reset_inners, read_inners, leaf_port, leaf_reg, leaf_assign, inner_wire, inner_assign, along, at_numbers, of_leaf, given};
 
 use crate::atoms::atom_at;
 use crate::held::Source;
@@ -16,7 +17,7 @@ use fir_base::{Direction, MemoryOut, Name};
 use fir_net::{FlatNet, Leaf, Read, Role};
 use fir_net_names::NameTable;
 use std::alloc::Global;
-use ver_ast::{Always, Assign, Atom, Item, Net, Port, Rhs};
+use ver_ast::{Assign, Atom, Item, Net, Port, Rhs};
 
 /// The ports of the leaves that have a name.
 pub fn ports_of(alloc: Global, net: &FlatNet, table: &NameTable) -> Result<Vec<Port>, MemoryOut>
@@ -94,13 +95,13 @@ fn put_reg(
 }
 
 /// The leaf of a number.
-fn leaf_at(net: &FlatNet, number: LeafId) -> Option<&Leaf>
+pub fn leaf_at(net: &FlatNet, number: LeafId) -> Option<&Leaf>
     ensures { option_map (λ l. l.now) result ≡ slice_get net.now.leaves number }
 {
     net.leaves.as_slice().get(number.number())
 }
 
-/// The inner nets of all nodes that have one, in the order.
+/// The inner nets: those of nodes, in the order, and then those of resets.
 pub fn inners_of(
     alloc: Global,
     net: &FlatNet,
@@ -108,6 +109,20 @@ pub fn inners_of(
     order: &[Read],
 ) -> Result<Vec<Inner>, MemoryOut>
     ensures { IfOk result (λ v. v.items ≡ inners net.now places.now order.now) }
+{
+    let mut inners = order_inners(alloc, net, places, order)?;
+    put_reset_inners(alloc, &mut inners, net, places)?;
+    Ok(inners)
+}
+
+/// The inner nets of all nodes that have one, in the order.
+fn order_inners(
+    alloc: Global,
+    net: &FlatNet,
+    places: &Places,
+    order: &[Read],
+) -> Result<Vec<Inner>, MemoryOut>
+    ensures { IfOk result (λ v. v.items ≡ order_inners net.now places.now order.now) }
 {
     let mut inners = Vec::with_capacity(alloc, order.len())?;
     for read in order {
@@ -139,6 +154,55 @@ fn read_inners(
         Source::Number(_) => Ok(Vec::new(alloc)),
         Source::Net(part) => node_inners(alloc, places, node, place.helpers.as_slice(), &part.name),
     }
+}
+
+/// The nets that resets have of their own, in the order of the state.
+fn put_reset_inners(
+    alloc: Global,
+    inners: &mut Vec<Inner>,
+    net: &FlatNet,
+    places: &Places,
+) -> Result<(), MemoryOut>
+    ensures { OnOk result (inners.new.items ≡ inners.old.items ++ reset_inners net.now places.now) }
+{
+    let words = net.state.as_slice();
+    for word in words {
+        put_reset_inner(
+            alloc,
+            inners,
+            places,
+            leaf_at(net, *word),
+            places.own_net(*word),
+        )?;
+    }
+    Ok(())
+}
+
+fn put_reset_inner(
+    alloc: Global,
+    inners: &mut Vec<Inner>,
+    places: &Places,
+    leaf: Option<&Leaf>,
+    name: Option<&Name>,
+) -> Result<(), MemoryOut>
+    ensures { OnOk result (inners.new.items ≡ inners.old.items ++ of_leaf (leaf_net places.now) (option_map (λ l. l.now) leaf.entry) (option_map (λ n. n.now) name.entry)) }
+{
+    let (Some(leaf), Some(name)) = (leaf, name) else {
+        return Ok(());
+    };
+    let Role::Register(register) = leaf.role else {
+        return Ok(());
+    };
+    if let Some(reset) = register.reset {
+        let name = name.copy(alloc)?;
+        let rhs = Rhs::Atom(source_at(alloc, places, 1, reset.condition)?);
+        inners.push(Inner {
+            name,
+            width: 1,
+            rhs,
+        })?;
+    }
+    Ok(())
 }
 
 /// The wires of the inner nets.
@@ -202,77 +266,8 @@ fn put_output_assign(
     Ok(())
 }
 
-/// The blocks of the registers that something drives on a clock, in the order of the state.
-pub fn put_blocks(
-    alloc: Global,
-    items: &mut Vec<Item>,
-    net: &FlatNet,
-    table: &NameTable,
-    places: &Places,
-) -> Result<(), MemoryOut>
-    ensures { OnOk result (items.new.items ≡ items.old.items ++ at_numbers (given item.Always (leaf_block table.now places.now)) table.now.leaves net.now.leaves net.now.state) }
-{
-    let words = net.state.as_slice();
-    for word in words {
-        put_block(
-            alloc,
-            items,
-            table,
-            places,
-            leaf_at(net, *word),
-            table.leaf(*word),
-        )?;
-    }
-    Ok(())
-}
-
-fn put_block(
-    alloc: Global,
-    items: &mut Vec<Item>,
-    table: &NameTable,
-    places: &Places,
-    leaf: Option<&Leaf>,
-    name: Option<&Name>,
-) -> Result<(), MemoryOut>
-    ensures { OnOk result (items.new.items ≡ items.old.items ++ of_leaf (given item.Always (leaf_block table.now places.now)) (option_map (λ l. l.now) leaf.entry) (option_map (λ n. n.now) name.entry)) }
-{
-    let Some(leaf) = leaf else {
-        return Ok(());
-    };
-    let (Role::Register(register), Some(name)) = (leaf.role, name) else {
-        return Ok(());
-    };
-    if let (Some(clock), Some(read)) = (places.clock(register.clock), register.next) {
-        let block = block_on(alloc, table, places, leaf.width, clock, read, name)?;
-        items.push(Item::Always(block))?;
-    }
-    Ok(())
-}
-
-/// The block that gives the net of that name and width what is read, on that clock.
-fn block_on(
-    alloc: Global,
-    table: &NameTable,
-    places: &Places,
-    width: u32,
-    clock: LeafId,
-    read: Read,
-    name: &Name,
-) -> Result<Always, MemoryOut>
-    ensures { IfOk result (λ b. b ≡ record { clock = unwrap_or (name_at table.now.leaves clock) []; target = name.now; source = atom_at width (held_of places.now read) }) }
-{
-    let clock = clock_name(alloc, table, clock)?;
-    let target = name.copy(alloc)?;
-    let source = source_at(alloc, places, width, read)?;
-    Ok(Always {
-        clock,
-        target,
-        source,
-    })
-}
-
 /// What is read, at that width.
-fn source_at(alloc: Global, places: &Places, width: u32, read: Read) -> Result<Atom, MemoryOut>
+pub fn source_at(alloc: Global, places: &Places, width: u32, read: Read) -> Result<Atom, MemoryOut>
     ensures { IfOk result (λ a. a ≡ atom_at width (held_of places.now read)) }
 {
     atom_at(alloc, width, places.held(alloc, read)?)

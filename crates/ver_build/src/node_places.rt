@@ -16,18 +16,19 @@ use fir_net_names::{NameTable, Numbered};
 use std::alloc::Global;
 
 /// Inner nets have numbers below this, as memory holds no more names.
-const MOST: u128 = 1 << 126;
+pub const MOST: u128 = 1 << 126;
 
-/// Where the values of the nodes are. Each node with bits has a net, an operation that needs more has these
-/// before it, and all have the inner names in the order. What the order has besides the net's nodes is
-/// passed by.
+/// Where the values of the nodes are, and the number behind the last name of their nets. Each node with bits has
+/// a net, an operation that needs more has these before it, and all have the inner names in the order. What the
+/// order has besides the net's nodes is passed by.
 pub fn node_places(
     alloc: Global,
     net: &FlatNet,
     table: &NameTable,
     order: &[Read],
-) -> Result<Vec<NodePlace>, MemoryOut>
-    ensures { IfOk result (λ v. IsOrder net.now order.now → AreNodePlaces net.now table.now order.now v.items) }
+) -> Result<(Vec<NodePlace>, u128), MemoryOut>
+    ensures near { IfOk result (λ r. r.1 ≤ 2 ^ 127) }
+    ensures placed { IfOk result (λ r. IsOrder net.now order.now → AreNodePlaces net.now table.now order.now r.0.items r.1) }
 {
     let mut places = no_places(alloc, net.nodes.as_slice())?;
     let mut from = 0;
@@ -37,7 +38,7 @@ pub fn node_places(
         }
         from = pass(alloc, net, table, &mut places, *read, from)?;
     }
-    Ok(places)
+    Ok((places, from))
 }
 
 /// Notes where a node is, whose nets get the first free inner names from that number on, and returns the

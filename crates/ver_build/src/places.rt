@@ -2,13 +2,18 @@
 
 ghost use Rattle.std.specs.Prelude.{◌≡◌, IfOk, option_map, slice_get};
 ghost use Rattle.fir_net.specs.working.IsOrder.{IsOrder};
-ghost use Rattle.ver_build.specs.working.Places.{IsPlaces, held_in, held_of, clock_in, driven_clock_in};
+ghost use Rattle.fir_net.specs.working.IsNet.{IsNet};
+ghost use Rattle.fir_net_names.specs.working.LeafNamed.{name_at};
+ghost use Rattle.fir_inits.specs.working.InitValues.{init_at};
+ghost use Rattle.ver_build.specs.working.Places.{IsPlaces, bit_net, held_in, held_of, clock_in, driven_clock_in};
 
 use crate::held::Held;
 use crate::leaf_places::leaf_places;
 use crate::node_places::node_places;
+use crate::reset_nets::{bit_net_in, reset_nets};
 use fir_ast::{LeafId, NodeId};
 use fir_base::{MemoryOut, Name, Seq};
+use fir_inits::{InitValues, init_values};
 use fir_net::{FlatNet, Read};
 use fir_net_names::NameTable;
 use std::alloc::Global;
@@ -27,11 +32,15 @@ pub struct NodePlace {
     pub helpers: Seq<Name>,
 }
 
-/// Where the values of all leaves and nodes are, by their numbers.
+/// Where the values of all leaves and nodes are, by their numbers. And for the registers with a reset, by their
+/// numbers, the nets that resets have of their own, where some have, and what the registers show while their
+/// resets are 1.
 #[derive(Drop)]
 pub struct Places {
     leaves: Seq<Place>,
     nodes: Seq<NodePlace>,
+    resets: Seq<Option<Name>>,
+    inits: InitValues,
 }
 
 impl Places {
@@ -47,6 +56,30 @@ impl Places {
         ensures { option_map (λ h. h.now) result ≡ slice_get self.now.nodes node }
     {
         self.nodes.as_slice().get(node.number())
+    }
+
+    /// The net of one bit that a read is all of.
+    pub fn bit_net(&self, read: Read) -> Option<&Name>
+        ensures { option_map (λ n. n.now) result ≡ bit_net (held_of self.now read).source }
+    {
+        bit_net_in(self.leaves.as_slice(), self.nodes.as_slice(), read)
+    }
+
+    /// The net that the reset of a register has of its own.
+    pub fn own_net(&self, leaf: LeafId) -> Option<&Name>
+        ensures { option_map (λ n. n.now) result ≡ name_at self.now.resets leaf }
+    {
+        match self.resets.as_slice().get(leaf.number()) {
+            Some(Some(name)) => Some(name),
+            _ => None,
+        }
+    }
+
+    /// What a register shows while its reset is 1.
+    pub fn init(&self, leaf: LeafId) -> u128
+        ensures { result ≡ init_at self.now.inits leaf }
+    {
+        self.inits.get(leaf)
     }
 
     /// The clock input at which the drivers of a clock's leaf end.
@@ -106,19 +139,25 @@ pub fn driven_clock_in(leaves: &[Place], driver: Option<LeafId>) -> Option<LeafI
 }
 
 /// Where the values of the net are: wires and outputs where what drives them is, and each operation and mux in
-/// a net of its own, named in the order.
+/// a net of its own, named in the order; then the nets of resets, named in the order of the state; and the
+/// constants of registers with a reset.
 pub fn places_of(
     alloc: Global,
     net: &FlatNet,
     table: &NameTable,
     order: &[Read],
 ) -> Result<Places, MemoryOut>
+    requires { IsNet net.now }
     ensures { IfOk result (λ p. IsOrder net.now order.now → IsPlaces net.now table.now order.now p) }
 {
-    let nodes = node_places(alloc, net, table, order)?;
+    let (nodes, last) = node_places(alloc, net, table, order)?;
     let leaves = leaf_places(alloc, net, table, order, nodes.as_slice())?;
+    let resets = reset_nets(alloc, net, table, leaves.as_slice(), nodes.as_slice(), last)?;
+    let inits = init_values(alloc, net, order)?;
     Ok(Places {
         leaves: Seq::from_vec(leaves),
         nodes: Seq::from_vec(nodes),
+        resets: Seq::from_vec(resets),
+        inits,
     })
 }

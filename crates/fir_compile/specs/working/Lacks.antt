@@ -14,7 +14,7 @@ use Rattle.fir_outcome.specs.CircuitFaults.{LacksFirst, LacksNone}
 abbrev pub ShowsLack : CircuitTree → Fault → Type 0
 ShowsLack c f = (l : Lack) × LacksFirst c l × (f ≡ unsupported_fault l.place l.word)
 
--- and where none is, the circuit can be flattened, and shows no fault of clocks
+-- and where none is, the circuit can be flattened, and shows no fault of the clocks of memories
 abbrev pub TellsLack : CircuitTree → Option FirFault → Type 0
 TellsLack c (Some f) = ShowsLack c (fault_of f)
 TellsLack c None = LacksNone c × IsTaken c × AreMemoriesClear c

@@ -1,6 +1,6 @@
 -- The flat net of a design: each leaf of the design's circuit has its path, its place, its type and its role, leaves of ports stand as ports, the words of the
 -- state are those of the circuit, and the net is whole. And which designs have one so far.
-use Rattle.std.specs.Prelude.{◌≡◌, ℕ, ◌<◌, ◌≤◌, length, Bool, true, false, Option, Some, None, slice_get}
+use Rattle.std.specs.Prelude.{◌≡◌, ℕ, ◌<◌, ◌≤◌, length, Bool, true, false, ◌||◌, Option, Some, None, slice_get}
 use Rattle.fir_base.specs.Lists.{Distinct}
 use Rattle.fir_meaning.specs.LeafTypes.{LeafType, a_clock, has_bits, number}
 use Rattle.fir_meaning.specs.working.LeafCircuits.{LeafCircuit, role_of}
@@ -18,7 +18,6 @@ use Rattle.fir_net.specs.declared.leaf.Leaf.{Leaf}
 use Rattle.fir_net.specs.declared.leaf.Role.{Role as FlatRole}
 use Rattle.fir_net.specs.declared.leaf.Role.TheVariants as role
 use Rattle.fir_net.specs.declared.net.FlatNet.{FlatNet}
-use Rattle.fir_net.specs.declared.reads.Read.{Read}
 use Rattle.fir_net.specs.working.IsNet.{IsNet, is_port}
 use Rattle.fir_flat.specs.working.FlatCircuits.{IsRoleOf, NamesClock}
 use Rattle.fir_flat.specs.working.WholeRoles.{IsModuleWithin}
@@ -67,21 +66,21 @@ abbrev pub HasWidth : Leaf → LeafType → Type 0
 HasWidth l (number t) = (l.signed ≡ t.signed) × (l.width ≡ t.width)
 HasWidth l a_clock = (l.signed ≡ false) × (l.width ≡ 1)
 
--- whether it is a register that takes a value at the edges of its clock
-abbrev pub has_read : Option Read → Bool
-has_read None = false
-has_read (Some r) = true
+-- whether it is a register that something drives or that has a reset
+abbrev pub is_some : {A : Type 0} → Option A → Bool
+is_some None = false
+is_some (Some x) = true
 
-abbrev pub has_next : FlatRole → Bool
-has_next (role.Register r) = has_read r.next
-has_next _ = false
+abbrev pub takes_value : FlatRole → Bool
+takes_value (role.Register r) = is_some r.reset || is_some r.next
+takes_value _ = false
 
 pub record IsFlatLeaf (c : LeafCircuit) (ports : ℕ) (net : FlatNet) (x : ℕ) (l : Leaf) : Type 0 where
   pub path : l.path ≡ path_of_leaf c x
   pub place : l.place ≡ place_of_leaf c x
   pub has_width : HasWidth l (held_in (as_module c) x)
   pub role : IsRoleOf net.nodes (net_types (as_module c)) x l.role (held_in (as_module c) x) (net_role_at (as_module c) x)
-  pub takes : has_next l.role ≡ takes (as_module c) x
+  pub takes : takes_value l.role ≡ takes (as_module c) x
   pub port : x < ports → is_port l.role ≡ true
   pub inner : ports ≤ x → is_port l.role ≡ false
 

@@ -1,7 +1,7 @@
 -- When a net is the flat net of a circuit: it is whole and has a Verilog text, it has the circuit's name, and whichever source tree stands below the circuit's main
--- module, the net has its ports, its state and its shape, and allows at every tick what the tree allows; its registers take values where those of the tree do; and a
--- closed walk of dependence stands in the circuit where one stands in the net.
-use Rattle.std.specs.Prelude.{◌≡◌, ◌↔◌, ℕ, List, Option, Some, IsSome, map, slice_get}
+-- module, the net has its ports, its state and its shape, and allows at every tick what the tree allows; its registers take values and are reset where those of the tree are;
+-- and a closed walk of dependence stands in the circuit where one stands in the net.
+use Rattle.std.specs.Prelude.{◌≡◌, ◌↔◌, ◌⊎◌, ℕ, List, Option, Some, IsSome, IsTrue, map, slice_get}
 use Rattle.fir_base.specs.Ticks.{Tick}
 use Rattle.fir_ast.specs.declared.fault.FirFault.{FirFault}
 use Rattle.fir_ast.specs.Circuits.{CircuitTree}
@@ -28,7 +28,7 @@ use Rattle.fir_net.specs.working.Settled.{Settled, outputs as net_outputs, shape
 use Rattle.fir_net.specs.working.Values.{leaf_width}
 use Rattle.fir_loop.specs.working.IsLoop.{IsLoop, ShowsLoop}
 use Rattle.fir_flatten.specs.SourceRows.{source_array_rows, source_rows, source_words}
-use Rattle.fir_flatten.specs.TakingWords.{IsClocked, IsTaking}
+use Rattle.fir_flatten.specs.BlockWords.{IsClocked, IsTaking, is_reset_at_once}
 use Rattle.fir_flatten.specs.working.Words.{HasWords}
 
 -- the widths of the outputs, in their order
@@ -40,9 +40,11 @@ abbrev pub HasClock : FlatNet → ℕ → Type 0
 HasClock net k =
     (state : List ℕ) (tick : Tick) (env : ℕ → ℕ) (clock : ℕ → Option ℕ) → Settled net state tick env clock → IsSome (clock k)
 
--- the register of a word of the net beside the word of the tree: something drives it where it takes a value, and it has a clock where that has one
+-- the register of a word of the net beside the word of the tree: it has a reset where that has an asynchronous one; something drives it, or it has a reset, where
+-- that takes a value; and it has a clock where that has one
 pub record TakesAs (t : SourceDesign) (net : FlatNet) (p : PlacedLeaf) (r : Register) : Type 0 where
-  pub next : IsSome r.next ↔ IsTaking t p
+  pub reset : IsSome r.reset ↔ IsTrue (is_reset_at_once p.leaf.role)
+  pub takes : (IsSome r.reset ⊎ IsSome r.next) ↔ IsTaking t p
   pub clock : HasClock net r.clock ↔ IsClocked t p p.leaf.role
 
 pub record MeansSource (t : SourceDesign) (net : FlatNet) : Type 0 where

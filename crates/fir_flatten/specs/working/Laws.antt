@@ -1,10 +1,14 @@
 -- A circuit means what the flat net of its design means (FIRRTL spec, "Circuits", "Modules", "Instances").
 use Rattle.std.specs.Prelude.{◌≡◌, ℕ, List, []}
 use Rattle.fir_base.specs.Lists.{In}
+use Rattle.fir_ast.specs.declared.fault.FirFault.{FirFault}
 use Rattle.fir_ast.specs.Circuits.{CircuitTree}
 use Rattle.fir_ast.specs.Faults.{Fault}
+use Rattle.fir_ast.specs.working.CodeFaults.{fault_of}
+use Rattle.fir_pass.specs.Groups.{IsClear}
 use Rattle.fir_meaning.specs.Elaborated.{HasMain}
 use Rattle.fir_meaning.specs.ModuleScenes.{Scene}
+use Rattle.fir_meaning.specs.SourceInits.{init_group}
 use Rattle.fir_meaning.specs.TypeGroup.{type_faults}
 use Rattle.fir_meaning.specs.working.Designs.{Design}
 use Rattle.fir_meaning.specs.working.Flattened.{flattened}
@@ -18,6 +22,8 @@ use Rattle.fir_leaf_types.specs.working.TypedModules.{IsModuleTyped}
 use Rattle.fir_lack.specs.working.TakenCircuits.{IsTakenModule}
 use Rattle.fir_names.specs.working.ModuleOrder.{IsModuleOrder}
 use Rattle.fir_net.specs.declared.net.FlatNet.{FlatNet}
+use Rattle.fir_net.specs.working.IsWritable.{HasConstantInits}
+use Rattle.fir_inits.specs.working.ShowsInit.{ShowsInit}
 use Rattle.fir_flatten.specs.working.FlatDesigns.{IsFlatDesign, IsPlainDesign}
 use Rattle.fir_flatten.specs.working.FlattensTo.{FlattensTo}
 
@@ -45,8 +51,18 @@ DesignsArePlain =
     (c : CircuitTree) (scenes : List Scene) (main : Scene) (d : Design) → IsDesigned c scenes main d → IsTakenDesign scenes d
     → IsPlainDesign (flattened d) (leafed_module main).port_leaves
 
--- and the flat net of the design is that of the circuit
+-- and the flat net of the design, whose inits are constants, is that of the circuit
 abbrev pub DesignsFlatten : Type 0
 DesignsFlatten =
     (c : CircuitTree) (scenes : List Scene) (main : Scene) (d : Design) (net : FlatNet) → IsDesigned c scenes main d → IsTakenDesign scenes d
-    → IsFlatDesign (flattened d) (leafed_module main).port_leaves net → net.name ≡ c.named.name → FlattensTo c net
+    → IsFlatDesign (flattened d) (leafed_module main).port_leaves net → net.name ≡ c.named.name → HasConstantInits net → FlattensTo c net
+
+-- an init that is no constant stands in the net exactly where it stands in the circuit (FIRRTL spec, "Registers")
+pub record HasInitsOf (c : CircuitTree) (net : FlatNet) : Type 0 where
+  pub shows : (f : FirFault) → ShowsInit net f → (init_group c).shows (fault_of f)
+  pub clear : HasConstantInits net → IsClear (init_group c)
+
+abbrev pub DesignsTellInits : Type 0
+DesignsTellInits =
+    (c : CircuitTree) (scenes : List Scene) (main : Scene) (d : Design) (net : FlatNet) → IsDesigned c scenes main d → IsTakenDesign scenes d
+    → IsFlatDesign (flattened d) (leafed_module main).port_leaves net → HasInitsOf c net

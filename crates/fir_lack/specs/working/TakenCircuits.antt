@@ -1,17 +1,12 @@
--- Which circuits are flattened so far: those without memories, whose resets act at the edges of clocks (FIRRTL spec, "Registers", "Memories").
-use Rattle.std.specs.Prelude.{◌≡◌, ℕ, ◌<◌, [], length, false, Option, Some, None}
+-- Which circuits are flattened so far: those without memories (FIRRTL spec, "Memories").
+use Rattle.std.specs.Prelude.{◌≡◌, ℕ, ◌<◌, [], length}
 use Rattle.fir_ast.specs.Circuits.{CircuitTree}
 use Rattle.fir_meaning.specs.ModuleScenes.{Scene}
 use Rattle.fir_meaning.specs.Scenes.{IsSceneOf}
-use Rattle.fir_meaning.specs.working.LeafModules.{LeafModule, LeafReset, Role, pipe, reading, register, role_at}
+use Rattle.fir_meaning.specs.working.LeafModules.{LeafModule, Role, pipe, reading, role_at}
 use Rattle.fir_meaning.specs.working.LeafedModules.{leafed_module}
 
-abbrev pub ActsAtEdges : Option LeafReset → Type 0
-ActsAtEdges None = Unit {0}
-ActsAtEdges (Some r) = r.is_async ≡ false
-
 abbrev pub IsTakenRole : Role → Type 0
-IsTakenRole (register clock reset) = ActsAtEdges reset
 IsTakenRole (reading r) = ⊥
 IsTakenRole (pipe r clock under) = ⊥
 IsTakenRole r = Unit {0}

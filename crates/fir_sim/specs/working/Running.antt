@@ -2,7 +2,7 @@
 use Rattle.std.specs.Prelude.{List}
 use Rattle.fir_net.specs.declared.net.FlatNet.{FlatNet}
 use Rattle.fir_net.specs.working.IsNet.{IsNet}
-use Rattle.fir_tick.specs.working.Held.{IsHeld}
+use Rattle.fir_work.specs.working.Held.{IsHeld}
 use Rattle.fir_tick.specs.working.Views.{view_of, HasWidths}
 use Rattle.fir_tick.specs.working.Plans.{IsPlan}
 use Rattle.fir_tick.specs.working.Steps.{IsStepped}

@@ -15,7 +15,7 @@ use Rattle.fir_net.specs.working.Dependence.{IsOf}
 use Rattle.fir_net.specs.working.Values.{at_width}
 use Rattle.fir_work.specs.working.Numbers.{number_at, place, value_in}
 use Rattle.fir_work.specs.working.NodeValues.{held_node_at}
-use Rattle.fir_tick.specs.working.Held.{IsHeld}
+use Rattle.fir_work.specs.working.Held.{IsHeld}
 
 abbrev pub is_one : Num → Bool
 is_one v = nat_eq v.value.number 1

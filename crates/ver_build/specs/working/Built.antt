@@ -1,6 +1,6 @@
 -- The Verilog tree of a net, as a function of the net, its names, where its values are, and an order.
--- The registers come first, in the order of the state, then the wires of the inner nets and their assigns, both in the order, the assigns of the outputs in port
--- order, those of the clock outputs in port order, and the blocks of the registers that something drives on a clock, in the order of the state.
+-- The registers come first, in the order of the state, then the wires of the inner nets and their assigns, those of nodes in the order and those of resets in
+-- the order of the state, the assigns of the outputs in port order, those of the clock outputs in port order, and the blocks in the order of the state.
 use Rattle.std.specs.Prelude.{ℕ, ◌+◌, true, false, List, [], ◌∷◌, ◌++◌, map, flat_map, slice_get, slice_index, Option, Some, None, unwrap_or}
 use Rattle.fir_base.specs.declared.direction.Direction.TheVariants as direction
 use Rattle.fir_net.specs.declared.reads.Read.{Read}
@@ -16,7 +16,7 @@ use Rattle.ver_ast.specs.declared.tree.Verilog.{Verilog}
 use Rattle.ver_ast.specs.declared.tree.Port.{Port}
 use Rattle.ver_ast.specs.declared.tree.Net.{Net}
 use Rattle.ver_ast.specs.declared.tree.Assign.{Assign}
-use Rattle.ver_ast.specs.declared.tree.Always.{Always}
+use Rattle.ver_ast.specs.Nets.{AlwaysBlock}
 use Rattle.ver_ast.specs.declared.tree.Item.{Item}
 use Rattle.ver_ast.specs.declared.tree.Item.TheVariants as item
 use Rattle.ver_ast.specs.Atoms as tree
@@ -30,7 +30,9 @@ use Rattle.ver_build.specs.working.Operands.{atom_at}
 use Rattle.ver_build.specs.declared.right_sides.Inner.{Inner}
 use Rattle.ver_build.specs.working.Texts.{operation_inners, first_held, second_held, mux_rhs}
 use Rattle.fir_net_names.specs.working.LeafNamed.{name_at}
-use Rattle.ver_build.specs.working.Places.{held_of, node_at, clock_in, driven_clock_in}
+use Rattle.ver_build.specs.working.Places.{held_of, node_at, driven_clock_in}
+use Rattle.ver_build.specs.working.Blocks.{leaf_net, leaf_block}
+use Rattle.ver_build.specs.Arranged.{block_item}
 
 -- the nets of an operation or a mux that has the place
 abbrev pub node_inners : Places → Node → List (List ℕ) → List ℕ → List Inner
@@ -52,10 +54,6 @@ inners_at p (Some n) at = placed_inners p n at.helpers at.held.source
 abbrev pub read_inners : FlatNet → Places → Read → List Inner
 read_inners net p (read.Leaf k) = []
 read_inners net p (read.Node k) = inners_at p (slice_get net.nodes k) (node_at p.nodes k)
-
--- the inner nets, in the order of the reads
-abbrev pub inners : FlatNet → Places → List Read → List Inner
-inners net p order = flat_map (read_inners net p) order
 
 abbrev pub port_of : Role → ℕ → List ℕ → List Port
 port_of role.Input width name = record { is_clock = false; direction = direction.Input; width = width; name = name } ∷ []
@@ -100,19 +98,6 @@ role_clock_assign t p _ name = []
 abbrev pub leaf_clock_assign : NameTable → Places → Leaf → Option (List ℕ) → List Assign
 leaf_clock_assign t p l name = role_clock_assign t p l.role name
 
--- the block of a register that something drives on that clock
-abbrev pub block_on : NameTable → Places → Option ℕ → ℕ → Option Read → List ℕ → List Always
-block_on t p (Some k) width (Some r) name =
-    record { clock = unwrap_or (name_at t.leaves k) []; target = name; source = atom_at width (held_of p r) } ∷ []
-block_on t p _ width _ name = []
-
-abbrev pub role_block : NameTable → Places → Role → ℕ → Option (List ℕ) → List Always
-role_block t p (role.Register r) width (Some name) = block_on t p (clock_in p.leaves r.clock) width r.next name
-role_block t p _ width _ = []
-
-abbrev pub leaf_block : NameTable → Places → Leaf → Option (List ℕ) → List Always
-leaf_block t p l name = role_block t p l.role l.width name
-
 -- each leaf with its name, where they are numbered from k on
 abbrev pub along : {A B : Type 0} → (A → Option (List ℕ) → List B) → List (Option (List ℕ)) → ℕ → List A → List B
 along f names k [] = []
@@ -135,9 +120,27 @@ at_numbers f names leaves ks = flat_map (at_number f names leaves) ks
 abbrev pub given : {B : Type 0} → (B → Item) → (Leaf → Option (List ℕ) → List B) → Leaf → Option (List ℕ) → List Item
 given c f l name = map c (f l name)
 
+-- the inner nets of nodes, in the order of the reads
+abbrev pub order_inners : FlatNet → Places → List Read → List Inner
+order_inners net p order = flat_map (read_inners net p) order
+
+-- those of resets, in the order of the state
+abbrev pub reset_inners : FlatNet → Places → List Inner
+reset_inners net p = at_numbers (leaf_net p) p.resets net.leaves net.state
+
+abbrev pub inners : FlatNet → Places → List Read → List Inner
+inners net p order = order_inners net p order ++ reset_inners net p
+
+-- the block of a word of the state
+abbrev pub word_block : FlatNet → NameTable → Places → ℕ → List AlwaysBlock
+word_block net t p k = at_number (leaf_block t p k) t.leaves net.leaves k
+
+abbrev pub word_blocks : FlatNet → NameTable → Places → List AlwaysBlock
+word_blocks net t p = flat_map (word_block net t p) net.state
+
 -- registers, then wires, then assigns, then those of clock outputs, then blocks
-abbrev pub items : List Net → List Net → List Assign → List Assign → List Always → List Item
-items rs ws xs cs bs = map item.Reg rs ++ (map item.Wire ws ++ (map item.Assign xs ++ (map item.Assign cs ++ map item.Always bs)))
+abbrev pub items : List Net → List Net → List Assign → List Assign → List AlwaysBlock → List Item
+items rs ws xs cs bs = map item.Reg rs ++ (map item.Wire ws ++ (map item.Assign xs ++ (map item.Assign cs ++ map block_item bs)))
 
 unfoldable pub built : FlatNet → NameTable → Places → List Read → Verilog
 built net t p order =
@@ -148,6 +151,6 @@ built net t p order =
           items (at_numbers leaf_reg t.leaves net.leaves net.state) (map inner_wire (inners net p order))
           (map inner_assign (inners net p order) ++ along (leaf_assign p) t.leaves 0 net.leaves)
           (along (leaf_clock_assign t p) t.leaves 0 net.leaves)
-          (at_numbers (leaf_block t p) t.leaves net.leaves net.state);
+          (word_blocks net t p);
       places = [];
     }

@@ -1,10 +1,13 @@
 -- Where values are in the tree of a net.
 -- The value of an input, of a register, of an operation and of a mux is in a net of its own. A wire and an output are where what drives them is, fitted to their
 -- width; a literal is a number. A clock leaf is the clock input at which its drivers end, or none.
-use Rattle.std.specs.Prelude.{◌≡◌, ℕ, ◌+◌, ◌^◌, ◌≤◌, List, [], ◌∷◌, ◌++◌, flat_map, length, slice_get, nat_eq, if◌then◌else◌, Bool, MatchBool, Option, Some, None, unwrap_or}
+use Rattle.std.specs.Prelude.{◌≡◌, ℕ, ◌+◌, ◌^◌, ◌≤◌, List, [], ◌∷◌, ◌++◌, flat_map, length, slice_get, nat_eq, if◌then◌else◌, Bool, false, ◌&&◌, MatchBool, Option, Some, None, unwrap_or}
+use Rattle.std.specs.Option.{is_none, is_some}
+use Rattle.fir_base.specs.Lists.{In}
 use Rattle.std.specs.List.{AllByRecursion}
 use Rattle.fir_net.specs.declared.reads.Read.{Read}
 use Rattle.fir_net.specs.declared.reads.Read.TheVariants as read
+use Rattle.fir_net.specs.declared.leaf.Reset.{Reset}
 use Rattle.fir_net.specs.declared.leaf.Role.{Role}
 use Rattle.fir_net.specs.declared.leaf.Role.TheVariants as role
 use Rattle.fir_net.specs.declared.leaf.Leaf.{Leaf}
@@ -14,7 +17,8 @@ use Rattle.fir_net.specs.declared.net.FlatNet.{FlatNet}
 use Rattle.fir_net_names.specs.declared.name_table.NameTable.{NameTable}
 use Rattle.ver_words.specs.Names.{IsName}
 use Rattle.fir_net_names.specs.Names.{IsInner, inner_name}
-use Rattle.fir_net_names.specs.working.LeafNamed.{somes, name_at}
+use Rattle.fir_net_names.specs.working.LeafNamed.{with_some, somes, name_at}
+use Rattle.fir_inits.specs.working.InitValues.{AreInitValues}
 use Rattle.ver_build.specs.declared.held.Source.{Source}
 use Rattle.ver_build.specs.declared.held.Source.TheVariants as source
 use Rattle.ver_build.specs.declared.held.Held.{Held}
@@ -119,13 +123,45 @@ abbrev pub AreInnerTo : List (List ℕ) → ℕ → List (List ℕ) → ℕ → 
 AreInnerTo taken from [] to = from ≡ to
 AreInnerTo taken from (name ∷ names) to = (k : ℕ) × IsInner taken from k × (name ≡ inner_name k) × AreInnerTo taken (k + 1) names to
 
-pub record AreNodePlaces (net : FlatNet) (t : NameTable) (order : List Read) (nodes : List NodePlace) : Type 0 where
+-- their names are the inner ones below that number
+pub record AreNodePlaces (net : FlatNet) (t : NameTable) (order : List Read) (nodes : List NodePlace) (last : ℕ) : Type 0 where
   pub held : AreNodesHeld net nodes
-  pub last : ℕ
   pub named : AreInnerTo (somes t.leaves) 0 (inner_names net nodes order) last
-  pub near : last ≤ 2 ^ 127
   pub spelled : AllByRecursion IsName (inner_names net nodes order)
+
+-- the net of one bit that a value is all of
+abbrev pub bit_net : Source → Option (List ℕ)
+bit_net (source.Number n) = None
+bit_net (source.Net p) = if nat_eq p.own 1 && nat_eq p.kept 1 then Some p.name else None
+
+-- whether a register has a reset whose condition is not all of a net of one bit
+abbrev pub needs_net : List Place → List NodePlace → Option Reset → Bool
+needs_net leaves nodes None = false
+needs_net leaves nodes (Some r) = is_none (bit_net (held_in leaves nodes r.condition).source)
+
+abbrev pub role_needs : List Place → List NodePlace → Role → Bool
+role_needs leaves nodes (role.Register r) = needs_net leaves nodes r.reset
+role_needs leaves nodes _ = false
+
+abbrev pub leaf_needs : List Place → List NodePlace → Option Leaf → Bool
+leaf_needs leaves nodes None = false
+leaf_needs leaves nodes (Some l) = role_needs leaves nodes l.role
+
+-- the names of the nets that resets have of their own, in the order of the state
+abbrev pub reset_names : List (Option (List ℕ)) → List ℕ → List (List ℕ)
+reset_names resets state = flat_map (λ k. with_some (name_at resets k) []) state
+
+-- the words with such resets have these names, which are the inner ones from that number on
+pub record AreResetNets (net : FlatNet) (t : NameTable) (leaves : List Place) (nodes : List NodePlace) (from : ℕ) (resets : List (Option (List ℕ))) : Type 0 where
+  pub each : (k : ℕ) → In net.state k → is_some (name_at resets k) ≡ leaf_needs leaves nodes (slice_get net.leaves k)
+  pub last : ℕ
+  pub named : AreInnerTo (somes t.leaves) from (reset_names resets net.state) last
+  pub near : last ≤ 2 ^ 127
+  pub spelled : AllByRecursion IsName (reset_names resets net.state)
 
 pub record IsPlaces (net : FlatNet) (t : NameTable) (order : List Read) (p : Places) : Type 0 where
   pub leaves : ArePlaced net t p.nodes p.leaves
-  pub nodes : AreNodePlaces net t order p.nodes
+  pub last : ℕ
+  pub nodes : AreNodePlaces net t order p.nodes last
+  pub resets : AreResetNets net t p.leaves p.nodes last p.resets
+  pub inits : AreInitValues net p.inits

@@ -1,7 +1,7 @@
-use Rattle.std.proofs.Common.{length, map}
+use Rattle.std.proofs.Common.{◌≡◌, drop, map}
 use Rattle.fir_ast.specs.working.Views.{module_of}
-use Rattle.fir_lack.proofs.FoundLacks.{IsLeft}
+use Rattle.fir_lack.specs.Lacking.{lacking_modules}
 use Rattle.fir_lack.proofs.circuit.lacking_modules.Given as goal
 
 abbrev pub invariant-loop-tree : goal.invariant-loop-tree
-invariant-loop-tree l = IsLeft (map module_of l.modules) l.parts (length l.yielded)
+invariant-loop-tree l = lacking_modules (map module_of l.modules) ≡ lacking_modules (map module_of (drop l.tree-index l.modules))

@@ -15,10 +15,13 @@ loop-read-preserved c =
     c.read-item.result c.loop-read-test.true here (omega (arith, c.if-from-gt-MOST.false))
     c.in_ok-from.ensures.near c.in_ok-from.ensures.passed c.loop-read.invariant
 
-pub returns : goal.returns
-returns c =
+pub returns-clause-near : goal.returns-clause-near
+returns-clause-near c = c.loop-read.invariant.near
+
+pub returns-clause-placed : goal.returns-clause-placed
+returns-clause-placed c =
     λ is.
     let order = c.args.order.now in
     let last : c.loop-read.read-index ≡ length order = omega (arith, c.loop-read.auto.read-index-end, c.loop-read-test.false) in
     nodes_end c.args.net.now c.args.table.now order is c.loop-read.places.items c.loop-read.read-index c.loop-read.from last
-    c.loop-read.invariant.near (c.loop-read.invariant.walk is)
+    (c.loop-read.invariant.walk is)

@@ -9,7 +9,7 @@ use Rattle.fir_meaning.specs.working.Stages.{IsClearOf, IsFirstOf, IsTreeOf}
 use Rattle.fir_meaning.proofs.KeptTrees.{reports_first}
 use Rattle.fir_net.specs.declared.net.FlatNet.{FlatNet}
 use Rattle.fir_flatten.specs.working.FlattensTo.{FlattensTo}
-use Rattle.fir_compile.proofs.NetPasses.{keeps_flat, reports_clock}
+use Rattle.fir_compile.proofs.NetPasses.{keeps_flat, reports_told}
 use Rattle.fir_compile.proofs.flat.FlattenPass.run.Goals as goal
 
 pub returns-in-Ok-clause-ok : goal.returns-in-Ok-clause-ok
@@ -20,6 +20,6 @@ returns-in-Ok-clause-ok c =
 pub returns-in-Err-clause-fault : goal.returns-in-Err-clause-fault
 returns-in-Err-clause-fault c =
     let refused : Result FlatNet (Refused (FirFault × Circuit)) = Err c.in-Err.refused in
-    let first = reports_clock c.into_circuit.result c.in-Err.refused c.in-Err.ensures.told c.in-Err.ensures.shown in
+    let first = reports_told c.into_circuit.result c.into_circuit.ensures.memories c.in-Err.refused c.in-Err.ensures.told in
     reports_first 10 12 c.args.x (λ f. fault_of f.0) refused
     (subst (λ t. IfFaulty c.in-Err.refused (λ f. IsFirstOf 10 12 (circuit_of t) (fault_of f.0))) c.into_circuit.ensures.tree first)

@@ -1,0 +1,12 @@
+pub mod Inits
+pub mod Registering
+pub mod Marking
+pub mod Queues
+pub mod Meeting
+pub mod Taking
+pub mod Opening
+pub mod Walking
+pub mod Telling
+pub mod Evaluating
+pub mod Evaluated
+pub mod InitNumbers
