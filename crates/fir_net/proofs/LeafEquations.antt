@@ -19,7 +19,7 @@ use Rattle.fir_net.specs.working.Dependence.{kind_reads, reset_reads, role_reads
 use Rattle.fir_net.specs.working.IsNet.{CanRead, CanBeReset, IsRole, IsLeaf, IsNet}
 use Rattle.fir_net.specs.working.IsOrder.{IsOrder}
 use Rattle.fir_net.specs.working.Values.{at_width, leaf_width}
-use Rattle.fir_net.specs.working.Settled.{value_at, is_high, shown_by, shown, shape, inputs, registers}
+use Rattle.fir_net.specs.working.Settled.{value_at, is_high, shown_by, shown, is_read, word_read, shape, inputs, registers}
 use Rattle.fir_net.proofs.Places.{place_of, place_fits}
 use Rattle.fir_net.specs.working.Laws.{LeavesFit}
 use Rattle.fir_net.proofs.WholeValues.{width_at, fit_below, value_whole}
@@ -31,6 +31,7 @@ abbrev pub role_value : FlatNet → List ℕ → Tick → (ℕ → ℕ) → ℕ 
 role_value net state tick env k width role.Input = slice_index tick.inputs (place_of k (inputs net))
 role_value net state tick env k width (role.Output r) = at_width (value_at net env r) width
 role_value net state tick env k width (role.Wire r) = at_width (value_at net env r) width
+role_value net state tick env k width (role.Reading r) = word_read net state env r
 role_value net state tick env k width (role.Register d) = shown net env width d.reset (slice_index state (place_of k (registers net)))
 role_value net state tick env k width _ = 0
 

@@ -48,6 +48,7 @@ module _ (law : HasItsType) (net : FlatNet) (whole : IsNet net) (state : List �
     role_met k l (role.Output r) at is plain bits = s.driven k l r at (ap driver is)
     role_met k l (role.Wire r) at is plain bits = s.driven k l r at (ap driver is)
     role_met k l (role.Register d) at is plain bits = register_met k l d at is bits
+    role_met k l (role.Reading r) at is plain bits = s.arrays_read k l r at is
     role_met k l (role.ClockOutput c) at is plain bits = cc
     role_met k l (role.ClockWire c) at is plain bits = cc
 
@@ -67,6 +68,7 @@ module _ (law : HasItsType) (net : FlatNet) (whole : IsNet net) (state : List �
     role_clock_met k l (role.Output r) at is ticking = cc
     role_clock_met k l (role.Wire r) at is ticking = cc
     role_clock_met k l (role.Register d) at is ticking = cc
+    role_clock_met k l (role.Reading r) at is ticking = cc
     role_clock_met k l (role.ClockOutput c) at is ticking = s.clocks_driven k l c at (ap clock_driver is)
     role_clock_met k l (role.ClockWire c) at is ticking = s.clocks_driven k l c at (ap clock_driver is)
 
@@ -101,6 +103,7 @@ module _ (law : HasItsType) (net : FlatNet) (whole : IsNet net) (state : List �
     role_driven k l (role.Output q) r at is e = let same : q ≡ r = cc in value_of k l (role.Output q) at is refl ∙ ap (λ (p : Read). at_width (value_at net env p) l.width) same
     role_driven k l (role.Wire q) r at is e = let same : q ≡ r = cc in value_of k l (role.Wire q) at is refl ∙ ap (λ (p : Read). at_width (value_at net env p) l.width) same
     role_driven k l (role.Register d) r at is e = cc
+    role_driven k l (role.Reading q) r at is e = cc
     role_driven k l (role.ClockOutput c) r at is e = cc
     role_driven k l (role.ClockWire c) r at is e = cc
 
@@ -110,6 +113,7 @@ module _ (law : HasItsType) (net : FlatNet) (whole : IsNet net) (state : List �
     clock_driven k l (role.Output q) c at is e = cc
     clock_driven k l (role.Wire q) c at is e = cc
     clock_driven k l (role.Register d) c at is e = cc
+    clock_driven k l (role.Reading q) c at is e = cc
     clock_driven k l (role.ClockOutput b) c at is e = let same : b ≡ c = cc in clock_of k l (role.ClockOutput b) at is refl ∙ ap (driven_clock clock) same
     clock_driven k l (role.ClockWire b) c at is e = let same : b ≡ c = cc in clock_of k l (role.ClockWire b) at is refl ∙ ap (driven_clock clock) same
 
@@ -119,6 +123,7 @@ module _ (law : HasItsType) (net : FlatNet) (whole : IsNet net) (state : List �
       fits = fit.each;
       input_values = values_at_places (leaf_width net.leaves) env (inputs net) tick.inputs shaped.inputs_fit input_given;
       registers_show = register_shows;
+      arrays_read = λ k l r at is. value_of k l (role.Reading r) at is refl;
       driven = λ k l r at e. role_driven k l l.role r at refl e;
       clock_inputs = clock_given;
       clocks_driven = λ k l c at e. clock_driven k l l.role c at refl e;

@@ -24,6 +24,7 @@ register_of role.Clock e = cc
 register_of (role.Output r) e = cc
 register_of (role.Wire r) e = cc
 register_of (role.Register d) e = (d, cc)
+register_of (role.Reading r) e = cc
 register_of (role.ClockOutput c) e = cc
 register_of (role.ClockWire c) e = cc
 

@@ -1,4 +1,4 @@
--- The ports and the words of the state of a net, as rows that can be compared. Leaves of no bits have none. Arrays have rows too; a net has none yet.
+-- The ports and the words of the state of a net, as rows that can be compared. Leaves and arrays of no bits have none.
 use Rattle.std.specs.Prelude.{ℕ, List, [], ◌∷◌, map, nat_eq, if◌then◌else◌}
 use Rattle.fir_base.specs.declared.direction.Direction.{Direction}
 use Rattle.ver_words.specs.declared.signal.Signal.{Signal}

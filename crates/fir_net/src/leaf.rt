@@ -1,5 +1,6 @@
 //! Leaves: what a circuit declares, one ground value each.
 
+use crate::array::ArrayRead;
 use crate::reads::Read;
 use fir_ast::{LeafId, Place};
 use fir_base::Name;
@@ -46,6 +47,8 @@ pub enum Role {
     Wire(Read),
     /// The state.
     Register(Register),
+    /// The data of a memory's port that reads at once: a word of the state.
+    Reading(ArrayRead),
     /// An output port of a clock: another clock's leaf, or no clock.
     ClockOutput(Option<LeafId>),
     /// A wire or a node of a clock: another clock's leaf, or no clock.

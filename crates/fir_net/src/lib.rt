@@ -4,6 +4,7 @@
 //! `Dependence`. Here are also the counts of a net, and nodes of which no two are equal (`share`).
 #![tactic(auto)]
 
+mod array;
 mod counting;
 pub mod laws;
 mod leaf;
@@ -13,6 +14,7 @@ mod reads;
 mod sharing;
 mod totals;
 
+pub use array::{Array, ArrayRead, ArrayWrite};
 pub use counting::counts;
 pub use leaf::{Leaf, Register, Reset, ResetKind, Role};
 pub use net::FlatNet;

@@ -9,4 +9,4 @@ use Rattle.fir_net.specs.working.Next.{next}
 abbrev pub Allows : FlatNet → Allowance
 Allows net state tick shown clocks after =
     (env : ℕ → ℕ) × (clock : ℕ → Option ℕ) × Settled net state tick env clock
-    × (map env (outputs net) ≡ shown) × (map clock (clock_outputs net) ≡ clocks) × (next net env clock tick ≡ after)
+    × (map env (outputs net) ≡ shown) × (map clock (clock_outputs net) ≡ clocks) × (next net state env clock tick ≡ after)

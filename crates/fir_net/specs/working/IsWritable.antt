@@ -1,6 +1,6 @@
 -- Which nets have a Verilog text: each reset is asynchronous, and what gives its register its init hangs on no input and on no leaf that shows state, so that it
--- is a constant.
-use Rattle.std.specs.Prelude.{◌≡◌, ℕ, Bool, true, false, slice_get, Option, Some, None}
+-- is a constant. So far there are no arrays.
+use Rattle.std.specs.Prelude.{◌≡◌, ℕ, [], Bool, true, false, slice_get, Option, Some, None}
 use Rattle.fir_net.specs.declared.reads.Read.{Read}
 use Rattle.fir_net.specs.declared.reads.Read.TheVariants as read
 use Rattle.fir_net.specs.declared.leaf.Register.{Register}
@@ -21,6 +21,7 @@ abbrev pub is_input_or_state : Role → Bool
 is_input_or_state role.Input = true
 is_input_or_state role.Clock = true
 is_input_or_state (role.Register r) = true
+is_input_or_state (role.Reading r) = true
 is_input_or_state _ = false
 
 -- it reaches no input and no leaf that shows state
@@ -45,3 +46,4 @@ IsWritableRole _ = Unit {0}
 pub record IsWritable (net : FlatNet) : Type 0 where
   pub leaves : (k : ℕ) (l : Leaf) → slice_get net.leaves k ≡ Some l → IsWritableRole l.role
   pub inits : HasConstantInits net
+  pub no_arrays : net.arrays ≡ []

@@ -1,8 +1,11 @@
 -- The state after a tick.
 -- A register whose asynchronous reset is 1 takes its init, which is what it shows. Else, where its clock is named, it takes its init while a synchronous reset
--- is 1, and else the value that drives it, fitted to its width. One that nothing drives, or whose clock is not named or none, holds.
-use Rattle.std.specs.Prelude.{ℕ, List, map, Bool, false, slice_get, if◌then◌else◌, Option, Some, None}
+-- is 1, and else the value that drives it, fitted to its width. One that nothing drives, or whose clock is not named or none, holds. A word of an array takes
+-- what the last write gives it whose clock is named, whose condition is 1 and whose address is the word's; else it holds.
+use Rattle.std.specs.Prelude.{ℕ, List, [], ◌∷◌, ◌++◌, map, flat_map, Bool, false, ◌&&◌, nat_eq, slice_get, if◌then◌else◌, Option, Some, None}
 use Rattle.fir_base.specs.Ticks.{Tick, rises}
+use Rattle.fir_net.specs.declared.array.Array.{Array}
+use Rattle.fir_net.specs.declared.array.ArrayWrite.{ArrayWrite}
 use Rattle.fir_net.specs.declared.reads.Read.{Read}
 use Rattle.fir_net.specs.declared.leaf.ResetKind.{ResetKind}
 use Rattle.fir_net.specs.declared.leaf.ResetKind.TheVariants.{Synchronous, Asynchronous}
@@ -11,6 +14,7 @@ use Rattle.fir_net.specs.declared.leaf.Role.{Role}
 use Rattle.fir_net.specs.declared.leaf.Role.TheVariants as role
 use Rattle.fir_net.specs.declared.leaf.Leaf.{Leaf}
 use Rattle.fir_net.specs.declared.net.FlatNet.{FlatNet}
+use Rattle.fir_net.specs.working.Arrays.{addresses, begin_of, word_in}
 use Rattle.fir_net.specs.working.Values.{at_width}
 use Rattle.fir_net.specs.working.Settled.{value_at, is_high, registers}
 
@@ -45,5 +49,27 @@ next_of net env clock named now (Some l) = next_by net env clock named l.width n
 abbrev pub next_word : FlatNet → (ℕ → ℕ) → (ℕ → Option ℕ) → List ℕ → ℕ → ℕ
 next_word net env clock named k = next_of net env clock named (env k) (slice_get net.leaves k)
 
-abbrev pub next : FlatNet → (ℕ → ℕ) → (ℕ → Option ℕ) → Tick → List ℕ
-next net env clock tick = map (next_word net env clock tick.clocks) (registers net)
+-- the words of the registers
+abbrev pub words_next : FlatNet → (ℕ → ℕ) → (ℕ → Option ℕ) → Tick → List ℕ
+words_next net env clock tick = map (next_word net env clock tick.clocks) (registers net)
+
+module _ (net : FlatNet) (env : ℕ → ℕ) (clock : ℕ → Option ℕ) (named : List ℕ) where
+  -- whether a write acts at an address
+  abbrev pub is_written : ArrayWrite → ℕ → Bool
+  is_written w address = ticks named (clock w.clock) && (is_high net env w.condition && nat_eq (value_at net env w.address).value.number address)
+
+  -- what these writes leave there of a word of that width
+  abbrev pub word_after : ℕ → List ArrayWrite → ℕ → ℕ → ℕ
+  word_after width [] address word = word
+  word_after width (w ∷ ws) address word = word_after width ws address (if is_written w address then at_width (value_at net env w.given) width else word)
+
+  abbrev pub array_after : List ℕ → ℕ → Option Array → List ℕ
+  array_after state k None = []
+  array_after state k (Some a) = map (λ address. word_after a.width a.writes address (word_in state (begin_of net k) address)) (addresses 0 a.words)
+
+  -- the arrays after all writes, in the order of the state
+  abbrev pub arrays_next : List ℕ → List ℕ
+  arrays_next state = flat_map (λ k. array_after state k (slice_get net.arrays k)) net.array_order
+
+abbrev pub next : FlatNet → List ℕ → (ℕ → ℕ) → (ℕ → Option ℕ) → Tick → List ℕ
+next net state env clock tick = words_next net env clock tick ++ arrays_next net env clock tick.clocks state

@@ -1,6 +1,7 @@
--- The rows of a net: its ports, and the words of its state.
-use Rattle.std.specs.Prelude.{ℕ, List, [], flat_map, slice_get, Option, Some, None}
+-- The rows of a net: its ports, and the words and arrays of its state.
+use Rattle.std.specs.Prelude.{ℕ, List, [], ◌∷◌, flat_map, slice_get, Option, Some, None}
 use Rattle.fir_base.specs.declared.direction.Direction.TheVariants as direction
+use Rattle.fir_net.specs.declared.array.Array.{Array}
 use Rattle.fir_net.specs.declared.leaf.Role.{Role}
 use Rattle.fir_net.specs.declared.leaf.Role.TheVariants as role
 use Rattle.fir_net.specs.declared.leaf.Leaf.{Leaf}
@@ -25,5 +26,9 @@ net_rows net = flat_map (λ l. role_row l.role (base_name l.path) l.width) net.l
 abbrev pub net_words : FlatNet → List Word
 net_words net = flat_map (λ k. leaf_word (slice_get net.leaves k)) net.state
 
+abbrev pub array_row : Option Array → List ArrayRow
+array_row None = []
+array_row (Some a) = record { name = base_name a.path; width = a.width; depth = a.words } ∷ []
+
 abbrev pub net_arrays : FlatNet → List ArrayRow
-net_arrays net = []
+net_arrays net = flat_map (λ k. array_row (slice_get net.arrays k)) net.array_order

@@ -1,11 +1,12 @@
 -- The values of a net's leaves while nothing changes.
--- An input has the tick's value, and a register its word of the state, or its init while an asynchronous reset is 1; every other leaf has the value that
--- drives it. A leaf takes a value fitted to its width, by the value's own sign. A clock input has its number, counted from 0 in port order, and every
+-- An input has the tick's value, and a register its word of the state, or its init while an asynchronous reset is 1; what is read of an array is the word at
+-- the address, and zero past the end or while it is not enabled; every other leaf has the value that drives it. A leaf takes a value fitted to its width, by the value's own sign. A clock input has its number, counted from 0 in port order, and every
 -- other clock leaf is the clock that drives it, or none. All is guessed whole and then tested; no order of evaluation stands in the definition.
 -- Leaves are numbered from 0, the ports in their order and then the others.
-use Rattle.std.specs.Prelude.{◌≡◌, ℕ, ◌+◌, ◌^◌, ◌<◌, List, [], ◌∷◌, ◌++◌, map, length, slice_get, slice_index, nat_eq, if◌then◌else◌, Bool, true, false, Option, Some, None}
+use Rattle.std.specs.Prelude.{◌≡◌, ℕ, ◌+◌, ◌^◌, ◌<◌, List, [], ◌∷◌, ◌++◌, map, length, slice_get, slice_index, nat_eq, nat_lt, ◌&&◌, if◌then◌else◌, Bool, true, false, Option, Some, None}
 use Rattle.fir_bits.specs.declared.values.Num.{Num}
 use Rattle.fir_base.specs.Ticks.{Tick, Shape, HasShape}
+use Rattle.fir_net.specs.declared.array.ArrayRead.{ArrayRead}
 use Rattle.fir_net.specs.declared.reads.Read.{Read}
 use Rattle.fir_net.specs.declared.leaf.ResetKind.{ResetKind}
 use Rattle.fir_net.specs.declared.leaf.ResetKind.TheVariants.{Synchronous, Asynchronous}
@@ -15,6 +16,7 @@ use Rattle.fir_net.specs.declared.leaf.Role.{Role}
 use Rattle.fir_net.specs.declared.leaf.Role.TheVariants as role
 use Rattle.fir_net.specs.declared.leaf.Leaf.{Leaf}
 use Rattle.fir_net.specs.declared.net.FlatNet.{FlatNet}
+use Rattle.fir_net.specs.working.Arrays.{array_widths, begin_of, word_in, words_of}
 use Rattle.fir_net.specs.working.Values.{at_width, leaf_width, read_value, values}
 
 -- leaves of no bits are in no list of values
@@ -57,7 +59,7 @@ outputs net = numbers_by output_number 0 net.leaves
 abbrev pub clock_outputs : FlatNet → List ℕ
 clock_outputs net = numbers_by clock_output_number 0 net.leaves
 
--- the registers, whose words are the state
+-- the registers, whose words stand in front of the state
 abbrev pub registers : FlatNet → List ℕ
 registers net = net.state
 
@@ -66,7 +68,7 @@ shape net =
     record {
       inputs = map (leaf_width net.leaves) (inputs net);
       clocks = length (clocks net);
-      state = map (leaf_width net.leaves) (registers net);
+      state = map (leaf_width net.leaves) (registers net) ++ array_widths net;
     }
 
 -- the value that is read
@@ -108,12 +110,20 @@ abbrev pub shown : FlatNet → (ℕ → ℕ) → ℕ → Option Reset → ℕ �
 shown net env width None word = word
 shown net env width (Some r) word = shown_by net env width r.kind r.condition r.init word
 
+-- what is read of an array
+abbrev pub is_read : FlatNet → (ℕ → ℕ) → ArrayRead → Bool
+is_read net env r = is_high net env r.enable && nat_lt (value_at net env r.address).value.number (words_of net.arrays r.array)
+
+abbrev pub word_read : FlatNet → List ℕ → (ℕ → ℕ) → ArrayRead → ℕ
+word_read net state env r = if is_read net env r then word_in state (begin_of net r.array) (value_at net env r.address).value.number else 0
+
 pub record Settled (net : FlatNet) (state : List ℕ) (tick : Tick) (env : ℕ → ℕ) (clock : ℕ → Option ℕ) : Type 0 where
   pub shaped : HasShape (shape net) state tick
   -- each leaf that is no clock has a value of its width
   pub fits : (k : ℕ) (l : Leaf) → slice_get net.leaves k ≡ Some l → is_clock l.role ≡ false → env k < 2 ^ l.width
   pub input_values : map env (inputs net) ≡ tick.inputs
   pub registers_show : (n k : ℕ) (l : Leaf) (r : Register) → slice_get (registers net) n ≡ Some k → slice_get net.leaves k ≡ Some l → l.role ≡ role.Register r → env k ≡ shown net env l.width r.reset (slice_index state n)
+  pub arrays_read : (k : ℕ) (l : Leaf) (r : ArrayRead) → slice_get net.leaves k ≡ Some l → l.role ≡ role.Reading r → env k ≡ word_read net state env r
   pub driven : (k : ℕ) (l : Leaf) (r : Read) → slice_get net.leaves k ≡ Some l → driver l.role ≡ Some r → env k ≡ at_width (value_at net env r) l.width
   pub clock_inputs : (n : ℕ) (k : ℕ) → slice_get (clocks net) n ≡ Some k → clock k ≡ Some n
   pub clocks_driven : (k : ℕ) (l : Leaf) (c : Option ℕ) → slice_get net.leaves k ≡ Some l → clock_driver l.role ≡ Some c → clock k ≡ driven_clock clock c
