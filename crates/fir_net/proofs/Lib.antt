@@ -2,6 +2,7 @@ pub mod Places
 pub mod NodeReads
 pub mod KnownValues
 pub mod AlongOrder
+pub mod ArrayWords
 pub mod WholeNodes
 pub mod WholeValues
 pub mod ValuesAlong

@@ -1,7 +1,8 @@
 -- Settled choices are those that fit and meet the equations of all leaves.
-use Rattle.std.proofs.Common.{◌≡◌, ℕ, ◌^◌, ◌<◌, List, [], ◌∷◌, Bool, true, false, nat_eq, slice_index, refl, sym, ap, ◌∙◌, arith}
+use Rattle.std.proofs.Common.{◌≡◌, ℕ, zero, suc, ◌^◌, ◌<◌, List, [], ◌∷◌, length, take, Bool, true, false, nat_eq, slice_index, refl, sym, ap, ◌∙◌, arith}
 use Rattle.std.specs.Prelude.{slice_get, Option, Some}
 use Rattle.std.proofs.lemmas.Bool.{eqb-true}
+use Rattle.std.proofs.lemmas.Option.{slice_get_within}
 use Rattle.fir_base.specs.Ticks.{Tick, HasShape}
 use Rattle.fir_bits.specs.working.Laws.{HasItsType}
 use Rattle.fir_net.specs.declared.reads.Read.{Read}
@@ -18,7 +19,7 @@ use Rattle.fir_net.proofs.NumberedLeaves.{inputs_own, clocks_own, input_role, cl
 use Rattle.fir_net.proofs.StateWords.{word_at, word_place}
 use Rattle.fir_net.specs.working.Laws.{LeavesFit}
 use Rattle.fir_net.proofs.ValuesAlong.{IsPlain}
-use Rattle.fir_net.proofs.LeafEquations.{role_value, value_equation, equation_at, value_below}
+use Rattle.fir_net.proofs.LeafEquations.{front_word, role_value, value_equation, equation_at, value_below}
 use Rattle.fir_net.proofs.ClockEquations.{IsTicking, role_clock, clock_equation, clock_at}
 
 -- two numbers of no bits
@@ -29,7 +30,19 @@ both_zero x y w e h g = let a : x < 1 = rw e at h in let b : y < 1 = rw e at g i
 bits_give : (w k : ℕ) → nat_eq w 0 ≡ false → with_bits w k ≡ k ∷ []
 bits_give w k e = rw e refl
 
+front_index : (m : ℕ) (xs : List ℕ) (i : ℕ) → i < m → slice_index (take m xs) i ≡ slice_index xs i
+front_index zero xs i l = absurd (omega (arith, l))
+front_index (suc m) [] i l = refl
+front_index (suc m) (x ∷ xs) zero l = refl
+front_index (suc m) (x ∷ xs) (suc i) l = front_index m xs i (omega (arith, l))
+
 module _ (law : HasItsType) (net : FlatNet) (whole : IsNet net) (state : List ℕ) (tick : Tick) where
+  -- the word of a register in front of the arrays is that of its place
+  word_of_place : (n k : ℕ) → slice_get (registers net) n ≡ Some k → front_word net state k ≡ slice_index state n
+  word_of_place n k e =
+      let within : n < length (registers net) = slice_get_within (registers net) n k e in
+      ap (slice_index (take (length (registers net)) state)) (word_place whole.state n k e) ∙ front_index (length (registers net)) state n within
+
   -- what is settled meets the equations
   module _ (env : ℕ → ℕ) (clock : ℕ → Option ℕ) (s : Settled net state tick env clock) where
     input_met : (k : ℕ) (l : Leaf) → slice_get net.leaves k ≡ Some l → l.role ≡ role.Input → nat_eq l.width 0 ≡ false → env k ≡ slice_index tick.inputs (place_of k (inputs net))
@@ -37,10 +50,10 @@ module _ (law : HasItsType) (net : FlatNet) (whole : IsNet net) (state : List �
         let found = among input_number inputs_own net.leaves k l at (ap (λ (r : Role). input_number r l.width k) is ∙ bits_give l.width k bits) in
         value_at_place env (inputs net) tick.inputs s.input_values found.0 k found.1 ∙ ap (slice_index tick.inputs) (sym (place_among input_number inputs_own net.leaves found.0 k found.1))
 
-    register_met : (k : ℕ) (l : Leaf) (d : Register) → slice_get net.leaves k ≡ Some l → l.role ≡ role.Register d → nat_eq l.width 0 ≡ false → env k ≡ shown net env l.width d.reset (slice_index state (place_of k (registers net)))
+    register_met : (k : ℕ) (l : Leaf) (d : Register) → slice_get net.leaves k ≡ Some l → l.role ≡ role.Register d → nat_eq l.width 0 ≡ false → env k ≡ shown net env l.width d.reset (front_word net state k)
     register_met k l d at is bits =
         let found = word_at whole.state k l d at is bits in
-        s.registers_show found.0 k l d found.1 at is ∙ ap (λ (n : ℕ). shown net env l.width d.reset (slice_index state n)) (sym (word_place whole.state found.0 k found.1))
+        s.registers_show found.0 k l d found.1 at is ∙ ap (shown net env l.width d.reset) (sym (word_of_place found.0 k found.1))
 
     role_met : (k : ℕ) (l : Leaf) (r : Role) → slice_get net.leaves k ≡ Some l → l.role ≡ r → is_clock r ≡ false → nat_eq l.width 0 ≡ false → env k ≡ role_value net state tick env k l.width r
     role_met k l role.Input at is plain bits = input_met k l at is bits
@@ -90,7 +103,7 @@ module _ (law : HasItsType) (net : FlatNet) (whole : IsNet net) (state : List �
 
     register_shows : (n k : ℕ) (l : Leaf) (d : Register) → slice_get (registers net) n ≡ Some k → slice_get net.leaves k ≡ Some l → l.role ≡ role.Register d → env k ≡ shown net env l.width d.reset (slice_index state n)
     register_shows n k l d e at is =
-        value_of k l (role.Register d) at is refl ∙ ap (λ (m : ℕ). shown net env l.width d.reset (slice_index state m)) (word_place whole.state n k e)
+        value_of k l (role.Register d) at is refl ∙ ap (shown net env l.width d.reset) (word_of_place n k e)
 
     clock_given : (n k : ℕ) → slice_get (clocks net) n ≡ Some k → clock k ≡ Some n
     clock_given n k e =
