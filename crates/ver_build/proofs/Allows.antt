@@ -30,6 +30,7 @@ use Rattle.ver_build.specs.declared.places.Places.{Places}
 use Rattle.ver_build.specs.working.Operands.{atom_at}
 use Rattle.ver_build.specs.working.Places.{held_of}
 use Rattle.ver_build.specs.working.Blocks.{reset_net}
+use Rattle.ver_build.proofs.NoArrays.{next_words}
 use Rattle.ver_build.proofs.Premises.{Premises}
 use Rattle.ver_build.proofs.Parts.{in_parts}
 use Rattle.ver_build.proofs.Nets.{sizes}
@@ -65,7 +66,8 @@ module _ (net : FlatNet) (t : NameTable) (p : Places) (order : List Read) (is : 
           net_settled net t p order is state tick f rest shapes,
           sym (outputs_same net t p order is (leaf_values p f) (leaf_clocks t p f) f (agrees net t p order is state tick f rest)) ∙ a.2,
           sym (outputs_shown net t p order is state tick f rest (leaf_clocks t p f) (λ k l at ticking. refl)) ∙ a.3,
-          sym (next_state net t p order is state tick f rest) ∙ same_Some _ _ (sym (next_is net t p order is state tick f rest) ∙ a.4),
+          next_words net is.whole is.writable.no_arrays state (leaf_values p f) (leaf_clocks t p f) tick
+              ∙ sym (next_state net t p order is state tick f rest) ∙ same_Some _ _ (sym (next_is net t p order is state tick f rest) ∙ a.4),
         )
 
     -- a choice of the net, beside the tree's
@@ -127,7 +129,8 @@ module _ (net : FlatNet) (t : NameTable) (p : Places) (order : List Read) (is : 
           tree_settled net t p order is state tick f at_rest.rest,
           outputs_same net t p order is a.0 a.1 f (agrees_too a.0 a.1 a.2 f at_rest.rest) ∙ a.3,
           outputs_shown net t p order is state tick f at_rest.rest a.1 (same_clock a.0 a.1 a.2 f at_rest.rest) ∙ a.4,
-          next_is net t p order is state tick f at_rest.rest ∙ ap Some (next_too a.0 a.1 a.2 f at_rest.rest ∙ a.5),
+          next_is net t p order is state tick f at_rest.rest
+              ∙ ap Some (next_too a.0 a.1 a.2 f at_rest.rest ∙ sym (next_words net is.whole is.writable.no_arrays state a.0 a.1 tick) ∙ a.5),
         )
 
   pub parts_allow : (state : List ℕ) (tick : Tick) (shown : List ℕ) (clocks : List (Option ℕ)) (after : List ℕ)

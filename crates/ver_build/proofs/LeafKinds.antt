@@ -28,9 +28,10 @@ abbrev pub is_clock_output : Role → Bool
 is_clock_output (role.ClockOutput c) = true
 is_clock_output _ = false
 
--- wires have no name of their own
+-- wires and what is read of arrays have no name of their own
 abbrev pub is_wire : Role → Bool
 is_wire (role.Wire r) = true
+is_wire (role.Reading r) = true
 is_wire (role.ClockWire c) = true
 is_wire _ = false
 

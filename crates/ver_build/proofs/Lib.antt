@@ -19,6 +19,7 @@ pub mod Names
 pub mod LeafKinds
 pub mod Picked
 pub mod AlongOrder
+pub mod NoArrays
 pub mod Premises
 pub mod TableLeaves
 pub mod OrderedLeaves

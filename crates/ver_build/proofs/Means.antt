@@ -11,7 +11,7 @@ use Rattle.fir_net.specs.working.IsNet.{IsNet}
 use Rattle.fir_net.specs.working.IsOrder.{IsOrder}
 use Rattle.fir_net.specs.working.IsWritable.{IsWritable}
 use Rattle.fir_net_names.specs.working.IsTable.{IsTable}
-use Rattle.fir_net_names.specs.working.LeafNamed.{somes}
+use Rattle.fir_net_names.specs.working.TableNames.{table_names}
 use Rattle.fir_net.specs.working.Laws.{NodesHaveTheirValues, NodesHaveTheirTypes, OrderedHasOne}
 use Rattle.ver_ast.specs.working.Laws.{ValidHasOneRest}
 use Rattle.ver_build.specs.declared.places.Places.{Places}
@@ -28,7 +28,7 @@ use Rattle.ver_build.proofs.Allows.{parts_one, parts_allow}
 
 pub builds : NodesHaveTheirValues → NodesHaveTheirTypes → OrderedHasOne → ValidHasOneRest
     → (net : FlatNet) (t : NameTable) (p : Places) (order : List Read) → IsNet net → IsWritable net → IsOrder net order → IsTable net t
-    → IsPlaces net t order p → Distinct (somes t.leaves) → AllByRecursion IsName (somes t.leaves) → IsName t.circuit
+    → IsPlaces net t order p → Distinct (table_names t) → AllByRecursion IsName (table_names t) → IsName t.circuit
     → Builds net (built net t p order)
 builds values types one_choice one_rest net t p order whole writable ordered table places once spelled circuit =
     let is : Premises net t p order =

@@ -10,7 +10,7 @@ use Rattle.fir_base.proofs.Members.{in_map, in_left, in_right, in_either}
 use Rattle.fir_net.specs.declared.reads.Read.{Read}
 use Rattle.fir_net.specs.declared.net.FlatNet.{FlatNet}
 use Rattle.fir_net_names.specs.declared.name_table.NameTable.{NameTable}
-use Rattle.fir_net_names.specs.working.LeafNamed.{somes}
+use Rattle.fir_net_names.specs.working.LeafNamed.{somes, name_at}
 use Rattle.fir_net_names.specs.Names.{AreNamed, AreInner}
 use Rattle.ver_words.specs.Names.{IsName}
 use Rattle.ver_ast.specs.declared.tree.Port.{Port}
@@ -27,10 +27,11 @@ use Rattle.ver_build.specs.declared.places.Places.{Places}
 use Rattle.ver_build.specs.Arranged.{block_item}
 use Rattle.ver_build.specs.working.Built.{inners, leaf_port}
 use Rattle.ver_build.specs.Ports.{port_names}
-use Rattle.ver_build.specs.NamedFor.{IsNamedFor, leaf_names}
+use Rattle.ver_build.specs.NamedFor.{IsNamedFor, array_sizes, leaf_names}
+use Rattle.ver_build.proofs.NoArrays.{no_order, no_rows}
 use Rattle.ver_build.proofs.Premises.{Premises}
 use Rattle.ver_build.proofs.TableLeaves.{leaves_whole}
-use Rattle.ver_build.proofs.OrderedLeaves.{ordered_names, ordered_leaves, same_ports, ordered_spelled, ordered_inner}
+use Rattle.ver_build.proofs.OrderedLeaves.{ordered_all, ordered_names, ordered_leaves, same_ports, ordered_spelled, ordered_inner}
 use Rattle.ver_build.proofs.Parts.{ports_port, registers_of, wires_of, assigns_of, clock_assigns_of, blocks_of, in_parts}
 use Rattle.ver_build.proofs.LeafKinds.{is_clock_input, is_clock_output, is_net, picked}
 use Rattle.ver_build.proofs.Picked.{picked_named}
@@ -56,7 +57,9 @@ module _ (net : FlatNet) (t : NameTable) (p : Places) (order : List Read) (is : 
   all_names = names_of (sizes net t p order)
 
   leaf_is_name : (x : List ℕ) → In (somes (ordered_names net t)) x → IsName x
-  leaf_is_name x m = all_at IsName (somes (ordered_names net t)) (ordered_spelled net t is.whole is.table is.spelled) x m
+  leaf_is_name x m =
+      all_at IsName (ordered_all net t) (ordered_spelled net t is.whole is.table is.spelled) x
+      (in_left (somes (ordered_names net t)) (somes (map (name_at t.arrays) net.array_order)) x m)
 
   net_is_name : (x : List ℕ) → In all_names x → IsName x
   net_is_name x m =
@@ -152,15 +155,17 @@ module _ (net : FlatNet) (t : NameTable) (p : Places) (order : List Read) (is : 
             (all_mapped HasItemNames block_item bs (all_from (λ b. HasItemNames (block_item b)) bs blocks_have)))));
       }
 
-  all_names_are : leaf_names (in_parts net t p order) ≡ somes (ordered_names net t)
+  all_names_are : leaf_names (in_parts net t p order) ≡ ordered_all net t
   all_names_are =
       ap (λ (ks : List Variable). port_names (in_parts net t p order) ++ names_of (regs (in_parts net t p order)) ++ variable_names ks) (no_arrays net t p order)
       ∙ append-nil (port_names (in_parts net t p order) ++ names_of (regs (in_parts net t p order))) ∙ leaf_names_are net t p order is
+      ∙ sym (ap (λ (ks : List ℕ). somes (ordered_names net t) ++ somes (map (name_at t.arrays) ks)) (no_order net is.whole is.writable.no_arrays)
+      ∙ append-nil (somes (ordered_names net t)))
 
   wires_inner : AreInner (leaf_names (in_parts net t p order)) 0 (names_of (wires (in_parts net t p order)))
   wires_inner =
       rw (all_names_are, wires_sized net t p order, map-map (λ (s : SizedNet). s.0) inner_sized (inners net p order))
-      (are_inner (somes (ordered_names net t)) 0 is.places.resets.last (map inner_name (inners net p order))
+      (are_inner (ordered_all net t) 0 is.places.resets.last (map inner_name (inners net p order))
       (ordered_inner net t is.whole is.table 0 is.places.resets.last (map inner_name (inners net p order)) (inners_numbered net t p order is)))
 
   pub parts_named : IsNamedFor net.name (net_rows net) (net_words net) (net_arrays net) (in_parts net t p order)
@@ -168,12 +173,10 @@ module _ (net : FlatNet) (t : NameTable) (p : Places) (order : List Read) (is : 
     circuit = is.table.circuit;
     ports = ap (map kind) (same_ports net t is.whole is.table leaf_port ports_port) ∙ kinds_along net t.leaves net.leaves (leaves_whole net is.whole t is.table);
     state = ap widths_of (registers_sized net t p order) ∙ register_widths net t is.whole is.table ∙ sym (words_wide net is.whole);
-    array_state = ap (map (λ (k : Variable). (k.width, k.depth))) (no_arrays net t p order);
+    array_state = ap (map (λ (k : Variable). (k.width, k.depth))) (no_arrays net t p order) ∙ sym (ap array_sizes (no_rows net is.whole is.writable.no_arrays));
     named_leaves =
         subst (λ (ns : List (List ℕ)). AreNamed [] (row_names (net_rows net) ++ word_names (net_words net) ++ array_names (net_arrays net)) ns)
-        (sym all_names_are)
-        (subst (λ (bases : List (List ℕ)). AreNamed [] bases (somes (ordered_names net t))) (sym (append-nil (row_names (net_rows net) ++ word_names (net_words net))))
-        (ordered_for_rows net t is.whole is.table));
+        (sym all_names_are) (ordered_for_rows net t is.whole is.table);
     named_wires = wires_inner;
     spelled = has_names;
   }

@@ -45,6 +45,7 @@ use Rattle.ver_build.specs.working.Places.{bit_net, place_value, place_clock, pl
 use Rattle.ver_build.specs.working.Blocks.{reset_net}
 use Rattle.ver_build.specs.working.Built.{inners, order_inners, reset_inners, node_inners, inner_assign}
 use Rattle.ver_build.proofs.Premises.{Premises}
+use Rattle.ver_build.proofs.NoArrays.{no_reading}
 use Rattle.ver_build.proofs.TableLeaves.{leaf_named}
 use Rattle.ver_build.proofs.Parts.{in_parts}
 use Rattle.ver_build.proofs.LeafKinds.{is_wire, has_name, is_net}
@@ -151,6 +152,10 @@ module _ (net : FlatNet) (t : NameTable) (p : Places) (order : List Read) (is : 
   agreed_value k l (role.Wire r) n at same plain named =
       let has : has_name l ≡ true = rw named at (leaf_named net is.whole t is.table k l at) in
       let wire : (not (is_wire (role.Wire r)) && not (nat_eq l.width 0)) ≡ true = rw same at has in
+      absurd (cc)
+  agreed_value k l (role.Reading r) n at same plain named =
+      let has : has_name l ≡ true = rw named at (leaf_named net is.whole t is.table k l at) in
+      let wire : (not (is_wire (role.Reading r)) && not (nat_eq l.width 0)) ≡ true = rw same at has in
       absurd (cc)
   agreed_value k l _ n at same plain named = absurd (cc)
 
@@ -288,6 +293,7 @@ module _ (net : FlatNet) (t : NameTable) (p : Places) (order : List Read) (is : 
       fits = (leaves_fit net t p order is state tick f rest).each;
       input_values = sym (inputs_same net t p order is (leaf_values p f) (leaf_clocks t p f) f agrees) ∙ rest.begins.input_values;
       registers_show = registers_show;
+      arrays_read = λ k l r at same. absurd (no_reading net is.whole is.writable.no_arrays k l r at same);
       driven = driven;
       clock_inputs = clock_inputs;
       clocks_driven = clocks_driven;

@@ -1,14 +1,17 @@
 -- The leaves that have names in the order in which they took them, and their names beside them: the ports, and then the words of the state.
-use Rattle.std.proofs.Common.{◌≡◌, ℕ, zero, suc, ◌+◌, ◌<◌, List, [], ◌∷◌, ◌++◌, length, Bool, true, false, not, ◌&&◌, nat_eq, Option, Some, None, refl, sym, ap, ◌∙◌, inl, inr, subst, append-nil, arith}
+use Rattle.std.proofs.Common.{◌≡◌, ℕ, zero, suc, ◌+◌, ◌<◌, ◌≤◌, List, [], ◌∷◌, ◌++◌, length, Bool, true, false, not, ◌&&◌, nat_eq, Option, Some, None, refl, sym, ap, ◌∙◌, inl, inr, ◌⊎◌, ⊎_elim, subst, append-nil, arith}
 use Rattle.std.specs.Prelude.{map, slice_get}
 use Rattle.std.specs.List.{AllByRecursion}
-use Rattle.std.proofs.lemmas.Bool.{and_from, and_parts, both_ways}
+use Rattle.std.proofs.lemmas.Bool.{and_from, and_parts, both_ways, cases_lt}
 use Rattle.std.proofs.lemmas.Grind.{flat_map-append}
 use Rattle.fir_base.specs.Lists.{In, Distinct}
 use Rattle.fir_base.specs.Words.{is_among}
 use Rattle.fir_base.proofs.Each.{all_at, all_from}
-use Rattle.fir_base.proofs.Elements.{there, all_there}
+use Rattle.fir_base.proofs.Elements.{there, all_there, get_in, number_of}
+use Rattle.fir_base.proofs.Members.{in_left, in_right, in_either}
+use Rattle.fir_base.proofs.Twins.{distinct_left}
 use Rattle.ver_words.specs.Names.{IsName}
+use Rattle.fir_net.specs.declared.array.Array.{Array}
 use Rattle.fir_net.specs.declared.reads.Read.{Read}
 use Rattle.fir_net.specs.declared.leaf.Role.{Role}
 use Rattle.fir_net.specs.declared.leaf.Role.TheVariants as role
@@ -20,7 +23,8 @@ use Rattle.fir_net_names.specs.declared.name_table.NameTable.{NameTable}
 use Rattle.fir_net_names.specs.Names.{is_free, inner_name}
 use Rattle.ver_words.specs.Reserved.{is_reserved}
 use Rattle.fir_net_names.specs.working.IsTable.{IsTable}
-use Rattle.fir_net_names.specs.working.LeafNamed.{somes, port_number, named_ports, named_leaves, base_at, name_at}
+use Rattle.fir_net_names.specs.working.LeafNamed.{somes, port_number, named_ports, named_leaves, array_base, base_at, name_at}
+use Rattle.fir_net_names.specs.working.TableNames.{table_names}
 use Rattle.fir_net_names.proofs.NamesInTurn.{names_distinct}
 use Rattle.fir_net_names.proofs.HeldNames.{same_names}
 use Rattle.fir_net_names.proofs.NumbersNamed.{number_given, number_lacking, port_at, named_leaf}
@@ -49,6 +53,10 @@ ordered_leaves net = numbered_leaves net.leaves (named_leaves net)
 
 unfoldable pub ordered_names : FlatNet → NameTable → NameList
 ordered_names net t = map (name_at t.leaves) (named_leaves net)
+
+-- the names of these leaves, and then those of arrays in the order of the state
+abbrev pub ordered_all : FlatNet → NameTable → List (List ℕ)
+ordered_all net t = somes (ordered_names net t) ++ somes (map (name_at t.arrays) net.array_order)
 
 -- what only ports that have names give, and what no port gives
 pub record OfPorts {B : Type 0} (f : Leaf → Option (List ℕ) → List B) : Type 0 where
@@ -346,9 +354,14 @@ module _ (net : FlatNet) (t : NameTable) (whole : IsNet net) (table : IsTable ne
       let there = stands_for net.leaves t.leaves (named_leaves net) all_have i l at in (there.number, there.at, there.named)
 
   -- the names
-  pub ordered_once : Distinct (somes (ordered_names net t))
+  pub ordered_all_once : Distinct (ordered_all net t)
   unfolding ordered_names
-  ordered_once = names_distinct [] (map (base_at net) (named_leaves net)) (somes (map (name_at t.leaves) (named_leaves net))) table.named
+  ordered_all_once =
+      names_distinct [] (map (base_at net) (named_leaves net) ++ map (array_base net) net.array_order)
+      (somes (map (name_at t.leaves) (named_leaves net)) ++ somes (map (name_at t.arrays) net.array_order)) table.named
+
+  pub ordered_once : Distinct (somes (ordered_names net t))
+  ordered_once = distinct_left (somes (ordered_names net t)) (somes (map (name_at t.arrays) net.array_order)) ordered_all_once
 
   to_table : (n : List ℕ) → In (somes (ordered_names net t)) n → In (somes t.leaves) n
   unfolding ordered_names
@@ -363,14 +376,56 @@ module _ (net : FlatNet) (t : NameTable) (whole : IsNet net) (table : IsTable ne
       let has = named_has l.0 (name_at t.leaves r.0) n r.1 (leaf_named net whole t table r.0 l.0 l.1) in
       in_order (name_at t.leaves) (named_leaves net) r.0 n (has_number net whole r.0 l.0 l.1 has) r.1
 
-  pub ordered_spelled : AllByRecursion IsName (somes t.leaves) → AllByRecursion IsName (somes (ordered_names net t))
-  ordered_spelled h = all_from IsName (somes (ordered_names net t)) (λ n m. all_at IsName (somes t.leaves) h n (to_table n m))
+  -- an array that has a name stands in the order
+  array_placed : (k : ℕ) (n : List ℕ) → name_at t.arrays k ≡ Some n → In net.array_order k
+  array_placed k n named =
+      let count = table.array_count in
+      let a = there net.arrays k (omega (arith, name_below t.arrays k n named)) in
+      by a.0 a.1 (cases_lt a.0.width 1)
+    where
+      by : (a : Array) → slice_get net.arrays k ≡ Some a → (a.width < 1) ⊎ (1 ≤ a.width) → In net.array_order k
+      by a at (inr bits) = let place = whole.array_state.all k a at bits in get_in net.array_order place.0 k place.1
+      by a at (inl none) =
+          let nameless : name_at t.arrays k ≡ None = table.only_array k outside in
+          let bad : Some n ≡ None = sym named ∙ nameless in
+          absurd (cc)
+        where
+          outside : In net.array_order k → ⊥
+          outside m =
+              let place = number_of net.array_order k m in
+              let other = whole.array_state.only place.0 k place.1 in
+              let bits : 1 ≤ other.0.width = other.2 in
+              let both : Some other.0 ≡ Some a = sym other.1 ∙ at in
+              let same : other.0 ≡ a = cc in
+              let wide : other.0.width ≡ a.width = ap (λ (x : Array). x.width) same in
+              omega arith
 
-  pub ordered_inner : (from to : ℕ) (names : List (List ℕ)) → AreInnerTo (somes t.leaves) from names to
-      → AreInnerTo (somes (ordered_names net t)) from names to
+  all_to_table : (n : List ℕ) → In (ordered_all net t) n → In (table_names t) n
+  all_to_table n m =
+      ⊎_elim
+      (λ (l : In (somes (ordered_names net t)) n). in_left (somes t.leaves) (somes t.arrays) n (to_table n l))
+      (λ (a : In (somes (map (name_at t.arrays) net.array_order)) n).
+      let r = order_number (name_at t.arrays) net.array_order n a in
+      in_right (somes t.leaves) (somes t.arrays) n (in_table t.arrays r.0 n r.2))
+      (in_either (somes (ordered_names net t)) (somes (map (name_at t.arrays) net.array_order)) n m)
+
+  all_from_table : (n : List ℕ) → In (table_names t) n → In (ordered_all net t) n
+  all_from_table n m =
+      ⊎_elim
+      (λ (l : In (somes t.leaves) n). in_left (somes (ordered_names net t)) (somes (map (name_at t.arrays) net.array_order)) n (from_table n l))
+      (λ (a : In (somes t.arrays) n).
+      let r = table_number t.arrays n a in
+      in_right (somes (ordered_names net t)) (somes (map (name_at t.arrays) net.array_order)) n
+      (in_order (name_at t.arrays) net.array_order r.0 n (array_placed r.0 n r.1) r.1))
+      (in_either (somes t.leaves) (somes t.arrays) n m)
+
+  pub ordered_spelled : AllByRecursion IsName (table_names t) → AllByRecursion IsName (ordered_all net t)
+  ordered_spelled h = all_from IsName (ordered_all net t) (λ n m. all_at IsName (table_names t) h n (all_to_table n m))
+
+  pub ordered_inner : (from to : ℕ) (names : List (List ℕ)) → AreInnerTo (table_names t) from names to
+      → AreInnerTo (ordered_all net t) from names to
   ordered_inner from to names h =
-      inner_same (somes t.leaves) (somes (ordered_names net t))
-      (same_names (somes t.leaves) (somes (ordered_names net t)) from_table to_table) from to names h
+      inner_same (table_names t) (ordered_all net t) (same_names (table_names t) (ordered_all net t) all_from_table all_to_table) from to names h
 
 module _ (net : FlatNet) (t : NameTable) (p : Places) (order : List Read) (is : Premises net t p order) where
   pub ordered_known : Each (Known net) (ordered_names net t) (ordered_leaves net)

@@ -23,6 +23,7 @@ use Rattle.ver_build.proofs.OrderedLeaves.{ordered_names, ordered_leaves, OfPort
 port_inside : (r : Role) (w : ℕ) (name : List ℕ) → is_port r ≡ false → port_of r w name ≡ []
 port_inside (role.Register d) w name e = refl
 port_inside (role.Wire r) w name e = refl
+port_inside (role.Reading r) w name e = refl
 port_inside (role.ClockWire c) w name e = refl
 port_inside _ w name e = absurd (cc)
 
@@ -41,6 +42,7 @@ assign_unnamed p _ w = refl
 assign_inside : (p : Places) (r : Role) (w : ℕ) (n : Option (List ℕ)) → is_port r ≡ false → role_assign p r w n ≡ []
 assign_inside p (role.Register d) w n e = refl
 assign_inside p (role.Wire r) w n e = refl
+assign_inside p (role.Reading r) w n e = refl
 assign_inside p (role.ClockWire c) w n e = refl
 assign_inside p _ w n e = absurd (cc)
 
@@ -54,6 +56,7 @@ clock_unnamed t p _ = refl
 clock_inside : (t : NameTable) (p : Places) (r : Role) (n : Option (List ℕ)) → is_port r ≡ false → role_clock_assign t p r n ≡ []
 clock_inside t p (role.Register d) n e = refl
 clock_inside t p (role.Wire r) n e = refl
+clock_inside t p (role.Reading r) n e = refl
 clock_inside t p (role.ClockWire c) n e = refl
 clock_inside t p _ n e = absurd (cc)
 

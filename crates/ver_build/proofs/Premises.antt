@@ -17,7 +17,7 @@ use Rattle.fir_net.specs.working.IsOrder.{IsOrder}
 use Rattle.fir_net.specs.working.IsWritable.{IsWritable, IsWritableRole}
 use Rattle.fir_net_names.specs.working.IsTable.{IsTable}
 use Rattle.fir_net.specs.working.Laws.{NodesHaveTheirValues, NodesHaveTheirTypes, OrderedHasOne}
-use Rattle.fir_net_names.specs.working.LeafNamed.{somes}
+use Rattle.fir_net_names.specs.working.TableNames.{table_names}
 use Rattle.ver_words.specs.Names.{IsName}
 use Rattle.ver_ast.specs.working.Laws.{ValidHasOneRest}
 use Rattle.ver_build.specs.declared.places.Places.{Places}
@@ -38,8 +38,8 @@ pub record Premises (net : FlatNet) (t : NameTable) (p : Places) (order : List R
   pub ordered : IsOrder net order
   pub table : IsTable net t
   pub places : IsPlaces net t order p
-  pub once : Distinct (somes t.leaves)
-  pub spelled : AllByRecursion IsName (somes t.leaves)
+  pub once : Distinct (table_names t)
+  pub spelled : AllByRecursion IsName (table_names t)
   pub circuit : IsName t.circuit
 
 abbrev pub LeafNamed : Leaf → Option (List ℕ) → Type 0

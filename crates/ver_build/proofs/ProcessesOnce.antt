@@ -24,7 +24,7 @@ use Rattle.ver_build.specs.working.Blocks.{own_net}
 use Rattle.ver_build.specs.working.Built.{inners, order_inners, read_inners, reset_inners}
 use Rattle.ver_build.proofs.Lists.{flat_mapped}
 use Rattle.ver_build.proofs.Premises.{Premises}
-use Rattle.ver_build.proofs.OrderedLeaves.{ordered_names, ordered_leaves, ordered_once, ordered_picked}
+use Rattle.ver_build.proofs.OrderedLeaves.{ordered_all, ordered_names, ordered_leaves, ordered_once, ordered_picked}
 use Rattle.ver_build.proofs.Parts.{in_parts, output_assigns}
 use Rattle.ver_build.proofs.LeafKinds.{is_output, picked}
 use Rattle.ver_build.proofs.Picked.{picked_once, picked_apart}
@@ -67,7 +67,7 @@ module _ (net : FlatNet) (t : NameTable) (p : Places) (order : List Read) (is : 
   inners_once : Distinct (map inner_name (order_inners net p order) ++ map inner_name (reset_inners net p))
   inners_once =
       subst Distinct (map-append inner_name (order_inners net p order) (reset_inners net p))
-      (distinct_right (somes (ordered_names net t)) (map inner_name (inners net p order)) (names_once net t p order is))
+      (distinct_right (ordered_all net t) (map inner_name (inners net p order)) (names_once net t p order is))
 
   nodes_once : Distinct (flat_map node_names order)
   nodes_once = subst Distinct nodes_are (distinct_left (map inner_name (order_inners net p order)) (map inner_name (reset_inners net p)) inners_once)
@@ -161,7 +161,7 @@ module _ (net : FlatNet) (t : NameTable) (p : Places) (order : List Read) (is : 
       (λ (d : g.word.name ≡ x).
       ⊎_elim
       (λ (v : In (net_names m) x). absurd (no_register k g.word x d (inr (among_resets m x h.among v))))
-      (λ (e : h.word.name ≡ x). same_place t.leaves is.once k m x (g.word.named ∙ ap Some d) (h.word.named ∙ ap Some e))
+      (λ (e : h.word.name ≡ x). same_place t.leaves (distinct_left (somes t.leaves) (somes t.arrays) is.once) k m x (g.word.named ∙ ap Some d) (h.word.named ∙ ap Some e))
       h.side)
       g.side
 

@@ -29,6 +29,7 @@ use Rattle.ver_build.specs.declared.places.Places.{Places}
 use Rattle.ver_build.specs.working.Held.{whole_net, own_held, held_literal, fit}
 use Rattle.ver_build.specs.working.Places.{place_value, placed, held_of, node_at}
 use Rattle.ver_build.proofs.AlongOrder.{along_order}
+use Rattle.ver_build.proofs.NoArrays.{no_reading}
 use Rattle.ver_build.proofs.Premises.{Premises, LeafNamed}
 use Rattle.ver_build.proofs.TableLeaves.{leaf_named}
 use Rattle.ver_build.proofs.OrderedLeaves.{ordered_at}
@@ -134,6 +135,7 @@ module _ (net : FlatNet) (t : NameTable) (p : Places) (order : List Read) (is : 
       fit_stands_as l r (leaf_at k l at).narrow driven (below r (leaf_read net k l (role.Output r) 0 r at e refl))
   leaf_stands k l (role.Wire r) at e plain driven below =
       fit_stands_as l r (leaf_at k l at).narrow driven (below r (leaf_read net k l (role.Wire r) 0 r at e refl))
+  leaf_stands k l (role.Reading r) at e plain driven below = absurd (no_reading net is.whole is.writable.no_arrays k l r at e)
   leaf_stands k l _ at e plain driven below = absurd (cc)
 
   literal_stands : (k : ℕ) (n : Node) → slice_get net.nodes k ≡ Some n → (l : IsLiteral n (node_at p.nodes k))

@@ -12,7 +12,8 @@ use Rattle.fir_net.specs.declared.reads.Read.{Read}
 use Rattle.fir_net.specs.declared.leaf.Reset.{Reset}
 use Rattle.fir_net.specs.declared.net.FlatNet.{FlatNet}
 use Rattle.fir_net_names.specs.declared.name_table.NameTable.{NameTable}
-use Rattle.fir_net_names.specs.working.LeafNamed.{with_some, somes, name_at}
+use Rattle.fir_net_names.specs.working.LeafNamed.{with_some, name_at}
+use Rattle.fir_net_names.specs.working.TableNames.{table_names}
 use Rattle.ver_build.specs.declared.held.Source.{Source}
 use Rattle.ver_build.specs.declared.held.Source.TheVariants as source
 use Rattle.ver_build.specs.declared.places.Places.{Places}
@@ -104,10 +105,10 @@ module _ (net : FlatNet) (t : NameTable) (p : Places) (order : List Read) (is : 
       ∙ ap (λ (xs : List (List ℕ)). inner_names net p.nodes order ++ xs) resets_named
 
   -- they are the inner ones
-  pub inners_numbered : AreInnerTo (somes t.leaves) 0 (map inner_name (inners net p order)) is.places.resets.last
+  pub inners_numbered : AreInnerTo (table_names t) 0 (map inner_name (inners net p order)) is.places.resets.last
   inners_numbered =
       rw inners_named
-      (joined_to (somes t.leaves) (inner_names net p.nodes order) (reset_names p.resets net.state) 0 is.places.last is.places.resets.last
+      (joined_to (table_names t) (inner_names net p.nodes order) (reset_names p.resets net.state) 0 is.places.last is.places.resets.last
       is.places.nodes.named is.places.resets.named)
 
   pub inners_spelled : AllByRecursion IsName (map inner_name (inners net p order))

@@ -16,7 +16,8 @@ use Rattle.fir_net.specs.declared.net.FlatNet.{FlatNet}
 use Rattle.fir_net.specs.working.IsNet.{IsNet}
 use Rattle.fir_net_names.specs.declared.name_table.NameTable.{NameTable}
 use Rattle.fir_net_names.specs.Names.{inner_name}
-use Rattle.fir_net_names.specs.working.LeafNamed.{with_some, somes, name_at}
+use Rattle.fir_net_names.specs.working.LeafNamed.{with_some, name_at}
+use Rattle.fir_net_names.specs.working.TableNames.{table_names}
 use Rattle.ver_build.specs.declared.places.Place.{Place}
 use Rattle.ver_build.specs.declared.places.NodePlace.{NodePlace}
 use Rattle.ver_build.specs.working.Places.{AreInnerTo, AreResetNets, leaf_needs, reset_names}
@@ -29,7 +30,7 @@ pub record ResetWalk (net : FlatNet) (t : NameTable) (leaves : List Place) (node
   pub room : HasRoom net.leaves names
   pub passed : (k : ℕ) → In (take i net.state) k → is_some (name_at names k) ≡ leaf_needs leaves nodes (slice_get net.leaves k)
   pub others : (k : ℕ) → (In (take i net.state) k → ⊥) → name_at names k ≡ None
-  pub named : AreInnerTo (somes t.leaves) first (reset_names names (take i net.state)) to
+  pub named : AreInnerTo (table_names t) first (reset_names names (take i net.state)) to
   pub spelled : AllByRecursion IsName (reset_names names (take i net.state))
 
 module _ (net : FlatNet) (whole : IsNet net) (t : NameTable) (leaves : List Place) (nodes : List NodePlace) (first : ℕ) where
@@ -112,7 +113,7 @@ module _ (net : FlatNet) (whole : IsNet net) (t : NameTable) (leaves : List Plac
               (either j m);
           others = λ j n. let other = left j n in noted.others j other.1 ∙ walk.others j other.0;
           named =
-              rw more (joined_to (somes t.leaves) (reset_names names (take i net.state)) (inner_name number ∷ []) first from to walk.named
+              rw more (joined_to (table_names t) (reset_names names (take i net.state)) (inner_name number ∷ []) first from to walk.named
               (number, next.first, refl, sym next.behind));
           spelled = rw more (all_joined IsName (reset_names names (take i net.state)) (inner_name number ∷ []) walk.spelled (next.spelled, tt));
         }
@@ -132,7 +133,7 @@ module _ (net : FlatNet) (whole : IsNet net) (t : NameTable) (leaves : List Plac
       record {
         each = λ k m. walk.passed k (subst (λ (ks : List ℕ). In ks k) (sym all) m);
         last = to;
-        named = subst (λ (ks : List ℕ). AreInnerTo (somes t.leaves) first (reset_names names ks) to) all walk.named;
+        named = subst (λ (ks : List ℕ). AreInnerTo (table_names t) first (reset_names names ks) to) all walk.named;
         near = near;
         spelled = subst (λ (ks : List ℕ). AllByRecursion IsName (reset_names names ks)) all walk.spelled;
       }

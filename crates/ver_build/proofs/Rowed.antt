@@ -1,29 +1,30 @@
 -- The ports and registers of the tree are the rows and words of the net, and their names are those for the names of rows and words.
 -- A leaf of no bits has no row, no word and no name.
-use Rattle.std.proofs.Common.{◌≡◌, ℕ, zero, suc, ◌+◌, ◌≤◌, List, [], ◌∷◌, ◌++◌, Bool, true, false, not, ◌&&◌, if◌then◌else◌, nat_eq, refl, sym, ap, ◌∙◌, inl, inr, subst, arith}
+use Rattle.std.proofs.Common.{◌≡◌, ℕ, zero, suc, ◌+◌, ◌≤◌, List, [], ◌∷◌, ◌++◌, Bool, true, false, not, ◌&&◌, if◌then◌else◌, length, nat_eq, refl, sym, ap, ◌∙◌, inl, inr, subst, arith}
 use Rattle.std.specs.Prelude.{map, flat_map, slice_get, Option, Some, None}
 use Rattle.std.proofs.lemmas.Bool.{and_parts}
-use Rattle.std.proofs.lemmas.List.{map-append}
+use Rattle.std.proofs.lemmas.List.{length-map, map-append}
 use Rattle.std.proofs.lemmas.Simd.{map-map}
 use Rattle.fir_base.specs.Lists.{In}
 use Rattle.fir_base.specs.declared.direction.Direction.{Direction}
-use Rattle.fir_base.proofs.Elements.{all_there}
+use Rattle.fir_base.proofs.Elements.{all_there, number_of}
 use Rattle.ver_words.specs.declared.signal.Signal.TheVariants.{Bits}
+use Rattle.fir_net.specs.declared.array.Array.{Array}
 use Rattle.fir_net.specs.declared.leaf.Role.{Role}
 use Rattle.fir_net.specs.declared.leaf.Role.TheVariants as role
 use Rattle.fir_net.specs.declared.leaf.Leaf.{Leaf}
 use Rattle.fir_net.specs.declared.node.Node.{Node}
 use Rattle.fir_net.specs.declared.net.FlatNet.{FlatNet}
 use Rattle.fir_net.specs.Paths.{base_name}
-use Rattle.fir_net.specs.Rows.{Row, row, Word, word, row_names, row_kinds, word_names, word_widths, PortKind}
+use Rattle.fir_net.specs.Rows.{Row, row, Word, word, array_names, row_names, row_kinds, word_names, word_widths, PortKind}
 use Rattle.fir_net.specs.working.Counted.{is_register}
 use Rattle.fir_net.specs.working.IsNet.{is_port, IsLeaf, IsRole, IsNet}
-use Rattle.fir_net.specs.working.Rows.{role_row, leaf_word, net_rows, net_words}
+use Rattle.fir_net.specs.working.Rows.{array_row, role_row, leaf_word, net_arrays, net_rows, net_words}
 use Rattle.fir_net.specs.working.Values.{leaf_width}
 use Rattle.fir_net_names.specs.declared.name_table.NameTable.{NameTable}
 use Rattle.fir_net_names.specs.Names.{AreNamed}
 use Rattle.fir_net_names.specs.working.IsTable.{IsTable}
-use Rattle.fir_net_names.specs.working.LeafNamed.{somes, port_number, named_ports, named_leaves, base_at, name_at}
+use Rattle.fir_net_names.specs.working.LeafNamed.{somes, port_number, named_ports, named_leaves, array_base, base_at, name_at}
 use Rattle.fir_net_names.proofs.NumbersNamed.{number_given, number_lacking}
 use Rattle.ver_ast.specs.declared.tree.Port.{Port}
 use Rattle.ver_build.specs.Ports.{port_signal}
@@ -32,7 +33,7 @@ use Rattle.ver_build.proofs.Choices.{no_bits_none, some_bits_one}
 use Rattle.ver_build.proofs.Names.{NameList, Each, zipped, map_zipped, same_zipped}
 use Rattle.ver_build.proofs.Premises.{RoleNamed, role_named, some_bits, no_bits, bits_named, Whole}
 use Rattle.ver_build.proofs.TableLeaves.{word_leaf}
-use Rattle.ver_build.proofs.OrderedLeaves.{ordered_names}
+use Rattle.ver_build.proofs.OrderedLeaves.{ordered_all, ordered_names}
 
 no_row : (base : List ℕ) (d : Direction) (w : ℕ) → w ≡ 0 → row base d w ≡ []
 no_row base d w e = no_bits_none (record { name = base; direction = d; signal = Bits w }) w e
@@ -167,13 +168,49 @@ module _ (net : FlatNet) (whole : IsNet net) where
       ∙ ap (λ (ns : List (List ℕ)). map (base_at net) (named_ports 0 net.leaves) ++ ns) words_based
       ∙ sym (map-append (base_at net) (named_ports 0 net.leaves) net.state)
 
+  -- an array of the order is there
+  array_there : (k : ℕ) → In net.array_order k → (a : Array) × (slice_get net.arrays k ≡ Some a)
+  array_there k m = let place = number_of net.array_order k m in let a = whole.array_state.only place.0 k place.1 in (a.0, a.1)
+
+  arrays_of : (ks : List ℕ) → ((k : ℕ) → In ks k → In net.array_order k)
+      → array_names (flat_map (λ k. array_row (slice_get net.arrays k)) ks) ≡ map (array_base net) ks
+  arrays_of [] h = refl
+  arrays_of (k ∷ ks) h =
+      let a = array_there k (h k (inl refl)) in
+      rw a.1 (ap (λ (ns : List (List ℕ)). base_name a.0.path ∷ ns) (arrays_of ks (λ j m. h j (inr m))))
+
+  arrays_based : array_names (net_arrays net) ≡ map (array_base net) net.array_order
+  arrays_based = arrays_of net.array_order (λ k m. m)
+
+-- the names that there are of numbers that all have one
+names_many : (f : ℕ → Option (List ℕ)) (ks : List ℕ) → ((k : ℕ) → In ks k → (n : List ℕ) × (f k ≡ Some n)) → length (somes (map f ks)) ≡ length ks
+names_many f [] h = refl
+names_many f (k ∷ ks) h = let n = h k (inl refl) in rw n.1 (ap suc (names_many f ks (λ j m. h j (inr m))))
+
+-- the first of names that are taken one after the other
+named_first : (taken xs ys names others : List (List ℕ)) → length xs ≡ length names → AreNamed taken (xs ++ ys) (names ++ others) → AreNamed taken xs names
+named_first taken [] ys [] others e h = tt
+named_first taken [] ys (n ∷ names) others e h = absurd (cc)
+named_first taken (x ∷ xs) ys [] others e h = absurd (cc)
+named_first taken (x ∷ xs) ys (n ∷ names) others e h = (h.0, named_first (n ∷ taken) xs ys names others (omega (arith, e)) h.1)
+
 -- the names of ports and then of words are those for the names of rows and then of words
 pub named_for_rows : (net : FlatNet) (t : NameTable) → IsNet net → IsTable net t
     → AreNamed [] (row_names (net_rows net) ++ word_names (net_words net)) (somes (map (name_at t.leaves) (named_leaves net)))
 named_for_rows net t whole table =
-    subst (λ (bases : List (List ℕ)). AreNamed [] bases (somes (map (name_at t.leaves) (named_leaves net)))) (sym (rows_based net whole)) table.named
+    let names = somes (map (name_at t.leaves) (named_leaves net)) in
+    let many : length (map (base_at net) (named_leaves net)) ≡ length names =
+    length-map (named_leaves net) (base_at net) ∙ sym (names_many (name_at t.leaves) (named_leaves net) table.has) in
+    subst (λ (bases : List (List ℕ)). AreNamed [] bases (somes (map (name_at t.leaves) (named_leaves net)))) (sym (rows_based net whole))
+    (named_first [] (map (base_at net) (named_leaves net)) (map (array_base net) net.array_order) names
+    (somes (map (name_at t.arrays) net.array_order)) many table.named)
 
+-- and then those of arrays
 pub ordered_for_rows : (net : FlatNet) (t : NameTable) → IsNet net → IsTable net t
-    → AreNamed [] (row_names (net_rows net) ++ word_names (net_words net)) (somes (ordered_names net t))
+    → AreNamed [] (row_names (net_rows net) ++ word_names (net_words net) ++ array_names (net_arrays net)) (ordered_all net t)
 unfolding ordered_names
-ordered_for_rows net t whole table = named_for_rows net t whole table
+ordered_for_rows net t whole table =
+    subst (λ (bases : List (List ℕ)). AreNamed [] bases (somes (map (name_at t.leaves) (named_leaves net)) ++ somes (map (name_at t.arrays) net.array_order)))
+    (sym (ap (λ (ns : List (List ℕ)). ns ++ array_names (net_arrays net)) (rows_based net whole)
+    ∙ ap (λ (ns : List (List ℕ)). map (base_at net) (named_leaves net) ++ ns) (arrays_based net whole)))
+    table.named

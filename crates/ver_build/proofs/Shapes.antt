@@ -17,6 +17,7 @@ use Rattle.fir_net_names.specs.working.IsTable.{IsTable}
 use Rattle.ver_ast.specs.Nets.{SizedNet, variables, variable_widths, input_nets, clocks, widths_of, shape as v_shape}
 use Rattle.ver_build.specs.declared.places.Places.{Places}
 use Rattle.ver_build.proofs.Names.{NameList, Each, zipped}
+use Rattle.ver_build.proofs.NoArrays.{shape_words}
 use Rattle.ver_build.proofs.Premises.{Premises, BitsNamed, LeafNamed, RoleNamed, role_named, bits_named, Whole}
 use Rattle.ver_build.proofs.TableLeaves.{leaves_named, leaves_whole}
 use Rattle.ver_build.proofs.OrderedLeaves.{ordered_names, ordered_leaves, names_port, sizes_port, same_ports}
@@ -154,4 +155,4 @@ built_shape net t p order is =
     ap length
     (clocks_are net t p order ∙ same_ports net t is.whole is.table (λ l n. name_if (is_clock_input l.role) n) (names_port is_clock_input clock_port))
     ∙ clocks_along net t.leaves net.leaves 0 (leaves_whole net is.whole t is.table) in
-    rw (ins, state, count) refl
+    rw (ins, shape_words net is.whole is.writable.no_arrays, state, count) refl

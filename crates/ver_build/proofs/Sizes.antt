@@ -18,7 +18,7 @@ use Rattle.fir_net.specs.declared.net.FlatNet.{FlatNet}
 use Rattle.fir_net_names.specs.declared.name_table.NameTable.{NameTable}
 use Rattle.fir_net.specs.working.IsNet.{node_type, IsLeaf}
 use Rattle.fir_net.specs.working.IsWritable.{IsWritableRole}
-use Rattle.fir_net_names.specs.working.LeafNamed.{somes}
+use Rattle.fir_net_names.specs.working.LeafNamed.{somes, name_at}
 use Rattle.ver_ast.specs.Nets.{SizedNet, width_among, names_of}
 use Rattle.ver_ast.proofs.Widths.{declared_width}
 use Rattle.ver_build.specs.declared.places.Places.{Places}
@@ -27,7 +27,7 @@ use Rattle.ver_build.specs.working.Places.{node_at}
 use Rattle.ver_build.specs.working.Built.{inners, order_inners, reset_inners, node_inners, inners_at, read_inners}
 use Rattle.ver_build.proofs.Names.{Each, each_and, each_part}
 use Rattle.ver_build.proofs.Premises.{Premises, some_bits, bits_named, Whole, Known}
-use Rattle.ver_build.proofs.OrderedLeaves.{ordered_names, ordered_leaves, ordered_whole, ordered_known, ordered_once, ordered_inner}
+use Rattle.ver_build.proofs.OrderedLeaves.{ordered_all, ordered_all_once, ordered_names, ordered_leaves, ordered_whole, ordered_known, ordered_once, ordered_inner}
 use Rattle.ver_build.proofs.LeafKinds.{is_wire, has_name, is_net, sized_if, picked, picked_sized}
 use Rattle.ver_build.proofs.Picked.{picked_named, picked_once}
 use Rattle.ver_build.proofs.Nets.{inner_name, inner_sized, sizes, sizes_named}
@@ -87,25 +87,29 @@ module _ (net : FlatNet) (t : NameTable) (p : Places) (order : List Read) (is : 
   once : Distinct (somes (ordered_names net t))
   once = ordered_once net t is.whole is.table
 
+  -- a name of a leaf that is so picked is among those of leaves and arrays
+  picked_all : (q : Role → Bool) (x : List ℕ) → In (picked q (ordered_names net t) (ordered_leaves net)) x → In (ordered_all net t) x
+  picked_all q x m =
+      in_left (somes (ordered_names net t)) (somes (map (name_at t.arrays) net.array_order)) x (picked_named q (ordered_names net t) (ordered_leaves net) x m)
+
   -- the names of all
-  pub names_once : Distinct (somes (ordered_names net t) ++ map inner_name all_inners)
+  pub names_once : Distinct (ordered_all net t ++ map inner_name all_inners)
   names_once =
       let resets = is.places.resets in
-      all_once (somes (ordered_names net t)) resets.last (map inner_name all_inners) once resets.near
+      all_once (ordered_all net t) resets.last (map inner_name all_inners) (ordered_all_once net t is.whole is.table) resets.near
       (ordered_inner net t is.whole is.table 0 resets.last (map inner_name all_inners) (inners_numbered net t p order is))
 
   -- a name of a leaf is none of an inner net
   pub no_inner : (q : Role → Bool) (x : List ℕ) → In (picked q (ordered_names net t) (ordered_leaves net)) x → In (map inner_name all_inners) x → ⊥
   no_inner q x m n =
-      apart (somes (ordered_names net t)) (map inner_name all_inners) names_once x
-      (picked_named q (ordered_names net t) (ordered_leaves net) x m) n
+      apart (ordered_all net t) (map inner_name all_inners) names_once x (picked_all q x m) n
 
   pub sizes_once : Distinct (names_of (sizes net t p order))
   sizes_once =
       subst Distinct (sym (sizes_named net t p order))
       (distinct_joined (picked is_net (ordered_names net t) (ordered_leaves net)) (map inner_name all_inners) (picked_once is_net (ordered_names net t) (ordered_leaves net) once)
-      (distinct_right (somes (ordered_names net t)) (map inner_name all_inners) names_once)
-      (λ x m n. apart (somes (ordered_names net t)) (map inner_name all_inners) names_once x (picked_named is_net (ordered_names net t) (ordered_leaves net) x m) n))
+      (distinct_right (ordered_all net t) (map inner_name all_inners) names_once)
+      (λ x m n. apart (ordered_all net t) (map inner_name all_inners) names_once x (picked_all is_net x m) n))
 
   leaf_size : (l : Leaf) (n : Option (List ℕ)) → Whole net l n → PartIn leaf_part (sizes net t p order) l n → LeafSized (sizes net t p order) l n
   leaf_size l None h k = h.0

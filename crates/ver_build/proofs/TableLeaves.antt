@@ -27,16 +27,19 @@ port_or_register role.Clock z e = inl e
 port_or_register (role.Output r) z e = inl e
 port_or_register (role.Wire r) z e = absurd (cc)
 port_or_register (role.Register d) z e = inr e
+port_or_register (role.Reading d) z e = absurd (cc)
 port_or_register (role.ClockOutput c) z e = inl e
 port_or_register (role.ClockWire c) z e = absurd (cc)
 
 port_no_wire : (r : Role) → is_port r ≡ true → not (is_wire r) ≡ true
 port_no_wire (role.Wire r) e = absurd (cc)
+port_no_wire (role.Reading r) e = absurd (cc)
 port_no_wire (role.ClockWire c) e = absurd (cc)
 port_no_wire _ e = refl
 
 register_no_wire : (r : Role) → is_register r ≡ true → not (is_wire r) ≡ true
 register_no_wire (role.Wire r) e = absurd (cc)
+register_no_wire (role.Reading r) e = absurd (cc)
 register_no_wire (role.ClockWire c) e = absurd (cc)
 register_no_wire _ e = refl
 

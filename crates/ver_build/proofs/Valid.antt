@@ -32,7 +32,7 @@ use Rattle.ver_build.specs.working.Built.{inners, leaf_port, port_of}
 use Rattle.ver_build.specs.Ports.{port_names}
 use Rattle.ver_build.proofs.Names.{all_zipped}
 use Rattle.ver_build.proofs.Premises.{Premises, LeafNamed}
-use Rattle.ver_build.proofs.OrderedLeaves.{ordered_names, ordered_leaves, ordered_named, ordered_once}
+use Rattle.ver_build.proofs.OrderedLeaves.{ordered_all, ordered_names, ordered_leaves, ordered_named, ordered_once}
 use Rattle.ver_build.proofs.Parts.{registers_of, wires_of, assigns_of, clock_assigns_of, blocks_of, in_parts}
 use Rattle.fir_net.specs.working.Counted.{is_register}
 use Rattle.ver_build.proofs.LeafKinds.{is_input, is_clock_input, is_clock_output, is_output, is_net, is_written, sized_if, picked, picked_sized, picked_names}
@@ -233,7 +233,7 @@ module _ (net : FlatNet) (t : NameTable) (p : Places) (order : List Read) (is : 
   targets_once : Distinct (targets (assigns (in_parts net t p order)))
   targets_once =
       subst Distinct (sym all_targets)
-      (distinct_joined inside (picked is_output (ordered_names net t) (ordered_leaves net)) (distinct_right (somes (ordered_names net t)) inside (names_once net t p order is))
+      (distinct_joined inside (picked is_output (ordered_names net t) (ordered_leaves net)) (distinct_right (ordered_all net t) inside (names_once net t p order is))
       (picked_once is_output (ordered_names net t) (ordered_leaves net) once)
       (λ x m n. no_inner net t p order is is_output x n m))
 

@@ -15,7 +15,7 @@ use Rattle.fir_net.specs.declared.reads.Read.TheVariants as read
 use Rattle.fir_net.specs.declared.node.Node.{Node}
 use Rattle.fir_net.specs.declared.net.FlatNet.{FlatNet}
 use Rattle.fir_net_names.specs.declared.name_table.NameTable.{NameTable}
-use Rattle.fir_net_names.specs.working.LeafNamed.{somes}
+use Rattle.fir_net_names.specs.working.TableNames.{table_names}
 use Rattle.fir_net.specs.working.Dependence.{IsOf}
 use Rattle.fir_net.specs.working.IsOrder.{IsOrder}
 use Rattle.ver_build.specs.declared.places.NodePlace.{NodePlace}
@@ -49,7 +49,7 @@ same_flat {A} {B} f g (x ∷ xs) (suc n) e =
 pub record NodeWalk (net : FlatNet) (t : NameTable) (order : List Read) (places : List NodePlace) (i from : ℕ) : Type 0 where
   pub room : length places ≡ length net.nodes
   pub done : (j k : ℕ) (n : Node) → j < i → slice_get order j ≡ Some (read.Node k) → slice_get net.nodes k ≡ Some n → IsNodePlace n (node_at places k)
-  pub named : AreInnerTo (somes t.leaves) 0 (inner_names net places (take i order)) from
+  pub named : AreInnerTo (table_names t) 0 (inner_names net places (take i order)) from
   pub spelled : AllByRecursion IsName (inner_names net places (take i order))
 
 module _ (net : FlatNet) (t : NameTable) (order : List Read) (is : IsOrder net order) where
@@ -104,7 +104,7 @@ module _ (net : FlatNet) (t : NameTable) (order : List Read) (is : IsOrder net o
   nodes_next places i from to k n p less at node numbered walk = record {
     room = length-set places k p ∙ walk.room;
     done = passed;
-    named = rw names_more (joined_to (somes t.leaves) (inner_names net places (take i order)) (node_names n p) 0 from to walk.named numbered.named);
+    named = rw names_more (joined_to (table_names t) (inner_names net places (take i order)) (node_names n p) 0 from to walk.named numbered.named);
     spelled = rw names_more (all_joined IsName (inner_names net places (take i order)) (node_names n p) walk.spelled numbered.spelled);
   }
     where
@@ -156,7 +156,7 @@ module _ (net : FlatNet) (t : NameTable) (order : List Read) (is : IsOrder net o
           let place = is.all (read.Node k) (within net.nodes k n at) in
           walk.done place.0 k n (rw end (within order place.0 (read.Node k) place.1)) place.1 at;
     };
-    named = subst (λ rs. AreInnerTo (somes t.leaves) 0 (inner_names net places rs) from) all walk.named;
+    named = subst (λ rs. AreInnerTo (table_names t) 0 (inner_names net places rs) from) all walk.named;
     spelled = subst (λ (rs : List Read). AllByRecursion IsName (inner_names net places rs)) all walk.spelled;
   }
     where

@@ -86,6 +86,8 @@ fn leaf_place(
             let held = held_in(alloc, leaves, nodes, read)?;
             Ok(Place::Value(held.fit(leaf.width)))
         }
+        // So far no net with arrays is written.
+        Role::Reading(_) => Ok(Place::Value(Held::no_bits())),
         Role::Clock => Ok(Place::Clock(Some(number))),
         Role::ClockOutput(driver) | Role::ClockWire(driver) => {
             Ok(Place::Clock(driven_clock_in(leaves, driver)))

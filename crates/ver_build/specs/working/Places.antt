@@ -1,6 +1,6 @@
 -- Where values are in the tree of a net.
 -- The value of an input, of a register, of an operation and of a mux is in a net of its own. A wire and an output are where what drives them is, fitted to their
--- width; a literal is a number. A clock leaf is the clock input at which its drivers end, or none.
+-- width; a literal is a number. A clock leaf is the clock input at which its drivers end, or none. So far what is read of an array is nowhere.
 use Rattle.std.specs.Prelude.{◌≡◌, ℕ, ◌+◌, ◌^◌, ◌≤◌, List, [], ◌∷◌, ◌++◌, flat_map, length, slice_get, nat_eq, if◌then◌else◌, Bool, false, ◌&&◌, MatchBool, Option, Some, None, unwrap_or}
 use Rattle.std.specs.Option.{is_none, is_some}
 use Rattle.fir_base.specs.Lists.{In}
@@ -17,7 +17,8 @@ use Rattle.fir_net.specs.declared.net.FlatNet.{FlatNet}
 use Rattle.fir_net_names.specs.declared.name_table.NameTable.{NameTable}
 use Rattle.ver_words.specs.Names.{IsName}
 use Rattle.fir_net_names.specs.Names.{IsInner, inner_name}
-use Rattle.fir_net_names.specs.working.LeafNamed.{with_some, somes, name_at}
+use Rattle.fir_net_names.specs.working.LeafNamed.{with_some, name_at}
+use Rattle.fir_net_names.specs.working.TableNames.{table_names}
 use Rattle.fir_inits.specs.working.InitValues.{AreInitValues}
 use Rattle.ver_build.specs.declared.held.Source.{Source}
 use Rattle.ver_build.specs.declared.held.Source.TheVariants as source
@@ -69,6 +70,7 @@ placed leaves nodes name k signed w role.Clock = place.Clock (Some k)
 placed leaves nodes name k signed w (role.Output r) = place.Value (fit w (held_in leaves nodes r))
 placed leaves nodes name k signed w (role.Wire r) = place.Value (fit w (held_in leaves nodes r))
 placed leaves nodes name k signed w (role.Register r) = place.Value (own_held signed w name)
+placed leaves nodes name k signed w (role.Reading r) = place.Value no_bits
 placed leaves nodes name k signed w (role.ClockOutput c) = place.Clock (driven_clock_in leaves c)
 placed leaves nodes name k signed w (role.ClockWire c) = place.Clock (driven_clock_in leaves c)
 
@@ -126,7 +128,7 @@ AreInnerTo taken from (name ∷ names) to = (k : ℕ) × IsInner taken from k ×
 -- their names are the inner ones below that number
 pub record AreNodePlaces (net : FlatNet) (t : NameTable) (order : List Read) (nodes : List NodePlace) (last : ℕ) : Type 0 where
   pub held : AreNodesHeld net nodes
-  pub named : AreInnerTo (somes t.leaves) 0 (inner_names net nodes order) last
+  pub named : AreInnerTo (table_names t) 0 (inner_names net nodes order) last
   pub spelled : AllByRecursion IsName (inner_names net nodes order)
 
 -- the net of one bit that a value is all of
@@ -155,7 +157,7 @@ reset_names resets state = flat_map (λ k. with_some (name_at resets k) []) stat
 pub record AreResetNets (net : FlatNet) (t : NameTable) (leaves : List Place) (nodes : List NodePlace) (from : ℕ) (resets : List (Option (List ℕ))) : Type 0 where
   pub each : (k : ℕ) → In net.state k → is_some (name_at resets k) ≡ leaf_needs leaves nodes (slice_get net.leaves k)
   pub last : ℕ
-  pub named : AreInnerTo (somes t.leaves) from (reset_names resets net.state) last
+  pub named : AreInnerTo (table_names t) from (reset_names resets net.state) last
   pub near : last ≤ 2 ^ 127
   pub spelled : AllByRecursion IsName (reset_names resets net.state)
 

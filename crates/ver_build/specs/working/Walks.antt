@@ -9,7 +9,8 @@ use Rattle.fir_net.specs.declared.node.Node.{Node}
 use Rattle.fir_net.specs.declared.net.FlatNet.{FlatNet}
 use Rattle.fir_net_names.specs.declared.name_table.NameTable.{NameTable}
 use Rattle.fir_net_names.specs.Names.{IsInner, inner_name}
-use Rattle.fir_net_names.specs.working.LeafNamed.{somes, name_at}
+use Rattle.fir_net_names.specs.working.LeafNamed.{name_at}
+use Rattle.fir_net_names.specs.working.TableNames.{table_names}
 use Rattle.ver_build.specs.declared.places.Place.{Place}
 use Rattle.ver_build.specs.declared.places.NodePlace.{NodePlace}
 use Rattle.ver_build.specs.working.Places.{placed, IsOwn, source_name, IsNodePlace, AreInnerTo, node_names, leaf_needs}
@@ -17,14 +18,14 @@ use Rattle.ver_build.specs.working.Places.{placed, IsOwn, source_name, IsNodePla
 -- where a node is, whose nets have the first free inner names from that number on
 pub record IsNumbered (t : NameTable) (n : Node) (from : ℕ) (p : NodePlace) (to : ℕ) : Type 0 where
   pub place : IsNodePlace n p
-  pub named : AreInnerTo (somes t.leaves) from (node_names n p) to
+  pub named : AreInnerTo (table_names t) from (node_names n p) to
   pub near : to ≤ from + 4 * 2 ^ 63
   pub spelled : AllByRecursion IsName (node_names n p)
 
 -- so many inner names from that number on
 pub record AreHelpers (t : NameTable) (count from : ℕ) (names : List (List ℕ)) (to : ℕ) : Type 0 where
   pub counted : length names ≡ count
-  pub named : AreInnerTo (somes t.leaves) from names to
+  pub named : AreInnerTo (table_names t) from names to
   pub near : to ≤ from + count * 2 ^ 63
   pub spelled : AllByRecursion IsName names
 
@@ -32,7 +33,7 @@ pub record AreHelpers (t : NameTable) (count from : ℕ) (names : List (List ℕ
 pub record IsOwnPlace (t : NameTable) (count : ℕ) (signed : Bool) (w from : ℕ) (p : NodePlace) (to : ℕ) : Type 0 where
   pub held : IsOwn signed w p.held
   pub counted : length p.helpers ≡ if nat_eq w 0 then 0 else count
-  pub named : AreInnerTo (somes t.leaves) from (p.helpers ++ source_name p.held.source) to
+  pub named : AreInnerTo (table_names t) from (p.helpers ++ source_name p.held.source) to
   pub near : to ≤ from + 4 * 2 ^ 63
   pub spelled : AllByRecursion IsName (p.helpers ++ source_name p.held.source)
 
@@ -65,7 +66,7 @@ pub record IsNoted (leaves : List Leaf) (k : ℕ) (name : List ℕ) (old new : L
 -- a leaf whose reset needs a net has got the first free inner name from that number on
 pub record IsResetNamed (net : FlatNet) (t : NameTable) (k from : ℕ) (old new : List (Option (List ℕ))) (to : ℕ) : Type 0 where
   pub number : ℕ
-  pub first : IsInner (somes t.leaves) from number
+  pub first : IsInner (table_names t) from number
   pub spelled : IsName (inner_name number)
   pub behind : to ≡ number + 1
   pub near : to ≤ from + 2 ^ 63
