@@ -17,6 +17,7 @@ use Rattle.fir_net.specs.declared.leaf.Role.TheVariants as role
 use Rattle.fir_net.specs.declared.net.FlatNet.{FlatNet}
 use Rattle.fir_net.specs.declared.node.Node.{Node}
 use Rattle.fir_net.specs.declared.reads.Read.{Read}
+use Rattle.fir_net.specs.working.Arrays as net_arrays
 use Rattle.fir_net.specs.working.IsNet.{IsNet}
 use Rattle.fir_net.specs.working.Settled.{clock_output_number, clock_outputs, input_number, inputs, is_clock, numbers_by, output_number, outputs, registers, shape, with_bits}
 use Rattle.fir_net.specs.working.Values.{leaf_width}
@@ -29,6 +30,7 @@ use Rattle.fir_net.proofs.WholeValues.{width_at}
 use Rattle.fir_connect.specs.working.NetRoles.{NetRole, computed, driven, net_role_at, net_types, pipe, reading, register, source}
 use Rattle.fir_connect.specs.working.CircuitModules.{as_module}
 use Rattle.fir_flat.specs.working.FlatCircuits.{HasType, IsClockedBy, IsDrivenBy, IsFlatOf, IsRoleOf}
+use Rattle.fir_flat.proofs.NoArrays.{no_order}
 
 -- whether it is a clock that a leaf holds
 abbrev pub holds_clock : LeafType → Bool
@@ -181,4 +183,6 @@ module _ (c : LeafCircuit) (net : FlatNet) (flat : IsFlatOf c net) where
       let words : map (leaf_width net.leaves) (registers net) ≡ widths_of c c.words =
       widths_are (registers net) c.words (words_plain net whole) flat.words in
       same_shape _ _ _ _ _ _ (sym input_widths_are) (ap length (sym flat.clock_inputs))
-      (ap (λ (ks : List ℕ). widths_of c c.words ++ flat_map (widths_in c) ks) flat.no_arrays ∙ append-nil (widths_of c c.words) ∙ sym words)
+      (ap (λ (ks : List ℕ). widths_of c c.words ++ flat_map (widths_in c) ks) flat.no_arrays ∙ append-nil (widths_of c c.words)
+      ∙ sym (ap (λ (ks : List ℕ). map (leaf_width net.leaves) (registers net) ++ flat_map (net_arrays.widths_of net) ks) (no_order net whole flat.arrays)
+      ∙ append-nil (map (leaf_width net.leaves) (registers net)) ∙ words))

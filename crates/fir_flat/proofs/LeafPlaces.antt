@@ -1,5 +1,5 @@
 -- The value of a leaf among values in the order of other leaves, and its place among them.
-use Rattle.std.proofs.Common.{◌≡◌, ◌≢◌, ℕ, zero, suc, ◌+◌, List, [], ◌∷◌, map, true, false, eqb, slice_get, slice_index, refl, ap, ◌∙◌, ⊎_elim, arith}
+use Rattle.std.proofs.Common.{◌≡◌, ◌≢◌, ℕ, zero, suc, ◌+◌, List, [], ◌∷◌, length, take, map, true, false, nat_eq, if◌then◌else◌, eqb, slice_get, slice_index, refl, ap, ◌∙◌, ⊎_elim, arith}
 use Rattle.std.specs.Prelude.{Some}
 use Rattle.std.proofs.lemmas.Bool.{eq-eqb}
 use Rattle.std.proofs.lemmas.Bool.Decides.{eqb_tells}
@@ -17,6 +17,12 @@ look_is w (k ∷ ks) (v ∷ vs) fit x =
     (λ (t : (eqb k x ≡ true) × (k ≡ x)). rw t.0 refl)
     (λ (t : (eqb k x ≡ false) × (k ≢ x)). rw t.0 (look_is w ks vs fit.1 x))
     (eqb_tells k x)
+
+-- what stands behind the values of the leaves is not looked at
+pub look_front : (ks vs : List ℕ) (x : ℕ) → look ks vs x ≡ look ks (take (length ks) vs) x
+look_front [] vs x = refl
+look_front (k ∷ ks) [] x = refl
+look_front (k ∷ ks) (v ∷ vs) x = ap (λ (n : ℕ). if nat_eq k x then v else n) (look_front ks vs x)
 
 -- one of them has a place
 pub place_is_in : (ks : List ℕ) (b x n : ℕ) → slice_get ks n ≡ Some x → place_in ks b x ≡ Some (b + place_of x ks)

@@ -1,3 +1,4 @@
+pub mod NoArrays
 pub mod NodeValues
 pub mod ChosenValues
 pub mod LeafPlaces

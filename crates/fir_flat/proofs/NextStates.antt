@@ -22,7 +22,8 @@ use Rattle.fir_net.specs.declared.leaf.Role.TheVariants as role
 use Rattle.fir_net.specs.declared.net.FlatNet.{FlatNet}
 use Rattle.fir_net.specs.declared.reads.Read.{Read}
 use Rattle.fir_net.specs.working.IsNet.{IsRole}
-use Rattle.fir_net.specs.working.Next.{next, next_by, next_of, next_word, taken, ticks}
+use Rattle.fir_net.specs.working.Next.{array_after, next, next_by, next_of, next_word, taken, ticks}
+use Rattle.fir_net.specs.working.Next as net_next
 use Rattle.fir_net.specs.working.Settled.{is_clock, registers}
 use Rattle.fir_net.proofs.LeafEquations.{driven_at}
 use Rattle.fir_net.proofs.Places.{map_at}
@@ -36,6 +37,7 @@ use Rattle.fir_flat.specs.working.FlatCircuits.{HasType, IsClockedBy, IsDrivenBy
 use Rattle.fir_flat.specs.working.FlatLaws.{IsFaithful}
 use Rattle.fir_flat.proofs.FlatLeaves.{leaf_inside, number_at}
 use Rattle.fir_flat.proofs.KeptValues.{AreBeside}
+use Rattle.fir_flat.proofs.NoArrays.{no_order}
 use Rattle.fir_flat.proofs.ShownValues.{gives}
 use Rattle.fir_flat.proofs.TakenValues.{follows, word_follows}
 
@@ -102,9 +104,11 @@ module _ (law : HasItsType) (c : LeafCircuit) (net : FlatNet) (faithful : IsFait
       (faithful.flat.types x l found.at) refl
       ∙ ap (next_of net e f tick.clocks (e x)) (sym found.at)
 
-  pub next_same : leaf_next.next c state tick env ≡ next net e f tick
+  pub next_same : leaf_next.next c state tick env ≡ next net state e f tick
   next_same =
       ap (λ (ks : List ℕ). words_next c state tick.clocks env ++ flat_map (array_next c state tick.clocks env) ks) faithful.flat.no_arrays
       ∙ append-nil (words_next c state tick.clocks env)
       ∙ ap (map (λ (x : ℕ). word_next c state tick.clocks env x (role_of c x))) (sym faithful.flat.words)
       ∙ map_at (λ (x : ℕ). word_next c state tick.clocks env x (role_of c x)) (next_word net e f tick.clocks) (registers net) word_same
+      ∙ sym (ap (λ (ks : List ℕ). net_next.words_next net e f tick ++ flat_map (λ k. array_after net e f tick.clocks state k (slice_get net.arrays k)) ks)
+      (no_order net faithful.whole faithful.flat.arrays) ∙ append-nil (net_next.words_next net e f tick))

@@ -1,5 +1,5 @@
 -- What each leaf of a circuit shows is what its leaf in the flat net is worth, by their roles.
-use Rattle.std.proofs.Common.{◌≡◌, ℕ, ◌^◌, ◌<◌, List, [], ◌∷◌, Bool, true, false, if◌then◌else◌, Option, Some, None, slice_get, slice_index, inl, inr, refl, sym, ap, ◌∙◌, subst}
+use Rattle.std.proofs.Common.{◌≡◌, ℕ, ◌^◌, ◌<◌, List, [], ◌∷◌, length, take, Bool, true, false, if◌then◌else◌, Option, Some, None, slice_get, slice_index, inl, inr, refl, sym, ap, ◌∙◌, subst}
 use Rattle.fir_base.specs.Ticks.{HasShape, Tick}
 use Rattle.fir_bits.specs.working.Operators.{type_of}
 use Rattle.fir_bits.specs.declared.types.NumTy.{NumTy}
@@ -19,11 +19,13 @@ use Rattle.fir_net.specs.declared.leaf.Role.{Role}
 use Rattle.fir_net.specs.declared.net.FlatNet.{FlatNet}
 use Rattle.fir_net.specs.declared.node.Node.{Node}
 use Rattle.fir_net.specs.declared.reads.Read.{Read}
+use Rattle.fir_net.specs.working.Arrays.{array_widths}
 use Rattle.fir_net.specs.working.IsNet.{CanBeReset, CanRead, IsRole}
 use Rattle.fir_net.specs.working.Laws.{LeavesFit}
 use Rattle.fir_net.specs.working.Settled.{inputs, is_clock, is_high, registers, shape, shown, value_at}
 use Rattle.fir_net.specs.working.Values.{at_width, leaf_width}
-use Rattle.fir_net.proofs.LeafEquations.{driven_at, equation_at, role_value, value_equation}
+use Rattle.fir_net.proofs.ArrayWords.{front_fits}
+use Rattle.fir_net.proofs.LeafEquations.{driven_at, equation_at, front_word, role_value, value_equation}
 use Rattle.fir_net.proofs.Places.{place_of}
 use Rattle.fir_connect.specs.working.NetRoles.{NetReset, net_role, net_role_at, net_types}
 use Rattle.fir_connect.specs.working.NetTerms.{NetTerm}
@@ -36,7 +38,7 @@ use Rattle.fir_connect.specs.working.CircuitModules.{as_module}
 use Rattle.fir_flat.specs.working.FlatCircuits.{HasType, IsDrivenBy, IsResetOf, IsRoleOf, reset_kept, stands_for}
 use Rattle.fir_flat.specs.working.FlatLaws.{IsFaithful}
 use Rattle.fir_flat.proofs.FlatLeaves.{holds_clock, kind_at, leaf_inside, type_at}
-use Rattle.fir_flat.proofs.LeafPlaces.{look_is}
+use Rattle.fir_flat.proofs.LeafPlaces.{look_front, look_is}
 use Rattle.fir_flat.proofs.NodeValues.{AgreesWith, read_is_worth}
 
 -- values of a circuit's leaves within their widths, and values of a net's leaves that are the same where there is no clock
@@ -128,10 +130,11 @@ module _ (c : LeafCircuit) (net : FlatNet) (faithful : IsFaithful c net) (env : 
           ap (λ (ks : List ℕ). look ks tick.inputs x) (sym faithful.flat.inputs)
           ∙ look_is (leaf_width net.leaves) (inputs net) tick.inputs shaped.inputs_fit x
 
-      pub word_looked : look c.words state x ≡ slice_index state (place_of x (registers net))
+      pub word_looked : look c.words state x ≡ front_word net state x
       word_looked =
-          ap (λ (ks : List ℕ). look ks state x) (sym faithful.flat.words)
-          ∙ look_is (leaf_width net.leaves) (registers net) state shaped.state_fits x
+          ap (λ (ks : List ℕ). look ks state x) (sym faithful.flat.words) ∙ look_front (registers net) state x
+          ∙ look_is (leaf_width net.leaves) (registers net) (take (length (registers net)) state)
+          (front_fits (leaf_width net.leaves) (registers net) (array_widths net) state shaped.state_fits) x
 
       module _ (y : Role) (can : IsRole net.leaves net.nodes l.signed l.width y) where
         -- by what it holds and its role

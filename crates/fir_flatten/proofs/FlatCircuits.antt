@@ -28,6 +28,7 @@ module _ (laws : LawsBelow) (c : CircuitTree) (scenes : List Scene) (main : Scen
         shaped_writable l.role (leaf_at (flattened d).leaves k).holds (leaf_at (flattened d).leaves k).role
         ((net_is laws c scenes main d net given).each k l at).shaped;
     inits = inits;
+    no_arrays = given.flat.arrays;
   }
 
   -- where the net has no closed walk, no tree below the main module has one

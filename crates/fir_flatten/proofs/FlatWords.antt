@@ -22,7 +22,7 @@ use Rattle.fir_design_faults.proofs.DesignScenes.{design_scenes}
 use Rattle.fir_net.specs.Paths.{base_name}
 use Rattle.fir_net.specs.declared.leaf.Leaf.{Leaf}
 use Rattle.fir_net.specs.declared.net.FlatNet.{FlatNet}
-use Rattle.fir_net.specs.working.WordNames.{HasWordNames}
+use Rattle.fir_net.specs.working.WordNames.{AreWordArrays, HasWordNames}
 use Rattle.fir_flat.proofs.FlatLeaves.{leaf_inside}
 use Rattle.fir_flatten.specs.working.Words.{HasWords}
 use Rattle.fir_flatten.proofs.InstanceWords.{module_words}
@@ -54,4 +54,5 @@ module _ (follow : LeavesFollowTypes) (c : CircuitTree) (d : Design) (t : Source
   flat_words named = record {
     word = subst (λ name. IsTrue (is_word name)) (sym named) words.own;
     leaves = all_from (λ l. IsTrue (is_word (base_name l.path))) net.leaves (λ l among. let n = number_of net.leaves l among in leaf_word n.0 l n.1);
+    arrays = subst AreWordArrays (sym is.flat.arrays) tt;
   }

@@ -1,8 +1,9 @@
 -- A plain design is flattened: each leaf of the net is that of its circuit, the words of the state are the circuit's, and the net is whole.
 use Rattle.std.proofs.Common.{◌≡◌, ℕ, ◌<◌, ◌≤◌, List, [], ◌++◌, length, Bool, true, false, ◌&&◌, slice_get, Some, sym, ap, ◌∙◌, subst, arith, refl}
+use Rattle.std.specs.List.{AllByRecursion}
 use Rattle.std.specs.Prelude.{nat_lt}
 use Rattle.std.proofs.lemmas.Bool.{le-ltb, lt-ltb}
-use Rattle.std.proofs.lemmas.Option.{slice_get_within}
+use Rattle.std.proofs.lemmas.Option.{none-some, slice_get_within}
 use Rattle.fir_base.proofs.Each.{all_from}
 use Rattle.fir_base.proofs.Elements.{number_of, there}
 use Rattle.fir_base.proofs.Tests.{both}
@@ -20,14 +21,16 @@ use Rattle.fir_connect.specs.working.CircuitModules.{as_module}
 use Rattle.fir_connect.specs.working.NetRoles.{net_role, net_role_at, net_types}
 use Rattle.fir_connect.specs.working.NetTerms.{leaf}
 use Rattle.fir_drivers.proofs.QuietStatements.{quiet_all}
+use Rattle.fir_net.specs.declared.array.Array.{Array}
 use Rattle.fir_net.specs.declared.leaf.Leaf.{Leaf}
 use Rattle.fir_net.specs.declared.net.FlatNet.{FlatNet}
 use Rattle.fir_net.specs.declared.node.Node.{Node}
-use Rattle.fir_net.specs.working.IsNet.{AreNodes, IsClock, IsLeaf, IsRole, IsState, is_port, is_word}
+use Rattle.fir_net.specs.working.IsNet.{AreNodes, IsArray, IsArrayOrder, IsClock, IsLeaf, IsRole, IsState, is_port, is_word}
 use Rattle.fir_net.specs.working.Settled.{is_clock}
 use Rattle.fir_merge.specs.working.NodeTerms.{Grows}
 use Rattle.fir_flat.specs.working.FlatCircuits.{IsRoleOf}
 use Rattle.fir_flat.specs.working.WholeRoles.{RolesAreWhole}
+use Rattle.fir_flat.proofs.NoArrays.{no_reading}
 use Rattle.fir_whens.specs.declared.net_role.NetRole.{NetRole}
 use Rattle.fir_source_faults.specs.working.NumberedTaking.{takes_by}
 use Rattle.fir_flatten.specs.declared.design_net.DesignLeaf.{DesignLeaf}
@@ -109,7 +112,8 @@ module _
   module _
       (kept : KeptNodes) (keeps : Keeps nodes roles kept) (net : FlatNet)
       (leaves_are : net.leaves ≡ flat_leaves_of kept.places.items design.port_leaves 0 declared roles (length kept.nodes.items))
-      (nodes_are : net.nodes ≡ kept.nodes.items ++ choices_behind kept.places.items declared roles) (state_is : net.state ≡ c.words) where
+      (nodes_are : net.nodes ≡ kept.nodes.items ++ choices_behind kept.places.items declared roles) (state_is : net.state ≡ c.words)
+      (no_arrays : net.arrays ≡ []) (no_order : net.array_order ≡ []) where
     abbrev places : List ℕ
     places = kept.places.items
 
@@ -257,11 +261,19 @@ module _
       once = plain.once;
     }
 
+    -- no array stands in the state
+    array_state : IsArrayOrder net.arrays net.array_order
+    array_state =
+        subst (IsArrayOrder net.arrays) (sym no_order)
+        (subst (λ (arrays : List Array). IsArrayOrder arrays []) (sym no_arrays)
+        (record { only = λ n k at. absurd (none-some k at); all = λ k a at bits. absurd (none-some a at); once = tt }))
+
     pub design_flat : IsFlatDesign c ports net
     design_flat = record {
       count = count;
       each = each;
       state = state_is;
+      arrays = no_arrays;
       whole = record {
         leaves =
             all_from (IsLeaf net.leaves net.nodes) net.leaves
@@ -269,5 +281,9 @@ module _
         ports_first = ports_first ports net.leaves outer_at inner_at;
         nodes = built.are;
         state = subst (IsState net.leaves) (sym state_is) state;
+        arrays = subst (AllByRecursion (IsArray net.leaves net.nodes)) (sym no_arrays) tt;
+        readings = λ k l r at is. absurd (no_reading net.nodes (net_types m) k (held_in m k) (net_role_at m k) l.role r (each k l at).role is);
+        array_state = array_state;
+        few_words = rw no_order (omega arith);
       };
     }

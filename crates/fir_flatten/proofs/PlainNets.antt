@@ -96,6 +96,7 @@ module _ (c : LeafCircuit) (m : LeafModule) (net : FlatNet) (plain : IsPlainDesi
     outputs = outputs_are;
     clock_outputs = clock_outputs_are;
     words = is.state;
+    arrays = is.arrays;
     no_arrays = none;
   }
 

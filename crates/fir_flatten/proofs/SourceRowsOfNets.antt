@@ -32,6 +32,7 @@ use Rattle.fir_net.specs.working.IsNet.{IsNet, is_port}
 use Rattle.fir_net.specs.working.Settled.{is_clock, outputs, registers}
 use Rattle.fir_net.specs.working.Values.{leaf_width}
 use Rattle.fir_flat.proofs.FlatLeaves.{output_widths_are, same_list, type_at, words_plain}
+use Rattle.fir_flat.proofs.NoArrays.{no_order}
 use Rattle.fir_flatten.specs.SourceRows.{array_row, leaf_name, role_row, source_array_rows, source_rows, source_words}
 use Rattle.fir_flatten.specs.working.FlattensTo.{output_widths}
 use Rattle.fir_flatten.proofs.PlainNets.{IsPlainNet}
@@ -73,6 +74,7 @@ row_same c at x h r q name w is port e same = absurd is
 no_row : (x : net_leaf.Role) (name : List ℕ) (w : ℕ) → is_port x ≡ false → net_told.role_row x name w ≡ []
 no_row (role.Wire r) name w inner = refl
 no_row (role.Register g) name w inner = refl
+no_row (role.Reading r) name w inner = refl
 no_row (role.ClockWire c) name w inner = refl
 no_row _ name w inner = absurd (true≢false inner)
 
@@ -121,7 +123,8 @@ module _ (c : LeafCircuit) (ports : ℕ) (net : FlatNet) (whole : IsNet net) (ne
   pub arrays_are : net_arrays net ≡ source_array_rows t
   arrays_are =
       let none : map Some (state_arrays t) ≡ [] = sym step.array_order ∙ ap (map (slice_get (all_arrays t))) net_is.flat.no_arrays in
-      ap (map array_row) (sym (no_more (state_arrays t) none))
+      ap (flat_map (λ k. net_told.array_row (slice_get net.arrays k))) (no_order net whole net_is.flat.arrays)
+      ∙ ap (map array_row) (sym (no_more (state_arrays t) none))
 
   abbrev width_on : LeafPath → ℕ
   width_on x = (source_holds t x).width

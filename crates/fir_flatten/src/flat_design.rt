@@ -38,5 +38,7 @@ pub fn flat_design(
         leaves: Seq::from_vec(leaves),
         nodes: Seq::from_vec(kept.nodes),
         state: Seq::from_vec(state),
+        arrays: Seq::from_vec(Vec::new(alloc)),
+        array_order: Seq::from_vec(Vec::new(alloc)),
     })
 }

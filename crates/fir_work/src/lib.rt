@@ -17,5 +17,5 @@ mod usual;
 mod work;
 
 pub use places::place;
-pub use task::Task;
+pub use task::{Task, number_at};
 pub use tasks::{fit_task, node_task, shown_task};

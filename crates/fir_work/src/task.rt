@@ -66,9 +66,9 @@ impl Task {
     }
 }
 
-/// The number at that place.
+/// The number at that place, or 0 where there is none.
 #[inline]
-pub(crate) fn number_at(numbers: &[u128], place: usize) -> u128
+pub fn number_at(numbers: &[u128], place: usize) -> u128
     ensures { result ≡ number_at numbers.now place }
 {
     numbers.get(place).copied().unwrap_or(0)

@@ -86,4 +86,5 @@ pub record IsFlatOf (c : LeafCircuit) (net : FlatNet) : Type 0 where
   pub outputs : outputs net ≡ c.outputs
   pub clock_outputs : clock_outputs net ≡ c.clock_outputs
   pub words : registers net ≡ c.words
+  pub arrays : net.arrays ≡ []
   pub no_arrays : c.array_order ≡ []

@@ -1,6 +1,6 @@
 -- The flat net of a design: each leaf of the design's circuit has its path, its place, its type and its role, leaves of ports stand as ports, the words of the
--- state are those of the circuit, and the net is whole. And which designs have one so far.
-use Rattle.std.specs.Prelude.{◌≡◌, ℕ, ◌<◌, ◌≤◌, length, Bool, true, false, ◌||◌, Option, Some, None, slice_get}
+-- state are those of the circuit, there are no arrays so far, and the net is whole. And which designs have one so far.
+use Rattle.std.specs.Prelude.{◌≡◌, ℕ, ◌<◌, ◌≤◌, [], length, Bool, true, false, ◌||◌, Option, Some, None, slice_get}
 use Rattle.fir_base.specs.Lists.{Distinct}
 use Rattle.fir_meaning.specs.LeafTypes.{LeafType, a_clock, has_bits, number}
 use Rattle.fir_meaning.specs.working.LeafCircuits.{LeafCircuit, role_of}
@@ -88,4 +88,5 @@ pub record IsFlatDesign (c : LeafCircuit) (ports : ℕ) (net : FlatNet) : Type 0
   pub count : length net.leaves ≡ length c.leaves
   pub each : (x : ℕ) (l : Leaf) → slice_get net.leaves x ≡ Some l → IsFlatLeaf c ports net x l
   pub state : net.state ≡ c.words
+  pub arrays : net.arrays ≡ []
   pub whole : IsNet net

@@ -17,7 +17,7 @@ returns-clause-flat c =
     let roles_again : c.deref-2.result.now ≡ design.roles.items = c.deref-2.ensures.value in
     let keeps : ReadBefore 0 design.nodes.items → Keeps design.nodes.items design.roles.items kept =
     subst (λ (rs : List NetRole). ReadBefore 0 design.nodes.items → Keeps design.nodes.items rs kept) roles c.in_ok-kept.ensures in
-    let flat : FlatNet = record { name = c.args.name; leaves = c.from_vec.result; nodes = c.from_vec-2.result; state = c.from_vec-3.result } in
+    let flat : FlatNet = record { name = c.args.name; leaves = c.from_vec.result; nodes = c.from_vec-2.result; state = c.from_vec-3.result; arrays = c.from_vec-4.result; array_order = c.from_vec-5.result } in
     let leaves : c.from_vec.result ≡ flat_leaves_of places design.port_leaves 0 design.leaves.items design.roles.items (length kept.nodes.items) =
     c.from_vec.ensures ∙ c.in_ok-leaves.ensures.leaves
     ∙ ap (λ (rs : List NetRole). flat_leaves_of places design.port_leaves 0 design.leaves.items rs (length kept.nodes.items)) roles_again in
@@ -26,3 +26,4 @@ returns-clause-flat c =
     ∙ ap (λ (rs : List NetRole). kept.nodes.items ++ choices_behind places design.leaves.items rs) roles_again in
     λ d ports plain so state.
     design_flat c.roles_are_whole.ensures d ports plain design so kept (keeps so.before) flat leaves kept_nodes (c.from_vec-3.ensures ∙ state)
+    (c.from_vec-4.ensures ∙ c.new.ensures.items) (c.from_vec-5.ensures ∙ c.new-2.ensures.items)
