@@ -24,6 +24,7 @@ drives role.Clock j e = cc
 drives (role.Output d) j e = cc
 drives (role.Wire d) j e = cc
 drives (role.Register d) j e = cc
+drives (role.Reading d) j e = cc
 
 driver_is : (r : Role) (j : ℕ) → clock_driver r ≡ Some (Some j) → role_driver r ≡ Some j
 driver_is (role.ClockOutput c) j e = cc
@@ -33,6 +34,7 @@ driver_is role.Clock j e = cc
 driver_is (role.Output d) j e = cc
 driver_is (role.Wire d) j e = cc
 driver_is (role.Register d) j e = cc
+driver_is (role.Reading d) j e = cc
 
 numbers : (r : Role) (m n : ℕ) → role_number m r ≡ Some n → (r ≡ role.Clock) × (m ≡ n)
 numbers role.Clock m n e = (refl, cc)
@@ -40,6 +42,7 @@ numbers role.Input m n e = cc
 numbers (role.Output d) m n e = cc
 numbers (role.Wire d) m n e = cc
 numbers (role.Register d) m n e = cc
+numbers (role.Reading d) m n e = cc
 numbers (role.ClockOutput c) m n e = cc
 numbers (role.ClockWire c) m n e = cc
 
@@ -50,6 +53,7 @@ no_driver role.Input m n j e d = cc
 no_driver (role.Output x) m n j e d = cc
 no_driver (role.Wire x) m n j e d = cc
 no_driver (role.Register x) m n j e d = cc
+no_driver (role.Reading x) m n j e d = cc
 no_driver (role.ClockOutput c) m n j e d = cc
 no_driver (role.ClockWire c) m n j e d = cc
 

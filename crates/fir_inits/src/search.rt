@@ -185,5 +185,8 @@ fn is_end(net: &FlatNet, read: &Read) -> bool
 fn is_input_or_state(leaf: &Leaf) -> bool
     ensures { result ≡ is_input_or_state leaf.now.role }
 {
-    matches!(leaf.role, Role::Input | Role::Clock | Role::Register(_))
+    matches!(
+        leaf.role,
+        Role::Input | Role::Clock | Role::Register(_) | Role::Reading(_)
+    )
 }

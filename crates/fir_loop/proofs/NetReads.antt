@@ -40,10 +40,13 @@ module _ (net : FlatNet) where
   first_of r h zero w e = subst (IsOf net) (same_Some r w e) h
   first_of r h (suc place) w e = absurd (none-some w e)
 
+  either_of : (a b : Read) → IsOf net a → IsOf net b → (place : ℕ) (w : Read) → slice_get (a ∷ b ∷ []) place ≡ Some w → IsOf net w
+  either_of a b h i zero w e = subst (IsOf net) (same_Some a w e) h
+  either_of a b h i (suc place) w e = first_of b i place w e
+
   kind_within : (kind : ResetKind) (condition init : Read) → IsOf net condition → IsOf net init → (place : ℕ) (w : Read) → slice_get (kind_reads kind condition init) place ≡ Some w → IsOf net w
   kind_within Synchronous condition init c i place w e = absurd (none-some w e)
-  kind_within Asynchronous condition init c i zero w e = subst (IsOf net) (same_Some condition w e) c
-  kind_within Asynchronous condition init c i (suc place) w e = first_of init i place w e
+  kind_within Asynchronous condition init c i place w e = either_of condition init c i place w e
 
   reset_within : (signed : Bool) (reset : Option Reset) → CanBeReset net.leaves net.nodes signed reset → (place : ℕ) (w : Read) → slice_get (reset_reads reset) place ≡ Some w → IsOf net w
   reset_within signed None h place w e = absurd (none-some w e)
@@ -55,6 +58,7 @@ module _ (net : FlatNet) where
   role_within signed width (role.Output r) h place w e = first_of r (can_read_of net r h.can) place w e
   role_within signed width (role.Wire r) h place w e = first_of r (can_read_of net r h.can) place w e
   role_within signed width (role.Register r) h place w e = reset_within signed r.reset h.1 place w e
+  role_within signed width (role.Reading r) h place w e = either_of r.address r.enable (can_read_of net r.address h.address) (can_read_of net r.enable h.enable) place w e
   role_within signed width (role.ClockOutput None) h place w e = absurd (none-some w e)
   role_within signed width (role.ClockOutput (Some k)) h place w e = first_of (read.Leaf k) (slice_get_within net.leaves k h.1.0 h.1.1) place w e
   role_within signed width (role.ClockWire None) h place w e = absurd (none-some w e)

@@ -3,7 +3,7 @@
 ghost use Rattle.std.specs.Prelude.{◌≡◌, ◌+◌, ◌<◌, ◌^◌, [], ◌∷◌, OnSome, slice_get};
 ghost use Rattle.fir_net.specs.working.Dependence.{reads_of, role_reads, reset_reads};
 
-use fir_net::{FlatNet, Read, Reset, ResetKind, Role};
+use fir_net::{ArrayRead, FlatNet, Read, Reset, ResetKind, Role};
 
 /// What the leaf or node hangs on at that place, if it hangs on so much.
 pub fn read_at(net: &FlatNet, vertex: &Read, place: usize) -> Option<Read>
@@ -32,6 +32,7 @@ fn role_read_at(role: &Role, place: usize) -> Option<Read>
             only_at(Read::Leaf(*clock), place)
         }
         Role::Register(register) => reset_read_at(register.reset, place),
+        Role::Reading(reading) => array_read_at(*reading, place),
         Role::Input | Role::Clock | Role::ClockOutput(None) | Role::ClockWire(None) => None,
     }
 }
@@ -47,6 +48,17 @@ fn reset_read_at(reset: Option<Reset>, place: usize) -> Option<Read>
             _ => None,
         },
         None => None,
+    }
+}
+
+fn array_read_at(reading: ArrayRead, place: usize) -> Option<Read>
+    ensures read { result ≡ slice_get (reading.address ∷ reading.enable ∷ []) place }
+    ensures room { OnSome result (place + 1 < 2 ^ 64) }
+{
+    match place {
+        0 => Some(reading.address),
+        1 => Some(reading.enable),
+        _ => None,
     }
 }
 

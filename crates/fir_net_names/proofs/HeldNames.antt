@@ -26,6 +26,15 @@ or_first true false c = refl
 or_first false true c = refl
 or_first false false c = refl
 
+pub or_none : (b : Bool) → b ≡ (b || false)
+or_none true = refl
+or_none false = refl
+
+-- a name is among joined names if it is among some of them
+pub among_joined : (names others : List (List ℕ)) (n : List ℕ) → is_among (names ++ others) n ≡ (is_among others n || is_among names n)
+among_joined [] others n = or_none (is_among others n)
+among_joined (m ∷ names) others n = ap (λ b. bytes_eq m n || b) (among_joined names others n) ∙ or_first (bytes_eq m n) (is_among others n) (is_among names n)
+
 -- a name is among others whether it stands at the end or before them
 pub among_last : (names : List (List ℕ)) (name n : List ℕ) → is_among (names ++ name ∷ []) n ≡ is_among (name ∷ names) n
 among_last [] name n = refl
@@ -51,7 +60,7 @@ among [] n e = absurd (cc)
 among (m ∷ ms) n e =
     ⊎_elim (λ (t : bytes_eq m n ≡ true). inl (name_is m n t)) (λ (t : is_among ms n ≡ true). inr (among ms n t)) (or_cases (bytes_eq m n) (is_among ms n) e)
 
-is_named : (names : List (List ℕ)) (n : List ℕ) → In names n → is_among names n ≡ true
+pub is_named : (names : List (List ℕ)) (n : List ℕ) → In names n → is_among names n ≡ true
 is_named [] n m = absurd m
 is_named (k ∷ ks) n (inl e) = or_left (bytes_eq k n) (is_among ks n) (ap (bytes_eq k) (sym e) ∙ name_same k)
 is_named (k ∷ ks) n (inr m) = or_right (bytes_eq k n) (is_among ks n) (is_named ks n m)

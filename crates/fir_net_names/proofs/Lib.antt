@@ -7,5 +7,8 @@ pub mod HeldNames
 pub mod NamesInTurn
 pub mod TableNames
 pub mod NumbersNamed
+pub mod NamedSoFar
 pub mod NamedLeaves
+pub mod NamedArrays
 pub mod TakenNames
+pub mod AllNames

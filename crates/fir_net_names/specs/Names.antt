@@ -1,5 +1,5 @@
 -- The names of the emitted text (IEEE 1364-2005, 3.7).
--- A leaf takes its base name; where that is reserved or taken by a leaf before it, the first free of that name
+-- A leaf or an array takes its base name; where that is reserved or taken by one before it, the first free of that name
 -- with `_0`, `_1` and so on behind it. The nets of nodes are `_n0`, `_n1` and so on, without the taken ones.
 use Rattle.std.specs.Prelude.{◌≡◌, ℕ, ◌+◌, ◌<◌, ◌≤◌, List, [], ◌∷◌, ◌++◌, Bool, true, false, not, ◌&&◌, codes, decimal, MatchBool}
 use Rattle.fir_base.specs.Words.{is_among}

@@ -1,4 +1,5 @@
 -- What no clause of `run` reads: views of the code, its tables and its walks.
 pub mod LeafNamed
 pub mod NameSets
+pub mod TableNames
 pub mod IsTable

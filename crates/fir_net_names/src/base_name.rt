@@ -1,4 +1,4 @@
-//! The name that a leaf's path gives it.
+//! The name that a path gives its leaf or array.
 
 ghost use Rattle.std.specs.Prelude.{◌≡◌, ◌++◌, IfOk, OnOk};
 ghost use Rattle.fir_net.specs.Paths.{base_name, named_byte};
@@ -6,7 +6,7 @@ ghost use Rattle.fir_net.specs.Paths.{base_name, named_byte};
 use fir_base::{MemoryOut, Name};
 use std::alloc::Global;
 
-/// The base of a leaf's name: its path, with `_` for each `.` and before each index.
+/// The base of the name: the path, with `_` for each `.` and before each index.
 pub fn base_name(alloc: Global, path: &Name) -> Result<Name, MemoryOut>
     ensures { IfOk result (λ name. name ≡ base_name path.now) }
 {

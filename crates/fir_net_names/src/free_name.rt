@@ -1,10 +1,12 @@
-//! Names that are free.
+//! Names that are free, and are taken then.
 
 ghost use Rattle.std.specs.Prelude.{◌≡◌, IfOk, OnOk, List, ℕ, ◌++◌, codes, not, ◌&&◌};
 ghost use Rattle.ver_words.specs.Reserved.{is_reserved};
+ghost use Rattle.fir_net.specs.Paths.{base_name};
 ghost use Rattle.fir_net_names.specs.Names.{IsNameFor};
-ghost use Rattle.fir_net_names.specs.working.NameSets.{Holds, IsFirstUntaken, has};
+ghost use Rattle.fir_net_names.specs.working.NameSets.{Holds, IsFirstUntaken, TakesName, has};
 
+use crate::base_name::base_name;
 use crate::numbered::{Numbered, first_untaken};
 use crate::taken::Taken;
 use fir_base::{MemoryOut, Name};
@@ -12,9 +14,19 @@ use std::alloc::Global;
 use std::collections::BTreeSet;
 use ver_words::is_reserved;
 
-/// The name of a leaf whose path is joined to that base: the base, or where that is reserved or taken the
+/// The name of a leaf or an array of that path behind those whose names are taken; it is taken then.
+pub fn take_name(alloc: Global, taken: &mut Taken, path: &Name) -> Result<Name, MemoryOut>
+    ensures { IfOk result (λ name. TakesName taken.old.names taken.new.names (base_name path.now) name) }
+{
+    let base = base_name(alloc, path)?;
+    let name = free_name(alloc, taken, &base)?;
+    taken.insert(name.copy(alloc)?)?;
+    Ok(name)
+}
+
+/// The name of what has a path that is joined to that base: the base, or where that is reserved or taken the
 /// first free of `base_0`, `base_1` and so on. What is passed on the way is not searched again for this base.
-pub fn free_name(alloc: Global, taken: &mut Taken, base: &Name) -> Result<Name, MemoryOut>
+fn free_name(alloc: Global, taken: &mut Taken, base: &Name) -> Result<Name, MemoryOut>
     ensures named { IfOk result (λ name. (names : List (List ℕ)) → Holds taken.old.names names → IsNameFor names base.now name) }
     ensures same { OnOk result (taken.new.names ≡ taken.old.names) }
 {

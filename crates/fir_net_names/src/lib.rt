@@ -1,8 +1,10 @@
-//! The names of a net in the emitted text (IEEE 1364-2005, 3.7): its ports and registers get theirs from their paths
-//! (`leaf_names`), no two the same and none reserved, and inner nets the next free ones behind them (`numbered`).
+//! The names of a net in the emitted text (IEEE 1364-2005, 3.7): its ports and registers and then its arrays get theirs
+//! from their paths (`leaf_names`, `array_names`), no two the same and none reserved, and inner nets the next free ones
+//! behind them (`numbered`).
 //! `specs/Names` has the rule, and `IsTable` what a table of them holds.
 #![tactic(auto)]
 
+mod array_names;
 mod base_name;
 mod free_name;
 mod leaf_names;

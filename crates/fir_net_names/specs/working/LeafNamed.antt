@@ -1,5 +1,7 @@
--- The names of leaves: which leaves have names, and in which order they take them: first the ports, then the words of the state.
+-- The names of leaves and arrays: which leaves have names, in which order they take them, first the ports and then the words of the state, and from which
+-- bases.
 use Rattle.std.specs.Prelude.{ℕ, List, [], ◌∷◌, ◌++◌, if◌then◌else◌, slice_get, unwrap_or, Option, Some, None}
+use Rattle.fir_net.specs.declared.array.Array.{Array}
 use Rattle.fir_net.specs.declared.leaf.Role.{Role}
 use Rattle.fir_net.specs.declared.leaf.Leaf.{Leaf}
 use Rattle.fir_net.specs.declared.net.FlatNet.{FlatNet}
@@ -36,6 +38,14 @@ leaf_base (Some l) = base_name l.path
 -- the base of the name of a leaf
 abbrev pub base_at : FlatNet → ℕ → List ℕ
 base_at net k = leaf_base (slice_get net.leaves k)
+
+abbrev pub base_of_array : Option Array → List ℕ
+base_of_array None = []
+base_of_array (Some a) = base_name a.path
+
+-- the base of the name of an array
+abbrev pub array_base : FlatNet → ℕ → List ℕ
+array_base net k = base_of_array (slice_get net.arrays k)
 
 -- the name of a number; behind the end there is none
 abbrev pub name_at : List (Option (List ℕ)) → ℕ → Option (List ℕ)

@@ -1,15 +1,14 @@
 -- A set of names in the code, as a list, and what is done with it.
-use Rattle.std.specs.Prelude.{◌≡◌, ℕ, ◌+◌, ◌^◌, ◌<◌, ◌≤◌, List, [], ◌∷◌, ◌++◌, length, map, Bool, true, false, Option, Some, None, decimal}
+use Rattle.std.specs.Prelude.{◌≡◌, ℕ, ◌+◌, ◌^◌, ◌<◌, ◌≤◌, List, ◌∷◌, ◌++◌, length, map, Bool, true, false, Option, Some, None, decimal}
 use Rattle.std.specs.BTreeMap.{BTreeMap, get}
 use Rattle.std.specs.BTreeSet.{BTreeSet, contains}
 use Rattle.std.specs.Cmp.Lexicographic.{slice_cmp}
 use Rattle.std.specs.Ordering.{nat_cmp}
 use Rattle.fir_base.specs.Words.{is_among}
 use Rattle.fir_base.specs.Lists.{In}
-use Rattle.fir_net.specs.declared.net.FlatNet.{FlatNet}
 use Rattle.fir_net_names.specs.declared.numbered.Numbered.{Numbered}
 use Rattle.fir_net_names.specs.Names.{suffixed, AreNamed, IsNameFor}
-use Rattle.fir_net_names.specs.working.LeafNamed.{somes, base_at, name_at}
+use Rattle.fir_net_names.specs.working.LeafNamed.{somes, name_at}
 
 -- whether the set has the name
 abbrev pub has : BTreeSet (List ℕ) → List ℕ → Bool
@@ -40,9 +39,9 @@ pub record TakesName (old new : BTreeSet (List ℕ)) (base name : List ℕ) : Ty
   pub named : (names : List (List ℕ)) → Holds old names → IsNameFor names base name
   pub held : (names : List (List ℕ)) → Holds old names → Holds new (name ∷ names)
 
--- these leaves, and no others, have names, which they took in this order, and the set has them
-pub record HasNames (net : FlatNet) (order : List ℕ) (names : List (Option (List ℕ))) (set : BTreeSet (List ℕ)) : Type 0 where
-  pub named : AreNamed [] (map (base_at net) order) (somes (map (name_at names) order))
+-- these numbers, and no others, have names, which they took of their bases in this order and behind names that were taken before, and the set has all these
+pub record HasNames (base : ℕ → List ℕ) (before : List (List ℕ)) (order : List ℕ) (names : List (Option (List ℕ))) (set : BTreeSet (List ℕ)) : Type 0 where
+  pub named : AreNamed before (map base order) (somes (map (name_at names) order))
   pub has : (k : ℕ) → In order k → (name : List ℕ) × (name_at names k ≡ Some name)
   pub only : (k : ℕ) → (In order k → ⊥) → name_at names k ≡ None
-  pub held : Holds set (somes (map (name_at names) order))
+  pub held : Holds set (before ++ somes (map (name_at names) order))

@@ -3,6 +3,8 @@ use Rattle.std.specs.Prelude.{slice_get}
 use Rattle.std.proofs.lemmas.List.{drop_more}
 use Rattle.std.proofs.lemmas.Option.{slice_get-get_or, slice_get_within}
 use Rattle.fir_net.specs.declared.leaf.Leaf.{Leaf}
+use Rattle.fir_net.specs.Paths.{base_name}
+use Rattle.fir_net_names.specs.working.NameSets.{TakesName}
 use Rattle.fir_net_names.proofs.NamedLeaves.{NamedWords, words_more}
 use Rattle.fir_net_names.proofs.leaf_names.name_words.Goals as goal
 
@@ -28,5 +30,6 @@ loop-word-preserved c =
     let read_there = subst (λ (ls : List Leaf). leaf ≡ get_or ls word leaf) c.as_slice-leaves.ensures read in
     let at : slice_get net.leaves word ≡ Some leaf = slice_get-get_or net.leaves word leaf within ∙ ap Some (sym read_there) in
     let name = c.in_ok-name.name in
+    let takes = subst (λ (l : Leaf). TakesName c.loop-word.taken.names c.take_name.new.taken.names (base_name l.path) name) (sym c.index-leaves-number.is) c.in_ok-name.ensures in
     subst (λ (j : ℕ). NamedWords net rest (set names j (Some name)) c.take_name.new.taken.names) (sym k)
-    (words_more net c.requires.whole word leaf rest names c.loop-word.taken.names c.take_name.new.taken.names name at so_far c.in_ok-name.ensures)
+    (words_more net c.requires.whole word leaf rest names c.loop-word.taken.names c.take_name.new.taken.names name at so_far takes)
